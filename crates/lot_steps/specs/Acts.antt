@@ -1,0 +1,25 @@
+-- What a thread does in one step, and what it is told.
+use Rattle.std.specs.Prelude.{ℕ, Bool, Option, Some, None, ◌==◌}
+use Rattle.parking_lot_core.specs.declared.notes.Note.{Note}
+use Rattle.lot_steps.specs.declared.acts.Act.{Act}
+use Rattle.lot_steps.specs.declared.acts.Act.TheVariants.{Sleep, Closure, End}
+use Rattle.lot_steps.specs.declared.acts.Check.{Check}
+use Rattle.lot_steps.specs.declared.acts.Check.TheVariants.{WordIs}
+use Rattle.lot_steps.specs.declared.acts.Wakes.{Wakes}
+use Rattle.lot_steps.specs.declared.acts.Wakes as wakes
+use Rattle.lot_steps.specs.declared.calls.Outcome.{Outcome}
+use Rattle.lot_steps.specs.declared.calls.Outcome as outcome
+
+abbrev pub holds : Check → ℕ → Bool
+holds (WordIs value) word = word == value
+
+abbrev pub wakes_first : Option ℕ → Note → Wakes
+wakes_first (Some thread) note = wakes.TheVariants.One thread note
+wakes_first None note = wakes.TheVariants.Nobody
+
+-- what a thread is told that is about to do this
+abbrev pub outcome_of : Act → Outcome
+outcome_of (End answer) = outcome.TheVariants.End answer
+outcome_of Sleep = outcome.TheVariants.Sleep
+outcome_of (Closure state) = outcome.TheVariants.Closure state
+outcome_of _ = outcome.TheVariants.Step

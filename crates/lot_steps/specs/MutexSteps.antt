@@ -1,0 +1,190 @@
+-- The steps of a mutex: what a thread does at each place, and where each reply leads it.
+use Rattle.std.specs.Prelude.{ℕ, Bool, true, false, Option, Some, None, if◌then◌else◌, ◌==◌, not, ◌&&◌, ◌+◌, ◌*◌, ◌/◌, ◌%◌}
+use Rattle.parking_lot_core.specs.declared.keys.Keys.TheVariants.{One}
+use Rattle.parking_lot_core.specs.declared.notes.Note.TheVariants.{Normal}
+use Rattle.parking_lot_core.specs.declared.wants.Want.TheVariants.{Exclusive}
+use Rattle.parking_lot_core.specs.declared.ops.Op as op
+use Rattle.lot_steps.specs.declared.mutex.MutexCall.{MutexCall}
+use Rattle.lot_steps.specs.declared.mutex.MutexCall as call
+use Rattle.lot_steps.specs.declared.mutex.MutexPlace.{MutexPlace}
+use Rattle.lot_steps.specs.declared.mutex.MutexPlace.TheVariants.{Lock, TryLock, Unlock}
+use Rattle.lot_steps.specs.declared.mutex.LockAt.{LockAt}
+use Rattle.lot_steps.specs.declared.mutex.LockAt as lock
+use Rattle.lot_steps.specs.declared.mutex.UnlockAt.{UnlockAt}
+use Rattle.lot_steps.specs.declared.mutex.UnlockAt as unlock
+use Rattle.lot_steps.specs.declared.mutex.TheConstants.{NOT_PARKED}
+use Rattle.lot_steps.specs.declared.acts.Act.{Act}
+use Rattle.lot_steps.specs.declared.acts.Act as act
+use Rattle.lot_steps.specs.declared.acts.Check.TheVariants.{WordIs}
+use Rattle.lot_steps.specs.declared.acts.Wakes as wakes
+use Rattle.lot_steps.specs.declared.acts.Reply.{Reply}
+use Rattle.lot_steps.specs.declared.acts.Reply.TheVariants.{Done, Value, Spun, Parked, Took, Removed, TakenBy, Late, Woken}
+use Rattle.lot_steps.specs.declared.acts.Next.{Next}
+use Rattle.lot_steps.specs.declared.acts.Next.TheVariants.{At, End}
+use Rattle.lot_steps.specs.declared.calls.Answer.{Answer}
+use Rattle.lot_steps.specs.declared.calls.Answer as answer
+use Rattle.lot_steps.specs.declared.owners.Owners.{Owners}
+use Rattle.lot_steps.specs.Acts.{wakes_first}
+
+-- the word: 1 where it is locked, and 2 where a thread may be parked
+abbrev pub is_locked : ℕ → Bool
+is_locked word = word % 2 == 1
+
+abbrev pub is_parked : ℕ → Bool
+is_parked word = word / 2 % 2 == 1
+
+abbrev pub mutex_first : MutexCall → MutexPlace
+mutex_first call.TheVariants.Lock = Lock false false lock.TheVariants.First
+mutex_first call.TheVariants.LockTimed = Lock true false lock.TheVariants.First
+mutex_first call.TheVariants.TryLock = TryLock
+mutex_first call.TheVariants.Unlock = Unlock unlock.TheVariants.Subtract
+
+abbrev pub is_thread : ℕ → Option ℕ → Bool
+is_thread t None = false
+is_thread t (Some u) = u == t
+
+-- whether a thread has the right that the call needs
+abbrev pub mutex_right : MutexCall → ℕ → Owners → Bool
+mutex_right call.TheVariants.Unlock t owners = is_thread t owners.exclusive
+mutex_right c t owners = true
+
+-- ---------------------------------------------------------------- what a thread does
+
+-- an unlocked mutex is taken, an owner is told of the waiter, and where that was done the thread parks
+abbrev pub decided : ℕ → ℕ → Act
+decided l seen =
+    if not (is_locked seen) then act.TheVariants.Word l (op.TheVariants.Exchange seen (seen + 1))
+    else if seen == 1 then act.TheVariants.Word l (op.TheVariants.Exchange 1 3)
+    else act.TheVariants.Enter (One (2 * l))
+
+abbrev pub lock_act : ℕ → LockAt → Act
+lock_act l lock.TheVariants.First = act.TheVariants.Word l (op.TheVariants.Exchange 0 1)
+lock_act l lock.TheVariants.Load = act.TheVariants.Word l op.TheVariants.Load
+lock_act l (lock.TheVariants.Decide seen) = decided l seen
+lock_act l lock.TheVariants.Check = act.TheVariants.Park l (2 * l) (WordIs 3) Exclusive
+lock_act l (lock.TheVariants.Leave parked) = act.TheVariants.Leave (One (2 * l)) wakes.TheVariants.Nobody
+lock_act l lock.TheVariants.Asleep = act.TheVariants.Sleep
+lock_act l (lock.TheVariants.Taken by) = act.TheVariants.Sleep
+lock_act l lock.TheVariants.Remove = act.TheVariants.Remove (2 * l)
+lock_act l lock.TheVariants.Clear = act.TheVariants.Word l (op.TheVariants.And NOT_PARKED)
+lock_act l lock.TheVariants.GiveUp = act.TheVariants.Leave (One (2 * l)) wakes.TheVariants.Nobody
+
+abbrev pub unlock_act : ℕ → UnlockAt → Act
+unlock_act l unlock.TheVariants.Subtract = act.TheVariants.Word l (op.TheVariants.Sub 1)
+unlock_act l unlock.TheVariants.Enter = act.TheVariants.Enter (One (2 * l))
+unlock_act l unlock.TheVariants.Take = act.TheVariants.TakeFirst (2 * l)
+unlock_act l (unlock.TheVariants.Clear taken) = act.TheVariants.Word l (op.TheVariants.And NOT_PARKED)
+unlock_act l (unlock.TheVariants.Leave taken) = act.TheVariants.Leave (One (2 * l)) (wakes_first taken Normal)
+
+abbrev pub mutex_act : ℕ → MutexPlace → Act
+mutex_act l (Lock timed retries at) = lock_act l at
+mutex_act l TryLock = act.TheVariants.Word l (op.TheVariants.Or 1)
+mutex_act l (Unlock at) = unlock_act l at
+
+-- ---------------------------------------------------------------- where a reply leads
+
+-- a timed call tells that it has the lock by yes
+abbrev pub entered : Bool → Answer
+entered timed = if timed then answer.TheVariants.Yes else answer.TheVariants.Ok
+
+abbrev pub lock_next : Bool → LockAt → Reply → Next LockAt
+lock_next timed lock.TheVariants.First (Value seen) = if seen == 0 then End (entered timed) else At lock.TheVariants.Load
+lock_next timed lock.TheVariants.Load (Value seen) = At (lock.TheVariants.Decide seen)
+lock_next timed (lock.TheVariants.Decide expected) (Value seen) =
+    if not (seen == expected) then At (lock.TheVariants.Decide seen)
+    else if is_locked seen then At (lock.TheVariants.Decide 3)
+    else End (entered timed)
+lock_next timed (lock.TheVariants.Decide expected) (Spun seen) = At (lock.TheVariants.Decide seen)
+lock_next timed (lock.TheVariants.Decide expected) Done = At lock.TheVariants.Check
+lock_next timed lock.TheVariants.Check (Parked parked) = At (lock.TheVariants.Leave parked)
+lock_next timed (lock.TheVariants.Leave parked) Done = if parked then At lock.TheVariants.Asleep else At lock.TheVariants.Load
+lock_next timed lock.TheVariants.Asleep (TakenBy by) = At (lock.TheVariants.Taken by)
+lock_next timed (lock.TheVariants.Taken by) (Woken Normal) = At lock.TheVariants.Load
+lock_next timed lock.TheVariants.Asleep Late = At lock.TheVariants.Remove
+lock_next timed lock.TheVariants.Remove (Removed none_left) = if none_left then At lock.TheVariants.Clear else At lock.TheVariants.GiveUp
+lock_next timed lock.TheVariants.Clear (Value seen) = At lock.TheVariants.GiveUp
+lock_next timed lock.TheVariants.GiveUp Done = End answer.TheVariants.No
+lock_next timed at _ = At at
+
+-- from a wake note until it stands in the queue again
+abbrev pub still_retries : Bool → Reply → Bool
+still_retries retries (Woken note) = true
+still_retries retries (Parked parked) = retries && not parked
+still_retries retries _ = retries
+
+abbrev pub unlock_next : UnlockAt → Reply → Next UnlockAt
+unlock_next unlock.TheVariants.Subtract (Value seen) = if is_parked seen then At unlock.TheVariants.Enter else End answer.TheVariants.Ok
+unlock_next unlock.TheVariants.Enter Done = At unlock.TheVariants.Take
+unlock_next unlock.TheVariants.Take (Took first none_left) = if none_left then At (unlock.TheVariants.Clear first) else At (unlock.TheVariants.Leave first)
+unlock_next (unlock.TheVariants.Clear taken) (Value seen) = At (unlock.TheVariants.Leave taken)
+unlock_next (unlock.TheVariants.Leave taken) Done = End answer.TheVariants.Ok
+unlock_next at _ = At at
+
+abbrev pub try_next : Reply → Next MutexPlace
+try_next (Value seen) = if is_locked seen then End answer.TheVariants.No else End answer.TheVariants.Yes
+try_next _ = At TryLock
+
+abbrev pub in_lock : Bool → Bool → Next LockAt → Next MutexPlace
+in_lock timed retries (At at) = At (Lock timed retries at)
+in_lock timed retries (End answer) = End answer
+
+abbrev pub in_unlock : Next UnlockAt → Next MutexPlace
+in_unlock (At at) = At (Unlock at)
+in_unlock (End answer) = End answer
+
+abbrev pub mutex_next : MutexPlace → Reply → Next MutexPlace
+mutex_next (Lock timed retries at) reply = in_lock timed (still_retries retries reply) (lock_next timed at reply)
+mutex_next TryLock reply = try_next reply
+mutex_next (Unlock at) reply = in_unlock (unlock_next at reply)
+
+-- ---------------------------------------------------------------- who owns, owes and retries
+
+abbrev pub with_exclusive : Owners → Option ℕ → Owners
+with_exclusive owners thread = record owners { exclusive = thread }
+
+abbrev pub lock_owners : LockAt → ℕ → ℕ → Owners → Owners
+lock_owners lock.TheVariants.First t seen owners = if seen == 0 then with_exclusive owners (Some t) else owners
+lock_owners (lock.TheVariants.Decide expected) t seen owners = if (seen == expected) && not (is_locked seen) then with_exclusive owners (Some t) else owners
+lock_owners _ t seen owners = owners
+
+abbrev pub unlock_owners : UnlockAt → Owners → Owners
+unlock_owners unlock.TheVariants.Subtract owners = with_exclusive owners None
+unlock_owners _ owners = owners
+
+-- who owns the mutex after an operation on its word that saw this value
+abbrev pub mutex_owners : MutexPlace → ℕ → ℕ → Owners → Owners
+mutex_owners (Lock timed retries at) t seen owners = lock_owners at t seen owners
+mutex_owners TryLock t seen owners = if is_locked seen then owners else with_exclusive owners (Some t)
+mutex_owners (Unlock at) t seen owners = unlock_owners at owners
+
+-- whether the word may be loaded again in place of the act: where the act would set the parked bit
+abbrev pub mutex_can_spin : MutexPlace → Bool
+mutex_can_spin (Lock timed retries (lock.TheVariants.Decide seen)) = seen == 1
+mutex_can_spin _ = false
+
+-- whether the thread sleeps in the queue of a call that may give up
+abbrev pub mutex_can_be_late : MutexPlace → Bool
+mutex_can_be_late (Lock timed retries lock.TheVariants.Asleep) = timed
+mutex_can_be_late _ = false
+
+-- from the step that saw waiters, or from entering the section, until the section is left
+abbrev pub lock_owes : LockAt → Bool
+lock_owes lock.TheVariants.Check = true
+lock_owes (lock.TheVariants.Leave parked) = true
+lock_owes lock.TheVariants.Remove = true
+lock_owes lock.TheVariants.Clear = true
+lock_owes lock.TheVariants.GiveUp = true
+lock_owes _ = false
+
+abbrev pub unlock_owes : UnlockAt → Bool
+unlock_owes unlock.TheVariants.Subtract = false
+unlock_owes _ = true
+
+abbrev pub mutex_owes : MutexPlace → Bool
+mutex_owes (Lock timed retries at) = lock_owes at
+mutex_owes TryLock = false
+mutex_owes (Unlock at) = unlock_owes at
+
+abbrev pub mutex_retries : MutexPlace → Bool
+mutex_retries (Lock timed retries at) = retries
+mutex_retries _ = false

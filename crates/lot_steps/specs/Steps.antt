@@ -1,0 +1,87 @@
+-- The steps of every call.
+use Rattle.std.specs.Prelude.{ℕ, Bool, true, false, Option, Some, None, if◌then◌else◌, ◌==◌, ◌&&◌, ◌*◌, ◌^◌, ◌<◌}
+use Rattle.lot_steps.specs.declared.calls.Call.{Call}
+use Rattle.lot_steps.specs.declared.calls.Call as call
+use Rattle.lot_steps.specs.declared.places.Place.{Place}
+use Rattle.lot_steps.specs.declared.places.Place.TheVariants.{Idle, Mutex}
+use Rattle.lot_steps.specs.declared.mutex.MutexPlace.{MutexPlace}
+use Rattle.lot_steps.specs.declared.acts.Act.{Act}
+use Rattle.lot_steps.specs.declared.acts.Act as act
+use Rattle.lot_steps.specs.declared.acts.Reply.{Reply}
+use Rattle.lot_steps.specs.declared.acts.Next.{Next}
+use Rattle.lot_steps.specs.declared.acts.Next.TheVariants.{At, End}
+use Rattle.lot_steps.specs.declared.owners.Owners.{Owners}
+use Rattle.lot_steps.specs.MutexSteps.{mutex_first, mutex_right, mutex_act, mutex_next, mutex_owners, mutex_can_spin, mutex_can_be_late, mutex_owes, mutex_retries}
+
+abbrev pub lock_in : Call → ℕ
+lock_in (call.TheVariants.Mutex lock c) = lock
+
+-- where a call begins
+abbrev pub first_place : Call → Place
+first_place (call.TheVariants.Mutex lock c) = Mutex lock (mutex_first c)
+
+-- whether a thread has the right that a call needs
+abbrev pub has_right : Call → ℕ → Owners → Bool
+has_right (call.TheVariants.Mutex lock c) t owners = mutex_right c t owners
+
+abbrev pub is_idle : Place → Bool
+is_idle Idle = true
+is_idle (Mutex lock at) = false
+
+-- the lock that a thread calls
+abbrev pub lock_of : Place → Option ℕ
+lock_of Idle = None
+lock_of (Mutex lock at) = Some lock
+
+-- the keys of the lock that a thread calls are numbers
+abbrev pub HasKeys : Place → Type 0
+HasKeys Idle = Unit {0}
+HasKeys (Mutex lock at) = lock < 2 ^ 63
+
+-- what a thread does next
+abbrev pub act_of : Place → Act
+act_of Idle = act.TheVariants.Rest
+act_of (Mutex lock at) = mutex_act lock at
+
+abbrev pub mutex_goes : ℕ → Next MutexPlace → Place
+mutex_goes lock (At at) = Mutex lock at
+mutex_goes lock (End answer) = Idle
+
+-- where the reply to its act leads a thread
+abbrev pub next_place : Place → Reply → Place
+next_place Idle reply = Idle
+next_place (Mutex lock at) reply = mutex_goes lock (mutex_next at reply)
+
+abbrev pub mutex_does : ℕ → Next MutexPlace → Act
+mutex_does lock (At at) = mutex_act lock at
+mutex_does lock (End answer) = act.TheVariants.End answer
+
+-- and what it does then
+abbrev pub next_act : Place → Reply → Act
+next_act Idle reply = act.TheVariants.Rest
+next_act (Mutex lock at) reply = mutex_does lock (mutex_next at reply)
+
+-- who owns the lock after an operation on its word that saw this value
+abbrev pub owners_after : Place → ℕ → ℕ → Owners → Owners
+owners_after Idle t seen owners = owners
+owners_after (Mutex lock at) t seen owners = mutex_owners at t seen owners
+
+-- the lock whose word may be loaded again in place of the act
+abbrev pub spin_lock : Place → Option ℕ
+spin_lock Idle = None
+spin_lock (Mutex lock at) = if mutex_can_spin at then Some lock else None
+
+-- the key under which a thread sleeps in a call that may give up
+abbrev pub late_key : Place → Option ℕ
+late_key Idle = None
+late_key (Mutex lock at) = if mutex_can_be_late at then Some (2 * lock) else None
+
+-- a thread owes a wake on a lock
+abbrev pub owes_on : Place → ℕ → Bool
+owes_on Idle lock = false
+owes_on (Mutex own at) lock = mutex_owes at && (own == lock)
+
+-- a thread was woken and tries again on a lock
+abbrev pub retries_on : Place → ℕ → Bool
+retries_on Idle lock = false
+retries_on (Mutex own at) lock = mutex_retries at && (own == lock)

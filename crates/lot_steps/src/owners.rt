@@ -1,0 +1,56 @@
+//! Who owns a lock.
+ghost use Rattle.std.specs.Prelude.{◌≡◌, Option};
+
+/// A sort of ownership.
+#[derive(Clone, Copy, Debug, PartialEq, Eq)]
+pub enum Owner {
+    Exclusive,
+    /// A writer that waits for the last readers.
+    Pending,
+    Upgradable,
+    /// The thread that runs the closure of a `Once`.
+    Running,
+    Shared,
+}
+
+/// What a pending writer has again when it gives up.
+#[derive(Clone, Copy, Debug, PartialEq, Eq)]
+pub enum Fallback {
+    Nothing,
+    Upgradable,
+}
+
+/// A writer that waits for the last readers.
+#[derive(Clone, Copy, Debug, PartialEq, Eq)]
+pub struct Pending {
+    pub thread: usize,
+    pub fallback: Fallback,
+}
+
+/// The owners of a lock, of each sort that one thread has alone.
+#[derive(Clone, Copy, Debug, PartialEq, Eq)]
+pub struct Owners {
+    pub exclusive: Option<usize>,
+    pub pending: Option<Pending>,
+    pub upgradable: Option<usize>,
+    pub running: Option<usize>,
+}
+
+impl Owners {
+    pub const NOBODY: Owners = Owners {
+        exclusive: None,
+        pending: None,
+        upgradable: None,
+        running: None,
+    };
+
+    /// The same owners but for the exclusive one.
+    pub fn with_exclusive(self, thread: Option<usize>) -> Owners
+        ensures { result ≡ record self { exclusive = thread } }
+    {
+        Owners {
+            exclusive: thread,
+            ..self
+        }
+    }
+}

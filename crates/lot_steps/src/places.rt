@@ -1,0 +1,118 @@
+//! Where a thread stands, and where each step leads it.
+ghost use Rattle.std.specs.Prelude.{◌≡◌};
+ghost use Rattle.lot_steps.specs.Steps.{HasKeys, act_of, next_place, next_act, owners_after, spin_lock, late_key, owes_on, retries_on, is_idle};
+
+use crate::acts::{Act, Next, Reply};
+use crate::mutex::MutexPlace;
+use crate::owners::Owners;
+use parking_lot_core::{Key, main_key};
+
+/// Where a thread stands: in no call, or in a call of a lock, with all that the call remembers.
+#[derive(Clone, Copy, Debug, PartialEq, Eq)]
+pub enum Place {
+    Idle,
+    Mutex { lock: usize, at: MutexPlace },
+}
+
+impl Place {
+    pub fn is_idle(self) -> bool
+        ensures { result ≡ is_idle self }
+    {
+        match self {
+            Place::Idle => true,
+            Place::Mutex { lock: _, at: _ } => false,
+        }
+    }
+
+    /// What the thread does next.
+    pub fn act(self) -> Act
+        requires { HasKeys self }
+        ensures { result ≡ act_of self }
+    {
+        match self {
+            Place::Idle => Act::Rest,
+            Place::Mutex { lock, at } => at.act(lock),
+        }
+    }
+
+    /// Where the reply to its act, or what befalls it asleep, leads the thread.
+    pub fn after(self, reply: Reply) -> Place
+        ensures { result ≡ next_place self reply }
+    {
+        match self {
+            Place::Idle => Place::Idle,
+            Place::Mutex { lock, at } => match at.next(reply) {
+                Next::At(at) => Place::Mutex { lock, at },
+                Next::End(_) => Place::Idle,
+            },
+        }
+    }
+
+    /// Who owns the lock after the thread's operation on its word, which saw this value.
+    pub fn owners_after(self, thread: usize, seen: u64, owners: Owners) -> Owners
+        ensures { result ≡ owners_after self thread seen owners }
+    {
+        match self {
+            Place::Idle => owners,
+            Place::Mutex { lock: _, at } => at.owners_after(thread, seen, owners),
+        }
+    }
+
+    /// The lock whose word the thread may load again in place of its act, which leads to sleep.
+    pub fn spin_lock(self) -> Option<usize>
+        ensures { result ≡ spin_lock self }
+    {
+        match self {
+            Place::Mutex { lock, at } if at.can_spin() => Some(lock),
+            _ => None,
+        }
+    }
+
+    /// The key under which the thread sleeps in a timed call, where it may give up.
+    pub fn late_key(self) -> Option<Key>
+        requires { HasKeys self }
+        ensures { result ≡ late_key self }
+    {
+        match self {
+            Place::Mutex { lock, at } if at.can_be_late() => Some(main_key(lock)),
+            _ => None,
+        }
+    }
+
+    /// Whether the thread owes a wake on a lock: from the step that saw waiters of one of its queues, or
+    /// from entering the section, until it leaves that section.
+    pub fn owes_on(self, lock: usize) -> bool
+        ensures { result ≡ owes_on self lock }
+    {
+        match self {
+            Place::Idle => false,
+            Place::Mutex { lock: own, at } => at.owes() && own == lock,
+        }
+    }
+
+    /// Whether the thread was woken and tries again on a lock: from the wake note until it stands in
+    /// a queue again, owns what it waited for, or its call ends.
+    pub fn retries_on(self, lock: usize) -> bool
+        ensures { result ≡ retries_on self lock }
+    {
+        match self {
+            Place::Idle => false,
+            Place::Mutex { lock: own, at } => at.retries() && own == lock,
+        }
+    }
+}
+
+/// The step of every call: where the reply to its act leads a thread, and what the thread does next.
+pub fn advance(place: Place, reply: Reply) -> (Place, Act)
+    requires { HasKeys place }
+    ensures place { result.0 ≡ next_place place reply }
+    ensures act { result.1 ≡ next_act place reply }
+{
+    match place {
+        Place::Idle => (Place::Idle, Act::Rest),
+        Place::Mutex { lock, at } => match at.next(reply) {
+            Next::At(at) => (Place::Mutex { lock, at }, at.act(lock)),
+            Next::End(answer) => (Place::Idle, Act::End(answer)),
+        },
+    }
+}

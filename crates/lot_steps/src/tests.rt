@@ -1,0 +1,97 @@
+ghost use Rattle.std.specs.Prelude.{◌≡◌};
+
+use crate::{
+    Act, Answer, Call, Kind, LockAt, MutexCall, MutexPlace, Op, Outcome, Owners, Place, Reply,
+    UnlockAt, advance,
+};
+use parking_lot_core::{Keys, Note};
+
+fn call(call: MutexCall) -> Call
+    ensures { result ≡ Call.Mutex 3 call }
+{
+    Call::Mutex { lock: 3, call }
+}
+
+#[test]
+fn a_limit_fits_from_the_threads_to_the_greatest(rt: HostRuntime) {
+    for (limit, fits) in [
+        (1, false),
+        (2, true),
+        (1152921504606846974, true),
+        (1152921504606846975, false),
+    ] {
+        assert_eq!(rt; Kind::RwLock { limit }.fits(2), fits, "limit {limit}");
+        assert_eq!(rt; Kind::Recursive { limit }.fits(2), fits, "limit {limit}");
+    }
+    for kind in [Kind::Mutex, Kind::Fair, Kind::Condvar, Kind::Once] {
+        assert!(rt; kind.fits(1024));
+    }
+}
+
+#[test]
+fn a_call_says_what_it_needs(rt: HostRuntime) {
+    let owned = Owners::NOBODY.with_exclusive(Some(1));
+    for (name, owner_may, other_may) in [
+        (MutexCall::Lock, true, true),
+        (MutexCall::TryLock, true, true),
+        (MutexCall::Unlock, true, false),
+    ] {
+        assert!(rt; Kind::Mutex.has_call(call(name)));
+        assert!(rt; !Kind::Once.has_call(call(name)));
+        assert_eq!(rt; call(name).lock(), 3);
+        assert_eq!(rt; call(name).has_right(1, owned), owner_may);
+        assert_eq!(rt; call(name).has_right(0, owned), other_may);
+    }
+}
+
+#[test]
+fn a_release_wakes_the_one_that_it_took(rt: HostRuntime) {
+    let start = call(MutexCall::Unlock).first_place();
+    assert!(rt; !start.is_idle());
+    assert_eq!(rt;
+        start.act(),
+        Act::Word {
+            lock: 3,
+            op: Op::Sub(1)
+        }
+    );
+    let (enter, act) = advance(start, Reply::Value(3));
+    assert_eq!(rt; act, Act::Enter(Keys::One(6)));
+    assert!(rt; enter.owes_on(3));
+    let owners = start.owners_after(1, 3, Owners::NOBODY.with_exclusive(Some(1)));
+    assert_eq!(rt; owners, Owners::NOBODY);
+    let (_, act) = advance(start, Reply::Value(1));
+    assert_eq!(rt; act.outcome(), Outcome::End(Answer::Ok));
+    let leave = Place::Mutex {
+        lock: 3,
+        at: MutexPlace::Unlock(UnlockAt::Leave { taken: Some(0) }),
+    };
+    let (end, act) = advance(leave, Reply::Done);
+    assert_eq!(rt; act, Act::End(Answer::Ok));
+    assert!(rt; end.is_idle());
+}
+
+#[test]
+fn a_woken_thread_retries(rt: HostRuntime) {
+    let taken = Place::Mutex {
+        lock: 3,
+        at: MutexPlace::Lock {
+            timed: true,
+            retries: false,
+            at: LockAt::Taken { by: 1 },
+        },
+    };
+    assert_eq!(rt; taken.act().outcome(), Outcome::Sleep);
+    let woken = taken.after(Reply::Woken(Note::Normal));
+    assert!(rt; woken.retries_on(3));
+    assert_eq!(rt;
+        woken.act(),
+        Act::Word {
+            lock: 3,
+            op: Op::Load
+        }
+    );
+    let saw = woken.after(Reply::Value(1));
+    assert_eq!(rt; saw.spin_lock(), Some(3));
+    assert_eq!(rt; saw.after(Reply::Spun(3)).spin_lock(), None);
+}

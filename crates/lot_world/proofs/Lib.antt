@@ -1,0 +1,12 @@
+pub mod QueueLemmas
+pub mod Opening
+pub mod Shape
+pub mod Alone
+pub mod Runs
+pub mod Keeps
+pub mod Words
+pub mod Sections
+pub mod Counts
+pub mod Parks
+pub mod Steady
+pub mod Promises

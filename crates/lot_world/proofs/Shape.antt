@@ -1,0 +1,332 @@
+-- Each step keeps the shape of a state: its numbers go on naming threads, locks and keys that are there.
+use Rattle.std.proofs.Common.{ℕ, zero, suc, Bool, true, false, cond, Option, Some, None, if◌then◌else◌, ◌==◌, ◌&&◌, not, nat_lt, ◌≡◌, ◌*◌, ◌≤◌, ◌<◌, List, [], ◌∷◌, ◌++◌, length, get_or, set, map, drop, refl, ◌∙◌, length-set, replicate}
+use Rattle.std.proofs.lemmas.List.{length-replicate}
+use Rattle.std.proofs.lemmas.Bool.{ltb-true}
+use Rattle.std.proofs.lemmas.List.{length-map}
+use Rattle.std.proofs.Math.ListN.{get_or-map}
+use Rattle.parking_lot_core.specs.declared.keys.Keys.{Keys}
+use Rattle.parking_lot_core.specs.declared.keys.Keys.TheVariants.{One, Two}
+use Rattle.parking_lot_core.specs.declared.ops.Op.{Op}
+use Rattle.parking_lot_core.specs.declared.wants.Waiter.{Waiter}
+use Rattle.parking_lot_core.specs.declared.wants.Want.{Want}
+use Rattle.parking_lot_core.specs.Lines.{waiter, without, first_of}
+use Rattle.lot_steps.specs.declared.acts.Act.{Act}
+use Rattle.lot_steps.specs.declared.acts.Act.TheVariants.{Word, Enter, Park, TakeFirst, Remove, Leave}
+use Rattle.lot_steps.specs.declared.acts.Check.{Check}
+use Rattle.lot_steps.specs.declared.acts.Wakes.{Wakes}
+use Rattle.lot_steps.specs.declared.acts.Wakes as wakes
+use Rattle.lot_steps.specs.declared.acts.Reply.{Reply}
+use Rattle.lot_steps.specs.declared.acts.Reply.TheVariants.{Done, Value, Spun, Took, TakenBy, Late, Woken}
+use Rattle.lot_steps.specs.declared.acts.Next.{Next}
+use Rattle.lot_steps.specs.declared.acts.Next as next
+use Rattle.lot_steps.specs.declared.calls.Answer as answer
+use Rattle.lot_steps.specs.declared.calls.Call.{Call}
+use Rattle.lot_steps.specs.declared.calls.Call as call
+use Rattle.lot_steps.specs.declared.kinds.Kind.{Kind}
+use Rattle.lot_steps.specs.declared.calls.Turn.{Turn}
+use Rattle.lot_steps.specs.declared.calls.Turn as turn
+use Rattle.lot_steps.specs.declared.calls.Step.{Step}
+use Rattle.lot_steps.specs.declared.places.Place.{Place}
+use Rattle.lot_steps.specs.declared.places.Place.TheVariants.{Idle, Mutex}
+use Rattle.lot_steps.specs.declared.mutex.MutexCall.{MutexCall}
+use Rattle.lot_steps.specs.declared.mutex.MutexCall as mutex_call
+use Rattle.lot_steps.specs.declared.mutex.MutexPlace.{MutexPlace}
+use Rattle.lot_steps.specs.declared.mutex.MutexPlace.TheVariants.{Lock, TryLock, Unlock}
+use Rattle.lot_steps.specs.declared.mutex.LockAt.{LockAt}
+use Rattle.lot_steps.specs.declared.mutex.UnlockAt.{UnlockAt}
+use Rattle.lot_steps.specs.declared.mutex.UnlockAt as unlock
+use Rattle.lot_steps.specs.Acts.{holds}
+use Rattle.lot_steps.specs.MutexSteps.{is_locked, is_parked, mutex_first, lock_next, still_retries, unlock_next, try_next, in_lock, in_unlock, mutex_next}
+use Rattle.lot_steps.specs.Steps.{is_idle, lock_in, first_place, act_of, next_place, mutex_goes, spin_lock, late_key}
+use Rattle.lot_world.specs.Machine.{State, unlocked, opening, word_at, place_at, queue_at, put, operated, filled_with, appended, first_taken, removed, parked, befallen, taken_by, took, awakened, performed, gone, go_reply, reply_to, begun, can_begin, is_open_to, spun, spun_on, lated, late_on, turned, can_turn, is_possible, after}
+use Rattle.lot_world.specs.Fits.{SomeBelow, taken_in, PlaceFits, AllBelow, IsShaped, SameSize}
+
+-- what holds of all elements holds of them after one is set
+pub set_all : {A : Type 0} (P : A → Type 0) (xs : List A) (i : ℕ) (y d : A) → P y → ((j : ℕ) → P (get_or xs j d)) → (j : ℕ) → P (get_or (set xs i y) j d)
+set_all P [] i y d p h j = h j
+set_all P (x ∷ xs) zero y d p h zero = p
+set_all P (x ∷ xs) zero y d p h (suc j) = h (suc j)
+set_all P (x ∷ xs) (suc i) y d p h zero = h zero
+set_all P (x ∷ xs) (suc i) y d p h (suc j) = set_all P xs i y d p (λ k. h (suc k)) j
+
+-- ---------------------------------------------------------------- waiters
+
+below_without : (n t : ℕ) (xs : List Waiter) → AllBelow n xs → AllBelow n (without t xs)
+below_without n t [] h = tt
+below_without n t (x ∷ xs) h = either (not (x.thread == t)) (below_without n t xs h.1)
+  where
+    either : (b : Bool) → AllBelow n (without t xs) → AllBelow n (cond b (x ∷ without t xs) (without t xs))
+    either true more = (h.0, more)
+    either false more = more
+
+below_behind : (n key t : ℕ) (wanted : Want) (xs : List Waiter) → t < n → AllBelow n xs → AllBelow n (xs ++ waiter key t wanted ∷ [])
+below_behind n key t wanted [] lt h = (lt, tt)
+below_behind n key t wanted (x ∷ xs) lt h = (h.0, below_behind n key t wanted xs lt h.1)
+
+below_rest : (n : ℕ) (xs : List Waiter) → AllBelow n xs → AllBelow n (drop 1 xs)
+below_rest n [] h = tt
+below_rest n (x ∷ xs) h = h.1
+
+below_first : (n : ℕ) (xs : List Waiter) → AllBelow n xs → SomeBelow n (first_of xs)
+below_first n [] h = tt
+below_first n (x ∷ xs) h = h.0
+
+-- ---------------------------------------------------------------- places
+
+abbrev pub ReplyFits : ℕ → Reply → Type 0
+ReplyFits threads (Took first none_left) = SomeBelow threads first
+ReplyFits threads reply = Unit {0}
+
+abbrev pub NextFits : ℕ → Next MutexPlace → Type 0
+NextFits threads (next.TheVariants.At at) = SomeBelow threads (taken_in at)
+NextFits threads (next.TheVariants.End answer) = Unit {0}
+
+lock_fits : (threads : ℕ) (timed retries : Bool) (n : Next LockAt) → NextFits threads (in_lock timed retries n)
+lock_fits threads timed retries (next.TheVariants.At at) = tt
+lock_fits threads timed retries (next.TheVariants.End answer) = tt
+
+try_fits : (threads : ℕ) (reply : Reply) → NextFits threads (try_next reply)
+try_fits threads (Value seen) = either (is_locked seen)
+  where
+    either : (b : Bool) → NextFits threads (if b then next.TheVariants.End answer.TheVariants.No else next.TheVariants.End answer.TheVariants.Yes)
+    either true = tt
+    either false = tt
+try_fits threads reply = tt
+
+unlock_fits : (threads : ℕ) (at : UnlockAt) (reply : Reply) → SomeBelow threads (taken_in (Unlock at)) → ReplyFits threads reply → NextFits threads (in_unlock (unlock_next at reply))
+unlock_fits threads unlock.TheVariants.Subtract (Value seen) h r = either (is_parked seen)
+  where
+    either : (b : Bool) → NextFits threads (in_unlock (if b then next.TheVariants.At unlock.TheVariants.Enter else next.TheVariants.End answer.TheVariants.Ok))
+    either true = tt
+    either false = tt
+unlock_fits threads unlock.TheVariants.Take (Took first none_left) h r = either none_left
+  where
+    either : (b : Bool) → NextFits threads (in_unlock (if b then next.TheVariants.At (unlock.TheVariants.Clear first) else next.TheVariants.At (unlock.TheVariants.Leave first)))
+    either true = r
+    either false = r
+unlock_fits threads unlock.TheVariants.Enter Done h r = tt
+unlock_fits threads (unlock.TheVariants.Clear taken) (Value seen) h r = h
+unlock_fits threads (unlock.TheVariants.Leave taken) Done h r = tt
+unlock_fits threads at reply h r = h
+
+goes_fits : (threads locks l : ℕ) (n : Next MutexPlace) → l < locks → NextFits threads n → PlaceFits threads locks (mutex_goes l n)
+goes_fits threads locks l (next.TheVariants.At at) lt h = (lt, h)
+goes_fits threads locks l (next.TheVariants.End answer) lt h = tt
+
+pub next_fits : (threads locks : ℕ) (p : Place) (reply : Reply) → PlaceFits threads locks p → ReplyFits threads reply → PlaceFits threads locks (next_place p reply)
+next_fits threads locks Idle reply h r = tt
+next_fits threads locks (Mutex l (Lock timed retries at)) reply h r = goes_fits threads locks l (mutex_next (Lock timed retries at) reply) h.0 (lock_fits threads timed (still_retries retries reply) (lock_next timed at reply))
+next_fits threads locks (Mutex l TryLock) reply h r = goes_fits threads locks l (mutex_next TryLock reply) h.0 (try_fits threads reply)
+next_fits threads locks (Mutex l (Unlock at)) reply h r = goes_fits threads locks l (mutex_next (Unlock at) reply) h.0 (unlock_fits threads at reply h.1 r)
+
+first_fits : (threads locks l : ℕ) (c : MutexCall) → l < locks → PlaceFits threads locks (Mutex l (mutex_first c))
+first_fits threads locks l mutex_call.TheVariants.Lock h = (h, tt)
+first_fits threads locks l mutex_call.TheVariants.LockTimed h = (h, tt)
+first_fits threads locks l mutex_call.TheVariants.TryLock h = (h, tt)
+first_fits threads locks l mutex_call.TheVariants.Unlock h = (h, tt)
+
+call_fits : (threads locks : ℕ) (c : Call) → lock_in c < locks → PlaceFits threads locks (first_place c)
+call_fits threads locks (call.TheVariants.Mutex l c) h = first_fits threads locks l c h
+
+-- ---------------------------------------------------------------- states
+
+pub put_shaped : (w : State) (t : ℕ) (p : Place) → IsShaped w → PlaceFits (length w.places) (length w.locks) p → IsShaped (put w t p)
+put_shaped w t p s h = record {
+  few = s.few;
+  sections = s.sections;
+  queues = s.queues;
+  places = λ u. rw (length-set w.places t p) (set_all (PlaceFits (length w.places) (length w.locks)) w.places t p Idle h s.places u);
+  waiting = λ key. rw (length-set w.places t p) (s.waiting key);
+}
+
+befallen_shaped : (w : State) (t : ℕ) (reply : Reply) → IsShaped w → ReplyFits (length w.places) reply → IsShaped (befallen w t reply)
+befallen_shaped w t reply s r = put_shaped w t (next_place (place_at w t) reply) s (next_fits (length w.places) (length w.locks) (place_at w t) reply (s.places t) r)
+
+filled_shaped : (w : State) (keys : Keys) (who : Option ℕ) → IsShaped w → IsShaped (filled_with w keys who)
+filled_shaped w (One key) who s = record {
+  few = s.few;
+  sections = rw (length-set w.sections key who) s.sections;
+  queues = rw (length-set w.sections key who) s.queues;
+  places = s.places;
+  waiting = s.waiting;
+}
+filled_shaped w (Two first second) who s = record {
+  few = s.few;
+  sections = rw (length-set (set w.sections first who) second who, length-set w.sections first who) s.sections;
+  queues = rw (length-set (set w.sections first who) second who, length-set w.sections first who) s.queues;
+  places = s.places;
+  waiting = s.waiting;
+}
+
+operated_shaped : (w : State) (t : ℕ) (p : Place) (l : ℕ) (f : Op) → IsShaped w → IsShaped (operated w t p l f)
+operated_shaped w t p l f s = record {
+  few = rw (length-set w.locks l _) s.few;
+  sections = rw (length-set w.locks l _) s.sections;
+  queues = s.queues;
+  places = λ u. rw (length-set w.locks l _) (s.places u);
+  waiting = s.waiting;
+}
+
+queues_shaped : (w : State) (queues : List (List Waiter)) → IsShaped w → length queues ≡ length w.queues → ((key : ℕ) → AllBelow (length w.places) (get_or queues key [])) → IsShaped (record w { queues = queues })
+queues_shaped w queues s e h = record { few = s.few; sections = s.sections; queues = e ∙ s.queues; places = s.places; waiting = h }
+
+parked_shaped : (w : State) (t l key : ℕ) (check : Check) (wanted : Want) → IsShaped w → t < length w.places → IsShaped (parked w t l key check wanted)
+parked_shaped w t l key check wanted s lt = either (holds check (word_at w l))
+  where
+    others : (k : ℕ) → AllBelow (length w.places) (get_or (map (without t) w.queues) k [])
+    others k = rw (get_or-map (without t) w.queues k []) (below_without (length w.places) t (queue_at w k) (s.waiting k))
+
+    either : (b : Bool) → IsShaped (if b then record w { queues = appended w.queues key t wanted } else w)
+    either false = s
+    either true = queues_shaped w (appended w.queues key t wanted) s (length-set (map (without t) w.queues) key _ ∙ length-map w.queues (without t))
+        (set_all (AllBelow (length w.places)) (map (without t) w.queues) key _ [] (below_behind (length w.places) key t wanted _ lt (others key)) others)
+
+took_shaped : (w : State) (t key : ℕ) → IsShaped w → IsShaped (took w t key)
+took_shaped w t key s = by_first (first_of (queue_at w key))
+  where
+    rest : IsShaped (record w { queues = first_taken w.queues key })
+    rest = queues_shaped w (first_taken w.queues key) s (length-set w.queues key _)
+        (set_all (AllBelow (length w.places)) w.queues key _ [] (below_rest (length w.places) (queue_at w key) (s.waiting key)) s.waiting)
+
+    by_first : (o : Option ℕ) → IsShaped (taken_by (record w { queues = first_taken w.queues key }) t o)
+    by_first None = rest
+    by_first (Some u) = befallen_shaped (record w { queues = first_taken w.queues key }) u (TakenBy t) rest tt
+
+removed_shaped : (w : State) (t : ℕ) → IsShaped w → IsShaped (record w { queues = removed w.queues t })
+removed_shaped w t s = queues_shaped w (removed w.queues t) s (length-map w.queues (without t)) (λ k. rw (get_or-map (without t) w.queues k []) (below_without (length w.places) t (queue_at w k) (s.waiting k)))
+
+awakened_shaped : (w : State) (x : Wakes) → IsShaped w → IsShaped (awakened w x)
+awakened_shaped w wakes.TheVariants.Nobody s = s
+awakened_shaped w (wakes.TheVariants.One u note) s = befallen_shaped w u (Woken note) s tt
+
+performed_shaped : (w : State) (t : ℕ) (p : Place) (act : Act) → IsShaped w → t < length w.places → IsShaped (performed w t p act)
+performed_shaped w t p (Word l f) s lt = operated_shaped w t p l f s
+performed_shaped w t p (Enter keys) s lt = filled_shaped w keys (Some t) s
+performed_shaped w t p (Park l key check wanted) s lt = parked_shaped w t l key check wanted s lt
+performed_shaped w t p (TakeFirst key) s lt = took_shaped w t key s
+performed_shaped w t p (Remove key) s lt = removed_shaped w t s
+performed_shaped w t p (Leave keys x) s lt = awakened_shaped (filled_with w keys None) x (filled_shaped w keys None s)
+performed_shaped w t p act s lt = s
+
+-- an act changes neither the number of threads nor that of locks
+filled_counts : (w : State) (keys : Keys) (who : Option ℕ) → (length (filled_with w keys who).places ≡ length w.places) × (length (filled_with w keys who).locks ≡ length w.locks)
+filled_counts w (One key) who = (refl, refl)
+filled_counts w (Two first second) who = (refl, refl)
+
+performed_counts : (w : State) (t : ℕ) (p : Place) (act : Act) → (length (performed w t p act).places ≡ length w.places) × (length (performed w t p act).locks ≡ length w.locks)
+performed_counts w t p (Word l f) = (refl, length-set w.locks l _)
+performed_counts w t p (Enter keys) = filled_counts w keys (Some t)
+performed_counts w t p (Park l key check wanted) = either (holds check (word_at w l))
+  where
+    either : (b : Bool) → (length (if b then record w { queues = appended w.queues key t wanted } else w).places ≡ length w.places) × (length (if b then record w { queues = appended w.queues key t wanted } else w).locks ≡ length w.locks)
+    either true = (refl, refl)
+    either false = (refl, refl)
+performed_counts w t p (TakeFirst key) = by_first (first_of (queue_at w key))
+  where
+    by_first : (o : Option ℕ) → (length (taken_by (record w { queues = first_taken w.queues key }) t o).places ≡ length w.places) × (length (taken_by (record w { queues = first_taken w.queues key }) t o).locks ≡ length w.locks)
+    by_first None = (refl, refl)
+    by_first (Some u) = (length-set w.places u _, refl)
+performed_counts w t p (Leave keys wakes.TheVariants.Nobody) = filled_counts w keys None
+performed_counts w t p (Leave keys (wakes.TheVariants.One u note)) = (length-set (filled_with w keys None).places u _ ∙ (filled_counts w keys None).0, (filled_counts w keys None).1)
+performed_counts w t p act = (refl, refl)
+
+reply_fits : (w : State) (t : ℕ) (act : Act) → IsShaped w → ReplyFits (length w.places) (reply_to w t act)
+reply_fits w t (TakeFirst key) s = below_first (length w.places) (queue_at w key) (s.waiting key)
+reply_fits w t act s = tt
+
+gone_shaped : (w : State) (t : ℕ) → IsShaped w → t < length w.places → IsShaped (gone w t)
+gone_shaped w t s lt =
+    let act = act_of (place_at w t) in
+    let counts = performed_counts w t (place_at w t) act in
+    let fits = next_fits (length w.places) (length w.locks) (place_at w t) (go_reply w t) (s.places t) (reply_fits w t act s) in
+    put_shaped (performed w t (place_at w t) act) t (next_place (place_at w t) (go_reply w t)) (performed_shaped w t (place_at w t) act s lt) (rw (counts.0, counts.1) fits)
+
+both : (a b : Bool) → (a && b) ≡ true → (a ≡ true) × (b ≡ true)
+both true b h = (refl, h)
+both false b h = cc
+
+begun_shaped : (w : State) (t : ℕ) (c : Call) → IsShaped w → can_begin w t c ≡ true → IsShaped (begun w t c)
+begun_shaped w t c s can =
+    let open_to = both (is_idle (place_at w t)) (is_open_to w t c) can in
+    let there = both (nat_lt (lock_in c) (length w.locks)) _ open_to.1 in
+    put_shaped w t (first_place c) s (call_fits (length w.places) (length w.locks) c (ltb-true (lock_in c) (length w.locks) there.0))
+
+spun_shaped : (w : State) (t : ℕ) → IsShaped w → IsShaped (spun w t)
+spun_shaped w t s = by_lock (spin_lock (place_at w t))
+  where
+    by_lock : (o : Option ℕ) → IsShaped (spun_on w t o)
+    by_lock None = s
+    by_lock (Some l) = befallen_shaped w t (Spun (word_at w l)) s tt
+
+lated_shaped : (w : State) (t : ℕ) → IsShaped w → IsShaped (lated w t)
+lated_shaped w t s = by_key (late_key (place_at w t))
+  where
+    by_key : (o : Option ℕ) → IsShaped (late_on w t o)
+    by_key None = s
+    by_key (Some key) = befallen_shaped (filled_with w (One key) (Some t)) t Late (filled_shaped w (One key) (Some t) s) tt
+
+turned_shaped : (w : State) (t : ℕ) (x : Turn) → IsShaped w → t < length w.places → can_turn w t x ≡ true → IsShaped (turned w t x)
+turned_shaped w t (turn.TheVariants.Begin c) s lt can = begun_shaped w t c s can
+turned_shaped w t turn.TheVariants.Go s lt can = gone_shaped w t s lt
+turned_shaped w t turn.TheVariants.Spin s lt can = spun_shaped w t s
+turned_shaped w t turn.TheVariants.Late s lt can = lated_shaped w t s
+turned_shaped w t x s lt can = s
+
+-- a step keeps the shape
+pub after_shaped : (w : State) (s : Step) → IsShaped w → IsShaped (after w s)
+after_shaped w step s = either (is_possible w step) refl
+  where
+    either : (b : Bool) → is_possible w step ≡ b → IsShaped (if b then turned w step.thread step.turn else w)
+    either false e = s
+    either true e = let parts = both (nat_lt step.thread (length w.places)) (can_turn w step.thread step.turn) e in
+        turned_shaped w step.thread step.turn s (ltb-true step.thread (length w.places) parts.0) parts.1
+
+-- the opening state has the shape
+pub opening_shaped : (kinds : List Kind) (threads : ℕ) → length kinds ≤ 256 → IsShaped (opening kinds threads)
+opening_shaped kinds threads few = record {
+  few = rw (length-map kinds unlocked) few;
+  sections = rw (length-replicate {A = Option ℕ} (2 * length kinds) None, length-map kinds unlocked) refl;
+  queues = rw (length-replicate {A = List Waiter} (2 * length kinds) [], length-replicate {A = Option ℕ} (2 * length kinds) None) refl;
+  places = λ t. idle_fits threads t;
+  waiting = λ key. nobody_below (2 * length kinds) key;
+}
+  where
+    idle_fits : (n t : ℕ) → PlaceFits (length (replicate threads Idle)) (length (map unlocked kinds)) (get_or (replicate n Idle) t Idle)
+    idle_fits zero t = tt
+    idle_fits (suc n) zero = tt
+    idle_fits (suc n) (suc t) = idle_fits n t
+
+    nobody_below : (n key : ℕ) → AllBelow (length (replicate threads Idle)) (get_or (replicate n []) key [])
+    nobody_below zero key = tt
+    nobody_below (suc n) zero = tt
+    nobody_below (suc n) (suc key) = nobody_below n key
+
+-- ---------------------------------------------------------------- sizes
+
+turned_size : (w : State) (t : ℕ) (x : Turn) → SameSize w (turned w t x)
+turned_size w t (turn.TheVariants.Begin c) = record { threads = length-set w.places t _; locks = refl }
+turned_size w t turn.TheVariants.Go =
+    let counts = performed_counts w t (place_at w t) (act_of (place_at w t)) in
+    record { threads = length-set (performed w t (place_at w t) (act_of (place_at w t))).places t _ ∙ counts.0; locks = counts.1 }
+turned_size w t turn.TheVariants.Spin = by_lock (spin_lock (place_at w t))
+  where
+    by_lock : (o : Option ℕ) → SameSize w (spun_on w t o)
+    by_lock None = record { threads = refl; locks = refl }
+    by_lock (Some l) = record { threads = length-set w.places t _; locks = refl }
+turned_size w t turn.TheVariants.Late = by_key (late_key (place_at w t))
+  where
+    by_key : (o : Option ℕ) → SameSize w (late_on w t o)
+    by_key None = record { threads = refl; locks = refl }
+    by_key (Some key) = record { threads = length-set w.places t _; locks = refl }
+turned_size w t x = record { threads = refl; locks = refl }
+
+-- a step changes no number of threads or locks
+pub after_size : (w : State) (s : Step) → SameSize w (after w s)
+after_size w step = either (is_possible w step)
+  where
+    either : (b : Bool) → SameSize w (if b then turned w step.thread step.turn else w)
+    either true = turned_size w step.thread step.turn
+    either false = record { threads = refl; locks = refl }
+
+pub size_more : (w v u : State) → SameSize w v → SameSize v u → SameSize w u
+size_more w v u p q = record { threads = q.threads ∙ p.threads; locks = q.locks ∙ p.locks }

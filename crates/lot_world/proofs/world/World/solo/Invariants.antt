@@ -1,0 +1,12 @@
+use Rattle.std.proofs.Common.{◌≡◌, ◌-◌}
+use Rattle.lot_steps.specs.declared.calls.Outcome as outcome
+use Rattle.lot_world.specs.Machine.{solo}
+use Rattle.lot_world.specs.Fits.{SameSize}
+use Rattle.lot_world.proofs.world.World.solo.Given as goal
+
+-- what is left to do leads where all of it leads
+abbrev pub invariant-loop : goal.invariant-loop
+invariant-loop g l = record {
+  rest : solo (64 - l.counter) l.self l.thread l.last ≡ solo 64 l.fn.self l.thread outcome.TheVariants.NotNow;
+  size : SameSize l.fn.self l.self;
+}

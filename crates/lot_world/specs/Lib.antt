@@ -1,0 +1,11 @@
+pub use Rattle.parking_lot_core.specs.Words
+pub use Rattle.parking_lot_core.specs.Lines
+pub use Rattle.lot_steps.specs.Kinds
+pub use Rattle.lot_steps.specs.Acts
+pub use Rattle.lot_steps.specs.MutexSteps
+pub use Rattle.lot_steps.specs.Steps
+pub mod Machine
+pub mod Fits
+pub mod Views
+pub mod Sound
+pub mod Promises

@@ -1,0 +1,14 @@
+//! Any number of threads over locks, by a list of steps.
+#![tactic(auto)]
+
+pub mod machine;
+#[cfg(test)]
+mod tests;
+pub mod views;
+pub mod world;
+
+pub use lot_steps;
+pub use lot_steps::{Answer, Call, Kind, MutexCall, OnceState, Outcome, Owner, Place, Step, Turn};
+pub use machine::Lock;
+pub use views::{Debt, Debts, OwnersOf, QueueOf};
+pub use world::{MOST_LOCKS, MOST_THREADS, SOLO_STEPS, Stopped, World};

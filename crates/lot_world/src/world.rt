@@ -1,0 +1,184 @@
+//! Any number of threads over locks, by a list of steps.
+ghost use Rattle.std.specs.Prelude.{◌≡◌, ◌<◌, ◌≤◌, ◌++◌, IfOk, IfErr, OnOk, All, length, take, true};
+ghost use Rattle.lot_steps.specs.Kinds.{fits};
+ghost use Rattle.lot_world.specs.Machine.{opening, place_at, word_at, kind_at, after, answered, after_all, answered_all, solo};
+ghost use Rattle.lot_world.specs.Fits.{SameSize};
+ghost use Rattle.lot_world.specs.Promises.{IsKept, IsKeptThroughout};
+ghost use Rattle.lot_world.specs.Views.{owners_of, queue_of, debts_of};
+
+use crate::machine::Machine;
+use crate::views::{Debts, OwnersOf, QueueOf};
+use lot_steps::{Kind, Outcome, Place, Step, Turn};
+use parking_lot_core::{Fault, Queues};
+use std::alloc::Global;
+use std::marker::Model;
+
+/// The greatest number of threads of a world.
+pub const MOST_THREADS: usize = 1024;
+
+/// The greatest number of locks of a world.
+pub const MOST_LOCKS: usize = 256;
+
+/// After how many steps alone a thread is stopped.
+pub const SOLO_STEPS: usize = 64;
+
+/// Memory for an outcome was refused after this many steps.
+#[derive(Clone, Copy, Debug, PartialEq, Eq)]
+pub struct Stopped {
+    pub taken: usize,
+}
+
+/// Threads over locks. No call but `new` and `run` takes memory.
+#[derive(Drop)]
+pub struct World<Q: Queues + Drop> {
+    machine: Machine<Q>,
+}
+
+impl<Q: Queues + Drop> Model for World<Q> {
+    ghost use Rattle.lot_world.specs.Machine.{State};
+    ghost use Rattle.lot_world.specs.Fits.{IsShaped};
+    ghost use Rattle.lot_world.specs.Sound.{IsSound};
+
+    ghost Value = { State };
+
+    ghost view = { λ a. a.machine };
+
+    ghost invariant = { λ a. IsShaped a.machine × IsSound a.machine };
+}
+
+impl<Q: Queues + Drop> World<Q> {
+    /// A world of locks of these kinds, in their order, and of this many threads. Nobody is in a call,
+    /// nobody owns anything, and nobody waits. `Kind::fits` tests what a kind needs.
+    pub fn new(alloc: Global, kinds: &[Kind], threads: usize) -> Result<Self, Fault>
+        requires some { 1 ≤ threads }
+        requires few_threads { threads ≤ MOST_THREADS }
+        requires few_locks { length kinds.now ≤ MOST_LOCKS }
+        requires fit { All (λ kind. fits kind threads ≡ true) kinds.now }
+        ensures ok { IfOk result (λ world. world ≡ opening kinds.now threads) }
+        ensures err { IfErr result (λ fault. fault ≡ Fault.NoMemory) }
+    {
+        Ok(World {
+            machine: Machine::new(alloc, kinds, threads)?,
+        })
+    }
+
+    /// One step of one thread. One that isn't possible answers `NotNow` and changes nothing.
+    pub fn step(&mut self, step: Step) -> Outcome
+        ensures state { self.new ≡ after self.old step }
+        ensures outcome { result ≡ answered self.old step }
+
+        // Words are coded, and whoever waits for nobody has a thread that owes its wake or tries again.
+        ensures kept { IsKept self.new }
+        ensures same_size { SameSize self.old self.new }
+    {
+        self.machine.turn(step)
+    }
+
+    /// Steps of one thread alone, until its call ends, sleeps or is in its closure, or until its next
+    /// step isn't possible, at most `SOLO_STEPS`. It answers the outcome of the last possible step, and
+    /// `NotNow` where there was none.
+    pub fn solo(&mut self, thread: usize) -> Outcome
+        ensures state { self.new ≡ (solo SOLO_STEPS self.old thread Outcome.NotNow).state }
+        ensures outcome { result ≡ (solo SOLO_STEPS self.old thread Outcome.NotNow).outcome }
+        ensures same_size { SameSize self.old self.new }
+    {
+        let mut last = Outcome::NotNow;
+        for _ in 0..SOLO_STEPS {
+            match self.step(Step {
+                thread,
+                turn: Turn::Go,
+            }) {
+                Outcome::NotNow => return last,
+                Outcome::Step => last = Outcome::Step,
+                rests => return rests,
+            }
+        }
+        last
+    }
+
+    /// Steps in their order, with their outcomes behind those that are there. Where memory for an
+    /// outcome is refused, the world is the one after the steps that were taken.
+    pub fn run(&mut self, steps: &[Step], outcomes: &mut Vec<Outcome>) -> Result<(), Stopped>
+        ensures same_size { SameSize self.old self.new }
+
+        // In every state of the run, before, between and after its steps, nobody is forgotten.
+        ensures kept { IsKeptThroughout self.old steps.now }
+        ensures state { OnOk result (self.new ≡ after_all self.old steps.now) }
+        ensures outcomes { OnOk result (outcomes.new.items ≡ outcomes.old.items ++ answered_all self.old steps.now) }
+        ensures taken { IfErr result (λ stopped. stopped.taken < length steps.now) }
+        ensures stopped { IfErr result (λ stopped. self.new ≡ after_all self.old (take stopped.taken steps.now)) }
+        ensures stopped_outcomes { IfErr result (λ stopped. outcomes.new.items ≡ outcomes.old.items ++ answered_all self.old (take stopped.taken steps.now)) }
+    {
+        // The proof reads the world's invariant here.
+        let _ = &self.machine;
+        for (taken, step) in steps.iter().enumerate() {
+            if outcomes.reserve(1).is_err() {
+                return Err(Stopped { taken });
+            }
+            outcomes.push_reserved(self.step(*step));
+        }
+        Ok(())
+    }
+
+    /// How many threads there are.
+    pub fn threads(&self) -> usize
+        ensures { result ≡ length self.now.places }
+    {
+        self.machine.threads()
+    }
+
+    /// How many locks there are.
+    pub fn locks(&self) -> usize
+        ensures { result ≡ length self.now.locks }
+    {
+        self.machine.locks()
+    }
+
+    /// The kind of a lock.
+    pub fn kind(&self, lock: usize) -> Kind
+        requires { lock < length self.now.locks }
+        ensures { result ≡ kind_at self.now lock }
+    {
+        self.machine.kind(lock)
+    }
+
+    /// The word of a lock.
+    pub fn word(&self, lock: usize) -> u64
+        requires { lock < length self.now.locks }
+        ensures { result ≡ word_at self.now lock }
+    {
+        self.machine.word(lock)
+    }
+
+    /// Where a thread stands.
+    pub fn place(&self, thread: usize) -> Place
+        requires { thread < length self.now.places }
+        ensures { result ≡ place_at self.now thread }
+    {
+        self.machine.place(thread)
+    }
+
+    /// Who owns a lock: the exclusive, pending, upgradable and running owner, then who shares.
+    pub fn owners(&self, lock: usize) -> OwnersOf
+        requires { lock < length self.now.locks }
+        ensures { result ≡ owners_of self.now lock }
+    {
+        OwnersOf::new(self.machine.owners(lock))
+    }
+
+    /// Who waits on a lock: its main queue from the front, then who waits aside.
+    pub fn queue(&self, lock: usize) -> QueueOf<'_, Q>
+        requires { lock < length self.now.locks }
+        ensures { result ≡ queue_of self.now lock }
+    {
+        self.machine.queue(lock)
+    }
+
+    /// Which threads owe a wake on a lock, then which were woken and try again, by their numbers.
+    pub fn debt(&self, lock: usize) -> Debts<'_>
+        requires { lock < length self.now.locks }
+        ensures { result ≡ debts_of self.now lock }
+    {
+        Debts::new(self.machine.places(), lock)
+    }
+}

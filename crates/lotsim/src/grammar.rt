@@ -1,0 +1,174 @@
+//! What a line means.
+ghost use Rattle.std.specs.Prelude.{◌≤◌, length};
+
+use crate::names::Name;
+use lot_world::{Kind, MutexCall};
+
+/// The most digits of a number. All such numbers fit.
+const MOST_DIGITS: usize = 19;
+
+/// A line's meaning.
+#[derive(Clone, Copy, Debug, PartialEq, Eq)]
+pub enum Command {
+    /// There are this many threads.
+    Threads(usize),
+    /// There is a lock.
+    Lock { name: Name, kind: Kind },
+    /// A thread takes a turn.
+    Turn { thread: usize, turn: NamedTurn },
+    /// Each lock shows its state.
+    Show,
+}
+
+/// What a thread does, of locks by their names.
+#[derive(Clone, Copy, Debug, PartialEq, Eq)]
+pub enum NamedTurn {
+    /// It begins a call.
+    Begin { call: MutexCall, name: Name },
+    /// It does the next act of its call.
+    Go,
+    /// It loads a word again in place of an act that leads to sleep.
+    Spin,
+    /// Its time is up, and it gives up a timed sleep.
+    Late,
+    /// It goes on alone.
+    Solo,
+    /// It begins a call, and goes on alone.
+    Do { call: MutexCall, name: Name },
+}
+
+/// What a line says, where it has one of the forms.
+pub fn meaning(line: &[u8]) -> Option<Command> {
+    let (first, rest) = split_word(line);
+    let Some(rest) = rest else {
+        return command_of_one(first);
+    };
+    let (second, rest) = split_word(rest);
+    let Some(rest) = rest else {
+        return command_of_two(first, second);
+    };
+    let (third, rest) = split_word(rest);
+    let Some(rest) = rest else {
+        return command_of_three(first, second, third);
+    };
+    let (fourth, rest) = split_word(rest);
+    if let Some(_) = rest {
+        return None;
+    }
+    command_of_four(first, second, third, fourth)
+}
+
+/// The first word, and what comes after its space.
+fn split_word(text: &[u8]) -> (&[u8], Option<&[u8]>) {
+    let at = len_of_word(text);
+    if at == text.len() {
+        return (text, None);
+    }
+    (&text[..at], Some(&text[at + 1..]))
+}
+
+/// How many bytes come before the first space, or all.
+fn len_of_word(text: &[u8]) -> usize
+    ensures { result ≤ length text.now }
+{
+    text.iter().position(|b| *b == b' ').unwrap_or(text.len())
+}
+
+fn command_of_one(word: &[u8]) -> Option<Command> {
+    if word == b"show".as_slice() {
+        Some(Command::Show)
+    } else {
+        None
+    }
+}
+
+fn command_of_two(first: &[u8], second: &[u8]) -> Option<Command> {
+    if first == b"threads".as_slice() {
+        return number(second).map(Command::Threads);
+    }
+    let turn = if second == b"go".as_slice() {
+        NamedTurn::Go
+    } else if second == b"solo".as_slice() {
+        NamedTurn::Solo
+    } else if second == b"spin".as_slice() {
+        NamedTurn::Spin
+    } else if second == b"late".as_slice() {
+        NamedTurn::Late
+    } else {
+        return None;
+    };
+    let thread = number(first)?;
+    Some(Command::Turn { thread, turn })
+}
+
+fn command_of_three(first: &[u8], second: &[u8], third: &[u8]) -> Option<Command> {
+    if first != b"lock".as_slice() {
+        return None;
+    }
+    let name = Name::from_word(second)?;
+    let kind = kind(third)?;
+    Some(Command::Lock { name, kind })
+}
+
+fn command_of_four(first: &[u8], second: &[u8], third: &[u8], fourth: &[u8]) -> Option<Command> {
+    let thread = number(first)?;
+    let call = call(third)?;
+    let name = Name::from_word(fourth)?;
+    let turn = if second == b"begin".as_slice() {
+        NamedTurn::Begin { call, name }
+    } else if second == b"do".as_slice() {
+        NamedTurn::Do { call, name }
+    } else {
+        return None;
+    };
+    Some(Command::Turn { thread, turn })
+}
+
+/// The kind of lock that a word names.
+fn kind(word: &[u8]) -> Option<Kind> {
+    if word == b"mutex".as_slice() {
+        Some(Kind::Mutex)
+    } else {
+        None
+    }
+}
+
+/// The call that a word names.
+fn call(word: &[u8]) -> Option<MutexCall> {
+    if word == b"lock".as_slice() {
+        Some(MutexCall::Lock)
+    } else if word == b"unlock".as_slice() {
+        Some(MutexCall::Unlock)
+    } else if word == b"try_lock".as_slice() {
+        Some(MutexCall::TryLock)
+    } else if word == b"lock_timed".as_slice() {
+        Some(MutexCall::LockTimed)
+    } else {
+        None
+    }
+}
+
+/// The number that a word spells as it would be printed, in at most 19 digits.
+fn number(word: &[u8]) -> Option<usize> {
+    if word.is_empty() || word.len() > MOST_DIGITS {
+        return None;
+    }
+    if word.len() != 1 && word[0] == b'0' {
+        return None;
+    }
+    digits(word)
+}
+
+/// The number that digits spell.
+fn digits(word: &[u8]) -> Option<usize>
+    requires { length word.now ≤ MOST_DIGITS }
+{
+    let mut n = 0usize;
+    for b in word {
+        if *b < b'0' || *b > b'9' {
+            return None;
+        }
+        n = n * 10 + (*b - b'0') as usize;
+    }
+    Some(n)
+}

@@ -1,0 +1,50 @@
+//! Any number of threads over named locks, by a list of lines.
+#![tactic(auto)]
+
+pub mod grammar;
+pub mod input;
+pub mod names;
+pub mod output;
+pub mod replay;
+pub mod show;
+pub mod start;
+pub mod state;
+pub mod status;
+#[cfg(test)]
+mod tests;
+pub mod text;
+
+use std::io::{BufReader, ErrorKind};
+use std::process::ExitCode;
+use std::{env, io};
+
+fn main(rt: HostRuntime) -> ExitCode {
+    match run(&rt) {
+        Ok(status) => ExitCode::from(status),
+        Err(_) => match println!(rt; "line 0 no memory") {
+            Ok(()) => ExitCode::from(status::NO_MEMORY),
+            Err(_) => ExitCode::from(status::BROKEN),
+        },
+    }
+}
+
+fn run(rt: &HostRuntime) -> io::Result<u8> {
+    let args = match env::args(rt) {
+        Ok(args) => args.skip(1).collect(rt.alloc())?,
+        // An argument that is no text names no job.
+        Err(e) if e.kind() == ErrorKind::InvalidData => Vec::<String>::new(rt.alloc()),
+        Err(e) => return Err(e),
+    };
+    let words = args
+        .iter()
+        .map(|arg| arg.as_str())
+        .collect::<Vec<&str>>(rt.alloc())?;
+    let mut reader = BufReader::new(rt.alloc(), rt.reader())?;
+    Ok(start::start(
+        rt.alloc(),
+        words.as_slice(),
+        &mut reader,
+        &mut io::writer(rt),
+        &mut rt.stderr(),
+    ))
+}

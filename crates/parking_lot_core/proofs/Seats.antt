@@ -1,0 +1,98 @@
+-- There is room for all: each thread is below the capacity, and stands at most once.
+use Rattle.std.proofs.Common.{ℕ, zero, suc, cond, ◌≡◌, ◌≢◌, ◌+◌, ◌≤◌, ◌<◌, inl, inr, List, [], ◌∷◌, ◌++◌, ◌==◌, Option, Some, None, IfSome, length, length-append, refl, ◌∙◌, arith}
+use Rattle.std.proofs.lemmas.Bool.{cases_eq}
+use Rattle.std.proofs.lemmas.Bool.Decides.{nat_tests}
+use Rattle.parking_lot_core.specs.declared.wants.Waiter.{Waiter}
+use Rattle.parking_lot_core.specs.declared.wants.Want.{Want}
+use Rattle.parking_lot_core.specs.declared.wants.Want.TheVariants.{Wait}
+use Rattle.parking_lot_core.specs.Lines.{waiter, line, first_of, threads_of, times, without, without_first, without_key, IsSeated}
+
+times-without : (thread : ℕ) (waiters : List Waiter) → times thread (without thread waiters) ≡ 0
+times-without thread [] = refl
+times-without thread (x ∷ xs) = grind (arith, nat_tests, times-without thread xs)
+
+times-without_other : (other thread : ℕ) (waiters : List Waiter) → other ≢ thread → times other (without thread waiters) ≡ times other waiters
+times-without_other other thread [] differ = refl
+times-without_other other thread (x ∷ xs) differ = grind (arith, nat_tests, times-without_other other thread xs differ)
+
+times-append : (other key thread : ℕ) (want : Want) (waiters : List Waiter) → times other (waiters ++ waiter key thread want ∷ []) ≡ times other waiters + cond (thread == other) 1 0
+times-append other key thread _ [] = grind arith
+times-append other key thread want (x ∷ xs) = grind (arith, times-append other key thread want xs)
+
+length-without : (thread : ℕ) (waiters : List Waiter) → length waiters ≡ length (without thread waiters) + times thread waiters
+length-without thread [] = refl
+length-without thread (x ∷ xs) = grind (arith, nat_tests, length-without thread xs)
+
+-- no thread stands more often once some have left
+no_more_without : (other thread : ℕ) (waiters : List Waiter) → times other (without thread waiters) ≤ times other waiters
+no_more_without other thread [] = omega arith
+no_more_without other thread (x ∷ xs) = grind (arith, nat_tests, no_more_without other thread xs)
+
+no_more_without_first : (thread key : ℕ) (waiters : List Waiter) → times thread (without_first key waiters) ≤ times thread waiters
+no_more_without_first thread key [] = omega arith
+no_more_without_first thread key (x ∷ xs) = grind (arith, nat_tests, no_more_without_first thread key xs)
+
+no_more_without_key : (thread key : ℕ) (waiters : List Waiter) → times thread (without_key key waiters) ≤ times thread waiters
+no_more_without_key thread key [] = omega arith
+no_more_without_key thread key (x ∷ xs) = grind (arith, nat_tests, no_more_without_key thread key xs)
+
+seated_fewer : (fewer waiters : List Waiter) (capacity : ℕ) → ((thread : ℕ) → times thread fewer ≤ times thread waiters) → IsSeated waiters capacity → IsSeated fewer capacity
+seated_fewer fewer waiters capacity no_more seated = record {
+  below = λ thread above. omega (arith, no_more thread, seated.below thread above);
+  once = λ thread. omega (arith, no_more thread, seated.once thread);
+}
+
+pub seated_without : (thread capacity : ℕ) (waiters : List Waiter) → IsSeated waiters capacity → IsSeated (without thread waiters) capacity
+seated_without thread capacity waiters = seated_fewer _ waiters capacity (λ other. no_more_without other thread waiters)
+
+pub seated_without_first : (key capacity : ℕ) (waiters : List Waiter) → IsSeated waiters capacity → IsSeated (without_first key waiters) capacity
+seated_without_first key capacity waiters = seated_fewer _ waiters capacity (λ thread. no_more_without_first thread key waiters)
+
+pub seated_without_key : (key capacity : ℕ) (waiters : List Waiter) → IsSeated waiters capacity → IsSeated (without_key key waiters) capacity
+seated_without_key key capacity waiters = seated_fewer _ waiters capacity (λ thread. no_more_without_key thread key waiters)
+
+pub seated_append : (key thread capacity : ℕ) (want : Want) (waiters : List Waiter) → IsSeated waiters capacity → thread < capacity → IsSeated (without thread waiters ++ waiter key thread want ∷ []) capacity
+seated_append key thread capacity want waiters seated below = record {
+  below = λ other above. grind (arith, nat_tests, seated.below other above, no_more_without other thread waiters, times-append other key thread want (without thread waiters));
+  once = λ other. elim (cases_eq other thread) [
+    | inl same ↦ rw same (grind (arith, nat_tests, times-without thread waiters, times-append thread key thread want (without thread waiters)))
+    | inr differ ↦ grind (arith, nat_tests, seated.once other, no_more_without other thread waiters, times-append other key thread want (without thread waiters))
+  ];
+}
+
+times_head : (x : Waiter) (xs : List Waiter) → 1 ≤ times x.thread (x ∷ xs)
+times_head x xs = grind (arith, nat_tests)
+
+-- no more threads stand than are below the capacity
+pub length_seated : (capacity : ℕ) (waiters : List Waiter) → IsSeated waiters capacity → length waiters ≤ capacity
+length_seated zero [] seated = omega arith
+length_seated zero (x ∷ xs) seated = absurd (omega (arith, seated.below x.thread (omega arith), times_head x xs))
+length_seated (suc capacity) waiters seated =
+    let others : IsSeated (without capacity waiters) capacity = record {
+      below = λ thread above. elim (cases_eq thread capacity) [
+        | inl same ↦ rw same (times-without capacity waiters)
+        | inr differ ↦ times-without_other thread capacity waiters differ ∙ seated.below thread (omega arith)
+      ];
+      once = (seated_without capacity (suc capacity) waiters seated).once;
+    } in
+    omega (arith, length_seated capacity (without capacity waiters) others, length-without capacity waiters, seated.once capacity)
+
+-- there is room for a thread that is appended
+pub length_without_seated : (thread capacity : ℕ) (waiters : List Waiter) → IsSeated waiters capacity → thread < capacity → length (without thread waiters) < capacity
+length_without_seated thread capacity waiters seated below = omega (arith, length_seated capacity _ (seated_append 0 thread capacity Wait waiters seated below), length-append (without thread waiters) (waiter 0 thread Wait ∷ []))
+
+-- who stands first stands somewhere
+times_first : (key thread : ℕ) (waiters : List Waiter) → first_of (line key waiters) ≡ Some thread → 1 ≤ times thread waiters
+times_first key thread [] first = absurd cc
+times_first key thread (x ∷ xs) first = grind (arith, nat_tests, times_first key thread xs)
+
+pub first_seated : (key capacity : ℕ) (waiters : List Waiter) (taken : Option ℕ) → IsSeated waiters capacity → taken ≡ first_of (line key waiters) → IfSome taken (λ thread. thread < capacity)
+first_seated key capacity waiters None seated first = tt
+first_seated key capacity waiters (Some thread) seated first =
+    let stands : 1 ≤ times thread waiters = times_first key thread waiters cc in
+    grind (arith, seated.below thread)
+
+-- a list has room for each of its lines
+pub length-threads_of_line : (key : ℕ) (waiters : List Waiter) → length (threads_of (line key waiters)) ≤ length waiters
+length-threads_of_line key [] = omega arith
+length-threads_of_line key (x ∷ xs) = grind (arith, nat_tests, length-threads_of_line key xs)

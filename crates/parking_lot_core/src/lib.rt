@@ -1,0 +1,21 @@
+//! What every lock stands on: faults, the operations of a word, the keys of its queues, and the queues.
+#![tactic(auto)]
+
+pub mod faults;
+pub mod keys;
+pub mod list;
+pub mod notes;
+pub mod ops;
+pub mod queues;
+pub mod wants;
+
+pub use faults::Fault;
+pub use keys::{Key, Keys, main_key, second_key};
+pub use list::ListQueues;
+pub use notes::Note;
+pub use ops::Op;
+pub use queues::Queues;
+pub use wants::{Waiter, Want};
+
+#[cfg(test)]
+mod tests;
