@@ -2,11 +2,11 @@
 """Times `lotsim replay` on random schedules of a million lines.
 
 Build the proved program first: `rt run -- replay < stdin` in crates/lotsim. Then: python3 bench/replay.py
+With an argument, the schedules are written into that folder too.
 """
 
 import os
 import random
-import resource
 import subprocess
 import sys
 import tempfile
@@ -37,8 +37,12 @@ def schedule(threads, locks, lines, shows, seed):
 
 
 def measure(name, threads, locks, shows):
+    text = schedule(threads, locks, LINES, shows, 1)
+    if len(sys.argv) > 1:
+        with open(os.path.join(sys.argv[1], f"{threads}.schedule"), "w") as kept:
+            kept.write(text)
     with tempfile.NamedTemporaryFile("w", suffix=".schedule") as file:
-        file.write(schedule(threads, locks, LINES, shows, 1))
+        file.write(text)
         file.flush()
         best = float("inf")
         for _ in range(5):
@@ -53,6 +57,6 @@ def measure(name, threads, locks, shows):
 
 if __name__ == "__main__":
     measure("8 threads, 4 locks, a show in 1,000 lines", 8, 4, 1_000)
+    measure("1,024 threads, 256 locks, no show", 1024, 256, LINES * 100)
     measure("1,024 threads, 256 locks, a show in 10,000 lines", 1024, 256, 10_000)
-    peak = resource.getrusage(resource.RUSAGE_CHILDREN).ru_maxrss
-    print(f"greatest memory of all runs: {peak / 1024:.1f} MiB")
+    measure("1,024 threads, 256 locks, a show in 1,000 lines", 1024, 256, 1_000)
