@@ -1,18 +1,12 @@
 //! Any number of threads over named locks, by a list of lines.
 #![tactic(auto)]
 
-pub mod grammar;
-pub mod input;
-pub mod names;
-pub mod output;
 pub mod replay;
-pub mod show;
 pub mod start;
 pub mod state;
 pub mod status;
 #[cfg(test)]
 mod tests;
-pub mod text;
 
 use std::io::{BufReader, ErrorKind};
 use std::process::ExitCode;

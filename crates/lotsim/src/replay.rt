@@ -1,11 +1,9 @@
 //! Lines in, lines out.
 
-use crate::input::{LINE_LEN, Reading, read_line};
-use crate::output::Page;
 use crate::state::{Response, State};
 use crate::status::{BROKEN, DONE, MALFORMED, NO_MEMORY};
-use crate::text::{print_malformed, print_no_memory, print_turn};
 use arrayvec::ArrayVec;
+use lot_text::{LINE_LEN, Page, Reading, print_malformed, print_no_memory, print_turn, read_line};
 use std::alloc::Global;
 use std::io::{BufRead, Write};
 

@@ -1,8 +1,8 @@
 //! The job that the arguments name.
 
-use crate::output::send_all;
 use crate::replay::replay;
 use crate::status::{BROKEN, MALFORMED};
+use lot_text::send_all;
 use std::alloc::Global;
 use std::io::{BufRead, Write};
 

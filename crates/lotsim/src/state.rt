@@ -4,10 +4,7 @@ ghost use Rattle.std.specs.Option.{ForSome};
 ghost use Rattle.lot_world.specs.Kinds.{fits};
 ghost use Rattle.lot_world.specs.declared.world.TheConstants.{MOST_THREADS, MOST_LOCKS};
 
-use crate::grammar::{Command, NamedTurn, meaning};
-use crate::names::{Name, find};
-use crate::output::Page;
-use crate::show::show_locks;
+use lot_text::{Command, Name, NamedTurn, Page, lock_named, meaning, show_locks};
 use lot_world::{Call, Kind, MOST_LOCKS, MOST_THREADS, MutexCall, Outcome, Step, Turn, World};
 use parking_lot_core::ListQueues;
 use std::alloc::Global;
@@ -120,7 +117,7 @@ impl Scene {
         if self.world.is_some() || self.names.len() >= MOST_LOCKS {
             return Response::Malformed;
         }
-        if !kind.fits(self.threads) || find(self.names.as_slice(), name).is_some() {
+        if !kind.fits(self.threads) || lock_named(self.names.as_slice(), name).is_some() {
             return Response::Malformed;
         }
         if self.names.reserve(1).is_err() || self.kinds.reserve(1).is_err() {
@@ -183,7 +180,7 @@ fn deed_of(names: &[Name], turn: NamedTurn) -> Option<Deed> {
 }
 
 fn call_of(names: &[Name], call: MutexCall, name: Name) -> Option<Call> {
-    let lock = find(names, name)?;
+    let lock = lock_named(names, name)?;
     Some(Call::Mutex { lock, call })
 }
 

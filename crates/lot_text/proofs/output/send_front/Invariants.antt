@@ -1,5 +1,5 @@
 use Rattle.std.proofs.Common.{◌≤◌, length}
-use Rattle.lotsim.proofs.output.send_front.Given as goal
+use Rattle.lot_text.proofs.output.send_front.Given as goal
 
 abbrev pub invariant-loop : goal.invariant-loop
 invariant-loop g l = l.sent ≤ length l.bytes

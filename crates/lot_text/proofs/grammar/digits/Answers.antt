@@ -1,6 +1,6 @@
 use Rattle.std.proofs.Common.{arith}
-use Rattle.lotsim.proofs.GrammarLemmas.{small}
-use Rattle.lotsim.proofs.grammar.digits.Goals as goal
+use Rattle.lot_text.proofs.GrammarLemmas.{small}
+use Rattle.lot_text.proofs.grammar.digits.Goals as goal
 
 pub overflow_mul-n : goal.overflow_mul-n
 overflow_mul-n c = omega (arith, small c.loop-b.n c.loop-b.b-index c.loop-b.invariant (omega (arith, c.requires)))

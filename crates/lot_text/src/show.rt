@@ -4,7 +4,7 @@ ghost use Rattle.std.specs.Prelude.{◌≡◌, ◌<◌, ◌≤◌, length};
 use crate::names::Name;
 use crate::output::Page;
 use lot_world::{Debt, Debts, MOST_LOCKS, Owner, OwnersOf, QueueOf, World};
-use parking_lot_core::{Key, ListQueues, Want, main_key, second_key};
+use parking_lot_core::{Key, ListQueues, Want, second_key};
 use std::io::Write;
 
 /// Prints a line for each lock.
@@ -36,10 +36,8 @@ fn show_lock<W: Write>(
     page.put(writer, b" ");
     page.put_number(writer, world.word(lock));
     print_owners(page, writer, world.owners(lock));
-    print_queue(page, writer, world.queue(lock), main_key(lock));
-    print_aside(page, writer, world.queue(lock), second_key(lock));
-    print_debtors(page, writer, world.debt(lock), Debt::Owes, b" owe=");
-    print_debtors(page, writer, world.debt(lock), Debt::Retries, b" retry=");
+    print_waiters(page, writer, world.queue(lock), second_key(lock));
+    print_debtors(page, writer, world.debt(lock));
     page.put(writer, b"\n");
 }
 
@@ -54,56 +52,55 @@ fn print_owners<W: Write>(page: &mut Page, writer: &mut W, owners: OwnersOf) {
     }
 }
 
-/// Prints who waits under a key, each with a letter for what it wants.
-fn print_queue<W: Write>(
+/// Prints who waits for a lock: its main queue, each with a letter for what it wants, then who waits aside.
+fn print_waiters<W: Write>(
     page: &mut Page,
     writer: &mut W,
     queue: QueueOf<'_, ListQueues>,
-    key: Key,
+    aside: Key,
 ) {
-    let mut before = b" queue=".as_slice();
+    let mut last = None;
     for waiter in queue {
-        if waiter.key == key {
-            page.put(writer, before);
-            page.put_number(writer, waiter.thread as u64);
+        let is_aside = waiter.key == aside;
+        page.put(
+            writer,
+            if last == Some(is_aside) {
+                b","
+            } else if is_aside {
+                b" aside="
+            } else {
+                b" queue="
+            },
+        );
+        page.put_number(writer, waiter.thread as u64);
+        if !is_aside {
             page.put(writer, want_letter(waiter.want));
-            before = b",";
         }
+        last = Some(is_aside);
     }
 }
 
-/// Prints who waits under a key.
-fn print_aside<W: Write>(
-    page: &mut Page,
-    writer: &mut W,
-    queue: QueueOf<'_, ListQueues>,
-    key: Key,
-) {
-    let mut before = b" aside=".as_slice();
-    for waiter in queue {
-        if waiter.key == key {
-            page.put(writer, before);
-            page.put_number(writer, waiter.thread as u64);
-            before = b",";
-        }
-    }
-}
-
-/// Prints who has a debt.
-fn print_debtors<W: Write>(
-    page: &mut Page,
-    writer: &mut W,
-    debts: Debts<'_>,
-    wanted: Debt,
-    heading: &[u8],
-) {
-    let mut before = heading;
+/// Prints who owes a wake on a lock, then who tries it again.
+fn print_debtors<W: Write>(page: &mut Page, writer: &mut W, debts: Debts<'_>) {
+    let mut last = None;
     for (debt, thread) in debts {
-        if debt == wanted {
-            page.put(writer, before);
-            page.put_number(writer, thread as u64);
-            before = b",";
-        }
+        page.put(
+            writer,
+            if last == Some(debt) {
+                b","
+            } else {
+                debt_heading(debt)
+            },
+        );
+        page.put_number(writer, thread as u64);
+        last = Some(debt);
+    }
+}
+
+fn debt_heading(debt: Debt) -> &'static [u8] {
+    match debt {
+        Debt::Owes => b" owe=",
+        Debt::Retries => b" retry=",
     }
 }
 

@@ -46,6 +46,6 @@ fn is_name_byte(byte: u8) -> bool {
 }
 
 /// The number of the lock that has a name.
-pub fn find(names: &[Name], name: Name) -> Option<usize> {
+pub fn lock_named(names: &[Name], name: Name) -> Option<usize> {
     names.iter().position(|other| other.is_same(&name))
 }

@@ -1,0 +1,18 @@
+//! The text of schedules and of what they lead to: lines, their meanings, and the printed forms.
+#![tactic(auto)]
+
+pub mod answers;
+pub mod grammar;
+pub mod input;
+pub mod names;
+pub mod output;
+pub mod show;
+#[cfg(test)]
+mod tests;
+
+pub use answers::{print_malformed, print_no_memory, print_turn};
+pub use grammar::{Command, NamedTurn, meaning};
+pub use input::{LINE_LEN, Reading, read_line};
+pub use names::{Name, lock_named};
+pub use output::{Page, send_all};
+pub use show::show_locks;
