@@ -5,6 +5,7 @@ use Rattle.std.proofs.lemmas.Bool.Decides.{nat_tests}
 use Rattle.parking_lot_core.specs.declared.wants.Waiter.{Waiter}
 use Rattle.parking_lot_core.specs.declared.wants.Want.{Want}
 use Rattle.parking_lot_core.specs.Lines.{waiter, without, times, first_of}
+use Rattle.parking_lot_core.proofs.Counts.{times_append, times_without, times_gone}
 use Rattle.lot_steps.specs.declared.places.Place.{Place}
 use Rattle.lot_steps.specs.declared.places.Place.TheVariants.{Mutex}
 use Rattle.lot_steps.specs.declared.mutex.MutexPlace.TheVariants.{Lock, Unlock}
@@ -12,7 +13,7 @@ use Rattle.lot_steps.specs.declared.mutex.LockAt.TheVariants.{Check, Leave, Asle
 use Rattle.lot_steps.specs.declared.mutex.UnlockAt.TheVariants as unlock
 use Rattle.lot_world.specs.Sound.{Sound, Nobody, InHand, Carries, Debtor, one_if, inside, queued, holds, finds_empty}
 use Rattle.lot_world.proofs.Keeps.{Changed}
-use Rattle.lot_world.proofs.Counts.{times_append, times_without, times_gone, times_first}
+use Rattle.lot_world.proofs.Counts.{times_first}
 use Rattle.lot_world.proofs.Words.{lock_debts}
 use Rattle.lot_world.proofs.Sections.{nobody_counted}
 

@@ -1,23 +1,12 @@
 -- There is room for all: each thread is below the capacity, and stands at most once.
-use Rattle.std.proofs.Common.{ℕ, zero, suc, cond, ◌≡◌, ◌≢◌, ◌+◌, ◌≤◌, ◌<◌, inl, inr, List, [], ◌∷◌, ◌++◌, ◌==◌, Option, Some, None, IfSome, length, length-append, refl, ◌∙◌, arith}
+use Rattle.std.proofs.Common.{ℕ, zero, suc, ◌≡◌, ◌+◌, ◌≤◌, ◌<◌, inl, inr, List, [], ◌∷◌, ◌++◌, Option, Some, None, IfSome, length, length-append, refl, ◌∙◌, arith}
 use Rattle.std.proofs.lemmas.Bool.{cases_eq}
 use Rattle.std.proofs.lemmas.Bool.Decides.{nat_tests}
 use Rattle.parking_lot_core.specs.declared.wants.Waiter.{Waiter}
 use Rattle.parking_lot_core.specs.declared.wants.Want.{Want}
 use Rattle.parking_lot_core.specs.declared.wants.Want.TheVariants.{Wait}
 use Rattle.parking_lot_core.specs.Lines.{waiter, line, first_of, threads_of, times, without, without_first, without_key, IsSeated}
-
-times-without : (thread : ℕ) (waiters : List Waiter) → times thread (without thread waiters) ≡ 0
-times-without thread [] = refl
-times-without thread (x ∷ xs) = grind (arith, nat_tests, times-without thread xs)
-
-times-without_other : (other thread : ℕ) (waiters : List Waiter) → other ≢ thread → times other (without thread waiters) ≡ times other waiters
-times-without_other other thread [] differ = refl
-times-without_other other thread (x ∷ xs) differ = grind (arith, nat_tests, times-without_other other thread xs differ)
-
-times-append : (other key thread : ℕ) (want : Want) (waiters : List Waiter) → times other (waiters ++ waiter key thread want ∷ []) ≡ times other waiters + cond (thread == other) 1 0
-times-append other key thread _ [] = grind arith
-times-append other key thread want (x ∷ xs) = grind (arith, times-append other key thread want xs)
+use Rattle.parking_lot_core.proofs.Counts.{times_append, times_without, times_gone}
 
 length-without : (thread : ℕ) (waiters : List Waiter) → length waiters ≡ length (without thread waiters) + times thread waiters
 length-without thread [] = refl
@@ -53,10 +42,10 @@ seated_without_key key capacity waiters = seated_fewer _ waiters capacity (λ th
 
 pub seated_append : (key thread capacity : ℕ) (want : Want) (waiters : List Waiter) → IsSeated waiters capacity → thread < capacity → IsSeated (without thread waiters ++ waiter key thread want ∷ []) capacity
 seated_append key thread capacity want waiters seated below = record {
-  below = λ other above. grind (arith, nat_tests, seated.below other above, no_more_without other thread waiters, times-append other key thread want (without thread waiters));
+  below = λ other above. grind (arith, nat_tests, seated.below other above, no_more_without other thread waiters, times_append other key thread want (without thread waiters));
   once = λ other. elim (cases_eq other thread) [
-    | inl same ↦ rw same (grind (arith, nat_tests, times-without thread waiters, times-append thread key thread want (without thread waiters)))
-    | inr differ ↦ grind (arith, nat_tests, seated.once other, no_more_without other thread waiters, times-append other key thread want (without thread waiters))
+    | inl same ↦ rw same (grind (arith, nat_tests, times_gone thread waiters, times_append thread key thread want (without thread waiters)))
+    | inr differ ↦ grind (arith, nat_tests, seated.once other, no_more_without other thread waiters, times_append other key thread want (without thread waiters))
   ];
 }
 
@@ -70,8 +59,8 @@ length_seated zero (x ∷ xs) seated = absurd (omega (arith, seated.below x.thre
 length_seated (suc capacity) waiters seated =
     let others : IsSeated (without capacity waiters) capacity = record {
       below = λ thread above. elim (cases_eq thread capacity) [
-        | inl same ↦ rw same (times-without capacity waiters)
-        | inr differ ↦ times-without_other thread capacity waiters differ ∙ seated.below thread (omega arith)
+        | inl same ↦ rw same (times_gone capacity waiters)
+        | inr differ ↦ times_without thread capacity waiters differ ∙ seated.below thread (omega arith)
       ];
       once = (seated_without capacity (suc capacity) waiters seated).once;
     } in
