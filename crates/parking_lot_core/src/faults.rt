@@ -2,7 +2,7 @@
 
 use thiserror::Error;
 
-/// Why a call was refused. After each of them the caller holds what it held before.
+/// Why a call was refused.
 #[derive(Clone, Copy, Debug, PartialEq, Eq, Error)]
 pub enum Fault {
     /// Fewer words are left in the lot than a constructor needs.
