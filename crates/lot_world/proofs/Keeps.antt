@@ -3,7 +3,8 @@ use Rattle.std.proofs.Common.{ℕ, Option, Some, None, ◌≡◌, ◌≢◌, ◌
 use Rattle.std.proofs.lemmas.Bool.{cases_eq}
 use Rattle.parking_lot_core.specs.declared.wants.Waiter.{Waiter}
 use Rattle.lot_steps.specs.declared.places.Place.{Place}
-use Rattle.lot_world.specs.Sound.{Sound, Nobody, Codes, InHand, Carries, Debtor, inside, queued, holds, finds_empty}
+use Rattle.lot_world.specs.Promises.{Codes}
+use Rattle.lot_world.specs.Sound.{Sound, Nobody, InHand, Carries, Debtor, inside, queued, holds, finds_empty}
 
 -- g is f, but for x at i
 pub record Changed {A : Type 0} (f g : ℕ → A) (i : ℕ) (x : A) : Type 0 where

@@ -241,7 +241,7 @@ gone_shaped w t s lt =
     let fits = next_fits (length w.places) (length w.locks) (place_at w t) (go_reply w t) (s.places t) (reply_fits w t act s) in
     put_shaped (performed w t (place_at w t) act) t (next_place (place_at w t) (go_reply w t)) (performed_shaped w t (place_at w t) act s lt) (rw (counts.0, counts.1) fits)
 
-both : (a b : Bool) → (a && b) ≡ true → (a ≡ true) × (b ≡ true)
+pub both : (a b : Bool) → (a && b) ≡ true → (a ≡ true) × (b ≡ true)
 both true b h = (refl, h)
 both false b h = cc
 

@@ -38,7 +38,9 @@ use Rattle.lot_steps.specs.Steps.{act_of, next_place, is_idle, spin_lock, late_k
 use Rattle.lot_steps.specs.Kinds.{has_call}
 use Rattle.lot_world.specs.Machine.{State, unlocked, place_at, word_at, owners_at, kind_at, section_at, is_free, put, operated, filled_with, appended, first_taken, removed, befallen, taken_by, performed, reply_to, can_do, begun, can_begin, is_open_to, spun_on, late_on, is_free_under, turned, can_turn, is_possible, after}
 use Rattle.lot_world.specs.Fits.{IsShaped, PlaceFits, SomeBelow}
-use Rattle.lot_world.specs.Sound.{Sound, IsSound, Nobody, Codes, InHand, Carries, Debtor, one_if, inside, queued, holds, finds_empty, releases, owner_at, main_section, main_queue}
+use Rattle.lot_world.specs.Promises.{Codes}
+use Rattle.lot_world.specs.Sound.{Sound, IsSound, Nobody, InHand, Carries, Debtor, one_if, inside, queued, holds, finds_empty, releases, owner_at, main_section, main_queue}
+use Rattle.lot_world.proofs.Shape.{both}
 use Rattle.lot_world.proofs.Keeps.{Changed, WordFits, word_keeps}
 use Rattle.lot_world.proofs.Counts.{without_absent, first_times, none_first}
 use Rattle.lot_world.proofs.Words as words
@@ -73,9 +75,10 @@ same_lines at word owner sec q q2 s e = record {
 abbrev pub go_by : State → ℕ → Place → Act → State
 go_by w t p a = put (performed w t p a) t (next_place p (reply_to w t a))
 
-pub both : (a b : Bool) → (a && b) ≡ true → (a ≡ true) × (b ≡ true)
-both true b h = (refl, h)
-both false b h = absurd cc
+-- who is counted in the queue of a lock stands there by its place
+pub stands_at : (o : Option ℕ) (l : ℕ) → 1 ≤ one_if o l → o ≡ Some l
+stands_at None l h = absurd (omega arith)
+stands_at (Some j) l h = grind (arith, nat_tests)
 
 none_is : (x : Option ℕ) → is_none x ≡ true → x ≡ None
 none_is None h = refl
@@ -215,11 +218,7 @@ module _ (w : State) (t : ℕ) (shape : IsShaped w) (sound : IsSound w) (there :
 
   -- who is first in a queue stands in it
   stands : (l u : ℕ) → first_of (main_queue w l) ≡ Some u → queued (place_at w u) ≡ Some l
-  stands l u first = stands_at (queued (place_at w u)) (subst (λ n. 1 ≤ n) (sound.queues u l) (first_times u (main_queue w l) first))
-    where
-      stands_at : (o : Option ℕ) → 1 ≤ one_if o l → o ≡ Some l
-      stands_at None h = absurd (omega arith)
-      stands_at (Some j) h = grind (arith, nat_tests)
+  stands l u first = stands_at (queued (place_at w u)) l (subst (λ n. 1 ≤ n) (sound.queues u l) (first_times u (main_queue w l) first))
 
   placed : (l : ℕ) (xs : List Place) (u : ℕ) → queued (get_or xs u Idle) ≡ Some l → u < length xs
   placed l [] zero h = absurd cc

@@ -16,7 +16,8 @@ use Rattle.lot_steps.specs.declared.places.Place.{Place}
 use Rattle.lot_steps.specs.declared.places.Place.TheVariants.{Idle, Mutex}
 use Rattle.lot_steps.specs.MutexSteps.{is_locked, with_exclusive}
 use Rattle.lot_steps.specs.Steps.{next_place, owners_after}
-use Rattle.lot_world.specs.Sound.{Nobody, Codes, InHand, Carries, Debtor, inside, queued, holds, finds_empty, is_awake}
+use Rattle.lot_world.specs.Promises.{Codes}
+use Rattle.lot_world.specs.Sound.{Nobody, InHand, Carries, Debtor, inside, queued, holds, finds_empty, is_awake}
 use Rattle.lot_world.proofs.Keeps.{WordFits}
 
 -- ---------------------------------------------------------------- the owner

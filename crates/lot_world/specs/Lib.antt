@@ -7,5 +7,5 @@ pub use Rattle.lot_steps.specs.Steps
 pub mod Machine
 pub mod Fits
 pub mod Views
-pub mod Sound
 pub mod Promises
+pub mod Sound

@@ -1,9 +1,10 @@
 -- What is promised of every state of a world of mutexes, before and after each step, under every schedule.
-use Rattle.std.specs.Prelude.{ℕ, true, None, Option, Some, ◌≡◌, ◌+◌, ◌*◌, ◌≤◌, ◌⊎◌, List, take}
+use Rattle.std.specs.Prelude.{ℕ, true, None, Option, Some, ◌≡◌, ◌≢◌, ◌+◌, ◌*◌, ◌≤◌, ◌⊎◌, List, take}
 use Rattle.parking_lot_core.specs.Lines.{times}
+use Rattle.lot_steps.specs.declared.acts.Act.TheVariants.{Sleep}
 use Rattle.lot_steps.specs.declared.calls.Step.{Step}
 use Rattle.lot_steps.specs.MutexSteps.{is_parked}
-use Rattle.lot_steps.specs.Steps.{owes_on, retries_on}
+use Rattle.lot_steps.specs.Steps.{act_of, owes_on, retries_on}
 use Rattle.lot_world.specs.Machine.{State, place_at, word_at, owners_at, queue_at, after_all}
 
 -- a thread stands in the queue of a mutex
@@ -15,15 +16,20 @@ abbrev pub one_if_owned : Option ℕ → ℕ
 one_if_owned None = 0
 one_if_owned (Some t) = 1
 
--- the word says whether the mutex is owned, beside the parked bit
-abbrev pub IsCoded : State → ℕ → Type 0
-IsCoded w l = (word_at w l ≡ one_if_owned (owners_at w l).exclusive) ⊎ (word_at w l ≡ one_if_owned (owners_at w l).exclusive + 2)
+-- a word says whether there is an owner, beside the parked bit
+abbrev pub Codes : ℕ → Option ℕ → Type 0
+Codes v o = (v ≡ one_if_owned o) ⊎ (v ≡ one_if_owned o + 2)
 
--- some thread, which waits for nothing itself, owes a wake on the mutex or was woken and is about to try it again
+-- the word says whether the mutex is owned
+abbrev pub IsCoded : State → ℕ → Type 0
+IsCoded w l = Codes (word_at w l) (owners_at w l).exclusive
+
+-- some thread, which is neither asleep nor in any queue, owes a wake on the mutex or was woken and is about to try it again
 pub record IsLookedAfter (w : State) (l : ℕ) : Type 0 where
   pub debtor : ℕ
   pub debt : (owes_on (place_at w debtor) l ≡ true) ⊎ (retries_on (place_at w debtor) l ≡ true)
-  pub awake : (k : ℕ) → times debtor (queue_at w (2 * k)) ≡ 0
+  pub awake : act_of (place_at w debtor) ≢ Sleep
+  pub in_no_queue : (k : ℕ) → times debtor (queue_at w (2 * k)) ≡ 0
 
 -- whoever waits for a mutex that nobody owns has such a thread
 abbrev pub NobodyForgotten : State → Type 0

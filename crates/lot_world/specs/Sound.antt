@@ -1,5 +1,5 @@
 -- What holds between any two steps of the mutexes of a world: the facts that an induction over steps stands on.
-use Rattle.std.specs.Prelude.{ℕ, Bool, true, false, Option, Some, None, if◌then◌else◌, ◌≡◌, ◌+◌, ◌*◌, ◌≤◌, ◌⊎◌, List, ◌↔◌, ◌==◌, ◌&&◌}
+use Rattle.std.specs.Prelude.{ℕ, Bool, true, false, Option, Some, None, if◌then◌else◌, ◌≡◌, ◌*◌, ◌≤◌, ◌⊎◌, List, ◌↔◌, ◌==◌, ◌&&◌}
 use Rattle.parking_lot_core.specs.declared.wants.Waiter.{Waiter}
 use Rattle.parking_lot_core.specs.Lines.{times}
 use Rattle.lot_steps.specs.declared.places.Place.{Place}
@@ -9,6 +9,7 @@ use Rattle.lot_steps.specs.declared.mutex.LockAt.{LockAt}
 use Rattle.lot_steps.specs.declared.mutex.LockAt.TheVariants.{First, Load, Decide, Check, Leave, Asleep, Taken, Remove, Clear, GiveUp}
 use Rattle.lot_steps.specs.declared.mutex.UnlockAt.TheVariants as unlock
 use Rattle.lot_world.specs.Machine.{State, place_at, word_at, owners_at, section_at, queue_at}
+use Rattle.lot_world.specs.Promises.{Codes}
 
 -- ---------------------------------------------------------------- what a place says of its thread
 
@@ -85,14 +86,6 @@ Debtor p k = (releases p ≡ Some k) ⊎ (tries_again p ≡ Some k)
 -- nobody stands in the queue of a lock
 abbrev pub Nobody : (ℕ → Place) → ℕ → Type 0
 Nobody at k = (s : ℕ) → queued (at s) ≡ Some k → ⊥
-
-abbrev pub owned : Option ℕ → ℕ
-owned None = 0
-owned (Some t) = 1
-
--- the word says whether the lock is owned, beside the parked bit
-abbrev pub Codes : ℕ → Option ℕ → Type 0
-Codes v o = (v ≡ owned o) ⊎ (v ≡ owned o + 2)
 
 abbrev pub one_if : Option ℕ → ℕ → ℕ
 one_if None k = 0

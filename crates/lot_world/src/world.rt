@@ -67,7 +67,7 @@ impl<Q: Queues + Drop> World<Q> {
         ensures state { self.new ≡ after self.old step }
         ensures outcome { result ≡ answered self.old step }
 
-        // Words are coded, and whoever waits for nobody has a thread that owes its wake or tries again.
+        // Words are coded, and whoever waits for a mutex without owner has a thread awake that owes its wake or tries again.
         ensures kept { IsKept self.new }
         ensures same_size { SameSize self.old self.new }
     {
