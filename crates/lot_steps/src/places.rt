@@ -86,7 +86,7 @@ impl Place {
     {
         match self {
             Place::Idle => false,
-            Place::Mutex { lock: own, at } => at.owes() && own == lock,
+            Place::Mutex { lock: own, at } => own == lock && at.owes(),
         }
     }
 
@@ -97,7 +97,7 @@ impl Place {
     {
         match self {
             Place::Idle => false,
-            Place::Mutex { lock: own, at } => at.retries() && own == lock,
+            Place::Mutex { lock: own, at } => own == lock && at.retries(),
         }
     }
 }

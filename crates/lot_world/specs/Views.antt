@@ -1,5 +1,5 @@
 -- What the views of a lock show, in the order of a printed line.
-use Rattle.std.specs.Prelude.{ℕ, Bool, Option, Some, None, if◌then◌else◌, ◌+◌, ◌*◌, List, [], ◌∷◌, ◌++◌, drop}
+use Rattle.std.specs.Prelude.{ℕ, Bool, Option, Some, None, if◌then◌else◌, ◌+◌, ◌*◌, List, [], ◌∷◌, ◌++◌}
 use Rattle.lot_steps.specs.declared.owners.Owner.{Owner}
 use Rattle.lot_steps.specs.declared.owners.Owner.TheVariants.{Exclusive, Pending, Upgradable, Running}
 use Rattle.lot_steps.specs.declared.owners.Owners.{Owners}
@@ -38,11 +38,6 @@ has_debt p Retries l = retries_on p l
 abbrev pub debtors : Debt → ℕ → ℕ → List Place → List (Debt × ℕ)
 debtors debt l t [] = []
 debtors debt l t (p ∷ ps) = if has_debt p debt l then (debt, t) ∷ debtors debt l (t + 1) ps else debtors debt l (t + 1) ps
-
--- the debts from a thread on, where those that owe come before those that try again
-abbrev pub debts_rest : Debt → ℕ → ℕ → List Place → List (Debt × ℕ)
-debts_rest Owes l t ps = debtors Owes l t (drop t ps) ++ debtors Retries l 0 ps
-debts_rest Retries l t ps = debtors Retries l t (drop t ps)
 
 -- who owes a wake on a lock, then who tries again
 abbrev pub debts_of : State → ℕ → List (Debt × ℕ)

@@ -1,7 +1,7 @@
 //! What a world shows of a lock: named iterators in the order of a printed line, without memory.
 ghost use Rattle.std.specs.Prelude.{◌≡◌, ◌<◌, ◌^◌, ◌+◌, ◌*◌, ◌++◌, ◌∷◌, [], MatchOption, IfSome, length, drop};
 ghost use Rattle.std.specs.Iterator.{YieldsFirst, item_count};
-ghost use Rattle.lot_world.specs.Views.{owners_listed, has_debt, debtors, debts_rest};
+ghost use Rattle.lot_world.specs.Views.{owners_listed, has_debt, debtors};
 
 use lot_steps::{Owner, Owners, Pending, Place};
 use parking_lot_core::{Queues, Waiter, main_key, second_key};
@@ -140,29 +140,31 @@ impl<Q: Queues> Iterator for QueueOf<'_, Q> {
 pub struct Debts<'a> {
     places: &'a [Place],
     lock: usize,
-    thread: usize,
-    debt: Debt,
+    owes: usize,
+    retries: usize,
 }
 
 impl<'a> Model for Debts<'a> {
-    ghost use Rattle.std.specs.Prelude.{List, ℕ};
+    ghost use Rattle.std.specs.Prelude.{List, ℕ, ◌++◌, drop};
     ghost use Rattle.lot_world.specs.declared.views.Debt.{Debt};
-    ghost use Rattle.lot_world.specs.Views.{debts_rest};
+    ghost use Rattle.lot_world.specs.declared.views.Debt.TheVariants.{Owes, Retries};
+    ghost use Rattle.lot_world.specs.Views.{debtors};
 
     ghost Value = { List (Debt × ℕ) };
 
-    ghost view = { λ s. debts_rest s.debt s.lock s.thread s.places.now };
+    ghost view = { λ s. debtors Owes s.lock s.owes (drop s.owes s.places.now) ++ debtors Retries s.lock s.retries (drop s.retries s.places.now) };
 }
 
 impl<'a> Debts<'a> {
     pub(crate) fn new(places: &'a [Place], lock: usize) -> Debts<'a>
         ensures { result ≡ debtors Debt.Owes lock 0 places.now ++ debtors Debt.Retries lock 0 places.now }
     {
+        let first = first_debtor(places, lock);
         Debts {
             places,
             lock,
-            thread: 0,
-            debt: Debt::Owes,
+            owes: first,
+            retries: first,
         }
     }
 }
@@ -175,6 +177,22 @@ fn has_debt(place: Place, debt: Debt, lock: usize) -> bool
         Debt::Owes => place.owes_on(lock),
         Debt::Retries => place.retries_on(lock),
     }
+}
+
+/// The first thread with a debt on the lock, or the number of threads. On most locks nobody has one, and
+/// this is then the only way through all threads.
+fn first_debtor(places: &[Place], lock: usize) -> usize
+    ensures owes { debtors Debt.Owes lock 0 places.now ≡ debtors Debt.Owes lock result (drop result places.now) }
+    ensures retries { debtors Debt.Retries lock 0 places.now ≡ debtors Debt.Retries lock result (drop result places.now) }
+{
+    for thread in 0..places.len() {
+        if has_debt(places[thread], Debt::Owes, lock)
+            || has_debt(places[thread], Debt::Retries, lock)
+        {
+            return thread;
+        }
+    }
+    places.len()
 }
 
 /// The first thread from one on that has the debt.
@@ -199,17 +217,14 @@ impl Iterator for Debts<'_> {
     ghost remaining = { item_count (λ debts. debts) };
 
     fn next(&mut self) -> Option<(Debt, usize)> {
-        if let Debt::Owes = self.debt {
-            if let Some(thread) = find_debtor(self.places, self.thread, Debt::Owes, self.lock) {
-                self.thread = thread + 1;
-                return Some((Debt::Owes, thread));
-            }
-            self.debt = Debt::Retries;
-            self.thread = 0;
+        if let Some(thread) = find_debtor(self.places, self.owes, Debt::Owes, self.lock) {
+            self.owes = thread + 1;
+            return Some((Debt::Owes, thread));
         }
-        match find_debtor(self.places, self.thread, Debt::Retries, self.lock) {
+        self.owes = self.places.len();
+        match find_debtor(self.places, self.retries, Debt::Retries, self.lock) {
             Some(thread) => {
-                self.thread = thread + 1;
+                self.retries = thread + 1;
                 Some((Debt::Retries, thread))
             }
             None => None,
