@@ -24,7 +24,7 @@ Codes v o = (v ≡ one_if_owned o) ⊎ (v ≡ one_if_owned o + 2)
 abbrev pub IsCoded : State → ℕ → Type 0
 IsCoded w l = Codes (word_at w l) (owners_at w l).exclusive
 
--- some thread, which is neither asleep nor in any queue, owes a wake on the mutex or was woken and is about to try it again
+-- some thread, which is neither asleep nor in any mutex's queue, owes a wake on the mutex or was woken and is about to try it again
 pub record IsLookedAfter (w : State) (l : ℕ) : Type 0 where
   pub debtor : ℕ
   pub debt : (owes_on (place_at w debtor) l ≡ true) ⊎ (retries_on (place_at w debtor) l ≡ true)
