@@ -39,7 +39,7 @@ def schedule(threads, locks, lines, shows, seed):
 def measure(name, threads, locks, shows):
     text = schedule(threads, locks, LINES, shows, 1)
     if len(sys.argv) > 1:
-        with open(os.path.join(sys.argv[1], f"{threads}.schedule"), "w") as kept:
+        with open(os.path.join(sys.argv[1], f"{threads}-{shows}.schedule"), "w") as kept:
             kept.write(text)
     with tempfile.NamedTemporaryFile("w", suffix=".schedule") as file:
         file.write(text)

@@ -1,6 +1,6 @@
 //! The steps of every call: what a thread does next, and where the reply leads it.
 //!
-//! A step is pure. The world of `lot_world` and running threads both follow it.
+//! A step is pure. The world of `lot_world` follows it.
 #![tactic(auto)]
 
 pub mod acts;

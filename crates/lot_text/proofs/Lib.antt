@@ -1,1 +1,6 @@
 pub mod GrammarLemmas
+pub mod NameLemmas
+pub mod LinesLemmas
+pub mod NumberLaw
+pub mod SentLemmas
+pub mod ShowLemmas

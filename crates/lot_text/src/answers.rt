@@ -1,11 +1,17 @@
 //! The lines that answer turns, and the last lines of a replay that stops.
 
+ghost use Rattle.lot_text.specs.Sent.{Puts};
+ghost use Rattle.lot_text.specs.Text.{state_text, answer_text, turn_line, malformed_line, no_memory_line};
+ghost use Rattle.std.specs.Prelude.{◌≡◌};
+
 use crate::output::Page;
 use lot_world::{Answer, OnceState, Outcome};
 use std::io::Write;
 
 /// Prints the line that answers a thread's turn.
-pub fn print_turn<W: Write>(page: &mut Page, writer: &mut W, thread: usize, outcome: Outcome) {
+pub fn print_turn<W: Write>(page: &mut Page, writer: &mut W, thread: usize, outcome: Outcome)
+    ensures { Puts (W.contents writer.old) (W.contents writer.new) page.old page.new (turn_line thread outcome) }
+{
     page.put_number(writer, thread as u64);
     match outcome {
         Outcome::NotNow => page.put(writer, b" not now\n"),
@@ -24,7 +30,9 @@ pub fn print_turn<W: Write>(page: &mut Page, writer: &mut W, thread: usize, outc
     }
 }
 
-fn state_text(state: OnceState) -> &'static [u8] {
+fn state_text(state: OnceState) -> &'static [u8]
+    ensures { result.now ≡ state_text state }
+{
     match state {
         OnceState::New => b"New",
         OnceState::Poisoned => b"Poisoned",
@@ -33,7 +41,9 @@ fn state_text(state: OnceState) -> &'static [u8] {
     }
 }
 
-fn print_answer<W: Write>(page: &mut Page, writer: &mut W, answer: Answer) {
+fn print_answer<W: Write>(page: &mut Page, writer: &mut W, answer: Answer)
+    ensures { Puts (W.contents writer.old) (W.contents writer.new) page.old page.new (answer_text answer) }
+{
     match answer {
         Answer::Ok => page.put(writer, b"ok"),
         Answer::Yes => page.put(writer, b"yes"),
@@ -49,14 +59,18 @@ fn print_answer<W: Write>(page: &mut Page, writer: &mut W, answer: Answer) {
 }
 
 /// Prints the last line of a replay that met a line of another form.
-pub fn print_malformed<W: Write>(page: &mut Page, writer: &mut W, number: u64) {
+pub fn print_malformed<W: Write>(page: &mut Page, writer: &mut W, number: u64)
+    ensures { Puts (W.contents writer.old) (W.contents writer.new) page.old page.new (malformed_line number) }
+{
     page.put(writer, b"line ");
     page.put_number(writer, number);
     page.put(writer, b" malformed\n");
 }
 
 /// Prints the last line of a replay that was refused memory.
-pub fn print_no_memory<W: Write>(page: &mut Page, writer: &mut W, number: u64) {
+pub fn print_no_memory<W: Write>(page: &mut Page, writer: &mut W, number: u64)
+    ensures { Puts (W.contents writer.old) (W.contents writer.new) page.old page.new (no_memory_line number) }
+{
     page.put(writer, b"line ");
     page.put_number(writer, number);
     page.put(writer, b" no memory\n");

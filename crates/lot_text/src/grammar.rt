@@ -1,5 +1,6 @@
 //! What a line means.
-ghost use Rattle.std.specs.Prelude.{◌≤◌, length};
+ghost use Rattle.std.specs.Prelude.{ℕ, List, Some, decimal, ◌^◌, ◌≡◌, ◌≢◌, ◌<◌, ◌≤◌, [], ◌∷◌, length, take, slice_index, All, MatchOption};
+ghost use Rattle.lot_text.specs.Grammar.{words_of, number_of, digits_after, kind_of, call_of, turn_of, calling_turn_of, command_of, meaning};
 
 use crate::names::Name;
 use lot_world::{Kind, MutexCall};
@@ -38,7 +39,9 @@ pub enum NamedTurn {
 }
 
 /// What a line says, where it has one of the forms.
-pub fn meaning(line: &[u8]) -> Option<Command> {
+pub fn meaning(line: &[u8]) -> Option<Command>
+    ensures { result ≡ meaning line.now }
+{
     let (first, rest) = split_word(line);
     let Some(rest) = rest else {
         return command_of_one(first);
@@ -59,7 +62,10 @@ pub fn meaning(line: &[u8]) -> Option<Command> {
 }
 
 /// The first word, and what comes after its space.
-fn split_word(text: &[u8]) -> (&[u8], Option<&[u8]>) {
+fn split_word(text: &[u8]) -> (&[u8], Option<&[u8]>)
+    ensures { MatchOption result.1 (words_of text.now ≡ result.0.now ∷ [])
+        (λ rest. words_of text.now ≡ result.0.now ∷ words_of rest.now) }
+{
     let at = len_of_word(text);
     if at == text.len() {
         return (text, None);
@@ -69,12 +75,16 @@ fn split_word(text: &[u8]) -> (&[u8], Option<&[u8]>) {
 
 /// How many bytes come before the first space, or all.
 fn len_of_word(text: &[u8]) -> usize
-    ensures { result ≤ length text.now }
+    ensures within { result ≤ length text.now }
+    ensures before { All (λ b. b ≢ 32) (take result text.now) }
+    ensures found { result < length text.now → slice_index text.now result ≡ 32 }
 {
     text.iter().position(|b| *b == b' ').unwrap_or(text.len())
 }
 
-fn command_of_one(word: &[u8]) -> Option<Command> {
+fn command_of_one(word: &[u8]) -> Option<Command>
+    ensures { result ≡ command_of (word.now ∷ []) }
+{
     if word == b"show".as_slice() {
         Some(Command::Show)
     } else {
@@ -82,26 +92,20 @@ fn command_of_one(word: &[u8]) -> Option<Command> {
     }
 }
 
-fn command_of_two(first: &[u8], second: &[u8]) -> Option<Command> {
+fn command_of_two(first: &[u8], second: &[u8]) -> Option<Command>
+    ensures { result ≡ command_of (first.now ∷ second.now ∷ []) }
+{
     if first == b"threads".as_slice() {
         return number(second).map(Command::Threads);
     }
-    let turn = if second == b"go".as_slice() {
-        NamedTurn::Go
-    } else if second == b"solo".as_slice() {
-        NamedTurn::Solo
-    } else if second == b"spin".as_slice() {
-        NamedTurn::Spin
-    } else if second == b"late".as_slice() {
-        NamedTurn::Late
-    } else {
-        return None;
-    };
     let thread = number(first)?;
+    let turn = turn(second)?;
     Some(Command::Turn { thread, turn })
 }
 
-fn command_of_three(first: &[u8], second: &[u8], third: &[u8]) -> Option<Command> {
+fn command_of_three(first: &[u8], second: &[u8], third: &[u8]) -> Option<Command>
+    ensures { result ≡ command_of (first.now ∷ second.now ∷ third.now ∷ []) }
+{
     if first != b"lock".as_slice() {
         return None;
     }
@@ -110,22 +114,50 @@ fn command_of_three(first: &[u8], second: &[u8], third: &[u8]) -> Option<Command
     Some(Command::Lock { name, kind })
 }
 
-fn command_of_four(first: &[u8], second: &[u8], third: &[u8], fourth: &[u8]) -> Option<Command> {
+fn command_of_four(first: &[u8], second: &[u8], third: &[u8], fourth: &[u8]) -> Option<Command>
+    ensures { result ≡ command_of (first.now ∷ second.now ∷ third.now ∷ fourth.now ∷ []) }
+{
     let thread = number(first)?;
     let call = call(third)?;
     let name = Name::from_word(fourth)?;
-    let turn = if second == b"begin".as_slice() {
-        NamedTurn::Begin { call, name }
-    } else if second == b"do".as_slice() {
-        NamedTurn::Do { call, name }
-    } else {
-        return None;
-    };
+    let turn = calling_turn(second, call, name)?;
     Some(Command::Turn { thread, turn })
 }
 
+/// The turn that a word names, which calls no lock.
+fn turn(word: &[u8]) -> Option<NamedTurn>
+    ensures { result ≡ turn_of word.now }
+{
+    if word == b"go".as_slice() {
+        Some(NamedTurn::Go)
+    } else if word == b"solo".as_slice() {
+        Some(NamedTurn::Solo)
+    } else if word == b"spin".as_slice() {
+        Some(NamedTurn::Spin)
+    } else if word == b"late".as_slice() {
+        Some(NamedTurn::Late)
+    } else {
+        None
+    }
+}
+
+/// The turn that a word names, which calls a lock.
+fn calling_turn(word: &[u8], call: MutexCall, name: Name) -> Option<NamedTurn>
+    ensures { result ≡ calling_turn_of word.now call name }
+{
+    if word == b"begin".as_slice() {
+        Some(NamedTurn::Begin { call, name })
+    } else if word == b"do".as_slice() {
+        Some(NamedTurn::Do { call, name })
+    } else {
+        None
+    }
+}
+
 /// The kind of lock that a word names.
-fn kind(word: &[u8]) -> Option<Kind> {
+fn kind(word: &[u8]) -> Option<Kind>
+    ensures { result ≡ kind_of word.now }
+{
     if word == b"mutex".as_slice() {
         Some(Kind::Mutex)
     } else {
@@ -134,7 +166,9 @@ fn kind(word: &[u8]) -> Option<Kind> {
 }
 
 /// The call that a word names.
-fn call(word: &[u8]) -> Option<MutexCall> {
+fn call(word: &[u8]) -> Option<MutexCall>
+    ensures { result ≡ call_of word.now }
+{
     if word == b"lock".as_slice() {
         Some(MutexCall::Lock)
     } else if word == b"unlock".as_slice() {
@@ -149,7 +183,9 @@ fn call(word: &[u8]) -> Option<MutexCall> {
 }
 
 /// The number that a word spells as it would be printed, in at most 19 digits.
-fn number(word: &[u8]) -> Option<usize> {
+fn number(word: &[u8]) -> Option<usize>
+    ensures { result ≡ number_of word.now }
+{
     if word.is_empty() || word.len() > MOST_DIGITS {
         return None;
     }
@@ -162,6 +198,7 @@ fn number(word: &[u8]) -> Option<usize> {
 /// The number that digits spell.
 fn digits(word: &[u8]) -> Option<usize>
     requires { length word.now ≤ MOST_DIGITS }
+    ensures { result ≡ digits_after 0 word.now }
 {
     let mut n = 0usize;
     for b in word {
@@ -172,3 +209,8 @@ fn digits(word: &[u8]) -> Option<usize>
     }
     Some(n)
 }
+
+/// A number is read only as it would be printed.
+pub fn numbers_are_decimal()
+    ensures { (word : List ℕ) (n : ℕ) → number_of word ≡ Some n → (decimal n ≡ word) × (n < 10 ^ 19) }
+{}

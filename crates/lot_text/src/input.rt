@@ -1,5 +1,7 @@
 //! Lines of a reader, a bounded part of it at a time.
-ghost use Rattle.std.specs.Prelude.{◌≤◌, length};
+ghost use Rattle.std.specs.Prelude.{◌≡◌, ◌≢◌, ◌≤◌, ◌<◌, length, take, slice_index};
+ghost use Rattle.lot_text.specs.Lines.{line_len};
+ghost use Rattle.lot_text.specs.Reads.{IsOneLine, TakesPiece, ReadsLine};
 
 use arrayvec::ArrayVec;
 use std::io::{BufRead, ErrorKind};
@@ -27,7 +29,9 @@ pub enum Piece {
 }
 
 /// Reads the next line, without its line feed.
-pub fn read_line<R: BufRead>(reader: &mut R, line: &mut ArrayVec<u8, LINE_LEN>) -> Reading {
+pub fn read_line<R: BufRead>(reader: &mut R, line: &mut ArrayVec<u8, LINE_LEN>) -> Reading
+    ensures { ReadsLine (R.remaining reader.old) (R.remaining reader.new) result line.new.items }
+{
     line.clear();
     for _ in 0..u64::MAX {
         match take_piece(reader, line) {
@@ -48,7 +52,10 @@ pub fn read_line<R: BufRead>(reader: &mut R, line: &mut ArrayVec<u8, LINE_LEN>) 
 }
 
 /// Moves what the reader shows of the line to `line`, up to its line feed.
-fn take_piece<R: BufRead>(reader: &mut R, line: &mut ArrayVec<u8, LINE_LEN>) -> Piece {
+fn take_piece<R: BufRead>(reader: &mut R, line: &mut ArrayVec<u8, LINE_LEN>) -> Piece
+    requires { length line.old.items ≤ line_len }
+    ensures { TakesPiece (R.remaining reader.old) (R.remaining reader.new) result line.old.items line.new.items }
+{
     let shown = match reader.fill_buf() {
         Ok(shown) => shown,
         Err(e) => {
@@ -75,7 +82,9 @@ fn take_piece<R: BufRead>(reader: &mut R, line: &mut ArrayVec<u8, LINE_LEN>) -> 
 
 /// How many bytes come before the first line feed, or all.
 fn len_of_line(bytes: &[u8]) -> usize
-    ensures { result ≤ length bytes.now }
+    ensures within { result ≤ length bytes.now }
+    ensures before { IsOneLine (take result bytes.now) }
+    ensures found { result < length bytes.now → slice_index bytes.now result ≡ 10 }
 {
     bytes
         .iter()

@@ -1,8 +1,11 @@
 //! What goes out, through a page of bytes.
-ghost use Rattle.std.specs.Prelude.{◌≤◌, length};
+ghost use Rattle.std.specs.Prelude.{◌≡◌, ℕ, ◌≤◌, List, [], ◌++◌, true, false, length, take, decimal};
+ghost use Rattle.std.specs.Io.KnownBytes.{Appends};
+ghost use Rattle.lot_text.specs.Sent.{Held, Puts, Sends, SendsFront};
 
 use arrayvec::ArrayVec;
 use std::io::{ErrorKind, Write};
+use std::marker::Model;
 
 const PAGE_LEN: usize = 4096;
 
@@ -13,8 +16,19 @@ pub struct Page {
     is_lost: bool,
 }
 
+impl Model for Page {
+    ghost use Rattle.lot_text.specs.Sent.{Held};
+
+    ghost Value = { Held };
+
+    ghost view = { λ p. record { bytes = p.bytes.items; lost = p.is_lost } };
+}
+
 impl Page {
-    pub fn new() -> Page {
+    /// Nothing is held, and no write failed.
+    pub fn new() -> Page
+        ensures { result ≡ record { bytes = []; lost = false } }
+    {
         Page {
             bytes: ArrayVec::new(),
             is_lost: false,
@@ -22,12 +36,16 @@ impl Page {
     }
 
     /// Whether a write failed.
-    pub fn is_lost(&self) -> bool {
+    pub fn is_lost(&self) -> bool
+        ensures { result ≡ self.now.lost }
+    {
         self.is_lost
     }
 
     /// Adds a text, and sends what has no room.
-    pub fn put<W: Write>(&mut self, writer: &mut W, text: &[u8]) {
+    pub fn put<W: Write>(&mut self, writer: &mut W, text: &[u8])
+        ensures { Puts (W.contents writer.old) (W.contents writer.new) self.old self.new text.now }
+    {
         if self.is_lost {
             return;
         }
@@ -38,7 +56,9 @@ impl Page {
     }
 
     /// Adds a number, digit by digit, since a number is mostly a short one.
-    pub fn put_number<W: Write>(&mut self, writer: &mut W, n: u64) {
+    pub fn put_number<W: Write>(&mut self, writer: &mut W, n: u64)
+        ensures { Puts (W.contents writer.old) (W.contents writer.new) self.old self.new (decimal n) }
+    {
         if n >= 10 {
             self.put_number(writer, n / 10);
         }
@@ -46,13 +66,19 @@ impl Page {
     }
 
     /// Sends all that is held.
-    pub fn finish<W: Write>(&mut self, writer: &mut W) {
+    pub fn finish<W: Write>(&mut self, writer: &mut W)
+        ensures puts { Puts (W.contents writer.old) (W.contents writer.new) self.old self.new [] }
+        ensures empty { self.new.lost ≡ false → self.new.bytes ≡ [] }
+    {
         self.put_cold(writer, b"");
     }
 
     #[cold]
     #[inline(never)]
-    fn put_cold<W: Write>(&mut self, writer: &mut W, text: &[u8]) {
+    fn put_cold<W: Write>(&mut self, writer: &mut W, text: &[u8])
+        ensures puts { Puts (W.contents writer.old) (W.contents writer.new) self.old self.new text.now }
+        ensures empty { self.new.lost ≡ false → text.now ≡ [] → self.new.bytes ≡ [] }
+    {
         if self.is_lost {
             return;
         }
@@ -71,13 +97,17 @@ impl Page {
 }
 
 /// Sends the bytes, and says whether all were taken.
-pub fn send_all<W: Write>(writer: &mut W, bytes: &[u8]) -> bool {
+pub fn send_all<W: Write>(writer: &mut W, bytes: &[u8]) -> bool
+    ensures sent { result ≡ true → Sends (W.contents writer.old) (W.contents writer.new) bytes.now [] }
+    ensures failed { SendsFront (W.contents writer.old) (W.contents writer.new) bytes.now }
+{
     send_front(writer, bytes) == bytes.len()
 }
 
 /// Sends the bytes until all are taken or a write fails, and says how many were.
 fn send_front<W: Write>(writer: &mut W, bytes: &[u8]) -> usize
-    ensures { result ≤ length bytes.now }
+    ensures within { result ≤ length bytes.now }
+    ensures bytes { Appends (W.contents writer.old) (W.contents writer.new) (take result bytes.now) }
 {
     let mut sent = 0;
     for _ in 0..u64::MAX {

@@ -1,10 +1,13 @@
 //! The lines of `show`: a lock's name, its word, and each group of threads that isn't empty.
-ghost use Rattle.std.specs.Prelude.{◌≡◌, ◌<◌, ◌≤◌, length};
+ghost use Rattle.std.specs.Prelude.{◌≡◌, ◌<◌, ◌≤◌, ◌+◌, ◌*◌, ◌++◌, ℕ, List, All, length};
+ghost use Rattle.lot_world.specs.Views.{StandUnder};
+ghost use Rattle.lot_text.specs.Sent.{Puts};
+ghost use Rattle.lot_text.specs.Text.{owner_letter, want_letter, owners_text, waiters_text, debtors_text, show_line, show_lines};
 
 use crate::names::Name;
 use crate::output::Page;
 use lot_world::{Debt, Debts, MOST_LOCKS, Owner, OwnersOf, QueueOf, World};
-use parking_lot_core::{Key, ListQueues, Want, second_key};
+use parking_lot_core::{ListQueues, Waiter, Want, main_key};
 use std::io::Write;
 
 /// Prints a line for each lock.
@@ -16,6 +19,7 @@ pub fn show_locks<W: Write>(
 )
     requires named { length names.now ≡ length world.now.locks }
     requires few { length names.now ≤ MOST_LOCKS }
+    ensures { Puts (W.contents writer.old) (W.contents writer.new) page.old page.new (show_lines world.now 0 names.now) }
 {
     for (lock, name) in names.iter().enumerate() {
         show_lock(page, writer, *name, world, lock);
@@ -31,80 +35,83 @@ fn show_lock<W: Write>(
 )
     requires is_there { lock < length world.now.locks }
     requires few { lock < MOST_LOCKS }
+    ensures { Puts (W.contents writer.old) (W.contents writer.new) page.old page.new (show_line world.now lock name) }
 {
     page.put(writer, name.text());
     page.put(writer, b" ");
     page.put_number(writer, world.word(lock));
     print_owners(page, writer, world.owners(lock));
-    print_waiters(page, writer, world.queue(lock), second_key(lock));
+    print_waiters(page, writer, world.queue(lock), lock);
     print_debtors(page, writer, world.debt(lock));
     page.put(writer, b"\n");
 }
 
 /// Prints who owns a lock, each with a letter for its sort.
-fn print_owners<W: Write>(page: &mut Page, writer: &mut W, owners: OwnersOf) {
-    let mut before = b" own=".as_slice();
+fn print_owners<W: Write>(page: &mut Page, writer: &mut W, owners: OwnersOf)
+    ensures { Puts (W.contents writer.old) (W.contents writer.new) page.old page.new (owners_text owners) }
+{
+    let mut mark = b" own=".as_slice();
     for (owner, thread) in owners {
-        page.put(writer, before);
+        page.put(writer, mark);
         page.put_number(writer, thread as u64);
         page.put(writer, owner_letter(owner));
-        before = b",";
+        mark = b",";
     }
 }
 
-/// Prints who waits for a lock: its main queue, each with a letter for what it wants, then who waits aside.
+/// Prints who waits for a lock: its main queue, each with a letter for what it wants, and who waits aside.
 fn print_waiters<W: Write>(
     page: &mut Page,
     writer: &mut W,
     queue: QueueOf<'_, ListQueues>,
-    aside: Key,
-) {
-    let mut last = None;
+    lock: usize,
+)
+    requires { lock < MOST_LOCKS }
+    ensures { (main aside : List Waiter) → queue.entry ≡ main ++ aside
+        → StandUnder (2 * lock) main → StandUnder (2 * lock + 1) aside → Puts (W.contents writer.old) (W.contents writer.new) page.old page.new (waiters_text main aside) }
+{
+    let mut main_mark = b" queue=".as_slice();
+    let mut aside_mark = b" aside=".as_slice();
     for waiter in queue {
-        let is_aside = waiter.key == aside;
-        page.put(
-            writer,
-            if last == Some(is_aside) {
-                b","
-            } else if is_aside {
-                b" aside="
-            } else {
-                b" queue="
-            },
-        );
-        page.put_number(writer, waiter.thread as u64);
-        if !is_aside {
+        if waiter.key == main_key(lock) {
+            page.put(writer, main_mark);
+            page.put_number(writer, waiter.thread as u64);
             page.put(writer, want_letter(waiter.want));
+            main_mark = b",";
+        } else {
+            page.put(writer, aside_mark);
+            page.put_number(writer, waiter.thread as u64);
+            aside_mark = b",";
         }
-        last = Some(is_aside);
     }
 }
 
-/// Prints who owes a wake on a lock, then who tries it again.
-fn print_debtors<W: Write>(page: &mut Page, writer: &mut W, debts: Debts<'_>) {
-    let mut last = None;
+/// Prints who owes a wake on a lock, and who tries it again.
+fn print_debtors<W: Write>(page: &mut Page, writer: &mut W, debts: Debts<'_>)
+    ensures { (owing retrying : List (Debt × ℕ)) → debts.entry ≡ owing ++ retrying
+        → All (λ d. d.0 ≡ Debt.Owes) owing → All (λ d. d.0 ≡ Debt.Retries) retrying → Puts (W.contents writer.old) (W.contents writer.new) page.old page.new (debtors_text owing retrying) }
+{
+    let mut owe_mark = b" owe=".as_slice();
+    let mut retry_mark = b" retry=".as_slice();
     for (debt, thread) in debts {
-        page.put(
-            writer,
-            if last == Some(debt) {
-                b","
-            } else {
-                debt_heading(debt)
-            },
-        );
-        page.put_number(writer, thread as u64);
-        last = Some(debt);
+        match debt {
+            Debt::Owes => {
+                page.put(writer, owe_mark);
+                page.put_number(writer, thread as u64);
+                owe_mark = b",";
+            }
+            Debt::Retries => {
+                page.put(writer, retry_mark);
+                page.put_number(writer, thread as u64);
+                retry_mark = b",";
+            }
+        }
     }
 }
 
-fn debt_heading(debt: Debt) -> &'static [u8] {
-    match debt {
-        Debt::Owes => b" owe=",
-        Debt::Retries => b" retry=",
-    }
-}
-
-fn owner_letter(owner: Owner) -> &'static [u8] {
+fn owner_letter(owner: Owner) -> &'static [u8]
+    ensures { result.now ≡ owner_letter owner }
+{
     match owner {
         Owner::Exclusive => b"x",
         Owner::Pending => b"p",
@@ -114,7 +121,9 @@ fn owner_letter(owner: Owner) -> &'static [u8] {
     }
 }
 
-fn want_letter(want: Want) -> &'static [u8] {
+fn want_letter(want: Want) -> &'static [u8]
+    ensures { result.now ≡ want_letter want }
+{
     match want {
         Want::Exclusive => b"x",
         Want::Upgradable => b"u",

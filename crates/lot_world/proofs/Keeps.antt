@@ -4,7 +4,7 @@ use Rattle.std.proofs.lemmas.Bool.{cases_eq}
 use Rattle.parking_lot_core.specs.declared.wants.Waiter.{Waiter}
 use Rattle.lot_steps.specs.declared.places.Place.{Place}
 use Rattle.lot_world.specs.Promises.{Codes}
-use Rattle.lot_world.specs.Sound.{Sound, Nobody, InHand, Carries, Debtor, inside, queued, holds, finds_empty}
+use Rattle.lot_world.specs.Sound.{Sound, Nobody, IsTakenBy, Carries, Debtor, inside, queued, holds, finds_empty}
 
 -- g is f, but for x at i
 pub record Changed {A : Type 0} (f g : ℕ → A) (i : ℕ) (x : A) : Type 0 where
@@ -24,8 +24,8 @@ pub record WordFits (at : ℕ → Place) (t l : ℕ) (p p2 : Place) (v2 : ℕ) (
   pub carries_still : (u k : ℕ) → Carries p u k → Carries p2 u k
   pub owes : o2 ≡ None → (Nobody at l ⊎ Debtor p2 l) ⊎ (o ≡ None)
   pub debts : (k : ℕ) → Debtor p k → Debtor p2 k ⊎ ((k ≡ l) × (o2 ≡ None → ⊥))
-  pub no_hand : (s k : ℕ) → InHand p s k → ⊥
-  pub no_hand_now : (s k : ℕ) → InHand p2 s k → ⊥
+  pub no_hand : (s k : ℕ) → IsTakenBy p s k → ⊥
+  pub no_hand_now : (s k : ℕ) → IsTakenBy p2 s k → ⊥
 
 module _ (at at2 : ℕ → Place) (word word2 : ℕ → ℕ) (owner owner2 : ℕ → Option ℕ) (sec : ℕ → Option ℕ) (q : ℕ → List Waiter)
     (sound : Sound at word owner sec q) (t l : ℕ) (p2 : Place) (v2 : ℕ) (o2 : Option ℕ)
@@ -54,13 +54,13 @@ module _ (at at2 : ℕ → Place) (word word2 : ℕ → ℕ) (owner owner2 : ℕ
   ]
 
   -- hands stay
-  hand_still : (u s k : ℕ) → InHand (at u) s k → InHand (at2 u) s k
+  hand_still : (u s k : ℕ) → IsTakenBy (at u) s k → IsTakenBy (at2 u) s k
   hand_still u s k h = elim (cases_eq u t) [
     | inl e ↦ absurd (fits.no_hand s k (rw e at h))
     | inr ne ↦ rw (place.other u ne) h
   ]
 
-  hand_was : (u s k : ℕ) → InHand (at2 u) s k → InHand (at u) s k
+  hand_was : (u s k : ℕ) → IsTakenBy (at2 u) s k → IsTakenBy (at u) s k
   hand_was u s k h = elim (cases_eq u t) [
     | inl e ↦ absurd (fits.no_hand_now s k (rw (e, place.here) at h))
     | inr ne ↦ rw (place.other u ne) at h

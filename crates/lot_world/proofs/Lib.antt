@@ -9,4 +9,12 @@ pub mod Sections
 pub mod Counts
 pub mod Parks
 pub mod Steady
+pub mod OnlyMutexes
+pub mod LockKeeps
+pub mod LockEvents
+pub mod LockSteps
+pub mod LockRuns
+pub mod OneThing
 pub mod Promises
+pub mod SoloActs
+pub mod Solo

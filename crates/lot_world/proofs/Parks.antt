@@ -11,7 +11,7 @@ use Rattle.lot_steps.specs.declared.places.Place.TheVariants.{Mutex}
 use Rattle.lot_steps.specs.declared.mutex.MutexPlace.TheVariants.{Lock, Unlock}
 use Rattle.lot_steps.specs.declared.mutex.LockAt.TheVariants.{Check, Leave, Asleep, Taken, Remove, Clear}
 use Rattle.lot_steps.specs.declared.mutex.UnlockAt.TheVariants as unlock
-use Rattle.lot_world.specs.Sound.{Sound, Nobody, InHand, Carries, Debtor, one_if, inside, queued, holds, finds_empty}
+use Rattle.lot_world.specs.Sound.{Sound, Nobody, IsTakenBy, Carries, Debtor, one_if, inside, queued, holds, finds_empty}
 use Rattle.lot_world.proofs.Keeps.{Changed}
 use Rattle.lot_world.proofs.Counts.{times_first}
 use Rattle.lot_world.proofs.Words.{lock_debts}
@@ -87,14 +87,14 @@ module _ (at at2 : ℕ → Place) (word : ℕ → ℕ) (owner : ℕ → Option �
     ];
     carried = λ s u k h. elim (cases_eq s t) [
       | inl e ↦ absurd (let f : Carries (Mutex l (Lock timed after (Leave true))) u k = rw (e, place.here) at h in f)
-      | inr ne ↦ let hand : InHand (at u) s k = sound.carried s u k (rw (place.other s ne) at h) in
+      | inr ne ↦ let hand : IsTakenBy (at u) s k = sound.carried s u k (rw (place.other s ne) at h) in
           elim (cases_eq u t) [
-            | inl e ↦ absurd (let f : InHand (Mutex l (Lock timed before Check)) s k = rw (e, stood) at hand in f)
+            | inl e ↦ absurd (let f : IsTakenBy (Mutex l (Lock timed before Check)) s k = rw (e, stood) at hand in f)
             | inr nu ↦ rw (place.other u nu) hand
           ]
     ];
     taken = λ u s k h. elim (cases_eq u t) [
-      | inl e ↦ absurd (let f : InHand (Mutex l (Lock timed after (Leave true))) s k = rw (e, place.here) at h in f)
+      | inl e ↦ absurd (let f : IsTakenBy (Mutex l (Lock timed after (Leave true))) s k = rw (e, place.here) at h in f)
       | inr ne ↦ let was : Carries (at s) u k = sound.taken u s k (rw (place.other u ne) at h) in
           elim (cases_eq s t) [
             | inl e ↦ absurd (let f : Carries (Mutex l (Lock timed before Check)) u k = rw (e, stood) at was in f)
@@ -123,7 +123,7 @@ module _ (at at2 : ℕ → Place) (word : ℕ → ℕ) (owner : ℕ → Option �
     (in_still : inside p2 ≡ Some l) (no_queue : queued p2 ≡ None) (no_hold : holds p2 ≡ None)
     (empty : (k : ℕ) → finds_empty p2 ≡ Some k → (k ≡ l) × (q2 l ≡ []))
     (debts : (k : ℕ) → Debtor (at t) k → Debtor p2 k) (no_carry : (u k : ℕ) → Carries (at t) u k → ⊥) (no_carry_now : (u k : ℕ) → Carries p2 u k → ⊥)
-    (no_hand : (s k : ℕ) → InHand (at t) s k → ⊥) (no_hand_now : (s k : ℕ) → InHand p2 s k → ⊥) where
+    (no_hand : (s k : ℕ) → IsTakenBy (at t) s k → ⊥) (no_hand_now : (s k : ℕ) → IsTakenBy p2 s k → ⊥) where
   nobody_left : (k : ℕ) → Nobody at k → Nobody at2 k
   nobody_left k none s h = elim (cases_eq s t) [
     | inl e ↦ let g : queued (at2 s) ≡ None = rw (e, place.here) no_queue in cc
@@ -159,7 +159,7 @@ module _ (at at2 : ℕ → Place) (word : ℕ → ℕ) (owner : ℕ → Option �
     ];
     carried = λ s u k h. elim (cases_eq s t) [
       | inl e ↦ absurd (no_carry_now u k (rw (e, place.here) at h))
-      | inr ne ↦ let hand : InHand (at u) s k = sound.carried s u k (rw (place.other s ne) at h) in
+      | inr ne ↦ let hand : IsTakenBy (at u) s k = sound.carried s u k (rw (place.other s ne) at h) in
           elim (cases_eq u t) [
             | inl e ↦ absurd (no_hand s k (rw e at hand))
             | inr nu ↦ rw (place.other u nu) hand
@@ -208,7 +208,7 @@ module _ (at at2 : ℕ → Place) (word : ℕ → ℕ) (owner : ℕ → Option �
     (empty : (k : ℕ) → finds_empty p2 ≡ Some k → (k ≡ l) × (q2 l ≡ []))
     (debts : (k : ℕ) → Debtor (at t) k → Debtor p2 k) (no_carry : (u k : ℕ) → Carries (at t) u k → ⊥)
     (carries : Carries p2 u l) (only : (s k : ℕ) → Carries p2 s k → (s ≡ u) × (k ≡ l))
-    (no_hand : (s k : ℕ) → InHand (at t) s k → ⊥) (no_hand_now : (s k : ℕ) → InHand p2 s k → ⊥) where
+    (no_hand : (s k : ℕ) → IsTakenBy (at t) s k → ⊥) (no_hand_now : (s k : ℕ) → IsTakenBy p2 s k → ⊥) where
   -- the taker is another
   apart : u ≢ t
   apart e = let f : inside (at u) ≡ None = rw before refl in let g : inside (at u) ≡ Some l = rw e in_before in cc
@@ -278,11 +278,11 @@ module _ (at at2 : ℕ → Place) (word : ℕ → ℕ) (owner : ℕ → Option �
       | inl e ↦ let c : (y ≡ u) × (k ≡ l) = only y k (rw (e, here) at h) in rw (c.0, c.1, e, there) (refl, refl)
       | inr ne ↦ elim (cases_eq s u) [
         | inl e ↦ absurd (let f : Carries (Mutex l (Lock timed retries (Taken t))) y k = rw (e, there) at h in f)
-        | inr nu ↦ let hand : InHand (at y) s k = sound.carried s y k (rw (other s ne nu) at h) in
+        | inr nu ↦ let hand : IsTakenBy (at y) s k = sound.carried s y k (rw (other s ne nu) at h) in
             elim (cases_eq y t) [
               | inl e ↦ absurd (no_hand s k (rw e at hand))
               | inr nyt ↦ elim (cases_eq y u) [
-                | inl e ↦ absurd (let f : InHand (Mutex l (Lock timed retries Asleep)) s k = rw (e, before) at hand in f)
+                | inl e ↦ absurd (let f : IsTakenBy (Mutex l (Lock timed retries Asleep)) s k = rw (e, before) at hand in f)
                 | inr nyu ↦ rw (other y nyt nyu) hand
               ]
             ]

@@ -1,9 +1,8 @@
 -- What holds between steps, as callers are told it.
-use Rattle.std.proofs.Common.{ℕ, zero, suc, Bool, true, false, Option, Some, None, if◌then◌else◌, ◌==◌, ◌&&◌, not, ◌≡◌, ◌≢◌, ◌+◌, ◌*◌, ◌≤◌, ◌⊎◌, inl, inr, List, [], ◌∷◌, length, get_or, replicate, map, take, refl, ◌∙◌, ap, subst, arith}
-use Rattle.std.proofs.lemmas.Bool.Decides.{nat_tests}
+use Rattle.std.proofs.Common.{ℕ, zero, suc, Bool, true, false, Option, Some, None, if◌then◌else◌, ◌==◌, ◌&&◌, not, ◌≡◌, ◌≢◌, ◌+◌, ◌*◌, ◌≤◌, ◌⊎◌, inl, inr, List, [], ◌∷◌, length, get_or, map, take, refl, ◌∙◌, ap, subst, arith, ◌↔◌}
+use Rattle.parking_lot_core.specs.declared.wants.Want.TheVariants.{Exclusive}
 use Rattle.parking_lot_core.specs.declared.keys.Keys.TheVariants.{One}
 use Rattle.parking_lot_core.specs.declared.ops.Op as op
-use Rattle.parking_lot_core.specs.declared.wants.Waiter.{Waiter}
 use Rattle.lot_steps.specs.declared.acts.Act as act
 use Rattle.lot_steps.specs.declared.acts.Act.TheVariants.{Sleep}
 use Rattle.lot_steps.specs.declared.kinds.Kind.{Kind}
@@ -16,17 +15,27 @@ use Rattle.lot_steps.specs.declared.mutex.UnlockAt.{UnlockAt}
 use Rattle.lot_steps.specs.declared.mutex.UnlockAt.TheVariants as unlock
 use Rattle.lot_steps.specs.declared.places.Place.{Place}
 use Rattle.lot_steps.specs.declared.places.Place.TheVariants.{Idle, Mutex}
-use Rattle.lot_steps.specs.MutexSteps.{is_locked, is_parked, lock_act, unlock_act}
+use Rattle.lot_steps.specs.MutexSteps.{is_locked, is_parked, lock_act, unlock_act, lock_owes}
 use Rattle.lot_steps.specs.Steps.{act_of, owes_on, retries_on}
-use Rattle.lot_world.specs.Machine.{State, unlocked, opening, place_at, word_at, after, after_all}
+use Rattle.lot_world.specs.Machine.{State, unlocked, nobody, opening, kind_at, place_at, word_at, queue_at, after, after_all, section_at}
 use Rattle.lot_world.specs.Fits.{IsShaped}
-use Rattle.lot_world.specs.Sound.{IsSound, Debtor, InHand, Carries, one_if, queued, holds, finds_empty, releases, tries_again, is_awake, owner_at}
-use Rattle.lot_world.specs.Promises.{Codes, WaitsFor, IsKept, IsKeptThroughout}
+use Rattle.lot_world.specs.Sound.{IsSound, Debtor, IsTakenBy, Carries, queued, holds, finds_empty, releases, tries_again, is_awake, owner_at, inside, one_if}
+use Rattle.lot_world.specs.LockRuns.{AreLockStates, IsOpening}
+use Rattle.lot_world.specs.Locks.{opening_lock, rights_of, Rights, one_if_some}
+use Rattle.lot_world.specs.Purposes.{rules_of, Releases, Enters, patience_of}
+use Rattle.lot_world.specs.Refinement.{locks_of, lock_state, lock_seen, taken_at, call_state}
+use Rattle.lot_world.specs.OnlyMutexes.{OnlyMutexes}
+use Rattle.lot_world.specs.Promises.{Codes, WaitsFor, IsLookedAfter, IsKept, IsKeptThroughout, GoesToWake}
 use Rattle.lot_world.proofs.Shape.{after_shaped}
 use Rattle.lot_world.proofs.Steady.{stands_at, after_sound}
-
-same : (k : ℕ) → (k == k) ≡ true
-same k = grind (arith, nat_tests)
+use Rattle.lot_world.proofs.OnlyMutexes.{after_only}
+use Rattle.lot_world.proofs.LockKeeps.{opening_is_state}
+use Rattle.lot_world.proofs.LockEvents.{queued_times, same}
+use Rattle.lot_world.proofs.LockRuns.{stands_by, one_place, after_locks}
+use Rattle.lot_world.proofs.Opening.{idle_at, none_at, empty_at}
+use Rattle.std.proofs.lemmas.Bool.Decides.{nat_tests}
+use Rattle.std.proofs.lemmas.Bool.{eqb-true}
+use Rattle.lot_world.specs.Locks as locks
 
 -- a debtor owes by its place, or tries again
 release_owes : (l : ℕ) (a : UnlockAt) (k : ℕ) → releases (Mutex l (Unlock a)) ≡ Some k → owes_on (Mutex l (Unlock a)) k ≡ true
@@ -36,20 +45,104 @@ release_owes l unlock.Take k h = let e : l ≡ k = cc in rw e (same k)
 release_owes l (unlock.Clear taken) k h = let e : l ≡ k = cc in rw e (same k)
 release_owes l (unlock.Leave taken) k h = let e : l ≡ k = cc in rw e (same k)
 
-awake_retries : (l : ℕ) (retries awake : Bool) (k : ℕ) → (if retries && awake then Some l else None) ≡ Some k → (retries && (l == k)) ≡ true
-awake_retries l true true k h = let e : l ≡ k = cc in rw e (same k)
+release_of : (l : ℕ) (a : UnlockAt) (k : ℕ) → releases (Mutex l (Unlock a)) ≡ Some k → l ≡ k
+release_of l unlock.Subtract k h = absurd cc
+release_of l unlock.Enter k h = cc
+release_of l unlock.Take k h = cc
+release_of l (unlock.Clear taken) k h = cc
+release_of l (unlock.Leave taken) k h = cc
+
+queued_here : (j l : ℕ) → 1 ≤ one_if (Some j) l + 0 → j ≡ l
+queued_here j l h = grind (arith, nat_tests)
+
+abbrev taken_for : ℕ → locks.Taken
+taken_for by = record { by = by; want = Exclusive }
+
+taken_here : (j l by : ℕ) → 1 ≤ 0 + one_if_some (if j == l then Some (taken_for by) else None) → j ≡ l
+taken_here j l by h = grind (arith, nat_tests)
+
+awake_retries : (l : ℕ) (retries awake : Bool) (k : ℕ) → (if retries && awake then Some l else None) ≡ Some k → (if retries then Some l else None) ≡ Some k
+awake_retries l true true k h = h
 awake_retries l true false k h = absurd cc
 awake_retries l false awake k h = absurd cc
 
-debt_shown : (p : Place) (k : ℕ) → Debtor p k → (owes_on p k ≡ true) ⊎ (retries_on p k ≡ true)
-debt_shown Idle k (inl h) = absurd cc
-debt_shown Idle k (inr h) = absurd cc
-debt_shown (Mutex l (Lock timed retries a)) k (inl h) = absurd cc
-debt_shown (Mutex l (Lock timed retries a)) k (inr h) = inr (awake_retries l retries (is_awake a) k h)
-debt_shown (Mutex l TryLock) k (inl h) = absurd cc
-debt_shown (Mutex l TryLock) k (inr h) = absurd cc
-debt_shown (Mutex l (Unlock a)) k (inl h) = inl (release_owes l a k h)
-debt_shown (Mutex l (Unlock a)) k (inr h) = absurd cc
+debt_is : (p : Place) (k : ℕ) (r : ℕ → Rights) → Debtor p k → ((owes_on p k ≡ true) × ((call_state p r).purpose ≡ Some (Releases k Exclusive false))) ⊎ ((call_state p r).retries ≡ Some k)
+debt_is Idle k r (inl h) = absurd cc
+debt_is Idle k r (inr h) = absurd cc
+debt_is (Mutex l (Lock timed retries a)) k r (inl h) = absurd cc
+debt_is (Mutex l (Lock timed retries a)) k r (inr h) = inr (awake_retries l retries (is_awake a) k h)
+debt_is (Mutex l TryLock) k r (inl h) = absurd cc
+debt_is (Mutex l TryLock) k r (inr h) = absurd cc
+debt_is (Mutex l (Unlock a)) k r (inl h) = inl (release_owes l a k h, ap (λ n. Some (Releases n Exclusive false)) (release_of l a k h))
+debt_is (Mutex l (Unlock a)) k r (inr h) = absurd cc
+
+-- who stands at a lock is in a call that waits for it
+waits_by : (p : Place) (l : ℕ) (r : ℕ → Rights) → 1 ≤ one_if (queued p) l + one_if_some (taken_at p l) → (timed : Bool) × ((call_state p r).purpose ≡ Some (Enters l Exclusive (patience_of timed)))
+waits_by Idle l r h = absurd (omega arith)
+waits_by (Mutex j (Lock timed retries (Leave true))) l r h = (timed, ap (λ n. Some (Enters n Exclusive (patience_of timed))) (queued_here j l h))
+waits_by (Mutex j (Lock timed retries (Leave false))) l r h = absurd (omega arith)
+waits_by (Mutex j (Lock timed retries Asleep)) l r h = (timed, ap (λ n. Some (Enters n Exclusive (patience_of timed))) (queued_here j l h))
+waits_by (Mutex j (Lock timed retries Remove)) l r h = (timed, ap (λ n. Some (Enters n Exclusive (patience_of timed))) (queued_here j l h))
+waits_by (Mutex j (Lock timed retries (Taken by))) l r h = (timed, ap (λ n. Some (Enters n Exclusive (patience_of timed))) (taken_here j l by h))
+waits_by (Mutex j (Lock timed retries First)) l r h = absurd (omega arith)
+waits_by (Mutex j (Lock timed retries at)) l r h = absurd (omega arith)
+waits_by (Mutex j TryLock) l r h = absurd (omega arith)
+waits_by (Mutex j (Unlock at)) l r h = absurd (omega arith)
+
+-- who owes is inside the section, or a release on its way into it
+own_lock : (b : Bool) (own l : ℕ) → (b && (own == l)) ≡ true → (b ≡ true) × (own ≡ l)
+own_lock true own l h = (refl, eqb-true own l h)
+own_lock false own l h = absurd cc
+
+lock_inside : (own : ℕ) (timed retries : Bool) (at : LockAt) → lock_owes at ≡ true → inside (Mutex own (Lock timed retries at)) ≡ Some own
+lock_inside own timed retries Check h = refl
+lock_inside own timed retries (Leave parked) h = refl
+lock_inside own timed retries Remove h = refl
+lock_inside own timed retries Clear h = refl
+lock_inside own timed retries GiveUp h = refl
+lock_inside own timed retries First h = absurd cc
+lock_inside own timed retries at h = absurd cc
+
+owes_means : (p : Place) (l : ℕ) (r : ℕ → Rights) → owes_on p l ≡ true
+    → (inside p ≡ Some l) ⊎ ((act_of p ≡ act.TheVariants.Enter (One (2 * l))) × ((call_state p r).purpose ≡ Some (Releases l Exclusive false)))
+owes_means Idle l r h = absurd cc
+owes_means (Mutex own (Lock timed retries at)) l r h = let g = own_lock (lock_owes at) own l h in inl (lock_inside own timed retries at g.0 ∙ ap Some g.1)
+owes_means (Mutex own TryLock) l r h = absurd cc
+owes_means (Mutex own (Unlock unlock.Subtract)) l r h = absurd cc
+owes_means (Mutex own (Unlock unlock.Enter)) l r h = let e : own ≡ l = eqb-true own l h in inr (ap (λ k. act.TheVariants.Enter (One (2 * k))) e, ap (λ k. Some (Releases k Exclusive false)) e)
+owes_means (Mutex own (Unlock unlock.Take)) l r h = inl (ap Some (eqb-true own l h))
+owes_means (Mutex own (Unlock (unlock.Clear taken))) l r h = inl (ap Some (eqb-true own l h))
+owes_means (Mutex own (Unlock (unlock.Leave taken))) l r h = inl (ap Some (eqb-true own l h))
+
+inside_owes : (p : Place) (l : ℕ) → inside p ≡ Some l → owes_on p l ≡ true
+inside_owes (Mutex own (Lock timed retries Check)) l h = let e : own ≡ l = cc in rw e (same l)
+inside_owes (Mutex own (Lock timed retries (Leave parked))) l h = let e : own ≡ l = cc in rw e (same l)
+inside_owes (Mutex own (Lock timed retries Remove)) l h = let e : own ≡ l = cc in rw e (same l)
+inside_owes (Mutex own (Lock timed retries Clear)) l h = let e : own ≡ l = cc in rw e (same l)
+inside_owes (Mutex own (Lock timed retries GiveUp)) l h = let e : own ≡ l = cc in rw e (same l)
+inside_owes (Mutex own (Unlock unlock.Take)) l h = let e : own ≡ l = cc in rw e (same l)
+inside_owes (Mutex own (Unlock (unlock.Clear taken))) l h = let e : own ≡ l = cc in rw e (same l)
+inside_owes (Mutex own (Unlock (unlock.Leave taken))) l h = let e : own ≡ l = cc in rw e (same l)
+inside_owes p l h = absurd cc
+
+release_on_its_way : (p : Place) (l : ℕ) (r : ℕ → Rights) → act_of p ≡ act.TheVariants.Enter (One (2 * l)) → (call_state p r).purpose ≡ Some (Releases l Exclusive false) → owes_on p l ≡ true
+release_on_its_way Idle l r h g = absurd cc
+release_on_its_way (Mutex own (Lock timed retries at)) l r h g = absurd cc
+release_on_its_way (Mutex own TryLock) l r h g = absurd cc
+release_on_its_way (Mutex own (Unlock unlock.Enter)) l r h g = let e : own ≡ l = cc in rw e (same l)
+release_on_its_way (Mutex own (Unlock unlock.Subtract)) l r h g = absurd cc
+release_on_its_way (Mutex own (Unlock at)) l r h g = absurd cc
+
+-- who is shown to try again does
+lock_shown : (own : ℕ) (retries : Bool) (l : ℕ) → ((retries && (own == l)) ≡ true) ↔ ((if retries then Some own else None) ≡ Some l)
+lock_shown own true l = ((λ h. ap Some (eqb-true own l h)), λ h. let e : own ≡ l = cc in rw e (same l))
+lock_shown own false l = ((λ h. absurd cc), λ h. absurd cc)
+
+retry_shown : (p : Place) (l : ℕ) (r : ℕ → Rights) → (retries_on p l ≡ true) ↔ ((call_state p r).retries ≡ Some l)
+retry_shown Idle l r = ((λ h. absurd cc), λ h. absurd cc)
+retry_shown (Mutex own (Lock timed retries at)) l r = lock_shown own retries l
+retry_shown (Mutex own TryLock) l r = ((λ h. absurd cc), λ h. absurd cc)
+retry_shown (Mutex own (Unlock at)) l r = ((λ h. absurd cc), λ h. absurd cc)
 
 -- and stands in no queue, nor is it asleep
 asleep_no : (l : ℕ) (retries : Bool) (k : ℕ) → (if retries && false then Some l else None) ≡ Some k → ⊥
@@ -103,9 +196,14 @@ debtor_awake (Mutex l (Lock timed retries a)) k (inr h) e = lock_awake l timed r
 debtor_awake (Mutex l TryLock) k d e = cc
 debtor_awake (Mutex l (Unlock a)) k d e = unlock_awake l a e
 
-at_most_one : (o : Option ℕ) (l : ℕ) → one_if o l ≤ 1
-at_most_one None l = omega arith
-at_most_one (Some j) l = grind (arith, nat_tests)
+-- and it isn't taken
+untaken : (p : Place) (l : ℕ) → act_of p ≢ Sleep → taken_at p l ≡ None
+untaken Idle l up = refl
+untaken (Mutex k (Lock timed retries (Taken by))) l up = absurd (up refl)
+untaken (Mutex k (Lock timed retries First)) l up = refl
+untaken (Mutex k (Lock timed retries a)) l up = refl
+untaken (Mutex k TryLock) l up = refl
+untaken (Mutex k (Unlock a)) l up = refl
 
 parked_word : (v : ℕ) (o : Option ℕ) → Codes v o → 2 ≤ v → is_parked v ≡ true
 parked_word v None (inl e) h = absurd (omega arith)
@@ -113,20 +211,40 @@ parked_word v None (inr e) h = rw e refl
 parked_word v (Some u) (inl e) h = absurd (omega arith)
 parked_word v (Some u) (inr e) h = rw e refl
 
-module _ (w : State) (sound : IsSound w) where
+module _ (w : State) (sound : IsSound w) (only : OnlyMutexes w) (all : AreLockStates (locks_of w)) where
   waiting : (t l : ℕ) → WaitsFor w t l → queued (place_at w t) ≡ Some l
-  waiting t l h = stands_at (queued (place_at w t)) l (subst (λ n. 1 ≤ n) (sound.queues t l) h)
+  waiting t l h = stands_at (queued (place_at w t)) l (subst (λ n. 1 ≤ n) (queued_times t (queue_at w (2 * l)) ∙ sound.queues t l) h)
+
+  debtor : (l : ℕ) → (u : ℕ) × Debtor (place_at w u) l → IsLookedAfter w l
+  debtor l d = let up : act_of (place_at w d.0) ≢ Sleep = debtor_awake (place_at w d.0) l d.1 in record {
+    debtor = d.0;
+    debt = debt_is (place_at w d.0) l (λ k. rights_of (lock_state w k) d.0) d.1;
+    awake = up;
+    stands_nowhere = λ k. stands_by w d.0 sound only k ∙ rw (debtor_unqueued (place_at w d.0) l d.1, untaken (place_at w d.0) k up) refl;
+  }
+
+  owes_so : (t l : ℕ) → (inside (place_at w t) ≡ Some l) ⊎ GoesToWake w t l → (section_at w (2 * l) ≡ Some t) ⊎ GoesToWake w t l
+  owes_so t l (inl h) = inl ((sound.sections t l).0 h)
+  owes_so t l (inr h) = inr h
+
+  owes_by : (t l : ℕ) → (section_at w (2 * l) ≡ Some t) ⊎ GoesToWake w t l → owes_on (place_at w t) l ≡ true
+  owes_by t l (inl h) = inside_owes (place_at w t) l ((sound.sections t l).1 h)
+  owes_by t l (inr h) = release_on_its_way (place_at w t) l (λ k. rights_of (lock_state w k) t) h.0 h.1
 
   pub kept : IsKept w
   kept = record {
+    state = all;
+    one_place = λ t. one_place w t sound only;
+    waiting = λ t l h. waits_by (place_at w t) l (λ k. rights_of (lock_state w k) t) (subst (λ n. 1 ≤ n) (stands_by w t sound only l) h);
     coded = sound.codes;
-    nobody_forgotten = λ t l h free.
-        let d : (u : ℕ) × Debtor (place_at w u) l = sound.owed t l (waiting t l h) free in
-        record { debtor = d.0; debt = debt_shown (place_at w d.0) l d.1; awake = debtor_awake (place_at w d.0) l d.1; in_no_queue = λ k. sound.queues d.0 k ∙ ap (λ o. one_if o k) (debtor_unqueued (place_at w d.0) l d.1) };
+    nobody_forgotten = λ t l h free. debtor l (sound.owed t l (waiting t l h) free);
+    owing = λ t l. ((λ h. owes_so t l (owes_means (place_at w t) l (λ k. rights_of (lock_state w k) t) h)), λ h. owes_by t l h);
+    retrying = λ t l. retry_shown (place_at w t) l (λ k. rights_of (lock_state w k) t);
     parked = λ t l h. parked_word (word_at w l) (owner_at w l) (sound.codes l) (sound.parked t l (waiting t l h));
-    one_queue = λ t l k h g. let a : queued (place_at w t) ≡ Some l = waiting t l h in let b : queued (place_at w t) ≡ Some k = waiting t k g in cc;
-    once = λ t l. rw (sound.queues t l) (at_most_one (queued (place_at w t)) l);
   }
+
+pub kept_after : (w : State) (s : Step) → IsShaped w → IsSound w → OnlyMutexes w → AreLockStates (locks_of w) → IsKept (after w s)
+kept_after w s shape sound only all = kept (after w s) (after_sound w s shape sound) (after_only w s only) (after_locks w s shape sound only all)
 
 -- ---------------------------------------------------------------- runs
 
@@ -138,45 +256,53 @@ pub all_sound : (w : State) (ss : List Step) → IsShaped w → IsSound w → Is
 all_sound w [] shape sound = sound
 all_sound w (s ∷ ss) shape sound = all_sound (after w s) ss (after_shaped w s shape) (after_sound w s shape sound)
 
-pub kept_throughout : (w : State) (ss : List Step) → IsShaped w → IsSound w → IsKeptThroughout w ss
-kept_throughout w ss shape sound n = kept (after_all w (take n ss)) (all_sound w (take n ss) shape sound)
+pub all_only : (w : State) (ss : List Step) → OnlyMutexes w → OnlyMutexes (after_all w ss)
+all_only w [] only = only
+all_only w (s ∷ ss) only = all_only (after w s) ss (after_only w s only)
+
+pub all_locks : (w : State) (ss : List Step) → IsShaped w → IsSound w → OnlyMutexes w → AreLockStates (locks_of w) → AreLockStates (locks_of (after_all w ss))
+all_locks w [] shape sound only all = all
+all_locks w (s ∷ ss) shape sound only all = all_locks (after w s) ss (after_shaped w s shape) (after_sound w s shape sound) (after_only w s only) (after_locks w s shape sound only all)
+
+pub kept_throughout : (w : State) (ss : List Step) → IsShaped w → IsSound w → OnlyMutexes w → AreLockStates (locks_of w) → IsKeptThroughout w ss
+kept_throughout w ss shape sound only all n = let now : State = after_all w (take n ss) in
+    kept now (all_sound w (take n ss) shape sound) (all_only w (take n ss) only) (all_locks w (take n ss) shape sound only all)
 
 -- ---------------------------------------------------------------- the opening state
-
-idle_at : (n t : ℕ) → get_or (replicate n Idle) t Idle ≡ Idle
-idle_at zero t = refl
-idle_at (suc n) zero = refl
-idle_at (suc n) (suc t) = idle_at n t
-
-none_at : (n k : ℕ) → get_or (replicate {A = Option ℕ} n None) k None ≡ None
-none_at zero k = refl
-none_at (suc n) zero = refl
-none_at (suc n) (suc k) = none_at n k
-
-empty_at : (n k : ℕ) → get_or (replicate {A = List Waiter} n []) k [] ≡ []
-empty_at zero k = refl
-empty_at (suc n) zero = refl
-empty_at (suc n) (suc k) = empty_at n k
 
 word_0 : (kinds : List Kind) (l : ℕ) → (get_or (map unlocked kinds) l (unlocked kind.TheVariants.Mutex)).word ≡ 0
 word_0 [] l = refl
 word_0 (x ∷ xs) zero = refl
 word_0 (x ∷ xs) (suc l) = word_0 xs l
 
-owner_none : (kinds : List Kind) (l : ℕ) → (get_or (map unlocked kinds) l (unlocked kind.TheVariants.Mutex)).owners.exclusive ≡ None
-owner_none [] l = refl
-owner_none (x ∷ xs) zero = refl
-owner_none (x ∷ xs) (suc l) = owner_none xs l
+nobody_owns : (kinds : List Kind) (l : ℕ) → (get_or (map unlocked kinds) l (unlocked kind.TheVariants.Mutex)).owners ≡ nobody
+nobody_owns [] l = refl
+nobody_owns (x ∷ xs) zero = refl
+nobody_owns (x ∷ xs) (suc l) = nobody_owns xs l
 
 pub opening_sound : (kinds : List Kind) (threads : ℕ) → IsSound (opening kinds threads)
 opening_sound kinds threads = record {
   sections = λ t k. rw (idle_at threads t, none_at (2 * length kinds) (2 * k)) (λ h. absurd cc, λ h. absurd cc);
   queues = λ t k. rw (idle_at threads t, empty_at (2 * length kinds) (2 * k)) refl;
-  codes = λ k. rw (word_0 kinds k, owner_none kinds k) (inl refl);
+  codes = λ k. rw (word_0 kinds k, ap (λ o. o.exclusive) (nobody_owns kinds k)) (inl refl);
   parked = λ t k h. let i : queued (place_at (opening kinds threads) t) ≡ None = ap queued (idle_at threads t) in absurd cc;
   held = λ t k h. let i : holds (place_at (opening kinds threads) t) ≡ None = ap holds (idle_at threads t) in absurd cc;
   emptied = λ t k h. let i : finds_empty (place_at (opening kinds threads) t) ≡ None = ap finds_empty (idle_at threads t) in absurd cc;
   carried = λ t u k h. absurd (let g : Carries Idle u k = rw (idle_at threads t) at h in g);
-  taken = λ u t k h. absurd (let g : InHand Idle t k = rw (idle_at threads u) at h in g);
+  taken = λ u t k h. absurd (let g : IsTakenBy Idle t k = rw (idle_at threads u) at h in g);
   owed = λ t k h free. let i : queued (place_at (opening kinds threads) t) ≡ None = ap queued (idle_at threads t) in absurd cc;
+}
+
+-- ---------------------------------------------------------------- the opening state, of the abstract locks
+
+opening_state : (kinds : List Kind) (threads l : ℕ) → lock_state (opening kinds threads) l ≡ opening_lock (length (opening kinds threads).places)
+opening_state kinds threads l = λ i. lock_seen (length (opening kinds threads).places) (nobody_owns kinds l i) (empty_at (2 * length kinds) (2 * l) i) (empty_at (2 * length kinds) (2 * l + 1) i) (λ u. taken_at (idle_at threads u i) l)
+
+pub opening_locks : (kinds : List Kind) (threads : ℕ) → AreLockStates (locks_of (opening kinds threads))
+opening_locks kinds threads l = rw (opening_state kinds threads l) (opening_is_state (rules_of (kind_at (opening kinds threads) l)) (length (opening kinds threads).places))
+
+pub opening_is : (kinds : List Kind) (threads : ℕ) → IsOpening (locks_of (opening kinds threads))
+opening_is kinds threads = record {
+  locks = opening_state kinds threads;
+  calls = λ t. ap (λ p. call_state p (λ l. rights_of (lock_state (opening kinds threads) l) t)) (idle_at threads t);
 }

@@ -1,10 +1,13 @@
 -- The lines of a world's keys, cut out of one list of waiters.
 use Rattle.std.proofs.Common.{ℕ, zero, suc, ◌≡◌, ◌≢◌, ◌+◌, ◌<◌, List, [], ◌∷◌, ◌++◌, length, refl, sym, ap, subst, ◌∙◌, arith, drop}
 use Rattle.std.specs.Prelude.{map, replicate, slice_set, slice_index_or}
-use Rattle.std.proofs.lemmas.Bool.Decides.{nat_tests}
+use Rattle.std.proofs.lemmas.Bool.Decides.{nat_tests, Decides-eqb}
 use Rattle.parking_lot_core.specs.declared.wants.Waiter.{Waiter}
 use Rattle.parking_lot_core.specs.declared.wants.Want.{Want}
 use Rattle.parking_lot_core.specs.Lines.{line, lines, waiter, without, without_first}
+use Rattle.std.specs.Prelude.{◌==◌}
+use Rattle.std.proofs.lemmas.List.Elements.{filter_passes}
+use Rattle.lot_world.specs.Views.{StandUnder}
 use Rattle.lot_world.specs.Machine.{lines_from, appended, first_taken, removed}
 
 -- the line of a key is the one at its place
@@ -107,6 +110,10 @@ lines_taken n key xs ys h e = lines_same 0 n ys (without_first key xs) e ∙ lin
 
 pub line_here : (n key : ℕ) (xs : List Waiter) → key < n → slice_index_or (lines_from 0 n xs) key [] ≡ line key xs
 line_here n key xs h = line_at 0 n key xs h ∙ ap (λ k. line k xs) (omega arith)
+
+-- whoever stands in a line has its key
+pub line_keyed : (key : ℕ) (xs : List Waiter) → StandUnder key (line key xs)
+line_keyed key xs = λ k d h. (Decides-eqb (slice_index_or (line key xs) k d).key key).0 (filter_passes (λ (x : Waiter). x.key == key) xs k d h)
 
 -- what a removal does to the lines
 pub lines_removed : (n t : ℕ) (xs ys : List Waiter) → lines ys ≡ lines (without t xs) → lines_from 0 n ys ≡ removed (lines_from 0 n xs) t

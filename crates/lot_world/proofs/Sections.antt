@@ -5,7 +5,7 @@ use Rattle.std.proofs.lemmas.Bool.Decides.{nat_tests}
 use Rattle.parking_lot_core.specs.declared.wants.Waiter.{Waiter}
 use Rattle.parking_lot_core.specs.Lines.{times}
 use Rattle.lot_steps.specs.declared.places.Place.{Place}
-use Rattle.lot_world.specs.Sound.{Sound, Nobody, InHand, Carries, Debtor, one_if, inside, queued, holds, finds_empty}
+use Rattle.lot_world.specs.Sound.{Sound, Nobody, IsTakenBy, Carries, Debtor, one_if, inside, queued, holds, finds_empty}
 use Rattle.lot_world.proofs.Keeps.{Changed}
 
 one_if_same : (k : ℕ) → one_if (Some k) k ≡ 1
@@ -24,7 +24,7 @@ module _ (at at2 : ℕ → Place) (word : ℕ → ℕ) (owner : ℕ → Option �
     (place : Changed at at2 t p2) (section : Changed sec sec2 l (Some t)) (free : sec l ≡ None)
     (in_now : inside p2 ≡ Some l) (out_before : inside (at t) ≡ None) (queued_stays : queued p2 ≡ queued (at t)) (no_hold : holds p2 ≡ None) (no_empty : finds_empty p2 ≡ None)
     (debts : (k : ℕ) → Debtor (at t) k → Debtor p2 k) (no_carry : (u k : ℕ) → Carries (at t) u k → ⊥) (no_carry_now : (u k : ℕ) → Carries p2 u k → ⊥)
-    (no_hand : (s k : ℕ) → InHand (at t) s k → ⊥) (no_hand_now : (s k : ℕ) → InHand p2 s k → ⊥) where
+    (no_hand : (s k : ℕ) → IsTakenBy (at t) s k → ⊥) (no_hand_now : (s k : ℕ) → IsTakenBy p2 s k → ⊥) where
   queued_same : (u : ℕ) → queued (at2 u) ≡ queued (at u)
   queued_same u = elim (cases_eq u t) [
     | inl e ↦ rw e (ap queued place.here ∙ queued_stays)
@@ -59,7 +59,7 @@ module _ (at at2 : ℕ → Place) (word : ℕ → ℕ) (owner : ℕ → Option �
     ];
     carried = λ s u k h. elim (cases_eq s t) [
       | inl e ↦ absurd (no_carry_now u k (rw (e, place.here) at h))
-      | inr ne ↦ let hand : InHand (at u) s k = sound.carried s u k (rw (place.other s ne) at h) in
+      | inr ne ↦ let hand : IsTakenBy (at u) s k = sound.carried s u k (rw (place.other s ne) at h) in
           elim (cases_eq u t) [
             | inl e ↦ absurd (no_hand s k (rw e at hand))
             | inr nu ↦ rw (place.other u nu) hand
@@ -89,7 +89,7 @@ module _ (at at2 : ℕ → Place) (word : ℕ → ℕ) (owner : ℕ → Option �
     (place : Changed at at2 t p2) (section : Changed sec sec2 l None)
     (in_before : inside (at t) ≡ Some l) (out_now : inside p2 ≡ None) (queued_stays : queued p2 ≡ queued (at t)) (no_hold : holds p2 ≡ None) (no_empty : finds_empty p2 ≡ None)
     (debts : (k : ℕ) → Debtor (at t) k → Debtor p2 k ⊎ Nobody at k) (no_carry : (u k : ℕ) → Carries (at t) u k → ⊥) (no_carry_now : (u k : ℕ) → Carries p2 u k → ⊥)
-    (no_hand : (s k : ℕ) → InHand (at t) s k → ⊥) (no_hand_now : (s k : ℕ) → InHand p2 s k → ⊥) where
+    (no_hand : (s k : ℕ) → IsTakenBy (at t) s k → ⊥) (no_hand_now : (s k : ℕ) → IsTakenBy p2 s k → ⊥) where
   left_queued : (u : ℕ) → queued (at2 u) ≡ queued (at u)
   left_queued u = elim (cases_eq u t) [
     | inl e ↦ rw e (ap queued place.here ∙ queued_stays)
@@ -124,7 +124,7 @@ module _ (at at2 : ℕ → Place) (word : ℕ → ℕ) (owner : ℕ → Option �
     ];
     carried = λ s u k h. elim (cases_eq s t) [
       | inl e ↦ absurd (no_carry_now u k (rw (e, place.here) at h))
-      | inr ne ↦ let hand : InHand (at u) s k = sound.carried s u k (rw (place.other s ne) at h) in
+      | inr ne ↦ let hand : IsTakenBy (at u) s k = sound.carried s u k (rw (place.other s ne) at h) in
           elim (cases_eq u t) [
             | inl e ↦ absurd (no_hand s k (rw e at hand))
             | inr nu ↦ rw (place.other u nu) hand
@@ -156,9 +156,9 @@ module _ (at at2 : ℕ → Place) (word : ℕ → ℕ) (owner : ℕ → Option �
     (here : at2 t ≡ p2) (there : at2 v ≡ v2) (other : (u : ℕ) → u ≢ t → u ≢ v → at2 u ≡ at u) (section : Changed sec sec2 l None)
     (in_before : inside (at t) ≡ Some l) (out_now : inside p2 ≡ None) (queued_stays : queued p2 ≡ queued (at t)) (no_hold : holds p2 ≡ None) (no_empty : finds_empty p2 ≡ None)
     (own : (k : ℕ) → Debtor (at t) k → k ≡ l) (only : (u k : ℕ) → Carries (at t) u k → u ≡ v) (no_carry_now : (u k : ℕ) → Carries p2 u k → ⊥)
-    (no_hand : (s k : ℕ) → InHand (at t) s k → ⊥) (no_hand_now : (s k : ℕ) → InHand p2 s k → ⊥)
+    (no_hand : (s k : ℕ) → IsTakenBy (at t) s k → ⊥) (no_hand_now : (s k : ℕ) → IsTakenBy p2 s k → ⊥)
     (v_inside : inside v2 ≡ inside (at v)) (v_queued : queued v2 ≡ queued (at v)) (v_holds : holds v2 ≡ None) (v_empty : finds_empty v2 ≡ None)
-    (v_carries : (u k : ℕ) → Carries v2 u k → ⊥) (v_carried : (u k : ℕ) → Carries (at v) u k → ⊥) (v_hand : (s k : ℕ) → InHand v2 s k → ⊥) (v_mine : (s k : ℕ) → InHand (at v) s k → s ≡ t)
+    (v_carries : (u k : ℕ) → Carries v2 u k → ⊥) (v_carried : (u k : ℕ) → Carries (at v) u k → ⊥) (v_hand : (s k : ℕ) → IsTakenBy v2 s k → ⊥) (v_mine : (s k : ℕ) → IsTakenBy (at v) s k → s ≡ t)
     (v_debts : (k : ℕ) → Debtor (at v) k → Debtor v2 k) (v_retries : Debtor v2 l) where
   wakes_queued : (u : ℕ) → queued (at2 u) ≡ queued (at u)
   wakes_queued u = elim (cases_eq u t) [
@@ -211,7 +211,7 @@ module _ (at at2 : ℕ → Place) (word : ℕ → ℕ) (owner : ℕ → Option �
       | inl e ↦ absurd (no_carry_now u k (rw (e, here) at h))
       | inr ne ↦ elim (cases_eq s v) [
         | inl e ↦ absurd (v_carries u k (rw (e, there) at h))
-        | inr nv ↦ let hand : InHand (at u) s k = sound.carried s u k (rw (other s ne nv) at h) in
+        | inr nv ↦ let hand : IsTakenBy (at u) s k = sound.carried s u k (rw (other s ne nv) at h) in
             elim (cases_eq u t) [
               | inl e ↦ absurd (no_hand s k (rw e at hand))
               | inr nu ↦ elim (cases_eq u v) [

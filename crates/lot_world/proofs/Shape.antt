@@ -1,5 +1,5 @@
 -- Each step keeps the shape of a state: its numbers go on naming threads, locks and keys that are there.
-use Rattle.std.proofs.Common.{ℕ, zero, suc, Bool, true, false, cond, Option, Some, None, if◌then◌else◌, ◌==◌, ◌&&◌, not, nat_lt, ◌≡◌, ◌*◌, ◌≤◌, ◌<◌, List, [], ◌∷◌, ◌++◌, length, get_or, set, map, drop, refl, ◌∙◌, length-set, replicate}
+use Rattle.std.proofs.Common.{ℕ, zero, suc, Bool, true, false, cond, Option, Some, None, if◌then◌else◌, ◌==◌, ◌&&◌, not, nat_lt, ◌≡◌, ◌*◌, ◌≤◌, ◌<◌, List, [], ◌∷◌, ◌++◌, length, get_or, set, map, drop, refl, ◌∙◌, length-set, replicate, arith}
 use Rattle.std.proofs.lemmas.List.{length-replicate}
 use Rattle.std.proofs.lemmas.Bool.{ltb-true}
 use Rattle.std.proofs.lemmas.List.{length-map}
@@ -48,6 +48,13 @@ set_all P (x ∷ xs) zero y d p h zero = p
 set_all P (x ∷ xs) zero y d p h (suc j) = h (suc j)
 set_all P (x ∷ xs) (suc i) y d p h zero = h zero
 set_all P (x ∷ xs) (suc i) y d p h (suc j) = set_all P xs i y d p (λ k. h (suc k)) j
+
+-- a lock's main key has its section and its queue
+pub main_key_there : (w : State) (l : ℕ) → IsShaped w → l < length w.locks → 2 * l < length w.sections
+main_key_there w l s lt = let n : length w.sections ≡ 2 * length w.locks = s.sections in omega arith
+
+pub main_line_there : (w : State) (l : ℕ) → IsShaped w → l < length w.locks → 2 * l < length w.queues
+main_line_there w l s lt = let m : length w.queues ≡ length w.sections = s.queues in let key : 2 * l < length w.sections = main_key_there w l s lt in omega arith
 
 -- ---------------------------------------------------------------- waiters
 

@@ -39,8 +39,8 @@ use Rattle.lot_steps.specs.Kinds.{has_call}
 use Rattle.lot_world.specs.Machine.{State, unlocked, place_at, word_at, owners_at, kind_at, section_at, is_free, put, operated, filled_with, appended, first_taken, removed, befallen, taken_by, performed, reply_to, can_do, begun, can_begin, is_open_to, spun_on, late_on, is_free_under, turned, can_turn, is_possible, after}
 use Rattle.lot_world.specs.Fits.{IsShaped, PlaceFits, SomeBelow}
 use Rattle.lot_world.specs.Promises.{Codes}
-use Rattle.lot_world.specs.Sound.{Sound, IsSound, Nobody, InHand, Carries, Debtor, one_if, inside, queued, holds, finds_empty, releases, owner_at, main_section, main_queue}
-use Rattle.lot_world.proofs.Shape.{both}
+use Rattle.lot_world.specs.Sound.{Sound, IsSound, Nobody, IsTakenBy, Carries, Debtor, one_if, inside, queued, holds, finds_empty, releases, owner_at, main_section, main_queue}
+use Rattle.lot_world.proofs.Shape.{both, main_key_there, main_line_there}
 use Rattle.lot_world.proofs.Keeps.{Changed, WordFits, word_keeps}
 use Rattle.lot_world.proofs.Counts.{without_absent, first_times, none_first}
 use Rattle.lot_world.proofs.Words as words
@@ -85,25 +85,38 @@ none_is None h = refl
 none_is (Some y) h = absurd cc
 
 -- a thread in a hand
-record IsTaken (p : Place) (t l : ℕ) : Type 0 where
+pub record IsTakenAt (p : Place) (t l : ℕ) : Type 0 where
   pub timed : Bool
   pub retries : Bool
   pub is : p ≡ Mutex l (Lock timed retries (Taken t))
 
-in_hand : (p : Place) (t l : ℕ) → InHand p t l → IsTaken p t l
+pub in_hand : (p : Place) (t l : ℕ) → IsTakenBy p t l → IsTakenAt p t l
 in_hand (Mutex k (Lock timed retries (Taken by))) t l h = record { timed = timed; retries = retries; is = rw (h.0, h.1) refl }
 in_hand p t l h = absurd h
+
+pub idle_is : (p : Place) → is_idle p ≡ true → p ≡ Idle
+idle_is Idle h = refl
+idle_is (Mutex l at) h = absurd cc
+
+-- whoever stands in a queue is there
+pub stood : (l : ℕ) (xs : List Place) (u : ℕ) → queued (get_or xs u Idle) ≡ Some l → u < length xs
+stood l [] zero h = absurd cc
+stood l [] (suc u) h = absurd cc
+stood l (x ∷ xs) zero h = omega arith
+stood l (x ∷ xs) (suc u) h = let ih : u < length xs = stood l xs u h in omega arith
+
+-- a thread that stands nowhere leaves no queue
+module _ (w : State) (t : ℕ) (sound : IsSound w) (nowhere : queued (place_at w t) ≡ None) where
+  pub absent : (k : ℕ) → times t (main_queue w k) ≡ 0
+  absent k = sound.queues t k ∙ ap (λ o. one_if o k) nowhere
+
+  pub same_without : (k : ℕ) → get_or (map (without t) w.queues) (2 * k) [] ≡ main_queue w k
+  same_without k = get_or-map (without t) w.queues (2 * k) [] ∙ without_absent t (main_queue w k) (absent k)
 
 module _ (w : State) (t : ℕ) (shape : IsShaped w) (sound : IsSound w) (there : t < length w.places) (p : Place) (e : p ≡ place_at w t) where
   -- where the parked bit is clear nobody stands in the queue
   unparked : (l : ℕ) → word_at w l < 2 → Nobody (place_at w) l
   unparked l lt s h = let b : 2 ≤ word_at w l = sound.parked s l h in omega arith
-
-  main_key_there : (l : ℕ) → l < length w.locks → 2 * l < length w.sections
-  main_key_there l lt = let n : length w.sections ≡ 2 * length w.locks = shape.sections in omega arith
-
-  main_line_there : (l : ℕ) → l < length w.locks → 2 * l < length w.queues
-  main_line_there l lt = let n : length w.sections ≡ 2 * length w.locks = shape.sections in let m : length w.queues ≡ length w.sections = shape.queues in omega arith
 
   word_sound : (l : ℕ) (f : Op) → l < length w.locks → WordFits (place_at w) t l p (next_place p (Value (word_at w l))) (apply f (word_at w l)) (owner_at w l) (words.owner_after p t (word_at w l) (owner_at w l)) → IsSound (go_by w t p (act.TheVariants.Word l f))
   word_sound l f lt fits = word_keeps (place_at w) _ (word_at w) _ (owner_at w) _ (main_section w) (main_queue w) sound t l _ _ _
@@ -118,17 +131,17 @@ module _ (w : State) (t : ℕ) (shape : IsShaped w) (sound : IsSound w) (there :
       (changed_set (λ x. x) w.places t _ Idle there) (unchanged (word_at w) l) (unchanged (owner_at w) l) (rw (← e) fits)
 
   enter_sound : (l : ℕ) → l < length w.locks → is_free w (2 * l) ≡ true → (p2 : Place) → inside p2 ≡ Some l → inside p ≡ None → queued p2 ≡ queued p → holds p2 ≡ None → finds_empty p2 ≡ None
-      → ((k : ℕ) → Debtor p k → Debtor p2 k) → ((u k : ℕ) → Carries p u k → ⊥) → ((u k : ℕ) → Carries p2 u k → ⊥) → ((s k : ℕ) → InHand p s k → ⊥) → ((s k : ℕ) → InHand p2 s k → ⊥)
+      → ((k : ℕ) → Debtor p k → Debtor p2 k) → ((u k : ℕ) → Carries p u k → ⊥) → ((u k : ℕ) → Carries p2 u k → ⊥) → ((s k : ℕ) → IsTakenBy p s k → ⊥) → ((s k : ℕ) → IsTakenBy p2 s k → ⊥)
       → IsSound (put (filled_with w (One (2 * l)) (Some t)) t p2)
   enter_sound l lt free p2 i o q h f d c c2 n n2 = enter_keeps (place_at w) _ (word_at w) (owner_at w) (main_section w) _ (main_queue w) sound t l p2
-      (changed_set (λ x. x) w.places t p2 Idle there) (changed_main w.sections l (Some t) None (main_key_there l lt)) (none_is (section_at w (2 * l)) free)
+      (changed_set (λ x. x) w.places t p2 Idle there) (changed_main w.sections l (Some t) None (main_key_there w l shape lt)) (none_is (section_at w (2 * l)) free)
       i (ap inside (sym e) ∙ o) (q ∙ ap queued e) h f (rw (← e) d) (rw (← e) c) c2 (rw (← e) n) n2
 
   leave_sound : (l : ℕ) → l < length w.locks → (p2 : Place) → inside p ≡ Some l → inside p2 ≡ None → queued p2 ≡ queued p → holds p2 ≡ None → finds_empty p2 ≡ None
-      → ((k : ℕ) → Debtor p k → Debtor p2 k ⊎ Nobody (place_at w) k) → ((u k : ℕ) → Carries p u k → ⊥) → ((u k : ℕ) → Carries p2 u k → ⊥) → ((s k : ℕ) → InHand p s k → ⊥) → ((s k : ℕ) → InHand p2 s k → ⊥)
+      → ((k : ℕ) → Debtor p k → Debtor p2 k ⊎ Nobody (place_at w) k) → ((u k : ℕ) → Carries p u k → ⊥) → ((u k : ℕ) → Carries p2 u k → ⊥) → ((s k : ℕ) → IsTakenBy p s k → ⊥) → ((s k : ℕ) → IsTakenBy p2 s k → ⊥)
       → IsSound (put (filled_with w (One (2 * l)) None) t p2)
   leave_sound l lt p2 i o q h f d c c2 n n2 = leave_keeps (place_at w) _ (word_at w) (owner_at w) (main_section w) _ (main_queue w) sound t l p2
-      (changed_set (λ x. x) w.places t p2 Idle there) (changed_main w.sections l None None (main_key_there l lt))
+      (changed_set (λ x. x) w.places t p2 Idle there) (changed_main w.sections l None None (main_key_there w l shape lt))
       (ap inside (sym e) ∙ i) o (q ∙ ap queued e) h f (rw (← e) d) (rw (← e) c) c2 (rw (← e) n) n2
 
   -- a release leaves and wakes the one that it took
@@ -138,21 +151,21 @@ module _ (w : State) (t : ℕ) (shape : IsShaped w) (sound : IsSound w) (there :
       carries : Carries (place_at w t) v l
       carries = rw (← e, is) (refl, refl)
 
-      hand : InHand (place_at w v) t l
+      hand : IsTakenBy (place_at w v) t l
       hand = sound.carried t v l carries
 
       apart : v ≢ t
-      apart same = let g : InHand (place_at w t) t l = rw same at hand in let h : InHand (Mutex l (Unlock (unlock.Leave (Some v)))) t l = rw (← e, is) at g in h
+      apart same = let g : IsTakenBy (place_at w t) t l = rw same at hand in let h : IsTakenBy (Mutex l (Unlock (unlock.Leave (Some v)))) t l = rw (← e, is) at g in h
 
       own : (k : ℕ) → Debtor (Mutex l (Unlock (unlock.Leave (Some v)))) k → k ≡ l
       own k d = elim d [ inl h ↦ cc | inr h ↦ absurd cc ]
 
-      by_taken : IsTaken (place_at w v) t l → IsSound (put (befallen (filled_with w (One (2 * l)) None) v (Woken Normal)) t Idle)
+      by_taken : IsTakenAt (place_at w v) t l → IsSound (put (befallen (filled_with w (One (2 * l)) None) v (Woken Normal)) t Idle)
       by_taken k = wake_keeps (place_at w) _ (word_at w) (owner_at w) (main_section w) _ (main_queue w) sound t l v Idle (Mutex l (Lock k.timed true Load)) apart
           (get_or-set_same (set w.places v _) t Idle Idle (rw length-set there))
           (get_or-set_other (set w.places v _) t v Idle Idle apart ∙ get_or-set_same w.places v _ Idle fits ∙ rw k.is refl)
           (λ u nt nv. get_or-set_other (set w.places v _) t u Idle Idle nt ∙ get_or-set_other w.places v u _ Idle nv)
-          (changed_main w.sections l None None (main_key_there l lt))
+          (changed_main w.sections l None None (main_key_there w l shape lt))
           (rw (← e, is) refl) refl (rw (← e, is) refl) refl refl
           (rw (← e, is) own) (rw (← e, is) (λ u x h. sym h.0)) (λ u x h. h) (rw (← e, is) (λ s x h. h)) (λ s x h. h)
           (rw k.is refl) (rw k.is refl) refl refl
@@ -163,20 +176,13 @@ module _ (w : State) (t : ℕ) (shape : IsShaped w) (sound : IsSound w) (there :
           asleep_retries true x h = cc
           asleep_retries false x h = cc
 
-  -- a thread that stands nowhere leaves no line
-  stood_nowhere : queued p ≡ None → (k : ℕ) → times t (main_queue w k) ≡ 0
-  stood_nowhere none k = sound.queues t k ∙ ap (λ o. one_if o k) (ap queued (sym e) ∙ none)
-
-  same_without : queued p ≡ None → (k : ℕ) → get_or (map (without t) w.queues) (2 * k) [] ≡ main_queue w k
-  same_without none k = get_or-map (without t) w.queues (2 * k) [] ∙ without_absent t (main_queue w k) (stood_nowhere none k)
-
   park_sound : (l : ℕ) (timed retries : Bool) → p ≡ Mutex l (Lock timed retries Check) → l < length w.locks → IsSound (go_by w t p (act.TheVariants.Park l (2 * l) (WordIs 3) Exclusive))
   park_sound l timed retries is lt = either (word_at w l == 3) refl
     where
       behind : Changed (main_queue w) (λ k. get_or (appended w.queues (2 * l) t Exclusive) (2 * k) []) l (main_queue w l ++ waiter (2 * l) t Exclusive ∷ [])
       behind = record {
-        here = get_or-set_same (map (without t) w.queues) (2 * l) _ [] (rw (length-map w.queues (without t)) (main_line_there l lt)) ∙ ap (λ q. q ++ waiter (2 * l) t Exclusive ∷ []) (same_without (rw is refl) l);
-        other = λ j ne. get_or-set_other (map (without t) w.queues) (2 * l) (2 * j) _ [] (λ x. ne (omega arith)) ∙ same_without (rw is refl) j;
+        here = get_or-set_same (map (without t) w.queues) (2 * l) _ [] (rw (length-map w.queues (without t)) (main_line_there w l shape lt)) ∙ ap (λ q. q ++ waiter (2 * l) t Exclusive ∷ []) (same_without w t sound (ap queued (sym e) ∙ rw is refl) l);
+        other = λ j ne. get_or-set_other (map (without t) w.queues) (2 * l) (2 * j) _ [] (λ x. ne (omega arith)) ∙ same_without w t sound (ap queued (sym e) ∙ rw is refl) j;
       }
 
       same_debts : (k : ℕ) → Debtor (Mutex l (Lock timed retries Check)) k → Debtor (Mutex l (Lock timed (retries && not false) (Leave false))) k
@@ -220,14 +226,8 @@ module _ (w : State) (t : ℕ) (shape : IsShaped w) (sound : IsSound w) (there :
   stands : (l u : ℕ) → first_of (main_queue w l) ≡ Some u → queued (place_at w u) ≡ Some l
   stands l u first = stands_at (queued (place_at w u)) l (subst (λ n. 1 ≤ n) (sound.queues u l) (first_times u (main_queue w l) first))
 
-  placed : (l : ℕ) (xs : List Place) (u : ℕ) → queued (get_or xs u Idle) ≡ Some l → u < length xs
-  placed l [] zero h = absurd cc
-  placed l [] (suc u) h = absurd cc
-  placed l (x ∷ xs) zero h = omega arith
-  placed l (x ∷ xs) (suc u) h = let ih : u < length xs = placed l xs u h in omega arith
-
   first_gone : (l : ℕ) → l < length w.locks → Changed (main_queue w) (λ k. get_or (first_taken w.queues (2 * l)) (2 * k) []) l (drop 1 (main_queue w l))
-  first_gone l lt = changed_main w.queues l (drop 1 (main_queue w l)) [] (main_line_there l lt)
+  first_gone l lt = changed_main w.queues l (drop 1 (main_queue w l)) [] (main_line_there w l shape lt)
 
   -- nobody is there to be taken
   none_sound : (l : ℕ) → p ≡ Mutex l (Unlock unlock.Take) → l < length w.locks → main_queue w l ≡ [] → IsSound (put (record w { queues = first_taken w.queues (2 * l) }) t (Mutex l (Unlock (unlock.Clear None))))
@@ -254,13 +254,13 @@ module _ (w : State) (t : ℕ) (shape : IsShaped w) (sound : IsSound w) (there :
 
   -- u is taken, and goes into the hand of t
   took_sound : (l u : ℕ) → p ≡ Mutex l (Unlock unlock.Take) → l < length w.locks → first_of (main_queue w l) ≡ Some u → (p2 : Place) → inside p2 ≡ Some l → queued p2 ≡ None → holds p2 ≡ None
-      → ((k : ℕ) → finds_empty p2 ≡ Some k → (k ≡ l) × (drop 1 (main_queue w l) ≡ [])) → ((k : ℕ) → releases p2 ≡ Some l) → Carries p2 u l → ((s k : ℕ) → Carries p2 s k → (s ≡ u) × (k ≡ l)) → ((s k : ℕ) → InHand p2 s k → ⊥)
+      → ((k : ℕ) → finds_empty p2 ≡ Some k → (k ≡ l) × (drop 1 (main_queue w l) ≡ [])) → ((k : ℕ) → releases p2 ≡ Some l) → Carries p2 u l → ((s k : ℕ) → Carries p2 s k → (s ≡ u) × (k ≡ l)) → ((s k : ℕ) → IsTakenBy p2 s k → ⊥)
       → IsSound (put (befallen (record w { queues = first_taken w.queues (2 * l) }) u (TakenBy t)) t p2)
   took_sound l u is lt first p2 i q h f r c only n = elim (asleep (place_at w u) l (stands l u first)) [
     | inl within ↦ absurd (taker (alone (place_at w) (word_at w) (owner_at w) (main_section w) (main_queue w) sound t u l here_inside within))
     | inr rest ↦ take_keeps (place_at w) _ (word_at w) (owner_at w) (main_section w) (main_queue w) _ sound t l u p2 rest.timed rest.retries here_inside first (first_gone l lt) rest.is
         (get_or-set_same (set w.places u _) t p2 Idle (rw length-set there))
-        (get_or-set_other (set w.places u _) t u p2 Idle taker ∙ get_or-set_same w.places u _ Idle (placed l w.places u (stands l u first)) ∙ rw rest.is refl)
+        (get_or-set_other (set w.places u _) t u p2 Idle taker ∙ get_or-set_same w.places u _ Idle (stood l w.places u (stands l u first)) ∙ rw rest.is refl)
         (λ s nt nu. get_or-set_other (set w.places u _) t s p2 Idle nt ∙ get_or-set_other w.places u s _ Idle nu)
         i (q ∙ rw (← e, is) refl) h (λ k g. ((f k g).0, (first_gone l lt).here ∙ (f k g).1))
         (rw (← e, is) (λ k d. elim d [ inl g ↦ inl (r k ∙ g) | inr g ↦ absurd cc ])) (rw (← e, is) (λ s k g. g)) c only (rw (← e, is) (λ s k g. g)) n
@@ -346,15 +346,11 @@ module _ (w : State) (t : ℕ) (shape : IsShaped w) (sound : IsSound w) (there :
   go_sound (Mutex l TryLock) e fits can = fitted _ e l fits.0 (op.TheVariants.Or 1) (words.tries (place_at w) t l)
   go_sound (Mutex l (Unlock a)) e fits can = unlock_sound l a e fits can
 
-  idle_is : (p : Place) → is_idle p ≡ true → p ≡ Idle
-  idle_is Idle h = refl
-  idle_is (Mutex l at) h = absurd cc
-
   thread_is : (o : Option ℕ) → is_thread t o ≡ true → o ≡ Some t
   thread_is None h = absurd cc
   thread_is (Some u) h = ap Some (eqb-true u t h)
 
-  starts : (l : ℕ) (p2 : Place) → inside p2 ≡ None → queued p2 ≡ None → holds p2 ≡ None → finds_empty p2 ≡ None → ((u k : ℕ) → Carries p2 u k → ⊥) → ((s k : ℕ) → InHand p2 s k → ⊥)
+  starts : (l : ℕ) (p2 : Place) → inside p2 ≡ None → queued p2 ≡ None → holds p2 ≡ None → finds_empty p2 ≡ None → ((u k : ℕ) → Carries p2 u k → ⊥) → ((s k : ℕ) → IsTakenBy p2 s k → ⊥)
       → WordFits (place_at w) t l Idle p2 (word_at w l) (owner_at w l) (owner_at w l)
   starts l p2 i q h f c n = record {
     inside_stays = i;

@@ -17,7 +17,7 @@ use Rattle.lot_steps.specs.declared.places.Place.TheVariants.{Idle, Mutex}
 use Rattle.lot_steps.specs.MutexSteps.{is_locked, with_exclusive}
 use Rattle.lot_steps.specs.Steps.{next_place, owners_after}
 use Rattle.lot_world.specs.Promises.{Codes}
-use Rattle.lot_world.specs.Sound.{Nobody, InHand, Carries, Debtor, inside, queued, holds, finds_empty, is_awake}
+use Rattle.lot_world.specs.Sound.{Nobody, IsTakenBy, Carries, Debtor, inside, queued, holds, finds_empty, is_awake}
 use Rattle.lot_world.proofs.Keeps.{WordFits}
 
 -- ---------------------------------------------------------------- the owner
@@ -79,8 +79,8 @@ pub record Quiet (p p2 : Place) : Type 0 where
   pub empty_none : finds_empty p2 ≡ None
   pub carries_none : (u k : ℕ) → Carries p u k → ⊥
   pub carries_none_now : (u k : ℕ) → Carries p2 u k → ⊥
-  pub no_hand : (s k : ℕ) → InHand p s k → ⊥
-  pub no_hand_now : (s k : ℕ) → InHand p2 s k → ⊥
+  pub no_hand : (s k : ℕ) → IsTakenBy p s k → ⊥
+  pub no_hand_now : (s k : ℕ) → IsTakenBy p2 s k → ⊥
 
 some_none : {o : Option ℕ} → o ≡ None → (k : ℕ) → o ≡ Some k → ⊥
 some_none e k h = cc
@@ -252,7 +252,7 @@ module _ (at : ℕ → Place) (t l : ℕ) where
   -- a bit that goes where nobody stands in the queue
   cleared_by : (p p2 : Place) (v2 : ℕ) (o : Option ℕ) → Codes v2 o → Nobody at l → inside p2 ≡ inside p → queued p2 ≡ queued p → holds p2 ≡ None
       → ((k : ℕ) → finds_empty p2 ≡ Some k → l ≡ k) → ((u k : ℕ) → Carries p2 u k → Carries p u k) → ((u k : ℕ) → Carries p u k → Carries p2 u k)
-      → ((k : ℕ) → Debtor p k → Debtor p2 k) → ((s k : ℕ) → InHand p s k → ⊥) → ((s k : ℕ) → InHand p2 s k → ⊥) → WordFits at t l p p2 v2 o o
+      → ((k : ℕ) → Debtor p k → Debtor p2 k) → ((s k : ℕ) → IsTakenBy p s k → ⊥) → ((s k : ℕ) → IsTakenBy p2 s k → ⊥) → WordFits at t l p p2 v2 o o
   cleared_by p p2 v2 o code empty i q h f c1 c2 d n1 n2 = record {
     inside_stays = i;
     queued_stays = q;

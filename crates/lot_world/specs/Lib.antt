@@ -4,8 +4,14 @@ pub use Rattle.lot_steps.specs.Kinds
 pub use Rattle.lot_steps.specs.Acts
 pub use Rattle.lot_steps.specs.MutexSteps
 pub use Rattle.lot_steps.specs.Steps
+pub mod Locks
+pub mod Purposes
+pub mod LockRuns
 pub mod Machine
 pub mod Fits
 pub mod Views
+pub mod Refinement
 pub mod Promises
+pub mod Solo
 pub mod Sound
+pub mod OnlyMutexes

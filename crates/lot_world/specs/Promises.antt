@@ -1,48 +1,61 @@
 -- What is promised of every state of a world of mutexes, before and after each step, under every schedule.
-use Rattle.std.specs.Prelude.{ℕ, true, None, Option, Some, ◌≡◌, ◌≢◌, ◌+◌, ◌*◌, ◌≤◌, ◌⊎◌, List, take}
-use Rattle.parking_lot_core.specs.Lines.{times}
-use Rattle.lot_steps.specs.declared.acts.Act.TheVariants.{Sleep}
+use Rattle.std.specs.Prelude.{ℕ, false, true, None, Option, ◌≡◌, ◌≢◌, ◌+◌, ◌≤◌, ◌⊎◌, List, take, ◌↔◌, Some, ◌*◌, Bool}
+use Rattle.parking_lot_core.specs.declared.keys.Keys.TheVariants.{One}
+use Rattle.parking_lot_core.specs.declared.wants.Want.TheVariants.{Exclusive}
+use Rattle.lot_steps.specs.declared.acts.Act.TheVariants.{Enter, Sleep}
 use Rattle.lot_steps.specs.declared.calls.Step.{Step}
 use Rattle.lot_steps.specs.MutexSteps.{is_parked}
 use Rattle.lot_steps.specs.Steps.{act_of, owes_on, retries_on}
-use Rattle.lot_world.specs.Machine.{State, place_at, word_at, owners_at, queue_at, after_all}
+use Rattle.lot_world.specs.Machine.{State, place_at, word_at, after_all, section_at}
+use Rattle.lot_world.specs.Locks.{times, standing, one_if_some}
+use Rattle.lot_world.specs.LockRuns.{AreLockStates}
+use Rattle.lot_world.specs.Refinement.{lock_state, locks_of}
+use Rattle.lot_world.specs.Purposes.{Releases, Enters, patience_of}
 
 -- a thread stands in the queue of a mutex
 abbrev pub WaitsFor : State → ℕ → ℕ → Type 0
-WaitsFor w t l = 1 ≤ times t (queue_at w (2 * l))
-
--- 1 where a thread owns the mutex, else 0
-abbrev pub one_if_owned : Option ℕ → ℕ
-one_if_owned None = 0
-one_if_owned (Some t) = 1
+WaitsFor w t l = 1 ≤ times t (lock_state w l).queue
 
 -- a word says whether there is an owner, beside the parked bit
 abbrev pub Codes : ℕ → Option ℕ → Type 0
-Codes v o = (v ≡ one_if_owned o) ⊎ (v ≡ one_if_owned o + 2)
+Codes v o = (v ≡ one_if_some o) ⊎ (v ≡ one_if_some o + 2)
 
 -- the word says whether the mutex is owned
 abbrev pub IsCoded : State → ℕ → Type 0
-IsCoded w l = Codes (word_at w l) (owners_at w l).exclusive
+IsCoded w l = Codes (word_at w l) (lock_state w l).exclusive
 
--- some thread, which is neither asleep nor in any mutex's queue, owes a wake on the mutex or was woken and is about to try it again
+-- a call that releases, and enters the section of the queue next
+abbrev pub GoesToWake : State → ℕ → ℕ → Type 0
+GoesToWake w t l = (act_of (place_at w t) ≡ Enter (One (2 * l))) × (((locks_of w).calls t).purpose ≡ Some (Releases l Exclusive false))
+
+-- some thread, which is awake, stands in no queue and isn't taken, releases the mutex and owes a wake on it, or was woken on it and is
+-- about to try again
 pub record IsLookedAfter (w : State) (l : ℕ) : Type 0 where
   pub debtor : ℕ
-  pub debt : (owes_on (place_at w debtor) l ≡ true) ⊎ (retries_on (place_at w debtor) l ≡ true)
+  pub debt : ((owes_on (place_at w debtor) l ≡ true) × (((locks_of w).calls debtor).purpose ≡ Some (Releases l Exclusive false)))
+      ⊎ (((locks_of w).calls debtor).retries ≡ Some l)
   pub awake : act_of (place_at w debtor) ≢ Sleep
-  pub in_no_queue : (k : ℕ) → times debtor (queue_at w (2 * k)) ≡ 0
+  pub stands_nowhere : (k : ℕ) → standing debtor (lock_state w k) ≡ 0
 
 -- whoever waits for a mutex that nobody owns has such a thread
 abbrev pub NobodyForgotten : State → Type 0
-NobodyForgotten w = (t l : ℕ) → WaitsFor w t l → (owners_at w l).exclusive ≡ None → IsLookedAfter w l
+NobodyForgotten w = (t l : ℕ) → WaitsFor w t l → (lock_state w l).exclusive ≡ None → IsLookedAfter w l
 
 pub record IsKept (w : State) : Type 0 where
+  -- owners exclude each other, and a thread stands at most once in the queue of a lock, aside of it or taken from it
+  pub state : AreLockStates (locks_of w)
+  -- and at one lock at most
+  pub one_place : (t l k : ℕ) → 1 ≤ standing t (lock_state w l) → 1 ≤ standing t (lock_state w k) → l ≡ k
+  -- in a call that waits for it
+  pub waiting : (t l : ℕ) → 1 ≤ standing t (lock_state w l) → (timed : Bool) × (((locks_of w).calls t).purpose ≡ Some (Enters l Exclusive (patience_of timed)))
   pub coded : (l : ℕ) → IsCoded w l
   pub nobody_forgotten : NobodyForgotten w
+  -- who is shown to owe a wake is inside the section of the queue, or a release on its way into it
+  pub owing : (t l : ℕ) → owes_on (place_at w t) l ≡ true ↔ ((section_at w (2 * l) ≡ Some t) ⊎ GoesToWake w t l)
+  -- who is shown to try a lock again was woken on it, and has got neither the lock nor a place in a queue since
+  pub retrying : (t l : ℕ) → retries_on (place_at w t) l ≡ true ↔ ((locks_of w).calls t).retries ≡ Some l
   -- a waiter implies the parked bit
   pub parked : (t l : ℕ) → WaitsFor w t l → is_parked (word_at w l) ≡ true
-  -- a thread waits for one mutex at most, and stands once in its queue
-  pub one_queue : (t l k : ℕ) → WaitsFor w t l → WaitsFor w t k → l ≡ k
-  pub once : (t l : ℕ) → times t (queue_at w (2 * l)) ≤ 1
 
 -- the same of the state after each step of a run
 abbrev pub IsKeptThroughout : State → List Step → Type 0

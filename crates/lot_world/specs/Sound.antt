@@ -73,9 +73,9 @@ Carries (Mutex l (Unlock (unlock.Leave (Some v)))) u k = (v ≡ u) × (l ≡ k)
 Carries p u k = ⊥
 
 -- the thread was taken by t from the queue of a lock
-abbrev pub InHand : Place → ℕ → ℕ → Type 0
-InHand (Mutex l (Lock timed retries (Taken by))) t k = (by ≡ t) × (l ≡ k)
-InHand p t k = ⊥
+abbrev pub IsTakenBy : Place → ℕ → ℕ → Type 0
+IsTakenBy (Mutex l (Lock timed retries (Taken by))) t k = (by ≡ t) × (l ≡ k)
+IsTakenBy p t k = ⊥
 
 -- the thread is to wake on the lock, or tries it again
 abbrev pub Debtor : Place → ℕ → Type 0
@@ -101,9 +101,9 @@ pub record Sound (at : ℕ → Place) (word : ℕ → ℕ) (owner : ℕ → Opti
   pub parked : (t k : ℕ) → queued (at t) ≡ Some k → 2 ≤ word k
   pub held : (t k : ℕ) → holds (at t) ≡ Some k → owner k ≡ Some t
   pub emptied : (t k : ℕ) → finds_empty (at t) ≡ Some k → Nobody at k
-  -- a hand has just whom its thread will wake
-  pub carried : (t u k : ℕ) → Carries (at t) u k → InHand (at u) t k
-  pub taken : (u t k : ℕ) → InHand (at u) t k → Carries (at t) u k
+  -- a release carries just those whom it has taken
+  pub carried : (t u k : ℕ) → Carries (at t) u k → IsTakenBy (at u) t k
+  pub taken : (u t k : ℕ) → IsTakenBy (at u) t k → Carries (at t) u k
   -- a waiter of a lock that nobody owns has a debtor
   pub owed : (t k : ℕ) → queued (at t) ≡ Some k → owner k ≡ None → (u : ℕ) × Debtor (at u) k
 

@@ -1,5 +1,5 @@
 -- What the views of a lock show, in the order of a printed line.
-use Rattle.std.specs.Prelude.{ℕ, Bool, Option, Some, None, if◌then◌else◌, ◌+◌, ◌*◌, List, [], ◌∷◌, ◌++◌}
+use Rattle.std.specs.Prelude.{ℕ, Bool, Option, Some, None, if◌then◌else◌, ◌+◌, ◌*◌, List, [], ◌∷◌, ◌++◌, ◌≡◌, All}
 use Rattle.lot_steps.specs.declared.owners.Owner.{Owner}
 use Rattle.lot_steps.specs.declared.owners.Owner.TheVariants.{Exclusive, Pending, Upgradable, Running}
 use Rattle.lot_steps.specs.declared.owners.Owners.{Owners}
@@ -25,6 +25,10 @@ owners_listed o = owner_of Exclusive o.exclusive ++ (pending_of o.pending ++ (ow
 
 abbrev pub owners_of : State → ℕ → List (Owner × ℕ)
 owners_of w l = owners_listed (owners_at w l)
+
+-- each of the waiters stands under the key
+abbrev pub StandUnder : ℕ → List Waiter → Type 0
+StandUnder key waiters = All (λ (x : Waiter). x.key ≡ key) waiters
 
 -- the main queue from its front, then who waits aside
 abbrev pub queue_of : State → ℕ → List Waiter

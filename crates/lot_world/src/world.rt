@@ -1,14 +1,18 @@
 //! Any number of threads over locks, by a list of steps.
-ghost use Rattle.std.specs.Prelude.{◌≡◌, ◌<◌, ◌≤◌, ◌++◌, IfOk, IfErr, OnOk, All, length, take, true};
+ghost use Rattle.std.specs.Prelude.{◌≡◌, ◌<◌, ◌≤◌, ◌++◌, ◌+◌, ◌*◌, IfOk, IfErr, OnOk, All, length, take, true};
 ghost use Rattle.lot_steps.specs.Kinds.{fits};
-ghost use Rattle.lot_world.specs.Machine.{opening, place_at, word_at, kind_at, after, answered, after_all, answered_all, solo};
+ghost use Rattle.lot_steps.specs.Steps.{first_place};
+ghost use Rattle.lot_world.specs.Machine.{opening, place_at, word_at, kind_at, queue_at, after, answered, after_all, answered_all, solo};
 ghost use Rattle.lot_world.specs.Fits.{SameSize};
+ghost use Rattle.lot_world.specs.LockRuns.{IsOpening, IsStep, purpose_at};
+ghost use Rattle.lot_world.specs.Refinement.{locks_of, ChangesOneThing, EachChangesOneThing, Refines};
 ghost use Rattle.lot_world.specs.Promises.{IsKept, IsKeptThroughout};
-ghost use Rattle.lot_world.specs.Views.{owners_of, queue_of, debts_of};
+ghost use Rattle.lot_world.specs.Solo.{IsUnderWay, HasItsWay, Rests, EndsAlone, IsSoloRun};
+ghost use Rattle.lot_world.specs.Views.{StandUnder, owners_of, queue_of, debts_of};
 
 use crate::machine::Machine;
 use crate::views::{Debts, OwnersOf, QueueOf};
-use lot_steps::{Kind, Outcome, Place, Step, Turn};
+use lot_steps::{Call, Kind, Outcome, Place, Step, Turn};
 use parking_lot_core::{Fault, Queues};
 use std::alloc::Global;
 use std::marker::Model;
@@ -38,12 +42,15 @@ impl<Q: Queues + Drop> Model for World<Q> {
     ghost use Rattle.lot_world.specs.Machine.{State};
     ghost use Rattle.lot_world.specs.Fits.{IsShaped};
     ghost use Rattle.lot_world.specs.Sound.{IsSound};
+    ghost use Rattle.lot_world.specs.OnlyMutexes.{OnlyMutexes};
+    ghost use Rattle.lot_world.specs.LockRuns.{AreLockStates};
+    ghost use Rattle.lot_world.specs.Refinement.{locks_of};
 
     ghost Value = { State };
 
     ghost view = { λ a. a.machine };
 
-    ghost invariant = { λ a. IsShaped a.machine × IsSound a.machine };
+    ghost invariant = { λ a. IsShaped a.machine × IsSound a.machine × OnlyMutexes a.machine × AreLockStates (locks_of a.machine) };
 }
 
 impl<Q: Queues + Drop> World<Q> {
@@ -55,6 +62,7 @@ impl<Q: Queues + Drop> World<Q> {
         requires few_locks { length kinds.now ≤ MOST_LOCKS }
         requires fit { All (λ kind. fits kind threads ≡ true) kinds.now }
         ensures ok { IfOk result (λ world. world ≡ opening kinds.now threads) }
+        ensures opening { IfOk result (λ world. IsOpening (locks_of world) × IsKept world) }
         ensures err { IfErr result (λ fault. fault ≡ Fault.NoMemory) }
     {
         Ok(World {
@@ -67,7 +75,11 @@ impl<Q: Queues + Drop> World<Q> {
         ensures state { self.new ≡ after self.old step }
         ensures outcome { result ≡ answered self.old step }
 
-        // Words are coded, and whoever waits for a mutex without owner has a thread awake that owes its wake or tries again.
+        // The step is one of the abstract locks: one case of one lock, or nothing, and its answer is true.
+        ensures refines { IsStep (locks_of self.old) step result (locks_of self.new) }
+        ensures one_thing { ChangesOneThing self.old step.thread self.new }
+
+        // Words are coded, and whoever waits for a mutex without owner has a thread that owes its wake or tries again.
         ensures kept { IsKept self.new }
         ensures same_size { SameSize self.old self.new }
     {
@@ -78,6 +90,24 @@ impl<Q: Queues + Drop> World<Q> {
     /// step isn't possible, at most `SOLO_STEPS`. It answers the outcome of the last possible step, and
     /// `NotNow` where there was none.
     pub fn solo(&mut self, thread: usize) -> Outcome
+        ensures state { self.new ≡ (solo SOLO_STEPS self.old thread Outcome.NotNow).state }
+        ensures outcome { result ≡ (solo SOLO_STEPS self.old thread Outcome.NotNow).outcome }
+        ensures run { IsSoloRun self.old thread self.new }
+
+        // A call under way ends or sleeps, where nobody else is inside the section that it enters.
+        ensures rests { IsUnderWay self.old thread → HasItsWay self.old thread → Rests result }
+
+        // And from its beginning: it enters where it may, else sleeps as the last of the queue; a try ends; a release ends without its right.
+        ensures ends { (call : Call) → place_at self.old thread ≡ first_place call → HasItsWay self.old thread
+            → EndsAlone (locks_of self.old) thread (purpose_at (locks_of self.old) call) result (locks_of self.new) }
+        ensures same_size { SameSize self.old self.new }
+    {
+        // The proof reads the world's invariant here.
+        let _ = &self.machine;
+        self.step_alone(thread)
+    }
+
+    fn step_alone(&mut self, thread: usize) -> Outcome
         ensures state { self.new ≡ (solo SOLO_STEPS self.old thread Outcome.NotNow).state }
         ensures outcome { result ≡ (solo SOLO_STEPS self.old thread Outcome.NotNow).outcome }
         ensures same_size { SameSize self.old self.new }
@@ -101,7 +131,11 @@ impl<Q: Queues + Drop> World<Q> {
     pub fn run(&mut self, steps: &[Step], outcomes: &mut Vec<Outcome>) -> Result<(), Stopped>
         ensures same_size { SameSize self.old self.new }
 
-        // In every state of the run, before, between and after its steps, nobody is forgotten.
+        // Every run of the world is a run of the abstract locks.
+        ensures refines { Refines self.old steps.now }
+        ensures one_thing { EachChangesOneThing self.old steps.now }
+
+        // In every state of it, before, between and after its steps, nobody is forgotten.
         ensures kept { IsKeptThroughout self.old steps.now }
         ensures state { OnOk result (self.new ≡ after_all self.old steps.now) }
         ensures outcomes { OnOk result (outcomes.new.items ≡ outcomes.old.items ++ answered_all self.old steps.now) }
@@ -158,7 +192,7 @@ impl<Q: Queues + Drop> World<Q> {
         self.machine.place(thread)
     }
 
-    /// Who owns a lock: the exclusive, pending, upgradable and running owner, then who shares.
+    /// Who owns a lock: the exclusive, pending, upgradable and running owner.
     pub fn owners(&self, lock: usize) -> OwnersOf
         requires { lock < length self.now.locks }
         ensures { result ≡ owners_of self.now lock }
@@ -169,7 +203,9 @@ impl<Q: Queues + Drop> World<Q> {
     /// Who waits on a lock: its main queue from the front, then who waits aside.
     pub fn queue(&self, lock: usize) -> QueueOf<'_, Q>
         requires { lock < length self.now.locks }
-        ensures { result ≡ queue_of self.now lock }
+        ensures waiters { result ≡ queue_of self.now lock }
+        ensures main { StandUnder (2 * lock) (queue_at self.now (2 * lock)) }
+        ensures aside { StandUnder (2 * lock + 1) (queue_at self.now (2 * lock + 1)) }
     {
         self.machine.queue(lock)
     }

@@ -1,7 +1,9 @@
 //! Any number of threads over named locks, by a list of lines.
 #![tactic(auto)]
 
+pub mod actions;
 pub mod replay;
+mod session;
 pub mod start;
 pub mod state;
 pub mod status;

@@ -1,5 +1,10 @@
 //! The job that the arguments name.
 
+ghost use Rattle.std.specs.Prelude.{◌≡◌, ◌≢◌, ◌↔◌, [], ◌∷◌, IsTrue, codes};
+ghost use Rattle.std.specs.Io.KnownBytes.{Keeps};
+ghost use Rattle.lotsim.specs.Replay.{Replays};
+ghost use Rattle.lotsim.specs.Start.{TellsUsage, texts_of};
+
 use crate::replay::replay;
 use crate::status::{BROKEN, MALFORMED};
 use lot_text::send_all;
@@ -14,13 +19,30 @@ pub fn start<R: BufRead, W: Write, E: Write>(
     reader: &mut R,
     writer: &mut W,
     errors: &mut E,
-) -> u8 {
+) -> u8
+    ensures replay { texts_of args.now ≡ codes "replay" ∷ [] → Replays (R.remaining reader.old) (R.remaining reader.new)
+        (W.contents writer.old) (W.contents writer.new) result }
+    ensures replay_tells_no_error { texts_of args.now ≡ codes "replay" ∷ [] → Keeps (E.contents errors.old) (E.contents errors.new) }
+    ensures usage { texts_of args.now ≢ codes "replay" ∷ [] → TellsUsage (E.contents errors.old) (E.contents errors.new) result }
+    ensures usage_reads_nothing { texts_of args.now ≢ codes "replay" ∷ [] → Keeps (R.remaining reader.old) (R.remaining reader.new) }
+    ensures usage_writes_nothing { texts_of args.now ≢ codes "replay" ∷ [] → Keeps (W.contents writer.old) (W.contents writer.new) }
+{
+    if is_job(args, "replay") {
+        return replay(alloc, reader, writer);
+    }
+    if send_all(errors, b"usage: lotsim replay | lotsim live\n") {
+        MALFORMED
+    } else {
+        BROKEN
+    }
+}
+
+/// Whether the arguments are this word alone.
+fn is_job(args: &[&str], job: &str) -> bool
+    ensures { IsTrue result ↔ (texts_of args.now ≡ job.now ∷ []) }
+{
     match args {
-        [job] if *job == "replay" => replay(alloc, reader, writer),
-        _ => if send_all(errors, b"usage: lotsim replay | lotsim live\n") {
-            MALFORMED
-        } else {
-            BROKEN
-        },
+        [only] => *only == job,
+        _ => false,
     }
 }

@@ -1,98 +1,83 @@
 //! The threads and locks of a replay, and what they answer to a line.
-ghost use Rattle.std.specs.Prelude.{◌≡◌, ◌≤◌, All, length, true};
-ghost use Rattle.std.specs.Option.{ForSome};
-ghost use Rattle.lot_world.specs.Kinds.{fits};
+ghost use Rattle.std.specs.Prelude.{◌≡◌, ◌≤◌, [], Some, IfSome, IfNone, length};
 ghost use Rattle.lot_world.specs.declared.world.TheConstants.{MOST_THREADS, MOST_LOCKS};
+ghost use Rattle.lot_text.specs.Lines.{line_len};
+ghost use Rattle.lot_text.specs.Sent.{Puts};
+ghost use Rattle.lotsim.specs.Stages.{nothing, declaring, running, acted, played, obeyed, answer_of};
+ghost use Rattle.lotsim.specs.Sessions.{session_stage, session_world, stage_of};
+ghost use Rattle.lotsim.specs.Answers.{AnswersTo};
 
-use lot_text::{Command, Name, NamedTurn, Page, lock_named, meaning, show_locks};
-use lot_world::{Call, Kind, MOST_LOCKS, MOST_THREADS, MutexCall, Outcome, Step, Turn, World};
-use parking_lot_core::ListQueues;
+use crate::actions::{Action, action_of, perform};
+use crate::session::Session;
+use lot_text::{Command, Name, Page, lock_named, meaning, print_turn, show_locks};
+use lot_world::{Kind, MOST_LOCKS, MOST_THREADS, World};
 use std::alloc::Global;
 use std::io::Write;
 
-/// What came of a line.
+/// Why a line isn't answered.
 #[derive(Clone, Copy, Debug, PartialEq, Eq)]
-pub enum Response {
-    /// It is taken down, and nothing is to be said.
-    Noted,
-    /// The turn of a thread came to this.
-    Told { thread: usize, outcome: Outcome },
-    /// Each lock is to be shown.
-    Show,
+pub enum Refusal {
     Malformed,
     NoMemory,
-}
-
-/// What a thread does, of locks by their numbers.
-#[derive(Clone, Copy, Debug, PartialEq, Eq)]
-enum Deed {
-    Turn(Turn),
-    Solo,
-    Do(Call),
-}
-
-/// The threads and the named locks of a replay, and their world from the first turn or show on.
-#[derive(Drop)]
-struct Scene {
-    threads: usize,
-    names: Vec<Name>,
-    kinds: Vec<Kind>,
-    world: Option<World<ListQueues>>,
-    ghost some_thread: { 1 ≤ threads },
-    ghost few_threads: { threads ≤ MOST_THREADS },
-    ghost few_locks: { length kinds.items ≤ MOST_LOCKS },
-    ghost fit: { All (λ kind. fits kind threads ≡ true) kinds.items },
-    ghost named: { length names.items ≡ length kinds.items },
-    ghost same_locks: { ForSome world (λ w. length w.locks ≡ length names.items) },
 }
 
 /// What the lines of a replay have led to: nothing before the threads are there.
 #[derive(Drop)]
 pub struct State {
-    scene: Option<Scene>,
+    session: Option<Session>,
 }
 
 impl State {
-    pub fn new() -> State {
-        State { scene: None }
+    pub fn new() -> State
+        ensures { stage_of result.session ≡ nothing }
+    {
+        State { session: None }
     }
 
-    /// Answers a line.
-    pub fn answer(&mut self, alloc: Global, line: &[u8]) -> Response {
+    /// Answers a line. One that is refused changes nothing, and nothing is said of it here.
+    pub fn answer<W: Write>(
+        &mut self,
+        alloc: Global,
+        page: &mut Page,
+        writer: &mut W,
+        line: &[u8],
+    ) -> Result<(), Refusal>
+        requires { length line.now ≤ line_len }
+        ensures { AnswersTo (answer_of (stage_of self.old.session) line.now) result
+            (stage_of self.old.session) (stage_of self.new.session)
+            (Puts (W.contents writer.old) (W.contents writer.new) page.old page.new) }
+    {
         let Some(command) = meaning(line) else {
-            return Response::Malformed;
+            return Err(Refusal::Malformed);
         };
-        match &mut self.scene {
-            Some(scene) => scene.obey(alloc, command),
+        match &mut self.session {
+            Some(session) => session.obey(alloc, page, writer, command),
             None => self.open(alloc, command),
         }
     }
 
     /// The first line has to say how many threads there are.
-    fn open(&mut self, alloc: Global, command: Command) -> Response {
+    fn open(&mut self, alloc: Global, command: Command) -> Result<(), Refusal>
+        requires { stage_of self.old.session ≡ nothing }
+        ensures { AnswersTo (obeyed nothing command) result nothing (stage_of self.new.session) (λ text. text ≡ []) }
+    {
         match command {
             Command::Threads(threads) if 1 <= threads && threads <= MOST_THREADS => {
-                self.scene = Some(Scene::new(alloc, threads));
-                Response::Noted
+                self.session = Some(Session::new(alloc, threads));
+                Ok(())
             }
-            _ => Response::Malformed,
-        }
-    }
-
-    /// Prints a line for each lock, in the order in which they were declared.
-    pub fn show<W: Write>(&self, page: &mut Page, writer: &mut W) {
-        if let Some(scene) = &self.scene {
-            scene.show(page, writer);
+            _ => Err(Refusal::Malformed),
         }
     }
 }
 
-impl Scene {
-    fn new(alloc: Global, threads: usize) -> Scene
+impl Session {
+    fn new(alloc: Global, threads: usize) -> Session
         requires some { 1 ≤ threads }
         requires few { threads ≤ MOST_THREADS }
+        ensures { session_stage result ≡ declaring threads [] [] }
     {
-        Scene {
+        Session {
             threads,
             names: Vec::new(alloc),
             kinds: Vec::new(alloc),
@@ -100,102 +85,97 @@ impl Scene {
         }
     }
 
-    fn obey(&mut self, alloc: Global, command: Command) -> Response {
+    fn obey<W: Write>(
+        &mut self,
+        alloc: Global,
+        page: &mut Page,
+        writer: &mut W,
+        command: Command,
+    ) -> Result<(), Refusal>
+        ensures { AnswersTo (obeyed (session_stage self.old) command) result (session_stage self.old) (session_stage self.new)
+            (Puts (W.contents writer.old) (W.contents writer.new) page.old page.new) }
+    {
         match command {
-            Command::Threads(_) => Response::Malformed,
+            Command::Threads(_) => Err(Refusal::Malformed),
             Command::Lock { name, kind } => self.declare(name, kind),
-            Command::Turn { thread, turn } => match deed_of(self.names.as_slice(), turn) {
-                Some(deed) => self.act(alloc, thread, deed),
-                None => Response::Malformed,
+            Command::Turn { thread, turn } => match action_of(self.names.as_slice(), turn) {
+                Some(action) => self.act(alloc, page, writer, thread, action),
+                None => Err(Refusal::Malformed),
             },
-            Command::Show => self.look(alloc),
+            Command::Show => self.show(alloc, page, writer),
         }
     }
 
     /// Adds a lock, where its name is new and no turn was taken yet.
-    fn declare(&mut self, name: Name, kind: Kind) -> Response {
+    fn declare(&mut self, name: Name, kind: Kind) -> Result<(), Refusal>
+        ensures { AnswersTo (obeyed (session_stage self.old) (Command.Lock name kind)) result
+            (session_stage self.old) (session_stage self.new) (λ text. text ≡ []) }
+    {
         if self.world.is_some() || self.names.len() >= MOST_LOCKS {
-            return Response::Malformed;
+            return Err(Refusal::Malformed);
         }
         if !kind.fits(self.threads) || lock_named(self.names.as_slice(), name).is_some() {
-            return Response::Malformed;
+            return Err(Refusal::Malformed);
         }
         if self.names.reserve(1).is_err() || self.kinds.reserve(1).is_err() {
-            return Response::NoMemory;
+            return Err(Refusal::NoMemory);
         }
         self.names.push_reserved(name);
         self.kinds.push_reserved(kind);
-        Response::Noted
+        Ok(())
     }
 
     /// Makes the world, where it isn't there yet. It stays away where memory is refused.
-    fn make_world(&mut self, alloc: Global) {
+    fn make_world(&mut self, alloc: Global)
+        ensures made { IfSome self.new.world (λ w. session_stage self.new ≡ running self.old.names.items (session_world self.old)) }
+        ensures refused { IfNone self.new.world (session_stage self.new ≡ session_stage self.old) }
+    {
         if self.world.is_none() {
             self.world = World::new(alloc, self.kinds.as_slice(), self.threads).ok();
         }
     }
 
-    fn act(&mut self, alloc: Global, thread: usize, deed: Deed) -> Response {
+    fn act<W: Write>(
+        &mut self,
+        alloc: Global,
+        page: &mut Page,
+        writer: &mut W,
+        thread: usize,
+        action: Action,
+    ) -> Result<(), Refusal>
+        ensures { AnswersTo (Some (acted self.old.names.items (session_world self.old) thread action)) result
+            (session_stage self.old) (session_stage self.new)
+            (Puts (W.contents writer.old) (W.contents writer.new) page.old page.new) }
+    {
         self.make_world(alloc);
         match &mut self.world {
-            Some(world) => Response::Told {
-                thread,
-                outcome: perform(world, thread, deed),
-            },
-            None => Response::NoMemory,
+            Some(world) => {
+                let outcome = perform(world, thread, action);
+                print_turn(page, writer, thread, outcome);
+                Ok(())
+            }
+            None => Err(Refusal::NoMemory),
         }
     }
 
-    fn look(&mut self, alloc: Global) -> Response {
+    /// Prints a line for each lock, in the order in which they were declared.
+    fn show<W: Write>(
+        &mut self,
+        alloc: Global,
+        page: &mut Page,
+        writer: &mut W,
+    ) -> Result<(), Refusal>
+        ensures { AnswersTo (played self.old.names.items (session_world self.old) Command.Show) result
+            (session_stage self.old) (session_stage self.new)
+            (Puts (W.contents writer.old) (W.contents writer.new) page.old page.new) }
+    {
         self.make_world(alloc);
         match &self.world {
-            Some(_) => Response::Show,
-            None => Response::NoMemory,
-        }
-    }
-
-    fn show<W: Write>(&self, page: &mut Page, writer: &mut W) {
-        if let Some(world) = &self.world {
-            show_locks(page, writer, self.names.as_slice(), world);
-        }
-    }
-}
-
-/// The same turn, of locks by their numbers.
-fn deed_of(names: &[Name], turn: NamedTurn) -> Option<Deed> {
-    match turn {
-        NamedTurn::Begin { call, name } => {
-            let call = call_of(names, call, name)?;
-            Some(Deed::Turn(Turn::Begin(call)))
-        }
-        NamedTurn::Go => Some(Deed::Turn(Turn::Go)),
-        NamedTurn::Spin => Some(Deed::Turn(Turn::Spin)),
-        NamedTurn::Late => Some(Deed::Turn(Turn::Late)),
-        NamedTurn::Solo => Some(Deed::Solo),
-        NamedTurn::Do { call, name } => {
-            let call = call_of(names, call, name)?;
-            Some(Deed::Do(call))
-        }
-    }
-}
-
-fn call_of(names: &[Name], call: MutexCall, name: Name) -> Option<Call> {
-    let lock = lock_named(names, name)?;
-    Some(Call::Mutex { lock, call })
-}
-
-fn perform(world: &mut World<ListQueues>, thread: usize, deed: Deed) -> Outcome
-    ensures { length world.new.locks ≡ length world.old.locks }
-{
-    match deed {
-        Deed::Turn(turn) => world.step(Step { thread, turn }),
-        Deed::Solo => world.solo(thread),
-        Deed::Do(call) => {
-            let turn = Turn::Begin(call);
-            match world.step(Step { thread, turn }) {
-                Outcome::NotNow => Outcome::NotNow,
-                _ => world.solo(thread),
+            Some(world) => {
+                show_locks(page, writer, self.names.as_slice(), world);
+                Ok(())
             }
+            None => Err(Refusal::NoMemory),
         }
     }
 }

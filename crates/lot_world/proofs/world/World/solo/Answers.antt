@@ -1,36 +1,17 @@
-use Rattle.std.proofs.Common.{◌-◌, sym, ap, ◌∙◌, arith}
-use Rattle.lot_world.specs.Machine.{Alone}
-use Rattle.lot_world.proofs.Shape.{size_more}
-use Rattle.lot_world.proofs.Alone.{alone_stuck, alone_goes, alone_rests, solo_end}
+use Rattle.lot_world.proofs.Solo.{rests_alone, ends_alone, solo_runs}
 use Rattle.lot_world.proofs.world.World.solo.Goals as goal
 
-pub returns-in-NotNow-clause-state : goal.returns-in-NotNow-clause-state
-returns-in-NotNow-clause-state g c =
-    ap (λ (a : Alone). a.state) (sym (alone_stuck c.loop.counter c.loop.self c.step.new.self c.args.thread c.loop.last c.step.result c.loop-test.true c.step.ensures.state c.step.ensures.outcome c.in-NotNow.is) ∙ c.loop.invariant.rest)
+pub returns-clause-run : goal.returns-clause-run
+returns-clause-run g c =
+    let before = c.self.invariant in
+    rw (c.step_alone.ensures.state, ← c.self.view_is) (solo_runs c.self.inside.machine c.args.thread before.0 before.1 before.2 before.3)
 
-pub returns-in-NotNow-clause-outcome : goal.returns-in-NotNow-clause-outcome
-returns-in-NotNow-clause-outcome g c =
-    ap (λ (a : Alone). a.outcome) (sym (alone_stuck c.loop.counter c.loop.self c.step.new.self c.args.thread c.loop.last c.step.result c.loop-test.true c.step.ensures.state c.step.ensures.outcome c.in-NotNow.is) ∙ c.loop.invariant.rest)
+pub returns-clause-rests : goal.returns-clause-rests
+returns-clause-rests g c =
+    let before = c.self.invariant in
+    rw (c.step_alone.ensures.outcome, ← c.self.view_is) (rests_alone c.self.inside.machine c.args.thread before.0 before.1 before.2)
 
-pub loop-preserved : goal.loop-preserved
-loop-preserved g c = record {
-  rest = sym (alone_goes c.loop.counter c.loop.self c.step.new.self c.args.thread c.loop.last c.step.result c.loop-test.true c.step.ensures.state c.step.ensures.outcome c.in-Step.is) ∙ c.loop.invariant.rest;
-  size = size_more c.args.self.now c.loop.self c.step.new.self c.loop.invariant.size c.step.ensures.same_size;
-}
-
-pub returns-in_default : goal.returns-in_default
-returns-in_default g c =
-    let rests = sym (alone_rests c.loop.counter c.loop.self c.step.new.self c.args.thread c.loop.last c.step.result c.loop-test.true c.step.ensures.state c.step.ensures.outcome c.in_default.not-NotNow c.in_default.not-Step) ∙ c.loop.invariant.rest in
-    record {
-      state = ap (λ (a : Alone). a.state) rests;
-      outcome = ap (λ (a : Alone). a.outcome) rests;
-      same_size = size_more c.args.self.now c.loop.self c.step.new.self c.loop.invariant.size c.step.ensures.same_size;
-    }
-
-pub returns-clause-state : goal.returns-clause-state
-returns-clause-state g c =
-    ap (λ (a : Alone). a.state) (sym (solo_end (64 - c.loop.counter) c.loop.self c.args.thread c.loop.last (omega arith)) ∙ c.loop.invariant.rest)
-
-pub returns-clause-outcome : goal.returns-clause-outcome
-returns-clause-outcome g c =
-    ap (λ (a : Alone). a.outcome) (sym (solo_end (64 - c.loop.counter) c.loop.self c.args.thread c.loop.last (omega arith)) ∙ c.loop.invariant.rest)
+pub returns-clause-ends : goal.returns-clause-ends
+returns-clause-ends g c =
+    let before = c.self.invariant in
+    rw (c.step_alone.ensures.outcome, c.step_alone.ensures.state, ← c.self.view_is) (ends_alone c.self.inside.machine c.args.thread before.0 before.1 before.2)

@@ -2,7 +2,7 @@ use Rattle.std.proofs.Common.{◌≡◌, ◌-◌}
 use Rattle.lot_steps.specs.declared.calls.Outcome as outcome
 use Rattle.lot_world.specs.Machine.{solo}
 use Rattle.lot_world.specs.Fits.{SameSize}
-use Rattle.lot_world.proofs.world.World.solo.Given as goal
+use Rattle.lot_world.proofs.world.World.step_alone.Given as goal
 
 -- what is left to do leads where all of it leads
 abbrev pub invariant-loop : goal.invariant-loop

@@ -1,0 +1,76 @@
+-- What a line means.
+use Rattle.std.specs.Prelude.{ℕ, ◌+◌, ◌-◌, ◌*◌, Bool, not, ◌&&◌, ◌||◌, List, [], ◌∷◌, length, slice_index, nat_lt, nat_le, ◌==◌, if◌then◌else◌, codes, Option, None, Some, option_map, option_and_then}
+use Rattle.std.specs.List.{slice_split}
+use Rattle.std.specs.Str.{bytes_eq}
+use Rattle.lot_steps.specs.declared.kinds.Kind.{Kind}
+use Rattle.lot_steps.specs.declared.kinds.Kind as kind
+use Rattle.lot_steps.specs.declared.mutex.MutexCall.{MutexCall}
+use Rattle.lot_steps.specs.declared.mutex.MutexCall as call
+use Rattle.lot_text.specs.declared.grammar.Command.{Command}
+use Rattle.lot_text.specs.declared.grammar.Command as command
+use Rattle.lot_text.specs.declared.grammar.NamedTurn.{NamedTurn}
+use Rattle.lot_text.specs.declared.grammar.NamedTurn as turn
+use Rattle.lot_text.specs.Names.{is_digit, name_of}
+
+-- words are parted by one space
+abbrev pub words_of : List ℕ → List (List ℕ)
+words_of line = slice_split (λ b. b == 32) line
+
+-- the number that digits spell behind the number n
+abbrev pub digits_after : ℕ → List ℕ → Option ℕ
+digits_after n [] = Some n
+digits_after n (c ∷ cs) = if is_digit c then digits_after (n * 10 + (c - 48)) cs else None
+
+-- 1 to 19 digits, the first of several no 0
+abbrev pub has_form : List ℕ → Bool
+has_form word = (nat_lt 0 (length word) && nat_le (length word) 19) && ((length word == 1) || not (slice_index word 0 == 48))
+
+abbrev pub number_of : List ℕ → Option ℕ
+number_of word = if has_form word then digits_after 0 word else None
+
+abbrev pub kind_of : List ℕ → Option Kind
+kind_of word = if bytes_eq word (codes "mutex") then Some kind.TheVariants.Mutex else None
+
+abbrev pub call_of : List ℕ → Option MutexCall
+call_of word =
+    if bytes_eq word (codes "lock") then Some call.TheVariants.Lock
+    else (if bytes_eq word (codes "unlock") then Some call.TheVariants.Unlock
+    else (if bytes_eq word (codes "try_lock") then Some call.TheVariants.TryLock
+    else (if bytes_eq word (codes "lock_timed") then Some call.TheVariants.LockTimed
+    else None)))
+
+-- a turn that calls no lock
+abbrev pub turn_of : List ℕ → Option NamedTurn
+turn_of word =
+    if bytes_eq word (codes "go") then Some turn.TheVariants.Go
+    else (if bytes_eq word (codes "solo") then Some turn.TheVariants.Solo
+    else (if bytes_eq word (codes "spin") then Some turn.TheVariants.Spin
+    else (if bytes_eq word (codes "late") then Some turn.TheVariants.Late
+    else None)))
+
+-- a turn that calls a lock
+abbrev pub calling_turn_of : List ℕ → MutexCall → List ℕ → Option NamedTurn
+calling_turn_of word call name =
+    if bytes_eq word (codes "begin") then Some (turn.TheVariants.Begin call name)
+    else (if bytes_eq word (codes "do") then Some (turn.TheVariants.Do call name)
+    else None)
+
+-- a thread's number and its turn
+abbrev pub turn_command : Option ℕ → Option NamedTurn → Option Command
+turn_command None turn = None
+turn_command (Some t) turn = option_map (command.TheVariants.Turn t) turn
+
+abbrev pub lock_command : Option (List ℕ) → Option Kind → Option Command
+lock_command None kind = None
+lock_command (Some name) kind = option_map (command.TheVariants.Lock name) kind
+
+-- the words of a line with a meaning: `show`, `threads N`, `T TURN`, `lock NAME KIND`, `T begin CALL NAME`, `T do CALL NAME`
+abbrev pub command_of : List (List ℕ) → Option Command
+command_of (a ∷ []) = if bytes_eq a (codes "show") then Some command.TheVariants.Show else None
+command_of (a ∷ b ∷ []) = if bytes_eq a (codes "threads") then option_map command.TheVariants.Threads (number_of b) else turn_command (number_of a) (turn_of b)
+command_of (a ∷ b ∷ c ∷ []) = if bytes_eq a (codes "lock") then lock_command (name_of b) (kind_of c) else None
+command_of (a ∷ b ∷ c ∷ d ∷ []) = turn_command (number_of a) (option_and_then (λ call. option_and_then (calling_turn_of b call) (name_of d)) (call_of c))
+command_of _ = None
+
+abbrev pub meaning : List ℕ → Option Command
+meaning line = command_of (words_of line)

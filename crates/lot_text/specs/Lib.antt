@@ -1,0 +1,8 @@
+pub use Rattle.lot_world.specs.Machine
+pub use Rattle.lot_world.specs.Views
+pub mod Lines
+pub mod Reads
+pub mod Names
+pub mod Grammar
+pub mod Sent
+pub mod Text

@@ -1,0 +1,107 @@
+-- Runs of the world are runs of the abstract locks, and what holds of each of their states.
+use Rattle.std.proofs.Common.{ℕ, Bool, true, false, Option, Some, None, if◌then◌else◌, ◌==◌, ◌≡◌, ◌+◌, ◌*◌, ◌≤◌, inl, inr, List, [], ◌∷◌, refl, sym, ◌∙◌, subst, arith}
+use Rattle.std.proofs.lemmas.Bool.{eqb-true}
+use Rattle.std.proofs.lemmas.Bool.Decides.{nat_tests}
+use Rattle.parking_lot_core.specs.declared.wants.Want.TheVariants.{Exclusive}
+use Rattle.lot_steps.specs.declared.calls.Turn.{Turn}
+use Rattle.lot_steps.specs.declared.calls.Turn as turn
+use Rattle.lot_steps.specs.declared.calls.Step.{Step}
+use Rattle.lot_steps.specs.declared.calls.Outcome.{Outcome}
+use Rattle.lot_steps.specs.declared.places.Place.{Place}
+use Rattle.lot_steps.specs.declared.places.Place.TheVariants.{Idle, Mutex}
+use Rattle.lot_steps.specs.declared.mutex.MutexPlace.TheVariants.{Lock, TryLock, Unlock}
+use Rattle.lot_steps.specs.declared.mutex.LockAt.TheVariants.{First, Leave, Asleep, Taken, Remove}
+use Rattle.lot_world.specs.Machine.{State, place_at, queue_at, after, answered}
+use Rattle.lot_world.specs.Fits.{IsShaped}
+use Rattle.lot_world.specs.Sound.{IsSound, queued, one_if}
+use Rattle.lot_world.proofs.Shape.{after_shaped}
+use Rattle.lot_world.proofs.Steady.{after_sound}
+use Rattle.lot_world.specs.Locks.{LockState, LockCase, Rules, Needs, IsLockState, standing, one_if_some}
+use Rattle.lot_world.specs.Locks as locks
+use Rattle.lot_world.specs.Purposes.{Purpose}
+use Rattle.lot_world.specs.LockRuns.{LocksState, Event, Nothing, AtLock, AreLockStates, GoesOn, SameKinds, MayDo, MayHappen, Turned, IsStep, rules_at, locks_after}
+use Rattle.lot_world.specs.Refinement.{locks_of, lock_state, Refines, taken_at}
+use Rattle.lot_world.specs.OnlyMutexes.{OnlyMutexes}
+use Rattle.lot_world.proofs.LockKeeps.{case_keeps}
+use Rattle.lot_world.proofs.OnlyMutexes.{after_only}
+use Rattle.lot_world.proofs.LockEvents.{queued_times}
+use Rattle.lot_world.proofs.LockSteps.{after_step}
+
+-- ---------------------------------------------------------------- each step keeps what holds of a lock
+
+needs_of : (w : LocksState) (t l : ℕ) (case : LockCase) (o : Option Purpose) → MayDo w t l case o → Needs (rules_at w l) case (w.locks l) t
+needs_of w t l case None h = absurd h
+needs_of w t l case (Some p) h = h.1
+
+event_keeps : (w : LocksState) (t : ℕ) (e : Event) → AreLockStates w → MayHappen w t e → (l : ℕ) → IsLockState (rules_at w l) (locks_after w t e l)
+event_keeps w t Nothing all may l = all l
+event_keeps w t (AtLock k case) all may l = either (l == k) refl
+  where
+    either : (b : Bool) → (l == k) ≡ b → IsLockState (rules_at w l) (if b then locks.after (rules_at w k) case (w.locks k) t else w.locks l)
+    either false e = all l
+    either true e = let same : l ≡ k = eqb-true l k e in rw same (case_keeps (rules_at w k) case (w.locks k) t (all k) (needs_of w t k case (w.calls t).purpose may))
+
+goes_keeps : (w v : LocksState) (t : ℕ) (o : Outcome) → SameKinds w v → GoesOn w t o v → AreLockStates w → AreLockStates v
+goes_keeps w v t o same g all l = rw (same.kinds l, g.locks l) (event_keeps w t g.event all g.may l)
+
+unchanged_keeps : (w v : LocksState) → SameKinds w v → ((l : ℕ) → v.locks l ≡ w.locks l) → AreLockStates w → AreLockStates v
+unchanged_keeps w v same e all l = rw (same.kinds l, e l) (all l)
+
+turned_keeps : (w v : LocksState) (t : ℕ) (x : Turn) (o : Outcome) → SameKinds w v → Turned w t x o v → AreLockStates w → AreLockStates v
+turned_keeps w v t (turn.TheVariants.Begin c) o same (inl b) all = unchanged_keeps w v same b.locks all
+turned_keeps w v t (turn.TheVariants.Begin c) o same (inr r) all = subst AreLockStates (sym r.1.1) all
+turned_keeps w v t turn.TheVariants.Go o same (inl g) all = goes_keeps w v t o same g all
+turned_keeps w v t turn.TheVariants.Spin o same (inl g) all = goes_keeps w v t o same g all
+turned_keeps w v t turn.TheVariants.Late o same (inl g) all = goes_keeps w v t o same g all
+turned_keeps w v t turn.TheVariants.Ok o same (inl g) all = goes_keeps w v t o same g all
+turned_keeps w v t turn.TheVariants.Err o same (inl g) all = goes_keeps w v t o same g all
+turned_keeps w v t turn.TheVariants.Go o same (inr r) all = subst AreLockStates (sym r.1) all
+turned_keeps w v t turn.TheVariants.Spin o same (inr r) all = subst AreLockStates (sym r.1) all
+turned_keeps w v t turn.TheVariants.Late o same (inr r) all = subst AreLockStates (sym r.1) all
+turned_keeps w v t turn.TheVariants.Ok o same (inr r) all = subst AreLockStates (sym r.1) all
+turned_keeps w v t turn.TheVariants.Err o same (inr r) all = subst AreLockStates (sym r.1) all
+
+pub step_keeps : (w v : LocksState) (s : Step) (o : Outcome) → IsStep w s o v → AreLockStates w → AreLockStates v
+step_keeps w v s o h all = turned_keeps w v s.thread s.turn o h.0 h.1 all
+
+pub after_locks : (w : State) (s : Step) → IsShaped w → IsSound w → OnlyMutexes w → AreLockStates (locks_of w) → AreLockStates (locks_of (after w s))
+after_locks w s shape sound only all = step_keeps (locks_of w) (locks_of (after w s)) s (answered w s) (after_step w s shape sound only) all
+
+-- ---------------------------------------------------------------- runs
+
+pub refines : (w : State) (ss : List Step) → IsShaped w → IsSound w → OnlyMutexes w → Refines w ss
+refines w [] shape sound only = tt
+refines w (s ∷ ss) shape sound only = (after_step w s shape sound only, refines (after w s) ss (after_shaped w s shape) (after_sound w s shape sound) (after_only w s only))
+
+-- ---------------------------------------------------------------- a thread stands at one lock at most
+
+module _ (w : State) (t : ℕ) (sound : IsSound w) (only : OnlyMutexes w) where
+  pub stands_by : (l : ℕ) → standing t (lock_state w l) ≡ one_if (queued (place_at w t)) l + one_if_some (taken_at (place_at w t) l)
+  stands_by l = rw (queued_times t (queue_at w (2 * l)), sound.queues t l, only.aside l) (omega arith)
+
+  by_queue : (o : Option ℕ) (l : ℕ) → 1 ≤ one_if o l + 0 → o ≡ Some l
+  by_queue None l h = absurd (omega arith)
+  by_queue (Some j) l h = grind (arith, nat_tests)
+
+  abbrev taken_for : ℕ → locks.Taken
+  taken_for by = record { by = by; want = Exclusive }
+
+  -- the lock in whose queue a thread stands, or from whose queue it was taken
+  by_hand : (j l by : ℕ) → 1 ≤ 0 + one_if_some (if j == l then Some (taken_for by) else None) → j ≡ l
+  by_hand j l by h = grind (arith, nat_tests)
+
+  stands_in : (p : Place) (l : ℕ) → 1 ≤ one_if (queued p) l + one_if_some (taken_at p l) → (j : ℕ) × ((k : ℕ) → 1 ≤ one_if (queued p) k + one_if_some (taken_at p k) → j ≡ k)
+  stands_in Idle l h = absurd (omega arith)
+  stands_in (Mutex j (Lock timed retries (Leave true))) l h = (j, λ k g. let e : Some j ≡ Some k = by_queue (Some j) k g in cc)
+  stands_in (Mutex j (Lock timed retries (Leave false))) l h = absurd (omega arith)
+  stands_in (Mutex j (Lock timed retries Asleep)) l h = (j, λ k g. let e : Some j ≡ Some k = by_queue (Some j) k g in cc)
+  stands_in (Mutex j (Lock timed retries Remove)) l h = (j, λ k g. let e : Some j ≡ Some k = by_queue (Some j) k g in cc)
+  stands_in (Mutex j (Lock timed retries (Taken by))) l h = (j, λ k g. by_hand j k by g)
+  stands_in (Mutex j (Lock timed retries First)) l h = absurd (omega arith)
+  stands_in (Mutex j (Lock timed retries at)) l h = absurd (omega arith)
+  stands_in (Mutex j TryLock) l h = absurd (omega arith)
+  stands_in (Mutex j (Unlock at)) l h = absurd (omega arith)
+
+  pub one_place : (l k : ℕ) → 1 ≤ standing t (lock_state w l) → 1 ≤ standing t (lock_state w k) → l ≡ k
+  one_place l k h g = let here = stands_in (place_at w t) l (subst (λ n. 1 ≤ n) (stands_by l) h) in
+      sym (here.1 l (subst (λ n. 1 ≤ n) (stands_by l) h)) ∙ here.1 k (subst (λ n. 1 ≤ n) (stands_by k) g)

@@ -1,0 +1,177 @@
+-- A step changes one word at most, or queues whose sections its thread is in.
+use Rattle.std.proofs.Common.{ℕ, zero, suc, Bool, true, false, Option, Some, None, if◌then◌else◌, ◌==◌, not, ◌≡◌, ◌≢◌, ◌+◌, ◌*◌, ◌⊎◌, inl, inr, List, [], ◌∷◌, ◌++◌, get_or, set, map, drop, refl, sym, ◌∙◌, ap, arith, get_or-set_other}
+use Rattle.std.proofs.lemmas.Bool.{cases_eq}
+use Rattle.std.proofs.lemmas.Bool.Decides.{nat_tests}
+use Rattle.std.proofs.Math.ListN.{get_or-map}
+use Rattle.parking_lot_core.specs.declared.keys.Keys.{Keys}
+use Rattle.parking_lot_core.specs.declared.keys.Keys.TheVariants.{One, Two}
+use Rattle.parking_lot_core.specs.declared.ops.Op as op
+use Rattle.parking_lot_core.specs.declared.wants.Want.TheVariants.{Exclusive}
+use Rattle.parking_lot_core.specs.Lines.{waiter, without, first_of}
+use Rattle.lot_steps.specs.declared.kinds.Kind as kind
+use Rattle.lot_steps.specs.declared.acts.Act.{Act}
+use Rattle.lot_steps.specs.declared.acts.Act as act
+use Rattle.lot_steps.specs.declared.acts.Wakes.{Wakes}
+use Rattle.lot_steps.specs.declared.acts.Wakes as wakes
+use Rattle.lot_steps.specs.declared.acts.Reply.TheVariants.{Spun, Late}
+use Rattle.parking_lot_core.specs.declared.notes.Note.TheVariants.{Normal}
+use Rattle.lot_steps.specs.declared.mutex.TheConstants.{NOT_PARKED}
+use Rattle.lot_steps.specs.declared.calls.Turn.{Turn}
+use Rattle.lot_steps.specs.declared.calls.Turn as turn
+use Rattle.lot_steps.specs.declared.calls.Step.{Step}
+use Rattle.lot_steps.specs.declared.mutex.MutexPlace.TheVariants.{Lock, TryLock, Unlock}
+use Rattle.lot_steps.specs.declared.mutex.LockAt.{LockAt}
+use Rattle.lot_steps.specs.declared.mutex.LockAt.TheVariants.{First, Load, Decide, Check, Leave, Asleep, Taken, Remove, Clear, GiveUp}
+use Rattle.lot_steps.specs.declared.mutex.UnlockAt.{UnlockAt}
+use Rattle.lot_steps.specs.declared.mutex.UnlockAt.TheVariants as unlock
+use Rattle.lot_steps.specs.declared.places.Place.{Place}
+use Rattle.lot_steps.specs.declared.places.Place.TheVariants.{Idle, Mutex}
+use Rattle.lot_steps.specs.MutexSteps.{is_locked, lock_act, unlock_act}
+use Rattle.lot_steps.specs.Steps.{act_of, next_place, first_place, spin_lock, late_key}
+use Rattle.lot_world.specs.Machine.{State, unlocked, place_at, word_at, queue_at, section_at, put, operated, filled_with, appended, removed, first_taken, taken_by, awakened, performed, spun_on, late_on, go_reply, turned, is_possible, after}
+use Rattle.lot_world.specs.Sound.{IsSound, inside, queued, one_if}
+use Rattle.lot_world.proofs.Counts.{without_absent}
+use Rattle.lot_world.specs.Refinement.{ChangesOneThing, EachChangesOneThing}
+use Rattle.lot_world.specs.OnlyMutexes.{OnlyMutexes}
+use Rattle.lot_world.specs.Fits.{IsShaped}
+use Rattle.lot_world.proofs.Shape.{after_shaped}
+use Rattle.lot_world.proofs.Steady.{after_sound}
+use Rattle.lot_world.proofs.OnlyMutexes.{after_only}
+
+-- each key is a main one or one of waiters aside
+parity : (n : ℕ) → ((k : ℕ) × (n ≡ 2 * k)) ⊎ ((k : ℕ) × (n ≡ 2 * k + 1))
+parity zero = inl (0, refl)
+parity (suc n) = elim (parity n) [
+  | inl h ↦ inr (h.0, let e : n ≡ 2 * h.0 = h.1 in omega arith)
+  | inr h ↦ inl (h.0 + 1, let e : n ≡ 2 * h.0 + 1 = h.1 in omega arith)
+]
+
+-- words and queues are as they were
+abbrev Same : State → State → Type 0
+Same w v = ((l : ℕ) → word_at v l ≡ word_at w l) × ((key : ℕ) → queue_at v key ≡ queue_at w key)
+
+same_one : (w v : State) (t : ℕ) → Same w v → ChangesOneThing w t v
+same_one w v t h = inl (0, (λ k ne. h.0 k), h.1)
+
+filled_same : (w : State) (keys : Keys) (who : Option ℕ) → Same w (filled_with w keys who)
+filled_same w (One key) who = (λ l. refl, λ key. refl)
+filled_same w (Two first second) who = (λ l. refl, λ key. refl)
+
+left_same : (w : State) (keys : Keys) (x : Wakes) → Same w (awakened (filled_with w keys None) x)
+left_same w (One key) wakes.TheVariants.Nobody = (λ l. refl, λ key. refl)
+left_same w (One key) (wakes.TheVariants.One u note) = (λ l. refl, λ key. refl)
+left_same w (Two first second) wakes.TheVariants.Nobody = (λ l. refl, λ key. refl)
+left_same w (Two first second) (wakes.TheVariants.One u note) = (λ l. refl, λ key. refl)
+
+-- a thread that goes on changes its place only, beside what its act does
+put_one : (w v : State) (t u : ℕ) (p : Place) → ChangesOneThing w t v → ChangesOneThing w t (put v u p)
+put_one w v t u p (inl h) = inl h
+put_one w v t u p (inr h) = inr h
+
+module _ (w : State) (t : ℕ) (sound : IsSound w) (only : OnlyMutexes w) where
+  word_one : (p : Place) (l : ℕ) (f : op.Op) → ChangesOneThing w t (operated w t p l f)
+  word_one p l f = inl (l, (λ k ne. ap (λ x. x.word) (get_or-set_other w.locks l k _ (unlocked kind.TheVariants.Mutex) ne)), λ key. refl)
+
+  stays : ChangesOneThing w t w
+  stays = same_one w w t (λ l. refl, λ key. refl)
+
+  filled_one : (keys : Keys) (who : Option ℕ) → ChangesOneThing w t (filled_with w keys who)
+  filled_one keys who = same_one w (filled_with w keys who) t (filled_same w keys who)
+
+  left_one : (keys : Keys) (x : Wakes) → ChangesOneThing w t (awakened (filled_with w keys None) x)
+  left_one keys x = same_one w (awakened (filled_with w keys None) x) t (left_same w keys x)
+
+  held_by : (l : ℕ) → inside (place_at w t) ≡ Some l → section_at w (2 * l) ≡ Some t
+  held_by l h = (sound.sections t l).0 h
+
+  -- where a thread leaves the queues in which it stands, others are as they were
+  removed_at : (l : ℕ) → inside (place_at w t) ≡ Some l → ((k : ℕ) → k ≢ l → one_if (queued (place_at w t)) k ≡ 0) → (key : ℕ) → (get_or (map (without t) w.queues) key [] ≡ queue_at w key) ⊎ (section_at w key ≡ Some t)
+  removed_at l within nowhere key = elim (parity key) [
+    | inl h ↦ elim (cases_eq h.0 l) [
+      | inl e ↦ inr (rw (h.1, e) (held_by l within))
+      | inr ne ↦ inl (rw h.1 (get_or-map (without t) w.queues (2 * h.0) [] ∙ without_absent t (queue_at w (2 * h.0)) (sound.queues t h.0 ∙ nowhere h.0 ne)))
+    ]
+    | inr h ↦ inl (rw h.1 (get_or-map (without t) w.queues (2 * h.0 + 1) [] ∙ ap (without t) (only.aside h.0) ∙ sym (only.aside h.0)))
+  ]
+
+  -- a queue is set whose section the thread is in
+  set_at : (l : ℕ) (queues : List (List _)) (q : List _) → inside (place_at w t) ≡ Some l → ((key : ℕ) → (get_or queues key [] ≡ queue_at w key) ⊎ (section_at w key ≡ Some t))
+      → (key : ℕ) → (get_or (set queues (2 * l) q) key [] ≡ queue_at w key) ⊎ (section_at w key ≡ Some t)
+  set_at l queues q within others key = elim (cases_eq key (2 * l)) [
+    | inl e ↦ inr (rw e (held_by l within))
+    | inr ne ↦ elim (others key) [
+      | inl h ↦ inl (get_or-set_other queues (2 * l) key q [] ne ∙ h)
+      | inr h ↦ inr h
+    ]
+  ]
+
+  check_one : (l : ℕ) (timed retries : Bool) → place_at w t ≡ Mutex l (Lock timed retries Check) → (b : Bool) → ChangesOneThing w t (if b then record w { queues = appended w.queues (2 * l) t Exclusive } else w)
+  check_one l timed retries is false = stays
+  check_one l timed retries is true = inr ((λ k. refl), set_at l (map (without t) w.queues) (get_or (map (without t) w.queues) (2 * l) [] ++ waiter (2 * l) t Exclusive ∷ []) (rw is refl) (removed_at l (rw is refl) (rw is (λ k ne. refl))))
+
+  take_one : (l : ℕ) → place_at w t ≡ Mutex l (Unlock unlock.Take) → (o : Option ℕ) → ChangesOneThing w t (taken_by (record w { queues = first_taken w.queues (2 * l) }) t o)
+  take_one l is None = inr ((λ k. refl), set_at l w.queues (drop 1 (queue_at w (2 * l))) (rw is refl) (λ key. inl refl))
+  take_one l is (Some u) = inr ((λ k. refl), set_at l w.queues (drop 1 (queue_at w (2 * l))) (rw is refl) (λ key. inl refl))
+
+  remove_one : (l : ℕ) (timed retries : Bool) → place_at w t ≡ Mutex l (Lock timed retries Remove) → ChangesOneThing w t (record w { queues = removed w.queues t })
+  remove_one l timed retries is = inr ((λ k. refl), removed_at l (rw is refl) (rw is (λ k ne. one_if_other k ne)))
+    where
+      one_if_other : (k : ℕ) → k ≢ l → one_if (Some l) k ≡ 0
+      one_if_other k ne = grind (arith, nat_tests)
+
+  decided_one : (l : ℕ) (timed retries : Bool) (s : ℕ) (a b : Bool) → ChangesOneThing w t (performed w t (Mutex l (Lock timed retries (Decide s))) (if not a then act.TheVariants.Word l (op.TheVariants.Exchange s (s + 1)) else if b then act.TheVariants.Word l (op.TheVariants.Exchange 1 3) else act.TheVariants.Enter (One (2 * l))))
+  decided_one l timed retries s false b = word_one (Mutex l (Lock timed retries (Decide s))) l (op.TheVariants.Exchange s (s + 1))
+  decided_one l timed retries s true true = word_one (Mutex l (Lock timed retries (Decide s))) l (op.TheVariants.Exchange 1 3)
+  decided_one l timed retries s true false = filled_one (One (2 * l)) (Some t)
+
+  lock_one : (l : ℕ) (timed retries : Bool) (a : LockAt) → place_at w t ≡ Mutex l (Lock timed retries a) → ChangesOneThing w t (performed w t (Mutex l (Lock timed retries a)) (lock_act l a))
+  lock_one l timed retries First is = word_one (Mutex l (Lock timed retries First)) l (op.TheVariants.Exchange 0 1)
+  lock_one l timed retries Load is = word_one (Mutex l (Lock timed retries Load)) l op.TheVariants.Load
+  lock_one l timed retries (Decide s) is = decided_one l timed retries s (is_locked s) (s == 1)
+  lock_one l timed retries Check is = check_one l timed retries is (word_at w l == 3)
+  lock_one l timed retries (Leave b) is = left_one (One (2 * l)) wakes.TheVariants.Nobody
+  lock_one l timed retries Asleep is = stays
+  lock_one l timed retries (Taken by) is = stays
+  lock_one l timed retries Remove is = remove_one l timed retries is
+  lock_one l timed retries Clear is = word_one (Mutex l (Lock timed retries Clear)) l (op.TheVariants.And NOT_PARKED)
+  lock_one l timed retries GiveUp is = left_one (One (2 * l)) wakes.TheVariants.Nobody
+
+  unlock_one : (l : ℕ) (a : UnlockAt) → place_at w t ≡ Mutex l (Unlock a) → ChangesOneThing w t (performed w t (Mutex l (Unlock a)) (unlock_act l a))
+  unlock_one l unlock.Subtract is = word_one (Mutex l (Unlock unlock.Subtract)) l (op.TheVariants.Sub 1)
+  unlock_one l unlock.Enter is = filled_one (One (2 * l)) (Some t)
+  unlock_one l unlock.Take is = take_one l is (first_of (queue_at w (2 * l)))
+  unlock_one l (unlock.Clear taken) is = word_one (Mutex l (Unlock (unlock.Clear taken))) l (op.TheVariants.And NOT_PARKED)
+  unlock_one l (unlock.Leave None) is = left_one (One (2 * l)) wakes.TheVariants.Nobody
+  unlock_one l (unlock.Leave (Some u)) is = left_one (One (2 * l)) (wakes.TheVariants.One u Normal)
+
+  act_one : (p : Place) → place_at w t ≡ p → ChangesOneThing w t (performed w t p (act_of p))
+  act_one Idle is = stays
+  act_one (Mutex l (Lock timed retries a)) is = lock_one l timed retries a is
+  act_one (Mutex l TryLock) is = word_one (Mutex l TryLock) l (op.TheVariants.Or 1)
+  act_one (Mutex l (Unlock a)) is = unlock_one l a is
+
+  spin_one : (o : Option ℕ) → ChangesOneThing w t (spun_on w t o)
+  spin_one None = stays
+  spin_one (Some l) = put_one w w t t (next_place (place_at w t) (Spun (word_at w l))) stays
+
+  late_one : (o : Option ℕ) → ChangesOneThing w t (late_on w t o)
+  late_one None = stays
+  late_one (Some key) = put_one w (filled_with w (One key) (Some t)) t t (next_place (place_at w t) Late) (filled_one (One key) (Some t))
+
+  turned_one : (x : Turn) → ChangesOneThing w t (turned w t x)
+  turned_one (turn.TheVariants.Begin c) = put_one w w t t (first_place c) stays
+  turned_one turn.TheVariants.Go = put_one w (performed w t (place_at w t) (act_of (place_at w t))) t t (next_place (place_at w t) (go_reply w t)) (act_one (place_at w t) refl)
+  turned_one turn.TheVariants.Spin = spin_one (spin_lock (place_at w t))
+  turned_one turn.TheVariants.Late = late_one (late_key (place_at w t))
+  turned_one x = stays
+
+pub one_thing : (w : State) (s : Step) → IsSound w → OnlyMutexes w → ChangesOneThing w s.thread (after w s)
+one_thing w s sound only = either (is_possible w s)
+  where
+    either : (b : Bool) → ChangesOneThing w s.thread (if b then turned w s.thread s.turn else w)
+    either true = turned_one w s.thread sound only s.turn
+    either false = same_one w w s.thread (λ k. refl, λ key. refl)
+
+pub each_one_thing : (w : State) (ss : List Step) → IsShaped w → IsSound w → OnlyMutexes w → EachChangesOneThing w ss
+each_one_thing w [] shape sound only = tt
+each_one_thing w (s ∷ ss) shape sound only = (one_thing w s sound only, each_one_thing (after w s) ss (after_shaped w s shape) (after_sound w s shape sound) (after_only w s only))

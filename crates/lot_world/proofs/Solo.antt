@@ -1,0 +1,366 @@
+-- A call whose thread steps alone: from each place, where it ends or falls asleep.
+use Rattle.std.proofs.Common.{ℕ, zero, suc, Bool, true, false, Option, Some, None, if◌then◌else◌, ◌==◌, ◌&&◌, not, ◌≡◌, ◌≢◌, ◌+◌, ◌*◌, ◌≤◌, ◌<◌, inl, inr, List, [], ◌∷◌, ◌++◌, length, get_or, drop, map, replicate, refl, sym, ◌∙◌, ap, subst, arith}
+use Rattle.std.proofs.lemmas.Bool.{cases_eq, eqb-true}
+use Rattle.std.proofs.lemmas.Bool.Decides.{nat_tests}
+use Rattle.parking_lot_core.specs.declared.notes.Note.TheVariants.{Normal}
+use Rattle.parking_lot_core.specs.declared.ops.Op as op
+use Rattle.parking_lot_core.specs.declared.wants.Waiter.{Waiter}
+use Rattle.parking_lot_core.specs.declared.wants.Want.TheVariants.{Exclusive}
+use Rattle.parking_lot_core.specs.Words.{apply}
+use Rattle.parking_lot_core.specs.Lines.{waiter, without, first_of}
+use Rattle.lot_steps.specs.declared.acts.Act.{Act}
+use Rattle.lot_steps.specs.declared.acts.Act as act
+use Rattle.lot_steps.specs.declared.acts.Reply.TheVariants.{Value, Took, Removed}
+use Rattle.lot_steps.specs.declared.acts.Next as next
+use Rattle.lot_steps.specs.declared.calls.Answer as answer
+use Rattle.lot_steps.specs.declared.calls.Call.{Call}
+use Rattle.lot_steps.specs.declared.calls.Call as call
+use Rattle.lot_steps.specs.declared.mutex.MutexCall.{MutexCall}
+use Rattle.lot_steps.specs.declared.mutex.MutexCall as mutex_call
+use Rattle.lot_steps.specs.declared.kinds.Kind as kind
+use Rattle.lot_steps.specs.declared.calls.Outcome.{Outcome}
+use Rattle.lot_steps.specs.declared.calls.Outcome as outcome
+use Rattle.lot_steps.specs.declared.mutex.TheConstants.{NOT_PARKED}
+use Rattle.lot_steps.specs.declared.mutex.MutexPlace.TheVariants.{Lock, TryLock, Unlock}
+use Rattle.lot_steps.specs.declared.mutex.LockAt.{LockAt}
+use Rattle.lot_steps.specs.declared.mutex.LockAt.TheVariants.{First, Load, Decide, Check, Leave, Asleep, Taken, Remove, Clear, GiveUp}
+use Rattle.lot_steps.specs.declared.mutex.UnlockAt.{UnlockAt}
+use Rattle.lot_steps.specs.declared.mutex.UnlockAt.TheVariants as unlock
+use Rattle.lot_steps.specs.declared.places.Place.{Place}
+use Rattle.lot_steps.specs.declared.places.Place.TheVariants.{Idle, Mutex}
+use Rattle.lot_steps.specs.Acts.{outcome_of}
+use Rattle.lot_steps.specs.MutexSteps.{mutex_first, is_locked, is_parked, entered, in_unlock}
+use Rattle.lot_steps.specs.Steps.{act_of, next_place, next_act, mutex_goes, mutex_does, lock_of, first_place}
+use Rattle.lot_world.specs.Machine.{State, place_at, word_at, kind_at, queue_at, section_at, go_of, after, solo, after_all, alone_after, answered}
+use Rattle.lot_world.specs.Fits.{IsShaped, PlaceFits}
+use Rattle.lot_world.specs.Promises.{Codes}
+use Rattle.lot_world.specs.Sound.{IsSound, owner_at, inside}
+use Rattle.lot_world.proofs.Words.{by_code, owner_after}
+use Rattle.lot_world.specs.Locks.{Rules, MayEnter, IsBlocked}
+use Rattle.lot_world.specs.Purposes.{Releases, Try, patience_of, rules_of, purpose_of, mutex_purpose}
+use Rattle.lot_world.specs.LockRuns.{AreLockStates, rules_at, purpose_at}
+use Rattle.lot_world.specs.Refinement.{lock_state, locks_of, queued_of}
+use Rattle.lot_world.specs.Solo.{Rests, IsUnderWay, HasItsWay, EntersAlone, EndsAlone, IsSoloRun}
+use Rattle.lot_world.specs.OnlyMutexes.{CallFits, OnlyMutexes}
+use Rattle.lot_world.proofs.LockRuns.{refines}
+use Rattle.lot_world.proofs.Promises.{kept_throughout}
+use Rattle.lot_world.proofs.LockEvents.{mutex_rules, queued_behind}
+use Rattle.lot_world.proofs.LockSteps.{free_word, owned_word, decides}
+use Rattle.lot_world.proofs.SoloActs.{Leads, leads_rest, leads_step, Facing, Faces, word_faces, enter_faces, leave_faces, wake_faces, park_faces, unparked_faces, remove_faces, take_faces}
+
+leads_more : (k m : ℕ) (w : State) (t : ℕ) (P : State → Outcome → Type 0) → k ≤ m → Leads k w t P → Leads m w t P
+leads_more k m w t P le h n last bound = h n last (omega arith)
+
+leads_so : (k : ℕ) (w : State) (t : ℕ) (P Q : State → Outcome → Type 0) → ((v : State) (x : Outcome) → P v x → Q v x) → Leads k w t P → Leads k w t Q
+leads_so k w t P Q so h n last bound = so _ _ (h n last bound)
+
+-- ---------------------------------------------------------------- lock
+
+-- where nobody owns the mutex it is entered, else the thread sleeps as the last of the queue
+abbrev pub LockEnds : ℕ → ℕ → Bool → Option ℕ → List Waiter → State → Outcome → Type 0
+LockEnds t l timed None q v x = (x ≡ outcome.TheVariants.End (entered timed)) × (owner_at v l ≡ Some t)
+LockEnds t l timed (Some u) q v x = (x ≡ outcome.TheVariants.Sleep) × (queue_at v (2 * l) ≡ q ++ waiter (2 * l) t Exclusive ∷ [])
+
+module _ (t l : ℕ) (timed : Bool) (q : List Waiter) where
+  -- it parks
+  sleep_leads : (retries : Bool) (u : ℕ) (w : State) → Facing w t l (Mutex l (Lock timed retries (Leave true))) 3 (Some u) (Some t) (q ++ waiter (2 * l) t Exclusive ∷ []) → Leads 1 w t (LockEnds t l timed (Some u) q)
+  sleep_leads retries u w f = let h = leave_faces w t l _ 3 (Some u) (Some t) _ f refl in leads_rest w t (LockEnds t l timed (Some u) q) outcome.TheVariants.Sleep h.0 tt (refl, h.1.queue)
+
+  check_full : (retries : Bool) (u : ℕ) (w : State) → Facing w t l (Mutex l (Lock timed retries Check)) 3 (Some u) (Some t) q → Leads 2 w t (LockEnds t l timed (Some u) q)
+  check_full retries u w f = let h = park_faces w t l _ 3 (Some u) (Some t) q f refl refl refl in leads_step w t (LockEnds t l timed (Some u) q) 1 h.0 (sleep_leads (retries && not true) u _ h.1)
+
+  decide_full : (retries : Bool) (u : ℕ) (w : State) → Facing w t l (Mutex l (Lock timed retries (Decide 3))) 3 (Some u) None q → Leads 3 w t (LockEnds t l timed (Some u) q)
+  decide_full retries u w f = let h = enter_faces w t l _ 3 (Some u) None q f refl refl in leads_step w t (LockEnds t l timed (Some u) q) 2 h.0 (check_full retries u _ h.1)
+
+  -- it decides by the word as it is
+  decide_leads : (retries : Bool) (v : ℕ) (o : Option ℕ) → Codes v o → (w : State) → Facing w t l (Mutex l (Lock timed retries (Decide v))) v o None q → Leads 4 w t (LockEnds t l timed o q)
+  decide_leads retries = by_code (λ v o. (w : State) → Facing w t l (Mutex l (Lock timed retries (Decide v))) v o None q → Leads 4 w t (LockEnds t l timed o q))
+      (λ w f. let h = word_faces w t l _ 0 None None q f (op.TheVariants.Exchange 0 1) refl in leads_more 1 4 w t (LockEnds t l timed None q) (omega arith) (leads_rest w t (LockEnds t l timed None q) (outcome.TheVariants.End (entered timed)) h.0 tt (refl, h.1.owner)))
+      (λ w f. let h = word_faces w t l _ 2 None None q f (op.TheVariants.Exchange 2 3) refl in leads_more 1 4 w t (LockEnds t l timed None q) (omega arith) (leads_rest w t (LockEnds t l timed None q) (outcome.TheVariants.End (entered timed)) h.0 tt (refl, h.1.owner)))
+      (λ u w f. let h = word_faces w t l _ 1 (Some u) None q f (op.TheVariants.Exchange 1 3) refl in leads_step w t (LockEnds t l timed (Some u) q) 3 h.0 (decide_full retries u _ h.1))
+      (λ u w f. leads_more 3 4 w t (LockEnds t l timed (Some u) q) (omega arith) (decide_full retries u w f))
+
+  coded : (w : State) (p : Place) (v : ℕ) (o s : Option ℕ) → Facing w t l p v o s q → Codes v o
+  coded w p v o s f = let c : Codes (word_at w l) (owner_at w l) = f.sound.codes l in rw (f.word, f.owner) at c
+
+  load_leads : (retries : Bool) (v : ℕ) (o : Option ℕ) (w : State) → Facing w t l (Mutex l (Lock timed retries Load)) v o None q → Leads 5 w t (LockEnds t l timed o q)
+  load_leads retries v o w f = let h = word_faces w t l (Mutex l (Lock timed retries Load)) v o None q f op.TheVariants.Load refl in
+      leads_step w t (LockEnds t l timed o q) 4 (h.0 ∙ decides l v) (decide_leads retries v o (coded w _ v o None f) _ h.1)
+
+  first_leads : (retries : Bool) (v : ℕ) (o : Option ℕ) → Codes v o → (w : State) → Facing w t l (Mutex l (Lock timed retries First)) v o None q → Leads 6 w t (LockEnds t l timed o q)
+  first_leads retries = by_code (λ v o. (w : State) → Facing w t l (Mutex l (Lock timed retries First)) v o None q → Leads 6 w t (LockEnds t l timed o q))
+      (λ w f. let h = word_faces w t l _ 0 None None q f (op.TheVariants.Exchange 0 1) refl in leads_more 1 6 w t (LockEnds t l timed None q) (omega arith) (leads_rest w t (LockEnds t l timed None q) (outcome.TheVariants.End (entered timed)) h.0 tt (refl, h.1.owner)))
+      (λ w f. let h = word_faces w t l _ 2 None None q f (op.TheVariants.Exchange 0 1) refl in leads_step w t (LockEnds t l timed None q) 5 h.0 (load_leads retries 2 None _ h.1))
+      (λ u w f. let h = word_faces w t l _ 1 (Some u) None q f (op.TheVariants.Exchange 0 1) refl in leads_step w t (LockEnds t l timed (Some u) q) 5 h.0 (load_leads retries 1 (Some u) _ h.1))
+      (λ u w f. let h = word_faces w t l _ 3 (Some u) None q f (op.TheVariants.Exchange 0 1) refl in leads_step w t (LockEnds t l timed (Some u) q) 5 h.0 (load_leads retries 3 (Some u) _ h.1))
+
+  -- ---------------------------------------------------------------- from any place
+
+  abbrev Resting : State → Outcome → Type 0
+  Resting v x = Rests x
+
+  rests_so : (o : Option ℕ) (v : State) (x : Outcome) → LockEnds t l timed o q v x → Rests x
+  rests_so None v x h = rw (h.0) tt
+  rests_so (Some u) v x h = rw (h.0) tt
+
+  load_rests : (retries : Bool) (v : ℕ) (o : Option ℕ) (w : State) → Facing w t l (Mutex l (Lock timed retries Load)) v o None q → Leads 5 w t Resting
+  load_rests retries v o w f = leads_so 5 w t (LockEnds t l timed o q) Resting (rests_so o) (load_leads retries v o w f)
+
+  gives_up_rests : (retries : Bool) (v : ℕ) (o s : Option ℕ) (w : State) → Facing w t l (Mutex l (Lock timed retries GiveUp)) v o s q → Leads 1 w t Resting
+  gives_up_rests retries v o s w f = let h = leave_faces w t l _ v o s q f refl in leads_rest w t Resting (outcome.TheVariants.End answer.TheVariants.No) h.0 tt tt
+
+  clear_rests : (retries : Bool) (v : ℕ) (o s : Option ℕ) (w : State) → Facing w t l (Mutex l (Lock timed retries Clear)) v o s q → Leads 2 w t Resting
+  clear_rests retries v o s w f = let h = word_faces w t l _ v o s q f (op.TheVariants.And NOT_PARKED) refl in leads_step w t Resting 1 h.0 (gives_up_rests retries _ o s _ h.1)
+
+module _ (t l : ℕ) (timed : Bool) where
+  leave_rests : (retries b : Bool) (v : ℕ) (o s : Option ℕ) (q : List Waiter) (w : State) → Facing w t l (Mutex l (Lock timed retries (Leave b))) v o s q → Leads 6 w t (λ x y. Rests y)
+  leave_rests retries true v o s q w f = let h = leave_faces w t l _ v o s q f refl in leads_more 1 6 w t (λ x y. Rests y) (omega arith) (leads_rest w t (λ x y. Rests y) outcome.TheVariants.Sleep h.0 tt tt)
+  leave_rests retries false v o s q w f = let h = leave_faces w t l _ v o s q f refl in leads_step w t (λ x y. Rests y) 5 h.0 (load_rests t l timed q retries v o _ h.1)
+
+  check_rests : (retries : Bool) (v : ℕ) (o s : Option ℕ) (q : List Waiter) (w : State) → Facing w t l (Mutex l (Lock timed retries Check)) v o s q → Leads 7 w t (λ x y. Rests y)
+  check_rests retries v o s q w f = either (v == 3) refl
+    where
+      either : (b : Bool) → (v == 3) ≡ b → Leads 7 w t (λ x y. Rests y)
+      either true e = let h = park_faces w t l _ v o s q f refl (eqb-true v 3 e) refl in leads_step w t (λ x y. Rests y) 6 h.0 (leave_rests (retries && not true) true v o s _ _ h.1)
+      either false e = let h = unparked_faces w t l _ v o s q f refl e in leads_step w t (λ x y. Rests y) 6 h.0 (leave_rests (retries && not false) false v o s q _ h.1)
+
+  remove_rests : (retries : Bool) (v : ℕ) (o s : Option ℕ) (q : List Waiter) (w : State) → Facing w t l (Mutex l (Lock timed retries Remove)) v o s q → Leads 3 w t (λ x y. Rests y)
+  remove_rests retries v o s q w f = either (length (without t q) == 0) (remove_faces w t l (Mutex l (Lock timed retries Remove)) v o s q f refl)
+    where
+      either : (b : Bool) → Faces w t l (next_place (Mutex l (Lock timed retries Remove)) (Removed b)) (outcome_of (next_act (Mutex l (Lock timed retries Remove)) (Removed b))) v o s (without t q) → Leads 3 w t (λ x y. Rests y)
+      either true h = leads_step w t (λ x y. Rests y) 2 h.0 (clear_rests t l timed (without t q) retries v o s _ h.1)
+      either false h = leads_more 2 3 w t (λ x y. Rests y) (omega arith) (leads_step w t (λ x y. Rests y) 1 h.0 (gives_up_rests t l timed (without t q) retries v o s _ h.1))
+
+  -- it decides by a value that the word has no longer, or still
+  decide_rests : (retries : Bool) (x v : ℕ) (o : Option ℕ) (q : List Waiter) (w : State) → Facing w t l (Mutex l (Lock timed retries (Decide x))) v o None q → Leads 8 w t (λ a y. Rests y)
+  decide_rests retries x v o q w f = elim (cases_eq v x) [
+    | inl e ↦ let g : Facing w t l (Mutex l (Lock timed retries (Decide v))) v o None q = subst (λ y. Facing w t l (Mutex l (Lock timed retries (Decide y))) v o None q) (sym e) f in
+        leads_more 4 8 w t (λ a y. Rests y) (omega arith) (leads_so 4 w t (LockEnds t l timed o q) (λ a y. Rests y) (rests_so t l timed q o) (decide_leads t l timed q retries v o (coded t l timed q w _ v o None f) w g))
+    | inr ne ↦ either (is_locked x) (x == 1) refl refl (stale ne)
+  ]
+    where
+      stale : v ≢ x → (v == x) ≡ false
+      stale ne = grind (arith, nat_tests)
+
+      here : Place
+      here = Mutex l (Lock timed retries (Decide x))
+
+      -- the exchange fails, and it decides by what it has seen
+      exchanged : (y : op.Op) → act_of (Mutex l (Lock timed retries (Decide x))) ≡ act.TheVariants.Word l y → apply y v ≡ v → (v == x) ≡ false → Leads 8 w t (λ a z. Rests z)
+      exchanged y is stays no_more = again (word_faces w t l (Mutex l (Lock timed retries (Decide x))) v o None q f y is)
+        where
+          again : Faces w t l (next_place (Mutex l (Lock timed retries (Decide x))) (Value v)) (outcome_of (next_act (Mutex l (Lock timed retries (Decide x))) (Value v))) (apply y v) (owner_after (Mutex l (Lock timed retries (Decide x))) t v o) None q → Leads 8 w t (λ a z. Rests z)
+          again h = let told : outcome_of (next_act (Mutex l (Lock timed retries (Decide x))) (Value v)) ≡ outcome.TheVariants.Step = rw no_more (decides l v) in
+              let to : next_place (Mutex l (Lock timed retries (Decide x))) (Value v) ≡ Mutex l (Lock timed retries (Decide v)) = rw no_more refl in
+              let own : owner_after (Mutex l (Lock timed retries (Decide x))) t v o ≡ o = rw no_more refl in
+              let g : Facing (after w (go_of t)) t l (Mutex l (Lock timed retries (Decide v))) v o None q =
+              subst (λ z. Facing (after w (go_of t)) t l z v o None q) to (subst (λ n. Facing (after w (go_of t)) t l (next_place (Mutex l (Lock timed retries (Decide x))) (Value v)) n o None q) stays
+              (subst (λ u. Facing (after w (go_of t)) t l (next_place (Mutex l (Lock timed retries (Decide x))) (Value v)) (apply y v) u None q) own h.1)) in
+              leads_more 5 8 w t (λ a z. Rests z) (omega arith) (leads_step w t (λ a z. Rests z) 4 (h.0 ∙ told)
+              (leads_so 4 (after w (go_of t)) t (LockEnds t l timed o q) (λ a z. Rests z) (rests_so t l timed q o) (decide_leads t l timed q retries v o (coded t l timed q w _ v o None f) (after w (go_of t)) g)))
+
+      either : (a b : Bool) → is_locked x ≡ a → (x == 1) ≡ b → (v == x) ≡ false → Leads 8 w t (λ c y. Rests y)
+      either false b ea eb no_more = exchanged (op.TheVariants.Exchange x (x + 1)) (rw ea refl) (rw no_more refl) no_more
+      either true true ea eb no_more = let not_1 : (v == 1) ≡ false = subst (λ n. (v == n) ≡ false) (eqb-true x 1 eb) no_more in exchanged (op.TheVariants.Exchange 1 3) (rw (ea, eb) refl) (rw not_1 refl) no_more
+      either true false ea eb no_more = let h = enter_faces w t l (Mutex l (Lock timed retries (Decide x))) v o None q f (rw (ea, eb) refl) refl in leads_step w t (λ c y. Rests y) 7 h.0 (check_rests retries v o (Some t) q _ h.1)
+
+  -- a section that is free where the thread is outside, and its own where it is inside
+  abbrev Way : Place → Option ℕ → Type 0
+  Way p s = inside p ≡ None → s ≡ None
+
+  lock_rests : (retries : Bool) (a : LockAt) (v : ℕ) (o s : Option ℕ) (q : List Waiter) (w : State) → Facing w t l (Mutex l (Lock timed retries a)) v o s q → Way (Mutex l (Lock timed retries a)) s → act_of (Mutex l (Lock timed retries a)) ≢ act.TheVariants.Sleep → Leads 8 w t (λ c y. Rests y)
+  lock_rests retries First v o s q w f way up = let g : Facing w t l (Mutex l (Lock timed retries First)) v o None q = subst (λ x. Facing w t l (Mutex l (Lock timed retries First)) v o x q) (way refl) f in
+      leads_more 6 8 w t (λ c y. Rests y) (omega arith) (leads_so 6 w t (LockEnds t l timed o q) (λ c y. Rests y) (rests_so t l timed q o) (first_leads t l timed q retries v o (coded t l timed q w _ v o None g) w g))
+  lock_rests retries Load v o s q w f way up = leads_more 5 8 w t (λ c y. Rests y) (omega arith) (load_rests t l timed q retries v o w (subst (λ x. Facing w t l (Mutex l (Lock timed retries Load)) v o x q) (way refl) f))
+  lock_rests retries (Decide x) v o s q w f way up = decide_rests retries x v o q w (subst (λ y. Facing w t l (Mutex l (Lock timed retries (Decide x))) v o y q) (way refl) f)
+  lock_rests retries Check v o s q w f way up = leads_more 7 8 w t (λ c y. Rests y) (omega arith) (check_rests retries v o s q w f)
+  lock_rests retries (Leave b) v o s q w f way up = leads_more 6 8 w t (λ c y. Rests y) (omega arith) (leave_rests retries b v o s q w f)
+  lock_rests retries Asleep v o s q w f way up = absurd (up refl)
+  lock_rests retries (Taken by) v o s q w f way up = absurd (up refl)
+  lock_rests retries Remove v o s q w f way up = leads_more 3 8 w t (λ c y. Rests y) (omega arith) (remove_rests retries v o s q w f)
+  lock_rests retries Clear v o s q w f way up = leads_more 2 8 w t (λ c y. Rests y) (omega arith) (clear_rests t l timed q retries v o s w f)
+  lock_rests retries GiveUp v o s q w f way up = leads_more 1 8 w t (λ c y. Rests y) (omega arith) (gives_up_rests t l timed q retries v o s w f)
+
+-- ---------------------------------------------------------------- try_lock and unlock
+
+-- yes exactly where the word is unlocked
+pub try_leads : (t l : ℕ) (q : List Waiter) (s : Option ℕ) (v : ℕ) (o : Option ℕ) (w : State) → Facing w t l (Mutex l TryLock) v o s q
+    → Leads 1 w t (λ x y. (y ≡ (if is_locked v then outcome.TheVariants.End answer.TheVariants.No else outcome.TheVariants.End answer.TheVariants.Yes)) × (owner_at x l ≡ (if is_locked v then o else Some t)))
+try_leads t l q s v o w f = either (is_locked v) refl
+  where
+    either : (b : Bool) → is_locked v ≡ b → Leads 1 w t (λ x y. (y ≡ (if b then outcome.TheVariants.End answer.TheVariants.No else outcome.TheVariants.End answer.TheVariants.Yes)) × (owner_at x l ≡ (if b then o else Some t)))
+    either true e = let h = word_faces w t l (Mutex l TryLock) v o s q f (op.TheVariants.Or 1) refl in
+        leads_rest w t (λ x y. (y ≡ outcome.TheVariants.End answer.TheVariants.No) × (owner_at x l ≡ o)) (outcome.TheVariants.End answer.TheVariants.No) (h.0 ∙ rw e refl) tt (refl, h.1.owner ∙ rw e refl)
+    either false e = let h = word_faces w t l (Mutex l TryLock) v o s q f (op.TheVariants.Or 1) refl in
+        leads_rest w t (λ x y. (y ≡ outcome.TheVariants.End answer.TheVariants.Yes) × (owner_at x l ≡ Some t)) (outcome.TheVariants.End answer.TheVariants.Yes) (h.0 ∙ rw e refl) tt (refl, h.1.owner ∙ rw e refl)
+
+abbrev pub UnlockEnds : ℕ → Option ℕ → State → Outcome → Type 0
+UnlockEnds l o x y = (y ≡ outcome.TheVariants.End answer.TheVariants.Ok) × (owner_at x l ≡ o)
+
+module _ (t l : ℕ) where
+  woke_leads : (taken : Option ℕ) (q : List Waiter) (v : ℕ) (o s : Option ℕ) (w : State) → Facing w t l (Mutex l (Unlock (unlock.Leave taken))) v o s q → Leads 1 w t (UnlockEnds l o)
+  woke_leads None q v o s w f = let h = leave_faces w t l (Mutex l (Unlock (unlock.Leave None))) v o s q f refl in leads_rest w t (UnlockEnds l o) (outcome.TheVariants.End answer.TheVariants.Ok) h.0 tt (refl, h.1.owner)
+  woke_leads (Some u) q v o s w f = let h = wake_faces w t l (Mutex l (Unlock (unlock.Leave (Some u)))) v o s q f u Normal refl in leads_rest w t (UnlockEnds l o) (outcome.TheVariants.End answer.TheVariants.Ok) h.0 tt (refl, h.1.owner)
+
+  cleared_leads : (taken : Option ℕ) (q : List Waiter) (v : ℕ) (o s : Option ℕ) (w : State) → Facing w t l (Mutex l (Unlock (unlock.Clear taken))) v o s q → Leads 2 w t (UnlockEnds l o)
+  cleared_leads taken q v o s w f = let h = word_faces w t l (Mutex l (Unlock (unlock.Clear taken))) v o s q f (op.TheVariants.And NOT_PARKED) refl in leads_step w t (UnlockEnds l o) 1 h.0 (woke_leads taken q _ o s _ h.1)
+
+  take_leads : (q : List Waiter) (v : ℕ) (o s : Option ℕ) (w : State) → Facing w t l (Mutex l (Unlock unlock.Take)) v o s q → Leads 3 w t (UnlockEnds l o)
+  take_leads q v o s w f = either (length (drop 1 q) == 0) (take_faces w t l (Mutex l (Unlock unlock.Take)) v o s q f refl)
+    where
+      either : (b : Bool) → Faces w t l (next_place (Mutex l (Unlock unlock.Take)) (Took (first_of q) b)) (outcome_of (next_act (Mutex l (Unlock unlock.Take)) (Took (first_of q) b))) v o s (drop 1 q) → Leads 3 w t (UnlockEnds l o)
+      either true h = leads_step w t (UnlockEnds l o) 2 h.0 (cleared_leads (first_of q) (drop 1 q) v o s _ h.1)
+      either false h = leads_more 2 3 w t (UnlockEnds l o) (omega arith) (leads_step w t (UnlockEnds l o) 1 h.0 (woke_leads (first_of q) (drop 1 q) v o s _ h.1))
+
+  enter_leads : (q : List Waiter) (v : ℕ) (o : Option ℕ) (w : State) → Facing w t l (Mutex l (Unlock unlock.Enter)) v o None q → Leads 4 w t (UnlockEnds l o)
+  enter_leads q v o w f = let h = enter_faces w t l (Mutex l (Unlock unlock.Enter)) v o None q f refl refl in leads_step w t (UnlockEnds l o) 3 h.0 (take_leads q v o (Some t) _ h.1)
+
+  pub subtract_leads : (q : List Waiter) (v : ℕ) (o : Option ℕ) (w : State) → Facing w t l (Mutex l (Unlock unlock.Subtract)) v o None q → Leads 5 w t (UnlockEnds l None)
+  subtract_leads q v o w f = either (is_parked v) (word_faces w t l (Mutex l (Unlock unlock.Subtract)) v o None q f (op.TheVariants.Sub 1) refl)
+    where
+      either : (b : Bool) → Faces w t l (mutex_goes l (in_unlock (if b then next.TheVariants.At unlock.Enter else next.TheVariants.End answer.TheVariants.Ok))) (outcome_of (mutex_does l (in_unlock (if b then next.TheVariants.At unlock.Enter else next.TheVariants.End answer.TheVariants.Ok))))
+          (apply (op.TheVariants.Sub 1) v) None None q → Leads 5 w t (UnlockEnds l None)
+      either true h = leads_step w t (UnlockEnds l None) 4 h.0 (enter_leads q _ None _ h.1)
+      either false h = leads_more 1 5 w t (UnlockEnds l None) (omega arith) (leads_rest w t (UnlockEnds l None) (outcome.TheVariants.End answer.TheVariants.Ok) h.0 tt (refl, h.1.owner))
+
+  ends_so : (o : Option ℕ) (v : State) (x : Outcome) → UnlockEnds l o v x → Rests x
+  ends_so o v x h = rw (h.0) tt
+
+  unlock_rests : (a : UnlockAt) (v : ℕ) (o s : Option ℕ) (q : List Waiter) (w : State) → Facing w t l (Mutex l (Unlock a)) v o s q → (inside (Mutex l (Unlock a)) ≡ None → s ≡ None) → Leads 8 w t (λ c y. Rests y)
+  unlock_rests unlock.Subtract v o s q w f way = leads_more 5 8 w t (λ c y. Rests y) (omega arith) (leads_so 5 w t (UnlockEnds l None) (λ c y. Rests y) (ends_so None) (subtract_leads q v o w (subst (λ x. Facing w t l (Mutex l (Unlock unlock.Subtract)) v o x q) (way refl) f)))
+  unlock_rests unlock.Enter v o s q w f way = leads_more 4 8 w t (λ c y. Rests y) (omega arith) (leads_so 4 w t (UnlockEnds l o) (λ c y. Rests y) (ends_so o) (enter_leads q v o w (subst (λ x. Facing w t l (Mutex l (Unlock unlock.Enter)) v o x q) (way refl) f)))
+  unlock_rests unlock.Take v o s q w f way = leads_more 3 8 w t (λ c y. Rests y) (omega arith) (leads_so 3 w t (UnlockEnds l o) (λ c y. Rests y) (ends_so o) (take_leads q v o s w f))
+  unlock_rests (unlock.Clear taken) v o s q w f way = leads_more 2 8 w t (λ c y. Rests y) (omega arith) (leads_so 2 w t (UnlockEnds l o) (λ c y. Rests y) (ends_so o) (cleared_leads taken q v o s w f))
+  unlock_rests (unlock.Leave taken) v o s q w f way = leads_more 1 8 w t (λ c y. Rests y) (omega arith) (leads_so 1 w t (UnlockEnds l o) (λ c y. Rests y) (ends_so o) (woke_leads taken q v o s w f))
+
+-- ---------------------------------------------------------------- the laws
+
+try_so : (b : Bool) (x : Outcome) → x ≡ (if b then outcome.TheVariants.End answer.TheVariants.No else outcome.TheVariants.End answer.TheVariants.Yes) → Rests x
+try_so true x h = rw h tt
+try_so false x h = rw h tt
+
+module _ (w : State) (t : ℕ) (shape : IsShaped w) (sound : IsSound w) (only : OnlyMutexes w) (there : t < length w.places) (way : HasItsWay w t) where
+  facing : (l : ℕ) (p : Place) → place_at w t ≡ p → l < length w.locks → Facing w t l p (word_at w l) (owner_at w l) (section_at w (2 * l)) (queue_at w (2 * l))
+  facing l p is lt = record { shape = shape; sound = sound; only = only; thread = there; lock = lt; place = is; word = refl; owner = refl; section = refl; queue = refl }
+
+  -- outside its section it finds it free
+  free : (l : ℕ) (p : Place) → place_at w t ≡ p → lock_of p ≡ Some l → inside p ≡ None → (x : Option ℕ) → section_at w (2 * l) ≡ x → x ≡ None
+  free l p is own outside None e = refl
+  free l p is own outside (Some u) e = let mine : u ≡ t = way l u (ap lock_of is ∙ own) e in
+      let within : inside (place_at w t) ≡ Some l = (sound.sections t l).1 (e ∙ ap Some mine) in let out : inside (place_at w t) ≡ None = ap inside is ∙ outside in absurd cc
+
+  place_rests : (p : Place) → place_at w t ≡ p → PlaceFits (length w.places) (length w.locks) p → p ≢ Idle → act_of p ≢ act.TheVariants.Sleep → Leads 8 w t (λ v x. Rests x)
+  place_rests Idle is fits busy up = absurd (busy refl)
+  place_rests (Mutex l (Lock timed retries a)) is fits busy up = lock_rests t l timed retries a (word_at w l) (owner_at w l) (section_at w (2 * l)) (queue_at w (2 * l)) w (facing l (Mutex l (Lock timed retries a)) is fits.0) (λ outside. free l (Mutex l (Lock timed retries a)) is refl outside (section_at w (2 * l)) refl) up
+  place_rests (Mutex l TryLock) is fits busy up = leads_more 1 8 w t (λ v x. Rests x) (omega arith)
+      (leads_so 1 w t (λ v x. (x ≡ (if is_locked (word_at w l) then outcome.TheVariants.End answer.TheVariants.No else outcome.TheVariants.End answer.TheVariants.Yes)) × (owner_at v l ≡ (if is_locked (word_at w l) then owner_at w l else Some t))) (λ v x. Rests x)
+      (λ v x h. try_so (is_locked (word_at w l)) x h.0) (try_leads t l (queue_at w (2 * l)) (section_at w (2 * l)) (word_at w l) (owner_at w l) w (facing l (Mutex l TryLock) is fits.0)))
+  place_rests (Mutex l (Unlock a)) is fits busy up = unlock_rests t l a (word_at w l) (owner_at w l) (section_at w (2 * l)) (queue_at w (2 * l)) w (facing l (Mutex l (Unlock a)) is fits.0) (λ outside. free l (Mutex l (Unlock a)) is refl outside (section_at w (2 * l)) refl)
+
+  -- a call under way ends or sleeps
+  pub solo_rests : IsUnderWay w t → (n : ℕ) (last : Outcome) → 8 ≤ n → Rests (solo n w t last).outcome
+  solo_rests up n last le = place_rests (place_at w t) refl (shape.places t) up.0 up.1 n last le
+
+  -- ---------------------------------------------------------------- calls from their beginning
+
+  module _ (l : ℕ) (kind : kind_at w l ≡ kind.TheVariants.Mutex) (v : State) (x : Outcome) where
+    rules : rules_at (locks_of w) l ≡ mutex_rules
+    rules = ap rules_of kind
+
+    may_own : MayEnter (rules_at (locks_of w) l) (lock_state w l) Exclusive → owner_at w l ≡ None
+    may_own may = let m : MayEnter mutex_rules (lock_state w l) Exclusive = subst (λ (r : Rules). MayEnter r (lock_state w l) Exclusive) rules may in m.0.1
+
+    blocked_owned : IsBlocked (rules_at (locks_of w) l) (lock_state w l) Exclusive → owner_at w l ≡ None → ⊥
+    blocked_owned b = let m : IsBlocked mutex_rules (lock_state w l) Exclusive = subst (λ (r : Rules). IsBlocked r (lock_state w l) Exclusive) rules b in m.1
+
+    lock_alone : (timed : Bool) (o : Option ℕ) → owner_at w l ≡ o → LockEnds t l timed o (queue_at w (2 * l)) v x → EntersAlone (locks_of w) t l Exclusive (patience_of timed) x (locks_of v)
+    lock_alone true None e h = ((λ may. h), λ b. absurd (blocked_owned b e))
+    lock_alone false None e h = ((λ may. h), λ b. absurd (blocked_owned b e))
+    lock_alone true (Some u) e h = ((λ may. absurd (let g : Some u ≡ None = sym e ∙ may_own may in cc)), λ b. (h.0, ap (map queued_of) h.1 ∙ queued_behind (2 * l) t Exclusive (queue_at w (2 * l))))
+    lock_alone false (Some u) e h = ((λ may. absurd (let g : Some u ≡ None = sym e ∙ may_own may in cc)), λ b. (h.0, ap (map queued_of) h.1 ∙ queued_behind (2 * l) t Exclusive (queue_at w (2 * l))))
+
+    try_alone : (b : Bool) → is_locked (word_at w l) ≡ b → (x ≡ (if b then outcome.TheVariants.End answer.TheVariants.No else outcome.TheVariants.End answer.TheVariants.Yes)) × (owner_at v l ≡ (if b then owner_at w l else Some t))
+        → EntersAlone (locks_of w) t l Exclusive Try x (locks_of v)
+    try_alone true e h = ((λ may. absurd (owned_word (word_at w l) (owner_at w l) (sound.codes l) e (may_own may))), λ b. h.0)
+    try_alone false e h = ((λ may. h), λ b. absurd (blocked_owned b (free_word (word_at w l) (owner_at w l) (sound.codes l) e)))
+
+    unlock_alone : UnlockEnds l None v x → EndsAlone (locks_of w) t (Some (Releases l Exclusive false)) x (locks_of v)
+    unlock_alone h = (h.0, λ own. let g : None ≡ Some t = sym h.1 ∙ own in cc)
+
+  at_first : (l : ℕ) (p : Place) → place_at w t ≡ p → lock_of p ≡ Some l → inside p ≡ None → l < length w.locks → Facing w t l p (word_at w l) (owner_at w l) None (queue_at w (2 * l))
+  at_first l p is own outside lt = subst (λ s. Facing w t l p (word_at w l) (owner_at w l) s (queue_at w (2 * l))) (free l p is own outside (section_at w (2 * l)) refl) (facing l p is lt)
+
+  call_alone : (l : ℕ) (c : MutexCall) → place_at w t ≡ Mutex l (mutex_first c) → l < length w.locks → kind_at w l ≡ kind.TheVariants.Mutex → (n : ℕ) (last : Outcome) → 8 ≤ n
+      → EndsAlone (locks_of w) t (Some (mutex_purpose l c)) (solo n w t last).outcome (locks_of (solo n w t last).state)
+  call_alone l mutex_call.TheVariants.Lock is lt kind n last le = lock_alone l kind (solo n w t last).state (solo n w t last).outcome false (owner_at w l) refl
+      (first_leads t l false (queue_at w (2 * l)) false (word_at w l) (owner_at w l) (sound.codes l) w (at_first l _ is refl refl lt) n last (omega arith))
+  call_alone l mutex_call.TheVariants.LockTimed is lt kind n last le = lock_alone l kind (solo n w t last).state (solo n w t last).outcome true (owner_at w l) refl
+      (first_leads t l true (queue_at w (2 * l)) false (word_at w l) (owner_at w l) (sound.codes l) w (at_first l _ is refl refl lt) n last (omega arith))
+  call_alone l mutex_call.TheVariants.TryLock is lt kind n last le = try_alone l kind (solo n w t last).state (solo n w t last).outcome (is_locked (word_at w l)) refl
+      (try_leads t l (queue_at w (2 * l)) None (word_at w l) (owner_at w l) w (at_first l _ is refl refl lt) n last (omega arith))
+  call_alone l mutex_call.TheVariants.Unlock is lt kind n last le = unlock_alone l kind (solo n w t last).state (solo n w t last).outcome
+      (subtract_leads t l (queue_at w (2 * l)) (word_at w l) (owner_at w l) w (at_first l _ is refl refl lt) n last (omega arith))
+
+  -- a call that begins, stepped alone
+  pub solo_ends : (c : Call) → place_at w t ≡ first_place c → (n : ℕ) (last : Outcome) → 8 ≤ n
+      → EndsAlone (locks_of w) t (purpose_at (locks_of w) c) (solo n w t last).outcome (locks_of (solo n w t last).state)
+  solo_ends (call.TheVariants.Mutex l c) is n last le = subst (λ k. EndsAlone (locks_of w) t (purpose_of k (call.TheVariants.Mutex l c)) (solo n w t last).outcome (locks_of (solo n w t last).state)) (sym is_kind)
+      (call_alone l c is fits.0 is_kind n last le)
+    where
+      calls : CallFits w (Mutex l (mutex_first c))
+      calls = subst (CallFits w) is (only.calls t)
+
+      is_kind : kind_at w l ≡ kind.TheVariants.Mutex
+      is_kind = calls.0
+
+      fits : PlaceFits (length w.places) (length w.locks) (Mutex l (mutex_first c))
+      fits = subst (PlaceFits (length w.places) (length w.locks)) is (shape.places t)
+
+-- ---------------------------------------------------------------- as the world is told them
+
+stands_there : (xs : List Place) (t : ℕ) → get_or xs t Idle ≢ Idle → t < length xs
+stands_there [] t busy = absurd (busy refl)
+stands_there (x ∷ xs) zero busy = omega arith
+stands_there (x ∷ xs) (suc t) busy = let ih : t < length xs = stands_there xs t busy in omega arith
+
+first_busy : (c : Call) (p : Place) → p ≡ first_place c → p ≢ Idle
+first_busy (call.TheVariants.Mutex l c) p is idle = let e : Mutex l (mutex_first c) ≡ Idle = sym is ∙ idle in cc
+
+module _ (w : State) (t : ℕ) (shape : IsShaped w) (sound : IsSound w) (only : OnlyMutexes w) where
+  pub rests_alone : IsUnderWay w t → HasItsWay w t → Rests (solo 64 w t outcome.TheVariants.NotNow).outcome
+  rests_alone up way = solo_rests w t shape sound only (stands_there w.places t up.0) way up 64 outcome.TheVariants.NotNow (omega arith)
+
+  pub ends_alone : (c : Call) → place_at w t ≡ first_place c → HasItsWay w t
+      → EndsAlone (locks_of w) t (purpose_at (locks_of w) c) (solo 64 w t outcome.TheVariants.NotNow).outcome (locks_of (solo 64 w t outcome.TheVariants.NotNow).state)
+  ends_alone c is way = solo_ends w t shape sound only (stands_there w.places t (first_busy c (place_at w t) is)) way c is 64 outcome.TheVariants.NotNow (omega arith)
+
+-- ---------------------------------------------------------------- a solo run is a run
+
+-- steps of the thread, this many at most
+record GoesFor (n : ℕ) (w : State) (t : ℕ) (v : State) : Type 0 where
+  pub steps : ℕ
+  pub few : steps ≤ n
+  pub led : v ≡ after_all w (replicate steps (go_of t))
+
+one_more : (n : ℕ) (w : State) (t : ℕ) (v : State) → GoesFor n (after w (go_of t)) t v → GoesFor (suc n) w t v
+one_more n w t v g = record { steps = suc g.steps; few = let le : g.steps ≤ n = g.few in omega arith; led = g.led }
+
+goes_for : (n : ℕ) (w : State) (t : ℕ) (last : Outcome) → GoesFor n w t (solo n w t last).state
+unfolding solo
+goes_for zero w t last = record { steps = 0; few = omega arith; led = refl }
+goes_for (suc n) w t last = by_outcome (answered w (go_of t)) (goes_for n (after w (go_of t)) t outcome.TheVariants.Step)
+  where
+    by_outcome : (o : Outcome) → GoesFor n (after w (go_of t)) t (solo n (after w (go_of t)) t outcome.TheVariants.Step).state
+        → GoesFor (suc n) w t (alone_after o w (after w (go_of t)) last (solo n (after w (go_of t)) t outcome.TheVariants.Step)).state
+    by_outcome outcome.TheVariants.NotNow more = record { steps = 0; few = omega arith; led = refl }
+    by_outcome outcome.TheVariants.Step more = one_more n w t _ more
+    by_outcome o more = record { steps = 1; few = omega arith; led = refl }
+
+pub solo_runs : (w : State) (t : ℕ) → IsShaped w → IsSound w → OnlyMutexes w → AreLockStates (locks_of w) → IsSoloRun w t (solo 64 w t outcome.TheVariants.NotNow).state
+solo_runs w t shape sound only all = let g = goes_for 64 w t outcome.TheVariants.NotNow in record {
+  steps = g.steps;
+  few = g.few;
+  led = g.led;
+  refines = refines w (replicate g.steps (go_of t)) shape sound only;
+  kept = kept_throughout w (replicate g.steps (go_of t)) shape sound only all;
+}

@@ -1,0 +1,240 @@
+-- A thread that steps alone: what each of its acts leads to, of the lock that it calls.
+use Rattle.std.proofs.Common.{ℕ, zero, suc, true, false, Option, Some, None, if◌then◌else◌, ◌==◌, ◌≡◌, ◌+◌, ◌*◌, ◌≤◌, ◌<◌, List, [], ◌∷◌, ◌++◌, length, get_or, map, drop, is_none, refl, ◌∙◌, ap, arith, get_or-set_same, length-set}
+use Rattle.std.proofs.lemmas.Bool.{lt-ltb}
+use Rattle.std.proofs.lemmas.List.{length-map}
+use Rattle.std.proofs.Math.ListN.{get_or-map}
+use Rattle.parking_lot_core.specs.declared.keys.Keys.TheVariants.{One}
+use Rattle.parking_lot_core.specs.declared.notes.Note.{Note}
+use Rattle.parking_lot_core.specs.declared.ops.Op.{Op}
+use Rattle.parking_lot_core.specs.declared.wants.Waiter.{Waiter}
+use Rattle.parking_lot_core.specs.declared.wants.Want.TheVariants.{Exclusive}
+use Rattle.parking_lot_core.specs.Words.{apply}
+use Rattle.parking_lot_core.specs.Lines.{waiter, without, first_of, times}
+use Rattle.lot_steps.specs.declared.kinds.Kind as kind
+use Rattle.lot_steps.specs.declared.acts.Act.{Act}
+use Rattle.lot_steps.specs.declared.acts.Act as act
+use Rattle.lot_steps.specs.declared.acts.Check.TheVariants.{WordIs}
+use Rattle.lot_steps.specs.declared.acts.Wakes.{Wakes}
+use Rattle.lot_steps.specs.declared.acts.Wakes as wakes
+use Rattle.lot_steps.specs.declared.acts.Reply.TheVariants.{Done, Value, Parked, Took, Removed, TakenBy, Woken}
+use Rattle.lot_steps.specs.declared.calls.Outcome.{Outcome}
+use Rattle.lot_steps.specs.declared.calls.Outcome as outcome
+use Rattle.lot_steps.specs.declared.places.Place.{Place}
+use Rattle.lot_steps.specs.declared.places.Place.TheVariants.{Idle}
+use Rattle.lot_steps.specs.Acts.{outcome_of}
+use Rattle.lot_steps.specs.Steps.{act_of, next_place, next_act}
+use Rattle.lot_world.specs.Machine.{State, unlocked, place_at, word_at, owners_at, section_at, queue_at, put, operated, filled_with, appended, removed, first_taken, taken_by, befallen, performed, reply_to, can_do, gone, go_of, is_possible, after, answered, go_outcome, Alone, alone_after, solo}
+use Rattle.lot_world.specs.Fits.{IsShaped, SameSize}
+use Rattle.lot_world.specs.Sound.{IsSound, owner_at, queued, one_if}
+use Rattle.lot_world.proofs.Counts.{without_absent}
+use Rattle.lot_world.proofs.Shape.{after_shaped, after_size, main_key_there, main_line_there}
+use Rattle.lot_world.proofs.Steady.{after_sound}
+use Rattle.lot_world.proofs.Words.{owner_after, exclusive-owners}
+use Rattle.lot_world.specs.OnlyMutexes.{OnlyMutexes}
+use Rattle.lot_world.specs.Solo.{Rests}
+use Rattle.lot_world.proofs.OnlyMutexes.{after_only}
+
+-- ---------------------------------------------------------------- runs
+
+-- after at most k steps of the thread alone its call rests, and then this holds
+abbrev pub Leads : ℕ → State → ℕ → (State → Outcome → Type 0) → Type 0
+Leads k w t P = (n : ℕ) (last : Outcome) → k ≤ n → P (solo n w t last).state (solo n w t last).outcome
+
+rests_after : (o : Outcome) (w v : State) (last : Outcome) (more : Alone) → Rests o → alone_after o w v last more ≡ record { state = v; outcome = o }
+rests_after (outcome.TheVariants.End a) w v last more h = refl
+rests_after outcome.TheVariants.Sleep w v last more h = refl
+rests_after (outcome.TheVariants.Closure state) w v last more h = refl
+rests_after outcome.TheVariants.NotNow w v last more h = absurd h
+rests_after outcome.TheVariants.Step w v last more h = absurd h
+
+module _ (w : State) (t : ℕ) (P : State → Outcome → Type 0) where
+  pub leads_rest : (o : Outcome) → answered w (go_of t) ≡ o → Rests o → P (after w (go_of t)) o → Leads 1 w t P
+  unfolding solo
+  leads_rest o told rest h zero last le = absurd (omega arith)
+  leads_rest o told rest h (suc n) last le = rw (told, rests_after o w (after w (go_of t)) last (solo n (after w (go_of t)) t outcome.TheVariants.Step) rest) h
+
+  pub leads_step : (k : ℕ) → answered w (go_of t) ≡ outcome.TheVariants.Step → Leads k (after w (go_of t)) t P → Leads (k + 1) w t P
+  unfolding solo
+  leads_step k told more zero last le = absurd (omega arith)
+  leads_step k told more (suc n) last le = rw told (more n outcome.TheVariants.Step (omega arith))
+
+-- ---------------------------------------------------------------- acts
+
+-- where a thread stands in a call of a lock, the lock's word and owner, who is inside its section, and its queue
+pub record Facing (w : State) (t l : ℕ) (p : Place) (v : ℕ) (o : Option ℕ) (s : Option ℕ) (q : List Waiter) : Type 0 where
+  pub shape : IsShaped w
+  pub sound : IsSound w
+  pub only : OnlyMutexes w
+  pub thread : t < length w.places
+  pub lock : l < length w.locks
+  pub place : place_at w t ≡ p
+  pub word : word_at w l ≡ v
+  pub owner : owner_at w l ≡ o
+  pub section : section_at w (2 * l) ≡ s
+  pub queue : queue_at w (2 * l) ≡ q
+
+-- what a step leads to, and what the thread is told
+abbrev pub Faces : State → ℕ → ℕ → Place → Outcome → ℕ → Option ℕ → Option ℕ → List Waiter → Type 0
+Faces w t l p told v o s q = (answered w (go_of t) ≡ told) × Facing (after w (go_of t)) t l p v o s q
+
+module _ (w : State) (t l : ℕ) (p : Place) (v : ℕ) (o s : Option ℕ) (q : List Waiter) (f : Facing w t l p v o s q) where
+  possible : can_do w (act_of p) ≡ true → is_possible w (go_of t) ≡ true
+  possible can = rw (lt-ltb t (length w.places) f.thread, f.place) can
+
+  goes : can_do w (act_of p) ≡ true → after w (go_of t) ≡ gone w t
+  goes can = ap (λ b. if b then gone w t else w) (possible can)
+
+  told : can_do w (act_of p) ≡ true → answered w (go_of t) ≡ outcome_of (next_act p (reply_to w t (act_of p)))
+  told can = ap (λ b. if b then go_outcome w t else outcome.TheVariants.NotNow) (possible can) ∙ ap (λ x. outcome_of (next_act x (reply_to w t (act_of x)))) f.place
+
+  -- what it leads to, where the act leads to b
+  faces : (b : State) (p2 : Place) (v2 : ℕ) (o2 s2 : Option ℕ) (q2 : List Waiter) → can_do w (act_of p) ≡ true → performed w t p (act_of p) ≡ b → length b.places ≡ length w.places
+      → next_place p (reply_to w t (act_of p)) ≡ p2 → word_at b l ≡ v2 → owner_at b l ≡ o2 → section_at b (2 * l) ≡ s2 → queue_at b (2 * l) ≡ q2 → Facing (after w (go_of t)) t l p2 v2 o2 s2 q2
+  faces b p2 v2 o2 s2 q2 can does places to word owner section queue = record {
+    shape = after_shaped w (go_of t) f.shape;
+    sound = after_sound w (go_of t) f.shape f.sound;
+    only = after_only w (go_of t) f.only;
+    thread = let size : SameSize w (after w (go_of t)) = after_size w (go_of t) in rw size.threads f.thread;
+    lock = let size : SameSize w (after w (go_of t)) = after_size w (go_of t) in rw size.locks f.lock;
+    place = ap (λ (x : State). place_at x t) led ∙ get_or-set_same b.places t p2 Idle (rw places f.thread);
+    word = ap (λ (x : State). word_at x l) led ∙ word;
+    owner = ap (λ (x : State). owner_at x l) led ∙ owner;
+    section = ap (λ (x : State). section_at x (2 * l)) led ∙ section;
+    queue = ap (λ (x : State). queue_at x (2 * l)) led ∙ queue;
+  }
+    where
+      led : after w (go_of t) ≡ put b t p2
+      led = goes can ∙ ap (λ x. put (performed w t x (act_of x)) t (next_place x (reply_to w t (act_of x)))) f.place ∙ (λ i. put (does i) t (to i))
+
+  pub word_faces : (x : Op) → act_of p ≡ act.TheVariants.Word l x → Faces w t l (next_place p (Value v)) (outcome_of (next_act p (Value v))) (apply x v) (owner_after p t v o) s q
+  word_faces x is = (
+    told can ∙ ap (λ r. outcome_of (next_act p r)) heard,
+    faces (operated w t p l x) (next_place p (Value v)) (apply x v) (owner_after p t v o) s q can (ap (performed w t p) is) refl (ap (next_place p) heard) word owner f.section f.queue,
+  )
+    where
+      can : can_do w (act_of p) ≡ true
+      can = rw is refl
+
+      heard : reply_to w t (act_of p) ≡ Value v
+      heard = ap (reply_to w t) is ∙ ap Value f.word
+
+      word : word_at (operated w t p l x) l ≡ apply x v
+      word = ap (λ y. y.word) (get_or-set_same w.locks l _ (unlocked kind.TheVariants.Mutex) f.lock) ∙ ap (apply x) f.word
+
+      owner : owner_at (operated w t p l x) l ≡ owner_after p t v o
+      owner = ap (λ y. y.owners.exclusive) (get_or-set_same w.locks l _ (unlocked kind.TheVariants.Mutex) f.lock) ∙ exclusive-owners p t (word_at w l) (owners_at w l) ∙ (λ i. owner_after p t (f.word i) (f.owner i))
+
+  pub enter_faces : act_of p ≡ act.TheVariants.Enter (One (2 * l)) → s ≡ None → Faces w t l (next_place p Done) (outcome_of (next_act p Done)) v o (Some t) q
+  enter_faces is free = (
+    told can ∙ ap (λ r. outcome_of (next_act p r)) heard,
+    faces (filled_with w (One (2 * l)) (Some t)) (next_place p Done) v o (Some t) q can (ap (performed w t p) is) refl (ap (next_place p) heard) f.word f.owner (get_or-set_same w.sections (2 * l) (Some t) None (main_key_there w l f.shape f.lock)) f.queue,
+  )
+    where
+      can : can_do w (act_of p) ≡ true
+      can = rw is (ap is_none (f.section ∙ free))
+
+      heard : reply_to w t (act_of p) ≡ Done
+      heard = ap (reply_to w t) is
+
+  pub leave_faces : act_of p ≡ act.TheVariants.Leave (One (2 * l)) wakes.TheVariants.Nobody → Faces w t l (next_place p Done) (outcome_of (next_act p Done)) v o None q
+  leave_faces is = (
+    told can ∙ ap (λ r. outcome_of (next_act p r)) heard,
+    faces (filled_with w (One (2 * l)) None) (next_place p Done) v o None q can (ap (performed w t p) is) refl (ap (next_place p) heard) f.word f.owner (get_or-set_same w.sections (2 * l) None None (main_key_there w l f.shape f.lock)) f.queue,
+  )
+    where
+      can : can_do w (act_of p) ≡ true
+      can = rw is refl
+
+      heard : reply_to w t (act_of p) ≡ Done
+      heard = ap (reply_to w t) is
+
+  pub wake_faces : (u : ℕ) (note : Note) → act_of p ≡ act.TheVariants.Leave (One (2 * l)) (wakes.TheVariants.One u note) → Faces w t l (next_place p Done) (outcome_of (next_act p Done)) v o None q
+  wake_faces u note is = (
+    told can ∙ ap (λ r. outcome_of (next_act p r)) heard,
+    faces (befallen (filled_with w (One (2 * l)) None) u (Woken note)) (next_place p Done) v o None q can (ap (performed w t p) is) (length-set w.places u _) (ap (next_place p) heard) f.word f.owner (get_or-set_same w.sections (2 * l) None None (main_key_there w l f.shape f.lock)) f.queue,
+  )
+    where
+      can : can_do w (act_of p) ≡ true
+      can = rw is refl
+
+      heard : reply_to w t (act_of p) ≡ Done
+      heard = ap (reply_to w t) is
+
+  pub park_faces : act_of p ≡ act.TheVariants.Park l (2 * l) (WordIs 3) Exclusive → v ≡ 3 → queued p ≡ None
+      → Faces w t l (next_place p (Parked true)) (outcome_of (next_act p (Parked true))) v o s (q ++ waiter (2 * l) t Exclusive ∷ [])
+  park_faces is full nowhere = (
+    told can ∙ ap (λ r. outcome_of (next_act p r)) heard,
+    faces (record w { queues = appended w.queues (2 * l) t Exclusive }) (next_place p (Parked true)) v o s (q ++ waiter (2 * l) t Exclusive ∷ []) can
+        (ap (performed w t p) is ∙ ap (λ b. if b then record w { queues = appended w.queues (2 * l) t Exclusive } else w) is_full) refl (ap (next_place p) heard) f.word f.owner f.section queue,
+  )
+    where
+      can : can_do w (act_of p) ≡ true
+      can = rw is refl
+
+      is_full : (word_at w l == 3) ≡ true
+      is_full = rw (f.word, full) refl
+
+      heard : reply_to w t (act_of p) ≡ Parked true
+      heard = ap (reply_to w t) is ∙ ap Parked is_full
+
+      absent : times t (queue_at w (2 * l)) ≡ 0
+      absent = f.sound.queues t l ∙ ap (λ x. one_if x l) (ap queued f.place ∙ nowhere)
+
+      queue : get_or (appended w.queues (2 * l) t Exclusive) (2 * l) [] ≡ q ++ waiter (2 * l) t Exclusive ∷ []
+      queue = get_or-set_same (map (without t) w.queues) (2 * l) _ [] (rw (length-map w.queues (without t)) (main_line_there w l f.shape f.lock))
+          ∙ ap (λ x. x ++ waiter (2 * l) t Exclusive ∷ []) (get_or-map (without t) w.queues (2 * l) [] ∙ without_absent t (queue_at w (2 * l)) absent ∙ f.queue)
+
+  -- the word was another
+  pub unparked_faces : act_of p ≡ act.TheVariants.Park l (2 * l) (WordIs 3) Exclusive → (v == 3) ≡ false → Faces w t l (next_place p (Parked false)) (outcome_of (next_act p (Parked false))) v o s q
+  unparked_faces is other = (
+    told can ∙ ap (λ r. outcome_of (next_act p r)) heard,
+    faces w (next_place p (Parked false)) v o s q can (ap (performed w t p) is ∙ ap (λ b. if b then record w { queues = appended w.queues (2 * l) t Exclusive } else w) is_other) refl (ap (next_place p) heard) f.word f.owner f.section f.queue,
+  )
+    where
+      can : can_do w (act_of p) ≡ true
+      can = rw is refl
+
+      is_other : (word_at w l == 3) ≡ false
+      is_other = rw f.word other
+
+      heard : reply_to w t (act_of p) ≡ Parked false
+      heard = ap (reply_to w t) is ∙ ap Parked is_other
+
+  pub remove_faces : act_of p ≡ act.TheVariants.Remove (2 * l) → Faces w t l (next_place p (Removed (length (without t q) == 0))) (outcome_of (next_act p (Removed (length (without t q) == 0)))) v o s (without t q)
+  remove_faces is = (
+    told can ∙ ap (λ r. outcome_of (next_act p r)) heard,
+    faces (record w { queues = removed w.queues t }) (next_place p (Removed (length (without t q) == 0))) v o s (without t q) can (ap (performed w t p) is) refl (ap (next_place p) heard) f.word f.owner f.section
+        (get_or-map (without t) w.queues (2 * l) [] ∙ ap (without t) f.queue),
+  )
+    where
+      can : can_do w (act_of p) ≡ true
+      can = rw is refl
+
+      heard : reply_to w t (act_of p) ≡ Removed (length (without t q) == 0)
+      heard = ap (reply_to w t) is ∙ ap (λ x. Removed (length (without t x) == 0)) f.queue
+
+  pub take_faces : act_of p ≡ act.TheVariants.TakeFirst (2 * l)
+      → Faces w t l (next_place p (Took (first_of q) (length (drop 1 q) == 0))) (outcome_of (next_act p (Took (first_of q) (length (drop 1 q) == 0)))) v o s (drop 1 q)
+  take_faces is = by_first (first_of q) refl
+    where
+      can : can_do w (act_of p) ≡ true
+      can = rw is refl
+
+      heard : reply_to w t (act_of p) ≡ Took (first_of q) (length (drop 1 q) == 0)
+      heard = ap (reply_to w t) is ∙ ap (λ x. Took (first_of x) (length (drop 1 x) == 0)) f.queue
+
+      queue : get_or (first_taken w.queues (2 * l)) (2 * l) [] ≡ drop 1 q
+      queue = get_or-set_same w.queues (2 * l) _ [] (main_line_there w l f.shape f.lock) ∙ ap (drop 1) f.queue
+
+      does : (x : Option ℕ) → first_of q ≡ x → performed w t p (act_of p) ≡ taken_by (record w { queues = first_taken w.queues (2 * l) }) t x
+      does x e = ap (performed w t p) is ∙ ap (taken_by (record w { queues = first_taken w.queues (2 * l) }) t) (ap first_of f.queue ∙ e)
+
+      by_first : (x : Option ℕ) → first_of q ≡ x → Faces w t l (next_place p (Took (first_of q) (length (drop 1 q) == 0))) (outcome_of (next_act p (Took (first_of q) (length (drop 1 q) == 0)))) v o s (drop 1 q)
+      by_first None e = (
+        told can ∙ ap (λ r. outcome_of (next_act p r)) heard,
+        faces (record w { queues = first_taken w.queues (2 * l) }) _ v o s (drop 1 q) can (does None e) refl (ap (next_place p) heard) f.word f.owner f.section queue,
+      )
+      by_first (Some u) e = (
+        told can ∙ ap (λ r. outcome_of (next_act p r)) heard,
+        faces (befallen (record w { queues = first_taken w.queues (2 * l) }) u (TakenBy t)) _ v o s (drop 1 q) can (does (Some u) e) (length-set w.places u _) (ap (next_place p) heard) f.word f.owner f.section queue,
+      )

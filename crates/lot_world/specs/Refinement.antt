@@ -1,0 +1,109 @@
+-- The abstract locks that a world's words, places and queues stand for.
+use Rattle.std.specs.Prelude.{ℕ, Bool, true, false, Option, Some, None, if◌then◌else◌, ◌==◌, ◌+◌, ◌*◌, ◌≡◌, ◌≢◌, ◌⊎◌, List, map, length, replicate, take, [], ◌∷◌}
+use Rattle.parking_lot_core.specs.declared.wants.Waiter.{Waiter}
+use Rattle.parking_lot_core.specs.declared.wants.Want.TheVariants.{Exclusive}
+use Rattle.parking_lot_core.specs.Lines.{first_of}
+use Rattle.lot_steps.specs.declared.owners.Owners.{Owners}
+use Rattle.lot_steps.specs.declared.owners.Pending as owners
+use Rattle.lot_steps.specs.declared.owners.Fallback.{Fallback}
+use Rattle.lot_steps.specs.declared.owners.Fallback as fallback
+use Rattle.lot_steps.specs.declared.places.Place.{Place}
+use Rattle.lot_steps.specs.declared.places.Place.TheVariants.{Idle, Mutex}
+use Rattle.lot_steps.specs.declared.mutex.MutexPlace.{MutexPlace}
+use Rattle.lot_steps.specs.declared.mutex.MutexPlace.TheVariants.{Lock, TryLock, Unlock}
+use Rattle.lot_steps.specs.declared.mutex.LockAt.{LockAt}
+use Rattle.lot_steps.specs.declared.mutex.LockAt.TheVariants as lock
+use Rattle.lot_steps.specs.declared.mutex.UnlockAt.{UnlockAt}
+use Rattle.lot_steps.specs.declared.mutex.UnlockAt.TheVariants as unlock
+use Rattle.lot_steps.specs.declared.calls.Step.{Step}
+use Rattle.lot_world.specs.Machine.{State, place_at, word_at, owners_at, kind_at, queue_at, section_at, after_all, answered_all, after}
+use Rattle.lot_world.specs.Locks.{LockState, Queued, Taken, Pending, Rights}
+use Rattle.lot_world.specs.Purposes.{Enters, Releases, Try, patience_of}
+use Rattle.lot_world.specs.LockRuns.{LocksState, CallState, no_call, one_more_at, IsRun}
+use Rattle.lot_world.specs.Locks as locks
+
+-- ---------------------------------------------------------------- one lock
+
+abbrev pub is_upgradable : Fallback → Bool
+is_upgradable fallback.TheVariants.Nothing = false
+is_upgradable fallback.TheVariants.Upgradable = true
+
+abbrev pub pending_owner : Option owners.Pending → Option Pending
+pending_owner None = None
+pending_owner (Some p) = Some (record { thread = p.thread; falls_back = is_upgradable p.fallback })
+
+abbrev pub queued_of : Waiter → Queued
+queued_of x = record { thread = x.thread; want = x.want }
+
+-- by whom the thread at a place was taken from the queue of a lock
+abbrev pub taken_at : Place → ℕ → Option Taken
+taken_at (Mutex k (Lock timed retries (lock.Taken by))) l = if k == l then Some (record { by = by; want = Exclusive }) else None
+taken_at p l = None
+
+-- nobody shares a lock of the kinds that are built
+abbrev pub lock_seen : ℕ → Owners → List Waiter → List Waiter → (ℕ → Option Taken) → LockState
+lock_seen threads o main second taken = record {
+  exclusive = o.exclusive;
+  pending = pending_owner o.pending;
+  upgradable = o.upgradable;
+  shared = replicate threads 0;
+  queue = map queued_of main;
+  aside = first_of second;
+  taken = taken;
+}
+
+abbrev pub lock_state : State → ℕ → LockState
+lock_state w l = lock_seen (length w.places) (owners_at w l) (queue_at w (2 * l)) (queue_at w (2 * l + 1)) (λ u. taken_at (place_at w u) l)
+
+-- ---------------------------------------------------------------- one call
+
+-- a timed call has given up from its removal from the queue on
+abbrev pub gave_up_at : ℕ → LockAt → Option ℕ
+gave_up_at l lock.Clear = Some l
+gave_up_at l lock.GiveUp = Some l
+gave_up_at l at = None
+
+-- a release has given its right up from its first step on
+abbrev pub before_release : ℕ → UnlockAt → (ℕ → Rights) → ℕ → Rights
+before_release l unlock.Subtract rights = rights
+before_release l at rights = one_more_at l Exclusive rights
+
+abbrev pub mutex_call_state : ℕ → MutexPlace → (ℕ → Rights) → CallState
+mutex_call_state l (Lock timed retries at) rights = record { purpose = Some (Enters l Exclusive (patience_of timed)); former = rights; gave_up = gave_up_at l at; retries = if retries then Some l else None }
+mutex_call_state l TryLock rights = record { purpose = Some (Enters l Exclusive Try); former = rights; gave_up = None; retries = None }
+mutex_call_state l (Unlock at) rights = record { purpose = Some (Releases l Exclusive false); former = before_release l at rights; gave_up = None; retries = None }
+
+-- what a thread's call has come to, by its place and by what it owns now
+abbrev pub call_state : Place → (ℕ → Rights) → CallState
+call_state Idle rights = no_call
+call_state (Mutex l at) rights = mutex_call_state l at rights
+
+-- ---------------------------------------------------------------- the world
+
+abbrev pub locks_of : State → LocksState
+locks_of w = record {
+  threads = length w.places;
+  size = length w.locks;
+  kinds = kind_at w;
+  locks = lock_state w;
+  calls = λ t. call_state (place_at w t) (λ l. locks.rights_of (lock_state w l) t);
+}
+
+-- the states of the locks before, between and after the steps of a run
+abbrev pub states_of : State → List Step → ℕ → LocksState
+states_of w steps n = locks_of (after_all w (take n steps))
+
+-- a step changes one word at most, or queues whose sections its thread is in, never both
+abbrev pub ChangesOneThing : State → ℕ → State → Type 0
+ChangesOneThing w t v =
+    ((l : ℕ) × ((k : ℕ) → k ≢ l → word_at v k ≡ word_at w k) × ((key : ℕ) → queue_at v key ≡ queue_at w key))
+    ⊎ (((l : ℕ) → word_at v l ≡ word_at w l) × ((key : ℕ) → (queue_at v key ≡ queue_at w key) ⊎ (section_at w key ≡ Some t)))
+
+-- each step of a run is a step of the abstract locks
+abbrev pub Refines : State → List Step → Type 0
+Refines w steps = IsRun (states_of w steps) steps (answered_all w steps)
+
+-- and each step of a run changes one thing
+abbrev pub EachChangesOneThing : State → List Step → Type 0
+EachChangesOneThing w [] = Unit {0}
+EachChangesOneThing w (s ∷ ss) = ChangesOneThing w s.thread (after w s) × EachChangesOneThing (after w s) ss

@@ -1,0 +1,59 @@
+-- What comes of a call whose thread steps alone.
+use Rattle.std.specs.Prelude.{ℕ, Option, Some, ◌≡◌, ◌≢◌, ◌*◌, ◌≤◌, ◌++◌, ◌∷◌, [], replicate}
+use Rattle.parking_lot_core.specs.declared.wants.Want.{Want}
+use Rattle.lot_steps.specs.declared.acts.Act.TheVariants.{Sleep}
+use Rattle.lot_steps.specs.declared.calls.Answer.{Answer}
+use Rattle.lot_steps.specs.declared.calls.Answer as answer
+use Rattle.lot_steps.specs.declared.calls.Outcome.{Outcome}
+use Rattle.lot_steps.specs.declared.calls.Outcome as outcome
+use Rattle.lot_steps.specs.declared.places.Place.TheVariants.{Idle}
+use Rattle.lot_steps.specs.Steps.{act_of, lock_of}
+use Rattle.lot_world.specs.Machine.{State, place_at, section_at, go_of, after_all}
+use Rattle.lot_world.specs.Locks.{MayEnter, IsBlocked, Owns}
+use Rattle.lot_world.specs.Purposes.{Purpose, Enters, Releases, Patience, Patient, Try}
+use Rattle.lot_world.specs.LockRuns.{LocksState, rules_at}
+use Rattle.lot_world.specs.Refinement.{Refines}
+use Rattle.lot_world.specs.Promises.{IsKeptThroughout}
+
+-- the thread is in a call, and isn't asleep
+abbrev pub IsUnderWay : State → ℕ → Type 0
+IsUnderWay w t = (place_at w t ≢ Idle) × (act_of (place_at w t) ≢ Sleep)
+
+-- nobody else is inside the section that its call enters
+abbrev pub HasItsWay : State → ℕ → Type 0
+HasItsWay w t = (l u : ℕ) → lock_of (place_at w t) ≡ Some l → section_at w (2 * l) ≡ Some u → u ≡ t
+
+-- the call has ended, sleeps or is in its closure
+abbrev pub Rests : Outcome → Type 0
+Rests (outcome.TheVariants.End a) = Unit {0}
+Rests outcome.TheVariants.Sleep = Unit {0}
+Rests (outcome.TheVariants.Closure state) = Unit {0}
+Rests o = ⊥
+
+-- what a call answers that has entered
+abbrev pub entered_answer : Patience → Answer
+entered_answer Patient = answer.TheVariants.Ok
+entered_answer how = answer.TheVariants.Yes
+
+-- a call that waits enters where it may, and else is the last of the queue, asleep
+abbrev pub EntersAlone : LocksState → ℕ → ℕ → Want → Patience → Outcome → LocksState → Type 0
+EntersAlone w t l x Try o v =
+    (MayEnter (rules_at w l) (w.locks l) x → (o ≡ outcome.TheVariants.End answer.TheVariants.Yes) × Owns (v.locks l) t x)
+    × (IsBlocked (rules_at w l) (w.locks l) x → o ≡ outcome.TheVariants.End answer.TheVariants.No)
+EntersAlone w t l x how o v =
+    (MayEnter (rules_at w l) (w.locks l) x → (o ≡ outcome.TheVariants.End (entered_answer how)) × Owns (v.locks l) t x)
+    × (IsBlocked (rules_at w l) (w.locks l) x → (o ≡ outcome.TheVariants.Sleep) × ((v.locks l).queue ≡ (w.locks l).queue ++ (record { thread = t; want = x }) ∷ []))
+
+-- a release ends without its right
+abbrev pub EndsAlone : LocksState → ℕ → Option Purpose → Outcome → LocksState → Type 0
+EndsAlone w t (Some (Enters l x how)) o v = EntersAlone w t l x how o v
+EndsAlone w t (Some (Releases l x fair)) o v = (o ≡ outcome.TheVariants.End answer.TheVariants.Ok) × (Owns (v.locks l) t x → ⊥)
+EndsAlone w t purpose o v = Unit {0}
+
+-- a solo run is a run, of at most 64 steps
+pub record IsSoloRun (w : State) (t : ℕ) (v : State) : Type 0 where
+  pub steps : ℕ
+  pub few : steps ≤ 64
+  pub led : v ≡ after_all w (replicate steps (go_of t))
+  pub refines : Refines w (replicate steps (go_of t))
+  pub kept : IsKeptThroughout w (replicate steps (go_of t))

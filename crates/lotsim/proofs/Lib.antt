@@ -1,0 +1,4 @@
+pub mod ReplayLemmas
+pub mod Laws
+pub mod ActionLemmas
+pub mod StartLemmas

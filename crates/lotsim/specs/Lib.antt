@@ -1,0 +1,9 @@
+pub use Rattle.lot_text.specs.Lines
+pub use Rattle.lot_text.specs.Grammar
+pub use Rattle.lot_text.specs.Text
+pub use Rattle.lot_world.specs.Machine
+pub mod Stages
+pub mod Sessions
+pub mod Answers
+pub mod Replay
+pub mod Start
