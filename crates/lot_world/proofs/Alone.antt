@@ -22,7 +22,8 @@ turn_possible : (w : State) (t : ℕ) (x : Turn) → turn_outcome w t x ≢ outc
 turn_possible w t turn.TheVariants.Go h = outcome_possible (next_act (place_at w t) (go_reply w t)) h
 turn_possible w t x h = cc
 
-after_stuck : (w : State) (s : Step) → answered w s ≡ outcome.TheVariants.NotNow → after w s ≡ w
+-- a step that wasn't possible has changed nothing
+pub after_stuck : (w : State) (s : Step) → answered w s ≡ outcome.TheVariants.NotNow → after w s ≡ w
 after_stuck w s h = either (is_possible w s) h
   where
     either : (b : Bool) → (if b then turn_outcome w s.thread s.turn else outcome.TheVariants.NotNow) ≡ outcome.TheVariants.NotNow → (if b then turned w s.thread s.turn else w) ≡ w
@@ -42,7 +43,7 @@ solo_next : (counter : ℕ) (w : State) (t : ℕ) (last : Outcome) → counter <
     → solo (64 - counter) w t last ≡ alone_after (answered w (go_of t)) w (after w (go_of t)) last (solo (64 - (counter + 1)) (after w (go_of t)) t outcome.TheVariants.Step)
 solo_next counter w t last h = let e : 64 - counter ≡ suc (64 - (counter + 1)) = omega arith in ap (λ n. solo n w t last) e ∙ solo_more (64 - (counter + 1)) w t last
 
-rests_after : (o : Outcome) (w v : State) (last : Outcome) (more : Alone) → o ≢ outcome.TheVariants.NotNow → o ≢ outcome.TheVariants.Step → alone_after o w v last more ≡ record { state = v; outcome = o }
+pub rests_after : (o : Outcome) (w v : State) (last : Outcome) (more : Alone) → o ≢ outcome.TheVariants.NotNow → o ≢ outcome.TheVariants.Step → alone_after o w v last more ≡ record { state = v; outcome = o }
 rests_after outcome.TheVariants.NotNow w v last more h k = absurd (h refl)
 rests_after outcome.TheVariants.Step w v last more h k = absurd (k refl)
 rests_after o w v last more h k = refl

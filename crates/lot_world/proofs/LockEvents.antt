@@ -144,6 +144,10 @@ hand_of (Mutex k (Unlock at)) l h e = absurd cc
 pub taken_nobody : (v : State) (t : ℕ) → IsSound v → ((u l : ℕ) → Carries (place_at v t) u l → ⊥) → (l : ℕ) → HasTakenNobody (lock_state v l) t
 taken_nobody v t sound none l u x h = none u l (sound.taken u t l (hand_of (place_at v u) l (record { by = t; want = x }) h))
 
+untaken_kept : (t : ℕ) (o : Option LockTaken) → is_taken_by t o ≡ false → o ≡ locks.keep_from t o
+untaken_kept t None e = refl
+untaken_kept t (Some h) e = sym (ap (λ b. if b then None else Some h) e)
+
 -- ---------------------------------------------------------------- steps that change no owner and no queue
 
 -- a thread has gone from one place to another, and no queue has changed
@@ -492,11 +496,11 @@ module _ (w : State) (t l : ℕ) (p : Place) (is : place_at w t ≡ p) (shape : 
       only_carries x h = let c : Carries (place_at w t) x l = sound.taken x t l h in let d : Carries (Mutex l (Unlock (unlock.Leave (Some u)))) x l = rw (is, at_leave) at c in d.0
 
       -- t has taken nobody else
-      kept : (x : ℕ) → x ≢ u → (o : Option LockTaken) → taken_at (place_at w x) l ≡ o → o ≡ locks.keep_from t o
-      kept x nu None e = refl
-      kept x nu (Some h) e = either (h.by == t) refl
+      unwoken : (x : ℕ) → x ≢ u → (o : Option LockTaken) → taken_at (place_at w x) l ≡ o → is_taken_by t o ≡ false
+      unwoken x nu None e = refl
+      unwoken x nu (Some h) e = either (h.by == t) refl
         where
-          either : (b : Bool) → (h.by == t) ≡ b → Some h ≡ (if b then None else Some h)
+          either : (b : Bool) → (h.by == t) ≡ b → b ≡ false
           either false f = refl
           either true f = absurd (nu (sym (only_carries x (subst (λ by. IsTakenBy (place_at w x) by l) (eqb-true h.by t f) (hand_of (place_at w x) l h e)))))
 
@@ -505,7 +509,7 @@ module _ (w : State) (t l : ℕ) (p : Place) (is : place_at w t ≡ p) (shape : 
         | inl e ↦ rw (e, at_end, is, at_leave) refl
         | inr nt ↦ elim (cases_eq x u) [
           | inl e ↦ rw (e, place_u, at_taken, same l, same t) refl
-          | inr nu ↦ ap (λ y. taken_at y l) (place_x x nt nu) ∙ kept x nu (taken_at (place_at w x) l) refl
+          | inr nu ↦ ap (λ y. taken_at y l) (place_x x nt nu) ∙ untaken_kept t (taken_at (place_at w x) l) (unwoken x nu (taken_at (place_at w x) l) refl)
         ]
       ]
 
@@ -517,14 +521,6 @@ module _ (w : State) (t l : ℕ) (p : Place) (is : place_at w t ≡ p) (shape : 
           | inr nu ↦ ap (λ y. taken_at y k) (place_x x nt nu)
         ]
       ]
-
-      unwoken : (x : ℕ) → x ≢ u → (o : Option LockTaken) → taken_at (place_at w x) l ≡ o → is_taken_by t o ≡ false
-      unwoken x nu None e = refl
-      unwoken x nu (Some h) e = either (h.by == t) refl
-        where
-          either : (b : Bool) → (h.by == t) ≡ b → b ≡ false
-          either false f = refl
-          either true f = absurd (nu (sym (only_carries x (subst (λ by. IsTakenBy (place_at w x) by l) (eqb-true h.by t f) (hand_of (place_at w x) l h e)))))
 
       calls_woken : (x : ℕ) → x ≢ t → (r : ℕ → Rights) → call_state (place_at (put (befallen (filled_with w (One (2 * l)) None) u (Woken Normal)) t Idle) x) r
           ≡ (if is_taken_by t (taken_at (place_at w x) l) then record (call_state (place_at w x) r) { retries = Some l } else call_state (place_at w x) r)

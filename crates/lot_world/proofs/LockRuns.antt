@@ -1,16 +1,10 @@
 -- Runs of the world are runs of the abstract locks, and what holds of each of their states.
-use Rattle.std.proofs.Common.{ℕ, Bool, true, false, Option, Some, None, if◌then◌else◌, ◌==◌, ◌≡◌, ◌+◌, ◌*◌, ◌≤◌, inl, inr, List, [], ◌∷◌, refl, sym, ◌∙◌, subst, arith}
+use Rattle.std.proofs.Common.{ℕ, Bool, true, false, Option, Some, None, if◌then◌else◌, ◌==◌, ◌≡◌, ◌+◌, ◌*◌, inl, inr, List, [], ◌∷◌, refl, sym, subst, arith}
 use Rattle.std.proofs.lemmas.Bool.{eqb-true}
-use Rattle.std.proofs.lemmas.Bool.Decides.{nat_tests}
-use Rattle.parking_lot_core.specs.declared.wants.Want.TheVariants.{Exclusive}
 use Rattle.lot_steps.specs.declared.calls.Turn.{Turn}
 use Rattle.lot_steps.specs.declared.calls.Turn as turn
 use Rattle.lot_steps.specs.declared.calls.Step.{Step}
 use Rattle.lot_steps.specs.declared.calls.Outcome.{Outcome}
-use Rattle.lot_steps.specs.declared.places.Place.{Place}
-use Rattle.lot_steps.specs.declared.places.Place.TheVariants.{Idle, Mutex}
-use Rattle.lot_steps.specs.declared.mutex.MutexPlace.TheVariants.{Lock, TryLock, Unlock}
-use Rattle.lot_steps.specs.declared.mutex.LockAt.TheVariants.{First, Leave, Asleep, Taken, Remove}
 use Rattle.lot_world.specs.Machine.{State, place_at, queue_at, after, answered}
 use Rattle.lot_world.specs.Fits.{IsShaped}
 use Rattle.lot_world.specs.Sound.{IsSound, queued, one_if}
@@ -73,35 +67,8 @@ pub refines : (w : State) (ss : List Step) → IsShaped w → IsSound w → Only
 refines w [] shape sound only = tt
 refines w (s ∷ ss) shape sound only = (after_step w s shape sound only, refines (after w s) ss (after_shaped w s shape) (after_sound w s shape sound) (after_only w s only))
 
--- ---------------------------------------------------------------- a thread stands at one lock at most
+-- ---------------------------------------------------------------- where a thread stands, by its place
 
 module _ (w : State) (t : ℕ) (sound : IsSound w) (only : OnlyMutexes w) where
   pub stands_by : (l : ℕ) → standing t (lock_state w l) ≡ one_if (queued (place_at w t)) l + one_if_some (taken_at (place_at w t) l)
   stands_by l = rw (queued_times t (queue_at w (2 * l)), sound.queues t l, only.aside l) (omega arith)
-
-  by_queue : (o : Option ℕ) (l : ℕ) → 1 ≤ one_if o l + 0 → o ≡ Some l
-  by_queue None l h = absurd (omega arith)
-  by_queue (Some j) l h = grind (arith, nat_tests)
-
-  abbrev taken_for : ℕ → locks.Taken
-  taken_for by = record { by = by; want = Exclusive }
-
-  -- the lock in whose queue a thread stands, or from whose queue it was taken
-  by_hand : (j l by : ℕ) → 1 ≤ 0 + one_if_some (if j == l then Some (taken_for by) else None) → j ≡ l
-  by_hand j l by h = grind (arith, nat_tests)
-
-  stands_in : (p : Place) (l : ℕ) → 1 ≤ one_if (queued p) l + one_if_some (taken_at p l) → (j : ℕ) × ((k : ℕ) → 1 ≤ one_if (queued p) k + one_if_some (taken_at p k) → j ≡ k)
-  stands_in Idle l h = absurd (omega arith)
-  stands_in (Mutex j (Lock timed retries (Leave true))) l h = (j, λ k g. let e : Some j ≡ Some k = by_queue (Some j) k g in cc)
-  stands_in (Mutex j (Lock timed retries (Leave false))) l h = absurd (omega arith)
-  stands_in (Mutex j (Lock timed retries Asleep)) l h = (j, λ k g. let e : Some j ≡ Some k = by_queue (Some j) k g in cc)
-  stands_in (Mutex j (Lock timed retries Remove)) l h = (j, λ k g. let e : Some j ≡ Some k = by_queue (Some j) k g in cc)
-  stands_in (Mutex j (Lock timed retries (Taken by))) l h = (j, λ k g. by_hand j k by g)
-  stands_in (Mutex j (Lock timed retries First)) l h = absurd (omega arith)
-  stands_in (Mutex j (Lock timed retries at)) l h = absurd (omega arith)
-  stands_in (Mutex j TryLock) l h = absurd (omega arith)
-  stands_in (Mutex j (Unlock at)) l h = absurd (omega arith)
-
-  pub one_place : (l k : ℕ) → 1 ≤ standing t (lock_state w l) → 1 ≤ standing t (lock_state w k) → l ≡ k
-  one_place l k h g = let here = stands_in (place_at w t) l (subst (λ n. 1 ≤ n) (stands_by l) h) in
-      sym (here.1 l (subst (λ n. 1 ≤ n) (stands_by l) h)) ∙ here.1 k (subst (λ n. 1 ≤ n) (stands_by k) g)

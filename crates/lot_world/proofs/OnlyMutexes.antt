@@ -46,7 +46,7 @@ use Rattle.lot_steps.specs.Steps.{act_of, next_place, mutex_goes, owners_after, 
 use Rattle.lot_world.specs.Machine.{State, unlocked, opening, place_at, word_at, owners_at, kind_at, queue_at, put, operated, filled_with, appended, first_taken, removed, parked, befallen, taken_by, took, awakened, performed, gone, go_reply, reply_to, begun, can_begin, is_open_to, spun, spun_on, lated, late_on, turned, can_turn, is_possible, after}
 use Rattle.lot_world.specs.OnlyMutexes.{AllExclusive, GivesUpTimed, CallFits, OnlyMutexes}
 use Rattle.lot_world.proofs.Shape.{both, set_all}
-use Rattle.lot_world.proofs.Opening.{idle_at, empty_at}
+use Rattle.lot_world.proofs.Opening.{idle_at, empty_at, nobody_owns}
 
 -- ---------------------------------------------------------------- waiters
 
@@ -428,26 +428,11 @@ after_only w s only = either (is_possible w s) refl
 
 -- ---------------------------------------------------------------- the opening state
 
-unpending : (kinds : List Kind) (l : ℕ) → (get_or (map unlocked kinds) l (unlocked kind.TheVariants.Mutex)).owners.pending ≡ None
-unpending [] l = refl
-unpending (x ∷ xs) zero = refl
-unpending (x ∷ xs) (suc l) = unpending xs l
-
-unupgradable : (kinds : List Kind) (l : ℕ) → (get_or (map unlocked kinds) l (unlocked kind.TheVariants.Mutex)).owners.upgradable ≡ None
-unupgradable [] l = refl
-unupgradable (x ∷ xs) zero = refl
-unupgradable (x ∷ xs) (suc l) = unupgradable xs l
-
-unrunning : (kinds : List Kind) (l : ℕ) → (get_or (map unlocked kinds) l (unlocked kind.TheVariants.Mutex)).owners.running ≡ None
-unrunning [] l = refl
-unrunning (x ∷ xs) zero = refl
-unrunning (x ∷ xs) (suc l) = unrunning xs l
-
 pub opening_only : (kinds : List Kind) (threads : ℕ) → OnlyMutexes (opening kinds threads)
 opening_only kinds threads = record {
-  pending = unpending kinds;
-  upgradable = unupgradable kinds;
-  running = unrunning kinds;
+  pending = λ l. ap (λ o. o.pending) (nobody_owns kinds l);
+  upgradable = λ l. ap (λ o. o.upgradable) (nobody_owns kinds l);
+  running = λ l. ap (λ o. o.running) (nobody_owns kinds l);
   aside = λ l. empty_at (2 * length kinds) (2 * l + 1);
   wants = λ l. rw (empty_at (2 * length kinds) (2 * l)) tt;
   calls = λ t. rw (idle_at threads t) tt;

@@ -1,10 +1,10 @@
 -- The opening state.
-use Rattle.std.proofs.Common.{◌≡◌, ℕ, zero, suc, ◌*◌, Option, None, List, [], length, get_or, replicate, refl}
-use Rattle.std.specs.Prelude.{map}
+use Rattle.std.proofs.Common.{◌≡◌, ℕ, zero, suc, ◌*◌, Option, None, List, [], length, get_or, replicate, refl, ◌∷◌, map}
 use Rattle.lot_steps.specs.declared.kinds.Kind.{Kind}
+use Rattle.lot_steps.specs.declared.kinds.Kind as kind
 use Rattle.parking_lot_core.specs.declared.wants.Waiter.{Waiter}
 use Rattle.lot_steps.specs.declared.places.Place.TheVariants.{Idle}
-use Rattle.lot_world.specs.Machine.{State, unlocked, opening}
+use Rattle.lot_world.specs.Machine.{State, unlocked, opening, nobody}
 
 pub opens : (w : State) (kinds : List Kind) (threads : ℕ) → w.places ≡ replicate threads Idle → w.locks ≡ map unlocked kinds
     → w.sections ≡ replicate (2 * length kinds) None → w.queues ≡ replicate (2 * length kinds) [] → w ≡ opening kinds threads
@@ -24,3 +24,9 @@ pub empty_at : (n k : ℕ) → get_or (replicate {A = List Waiter} n []) k [] �
 empty_at zero k = refl
 empty_at (suc n) zero = refl
 empty_at (suc n) (suc k) = empty_at n k
+
+-- nobody owns a lock
+pub nobody_owns : (kinds : List Kind) (l : ℕ) → (get_or (map unlocked kinds) l (unlocked kind.TheVariants.Mutex)).owners ≡ nobody
+nobody_owns [] l = refl
+nobody_owns (x ∷ xs) zero = refl
+nobody_owns (x ∷ xs) (suc l) = nobody_owns xs l

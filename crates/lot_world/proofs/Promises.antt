@@ -1,5 +1,5 @@
 -- What holds between steps, as callers are told it.
-use Rattle.std.proofs.Common.{ℕ, zero, suc, Bool, true, false, Option, Some, None, if◌then◌else◌, ◌==◌, ◌&&◌, not, ◌≡◌, ◌≢◌, ◌+◌, ◌*◌, ◌≤◌, ◌⊎◌, inl, inr, List, [], ◌∷◌, length, get_or, map, take, refl, ◌∙◌, ap, subst, arith, ◌↔◌}
+use Rattle.std.proofs.Common.{ℕ, zero, suc, Bool, true, false, Option, Some, None, if◌then◌else◌, ◌==◌, ◌&&◌, not, ◌≡◌, ◌≢◌, ◌+◌, ◌*◌, ◌≤◌, ◌⊎◌, inl, inr, List, [], ◌∷◌, length, get_or, map, take, refl, ◌∙◌, ap, subst, arith, ◌↔◌, sym}
 use Rattle.parking_lot_core.specs.declared.wants.Want.TheVariants.{Exclusive}
 use Rattle.parking_lot_core.specs.declared.keys.Keys.TheVariants.{One}
 use Rattle.parking_lot_core.specs.declared.ops.Op as op
@@ -17,12 +17,12 @@ use Rattle.lot_steps.specs.declared.places.Place.{Place}
 use Rattle.lot_steps.specs.declared.places.Place.TheVariants.{Idle, Mutex}
 use Rattle.lot_steps.specs.MutexSteps.{is_locked, is_parked, lock_act, unlock_act, lock_owes}
 use Rattle.lot_steps.specs.Steps.{act_of, owes_on, retries_on}
-use Rattle.lot_world.specs.Machine.{State, unlocked, nobody, opening, kind_at, place_at, word_at, queue_at, after, after_all, section_at}
+use Rattle.lot_world.specs.Machine.{State, unlocked, opening, kind_at, place_at, word_at, queue_at, after, after_all, section_at}
 use Rattle.lot_world.specs.Fits.{IsShaped}
 use Rattle.lot_world.specs.Sound.{IsSound, Debtor, IsTakenBy, Carries, queued, holds, finds_empty, releases, tries_again, is_awake, owner_at, inside, one_if}
 use Rattle.lot_world.specs.LockRuns.{AreLockStates, IsOpening}
-use Rattle.lot_world.specs.Locks.{opening_lock, rights_of, Rights, one_if_some}
-use Rattle.lot_world.specs.Purposes.{rules_of, Releases, Enters, patience_of}
+use Rattle.lot_world.specs.Locks.{opening_lock, rights_of, Rights, one_if_some, standing}
+use Rattle.lot_world.specs.Purposes.{rules_of, Releases, Enters, patience_of, Purpose}
 use Rattle.lot_world.specs.Refinement.{locks_of, lock_state, lock_seen, taken_at, call_state}
 use Rattle.lot_world.specs.OnlyMutexes.{OnlyMutexes}
 use Rattle.lot_world.specs.Promises.{Codes, WaitsFor, IsLookedAfter, IsKept, IsKeptThroughout, GoesToWake}
@@ -31,8 +31,8 @@ use Rattle.lot_world.proofs.Steady.{stands_at, after_sound}
 use Rattle.lot_world.proofs.OnlyMutexes.{after_only}
 use Rattle.lot_world.proofs.LockKeeps.{opening_is_state}
 use Rattle.lot_world.proofs.LockEvents.{queued_times, same}
-use Rattle.lot_world.proofs.LockRuns.{stands_by, one_place, after_locks}
-use Rattle.lot_world.proofs.Opening.{idle_at, none_at, empty_at}
+use Rattle.lot_world.proofs.LockRuns.{stands_by, after_locks}
+use Rattle.lot_world.proofs.Opening.{idle_at, none_at, empty_at, nobody_owns}
 use Rattle.std.proofs.lemmas.Bool.Decides.{nat_tests}
 use Rattle.std.proofs.lemmas.Bool.{eqb-true}
 use Rattle.lot_world.specs.Locks as locks
@@ -211,6 +211,10 @@ parked_word v None (inr e) h = rw e refl
 parked_word v (Some u) (inl e) h = absurd (omega arith)
 parked_word v (Some u) (inr e) h = rw e refl
 
+-- a call waits for one lock
+one_purpose : {o : Option Purpose} (l k : ℕ) → (timed : Bool) × (o ≡ Some (Enters l Exclusive (patience_of timed))) → (timed : Bool) × (o ≡ Some (Enters k Exclusive (patience_of timed))) → l ≡ k
+one_purpose l k h g = let e : Some (Enters l Exclusive (patience_of h.0)) ≡ Some (Enters k Exclusive (patience_of g.0)) = sym h.1 ∙ g.1 in cc
+
 module _ (w : State) (sound : IsSound w) (only : OnlyMutexes w) (all : AreLockStates (locks_of w)) where
   waiting : (t l : ℕ) → WaitsFor w t l → queued (place_at w t) ≡ Some l
   waiting t l h = stands_at (queued (place_at w t)) l (subst (λ n. 1 ≤ n) (queued_times t (queue_at w (2 * l)) ∙ sound.queues t l) h)
@@ -231,11 +235,14 @@ module _ (w : State) (sound : IsSound w) (only : OnlyMutexes w) (all : AreLockSt
   owes_by t l (inl h) = inside_owes (place_at w t) l ((sound.sections t l).1 h)
   owes_by t l (inr h) = release_on_its_way (place_at w t) l (λ k. rights_of (lock_state w k) t) h.0 h.1
 
+  waits : (t l : ℕ) → 1 ≤ standing t (lock_state w l) → (timed : Bool) × (((locks_of w).calls t).purpose ≡ Some (Enters l Exclusive (patience_of timed)))
+  waits t l h = waits_by (place_at w t) l (λ k. rights_of (lock_state w k) t) (subst (λ n. 1 ≤ n) (stands_by w t sound only l) h)
+
   pub kept : IsKept w
   kept = record {
     state = all;
-    one_place = λ t. one_place w t sound only;
-    waiting = λ t l h. waits_by (place_at w t) l (λ k. rights_of (lock_state w k) t) (subst (λ n. 1 ≤ n) (stands_by w t sound only l) h);
+    one_place = λ t l k h g. one_purpose l k (waits t l h) (waits t k g);
+    waiting = waits;
     coded = sound.codes;
     nobody_forgotten = λ t l h free. debtor l (sound.owed t l (waiting t l h) free);
     owing = λ t l. ((λ h. owes_so t l (owes_means (place_at w t) l (λ k. rights_of (lock_state w k) t) h)), λ h. owes_by t l h);
@@ -274,11 +281,6 @@ word_0 : (kinds : List Kind) (l : ℕ) → (get_or (map unlocked kinds) l (unloc
 word_0 [] l = refl
 word_0 (x ∷ xs) zero = refl
 word_0 (x ∷ xs) (suc l) = word_0 xs l
-
-nobody_owns : (kinds : List Kind) (l : ℕ) → (get_or (map unlocked kinds) l (unlocked kind.TheVariants.Mutex)).owners ≡ nobody
-nobody_owns [] l = refl
-nobody_owns (x ∷ xs) zero = refl
-nobody_owns (x ∷ xs) (suc l) = nobody_owns xs l
 
 pub opening_sound : (kinds : List Kind) (threads : ℕ) → IsSound (opening kinds threads)
 opening_sound kinds threads = record {

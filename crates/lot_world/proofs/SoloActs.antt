@@ -1,5 +1,5 @@
 -- A thread that steps alone: what each of its acts leads to, of the lock that it calls.
-use Rattle.std.proofs.Common.{ℕ, zero, suc, true, false, Option, Some, None, if◌then◌else◌, ◌==◌, ◌≡◌, ◌+◌, ◌*◌, ◌≤◌, ◌<◌, List, [], ◌∷◌, ◌++◌, length, get_or, map, drop, is_none, refl, ◌∙◌, ap, arith, get_or-set_same, length-set}
+use Rattle.std.proofs.Common.{subst, ℕ, zero, suc, true, false, Option, Some, None, if◌then◌else◌, ◌==◌, ◌≡◌, ◌+◌, ◌*◌, ◌≤◌, ◌<◌, List, [], ◌∷◌, ◌++◌, length, get_or, map, drop, is_none, refl, ◌∙◌, ap, arith, get_or-set_same, length-set}
 use Rattle.std.proofs.lemmas.Bool.{lt-ltb}
 use Rattle.std.proofs.lemmas.List.{length-map}
 use Rattle.std.proofs.Math.ListN.{get_or-map}
@@ -23,7 +23,7 @@ use Rattle.lot_steps.specs.declared.places.Place.{Place}
 use Rattle.lot_steps.specs.declared.places.Place.TheVariants.{Idle}
 use Rattle.lot_steps.specs.Acts.{outcome_of}
 use Rattle.lot_steps.specs.Steps.{act_of, next_place, next_act}
-use Rattle.lot_world.specs.Machine.{State, unlocked, place_at, word_at, owners_at, section_at, queue_at, put, operated, filled_with, appended, removed, first_taken, taken_by, befallen, performed, reply_to, can_do, gone, go_of, is_possible, after, answered, go_outcome, Alone, alone_after, solo}
+use Rattle.lot_world.specs.Machine.{State, unlocked, place_at, word_at, owners_at, section_at, queue_at, put, operated, filled_with, appended, removed, first_taken, taken_by, befallen, performed, reply_to, can_do, gone, go_of, is_possible, after, answered, go_outcome, solo}
 use Rattle.lot_world.specs.Fits.{IsShaped, SameSize}
 use Rattle.lot_world.specs.Sound.{IsSound, owner_at, queued, one_if}
 use Rattle.lot_world.proofs.Counts.{without_absent}
@@ -33,6 +33,7 @@ use Rattle.lot_world.proofs.Words.{owner_after, exclusive-owners}
 use Rattle.lot_world.specs.OnlyMutexes.{OnlyMutexes}
 use Rattle.lot_world.specs.Solo.{Rests}
 use Rattle.lot_world.proofs.OnlyMutexes.{after_only}
+use Rattle.lot_world.proofs.Alone.{rests_after}
 
 -- ---------------------------------------------------------------- runs
 
@@ -40,18 +41,11 @@ use Rattle.lot_world.proofs.OnlyMutexes.{after_only}
 abbrev pub Leads : ℕ → State → ℕ → (State → Outcome → Type 0) → Type 0
 Leads k w t P = (n : ℕ) (last : Outcome) → k ≤ n → P (solo n w t last).state (solo n w t last).outcome
 
-rests_after : (o : Outcome) (w v : State) (last : Outcome) (more : Alone) → Rests o → alone_after o w v last more ≡ record { state = v; outcome = o }
-rests_after (outcome.TheVariants.End a) w v last more h = refl
-rests_after outcome.TheVariants.Sleep w v last more h = refl
-rests_after (outcome.TheVariants.Closure state) w v last more h = refl
-rests_after outcome.TheVariants.NotNow w v last more h = absurd h
-rests_after outcome.TheVariants.Step w v last more h = absurd h
-
 module _ (w : State) (t : ℕ) (P : State → Outcome → Type 0) where
   pub leads_rest : (o : Outcome) → answered w (go_of t) ≡ o → Rests o → P (after w (go_of t)) o → Leads 1 w t P
   unfolding solo
   leads_rest o told rest h zero last le = absurd (omega arith)
-  leads_rest o told rest h (suc n) last le = rw (told, rests_after o w (after w (go_of t)) last (solo n (after w (go_of t)) t outcome.TheVariants.Step) rest) h
+  leads_rest o told rest h (suc n) last le = rw (told, rests_after o w (after w (go_of t)) last (solo n (after w (go_of t)) t outcome.TheVariants.Step) (λ e. subst Rests e rest) (λ e. subst Rests e rest)) h
 
   pub leads_step : (k : ℕ) → answered w (go_of t) ≡ outcome.TheVariants.Step → Leads k (after w (go_of t)) t P → Leads (k + 1) w t P
   unfolding solo

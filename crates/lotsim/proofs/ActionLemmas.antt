@@ -5,10 +5,10 @@ use Rattle.lot_steps.specs.declared.calls.Turn.TheVariants.{Begin}
 use Rattle.lot_steps.specs.declared.calls.Step.{Step}
 use Rattle.lot_steps.specs.declared.calls.Outcome.{Outcome}
 use Rattle.lot_steps.specs.declared.calls.Outcome.TheVariants.{NotNow}
-use Rattle.lot_world.specs.Machine.{State, is_possible, after, answered, turned, turn_outcome}
+use Rattle.lot_world.specs.Machine.{State, is_possible, after, answered, turn_outcome}
 use Rattle.lotsim.specs.Stages.{went_alone, did}
 
-abbrev begin_of : ℕ → Call → Step
+abbrev pub begin_of : ℕ → Call → Step
 begin_of t call = record { thread = t; turn = Begin call }
 
 begun_by : (b : Bool) (w : State) (t : ℕ) (call : Call) (o : Outcome) → is_possible w (begin_of t call) ≡ b → o ≡ answered w (begin_of t call) → (o ≡ NotNow → ⊥) → did w t call ≡ went_alone (after w (begin_of t call)) t
@@ -24,11 +24,3 @@ begun_not false w t call p e = ap (λ b. cond b (went_alone (after w (begin_of t
 
 pub did_nothing : (w : State) (t : ℕ) (call : Call) → answered w (begin_of t call) ≡ NotNow → did w t call ≡ (w, NotNow)
 did_nothing w t call = begun_not (is_possible w (begin_of t call)) w t call refl
-
-stays_by : (b : Bool) (w : State) (t : ℕ) (call : Call) → is_possible w (begin_of t call) ≡ b → answered w (begin_of t call) ≡ NotNow → after w (begin_of t call) ≡ w
-stays_by true w t call p e = let g : turn_outcome w t (Begin call) ≡ NotNow = ap (λ b. cond b (turn_outcome w t (Begin call)) NotNow) (sym p) ∙ e in absurd cc
-stays_by false w t call p e = ap (λ b. cond b (turned w t (Begin call)) w) p
-
--- a call that doesn't begin changes nothing
-pub stays : (w : State) (t : ℕ) (call : Call) → answered w (begin_of t call) ≡ NotNow → after w (begin_of t call) ≡ w
-stays w t call = stays_by (is_possible w (begin_of t call)) w t call refl

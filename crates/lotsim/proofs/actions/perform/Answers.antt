@@ -2,7 +2,8 @@ use Rattle.std.proofs.Common.{sym, ap, ◌∙◌}
 use Rattle.lot_steps.specs.declared.calls.Outcome.{Outcome}
 use Rattle.lot_world.specs.Machine.{State}
 use Rattle.lotsim.specs.Stages.{went_alone}
-use Rattle.lotsim.proofs.ActionLemmas.{did_begin, did_nothing, stays}
+use Rattle.lot_world.proofs.Alone.{after_stuck}
+use Rattle.lotsim.proofs.ActionLemmas.{begin_of, did_begin, did_nothing}
 use Rattle.lotsim.proofs.actions.perform.Goals as goal
 
 pub returns-in_default : goal.returns-in_default
@@ -24,4 +25,4 @@ returns-in-NotNow-clause-outcome c =
 pub returns-in-NotNow-clause-state : goal.returns-in-NotNow-clause-state
 returns-in-NotNow-clause-state c =
     let refused = sym c.step-in-Do.ensures.outcome ∙ c.in-NotNow.is in
-    rw c.in-Do.is (c.step-in-Do.ensures.state ∙ stays c.args.world.now c.args.thread c.in-Do.call refused ∙ sym (ap (λ (p : State × Outcome). p.0) (did_nothing c.args.world.now c.args.thread c.in-Do.call refused)))
+    rw c.in-Do.is (c.step-in-Do.ensures.state ∙ after_stuck c.args.world.now (begin_of c.args.thread c.in-Do.call) refused ∙ sym (ap (λ (p : State × Outcome). p.0) (did_nothing c.args.world.now c.args.thread c.in-Do.call refused)))
