@@ -18,4 +18,10 @@ fits Once threads = true
 -- whether locks of the kind have the call
 abbrev pub has_call : Kind → Call → Bool
 has_call Mutex (call.TheVariants.Mutex lock c) = true
+has_call Fair (call.TheVariants.Mutex lock c) = true
 has_call _ c = false
+
+-- whether it is a mutex whose unlock hands the lock over
+abbrev pub is_fair : Kind → Bool
+is_fair Fair = true
+is_fair kind = false

@@ -1,24 +1,28 @@
 -- The steps of a mutex: what a thread does at each place, and where each reply leads it.
 use Rattle.std.specs.Prelude.{ℕ, Bool, true, false, Option, Some, None, if◌then◌else◌, ◌==◌, not, ◌&&◌, ◌+◌, ◌*◌, ◌/◌, ◌%◌}
 use Rattle.parking_lot_core.specs.declared.keys.Keys.TheVariants.{One}
-use Rattle.parking_lot_core.specs.declared.notes.Note.TheVariants.{Normal}
+use Rattle.parking_lot_core.specs.declared.notes.Note as note
 use Rattle.parking_lot_core.specs.declared.wants.Want.TheVariants.{Exclusive}
 use Rattle.parking_lot_core.specs.declared.ops.Op as op
 use Rattle.lot_steps.specs.declared.mutex.MutexCall.{MutexCall}
 use Rattle.lot_steps.specs.declared.mutex.MutexCall as call
 use Rattle.lot_steps.specs.declared.mutex.MutexPlace.{MutexPlace}
-use Rattle.lot_steps.specs.declared.mutex.MutexPlace.TheVariants.{Lock, TryLock, Unlock}
+use Rattle.lot_steps.specs.declared.mutex.Entry.{Entry}
+use Rattle.lot_steps.specs.declared.mutex.Entry as entry
+use Rattle.lot_steps.specs.declared.mutex.MutexPlace.TheVariants.{Lock, TryLock, Unlock, UnlockFair, Bump, HandOff}
 use Rattle.lot_steps.specs.declared.mutex.LockAt.{LockAt}
 use Rattle.lot_steps.specs.declared.mutex.LockAt as lock
 use Rattle.lot_steps.specs.declared.mutex.UnlockAt.{UnlockAt}
 use Rattle.lot_steps.specs.declared.mutex.UnlockAt as unlock
+use Rattle.lot_steps.specs.declared.mutex.HandOffAt.{HandOffAt}
+use Rattle.lot_steps.specs.declared.mutex.HandOffAt as hand_off
 use Rattle.lot_steps.specs.declared.mutex.TheConstants.{NOT_PARKED}
 use Rattle.lot_steps.specs.declared.acts.Act.{Act}
 use Rattle.lot_steps.specs.declared.acts.Act as act
 use Rattle.lot_steps.specs.declared.acts.Check.TheVariants.{WordIs}
 use Rattle.lot_steps.specs.declared.acts.Wakes as wakes
 use Rattle.lot_steps.specs.declared.acts.Reply.{Reply}
-use Rattle.lot_steps.specs.declared.acts.Reply.TheVariants.{Done, Value, Spun, Parked, Took, Removed, TakenBy, Late, Woken}
+use Rattle.lot_steps.specs.declared.acts.Reply.TheVariants.{Done, Value, Spun, Parked, Took, Removed, TakenBy, HandedBy, Late, Woken}
 use Rattle.lot_steps.specs.declared.acts.Next.{Next}
 use Rattle.lot_steps.specs.declared.acts.Next.TheVariants.{At, End}
 use Rattle.lot_steps.specs.declared.calls.Answer.{Answer}
@@ -33,11 +37,22 @@ is_locked word = word % 2 == 1
 abbrev pub is_parked : ℕ → Bool
 is_parked word = word / 2 % 2 == 1
 
-abbrev pub mutex_first : MutexCall → MutexPlace
-mutex_first call.TheVariants.Lock = Lock false false lock.TheVariants.First
-mutex_first call.TheVariants.LockTimed = Lock true false lock.TheVariants.First
-mutex_first call.TheVariants.TryLock = TryLock
-mutex_first call.TheVariants.Unlock = Unlock unlock.TheVariants.Subtract
+-- a timed call may give up
+abbrev pub is_timed : Entry → Bool
+is_timed entry.TheVariants.LockTimed = true
+is_timed e = false
+
+abbrev pub enters : Entry → MutexPlace
+enters e = Lock e false lock.TheVariants.First
+
+-- where a call begins; a fair mutex hands over by unlock too
+abbrev pub mutex_first : Bool → MutexCall → MutexPlace
+mutex_first fair call.TheVariants.Lock = enters entry.TheVariants.Lock
+mutex_first fair call.TheVariants.LockTimed = enters entry.TheVariants.LockTimed
+mutex_first fair call.TheVariants.TryLock = TryLock
+mutex_first fair call.TheVariants.Unlock = if fair then UnlockFair else Unlock unlock.TheVariants.Subtract
+mutex_first fair call.TheVariants.UnlockFair = UnlockFair
+mutex_first fair call.TheVariants.Bump = Bump
 
 abbrev pub is_thread : ℕ → Option ℕ → Bool
 is_thread t None = false
@@ -45,8 +60,10 @@ is_thread t (Some u) = u == t
 
 -- whether a thread has the right that the call needs
 abbrev pub mutex_right : MutexCall → ℕ → Owners → Bool
-mutex_right call.TheVariants.Unlock t owners = is_thread t owners.exclusive
-mutex_right c t owners = true
+mutex_right call.TheVariants.Lock t owners = true
+mutex_right call.TheVariants.LockTimed t owners = true
+mutex_right call.TheVariants.TryLock t owners = true
+mutex_right c t owners = is_thread t owners.exclusive
 
 -- ---------------------------------------------------------------- what a thread does
 
@@ -65,6 +82,8 @@ lock_act l lock.TheVariants.Check = act.TheVariants.Park l (2 * l) (WordIs 3) Ex
 lock_act l (lock.TheVariants.Leave parked) = act.TheVariants.Leave (One (2 * l)) wakes.TheVariants.Nobody
 lock_act l lock.TheVariants.Asleep = act.TheVariants.Sleep
 lock_act l (lock.TheVariants.Taken by) = act.TheVariants.Sleep
+lock_act l (lock.TheVariants.Handed by) = act.TheVariants.Sleep
+lock_act l lock.TheVariants.Accept = act.TheVariants.Accept
 lock_act l lock.TheVariants.Remove = act.TheVariants.Remove (2 * l)
 lock_act l lock.TheVariants.Clear = act.TheVariants.Word l (op.TheVariants.And NOT_PARKED)
 lock_act l lock.TheVariants.GiveUp = act.TheVariants.Leave (One (2 * l)) wakes.TheVariants.Nobody
@@ -74,42 +93,66 @@ unlock_act l unlock.TheVariants.Subtract = act.TheVariants.Word l (op.TheVariant
 unlock_act l unlock.TheVariants.Enter = act.TheVariants.Enter (One (2 * l))
 unlock_act l unlock.TheVariants.Take = act.TheVariants.TakeFirst (2 * l)
 unlock_act l (unlock.TheVariants.Clear taken) = act.TheVariants.Word l (op.TheVariants.And NOT_PARKED)
-unlock_act l (unlock.TheVariants.Leave taken) = act.TheVariants.Leave (One (2 * l)) (wakes_first taken Normal)
+unlock_act l (unlock.TheVariants.Leave taken) = act.TheVariants.Leave (One (2 * l)) (wakes_first taken note.TheVariants.Normal)
+
+-- the word that a hand-off leaves: unlocked where nobody was taken, else locked, with the parked bit where waiters are left
+abbrev pub hand_off_word : Option ℕ → Bool → ℕ
+hand_off_word None none_left = 0
+hand_off_word (Some u) none_left = if none_left then 1 else 3
+
+-- who was taken owns the lock from that store on
+abbrev pub hand_off_store : ℕ → Option ℕ → Bool → Act
+hand_off_store l None none_left = act.TheVariants.Word l (op.TheVariants.Store (hand_off_word None none_left))
+hand_off_store l (Some u) none_left = act.TheVariants.HandOver l (op.TheVariants.Store (hand_off_word (Some u) none_left)) u
+
+abbrev pub hand_off_act : ℕ → HandOffAt → Act
+hand_off_act l hand_off.TheVariants.Enter = act.TheVariants.Enter (One (2 * l))
+hand_off_act l hand_off.TheVariants.Take = act.TheVariants.TakeFirst (2 * l)
+hand_off_act l (hand_off.TheVariants.Store taken none_left) = hand_off_store l taken none_left
+hand_off_act l (hand_off.TheVariants.Leave taken) = act.TheVariants.Leave (One (2 * l)) (wakes_first taken note.TheVariants.HandOff)
 
 abbrev pub mutex_act : ℕ → MutexPlace → Act
-mutex_act l (Lock timed retries at) = lock_act l at
+mutex_act l (Lock e retries at) = lock_act l at
 mutex_act l TryLock = act.TheVariants.Word l (op.TheVariants.Or 1)
 mutex_act l (Unlock at) = unlock_act l at
+mutex_act l UnlockFair = act.TheVariants.Word l (op.TheVariants.Exchange 1 0)
+mutex_act l Bump = act.TheVariants.Word l op.TheVariants.Load
+mutex_act l (HandOff bumps at) = hand_off_act l at
 
 -- ---------------------------------------------------------------- where a reply leads
 
 -- a timed call tells that it has the lock by yes
-abbrev pub entered : Bool → Answer
-entered timed = if timed then answer.TheVariants.Yes else answer.TheVariants.Ok
+abbrev pub entered : Entry → Answer
+entered entry.TheVariants.LockTimed = answer.TheVariants.Yes
+entered e = answer.TheVariants.Ok
 
-abbrev pub lock_next : Bool → LockAt → Reply → Next LockAt
-lock_next timed lock.TheVariants.First (Value seen) = if seen == 0 then End (entered timed) else At lock.TheVariants.Load
-lock_next timed lock.TheVariants.Load (Value seen) = At (lock.TheVariants.Decide seen)
-lock_next timed (lock.TheVariants.Decide expected) (Value seen) =
+abbrev pub lock_next : Entry → LockAt → Reply → Next LockAt
+lock_next e lock.TheVariants.First (Value seen) = if seen == 0 then End (entered e) else At lock.TheVariants.Load
+lock_next e lock.TheVariants.Load (Value seen) = At (lock.TheVariants.Decide seen)
+lock_next e (lock.TheVariants.Decide expected) (Value seen) =
     if not (seen == expected) then At (lock.TheVariants.Decide seen)
     else if is_locked seen then At (lock.TheVariants.Decide 3)
-    else End (entered timed)
-lock_next timed (lock.TheVariants.Decide expected) (Spun seen) = At (lock.TheVariants.Decide seen)
-lock_next timed (lock.TheVariants.Decide expected) Done = At lock.TheVariants.Check
-lock_next timed lock.TheVariants.Check (Parked parked) = At (lock.TheVariants.Leave parked)
-lock_next timed (lock.TheVariants.Leave parked) Done = if parked then At lock.TheVariants.Asleep else At lock.TheVariants.Load
-lock_next timed lock.TheVariants.Asleep (TakenBy by) = At (lock.TheVariants.Taken by)
-lock_next timed (lock.TheVariants.Taken by) (Woken Normal) = At lock.TheVariants.Load
-lock_next timed lock.TheVariants.Asleep Late = At lock.TheVariants.Remove
-lock_next timed lock.TheVariants.Remove (Removed none_left) = if none_left then At lock.TheVariants.Clear else At lock.TheVariants.GiveUp
-lock_next timed lock.TheVariants.Clear (Value seen) = At lock.TheVariants.GiveUp
-lock_next timed lock.TheVariants.GiveUp Done = End answer.TheVariants.No
-lock_next timed at _ = At at
+    else End (entered e)
+lock_next e (lock.TheVariants.Decide expected) (Spun seen) = At (lock.TheVariants.Decide seen)
+lock_next e (lock.TheVariants.Decide expected) Done = At lock.TheVariants.Check
+lock_next e lock.TheVariants.Check (Parked parked) = At (lock.TheVariants.Leave parked)
+lock_next e (lock.TheVariants.Leave parked) Done = if parked then At lock.TheVariants.Asleep else At lock.TheVariants.Load
+lock_next e lock.TheVariants.Asleep (TakenBy by) = At (lock.TheVariants.Taken by)
+lock_next e (lock.TheVariants.Taken by) (Woken note.TheVariants.Normal) = At lock.TheVariants.Load
+lock_next e (lock.TheVariants.Taken by) (HandedBy t) = At (lock.TheVariants.Handed t)
+lock_next e (lock.TheVariants.Handed by) (Woken note.TheVariants.HandOff) = At lock.TheVariants.Accept
+lock_next e lock.TheVariants.Accept Done = End (entered e)
+lock_next e lock.TheVariants.Asleep Late = At lock.TheVariants.Remove
+lock_next e lock.TheVariants.Remove (Removed none_left) = if none_left then At lock.TheVariants.Clear else At lock.TheVariants.GiveUp
+lock_next e lock.TheVariants.Clear (Value seen) = At lock.TheVariants.GiveUp
+lock_next e lock.TheVariants.GiveUp Done = End answer.TheVariants.No
+lock_next e at _ = At at
 
--- from a wake note until it stands in the queue again
+-- from a wake note until it stands in the queue again or owns the mutex
 abbrev pub still_retries : Bool → Reply → Bool
-still_retries retries (Woken note) = true
+still_retries retries (Woken note.TheVariants.Normal) = true
 still_retries retries (Parked parked) = retries && not parked
+still_retries retries (HandedBy t) = false
 still_retries retries _ = retries
 
 abbrev pub unlock_next : UnlockAt → Reply → Next UnlockAt
@@ -120,22 +163,49 @@ unlock_next (unlock.TheVariants.Clear taken) (Value seen) = At (unlock.TheVarian
 unlock_next (unlock.TheVariants.Leave taken) Done = End answer.TheVariants.Ok
 unlock_next at _ = At at
 
+abbrev pub hand_off_next : HandOffAt → Reply → Next HandOffAt
+hand_off_next hand_off.TheVariants.Enter Done = At hand_off.TheVariants.Take
+hand_off_next hand_off.TheVariants.Take (Took first none_left) = At (hand_off.TheVariants.Store first none_left)
+hand_off_next (hand_off.TheVariants.Store taken none_left) (Value seen) = At (hand_off.TheVariants.Leave taken)
+hand_off_next (hand_off.TheVariants.Leave taken) Done = End answer.TheVariants.Ok
+hand_off_next at _ = At at
+
+-- an owner that saw waiters hands the mutex over
+abbrev pub looked : Bool → Bool → Next MutexPlace
+looked bumps saw_waiters = if saw_waiters then At (HandOff bumps hand_off.TheVariants.Enter) else End answer.TheVariants.Ok
+
 abbrev pub try_next : Reply → Next MutexPlace
 try_next (Value seen) = if is_locked seen then End answer.TheVariants.No else End answer.TheVariants.Yes
 try_next _ = At TryLock
 
-abbrev pub in_lock : Bool → Bool → Next LockAt → Next MutexPlace
-in_lock timed retries (At at) = At (Lock timed retries at)
-in_lock timed retries (End answer) = End answer
+abbrev pub unlock_fair_next : Reply → Next MutexPlace
+unlock_fair_next (Value seen) = looked false (not (seen == 1))
+unlock_fair_next _ = At UnlockFair
+
+abbrev pub bump_next : Reply → Next MutexPlace
+bump_next (Value seen) = looked true (is_parked seen)
+bump_next _ = At Bump
+
+abbrev pub in_lock : Entry → Bool → Next LockAt → Next MutexPlace
+in_lock e retries (At at) = At (Lock e retries at)
+in_lock e retries (End answer) = End answer
 
 abbrev pub in_unlock : Next UnlockAt → Next MutexPlace
 in_unlock (At at) = At (Unlock at)
 in_unlock (End answer) = End answer
 
+-- behind its hand-off a bump enters again
+abbrev pub in_hand_off : Bool → Next HandOffAt → Next MutexPlace
+in_hand_off bumps (At at) = At (HandOff bumps at)
+in_hand_off bumps (End answer) = if bumps then At (enters entry.TheVariants.Bump) else End answer
+
 abbrev pub mutex_next : MutexPlace → Reply → Next MutexPlace
-mutex_next (Lock timed retries at) reply = in_lock timed (still_retries retries reply) (lock_next timed at reply)
+mutex_next (Lock e retries at) reply = in_lock e (still_retries retries reply) (lock_next e at reply)
 mutex_next TryLock reply = try_next reply
 mutex_next (Unlock at) reply = in_unlock (unlock_next at reply)
+mutex_next UnlockFair reply = unlock_fair_next reply
+mutex_next Bump reply = bump_next reply
+mutex_next (HandOff bumps at) reply = in_hand_off bumps (hand_off_next at reply)
 
 -- ---------------------------------------------------------------- who owns, owes and retries
 
@@ -153,18 +223,22 @@ unlock_owners _ owners = owners
 
 -- who owns the mutex after an operation on its word that saw this value
 abbrev pub mutex_owners : MutexPlace → ℕ → ℕ → Owners → Owners
-mutex_owners (Lock timed retries at) t seen owners = lock_owners at t seen owners
+mutex_owners (Lock e retries at) t seen owners = lock_owners at t seen owners
 mutex_owners TryLock t seen owners = if is_locked seen then owners else with_exclusive owners (Some t)
 mutex_owners (Unlock at) t seen owners = unlock_owners at owners
+mutex_owners UnlockFair t seen owners = if seen == 1 then with_exclusive owners None else owners
+mutex_owners Bump t seen owners = owners
+mutex_owners (HandOff bumps (hand_off.TheVariants.Store taken none_left)) t seen owners = with_exclusive owners taken
+mutex_owners (HandOff bumps at) t seen owners = owners
 
 -- whether the word may be loaded again in place of the act: where the act would set the parked bit
 abbrev pub mutex_can_spin : MutexPlace → Bool
-mutex_can_spin (Lock timed retries (lock.TheVariants.Decide seen)) = seen == 1
+mutex_can_spin (Lock e retries (lock.TheVariants.Decide seen)) = seen == 1
 mutex_can_spin _ = false
 
 -- whether the thread sleeps in the queue of a call that may give up
 abbrev pub mutex_can_be_late : MutexPlace → Bool
-mutex_can_be_late (Lock timed retries lock.TheVariants.Asleep) = timed
+mutex_can_be_late (Lock e retries lock.TheVariants.Asleep) = is_timed e
 mutex_can_be_late _ = false
 
 -- from the step that saw waiters, or from entering the section, until the section is left
@@ -181,10 +255,13 @@ unlock_owes unlock.TheVariants.Subtract = false
 unlock_owes _ = true
 
 abbrev pub mutex_owes : MutexPlace → Bool
-mutex_owes (Lock timed retries at) = lock_owes at
+mutex_owes (Lock e retries at) = lock_owes at
 mutex_owes TryLock = false
 mutex_owes (Unlock at) = unlock_owes at
+mutex_owes UnlockFair = false
+mutex_owes Bump = false
+mutex_owes (HandOff bumps at) = true
 
 abbrev pub mutex_retries : MutexPlace → Bool
-mutex_retries (Lock timed retries at) = retries
+mutex_retries (Lock e retries at) = retries
 mutex_retries _ = false

@@ -28,6 +28,12 @@ pub enum Act {
         lock: usize,
         op: Op,
     },
+    /// One operation on the word of a lock, which hands the lock to a thread that was taken.
+    HandOver {
+        lock: usize,
+        op: Op,
+        to: usize,
+    },
     /// Enters sections. All of them have to be free.
     Enter(Keys),
     /// Loads the word inside the section, and where the check holds stands behind the last of the queue.
@@ -48,6 +54,8 @@ pub enum Act {
     },
     /// Sleeps until a wake note is there.
     Sleep,
+    /// Nothing: the lock was handed to the thread. It touches no word and no queue.
+    Accept,
     /// Runs the closure of the call.
     Closure(OnceState),
     /// Ends the call.
@@ -57,7 +65,7 @@ pub enum Act {
 /// What an act came to, or what befell a thread asleep.
 #[derive(Clone, Copy, Debug, PartialEq, Eq)]
 pub enum Reply {
-    /// The sections are entered, or left.
+    /// The sections are entered, or left, or a hand-off is accepted.
     Done,
     /// The value of the word before the operation.
     Value(u64),
@@ -76,6 +84,8 @@ pub enum Reply {
     },
     /// Another thread took this one from its queue.
     TakenBy(usize),
+    /// The thread that took this one has handed it the lock.
+    HandedBy(usize),
     /// Its time is up, and it has entered the section of the queue where it stands.
     Late,
     /// The wake note is there.

@@ -2,6 +2,7 @@
 ghost use Rattle.std.specs.Prelude.{◌≡◌};
 ghost use Rattle.lot_steps.specs.Steps.{lock_in, first_place, has_right};
 
+use crate::kinds::Kind;
 use crate::mutex::MutexCall;
 use crate::owners::Owners;
 use crate::places::Place;
@@ -86,14 +87,14 @@ impl Call {
         }
     }
 
-    /// Where the call begins.
-    pub fn first_place(self) -> Place
-        ensures { result ≡ first_place self }
+    /// Where the call of a lock of this kind begins.
+    pub fn first_place(self, kind: Kind) -> Place
+        ensures { result ≡ first_place kind self }
     {
         match self {
             Call::Mutex { lock, call } => Place::Mutex {
                 lock,
-                at: call.first_place(),
+                at: call.first_place(kind.is_fair()),
             },
         }
     }

@@ -1,6 +1,6 @@
 //! The kinds of lock.
 ghost use Rattle.std.specs.Prelude.{◌≡◌};
-ghost use Rattle.lot_steps.specs.Kinds.{fits, has_call};
+ghost use Rattle.lot_steps.specs.Kinds.{fits, has_call, is_fair};
 
 use crate::calls::Call;
 
@@ -39,7 +39,17 @@ impl Kind {
         ensures { result ≡ has_call self call }
     {
         match (self, call) {
-            (Kind::Mutex, Call::Mutex { lock: _, call: _ }) => true,
+            (Kind::Mutex | Kind::Fair, Call::Mutex { lock: _, call: _ }) => true,
+            _ => false,
+        }
+    }
+
+    /// Whether it is a mutex whose `unlock` hands the lock over.
+    pub fn is_fair(self) -> bool
+        ensures { result ≡ is_fair self }
+    {
+        match self {
+            Kind::Fair => true,
             _ => false,
         }
     }

@@ -15,7 +15,7 @@ mod tests;
 pub use acts::{Act, Check, Next, Reply, Wakes};
 pub use calls::{Answer, Call, OnceState, Outcome, Step, Turn};
 pub use kinds::Kind;
-pub use mutex::{LockAt, MutexCall, MutexPlace, UnlockAt};
+pub use mutex::{Entry, HandOffAt, LockAt, MutexCall, MutexPlace, UnlockAt};
 pub use owners::{Fallback, Owner, Owners, Pending};
 pub use parking_lot_core::Op;
 pub use places::{Place, advance};

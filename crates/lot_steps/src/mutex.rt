@@ -7,7 +7,7 @@
 //! | 2, `PARKED` | unlocked; somebody may stand in the queue |
 //! | 3 | owned; somebody may stand in the queue |
 ghost use Rattle.std.specs.Prelude.{◌≡◌, ◌<◌, ◌^◌};
-ghost use Rattle.lot_steps.specs.MutexSteps.{is_locked, is_parked, mutex_first, mutex_right, entered, lock_next, still_retries, unlock_next, lock_act, decided, unlock_act, mutex_act, mutex_next, mutex_owners, mutex_can_spin, mutex_can_be_late, mutex_owes, mutex_retries};
+ghost use Rattle.lot_steps.specs.MutexSteps.{is_locked, is_parked, is_timed, enters, mutex_first, mutex_right, entered, lock_next, still_retries, unlock_next, hand_off_next, looked, lock_act, decided, unlock_act, hand_off_word, hand_off_store, hand_off_act, mutex_act, mutex_next, lock_owners, mutex_owners, mutex_can_spin, mutex_can_be_late, mutex_owes, mutex_retries};
 
 use crate::acts::{Act, Check, Next, Reply, Wakes};
 use crate::calls::Answer;
@@ -27,11 +27,24 @@ pub enum MutexCall {
     Lock,
     LockTimed,
     TryLock,
-    /// Needs the exclusive right.
+    /// Needs the exclusive right. A fair mutex releases as by `UnlockFair`.
     Unlock,
+    /// Hands the mutex to the first waiter, where there is one. Needs the exclusive right.
+    UnlockFair,
+    /// Hands the mutex to the first waiter, where there is one, and locks it again. Needs the exclusive right.
+    Bump,
 }
 
-/// Where a thread stands in `lock` or `lock_timed`.
+/// For which call a thread enters.
+#[derive(Clone, Copy, Debug, PartialEq, Eq)]
+pub enum Entry {
+    Lock,
+    LockTimed,
+    /// It has handed the mutex over.
+    Bump,
+}
+
+/// Where a thread stands that enters: in `lock`, `lock_timed`, or the second half of `bump`.
 #[derive(Clone, Copy, Debug, PartialEq, Eq)]
 pub enum LockAt {
     /// Tries a word that is 0.
@@ -47,6 +60,10 @@ pub enum LockAt {
     Asleep,
     /// Taken by a thread that has not left its section yet.
     Taken { by: usize },
+    /// Asleep, and the owner: the thread that took it has handed it the mutex, and not left its section yet.
+    Handed { by: usize },
+    /// The owner, and awake: it has the note of the hand-off.
+    Accept,
     /// Late, inside the section and still in the queue.
     Remove,
     /// Late, and none is left in the queue.
@@ -67,18 +84,42 @@ pub enum UnlockAt {
     Leave { taken: Option<usize> },
 }
 
+/// Where an owner stands that saw `PARKED` in `unlock_fair` or `bump`.
+#[derive(Clone, Copy, Debug, PartialEq, Eq)]
+pub enum HandOffAt {
+    Enter,
+    Take,
+    /// It stores the word, and with it hands the mutex to the one that it took.
+    Store {
+        taken: Option<usize>,
+        none_left: bool,
+    },
+    Leave {
+        taken: Option<usize>,
+    },
+}
+
 /// Where a thread stands in a call of a mutex.
 #[derive(Clone, Copy, Debug, PartialEq, Eq)]
 pub enum MutexPlace {
-    /// `lock_timed` where it is `timed`. It `retries` from a wake note on, until the thread stands in
-    /// the queue again or the call ends.
+    /// It `retries` from a wake note on, until the thread stands in the queue again, owns the mutex or the
+    /// call ends.
     Lock {
-        timed: bool,
+        entry: Entry,
         retries: bool,
         at: LockAt,
     },
     TryLock,
     Unlock(UnlockAt),
+    /// Tries a word without `PARKED`.
+    UnlockFair,
+    /// Loads the word.
+    Bump,
+    /// Where it `bumps`, the thread locks the mutex again; else its call ends.
+    HandOff {
+        bumps: bool,
+        at: HandOffAt,
+    },
 }
 
 fn is_locked(word: u64) -> bool
@@ -93,23 +134,50 @@ fn is_parked(word: u64) -> bool
     word / 2 % 2 == 1
 }
 
-impl MutexCall {
-    pub fn first_place(self) -> MutexPlace
-        ensures { result ≡ mutex_first self }
+impl Entry {
+    pub fn is_timed(self) -> bool
+        ensures { result ≡ is_timed self }
     {
         match self {
-            MutexCall::Lock => MutexPlace::Lock {
-                timed: false,
-                retries: false,
-                at: LockAt::First,
-            },
-            MutexCall::LockTimed => MutexPlace::Lock {
-                timed: true,
-                retries: false,
-                at: LockAt::First,
-            },
+            Entry::LockTimed => true,
+            Entry::Lock | Entry::Bump => false,
+        }
+    }
+
+    /// What the call answers with the mutex: a timed one `Yes`, one that waits for ever `Ok`.
+    fn entered(self) -> Answer
+        ensures { result ≡ entered self }
+    {
+        match self {
+            Entry::LockTimed => Answer::Yes,
+            Entry::Lock | Entry::Bump => Answer::Ok,
+        }
+    }
+
+    fn first_place(self) -> MutexPlace
+        ensures { result ≡ enters self }
+    {
+        MutexPlace::Lock {
+            entry: self,
+            retries: false,
+            at: LockAt::First,
+        }
+    }
+}
+
+impl MutexCall {
+    /// Where the call begins; the mutex is a fair one or not.
+    pub fn first_place(self, is_fair: bool) -> MutexPlace
+        ensures { result ≡ mutex_first is_fair self }
+    {
+        match self {
+            MutexCall::Lock => Entry::Lock.first_place(),
+            MutexCall::LockTimed => Entry::LockTimed.first_place(),
             MutexCall::TryLock => MutexPlace::TryLock,
+            MutexCall::Unlock if is_fair => MutexPlace::UnlockFair,
             MutexCall::Unlock => MutexPlace::Unlock(UnlockAt::Subtract),
+            MutexCall::UnlockFair => MutexPlace::UnlockFair,
+            MutexCall::Bump => MutexPlace::Bump,
         }
     }
 
@@ -119,25 +187,20 @@ impl MutexCall {
     {
         match self {
             MutexCall::Lock | MutexCall::LockTimed | MutexCall::TryLock => true,
-            MutexCall::Unlock => owners.exclusive == Some(thread),
+            MutexCall::Unlock | MutexCall::UnlockFair | MutexCall::Bump => {
+                owners.exclusive == Some(thread)
+            }
         }
     }
 }
 
-/// What a call that enters answers with the lock: a timed one `Yes`, one that waits for ever `Ok`.
-fn entered(timed: bool) -> Answer
-    ensures { result ≡ entered timed }
-{
-    if timed { Answer::Yes } else { Answer::Ok }
-}
-
-/// Where `lock` and `lock_timed` go.
-fn next_lock(timed: bool, at: LockAt, reply: Reply) -> Next<LockAt>
-    ensures { result ≡ lock_next timed at reply }
+/// Where a thread that enters goes.
+fn next_lock(entry: Entry, at: LockAt, reply: Reply) -> Next<LockAt>
+    ensures { result ≡ lock_next entry at reply }
 {
     match (at, reply) {
         (LockAt::First, Reply::Value(seen)) => if seen == 0 {
-            Next::End(entered(timed))
+            Next::End(entry.entered())
         } else {
             Next::At(LockAt::Load)
         },
@@ -148,7 +211,7 @@ fn next_lock(timed: bool, at: LockAt, reply: Reply) -> Next<LockAt>
             } else if is_locked(seen) {
                 Next::At(LockAt::Decide(LOCKED + PARKED))
             } else {
-                Next::End(entered(timed))
+                Next::End(entry.entered())
             }
         }
         (LockAt::Decide(_), Reply::Spun(seen)) => Next::At(LockAt::Decide(seen)),
@@ -161,6 +224,9 @@ fn next_lock(timed: bool, at: LockAt, reply: Reply) -> Next<LockAt>
         },
         (LockAt::Asleep, Reply::TakenBy(by)) => Next::At(LockAt::Taken { by }),
         (LockAt::Taken { by: _ }, Reply::Woken(Note::Normal)) => Next::At(LockAt::Load),
+        (LockAt::Taken { by: _ }, Reply::HandedBy(by)) => Next::At(LockAt::Handed { by }),
+        (LockAt::Handed { by: _ }, Reply::Woken(Note::HandOff)) => Next::At(LockAt::Accept),
+        (LockAt::Accept, Reply::Done) => Next::End(entry.entered()),
         (LockAt::Asleep, Reply::Late) => Next::At(LockAt::Remove),
         (LockAt::Remove, Reply::Removed { none_left }) => if none_left {
             Next::At(LockAt::Clear)
@@ -178,8 +244,9 @@ fn still_retries(retries: bool, reply: Reply) -> bool
     ensures { result ≡ still_retries retries reply }
 {
     match reply {
-        Reply::Woken(_) => true,
+        Reply::Woken(Note::Normal) => true,
         Reply::Parked(parked) => retries && !parked,
+        Reply::HandedBy(_) => false,
         _ => retries,
     }
 }
@@ -206,7 +273,43 @@ fn next_unlock(at: UnlockAt, reply: Reply) -> Next<UnlockAt>
     }
 }
 
-/// What `lock` and `lock_timed` do next.
+/// Where an owner goes that saw `PARKED`.
+fn next_hand_off(at: HandOffAt, reply: Reply) -> Next<HandOffAt>
+    ensures { result ≡ hand_off_next at reply }
+{
+    match (at, reply) {
+        (HandOffAt::Enter, Reply::Done) => Next::At(HandOffAt::Take),
+        (HandOffAt::Take, Reply::Took { first, none_left }) => Next::At(HandOffAt::Store {
+            taken: first,
+            none_left,
+        }),
+        (
+            HandOffAt::Store {
+                taken,
+                none_left: _,
+            },
+            Reply::Value(_),
+        ) => { Next::At(HandOffAt::Leave { taken }) }
+        (HandOffAt::Leave { taken: _ }, Reply::Done) => Next::End(Answer::Ok),
+        (at, _) => Next::At(at),
+    }
+}
+
+/// Where an owner goes that looked for waiters: where it saw some, it hands the mutex over.
+fn looked(bumps: bool, saw_waiters: bool) -> Next<MutexPlace>
+    ensures { result ≡ looked bumps saw_waiters }
+{
+    if saw_waiters {
+        Next::At(MutexPlace::HandOff {
+            bumps,
+            at: HandOffAt::Enter,
+        })
+    } else {
+        Next::End(Answer::Ok)
+    }
+}
+
+/// What a thread that enters does next.
 fn lock_act(lock: usize, at: LockAt) -> Act
     requires { lock < 2 ^ 63 }
     ensures { result ≡ lock_act lock at }
@@ -231,7 +334,8 @@ fn lock_act(lock: usize, at: LockAt) -> Act
             keys: Keys::One(main_key(lock)),
             wakes: Wakes::Nobody,
         },
-        LockAt::Asleep | LockAt::Taken { by: _ } => Act::Sleep,
+        LockAt::Asleep | LockAt::Taken { by: _ } | LockAt::Handed { by: _ } => Act::Sleep,
+        LockAt::Accept => Act::Accept,
         LockAt::Remove => Act::Remove(main_key(lock)),
         LockAt::Clear => Act::Word {
             lock,
@@ -294,6 +398,61 @@ fn unlock_act(lock: usize, at: UnlockAt) -> Act
     }
 }
 
+/// The word that a hand-off leaves: unlocked where nobody was taken, and else locked, with `PARKED`
+/// where waiters are left.
+fn hand_off_word(taken: Option<usize>, none_left: bool) -> u64
+    ensures { result ≡ hand_off_word taken none_left }
+{
+    match (taken, none_left) {
+        (None, _) => 0,
+        (Some(_), true) => LOCKED,
+        (Some(_), false) => LOCKED + PARKED,
+    }
+}
+
+/// Stores the word; where somebody was taken, that one owns the mutex from then on.
+fn hand_off_store(lock: usize, taken: Option<usize>, none_left: bool) -> Act
+    ensures { result ≡ hand_off_store lock taken none_left }
+{
+    let op = Op::Store(hand_off_word(taken, none_left));
+    match taken {
+        None => Act::Word { lock, op },
+        Some(to) => Act::HandOver { lock, op, to },
+    }
+}
+
+/// What an owner does next that saw `PARKED`.
+fn hand_off_act(lock: usize, at: HandOffAt) -> Act
+    requires { lock < 2 ^ 63 }
+    ensures { result ≡ hand_off_act lock at }
+{
+    match at {
+        HandOffAt::Enter => Act::Enter(Keys::One(main_key(lock))),
+        HandOffAt::Take => Act::TakeFirst(main_key(lock)),
+        HandOffAt::Store { taken, none_left } => hand_off_store(lock, taken, none_left),
+        HandOffAt::Leave { taken } => Act::Leave {
+            keys: Keys::One(main_key(lock)),
+            wakes: Wakes::first(taken, Note::HandOff),
+        },
+    }
+}
+
+/// Who owns the mutex after an operation on the word by a thread that enters.
+fn lock_owners(at: LockAt, thread: usize, seen: u64, owners: Owners) -> Owners
+    ensures { result ≡ lock_owners at thread seen owners }
+{
+    let gets = match at {
+        LockAt::First => seen == 0,
+        LockAt::Decide(expected) => seen == expected && !is_locked(seen),
+        _ => false,
+    };
+    if gets {
+        owners.with_exclusive(Some(thread))
+    } else {
+        owners
+    }
+}
+
 impl MutexPlace {
     /// What the thread does next.
     pub fn act(self, lock: usize) -> Act
@@ -302,7 +461,7 @@ impl MutexPlace {
     {
         match self {
             MutexPlace::Lock {
-                timed: _,
+                entry: _,
                 retries: _,
                 at,
             } => lock_act(lock, at),
@@ -311,6 +470,15 @@ impl MutexPlace {
                 op: Op::Or(LOCKED),
             },
             MutexPlace::Unlock(at) => unlock_act(lock, at),
+            MutexPlace::UnlockFair => Act::Word {
+                lock,
+                op: Op::Exchange {
+                    from: LOCKED,
+                    to: 0,
+                },
+            },
+            MutexPlace::Bump => Act::Word { lock, op: Op::Load },
+            MutexPlace::HandOff { bumps: _, at } => hand_off_act(lock, at),
         }
     }
 
@@ -319,9 +487,9 @@ impl MutexPlace {
         ensures { result ≡ mutex_next self reply }
     {
         match self {
-            MutexPlace::Lock { timed, retries, at } => match next_lock(timed, at, reply) {
+            MutexPlace::Lock { entry, retries, at } => match next_lock(entry, at, reply) {
                 Next::At(at) => Next::At(MutexPlace::Lock {
-                    timed,
+                    entry,
                     retries: still_retries(retries, reply),
                     at,
                 }),
@@ -339,6 +507,19 @@ impl MutexPlace {
                 Next::At(at) => Next::At(MutexPlace::Unlock(at)),
                 Next::End(answer) => Next::End(answer),
             },
+            MutexPlace::UnlockFair => match reply {
+                Reply::Value(seen) => looked(false, seen != LOCKED),
+                _ => Next::At(self),
+            },
+            MutexPlace::Bump => match reply {
+                Reply::Value(seen) => looked(true, is_parked(seen)),
+                _ => Next::At(self),
+            },
+            MutexPlace::HandOff { bumps, at } => match next_hand_off(at, reply) {
+                Next::At(at) => Next::At(MutexPlace::HandOff { bumps, at }),
+                Next::End(_) if bumps => Next::At(Entry::Bump.first_place()),
+                Next::End(answer) => Next::End(answer),
+            },
         }
     }
 
@@ -348,31 +529,29 @@ impl MutexPlace {
     {
         match self {
             MutexPlace::Lock {
-                timed: _,
+                entry: _,
                 retries: _,
                 at,
-            } => match at {
-                LockAt::First => if seen == 0 {
-                    owners.with_exclusive(Some(thread))
-                } else {
-                    owners
-                },
-                LockAt::Decide(expected) => if seen == expected && !is_locked(seen) {
-                    owners.with_exclusive(Some(thread))
-                } else {
-                    owners
-                },
-                _ => owners,
-            },
+            } => lock_owners(at, thread, seen, owners),
             MutexPlace::TryLock => if is_locked(seen) {
                 owners
             } else {
                 owners.with_exclusive(Some(thread))
             },
-            MutexPlace::Unlock(at) => match at {
-                UnlockAt::Subtract => owners.with_exclusive(None),
-                _ => owners,
+            MutexPlace::Unlock(UnlockAt::Subtract) => owners.with_exclusive(None),
+            MutexPlace::UnlockFair => if seen == LOCKED {
+                owners.with_exclusive(None)
+            } else {
+                owners
             },
+            MutexPlace::HandOff {
+                bumps: _,
+                at: HandOffAt::Store {
+                    taken,
+                    none_left: _,
+                },
+            } => owners.with_exclusive(taken),
+            _ => owners,
         }
     }
 
@@ -382,7 +561,7 @@ impl MutexPlace {
     {
         match self {
             MutexPlace::Lock {
-                timed: _,
+                entry: _,
                 retries: _,
                 at: LockAt::Decide(seen),
             } => seen == LOCKED,
@@ -396,10 +575,10 @@ impl MutexPlace {
     {
         match self {
             MutexPlace::Lock {
-                timed,
+                entry,
                 retries: _,
                 at: LockAt::Asleep,
-            } => timed,
+            } => entry.is_timed(),
             _ => false,
         }
     }
@@ -410,7 +589,7 @@ impl MutexPlace {
     {
         match self {
             MutexPlace::Lock {
-                timed: _,
+                entry: _,
                 retries: _,
                 at,
             } => match at {
@@ -418,11 +597,9 @@ impl MutexPlace {
                 LockAt::Remove | LockAt::Clear | LockAt::GiveUp => true,
                 _ => false,
             },
-            MutexPlace::TryLock => false,
-            MutexPlace::Unlock(at) => match at {
-                UnlockAt::Subtract => false,
-                _ => true,
-            },
+            MutexPlace::Unlock(UnlockAt::Subtract) => false,
+            MutexPlace::Unlock(_) | MutexPlace::HandOff { bumps: _, at: _ } => true,
+            MutexPlace::TryLock | MutexPlace::UnlockFair | MutexPlace::Bump => false,
         }
     }
 
@@ -432,7 +609,7 @@ impl MutexPlace {
     {
         match self {
             MutexPlace::Lock {
-                timed: _,
+                entry: _,
                 retries,
                 at: _,
             } => retries,

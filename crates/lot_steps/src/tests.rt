@@ -1,8 +1,8 @@
 ghost use Rattle.std.specs.Prelude.{◌≡◌};
 
 use crate::{
-    Act, Answer, Call, Kind, LockAt, MutexCall, MutexPlace, Op, Outcome, Owners, Place, Reply,
-    UnlockAt, advance,
+    Act, Answer, Call, Entry, HandOffAt, Kind, LockAt, MutexCall, MutexPlace, Op, Outcome, Owners,
+    Place, Reply, UnlockAt, Wakes, advance,
 };
 use parking_lot_core::{Keys, Note};
 
@@ -35,8 +35,11 @@ fn a_call_says_what_it_needs(rt: HostRuntime) {
         (MutexCall::Lock, true, true),
         (MutexCall::TryLock, true, true),
         (MutexCall::Unlock, true, false),
+        (MutexCall::UnlockFair, true, false),
+        (MutexCall::Bump, true, false),
     ] {
         assert!(rt; Kind::Mutex.has_call(call(name)));
+        assert!(rt; Kind::Fair.has_call(call(name)));
         assert!(rt; !Kind::Once.has_call(call(name)));
         assert_eq!(rt; call(name).lock(), 3);
         assert_eq!(rt; call(name).has_right(1, owned), owner_may);
@@ -46,7 +49,7 @@ fn a_call_says_what_it_needs(rt: HostRuntime) {
 
 #[test]
 fn a_release_wakes_the_one_that_it_took(rt: HostRuntime) {
-    let start = call(MutexCall::Unlock).first_place();
+    let start = call(MutexCall::Unlock).first_place(Kind::Mutex);
     assert!(rt; !start.is_idle());
     assert_eq!(rt;
         start.act(),
@@ -76,7 +79,7 @@ fn a_woken_thread_retries(rt: HostRuntime) {
     let taken = Place::Mutex {
         lock: 3,
         at: MutexPlace::Lock {
-            timed: true,
+            entry: Entry::LockTimed,
             retries: false,
             at: LockAt::Taken { by: 1 },
         },
@@ -94,4 +97,85 @@ fn a_woken_thread_retries(rt: HostRuntime) {
     let saw = woken.after(Reply::Value(1));
     assert_eq!(rt; saw.spin_lock(), Some(3));
     assert_eq!(rt; saw.after(Reply::Spun(3)).spin_lock(), None);
+}
+
+#[test]
+fn a_bump_hands_the_mutex_over_and_enters_again(rt: HostRuntime) {
+    let start = call(MutexCall::Bump).first_place(Kind::Mutex);
+    let (_, act) = advance(start, Reply::Value(1));
+    assert_eq!(rt; act, Act::End(Answer::Ok));
+    let (enter, act) = advance(start, Reply::Value(3));
+    assert_eq!(rt; act, Act::Enter(Keys::One(6)));
+    assert!(rt; enter.owes_on(3));
+    let (take, _) = advance(enter, Reply::Done);
+    let took = Reply::Took {
+        first: Some(2),
+        none_left: false,
+    };
+    let (store, act) = advance(take, took);
+    let hands_over = Act::HandOver {
+        lock: 3,
+        op: Op::Store(3),
+        to: 2,
+    };
+    assert_eq!(rt; act, hands_over);
+    let owners = store.owners_after(1, 3, Owners::NOBODY.with_exclusive(Some(1)));
+    assert_eq!(rt; owners.exclusive, Some(2));
+    let (leave, act) = advance(store, Reply::Value(3));
+    let wakes = Wakes::One {
+        thread: 2,
+        note: Note::HandOff,
+    };
+    let leaves = Act::Leave {
+        keys: Keys::One(6),
+        wakes,
+    };
+    assert_eq!(rt; act, leaves);
+    let (again, act) = advance(leave, Reply::Done);
+    assert_eq!(rt; act.outcome(), Outcome::Step);
+    assert!(rt; !again.owes_on(3));
+    let (_, act) = advance(again, Reply::Value(0));
+    assert_eq!(rt; act, Act::End(Answer::Ok));
+}
+
+#[test]
+fn a_fair_release_beside_nobody_lets_go(rt: HostRuntime) {
+    let start = call(MutexCall::Unlock).first_place(Kind::Fair);
+    assert_eq!(rt; start, call(MutexCall::UnlockFair).first_place(Kind::Mutex));
+    let (_, act) = advance(start, Reply::Value(1));
+    assert_eq!(rt; act, Act::End(Answer::Ok));
+    let store = Place::Mutex {
+        lock: 3,
+        at: MutexPlace::HandOff {
+            bumps: false,
+            at: HandOffAt::Store {
+                taken: None,
+                none_left: true,
+            },
+        },
+    };
+    let lets_go = Act::Word {
+        lock: 3,
+        op: Op::Store(0),
+    };
+    assert_eq!(rt; store.act(), lets_go);
+}
+
+#[test]
+fn a_thread_accepts_what_it_was_handed(rt: HostRuntime) {
+    let taken = Place::Mutex {
+        lock: 3,
+        at: MutexPlace::Lock {
+            entry: Entry::LockTimed,
+            retries: false,
+            at: LockAt::Taken { by: 1 },
+        },
+    };
+    let handed = taken.after(Reply::HandedBy(1));
+    assert_eq!(rt; handed.act(), Act::Sleep);
+    let woken = handed.after(Reply::Woken(Note::HandOff));
+    assert_eq!(rt; woken.act(), Act::Accept);
+    assert!(rt; !woken.retries_on(3));
+    let (_, act) = advance(woken, Reply::Done);
+    assert_eq!(rt; act, Act::End(Answer::Yes));
 }

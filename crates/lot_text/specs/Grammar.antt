@@ -29,7 +29,10 @@ abbrev pub number_of : List ℕ → Option ℕ
 number_of word = if has_form word then digits_after 0 word else None
 
 abbrev pub kind_of : List ℕ → Option Kind
-kind_of word = if bytes_eq word (codes "mutex") then Some kind.TheVariants.Mutex else None
+kind_of word =
+    if bytes_eq word (codes "mutex") then Some kind.TheVariants.Mutex
+    else (if bytes_eq word (codes "fair") then Some kind.TheVariants.Fair
+    else None)
 
 abbrev pub call_of : List ℕ → Option MutexCall
 call_of word =
@@ -37,7 +40,9 @@ call_of word =
     else (if bytes_eq word (codes "unlock") then Some call.TheVariants.Unlock
     else (if bytes_eq word (codes "try_lock") then Some call.TheVariants.TryLock
     else (if bytes_eq word (codes "lock_timed") then Some call.TheVariants.LockTimed
-    else None)))
+    else (if bytes_eq word (codes "unlock_fair") then Some call.TheVariants.UnlockFair
+    else (if bytes_eq word (codes "bump") then Some call.TheVariants.Bump
+    else None)))))
 
 -- a turn that calls no lock
 abbrev pub turn_of : List ℕ → Option NamedTurn

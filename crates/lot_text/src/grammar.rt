@@ -160,6 +160,8 @@ fn kind(word: &[u8]) -> Option<Kind>
 {
     if word == b"mutex".as_slice() {
         Some(Kind::Mutex)
+    } else if word == b"fair".as_slice() {
+        Some(Kind::Fair)
     } else {
         None
     }
@@ -177,6 +179,10 @@ fn call(word: &[u8]) -> Option<MutexCall>
         Some(MutexCall::TryLock)
     } else if word == b"lock_timed".as_slice() {
         Some(MutexCall::LockTimed)
+    } else if word == b"unlock_fair".as_slice() {
+        Some(MutexCall::UnlockFair)
+    } else if word == b"bump".as_slice() {
+        Some(MutexCall::Bump)
     } else {
         None
     }

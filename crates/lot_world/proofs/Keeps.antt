@@ -4,7 +4,7 @@ use Rattle.std.proofs.lemmas.Bool.{cases_eq}
 use Rattle.parking_lot_core.specs.declared.wants.Waiter.{Waiter}
 use Rattle.lot_steps.specs.declared.places.Place.{Place}
 use Rattle.lot_world.specs.Promises.{Codes}
-use Rattle.lot_world.specs.Sound.{Sound, Nobody, IsTakenBy, Carries, Debtor, inside, queued, holds, finds_empty}
+use Rattle.lot_world.specs.Sound.{Sound, Nobody, Taking, IsTakenBy, Carries, Debtor, inside, queued, holds, finds_empty}
 
 -- g is f, but for x at i
 pub record Changed {A : Type 0} (f g : ℕ → A) (i : ℕ) (x : A) : Type 0 where
@@ -20,12 +20,12 @@ pub record WordFits (at : ℕ → Place) (t l : ℕ) (p p2 : Place) (v2 : ℕ) (
   pub codes : Codes v2 o2
   pub bit : (2 ≤ v2) ⊎ Nobody at l
   pub empty_none : (k : ℕ) → finds_empty p2 ≡ Some k → Nobody at k
-  pub carries_same : (u k : ℕ) → Carries p2 u k → Carries p u k
-  pub carries_still : (u k : ℕ) → Carries p u k → Carries p2 u k
+  pub carries_same : (u : ℕ) (k : Taking) → Carries p2 u k → Carries p u k
+  pub carries_still : (u : ℕ) (k : Taking) → Carries p u k → Carries p2 u k
   pub owes : o2 ≡ None → (Nobody at l ⊎ Debtor p2 l) ⊎ (o ≡ None)
   pub debts : (k : ℕ) → Debtor p k → Debtor p2 k ⊎ ((k ≡ l) × (o2 ≡ None → ⊥))
-  pub no_hand : (s k : ℕ) → IsTakenBy p s k → ⊥
-  pub no_hand_now : (s k : ℕ) → IsTakenBy p2 s k → ⊥
+  pub no_hand : (s : ℕ) (k : Taking) → IsTakenBy p s k → ⊥
+  pub no_hand_now : (s : ℕ) (k : Taking) → IsTakenBy p2 s k → ⊥
 
 module _ (at at2 : ℕ → Place) (word word2 : ℕ → ℕ) (owner owner2 : ℕ → Option ℕ) (sec : ℕ → Option ℕ) (q : ℕ → List Waiter)
     (sound : Sound at word owner sec q) (t l : ℕ) (p2 : Place) (v2 : ℕ) (o2 : Option ℕ)
@@ -54,25 +54,25 @@ module _ (at at2 : ℕ → Place) (word word2 : ℕ → ℕ) (owner owner2 : ℕ
   ]
 
   -- hands stay
-  hand_still : (u s k : ℕ) → IsTakenBy (at u) s k → IsTakenBy (at2 u) s k
+  hand_still : (u s : ℕ) (k : Taking) → IsTakenBy (at u) s k → IsTakenBy (at2 u) s k
   hand_still u s k h = elim (cases_eq u t) [
     | inl e ↦ absurd (fits.no_hand s k (rw e at h))
     | inr ne ↦ rw (place.other u ne) h
   ]
 
-  hand_was : (u s k : ℕ) → IsTakenBy (at2 u) s k → IsTakenBy (at u) s k
+  hand_was : (u s : ℕ) (k : Taking) → IsTakenBy (at2 u) s k → IsTakenBy (at u) s k
   hand_was u s k h = elim (cases_eq u t) [
     | inl e ↦ absurd (fits.no_hand_now s k (rw (e, place.here) at h))
     | inr ne ↦ rw (place.other u ne) at h
   ]
 
-  carries_was : (s u k : ℕ) → Carries (at2 s) u k → Carries (at s) u k
+  carries_was : (s u : ℕ) (k : Taking) → Carries (at2 s) u k → Carries (at s) u k
   carries_was s u k h = elim (cases_eq s t) [
     | inl e ↦ rw e (fits.carries_same u k (rw (e, place.here) at h))
     | inr ne ↦ rw (place.other s ne) at h
   ]
 
-  carries_now : (s u k : ℕ) → Carries (at s) u k → Carries (at2 s) u k
+  carries_now : (s u : ℕ) (k : Taking) → Carries (at s) u k → Carries (at2 s) u k
   carries_now s u k h = elim (cases_eq s t) [
     | inl e ↦ rw (e, place.here) (fits.carries_still u k (rw e at h))
     | inr ne ↦ rw (place.other s ne) h

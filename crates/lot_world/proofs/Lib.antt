@@ -8,13 +8,16 @@ pub mod Words
 pub mod Sections
 pub mod Counts
 pub mod Parks
+pub mod HandsOver
 pub mod Steady
 pub mod OnlyMutexes
 pub mod LockKeeps
 pub mod LockEvents
+pub mod LockHands
 pub mod LockSteps
 pub mod LockRuns
 pub mod OneThing
 pub mod Promises
+pub mod Fair
 pub mod SoloActs
 pub mod Solo

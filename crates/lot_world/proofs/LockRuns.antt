@@ -23,7 +23,7 @@ use Rattle.lot_world.proofs.LockSteps.{after_step}
 
 -- ---------------------------------------------------------------- each step keeps what holds of a lock
 
-needs_of : (w : LocksState) (t l : ℕ) (case : LockCase) (o : Option Purpose) → MayDo w t l case o → Needs (rules_at w l) case (w.locks l) t
+pub needs_of : (w : LocksState) (t l : ℕ) (case : LockCase) (o : Option Purpose) → MayDo w t l case o → Needs (rules_at w l) case (w.locks l) t
 needs_of w t l case None h = absurd h
 needs_of w t l case (Some p) h = h.1
 

@@ -13,22 +13,25 @@ use Rattle.lot_steps.specs.declared.acts.Act.{Act}
 use Rattle.lot_steps.specs.declared.acts.Act as act
 use Rattle.lot_steps.specs.declared.acts.Wakes.{Wakes}
 use Rattle.lot_steps.specs.declared.acts.Wakes as wakes
-use Rattle.lot_steps.specs.declared.acts.Reply.TheVariants.{Spun, Late}
-use Rattle.parking_lot_core.specs.declared.notes.Note.TheVariants.{Normal}
+use Rattle.lot_steps.specs.declared.acts.Reply.TheVariants.{HandedBy, Spun, Late}
+use Rattle.parking_lot_core.specs.declared.notes.Note.TheVariants as note
 use Rattle.lot_steps.specs.declared.mutex.TheConstants.{NOT_PARKED}
 use Rattle.lot_steps.specs.declared.calls.Turn.{Turn}
 use Rattle.lot_steps.specs.declared.calls.Turn as turn
 use Rattle.lot_steps.specs.declared.calls.Step.{Step}
-use Rattle.lot_steps.specs.declared.mutex.MutexPlace.TheVariants.{Lock, TryLock, Unlock}
+use Rattle.lot_steps.specs.declared.mutex.Entry.{Entry}
+use Rattle.lot_steps.specs.declared.mutex.MutexPlace.TheVariants.{Lock, TryLock, Unlock, UnlockFair, Bump, HandOff}
 use Rattle.lot_steps.specs.declared.mutex.LockAt.{LockAt}
-use Rattle.lot_steps.specs.declared.mutex.LockAt.TheVariants.{First, Load, Decide, Check, Leave, Asleep, Taken, Remove, Clear, GiveUp}
+use Rattle.lot_steps.specs.declared.mutex.LockAt.TheVariants.{First, Load, Decide, Check, Leave, Asleep, Taken, Handed, Accept, Remove, Clear, GiveUp}
 use Rattle.lot_steps.specs.declared.mutex.UnlockAt.{UnlockAt}
 use Rattle.lot_steps.specs.declared.mutex.UnlockAt.TheVariants as unlock
+use Rattle.lot_steps.specs.declared.mutex.HandOffAt.{HandOffAt}
+use Rattle.lot_steps.specs.declared.mutex.HandOffAt.TheVariants as hand_off
 use Rattle.lot_steps.specs.declared.places.Place.{Place}
 use Rattle.lot_steps.specs.declared.places.Place.TheVariants.{Idle, Mutex}
-use Rattle.lot_steps.specs.MutexSteps.{is_locked, lock_act, unlock_act}
-use Rattle.lot_steps.specs.Steps.{act_of, next_place, first_place, spin_lock, late_key}
-use Rattle.lot_world.specs.Machine.{State, unlocked, place_at, word_at, queue_at, section_at, put, operated, filled_with, appended, removed, first_taken, taken_by, awakened, performed, spun_on, late_on, go_reply, turned, is_possible, after}
+use Rattle.lot_steps.specs.MutexSteps.{is_locked, lock_act, unlock_act, hand_off_word, hand_off_act}
+use Rattle.lot_steps.specs.Steps.{act_of, next_place, first_place, spin_lock, late_key, lock_in}
+use Rattle.lot_world.specs.Machine.{State, unlocked, place_at, word_at, queue_at, section_at, put, operated, filled_with, appended, removed, first_taken, taken_by, awakened, performed, spun_on, late_on, go_reply, turned, is_possible, after, kind_at}
 use Rattle.lot_world.specs.Sound.{IsSound, inside, queued, one_if}
 use Rattle.lot_world.proofs.Counts.{without_absent}
 use Rattle.lot_world.specs.Refinement.{ChangesOneThing, EachChangesOneThing}
@@ -105,50 +108,64 @@ module _ (w : State) (t : ℕ) (sound : IsSound w) (only : OnlyMutexes w) where
     ]
   ]
 
-  check_one : (l : ℕ) (timed retries : Bool) → place_at w t ≡ Mutex l (Lock timed retries Check) → (b : Bool) → ChangesOneThing w t (if b then record w { queues = appended w.queues (2 * l) t Exclusive } else w)
-  check_one l timed retries is false = stays
-  check_one l timed retries is true = inr ((λ k. refl), set_at l (map (without t) w.queues) (get_or (map (without t) w.queues) (2 * l) [] ++ waiter (2 * l) t Exclusive ∷ []) (rw is refl) (removed_at l (rw is refl) (rw is (λ k ne. refl))))
+  check_one : (l : ℕ) (entry : Entry) (retries : Bool) → place_at w t ≡ Mutex l (Lock entry retries Check) → (b : Bool) → ChangesOneThing w t (if b then record w { queues = appended w.queues (2 * l) t Exclusive } else w)
+  check_one l entry retries is false = stays
+  check_one l entry retries is true = inr ((λ k. refl), set_at l (map (without t) w.queues) (get_or (map (without t) w.queues) (2 * l) [] ++ waiter (2 * l) t Exclusive ∷ []) (rw is refl) (removed_at l (rw is refl) (rw is (λ k ne. refl))))
 
-  take_one : (l : ℕ) → place_at w t ≡ Mutex l (Unlock unlock.Take) → (o : Option ℕ) → ChangesOneThing w t (taken_by (record w { queues = first_taken w.queues (2 * l) }) t o)
-  take_one l is None = inr ((λ k. refl), set_at l w.queues (drop 1 (queue_at w (2 * l))) (rw is refl) (λ key. inl refl))
-  take_one l is (Some u) = inr ((λ k. refl), set_at l w.queues (drop 1 (queue_at w (2 * l))) (rw is refl) (λ key. inl refl))
+  take_one : (l : ℕ) → inside (place_at w t) ≡ Some l → (o : Option ℕ) → ChangesOneThing w t (taken_by (record w { queues = first_taken w.queues (2 * l) }) t o)
+  take_one l within None = inr ((λ k. refl), set_at l w.queues (drop 1 (queue_at w (2 * l))) within (λ key. inl refl))
+  take_one l within (Some u) = inr ((λ k. refl), set_at l w.queues (drop 1 (queue_at w (2 * l))) within (λ key. inl refl))
 
-  remove_one : (l : ℕ) (timed retries : Bool) → place_at w t ≡ Mutex l (Lock timed retries Remove) → ChangesOneThing w t (record w { queues = removed w.queues t })
-  remove_one l timed retries is = inr ((λ k. refl), removed_at l (rw is refl) (rw is (λ k ne. one_if_other k ne)))
+  remove_one : (l : ℕ) (entry : Entry) (retries : Bool) → place_at w t ≡ Mutex l (Lock entry retries Remove) → ChangesOneThing w t (record w { queues = removed w.queues t })
+  remove_one l entry retries is = inr ((λ k. refl), removed_at l (rw is refl) (rw is (λ k ne. one_if_other k ne)))
     where
       one_if_other : (k : ℕ) → k ≢ l → one_if (Some l) k ≡ 0
       one_if_other k ne = grind (arith, nat_tests)
 
-  decided_one : (l : ℕ) (timed retries : Bool) (s : ℕ) (a b : Bool) → ChangesOneThing w t (performed w t (Mutex l (Lock timed retries (Decide s))) (if not a then act.TheVariants.Word l (op.TheVariants.Exchange s (s + 1)) else if b then act.TheVariants.Word l (op.TheVariants.Exchange 1 3) else act.TheVariants.Enter (One (2 * l))))
-  decided_one l timed retries s false b = word_one (Mutex l (Lock timed retries (Decide s))) l (op.TheVariants.Exchange s (s + 1))
-  decided_one l timed retries s true true = word_one (Mutex l (Lock timed retries (Decide s))) l (op.TheVariants.Exchange 1 3)
-  decided_one l timed retries s true false = filled_one (One (2 * l)) (Some t)
+  decided_one : (l : ℕ) (entry : Entry) (retries : Bool) (s : ℕ) (a b : Bool) → ChangesOneThing w t (performed w t (Mutex l (Lock entry retries (Decide s))) (if not a then act.TheVariants.Word l (op.TheVariants.Exchange s (s + 1)) else if b then act.TheVariants.Word l (op.TheVariants.Exchange 1 3) else act.TheVariants.Enter (One (2 * l))))
+  decided_one l entry retries s false b = word_one (Mutex l (Lock entry retries (Decide s))) l (op.TheVariants.Exchange s (s + 1))
+  decided_one l entry retries s true true = word_one (Mutex l (Lock entry retries (Decide s))) l (op.TheVariants.Exchange 1 3)
+  decided_one l entry retries s true false = filled_one (One (2 * l)) (Some t)
 
-  lock_one : (l : ℕ) (timed retries : Bool) (a : LockAt) → place_at w t ≡ Mutex l (Lock timed retries a) → ChangesOneThing w t (performed w t (Mutex l (Lock timed retries a)) (lock_act l a))
-  lock_one l timed retries First is = word_one (Mutex l (Lock timed retries First)) l (op.TheVariants.Exchange 0 1)
-  lock_one l timed retries Load is = word_one (Mutex l (Lock timed retries Load)) l op.TheVariants.Load
-  lock_one l timed retries (Decide s) is = decided_one l timed retries s (is_locked s) (s == 1)
-  lock_one l timed retries Check is = check_one l timed retries is (word_at w l == 3)
-  lock_one l timed retries (Leave b) is = left_one (One (2 * l)) wakes.TheVariants.Nobody
-  lock_one l timed retries Asleep is = stays
-  lock_one l timed retries (Taken by) is = stays
-  lock_one l timed retries Remove is = remove_one l timed retries is
-  lock_one l timed retries Clear is = word_one (Mutex l (Lock timed retries Clear)) l (op.TheVariants.And NOT_PARKED)
-  lock_one l timed retries GiveUp is = left_one (One (2 * l)) wakes.TheVariants.Nobody
+  lock_one : (l : ℕ) (entry : Entry) (retries : Bool) (a : LockAt) → place_at w t ≡ Mutex l (Lock entry retries a) → ChangesOneThing w t (performed w t (Mutex l (Lock entry retries a)) (lock_act l a))
+  lock_one l entry retries First is = word_one (Mutex l (Lock entry retries First)) l (op.TheVariants.Exchange 0 1)
+  lock_one l entry retries Load is = word_one (Mutex l (Lock entry retries Load)) l op.TheVariants.Load
+  lock_one l entry retries (Decide s) is = decided_one l entry retries s (is_locked s) (s == 1)
+  lock_one l entry retries Check is = check_one l entry retries is (word_at w l == 3)
+  lock_one l entry retries (Leave b) is = left_one (One (2 * l)) wakes.TheVariants.Nobody
+  lock_one l entry retries Asleep is = stays
+  lock_one l entry retries (Taken by) is = stays
+  lock_one l entry retries (Handed by) is = stays
+  lock_one l entry retries Accept is = stays
+  lock_one l entry retries Remove is = remove_one l entry retries is
+  lock_one l entry retries Clear is = word_one (Mutex l (Lock entry retries Clear)) l (op.TheVariants.And NOT_PARKED)
+  lock_one l entry retries GiveUp is = left_one (One (2 * l)) wakes.TheVariants.Nobody
 
   unlock_one : (l : ℕ) (a : UnlockAt) → place_at w t ≡ Mutex l (Unlock a) → ChangesOneThing w t (performed w t (Mutex l (Unlock a)) (unlock_act l a))
   unlock_one l unlock.Subtract is = word_one (Mutex l (Unlock unlock.Subtract)) l (op.TheVariants.Sub 1)
   unlock_one l unlock.Enter is = filled_one (One (2 * l)) (Some t)
-  unlock_one l unlock.Take is = take_one l is (first_of (queue_at w (2 * l)))
+  unlock_one l unlock.Take is = take_one l (rw is refl) (first_of (queue_at w (2 * l)))
   unlock_one l (unlock.Clear taken) is = word_one (Mutex l (Unlock (unlock.Clear taken))) l (op.TheVariants.And NOT_PARKED)
   unlock_one l (unlock.Leave None) is = left_one (One (2 * l)) wakes.TheVariants.Nobody
-  unlock_one l (unlock.Leave (Some u)) is = left_one (One (2 * l)) (wakes.TheVariants.One u Normal)
+  unlock_one l (unlock.Leave (Some u)) is = left_one (One (2 * l)) (wakes.TheVariants.One u note.Normal)
+
+  hand_off_one : (l : ℕ) (bumps : Bool) (a : HandOffAt) → place_at w t ≡ Mutex l (HandOff bumps a) → ChangesOneThing w t (performed w t (Mutex l (HandOff bumps a)) (hand_off_act l a))
+  hand_off_one l bumps hand_off.Enter is = filled_one (One (2 * l)) (Some t)
+  hand_off_one l bumps hand_off.Take is = take_one l (rw is refl) (first_of (queue_at w (2 * l)))
+  hand_off_one l bumps (hand_off.Store None none_left) is = word_one (Mutex l (HandOff bumps (hand_off.Store None none_left))) l (op.TheVariants.Store 0)
+  hand_off_one l bumps (hand_off.Store (Some u) none_left) is = put_one w (operated w t (Mutex l (HandOff bumps (hand_off.Store (Some u) none_left))) l (op.TheVariants.Store (hand_off_word (Some u) none_left))) t u (next_place (place_at w u) (HandedBy t))
+      (word_one (Mutex l (HandOff bumps (hand_off.Store (Some u) none_left))) l (op.TheVariants.Store (hand_off_word (Some u) none_left)))
+  hand_off_one l bumps (hand_off.Leave None) is = left_one (One (2 * l)) wakes.TheVariants.Nobody
+  hand_off_one l bumps (hand_off.Leave (Some u)) is = left_one (One (2 * l)) (wakes.TheVariants.One u note.HandOff)
 
   act_one : (p : Place) → place_at w t ≡ p → ChangesOneThing w t (performed w t p (act_of p))
   act_one Idle is = stays
-  act_one (Mutex l (Lock timed retries a)) is = lock_one l timed retries a is
+  act_one (Mutex l (Lock entry retries a)) is = lock_one l entry retries a is
   act_one (Mutex l TryLock) is = word_one (Mutex l TryLock) l (op.TheVariants.Or 1)
   act_one (Mutex l (Unlock a)) is = unlock_one l a is
+  act_one (Mutex l UnlockFair) is = word_one (Mutex l UnlockFair) l (op.TheVariants.Exchange 1 0)
+  act_one (Mutex l Bump) is = word_one (Mutex l Bump) l op.TheVariants.Load
+  act_one (Mutex l (HandOff bumps a)) is = hand_off_one l bumps a is
 
   spin_one : (o : Option ℕ) → ChangesOneThing w t (spun_on w t o)
   spin_one None = stays
@@ -159,7 +176,7 @@ module _ (w : State) (t : ℕ) (sound : IsSound w) (only : OnlyMutexes w) where
   late_one (Some key) = put_one w (filled_with w (One key) (Some t)) t t (next_place (place_at w t) Late) (filled_one (One key) (Some t))
 
   turned_one : (x : Turn) → ChangesOneThing w t (turned w t x)
-  turned_one (turn.TheVariants.Begin c) = put_one w w t t (first_place c) stays
+  turned_one (turn.TheVariants.Begin c) = put_one w w t t (first_place (kind_at w (lock_in c)) c) stays
   turned_one turn.TheVariants.Go = put_one w (performed w t (place_at w t) (act_of (place_at w t))) t t (next_place (place_at w t) (go_reply w t)) (act_one (place_at w t) refl)
   turned_one turn.TheVariants.Spin = spin_one (spin_lock (place_at w t))
   turned_one turn.TheVariants.Late = late_one (late_key (place_at w t))

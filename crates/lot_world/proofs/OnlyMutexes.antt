@@ -14,13 +14,13 @@ use Rattle.lot_steps.specs.declared.kinds.Kind.{Kind}
 use Rattle.lot_steps.specs.declared.kinds.Kind as kind
 use Rattle.lot_steps.specs.declared.owners.Owners.{Owners}
 use Rattle.lot_steps.specs.declared.acts.Act.{Act}
-use Rattle.lot_steps.specs.declared.acts.Act.TheVariants.{Word, Enter, Park, TakeFirst, Remove, Leave}
+use Rattle.lot_steps.specs.declared.acts.Act.TheVariants.{Word, HandOver, Enter, Park, TakeFirst, Remove, Leave}
 use Rattle.lot_steps.specs.declared.acts.Check.{Check}
 use Rattle.lot_steps.specs.declared.acts.Wakes.{Wakes}
 use Rattle.lot_steps.specs.declared.acts.Wakes as wakes
 use Rattle.lot_steps.specs.declared.acts.Reply.{Reply}
-use Rattle.lot_steps.specs.declared.acts.Reply.TheVariants.{Done, Value, Spun, Parked, Removed, TakenBy, Late, Woken}
-use Rattle.parking_lot_core.specs.declared.notes.Note.TheVariants.{Normal}
+use Rattle.lot_steps.specs.declared.acts.Reply.TheVariants.{Done, Value, Spun, Parked, Removed, TakenBy, HandedBy, Late, Woken}
+use Rattle.parking_lot_core.specs.declared.notes.Note as note
 use Rattle.lot_steps.specs.declared.calls.Answer as answer
 use Rattle.lot_steps.specs.declared.mutex.MutexCall.{MutexCall}
 use Rattle.lot_steps.specs.declared.mutex.MutexCall as mutex_call
@@ -31,20 +31,24 @@ use Rattle.lot_steps.specs.declared.calls.Call as call
 use Rattle.lot_steps.specs.declared.calls.Turn.{Turn}
 use Rattle.lot_steps.specs.declared.calls.Turn as turn
 use Rattle.lot_steps.specs.declared.calls.Step.{Step}
+use Rattle.lot_steps.specs.declared.mutex.Entry.{Entry}
+use Rattle.lot_steps.specs.declared.mutex.Entry.TheVariants as entries
 use Rattle.lot_steps.specs.declared.mutex.MutexPlace.{MutexPlace}
-use Rattle.lot_steps.specs.declared.mutex.MutexPlace.TheVariants.{Lock, TryLock, Unlock}
+use Rattle.lot_steps.specs.declared.mutex.MutexPlace.TheVariants.{Lock, TryLock, Unlock, UnlockFair, Bump, HandOff}
 use Rattle.lot_steps.specs.declared.mutex.LockAt.{LockAt}
 use Rattle.lot_steps.specs.declared.mutex.LockAt as lock
 use Rattle.lot_steps.specs.declared.mutex.UnlockAt.{UnlockAt}
 use Rattle.lot_steps.specs.declared.mutex.UnlockAt as unlock
+use Rattle.lot_steps.specs.declared.mutex.HandOffAt.{HandOffAt}
+use Rattle.lot_steps.specs.declared.mutex.HandOffAt.TheVariants as hand_off
 use Rattle.lot_steps.specs.declared.places.Place.{Place}
 use Rattle.lot_steps.specs.declared.places.Place.TheVariants.{Idle, Mutex}
 use Rattle.lot_steps.specs.Acts.{holds}
-use Rattle.lot_steps.specs.Kinds.{has_call}
-use Rattle.lot_steps.specs.MutexSteps.{is_locked, with_exclusive, entered, in_lock, in_unlock, unlock_next, mutex_first, mutex_next, lock_act}
+use Rattle.lot_steps.specs.Kinds.{has_call, is_fair}
+use Rattle.lot_steps.specs.MutexSteps.{is_locked, is_parked, is_timed, with_exclusive, entered, looked, hand_off_next, in_lock, in_unlock, in_hand_off, unlock_next, mutex_first, mutex_next, lock_act}
 use Rattle.lot_steps.specs.Steps.{act_of, next_place, mutex_goes, owners_after, spin_lock, late_key, first_place, is_idle, has_right}
 use Rattle.lot_world.specs.Machine.{State, unlocked, opening, place_at, word_at, owners_at, kind_at, queue_at, put, operated, filled_with, appended, first_taken, removed, parked, befallen, taken_by, took, awakened, performed, gone, go_reply, reply_to, begun, can_begin, is_open_to, spun, spun_on, lated, late_on, turned, can_turn, is_possible, after}
-use Rattle.lot_world.specs.OnlyMutexes.{AllExclusive, GivesUpTimed, CallFits, OnlyMutexes}
+use Rattle.lot_world.specs.OnlyMutexes.{AllExclusive, is_mutex, GivesUpTimed, CallFits, OnlyMutexes}
 use Rattle.lot_world.proofs.Shape.{both, set_all}
 use Rattle.lot_world.proofs.Opening.{idle_at, empty_at, nobody_owns}
 
@@ -90,12 +94,16 @@ others_unless false o who = record { pending = refl; upgradable = refl; running 
 
 pub others_after : (p : Place) (t v : ℕ) (o : Owners) → SameOthers o (owners_after p t v o)
 others_after Idle t v o = same_others o
-others_after (Mutex l (Lock timed retries lock.TheVariants.First)) t v o = others_if (v == 0) o (Some t)
-others_after (Mutex l (Lock timed retries (lock.TheVariants.Decide s))) t v o = others_if ((v == s) && not (is_locked v)) o (Some t)
-others_after (Mutex l (Lock timed retries at)) t v o = same_others o
+others_after (Mutex l (Lock entry retries lock.TheVariants.First)) t v o = others_if (v == 0) o (Some t)
+others_after (Mutex l (Lock entry retries (lock.TheVariants.Decide s))) t v o = others_if ((v == s) && not (is_locked v)) o (Some t)
+others_after (Mutex l (Lock entry retries at)) t v o = same_others o
 others_after (Mutex l TryLock) t v o = others_unless (is_locked v) o (Some t)
 others_after (Mutex l (Unlock unlock.TheVariants.Subtract)) t v o = record { pending = refl; upgradable = refl; running = refl }
 others_after (Mutex l (Unlock at)) t v o = same_others o
+others_after (Mutex l UnlockFair) t v o = others_if (v == 1) o None
+others_after (Mutex l Bump) t v o = same_others o
+others_after (Mutex l (HandOff bumps (hand_off.Store taken none_left))) t v o = record { pending = refl; upgradable = refl; running = refl }
+others_after (Mutex l (HandOff bumps at)) t v o = same_others o
 
 -- what is read of each lock, where that of one is set
 set_field : {A B : Type 0} (f : A → B) (xs : List A) (i : ℕ) (y d : A) → f y ≡ f (get_or xs i d) → (j : ℕ) → f (get_or (set xs i y) j d) ≡ f (get_or xs j d)
@@ -112,7 +120,7 @@ operated_kinds w t p l f k = set_field (λ x. x.kind) w.locks l _ (unlocked kind
 
 same_calls : (w v : State) → ((l : ℕ) → kind_at v l ≡ kind_at w l) → (p : Place) → CallFits w p → CallFits v p
 same_calls w v e Idle h = tt
-same_calls w v e (Mutex l at) h = (e l ∙ h.0, h.1)
+same_calls w v e (Mutex l at) h = (ap is_mutex (e l) ∙ h.0, h.1)
 
 put_only : (w : State) (t : ℕ) (p : Place) → OnlyMutexes w → CallFits w p → OnlyMutexes (put w t p)
 put_only w t p s h = record {
@@ -126,7 +134,7 @@ put_only w t p s h = record {
 
 -- what a reply leads to; only a timed call is told that it is late
 abbrev AllowsLate : Place → Reply → Type 0
-AllowsLate (Mutex l (Lock timed retries at)) Late = timed ≡ true
+AllowsLate (Mutex l (Lock entry retries at)) Late = is_timed entry ≡ true
 AllowsLate p reply = Unit {0}
 
 -- what a thread is told of its own act, or by others, but that it is late
@@ -134,18 +142,22 @@ abbrev IsNotLate : Reply → Type 0
 IsNotLate Late = ⊥
 IsNotLate reply = Unit {0}
 
-lock_not_late : (l : ℕ) (timed retries : Bool) (at : LockAt) (reply : Reply) → IsNotLate reply → AllowsLate (Mutex l (Lock timed retries at)) reply
-lock_not_late l timed retries at Late n = absurd n
-lock_not_late l timed retries at reply n = tt
+lock_not_late : (l : ℕ) (entry : Entry) (retries : Bool) (at : LockAt) (reply : Reply) → IsNotLate reply → AllowsLate (Mutex l (Lock entry retries at)) reply
+lock_not_late l entry retries at Late n = absurd n
+lock_not_late l entry retries at reply n = tt
 
 never_late : (p : Place) (reply : Reply) → IsNotLate reply → AllowsLate p reply
 never_late Idle reply n = tt
-never_late (Mutex l (Lock timed retries at)) reply n = lock_not_late l timed retries at reply n
+never_late (Mutex l (Lock entry retries at)) reply n = lock_not_late l entry retries at reply n
 never_late (Mutex l TryLock) reply n = tt
 never_late (Mutex l (Unlock at)) reply n = tt
+never_late (Mutex l UnlockFair) reply n = tt
+never_late (Mutex l Bump) reply n = tt
+never_late (Mutex l (HandOff bumps at)) reply n = tt
 
 told : (w : State) (t : ℕ) (act : Act) → IsNotLate (reply_to w t act)
 told w t (Word l f) = tt
+told w t (HandOver l f u) = tt
 told w t (Park l key check wanted) = tt
 told w t (TakeFirst key) = tt
 told w t (Remove key) = tt
@@ -155,33 +167,36 @@ abbrev NextFits : Next MutexPlace → Type 0
 NextFits (next.TheVariants.At at) = GivesUpTimed at
 NextFits (next.TheVariants.End a) = Unit {0}
 
-goes_calls : (w : State) (l : ℕ) (n : Next MutexPlace) → kind_at w l ≡ kind.TheVariants.Mutex → NextFits n → CallFits w (mutex_goes l n)
+goes_calls : (w : State) (l : ℕ) (n : Next MutexPlace) → is_mutex (kind_at w l) ≡ true → NextFits n → CallFits w (mutex_goes l n)
 goes_calls w l (next.TheVariants.At at) h f = (h, f)
 goes_calls w l (next.TheVariants.End a) h f = tt
 
-lock_timely : (l : ℕ) (timed retries : Bool) (at : LockAt) (reply : Reply) → GivesUpTimed (Lock timed retries at) → AllowsLate (Mutex l (Lock timed retries at)) reply → NextFits (mutex_next (Lock timed retries at) reply)
-lock_timely l timed retries lock.TheVariants.First (Value seen) h late = either (seen == 0)
+lock_timely : (l : ℕ) (entry : Entry) (retries : Bool) (at : LockAt) (reply : Reply) → GivesUpTimed (Lock entry retries at) → AllowsLate (Mutex l (Lock entry retries at)) reply → NextFits (mutex_next (Lock entry retries at) reply)
+lock_timely l entry retries lock.TheVariants.First (Value seen) h late = either (seen == 0)
   where
-    either : (b : Bool) → NextFits (in_lock timed retries (if b then next.TheVariants.End (entered timed) else next.TheVariants.At lock.TheVariants.Load))
+    either : (b : Bool) → NextFits (in_lock entry retries (if b then next.TheVariants.End (entered entry) else next.TheVariants.At lock.TheVariants.Load))
     either true = tt
     either false = tt
-lock_timely l timed retries (lock.TheVariants.Decide s) (Value seen) h late = either (not (seen == s)) (is_locked seen)
+lock_timely l entry retries (lock.TheVariants.Decide s) (Value seen) h late = either (not (seen == s)) (is_locked seen)
   where
-    either : (a b : Bool) → NextFits (in_lock timed retries (if a then next.TheVariants.At (lock.TheVariants.Decide seen) else if b then next.TheVariants.At (lock.TheVariants.Decide 3) else next.TheVariants.End (entered timed)))
+    either : (a b : Bool) → NextFits (in_lock entry retries (if a then next.TheVariants.At (lock.TheVariants.Decide seen) else if b then next.TheVariants.At (lock.TheVariants.Decide 3) else next.TheVariants.End (entered entry)))
     either true b = tt
     either false true = tt
     either false false = tt
-lock_timely l timed retries lock.TheVariants.Load (Value seen) h late = tt
-lock_timely l timed retries lock.TheVariants.Check (Parked parked) h late = tt
-lock_timely l timed retries (lock.TheVariants.Leave true) Done h late = tt
-lock_timely l timed retries (lock.TheVariants.Leave false) Done h late = tt
-lock_timely l timed retries lock.TheVariants.Asleep Late h late = late
-lock_timely l timed retries lock.TheVariants.Remove (Removed true) h late = h
-lock_timely l timed retries lock.TheVariants.Remove (Removed false) h late = h
-lock_timely l timed retries lock.TheVariants.Clear (Value seen) h late = h
-lock_timely l timed retries (lock.TheVariants.Taken by) (Woken Normal) h late = tt
-lock_timely l timed retries lock.TheVariants.GiveUp Done h late = tt
-lock_timely l timed retries at reply h late = h
+lock_timely l entry retries lock.TheVariants.Load (Value seen) h late = tt
+lock_timely l entry retries lock.TheVariants.Check (Parked parked) h late = tt
+lock_timely l entry retries (lock.TheVariants.Leave true) Done h late = tt
+lock_timely l entry retries (lock.TheVariants.Leave false) Done h late = tt
+lock_timely l entry retries lock.TheVariants.Asleep Late h late = late
+lock_timely l entry retries lock.TheVariants.Remove (Removed true) h late = h
+lock_timely l entry retries lock.TheVariants.Remove (Removed false) h late = h
+lock_timely l entry retries lock.TheVariants.Clear (Value seen) h late = h
+lock_timely l entry retries (lock.TheVariants.Taken by) (Woken note.TheVariants.Normal) h late = tt
+lock_timely l entry retries (lock.TheVariants.Taken by) (HandedBy t) h late = tt
+lock_timely l entry retries (lock.TheVariants.Handed by) (Woken note.TheVariants.HandOff) h late = tt
+lock_timely l entry retries lock.TheVariants.Accept Done h late = tt
+lock_timely l entry retries lock.TheVariants.GiveUp Done h late = tt
+lock_timely l entry retries at reply h late = h
 
 unlock_timely : (at : UnlockAt) (reply : Reply) → NextFits (mutex_next (Unlock at) reply)
 unlock_timely at reply = within (unlock_next at reply)
@@ -189,6 +204,26 @@ unlock_timely at reply = within (unlock_next at reply)
     within : (n : Next UnlockAt) → NextFits (in_unlock n)
     within (next.TheVariants.At at) = tt
     within (next.TheVariants.End a) = tt
+
+looked_timely : (bumps saw_waiters : Bool) → NextFits (looked bumps saw_waiters)
+looked_timely bumps true = tt
+looked_timely bumps false = tt
+
+unlock_fair_timely : (reply : Reply) → NextFits (mutex_next UnlockFair reply)
+unlock_fair_timely (Value seen) = looked_timely false (not (seen == 1))
+unlock_fair_timely reply = tt
+
+bump_timely : (reply : Reply) → NextFits (mutex_next Bump reply)
+bump_timely (Value seen) = looked_timely true (is_parked seen)
+bump_timely reply = tt
+
+hand_off_timely : (bumps : Bool) (at : HandOffAt) (reply : Reply) → NextFits (mutex_next (HandOff bumps at) reply)
+hand_off_timely bumps at reply = within bumps (hand_off_next at reply)
+  where
+    within : (b : Bool) (n : Next HandOffAt) → NextFits (in_hand_off b n)
+    within b (next.TheVariants.At at) = tt
+    within true (next.TheVariants.End a) = tt
+    within false (next.TheVariants.End a) = tt
 
 try_timely : (reply : Reply) → NextFits (mutex_next TryLock reply)
 try_timely (Value seen) = either (is_locked seen)
@@ -200,9 +235,12 @@ try_timely reply = tt
 
 next_calls : (w : State) (p : Place) (reply : Reply) → CallFits w p → AllowsLate p reply → CallFits w (next_place p reply)
 next_calls w Idle reply h late = tt
-next_calls w (Mutex l (Lock timed retries at)) reply h late = goes_calls w l (mutex_next (Lock timed retries at) reply) h.0 (lock_timely l timed retries at reply h.1 late)
+next_calls w (Mutex l (Lock entry retries at)) reply h late = goes_calls w l (mutex_next (Lock entry retries at) reply) h.0 (lock_timely l entry retries at reply h.1 late)
 next_calls w (Mutex l TryLock) reply h late = goes_calls w l (mutex_next TryLock reply) h.0 (try_timely reply)
 next_calls w (Mutex l (Unlock at)) reply h late = goes_calls w l (mutex_next (Unlock at) reply) h.0 (unlock_timely at reply)
+next_calls w (Mutex l UnlockFair) reply h late = goes_calls w l (mutex_next UnlockFair reply) h.0 (unlock_fair_timely reply)
+next_calls w (Mutex l Bump) reply h late = goes_calls w l (mutex_next Bump reply) h.0 (bump_timely reply)
+next_calls w (Mutex l (HandOff bumps at)) reply h late = goes_calls w l (mutex_next (HandOff bumps at) reply) h.0 (hand_off_timely bumps at reply)
 
 befallen_only : (w : State) (t : ℕ) (reply : Reply) → OnlyMutexes w → AllowsLate (place_at w t) reply → OnlyMutexes (befallen w t reply)
 befallen_only w t reply s late = put_only w t _ s (next_calls w (place_at w t) reply (s.calls t) late)
@@ -285,6 +323,7 @@ OfMutex act = Unit {0}
 
 performed_only : (w : State) (t : ℕ) (p : Place) (act : Act) → OfMutex act → OnlyMutexes w → OnlyMutexes (performed w t p act)
 performed_only w t p (Word l f) h s = operated_only w t p l f s
+performed_only w t p (HandOver l f u) h s = befallen_only (operated w t p l f) u (HandedBy t) (operated_only w t p l f s) (never_late _ (HandedBy t) tt)
 performed_only w t p (Enter keys) h s = filled_only w keys (Some t) s
 performed_only w t p (Park l key check wanted) h s = rw (h.0, h.1) (parked_only w s t l check)
 performed_only w t p (TakeFirst key) h s = rw (h.1) (took_only w s t h.0)
@@ -302,12 +341,18 @@ decided_of l s = either (is_locked s) (s == 1)
 
 act_of_mutex : (p : Place) → OfMutex (act_of p)
 act_of_mutex Idle = tt
-act_of_mutex (Mutex l (Lock timed retries (lock.TheVariants.Decide s))) = decided_of l s
-act_of_mutex (Mutex l (Lock timed retries lock.TheVariants.Check)) = (refl, refl)
-act_of_mutex (Mutex l (Lock timed retries at)) = tt
+act_of_mutex (Mutex l (Lock entry retries (lock.TheVariants.Decide s))) = decided_of l s
+act_of_mutex (Mutex l (Lock entry retries lock.TheVariants.Check)) = (refl, refl)
+act_of_mutex (Mutex l (Lock entry retries at)) = tt
 act_of_mutex (Mutex l TryLock) = tt
 act_of_mutex (Mutex l (Unlock unlock.TheVariants.Take)) = (l, refl)
 act_of_mutex (Mutex l (Unlock at)) = tt
+act_of_mutex (Mutex l UnlockFair) = tt
+act_of_mutex (Mutex l Bump) = tt
+act_of_mutex (Mutex l (HandOff bumps hand_off.Take)) = (l, refl)
+act_of_mutex (Mutex l (HandOff bumps (hand_off.Store None none_left))) = tt
+act_of_mutex (Mutex l (HandOff bumps (hand_off.Store (Some u) none_left))) = tt
+act_of_mutex (Mutex l (HandOff bumps at)) = tt
 
 -- ---------------------------------------------------------------- kinds stay
 
@@ -332,6 +377,7 @@ parked_kinds w t l key check wanted k = either (holds check (word_at w l))
 
 performed_kinds : (w : State) (t : ℕ) (p : Place) (act : Act) (k : ℕ) → kind_at (performed w t p act) k ≡ kind_at w k
 performed_kinds w t p (Word l f) k = operated_kinds w t p l f k
+performed_kinds w t p (HandOver l f u) k = operated_kinds w t p l f k
 performed_kinds w t p (Enter keys) k = filled_kinds w keys (Some t) k
 performed_kinds w t p (Park l key check wanted) k = parked_kinds w t l key check wanted k
 performed_kinds w t p (TakeFirst key) k = taken_kinds (record w { queues = first_taken w.queues key }) t (first_of (queue_at w key)) k
@@ -367,15 +413,19 @@ gone_only : (w : State) (t : ℕ) → OnlyMutexes w → OnlyMutexes (gone w t)
 gone_only w t s = let p = place_at w t in put_only (performed w t p (act_of p)) t _ (performed_only w t p (act_of p) (act_of_mutex p) s)
     (next_calls (performed w t p (act_of p)) p (go_reply w t) (same_calls w (performed w t p (act_of p)) (performed_kinds w t p (act_of p)) p (s.calls t)) (never_late p (go_reply w t) (told w t (act_of p))))
 
-pub is_mutex : (k : Kind) (c : Call) → has_call k c ≡ true → k ≡ kind.TheVariants.Mutex
-is_mutex kind.TheVariants.Mutex c h = refl
-is_mutex k c h = absurd cc
+pub calls_mutex : (k : Kind) (c : Call) → has_call k c ≡ true → is_mutex k ≡ true
+calls_mutex kind.TheVariants.Mutex c h = refl
+calls_mutex kind.TheVariants.Fair c h = refl
+calls_mutex k c h = absurd cc
 
-begins_timely : (c : MutexCall) → GivesUpTimed (mutex_first c)
-begins_timely mutex_call.TheVariants.Lock = tt
-begins_timely mutex_call.TheVariants.LockTimed = tt
-begins_timely mutex_call.TheVariants.TryLock = tt
-begins_timely mutex_call.TheVariants.Unlock = tt
+begins_timely : (fair : Bool) (c : MutexCall) → GivesUpTimed (mutex_first fair c)
+begins_timely fair mutex_call.TheVariants.Lock = tt
+begins_timely fair mutex_call.TheVariants.LockTimed = tt
+begins_timely fair mutex_call.TheVariants.TryLock = tt
+begins_timely true mutex_call.TheVariants.Unlock = tt
+begins_timely false mutex_call.TheVariants.Unlock = tt
+begins_timely fair mutex_call.TheVariants.UnlockFair = tt
+begins_timely fair mutex_call.TheVariants.Bump = tt
 
 begins_only : (w : State) (t : ℕ) (c : Call) → OnlyMutexes w → can_begin w t c ≡ true → OnlyMutexes (begun w t c)
 begins_only w t (call.TheVariants.Mutex l c) s can =
@@ -383,7 +433,7 @@ begins_only w t (call.TheVariants.Mutex l c) s can =
     let idle = both (is_idle (place_at w t)) (is_open_to w t own) can in
     let there = both (nat_lt l (length w.locks)) (has_call (kind_at w l) own && has_right own t (owners_at w l)) idle.1 in
     let called = both (has_call (kind_at w l) own) (has_right own t (owners_at w l)) there.1 in
-    put_only w t (first_place own) s (is_mutex (kind_at w l) own called.0, begins_timely c)
+    put_only w t (first_place (kind_at w l) own) s (calls_mutex (kind_at w l) own called.0, begins_timely (is_fair (kind_at w l)) c)
 
 spun_only : (w : State) (t : ℕ) → OnlyMutexes w → OnlyMutexes (spun w t)
 spun_only w t s = by_lock (spin_lock (place_at w t))
@@ -398,19 +448,23 @@ lated_only w t s = by_place (place_at w t) refl
     late_under : (key : ℕ) → AllowsLate (place_at w t) Late → OnlyMutexes (befallen (filled_with w (One key) (Some t)) t Late)
     late_under key late = befallen_only (filled_with w (One key) (Some t)) t Late (filled_only w (One key) (Some t) s) late
 
-    asleep : (l : ℕ) (timed retries : Bool) → place_at w t ≡ Mutex l (Lock timed retries lock.TheVariants.Asleep) → OnlyMutexes (late_on w t (if timed then Some (2 * l) else None))
-    asleep l true retries e = late_under (2 * l) (rw e refl)
-    asleep l false retries e = s
+    asleep : (l : ℕ) (entry : Entry) (retries : Bool) → place_at w t ≡ Mutex l (Lock entry retries lock.TheVariants.Asleep) → OnlyMutexes (late_on w t (if is_timed entry then Some (2 * l) else None))
+    asleep l entries.LockTimed retries e = late_under (2 * l) (rw e refl)
+    asleep l entries.Lock retries e = s
+    asleep l entries.Bump retries e = s
 
-    locks : (l : ℕ) (timed retries : Bool) (at : LockAt) → place_at w t ≡ Mutex l (Lock timed retries at) → OnlyMutexes (late_on w t (late_key (Mutex l (Lock timed retries at))))
-    locks l timed retries lock.TheVariants.Asleep e = asleep l timed retries e
-    locks l timed retries at e = s
+    locks : (l : ℕ) (entry : Entry) (retries : Bool) (at : LockAt) → place_at w t ≡ Mutex l (Lock entry retries at) → OnlyMutexes (late_on w t (late_key (Mutex l (Lock entry retries at))))
+    locks l entry retries lock.TheVariants.Asleep e = asleep l entry retries e
+    locks l entry retries at e = s
 
     by_place : (p : Place) → place_at w t ≡ p → OnlyMutexes (late_on w t (late_key p))
     by_place Idle e = s
-    by_place (Mutex l (Lock timed retries at)) e = locks l timed retries at e
+    by_place (Mutex l (Lock entry retries at)) e = locks l entry retries at e
     by_place (Mutex l TryLock) e = s
     by_place (Mutex l (Unlock at)) e = s
+    by_place (Mutex l UnlockFair) e = s
+    by_place (Mutex l Bump) e = s
+    by_place (Mutex l (HandOff bumps at)) e = s
 
 turned_only : (w : State) (t : ℕ) (x : Turn) → OnlyMutexes w → can_turn w t x ≡ true → OnlyMutexes (turned w t x)
 turned_only w t (turn.TheVariants.Begin c) s can = begins_only w t c s can

@@ -8,10 +8,12 @@ use Rattle.parking_lot_core.specs.Lines.{waiter, without, times, first_of}
 use Rattle.parking_lot_core.proofs.Counts.{times_append, times_without, times_gone}
 use Rattle.lot_steps.specs.declared.places.Place.{Place}
 use Rattle.lot_steps.specs.declared.places.Place.TheVariants.{Mutex}
-use Rattle.lot_steps.specs.declared.mutex.MutexPlace.TheVariants.{Lock, Unlock}
+use Rattle.lot_steps.specs.declared.mutex.Entry.{Entry}
+use Rattle.lot_steps.specs.declared.mutex.MutexPlace.TheVariants.{Lock, Unlock, HandOff}
 use Rattle.lot_steps.specs.declared.mutex.LockAt.TheVariants.{Check, Leave, Asleep, Taken, Remove, Clear}
 use Rattle.lot_steps.specs.declared.mutex.UnlockAt.TheVariants as unlock
-use Rattle.lot_world.specs.Sound.{Sound, Nobody, IsTakenBy, Carries, Debtor, one_if, inside, queued, holds, finds_empty}
+use Rattle.lot_steps.specs.declared.mutex.HandOffAt.TheVariants as hand_off
+use Rattle.lot_world.specs.Sound.{Sound, Nobody, Taking, taken_from, IsTakenBy, Carries, Debtor, one_if, inside, queued, holds, finds_empty}
 use Rattle.lot_world.proofs.Keeps.{Changed}
 use Rattle.lot_world.proofs.Counts.{times_first}
 use Rattle.lot_world.proofs.Words.{lock_debts}
@@ -26,15 +28,17 @@ alone at word owner sec q sound t u l h g =
 
 -- who has found a queue empty is inside its section
 empty_inside : (p : Place) (k : ℕ) → finds_empty p ≡ Some k → inside p ≡ Some k
-empty_inside (Mutex l (Lock timed retries Clear)) k h = h
+empty_inside (Mutex l (Lock entry retries Clear)) k h = h
 empty_inside (Mutex l (Unlock (unlock.Clear taken))) k h = h
 empty_inside (Mutex l (Unlock (unlock.Leave None))) k h = h
+empty_inside (Mutex l (HandOff bumps (hand_off.Store None none_left))) k h = h
+empty_inside (Mutex l (HandOff bumps (hand_off.Store (Some u) true))) k h = h
 empty_inside p k h = absurd cc
 
 -- the thread t inside the section of l is appended
 module _ (at at2 : ℕ → Place) (word : ℕ → ℕ) (owner : ℕ → Option ℕ) (sec : ℕ → Option ℕ) (q q2 : ℕ → List Waiter)
-    (sound : Sound at word owner sec q) (t l key : ℕ) (timed before after : Bool) (x : Want)
-    (stood : at t ≡ Mutex l (Lock timed before Check)) (place : Changed at at2 t (Mutex l (Lock timed after (Leave true)))) (line : Changed q q2 l (q l ++ waiter key t x ∷ [])) (full : word l ≡ 3) where
+    (sound : Sound at word owner sec q) (t l key : ℕ) (entry : Entry) (before after : Bool) (x : Want)
+    (stood : at t ≡ Mutex l (Lock entry before Check)) (place : Changed at at2 t (Mutex l (Lock entry after (Leave true)))) (line : Changed q q2 l (q l ++ waiter key t x ∷ [])) (full : word l ≡ 3) where
   in_before : inside (at t) ≡ Some l
   in_before = rw stood refl
 
@@ -86,18 +90,18 @@ module _ (at at2 : ℕ → Place) (word : ℕ → ℕ) (owner : ℕ → Option �
       | inr ne ↦ let was : finds_empty (at u) ≡ Some k = sym (ap finds_empty (place.other u ne)) ∙ h in still_nobody u k ne (empty_inside _ k was) (sound.emptied u k was)
     ];
     carried = λ s u k h. elim (cases_eq s t) [
-      | inl e ↦ absurd (let f : Carries (Mutex l (Lock timed after (Leave true))) u k = rw (e, place.here) at h in f)
+      | inl e ↦ absurd (let f : Carries (Mutex l (Lock entry after (Leave true))) u k = rw (e, place.here) at h in f)
       | inr ne ↦ let hand : IsTakenBy (at u) s k = sound.carried s u k (rw (place.other s ne) at h) in
           elim (cases_eq u t) [
-            | inl e ↦ absurd (let f : IsTakenBy (Mutex l (Lock timed before Check)) s k = rw (e, stood) at hand in f)
+            | inl e ↦ absurd (let f : IsTakenBy (Mutex l (Lock entry before Check)) s k = rw (e, stood) at hand in f)
             | inr nu ↦ rw (place.other u nu) hand
           ]
     ];
     taken = λ u s k h. elim (cases_eq u t) [
-      | inl e ↦ absurd (let f : IsTakenBy (Mutex l (Lock timed after (Leave true))) s k = rw (e, place.here) at h in f)
+      | inl e ↦ absurd (let f : IsTakenBy (Mutex l (Lock entry after (Leave true))) s k = rw (e, place.here) at h in f)
       | inr ne ↦ let was : Carries (at s) u k = sound.taken u s k (rw (place.other u ne) at h) in
           elim (cases_eq s t) [
-            | inl e ↦ absurd (let f : Carries (Mutex l (Lock timed before Check)) u k = rw (e, stood) at was in f)
+            | inl e ↦ absurd (let f : Carries (Mutex l (Lock entry before Check)) u k = rw (e, stood) at was in f)
             | inr ns ↦ rw (place.other s ns) was
           ]
     ];
@@ -108,7 +112,7 @@ module _ (at at2 : ℕ → Place) (word : ℕ → ℕ) (owner : ℕ → Option �
         | inr ne ↦ let d : (y : ℕ) × Debtor (at y) k = sound.owed u k (sym (ap queued (place.other u ne)) ∙ h) free_k in (
           d.0,
           elim (cases_eq d.0 t) [
-            | inl e ↦ absurd (nk (lock_debts l timed before Check k (rw (e, stood) at d.1)))
+            | inl e ↦ absurd (nk (lock_debts l entry before Check k (rw (e, stood) at d.1)))
             | inr nd ↦ rw (place.other d.0 nd) d.1
           ],
         )
@@ -122,8 +126,8 @@ module _ (at at2 : ℕ → Place) (word : ℕ → ℕ) (owner : ℕ → Option �
     (in_before : inside (at t) ≡ Some l) (place : Changed at at2 t p2) (lines : (k : ℕ) → q2 k ≡ without t (q k))
     (in_still : inside p2 ≡ Some l) (no_queue : queued p2 ≡ None) (no_hold : holds p2 ≡ None)
     (empty : (k : ℕ) → finds_empty p2 ≡ Some k → (k ≡ l) × (q2 l ≡ []))
-    (debts : (k : ℕ) → Debtor (at t) k → Debtor p2 k) (no_carry : (u k : ℕ) → Carries (at t) u k → ⊥) (no_carry_now : (u k : ℕ) → Carries p2 u k → ⊥)
-    (no_hand : (s k : ℕ) → IsTakenBy (at t) s k → ⊥) (no_hand_now : (s k : ℕ) → IsTakenBy p2 s k → ⊥) where
+    (debts : (k : ℕ) → Debtor (at t) k → Debtor p2 k) (no_carry : (u : ℕ) (k : Taking) → Carries (at t) u k → ⊥) (no_carry_now : (u : ℕ) (k : Taking) → Carries p2 u k → ⊥)
+    (no_hand : (s : ℕ) (k : Taking) → IsTakenBy (at t) s k → ⊥) (no_hand_now : (s : ℕ) (k : Taking) → IsTakenBy p2 s k → ⊥) where
   nobody_left : (k : ℕ) → Nobody at k → Nobody at2 k
   nobody_left k none s h = elim (cases_eq s t) [
     | inl e ↦ let g : queued (at2 s) ≡ None = rw (e, place.here) no_queue in cc
@@ -187,28 +191,28 @@ module _ (at at2 : ℕ → Place) (word : ℕ → ℕ) (owner : ℕ → Option �
 
 -- a thread asleep in the queue of a lock
 pub record IsAsleep (p : Place) (l : ℕ) : Type 0 where
-  pub timed : Bool
+  pub entry : Entry
   pub retries : Bool
-  pub is : p ≡ Mutex l (Lock timed retries Asleep)
+  pub is : p ≡ Mutex l (Lock entry retries Asleep)
 
 -- who stands in a queue and isn't inside its section is asleep
 pub asleep : (p : Place) (l : ℕ) → queued p ≡ Some l → (inside p ≡ Some l) ⊎ IsAsleep p l
-asleep (Mutex k (Lock timed retries (Leave true))) l h = inl h
-asleep (Mutex k (Lock timed retries Asleep)) l h = inr (record { timed = timed; retries = retries; is = cc })
-asleep (Mutex k (Lock timed retries Remove)) l h = inl h
+asleep (Mutex k (Lock entry retries (Leave true))) l h = inl h
+asleep (Mutex k (Lock entry retries Asleep)) l h = inr (record { entry = entry; retries = retries; is = cc })
+asleep (Mutex k (Lock entry retries Remove)) l h = inl h
 asleep p l h = absurd cc
 
 -- the thread t inside the section of l takes the first waiter, u
 module _ (at at2 : ℕ → Place) (word : ℕ → ℕ) (owner : ℕ → Option ℕ) (sec : ℕ → Option ℕ) (q q2 : ℕ → List Waiter)
-    (sound : Sound at word owner sec q) (t l u : ℕ) (p2 : Place) (timed retries : Bool)
+    (sound : Sound at word owner sec q) (t l u : ℕ) (p2 : Place) (entry : Entry) (retries : Bool)
     (in_before : inside (at t) ≡ Some l) (first : first_of (q l) ≡ Some u) (line : Changed q q2 l (drop 1 (q l)))
-    (before : at u ≡ Mutex l (Lock timed retries Asleep))
-    (here : at2 t ≡ p2) (there : at2 u ≡ Mutex l (Lock timed retries (Taken t))) (other : (s : ℕ) → s ≢ t → s ≢ u → at2 s ≡ at s)
-    (in_still : inside p2 ≡ Some l) (no_queue : queued p2 ≡ queued (at t)) (no_hold : holds p2 ≡ None)
+    (before : at u ≡ Mutex l (Lock entry retries Asleep))
+    (here : at2 t ≡ p2) (there : at2 u ≡ Mutex l (Lock entry retries (Taken t))) (other : (s : ℕ) → s ≢ t → s ≢ u → at2 s ≡ at s)
+    (in_still : inside p2 ≡ Some l) (no_queue : queued p2 ≡ queued (at t)) (hold_stays : holds p2 ≡ holds (at t))
     (empty : (k : ℕ) → finds_empty p2 ≡ Some k → (k ≡ l) × (q2 l ≡ []))
-    (debts : (k : ℕ) → Debtor (at t) k → Debtor p2 k) (no_carry : (u k : ℕ) → Carries (at t) u k → ⊥)
-    (carries : Carries p2 u l) (only : (s k : ℕ) → Carries p2 s k → (s ≡ u) × (k ≡ l))
-    (no_hand : (s k : ℕ) → IsTakenBy (at t) s k → ⊥) (no_hand_now : (s k : ℕ) → IsTakenBy p2 s k → ⊥) where
+    (debts : (k : ℕ) → Debtor (at t) k → Debtor p2 k) (no_carry : (u : ℕ) (k : Taking) → Carries (at t) u k → ⊥)
+    (carries : Carries p2 u (taken_from l)) (only : (s : ℕ) (k : Taking) → Carries p2 s k → (s ≡ u) × (k ≡ taken_from l))
+    (no_hand : (s : ℕ) (k : Taking) → IsTakenBy (at t) s k → ⊥) (no_hand_now : (s : ℕ) (k : Taking) → IsTakenBy p2 s k → ⊥) where
   -- the taker is another
   apart : u ≢ t
   apart e = let f : inside (at u) ≡ None = rw before refl in let g : inside (at u) ≡ Some l = rw e in_before in cc
@@ -260,7 +264,7 @@ module _ (at at2 : ℕ → Place) (word : ℕ → ℕ) (owner : ℕ → Option �
       | inr nu ↦ sound.parked s k (sym (queued_now s nu) ∙ h)
     ];
     held = λ s k h. elim (cases_eq s t) [
-      | inl e ↦ absurd (let f : holds (at2 s) ≡ None = rw (e, here) no_hold in cc)
+      | inl e ↦ let f : holds (at2 s) ≡ holds p2 = rw (e, here) refl in rw e (sound.held t k (sym hold_stays ∙ sym f ∙ h))
       | inr ne ↦ elim (cases_eq s u) [
         | inl e ↦ absurd (let g : holds (at2 s) ≡ None = rw (e, there) refl in cc)
         | inr nu ↦ sound.held s k (sym (ap holds (other s ne nu)) ∙ h)
@@ -275,14 +279,14 @@ module _ (at at2 : ℕ → Place) (word : ℕ → ℕ) (owner : ℕ → Option �
       ]
     ];
     carried = λ s y k h. elim (cases_eq s t) [
-      | inl e ↦ let c : (y ≡ u) × (k ≡ l) = only y k (rw (e, here) at h) in rw (c.0, c.1, e, there) (refl, refl)
+      | inl e ↦ let c : (y ≡ u) × (k ≡ taken_from l) = only y k (rw (e, here) at h) in rw (c.0, c.1, e, there) (refl, refl)
       | inr ne ↦ elim (cases_eq s u) [
-        | inl e ↦ absurd (let f : Carries (Mutex l (Lock timed retries (Taken t))) y k = rw (e, there) at h in f)
+        | inl e ↦ absurd (let f : Carries (Mutex l (Lock entry retries (Taken t))) y k = rw (e, there) at h in f)
         | inr nu ↦ let hand : IsTakenBy (at y) s k = sound.carried s y k (rw (other s ne nu) at h) in
             elim (cases_eq y t) [
               | inl e ↦ absurd (no_hand s k (rw e at hand))
               | inr nyt ↦ elim (cases_eq y u) [
-                | inl e ↦ absurd (let f : IsTakenBy (Mutex l (Lock timed retries Asleep)) s k = rw (e, before) at hand in f)
+                | inl e ↦ absurd (let f : IsTakenBy (Mutex l (Lock entry retries Asleep)) s k = rw (e, before) at hand in f)
                 | inr nyu ↦ rw (other y nyt nyu) hand
               ]
             ]
@@ -291,12 +295,12 @@ module _ (at at2 : ℕ → Place) (word : ℕ → ℕ) (owner : ℕ → Option �
     taken = λ y s k h. elim (cases_eq y t) [
       | inl e ↦ absurd (no_hand_now s k (rw (e, here) at h))
       | inr ne ↦ elim (cases_eq y u) [
-        | inl e ↦ let g : (t ≡ s) × (l ≡ k) = rw (e, there) at h in rw (e, ← g.0, ← g.1, here) carries
+        | inl e ↦ let g : (t ≡ s) × (taken_from l ≡ k) = rw (e, there) at h in rw (e, ← g.0, ← g.1, here) carries
         | inr nu ↦ let was : Carries (at s) y k = sound.taken y s k (rw (other y ne nu) at h) in
             elim (cases_eq s t) [
               | inl e ↦ absurd (no_carry y k (rw e at was))
               | inr ns ↦ elim (cases_eq s u) [
-                | inl e ↦ absurd (let f : Carries (Mutex l (Lock timed retries Asleep)) y k = rw (e, before) at was in f)
+                | inl e ↦ absurd (let f : Carries (Mutex l (Lock entry retries Asleep)) y k = rw (e, before) at was in f)
                 | inr nsu ↦ rw (other s ns nsu) was
               ]
             ]
@@ -317,5 +321,5 @@ module _ (at at2 : ℕ → Place) (word : ℕ → ℕ) (owner : ℕ → Option �
     ];
   }
     where
-      still_owes : {k : ℕ} → Debtor (Mutex l (Lock timed retries Asleep)) k → Debtor (Mutex l (Lock timed retries (Taken t))) k
+      still_owes : {k : ℕ} → Debtor (Mutex l (Lock entry retries Asleep)) k → Debtor (Mutex l (Lock entry retries (Taken t))) k
       still_owes d = d

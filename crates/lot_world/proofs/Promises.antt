@@ -8,24 +8,30 @@ use Rattle.lot_steps.specs.declared.acts.Act.TheVariants.{Sleep}
 use Rattle.lot_steps.specs.declared.kinds.Kind.{Kind}
 use Rattle.lot_steps.specs.declared.kinds.Kind as kind
 use Rattle.lot_steps.specs.declared.calls.Step.{Step}
-use Rattle.lot_steps.specs.declared.mutex.MutexPlace.TheVariants.{Lock, TryLock, Unlock}
+use Rattle.lot_steps.specs.declared.mutex.Entry.{Entry}
+use Rattle.lot_steps.specs.declared.mutex.Entry.TheVariants as entries
+use Rattle.lot_steps.specs.declared.acts.Wakes as wakes
+use Rattle.parking_lot_core.specs.declared.notes.Note.TheVariants as note
+use Rattle.lot_steps.specs.declared.mutex.MutexPlace.TheVariants.{Lock, TryLock, Unlock, UnlockFair, Bump, HandOff}
 use Rattle.lot_steps.specs.declared.mutex.LockAt.{LockAt}
-use Rattle.lot_steps.specs.declared.mutex.LockAt.TheVariants.{First, Load, Decide, Check, Leave, Asleep, Taken, Remove, Clear, GiveUp}
+use Rattle.lot_steps.specs.declared.mutex.LockAt.TheVariants.{First, Load, Decide, Check, Leave, Asleep, Taken, Handed, Accept, Remove, Clear, GiveUp}
 use Rattle.lot_steps.specs.declared.mutex.UnlockAt.{UnlockAt}
 use Rattle.lot_steps.specs.declared.mutex.UnlockAt.TheVariants as unlock
+use Rattle.lot_steps.specs.declared.mutex.HandOffAt.{HandOffAt}
+use Rattle.lot_steps.specs.declared.mutex.HandOffAt.TheVariants as hand_off
 use Rattle.lot_steps.specs.declared.places.Place.{Place}
 use Rattle.lot_steps.specs.declared.places.Place.TheVariants.{Idle, Mutex}
-use Rattle.lot_steps.specs.MutexSteps.{is_locked, is_parked, lock_act, unlock_act, lock_owes}
+use Rattle.lot_steps.specs.MutexSteps.{is_locked, is_parked, lock_act, unlock_act, hand_off_act, lock_owes}
 use Rattle.lot_steps.specs.Steps.{act_of, owes_on, retries_on}
 use Rattle.lot_world.specs.Machine.{State, unlocked, opening, kind_at, place_at, word_at, queue_at, after, after_all, section_at}
 use Rattle.lot_world.specs.Fits.{IsShaped}
-use Rattle.lot_world.specs.Sound.{IsSound, Debtor, IsTakenBy, Carries, queued, holds, finds_empty, releases, tries_again, is_awake, owner_at, inside, one_if}
+use Rattle.lot_world.specs.Sound.{IsSound, Debtor, Taking, handed_over, IsTakenBy, Carries, queued, holds, finds_empty, releases, tries_again, is_awake, owner_at, inside, one_if}
 use Rattle.lot_world.specs.LockRuns.{AreLockStates, IsOpening}
 use Rattle.lot_world.specs.Locks.{opening_lock, rights_of, Rights, one_if_some, standing}
-use Rattle.lot_world.specs.Purposes.{rules_of, Releases, Enters, patience_of, Purpose}
-use Rattle.lot_world.specs.Refinement.{locks_of, lock_state, lock_seen, taken_at, call_state}
+use Rattle.lot_world.specs.Purposes.{rules_of, Releases, Enters, Converts, Bumps, Purpose, MayWait, IsReleasing}
+use Rattle.lot_world.specs.Refinement.{locks_of, lock_state, lock_seen, taken_at, is_bump, entry_purpose, call_state}
 use Rattle.lot_world.specs.OnlyMutexes.{OnlyMutexes}
-use Rattle.lot_world.specs.Promises.{Codes, WaitsFor, IsLookedAfter, IsKept, IsKeptThroughout, GoesToWake}
+use Rattle.lot_world.specs.Promises.{Codes, WaitsFor, IsLookedAfter, IsKept, IsKeptThroughout, GoesToWake, IsHandedOver}
 use Rattle.lot_world.proofs.Shape.{after_shaped}
 use Rattle.lot_world.proofs.Steady.{stands_at, after_sound}
 use Rattle.lot_world.proofs.OnlyMutexes.{after_only}
@@ -69,69 +75,102 @@ awake_retries l false awake k h = absurd cc
 debt_is : (p : Place) (k : ℕ) (r : ℕ → Rights) → Debtor p k → ((owes_on p k ≡ true) × ((call_state p r).purpose ≡ Some (Releases k Exclusive false))) ⊎ ((call_state p r).retries ≡ Some k)
 debt_is Idle k r (inl h) = absurd cc
 debt_is Idle k r (inr h) = absurd cc
-debt_is (Mutex l (Lock timed retries a)) k r (inl h) = absurd cc
-debt_is (Mutex l (Lock timed retries a)) k r (inr h) = inr (awake_retries l retries (is_awake a) k h)
+debt_is (Mutex l (Lock entry retries a)) k r (inl h) = absurd cc
+debt_is (Mutex l (Lock entry retries a)) k r (inr h) = inr (awake_retries l retries (is_awake a) k h)
 debt_is (Mutex l TryLock) k r (inl h) = absurd cc
 debt_is (Mutex l TryLock) k r (inr h) = absurd cc
 debt_is (Mutex l (Unlock a)) k r (inl h) = inl (release_owes l a k h, ap (λ n. Some (Releases n Exclusive false)) (release_of l a k h))
 debt_is (Mutex l (Unlock a)) k r (inr h) = absurd cc
+debt_is (Mutex l UnlockFair) k r (inl h) = absurd cc
+debt_is (Mutex l UnlockFair) k r (inr h) = absurd cc
+debt_is (Mutex l Bump) k r (inl h) = absurd cc
+debt_is (Mutex l Bump) k r (inr h) = absurd cc
+debt_is (Mutex l (HandOff bumps a)) k r (inl h) = absurd cc
+debt_is (Mutex l (HandOff bumps a)) k r (inr h) = absurd cc
 
 -- who stands at a lock is in a call that waits for it
-waits_by : (p : Place) (l : ℕ) (r : ℕ → Rights) → 1 ≤ one_if (queued p) l + one_if_some (taken_at p l) → (timed : Bool) × ((call_state p r).purpose ≡ Some (Enters l Exclusive (patience_of timed)))
+may_wait : (j l : ℕ) (entry : Entry) → j ≡ l → MayWait (Some (entry_purpose j entry)) l
+may_wait j l entries.Lock e = (e, λ h. cc)
+may_wait j l entries.LockTimed e = (e, λ h. cc)
+may_wait j l entries.Bump e = e
+
+waits_by : (p : Place) (l : ℕ) (r : ℕ → Rights) → 1 ≤ one_if (queued p) l + one_if_some (taken_at p l) → MayWait (call_state p r).purpose l
 waits_by Idle l r h = absurd (omega arith)
-waits_by (Mutex j (Lock timed retries (Leave true))) l r h = (timed, ap (λ n. Some (Enters n Exclusive (patience_of timed))) (queued_here j l h))
-waits_by (Mutex j (Lock timed retries (Leave false))) l r h = absurd (omega arith)
-waits_by (Mutex j (Lock timed retries Asleep)) l r h = (timed, ap (λ n. Some (Enters n Exclusive (patience_of timed))) (queued_here j l h))
-waits_by (Mutex j (Lock timed retries Remove)) l r h = (timed, ap (λ n. Some (Enters n Exclusive (patience_of timed))) (queued_here j l h))
-waits_by (Mutex j (Lock timed retries (Taken by))) l r h = (timed, ap (λ n. Some (Enters n Exclusive (patience_of timed))) (taken_here j l by h))
-waits_by (Mutex j (Lock timed retries First)) l r h = absurd (omega arith)
-waits_by (Mutex j (Lock timed retries at)) l r h = absurd (omega arith)
+waits_by (Mutex j (Lock entry retries (Leave true))) l r h = may_wait j l entry (queued_here j l h)
+waits_by (Mutex j (Lock entry retries (Leave false))) l r h = absurd (omega arith)
+waits_by (Mutex j (Lock entry retries Asleep)) l r h = may_wait j l entry (queued_here j l h)
+waits_by (Mutex j (Lock entry retries Remove)) l r h = may_wait j l entry (queued_here j l h)
+waits_by (Mutex j (Lock entry retries (Taken by))) l r h = may_wait j l entry (taken_here j l by h)
+waits_by (Mutex j (Lock entry retries First)) l r h = absurd (omega arith)
+waits_by (Mutex j (Lock entry retries at)) l r h = absurd (omega arith)
 waits_by (Mutex j TryLock) l r h = absurd (omega arith)
 waits_by (Mutex j (Unlock at)) l r h = absurd (omega arith)
+waits_by (Mutex j UnlockFair) l r h = absurd (omega arith)
+waits_by (Mutex j Bump) l r h = absurd (omega arith)
+waits_by (Mutex j (HandOff bumps at)) l r h = absurd (omega arith)
 
 -- who owes is inside the section, or a release on its way into it
 own_lock : (b : Bool) (own l : ℕ) → (b && (own == l)) ≡ true → (b ≡ true) × (own ≡ l)
 own_lock true own l h = (refl, eqb-true own l h)
 own_lock false own l h = absurd cc
 
-lock_inside : (own : ℕ) (timed retries : Bool) (at : LockAt) → lock_owes at ≡ true → inside (Mutex own (Lock timed retries at)) ≡ Some own
-lock_inside own timed retries Check h = refl
-lock_inside own timed retries (Leave parked) h = refl
-lock_inside own timed retries Remove h = refl
-lock_inside own timed retries Clear h = refl
-lock_inside own timed retries GiveUp h = refl
-lock_inside own timed retries First h = absurd cc
-lock_inside own timed retries at h = absurd cc
+lock_inside : (own : ℕ) (entry : Entry) (retries : Bool) (at : LockAt) → lock_owes at ≡ true → inside (Mutex own (Lock entry retries at)) ≡ Some own
+lock_inside own entry retries Check h = refl
+lock_inside own entry retries (Leave parked) h = refl
+lock_inside own entry retries Remove h = refl
+lock_inside own entry retries Clear h = refl
+lock_inside own entry retries GiveUp h = refl
+lock_inside own entry retries First h = absurd cc
+lock_inside own entry retries at h = absurd cc
 
 owes_means : (p : Place) (l : ℕ) (r : ℕ → Rights) → owes_on p l ≡ true
-    → (inside p ≡ Some l) ⊎ ((act_of p ≡ act.TheVariants.Enter (One (2 * l))) × ((call_state p r).purpose ≡ Some (Releases l Exclusive false)))
+    → (inside p ≡ Some l) ⊎ ((act_of p ≡ act.TheVariants.Enter (One (2 * l))) × IsReleasing (call_state p r).purpose (call_state p r).released l)
 owes_means Idle l r h = absurd cc
-owes_means (Mutex own (Lock timed retries at)) l r h = let g = own_lock (lock_owes at) own l h in inl (lock_inside own timed retries at g.0 ∙ ap Some g.1)
+owes_means (Mutex own (Lock entry retries at)) l r h = let g = own_lock (lock_owes at) own l h in inl (lock_inside own entry retries at g.0 ∙ ap Some g.1)
 owes_means (Mutex own TryLock) l r h = absurd cc
 owes_means (Mutex own (Unlock unlock.Subtract)) l r h = absurd cc
-owes_means (Mutex own (Unlock unlock.Enter)) l r h = let e : own ≡ l = eqb-true own l h in inr (ap (λ k. act.TheVariants.Enter (One (2 * k))) e, ap (λ k. Some (Releases k Exclusive false)) e)
+owes_means (Mutex own (Unlock unlock.Enter)) l r h = let e : own ≡ l = eqb-true own l h in inr (ap (λ k. act.TheVariants.Enter (One (2 * k))) e, e)
 owes_means (Mutex own (Unlock unlock.Take)) l r h = inl (ap Some (eqb-true own l h))
 owes_means (Mutex own (Unlock (unlock.Clear taken))) l r h = inl (ap Some (eqb-true own l h))
 owes_means (Mutex own (Unlock (unlock.Leave taken))) l r h = inl (ap Some (eqb-true own l h))
+owes_means (Mutex own UnlockFair) l r h = absurd cc
+owes_means (Mutex own Bump) l r h = absurd cc
+owes_means (Mutex own (HandOff true hand_off.Enter)) l r h = let e : own ≡ l = eqb-true own l h in inr (ap (λ k. act.TheVariants.Enter (One (2 * k))) e, (e, refl))
+owes_means (Mutex own (HandOff false hand_off.Enter)) l r h = let e : own ≡ l = eqb-true own l h in inr (ap (λ k. act.TheVariants.Enter (One (2 * k))) e, e)
+owes_means (Mutex own (HandOff bumps hand_off.Take)) l r h = inl (ap Some (eqb-true own l h))
+owes_means (Mutex own (HandOff bumps (hand_off.Store taken none_left))) l r h = inl (ap Some (eqb-true own l h))
+owes_means (Mutex own (HandOff bumps (hand_off.Leave taken))) l r h = inl (ap Some (eqb-true own l h))
 
 inside_owes : (p : Place) (l : ℕ) → inside p ≡ Some l → owes_on p l ≡ true
-inside_owes (Mutex own (Lock timed retries Check)) l h = let e : own ≡ l = cc in rw e (same l)
-inside_owes (Mutex own (Lock timed retries (Leave parked))) l h = let e : own ≡ l = cc in rw e (same l)
-inside_owes (Mutex own (Lock timed retries Remove)) l h = let e : own ≡ l = cc in rw e (same l)
-inside_owes (Mutex own (Lock timed retries Clear)) l h = let e : own ≡ l = cc in rw e (same l)
-inside_owes (Mutex own (Lock timed retries GiveUp)) l h = let e : own ≡ l = cc in rw e (same l)
+inside_owes (Mutex own (Lock entry retries Check)) l h = let e : own ≡ l = cc in rw e (same l)
+inside_owes (Mutex own (Lock entry retries (Leave parked))) l h = let e : own ≡ l = cc in rw e (same l)
+inside_owes (Mutex own (Lock entry retries Remove)) l h = let e : own ≡ l = cc in rw e (same l)
+inside_owes (Mutex own (Lock entry retries Clear)) l h = let e : own ≡ l = cc in rw e (same l)
+inside_owes (Mutex own (Lock entry retries GiveUp)) l h = let e : own ≡ l = cc in rw e (same l)
 inside_owes (Mutex own (Unlock unlock.Take)) l h = let e : own ≡ l = cc in rw e (same l)
 inside_owes (Mutex own (Unlock (unlock.Clear taken))) l h = let e : own ≡ l = cc in rw e (same l)
 inside_owes (Mutex own (Unlock (unlock.Leave taken))) l h = let e : own ≡ l = cc in rw e (same l)
+inside_owes (Mutex own (HandOff bumps hand_off.Take)) l h = let e : own ≡ l = cc in rw e (same l)
+inside_owes (Mutex own (HandOff bumps (hand_off.Store taken none_left))) l h = let e : own ≡ l = cc in rw e (same l)
+inside_owes (Mutex own (HandOff bumps (hand_off.Leave taken))) l h = let e : own ≡ l = cc in rw e (same l)
 inside_owes p l h = absurd cc
 
-release_on_its_way : (p : Place) (l : ℕ) (r : ℕ → Rights) → act_of p ≡ act.TheVariants.Enter (One (2 * l)) → (call_state p r).purpose ≡ Some (Releases l Exclusive false) → owes_on p l ≡ true
-release_on_its_way Idle l r h g = absurd cc
-release_on_its_way (Mutex own (Lock timed retries at)) l r h g = absurd cc
-release_on_its_way (Mutex own TryLock) l r h g = absurd cc
-release_on_its_way (Mutex own (Unlock unlock.Enter)) l r h g = let e : own ≡ l = cc in rw e (same l)
+no_release : (own l : ℕ) (entry : Entry) → IsReleasing (Some (entry_purpose own entry)) (is_bump entry) l → ⊥
+no_release own l entries.Lock h = h
+no_release own l entries.LockTimed h = h
+no_release own l entries.Bump h = let e : true ≡ false = h.1 in cc
+
+release_on_its_way : (p : Place) (l : ℕ) (r : ℕ → Rights) → act_of p ≡ act.TheVariants.Enter (One (2 * l)) → IsReleasing (call_state p r).purpose (call_state p r).released l → owes_on p l ≡ true
+release_on_its_way Idle l r h g = absurd g
+release_on_its_way (Mutex own (Lock entry retries at)) l r h g = absurd (no_release own l entry g)
+release_on_its_way (Mutex own TryLock) l r h g = absurd g
+release_on_its_way (Mutex own (Unlock unlock.Enter)) l r h g = rw g (same l)
 release_on_its_way (Mutex own (Unlock unlock.Subtract)) l r h g = absurd cc
-release_on_its_way (Mutex own (Unlock at)) l r h g = absurd cc
+release_on_its_way (Mutex own (Unlock at)) l r h g = rw g (same l)
+release_on_its_way (Mutex own UnlockFair) l r h g = absurd cc
+release_on_its_way (Mutex own Bump) l r h g = absurd cc
+release_on_its_way (Mutex own (HandOff true at)) l r h g = rw g.0 (same l)
+release_on_its_way (Mutex own (HandOff false at)) l r h g = rw g (same l)
 
 -- who is shown to try again does
 lock_shown : (own : ℕ) (retries : Bool) (l : ℕ) → ((retries && (own == l)) ≡ true) ↔ ((if retries then Some own else None) ≡ Some l)
@@ -140,29 +179,35 @@ lock_shown own false l = ((λ h. absurd cc), λ h. absurd cc)
 
 retry_shown : (p : Place) (l : ℕ) (r : ℕ → Rights) → (retries_on p l ≡ true) ↔ ((call_state p r).retries ≡ Some l)
 retry_shown Idle l r = ((λ h. absurd cc), λ h. absurd cc)
-retry_shown (Mutex own (Lock timed retries at)) l r = lock_shown own retries l
+retry_shown (Mutex own (Lock entry retries at)) l r = lock_shown own retries l
 retry_shown (Mutex own TryLock) l r = ((λ h. absurd cc), λ h. absurd cc)
 retry_shown (Mutex own (Unlock at)) l r = ((λ h. absurd cc), λ h. absurd cc)
+retry_shown (Mutex own UnlockFair) l r = ((λ h. absurd cc), λ h. absurd cc)
+retry_shown (Mutex own Bump) l r = ((λ h. absurd cc), λ h. absurd cc)
+retry_shown (Mutex own (HandOff bumps at)) l r = ((λ h. absurd cc), λ h. absurd cc)
 
 -- and stands in no queue, nor is it asleep
 asleep_no : (l : ℕ) (retries : Bool) (k : ℕ) → (if retries && false then Some l else None) ≡ Some k → ⊥
 asleep_no l true k h = cc
 asleep_no l false k h = cc
 
-lock_unqueued : (l : ℕ) (timed retries : Bool) (a : LockAt) (k : ℕ) → tries_again (Mutex l (Lock timed retries a)) ≡ Some k → queued (Mutex l (Lock timed retries a)) ≡ None
-lock_unqueued l timed retries (Leave true) k h = absurd (asleep_no l retries k h)
-lock_unqueued l timed retries (Leave false) k h = refl
-lock_unqueued l timed retries Asleep k h = absurd (asleep_no l retries k h)
-lock_unqueued l timed retries Remove k h = absurd (asleep_no l retries k h)
-lock_unqueued l timed retries First k h = refl
-lock_unqueued l timed retries a k h = refl
+lock_unqueued : (l : ℕ) (entry : Entry) (retries : Bool) (a : LockAt) (k : ℕ) → tries_again (Mutex l (Lock entry retries a)) ≡ Some k → queued (Mutex l (Lock entry retries a)) ≡ None
+lock_unqueued l entry retries (Leave true) k h = absurd (asleep_no l retries k h)
+lock_unqueued l entry retries (Leave false) k h = refl
+lock_unqueued l entry retries Asleep k h = absurd (asleep_no l retries k h)
+lock_unqueued l entry retries Remove k h = absurd (asleep_no l retries k h)
+lock_unqueued l entry retries First k h = refl
+lock_unqueued l entry retries a k h = refl
 
 debtor_unqueued : (p : Place) (k : ℕ) → Debtor p k → queued p ≡ None
 debtor_unqueued Idle k d = refl
-debtor_unqueued (Mutex l (Lock timed retries a)) k (inl h) = absurd cc
-debtor_unqueued (Mutex l (Lock timed retries a)) k (inr h) = lock_unqueued l timed retries a k h
+debtor_unqueued (Mutex l (Lock entry retries a)) k (inl h) = absurd cc
+debtor_unqueued (Mutex l (Lock entry retries a)) k (inr h) = lock_unqueued l entry retries a k h
 debtor_unqueued (Mutex l TryLock) k d = refl
 debtor_unqueued (Mutex l (Unlock a)) k d = refl
+debtor_unqueued (Mutex l UnlockFair) k d = refl
+debtor_unqueued (Mutex l Bump) k d = refl
+debtor_unqueued (Mutex l (HandOff bumps a)) k d = refl
 
 decided_awake : (l seen : ℕ) (is_owned is_one : Bool)
     → (if not is_owned then act.TheVariants.Word l (op.TheVariants.Exchange seen (seen + 1)) else if is_one then act.TheVariants.Word l (op.TheVariants.Exchange 1 3) else act.TheVariants.Enter (One (2 * l))) ≢ Sleep
@@ -170,17 +215,19 @@ decided_awake l seen false is_one e = cc
 decided_awake l seen true true e = cc
 decided_awake l seen true false e = cc
 
-lock_awake : (l : ℕ) (timed retries : Bool) (a : LockAt) (k : ℕ) → tries_again (Mutex l (Lock timed retries a)) ≡ Some k → lock_act l a ≢ Sleep
-lock_awake l timed retries First k h e = cc
-lock_awake l timed retries Load k h e = cc
-lock_awake l timed retries (Decide seen) k h e = decided_awake l seen (is_locked seen) (seen == 1) e
-lock_awake l timed retries Check k h e = cc
-lock_awake l timed retries (Leave parked) k h e = cc
-lock_awake l timed retries Asleep k h e = asleep_no l retries k h
-lock_awake l timed retries (Taken by) k h e = asleep_no l retries k h
-lock_awake l timed retries Remove k h e = cc
-lock_awake l timed retries Clear k h e = cc
-lock_awake l timed retries GiveUp k h e = cc
+lock_awake : (l : ℕ) (entry : Entry) (retries : Bool) (a : LockAt) (k : ℕ) → tries_again (Mutex l (Lock entry retries a)) ≡ Some k → lock_act l a ≢ Sleep
+lock_awake l entry retries First k h e = cc
+lock_awake l entry retries Load k h e = cc
+lock_awake l entry retries (Decide seen) k h e = decided_awake l seen (is_locked seen) (seen == 1) e
+lock_awake l entry retries Check k h e = cc
+lock_awake l entry retries (Leave parked) k h e = cc
+lock_awake l entry retries Asleep k h e = asleep_no l retries k h
+lock_awake l entry retries (Taken by) k h e = asleep_no l retries k h
+lock_awake l entry retries (Handed by) k h e = asleep_no l retries k h
+lock_awake l entry retries Accept k h e = cc
+lock_awake l entry retries Remove k h e = cc
+lock_awake l entry retries Clear k h e = cc
+lock_awake l entry retries GiveUp k h e = cc
 
 unlock_awake : (l : ℕ) (a : UnlockAt) → unlock_act l a ≢ Sleep
 unlock_awake l unlock.Subtract e = cc
@@ -189,21 +236,35 @@ unlock_awake l unlock.Take e = cc
 unlock_awake l (unlock.Clear taken) e = cc
 unlock_awake l (unlock.Leave taken) e = cc
 
+hand_off_awake : (l : ℕ) (a : HandOffAt) → hand_off_act l a ≢ Sleep
+hand_off_awake l hand_off.Enter e = cc
+hand_off_awake l hand_off.Take e = cc
+hand_off_awake l (hand_off.Store None none_left) e = cc
+hand_off_awake l (hand_off.Store (Some u) none_left) e = cc
+hand_off_awake l (hand_off.Leave None) e = cc
+hand_off_awake l (hand_off.Leave (Some u)) e = cc
+
 debtor_awake : (p : Place) (k : ℕ) → Debtor p k → act_of p ≢ Sleep
 debtor_awake Idle k d e = cc
-debtor_awake (Mutex l (Lock timed retries a)) k (inl h) e = cc
-debtor_awake (Mutex l (Lock timed retries a)) k (inr h) e = lock_awake l timed retries a k h e
+debtor_awake (Mutex l (Lock entry retries a)) k (inl h) e = cc
+debtor_awake (Mutex l (Lock entry retries a)) k (inr h) e = lock_awake l entry retries a k h e
 debtor_awake (Mutex l TryLock) k d e = cc
 debtor_awake (Mutex l (Unlock a)) k d e = unlock_awake l a e
+debtor_awake (Mutex l UnlockFair) k d e = cc
+debtor_awake (Mutex l Bump) k d e = cc
+debtor_awake (Mutex l (HandOff bumps a)) k d e = hand_off_awake l a e
 
 -- and it isn't taken
 untaken : (p : Place) (l : ℕ) → act_of p ≢ Sleep → taken_at p l ≡ None
 untaken Idle l up = refl
-untaken (Mutex k (Lock timed retries (Taken by))) l up = absurd (up refl)
-untaken (Mutex k (Lock timed retries First)) l up = refl
-untaken (Mutex k (Lock timed retries a)) l up = refl
+untaken (Mutex k (Lock entry retries (Taken by))) l up = absurd (up refl)
+untaken (Mutex k (Lock entry retries First)) l up = refl
+untaken (Mutex k (Lock entry retries a)) l up = refl
 untaken (Mutex k TryLock) l up = refl
 untaken (Mutex k (Unlock a)) l up = refl
+untaken (Mutex k UnlockFair) l up = refl
+untaken (Mutex k Bump) l up = refl
+untaken (Mutex k (HandOff bumps a)) l up = refl
 
 parked_word : (v : ℕ) (o : Option ℕ) → Codes v o → 2 ≤ v → is_parked v ≡ true
 parked_word v None (inl e) h = absurd (omega arith)
@@ -212,8 +273,19 @@ parked_word v (Some u) (inl e) h = absurd (omega arith)
 parked_word v (Some u) (inr e) h = rw e refl
 
 -- a call waits for one lock
-one_purpose : {o : Option Purpose} (l k : ℕ) → (timed : Bool) × (o ≡ Some (Enters l Exclusive (patience_of timed))) → (timed : Bool) × (o ≡ Some (Enters k Exclusive (patience_of timed))) → l ≡ k
-one_purpose l k h g = let e : Some (Enters l Exclusive (patience_of h.0)) ≡ Some (Enters k Exclusive (patience_of g.0)) = sym h.1 ∙ g.1 in cc
+one_purpose : (o : Option Purpose) (l k : ℕ) → MayWait o l → MayWait o k → l ≡ k
+one_purpose (Some (Enters j x how)) l k h g = sym h.0 ∙ g.0
+one_purpose (Some (Converts j x y how)) l k h g = sym h.0 ∙ g.0
+one_purpose (Some (Bumps j x)) l k h g = sym h ∙ g
+one_purpose o l k h g = absurd h
+
+-- a thread that has handed a lock over wakes the new owner next
+tells : (p : Place) (u l : ℕ) → Carries p u (handed_over l) → (act_of p ≡ act.TheVariants.Leave (One (2 * l)) (wakes.TheVariants.One u note.HandOff)) × (inside p ≡ Some l)
+tells (Mutex k (HandOff bumps (hand_off.Leave (Some v)))) u l h = let e : k ≡ l = ap (λ (x : Taking). x.lock) h.1 in rw (h.0, e) (refl, refl)
+tells (Mutex k (Unlock (unlock.Clear (Some v)))) u l h = absurd (let g : false ≡ true = ap (λ (x : Taking). x.handed) h.1 in cc)
+tells (Mutex k (Unlock (unlock.Leave (Some v)))) u l h = absurd (let g : false ≡ true = ap (λ (x : Taking). x.handed) h.1 in cc)
+tells (Mutex k (HandOff bumps (hand_off.Store (Some v) none_left))) u l h = absurd (let g : false ≡ true = ap (λ (x : Taking). x.handed) h.1 in cc)
+tells p u l h = absurd h
 
 module _ (w : State) (sound : IsSound w) (only : OnlyMutexes w) (all : AreLockStates (locks_of w)) where
   waiting : (t l : ℕ) → WaitsFor w t l → queued (place_at w t) ≡ Some l
@@ -235,18 +307,52 @@ module _ (w : State) (sound : IsSound w) (only : OnlyMutexes w) (all : AreLockSt
   owes_by t l (inl h) = inside_owes (place_at w t) l ((sound.sections t l).1 h)
   owes_by t l (inr h) = release_on_its_way (place_at w t) l (λ k. rights_of (lock_state w k) t) h.0 h.1
 
-  waits : (t l : ℕ) → 1 ≤ standing t (lock_state w l) → (timed : Bool) × (((locks_of w).calls t).purpose ≡ Some (Enters l Exclusive (patience_of timed)))
+  waits : (t l : ℕ) → 1 ≤ standing t (lock_state w l) → MayWait ((locks_of w).calls t).purpose l
   waits t l h = waits_by (place_at w t) l (λ k. rights_of (lock_state w k) t) (subst (λ n. 1 ≤ n) (stands_by w t sound only l) h)
+
+  module _ (t : ℕ) (nowhere : (l : ℕ) → standing t (lock_state w l) ≡ 0) where
+    unlisted : (l : ℕ) → one_if (queued (place_at w t)) l + one_if_some (taken_at (place_at w t) l) ≡ 0
+    unlisted l = sym (stands_by w t sound only l) ∙ nowhere l
+
+    handed_to : (l : ℕ) (entry : Entry) (retries : Bool) (by : ℕ) → place_at w t ≡ Mutex l (Lock entry retries (Handed by)) → IsHandedOver w t
+    handed_to l entry retries by is =
+        let told = tells (place_at w by) t l (sound.taken t by (handed_over l) (rw is (refl, refl))) in
+        record { lock = l; by = by; owner = sound.held t l (ap holds is); inside = (sound.sections by l).0 told.1; wakes = told.0 }
+
+    lock_handed : (l : ℕ) (entry : Entry) (retries : Bool) (a : LockAt) → place_at w t ≡ Mutex l (Lock entry retries a) → lock_act l a ≡ Sleep → IsHandedOver w t
+    lock_handed l entry retries Asleep is sleeps = absurd (let n : one_if (Some l) l + 0 ≡ 0 = rw is at (unlisted l) in let m : one_if (Some l) l ≡ 1 = ap (λ b. if b then 1 else 0) (same l) in omega arith)
+    lock_handed l entry retries (Taken by) is sleeps = absurd (let n : 0 + one_if_some (if l == l then Some (taken_for by) else None) ≡ 0 = rw is at (unlisted l) in
+        let m : one_if_some (if l == l then Some (taken_for by) else None) ≡ 1 = ap (λ b. one_if_some (if b then Some (taken_for by) else None)) (same l) in omega arith)
+    lock_handed l entry retries (Handed by) is sleeps = handed_to l entry retries by is
+    lock_handed l entry retries First is sleeps = absurd cc
+    lock_handed l entry retries Load is sleeps = absurd cc
+    lock_handed l entry retries (Decide seen) is sleeps = absurd (decided_awake l seen (is_locked seen) (seen == 1) sleeps)
+    lock_handed l entry retries Check is sleeps = absurd cc
+    lock_handed l entry retries (Leave parked) is sleeps = absurd cc
+    lock_handed l entry retries Accept is sleeps = absurd cc
+    lock_handed l entry retries Remove is sleeps = absurd cc
+    lock_handed l entry retries Clear is sleeps = absurd cc
+    lock_handed l entry retries GiveUp is sleeps = absurd cc
+
+    handed_over_at : (p : Place) → place_at w t ≡ p → act_of p ≡ Sleep → IsHandedOver w t
+    handed_over_at Idle is sleeps = absurd cc
+    handed_over_at (Mutex l (Lock entry retries a)) is sleeps = lock_handed l entry retries a is sleeps
+    handed_over_at (Mutex l TryLock) is sleeps = absurd cc
+    handed_over_at (Mutex l (Unlock a)) is sleeps = absurd (unlock_awake l a sleeps)
+    handed_over_at (Mutex l UnlockFair) is sleeps = absurd cc
+    handed_over_at (Mutex l Bump) is sleeps = absurd cc
+    handed_over_at (Mutex l (HandOff bumps a)) is sleeps = absurd (hand_off_awake l a sleeps)
 
   pub kept : IsKept w
   kept = record {
     state = all;
-    one_place = λ t l k h g. one_purpose l k (waits t l h) (waits t k g);
+    one_place = λ t l k h g. one_purpose ((locks_of w).calls t).purpose l k (waits t l h) (waits t k g);
     waiting = waits;
     coded = sound.codes;
     nobody_forgotten = λ t l h free. debtor l (sound.owed t l (waiting t l h) free);
     owing = λ t l. ((λ h. owes_so t l (owes_means (place_at w t) l (λ k. rights_of (lock_state w k) t) h)), λ h. owes_by t l h);
     retrying = λ t l. retry_shown (place_at w t) l (λ k. rights_of (lock_state w k) t);
+    handing = λ t h. handed_over_at t h.1 (place_at w t) refl h.0;
     parked = λ t l h. parked_word (word_at w l) (owner_at w l) (sound.codes l) (sound.parked t l (waiting t l h));
   }
 

@@ -5,7 +5,7 @@ use Rattle.std.proofs.lemmas.Bool.Decides.{nat_tests}
 use Rattle.parking_lot_core.specs.declared.wants.Waiter.{Waiter}
 use Rattle.parking_lot_core.specs.Lines.{times}
 use Rattle.lot_steps.specs.declared.places.Place.{Place}
-use Rattle.lot_world.specs.Sound.{Sound, Nobody, IsTakenBy, Carries, Debtor, one_if, inside, queued, holds, finds_empty}
+use Rattle.lot_world.specs.Sound.{Sound, Nobody, Taking, IsTakenBy, Carries, Debtor, one_if, inside, queued, holds, finds_empty}
 use Rattle.lot_world.proofs.Keeps.{Changed}
 
 one_if_same : (k : ℕ) → one_if (Some k) k ≡ 1
@@ -22,9 +22,9 @@ nobody_counted at q l counts none s h =
 module _ (at at2 : ℕ → Place) (word : ℕ → ℕ) (owner : ℕ → Option ℕ) (sec sec2 : ℕ → Option ℕ) (q : ℕ → List Waiter)
     (sound : Sound at word owner sec q) (t l : ℕ) (p2 : Place)
     (place : Changed at at2 t p2) (section : Changed sec sec2 l (Some t)) (free : sec l ≡ None)
-    (in_now : inside p2 ≡ Some l) (out_before : inside (at t) ≡ None) (queued_stays : queued p2 ≡ queued (at t)) (no_hold : holds p2 ≡ None) (no_empty : finds_empty p2 ≡ None)
-    (debts : (k : ℕ) → Debtor (at t) k → Debtor p2 k) (no_carry : (u k : ℕ) → Carries (at t) u k → ⊥) (no_carry_now : (u k : ℕ) → Carries p2 u k → ⊥)
-    (no_hand : (s k : ℕ) → IsTakenBy (at t) s k → ⊥) (no_hand_now : (s k : ℕ) → IsTakenBy p2 s k → ⊥) where
+    (in_now : inside p2 ≡ Some l) (out_before : inside (at t) ≡ None) (queued_stays : queued p2 ≡ queued (at t)) (hold_stays : holds p2 ≡ holds (at t)) (no_empty : finds_empty p2 ≡ None)
+    (debts : (k : ℕ) → Debtor (at t) k → Debtor p2 k) (no_carry : (u : ℕ) (k : Taking) → Carries (at t) u k → ⊥) (no_carry_now : (u : ℕ) (k : Taking) → Carries p2 u k → ⊥)
+    (no_hand : (s : ℕ) (k : Taking) → IsTakenBy (at t) s k → ⊥) (no_hand_now : (s : ℕ) (k : Taking) → IsTakenBy p2 s k → ⊥) where
   queued_same : (u : ℕ) → queued (at2 u) ≡ queued (at u)
   queued_same u = elim (cases_eq u t) [
     | inl e ↦ rw e (ap queued place.here ∙ queued_stays)
@@ -50,7 +50,7 @@ module _ (at at2 : ℕ → Place) (word : ℕ → ℕ) (owner : ℕ → Option �
     codes = sound.codes;
     parked = λ u k h. sound.parked u k (sym (queued_same u) ∙ h);
     held = λ u k h. elim (cases_eq u t) [
-      | inl e ↦ absurd (let f : holds (at2 u) ≡ holds p2 = rw e (ap holds place.here) in cc)
+      | inl e ↦ let f : holds (at2 u) ≡ holds p2 = rw e (ap holds place.here) in rw e (sound.held t k (sym hold_stays ∙ sym f ∙ h))
       | inr ne ↦ sound.held u k (sym (ap holds (place.other u ne)) ∙ h)
     ];
     emptied = λ u k h. elim (cases_eq u t) [
@@ -88,8 +88,8 @@ module _ (at at2 : ℕ → Place) (word : ℕ → ℕ) (owner : ℕ → Option �
     (sound : Sound at word owner sec q) (t l : ℕ) (p2 : Place)
     (place : Changed at at2 t p2) (section : Changed sec sec2 l None)
     (in_before : inside (at t) ≡ Some l) (out_now : inside p2 ≡ None) (queued_stays : queued p2 ≡ queued (at t)) (no_hold : holds p2 ≡ None) (no_empty : finds_empty p2 ≡ None)
-    (debts : (k : ℕ) → Debtor (at t) k → Debtor p2 k ⊎ Nobody at k) (no_carry : (u k : ℕ) → Carries (at t) u k → ⊥) (no_carry_now : (u k : ℕ) → Carries p2 u k → ⊥)
-    (no_hand : (s k : ℕ) → IsTakenBy (at t) s k → ⊥) (no_hand_now : (s k : ℕ) → IsTakenBy p2 s k → ⊥) where
+    (debts : (k : ℕ) → Debtor (at t) k → Debtor p2 k ⊎ Nobody at k) (no_carry : (u : ℕ) (k : Taking) → Carries (at t) u k → ⊥) (no_carry_now : (u : ℕ) (k : Taking) → Carries p2 u k → ⊥)
+    (no_hand : (s : ℕ) (k : Taking) → IsTakenBy (at t) s k → ⊥) (no_hand_now : (s : ℕ) (k : Taking) → IsTakenBy p2 s k → ⊥) where
   left_queued : (u : ℕ) → queued (at2 u) ≡ queued (at u)
   left_queued u = elim (cases_eq u t) [
     | inl e ↦ rw e (ap queued place.here ∙ queued_stays)
@@ -150,16 +150,16 @@ module _ (at at2 : ℕ → Place) (word : ℕ → ℕ) (owner : ℕ → Option �
         ];
   }
 
--- a step of t out of the section of l, which wakes v, the one in its hand
+-- a step of t out of the section of l, which wakes v, whom it has taken
 module _ (at at2 : ℕ → Place) (word : ℕ → ℕ) (owner : ℕ → Option ℕ) (sec sec2 : ℕ → Option ℕ) (q : ℕ → List Waiter)
     (sound : Sound at word owner sec q) (t l v : ℕ) (p2 v2 : Place) (apart : v ≢ t)
     (here : at2 t ≡ p2) (there : at2 v ≡ v2) (other : (u : ℕ) → u ≢ t → u ≢ v → at2 u ≡ at u) (section : Changed sec sec2 l None)
     (in_before : inside (at t) ≡ Some l) (out_now : inside p2 ≡ None) (queued_stays : queued p2 ≡ queued (at t)) (no_hold : holds p2 ≡ None) (no_empty : finds_empty p2 ≡ None)
-    (own : (k : ℕ) → Debtor (at t) k → k ≡ l) (only : (u k : ℕ) → Carries (at t) u k → u ≡ v) (no_carry_now : (u k : ℕ) → Carries p2 u k → ⊥)
-    (no_hand : (s k : ℕ) → IsTakenBy (at t) s k → ⊥) (no_hand_now : (s k : ℕ) → IsTakenBy p2 s k → ⊥)
-    (v_inside : inside v2 ≡ inside (at v)) (v_queued : queued v2 ≡ queued (at v)) (v_holds : holds v2 ≡ None) (v_empty : finds_empty v2 ≡ None)
-    (v_carries : (u k : ℕ) → Carries v2 u k → ⊥) (v_carried : (u k : ℕ) → Carries (at v) u k → ⊥) (v_hand : (s k : ℕ) → IsTakenBy v2 s k → ⊥) (v_mine : (s k : ℕ) → IsTakenBy (at v) s k → s ≡ t)
-    (v_debts : (k : ℕ) → Debtor (at v) k → Debtor v2 k) (v_retries : Debtor v2 l) where
+    (own : (k : ℕ) → Debtor (at t) k → (k ≡ l) × Debtor v2 l) (only : (u : ℕ) (k : Taking) → Carries (at t) u k → u ≡ v) (no_carry_now : (u : ℕ) (k : Taking) → Carries p2 u k → ⊥)
+    (no_hand : (s : ℕ) (k : Taking) → IsTakenBy (at t) s k → ⊥) (no_hand_now : (s : ℕ) (k : Taking) → IsTakenBy p2 s k → ⊥)
+    (v_inside : inside v2 ≡ inside (at v)) (v_queued : queued v2 ≡ queued (at v)) (v_holds : holds v2 ≡ holds (at v)) (v_empty : finds_empty v2 ≡ None)
+    (v_carries : (u : ℕ) (k : Taking) → Carries v2 u k → ⊥) (v_carried : (u : ℕ) (k : Taking) → Carries (at v) u k → ⊥) (v_hand : (s : ℕ) (k : Taking) → IsTakenBy v2 s k → ⊥) (v_mine : (s : ℕ) (k : Taking) → IsTakenBy (at v) s k → s ≡ t)
+    (v_debts : (k : ℕ) → Debtor (at v) k → Debtor v2 k) where
   wakes_queued : (u : ℕ) → queued (at2 u) ≡ queued (at u)
   wakes_queued u = elim (cases_eq u t) [
     | inl e ↦ rw e (ap queued here ∙ queued_stays)
@@ -196,7 +196,7 @@ module _ (at at2 : ℕ → Place) (word : ℕ → ℕ) (owner : ℕ → Option �
     held = λ u k h. elim (cases_eq u t) [
       | inl e ↦ absurd (let f : holds (at2 u) ≡ holds p2 = rw e (ap holds here) in cc)
       | inr ne ↦ elim (cases_eq u v) [
-        | inl e ↦ absurd (let f : holds (at2 u) ≡ holds v2 = rw e (ap holds there) in cc)
+        | inl e ↦ let f : holds (at2 u) ≡ holds v2 = rw e (ap holds there) in rw e (sound.held v k (sym v_holds ∙ sym f ∙ h))
         | inr nv ↦ sound.held u k (sym (ap holds (other u ne nv)) ∙ h)
       ]
     ];
@@ -239,7 +239,7 @@ module _ (at at2 : ℕ → Place) (word : ℕ → ℕ) (owner : ℕ → Option �
         let was : queued (at u) ≡ Some k = sym (wakes_queued u) ∙ h in
         let d : (x : ℕ) × Debtor (at x) k = sound.owed u k was free_k in
         elim (cases_eq d.0 t) [
-          | inl e ↦ (v, let same : k ≡ l = own k (rw e at d.1) in rw (there, same) v_retries)
+          | inl e ↦ (v, let same : (k ≡ l) × Debtor v2 l = own k (rw e at d.1) in rw (there, same.0) same.1)
           | inr nd ↦ (
             d.0,
             elim (cases_eq d.0 v) [

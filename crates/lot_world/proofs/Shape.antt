@@ -11,12 +11,12 @@ use Rattle.parking_lot_core.specs.declared.wants.Waiter.{Waiter}
 use Rattle.parking_lot_core.specs.declared.wants.Want.{Want}
 use Rattle.parking_lot_core.specs.Lines.{waiter, without, first_of}
 use Rattle.lot_steps.specs.declared.acts.Act.{Act}
-use Rattle.lot_steps.specs.declared.acts.Act.TheVariants.{Word, Enter, Park, TakeFirst, Remove, Leave}
+use Rattle.lot_steps.specs.declared.acts.Act.TheVariants.{Word, HandOver, Enter, Park, TakeFirst, Remove, Leave}
 use Rattle.lot_steps.specs.declared.acts.Check.{Check}
 use Rattle.lot_steps.specs.declared.acts.Wakes.{Wakes}
 use Rattle.lot_steps.specs.declared.acts.Wakes as wakes
 use Rattle.lot_steps.specs.declared.acts.Reply.{Reply}
-use Rattle.lot_steps.specs.declared.acts.Reply.TheVariants.{Done, Value, Spun, Took, TakenBy, Late, Woken}
+use Rattle.lot_steps.specs.declared.acts.Reply.TheVariants.{Done, Value, Spun, Took, TakenBy, HandedBy, Late, Woken}
 use Rattle.lot_steps.specs.declared.acts.Next.{Next}
 use Rattle.lot_steps.specs.declared.acts.Next as next
 use Rattle.lot_steps.specs.declared.calls.Answer as answer
@@ -30,15 +30,19 @@ use Rattle.lot_steps.specs.declared.places.Place.{Place}
 use Rattle.lot_steps.specs.declared.places.Place.TheVariants.{Idle, Mutex}
 use Rattle.lot_steps.specs.declared.mutex.MutexCall.{MutexCall}
 use Rattle.lot_steps.specs.declared.mutex.MutexCall as mutex_call
+use Rattle.lot_steps.specs.declared.mutex.Entry.{Entry}
 use Rattle.lot_steps.specs.declared.mutex.MutexPlace.{MutexPlace}
-use Rattle.lot_steps.specs.declared.mutex.MutexPlace.TheVariants.{Lock, TryLock, Unlock}
+use Rattle.lot_steps.specs.declared.mutex.MutexPlace.TheVariants.{Lock, TryLock, Unlock, UnlockFair, Bump, HandOff}
 use Rattle.lot_steps.specs.declared.mutex.LockAt.{LockAt}
 use Rattle.lot_steps.specs.declared.mutex.UnlockAt.{UnlockAt}
 use Rattle.lot_steps.specs.declared.mutex.UnlockAt as unlock
+use Rattle.lot_steps.specs.declared.mutex.HandOffAt.{HandOffAt}
+use Rattle.lot_steps.specs.declared.mutex.HandOffAt.TheVariants as hand_off
 use Rattle.lot_steps.specs.Acts.{holds}
-use Rattle.lot_steps.specs.MutexSteps.{is_locked, is_parked, mutex_first, lock_next, still_retries, unlock_next, try_next, in_lock, in_unlock, mutex_next}
+use Rattle.lot_steps.specs.Kinds.{is_fair}
+use Rattle.lot_steps.specs.MutexSteps.{is_locked, is_parked, mutex_first, lock_next, still_retries, unlock_next, hand_off_next, looked, unlock_fair_next, bump_next, try_next, in_lock, in_unlock, in_hand_off, mutex_next}
 use Rattle.lot_steps.specs.Steps.{is_idle, lock_in, first_place, act_of, next_place, mutex_goes, spin_lock, late_key}
-use Rattle.lot_world.specs.Machine.{State, unlocked, opening, word_at, place_at, queue_at, put, operated, filled_with, appended, first_taken, removed, parked, befallen, taken_by, took, awakened, performed, gone, go_reply, reply_to, begun, can_begin, is_open_to, spun, spun_on, lated, late_on, turned, can_turn, is_possible, after}
+use Rattle.lot_world.specs.Machine.{State, unlocked, opening, kind_at, word_at, place_at, queue_at, put, operated, filled_with, appended, first_taken, removed, parked, befallen, taken_by, took, awakened, performed, gone, go_reply, reply_to, begun, can_begin, is_open_to, spun, spun_on, lated, late_on, turned, can_turn, is_possible, after}
 use Rattle.lot_world.specs.Fits.{SomeBelow, taken_in, PlaceFits, AllBelow, IsShaped, SameSize}
 
 -- what holds of all elements holds of them after one is set
@@ -88,9 +92,9 @@ abbrev pub NextFits : ℕ → Next MutexPlace → Type 0
 NextFits threads (next.TheVariants.At at) = SomeBelow threads (taken_in at)
 NextFits threads (next.TheVariants.End answer) = Unit {0}
 
-lock_fits : (threads : ℕ) (timed retries : Bool) (n : Next LockAt) → NextFits threads (in_lock timed retries n)
-lock_fits threads timed retries (next.TheVariants.At at) = tt
-lock_fits threads timed retries (next.TheVariants.End answer) = tt
+lock_fits : (threads : ℕ) (entry : Entry) (retries : Bool) (n : Next LockAt) → NextFits threads (in_lock entry retries n)
+lock_fits threads entry retries (next.TheVariants.At at) = tt
+lock_fits threads entry retries (next.TheVariants.End answer) = tt
 
 try_fits : (threads : ℕ) (reply : Reply) → NextFits threads (try_next reply)
 try_fits threads (Value seen) = either (is_locked seen)
@@ -116,24 +120,50 @@ unlock_fits threads (unlock.TheVariants.Clear taken) (Value seen) h r = h
 unlock_fits threads (unlock.TheVariants.Leave taken) Done h r = tt
 unlock_fits threads at reply h r = h
 
+looked_fits : (threads : ℕ) (bumps saw_waiters : Bool) → NextFits threads (looked bumps saw_waiters)
+looked_fits threads bumps true = tt
+looked_fits threads bumps false = tt
+
+unlock_fair_fits : (threads : ℕ) (reply : Reply) → NextFits threads (unlock_fair_next reply)
+unlock_fair_fits threads (Value seen) = looked_fits threads false (not (seen == 1))
+unlock_fair_fits threads reply = tt
+
+bump_fits : (threads : ℕ) (reply : Reply) → NextFits threads (bump_next reply)
+bump_fits threads (Value seen) = looked_fits threads true (is_parked seen)
+bump_fits threads reply = tt
+
+hand_off_fits : (threads : ℕ) (bumps : Bool) (at : HandOffAt) (reply : Reply) → SomeBelow threads (taken_in (HandOff bumps at)) → ReplyFits threads reply → NextFits threads (in_hand_off bumps (hand_off_next at reply))
+hand_off_fits threads bumps hand_off.Take (Took first none_left) h r = r
+hand_off_fits threads bumps hand_off.Enter Done h r = tt
+hand_off_fits threads bumps (hand_off.Store taken none_left) (Value seen) h r = h
+hand_off_fits threads true (hand_off.Leave taken) Done h r = tt
+hand_off_fits threads false (hand_off.Leave taken) Done h r = tt
+hand_off_fits threads bumps at reply h r = h
+
 goes_fits : (threads locks l : ℕ) (n : Next MutexPlace) → l < locks → NextFits threads n → PlaceFits threads locks (mutex_goes l n)
 goes_fits threads locks l (next.TheVariants.At at) lt h = (lt, h)
 goes_fits threads locks l (next.TheVariants.End answer) lt h = tt
 
 pub next_fits : (threads locks : ℕ) (p : Place) (reply : Reply) → PlaceFits threads locks p → ReplyFits threads reply → PlaceFits threads locks (next_place p reply)
 next_fits threads locks Idle reply h r = tt
-next_fits threads locks (Mutex l (Lock timed retries at)) reply h r = goes_fits threads locks l (mutex_next (Lock timed retries at) reply) h.0 (lock_fits threads timed (still_retries retries reply) (lock_next timed at reply))
+next_fits threads locks (Mutex l (Lock entry retries at)) reply h r = goes_fits threads locks l (mutex_next (Lock entry retries at) reply) h.0 (lock_fits threads entry (still_retries retries reply) (lock_next entry at reply))
 next_fits threads locks (Mutex l TryLock) reply h r = goes_fits threads locks l (mutex_next TryLock reply) h.0 (try_fits threads reply)
 next_fits threads locks (Mutex l (Unlock at)) reply h r = goes_fits threads locks l (mutex_next (Unlock at) reply) h.0 (unlock_fits threads at reply h.1 r)
+next_fits threads locks (Mutex l UnlockFair) reply h r = goes_fits threads locks l (mutex_next UnlockFair reply) h.0 (unlock_fair_fits threads reply)
+next_fits threads locks (Mutex l Bump) reply h r = goes_fits threads locks l (mutex_next Bump reply) h.0 (bump_fits threads reply)
+next_fits threads locks (Mutex l (HandOff bumps at)) reply h r = goes_fits threads locks l (mutex_next (HandOff bumps at) reply) h.0 (hand_off_fits threads bumps at reply h.1 r)
 
-first_fits : (threads locks l : ℕ) (c : MutexCall) → l < locks → PlaceFits threads locks (Mutex l (mutex_first c))
-first_fits threads locks l mutex_call.TheVariants.Lock h = (h, tt)
-first_fits threads locks l mutex_call.TheVariants.LockTimed h = (h, tt)
-first_fits threads locks l mutex_call.TheVariants.TryLock h = (h, tt)
-first_fits threads locks l mutex_call.TheVariants.Unlock h = (h, tt)
+first_fits : (threads locks l : ℕ) (fair : Bool) (c : MutexCall) → l < locks → PlaceFits threads locks (Mutex l (mutex_first fair c))
+first_fits threads locks l fair mutex_call.TheVariants.Lock h = (h, tt)
+first_fits threads locks l fair mutex_call.TheVariants.LockTimed h = (h, tt)
+first_fits threads locks l fair mutex_call.TheVariants.TryLock h = (h, tt)
+first_fits threads locks l true mutex_call.TheVariants.Unlock h = (h, tt)
+first_fits threads locks l false mutex_call.TheVariants.Unlock h = (h, tt)
+first_fits threads locks l fair mutex_call.TheVariants.UnlockFair h = (h, tt)
+first_fits threads locks l fair mutex_call.TheVariants.Bump h = (h, tt)
 
-call_fits : (threads locks : ℕ) (c : Call) → lock_in c < locks → PlaceFits threads locks (first_place c)
-call_fits threads locks (call.TheVariants.Mutex l c) h = first_fits threads locks l c h
+call_fits : (threads locks : ℕ) (kind : Kind) (c : Call) → lock_in c < locks → PlaceFits threads locks (first_place kind c)
+call_fits threads locks kind (call.TheVariants.Mutex l c) h = first_fits threads locks l (is_fair kind) c h
 
 -- ---------------------------------------------------------------- states
 
@@ -208,6 +238,7 @@ awakened_shaped w (wakes.TheVariants.One u note) s = befallen_shaped w u (Woken 
 
 performed_shaped : (w : State) (t : ℕ) (p : Place) (act : Act) → IsShaped w → t < length w.places → IsShaped (performed w t p act)
 performed_shaped w t p (Word l f) s lt = operated_shaped w t p l f s
+performed_shaped w t p (HandOver l f u) s lt = befallen_shaped (operated w t p l f) u (HandedBy t) (operated_shaped w t p l f s) tt
 performed_shaped w t p (Enter keys) s lt = filled_shaped w keys (Some t) s
 performed_shaped w t p (Park l key check wanted) s lt = parked_shaped w t l key check wanted s lt
 performed_shaped w t p (TakeFirst key) s lt = took_shaped w t key s
@@ -222,6 +253,7 @@ filled_counts w (Two first second) who = (refl, refl)
 
 performed_counts : (w : State) (t : ℕ) (p : Place) (act : Act) → (length (performed w t p act).places ≡ length w.places) × (length (performed w t p act).locks ≡ length w.locks)
 performed_counts w t p (Word l f) = (refl, length-set w.locks l _)
+performed_counts w t p (HandOver l f u) = (length-set w.places u _, length-set w.locks l _)
 performed_counts w t p (Enter keys) = filled_counts w keys (Some t)
 performed_counts w t p (Park l key check wanted) = either (holds check (word_at w l))
   where
@@ -256,7 +288,7 @@ begun_shaped : (w : State) (t : ℕ) (c : Call) → IsShaped w → can_begin w t
 begun_shaped w t c s can =
     let open_to = both (is_idle (place_at w t)) (is_open_to w t c) can in
     let there = both (nat_lt (lock_in c) (length w.locks)) _ open_to.1 in
-    put_shaped w t (first_place c) s (call_fits (length w.places) (length w.locks) c (ltb-true (lock_in c) (length w.locks) there.0))
+    put_shaped w t (first_place (kind_at w (lock_in c)) c) s (call_fits (length w.places) (length w.locks) (kind_at w (lock_in c)) c (ltb-true (lock_in c) (length w.locks) there.0))
 
 spun_shaped : (w : State) (t : ℕ) → IsShaped w → IsShaped (spun w t)
 spun_shaped w t s = by_lock (spin_lock (place_at w t))

@@ -2,7 +2,7 @@
 use Rattle.std.proofs.Common.{ℕ, zero, suc, Bool, true, false, Option, Some, None, if◌then◌else◌, ◌==◌, ◌&&◌, not, ◌≡◌, ◌≢◌, ◌+◌, ◌*◌, ◌≤◌, ◌<◌, inl, inr, List, [], ◌∷◌, ◌++◌, length, get_or, drop, map, replicate, refl, sym, ◌∙◌, ap, subst, arith}
 use Rattle.std.proofs.lemmas.Bool.{cases_eq, eqb-true}
 use Rattle.std.proofs.lemmas.Bool.Decides.{nat_tests}
-use Rattle.parking_lot_core.specs.declared.notes.Note.TheVariants.{Normal}
+use Rattle.parking_lot_core.specs.declared.notes.Note.TheVariants as note
 use Rattle.parking_lot_core.specs.declared.ops.Op as op
 use Rattle.parking_lot_core.specs.declared.wants.Waiter.{Waiter}
 use Rattle.parking_lot_core.specs.declared.wants.Want.TheVariants.{Exclusive}
@@ -17,36 +17,43 @@ use Rattle.lot_steps.specs.declared.calls.Call.{Call}
 use Rattle.lot_steps.specs.declared.calls.Call as call
 use Rattle.lot_steps.specs.declared.mutex.MutexCall.{MutexCall}
 use Rattle.lot_steps.specs.declared.mutex.MutexCall as mutex_call
-use Rattle.lot_steps.specs.declared.kinds.Kind as kind
+use Rattle.lot_steps.specs.declared.kinds.Kind.{Kind}
 use Rattle.lot_steps.specs.declared.calls.Outcome.{Outcome}
 use Rattle.lot_steps.specs.declared.calls.Outcome as outcome
 use Rattle.lot_steps.specs.declared.mutex.TheConstants.{NOT_PARKED}
-use Rattle.lot_steps.specs.declared.mutex.MutexPlace.TheVariants.{Lock, TryLock, Unlock}
+use Rattle.lot_steps.specs.declared.mutex.Entry.{Entry}
+use Rattle.lot_steps.specs.declared.mutex.Entry.TheVariants as entries
+use Rattle.lot_steps.specs.declared.mutex.MutexPlace.TheVariants.{Lock, TryLock, Unlock, UnlockFair, Bump, HandOff}
 use Rattle.lot_steps.specs.declared.mutex.LockAt.{LockAt}
-use Rattle.lot_steps.specs.declared.mutex.LockAt.TheVariants.{First, Load, Decide, Check, Leave, Asleep, Taken, Remove, Clear, GiveUp}
+use Rattle.lot_steps.specs.declared.mutex.LockAt.TheVariants.{First, Load, Decide, Check, Leave, Asleep, Taken, Handed, Accept, Remove, Clear, GiveUp}
 use Rattle.lot_steps.specs.declared.mutex.UnlockAt.{UnlockAt}
 use Rattle.lot_steps.specs.declared.mutex.UnlockAt.TheVariants as unlock
+use Rattle.lot_steps.specs.declared.mutex.HandOffAt.{HandOffAt}
+use Rattle.lot_steps.specs.declared.mutex.HandOffAt.TheVariants as hand_off
 use Rattle.lot_steps.specs.declared.places.Place.{Place}
 use Rattle.lot_steps.specs.declared.places.Place.TheVariants.{Idle, Mutex}
 use Rattle.lot_steps.specs.Acts.{outcome_of}
-use Rattle.lot_steps.specs.MutexSteps.{mutex_first, is_locked, is_parked, entered, in_unlock}
-use Rattle.lot_steps.specs.Steps.{act_of, next_place, next_act, mutex_goes, mutex_does, lock_of, first_place}
+use Rattle.lot_steps.specs.MutexSteps.{mutex_first, is_locked, is_parked, entered, looked, hand_off_word, in_unlock}
+use Rattle.lot_steps.specs.Kinds.{is_fair}
+use Rattle.lot_steps.specs.Steps.{act_of, next_place, next_act, mutex_goes, mutex_does, lock_of, lock_in, first_place}
 use Rattle.lot_world.specs.Machine.{State, place_at, word_at, kind_at, queue_at, section_at, go_of, after, solo, after_all, alone_after, answered}
 use Rattle.lot_world.specs.Fits.{IsShaped, PlaceFits}
 use Rattle.lot_world.specs.Promises.{Codes}
-use Rattle.lot_world.specs.Sound.{IsSound, owner_at, inside}
+use Rattle.lot_world.specs.Sound.{IsSound, owner_at, inside, queued, holds}
 use Rattle.lot_world.proofs.Words.{by_code, owner_after}
 use Rattle.lot_world.specs.Locks.{Rules, MayEnter, IsBlocked}
-use Rattle.lot_world.specs.Purposes.{Releases, Try, patience_of, rules_of, purpose_of, mutex_purpose}
+use Rattle.lot_world.specs.Purposes.{Releases, Bumps, Patience, Patient, Timed, Try, mutex_purpose}
 use Rattle.lot_world.specs.LockRuns.{AreLockStates, rules_at, purpose_at}
 use Rattle.lot_world.specs.Refinement.{lock_state, locks_of, queued_of}
-use Rattle.lot_world.specs.Solo.{Rests, IsUnderWay, HasItsWay, EntersAlone, EndsAlone, IsSoloRun}
-use Rattle.lot_world.specs.OnlyMutexes.{CallFits, OnlyMutexes}
+use Rattle.lot_world.specs.Solo.{Rests, IsUnderWay, HasItsWay, EntersAlone, BumpsAlone, EndsAlone, successor, IsSoloRun}
+use Rattle.lot_world.specs.OnlyMutexes.{CallFits, OnlyMutexes, is_mutex}
 use Rattle.lot_world.proofs.LockRuns.{refines}
 use Rattle.lot_world.proofs.Promises.{kept_throughout}
-use Rattle.lot_world.proofs.LockEvents.{mutex_rules, queued_behind}
-use Rattle.lot_world.proofs.LockSteps.{free_word, owned_word, decides}
-use Rattle.lot_world.proofs.SoloActs.{Leads, leads_rest, leads_step, Facing, Faces, word_faces, enter_faces, leave_faces, wake_faces, park_faces, unparked_faces, remove_faces, take_faces}
+use Rattle.lot_world.proofs.LockEvents.{mutex_rules, mutex_rules_of, queued_behind}
+use Rattle.lot_world.proofs.LockSteps.{free_word, owned_word, decides, purpose_is}
+use Rattle.lot_world.proofs.Counts.{first_times}
+use Rattle.lot_world.proofs.Steady.{stands_at}
+use Rattle.lot_world.proofs.SoloActs.{Leads, leads_rest, leads_step, Facing, Faces, word_faces, enter_faces, leave_faces, wake_faces, hand_faces, accept_faces, park_faces, unparked_faces, remove_faces, take_faces}
 
 leads_more : (k m : ℕ) (w : State) (t : ℕ) (P : State → Outcome → Type 0) → k ≤ m → Leads k w t P → Leads m w t P
 leads_more k m w t P le h n last bound = h n last (omega arith)
@@ -57,85 +64,85 @@ leads_so k w t P Q so h n last bound = so _ _ (h n last bound)
 -- ---------------------------------------------------------------- lock
 
 -- where nobody owns the mutex it is entered, else the thread sleeps as the last of the queue
-abbrev pub LockEnds : ℕ → ℕ → Bool → Option ℕ → List Waiter → State → Outcome → Type 0
-LockEnds t l timed None q v x = (x ≡ outcome.TheVariants.End (entered timed)) × (owner_at v l ≡ Some t)
-LockEnds t l timed (Some u) q v x = (x ≡ outcome.TheVariants.Sleep) × (queue_at v (2 * l) ≡ q ++ waiter (2 * l) t Exclusive ∷ [])
+abbrev pub LockEnds : ℕ → ℕ → Entry → Option ℕ → List Waiter → State → Outcome → Type 0
+LockEnds t l entry None q v x = (x ≡ outcome.TheVariants.End (entered entry)) × (owner_at v l ≡ Some t)
+LockEnds t l entry (Some u) q v x = (x ≡ outcome.TheVariants.Sleep) × (owner_at v l ≡ Some u) × (queue_at v (2 * l) ≡ q ++ waiter (2 * l) t Exclusive ∷ [])
 
-module _ (t l : ℕ) (timed : Bool) (q : List Waiter) where
+module _ (t l : ℕ) (entry : Entry) (q : List Waiter) where
   -- it parks
-  sleep_leads : (retries : Bool) (u : ℕ) (w : State) → Facing w t l (Mutex l (Lock timed retries (Leave true))) 3 (Some u) (Some t) (q ++ waiter (2 * l) t Exclusive ∷ []) → Leads 1 w t (LockEnds t l timed (Some u) q)
-  sleep_leads retries u w f = let h = leave_faces w t l _ 3 (Some u) (Some t) _ f refl in leads_rest w t (LockEnds t l timed (Some u) q) outcome.TheVariants.Sleep h.0 tt (refl, h.1.queue)
+  sleep_leads : (retries : Bool) (u : ℕ) (w : State) → Facing w t l (Mutex l (Lock entry retries (Leave true))) 3 (Some u) (Some t) (q ++ waiter (2 * l) t Exclusive ∷ []) → Leads 1 w t (LockEnds t l entry (Some u) q)
+  sleep_leads retries u w f = let h = leave_faces w t l _ 3 (Some u) (Some t) _ f refl in leads_rest w t (LockEnds t l entry (Some u) q) outcome.TheVariants.Sleep h.0 tt (refl, h.1.owner, h.1.queue)
 
-  check_full : (retries : Bool) (u : ℕ) (w : State) → Facing w t l (Mutex l (Lock timed retries Check)) 3 (Some u) (Some t) q → Leads 2 w t (LockEnds t l timed (Some u) q)
-  check_full retries u w f = let h = park_faces w t l _ 3 (Some u) (Some t) q f refl refl refl in leads_step w t (LockEnds t l timed (Some u) q) 1 h.0 (sleep_leads (retries && not true) u _ h.1)
+  check_full : (retries : Bool) (u : ℕ) (w : State) → Facing w t l (Mutex l (Lock entry retries Check)) 3 (Some u) (Some t) q → Leads 2 w t (LockEnds t l entry (Some u) q)
+  check_full retries u w f = let h = park_faces w t l _ 3 (Some u) (Some t) q f refl refl refl in leads_step w t (LockEnds t l entry (Some u) q) 1 h.0 (sleep_leads (retries && not true) u _ h.1)
 
-  decide_full : (retries : Bool) (u : ℕ) (w : State) → Facing w t l (Mutex l (Lock timed retries (Decide 3))) 3 (Some u) None q → Leads 3 w t (LockEnds t l timed (Some u) q)
-  decide_full retries u w f = let h = enter_faces w t l _ 3 (Some u) None q f refl refl in leads_step w t (LockEnds t l timed (Some u) q) 2 h.0 (check_full retries u _ h.1)
+  decide_full : (retries : Bool) (u : ℕ) (w : State) → Facing w t l (Mutex l (Lock entry retries (Decide 3))) 3 (Some u) None q → Leads 3 w t (LockEnds t l entry (Some u) q)
+  decide_full retries u w f = let h = enter_faces w t l _ 3 (Some u) None q f refl refl in leads_step w t (LockEnds t l entry (Some u) q) 2 h.0 (check_full retries u _ h.1)
 
   -- it decides by the word as it is
-  decide_leads : (retries : Bool) (v : ℕ) (o : Option ℕ) → Codes v o → (w : State) → Facing w t l (Mutex l (Lock timed retries (Decide v))) v o None q → Leads 4 w t (LockEnds t l timed o q)
-  decide_leads retries = by_code (λ v o. (w : State) → Facing w t l (Mutex l (Lock timed retries (Decide v))) v o None q → Leads 4 w t (LockEnds t l timed o q))
-      (λ w f. let h = word_faces w t l _ 0 None None q f (op.TheVariants.Exchange 0 1) refl in leads_more 1 4 w t (LockEnds t l timed None q) (omega arith) (leads_rest w t (LockEnds t l timed None q) (outcome.TheVariants.End (entered timed)) h.0 tt (refl, h.1.owner)))
-      (λ w f. let h = word_faces w t l _ 2 None None q f (op.TheVariants.Exchange 2 3) refl in leads_more 1 4 w t (LockEnds t l timed None q) (omega arith) (leads_rest w t (LockEnds t l timed None q) (outcome.TheVariants.End (entered timed)) h.0 tt (refl, h.1.owner)))
-      (λ u w f. let h = word_faces w t l _ 1 (Some u) None q f (op.TheVariants.Exchange 1 3) refl in leads_step w t (LockEnds t l timed (Some u) q) 3 h.0 (decide_full retries u _ h.1))
-      (λ u w f. leads_more 3 4 w t (LockEnds t l timed (Some u) q) (omega arith) (decide_full retries u w f))
+  decide_leads : (retries : Bool) (v : ℕ) (o : Option ℕ) → Codes v o → (w : State) → Facing w t l (Mutex l (Lock entry retries (Decide v))) v o None q → Leads 4 w t (LockEnds t l entry o q)
+  decide_leads retries = by_code (λ v o. (w : State) → Facing w t l (Mutex l (Lock entry retries (Decide v))) v o None q → Leads 4 w t (LockEnds t l entry o q))
+      (λ w f. let h = word_faces w t l _ 0 None None q f (op.TheVariants.Exchange 0 1) refl in leads_more 1 4 w t (LockEnds t l entry None q) (omega arith) (leads_rest w t (LockEnds t l entry None q) (outcome.TheVariants.End (entered entry)) h.0 tt (refl, h.1.owner)))
+      (λ w f. let h = word_faces w t l _ 2 None None q f (op.TheVariants.Exchange 2 3) refl in leads_more 1 4 w t (LockEnds t l entry None q) (omega arith) (leads_rest w t (LockEnds t l entry None q) (outcome.TheVariants.End (entered entry)) h.0 tt (refl, h.1.owner)))
+      (λ u w f. let h = word_faces w t l _ 1 (Some u) None q f (op.TheVariants.Exchange 1 3) refl in leads_step w t (LockEnds t l entry (Some u) q) 3 h.0 (decide_full retries u _ h.1))
+      (λ u w f. leads_more 3 4 w t (LockEnds t l entry (Some u) q) (omega arith) (decide_full retries u w f))
 
   coded : (w : State) (p : Place) (v : ℕ) (o s : Option ℕ) → Facing w t l p v o s q → Codes v o
   coded w p v o s f = let c : Codes (word_at w l) (owner_at w l) = f.sound.codes l in rw (f.word, f.owner) at c
 
-  load_leads : (retries : Bool) (v : ℕ) (o : Option ℕ) (w : State) → Facing w t l (Mutex l (Lock timed retries Load)) v o None q → Leads 5 w t (LockEnds t l timed o q)
-  load_leads retries v o w f = let h = word_faces w t l (Mutex l (Lock timed retries Load)) v o None q f op.TheVariants.Load refl in
-      leads_step w t (LockEnds t l timed o q) 4 (h.0 ∙ decides l v) (decide_leads retries v o (coded w _ v o None f) _ h.1)
+  load_leads : (retries : Bool) (v : ℕ) (o : Option ℕ) (w : State) → Facing w t l (Mutex l (Lock entry retries Load)) v o None q → Leads 5 w t (LockEnds t l entry o q)
+  load_leads retries v o w f = let h = word_faces w t l (Mutex l (Lock entry retries Load)) v o None q f op.TheVariants.Load refl in
+      leads_step w t (LockEnds t l entry o q) 4 (h.0 ∙ decides l v) (decide_leads retries v o (coded w _ v o None f) _ h.1)
 
-  first_leads : (retries : Bool) (v : ℕ) (o : Option ℕ) → Codes v o → (w : State) → Facing w t l (Mutex l (Lock timed retries First)) v o None q → Leads 6 w t (LockEnds t l timed o q)
-  first_leads retries = by_code (λ v o. (w : State) → Facing w t l (Mutex l (Lock timed retries First)) v o None q → Leads 6 w t (LockEnds t l timed o q))
-      (λ w f. let h = word_faces w t l _ 0 None None q f (op.TheVariants.Exchange 0 1) refl in leads_more 1 6 w t (LockEnds t l timed None q) (omega arith) (leads_rest w t (LockEnds t l timed None q) (outcome.TheVariants.End (entered timed)) h.0 tt (refl, h.1.owner)))
-      (λ w f. let h = word_faces w t l _ 2 None None q f (op.TheVariants.Exchange 0 1) refl in leads_step w t (LockEnds t l timed None q) 5 h.0 (load_leads retries 2 None _ h.1))
-      (λ u w f. let h = word_faces w t l _ 1 (Some u) None q f (op.TheVariants.Exchange 0 1) refl in leads_step w t (LockEnds t l timed (Some u) q) 5 h.0 (load_leads retries 1 (Some u) _ h.1))
-      (λ u w f. let h = word_faces w t l _ 3 (Some u) None q f (op.TheVariants.Exchange 0 1) refl in leads_step w t (LockEnds t l timed (Some u) q) 5 h.0 (load_leads retries 3 (Some u) _ h.1))
+  first_leads : (retries : Bool) (v : ℕ) (o : Option ℕ) → Codes v o → (w : State) → Facing w t l (Mutex l (Lock entry retries First)) v o None q → Leads 6 w t (LockEnds t l entry o q)
+  first_leads retries = by_code (λ v o. (w : State) → Facing w t l (Mutex l (Lock entry retries First)) v o None q → Leads 6 w t (LockEnds t l entry o q))
+      (λ w f. let h = word_faces w t l _ 0 None None q f (op.TheVariants.Exchange 0 1) refl in leads_more 1 6 w t (LockEnds t l entry None q) (omega arith) (leads_rest w t (LockEnds t l entry None q) (outcome.TheVariants.End (entered entry)) h.0 tt (refl, h.1.owner)))
+      (λ w f. let h = word_faces w t l _ 2 None None q f (op.TheVariants.Exchange 0 1) refl in leads_step w t (LockEnds t l entry None q) 5 h.0 (load_leads retries 2 None _ h.1))
+      (λ u w f. let h = word_faces w t l _ 1 (Some u) None q f (op.TheVariants.Exchange 0 1) refl in leads_step w t (LockEnds t l entry (Some u) q) 5 h.0 (load_leads retries 1 (Some u) _ h.1))
+      (λ u w f. let h = word_faces w t l _ 3 (Some u) None q f (op.TheVariants.Exchange 0 1) refl in leads_step w t (LockEnds t l entry (Some u) q) 5 h.0 (load_leads retries 3 (Some u) _ h.1))
 
   -- ---------------------------------------------------------------- from any place
 
   abbrev Resting : State → Outcome → Type 0
   Resting v x = Rests x
 
-  rests_so : (o : Option ℕ) (v : State) (x : Outcome) → LockEnds t l timed o q v x → Rests x
+  rests_so : (o : Option ℕ) (v : State) (x : Outcome) → LockEnds t l entry o q v x → Rests x
   rests_so None v x h = rw (h.0) tt
   rests_so (Some u) v x h = rw (h.0) tt
 
-  load_rests : (retries : Bool) (v : ℕ) (o : Option ℕ) (w : State) → Facing w t l (Mutex l (Lock timed retries Load)) v o None q → Leads 5 w t Resting
-  load_rests retries v o w f = leads_so 5 w t (LockEnds t l timed o q) Resting (rests_so o) (load_leads retries v o w f)
+  load_rests : (retries : Bool) (v : ℕ) (o : Option ℕ) (w : State) → Facing w t l (Mutex l (Lock entry retries Load)) v o None q → Leads 5 w t Resting
+  load_rests retries v o w f = leads_so 5 w t (LockEnds t l entry o q) Resting (rests_so o) (load_leads retries v o w f)
 
-  gives_up_rests : (retries : Bool) (v : ℕ) (o s : Option ℕ) (w : State) → Facing w t l (Mutex l (Lock timed retries GiveUp)) v o s q → Leads 1 w t Resting
+  gives_up_rests : (retries : Bool) (v : ℕ) (o s : Option ℕ) (w : State) → Facing w t l (Mutex l (Lock entry retries GiveUp)) v o s q → Leads 1 w t Resting
   gives_up_rests retries v o s w f = let h = leave_faces w t l _ v o s q f refl in leads_rest w t Resting (outcome.TheVariants.End answer.TheVariants.No) h.0 tt tt
 
-  clear_rests : (retries : Bool) (v : ℕ) (o s : Option ℕ) (w : State) → Facing w t l (Mutex l (Lock timed retries Clear)) v o s q → Leads 2 w t Resting
+  clear_rests : (retries : Bool) (v : ℕ) (o s : Option ℕ) (w : State) → Facing w t l (Mutex l (Lock entry retries Clear)) v o s q → Leads 2 w t Resting
   clear_rests retries v o s w f = let h = word_faces w t l _ v o s q f (op.TheVariants.And NOT_PARKED) refl in leads_step w t Resting 1 h.0 (gives_up_rests retries _ o s _ h.1)
 
-module _ (t l : ℕ) (timed : Bool) where
-  leave_rests : (retries b : Bool) (v : ℕ) (o s : Option ℕ) (q : List Waiter) (w : State) → Facing w t l (Mutex l (Lock timed retries (Leave b))) v o s q → Leads 6 w t (λ x y. Rests y)
+module _ (t l : ℕ) (entry : Entry) where
+  leave_rests : (retries b : Bool) (v : ℕ) (o s : Option ℕ) (q : List Waiter) (w : State) → Facing w t l (Mutex l (Lock entry retries (Leave b))) v o s q → Leads 6 w t (λ x y. Rests y)
   leave_rests retries true v o s q w f = let h = leave_faces w t l _ v o s q f refl in leads_more 1 6 w t (λ x y. Rests y) (omega arith) (leads_rest w t (λ x y. Rests y) outcome.TheVariants.Sleep h.0 tt tt)
-  leave_rests retries false v o s q w f = let h = leave_faces w t l _ v o s q f refl in leads_step w t (λ x y. Rests y) 5 h.0 (load_rests t l timed q retries v o _ h.1)
+  leave_rests retries false v o s q w f = let h = leave_faces w t l _ v o s q f refl in leads_step w t (λ x y. Rests y) 5 h.0 (load_rests t l entry q retries v o _ h.1)
 
-  check_rests : (retries : Bool) (v : ℕ) (o s : Option ℕ) (q : List Waiter) (w : State) → Facing w t l (Mutex l (Lock timed retries Check)) v o s q → Leads 7 w t (λ x y. Rests y)
+  check_rests : (retries : Bool) (v : ℕ) (o s : Option ℕ) (q : List Waiter) (w : State) → Facing w t l (Mutex l (Lock entry retries Check)) v o s q → Leads 7 w t (λ x y. Rests y)
   check_rests retries v o s q w f = either (v == 3) refl
     where
       either : (b : Bool) → (v == 3) ≡ b → Leads 7 w t (λ x y. Rests y)
       either true e = let h = park_faces w t l _ v o s q f refl (eqb-true v 3 e) refl in leads_step w t (λ x y. Rests y) 6 h.0 (leave_rests (retries && not true) true v o s _ _ h.1)
       either false e = let h = unparked_faces w t l _ v o s q f refl e in leads_step w t (λ x y. Rests y) 6 h.0 (leave_rests (retries && not false) false v o s q _ h.1)
 
-  remove_rests : (retries : Bool) (v : ℕ) (o s : Option ℕ) (q : List Waiter) (w : State) → Facing w t l (Mutex l (Lock timed retries Remove)) v o s q → Leads 3 w t (λ x y. Rests y)
-  remove_rests retries v o s q w f = either (length (without t q) == 0) (remove_faces w t l (Mutex l (Lock timed retries Remove)) v o s q f refl)
+  remove_rests : (retries : Bool) (v : ℕ) (o s : Option ℕ) (q : List Waiter) (w : State) → Facing w t l (Mutex l (Lock entry retries Remove)) v o s q → Leads 3 w t (λ x y. Rests y)
+  remove_rests retries v o s q w f = either (length (without t q) == 0) (remove_faces w t l (Mutex l (Lock entry retries Remove)) v o s q f refl)
     where
-      either : (b : Bool) → Faces w t l (next_place (Mutex l (Lock timed retries Remove)) (Removed b)) (outcome_of (next_act (Mutex l (Lock timed retries Remove)) (Removed b))) v o s (without t q) → Leads 3 w t (λ x y. Rests y)
-      either true h = leads_step w t (λ x y. Rests y) 2 h.0 (clear_rests t l timed (without t q) retries v o s _ h.1)
-      either false h = leads_more 2 3 w t (λ x y. Rests y) (omega arith) (leads_step w t (λ x y. Rests y) 1 h.0 (gives_up_rests t l timed (without t q) retries v o s _ h.1))
+      either : (b : Bool) → Faces w t l (next_place (Mutex l (Lock entry retries Remove)) (Removed b)) (outcome_of (next_act (Mutex l (Lock entry retries Remove)) (Removed b))) v o s (without t q) → Leads 3 w t (λ x y. Rests y)
+      either true h = leads_step w t (λ x y. Rests y) 2 h.0 (clear_rests t l entry (without t q) retries v o s _ h.1)
+      either false h = leads_more 2 3 w t (λ x y. Rests y) (omega arith) (leads_step w t (λ x y. Rests y) 1 h.0 (gives_up_rests t l entry (without t q) retries v o s _ h.1))
 
   -- it decides by a value that the word has no longer, or still
-  decide_rests : (retries : Bool) (x v : ℕ) (o : Option ℕ) (q : List Waiter) (w : State) → Facing w t l (Mutex l (Lock timed retries (Decide x))) v o None q → Leads 8 w t (λ a y. Rests y)
+  decide_rests : (retries : Bool) (x v : ℕ) (o : Option ℕ) (q : List Waiter) (w : State) → Facing w t l (Mutex l (Lock entry retries (Decide x))) v o None q → Leads 8 w t (λ a y. Rests y)
   decide_rests retries x v o q w f = elim (cases_eq v x) [
-    | inl e ↦ let g : Facing w t l (Mutex l (Lock timed retries (Decide v))) v o None q = subst (λ y. Facing w t l (Mutex l (Lock timed retries (Decide y))) v o None q) (sym e) f in
-        leads_more 4 8 w t (λ a y. Rests y) (omega arith) (leads_so 4 w t (LockEnds t l timed o q) (λ a y. Rests y) (rests_so t l timed q o) (decide_leads t l timed q retries v o (coded t l timed q w _ v o None f) w g))
+    | inl e ↦ let g : Facing w t l (Mutex l (Lock entry retries (Decide v))) v o None q = subst (λ y. Facing w t l (Mutex l (Lock entry retries (Decide y))) v o None q) (sym e) f in
+        leads_more 4 8 w t (λ a y. Rests y) (omega arith) (leads_so 4 w t (LockEnds t l entry o q) (λ a y. Rests y) (rests_so t l entry q o) (decide_leads t l entry q retries v o (coded t l entry q w _ v o None f) w g))
     | inr ne ↦ either (is_locked x) (x == 1) refl refl (stale ne)
   ]
     where
@@ -143,43 +150,45 @@ module _ (t l : ℕ) (timed : Bool) where
       stale ne = grind (arith, nat_tests)
 
       here : Place
-      here = Mutex l (Lock timed retries (Decide x))
+      here = Mutex l (Lock entry retries (Decide x))
 
       -- the exchange fails, and it decides by what it has seen
-      exchanged : (y : op.Op) → act_of (Mutex l (Lock timed retries (Decide x))) ≡ act.TheVariants.Word l y → apply y v ≡ v → (v == x) ≡ false → Leads 8 w t (λ a z. Rests z)
-      exchanged y is stays no_more = again (word_faces w t l (Mutex l (Lock timed retries (Decide x))) v o None q f y is)
+      exchanged : (y : op.Op) → act_of (Mutex l (Lock entry retries (Decide x))) ≡ act.TheVariants.Word l y → apply y v ≡ v → (v == x) ≡ false → Leads 8 w t (λ a z. Rests z)
+      exchanged y is stays no_more = again (word_faces w t l (Mutex l (Lock entry retries (Decide x))) v o None q f y is)
         where
-          again : Faces w t l (next_place (Mutex l (Lock timed retries (Decide x))) (Value v)) (outcome_of (next_act (Mutex l (Lock timed retries (Decide x))) (Value v))) (apply y v) (owner_after (Mutex l (Lock timed retries (Decide x))) t v o) None q → Leads 8 w t (λ a z. Rests z)
-          again h = let told : outcome_of (next_act (Mutex l (Lock timed retries (Decide x))) (Value v)) ≡ outcome.TheVariants.Step = rw no_more (decides l v) in
-              let to : next_place (Mutex l (Lock timed retries (Decide x))) (Value v) ≡ Mutex l (Lock timed retries (Decide v)) = rw no_more refl in
-              let own : owner_after (Mutex l (Lock timed retries (Decide x))) t v o ≡ o = rw no_more refl in
-              let g : Facing (after w (go_of t)) t l (Mutex l (Lock timed retries (Decide v))) v o None q =
-              subst (λ z. Facing (after w (go_of t)) t l z v o None q) to (subst (λ n. Facing (after w (go_of t)) t l (next_place (Mutex l (Lock timed retries (Decide x))) (Value v)) n o None q) stays
-              (subst (λ u. Facing (after w (go_of t)) t l (next_place (Mutex l (Lock timed retries (Decide x))) (Value v)) (apply y v) u None q) own h.1)) in
+          again : Faces w t l (next_place (Mutex l (Lock entry retries (Decide x))) (Value v)) (outcome_of (next_act (Mutex l (Lock entry retries (Decide x))) (Value v))) (apply y v) (owner_after (Mutex l (Lock entry retries (Decide x))) t v o) None q → Leads 8 w t (λ a z. Rests z)
+          again h = let told : outcome_of (next_act (Mutex l (Lock entry retries (Decide x))) (Value v)) ≡ outcome.TheVariants.Step = rw no_more (decides l v) in
+              let to : next_place (Mutex l (Lock entry retries (Decide x))) (Value v) ≡ Mutex l (Lock entry retries (Decide v)) = rw no_more refl in
+              let own : owner_after (Mutex l (Lock entry retries (Decide x))) t v o ≡ o = rw no_more refl in
+              let g : Facing (after w (go_of t)) t l (Mutex l (Lock entry retries (Decide v))) v o None q =
+              subst (λ z. Facing (after w (go_of t)) t l z v o None q) to (subst (λ n. Facing (after w (go_of t)) t l (next_place (Mutex l (Lock entry retries (Decide x))) (Value v)) n o None q) stays
+              (subst (λ u. Facing (after w (go_of t)) t l (next_place (Mutex l (Lock entry retries (Decide x))) (Value v)) (apply y v) u None q) own h.1)) in
               leads_more 5 8 w t (λ a z. Rests z) (omega arith) (leads_step w t (λ a z. Rests z) 4 (h.0 ∙ told)
-              (leads_so 4 (after w (go_of t)) t (LockEnds t l timed o q) (λ a z. Rests z) (rests_so t l timed q o) (decide_leads t l timed q retries v o (coded t l timed q w _ v o None f) (after w (go_of t)) g)))
+              (leads_so 4 (after w (go_of t)) t (LockEnds t l entry o q) (λ a z. Rests z) (rests_so t l entry q o) (decide_leads t l entry q retries v o (coded t l entry q w _ v o None f) (after w (go_of t)) g)))
 
       either : (a b : Bool) → is_locked x ≡ a → (x == 1) ≡ b → (v == x) ≡ false → Leads 8 w t (λ c y. Rests y)
       either false b ea eb no_more = exchanged (op.TheVariants.Exchange x (x + 1)) (rw ea refl) (rw no_more refl) no_more
       either true true ea eb no_more = let not_1 : (v == 1) ≡ false = subst (λ n. (v == n) ≡ false) (eqb-true x 1 eb) no_more in exchanged (op.TheVariants.Exchange 1 3) (rw (ea, eb) refl) (rw not_1 refl) no_more
-      either true false ea eb no_more = let h = enter_faces w t l (Mutex l (Lock timed retries (Decide x))) v o None q f (rw (ea, eb) refl) refl in leads_step w t (λ c y. Rests y) 7 h.0 (check_rests retries v o (Some t) q _ h.1)
+      either true false ea eb no_more = let h = enter_faces w t l (Mutex l (Lock entry retries (Decide x))) v o None q f (rw (ea, eb) refl) refl in leads_step w t (λ c y. Rests y) 7 h.0 (check_rests retries v o (Some t) q _ h.1)
 
   -- a section that is free where the thread is outside, and its own where it is inside
   abbrev Way : Place → Option ℕ → Type 0
   Way p s = inside p ≡ None → s ≡ None
 
-  lock_rests : (retries : Bool) (a : LockAt) (v : ℕ) (o s : Option ℕ) (q : List Waiter) (w : State) → Facing w t l (Mutex l (Lock timed retries a)) v o s q → Way (Mutex l (Lock timed retries a)) s → act_of (Mutex l (Lock timed retries a)) ≢ act.TheVariants.Sleep → Leads 8 w t (λ c y. Rests y)
-  lock_rests retries First v o s q w f way up = let g : Facing w t l (Mutex l (Lock timed retries First)) v o None q = subst (λ x. Facing w t l (Mutex l (Lock timed retries First)) v o x q) (way refl) f in
-      leads_more 6 8 w t (λ c y. Rests y) (omega arith) (leads_so 6 w t (LockEnds t l timed o q) (λ c y. Rests y) (rests_so t l timed q o) (first_leads t l timed q retries v o (coded t l timed q w _ v o None g) w g))
-  lock_rests retries Load v o s q w f way up = leads_more 5 8 w t (λ c y. Rests y) (omega arith) (load_rests t l timed q retries v o w (subst (λ x. Facing w t l (Mutex l (Lock timed retries Load)) v o x q) (way refl) f))
-  lock_rests retries (Decide x) v o s q w f way up = decide_rests retries x v o q w (subst (λ y. Facing w t l (Mutex l (Lock timed retries (Decide x))) v o y q) (way refl) f)
+  lock_rests : (retries : Bool) (a : LockAt) (v : ℕ) (o s : Option ℕ) (q : List Waiter) (w : State) → Facing w t l (Mutex l (Lock entry retries a)) v o s q → Way (Mutex l (Lock entry retries a)) s → act_of (Mutex l (Lock entry retries a)) ≢ act.TheVariants.Sleep → Leads 8 w t (λ c y. Rests y)
+  lock_rests retries First v o s q w f way up = let g : Facing w t l (Mutex l (Lock entry retries First)) v o None q = subst (λ x. Facing w t l (Mutex l (Lock entry retries First)) v o x q) (way refl) f in
+      leads_more 6 8 w t (λ c y. Rests y) (omega arith) (leads_so 6 w t (LockEnds t l entry o q) (λ c y. Rests y) (rests_so t l entry q o) (first_leads t l entry q retries v o (coded t l entry q w _ v o None g) w g))
+  lock_rests retries Load v o s q w f way up = leads_more 5 8 w t (λ c y. Rests y) (omega arith) (load_rests t l entry q retries v o w (subst (λ x. Facing w t l (Mutex l (Lock entry retries Load)) v o x q) (way refl) f))
+  lock_rests retries (Decide x) v o s q w f way up = decide_rests retries x v o q w (subst (λ y. Facing w t l (Mutex l (Lock entry retries (Decide x))) v o y q) (way refl) f)
   lock_rests retries Check v o s q w f way up = leads_more 7 8 w t (λ c y. Rests y) (omega arith) (check_rests retries v o s q w f)
   lock_rests retries (Leave b) v o s q w f way up = leads_more 6 8 w t (λ c y. Rests y) (omega arith) (leave_rests retries b v o s q w f)
   lock_rests retries Asleep v o s q w f way up = absurd (up refl)
   lock_rests retries (Taken by) v o s q w f way up = absurd (up refl)
+  lock_rests retries (Handed by) v o s q w f way up = absurd (up refl)
+  lock_rests retries Accept v o s q w f way up = let h = accept_faces w t l (Mutex l (Lock entry retries Accept)) v o s q f refl in leads_more 1 8 w t (λ c y. Rests y) (omega arith) (leads_rest w t (λ c y. Rests y) (outcome.TheVariants.End (entered entry)) h.0 tt tt)
   lock_rests retries Remove v o s q w f way up = leads_more 3 8 w t (λ c y. Rests y) (omega arith) (remove_rests retries v o s q w f)
-  lock_rests retries Clear v o s q w f way up = leads_more 2 8 w t (λ c y. Rests y) (omega arith) (clear_rests t l timed q retries v o s w f)
-  lock_rests retries GiveUp v o s q w f way up = leads_more 1 8 w t (λ c y. Rests y) (omega arith) (gives_up_rests t l timed q retries v o s w f)
+  lock_rests retries Clear v o s q w f way up = leads_more 2 8 w t (λ c y. Rests y) (omega arith) (clear_rests t l entry q retries v o s w f)
+  lock_rests retries GiveUp v o s q w f way up = leads_more 1 8 w t (λ c y. Rests y) (omega arith) (gives_up_rests t l entry q retries v o s w f)
 
 -- ---------------------------------------------------------------- try_lock and unlock
 
@@ -200,7 +209,7 @@ UnlockEnds l o x y = (y ≡ outcome.TheVariants.End answer.TheVariants.Ok) × (o
 module _ (t l : ℕ) where
   woke_leads : (taken : Option ℕ) (q : List Waiter) (v : ℕ) (o s : Option ℕ) (w : State) → Facing w t l (Mutex l (Unlock (unlock.Leave taken))) v o s q → Leads 1 w t (UnlockEnds l o)
   woke_leads None q v o s w f = let h = leave_faces w t l (Mutex l (Unlock (unlock.Leave None))) v o s q f refl in leads_rest w t (UnlockEnds l o) (outcome.TheVariants.End answer.TheVariants.Ok) h.0 tt (refl, h.1.owner)
-  woke_leads (Some u) q v o s w f = let h = wake_faces w t l (Mutex l (Unlock (unlock.Leave (Some u)))) v o s q f u Normal refl in leads_rest w t (UnlockEnds l o) (outcome.TheVariants.End answer.TheVariants.Ok) h.0 tt (refl, h.1.owner)
+  woke_leads (Some u) q v o s w f = let h = wake_faces w t l (Mutex l (Unlock (unlock.Leave (Some u)))) v o s q f u note.Normal refl in leads_rest w t (UnlockEnds l o) (outcome.TheVariants.End answer.TheVariants.Ok) h.0 tt (refl, h.1.owner)
 
   cleared_leads : (taken : Option ℕ) (q : List Waiter) (v : ℕ) (o s : Option ℕ) (w : State) → Facing w t l (Mutex l (Unlock (unlock.Clear taken))) v o s q → Leads 2 w t (UnlockEnds l o)
   cleared_leads taken q v o s w f = let h = word_faces w t l (Mutex l (Unlock (unlock.Clear taken))) v o s q f (op.TheVariants.And NOT_PARKED) refl in leads_step w t (UnlockEnds l o) 1 h.0 (woke_leads taken q _ o s _ h.1)
@@ -233,6 +242,87 @@ module _ (t l : ℕ) where
   unlock_rests (unlock.Clear taken) v o s q w f way = leads_more 2 8 w t (λ c y. Rests y) (omega arith) (leads_so 2 w t (UnlockEnds l o) (λ c y. Rests y) (ends_so o) (cleared_leads taken q v o s w f))
   unlock_rests (unlock.Leave taken) v o s q w f way = leads_more 1 8 w t (λ c y. Rests y) (omega arith) (leads_so 1 w t (UnlockEnds l o) (λ c y. Rests y) (ends_so o) (woke_leads taken q v o s w f))
 
+-- ---------------------------------------------------------------- fair releases
+
+-- a fair release ends, and a bump enters again
+abbrev pub FairEnds : Bool → ℕ → ℕ → Option ℕ → List Waiter → State → Outcome → Type 0
+FairEnds false t l o q v x = UnlockEnds l o v x
+FairEnds true t l o q v x = LockEnds t l entries.Bump o q v x
+
+-- where the parked bit is clear nobody waits
+none_waits : (t l : ℕ) (p : Place) (v : ℕ) (o s : Option ℕ) (q : List Waiter) (w : State) → Facing w t l p v o s q → v < 2 → q ≡ []
+none_waits t l p v o s [] w f below = refl
+none_waits t l p v o s (x ∷ q) w f below = absurd (
+    let first : first_of (queue_at w (2 * l)) ≡ Some x.thread = ap first_of f.queue in
+    let stands = stands_at (queued (place_at w x.thread)) l (subst (λ n. 1 ≤ n) (f.sound.queues x.thread l) (first_times x.thread (queue_at w (2 * l)) first)) in
+    let parked : 2 ≤ v = subst (λ n. 2 ≤ n) f.word (f.sound.parked x.thread l stands) in omega arith
+    )
+
+unparked : (v : ℕ) (o : Option ℕ) → Codes v o → is_parked v ≡ false → v < 2
+unparked v o c h = by_code (λ v o. is_parked v ≡ false → v < 2) (λ h. omega arith) (λ h. absurd cc) (λ u h. omega arith) (λ u h. absurd cc) v o c h
+
+module _ (t l : ℕ) where
+  told_leads : (bumps : Bool) (taken : Option ℕ) (q : List Waiter) (v : ℕ) (o s : Option ℕ) (w : State) → Facing w t l (Mutex l (HandOff bumps (hand_off.Leave taken))) v o s q → Leads 7 w t (FairEnds bumps t l o q)
+  told_leads true None q v o s w f = let h = leave_faces w t l (Mutex l (HandOff true (hand_off.Leave None))) v o s q f refl in
+      leads_step w t (FairEnds true t l o q) 6 h.0 (first_leads t l entries.Bump q false v o (coded t l entries.Bump q w _ v o s f) _ h.1)
+  told_leads true (Some u) q v o s w f = let h = wake_faces w t l (Mutex l (HandOff true (hand_off.Leave (Some u)))) v o s q f u note.HandOff refl in
+      leads_step w t (FairEnds true t l o q) 6 h.0 (first_leads t l entries.Bump q false v o (coded t l entries.Bump q w _ v o s f) _ h.1)
+  told_leads false None q v o s w f = let h = leave_faces w t l (Mutex l (HandOff false (hand_off.Leave None))) v o s q f refl in
+      leads_more 1 7 w t (UnlockEnds l o) (omega arith) (leads_rest w t (UnlockEnds l o) (outcome.TheVariants.End answer.TheVariants.Ok) h.0 tt (refl, h.1.owner))
+  told_leads false (Some u) q v o s w f = let h = wake_faces w t l (Mutex l (HandOff false (hand_off.Leave (Some u)))) v o s q f u note.HandOff refl in
+      leads_more 1 7 w t (UnlockEnds l o) (omega arith) (leads_rest w t (UnlockEnds l o) (outcome.TheVariants.End answer.TheVariants.Ok) h.0 tt (refl, h.1.owner))
+
+  store_leads : (bumps none_left : Bool) (taken : Option ℕ) (q : List Waiter) (v : ℕ) (o s : Option ℕ) (w : State) → Facing w t l (Mutex l (HandOff bumps (hand_off.Store taken none_left))) v o s q → Leads 8 w t (FairEnds bumps t l taken q)
+  store_leads bumps none_left None q v o s w f = let h = word_faces w t l (Mutex l (HandOff bumps (hand_off.Store None none_left))) v o s q f (op.TheVariants.Store 0) refl in
+      leads_step w t (FairEnds bumps t l None q) 7 h.0 (told_leads bumps None q 0 None s _ h.1)
+  store_leads bumps none_left (Some u) q v o s w f = let h = hand_faces w t l (Mutex l (HandOff bumps (hand_off.Store (Some u) none_left))) v o s q f (op.TheVariants.Store (hand_off_word (Some u) none_left)) u refl in
+      leads_step w t (FairEnds bumps t l (Some u) q) 7 h.0 (told_leads bumps (Some u) q (hand_off_word (Some u) none_left) (Some u) s _ h.1)
+
+  fair_take_leads : (bumps : Bool) (q : List Waiter) (v : ℕ) (o s : Option ℕ) (w : State) → Facing w t l (Mutex l (HandOff bumps hand_off.Take)) v o s q → Leads 9 w t (FairEnds bumps t l (first_of q) (drop 1 q))
+  fair_take_leads bumps q v o s w f = let h = take_faces w t l (Mutex l (HandOff bumps hand_off.Take)) v o s q f refl in
+      leads_step w t (FairEnds bumps t l (first_of q) (drop 1 q)) 8 (h.0 ∙ stores (first_of q)) (store_leads bumps (length (drop 1 q) == 0) (first_of q) (drop 1 q) v o s _ h.1)
+    where
+      stores : (x : Option ℕ) → outcome_of (next_act (Mutex l (HandOff bumps hand_off.Take)) (Took x (length (drop 1 q) == 0))) ≡ outcome.TheVariants.Step
+      stores None = refl
+      stores (Some u) = refl
+
+  fair_enter_leads : (bumps : Bool) (q : List Waiter) (v : ℕ) (o : Option ℕ) (w : State) → Facing w t l (Mutex l (HandOff bumps hand_off.Enter)) v o None q → Leads 10 w t (FairEnds bumps t l (first_of q) (drop 1 q))
+  fair_enter_leads bumps q v o w f = let h = enter_faces w t l (Mutex l (HandOff bumps hand_off.Enter)) v o None q f refl refl in
+      leads_step w t (FairEnds bumps t l (first_of q) (drop 1 q)) 9 h.0 (fair_take_leads bumps q v o (Some t) _ h.1)
+
+  pub unlock_fair_leads : (q : List Waiter) (v : ℕ) (o : Option ℕ) (w : State) → Facing w t l (Mutex l UnlockFair) v o None q → Leads 11 w t (FairEnds false t l (first_of q) (drop 1 q))
+  unlock_fair_leads q v o w f = either (v == 1) refl (word_faces w t l (Mutex l UnlockFair) v o None q f (op.TheVariants.Exchange 1 0) refl)
+    where
+      either : (b : Bool) → (v == 1) ≡ b → Faces w t l (mutex_goes l (looked false (not b))) (outcome_of (mutex_does l (looked false (not b)))) (if b then 0 else v) (if b then None else o) None q → Leads 11 w t (FairEnds false t l (first_of q) (drop 1 q))
+      either true e h = let one : v ≡ 1 = eqb-true v 1 e in let none : first_of q ≡ None = ap first_of (none_waits t l (Mutex l UnlockFair) v o None q w f (omega arith)) in
+          leads_more 1 11 w t (UnlockEnds l (first_of q)) (omega arith) (leads_rest w t (UnlockEnds l (first_of q)) (outcome.TheVariants.End answer.TheVariants.Ok) h.0 tt (refl, h.1.owner ∙ sym none))
+      either false e h = leads_step w t (UnlockEnds l (first_of q)) 10 h.0 (fair_enter_leads false q v o _ h.1)
+
+  pub bump_leads : (q : List Waiter) (v : ℕ) (o : Option ℕ) (w : State) → Facing w t l (Mutex l Bump) v o None q → Leads 11 w t (FairEnds true t l (first_of q) (drop 1 q))
+  bump_leads q v o w f = either (is_parked v) refl (word_faces w t l (Mutex l Bump) v o None q f op.TheVariants.Load refl)
+    where
+      owned : o ≡ Some t
+      owned = sym f.owner ∙ f.sound.held t l (ap holds f.place)
+
+      either : (b : Bool) → is_parked v ≡ b → Faces w t l (mutex_goes l (looked true b)) (outcome_of (mutex_does l (looked true b))) v o None q → Leads 11 w t (FairEnds true t l (first_of q) (drop 1 q))
+      either true e h = leads_step w t (FairEnds true t l (first_of q) (drop 1 q)) 10 h.0 (fair_enter_leads true q v o _ h.1)
+      either false e h = let empty : q ≡ [] = none_waits t l (Mutex l Bump) v o None q w f (unparked v o (coded t l entries.Bump q w _ v o None f) e) in
+          leads_more 1 11 w t (FairEnds true t l (first_of q) (drop 1 q)) (omega arith)
+          (leads_rest w t (FairEnds true t l (first_of q) (drop 1 q)) (outcome.TheVariants.End answer.TheVariants.Ok) h.0 tt (rw empty (refl, h.1.owner ∙ owned)))
+
+  fair_so : (bumps : Bool) (o : Option ℕ) (q : List Waiter) (v : State) (x : Outcome) → FairEnds bumps t l o q v x → Rests x
+  fair_so true o q v x h = rests_so t l entries.Bump q o v x h
+  fair_so false o q v x h = ends_so t l o v x h
+
+  fair_rests : (k : ℕ) (bumps : Bool) (o : Option ℕ) (q : List Waiter) (w : State) → k ≤ 12 → Leads k w t (FairEnds bumps t l o q) → Leads 12 w t (λ c y. Rests y)
+  fair_rests k bumps o q w le h = leads_more k 12 w t (λ c y. Rests y) le (leads_so k w t (FairEnds bumps t l o q) (λ c y. Rests y) (fair_so bumps o q) h)
+
+  hand_off_rests : (bumps : Bool) (a : HandOffAt) (v : ℕ) (o s : Option ℕ) (q : List Waiter) (w : State) → Facing w t l (Mutex l (HandOff bumps a)) v o s q → (inside (Mutex l (HandOff bumps a)) ≡ None → s ≡ None) → Leads 12 w t (λ c y. Rests y)
+  hand_off_rests bumps hand_off.Enter v o s q w f way = fair_rests 10 bumps (first_of q) (drop 1 q) w (omega arith) (fair_enter_leads bumps q v o w (subst (λ x. Facing w t l (Mutex l (HandOff bumps hand_off.Enter)) v o x q) (way refl) f))
+  hand_off_rests bumps hand_off.Take v o s q w f way = fair_rests 9 bumps (first_of q) (drop 1 q) w (omega arith) (fair_take_leads bumps q v o s w f)
+  hand_off_rests bumps (hand_off.Store taken none_left) v o s q w f way = fair_rests 8 bumps taken q w (omega arith) (store_leads bumps none_left taken q v o s w f)
+  hand_off_rests bumps (hand_off.Leave taken) v o s q w f way = fair_rests 7 bumps o q w (omega arith) (told_leads bumps taken q v o s w f)
+
 -- ---------------------------------------------------------------- the laws
 
 try_so : (b : Bool) (x : Outcome) → x ≡ (if b then outcome.TheVariants.End answer.TheVariants.No else outcome.TheVariants.End answer.TheVariants.Yes) → Rests x
@@ -249,23 +339,29 @@ module _ (w : State) (t : ℕ) (shape : IsShaped w) (sound : IsSound w) (only : 
   free l p is own outside (Some u) e = let mine : u ≡ t = way l u (ap lock_of is ∙ own) e in
       let within : inside (place_at w t) ≡ Some l = (sound.sections t l).1 (e ∙ ap Some mine) in let out : inside (place_at w t) ≡ None = ap inside is ∙ outside in absurd cc
 
-  place_rests : (p : Place) → place_at w t ≡ p → PlaceFits (length w.places) (length w.locks) p → p ≢ Idle → act_of p ≢ act.TheVariants.Sleep → Leads 8 w t (λ v x. Rests x)
+  at_first : (l : ℕ) (p : Place) → place_at w t ≡ p → lock_of p ≡ Some l → inside p ≡ None → l < length w.locks → Facing w t l p (word_at w l) (owner_at w l) None (queue_at w (2 * l))
+  at_first l p is own outside lt = subst (λ s. Facing w t l p (word_at w l) (owner_at w l) s (queue_at w (2 * l))) (free l p is own outside (section_at w (2 * l)) refl) (facing l p is lt)
+
+  place_rests : (p : Place) → place_at w t ≡ p → PlaceFits (length w.places) (length w.locks) p → p ≢ Idle → act_of p ≢ act.TheVariants.Sleep → Leads 12 w t (λ v x. Rests x)
   place_rests Idle is fits busy up = absurd (busy refl)
-  place_rests (Mutex l (Lock timed retries a)) is fits busy up = lock_rests t l timed retries a (word_at w l) (owner_at w l) (section_at w (2 * l)) (queue_at w (2 * l)) w (facing l (Mutex l (Lock timed retries a)) is fits.0) (λ outside. free l (Mutex l (Lock timed retries a)) is refl outside (section_at w (2 * l)) refl) up
-  place_rests (Mutex l TryLock) is fits busy up = leads_more 1 8 w t (λ v x. Rests x) (omega arith)
+  place_rests (Mutex l (Lock entry retries a)) is fits busy up = leads_more 8 12 w t (λ v x. Rests x) (omega arith) (lock_rests t l entry retries a (word_at w l) (owner_at w l) (section_at w (2 * l)) (queue_at w (2 * l)) w (facing l (Mutex l (Lock entry retries a)) is fits.0) (λ outside. free l (Mutex l (Lock entry retries a)) is refl outside (section_at w (2 * l)) refl) up)
+  place_rests (Mutex l TryLock) is fits busy up = leads_more 1 12 w t (λ v x. Rests x) (omega arith)
       (leads_so 1 w t (λ v x. (x ≡ (if is_locked (word_at w l) then outcome.TheVariants.End answer.TheVariants.No else outcome.TheVariants.End answer.TheVariants.Yes)) × (owner_at v l ≡ (if is_locked (word_at w l) then owner_at w l else Some t))) (λ v x. Rests x)
       (λ v x h. try_so (is_locked (word_at w l)) x h.0) (try_leads t l (queue_at w (2 * l)) (section_at w (2 * l)) (word_at w l) (owner_at w l) w (facing l (Mutex l TryLock) is fits.0)))
-  place_rests (Mutex l (Unlock a)) is fits busy up = unlock_rests t l a (word_at w l) (owner_at w l) (section_at w (2 * l)) (queue_at w (2 * l)) w (facing l (Mutex l (Unlock a)) is fits.0) (λ outside. free l (Mutex l (Unlock a)) is refl outside (section_at w (2 * l)) refl)
+  place_rests (Mutex l (Unlock a)) is fits busy up = leads_more 8 12 w t (λ v x. Rests x) (omega arith) (unlock_rests t l a (word_at w l) (owner_at w l) (section_at w (2 * l)) (queue_at w (2 * l)) w (facing l (Mutex l (Unlock a)) is fits.0) (λ outside. free l (Mutex l (Unlock a)) is refl outside (section_at w (2 * l)) refl))
+  place_rests (Mutex l UnlockFair) is fits busy up = fair_rests t l 11 false (first_of (queue_at w (2 * l))) (drop 1 (queue_at w (2 * l))) w (omega arith) (unlock_fair_leads t l (queue_at w (2 * l)) (word_at w l) (owner_at w l) w (at_first l (Mutex l UnlockFair) is refl refl fits.0))
+  place_rests (Mutex l Bump) is fits busy up = fair_rests t l 11 true (first_of (queue_at w (2 * l))) (drop 1 (queue_at w (2 * l))) w (omega arith) (bump_leads t l (queue_at w (2 * l)) (word_at w l) (owner_at w l) w (at_first l (Mutex l Bump) is refl refl fits.0))
+  place_rests (Mutex l (HandOff bumps a)) is fits busy up = hand_off_rests t l bumps a (word_at w l) (owner_at w l) (section_at w (2 * l)) (queue_at w (2 * l)) w (facing l (Mutex l (HandOff bumps a)) is fits.0) (λ outside. free l (Mutex l (HandOff bumps a)) is refl outside (section_at w (2 * l)) refl)
 
   -- a call under way ends or sleeps
-  pub solo_rests : IsUnderWay w t → (n : ℕ) (last : Outcome) → 8 ≤ n → Rests (solo n w t last).outcome
+  pub solo_rests : IsUnderWay w t → (n : ℕ) (last : Outcome) → 12 ≤ n → Rests (solo n w t last).outcome
   solo_rests up n last le = place_rests (place_at w t) refl (shape.places t) up.0 up.1 n last le
 
   -- ---------------------------------------------------------------- calls from their beginning
 
-  module _ (l : ℕ) (kind : kind_at w l ≡ kind.TheVariants.Mutex) (v : State) (x : Outcome) where
+  module _ (l : ℕ) (kind : is_mutex (kind_at w l) ≡ true) (v : State) (x : Outcome) where
     rules : rules_at (locks_of w) l ≡ mutex_rules
-    rules = ap rules_of kind
+    rules = mutex_rules_of (kind_at w l) kind
 
     may_own : MayEnter (rules_at (locks_of w) l) (lock_state w l) Exclusive → owner_at w l ≡ None
     may_own may = let m : MayEnter mutex_rules (lock_state w l) Exclusive = subst (λ (r : Rules). MayEnter r (lock_state w l) Exclusive) rules may in m.0.1
@@ -273,11 +369,18 @@ module _ (w : State) (t : ℕ) (shape : IsShaped w) (sound : IsSound w) (only : 
     blocked_owned : IsBlocked (rules_at (locks_of w) l) (lock_state w l) Exclusive → owner_at w l ≡ None → ⊥
     blocked_owned b = let m : IsBlocked mutex_rules (lock_state w l) Exclusive = subst (λ (r : Rules). IsBlocked r (lock_state w l) Exclusive) rules b in m.1
 
-    lock_alone : (timed : Bool) (o : Option ℕ) → owner_at w l ≡ o → LockEnds t l timed o (queue_at w (2 * l)) v x → EntersAlone (locks_of w) t l Exclusive (patience_of timed) x (locks_of v)
-    lock_alone true None e h = ((λ may. h), λ b. absurd (blocked_owned b e))
-    lock_alone false None e h = ((λ may. h), λ b. absurd (blocked_owned b e))
-    lock_alone true (Some u) e h = ((λ may. absurd (let g : Some u ≡ None = sym e ∙ may_own may in cc)), λ b. (h.0, ap (map queued_of) h.1 ∙ queued_behind (2 * l) t Exclusive (queue_at w (2 * l))))
-    lock_alone false (Some u) e h = ((λ may. absurd (let g : Some u ≡ None = sym e ∙ may_own may in cc)), λ b. (h.0, ap (map queued_of) h.1 ∙ queued_behind (2 * l) t Exclusive (queue_at w (2 * l))))
+    -- what a call that waits has come to
+    abbrev patience_of : Entry → Patience
+    patience_of entries.LockTimed = Timed
+    patience_of entry = Patient
+
+    lock_alone : (entry : Entry) (o : Option ℕ) → owner_at w l ≡ o → LockEnds t l entry o (queue_at w (2 * l)) v x → EntersAlone (locks_of w) t l Exclusive (patience_of entry) x (locks_of v)
+    lock_alone entries.LockTimed None e h = ((λ may. h), λ b. absurd (blocked_owned b e))
+    lock_alone entries.Lock None e h = ((λ may. h), λ b. absurd (blocked_owned b e))
+    lock_alone entries.Bump None e h = ((λ may. h), λ b. absurd (blocked_owned b e))
+    lock_alone entries.LockTimed (Some u) e h = ((λ may. absurd (let g : Some u ≡ None = sym e ∙ may_own may in cc)), λ b. (h.0, ap (map queued_of) h.2 ∙ queued_behind (2 * l) t Exclusive (queue_at w (2 * l))))
+    lock_alone entries.Lock (Some u) e h = ((λ may. absurd (let g : Some u ≡ None = sym e ∙ may_own may in cc)), λ b. (h.0, ap (map queued_of) h.2 ∙ queued_behind (2 * l) t Exclusive (queue_at w (2 * l))))
+    lock_alone entries.Bump (Some u) e h = ((λ may. absurd (let g : Some u ≡ None = sym e ∙ may_own may in cc)), λ b. (h.0, ap (map queued_of) h.2 ∙ queued_behind (2 * l) t Exclusive (queue_at w (2 * l))))
 
     try_alone : (b : Bool) → is_locked (word_at w l) ≡ b → (x ≡ (if b then outcome.TheVariants.End answer.TheVariants.No else outcome.TheVariants.End answer.TheVariants.Yes)) × (owner_at v l ≡ (if b then owner_at w l else Some t))
         → EntersAlone (locks_of w) t l Exclusive Try x (locks_of v)
@@ -285,35 +388,56 @@ module _ (w : State) (t : ℕ) (shape : IsShaped w) (sound : IsSound w) (only : 
     try_alone false e h = ((λ may. h), λ b. absurd (blocked_owned b (free_word (word_at w l) (owner_at w l) (sound.codes l) e)))
 
     unlock_alone : UnlockEnds l None v x → EndsAlone (locks_of w) t (Some (Releases l Exclusive false)) x (locks_of v)
-    unlock_alone h = (h.0, λ own. let g : None ≡ Some t = sym h.1 ∙ own in cc)
+    unlock_alone h = (h.0, (λ own. let g : None ≡ Some t = sym h.1 ∙ own in cc), λ mutex. h.1)
 
-  at_first : (l : ℕ) (p : Place) → place_at w t ≡ p → lock_of p ≡ Some l → inside p ≡ None → l < length w.locks → Facing w t l p (word_at w l) (owner_at w l) None (queue_at w (2 * l))
-  at_first l p is own outside lt = subst (λ s. Facing w t l p (word_at w l) (owner_at w l) s (queue_at w (2 * l))) (free l p is own outside (section_at w (2 * l)) refl) (facing l p is lt)
+    succeeds : (q : List Waiter) → first_of q ≡ successor true (map queued_of q)
+    succeeds [] = refl
+    succeeds (y ∷ q) = refl
 
-  call_alone : (l : ℕ) (c : MutexCall) → place_at w t ≡ Mutex l (mutex_first c) → l < length w.locks → kind_at w l ≡ kind.TheVariants.Mutex → (n : ℕ) (last : Outcome) → 8 ≤ n
-      → EndsAlone (locks_of w) t (Some (mutex_purpose l c)) (solo n w t last).outcome (locks_of (solo n w t last).state)
-  call_alone l mutex_call.TheVariants.Lock is lt kind n last le = lock_alone l kind (solo n w t last).state (solo n w t last).outcome false (owner_at w l) refl
-      (first_leads t l false (queue_at w (2 * l)) false (word_at w l) (owner_at w l) (sound.codes l) w (at_first l _ is refl refl lt) n last (omega arith))
-  call_alone l mutex_call.TheVariants.LockTimed is lt kind n last le = lock_alone l kind (solo n w t last).state (solo n w t last).outcome true (owner_at w l) refl
-      (first_leads t l true (queue_at w (2 * l)) false (word_at w l) (owner_at w l) (sound.codes l) w (at_first l _ is refl refl lt) n last (omega arith))
-  call_alone l mutex_call.TheVariants.TryLock is lt kind n last le = try_alone l kind (solo n w t last).state (solo n w t last).outcome (is_locked (word_at w l)) refl
+    unlock_fair_alone : queued (place_at w t) ≡ None → UnlockEnds l (first_of (queue_at w (2 * l))) v x → EndsAlone (locks_of w) t (Some (Releases l Exclusive true)) x (locks_of v)
+    unlock_fair_alone awake h = (h.0, other, λ mutex. h.1 ∙ succeeds (queue_at w (2 * l)))
+      where
+        other : owner_at v l ≡ Some t → ⊥
+        other own = let first : first_of (queue_at w (2 * l)) ≡ Some t = sym h.1 ∙ own in
+            let stands = stands_at (queued (place_at w t)) l (subst (λ n. 1 ≤ n) (sound.queues t l) (first_times t (queue_at w (2 * l)) first)) in cc
+
+    bump_alone : LockEnds t l entries.Bump (first_of (queue_at w (2 * l))) (drop 1 (queue_at w (2 * l))) v x → EndsAlone (locks_of w) t (Some (Bumps l Exclusive)) x (locks_of v)
+    bump_alone h mutex = by_queue (queue_at w (2 * l)) h
+      where
+        by_queue : (q : List Waiter) → LockEnds t l entries.Bump (first_of q) (drop 1 q) v x → BumpsAlone t l (map queued_of q) x (lock_state v l)
+        by_queue [] g = g
+        by_queue (y ∷ q) g = (g.0, g.1, ap (map queued_of) g.2 ∙ queued_behind (2 * l) t Exclusive q)
+
+  fairly : (l : ℕ) → place_at w t ≡ Mutex l UnlockFair → l < length w.locks → is_mutex (kind_at w l) ≡ true → (n : ℕ) (last : Outcome) → 12 ≤ n
+      → EndsAlone (locks_of w) t (Some (Releases l Exclusive true)) (solo n w t last).outcome (locks_of (solo n w t last).state)
+  fairly l is lt kind n last le = unlock_fair_alone l kind (solo n w t last).state (solo n w t last).outcome (ap queued is)
+      (unlock_fair_leads t l (queue_at w (2 * l)) (word_at w l) (owner_at w l) w (at_first l _ is refl refl lt) n last (omega arith))
+
+  call_alone : (l : ℕ) (fair : Bool) (c : MutexCall) → place_at w t ≡ Mutex l (mutex_first fair c) → l < length w.locks → is_mutex (kind_at w l) ≡ true → (n : ℕ) (last : Outcome) → 12 ≤ n
+      → EndsAlone (locks_of w) t (Some (mutex_purpose fair l c)) (solo n w t last).outcome (locks_of (solo n w t last).state)
+  call_alone l fair mutex_call.TheVariants.Lock is lt kind n last le = lock_alone l kind (solo n w t last).state (solo n w t last).outcome entries.Lock (owner_at w l) refl
+      (first_leads t l entries.Lock (queue_at w (2 * l)) false (word_at w l) (owner_at w l) (sound.codes l) w (at_first l _ is refl refl lt) n last (omega arith))
+  call_alone l fair mutex_call.TheVariants.LockTimed is lt kind n last le = lock_alone l kind (solo n w t last).state (solo n w t last).outcome entries.LockTimed (owner_at w l) refl
+      (first_leads t l entries.LockTimed (queue_at w (2 * l)) false (word_at w l) (owner_at w l) (sound.codes l) w (at_first l _ is refl refl lt) n last (omega arith))
+  call_alone l fair mutex_call.TheVariants.TryLock is lt kind n last le = try_alone l kind (solo n w t last).state (solo n w t last).outcome (is_locked (word_at w l)) refl
       (try_leads t l (queue_at w (2 * l)) None (word_at w l) (owner_at w l) w (at_first l _ is refl refl lt) n last (omega arith))
-  call_alone l mutex_call.TheVariants.Unlock is lt kind n last le = unlock_alone l kind (solo n w t last).state (solo n w t last).outcome
+  call_alone l false mutex_call.TheVariants.Unlock is lt kind n last le = unlock_alone l kind (solo n w t last).state (solo n w t last).outcome
       (subtract_leads t l (queue_at w (2 * l)) (word_at w l) (owner_at w l) w (at_first l _ is refl refl lt) n last (omega arith))
+  call_alone l true mutex_call.TheVariants.Unlock is lt kind n last le = fairly l is lt kind n last le
+  call_alone l fair mutex_call.TheVariants.UnlockFair is lt kind n last le = fairly l is lt kind n last le
+  call_alone l fair mutex_call.TheVariants.Bump is lt kind n last le = bump_alone l kind (solo n w t last).state (solo n w t last).outcome
+      (bump_leads t l (queue_at w (2 * l)) (word_at w l) (owner_at w l) w (at_first l _ is refl refl lt) n last (omega arith))
 
   -- a call that begins, stepped alone
-  pub solo_ends : (c : Call) → place_at w t ≡ first_place c → (n : ℕ) (last : Outcome) → 8 ≤ n
+  pub solo_ends : (c : Call) → place_at w t ≡ first_place (kind_at w (lock_in c)) c → (n : ℕ) (last : Outcome) → 12 ≤ n
       → EndsAlone (locks_of w) t (purpose_at (locks_of w) c) (solo n w t last).outcome (locks_of (solo n w t last).state)
-  solo_ends (call.TheVariants.Mutex l c) is n last le = subst (λ k. EndsAlone (locks_of w) t (purpose_of k (call.TheVariants.Mutex l c)) (solo n w t last).outcome (locks_of (solo n w t last).state)) (sym is_kind)
-      (call_alone l c is fits.0 is_kind n last le)
+  solo_ends (call.TheVariants.Mutex l c) is n last le = subst (λ o. EndsAlone (locks_of w) t o (solo n w t last).outcome (locks_of (solo n w t last).state)) (sym (purpose_is (kind_at w l) l c calls.0))
+      (call_alone l (is_fair (kind_at w l)) c is fits.0 calls.0 n last le)
     where
-      calls : CallFits w (Mutex l (mutex_first c))
+      calls : CallFits w (Mutex l (mutex_first (is_fair (kind_at w l)) c))
       calls = subst (CallFits w) is (only.calls t)
 
-      is_kind : kind_at w l ≡ kind.TheVariants.Mutex
-      is_kind = calls.0
-
-      fits : PlaceFits (length w.places) (length w.locks) (Mutex l (mutex_first c))
+      fits : PlaceFits (length w.places) (length w.locks) (Mutex l (mutex_first (is_fair (kind_at w l)) c))
       fits = subst (PlaceFits (length w.places) (length w.locks)) is (shape.places t)
 
 -- ---------------------------------------------------------------- as the world is told them
@@ -323,16 +447,16 @@ stands_there [] t busy = absurd (busy refl)
 stands_there (x ∷ xs) zero busy = omega arith
 stands_there (x ∷ xs) (suc t) busy = let ih : t < length xs = stands_there xs t busy in omega arith
 
-first_busy : (c : Call) (p : Place) → p ≡ first_place c → p ≢ Idle
-first_busy (call.TheVariants.Mutex l c) p is idle = let e : Mutex l (mutex_first c) ≡ Idle = sym is ∙ idle in cc
+first_busy : (k : Kind) (c : Call) (p : Place) → p ≡ first_place k c → p ≢ Idle
+first_busy k (call.TheVariants.Mutex l c) p is idle = let e : Mutex l (mutex_first (is_fair k) c) ≡ Idle = sym is ∙ idle in cc
 
 module _ (w : State) (t : ℕ) (shape : IsShaped w) (sound : IsSound w) (only : OnlyMutexes w) where
   pub rests_alone : IsUnderWay w t → HasItsWay w t → Rests (solo 64 w t outcome.TheVariants.NotNow).outcome
   rests_alone up way = solo_rests w t shape sound only (stands_there w.places t up.0) way up 64 outcome.TheVariants.NotNow (omega arith)
 
-  pub ends_alone : (c : Call) → place_at w t ≡ first_place c → HasItsWay w t
+  pub ends_alone : (c : Call) → place_at w t ≡ first_place (kind_at w (lock_in c)) c → HasItsWay w t
       → EndsAlone (locks_of w) t (purpose_at (locks_of w) c) (solo 64 w t outcome.TheVariants.NotNow).outcome (locks_of (solo 64 w t outcome.TheVariants.NotNow).state)
-  ends_alone c is way = solo_ends w t shape sound only (stands_there w.places t (first_busy c (place_at w t) is)) way c is 64 outcome.TheVariants.NotNow (omega arith)
+  ends_alone c is way = solo_ends w t shape sound only (stands_there w.places t (first_busy (kind_at w (lock_in c)) c (place_at w t) is)) way c is 64 outcome.TheVariants.NotNow (omega arith)
 
 -- ---------------------------------------------------------------- a solo run is a run
 

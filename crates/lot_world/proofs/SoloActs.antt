@@ -16,7 +16,7 @@ use Rattle.lot_steps.specs.declared.acts.Act as act
 use Rattle.lot_steps.specs.declared.acts.Check.TheVariants.{WordIs}
 use Rattle.lot_steps.specs.declared.acts.Wakes.{Wakes}
 use Rattle.lot_steps.specs.declared.acts.Wakes as wakes
-use Rattle.lot_steps.specs.declared.acts.Reply.TheVariants.{Done, Value, Parked, Took, Removed, TakenBy, Woken}
+use Rattle.lot_steps.specs.declared.acts.Reply.TheVariants.{Done, Value, Parked, Took, Removed, TakenBy, HandedBy, Woken}
 use Rattle.lot_steps.specs.declared.calls.Outcome.{Outcome}
 use Rattle.lot_steps.specs.declared.calls.Outcome as outcome
 use Rattle.lot_steps.specs.declared.places.Place.{Place}
@@ -100,10 +100,16 @@ module _ (w : State) (t l : ℕ) (p : Place) (v : ℕ) (o s : Option ℕ) (q : L
       led : after w (go_of t) ≡ put b t p2
       led = goes can ∙ ap (λ x. put (performed w t x (act_of x)) t (next_place x (reply_to w t (act_of x)))) f.place ∙ (λ i. put (does i) t (to i))
 
+  word_led : (x : Op) → word_at (operated w t p l x) l ≡ apply x v
+  word_led x = ap (λ y. y.word) (get_or-set_same w.locks l _ (unlocked kind.TheVariants.Mutex) f.lock) ∙ ap (apply x) f.word
+
+  owner_led : (x : Op) → owner_at (operated w t p l x) l ≡ owner_after p t v o
+  owner_led x = ap (λ y. y.owners.exclusive) (get_or-set_same w.locks l _ (unlocked kind.TheVariants.Mutex) f.lock) ∙ exclusive-owners p t (word_at w l) (owners_at w l) ∙ (λ i. owner_after p t (f.word i) (f.owner i))
+
   pub word_faces : (x : Op) → act_of p ≡ act.TheVariants.Word l x → Faces w t l (next_place p (Value v)) (outcome_of (next_act p (Value v))) (apply x v) (owner_after p t v o) s q
   word_faces x is = (
     told can ∙ ap (λ r. outcome_of (next_act p r)) heard,
-    faces (operated w t p l x) (next_place p (Value v)) (apply x v) (owner_after p t v o) s q can (ap (performed w t p) is) refl (ap (next_place p) heard) word owner f.section f.queue,
+    faces (operated w t p l x) (next_place p (Value v)) (apply x v) (owner_after p t v o) s q can (ap (performed w t p) is) refl (ap (next_place p) heard) (word_led x) (owner_led x) f.section f.queue,
   )
     where
       can : can_do w (act_of p) ≡ true
@@ -112,11 +118,29 @@ module _ (w : State) (t l : ℕ) (p : Place) (v : ℕ) (o s : Option ℕ) (q : L
       heard : reply_to w t (act_of p) ≡ Value v
       heard = ap (reply_to w t) is ∙ ap Value f.word
 
-      word : word_at (operated w t p l x) l ≡ apply x v
-      word = ap (λ y. y.word) (get_or-set_same w.locks l _ (unlocked kind.TheVariants.Mutex) f.lock) ∙ ap (apply x) f.word
+  pub hand_faces : (x : Op) (u : ℕ) → act_of p ≡ act.TheVariants.HandOver l x u → Faces w t l (next_place p (Value v)) (outcome_of (next_act p (Value v))) (apply x v) (owner_after p t v o) s q
+  hand_faces x u is = (
+    told can ∙ ap (λ r. outcome_of (next_act p r)) heard,
+    faces (befallen (operated w t p l x) u (HandedBy t)) (next_place p (Value v)) (apply x v) (owner_after p t v o) s q can (ap (performed w t p) is) (length-set w.places u _) (ap (next_place p) heard) (word_led x) (owner_led x) f.section f.queue,
+  )
+    where
+      can : can_do w (act_of p) ≡ true
+      can = rw is refl
 
-      owner : owner_at (operated w t p l x) l ≡ owner_after p t v o
-      owner = ap (λ y. y.owners.exclusive) (get_or-set_same w.locks l _ (unlocked kind.TheVariants.Mutex) f.lock) ∙ exclusive-owners p t (word_at w l) (owners_at w l) ∙ (λ i. owner_after p t (f.word i) (f.owner i))
+      heard : reply_to w t (act_of p) ≡ Value v
+      heard = ap (reply_to w t) is ∙ ap Value f.word
+
+  pub accept_faces : act_of p ≡ act.TheVariants.Accept → Faces w t l (next_place p Done) (outcome_of (next_act p Done)) v o s q
+  accept_faces is = (
+    told can ∙ ap (λ r. outcome_of (next_act p r)) heard,
+    faces w (next_place p Done) v o s q can (ap (performed w t p) is) refl (ap (next_place p) heard) f.word f.owner f.section f.queue,
+  )
+    where
+      can : can_do w (act_of p) ≡ true
+      can = rw is refl
+
+      heard : reply_to w t (act_of p) ≡ Done
+      heard = ap (reply_to w t) is
 
   pub enter_faces : act_of p ≡ act.TheVariants.Enter (One (2 * l)) → s ≡ None → Faces w t l (next_place p Done) (outcome_of (next_act p Done)) v o (Some t) q
   enter_faces is free = (

@@ -4,14 +4,15 @@ use Rattle.parking_lot_core.specs.declared.keys.Keys.{Keys}
 use Rattle.parking_lot_core.specs.declared.keys.Keys.TheVariants.{One, Two}
 use Rattle.parking_lot_core.specs.declared.wants.Waiter.{Waiter}
 use Rattle.lot_steps.specs.declared.acts.Act.{Act}
-use Rattle.lot_steps.specs.declared.acts.Act.TheVariants.{Word, Enter, Park, TakeFirst, Remove, Leave}
+use Rattle.lot_steps.specs.declared.acts.Act.TheVariants.{Word, HandOver, Enter, Park, TakeFirst, Remove, Leave}
 use Rattle.lot_steps.specs.declared.acts.Wakes.{Wakes}
 use Rattle.lot_steps.specs.declared.acts.Wakes as wakes
 use Rattle.lot_steps.specs.declared.places.Place.{Place}
 use Rattle.lot_steps.specs.declared.places.Place.TheVariants.{Idle, Mutex}
 use Rattle.lot_steps.specs.declared.mutex.MutexPlace.{MutexPlace}
-use Rattle.lot_steps.specs.declared.mutex.MutexPlace.TheVariants.{Unlock}
+use Rattle.lot_steps.specs.declared.mutex.MutexPlace.TheVariants.{Unlock, HandOff}
 use Rattle.lot_steps.specs.declared.mutex.UnlockAt.TheVariants as unlock
+use Rattle.lot_steps.specs.declared.mutex.HandOffAt.TheVariants as hand_off
 use Rattle.lot_world.specs.Machine.{State, place_at, queue_at}
 
 abbrev pub KeysFit : ℕ → Keys → Type 0
@@ -24,6 +25,7 @@ WakesFit n (wakes.TheVariants.One u note) = u < n
 
 abbrev pub ActFits : State → Act → Type 0
 ActFits w (Word l op) = l < length w.locks
+ActFits w (HandOver l op u) = (l < length w.locks) × (u < length w.places)
 ActFits w (Enter keys) = KeysFit (length w.sections) keys
 ActFits w (Park l key check x) = (l < length w.locks) × (key < length w.sections)
 ActFits w (TakeFirst key) = key < length w.sections
@@ -39,6 +41,8 @@ SomeBelow n (Some u) = u < n
 abbrev pub taken_in : MutexPlace → Option ℕ
 taken_in (Unlock (unlock.Clear taken)) = taken
 taken_in (Unlock (unlock.Leave taken)) = taken
+taken_in (HandOff bumps (hand_off.Store taken none_left)) = taken
+taken_in (HandOff bumps (hand_off.Leave taken)) = taken
 taken_in at = None
 
 abbrev pub PlaceFits : ℕ → ℕ → Place → Type 0

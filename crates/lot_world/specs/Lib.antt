@@ -12,6 +12,7 @@ pub mod Fits
 pub mod Views
 pub mod Refinement
 pub mod Promises
+pub mod Fair
 pub mod Solo
 pub mod Sound
 pub mod OnlyMutexes

@@ -1,5 +1,5 @@
 -- A run of the abstract locks: each step is one case of one lock, or changes nothing, and each answer is true.
-use Rattle.std.specs.Prelude.{ℕ, suc, Option, Some, None, ◌<◌, ◌≤◌, ◌≡◌, ◌≢◌, ◌⊎◌, List, [], ◌∷◌, Bool, false, if◌then◌else◌, ◌==◌}
+use Rattle.std.specs.Prelude.{ℕ, suc, Option, Some, None, ◌<◌, ◌≤◌, ◌≡◌, ◌≢◌, ◌⊎◌, List, [], ◌∷◌, Bool, true, false, if◌then◌else◌, ◌==◌}
 use Rattle.parking_lot_core.specs.declared.wants.Want.{Want}
 use Rattle.parking_lot_core.specs.declared.wants.Want.TheVariants.{Exclusive}
 use Rattle.lot_steps.specs.declared.kinds.Kind.{Kind}
@@ -12,7 +12,7 @@ use Rattle.lot_steps.specs.declared.calls.Answer as answer
 use Rattle.lot_steps.specs.declared.calls.Outcome.{Outcome}
 use Rattle.lot_steps.specs.declared.calls.Outcome as outcome
 use Rattle.lot_steps.specs.Steps.{lock_in}
-use Rattle.lot_world.specs.Locks.{LockState, Taken, LockCase, Enter, Pend, Settle, Park, Aside, Wake, Late, Rules, Rights, Mutex, Needs, after, rights_of, with_right, Owns, IsFree, IsBlocked, count, readers, put, standing, HasTakenNobody, IsLockState, opening_lock}
+use Rattle.lot_world.specs.Locks.{LockState, Taken, LockCase, Enter, Pend, Settle, Leave, Park, Aside, Wake, HandOff, Late, Rules, Rights, Mutex, Needs, after, rights_of, with_right, without_right, Owns, IsFree, IsBlocked, count, readers, put, standing, HasTakenNobody, IsLockState, opening_lock}
 use Rattle.lot_world.specs.Purposes.{Purpose, Enters, Releases, Converts, Bumps, Patience, Patient, Timed, Try, purpose_of, rules_of, IsMadeOf}
 
 -- what is remembered of a call: what its answer needs of earlier steps, and whether it tries again
@@ -25,6 +25,8 @@ pub record CallState : Type 0 where
   pub gave_up : Option ℕ
   -- the lock that it tries again since it was woken
   pub retries : Option ℕ
+  -- whether it has given its right up
+  pub released : Bool
 
 -- locks, and threads that call them
 pub record LocksState : Type 0 where
@@ -42,7 +44,7 @@ abbrev pub rights_in : LocksState → ℕ → ℕ → Rights
 rights_in w t l = rights_of (w.locks l) t
 
 abbrev pub beginning : Option Purpose → (ℕ → Rights) → CallState
-beginning purpose former = record { purpose = purpose; former = former; gave_up = None; retries = None }
+beginning purpose former = record { purpose = purpose; former = former; gave_up = None; retries = None; released = false }
 
 abbrev pub no_rights : Rights
 no_rights = record { exclusive = 0; pending = 0; upgradable = 0; shared = 0 }
@@ -79,15 +81,18 @@ going_on (AtLock l Pend) c = record c { retries = None }
 going_on (AtLock l Settle) c = record c { retries = None }
 going_on (AtLock l (Park x)) c = record c { retries = None }
 going_on (AtLock l Aside) c = record c { retries = None }
+going_on (AtLock l (Leave x)) c = record c { released = true }
+going_on (AtLock l (HandOff x successor)) c = record c { released = true }
 going_on event c = c
 
 abbrev pub is_taken_by : ℕ → Option Taken → Bool
 is_taken_by t None = false
 is_taken_by t (Some h) = h.by == t
 
--- and any other thread: whoever is woken tries the lock again
+-- and any other thread: whoever is woken tries the lock again, and who was handed it doesn't
 abbrev pub woken : LocksState → ℕ → Event → ℕ → CallState → CallState
 woken w t (AtLock l Wake) u c = if is_taken_by t ((w.locks l).taken u) then record c { retries = Some l } else c
+woken w t (AtLock l (HandOff x successor)) u c = if is_taken_by t ((w.locks l).taken u) then record c { retries = None } else c
 woken w t event u c = c
 
 -- a call that ends is forgotten
@@ -101,7 +106,7 @@ calls_after w t event o u = if u == t then unless_ended o (going_on event (w.cal
 -- the call is made of the case, and what the case needs is there
 abbrev pub MayDo : LocksState → ℕ → ℕ → LockCase → Option Purpose → Type 0
 MayDo w t l case None = ⊥
-MayDo w t l case (Some purpose) = IsMadeOf purpose (w.calls t).gave_up l case × Needs (rules_at w l) case (w.locks l) t
+MayDo w t l case (Some purpose) = IsMadeOf purpose (w.calls t).gave_up (w.calls t).released l case × Needs (rules_at w l) case (w.locks l) t
 
 abbrev pub MayHappen : LocksState → ℕ → Event → Type 0
 MayHappen w t Nothing = Unit {0}
@@ -112,6 +117,10 @@ MayHappen w t (AtLock l case) = MayDo w t l case (w.calls t).purpose
 -- one right more at one lock
 abbrev pub one_more_at : ℕ → Want → (ℕ → Rights) → ℕ → Rights
 one_more_at l x rights = put rights l (with_right x (rights l))
+
+-- and one right less
+abbrev pub one_less_at : ℕ → Want → (ℕ → Rights) → ℕ → Rights
+one_less_at l x rights = put rights l (without_right x (rights l))
 
 -- the thread owns what it owned as its call began
 abbrev pub Keeps : LocksState → ℕ → CallState → Type 0
@@ -156,7 +165,7 @@ ConvertsAnswer w t c l x y Try answer.TheVariants.No = (1 ≤ readers (w.locks l
 ConvertsAnswer w t c l x y how a = ⊥
 
 abbrev pub BumpsAnswer : LocksState → ℕ → CallState → ℕ → Want → Answer → Type 0
-BumpsAnswer w t c l x answer.TheVariants.Ok = Keeps w t c
+BumpsAnswer w t c l x answer.TheVariants.Ok = Owns (w.locks l) t x × Keeps w t c
 BumpsAnswer w t c l x answer.TheVariants.ReadersFull = IsFull w l x × Loses w t c l x
 BumpsAnswer w t c l x a = ⊥
 

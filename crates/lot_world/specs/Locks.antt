@@ -89,6 +89,11 @@ abbrev pub times : ℕ → List Queued → ℕ
 times t [] = 0
 times t (x ∷ xs) = (if x.thread == t then 1 else 0) + times t xs
 
+-- who stands first
+abbrev pub first_thread : List Queued → Option ℕ
+first_thread [] = None
+first_thread (x ∷ q) = Some x.thread
+
 -- how often a thread stands in the queue, stands aside or is taken
 abbrev pub standing : ℕ → LockState → ℕ
 standing t s = times t s.queue + is_thread t s.aside + one_if_some (s.taken t)
@@ -126,6 +131,13 @@ with_right Exclusive r = record r { exclusive = r.exclusive + 1 }
 with_right Upgradable r = record r { upgradable = r.upgradable + 1 }
 with_right Shared r = record r { shared = r.shared + 1 }
 with_right _ r = r
+
+-- one right less
+abbrev pub without_right : Want → Rights → Rights
+without_right Exclusive r = record r { exclusive = r.exclusive - 1 }
+without_right Upgradable r = record r { upgradable = r.upgradable - 1 }
+without_right Shared r = record r { shared = r.shared - 1 }
+without_right _ r = r
 
 abbrev pub Owns : LockState → ℕ → Want → Type 0
 Owns s t Exclusive = s.exclusive ≡ Some t

@@ -13,12 +13,12 @@ use Rattle.lot_steps.specs.declared.owners.Owners.{Owners}
 use Rattle.lot_steps.specs.declared.places.Place.{Place}
 use Rattle.lot_steps.specs.declared.places.Place.TheVariants.{Idle}
 use Rattle.lot_steps.specs.declared.acts.Act.{Act}
-use Rattle.lot_steps.specs.declared.acts.Act.TheVariants.{Rest, Word, Enter, Park, TakeFirst, Remove, Leave, Sleep, Closure, End}
+use Rattle.lot_steps.specs.declared.acts.Act.TheVariants.{Rest, Word, HandOver, Enter, Park, TakeFirst, Remove, Leave, Sleep, Closure, End}
 use Rattle.lot_steps.specs.declared.acts.Check.{Check}
 use Rattle.lot_steps.specs.declared.acts.Wakes.{Wakes}
 use Rattle.lot_steps.specs.declared.acts.Wakes as wakes
 use Rattle.lot_steps.specs.declared.acts.Reply.{Reply}
-use Rattle.lot_steps.specs.declared.acts.Reply.TheVariants.{Done, Value, Spun, Parked, Took, Removed, TakenBy, Late, Woken}
+use Rattle.lot_steps.specs.declared.acts.Reply.TheVariants.{Done, Value, Spun, Parked, Took, Removed, TakenBy, HandedBy, Late, Woken}
 use Rattle.lot_steps.specs.declared.calls.Call.{Call}
 use Rattle.lot_steps.specs.declared.calls.Turn.{Turn}
 use Rattle.lot_steps.specs.declared.calls.Turn as turn
@@ -153,6 +153,7 @@ can_do w act = true
 -- what it does
 abbrev pub performed : State → ℕ → Place → Act → State
 performed w t p (Word l op) = operated w t p l op
+performed w t p (HandOver l op u) = befallen (operated w t p l op) u (HandedBy t)
 performed w t p (Enter keys) = filled_with w keys (Some t)
 performed w t p (Park l key check wanted) = parked w t l key check wanted
 performed w t p (TakeFirst key) = took w t key
@@ -163,6 +164,7 @@ performed w t p act = w
 -- and what the thread is told
 abbrev pub reply_to : State → ℕ → Act → Reply
 reply_to w t (Word l op) = Value (word_at w l)
+reply_to w t (HandOver l op u) = Value (word_at w l)
 reply_to w t (Park l key check x) = Parked (holds check (word_at w l))
 reply_to w t (TakeFirst key) = Took (first_of (queue_at w key)) (length (drop 1 (queue_at w key)) == 0)
 reply_to w t (Remove key) = Removed (length (without t (queue_at w key)) == 0)
@@ -191,7 +193,7 @@ abbrev pub can_begin : State → ℕ → Call → Bool
 can_begin w t call = is_idle (place_at w t) && is_open_to w t call
 
 abbrev pub begun : State → ℕ → Call → State
-begun w t call = put w t (first_place call)
+begun w t call = put w t (first_place (kind_at w (lock_in call)) call)
 
 abbrev pub is_there : Option ℕ → Bool
 is_there None = false

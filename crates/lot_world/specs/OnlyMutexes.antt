@@ -1,13 +1,15 @@
 -- What a world in which only mutexes have calls doesn't have: owners but exclusive ones, waiters aside or for another want.
-use Rattle.std.specs.Prelude.{ℕ, true, None, ◌≡◌, ◌+◌, ◌*◌, List, [], ◌∷◌}
+use Rattle.std.specs.Prelude.{ℕ, Bool, true, false, None, ◌≡◌, ◌+◌, ◌*◌, List, [], ◌∷◌}
 use Rattle.parking_lot_core.specs.declared.wants.Waiter.{Waiter}
 use Rattle.parking_lot_core.specs.declared.wants.Want.TheVariants.{Exclusive}
+use Rattle.lot_steps.specs.declared.kinds.Kind.{Kind}
 use Rattle.lot_steps.specs.declared.kinds.Kind as kind
 use Rattle.lot_steps.specs.declared.places.Place.{Place}
 use Rattle.lot_steps.specs.declared.places.Place.TheVariants.{Idle, Mutex}
 use Rattle.lot_steps.specs.declared.mutex.MutexPlace.{MutexPlace}
 use Rattle.lot_steps.specs.declared.mutex.MutexPlace.TheVariants.{Lock}
 use Rattle.lot_steps.specs.declared.mutex.LockAt.TheVariants.{Remove, Clear, GiveUp}
+use Rattle.lot_steps.specs.MutexSteps.{is_timed}
 use Rattle.lot_world.specs.Machine.{State, place_at, owners_at, kind_at, queue_at}
 
 abbrev pub AllExclusive : List Waiter → Type 0
@@ -16,15 +18,20 @@ AllExclusive (x ∷ xs) = (x.want ≡ Exclusive) × AllExclusive xs
 
 -- only a timed call gives up
 abbrev pub GivesUpTimed : MutexPlace → Type 0
-GivesUpTimed (Lock timed retries Remove) = timed ≡ true
-GivesUpTimed (Lock timed retries Clear) = timed ≡ true
-GivesUpTimed (Lock timed retries GiveUp) = timed ≡ true
+GivesUpTimed (Lock e retries Remove) = is_timed e ≡ true
+GivesUpTimed (Lock e retries Clear) = is_timed e ≡ true
+GivesUpTimed (Lock e retries GiveUp) = is_timed e ≡ true
 GivesUpTimed at = Unit {0}
 
--- a thread in a call of a mutex calls a lock of that kind
+abbrev pub is_mutex : Kind → Bool
+is_mutex kind.TheVariants.Mutex = true
+is_mutex kind.TheVariants.Fair = true
+is_mutex k = false
+
+-- a thread in a call of a mutex calls a lock of such a kind
 abbrev pub CallFits : State → Place → Type 0
 CallFits w Idle = Unit {0}
-CallFits w (Mutex l at) = (kind_at w l ≡ kind.TheVariants.Mutex) × GivesUpTimed at
+CallFits w (Mutex l at) = (is_mutex (kind_at w l) ≡ true) × GivesUpTimed at
 
 pub record OnlyMutexes (w : State) : Type 0 where
   pub pending : (l : ℕ) → (owners_at w l).pending ≡ None

@@ -1,16 +1,18 @@
 -- What is promised of every state of a world of mutexes, before and after each step, under every schedule.
-use Rattle.std.specs.Prelude.{ℕ, false, true, None, Option, ◌≡◌, ◌≢◌, ◌+◌, ◌≤◌, ◌⊎◌, List, take, ◌↔◌, Some, ◌*◌, Bool}
+use Rattle.std.specs.Prelude.{ℕ, false, true, None, Option, ◌≡◌, ◌≢◌, ◌+◌, ◌≤◌, ◌⊎◌, List, take, ◌↔◌, Some, ◌*◌}
 use Rattle.parking_lot_core.specs.declared.keys.Keys.TheVariants.{One}
 use Rattle.parking_lot_core.specs.declared.wants.Want.TheVariants.{Exclusive}
-use Rattle.lot_steps.specs.declared.acts.Act.TheVariants.{Enter, Sleep}
+use Rattle.lot_steps.specs.declared.acts.Act.TheVariants.{Enter, Leave, Sleep}
+use Rattle.lot_steps.specs.declared.acts.Wakes as wakes
+use Rattle.parking_lot_core.specs.declared.notes.Note.TheVariants.{HandOff}
 use Rattle.lot_steps.specs.declared.calls.Step.{Step}
 use Rattle.lot_steps.specs.MutexSteps.{is_parked}
 use Rattle.lot_steps.specs.Steps.{act_of, owes_on, retries_on}
 use Rattle.lot_world.specs.Machine.{State, place_at, word_at, after_all, section_at}
-use Rattle.lot_world.specs.Locks.{times, standing, one_if_some}
+use Rattle.lot_world.specs.Locks.{times, standing, one_if_some, Owns}
 use Rattle.lot_world.specs.LockRuns.{AreLockStates}
 use Rattle.lot_world.specs.Refinement.{lock_state, locks_of}
-use Rattle.lot_world.specs.Purposes.{Releases, Enters, patience_of}
+use Rattle.lot_world.specs.Purposes.{Releases, MayWait, IsReleasing}
 
 -- a thread stands in the queue of a mutex
 abbrev pub WaitsFor : State → ℕ → ℕ → Type 0
@@ -26,7 +28,7 @@ IsCoded w l = Codes (word_at w l) (lock_state w l).exclusive
 
 -- a call that releases, and enters the section of the queue next
 abbrev pub GoesToWake : State → ℕ → ℕ → Type 0
-GoesToWake w t l = (act_of (place_at w t) ≡ Enter (One (2 * l))) × (((locks_of w).calls t).purpose ≡ Some (Releases l Exclusive false))
+GoesToWake w t l = (act_of (place_at w t) ≡ Enter (One (2 * l))) × IsReleasing ((locks_of w).calls t).purpose ((locks_of w).calls t).released l
 
 -- some thread, which is awake, stands in no queue and isn't taken, releases the mutex and owes a wake on it, or was woken on it and is
 -- about to try again
@@ -41,19 +43,33 @@ pub record IsLookedAfter (w : State) (l : ℕ) : Type 0 where
 abbrev pub NobodyForgotten : State → Type 0
 NobodyForgotten w = (t l : ℕ) → WaitsFor w t l → (lock_state w l).exclusive ≡ None → IsLookedAfter w l
 
+-- a thread sleeps, and stands in no queue, nor was it taken from one
+abbrev pub IsAsleepNowhere : State → ℕ → Type 0
+IsAsleepNowhere w t = (act_of (place_at w t) ≡ Sleep) × ((l : ℕ) → standing t (lock_state w l) ≡ 0)
+
+-- it owns a lock, and the thread inside the section wakes it as it leaves
+pub record IsHandedOver (w : State) (t : ℕ) : Type 0 where
+  pub lock : ℕ
+  pub by : ℕ
+  pub owner : Owns (lock_state w lock) t Exclusive
+  pub inside : section_at w (2 * lock) ≡ Some by
+  pub wakes : act_of (place_at w by) ≡ Leave (One (2 * lock)) (wakes.TheVariants.One t HandOff)
+
 pub record IsKept (w : State) : Type 0 where
   -- owners exclude each other, and a thread stands at most once in the queue of a lock, aside of it or taken from it
   pub state : AreLockStates (locks_of w)
   -- and at one lock at most
   pub one_place : (t l k : ℕ) → 1 ≤ standing t (lock_state w l) → 1 ≤ standing t (lock_state w k) → l ≡ k
   -- in a call that waits for it
-  pub waiting : (t l : ℕ) → 1 ≤ standing t (lock_state w l) → (timed : Bool) × (((locks_of w).calls t).purpose ≡ Some (Enters l Exclusive (patience_of timed)))
+  pub waiting : (t l : ℕ) → 1 ≤ standing t (lock_state w l) → MayWait ((locks_of w).calls t).purpose l
   pub coded : (l : ℕ) → IsCoded w l
   pub nobody_forgotten : NobodyForgotten w
   -- who is shown to owe a wake is inside the section of the queue, or a release on its way into it
   pub owing : (t l : ℕ) → owes_on (place_at w t) l ≡ true ↔ ((section_at w (2 * l) ≡ Some t) ⊎ GoesToWake w t l)
   -- who is shown to try a lock again was woken on it, and has got neither the lock nor a place in a queue since
   pub retrying : (t l : ℕ) → retries_on (place_at w t) l ≡ true ↔ ((locks_of w).calls t).retries ≡ Some l
+  -- who is asleep but stands nowhere was handed the lock that it waited for, by a thread that is inside the section and wakes it
+  pub handing : (t : ℕ) → IsAsleepNowhere w t → IsHandedOver w t
   -- a waiter implies the parked bit
   pub parked : (t l : ℕ) → WaitsFor w t l → is_parked (word_at w l) ≡ true
 

@@ -1,5 +1,5 @@
 -- What each call of a lock is for, and which cases it is made of.
-use Rattle.std.specs.Prelude.{ℕ, Bool, true, false, Option, Some, None, if◌then◌else◌, ◌≡◌, ◌≢◌, ◌⊎◌}
+use Rattle.std.specs.Prelude.{ℕ, Bool, true, false, Option, Some, None, ◌≡◌, ◌≢◌, ◌⊎◌}
 use Rattle.parking_lot_core.specs.declared.wants.Want.{Want}
 use Rattle.parking_lot_core.specs.declared.wants.Want.TheVariants.{Exclusive, Upgradable, Shared}
 use Rattle.lot_steps.specs.declared.kinds.Kind.{Kind}
@@ -16,9 +16,6 @@ pub data Patience : Type 0 where
   Timed : Patience
   Try : Patience
 
-abbrev pub patience_of : Bool → Patience
-patience_of timed = if timed then Timed else Patient
-
 -- what a call of a lock is for
 pub data Purpose : Type 0 where
   Enters : (lock : ℕ) → (want : Want) → Patience → Purpose
@@ -26,16 +23,33 @@ pub data Purpose : Type 0 where
   Converts : (lock : ℕ) → (right want : Want) → Patience → Purpose
   Bumps : (lock : ℕ) → (right : Want) → Purpose
 
-abbrev pub mutex_purpose : ℕ → MutexCall → Purpose
-mutex_purpose l mutex_call.TheVariants.Lock = Enters l Exclusive Patient
-mutex_purpose l mutex_call.TheVariants.LockTimed = Enters l Exclusive Timed
-mutex_purpose l mutex_call.TheVariants.TryLock = Enters l Exclusive Try
-mutex_purpose l mutex_call.TheVariants.Unlock = Releases l Exclusive false
+-- a fair mutex is released fairly by any release
+abbrev pub mutex_purpose : Bool → ℕ → MutexCall → Purpose
+mutex_purpose fair l mutex_call.TheVariants.Lock = Enters l Exclusive Patient
+mutex_purpose fair l mutex_call.TheVariants.LockTimed = Enters l Exclusive Timed
+mutex_purpose fair l mutex_call.TheVariants.TryLock = Enters l Exclusive Try
+mutex_purpose fair l mutex_call.TheVariants.Unlock = Releases l Exclusive fair
+mutex_purpose fair l mutex_call.TheVariants.UnlockFair = Releases l Exclusive true
+mutex_purpose fair l mutex_call.TheVariants.Bump = Bumps l Exclusive
 
 -- what a call of a lock of this kind is for; nothing where the kind lacks the call
 abbrev pub purpose_of : Kind → Call → Option Purpose
-purpose_of kind.TheVariants.Mutex (call.TheVariants.Mutex l c) = Some (mutex_purpose l c)
+purpose_of kind.TheVariants.Mutex (call.TheVariants.Mutex l c) = Some (mutex_purpose false l c)
+purpose_of kind.TheVariants.Fair (call.TheVariants.Mutex l c) = Some (mutex_purpose true l c)
 purpose_of k c = None
+
+-- a call that may sleep until it has the lock
+abbrev pub MayWait : Option Purpose → ℕ → Type 0
+MayWait (Some (Enters l x how)) k = (l ≡ k) × (how ≢ Try)
+MayWait (Some (Converts l x y how)) k = (l ≡ k) × (how ≢ Try)
+MayWait (Some (Bumps l x)) k = l ≡ k
+MayWait purpose k = ⊥
+
+-- a call that releases the lock; a bump does so until it has, and then it enters
+abbrev pub IsReleasing : Option Purpose → Bool → ℕ → Type 0
+IsReleasing (Some (Releases l x fair)) released k = l ≡ k
+IsReleasing (Some (Bumps l x)) released k = (l ≡ k) × (released ≡ false)
+IsReleasing purpose released k = ⊥
 
 -- the rules of a lock of each kind; a condition variable and a Once have none, and nobody enters them
 abbrev pub rules_of : Kind → Rules
@@ -83,9 +97,10 @@ abbrev pub is_fair_bump : Want → Bool
 is_fair_bump Shared = false
 is_fair_bump x = true
 
--- the call does this to this lock; gave_up is the lock whose queue it left because its time was up
-abbrev pub IsMadeOf : Purpose → Option ℕ → ℕ → LockCase → Type 0
-IsMadeOf (Enters l x p) gave_up k case = (k ≡ l) × EntersBy x p gave_up case
-IsMadeOf (Releases l x fair) gave_up k case = (k ≡ l) × ReleasesBy x fair case
-IsMadeOf (Converts l x y p) gave_up k case = (k ≡ l) × ConvertsBy x y p gave_up case
-IsMadeOf (Bumps l x) gave_up k case = (k ≡ l) × (ReleasesBy x (is_fair_bump x) case ⊎ EntersBy x Patient gave_up case)
+-- the call does this to this lock; gave_up is the lock whose queue it left because its time was up, released whether it has given
+-- its right up: a bump enters only then
+abbrev pub IsMadeOf : Purpose → Option ℕ → Bool → ℕ → LockCase → Type 0
+IsMadeOf (Enters l x p) gave_up released k case = (k ≡ l) × EntersBy x p gave_up case
+IsMadeOf (Releases l x fair) gave_up released k case = (k ≡ l) × ReleasesBy x fair case
+IsMadeOf (Converts l x y p) gave_up released k case = (k ≡ l) × ConvertsBy x y p gave_up case
+IsMadeOf (Bumps l x) gave_up released k case = (k ≡ l) × (ReleasesBy x (is_fair_bump x) case ⊎ ((released ≡ true) × EntersBy x Patient gave_up case))

@@ -10,16 +10,19 @@ use Rattle.lot_steps.specs.declared.owners.Fallback as fallback
 use Rattle.lot_steps.specs.declared.places.Place.{Place}
 use Rattle.lot_steps.specs.declared.places.Place.TheVariants.{Idle, Mutex}
 use Rattle.lot_steps.specs.declared.mutex.MutexPlace.{MutexPlace}
-use Rattle.lot_steps.specs.declared.mutex.MutexPlace.TheVariants.{Lock, TryLock, Unlock}
+use Rattle.lot_steps.specs.declared.mutex.MutexPlace.TheVariants.{Lock, TryLock, Unlock, UnlockFair, Bump, HandOff}
+use Rattle.lot_steps.specs.declared.mutex.Entry.{Entry}
+use Rattle.lot_steps.specs.declared.mutex.Entry.TheVariants as entry
 use Rattle.lot_steps.specs.declared.mutex.LockAt.{LockAt}
 use Rattle.lot_steps.specs.declared.mutex.LockAt.TheVariants as lock
-use Rattle.lot_steps.specs.declared.mutex.UnlockAt.{UnlockAt}
 use Rattle.lot_steps.specs.declared.mutex.UnlockAt.TheVariants as unlock
+use Rattle.lot_steps.specs.declared.mutex.HandOffAt.TheVariants as hand_off
 use Rattle.lot_steps.specs.declared.calls.Step.{Step}
+use Rattle.lot_steps.specs.MutexSteps.{mutex_retries}
 use Rattle.lot_world.specs.Machine.{State, place_at, word_at, owners_at, kind_at, queue_at, section_at, after_all, answered_all, after}
 use Rattle.lot_world.specs.Locks.{LockState, Queued, Taken, Pending, Rights}
-use Rattle.lot_world.specs.Purposes.{Enters, Releases, Try, patience_of}
-use Rattle.lot_world.specs.LockRuns.{LocksState, CallState, no_call, one_more_at, IsRun}
+use Rattle.lot_world.specs.Purposes.{Purpose, Enters, Releases, Bumps, Patient, Timed, Try}
+use Rattle.lot_world.specs.LockRuns.{LocksState, CallState, no_call, one_more_at, one_less_at, IsRun}
 use Rattle.lot_world.specs.Locks as locks
 
 -- ---------------------------------------------------------------- one lock
@@ -37,7 +40,7 @@ queued_of x = record { thread = x.thread; want = x.want }
 
 -- by whom the thread at a place was taken from the queue of a lock
 abbrev pub taken_at : Place → ℕ → Option Taken
-taken_at (Mutex k (Lock timed retries (lock.Taken by))) l = if k == l then Some (record { by = by; want = Exclusive }) else None
+taken_at (Mutex k (Lock e retries (lock.Taken by))) l = if k == l then Some (record { by = by; want = Exclusive }) else None
 taken_at p l = None
 
 -- nobody shares a lock of the kinds that are built
@@ -63,15 +66,65 @@ gave_up_at l lock.Clear = Some l
 gave_up_at l lock.GiveUp = Some l
 gave_up_at l at = None
 
--- a release has given its right up from its first step on
-abbrev pub before_release : ℕ → UnlockAt → (ℕ → Rights) → ℕ → Rights
-before_release l unlock.Subtract rights = rights
-before_release l at rights = one_more_at l Exclusive rights
+-- what a thread that enters calls for
+abbrev pub entry_purpose : ℕ → Entry → Purpose
+entry_purpose l entry.Lock = Enters l Exclusive Patient
+entry_purpose l entry.LockTimed = Enters l Exclusive Timed
+entry_purpose l entry.Bump = Bumps l Exclusive
+
+abbrev pub is_bump : Entry → Bool
+is_bump entry.Bump = true
+is_bump e = false
+
+-- it owns the lock before its call ends only where it was handed it
+abbrev pub is_handed : LockAt → Bool
+is_handed (lock.Handed by) = true
+is_handed lock.Accept = true
+is_handed at = false
+
+abbrev pub release_purpose : ℕ → Bool → Purpose
+release_purpose l bumps = if bumps then Bumps l Exclusive else Releases l Exclusive true
+
+-- a release has given its right up from its first step on, a fair one from its store on
+abbrev pub has_released : MutexPlace → Bool
+has_released (Lock e retries at) = is_bump e
+has_released (Unlock unlock.Subtract) = false
+has_released (Unlock at) = true
+has_released (HandOff bumps (hand_off.Leave taken)) = true
+has_released at = false
+
+-- what it owned before, by what it owns now
+abbrev pub before_release : ℕ → Bool → (ℕ → Rights) → ℕ → Rights
+before_release l released rights = if released then one_more_at l Exclusive rights else rights
+
+abbrev pub before_entry : ℕ → Bool → Bool → (ℕ → Rights) → ℕ → Rights
+before_entry l bumps false rights = before_release l bumps rights
+before_entry l bumps true rights = if bumps then rights else one_less_at l Exclusive rights
+
+abbrev pub mutex_former : ℕ → MutexPlace → (ℕ → Rights) → ℕ → Rights
+mutex_former l (Lock e retries at) rights = before_entry l (is_bump e) (is_handed at) rights
+mutex_former l at rights = before_release l (has_released at) rights
+
+abbrev pub calls_for : ℕ → MutexPlace → Purpose
+calls_for l (Lock e retries at) = entry_purpose l e
+calls_for l TryLock = Enters l Exclusive Try
+calls_for l (Unlock at) = Releases l Exclusive false
+calls_for l UnlockFair = Releases l Exclusive true
+calls_for l Bump = Bumps l Exclusive
+calls_for l (HandOff bumps at) = release_purpose l bumps
+
+abbrev pub mutex_gave_up : ℕ → MutexPlace → Option ℕ
+mutex_gave_up l (Lock e retries at) = gave_up_at l at
+mutex_gave_up l at = None
 
 abbrev pub mutex_call_state : ℕ → MutexPlace → (ℕ → Rights) → CallState
-mutex_call_state l (Lock timed retries at) rights = record { purpose = Some (Enters l Exclusive (patience_of timed)); former = rights; gave_up = gave_up_at l at; retries = if retries then Some l else None }
-mutex_call_state l TryLock rights = record { purpose = Some (Enters l Exclusive Try); former = rights; gave_up = None; retries = None }
-mutex_call_state l (Unlock at) rights = record { purpose = Some (Releases l Exclusive false); former = before_release l at rights; gave_up = None; retries = None }
+mutex_call_state l at rights = record {
+  purpose = Some (calls_for l at);
+  former = mutex_former l at rights;
+  gave_up = mutex_gave_up l at;
+  retries = if mutex_retries at then Some l else None;
+  released = has_released at;
+}
 
 -- what a thread's call has come to, by its place and by what it owns now
 abbrev pub call_state : Place → (ℕ → Rights) → CallState

@@ -1,6 +1,7 @@
 -- What comes of a call whose thread steps alone.
-use Rattle.std.specs.Prelude.{ℕ, Option, Some, ◌≡◌, ◌≢◌, ◌*◌, ◌≤◌, ◌++◌, ◌∷◌, [], replicate}
+use Rattle.std.specs.Prelude.{ℕ, Bool, if◌then◌else◌, List, Option, Some, None, ◌≡◌, ◌≢◌, ◌*◌, ◌≤◌, ◌++◌, ◌∷◌, [], replicate}
 use Rattle.parking_lot_core.specs.declared.wants.Want.{Want}
+use Rattle.parking_lot_core.specs.declared.wants.Want.TheVariants.{Exclusive}
 use Rattle.lot_steps.specs.declared.acts.Act.TheVariants.{Sleep}
 use Rattle.lot_steps.specs.declared.calls.Answer.{Answer}
 use Rattle.lot_steps.specs.declared.calls.Answer as answer
@@ -9,8 +10,8 @@ use Rattle.lot_steps.specs.declared.calls.Outcome as outcome
 use Rattle.lot_steps.specs.declared.places.Place.TheVariants.{Idle}
 use Rattle.lot_steps.specs.Steps.{act_of, lock_of}
 use Rattle.lot_world.specs.Machine.{State, place_at, section_at, go_of, after_all}
-use Rattle.lot_world.specs.Locks.{MayEnter, IsBlocked, Owns}
-use Rattle.lot_world.specs.Purposes.{Purpose, Enters, Releases, Patience, Patient, Try}
+use Rattle.lot_world.specs.Locks.{Mutex, LockState, first_thread, Queued, MayEnter, IsBlocked, Owns}
+use Rattle.lot_world.specs.Purposes.{Purpose, Enters, Releases, Bumps, Patience, Patient, Try}
 use Rattle.lot_world.specs.LockRuns.{LocksState, rules_at}
 use Rattle.lot_world.specs.Refinement.{Refines}
 use Rattle.lot_world.specs.Promises.{IsKeptThroughout}
@@ -44,10 +45,27 @@ EntersAlone w t l x how o v =
     (MayEnter (rules_at w l) (w.locks l) x → (o ≡ outcome.TheVariants.End (entered_answer how)) × Owns (v.locks l) t x)
     × (IsBlocked (rules_at w l) (w.locks l) x → (o ≡ outcome.TheVariants.Sleep) × ((v.locks l).queue ≡ (w.locks l).queue ++ (record { thread = t; want = x }) ∷ []))
 
+-- a fair release leaves the lock to the first waiter, and any other to nobody
+abbrev pub successor : Bool → List Queued → Option ℕ
+successor fair q = if fair then first_thread q else None
+
 -- a release ends without its right
+abbrev pub ReleasesAlone : LocksState → ℕ → ℕ → Want → Bool → Outcome → LocksState → Type 0
+ReleasesAlone w t l Exclusive fair o v =
+    (o ≡ outcome.TheVariants.End answer.TheVariants.Ok) × (Owns (v.locks l) t Exclusive → ⊥)
+    × ((rules_at w l).sort ≡ Mutex → (v.locks l).exclusive ≡ successor fair (w.locks l).queue)
+ReleasesAlone w t l x fair o v = (o ≡ outcome.TheVariants.End answer.TheVariants.Ok) × (Owns (v.locks l) t x → ⊥)
+
+-- a bump of a mutex hands it to the first waiter and then is as a call that enters, asleep as the last of the queue; where nobody
+-- waits it ends with the mutex
+abbrev pub BumpsAlone : ℕ → ℕ → List Queued → Outcome → LockState → Type 0
+BumpsAlone t l [] o s = (o ≡ outcome.TheVariants.End answer.TheVariants.Ok) × (s.exclusive ≡ Some t)
+BumpsAlone t l (x ∷ q) o s = (o ≡ outcome.TheVariants.Sleep) × (s.exclusive ≡ Some x.thread) × (s.queue ≡ q ++ (record { thread = t; want = Exclusive }) ∷ [])
+
 abbrev pub EndsAlone : LocksState → ℕ → Option Purpose → Outcome → LocksState → Type 0
 EndsAlone w t (Some (Enters l x how)) o v = EntersAlone w t l x how o v
-EndsAlone w t (Some (Releases l x fair)) o v = (o ≡ outcome.TheVariants.End answer.TheVariants.Ok) × (Owns (v.locks l) t x → ⊥)
+EndsAlone w t (Some (Releases l x fair)) o v = ReleasesAlone w t l x fair o v
+EndsAlone w t (Some (Bumps l Exclusive)) o v = (rules_at w l).sort ≡ Mutex → BumpsAlone t l (w.locks l).queue o (v.locks l)
 EndsAlone w t purpose o v = Unit {0}
 
 -- a solo run is a run, of at most 64 steps

@@ -13,6 +13,11 @@ const UNLOCK: Turn = Turn::Begin(Call::Mutex {
     call: MutexCall::Unlock,
 });
 
+const BUMP: Turn = Turn::Begin(Call::Mutex {
+    lock: 0,
+    call: MutexCall::Bump,
+});
+
 const TRY_LOCK: Turn = Turn::Begin(Call::Mutex {
     lock: 0,
     call: MutexCall::TryLock,
@@ -62,6 +67,48 @@ fn a_waiter_is_woken_by_the_release(rt: HostRuntime) -> Result<(), Fail> {
     assert_eq!(rt; world.solo(1), Outcome::End(Answer::Ok));
     assert_eq!(rt; world.word(0), 1);
     assert!(rt; world.debt(0).next().is_none());
+    Ok(())
+}
+
+#[test]
+fn a_fair_mutex_is_handed_to_the_first_waiter(rt: HostRuntime) -> Result<(), Fail> {
+    let mut world = World::<ListQueues>::new(rt.alloc(), &[Kind::Fair], 3)?;
+    assert_eq!(rt; world.step(turn(0, LOCK)), Outcome::Step);
+    assert_eq!(rt; world.solo(0), Outcome::End(Answer::Ok));
+    assert_eq!(rt; world.step(turn(1, LOCK)), Outcome::Step);
+    assert_eq!(rt; world.solo(1), Outcome::Sleep);
+    assert_eq!(rt; world.step(turn(2, LOCK)), Outcome::Step);
+    assert_eq!(rt; world.solo(2), Outcome::Sleep);
+    // The owner sees who waits, enters the section, takes the first, and stores the word.
+    let go = Turn::Go;
+    for (step, wanted) in [
+        (turn(0, UNLOCK), Outcome::Step),
+        (turn(0, go), Outcome::Step),
+        (turn(0, go), Outcome::Step),
+        (turn(0, go), Outcome::Step),
+        (turn(0, go), Outcome::Step),
+        (turn(1, go), Outcome::NotNow),
+        (turn(1, UNLOCK), Outcome::NotNow),
+    ] {
+        assert_eq!(rt; world.step(step), wanted);
+    }
+    assert_eq!(rt; world.locks(), 1);
+    assert_eq!(rt; world.owners(0).next(), Some((Owner::Exclusive, 1)));
+    assert_eq!(rt; world.word(0), 3);
+    assert_eq!(rt; world.debt(0).next(), Some((Debt::Owes, 0)));
+    assert_eq!(rt; world.step(turn(0, go)), Outcome::End(Answer::Ok));
+    assert_eq!(rt; world.step(turn(1, go)), Outcome::End(Answer::Ok));
+    // The one behind it is next.
+    assert_eq!(rt; world.step(turn(1, BUMP)), Outcome::Step);
+    assert_eq!(rt; world.solo(1), Outcome::Sleep);
+    assert_eq!(rt; world.owners(0).next(), Some((Owner::Exclusive, 2)));
+    let waiters: Vec<Waiter> = world.queue(0).collect(rt.alloc())?;
+    let waiter = Waiter {
+        key: 0,
+        thread: 1,
+        want: Want::Exclusive,
+    };
+    assert_eq!(rt; waiters.as_slice(), [waiter].as_slice());
     Ok(())
 }
 

@@ -1,12 +1,13 @@
 //! Any number of threads over locks, by a list of steps.
 ghost use Rattle.std.specs.Prelude.{◌≡◌, ◌<◌, ◌≤◌, ◌++◌, ◌+◌, ◌*◌, IfOk, IfErr, OnOk, All, length, take, true};
 ghost use Rattle.lot_steps.specs.Kinds.{fits};
-ghost use Rattle.lot_steps.specs.Steps.{first_place};
+ghost use Rattle.lot_steps.specs.Steps.{lock_in, first_place};
 ghost use Rattle.lot_world.specs.Machine.{opening, place_at, word_at, kind_at, queue_at, after, answered, after_all, answered_all, solo};
 ghost use Rattle.lot_world.specs.Fits.{SameSize};
 ghost use Rattle.lot_world.specs.LockRuns.{IsOpening, IsStep, purpose_at};
 ghost use Rattle.lot_world.specs.Refinement.{locks_of, ChangesOneThing, EachChangesOneThing, Refines};
 ghost use Rattle.lot_world.specs.Promises.{IsKept, IsKeptThroughout};
+ghost use Rattle.lot_world.specs.Fair.{IsFair, EachIsFair};
 ghost use Rattle.lot_world.specs.Solo.{IsUnderWay, HasItsWay, Rests, EndsAlone, IsSoloRun};
 ghost use Rattle.lot_world.specs.Views.{StandUnder, owners_of, queue_of, debts_of};
 
@@ -79,6 +80,9 @@ impl<Q: Queues + Drop> World<Q> {
         ensures refines { IsStep (locks_of self.old) step result (locks_of self.new) }
         ensures one_thing { ChangesOneThing self.old step.thread self.new }
 
+        // A fair release lets its mutex go only where nobody waits, and else the first waiter owns it in its place.
+        ensures fair { IsFair self.old self.new }
+
         // Words are coded, and whoever waits for a mutex without owner has a thread that owes its wake or tries again.
         ensures kept { IsKept self.new }
         ensures same_size { SameSize self.old self.new }
@@ -98,7 +102,7 @@ impl<Q: Queues + Drop> World<Q> {
         ensures rests { IsUnderWay self.old thread → HasItsWay self.old thread → Rests result }
 
         // And from its beginning: it enters where it may, else sleeps as the last of the queue; a try ends; a release ends without its right.
-        ensures ends { (call : Call) → place_at self.old thread ≡ first_place call → HasItsWay self.old thread
+        ensures ends { (call : Call) → place_at self.old thread ≡ first_place (kind_at self.old (lock_in call)) call → HasItsWay self.old thread
             → EndsAlone (locks_of self.old) thread (purpose_at (locks_of self.old) call) result (locks_of self.new) }
         ensures same_size { SameSize self.old self.new }
     {
@@ -134,6 +138,7 @@ impl<Q: Queues + Drop> World<Q> {
         // Every run of the world is a run of the abstract locks.
         ensures refines { Refines self.old steps.now }
         ensures one_thing { EachChangesOneThing self.old steps.now }
+        ensures fair { EachIsFair self.old steps.now }
 
         // In every state of it, before, between and after its steps, nobody is forgotten.
         ensures kept { IsKeptThroughout self.old steps.now }

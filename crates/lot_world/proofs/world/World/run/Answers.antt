@@ -1,5 +1,6 @@
 use Rattle.std.proofs.Common.{◌+◌, take}
 use Rattle.std.proofs.lemmas.List.{take_more}
+use Rattle.lot_world.proofs.Fair.{each_fair}
 use Rattle.lot_world.proofs.Shape.{size_more}
 use Rattle.lot_world.proofs.LockRuns.{refines}
 use Rattle.lot_world.proofs.OneThing.{each_one_thing}
@@ -46,3 +47,13 @@ pub returns-clause-one_thing : goal.returns-clause-one_thing
 returns-clause-one_thing g c =
     let before = c.self.invariant in
     rw (← c.self.view_is) (each_one_thing c.self.inside.machine c.args.steps.now before.0 before.1 before.2)
+
+pub returns-then-is_err-clause-fair : goal.returns-then-is_err-clause-fair
+returns-then-is_err-clause-fair g c =
+    let before = c.self.invariant in
+    rw (← c.self.view_is) (each_fair c.self.inside.machine c.args.steps.now before.0 before.1 before.2 before.3)
+
+pub returns-clause-fair : goal.returns-clause-fair
+returns-clause-fair g c =
+    let before = c.self.invariant in
+    rw (← c.self.view_is) (each_fair c.self.inside.machine c.args.steps.now before.0 before.1 before.2 before.3)

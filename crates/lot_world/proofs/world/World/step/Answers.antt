@@ -5,6 +5,7 @@ use Rattle.lot_world.proofs.LockSteps.{after_step}
 use Rattle.lot_world.proofs.LockRuns.{after_locks}
 use Rattle.lot_world.proofs.OneThing.{one_thing}
 use Rattle.lot_world.proofs.Promises.{kept_after}
+use Rattle.lot_world.proofs.Fair.{is_fair}
 use Rattle.lot_world.proofs.world.World.step.Goals as goal
 
 pub invariant_of-self : goal.invariant_of-self
@@ -34,3 +35,8 @@ returns-clause-kept g c =
 
 pub returns-clause-same_size : goal.returns-clause-same_size
 returns-clause-same_size g c = rw (c.turn.ensures.state, ← c.self.view_is) (after_size c.self.inside.machine c.args.step)
+
+pub returns-clause-fair : goal.returns-clause-fair
+returns-clause-fair g c =
+    let before = c.self.invariant in
+    rw (c.turn.ensures.state, ← c.self.view_is) (is_fair c.self.inside.machine c.args.step before.0 before.1 before.2 before.3)

@@ -1,0 +1,284 @@
+-- Each step of the world is fair.
+use Rattle.std.proofs.Common.{ℕ, Bool, true, false, Option, Some, None, if◌then◌else◌, ◌==◌, ◌&&◌, not, ◌≡◌, ◌≢◌, ◌+◌, ◌*◌, ◌≤◌, ◌<◌, ◌⊎◌, inl, inr, List, [], ◌∷◌, length, map, refl, sym, ◌∙◌, ap, subst, arith, get_or-set_same}
+use Rattle.std.proofs.lemmas.Bool.{cases_eq, eqb-true}
+use Rattle.std.proofs.lemmas.Bool.Decides.{nat_tests}
+use Rattle.parking_lot_core.specs.declared.keys.Keys.TheVariants.{One}
+use Rattle.parking_lot_core.specs.declared.ops.Op.{Op}
+use Rattle.parking_lot_core.specs.declared.ops.Op as op
+use Rattle.parking_lot_core.specs.declared.wants.Waiter.{Waiter}
+use Rattle.parking_lot_core.specs.declared.wants.Want.{Want}
+use Rattle.parking_lot_core.specs.declared.wants.Want.TheVariants.{Exclusive}
+use Rattle.parking_lot_core.specs.Lines.{first_of}
+use Rattle.lot_steps.specs.declared.kinds.Kind as kind
+use Rattle.lot_steps.specs.declared.acts.Act.{Act}
+use Rattle.lot_steps.specs.declared.acts.Act as act
+use Rattle.lot_steps.specs.declared.calls.Turn.{Turn}
+use Rattle.lot_steps.specs.declared.calls.Turn as turn
+use Rattle.lot_steps.specs.declared.calls.Step.{Step}
+use Rattle.lot_steps.specs.declared.calls.Outcome.{Outcome}
+use Rattle.lot_steps.specs.declared.mutex.Entry.TheVariants as entries
+use Rattle.lot_steps.specs.declared.mutex.MutexPlace.TheVariants.{Lock, TryLock, Unlock, UnlockFair, Bump, HandOff}
+use Rattle.lot_steps.specs.declared.mutex.LockAt.{LockAt}
+use Rattle.lot_steps.specs.declared.mutex.LockAt.TheVariants as lock
+use Rattle.lot_steps.specs.declared.mutex.TheConstants.{NOT_PARKED}
+use Rattle.lot_steps.specs.declared.mutex.HandOffAt.{HandOffAt}
+use Rattle.lot_steps.specs.declared.mutex.HandOffAt.TheVariants as hand_off
+use Rattle.lot_steps.specs.declared.places.Place.{Place}
+use Rattle.lot_steps.specs.declared.places.Place.TheVariants.{Idle, Mutex}
+use Rattle.lot_steps.specs.MutexSteps.{is_locked, is_parked, lock_act, hand_off_act, hand_off_word}
+use Rattle.lot_steps.specs.Steps.{act_of, spin_lock, late_key}
+use Rattle.lot_world.specs.Machine.{State, unlocked, place_at, word_at, owners_at, kind_at, queue_at, operated, appended, first_taken, performed, taken_by, spun_on, late_on, turned, is_possible, after, answered}
+use Rattle.lot_world.specs.Fits.{IsShaped, PlaceFits}
+use Rattle.lot_world.specs.Promises.{Codes}
+use Rattle.lot_world.specs.Sound.{IsSound, Nobody, taken_from, Carries, queued, owner_at}
+use Rattle.lot_world.specs.OnlyMutexes.{OnlyMutexes, CallFits, is_mutex}
+use Rattle.lot_world.specs.Locks.{LockState, Queued, Rules, Rights, Taken, LockCase, Enter, Pend, Settle, Leave, Convert, Park, Aside, TakeFirst, TakeAside, TakePicked, Wake, HandOff as HandsLockOff, Late, Rollback, Needs, Owns, IsTaken, HasTakenNobody, IsLockState, Knows, keep_from, first_thread, rights_of}
+use Rattle.lot_world.specs.Locks as locks
+use Rattle.lot_world.specs.LockRuns.{LocksState, Event, Nothing, AtLock, AreLockStates, GoesOn, MayHappen, IsStep, Turned, rules_at, locks_after}
+use Rattle.lot_world.specs.Refinement.{lock_state, locks_of, queued_of, call_state}
+use Rattle.lot_world.specs.Fair.{IsFairRelease, OwnsOn, HandsOver, LetsGo, IsFair, EachIsFair}
+use Rattle.lot_world.proofs.Shape.{after_shaped}
+use Rattle.lot_world.proofs.Counts.{first_times}
+use Rattle.lot_world.proofs.Words.{owner_after, exclusive-owners, by_code}
+use Rattle.lot_world.proofs.Steady.{IsTakenAt, in_hand, stands_at, after_sound}
+use Rattle.lot_world.proofs.OnlyMutexes.{after_only}
+use Rattle.lot_world.proofs.LockEvents.{mutex_rules, mutex_rules_of, taken_nobody, same, rights}
+use Rattle.lot_world.proofs.LockSteps.{after_step}
+use Rattle.lot_world.proofs.LockRuns.{needs_of, after_locks}
+
+-- ---------------------------------------------------------------- what others do to an owner
+
+-- no case of another thread takes a lock from its owner
+others_keep : (r : Rules) (s : LockState) (t u : ℕ) → IsLockState r s → s.exclusive ≡ Some t → u ≢ t → (c : LockCase) → Needs r c s u → (locks.after r c s u).exclusive ≡ Some t
+others_keep r s t u is own ne (Enter Exclusive) n = grind arith
+others_keep r s t u is own ne (Enter x) n = grind arith
+others_keep r s t u is own ne Pend n = grind arith
+others_keep r s t u is own ne Settle n = grind (arith, is.exclusive_alone t own)
+others_keep r s t u is own ne (Leave right) n = grind (arith, is.exclusive_alone t own)
+others_keep r s t u is own ne (Convert right x) n = grind (arith, is.exclusive_alone t own)
+others_keep r s t u is own ne (Park x) n = own
+others_keep r s t u is own ne Aside n = own
+others_keep r s t u is own ne (TakeFirst x) n = own
+others_keep r s t u is own ne (TakeAside x) n = own
+others_keep r s t u is own ne (TakePicked start) n = own
+others_keep r s t u is own ne Wake n = own
+others_keep r s t u is own ne (HandsLockOff right x) n = grind (arith, is.exclusive_alone t own)
+others_keep r s t u is own ne Late n = own
+others_keep r s t u is own ne Rollback n = grind (arith, is.exclusive_alone t own)
+
+-- whoever is taken from a mutex stood first
+let_go_was : (t : ℕ) (o : Option Taken) (h : Taken) → keep_from t o ≡ Some h → o ≡ Some h
+let_go_was t o h e = grind arith
+
+taken_was : (s : LockState) (t u a : ℕ) (x : Want) → IsLockState mutex_rules s → (c : LockCase) → Needs mutex_rules c s a → IsTaken (locks.after mutex_rules c s a) t u x → IsTaken s t u x ⊎ (first_thread s.queue ≡ Some u)
+taken_was s t u a x is (Enter Exclusive) n h = inl h
+taken_was s t u a x is (Enter y) n h = inl (grind arith)
+taken_was s t u a x is Pend n h = inl h
+taken_was s t u a x is Settle n h = inl h
+taken_was s t u a x is (Leave right) n h = inl (grind arith)
+taken_was s t u a x is (Convert right y) n h = inl (grind arith)
+taken_was s t u a x is (Park y) n h = inl h
+taken_was s t u a x is Aside n h = inl h
+taken_was s t u a x is (TakeFirst y) n h = elim (cases_eq u y.thread) [
+  | inl e ↦ inr (rw (n.0.1, e) refl)
+  | inr ne ↦ inl (let other : (u == y.thread) ≡ false = grind (arith, nat_tests) in rw other at h)
+]
+taken_was s t u a x is (TakeAside y) n h = absurd (let none = is.unpending (λ z. z) in let aside = is.aside_pending y n.0 in rw none.0 at aside)
+taken_was s t u a x is (TakePicked start) n h = absurd n.1
+taken_was s t u a x is Wake n h = inl (let_go_was a (s.taken u) _ h)
+taken_was s t u a x is (HandsLockOff right y) n h = inl (grind (arith, let_go_was))
+taken_was s t u a x is Late n h = inl h
+taken_was s t u a x is Rollback n h = inl (grind arith)
+
+-- what holds of a lock before and after each case, and where nothing happens, holds of each step
+module _ (P : LockState → LockState → Type 0) (w v : LocksState) (a l : ℕ) (stays : P (w.locks l) (w.locks l))
+    (goes : (c : LockCase) → Needs (rules_at w l) c (w.locks l) a → P (w.locks l) (locks.after (rules_at w l) c (w.locks l) a)) where
+  event_so : (e : Event) → MayHappen w a e → P (w.locks l) (locks_after w a e l)
+  event_so Nothing may = stays
+  event_so (AtLock k case) may = either (l == k) refl
+    where
+      either : (b : Bool) → (l == k) ≡ b → P (w.locks l) (if b then locks.after (rules_at w k) case (w.locks k) a else w.locks l)
+      either false e = stays
+      either true e = let here : l ≡ k = eqb-true l k e in rw (← here) (goes case (subst (λ n. Needs (rules_at w n) case (w.locks n) a) (sym here) (needs_of w a k case (w.calls a).purpose may)))
+
+  goes_so : (o : Outcome) → GoesOn w a o v → P (w.locks l) (v.locks l)
+  goes_so o g = rw (g.locks l) (event_so g.event g.may)
+
+  turned_so : (x : Turn) (o : Outcome) → Turned w a x o v → P (w.locks l) (v.locks l)
+  turned_so (turn.TheVariants.Begin c) o (inl b) = rw (b.locks l) stays
+  turned_so (turn.TheVariants.Begin c) o (inr r) = rw r.1.1 stays
+  turned_so turn.TheVariants.Go o (inl g) = goes_so o g
+  turned_so turn.TheVariants.Spin o (inl g) = goes_so o g
+  turned_so turn.TheVariants.Late o (inl g) = goes_so o g
+  turned_so turn.TheVariants.Ok o (inl g) = goes_so o g
+  turned_so turn.TheVariants.Err o (inl g) = goes_so o g
+  turned_so turn.TheVariants.Go o (inr r) = rw r.1 stays
+  turned_so turn.TheVariants.Spin o (inr r) = rw r.1 stays
+  turned_so turn.TheVariants.Late o (inr r) = rw r.1 stays
+  turned_so turn.TheVariants.Ok o (inr r) = rw r.1 stays
+  turned_so turn.TheVariants.Err o (inr r) = rw r.1 stays
+
+-- ---------------------------------------------------------------- what a fair release does by its own step
+
+-- what the mutex has come to
+abbrev ComesTo : State → ℕ → ℕ → State → Type 0
+ComesTo w t l v = (owner_at v l ≡ Some t) ⊎ (((u : ℕ) × IsTaken (lock_state w l) t u Exclusive × (owner_at v l ≡ Some u))
+    ⊎ ((owner_at v l ≡ None) × HasTakenNobody (lock_state w l) t × ((is_parked (word_at w l) ≡ false) ⊎ ((lock_state w l).queue ≡ []))))
+
+module _ (w : State) (t l : ℕ) (shape : IsShaped w) (sound : IsSound w) (own : owner_at w l ≡ Some t) where
+  operated_owner : (p : Place) (f : Op) → l < length w.locks → owner_at (operated w t p l f) l ≡ owner_after p t (word_at w l) (Some t)
+  operated_owner p f lt = ap (λ x. x.owners.exclusive) (get_or-set_same w.locks l _ (unlocked kind.TheVariants.Mutex) lt) ∙ exclusive-owners p t (word_at w l) (owners_at w l) ∙ ap (owner_after p t (word_at w l)) own
+
+  still_own : (b : Bool) → (if b then Some t else Some t) ≡ Some t
+  still_own true = refl
+  still_own false = refl
+
+  module _ (lt : l < length w.locks) where
+    -- a bump that enters again owns what it owned
+    decided_keeps : (retries : Bool) (s : ℕ) (a b : Bool) → ComesTo w t l (performed w t (Mutex l (Lock entries.Bump retries (lock.Decide s))) (if not a then act.TheVariants.Word l (op.TheVariants.Exchange s (s + 1)) else if b then act.TheVariants.Word l (op.TheVariants.Exchange 1 3) else act.TheVariants.Enter (One (2 * l))))
+    decided_keeps retries s false b = inl (operated_owner (Mutex l (Lock entries.Bump retries (lock.Decide s))) (op.TheVariants.Exchange s (s + 1)) lt ∙ still_own ((word_at w l == s) && not (is_locked (word_at w l))))
+    decided_keeps retries s true true = inl (operated_owner (Mutex l (Lock entries.Bump retries (lock.Decide s))) (op.TheVariants.Exchange 1 3) lt ∙ still_own ((word_at w l == s) && not (is_locked (word_at w l))))
+    decided_keeps retries s true false = inl own
+
+    parked_keeps : (b : Bool) → ComesTo w t l (if b then record w { queues = appended w.queues (2 * l) t Exclusive } else w)
+    parked_keeps true = inl own
+    parked_keeps false = inl own
+
+    lock_keeps : (retries : Bool) (a : LockAt) → ComesTo w t l (performed w t (Mutex l (Lock entries.Bump retries a)) (lock_act l a))
+    lock_keeps retries lock.First = inl (operated_owner (Mutex l (Lock entries.Bump retries lock.First)) (op.TheVariants.Exchange 0 1) lt ∙ still_own (word_at w l == 0))
+    lock_keeps retries lock.Load = inl (operated_owner (Mutex l (Lock entries.Bump retries lock.Load)) op.TheVariants.Load lt)
+    lock_keeps retries (lock.Decide s) = decided_keeps retries s (is_locked s) (s == 1)
+    lock_keeps retries lock.Check = parked_keeps (word_at w l == 3)
+    lock_keeps retries (lock.Leave parked) = inl own
+    lock_keeps retries lock.Asleep = inl own
+    lock_keeps retries (lock.Taken by) = inl own
+    lock_keeps retries (lock.Handed by) = inl own
+    lock_keeps retries lock.Accept = inl own
+    lock_keeps retries lock.Remove = inl own
+    lock_keeps retries lock.Clear = inl (operated_owner (Mutex l (Lock entries.Bump retries lock.Clear)) (op.TheVariants.And NOT_PARKED) lt)
+    lock_keeps retries lock.GiveUp = inl own
+
+    carries_nobody : (p : Place) → place_at w t ≡ p → ((u k : ℕ) → Carries p u (taken_from k) → ⊥) → HasTakenNobody (lock_state w l) t
+    carries_nobody p is none = taken_nobody w t sound (λ u k h. none u k (rw is at h)) l
+
+    unlock_fair_gives : place_at w t ≡ Mutex l UnlockFair → ComesTo w t l (operated w t (Mutex l UnlockFair) l (op.TheVariants.Exchange 1 0))
+    unlock_fair_gives is = either (word_at w l == 1) refl (operated_owner (Mutex l UnlockFair) (op.TheVariants.Exchange 1 0) lt)
+      where
+        either : (b : Bool) → (word_at w l == 1) ≡ b → owner_at (operated w t (Mutex l UnlockFair) l (op.TheVariants.Exchange 1 0)) l ≡ (if b then None else Some t) → ComesTo w t l (operated w t (Mutex l UnlockFair) l (op.TheVariants.Exchange 1 0))
+        either false e h = inl h
+        either true e h = inr (inr (h, carries_nobody (Mutex l UnlockFair) is (λ u k g. g), inl (rw (eqb-true (word_at w l) 1 e) refl)))
+
+    -- a queue in which nobody stands is empty
+    nobody_queued : Nobody (place_at w) l → (q : List Waiter) → queue_at w (2 * l) ≡ q → map queued_of q ≡ []
+    nobody_queued none [] e = refl
+    nobody_queued none (x ∷ q) e = absurd (none x.thread (stands_at (queued (place_at w x.thread)) l (subst (λ n. 1 ≤ n) (sound.queues x.thread l) (first_times x.thread (queue_at w (2 * l)) (ap first_of e)))))
+
+    taken_gives : (bumps : Bool) (o : Option ℕ) → ComesTo w t l (taken_by (record w { queues = first_taken w.queues (2 * l) }) t o)
+    taken_gives bumps None = inl own
+    taken_gives bumps (Some u) = inl own
+
+    hand_off_gives : (bumps : Bool) (a : HandOffAt) → place_at w t ≡ Mutex l (HandOff bumps a) → ComesTo w t l (performed w t (Mutex l (HandOff bumps a)) (hand_off_act l a))
+    hand_off_gives bumps hand_off.Enter is = inl own
+    hand_off_gives bumps hand_off.Take is = taken_gives bumps (first_of (queue_at w (2 * l)))
+    hand_off_gives bumps (hand_off.Store None none_left) is = inr (inr (
+      operated_owner (Mutex l (HandOff bumps (hand_off.Store None none_left))) (op.TheVariants.Store 0) lt,
+      carries_nobody (Mutex l (HandOff bumps (hand_off.Store None none_left))) is (λ u k g. g),
+      inr (nobody_queued (sound.emptied t l (rw is refl)) (queue_at w (2 * l)) refl),
+    ))
+    hand_off_gives bumps (hand_off.Store (Some u) none_left) is = inr (inl (
+      u,
+      by_taken (in_hand (place_at w u) t l (sound.carried t u (taken_from l) (rw is (refl, refl)))),
+      operated_owner (Mutex l (HandOff bumps (hand_off.Store (Some u) none_left))) (op.TheVariants.Store (hand_off_word (Some u) none_left)) lt,
+    ))
+      where
+        by_taken : IsTakenAt (place_at w u) t l → IsTaken (lock_state w l) t u Exclusive
+        by_taken k = rw (k.is, same l) refl
+    hand_off_gives bumps (hand_off.Leave None) is = inl own
+    hand_off_gives bumps (hand_off.Leave (Some u)) is = inl own
+
+  here : (k : ℕ) → k ≡ l → k < length w.locks → l < length w.locks
+  here k e lt = rw (← e) lt
+
+  -- whatever the act, and wherever the thread goes then
+  go_gives : (p : Place) → place_at w t ≡ p → PlaceFits (length w.places) (length w.locks) p → IsFairRelease (call_state p (rights w t)).purpose l → ComesTo w t l (performed w t p (act_of p))
+  go_gives Idle is fits h = absurd h
+  go_gives (Mutex k (Lock entries.Lock retries a)) is fits h = absurd h
+  go_gives (Mutex k (Lock entries.LockTimed retries a)) is fits h = absurd h
+  go_gives (Mutex k (Lock entries.Bump retries a)) is fits h = rw h (lock_keeps (here k h fits.0) retries a)
+  go_gives (Mutex k TryLock) is fits h = absurd h
+  go_gives (Mutex k (Unlock a)) is fits h = absurd (let e : false ≡ true = h.1 in cc)
+  go_gives (Mutex k UnlockFair) is fits h = rw h.0 (unlock_fair_gives (here k h.0 fits.0) (is ∙ ap (λ n. Mutex n UnlockFair) h.0))
+  go_gives (Mutex k Bump) is fits h = rw h (inl (operated_owner (Mutex l Bump) op.TheVariants.Load (here k h fits.0)))
+  go_gives (Mutex k (HandOff true a)) is fits h = rw h (hand_off_gives (here k h fits.0) true a (is ∙ ap (λ n. Mutex n (HandOff true a)) h))
+  go_gives (Mutex k (HandOff false a)) is fits h = rw h.0 (hand_off_gives (here k h.0 fits.0) false a (is ∙ ap (λ n. Mutex n (HandOff false a)) h.0))
+
+  spin_gives : (o : Option ℕ) → ComesTo w t l (spun_on w t o)
+  spin_gives None = inl own
+  spin_gives (Some k) = inl own
+
+  late_gives : (o : Option ℕ) → ComesTo w t l (late_on w t o)
+  late_gives None = inl own
+  late_gives (Some key) = inl own
+
+  turned_gives : IsFairRelease (call_state (place_at w t) (rights w t)).purpose l → (x : Turn) → ComesTo w t l (turned w t x)
+  turned_gives h (turn.TheVariants.Begin c) = inl own
+  turned_gives h turn.TheVariants.Go = go_gives (place_at w t) refl (shape.places t) h
+  turned_gives h turn.TheVariants.Spin = spin_gives (spin_lock (place_at w t))
+  turned_gives h turn.TheVariants.Late = late_gives (late_key (place_at w t))
+  turned_gives h turn.TheVariants.Ok = inl own
+  turned_gives h turn.TheVariants.Err = inl own
+
+  after_gives : IsFairRelease (call_state (place_at w t) (rights w t)).purpose l → (s : Step) → s.thread ≡ t → ComesTo w t l (after w s)
+  after_gives h s e = either (is_possible w s)
+    where
+      either : (b : Bool) → ComesTo w t l (if b then turned w s.thread s.turn else w)
+      either true = rw e (turned_gives h s.turn)
+      either false = inl own
+
+-- ---------------------------------------------------------------- steps
+
+locked_by : (v : ℕ) (o : Option ℕ) (u : ℕ) → Codes v o → o ≡ Some u → is_locked v ≡ true
+locked_by v o u c e = by_code (λ v o. o ≡ Some u → is_locked v ≡ true) (λ g. absurd cc) (λ g. absurd cc) (λ x g. refl) (λ x g. refl) v o c e
+
+-- the lock that is released fairly is a mutex
+fair_mutex : (w : State) (p : Place) (l : ℕ) (r : ℕ → Rights) → CallFits w p → IsFairRelease (call_state p r).purpose l → is_mutex (kind_at w l) ≡ true
+fair_mutex w Idle l r fits h = absurd h
+fair_mutex w (Mutex k (Lock entries.Lock retries a)) l r fits h = absurd h
+fair_mutex w (Mutex k (Lock entries.LockTimed retries a)) l r fits h = absurd h
+fair_mutex w (Mutex k (Lock entries.Bump retries a)) l r fits h = rw (← h) fits.0
+fair_mutex w (Mutex k TryLock) l r fits h = absurd h
+fair_mutex w (Mutex k (Unlock a)) l r fits h = rw (← h.0) fits.0
+fair_mutex w (Mutex k UnlockFair) l r fits h = rw (← h.0) fits.0
+fair_mutex w (Mutex k Bump) l r fits h = rw (← h) fits.0
+fair_mutex w (Mutex k (HandOff true a)) l r fits h = rw (← h) fits.0
+fair_mutex w (Mutex k (HandOff false a)) l r fits h = rw (← h.0) fits.0
+
+pub is_fair : (w : State) (s : Step) → IsShaped w → IsSound w → OnlyMutexes w → AreLockStates (locks_of w) → IsFair w (after w s)
+is_fair w s shape sound only all = record {
+  gives = λ t l h. elim (cases_eq s.thread t) [
+    | inl e ↦ told t l (after_gives w t l shape sound h.1 h.0 s e)
+    | inr ne ↦ inl (owned t l (turned_so (λ x y. x.exclusive ≡ Some t → y.exclusive ≡ Some t) (locks_of w) (locks_of (after w s)) s.thread l (λ e. e)
+        (λ c n e. others_keep (rules_at (locks_of w) l) (lock_state w l) t s.thread (all l) e ne c n) s.turn (answered w s) step.1 h.1))
+  ];
+  takes = λ t l u h. turned_so (λ x y. IsTaken y t u Exclusive → IsTaken x t u Exclusive ⊎ (first_thread x.queue ≡ Some u)) (locks_of w) (locks_of (after w s)) s.thread l (λ e. inl e)
+      (λ c n. let rules : rules_at (locks_of w) l ≡ mutex_rules = mutex_rules_of (kind_at w l) (fair_mutex w (place_at w t) l (rights w t) (only.calls t) h.0) in
+      rw rules (taken_was (lock_state w l) t u s.thread Exclusive (subst (λ r. IsLockState r (lock_state w l)) rules (all l)) c (subst (λ r. Needs r c (lock_state w l) s.thread) rules n))) s.turn (answered w s) step.1;
+}
+  where
+    step : IsStep (locks_of w) s (answered w s) (locks_of (after w s))
+    step = after_step w s shape sound only
+
+    coded : (l : ℕ) → Codes (word_at (after w s) l) (owner_at (after w s) l)
+    coded l = let now : IsSound (after w s) = after_sound w s shape sound in now.codes l
+
+    owned : (t l : ℕ) → owner_at (after w s) l ≡ Some t → OwnsOn (after w s) t l
+    owned t l e = (e, locked_by (word_at (after w s) l) (owner_at (after w s) l) t (coded l) e)
+
+    told : (t l : ℕ) → ComesTo w t l (after w s) → OwnsOn (after w s) t l ⊎ (HandsOver w (after w s) t l ⊎ LetsGo w (after w s) t l)
+    told t l (inl e) = inl (owned t l e)
+    told t l (inr (inl h)) = inr (inl (h.0, h.1, h.2, locked_by (word_at (after w s) l) (owner_at (after w s) l) h.0 (coded l) h.2))
+    told t l (inr (inr h)) = inr (inr h)
+
+pub each_fair : (w : State) (ss : List Step) → IsShaped w → IsSound w → OnlyMutexes w → AreLockStates (locks_of w) → EachIsFair w ss
+each_fair w [] shape sound only all = tt
+each_fair w (s ∷ ss) shape sound only all = (is_fair w s shape sound only all, each_fair (after w s) ss (after_shaped w s shape) (after_sound w s shape sound) (after_only w s only) (after_locks w s shape sound only all))
