@@ -44,6 +44,7 @@ pub trait Queues {
     fn take_all(&mut self, key: Key, out: &mut Vec<usize>)
         requires { vec_len out.old + capacity self.old ≤ vec_capacity out.old }
         ensures taken { out.new.items ≡ out.old.items ++ threads_of (line key (waiting self.old)) }
+        ensures room { vec_capacity out.new ≡ vec_capacity out.old }
         ensures lines { lines (waiting self.new) ≡ lines (without_key key (waiting self.old)) }
         ensures capacity { capacity self.new ≡ capacity self.old };
 

@@ -1,0 +1,106 @@
+//! The row, and the hold of a value that is out of it.
+ghost use Rattle.std.specs.Prelude.{◌≡◌, ◌<◌, None, [], ◌∷◌, IfOk, All, length};
+ghost use Rattle.keyed_locks.specs.Guards.{Guards, Takes, IsFull};
+
+use atomic_table::{Play, Refused, Seat, Table, TableRule};
+use std::alloc::{AllocError, Global};
+use std::marker::PhantomData;
+use std::sync::Wait;
+use std::thread::yield_now;
+
+/// Values that fit some keys and not others.
+pub trait Keyed<K> {
+    ghost fits: { K → Self → Type 0 };
+}
+
+/// Each word is 0 while its value is at home, and then the value fits the key.
+pub struct Guarded<K, T> {
+    marker: PhantomData<(K, T)>,
+}
+
+impl<K, T: Keyed<K>> TableRule<Option<T>, K, K> for Guarded<K, T> {
+    ghost holds = { λ key. Guards (T.fits key) };
+
+    // A seat's view is the key.
+    ghost first = { λ key. key };
+}
+
+/// A swap of 1 for 0 takes the value.
+impl<K, T: Keyed<K>> Play<Option<T>, K> for Guarded<K, T> {
+    ghost then = { λ step before found after. found ≡ 0 → Takes (T.fits before.0) step.word after };
+}
+
+struct Released;
+
+impl<K, T> Play<Option<T>, K> for Released {
+    ghost then = { λ _ _ _ _. Unit {0} };
+}
+
+/// A row of values, each behind a lock of its own.
+#[derive(Drop)]
+pub struct KeyedLocks<K, T: Keyed<K>> {
+    table: Table<Option<T>, K, K, Guarded<K, T>, Global>,
+    count: usize,
+    ghost sized: { (table.shared.table_id.words ≡ count) × (table.shared.table_id.slots ≡ count) },
+}
+
+/// Whose value is out. It is given back with a value.
+pub struct Held<K, T> {
+    seat: Seat<Option<T>, K>,
+    at: usize,
+    ghost empty: { seat.me.1 ≡ (at, None) ∷ [] },
+}
+
+impl<K, T: Keyed<K> + Drop> KeyedLocks<K, T> {
+    /// A lock for each value. It takes all memory that the row needs.
+    pub fn new(
+        alloc: Global,
+        values: Vec<Option<T>>,
+        key: &K,
+    ) -> Result<KeyedLocks<K, T>, AllocError>
+        requires { All (IsFull (T.fits key.now)) values.items }
+        ensures { IfOk result (λ row. (row.table.shared.key ≡ key.now) × (row.count ≡ length values.items)) }
+    {
+        let count = values.len();
+        let unlocked = Vec::from_elem(alloc, 0u64, count)?;
+        match Table::new(alloc, unlocked.as_slice(), values, key) {
+            Ok((table, _)) => Ok(KeyedLocks { table, count }),
+            Err(Refused { slots: _ }) => Err(AllocError),
+        }
+    }
+
+    pub fn len(&self) -> usize
+        ensures { result ≡ self.now.count }
+    {
+        self.count
+    }
+
+    /// Takes a value out, which fits the key. It waits while the value is out.
+    pub fn take<R: Wait>(&self, rt: &R, at: usize) -> (T, Held<K, T>)
+        requires { at < self.now.count }
+        ensures value { T.fits self.now.table.shared.key result.0 }
+        ensures held { (result.1.seat.table_id ≡ self.now.table.shared.table_id) × (result.1.at < self.now.count) }
+    {
+        let locks = &self.table.shared;
+        for _ in rt.forever() {
+            let (found, mut seat) = locks.swap_new_seat::<Guarded<K, T>>(at, 1);
+            if found == 0 {
+                let value = locks.exchange(&mut seat, at, None).unwrap();
+                return (value, Held { seat, at });
+            }
+            yield_now();
+        }
+        unreachable!()
+    }
+
+    /// Gives a value back, which fits the key.
+    pub fn give_back(&self, value: T, held: Held<K, T>)
+        requires fits { T.fits self.now.table.shared.key value }
+        requires held { (held.seat.table_id ≡ self.now.table.shared.table_id) × (held.at < self.now.count) }
+    {
+        let Held { mut seat, at } = held;
+        let locks = &self.table.shared;
+        drop(locks.exchange(&mut seat, at, Some(value)));
+        locks.store::<Released>(&mut seat, at, 0);
+    }
+}

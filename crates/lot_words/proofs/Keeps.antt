@@ -1,0 +1,233 @@
+-- Each step keeps the rule.
+use Rattle.std.proofs.Common.{◌≡◌, ℕ, ◌+◌, ◌<◌, ◌≤◌, eqb, cond, ◌≢◌, true, List, [], ◌∷◌, ◌++◌, inl, inr, length, get_or, set, sym, refl, ap, ◌∙◌, subst, ⊎_elim, arith, length-set, get_or-set_same, get_or-set_other, eq-eqb, ne_eqb, suc}
+use mathlib.Core.Logic.{dite}
+use mathlib.Core.Option.{some, none}
+use native.Mathlib.Decide.{ℕ_discrete}
+use lib.ListN.{get_elem?}
+use prog.Atomic.{either}
+use Rattle.atomic_table.specs.Table.{State, Me, step, Act, keeps, Valid, carried_after, stepped, Allows, Splits, Joins}
+use Rattle.atomic_table.proofs.Lists.{at_set, at_snoc}
+use Rattle.lot_words.specs.Places.{place, counter}
+use Rattle.lot_words.specs.Views.{view, blank, total, total_below, owned, named, counted, steps_at, drew}
+use Rattle.lot_words.specs.Codes.{Owners, Codes, Shows, IsCountCode}
+use Rattle.lot_words.specs.Rule.{LotRule}
+use Rattle.parking_lot_core.specs.Words.{apply}
+use Rattle.parking_lot_core.specs.declared.ops.Op.{Op}
+use Rattle.parking_lot_core.specs.declared.ops.Op.TheVariants.{Load, Exchange}
+use Rattle.lot_words.specs.Steps.{has, IsTied, trade, MayStep, listed, after_step}
+use Rattle.lot_words.specs.Plays.{TakesAs, Takes, looks, draws, numbered, left_over, piece, takes_in}
+use Rattle.lot_words.specs.declared.owners.Ownership.{Ownership}
+use Rattle.lot_words.specs.declared.views.WordStep.{WordStep}
+use Rattle.lot_words.proofs.Trades.{total-without, traded_here, traded_elsewhere, traded_counts}
+use Rattle.lot_words.specs.declared.owners.Owner.{Owner}
+use Rattle.lot_words.specs.declared.views.View.{View}
+use Rattle.lot_words.specs.declared.words.Word.{Word}
+use Rattle.lot_words.specs.declared.words.WordKind.{WordKind}
+use Rattle.lot_words.specs.declared.words.WordKind.TheVariants.{Mutex, Condvar, Count}
+use Rattle.lot_words.proofs.Totals.{total-append, total-set, term_le, total_below-suc, cond_same, cond_other}
+use Rattle.lot_words.proofs.Places.{rank_lt, kind_at-place, place-number, place-kind}
+
+shows_more : (P Q : ℕ → Type 0) (n : ℕ) → ((k : ℕ) → P k → Q k) → Shows P n → Shows Q n
+shows_more P Q n more h = ⊎_elim (λ z. inl z) (λ t. inr (t.0, t.1, more t.0 t.2)) h
+
+module _ {S : Type 0} (words : ℕ) (s : State S View) (o : LotRule words s) where
+  -- the law of all steps on a lock word: what is owned of this word changes, and its code with that
+  pub turned : (number : ℕ) (kind : WordKind) (j m : ℕ) (v w : View) → get_elem? s.views j ≡ some v → number < words
+      → ((r : ℕ) → r ≢ place number kind → (weight : Owner → ℕ) → owned r weight w.owns ≡ owned r weight v.owns)
+      → ((after : Owners) → ((weight : Owner → ℕ) → after weight + owned (place number kind) weight v.owns ≡ named (place number kind) weight s.views + owned (place number kind) weight w.owns) → Codes kind m after)
+      → (IsTied kind → m ≡ get_or s.words (place number kind) 0)
+      → ((r : ℕ) → counted r w.owns ≡ counted r v.owns)
+      → w.drawn ≡ v.drawn → w.saw ≡ v.saw → 0 < steps_at (place number kind) w → ((r : ℕ) → steps_at r v ≤ steps_at r w)
+      → LotRule words (record { words = set s.words (place number kind) m; homes = s.homes; views = set s.views j w })
+  turned number kind j m v w me below others codes tied same-counts same-drawn same-saw stepped more =
+      let i : ℕ = place number kind in let size = o.size in let enough = o.enough in
+      let near : i < length s.words = omega (arith, rank_lt kind) in
+      let vs = set s.views j w in
+      let here : get_or (set s.words i m) i 0 ≡ m = get_or-set_same s.words i m 0 near in
+      let count-here : get_or (set s.words i m) counter 0 ≡ get_or s.words counter 0 = get_or-set_other s.words i counter m 0 (λ e. omega arith) in
+      let sum : (r : ℕ) (weight : Owner → ℕ) → named r weight vs + owned r weight v.owns ≡ named r weight s.views + owned r weight w.owns = λ r weight. total-set (λ (u : View). owned r weight u.owns) s.views j v w me in
+      let tied_still : (number' : ℕ) (kind' : WordKind) → IsTied kind' → get_or (set s.words i m) (place number' kind') 0 ≡ get_or s.words (place number' kind') 0 =
+      λ number' kind' is. dite (ℕ_discrete (place number' kind') i)
+      (λ e. let k = place-kind number' number kind' kind e in ap (λ (r : ℕ). get_or (set s.words i m) r 0) e ∙ here ∙ tied (subst IsTied k is) ∙ ap (λ (r : ℕ). get_or s.words r 0) (sym e))
+      (λ ne. get_or-set_other s.words i (place number' kind') m 0 ne) in
+      let stepped-more : (r : ℕ) → total (steps_at r) s.views ≤ total (steps_at r) vs = λ r. omega (arith, total-set (steps_at r) s.views j v w me, more r) in
+      record {
+        size = length-set s.words i m ∙ size;
+        coded = λ number' kind' below'. dite (ℕ_discrete (place number' kind') i)
+            (λ e. let n≡ = place-number number' number kind' kind e in let k≡ = place-kind number' number kind' kind e in
+            let Goal : ℕ → WordKind → Type 0 = λ n k. Codes k (get_or (set s.words i m) (place n k) 0) (λ weight. named (place n k) weight vs) in
+            subst (λ (k : WordKind). Goal number' k) (sym k≡) (subst (λ (n : ℕ). Goal n kind) (sym n≡) (subst (λ (x : ℕ). Codes kind x (λ weight. named i weight vs)) (sym here) (codes (λ weight. named i weight vs) (λ weight. sum i weight)))))
+            (λ ne. let r : ℕ = place number' kind' in
+            let same : (weight : Owner → ℕ) → named r weight s.views ≡ named r weight vs = λ weight. omega (arith, sum r weight, others r ne weight) in
+            subst (λ (x : ℕ). Codes kind' x (λ weight. named r weight vs)) (sym (get_or-set_other s.words i r m 0 ne))
+            (subst (Codes kind' (get_or s.words r 0)) (λ k weight. same weight k) (o.coded number' kind' below')));
+        shows = λ number' below'. subst (Shows (λ mutex. 0 < total (steps_at (place mutex Mutex)) vs)) (sym (tied_still number' Condvar tt))
+            (shows_more (λ mutex. 0 < total (steps_at (place mutex Mutex)) s.views) (λ mutex. 0 < total (steps_at (place mutex Mutex)) vs) (get_or s.words (place number' Condvar) 0) (λ k h. omega (arith, stepped-more (place k Mutex))) (o.shows number' below'));
+        counts = λ number' below'. let old = o.counts number' below' in let same = tied_still (number' + 1) Count tt in
+            (subst IsCountCode (sym same) old.0, let old₁ = old.1 in omega (arith, total-set (λ (u : View). counted (place number' Mutex) u.owns) s.views j v w me, same-counts (place number' Mutex)));
+        untouched = λ r above h none. dite (ℕ_discrete r i)
+            (λ e. absurd (omega (arith, term_le (steps_at r) s.views j v me, total-set (steps_at r) s.views j v w me, subst (λ (q : ℕ). 0 < steps_at q w) (sym e) stepped)))
+            (λ ne. get_or-set_other s.words i r m 0 ne ∙ o.untouched r above (omega (arith, length-set s.words i m)) (omega (arith, stepped-more r)));
+        drawn = λ weight. omega (arith, total-set (drew weight) s.views j v w me, o.drawn weight, ap (λ d. drew weight (record { steps = []; owns = []; drawn = d; saw = 0 })) same-drawn, ap (total_below weight) count-here);
+        enough = omega (arith, count-here);
+        saw = λ q u e. ⊎_elim (λ t. let old = o.saw j v me in omega (arith, ap (λ (y : View). y.saw) t.1)) (λ t. let old = o.saw q u t.1 in omega arith) (at_set s.views j q w u e);
+      }
+
+  -- the views change, and what they name together does not
+  pub reseated : (vs : List View) → ((r : ℕ) (weight : Owner → ℕ) → named r weight vs ≡ named r weight s.views)
+      → ((r : ℕ) → total (λ (u : View). counted r u.owns) vs ≡ total (λ (u : View). counted r u.owns) s.views)
+      → ((r : ℕ) → total (steps_at r) vs ≡ total (steps_at r) s.views) → ((weight : ℕ → ℕ) → total (drew weight) vs ≡ total (drew weight) s.views)
+      → ((q : ℕ) (u : View) → get_elem? vs q ≡ some u → u.saw ≤ get_or s.words counter 0)
+      → LotRule words (record { words = s.words; homes = s.homes; views = vs })
+  reseated vs same-named same-counts same-steps same-drawn saw = record {
+    size = o.size;
+    coded = λ number' kind' below. subst (Codes kind' (get_or s.words (place number' kind') 0)) (λ k weight. sym (same-named (place number' kind') weight) k) (o.coded number' kind' below);
+    shows = λ number' below. shows_more (λ mutex. 0 < total (steps_at (place mutex Mutex)) s.views) (λ mutex. 0 < total (steps_at (place mutex Mutex)) vs) (get_or s.words (place number' Condvar) 0) (λ k h. omega (arith, same-steps (place k Mutex))) (o.shows number' below);
+    counts = λ number' below. let old = o.counts number' below in (old.0, old.1 ∙ sym (same-counts (place number' Mutex)));
+    untouched = λ r above h none. o.untouched r above h (omega (arith, same-steps r));
+    drawn = λ weight. same-drawn weight ∙ o.drawn weight;
+    enough = o.enough;
+    saw = saw;
+  }
+
+-- a weight of views stays as a seat's view is cut in two
+cut : (f : View → ℕ) (views : List View) (j : ℕ) (v w u : View) → get_elem? views j ≡ some v → f w + f u ≡ f v → total f (set views j w ++ u ∷ []) ≡ total f views
+cut f views j v w u me parts = omega (arith, total-append f (set views j w) (u ∷ []), total-set f views j v w me)
+
+-- one seat more, which knows nothing
+pub seats_another : {S : Type 0} (words id : ℕ) (v : View) → Splits {S = S} (LotRule words) id v v blank
+seats_another words id v s o me = reseated words s o (set s.views id v ++ blank ∷ [])
+    (λ r weight. cut (λ (u : View). owned r weight u.owns) s.views id v v blank me (omega arith))
+    (λ r. cut (λ (u : View). counted r u.owns) s.views id v v blank me (omega arith))
+    (λ r. cut (steps_at r) s.views id v v blank me (omega arith))
+    (λ weight. cut (drew weight) s.views id v v blank me (omega arith))
+    (λ q u e. ⊎_elim (λ e₂. ⊎_elim (λ t. let old = o.saw id v me in omega (arith, ap (λ (y : View). y.saw) t.1)) (λ t. o.saw q u t.1) (at_set s.views id q v u e₂)) (λ (t : blank ≡ u). omega (arith, ap (λ (y : View). y.saw) t)) (at_snoc (set s.views id v) blank u q e))
+
+steps_more : (v : View) (at found r : ℕ) (op : Op) → total (λ (step : WordStep). cond (eqb step.at r) 1 0) (listed v at op found) ≡ steps_at r v + cond (eqb at r) 1 0
+steps_more v at found r op = omega (arith, total-append (λ (step : WordStep). cond (eqb step.at r) 1 0) v.steps (record { at = at; op = op; seen = found } ∷ []))
+
+-- the law of all steps on words: one that the seat may take keeps the rule
+pub steps : {S : Type 0} (words slots id : ℕ) (me : Me S View) (number : ℕ) (kind : WordKind) (op : Op) → number < words → MayStep kind (place number kind) op me.0.owns
+    → Allows (LotRule words) slots id me (place number kind) (apply op) (Takes (place number kind) op me)
+steps {S} words slots id me number kind op below may s o wide at fits =
+    let i : ℕ = place number kind in let n : ℕ = get_or s.words i 0 in let m : ℕ = apply op n in
+    let mine : (weight : Owner → ℕ) → owned i weight me.0.owns ≤ named i weight s.views = λ weight. term_le (λ (u : View). owned i weight u.owns) s.views id me.0 at in
+    let code = o.coded number kind below in
+    let ok = may n (λ weight. named i weight s.views) fits code mine in
+    let t = trade kind n m in let w = after_step kind i op n me.0 in
+    let then = λ (k : WordKind). (w : View) × (a : Act S) × Valid s.homes me.1 a × LotRule words (stepped s i m id me.1 w a) × TakesAs k i op me n (w, carried_after me.1 a) in
+    subst then (sym (kind_at-place number kind)) (
+      w,
+      keeps,
+      tt,
+      turned words s o number kind id m me.0 w at below
+          (λ r ne weight. traded_elsewhere i t me.0.owns ok.0 r ne weight)
+          (λ after same. ok.1 after (λ weight. omega (arith, same weight, traded_here i t me.0.owns ok.0 weight)))
+          ok.2
+          (λ r. traded_counts i t me.0.owns ok.0 r)
+          refl refl (omega (arith, steps_more me.0 i n i op, cond_same i i 1 refl)) (λ r. omega (arith, steps_more me.0 i n r op)),
+      (refl, ((λ weight. named i weight s.views), code, mine)),
+    )
+
+-- the same, by the place that was computed and the operation that was matched
+pub steps_at_word : {S : Type 0} (words slots id : ℕ) (me : Me S View) (number : ℕ) (kind : WordKind) (at : ℕ) (op op' : Op) → op ≡ op' → at ≡ place number kind → number < words → MayStep kind (place number kind) op me.0.owns
+    → Allows (LotRule words) slots id me at (apply op') (Takes at op' me)
+steps_at_word words slots id me number kind at op op' same there below may =
+    let may' : MayStep kind (place number kind) op' me.0.owns = subst (λ (x : Op). MayStep kind (place number kind) x me.0.owns) same may in
+    subst (λ (i : ℕ). Allows (LotRule words) slots id me i (apply op') (Takes i op' me)) (sym there) (steps words slots id me number kind op' below may')
+
+-- one ownership goes to a seat of its own
+pub splits_off : {S : Type 0} (words id : ℕ) (v : View) (x : Ownership) → has x v.owns ≡ true → Splits {S = S} (LotRule words) id v (left_over x v) (piece x)
+splits_off words id v x there s o me = reseated words s o (set s.views id (left_over x v) ++ piece x ∷ [])
+    (λ r weight. cut (λ (u : View). owned r weight u.owns) s.views id v (left_over x v) (piece x) me (omega (arith, total-without (λ (y : Ownership). cond (eqb y.at r) (weight y.owner) 0) x v.owns there)))
+    (λ r. cut (λ (u : View). counted r u.owns) s.views id v (left_over x v) (piece x) me (omega (arith, total-without (λ (y : Ownership). cond (eqb y.at r) y.count 0) x v.owns there)))
+    (λ r. cut (steps_at r) s.views id v (left_over x v) (piece x) me (omega arith))
+    (λ weight. cut (drew weight) s.views id v (left_over x v) (piece x) me (omega arith))
+    (λ q u e. ⊎_elim (λ e₂. ⊎_elim (λ t. let old = o.saw id v me in omega (arith, ap (λ (y : View). y.saw) t.1)) (λ t. o.saw q u t.1) (at_set s.views id q (left_over x v) u e₂)) (λ (t : piece x ≡ u). omega (arith, ap (λ (y : View). y.saw) t)) (at_snoc (set s.views id (left_over x v)) (piece x) u q e))
+
+-- a weight of views stays as a seat takes in what another owns
+paste : (f : View → ℕ) (views : List View) (j k : ℕ) (v w b z : View) → get_elem? views j ≡ some v → get_elem? (set views j b) k ≡ some w → f b + f z ≡ f v + f w → total f (set (set views j b) k z) ≡ total f views
+paste f views j k v w b z me them parts = omega (arith, total-set f (set views j b) k w z them, total-set f views j v b me)
+
+-- an ownership comes back
+pub takes_back : {S : Type 0} (words id : ℕ) (v : View) (other : ℕ) (x : Ownership) → Joins {S = S} (LotRule words) id v other (piece x) (takes_in v (piece x)) blank
+takes_back words id v other x s o me apart them = let b = takes_in v (piece x) in
+    reseated words s o (set (set s.views id b) other blank)
+    (λ r weight. paste (λ (u : View). owned r weight u.owns) s.views id other v (piece x) b blank me them (omega arith))
+    (λ r. paste (λ (u : View). counted r u.owns) s.views id other v (piece x) b blank me them (omega arith))
+    (λ r. paste (steps_at r) s.views id other v (piece x) b blank me them (omega arith))
+    (λ weight. paste (drew weight) s.views id other v (piece x) b blank me them (omega arith))
+    (λ q u e. ⊎_elim (λ t. omega (arith, ap (λ (y : View). y.saw) t.1)) (λ t. ⊎_elim (λ t₂. let old = o.saw id v me in omega (arith, ap (λ (y : View). y.saw) t₂.1)) (λ t₂. o.saw q u t₂.1) (at_set s.views id q b u t.1)) (at_set (set s.views id b) other q blank u e))
+
+-- the same, by the view that a right has
+pub takes_back_from : {S : Type 0} (words id : ℕ) (v : View) (other : ℕ) (x : Ownership) (w : View) → w ≡ piece x → Joins {S = S} (LotRule words) id v other w (takes_in v w) blank
+takes_back_from {S} words id v other x w is = subst (λ (u : View). Joins {S = S} (LotRule words) id v other u (takes_in v u) blank) (sym is) (takes_back words id v other x)
+
+-- the law of steps on the counter, which only adds to it
+count_turned : {S : Type 0} (words : ℕ) (s : State S View) (o : LotRule words s) (j m : ℕ) (v w : View) → get_elem? s.views j ≡ some v → get_or s.words counter 0 ≤ m → m ≤ words
+    → w.owns ≡ v.owns → w.saw ≤ m → ((r : ℕ) → 0 < r → steps_at r w ≡ steps_at r v)
+    → ((weight : ℕ → ℕ) → drew weight w + total_below weight (get_or s.words counter 0) ≡ drew weight v + total_below weight m)
+    → LotRule words (record { words = set s.words counter m; homes = s.homes; views = set s.views j w })
+count_turned words s o j m v w me up fits same-owns saw same-steps same-drawn =
+    let size = o.size in let vs = set s.views j w in
+    let here : get_or (set s.words counter m) counter 0 ≡ m = get_or-set_same s.words counter m 0 (omega arith) in
+    let there : (r : ℕ) → 0 < r → get_or (set s.words counter m) r 0 ≡ get_or s.words r 0 = λ r h. get_or-set_other s.words counter r m 0 (λ e. omega arith) in
+    let same-named : (r : ℕ) (weight : Owner → ℕ) → named r weight s.views ≡ named r weight vs = λ r weight. omega (arith, total-set (λ (u : View). owned r weight u.owns) s.views j v w me, ap (owned r weight) same-owns) in
+    let stepped : (r : ℕ) → 0 < r → total (steps_at r) vs ≡ total (steps_at r) s.views = λ r h. omega (arith, total-set (steps_at r) s.views j v w me, same-steps r h) in
+    record {
+      size = length-set s.words counter m ∙ size;
+      coded = λ number' kind' below. subst (λ (x : ℕ). Codes kind' x (λ weight. named (place number' kind') weight vs)) (sym (there (place number' kind') (omega arith)))
+          (subst (Codes kind' (get_or s.words (place number' kind') 0)) (λ k weight. same-named (place number' kind') weight k) (o.coded number' kind' below));
+      shows = λ number' below. subst (Shows (λ mutex. 0 < total (steps_at (place mutex Mutex)) vs)) (sym (there (place number' Condvar) (omega arith)))
+          (shows_more (λ mutex. 0 < total (steps_at (place mutex Mutex)) s.views) (λ mutex. 0 < total (steps_at (place mutex Mutex)) vs) (get_or s.words (place number' Condvar) 0) (λ k h. omega (arith, stepped (place k Mutex) (omega arith))) (o.shows number' below));
+      counts = λ number' below. let old = o.counts number' below in let old₁ = old.1 in let same = there (place (number' + 1) Count) (omega arith) in
+          (subst IsCountCode (sym same) old.0, omega (arith, total-set (λ (u : View). counted (place number' Mutex) u.owns) s.views j v w me, ap (counted (place number' Mutex)) same-owns));
+      untouched = λ r above h none. there r above ∙ o.untouched r above (omega (arith, length-set s.words counter m)) (omega (arith, stepped r above));
+      drawn = λ weight. omega (arith, total-set (drew weight) s.views j v w me, o.drawn weight, same-drawn weight, ap (total_below weight) here);
+      enough = omega arith;
+      saw = λ q u e. ⊎_elim (λ t. omega (arith, ap (λ (y : View). y.saw) t.1)) (λ t. let old = o.saw q u t.1 in omega arith) (at_set s.views j q w u e);
+    }
+
+at_counter : (v : View) (op : Op) (found r : ℕ) → 0 < r → total (λ (step : WordStep). cond (eqb step.at r) 1 0) (listed v counter op found) ≡ steps_at r v
+at_counter v op found r above = omega (arith, steps_more v counter found r op, cond_other counter r 1 (λ e. omega arith))
+
+-- a look at the counter
+pub look : {S : Type 0} (words slots id : ℕ) (me : Me S View) → Allows (LotRule words) slots id me counter (λ n. n) (looks (step slots counter 0 0 none) me)
+look words slots id me s o wide at fits = let n : ℕ = get_or s.words counter 0 in let w = view (listed me.0 counter Load n) me.0.owns me.0.drawn n in
+    (w, keeps, tt, count_turned words s o id n me.0 w at (omega arith) o.enough refl (omega arith) (λ r h. at_counter me.0 Load n r h) (λ weight. refl), refl)
+
+-- the numbers that are drawn together
+total_below-numbered : (weight : ℕ → ℕ) (n : ℕ) (kinds : List WordKind) → total (λ (word : Word). weight word.number) (numbered n kinds) + total_below weight n ≡ total_below weight (n + length kinds)
+total_below-numbered weight n [] = let e : n ≡ n + 0 = omega arith in omega (arith, ap (total_below weight) e)
+total_below-numbered weight n (kind ∷ kinds) = omega (arith, total_below-suc weight n, total_below-numbered weight (n + 1) kinds, ap (total_below weight) (let e : n + 1 + length kinds ≡ n + suc (length kinds) = omega arith in e))
+
+-- a draw, where the seat has seen the counter
+pub draw : {S : Type 0} (words slots id : ℕ) (me : Me S View) (kinds : List WordKind) (seen : ℕ) → me.0.saw ≡ seen → seen + length kinds ≤ words
+    → Allows (LotRule words) slots id me counter (λ n. either (eqb n seen) (seen + length kinds) n) (draws kinds (step slots counter seen (seen + length kinds) none) me)
+draw {S} words slots id me kinds seen saw room s o wide at fits =
+    let n : ℕ = get_or s.words counter 0 in let new : ℕ = seen + length kinds in let op = Exchange seen new in
+    let Goal : ℕ → Type 0 = λ (y : ℕ). (w : View) × (a : Act S) × Valid s.homes me.1 a × LotRule words (stepped s counter y id me.1 w a) × draws kinds (step slots counter seen new none) me n (w, carried_after me.1 a) in
+    dite (ℕ_discrete n seen)
+    (λ e. let w = view (listed me.0 counter op n) me.0.owns (numbered n kinds ++ me.0.drawn) new in
+    subst (λ b. Goal (either b new n)) (sym (eq-eqb n seen e)) (
+      w,
+      keeps,
+      tt,
+      count_turned words s o id new me.0 w at (omega arith) room refl (omega arith) (λ r h. at_counter me.0 op n r h)
+          (λ weight. omega (arith, total-append (λ (word : Word). weight word.number) (numbered n kinds) me.0.drawn, total_below-numbered weight n kinds, ap (λ (k : ℕ). total_below weight (k + length kinds)) e)),
+      ((λ _. refl), λ ne. absurd (ne e)),
+    ))
+    (λ ne. let w = view (listed me.0 counter op n) me.0.owns me.0.drawn n in
+    subst (λ b. Goal (either b new n)) (sym (ne_eqb n seen ne)) (
+      w,
+      keeps,
+      tt,
+      count_turned words s o id n me.0 w at (omega arith) o.enough refl (omega arith) (λ r h. at_counter me.0 op n r h) (λ weight. refl),
+      ((λ e. absurd (ne e)), λ _. (omega (arith, o.saw id me.0 at), refl)),
+    ))
+
+-- the same, by the count of words that was computed
+pub draw_so_many : {S : Type 0} (words slots id : ℕ) (me : Me S View) (kinds : List WordKind) (seen needed : ℕ) → length kinds ≡ needed → me.0.saw ≡ seen → seen + needed ≤ words
+    → Allows (LotRule words) slots id me counter (λ n. either (eqb n seen) (seen + needed) n) (draws kinds (step slots counter seen (seen + needed) none) me)
+draw_so_many words slots id me kinds seen needed e saw room = let Goal : ℕ → Type 0 = λ (k : ℕ). seen + k ≤ words → Allows (LotRule words) slots id me counter (λ n. either (eqb n seen) (seen + k) n) (draws kinds (step slots counter seen (seen + k) none) me) in
+    subst Goal e (draw words slots id me kinds seen saw) room

@@ -1,0 +1,7 @@
+pub mod Totals
+pub mod Looks
+mod Places
+pub mod Trades
+pub mod Keeps
+pub mod MutexSteps
+mod Alone

@@ -1,0 +1,7 @@
+use Rattle.std.proofs.Common.{arith}
+use Rattle.lot_words.proofs.Keeps.{seats_another}
+use Rattle.lot_words.proofs.table.LotWords.another.Goals as goal
+
+pub split_seat-requires : goal.split_seat-requires
+split_seat-requires c = let sized = c.args.self.now.sized in let sized₀ = sized.0 in
+    (c.requires, omega arith, seats_another c.args.self.now.table.shared.key c.args.seat.now.id c.args.seat.now.me.0)

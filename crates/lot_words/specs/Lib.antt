@@ -1,0 +1,11 @@
+pub mod Places
+pub mod Views
+pub mod Codes
+pub mod Rule
+pub mod Steps
+pub mod Plays
+pub mod Lots
+pub mod Draws
+pub mod Rights
+pub mod RightsOf
+pub mod Laws

@@ -1,0 +1,34 @@
+-- Where the words of a lot stand in its table.
+use Rattle.std.specs.Prelude.{ℕ, ◌+◌, ◌*◌, ◌%◌, cond, ◌==◌}
+use Rattle.lot_words.specs.declared.words.WordKind.{WordKind}
+use Rattle.lot_words.specs.declared.words.WordKind.TheVariants.{Mutex, RwLock, Condvar, Once, Count}
+
+-- the greatest lot
+abbrev pub most_words : ℕ
+most_words = 1048576
+
+abbrev pub rank : WordKind → ℕ
+rank Mutex = 0
+rank RwLock = 1
+rank Condvar = 2
+rank Once = 3
+rank Count = 4
+
+-- the counter of drawn words
+abbrev pub counter : ℕ
+counter = 0
+
+-- the word of a number and a kind: each number has eight places, which is a cache line
+abbrev pub place : ℕ → WordKind → ℕ
+place number kind = 8 * (number + 1) + rank kind
+
+-- the places of so many words, with the counter's
+abbrev pub places : ℕ → ℕ
+places words = 8 * (words + 1)
+
+abbrev pub kind_of_rank : ℕ → WordKind
+kind_of_rank r = cond (r == 0) Mutex (cond (r == 1) RwLock (cond (r == 2) Condvar (cond (r == 3) Once Count)))
+
+-- the kind of the word at a place
+abbrev pub kind_at : ℕ → WordKind
+kind_at at = kind_of_rank (at % 8)

@@ -1,0 +1,29 @@
+-- The ownership rule: what holds of a lot's words and of all views between any two steps.
+use Rattle.std.specs.Prelude.{◌≡◌, ℕ, ◌+◌, ◌<◌, ◌≤◌, length, slice_index}
+use mathlib.Core.Option.{some}
+use lib.ListN.{get_elem?}
+use Rattle.atomic_table.specs.Table.{State}
+use Rattle.lot_words.specs.Places.{counter, place, places}
+use Rattle.lot_words.specs.Views.{total, total_below, named, counted, steps_at, drew}
+use Rattle.lot_words.specs.Codes.{Codes, Shows, IsCountCode}
+use Rattle.lot_words.specs.declared.views.View.{View}
+use Rattle.lot_words.specs.declared.words.WordKind.{WordKind}
+use Rattle.lot_words.specs.declared.words.WordKind.TheVariants.{Mutex, Condvar, Count}
+
+-- of a lot of so many words
+pub record LotRule {S : Type 0} (words : ℕ) (s : State S View) : Type 0 where
+  pub size : length s.words ≡ places words
+  -- each lock word is the code of the owners that all views together name
+  pub coded : (number : ℕ) (kind : WordKind) → number < words → Codes kind (slice_index s.words (place number kind)) (λ weight. named (place number kind) weight s.views)
+  -- a condition variable shows a mutex on which somebody has stepped, or none
+  pub shows : (number : ℕ) → number < words → Shows (λ mutex. 0 < total (steps_at (place mutex Mutex)) s.views) (slice_index s.words (place number Condvar))
+  -- a count word is what the owner of the mutex before it says
+  pub counts : (number : ℕ) → number + 1 < words → IsCountCode (slice_index s.words (place (number + 1) Count))
+      × (slice_index s.words (place (number + 1) Count) ≡ total (λ (v : View). counted (place number Mutex) v.owns) s.views)
+  -- a word on which nobody has stepped is 0
+  pub untouched : (at : ℕ) → 0 < at → at < length s.words → total (steps_at at) s.views ≡ 0 → slice_index s.words at ≡ 0
+  -- the numbers below the counter were drawn, each once, and no other was
+  pub drawn : (weight : ℕ → ℕ) → total (drew weight) s.views ≡ total_below weight (slice_index s.words counter)
+  pub enough : slice_index s.words counter ≤ words
+  -- the counter never falls
+  pub saw : (seat : ℕ) (v : View) → get_elem? s.views seat ≡ some v → v.saw ≤ slice_index s.words counter

@@ -1,0 +1,48 @@
+-- What views name, added up.
+use Rattle.std.specs.Prelude.{ℕ, zero, suc, ◌+◌, List, [], ◌∷◌, cond, ◌==◌}
+use Rattle.lot_words.specs.declared.owners.Owner.{Owner}
+use Rattle.lot_words.specs.declared.owners.Ownership.{Ownership}
+use Rattle.lot_words.specs.declared.views.View.{View}
+use Rattle.lot_words.specs.declared.views.WordStep.{WordStep}
+use Rattle.lot_words.specs.declared.words.Word.{Word}
+
+abbrev pub view : List WordStep → List Ownership → List Word → ℕ → View
+view steps owns drawn saw = record { steps = steps; owns = owns; drawn = drawn; saw = saw }
+
+-- the view of who has done nothing yet, and owns nothing
+abbrev pub blank : View
+blank = view [] [] [] 0
+
+-- the weights of all items, added up
+abbrev pub total : {A : Type 0} → (A → ℕ) → List A → ℕ
+total weight [] = 0
+total weight (x ∷ xs) = weight x + total weight xs
+
+-- the weights of the numbers below n, added up
+abbrev pub total_below : (ℕ → ℕ) → ℕ → ℕ
+total_below weight zero = 0
+total_below weight (suc n) = total_below weight n + weight n
+
+-- an ownership of the word at a place
+abbrev pub owning : ℕ → Owner → Ownership
+owning at owner = record { at = at; owner = owner; count = 0 }
+
+-- how much of the word at a place is owned, by a weight of owners
+abbrev pub owned : ℕ → (Owner → ℕ) → List Ownership → ℕ
+owned at weight owns = total (λ (x : Ownership). cond (x.at == at) (weight x.owner) 0) owns
+
+-- the same, of all views together
+abbrev pub named : ℕ → (Owner → ℕ) → List View → ℕ
+named at weight views = total (λ (v : View). owned at weight v.owns) views
+
+-- what the owners of the mutex at a place say that its count word is
+abbrev pub counted : ℕ → List Ownership → ℕ
+counted at owns = total (λ (x : Ownership). cond (x.at == at) x.count 0) owns
+
+-- how many steps at a place a view lists
+abbrev pub steps_at : ℕ → View → ℕ
+steps_at at v = total (λ (step : WordStep). cond (step.at == at) 1 0) v.steps
+
+-- the drawn words of a view, by a weight of numbers
+abbrev pub drew : (ℕ → ℕ) → View → ℕ
+drew weight v = total (λ (word : Word). weight word.number) v.drawn

@@ -1,0 +1,65 @@
+//! How words are drawn: each once, from a counter that never falls.
+ghost use Rattle.std.specs.Prelude.{◌≡◌, ◌+◌, ◌<◌, [], ◌∷◌, length, MatchOption, MatchResult};
+ghost use Rattle.lot_words.specs.Lots.{IsSeatOf};
+ghost use Rattle.lot_words.specs.Draws.{IsDrawn, IsRefused};
+ghost use Rattle.lot_words.specs.declared.words.WordKind.TheVariants.{Mutex, Count};
+
+use crate::plays::{Draws, Kinds, Looks};
+use crate::table::{LotWords, Seat};
+use crate::words::{Word, WordKind};
+use parking_lot_core::Fault;
+use std::marker::Brand;
+
+// The counter's place.
+const COUNTER: usize = 0;
+
+impl LotWords {
+    // Draws words of these kinds, whose numbers follow one another. It gives the first number.
+    fn draw<K: Kinds>(&self, seat: &mut Seat, kinds: &[WordKind]) -> Option<usize>
+        requires own { IsSeatOf self.now seat.old }
+        requires kinds { (K.kinds ≡ kinds.now) × (0 < length kinds.now) }
+        ensures own { IsSeatOf self.now seat.new × (seat.new.me.1 ≡ seat.old.me.1) × (seat.new.me.0.owns ≡ seat.old.me.0.owns) }
+        ensures drawn { MatchOption result (IsRefused self.now.count (length kinds.now) seat.old.me.0 seat.new.me.0) (λ number. IsDrawn self.now.count kinds.now number seat.old.me.0 seat.new.me.0) }
+    {
+        let (words, needed) = (self.count as u64, kinds.len() as u64);
+        let counter = &self.table.shared;
+        let mut seen = counter.load::<Looks>(seat, COUNTER);
+        while seen < words && needed <= words - seen {
+            let found = counter.compare_exchange::<Draws<K>>(seat, COUNTER, seen, seen + needed);
+            if found == seen {
+                return Some(seen as usize);
+            }
+            seen = found;
+        }
+        None
+    }
+
+    /// The next word, of this kind. It is refused, by `LotFull`, only where a step saw no word left.
+    pub fn new_word(&self, seat: &mut Seat, kind: WordKind) -> Result<Word, Fault>
+        requires { IsSeatOf self.now seat.old }
+        ensures own { IsSeatOf self.now seat.new × (seat.new.me.1 ≡ seat.old.me.1) × (seat.new.me.0.owns ≡ seat.old.me.0.owns) }
+        ensures drawn { MatchResult result (λ word. (word.kind ≡ kind) × IsDrawn self.now.count (kind ∷ []) word.number seat.old.me.0 seat.new.me.0)
+            (λ fault. (fault ≡ Fault.LotFull) × IsRefused self.now.count 1 seat.old.me.0 seat.new.me.0) }
+    {
+        match self.draw::<Brand>(seat, &[kind]) {
+            Some(number) => Ok(Word::new(number, kind)),
+            None => Err(Fault::LotFull),
+        }
+    }
+
+    /// The next two words: a mutex, and the count of how often it is locked. Both are drawn, or none.
+    pub fn new_pair(&self, seat: &mut Seat) -> Result<(Word, Word), Fault>
+        requires { IsSeatOf self.now seat.old }
+        ensures own { IsSeatOf self.now seat.new × (seat.new.me.1 ≡ seat.old.me.1) × (seat.new.me.0.owns ≡ seat.old.me.0.owns) }
+        ensures drawn { MatchResult result (λ pair. (pair.0.kind ≡ Mutex) × (pair.1.kind ≡ Count) × (pair.1.number ≡ pair.0.number + 1) × IsDrawn self.now.count (Mutex ∷ Count ∷ []) pair.0.number seat.old.me.0 seat.new.me.0)
+            (λ fault. (fault ≡ Fault.LotFull) × IsRefused self.now.count 2 seat.old.me.0 seat.new.me.0) }
+    {
+        match self.draw::<Brand>(seat, &[WordKind::Mutex, WordKind::Count]) {
+            Some(number) => {
+                let mutex = Word::new(number, WordKind::Mutex);
+                Ok((mutex, Word::new(number + 1, WordKind::Count)))
+            }
+            None => Err(Fault::LotFull),
+        }
+    }
+}

@@ -1,0 +1,13 @@
+//! What the rule says to who takes a step, whoever else takes steps.
+ghost use Rattle.lot_words.specs.Laws.{ExclusiveIsAlone, MutexMaySteps};
+
+/// In every word that a step can find, an exclusive owner stands beside no other owner.
+pub fn exclusive_is_alone()
+    ensures { ExclusiveIsAlone }
+{}
+
+/// A mutex's word may be loaded, entered by an exchange or by setting its bit, marked as parked and cleared of that by
+/// anybody, and left by who owns it.
+pub fn mutex_may_step()
+    ensures { MutexMaySteps }
+{}

@@ -1,0 +1,17 @@
+//! The words of a lot under one rule: each lock word is the code of what all who step on it own together.
+#![tactic(auto)]
+
+pub mod draws;
+pub mod laws;
+pub mod owners;
+pub mod plays;
+pub mod rights;
+pub mod table;
+pub mod views;
+pub mod words;
+
+pub use owners::{Owner, Ownership};
+pub use rights::Right;
+pub use table::{LotWords, Seat};
+pub use views::{View, WordStep};
+pub use words::{Word, WordKind};

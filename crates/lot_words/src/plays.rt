@@ -1,0 +1,129 @@
+//! The rule of the lot's table, and the names of its steps.
+ghost use Rattle.std.specs.Prelude.{[], List};
+ghost use Rattle.lot_words.specs.Rule.{LotRule};
+ghost use Rattle.lot_words.specs.Views.{blank};
+ghost use Rattle.lot_words.specs.Plays.{loads, stores, swaps, adds, subs, ors, ands, exchanges, looks, draws, left_over, piece, takes_in};
+ghost use Rattle.lot_words.specs.declared.owners.Ownership.{Ownership};
+ghost use Rattle.lot_words.specs.declared.owners.Owner.TheVariants.{Exclusive};
+ghost use Rattle.lot_words.specs.declared.words.WordKind.{WordKind};
+
+use crate::views::View;
+use atomic_table::{Join, Play, Split, TableRule};
+use std::marker::{Brand, PhantomData};
+
+pub struct OwnershipRule;
+
+impl<S> TableRule<S, View, usize> for OwnershipRule {
+    ghost holds = { LotRule };
+
+    ghost first = { λ _. blank };
+}
+
+pub struct Loads;
+
+impl<S> Play<S, View> for Loads {
+    ghost then = { loads };
+}
+
+pub struct Stores;
+
+impl<S> Play<S, View> for Stores {
+    ghost then = { stores };
+}
+
+pub struct Swaps;
+
+impl<S> Play<S, View> for Swaps {
+    ghost then = { swaps };
+}
+
+pub struct Adds;
+
+impl<S> Play<S, View> for Adds {
+    ghost then = { adds };
+}
+
+pub struct Subs;
+
+impl<S> Play<S, View> for Subs {
+    ghost then = { subs };
+}
+
+pub struct Ors;
+
+impl<S> Play<S, View> for Ors {
+    ghost then = { ors };
+}
+
+pub struct Ands;
+
+impl<S> Play<S, View> for Ands {
+    ghost then = { ands };
+}
+
+pub struct Exchanges;
+
+impl<S> Play<S, View> for Exchanges {
+    ghost then = { exchanges };
+}
+
+/// A look at the counter of drawn words.
+pub struct Looks;
+
+impl<S> Play<S, View> for Looks {
+    ghost then = { looks };
+}
+
+/// The kinds of the words that are drawn together, picked at each call.
+pub trait Kinds {
+    ghost kinds: { List WordKind };
+}
+
+impl Kinds for Brand {
+    ghost kinds = { [] };
+}
+
+/// A draw of such words.
+pub struct Draws<K: Kinds> {
+    kinds: PhantomData<K>,
+}
+
+impl<S, K: Kinds> Play<S, View> for Draws<K> {
+    ghost then = { draws K.kinds };
+}
+
+/// The ownership that is split off, picked at each call.
+pub trait Piece {
+    ghost owned: { Ownership };
+}
+
+impl Piece for Brand {
+    ghost owned = { record { at = 0; owner = Exclusive; count = 0 } };
+}
+
+pub struct SplitsOff<P: Piece> {
+    piece: PhantomData<P>,
+}
+
+impl<P: Piece> Split<View> for SplitsOff<P> {
+    ghost left = { left_over P.owned };
+
+    ghost right = { λ _. piece P.owned };
+}
+
+pub struct TakesIn;
+
+impl Join<View> for TakesIn {
+    ghost both = { takes_in };
+
+    ghost spent = { blank };
+}
+
+/// A seat that knows nothing.
+pub struct SeatsAnother;
+
+impl Split<View> for SeatsAnother {
+    ghost left = { λ v. v };
+
+    ghost right = { λ _. blank };
+}

@@ -1,0 +1,85 @@
+//! The words in their table.
+ghost use Rattle.std.specs.Prelude.{◌≡◌, ℕ, ◌<◌, ◌≤◌, [], IfOk};
+ghost use Rattle.lot_words.specs.Places.{places, place, most_words};
+
+use crate::plays::{
+    Adds, Ands, Exchanges, Loads, Ors, OwnershipRule, SeatsAnother, Stores, Subs, Swaps,
+};
+use crate::views::View;
+use crate::words::Word;
+use atomic_table::{Badge, Table};
+use parking_lot_core::Op;
+use std::alloc::{AllocError, Global};
+use std::marker::Model;
+
+/// What may lie beside a word: nothing as yet.
+pub struct Permit {
+    pub ghost number: { ℕ },
+}
+
+impl Model for Permit {
+    ghost use Rattle.std.specs.Borrow.{ftrue};
+
+    ghost also_owns = { λ _. ftrue };
+}
+
+pub type Slot = Option<Badge<Permit>>;
+
+/// What a thread steps with. It takes no memory, and its view is what the thread has done and owns.
+pub type Seat = atomic_table::Seat<Slot, View>;
+
+/// The words of a lot, and the counter of those that were drawn.
+#[derive(Drop)]
+pub struct LotWords {
+    pub(crate) table: Table<Slot, View, usize, OwnershipRule, Global>,
+    pub(crate) count: usize,
+    ghost sized: { (table.shared.table_id.words ≡ places count) × (table.shared.key ≡ count) × (count ≤ most_words) },
+}
+
+impl LotWords {
+    ghost use Rattle.lot_words.specs.Views.{blank};
+    ghost use Rattle.lot_words.specs.Steps.{MayStep, CodesWith, after_step};
+    ghost use Rattle.lot_words.specs.Lots.{IsSeatOf};
+
+    /// Words that are all 0, and the first seat.
+    pub fn new(alloc: Global, count: usize) -> Result<(LotWords, Seat), AllocError>
+        requires { (0 < count) × (count ≤ most_words) }
+        ensures { IfOk result (λ made. (made.0.count ≡ count) × IsSeatOf made.0 made.1 × (made.1.me ≡ (blank, []))) }
+    {
+        let zeros = Vec::from_elem(alloc, 0u64, 8 * (count + 1))?;
+        let (table, seat) = Table::vacant(alloc, zeros.as_slice(), count, &count)?;
+        Ok((LotWords { table, count }, seat))
+    }
+
+    /// A seat for one more thread.
+    pub fn another(&self, seat: &mut Seat) -> Seat
+        requires { IsSeatOf self.now seat.old }
+        ensures same { (seat.new.table_id ≡ seat.old.table_id) × (seat.new.me ≡ seat.old.me) }
+        ensures another { IsSeatOf self.now result × (result.me ≡ (blank, [])) }
+    {
+        self.table.shared.split_seat::<SeatsAnother>(seat)
+    }
+
+    /// One step on a word. It answers the value before.
+    #[inline]
+    pub fn step(&self, seat: &mut Seat, word: Word, op: Op) -> u64
+        requires own { IsSeatOf self.now seat.old × (word.number < self.now.count) }
+        requires may { MayStep word.kind (place word.number word.kind) op seat.old.me.0.owns }
+        ensures own { IsSeatOf self.now seat.new × (seat.new.me.1 ≡ seat.old.me.1) }
+        ensures stepped { seat.new.me.0 ≡ after_step word.kind (place word.number word.kind) op result seat.old.me.0 }
+        ensures coded { CodesWith word.kind (place word.number word.kind) result seat.old.me.0.owns }
+    {
+        let at = word.place();
+        let words = &self.table.shared;
+        match op {
+            Op::Load => words.load::<Loads>(seat, at),
+            Op::Store(value) => words.swap::<Stores>(seat, at, value),
+            Op::Swap(value) => words.swap::<Swaps>(seat, at, value),
+            Op::Add(by) => words.fetch_add::<Adds>(seat, at, by),
+            Op::Sub(by) => words.fetch_sub::<Subs>(seat, at, by),
+            Op::Or(bits) => words.fetch_or::<Ors>(seat, at, bits),
+            Op::And(bits) => words.fetch_and::<Ands>(seat, at, bits),
+            Op::Exchange { from, to } => words.compare_exchange::<Exchanges>(seat, at, from, to),
+        }
+    }
+}

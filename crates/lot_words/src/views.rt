@@ -1,0 +1,32 @@
+//! What a seat of a lot knows. No value of it is made.
+ghost use Rattle.std.specs.Prelude.{ℕ, List};
+ghost use Rattle.std.specs.Borrow.{ftrue};
+ghost use Rattle.lot_words.specs.declared.owners.Ownership.{Ownership};
+ghost use Rattle.lot_words.specs.declared.views.WordStep.{WordStep};
+ghost use Rattle.lot_words.specs.declared.words.Word.{Word};
+
+use parking_lot_core::Op;
+use std::marker::Model;
+
+/// A step that a seat took: at which place, by which operation, and the value before.
+#[derive(Clone, Copy, Debug, PartialEq, Eq)]
+pub struct WordStep {
+    pub at: usize,
+    pub op: Op,
+    pub seen: u64,
+}
+
+/// What a seat has done, what it owns, and what it saw.
+pub struct View {
+    // Its steps, the first at the front.
+    pub ghost steps: { List WordStep },
+    pub ghost owns: { List Ownership },
+    // The words that it drew, the last at the front.
+    pub ghost drawn: { List Word },
+    // The greatest count of drawn words that it saw.
+    pub ghost saw: { ℕ },
+}
+
+impl Model for View {
+    ghost also_owns = { λ _. ftrue };
+}

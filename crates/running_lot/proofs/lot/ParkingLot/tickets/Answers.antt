@@ -1,0 +1,11 @@
+use Rattle.std.proofs.Common.{rules}
+use Rattle.running_lot.specs.Tokens.{IsNewTicket, number_of}
+use Rattle.running_lot.proofs.Lists.{all_more, numbers_more}
+use Rattle.running_lot.proofs.lot.ParkingLot.tickets.Goals as goal
+
+pub loop-number-preserved : goal.loop-number-preserved
+loop-number-preserved c = record {
+  first = search rules;
+  numbers = numbers_more number_of c.loop-number.tickets.items c.push-in-loop-number.new.self.items c.new-in-loop-number.result c.loop-number.number c.in_ok-push-2.ensures.items c.new-in-loop-number.ensures.1 c.loop-number.invariant.numbers;
+  new = all_more (IsNewTicket c.args.words.now c.args.seats) c.loop-number.tickets.items c.push-in-loop-number.new.self.items c.new-in-loop-number.result c.in_ok-push-2.ensures.items c.loop-number.invariant.new (search rules);
+}

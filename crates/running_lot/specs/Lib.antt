@@ -1,0 +1,4 @@
+pub mod Tokens
+pub mod Keys
+pub mod Sections
+pub mod Sleeps

@@ -1,0 +1,105 @@
+//! What stands behind the lock of the queues.
+ghost use Rattle.std.specs.Prelude.{◌≡◌, ◌≤◌, [], IfOk, IfErr, MatchOption, ◌∷◌, length, not, ◌==◌};
+ghost use Rattle.std.specs.List.{filter};
+ghost use Rattle.std.specs.Vec.{vec_capacity};
+ghost use Rattle.parking_lot_core.specs.Lines.{line, lines, without_first, without_key, first_of, threads_of};
+
+use parking_lot_core::{Fault, Key, ListQueues, Queues};
+use std::alloc::{AllocError, Global};
+
+/// The queues, and whom the section that has them took.
+#[derive(Drop)]
+pub struct Queueing {
+    pub(crate) queues: ListQueues,
+    // In the order in which they were taken.
+    pub(crate) taken: Vec<usize>,
+    // Those of them that have not been given a right.
+    pub(crate) rightless: Vec<usize>,
+    pub(crate) seats: usize,
+    ghost roomy: { (queues.capacity ≡ seats) × (seats ≤ vec_capacity taken) × (vec_capacity taken ≤ vec_capacity rightless) },
+}
+
+fn room(alloc: Global, seats: usize) -> Result<(Vec<usize>, Vec<usize>), AllocError>
+    ensures { IfOk result (λ rooms. (seats ≤ vec_capacity rooms.0) × (vec_capacity rooms.0 ≤ vec_capacity rooms.1)) }
+{
+    let taken = Vec::with_capacity(alloc, seats)?;
+    let rightless = Vec::with_capacity(alloc, taken.capacity())?;
+    Ok((taken, rightless))
+}
+
+// Into an empty list that has room.
+fn copy_all(from: &[usize], to: &mut Vec<usize>)
+    requires { (to.old.items ≡ []) × (length from.now ≤ vec_capacity to.old) }
+    ensures { (to.new.items ≡ from.now) × (vec_capacity to.new ≡ vec_capacity to.old) }
+{
+    for thread in from {
+        to.push_reserved(*thread);
+    }
+}
+
+fn drop_thread(threads: &mut Vec<usize>, thread: usize)
+    ensures items { threads.new.items ≡ filter (λ x. not (x == thread)) threads.old.items }
+    ensures capacity { vec_capacity threads.new ≡ vec_capacity threads.old }
+{
+    threads.retain(|other| *other != thread);
+}
+
+impl Queueing {
+    pub(crate) fn with_capacity(alloc: Global, seats: usize) -> Result<Queueing, Fault>
+        ensures ok { IfOk result (λ made. made.seats ≡ seats) }
+        ensures err { IfErr result (λ fault. fault ≡ Fault.NoMemory) }
+    {
+        let queues = ListQueues::with_capacity(alloc, seats)?;
+        let Ok((taken, rightless)) = room(alloc, seats) else {
+            return Err(Fault::NoMemory);
+        };
+        Ok(Queueing {
+            queues,
+            taken,
+            rightless,
+            seats,
+        })
+    }
+
+    // Nobody has been taken in this section.
+    pub(crate) fn begin(&mut self)
+        ensures taken { (self.new.taken.items ≡ []) × (self.new.rightless.items ≡ []) }
+        ensures same { (self.new.queues ≡ self.old.queues) × (self.new.seats ≡ self.old.seats) }
+    {
+        self.taken.clear();
+        self.rightless.clear();
+    }
+
+    pub(crate) fn take_first(&mut self, key: Key) -> Option<usize>
+        requires { (self.old.taken.items ≡ []) × (self.old.rightless.items ≡ []) }
+        ensures first { result ≡ first_of (line key self.old.queues.waiters) }
+        ensures taken { MatchOption result (self.new.taken.items ≡ []) (λ thread. self.new.taken.items ≡ thread ∷ []) × (self.new.rightless.items ≡ self.new.taken.items) }
+        ensures lines { lines self.new.queues.waiters ≡ lines (without_first key self.old.queues.waiters) }
+        ensures same { self.new.seats ≡ self.old.seats }
+    {
+        let first = self.queues.take_first(key);
+        if let Some(thread) = first {
+            self.taken.push_reserved(thread);
+            self.rightless.push_reserved(thread);
+        }
+        first
+    }
+
+    pub(crate) fn take_all(&mut self, key: Key)
+        requires { (self.old.taken.items ≡ []) × (self.old.rightless.items ≡ []) }
+        ensures taken { (self.new.taken.items ≡ threads_of (line key self.old.queues.waiters)) × (self.new.rightless.items ≡ self.new.taken.items) }
+        ensures lines { lines self.new.queues.waiters ≡ lines (without_key key self.old.queues.waiters) }
+        ensures same { self.new.seats ≡ self.old.seats }
+    {
+        self.queues.take_all(key, &mut self.taken);
+        copy_all(self.taken.as_slice(), &mut self.rightless);
+    }
+
+    // The thread has been given a right.
+    pub(crate) fn has_right(&mut self, thread: usize)
+        ensures rightless { self.new.rightless.items ≡ filter (λ x. not (x == thread)) self.old.rightless.items }
+        ensures same { (self.new.queues ≡ self.old.queues) × (self.new.taken.items ≡ self.old.taken.items) × (self.new.seats ≡ self.old.seats) }
+    {
+        drop_thread(&mut self.rightless, thread);
+    }
+}

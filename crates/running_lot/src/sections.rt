@@ -1,0 +1,229 @@
+//! Sections, in which one thread at a time changes the queues of its keys.
+//!
+//! All sections stand behind one lock as yet: a thread that is inside one and enters another waits for itself.
+ghost use Rattle.std.specs.Prelude.{◌≡◌, ◌<◌, ◌++◌, ◌∷◌, ◌==◌, not, [], Some, Contains, MatchOption, length};
+ghost use Rattle.std.specs.List.{filter};
+ghost use Rattle.std.specs.Sync.Mutex.{mutex_guard_value};
+ghost use Rattle.parking_lot_core.specs.Lines.{waiter, line, lines, without, without_first, without_key, first_of, threads_of, key_of};
+ghost use Rattle.running_lot.specs.Keys.{AreKeys, IsKeyOf, first_key};
+ghost use Rattle.running_lot.specs.declared.tokens.Did.TheVariants.{Nothing, TakeFirst, TakeAll};
+ghost use Rattle.parking_lot_core.specs.declared.notes.Note.TheVariants.{HandOff};
+
+use crate::lot::ParkingLot;
+use crate::queueing::Queueing;
+use crate::tokens::{Did, Record, Token};
+use lot_words::Right;
+use parking_lot_core::{Key, Keys, Note, Queues, Want};
+use std::sync::atomic::Ordering::SeqCst;
+use std::sync::{MutexGuard, Wait};
+
+/// What a thread may do to the queues of its keys while nobody else does anything to them.
+///
+/// It takes or moves waiters by one call at most, and wakes those that it took as it leaves. A section that is dropped in place
+/// of left wakes nobody.
+#[derive(Drop)]
+pub struct Section<'a> {
+    lot: &'a ParkingLot,
+    queueing: MutexGuard<'a, Queueing>,
+    pub(crate) keys: Keys,
+    did: Did,
+    ghost seated: { (mutex_guard_value queueing).seats ≡ lot.now.letters.count },
+    ghost fresh: { did ≡ Nothing → ((mutex_guard_value queueing).taken.items ≡ []) × ((mutex_guard_value queueing).rightless.items ≡ []) },
+}
+
+// What a lock keeps is known by its type alone, so a fact about its lot is tested. The test never fails.
+fn never<R: Wait>(rt: &R) -> ! {
+    for _ in rt.forever() {}
+    unreachable!()
+}
+
+fn first_of_keys(keys: Keys) -> Key
+    ensures { result ≡ first_key keys }
+{
+    match keys {
+        Keys::One(key) => key,
+        Keys::Two(from, _) => from,
+    }
+}
+
+impl ParkingLot {
+    ghost use Rattle.running_lot.specs.Tokens.{IsTokenOf, Stays};
+
+    // The queues, with nobody taken.
+    pub(crate) fn locked<'a, R: Wait>(&'a self, rt: &R, keys: Keys) -> Section<'a>
+        ensures { (result.lot.now ≡ self.now) × (result.keys ≡ keys) × (result.did ≡ Nothing) }
+    {
+        let mut queueing = self.queueing.lock(rt);
+        queueing.begin();
+        if queueing.seats != self.letters.len() {
+            never(rt)
+        }
+        Section {
+            lot: self,
+            queueing,
+            keys,
+            did: Did::Nothing,
+        }
+    }
+
+    /// Enters the section of a key, or of two keys that differ, and waits while another thread is inside one.
+    pub fn enter<'a, R: Wait>(&'a self, rt: &R, _token: &mut Token, keys: Keys) -> Section<'a>
+        requires own { IsTokenOf self.now _token.old }
+        requires keys { AreKeys keys }
+        ensures same { _token.new ≡ _token.old }
+        ensures section { (result.lot.now ≡ self.now) × (result.keys ≡ keys) × (result.did ≡ Nothing) }
+    {
+        self.locked(rt, keys)
+    }
+
+    /// How many stand under a key.
+    pub fn queued<R: Wait>(&self, rt: &R, token: &mut Token, key: Key) -> usize
+        requires { IsTokenOf self.now token.old }
+        ensures { token.new ≡ token.old }
+    {
+        self.enter(rt, token, Keys::One(key)).count(key)
+    }
+
+    // Ties those that were taken together, and gives the first.
+    fn tie(&self, taken: &[usize]) -> Option<usize> {
+        for pair in taken.windows(2) {
+            if let Some(next) = self.next_taken.get(pair[0]) {
+                next.store(pair[1], SeqCst);
+            }
+        }
+        taken.first().copied()
+    }
+
+    fn wake<R: Wait>(&self, rt: &R, thread: usize, note: Note) {
+        if thread < self.letters.len() {
+            let (mut letter, held) = self.letters.take(rt, thread);
+            letter.note = Some(note);
+            self.letters.give_back(letter, held);
+        }
+        if let Some(unparker) = self.unparkers.get(thread) {
+            unparker.unpark();
+        }
+    }
+
+    // Who comes after a thread is read before it is woken: once it runs, it may be taken again.
+    fn wake_tied<R: Wait>(&self, rt: &R, first: usize, number: usize, note: Note) {
+        let mut thread = first;
+        for _ in 0..number {
+            let next = match self.next_taken.get(thread) {
+                Some(next) => next.load(SeqCst),
+                None => thread,
+            };
+            self.wake(rt, thread, note);
+            thread = next;
+        }
+    }
+}
+
+impl<'a> Section<'a> {
+    ghost use Rattle.running_lot.specs.Tokens.{IsTokenOf, Stays, last_of};
+    ghost use Rattle.running_lot.specs.Sections.{waiting_in, taken_in, rightless_in, StaysIn};
+    ghost use Rattle.lot_words.specs.RightsOf.{IsRightOf};
+
+    /// Puts a thread behind the last under a key. One that stands somewhere leaves that place first.
+    pub fn append(&mut self, key: Key, thread: usize, want: Want)
+        requires key { IsKeyOf self.old.keys key }
+        requires thread { thread < self.old.lot.now.letters.count }
+        ensures lines { lines (waiting_in self.new) ≡ lines (without thread (waiting_in self.old) ++ waiter key thread want ∷ []) }
+        ensures same { StaysIn self.old self.new × (self.new.did ≡ self.old.did) × (taken_in self.new ≡ taken_in self.old) × (rightless_in self.new ≡ rightless_in self.old) }
+    {
+        self.queueing.queues.append(key, thread, want);
+    }
+
+    /// Removes a thread from where it stands.
+    pub fn remove(&mut self, thread: usize)
+        ensures lines { lines (waiting_in self.new) ≡ lines (without thread (waiting_in self.old)) }
+        ensures same { StaysIn self.old self.new × (self.new.did ≡ self.old.did) × (taken_in self.new ≡ taken_in self.old) × (rightless_in self.new ≡ rightless_in self.old) }
+    {
+        self.queueing.queues.remove(thread);
+    }
+
+    /// Takes the first under a key.
+    pub fn take_first(&mut self, key: Key) -> Option<usize>
+        requires key { IsKeyOf self.old.keys key }
+        requires first_take { self.old.did ≡ Nothing }
+        ensures first { result ≡ first_of (line key (waiting_in self.old)) }
+        ensures taken { MatchOption result (taken_in self.new ≡ []) (λ thread. taken_in self.new ≡ thread ∷ []) × (rightless_in self.new ≡ taken_in self.new) }
+        ensures lines { lines (waiting_in self.new) ≡ lines (without_first key (waiting_in self.old)) }
+        ensures did { StaysIn self.old self.new × (self.new.did ≡ TakeFirst key) }
+    {
+        self.did = Did::TakeFirst(key);
+        self.queueing.take_first(key)
+    }
+
+    /// Takes all under a key.
+    pub fn take_all(&mut self, key: Key)
+        requires key { IsKeyOf self.old.keys key }
+        requires first_take { self.old.did ≡ Nothing }
+        ensures taken { (taken_in self.new ≡ threads_of (line key (waiting_in self.old))) × (rightless_in self.new ≡ taken_in self.new) }
+        ensures lines { lines (waiting_in self.new) ≡ lines (without_key key (waiting_in self.old)) }
+        ensures did { StaysIn self.old self.new × (self.new.did ≡ TakeAll key) }
+    {
+        self.did = Did::TakeAll(key);
+        self.queueing.take_all(key);
+    }
+
+    /// How many stand under a key.
+    pub fn count(&self, key: Key) -> usize
+        requires { IsKeyOf self.now.keys key }
+        ensures { result ≡ length (line key (waiting_in self.now)) }
+    {
+        self.queueing.queues.count(key)
+    }
+
+    /// The key under which a thread stands.
+    pub fn key_of(&self, thread: usize) -> Option<Key>
+        ensures { result ≡ key_of thread (waiting_in self.now) }
+    {
+        self.queueing.queues.key_of(thread)
+    }
+
+    /// Whom the section took, in order.
+    pub fn taken(&self) -> &[usize]
+        ensures { result.now ≡ taken_in self.now }
+    {
+        self.queueing.taken.as_slice()
+    }
+
+    /// Lays a right in the record of a thread that the section took. A right that lies there already goes with the lot.
+    pub fn give<R: Wait>(&mut self, rt: &R, thread: usize, right: Right)
+        requires taken { Contains (taken_in self.old) thread }
+        requires right { IsRightOf self.old.lot.now.words right }
+        ensures rightless { rightless_in self.new ≡ filter (λ x. not (x == thread)) (rightless_in self.old) }
+        ensures same { StaysIn self.old self.new × (self.new.did ≡ self.old.did) × (taken_in self.new ≡ taken_in self.old) × (waiting_in self.new ≡ waiting_in self.old) }
+    {
+        self.lot.lay(rt, thread, right);
+        self.queueing.has_right(thread);
+    }
+
+    /// Leaves. Whom the section took gets the note and is woken, and the token keeps the record of it.
+    pub fn leave<R: Wait>(self, rt: &R, token: &mut Token, note: Note)
+        requires own { IsTokenOf self.lot.now token.old }
+        requires given { note ≡ HandOff → rightless_in self ≡ [] }
+        ensures own { Stays self.entry.lot.now token.old token.new × (token.new.seat ≡ token.old.seat) }
+        ensures recorded { last_of token.new ≡ Some (record { key = first_key self.entry.keys; did = self.entry.did; number = length (taken_in self.entry) }) }
+    {
+        let Section {
+            lot,
+            queueing,
+            keys,
+            did,
+        } = self;
+        let number = queueing.taken.len();
+        let first = lot.tie(queueing.taken.as_slice());
+        drop(queueing);
+        token.record = Record {
+            key: first_of_keys(keys),
+            did,
+            number,
+        };
+        token.is_recorded = true;
+        if let Some(first) = first {
+            lot.wake_tied(rt, first, number, note);
+        }
+    }
+}
