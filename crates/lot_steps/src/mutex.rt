@@ -223,6 +223,9 @@ fn next_lock(entry: Entry, at: LockAt, reply: Reply) -> Next<LockAt>
             Next::At(LockAt::Load)
         },
         (LockAt::Asleep, Reply::TakenBy(by)) => Next::At(LockAt::Taken { by }),
+        // A running thread sees its wake note alone, and not who took it.
+        (LockAt::Asleep, Reply::Woken(Note::Normal)) => Next::At(LockAt::Load),
+        (LockAt::Asleep, Reply::Woken(Note::HandOff)) => Next::At(LockAt::Accept),
         (LockAt::Taken { by: _ }, Reply::Woken(Note::Normal)) => Next::At(LockAt::Load),
         (LockAt::Taken { by: _ }, Reply::HandedBy(by)) => Next::At(LockAt::Handed { by }),
         (LockAt::Handed { by: _ }, Reply::Woken(Note::HandOff)) => Next::At(LockAt::Accept),

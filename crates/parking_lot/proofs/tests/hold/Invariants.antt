@@ -1,0 +1,5 @@
+use Rattle.running_lot.specs.Tokens.{IsTokenOf}
+use Rattle.parking_lot.proofs.tests.hold.Given as goal
+
+abbrev pub invariant-loop : goal.invariant-loop
+invariant-loop g l = IsTokenOf l.lot l.token

@@ -1,0 +1,3 @@
+pub mod Paths
+pub mod Driving
+pub mod Calls

@@ -1,0 +1,70 @@
+-- The word steps of a call are a path of its transitions.
+use Rattle.std.specs.Prelude.{ℕ, ◌≡◌, Bool, true, false, Some, List, [], ◌∷◌, ◌++◌}
+use Rattle.parking_lot_core.specs.declared.ops.Op.{Op}
+use Rattle.parking_lot_core.specs.declared.ops.Op.TheVariants.{Load}
+use Rattle.parking_lot_core.specs.declared.wants.Want.{Want}
+use Rattle.lot_words.specs.Places.{place}
+use Rattle.lot_words.specs.declared.views.WordStep.{WordStep}
+use Rattle.lot_words.specs.declared.words.WordKind as kinds
+use Rattle.lot_steps.specs.Acts.{holds}
+use Rattle.lot_steps.specs.Steps.{act_of, next_place, next_act, spin_lock}
+use Rattle.lot_steps.specs.declared.acts.Act.{Act}
+use Rattle.lot_steps.specs.declared.acts.Act as act
+use Rattle.lot_steps.specs.declared.acts.Check.{Check}
+use Rattle.lot_steps.specs.declared.acts.Reply.{Reply}
+use Rattle.lot_steps.specs.declared.acts.Reply.TheVariants.{Value, Spun, Parked}
+use Rattle.lot_steps.specs.declared.calls.Answer.{Answer}
+use Rattle.lot_steps.specs.declared.places.Place.{Place}
+
+-- where the word of a mutex stands
+abbrev pub mutex_at : ℕ → ℕ
+mutex_at number = place number kinds.TheVariants.Mutex
+
+-- one step on the word at a place, and what it saw
+abbrev pub step : ℕ → Op → ℕ → List WordStep
+step at op seen = record { at = at; op = op; seen = seen } ∷ []
+
+-- acts that touch no word
+abbrev pub is_wordless : Act → Bool
+is_wordless (act.TheVariants.Enter keys) = true
+is_wordless (act.TheVariants.TakeFirst key) = true
+is_wordless (act.TheVariants.Remove key) = true
+is_wordless (act.TheVariants.Leave keys wakes) = true
+is_wordless act.TheVariants.Sleep = true
+is_wordless act.TheVariants.Accept = true
+is_wordless _ = false
+
+-- replies that tell nothing of a word's value
+abbrev pub is_valueless : Reply → Bool
+is_valueless (Value seen) = false
+is_valueless (Spun seen) = false
+is_valueless (Parked parked) = false
+is_valueless _ = true
+
+-- at a place these steps on a word bring the reply
+pub data Tells (at : ℕ) : Place → List WordStep → Reply → Type 0 where
+  word : (p : Place) (lock : ℕ) (op : Op) (seen : ℕ) → act_of p ≡ act.TheVariants.Word lock op → Tells at p (step at op seen) (Value seen)
+  parks : (p : Place) (lock key : ℕ) (check : Check) (want : Want) (seen : ℕ) → act_of p ≡ act.TheVariants.Park lock key check want → Tells at p (step at Load seen) (Parked (holds check seen))
+  -- the word is loaded in place of an act that leads to sleep
+  spins : (p : Place) (lock seen : ℕ) → spin_lock p ≡ Some lock → Tells at p (step at Load seen) (Spun seen)
+  other : (p : Place) (reply : Reply) → is_wordless (act_of p) ≡ true → is_valueless reply ≡ true → Tells at p [] reply
+
+-- these steps lead from one place to another
+pub data Path (at : ℕ) : Place → List WordStep → Place → Type 0 where
+  here : (p : Place) → Path at p [] p
+  on : (p q : Place) (xs ys : List WordStep) (reply : Reply) → Path at p xs q → Tells at q ys reply → Path at p (xs ++ ys) (next_place q reply)
+
+-- the last reply of a call, which ends it by an answer
+pub record Ending (at : ℕ) (p : Place) (steps : List WordStep) (answer : Answer) : Type 0 where
+  pub last : Place
+  pub before : List WordStep
+  pub then : List WordStep
+  pub reply : Reply
+  pub path : Path at p before last
+  pub tells : Tells at last then reply
+  pub all : steps ≡ before ++ then
+  pub ends : next_act last reply ≡ act.TheVariants.End answer
+
+-- the steps that were added to a list lead from a place to the end of its call
+abbrev pub Walks : ℕ → Place → List WordStep → List WordStep → Answer → Type 0
+Walks at p old new answer = (more : List WordStep) × (new ≡ old ++ more) × Ending at p more answer

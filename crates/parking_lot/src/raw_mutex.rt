@@ -1,0 +1,196 @@
+//! The mutex, without a value.
+ghost use Rattle.std.specs.Prelude.{◌≡◌, ◌<◌, ◌*◌, ◌∷◌, [], ℕ, true, false, IfOk, IfSome, MatchOption, None};
+ghost use Rattle.std.specs.Arc.{arc_value};
+ghost use Rattle.lot_words.specs.Lots.{IsWordOf};
+ghost use Rattle.lot_words.specs.Draws.{IsDrawn};
+ghost use Rattle.lot_words.specs.declared.words.WordKind.TheVariants.{Mutex};
+ghost use Rattle.lot_steps.specs.MutexSteps.{is_locked, is_parked};
+ghost use Rattle.lot_steps.specs.Steps.{next_place};
+ghost use Rattle.lot_steps.specs.declared.acts.Reply.TheVariants.{Value};
+ghost use Rattle.lot_steps.specs.declared.calls.Answer.TheVariants.{Ok};
+ghost use Rattle.lot_steps.specs.declared.mutex.MutexCall.TheVariants.{Lock, Unlock};
+ghost use Rattle.parking_lot_core.specs.declared.ops.Op.TheVariants.{Load, Or};
+ghost use Rattle.running_lot.specs.Tokens.{IsTokenOf, Stays, view_of, last_of};
+ghost use Rattle.parking_lot.specs.Calls.{first_of, Steps, Sees, Releases};
+ghost use Rattle.parking_lot.specs.Driving.{MeetAt, IsGuardOf, TookAt};
+ghost use Rattle.parking_lot.specs.Paths.{mutex_at, Walks};
+
+use crate::driver::{run, step};
+use lot_steps::{MutexCall, Place, Reply, advance};
+use parking_lot_core::main_key;
+use running_lot::{Fault, Key, Op, ParkingLot, Right, Token, Want, Word, WordKind};
+use std::sync::{Arc, Wait};
+
+/// A mutex of a lot. Its word is 1 where it is locked, and 2 where a thread may be parked, or the sum of these.
+#[derive(Drop)]
+pub struct RawMutex {
+    lot: Arc<ParkingLot>,
+    word: Word,
+    ghost drawn: { IsWordOf (arc_value lot).words word × (word.kind ≡ Mutex) × (word.number < 9223372036854775808) },
+}
+
+impl RawMutex {
+    /// A mutex that nobody has.
+    ///
+    /// # Errors
+    ///
+    /// `NoMemory`, where memory was refused, and `LotFull`, only where a step saw no word left. Nothing is drawn then.
+    pub fn new(lot: &Arc<ParkingLot>, token: &mut Token) -> Result<RawMutex, Fault>
+        requires { IsTokenOf (arc_value lot.now) token.old }
+        ensures own { Stays (arc_value lot.now) token.old token.new × ((view_of token.new).owns ≡ (view_of token.old).owns) }
+        ensures drawn { IfOk result (λ mutex. (arc_value mutex.lot ≡ arc_value lot.now) × IsDrawn (arc_value lot.now).words.count (Mutex ∷ []) mutex.word.number (view_of token.old) (view_of token.new)) }
+    {
+        let Ok(lot) = Arc::try_clone(lot) else {
+            return Err(Fault::NoMemory);
+        };
+        let word = lot.new_word(token, WordKind::Mutex)?;
+        Ok(RawMutex { lot, word })
+    }
+
+    /// Waits until nobody has the mutex, and takes it.
+    #[inline]
+    pub fn lock<R: Wait>(&self, rt: &R, token: &mut Token) -> Right
+        requires { IsTokenOf (arc_value self.now.lot) token.old }
+        ensures own { Stays (arc_value self.now.lot) token.old token.new × ((view_of token.new).owns ≡ (view_of token.old).owns) }
+        ensures guard { IsGuardOf (arc_value self.now.lot) self.now.word result }
+        ensures path { Walks (mutex_at self.now.word.number) (first_of self.now.word.number Lock) (view_of token.old).steps (view_of token.new).steps Ok }
+    {
+        let seen = step(&self.lot, token, self.word, Op::Exchange { from: 0, to: 1 });
+        if seen != 0 {
+            return self.lock_behind(rt, token, seen);
+        }
+        self.lot.split_right(token, self.word, Want::Exclusive)
+    }
+
+    // The rest of `lock`, whose first step saw this.
+    #[cold]
+    #[inline(never)]
+    fn lock_behind<R: Wait>(&self, rt: &R, token: &mut Token, seen: u64) -> Right
+        requires own { IsTokenOf (arc_value self.now.lot) token.old }
+        requires seen { 0 < seen }
+        ensures own { Stays (arc_value self.now.lot) token.old token.new × ((view_of token.new).owns ≡ (view_of token.old).owns) }
+        ensures guard { IsGuardOf (arc_value self.now.lot) self.now.word result }
+        ensures path { Walks (mutex_at self.now.word.number) (next_place (first_of self.now.word.number Lock) (Value seen)) (view_of token.old).steps (view_of token.new).steps Ok }
+    {
+        let (place, _) = advance(self.first_place(MutexCall::Lock), Reply::Value(seen));
+        match run(rt, &self.lot, token, self.word, place) {
+            Some(right) => right,
+            None => self.lot.split_right(token, self.word, Want::Exclusive),
+        }
+    }
+
+    fn first_place(&self, call: MutexCall) -> Place
+        ensures { result ≡ first_of self.now.word.number call }
+    {
+        Place::Mutex {
+            lock: self.word.number(),
+            at: call.first_place(false),
+        }
+    }
+
+    /// Takes the mutex where nobody has it, by one step. None only where that step saw it locked.
+    #[inline]
+    pub fn try_lock(&self, token: &mut Token) -> Option<Right>
+        requires { IsTokenOf (arc_value self.now.lot) token.old }
+        ensures own { Stays (arc_value self.now.lot) token.old token.new × ((view_of token.new).owns ≡ (view_of token.old).owns) }
+        ensures guard { IfSome result (IsGuardOf (arc_value self.now.lot) self.now.word) }
+        ensures seen { (seen : ℕ) × Steps self.now.word.number (Or 1) seen (view_of token.old).steps (view_of token.new).steps × MatchOption result (is_locked seen ≡ true) (λ _. is_locked seen ≡ false) }
+    {
+        let seen = step(&self.lot, token, self.word, Op::Or(1));
+        if seen % 2 == 1 {
+            return None;
+        }
+        Some(self.lot.split_right(token, self.word, Want::Exclusive))
+    }
+
+    /// Gives the mutex up, and wakes the first who waits for it.
+    #[inline]
+    pub fn unlock<R: Wait>(&self, rt: &R, token: &mut Token, guard: Right)
+        requires { IsTokenOf (arc_value self.now.lot) token.old × IsGuardOf (arc_value self.now.lot) self.now.word guard }
+        ensures own { Stays (arc_value self.now.lot) token.old token.new × ((view_of token.new).owns ≡ (view_of token.old).owns) }
+        ensures path { Walks (mutex_at self.now.word.number) (first_of self.now.word.number Unlock) (view_of token.old).steps (view_of token.new).steps Ok }
+        ensures woken { Releases self.now.word.number (view_of token.old).steps (view_of token.new).steps (last_of token.new) }
+    {
+        self.lot.join_right(token, guard);
+        let seen = step(&self.lot, token, self.word, Op::Sub(1));
+        if seen / 2 % 2 == 1 {
+            self.unlock_behind(rt, token, seen);
+        }
+    }
+
+    // The rest of `unlock`, whose step saw a waiter.
+    #[cold]
+    #[inline(never)]
+    fn unlock_behind<R: Wait>(&self, rt: &R, token: &mut Token, seen: u64)
+        requires own { IsTokenOf (arc_value self.now.lot) token.old }
+        requires seen { is_parked seen ≡ true }
+        ensures own { Stays (arc_value self.now.lot) token.old token.new × ((view_of token.new).owns ≡ (view_of token.old).owns) }
+        ensures path { Walks (mutex_at self.now.word.number) (next_place (first_of self.now.word.number Unlock) (Value seen)) (view_of token.old).steps (view_of token.new).steps Ok }
+        ensures took { TookAt self.now.word.number (last_of token.new) }
+    {
+        let (place, _) = advance(self.first_place(MutexCall::Unlock), Reply::Value(seen));
+        match run(rt, &self.lot, token, self.word, place) {
+            None => {}
+            Some(_) => unreachable!(),
+        }
+    }
+
+    /// Whether somebody has the mutex, by one load.
+    #[inline]
+    pub fn is_locked(&self, token: &mut Token) -> bool
+        requires { IsTokenOf (arc_value self.now.lot) token.old }
+        ensures own { Stays (arc_value self.now.lot) token.old token.new × ((view_of token.new).owns ≡ (view_of token.old).owns) }
+        ensures seen { (seen : ℕ) × Steps self.now.word.number Load seen (view_of token.old).steps (view_of token.new).steps × (result ≡ is_locked seen) }
+    {
+        step(&self.lot, token, self.word, Op::Load) % 2 == 1
+    }
+
+    /// The key of its queue.
+    pub fn key(&self) -> Key
+        ensures { result ≡ 2 * self.now.word.number }
+    {
+        main_key(self.word.number())
+    }
+}
+
+impl lock_raw::RawMutex for RawMutex {
+    type Lot = ParkingLot;
+
+    type Token = Token;
+
+    type Guard = Right;
+
+    ghost lot_of = { λ mutex. arc_value mutex.lot };
+
+    ghost is_token_of = { λ lot token. IsTokenOf lot token };
+
+    ghost is_guard_of = { λ mutex guard. IsGuardOf (arc_value mutex.lot) mutex.word guard };
+
+    ghost saw_locked = { λ mutex old new. Sees mutex.word.number true (view_of old).steps (view_of new).steps };
+
+    ghost saw_unlocked = { λ mutex old new. Sees mutex.word.number false (view_of old).steps (view_of new).steps };
+
+    fn new(lot: &Arc<ParkingLot>, token: &mut Token) -> Result<RawMutex, Fault> {
+        RawMutex::new(lot, token)
+    }
+
+    #[inline]
+    fn lock<R: Wait>(&self, rt: &R, token: &mut Token) -> Right {
+        self.lock(rt, token)
+    }
+
+    #[inline]
+    fn try_lock(&self, token: &mut Token) -> Option<Right> {
+        self.try_lock(token)
+    }
+
+    #[inline]
+    fn unlock<R: Wait>(&self, rt: &R, token: &mut Token, guard: Right) {
+        self.unlock(rt, token, guard);
+    }
+
+    #[inline]
+    fn is_locked(&self, token: &mut Token) -> bool {
+        self.is_locked(token)
+    }
+}
