@@ -79,7 +79,7 @@ impl<K, T: Keyed<K> + Drop> KeyedLocks<K, T> {
     pub fn take<R: Wait>(&self, rt: &R, at: usize) -> (T, Held<K, T>)
         requires { at < self.now.count }
         ensures value { T.fits self.now.table.shared.key result.0 }
-        ensures held { (result.1.seat.table_id ≡ self.now.table.shared.table_id) × (result.1.at < self.now.count) }
+        ensures held { (result.1.seat.table_id ≡ self.now.table.shared.table_id) × (result.1.at ≡ at) }
     {
         let locks = &self.table.shared;
         for _ in rt.forever() {

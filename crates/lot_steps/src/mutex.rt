@@ -122,13 +122,17 @@ pub enum MutexPlace {
     },
 }
 
-fn is_locked(word: u64) -> bool
+/// Whether somebody owns the mutex whose word this is.
+#[inline]
+pub fn is_locked(word: u64) -> bool
     ensures { result ≡ is_locked word }
 {
     word % 2 == 1
 }
 
-fn is_parked(word: u64) -> bool
+/// Whether somebody may stand in the queue of the mutex whose word this is.
+#[inline]
+pub fn is_parked(word: u64) -> bool
     ensures { result ≡ is_parked word }
 {
     word / 2 % 2 == 1

@@ -1,7 +1,7 @@
 //! What the rule says to who takes a step, whoever else takes steps.
 ghost use Rattle.lot_words.specs.Laws.{ExclusiveIsAlone, MutexMaySteps};
 
-/// In every word that a step can find, an exclusive owner stands beside no other owner.
+/// In every word of a mutex or a reader-writer lock that a step can find, an exclusive owner stands beside no other owner.
 pub fn exclusive_is_alone()
     ensures { ExclusiveIsAlone }
 {}

@@ -29,19 +29,28 @@ impl WordKind {
     }
 }
 
-/// A word of a lot: its number there, and what it is for. Numbers begin at 0 and are given once.
+/// A word of a lot: its number there, what it is for, and where it stands. Numbers begin at 0 and are given once.
 #[derive(Clone, Copy, Debug, PartialEq, Eq)]
 pub struct Word {
     number: usize,
     kind: WordKind,
+    // So that no step computes it.
+    at: usize,
+    ghost placed: { at ≡ place number kind },
 }
 
 impl Word {
+    // Each number has eight places, so that no two locks share a cache line.
     #[inline]
     pub(crate) fn new(number: usize, kind: WordKind) -> Word
+        requires { number < most_words }
         ensures { (result.number ≡ number) × (result.kind ≡ kind) }
     {
-        Word { number, kind }
+        Word {
+            number,
+            kind,
+            at: 8 * (number + 1) + kind.rank(),
+        }
     }
 
     #[inline]
@@ -58,12 +67,10 @@ impl Word {
         self.kind
     }
 
-    // Each number has eight places, so that no two locks share a cache line.
     #[inline]
     pub(crate) fn place(self) -> usize
-        requires { self.number < most_words }
         ensures { result ≡ place self.number self.kind }
     {
-        8 * (self.number + 1) + self.kind.rank()
+        self.at
     }
 }

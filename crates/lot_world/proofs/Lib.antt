@@ -12,6 +12,7 @@ pub mod HandsOver
 pub mod Steady
 pub mod OnlyMutexes
 pub mod LockKeeps
+pub mod Picks
 pub mod LockEvents
 pub mod LockHands
 pub mod LockSteps

@@ -377,11 +377,11 @@ takes_by l true x = (refl, inl tt)
 takes_by l false x = (refl, tt)
 
 pub leaves_by : (l : ℕ) (bumps : Bool) → IsMadeOf (release_purpose l bumps) None false l (locks.Leave Exclusive)
-leaves_by l true = (refl, inl refl)
+leaves_by l true = (refl, inl (refl, refl))
 leaves_by l false = (refl, refl)
 
 pub hands_by : (l : ℕ) (bumps : Bool) (x : Option locks.Queued) → IsMadeOf (release_purpose l bumps) None false l (locks.HandOff Exclusive x)
-hands_by l true x = (refl, inl (refl, refl))
+hands_by l true x = (refl, inl ((refl, refl), refl))
 hands_by l false x = (refl, (refl, refl))
 
 module _ (w : State) (t l : ℕ) (p : Place) (is : place_at w t ≡ p) (shape : IsShaped w) (sound : IsSound w) (only : OnlyMutexes w) (there : t < length w.places) (lt : l < length w.locks) where

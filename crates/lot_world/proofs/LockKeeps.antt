@@ -7,7 +7,7 @@ use Rattle.std.proofs.lemmas.List.Folds.{sum_by-replicate}
 use Rattle.std.specs.Prelude.{not, filter, take, drop}
 use Rattle.parking_lot_core.specs.declared.wants.Want.{Want}
 use Rattle.parking_lot_core.specs.declared.wants.Want.TheVariants.{Shared}
-use Rattle.lot_world.specs.Locks.{LockState, Queued, Taken, Sort, Rules, LockCase, Enter, Pend, Settle, Leave, Convert, Park, Aside, TakeFirst, TakeAside, TakePicked, Wake, HandOff, Late, Rollback, Needs, after, IsLockState, Knows, KnowsAll, NoWriter, Owns, leaving, sharing_from, sharing_handed, succeeding, times, one_if_some, taking, is_picked, stop_of, opening_lock}
+use Rattle.lot_world.specs.Locks.{LockState, Queued, Taken, Sort, Rules, LockCase, Enter, Pend, Settle, Leave, Convert, Park, Aside, TakeFirst, TakeAside, TakePicked, Wake, HandOff, Late, Rollback, Needs, after, IsLockState, Knows, KnowsAll, NoWriter, Owns, leaving, sharing_from, sharing_handed, succeeding, times, one_if_some, taking, wants_shared, front_of, stop_of, opening_lock}
 
 none_if_not : {A : Type 0} (o : Option A) → ((x : A) → o ≡ Some x → ⊥) → o ≡ None
 none_if_not o h = grind arith
@@ -42,9 +42,13 @@ known_taking : (sort : Sort) (t : ℕ) (xs : List Queued) (taken : ℕ → Optio
 known_taking sort t [] taken all known = known
 known_taking sort t (x ∷ xs) taken all known = known_taking sort t xs _ all.1 (λ u h e. grind (arith, nat_tests))
 
--- a thread takes some of the first n, whichever p picks, and the others stay in order
-takes : (r : Rules) (s : LockState) (t n : ℕ) (p : Queued → Bool) → IsLockState r s → IsLockState r (record s { queue = filter (λ x. not (p x)) (take n s.queue) ++ drop n s.queue; taken = taking t (filter p (take n s.queue)) s.taken })
-takes r s t n p c = let known = (known_append r.sort (take n s.queue) (drop n s.queue)).0 (rw take-append-drop c.known_queue) in grind (arith, take-append-drop n s.queue, times_append, times_filter, times_taking, known_append, known_filter, known_taking)
+-- a thread takes the first m of the first n, and of those behind them whoever p picks; the others stay in order
+takes : (r : Rules) (s : LockState) (t m n : ℕ) (p : Queued → Bool) → IsLockState r s → IsLockState r (record s { queue = filter (λ x. not (p x)) (drop m (take n s.queue)) ++ drop n s.queue; taken = taking t (take m (take n s.queue) ++ filter p (drop m (take n s.queue))) s.taken })
+takes r s t m n p c =
+    let q = take n s.queue in
+    let known = (known_append r.sort q (drop n s.queue)).0 (rw take-append-drop c.known_queue) in
+    let known_front = (known_append r.sort (take m q) (drop m q)).0 (rw take-append-drop known.0) in
+    grind (arith, take-append-drop n s.queue, take-append-drop m q, times_append, times_filter, times_taking, known_append, known_filter, known_taking)
 
 -- ---------------------------------------------------------------- the hand-over
 
@@ -73,7 +77,7 @@ case_keeps r (Park x) s t c n = grind (arith, nat_tests, times_append, known_app
 case_keeps r Aside s t c n = grind (arith, nat_tests)
 case_keeps r (TakeFirst x) s t c n = grind (arith, nat_tests)
 case_keeps r (TakeAside u) s t c n = grind (arith, nat_tests, c.aside_pending u n.0)
-case_keeps r (TakePicked start) s t c n = takes r s t (stop_of r.sort start s.queue) (is_picked start s.queue) c
+case_keeps r (TakePicked start) s t c n = takes r s t (front_of start s.queue) (stop_of r.sort start s.queue) (λ x. wants_shared x.want) c
 case_keeps r Wake s t c n = grind (arith, nat_tests)
 case_keeps r (HandOff right None) s t c n = (shares r s t right c n.0 n.1).0
 case_keeps r (HandOff right (Some x)) s t c n = let left = shares r s t right c n.0 n.1 in let is_taken = (n.2 x.thread x.want).0 refl in succeeds r (sharing_handed t (leaving t right s)) x left.0 left.1 (c.known_taken x.thread _ is_taken.0) is_taken.1

@@ -16,3 +16,4 @@ pub mod Fair
 pub mod Solo
 pub mod Sound
 pub mod OnlyMutexes
+pub mod Laws

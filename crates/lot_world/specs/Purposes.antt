@@ -97,10 +97,16 @@ abbrev pub is_fair_bump : Want → Bool
 is_fair_bump Shared = false
 is_fair_bump x = true
 
+-- what a bump does before it enters again: it gives its right up once
+abbrev pub GivesWay : Want → Bool → LockCase → Type 0
+GivesWay x released (Leave y) = ReleasesBy x (is_fair_bump x) (Leave y) × (released ≡ false)
+GivesWay x released (HandOff y successor) = ReleasesBy x (is_fair_bump x) (HandOff y successor) × (released ≡ false)
+GivesWay x released case = ReleasesBy x (is_fair_bump x) case
+
 -- the call does this to this lock; gave_up is the lock whose queue it left because its time was up, released whether it has given
 -- its right up: a bump enters only then
 abbrev pub IsMadeOf : Purpose → Option ℕ → Bool → ℕ → LockCase → Type 0
 IsMadeOf (Enters l x p) gave_up released k case = (k ≡ l) × EntersBy x p gave_up case
 IsMadeOf (Releases l x fair) gave_up released k case = (k ≡ l) × ReleasesBy x fair case
 IsMadeOf (Converts l x y p) gave_up released k case = (k ≡ l) × ConvertsBy x y p gave_up case
-IsMadeOf (Bumps l x) gave_up released k case = (k ≡ l) × (ReleasesBy x (is_fair_bump x) case ⊎ ((released ≡ true) × EntersBy x Patient gave_up case))
+IsMadeOf (Bumps l x) gave_up released k case = (k ≡ l) × (GivesWay x released case ⊎ ((released ≡ true) × EntersBy x Patient gave_up case))

@@ -25,10 +25,11 @@ use Rattle.running_lot.specs.declared.tokens.Did.{Did}
 use Rattle.running_lot.specs.declared.tokens.Record.{Record}
 use Rattle.running_lot.specs.declared.tokens.Token.{Token}
 use Rattle.parking_lot.specs.Paths.{mutex_at, is_wordless, is_valueless, step, word, parks, other}
-use Rattle.parking_lot.specs.Driving.{Does, Leads, Came, IsInside}
+use Rattle.parking_lot.specs.Driving.{Leads, Came, IsInside}
 use Rattle.parking_lot.specs.declared.driver.Told as told
-use Rattle.parking_lot.proofs.Doing.{four}
-use Rattle.parking_lot.proofs.Paths.{nil}
+use Rattle.parking_lot.proofs.Doing.{Does}
+use Rattle.std.proofs.lemmas.List.{append-nil}
+use Rattle.lot_words.proofs.MutexSteps.{each_code}
 
 -- it is the same section, which has done this now
 pub inside_still : (lot : ParkingLot) (n : ℕ) (before did : Did) (old new : Section) → StaysIn old new → new.did ≡ did → IsInside lot n before (Some old) → IsInside lot n did (Some new)
@@ -51,7 +52,7 @@ module _ (lot : ParkingLot) (w : Word) (p : Place) (old new : Token) (section : 
   )
 
   pub loads : (seen : ℕ) → seen < 4 → (owns : List Ownership) → owns_after (mutex_at w.number) (mutex_trade seen seen) owns ≡ owns
-  loads = four (λ seen. (owns : List Ownership) → owns_after (mutex_at w.number) (mutex_trade seen seen) owns ≡ owns) (λ owns. refl) (λ owns. refl) (λ owns. refl) (λ owns. refl)
+  loads = each_code (λ seen. (owns : List Ownership) → owns_after (mutex_at w.number) (mutex_trade seen seen) owns ≡ owns) (λ owns. refl) (λ owns. refl) (λ owns. refl) (λ owns. refl)
 
   pub came_park : (l key : ℕ) (check : Check) (want : Want) (seen : ℕ) → act_of p ≡ act.TheVariants.Park l key check want → seen < 4 → view_of new ≡ after_step kinds.TheVariants.Mutex (mutex_at w.number) Load seen (view_of old) → LeadsTo (Parked (holds check seen)) (view_of old).owns → Arrives (Parked (holds check seen))
   came_park l key check want seen is small e leads = (
@@ -61,6 +62,6 @@ module _ (lot : ParkingLot) (w : Word) (p : Place) (old new : Token) (section : 
 
   pub came_other : (reply : Reply) → is_wordless (act_of p) ≡ true → is_valueless reply ≡ true → view_of new ≡ view_of old → LeadsTo reply (view_of old).owns → Arrives reply
   came_other reply wordless valueless e leads = (
-    ([], ap (λ (v : View). v.steps) e ∙ sym (nil (view_of old).steps), other p reply wordless valueless),
+    ([], ap (λ (v : View). v.steps) e ∙ sym (append-nil (view_of old).steps), other p reply wordless valueless),
     subst (LeadsTo reply) (sym (ap (λ (v : View). v.owns) e)) leads,
   )

@@ -1,3 +1,5 @@
 pub mod Doing
 pub mod Paths
 pub mod Coming
+pub mod Sleeping
+pub mod Ending

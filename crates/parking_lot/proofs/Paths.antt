@@ -1,5 +1,6 @@
 -- Paths that go on.
-use Rattle.std.proofs.Common.{ℕ, ◌≡◌, List, [], ◌∷◌, ◌++◌, sym, refl, ap, ◌∙◌, subst}
+use Rattle.std.proofs.Common.{ℕ, ◌≡◌, List, [], ◌++◌, sym, refl, ap, ◌∙◌, subst}
+use Rattle.std.proofs.lemmas.List.{append_assoc, append-nil}
 use Rattle.lot_words.specs.declared.views.WordStep.{WordStep}
 use Rattle.lot_steps.specs.Steps.{next_place, next_act}
 use Rattle.lot_steps.specs.declared.acts.Act as act
@@ -12,38 +13,30 @@ use Rattle.parking_lot.specs.Paths.{Tells, Path, here, on, Walks}
 abbrev pub Comes : ℕ → Place → List WordStep → List WordStep → Place → Type 0
 Comes at p old new q = (more : List WordStep) × (new ≡ old ++ more) × Path at p more q
 
-assoc : (xs ys zs : List WordStep) → (xs ++ ys) ++ zs ≡ xs ++ (ys ++ zs)
-assoc [] ys zs = refl
-assoc (x ∷ xs) ys zs = ap (λ (l : List WordStep). x ∷ l) (assoc xs ys zs)
-
-pub nil : (xs : List WordStep) → xs ++ [] ≡ xs
-nil [] = refl
-nil (x ∷ xs) = ap (λ (l : List WordStep). x ∷ l) (nil xs)
-
 -- nothing was done
 pub comes_here : (at : ℕ) (p : Place) (old : List WordStep) → Comes at p old old p
-comes_here at p old = ([], sym (nil old), here p)
+comes_here at p old = ([], sym (append-nil old), here p)
 
 -- one reply more
 pub comes_on : (at : ℕ) (p q r : Place) (old mid new : List WordStep) (reply : Reply) (then : List WordStep) → Comes at p old mid q → new ≡ mid ++ then → Tells at q then reply → r ≡ next_place q reply → Comes at p old new r
-comes_on at p q r old mid new reply then c e tells is = (c.0 ++ then, e ∙ ap (λ (l : List WordStep). l ++ then) c.1 ∙ assoc old c.0 then, subst (Path at p (c.0 ++ then)) (sym is) (on p q c.0 then reply c.2 tells))
+comes_on at p q r old mid new reply then c e tells is = (c.0 ++ then, e ∙ ap (λ (l : List WordStep). l ++ then) c.1 ∙ append_assoc old c.0 then, subst (Path at p (c.0 ++ then)) (sym is) (on p q c.0 then reply c.2 tells))
 
 -- the last reply
 pub comes_to_end : (at : ℕ) (p q : Place) (old mid new : List WordStep) (reply : Reply) (then : List WordStep) (answer : Answer) → Comes at p old mid q → new ≡ mid ++ then → Tells at q then reply → next_act q reply ≡ act.TheVariants.End answer → Walks at p old new answer
 comes_to_end at p q old mid new reply then answer c e tells ends = (
   c.0 ++ then,
-  e ∙ ap (λ (l : List WordStep). l ++ then) c.1 ∙ assoc old c.0 then,
+  e ∙ ap (λ (l : List WordStep). l ++ then) c.1 ∙ append_assoc old c.0 then,
   record { last = q; before = c.0; then = then; reply = reply; path = c.2; tells = tells; all = refl; ends = ends },
 )
 
 joined : (at : ℕ) (p q r : Place) (xs ys : List WordStep) → Path at p xs q → Path at q ys r → Path at p (xs ++ ys) r
-joined at p q _ xs _ u (here _) = subst (λ (l : List WordStep). Path at p l q) (sym (nil xs)) u
-joined at p q _ xs _ u (on _ r ys zs reply v tells) = subst (λ (l : List WordStep). Path at p l (next_place r reply)) (assoc xs ys zs) (on p r (xs ++ ys) zs reply (joined at p q r xs ys u v) tells)
+joined at p q _ xs _ u (here _) = subst (λ (l : List WordStep). Path at p l q) (sym (append-nil xs)) u
+joined at p q _ xs _ u (on _ r ys zs reply v tells) = subst (λ (l : List WordStep). Path at p l (next_place r reply)) (append_assoc xs ys zs) (on p r (xs ++ ys) zs reply (joined at p q r xs ys u v) tells)
 
 -- a path, and then the rest of the call
 pub walks_on : (at : ℕ) (p q : Place) (old mid new : List WordStep) (answer : Answer) → Comes at p old mid q → Walks at q mid new answer → Walks at p old new answer
 walks_on at p q old mid new answer c w = let rest = w.2 in (
   c.0 ++ w.0,
-  w.1 ∙ ap (λ (l : List WordStep). l ++ w.0) c.1 ∙ assoc old c.0 w.0,
-  record { last = rest.last; before = c.0 ++ rest.before; then = rest.then; reply = rest.reply; path = joined at p q rest.last c.0 rest.before c.2 rest.path; tells = rest.tells; all = ap (λ (l : List WordStep). c.0 ++ l) rest.all ∙ sym (assoc c.0 rest.before rest.then); ends = rest.ends },
+  w.1 ∙ ap (λ (l : List WordStep). l ++ w.0) c.1 ∙ append_assoc old c.0 w.0,
+  record { last = rest.last; before = c.0 ++ rest.before; then = rest.then; reply = rest.reply; path = joined at p q rest.last c.0 rest.before c.2 rest.path; tells = rest.tells; all = ap (λ (l : List WordStep). c.0 ++ l) rest.all ∙ sym (append_assoc c.0 rest.before rest.then); ends = rest.ends },
 )

@@ -1,3 +1,4 @@
 pub mod Paths
 pub mod Driving
+pub mod Sleeping
 pub mod Calls

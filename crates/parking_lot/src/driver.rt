@@ -1,8 +1,8 @@
 //! One driver for all calls: it does the act of a place on the real lot, and `advance` leads on.
-ghost use Rattle.std.specs.Prelude.{◌≡◌, ◌<◌, ◌++◌, ◌∷◌, ◌==◌, [], ℕ, None, true, length, IfSome, MatchBool, MatchOption};
+ghost use Rattle.std.specs.Prelude.{◌≡◌, ◌<◌, ◌*◌, ◌++◌, ◌∷◌, ◌==◌, [], ℕ, None, Some, length, MatchBool};
 ghost use Rattle.parking_lot_core.specs.declared.ops.Op.TheVariants.{Load};
 ghost use Rattle.lot_steps.specs.Acts.{holds};
-ghost use Rattle.lot_steps.specs.declared.calls.Answer.TheVariants.{Ok};
+ghost use Rattle.lot_steps.specs.Steps.{late_key};
 ghost use Rattle.running_lot.specs.Keys.{IsKeyOf};
 ghost use Rattle.running_lot.specs.Sections.{StaysIn, waiting_in};
 ghost use Rattle.parking_lot_core.specs.Lines.{waiter, line, lines, without, without_first, first_of};
@@ -11,19 +11,27 @@ ghost use Rattle.lot_words.specs.Steps.{MayStep, CodesWith, after_step};
 ghost use Rattle.lot_words.specs.declared.words.WordKind.TheVariants.{Mutex};
 ghost use Rattle.running_lot.specs.Tokens.{IsTokenOf, Stays, view_of, last_of};
 ghost use Rattle.parking_lot.specs.Paths.{mutex_at, Walks};
-ghost use Rattle.parking_lot.specs.Driving.{MeetAt, IsGuardOf, answer_of, note_of, Fits, Came, IsOver, is_lock};
+ghost use Rattle.parking_lot.specs.Driving.{MeetAt, answer_of, note_of, ended_by, told_by, entry_of, Fits, Came, HasEnded};
+ghost use Rattle.parking_lot.specs.Sleeping.{IsTold};
 
 use lot_steps::{Act, Answer, Check, Place, Reply, Wakes, advance};
 use lot_words::laws::mutex_may_step;
+use parking_lot_core::main_key;
 use running_lot::{Clock, Key, Note, Op, ParkingLot, Right, Section, Slept, Token, Want, Word};
+use std::hint::spin_loop;
 use std::sync::Wait;
 use std::thread::yield_now;
 
 // The most loads in place of an act that leads to sleep, in one call.
-const MOST_LOADS: u32 = 10;
+const MOST_LOADS: u32 = 6;
 
 // So many come before the thread lets others run.
 const PATIENT_LOADS: u32 = 3;
+
+// The rounds of the pause before the first load, and how often it doubles.
+const SHORTEST_PAUSE: u32 = 64;
+
+const DOUBLINGS: u32 = 3;
 
 /// What an act came to.
 pub(crate) enum Told {
@@ -32,8 +40,18 @@ pub(crate) enum Told {
     Handed(Right),
 }
 
-// The clock of who sleeps without a limit.
-struct NoClock;
+/// How a call ended.
+pub(crate) enum Ended {
+    /// It came to what it is for: the thread owns the mutex, or has released it.
+    Done,
+    /// Another thread handed the mutex over.
+    Handed(Right),
+    /// Its time was up while it stood in the queue.
+    GaveUp,
+}
+
+/// The clock of who waits without a limit.
+pub(crate) struct NoClock;
 
 impl Clock for NoClock {
     fn now(&self) -> u64 {
@@ -49,6 +67,15 @@ fn answer_of(act: Act) -> Option<Answer>
     match act {
         Act::End(answer) => Some(answer),
         _ => None,
+    }
+}
+
+fn ended_by(answer: Answer) -> Ended
+    ensures { result ≡ ended_by answer }
+{
+    match answer {
+        Answer::No => Ended::GaveUp,
+        _ => Ended::Done,
     }
 }
 
@@ -73,21 +100,27 @@ pub(crate) fn step(lot: &ParkingLot, token: &mut Token, word: Word, op: Op) -> u
     lot.word(token, word, op)
 }
 
-// Sleeps until another thread has taken this one. It has the right where that was handed to it.
-fn sleep<R: Wait>(rt: &R, lot: &ParkingLot, token: &mut Token, word: Word) -> Option<Right>
+// Sleeps until another thread has taken this one, or its time is up.
+fn sleep<'a, R: Wait, C: Clock>(
+    rt: &R,
+    lot: &'a ParkingLot,
+    token: &mut Token,
+    word: Word,
+    limit: Option<(&C, u64)>,
+) -> Slept<'a>
     requires { MeetAt lot.now token.old word }
     ensures own { Stays lot.now token.old token.new × (view_of token.new ≡ view_of token.old) }
-    ensures right { IfSome result (IsGuardOf lot.now word) }
+    ensures slept { IsTold lot.now word limit.entry result }
 {
-    for _ in rt.forever() {
-        match lot.sleep(rt, token, word, Want::Exclusive, None::<(&NoClock, u64)>) {
-            Slept::Woken => return None,
-            Slept::Handed(right) => return Some(right),
-            // Nobody is late without a limit.
-            Slept::Late(section, _) => section.leave(rt, token, Note::Normal),
+    match lot.sleep(rt, token, word, Want::Exclusive, limit) {
+        // Somebody moved the thread to another queue. It leaves that, and tries again.
+        Slept::Late(mut inside, key) if key != main_key(word.number()) => {
+            inside.remove(token.number());
+            inside.leave(rt, token, Note::Normal);
+            Slept::Woken
         }
+        slept => slept,
     }
-    unreachable!()
 }
 
 // Loads the word inside the section, and where the check holds stands behind the last of the queue.
@@ -126,24 +159,45 @@ fn take(inside: &mut Section, key: Key) -> (Option<usize>, bool)
     (first, inside.count(key) == 0)
 }
 
-// Loads the word in place of an act that leads to sleep. Before a later load the thread lets others run.
+// The thread leaves the queue. Whether none is left there.
+fn remove(inside: &mut Section, key: Key, thread: usize) -> bool
+    requires { IsKeyOf inside.old.keys key }
+    ensures same { StaysIn inside.old inside.new × (inside.new.did ≡ inside.old.did) }
+    ensures left { (lines (waiting_in inside.new) ≡ lines (without thread (waiting_in inside.old))) × (result ≡ (length (line key (waiting_in inside.new)) == 0)) }
+{
+    inside.remove(thread);
+    inside.count(key) == 0
+}
+
+// Each load takes the word's cache line from its owner, whom that slows. So a thread pauses before it loads, the longer the
+// more often it has loaded: the owner meanwhile takes many turns as if it were alone.
+fn pause(loads: u32) {
+    for _ in 0..SHORTEST_PAUSE << loads.min(DOUBLINGS) {
+        spin_loop();
+    }
+}
+
+// Loads the word in place of an act that leads to sleep, after a pause. Before a later load the thread lets others run.
 fn spin(lot: &ParkingLot, token: &mut Token, word: Word, loads: u32) -> u64
     requires { MeetAt lot.now token.old word }
     ensures own { Stays lot.now token.old token.new }
     ensures stepped { (result < 4) × (view_of token.new ≡ after_step Mutex (mutex_at word.number) Load result (view_of token.old)) }
 {
+    pause(loads);
     if loads >= PATIENT_LOADS {
         yield_now();
     }
+    mutex_may_step();
     step(lot, token, word, Op::Load)
 }
 
-// Does the act of a place.
-fn perform<'a, R: Wait>(
+// Does the act of a place. Only a place that may be late sleeps up to the limit.
+fn perform<'a, R: Wait, C: Clock>(
     rt: &R,
     lot: &'a ParkingLot,
     token: &mut Token,
     word: Word,
+    limit: Option<(&C, u64)>,
     section: &mut Option<Section<'a>>,
     place: Place,
 ) -> Told
@@ -175,6 +229,13 @@ fn perform<'a, R: Wait>(
             }
             None => unreachable!(),
         },
+        Act::Remove(key) => match section {
+            Some(inside) => {
+                let none_left = remove(inside, key, token.number());
+                Reply::Removed { none_left }
+            }
+            None => unreachable!(),
+        },
         Act::Leave { keys: _, wakes } => match section.take() {
             Some(inside) => {
                 inside.leave(rt, token, note_of(wakes));
@@ -182,32 +243,37 @@ fn perform<'a, R: Wait>(
             }
             None => unreachable!(),
         },
-        Act::Sleep => match sleep(rt, lot, token, word) {
-            Some(right) => return Told::Handed(right),
-            None => Reply::Woken(Note::Normal),
+        Act::Sleep => match sleep(rt, lot, token, word, place.late_key().and(limit)) {
+            Slept::Woken => Reply::Woken(Note::Normal),
+            Slept::Handed(right) => return Told::Handed(right),
+            Slept::Late(inside, _) => {
+                *section = Some(inside);
+                Reply::Late
+            }
         },
         _ => unreachable!(),
     };
     Told::Reply(reply)
 }
 
-/// Runs a call from a place to its end. It has the right where another thread handed the mutex over: that one is told
-/// the end by its hand-off, and accepts without an act.
+/// Runs a call from a place to its end, up to a deadline where the call is timed.
+///
+/// Who was handed the mutex learns the end of its call by that: it accepts, which is no act.
 #[cold]
 #[inline(never)]
-pub(crate) fn run<R: Wait>(
+pub(crate) fn run<R: Wait, C: Clock>(
     rt: &R,
     lot: &ParkingLot,
     token: &mut Token,
     word: Word,
+    limit: Option<(&C, u64)>,
     start: Place,
-) -> Option<Right>
+) -> Ended
     requires own { MeetAt lot.now token.old word }
     requires start { Fits lot.now word.number start None }
     ensures own { Stays lot.now token.old token.new }
-    ensures path { Walks (mutex_at word.number) start (view_of token.old).steps (view_of token.new).steps Ok }
-    ensures over { MatchOption result (IsOver word.number (is_lock start) (view_of token.old).owns (view_of token.new).owns (last_of token.new))
-        (λ right. IsGuardOf lot.now word right × ((view_of token.new).owns ≡ (view_of token.old).owns) × (is_lock start ≡ true)) }
+    ensures path { Walks (mutex_at word.number) start (view_of token.old).steps (view_of token.new).steps (told_by (entry_of start) result) }
+    ensures over { HasEnded lot.now word (entry_of start) result (view_of token.old).owns (view_of token.new).owns (last_of token.new) }
 {
     let mut place = start;
     let mut section = None;
@@ -221,12 +287,12 @@ pub(crate) fn run<R: Wait>(
                 continue;
             }
         }
-        match perform(rt, lot, token, word, &mut section, place) {
-            Told::Handed(right) => return Some(right),
+        match perform(rt, lot, token, word, limit, &mut section, place) {
+            Told::Handed(right) => return Ended::Handed(right),
             Told::Reply(reply) => {
                 let (next, act) = advance(place, reply);
-                if answer_of(act).is_some() {
-                    return None;
+                if let Some(answer) = answer_of(act) {
+                    return ended_by(answer);
                 }
                 place = next;
             }

@@ -4,9 +4,18 @@
 mod driver;
 pub mod raw_mutex;
 
+pub use lock_api;
 pub use lock_raw;
 pub use raw_mutex::RawMutex;
-pub use running_lot::{Fault, Key, ParkingLot, Right, Ticket, Token};
+pub use running_lot::{
+    Clock, Fault, Key, ParkingLot, Right, SystemClock, TickClock, Ticket, Token, to_deadline,
+};
+
+/// A mutex of a lot, with its value.
+pub type Mutex<T> = lock_api::Mutex<RawMutex, T>;
+
+/// The guard of a [`Mutex`]. It shows the value, and is spent by `unlock`.
+pub type MutexGuard<'a, T> = lock_api::MutexGuard<'a, RawMutex, T>;
 
 #[cfg(test)]
 mod tests;

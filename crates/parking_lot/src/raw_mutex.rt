@@ -1,25 +1,37 @@
 //! The mutex, without a value.
-ghost use Rattle.std.specs.Prelude.{◌≡◌, ◌<◌, ◌*◌, ◌∷◌, [], ℕ, true, false, IfOk, IfSome, MatchOption, None};
+ghost use Rattle.std.specs.Prelude.{◌≡◌, ◌<◌, ◌*◌, ◌⊎◌, ◌∷◌, [], ℕ, true, false, IfSome, MatchOption, MatchResult, None, if◌then◌else◌};
 ghost use Rattle.std.specs.Arc.{arc_value};
 ghost use Rattle.lot_words.specs.Lots.{IsWordOf};
-ghost use Rattle.lot_words.specs.Draws.{IsDrawn};
+ghost use Rattle.lot_words.specs.Draws.{IsDrawn, IsRefused};
+ghost use Rattle.lot_words.specs.Views.{owning};
+ghost use Rattle.lot_words.specs.declared.owners.Owner.TheVariants.{Exclusive};
 ghost use Rattle.lot_words.specs.declared.words.WordKind.TheVariants.{Mutex};
 ghost use Rattle.lot_steps.specs.MutexSteps.{is_locked, is_parked};
 ghost use Rattle.lot_steps.specs.Steps.{next_place};
 ghost use Rattle.lot_steps.specs.declared.acts.Reply.TheVariants.{Value};
-ghost use Rattle.lot_steps.specs.declared.calls.Answer.TheVariants.{Ok};
-ghost use Rattle.lot_steps.specs.declared.mutex.MutexCall.TheVariants.{Lock, Unlock};
+ghost use Rattle.lot_steps.specs.declared.calls.Answer.TheVariants.{Ok, Yes, No};
+ghost use Rattle.lot_steps.specs.declared.mutex.MutexCall.TheVariants.{Lock, LockTimed, Unlock};
 ghost use Rattle.parking_lot_core.specs.declared.ops.Op.TheVariants.{Load, Or};
 ghost use Rattle.running_lot.specs.Tokens.{IsTokenOf, Stays, view_of, last_of};
-ghost use Rattle.parking_lot.specs.Calls.{first_of, Steps, Sees, Releases};
-ghost use Rattle.parking_lot.specs.Driving.{MeetAt, IsGuardOf, TookAt};
+ghost use Rattle.parking_lot.specs.Calls.{beginning, timed_answer, Steps, Sees, Releases, GaveUp};
+ghost use Rattle.parking_lot.specs.Driving.{MeetAt, IsGuardOf, IsGuardOf-prop, TookAt};
 ghost use Rattle.parking_lot.specs.Paths.{mutex_at, Walks};
 
-use crate::driver::{run, step};
+use crate::driver::{Ended, NoClock, run, step};
+use lot_steps::mutex::{LOCKED, is_locked, is_parked};
 use lot_steps::{MutexCall, Place, Reply, advance};
 use parking_lot_core::main_key;
-use running_lot::{Fault, Key, Op, ParkingLot, Right, Token, Want, Word, WordKind};
+use running_lot::{
+    Clock, Fault, Key, Op, ParkingLot, Right, Token, Want, Word, WordKind, to_deadline,
+};
 use std::sync::{Arc, Wait};
+use std::time::Duration;
+
+// Takes a word that is 0.
+const ENTER: Op = Op::Exchange {
+    from: 0,
+    to: LOCKED,
+};
 
 /// A mutex of a lot. Its word is 1 where it is locked, and 2 where a thread may be parked, or the sum of these.
 #[derive(Drop)]
@@ -38,7 +50,8 @@ impl RawMutex {
     pub fn new(lot: &Arc<ParkingLot>, token: &mut Token) -> Result<RawMutex, Fault>
         requires { IsTokenOf (arc_value lot.now) token.old }
         ensures own { Stays (arc_value lot.now) token.old token.new × ((view_of token.new).owns ≡ (view_of token.old).owns) }
-        ensures drawn { IfOk result (λ mutex. (arc_value mutex.lot ≡ arc_value lot.now) × IsDrawn (arc_value lot.now).words.count (Mutex ∷ []) mutex.word.number (view_of token.old) (view_of token.new)) }
+        ensures drawn { MatchResult result (λ mutex. (arc_value mutex.lot ≡ arc_value lot.now) × IsDrawn (arc_value lot.now).words.count (Mutex ∷ []) mutex.word.number (view_of token.old) (view_of token.new))
+            (λ fault. ((fault ≡ Fault.NoMemory) × (token.new ≡ token.old)) ⊎ ((fault ≡ Fault.LotFull) × IsRefused (arc_value lot.now).words.count 1 (view_of token.old) (view_of token.new))) }
     {
         let Ok(lot) = Arc::try_clone(lot) else {
             return Err(Fault::NoMemory);
@@ -53,34 +66,130 @@ impl RawMutex {
         requires { IsTokenOf (arc_value self.now.lot) token.old }
         ensures own { Stays (arc_value self.now.lot) token.old token.new × ((view_of token.new).owns ≡ (view_of token.old).owns) }
         ensures guard { IsGuardOf (arc_value self.now.lot) self.now.word result }
-        ensures path { Walks (mutex_at self.now.word.number) (first_of self.now.word.number Lock) (view_of token.old).steps (view_of token.new).steps Ok }
+        ensures path { Walks (mutex_at self.now.word.number) (beginning self.now.word.number Lock) (view_of token.old).steps (view_of token.new).steps Ok }
     {
-        let seen = step(&self.lot, token, self.word, Op::Exchange { from: 0, to: 1 });
+        let lot: &ParkingLot = &self.lot;
+        let seen = step(lot, token, self.word, ENTER);
         if seen != 0 {
-            return self.lock_behind(rt, token, seen);
+            self.lock_behind(rt, token, seen);
+            return lot.split_right(token, self.word, Want::Exclusive);
         }
-        self.lot.split_right(token, self.word, Want::Exclusive)
+        lot.split_right(token, self.word, Want::Exclusive)
     }
 
-    // The rest of `lock`, whose first step saw this.
+    // The rest of `lock`, whose first step saw this. It answers no right: a place for one would cost the first step, too.
     #[cold]
     #[inline(never)]
-    fn lock_behind<R: Wait>(&self, rt: &R, token: &mut Token, seen: u64) -> Right
+    fn lock_behind<R: Wait>(&self, rt: &R, token: &mut Token, seen: u64)
         requires own { IsTokenOf (arc_value self.now.lot) token.old }
         requires seen { 0 < seen }
-        ensures own { Stays (arc_value self.now.lot) token.old token.new × ((view_of token.new).owns ≡ (view_of token.old).owns) }
-        ensures guard { IsGuardOf (arc_value self.now.lot) self.now.word result }
-        ensures path { Walks (mutex_at self.now.word.number) (next_place (first_of self.now.word.number Lock) (Value seen)) (view_of token.old).steps (view_of token.new).steps Ok }
+        ensures own { Stays (arc_value self.now.lot) token.old token.new }
+        ensures gets { (view_of token.new).owns ≡ owning (mutex_at self.now.word.number) Exclusive ∷ (view_of token.old).owns }
+        ensures path { Walks (mutex_at self.now.word.number) (next_place (beginning self.now.word.number Lock) (Value seen)) (view_of token.old).steps (view_of token.new).steps Ok }
     {
         let (place, _) = advance(self.first_place(MutexCall::Lock), Reply::Value(seen));
-        match run(rt, &self.lot, token, self.word, place) {
-            Some(right) => right,
-            None => self.lot.split_right(token, self.word, Want::Exclusive),
+        match run(
+            rt,
+            &self.lot,
+            token,
+            self.word,
+            None::<(&NoClock, u64)>,
+            place,
+        ) {
+            Ended::Done => {}
+            Ended::Handed(right) => self.lot.join_right(token, right),
+            Ended::GaveUp => unreachable!(),
+        }
+    }
+
+    /// Waits until nobody has the mutex, and takes it. None where the time, in nanoseconds of the clock, was over first.
+    ///
+    /// A time that ends past all that a `u64` tells is no limit.
+    pub fn try_lock_for<R: Wait, C: Clock>(
+        &self,
+        rt: &R,
+        token: &mut Token,
+        clock: &C,
+        timeout: Duration,
+    ) -> Option<Right>
+        requires { IsTokenOf (arc_value self.now.lot) token.old }
+        ensures own { Stays (arc_value self.now.lot) token.old token.new × ((view_of token.new).owns ≡ (view_of token.old).owns) }
+        ensures guard { IfSome result (IsGuardOf (arc_value self.now.lot) self.now.word) }
+        ensures path { Walks (mutex_at self.now.word.number) (beginning self.now.word.number LockTimed) (view_of token.old).steps (view_of token.new).steps (timed_answer result) }
+    {
+        let limit = to_deadline(clock.now(), timeout);
+        self.lock_timed(rt, token, limit.map(|deadline| (clock, deadline)))
+    }
+
+    /// Waits until nobody has the mutex, and takes it. None where the clock came to the deadline first.
+    #[inline]
+    pub fn try_lock_until<R: Wait, C: Clock>(
+        &self,
+        rt: &R,
+        token: &mut Token,
+        clock: &C,
+        deadline: u64,
+    ) -> Option<Right>
+        requires { IsTokenOf (arc_value self.now.lot) token.old }
+        ensures own { Stays (arc_value self.now.lot) token.old token.new × ((view_of token.new).owns ≡ (view_of token.old).owns) }
+        ensures guard { IfSome result (IsGuardOf (arc_value self.now.lot) self.now.word) }
+        ensures path { Walks (mutex_at self.now.word.number) (beginning self.now.word.number LockTimed) (view_of token.old).steps (view_of token.new).steps (timed_answer result) }
+    {
+        self.lock_timed(rt, token, Some((clock, deadline)))
+    }
+
+    #[inline]
+    fn lock_timed<R: Wait, C: Clock>(
+        &self,
+        rt: &R,
+        token: &mut Token,
+        limit: Option<(&C, u64)>,
+    ) -> Option<Right>
+        requires { IsTokenOf (arc_value self.now.lot) token.old }
+        ensures own { Stays (arc_value self.now.lot) token.old token.new × ((view_of token.new).owns ≡ (view_of token.old).owns) }
+        ensures guard { IfSome result (IsGuardOf (arc_value self.now.lot) self.now.word) }
+        ensures path { Walks (mutex_at self.now.word.number) (beginning self.now.word.number LockTimed) (view_of token.old).steps (view_of token.new).steps (timed_answer result) }
+    {
+        let lot: &ParkingLot = &self.lot;
+        let seen = step(lot, token, self.word, ENTER);
+        if seen == 0 {
+            return Some(lot.split_right(token, self.word, Want::Exclusive));
+        }
+        if !self.lock_timed_behind(rt, token, limit, seen) {
+            return None;
+        }
+        Some(lot.split_right(token, self.word, Want::Exclusive))
+    }
+
+    // The rest of a timed lock, whose first step saw this: whether it got the mutex.
+    #[cold]
+    #[inline(never)]
+    fn lock_timed_behind<R: Wait, C: Clock>(
+        &self,
+        rt: &R,
+        token: &mut Token,
+        limit: Option<(&C, u64)>,
+        seen: u64,
+    ) -> bool
+        requires own { IsTokenOf (arc_value self.now.lot) token.old }
+        requires seen { 0 < seen }
+        ensures own { Stays (arc_value self.now.lot) token.old token.new }
+        ensures gets { (view_of token.new).owns ≡ if result then (owning (mutex_at self.now.word.number) Exclusive ∷ (view_of token.old).owns) else (view_of token.old).owns }
+        ensures path { Walks (mutex_at self.now.word.number) (next_place (beginning self.now.word.number LockTimed) (Value seen)) (view_of token.old).steps (view_of token.new).steps (if result then Yes else No) }
+    {
+        let (place, _) = advance(self.first_place(MutexCall::LockTimed), Reply::Value(seen));
+        match run(rt, &self.lot, token, self.word, limit, place) {
+            Ended::Done => true,
+            Ended::Handed(right) => {
+                self.lot.join_right(token, right);
+                true
+            }
+            Ended::GaveUp => false,
         }
     }
 
     fn first_place(&self, call: MutexCall) -> Place
-        ensures { result ≡ first_of self.now.word.number call }
+        ensures { result ≡ beginning self.now.word.number call }
     {
         Place::Mutex {
             lock: self.word.number(),
@@ -96,11 +205,12 @@ impl RawMutex {
         ensures guard { IfSome result (IsGuardOf (arc_value self.now.lot) self.now.word) }
         ensures seen { (seen : ℕ) × Steps self.now.word.number (Or 1) seen (view_of token.old).steps (view_of token.new).steps × MatchOption result (is_locked seen ≡ true) (λ _. is_locked seen ≡ false) }
     {
-        let seen = step(&self.lot, token, self.word, Op::Or(1));
-        if seen % 2 == 1 {
+        let lot: &ParkingLot = &self.lot;
+        let seen = step(lot, token, self.word, Op::Or(LOCKED));
+        if is_locked(seen) {
             return None;
         }
-        Some(self.lot.split_right(token, self.word, Want::Exclusive))
+        Some(lot.split_right(token, self.word, Want::Exclusive))
     }
 
     /// Gives the mutex up, and wakes the first who waits for it.
@@ -108,12 +218,13 @@ impl RawMutex {
     pub fn unlock<R: Wait>(&self, rt: &R, token: &mut Token, guard: Right)
         requires { IsTokenOf (arc_value self.now.lot) token.old × IsGuardOf (arc_value self.now.lot) self.now.word guard }
         ensures own { Stays (arc_value self.now.lot) token.old token.new × ((view_of token.new).owns ≡ (view_of token.old).owns) }
-        ensures path { Walks (mutex_at self.now.word.number) (first_of self.now.word.number Unlock) (view_of token.old).steps (view_of token.new).steps Ok }
-        ensures woken { Releases self.now.word.number (view_of token.old).steps (view_of token.new).steps (last_of token.new) }
+        ensures path { Walks (mutex_at self.now.word.number) (beginning self.now.word.number Unlock) (view_of token.old).steps (view_of token.new).steps Ok }
+        ensures took { Releases self.now.word.number (view_of token.old).steps (view_of token.new).steps (last_of token.new) }
     {
-        self.lot.join_right(token, guard);
-        let seen = step(&self.lot, token, self.word, Op::Sub(1));
-        if seen / 2 % 2 == 1 {
+        let lot: &ParkingLot = &self.lot;
+        lot.join_right(token, guard);
+        let seen = step(lot, token, self.word, Op::Sub(LOCKED));
+        if is_parked(seen) {
             self.unlock_behind(rt, token, seen);
         }
     }
@@ -125,13 +236,20 @@ impl RawMutex {
         requires own { IsTokenOf (arc_value self.now.lot) token.old }
         requires seen { is_parked seen ≡ true }
         ensures own { Stays (arc_value self.now.lot) token.old token.new × ((view_of token.new).owns ≡ (view_of token.old).owns) }
-        ensures path { Walks (mutex_at self.now.word.number) (next_place (first_of self.now.word.number Unlock) (Value seen)) (view_of token.old).steps (view_of token.new).steps Ok }
+        ensures path { Walks (mutex_at self.now.word.number) (next_place (beginning self.now.word.number Unlock) (Value seen)) (view_of token.old).steps (view_of token.new).steps Ok }
         ensures took { TookAt self.now.word.number (last_of token.new) }
     {
         let (place, _) = advance(self.first_place(MutexCall::Unlock), Reply::Value(seen));
-        match run(rt, &self.lot, token, self.word, place) {
-            None => {}
-            Some(_) => unreachable!(),
+        match run(
+            rt,
+            &self.lot,
+            token,
+            self.word,
+            None::<(&NoClock, u64)>,
+            place,
+        ) {
+            Ended::Done => {}
+            _ => unreachable!(),
         }
     }
 
@@ -142,7 +260,7 @@ impl RawMutex {
         ensures own { Stays (arc_value self.now.lot) token.old token.new × ((view_of token.new).owns ≡ (view_of token.old).owns) }
         ensures seen { (seen : ℕ) × Steps self.now.word.number Load seen (view_of token.old).steps (view_of token.new).steps × (result ≡ is_locked seen) }
     {
-        step(&self.lot, token, self.word, Op::Load) % 2 == 1
+        is_locked(step(&self.lot, token, self.word, Op::Load))
     }
 
     /// The key of its queue.
@@ -165,6 +283,8 @@ impl lock_raw::RawMutex for RawMutex {
     ghost is_token_of = { λ lot token. IsTokenOf lot token };
 
     ghost is_guard_of = { λ mutex guard. IsGuardOf (arc_value mutex.lot) mutex.word guard };
+
+    ghost guard_once = { λ mutex guard. IsGuardOf-prop (arc_value mutex.lot) mutex.word guard };
 
     ghost saw_locked = { λ mutex old new. Sees mutex.word.number true (view_of old).steps (view_of new).steps };
 
@@ -192,5 +312,31 @@ impl lock_raw::RawMutex for RawMutex {
     #[inline]
     fn is_locked(&self, token: &mut Token) -> bool {
         self.is_locked(token)
+    }
+}
+
+impl lock_raw::RawMutexTimed for RawMutex {
+    ghost gave_up = { λ mutex old new. GaveUp mutex.word.number (view_of old).steps (view_of new).steps };
+
+    #[inline]
+    fn try_lock_for<R: Wait, C: Clock>(
+        &self,
+        rt: &R,
+        token: &mut Token,
+        clock: &C,
+        timeout: Duration,
+    ) -> Option<Right> {
+        self.try_lock_for(rt, token, clock, timeout)
+    }
+
+    #[inline]
+    fn try_lock_until<R: Wait, C: Clock>(
+        &self,
+        rt: &R,
+        token: &mut Token,
+        clock: &C,
+        deadline: u64,
+    ) -> Option<Right> {
+        self.try_lock_until(rt, token, clock, deadline)
     }
 }

@@ -1,4 +1,8 @@
 //! Threads that meet at one mutex.
+mod mutexes;
+mod raw_timed;
+mod timed;
+
 ghost use Rattle.std.specs.Prelude.{◌≡◌, All, IfOk, IfSome};
 ghost use Rattle.std.specs.Arc.{arc_value};
 ghost use Rattle.running_lot.specs.Tokens.{IsTicketOf, IsTokenOf};

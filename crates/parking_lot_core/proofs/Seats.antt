@@ -6,7 +6,13 @@ use Rattle.parking_lot_core.specs.declared.wants.Waiter.{Waiter}
 use Rattle.parking_lot_core.specs.declared.wants.Want.{Want}
 use Rattle.parking_lot_core.specs.declared.wants.Want.TheVariants.{Wait}
 use Rattle.parking_lot_core.specs.Lines.{waiter, line, first_of, threads_of, times, without, without_first, without_key, IsSeated}
-use Rattle.parking_lot_core.proofs.Counts.{times_append, times_without, times_gone}
+use Rattle.parking_lot_core.specs.Picks.{without_picked}
+use Rattle.parking_lot_core.specs.Requeues.{moved_by, requeued}
+use Rattle.parking_lot_core.specs.declared.picks.Pick.{Pick}
+use Rattle.parking_lot_core.specs.declared.requeues.Requeue.{Requeue}
+use Rattle.parking_lot_core.specs.declared.requeues.Requeue.TheVariants.{One, All, TakeOneMoveRest}
+use Rattle.parking_lot_core.proofs.Counts.{times_append, times_without, times_gone, no_more_requeued}
+use Rattle.parking_lot_core.proofs.Moves.{length-line}
 
 length-without : (thread : ℕ) (waiters : List Waiter) → length waiters ≡ length (without thread waiters) + times thread waiters
 length-without thread [] = refl
@@ -25,6 +31,10 @@ no_more_without_key : (thread key : ℕ) (waiters : List Waiter) → times threa
 no_more_without_key thread key [] = omega arith
 no_more_without_key thread key (x ∷ xs) = grind (arith, nat_tests, no_more_without_key thread key xs)
 
+no_more_without_picked : {P : Type 0} (answer : P → Want → Pick) (next : P → Want → P) (picker : P) (thread key : ℕ) (waiters : List Waiter) → times thread (without_picked answer next picker key waiters) ≤ times thread waiters
+no_more_without_picked answer next picker thread key [] = omega arith
+no_more_without_picked answer next picker thread key (x ∷ xs) = grind (arith, nat_tests, no_more_without_picked answer next picker thread key xs, no_more_without_picked answer next (next picker x.want) thread key xs)
+
 seated_fewer : (fewer waiters : List Waiter) (capacity : ℕ) → ((thread : ℕ) → times thread fewer ≤ times thread waiters) → IsSeated waiters capacity → IsSeated fewer capacity
 seated_fewer fewer waiters capacity no_more seated = record {
   below = λ thread above. omega (arith, no_more thread, seated.below thread above);
@@ -39,6 +49,12 @@ seated_without_first key capacity waiters = seated_fewer _ waiters capacity (λ 
 
 pub seated_without_key : (key capacity : ℕ) (waiters : List Waiter) → IsSeated waiters capacity → IsSeated (without_key key waiters) capacity
 seated_without_key key capacity waiters = seated_fewer _ waiters capacity (λ thread. no_more_without_key thread key waiters)
+
+pub seated_without_picked : {P : Type 0} (answer : P → Want → Pick) (next : P → Want → P) (picker : P) (key capacity : ℕ) (waiters : List Waiter) → IsSeated waiters capacity → IsSeated (without_picked answer next picker key waiters) capacity
+seated_without_picked answer next picker key capacity waiters = seated_fewer _ waiters capacity (λ thread. no_more_without_picked answer next picker thread key waiters)
+
+pub seated_requeued : (op : Requeue) (from to capacity : ℕ) (waiters : List Waiter) → IsSeated waiters capacity → IsSeated (requeued op from to waiters) capacity
+seated_requeued op from to capacity waiters = seated_fewer _ waiters capacity (λ thread. no_more_requeued thread from to op waiters)
 
 pub seated_append : (key thread capacity : ℕ) (want : Want) (waiters : List Waiter) → IsSeated waiters capacity → thread < capacity → IsSeated (without thread waiters ++ waiter key thread want ∷ []) capacity
 seated_append key thread capacity want waiters seated below = record {
@@ -85,3 +101,13 @@ first_seated key capacity waiters (Some thread) seated first =
 pub length-threads_of_line : (key : ℕ) (waiters : List Waiter) → length (threads_of (line key waiters)) ≤ length waiters
 length-threads_of_line key [] = omega arith
 length-threads_of_line key (x ∷ xs) = grind (arith, nat_tests, length-threads_of_line key xs)
+
+fewer_moved : (op : Requeue) (waiters : List Waiter) → length (moved_by op waiters) ≤ length waiters
+fewer_moved One [] = omega arith
+fewer_moved One (x ∷ xs) = omega arith
+fewer_moved All waiters = omega arith
+fewer_moved TakeOneMoveRest [] = omega arith
+fewer_moved TakeOneMoveRest (x ∷ xs) = omega arith
+
+pub moved_seated : (op : Requeue) (key capacity : ℕ) (waiters : List Waiter) (number : ℕ) → IsSeated waiters capacity → number ≡ length (moved_by op (line key waiters)) → (number ≡ length (moved_by op (line key waiters))) × (number ≤ capacity)
+moved_seated op key capacity waiters number seated counted = (counted, omega (arith, fewer_moved op (line key waiters), length-line key waiters, length_seated capacity waiters seated))

@@ -1,10 +1,14 @@
 //! The queues of all keys.
-ghost use Rattle.std.specs.Prelude.{◌≡◌, ℕ, ◌+◌, ◌<◌, ◌≤◌, List, ◌∷◌, ◌++◌, [], IfOk, IfErr, IfSome, MatchOption, length, vec_len, vec_capacity};
+ghost use Rattle.std.specs.Prelude.{◌≡◌, ◌≢◌, ℕ, ◌+◌, ◌<◌, ◌≤◌, List, ◌∷◌, ◌++◌, [], IfOk, IfErr, IfSome, MatchOption, length, vec_len, vec_capacity};
 ghost use Rattle.parking_lot_core.specs.declared.wants.Waiter.{Waiter};
 ghost use Rattle.parking_lot_core.specs.Lines.{waiter, line, lines, without, without_first, without_key, first_of, threads_of, key_of};
+ghost use Rattle.parking_lot_core.specs.Picks.{picked, without_picked};
+ghost use Rattle.parking_lot_core.specs.Requeues.{taken_by, moved_by, requeued};
 
 use crate::faults::Fault;
 use crate::keys::Key;
+use crate::picks::Picker;
+use crate::requeues::Requeue;
 use crate::wants::{Waiter, Want};
 use std::alloc::Global;
 
@@ -46,6 +50,24 @@ pub trait Queues {
         ensures taken { out.new.items ≡ out.old.items ++ threads_of (line key (waiting self.old)) }
         ensures room { vec_capacity out.new ≡ vec_capacity out.old }
         ensures lines { lines (waiting self.new) ≡ lines (without_key key (waiting self.old)) }
+        ensures capacity { capacity self.new ≡ capacity self.old };
+
+    /// Takes those under a key whom a picker picks, and pushes them to `out` in their order. The others keep theirs.
+    fn take_by<P: Picker + Drop>(&mut self, key: Key, picker: P, out: &mut Vec<usize>)
+        requires { vec_len out.old + capacity self.old ≤ vec_capacity out.old }
+        ensures taken { out.new.items ≡ out.old.items ++ threads_of (picked P.answer P.next picker (line key (waiting self.old))) }
+        ensures room { vec_capacity out.new ≡ vec_capacity out.old }
+        ensures lines { lines (waiting self.new) ≡ lines (without_picked P.answer P.next picker key (waiting self.old)) }
+        ensures capacity { capacity self.new ≡ capacity self.old };
+
+    /// Moves waiters from under a key behind the last under another. Those who are moved want to own alone from then on.
+    /// It answers who was taken, if any, and how many were moved.
+    fn requeue(&mut self, from: Key, to: Key, op: Requeue) -> (Option<usize>, usize)
+        requires { from ≢ to }
+        ensures taken { result.0 ≡ taken_by op (line from (waiting self.old)) }
+        ensures seated { IfSome result.0 (λ thread. thread < capacity self.old) }
+        ensures number { (result.1 ≡ length (moved_by op (line from (waiting self.old)))) × (result.1 ≤ capacity self.old) }
+        ensures lines { lines (waiting self.new) ≡ lines (requeued op from to (waiting self.old)) }
         ensures capacity { capacity self.new ≡ capacity self.old };
 
     /// Removes a thread from where it stands.

@@ -1,8 +1,9 @@
 //! The texts, and each call once with ample memory.
-ghost use Rattle.std.specs.Prelude.{◌≡◌, IfOk};
+ghost use Rattle.std.specs.Prelude.{◌≡◌, ◌<◌, IfOk, length};
 
 use super::*;
 use std::alloc::Global;
+use std::process::Abort;
 use std::test::Fail;
 
 /// Two lines: threads 0, 2 and 4 under key 6, and 1 and 3 under key 7.
@@ -72,6 +73,123 @@ fn takes_all_behind_what_was_taken(rt: HostRuntime) -> Result<(), Fail> {
     assert_eq!(rt; out.as_slice(), [7, 0, 2, 4].as_slice());
     assert_eq!(rt; (queues.count(6), queues.count(7)), (0, 2));
     Ok(())
+}
+
+// Whom a thread takes of a line with these wants, whose threads are numbered from 1.
+fn taken_by(
+    alloc: Global,
+    wants: &[Want],
+    start: Option<Want>,
+    recursive: bool,
+) -> Result<Vec<usize>, Fail>
+    requires { length wants.now < 8 }
+{
+    let mut queues = ListQueues::with_capacity(alloc, 8)?;
+    for (place, want) in wants.iter().enumerate() {
+        queues.append(6, place + 1, *want);
+    }
+    let mut out = Vec::with_capacity(alloc, 8)?;
+    queues.take_by(6, LockPicker::new(start, recursive), &mut out);
+    Ok(out)
+}
+
+// The same of a normal and of a recursive lock.
+fn picks<A: Abort>(
+    rt: &A,
+    alloc: Global,
+    wants: &[Want],
+    start: Option<Want>,
+    normal: &[usize],
+    recursive: &[usize],
+) -> Result<(), Fail>
+    requires { length wants.now < 8 }
+{
+    assert_eq!(rt; taken_by(alloc, wants, start, false)?.as_slice(), normal);
+    assert_eq!(rt; taken_by(alloc, wants, start, true)?.as_slice(), recursive);
+    Ok(())
+}
+
+#[test]
+fn picks_readers_and_the_first_who_wants_more(rt: HostRuntime) -> Result<(), Fail> {
+    let (alloc, x, u, s) = (rt.alloc(), Want::Exclusive, Want::Upgradable, Want::Shared);
+    picks(&rt, alloc, &[s, x, s], None, &[1, 2], &[1, 2, 3])?;
+    picks(&rt, alloc, &[s, u, x, s], None, &[1, 2, 4], &[1, 2, 4])?;
+    picks(&rt, alloc, &[x, s], Some(u), &[2], &[2])?;
+    picks(&rt, alloc, &[x, u, s], Some(s), &[1], &[1, 3])?;
+    picks(&rt, alloc, &[], None, &[], &[])
+}
+
+#[test]
+fn takes_by_turns_and_keeps_the_order(rt: HostRuntime) -> Result<(), Fail> {
+    let mut queues: ListQueues = two_lines(rt.alloc())?;
+    let mut out = Vec::with_capacity(rt.alloc(), 9)?;
+    out.push_reserved(7);
+    queues.take_by(6, LockPicker::Readers, &mut out);
+    assert_eq!(rt; out.as_slice(), [7, 2].as_slice());
+    for (key, want) in [
+        (6, Some(0)),
+        (6, Some(4)),
+        (6, None),
+        (7, Some(1)),
+        (7, Some(3)),
+    ] {
+        assert_eq!(rt; queues.take_first(key), want, "under {key}");
+    }
+    Ok(())
+}
+
+// Two lines, of which the first is requeued. Then the threads and wants of both.
+fn lines_after<A: Abort>(
+    rt: &A,
+    alloc: Global,
+    op: Requeue,
+    answer: (Option<usize>, usize),
+    from: &[(usize, Want)],
+    to: &[(usize, Want)],
+) -> Result<(), Fail> {
+    let mut queues: ListQueues = two_lines(alloc)?;
+    assert_eq!(rt; queues.requeue(6, 7, op), answer);
+    for (key, line) in [(6, from), (7, to)] {
+        assert_eq!(rt; queues.count(key), line.len());
+        let mut place = 0;
+        for (thread, want) in line {
+            let (waiter, next) = queues.find(key, place).ok_or("the line is too short")?;
+            assert_eq!(rt; (waiter.thread, waiter.want), (*thread, *want));
+            place = next;
+        }
+    }
+    assert_eq!(rt; queues.requeue(8, 7, op), (None, 0));
+    Ok(())
+}
+
+#[test]
+fn requeues_behind_the_last(rt: HostRuntime) -> Result<(), Fail> {
+    let (alloc, x) = (rt.alloc(), Want::Exclusive);
+    let (w, c, s, u) = (Want::Wait, Want::CallOnce, Want::Shared, Want::Upgradable);
+    lines_after(
+        &rt,
+        alloc,
+        Requeue::One,
+        (None, 1),
+        &[(2, s), (4, u)],
+        &[(1, w), (3, c), (0, x)],
+    )?;
+    lines_after(
+        &rt,
+        alloc,
+        Requeue::All,
+        (None, 3),
+        &[],
+        &[(1, w), (3, c), (0, x), (2, x), (4, x)],
+    )?;
+    lines_after(
+        &rt,
+        alloc,
+        Requeue::TakeOneMoveRest,
+        (Some(0), 2),
+        &[],
+        &[(1, w), (3, c), (2, x), (4, x)],
+    )
 }
 
 #[test]

@@ -14,6 +14,10 @@ taken_in section = (mutex_guard_value section.queueing).taken.items
 abbrev pub rightless_in : Section → List ℕ
 rightless_in section = (mutex_guard_value section.queueing).rightless.items
 
+-- how many it moved to another queue
+abbrev pub moved_in : Section → ℕ
+moved_in section = section.moved
+
 -- it is the same section
 abbrev pub StaysIn : Section → Section → Type 0
 StaysIn old new = (new.lot.now ≡ old.lot.now) × (new.keys ≡ old.keys)

@@ -1,23 +1,20 @@
 //! The lot that threads run on: tickets and tokens, word steps, sections over the queues, and sleep.
 #![tactic(auto)]
 
-pub mod clocks;
 pub mod lot;
 pub mod queueing;
 pub mod sections;
 pub mod sleep;
-pub mod system;
 pub mod tokens;
 pub mod waiters;
 pub mod words;
 
-pub use clocks::{Clock, to_deadline};
 pub use lot::ParkingLot;
+pub use lot_clocks::{Clock, SystemClock, TickClock, to_deadline};
 pub use lot_words::{Right, Word, WordKind};
-pub use parking_lot_core::{Fault, Key, Keys, Note, Op, Waiter, Want};
+pub use parking_lot_core::{Fault, Key, Keys, Note, Op, Requeue, Waiter, Want};
 pub use sections::Section;
 pub use sleep::Slept;
-pub use system::SystemClock;
 pub use tokens::{Did, Record, Ticket, Token};
 
 #[cfg(test)]

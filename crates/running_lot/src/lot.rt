@@ -26,6 +26,7 @@ pub struct ParkingLot {
     // Of a thread that was taken, the one that was taken next with it.
     pub(crate) next_taken: Vec<AtomicUsize>,
     ghost keyed: { letters.table.shared.key.table_id ≡ words.table.shared.table_id },
+    ghost for_each_seat: { (length unparkers.items ≡ letters.count) × (length next_taken.items ≡ letters.count) },
 }
 
 fn empty_letters(alloc: Global, seats: usize) -> Result<Vec<Option<Letter>>, AllocError>
@@ -38,7 +39,9 @@ fn empty_letters(alloc: Global, seats: usize) -> Result<Vec<Option<Letter>>, All
     Ok(letters)
 }
 
-fn no_links(alloc: Global, seats: usize) -> Result<Vec<AtomicUsize>, AllocError> {
+fn no_links(alloc: Global, seats: usize) -> Result<Vec<AtomicUsize>, AllocError>
+    ensures { IfOk result (λ links. length links.items ≡ seats) }
+{
     let mut links = Vec::with_capacity(alloc, seats)?;
     for _ in 0..seats {
         links.push(AtomicUsize::new(0))?;
@@ -57,7 +60,8 @@ impl ParkingLot {
         seats: usize,
     ) -> Result<(Vec<Ticket>, Vec<Unparker>), AllocError>
         requires { first.table_id ≡ words.now.table.shared.table_id }
-        ensures { IfOk result (λ made. (map number_of made.0.items ≡ range_with_len 0 seats) × All (IsNewTicket words.now seats) made.0.items) }
+        ensures tickets { IfOk result (λ made. (map number_of made.0.items ≡ range_with_len 0 seats) × All (IsNewTicket words.now seats) made.0.items) }
+        ensures unparkers { IfOk result (λ made. length made.1.items ≡ seats) }
     {
         let mut tickets = Vec::with_capacity(alloc, seats)?;
         let mut unparkers = Vec::with_capacity(alloc, seats)?;

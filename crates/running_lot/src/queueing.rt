@@ -1,10 +1,12 @@
 //! What stands behind the lock of the queues.
-ghost use Rattle.std.specs.Prelude.{◌≡◌, ◌≤◌, [], IfOk, IfErr, MatchOption, ◌∷◌, length, not, ◌==◌};
+ghost use Rattle.std.specs.Prelude.{◌≡◌, ◌≢◌, ◌<◌, ◌≤◌, [], IfOk, IfErr, IfSome, MatchOption, ◌∷◌, length, not, ◌==◌};
 ghost use Rattle.std.specs.List.{filter};
 ghost use Rattle.std.specs.Vec.{vec_capacity};
 ghost use Rattle.parking_lot_core.specs.Lines.{line, lines, without_first, without_key, first_of, threads_of};
+ghost use Rattle.parking_lot_core.specs.Picks.{lock_picked, without_lock_picked};
+ghost use Rattle.parking_lot_core.specs.Requeues.{taken_by, moved_by, requeued};
 
-use parking_lot_core::{Fault, Key, ListQueues, Queues};
+use parking_lot_core::{Fault, Key, ListQueues, LockPicker, Queues, Requeue, Want};
 use std::alloc::{AllocError, Global};
 
 /// The queues, and whom the section that has them took.
@@ -70,6 +72,18 @@ impl Queueing {
         self.rightless.clear();
     }
 
+    // The one that was taken, if any.
+    fn note(&mut self, first: Option<usize>)
+        requires { (self.old.taken.items ≡ []) × (self.old.rightless.items ≡ []) × IfSome first (λ thread. thread < self.old.seats) }
+        ensures taken { MatchOption first (self.new.taken.items ≡ []) (λ thread. self.new.taken.items ≡ thread ∷ []) × (self.new.rightless.items ≡ self.new.taken.items) }
+        ensures same { (self.new.queues ≡ self.old.queues) × (self.new.seats ≡ self.old.seats) }
+    {
+        if let Some(thread) = first {
+            self.taken.push_reserved(thread);
+            self.rightless.push_reserved(thread);
+        }
+    }
+
     pub(crate) fn take_first(&mut self, key: Key) -> Option<usize>
         requires { (self.old.taken.items ≡ []) × (self.old.rightless.items ≡ []) }
         ensures first { result ≡ first_of (line key self.old.queues.waiters) }
@@ -78,10 +92,7 @@ impl Queueing {
         ensures same { self.new.seats ≡ self.old.seats }
     {
         let first = self.queues.take_first(key);
-        if let Some(thread) = first {
-            self.taken.push_reserved(thread);
-            self.rightless.push_reserved(thread);
-        }
+        self.note(first);
         first
     }
 
@@ -93,6 +104,31 @@ impl Queueing {
     {
         self.queues.take_all(key, &mut self.taken);
         copy_all(self.taken.as_slice(), &mut self.rightless);
+    }
+
+    pub(crate) fn take_picked(&mut self, key: Key, start: Option<Want>, recursive: bool)
+        requires { (self.old.taken.items ≡ []) × (self.old.rightless.items ≡ []) }
+        ensures taken { (self.new.taken.items ≡ threads_of (lock_picked start recursive (line key self.old.queues.waiters))) × (self.new.rightless.items ≡ self.new.taken.items) }
+        ensures lines { lines self.new.queues.waiters ≡ lines (without_lock_picked start recursive key self.old.queues.waiters) }
+        ensures same { self.new.seats ≡ self.old.seats }
+    {
+        let picker = LockPicker::new(start, recursive);
+        self.queues.take_by(key, picker, &mut self.taken);
+        copy_all(self.taken.as_slice(), &mut self.rightless);
+    }
+
+    pub(crate) fn requeue(&mut self, from: Key, to: Key, op: Requeue) -> (Option<usize>, usize)
+        requires none { (self.old.taken.items ≡ []) × (self.old.rightless.items ≡ []) }
+        requires differ { from ≢ to }
+        ensures first { result.0 ≡ taken_by op (line from self.old.queues.waiters) }
+        ensures taken { MatchOption result.0 (self.new.taken.items ≡ []) (λ thread. self.new.taken.items ≡ thread ∷ []) × (self.new.rightless.items ≡ self.new.taken.items) }
+        ensures number { (result.1 ≡ length (moved_by op (line from self.old.queues.waiters))) × (result.1 ≤ self.old.seats) }
+        ensures lines { lines self.new.queues.waiters ≡ lines (requeued op from to self.old.queues.waiters) }
+        ensures same { self.new.seats ≡ self.old.seats }
+    {
+        let (first, moved) = self.queues.requeue(from, to, op);
+        self.note(first);
+        (first, moved)
     }
 
     // The thread has been given a right.

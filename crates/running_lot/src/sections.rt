@@ -1,19 +1,21 @@
 //! Sections, in which one thread at a time changes the queues of its keys.
 //!
 //! All sections stand behind one lock as yet: a thread that is inside one and enters another waits for itself.
-ghost use Rattle.std.specs.Prelude.{◌≡◌, ◌<◌, ◌++◌, ◌∷◌, ◌==◌, not, [], Some, Contains, MatchOption, length};
+ghost use Rattle.std.specs.Prelude.{◌≡◌, ◌≢◌, ◌<◌, ◌≤◌, ◌+◌, ◌++◌, ◌∷◌, ◌==◌, not, [], Some, Contains, MatchOption, length};
 ghost use Rattle.std.specs.List.{filter};
 ghost use Rattle.std.specs.Sync.Mutex.{mutex_guard_value};
 ghost use Rattle.parking_lot_core.specs.Lines.{waiter, line, lines, without, without_first, without_key, first_of, threads_of, key_of};
+ghost use Rattle.parking_lot_core.specs.Picks.{lock_picked, without_lock_picked};
+ghost use Rattle.parking_lot_core.specs.Requeues.{taken_by, moved_by, requeued};
 ghost use Rattle.running_lot.specs.Keys.{AreKeys, IsKeyOf, first_key};
-ghost use Rattle.running_lot.specs.declared.tokens.Did.TheVariants.{Nothing, TakeFirst, TakeAll};
+ghost use Rattle.running_lot.specs.declared.tokens.Did.TheVariants.{Nothing, TakeFirst, TakeAll, TakePicked};
 ghost use Rattle.parking_lot_core.specs.declared.notes.Note.TheVariants.{HandOff};
 
 use crate::lot::ParkingLot;
 use crate::queueing::Queueing;
 use crate::tokens::{Did, Record, Token};
 use lot_words::Right;
-use parking_lot_core::{Key, Keys, Note, Queues, Want};
+use parking_lot_core::{Key, Keys, Note, Queues, Requeue, Want};
 use std::sync::atomic::Ordering::SeqCst;
 use std::sync::{MutexGuard, Wait};
 
@@ -27,8 +29,11 @@ pub struct Section<'a> {
     queueing: MutexGuard<'a, Queueing>,
     pub(crate) keys: Keys,
     did: Did,
+    // How many it moved to another queue.
+    moved: usize,
     ghost seated: { (mutex_guard_value queueing).seats ≡ lot.now.letters.count },
-    ghost fresh: { did ≡ Nothing → ((mutex_guard_value queueing).taken.items ≡ []) × ((mutex_guard_value queueing).rightless.items ≡ []) },
+    ghost fresh: { did ≡ Nothing → ((mutex_guard_value queueing).taken.items ≡ []) × ((mutex_guard_value queueing).rightless.items ≡ []) × (moved ≡ 0) },
+    ghost few: { moved ≤ (mutex_guard_value queueing).seats },
 }
 
 // What a lock keeps is known by its type alone, so a fact about its lot is tested. The test never fails.
@@ -63,6 +68,7 @@ impl ParkingLot {
             queueing,
             keys,
             did: Did::Nothing,
+            moved: 0,
         }
     }
 
@@ -121,7 +127,7 @@ impl ParkingLot {
 
 impl<'a> Section<'a> {
     ghost use Rattle.running_lot.specs.Tokens.{IsTokenOf, Stays, last_of};
-    ghost use Rattle.running_lot.specs.Sections.{waiting_in, taken_in, rightless_in, StaysIn};
+    ghost use Rattle.running_lot.specs.Sections.{waiting_in, taken_in, rightless_in, moved_in, StaysIn};
     ghost use Rattle.lot_words.specs.RightsOf.{IsRightOf};
 
     /// Puts a thread behind the last under a key. One that stands somewhere leaves that place first.
@@ -129,7 +135,7 @@ impl<'a> Section<'a> {
         requires key { IsKeyOf self.old.keys key }
         requires thread { thread < self.old.lot.now.letters.count }
         ensures lines { lines (waiting_in self.new) ≡ lines (without thread (waiting_in self.old) ++ waiter key thread want ∷ []) }
-        ensures same { StaysIn self.old self.new × (self.new.did ≡ self.old.did) × (taken_in self.new ≡ taken_in self.old) × (rightless_in self.new ≡ rightless_in self.old) }
+        ensures same { StaysIn self.old self.new × (self.new.did ≡ self.old.did) × (taken_in self.new ≡ taken_in self.old) × (rightless_in self.new ≡ rightless_in self.old) × (moved_in self.new ≡ moved_in self.old) }
     {
         self.queueing.queues.append(key, thread, want);
     }
@@ -137,7 +143,7 @@ impl<'a> Section<'a> {
     /// Removes a thread from where it stands.
     pub fn remove(&mut self, thread: usize)
         ensures lines { lines (waiting_in self.new) ≡ lines (without thread (waiting_in self.old)) }
-        ensures same { StaysIn self.old self.new × (self.new.did ≡ self.old.did) × (taken_in self.new ≡ taken_in self.old) × (rightless_in self.new ≡ rightless_in self.old) }
+        ensures same { StaysIn self.old self.new × (self.new.did ≡ self.old.did) × (taken_in self.new ≡ taken_in self.old) × (rightless_in self.new ≡ rightless_in self.old) × (moved_in self.new ≡ moved_in self.old) }
     {
         self.queueing.queues.remove(thread);
     }
@@ -149,7 +155,7 @@ impl<'a> Section<'a> {
         ensures first { result ≡ first_of (line key (waiting_in self.old)) }
         ensures taken { MatchOption result (taken_in self.new ≡ []) (λ thread. taken_in self.new ≡ thread ∷ []) × (rightless_in self.new ≡ taken_in self.new) }
         ensures lines { lines (waiting_in self.new) ≡ lines (without_first key (waiting_in self.old)) }
-        ensures did { StaysIn self.old self.new × (self.new.did ≡ TakeFirst key) }
+        ensures did { StaysIn self.old self.new × (self.new.did ≡ TakeFirst key) × (moved_in self.new ≡ 0) }
     {
         self.did = Did::TakeFirst(key);
         self.queueing.take_first(key)
@@ -161,10 +167,43 @@ impl<'a> Section<'a> {
         requires first_take { self.old.did ≡ Nothing }
         ensures taken { (taken_in self.new ≡ threads_of (line key (waiting_in self.old))) × (rightless_in self.new ≡ taken_in self.new) }
         ensures lines { lines (waiting_in self.new) ≡ lines (without_key key (waiting_in self.old)) }
-        ensures did { StaysIn self.old self.new × (self.new.did ≡ TakeAll key) }
+        ensures did { StaysIn self.old self.new × (self.new.did ≡ TakeAll key) × (moved_in self.new ≡ 0) }
     {
         self.did = Did::TakeAll(key);
         self.queueing.take_all(key);
+    }
+
+    /// Takes who is picked of the main queue of a reader-writer lock. The thread keeps a right of its own, or none.
+    pub fn take_picked(&mut self, key: Key, start: Option<Want>, recursive: bool)
+        requires key { IsKeyOf self.old.keys key }
+        requires first_take { self.old.did ≡ Nothing }
+        ensures taken { (taken_in self.new ≡ threads_of (lock_picked start recursive (line key (waiting_in self.old)))) × (rightless_in self.new ≡ taken_in self.new) }
+        ensures lines { lines (waiting_in self.new) ≡ lines (without_lock_picked start recursive key (waiting_in self.old)) }
+        ensures did { StaysIn self.old self.new × (self.new.did ≡ TakePicked key start recursive) × (moved_in self.new ≡ 0) }
+    {
+        self.did = Did::TakePicked {
+            key,
+            start,
+            recursive,
+        };
+        self.queueing.take_picked(key, start, recursive);
+    }
+
+    /// Moves waiters from under one of its keys behind the last under the other. Those who are moved want to own alone from
+    /// then on. It answers who was taken, if any, and how many were moved.
+    pub fn requeue(&mut self, from: Key, to: Key, op: Requeue) -> (Option<usize>, usize)
+        requires keys { IsKeyOf self.old.keys from × IsKeyOf self.old.keys to × (from ≢ to) }
+        requires first_take { self.old.did ≡ Nothing }
+        ensures first { result.0 ≡ taken_by op (line from (waiting_in self.old)) }
+        ensures taken { MatchOption result.0 (taken_in self.new ≡ []) (λ thread. taken_in self.new ≡ thread ∷ []) × (rightless_in self.new ≡ taken_in self.new) }
+        ensures moved { (result.1 ≡ length (moved_by op (line from (waiting_in self.old)))) × (moved_in self.new ≡ result.1) }
+        ensures lines { lines (waiting_in self.new) ≡ lines (requeued op from to (waiting_in self.old)) }
+        ensures did { StaysIn self.old self.new × (self.new.did ≡ Did.Requeue from to op) }
+    {
+        self.did = Did::Requeue { from, to, op };
+        let (first, moved) = self.queueing.requeue(from, to, op);
+        self.moved = moved;
+        (first, moved)
     }
 
     /// How many stand under a key.
@@ -194,7 +233,7 @@ impl<'a> Section<'a> {
         requires taken { Contains (taken_in self.old) thread }
         requires right { IsRightOf self.old.lot.now.words right }
         ensures rightless { rightless_in self.new ≡ filter (λ x. not (x == thread)) (rightless_in self.old) }
-        ensures same { StaysIn self.old self.new × (self.new.did ≡ self.old.did) × (taken_in self.new ≡ taken_in self.old) × (waiting_in self.new ≡ waiting_in self.old) }
+        ensures same { StaysIn self.old self.new × (self.new.did ≡ self.old.did) × (taken_in self.new ≡ taken_in self.old) × (moved_in self.new ≡ moved_in self.old) × (waiting_in self.new ≡ waiting_in self.old) }
     {
         self.lot.lay(rt, thread, right);
         self.queueing.has_right(thread);
@@ -205,25 +244,26 @@ impl<'a> Section<'a> {
         requires own { IsTokenOf self.lot.now token.old }
         requires given { note ≡ HandOff → rightless_in self ≡ [] }
         ensures own { Stays self.entry.lot.now token.old token.new × (token.new.seat ≡ token.old.seat) }
-        ensures recorded { last_of token.new ≡ Some (record { key = first_key self.entry.keys; did = self.entry.did; number = length (taken_in self.entry) }) }
+        ensures recorded { last_of token.new ≡ Some (record { key = first_key self.entry.keys; did = self.entry.did; number = length (taken_in self.entry) + moved_in self.entry }) }
     {
         let Section {
             lot,
             queueing,
             keys,
             did,
+            moved,
         } = self;
-        let number = queueing.taken.len();
+        let taken = queueing.taken.len();
         let first = lot.tie(queueing.taken.as_slice());
         drop(queueing);
         token.record = Record {
             key: first_of_keys(keys),
             did,
-            number,
+            number: taken + moved,
         };
         token.is_recorded = true;
         if let Some(first) = first {
-            lot.wake_tied(rt, first, number, note);
+            lot.wake_tied(rt, first, taken, note);
         }
     }
 }

@@ -1,11 +1,10 @@
 //! Sleep, until somebody wakes the thread or its time is up.
-ghost use Rattle.std.specs.Prelude.{◌≡◌, ◌<◌, IfSome};
-ghost use Rattle.lot_words.specs.Lots.{IsWordOf};
+ghost use Rattle.std.specs.Prelude.{◌≡◌, ◌<◌, IfSome, None};
 
-use crate::clocks::Clock;
 use crate::lot::ParkingLot;
 use crate::sections::Section;
 use crate::tokens::Token;
+use lot_clocks::Clock;
 use lot_words::{Right, Word};
 use parking_lot_core::{Key, Keys, Note, Queues, Want};
 use std::sync::Wait;
@@ -62,7 +61,7 @@ impl ParkingLot {
     /// Sleeps until the thread is woken, or up to a deadline on a clock.
     ///
     /// A right that was handed to the thread for another word or want stays where it is, and the thread sleeps on. A
-    /// thread that was taken before it could give up is woken and not late.
+    /// thread that was taken before it could give up is woken and not late, and without a limit nobody is late.
     pub fn sleep<'a, R: Wait, C: Clock>(
         &'a self,
         rt: &R,
@@ -74,6 +73,7 @@ impl ParkingLot {
         requires { IsTokenOf self.now token.old }
         ensures same { token.new ≡ token.old }
         ensures slept { IsSlept self.now token.old.number word want result }
+        ensures unlimited { limit.entry ≡ None → IsWoken self.now word want result }
     {
         let mut limit = limit;
         for _ in rt.forever() {

@@ -3,7 +3,7 @@ ghost use Rattle.std.specs.Prelude.{◌≡◌};
 
 use crossbeam_utils::sync::Parker;
 use lot_words::Seat;
-use parking_lot_core::Key;
+use parking_lot_core::{Key, Requeue, Want};
 use std::marker::PhantomData;
 
 /// What a section took or moved.
@@ -12,6 +12,17 @@ pub enum Did {
     Nothing,
     TakeFirst(Key),
     TakeAll(Key),
+    /// Who is picked of a reader-writer lock's queue by a thread that keeps this right of its own.
+    TakePicked {
+        key: Key,
+        start: Option<Want>,
+        recursive: bool,
+    },
+    Requeue {
+        from: Key,
+        to: Key,
+        op: Requeue,
+    },
 }
 
 /// What a thread did in a section that it has left.

@@ -4,7 +4,7 @@ ghost use Rattle.std.specs.Arc.{arc_value};
 ghost use Rattle.running_lot.specs.Tokens.{IsTokenOf};
 
 use super::mutexes::{try_lock, unlock};
-use crate::{Did, Fault, Keys, Note, Op, ParkingLot, Record, Token, Want, WordKind};
+use crate::{Did, Fault, Keys, Note, Op, ParkingLot, Record, Requeue, Token, Want, WordKind};
 use std::alloc::Global;
 use std::sync::Arc;
 use std::test::Fail;
@@ -12,9 +12,17 @@ use std::test::Fail;
 // A lot of one seat, and its token.
 fn one_seat(alloc: Global, words: usize) -> Result<(Arc<ParkingLot>, Token), Fault>
     requires { (0 < words) × (words ≤ 100) }
-    ensures { IfOk result (λ made. ((arc_value made.0).words.count ≡ words) × IsTokenOf (arc_value made.0) made.1) }
+    ensures { IfOk result (λ made. ((arc_value made.0).words.count ≡ words) × ((arc_value made.0).letters.count ≡ 1) × IsTokenOf (arc_value made.0) made.1) }
 {
-    let (lot, mut tickets) = ParkingLot::new(alloc, words, 1)?;
+    one_of(alloc, words, 1)
+}
+
+// A lot of so many seats, and one token.
+fn one_of(alloc: Global, words: usize, seats: usize) -> Result<(Arc<ParkingLot>, Token), Fault>
+    requires { (0 < words) × (words ≤ 100) × (0 < seats) × (seats ≤ 100) }
+    ensures { IfOk result (λ made. ((arc_value made.0).words.count ≡ words) × ((arc_value made.0).letters.count ≡ seats) × IsTokenOf (arc_value made.0) made.1) }
+{
+    let (lot, mut tickets) = ParkingLot::new(alloc, words, seats)?;
     match tickets.pop() {
         Some(ticket) => Ok((lot, ticket.enter())),
         None => Err(Fault::NoMemory),
@@ -145,6 +153,59 @@ fn a_section_takes_in_order(rt: HostRuntime) -> Result<(), Fail> {
     };
     assert_eq!(rt; token.last_section(), Some(record));
     assert_eq!(rt; lot.queued(&rt, &mut token, 7), 0);
+    Ok(())
+}
+
+#[test]
+fn a_section_takes_who_is_picked(rt: HostRuntime) -> Result<(), Fail> {
+    let (lot, mut token) = one_of(rt.alloc(), 1, 3)?;
+    let mut section = lot.enter(&rt, &mut token, Keys::One(6));
+    section.append(6, 2, Want::Shared);
+    section.append(6, 1, Want::Exclusive);
+    section.append(6, 0, Want::Shared);
+    section.take_picked(6, None, false);
+    assert_eq!(rt; section.taken(), [2, 1].as_slice());
+    assert_eq!(rt; section.count(6), 1);
+    section.leave(&rt, &mut token, Note::Normal);
+    let record = Record {
+        key: 6,
+        did: Did::TakePicked {
+            key: 6,
+            start: None,
+            recursive: false,
+        },
+        number: 2,
+    };
+    assert_eq!(rt; token.last_section(), Some(record));
+    Ok(())
+}
+
+#[test]
+fn a_section_requeues(rt: HostRuntime) -> Result<(), Fail> {
+    let (lot, mut token) = one_of(rt.alloc(), 1, 3)?;
+    for (op, answer, number) in [
+        (Requeue::One, (None, 1), 1),
+        (Requeue::All, (None, 3), 3),
+        (Requeue::TakeOneMoveRest, (Some(2), 2), 3),
+    ] {
+        let mut section = lot.enter(&rt, &mut token, Keys::Two(6, 1));
+        section.append(6, 2, Want::Wait);
+        section.append(6, 1, Want::Wait);
+        section.append(6, 0, Want::Wait);
+        assert_eq!(rt; section.requeue(6, 1, op), answer);
+        assert_eq!(rt; section.taken().first().copied(), answer.0);
+        assert_eq!(rt;
+            (section.count(6), section.count(1)),
+            (3 - number, answer.1)
+        );
+        section.leave(&rt, &mut token, Note::Normal);
+        let record = Record {
+            key: 6,
+            did: Did::Requeue { from: 6, to: 1, op },
+            number,
+        };
+        assert_eq!(rt; token.last_section(), Some(record));
+    }
     Ok(())
 }
 

@@ -7,11 +7,11 @@ ghost use Rattle.lot_words.specs.declared.words.WordKind.TheVariants.{Mutex};
 ghost use Rattle.parking_lot_core.specs.declared.wants.Want.TheVariants.{Exclusive};
 ghost use Rattle.running_lot.specs.Tokens.{IsTicketOf, IsTokenOf, Stays};
 
-use super::clocks::Looks;
 use super::mutexes::{try_lock, unlock};
 use crate::{
     Fault, Key, Keys, Note, ParkingLot, Right, Slept, Ticket, Token, Want, Word, WordKind,
 };
+use lot_clocks::TickClock;
 use std::alloc::Global;
 use std::sync::atomic::AtomicBool;
 use std::sync::atomic::Ordering::SeqCst;
@@ -74,7 +74,7 @@ fn receive<R: Wait>(rt: &R, lot: &ParkingLot, token: &mut Token, word: Word) -> 
     ensures right { IfSome result (λ right. IsRightOf lot.now.words right × (right.word ≡ word) × (right.want ≡ Exclusive)) }
 {
     line_up(rt, lot, token);
-    match lot.sleep(rt, token, word, Want::Exclusive, None::<(&Looks, u64)>) {
+    match lot.sleep(rt, token, word, Want::Exclusive, None::<(&TickClock, u64)>) {
         Slept::Handed(right) => Some(right),
         Slept::Woken => None,
         Slept::Late(section, _) => {
@@ -213,7 +213,7 @@ fn sleep_late<R: Wait>(rt: &R, lot: &ParkingLot, ticket: Ticket, word: Word) -> 
             &mut token,
             word,
             Want::Exclusive,
-            None::<(&Looks, u64)>,
+            None::<(&TickClock, u64)>,
         ) {
             Slept::Woken => true,
             Slept::Handed(right) => {
@@ -272,7 +272,7 @@ fn sleep_briefly<R: Wait>(
     requires { IsTicketOf lot.now ticket × IsWordOf lot.now.words word × (word.kind ≡ Mutex) }
 {
     let mut token = ticket.enter();
-    let clock = Looks::new();
+    let clock = TickClock::new();
     let (mut woken, mut late) = (0, 0);
     for round in 0..ROUNDS {
         clock.restart();

@@ -1,24 +1,25 @@
 use Rattle.std.proofs.Common.{◌≡◌, ◌∙◌, Some, None, Option, sym, refl, ap, subst, rules, ◌*◌}
 use Rattle.lot_steps.specs.Acts.{holds}
-use Rattle.lot_steps.specs.declared.acts.Reply.TheVariants.{Done, Parked, Took, Woken}
+use Rattle.lot_steps.specs.declared.acts.Reply.TheVariants.{Done, Parked, Took, Removed, Late, Woken}
 use Rattle.parking_lot_core.specs.declared.notes.Note.TheVariants.{Normal}
 use Rattle.running_lot.specs.Tokens.{view_of, last_of}
 use Rattle.running_lot.specs.declared.tokens.Did.TheVariants.{Nothing, TakeFirst}
 use Rattle.running_lot.specs.declared.tokens.Record.{Record}
-use Rattle.parking_lot.specs.Driving.{Does, Leads, IsInside}
+use Rattle.parking_lot.specs.Driving.{Leads, IsInside}
 use Rattle.parking_lot.specs.Paths.{is_wordless}
-use Rattle.parking_lot.proofs.Doing.{does}
+use Rattle.parking_lot.proofs.Doing.{Does, does}
 use Rattle.parking_lot.proofs.Coming.{came_word, came_park, came_other, inside_still, record_of}
+use Rattle.parking_lot.proofs.Sleeping.{late_told}
 use Rattle.parking_lot.proofs.driver.perform.Goals as goal
-use Rattle.parking_lot.proofs.driver.perform.Goals.{in-Word, in-Enter, in-Some-1, in-None-1, in-Park+in-Some, in-TakeFirst+in-Some-section, in-Leave+in-Some-take, in-Sleep+in-None-sleep}
+use Rattle.parking_lot.proofs.driver.perform.Goals.{in-Word, in-Enter, in-Some-1, in-None-1, in-None-2, in-Park+in-Some, in-TakeFirst+in-Some-section, in-Remove+in-Some-section-2, in-Leave+in-Some-take, in-Sleep+in-Woken, in-Sleep+in-Late}
 
 pub step-requires-clause-may : goal.step-requires-clause-may
 step-requires-clause-may g c = let d = does c.mutex_may_step.ensures c.args.lot.now c.args.word.number c.args.section.now c.args.place c.requires.fits in
     let e = subst (Does c.args.lot.now c.args.word.number c.args.place c.args.section.now) (sym c.act.ensures ∙ c.in-Word.is) d in e.0 (view_of c.args.token.now).owns
 
-pub returns-in-Some-sleep-clause-came : goal.returns-in-Some-sleep-clause-came
-returns-in-Some-sleep-clause-came g c = let d = does c.mutex_may_step.ensures c.args.lot.now c.args.word.number c.args.section.now c.args.place c.requires.fits in
-    let e = subst (Does c.args.lot.now c.args.word.number c.args.place c.args.section.now) (sym c.act.ensures ∙ c.in-Sleep.is) d in (c.sleep.ensures.own.1, e.0, c.in-Some-sleep.ensures.right)
+pub returns-in-Handed-clause-came : goal.returns-in-Handed-clause-came
+returns-in-Handed-clause-came g c = let d = does c.mutex_may_step.ensures c.args.lot.now c.args.word.number c.args.section.now c.args.place c.requires.fits in
+    let e = subst (Does c.args.lot.now c.args.word.number c.args.place c.args.section.now) (sym c.act.ensures ∙ c.in-Sleep.is) d in (c.sleep.ensures.own.1, e.0, c.in-Handed.ensures.slept)
 
 pub returns-clause-came : goal.returns-clause-came
 returns-clause-came g c = let lot = c.args.lot.now in let word = c.args.word in let n = c.args.word.number in let p = c.args.place in let old = c.args.token.now in let section = c.args.section.now in let owns = (view_of c.args.token.now).owns in
@@ -34,11 +35,17 @@ returns-clause-came g c = let lot = c.args.lot.now in let word = c.args.word in 
       | in-TakeFirst+in-Some-section w ↦ let is = sym c.act.ensures ∙ w.in-TakeFirst.is in let e = subst (Does lot n p section) is d in let first = w.take-first.result in
           let before = subst (IsInside lot n Nothing) w.in-Some-section.is e.0 in let inside = inside_still lot n Nothing (TakeFirst (2 * n)) w.in-Some-section.inside w.take-first.new.inside w.take-first.ensures.did.0 (w.take-first.ensures.did.1 ∙ ap TakeFirst e.1) before in
           rw (w.token-is, w.section-is, w.reply-is) (came_other lot word p old c.args.token.now (Some w.take-first.new.inside) (Took first.0 first.1) (ap is_wordless is) refl refl (e.2 first.0 first.1 (Some w.take-first.new.inside) inside owns (last_of c.args.token.now)))
+      | in-Remove+in-Some-section-2 w ↦ let is = sym c.act.ensures ∙ w.in-Remove.is in let e = subst (Does lot n p section) is d in let left = w.remove-none_left.result in
+          let before = subst (IsInside lot n Nothing) w.in-Some-section-2.is e.0 in let inside = inside_still lot n Nothing Nothing w.in-Some-section-2.inside w.remove-none_left.new.inside w.remove-none_left.ensures.same.0 (w.remove-none_left.ensures.same.1 ∙ before.2) before in
+          rw (w.token-is, w.section-is, w.reply-is) (came_other lot word p old c.args.token.now (Some w.remove-none_left.new.inside) (Removed left) (ap is_wordless is) refl refl (e.2 left (Some w.remove-none_left.new.inside) inside owns (last_of c.args.token.now)))
       | in-Leave+in-Some-take w ↦ let is = sym c.act.ensures ∙ w.in-Leave.is in let e = subst (Does lot n p section) is d in let new = w.leave.new.token in
           let before : IsInside lot n e.0 (Some w.in-Some-take.inside) = search rules in
           let last = record_of lot n e.0 w.in-Some-take.inside _ (last_of new) before w.leave.ensures.recorded in
           let same : view_of new ≡ view_of old = search rules in let gone : w.take.new.self ≡ None = search rules in
           rw (w.token-is, w.section-is ∙ gone, w.reply-is) (came_other lot word p old new None Done (ap is_wordless is) refl same (subst (λ (r : Option Record). Leads lot n p Done owns owns r None) (sym last) (e.3 _ owns)))
-      | in-Sleep+in-None-sleep w ↦ let is = sym c.act.ensures ∙ w.in-Sleep.is in let e = subst (Does lot n p section) is d in
+      | in-Sleep+in-Woken w ↦ let is = sym c.act.ensures ∙ w.in-Sleep.is in let e = subst (Does lot n p section) is d in
           rw (w.token-is, w.section-is, w.reply-is) (came_other lot word p old w.sleep.new.token section (Woken Normal) (ap is_wordless is) refl w.sleep.ensures.own.1 (e.1 owns (last_of w.sleep.new.token)))
+      | in-Sleep+in-Late w ↦ let is = sym c.act.ensures ∙ w.in-Sleep.is in let e = subst (Does lot n p section) is d in let new = w.sleep.new.token in
+          let late = late_told lot word w.late_key.result c.args.limit w.in-Late.inside w.in-Late.field-1 (rw (← w.and.ensures) w.in-Late.ensures.slept) in
+          rw (w.token-is, w.section-is, w.reply-is) (came_other lot word p old new (Some w.in-Late.inside) Late (ap is_wordless is) refl w.sleep.ensures.own.1 (e.2 late.0 (Some w.in-Late.inside) (sym w.late_key.ensures ∙ late.1) late.2 owns (last_of new)))
     ]

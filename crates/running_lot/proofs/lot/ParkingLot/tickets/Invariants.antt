@@ -1,4 +1,4 @@
-use Rattle.std.proofs.Common.{◌≡◌, map, All}
+use Rattle.std.proofs.Common.{◌≡◌, map, length, All}
 use Rattle.std.specs.List.{range_with_len}
 use Rattle.running_lot.specs.Tokens.{IsNewTicket, number_of}
 use Rattle.running_lot.proofs.lot.ParkingLot.tickets.Given as goal
@@ -7,5 +7,6 @@ abbrev pub invariant-loop-number : goal.invariant-loop-number
 invariant-loop-number l = record {
   first : l.first.table_id ≡ l.words.table.shared.table_id;
   numbers : map number_of l.tickets.items ≡ range_with_len 0 l.number;
+  woken : length l.unparkers.items ≡ l.number;
   new : All (IsNewTicket l.words l.seats) l.tickets.items;
 }

@@ -1,0 +1,144 @@
+//! The mutex with its value.
+ghost use Rattle.std.specs.Prelude.{◌≡◌, ◌⊎◌, MatchBool, MatchOption, MatchResult};
+ghost use Rattle.std.specs.Arc.{arc_value};
+
+use crate::guards::MutexGuard;
+use lock_raw::{RawMutex, RawMutexTimed};
+use lot_clocks::Clock;
+use parking_lot_core::Fault;
+use std::sync;
+use std::sync::{Arc, Wait};
+use std::time::Duration;
+
+/// A value that one thread at a time may use. The inner lock is opened only under the raw guard, so nobody ever waits for it.
+#[derive(Drop)]
+pub struct Mutex<R, T> {
+    raw: R,
+    value: sync::Mutex<T>,
+}
+
+impl<R: RawMutex, T> Mutex<R, T> {
+    /// A mutex that nobody has, with its value.
+    ///
+    /// # Errors
+    ///
+    /// `LotFull`, where the lot has no word left, and `NoMemory`, where memory was refused. The value is given back.
+    #[inline]
+    pub fn new(lot: &Arc<R::Lot>, token: &mut R::Token, value: T) -> Result<Mutex<R, T>, (Fault, T)>
+        requires { R.is_token_of (arc_value lot.now) token.old }
+        ensures token { R.is_token_of (arc_value lot.now) token.new }
+        ensures made { MatchResult result (λ mutex. R.lot_of mutex.raw ≡ arc_value lot.now) (λ refused. (refused.1 ≡ value) × ((refused.0 ≡ Fault.NoMemory) ⊎ (refused.0 ≡ Fault.LotFull))) }
+    {
+        match R::new(lot, token) {
+            Ok(raw) => Ok(Mutex {
+                raw,
+                value: sync::Mutex::new(value),
+            }),
+            Err(fault) => Err((fault, value)),
+        }
+    }
+
+    /// Waits until nobody has the mutex, and takes it.
+    #[inline]
+    pub fn lock<W: Wait>(&self, rt: &W, token: &mut R::Token) -> MutexGuard<'_, R, T>
+        requires { R.is_token_of (R.lot_of self.now.raw) token.old }
+        ensures token { R.is_token_of (R.lot_of self.now.raw) token.new }
+        ensures guard { result.taken.lock.now ≡ self.now.raw }
+    {
+        let raw = self.raw.lock(rt, token);
+        self.open(rt, raw)
+    }
+
+    // The guard of who has the raw one.
+    #[inline]
+    fn open<W: Wait>(&self, rt: &W, raw: R::Guard) -> MutexGuard<'_, R, T>
+        requires { R.is_guard_of self.now.raw raw }
+        ensures { result.taken.lock.now ≡ self.now.raw }
+    {
+        MutexGuard::new(&self.raw, raw, self.value.lock(rt))
+    }
+
+    /// Takes the mutex where nobody has it, by one step. None only where that step saw it locked.
+    #[inline]
+    pub fn try_lock<W: Wait>(&self, rt: &W, token: &mut R::Token) -> Option<MutexGuard<'_, R, T>>
+        requires { R.is_token_of (R.lot_of self.now.raw) token.old }
+        ensures token { R.is_token_of (R.lot_of self.now.raw) token.new }
+        ensures guard { MatchOption result (R.saw_locked self.now.raw token.old token.new) (λ guard. guard.taken.lock.now ≡ self.now.raw) }
+    {
+        let raw = self.raw.try_lock(token)?;
+        Some(self.open(rt, raw))
+    }
+
+    /// Whether somebody has the mutex, by one step.
+    #[inline]
+    pub fn is_locked(&self, token: &mut R::Token) -> bool
+        requires { R.is_token_of (R.lot_of self.now.raw) token.old }
+        ensures token { R.is_token_of (R.lot_of self.now.raw) token.new }
+        ensures seen { MatchBool result (R.saw_locked self.now.raw token.old token.new) (R.saw_unlocked self.now.raw token.old token.new) }
+    {
+        self.raw.is_locked(token)
+    }
+}
+
+impl<R: RawMutexTimed, T> Mutex<R, T> {
+    /// Waits until nobody has the mutex, and takes it. None where the time, in nanoseconds of the clock, was over first.
+    ///
+    /// A time that ends past all that a `u64` tells is no limit.
+    #[inline]
+    pub fn try_lock_for<W: Wait, C: Clock>(
+        &self,
+        rt: &W,
+        token: &mut R::Token,
+        clock: &C,
+        timeout: Duration,
+    ) -> Option<MutexGuard<'_, R, T>>
+        requires { R.is_token_of (R.lot_of self.now.raw) token.old }
+        ensures token { R.is_token_of (R.lot_of self.now.raw) token.new }
+        ensures guard { MatchOption result (R.gave_up self.now.raw token.old token.new) (λ guard. guard.taken.lock.now ≡ self.now.raw) }
+    {
+        let raw = self.raw.try_lock_for(rt, token, clock, timeout)?;
+        Some(self.open(rt, raw))
+    }
+
+    /// Waits until nobody has the mutex, and takes it. None where the clock, in nanoseconds, came to the deadline first.
+    #[inline]
+    pub fn try_lock_until<W: Wait, C: Clock>(
+        &self,
+        rt: &W,
+        token: &mut R::Token,
+        clock: &C,
+        deadline: u64,
+    ) -> Option<MutexGuard<'_, R, T>>
+        requires { R.is_token_of (R.lot_of self.now.raw) token.old }
+        ensures token { R.is_token_of (R.lot_of self.now.raw) token.new }
+        ensures guard { MatchOption result (R.gave_up self.now.raw token.old token.new) (λ guard. guard.taken.lock.now ≡ self.now.raw) }
+    {
+        let raw = self.raw.try_lock_until(rt, token, clock, deadline)?;
+        Some(self.open(rt, raw))
+    }
+}
+
+impl<R, T> Mutex<R, T> {
+    /// The raw mutex.
+    #[inline]
+    pub fn raw(&self) -> &R
+        ensures { result.now ≡ self.now.raw }
+    {
+        &self.raw
+    }
+
+    /// The value, of a mutex that nobody else can use meanwhile. It takes no step.
+    #[inline]
+    pub fn get_mut(&mut self) -> &mut T {
+        self.value.get_mut()
+    }
+}
+
+impl<R: Drop, T> Mutex<R, T> {
+    /// The value of a mutex that nobody has. It takes no step.
+    #[inline]
+    pub fn into_inner(self) -> T {
+        let Mutex { raw: _, value } = self;
+        value.into_inner()
+    }
+}

@@ -1,0 +1,77 @@
+//! What the arguments ask for.
+ghost use Rattle.std.specs.Prelude.{◌≡◌, ◌≤◌};
+ghost use Rattle.lotbench.specs.Modes.{IsModeNamed, name_of};
+ghost use Rattle.lotbench.specs.declared.plans.TheConstants.{MOST_THREADS, MOST_OPERATIONS};
+
+/// The most threads.
+pub(crate) const MOST_THREADS: usize = 64;
+
+/// The most operations.
+pub(crate) const MOST_OPERATIONS: u64 = 1_000_000_000_000;
+
+/// What an operation is.
+#[derive(Clone, Copy, Debug, PartialEq, Eq)]
+pub(crate) enum Mode {
+    /// A lock and an unlock of a raw mutex.
+    RawMutex,
+    /// Tries of a raw mutex until one gets it, and an unlock.
+    RawMutexTry,
+    /// The lock of a value, to which 1 is added, and its unlock.
+    Mutex,
+    /// Tries of the lock of a value until one gets it; 1 is added to the value, and it is unlocked.
+    MutexTry,
+}
+
+impl Mode {
+    /// The mode of a name.
+    fn named(name: &str) -> Option<Mode>
+        ensures { IsModeNamed name.now result }
+    {
+        match name {
+            "raw_mutex" => Some(Mode::RawMutex),
+            "raw_mutex_try" => Some(Mode::RawMutexTry),
+            "mutex" => Some(Mode::Mutex),
+            "mutex_try" => Some(Mode::MutexTry),
+            _ => None,
+        }
+    }
+
+    pub(crate) fn name(self) -> &'static str
+        ensures { result.now ≡ name_of self }
+    {
+        match self {
+            Mode::RawMutex => "raw_mutex",
+            Mode::RawMutexTry => "raw_mutex_try",
+            Mode::Mutex => "mutex",
+            Mode::MutexTry => "mutex_try",
+        }
+    }
+}
+
+/// So many operations of a mode, done by so many threads together.
+#[derive(Clone, Copy, Debug, PartialEq, Eq)]
+pub(crate) struct Plan {
+    pub(crate) mode: Mode,
+    pub(crate) threads: usize,
+    pub(crate) operations: u64,
+    ghost some_threads: { (1 ≤ threads) × (threads ≤ MOST_THREADS) },
+    ghost some_operations: { (1 ≤ operations) × (operations ≤ MOST_OPERATIONS) },
+}
+
+/// The plan of three arguments: a mode, how many threads, how many operations.
+pub(crate) fn plan_of(args: &[&str]) -> Option<Plan> {
+    let [mode, threads, operations] = args else {
+        return None;
+    };
+    let mode = Mode::named(mode)?;
+    let threads = threads.parse::<usize>().ok()?;
+    let operations = operations.parse::<u64>().ok()?;
+    if threads == 0 || threads > MOST_THREADS || operations == 0 || operations > MOST_OPERATIONS {
+        return None;
+    }
+    Some(Plan {
+        mode,
+        threads,
+        operations,
+    })
+}

@@ -1,0 +1,218 @@
+//! Plans, carried out by threads.
+ghost use Rattle.std.specs.Prelude.{◌≡◌, ◌≤◌, IfOk, IfSome, All};
+ghost use Rattle.std.specs.Arc.{arc_value};
+ghost use Rattle.running_lot.specs.Tokens.{IsTicketOf, IsTokenOf};
+ghost use Rattle.parking_lot.specs.Driving.{IsGuardOf};
+
+use crate::plans::{Mode, Plan};
+use crate::shares::Shares;
+use parking_lot::{Fault, Mutex, MutexGuard, ParkingLot, RawMutex, Right, Ticket, Token};
+use std::alloc::Global;
+use std::io;
+use std::sync::{Arc, Wait};
+use std::thread::{Threads, map_vec};
+use std::time::{Clock, Instant};
+
+/// What came of a plan.
+#[derive(Clone, Copy, Debug, PartialEq, Eq)]
+pub(crate) struct Figures {
+    pub(crate) nanos: u128,
+    /// How often the lock was taken; in the modes with a value, that value.
+    pub(crate) answer: u64,
+    /// How often the thread took the lock that took it least.
+    pub(crate) low: u64,
+    /// And the one that took it most.
+    pub(crate) high: u64,
+}
+
+// A mutex without a value and one with, of one lot.
+#[derive(Drop)]
+struct Bench {
+    raw: RawMutex,
+    mutex: Mutex<u64>,
+    ghost together: { arc_value mutex.raw.lot ≡ arc_value raw.lot },
+}
+
+fn one_of(lot: &ParkingLot, tickets: &mut Vec<Ticket>) -> Option<Ticket>
+    requires { All (IsTicketOf lot.now) tickets.old.items }
+    ensures left { All (IsTicketOf lot.now) tickets.new.items }
+    ensures one { IfSome result (IsTicketOf lot.now) }
+{
+    tickets.pop()
+}
+
+fn put_back(lot: &ParkingLot, tickets: &mut Vec<Ticket>, ticket: Ticket) -> Result<(), Fault>
+    requires { All (IsTicketOf lot.now) tickets.old.items × IsTicketOf lot.now ticket }
+    ensures { All (IsTicketOf lot.now) tickets.new.items }
+{
+    match tickets.push(ticket) {
+        Ok(()) => Ok(()),
+        Err(_) => Err(Fault::NoMemory),
+    }
+}
+
+// The mutexes, drawn from the lot by the thread of a ticket.
+fn bench_by(lot: &Arc<ParkingLot>, ticket: Ticket) -> Result<(Bench, Ticket), Fault>
+    requires { IsTicketOf (arc_value lot.now) ticket }
+    ensures { IfOk result (λ made. (arc_value made.0.raw.lot ≡ arc_value lot.now) × IsTicketOf (arc_value lot.now) made.1) }
+{
+    let mut token = ticket.enter();
+    let raw = RawMutex::new(lot, &mut token)?;
+    match Mutex::new(lot, &mut token, 0) {
+        Ok(mutex) => Ok((Bench { raw, mutex }, token.leave())),
+        Err((fault, _)) => Err(fault),
+    }
+}
+
+// A lot with so many threads, and mutexes of it.
+fn bench_for(alloc: Global, threads: usize) -> Result<(Bench, Vec<Ticket>), Fault>
+    requires { (1 ≤ threads) × (threads ≤ 64) }
+    ensures { IfOk result (λ made. All (IsTicketOf (arc_value made.0.raw.lot)) made.1.items) }
+{
+    let (lot, mut tickets) = ParkingLot::new(alloc, 2, threads)?;
+    let Some(first) = one_of(&lot, &mut tickets) else {
+        return Err(Fault::NoMemory);
+    };
+    let (bench, first) = bench_by(&lot, first)?;
+    put_back(&lot, &mut tickets, first)?;
+    Ok((bench, tickets))
+}
+
+#[inline]
+fn raw_by_tries<R: Wait>(rt: &R, mutex: &RawMutex, token: &mut Token) -> Right
+    requires { IsTokenOf (arc_value mutex.now.lot) token.old }
+    ensures token { IsTokenOf (arc_value mutex.now.lot) token.new }
+    ensures guard { IsGuardOf (arc_value mutex.now.lot) mutex.now.word result }
+{
+    for _ in rt.forever() {
+        if let Some(guard) = mutex.try_lock(token) {
+            return guard;
+        }
+    }
+    unreachable!()
+}
+
+#[inline]
+fn guard_by_tries<'a, R: Wait>(
+    rt: &R,
+    mutex: &'a Mutex<u64>,
+    token: &mut Token,
+) -> MutexGuard<'a, u64>
+    requires { IsTokenOf (arc_value mutex.now.raw.lot) token.old }
+    ensures token { IsTokenOf (arc_value mutex.now.raw.lot) token.new }
+    ensures guard { result.taken.lock.now ≡ mutex.now.raw }
+{
+    for _ in rt.forever() {
+        if let Some(guard) = mutex.try_lock(rt, token) {
+            return guard;
+        }
+    }
+    unreachable!()
+}
+
+fn lock_raw<R: Wait>(rt: &R, mutex: &RawMutex, token: &mut Token, times: u64)
+    requires { IsTokenOf (arc_value mutex.now.lot) token.old }
+    ensures { IsTokenOf (arc_value mutex.now.lot) token.new }
+{
+    for _ in 0..times {
+        let guard = mutex.lock(rt, token);
+        mutex.unlock(rt, token, guard);
+    }
+}
+
+fn try_raw<R: Wait>(rt: &R, mutex: &RawMutex, token: &mut Token, times: u64)
+    requires { IsTokenOf (arc_value mutex.now.lot) token.old }
+    ensures { IsTokenOf (arc_value mutex.now.lot) token.new }
+{
+    for _ in 0..times {
+        let guard = raw_by_tries(rt, mutex, token);
+        mutex.unlock(rt, token, guard);
+    }
+}
+
+fn lock_value<R: Wait>(rt: &R, mutex: &Mutex<u64>, token: &mut Token, times: u64)
+    requires { IsTokenOf (arc_value mutex.now.raw.lot) token.old }
+    ensures { IsTokenOf (arc_value mutex.now.raw.lot) token.new }
+{
+    for _ in 0..times {
+        let mut guard = mutex.lock(rt, token);
+        *guard = guard.wrapping_add(1);
+        guard.unlock(rt, token);
+    }
+}
+
+fn try_value<R: Wait>(rt: &R, mutex: &Mutex<u64>, token: &mut Token, times: u64)
+    requires { IsTokenOf (arc_value mutex.now.raw.lot) token.old }
+    ensures { IsTokenOf (arc_value mutex.now.raw.lot) token.new }
+{
+    for _ in 0..times {
+        let mut guard = guard_by_tries(rt, mutex, token);
+        *guard = guard.wrapping_add(1);
+        guard.unlock(rt, token);
+    }
+}
+
+// Does operations until none is left. How many it did.
+fn work<R: Wait>(rt: &R, mode: Mode, bench: &Bench, ticket: Ticket, shares: &Shares) -> u64
+    requires { IsTicketOf (arc_value bench.now.raw.lot) ticket }
+{
+    let mut token = ticket.enter();
+    let mut done = 0u64;
+    for _ in rt.forever() {
+        let times = shares.take();
+        if times == 0 {
+            break;
+        }
+        match mode {
+            Mode::RawMutex => lock_raw(rt, &bench.raw, &mut token, times),
+            Mode::RawMutexTry => try_raw(rt, &bench.raw, &mut token, times),
+            Mode::Mutex => lock_value(rt, &bench.mutex, &mut token, times),
+            Mode::MutexTry => try_value(rt, &bench.mutex, &mut token, times),
+        }
+        done = done.saturating_add(times);
+    }
+    drop(token.leave());
+    done
+}
+
+fn answer_of(mode: Mode, bench: Bench, counts: &[u64]) -> u64 {
+    match mode {
+        Mode::RawMutex | Mode::RawMutexTry => counts
+            .iter()
+            .fold(0u64, |all, count| all.saturating_add(*count)),
+        Mode::Mutex | Mode::MutexTry => bench.mutex.into_inner(),
+    }
+}
+
+/// Carries out a plan. The inner error is the clock's.
+pub(crate) fn carry_out<R: Threads + Wait + Sync + Clock>(
+    rt: &R,
+    alloc: Global,
+    plan: Plan,
+) -> Result<io::Result<Figures>, Fault> {
+    let Plan {
+        mode,
+        threads,
+        operations,
+    } = plan;
+    let (bench, tickets) = bench_for(alloc, threads)?;
+    let shares = Shares::new(operations);
+    let started = match Instant::now(rt) {
+        Ok(started) => started,
+        Err(e) => return Ok(Err(e)),
+    };
+    let (shared, left) = (&bench, &shares);
+    let Ok(counts) = map_vec(rt, tickets, &|ticket| work(rt, mode, shared, ticket, left)) else {
+        return Err(Fault::NoMemory);
+    };
+    let nanos = match started.elapsed(rt) {
+        Ok(elapsed) => elapsed.as_nanos(),
+        Err(e) => return Ok(Err(e)),
+    };
+    Ok(Ok(Figures {
+        nanos,
+        answer: answer_of(mode, bench, counts.as_slice()),
+        low: counts.iter().copied().min().unwrap_or(0),
+        high: counts.iter().copied().max().unwrap_or(0),
+    }))
+}

@@ -1,0 +1,70 @@
+//! What the program does for its arguments.
+use crate::plans::{Plan, plan_of};
+use crate::runs::{Figures, carry_out};
+use parking_lot::Fault;
+use std::alloc::Global;
+use std::io;
+use std::sync::Wait;
+use std::thread::Threads;
+use std::time::Clock;
+
+/// The plan was carried out, or there was none to carry out.
+pub(crate) const DONE: u8 = 0;
+
+/// The arguments are of another form.
+pub(crate) const MALFORMED: u8 = 2;
+
+/// Memory or a thread was refused.
+pub(crate) const NO_MEMORY: u8 = 3;
+
+/// The clock, a read or a write failed.
+pub(crate) const BROKEN: u8 = 4;
+
+const USAGE: &str = "usage: lotbench raw_mutex|raw_mutex_try|mutex|mutex_try THREADS N";
+
+/// Carries out the plan of the arguments and tells its figures, and gives the status of the process.
+pub(crate) fn start<R: Threads + Wait + Sync + Clock + Print + Eprint>(
+    rt: &R,
+    alloc: Global,
+    args: &[&str],
+) -> io::Result<u8> {
+    if args.is_empty() {
+        println!(rt; "{}", USAGE)?;
+        return Ok(DONE);
+    }
+    let Some(plan) = plan_of(args) else {
+        eprintln!(rt;
+            "lotbench: no such plan; {}, 1 to 64 threads, 1 to 10^12 operations",
+            USAGE
+        )?;
+        return Ok(MALFORMED);
+    };
+    match carry_out(rt, alloc, plan) {
+        Ok(told) => {
+            tell(rt, plan, told?)?;
+            Ok(DONE)
+        }
+        Err(Fault::NoMemory) => {
+            eprintln!(rt; "lotbench: no memory, or no thread could be started")?;
+            Ok(NO_MEMORY)
+        }
+        Err(_) => Ok(BROKEN),
+    }
+}
+
+// MODE THREADS N NANOS ANSWER LOW HIGH
+fn tell(rt: &impl Print, plan: Plan, told: Figures) -> io::Result<()> {
+    let mode = plan.mode.name();
+    let Plan {
+        mode: _,
+        threads,
+        operations,
+    } = plan;
+    let Figures {
+        nanos,
+        answer,
+        low,
+        high,
+    } = told;
+    println!(rt; "{mode} {threads} {operations} {nanos} {answer} {low} {high}")
+}

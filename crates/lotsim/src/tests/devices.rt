@@ -1,0 +1,76 @@
+//! Readers and writers that work in pieces, are interrupted, and fail.
+use std::alloc::Global;
+use std::io;
+use std::io::{BufRead, ErrorKind, Read, Write};
+
+/// Takes `room` bytes, a few at a time, is interrupted now and then, and then fails.
+#[derive(Drop)]
+pub struct Short {
+    pub taken: Vec<u8>,
+    room: usize,
+    calls: u8,
+}
+
+impl Short {
+    pub fn new(alloc: Global, room: usize) -> Short {
+        Short {
+            taken: Vec::new(alloc),
+            room,
+            calls: 0,
+        }
+    }
+}
+
+impl Write for Short {
+    fn write(&mut self, buf: &[u8]) -> io::Result<usize> {
+        self.calls = self.calls.wrapping_add(1);
+        if self.calls % 3 == 0 {
+            return Err(io::Error::from(ErrorKind::Interrupted));
+        }
+        let n = buf.len().min(self.room).min(100);
+        if n == 0 {
+            return Err(io::Error::from(ErrorKind::BrokenPipe));
+        }
+        self.taken.extend_from_slice(&buf[..n])?;
+        self.room -= n;
+        Ok(n)
+    }
+
+    fn flush(&mut self) -> io::Result<()> {
+        Ok(())
+    }
+}
+
+/// Shows a piece of its bytes at a time, is interrupted now and then, and fails behind them, if it is to.
+#[derive(Drop)]
+pub struct Pieces<'a> {
+    pub bytes: &'a [u8],
+    pub len: usize,
+    pub is_broken: bool,
+    pub looks: u8,
+}
+
+impl Read for Pieces<'_> {
+    fn read(&mut self, _buf: &mut [u8]) -> io::Result<usize> {
+        Err(io::Error::from(ErrorKind::Unsupported))
+    }
+}
+
+impl BufRead for Pieces<'_> {
+    fn fill_buf(&mut self) -> io::Result<&[u8]> {
+        self.looks = self.looks.wrapping_add(1);
+        if self.looks % 3 == 0 {
+            return Err(io::Error::from(ErrorKind::Interrupted));
+        }
+        if self.bytes.is_empty() && self.is_broken {
+            return Err(io::Error::from(ErrorKind::ConnectionReset));
+        }
+        let n = self.bytes.len().min(self.len);
+        Ok(&self.bytes[..n])
+    }
+
+    fn consume(&mut self, amount: usize) {
+        let n = amount.min(self.bytes.len());
+        self.bytes = &self.bytes[n..];
+    }
+}
