@@ -4,7 +4,7 @@
 ghost use Rattle.std.specs.Prelude.{◌≡◌, ◌⊎◌, MatchBool, MatchOption, MatchResult};
 ghost use Rattle.std.specs.Arc.{arc_value};
 
-use lot_clocks::Clock;
+use lot_clocks::{Clock, to_deadline};
 use parking_lot_core::Fault;
 use std::sync::{Arc, Wait};
 use std::time::Duration;
@@ -84,7 +84,13 @@ pub trait RawMutexTimed: RawMutex {
     ) -> Option<Self::Guard>
         requires { Self.is_token_of (Self.lot_of self.now) token.old }
         ensures token { Self.is_token_of (Self.lot_of self.now) token.new }
-        ensures guard { MatchOption result (gave_up self.now token.old token.new) (Self.is_guard_of self.now) };
+        ensures guard { MatchOption result (gave_up self.now token.old token.new) (Self.is_guard_of self.now) }
+    {
+        match to_deadline(clock.now(), timeout) {
+            Some(deadline) => self.try_lock_until(rt, token, clock, deadline),
+            None => Some(self.lock(rt, token)),
+        }
+    }
 
     /// Waits until nobody has the mutex, and takes it. None where the clock came to the deadline first.
     fn try_lock_until<R: Wait, C: Clock>(

@@ -5,3 +5,4 @@ pub mod Trades
 pub mod Keeps
 pub mod MutexSteps
 mod Alone
+mod AtWord

@@ -3,3 +3,4 @@ pub mod Paths
 pub mod Coming
 pub mod Sleeping
 pub mod Ending
+pub mod Entering

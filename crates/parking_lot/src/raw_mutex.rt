@@ -319,17 +319,6 @@ impl lock_raw::RawMutexTimed for RawMutex {
     ghost gave_up = { λ mutex old new. GaveUp mutex.word.number (view_of old).steps (view_of new).steps };
 
     #[inline]
-    fn try_lock_for<R: Wait, C: Clock>(
-        &self,
-        rt: &R,
-        token: &mut Token,
-        clock: &C,
-        timeout: Duration,
-    ) -> Option<Right> {
-        self.try_lock_for(rt, token, clock, timeout)
-    }
-
-    #[inline]
     fn try_lock_until<R: Wait, C: Clock>(
         &self,
         rt: &R,

@@ -7,15 +7,13 @@ ghost use Rattle.std.specs.Prelude.{◌≡◌, All, IfOk, IfSome};
 ghost use Rattle.std.specs.Arc.{arc_value};
 ghost use Rattle.running_lot.specs.Tokens.{IsTicketOf, IsTokenOf};
 
-use crate::{Fault, ParkingLot, RawMutex, Ticket, lock_raw};
+use crate::{Fault, ParkingLot, RawMutex, Ticket};
 use std::alloc::Global;
 use std::sync::atomic::Ordering::SeqCst;
-use std::sync::atomic::{AtomicBool, AtomicU64, AtomicUsize};
+use std::sync::atomic::{AtomicBool, AtomicUsize};
 use std::sync::{Arc, Wait};
 use std::test::Fail;
 use std::thread::{Threads, join, yield_now};
-
-const TIMES: u64 = 1000;
 
 const TURNS: usize = 1_000_000;
 
@@ -184,111 +182,5 @@ fn a_release_wakes_who_waits(rt: HostRuntime) -> Result<(), Fail> {
     let (lot, mutex, (one, other, _third)) = three_seats(rt.alloc())?;
     let ended = hold_and_wait(&rt, &lot, &mutex, one, other);
     assert_eq!(rt; ended, (true, true));
-    Ok(())
-}
-
-// Adds 1 under a mutex.
-fn add_one<M: lock_raw::RawMutex, R: Wait>(
-    rt: &R,
-    mutex: &M,
-    token: &mut M::Token,
-    hits: &AtomicU64,
-)
-    requires { M.is_token_of (M.lot_of mutex.now) token.old }
-    ensures { M.is_token_of (M.lot_of mutex.now) token.new }
-{
-    let guard = mutex.lock(rt, token);
-    let seen = hits.load(SeqCst);
-    hits.store(seen.wrapping_add(1), SeqCst);
-    mutex.unlock(rt, token, guard);
-}
-
-fn add_many<R: Wait>(rt: &R, mutex: &RawMutex, ticket: Ticket, hits: &AtomicU64)
-    requires { IsTicketOf (arc_value mutex.now.lot) ticket }
-{
-    let mut token = ticket.enter();
-    for _ in 0..TIMES {
-        add_one(rt, mutex, &mut token, hits);
-    }
-    drop(token.leave());
-}
-
-fn three_add<R: Threads + Wait + Sync>(
-    rt: &R,
-    mutex: &RawMutex,
-    one: Ticket,
-    other: Ticket,
-    third: Ticket,
-    hits: &AtomicU64,
-)
-    requires { IsTicketOf (arc_value mutex.now.lot) one × IsTicketOf (arc_value mutex.now.lot) other × IsTicketOf (arc_value mutex.now.lot) third }
-{
-    join(
-        rt,
-        move || add_many(rt, mutex, one, hits),
-        move ||
-            requires { IsTicketOf (arc_value mutex.now.lot) other × IsTicketOf (arc_value mutex.now.lot) third }
-        { two_add(rt, mutex, other, third, hits) },
-    );
-}
-
-fn two_add<R: Threads + Wait + Sync>(
-    rt: &R,
-    mutex: &RawMutex,
-    one: Ticket,
-    other: Ticket,
-    hits: &AtomicU64,
-)
-    requires { IsTicketOf (arc_value mutex.now.lot) one × IsTicketOf (arc_value mutex.now.lot) other }
-{
-    join(
-        rt,
-        move || add_many(rt, mutex, one, hits),
-        move || add_many(rt, mutex, other, hits),
-    );
-}
-
-fn both_add<R: Threads + Wait + Sync>(
-    rt: &R,
-    mutex: &RawMutex,
-    here: (Ticket, Ticket, Ticket),
-    there: (Ticket, Ticket, Ticket),
-    hits: &AtomicU64,
-)
-    requires here { IsTicketOf (arc_value mutex.now.lot) here.0 × IsTicketOf (arc_value mutex.now.lot) here.1 × IsTicketOf (arc_value mutex.now.lot) here.2 }
-    requires there { IsTicketOf (arc_value mutex.now.lot) there.0 × IsTicketOf (arc_value mutex.now.lot) there.1 × IsTicketOf (arc_value mutex.now.lot) there.2 }
-{
-    let (a, b, c) = here;
-    let (d, e, f) = there;
-    join(
-        rt,
-        move ||
-            requires { IsTicketOf (arc_value mutex.now.lot) a × IsTicketOf (arc_value mutex.now.lot) b × IsTicketOf (arc_value mutex.now.lot) c }
-        { three_add(rt, mutex, a, b, c, hits) },
-        move ||
-            requires { IsTicketOf (arc_value mutex.now.lot) d × IsTicketOf (arc_value mutex.now.lot) e × IsTicketOf (arc_value mutex.now.lot) f }
-        { three_add(rt, mutex, d, e, f, hits) },
-    );
-}
-
-// A lot with six threads, all of which add under one mutex of it.
-fn six_add<R: Threads + Wait + Sync>(rt: &R, alloc: Global, hits: &AtomicU64) -> Result<(), Fault> {
-    let (lot, mut tickets) = ParkingLot::new(alloc, 1, 6)?;
-    let (Some(three), Some((one, other, third))) = (
-        three_of(&lot, &mut tickets),
-        three_of(&lot, &mut tickets),
-    ) else {
-        return Err(Fault::NoMemory);
-    };
-    let (mutex, one) = mutex_by(&lot, one)?;
-    both_add(rt, &mutex, three, (one, other, third), hits);
-    Ok(())
-}
-
-#[test]
-fn six_threads_add(rt: HostRuntime) -> Result<(), Fail> {
-    let hits = AtomicU64::new(0);
-    six_add(&rt, rt.alloc(), &hits)?;
-    assert_eq!(rt; hits.load(SeqCst), 6 * TIMES);
     Ok(())
 }

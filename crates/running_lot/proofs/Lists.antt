@@ -20,6 +20,6 @@ pub numbers_more : {A : Type 0} (f : A → ℕ) (xs ys : List A) (x : A) (n : �
 numbers_more f xs ys x n e h all = let z : n ≡ 0 + n = omega arith in let one : suc n ≡ n + 1 = omega arith in
     ap (map f) e ∙ map-append f xs (x ∷ []) ∙ ap (λ zs. zs ++ f x ∷ []) all ∙ ap (λ k. range_with_len 0 n ++ k ∷ []) (h ∙ z) ∙ range_more 0 n ∙ ap (range_with_len 0) one
 
--- letters that have no right fit each key
+-- records that have no right fit each key
 pub all_empty : {A B : Type 0} (right : A → Option B) (fits : B → Type 0) (xs : List (Option A)) → All (IsFull (λ (a : A). right a ≡ None)) xs → All (IsFull (λ (a : A). IfSome (right a) fits)) xs
 all_empty right fits xs all k d h = let t = all k d h in (t.0, t.1, subst (λ o. IfSome o fits) (sym t.2) tt)

@@ -10,10 +10,10 @@ use Rattle.running_lot.specs.declared.tokens.Ticket.{Ticket}
 use Rattle.running_lot.specs.declared.tokens.Token.{Token}
 
 abbrev pub IsTicketOf : ParkingLot → Ticket → Type 0
-IsTicketOf lot ticket = IsSeatOf lot.words ticket.seat × (ticket.number < lot.letters.count)
+IsTicketOf lot ticket = IsSeatOf lot.words ticket.seat × (ticket.number < lot.records.count)
 
 abbrev pub IsTokenOf : ParkingLot → Token → Type 0
-IsTokenOf lot token = IsSeatOf lot.words token.seat × (token.number < lot.letters.count)
+IsTokenOf lot token = IsSeatOf lot.words token.seat × (token.number < lot.records.count)
 
 -- what a thread has done, and what it owns
 abbrev pub view_of : Token → View
@@ -35,4 +35,4 @@ abbrev pub IsNewTicket : LotWords → ℕ → Ticket → Type 0
 IsNewTicket words seats ticket = IsSeatOf words ticket.seat × (ticket.number < seats) × (ticket.seat.me ≡ (blank, []))
 
 abbrev pub IsNewTicketOf : ParkingLot → Ticket → Type 0
-IsNewTicketOf lot ticket = IsNewTicket lot.words lot.letters.count ticket
+IsNewTicketOf lot ticket = IsNewTicket lot.words lot.records.count ticket

@@ -2,7 +2,6 @@
 #![tactic(auto)]
 
 pub mod lot;
-pub mod queueing;
 pub mod sections;
 pub mod sleep;
 pub mod tokens;

@@ -5,11 +5,11 @@ ghost use Rattle.std.specs.Arc.{arc_value};
 ghost use Rattle.keyed_locks.specs.Guards.{IsFull};
 ghost use Rattle.lot_words.specs.Places.{most_words};
 
-use crate::queueing::Queueing;
 use crate::tokens::Ticket;
-use crate::waiters::Letter;
+use crate::waiters::WakeRecord;
 use crossbeam_utils::sync::{Parker, Unparker};
 use keyed_locks::KeyedLocks;
+use lot_queues::Queueing;
 use lot_words::{LotWords, Seat};
 use parking_lot_core::Fault;
 use std::alloc::{AllocError, Global};
@@ -21,22 +21,22 @@ use std::sync::{Arc, Mutex};
 pub struct ParkingLot {
     pub(crate) words: LotWords,
     pub(crate) queueing: Mutex<Queueing>,
-    pub(crate) letters: KeyedLocks<Seat, Letter>,
+    pub(crate) records: KeyedLocks<Seat, WakeRecord>,
     pub(crate) unparkers: Vec<Unparker>,
     // Of a thread that was taken, the one that was taken next with it.
     pub(crate) next_taken: Vec<AtomicUsize>,
-    ghost keyed: { letters.table.shared.key.table_id ≡ words.table.shared.table_id },
-    ghost for_each_seat: { (length unparkers.items ≡ letters.count) × (length next_taken.items ≡ letters.count) },
+    ghost keyed: { records.table.shared.key.table_id ≡ words.table.shared.table_id },
+    ghost for_each_seat: { (length unparkers.items ≡ records.count) × (length next_taken.items ≡ records.count) },
 }
 
-fn empty_letters(alloc: Global, seats: usize) -> Result<Vec<Option<Letter>>, AllocError>
-    ensures { IfOk result (λ letters. (length letters.items ≡ seats) × All (IsFull (λ letter. letter.right ≡ None)) letters.items) }
+fn empty_records(alloc: Global, seats: usize) -> Result<Vec<Option<WakeRecord>>, AllocError>
+    ensures { IfOk result (λ records. (length records.items ≡ seats) × All (IsFull (λ wake_record. wake_record.right ≡ None)) records.items) }
 {
-    let mut letters = Vec::with_capacity(alloc, seats)?;
+    let mut records = Vec::with_capacity(alloc, seats)?;
     for _ in 0..seats {
-        letters.push(Some(Letter::empty()))?;
+        records.push(Some(WakeRecord::empty()))?;
     }
-    Ok(letters)
+    Ok(records)
 }
 
 fn no_links(alloc: Global, seats: usize) -> Result<Vec<AtomicUsize>, AllocError>
@@ -81,16 +81,16 @@ impl ParkingLot {
         queueing: Queueing,
     ) -> Result<(Arc<ParkingLot>, Vec<Ticket>), AllocError>
         requires { (0 < words) × (words ≤ most_words) }
-        ensures lot { IfOk result (λ made. ((arc_value made.0).words.count ≡ words) × ((arc_value made.0).letters.count ≡ seats)) }
+        ensures lot { IfOk result (λ made. ((arc_value made.0).words.count ≡ words) × ((arc_value made.0).records.count ≡ seats)) }
         ensures tickets { IfOk result (λ made. (map number_of made.1.items ≡ range_with_len 0 seats) × All (IsNewTicketOf (arc_value made.0)) made.1.items) }
     {
         let (words, first) = LotWords::new(alloc, words)?;
-        let letters = KeyedLocks::new(alloc, empty_letters(alloc, seats)?, &first)?;
+        let records = KeyedLocks::new(alloc, empty_records(alloc, seats)?, &first)?;
         let (tickets, unparkers) = ParkingLot::tickets(alloc, &words, first, seats)?;
         let lot = ParkingLot {
             words,
             queueing: Mutex::new(queueing),
-            letters,
+            records,
             unparkers,
             next_taken: no_links(alloc, seats)?,
         };
@@ -118,7 +118,7 @@ impl ParkingLot {
     ) -> Result<(Arc<ParkingLot>, Vec<Ticket>), Fault>
         requires words { (0 < words) × (words ≤ most_words) }
         requires seats { (0 < seats) × (seats ≤ 1024) }
-        ensures lot { IfOk result (λ made. ((arc_value made.0).words.count ≡ words) × ((arc_value made.0).letters.count ≡ seats)) }
+        ensures lot { IfOk result (λ made. ((arc_value made.0).words.count ≡ words) × ((arc_value made.0).records.count ≡ seats)) }
         ensures tickets { IfOk result (λ made. (map number_of made.1.items ≡ range_with_len 0 seats) × All (IsNewTicketOf (arc_value made.0)) made.1.items) }
         ensures err { IfErr result (λ fault. fault ≡ Fault.NoMemory) }
     {

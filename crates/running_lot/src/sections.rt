@@ -12,10 +12,10 @@ ghost use Rattle.running_lot.specs.declared.tokens.Did.TheVariants.{Nothing, Tak
 ghost use Rattle.parking_lot_core.specs.declared.notes.Note.TheVariants.{HandOff};
 
 use crate::lot::ParkingLot;
-use crate::queueing::Queueing;
 use crate::tokens::{Did, Record, Token};
+use lot_queues::Queueing;
 use lot_words::Right;
-use parking_lot_core::{Key, Keys, Note, Queues, Requeue, Want};
+use parking_lot_core::{Key, Keys, Note, Requeue, Want};
 use std::sync::atomic::Ordering::SeqCst;
 use std::sync::{MutexGuard, Wait};
 
@@ -31,7 +31,7 @@ pub struct Section<'a> {
     did: Did,
     // How many it moved to another queue.
     moved: usize,
-    ghost seated: { (mutex_guard_value queueing).seats ≡ lot.now.letters.count },
+    ghost seated: { (mutex_guard_value queueing).seats ≡ lot.now.records.count },
     ghost fresh: { did ≡ Nothing → ((mutex_guard_value queueing).taken.items ≡ []) × ((mutex_guard_value queueing).rightless.items ≡ []) × (moved ≡ 0) },
     ghost few: { moved ≤ (mutex_guard_value queueing).seats },
 }
@@ -60,7 +60,7 @@ impl ParkingLot {
     {
         let mut queueing = self.queueing.lock(rt);
         queueing.begin();
-        if queueing.seats != self.letters.len() {
+        if queueing.seats() != self.records.len() {
             never(rt)
         }
         Section {
@@ -101,10 +101,10 @@ impl ParkingLot {
     }
 
     fn wake<R: Wait>(&self, rt: &R, thread: usize, note: Note) {
-        if thread < self.letters.len() {
-            let (mut letter, held) = self.letters.take(rt, thread);
-            letter.note = Some(note);
-            self.letters.give_back(letter, held);
+        if thread < self.records.len() {
+            let (mut wake_record, held) = self.records.take(rt, thread);
+            wake_record.note = Some(note);
+            self.records.give_back(wake_record, held);
         }
         if let Some(unparker) = self.unparkers.get(thread) {
             unparker.unpark();
@@ -133,11 +133,11 @@ impl<'a> Section<'a> {
     /// Puts a thread behind the last under a key. One that stands somewhere leaves that place first.
     pub fn append(&mut self, key: Key, thread: usize, want: Want)
         requires key { IsKeyOf self.old.keys key }
-        requires thread { thread < self.old.lot.now.letters.count }
+        requires thread { thread < self.old.lot.now.records.count }
         ensures lines { lines (waiting_in self.new) ≡ lines (without thread (waiting_in self.old) ++ waiter key thread want ∷ []) }
         ensures same { StaysIn self.old self.new × (self.new.did ≡ self.old.did) × (taken_in self.new ≡ taken_in self.old) × (rightless_in self.new ≡ rightless_in self.old) × (moved_in self.new ≡ moved_in self.old) }
     {
-        self.queueing.queues.append(key, thread, want);
+        self.queueing.append(key, thread, want);
     }
 
     /// Removes a thread from where it stands.
@@ -145,7 +145,7 @@ impl<'a> Section<'a> {
         ensures lines { lines (waiting_in self.new) ≡ lines (without thread (waiting_in self.old)) }
         ensures same { StaysIn self.old self.new × (self.new.did ≡ self.old.did) × (taken_in self.new ≡ taken_in self.old) × (rightless_in self.new ≡ rightless_in self.old) × (moved_in self.new ≡ moved_in self.old) }
     {
-        self.queueing.queues.remove(thread);
+        self.queueing.remove(thread);
     }
 
     /// Takes the first under a key.
@@ -211,21 +211,21 @@ impl<'a> Section<'a> {
         requires { IsKeyOf self.now.keys key }
         ensures { result ≡ length (line key (waiting_in self.now)) }
     {
-        self.queueing.queues.count(key)
+        self.queueing.count(key)
     }
 
     /// The key under which a thread stands.
     pub fn key_of(&self, thread: usize) -> Option<Key>
         ensures { result ≡ key_of thread (waiting_in self.now) }
     {
-        self.queueing.queues.key_of(thread)
+        self.queueing.key_of(thread)
     }
 
     /// Whom the section took, in order.
     pub fn taken(&self) -> &[usize]
         ensures { result.now ≡ taken_in self.now }
     {
-        self.queueing.taken.as_slice()
+        self.queueing.taken()
     }
 
     /// Lays a right in the record of a thread that the section took. A right that lies there already goes with the lot.
@@ -236,7 +236,7 @@ impl<'a> Section<'a> {
         ensures same { StaysIn self.old self.new × (self.new.did ≡ self.old.did) × (taken_in self.new ≡ taken_in self.old) × (moved_in self.new ≡ moved_in self.old) × (waiting_in self.new ≡ waiting_in self.old) }
     {
         self.lot.lay(rt, thread, right);
-        self.queueing.has_right(thread);
+        self.queueing.note_right(thread);
     }
 
     /// Leaves. Whom the section took gets the note and is woken, and the token keeps the record of it.
@@ -253,8 +253,8 @@ impl<'a> Section<'a> {
             did,
             moved,
         } = self;
-        let taken = queueing.taken.len();
-        let first = lot.tie(queueing.taken.as_slice());
+        let taken = queueing.taken().len();
+        let first = lot.tie(queueing.taken());
         drop(queueing);
         token.record = Record {
             key: first_of_keys(keys),

@@ -6,7 +6,7 @@ use crate::sections::Section;
 use crate::tokens::Token;
 use lot_clocks::Clock;
 use lot_words::{Right, Word};
-use parking_lot_core::{Key, Keys, Note, Queues, Want};
+use parking_lot_core::{Key, Keys, Note, Want};
 use std::sync::Wait;
 
 /// How a sleep ended.
@@ -32,19 +32,19 @@ impl ParkingLot {
         word: Word,
         want: Want,
     ) -> Option<Slept<'a>>
-        requires { thread < self.now.letters.count }
+        requires { thread < self.now.records.count }
         ensures { IfSome result (IsWoken self.now word want) }
     {
-        let (mut letter, held) = self.letters.take(rt, thread);
-        let told = match letter.note.take() {
+        let (mut wake_record, held) = self.records.take(rt, thread);
+        let told = match wake_record.note.take() {
             Some(Note::Normal) => Some(Slept::Woken),
-            Some(Note::HandOff) => match letter.take_right(word, want) {
+            Some(Note::HandOff) => match wake_record.take_right(word, want) {
                 Some(right) => Some(Slept::Handed(right)),
                 None => None,
             },
             None => None,
         };
-        self.letters.give_back(letter, held);
+        self.records.give_back(wake_record, held);
         told
     }
 

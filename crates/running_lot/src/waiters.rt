@@ -9,24 +9,22 @@ use parking_lot_core::{Note, Want};
 use std::sync::Wait;
 
 /// A waiter's record: its wake note, and a right that was handed to it.
-pub struct Letter {
+pub struct WakeRecord {
     pub(crate) note: Option<Note>,
     pub(crate) right: Option<Right>,
 }
 
-impl Letter {
-    pub(crate) fn empty() -> Letter
+impl WakeRecord {
+    ghost use Rattle.std.specs.Prelude.{Some, ◌⊎◌};
+
+    pub(crate) fn empty() -> WakeRecord
         ensures { result.right ≡ None }
     {
-        Letter {
+        WakeRecord {
             note: None,
             right: None,
         }
     }
-}
-
-impl Letter {
-    ghost use Rattle.std.specs.Prelude.{Some, ◌⊎◌};
 
     // Takes the right out, if it names this word and want.
     pub(crate) fn take_right(&mut self, word: Word, want: Want) -> Option<Right>
@@ -45,7 +43,7 @@ impl Letter {
 }
 
 // A right that lies in a record goes with the lot.
-impl Drop for Letter {
+impl Drop for WakeRecord {
     fn drop(self) {
         let Self { note: _, right } = self;
         if let Some(right) = right {
@@ -55,8 +53,8 @@ impl Drop for Letter {
 }
 
 // The key is a seat of the lot whose rights may lie here.
-impl Keyed<Seat> for Letter {
-    ghost fits = { λ key letter. IfSome letter.right (FitsTable key.table_id) };
+impl Keyed<Seat> for WakeRecord {
+    ghost fits = { λ key wake_record. IfSome wake_record.right (FitsTable key.table_id) };
 }
 
 impl ParkingLot {
@@ -67,14 +65,14 @@ impl ParkingLot {
     pub(crate) fn lay<R: Wait>(&self, rt: &R, thread: usize, right: Right)
         requires { IsRightOf self.now.words right }
     {
-        if thread >= self.letters.len() {
+        if thread >= self.records.len() {
             right.forget();
             return;
         }
-        let (mut letter, held) = self.letters.take(rt, thread);
-        if let Some(before) = letter.right.replace(right) {
+        let (mut wake_record, held) = self.records.take(rt, thread);
+        if let Some(before) = wake_record.right.replace(right) {
             before.forget();
         }
-        self.letters.give_back(letter, held);
+        self.records.give_back(wake_record, held);
     }
 }

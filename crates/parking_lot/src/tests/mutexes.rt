@@ -4,7 +4,6 @@ ghost use Rattle.std.specs.Arc.{arc_value};
 ghost use Rattle.std.specs.Sync.Mutex.{mutex_guard_value};
 ghost use Rattle.running_lot.specs.Tokens.{IsTicketOf, IsTokenOf};
 
-use super::TIMES;
 use crate::{Fault, Mutex, MutexGuard, ParkingLot, Ticket, Token, lock_api, lock_raw};
 use std::alloc::Global;
 use std::sync::atomic::AtomicUsize;
@@ -12,6 +11,8 @@ use std::sync::atomic::Ordering::SeqCst;
 use std::sync::{Arc, Wait};
 use std::test::Fail;
 use std::thread::{Threads, map_vec};
+
+const TIMES: u64 = 1000;
 
 // A lot of one word, with its one thread.
 fn lone(alloc: Global) -> Result<(Arc<ParkingLot>, Token), Fault>

@@ -12,7 +12,7 @@ use std::test::Fail;
 // A lot of one seat, and its token.
 fn one_seat(alloc: Global, words: usize) -> Result<(Arc<ParkingLot>, Token), Fault>
     requires { (0 < words) × (words ≤ 100) }
-    ensures { IfOk result (λ made. ((arc_value made.0).words.count ≡ words) × ((arc_value made.0).letters.count ≡ 1) × IsTokenOf (arc_value made.0) made.1) }
+    ensures { IfOk result (λ made. ((arc_value made.0).words.count ≡ words) × ((arc_value made.0).records.count ≡ 1) × IsTokenOf (arc_value made.0) made.1) }
 {
     one_of(alloc, words, 1)
 }
@@ -20,7 +20,7 @@ fn one_seat(alloc: Global, words: usize) -> Result<(Arc<ParkingLot>, Token), Fau
 // A lot of so many seats, and one token.
 fn one_of(alloc: Global, words: usize, seats: usize) -> Result<(Arc<ParkingLot>, Token), Fault>
     requires { (0 < words) × (words ≤ 100) × (0 < seats) × (seats ≤ 100) }
-    ensures { IfOk result (λ made. ((arc_value made.0).words.count ≡ words) × ((arc_value made.0).letters.count ≡ seats) × IsTokenOf (arc_value made.0) made.1) }
+    ensures { IfOk result (λ made. ((arc_value made.0).words.count ≡ words) × ((arc_value made.0).records.count ≡ seats) × IsTokenOf (arc_value made.0) made.1) }
 {
     let (lot, mut tickets) = ParkingLot::new(alloc, words, seats)?;
     match tickets.pop() {

@@ -11,7 +11,7 @@ use Rattle.parking_lot.proofs.Doing.{Does, does}
 use Rattle.parking_lot.proofs.Coming.{came_word, came_park, came_other, inside_still, record_of}
 use Rattle.parking_lot.proofs.Sleeping.{late_told}
 use Rattle.parking_lot.proofs.driver.perform.Goals as goal
-use Rattle.parking_lot.proofs.driver.perform.Goals.{in-Word, in-Enter, in-Some-1, in-None-1, in-None-2, in-Park+in-Some, in-TakeFirst+in-Some-section, in-Remove+in-Some-section-2, in-Leave+in-Some-take, in-Sleep+in-Woken, in-Sleep+in-Late}
+use Rattle.parking_lot.proofs.driver.perform.Goals.{in-Word, in-Enter, in-Park+in-Some, in-TakeFirst+in-Some-section, in-Remove+in-Some-section-2, in-Leave+in-Some-take, in-Sleep+in-Woken, in-Sleep+in-Late}
 
 pub step-requires-clause-may : goal.step-requires-clause-may
 step-requires-clause-may g c = let d = does c.mutex_may_step.ensures c.args.lot.now c.args.word.number c.args.section.now c.args.place c.requires.fits in

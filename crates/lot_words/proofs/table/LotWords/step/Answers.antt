@@ -1,37 +1,26 @@
-use Rattle.std.proofs.Common.{◌<◌, arith}
-use Rattle.lot_words.proofs.Keeps.{steps_at_word}
-use Rattle.lot_words.proofs.Places.{rank_lt}
-use Rattle.parking_lot_core.specs.declared.ops.Op.TheVariants.{Load, Store, Swap, Add, Sub, Or, And, Exchange}
+use Rattle.lot_words.proofs.AtWord.{table_allows}
 use Rattle.lot_words.proofs.table.LotWords.step.Goals as goal
 
 pub load-requires : goal.load-requires
-load-requires c = let lot = c.args.self.now in let sized = lot.sized in let sized₀ = sized.0 in let sized₁ = sized.1 in let own = c.requires.own in let own₁ = own.1 in let at = c.place-at.ensures in let below : c.place-at.result < lot.table.shared.table_id.words = omega (arith, rank_lt c.args.word.kind) in
-    (own.0, below, steps_at_word lot.table.shared.key lot.table.shared.table_id.slots c.args.seat.now.id c.args.seat.now.me c.args.word.number c.args.word.kind c.place-at.result c.args.op Load c.in-Load.is at (omega arith) c.requires.may)
+load-requires c = table_allows c.args.self.now c.args.seat.now c.args.word c.requires.own c.requires.may c.place-at.ensures c.in-Load.is
 
 pub swap-requires : goal.swap-requires
-swap-requires c = let lot = c.args.self.now in let sized = lot.sized in let sized₀ = sized.0 in let sized₁ = sized.1 in let own = c.requires.own in let own₁ = own.1 in let at = c.place-at.ensures in let below : c.place-at.result < lot.table.shared.table_id.words = omega (arith, rank_lt c.args.word.kind) in
-    (own.0, below, steps_at_word lot.table.shared.key lot.table.shared.table_id.slots c.args.seat.now.id c.args.seat.now.me c.args.word.number c.args.word.kind c.place-at.result c.args.op (Store c.in-Store.value) c.in-Store.is at (omega arith) c.requires.may)
+swap-requires c = table_allows c.args.self.now c.args.seat.now c.args.word c.requires.own c.requires.may c.place-at.ensures c.in-Store.is
 
 pub swap-requires-in-Swap : goal.swap-requires-in-Swap
-swap-requires-in-Swap c = let lot = c.args.self.now in let sized = lot.sized in let sized₀ = sized.0 in let sized₁ = sized.1 in let own = c.requires.own in let own₁ = own.1 in let at = c.place-at.ensures in let below : c.place-at.result < lot.table.shared.table_id.words = omega (arith, rank_lt c.args.word.kind) in
-    (own.0, below, steps_at_word lot.table.shared.key lot.table.shared.table_id.slots c.args.seat.now.id c.args.seat.now.me c.args.word.number c.args.word.kind c.place-at.result c.args.op (Swap c.in-Swap.value) c.in-Swap.is at (omega arith) c.requires.may)
+swap-requires-in-Swap c = table_allows c.args.self.now c.args.seat.now c.args.word c.requires.own c.requires.may c.place-at.ensures c.in-Swap.is
 
 pub fetch_add-requires : goal.fetch_add-requires
-fetch_add-requires c = let lot = c.args.self.now in let sized = lot.sized in let sized₀ = sized.0 in let sized₁ = sized.1 in let own = c.requires.own in let own₁ = own.1 in let at = c.place-at.ensures in let below : c.place-at.result < lot.table.shared.table_id.words = omega (arith, rank_lt c.args.word.kind) in
-    (own.0, below, steps_at_word lot.table.shared.key lot.table.shared.table_id.slots c.args.seat.now.id c.args.seat.now.me c.args.word.number c.args.word.kind c.place-at.result c.args.op (Add c.in-Add.by) c.in-Add.is at (omega arith) c.requires.may)
+fetch_add-requires c = table_allows c.args.self.now c.args.seat.now c.args.word c.requires.own c.requires.may c.place-at.ensures c.in-Add.is
 
 pub fetch_sub-requires : goal.fetch_sub-requires
-fetch_sub-requires c = let lot = c.args.self.now in let sized = lot.sized in let sized₀ = sized.0 in let sized₁ = sized.1 in let own = c.requires.own in let own₁ = own.1 in let at = c.place-at.ensures in let below : c.place-at.result < lot.table.shared.table_id.words = omega (arith, rank_lt c.args.word.kind) in
-    (own.0, below, steps_at_word lot.table.shared.key lot.table.shared.table_id.slots c.args.seat.now.id c.args.seat.now.me c.args.word.number c.args.word.kind c.place-at.result c.args.op (Sub c.in-Sub.by) c.in-Sub.is at (omega arith) c.requires.may)
+fetch_sub-requires c = table_allows c.args.self.now c.args.seat.now c.args.word c.requires.own c.requires.may c.place-at.ensures c.in-Sub.is
 
 pub fetch_or-requires : goal.fetch_or-requires
-fetch_or-requires c = let lot = c.args.self.now in let sized = lot.sized in let sized₀ = sized.0 in let sized₁ = sized.1 in let own = c.requires.own in let own₁ = own.1 in let at = c.place-at.ensures in let below : c.place-at.result < lot.table.shared.table_id.words = omega (arith, rank_lt c.args.word.kind) in
-    (own.0, below, steps_at_word lot.table.shared.key lot.table.shared.table_id.slots c.args.seat.now.id c.args.seat.now.me c.args.word.number c.args.word.kind c.place-at.result c.args.op (Or c.in-Or.bits) c.in-Or.is at (omega arith) c.requires.may)
+fetch_or-requires c = table_allows c.args.self.now c.args.seat.now c.args.word c.requires.own c.requires.may c.place-at.ensures c.in-Or.is
 
 pub fetch_and-requires : goal.fetch_and-requires
-fetch_and-requires c = let lot = c.args.self.now in let sized = lot.sized in let sized₀ = sized.0 in let sized₁ = sized.1 in let own = c.requires.own in let own₁ = own.1 in let at = c.place-at.ensures in let below : c.place-at.result < lot.table.shared.table_id.words = omega (arith, rank_lt c.args.word.kind) in
-    (own.0, below, steps_at_word lot.table.shared.key lot.table.shared.table_id.slots c.args.seat.now.id c.args.seat.now.me c.args.word.number c.args.word.kind c.place-at.result c.args.op (And c.in-And.bits) c.in-And.is at (omega arith) c.requires.may)
+fetch_and-requires c = table_allows c.args.self.now c.args.seat.now c.args.word c.requires.own c.requires.may c.place-at.ensures c.in-And.is
 
 pub compare_exchange-requires : goal.compare_exchange-requires
-compare_exchange-requires c = let lot = c.args.self.now in let sized = lot.sized in let sized₀ = sized.0 in let sized₁ = sized.1 in let own = c.requires.own in let own₁ = own.1 in let at = c.place-at.ensures in let below : c.place-at.result < lot.table.shared.table_id.words = omega (arith, rank_lt c.args.word.kind) in
-    (own.0, below, steps_at_word lot.table.shared.key lot.table.shared.table_id.slots c.args.seat.now.id c.args.seat.now.me c.args.word.number c.args.word.kind c.place-at.result c.args.op (Exchange c.in-Exchange.from c.in-Exchange.to) c.in-Exchange.is at (omega arith) c.requires.may)
+compare_exchange-requires c = table_allows c.args.self.now c.args.seat.now c.args.word c.requires.own c.requires.may c.place-at.ensures c.in-Exchange.is

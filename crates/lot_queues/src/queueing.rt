@@ -1,8 +1,8 @@
-//! What stands behind the lock of the queues.
-ghost use Rattle.std.specs.Prelude.{◌≡◌, ◌≢◌, ◌<◌, ◌≤◌, [], IfOk, IfErr, IfSome, MatchOption, ◌∷◌, length, not, ◌==◌};
+//! The queues, and the lists of those that a section took.
+ghost use Rattle.std.specs.Prelude.{◌≡◌, ◌≢◌, ◌<◌, ◌≤◌, [], IfOk, IfErr, IfSome, MatchOption, ◌∷◌, ◌++◌, length, not, ◌==◌};
 ghost use Rattle.std.specs.List.{filter};
 ghost use Rattle.std.specs.Vec.{vec_capacity};
-ghost use Rattle.parking_lot_core.specs.Lines.{line, lines, without_first, without_key, first_of, threads_of};
+ghost use Rattle.parking_lot_core.specs.Lines.{waiter, line, lines, without, without_first, without_key, first_of, threads_of, key_of};
 ghost use Rattle.parking_lot_core.specs.Picks.{lock_picked, without_lock_picked};
 ghost use Rattle.parking_lot_core.specs.Requeues.{taken_by, moved_by, requeued};
 
@@ -12,12 +12,12 @@ use std::alloc::{AllocError, Global};
 /// The queues, and whom the section that has them took.
 #[derive(Drop)]
 pub struct Queueing {
-    pub(crate) queues: ListQueues,
+    queues: ListQueues,
     // In the order in which they were taken.
-    pub(crate) taken: Vec<usize>,
+    taken: Vec<usize>,
     // Those of them that have not been given a right.
-    pub(crate) rightless: Vec<usize>,
-    pub(crate) seats: usize,
+    rightless: Vec<usize>,
+    seats: usize,
     ghost roomy: { (queues.capacity ≡ seats) × (seats ≤ vec_capacity taken) × (vec_capacity taken ≤ vec_capacity rightless) },
 }
 
@@ -47,7 +47,12 @@ fn drop_thread(threads: &mut Vec<usize>, thread: usize)
 }
 
 impl Queueing {
-    pub(crate) fn with_capacity(alloc: Global, seats: usize) -> Result<Queueing, Fault>
+    /// Nobody waits, and there is room for so many threads. It takes all memory that its calls need.
+    ///
+    /// # Errors
+    ///
+    /// `NoMemory`, where memory was refused.
+    pub fn with_capacity(alloc: Global, seats: usize) -> Result<Queueing, Fault>
         ensures ok { IfOk result (λ made. made.seats ≡ seats) }
         ensures err { IfErr result (λ fault. fault ≡ Fault.NoMemory) }
     {
@@ -63,8 +68,8 @@ impl Queueing {
         })
     }
 
-    // Nobody has been taken in this section.
-    pub(crate) fn begin(&mut self)
+    /// A section begins: nobody has been taken in it.
+    pub fn begin(&mut self)
         ensures taken { (self.new.taken.items ≡ []) × (self.new.rightless.items ≡ []) }
         ensures same { (self.new.queues ≡ self.old.queues) × (self.new.seats ≡ self.old.seats) }
     {
@@ -73,7 +78,7 @@ impl Queueing {
     }
 
     // The one that was taken, if any.
-    fn note(&mut self, first: Option<usize>)
+    fn note_taken(&mut self, first: Option<usize>)
         requires { (self.old.taken.items ≡ []) × (self.old.rightless.items ≡ []) × IfSome first (λ thread. thread < self.old.seats) }
         ensures taken { MatchOption first (self.new.taken.items ≡ []) (λ thread. self.new.taken.items ≡ thread ∷ []) × (self.new.rightless.items ≡ self.new.taken.items) }
         ensures same { (self.new.queues ≡ self.old.queues) × (self.new.seats ≡ self.old.seats) }
@@ -84,7 +89,8 @@ impl Queueing {
         }
     }
 
-    pub(crate) fn take_first(&mut self, key: Key) -> Option<usize>
+    /// Takes the first under a key.
+    pub fn take_first(&mut self, key: Key) -> Option<usize>
         requires { (self.old.taken.items ≡ []) × (self.old.rightless.items ≡ []) }
         ensures first { result ≡ first_of (line key self.old.queues.waiters) }
         ensures taken { MatchOption result (self.new.taken.items ≡ []) (λ thread. self.new.taken.items ≡ thread ∷ []) × (self.new.rightless.items ≡ self.new.taken.items) }
@@ -92,11 +98,12 @@ impl Queueing {
         ensures same { self.new.seats ≡ self.old.seats }
     {
         let first = self.queues.take_first(key);
-        self.note(first);
+        self.note_taken(first);
         first
     }
 
-    pub(crate) fn take_all(&mut self, key: Key)
+    /// Takes all under a key.
+    pub fn take_all(&mut self, key: Key)
         requires { (self.old.taken.items ≡ []) × (self.old.rightless.items ≡ []) }
         ensures taken { (self.new.taken.items ≡ threads_of (line key self.old.queues.waiters)) × (self.new.rightless.items ≡ self.new.taken.items) }
         ensures lines { lines self.new.queues.waiters ≡ lines (without_key key self.old.queues.waiters) }
@@ -106,7 +113,8 @@ impl Queueing {
         copy_all(self.taken.as_slice(), &mut self.rightless);
     }
 
-    pub(crate) fn take_picked(&mut self, key: Key, start: Option<Want>, recursive: bool)
+    /// Takes who is picked of the main queue of a reader-writer lock.
+    pub fn take_picked(&mut self, key: Key, start: Option<Want>, recursive: bool)
         requires { (self.old.taken.items ≡ []) × (self.old.rightless.items ≡ []) }
         ensures taken { (self.new.taken.items ≡ threads_of (lock_picked start recursive (line key self.old.queues.waiters))) × (self.new.rightless.items ≡ self.new.taken.items) }
         ensures lines { lines self.new.queues.waiters ≡ lines (without_lock_picked start recursive key self.old.queues.waiters) }
@@ -117,7 +125,8 @@ impl Queueing {
         copy_all(self.taken.as_slice(), &mut self.rightless);
     }
 
-    pub(crate) fn requeue(&mut self, from: Key, to: Key, op: Requeue) -> (Option<usize>, usize)
+    /// Moves waiters from under a key behind the last under another.
+    pub fn requeue(&mut self, from: Key, to: Key, op: Requeue) -> (Option<usize>, usize)
         requires none { (self.old.taken.items ≡ []) × (self.old.rightless.items ≡ []) }
         requires differ { from ≢ to }
         ensures first { result.0 ≡ taken_by op (line from self.old.queues.waiters) }
@@ -127,15 +136,60 @@ impl Queueing {
         ensures same { self.new.seats ≡ self.old.seats }
     {
         let (first, moved) = self.queues.requeue(from, to, op);
-        self.note(first);
+        self.note_taken(first);
         (first, moved)
     }
 
-    // The thread has been given a right.
-    pub(crate) fn has_right(&mut self, thread: usize)
+    /// The thread has been given a right.
+    pub fn note_right(&mut self, thread: usize)
         ensures rightless { self.new.rightless.items ≡ filter (λ x. not (x == thread)) self.old.rightless.items }
         ensures same { (self.new.queues ≡ self.old.queues) × (self.new.taken.items ≡ self.old.taken.items) × (self.new.seats ≡ self.old.seats) }
     {
         drop_thread(&mut self.rightless, thread);
+    }
+
+    /// For how many threads there is room.
+    pub fn seats(&self) -> usize
+        ensures { result ≡ self.now.seats }
+    {
+        self.seats
+    }
+
+    /// Whom the section took, in order.
+    pub fn taken(&self) -> &[usize]
+        ensures { result.now ≡ self.now.taken.items }
+    {
+        self.taken.as_slice()
+    }
+
+    /// Puts a thread behind the last under a key. One that stands somewhere leaves that place first.
+    pub fn append(&mut self, key: Key, thread: usize, want: Want)
+        requires { thread < self.old.seats }
+        ensures lines { lines self.new.queues.waiters ≡ lines (without thread self.old.queues.waiters ++ waiter key thread want ∷ []) }
+        ensures same { (self.new.taken.items ≡ self.old.taken.items) × (self.new.rightless.items ≡ self.old.rightless.items) × (self.new.seats ≡ self.old.seats) }
+    {
+        self.queues.append(key, thread, want);
+    }
+
+    /// Removes a thread from where it stands.
+    pub fn remove(&mut self, thread: usize)
+        ensures lines { lines self.new.queues.waiters ≡ lines (without thread self.old.queues.waiters) }
+        ensures same { (self.new.taken.items ≡ self.old.taken.items) × (self.new.rightless.items ≡ self.old.rightless.items) × (self.new.seats ≡ self.old.seats) }
+    {
+        self.queues.remove(thread);
+    }
+
+    /// How many stand under a key.
+    pub fn count(&self, key: Key) -> usize
+        ensures { result ≡ length (line key self.now.queues.waiters) }
+    {
+        self.queues.count(key)
+    }
+
+    /// The key under which a thread stands.
+    pub fn key_of(&self, thread: usize) -> Option<Key>
+        ensures { result ≡ key_of thread self.now.queues.waiters }
+    {
+        self.queues.key_of(thread)
     }
 }

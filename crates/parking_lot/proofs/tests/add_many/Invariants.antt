@@ -1,6 +1,0 @@
-use Rattle.std.specs.Arc.{arc_value}
-use Rattle.running_lot.specs.Tokens.{IsTokenOf}
-use Rattle.parking_lot.proofs.tests.add_many.Given as goal
-
-abbrev pub invariant-loop : goal.invariant-loop
-invariant-loop g l = IsTokenOf (arc_value l.mutex.lot) l.token
