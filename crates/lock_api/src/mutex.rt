@@ -4,8 +4,7 @@ ghost use Rattle.std.specs.Arc.{arc_value};
 
 use crate::guards::MutexGuard;
 use lock_raw::{RawMutex, RawMutexTimed};
-use lot_clocks::Clock;
-use parking_lot_core::Fault;
+use lot_base::{Clock, Fault};
 use std::sync;
 use std::sync::{Arc, Wait};
 use std::time::Duration;

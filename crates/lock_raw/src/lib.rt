@@ -4,8 +4,7 @@
 ghost use Rattle.std.specs.Prelude.{◌≡◌, ◌⊎◌, MatchBool, MatchOption, MatchResult};
 ghost use Rattle.std.specs.Arc.{arc_value};
 
-use lot_clocks::{Clock, to_deadline};
-use parking_lot_core::Fault;
+use lot_base::{Clock, Fault, to_deadline};
 use std::sync::{Arc, Wait};
 use std::time::Duration;
 

@@ -2,11 +2,11 @@
 ghost use Rattle.std.specs.Prelude.{◌≡◌, ◌≢◌, ◌<◌, ◌≤◌, [], IfOk, IfErr, IfSome, MatchOption, ◌∷◌, ◌++◌, length, not, ◌==◌};
 ghost use Rattle.std.specs.List.{filter};
 ghost use Rattle.std.specs.Vec.{vec_capacity};
-ghost use Rattle.parking_lot_core.specs.Lines.{waiter, line, lines, without, without_first, without_key, first_of, threads_of, key_of};
-ghost use Rattle.parking_lot_core.specs.Picks.{lock_picked, without_lock_picked};
-ghost use Rattle.parking_lot_core.specs.Requeues.{taken_by, moved_by, requeued};
+ghost use Rattle.lot_base.specs.Lines.{waiter, line, lines, without, without_first, without_key, first_of, threads_of, key_of};
+ghost use Rattle.lot_base.specs.Picks.{lock_picked, without_lock_picked};
+ghost use Rattle.lot_base.specs.Requeues.{taken_by, moved_by, requeued};
 
-use parking_lot_core::{Fault, Key, ListQueues, LockPicker, Queues, Requeue, Want};
+use lot_base::{Fault, Key, ListQueues, LockPicker, Queues, Requeue, Want};
 use std::alloc::{AllocError, Global};
 
 /// The queues, and whom the section that has them took.

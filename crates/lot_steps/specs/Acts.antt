@@ -1,14 +1,14 @@
 -- What a thread does in one step, and what it is told.
 use Rattle.std.specs.Prelude.{ℕ, Bool, Option, Some, None, ◌==◌}
-use Rattle.parking_lot_core.specs.declared.notes.Note.{Note}
+use Rattle.lot_base.specs.declared.notes.Note.{Note}
 use Rattle.lot_steps.specs.declared.acts.Act.{Act}
 use Rattle.lot_steps.specs.declared.acts.Act.TheVariants.{Sleep, Closure, End}
 use Rattle.lot_steps.specs.declared.acts.Check.{Check}
 use Rattle.lot_steps.specs.declared.acts.Check.TheVariants.{WordIs}
 use Rattle.lot_steps.specs.declared.acts.Wakes.{Wakes}
 use Rattle.lot_steps.specs.declared.acts.Wakes as wakes
-use Rattle.lot_steps.specs.declared.calls.Outcome.{Outcome}
-use Rattle.lot_steps.specs.declared.calls.Outcome as outcome
+use Rattle.lot_calls.specs.declared.outcomes.Outcome.{Outcome}
+use Rattle.lot_calls.specs.declared.outcomes.Outcome as outcome
 
 abbrev pub holds : Check → ℕ → Bool
 holds (WordIs value) word = word == value

@@ -1,6 +1,7 @@
-pub use Rattle.parking_lot_core.specs.Words
-pub use Rattle.parking_lot_core.specs.Lines
-pub mod Kinds
+pub use Rattle.lot_base.specs.Words
+pub use Rattle.lot_base.specs.Lines
+pub use Rattle.lot_calls.specs.Calls
+pub use Rattle.lot_calls.specs.Kinds
 pub mod Acts
 pub mod MutexSteps
 pub mod Steps

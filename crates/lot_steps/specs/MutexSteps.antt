@@ -1,21 +1,21 @@
 -- The steps of a mutex: what a thread does at each place, and where each reply leads it.
 use Rattle.std.specs.Prelude.{ℕ, Bool, true, false, Option, Some, None, if◌then◌else◌, ◌==◌, not, ◌&&◌, ◌+◌, ◌*◌, ◌/◌, ◌%◌}
-use Rattle.parking_lot_core.specs.declared.keys.Keys.TheVariants.{One}
-use Rattle.parking_lot_core.specs.declared.notes.Note as note
-use Rattle.parking_lot_core.specs.declared.wants.Want.TheVariants.{Exclusive}
-use Rattle.parking_lot_core.specs.declared.ops.Op as op
-use Rattle.lot_steps.specs.declared.mutex.MutexCall.{MutexCall}
-use Rattle.lot_steps.specs.declared.mutex.MutexCall as call
+use Rattle.lot_base.specs.declared.keys.Keys.TheVariants.{One}
+use Rattle.lot_base.specs.declared.notes.Note as note
+use Rattle.lot_base.specs.declared.wants.Want.TheVariants.{Exclusive}
+use Rattle.lot_base.specs.declared.ops.Op as op
+use Rattle.lot_calls.specs.declared.calls.MutexCall.{MutexCall}
+use Rattle.lot_calls.specs.declared.calls.MutexCall as call
 use Rattle.lot_steps.specs.declared.mutex.MutexPlace.{MutexPlace}
-use Rattle.lot_steps.specs.declared.mutex.Entry.{Entry}
-use Rattle.lot_steps.specs.declared.mutex.Entry as entry
+use Rattle.lot_steps.specs.declared.mutex.lock.Entry.{Entry}
+use Rattle.lot_steps.specs.declared.mutex.lock.Entry as entry
 use Rattle.lot_steps.specs.declared.mutex.MutexPlace.TheVariants.{Lock, TryLock, Unlock, UnlockFair, Bump, HandOff}
-use Rattle.lot_steps.specs.declared.mutex.LockAt.{LockAt}
-use Rattle.lot_steps.specs.declared.mutex.LockAt as lock
-use Rattle.lot_steps.specs.declared.mutex.UnlockAt.{UnlockAt}
-use Rattle.lot_steps.specs.declared.mutex.UnlockAt as unlock
-use Rattle.lot_steps.specs.declared.mutex.HandOffAt.{HandOffAt}
-use Rattle.lot_steps.specs.declared.mutex.HandOffAt as hand_off
+use Rattle.lot_steps.specs.declared.mutex.lock.LockAt.{LockAt}
+use Rattle.lot_steps.specs.declared.mutex.lock.LockAt as lock
+use Rattle.lot_steps.specs.declared.mutex.unlock.UnlockAt.{UnlockAt}
+use Rattle.lot_steps.specs.declared.mutex.unlock.UnlockAt as unlock
+use Rattle.lot_steps.specs.declared.mutex.hand_off.HandOffAt.{HandOffAt}
+use Rattle.lot_steps.specs.declared.mutex.hand_off.HandOffAt as hand_off
 use Rattle.lot_steps.specs.declared.mutex.TheConstants.{NOT_PARKED}
 use Rattle.lot_steps.specs.declared.acts.Act.{Act}
 use Rattle.lot_steps.specs.declared.acts.Act as act
@@ -25,8 +25,8 @@ use Rattle.lot_steps.specs.declared.acts.Reply.{Reply}
 use Rattle.lot_steps.specs.declared.acts.Reply.TheVariants.{Done, Value, Spun, Parked, Took, Removed, TakenBy, HandedBy, Late, Woken}
 use Rattle.lot_steps.specs.declared.acts.Next.{Next}
 use Rattle.lot_steps.specs.declared.acts.Next.TheVariants.{At, End}
-use Rattle.lot_steps.specs.declared.calls.Answer.{Answer}
-use Rattle.lot_steps.specs.declared.calls.Answer as answer
+use Rattle.lot_calls.specs.declared.outcomes.Answer.{Answer}
+use Rattle.lot_calls.specs.declared.outcomes.Answer as answer
 use Rattle.lot_steps.specs.declared.owners.Owners.{Owners}
 use Rattle.lot_steps.specs.Acts.{wakes_first}
 
@@ -126,29 +126,29 @@ abbrev pub entered : Entry → Answer
 entered entry.TheVariants.LockTimed = answer.TheVariants.Yes
 entered e = answer.TheVariants.Ok
 
-abbrev pub lock_next : Entry → LockAt → Reply → Next LockAt
-lock_next e lock.TheVariants.First (Value seen) = if seen == 0 then End (entered e) else At lock.TheVariants.Load
-lock_next e lock.TheVariants.Load (Value seen) = At (lock.TheVariants.Decide seen)
-lock_next e (lock.TheVariants.Decide expected) (Value seen) =
+abbrev pub next_lock : Entry → LockAt → Reply → Next LockAt
+next_lock e lock.TheVariants.First (Value seen) = if seen == 0 then End (entered e) else At lock.TheVariants.Load
+next_lock e lock.TheVariants.Load (Value seen) = At (lock.TheVariants.Decide seen)
+next_lock e (lock.TheVariants.Decide expected) (Value seen) =
     if not (seen == expected) then At (lock.TheVariants.Decide seen)
     else if is_locked seen then At (lock.TheVariants.Decide 3)
     else End (entered e)
-lock_next e (lock.TheVariants.Decide expected) (Spun seen) = At (lock.TheVariants.Decide seen)
-lock_next e (lock.TheVariants.Decide expected) Done = At lock.TheVariants.Check
-lock_next e lock.TheVariants.Check (Parked parked) = At (lock.TheVariants.Leave parked)
-lock_next e (lock.TheVariants.Leave parked) Done = if parked then At lock.TheVariants.Asleep else At lock.TheVariants.Load
-lock_next e lock.TheVariants.Asleep (TakenBy by) = At (lock.TheVariants.Taken by)
-lock_next e lock.TheVariants.Asleep (Woken note.TheVariants.Normal) = At lock.TheVariants.Load
-lock_next e lock.TheVariants.Asleep (Woken note.TheVariants.HandOff) = At lock.TheVariants.Accept
-lock_next e (lock.TheVariants.Taken by) (Woken note.TheVariants.Normal) = At lock.TheVariants.Load
-lock_next e (lock.TheVariants.Taken by) (HandedBy t) = At (lock.TheVariants.Handed t)
-lock_next e (lock.TheVariants.Handed by) (Woken note.TheVariants.HandOff) = At lock.TheVariants.Accept
-lock_next e lock.TheVariants.Accept Done = End (entered e)
-lock_next e lock.TheVariants.Asleep Late = At lock.TheVariants.Remove
-lock_next e lock.TheVariants.Remove (Removed none_left) = if none_left then At lock.TheVariants.Clear else At lock.TheVariants.GiveUp
-lock_next e lock.TheVariants.Clear (Value seen) = At lock.TheVariants.GiveUp
-lock_next e lock.TheVariants.GiveUp Done = End answer.TheVariants.No
-lock_next e at _ = At at
+next_lock e (lock.TheVariants.Decide expected) (Spun seen) = At (lock.TheVariants.Decide seen)
+next_lock e (lock.TheVariants.Decide expected) Done = At lock.TheVariants.Check
+next_lock e lock.TheVariants.Check (Parked parked) = At (lock.TheVariants.Leave parked)
+next_lock e (lock.TheVariants.Leave parked) Done = if parked then At lock.TheVariants.Asleep else At lock.TheVariants.Load
+next_lock e lock.TheVariants.Asleep (TakenBy by) = At (lock.TheVariants.Taken by)
+next_lock e lock.TheVariants.Asleep (Woken note.TheVariants.Normal) = At lock.TheVariants.Load
+next_lock e lock.TheVariants.Asleep (Woken note.TheVariants.HandOff) = At lock.TheVariants.Accept
+next_lock e (lock.TheVariants.Taken by) (Woken note.TheVariants.Normal) = At lock.TheVariants.Load
+next_lock e (lock.TheVariants.Taken by) (HandedBy t) = At (lock.TheVariants.Handed t)
+next_lock e (lock.TheVariants.Handed by) (Woken note.TheVariants.HandOff) = At lock.TheVariants.Accept
+next_lock e lock.TheVariants.Accept Done = End (entered e)
+next_lock e lock.TheVariants.Asleep Late = At lock.TheVariants.Remove
+next_lock e lock.TheVariants.Remove (Removed none_left) = if none_left then At lock.TheVariants.Clear else At lock.TheVariants.GiveUp
+next_lock e lock.TheVariants.Clear (Value seen) = At lock.TheVariants.GiveUp
+next_lock e lock.TheVariants.GiveUp Done = End answer.TheVariants.No
+next_lock e at _ = At at
 
 -- from a wake note until it stands in the queue again or owns the mutex
 abbrev pub still_retries : Bool → Reply → Bool
@@ -157,20 +157,20 @@ still_retries retries (Parked parked) = retries && not parked
 still_retries retries (HandedBy t) = false
 still_retries retries _ = retries
 
-abbrev pub unlock_next : UnlockAt → Reply → Next UnlockAt
-unlock_next unlock.TheVariants.Subtract (Value seen) = if is_parked seen then At unlock.TheVariants.Enter else End answer.TheVariants.Ok
-unlock_next unlock.TheVariants.Enter Done = At unlock.TheVariants.Take
-unlock_next unlock.TheVariants.Take (Took first none_left) = if none_left then At (unlock.TheVariants.Clear first) else At (unlock.TheVariants.Leave first)
-unlock_next (unlock.TheVariants.Clear taken) (Value seen) = At (unlock.TheVariants.Leave taken)
-unlock_next (unlock.TheVariants.Leave taken) Done = End answer.TheVariants.Ok
-unlock_next at _ = At at
+abbrev pub next_unlock : UnlockAt → Reply → Next UnlockAt
+next_unlock unlock.TheVariants.Subtract (Value seen) = if is_parked seen then At unlock.TheVariants.Enter else End answer.TheVariants.Ok
+next_unlock unlock.TheVariants.Enter Done = At unlock.TheVariants.Take
+next_unlock unlock.TheVariants.Take (Took first none_left) = if none_left then At (unlock.TheVariants.Clear first) else At (unlock.TheVariants.Leave first)
+next_unlock (unlock.TheVariants.Clear taken) (Value seen) = At (unlock.TheVariants.Leave taken)
+next_unlock (unlock.TheVariants.Leave taken) Done = End answer.TheVariants.Ok
+next_unlock at _ = At at
 
-abbrev pub hand_off_next : HandOffAt → Reply → Next HandOffAt
-hand_off_next hand_off.TheVariants.Enter Done = At hand_off.TheVariants.Take
-hand_off_next hand_off.TheVariants.Take (Took first none_left) = At (hand_off.TheVariants.Store first none_left)
-hand_off_next (hand_off.TheVariants.Store taken none_left) (Value seen) = At (hand_off.TheVariants.Leave taken)
-hand_off_next (hand_off.TheVariants.Leave taken) Done = End answer.TheVariants.Ok
-hand_off_next at _ = At at
+abbrev pub next_hand_off : HandOffAt → Reply → Next HandOffAt
+next_hand_off hand_off.TheVariants.Enter Done = At hand_off.TheVariants.Take
+next_hand_off hand_off.TheVariants.Take (Took first none_left) = At (hand_off.TheVariants.Store first none_left)
+next_hand_off (hand_off.TheVariants.Store taken none_left) (Value seen) = At (hand_off.TheVariants.Leave taken)
+next_hand_off (hand_off.TheVariants.Leave taken) Done = End answer.TheVariants.Ok
+next_hand_off at _ = At at
 
 -- an owner that saw waiters hands the mutex over
 abbrev pub looked : Bool → Bool → Next MutexPlace
@@ -202,12 +202,12 @@ in_hand_off bumps (At at) = At (HandOff bumps at)
 in_hand_off bumps (End answer) = if bumps then At (enters entry.TheVariants.Bump) else End answer
 
 abbrev pub mutex_next : MutexPlace → Reply → Next MutexPlace
-mutex_next (Lock e retries at) reply = in_lock e (still_retries retries reply) (lock_next e at reply)
+mutex_next (Lock e retries at) reply = in_lock e (still_retries retries reply) (next_lock e at reply)
 mutex_next TryLock reply = try_next reply
-mutex_next (Unlock at) reply = in_unlock (unlock_next at reply)
+mutex_next (Unlock at) reply = in_unlock (next_unlock at reply)
 mutex_next UnlockFair reply = unlock_fair_next reply
 mutex_next Bump reply = bump_next reply
-mutex_next (HandOff bumps at) reply = in_hand_off bumps (hand_off_next at reply)
+mutex_next (HandOff bumps at) reply = in_hand_off bumps (next_hand_off at reply)
 
 -- ---------------------------------------------------------------- who owns, owes and retries
 

@@ -1,8 +1,8 @@
 -- The steps of every call.
 use Rattle.std.specs.Prelude.{ℕ, Bool, true, false, Option, Some, None, if◌then◌else◌, ◌==◌, ◌&&◌, ◌*◌, ◌^◌, ◌<◌}
-use Rattle.lot_steps.specs.declared.kinds.Kind.{Kind}
-use Rattle.lot_steps.specs.declared.calls.Call.{Call}
-use Rattle.lot_steps.specs.declared.calls.Call as call
+use Rattle.lot_calls.specs.declared.kinds.Kind.{Kind}
+use Rattle.lot_calls.specs.declared.calls.Call.{Call}
+use Rattle.lot_calls.specs.declared.calls.Call as call
 use Rattle.lot_steps.specs.declared.places.Place.{Place}
 use Rattle.lot_steps.specs.declared.places.Place.TheVariants.{Idle, Mutex}
 use Rattle.lot_steps.specs.declared.mutex.MutexPlace.{MutexPlace}
@@ -12,11 +12,8 @@ use Rattle.lot_steps.specs.declared.acts.Reply.{Reply}
 use Rattle.lot_steps.specs.declared.acts.Next.{Next}
 use Rattle.lot_steps.specs.declared.acts.Next.TheVariants.{At, End}
 use Rattle.lot_steps.specs.declared.owners.Owners.{Owners}
-use Rattle.lot_steps.specs.Kinds.{is_fair}
+use Rattle.lot_calls.specs.Kinds.{is_fair}
 use Rattle.lot_steps.specs.MutexSteps.{mutex_first, mutex_right, mutex_act, mutex_next, mutex_owners, mutex_can_spin, mutex_can_be_late, mutex_owes, mutex_retries}
-
-abbrev pub lock_in : Call → ℕ
-lock_in (call.TheVariants.Mutex lock c) = lock
 
 -- where a call of a lock of a kind begins
 abbrev pub first_place : Kind → Call → Place

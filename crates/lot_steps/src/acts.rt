@@ -2,8 +2,8 @@
 ghost use Rattle.std.specs.Prelude.{◌≡◌};
 ghost use Rattle.lot_steps.specs.Acts.{wakes_first, holds, outcome_of};
 
-use crate::calls::{Answer, OnceState, Outcome};
-use parking_lot_core::{Key, Keys, Note, Op, Want};
+use lot_base::{Key, Keys, Note, Op, Want};
+use lot_calls::{Answer, OnceState, Outcome};
 
 /// The test that a parking thread makes of the word inside the section.
 #[derive(Clone, Copy, Debug, PartialEq, Eq)]

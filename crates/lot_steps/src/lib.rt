@@ -1,11 +1,9 @@
 //! The steps of every call: what a thread does next, and where the reply leads it.
 //!
-//! A step is pure. The world of `lot_world` follows it.
+//! A step is pure. The world of `lot_world` follows it, and so does the driver of real threads in `parking_lot`.
 #![tactic(auto)]
 
 pub mod acts;
-pub mod calls;
-pub mod kinds;
 pub mod mutex;
 pub mod owners;
 pub mod places;
@@ -13,9 +11,12 @@ pub mod places;
 mod tests;
 
 pub use acts::{Act, Check, Next, Reply, Wakes};
-pub use calls::{Answer, Call, OnceState, Outcome, Step, Turn};
-pub use kinds::Kind;
-pub use mutex::{Entry, HandOffAt, LockAt, MutexCall, MutexPlace, UnlockAt};
+pub use lot_base::Op;
+pub use lot_calls;
+pub use lot_calls::{Answer, Call, Kind, MutexCall, OnceState, Outcome, Step, Turn};
+pub use mutex::MutexPlace;
+pub use mutex::hand_off::HandOffAt;
+pub use mutex::lock::{Entry, LockAt};
+pub use mutex::unlock::UnlockAt;
 pub use owners::{Fallback, Owner, Owners, Pending};
-pub use parking_lot_core::Op;
-pub use places::{Place, advance};
+pub use places::{Place, advance, has_right};

@@ -1,11 +1,12 @@
 //! Where a thread stands, and where each step leads it.
 ghost use Rattle.std.specs.Prelude.{◌≡◌};
-ghost use Rattle.lot_steps.specs.Steps.{HasKeys, act_of, next_place, next_act, owners_after, spin_lock, late_key, owes_on, retries_on, is_idle};
+ghost use Rattle.lot_steps.specs.Steps.{HasKeys, first_place, has_right, act_of, next_place, next_act, owners_after, spin_lock, late_key, owes_on, retries_on, is_idle};
 
 use crate::acts::{Act, Next, Reply};
-use crate::mutex::MutexPlace;
+use crate::mutex::{MutexPlace, mutex_right};
 use crate::owners::Owners;
-use parking_lot_core::{Key, main_key};
+use lot_base::{Key, main_key};
+use lot_calls::{Call, Kind};
 
 /// Where a thread stands: in no call, or in a call of a lock, with all that the call remembers.
 #[derive(Clone, Copy, Debug, PartialEq, Eq)]
@@ -15,6 +16,18 @@ pub enum Place {
 }
 
 impl Place {
+    /// Where a call of a lock of this kind begins.
+    pub fn first(kind: Kind, call: Call) -> Place
+        ensures { result ≡ first_place kind call }
+    {
+        match call {
+            Call::Mutex { lock, call } => Place::Mutex {
+                lock,
+                at: MutexPlace::first(call, kind.is_fair()),
+            },
+        }
+    }
+
     pub fn is_idle(self) -> bool
         ensures { result ≡ is_idle self }
     {
@@ -99,6 +112,15 @@ impl Place {
             Place::Idle => false,
             Place::Mutex { lock: own, at } => own == lock && at.retries(),
         }
+    }
+}
+
+/// Whether a thread has the right that a call needs, of a lock with these owners.
+pub fn has_right(call: Call, thread: usize, owners: Owners) -> bool
+    ensures { result ≡ has_right call thread owners }
+{
+    match call {
+        Call::Mutex { lock: _, call } => mutex_right(call, thread, owners),
     }
 }
 

@@ -2,30 +2,14 @@ ghost use Rattle.std.specs.Prelude.{◌≡◌};
 
 use crate::{
     Act, Answer, Call, Entry, HandOffAt, Kind, LockAt, MutexCall, MutexPlace, Op, Outcome, Owners,
-    Place, Reply, UnlockAt, Wakes, advance,
+    Place, Reply, UnlockAt, Wakes, advance, has_right,
 };
-use parking_lot_core::{Keys, Note};
+use lot_base::{Keys, Note};
 
 fn call(call: MutexCall) -> Call
     ensures { result ≡ Call.Mutex 3 call }
 {
     Call::Mutex { lock: 3, call }
-}
-
-#[test]
-fn a_limit_fits_from_the_threads_to_the_greatest(rt: HostRuntime) {
-    for (limit, fits) in [
-        (1, false),
-        (2, true),
-        (1152921504606846974, true),
-        (1152921504606846975, false),
-    ] {
-        assert_eq!(rt; Kind::RwLock { limit }.fits(2), fits, "limit {limit}");
-        assert_eq!(rt; Kind::Recursive { limit }.fits(2), fits, "limit {limit}");
-    }
-    for kind in [Kind::Mutex, Kind::Fair, Kind::Condvar, Kind::Once] {
-        assert!(rt; kind.fits(1024));
-    }
 }
 
 #[test]
@@ -38,18 +22,14 @@ fn a_call_says_what_it_needs(rt: HostRuntime) {
         (MutexCall::UnlockFair, true, false),
         (MutexCall::Bump, true, false),
     ] {
-        assert!(rt; Kind::Mutex.has_call(call(name)));
-        assert!(rt; Kind::Fair.has_call(call(name)));
-        assert!(rt; !Kind::Once.has_call(call(name)));
-        assert_eq!(rt; call(name).lock(), 3);
-        assert_eq!(rt; call(name).has_right(1, owned), owner_may);
-        assert_eq!(rt; call(name).has_right(0, owned), other_may);
+        assert_eq!(rt; has_right(call(name), 1, owned), owner_may);
+        assert_eq!(rt; has_right(call(name), 0, owned), other_may);
     }
 }
 
 #[test]
 fn a_release_wakes_the_one_that_it_took(rt: HostRuntime) {
-    let start = call(MutexCall::Unlock).first_place(Kind::Mutex);
+    let start = Place::first(Kind::Mutex, call(MutexCall::Unlock));
     assert!(rt; !start.is_idle());
     assert_eq!(rt;
         start.act(),
@@ -101,7 +81,7 @@ fn a_woken_thread_retries(rt: HostRuntime) {
 
 #[test]
 fn a_bump_hands_the_mutex_over_and_enters_again(rt: HostRuntime) {
-    let start = call(MutexCall::Bump).first_place(Kind::Mutex);
+    let start = Place::first(Kind::Mutex, call(MutexCall::Bump));
     let (_, act) = advance(start, Reply::Value(1));
     assert_eq!(rt; act, Act::End(Answer::Ok));
     let (enter, act) = advance(start, Reply::Value(3));
@@ -140,8 +120,11 @@ fn a_bump_hands_the_mutex_over_and_enters_again(rt: HostRuntime) {
 
 #[test]
 fn a_fair_release_beside_nobody_lets_go(rt: HostRuntime) {
-    let start = call(MutexCall::Unlock).first_place(Kind::Fair);
-    assert_eq!(rt; start, call(MutexCall::UnlockFair).first_place(Kind::Mutex));
+    let start = Place::first(Kind::Fair, call(MutexCall::Unlock));
+    assert_eq!(rt;
+        start,
+        Place::first(Kind::Mutex, call(MutexCall::UnlockFair))
+    );
     let (_, act) = advance(start, Reply::Value(1));
     assert_eq!(rt; act, Act::End(Answer::Ok));
     let store = Place::Mutex {

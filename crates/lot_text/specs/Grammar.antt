@@ -2,10 +2,10 @@
 use Rattle.std.specs.Prelude.{ℕ, ◌+◌, ◌-◌, ◌*◌, Bool, not, ◌&&◌, ◌||◌, List, [], ◌∷◌, length, slice_index, nat_lt, nat_le, ◌==◌, if◌then◌else◌, codes, Option, None, Some, option_map, option_and_then}
 use Rattle.std.specs.List.{slice_split}
 use Rattle.std.specs.Str.{bytes_eq}
-use Rattle.lot_steps.specs.declared.kinds.Kind.{Kind}
-use Rattle.lot_steps.specs.declared.kinds.Kind as kind
-use Rattle.lot_steps.specs.declared.mutex.MutexCall.{MutexCall}
-use Rattle.lot_steps.specs.declared.mutex.MutexCall as call
+use Rattle.lot_calls.specs.declared.kinds.Kind.{Kind}
+use Rattle.lot_calls.specs.declared.kinds.Kind as kind
+use Rattle.lot_calls.specs.declared.calls.MutexCall.{MutexCall}
+use Rattle.lot_calls.specs.declared.calls.MutexCall as call
 use Rattle.lot_text.specs.declared.grammar.Command.{Command}
 use Rattle.lot_text.specs.declared.grammar.Command as command
 use Rattle.lot_text.specs.declared.grammar.NamedTurn.{NamedTurn}

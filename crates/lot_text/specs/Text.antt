@@ -1,17 +1,17 @@
 -- The printed forms.
 use Rattle.std.specs.Prelude.{ℕ, ◌+◌, ◌*◌, List, [], ◌∷◌, ◌++◌, codes, decimal}
 use Rattle.std.specs.List.{join_by}
-use Rattle.parking_lot_core.specs.declared.wants.Waiter.{Waiter}
-use Rattle.parking_lot_core.specs.declared.wants.Want.{Want}
-use Rattle.parking_lot_core.specs.declared.wants.Want as want
+use Rattle.lot_base.specs.declared.wants.Waiter.{Waiter}
+use Rattle.lot_base.specs.declared.wants.Want.{Want}
+use Rattle.lot_base.specs.declared.wants.Want as want
 use Rattle.lot_steps.specs.declared.owners.Owner.{Owner}
 use Rattle.lot_steps.specs.declared.owners.Owner as owner
-use Rattle.lot_steps.specs.declared.calls.Outcome.{Outcome}
-use Rattle.lot_steps.specs.declared.calls.Outcome.TheVariants.{NotNow, Step, Sleep, Closure, End}
-use Rattle.lot_steps.specs.declared.calls.Answer.{Answer}
-use Rattle.lot_steps.specs.declared.calls.Answer as answer
-use Rattle.lot_steps.specs.declared.calls.OnceState.{OnceState}
-use Rattle.lot_steps.specs.declared.calls.OnceState as state
+use Rattle.lot_calls.specs.declared.outcomes.Outcome.{Outcome}
+use Rattle.lot_calls.specs.declared.outcomes.Outcome.TheVariants.{NotNow, Step, Sleep, Closure, End}
+use Rattle.lot_calls.specs.declared.outcomes.Answer.{Answer}
+use Rattle.lot_calls.specs.declared.outcomes.Answer as answer
+use Rattle.lot_calls.specs.declared.outcomes.OnceState.{OnceState}
+use Rattle.lot_calls.specs.declared.outcomes.OnceState as state
 use Rattle.lot_world.specs.declared.views.Debt.{Debt}
 use Rattle.lot_world.specs.declared.views.Debt.TheVariants.{Owes, Retries}
 use Rattle.lot_world.specs.Machine.{State, word_at, queue_at}

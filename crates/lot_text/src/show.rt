@@ -6,8 +6,8 @@ ghost use Rattle.lot_text.specs.Text.{owner_letter, want_letter, owners_text, wa
 
 use crate::names::Name;
 use crate::output::Page;
+use lot_base::{ListQueues, Waiter, Want, main_key};
 use lot_world::{Debt, Debts, MOST_LOCKS, Owner, OwnersOf, QueueOf, World};
-use parking_lot_core::{ListQueues, Waiter, Want, main_key};
 use std::io::Write;
 
 /// Prints a line for each lock.

@@ -10,8 +10,8 @@ use Rattle.lot_words.specs.Lots.{IsSeatOf, IsWordOf}
 use Rattle.lot_words.specs.declared.table.LotWords.{LotWords}
 use Rattle.lot_words.specs.declared.views.View.{View}
 use Rattle.lot_words.specs.declared.words.Word.{Word}
-use Rattle.parking_lot_core.specs.Words.{apply}
-use Rattle.parking_lot_core.specs.declared.ops.Op.{Op}
+use Rattle.lot_base.specs.Words.{apply}
+use Rattle.lot_base.specs.declared.ops.Op.{Op}
 use Rattle.lot_words.proofs.Keeps.{steps_at_word}
 use Rattle.lot_words.proofs.Places.{rank_lt}
 

@@ -11,9 +11,9 @@ use Rattle.lot_words.specs.Places.{place, counter}
 use Rattle.lot_words.specs.Views.{view, blank, total, total_below, owned, named, counted, steps_at, drew}
 use Rattle.lot_words.specs.Codes.{Owners, Codes, Shows, IsCountCode}
 use Rattle.lot_words.specs.Rule.{LotRule}
-use Rattle.parking_lot_core.specs.Words.{apply}
-use Rattle.parking_lot_core.specs.declared.ops.Op.{Op}
-use Rattle.parking_lot_core.specs.declared.ops.Op.TheVariants.{Load, Exchange}
+use Rattle.lot_base.specs.Words.{apply}
+use Rattle.lot_base.specs.declared.ops.Op.{Op}
+use Rattle.lot_base.specs.declared.ops.Op.TheVariants.{Load, Exchange}
 use Rattle.lot_words.specs.Steps.{has, IsTied, trade, MayStep, listed, after_step}
 use Rattle.lot_words.specs.Plays.{TakesAs, Takes, looks, draws, numbered, left_over, piece, takes_in}
 use Rattle.lot_words.specs.declared.owners.Ownership.{Ownership}

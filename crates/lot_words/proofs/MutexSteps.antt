@@ -2,9 +2,9 @@
 use Rattle.std.proofs.Common.{◌≡◌, ℕ, ◌+◌, ◌%◌, ◌<◌, ◌≤◌, List, [], ◌∷◌, true, cond, eqb, sym, subst, arith, eq-eqb, ne_eqb}
 use mathlib.Core.Logic.{dite}
 use native.Mathlib.Decide.{ℕ_discrete}
-use Rattle.parking_lot_core.specs.Words.{apply}
-use Rattle.parking_lot_core.specs.declared.ops.Op.{Op}
-use Rattle.parking_lot_core.specs.declared.ops.Op.TheVariants.{Load, Sub, Or, And, Exchange}
+use Rattle.lot_base.specs.Words.{apply}
+use Rattle.lot_base.specs.declared.ops.Op.{Op}
+use Rattle.lot_base.specs.declared.ops.Op.TheVariants.{Load, Sub, Or, And, Exchange}
 use Rattle.lot_words.specs.Views.{total, owned, owning}
 use Rattle.lot_words.specs.Codes.{Owners, IsMutexCode, everyone, exclusive}
 use Rattle.lot_words.specs.Steps.{Trade, trading, has, HasAll, MayStep}

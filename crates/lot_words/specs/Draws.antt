@@ -1,8 +1,8 @@
 -- How words are drawn.
 use Rattle.std.specs.Prelude.{◌≡◌, ℕ, ◌+◌, ◌<◌, ◌≤◌, List, [], ◌∷◌, ◌++◌, length, All}
-use Rattle.parking_lot_core.specs.Words.{apply}
-use Rattle.parking_lot_core.specs.declared.ops.Op.{Op}
-use Rattle.parking_lot_core.specs.declared.ops.Op.TheVariants.{Exchange}
+use Rattle.lot_base.specs.Words.{apply}
+use Rattle.lot_base.specs.declared.ops.Op.{Op}
+use Rattle.lot_base.specs.declared.ops.Op.TheVariants.{Exchange}
 use Rattle.lot_words.specs.Places.{counter}
 use Rattle.lot_words.specs.Plays.{numbered}
 use Rattle.lot_words.specs.declared.views.View.{View}

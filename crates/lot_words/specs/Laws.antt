@@ -1,6 +1,6 @@
 -- What the codes say of owners.
 use Rattle.std.specs.Prelude.{◌≡◌, ℕ, ◌+◌, ◌%◌, ◌<◌, List, true}
-use Rattle.parking_lot_core.specs.declared.ops.Op.TheVariants.{Load, Sub, Or, And, Exchange}
+use Rattle.lot_base.specs.declared.ops.Op.TheVariants.{Load, Sub, Or, And, Exchange}
 use Rattle.lot_words.specs.Views.{owning}
 use Rattle.lot_words.specs.Steps.{MayStep, has}
 use Rattle.lot_words.specs.declared.owners.Owner.TheVariants.{Exclusive}

@@ -1,8 +1,8 @@
 -- What each step tells who takes it: of the step, the seat before, the value found and the seat after.
 use Rattle.std.specs.Prelude.{◌≡◌, ◌≢◌, ℕ, ◌+◌, ◌<◌, List, [], ◌∷◌, ◌++◌, refl}
 use Rattle.atomic_table.specs.Table.{Me, Step}
-use Rattle.parking_lot_core.specs.declared.ops.Op.{Op}
-use Rattle.parking_lot_core.specs.declared.ops.Op.TheVariants.{Load, Store, Swap, Add, Sub, Or, And, Exchange}
+use Rattle.lot_base.specs.declared.ops.Op.{Op}
+use Rattle.lot_base.specs.declared.ops.Op.TheVariants.{Load, Store, Swap, Add, Sub, Or, And, Exchange}
 use Rattle.lot_words.specs.Places.{counter, place, kind_at}
 use Rattle.lot_words.specs.Views.{view}
 use Rattle.lot_words.specs.Steps.{CodesWith, listed, after_step, without}

@@ -7,7 +7,7 @@ use Rattle.lot_words.specs.declared.owners.Owner.TheVariants.{Exclusive, Upgrada
 use Rattle.lot_words.specs.declared.owners.Ownership.{Ownership}
 use Rattle.lot_words.specs.declared.views.View.{View}
 use Rattle.lot_words.specs.declared.words.Word.{Word}
-use Rattle.parking_lot_core.specs.declared.wants.Want as Wants
+use Rattle.lot_base.specs.declared.wants.Want as Wants
 
 -- who has what was wanted owns the word so
 abbrev pub owner_for : Wants.Want → Owner

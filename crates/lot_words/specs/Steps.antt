@@ -1,7 +1,7 @@
 -- What a step on a word does to who owns it.
 use Rattle.std.specs.Prelude.{◌≡◌, ℕ, ◌+◌, ◌%◌, ◌^◌, ◌<◌, ◌≤◌, List, [], ◌∷◌, ◌++◌, Bool, true, false, cond, ◌==◌, ◌&&◌, ◌||◌, map}
-use Rattle.parking_lot_core.specs.Words.{apply}
-use Rattle.parking_lot_core.specs.declared.ops.Op.{Op}
+use Rattle.lot_base.specs.Words.{apply}
+use Rattle.lot_base.specs.declared.ops.Op.{Op}
 use Rattle.lot_words.specs.Views.{view, total, owned, owning}
 use Rattle.lot_words.specs.Codes.{Owners, Codes}
 use Rattle.lot_words.specs.declared.owners.Owner.{Owner}

@@ -7,7 +7,7 @@ ghost use Rattle.lot_words.specs.declared.words.WordKind.TheVariants.{Mutex, Cou
 use crate::plays::{Draws, Kinds, Looks};
 use crate::table::{LotWords, Seat};
 use crate::words::{Word, WordKind};
-use parking_lot_core::Fault;
+use lot_base::Fault;
 use std::marker::Brand;
 
 // The counter's place.

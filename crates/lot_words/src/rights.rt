@@ -5,7 +5,7 @@ ghost use Rattle.lot_words.specs.Rights.{named_by, piece_of};
 use crate::plays::{Piece, SplitsOff, TakesIn};
 use crate::table::{LotWords, Seat};
 use crate::words::Word;
-use parking_lot_core::Want;
+use lot_base::Want;
 use std::marker::Brand;
 
 /// The ownership of a word, split off the view of a seat. It borrows nothing, and takes no memory beside its word and want.

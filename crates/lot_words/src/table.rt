@@ -8,7 +8,7 @@ use crate::plays::{
 use crate::views::View;
 use crate::words::Word;
 use atomic_table::{Badge, Table};
-use parking_lot_core::Op;
+use lot_base::Op;
 use std::alloc::{AllocError, Global};
 use std::marker::Model;
 

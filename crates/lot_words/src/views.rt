@@ -5,7 +5,7 @@ ghost use Rattle.lot_words.specs.declared.owners.Ownership.{Ownership};
 ghost use Rattle.lot_words.specs.declared.views.WordStep.{WordStep};
 ghost use Rattle.lot_words.specs.declared.words.Word.{Word};
 
-use parking_lot_core::Op;
+use lot_base::Op;
 use std::marker::Model;
 
 /// A step that a seat took: at which place, by which operation, and the value before.

@@ -1,8 +1,8 @@
 -- What the changes of a line do to its counts.
 use Rattle.std.proofs.Common.{ℕ, Some, None, cond, ◌≡◌, ◌+◌, ◌≤◌, List, [], ◌∷◌, ◌==◌, refl, arith, drop}
 use Rattle.std.proofs.lemmas.Bool.Decides.{nat_tests}
-use Rattle.parking_lot_core.specs.declared.wants.Waiter.{Waiter}
-use Rattle.parking_lot_core.specs.Lines.{without, times, first_of}
+use Rattle.lot_base.specs.declared.wants.Waiter.{Waiter}
+use Rattle.lot_base.specs.Lines.{without, times, first_of}
 
 pub without_absent : (t : ℕ) (q : List Waiter) → times t q ≡ 0 → without t q ≡ q
 without_absent t [] h = refl

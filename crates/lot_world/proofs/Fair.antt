@@ -2,27 +2,27 @@
 use Rattle.std.proofs.Common.{ℕ, Bool, true, false, Option, Some, None, if◌then◌else◌, ◌==◌, ◌&&◌, not, ◌≡◌, ◌≢◌, ◌+◌, ◌*◌, ◌≤◌, ◌<◌, ◌⊎◌, inl, inr, List, [], ◌∷◌, length, map, refl, sym, ◌∙◌, ap, subst, arith, get_or-set_same}
 use Rattle.std.proofs.lemmas.Bool.{cases_eq, eqb-true}
 use Rattle.std.proofs.lemmas.Bool.Decides.{nat_tests}
-use Rattle.parking_lot_core.specs.declared.keys.Keys.TheVariants.{One}
-use Rattle.parking_lot_core.specs.declared.ops.Op.{Op}
-use Rattle.parking_lot_core.specs.declared.ops.Op as op
-use Rattle.parking_lot_core.specs.declared.wants.Waiter.{Waiter}
-use Rattle.parking_lot_core.specs.declared.wants.Want.{Want}
-use Rattle.parking_lot_core.specs.declared.wants.Want.TheVariants.{Exclusive}
-use Rattle.parking_lot_core.specs.Lines.{first_of}
-use Rattle.lot_steps.specs.declared.kinds.Kind as kind
+use Rattle.lot_base.specs.declared.keys.Keys.TheVariants.{One}
+use Rattle.lot_base.specs.declared.ops.Op.{Op}
+use Rattle.lot_base.specs.declared.ops.Op as op
+use Rattle.lot_base.specs.declared.wants.Waiter.{Waiter}
+use Rattle.lot_base.specs.declared.wants.Want.{Want}
+use Rattle.lot_base.specs.declared.wants.Want.TheVariants.{Exclusive}
+use Rattle.lot_base.specs.Lines.{first_of}
+use Rattle.lot_calls.specs.declared.kinds.Kind as kind
 use Rattle.lot_steps.specs.declared.acts.Act.{Act}
 use Rattle.lot_steps.specs.declared.acts.Act as act
-use Rattle.lot_steps.specs.declared.calls.Turn.{Turn}
-use Rattle.lot_steps.specs.declared.calls.Turn as turn
-use Rattle.lot_steps.specs.declared.calls.Step.{Step}
-use Rattle.lot_steps.specs.declared.calls.Outcome.{Outcome}
-use Rattle.lot_steps.specs.declared.mutex.Entry.TheVariants as entries
+use Rattle.lot_calls.specs.declared.calls.Turn.{Turn}
+use Rattle.lot_calls.specs.declared.calls.Turn as turn
+use Rattle.lot_calls.specs.declared.calls.Step.{Step}
+use Rattle.lot_calls.specs.declared.outcomes.Outcome.{Outcome}
+use Rattle.lot_steps.specs.declared.mutex.lock.Entry.TheVariants as entries
 use Rattle.lot_steps.specs.declared.mutex.MutexPlace.TheVariants.{Lock, TryLock, Unlock, UnlockFair, Bump, HandOff}
-use Rattle.lot_steps.specs.declared.mutex.LockAt.{LockAt}
-use Rattle.lot_steps.specs.declared.mutex.LockAt.TheVariants as lock
+use Rattle.lot_steps.specs.declared.mutex.lock.LockAt.{LockAt}
+use Rattle.lot_steps.specs.declared.mutex.lock.LockAt.TheVariants as lock
 use Rattle.lot_steps.specs.declared.mutex.TheConstants.{NOT_PARKED}
-use Rattle.lot_steps.specs.declared.mutex.HandOffAt.{HandOffAt}
-use Rattle.lot_steps.specs.declared.mutex.HandOffAt.TheVariants as hand_off
+use Rattle.lot_steps.specs.declared.mutex.hand_off.HandOffAt.{HandOffAt}
+use Rattle.lot_steps.specs.declared.mutex.hand_off.HandOffAt.TheVariants as hand_off
 use Rattle.lot_steps.specs.declared.places.Place.{Place}
 use Rattle.lot_steps.specs.declared.places.Place.TheVariants.{Idle, Mutex}
 use Rattle.lot_steps.specs.MutexSteps.{is_locked, is_parked, lock_act, hand_off_act, hand_off_word}
@@ -32,10 +32,11 @@ use Rattle.lot_world.specs.Fits.{IsShaped, PlaceFits}
 use Rattle.lot_world.specs.Promises.{Codes}
 use Rattle.lot_world.specs.Sound.{IsSound, Nobody, taken_from, Carries, queued, owner_at}
 use Rattle.lot_world.specs.OnlyMutexes.{OnlyMutexes, CallFits, is_mutex}
-use Rattle.lot_world.specs.Locks.{LockState, Queued, Rules, Rights, Taken, LockCase, Enter, Pend, Settle, Leave, Convert, Park, Aside, TakeFirst, TakeAside, TakePicked, Wake, HandOff as HandsLockOff, Late, Rollback, Needs, Owns, IsTaken, HasTakenNobody, IsLockState, Knows, keep_from, first_thread, rights_of}
-use Rattle.lot_world.specs.Locks as locks
-use Rattle.lot_world.specs.LockRuns.{LocksState, Event, Nothing, AtLock, AreLockStates, GoesOn, MayHappen, IsStep, Turned, rules_at, locks_after}
-use Rattle.lot_world.specs.Refinement.{lock_state, locks_of, queued_of, call_state}
+use Rattle.abstract_locks.specs.Locks.{LockState, Queued, Rules, Rights, Taken, LockCase, Enter, Pend, Settle, Leave, Convert, Park, Aside, TakeFirst, TakeAside, TakePicked, Wake, HandOff as HandsLockOff, Late, Rollback, Needs, Owns, IsTaken, HasTakenNobody, IsLockState, Knows, keep_from, first_thread, rights_of}
+use Rattle.abstract_locks.specs.Locks as locks
+use Rattle.abstract_locks.specs.Runs.{LocksState, Event, Nothing, AtLock, AreLockStates, GoesOn, MayHappen, IsStep, Turned, rules_at, locks_after}
+use Rattle.abstract_locks.specs.Picks.{queued_of}
+use Rattle.lot_world.specs.Refinement.{lock_state, locks_of, call_state}
 use Rattle.lot_world.specs.Fair.{IsFairRelease, OwnsOn, HandsOver, LetsGo, IsFair, EachIsFair}
 use Rattle.lot_world.proofs.Shape.{after_shaped}
 use Rattle.lot_world.proofs.Counts.{first_times}

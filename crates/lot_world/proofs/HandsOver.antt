@@ -1,13 +1,13 @@
 -- The store that hands a lock over keeps what holds between steps.
 use Rattle.std.proofs.Common.{ℕ, Bool, true, false, Option, Some, None, if◌then◌else◌, ◌&&◌, ◌≡◌, ◌≢◌, ◌≤◌, ◌⊎◌, inl, inr, List, refl, sym, ◌∙◌, ap}
 use Rattle.std.proofs.lemmas.Bool.{cases_eq}
-use Rattle.parking_lot_core.specs.declared.wants.Waiter.{Waiter}
+use Rattle.lot_base.specs.declared.wants.Waiter.{Waiter}
 use Rattle.lot_steps.specs.declared.places.Place.{Place}
 use Rattle.lot_steps.specs.declared.places.Place.TheVariants.{Mutex}
-use Rattle.lot_steps.specs.declared.mutex.Entry.{Entry}
+use Rattle.lot_steps.specs.declared.mutex.lock.Entry.{Entry}
 use Rattle.lot_steps.specs.declared.mutex.MutexPlace.TheVariants.{Lock, HandOff}
-use Rattle.lot_steps.specs.declared.mutex.LockAt.TheVariants.{Taken, Handed}
-use Rattle.lot_steps.specs.declared.mutex.HandOffAt.TheVariants.{Store, Leave}
+use Rattle.lot_steps.specs.declared.mutex.lock.LockAt.TheVariants.{Taken, Handed}
+use Rattle.lot_steps.specs.declared.mutex.hand_off.HandOffAt.TheVariants.{Store, Leave}
 use Rattle.lot_world.specs.Promises.{Codes}
 use Rattle.lot_world.specs.Sound.{Sound, Nobody, taken_from, handed_over, IsTakenBy, Carries, Debtor, inside, queued, holds, finds_empty}
 use Rattle.lot_world.proofs.Keeps.{Changed}

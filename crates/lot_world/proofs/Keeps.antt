@@ -1,7 +1,7 @@
 -- A step on a word keeps what holds between steps.
 use Rattle.std.proofs.Common.{ℕ, Option, Some, None, ◌≡◌, ◌≢◌, ◌≤◌, ◌⊎◌, inl, inr, List, sym, ◌∙◌, ap}
 use Rattle.std.proofs.lemmas.Bool.{cases_eq}
-use Rattle.parking_lot_core.specs.declared.wants.Waiter.{Waiter}
+use Rattle.lot_base.specs.declared.wants.Waiter.{Waiter}
 use Rattle.lot_steps.specs.declared.places.Place.{Place}
 use Rattle.lot_world.specs.Promises.{Codes}
 use Rattle.lot_world.specs.Sound.{Sound, Nobody, Taking, IsTakenBy, Carries, Debtor, inside, queued, holds, finds_empty}

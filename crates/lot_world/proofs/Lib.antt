@@ -11,8 +11,6 @@ pub mod Parks
 pub mod HandsOver
 pub mod Steady
 pub mod OnlyMutexes
-pub mod LockKeeps
-pub mod Picks
 pub mod LockEvents
 pub mod LockHands
 pub mod LockSteps

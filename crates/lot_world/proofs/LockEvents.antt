@@ -5,26 +5,26 @@ use Rattle.std.proofs.lemmas.Bool.{cases_eq, eqb-true}
 use Rattle.std.proofs.lemmas.Bool.Decides.{nat_tests}
 use Rattle.std.proofs.Math.ListN.{get_or-map}
 use Rattle.std.proofs.lemmas.List.{length-map}
-use Rattle.parking_lot_core.specs.declared.keys.Keys.TheVariants.{One}
-use Rattle.parking_lot_core.specs.declared.notes.Note.TheVariants.{Normal}
-use Rattle.parking_lot_core.specs.declared.wants.Waiter.{Waiter}
-use Rattle.parking_lot_core.specs.declared.wants.Want.{Want}
-use Rattle.parking_lot_core.specs.declared.wants.Want.TheVariants.{Exclusive}
-use Rattle.parking_lot_core.specs.Lines.{waiter, without, first_of, times}
-use Rattle.lot_steps.specs.declared.kinds.Kind.{Kind}
-use Rattle.lot_steps.specs.declared.kinds.Kind as kind
+use Rattle.lot_base.specs.declared.keys.Keys.TheVariants.{One}
+use Rattle.lot_base.specs.declared.notes.Note.TheVariants.{Normal}
+use Rattle.lot_base.specs.declared.wants.Waiter.{Waiter}
+use Rattle.lot_base.specs.declared.wants.Want.{Want}
+use Rattle.lot_base.specs.declared.wants.Want.TheVariants.{Exclusive}
+use Rattle.lot_base.specs.Lines.{waiter, without, first_of, times}
+use Rattle.lot_calls.specs.declared.kinds.Kind.{Kind}
+use Rattle.lot_calls.specs.declared.kinds.Kind as kind
 use Rattle.lot_steps.specs.declared.owners.Owners.{Owners}
 use Rattle.lot_steps.specs.declared.acts.Reply.TheVariants.{TakenBy, Woken}
-use Rattle.lot_steps.specs.declared.calls.Answer.{Answer}
-use Rattle.lot_steps.specs.declared.calls.Answer as answer
-use Rattle.lot_steps.specs.declared.calls.Outcome.{Outcome}
-use Rattle.lot_steps.specs.declared.calls.Outcome as outcome
-use Rattle.lot_steps.specs.declared.mutex.Entry.{Entry}
-use Rattle.lot_steps.specs.declared.mutex.Entry.TheVariants as entries
+use Rattle.lot_calls.specs.declared.outcomes.Answer.{Answer}
+use Rattle.lot_calls.specs.declared.outcomes.Answer as answer
+use Rattle.lot_calls.specs.declared.outcomes.Outcome.{Outcome}
+use Rattle.lot_calls.specs.declared.outcomes.Outcome as outcome
+use Rattle.lot_steps.specs.declared.mutex.lock.Entry.{Entry}
+use Rattle.lot_steps.specs.declared.mutex.lock.Entry.TheVariants as entries
 use Rattle.lot_steps.specs.declared.mutex.MutexPlace.TheVariants.{Lock, TryLock, Unlock, UnlockFair, Bump, HandOff}
-use Rattle.lot_steps.specs.declared.mutex.LockAt.{LockAt}
-use Rattle.lot_steps.specs.declared.mutex.LockAt.TheVariants.{First, Load, Check, Leave, Taken, Remove}
-use Rattle.lot_steps.specs.declared.mutex.UnlockAt.TheVariants as unlock
+use Rattle.lot_steps.specs.declared.mutex.lock.LockAt.{LockAt}
+use Rattle.lot_steps.specs.declared.mutex.lock.LockAt.TheVariants.{First, Load, Check, Leave, Taken, Remove}
+use Rattle.lot_steps.specs.declared.mutex.unlock.UnlockAt.TheVariants as unlock
 use Rattle.lot_steps.specs.declared.places.Place.{Place}
 use Rattle.lot_steps.specs.declared.places.Place.TheVariants.{Idle, Mutex}
 use Rattle.lot_steps.specs.MutexSteps.{with_exclusive, is_timed}
@@ -34,11 +34,12 @@ use Rattle.lot_world.specs.Promises.{Codes}
 use Rattle.lot_world.specs.Sound.{IsSound, owner_at, Taking, taken_from, IsTakenBy, Carries, inside, queued, one_if, main_section, main_queue}
 use Rattle.lot_world.proofs.Counts.{without_absent, first_times}
 use Rattle.lot_world.proofs.Parks.{IsAsleep, asleep, alone}
-use Rattle.lot_world.specs.Locks.{LockState, Rules, Rights, LockCase, Enter, Taken as LockTaken, HasTakenNobody, Needs, Owns, IsBlocked, IsTaken, IsSuccessor, rights_of, with_right, without_right, is_thread, is_pending, one_if_some, readers, shares_handed, sharing_from, sharing_handed, leaving, put as putting}
-use Rattle.lot_world.specs.Locks as locks
-use Rattle.lot_world.specs.LockRuns.{LocksState, CallState, Event, is_taken_by, woken, Nothing, AtLock, MayHappen, Agrees, GoesOn, locks_after, going_on, unless_ended, rules_at, AnswerHolds, one_more_at}
-use Rattle.lot_world.specs.Purposes.{Purpose, rules_of, IsMadeOf}
-use Rattle.lot_world.specs.Refinement.{lock_state, lock_seen, queued_of, taken_at, gave_up_at, is_handed, is_bump, entry_purpose, release_purpose, before_release, before_entry, call_state, locks_of}
+use Rattle.abstract_locks.specs.Locks.{LockState, Rules, Rights, LockCase, Enter, Taken as LockTaken, HasTakenNobody, Needs, Owns, IsBlocked, IsTaken, IsSuccessor, rights_of, with_right, without_right, is_thread, is_pending, one_if_some, readers, shares_handed, sharing_from, sharing_handed, leaving, put as putting}
+use Rattle.abstract_locks.specs.Locks as locks
+use Rattle.abstract_locks.specs.Runs.{LocksState, CallState, Event, is_taken_by, woken, Nothing, AtLock, MayHappen, Agrees, GoesOn, locks_after, going_on, unless_ended, rules_at, AnswerHolds, one_more_at}
+use Rattle.abstract_locks.specs.Purposes.{Purpose, rules_of, IsMadeOf}
+use Rattle.abstract_locks.specs.Picks.{queued_of}
+use Rattle.lot_world.specs.Refinement.{lock_state, lock_seen, taken_at, gave_up_at, is_handed, is_bump, entry_purpose, release_purpose, before_release, before_entry, call_state, locks_of}
 use Rattle.lot_world.specs.OnlyMutexes.{AllExclusive, OnlyMutexes, is_mutex}
 use Rattle.lot_world.proofs.Steady.{IsTakenAt, in_hand, stands_at, stood, absent, same_without}
 use Rattle.lot_world.proofs.Shape.{main_line_there}

@@ -1,22 +1,22 @@
 -- The store by which a thread hands a lock over is a step of the abstract locks.
 use Rattle.std.proofs.Common.{ℕ, zero, suc, Bool, true, false, Option, Some, None, if◌then◌else◌, ◌==◌, ◌&&◌, ◌≡◌, ◌≢◌, ◌+◌, ◌-◌, ◌<◌, ◌*◌, inl, inr, ◌∷◌, length, set, replicate, refl, sym, ◌∙◌, ap, get_or-set_other, get_or-set_same, length-set}
 use Rattle.std.proofs.lemmas.Bool.{cases_eq}
-use Rattle.parking_lot_core.specs.declared.ops.Op.{Op}
-use Rattle.parking_lot_core.specs.declared.wants.Want.{Want}
-use Rattle.parking_lot_core.specs.declared.wants.Want.TheVariants.{Exclusive}
-use Rattle.lot_steps.specs.declared.kinds.Kind as kind
+use Rattle.lot_base.specs.declared.ops.Op.{Op}
+use Rattle.lot_base.specs.declared.wants.Want.{Want}
+use Rattle.lot_base.specs.declared.wants.Want.TheVariants.{Exclusive}
+use Rattle.lot_calls.specs.declared.kinds.Kind as kind
 use Rattle.lot_steps.specs.declared.acts.Reply.TheVariants.{HandedBy}
-use Rattle.lot_steps.specs.declared.calls.Outcome as outcome
+use Rattle.lot_calls.specs.declared.outcomes.Outcome as outcome
 use Rattle.lot_steps.specs.declared.mutex.MutexPlace.TheVariants.{Lock, TryLock, Unlock, UnlockFair, Bump, HandOff}
-use Rattle.lot_steps.specs.declared.mutex.LockAt.TheVariants.{First, Taken, Handed}
-use Rattle.lot_steps.specs.declared.mutex.HandOffAt.TheVariants.{Store, Leave}
+use Rattle.lot_steps.specs.declared.mutex.lock.LockAt.TheVariants.{First, Taken, Handed}
+use Rattle.lot_steps.specs.declared.mutex.hand_off.HandOffAt.TheVariants.{Store, Leave}
 use Rattle.lot_steps.specs.declared.places.Place.{Place}
 use Rattle.lot_steps.specs.declared.places.Place.TheVariants.{Idle, Mutex}
 use Rattle.lot_steps.specs.MutexSteps.{with_exclusive}
 use Rattle.lot_world.specs.Machine.{State, unlocked, place_at, owners_at, queue_at, put, operated, befallen}
-use Rattle.lot_world.specs.Locks.{LockState, Queued, Rights, Taken as LockTaken, IsTaken, IsSuccessor, rights_of, with_right, without_right, is_thread, shares_handed, sharing_from, sharing_handed, leaving, let_go, put as putting}
-use Rattle.lot_world.specs.Locks as locks
-use Rattle.lot_world.specs.LockRuns.{GoesOn, AtLock, is_taken_by, one_more_at, one_less_at}
+use Rattle.abstract_locks.specs.Locks.{LockState, Queued, Rights, Taken as LockTaken, IsTaken, IsSuccessor, rights_of, with_right, without_right, is_thread, shares_handed, sharing_from, sharing_handed, leaving, let_go, put as putting}
+use Rattle.abstract_locks.specs.Locks as locks
+use Rattle.abstract_locks.specs.Runs.{GoesOn, AtLock, is_taken_by, one_more_at, one_less_at}
 use Rattle.lot_world.specs.Refinement.{lock_state, taken_at, is_bump, entry_purpose, release_purpose, before_entry, call_state, locks_of}
 use Rattle.lot_world.specs.Sound.{IsSound, IsTakenBy, taken_from, Carries, holds, owner_at}
 use Rattle.lot_world.proofs.Steady.{IsTakenAt, in_hand}

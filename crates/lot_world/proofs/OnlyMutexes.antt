@@ -2,16 +2,16 @@
 use Rattle.std.proofs.Common.{ℕ, zero, suc, Bool, true, false, cond, Option, Some, None, if◌then◌else◌, ◌==◌, ◌&&◌, not, ◌≡◌, ◌+◌, ◌*◌, ◌≤◌, inl, inr, List, [], ◌∷◌, ◌++◌, length, get_or, set, map, drop, refl, ◌∙◌, ap, arith, nat_lt, get_or-set_other, get_or-set_same}
 use Rattle.std.proofs.lemmas.Bool.{cases_eq, cases_lt}
 use Rattle.std.proofs.Math.ListN.{get_or-map}
-use Rattle.parking_lot_core.specs.declared.keys.Keys.{Keys}
-use Rattle.parking_lot_core.specs.declared.keys.Keys.TheVariants.{One, Two}
-use Rattle.parking_lot_core.specs.declared.ops.Op.{Op}
-use Rattle.parking_lot_core.specs.declared.ops.Op as op
-use Rattle.parking_lot_core.specs.declared.wants.Waiter.{Waiter}
-use Rattle.parking_lot_core.specs.declared.wants.Want.{Want}
-use Rattle.parking_lot_core.specs.declared.wants.Want.TheVariants.{Exclusive}
-use Rattle.parking_lot_core.specs.Lines.{waiter, without, first_of}
-use Rattle.lot_steps.specs.declared.kinds.Kind.{Kind}
-use Rattle.lot_steps.specs.declared.kinds.Kind as kind
+use Rattle.lot_base.specs.declared.keys.Keys.{Keys}
+use Rattle.lot_base.specs.declared.keys.Keys.TheVariants.{One, Two}
+use Rattle.lot_base.specs.declared.ops.Op.{Op}
+use Rattle.lot_base.specs.declared.ops.Op as op
+use Rattle.lot_base.specs.declared.wants.Waiter.{Waiter}
+use Rattle.lot_base.specs.declared.wants.Want.{Want}
+use Rattle.lot_base.specs.declared.wants.Want.TheVariants.{Exclusive}
+use Rattle.lot_base.specs.Lines.{waiter, without, first_of}
+use Rattle.lot_calls.specs.declared.kinds.Kind.{Kind}
+use Rattle.lot_calls.specs.declared.kinds.Kind as kind
 use Rattle.lot_steps.specs.declared.owners.Owners.{Owners}
 use Rattle.lot_steps.specs.declared.acts.Act.{Act}
 use Rattle.lot_steps.specs.declared.acts.Act.TheVariants.{Word, HandOver, Enter, Park, TakeFirst, Remove, Leave}
@@ -20,32 +20,32 @@ use Rattle.lot_steps.specs.declared.acts.Wakes.{Wakes}
 use Rattle.lot_steps.specs.declared.acts.Wakes as wakes
 use Rattle.lot_steps.specs.declared.acts.Reply.{Reply}
 use Rattle.lot_steps.specs.declared.acts.Reply.TheVariants.{Done, Value, Spun, Parked, Removed, TakenBy, HandedBy, Late, Woken}
-use Rattle.parking_lot_core.specs.declared.notes.Note as note
-use Rattle.lot_steps.specs.declared.calls.Answer as answer
-use Rattle.lot_steps.specs.declared.mutex.MutexCall.{MutexCall}
-use Rattle.lot_steps.specs.declared.mutex.MutexCall as mutex_call
+use Rattle.lot_base.specs.declared.notes.Note as note
+use Rattle.lot_calls.specs.declared.outcomes.Answer as answer
+use Rattle.lot_calls.specs.declared.calls.MutexCall.{MutexCall}
+use Rattle.lot_calls.specs.declared.calls.MutexCall as mutex_call
 use Rattle.lot_steps.specs.declared.acts.Next.{Next}
 use Rattle.lot_steps.specs.declared.acts.Next as next
-use Rattle.lot_steps.specs.declared.calls.Call.{Call}
-use Rattle.lot_steps.specs.declared.calls.Call as call
-use Rattle.lot_steps.specs.declared.calls.Turn.{Turn}
-use Rattle.lot_steps.specs.declared.calls.Turn as turn
-use Rattle.lot_steps.specs.declared.calls.Step.{Step}
-use Rattle.lot_steps.specs.declared.mutex.Entry.{Entry}
-use Rattle.lot_steps.specs.declared.mutex.Entry.TheVariants as entries
+use Rattle.lot_calls.specs.declared.calls.Call.{Call}
+use Rattle.lot_calls.specs.declared.calls.Call as call
+use Rattle.lot_calls.specs.declared.calls.Turn.{Turn}
+use Rattle.lot_calls.specs.declared.calls.Turn as turn
+use Rattle.lot_calls.specs.declared.calls.Step.{Step}
+use Rattle.lot_steps.specs.declared.mutex.lock.Entry.{Entry}
+use Rattle.lot_steps.specs.declared.mutex.lock.Entry.TheVariants as entries
 use Rattle.lot_steps.specs.declared.mutex.MutexPlace.{MutexPlace}
 use Rattle.lot_steps.specs.declared.mutex.MutexPlace.TheVariants.{Lock, TryLock, Unlock, UnlockFair, Bump, HandOff}
-use Rattle.lot_steps.specs.declared.mutex.LockAt.{LockAt}
-use Rattle.lot_steps.specs.declared.mutex.LockAt as lock
-use Rattle.lot_steps.specs.declared.mutex.UnlockAt.{UnlockAt}
-use Rattle.lot_steps.specs.declared.mutex.UnlockAt as unlock
-use Rattle.lot_steps.specs.declared.mutex.HandOffAt.{HandOffAt}
-use Rattle.lot_steps.specs.declared.mutex.HandOffAt.TheVariants as hand_off
+use Rattle.lot_steps.specs.declared.mutex.lock.LockAt.{LockAt}
+use Rattle.lot_steps.specs.declared.mutex.lock.LockAt as lock
+use Rattle.lot_steps.specs.declared.mutex.unlock.UnlockAt.{UnlockAt}
+use Rattle.lot_steps.specs.declared.mutex.unlock.UnlockAt as unlock
+use Rattle.lot_steps.specs.declared.mutex.hand_off.HandOffAt.{HandOffAt}
+use Rattle.lot_steps.specs.declared.mutex.hand_off.HandOffAt.TheVariants as hand_off
 use Rattle.lot_steps.specs.declared.places.Place.{Place}
 use Rattle.lot_steps.specs.declared.places.Place.TheVariants.{Idle, Mutex}
 use Rattle.lot_steps.specs.Acts.{holds}
-use Rattle.lot_steps.specs.Kinds.{has_call, is_fair}
-use Rattle.lot_steps.specs.MutexSteps.{is_locked, is_parked, is_timed, with_exclusive, entered, looked, hand_off_next, in_lock, in_unlock, in_hand_off, unlock_next, mutex_first, mutex_next, lock_act}
+use Rattle.lot_calls.specs.Kinds.{has_call, is_fair}
+use Rattle.lot_steps.specs.MutexSteps.{is_locked, is_parked, is_timed, with_exclusive, entered, looked, next_hand_off, in_lock, in_unlock, in_hand_off, next_unlock, mutex_first, mutex_next, lock_act}
 use Rattle.lot_steps.specs.Steps.{act_of, next_place, mutex_goes, owners_after, spin_lock, late_key, first_place, is_idle, has_right}
 use Rattle.lot_world.specs.Machine.{State, unlocked, opening, place_at, word_at, owners_at, kind_at, queue_at, put, operated, filled_with, appended, first_taken, removed, parked, befallen, taken_by, took, awakened, performed, gone, go_reply, reply_to, begun, can_begin, is_open_to, spun, spun_on, lated, late_on, turned, can_turn, is_possible, after}
 use Rattle.lot_world.specs.OnlyMutexes.{AllExclusive, is_mutex, GivesUpTimed, CallFits, OnlyMutexes}
@@ -201,7 +201,7 @@ lock_timely l entry retries lock.TheVariants.GiveUp Done h late = tt
 lock_timely l entry retries at reply h late = h
 
 unlock_timely : (at : UnlockAt) (reply : Reply) → NextFits (mutex_next (Unlock at) reply)
-unlock_timely at reply = within (unlock_next at reply)
+unlock_timely at reply = within (next_unlock at reply)
   where
     within : (n : Next UnlockAt) → NextFits (in_unlock n)
     within (next.TheVariants.At at) = tt
@@ -220,7 +220,7 @@ bump_timely (Value seen) = looked_timely true (is_parked seen)
 bump_timely reply = tt
 
 hand_off_timely : (bumps : Bool) (at : HandOffAt) (reply : Reply) → NextFits (mutex_next (HandOff bumps at) reply)
-hand_off_timely bumps at reply = within bumps (hand_off_next at reply)
+hand_off_timely bumps at reply = within bumps (next_hand_off at reply)
   where
     within : (b : Bool) (n : Next HandOffAt) → NextFits (in_hand_off b n)
     within b (next.TheVariants.At at) = tt

@@ -1,8 +1,8 @@
 -- The opening state.
 use Rattle.std.proofs.Common.{◌≡◌, ℕ, zero, suc, ◌*◌, Option, None, List, [], length, get_or, replicate, refl, ◌∷◌, map}
-use Rattle.lot_steps.specs.declared.kinds.Kind.{Kind}
-use Rattle.lot_steps.specs.declared.kinds.Kind as kind
-use Rattle.parking_lot_core.specs.declared.wants.Waiter.{Waiter}
+use Rattle.lot_calls.specs.declared.kinds.Kind.{Kind}
+use Rattle.lot_calls.specs.declared.kinds.Kind as kind
+use Rattle.lot_base.specs.declared.wants.Waiter.{Waiter}
 use Rattle.lot_steps.specs.declared.places.Place.TheVariants.{Idle}
 use Rattle.lot_world.specs.Machine.{State, unlocked, opening, nobody}
 

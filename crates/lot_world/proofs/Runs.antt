@@ -1,7 +1,7 @@
 -- A run by one step more.
 use Rattle.std.proofs.Common.{◌≡◌, List, [], ◌∷◌, ◌++◌, refl, ap, sym, ◌∙◌, append_assoc}
-use Rattle.lot_steps.specs.declared.calls.Step.{Step}
-use Rattle.lot_steps.specs.declared.calls.Outcome.{Outcome}
+use Rattle.lot_calls.specs.declared.calls.Step.{Step}
+use Rattle.lot_calls.specs.declared.outcomes.Outcome.{Outcome}
 use Rattle.lot_world.specs.Machine.{State, after, answered, after_all, answered_all}
 
 after_more : (w : State) (ss : List Step) (s : Step) → after_all w (ss ++ s ∷ []) ≡ after (after_all w ss) s

@@ -4,12 +4,12 @@ use Rattle.std.proofs.lemmas.List.{length-replicate}
 use Rattle.std.proofs.lemmas.Bool.{ltb-true}
 use Rattle.std.proofs.lemmas.List.{length-map}
 use Rattle.std.proofs.Math.ListN.{get_or-map}
-use Rattle.parking_lot_core.specs.declared.keys.Keys.{Keys}
-use Rattle.parking_lot_core.specs.declared.keys.Keys.TheVariants.{One, Two}
-use Rattle.parking_lot_core.specs.declared.ops.Op.{Op}
-use Rattle.parking_lot_core.specs.declared.wants.Waiter.{Waiter}
-use Rattle.parking_lot_core.specs.declared.wants.Want.{Want}
-use Rattle.parking_lot_core.specs.Lines.{waiter, without, first_of}
+use Rattle.lot_base.specs.declared.keys.Keys.{Keys}
+use Rattle.lot_base.specs.declared.keys.Keys.TheVariants.{One, Two}
+use Rattle.lot_base.specs.declared.ops.Op.{Op}
+use Rattle.lot_base.specs.declared.wants.Waiter.{Waiter}
+use Rattle.lot_base.specs.declared.wants.Want.{Want}
+use Rattle.lot_base.specs.Lines.{waiter, without, first_of}
 use Rattle.lot_steps.specs.declared.acts.Act.{Act}
 use Rattle.lot_steps.specs.declared.acts.Act.TheVariants.{Word, HandOver, Enter, Park, TakeFirst, Remove, Leave}
 use Rattle.lot_steps.specs.declared.acts.Check.{Check}
@@ -19,29 +19,30 @@ use Rattle.lot_steps.specs.declared.acts.Reply.{Reply}
 use Rattle.lot_steps.specs.declared.acts.Reply.TheVariants.{Done, Value, Spun, Took, TakenBy, HandedBy, Late, Woken}
 use Rattle.lot_steps.specs.declared.acts.Next.{Next}
 use Rattle.lot_steps.specs.declared.acts.Next as next
-use Rattle.lot_steps.specs.declared.calls.Answer as answer
-use Rattle.lot_steps.specs.declared.calls.Call.{Call}
-use Rattle.lot_steps.specs.declared.calls.Call as call
-use Rattle.lot_steps.specs.declared.kinds.Kind.{Kind}
-use Rattle.lot_steps.specs.declared.calls.Turn.{Turn}
-use Rattle.lot_steps.specs.declared.calls.Turn as turn
-use Rattle.lot_steps.specs.declared.calls.Step.{Step}
+use Rattle.lot_calls.specs.declared.outcomes.Answer as answer
+use Rattle.lot_calls.specs.declared.calls.Call.{Call}
+use Rattle.lot_calls.specs.declared.calls.Call as call
+use Rattle.lot_calls.specs.declared.kinds.Kind.{Kind}
+use Rattle.lot_calls.specs.declared.calls.Turn.{Turn}
+use Rattle.lot_calls.specs.declared.calls.Turn as turn
+use Rattle.lot_calls.specs.declared.calls.Step.{Step}
 use Rattle.lot_steps.specs.declared.places.Place.{Place}
 use Rattle.lot_steps.specs.declared.places.Place.TheVariants.{Idle, Mutex}
-use Rattle.lot_steps.specs.declared.mutex.MutexCall.{MutexCall}
-use Rattle.lot_steps.specs.declared.mutex.MutexCall as mutex_call
-use Rattle.lot_steps.specs.declared.mutex.Entry.{Entry}
+use Rattle.lot_calls.specs.declared.calls.MutexCall.{MutexCall}
+use Rattle.lot_calls.specs.declared.calls.MutexCall as mutex_call
+use Rattle.lot_steps.specs.declared.mutex.lock.Entry.{Entry}
 use Rattle.lot_steps.specs.declared.mutex.MutexPlace.{MutexPlace}
 use Rattle.lot_steps.specs.declared.mutex.MutexPlace.TheVariants.{Lock, TryLock, Unlock, UnlockFair, Bump, HandOff}
-use Rattle.lot_steps.specs.declared.mutex.LockAt.{LockAt}
-use Rattle.lot_steps.specs.declared.mutex.UnlockAt.{UnlockAt}
-use Rattle.lot_steps.specs.declared.mutex.UnlockAt as unlock
-use Rattle.lot_steps.specs.declared.mutex.HandOffAt.{HandOffAt}
-use Rattle.lot_steps.specs.declared.mutex.HandOffAt.TheVariants as hand_off
+use Rattle.lot_steps.specs.declared.mutex.lock.LockAt.{LockAt}
+use Rattle.lot_steps.specs.declared.mutex.unlock.UnlockAt.{UnlockAt}
+use Rattle.lot_steps.specs.declared.mutex.unlock.UnlockAt as unlock
+use Rattle.lot_steps.specs.declared.mutex.hand_off.HandOffAt.{HandOffAt}
+use Rattle.lot_steps.specs.declared.mutex.hand_off.HandOffAt.TheVariants as hand_off
 use Rattle.lot_steps.specs.Acts.{holds}
-use Rattle.lot_steps.specs.Kinds.{is_fair}
-use Rattle.lot_steps.specs.MutexSteps.{is_locked, is_parked, mutex_first, lock_next, still_retries, unlock_next, hand_off_next, looked, unlock_fair_next, bump_next, try_next, in_lock, in_unlock, in_hand_off, mutex_next}
-use Rattle.lot_steps.specs.Steps.{is_idle, lock_in, first_place, act_of, next_place, mutex_goes, spin_lock, late_key}
+use Rattle.lot_calls.specs.Kinds.{is_fair}
+use Rattle.lot_steps.specs.MutexSteps.{is_locked, is_parked, mutex_first, next_lock, still_retries, next_unlock, next_hand_off, looked, unlock_fair_next, bump_next, try_next, in_lock, in_unlock, in_hand_off, mutex_next}
+use Rattle.lot_calls.specs.Calls.{lock_in}
+use Rattle.lot_steps.specs.Steps.{is_idle, first_place, act_of, next_place, mutex_goes, spin_lock, late_key}
 use Rattle.lot_world.specs.Machine.{State, unlocked, opening, kind_at, word_at, place_at, queue_at, put, operated, filled_with, appended, first_taken, removed, parked, befallen, taken_by, took, awakened, performed, gone, go_reply, reply_to, begun, can_begin, is_open_to, spun, spun_on, lated, late_on, turned, can_turn, is_possible, after}
 use Rattle.lot_world.specs.Fits.{SomeBelow, taken_in, PlaceFits, AllBelow, IsShaped, SameSize}
 
@@ -104,7 +105,7 @@ try_fits threads (Value seen) = either (is_locked seen)
     either false = tt
 try_fits threads reply = tt
 
-unlock_fits : (threads : ℕ) (at : UnlockAt) (reply : Reply) → SomeBelow threads (taken_in (Unlock at)) → ReplyFits threads reply → NextFits threads (in_unlock (unlock_next at reply))
+unlock_fits : (threads : ℕ) (at : UnlockAt) (reply : Reply) → SomeBelow threads (taken_in (Unlock at)) → ReplyFits threads reply → NextFits threads (in_unlock (next_unlock at reply))
 unlock_fits threads unlock.TheVariants.Subtract (Value seen) h r = either (is_parked seen)
   where
     either : (b : Bool) → NextFits threads (in_unlock (if b then next.TheVariants.At unlock.TheVariants.Enter else next.TheVariants.End answer.TheVariants.Ok))
@@ -132,7 +133,7 @@ bump_fits : (threads : ℕ) (reply : Reply) → NextFits threads (bump_next repl
 bump_fits threads (Value seen) = looked_fits threads true (is_parked seen)
 bump_fits threads reply = tt
 
-hand_off_fits : (threads : ℕ) (bumps : Bool) (at : HandOffAt) (reply : Reply) → SomeBelow threads (taken_in (HandOff bumps at)) → ReplyFits threads reply → NextFits threads (in_hand_off bumps (hand_off_next at reply))
+hand_off_fits : (threads : ℕ) (bumps : Bool) (at : HandOffAt) (reply : Reply) → SomeBelow threads (taken_in (HandOff bumps at)) → ReplyFits threads reply → NextFits threads (in_hand_off bumps (next_hand_off at reply))
 hand_off_fits threads bumps hand_off.Take (Took first none_left) h r = r
 hand_off_fits threads bumps hand_off.Enter Done h r = tt
 hand_off_fits threads bumps (hand_off.Store taken none_left) (Value seen) h r = h
@@ -146,7 +147,7 @@ goes_fits threads locks l (next.TheVariants.End answer) lt h = tt
 
 pub next_fits : (threads locks : ℕ) (p : Place) (reply : Reply) → PlaceFits threads locks p → ReplyFits threads reply → PlaceFits threads locks (next_place p reply)
 next_fits threads locks Idle reply h r = tt
-next_fits threads locks (Mutex l (Lock entry retries at)) reply h r = goes_fits threads locks l (mutex_next (Lock entry retries at) reply) h.0 (lock_fits threads entry (still_retries retries reply) (lock_next entry at reply))
+next_fits threads locks (Mutex l (Lock entry retries at)) reply h r = goes_fits threads locks l (mutex_next (Lock entry retries at) reply) h.0 (lock_fits threads entry (still_retries retries reply) (next_lock entry at reply))
 next_fits threads locks (Mutex l TryLock) reply h r = goes_fits threads locks l (mutex_next TryLock reply) h.0 (try_fits threads reply)
 next_fits threads locks (Mutex l (Unlock at)) reply h r = goes_fits threads locks l (mutex_next (Unlock at) reply) h.0 (unlock_fits threads at reply h.1 r)
 next_fits threads locks (Mutex l UnlockFair) reply h r = goes_fits threads locks l (mutex_next UnlockFair reply) h.0 (unlock_fair_fits threads reply)

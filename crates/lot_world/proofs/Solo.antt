@@ -2,49 +2,51 @@
 use Rattle.std.proofs.Common.{ℕ, zero, suc, Bool, true, false, Option, Some, None, if◌then◌else◌, ◌==◌, ◌&&◌, not, ◌≡◌, ◌≢◌, ◌+◌, ◌*◌, ◌≤◌, ◌<◌, inl, inr, List, [], ◌∷◌, ◌++◌, length, get_or, drop, map, replicate, refl, sym, ◌∙◌, ap, subst, arith}
 use Rattle.std.proofs.lemmas.Bool.{cases_eq, eqb-true}
 use Rattle.std.proofs.lemmas.Bool.Decides.{nat_tests}
-use Rattle.parking_lot_core.specs.declared.notes.Note.TheVariants as note
-use Rattle.parking_lot_core.specs.declared.ops.Op as op
-use Rattle.parking_lot_core.specs.declared.wants.Waiter.{Waiter}
-use Rattle.parking_lot_core.specs.declared.wants.Want.TheVariants.{Exclusive}
-use Rattle.parking_lot_core.specs.Words.{apply}
-use Rattle.parking_lot_core.specs.Lines.{waiter, without, first_of}
+use Rattle.lot_base.specs.declared.notes.Note.TheVariants as note
+use Rattle.lot_base.specs.declared.ops.Op as op
+use Rattle.lot_base.specs.declared.wants.Waiter.{Waiter}
+use Rattle.lot_base.specs.declared.wants.Want.TheVariants.{Exclusive}
+use Rattle.lot_base.specs.Words.{apply}
+use Rattle.lot_base.specs.Lines.{waiter, without, first_of}
 use Rattle.lot_steps.specs.declared.acts.Act.{Act}
 use Rattle.lot_steps.specs.declared.acts.Act as act
 use Rattle.lot_steps.specs.declared.acts.Reply.TheVariants.{Value, Took, Removed}
 use Rattle.lot_steps.specs.declared.acts.Next as next
-use Rattle.lot_steps.specs.declared.calls.Answer as answer
-use Rattle.lot_steps.specs.declared.calls.Call.{Call}
-use Rattle.lot_steps.specs.declared.calls.Call as call
-use Rattle.lot_steps.specs.declared.mutex.MutexCall.{MutexCall}
-use Rattle.lot_steps.specs.declared.mutex.MutexCall as mutex_call
-use Rattle.lot_steps.specs.declared.kinds.Kind.{Kind}
-use Rattle.lot_steps.specs.declared.calls.Outcome.{Outcome}
-use Rattle.lot_steps.specs.declared.calls.Outcome as outcome
+use Rattle.lot_calls.specs.declared.outcomes.Answer as answer
+use Rattle.lot_calls.specs.declared.calls.Call.{Call}
+use Rattle.lot_calls.specs.declared.calls.Call as call
+use Rattle.lot_calls.specs.declared.calls.MutexCall.{MutexCall}
+use Rattle.lot_calls.specs.declared.calls.MutexCall as mutex_call
+use Rattle.lot_calls.specs.declared.kinds.Kind.{Kind}
+use Rattle.lot_calls.specs.declared.outcomes.Outcome.{Outcome}
+use Rattle.lot_calls.specs.declared.outcomes.Outcome as outcome
 use Rattle.lot_steps.specs.declared.mutex.TheConstants.{NOT_PARKED}
-use Rattle.lot_steps.specs.declared.mutex.Entry.{Entry}
-use Rattle.lot_steps.specs.declared.mutex.Entry.TheVariants as entries
+use Rattle.lot_steps.specs.declared.mutex.lock.Entry.{Entry}
+use Rattle.lot_steps.specs.declared.mutex.lock.Entry.TheVariants as entries
 use Rattle.lot_steps.specs.declared.mutex.MutexPlace.TheVariants.{Lock, TryLock, Unlock, UnlockFair, Bump, HandOff}
-use Rattle.lot_steps.specs.declared.mutex.LockAt.{LockAt}
-use Rattle.lot_steps.specs.declared.mutex.LockAt.TheVariants.{First, Load, Decide, Check, Leave, Asleep, Taken, Handed, Accept, Remove, Clear, GiveUp}
-use Rattle.lot_steps.specs.declared.mutex.UnlockAt.{UnlockAt}
-use Rattle.lot_steps.specs.declared.mutex.UnlockAt.TheVariants as unlock
-use Rattle.lot_steps.specs.declared.mutex.HandOffAt.{HandOffAt}
-use Rattle.lot_steps.specs.declared.mutex.HandOffAt.TheVariants as hand_off
+use Rattle.lot_steps.specs.declared.mutex.lock.LockAt.{LockAt}
+use Rattle.lot_steps.specs.declared.mutex.lock.LockAt.TheVariants.{First, Load, Decide, Check, Leave, Asleep, Taken, Handed, Accept, Remove, Clear, GiveUp}
+use Rattle.lot_steps.specs.declared.mutex.unlock.UnlockAt.{UnlockAt}
+use Rattle.lot_steps.specs.declared.mutex.unlock.UnlockAt.TheVariants as unlock
+use Rattle.lot_steps.specs.declared.mutex.hand_off.HandOffAt.{HandOffAt}
+use Rattle.lot_steps.specs.declared.mutex.hand_off.HandOffAt.TheVariants as hand_off
 use Rattle.lot_steps.specs.declared.places.Place.{Place}
 use Rattle.lot_steps.specs.declared.places.Place.TheVariants.{Idle, Mutex}
 use Rattle.lot_steps.specs.Acts.{outcome_of}
 use Rattle.lot_steps.specs.MutexSteps.{mutex_first, is_locked, is_parked, entered, looked, hand_off_word, in_unlock}
-use Rattle.lot_steps.specs.Kinds.{is_fair}
-use Rattle.lot_steps.specs.Steps.{act_of, next_place, next_act, mutex_goes, mutex_does, lock_of, lock_in, first_place}
+use Rattle.lot_calls.specs.Kinds.{is_fair}
+use Rattle.lot_calls.specs.Calls.{lock_in}
+use Rattle.lot_steps.specs.Steps.{act_of, next_place, next_act, mutex_goes, mutex_does, lock_of, first_place}
 use Rattle.lot_world.specs.Machine.{State, place_at, word_at, kind_at, queue_at, section_at, go_of, after, solo, after_all, alone_after, answered}
 use Rattle.lot_world.specs.Fits.{IsShaped, PlaceFits}
 use Rattle.lot_world.specs.Promises.{Codes}
 use Rattle.lot_world.specs.Sound.{IsSound, owner_at, inside, queued, holds}
 use Rattle.lot_world.proofs.Words.{by_code, owner_after}
-use Rattle.lot_world.specs.Locks.{Rules, MayEnter, IsBlocked}
-use Rattle.lot_world.specs.Purposes.{Releases, Bumps, Patience, Patient, Timed, Try, mutex_purpose}
-use Rattle.lot_world.specs.LockRuns.{AreLockStates, rules_at, purpose_at}
-use Rattle.lot_world.specs.Refinement.{lock_state, locks_of, queued_of}
+use Rattle.abstract_locks.specs.Locks.{Rules, MayEnter, IsBlocked}
+use Rattle.abstract_locks.specs.Purposes.{Releases, Bumps, Patience, Patient, Timed, Try, mutex_purpose}
+use Rattle.abstract_locks.specs.Runs.{AreLockStates, rules_at, purpose_at}
+use Rattle.abstract_locks.specs.Picks.{queued_of}
+use Rattle.lot_world.specs.Refinement.{lock_state, locks_of}
 use Rattle.lot_world.specs.Solo.{Rests, IsUnderWay, HasItsWay, EntersAlone, BumpsAlone, EndsAlone, successor, IsSoloRun}
 use Rattle.lot_world.specs.OnlyMutexes.{CallFits, OnlyMutexes, is_mutex}
 use Rattle.lot_world.proofs.LockRuns.{refines}

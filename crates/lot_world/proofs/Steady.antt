@@ -4,43 +4,43 @@ use Rattle.std.proofs.lemmas.Bool.{cases_lt, cases_eq, eqb-true, ltb-true}
 use Rattle.std.proofs.lemmas.Bool.Decides.{nat_tests}
 use Rattle.std.proofs.Math.ListN.{get_or-map}
 use Rattle.std.proofs.lemmas.List.{length-map}
-use Rattle.parking_lot_core.specs.declared.keys.Keys.TheVariants.{One}
-use Rattle.parking_lot_core.specs.declared.notes.Note.{Note}
-use Rattle.parking_lot_core.specs.declared.notes.Note as note
-use Rattle.parking_lot_core.specs.declared.wants.Waiter.{Waiter}
-use Rattle.parking_lot_core.specs.declared.wants.Want.TheVariants.{Exclusive}
-use Rattle.parking_lot_core.specs.declared.ops.Op.{Op}
-use Rattle.parking_lot_core.specs.declared.ops.Op as op
-use Rattle.parking_lot_core.specs.Words.{apply}
-use Rattle.parking_lot_core.specs.Lines.{waiter, without, first_of, times}
-use Rattle.lot_steps.specs.declared.kinds.Kind as kind
-use Rattle.lot_steps.specs.declared.calls.Call.{Call}
-use Rattle.lot_steps.specs.declared.calls.Call as call
-use Rattle.lot_steps.specs.declared.calls.Turn.{Turn}
-use Rattle.lot_steps.specs.declared.calls.Turn as turn
-use Rattle.lot_steps.specs.declared.calls.Step.{Step}
+use Rattle.lot_base.specs.declared.keys.Keys.TheVariants.{One}
+use Rattle.lot_base.specs.declared.notes.Note.{Note}
+use Rattle.lot_base.specs.declared.notes.Note as note
+use Rattle.lot_base.specs.declared.wants.Waiter.{Waiter}
+use Rattle.lot_base.specs.declared.wants.Want.TheVariants.{Exclusive}
+use Rattle.lot_base.specs.declared.ops.Op.{Op}
+use Rattle.lot_base.specs.declared.ops.Op as op
+use Rattle.lot_base.specs.Words.{apply}
+use Rattle.lot_base.specs.Lines.{waiter, without, first_of, times}
+use Rattle.lot_calls.specs.declared.kinds.Kind as kind
+use Rattle.lot_calls.specs.declared.calls.Call.{Call}
+use Rattle.lot_calls.specs.declared.calls.Call as call
+use Rattle.lot_calls.specs.declared.calls.Turn.{Turn}
+use Rattle.lot_calls.specs.declared.calls.Turn as turn
+use Rattle.lot_calls.specs.declared.calls.Step.{Step}
 use Rattle.lot_steps.specs.declared.acts.Act.{Act}
 use Rattle.lot_steps.specs.declared.acts.Act as act
 use Rattle.lot_steps.specs.declared.acts.Check.TheVariants.{WordIs}
 use Rattle.lot_steps.specs.declared.acts.Wakes as wakes
 use Rattle.lot_steps.specs.declared.acts.Reply.TheVariants.{Value, Parked, Took, Removed, TakenBy, Woken}
 use Rattle.lot_steps.specs.declared.mutex.TheConstants.{NOT_PARKED}
-use Rattle.lot_steps.specs.declared.mutex.MutexCall.{MutexCall}
-use Rattle.lot_steps.specs.declared.mutex.MutexCall as mutex_call
-use Rattle.lot_steps.specs.declared.mutex.Entry.{Entry}
-use Rattle.lot_steps.specs.declared.mutex.Entry.TheVariants as entries
+use Rattle.lot_calls.specs.declared.calls.MutexCall.{MutexCall}
+use Rattle.lot_calls.specs.declared.calls.MutexCall as mutex_call
+use Rattle.lot_steps.specs.declared.mutex.lock.Entry.{Entry}
+use Rattle.lot_steps.specs.declared.mutex.lock.Entry.TheVariants as entries
 use Rattle.lot_steps.specs.declared.mutex.MutexPlace.TheVariants.{Lock, TryLock, Unlock, UnlockFair, Bump, HandOff}
-use Rattle.lot_steps.specs.declared.mutex.LockAt.{LockAt}
-use Rattle.lot_steps.specs.declared.mutex.LockAt.TheVariants.{First, Load, Decide, Check, Leave, Asleep, Taken, Handed, Accept, Remove, Clear, GiveUp}
-use Rattle.lot_steps.specs.declared.mutex.UnlockAt.{UnlockAt}
-use Rattle.lot_steps.specs.declared.mutex.UnlockAt.TheVariants as unlock
-use Rattle.lot_steps.specs.declared.mutex.HandOffAt.{HandOffAt}
-use Rattle.lot_steps.specs.declared.mutex.HandOffAt.TheVariants as hand_off
+use Rattle.lot_steps.specs.declared.mutex.lock.LockAt.{LockAt}
+use Rattle.lot_steps.specs.declared.mutex.lock.LockAt.TheVariants.{First, Load, Decide, Check, Leave, Asleep, Taken, Handed, Accept, Remove, Clear, GiveUp}
+use Rattle.lot_steps.specs.declared.mutex.unlock.UnlockAt.{UnlockAt}
+use Rattle.lot_steps.specs.declared.mutex.unlock.UnlockAt.TheVariants as unlock
+use Rattle.lot_steps.specs.declared.mutex.hand_off.HandOffAt.{HandOffAt}
+use Rattle.lot_steps.specs.declared.mutex.hand_off.HandOffAt.TheVariants as hand_off
 use Rattle.lot_steps.specs.declared.places.Place.{Place}
 use Rattle.lot_steps.specs.declared.places.Place.TheVariants.{Idle, Mutex}
 use Rattle.lot_steps.specs.MutexSteps.{is_locked, lock_act, unlock_act, hand_off_act, hand_off_word, mutex_first, mutex_right, is_thread}
 use Rattle.lot_steps.specs.Steps.{act_of, next_place, is_idle, spin_lock, late_key}
-use Rattle.lot_steps.specs.Kinds.{has_call, is_fair}
+use Rattle.lot_calls.specs.Kinds.{has_call, is_fair}
 use Rattle.lot_world.specs.Machine.{State, unlocked, place_at, word_at, owners_at, kind_at, section_at, is_free, put, operated, filled_with, appended, first_taken, removed, befallen, taken_by, performed, reply_to, can_do, begun, can_begin, is_open_to, spun_on, late_on, is_free_under, turned, can_turn, is_possible, after}
 use Rattle.lot_world.specs.Fits.{IsShaped, PlaceFits, SomeBelow}
 use Rattle.lot_world.specs.Promises.{Codes}

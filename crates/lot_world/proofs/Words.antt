@@ -1,19 +1,19 @@
 -- Each step of a mutex on its word fits.
 use Rattle.std.proofs.Common.{ℕ, Bool, true, false, Option, Some, None, if◌then◌else◌, ◌==◌, ◌&&◌, not, ◌≡◌, ◌+◌, ◌<◌, ◌≤◌, inl, inr, refl, sym, subst, arith}
 use Rattle.std.proofs.lemmas.Bool.{cases_lt, eqb-true}
-use Rattle.parking_lot_core.specs.declared.ops.Op.{Op}
-use Rattle.parking_lot_core.specs.declared.ops.Op as op
-use Rattle.parking_lot_core.specs.Words.{apply}
+use Rattle.lot_base.specs.declared.ops.Op.{Op}
+use Rattle.lot_base.specs.declared.ops.Op as op
+use Rattle.lot_base.specs.Words.{apply}
 use Rattle.lot_steps.specs.declared.owners.Owners.{Owners}
 use Rattle.lot_steps.specs.declared.acts.Reply.TheVariants.{Value}
 use Rattle.lot_steps.specs.declared.mutex.TheConstants.{NOT_PARKED}
-use Rattle.lot_steps.specs.declared.mutex.Entry.{Entry}
+use Rattle.lot_steps.specs.declared.mutex.lock.Entry.{Entry}
 use Rattle.lot_steps.specs.declared.mutex.MutexPlace.TheVariants.{Lock, TryLock, Unlock, UnlockFair, Bump, HandOff}
-use Rattle.lot_steps.specs.declared.mutex.LockAt.{LockAt}
-use Rattle.lot_steps.specs.declared.mutex.LockAt.TheVariants.{First, Load, Decide, Clear, GiveUp}
-use Rattle.lot_steps.specs.declared.mutex.UnlockAt.{UnlockAt}
-use Rattle.lot_steps.specs.declared.mutex.UnlockAt.TheVariants as unlock
-use Rattle.lot_steps.specs.declared.mutex.HandOffAt.TheVariants as hand_off
+use Rattle.lot_steps.specs.declared.mutex.lock.LockAt.{LockAt}
+use Rattle.lot_steps.specs.declared.mutex.lock.LockAt.TheVariants.{First, Load, Decide, Clear, GiveUp}
+use Rattle.lot_steps.specs.declared.mutex.unlock.UnlockAt.{UnlockAt}
+use Rattle.lot_steps.specs.declared.mutex.unlock.UnlockAt.TheVariants as unlock
+use Rattle.lot_steps.specs.declared.mutex.hand_off.HandOffAt.TheVariants as hand_off
 use Rattle.lot_steps.specs.declared.places.Place.{Place}
 use Rattle.lot_steps.specs.declared.places.Place.TheVariants.{Idle, Mutex}
 use Rattle.lot_steps.specs.MutexSteps.{is_locked, with_exclusive}

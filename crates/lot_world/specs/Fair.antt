@@ -1,11 +1,11 @@
 -- What a fair release does: it lets its mutex go only where nobody waits for it, and else the first waiter owns it in its place.
 use Rattle.std.specs.Prelude.{ℕ, true, false, Option, Some, None, ◌≡◌, ◌⊎◌, List, [], ◌∷◌}
-use Rattle.parking_lot_core.specs.declared.wants.Want.TheVariants.{Exclusive}
-use Rattle.lot_steps.specs.declared.calls.Step.{Step}
+use Rattle.lot_base.specs.declared.wants.Want.TheVariants.{Exclusive}
+use Rattle.lot_calls.specs.declared.calls.Step.{Step}
 use Rattle.lot_steps.specs.MutexSteps.{is_locked, is_parked}
 use Rattle.lot_world.specs.Machine.{State, word_at, after}
-use Rattle.lot_world.specs.Locks.{Owns, IsTaken, HasTakenNobody, first_thread}
-use Rattle.lot_world.specs.Purposes.{Purpose, Releases, Bumps}
+use Rattle.abstract_locks.specs.Locks.{Owns, IsTaken, HasTakenNobody, first_thread}
+use Rattle.abstract_locks.specs.Purposes.{Purpose, Releases, Bumps}
 use Rattle.lot_world.specs.Refinement.{lock_state, locks_of}
 
 -- unlock_fair, the unlock of a fair mutex, or a bump

@@ -1,8 +1,8 @@
 -- What a state is made of: the numbers in it name threads, locks and keys that are there.
 use Rattle.std.specs.Prelude.{ℕ, Option, Some, None, ◌≡◌, ◌<◌, ◌≤◌, ◌*◌, List, [], ◌∷◌, length}
-use Rattle.parking_lot_core.specs.declared.keys.Keys.{Keys}
-use Rattle.parking_lot_core.specs.declared.keys.Keys.TheVariants.{One, Two}
-use Rattle.parking_lot_core.specs.declared.wants.Waiter.{Waiter}
+use Rattle.lot_base.specs.declared.keys.Keys.{Keys}
+use Rattle.lot_base.specs.declared.keys.Keys.TheVariants.{One, Two}
+use Rattle.lot_base.specs.declared.wants.Waiter.{Waiter}
 use Rattle.lot_steps.specs.declared.acts.Act.{Act}
 use Rattle.lot_steps.specs.declared.acts.Act.TheVariants.{Word, HandOver, Enter, Park, TakeFirst, Remove, Leave}
 use Rattle.lot_steps.specs.declared.acts.Wakes.{Wakes}
@@ -11,8 +11,8 @@ use Rattle.lot_steps.specs.declared.places.Place.{Place}
 use Rattle.lot_steps.specs.declared.places.Place.TheVariants.{Idle, Mutex}
 use Rattle.lot_steps.specs.declared.mutex.MutexPlace.{MutexPlace}
 use Rattle.lot_steps.specs.declared.mutex.MutexPlace.TheVariants.{Unlock, HandOff}
-use Rattle.lot_steps.specs.declared.mutex.UnlockAt.TheVariants as unlock
-use Rattle.lot_steps.specs.declared.mutex.HandOffAt.TheVariants as hand_off
+use Rattle.lot_steps.specs.declared.mutex.unlock.UnlockAt.TheVariants as unlock
+use Rattle.lot_steps.specs.declared.mutex.hand_off.HandOffAt.TheVariants as hand_off
 use Rattle.lot_world.specs.Machine.{State, place_at, queue_at}
 
 abbrev pub KeysFit : ℕ → Keys → Type 0

@@ -1,12 +1,13 @@
-pub use Rattle.parking_lot_core.specs.Words
-pub use Rattle.parking_lot_core.specs.Lines
-pub use Rattle.lot_steps.specs.Kinds
+pub use Rattle.lot_base.specs.Words
+pub use Rattle.lot_base.specs.Lines
+pub use Rattle.lot_calls.specs.Calls
+pub use Rattle.lot_calls.specs.Kinds
+pub use Rattle.abstract_locks.specs.Locks
+pub use Rattle.abstract_locks.specs.Purposes
+pub use Rattle.abstract_locks.specs.Runs
 pub use Rattle.lot_steps.specs.Acts
 pub use Rattle.lot_steps.specs.MutexSteps
 pub use Rattle.lot_steps.specs.Steps
-pub mod Locks
-pub mod Purposes
-pub mod LockRuns
 pub mod Machine
 pub mod Fits
 pub mod Views
@@ -16,4 +17,3 @@ pub mod Fair
 pub mod Solo
 pub mod Sound
 pub mod OnlyMutexes
-pub mod Laws

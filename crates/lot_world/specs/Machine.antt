@@ -1,14 +1,14 @@
 -- The machine of the world: its state, and where each step leads.
 use Rattle.std.specs.Prelude.{ℕ, zero, suc, Bool, true, false, Option, Some, None, if◌then◌else◌, ◌==◌, ◌*◌, ◌&&◌, List, [], ◌∷◌, ◌++◌, map, length, drop, replicate, nat_lt, is_none, slice_set, slice_index_or}
-use Rattle.parking_lot_core.specs.declared.keys.Keys.{Keys}
-use Rattle.parking_lot_core.specs.declared.keys.Keys as keys
-use Rattle.parking_lot_core.specs.declared.ops.Op.{Op}
-use Rattle.parking_lot_core.specs.declared.wants.Waiter.{Waiter}
-use Rattle.parking_lot_core.specs.declared.wants.Want.{Want}
-use Rattle.parking_lot_core.specs.Words.{apply}
-use Rattle.parking_lot_core.specs.Lines.{waiter, line, without, first_of}
-use Rattle.lot_steps.specs.declared.kinds.Kind.{Kind}
-use Rattle.lot_steps.specs.declared.kinds.Kind.TheVariants.{Mutex}
+use Rattle.lot_base.specs.declared.keys.Keys.{Keys}
+use Rattle.lot_base.specs.declared.keys.Keys as keys
+use Rattle.lot_base.specs.declared.ops.Op.{Op}
+use Rattle.lot_base.specs.declared.wants.Waiter.{Waiter}
+use Rattle.lot_base.specs.declared.wants.Want.{Want}
+use Rattle.lot_base.specs.Words.{apply}
+use Rattle.lot_base.specs.Lines.{waiter, line, without, first_of}
+use Rattle.lot_calls.specs.declared.kinds.Kind.{Kind}
+use Rattle.lot_calls.specs.declared.kinds.Kind.TheVariants.{Mutex}
 use Rattle.lot_steps.specs.declared.owners.Owners.{Owners}
 use Rattle.lot_steps.specs.declared.places.Place.{Place}
 use Rattle.lot_steps.specs.declared.places.Place.TheVariants.{Idle}
@@ -19,15 +19,16 @@ use Rattle.lot_steps.specs.declared.acts.Wakes.{Wakes}
 use Rattle.lot_steps.specs.declared.acts.Wakes as wakes
 use Rattle.lot_steps.specs.declared.acts.Reply.{Reply}
 use Rattle.lot_steps.specs.declared.acts.Reply.TheVariants.{Done, Value, Spun, Parked, Took, Removed, TakenBy, HandedBy, Late, Woken}
-use Rattle.lot_steps.specs.declared.calls.Call.{Call}
-use Rattle.lot_steps.specs.declared.calls.Turn.{Turn}
-use Rattle.lot_steps.specs.declared.calls.Turn as turn
-use Rattle.lot_steps.specs.declared.calls.Step.{Step}
-use Rattle.lot_steps.specs.declared.calls.Outcome.{Outcome}
-use Rattle.lot_steps.specs.declared.calls.Outcome as outcome
-use Rattle.lot_steps.specs.Kinds.{has_call}
+use Rattle.lot_calls.specs.declared.calls.Call.{Call}
+use Rattle.lot_calls.specs.declared.calls.Turn.{Turn}
+use Rattle.lot_calls.specs.declared.calls.Turn as turn
+use Rattle.lot_calls.specs.declared.calls.Step.{Step}
+use Rattle.lot_calls.specs.declared.outcomes.Outcome.{Outcome}
+use Rattle.lot_calls.specs.declared.outcomes.Outcome as outcome
+use Rattle.lot_calls.specs.Kinds.{has_call}
 use Rattle.lot_steps.specs.Acts.{holds, outcome_of}
-use Rattle.lot_steps.specs.Steps.{lock_in, first_place, has_right, is_idle, act_of, next_place, next_act, owners_after, spin_lock, late_key}
+use Rattle.lot_calls.specs.Calls.{lock_in}
+use Rattle.lot_steps.specs.Steps.{first_place, has_right, is_idle, act_of, next_place, next_act, owners_after, spin_lock, late_key}
 use Rattle.lot_world.specs.declared.machine.Lock.{Lock}
 
 -- each thread's place, each lock, who is inside the section of each key, and the line of each key

@@ -1,14 +1,14 @@
 -- What a world in which only mutexes have calls doesn't have: owners but exclusive ones, waiters aside or for another want.
 use Rattle.std.specs.Prelude.{ℕ, Bool, true, false, None, ◌≡◌, ◌+◌, ◌*◌, List, [], ◌∷◌}
-use Rattle.parking_lot_core.specs.declared.wants.Waiter.{Waiter}
-use Rattle.parking_lot_core.specs.declared.wants.Want.TheVariants.{Exclusive}
-use Rattle.lot_steps.specs.declared.kinds.Kind.{Kind}
-use Rattle.lot_steps.specs.declared.kinds.Kind as kind
+use Rattle.lot_base.specs.declared.wants.Waiter.{Waiter}
+use Rattle.lot_base.specs.declared.wants.Want.TheVariants.{Exclusive}
+use Rattle.lot_calls.specs.declared.kinds.Kind.{Kind}
+use Rattle.lot_calls.specs.declared.kinds.Kind as kind
 use Rattle.lot_steps.specs.declared.places.Place.{Place}
 use Rattle.lot_steps.specs.declared.places.Place.TheVariants.{Idle, Mutex}
 use Rattle.lot_steps.specs.declared.mutex.MutexPlace.{MutexPlace}
 use Rattle.lot_steps.specs.declared.mutex.MutexPlace.TheVariants.{Lock}
-use Rattle.lot_steps.specs.declared.mutex.LockAt.TheVariants.{Remove, Clear, GiveUp}
+use Rattle.lot_steps.specs.declared.mutex.lock.LockAt.TheVariants.{Remove, Clear, GiveUp}
 use Rattle.lot_steps.specs.MutexSteps.{is_timed}
 use Rattle.lot_world.specs.Machine.{State, place_at, owners_at, kind_at, queue_at}
 

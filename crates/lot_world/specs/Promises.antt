@@ -1,18 +1,18 @@
 -- What is promised of every state of a world of mutexes, before and after each step, under every schedule.
 use Rattle.std.specs.Prelude.{ℕ, false, true, None, Option, ◌≡◌, ◌≢◌, ◌+◌, ◌≤◌, ◌⊎◌, List, take, ◌↔◌, Some, ◌*◌}
-use Rattle.parking_lot_core.specs.declared.keys.Keys.TheVariants.{One}
-use Rattle.parking_lot_core.specs.declared.wants.Want.TheVariants.{Exclusive}
+use Rattle.lot_base.specs.declared.keys.Keys.TheVariants.{One}
+use Rattle.lot_base.specs.declared.wants.Want.TheVariants.{Exclusive}
 use Rattle.lot_steps.specs.declared.acts.Act.TheVariants.{Enter, Leave, Sleep}
 use Rattle.lot_steps.specs.declared.acts.Wakes as wakes
-use Rattle.parking_lot_core.specs.declared.notes.Note.TheVariants.{HandOff}
-use Rattle.lot_steps.specs.declared.calls.Step.{Step}
+use Rattle.lot_base.specs.declared.notes.Note.TheVariants.{HandOff}
+use Rattle.lot_calls.specs.declared.calls.Step.{Step}
 use Rattle.lot_steps.specs.MutexSteps.{is_parked}
 use Rattle.lot_steps.specs.Steps.{act_of, owes_on, retries_on}
 use Rattle.lot_world.specs.Machine.{State, place_at, word_at, after_all, section_at}
-use Rattle.lot_world.specs.Locks.{times, standing, one_if_some, Owns}
-use Rattle.lot_world.specs.LockRuns.{AreLockStates}
+use Rattle.abstract_locks.specs.Locks.{times, standing, one_if_some, Owns}
+use Rattle.abstract_locks.specs.Runs.{AreLockStates}
 use Rattle.lot_world.specs.Refinement.{lock_state, locks_of}
-use Rattle.lot_world.specs.Purposes.{Releases, MayWait, IsReleasing}
+use Rattle.abstract_locks.specs.Purposes.{Releases, MayWait, IsReleasing}
 
 -- a thread stands in the queue of a mutex
 abbrev pub WaitsFor : State → ℕ → ℕ → Type 0

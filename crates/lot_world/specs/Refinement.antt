@@ -1,8 +1,8 @@
 -- The abstract locks that a world's words, places and queues stand for.
 use Rattle.std.specs.Prelude.{ℕ, Bool, true, false, Option, Some, None, if◌then◌else◌, ◌==◌, ◌+◌, ◌*◌, ◌≡◌, ◌≢◌, ◌⊎◌, List, map, length, replicate, take, [], ◌∷◌}
-use Rattle.parking_lot_core.specs.declared.wants.Waiter.{Waiter}
-use Rattle.parking_lot_core.specs.declared.wants.Want.TheVariants.{Exclusive}
-use Rattle.parking_lot_core.specs.Lines.{first_of}
+use Rattle.lot_base.specs.declared.wants.Waiter.{Waiter}
+use Rattle.lot_base.specs.declared.wants.Want.TheVariants.{Exclusive}
+use Rattle.lot_base.specs.Lines.{first_of}
 use Rattle.lot_steps.specs.declared.owners.Owners.{Owners}
 use Rattle.lot_steps.specs.declared.owners.Pending as owners
 use Rattle.lot_steps.specs.declared.owners.Fallback.{Fallback}
@@ -11,19 +11,20 @@ use Rattle.lot_steps.specs.declared.places.Place.{Place}
 use Rattle.lot_steps.specs.declared.places.Place.TheVariants.{Idle, Mutex}
 use Rattle.lot_steps.specs.declared.mutex.MutexPlace.{MutexPlace}
 use Rattle.lot_steps.specs.declared.mutex.MutexPlace.TheVariants.{Lock, TryLock, Unlock, UnlockFair, Bump, HandOff}
-use Rattle.lot_steps.specs.declared.mutex.Entry.{Entry}
-use Rattle.lot_steps.specs.declared.mutex.Entry.TheVariants as entry
-use Rattle.lot_steps.specs.declared.mutex.LockAt.{LockAt}
-use Rattle.lot_steps.specs.declared.mutex.LockAt.TheVariants as lock
-use Rattle.lot_steps.specs.declared.mutex.UnlockAt.TheVariants as unlock
-use Rattle.lot_steps.specs.declared.mutex.HandOffAt.TheVariants as hand_off
-use Rattle.lot_steps.specs.declared.calls.Step.{Step}
+use Rattle.lot_steps.specs.declared.mutex.lock.Entry.{Entry}
+use Rattle.lot_steps.specs.declared.mutex.lock.Entry.TheVariants as entry
+use Rattle.lot_steps.specs.declared.mutex.lock.LockAt.{LockAt}
+use Rattle.lot_steps.specs.declared.mutex.lock.LockAt.TheVariants as lock
+use Rattle.lot_steps.specs.declared.mutex.unlock.UnlockAt.TheVariants as unlock
+use Rattle.lot_steps.specs.declared.mutex.hand_off.HandOffAt.TheVariants as hand_off
+use Rattle.lot_calls.specs.declared.calls.Step.{Step}
+use Rattle.abstract_locks.specs.Picks.{queued_of}
 use Rattle.lot_steps.specs.MutexSteps.{mutex_retries}
 use Rattle.lot_world.specs.Machine.{State, place_at, word_at, owners_at, kind_at, queue_at, section_at, after_all, answered_all, after}
-use Rattle.lot_world.specs.Locks.{LockState, Queued, Taken, Pending, Rights}
-use Rattle.lot_world.specs.Purposes.{Purpose, Enters, Releases, Bumps, Patient, Timed, Try}
-use Rattle.lot_world.specs.LockRuns.{LocksState, CallState, no_call, one_more_at, one_less_at, IsRun}
-use Rattle.lot_world.specs.Locks as locks
+use Rattle.abstract_locks.specs.Locks.{LockState, Queued, Taken, Pending, Rights}
+use Rattle.abstract_locks.specs.Purposes.{Purpose, Enters, Releases, Bumps, Patient, Timed, Try}
+use Rattle.abstract_locks.specs.Runs.{LocksState, CallState, no_call, one_more_at, one_less_at, IsRun}
+use Rattle.abstract_locks.specs.Locks as locks
 
 -- ---------------------------------------------------------------- one lock
 
@@ -34,9 +35,6 @@ is_upgradable fallback.TheVariants.Upgradable = true
 abbrev pub pending_owner : Option owners.Pending → Option Pending
 pending_owner None = None
 pending_owner (Some p) = Some (record { thread = p.thread; falls_back = is_upgradable p.fallback })
-
-abbrev pub queued_of : Waiter → Queued
-queued_of x = record { thread = x.thread; want = x.want }
 
 -- by whom the thread at a place was taken from the queue of a lock
 abbrev pub taken_at : Place → ℕ → Option Taken

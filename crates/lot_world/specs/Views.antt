@@ -6,7 +6,7 @@ use Rattle.lot_steps.specs.declared.owners.Owners.{Owners}
 use Rattle.lot_steps.specs.declared.owners.Pending as pending
 use Rattle.lot_steps.specs.declared.places.Place.{Place}
 use Rattle.lot_steps.specs.Steps.{owes_on, retries_on}
-use Rattle.parking_lot_core.specs.declared.wants.Waiter.{Waiter}
+use Rattle.lot_base.specs.declared.wants.Waiter.{Waiter}
 use Rattle.lot_world.specs.declared.views.Debt.{Debt}
 use Rattle.lot_world.specs.declared.views.Debt.TheVariants.{Owes, Retries}
 use Rattle.lot_world.specs.Machine.{State, owners_at, queue_at}

@@ -1,15 +1,15 @@
 //! Any number of threads over locks, by a list of steps.
 #![tactic(auto)]
 
-pub mod laws;
 pub mod machine;
 #[cfg(test)]
 mod tests;
 pub mod views;
 pub mod world;
 
+pub use lot_calls::{Answer, Call, Kind, MutexCall, OnceState, Outcome, Step, Turn};
 pub use lot_steps;
-pub use lot_steps::{Answer, Call, Kind, MutexCall, OnceState, Outcome, Owner, Place, Step, Turn};
+pub use lot_steps::{Owner, Place};
 pub use machine::Lock;
 pub use views::{Debt, Debts, OwnersOf, QueueOf};
 pub use world::{MOST_LOCKS, MOST_THREADS, SOLO_STEPS, Stopped, World};

@@ -1,5 +1,5 @@
 use crate::{Answer, Call, Debt, Kind, MutexCall, Outcome, Owner, Place, Step, Turn, World};
-use parking_lot_core::{ListQueues, Waiter, Want};
+use lot_base::{ListQueues, Waiter, Want};
 use std::alloc::AllocError;
 use std::test::Fail;
 

@@ -3,8 +3,8 @@ ghost use Rattle.std.specs.Prelude.{◌≡◌, ◌<◌, ◌^◌, ◌+◌, ◌*�
 ghost use Rattle.std.specs.Iterator.{YieldsFirst, item_count};
 ghost use Rattle.lot_world.specs.Views.{owners_listed, has_debt, debtors};
 
+use lot_base::{Queues, Waiter, main_key, second_key};
 use lot_steps::{Owner, Owners, Pending, Place};
-use parking_lot_core::{Queues, Waiter, main_key, second_key};
 use std::marker::Model;
 
 /// What a thread still has to do for a lock's waiters.
@@ -85,7 +85,7 @@ pub struct QueueOf<'a, Q: Queues> {
 
 impl<'a, Q: Queues> Model for QueueOf<'a, Q> {
     ghost use Rattle.std.specs.Prelude.{List, ◌+◌, ◌*◌, ◌<◌, ◌^◌, ◌++◌, if◌then◌else◌};
-    ghost use Rattle.parking_lot_core.specs.declared.wants.Waiter.{Waiter};
+    ghost use Rattle.lot_base.specs.declared.wants.Waiter.{Waiter};
 
     ghost Value = { List Waiter };
 

@@ -1,10 +1,11 @@
 //! Any number of threads over locks, by a list of steps.
 ghost use Rattle.std.specs.Prelude.{◌≡◌, ◌<◌, ◌≤◌, ◌++◌, ◌+◌, ◌*◌, IfOk, IfErr, OnOk, All, length, take, true};
-ghost use Rattle.lot_steps.specs.Kinds.{fits};
-ghost use Rattle.lot_steps.specs.Steps.{lock_in, first_place};
+ghost use Rattle.lot_calls.specs.Kinds.{fits};
+ghost use Rattle.lot_calls.specs.Calls.{lock_in};
+ghost use Rattle.lot_steps.specs.Steps.{first_place};
 ghost use Rattle.lot_world.specs.Machine.{opening, place_at, word_at, kind_at, queue_at, after, answered, after_all, answered_all, solo};
 ghost use Rattle.lot_world.specs.Fits.{SameSize};
-ghost use Rattle.lot_world.specs.LockRuns.{IsOpening, IsStep, purpose_at};
+ghost use Rattle.abstract_locks.specs.Runs.{IsOpening, IsStep, purpose_at};
 ghost use Rattle.lot_world.specs.Refinement.{locks_of, ChangesOneThing, EachChangesOneThing, Refines};
 ghost use Rattle.lot_world.specs.Promises.{IsKept, IsKeptThroughout};
 ghost use Rattle.lot_world.specs.Fair.{IsFair, EachIsFair};
@@ -13,8 +14,8 @@ ghost use Rattle.lot_world.specs.Views.{StandUnder, owners_of, queue_of, debts_o
 
 use crate::machine::Machine;
 use crate::views::{Debts, OwnersOf, QueueOf};
+use lot_base::{Fault, Queues};
 use lot_steps::{Call, Kind, Outcome, Place, Step, Turn};
-use parking_lot_core::{Fault, Queues};
 use std::alloc::Global;
 use std::marker::Model;
 
@@ -44,7 +45,7 @@ impl<Q: Queues + Drop> Model for World<Q> {
     ghost use Rattle.lot_world.specs.Fits.{IsShaped};
     ghost use Rattle.lot_world.specs.Sound.{IsSound};
     ghost use Rattle.lot_world.specs.OnlyMutexes.{OnlyMutexes};
-    ghost use Rattle.lot_world.specs.LockRuns.{AreLockStates};
+    ghost use Rattle.abstract_locks.specs.Runs.{AreLockStates};
     ghost use Rattle.lot_world.specs.Refinement.{locks_of};
 
     ghost Value = { State };

@@ -1,7 +1,7 @@
 //! Plans, carried out by threads.
 ghost use Rattle.std.specs.Prelude.{◌≡◌, ◌≤◌, IfOk, IfSome, All};
 ghost use Rattle.std.specs.Arc.{arc_value};
-ghost use Rattle.running_lot.specs.Tokens.{IsTicketOf, IsTokenOf};
+ghost use Rattle.parking_lot_core.specs.Tokens.{IsTicketOf, IsTokenOf};
 ghost use Rattle.parking_lot.specs.Driving.{IsGuardOf};
 
 use crate::plans::{Mode, Plan};

@@ -1,10 +1,10 @@
 -- A thread that begins a call, and goes on alone.
 use Rattle.std.proofs.Common.{◌≡◌, ℕ, Bool, true, false, cond, refl, sym, ap, ◌∙◌}
-use Rattle.lot_steps.specs.declared.calls.Call.{Call}
-use Rattle.lot_steps.specs.declared.calls.Turn.TheVariants.{Begin}
-use Rattle.lot_steps.specs.declared.calls.Step.{Step}
-use Rattle.lot_steps.specs.declared.calls.Outcome.{Outcome}
-use Rattle.lot_steps.specs.declared.calls.Outcome.TheVariants.{NotNow}
+use Rattle.lot_calls.specs.declared.calls.Call.{Call}
+use Rattle.lot_calls.specs.declared.calls.Turn.TheVariants.{Begin}
+use Rattle.lot_calls.specs.declared.calls.Step.{Step}
+use Rattle.lot_calls.specs.declared.outcomes.Outcome.{Outcome}
+use Rattle.lot_calls.specs.declared.outcomes.Outcome.TheVariants.{NotNow}
 use Rattle.lot_world.specs.Machine.{State, is_possible, after, answered, turn_outcome}
 use Rattle.lotsim.specs.Stages.{went_alone, did}
 

@@ -2,9 +2,9 @@
 ghost use Rattle.std.specs.Prelude.{◌≡◌, length};
 ghost use Rattle.lotsim.specs.Stages.{call_named, action_of, done_by};
 
+use lot_base::ListQueues;
 use lot_text::{Name, NamedTurn, lock_named};
 use lot_world::{Call, MutexCall, Outcome, Step, Turn, World};
-use parking_lot_core::ListQueues;
 
 /// What a thread does, of locks by their numbers.
 #[derive(Clone, Copy, Debug, PartialEq, Eq)]

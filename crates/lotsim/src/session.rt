@@ -4,9 +4,9 @@ ghost use Rattle.std.specs.Option.{ForSome};
 ghost use Rattle.lot_world.specs.Kinds.{fits};
 ghost use Rattle.lot_world.specs.declared.world.TheConstants.{MOST_THREADS, MOST_LOCKS};
 
+use lot_base::ListQueues;
 use lot_text::Name;
 use lot_world::{Kind, MOST_LOCKS, MOST_THREADS, World};
-use parking_lot_core::ListQueues;
 
 /// The threads and the named locks of a replay, and their world from the first turn or show on.
 #[derive(Drop)]

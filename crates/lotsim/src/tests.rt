@@ -4,8 +4,8 @@ mod rows;
 
 use crate::start::start;
 use devices::{Pieces, Short};
+use lot_base::ListQueues;
 use lot_world::{Answer, Call, Kind, MutexCall, Outcome, Step, Turn, World};
-use parking_lot_core::ListQueues;
 use rows::{MALFORMED, ROWS, TWO_TRIES};
 use std::alloc::{AllocError, Global};
 use std::io::BufRead;

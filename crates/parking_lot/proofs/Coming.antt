@@ -1,8 +1,8 @@
 -- What an act comes to.
 use Rattle.std.proofs.Common.{ℕ, ◌≡◌, ◌<◌, true, List, [], Option, Some, ◌*◌, sym, refl, ap, ◌∙◌, subst}
-use Rattle.parking_lot_core.specs.declared.ops.Op.{Op}
-use Rattle.parking_lot_core.specs.declared.ops.Op.TheVariants.{Load}
-use Rattle.parking_lot_core.specs.declared.wants.Want.{Want}
+use Rattle.lot_base.specs.declared.ops.Op.{Op}
+use Rattle.lot_base.specs.declared.ops.Op.TheVariants.{Load}
+use Rattle.lot_base.specs.declared.wants.Want.{Want}
 use Rattle.lot_words.specs.Steps.{after_step, owns_after, mutex_trade}
 use Rattle.lot_words.specs.declared.owners.Ownership.{Ownership}
 use Rattle.lot_words.specs.declared.views.View.{View}
@@ -15,15 +15,15 @@ use Rattle.lot_steps.specs.declared.acts.Check.{Check}
 use Rattle.lot_steps.specs.declared.acts.Reply.{Reply}
 use Rattle.lot_steps.specs.declared.acts.Reply.TheVariants.{Value, Parked}
 use Rattle.lot_steps.specs.declared.places.Place.{Place}
-use Rattle.running_lot.specs.Tokens.{view_of, last_of}
-use Rattle.running_lot.specs.declared.lot.ParkingLot.{ParkingLot}
-use Rattle.running_lot.specs.declared.sections.Section.{Section}
-use Rattle.running_lot.specs.Keys.{first_key}
-use Rattle.running_lot.specs.Sections.{StaysIn}
-use Rattle.parking_lot_core.specs.declared.keys.Keys.{Keys}
-use Rattle.running_lot.specs.declared.tokens.Did.{Did}
-use Rattle.running_lot.specs.declared.tokens.Record.{Record}
-use Rattle.running_lot.specs.declared.tokens.Token.{Token}
+use Rattle.parking_lot_core.specs.Tokens.{view_of, last_of}
+use Rattle.parking_lot_core.specs.declared.lot.ParkingLot.{ParkingLot}
+use Rattle.parking_lot_core.specs.declared.sections.Section.{Section}
+use Rattle.parking_lot_core.specs.Keys.{first_key}
+use Rattle.parking_lot_core.specs.Sections.{StaysIn}
+use Rattle.lot_base.specs.declared.keys.Keys.{Keys}
+use Rattle.parking_lot_core.specs.declared.tokens.Did.{Did}
+use Rattle.parking_lot_core.specs.declared.tokens.Record.{Record}
+use Rattle.parking_lot_core.specs.declared.tokens.Token.{Token}
 use Rattle.parking_lot.specs.Paths.{mutex_at, is_wordless, is_valueless, step, word, parks, other}
 use Rattle.parking_lot.specs.Driving.{Leads, Came, IsInside}
 use Rattle.parking_lot.specs.declared.driver.Told as told

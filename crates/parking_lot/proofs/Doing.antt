@@ -1,10 +1,10 @@
 -- What the driver does at each place, and where it leads.
 use Rattle.std.proofs.Common.{ℕ, ◌≡◌, ◌<◌, ◌*◌, Bool, true, false, List, Option, Some, None, inl, inr, sym, refl, subst, arith}
-use Rattle.parking_lot_core.specs.Words.{apply}
-use Rattle.parking_lot_core.specs.declared.keys.Keys.TheVariants.{One}
-use Rattle.parking_lot_core.specs.declared.notes.Note.TheVariants.{Normal}
-use Rattle.parking_lot_core.specs.declared.ops.Op.{Op}
-use Rattle.parking_lot_core.specs.declared.ops.Op.TheVariants.{Load, And, Exchange}
+use Rattle.lot_base.specs.Words.{apply}
+use Rattle.lot_base.specs.declared.keys.Keys.TheVariants.{One}
+use Rattle.lot_base.specs.declared.notes.Note.TheVariants.{Normal}
+use Rattle.lot_base.specs.declared.ops.Op.{Op}
+use Rattle.lot_base.specs.declared.ops.Op.TheVariants.{Load, And, Exchange}
 use Rattle.lot_words.specs.Laws.{MutexMaySteps}
 use Rattle.lot_words.specs.Steps.{MayStep, owns_after, mutex_trade}
 use Rattle.lot_words.specs.declared.owners.Ownership.{Ownership}
@@ -16,20 +16,20 @@ use Rattle.lot_steps.specs.declared.acts.Act.{Act}
 use Rattle.lot_steps.specs.declared.acts.Act as act
 use Rattle.lot_steps.specs.declared.acts.Reply.{Reply}
 use Rattle.lot_steps.specs.declared.acts.Reply.TheVariants.{Spun, Done, Value, Parked, Took, Removed, Late, Woken}
-use Rattle.lot_steps.specs.declared.mutex.Entry.{Entry}
-use Rattle.lot_steps.specs.declared.mutex.Entry as entry
-use Rattle.lot_steps.specs.declared.mutex.LockAt.{LockAt}
-use Rattle.lot_steps.specs.declared.mutex.LockAt as lock
+use Rattle.lot_steps.specs.declared.mutex.lock.Entry.{Entry}
+use Rattle.lot_steps.specs.declared.mutex.lock.Entry as entry
+use Rattle.lot_steps.specs.declared.mutex.lock.LockAt.{LockAt}
+use Rattle.lot_steps.specs.declared.mutex.lock.LockAt as lock
 use Rattle.lot_steps.specs.declared.mutex.MutexPlace.TheVariants.{Lock, Unlock}
-use Rattle.lot_steps.specs.declared.mutex.UnlockAt.{UnlockAt}
-use Rattle.lot_steps.specs.declared.mutex.UnlockAt as unlock
+use Rattle.lot_steps.specs.declared.mutex.unlock.UnlockAt.{UnlockAt}
+use Rattle.lot_steps.specs.declared.mutex.unlock.UnlockAt as unlock
 use Rattle.lot_steps.specs.declared.places.Place.{Place}
 use Rattle.lot_steps.specs.declared.places.Place.TheVariants.{Idle, Mutex}
-use Rattle.running_lot.specs.declared.lot.ParkingLot.{ParkingLot}
-use Rattle.running_lot.specs.declared.sections.Section.{Section}
-use Rattle.running_lot.specs.declared.tokens.Did.{Did}
-use Rattle.running_lot.specs.declared.tokens.Did.TheVariants.{Nothing, TakeFirst}
-use Rattle.running_lot.specs.declared.tokens.Record.{Record}
+use Rattle.parking_lot_core.specs.declared.lot.ParkingLot.{ParkingLot}
+use Rattle.parking_lot_core.specs.declared.sections.Section.{Section}
+use Rattle.parking_lot_core.specs.declared.tokens.Did.{Did}
+use Rattle.parking_lot_core.specs.declared.tokens.Did.TheVariants.{Nothing, TakeFirst}
+use Rattle.parking_lot_core.specs.declared.tokens.Record.{Record}
 use Rattle.parking_lot.specs.Paths.{mutex_at}
 use Rattle.parking_lot.specs.Driving.{entry_of, note_of, Fits, FitsLock, FitsUnlock, Accepts, Leads, IsInside}
 

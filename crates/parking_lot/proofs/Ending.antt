@@ -6,13 +6,13 @@ use Rattle.lot_steps.specs.Steps.{next_place, next_act}
 use Rattle.lot_steps.specs.declared.acts.Act.{Act}
 use Rattle.lot_steps.specs.declared.acts.Act as act
 use Rattle.lot_steps.specs.declared.acts.Reply.{Reply}
-use Rattle.lot_steps.specs.declared.calls.Answer.{Answer}
-use Rattle.lot_steps.specs.declared.mutex.Entry.{Entry}
-use Rattle.lot_steps.specs.declared.mutex.Entry as entry
+use Rattle.lot_calls.specs.declared.outcomes.Answer.{Answer}
+use Rattle.lot_steps.specs.declared.mutex.lock.Entry.{Entry}
+use Rattle.lot_steps.specs.declared.mutex.lock.Entry as entry
 use Rattle.lot_steps.specs.declared.places.Place.{Place}
-use Rattle.running_lot.specs.declared.lot.ParkingLot.{ParkingLot}
-use Rattle.running_lot.specs.declared.sections.Section.{Section}
-use Rattle.running_lot.specs.declared.tokens.Record.{Record}
+use Rattle.parking_lot_core.specs.declared.lot.ParkingLot.{ParkingLot}
+use Rattle.parking_lot_core.specs.declared.sections.Section.{Section}
+use Rattle.parking_lot_core.specs.declared.tokens.Record.{Record}
 use Rattle.parking_lot.specs.Driving.{answer_of, entry_of, success, ended_by, told_by, Succeeded, IsOver, Reached, Leads, HasEnded}
 
 pub end_of : (a : Act) (answer : Answer) → answer_of a ≡ Some answer → a ≡ act.TheVariants.End answer

@@ -1,13 +1,13 @@
 -- The first step of a call that enters, and the rest of it.
 use Rattle.std.proofs.Common.{ℕ, ◌≡◌, List, ◌++◌, sym, refl, subst, ◌∙◌}
-use Rattle.parking_lot_core.specs.declared.ops.Op.TheVariants.{Exchange}
+use Rattle.lot_base.specs.declared.ops.Op.TheVariants.{Exchange}
 use Rattle.lot_words.specs.declared.views.WordStep.{WordStep}
 use Rattle.lot_steps.specs.MutexSteps.{enters, entered}
 use Rattle.lot_steps.specs.Steps.{next_place, next_act}
 use Rattle.lot_steps.specs.declared.acts.Act as act
 use Rattle.lot_steps.specs.declared.acts.Reply.TheVariants.{Value}
-use Rattle.lot_steps.specs.declared.calls.Answer.{Answer}
-use Rattle.lot_steps.specs.declared.mutex.Entry.{Entry}
+use Rattle.lot_calls.specs.declared.outcomes.Answer.{Answer}
+use Rattle.lot_steps.specs.declared.mutex.lock.Entry.{Entry}
 use Rattle.lot_steps.specs.declared.places.Place.{Place}
 use Rattle.lot_steps.specs.declared.places.Place.TheVariants.{Mutex}
 use Rattle.parking_lot.specs.Paths.{mutex_at, step, word, Walks}

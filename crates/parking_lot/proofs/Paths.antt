@@ -5,7 +5,7 @@ use Rattle.lot_words.specs.declared.views.WordStep.{WordStep}
 use Rattle.lot_steps.specs.Steps.{next_place, next_act}
 use Rattle.lot_steps.specs.declared.acts.Act as act
 use Rattle.lot_steps.specs.declared.acts.Reply.{Reply}
-use Rattle.lot_steps.specs.declared.calls.Answer.{Answer}
+use Rattle.lot_calls.specs.declared.outcomes.Answer.{Answer}
 use Rattle.lot_steps.specs.declared.places.Place.{Place}
 use Rattle.parking_lot.specs.Paths.{Tells, Path, here, on, Walks}
 

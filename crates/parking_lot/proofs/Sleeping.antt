@@ -2,10 +2,10 @@
 use Rattle.std.proofs.Common.{ℕ, ◌≡◌, Option, Some, None, refl}
 use Rattle.std.specs.Option.{option_and}
 use Rattle.lot_words.specs.declared.words.Word.{Word}
-use Rattle.running_lot.specs.declared.lot.ParkingLot.{ParkingLot}
-use Rattle.running_lot.specs.declared.sections.Section.{Section}
-use Rattle.running_lot.specs.declared.sleep.Slept.TheVariants.{Late}
-use Rattle.running_lot.specs.declared.tokens.Did.TheVariants.{Nothing}
+use Rattle.parking_lot_core.specs.declared.lot.ParkingLot.{ParkingLot}
+use Rattle.parking_lot_core.specs.declared.sections.Section.{Section}
+use Rattle.parking_lot_core.specs.declared.sleep.Slept.TheVariants.{Late}
+use Rattle.parking_lot_core.specs.declared.tokens.Did.TheVariants.{Nothing}
 use Rattle.parking_lot.specs.Driving.{IsInside}
 use Rattle.parking_lot.specs.Sleeping.{IsTold}
 

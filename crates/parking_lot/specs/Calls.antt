@@ -2,15 +2,15 @@
 use Rattle.std.specs.Prelude.{ℕ, ◌≡◌, Bool, true, false, List, [], ◌++◌, Option, Some, None}
 use Rattle.lot_words.specs.declared.views.WordStep.{WordStep}
 use Rattle.lot_steps.specs.MutexSteps.{mutex_first, is_locked, is_parked}
-use Rattle.lot_steps.specs.declared.calls.Answer.{Answer}
-use Rattle.lot_steps.specs.declared.calls.Answer.TheVariants.{Yes, No}
-use Rattle.lot_steps.specs.declared.mutex.MutexCall.{MutexCall}
-use Rattle.lot_steps.specs.declared.mutex.MutexCall.TheVariants.{LockTimed}
+use Rattle.lot_calls.specs.declared.outcomes.Answer.{Answer}
+use Rattle.lot_calls.specs.declared.outcomes.Answer.TheVariants.{Yes, No}
+use Rattle.lot_calls.specs.declared.calls.MutexCall.{MutexCall}
+use Rattle.lot_calls.specs.declared.calls.MutexCall.TheVariants.{LockTimed}
 use Rattle.lot_steps.specs.declared.places.Place.{Place}
 use Rattle.lot_steps.specs.declared.places.Place.TheVariants.{Mutex}
-use Rattle.parking_lot_core.specs.declared.ops.Op.{Op}
-use Rattle.parking_lot_core.specs.declared.ops.Op.TheVariants.{Sub}
-use Rattle.running_lot.specs.declared.tokens.Record.{Record}
+use Rattle.lot_base.specs.declared.ops.Op.{Op}
+use Rattle.lot_base.specs.declared.ops.Op.TheVariants.{Sub}
+use Rattle.parking_lot_core.specs.declared.tokens.Record.{Record}
 use Rattle.parking_lot.specs.Driving.{TookAt}
 use Rattle.parking_lot.specs.Paths.{step, mutex_at, Walks}
 

@@ -1,10 +1,10 @@
 -- What holds at each place of a call that the driver runs.
 use Rattle.std.specs.Prelude.{ℕ, ◌≡◌, ◌<◌, ◌*◌, ◌⊎◌, true, List, ◌∷◌, ◌++◌, Option, Some, None}
 use Rattle.std.proofs.Props.{props}
-use Rattle.parking_lot_core.specs.declared.keys.Keys.TheVariants.{One}
-use Rattle.parking_lot_core.specs.declared.notes.Note.{Note}
-use Rattle.parking_lot_core.specs.declared.notes.Note.TheVariants.{Normal, HandOff}
-use Rattle.parking_lot_core.specs.declared.wants.Want as wants
+use Rattle.lot_base.specs.declared.keys.Keys.TheVariants.{One}
+use Rattle.lot_base.specs.declared.notes.Note.{Note}
+use Rattle.lot_base.specs.declared.notes.Note.TheVariants.{Normal, HandOff}
+use Rattle.lot_base.specs.declared.wants.Want as wants
 use Rattle.lot_words.specs.Views.{owning}
 use Rattle.lot_words.specs.Lots.{IsWordOf}
 use Rattle.lot_words.specs.RightsOf.{IsRightOf}
@@ -22,24 +22,24 @@ use Rattle.lot_steps.specs.declared.acts.Reply.{Reply}
 use Rattle.lot_steps.specs.declared.acts.Reply.TheVariants.{Done, Woken}
 use Rattle.lot_steps.specs.declared.acts.Wakes.{Wakes}
 use Rattle.lot_steps.specs.declared.acts.Wakes as wakes
-use Rattle.lot_steps.specs.declared.calls.Answer.{Answer}
-use Rattle.lot_steps.specs.declared.calls.Answer as answers
-use Rattle.lot_steps.specs.declared.mutex.Entry.{Entry}
-use Rattle.lot_steps.specs.declared.mutex.LockAt.{LockAt}
-use Rattle.lot_steps.specs.declared.mutex.LockAt as lock
+use Rattle.lot_calls.specs.declared.outcomes.Answer.{Answer}
+use Rattle.lot_calls.specs.declared.outcomes.Answer as answers
+use Rattle.lot_steps.specs.declared.mutex.lock.Entry.{Entry}
+use Rattle.lot_steps.specs.declared.mutex.lock.LockAt.{LockAt}
+use Rattle.lot_steps.specs.declared.mutex.lock.LockAt as lock
 use Rattle.lot_steps.specs.declared.mutex.MutexPlace.{MutexPlace}
 use Rattle.lot_steps.specs.declared.mutex.MutexPlace.TheVariants.{Lock, Unlock}
-use Rattle.lot_steps.specs.declared.mutex.UnlockAt.{UnlockAt}
-use Rattle.lot_steps.specs.declared.mutex.UnlockAt as unlock
+use Rattle.lot_steps.specs.declared.mutex.unlock.UnlockAt.{UnlockAt}
+use Rattle.lot_steps.specs.declared.mutex.unlock.UnlockAt as unlock
 use Rattle.lot_steps.specs.declared.places.Place.{Place}
 use Rattle.lot_steps.specs.declared.places.Place.TheVariants.{Idle, Mutex}
-use Rattle.running_lot.specs.Tokens.{IsTokenOf, view_of, last_of}
-use Rattle.running_lot.specs.declared.lot.ParkingLot.{ParkingLot}
-use Rattle.running_lot.specs.declared.sections.Section.{Section}
-use Rattle.running_lot.specs.declared.tokens.Did.{Did}
-use Rattle.running_lot.specs.declared.tokens.Did.TheVariants.{Nothing, TakeFirst}
-use Rattle.running_lot.specs.declared.tokens.Record.{Record}
-use Rattle.running_lot.specs.declared.tokens.Token.{Token}
+use Rattle.parking_lot_core.specs.Tokens.{IsTokenOf, view_of, last_of}
+use Rattle.parking_lot_core.specs.declared.lot.ParkingLot.{ParkingLot}
+use Rattle.parking_lot_core.specs.declared.sections.Section.{Section}
+use Rattle.parking_lot_core.specs.declared.tokens.Did.{Did}
+use Rattle.parking_lot_core.specs.declared.tokens.Did.TheVariants.{Nothing, TakeFirst}
+use Rattle.parking_lot_core.specs.declared.tokens.Record.{Record}
+use Rattle.parking_lot_core.specs.declared.tokens.Token.{Token}
 use Rattle.parking_lot.specs.Paths.{mutex_at, Tells}
 use Rattle.parking_lot.specs.declared.driver.Ended.{Ended}
 use Rattle.parking_lot.specs.declared.driver.Ended as ended

@@ -1,23 +1,25 @@
 //! One driver for all calls: it does the act of a place on the real lot, and `advance` leads on.
 ghost use Rattle.std.specs.Prelude.{◌≡◌, ◌<◌, ◌*◌, ◌++◌, ◌∷◌, ◌==◌, [], ℕ, None, Some, length, MatchBool};
-ghost use Rattle.parking_lot_core.specs.declared.ops.Op.TheVariants.{Load};
+ghost use Rattle.lot_base.specs.declared.ops.Op.TheVariants.{Load};
 ghost use Rattle.lot_steps.specs.Acts.{holds};
 ghost use Rattle.lot_steps.specs.Steps.{late_key};
-ghost use Rattle.running_lot.specs.Keys.{IsKeyOf};
-ghost use Rattle.running_lot.specs.Sections.{StaysIn, waiting_in};
-ghost use Rattle.parking_lot_core.specs.Lines.{waiter, line, lines, without, without_first, first_of};
-ghost use Rattle.running_lot.specs.declared.tokens.Did.TheVariants.{Nothing, TakeFirst};
+ghost use Rattle.parking_lot_core.specs.Keys.{IsKeyOf};
+ghost use Rattle.parking_lot_core.specs.Sections.{StaysIn, waiting_in};
+ghost use Rattle.lot_base.specs.Lines.{waiter, line, lines, without, without_first, first_of};
+ghost use Rattle.parking_lot_core.specs.declared.tokens.Did.TheVariants.{Nothing, TakeFirst};
 ghost use Rattle.lot_words.specs.Steps.{MayStep, CodesWith, after_step};
 ghost use Rattle.lot_words.specs.declared.words.WordKind.TheVariants.{Mutex};
-ghost use Rattle.running_lot.specs.Tokens.{IsTokenOf, Stays, view_of, last_of};
+ghost use Rattle.parking_lot_core.specs.Tokens.{IsTokenOf, Stays, view_of, last_of};
 ghost use Rattle.parking_lot.specs.Paths.{mutex_at, Walks};
 ghost use Rattle.parking_lot.specs.Driving.{MeetAt, answer_of, note_of, ended_by, told_by, entry_of, Fits, Came, HasEnded};
 ghost use Rattle.parking_lot.specs.Sleeping.{IsTold};
 
+use lot_base::main_key;
 use lot_steps::{Act, Answer, Check, Place, Reply, Wakes, advance};
 use lot_words::laws::mutex_may_step;
-use parking_lot_core::main_key;
-use running_lot::{Clock, Key, Note, Op, ParkingLot, Right, Section, Slept, Token, Want, Word};
+use parking_lot_core::{
+    Clock, Key, Note, Op, ParkingLot, Right, Section, Slept, Token, Want, Word,
+};
 use std::hint::spin_loop;
 use std::sync::Wait;
 use std::thread::yield_now;

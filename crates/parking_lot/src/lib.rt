@@ -6,10 +6,10 @@ pub mod raw_mutex;
 
 pub use lock_api;
 pub use lock_raw;
-pub use raw_mutex::RawMutex;
-pub use running_lot::{
+pub use parking_lot_core::{
     Clock, Fault, Key, ParkingLot, Right, SystemClock, TickClock, Ticket, Token, to_deadline,
 };
+pub use raw_mutex::RawMutex;
 
 /// A mutex of a lot, with its value.
 pub type Mutex<T> = lock_api::Mutex<RawMutex, T>;

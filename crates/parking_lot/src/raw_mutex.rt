@@ -9,19 +9,19 @@ ghost use Rattle.lot_words.specs.declared.words.WordKind.TheVariants.{Mutex};
 ghost use Rattle.lot_steps.specs.MutexSteps.{is_locked, is_parked};
 ghost use Rattle.lot_steps.specs.Steps.{next_place};
 ghost use Rattle.lot_steps.specs.declared.acts.Reply.TheVariants.{Value};
-ghost use Rattle.lot_steps.specs.declared.calls.Answer.TheVariants.{Ok, Yes, No};
-ghost use Rattle.lot_steps.specs.declared.mutex.MutexCall.TheVariants.{Lock, LockTimed, Unlock};
-ghost use Rattle.parking_lot_core.specs.declared.ops.Op.TheVariants.{Load, Or};
-ghost use Rattle.running_lot.specs.Tokens.{IsTokenOf, Stays, view_of, last_of};
+ghost use Rattle.lot_calls.specs.declared.outcomes.Answer.TheVariants.{Ok, Yes, No};
+ghost use Rattle.lot_calls.specs.declared.calls.MutexCall.TheVariants.{Lock, LockTimed, Unlock};
+ghost use Rattle.lot_base.specs.declared.ops.Op.TheVariants.{Load, Or};
+ghost use Rattle.parking_lot_core.specs.Tokens.{IsTokenOf, Stays, view_of, last_of};
 ghost use Rattle.parking_lot.specs.Calls.{beginning, timed_answer, Steps, Sees, Releases, GaveUp};
 ghost use Rattle.parking_lot.specs.Driving.{MeetAt, IsGuardOf, IsGuardOf-prop, TookAt};
 ghost use Rattle.parking_lot.specs.Paths.{mutex_at, Walks};
 
 use crate::driver::{Ended, NoClock, run, step};
+use lot_base::main_key;
 use lot_steps::mutex::{LOCKED, is_locked, is_parked};
-use lot_steps::{MutexCall, Place, Reply, advance};
-use parking_lot_core::main_key;
-use running_lot::{
+use lot_steps::{MutexCall, MutexPlace, Place, Reply, advance};
+use parking_lot_core::{
     Clock, Fault, Key, Op, ParkingLot, Right, Token, Want, Word, WordKind, to_deadline,
 };
 use std::sync::{Arc, Wait};
@@ -193,7 +193,7 @@ impl RawMutex {
     {
         Place::Mutex {
             lock: self.word.number(),
-            at: call.first_place(false),
+            at: MutexPlace::first(call, false),
         }
     }
 

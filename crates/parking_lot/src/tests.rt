@@ -5,7 +5,7 @@ mod timed;
 
 ghost use Rattle.std.specs.Prelude.{◌≡◌, All, IfOk, IfSome};
 ghost use Rattle.std.specs.Arc.{arc_value};
-ghost use Rattle.running_lot.specs.Tokens.{IsTicketOf, IsTokenOf};
+ghost use Rattle.parking_lot_core.specs.Tokens.{IsTicketOf, IsTokenOf};
 
 use crate::{Fault, ParkingLot, RawMutex, Ticket};
 use std::alloc::Global;

@@ -1,3 +1,1 @@
-pub mod Counts
-pub mod Moves
-pub mod Seats
+mod Lists

@@ -1,4 +1,4 @@
-pub mod Words
-pub mod Lines
-pub mod Picks
-pub mod Requeues
+pub mod Tokens
+pub mod Keys
+pub mod Sections
+pub mod Sleeps

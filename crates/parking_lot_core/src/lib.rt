@@ -1,27 +1,21 @@
-//! What every lock stands on: faults, the operations of a word, the keys of its queues, and the queues.
+//! The lot that threads run on: tickets and tokens, word steps, sections over the queues, and sleep.
 #![tactic(auto)]
 
-pub mod faults;
-pub mod keys;
-pub mod list;
-pub mod lock_picker;
-pub mod notes;
-pub mod ops;
-pub mod picks;
-pub mod queues;
-pub mod requeues;
-pub mod wants;
+pub mod lot;
+pub mod sections;
+pub mod sleep;
+pub mod tokens;
+pub mod waiters;
+pub mod words;
 
-pub use faults::Fault;
-pub use keys::{Key, Keys, main_key, second_key};
-pub use list::ListQueues;
-pub use lock_picker::LockPicker;
-pub use notes::Note;
-pub use ops::Op;
-pub use picks::{Pick, Picker};
-pub use queues::Queues;
-pub use requeues::Requeue;
-pub use wants::{Waiter, Want};
+pub use lot::ParkingLot;
+pub use lot_base::{
+    Clock, Fault, Key, Keys, Note, Op, Requeue, SystemClock, TickClock, Waiter, Want, to_deadline,
+};
+pub use lot_words::{Right, Word, WordKind};
+pub use sections::Section;
+pub use sleep::Slept;
+pub use tokens::{Did, Record, Ticket, Token};
 
 #[cfg(test)]
 mod tests;

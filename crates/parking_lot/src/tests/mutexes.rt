@@ -2,7 +2,7 @@
 ghost use Rattle.std.specs.Prelude.{◌≡◌, All, IfOk};
 ghost use Rattle.std.specs.Arc.{arc_value};
 ghost use Rattle.std.specs.Sync.Mutex.{mutex_guard_value};
-ghost use Rattle.running_lot.specs.Tokens.{IsTicketOf, IsTokenOf};
+ghost use Rattle.parking_lot_core.specs.Tokens.{IsTicketOf, IsTokenOf};
 
 use crate::{Fault, Mutex, MutexGuard, ParkingLot, Ticket, Token, lock_api, lock_raw};
 use std::alloc::Global;

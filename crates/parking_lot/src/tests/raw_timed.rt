@@ -1,7 +1,7 @@
 //! Raw mutexes whose waiters may give up.
 ghost use Rattle.std.specs.Prelude.{◌≡◌, ◌≤◌, IfOk, IfSome};
 ghost use Rattle.std.specs.Arc.{arc_value};
-ghost use Rattle.running_lot.specs.Tokens.{IsTicketOf, IsTokenOf};
+ghost use Rattle.parking_lot_core.specs.Tokens.{IsTicketOf, IsTokenOf};
 
 use super::{hold, three_seats};
 use crate::{Fault, ParkingLot, RawMutex, TickClock, Ticket, Token, lock_raw};

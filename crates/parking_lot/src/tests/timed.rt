@@ -1,7 +1,7 @@
 //! Calls of a mutex with a value that give up in time.
 ghost use Rattle.std.specs.Prelude.{IfOk};
 ghost use Rattle.std.specs.Arc.{arc_value};
-ghost use Rattle.running_lot.specs.Tokens.{IsTokenOf};
+ghost use Rattle.parking_lot_core.specs.Tokens.{IsTokenOf};
 
 use crate::{Clock, Fault, Mutex, ParkingLot, TickClock, Token, lock_api, lock_raw};
 use std::alloc::Global;

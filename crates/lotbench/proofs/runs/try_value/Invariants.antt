@@ -1,5 +1,5 @@
 use Rattle.std.specs.Arc.{arc_value}
-use Rattle.running_lot.specs.Tokens.{IsTokenOf}
+use Rattle.parking_lot_core.specs.Tokens.{IsTokenOf}
 use Rattle.lotbench.proofs.runs.try_value.Given as goal
 
 abbrev pub invariant-loop : goal.invariant-loop

@@ -1,5 +1,5 @@
 use Rattle.std.proofs.Common.{sym, ap, ◌∙◌}
-use Rattle.lot_steps.specs.declared.calls.Outcome.{Outcome}
+use Rattle.lot_calls.specs.declared.outcomes.Outcome.{Outcome}
 use Rattle.lot_world.specs.Machine.{State}
 use Rattle.lotsim.specs.Stages.{went_alone}
 use Rattle.lot_world.proofs.Alone.{after_stuck}

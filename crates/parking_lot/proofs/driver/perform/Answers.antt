@@ -1,10 +1,10 @@
 use Rattle.std.proofs.Common.{◌≡◌, ◌∙◌, Some, None, Option, sym, refl, ap, subst, rules, ◌*◌}
 use Rattle.lot_steps.specs.Acts.{holds}
 use Rattle.lot_steps.specs.declared.acts.Reply.TheVariants.{Done, Parked, Took, Removed, Late, Woken}
-use Rattle.parking_lot_core.specs.declared.notes.Note.TheVariants.{Normal}
-use Rattle.running_lot.specs.Tokens.{view_of, last_of}
-use Rattle.running_lot.specs.declared.tokens.Did.TheVariants.{Nothing, TakeFirst}
-use Rattle.running_lot.specs.declared.tokens.Record.{Record}
+use Rattle.lot_base.specs.declared.notes.Note.TheVariants.{Normal}
+use Rattle.parking_lot_core.specs.Tokens.{view_of, last_of}
+use Rattle.parking_lot_core.specs.declared.tokens.Did.TheVariants.{Nothing, TakeFirst}
+use Rattle.parking_lot_core.specs.declared.tokens.Record.{Record}
 use Rattle.parking_lot.specs.Driving.{Leads, IsInside}
 use Rattle.parking_lot.specs.Paths.{is_wordless}
 use Rattle.parking_lot.proofs.Doing.{Does, does}

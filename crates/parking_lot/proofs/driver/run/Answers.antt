@@ -2,15 +2,15 @@ use Rattle.std.proofs.Common.{◌≡◌, ◌∙◌, None, Some, Option, [], sym,
 use Rattle.lot_words.specs.declared.views.View.{View}
 use Rattle.lot_steps.specs.MutexSteps.{entered}
 use Rattle.lot_steps.specs.Steps.{next_place, next_act}
-use Rattle.lot_steps.specs.declared.mutex.Entry.{Entry}
+use Rattle.lot_steps.specs.declared.mutex.lock.Entry.{Entry}
 use Rattle.lot_steps.specs.declared.acts.Reply.TheVariants.{Spun, Done, Woken}
-use Rattle.lot_steps.specs.declared.calls.Answer.{Answer}
+use Rattle.lot_calls.specs.declared.outcomes.Answer.{Answer}
 use Rattle.lot_steps.specs.declared.places.Place.{Place}
-use Rattle.parking_lot_core.specs.declared.notes.Note.TheVariants.{HandOff}
-use Rattle.running_lot.specs.Tokens.{view_of, last_of}
+use Rattle.lot_base.specs.declared.notes.Note.TheVariants.{HandOff}
+use Rattle.parking_lot_core.specs.Tokens.{view_of, last_of}
 use Rattle.parking_lot.specs.Driving.{Fits, Reached, entry_of, answer_of, success}
 use Rattle.parking_lot.specs.Paths.{step, spins, mutex_at, is_wordless, other, Walks}
-use Rattle.parking_lot_core.specs.declared.ops.Op.TheVariants.{Load}
+use Rattle.lot_base.specs.declared.ops.Op.TheVariants.{Load}
 use Rattle.parking_lot.proofs.Doing.{spun}
 use Rattle.parking_lot.proofs.Coming.{loads}
 use Rattle.parking_lot.proofs.Ending.{end_of, ends}

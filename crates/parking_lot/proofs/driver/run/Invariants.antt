@@ -1,5 +1,5 @@
 use Rattle.std.proofs.Common.{◌≡◌}
-use Rattle.running_lot.specs.Tokens.{Stays, view_of}
+use Rattle.parking_lot_core.specs.Tokens.{Stays, view_of}
 use Rattle.parking_lot.specs.Driving.{Fits, entry_of}
 use Rattle.parking_lot.specs.Paths.{mutex_at}
 use Rattle.parking_lot.proofs.Paths.{Comes}

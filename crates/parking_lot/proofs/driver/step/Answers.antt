@@ -2,7 +2,7 @@ use Rattle.std.proofs.Common.{sym, subst}
 use Rattle.lot_words.specs.Places.{place}
 use Rattle.lot_words.specs.Steps.{MayStep}
 use Rattle.lot_words.specs.declared.words.WordKind.{WordKind}
-use Rattle.running_lot.specs.Tokens.{view_of}
+use Rattle.parking_lot_core.specs.Tokens.{view_of}
 use Rattle.parking_lot.proofs.driver.step.Goals as goal
 
 pub word-requires-clause-may : goal.word-requires-clause-may

@@ -1,4 +1,4 @@
-use Rattle.running_lot.specs.Tokens.{IsTokenOf}
+use Rattle.parking_lot_core.specs.Tokens.{IsTokenOf}
 use Rattle.parking_lot.proofs.tests.hold.Given as goal
 
 abbrev pub invariant-loop : goal.invariant-loop

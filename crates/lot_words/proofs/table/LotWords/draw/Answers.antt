@@ -1,5 +1,5 @@
 use Rattle.std.proofs.Common.{◌+◌, ◌∙◌, ap, arith, length}
-use Rattle.parking_lot_core.specs.declared.ops.Op.TheVariants.{Exchange}
+use Rattle.lot_base.specs.declared.ops.Op.TheVariants.{Exchange}
 use Rattle.lot_words.proofs.Keeps.{look, draw_so_many}
 use Rattle.lot_words.proofs.Looks.{next_look}
 use Rattle.lot_words.proofs.table.LotWords.draw.Goals as goal

@@ -1,5 +1,5 @@
 use Rattle.std.proofs.Common.{◌≡◌, ◌-◌}
-use Rattle.lot_steps.specs.declared.calls.Outcome as outcome
+use Rattle.lot_calls.specs.declared.outcomes.Outcome as outcome
 use Rattle.lot_world.specs.Machine.{solo}
 use Rattle.lot_world.specs.Fits.{SameSize}
 use Rattle.lot_world.proofs.world.World.step_alone.Given as goal

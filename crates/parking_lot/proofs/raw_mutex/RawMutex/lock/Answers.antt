@@ -1,8 +1,8 @@
 use Rattle.std.proofs.Common.{◌≡◌, rules, ap}
-use Rattle.lot_steps.specs.declared.calls.Answer.TheVariants.{Ok}
-use Rattle.lot_steps.specs.declared.mutex.Entry.TheVariants.{Lock}
+use Rattle.lot_calls.specs.declared.outcomes.Answer.TheVariants.{Ok}
+use Rattle.lot_steps.specs.declared.mutex.lock.Entry.TheVariants.{Lock}
 use Rattle.lot_words.specs.declared.views.View.{View}
-use Rattle.running_lot.specs.Tokens.{view_of}
+use Rattle.parking_lot_core.specs.Tokens.{view_of}
 use Rattle.parking_lot.proofs.Entering.{entered_at_once, entered_behind}
 use Rattle.parking_lot.proofs.raw_mutex.RawMutex.lock.Goals as goal
 

@@ -3,12 +3,12 @@ use Rattle.lot_steps.specs.MutexSteps.{is_parked, in_unlock}
 use Rattle.lot_steps.specs.Steps.{next_place, mutex_does}
 use Rattle.lot_steps.specs.declared.acts.Next as next
 use Rattle.lot_steps.specs.declared.acts.Reply.TheVariants.{Value}
-use Rattle.lot_steps.specs.declared.calls.Answer.TheVariants.{Ok}
-use Rattle.lot_steps.specs.declared.mutex.MutexCall.TheVariants.{Unlock}
-use Rattle.lot_steps.specs.declared.mutex.UnlockAt as unlock
+use Rattle.lot_calls.specs.declared.outcomes.Answer.TheVariants.{Ok}
+use Rattle.lot_calls.specs.declared.calls.MutexCall.TheVariants.{Unlock}
+use Rattle.lot_steps.specs.declared.mutex.unlock.UnlockAt as unlock
 use Rattle.lot_words.specs.declared.views.View.{View}
-use Rattle.parking_lot_core.specs.declared.ops.Op.TheVariants.{Sub}
-use Rattle.running_lot.specs.Tokens.{view_of}
+use Rattle.lot_base.specs.declared.ops.Op.TheVariants.{Sub}
+use Rattle.parking_lot_core.specs.Tokens.{view_of}
 use Rattle.parking_lot.specs.Calls.{beginning}
 use Rattle.parking_lot.specs.Paths.{mutex_at, step, word}
 use Rattle.parking_lot.proofs.Paths.{comes_here, comes_on, comes_to_end, walks_on}

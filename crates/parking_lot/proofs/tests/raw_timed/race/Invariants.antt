@@ -1,6 +1,6 @@
 use Rattle.std.proofs.Common.{◌≤◌}
 use Rattle.std.specs.Arc.{arc_value}
-use Rattle.running_lot.specs.Tokens.{IsTokenOf}
+use Rattle.parking_lot_core.specs.Tokens.{IsTokenOf}
 use Rattle.parking_lot.proofs.tests.raw_timed.race.Given as goal
 
 abbrev pub invariant-loop-round : goal.invariant-loop-round

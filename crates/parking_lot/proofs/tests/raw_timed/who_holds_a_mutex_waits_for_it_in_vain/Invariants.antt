@@ -1,5 +1,5 @@
 use Rattle.std.specs.Arc.{arc_value}
-use Rattle.running_lot.specs.Tokens.{IsTokenOf}
+use Rattle.parking_lot_core.specs.Tokens.{IsTokenOf}
 use Rattle.parking_lot.proofs.tests.raw_timed.who_holds_a_mutex_waits_for_it_in_vain.Given as goal
 
 abbrev pub invariant-loop-deadline : goal.invariant-loop-deadline

@@ -1,0 +1,17 @@
+pub mod LockKeeps
+pub mod Runs
+pub mod Picks
+pub mod Turns
+pub mod Hands
+pub mod Wakes
+pub mod SiteKeeps
+pub mod Seen
+pub mod CodeLaws
+pub mod Limits
+pub mod ReadersFit
+pub mod SectionsFit
+pub mod WordsFit
+pub mod OnceKeeps
+pub mod CondvarKeeps
+pub mod PermitKeeps
+pub mod OnceFit

@@ -1,0 +1,5 @@
+use Rattle.abstract_locks.proofs.OnceKeeps.{done_stays}
+use Rattle.abstract_locks.proofs.nothing_leaves_done.Goals as goal
+
+pub returns : goal.returns
+returns c = done_stays

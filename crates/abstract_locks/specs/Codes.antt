@@ -1,0 +1,115 @@
+-- The word of a lock, and what a thread reads in it.
+use Rattle.std.specs.Prelude.{ℕ, Bool, true, false, Option, Some, None, if◌then◌else◌, ◌==◌, ◌&&◌, ◌||◌, not, ◌+◌, ◌-◌, ◌*◌, ◌/◌, ◌%◌, ◌<◌, ◌≤◌, ◌≡◌, length}
+use Rattle.lot_base.specs.declared.wants.Want.{Want}
+use Rattle.lot_base.specs.declared.wants.Want.TheVariants.{Exclusive, Upgradable, Shared}
+use Rattle.abstract_locks.specs.Locks.{LockState, Pending, Sort, Mutex, Normal, Recursive, Semaphore, Rules, LockCase, Enter, Pend, Leave, Convert, HandOff, Rollback, Knows, NoWriter, IsFree, IsBlocked, is_recursive, count, readers, one_if_some, Needs, IsLockState}
+use Rattle.abstract_locks.specs.Locks as locks
+use Rattle.abstract_locks.specs.Sites.{Site, IsSite, Does, Needed, after, has_readers}
+
+abbrev pub bit : Bool → ℕ
+bit true = 1
+bit false = 0
+
+-- a reader-writer word by its parts: readers, writer, upgradable, writer parked, parked
+abbrev pub packed : ℕ → ℕ → ℕ → ℕ → ℕ → ℕ
+packed c w u a p = 16 * c + 8 * w + 4 * u + 2 * a + p
+
+-- exclusive or pending
+abbrev pub writers : LockState → ℕ
+writers s = one_if_some s.exclusive + one_if_some s.pending
+
+abbrev pub rw_code : Site → ℕ
+rw_code s = packed (count s.lock) (writers s.lock) (one_if_some s.lock.upgradable) (bit s.aside_parked) (bit s.parked)
+
+abbrev pub code_of : Sort → ℕ → Site → ℕ
+code_of Mutex limit s = one_if_some s.lock.exclusive + 2 * bit s.parked
+code_of Normal limit s = rw_code s
+code_of Recursive limit s = rw_code s
+code_of Semaphore limit s = 2 * (limit - readers s.lock) + bit s.parked
+
+abbrev pub code : Rules → Site → ℕ
+code r s = code_of r.sort r.limit s
+
+-- what a thread reads
+abbrev pub count_in : ℕ → ℕ
+count_in v = v / 16
+
+abbrev pub has_writer : ℕ → Bool
+has_writer v = v / 8 % 2 == 1
+
+abbrev pub has_upgradable : ℕ → Bool
+has_upgradable v = v / 4 % 2 == 1
+
+abbrev pub has_aside : ℕ → Bool
+has_aside v = v / 2 % 2 == 1
+
+abbrev pub has_parked : ℕ → Bool
+has_parked v = v % 2 == 1
+
+-- whether a want is blocked, by what is read
+abbrev pub is_blocked : Bool → Want → ℕ → Bool
+is_blocked recursive Shared v = has_writer v && (not recursive || (count_in v == 0))
+is_blocked recursive x v = has_writer v || has_upgradable v
+
+-- ---------------------------------------------------------------- the laws
+
+-- what a reader-writer word says is so
+pub record TellsTrue (r : Rules) (s : Site) : Type 0 where
+  pub count : count_in (code r s) ≡ count s.lock
+  pub parked : has_parked (code r s) ≡ s.parked
+  pub aside : has_aside (code r s) ≡ s.aside_parked
+  pub blocked : (x : Want) → Knows r.sort x → is_blocked (is_recursive r.sort) x (code r s) ≡ true → IsBlocked r s.lock x
+  pub free : (x : Want) → Knows r.sort x → is_blocked (is_recursive r.sort) x (code r s) ≡ false → IsFree r s.lock x
+  pub nobody : code r s ≡ 0 → NoWriter s.lock × (readers s.lock ≡ 0)
+
+-- what a case adds to the word, and what it subtracts
+abbrev pub gained : LockCase → ℕ
+gained (Enter Shared) = 16
+gained (Enter Upgradable) = 20
+gained (Enter Exclusive) = 8
+gained Pend = 8
+gained (Convert Exclusive Shared) = 16
+gained (Convert Exclusive Upgradable) = 20
+gained case = 0
+
+abbrev pub lost : Option Pending → LockCase → ℕ
+lost p (Leave Shared) = 16
+lost p (Leave Upgradable) = 20
+lost p (Leave Exclusive) = 8
+lost p (Convert Upgradable Shared) = 4
+lost p (Convert Upgradable Exclusive) = 12
+lost p (Convert Exclusive x) = 8
+lost p Rollback = 8
+lost p case = 0
+
+abbrev pub fallen_to : Option Pending → ℕ
+fallen_to None = 0
+fallen_to (Some p) = if p.falls_back then 20 else 0
+
+abbrev pub rolled : Option Pending → LockCase → ℕ
+rolled p Rollback = fallen_to p
+rolled p case = gained case
+
+abbrev pub IsHandOff : LockCase → Type 0
+IsHandOff (HandOff x successor) = Unit {0}
+IsHandOff case = ⊥
+
+-- every case but a hand-off changes the word so; bits stay
+abbrev pub WordFollows : Type 0
+WordFollows = (r : Rules) (case : LockCase) (s : Site) (t : ℕ) → has_readers r.sort ≡ true → t < length s.lock.shared → IsSite r s → Needed r (Does case) s t → (IsHandOff case → ⊥)
+    → code r (after r (Does case) s t) + lost s.lock.pending case ≡ code r s + rolled s.lock.pending case
+
+abbrev pub WordsTellTrue : Type 0
+WordsTellTrue = (r : Rules) (s : Site) → has_readers r.sort ≡ true → IsSite r s → TellsTrue r s
+
+-- ---------------------------------------------------------------- the limit
+
+-- the count passes the limit by a roll-back alone, on a recursive lock, and by 1
+pub record HasLimit (r : Rules) (s : LockState) : Type 0 where
+  pub top : count s ≤ r.limit + 1
+  pub normal : r.sort ≡ Normal → count s ≤ r.limit
+  pub falls : (p : Pending) → s.pending ≡ Some p → p.falls_back ≡ true → count s ≤ r.limit
+  pub falls_normal : (p : Pending) → s.pending ≡ Some p → p.falls_back ≡ true → r.sort ≡ Normal → count s + 1 ≤ r.limit
+
+abbrev pub LimitKept : Type 0
+LimitKept = (r : Rules) (case : LockCase) (s : LockState) (t : ℕ) → has_readers r.sort ≡ true → t < length s.shared → 1 ≤ r.limit → IsLockState r s → HasLimit r s → Needs r case s t → (IsHandOff case → ⊥) → HasLimit r (locks.after r case s t)

@@ -1,0 +1,11 @@
+pub mod Locks
+pub mod Purposes
+pub mod Runs
+pub mod Picks
+pub mod Sites
+pub mod Codes
+pub mod ReadersSteps
+pub mod Onces
+pub mod Condvars
+pub mod Permits
+pub mod OnceSteps

@@ -1,0 +1,112 @@
+-- What each call of a lock is for, and which cases it is made of.
+use Rattle.std.specs.Prelude.{ℕ, Bool, true, false, Option, Some, None, ◌≡◌, ◌≢◌, ◌⊎◌}
+use Rattle.lot_base.specs.declared.wants.Want.{Want}
+use Rattle.lot_base.specs.declared.wants.Want.TheVariants.{Exclusive, Upgradable, Shared}
+use Rattle.lot_calls.specs.declared.kinds.Kind.{Kind}
+use Rattle.lot_calls.specs.declared.kinds.Kind as kind
+use Rattle.lot_calls.specs.declared.calls.Call.{Call}
+use Rattle.lot_calls.specs.declared.calls.Call as call
+use Rattle.lot_calls.specs.declared.calls.MutexCall.{MutexCall}
+use Rattle.lot_calls.specs.declared.calls.MutexCall as mutex_call
+use Rattle.abstract_locks.specs.Locks.{Rules, Mutex, Normal, Recursive, LockCase, Enter, Pend, Settle, Leave, Convert, Park, Aside, TakeFirst, TakeAside, TakePicked, Wake, HandOff, Late, Rollback}
+
+-- whether a call waits for ever, up to a deadline, or not at all
+pub data Patience : Type 0 where
+  Patient : Patience
+  Timed : Patience
+  Try : Patience
+
+-- what a call of a lock is for
+pub data Purpose : Type 0 where
+  Enters : (lock : ℕ) → (want : Want) → Patience → Purpose
+  Releases : (lock : ℕ) → (right : Want) → (fair : Bool) → Purpose
+  Converts : (lock : ℕ) → (right want : Want) → Patience → Purpose
+  Bumps : (lock : ℕ) → (right : Want) → Purpose
+
+-- a fair mutex is released fairly by any release
+abbrev pub mutex_purpose : Bool → ℕ → MutexCall → Purpose
+mutex_purpose fair l mutex_call.TheVariants.Lock = Enters l Exclusive Patient
+mutex_purpose fair l mutex_call.TheVariants.LockTimed = Enters l Exclusive Timed
+mutex_purpose fair l mutex_call.TheVariants.TryLock = Enters l Exclusive Try
+mutex_purpose fair l mutex_call.TheVariants.Unlock = Releases l Exclusive fair
+mutex_purpose fair l mutex_call.TheVariants.UnlockFair = Releases l Exclusive true
+mutex_purpose fair l mutex_call.TheVariants.Bump = Bumps l Exclusive
+
+-- what a call of a lock of this kind is for; nothing where the kind lacks the call
+abbrev pub purpose_of : Kind → Call → Option Purpose
+purpose_of kind.TheVariants.Mutex (call.TheVariants.Mutex l c) = Some (mutex_purpose false l c)
+purpose_of kind.TheVariants.Fair (call.TheVariants.Mutex l c) = Some (mutex_purpose true l c)
+purpose_of k c = None
+
+-- a call that may sleep until it has the lock
+abbrev pub MayWait : Option Purpose → ℕ → Type 0
+MayWait (Some (Enters l x how)) k = (l ≡ k) × (how ≢ Try)
+MayWait (Some (Converts l x y how)) k = (l ≡ k) × (how ≢ Try)
+MayWait (Some (Bumps l x)) k = l ≡ k
+MayWait purpose k = ⊥
+
+-- a call that releases the lock; a bump does so until it has, and then it enters
+abbrev pub IsReleasing : Option Purpose → Bool → ℕ → Type 0
+IsReleasing (Some (Releases l x fair)) released k = l ≡ k
+IsReleasing (Some (Bumps l x)) released k = (l ≡ k) × (released ≡ false)
+IsReleasing purpose released k = ⊥
+
+-- the rules of a lock of each kind; a condition variable and a Once have none, and nobody enters them
+abbrev pub rules_of : Kind → Rules
+rules_of (kind.TheVariants.RwLock limit) = record { sort = Normal; limit = limit }
+rules_of (kind.TheVariants.Recursive limit) = record { sort = Recursive; limit = limit }
+rules_of k = record { sort = Mutex; limit = 0 }
+
+-- ---------------------------------------------------------------- which cases a call is made of
+
+-- a call that enters: it gives up only where it has a deadline, and goes back only after it gave up
+abbrev pub EntersBy : Want → Patience → Option ℕ → LockCase → Type 0
+EntersBy x p gave_up (Enter y) = y ≡ x
+EntersBy x p gave_up Pend = (x ≡ Exclusive) × (p ≢ Try)
+EntersBy x p gave_up Settle = x ≡ Exclusive
+EntersBy x p gave_up (Park y) = (y ≡ x) × (p ≢ Try)
+EntersBy x p gave_up Aside = x ≡ Exclusive
+EntersBy x p gave_up Late = (p ≡ Timed) × (gave_up ≡ None)
+EntersBy x p gave_up Rollback = gave_up ≢ None
+EntersBy x p gave_up (TakePicked start) = (gave_up ≢ None) × (start ≡ None)
+EntersBy x p gave_up Wake = gave_up ≢ None
+EntersBy x p gave_up case = ⊥
+
+-- a call that releases: a fair one hands over in place of waking, but the upgradable one where the limit would be passed
+abbrev pub ReleasesBy : Want → Bool → LockCase → Type 0
+ReleasesBy x fair (Leave y) = y ≡ x
+ReleasesBy x fair (TakeFirst w) = Unit {0}
+ReleasesBy x fair (TakeAside u) = x ≡ Shared
+ReleasesBy x fair (TakePicked start) = (x ≢ Shared) × (start ≡ None)
+ReleasesBy x fair Wake = (fair ≡ false) ⊎ (x ≡ Upgradable)
+ReleasesBy x fair (HandOff y successor) = (fair ≡ true) × (y ≡ x)
+ReleasesBy x fair case = ⊥
+
+-- a call that converts never lets its right go
+abbrev pub ConvertsBy : Want → Want → Patience → Option ℕ → LockCase → Type 0
+ConvertsBy x y p gave_up (Convert a b) = (a ≡ x) × (b ≡ y)
+ConvertsBy x y p gave_up Settle = y ≡ Exclusive
+ConvertsBy x y p gave_up Aside = y ≡ Exclusive
+ConvertsBy x y p gave_up Late = (p ≡ Timed) × (gave_up ≡ None)
+ConvertsBy x y p gave_up Rollback = gave_up ≢ None
+ConvertsBy x y p gave_up (TakePicked start) = ((y ≢ Exclusive) × (start ≡ Some y)) ⊎ ((gave_up ≢ None) × (start ≡ Some x))
+ConvertsBy x y p gave_up Wake = (y ≢ Exclusive) ⊎ (gave_up ≢ None)
+ConvertsBy x y p gave_up case = ⊥
+
+abbrev pub is_fair_bump : Want → Bool
+is_fair_bump Shared = false
+is_fair_bump x = true
+
+-- what a bump does before it enters again: it gives its right up once
+abbrev pub GivesWay : Want → Bool → LockCase → Type 0
+GivesWay x released (Leave y) = ReleasesBy x (is_fair_bump x) (Leave y) × (released ≡ false)
+GivesWay x released (HandOff y successor) = ReleasesBy x (is_fair_bump x) (HandOff y successor) × (released ≡ false)
+GivesWay x released case = ReleasesBy x (is_fair_bump x) case
+
+-- the call does this to this lock; gave_up is the lock whose queue it left because its time was up, released whether it has given
+-- its right up: a bump enters only then
+abbrev pub IsMadeOf : Purpose → Option ℕ → Bool → ℕ → LockCase → Type 0
+IsMadeOf (Enters l x p) gave_up released k case = (k ≡ l) × EntersBy x p gave_up case
+IsMadeOf (Releases l x fair) gave_up released k case = (k ≡ l) × ReleasesBy x fair case
+IsMadeOf (Converts l x y p) gave_up released k case = (k ≡ l) × ConvertsBy x y p gave_up case
+IsMadeOf (Bumps l x) gave_up released k case = (k ≡ l) × (GivesWay x released case ⊎ ((released ≡ true) × EntersBy x Patient gave_up case))

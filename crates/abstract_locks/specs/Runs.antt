@@ -1,0 +1,246 @@
+-- A run of the abstract locks: each step is one case of one lock, or changes nothing, and each answer is true.
+use Rattle.std.specs.Prelude.{ℕ, suc, Option, Some, None, ◌<◌, ◌≤◌, ◌≡◌, ◌≢◌, ◌⊎◌, List, [], ◌∷◌, Bool, true, false, if◌then◌else◌, ◌==◌}
+use Rattle.lot_base.specs.declared.wants.Want.{Want}
+use Rattle.lot_base.specs.declared.wants.Want.TheVariants.{Exclusive}
+use Rattle.lot_calls.specs.declared.kinds.Kind.{Kind}
+use Rattle.lot_calls.specs.declared.calls.Call.{Call}
+use Rattle.lot_calls.specs.declared.calls.Turn.{Turn}
+use Rattle.lot_calls.specs.declared.calls.Turn as turn
+use Rattle.lot_calls.specs.declared.calls.Step.{Step}
+use Rattle.lot_calls.specs.declared.outcomes.Answer.{Answer}
+use Rattle.lot_calls.specs.declared.outcomes.Answer as answer
+use Rattle.lot_calls.specs.declared.outcomes.Outcome.{Outcome}
+use Rattle.lot_calls.specs.declared.outcomes.Outcome as outcome
+use Rattle.lot_calls.specs.Calls.{lock_in}
+use Rattle.abstract_locks.specs.Locks.{LockState, Taken, LockCase, Enter, Pend, Settle, Leave, Park, Aside, Wake, HandOff, Late, Rules, Rights, Mutex, Needs, after, rights_of, with_right, without_right, Owns, IsFree, IsBlocked, count, readers, put, standing, HasTakenNobody, IsLockState, opening_lock}
+use Rattle.abstract_locks.specs.Purposes.{Purpose, Enters, Releases, Converts, Bumps, Patience, Patient, Timed, Try, purpose_of, rules_of, IsMadeOf}
+
+-- what is remembered of a call: what its answer needs of earlier steps, and whether it tries again
+pub record CallState : Type 0 where
+  -- what the call is for; none between calls
+  pub purpose : Option Purpose
+  -- what the thread owned of each lock as the call began
+  pub former : ℕ → Rights
+  -- the lock whose queue it left because its time was up
+  pub gave_up : Option ℕ
+  -- the lock that it tries again since it was woken
+  pub retries : Option ℕ
+  -- whether it has given its right up
+  pub released : Bool
+
+-- locks, and threads that call them
+pub record LocksState : Type 0 where
+  pub threads : ℕ
+  pub size : ℕ
+  pub kinds : ℕ → Kind
+  pub locks : ℕ → LockState
+  pub calls : ℕ → CallState
+
+abbrev pub rules_at : LocksState → ℕ → Rules
+rules_at w l = rules_of (w.kinds l)
+
+-- what a thread owns of each lock
+abbrev pub rights_in : LocksState → ℕ → ℕ → Rights
+rights_in w t l = rights_of (w.locks l) t
+
+abbrev pub beginning : Option Purpose → (ℕ → Rights) → CallState
+beginning purpose former = record { purpose = purpose; former = former; gave_up = None; retries = None; released = false }
+
+abbrev pub no_rights : Rights
+no_rights = record { exclusive = 0; pending = 0; upgradable = 0; shared = 0 }
+
+-- what holds of owners and queues in every state, at each lock
+abbrev pub AreLockStates : LocksState → Type 0
+AreLockStates w = (l : ℕ) → IsLockState (rules_at w l) (w.locks l)
+
+-- between its calls a thread remembers nothing
+abbrev pub no_call : CallState
+no_call = beginning None (λ l. no_rights)
+
+-- nobody owns, nobody waits, and nobody is in a call
+pub record IsOpening (w : LocksState) : Type 0 where
+  pub locks : (l : ℕ) → w.locks l ≡ opening_lock w.threads
+  pub calls : (t : ℕ) → w.calls t ≡ no_call
+
+-- ---------------------------------------------------------------- what a step does
+
+-- nothing, or one case of one lock
+pub data Event : Type 0 where
+  Nothing : Event
+  AtLock : (lock : ℕ) → LockCase → Event
+
+abbrev pub locks_after : LocksState → ℕ → Event → ℕ → LockState
+locks_after w t Nothing = w.locks
+locks_after w t (AtLock l case) = put w.locks l (after (rules_at w l) case (w.locks l) t)
+
+-- what the thread of the step remembers of it: an ownership, or a place in a queue, ends its retry
+abbrev pub going_on : Event → CallState → CallState
+going_on (AtLock l Late) c = record c { gave_up = Some l }
+going_on (AtLock l (Enter x)) c = record c { retries = None }
+going_on (AtLock l Pend) c = record c { retries = None }
+going_on (AtLock l Settle) c = record c { retries = None }
+going_on (AtLock l (Park x)) c = record c { retries = None }
+going_on (AtLock l Aside) c = record c { retries = None }
+going_on (AtLock l (Leave x)) c = record c { released = true }
+going_on (AtLock l (HandOff x successor)) c = record c { released = true }
+going_on event c = c
+
+abbrev pub is_taken_by : ℕ → Option Taken → Bool
+is_taken_by t None = false
+is_taken_by t (Some h) = h.by == t
+
+-- and any other thread: whoever is woken tries the lock again, and who was handed it doesn't
+abbrev pub woken : LocksState → ℕ → Event → ℕ → CallState → CallState
+woken w t (AtLock l Wake) u c = if is_taken_by t ((w.locks l).taken u) then record c { retries = Some l } else c
+woken w t (AtLock l (HandOff x successor)) u c = if is_taken_by t ((w.locks l).taken u) then record c { retries = None } else c
+woken w t event u c = c
+
+-- a call that ends is forgotten
+abbrev pub unless_ended : Outcome → CallState → CallState
+unless_ended (outcome.TheVariants.End a) c = no_call
+unless_ended o c = c
+
+abbrev pub calls_after : LocksState → ℕ → Event → Outcome → ℕ → CallState
+calls_after w t event o u = if u == t then unless_ended o (going_on event (w.calls t)) else woken w t event u (w.calls u)
+
+-- the call is made of the case, and what the case needs is there
+abbrev pub MayDo : LocksState → ℕ → ℕ → LockCase → Option Purpose → Type 0
+MayDo w t l case None = ⊥
+MayDo w t l case (Some purpose) = IsMadeOf purpose (w.calls t).gave_up (w.calls t).released l case × Needs (rules_at w l) case (w.locks l) t
+
+abbrev pub MayHappen : LocksState → ℕ → Event → Type 0
+MayHappen w t Nothing = Unit {0}
+MayHappen w t (AtLock l case) = MayDo w t l case (w.calls t).purpose
+
+-- ---------------------------------------------------------------- answers
+
+-- one right more at one lock
+abbrev pub one_more_at : ℕ → Want → (ℕ → Rights) → ℕ → Rights
+one_more_at l x rights = put rights l (with_right x (rights l))
+
+-- and one right less
+abbrev pub one_less_at : ℕ → Want → (ℕ → Rights) → ℕ → Rights
+one_less_at l x rights = put rights l (without_right x (rights l))
+
+-- the thread owns what it owned as its call began
+abbrev pub Keeps : LocksState → ℕ → CallState → Type 0
+Keeps w t c = (k : ℕ) → rights_in w t k ≡ c.former k
+
+-- and one right more: it was got in this call
+abbrev pub Gains : LocksState → ℕ → CallState → ℕ → Want → Type 0
+Gains w t c l x = (k : ℕ) → rights_in w t k ≡ one_more_at l x c.former k
+
+-- and one right less
+abbrev pub Loses : LocksState → ℕ → CallState → ℕ → Want → Type 0
+Loses w t c l x = (k : ℕ) → one_more_at l x (rights_in w t) k ≡ c.former k
+
+-- and one right in place of another
+abbrev pub Turns : LocksState → ℕ → CallState → ℕ → Want → Want → Type 0
+Turns w t c l x y = (k : ℕ) → one_more_at l x (rights_in w t) k ≡ one_more_at l y c.former k
+
+-- only the limit keeps it out
+abbrev pub IsFull : LocksState → ℕ → Want → Type 0
+IsFull w l x = (x ≢ Exclusive) × IsFree (rules_at w l) (w.locks l) x × ((rules_at w l).limit ≤ count (w.locks l))
+
+-- why a try may fail: it is blocked; a writer's try at a reader-writer lock may fail also where a waiter was and is gone
+abbrev pub MayRefuse : Rules → LockState → Want → Type 0
+MayRefuse r s Exclusive = r.sort ≡ Mutex → IsBlocked r s Exclusive
+MayRefuse r s x = IsBlocked r s x
+
+abbrev pub EntersAnswer : LocksState → ℕ → CallState → ℕ → Want → Patience → Answer → Type 0
+EntersAnswer w t c l x Patient answer.TheVariants.Ok = Owns (w.locks l) t x × Gains w t c l x
+EntersAnswer w t c l x Timed answer.TheVariants.Yes = Owns (w.locks l) t x × Gains w t c l x
+EntersAnswer w t c l x Timed answer.TheVariants.No = (c.gave_up ≡ Some l) × Keeps w t c
+EntersAnswer w t c l x Try answer.TheVariants.Yes = Owns (w.locks l) t x × Gains w t c l x
+EntersAnswer w t c l x Try answer.TheVariants.No = MayRefuse (rules_at w l) (w.locks l) x × Keeps w t c
+EntersAnswer w t c l x how answer.TheVariants.ReadersFull = IsFull w l x × Keeps w t c
+EntersAnswer w t c l x how a = ⊥
+
+abbrev pub ConvertsAnswer : LocksState → ℕ → CallState → ℕ → Want → Want → Patience → Answer → Type 0
+ConvertsAnswer w t c l x y Patient answer.TheVariants.Ok = Turns w t c l x y
+ConvertsAnswer w t c l x y Timed answer.TheVariants.Yes = Turns w t c l x y
+ConvertsAnswer w t c l x y Timed answer.TheVariants.No = (c.gave_up ≡ Some l) × Keeps w t c
+ConvertsAnswer w t c l x y Try answer.TheVariants.Yes = Turns w t c l x y
+ConvertsAnswer w t c l x y Try answer.TheVariants.No = (1 ≤ readers (w.locks l)) × Keeps w t c
+ConvertsAnswer w t c l x y how a = ⊥
+
+abbrev pub BumpsAnswer : LocksState → ℕ → CallState → ℕ → Want → Answer → Type 0
+BumpsAnswer w t c l x answer.TheVariants.Ok = Owns (w.locks l) t x × Keeps w t c
+BumpsAnswer w t c l x answer.TheVariants.ReadersFull = IsFull w l x × Loses w t c l x
+BumpsAnswer w t c l x a = ⊥
+
+-- what an answer says of the state in which it is given
+abbrev pub AnswerHolds : Option Purpose → LocksState → ℕ → CallState → Answer → Type 0
+AnswerHolds (Some (Enters l x how)) w t c a = EntersAnswer w t c l x how a
+AnswerHolds (Some (Releases l x fair)) w t c answer.TheVariants.Ok = Loses w t c l x
+AnswerHolds (Some (Converts l x y how)) w t c a = ConvertsAnswer w t c l x y how a
+AnswerHolds (Some (Bumps l x)) w t c a = BumpsAnswer w t c l x a
+AnswerHolds purpose w t c a = ⊥
+
+-- what a thread is told agrees with the state that its step led to; c is its call with this step in it
+abbrev pub Agrees : ℕ → CallState → Outcome → LocksState → Type 0
+Agrees t c outcome.TheVariants.NotNow v = ⊥
+Agrees t c outcome.TheVariants.Step v = Unit {0}
+Agrees t c outcome.TheVariants.Sleep v = (l : ℕ) × (1 ≤ standing t (v.locks l))
+Agrees t c (outcome.TheVariants.Closure state) v = ⊥
+Agrees t c (outcome.TheVariants.End a) v = AnswerHolds c.purpose v t c a × ((l : ℕ) → HasTakenNobody (v.locks l) t)
+
+-- ---------------------------------------------------------------- steps
+
+-- the thread has the right that its call needs
+abbrev pub HasRight : LocksState → ℕ → Option Purpose → Type 0
+HasRight w t None = ⊥
+HasRight w t (Some (Releases l x fair)) = Owns (w.locks l) t x
+HasRight w t (Some (Converts l x y how)) = Owns (w.locks l) t x
+HasRight w t (Some (Bumps l x)) = Owns (w.locks l) t x
+HasRight w t (Some purpose) = Unit {0}
+
+abbrev pub purpose_at : LocksState → Call → Option Purpose
+purpose_at w c = purpose_of (w.kinds (lock_in c)) c
+
+-- the thread and the lock are there, the thread is in no call, and has the right that this one needs
+pub record MayBegin (w : LocksState) (t : ℕ) (c : Call) : Type 0 where
+  pub thread : t < w.threads
+  pub idle : (w.calls t).purpose ≡ None
+  pub lock : lock_in c < w.size
+  pub right : HasRight w t (purpose_at w c)
+
+-- a call begins: it has a purpose, and no lock changes
+pub record Begins (w : LocksState) (t : ℕ) (c : Call) (o : Outcome) (v : LocksState) : Type 0 where
+  pub may : MayBegin w t c
+  pub told : o ≡ outcome.TheVariants.Step
+  pub locks : (l : ℕ) → v.locks l ≡ w.locks l
+  pub calls : (u : ℕ) → v.calls u ≡ put w.calls t (beginning (purpose_at w c) (rights_in w t)) u
+
+-- a call goes on by one event, and its answer is true
+pub record GoesOn (w : LocksState) (t : ℕ) (o : Outcome) (v : LocksState) : Type 0 where
+  pub called : (w.calls t).purpose ≢ None
+  pub event : Event
+  pub may : MayHappen w t event
+  pub locks : (l : ℕ) → v.locks l ≡ locks_after w t event l
+  pub calls : (u : ℕ) → v.calls u ≡ calls_after w t event o u
+  pub agrees : Agrees t (going_on event (w.calls t)) o v
+
+-- nothing happens
+abbrev pub IsRefused : LocksState → Outcome → LocksState → Type 0
+IsRefused w o v = (o ≡ outcome.TheVariants.NotNow) × (v ≡ w)
+
+-- a call begins exactly where it may
+abbrev pub Turned : LocksState → ℕ → Turn → Outcome → LocksState → Type 0
+Turned w t (turn.TheVariants.Begin c) o v = Begins w t c o v ⊎ ((MayBegin w t c → ⊥) × IsRefused w o v)
+Turned w t choice o v = GoesOn w t o v ⊎ IsRefused w o v
+
+-- threads and locks stay as many, and locks of their kinds
+pub record SameKinds (w v : LocksState) : Type 0 where
+  pub threads : v.threads ≡ w.threads
+  pub size : v.size ≡ w.size
+  pub kinds : (l : ℕ) → v.kinds l ≡ w.kinds l
+
+abbrev pub IsStep : LocksState → Step → Outcome → LocksState → Type 0
+IsStep w s o v = SameKinds w v × Turned w s.thread s.turn o v
+
+-- steps with their outcomes lead from each state to the next
+abbrev pub IsRun : (ℕ → LocksState) → List Step → List Outcome → Type 0
+IsRun states [] [] = Unit {0}
+IsRun states (s ∷ ss) (o ∷ os) = IsStep (states 0) s o (states 1) × IsRun (λ n. states (suc n)) ss os
+IsRun states ss os = ⊥

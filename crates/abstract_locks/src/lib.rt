@@ -1,0 +1,87 @@
+//! The abstract locks, and what every step of a lot of threads keeps of them.
+#![tactic(auto)]
+
+ghost use Rattle.abstract_locks.specs.Picks.{PickersPickAsTheLocksSay};
+ghost use Rattle.abstract_locks.specs.Sites.{EachDeedKeeps};
+ghost use Rattle.abstract_locks.specs.ReadersSteps.{WordStepsCode, WordStepsFollow};
+ghost use Rattle.abstract_locks.specs.OnceSteps.{OnceStepsFollow, OnceWordFollows};
+ghost use Rattle.abstract_locks.specs.Permits.{EachDeedKeepsPermits, PermitsAreLookedAfter};
+ghost use Rattle.abstract_locks.specs.Condvars.{EachCondvarDeedKeeps, EachMoveFits};
+ghost use Rattle.abstract_locks.specs.Onces.{EachOnceDeedKeeps, NothingLeavesDone};
+ghost use Rattle.abstract_locks.specs.Codes.{LimitKept, WordFollows, WordsTellTrue};
+
+/// Whatever one thread does to a lock of the lot, what holds of it between steps holds again.
+pub fn each_deed_keeps()
+    ensures { EachDeedKeeps }
+{}
+
+/// Whatever one thread does to a `Once`, what holds of it between steps holds again.
+pub fn each_once_deed_keeps()
+    ensures { EachOnceDeedKeeps }
+{}
+
+/// And nothing leaves the phase in which it is done.
+pub fn nothing_leaves_done()
+    ensures { NothingLeavesDone }
+{}
+
+/// Whatever one thread does to a condition variable, what holds of it between steps holds again.
+pub fn each_condvar_deed_keeps()
+    ensures { EachCondvarDeedKeeps }
+{}
+
+/// Whom a notification moves, the mutex that is shown may be brought.
+pub fn each_move_fits()
+    ensures { EachMoveFits }
+{}
+
+/// Of a semaphore, while somebody waits, as many threads look after the line as permits are free.
+pub fn each_deed_keeps_permits()
+    ensures { EachDeedKeepsPermits }
+{}
+
+/// So whoever waits while a permit is free is looked after.
+pub fn permits_are_looked_after()
+    ensures { PermitsAreLookedAfter }
+{}
+
+/// Each step of the calls of a `Once` does to it what its table says.
+pub fn once_steps_follow()
+    ensures { OnceStepsFollow }
+{}
+
+/// And the word follows.
+pub fn once_word_follows()
+    ensures { OnceWordFollows }
+{}
+
+/// The word of a reader-writer lock follows each case of the lock.
+pub fn words_follow()
+    ensures { WordFollows }
+{}
+
+/// What a thread reads in it is so.
+pub fn words_tell_true()
+    ensures { WordsTellTrue }
+{}
+
+/// Each step on the word, of the calls that enter or release a reader-writer lock, does to the lock what its table says.
+pub fn word_steps_follow()
+    ensures { WordStepsFollow }
+{}
+
+/// The count passes the limit by a roll-back alone, on a recursive lock, and by 1.
+pub fn limit_kept()
+    ensures { LimitKept }
+{}
+
+/// And the word that it leads to is the word of the lock behind it.
+pub fn word_steps_code()
+    ensures { WordStepsCode }
+{}
+
+/// A thread that wakes others takes of a reader-writer lock's main queue just those whom the abstract lock says, and leaves
+/// just the others, both in order.
+pub fn pickers_pick_as_the_locks_say()
+    ensures { PickersPickAsTheLocksSay }
+{}

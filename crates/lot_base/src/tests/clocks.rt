@@ -1,0 +1,34 @@
+//! Deadlines at their bounds, and the clock of the system.
+use crate::{Clock, SystemClock, TickClock, to_deadline};
+use std::process::Abort;
+use std::time::Duration;
+
+#[test]
+fn deadlines_are_sums(rt: HostRuntime) {
+    assert_eq!(rt; to_deadline(5, Duration::from_micros(2)), Some(2_005));
+    assert_eq!(rt;
+        to_deadline(0, Duration::from_nanos(u64::MAX)),
+        Some(u64::MAX)
+    );
+    assert_eq!(rt; to_deadline(1, Duration::from_nanos(u64::MAX)), None);
+    assert_eq!(rt; to_deadline(0, Duration::from_secs(u64::MAX)), None);
+}
+
+#[test]
+fn the_system_clock_goes_on(rt: HostRuntime) {
+    let clock = SystemClock::new(&rt);
+    let before = clock.now();
+    clock.pause(u64::MAX);
+    clock.pause(20_000);
+    assert!(rt; clock.now().saturating_sub(before) >= 20_000);
+}
+
+#[test]
+fn a_look_takes_a_nanosecond(rt: HostRuntime) {
+    let clock = TickClock::new();
+    assert_eq!(rt; (clock.now(), clock.now()), (0, 1));
+    clock.pause(u64::MAX);
+    assert_eq!(rt; clock.now(), 2);
+    clock.restart();
+    assert_eq!(rt; clock.now(), 0);
+}

@@ -1,0 +1,58 @@
+//! The calls of a world's threads, and the turns of a schedule.
+ghost use Rattle.std.specs.Prelude.{◌≡◌};
+ghost use Rattle.lot_calls.specs.Calls.{lock_in};
+
+/// The calls of a mutex.
+#[derive(Clone, Copy, Debug, PartialEq, Eq)]
+pub enum MutexCall {
+    Lock,
+    LockTimed,
+    TryLock,
+    /// Needs the exclusive right. A fair mutex releases as by `UnlockFair`.
+    Unlock,
+    /// Hands the mutex to the first waiter, where there is one. Needs the exclusive right.
+    UnlockFair,
+    /// Hands the mutex to the first waiter, where there is one, and locks it again. Needs the exclusive right.
+    Bump,
+}
+
+/// A call of the lock with this number.
+#[derive(Clone, Copy, Debug, PartialEq, Eq)]
+pub enum Call {
+    Mutex { lock: usize, call: MutexCall },
+}
+
+/// What a thread is to do.
+#[derive(Clone, Copy, Debug, PartialEq, Eq)]
+pub enum Turn {
+    /// Begins a call. It touches no word and no queue.
+    Begin(Call),
+    /// Does the next act of its call.
+    Go,
+    /// Loads the word again in place of an act that leads to sleep.
+    Spin,
+    /// Gives up a timed sleep.
+    Late,
+    /// Its closure answers that it succeeded.
+    Ok,
+    /// Its closure answers an error.
+    Err,
+}
+
+/// One step of one thread.
+#[derive(Clone, Copy, Debug, PartialEq, Eq)]
+pub struct Step {
+    pub thread: usize,
+    pub turn: Turn,
+}
+
+impl Call {
+    /// The lock that is called.
+    pub fn lock(self) -> usize
+        ensures { result ≡ lock_in self }
+    {
+        match self {
+            Call::Mutex { lock, call: _ } => lock,
+        }
+    }
+}

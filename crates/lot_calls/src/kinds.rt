@@ -1,0 +1,56 @@
+//! The kinds of lock.
+ghost use Rattle.std.specs.Prelude.{◌≡◌};
+ghost use Rattle.lot_calls.specs.Kinds.{fits, has_call, is_fair};
+
+use crate::calls::Call;
+
+/// The greatest reader limit.
+pub const MOST_READERS: u64 = 1152921504606846974;
+
+/// A kind of lock, with what is chosen for it.
+#[derive(Clone, Copy, Debug, PartialEq, Eq)]
+pub enum Kind {
+    Mutex,
+    /// A mutex whose `unlock` hands the lock over.
+    Fair,
+    /// A reader-writer lock that admits no reader beside a waiting writer that has its bit set.
+    RwLock { limit: u64 },
+    /// A reader-writer lock whose readers may read again beside a waiting writer.
+    Recursive { limit: u64 },
+    Condvar,
+    Once,
+}
+
+impl Kind {
+    /// Whether a world of this many threads may have such a lock: its reader limit, if it has one, is
+    /// at least the number of threads and at most 2^60 - 2.
+    pub fn fits(self, threads: usize) -> bool
+        ensures { result ≡ fits self threads }
+    {
+        match self {
+            Kind::RwLock { limit } => threads as u64 <= limit && limit <= MOST_READERS,
+            Kind::Recursive { limit } => threads as u64 <= limit && limit <= MOST_READERS,
+            Kind::Mutex | Kind::Fair | Kind::Condvar | Kind::Once => true,
+        }
+    }
+
+    /// Whether the kind has the call.
+    pub fn has_call(self, call: Call) -> bool
+        ensures { result ≡ has_call self call }
+    {
+        match (self, call) {
+            (Kind::Mutex | Kind::Fair, Call::Mutex { lock: _, call: _ }) => true,
+            _ => false,
+        }
+    }
+
+    /// Whether it is a mutex whose `unlock` hands the lock over.
+    pub fn is_fair(self) -> bool
+        ensures { result ≡ is_fair self }
+    {
+        match self {
+            Kind::Fair => true,
+            _ => false,
+        }
+    }
+}

@@ -1,0 +1,39 @@
+//! Kinds and what they have.
+use super::*;
+use std::process::Abort;
+
+#[test]
+fn a_limit_fits_from_the_threads_to_the_greatest(rt: HostRuntime) {
+    for (limit, fits) in [
+        (1, false),
+        (2, true),
+        (1152921504606846974, true),
+        (1152921504606846975, false),
+    ] {
+        assert_eq!(rt; Kind::RwLock { limit }.fits(2), fits, "limit {limit}");
+        assert_eq!(rt; Kind::Recursive { limit }.fits(2), fits, "limit {limit}");
+    }
+    for kind in [Kind::Mutex, Kind::Fair, Kind::Condvar, Kind::Once] {
+        assert!(rt; kind.fits(1024));
+    }
+}
+
+#[test]
+fn both_mutexes_have_the_calls_of_a_mutex(rt: HostRuntime) {
+    for name in [
+        MutexCall::Lock,
+        MutexCall::LockTimed,
+        MutexCall::TryLock,
+        MutexCall::Unlock,
+        MutexCall::UnlockFair,
+        MutexCall::Bump,
+    ] {
+        let call = Call::Mutex {
+            lock: 3,
+            call: name,
+        };
+        assert_eq!(rt; call.lock(), 3);
+        assert!(rt; Kind::Mutex.has_call(call) && Kind::Fair.has_call(call));
+        assert!(rt; !Kind::Once.has_call(call));
+    }
+}

@@ -1,0 +1,73 @@
+//! How an owner releases a mutex by `unlock`.
+//!
+//! | place | does | then |
+//! |---|---|---|
+//! | `Subtract` | subtracts `LOCKED`: nobody owns it | `Enter` where it saw `PARKED`, else ends |
+//! | `Enter` | enters the section of the queue | `Take` |
+//! | `Take` | takes the first waiter | `Clear` where nobody is left, else `Leave` |
+//! | `Clear` | clears `PARKED` | `Leave` |
+//! | `Leave` | leaves the section, and wakes the one that it took | ends |
+ghost use Rattle.std.specs.Prelude.{◌≡◌, ◌<◌, ◌^◌};
+ghost use Rattle.lot_steps.specs.MutexSteps.{next_unlock, unlock_act};
+
+use crate::acts::{Act, Next, Reply, Wakes};
+use crate::mutex::{LOCKED, NOT_PARKED, is_parked};
+use lot_base::{Keys, Note, Op, main_key};
+use lot_calls::Answer;
+
+/// Where a thread stands in `unlock`.
+#[derive(Clone, Copy, Debug, PartialEq, Eq)]
+pub enum UnlockAt {
+    Subtract,
+    /// It saw `PARKED`.
+    Enter,
+    Take,
+    /// None is left in the queue.
+    Clear { taken: Option<usize> },
+    Leave { taken: Option<usize> },
+}
+
+/// Where `unlock` goes.
+pub(super) fn next_unlock(at: UnlockAt, reply: Reply) -> Next<UnlockAt>
+    ensures { result ≡ next_unlock at reply }
+{
+    match (at, reply) {
+        (UnlockAt::Subtract, Reply::Value(seen)) => if is_parked(seen) {
+            Next::At(UnlockAt::Enter)
+        } else {
+            Next::End(Answer::Ok)
+        },
+        (UnlockAt::Enter, Reply::Done) => Next::At(UnlockAt::Take),
+        (UnlockAt::Take, Reply::Took { first, none_left }) => if none_left {
+            Next::At(UnlockAt::Clear { taken: first })
+        } else {
+            Next::At(UnlockAt::Leave { taken: first })
+        },
+        (UnlockAt::Clear { taken }, Reply::Value(_)) => Next::At(UnlockAt::Leave { taken }),
+        (UnlockAt::Leave { taken: _ }, Reply::Done) => Next::End(Answer::Ok),
+        (at, _) => Next::At(at),
+    }
+}
+
+/// What `unlock` does next.
+pub(super) fn unlock_act(lock: usize, at: UnlockAt) -> Act
+    requires { lock < 2 ^ 63 }
+    ensures { result ≡ unlock_act lock at }
+{
+    match at {
+        UnlockAt::Subtract => Act::Word {
+            lock,
+            op: Op::Sub(LOCKED),
+        },
+        UnlockAt::Enter => Act::Enter(Keys::One(main_key(lock))),
+        UnlockAt::Take => Act::TakeFirst(main_key(lock)),
+        UnlockAt::Clear { taken: _ } => Act::Word {
+            lock,
+            op: Op::And(NOT_PARKED),
+        },
+        UnlockAt::Leave { taken } => Act::Leave {
+            keys: Keys::One(main_key(lock)),
+            wakes: Wakes::first(taken, Note::Normal),
+        },
+    }
+}

@@ -1,0 +1,12 @@
+use Rattle.std.proofs.Common.{rules}
+use Rattle.parking_lot_core.specs.Tokens.{IsNewTicket, number_of}
+use Rattle.parking_lot_core.proofs.Lists.{all_more, numbers_more}
+use Rattle.parking_lot_core.proofs.lot.ParkingLot.tickets.Goals as goal
+
+pub loop-number-preserved : goal.loop-number-preserved
+loop-number-preserved c = record {
+  first = search rules;
+  numbers = numbers_more number_of c.loop-number.tickets.items c.push-in-loop-number.new.self.items c.new-in-loop-number.result c.loop-number.number c.in_ok-push-2.ensures.items c.new-in-loop-number.ensures.1 c.loop-number.invariant.numbers;
+  woken = search rules;
+  new = all_more (IsNewTicket c.args.words.now c.args.seats) c.loop-number.tickets.items c.push-in-loop-number.new.self.items c.new-in-loop-number.result c.in_ok-push-2.ensures.items c.loop-number.invariant.new (search rules);
+}

@@ -1,0 +1,23 @@
+-- What stands in the queues of a section, and whom it took.
+use Rattle.std.specs.Prelude.{ℕ, ◌≡◌, List}
+use Rattle.std.specs.Sync.Mutex.{mutex_guard_value}
+use Rattle.lot_base.specs.declared.wants.Waiter.{Waiter}
+use Rattle.parking_lot_core.specs.declared.sections.Section.{Section}
+
+abbrev pub waiting_in : Section → List Waiter
+waiting_in section = (mutex_guard_value section.queueing).queues.waiters
+
+abbrev pub taken_in : Section → List ℕ
+taken_in section = (mutex_guard_value section.queueing).taken.items
+
+-- those of whom it took that have no right yet
+abbrev pub rightless_in : Section → List ℕ
+rightless_in section = (mutex_guard_value section.queueing).rightless.items
+
+-- how many it moved to another queue
+abbrev pub moved_in : Section → ℕ
+moved_in section = section.moved
+
+-- it is the same section
+abbrev pub StaysIn : Section → Section → Type 0
+StaysIn old new = (new.lot.now ≡ old.lot.now) × (new.keys ≡ old.keys)

@@ -1,0 +1,38 @@
+-- Who belongs to a lot.
+use Rattle.std.specs.Prelude.{◌≡◌, ◌<◌, ℕ, [], Option, Some, None, if◌then◌else◌}
+use Rattle.lot_words.specs.Views.{blank}
+use Rattle.lot_words.specs.Lots.{IsSeatOf}
+use Rattle.lot_words.specs.declared.table.LotWords.{LotWords}
+use Rattle.lot_words.specs.declared.views.View.{View}
+use Rattle.parking_lot_core.specs.declared.lot.ParkingLot.{ParkingLot}
+use Rattle.parking_lot_core.specs.declared.tokens.Record.{Record}
+use Rattle.parking_lot_core.specs.declared.tokens.Ticket.{Ticket}
+use Rattle.parking_lot_core.specs.declared.tokens.Token.{Token}
+
+abbrev pub IsTicketOf : ParkingLot → Ticket → Type 0
+IsTicketOf lot ticket = IsSeatOf lot.words ticket.seat × (ticket.number < lot.records.count)
+
+abbrev pub IsTokenOf : ParkingLot → Token → Type 0
+IsTokenOf lot token = IsSeatOf lot.words token.seat × (token.number < lot.records.count)
+
+-- what a thread has done, and what it owns
+abbrev pub view_of : Token → View
+view_of token = token.seat.me.0
+
+-- what it did in the section that it left last, if it has taken no step since
+abbrev pub last_of : Token → Option Record
+last_of token = if token.is_recorded then Some token.record else None
+
+-- it is the same thread of the same lot
+abbrev pub Stays : ParkingLot → Token → Token → Type 0
+Stays lot old new = IsTokenOf lot new × (new.number ≡ old.number)
+
+abbrev pub number_of : Ticket → ℕ
+number_of ticket = ticket.number
+
+-- a seat of a thread below this number, which has done nothing yet
+abbrev pub IsNewTicket : LotWords → ℕ → Ticket → Type 0
+IsNewTicket words seats ticket = IsSeatOf words ticket.seat × (ticket.number < seats) × (ticket.seat.me ≡ (blank, []))
+
+abbrev pub IsNewTicketOf : ParkingLot → Ticket → Type 0
+IsNewTicketOf lot ticket = IsNewTicket lot.words lot.records.count ticket

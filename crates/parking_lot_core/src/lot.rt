@@ -1,0 +1,131 @@
+//! The lot: its words, its queues, and how its threads are woken.
+ghost use Rattle.std.specs.Prelude.{◌≡◌, ◌<◌, ◌≤◌, IfOk, IfErr, IsTrue, ◌↔◌, All, None, length, map};
+ghost use Rattle.std.specs.List.{range_with_len};
+ghost use Rattle.std.specs.Arc.{arc_value};
+ghost use Rattle.keyed_locks.specs.Guards.{IsFull};
+ghost use Rattle.lot_words.specs.Places.{most_words};
+
+use crate::tokens::Ticket;
+use crate::waiters::WakeRecord;
+use crossbeam_utils::sync::{Parker, Unparker};
+use keyed_locks::KeyedLocks;
+use lot_base::Fault;
+use lot_queues::Queueing;
+use lot_words::{LotWords, Seat};
+use std::alloc::{AllocError, Global};
+use std::sync::atomic::AtomicUsize;
+use std::sync::{Arc, Mutex};
+
+/// The words that threads step on, the queues in which they stand, and the records by which they are woken.
+#[derive(Drop)]
+pub struct ParkingLot {
+    pub(crate) words: LotWords,
+    pub(crate) queueing: Mutex<Queueing>,
+    pub(crate) records: KeyedLocks<Seat, WakeRecord>,
+    pub(crate) unparkers: Vec<Unparker>,
+    // Of a thread that was taken, the one that was taken next with it.
+    pub(crate) next_taken: Vec<AtomicUsize>,
+    ghost keyed: { records.table.shared.key.table_id ≡ words.table.shared.table_id },
+    ghost for_each_seat: { (length unparkers.items ≡ records.count) × (length next_taken.items ≡ records.count) },
+}
+
+fn empty_records(alloc: Global, seats: usize) -> Result<Vec<Option<WakeRecord>>, AllocError>
+    ensures { IfOk result (λ records. (length records.items ≡ seats) × All (IsFull (λ wake_record. wake_record.right ≡ None)) records.items) }
+{
+    let mut records = Vec::with_capacity(alloc, seats)?;
+    for _ in 0..seats {
+        records.push(Some(WakeRecord::empty()))?;
+    }
+    Ok(records)
+}
+
+fn no_links(alloc: Global, seats: usize) -> Result<Vec<AtomicUsize>, AllocError>
+    ensures { IfOk result (λ links. length links.items ≡ seats) }
+{
+    let mut links = Vec::with_capacity(alloc, seats)?;
+    for _ in 0..seats {
+        links.push(AtomicUsize::new(0))?;
+    }
+    Ok(links)
+}
+
+impl ParkingLot {
+    ghost use Rattle.parking_lot_core.specs.Tokens.{IsNewTicket, IsNewTicketOf, number_of};
+
+    // A ticket for each seat, numbered from 0, and what wakes its thread.
+    fn tickets(
+        alloc: Global,
+        words: &LotWords,
+        mut first: Seat,
+        seats: usize,
+    ) -> Result<(Vec<Ticket>, Vec<Unparker>), AllocError>
+        requires { first.table_id ≡ words.now.table.shared.table_id }
+        ensures tickets { IfOk result (λ made. (map number_of made.0.items ≡ range_with_len 0 seats) × All (IsNewTicket words.now seats) made.0.items) }
+        ensures unparkers { IfOk result (λ made. length made.1.items ≡ seats) }
+    {
+        let mut tickets = Vec::with_capacity(alloc, seats)?;
+        let mut unparkers = Vec::with_capacity(alloc, seats)?;
+        for number in 0..seats {
+            let parker = Parker::new(alloc)?;
+            unparkers.push(parker.unparker().clone()?)?;
+            let seat = words.another(&mut first);
+            tickets.push(Ticket::new(seat, number, parker))?;
+        }
+        Ok((tickets, unparkers))
+    }
+
+    fn build(
+        alloc: Global,
+        words: usize,
+        seats: usize,
+        queueing: Queueing,
+    ) -> Result<(Arc<ParkingLot>, Vec<Ticket>), AllocError>
+        requires { (0 < words) × (words ≤ most_words) }
+        ensures lot { IfOk result (λ made. ((arc_value made.0).words.count ≡ words) × ((arc_value made.0).records.count ≡ seats)) }
+        ensures tickets { IfOk result (λ made. (map number_of made.1.items ≡ range_with_len 0 seats) × All (IsNewTicketOf (arc_value made.0)) made.1.items) }
+    {
+        let (words, first) = LotWords::new(alloc, words)?;
+        let records = KeyedLocks::new(alloc, empty_records(alloc, seats)?, &first)?;
+        let (tickets, unparkers) = ParkingLot::tickets(alloc, &words, first, seats)?;
+        let lot = ParkingLot {
+            words,
+            queueing: Mutex::new(queueing),
+            records,
+            unparkers,
+            next_taken: no_links(alloc, seats)?,
+        };
+        Ok((Arc::new(alloc, lot)?, tickets))
+    }
+
+    /// Whether a lot may have so many words and threads: 1 to 2^20, and 1 to 1024.
+    pub fn fits(words: usize, seats: usize) -> bool
+        ensures { IsTrue result ↔ ((0 < words) × (words ≤ most_words) × (0 < seats) × (seats ≤ 1024)) }
+    {
+        0 < words && words <= 1 << 20 && 0 < seats && seats <= 1024
+    }
+
+    /// A lot of 1 to 2^20 words for 1 to 1024 threads, and a ticket for each of these, numbered from 0.
+    ///
+    /// It takes all memory that the lot ever needs.
+    ///
+    /// # Errors
+    ///
+    /// `NoMemory`, where memory was refused.
+    pub fn new(
+        alloc: Global,
+        words: usize,
+        seats: usize,
+    ) -> Result<(Arc<ParkingLot>, Vec<Ticket>), Fault>
+        requires words { (0 < words) × (words ≤ most_words) }
+        requires seats { (0 < seats) × (seats ≤ 1024) }
+        ensures lot { IfOk result (λ made. ((arc_value made.0).words.count ≡ words) × ((arc_value made.0).records.count ≡ seats)) }
+        ensures tickets { IfOk result (λ made. (map number_of made.1.items ≡ range_with_len 0 seats) × All (IsNewTicketOf (arc_value made.0)) made.1.items) }
+        ensures err { IfErr result (λ fault. fault ≡ Fault.NoMemory) }
+    {
+        let queueing = Queueing::with_capacity(alloc, seats)?;
+        match ParkingLot::build(alloc, words, seats, queueing) {
+            Ok(made) => Ok(made),
+            Err(_) => Err(Fault::NoMemory),
+        }
+    }
+}

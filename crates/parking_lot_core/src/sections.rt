@@ -1,0 +1,269 @@
+//! Sections, in which one thread at a time changes the queues of its keys.
+//!
+//! All sections stand behind one lock as yet: a thread that is inside one and enters another waits for itself.
+ghost use Rattle.std.specs.Prelude.{◌≡◌, ◌≢◌, ◌<◌, ◌≤◌, ◌+◌, ◌++◌, ◌∷◌, ◌==◌, not, [], Some, Contains, MatchOption, length};
+ghost use Rattle.std.specs.List.{filter};
+ghost use Rattle.std.specs.Sync.Mutex.{mutex_guard_value};
+ghost use Rattle.lot_base.specs.Lines.{waiter, line, lines, without, without_first, without_key, first_of, threads_of, key_of};
+ghost use Rattle.lot_base.specs.Picks.{lock_picked, without_lock_picked};
+ghost use Rattle.lot_base.specs.Requeues.{taken_by, moved_by, requeued};
+ghost use Rattle.parking_lot_core.specs.Keys.{AreKeys, IsKeyOf, first_key};
+ghost use Rattle.parking_lot_core.specs.declared.tokens.Did.TheVariants.{Nothing, TakeFirst, TakeAll, TakePicked};
+ghost use Rattle.lot_base.specs.declared.notes.Note.TheVariants.{HandOff};
+
+use crate::lot::ParkingLot;
+use crate::tokens::{Did, Record, Token};
+use lot_base::{Key, Keys, Note, Requeue, Want};
+use lot_queues::Queueing;
+use lot_words::Right;
+use std::sync::atomic::Ordering::SeqCst;
+use std::sync::{MutexGuard, Wait};
+
+/// What a thread may do to the queues of its keys while nobody else does anything to them.
+///
+/// It takes or moves waiters by one call at most, and wakes those that it took as it leaves. A section that is dropped in place
+/// of left wakes nobody.
+#[derive(Drop)]
+pub struct Section<'a> {
+    lot: &'a ParkingLot,
+    queueing: MutexGuard<'a, Queueing>,
+    pub(crate) keys: Keys,
+    did: Did,
+    // How many it moved to another queue.
+    moved: usize,
+    ghost seated: { (mutex_guard_value queueing).seats ≡ lot.now.records.count },
+    ghost fresh: { did ≡ Nothing → ((mutex_guard_value queueing).taken.items ≡ []) × ((mutex_guard_value queueing).rightless.items ≡ []) × (moved ≡ 0) },
+    ghost few: { moved ≤ (mutex_guard_value queueing).seats },
+}
+
+// What a lock keeps is known by its type alone, so a fact about its lot is tested. The test never fails.
+fn never<R: Wait>(rt: &R) -> ! {
+    for _ in rt.forever() {}
+    unreachable!()
+}
+
+fn first_of_keys(keys: Keys) -> Key
+    ensures { result ≡ first_key keys }
+{
+    match keys {
+        Keys::One(key) => key,
+        Keys::Two(from, _) => from,
+    }
+}
+
+impl ParkingLot {
+    ghost use Rattle.parking_lot_core.specs.Tokens.{IsTokenOf, Stays};
+
+    // The queues, with nobody taken.
+    pub(crate) fn locked<'a, R: Wait>(&'a self, rt: &R, keys: Keys) -> Section<'a>
+        ensures { (result.lot.now ≡ self.now) × (result.keys ≡ keys) × (result.did ≡ Nothing) }
+    {
+        let mut queueing = self.queueing.lock(rt);
+        queueing.begin();
+        if queueing.seats() != self.records.len() {
+            never(rt)
+        }
+        Section {
+            lot: self,
+            queueing,
+            keys,
+            did: Did::Nothing,
+            moved: 0,
+        }
+    }
+
+    /// Enters the section of a key, or of two keys that differ, and waits while another thread is inside one.
+    pub fn enter<'a, R: Wait>(&'a self, rt: &R, _token: &mut Token, keys: Keys) -> Section<'a>
+        requires own { IsTokenOf self.now _token.old }
+        requires keys { AreKeys keys }
+        ensures same { _token.new ≡ _token.old }
+        ensures section { (result.lot.now ≡ self.now) × (result.keys ≡ keys) × (result.did ≡ Nothing) }
+    {
+        self.locked(rt, keys)
+    }
+
+    /// How many stand under a key.
+    pub fn queued<R: Wait>(&self, rt: &R, token: &mut Token, key: Key) -> usize
+        requires { IsTokenOf self.now token.old }
+        ensures { token.new ≡ token.old }
+    {
+        self.enter(rt, token, Keys::One(key)).count(key)
+    }
+
+    // Ties those that were taken together, and gives the first.
+    fn tie(&self, taken: &[usize]) -> Option<usize> {
+        for pair in taken.windows(2) {
+            if let Some(next) = self.next_taken.get(pair[0]) {
+                next.store(pair[1], SeqCst);
+            }
+        }
+        taken.first().copied()
+    }
+
+    fn wake<R: Wait>(&self, rt: &R, thread: usize, note: Note) {
+        if thread < self.records.len() {
+            let (mut wake_record, held) = self.records.take(rt, thread);
+            wake_record.note = Some(note);
+            self.records.give_back(wake_record, held);
+        }
+        if let Some(unparker) = self.unparkers.get(thread) {
+            unparker.unpark();
+        }
+    }
+
+    // Who comes after a thread is read before it is woken: once it runs, it may be taken again.
+    fn wake_tied<R: Wait>(&self, rt: &R, first: usize, number: usize, note: Note) {
+        let mut thread = first;
+        for _ in 0..number {
+            let next = match self.next_taken.get(thread) {
+                Some(next) => next.load(SeqCst),
+                None => thread,
+            };
+            self.wake(rt, thread, note);
+            thread = next;
+        }
+    }
+}
+
+impl<'a> Section<'a> {
+    ghost use Rattle.parking_lot_core.specs.Tokens.{IsTokenOf, Stays, last_of};
+    ghost use Rattle.parking_lot_core.specs.Sections.{waiting_in, taken_in, rightless_in, moved_in, StaysIn};
+    ghost use Rattle.lot_words.specs.RightsOf.{IsRightOf};
+
+    /// Puts a thread behind the last under a key. One that stands somewhere leaves that place first.
+    pub fn append(&mut self, key: Key, thread: usize, want: Want)
+        requires key { IsKeyOf self.old.keys key }
+        requires thread { thread < self.old.lot.now.records.count }
+        ensures lines { lines (waiting_in self.new) ≡ lines (without thread (waiting_in self.old) ++ waiter key thread want ∷ []) }
+        ensures same { StaysIn self.old self.new × (self.new.did ≡ self.old.did) × (taken_in self.new ≡ taken_in self.old) × (rightless_in self.new ≡ rightless_in self.old) × (moved_in self.new ≡ moved_in self.old) }
+    {
+        self.queueing.append(key, thread, want);
+    }
+
+    /// Removes a thread from where it stands.
+    pub fn remove(&mut self, thread: usize)
+        ensures lines { lines (waiting_in self.new) ≡ lines (without thread (waiting_in self.old)) }
+        ensures same { StaysIn self.old self.new × (self.new.did ≡ self.old.did) × (taken_in self.new ≡ taken_in self.old) × (rightless_in self.new ≡ rightless_in self.old) × (moved_in self.new ≡ moved_in self.old) }
+    {
+        self.queueing.remove(thread);
+    }
+
+    /// Takes the first under a key.
+    pub fn take_first(&mut self, key: Key) -> Option<usize>
+        requires key { IsKeyOf self.old.keys key }
+        requires first_take { self.old.did ≡ Nothing }
+        ensures first { result ≡ first_of (line key (waiting_in self.old)) }
+        ensures taken { MatchOption result (taken_in self.new ≡ []) (λ thread. taken_in self.new ≡ thread ∷ []) × (rightless_in self.new ≡ taken_in self.new) }
+        ensures lines { lines (waiting_in self.new) ≡ lines (without_first key (waiting_in self.old)) }
+        ensures did { StaysIn self.old self.new × (self.new.did ≡ TakeFirst key) × (moved_in self.new ≡ 0) }
+    {
+        self.did = Did::TakeFirst(key);
+        self.queueing.take_first(key)
+    }
+
+    /// Takes all under a key.
+    pub fn take_all(&mut self, key: Key)
+        requires key { IsKeyOf self.old.keys key }
+        requires first_take { self.old.did ≡ Nothing }
+        ensures taken { (taken_in self.new ≡ threads_of (line key (waiting_in self.old))) × (rightless_in self.new ≡ taken_in self.new) }
+        ensures lines { lines (waiting_in self.new) ≡ lines (without_key key (waiting_in self.old)) }
+        ensures did { StaysIn self.old self.new × (self.new.did ≡ TakeAll key) × (moved_in self.new ≡ 0) }
+    {
+        self.did = Did::TakeAll(key);
+        self.queueing.take_all(key);
+    }
+
+    /// Takes who is picked of the main queue of a reader-writer lock. The thread keeps a right of its own, or none.
+    pub fn take_picked(&mut self, key: Key, start: Option<Want>, recursive: bool)
+        requires key { IsKeyOf self.old.keys key }
+        requires first_take { self.old.did ≡ Nothing }
+        ensures taken { (taken_in self.new ≡ threads_of (lock_picked start recursive (line key (waiting_in self.old)))) × (rightless_in self.new ≡ taken_in self.new) }
+        ensures lines { lines (waiting_in self.new) ≡ lines (without_lock_picked start recursive key (waiting_in self.old)) }
+        ensures did { StaysIn self.old self.new × (self.new.did ≡ TakePicked key start recursive) × (moved_in self.new ≡ 0) }
+    {
+        self.did = Did::TakePicked {
+            key,
+            start,
+            recursive,
+        };
+        self.queueing.take_picked(key, start, recursive);
+    }
+
+    /// Moves waiters from under one of its keys behind the last under the other. Those who are moved want to own alone from
+    /// then on. It answers who was taken, if any, and how many were moved.
+    pub fn requeue(&mut self, from: Key, to: Key, op: Requeue) -> (Option<usize>, usize)
+        requires keys { IsKeyOf self.old.keys from × IsKeyOf self.old.keys to × (from ≢ to) }
+        requires first_take { self.old.did ≡ Nothing }
+        ensures first { result.0 ≡ taken_by op (line from (waiting_in self.old)) }
+        ensures taken { MatchOption result.0 (taken_in self.new ≡ []) (λ thread. taken_in self.new ≡ thread ∷ []) × (rightless_in self.new ≡ taken_in self.new) }
+        ensures moved { (result.1 ≡ length (moved_by op (line from (waiting_in self.old)))) × (moved_in self.new ≡ result.1) }
+        ensures lines { lines (waiting_in self.new) ≡ lines (requeued op from to (waiting_in self.old)) }
+        ensures did { StaysIn self.old self.new × (self.new.did ≡ Did.Requeue from to op) }
+    {
+        self.did = Did::Requeue { from, to, op };
+        let (first, moved) = self.queueing.requeue(from, to, op);
+        self.moved = moved;
+        (first, moved)
+    }
+
+    /// How many stand under a key.
+    pub fn count(&self, key: Key) -> usize
+        requires { IsKeyOf self.now.keys key }
+        ensures { result ≡ length (line key (waiting_in self.now)) }
+    {
+        self.queueing.count(key)
+    }
+
+    /// The key under which a thread stands.
+    pub fn key_of(&self, thread: usize) -> Option<Key>
+        ensures { result ≡ key_of thread (waiting_in self.now) }
+    {
+        self.queueing.key_of(thread)
+    }
+
+    /// Whom the section took, in order.
+    pub fn taken(&self) -> &[usize]
+        ensures { result.now ≡ taken_in self.now }
+    {
+        self.queueing.taken()
+    }
+
+    /// Lays a right in the record of a thread that the section took. A right that lies there already goes with the lot.
+    pub fn give<R: Wait>(&mut self, rt: &R, thread: usize, right: Right)
+        requires taken { Contains (taken_in self.old) thread }
+        requires right { IsRightOf self.old.lot.now.words right }
+        ensures rightless { rightless_in self.new ≡ filter (λ x. not (x == thread)) (rightless_in self.old) }
+        ensures same { StaysIn self.old self.new × (self.new.did ≡ self.old.did) × (taken_in self.new ≡ taken_in self.old) × (moved_in self.new ≡ moved_in self.old) × (waiting_in self.new ≡ waiting_in self.old) }
+    {
+        self.lot.lay(rt, thread, right);
+        self.queueing.note_right(thread);
+    }
+
+    /// Leaves. Whom the section took gets the note and is woken, and the token keeps the record of it.
+    pub fn leave<R: Wait>(self, rt: &R, token: &mut Token, note: Note)
+        requires own { IsTokenOf self.lot.now token.old }
+        requires given { note ≡ HandOff → rightless_in self ≡ [] }
+        ensures own { Stays self.entry.lot.now token.old token.new × (token.new.seat ≡ token.old.seat) }
+        ensures recorded { last_of token.new ≡ Some (record { key = first_key self.entry.keys; did = self.entry.did; number = length (taken_in self.entry) + moved_in self.entry }) }
+    {
+        let Section {
+            lot,
+            queueing,
+            keys,
+            did,
+            moved,
+        } = self;
+        let taken = queueing.taken().len();
+        let first = lot.tie(queueing.taken());
+        drop(queueing);
+        token.record = Record {
+            key: first_of_keys(keys),
+            did,
+            number: taken + moved,
+        };
+        token.is_recorded = true;
+        if let Some(first) = first {
+            lot.wake_tied(rt, first, taken, note);
+        }
+    }
+}

@@ -1,0 +1,100 @@
+//! Sleep, until somebody wakes the thread or its time is up.
+ghost use Rattle.std.specs.Prelude.{◌≡◌, ◌<◌, IfSome, None};
+
+use crate::lot::ParkingLot;
+use crate::sections::Section;
+use crate::tokens::Token;
+use lot_base::{Clock, Key, Keys, Note, Want};
+use lot_words::{Right, Word};
+use std::sync::Wait;
+
+/// How a sleep ended.
+pub enum Slept<'a> {
+    /// The thread was taken, and is to try again.
+    Woken,
+    /// The thread was taken, and has been handed what it waited for.
+    Handed(Right),
+    /// Its time is up, and it is inside the section of the key where it stands.
+    Late(Section<'a>, Key),
+}
+
+impl ParkingLot {
+    ghost use Rattle.parking_lot_core.specs.Tokens.{IsTokenOf, Stays};
+    ghost use Rattle.parking_lot_core.specs.Sleeps.{IsWoken, IsLate, IsSlept};
+
+    // What the thread was told, if anything. The right is looked at only once there is a note: whoever gives a right
+    // writes the note after it, and a note that came later would wake the next sleep.
+    fn look<'a, R: Wait>(
+        &'a self,
+        rt: &R,
+        thread: usize,
+        word: Word,
+        want: Want,
+    ) -> Option<Slept<'a>>
+        requires { thread < self.now.records.count }
+        ensures { IfSome result (IsWoken self.now word want) }
+    {
+        let (mut wake_record, held) = self.records.take(rt, thread);
+        let told = match wake_record.note.take() {
+            Some(Note::Normal) => Some(Slept::Woken),
+            Some(Note::HandOff) => match wake_record.take_right(word, want) {
+                Some(right) => Some(Slept::Handed(right)),
+                None => None,
+            },
+            None => None,
+        };
+        self.records.give_back(wake_record, held);
+        told
+    }
+
+    // The section of the key where the thread stands. None where it was taken meanwhile.
+    fn give_up<'a, R: Wait>(&'a self, rt: &R, thread: usize) -> Option<Slept<'a>>
+        ensures { IfSome result (IsLate self.now thread) }
+    {
+        let mut section = self.locked(rt, Keys::One(0));
+        let key = section.key_of(thread)?;
+        section.keys = Keys::One(key);
+        Some(Slept::Late(section, key))
+    }
+
+    /// Sleeps until the thread is woken, or up to a deadline on a clock.
+    ///
+    /// A right that was handed to the thread for another word or want stays where it is, and the thread sleeps on. A
+    /// thread that was taken before it could give up is woken and not late, and without a limit nobody is late.
+    pub fn sleep<'a, R: Wait, C: Clock>(
+        &'a self,
+        rt: &R,
+        token: &mut Token,
+        word: Word,
+        want: Want,
+        limit: Option<(&C, u64)>,
+    ) -> Slept<'a>
+        requires { IsTokenOf self.now token.old }
+        ensures same { token.new ≡ token.old }
+        ensures slept { IsSlept self.now token.old.number word want result }
+        ensures unlimited { limit.entry ≡ None → IsWoken self.now word want result }
+    {
+        let mut limit = limit;
+        for _ in rt.forever() {
+            if let Some(told) = self.look(rt, token.number, word, want) {
+                return told;
+            }
+            match limit {
+                None => token.parker.park(rt),
+                Some((clock, deadline)) => {
+                    let now = clock.now();
+                    if now < deadline {
+                        clock.pause(deadline - now);
+                    } else {
+                        if let Some(late) = self.give_up(rt, token.number) {
+                            return late;
+                        }
+                        // Whoever took the thread is about to wake it.
+                        limit = None;
+                    }
+                }
+            }
+        }
+        unreachable!()
+    }
+}

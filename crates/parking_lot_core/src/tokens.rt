@@ -1,0 +1,136 @@
+//! Who steps in the lot.
+ghost use Rattle.std.specs.Prelude.{◌≡◌};
+
+use crossbeam_utils::sync::Parker;
+use lot_base::{Key, Requeue, Want};
+use lot_words::Seat;
+use std::marker::PhantomData;
+
+/// What a section took or moved.
+#[derive(Clone, Copy, Debug, PartialEq, Eq)]
+pub enum Did {
+    Nothing,
+    TakeFirst(Key),
+    TakeAll(Key),
+    /// Who is picked of a reader-writer lock's queue by a thread that keeps this right of its own.
+    TakePicked {
+        key: Key,
+        start: Option<Want>,
+        recursive: bool,
+    },
+    Requeue {
+        from: Key,
+        to: Key,
+        op: Requeue,
+    },
+}
+
+/// What a thread did in a section that it has left.
+#[derive(Clone, Copy, Debug, PartialEq, Eq)]
+pub struct Record {
+    /// The section's key, of two keys the first.
+    pub key: Key,
+    pub did: Did,
+    /// How many threads it took or moved.
+    pub number: usize,
+}
+
+const NOTHING: Record = Record {
+    key: 0,
+    did: Did::Nothing,
+    number: 0,
+};
+
+/// The place of a thread in a lot. It may go to another thread.
+#[derive(Drop)]
+pub struct Ticket {
+    pub(crate) seat: Seat,
+    pub(crate) number: usize,
+    pub(crate) parker: Parker,
+}
+
+/// A thread in the lot. It stays in its thread, and goes with each call that steps.
+#[derive(Drop)]
+pub struct Token {
+    pub(crate) seat: Seat,
+    pub(crate) number: usize,
+    pub(crate) parker: Parker,
+    // What it did in the section that it left last, if it has taken no step since. Apart, so that a step writes one byte.
+    pub(crate) record: Record,
+    pub(crate) is_recorded: bool,
+    here: PhantomData<*const ()>,
+}
+
+impl Ticket {
+    pub(crate) fn new(seat: Seat, number: usize, parker: Parker) -> Ticket
+        ensures { (result.seat ≡ seat) × (result.number ≡ number) }
+    {
+        Ticket {
+            seat,
+            number,
+            parker,
+        }
+    }
+
+    /// The thread goes into the lot.
+    pub fn enter(self) -> Token
+        ensures { (result.seat ≡ self.seat) × (result.number ≡ self.number) }
+    {
+        let Ticket {
+            seat,
+            number,
+            parker,
+        } = self;
+        Token {
+            seat,
+            number,
+            parker,
+            record: NOTHING,
+            is_recorded: false,
+            here: PhantomData,
+        }
+    }
+}
+
+impl Token {
+    ghost use Rattle.parking_lot_core.specs.Tokens.{last_of};
+
+    /// The thread leaves the lot. What it owns stays with its ticket.
+    pub fn leave(self) -> Ticket
+        ensures { (result.seat ≡ self.seat) × (result.number ≡ self.number) }
+    {
+        let Token {
+            seat,
+            number,
+            parker,
+            record: _,
+            is_recorded: _,
+            here: _,
+        } = self;
+        Ticket {
+            seat,
+            number,
+            parker,
+        }
+    }
+
+    /// The thread's number in the lot, from 0.
+    #[inline]
+    pub fn number(&self) -> usize
+        ensures { result ≡ self.now.number }
+    {
+        self.number
+    }
+
+    /// What the thread did in the section that it left last. None once it has stepped on a word since.
+    #[inline]
+    pub fn last_section(&self) -> Option<Record>
+        ensures { result ≡ last_of self.now }
+    {
+        if self.is_recorded {
+            Some(self.record)
+        } else {
+            None
+        }
+    }
+}

@@ -1,5 +1,0 @@
-use Rattle.running_lot.specs.Tokens.{IsTokenOf}
-use Rattle.running_lot.proofs.tests.threads.serve.Given as goal
-
-abbrev pub invariant-loop-round : goal.invariant-loop-round
-invariant-loop-round g l = IsTokenOf l.lot l.token

@@ -1,5 +1,0 @@
-use Rattle.running_lot.specs.Tokens.{IsTokenOf}
-use Rattle.running_lot.proofs.tests.threads.wake_until.Given as goal
-
-abbrev pub invariant-loop : goal.invariant-loop
-invariant-loop g l = (goal.iterator-loop g).can_next l.iterator' × (goal.iterator-loop g).is_finite l.iterator' × IsTokenOf l.lot l.token

@@ -1,4 +1,0 @@
-pub mod Tokens
-pub mod Keys
-pub mod Sections
-pub mod Sleeps
