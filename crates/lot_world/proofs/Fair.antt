@@ -45,7 +45,8 @@ use Rattle.lot_world.proofs.Steady.{IsTakenAt, in_hand, stands_at, after_sound}
 use Rattle.lot_world.proofs.OnlyMutexes.{after_only}
 use Rattle.lot_world.proofs.LockEvents.{mutex_rules, mutex_rules_of, taken_nobody, same, rights}
 use Rattle.lot_world.proofs.LockSteps.{after_step}
-use Rattle.lot_world.proofs.LockRuns.{needs_of, after_locks}
+use Rattle.abstract_locks.proofs.Runs.{needs_of}
+use Rattle.lot_world.proofs.LockRuns.{after_locks}
 
 -- ---------------------------------------------------------------- what others do to an owner
 
