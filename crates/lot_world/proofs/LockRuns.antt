@@ -13,8 +13,8 @@ use Rattle.lot_world.proofs.Steady.{after_sound}
 use Rattle.abstract_locks.specs.Locks.{LockState, LockCase, Rules, Needs, IsLockState, standing, one_if_some}
 use Rattle.abstract_locks.specs.Locks as locks
 use Rattle.abstract_locks.specs.Purposes.{Purpose}
-use Rattle.abstract_locks.specs.Runs.{LocksState, Event, Nothing, AtLock, AreLockStates, GoesOn, SameKinds, MayDo, MayHappen, Turned, IsStep, rules_at, locks_after}
-use Rattle.lot_world.specs.Refinement.{locks_of, lock_state, Refines, taken_at}
+use Rattle.abstract_locks.specs.Runs.{AreLockStates}
+use Rattle.lot_world.specs.Refinement.{locks_of, lock_state, taken_at}
 use Rattle.lot_world.specs.OnlyMutexes.{OnlyMutexes}
 use Rattle.abstract_locks.proofs.Runs.{step_keeps}
 use Rattle.lot_world.proofs.OnlyMutexes.{after_only}
@@ -25,12 +25,6 @@ use Rattle.lot_world.proofs.LockSteps.{after_step}
 
 pub after_locks : (w : State) (s : Step) → IsShaped w → IsSound w → OnlyMutexes w → AreLockStates (locks_of w) → AreLockStates (locks_of (after w s))
 after_locks w s shape sound only all = step_keeps (locks_of w) (locks_of (after w s)) s (answered w s) (after_step w s shape sound only) all
-
--- ---------------------------------------------------------------- runs
-
-pub refines : (w : State) (ss : List Step) → IsShaped w → IsSound w → OnlyMutexes w → Refines w ss
-refines w [] shape sound only = tt
-refines w (s ∷ ss) shape sound only = (after_step w s shape sound only, refines (after w s) ss (after_shaped w s shape) (after_sound w s shape sound) (after_only w s only))
 
 -- ---------------------------------------------------------------- where a thread stands, by its place
 

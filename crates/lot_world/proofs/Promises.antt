@@ -23,7 +23,7 @@ use Rattle.lot_steps.specs.declared.places.Place.{Place}
 use Rattle.lot_steps.specs.declared.places.Place.TheVariants.{Idle, Mutex}
 use Rattle.lot_steps.specs.MutexSteps.{is_locked, is_parked, lock_act, unlock_act, hand_off_act, lock_owes}
 use Rattle.lot_steps.specs.Steps.{act_of, owes_on, retries_on}
-use Rattle.lot_world.specs.Machine.{State, unlocked, opening, kind_at, place_at, word_at, queue_at, after, after_all, section_at}
+use Rattle.lot_world.specs.Machine.{State, unlocked, opening, kind_at, place_at, word_at, queue_at, after, section_at}
 use Rattle.lot_world.specs.Fits.{IsShaped}
 use Rattle.lot_world.specs.Sound.{IsSound, Debtor, Taking, handed_over, IsTakenBy, Carries, queued, holds, finds_empty, releases, tries_again, is_awake, owner_at, inside, one_if}
 use Rattle.abstract_locks.specs.Runs.{AreLockStates, IsOpening}
@@ -31,7 +31,7 @@ use Rattle.abstract_locks.specs.Locks.{opening_lock, rights_of, Rights, one_if_s
 use Rattle.abstract_locks.specs.Purposes.{rules_of, Releases, Enters, Converts, Bumps, Purpose, MayWait, IsReleasing}
 use Rattle.lot_world.specs.Refinement.{locks_of, lock_state, lock_seen, taken_at, is_bump, entry_purpose, call_state}
 use Rattle.lot_world.specs.OnlyMutexes.{OnlyMutexes}
-use Rattle.lot_world.specs.Promises.{Codes, WaitsFor, IsLookedAfter, IsKept, IsKeptThroughout, GoesToWake, IsHandedOver}
+use Rattle.lot_world.specs.Promises.{Codes, WaitsFor, IsLookedAfter, IsKept, GoesToWake, IsHandedOver}
 use Rattle.lot_world.proofs.Shape.{after_shaped}
 use Rattle.lot_world.proofs.Steady.{stands_at, after_sound}
 use Rattle.lot_world.proofs.OnlyMutexes.{after_only}
@@ -358,28 +358,6 @@ module _ (w : State) (sound : IsSound w) (only : OnlyMutexes w) (all : AreLockSt
 
 pub kept_after : (w : State) (s : Step) → IsShaped w → IsSound w → OnlyMutexes w → AreLockStates (locks_of w) → IsKept (after w s)
 kept_after w s shape sound only all = kept (after w s) (after_sound w s shape sound) (after_only w s only) (after_locks w s shape sound only all)
-
--- ---------------------------------------------------------------- runs
-
-pub all_shaped : (w : State) (ss : List Step) → IsShaped w → IsShaped (after_all w ss)
-all_shaped w [] shape = shape
-all_shaped w (s ∷ ss) shape = all_shaped (after w s) ss (after_shaped w s shape)
-
-pub all_sound : (w : State) (ss : List Step) → IsShaped w → IsSound w → IsSound (after_all w ss)
-all_sound w [] shape sound = sound
-all_sound w (s ∷ ss) shape sound = all_sound (after w s) ss (after_shaped w s shape) (after_sound w s shape sound)
-
-pub all_only : (w : State) (ss : List Step) → OnlyMutexes w → OnlyMutexes (after_all w ss)
-all_only w [] only = only
-all_only w (s ∷ ss) only = all_only (after w s) ss (after_only w s only)
-
-pub all_locks : (w : State) (ss : List Step) → IsShaped w → IsSound w → OnlyMutexes w → AreLockStates (locks_of w) → AreLockStates (locks_of (after_all w ss))
-all_locks w [] shape sound only all = all
-all_locks w (s ∷ ss) shape sound only all = all_locks (after w s) ss (after_shaped w s shape) (after_sound w s shape sound) (after_only w s only) (after_locks w s shape sound only all)
-
-pub kept_throughout : (w : State) (ss : List Step) → IsShaped w → IsSound w → OnlyMutexes w → AreLockStates (locks_of w) → IsKeptThroughout w ss
-kept_throughout w ss shape sound only all n = let now : State = after_all w (take n ss) in
-    kept now (all_sound w (take n ss) shape sound) (all_only w (take n ss) only) (all_locks w (take n ss) shape sound only all)
 
 -- ---------------------------------------------------------------- the opening state
 

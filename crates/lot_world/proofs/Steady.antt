@@ -86,7 +86,7 @@ pub stands_at : (o : Option ℕ) (l : ℕ) → 1 ≤ one_if o l → o ≡ Some l
 stands_at None l h = absurd (omega arith)
 stands_at (Some j) l h = grind (arith, nat_tests)
 
-none_is : (x : Option ℕ) → is_none x ≡ true → x ≡ None
+pub none_is : (x : Option ℕ) → is_none x ≡ true → x ≡ None
 none_is None h = refl
 none_is (Some y) h = absurd cc
 
