@@ -22,3 +22,4 @@ pub mod Fair
 pub mod SoloActs
 pub mod Solo
 pub mod WorldRuns
+pub mod RowLaws

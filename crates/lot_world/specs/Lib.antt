@@ -18,3 +18,4 @@ pub mod WorldRuns
 pub mod Solo
 pub mod Sound
 pub mod OnlyMutexes
+pub mod Laws
