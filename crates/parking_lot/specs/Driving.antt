@@ -4,7 +4,6 @@ use Rattle.std.proofs.Props.{props}
 use Rattle.lot_base.specs.declared.keys.Keys.TheVariants.{One}
 use Rattle.lot_base.specs.declared.notes.Note.{Note}
 use Rattle.lot_base.specs.declared.notes.Note.TheVariants.{Normal, HandOff}
-use Rattle.lot_base.specs.declared.wants.Want as wants
 use Rattle.lot_words.specs.Views.{owning}
 use Rattle.lot_words.specs.Lots.{IsWordOf}
 use Rattle.lot_words.specs.RightsOf.{IsRightOf}
@@ -52,7 +51,7 @@ MeetAt lot token word = IsTokenOf lot token × IsWordOf lot.words word × (word.
 
 -- the right of a mutex
 abbrev pub IsGuardOf : ParkingLot → Word → Right → Type 0
-IsGuardOf lot word right = IsRightOf lot.words right × (right.word ≡ word) × (right.want ≡ wants.TheVariants.Exclusive)
+IsGuardOf lot word right = IsRightOf lot.words right × (right.word ≡ word) × (right.owner ≡ Exclusive)
 
 -- that a right is a mutex's has one proof at most
 pub IsGuardOf-prop : (lot : ParkingLot) (word : Word) (right : Right) → IsProp (IsGuardOf lot word right)
