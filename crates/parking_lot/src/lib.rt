@@ -16,6 +16,3 @@ pub type Mutex<T> = lock_api::Mutex<RawMutex, T>;
 
 /// The guard of a [`Mutex`]. It shows the value, and is spent by `unlock`.
 pub type MutexGuard<'a, T> = lock_api::MutexGuard<'a, RawMutex, T>;
-
-#[cfg(test)]
-mod tests;

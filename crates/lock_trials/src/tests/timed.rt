@@ -3,7 +3,7 @@ ghost use Rattle.std.specs.Prelude.{IfOk};
 ghost use Rattle.std.specs.Arc.{arc_value};
 ghost use Rattle.parking_lot_core.specs.Tokens.{IsTokenOf};
 
-use crate::{Clock, Fault, Mutex, ParkingLot, TickClock, Token, lock_api, lock_raw};
+use parking_lot::{Clock, Fault, Mutex, ParkingLot, TickClock, Token, lock_api, lock_raw};
 use std::alloc::Global;
 use std::sync::{Arc, Wait};
 use std::test::Fail;

@@ -4,7 +4,7 @@ ghost use Rattle.std.specs.Arc.{arc_value};
 ghost use Rattle.parking_lot_core.specs.Tokens.{IsTicketOf, IsTokenOf};
 
 use super::{hold, three_seats};
-use crate::{Fault, ParkingLot, RawMutex, TickClock, Ticket, Token, lock_raw};
+use parking_lot::{Fault, ParkingLot, RawMutex, TickClock, Ticket, Token, lock_raw};
 use std::alloc::Global;
 use std::sync::atomic::Ordering::SeqCst;
 use std::sync::atomic::{AtomicBool, AtomicU64};
