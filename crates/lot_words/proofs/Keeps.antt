@@ -114,7 +114,7 @@ steps {S} words slots id me number kind op below may s o wide at fits =
     let mine : (weight : Owner → ℕ) → owned i weight me.0.owns ≤ named i weight s.views = λ weight. term_le (λ (u : View). owned i weight u.owns) s.views id me.0 at in
     let code = o.coded number kind below in
     let ok = may n (λ weight. named i weight s.views) fits code mine in
-    let t = trade kind n m in let w = after_step kind i op n me.0 in
+    let t = trade kind i op n me.0.owns in let w = after_step kind i op n me.0 in
     let then = λ (k : WordKind). (w : View) × (a : Act S) × Valid s.homes me.1 a × LotRule words (stepped s i m id me.1 w a) × TakesAs k i op me n (w, carried_after me.1 a) in
     subst then (sym (kind_at-place number kind)) (
       w,

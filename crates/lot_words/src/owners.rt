@@ -7,6 +7,8 @@ pub enum Owner {
     Exclusive,
     /// A reader-writer lock, alone once its last readers have left.
     Pending,
+    /// The same, of who upgrades: it has its upgradable ownership again where it gives up.
+    Upgrading,
     /// A reader-writer lock beside readers, with the right to become its writer.
     Upgradable,
     /// A reader-writer lock beside others.
