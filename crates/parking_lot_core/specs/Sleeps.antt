@@ -5,11 +5,10 @@ use Rattle.lot_words.specs.declared.words.Word.{Word}
 use Rattle.lot_base.specs.Lines.{key_of}
 use Rattle.lot_base.specs.declared.wants.Want.{Want}
 use Rattle.lot_base.specs.declared.keys.Keys.TheVariants.{One}
-use Rattle.parking_lot_core.specs.Sections.{waiting_in}
+use Rattle.parking_lot_core.specs.Sections.{IsUntouched, waiting_in}
 use Rattle.parking_lot_core.specs.declared.lot.ParkingLot.{ParkingLot}
 use Rattle.parking_lot_core.specs.declared.sleep.Slept.{Slept}
 use Rattle.parking_lot_core.specs.declared.sleep.Slept.TheVariants.{Woken, Handed, Late}
-use Rattle.parking_lot_core.specs.declared.tokens.Did.TheVariants.{Nothing}
 
 -- what was handed over is a right of the lot, and names the word and the want
 abbrev pub IsWoken : ParkingLot → Word → Want → Slept → Type 0
@@ -21,7 +20,7 @@ IsWoken _ _ _ (Late _ _) = ⊥
 abbrev pub IsLate : ParkingLot → ℕ → Slept → Type 0
 IsLate _ _ Woken = ⊥
 IsLate _ _ (Handed _) = ⊥
-IsLate lot thread (Late section key) = (section.lot.now ≡ lot) × (section.keys ≡ One key) × (section.did ≡ Nothing) × (key_of thread (waiting_in section) ≡ Some key)
+IsLate lot thread (Late section key) = (section.lot.now ≡ lot) × (section.keys ≡ One key) × IsUntouched section × (key_of thread (waiting_in section) ≡ Some key)
 
 abbrev pub IsSlept : ParkingLot → ℕ → Word → Want → Slept → Type 0
 IsSlept _ _ _ _ Woken = Unit {0}

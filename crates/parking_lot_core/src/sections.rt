@@ -52,11 +52,12 @@ fn first_of_keys(keys: Keys) -> Key
 }
 
 impl ParkingLot {
+    ghost use Rattle.parking_lot_core.specs.Sections.{IsUntouched};
     ghost use Rattle.parking_lot_core.specs.Tokens.{IsTokenOf, Stays};
 
     // The queues, with nobody taken.
     pub(crate) fn locked<'a, R: Wait>(&'a self, rt: &R, keys: Keys) -> Section<'a>
-        ensures { (result.lot.now ≡ self.now) × (result.keys ≡ keys) × (result.did ≡ Nothing) }
+        ensures { (result.lot.now ≡ self.now) × (result.keys ≡ keys) × IsUntouched result }
     {
         let mut queueing = self.queueing.lock(rt);
         queueing.begin();
@@ -77,7 +78,7 @@ impl ParkingLot {
         requires own { IsTokenOf self.now _token.old }
         requires keys { AreKeys keys }
         ensures same { _token.new ≡ _token.old }
-        ensures section { (result.lot.now ≡ self.now) × (result.keys ≡ keys) × (result.did ≡ Nothing) }
+        ensures section { (result.lot.now ≡ self.now) × (result.keys ≡ keys) × IsUntouched result }
     {
         self.locked(rt, keys)
     }
