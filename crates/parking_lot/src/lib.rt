@@ -1,6 +1,7 @@
 //! Locks for real threads. Each call runs the steps that the simulated world runs.
 #![tactic(auto)]
 
+mod acting;
 mod driver;
 pub mod raw_mutex;
 
