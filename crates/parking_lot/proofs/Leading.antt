@@ -190,18 +190,5 @@ module _ (n : ℕ) (base : List Ownership) (st : Stage) where
     leads (Mutex l at) f = absurd f.1
     leads Idle f = absurd f
 
-    -- a load in place of an act that leads to sleep
-    module _ (retries : Bool) (e : Entry) (expected : ℕ) where
-      spun_lock : Outside (beside n e base) st → (seen : ℕ) → seen < 4 → new ≡ stepped kinds.TheVariants.Mutex (mutex_at n) Load seen st → Reached n base (Mutex n (at_mutex.Lock e retries (lock.TheVariants.Decide expected))) (Spun seen) new
-      spun_lock f = each_code (λ s. new ≡ stepped kinds.TheVariants.Mutex (mutex_at n) Load s st → Reached n base (Mutex n (at_mutex.Lock e retries (lock.TheVariants.Decide expected))) (Spun s) new)
-          (λ x. ((refl, (omega arith, stays (beside n e base) None _ x refl refl f)), refl)) (λ x. ((refl, (omega arith, stays (beside n e base) None _ x refl refl f)), refl))
-          (λ x. ((refl, (omega arith, stays (beside n e base) None _ x refl refl f)), refl)) (λ x. ((refl, (omega arith, stays (beside n e base) None _ x refl refl f)), refl))
-
-    pub spun : (p : Place) (l seen : ℕ) → Fits n base p st → spin_lock p ≡ Some l → seen < 4 → new ≡ stepped kinds.TheVariants.Mutex (mutex_at n) Load seen st → Reached n base p (Spun seen) new
-    spun (Mutex l (at_mutex.Lock e retries (lock.TheVariants.Decide expected))) _ seen f can small is = subst (λ l. Reached n base (Mutex l (at_mutex.Lock e retries (lock.TheVariants.Decide expected))) (Spun seen) new) (sym f.0) (spun_lock retries e expected f.1.1 seen small is)
-    spun (Mutex l (at_mutex.Lock e retries at)) _ seen f can small is = absurd cc
-    spun (Mutex l at) _ seen f can small is = absurd cc
-    spun Idle _ seen f can small is = absurd f
-
 pub mutex_leads : MutexLeads
 mutex_leads n base p st f = (needs n base st p f, λ reply new. leads n base st new p f reply)
