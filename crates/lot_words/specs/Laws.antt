@@ -28,6 +28,9 @@ pub record MutexSteps (at : ℕ) (owns : List Ownership) : Type 0 where
   pub clear_parked : MayStep Mutex at (And 18446744073709551613) owns
   -- who subtracts 1 owns the mutex
   pub leave : has (owning at Exclusive) owns ≡ true → MayStep Mutex at (Sub 1) owns
+  -- and so does who leaves a word that nobody waits on, or stores a word in a section
+  pub leave_alone : has (owning at Exclusive) owns ≡ true → MayStep Mutex at (Exchange 1 0) owns
+  pub hand_over : (m : ℕ) → m < 4 → has (owning at Exclusive) owns ≡ true → MayStep Mutex at (Store m) owns
 
 -- whoever it is, it may take them
 abbrev pub MutexMaySteps : Type 0
