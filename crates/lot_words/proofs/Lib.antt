@@ -8,3 +8,4 @@ pub mod RwLockSteps
 pub mod RwLockKinds
 mod Alone
 mod AtWord
+mod RuleLaws
