@@ -23,6 +23,12 @@ const KEY: Key = 0;
 
 const ROUNDS: usize = 200;
 
+// Of rounds in which both threads let time pass.
+const SLOW_ROUNDS: usize = 20;
+
+// How often a thread lets others run then.
+const PAUSE: usize = 5;
+
 fn delay(turns: usize) {
     for _ in 0..turns {
         yield_now();
@@ -161,10 +167,10 @@ fn wake_early<R: Wait>(rt: &R, lot: &ParkingLot, ticket: Ticket, word: Word)
     requires { IsTicketOf lot.now ticket × IsWordOf lot.now.words word × (word.kind ≡ Mutex) }
 {
     let mut token = ticket.enter();
-    for _ in 0..ROUNDS {
+    for _ in 0..SLOW_ROUNDS {
         take_one(rt, lot, &mut token);
         let right = lock(rt, lot, &mut token, word);
-        hand_over(rt, lot, &mut token, right, 20);
+        hand_over(rt, lot, &mut token, right, PAUSE);
     }
     drop(token.leave());
 }
@@ -205,9 +211,9 @@ fn sleep_late<R: Wait>(rt: &R, lot: &ParkingLot, ticket: Ticket, word: Word) -> 
 {
     let mut token = ticket.enter();
     let mut woken = 0;
-    for round in 0..ROUNDS {
+    for round in 0..SLOW_ROUNDS {
         line_up(rt, lot, &mut token);
-        delay(20);
+        delay(PAUSE);
         let by_note = match lot.sleep(
             rt,
             &mut token,
@@ -257,7 +263,7 @@ fn both_wake<R: Threads + Wait + Sync>(
 #[test]
 fn an_early_parker_loses_and_doubles_no_wake(rt: HostRuntime) -> Result<(), Fail> {
     let (lot, one, other, word) = two_seats(rt.alloc())?;
-    assert_eq!(rt; both_wake(&rt, &lot, one, other, word), ROUNDS);
+    assert_eq!(rt; both_wake(&rt, &lot, one, other, word), SLOW_ROUNDS);
     Ok(())
 }
 
