@@ -1,9 +1,9 @@
 -- Threads and mutexes that meet, and the rights of these.
 use Rattle.std.specs.Prelude.{◌≡◌, ◌<◌}
 use Rattle.std.proofs.Props.{props}
-use Rattle.lot_base.specs.declared.wants.Want as wants
 use Rattle.lot_words.specs.Lots.{IsWordOf}
 use Rattle.lot_words.specs.RightsOf.{IsRightOf}
+use Rattle.lot_words.specs.declared.owners.Owner.TheVariants.{Exclusive}
 use Rattle.lot_words.specs.declared.rights.Right.{Right}
 use Rattle.lot_words.specs.declared.words.Word.{Word}
 use Rattle.lot_words.specs.declared.words.WordKind as kinds
@@ -17,7 +17,7 @@ MeetAt lot token word = IsTokenOf lot token × IsWordOf lot.words word × (word.
 
 -- the right of a mutex
 abbrev pub IsGuardOf : ParkingLot → Word → Right → Type 0
-IsGuardOf lot word right = IsRightOf lot.words right × (right.word ≡ word) × (right.want ≡ wants.TheVariants.Exclusive)
+IsGuardOf lot word right = IsRightOf lot.words right × (right.word ≡ word) × (right.owner ≡ Exclusive)
 
 -- that a right is a mutex's has one proof at most
 pub IsGuardOf-prop : (lot : ParkingLot) (word : Word) (right : Right) → IsProp (IsGuardOf lot word right)

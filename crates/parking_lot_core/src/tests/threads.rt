@@ -4,7 +4,7 @@ ghost use Rattle.std.specs.Arc.{arc_value};
 ghost use Rattle.lot_words.specs.Lots.{IsWordOf};
 ghost use Rattle.lot_words.specs.RightsOf.{IsRightOf};
 ghost use Rattle.lot_words.specs.declared.words.WordKind.TheVariants.{Mutex};
-ghost use Rattle.lot_base.specs.declared.wants.Want.TheVariants.{Exclusive};
+ghost use Rattle.lot_words.specs.declared.owners.Owner.TheVariants.{Exclusive};
 ghost use Rattle.parking_lot_core.specs.Tokens.{IsTicketOf, IsTokenOf, Stays};
 
 use super::mutexes::{try_lock, unlock};
@@ -69,9 +69,9 @@ fn hand_over<R: Wait>(rt: &R, lot: &ParkingLot, token: &mut Token, right: Right,
 
 // The right that somebody hands over.
 fn receive<R: Wait>(rt: &R, lot: &ParkingLot, token: &mut Token, word: Word) -> Option<Right>
-    requires { IsTokenOf lot.now token.old }
+    requires { IsTokenOf lot.now token.old × (word.kind ≡ Mutex) }
     ensures own { Stays lot.now token.old token.new }
-    ensures right { IfSome result (λ right. IsRightOf lot.now.words right × (right.word ≡ word) × (right.want ≡ Exclusive)) }
+    ensures right { IfSome result (λ right. IsRightOf lot.now.words right × (right.word ≡ word) × (right.owner ≡ Exclusive)) }
 {
     line_up(rt, lot, token);
     match lot.sleep(rt, token, word, Want::Exclusive, None::<(&TickClock, u64)>) {
@@ -187,7 +187,7 @@ fn take_one<R: Wait>(rt: &R, lot: &ParkingLot, token: &mut Token)
 fn lock<R: Wait>(rt: &R, lot: &ParkingLot, token: &mut Token, word: Word) -> Right
     requires { IsTokenOf lot.now token.old × IsWordOf lot.now.words word × (word.kind ≡ Mutex) }
     ensures own { Stays lot.now token.old token.new }
-    ensures right { IsRightOf lot.now.words result × (result.word ≡ word) × (result.want ≡ Exclusive) }
+    ensures right { IsRightOf lot.now.words result × (result.word ≡ word) × (result.owner ≡ Exclusive) }
 {
     for _ in rt.forever() {
         if let Some(right) = try_lock(lot, token, word) {
