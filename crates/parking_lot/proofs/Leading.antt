@@ -20,6 +20,8 @@ use Rattle.lot_steps.specs.declared.mutex.unlock.UnlockAt.{UnlockAt}
 use Rattle.lot_steps.specs.declared.mutex.unlock.UnlockAt as unlock
 use Rattle.lot_steps.specs.declared.places.Place.{Place}
 use Rattle.lot_steps.specs.declared.places.Place.TheVariants.{Idle, Mutex}
+use Rattle.lot_words.specs.Views.{owning}
+use Rattle.lot_words.specs.declared.owners.Owner.{Owner}
 use Rattle.lot_words.specs.declared.owners.Ownership.{Ownership}
 use Rattle.lot_words.specs.declared.words.WordKind as kinds
 use Rattle.lot_words.proofs.MutexSteps.{mutex_steps, each_code}
@@ -161,7 +163,7 @@ module _ (n : ℕ) (base : List Ownership) (st : Stage) where
       lock_leads (lock.TheVariants.Leave true) f Done b = ((refl, (b.0 ∙ f.0, b.1)), refl)
       lock_leads (lock.TheVariants.Leave false) f Done b = ((refl, (b.0 ∙ f.0, b.1)), refl)
       lock_leads lock.TheVariants.Asleep f (Woken Normal) b = ((refl, (b.0 ∙ f.0, b.1 ∙ f.1)), refl)
-      lock_leads lock.TheVariants.Asleep f (Woken HandOff) b = ((refl, has_it f _ b refl refl), refl)
+      lock_leads lock.TheVariants.Asleep f (Woken HandOff) b = ((refl, has_it f _ (b.2 ∙ ap (λ (o : Owner). stage (owning (mutex_at n) o ∷ st.owns) st.inside st.last) b.1) refl refl), refl)
       lock_leads lock.TheVariants.Asleep f Late b = ((refl, gives_up e rest f b.0 b.1 b.2), refl)
       lock_leads lock.TheVariants.Remove f (Removed true) b = ((refl, (f.0, stays rest _ _ b refl refl f.1)), refl)
       lock_leads lock.TheVariants.Remove f (Removed false) b = ((refl, (f.0, stays rest _ _ b refl refl f.1)), refl)

@@ -8,8 +8,11 @@ use Rattle.lot_base.specs.declared.notes.Note.TheVariants.{Normal, HandOff}
 use Rattle.lot_base.specs.declared.ops.Op.{Op}
 use Rattle.lot_base.specs.declared.ops.Op.TheVariants.{Load}
 use Rattle.lot_base.specs.declared.wants.Waiter.{Waiter}
+use Rattle.lot_base.specs.declared.wants.Want as wants
+use Rattle.lot_words.specs.Rights.{MayHand}
 use Rattle.lot_words.specs.Views.{owning}
 use Rattle.lot_words.specs.Steps.{MayStep, CodesWith, owns_after, has, trade, without}
+use Rattle.lot_words.specs.declared.owners.Owner.{Owner}
 use Rattle.lot_words.specs.declared.owners.Owner.TheVariants.{Exclusive}
 use Rattle.lot_words.specs.declared.owners.Ownership.{Ownership}
 use Rattle.lot_words.specs.declared.views.WordStep.{WordStep}
@@ -149,7 +152,7 @@ Became kind at late st (act.TheVariants.TakeFirst key) (Took first none_left) ne
 Became kind at late st (act.TheVariants.Remove key) (Removed none_left) new = new ≡ st
 Became kind at late st (act.TheVariants.Leave keys wakes) Done new = (new.owns ≡ st.owns) × (new.inside ≡ None) × IsLeft st.inside new.last
 Became kind at late st act.TheVariants.Sleep (Woken Normal) new = (new.owns ≡ st.owns) × (new.inside ≡ st.inside)
-Became kind at late st act.TheVariants.Sleep (Woken HandOff) new = new ≡ stage (owning at Exclusive ∷ st.owns) st.inside st.last
+Became kind at late st act.TheVariants.Sleep (Woken HandOff) new = (owner : Owner) × MayHand kind wants.TheVariants.Exclusive owner × (new ≡ stage (owning at owner ∷ st.owns) st.inside st.last)
 Became kind at late st act.TheVariants.Sleep Late new = (key : ℕ) × (late ≡ Some key) × (new ≡ stage st.owns (entered_now (One key)) st.last)
 Became kind at late st act.TheVariants.Accept Done new = new ≡ st
 Became kind at late st _ _ new = ⊥
