@@ -41,7 +41,7 @@ use Rattle.lot_world.specs.Machine.{State, place_at, word_at, kind_at, queue_at,
 use Rattle.lot_world.specs.Fits.{IsShaped, PlaceFits}
 use Rattle.lot_world.specs.Promises.{Codes}
 use Rattle.lot_world.specs.Sound.{IsSound, owner_at, inside, queued, holds}
-use Rattle.lot_world.proofs.Words.{by_code, owner_after}
+use Rattle.lot_world.proofs.ExclusiveOwners.{by_code, owner_after}
 use Rattle.abstract_locks.specs.Locks.{Rules, MayEnter, IsBlocked}
 use Rattle.abstract_locks.specs.Purposes.{Releases, Bumps, Patience, Patient, Timed, Try, mutex_purpose}
 use Rattle.abstract_locks.specs.Runs.{AreLockStates, rules_at, purpose_at}

@@ -15,5 +15,7 @@ pub mod Refinement
 pub mod Promises
 pub mod Fair
 pub mod Solo
-pub mod Sound
 pub mod OnlyMutexes
+pub mod MutexDeeds
+pub mod SitesOf
+pub mod Sound
