@@ -1,5 +1,5 @@
 -- Each act of a thread keeps every lock of the world a site, whose word says so.
-use Rattle.std.proofs.Common.{ℕ, Bool, true, false, Option, Some, None, if◌then◌else◌, ◌≡◌, ◌≢◌, ◌+◌, ◌*◌, ◌≤◌, ◌<◌, List, [], ◌∷◌, length, get_or, set, map, drop, inl, inr, refl, sym, ◌∙◌, ap, subst, arith, length-set, get_or-set_same, get_or-set_other}
+use Rattle.std.proofs.Common.{ℕ, Bool, true, false, Option, Some, None, if◌then◌else◌, ◌≡◌, ◌≢◌, ◌+◌, ◌*◌, ◌≤◌, ◌<◌, List, [], ◌∷◌, ◌++◌, length, get_or, set, map, drop, inl, inr, refl, sym, ◌∙◌, ap, subst, arith, length-set, get_or-set_same, get_or-set_other}
 use Rattle.std.proofs.lemmas.Bool.{cases_eq}
 use Rattle.lot_base.specs.declared.keys.Keys.TheVariants.{One}
 use Rattle.lot_base.specs.declared.notes.Note.{Note}
@@ -32,7 +32,7 @@ use Rattle.lot_world.specs.Refinement.{taken_at}
 use Rattle.abstract_locks.specs.Picks.{queued_of}
 use Rattle.lot_world.specs.MutexDeeds.{Stance, hand, nowhere, mutex_doing, mutex_deeds, mutex_stance, stance, stance_at, doing_on, acts, owner, queued}
 use Rattle.lot_world.specs.MutexDeeds as deeds
-use Rattle.lot_world.specs.SitesOf.{site_of, rules_at, AllNeeded, AreSites, IsSteady, CallsMutex, carried_at, after_acts}
+use Rattle.lot_world.specs.SitesOf.{site_of, rules_at, code, AllNeeded, IsSteady, Follows, Goes, CallsMutex, carried_at, after_acts}
 use Rattle.lot_world.proofs.Glue.{seen, site_seen, goes_from, put_places, put_here, put_other, IsOf, next_of, doing_elsewhere, taken_elsewhere, inside_is, own_stance, LetGo, leaving, taking, lets_taken, lets_handed, lets_nobody, IsTakenAt, is_taken, IsHandedAt, is_handed, untaken, handing, hands_acts}
 use Rattle.lot_world.proofs.MutexTable.{mutex, IsCode, OnWord, Steps, own_doing, goes_in as goes_into}
 use Rattle.lot_world.proofs.OnlyMutexes.{operated_kinds}
@@ -72,7 +72,7 @@ alike_both l k p v pv t p2 hv hpv ht h2 apart ne u =
     let b = alike_put l k (putting p v pv) t p2 (rw (put_other p v pv t (λ e. apart (sym e))) ht) h2 ne u in
     (b.0 ∙ a.0, b.1 ∙ a.1)
 
-module _ (w v : State) (l : ℕ) (sites : AreSites w) (rules : rules_at w l ≡ mutex) (q : ℕ → Place) (word : ℕ) (o : Owners) (m : List Waiter)
+module _ (w v : State) (l : ℕ) (rules : rules_at w l ≡ mutex) (q : ℕ → Place) (word : ℕ) (o : Owners) (m : List Waiter)
     (places : place_at v ≡ q) (threads : length v.places ≡ length w.places) (words : Changed (word_at w) (word_at v) l word) (owners : Changed (owners_at w) (owners_at v) l o)
     (mains : Changed (λ k. queue_at w (2 * k)) (λ k. queue_at v (2 * k)) l m) (seconds : (k : ℕ) → queue_at v (2 * k + 1) ≡ queue_at w (2 * k + 1)) (kinds : (k : ℕ) → kind_at v k ≡ kind_at w k)
     (elsewhere : (k : ℕ) → k ≢ l → (u : ℕ) → AlikeAt k (place_at w u) (q u)) where
@@ -83,18 +83,31 @@ module _ (w v : State) (l : ℕ) (sites : AreSites w) (rules : rules_at w l ≡ 
   site_there k ne = site_seen v k (length w.places) (word_at w k) (owners_at w k) (queue_at w (2 * k)) (queue_at w (2 * k + 1)) q threads (words.other k ne) (owners.other k ne) (mains.other k ne) (seconds k) places
       ∙ (λ i. record (site_of w k) { lock = record (site_of w k).lock { taken = λ u. (elsewhere k ne u).0 i }; doing = λ u. (elsewhere k ne u).1 i })
 
-  -- what one lock has been through keeps all
-  pub goes_keeps : (ds : List deeds.Act) → seen l (length w.places) word o m (queue_at w (2 * l + 1)) q ≡ after_acts mutex ds (site_of w l) → AllNeeded mutex ds (site_of w l) → IsCode word o.exclusive → AreSites v
-  goes_keeps ds led needed code = record {
-    site = λ k. rw (kinds k) (elim (cases_eq k l) [
-      | inl e ↦ rw (e, rules, site_here, led) (acts_keep mutex ds (site_of w l) (rw rules at (sites.site l)) needed)
-      | inr ne ↦ rw (site_there k ne) (sites.site k)
+  -- what one lock has been through
+  pub follow : (ds : List deeds.Act) → seen l (length w.places) word o m (queue_at w (2 * l + 1)) q ≡ after_acts mutex ds (site_of w l) → AllNeeded mutex ds (site_of w l) → IsCode word o.exclusive → Follows w v l ds
+  follow ds led needed code = record {
+    site = rw rules (site_here ∙ led);
+    needed = rw rules needed;
+    word = rw (words.here, owners.here) code;
+    others = λ k ne. (site_there k ne, words.other k ne);
+    kinds = kinds;
+  }
+
+-- keeps all
+pub goes_steady : (w v : State) (l : ℕ) (ds : List deeds.Act) → IsSteady w → Goes w v l ds → IsSteady v
+goes_steady w v l ds steady g = record {
+  sites = record {
+    site = λ k. rw (g.follows.kinds k) (elim (cases_eq k l) [
+      | inl e ↦ rw (e, g.follows.site) (acts_keep (rules_at w l) ds (site_of w l) (steady.sites.site l) g.follows.needed)
+      | inr ne ↦ rw ((g.follows.others k ne).0) (steady.sites.site k)
     ]);
     word = λ k. elim (cases_eq k l) [
-      | inl e ↦ rw (e, words.here, owners.here) code
-      | inr ne ↦ rw (words.other k ne, owners.other k ne) (sites.word k)
+      | inl e ↦ rw e g.follows.word
+      | inr ne ↦ (g.follows.others k ne).1 ∙ steady.sites.word k ∙ sym (ap code (g.follows.others k ne).0)
     ];
-  }
+  };
+  stands = g.stands;
+}
 
 -- ---------------------------------------------------------------- what the acts change
 
@@ -122,9 +135,9 @@ module _ (w : State) (t l : ℕ) (at : MutexPlace) (steady : IsSteady w) (is : p
   stance_is_at = ap stance is
 
   -- a step on the word
-  pub word_keeps : l < length w.locks → (f : Op) → OnWord l (length w.places) (word_at w l) (owners_at w l) (queue_at w (2 * l)) (queue_at w (2 * l + 1)) (place_at w) t at f → IsSteady (go_by w t (Mutex l at) (act.TheVariants.Word l f))
+  pub word_keeps : l < length w.locks → (f : Op) → OnWord l (length w.places) (word_at w l) (owners_at w l) (queue_at w (2 * l)) (queue_at w (2 * l + 1)) (place_at w) t at f → Goes w (go_by w t (Mutex l at) (act.TheVariants.Word l f)) l (acts t (mutex_deeds at (Value (word_at w l))))
   word_keeps lt f on = record {
-    sites = goes_keeps w after l steady.sites rules (putting (place_at w) t p2) (apply f (word_at w l)) (mutex_owners at t (word_at w l) (owners_at w l)) (queue_at w (2 * l))
+    follows = follow w after l rules (putting (place_at w) t p2) (apply f (word_at w l)) (mutex_owners at t (word_at w l) (owners_at w l)) (queue_at w (2 * l))
         places (length-set w.places t p2)
         (changed_set (λ x. x.word) w.locks l _ (unlocked kind.TheVariants.Mutex) lt) (changed_set (λ x. x.owners) w.locks l _ (unlocked kind.TheVariants.Mutex) lt)
         (unchanged (λ k. queue_at w (2 * k)) l) (λ k. refl) same_kinds
@@ -150,8 +163,8 @@ module _ (w : State) (t l : ℕ) (at : MutexPlace) (steady : IsSteady w) (is : p
 
   -- a place and the section of its lock change
   place_sites : (v : State) (p2 : Place) (ds : List Deed) → v.locks ≡ w.locks → v.queues ≡ w.queues → v.places ≡ set w.places t p2 → IsOf l p2
-      → Steps l (length w.places) (word_at w l) (word_at w l) (owners_at w l) (owners_at w l) (queue_at w (2 * l)) (queue_at w (2 * l)) (queue_at w (2 * l + 1)) (place_at w) t p2 ds → AreSites v
-  place_sites v p2 ds el eq ep of steps = goes_keeps w v l steady.sites rules (putting (place_at w) t p2) (word_at w l) (owners_at w l) (queue_at w (2 * l))
+      → Steps l (length w.places) (word_at w l) (word_at w l) (owners_at w l) (owners_at w l) (queue_at w (2 * l)) (queue_at w (2 * l)) (queue_at w (2 * l + 1)) (place_at w) t p2 ds → Follows w v l (acts t ds)
+  place_sites v p2 ds el eq ep of steps = follow w v l rules (putting (place_at w) t p2) (word_at w l) (owners_at w l) (queue_at w (2 * l))
       (ap (λ (xs : List Place). λ u. get_or xs u Idle) ep ∙ put_places w t p2 (past p2)) (ap (λ (xs : List Place). length xs) ep ∙ length-set w.places t p2)
       (rw el (unchanged (word_at w) l)) (rw el (unchanged (owners_at w) l)) (rw eq (unchanged (λ k. queue_at w (2 * k)) l)) (λ k. rw eq refl) (λ k. rw el refl)
       (λ k ne. alike_put l k (place_at w) t p2 own of ne)
@@ -159,9 +172,9 @@ module _ (w : State) (t l : ℕ) (at : MutexPlace) (steady : IsSteady w) (is : p
 
   -- a place that changes alone
   pub place_keeps : (p2 : Place) (ds : List Deed) → IsOf l p2
-      → Steps l (length w.places) (word_at w l) (word_at w l) (owners_at w l) (owners_at w l) (queue_at w (2 * l)) (queue_at w (2 * l)) (queue_at w (2 * l + 1)) (place_at w) t p2 ds → stance p2 ≡ mutex_stance at → IsSteady (put w t p2)
+      → Steps l (length w.places) (word_at w l) (word_at w l) (owners_at w l) (owners_at w l) (queue_at w (2 * l)) (queue_at w (2 * l)) (queue_at w (2 * l + 1)) (place_at w) t p2 ds → stance p2 ≡ mutex_stance at → Goes w (put w t p2) l (acts t ds)
   place_keeps p2 ds of steps e = record {
-    sites = place_sites (put w t p2) p2 ds refl refl refl of steps;
+    follows = place_sites (put w t p2) p2 ds refl refl refl of steps;
     stands = still w (put w t p2) steady.stands (λ k. refl) l t of_mutex own p2 of (put_places w t p2 (past p2)) (λ key. refl) (λ key. refl) (e ∙ sym stance_is_at);
   }
 
@@ -170,9 +183,9 @@ module _ (w : State) (t l : ℕ) (at : MutexPlace) (steady : IsSteady w) (is : p
 
   -- into a section that is free
   pub enter_keeps : 2 * l < length w.sections → (p2 : Place) → IsOf l p2 → taken_at (Mutex l at) l ≡ None → taken_at p2 l ≡ None → section_at w (2 * l) ≡ None → (mutex_doing at).inside ≡ None → (mutex_doing at).empty ≡ None → doing_on p2 l ≡ record (mutex_doing at) { inside = Some Main }
-      → stance p2 ≡ record (mutex_stance at) { inside = Some Main } → IsSteady (put (filled_with w (One (2 * l)) (Some t)) t p2)
+      → stance p2 ≡ record (mutex_stance at) { inside = Some Main } → Goes w (put (filled_with w (One (2 * l)) (Some t)) t p2) l (acts t (In Main ∷ []))
   enter_keeps line p2 of none none2 free i e own_is s = record {
-    sites = place_sites v p2 (In Main ∷ []) refl refl refl of
+    follows = place_sites v p2 (In Main ∷ []) refl refl refl of
         (goes_into l (length w.places) (word_at w l) (word_at w l) (owners_at w l) (queue_at w (2 * l)) (queue_at w (2 * l + 1)) (place_at w) t p2 site_l (mutex_doing at) (own_doing l (place_at w t) at is) (ap (λ y. taken_at y l) is ∙ none) none2 refl
         (λ u h. let g : section_at w (2 * l) ≡ Some u = (steady.stands.sections u l Main).0 (sym (inside_is (place_at w u) l) ∙ h) in cc) i e own_is);
     stands = goes_in w v steady.stands (λ k. refl) l t of_mutex own p2 of (put_places (filled_with w (One (2 * l)) (Some t)) t p2 (past p2)) (section_set line (Some t)).other (λ key. refl) free (section_set line (Some t)).here (ap (λ (x : Stance). x.inside) stance_is_at ∙ i)
@@ -187,9 +200,9 @@ module _ (w : State) (t l : ℕ) (at : MutexPlace) (steady : IsSteady w) (is : p
 
   -- out of its own, where nobody is in its hand
   pub leave_keeps : 2 * l < length w.sections → (p2 : Place) → IsOf l p2 → taken_at (Mutex l at) l ≡ None → taken_at p2 l ≡ None → doing_on p2 l ≡ leaves (mutex_doing at) → (mutex_doing at).inside ≡ Some Main → (mutex_doing at).wakes ≡ None → (mutex_stance at).carries ≡ None
-      → stance p2 ≡ record (mutex_stance at) { inside = None } → IsSteady (put (filled_with w (One (2 * l)) None) t p2)
+      → stance p2 ≡ record (mutex_stance at) { inside = None } → Goes w (put (filled_with w (One (2 * l)) None) t p2) l (acts t (Out ∷ []))
   leave_keeps line p2 of none none2 e i k nobody s = record {
-    sites = goes_keeps w v l steady.sites rules (putting (place_at w) t p2) (word_at w l) (owners_at w l) (queue_at w (2 * l))
+    follows = follow w v l rules (putting (place_at w) t p2) (word_at w l) (owners_at w l) (queue_at w (2 * l))
         (put_places (filled_with w (One (2 * l)) None) t p2 (past p2)) (length-set w.places t p2)
         (unchanged (word_at w) l) (unchanged (owners_at w) l) (unchanged (λ j. queue_at w (2 * j)) l) (λ j. refl) (λ j. refl)
         (λ j ne. alike_put l j (place_at w) t p2 own of ne)
@@ -210,9 +223,9 @@ module _ (w : State) (t l : ℕ) (at : MutexPlace) (steady : IsSteady w) (is : p
   pub wake_keeps : 2 * l < length w.sections → (v : ℕ) (handed : Bool) (x : Note) (p2 : Place) → IsOf l p2 → IsOf l (place_at w v) → taken_at (Mutex l at) l ≡ None → taken_at p2 l ≡ None → doing_on p2 l ≡ leaves (mutex_doing at) → (mutex_doing at).inside ≡ Some Main → (mutex_doing at).wakes ≡ None
       → ((u : ℕ) → u ≢ t → LetGo t l (place_at w u) (putting (putting (place_at w) v (next_place (place_at w v) (Woken x))) t p2 u)) → v ≢ t
       → mutex_stance at ≡ record nowhere { inside = Some Main; carries = hand v handed } → stance (place_at w v) ≡ record nowhere { hand = hand t handed } → stance p2 ≡ nowhere → stance (next_place (place_at w v) (Woken x)) ≡ nowhere
-      → IsSteady (put (befallen (filled_with w (One (2 * l)) None) v (Woken x)) t p2)
+      → Goes w (put (befallen (filled_with w (One (2 * l)) None) v (Woken x)) t p2) l (acts t (Out ∷ []))
   wake_keeps line v handed x p2 of of_v none none2 e i k lets apart was was_v is_p2 is_pv = record {
-    sites = goes_keeps w after l steady.sites rules (putting (putting (place_at w) v pv) t p2) (word_at w l) (owners_at w l) (queue_at w (2 * l)) places
+    follows = follow w after l rules (putting (putting (place_at w) v pv) t p2) (word_at w l) (owners_at w l) (queue_at w (2 * l)) places
         (length-set (set w.places v _) t p2 ∙ length-set w.places v _)
         (unchanged (word_at w) l) (unchanged (owners_at w) l) (unchanged (λ j. queue_at w (2 * j)) l) (λ j. refl) (λ j. refl)
         (λ j ne u. alike_both l j (place_at w) v pv t p2 of_v of_pv own of apart ne u)
@@ -238,7 +251,7 @@ module _ (w : State) (t l : ℕ) (at : MutexPlace) (steady : IsSteady w) (is : p
 
 module _ (w : State) (t l : ℕ) (steady : IsSteady w) (there : t < length w.places) where
   -- a release leaves, and wakes the one that it took
-  pub release_wakes : 2 * l < length w.sections → (v : ℕ) → place_at w t ≡ Mutex l (Unlock (unlock.Leave (Some v))) → IsSteady (go_by w t (Mutex l (Unlock (unlock.Leave (Some v)))) (act.TheVariants.Leave (One (2 * l)) (wakes.TheVariants.One v note.Normal)))
+  pub release_wakes : 2 * l < length w.sections → (v : ℕ) → place_at w t ≡ Mutex l (Unlock (unlock.Leave (Some v))) → Goes w (go_by w t (Mutex l (Unlock (unlock.Leave (Some v)))) (act.TheVariants.Leave (One (2 * l)) (wakes.TheVariants.One v note.Normal))) l (acts t (Out ∷ []))
   release_wakes line v is = wake_keeps w t l (Unlock (unlock.Leave (Some v))) steady is there line v false note.Normal Idle tt (rw there_v.is refl) refl refl refl refl refl (lets_taken (place_at w) steady.stands.hands t l v Idle holds) apart refl (rw there_v.is refl) refl (rw there_v.is refl)
     where
       holds : carried_at (place_at w t) l ≡ hand v false
@@ -251,7 +264,7 @@ module _ (w : State) (t l : ℕ) (steady : IsSteady w) (there : t < length w.pla
       apart e = let a : Mutex l (Unlock (unlock.Leave (Some v))) ≡ Mutex l (Lock there_v.entry there_v.retries (lock.Taken t)) = sym is ∙ ap (place_at w) (sym e) ∙ there_v.is in cc
 
   -- a fair one leaves, and tells the one that it handed the lock
-  pub tells : 2 * l < length w.sections → (bumps : Bool) (v : ℕ) (is : place_at w t ≡ Mutex l (HandOff bumps (hand_off.Leave (Some v)))) (p2 : Place) → IsOf l p2 → taken_at p2 l ≡ None → doing_on p2 l ≡ idle → stance p2 ≡ nowhere → IsSteady (put (befallen (filled_with w (One (2 * l)) None) v (Woken note.HandOff)) t p2)
+  pub tells : 2 * l < length w.sections → (bumps : Bool) (v : ℕ) (is : place_at w t ≡ Mutex l (HandOff bumps (hand_off.Leave (Some v)))) (p2 : Place) → IsOf l p2 → taken_at p2 l ≡ None → doing_on p2 l ≡ idle → stance p2 ≡ nowhere → Goes w (put (befallen (filled_with w (One (2 * l)) None) v (Woken note.HandOff)) t p2) l (acts t (Out ∷ []))
   tells line bumps v is p2 of none e s = wake_keeps w t l (HandOff bumps (hand_off.Leave (Some v))) steady is there line v true note.HandOff p2 of (rw there_v.is refl) refl none e refl refl (lets_handed (place_at w) steady.stands.hands t l v p2 holds) apart refl (rw there_v.is refl) s (rw there_v.is refl)
     where
       holds : carried_at (place_at w t) l ≡ hand v true
@@ -264,9 +277,9 @@ module _ (w : State) (t l : ℕ) (steady : IsSteady w) (there : t < length w.pla
       apart e = let a : Mutex l (HandOff bumps (hand_off.Leave (Some v))) ≡ Mutex l (Lock there_v.entry there_v.retries (lock.Handed t)) = sym is ∙ ap (place_at w) (sym e) ∙ there_v.is in cc
 
   -- the store that hands the lock over
-  pub hands_over : l < length w.locks → (bumps none_left : Bool) (u : ℕ) → place_at w t ≡ Mutex l (HandOff bumps (hand_off.Store (Some u) none_left)) → IsSteady (go_by w t (Mutex l (HandOff bumps (hand_off.Store (Some u) none_left))) (act.TheVariants.HandOver l (op.Store (hand_off_word (Some u) none_left)) u))
+  pub hands_over : l < length w.locks → (bumps none_left : Bool) (u : ℕ) → place_at w t ≡ Mutex l (HandOff bumps (hand_off.Store (Some u) none_left)) → Goes w (go_by w t (Mutex l (HandOff bumps (hand_off.Store (Some u) none_left))) (act.TheVariants.HandOver l (op.Store (hand_off_word (Some u) none_left)) u)) l (acts t (deeds.hands_over (Some u) none_left) ++ deeds.claims_of (Some u))
   hands_over lt bumps none_left u is = record {
-    sites = goes_keeps w after l steady.sites (rules w t l at steady is there) (putting (putting (place_at w) u pu) t p2) (if none_left then 1 else 3) (with_exclusive (owners_at w l) (Some u)) (queue_at w (2 * l)) places
+    follows = follow w after l (rules w t l at steady is there) (putting (putting (place_at w) u pu) t p2) (if none_left then 1 else 3) (with_exclusive (owners_at w l) (Some u)) (queue_at w (2 * l)) places
         (length-set (set w.places u pu) t p2 ∙ length-set w.places u pu)
         (changed_set (λ x. x.word) w.locks l _ (unlocked kind.TheVariants.Mutex) lt) (changed_set (λ x. x.owners) w.locks l _ (unlocked kind.TheVariants.Mutex) lt)
         (unchanged (λ k. queue_at w (2 * k)) l) (λ k. refl) same_kinds
@@ -330,9 +343,9 @@ module _ (w : State) (t l : ℕ) (at : MutexPlace) (steady : IsSteady w) (is : p
   pub take_keeps : (p2 : Place) → IsOf l p2 → taken_at (Mutex l at) l ≡ None → taken_at p2 l ≡ None → (mutex_stance at).carries ≡ None → (mutex_stance at).hand ≡ None → (mutex_doing at).inside ≡ Some Main → (mutex_doing at).carries ≡ false → (mutex_doing at).wakes ≢ Some Second
       → doing_on p2 l ≡ record (mutex_doing at) { wakes = None; carries = true; covers = true; empty = found Main (is_empty (map queued_of rest)) }
       → stance p2 ≡ record (mutex_stance at) { carries = hand x.thread false }
-      → IsSteady (put (befallen (record w { queues = first_taken w.queues (2 * l) }) x.thread (TakenBy t)) t p2)
+      → Goes w (put (befallen (record w { queues = first_taken w.queues (2 * l) }) x.thread (TakenBy t)) t p2) l (acts t (Does (TakeFirst (queued x.thread)) ∷ []))
   take_keeps p2 of none none2 nobody free i c v e s = record {
-    sites = goes_keeps w after l steady.sites (rules w t l at steady is there) (putting (putting (place_at w) x.thread px) t p2) (word_at w l) (owners_at w l) rest places
+    follows = follow w after l (rules w t l at steady is there) (putting (putting (place_at w) x.thread px) t p2) (word_at w l) (owners_at w l) rest places
         (length-set (set w.places x.thread px) t p2 ∙ length-set w.places x.thread px)
         (unchanged (word_at w) l) (unchanged (owners_at w) l)
         (subst (λ (y : List Waiter). Changed (λ k. queue_at w (2 * k)) (λ k. get_or (first_taken w.queues (2 * l)) (2 * k) []) l y) (ap (drop 1) first) (changed_main w.queues l (drop 1 (queue_at w (2 * l))) [] line))

@@ -26,14 +26,14 @@ use Rattle.lot_world.specs.Machine.{State, place_at, word_at, owners_at, kind_at
 use Rattle.lot_world.specs.Fits.{IsShaped, PlaceFits}
 use Rattle.lot_world.specs.Refinement.{lock_state, taken_at}
 use Rattle.lot_world.specs.OnlyMutexes.{is_mutex}
-use Rattle.lot_world.specs.MutexDeeds.{nowhere, mutex_doing, mutex_stance, stance, acts}
-use Rattle.lot_world.specs.SitesOf.{IsSteady, site_of}
+use Rattle.lot_world.specs.MutexDeeds.{nowhere, mutex_doing, mutex_stance, stance, acts, begins}
+use Rattle.lot_world.specs.SitesOf.{IsSteady, Goes, site_of}
 use Rattle.lot_world.proofs.Shape.{both}
 use Rattle.lot_world.proofs.OnlyMutexes.{calls_mutex}
 use Rattle.lot_world.proofs.Glue.{put_places, same}
 use Rattle.lot_world.proofs.MutexTable.{mutex, own_doing, meets, others_same}
 use Rattle.lot_world.proofs.StandsMoved.{mutex_rules, still}
-use Rattle.lot_world.proofs.SitesKept.{unchanged, goes_keeps, alike_put}
+use Rattle.lot_world.proofs.SitesKept.{unchanged, follow, goes_steady, alike_put}
 use Rattle.lot_world.proofs.GoneKept.{looked, enters, gone_kept}
 
 pub idle_is : (p : Place) → is_idle p ≡ true → p ≡ Idle
@@ -42,9 +42,9 @@ idle_is (Mutex l at) h = absurd cc
 
 module _ (w : State) (t : ℕ) (steady : IsSteady w) (shape : IsShaped w) (there : t < length w.places) where
   -- it begins, with the claim that the call needs
-  begin_kept : (l : ℕ) (at : MutexPlace) (c : Option Claim) → is_mutex (kind_at w l) ≡ true → place_at w t ≡ Idle → taken_at (Mutex l at) l ≡ None → mutex_doing at ≡ record idle { claims = c } → HasClaim (lock_state w l) t c → mutex_stance at ≡ nowhere → IsSteady (put w t (Mutex l at))
+  begin_kept : (l : ℕ) (at : MutexPlace) (c : Option Claim) → is_mutex (kind_at w l) ≡ true → place_at w t ≡ Idle → taken_at (Mutex l at) l ≡ None → mutex_doing at ≡ record idle { claims = c } → HasClaim (lock_state w l) t c → mutex_stance at ≡ nowhere → Goes w (put w t (Mutex l at)) l (acts t (Begin c ∷ []))
   begin_kept l at c of_mutex is none e has s = record {
-    sites = goes_keeps w _ l steady.sites (mutex_rules (kind_at w l) of_mutex) (putting (place_at w) t (Mutex l at)) (word_at w l) (owners_at w l) (queue_at w (2 * l))
+    follows = follow w _ l (mutex_rules (kind_at w l) of_mutex) (putting (place_at w) t (Mutex l at)) (word_at w l) (owners_at w l) (queue_at w (2 * l))
         places (length-set w.places t (Mutex l at))
         (unchanged (word_at w) l) (unchanged (owners_at w) l) (unchanged (λ k. queue_at w (2 * k)) l) (λ k. refl) (λ k. refl)
         (λ k ne. alike_put l k (place_at w) t (Mutex l at) (rw is tt) refl ne)
@@ -64,7 +64,7 @@ module _ (w : State) (t : ℕ) (steady : IsSteady w) (shape : IsShaped w) (there
   owns (Some u) h = ap Some (eqb-true u t h)
 
   -- each call of a mutex
-  calls_begin : (l : ℕ) (fair : Bool) (c : MutexCall) → is_mutex (kind_at w l) ≡ true → place_at w t ≡ Idle → mutex_right c t (owners_at w l) ≡ true → IsSteady (put w t (Mutex l (mutex_first fair c)))
+  calls_begin : (l : ℕ) (fair : Bool) (c : MutexCall) → is_mutex (kind_at w l) ≡ true → place_at w t ≡ Idle → mutex_right c t (owners_at w l) ≡ true → Goes w (put w t (Mutex l (mutex_first fair c))) l (acts t (begins (mutex_first fair c) ∷ []))
   calls_begin l fair call.Lock of is right = begin_kept l _ None of is refl refl tt refl
   calls_begin l fair call.LockTimed of is right = begin_kept l _ None of is refl refl tt refl
   calls_begin l fair call.TryLock of is right = begin_kept l _ None of is refl refl tt refl
@@ -78,12 +78,12 @@ module _ (w : State) (t : ℕ) (steady : IsSteady w) (shape : IsShaped w) (there
       let parts = both (is_idle (place_at w t)) (is_open_to w t (calling.TheVariants.Mutex l c)) can in
       let open_to = both (nat_lt l (length w.locks)) _ parts.1 in
       let right = both (has_call (kind_at w l) (calling.TheVariants.Mutex l c)) _ open_to.1 in
-      calls_begin l (is_fair (kind_at w l)) c (calls_mutex (kind_at w l) (calling.TheVariants.Mutex l c) right.0) (idle_is (place_at w t) parts.0) right.1
+      goes_steady w _ l _ steady (calls_begin l (is_fair (kind_at w l)) c (calls_mutex (kind_at w l) (calling.TheVariants.Mutex l c) right.0) (idle_is (place_at w t) parts.0) right.1)
 
   -- it loads the word again
   spins : (l : ℕ) (e : Entry) (r : Bool) (x : ℕ) → place_at w t ≡ Mutex l (Lock e r (lock.Decide x)) → (b : Bool) → IsSteady (spun_on w t (if b then Some l else None))
   spins l e r x is false = steady
-  spins l e r x is true = rw is (looked w t steady shape there l (Lock e r (lock.Decide x)) (Lock e r (lock.Decide (word_at w l))) is refl refl refl refl)
+  spins l e r x is true = rw is (goes_steady w _ l [] steady (looked w t steady shape there l (Lock e r (lock.Decide x)) (Lock e r (lock.Decide (word_at w l))) is refl refl refl refl))
 
   spun_kept : (p : Place) → place_at w t ≡ p → IsSteady (spun_on w t (spin_lock p))
   spun_kept (Mutex l (Lock e r (lock.Decide x))) is = spins l e r x is (x == 1)
@@ -94,7 +94,7 @@ module _ (w : State) (t : ℕ) (steady : IsSteady w) (shape : IsShaped w) (there
 
   -- its time is up, and it goes into the section of its line
   asleep_late : (l : ℕ) (e : Entry) (r : Bool) → place_at w t ≡ Mutex l (Lock e r lock.Asleep) → l < length w.locks → is_free_under w (late_key (Mutex l (Lock e r lock.Asleep))) ≡ true → IsSteady (late_on w t (late_key (Mutex l (Lock e r lock.Asleep))))
-  asleep_late l entries.LockTimed r is lt can = rw is (enters w t steady shape there l (Lock entries.LockTimed r lock.Asleep) (Lock entries.LockTimed r lock.Remove) is lt can refl refl refl refl refl refl)
+  asleep_late l entries.LockTimed r is lt can = rw is (goes_steady w _ l _ steady (enters w t steady shape there l (Lock entries.LockTimed r lock.Asleep) (Lock entries.LockTimed r lock.Remove) is lt can refl refl refl refl refl refl))
   asleep_late l entries.Lock r is lt can = absurd cc
   asleep_late l entries.Bump r is lt can = absurd cc
 

@@ -204,13 +204,15 @@ mutex_deeds Bump (Value seen) = if is_parked seen then [] else End ∷ []
 mutex_deeds (HandOff bumps at) reply = hand_off_deeds bumps at reply
 mutex_deeds at reply = []
 
--- and of whom it hands the lock to
-abbrev pub handed_claims : MutexPlace → List Act
-handed_claims (HandOff bumps (hand_off.Store (Some u) none_left)) = record { by = u; deed = Begin (Some (Has Exclusive)) } ∷ []
-handed_claims at = []
+-- whom it hands the lock to claims it from then on
+abbrev pub claims_of : Option ℕ → List Act
+claims_of None = []
+claims_of (Some u) = record { by = u; deed = Begin (Some (Has Exclusive)) } ∷ []
 
+-- the deeds of the step of a thread at a place, by what it is told
 abbrev pub deeds : ℕ → MutexPlace → Reply → List Act
-deeds t at reply = acts t (mutex_deeds at reply) ++ handed_claims at
+deeds t (HandOff bumps (hand_off.Store taken none_left)) (Value seen) = acts t (hands_over taken none_left) ++ claims_of taken
+deeds t at reply = acts t (mutex_deeds at reply)
 
 -- the deed with which a call begins
 abbrev pub begins : MutexPlace → Deed

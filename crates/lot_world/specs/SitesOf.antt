@@ -1,5 +1,5 @@
 -- The locks of a world, with what each thread does about each.
-use Rattle.std.specs.Prelude.{ℕ, Bool, true, false, Option, Some, ◌≡◌, ◌+◌, ◌*◌, ◌↔◌, if◌then◌else◌, List, [], ◌∷◌}
+use Rattle.std.specs.Prelude.{ℕ, Bool, true, false, Option, Some, ◌≡◌, ◌≢◌, ◌+◌, ◌*◌, ◌↔◌, if◌then◌else◌, List, [], ◌∷◌}
 use Rattle.lot_base.specs.declared.wants.Waiter.{Waiter}
 use Rattle.lot_base.specs.Lines.{times}
 use Rattle.lot_steps.specs.declared.places.Place.{Place}
@@ -90,3 +90,16 @@ pub record Stands (w : State) : Type 0 where
 pub record IsSteady (w : State) : Type 0 where
   pub sites : AreSites w
   pub stands : Stands w
+
+-- one lock has been through deeds that are allowed, its word says so, and the others are as they were
+pub record Follows (w v : State) (l : ℕ) (ds : List Act) : Type 0 where
+  pub site : site_of v l ≡ after_acts (rules_at w l) ds (site_of w l)
+  pub needed : AllNeeded (rules_at w l) ds (site_of w l)
+  pub word : word_at v l ≡ code (site_of v l)
+  pub others : (k : ℕ) → k ≢ l → (site_of v k ≡ site_of w k) × (word_at v k ≡ word_at w k)
+  pub kinds : (k : ℕ) → kind_at v k ≡ kind_at w k
+
+-- and each thread stands where its place says
+pub record Goes (w v : State) (l : ℕ) (ds : List Act) : Type 0 where
+  pub follows : Follows w v l ds
+  pub stands : Stands v
