@@ -1,6 +1,7 @@
 pub mod LockKeeps
 pub mod Runs
 pub mod Picks
+pub mod Laws
 pub mod Turns
 pub mod Hands
 pub mod Wakes

@@ -2,6 +2,7 @@ pub mod Locks
 pub mod Purposes
 pub mod Runs
 pub mod Picks
+pub mod Laws
 pub mod Sites
 pub mod Codes
 pub mod ReadersSteps

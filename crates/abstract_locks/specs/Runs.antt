@@ -1,5 +1,8 @@
--- A run of the abstract locks: each step is one case of one lock, or changes nothing, and each answer is true.
-use Rattle.std.specs.Prelude.{ℕ, suc, Option, Some, None, ◌<◌, ◌≤◌, ◌≡◌, ◌≢◌, ◌⊎◌, List, [], ◌∷◌, Bool, true, false, if◌then◌else◌, ◌==◌}
+-- A run of the abstract locks: each step is one case of one lock, or changes nothing, each answer is true, and a step is refused
+-- exactly where it isn't possible.
+use Rattle.std.specs.Prelude.{ℕ, suc, Option, Some, None, ◌<◌, ◌≤◌, ◌≡◌, ◌≢◌, ◌⊎◌, List, [], ◌∷◌, Bool, true, false, if◌then◌else◌, ◌==◌, ◌*◌, ◌+◌, ◌↔◌}
+use Rattle.lot_base.specs.declared.keys.Keys.{Keys}
+use Rattle.lot_base.specs.declared.keys.Keys as keys
 use Rattle.lot_base.specs.declared.wants.Want.{Want}
 use Rattle.lot_base.specs.declared.wants.Want.TheVariants.{Exclusive}
 use Rattle.lot_calls.specs.declared.kinds.Kind.{Kind}
@@ -12,7 +15,7 @@ use Rattle.lot_calls.specs.declared.outcomes.Answer as answer
 use Rattle.lot_calls.specs.declared.outcomes.Outcome.{Outcome}
 use Rattle.lot_calls.specs.declared.outcomes.Outcome as outcome
 use Rattle.lot_calls.specs.Calls.{lock_in}
-use Rattle.abstract_locks.specs.Locks.{LockState, Taken, LockCase, Enter, Pend, Settle, Leave, Park, Aside, Wake, HandOff, Late, Rules, Rights, Mutex, Needs, after, rights_of, with_right, without_right, Owns, IsFree, IsBlocked, count, readers, put, standing, HasTakenNobody, IsLockState, opening_lock}
+use Rattle.abstract_locks.specs.Locks.{LockState, Taken, LockCase, Enter, Pend, Settle, Leave, Park, Aside, Wake, HandOff, Late, Rules, Rights, Mutex, Needs, after, rights_of, with_right, without_right, Owns, IsFree, IsBlocked, count, readers, put, standing, HasTakenNobody, IsLockState, opening_lock, times}
 use Rattle.abstract_locks.specs.Purposes.{Purpose, Enters, Releases, Converts, Bumps, Patience, Patient, Timed, Try, purpose_of, rules_of, IsMadeOf}
 
 -- what is remembered of a call: what its answer needs of earlier steps, and whether it tries again
@@ -27,6 +30,19 @@ pub record CallState : Type 0 where
   pub retries : Option ℕ
   -- whether it has given its right up
   pub released : Bool
+  -- whether its time is up
+  pub late : Bool
+
+-- how a thread stands between two steps
+pub record Stance : Type 0 where
+  -- it sleeps until another thread wakes it
+  pub asleep : Bool
+  -- it runs the closure of its call
+  pub in_closure : Bool
+  -- the sections that its next step enters
+  pub enters : Option Keys
+  -- it may look at the word once more in place of its next step
+  pub may_spin : Bool
 
 -- locks, and threads that call them
 pub record LocksState : Type 0 where
@@ -34,7 +50,10 @@ pub record LocksState : Type 0 where
   pub size : ℕ
   pub kinds : ℕ → Kind
   pub locks : ℕ → LockState
+  -- who is inside the section of each key
+  pub inside : ℕ → Option ℕ
   pub calls : ℕ → CallState
+  pub stances : ℕ → Stance
 
 abbrev pub rules_at : LocksState → ℕ → Rules
 rules_at w l = rules_of (w.kinds l)
@@ -44,7 +63,7 @@ abbrev pub rights_in : LocksState → ℕ → ℕ → Rights
 rights_in w t l = rights_of (w.locks l) t
 
 abbrev pub beginning : Option Purpose → (ℕ → Rights) → CallState
-beginning purpose former = record { purpose = purpose; former = former; gave_up = None; retries = None; released = false }
+beginning purpose former = record { purpose = purpose; former = former; gave_up = None; retries = None; released = false; late = false }
 
 abbrev pub no_rights : Rights
 no_rights = record { exclusive = 0; pending = 0; upgradable = 0; shared = 0 }
@@ -103,10 +122,15 @@ unless_ended o c = c
 abbrev pub calls_after : LocksState → ℕ → Event → Outcome → ℕ → CallState
 calls_after w t event o u = if u == t then unless_ended o (going_on event (w.calls t)) else woken w t event u (w.calls u)
 
+-- nobody leaves a queue but whose time is up
+abbrev pub IsTimely : Bool → LockCase → Type 0
+IsTimely late Late = late ≡ true
+IsTimely late case = Unit {0}
+
 -- the call is made of the case, and what the case needs is there
 abbrev pub MayDo : LocksState → ℕ → ℕ → LockCase → Option Purpose → Type 0
 MayDo w t l case None = ⊥
-MayDo w t l case (Some purpose) = IsMadeOf purpose (w.calls t).gave_up (w.calls t).released l case × Needs (rules_at w l) case (w.locks l) t
+MayDo w t l case (Some purpose) = IsMadeOf purpose (w.calls t).gave_up (w.calls t).released l case × Needs (rules_at w l) case (w.locks l) t × IsTimely (w.calls t).late case
 
 abbrev pub MayHappen : LocksState → ℕ → Event → Type 0
 MayHappen w t Nothing = Unit {0}
@@ -198,19 +222,57 @@ HasRight w t (Some purpose) = Unit {0}
 abbrev pub purpose_at : LocksState → Call → Option Purpose
 purpose_at w c = purpose_of (w.kinds (lock_in c)) c
 
--- the thread and the lock are there, the thread is in no call, and has the right that this one needs
+-- a call begins: the thread and the lock are there, the thread is in no call, and has the right that this one needs
 pub record MayBegin (w : LocksState) (t : ℕ) (c : Call) : Type 0 where
   pub thread : t < w.threads
   pub idle : (w.calls t).purpose ≡ None
   pub lock : lock_in c < w.size
   pub right : HasRight w t (purpose_at w c)
 
--- a call begins: it has a purpose, and no lock changes
-pub record Begins (w : LocksState) (t : ℕ) (c : Call) (o : Outcome) (v : LocksState) : Type 0 where
-  pub may : MayBegin w t c
+-- the sections are free
+abbrev pub AreFree : LocksState → Option Keys → Type 0
+AreFree w None = Unit {0}
+AreFree w (Some (keys.TheVariants.One key)) = w.inside key ≡ None
+AreFree w (Some (keys.TheVariants.Two first second)) = (w.inside first ≡ None) × (w.inside second ≡ None)
+
+-- a thread goes on with its call: it is awake, its closure is over, and the sections that it enters are free
+pub record MayGo (w : LocksState) (t : ℕ) : Type 0 where
+  pub called : (w.calls t).purpose ≢ None
+  pub awake : (w.stances t).asleep ≡ false
+  pub outside : (w.stances t).in_closure ≡ false
+  pub free : AreFree w (w.stances t).enters
+
+-- a call of the lock that has a deadline
+abbrev pub IsTimed : Option Purpose → ℕ → Type 0
+IsTimed (Some (Enters l x how)) k = (l ≡ k) × (how ≡ Timed)
+IsTimed (Some (Converts l x y how)) k = (l ≡ k) × (how ≡ Timed)
+IsTimed purpose k = ⊥
+
+-- the thread stands in a queue of the lock, whose section is free
+abbrev pub StandsFreely : LocksState → ℕ → ℕ → Type 0
+StandsFreely w t l = ((1 ≤ times t (w.locks l).queue) × (w.inside (2 * l) ≡ None)) ⊎ (((w.locks l).aside ≡ Some t) × (w.inside (2 * l + 1) ≡ None))
+
+-- its time may be up: its call has a deadline, and it sleeps in a queue whose section is free
+pub record MayBeLate (w : LocksState) (t : ℕ) : Type 0 where
+  pub lock : ℕ
+  pub timed : IsTimed (w.calls t).purpose lock
+  pub asleep : (w.stances t).asleep ≡ true
+  pub stands : StandsFreely w t lock
+
+-- whether a turn is possible
+abbrev pub MayTurn : LocksState → ℕ → Turn → Type 0
+MayTurn w t (turn.TheVariants.Begin c) = MayBegin w t c
+MayTurn w t turn.TheVariants.Go = MayGo w t
+MayTurn w t turn.TheVariants.Spin = (w.stances t).may_spin ≡ true
+MayTurn w t turn.TheVariants.Late = MayBeLate w t
+MayTurn w t turn.TheVariants.Ok = (w.stances t).in_closure ≡ true
+MayTurn w t turn.TheVariants.Err = (w.stances t).in_closure ≡ true
+
+-- no lock changes, and of the calls that of one thread alone
+pub record Stays (w : LocksState) (t : ℕ) (c : CallState) (o : Outcome) (v : LocksState) : Type 0 where
   pub told : o ≡ outcome.TheVariants.Step
   pub locks : (l : ℕ) → v.locks l ≡ w.locks l
-  pub calls : (u : ℕ) → v.calls u ≡ put w.calls t (beginning (purpose_at w c) (rights_in w t)) u
+  pub calls : (u : ℕ) → v.calls u ≡ put w.calls t c u
 
 -- a call goes on by one event, and its answer is true
 pub record GoesOn (w : LocksState) (t : ℕ) (o : Outcome) (v : LocksState) : Type 0 where
@@ -221,26 +283,39 @@ pub record GoesOn (w : LocksState) (t : ℕ) (o : Outcome) (v : LocksState) : Ty
   pub calls : (u : ℕ) → v.calls u ≡ calls_after w t event o u
   pub agrees : Agrees t (going_on event (w.calls t)) o v
 
+-- what a turn does: a call begins, goes on, looks once more, or is late
+abbrev pub Does : LocksState → ℕ → Turn → Outcome → LocksState → Type 0
+Does w t (turn.TheVariants.Begin c) o v = Stays w t (beginning (purpose_at w c) (rights_in w t)) o v
+Does w t turn.TheVariants.Spin o v = Stays w t (w.calls t) o v
+Does w t turn.TheVariants.Late o v = Stays w t (record (w.calls t) { late = true }) o v
+Does w t x o v = GoesOn w t o v
+
 -- nothing happens
 abbrev pub IsRefused : LocksState → Outcome → LocksState → Type 0
 IsRefused w o v = (o ≡ outcome.TheVariants.NotNow) × (v ≡ w)
 
--- a call begins exactly where it may
+-- a turn does what it does exactly where it is possible
 abbrev pub Turned : LocksState → ℕ → Turn → Outcome → LocksState → Type 0
-Turned w t (turn.TheVariants.Begin c) o v = Begins w t c o v ⊎ ((MayBegin w t c → ⊥) × IsRefused w o v)
-Turned w t choice o v = GoesOn w t o v ⊎ IsRefused w o v
+Turned w t x o v = (MayTurn w t x × Does w t x o v) ⊎ ((MayTurn w t x → ⊥) × IsRefused w o v)
 
--- threads and locks stay as many, and locks of their kinds
-pub record SameKinds (w v : LocksState) : Type 0 where
+-- a section stays as it is, or is free and the thread enters it, or the thread is inside and leaves it
+abbrev pub SectionChanges : Option ℕ → ℕ → Option ℕ → Type 0
+SectionChanges before t now = (now ≡ before) ⊎ (((before ≡ None) × (now ≡ Some t)) ⊎ ((before ≡ Some t) × (now ≡ None)))
+
+-- threads and locks stay as many, locks of their kinds, and sections are those of who is inside
+pub record KeepsOrder (w : LocksState) (t : ℕ) (o : Outcome) (v : LocksState) : Type 0 where
   pub threads : v.threads ≡ w.threads
   pub size : v.size ≡ w.size
   pub kinds : (l : ℕ) → v.kinds l ≡ w.kinds l
+  pub sections : (key : ℕ) → SectionChanges (w.inside key) t (v.inside key)
+  -- the thread is told that it sleeps exactly where it does
+  pub told : o ≢ outcome.TheVariants.NotNow → (o ≡ outcome.TheVariants.Sleep) ↔ ((v.stances t).asleep ≡ true)
 
 abbrev pub IsStep : LocksState → Step → Outcome → LocksState → Type 0
-IsStep w s o v = SameKinds w v × Turned w s.thread s.turn o v
+IsStep w s o v = KeepsOrder w s.thread o v × Turned w s.thread s.turn o v
 
--- steps with their outcomes lead from each state to the next
-abbrev pub IsRun : (ℕ → LocksState) → List Step → List Outcome → Type 0
-IsRun states [] [] = Unit {0}
-IsRun states (s ∷ ss) (o ∷ os) = IsStep (states 0) s o (states 1) × IsRun (λ n. states (suc n)) ss os
-IsRun states ss os = ⊥
+-- steps with their outcomes lead from one state to another
+abbrev pub IsRun : LocksState → List Step → List Outcome → LocksState → Type 0
+IsRun w [] [] v = v ≡ w
+IsRun w (s ∷ ss) (o ∷ os) v = (u : LocksState) × IsStep w s o u × IsRun u ss os v
+IsRun w ss os v = ⊥

@@ -1,6 +1,7 @@
 //! The abstract locks, and what every step of a lot of threads keeps of them.
 #![tactic(auto)]
 
+ghost use Rattle.abstract_locks.specs.Laws.{CallsTakeSteps, FairReleasesHandOver, FreeMutexIsGot, OwnersExclude, PossibleTurnsAreTaken};
 ghost use Rattle.abstract_locks.specs.Picks.{PickersPickAsTheLocksSay};
 ghost use Rattle.abstract_locks.specs.Sites.{EachDeedKeeps};
 ghost use Rattle.abstract_locks.specs.ReadersSteps.{WordStepsCode, WordStepsFollow};
@@ -84,4 +85,29 @@ pub fn word_steps_code()
 /// just the others, both in order.
 pub fn pickers_pick_as_the_locks_say()
     ensures { PickersPickAsTheLocksSay }
+{}
+
+/// A turn that is possible isn't refused: no world answers `NotNow` to what the state and the call allow.
+pub fn possible_turns_are_taken()
+    ensures { PossibleTurnsAreTaken }
+{}
+
+/// A call doesn't end as it begins: no world does whole calls in one step.
+pub fn calls_take_steps()
+    ensures { CallsTakeSteps }
+{}
+
+/// A try of a mutex that nobody owns doesn't fail.
+pub fn a_free_mutex_is_got()
+    ensures { FreeMutexIsGot }
+{}
+
+/// Nobody enters a lock whose owners bar what it wants.
+pub fn owners_exclude()
+    ensures { OwnersExclude }
+{}
+
+/// A fair release wakes nobody to try again: it hands the lock over, or lets it go.
+pub fn fair_releases_hand_over()
+    ensures { FairReleasesHandOver }
 {}

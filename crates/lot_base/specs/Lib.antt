@@ -2,3 +2,4 @@ pub mod Words
 pub mod Lines
 pub mod Picks
 pub mod Requeues
+pub mod Laws

@@ -4,6 +4,7 @@
 pub mod clocks;
 pub mod faults;
 pub mod keys;
+pub mod laws;
 pub mod list;
 pub mod lock_picker;
 pub mod notes;

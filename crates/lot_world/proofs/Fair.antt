@@ -1,5 +1,5 @@
 -- Each step of the world is fair.
-use Rattle.std.proofs.Common.{ℕ, Bool, true, false, Option, Some, None, if◌then◌else◌, ◌==◌, ◌&&◌, not, ◌≡◌, ◌≢◌, ◌+◌, ◌*◌, ◌<◌, ◌⊎◌, inl, inr, List, [], ◌∷◌, length, refl, sym, ◌∙◌, ap, subst, arith, get_or-set_same}
+use Rattle.std.proofs.Common.{ℕ, Bool, true, false, Option, Some, None, if◌then◌else◌, ◌==◌, ◌&&◌, not, ◌≡◌, ◌≢◌, ◌+◌, ◌*◌, ◌<◌, ◌⊎◌, inl, inr, [], length, refl, sym, ◌∙◌, ap, subst, arith, get_or-set_same}
 use Rattle.std.proofs.lemmas.Bool.{cases_eq, eqb-true}
 use Rattle.std.proofs.lemmas.Bool.Decides.{nat_tests}
 use Rattle.lot_base.specs.declared.keys.Keys.TheVariants.{One}
@@ -35,17 +35,14 @@ use Rattle.lot_world.proofs.MutexTable.{own_doing}
 use Rattle.lot_world.specs.OnlyMutexes.{OnlyMutexes, CallFits, is_mutex}
 use Rattle.abstract_locks.specs.Locks.{LockState, Queued, Rules, Rights, Taken, LockCase, Enter, Pend, Settle, Leave, Convert, Park, Aside, TakeFirst, TakeAside, TakePicked, Wake, HandOff as HandsLockOff, Late, Rollback, Needs, Owns, IsTaken, HasTakenNobody, IsLockState, Knows, keep_from, first_thread, rights_of}
 use Rattle.abstract_locks.specs.Locks as locks
-use Rattle.abstract_locks.specs.Runs.{LocksState, Event, Nothing, AtLock, AreLockStates, GoesOn, MayHappen, IsStep, Turned, rules_at, locks_after}
+use Rattle.abstract_locks.specs.Runs.{LocksState, CallState, Event, Nothing, AtLock, AreLockStates, GoesOn, Stays, Does, MayHappen, IsStep, Turned, rules_at, locks_after}
 use Rattle.lot_world.specs.Refinement.{lock_state, locks_of, call_state}
-use Rattle.lot_world.specs.Fair.{IsFairRelease, OwnsOn, HandsOver, LetsGo, IsFair, EachIsFair}
-use Rattle.lot_world.proofs.Shape.{after_shaped}
+use Rattle.lot_world.specs.Fair.{IsFairRelease, OwnsOn, HandsOver, LetsGo, IsFair}
 use Rattle.lot_world.proofs.ExclusiveOwners.{owner_after, exclusive-owners, by_code}
 use Rattle.lot_world.proofs.Steady.{IsTakenAt, in_hand, after_sound}
-use Rattle.lot_world.proofs.OnlyMutexes.{after_only}
 use Rattle.lot_world.proofs.LockEvents.{mutex_rules, mutex_rules_of, taken_nobody, same, rights}
 use Rattle.lot_world.proofs.LockSteps.{after_step}
 use Rattle.abstract_locks.proofs.Runs.{needs_of}
-use Rattle.lot_world.proofs.LockRuns.{after_locks}
 
 -- ---------------------------------------------------------------- what others do to an owner
 
@@ -105,19 +102,20 @@ module _ (P : LockState → LockState → Type 0) (w v : LocksState) (a l : ℕ)
   goes_so : (o : Outcome) → GoesOn w a o v → P (w.locks l) (v.locks l)
   goes_so o g = rw (g.locks l) (event_so g.event g.may)
 
+  stays_so : (c : CallState) (o : Outcome) → Stays w a c o v → P (w.locks l) (v.locks l)
+  stays_so c o s = rw (s.locks l) stays
+
+  does_so : (x : Turn) (o : Outcome) → Does w a x o v → P (w.locks l) (v.locks l)
+  does_so (turn.TheVariants.Begin c) o d = stays_so _ o d
+  does_so turn.TheVariants.Go o d = goes_so o d
+  does_so turn.TheVariants.Spin o d = stays_so _ o d
+  does_so turn.TheVariants.Late o d = stays_so _ o d
+  does_so turn.TheVariants.Ok o d = goes_so o d
+  does_so turn.TheVariants.Err o d = goes_so o d
+
   turned_so : (x : Turn) (o : Outcome) → Turned w a x o v → P (w.locks l) (v.locks l)
-  turned_so (turn.TheVariants.Begin c) o (inl b) = rw (b.locks l) stays
-  turned_so (turn.TheVariants.Begin c) o (inr r) = rw r.1.1 stays
-  turned_so turn.TheVariants.Go o (inl g) = goes_so o g
-  turned_so turn.TheVariants.Spin o (inl g) = goes_so o g
-  turned_so turn.TheVariants.Late o (inl g) = goes_so o g
-  turned_so turn.TheVariants.Ok o (inl g) = goes_so o g
-  turned_so turn.TheVariants.Err o (inl g) = goes_so o g
-  turned_so turn.TheVariants.Go o (inr r) = rw r.1 stays
-  turned_so turn.TheVariants.Spin o (inr r) = rw r.1 stays
-  turned_so turn.TheVariants.Late o (inr r) = rw r.1 stays
-  turned_so turn.TheVariants.Ok o (inr r) = rw r.1 stays
-  turned_so turn.TheVariants.Err o (inr r) = rw r.1 stays
+  turned_so x o (inl d) = does_so x o d.1
+  turned_so x o (inr r) = rw r.1.1 stays
 
 -- ---------------------------------------------------------------- what a fair release does by its own step
 
@@ -274,7 +272,3 @@ is_fair w s shape sound only all = record {
     told t l (inl e) = inl (owned t l e)
     told t l (inr (inl h)) = inr (inl (h.0, h.1, h.2, locked_by (word_at (after w s) l) (owner_at (after w s) l) h.0 (coded l) h.2))
     told t l (inr (inr h)) = inr (inr h)
-
-pub each_fair : (w : State) (ss : List Step) → IsShaped w → IsSound w → OnlyMutexes w → AreLockStates (locks_of w) → EachIsFair w ss
-each_fair w [] shape sound only all = tt
-each_fair w (s ∷ ss) shape sound only all = (is_fair w s shape sound only all, each_fair (after w s) ss (after_shaped w s shape) (after_sound w s shape sound) (after_only w s only) (after_locks w s shape sound only all))

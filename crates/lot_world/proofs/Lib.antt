@@ -20,6 +20,7 @@ pub mod Steady
 pub mod OnlyMutexes
 pub mod LockEvents
 pub mod LockHands
+pub mod Possible
 pub mod LockSteps
 pub mod LockRuns
 pub mod OneThing
@@ -27,3 +28,5 @@ pub mod Promises
 pub mod Fair
 pub mod SoloActs
 pub mod Solo
+pub mod WorldRuns
+pub mod RowLaws

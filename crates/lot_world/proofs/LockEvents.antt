@@ -35,10 +35,10 @@ use Rattle.lot_world.specs.Sound.{IsSound, owner_at, Taking, taken_from, IsTaken
 use Rattle.lot_world.proofs.Counts.{without_absent, first_times}
 use Rattle.abstract_locks.specs.Locks.{LockState, Rules, Rights, LockCase, Enter, Taken as LockTaken, HasTakenNobody, Needs, Owns, IsBlocked, IsTaken, IsSuccessor, rights_of, with_right, without_right, is_thread, is_pending, one_if_some, readers, shares_handed, sharing_from, sharing_handed, leaving, put as putting}
 use Rattle.abstract_locks.specs.Locks as locks
-use Rattle.abstract_locks.specs.Runs.{LocksState, CallState, Event, is_taken_by, woken, Nothing, AtLock, MayHappen, Agrees, GoesOn, locks_after, going_on, unless_ended, rules_at, AnswerHolds, one_more_at}
+use Rattle.abstract_locks.specs.Runs.{LocksState, CallState, Event, IsTimely, is_taken_by, woken, Nothing, AtLock, MayHappen, Agrees, GoesOn, locks_after, going_on, unless_ended, rules_at, AnswerHolds, one_more_at}
 use Rattle.abstract_locks.specs.Purposes.{Purpose, rules_of, IsMadeOf}
 use Rattle.abstract_locks.specs.Picks.{queued_of}
-use Rattle.lot_world.specs.Refinement.{lock_state, lock_seen, taken_at, gave_up_at, is_handed, is_bump, entry_purpose, release_purpose, before_release, before_entry, call_state, locks_of}
+use Rattle.lot_world.specs.Refinement.{lock_state, lock_seen, taken_at, gave_up_at, late_at, is_handed, is_bump, entry_purpose, release_purpose, before_release, before_entry, call_state, locks_of}
 use Rattle.lot_world.specs.OnlyMutexes.{AllExclusive, OnlyMutexes, is_mutex}
 use Rattle.lot_world.proofs.Steady.{IsTakenAt, IsAsleep, in_hand, stands_at, stood, absent, same_without, asleep, alone}
 use Rattle.lot_world.proofs.Shape.{main_line_there}
@@ -83,8 +83,8 @@ no_readers (suc n) = no_readers n
 
 -- a case may happen where the call is made of it and what it needs is there
 pub may_happen : (w : LocksState) (t l : ℕ) (case : LockCase) (purpose : Purpose) (c : CallState) → w.calls t ≡ c → c.purpose ≡ Some purpose → IsMadeOf purpose c.gave_up c.released l case
-    → Needs (rules_at w l) case (w.locks l) t → MayHappen w t (AtLock l case)
-may_happen w t l case purpose c is e made needs = rw (is, e) (rw is made, needs)
+    → Needs (rules_at w l) case (w.locks l) t → IsTimely c.late case → MayHappen w t (AtLock l case)
+may_happen w t l case purpose c is e made needs timely = rw (is, e) (rw is made, needs, rw is timely)
 
 module _ (w v : State) (t : ℕ) (e : Event) (o : Outcome) where
   pub goes_by : (call_state (place_at w t) (rights w t)).purpose ≢ None → MayHappen (locks_of w) t e
@@ -232,10 +232,10 @@ mutex_rules_of k h = absurd cc
 
 -- a call that owns what it owned before, or has given its right up
 abbrev pub calling : Purpose → ℕ → Bool → Option ℕ → (ℕ → Rights) → CallState
-calling purpose l released again r = record { purpose = Some purpose; former = before_release l released r; gave_up = None; retries = again; released = released }
+calling purpose l released again r = record { purpose = Some purpose; former = before_release l released r; gave_up = None; retries = again; released = released; late = false }
 
 abbrev pub has_left : Purpose → (ℕ → Rights) → CallState
-has_left purpose r = record { purpose = Some purpose; former = r; gave_up = None; retries = None; released = true }
+has_left purpose r = record { purpose = Some purpose; former = r; gave_up = None; retries = None; released = true; late = false }
 
 -- the thread owns the lock, and owned it not before
 abbrev pub Got : State → State → ℕ → ℕ → Type 0
@@ -267,7 +267,7 @@ module _ (w v : State) (t l : ℕ) (p : Place) (is : place_at w t ≡ p) (rules 
         → GoesOn (locks_of w) t (outcome.TheVariants.End a) (locks_of v)
     enters a agrees = goes_on w v t (AtLock l (Enter Exclusive)) (outcome.TheVariants.End a) (rw (is, called (rights w t)) (λ h. cc))
         (may_happen (locks_of w) t l (Enter Exclusive) purpose (calling purpose l released again (rights w t)) (ap (λ x. call_state x (rights w t)) is ∙ called (rights w t)) refl made
-        (rw rules (((tt, free), tt), no_readers (length w.places))))
+        (rw rules (((tt, free), tt), no_readers (length w.places))) tt)
         (λ k. put_is (lock_state w) l _ k (lock_state v k) (λ e. rw e lock_entered) (λ nl. lock_same w v t p Idle is moved stays k (others k nl)))
         entered_rights (other_calls w v t p Idle is moved stays) (rw moved.place refl)
         (rw (is, called (rights w t)) (agrees gains, taken_nobody v t moved.sound (λ u k h. rw moved.place at h)))
@@ -296,7 +296,7 @@ module _ (w v : State) (t l : ℕ) (p : Place) (is : place_at w t ≡ p) (rules 
         → (((k : ℕ) → one_more_at l Exclusive (rights v t) k ≡ rights w t k) → Agrees t (has_left purpose (rights w t)) o (locks_of v))
         → GoesOn (locks_of w) t o (locks_of v)
     leaves o goes agrees = goes_on w v t (AtLock l (locks.Leave Exclusive)) o (rw (is, called (rights w t)) (λ h. cc))
-        (may_happen (locks_of w) t l (locks.Leave Exclusive) purpose (calling purpose l false None (rights w t)) (ap (λ x. call_state x (rights w t)) is ∙ called (rights w t)) refl made own)
+        (may_happen (locks_of w) t l (locks.Leave Exclusive) purpose (calling purpose l false None (rights w t)) (ap (λ x. call_state x (rights w t)) is ∙ called (rights w t)) refl made own tt)
         (λ k. put_is (lock_state w) l _ k (lock_state v k) (λ e. rw e lock_left) (λ nl. lock_same w v t p p2 is moved stays k (others k nl)))
         left_rights (other_calls w v t p p2 is moved stays)
         (rw (moved.place, is, called (rights w t)) (goes ∙ ap (λ r. unless_ended o (has_left purpose r)) (λ i k. lost k i)))
@@ -419,7 +419,7 @@ module _ (w : State) (t l : ℕ) (p : Place) (is : place_at w t ≡ p) (shape : 
       (λ u. taken_set _ (rw at_check (λ k. refl)) u l) (λ k ne u. taken_set _ (rw at_check (λ k. refl)) u k)
       (λ i. record (lock_state w l) { queue = queued_behind (2 * l) t Exclusive (queue_at w (2 * l)) i })
       (rw (is, at_check) (λ h. cc))
-      (may_happen (locks_of w) t l (locks.Park Exclusive) (entry_purpose l entry) _ (ap (λ x. call_state x (rights w t)) (is ∙ at_check)) refl (parks_by l entry) (rw (mutex kind) ((tt, owned), stands_nowhere)))
+      (may_happen (locks_of w) t l (locks.Park Exclusive) (entry_purpose l entry) _ (ap (λ x. call_state x (rights w t)) (is ∙ at_check)) refl (parks_by l entry) (rw (mutex kind) ((tt, owned), stands_nowhere)) tt)
       (calls_set _) (rw (is, at_check) (λ i. calling (entry_purpose l entry) l (is_bump entry) (no_retry i) (rights w t))) tt)
     where
       nowhere : queued (place_at w t) ≡ None
@@ -432,10 +432,10 @@ module _ (w : State) (t l : ℕ) (p : Place) (is : place_at w t ≡ p) (shape : 
       stands_nowhere = rw (queued_times t (queue_at w (2 * l)), absent w t sound nowhere l, only.aside l, is, at_check) refl
 
   -- it leaves the queue
-  pub gives_up : (entry : Entry) (retries : Bool) (a : LockAt) → p ≡ Mutex l (Lock entry retries Remove) → is_timed entry ≡ true → gave_up_at l a ≡ Some l → is_handed a ≡ false → ((k : ℕ) → taken_at (Mutex l (Lock entry retries a)) k ≡ None)
+  pub gives_up : (entry : Entry) (retries : Bool) (a : LockAt) → p ≡ Mutex l (Lock entry retries Remove) → is_timed entry ≡ true → gave_up_at l a ≡ Some l → late_at a ≡ true → is_handed a ≡ false → ((k : ℕ) → taken_at (Mutex l (Lock entry retries a)) k ≡ None)
       → (v : State) → v ≡ put (record w { queues = removed w.queues t }) t (Mutex l (Lock entry retries a)) → OnlyMutexes v
       → GoesOn (locks_of w) t outcome.TheVariants.Step (locks_of v)
-  gives_up entry retries a at_remove late given unhanded untaken v led only_after = rw led (queue_steps w (put (record w { queues = removed w.queues t }) t (Mutex l (Lock entry retries a))) t l (without t (queue_at w (2 * l)))
+  gives_up entry retries a at_remove late given still_late unhanded untaken v led only_after = rw led (queue_steps w (put (record w { queues = removed w.queues t }) t (Mutex l (Lock entry retries a))) t l (without t (queue_at w (2 * l)))
       (record {
         threads = length-set w.places t _;
         owners = λ k. refl;
@@ -447,8 +447,8 @@ module _ (w : State) (t l : ℕ) (p : Place) (is : place_at w t ≡ p) (shape : 
       (λ u. taken_set _ (rw at_remove untaken) u l) (λ k ne u. taken_set _ (rw at_remove untaken) u k)
       (λ i. record (lock_state w l) { queue = queued_without t (queue_at w (2 * l)) i; aside = none_aside i })
       (rw (is, at_remove) (λ h. cc))
-      (may_happen (locks_of w) t l locks.Late (entry_purpose l entry) _ (ap (λ x. call_state x (rights w t)) (is ∙ at_remove)) refl (late_by l entry late) stands)
-      (calls_set _) (rw (is, at_remove) (λ i. record { purpose = Some (entry_purpose l entry); former = before_entry l (is_bump entry) (unhanded i) (rights w t); gave_up = given i; retries = if retries then Some l else None; released = is_bump entry })) tt)
+      (may_happen (locks_of w) t l locks.Late (entry_purpose l entry) _ (ap (λ x. call_state x (rights w t)) (is ∙ at_remove)) refl (late_by l entry late) stands refl)
+      (calls_set _) (rw (is, at_remove) (λ i. record { purpose = Some (entry_purpose l entry); former = before_entry l (is_bump entry) (unhanded i) (rights w t); gave_up = given i; retries = if retries then Some l else None; released = is_bump entry; late = still_late i })) tt)
     where
       here_queued : queued (place_at w t) ≡ Some l
       here_queued = rw (is, at_remove) refl
@@ -482,7 +482,7 @@ module _ (w : State) (t l : ℕ) (p : Place) (is : place_at w t ≡ p) (shape : 
       (λ i. record (lock_state w l) { queue = queued_rest (queue_at w (2 * l)) i; taken = putting (λ x. taken_at (place_at w x) l) u (Some (record { by = t; want = Exclusive })) })
       (rw (is, called (rights w t)) (λ h. cc))
       (may_happen (locks_of w) t l (locks.TakeFirst (record { thread = u; want = Exclusive })) purpose (calling purpose l released None (rights w t)) (ap (λ x. call_state x (rights w t)) is ∙ called (rights w t)) refl made
-      (rw (mutex kind) ((map queued_of (drop 1 (queue_at w (2 * l))), first_is), taken_nobody w t sound none l, λ h. h)))
+      (rw (mutex kind) ((map queued_of (drop 1 (queue_at w (2 * l))), first_is), taken_nobody w t sound none l, λ h. h)) tt)
       calls_kept (rw (is, called (rights w t)) (calls (rights w t))) tt)
     where
       stands : queued (place_at w u) ≡ Some l
@@ -544,7 +544,7 @@ module _ (w : State) (t l : ℕ) (p : Place) (is : place_at w t ≡ p) (shape : 
       → GoesOn (locks_of w) t (outcome.TheVariants.End answer.TheVariants.Ok) (locks_of (put (befallen (filled_with w (One (2 * l)) None) u (Woken Normal)) t Idle))
   wakes_taken u entry retries at_taken at_leave fits sound_after = queue_steps w (put (befallen (filled_with w (One (2 * l)) None) u (Woken Normal)) t Idle) t l (queue_at w (2 * l)) same_queues
       locks.Wake (locks.let_go t (λ x. taken_at (place_at w x) l)) Idle (outcome.TheVariants.End answer.TheVariants.Ok) at_end
-      let_go elsewhere refl (rw (is, at_leave) (λ h. cc)) (rw (is, at_leave) ((refl, inl refl), tt))
+      let_go elsewhere refl (rw (is, at_leave) (λ h. cc)) (rw (is, at_leave) ((refl, inl refl), tt, tt))
       calls_woken refl
       (rw (is, at_leave) (
         (λ k. ap (λ r. one_more_at l Exclusive r k) (λ i x. queue_rights w (put (befallen (filled_with w (One (2 * l)) None) u (Woken Normal)) t Idle) t l (queue_at w (2 * l)) same_queues t x i)),

@@ -184,7 +184,7 @@ module _ (w v : State) (t l u : ℕ) (f : Op) (bumps none_left : Bool) (sound : 
   others_call : (x : ℕ) → x ≢ t → call_state (place_at v x) (rights v x)
       ≡ (if is_taken_by t (taken_at (place_at w x) l) then record (call_state (place_at w x) (rights w x)) { retries = None } else call_state (place_at w x) (rights w x))
   others_call x nt = elim (cases_eq x u) [
-    | inl e ↦ rw (e, place_u, taken_there.is, same l, same t) (λ i. record { purpose = Some (entry_purpose l taken_there.entry); former = former_same (is_bump taken_there.entry) i; gave_up = None; retries = None; released = is_bump taken_there.entry })
+    | inl e ↦ rw (e, place_u, taken_there.is, same l, same t) (λ i. record { purpose = Some (entry_purpose l taken_there.entry); former = former_same (is_bump taken_there.entry) i; gave_up = None; retries = None; released = is_bump taken_there.entry; late = false })
     | inr nu ↦ ap (λ y. call_state y (rights v x)) (place_x x nt nu) ∙ ap (call_state (place_at w x)) (λ i k. same_rights x nt nu k i)
         ∙ sym (ap (λ b. if b then record (call_state (place_at w x) (rights w x)) { retries = None } else call_state (place_at w x) (rights w x)) (untaken x nu))
   ]
@@ -202,7 +202,7 @@ module _ (w v : State) (t l u : ℕ) (f : Op) (bumps none_left : Bool) (sound : 
   hands = goes_by w v t (AtLock l (locks.HandOff Exclusive (Some (record { thread = u; want = Exclusive })))) outcome.TheVariants.Step
       (rw is (λ h. cc))
       (may_happen (locks_of w) t l (locks.HandOff Exclusive (Some (record { thread = u; want = Exclusive }))) (release_purpose l bumps) (calling (release_purpose l bumps) l false None (rights w t))
-      (ap (λ x. call_state x (rights w t)) is) refl (hands_by l bumps _) (own, (λ h. cc), successor, tt))
+      (ap (λ x. call_state x (rights w t)) is) refl (hands_by l bumps _) (own, (λ h. cc), successor, tt) tt)
       (λ k. put_is (lock_state w) l _ k (lock_state v k)
       (λ e. rw e (lock_handed ∙ sym (handed_is (lock_state w l) t u (length w.places) refl (λ x. no_share t l (place_at w x)))))
       (λ ne. lock_other k ne))

@@ -1,17 +1,14 @@
 -- Runs of the world are runs of the abstract locks, and what holds of each of their states.
-use Rattle.std.proofs.Common.{ℕ, ◌≡◌, ◌+◌, ◌*◌, List, [], ◌∷◌, arith}
+use Rattle.std.proofs.Common.{ℕ, ◌≡◌, ◌+◌, ◌*◌, arith}
 use Rattle.lot_calls.specs.declared.calls.Step.{Step}
 use Rattle.lot_world.specs.Machine.{State, place_at, queue_at, after, answered}
 use Rattle.lot_world.specs.Fits.{IsShaped}
 use Rattle.lot_world.specs.Sound.{IsSound, queued, one_if}
-use Rattle.lot_world.proofs.Shape.{after_shaped}
-use Rattle.lot_world.proofs.Steady.{after_sound}
 use Rattle.abstract_locks.specs.Locks.{standing, one_if_some}
 use Rattle.abstract_locks.specs.Runs.{AreLockStates}
-use Rattle.lot_world.specs.Refinement.{locks_of, lock_state, Refines, taken_at}
+use Rattle.lot_world.specs.Refinement.{locks_of, lock_state, taken_at}
 use Rattle.lot_world.specs.OnlyMutexes.{OnlyMutexes}
 use Rattle.abstract_locks.proofs.Runs.{step_keeps}
-use Rattle.lot_world.proofs.OnlyMutexes.{after_only}
 use Rattle.lot_world.proofs.LockEvents.{queued_times}
 use Rattle.lot_world.proofs.LockSteps.{after_step}
 
@@ -19,12 +16,6 @@ use Rattle.lot_world.proofs.LockSteps.{after_step}
 
 pub after_locks : (w : State) (s : Step) → IsShaped w → IsSound w → OnlyMutexes w → AreLockStates (locks_of w) → AreLockStates (locks_of (after w s))
 after_locks w s shape sound only all = step_keeps (locks_of w) (locks_of (after w s)) s (answered w s) (after_step w s shape sound only) all
-
--- ---------------------------------------------------------------- runs
-
-pub refines : (w : State) (ss : List Step) → IsShaped w → IsSound w → OnlyMutexes w → Refines w ss
-refines w [] shape sound only = tt
-refines w (s ∷ ss) shape sound only = (after_step w s shape sound only, refines (after w s) ss (after_shaped w s shape) (after_sound w s shape sound) (after_only w s only))
 
 -- ---------------------------------------------------------------- where a thread stands, by its place
 

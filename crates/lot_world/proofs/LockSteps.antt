@@ -1,5 +1,5 @@
 -- Each act of a thread, place by place, is a step of the abstract locks.
-use Rattle.std.proofs.Common.{ℕ, Bool, true, false, Option, Some, None, if◌then◌else◌, ◌==◌, ◌&&◌, not, ◌≡◌, ◌≢◌, ◌+◌, ◌-◌, ◌*◌, ◌≤◌, ◌<◌, inl, inr, List, [], length, get_or, set, drop, refl, sym, ◌∙◌, ap, subst, arith, get_or-set_other, get_or-set_same, length-set, nat_lt}
+use Rattle.std.proofs.Common.{ℕ, Bool, true, false, Option, Some, None, if◌then◌else◌, ◌==◌, ◌&&◌, not, ◌≡◌, ◌≢◌, ◌+◌, ◌-◌, ◌*◌, ◌≤◌, ◌<◌, ◌↔◌, inl, inr, List, [], length, get_or, set, drop, refl, sym, ◌∙◌, ap, subst, arith, get_or-set_other, get_or-set_same, length-set, nat_lt}
 use Rattle.std.proofs.lemmas.Bool.{cases_eq, eqb-true, ltb-true, lt-ltb}
 use Rattle.lot_base.specs.declared.keys.Keys.TheVariants.{One}
 use Rattle.lot_base.specs.declared.ops.Op.{Op}
@@ -24,6 +24,7 @@ use Rattle.lot_calls.specs.declared.calls.Turn as turn
 use Rattle.lot_calls.specs.declared.calls.Step.{Step}
 use Rattle.lot_calls.specs.declared.calls.MutexCall.{MutexCall}
 use Rattle.lot_calls.specs.declared.calls.MutexCall as mutex_call
+use Rattle.lot_calls.specs.Calls.{lock_in}
 use Rattle.lot_calls.specs.Kinds.{has_call, is_fair}
 use Rattle.lot_calls.specs.declared.outcomes.Outcome.{Outcome}
 use Rattle.lot_calls.specs.declared.outcomes.Outcome as outcome
@@ -42,20 +43,21 @@ use Rattle.lot_steps.specs.declared.places.Place.{Place}
 use Rattle.lot_steps.specs.declared.places.Place.TheVariants.{Idle, Mutex}
 use Rattle.lot_steps.specs.Acts.{outcome_of}
 use Rattle.lot_steps.specs.MutexSteps.{is_thread, mutex_first, mutex_right, is_locked, is_parked, is_timed, with_exclusive, entered, looked, in_lock, in_unlock, in_hand_off, lock_act, unlock_act, hand_off_word, hand_off_act}
-use Rattle.lot_steps.specs.Steps.{act_of, next_place, next_act, mutex_goes, mutex_does, owners_after, spin_lock, late_key, is_idle, has_right}
-use Rattle.lot_world.specs.Machine.{State, unlocked, place_at, word_at, owners_at, kind_at, queue_at, put, operated, appended, removed, first_taken, taken_by, befallen, filled_with, reply_to, can_do, is_there, spun_on, late_on, is_free_under, begun, can_begin, is_open_to, can_turn, turned, turn_outcome, is_possible, after, answered}
+use Rattle.lot_steps.specs.Steps.{act_of, next_place, next_act, mutex_goes, mutex_does, owners_after, spin_lock, late_key, is_idle, has_right, first_place}
+use Rattle.lot_world.specs.Machine.{State, unlocked, place_at, word_at, owners_at, kind_at, queue_at, section_at, put, performed, go_reply, operated, appended, removed, first_taken, taken_by, befallen, filled_with, reply_to, can_do, is_there, spun_on, late_on, is_free_under, begun, can_begin, is_open_to, can_turn, turned, turn_outcome, is_possible, after, answered}
 use Rattle.lot_world.specs.declared.machine.Lock.{Lock as WorldLock}
 use Rattle.lot_world.specs.Fits.{IsShaped, SameSize, PlaceFits, SomeBelow, taken_in}
 use Rattle.lot_world.specs.Promises.{Codes}
 use Rattle.lot_world.specs.Sound.{IsSound, owner_at, Taking, handed_over, IsTakenBy, Carries, holds}
 use Rattle.lot_world.proofs.Counts.{none_first}
-use Rattle.lot_world.proofs.Shape.{after_size, both, main_line_there}
+use Rattle.lot_world.proofs.Shape.{after_size, both, main_line_there, performed_counts}
+use Rattle.lot_world.proofs.Possible.{may_go, go_possible, may_be_late, late_possible, told_gone, told_step, begins_awake, no_closure, turner_there, gone_sections, spun_sections, late_sections, spun_awake, late_awake}
 use Rattle.lot_world.proofs.Steady.{IsHandedAt, is_handed, after_sound, go_by, idle_is}
 use Rattle.abstract_locks.specs.Locks.{LockState, Rules, Rights, Owns, HasTakenNobody, rights_of, with_right, without_right, standing}
 use Rattle.abstract_locks.specs.Locks as locks
-use Rattle.abstract_locks.specs.Runs.{LocksState, GoesOn, Begins, MayBegin, HasRight, Turned, IsStep, beginning, Agrees, AnswerHolds, unless_ended, rules_at, one_more_at, one_less_at}
+use Rattle.abstract_locks.specs.Runs.{LocksState, CallState, GoesOn, Stays, Does, SectionChanges, MayBegin, MayTurn, HasRight, Turned, IsStep, purpose_at, beginning, Agrees, AnswerHolds, unless_ended, rules_at, one_more_at, one_less_at}
 use Rattle.abstract_locks.specs.Purposes.{Purpose, Enters, Releases, Try, rules_of, purpose_of, mutex_purpose, IsMadeOf}
-use Rattle.lot_world.specs.Refinement.{lock_state, taken_at, is_bump, entry_purpose, release_purpose, call_state, locks_of}
+use Rattle.lot_world.specs.Refinement.{lock_state, taken_at, is_bump, entry_purpose, release_purpose, call_state, locks_of, sleeps}
 use Rattle.lot_world.specs.OnlyMutexes.{OnlyMutexes, CallFits, is_mutex}
 use Rattle.lot_world.proofs.OnlyMutexes.{operated_kinds, after_kinds, after_only, calls_mutex}
 use Rattle.lot_world.proofs.LockEvents.{same_place, Moved, Got, quiet, lock_same, enters, enters_by, leaves, leaves_by, parks, gives_up, takes, takes_by, wakes, rights, mutex_rules, mutex_rules_of, differ, calling, taken_nobody, same, queued_times, own_counts, put_is}
@@ -199,8 +201,8 @@ module _ (w : State) (t : ℕ) (shape : IsShaped w) (sound : IsSound w) (only : 
     remove_goes : (entry : Entry) (retries : Bool) → place_at w t ≡ Mutex l (Lock entry retries Remove) → is_timed entry ≡ true → (b : Bool)
         → OnlyMutexes (put (record w { queues = removed w.queues t }) t (next_place (Mutex l (Lock entry retries Remove)) (Removed b)))
         → GoesOn (locks_of w) t (outcome_of (next_act (Mutex l (Lock entry retries Remove)) (Removed b))) (locks_of (put (record w { queues = removed w.queues t }) t (next_place (Mutex l (Lock entry retries Remove)) (Removed b))))
-    remove_goes entry retries is late true only_after = gives_up w t l (Mutex l (Lock entry retries Remove)) is shape sound only there lt entry retries Clear refl late refl refl (λ k. refl) _ refl only_after
-    remove_goes entry retries is late false only_after = gives_up w t l (Mutex l (Lock entry retries Remove)) is shape sound only there lt entry retries GiveUp refl late refl refl (λ k. refl) _ refl only_after
+    remove_goes entry retries is late true only_after = gives_up w t l (Mutex l (Lock entry retries Remove)) is shape sound only there lt entry retries Clear refl late refl refl refl (λ k. refl) _ refl only_after
+    remove_goes entry retries is late false only_after = gives_up w t l (Mutex l (Lock entry retries Remove)) is shape sound only there lt entry retries GiveUp refl late refl refl refl (λ k. refl) _ refl only_after
 
     -- it has given up, and owns what it owned
     gave_up_goes : (entry : Entry) (retries : Bool) → is_timed entry ≡ true → place_at w t ≡ Mutex l (Lock entry retries GiveUp) → IsSound (put (filled_with w (One (2 * l)) None) t Idle)
@@ -414,18 +416,29 @@ module _ (w : State) (t : ℕ) (shape : IsShaped w) (sound : IsSound w) (only : 
   go_goes (Mutex l (HandOff bumps a)) is fits calls can s o = hand_off_goes l fits.0 calls.0 bumps a is fits.1 s o
 
   -- the place alone changes
-  placed_goes : (b : State) (p p2 : Place) → b.places ≡ w.places → b.queues ≡ w.queues → b.locks ≡ w.locks → place_at w t ≡ p → ((k : ℕ) → taken_at p2 k ≡ taken_at p k) → (call_state p (rights w t)).purpose ≢ None
-      → ((r : ℕ → Rights) → call_state p2 r ≡ call_state p r) → IsSound (put b t p2) → GoesOn (locks_of w) t outcome.TheVariants.Step (locks_of (put b t p2))
-  placed_goes b p p2 places queues locks is stays called goes s = quiet w (put b t p2) t p p2 is
-      (moved_by b p2 places queues (λ k. ap (λ (x : List WorldLock). (get_or x k (unlocked kind.TheVariants.Mutex)).kind) locks) s) stays outcome.TheVariants.Step
-      (λ k. ap (λ (x : List WorldLock). (get_or x k (unlocked kind.TheVariants.Mutex)).owners) locks) called goes (λ stay. tt)
+  placed : (b : State) (p p2 : Place) → b.places ≡ w.places → b.queues ≡ w.queues → b.locks ≡ w.locks → place_at w t ≡ p → ((k : ℕ) → taken_at p2 k ≡ taken_at p k) → IsSound (put b t p2)
+      → (c : CallState) → ((r : ℕ → Rights) → r ≡ rights w t → call_state p2 r ≡ c) → Stays (locks_of w) t c outcome.TheVariants.Step (locks_of (put b t p2))
+  placed b p p2 places queues locks is stays s c called = record {
+    told = refl;
+    locks = same_locks;
+    calls = λ u. put_is (λ x. call_state (place_at w x) (rights w x)) t c u _
+        (λ e. rw (e, moved.place) (called (rights (put b t p2) t) (λ i k. rights_of (same_locks k i) t)))
+        (λ ne. (moved.others u ne).calls (rights (put b t p2) u) ∙ ap (call_state (place_at w u)) (λ i k. rights_of (same_locks k i) u));
+  }
+    where
+      moved : Moved w (put b t p2) t p2
+      moved = moved_by b p2 places queues (λ k. ap (λ (x : List WorldLock). (get_or x k (unlocked kind.TheVariants.Mutex)).kind) locks) s
 
-  spin_goes : (p : Place) → place_at w t ≡ p → is_there (spin_lock p) ≡ true → IsSound (spun_on w t (spin_lock p)) → GoesOn (locks_of w) t outcome.TheVariants.Step (locks_of (spun_on w t (spin_lock p)))
+      same_locks : (k : ℕ) → lock_state (put b t p2) k ≡ lock_state w k
+      same_locks k = lock_same w (put b t p2) t p p2 is moved stays k (ap (λ (x : List WorldLock). (get_or x k (unlocked kind.TheVariants.Mutex)).owners) locks)
+
+  spin_goes : (p : Place) → place_at w t ≡ p → is_there (spin_lock p) ≡ true → IsSound (spun_on w t (spin_lock p)) → Stays (locks_of w) t (call_state p (rights w t)) outcome.TheVariants.Step (locks_of (spun_on w t (spin_lock p)))
   spin_goes Idle is can s = absurd cc
   spin_goes (Mutex l (Lock entry retries (Decide x))) is can s = either (x == 1) can s
     where
-      either : (b : Bool) → is_there (if b then Some l else None) ≡ true → IsSound (spun_on w t (if b then Some l else None)) → GoesOn (locks_of w) t outcome.TheVariants.Step (locks_of (spun_on w t (if b then Some l else None)))
-      either true can s = placed_goes w (Mutex l (Lock entry retries (Decide x))) (next_place (place_at w t) (Spun (word_at w l))) refl refl refl is (rw is (λ k. refl)) (λ h. cc) (rw is (λ r. refl)) s
+      either : (b : Bool) → is_there (if b then Some l else None) ≡ true → IsSound (spun_on w t (if b then Some l else None))
+          → Stays (locks_of w) t (call_state (Mutex l (Lock entry retries (Decide x))) (rights w t)) outcome.TheVariants.Step (locks_of (spun_on w t (if b then Some l else None)))
+      either true can s = placed w (Mutex l (Lock entry retries (Decide x))) (next_place (place_at w t) (Spun (word_at w l))) refl refl refl is (rw is (λ k. refl)) s _ (rw is (λ r e. rw e refl))
       either false can s = absurd cc
   spin_goes (Mutex l (Lock entry retries First)) is can s = absurd cc
   spin_goes (Mutex l (Lock entry retries a)) is can s = absurd cc
@@ -435,9 +448,10 @@ module _ (w : State) (t : ℕ) (shape : IsShaped w) (sound : IsSound w) (only : 
   spin_goes (Mutex l Bump) is can s = absurd cc
   spin_goes (Mutex l (HandOff bumps a)) is can s = absurd cc
 
-  late_goes : (p : Place) → place_at w t ≡ p → is_free_under w (late_key p) ≡ true → IsSound (late_on w t (late_key p)) → GoesOn (locks_of w) t outcome.TheVariants.Step (locks_of (late_on w t (late_key p)))
+  late_goes : (p : Place) → place_at w t ≡ p → is_free_under w (late_key p) ≡ true → IsSound (late_on w t (late_key p))
+      → Stays (locks_of w) t (record (call_state p (rights w t)) { late = true }) outcome.TheVariants.Step (locks_of (late_on w t (late_key p)))
   late_goes Idle is can s = absurd cc
-  late_goes (Mutex l (Lock entries.LockTimed retries Asleep)) is can s = placed_goes (filled_with w (One (2 * l)) (Some t)) (Mutex l (Lock entries.LockTimed retries Asleep)) (next_place (place_at w t) reply.Late) refl refl refl is (rw is (λ k. refl)) (λ h. cc) (rw is (λ r. refl)) s
+  late_goes (Mutex l (Lock entries.LockTimed retries Asleep)) is can s = placed (filled_with w (One (2 * l)) (Some t)) (Mutex l (Lock entries.LockTimed retries Asleep)) (next_place (place_at w t) reply.Late) refl refl refl is (rw is (λ k. refl)) s _ (rw is (λ r e. rw e refl))
   late_goes (Mutex l (Lock entries.Lock retries Asleep)) is can s = absurd cc
   late_goes (Mutex l (Lock entries.Bump retries Asleep)) is can s = absurd cc
   late_goes (Mutex l (Lock entry retries First)) is can s = absurd cc
@@ -512,15 +526,18 @@ module _ (w : State) (t l : ℕ) where
   untaken_first fair mutex_call.TheVariants.UnlockFair k = refl
   untaken_first fair mutex_call.TheVariants.Bump k = refl
 
-begin_goes : (w : State) (t : ℕ) (c : Call) → t < length w.places → can_begin w t c ≡ true → IsSound (begun w t c) → Begins (locks_of w) t c outcome.TheVariants.Step (locks_of (begun w t c))
-begin_goes w t (call.TheVariants.Mutex l c) there can s = record {
-  may = record { thread = there; idle = rw idle refl; lock = ltb-true l (length w.locks) open_to.0; right = rw (purpose_is (kind_at w l) l c is_kind) (right_held w t l (is_fair (kind_at w l)) c held.1) };
-  told = refl;
-  locks = unchanged;
-  calls = λ u. put_is (λ x. call_state (place_at w x) (rights w x)) t _ u _
-      (λ e. rw (e, get_or-set_same w.places t (Mutex l (mutex_first (is_fair (kind_at w l)) c)) Idle there, purpose_is (kind_at w l) l c is_kind) (begins_with w t l (is_fair (kind_at w l)) c _ ∙ ap (beginning (Some (mutex_purpose (is_fair (kind_at w l)) l c))) (λ i k. rights_of (unchanged k i) t)))
-      (λ ne. ap (λ p. call_state p (rights (begun w t (call.TheVariants.Mutex l c)) u)) (get_or-set_other w.places t u (Mutex l (mutex_first (is_fair (kind_at w l)) c)) Idle ne) ∙ ap (call_state (place_at w u)) (λ i k. rights_of (unchanged k i) u));
-}
+begin_goes : (w : State) (t : ℕ) (c : Call) → t < length w.places → can_begin w t c ≡ true → IsSound (begun w t c)
+    → MayBegin (locks_of w) t c × Stays (locks_of w) t (beginning (purpose_at (locks_of w) c) (rights w t)) outcome.TheVariants.Step (locks_of (begun w t c))
+begin_goes w t (call.TheVariants.Mutex l c) there can s = (
+  record { thread = there; idle = rw idle refl; lock = ltb-true l (length w.locks) open_to.0; right = rw (purpose_is (kind_at w l) l c is_kind) (right_held w t l (is_fair (kind_at w l)) c held.1) },
+  record {
+    told = refl;
+    locks = unchanged;
+    calls = λ u. put_is (λ x. call_state (place_at w x) (rights w x)) t _ u _
+        (λ e. rw (e, get_or-set_same w.places t (Mutex l (mutex_first (is_fair (kind_at w l)) c)) Idle there, purpose_is (kind_at w l) l c is_kind) (begins_with w t l (is_fair (kind_at w l)) c _ ∙ ap (beginning (Some (mutex_purpose (is_fair (kind_at w l)) l c))) (λ i k. rights_of (unchanged k i) t)))
+        (λ ne. ap (λ p. call_state p (rights (begun w t (call.TheVariants.Mutex l c)) u)) (get_or-set_other w.places t u (Mutex l (mutex_first (is_fair (kind_at w l)) c)) Idle ne) ∙ ap (call_state (place_at w u)) (λ i k. rights_of (unchanged k i) u));
+  },
+)
   where
     own : Call
     own = call.TheVariants.Mutex l c
@@ -547,7 +564,7 @@ begin_goes w t (call.TheVariants.Mutex l c) there can s = record {
       sound = s;
     }) (untaken_first w t l (is_fair (kind_at w l)) c) k refl
 
--- a call that can't begin may not
+-- a call that may begin can
 begin_refused : (w : State) (t : ℕ) (c : Call) → can_begin w t c ≡ false → MayBegin (locks_of w) t c → ⊥
 begin_refused w t (call.TheVariants.Mutex l c) cannot may = let idle : is_idle (place_at w t) ≡ true = no_call_idle (place_at w t) (rights w t) may.idle in
     let there : nat_lt l (length w.locks) ≡ true = lt-ltb l (length w.locks) may.lock in either (has_call (kind_at w l) (call.TheVariants.Mutex l c)) refl idle there
@@ -558,38 +575,80 @@ begin_refused w t (call.TheVariants.Mutex l c) cannot may = let idle : is_idle (
         let right : HasRight (locks_of w) t (Some (mutex_purpose (is_fair (kind_at w l)) l c)) = subst (HasRight (locks_of w) t) (purpose_is (kind_at w l) l c is_kind) may.right in
         let held : mutex_right c t (owners_at w l) ≡ true = right_needed w t l (is_fair (kind_at w l)) c right in cc
 
+begin_possible : (w : State) (t : ℕ) (c : Call) → MayBegin (locks_of w) t c → can_begin w t c ≡ true
+begin_possible w t c may = either (can_begin w t c) refl
+  where
+    either : (b : Bool) → can_begin w t c ≡ b → can_begin w t c ≡ true
+    either true e = e
+    either false e = absurd (begin_refused w t c e may)
+
 -- ---------------------------------------------------------------- steps
 
 module _ (w : State) (t : ℕ) (shape : IsShaped w) (sound : IsSound w) (only : OnlyMutexes w) (there : t < length w.places) where
-  turned_goes : (x : Turn) → can_turn w t x ≡ true → IsSound (turned w t x) → OnlyMutexes (turned w t x) → Turned (locks_of w) t x (turn_outcome w t x) (locks_of (turned w t x))
-  turned_goes (turn.TheVariants.Begin c) can s o = inl (begin_goes w t c there can s)
-  turned_goes turn.TheVariants.Go can s o = inl (go_goes w t shape sound only there (place_at w t) refl (shape.places t) (only.calls t) can s o)
-  turned_goes turn.TheVariants.Spin can s o = inl (spin_goes w t shape sound only there (place_at w t) refl can s)
-  turned_goes turn.TheVariants.Late can s o = inl (late_goes w t shape sound only there (place_at w t) refl can s)
-  turned_goes turn.TheVariants.Ok can s o = absurd cc
-  turned_goes turn.TheVariants.Err can s o = absurd cc
+  turned_does : (x : Turn) → can_turn w t x ≡ true → IsSound (turned w t x) → OnlyMutexes (turned w t x)
+      → MayTurn (locks_of w) t x × Does (locks_of w) t x (turn_outcome w t x) (locks_of (turned w t x))
+  turned_does (turn.TheVariants.Begin c) can s o = begin_goes w t c there can s
+  turned_does turn.TheVariants.Go can s o = (may_go w t can, go_goes w t shape sound only there (place_at w t) refl (shape.places t) (only.calls t) can s o)
+  turned_does turn.TheVariants.Spin can s o = (can, spin_goes w t shape sound only there (place_at w t) refl can s)
+  turned_does turn.TheVariants.Late can s o = (may_be_late w t sound only can, late_goes w t shape sound only there (place_at w t) refl can s)
+  turned_does turn.TheVariants.Ok can s o = absurd cc
+  turned_does turn.TheVariants.Err can s o = absurd cc
 
-refused : (w : State) (t : ℕ) (x : Turn) → ((c : Call) → x ≡ turn.TheVariants.Begin c → MayBegin (locks_of w) t c → ⊥) → Turned (locks_of w) t x outcome.TheVariants.NotNow (locks_of w)
-refused w t (turn.TheVariants.Begin c) none = inr (none c refl, (refl, refl))
-refused w t turn.TheVariants.Go none = inr (refl, refl)
-refused w t turn.TheVariants.Spin none = inr (refl, refl)
-refused w t turn.TheVariants.Late none = inr (refl, refl)
-refused w t turn.TheVariants.Ok none = inr (refl, refl)
-refused w t turn.TheVariants.Err none = inr (refl, refl)
+-- a turn that may be taken is possible
+module _ (w : State) (t : ℕ) (sound : IsSound w) (only : OnlyMutexes w) where
+  possible : (x : Turn) → MayTurn (locks_of w) t x → can_turn w t x ≡ true
+  possible (turn.TheVariants.Begin c) may = begin_possible w t c may
+  possible turn.TheVariants.Go may = go_possible w t may
+  possible turn.TheVariants.Spin may = may
+  possible turn.TheVariants.Late may = late_possible w t sound only may
+  possible turn.TheVariants.Ok may = absurd (no_closure w t may)
+  possible turn.TheVariants.Err may = absurd (no_closure w t may)
 
--- a begin that isn't possible may not be
-impossible_begin : (w : State) (t : ℕ) (x : Turn) → (nat_lt t (length w.places) && can_turn w t x) ≡ false → (c : Call) → x ≡ turn.TheVariants.Begin c → MayBegin (locks_of w) t c → ⊥
-impossible_begin w t x stuck c e may = let there : nat_lt t (length w.places) ≡ true = lt-ltb t (length w.places) may.thread in
-    let cannot : can_begin w t c ≡ false = rw (there, e) at stuck in begin_refused w t c cannot may
+  stuck : (x : Turn) → (nat_lt t (length w.places) && can_turn w t x) ≡ false → MayTurn (locks_of w) t x → ⊥
+  stuck x cannot may = let there : nat_lt t (length w.places) ≡ true = lt-ltb t (length w.places) (turner_there w t x may) in
+      let can : can_turn w t x ≡ true = possible x may in let e : true ≡ false = rw (there, can) at cannot in cc
+
+-- sections, and what the thread is told
+module _ (w : State) (t : ℕ) (shape : IsShaped w) (sound : IsSound w) (there : t < length w.places) where
+  turned_sections : (x : Turn) → can_turn w t x ≡ true → (key : ℕ) → SectionChanges (section_at w key) t (section_at (turned w t x) key)
+  turned_sections (turn.TheVariants.Begin c) can key = inl refl
+  turned_sections turn.TheVariants.Go can key = gone_sections w t shape sound can key
+  turned_sections turn.TheVariants.Spin can key = inl (spun_sections w t (spin_lock (place_at w t)) key)
+  turned_sections turn.TheVariants.Late can key = late_sections w t shape (place_at w t) refl (shape.places t) can key
+  turned_sections turn.TheVariants.Ok can key = absurd cc
+  turned_sections turn.TheVariants.Err can key = absurd cc
+
+  put_sleeps : (b : State) (p : Place) → length b.places ≡ length w.places → sleeps (act_of (place_at (put b t p) t)) ≡ sleeps (act_of p)
+  put_sleeps b p size = ap (λ q. sleeps (act_of q)) (get_or-set_same b.places t p Idle (rw size there))
+
+  turned_told : (x : Turn) → can_turn w t x ≡ true → (turn_outcome w t x ≡ outcome.TheVariants.Sleep) ↔ (sleeps (act_of (place_at (turned w t x) t)) ≡ true)
+  turned_told (turn.TheVariants.Begin c) can = told_step _ (put_sleeps w (first_place (kind_at w (lock_in c)) c) refl ∙ begins_awake (kind_at w (lock_in c)) c)
+  turned_told turn.TheVariants.Go can = rw (put_sleeps (performed w t (place_at w t) (act_of (place_at w t))) (next_place (place_at w t) (go_reply w t)) (performed_counts w t (place_at w t) (act_of (place_at w t))).0)
+      (told_gone (place_at w t) (go_reply w t))
+  turned_told turn.TheVariants.Spin can = told_step _ (spun_awake w t there (place_at w t) refl can)
+  turned_told turn.TheVariants.Late can = told_step _ (late_awake w t there (place_at w t) refl can)
+  turned_told turn.TheVariants.Ok can = absurd cc
+  turned_told turn.TheVariants.Err can = absurd cc
 
 pub after_step : (w : State) (s : Step) → IsShaped w → IsSound w → OnlyMutexes w → IsStep (locks_of w) s (answered w s) (locks_of (after w s))
-after_step w s shape sound only = (record { threads = size.threads; size = size.locks; kinds = after_kinds w s }, either (is_possible w s) refl (after_sound w s shape sound) (after_only w s only))
+after_step w s shape sound only = (record { threads = size.threads; size = size.locks; kinds = after_kinds w s; sections = sections (is_possible w s) refl; told = told (is_possible w s) refl }, either (is_possible w s) refl (after_sound w s shape sound) (after_only w s only))
   where
     size : SameSize w (after w s)
     size = after_size w s
 
+    parts : is_possible w s ≡ true → (s.thread < length w.places) × (can_turn w s.thread s.turn ≡ true)
+    parts can = let h = both (nat_lt s.thread (length w.places)) (can_turn w s.thread s.turn) can in (ltb-true s.thread (length w.places) h.0, h.1)
+
+    sections : (b : Bool) → is_possible w s ≡ b → (key : ℕ) → SectionChanges (section_at w key) s.thread (section_at (if b then turned w s.thread s.turn else w) key)
+    sections true can key = turned_sections w s.thread shape sound (parts can).0 s.turn (parts can).1 key
+    sections false cannot key = inl refl
+
+    told : (b : Bool) → is_possible w s ≡ b → (if b then turn_outcome w s.thread s.turn else outcome.TheVariants.NotNow) ≢ outcome.TheVariants.NotNow
+        → ((if b then turn_outcome w s.thread s.turn else outcome.TheVariants.NotNow) ≡ outcome.TheVariants.Sleep) ↔ (sleeps (act_of (place_at (if b then turned w s.thread s.turn else w) s.thread)) ≡ true)
+    told true can ne = turned_told w s.thread shape sound (parts can).0 s.turn (parts can).1
+    told false cannot ne = absurd (ne refl)
+
     either : (b : Bool) → is_possible w s ≡ b → IsSound (if b then turned w s.thread s.turn else w) → OnlyMutexes (if b then turned w s.thread s.turn else w)
         → Turned (locks_of w) s.thread s.turn (if b then turn_outcome w s.thread s.turn else outcome.TheVariants.NotNow) (locks_of (if b then turned w s.thread s.turn else w))
-    either true can after_is o = let parts = both (nat_lt s.thread (length w.places)) (can_turn w s.thread s.turn) can in
-        turned_goes w s.thread shape sound only (ltb-true s.thread (length w.places) parts.0) s.turn parts.1 after_is o
-    either false cannot after_is o = refused w s.thread s.turn (impossible_begin w s.thread s.turn cannot)
+    either true can after_is o = inl (turned_does w s.thread shape sound only (parts can).0 s.turn (parts can).1 after_is o)
+    either false cannot after_is o = inr (stuck w s.thread sound only s.turn cannot, (refl, refl))

@@ -35,12 +35,9 @@ use Rattle.lot_steps.specs.Steps.{act_of, next_place, first_place, spin_lock, la
 use Rattle.lot_world.specs.Machine.{State, unlocked, place_at, word_at, queue_at, section_at, put, operated, filled_with, appended, removed, first_taken, taken_by, awakened, performed, spun_on, late_on, go_reply, turned, is_possible, after, kind_at}
 use Rattle.lot_world.specs.Sound.{IsSound, inside, queued, one_if}
 use Rattle.lot_world.proofs.Counts.{without_absent}
-use Rattle.lot_world.specs.Refinement.{ChangesOneThing, EachChangesOneThing}
+use Rattle.lot_world.specs.Refinement.{ChangesOneThing}
+use Rattle.lot_world.specs.WorldRuns.{IsUntouched, TouchesOnlyByGoing}
 use Rattle.lot_world.specs.OnlyMutexes.{OnlyMutexes}
-use Rattle.lot_world.specs.Fits.{IsShaped}
-use Rattle.lot_world.proofs.Shape.{after_shaped}
-use Rattle.lot_world.proofs.Steady.{after_sound}
-use Rattle.lot_world.proofs.OnlyMutexes.{after_only}
 
 -- each key is a main one or one of waiters aside
 parity : (n : ℕ) → ((k : ℕ) × (n ≡ 2 * k)) ⊎ ((k : ℕ) × (n ≡ 2 * k + 1))
@@ -190,6 +187,31 @@ one_thing w s sound only = either (is_possible w s)
     either true = turned_one w s.thread sound only s.turn
     either false = same_one w w s.thread (λ k. refl, λ key. refl)
 
-pub each_one_thing : (w : State) (ss : List Step) → IsShaped w → IsSound w → OnlyMutexes w → EachChangesOneThing w ss
-each_one_thing w [] shape sound only = tt
-each_one_thing w (s ∷ ss) shape sound only = (one_thing w s sound only, each_one_thing (after w s) ss (after_shaped w s shape) (after_sound w s shape sound) (after_only w s only))
+-- ---------------------------------------------------------------- turns that touch nothing
+
+spun_touches : (w : State) (t : ℕ) (o : Option ℕ) → IsUntouched w (spun_on w t o)
+spun_touches w t None = (λ l. refl, λ key. refl)
+spun_touches w t (Some l) = (λ l. refl, λ key. refl)
+
+late_touches : (w : State) (t : ℕ) (o : Option ℕ) → IsUntouched w (late_on w t o)
+late_touches w t None = (λ l. refl, λ key. refl)
+late_touches w t (Some key) = (λ l. refl, λ key. refl)
+
+turned_touches : (w : State) (t : ℕ) (x : Turn) → TouchesOnlyByGoing w x (turned w t x)
+turned_touches w t (turn.TheVariants.Begin c) = (λ l. refl, λ key. refl)
+turned_touches w t turn.TheVariants.Spin = spun_touches w t (spin_lock (place_at w t))
+turned_touches w t turn.TheVariants.Late = late_touches w t (late_key (place_at w t))
+turned_touches w t x = tt
+
+untouched : (w : State) (x : Turn) → TouchesOnlyByGoing w x w
+untouched w (turn.TheVariants.Begin c) = (λ l. refl, λ key. refl)
+untouched w turn.TheVariants.Spin = (λ l. refl, λ key. refl)
+untouched w turn.TheVariants.Late = (λ l. refl, λ key. refl)
+untouched w x = tt
+
+pub touches : (w : State) (s : Step) → TouchesOnlyByGoing w s.turn (after w s)
+touches w s = either (is_possible w s)
+  where
+    either : (b : Bool) → TouchesOnlyByGoing w s.turn (if b then turned w s.thread s.turn else w)
+    either true = turned_touches w s.thread s.turn
+    either false = untouched w s.turn

@@ -1,5 +1,5 @@
 -- What holds between steps, as callers are told it.
-use Rattle.std.proofs.Common.{All, ℕ, Bool, true, false, Option, Some, None, if◌then◌else◌, ◌==◌, ◌&&◌, not, ◌≡◌, ◌≢◌, ◌+◌, ◌*◌, ◌≤◌, ◌⊎◌, inl, inr, List, [], ◌∷◌, length, take, refl, ◌∙◌, ap, subst, arith, ◌↔◌, sym}
+use Rattle.std.proofs.Common.{All, ℕ, Bool, true, false, Option, Some, None, if◌then◌else◌, ◌==◌, ◌&&◌, not, ◌≡◌, ◌≢◌, ◌+◌, ◌*◌, ◌≤◌, ◌⊎◌, inl, inr, List, length, refl, ◌∙◌, ap, subst, arith, ◌↔◌, sym}
 use Rattle.lot_base.specs.declared.wants.Want.TheVariants.{Exclusive}
 use Rattle.lot_base.specs.declared.keys.Keys.TheVariants.{One}
 use Rattle.lot_base.specs.declared.ops.Op as op
@@ -22,7 +22,7 @@ use Rattle.lot_steps.specs.declared.places.Place.{Place}
 use Rattle.lot_steps.specs.declared.places.Place.TheVariants.{Idle, Mutex}
 use Rattle.lot_steps.specs.MutexSteps.{is_locked, lock_act, unlock_act, hand_off_act, lock_owes}
 use Rattle.lot_steps.specs.Steps.{act_of, owes_on, retries_on}
-use Rattle.lot_world.specs.Machine.{State, opening, kind_at, place_at, after, after_all, section_at}
+use Rattle.lot_world.specs.Machine.{State, opening, kind_at, place_at, after, section_at}
 use Rattle.lot_world.specs.Fits.{IsShaped}
 use Rattle.lot_world.specs.Sound.{IsSound, Taking, handed_over, Carries, queued, holds, inside, one_if}
 use Rattle.abstract_locks.specs.Runs.{AreLockStates, IsOpening}
@@ -30,8 +30,7 @@ use Rattle.abstract_locks.specs.Locks.{opening_lock, rights_of, Rights, one_if_s
 use Rattle.abstract_locks.specs.Purposes.{rules_of, Enters, Converts, Bumps, Purpose, MayWait, IsReleasing}
 use Rattle.lot_world.specs.Refinement.{locks_of, lock_state, lock_seen, taken_at, is_bump, entry_purpose, call_state}
 use Rattle.lot_world.specs.OnlyMutexes.{OnlyMutexes}
-use Rattle.lot_world.specs.Promises.{IsKept, IsKeptThroughout, GoesToWake, IsHandedOver}
-use Rattle.lot_world.proofs.Shape.{after_shaped}
+use Rattle.lot_world.specs.Promises.{IsKept, GoesToWake, IsHandedOver}
 use Rattle.lot_world.proofs.Steady.{after_sound, sound_of}
 use Rattle.lot_world.proofs.SitesPromise.{looked_after, parked as bit_set}
 use Rattle.lot_world.proofs.OpeningSites.{opening_steady}
@@ -248,28 +247,6 @@ module _ (w : State) (sound : IsSound w) (only : OnlyMutexes w) (all : AreLockSt
 
 pub kept_after : (w : State) (s : Step) → IsShaped w → IsSound w → OnlyMutexes w → AreLockStates (locks_of w) → IsKept (after w s)
 kept_after w s shape sound only all = kept (after w s) (after_sound w s shape sound) (after_only w s only) (after_locks w s shape sound only all)
-
--- ---------------------------------------------------------------- runs
-
-pub all_shaped : (w : State) (ss : List Step) → IsShaped w → IsShaped (after_all w ss)
-all_shaped w [] shape = shape
-all_shaped w (s ∷ ss) shape = all_shaped (after w s) ss (after_shaped w s shape)
-
-pub all_sound : (w : State) (ss : List Step) → IsShaped w → IsSound w → IsSound (after_all w ss)
-all_sound w [] shape sound = sound
-all_sound w (s ∷ ss) shape sound = all_sound (after w s) ss (after_shaped w s shape) (after_sound w s shape sound)
-
-pub all_only : (w : State) (ss : List Step) → OnlyMutexes w → OnlyMutexes (after_all w ss)
-all_only w [] only = only
-all_only w (s ∷ ss) only = all_only (after w s) ss (after_only w s only)
-
-pub all_locks : (w : State) (ss : List Step) → IsShaped w → IsSound w → OnlyMutexes w → AreLockStates (locks_of w) → AreLockStates (locks_of (after_all w ss))
-all_locks w [] shape sound only all = all
-all_locks w (s ∷ ss) shape sound only all = all_locks (after w s) ss (after_shaped w s shape) (after_sound w s shape sound) (after_only w s only) (after_locks w s shape sound only all)
-
-pub kept_throughout : (w : State) (ss : List Step) → IsShaped w → IsSound w → OnlyMutexes w → AreLockStates (locks_of w) → IsKeptThroughout w ss
-kept_throughout w ss shape sound only all n = let now : State = after_all w (take n ss) in
-    kept now (all_sound w (take n ss) shape sound) (all_only w (take n ss) only) (all_locks w (take n ss) shape sound only all)
 
 -- ---------------------------------------------------------------- the opening state
 

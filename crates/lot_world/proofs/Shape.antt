@@ -252,7 +252,7 @@ filled_counts : (w : State) (keys : Keys) (who : Option ℕ) → (length (filled
 filled_counts w (One key) who = (refl, refl)
 filled_counts w (Two first second) who = (refl, refl)
 
-performed_counts : (w : State) (t : ℕ) (p : Place) (act : Act) → (length (performed w t p act).places ≡ length w.places) × (length (performed w t p act).locks ≡ length w.locks)
+pub performed_counts : (w : State) (t : ℕ) (p : Place) (act : Act) → (length (performed w t p act).places ≡ length w.places) × (length (performed w t p act).locks ≡ length w.locks)
 performed_counts w t p (Word l f) = (refl, length-set w.locks l _)
 performed_counts w t p (HandOver l f u) = (length-set w.places u _, length-set w.locks l _)
 performed_counts w t p (Enter keys) = filled_counts w keys (Some t)

@@ -1,5 +1,5 @@
 -- A call whose thread steps alone: from each place, where it ends or falls asleep.
-use Rattle.std.proofs.Common.{ℕ, zero, suc, Bool, true, false, Option, Some, None, if◌then◌else◌, ◌==◌, ◌&&◌, not, ◌≡◌, ◌≢◌, ◌+◌, ◌*◌, ◌≤◌, ◌<◌, inl, inr, List, [], ◌∷◌, ◌++◌, length, get_or, drop, map, replicate, refl, sym, ◌∙◌, ap, subst, arith}
+use Rattle.std.proofs.Common.{ℕ, zero, suc, Bool, true, false, Option, Some, None, if◌then◌else◌, ◌==◌, ◌&&◌, not, ◌≡◌, ◌≢◌, ◌+◌, ◌*◌, ◌≤◌, ◌<◌, inl, inr, List, [], ◌∷◌, ◌++◌, length, get_or, drop, map, refl, sym, ◌∙◌, ap, subst, arith}
 use Rattle.std.proofs.lemmas.Bool.{cases_eq, eqb-true}
 use Rattle.std.proofs.lemmas.Bool.Decides.{nat_tests}
 use Rattle.lot_base.specs.declared.notes.Note.TheVariants as note
@@ -37,20 +37,18 @@ use Rattle.lot_steps.specs.MutexSteps.{mutex_first, is_locked, is_parked, entere
 use Rattle.lot_calls.specs.Kinds.{is_fair}
 use Rattle.lot_calls.specs.Calls.{lock_in}
 use Rattle.lot_steps.specs.Steps.{act_of, next_place, next_act, mutex_goes, mutex_does, lock_of, first_place}
-use Rattle.lot_world.specs.Machine.{State, place_at, word_at, kind_at, queue_at, section_at, go_of, after, solo, after_all, alone_after, answered}
+use Rattle.lot_world.specs.Machine.{State, place_at, word_at, kind_at, queue_at, section_at, go_of, after, solo}
 use Rattle.lot_world.specs.Fits.{IsShaped, PlaceFits}
 use Rattle.lot_world.specs.Promises.{Codes}
 use Rattle.lot_world.specs.Sound.{IsSound, owner_at, inside, queued, holds}
 use Rattle.lot_world.proofs.ExclusiveOwners.{by_code, owner_after}
 use Rattle.abstract_locks.specs.Locks.{Rules, MayEnter, IsBlocked}
 use Rattle.abstract_locks.specs.Purposes.{Releases, Bumps, Patience, Patient, Timed, Try, mutex_purpose}
-use Rattle.abstract_locks.specs.Runs.{AreLockStates, rules_at, purpose_at}
+use Rattle.abstract_locks.specs.Runs.{rules_at, purpose_at}
 use Rattle.abstract_locks.specs.Picks.{queued_of}
 use Rattle.lot_world.specs.Refinement.{lock_state, locks_of}
-use Rattle.lot_world.specs.Solo.{Rests, IsUnderWay, HasItsWay, EntersAlone, BumpsAlone, EndsAlone, successor, IsSoloRun}
+use Rattle.lot_world.specs.Solo.{Rests, IsUnderWay, HasItsWay, EntersAlone, BumpsAlone, EndsAlone, successor}
 use Rattle.lot_world.specs.OnlyMutexes.{CallFits, OnlyMutexes, is_mutex}
-use Rattle.lot_world.proofs.LockRuns.{refines}
-use Rattle.lot_world.proofs.Promises.{kept_throughout}
 use Rattle.lot_world.proofs.LockEvents.{mutex_rules, mutex_rules_of, queued_behind}
 use Rattle.lot_world.proofs.LockSteps.{free_word, owned_word, decides, purpose_is}
 use Rattle.lot_world.proofs.Counts.{first_times}
@@ -459,34 +457,3 @@ module _ (w : State) (t : ℕ) (shape : IsShaped w) (sound : IsSound w) (only : 
   pub ends_alone : (c : Call) → place_at w t ≡ first_place (kind_at w (lock_in c)) c → HasItsWay w t
       → EndsAlone (locks_of w) t (purpose_at (locks_of w) c) (solo 64 w t outcome.TheVariants.NotNow).outcome (locks_of (solo 64 w t outcome.TheVariants.NotNow).state)
   ends_alone c is way = solo_ends w t shape sound only (stands_there w.places t (first_busy (kind_at w (lock_in c)) c (place_at w t) is)) way c is 64 outcome.TheVariants.NotNow (omega arith)
-
--- ---------------------------------------------------------------- a solo run is a run
-
--- steps of the thread, this many at most
-record GoesFor (n : ℕ) (w : State) (t : ℕ) (v : State) : Type 0 where
-  pub steps : ℕ
-  pub few : steps ≤ n
-  pub led : v ≡ after_all w (replicate steps (go_of t))
-
-one_more : (n : ℕ) (w : State) (t : ℕ) (v : State) → GoesFor n (after w (go_of t)) t v → GoesFor (suc n) w t v
-one_more n w t v g = record { steps = suc g.steps; few = let le : g.steps ≤ n = g.few in omega arith; led = g.led }
-
-goes_for : (n : ℕ) (w : State) (t : ℕ) (last : Outcome) → GoesFor n w t (solo n w t last).state
-unfolding solo
-goes_for zero w t last = record { steps = 0; few = omega arith; led = refl }
-goes_for (suc n) w t last = by_outcome (answered w (go_of t)) (goes_for n (after w (go_of t)) t outcome.TheVariants.Step)
-  where
-    by_outcome : (o : Outcome) → GoesFor n (after w (go_of t)) t (solo n (after w (go_of t)) t outcome.TheVariants.Step).state
-        → GoesFor (suc n) w t (alone_after o w (after w (go_of t)) last (solo n (after w (go_of t)) t outcome.TheVariants.Step)).state
-    by_outcome outcome.TheVariants.NotNow more = record { steps = 0; few = omega arith; led = refl }
-    by_outcome outcome.TheVariants.Step more = one_more n w t _ more
-    by_outcome o more = record { steps = 1; few = omega arith; led = refl }
-
-pub solo_runs : (w : State) (t : ℕ) → IsShaped w → IsSound w → OnlyMutexes w → AreLockStates (locks_of w) → IsSoloRun w t (solo 64 w t outcome.TheVariants.NotNow).state
-solo_runs w t shape sound only all = let g = goes_for 64 w t outcome.TheVariants.NotNow in record {
-  steps = g.steps;
-  few = g.few;
-  led = g.led;
-  refines = refines w (replicate g.steps (go_of t)) shape sound only;
-  kept = kept_throughout w (replicate g.steps (go_of t)) shape sound only all;
-}

@@ -26,7 +26,7 @@ use Rattle.lot_world.proofs.Glue as glue
 use Rattle.lot_world.proofs.Glue.{same, differ}
 pub use Rattle.lot_world.proofs.Glue.{IsTakenAt, IsHandedAt}
 use Rattle.lot_world.proofs.GoneKept as gone
-pub use Rattle.lot_world.proofs.GoneKept.{IsAsleep}
+pub use Rattle.lot_world.proofs.GoneKept.{IsAsleep, none_is}
 pub use Rattle.lot_world.proofs.SitesKept.{go_by}
 pub use Rattle.lot_world.proofs.TurnsKept.{idle_is}
 use Rattle.lot_world.proofs.SitesPromise.{codes_by, parked_at}

@@ -1,9 +1,8 @@
 -- What a fair release does: it lets its mutex go only where nobody waits for it, and else the first waiter owns it in its place.
-use Rattle.std.specs.Prelude.{ℕ, true, false, Option, Some, None, ◌≡◌, ◌⊎◌, List, [], ◌∷◌}
+use Rattle.std.specs.Prelude.{ℕ, true, false, Option, Some, None, ◌≡◌, ◌⊎◌, []}
 use Rattle.lot_base.specs.declared.wants.Want.TheVariants.{Exclusive}
-use Rattle.lot_calls.specs.declared.calls.Step.{Step}
 use Rattle.lot_steps.specs.MutexSteps.{is_locked, is_parked}
-use Rattle.lot_world.specs.Machine.{State, word_at, after}
+use Rattle.lot_world.specs.Machine.{State, word_at}
 use Rattle.abstract_locks.specs.Locks.{Owns, IsTaken, HasTakenNobody, first_thread}
 use Rattle.abstract_locks.specs.Purposes.{Purpose, Releases, Bumps}
 use Rattle.lot_world.specs.Refinement.{lock_state, locks_of}
@@ -35,8 +34,3 @@ pub record IsFair (w v : State) : Type 0 where
   pub gives : (t l : ℕ) → ReleasesFairly w t l → OwnsOn v t l ⊎ (HandsOver w v t l ⊎ LetsGo w v t l)
   -- whom it has taken was the first of the queue
   pub takes : (t l u : ℕ) → ReleasesFairly w t l → IsTaken (lock_state v l) t u Exclusive → IsTaken (lock_state w l) t u Exclusive ⊎ (first_thread (lock_state w l).queue ≡ Some u)
-
--- each step of a run
-abbrev pub EachIsFair : State → List Step → Type 0
-EachIsFair w [] = Unit {0}
-EachIsFair w (s ∷ ss) = IsFair w (after w s) × EachIsFair (after w s) ss

@@ -14,8 +14,10 @@ pub mod Views
 pub mod Refinement
 pub mod Promises
 pub mod Fair
+pub mod WorldRuns
 pub mod Solo
 pub mod OnlyMutexes
 pub mod MutexDeeds
 pub mod SitesOf
 pub mod Sound
+pub mod Laws

@@ -1,14 +1,13 @@
 -- What is promised of every state of a world of mutexes, before and after each step, under every schedule.
-use Rattle.std.specs.Prelude.{ℕ, false, true, None, Option, ◌≡◌, ◌≢◌, ◌+◌, ◌≤◌, ◌⊎◌, List, take, ◌↔◌, Some, ◌*◌}
+use Rattle.std.specs.Prelude.{ℕ, false, true, None, Option, ◌≡◌, ◌≢◌, ◌+◌, ◌≤◌, ◌⊎◌, ◌↔◌, Some, ◌*◌}
 use Rattle.lot_base.specs.declared.keys.Keys.TheVariants.{One}
 use Rattle.lot_base.specs.declared.wants.Want.TheVariants.{Exclusive}
 use Rattle.lot_steps.specs.declared.acts.Act.TheVariants.{Enter, Leave, Sleep}
 use Rattle.lot_steps.specs.declared.acts.Wakes as wakes
 use Rattle.lot_base.specs.declared.notes.Note.TheVariants.{HandOff}
-use Rattle.lot_calls.specs.declared.calls.Step.{Step}
 use Rattle.lot_steps.specs.MutexSteps.{is_parked}
 use Rattle.lot_steps.specs.Steps.{act_of, owes_on, retries_on}
-use Rattle.lot_world.specs.Machine.{State, place_at, word_at, after_all, section_at}
+use Rattle.lot_world.specs.Machine.{State, place_at, word_at, section_at}
 use Rattle.abstract_locks.specs.Locks.{times, standing, one_if_some, Owns}
 use Rattle.abstract_locks.specs.Runs.{AreLockStates}
 use Rattle.lot_world.specs.Refinement.{lock_state, locks_of}
@@ -72,7 +71,3 @@ pub record IsKept (w : State) : Type 0 where
   pub handing : (t : ℕ) → IsAsleepNowhere w t → IsHandedOver w t
   -- a waiter implies the parked bit
   pub parked : (t l : ℕ) → WaitsFor w t l → is_parked (word_at w l) ≡ true
-
--- the same of the state after each step of a run
-abbrev pub IsKeptThroughout : State → List Step → Type 0
-IsKeptThroughout w steps = (n : ℕ) → IsKept (after_all w (take n steps))

@@ -1,5 +1,5 @@
 -- The abstract locks that a world's words, places and queues stand for.
-use Rattle.std.specs.Prelude.{ℕ, Bool, true, false, Option, Some, None, if◌then◌else◌, ◌==◌, ◌+◌, ◌*◌, ◌≡◌, ◌≢◌, ◌⊎◌, List, map, length, replicate, take, [], ◌∷◌}
+use Rattle.std.specs.Prelude.{ℕ, Bool, true, false, Option, Some, None, if◌then◌else◌, ◌==◌, ◌+◌, ◌*◌, ◌≡◌, ◌≢◌, ◌⊎◌, List, map, length, replicate}
 use Rattle.lot_base.specs.declared.wants.Waiter.{Waiter}
 use Rattle.lot_base.specs.declared.wants.Want.TheVariants.{Exclusive}
 use Rattle.lot_base.specs.Lines.{first_of}
@@ -17,13 +17,16 @@ use Rattle.lot_steps.specs.declared.mutex.lock.LockAt.{LockAt}
 use Rattle.lot_steps.specs.declared.mutex.lock.LockAt.TheVariants as lock
 use Rattle.lot_steps.specs.declared.mutex.unlock.UnlockAt.TheVariants as unlock
 use Rattle.lot_steps.specs.declared.mutex.hand_off.HandOffAt.TheVariants as hand_off
-use Rattle.lot_calls.specs.declared.calls.Step.{Step}
 use Rattle.abstract_locks.specs.Picks.{queued_of}
+use Rattle.lot_steps.specs.declared.acts.Act.{Act}
+use Rattle.lot_steps.specs.declared.acts.Act.TheVariants.{Enter, Sleep, Closure}
+use Rattle.lot_base.specs.declared.keys.Keys.{Keys}
+use Rattle.lot_steps.specs.Steps.{act_of, spin_lock}
 use Rattle.lot_steps.specs.MutexSteps.{mutex_retries}
-use Rattle.lot_world.specs.Machine.{State, place_at, word_at, owners_at, kind_at, queue_at, section_at, after_all, answered_all, after}
+use Rattle.lot_world.specs.Machine.{State, place_at, word_at, owners_at, kind_at, queue_at, section_at, is_there}
 use Rattle.abstract_locks.specs.Locks.{LockState, Queued, Taken, Pending, Rights}
 use Rattle.abstract_locks.specs.Purposes.{Purpose, Enters, Releases, Bumps, Patient, Timed, Try}
-use Rattle.abstract_locks.specs.Runs.{LocksState, CallState, no_call, one_more_at, one_less_at, IsRun}
+use Rattle.abstract_locks.specs.Runs.{LocksState, CallState, Stance, no_call, one_more_at, one_less_at}
 use Rattle.abstract_locks.specs.Locks as locks
 
 -- ---------------------------------------------------------------- one lock
@@ -115,6 +118,17 @@ abbrev pub mutex_gave_up : ℕ → MutexPlace → Option ℕ
 mutex_gave_up l (Lock e retries at) = gave_up_at l at
 mutex_gave_up l at = None
 
+-- a timed call's time is up from its entering the section on
+abbrev pub late_at : LockAt → Bool
+late_at lock.Remove = true
+late_at lock.Clear = true
+late_at lock.GiveUp = true
+late_at at = false
+
+abbrev pub mutex_late : MutexPlace → Bool
+mutex_late (Lock e retries at) = late_at at
+mutex_late at = false
+
 abbrev pub mutex_call_state : ℕ → MutexPlace → (ℕ → Rights) → CallState
 mutex_call_state l at rights = record {
   purpose = Some (calls_for l at);
@@ -122,7 +136,31 @@ mutex_call_state l at rights = record {
   gave_up = mutex_gave_up l at;
   retries = if mutex_retries at then Some l else None;
   released = has_released at;
+  late = mutex_late at;
 }
+
+-- ---------------------------------------------------------------- how a thread stands
+
+abbrev pub sleeps : Act → Bool
+sleeps Sleep = true
+sleeps a = false
+
+abbrev pub runs_closure : Act → Bool
+runs_closure (Closure state) = true
+runs_closure a = false
+
+abbrev pub keys_entered : Act → Option Keys
+keys_entered (Enter keys) = Some keys
+keys_entered a = None
+
+abbrev pub stance_by : Act → Option ℕ → Stance
+stance_by a spins_on = record { asleep = sleeps a; in_closure = runs_closure a; enters = keys_entered a; may_spin = is_there spins_on }
+
+-- by what it does next
+abbrev pub stance_of : Place → Stance
+stance_of p = stance_by (act_of p) (spin_lock p)
+
+-- ---------------------------------------------------------------- calls
 
 -- what a thread's call has come to, by its place and by what it owns now
 abbrev pub call_state : Place → (ℕ → Rights) → CallState
@@ -137,24 +175,13 @@ locks_of w = record {
   size = length w.locks;
   kinds = kind_at w;
   locks = lock_state w;
+  inside = section_at w;
   calls = λ t. call_state (place_at w t) (λ l. locks.rights_of (lock_state w l) t);
+  stances = λ t. stance_of (place_at w t);
 }
-
--- the states of the locks before, between and after the steps of a run
-abbrev pub states_of : State → List Step → ℕ → LocksState
-states_of w steps n = locks_of (after_all w (take n steps))
 
 -- a step changes one word at most, or queues whose sections its thread is in, never both
 abbrev pub ChangesOneThing : State → ℕ → State → Type 0
 ChangesOneThing w t v =
     ((l : ℕ) × ((k : ℕ) → k ≢ l → word_at v k ≡ word_at w k) × ((key : ℕ) → queue_at v key ≡ queue_at w key))
     ⊎ (((l : ℕ) → word_at v l ≡ word_at w l) × ((key : ℕ) → (queue_at v key ≡ queue_at w key) ⊎ (section_at w key ≡ Some t)))
-
--- each step of a run is a step of the abstract locks
-abbrev pub Refines : State → List Step → Type 0
-Refines w steps = IsRun (states_of w steps) steps (answered_all w steps)
-
--- and each step of a run changes one thing
-abbrev pub EachChangesOneThing : State → List Step → Type 0
-EachChangesOneThing w [] = Unit {0}
-EachChangesOneThing w (s ∷ ss) = ChangesOneThing w s.thread (after w s) × EachChangesOneThing (after w s) ss

@@ -1,5 +1,5 @@
 -- What comes of a call whose thread steps alone.
-use Rattle.std.specs.Prelude.{ℕ, Bool, if◌then◌else◌, List, Option, Some, None, ◌≡◌, ◌≢◌, ◌*◌, ◌≤◌, ◌++◌, ◌∷◌, [], replicate}
+use Rattle.std.specs.Prelude.{ℕ, Bool, if◌then◌else◌, List, Option, Some, None, ◌≡◌, ◌≢◌, ◌*◌, ◌≤◌, ◌++◌, ◌∷◌, [], length, replicate}
 use Rattle.lot_base.specs.declared.wants.Want.{Want}
 use Rattle.lot_base.specs.declared.wants.Want.TheVariants.{Exclusive}
 use Rattle.lot_steps.specs.declared.acts.Act.TheVariants.{Sleep}
@@ -9,12 +9,11 @@ use Rattle.lot_calls.specs.declared.outcomes.Outcome.{Outcome}
 use Rattle.lot_calls.specs.declared.outcomes.Outcome as outcome
 use Rattle.lot_steps.specs.declared.places.Place.TheVariants.{Idle}
 use Rattle.lot_steps.specs.Steps.{act_of, lock_of}
-use Rattle.lot_world.specs.Machine.{State, place_at, section_at, go_of, after_all}
+use Rattle.lot_world.specs.Machine.{State, place_at, section_at, go_of}
 use Rattle.abstract_locks.specs.Locks.{Mutex, LockState, first_thread, Queued, MayEnter, IsBlocked, Owns}
 use Rattle.abstract_locks.specs.Purposes.{Purpose, Enters, Releases, Bumps, Patience, Patient, Try}
 use Rattle.abstract_locks.specs.Runs.{LocksState, rules_at}
-use Rattle.lot_world.specs.Refinement.{Refines}
-use Rattle.lot_world.specs.Promises.{IsKeptThroughout}
+use Rattle.lot_world.specs.WorldRuns.{IsWorldRun}
 
 -- the thread is in a call, and isn't asleep
 abbrev pub IsUnderWay : State → ℕ → Type 0
@@ -68,10 +67,22 @@ EndsAlone w t (Some (Releases l x fair)) o v = ReleasesAlone w t l x fair o v
 EndsAlone w t (Some (Bumps l Exclusive)) o v = (rules_at w l).sort ≡ Mutex → BumpsAlone t l (w.locks l).queue o (v.locks l)
 EndsAlone w t purpose o v = Unit {0}
 
--- a solo run is a run, of at most 64 steps
-pub record IsSoloRun (w : State) (t : ℕ) (v : State) : Type 0 where
-  pub steps : ℕ
-  pub few : steps ≤ 64
-  pub led : v ≡ after_all w (replicate steps (go_of t))
-  pub refines : Refines w (replicate steps (go_of t))
-  pub kept : IsKeptThroughout w (replicate steps (go_of t))
+-- the last of what was told, and NotNow where nothing was
+abbrev pub last_told : List Outcome → Outcome
+last_told [] = outcome.TheVariants.NotNow
+last_told (o ∷ []) = o
+last_told (o ∷ os) = last_told os
+
+-- each but the last is a step: the thread rests behind no other
+abbrev pub GoesOnUntil : List Outcome → Type 0
+GoesOnUntil [] = Unit {0}
+GoesOnUntil (o ∷ []) = o ≢ outcome.TheVariants.NotNow
+GoesOnUntil (o ∷ os) = (o ≡ outcome.TheVariants.Step) × GoesOnUntil os
+
+-- a solo run is a run of at most 64 steps of the thread, whose last outcome is the result
+pub record IsSoloRun (w : State) (t : ℕ) (result : Outcome) (v : State) : Type 0 where
+  pub told : List Outcome
+  pub few : length told ≤ 64
+  pub run : IsWorldRun w (replicate (length told) (go_of t)) told v
+  pub goes_on : GoesOnUntil told
+  pub last : result ≡ last_told told

@@ -1,6 +1,7 @@
 //! Any number of threads over locks, by a list of steps.
 #![tactic(auto)]
 
+pub mod laws;
 pub mod machine;
 #[cfg(test)]
 mod tests;

@@ -5,10 +5,11 @@ ghost use Rattle.lot_calls.specs.Calls.{lock_in};
 ghost use Rattle.lot_steps.specs.Steps.{first_place};
 ghost use Rattle.lot_world.specs.Machine.{opening, place_at, word_at, kind_at, queue_at, after, answered, after_all, answered_all, solo};
 ghost use Rattle.lot_world.specs.Fits.{SameSize};
-ghost use Rattle.abstract_locks.specs.Runs.{IsOpening, IsStep, purpose_at};
-ghost use Rattle.lot_world.specs.Refinement.{locks_of, ChangesOneThing, EachChangesOneThing, Refines};
-ghost use Rattle.lot_world.specs.Promises.{IsKept, IsKeptThroughout};
-ghost use Rattle.lot_world.specs.Fair.{IsFair, EachIsFair};
+ghost use Rattle.abstract_locks.specs.Runs.{IsOpening, IsStep, IsRun, purpose_at};
+ghost use Rattle.lot_world.specs.Refinement.{locks_of, ChangesOneThing};
+ghost use Rattle.lot_world.specs.Promises.{IsKept};
+ghost use Rattle.lot_world.specs.Fair.{IsFair};
+ghost use Rattle.lot_world.specs.WorldRuns.{IsWorldRun, Tells, TouchesOnlyByGoing};
 ghost use Rattle.lot_world.specs.Solo.{IsUnderWay, HasItsWay, Rests, EndsAlone, IsSoloRun};
 ghost use Rattle.lot_world.specs.Views.{StandUnder, owners_of, queue_of, debts_of};
 
@@ -80,6 +81,7 @@ impl<Q: Queues + Drop> World<Q> {
         // The step is one of the abstract locks: one case of one lock, or nothing, and its answer is true.
         ensures refines { IsStep (locks_of self.old) step result (locks_of self.new) }
         ensures one_thing { ChangesOneThing self.old step.thread self.new }
+        ensures touches { TouchesOnlyByGoing self.old step.turn self.new }
 
         // A fair release lets its mutex go only where nobody waits, and else the first waiter owns it in its place.
         ensures fair { IsFair self.old self.new }
@@ -97,7 +99,7 @@ impl<Q: Queues + Drop> World<Q> {
     pub fn solo(&mut self, thread: usize) -> Outcome
         ensures state { self.new ≡ (solo SOLO_STEPS self.old thread Outcome.NotNow).state }
         ensures outcome { result ≡ (solo SOLO_STEPS self.old thread Outcome.NotNow).outcome }
-        ensures run { IsSoloRun self.old thread self.new }
+        ensures run { IsSoloRun self.old thread result self.new }
 
         // A call under way ends or sleeps, where nobody else is inside the section that it enters.
         ensures rests { IsUnderWay self.old thread → HasItsWay self.old thread → Rests result }
@@ -136,13 +138,20 @@ impl<Q: Queues + Drop> World<Q> {
     pub fn run(&mut self, steps: &[Step], outcomes: &mut Vec<Outcome>) -> Result<(), Stopped>
         ensures same_size { SameSize self.old self.new }
 
-        // Every run of the world is a run of the abstract locks.
-        ensures refines { Refines self.old steps.now }
-        ensures one_thing { EachChangesOneThing self.old steps.now }
-        ensures fair { EachIsFair self.old steps.now }
+        // Every run of the world is a run of the abstract locks, with the outcomes that it tells, from the state that it finds to the
+        // one that it leaves.
+        ensures refines { OnOk result (Tells outcomes.old.items outcomes.new.items
+            (λ told. IsRun (locks_of self.old) steps.now told (locks_of self.new))) }
 
-        // In every state of it, before, between and after its steps, nobody is forgotten.
-        ensures kept { IsKeptThroughout self.old steps.now }
+        // In it nobody is forgotten, before, between and after its steps, and each step holds what is promised of steps.
+        ensures kept_before { IsKept self.old }
+        ensures run { OnOk result (Tells outcomes.old.items outcomes.new.items (λ told. IsWorldRun self.old steps.now told self.new)) }
+
+        // The same of the steps that were taken, where memory for an outcome was refused.
+        ensures stopped_refines { IfErr result (λ stopped. Tells outcomes.old.items outcomes.new.items
+            (λ told. IsRun (locks_of self.old) (take stopped.taken steps.now) told (locks_of self.new))) }
+        ensures stopped_run { IfErr result (λ stopped. Tells outcomes.old.items outcomes.new.items
+            (λ told. IsWorldRun self.old (take stopped.taken steps.now) told self.new)) }
         ensures state { OnOk result (self.new ≡ after_all self.old steps.now) }
         ensures outcomes { OnOk result (outcomes.new.items ≡ outcomes.old.items ++ answered_all self.old steps.now) }
         ensures taken { IfErr result (λ stopped. stopped.taken < length steps.now) }

@@ -1,11 +1,12 @@
 use Rattle.std.proofs.Common.{◌+◌, take}
 use Rattle.std.proofs.lemmas.List.{take_more}
-use Rattle.lot_world.proofs.Fair.{each_fair}
 use Rattle.lot_world.proofs.Shape.{size_more}
-use Rattle.lot_world.proofs.LockRuns.{refines}
-use Rattle.lot_world.proofs.OneThing.{each_one_thing}
-use Rattle.lot_world.proofs.Promises.{kept_throughout}
 use Rattle.lot_world.proofs.Runs.{run_state, run_outcomes}
+use Rattle.std.proofs.lemmas.List.{take_all}
+use Rattle.std.proofs.Common.{◌≡◌, ap, ◌∙◌, ◌++◌, arith}
+use Rattle.lot_world.specs.Machine.{after_all, answered_all}
+use Rattle.lot_world.proofs.Promises.{kept}
+use Rattle.lot_world.proofs.WorldRuns.{Holds, tells_run, tells_refines}
 use Rattle.lot_world.proofs.world.World.run.Goals as goal
 
 pub loop-taken-preserved : goal.loop-taken-preserved
@@ -18,42 +19,40 @@ loop-taken-preserved g c =
           (run_outcomes c.args.self.now c.loop-taken.self (take c.loop-taken.taken c.args.steps.now) (take (c.loop-taken.taken + 1) c.args.steps.now) _ c.args.outcomes.now.items c.loop-taken.outcomes.items more before.state before.outcomes);
     }
 
-pub returns-then-is_err-clause-refines : goal.returns-then-is_err-clause-refines
-returns-then-is_err-clause-refines g c =
+pub returns-then-is_err-clause-kept_before : goal.returns-then-is_err-clause-kept_before
+returns-then-is_err-clause-kept_before g c =
     let before = c.self.invariant in
-    rw (← c.self.view_is) (refines c.self.inside.machine c.args.steps.now before.0 before.1 before.2)
+    rw (← c.self.view_is) (kept c.self.inside.machine before.1 before.2 before.3)
+
+pub returns-clause-kept_before : goal.returns-clause-kept_before
+returns-clause-kept_before g c =
+    let before = c.self.invariant in
+    rw (← c.self.view_is) (kept c.self.inside.machine before.1 before.2 before.3)
+
+pub returns-then-is_err-clause-stopped_refines : goal.returns-then-is_err-clause-stopped_refines
+returns-then-is_err-clause-stopped_refines g c =
+    let before = c.self.invariant in
+    let holds : Holds c.args.self.now = rw (← c.self.view_is) (record { shaped = before.0; sound = before.1; only = before.2; locks = before.3 }) in
+    rw c.reserve.ensures.items (tells_refines c.args.self.now c.loop-taken.self (take c.loop-taken.taken c.args.steps.now) c.args.outcomes.now.items c.loop-taken.outcomes.items holds c.loop-taken.invariant.state c.loop-taken.invariant.outcomes)
+
+pub returns-then-is_err-clause-stopped_run : goal.returns-then-is_err-clause-stopped_run
+returns-then-is_err-clause-stopped_run g c =
+    let before = c.self.invariant in
+    let holds : Holds c.args.self.now = rw (← c.self.view_is) (record { shaped = before.0; sound = before.1; only = before.2; locks = before.3 }) in
+    rw c.reserve.ensures.items (tells_run c.args.self.now c.loop-taken.self (take c.loop-taken.taken c.args.steps.now) c.args.outcomes.now.items c.loop-taken.outcomes.items holds c.loop-taken.invariant.state c.loop-taken.invariant.outcomes)
 
 pub returns-clause-refines : goal.returns-clause-refines
 returns-clause-refines g c =
     let before = c.self.invariant in
-    rw (← c.self.view_is) (refines c.self.inside.machine c.args.steps.now before.0 before.1 before.2)
+    let holds : Holds c.args.self.now = rw (← c.self.view_is) (record { shaped = before.0; sound = before.1; only = before.2; locks = before.3 }) in
+    let all : take c.loop-taken.taken c.args.steps.now ≡ c.args.steps.now = take_all c.loop-taken.taken c.args.steps.now (omega arith) in
+    tells_refines c.args.self.now c.loop-taken.self c.args.steps.now c.args.outcomes.now.items c.loop-taken.outcomes.items holds
+    (c.loop-taken.invariant.state ∙ ap (after_all c.args.self.now) all) (c.loop-taken.invariant.outcomes ∙ ap (λ ss. c.args.outcomes.now.items ++ answered_all c.args.self.now ss) all)
 
-pub returns-then-is_err-clause-kept : goal.returns-then-is_err-clause-kept
-returns-then-is_err-clause-kept g c =
+pub returns-clause-run : goal.returns-clause-run
+returns-clause-run g c =
     let before = c.self.invariant in
-    rw (← c.self.view_is) (kept_throughout c.self.inside.machine c.args.steps.now before.0 before.1 before.2 before.3)
-
-pub returns-clause-kept : goal.returns-clause-kept
-returns-clause-kept g c =
-    let before = c.self.invariant in
-    rw (← c.self.view_is) (kept_throughout c.self.inside.machine c.args.steps.now before.0 before.1 before.2 before.3)
-
-pub returns-then-is_err-clause-one_thing : goal.returns-then-is_err-clause-one_thing
-returns-then-is_err-clause-one_thing g c =
-    let before = c.self.invariant in
-    rw (← c.self.view_is) (each_one_thing c.self.inside.machine c.args.steps.now before.0 before.1 before.2)
-
-pub returns-clause-one_thing : goal.returns-clause-one_thing
-returns-clause-one_thing g c =
-    let before = c.self.invariant in
-    rw (← c.self.view_is) (each_one_thing c.self.inside.machine c.args.steps.now before.0 before.1 before.2)
-
-pub returns-then-is_err-clause-fair : goal.returns-then-is_err-clause-fair
-returns-then-is_err-clause-fair g c =
-    let before = c.self.invariant in
-    rw (← c.self.view_is) (each_fair c.self.inside.machine c.args.steps.now before.0 before.1 before.2 before.3)
-
-pub returns-clause-fair : goal.returns-clause-fair
-returns-clause-fair g c =
-    let before = c.self.invariant in
-    rw (← c.self.view_is) (each_fair c.self.inside.machine c.args.steps.now before.0 before.1 before.2 before.3)
+    let holds : Holds c.args.self.now = rw (← c.self.view_is) (record { shaped = before.0; sound = before.1; only = before.2; locks = before.3 }) in
+    let all : take c.loop-taken.taken c.args.steps.now ≡ c.args.steps.now = take_all c.loop-taken.taken c.args.steps.now (omega arith) in
+    tells_run c.args.self.now c.loop-taken.self c.args.steps.now c.args.outcomes.now.items c.loop-taken.outcomes.items holds
+    (c.loop-taken.invariant.state ∙ ap (after_all c.args.self.now) all) (c.loop-taken.invariant.outcomes ∙ ap (λ ss. c.args.outcomes.now.items ++ answered_all c.args.self.now ss) all)

@@ -3,7 +3,7 @@ use Rattle.lot_world.proofs.Steady.{after_sound}
 use Rattle.lot_world.proofs.OnlyMutexes.{after_only}
 use Rattle.lot_world.proofs.LockSteps.{after_step}
 use Rattle.lot_world.proofs.LockRuns.{after_locks}
-use Rattle.lot_world.proofs.OneThing.{one_thing}
+use Rattle.lot_world.proofs.OneThing.{one_thing, touches}
 use Rattle.lot_world.proofs.Promises.{kept_after}
 use Rattle.lot_world.proofs.Fair.{is_fair}
 use Rattle.lot_world.proofs.world.World.step.Goals as goal
@@ -40,3 +40,6 @@ pub returns-clause-fair : goal.returns-clause-fair
 returns-clause-fair g c =
     let before = c.self.invariant in
     rw (c.turn.ensures.state, ← c.self.view_is) (is_fair c.self.inside.machine c.args.step before.0 before.1 before.2 before.3)
+
+pub returns-clause-touches : goal.returns-clause-touches
+returns-clause-touches g c = rw (c.turn.ensures.state, ← c.self.view_is) (touches c.self.inside.machine c.args.step)

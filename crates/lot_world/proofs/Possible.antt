@@ -1,0 +1,391 @@
+-- A turn is possible exactly where the abstract locks and the call say so, and a thread is told that it sleeps where it does.
+use Rattle.std.proofs.Common.{ℕ, Bool, true, false, Option, Some, None, if◌then◌else◌, ◌==◌, ◌&&◌, not, ◌≡◌, ◌≢◌, ◌+◌, ◌*◌, ◌≤◌, ◌<◌, ◌↔◌, ◌⊎◌, inl, inr, List, length, is_none, refl, sym, ◌∙◌, ap, arith, get_or-set_other, get_or-set_same}
+use Rattle.std.proofs.lemmas.Bool.{cases_eq, cases_lt}
+use Rattle.std.proofs.lemmas.List.{get_or_past}
+use Rattle.lot_base.specs.declared.keys.Keys.{Keys}
+use Rattle.lot_base.specs.declared.keys.Keys.TheVariants.{One, Two}
+use Rattle.lot_base.specs.declared.ops.Op as op
+use Rattle.lot_base.specs.Lines.{first_of}
+use Rattle.lot_base.specs.declared.wants.Waiter.{Waiter}
+use Rattle.lot_calls.specs.declared.calls.Turn.{Turn}
+use Rattle.lot_calls.specs.declared.calls.Turn as turn
+use Rattle.lot_calls.specs.declared.calls.Call.{Call}
+use Rattle.lot_calls.specs.declared.calls.Call as call
+use Rattle.lot_calls.specs.declared.calls.MutexCall.{MutexCall}
+use Rattle.lot_calls.specs.declared.calls.MutexCall as mutex_call
+use Rattle.lot_calls.specs.declared.kinds.Kind.{Kind}
+use Rattle.lot_calls.specs.Kinds.{is_fair}
+use Rattle.lot_calls.specs.declared.outcomes.Outcome.{Outcome}
+use Rattle.lot_calls.specs.declared.outcomes.Outcome as outcome
+use Rattle.lot_steps.specs.declared.acts.Act.{Act}
+use Rattle.lot_steps.specs.declared.acts.Act.TheVariants.{Rest, Word, HandOver, Enter, Park, TakeFirst, Remove, Sleep, Closure, End, Accept}
+use Rattle.lot_steps.specs.declared.acts.Act.TheVariants as act
+use Rattle.lot_steps.specs.declared.acts.Reply.{Reply}
+use Rattle.lot_steps.specs.declared.acts.Reply.TheVariants.{Spun, Late}
+use Rattle.lot_steps.specs.declared.acts.Next.{Next}
+use Rattle.lot_steps.specs.declared.acts.Next.TheVariants as next
+use Rattle.lot_steps.specs.declared.mutex.MutexPlace.{MutexPlace}
+use Rattle.lot_steps.specs.declared.mutex.MutexPlace.TheVariants.{Lock, TryLock, Unlock, UnlockFair, Bump, HandOff}
+use Rattle.lot_steps.specs.declared.mutex.lock.Entry.TheVariants as entries
+use Rattle.lot_steps.specs.declared.mutex.lock.LockAt.TheVariants as lock
+use Rattle.lot_steps.specs.declared.mutex.unlock.UnlockAt.TheVariants as unlock
+use Rattle.lot_steps.specs.declared.mutex.hand_off.HandOffAt.TheVariants as hand_off
+use Rattle.lot_steps.specs.declared.places.Place.{Place}
+use Rattle.lot_steps.specs.declared.places.Place.TheVariants.{Idle, Mutex}
+use Rattle.lot_steps.specs.declared.acts.Wakes.{Wakes}
+use Rattle.lot_steps.specs.declared.acts.Wakes as wakes
+use Rattle.lot_steps.specs.Acts.{outcome_of, holds}
+use Rattle.lot_steps.specs.MutexSteps.{is_locked, lock_act, mutex_act, mutex_first, mutex_next}
+use Rattle.lot_steps.specs.Steps.{act_of, next_place, next_act, mutex_goes, mutex_does, late_key, first_place, spin_lock}
+use Rattle.lot_world.specs.Machine.{State, place_at, queue_at, section_at, is_there, can_do, can_go, is_free_under, word_at, filled_with, first_taken, taken_by, awakened, performed, gone, spun_on, late_on}
+use Rattle.lot_world.specs.Fits.{IsShaped, PlaceFits}
+use Rattle.lot_world.proofs.Shape.{main_key_there}
+use Rattle.lot_world.specs.Sound.{IsSound, inside, queued, one_if}
+use Rattle.lot_world.specs.OnlyMutexes.{OnlyMutexes}
+use Rattle.lot_world.specs.Refinement.{lock_state, locks_of, call_state, sleeps, runs_closure, keys_entered}
+use Rattle.lot_world.proofs.Steady.{none_is}
+use Rattle.lot_world.proofs.LockEvents.{queued_times, rights, same}
+use Rattle.abstract_locks.specs.Locks.{Rights}
+use Rattle.abstract_locks.specs.Locks as locks
+use Rattle.abstract_locks.specs.Runs.{AreFree, MayGo, MayBeLate, MayTurn, IsTimed, StandsFreely, SectionChanges}
+
+-- ---------------------------------------------------------------- going on
+
+-- an act that a thread in a call does
+abbrev is_acting : Act → Bool
+is_acting Rest = false
+is_acting (End answer) = false
+is_acting a = true
+
+-- what a lock's exchange or section comes to
+decides_acting : (l s : ℕ) (a b : Bool) → is_acting (if not a then Word l (op.TheVariants.Exchange s (s + 1)) else if b then Word l (op.TheVariants.Exchange 1 3) else Enter (One (2 * l))) ≡ true
+decides_acting l s false b = refl
+decides_acting l s true true = refl
+decides_acting l s true false = refl
+
+mutex_acting : (l : ℕ) (at : MutexPlace) → is_acting (mutex_act l at) ≡ true
+mutex_acting l (Lock e r lock.First) = refl
+mutex_acting l (Lock e r (lock.Decide s)) = decides_acting l s (is_locked s) (s == 1)
+mutex_acting l (Lock e r a) = refl
+mutex_acting l TryLock = refl
+mutex_acting l (Unlock unlock.Subtract) = refl
+mutex_acting l (Unlock a) = refl
+mutex_acting l UnlockFair = refl
+mutex_acting l Bump = refl
+mutex_acting l (HandOff b (hand_off.Store None n)) = refl
+mutex_acting l (HandOff b (hand_off.Store (Some u) n)) = refl
+mutex_acting l (HandOff b a) = refl
+
+module _ (w : State) where
+  -- what can be done is done by a thread that is awake, outside its closure, and before sections that are free
+  can_is : (a : Act) → can_do w a ≡ true → (sleeps a ≡ false) × (runs_closure a ≡ false) × AreFree (locks_of w) (keys_entered a)
+  can_is Rest can = absurd cc
+  can_is Sleep can = absurd cc
+  can_is (Closure state) can = absurd cc
+  can_is (End answer) can = absurd cc
+  can_is (Enter (One key)) can = (refl, refl, none_is (section_at w key) can)
+  can_is (Enter (Two first second)) can = (refl, refl, two (is_none (section_at w first)) (is_none (section_at w second)) refl refl can)
+    where
+      two : (a b : Bool) → is_none (section_at w first) ≡ a → is_none (section_at w second) ≡ b → (a && b) ≡ true → (section_at w first ≡ None) × (section_at w second ≡ None)
+      two true true ea eb can = (none_is (section_at w first) ea, none_is (section_at w second) eb)
+      two true false ea eb can = absurd cc
+      two false b ea eb can = absurd cc
+  can_is a can = (refl, refl, tt)
+
+  can_if : (a : Act) → is_acting a ≡ true → sleeps a ≡ false → runs_closure a ≡ false → AreFree (locks_of w) (keys_entered a) → can_do w a ≡ true
+  can_if Rest acting awake outside free = absurd cc
+  can_if (End answer) acting awake outside free = absurd cc
+  can_if Sleep acting awake outside free = absurd cc
+  can_if (Closure state) acting awake outside free = absurd cc
+  can_if (Enter (One key)) acting awake outside free = ap is_none free
+  can_if (Enter (Two first second)) acting awake outside free = rw (free.0, free.1) refl
+  can_if a acting awake outside free = refl
+
+called_of : (w : State) (p : Place) (r : ℕ → Rights) → can_do w (act_of p) ≡ true → (call_state p r).purpose ≢ None
+called_of w Idle r can = absurd cc
+called_of w (Mutex l at) r can = λ h. cc
+
+acting_of : (p : Place) (r : ℕ → Rights) → (call_state p r).purpose ≢ None → is_acting (act_of p) ≡ true
+acting_of Idle r called = absurd (called refl)
+acting_of (Mutex l at) r called = mutex_acting l at
+
+pub may_go : (w : State) (t : ℕ) → can_go w t ≡ true → MayGo (locks_of w) t
+may_go w t can = let is = can_is w (act_of (place_at w t)) can in
+    record { called = called_of w (place_at w t) (rights w t) can; awake = is.0; outside = is.1; free = is.2 }
+
+pub go_possible : (w : State) (t : ℕ) → MayGo (locks_of w) t → can_go w t ≡ true
+go_possible w t may = can_if w (act_of (place_at w t)) (acting_of (place_at w t) (rights w t) may.called) may.awake may.outside may.free
+
+-- ---------------------------------------------------------------- being late
+
+decides_awake : (l s : ℕ) (a b : Bool) → sleeps (if not a then Word l (op.TheVariants.Exchange s (s + 1)) else if b then Word l (op.TheVariants.Exchange 1 3) else Enter (One (2 * l))) ≡ false
+decides_awake l s false b = refl
+decides_awake l s true true = refl
+decides_awake l s true false = refl
+
+module _ (w : State) (t : ℕ) (sound : IsSound w) (only : OnlyMutexes w) where
+  -- how often the thread stands in the queue of a lock, by its place
+  stands_by : (p : Place) → place_at w t ≡ p → (l : ℕ) → locks.times t (lock_state w l).queue ≡ one_if (queued p) l
+  stands_by p is l = queued_times t (queue_at w (2 * l)) ∙ sound.queues t l ∙ ap (λ x. one_if (queued x) l) is
+
+  stands_here : (k : ℕ) → one_if (Some k) k ≡ 1
+  stands_here k = ap (λ b. if b then 1 else 0) (same k)
+
+  none_aside : (l : ℕ) → (lock_state w l).aside ≡ None
+  none_aside l = ap first_of (only.aside l)
+
+  late_there : (p : Place) → place_at w t ≡ p → is_free_under w (late_key p) ≡ true → MayBeLate (locks_of w) t
+  late_there (Mutex l (Lock entries.LockTimed r lock.Asleep)) is can = record {
+    lock = l;
+    timed = rw is (refl, refl);
+    asleep = rw is refl;
+    stands = inl (rw (stands_by (Mutex l (Lock entries.LockTimed r lock.Asleep)) is l, stands_here l) (omega arith), none_is (section_at w (2 * l)) can);
+  }
+  late_there Idle is can = absurd cc
+  late_there (Mutex l (Lock entries.Lock r lock.Asleep)) is can = absurd cc
+  late_there (Mutex l (Lock entries.Bump r lock.Asleep)) is can = absurd cc
+  late_there (Mutex l (Lock e r lock.First)) is can = absurd cc
+  late_there (Mutex l (Lock e r a)) is can = absurd cc
+  late_there (Mutex l TryLock) is can = absurd cc
+  late_there (Mutex l (Unlock a)) is can = absurd cc
+  late_there (Mutex l UnlockFair) is can = absurd cc
+  late_there (Mutex l Bump) is can = absurd cc
+  late_there (Mutex l (HandOff b a)) is can = absurd cc
+
+  pub may_be_late : is_free_under w (late_key (place_at w t)) ≡ true → MayBeLate (locks_of w) t
+  may_be_late can = late_there (place_at w t) refl can
+
+  free_there : (l k : ℕ) → k ≡ l → StandsFreely (locks_of w) t l → is_none (section_at w (2 * k)) ≡ true
+  free_there l k e (inl h) = rw (e, h.1) refl
+  free_there l k e (inr h) = let none : (lock_state w l).aside ≡ None = none_aside l in absurd (let g : None ≡ Some t = sym none ∙ h.0 in cc)
+
+  nowhere : (p : Place) → place_at w t ≡ p → queued p ≡ None → (l : ℕ) → StandsFreely (locks_of w) t l → ⊥
+  nowhere p is none l (inl h) = let zero_times : locks.times t (lock_state w l).queue ≡ 0 = stands_by p is l ∙ ap (λ o. one_if o l) none in let one : 1 ≤ locks.times t (lock_state w l).queue = h.0 in omega arith
+  nowhere p is none l (inr h) = let aside : (lock_state w l).aside ≡ None = none_aside l in let g : None ≡ Some t = sym aside ∙ h.0 in cc
+
+  late_by : (p : Place) → place_at w t ≡ p → (r : ℕ → Rights) (l : ℕ) → IsTimed (call_state p r).purpose l → sleeps (act_of p) ≡ true → StandsFreely (locks_of w) t l → is_free_under w (late_key p) ≡ true
+  late_by Idle is r l timed asleep stands = absurd timed
+  late_by (Mutex k (Lock entries.LockTimed again lock.Asleep)) is r l timed asleep stands = free_there l k timed.0 stands
+  late_by (Mutex k (Lock entries.Lock again lock.Asleep)) is r l timed asleep stands = absurd (let h = timed.1 in cc)
+  late_by (Mutex k (Lock entries.Bump again lock.Asleep)) is r l timed asleep stands = absurd timed
+  late_by (Mutex k (Lock e again (lock.Taken by))) is r l timed asleep stands = absurd (nowhere _ is refl l stands)
+  late_by (Mutex k (Lock e again (lock.Handed by))) is r l timed asleep stands = absurd (nowhere _ is refl l stands)
+  late_by (Mutex k (Lock e again (lock.Decide s))) is r l timed asleep stands = absurd (let h : false ≡ true = sym (decides_awake k s (is_locked s) (s == 1)) ∙ asleep in cc)
+  late_by (Mutex k (Lock e again lock.First)) is r l timed asleep stands = absurd cc
+  late_by (Mutex k (Lock e again a)) is r l timed asleep stands = absurd cc
+  late_by (Mutex k TryLock) is r l timed asleep stands = absurd cc
+  late_by (Mutex k (Unlock unlock.Subtract)) is r l timed asleep stands = absurd cc
+  late_by (Mutex k (Unlock a)) is r l timed asleep stands = absurd cc
+  late_by (Mutex k UnlockFair) is r l timed asleep stands = absurd cc
+  late_by (Mutex k Bump) is r l timed asleep stands = absurd cc
+  late_by (Mutex k (HandOff b (hand_off.Store None n))) is r l timed asleep stands = absurd cc
+  late_by (Mutex k (HandOff b (hand_off.Store (Some u) n))) is r l timed asleep stands = absurd cc
+  late_by (Mutex k (HandOff b a)) is r l timed asleep stands = absurd cc
+
+  pub late_possible : MayBeLate (locks_of w) t → is_free_under w (late_key (place_at w t)) ≡ true
+  late_possible may = late_by (place_at w t) refl (rights w t) may.lock may.timed may.asleep may.stands
+
+-- ---------------------------------------------------------------- what a thread is told
+
+-- a thread that goes on is told that it sleeps where it sleeps then
+told_act : (a : Act) → (outcome_of a ≡ outcome.TheVariants.Sleep) ↔ (sleeps a ≡ true)
+told_act Sleep = ((λ h. refl), λ h. refl)
+told_act (End answer) = ((λ h. cc), λ h. cc)
+told_act (Closure state) = ((λ h. cc), λ h. cc)
+told_act Rest = ((λ h. cc), λ h. cc)
+told_act a = ((λ h. cc), λ h. cc)
+
+told_next : (l : ℕ) (n : Next MutexPlace) → (outcome_of (mutex_does l n) ≡ outcome.TheVariants.Sleep) ↔ (sleeps (act_of (mutex_goes l n)) ≡ true)
+told_next l (next.At at) = told_act (mutex_act l at)
+told_next l (next.End answer) = ((λ h. cc), λ h. cc)
+
+pub told_gone : (p : Place) (r : Reply) → (outcome_of (next_act p r) ≡ outcome.TheVariants.Sleep) ↔ (sleeps (act_of (next_place p r)) ≡ true)
+told_gone Idle r = ((λ h. cc), λ h. cc)
+told_gone (Mutex l at) r = told_next l (mutex_next at r)
+
+pub told_step : (b : Bool) → b ≡ false → (outcome.TheVariants.Step ≡ outcome.TheVariants.Sleep) ↔ (b ≡ true)
+told_step true h = absurd cc
+told_step false h = ((λ e. cc), λ e. cc)
+
+-- a call begins awake
+pub begins_awake : (k : Kind) (c : Call) → sleeps (act_of (first_place k c)) ≡ false
+begins_awake k (call.TheVariants.Mutex l c) = either (is_fair k) c
+  where
+    either : (fair : Bool) (c : MutexCall) → sleeps (act_of (Mutex l (mutex_first fair c))) ≡ false
+    either fair mutex_call.TheVariants.Lock = refl
+    either fair mutex_call.TheVariants.LockTimed = refl
+    either fair mutex_call.TheVariants.TryLock = refl
+    either true mutex_call.TheVariants.Unlock = refl
+    either false mutex_call.TheVariants.Unlock = refl
+    either fair mutex_call.TheVariants.UnlockFair = refl
+    either fair mutex_call.TheVariants.Bump = refl
+
+-- and so does who looks at the word once more
+pub looks_awake : (l s : ℕ) → sleeps (lock_act l (lock.Decide s)) ≡ false
+looks_awake l s = decides_awake l s (is_locked s) (s == 1)
+
+-- ---------------------------------------------------------------- no closure, and nobody past the last thread
+
+decides_plainly : (l s : ℕ) (a b : Bool) → runs_closure (if not a then Word l (op.TheVariants.Exchange s (s + 1)) else if b then Word l (op.TheVariants.Exchange 1 3) else Enter (One (2 * l))) ≡ false
+decides_plainly l s false b = refl
+decides_plainly l s true true = refl
+decides_plainly l s true false = refl
+
+runs_none : (p : Place) → runs_closure (act_of p) ≡ false
+runs_none Idle = refl
+runs_none (Mutex l (Lock e r lock.First)) = refl
+runs_none (Mutex l (Lock e r (lock.Decide s))) = decides_plainly l s (is_locked s) (s == 1)
+runs_none (Mutex l (Lock e r a)) = refl
+runs_none (Mutex l TryLock) = refl
+runs_none (Mutex l (Unlock unlock.Subtract)) = refl
+runs_none (Mutex l (Unlock a)) = refl
+runs_none (Mutex l UnlockFair) = refl
+runs_none (Mutex l Bump) = refl
+runs_none (Mutex l (HandOff b (hand_off.Store None n))) = refl
+runs_none (Mutex l (HandOff b (hand_off.Store (Some u) n))) = refl
+runs_none (Mutex l (HandOff b a)) = refl
+
+pub no_closure : (w : State) (t : ℕ) → runs_closure (act_of (place_at w t)) ≡ true → ⊥
+no_closure w t h = let e : false ≡ true = sym (runs_none (place_at w t)) ∙ h in cc
+
+pub nobody_turns : (w : State) (t : ℕ) (x : Turn) → place_at w t ≡ Idle → t < length w.places ⊎ (MayTurn (locks_of w) t x → ⊥)
+nobody_turns w t (turn.TheVariants.Begin c) idle = elim (cases_lt t (length w.places)) [
+  | inl lt ↦ inl lt
+  | inr ge ↦ inr (λ may. let lt : t < length w.places = may.thread in omega arith)
+]
+nobody_turns w t turn.TheVariants.Go idle = inr (λ may. may.called (ap (λ p. (call_state p (rights w t)).purpose) idle))
+nobody_turns w t turn.TheVariants.Spin idle = inr (λ may. let e : false ≡ true = sym (ap (λ p. is_there (spin_lock p)) idle) ∙ may in cc)
+nobody_turns w t turn.TheVariants.Late idle = inr (λ may. let e : false ≡ true = sym (ap (λ p. sleeps (act_of p)) idle) ∙ may.asleep in cc)
+nobody_turns w t turn.TheVariants.Ok idle = inr (λ may. no_closure w t may)
+nobody_turns w t turn.TheVariants.Err idle = inr (λ may. no_closure w t may)
+
+-- whoever takes a turn is there
+pub turner_there : (w : State) (t : ℕ) (x : Turn) → MayTurn (locks_of w) t x → t < length w.places
+turner_there w t x may = elim (cases_lt t (length w.places)) [
+  | inl lt ↦ lt
+  | inr ge ↦ elim (nobody_turns w t x (get_or_past w.places t Idle ge)) [ inl lt ↦ lt | inr none ↦ absurd (none may) ]
+]
+
+-- ---------------------------------------------------------------- sections
+
+-- an act enters or leaves the main section of one lock alone, and leaves it only from inside
+abbrev OnMain : State → ℕ → ℕ → Act → Type 0
+OnMain w t l (Enter (One key)) = key ≡ 2 * l
+OnMain w t l (Enter (Two first second)) = ⊥
+OnMain w t l (act.Leave (One key) x) = (key ≡ 2 * l) × (section_at w (2 * l) ≡ Some t)
+OnMain w t l (act.Leave (Two first second) x) = ⊥
+OnMain w t l a = Unit {0}
+
+decides_main : (w : State) (t l s : ℕ) (a b : Bool) → OnMain w t l (if not a then Word l (op.TheVariants.Exchange s (s + 1)) else if b then Word l (op.TheVariants.Exchange 1 3) else Enter (One (2 * l)))
+decides_main w t l s false b = tt
+decides_main w t l s true true = tt
+decides_main w t l s true false = refl
+
+module _ (w : State) (t : ℕ) (sound : IsSound w) where
+  held : (p : Place) (l : ℕ) → place_at w t ≡ p → inside p ≡ Some l → (2 * l ≡ 2 * l) × (section_at w (2 * l) ≡ Some t)
+  held p l is within = (refl, (sound.sections t l).0 (ap inside is ∙ within))
+
+  on_main : (l : ℕ) (at : MutexPlace) → place_at w t ≡ Mutex l at → OnMain w t l (mutex_act l at)
+  on_main l (Lock e r lock.First) is = tt
+  on_main l (Lock e r (lock.Decide s)) is = decides_main w t l s (is_locked s) (s == 1)
+  on_main l (Lock e r (lock.Leave b)) is = held _ l is refl
+  on_main l (Lock e r lock.GiveUp) is = held _ l is refl
+  on_main l (Lock e r a) is = tt
+  on_main l TryLock is = tt
+  on_main l (Unlock unlock.Subtract) is = tt
+  on_main l (Unlock unlock.Enter) is = refl
+  on_main l (Unlock unlock.Take) is = tt
+  on_main l (Unlock (unlock.Clear taken)) is = tt
+  on_main l (Unlock (unlock.Leave taken)) is = held _ l is refl
+  on_main l UnlockFair is = tt
+  on_main l Bump is = tt
+  on_main l (HandOff b hand_off.Enter) is = refl
+  on_main l (HandOff b hand_off.Take) is = tt
+  on_main l (HandOff b (hand_off.Store None n)) is = tt
+  on_main l (HandOff b (hand_off.Store (Some u) n)) is = tt
+  on_main l (HandOff b (hand_off.Leave taken)) is = held _ l is refl
+
+module _ (w : State) (t : ℕ) where
+  filled_changes : (l : ℕ) (who : Option ℕ) → 2 * l < length w.sections → SectionChanges (section_at w (2 * l)) t who → (key : ℕ) → SectionChanges (section_at w key) t (section_at (filled_with w (One (2 * l)) who) key)
+  filled_changes l who lt changes key = elim (cases_eq key (2 * l)) [
+    | inl e ↦ rw (e, get_or-set_same w.sections (2 * l) who None lt) changes
+    | inr ne ↦ inl (get_or-set_other w.sections (2 * l) key who None ne)
+  ]
+
+  parked_sections : (b : Bool) (queues : List (List Waiter)) (key : ℕ) → section_at (if b then record w { queues = queues } else w) key ≡ section_at w key
+  parked_sections true queues key = refl
+  parked_sections false queues key = refl
+
+  took_sections : (queues : List (List Waiter)) (o : Option ℕ) (key : ℕ) → section_at (taken_by (record w { queues = queues }) t o) key ≡ section_at w key
+  took_sections queues None key = refl
+  took_sections queues (Some u) key = refl
+
+  left_sections : (keys : Keys) (x : Wakes) (key : ℕ) → section_at (awakened (filled_with w keys None) x) key ≡ section_at (filled_with w keys None) key
+  left_sections keys wakes.TheVariants.Nobody key = refl
+  left_sections keys (wakes.TheVariants.One u note) key = refl
+
+  act_sections : (p : Place) (l : ℕ) → 2 * l < length w.sections → (a : Act) → can_do w a ≡ true → OnMain w t l a → (key : ℕ) → SectionChanges (section_at w key) t (section_at (performed w t p a) key)
+  act_sections p l lt (Enter (One k)) can main key = rw main (filled_changes l (Some t) lt (inr (inl (none_is (section_at w (2 * l)) (rw main at can), refl))) key)
+  act_sections p l lt (Enter (Two first second)) can main key = absurd main
+  act_sections p l lt (act.Leave (One k) x) can main key = rw (left_sections (One k) x key, main.0) (filled_changes l None lt (inr (inr (main.1, refl))) key)
+  act_sections p l lt (act.Leave (Two first second) x) can main key = absurd main
+  act_sections p l lt (Park k key_there check x) can main key = inl (parked_sections (holds check (word_at w k)) _ key)
+  act_sections p l lt (TakeFirst k) can main key = inl (took_sections (first_taken w.queues k) (first_of (queue_at w k)) key)
+  act_sections p l lt Rest can main key = inl refl
+  act_sections p l lt a can main key = inl refl
+
+pub gone_sections : (w : State) (t : ℕ) → IsShaped w → IsSound w → can_go w t ≡ true → (key : ℕ) → SectionChanges (section_at w key) t (section_at (gone w t) key)
+gone_sections w t shape sound can = by_place (place_at w t) refl (shape.places t) can
+  where
+    by_place : (p : Place) → place_at w t ≡ p → PlaceFits (length w.places) (length w.locks) p → can_do w (act_of p) ≡ true → (key : ℕ) → SectionChanges (section_at w key) t (section_at (performed w t p (act_of p)) key)
+    by_place Idle is fits can key = absurd cc
+    by_place (Mutex l at) is fits can key = act_sections w t (Mutex l at) l (main_key_there w l shape fits.0) (mutex_act l at) can (on_main w t sound l at is) key
+
+pub spun_sections : (w : State) (t : ℕ) (o : Option ℕ) (key : ℕ) → section_at (spun_on w t o) key ≡ section_at w key
+spun_sections w t None key = refl
+spun_sections w t (Some l) key = refl
+
+-- ---------------------------------------------------------------- the other turns
+
+module _ (w : State) (t : ℕ) (there : t < length w.places) where
+  pub spun_awake : (p : Place) → place_at w t ≡ p → is_there (spin_lock p) ≡ true → sleeps (act_of (place_at (spun_on w t (spin_lock p)) t)) ≡ false
+  spun_awake Idle is can = absurd cc
+  spun_awake (Mutex l (Lock e r (lock.Decide x))) is can = either (x == 1) can
+    where
+      either : (b : Bool) → is_there (if b then Some l else None) ≡ true → sleeps (act_of (place_at (spun_on w t (if b then Some l else None)) t)) ≡ false
+      either true can = rw (get_or-set_same w.places t (next_place (place_at w t) (Spun (word_at w l))) Idle there, is) (looks_awake l (word_at w l))
+      either false can = absurd cc
+  spun_awake (Mutex l (Lock e r lock.First)) is can = absurd cc
+  spun_awake (Mutex l (Lock e r a)) is can = absurd cc
+  spun_awake (Mutex l TryLock) is can = absurd cc
+  spun_awake (Mutex l (Unlock a)) is can = absurd cc
+  spun_awake (Mutex l UnlockFair) is can = absurd cc
+  spun_awake (Mutex l Bump) is can = absurd cc
+  spun_awake (Mutex l (HandOff b a)) is can = absurd cc
+
+  pub late_awake : (p : Place) → place_at w t ≡ p → is_free_under w (late_key p) ≡ true → sleeps (act_of (place_at (late_on w t (late_key p)) t)) ≡ false
+  late_awake (Mutex l (Lock entries.LockTimed r lock.Asleep)) is can = rw (get_or-set_same w.places t (next_place (place_at w t) Late) Idle there, is) refl
+  late_awake Idle is can = absurd cc
+  late_awake (Mutex l (Lock entries.Lock r lock.Asleep)) is can = absurd cc
+  late_awake (Mutex l (Lock entries.Bump r lock.Asleep)) is can = absurd cc
+  late_awake (Mutex l (Lock e r lock.First)) is can = absurd cc
+  late_awake (Mutex l (Lock e r a)) is can = absurd cc
+  late_awake (Mutex l TryLock) is can = absurd cc
+  late_awake (Mutex l (Unlock a)) is can = absurd cc
+  late_awake (Mutex l UnlockFair) is can = absurd cc
+  late_awake (Mutex l Bump) is can = absurd cc
+  late_awake (Mutex l (HandOff b a)) is can = absurd cc
+
+module _ (w : State) (t : ℕ) (shape : IsShaped w) where
+  pub late_sections : (p : Place) → place_at w t ≡ p → PlaceFits (length w.places) (length w.locks) p → is_free_under w (late_key p) ≡ true → (key : ℕ) → SectionChanges (section_at w key) t (section_at (late_on w t (late_key p)) key)
+  late_sections (Mutex l (Lock entries.LockTimed r lock.Asleep)) is fits can key = filled_changes w t l (Some t) (main_key_there w l shape fits.0) (inr (inl (none_is (section_at w (2 * l)) can, refl))) key
+  late_sections Idle is fits can key = absurd cc
+  late_sections (Mutex l (Lock entries.Lock r lock.Asleep)) is fits can key = absurd cc
+  late_sections (Mutex l (Lock entries.Bump r lock.Asleep)) is fits can key = absurd cc
+  late_sections (Mutex l (Lock e r lock.First)) is fits can key = absurd cc
+  late_sections (Mutex l (Lock e r a)) is fits can key = absurd cc
+  late_sections (Mutex l TryLock) is fits can key = absurd cc
+  late_sections (Mutex l (Unlock a)) is fits can key = absurd cc
+  late_sections (Mutex l UnlockFair) is fits can key = absurd cc
+  late_sections (Mutex l Bump) is fits can key = absurd cc
+  late_sections (Mutex l (HandOff b a)) is fits can key = absurd cc

@@ -1,0 +1,53 @@
+-- One run of the world, and what its definitions refuse.
+use Rattle.std.proofs.Common.{ℕ, zero, suc, true, false, Some, None, ◌≡◌, inl, inr, [], ◌∷◌, refl, sym, ◌∙◌, arith}
+use Rattle.lot_calls.specs.declared.kinds.Kind.TheVariants as kind
+use Rattle.lot_world.specs.Machine.{after_all}
+use Rattle.lot_world.specs.Promises.{IsLookedAfter}
+use Rattle.lot_world.specs.Laws.{FairUnlockHandsOver, NoWaiterIsForgotten, NobodyIsPassedOver, three, row, row_told, forgotten}
+use Rattle.lot_world.proofs.Shape.{opening_shaped}
+use Rattle.lot_world.proofs.OnlyMutexes.{opening_only}
+use Rattle.std.proofs.lemmas.List.Elements.{All-cons, All-nil}
+use Rattle.lot_calls.specs.Kinds.{fits}
+use Rattle.lot_world.proofs.Promises.{opening_sound, opening_locks}
+use Rattle.lot_world.proofs.WorldRuns.{Holds, world_run, run_refines}
+
+three_hold : Holds three
+three_hold = record {
+  shaped = opening_shaped (kind.Mutex ∷ []) 3 (omega arith);
+  sound = opening_sound (kind.Mutex ∷ []) 3 (omega arith) (All-cons (λ k. fits k 3 ≡ true) kind.Mutex [] refl (All-nil (λ k. fits k 3 ≡ true)));
+  only = opening_only (kind.Mutex ∷ []) 3;
+  locks = opening_locks (kind.Mutex ∷ []) 3;
+}
+
+pub hands_over : FairUnlockHandsOver
+hands_over = record {
+  run = run_refines three (after_all three row) row row_told (world_run three row three_hold);
+  owner = refl;
+  queue = refl;
+  word = refl;
+}
+
+-- nobody owes or retries
+nobody_looks : (u : ℕ) (h : IsLookedAfter forgotten 0) → h.debtor ≡ u → ⊥
+nobody_looks zero h e = elim h.debt [
+  | inl owes ↦ let f : false ≡ true = rw e at owes.0 in cc
+  | inr retries ↦ let f : None ≡ Some 0 = rw e at retries in cc
+]
+nobody_looks (suc zero) h e = elim h.debt [
+  | inl owes ↦ let f : false ≡ true = rw e at owes.0 in cc
+  | inr retries ↦ let f : None ≡ Some 0 = rw e at retries in cc
+]
+nobody_looks (suc (suc u)) h e = elim h.debt [
+  | inl owes ↦ let f : false ≡ true = rw e at owes.0 in cc
+  | inr retries ↦ let f : None ≡ Some 0 = rw e at retries in cc
+]
+
+pub no_waiter_forgotten : NoWaiterIsForgotten
+no_waiter_forgotten kept = let looked = kept.nobody_forgotten 1 0 (omega arith) refl in nobody_looks looked.debtor looked refl
+
+pub nobody_passed_over : NobodyIsPassedOver
+nobody_passed_over v free fair = elim (fair.gives 0 0 ((refl, refl), refl)) [
+  | inl owns ↦ let e : None ≡ Some 0 = sym free ∙ owns.0 in cc
+  | inr (inl hands) ↦ let e : None ≡ Some hands.0 = sym free ∙ hands.2 in cc
+  | inr (inr lets) ↦ lets.1 1 _ refl
+]

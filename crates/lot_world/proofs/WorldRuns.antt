@@ -1,0 +1,109 @@
+-- Steps one after another, and steps of a thread alone, are a run of the world.
+use Rattle.std.proofs.Common.{ℕ, zero, suc, ◌≡◌, ◌≤◌, List, [], ◌∷◌, ◌++◌, length, replicate, refl, sym, ap, ◌∙◌, subst, arith}
+use Rattle.lot_calls.specs.declared.calls.Step.{Step}
+use Rattle.lot_calls.specs.declared.outcomes.Outcome.{Outcome}
+use Rattle.lot_calls.specs.declared.outcomes.Outcome as outcome
+use Rattle.abstract_locks.specs.Runs.{AreLockStates, IsRun}
+use Rattle.lot_world.specs.Machine.{State, after, answered, after_all, answered_all, alone_after, go_of, solo}
+use Rattle.lot_world.specs.Fits.{IsShaped}
+use Rattle.lot_world.specs.Sound.{IsSound}
+use Rattle.lot_world.specs.OnlyMutexes.{OnlyMutexes}
+use Rattle.lot_world.specs.Refinement.{locks_of}
+use Rattle.lot_world.specs.WorldRuns.{IsWorldStep, IsWorldRun, Tells}
+use Rattle.lot_world.specs.Solo.{IsSoloRun, GoesOnUntil, last_told}
+use Rattle.lot_world.proofs.Fair.{is_fair}
+use Rattle.lot_world.proofs.LockRuns.{after_locks}
+use Rattle.lot_world.proofs.LockSteps.{after_step}
+use Rattle.lot_world.proofs.OneThing.{one_thing, touches}
+use Rattle.lot_world.proofs.OnlyMutexes.{after_only}
+use Rattle.lot_world.proofs.Promises.{kept_after}
+use Rattle.lot_world.proofs.Shape.{after_shaped}
+use Rattle.lot_world.proofs.Steady.{after_sound}
+
+-- what the world keeps from step to step
+pub record Holds (w : State) : Type 0 where
+  pub shaped : IsShaped w
+  pub sound : IsSound w
+  pub only : OnlyMutexes w
+  pub locks : AreLockStates (locks_of w)
+
+pub holds_after : (w : State) (s : Step) → Holds w → Holds (after w s)
+holds_after w s h = record {
+  shaped = after_shaped w s h.shaped;
+  sound = after_sound w s h.shaped h.sound;
+  only = after_only w s h.only;
+  locks = after_locks w s h.shaped h.sound h.only h.locks;
+}
+
+pub world_step : (w : State) (s : Step) → Holds w → IsWorldStep w s (answered w s) (after w s)
+world_step w s h = record {
+  refines = after_step w s h.shaped h.sound h.only;
+  one_thing = one_thing w s h.sound h.only;
+  touches = touches w s;
+  fair = is_fair w s h.shaped h.sound h.only h.locks;
+  kept = kept_after w s h.shaped h.sound h.only h.locks;
+}
+
+pub world_run : (w : State) (ss : List Step) → Holds w → IsWorldRun w ss (answered_all w ss) (after_all w ss)
+world_run w [] h = refl
+world_run w (s ∷ ss) h = (after w s, world_step w s h, world_run (after w s) ss (holds_after w s h))
+
+-- a run of the world is a run of the abstract locks
+pub run_refines : (w v : State) (ss : List Step) (os : List Outcome) → IsWorldRun w ss os v → IsRun (locks_of w) ss os (locks_of v)
+run_refines w v [] [] h = ap locks_of h
+run_refines w v [] (o ∷ os) h = absurd h
+run_refines w v (s ∷ ss) [] h = absurd h
+run_refines w v (s ∷ ss) (o ∷ os) h = (locks_of h.0, h.1.refines, run_refines h.0 v ss os h.2)
+
+-- ---------------------------------------------------------------- what was told stands behind what was there
+
+module _ (w v : State) (ss : List Step) (before now : List Outcome) (h : Holds w) (led : v ≡ after_all w ss) (answers : now ≡ before ++ answered_all w ss) where
+  pub tells_run : Tells before now (λ told. IsWorldRun w ss told v)
+  tells_run = (answered_all w ss, answers, subst (IsWorldRun w ss (answered_all w ss)) (sym led) (world_run w ss h))
+
+  pub tells_refines : Tells before now (λ told. IsRun (locks_of w) ss told (locks_of v))
+  tells_refines = (answered_all w ss, answers, run_refines w v ss (answered_all w ss) (subst (IsWorldRun w ss (answered_all w ss)) (sym led) (world_run w ss h)))
+
+-- ---------------------------------------------------------------- a thread alone
+
+-- at most n steps of the thread, behind an outcome
+record GoesFor (n : ℕ) (w : State) (t : ℕ) (last result : Outcome) (v : State) : Type 0 where
+  pub told : List Outcome
+  pub few : length told ≤ n
+  pub run : IsWorldRun w (replicate (length told) (go_of t)) told v
+  pub goes_on : GoesOnUntil told
+  pub result_is : result ≡ last_told (last ∷ told)
+
+goes_more : (o : Outcome) (told : List Outcome) → o ≡ outcome.TheVariants.Step → GoesOnUntil told → GoesOnUntil (o ∷ told)
+goes_more o [] e h = λ f. let g : outcome.TheVariants.Step ≡ outcome.TheVariants.NotNow = sym e ∙ f in cc
+goes_more o (x ∷ told) e h = (e, h)
+
+goes_for : (n : ℕ) (w : State) (t : ℕ) (last : Outcome) → Holds w → GoesFor n w t last (solo n w t last).outcome (solo n w t last).state
+unfolding solo
+goes_for zero w t last h = record { told = []; few = omega arith; run = refl; goes_on = tt; result_is = refl }
+goes_for (suc n) w t last h = by_outcome (answered w (go_of t)) refl (goes_for n (after w (go_of t)) t outcome.TheVariants.Step (holds_after w (go_of t) h))
+  where
+    by_outcome : (o : Outcome) → answered w (go_of t) ≡ o → GoesFor n (after w (go_of t)) t outcome.TheVariants.Step (solo n (after w (go_of t)) t outcome.TheVariants.Step).outcome (solo n (after w (go_of t)) t outcome.TheVariants.Step).state
+        → GoesFor (suc n) w t last (alone_after o w (after w (go_of t)) last (solo n (after w (go_of t)) t outcome.TheVariants.Step)).outcome (alone_after o w (after w (go_of t)) last (solo n (after w (go_of t)) t outcome.TheVariants.Step)).state
+    by_outcome outcome.TheVariants.NotNow e more = record { told = []; few = omega arith; run = refl; goes_on = tt; result_is = refl }
+    by_outcome outcome.TheVariants.Step e more = record {
+      told = outcome.TheVariants.Step ∷ more.told;
+      few = let le : length more.told ≤ n = more.few in omega arith;
+      run = (after w (go_of t), subst (λ o. IsWorldStep w (go_of t) o (after w (go_of t))) e (world_step w (go_of t) h), more.run);
+      goes_on = goes_more outcome.TheVariants.Step more.told refl more.goes_on;
+      result_is = more.result_is;
+    }
+    by_outcome o e more = record {
+      told = o ∷ [];
+      few = omega arith;
+      run = (after w (go_of t), subst (λ x. IsWorldStep w (go_of t) x (after w (go_of t))) e (world_step w (go_of t) h), refl);
+      goes_on = λ f. cc;
+      result_is = refl;
+    }
+
+pub solo_runs : (w : State) (t : ℕ) → Holds w → IsSoloRun w t (solo 64 w t outcome.TheVariants.NotNow).outcome (solo 64 w t outcome.TheVariants.NotNow).state
+solo_runs w t h = let g = goes_for 64 w t outcome.TheVariants.NotNow h in record { told = g.told; few = g.few; run = g.run; goes_on = g.goes_on; last = last_is g.told g.result_is }
+  where
+    last_is : (told : List Outcome) → (solo 64 w t outcome.TheVariants.NotNow).outcome ≡ last_told (outcome.TheVariants.NotNow ∷ told) → (solo 64 w t outcome.TheVariants.NotNow).outcome ≡ last_told told
+    last_is [] e = e
+    last_is (o ∷ told) e = e

@@ -1,0 +1,17 @@
+//! One run, worked out step by step, and what no world comes to.
+ghost use Rattle.lot_world.specs.Laws.{FairUnlockHandsOver, NoWaiterIsForgotten, NobodyIsPassedOver};
+
+/// Thread 0 locks a mutex, threads 1 and 2 wait for it, and thread 0 unlocks it fairly: thread 1 owns it, and thread 2 waits.
+pub fn a_fair_unlock_hands_over()
+    ensures { FairUnlockHandsOver }
+{}
+
+/// A waiter of a mutex that nobody owns has somebody who owes its wake or tries again.
+pub fn no_waiter_is_forgotten()
+    ensures { NoWaiterIsForgotten }
+{}
+
+/// A fair release that has taken a waiter doesn't let the mutex go.
+pub fn nobody_is_passed_over()
+    ensures { NobodyIsPassedOver }
+{}
