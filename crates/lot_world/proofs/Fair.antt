@@ -1,11 +1,10 @@
 -- Each step of the world is fair.
-use Rattle.std.proofs.Common.{ℕ, Bool, true, false, Option, Some, None, if◌then◌else◌, ◌==◌, ◌&&◌, not, ◌≡◌, ◌≢◌, ◌+◌, ◌*◌, ◌≤◌, ◌<◌, ◌⊎◌, inl, inr, List, [], ◌∷◌, length, map, refl, sym, ◌∙◌, ap, subst, arith, get_or-set_same}
+use Rattle.std.proofs.Common.{ℕ, Bool, true, false, Option, Some, None, if◌then◌else◌, ◌==◌, ◌&&◌, not, ◌≡◌, ◌≢◌, ◌+◌, ◌*◌, ◌<◌, ◌⊎◌, inl, inr, [], length, refl, sym, ◌∙◌, ap, subst, arith, get_or-set_same}
 use Rattle.std.proofs.lemmas.Bool.{cases_eq, eqb-true}
 use Rattle.std.proofs.lemmas.Bool.Decides.{nat_tests}
 use Rattle.lot_base.specs.declared.keys.Keys.TheVariants.{One}
 use Rattle.lot_base.specs.declared.ops.Op.{Op}
 use Rattle.lot_base.specs.declared.ops.Op as op
-use Rattle.lot_base.specs.declared.wants.Waiter.{Waiter}
 use Rattle.lot_base.specs.declared.wants.Want.{Want}
 use Rattle.lot_base.specs.declared.wants.Want.TheVariants.{Exclusive}
 use Rattle.lot_base.specs.Lines.{first_of}
@@ -30,23 +29,20 @@ use Rattle.lot_steps.specs.Steps.{act_of, spin_lock, late_key}
 use Rattle.lot_world.specs.Machine.{State, unlocked, place_at, word_at, owners_at, kind_at, queue_at, operated, appended, first_taken, performed, taken_by, spun_on, late_on, turned, is_possible, after, answered}
 use Rattle.lot_world.specs.Fits.{IsShaped, PlaceFits}
 use Rattle.lot_world.specs.Promises.{Codes}
-use Rattle.lot_world.specs.Sound.{IsSound, Nobody, taken_from, Carries, queued, owner_at}
+use Rattle.lot_world.specs.Sound.{IsSound, taken_from, Carries, owner_at}
+use Rattle.abstract_locks.specs.Sites.{Main}
+use Rattle.lot_world.proofs.MutexTable.{own_doing}
 use Rattle.lot_world.specs.OnlyMutexes.{OnlyMutexes, CallFits, is_mutex}
 use Rattle.abstract_locks.specs.Locks.{LockState, Queued, Rules, Rights, Taken, LockCase, Enter, Pend, Settle, Leave, Convert, Park, Aside, TakeFirst, TakeAside, TakePicked, Wake, HandOff as HandsLockOff, Late, Rollback, Needs, Owns, IsTaken, HasTakenNobody, IsLockState, Knows, keep_from, first_thread, rights_of}
 use Rattle.abstract_locks.specs.Locks as locks
 use Rattle.abstract_locks.specs.Runs.{LocksState, CallState, Event, Nothing, AtLock, AreLockStates, GoesOn, Stays, Does, MayHappen, IsStep, Turned, rules_at, locks_after}
-use Rattle.abstract_locks.specs.Picks.{queued_of}
 use Rattle.lot_world.specs.Refinement.{lock_state, locks_of, call_state}
 use Rattle.lot_world.specs.Fair.{IsFairRelease, OwnsOn, HandsOver, LetsGo, IsFair}
-use Rattle.lot_world.proofs.Shape.{after_shaped}
-use Rattle.lot_world.proofs.Counts.{first_times}
-use Rattle.lot_world.proofs.Words.{owner_after, exclusive-owners, by_code}
-use Rattle.lot_world.proofs.Steady.{IsTakenAt, in_hand, stands_at, after_sound}
-use Rattle.lot_world.proofs.OnlyMutexes.{after_only}
+use Rattle.lot_world.proofs.ExclusiveOwners.{owner_after, exclusive-owners, by_code}
+use Rattle.lot_world.proofs.Steady.{IsTakenAt, in_hand, after_sound}
 use Rattle.lot_world.proofs.LockEvents.{mutex_rules, mutex_rules_of, taken_nobody, same, rights}
 use Rattle.lot_world.proofs.LockSteps.{after_step}
 use Rattle.abstract_locks.proofs.Runs.{needs_of}
-use Rattle.lot_world.proofs.LockRuns.{after_locks}
 
 -- ---------------------------------------------------------------- what others do to an owner
 
@@ -171,11 +167,6 @@ module _ (w : State) (t l : ℕ) (shape : IsShaped w) (sound : IsSound w) (own :
         either false e h = inl h
         either true e h = inr (inr (h, carries_nobody (Mutex l UnlockFair) is (λ u k g. g), inl (rw (eqb-true (word_at w l) 1 e) refl)))
 
-    -- a queue in which nobody stands is empty
-    nobody_queued : Nobody (place_at w) l → (q : List Waiter) → queue_at w (2 * l) ≡ q → map queued_of q ≡ []
-    nobody_queued none [] e = refl
-    nobody_queued none (x ∷ q) e = absurd (none x.thread (stands_at (queued (place_at w x.thread)) l (subst (λ n. 1 ≤ n) (sound.queues x.thread l) (first_times x.thread (queue_at w (2 * l)) (ap first_of e)))))
-
     taken_gives : (bumps : Bool) (o : Option ℕ) → ComesTo w t l (taken_by (record w { queues = first_taken w.queues (2 * l) }) t o)
     taken_gives bumps None = inl own
     taken_gives bumps (Some u) = inl own
@@ -186,7 +177,7 @@ module _ (w : State) (t l : ℕ) (shape : IsShaped w) (sound : IsSound w) (own :
     hand_off_gives bumps (hand_off.Store None none_left) is = inr (inr (
       operated_owner (Mutex l (HandOff bumps (hand_off.Store None none_left))) (op.TheVariants.Store 0) lt,
       carries_nobody (Mutex l (HandOff bumps (hand_off.Store None none_left))) is (λ u k g. g),
-      inr (nobody_queued (sound.emptied t l (rw is refl)) (queue_at w (2 * l)) refl),
+      inr ((sound.steady.sites.site l).emptied t Main (ap (λ d. d.empty) (own_doing l (place_at w t) _ is))).1,
     ))
     hand_off_gives bumps (hand_off.Store (Some u) none_left) is = inr (inl (
       u,

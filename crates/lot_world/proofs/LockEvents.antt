@@ -31,9 +31,8 @@ use Rattle.lot_steps.specs.MutexSteps.{with_exclusive, is_timed}
 use Rattle.lot_world.specs.Machine.{State, place_at, word_at, owners_at, kind_at, queue_at, put, appended, removed, first_taken, befallen, filled_with}
 use Rattle.lot_world.specs.Fits.{IsShaped}
 use Rattle.lot_world.specs.Promises.{Codes}
-use Rattle.lot_world.specs.Sound.{IsSound, owner_at, Taking, taken_from, IsTakenBy, Carries, inside, queued, one_if, main_section, main_queue}
+use Rattle.lot_world.specs.Sound.{IsSound, owner_at, Taking, taken_from, IsTakenBy, Carries, inside, queued, one_if}
 use Rattle.lot_world.proofs.Counts.{without_absent, first_times}
-use Rattle.lot_world.proofs.Parks.{IsAsleep, asleep, alone}
 use Rattle.abstract_locks.specs.Locks.{LockState, Rules, Rights, LockCase, Enter, Taken as LockTaken, HasTakenNobody, Needs, Owns, IsBlocked, IsTaken, IsSuccessor, rights_of, with_right, without_right, is_thread, is_pending, one_if_some, readers, shares_handed, sharing_from, sharing_handed, leaving, put as putting}
 use Rattle.abstract_locks.specs.Locks as locks
 use Rattle.abstract_locks.specs.Runs.{LocksState, CallState, Event, IsTimely, is_taken_by, woken, Nothing, AtLock, MayHappen, Agrees, GoesOn, locks_after, going_on, unless_ended, rules_at, AnswerHolds, one_more_at}
@@ -41,7 +40,7 @@ use Rattle.abstract_locks.specs.Purposes.{Purpose, rules_of, IsMadeOf}
 use Rattle.abstract_locks.specs.Picks.{queued_of}
 use Rattle.lot_world.specs.Refinement.{lock_state, lock_seen, taken_at, gave_up_at, late_at, is_handed, is_bump, entry_purpose, release_purpose, before_release, before_entry, call_state, locks_of}
 use Rattle.lot_world.specs.OnlyMutexes.{AllExclusive, OnlyMutexes, is_mutex}
-use Rattle.lot_world.proofs.Steady.{IsTakenAt, in_hand, stands_at, stood, absent, same_without}
+use Rattle.lot_world.proofs.Steady.{IsTakenAt, IsAsleep, in_hand, stands_at, stood, absent, same_without, asleep, alone}
 use Rattle.lot_world.proofs.Shape.{main_line_there}
 
 -- ---------------------------------------------------------------- functions with one value set
@@ -497,7 +496,7 @@ module _ (w : State) (t l : ℕ) (p : Place) (is : place_at w t ≡ p) (shape : 
 
       sleeper : IsAsleep (place_at w u) l
       sleeper = elim (asleep (place_at w u) l stands) [
-        | inl within ↦ absurd (taker (alone (place_at w) (word_at w) (owner_at w) (main_section w) (main_queue w) sound t u l here_inside within))
+        | inl within ↦ absurd (taker (alone w sound t u l here_inside within))
         | inr rest ↦ rest
       ]
 

@@ -1,23 +1,14 @@
 -- Runs of the world are runs of the abstract locks, and what holds of each of their states.
-use Rattle.std.proofs.Common.{ℕ, Bool, true, false, Option, Some, None, if◌then◌else◌, ◌==◌, ◌≡◌, ◌+◌, ◌*◌, inl, inr, List, [], ◌∷◌, refl, sym, subst, arith}
-use Rattle.std.proofs.lemmas.Bool.{eqb-true}
-use Rattle.lot_calls.specs.declared.calls.Turn.{Turn}
-use Rattle.lot_calls.specs.declared.calls.Turn as turn
+use Rattle.std.proofs.Common.{ℕ, ◌≡◌, ◌+◌, ◌*◌, arith}
 use Rattle.lot_calls.specs.declared.calls.Step.{Step}
-use Rattle.lot_calls.specs.declared.outcomes.Outcome.{Outcome}
 use Rattle.lot_world.specs.Machine.{State, place_at, queue_at, after, answered}
 use Rattle.lot_world.specs.Fits.{IsShaped}
 use Rattle.lot_world.specs.Sound.{IsSound, queued, one_if}
-use Rattle.lot_world.proofs.Shape.{after_shaped}
-use Rattle.lot_world.proofs.Steady.{after_sound}
-use Rattle.abstract_locks.specs.Locks.{LockState, LockCase, Rules, Needs, IsLockState, standing, one_if_some}
-use Rattle.abstract_locks.specs.Locks as locks
-use Rattle.abstract_locks.specs.Purposes.{Purpose}
+use Rattle.abstract_locks.specs.Locks.{standing, one_if_some}
 use Rattle.abstract_locks.specs.Runs.{AreLockStates}
 use Rattle.lot_world.specs.Refinement.{locks_of, lock_state, taken_at}
 use Rattle.lot_world.specs.OnlyMutexes.{OnlyMutexes}
 use Rattle.abstract_locks.proofs.Runs.{step_keeps}
-use Rattle.lot_world.proofs.OnlyMutexes.{after_only}
 use Rattle.lot_world.proofs.LockEvents.{queued_times}
 use Rattle.lot_world.proofs.LockSteps.{after_step}
 

@@ -38,10 +38,6 @@ use Rattle.lot_world.proofs.Counts.{without_absent}
 use Rattle.lot_world.specs.Refinement.{ChangesOneThing}
 use Rattle.lot_world.specs.WorldRuns.{IsUntouched, TouchesOnlyByGoing}
 use Rattle.lot_world.specs.OnlyMutexes.{OnlyMutexes}
-use Rattle.lot_world.specs.Fits.{IsShaped}
-use Rattle.lot_world.proofs.Shape.{after_shaped}
-use Rattle.lot_world.proofs.Steady.{after_sound}
-use Rattle.lot_world.proofs.OnlyMutexes.{after_only}
 
 -- each key is a main one or one of waiters aside
 parity : (n : ℕ) → ((k : ℕ) × (n ≡ 2 * k)) ⊎ ((k : ℕ) × (n ≡ 2 * k + 1))

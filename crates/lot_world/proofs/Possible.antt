@@ -1,5 +1,5 @@
 -- A turn is possible exactly where the abstract locks and the call say so, and a thread is told that it sleeps where it does.
-use Rattle.std.proofs.Common.{ℕ, Bool, true, false, Option, Some, None, if◌then◌else◌, ◌==◌, ◌&&◌, not, ◌≡◌, ◌≢◌, ◌+◌, ◌*◌, ◌≤◌, ◌<◌, ◌↔◌, ◌⊎◌, inl, inr, List, [], ◌∷◌, length, is_none, refl, sym, ◌∙◌, ap, subst, arith, get_or, set, get_or-set_other, get_or-set_same, length-set}
+use Rattle.std.proofs.Common.{ℕ, Bool, true, false, Option, Some, None, if◌then◌else◌, ◌==◌, ◌&&◌, not, ◌≡◌, ◌≢◌, ◌+◌, ◌*◌, ◌≤◌, ◌<◌, ◌↔◌, ◌⊎◌, inl, inr, List, length, is_none, refl, sym, ◌∙◌, ap, arith, get_or-set_other, get_or-set_same}
 use Rattle.std.proofs.lemmas.Bool.{cases_eq, cases_lt}
 use Rattle.std.proofs.lemmas.List.{get_or_past}
 use Rattle.lot_base.specs.declared.keys.Keys.{Keys}
@@ -26,13 +26,9 @@ use Rattle.lot_steps.specs.declared.acts.Next.{Next}
 use Rattle.lot_steps.specs.declared.acts.Next.TheVariants as next
 use Rattle.lot_steps.specs.declared.mutex.MutexPlace.{MutexPlace}
 use Rattle.lot_steps.specs.declared.mutex.MutexPlace.TheVariants.{Lock, TryLock, Unlock, UnlockFair, Bump, HandOff}
-use Rattle.lot_steps.specs.declared.mutex.lock.Entry.{Entry}
 use Rattle.lot_steps.specs.declared.mutex.lock.Entry.TheVariants as entries
-use Rattle.lot_steps.specs.declared.mutex.lock.LockAt.{LockAt}
 use Rattle.lot_steps.specs.declared.mutex.lock.LockAt.TheVariants as lock
-use Rattle.lot_steps.specs.declared.mutex.unlock.UnlockAt.{UnlockAt}
 use Rattle.lot_steps.specs.declared.mutex.unlock.UnlockAt.TheVariants as unlock
-use Rattle.lot_steps.specs.declared.mutex.hand_off.HandOffAt.{HandOffAt}
 use Rattle.lot_steps.specs.declared.mutex.hand_off.HandOffAt.TheVariants as hand_off
 use Rattle.lot_steps.specs.declared.places.Place.{Place}
 use Rattle.lot_steps.specs.declared.places.Place.TheVariants.{Idle, Mutex}
@@ -41,7 +37,7 @@ use Rattle.lot_steps.specs.declared.acts.Wakes as wakes
 use Rattle.lot_steps.specs.Acts.{outcome_of, holds}
 use Rattle.lot_steps.specs.MutexSteps.{is_locked, lock_act, mutex_act, mutex_first, mutex_next}
 use Rattle.lot_steps.specs.Steps.{act_of, next_place, next_act, mutex_goes, mutex_does, late_key, first_place, spin_lock}
-use Rattle.lot_world.specs.Machine.{State, place_at, queue_at, section_at, is_free, is_there, can_do, can_go, is_free_under, word_at, filled_with, first_taken, taken_by, awakened, performed, gone, spun_on, late_on}
+use Rattle.lot_world.specs.Machine.{State, place_at, queue_at, section_at, is_there, can_do, can_go, is_free_under, word_at, filled_with, first_taken, taken_by, awakened, performed, gone, spun_on, late_on}
 use Rattle.lot_world.specs.Fits.{IsShaped, PlaceFits}
 use Rattle.lot_world.proofs.Shape.{main_key_there}
 use Rattle.lot_world.specs.Sound.{IsSound, inside, queued, one_if}

@@ -1,12 +1,11 @@
 -- What holds between steps, as callers are told it.
-use Rattle.std.proofs.Common.{ℕ, zero, suc, Bool, true, false, Option, Some, None, if◌then◌else◌, ◌==◌, ◌&&◌, not, ◌≡◌, ◌≢◌, ◌+◌, ◌*◌, ◌≤◌, ◌⊎◌, inl, inr, List, [], ◌∷◌, length, get_or, map, take, refl, ◌∙◌, ap, subst, arith, ◌↔◌, sym}
+use Rattle.std.proofs.Common.{All, ℕ, Bool, true, false, Option, Some, None, if◌then◌else◌, ◌==◌, ◌&&◌, not, ◌≡◌, ◌≢◌, ◌+◌, ◌*◌, ◌≤◌, ◌⊎◌, inl, inr, List, length, refl, ◌∙◌, ap, subst, arith, ◌↔◌, sym}
 use Rattle.lot_base.specs.declared.wants.Want.TheVariants.{Exclusive}
 use Rattle.lot_base.specs.declared.keys.Keys.TheVariants.{One}
 use Rattle.lot_base.specs.declared.ops.Op as op
 use Rattle.lot_steps.specs.declared.acts.Act as act
 use Rattle.lot_steps.specs.declared.acts.Act.TheVariants.{Sleep}
 use Rattle.lot_calls.specs.declared.kinds.Kind.{Kind}
-use Rattle.lot_calls.specs.declared.kinds.Kind as kind
 use Rattle.lot_calls.specs.declared.calls.Step.{Step}
 use Rattle.lot_steps.specs.declared.mutex.lock.Entry.{Entry}
 use Rattle.lot_steps.specs.declared.mutex.lock.Entry.TheVariants as entries
@@ -21,42 +20,29 @@ use Rattle.lot_steps.specs.declared.mutex.hand_off.HandOffAt.{HandOffAt}
 use Rattle.lot_steps.specs.declared.mutex.hand_off.HandOffAt.TheVariants as hand_off
 use Rattle.lot_steps.specs.declared.places.Place.{Place}
 use Rattle.lot_steps.specs.declared.places.Place.TheVariants.{Idle, Mutex}
-use Rattle.lot_steps.specs.MutexSteps.{is_locked, is_parked, lock_act, unlock_act, hand_off_act, lock_owes}
+use Rattle.lot_steps.specs.MutexSteps.{is_locked, lock_act, unlock_act, hand_off_act, lock_owes}
 use Rattle.lot_steps.specs.Steps.{act_of, owes_on, retries_on}
-use Rattle.lot_world.specs.Machine.{State, unlocked, opening, kind_at, place_at, word_at, queue_at, after, section_at}
+use Rattle.lot_world.specs.Machine.{State, opening, kind_at, place_at, after, section_at}
 use Rattle.lot_world.specs.Fits.{IsShaped}
-use Rattle.lot_world.specs.Sound.{IsSound, Debtor, Taking, handed_over, IsTakenBy, Carries, queued, holds, finds_empty, releases, tries_again, is_awake, owner_at, inside, one_if}
+use Rattle.lot_world.specs.Sound.{IsSound, Taking, handed_over, Carries, queued, holds, inside, one_if}
 use Rattle.abstract_locks.specs.Runs.{AreLockStates, IsOpening}
 use Rattle.abstract_locks.specs.Locks.{opening_lock, rights_of, Rights, one_if_some, standing}
-use Rattle.abstract_locks.specs.Purposes.{rules_of, Releases, Enters, Converts, Bumps, Purpose, MayWait, IsReleasing}
+use Rattle.abstract_locks.specs.Purposes.{rules_of, Enters, Converts, Bumps, Purpose, MayWait, IsReleasing}
 use Rattle.lot_world.specs.Refinement.{locks_of, lock_state, lock_seen, taken_at, is_bump, entry_purpose, call_state}
 use Rattle.lot_world.specs.OnlyMutexes.{OnlyMutexes}
-use Rattle.lot_world.specs.Promises.{Codes, WaitsFor, IsLookedAfter, IsKept, GoesToWake, IsHandedOver}
-use Rattle.lot_world.proofs.Shape.{after_shaped}
-use Rattle.lot_world.proofs.Steady.{stands_at, after_sound}
+use Rattle.lot_world.specs.Promises.{IsKept, GoesToWake, IsHandedOver}
+use Rattle.lot_world.proofs.Steady.{after_sound, sound_of}
+use Rattle.lot_world.proofs.SitesPromise.{looked_after, parked as bit_set}
+use Rattle.lot_world.proofs.OpeningSites.{opening_steady}
+use Rattle.lot_calls.specs.Kinds.{fits}
 use Rattle.lot_world.proofs.OnlyMutexes.{after_only}
 use Rattle.abstract_locks.proofs.LockKeeps.{opening_is_state}
-use Rattle.lot_world.proofs.LockEvents.{queued_times, same}
+use Rattle.lot_world.proofs.LockEvents.{same}
 use Rattle.lot_world.proofs.LockRuns.{stands_by, after_locks}
-use Rattle.lot_world.proofs.Opening.{idle_at, none_at, empty_at, nobody_owns}
+use Rattle.lot_world.proofs.Opening.{idle_at, empty_at, nobody_owns}
 use Rattle.std.proofs.lemmas.Bool.Decides.{nat_tests}
 use Rattle.std.proofs.lemmas.Bool.{eqb-true}
 use Rattle.abstract_locks.specs.Locks as locks
-
--- a debtor owes by its place, or tries again
-release_owes : (l : ℕ) (a : UnlockAt) (k : ℕ) → releases (Mutex l (Unlock a)) ≡ Some k → owes_on (Mutex l (Unlock a)) k ≡ true
-release_owes l unlock.Subtract k h = absurd cc
-release_owes l unlock.Enter k h = let e : l ≡ k = cc in rw e (same k)
-release_owes l unlock.Take k h = let e : l ≡ k = cc in rw e (same k)
-release_owes l (unlock.Clear taken) k h = let e : l ≡ k = cc in rw e (same k)
-release_owes l (unlock.Leave taken) k h = let e : l ≡ k = cc in rw e (same k)
-
-release_of : (l : ℕ) (a : UnlockAt) (k : ℕ) → releases (Mutex l (Unlock a)) ≡ Some k → l ≡ k
-release_of l unlock.Subtract k h = absurd cc
-release_of l unlock.Enter k h = cc
-release_of l unlock.Take k h = cc
-release_of l (unlock.Clear taken) k h = cc
-release_of l (unlock.Leave taken) k h = cc
 
 queued_here : (j l : ℕ) → 1 ≤ one_if (Some j) l + 0 → j ≡ l
 queued_here j l h = grind (arith, nat_tests)
@@ -66,27 +52,6 @@ taken_for by = record { by = by; want = Exclusive }
 
 taken_here : (j l by : ℕ) → 1 ≤ 0 + one_if_some (if j == l then Some (taken_for by) else None) → j ≡ l
 taken_here j l by h = grind (arith, nat_tests)
-
-awake_retries : (l : ℕ) (retries awake : Bool) (k : ℕ) → (if retries && awake then Some l else None) ≡ Some k → (if retries then Some l else None) ≡ Some k
-awake_retries l true true k h = h
-awake_retries l true false k h = absurd cc
-awake_retries l false awake k h = absurd cc
-
-debt_is : (p : Place) (k : ℕ) (r : ℕ → Rights) → Debtor p k → ((owes_on p k ≡ true) × ((call_state p r).purpose ≡ Some (Releases k Exclusive false))) ⊎ ((call_state p r).retries ≡ Some k)
-debt_is Idle k r (inl h) = absurd cc
-debt_is Idle k r (inr h) = absurd cc
-debt_is (Mutex l (Lock entry retries a)) k r (inl h) = absurd cc
-debt_is (Mutex l (Lock entry retries a)) k r (inr h) = inr (awake_retries l retries (is_awake a) k h)
-debt_is (Mutex l TryLock) k r (inl h) = absurd cc
-debt_is (Mutex l TryLock) k r (inr h) = absurd cc
-debt_is (Mutex l (Unlock a)) k r (inl h) = inl (release_owes l a k h, ap (λ n. Some (Releases n Exclusive false)) (release_of l a k h))
-debt_is (Mutex l (Unlock a)) k r (inr h) = absurd cc
-debt_is (Mutex l UnlockFair) k r (inl h) = absurd cc
-debt_is (Mutex l UnlockFair) k r (inr h) = absurd cc
-debt_is (Mutex l Bump) k r (inl h) = absurd cc
-debt_is (Mutex l Bump) k r (inr h) = absurd cc
-debt_is (Mutex l (HandOff bumps a)) k r (inl h) = absurd cc
-debt_is (Mutex l (HandOff bumps a)) k r (inr h) = absurd cc
 
 -- who stands at a lock is in a call that waits for it
 may_wait : (j l : ℕ) (entry : Entry) → j ≡ l → MayWait (Some (entry_purpose j entry)) l
@@ -186,48 +151,11 @@ retry_shown (Mutex own UnlockFair) l r = ((λ h. absurd cc), λ h. absurd cc)
 retry_shown (Mutex own Bump) l r = ((λ h. absurd cc), λ h. absurd cc)
 retry_shown (Mutex own (HandOff bumps at)) l r = ((λ h. absurd cc), λ h. absurd cc)
 
--- and stands in no queue, nor is it asleep
-asleep_no : (l : ℕ) (retries : Bool) (k : ℕ) → (if retries && false then Some l else None) ≡ Some k → ⊥
-asleep_no l true k h = cc
-asleep_no l false k h = cc
-
-lock_unqueued : (l : ℕ) (entry : Entry) (retries : Bool) (a : LockAt) (k : ℕ) → tries_again (Mutex l (Lock entry retries a)) ≡ Some k → queued (Mutex l (Lock entry retries a)) ≡ None
-lock_unqueued l entry retries (Leave true) k h = absurd (asleep_no l retries k h)
-lock_unqueued l entry retries (Leave false) k h = refl
-lock_unqueued l entry retries Asleep k h = absurd (asleep_no l retries k h)
-lock_unqueued l entry retries Remove k h = absurd (asleep_no l retries k h)
-lock_unqueued l entry retries First k h = refl
-lock_unqueued l entry retries a k h = refl
-
-debtor_unqueued : (p : Place) (k : ℕ) → Debtor p k → queued p ≡ None
-debtor_unqueued Idle k d = refl
-debtor_unqueued (Mutex l (Lock entry retries a)) k (inl h) = absurd cc
-debtor_unqueued (Mutex l (Lock entry retries a)) k (inr h) = lock_unqueued l entry retries a k h
-debtor_unqueued (Mutex l TryLock) k d = refl
-debtor_unqueued (Mutex l (Unlock a)) k d = refl
-debtor_unqueued (Mutex l UnlockFair) k d = refl
-debtor_unqueued (Mutex l Bump) k d = refl
-debtor_unqueued (Mutex l (HandOff bumps a)) k d = refl
-
 decided_awake : (l seen : ℕ) (is_owned is_one : Bool)
     → (if not is_owned then act.TheVariants.Word l (op.TheVariants.Exchange seen (seen + 1)) else if is_one then act.TheVariants.Word l (op.TheVariants.Exchange 1 3) else act.TheVariants.Enter (One (2 * l))) ≢ Sleep
 decided_awake l seen false is_one e = cc
 decided_awake l seen true true e = cc
 decided_awake l seen true false e = cc
-
-lock_awake : (l : ℕ) (entry : Entry) (retries : Bool) (a : LockAt) (k : ℕ) → tries_again (Mutex l (Lock entry retries a)) ≡ Some k → lock_act l a ≢ Sleep
-lock_awake l entry retries First k h e = cc
-lock_awake l entry retries Load k h e = cc
-lock_awake l entry retries (Decide seen) k h e = decided_awake l seen (is_locked seen) (seen == 1) e
-lock_awake l entry retries Check k h e = cc
-lock_awake l entry retries (Leave parked) k h e = cc
-lock_awake l entry retries Asleep k h e = asleep_no l retries k h
-lock_awake l entry retries (Taken by) k h e = asleep_no l retries k h
-lock_awake l entry retries (Handed by) k h e = asleep_no l retries k h
-lock_awake l entry retries Accept k h e = cc
-lock_awake l entry retries Remove k h e = cc
-lock_awake l entry retries Clear k h e = cc
-lock_awake l entry retries GiveUp k h e = cc
 
 unlock_awake : (l : ℕ) (a : UnlockAt) → unlock_act l a ≢ Sleep
 unlock_awake l unlock.Subtract e = cc
@@ -243,34 +171,6 @@ hand_off_awake l (hand_off.Store None none_left) e = cc
 hand_off_awake l (hand_off.Store (Some u) none_left) e = cc
 hand_off_awake l (hand_off.Leave None) e = cc
 hand_off_awake l (hand_off.Leave (Some u)) e = cc
-
-debtor_awake : (p : Place) (k : ℕ) → Debtor p k → act_of p ≢ Sleep
-debtor_awake Idle k d e = cc
-debtor_awake (Mutex l (Lock entry retries a)) k (inl h) e = cc
-debtor_awake (Mutex l (Lock entry retries a)) k (inr h) e = lock_awake l entry retries a k h e
-debtor_awake (Mutex l TryLock) k d e = cc
-debtor_awake (Mutex l (Unlock a)) k d e = unlock_awake l a e
-debtor_awake (Mutex l UnlockFair) k d e = cc
-debtor_awake (Mutex l Bump) k d e = cc
-debtor_awake (Mutex l (HandOff bumps a)) k d e = hand_off_awake l a e
-
--- and it isn't taken
-untaken : (p : Place) (l : ℕ) → act_of p ≢ Sleep → taken_at p l ≡ None
-untaken Idle l up = refl
-untaken (Mutex k (Lock entry retries (Taken by))) l up = absurd (up refl)
-untaken (Mutex k (Lock entry retries First)) l up = refl
-untaken (Mutex k (Lock entry retries a)) l up = refl
-untaken (Mutex k TryLock) l up = refl
-untaken (Mutex k (Unlock a)) l up = refl
-untaken (Mutex k UnlockFair) l up = refl
-untaken (Mutex k Bump) l up = refl
-untaken (Mutex k (HandOff bumps a)) l up = refl
-
-parked_word : (v : ℕ) (o : Option ℕ) → Codes v o → 2 ≤ v → is_parked v ≡ true
-parked_word v None (inl e) h = absurd (omega arith)
-parked_word v None (inr e) h = rw e refl
-parked_word v (Some u) (inl e) h = absurd (omega arith)
-parked_word v (Some u) (inr e) h = rw e refl
 
 -- a call waits for one lock
 one_purpose : (o : Option Purpose) (l k : ℕ) → MayWait o l → MayWait o k → l ≡ k
@@ -288,17 +188,6 @@ tells (Mutex k (HandOff bumps (hand_off.Store (Some v) none_left))) u l h = absu
 tells p u l h = absurd h
 
 module _ (w : State) (sound : IsSound w) (only : OnlyMutexes w) (all : AreLockStates (locks_of w)) where
-  waiting : (t l : ℕ) → WaitsFor w t l → queued (place_at w t) ≡ Some l
-  waiting t l h = stands_at (queued (place_at w t)) l (subst (λ n. 1 ≤ n) (queued_times t (queue_at w (2 * l)) ∙ sound.queues t l) h)
-
-  debtor : (l : ℕ) → (u : ℕ) × Debtor (place_at w u) l → IsLookedAfter w l
-  debtor l d = let up : act_of (place_at w d.0) ≢ Sleep = debtor_awake (place_at w d.0) l d.1 in record {
-    debtor = d.0;
-    debt = debt_is (place_at w d.0) l (λ k. rights_of (lock_state w k) d.0) d.1;
-    awake = up;
-    stands_nowhere = λ k. stands_by w d.0 sound only k ∙ rw (debtor_unqueued (place_at w d.0) l d.1, untaken (place_at w d.0) k up) refl;
-  }
-
   owes_so : (t l : ℕ) → (inside (place_at w t) ≡ Some l) ⊎ GoesToWake w t l → (section_at w (2 * l) ≡ Some t) ⊎ GoesToWake w t l
   owes_so t l (inl h) = inl ((sound.sections t l).0 h)
   owes_so t l (inr h) = inr h
@@ -349,11 +238,11 @@ module _ (w : State) (sound : IsSound w) (only : OnlyMutexes w) (all : AreLockSt
     one_place = λ t l k h g. one_purpose ((locks_of w).calls t).purpose l k (waits t l h) (waits t k g);
     waiting = waits;
     coded = sound.codes;
-    nobody_forgotten = λ t l h free. debtor l (sound.owed t l (waiting t l h) free);
+    nobody_forgotten = looked_after w sound.steady;
     owing = λ t l. ((λ h. owes_so t l (owes_means (place_at w t) l (λ k. rights_of (lock_state w k) t) h)), λ h. owes_by t l h);
     retrying = λ t l. retry_shown (place_at w t) l (λ k. rights_of (lock_state w k) t);
     handing = λ t h. handed_over_at t h.1 (place_at w t) refl h.0;
-    parked = λ t l h. parked_word (word_at w l) (owner_at w l) (sound.codes l) (sound.parked t l (waiting t l h));
+    parked = bit_set w sound.steady;
   }
 
 pub kept_after : (w : State) (s : Step) → IsShaped w → IsSound w → OnlyMutexes w → AreLockStates (locks_of w) → IsKept (after w s)
@@ -361,23 +250,8 @@ kept_after w s shape sound only all = kept (after w s) (after_sound w s shape so
 
 -- ---------------------------------------------------------------- the opening state
 
-word_0 : (kinds : List Kind) (l : ℕ) → (get_or (map unlocked kinds) l (unlocked kind.TheVariants.Mutex)).word ≡ 0
-word_0 [] l = refl
-word_0 (x ∷ xs) zero = refl
-word_0 (x ∷ xs) (suc l) = word_0 xs l
-
-pub opening_sound : (kinds : List Kind) (threads : ℕ) → IsSound (opening kinds threads)
-opening_sound kinds threads = record {
-  sections = λ t k. rw (idle_at threads t, none_at (2 * length kinds) (2 * k)) (λ h. absurd cc, λ h. absurd cc);
-  queues = λ t k. rw (idle_at threads t, empty_at (2 * length kinds) (2 * k)) refl;
-  codes = λ k. rw (word_0 kinds k, ap (λ o. o.exclusive) (nobody_owns kinds k)) (inl refl);
-  parked = λ t k h. let i : queued (place_at (opening kinds threads) t) ≡ None = ap queued (idle_at threads t) in absurd cc;
-  held = λ t k h. let i : holds (place_at (opening kinds threads) t) ≡ None = ap holds (idle_at threads t) in absurd cc;
-  emptied = λ t k h. let i : finds_empty (place_at (opening kinds threads) t) ≡ None = ap finds_empty (idle_at threads t) in absurd cc;
-  carried = λ t u k h. absurd (let g : Carries Idle u k = rw (idle_at threads t) at h in g);
-  taken = λ u t k h. absurd (let g : IsTakenBy Idle t k = rw (idle_at threads u) at h in g);
-  owed = λ t k h free. let i : queued (place_at (opening kinds threads) t) ≡ None = ap queued (idle_at threads t) in absurd cc;
-}
+pub opening_sound : (kinds : List Kind) (threads : ℕ) → 1 ≤ threads → All (λ k. fits k threads ≡ true) kinds → IsSound (opening kinds threads)
+opening_sound kinds threads some fit = sound_of (opening kinds threads) (opening_steady kinds threads some fit)
 
 -- ---------------------------------------------------------------- the opening state, of the abstract locks
 

@@ -1,19 +1,20 @@
 -- One run of the world, and what its definitions refuse.
-use Rattle.std.proofs.Common.{ℕ, zero, suc, true, false, Option, Some, None, ◌≡◌, ◌≢◌, inl, inr, [], ◌∷◌, refl, sym, ◌∙◌, arith}
+use Rattle.std.proofs.Common.{ℕ, zero, suc, true, false, Some, None, ◌≡◌, inl, inr, [], ◌∷◌, refl, sym, ◌∙◌, arith}
 use Rattle.lot_calls.specs.declared.kinds.Kind.TheVariants as kind
 use Rattle.lot_world.specs.Machine.{after_all}
-use Rattle.lot_world.specs.Refinement.{lock_state}
 use Rattle.lot_world.specs.Promises.{IsLookedAfter}
-use Rattle.lot_world.specs.Laws.{FairUnlockHandsOver, NoWaiterIsForgotten, NobodyIsPassedOver, three, row, row_told, forgotten, handing_over}
+use Rattle.lot_world.specs.Laws.{FairUnlockHandsOver, NoWaiterIsForgotten, NobodyIsPassedOver, three, row, row_told, forgotten}
 use Rattle.lot_world.proofs.Shape.{opening_shaped}
 use Rattle.lot_world.proofs.OnlyMutexes.{opening_only}
+use Rattle.std.proofs.lemmas.List.Elements.{All-cons, All-nil}
+use Rattle.lot_calls.specs.Kinds.{fits}
 use Rattle.lot_world.proofs.Promises.{opening_sound, opening_locks}
 use Rattle.lot_world.proofs.WorldRuns.{Holds, world_run, run_refines}
 
 three_hold : Holds three
 three_hold = record {
   shaped = opening_shaped (kind.Mutex ∷ []) 3 (omega arith);
-  sound = opening_sound (kind.Mutex ∷ []) 3;
+  sound = opening_sound (kind.Mutex ∷ []) 3 (omega arith) (All-cons (λ k. fits k 3 ≡ true) kind.Mutex [] refl (All-nil (λ k. fits k 3 ≡ true)));
   only = opening_only (kind.Mutex ∷ []) 3;
   locks = opening_locks (kind.Mutex ∷ []) 3;
 }

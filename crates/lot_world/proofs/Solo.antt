@@ -1,5 +1,5 @@
 -- A call whose thread steps alone: from each place, where it ends or falls asleep.
-use Rattle.std.proofs.Common.{ℕ, zero, suc, Bool, true, false, Option, Some, None, if◌then◌else◌, ◌==◌, ◌&&◌, not, ◌≡◌, ◌≢◌, ◌+◌, ◌*◌, ◌≤◌, ◌<◌, inl, inr, List, [], ◌∷◌, ◌++◌, length, get_or, drop, map, replicate, refl, sym, ◌∙◌, ap, subst, arith}
+use Rattle.std.proofs.Common.{ℕ, zero, suc, Bool, true, false, Option, Some, None, if◌then◌else◌, ◌==◌, ◌&&◌, not, ◌≡◌, ◌≢◌, ◌+◌, ◌*◌, ◌≤◌, ◌<◌, inl, inr, List, [], ◌∷◌, ◌++◌, length, get_or, drop, map, refl, sym, ◌∙◌, ap, subst, arith}
 use Rattle.std.proofs.lemmas.Bool.{cases_eq, eqb-true}
 use Rattle.std.proofs.lemmas.Bool.Decides.{nat_tests}
 use Rattle.lot_base.specs.declared.notes.Note.TheVariants as note
@@ -37,17 +37,17 @@ use Rattle.lot_steps.specs.MutexSteps.{mutex_first, is_locked, is_parked, entere
 use Rattle.lot_calls.specs.Kinds.{is_fair}
 use Rattle.lot_calls.specs.Calls.{lock_in}
 use Rattle.lot_steps.specs.Steps.{act_of, next_place, next_act, mutex_goes, mutex_does, lock_of, first_place}
-use Rattle.lot_world.specs.Machine.{State, place_at, word_at, kind_at, queue_at, section_at, go_of, after, solo, after_all, alone_after, answered}
+use Rattle.lot_world.specs.Machine.{State, place_at, word_at, kind_at, queue_at, section_at, go_of, after, solo}
 use Rattle.lot_world.specs.Fits.{IsShaped, PlaceFits}
 use Rattle.lot_world.specs.Promises.{Codes}
 use Rattle.lot_world.specs.Sound.{IsSound, owner_at, inside, queued, holds}
-use Rattle.lot_world.proofs.Words.{by_code, owner_after}
+use Rattle.lot_world.proofs.ExclusiveOwners.{by_code, owner_after}
 use Rattle.abstract_locks.specs.Locks.{Rules, MayEnter, IsBlocked}
 use Rattle.abstract_locks.specs.Purposes.{Releases, Bumps, Patience, Patient, Timed, Try, mutex_purpose}
-use Rattle.abstract_locks.specs.Runs.{AreLockStates, rules_at, purpose_at}
+use Rattle.abstract_locks.specs.Runs.{rules_at, purpose_at}
 use Rattle.abstract_locks.specs.Picks.{queued_of}
 use Rattle.lot_world.specs.Refinement.{lock_state, locks_of}
-use Rattle.lot_world.specs.Solo.{Rests, IsUnderWay, HasItsWay, EntersAlone, BumpsAlone, EndsAlone, successor, IsSoloRun}
+use Rattle.lot_world.specs.Solo.{Rests, IsUnderWay, HasItsWay, EntersAlone, BumpsAlone, EndsAlone, successor}
 use Rattle.lot_world.specs.OnlyMutexes.{CallFits, OnlyMutexes, is_mutex}
 use Rattle.lot_world.proofs.LockEvents.{mutex_rules, mutex_rules_of, queued_behind}
 use Rattle.lot_world.proofs.LockSteps.{free_word, owned_word, decides, purpose_is}

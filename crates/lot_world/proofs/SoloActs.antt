@@ -29,7 +29,7 @@ use Rattle.lot_world.specs.Sound.{IsSound, owner_at, queued, one_if}
 use Rattle.lot_world.proofs.Counts.{without_absent}
 use Rattle.lot_world.proofs.Shape.{after_shaped, after_size, main_key_there, main_line_there}
 use Rattle.lot_world.proofs.Steady.{after_sound}
-use Rattle.lot_world.proofs.Words.{owner_after, exclusive-owners}
+use Rattle.lot_world.proofs.ExclusiveOwners.{owner_after, exclusive-owners}
 use Rattle.lot_world.specs.OnlyMutexes.{OnlyMutexes}
 use Rattle.lot_world.specs.Solo.{Rests}
 use Rattle.lot_world.proofs.OnlyMutexes.{after_only}

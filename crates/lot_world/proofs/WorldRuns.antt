@@ -1,5 +1,5 @@
 -- Steps one after another, and steps of a thread alone, are a run of the world.
-use Rattle.std.proofs.Common.{ℕ, zero, suc, ◌≡◌, ◌≢◌, ◌+◌, ◌≤◌, List, [], ◌∷◌, ◌++◌, length, replicate, refl, sym, ap, ◌∙◌, subst, arith}
+use Rattle.std.proofs.Common.{ℕ, zero, suc, ◌≡◌, ◌≤◌, List, [], ◌∷◌, ◌++◌, length, replicate, refl, sym, ap, ◌∙◌, subst, arith}
 use Rattle.lot_calls.specs.declared.calls.Step.{Step}
 use Rattle.lot_calls.specs.declared.outcomes.Outcome.{Outcome}
 use Rattle.lot_calls.specs.declared.outcomes.Outcome as outcome
@@ -11,7 +11,6 @@ use Rattle.lot_world.specs.OnlyMutexes.{OnlyMutexes}
 use Rattle.lot_world.specs.Refinement.{locks_of}
 use Rattle.lot_world.specs.WorldRuns.{IsWorldStep, IsWorldRun, Tells}
 use Rattle.lot_world.specs.Solo.{IsSoloRun, GoesOnUntil, last_told}
-use Rattle.lot_world.proofs.Alone.{after_stuck}
 use Rattle.lot_world.proofs.Fair.{is_fair}
 use Rattle.lot_world.proofs.LockRuns.{after_locks}
 use Rattle.lot_world.proofs.LockSteps.{after_step}

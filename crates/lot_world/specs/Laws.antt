@@ -1,5 +1,5 @@
 -- One run of the world, and states and steps that no world comes to.
-use Rattle.std.specs.Prelude.{ℕ, true, false, Option, Some, None, ◌≡◌, List, [], ◌∷◌, ◌++◌}
+use Rattle.std.specs.Prelude.{ℕ, true, false, Some, None, ◌≡◌, List, [], ◌∷◌}
 use Rattle.lot_base.specs.declared.wants.Want.TheVariants.{Exclusive}
 use Rattle.lot_base.specs.Lines.{waiter}
 use Rattle.lot_calls.specs.declared.kinds.Kind.TheVariants as kind

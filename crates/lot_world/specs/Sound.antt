@@ -1,83 +1,44 @@
--- What holds between any two steps of the mutexes of a world: the facts that an induction over steps stands on.
-use Rattle.std.specs.Prelude.{ℕ, Bool, true, false, Option, Some, None, if◌then◌else◌, ◌≡◌, ◌*◌, ◌≤◌, ◌⊎◌, List, ◌↔◌, ◌==◌, ◌&&◌}
+-- What holds between any two steps, told by the places of threads.
+use Rattle.std.specs.Prelude.{ℕ, Bool, true, false, Option, Some, None, if◌then◌else◌, ◌≡◌, ◌*◌, ◌≤◌, List, ◌↔◌, ◌==◌}
 use Rattle.lot_base.specs.declared.wants.Waiter.{Waiter}
+use Rattle.lot_base.specs.declared.wants.Want.TheVariants.{Exclusive}
 use Rattle.lot_base.specs.Lines.{times}
 use Rattle.lot_steps.specs.declared.places.Place.{Place}
-use Rattle.lot_steps.specs.declared.places.Place.TheVariants.{Mutex}
-use Rattle.lot_steps.specs.declared.mutex.MutexPlace.TheVariants.{Lock, Unlock, UnlockFair, Bump, HandOff}
-use Rattle.lot_steps.specs.declared.mutex.lock.LockAt.{LockAt}
-use Rattle.lot_steps.specs.declared.mutex.lock.LockAt.TheVariants.{First, Load, Decide, Check, Leave, Asleep, Taken, Handed, Accept, Remove, Clear, GiveUp}
+use Rattle.lot_steps.specs.declared.places.Place.TheVariants.{Idle, Mutex}
+use Rattle.lot_steps.specs.declared.mutex.MutexPlace.TheVariants.{Lock, Unlock, HandOff}
+use Rattle.lot_steps.specs.declared.mutex.lock.LockAt.TheVariants.{Taken, Handed}
 use Rattle.lot_steps.specs.declared.mutex.unlock.UnlockAt.TheVariants as unlock
 use Rattle.lot_steps.specs.declared.mutex.hand_off.HandOffAt.TheVariants as hand_off
+use Rattle.abstract_locks.specs.Sites.{Line, Main, Claim, Has}
 use Rattle.lot_world.specs.Machine.{State, place_at, word_at, owners_at, section_at, queue_at}
 use Rattle.lot_world.specs.Promises.{Codes}
+use Rattle.lot_world.specs.MutexDeeds.{mutex_doing, mutex_stance}
+use Rattle.lot_world.specs.SitesOf.{IsSteady}
 
 -- ---------------------------------------------------------------- what a place says of its thread
 
+abbrev pub at_main : ℕ → Option Line → Option ℕ
+at_main l (Some Main) = Some l
+at_main l line = None
+
 -- the lock inside whose main section the thread is
 abbrev pub inside : Place → Option ℕ
-inside (Mutex l (Lock e retries Check)) = Some l
-inside (Mutex l (Lock e retries (Leave parked))) = Some l
-inside (Mutex l (Lock e retries Remove)) = Some l
-inside (Mutex l (Lock e retries Clear)) = Some l
-inside (Mutex l (Lock e retries GiveUp)) = Some l
-inside (Mutex l (Unlock unlock.Take)) = Some l
-inside (Mutex l (Unlock (unlock.Clear taken))) = Some l
-inside (Mutex l (Unlock (unlock.Leave taken))) = Some l
-inside (Mutex l (HandOff bumps hand_off.Take)) = Some l
-inside (Mutex l (HandOff bumps (hand_off.Store taken none_left))) = Some l
-inside (Mutex l (HandOff bumps (hand_off.Leave taken))) = Some l
-inside _ = None
+inside Idle = None
+inside (Mutex l at) = at_main l (mutex_stance at).inside
 
 -- the lock in whose main queue the thread stands
 abbrev pub queued : Place → Option ℕ
-queued (Mutex l (Lock e retries (Leave true))) = Some l
-queued (Mutex l (Lock e retries Asleep)) = Some l
-queued (Mutex l (Lock e retries Remove)) = Some l
-queued _ = None
+queued Idle = None
+queued (Mutex l at) = at_main l (mutex_stance at).stands
+
+abbrev pub owned : ℕ → Option Claim → Option ℕ
+owned l (Some (Has Exclusive)) = Some l
+owned l claim = None
 
 -- the lock that the thread is about to give up, or was handed
 abbrev pub holds : Place → Option ℕ
-holds (Mutex l (Unlock unlock.Subtract)) = Some l
-holds (Mutex l UnlockFair) = Some l
-holds (Mutex l Bump) = Some l
-holds (Mutex l (HandOff bumps hand_off.Enter)) = Some l
-holds (Mutex l (HandOff bumps hand_off.Take)) = Some l
-holds (Mutex l (HandOff bumps (hand_off.Store taken none_left))) = Some l
-holds (Mutex l (Lock e retries (Handed by))) = Some l
-holds (Mutex l (Lock e retries Accept)) = Some l
-holds _ = None
-
--- the lock in whose queue the thread has seen nobody, inside its section
-abbrev pub finds_empty : Place → Option ℕ
-finds_empty (Mutex l (Lock e retries Clear)) = Some l
-finds_empty (Mutex l (Unlock (unlock.Clear taken))) = Some l
-finds_empty (Mutex l (Unlock (unlock.Leave None))) = Some l
-finds_empty (Mutex l (HandOff bumps (hand_off.Store None none_left))) = Some l
-finds_empty (Mutex l (HandOff bumps (hand_off.Store (Some u) true))) = Some l
-finds_empty _ = None
-
--- the lock whose waiters a release has seen that has given its right up
-abbrev pub releases : Place → Option ℕ
-releases (Mutex l (Unlock unlock.Enter)) = Some l
-releases (Mutex l (Unlock unlock.Take)) = Some l
-releases (Mutex l (Unlock (unlock.Clear taken))) = Some l
-releases (Mutex l (Unlock (unlock.Leave taken))) = Some l
-releases _ = None
-
--- neither in the queue nor on the way out
-abbrev pub is_awake : LockAt → Bool
-is_awake First = true
-is_awake Load = true
-is_awake (Decide seen) = true
-is_awake Check = true
-is_awake (Leave false) = true
-is_awake _ = false
-
--- the lock that a woken thread tries again
-abbrev pub tries_again : Place → Option ℕ
-tries_again (Mutex l (Lock e retries at)) = if retries && is_awake at then Some l else None
-tries_again _ = None
+holds Idle = None
+holds (Mutex l at) = owned l (mutex_doing at).claims
 
 -- from the queue of which lock a thread was taken, and whether it was handed that lock since
 pub record Taking : Type 0 where
@@ -104,35 +65,9 @@ IsTakenBy (Mutex l (Lock e retries (Taken by))) t k = (by ≡ t) × (taken_from 
 IsTakenBy (Mutex l (Lock e retries (Handed by))) t k = (by ≡ t) × (handed_over l ≡ k)
 IsTakenBy p t k = ⊥
 
--- the thread is to wake on the lock, or tries it again
-abbrev pub Debtor : Place → ℕ → Type 0
-Debtor p k = (releases p ≡ Some k) ⊎ (tries_again p ≡ Some k)
-
--- ---------------------------------------------------------------- the facts
-
--- nobody stands in the queue of a lock
-abbrev pub Nobody : (ℕ → Place) → ℕ → Type 0
-Nobody at k = (s : ℕ) → queued (at s) ≡ Some k → ⊥
-
 abbrev pub one_if : Option ℕ → ℕ → ℕ
 one_if None k = 0
 one_if (Some j) k = if j == k then 1 else 0
-
-pub record Sound (at : ℕ → Place) (word : ℕ → ℕ) (owner : ℕ → Option ℕ) (section : ℕ → Option ℕ) (queue : ℕ → List Waiter) : Type 0 where
-  -- a section is held by the thread inside it
-  pub sections : (t k : ℕ) → inside (at t) ≡ Some k ↔ section k ≡ Some t
-  -- a thread stands in the queue that its place says, and once
-  pub queues : (t k : ℕ) → times t (queue k) ≡ one_if (queued (at t)) k
-  pub codes : (k : ℕ) → Codes (word k) (owner k)
-  -- a waiter implies the parked bit
-  pub parked : (t k : ℕ) → queued (at t) ≡ Some k → 2 ≤ word k
-  pub held : (t k : ℕ) → holds (at t) ≡ Some k → owner k ≡ Some t
-  pub emptied : (t k : ℕ) → finds_empty (at t) ≡ Some k → Nobody at k
-  -- a release carries just those whom it has taken
-  pub carried : (t u : ℕ) (k : Taking) → Carries (at t) u k → IsTakenBy (at u) t k
-  pub taken : (u t : ℕ) (k : Taking) → IsTakenBy (at u) t k → Carries (at t) u k
-  -- a waiter of a lock that nobody owns has a debtor
-  pub owed : (t k : ℕ) → queued (at t) ≡ Some k → owner k ≡ None → (u : ℕ) × Debtor (at u) k
 
 abbrev pub owner_at : State → ℕ → Option ℕ
 owner_at w k = (owners_at w k).exclusive
@@ -143,5 +78,16 @@ main_section w k = section_at w (2 * k)
 abbrev pub main_queue : State → ℕ → List Waiter
 main_queue w k = queue_at w (2 * k)
 
-abbrev pub IsSound : State → Type 0
-IsSound w = Sound (place_at w) (word_at w) (owner_at w) (main_section w) (main_queue w)
+pub record IsSound (w : State) : Type 0 where
+  pub steady : IsSteady w
+  -- a section is held by the thread inside it
+  pub sections : (t k : ℕ) → inside (place_at w t) ≡ Some k ↔ main_section w k ≡ Some t
+  -- a thread stands in the queue that its place says, and once
+  pub queues : (t k : ℕ) → times t (main_queue w k) ≡ one_if (queued (place_at w t)) k
+  pub codes : (k : ℕ) → Codes (word_at w k) (owner_at w k)
+  -- a waiter implies the parked bit
+  pub parked : (t k : ℕ) → queued (place_at w t) ≡ Some k → 2 ≤ word_at w k
+  pub held : (t k : ℕ) → holds (place_at w t) ≡ Some k → owner_at w k ≡ Some t
+  -- a release carries just those whom it has taken
+  pub carried : (t u : ℕ) (k : Taking) → Carries (place_at w t) u k → IsTakenBy (place_at w u) t k
+  pub taken : (u t : ℕ) (k : Taking) → IsTakenBy (place_at w u) t k → Carries (place_at w t) u k

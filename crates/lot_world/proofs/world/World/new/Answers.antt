@@ -6,7 +6,7 @@ use Rattle.lot_world.proofs.world.World.new.Goals as goal
 pub invariant_of-result : goal.invariant_of-result
 invariant_of-result g c = rw c.in_ok-new.ensures.ok (
   opening_shaped c.args.kinds.now c.args.threads c.requires.few_locks,
-  opening_sound c.args.kinds.now c.args.threads,
+  opening_sound c.args.kinds.now c.args.threads c.requires.some c.requires.fit,
   opening_only c.args.kinds.now c.args.threads,
   opening_locks c.args.kinds.now c.args.threads,
 )
@@ -14,5 +14,5 @@ invariant_of-result g c = rw c.in_ok-new.ensures.ok (
 pub returns-clause-opening : goal.returns-clause-opening
 returns-clause-opening g c = rw c.in_ok-new.ensures.ok (
   opening_is c.args.kinds.now c.args.threads,
-  kept _ (opening_sound c.args.kinds.now c.args.threads) (opening_only c.args.kinds.now c.args.threads) (opening_locks c.args.kinds.now c.args.threads),
+  kept _ (opening_sound c.args.kinds.now c.args.threads c.requires.some c.requires.fit) (opening_only c.args.kinds.now c.args.threads) (opening_locks c.args.kinds.now c.args.threads),
 )

@@ -1,0 +1,72 @@
+-- Who owns a mutex exclusively behind a step on its word.
+use Rattle.std.proofs.Common.{ℕ, Bool, true, false, Option, Some, None, if◌then◌else◌, ◌==◌, ◌&&◌, not, ◌≡◌, inl, inr, refl}
+use Rattle.lot_steps.specs.declared.owners.Owners.{Owners}
+use Rattle.lot_steps.specs.declared.mutex.MutexPlace.TheVariants.{Lock, TryLock, Unlock, UnlockFair, Bump, HandOff}
+use Rattle.lot_steps.specs.declared.mutex.lock.LockAt.{LockAt}
+use Rattle.lot_steps.specs.declared.mutex.lock.LockAt.TheVariants.{First, Decide}
+use Rattle.lot_steps.specs.declared.mutex.unlock.UnlockAt.{UnlockAt}
+use Rattle.lot_steps.specs.declared.mutex.unlock.UnlockAt.TheVariants as unlock
+use Rattle.lot_steps.specs.declared.mutex.hand_off.HandOffAt.TheVariants as hand_off
+use Rattle.lot_steps.specs.declared.places.Place.{Place}
+use Rattle.lot_steps.specs.declared.places.Place.TheVariants.{Idle, Mutex}
+use Rattle.lot_steps.specs.MutexSteps.{is_locked, with_exclusive}
+use Rattle.lot_steps.specs.Steps.{owners_after}
+use Rattle.lot_world.specs.Promises.{Codes}
+
+abbrev pub lock_owner : LockAt → ℕ → ℕ → Option ℕ → Option ℕ
+lock_owner First t v o = if v == 0 then Some t else o
+lock_owner (Decide s) t v o = if (v == s) && not (is_locked v) then Some t else o
+lock_owner at t v o = o
+
+abbrev pub unlock_owner : UnlockAt → Option ℕ → Option ℕ
+unlock_owner unlock.Subtract o = None
+unlock_owner at o = o
+
+-- the exclusive owner after a step on the word that saw v
+abbrev pub owner_after : Place → ℕ → ℕ → Option ℕ → Option ℕ
+owner_after Idle t v o = o
+owner_after (Mutex l (Lock entry retries at)) t v o = lock_owner at t v o
+owner_after (Mutex l TryLock) t v o = if is_locked v then o else Some t
+owner_after (Mutex l (Unlock at)) t v o = unlock_owner at o
+owner_after (Mutex l UnlockFair) t v o = if v == 1 then None else o
+owner_after (Mutex l Bump) t v o = o
+owner_after (Mutex l (HandOff bumps (hand_off.Store taken none_left))) t v o = taken
+owner_after (Mutex l (HandOff bumps at)) t v o = o
+
+pub exclusive-owners : (p : Place) (t v : ℕ) (r : Owners) → (owners_after p t v r).exclusive ≡ owner_after p t v r.exclusive
+exclusive-owners Idle t v r = refl
+exclusive-owners (Mutex l (Lock entry retries First)) t v r = either (v == 0)
+  where
+    either : (b : Bool) → (if b then with_exclusive r (Some t) else r).exclusive ≡ (if b then Some t else r.exclusive)
+    either true = refl
+    either false = refl
+exclusive-owners (Mutex l (Lock entry retries (Decide s))) t v r = either ((v == s) && not (is_locked v))
+  where
+    either : (b : Bool) → (if b then with_exclusive r (Some t) else r).exclusive ≡ (if b then Some t else r.exclusive)
+    either true = refl
+    either false = refl
+exclusive-owners (Mutex l (Lock entry retries at)) t v r = refl
+exclusive-owners (Mutex l TryLock) t v r = either (is_locked v)
+  where
+    either : (b : Bool) → (if b then r else with_exclusive r (Some t)).exclusive ≡ (if b then r.exclusive else Some t)
+    either true = refl
+    either false = refl
+exclusive-owners (Mutex l (Unlock unlock.Subtract)) t v r = refl
+exclusive-owners (Mutex l (Unlock at)) t v r = refl
+exclusive-owners (Mutex l UnlockFair) t v r = either (v == 1)
+  where
+    either : (b : Bool) → (if b then with_exclusive r None else r).exclusive ≡ (if b then None else r.exclusive)
+    either true = refl
+    either false = refl
+exclusive-owners (Mutex l Bump) t v r = refl
+exclusive-owners (Mutex l (HandOff bumps (hand_off.Store taken none_left))) t v r = refl
+exclusive-owners (Mutex l (HandOff bumps at)) t v r = refl
+
+-- ---------------------------------------------------------------- words
+
+-- the four words of a mutex
+pub by_code : (P : ℕ → Option ℕ → Type 0) → P 0 None → P 2 None → ((u : ℕ) → P 1 (Some u)) → ((u : ℕ) → P 3 (Some u)) → (v : ℕ) (o : Option ℕ) → Codes v o → P v o
+by_code P a b c d v None (inl e) = rw e a
+by_code P a b c d v None (inr e) = rw e b
+by_code P a b c d v (Some u) (inl e) = rw e (c u)
+by_code P a b c d v (Some u) (inr e) = rw e (d u)

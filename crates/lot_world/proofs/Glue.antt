@@ -1,0 +1,459 @@
+-- The state of a world by its parts, as total functions, and what each act does to a lock and to what the threads do about it.
+use Rattle.std.proofs.Common.{ℕ, zero, suc, Bool, true, false, Option, Some, None, if◌then◌else◌, ◌==◌, ◌||◌, ◌≡◌, ◌≢◌, ◌+◌, ◌*◌, ◌≤◌, List, [], ◌∷◌, length, get_or, set, inl, inr, refl, sym, ◌∙◌, ap, arith, length-set, get_or-set_same, get_or-set_other}
+use Rattle.std.proofs.lemmas.Bool.{cases_eq, cases_lt, eqb-true}
+use Rattle.std.proofs.lemmas.Bool.Decides.{nat_tests}
+use Rattle.lot_base.specs.declared.wants.Waiter.{Waiter}
+use Rattle.lot_base.specs.declared.wants.Want.TheVariants.{Exclusive}
+use Rattle.lot_base.specs.declared.notes.Note.TheVariants as note
+use Rattle.lot_steps.specs.declared.owners.Owners.{Owners}
+use Rattle.lot_steps.specs.declared.places.Place.{Place}
+use Rattle.lot_steps.specs.declared.places.Place.TheVariants.{Idle, Mutex}
+use Rattle.lot_steps.specs.declared.mutex.lock.Entry.{Entry}
+use Rattle.lot_steps.specs.declared.mutex.MutexPlace.{MutexPlace}
+use Rattle.lot_steps.specs.declared.mutex.MutexPlace.TheVariants.{Lock, HandOff}
+use Rattle.lot_steps.specs.declared.mutex.lock.LockAt.TheVariants as lock
+use Rattle.lot_steps.specs.declared.mutex.hand_off.HandOffAt.TheVariants as hand_off
+use Rattle.lot_steps.specs.declared.acts.Reply.{Reply}
+use Rattle.lot_steps.specs.declared.acts.Reply.TheVariants.{Woken, TakenBy, HandedBy}
+use Rattle.lot_steps.specs.MutexSteps.{is_parked}
+use Rattle.lot_steps.specs.declared.acts.Next.{Next}
+use Rattle.lot_steps.specs.declared.acts.Next as next
+use Rattle.lot_steps.specs.MutexSteps.{mutex_next}
+use Rattle.lot_steps.specs.Steps.{next_place, mutex_goes}
+use Rattle.lot_base.specs.declared.notes.Note.{Note}
+use Rattle.abstract_locks.specs.Locks.{LockState, Taken, Queued, Rules, TakeFirst, keep_from, let_go, shares_handed, sharing_from, put as putting}
+use Rattle.std.specs.Prelude.{sum, replicate, ◌&&◌}
+use Rattle.lot_steps.specs.MutexSteps.{with_exclusive}
+use Rattle.abstract_locks.specs.Locks as locks
+use Rattle.abstract_locks.specs.Sites.{Doing, Has, Site, Main, Begin, Out, Mark, Clear, Does, idle, leaves, wakened, taking_main, is_full, after}
+use Rattle.lot_world.specs.Machine.{State, place_at, word_at, owners_at, queue_at, put}
+use Rattle.lot_world.specs.Refinement.{lock_seen, taken_at}
+use Rattle.lot_world.specs.MutexDeeds.{Act, Stance, hand, mutex_doing, mutex_stance, stance, stance_at, nowhere, calls, doing_on, queued}
+use Rattle.lot_world.specs.SitesOf.{site_of, after_acts, carried_at, hand_at, Hands}
+
+-- ---------------------------------------------------------------- lists with one element set, as functions
+
+pub put_is : {A : Type 0} (f g : ℕ → A) (t : ℕ) (x : A) → g t ≡ x → ((u : ℕ) → u ≢ t → g u ≡ f u) → (u : ℕ) → g u ≡ putting f t x u
+put_is f g t x here other u = either (u == t) refl
+  where
+    either : (b : Bool) → (u == t) ≡ b → g u ≡ (if b then x else f u)
+    either true e = ap g (eqb-true u t e) ∙ here
+    either false e = other u (λ s. grind (arith, nat_tests))
+
+pub past_all : {A : Type 0} (xs : List A) (u : ℕ) (d : A) → length xs ≤ u → get_or xs u d ≡ d
+past_all [] u d h = refl
+past_all (x ∷ xs) zero d h = absurd (omega arith)
+past_all (x ∷ xs) (suc u) d h = past_all xs u d (omega arith)
+
+-- set is putting, where past the end only the default is set
+pub set_puts : {A : Type 0} (xs : List A) (i : ℕ) (x d : A) → (length xs ≤ i → x ≡ d) → (j : ℕ) → get_or (set xs i x) j d ≡ putting (λ k. get_or xs k d) i x j
+set_puts xs i x d past j = put_is (λ k. get_or xs k d) (λ k. get_or (set xs i x) k d) i x
+    (elim (cases_lt i (length xs)) [
+      | inl lt ↦ get_or-set_same xs i x d lt
+      | inr ge ↦ past_all (set xs i x) i d (rw (length-set xs i x) ge) ∙ sym (past ge)
+    ])
+    (λ u ne. get_or-set_other xs i u x d ne) j
+
+-- a thread that is there, or goes nowhere, stands at another place
+pub put_places : (w : State) (t : ℕ) (p : Place) → (length w.places ≤ t → p ≡ Idle) → place_at (put w t p) ≡ putting (place_at w) t p
+put_places w t p past = λ i u. set_puts w.places t p Idle past u i
+
+-- whatever befalls a thread, with no bound: past the last all are idle
+pub goes_from : (w : State) (t : ℕ) (reply : Reply) → place_at (put w t (next_place (place_at w t) reply)) ≡ putting (place_at w) t (next_place (place_at w t) reply)
+goes_from w t reply = put_places w t (next_place (place_at w t) reply) (λ h. ap (λ p. next_place p reply) (past_all w.places t Idle h))
+
+-- ---------------------------------------------------------------- a site by its parts
+
+abbrev pub seen : (l threads word : ℕ) → Owners → (main second : List Waiter) → (ℕ → Place) → Site
+seen l threads word o main second places = record {
+  lock = lock_seen threads o main second (λ u. taken_at (places u) l);
+  parked = is_parked word;
+  aside_parked = false;
+  filled = false;
+  doing = λ u. doing_on (places u) l;
+}
+
+pub site_seen : (v : State) (l : ℕ) (n word : ℕ) (o : Owners) (m s : List Waiter) (places : ℕ → Place) → length v.places ≡ n → word_at v l ≡ word → owners_at v l ≡ o → queue_at v (2 * l) ≡ m → queue_at v (2 * l + 1) ≡ s
+    → place_at v ≡ places → site_of v l ≡ seen l n word o m s places
+site_seen v l n word o m s places en ew eo em es ep = λ i. seen l (en i) (ew i) (eo i) (em i) (es i) (ep i)
+
+pub same : (k : ℕ) → (k == k) ≡ true
+same k = grind (arith, nat_tests)
+
+pub differ : (j k : ℕ) → j ≢ k → (j == k) ≡ false
+differ j k ne = grind (arith, nat_tests)
+
+pub put_here : {A : Type 0} (f : ℕ → A) (t : ℕ) (x : A) → putting f t x t ≡ x
+put_here f t x = ap (λ b. if b then x else f t) (same t)
+
+pub put_other : {A : Type 0} (f : ℕ → A) (t : ℕ) (x : A) (u : ℕ) → u ≢ t → putting f t x u ≡ f u
+put_other f t x u ne = ap (λ b. if b then x else f u) (differ u t ne)
+
+-- ---------------------------------------------------------------- leaving a section
+
+-- whom t hasn't taken
+abbrev pub Untaken : ℕ → Option Taken → Type 0
+Untaken t o = keep_from t o ≡ o
+
+pub not_wakened : (t : ℕ) (o : Option Taken) (d : Doing) → Untaken t o → wakened t o d ≡ d
+not_wakened t None d e = refl
+not_wakened t (Some h) d e = either (h.by == t) refl
+  where
+    either : (b : Bool) → (h.by == t) ≡ b → (if b then record d { retries = Some h.want } else d) ≡ d
+    either false f = refl
+    either true f = absurd (let g : keep_from t (Some h) ≡ None = ap (λ b. if b then None else Some h) f in cc)
+
+-- what leaving does to each other thread
+pub record LetGo (t l : ℕ) (p p2 : Place) : Type 0 where
+  pub taken : taken_at p2 l ≡ keep_from t (taken_at p l)
+  pub doing : doing_on p2 l ≡ wakened t (taken_at p l) (doing_on p l)
+
+-- who wasn't taken stays
+pub stays : (t l : ℕ) (p : Place) → Untaken t (taken_at p l) → LetGo t l p p
+stays t l p e = record { taken = sym e; doing = sym (not_wakened t (taken_at p l) (doing_on p l) e) }
+
+-- who was taken is woken and tries again
+pub tries : (t l : ℕ) (e : Entry) (retries : Bool) → LetGo t l (Mutex l (Lock e retries (lock.Taken t))) (next_place (Mutex l (Lock e retries (lock.Taken t))) (Woken note.Normal))
+tries t l e retries = record { taken = rw (same l, same t) refl; doing = rw (same l, same t) refl }
+
+-- who was handed the lock has it
+pub accepts : (t l by : ℕ) (e : Entry) (retries : Bool) → LetGo t l (Mutex l (Lock e retries (lock.Handed by))) (next_place (Mutex l (Lock e retries (lock.Handed by))) (Woken note.HandOff))
+accepts t l by e retries = record { taken = refl; doing = refl }
+
+module _ (r : Rules) (l n word : ℕ) (o : Owners) (m s : List Waiter) (p q : ℕ → Place) (t : ℕ) where
+  -- leaving a section, whoever is woken by it
+  pub leaving : taken_at (p t) l ≡ None → taken_at (q t) l ≡ None → doing_on (q t) l ≡ leaves (doing_on (p t) l) → ((u : ℕ) → u ≢ t → LetGo t l (p u) (q u))
+      → seen l n word o m s q ≡ after r Out (seen l n word o m s p) t
+  leaving none none2 own others = λ i. record (seen l n word o m s q) { lock = lock_seen n o m s (λ u. taken_now u i); doing = λ u. doing_now u i }
+    where
+      taken_now : (u : ℕ) → taken_at (q u) l ≡ keep_from t (taken_at (p u) l)
+      taken_now u = elim (cases_eq u t) [
+        | inl e ↦ rw e (none2 ∙ sym (ap (keep_from t) none))
+        | inr ne ↦ (others u ne).taken
+      ]
+
+      doing_now : (u : ℕ) → doing_on (q u) l ≡ wakened t (taken_at (p u) l) (putting (λ x. doing_on (p x) l) t (leaves (doing_on (p t) l)) u)
+      doing_now u = elim (cases_eq u t) [
+        | inl e ↦ rw e (own ∙ sym (ap (λ x. wakened t x (putting (λ y. doing_on (p y) l) t (leaves (doing_on (p t) l)) t)) none ∙ put_here (λ y. doing_on (p y) l) t (leaves (doing_on (p t) l))))
+        | inr ne ↦ (others u ne).doing ∙ sym (ap (wakened t (taken_at (p u) l)) (put_other (λ y. doing_on (p y) l) t (leaves (doing_on (p t) l)) u ne))
+      ]
+
+-- ---------------------------------------------------------------- hands
+
+pub record IsTakenAt (p : Place) (t l : ℕ) : Type 0 where
+  pub entry : Entry
+  pub retries : Bool
+  pub is : p ≡ Mutex l (Lock entry retries (lock.Taken t))
+
+pub record IsHandedAt (p : Place) (t l : ℕ) : Type 0 where
+  pub entry : Entry
+  pub retries : Bool
+  pub is : p ≡ Mutex l (Lock entry retries (lock.Handed t))
+
+-- what a place says nothing of at its own lock, it says nothing of at any
+pub nothing_at : {A : Type 0} (p : Place) (l : ℕ) (g : Stance → Option A) → g nowhere ≡ None → g (stance p) ≡ None → g (stance_at p l) ≡ None
+nothing_at p l g n e = either (calls p l)
+  where
+    either : (b : Bool) → g (if b then stance p else nowhere) ≡ None
+    either true = e
+    either false = n
+
+abbrev pub IsInHand : Place → ℕ → Bool → ℕ → Type 0
+IsInHand p t false l = IsTakenAt p t l
+IsInHand p t true l = IsHandedAt p t l
+
+pub in_hand : (p : Place) (t l : ℕ) (b : Bool) → hand_at p l ≡ hand t b → IsInHand p t b l
+in_hand (Mutex k (Lock e retries (lock.Taken by))) t l b h = either (k == l) refl b h
+  where
+    either : (c : Bool) → (k == l) ≡ c → (b : Bool) → (if c then mutex_stance (Lock e retries (lock.Taken by)) else nowhere).hand ≡ hand t b → IsInHand (Mutex k (Lock e retries (lock.Taken by))) t b l
+    either true f false g = let own : k ≡ l = eqb-true k l f in let whose : by ≡ t = cc in record { entry = e; retries = retries; is = rw (own, whose) refl }
+    either true f true g = absurd cc
+    either false f b g = absurd cc
+in_hand (Mutex k (Lock e retries (lock.Handed by))) t l b h = either (k == l) refl b h
+  where
+    either : (c : Bool) → (k == l) ≡ c → (b : Bool) → (if c then mutex_stance (Lock e retries (lock.Handed by)) else nowhere).hand ≡ hand t b → IsInHand (Mutex k (Lock e retries (lock.Handed by))) t b l
+    either true f true g = let own : k ≡ l = eqb-true k l f in let whose : by ≡ t = cc in record { entry = e; retries = retries; is = rw (own, whose) refl }
+    either true f false g = absurd cc
+    either false f b g = absurd cc
+in_hand p t l b h = absurd (let none : hand_at p l ≡ None = nothing_at p l (λ x. x.hand) refl refl in cc)
+
+pub is_taken : (p : Place) (t l : ℕ) → hand_at p l ≡ hand t false → IsTakenAt p t l
+is_taken p t l h = in_hand p t l false h
+
+pub is_handed : (p : Place) (t l : ℕ) → hand_at p l ≡ hand t true → IsHandedAt p t l
+is_handed p t l h = in_hand p t l true h
+
+-- who isn't in the hand of t
+pub untaken : (p : Place) (t l : ℕ) → (hand_at p l ≡ hand t false → ⊥) → Untaken t (taken_at p l)
+untaken (Mutex k (Lock e retries (lock.Taken by))) t l none = either (k == l) (by == t) refl none
+  where
+    either : (b c : Bool) → (by == t) ≡ c → ((if b then mutex_stance (Lock e retries (lock.Taken by)) else nowhere).hand ≡ hand t false → ⊥)
+        → keep_from t (if b then Some (record { by = by; want = Exclusive }) else None) ≡ (if b then Some (record { by = by; want = Exclusive }) else None)
+    either false c f free = refl
+    either true false f free = ap (λ x. if x then None else Some (record { by = by; want = Exclusive })) f
+    either true true f free = absurd (free (ap (λ x. hand x false) (eqb-true by t f)))
+untaken p t l none = refl
+
+-- ---------------------------------------------------------------- one thread goes elsewhere
+
+pub put_put : {A : Type 0} (f : ℕ → A) (t : ℕ) (x y : A) (u : ℕ) → putting (putting f t x) t y u ≡ putting f t y u
+put_put f t x y u = either (u == t)
+  where
+    either : (b : Bool) → (if b then y else if b then x else f u) ≡ (if b then y else f u)
+    either true = refl
+    either false = refl
+
+-- g of each, where one is put
+pub put_of : {A B : Type 0} (g : A → B) (f : ℕ → A) (t : ℕ) (x : A) (u : ℕ) → g (putting f t x u) ≡ putting (λ k. g (f k)) t (g x) u
+put_of g f t x u = either (u == t)
+  where
+    either : (b : Bool) → g (if b then x else f u) ≡ (if b then g x else g (f u))
+    either true = refl
+    either false = refl
+
+pub put_same : {A : Type 0} (f : ℕ → A) (t : ℕ) (x : A) → f t ≡ x → (u : ℕ) → putting f t x u ≡ f u
+put_same f t x e u = sym (put_is f f t x e (λ k ne. refl) u)
+
+-- a site whose lock, bit and one thread's doing are others
+abbrev pub local : Site → ℕ → LockState → Bool → Doing → Site
+local s t lock parked d = record s { lock = lock; parked = parked; doing = putting s.doing t d }
+
+-- what one thread's going elsewhere does to a site
+pub moved : (l n word : ℕ) (o : Owners) (m s : List Waiter) (p : ℕ → Place) (t : ℕ) (p2 : Place) → taken_at (p t) l ≡ taken_at p2 l
+    → seen l n word o m s (putting p t p2) ≡ local (seen l n word o m s p) t (lock_seen n o m s (λ u. taken_at (p u) l)) (is_parked word) (doing_on p2 l)
+moved l n word o m s p t p2 e = λ i. record (seen l n word o m s p) { lock = lock_seen n o m s (λ u. taken_same u i); doing = λ u. put_of (λ x. doing_on x l) p t p2 u i }
+  where
+    taken_same : (u : ℕ) → taken_at (putting p t p2 u) l ≡ taken_at (p u) l
+    taken_same u = put_of (λ x. taken_at x l) p t p2 u ∙ put_same (λ k. taken_at (p k) l) t (taken_at p2 l) e u
+
+-- a place of a call of the lock l, or of none
+abbrev pub IsOf : ℕ → Place → Type 0
+IsOf l Idle = Unit {0}
+IsOf l (Mutex k at) = k ≡ l
+
+goes_on : (l k : ℕ) (n : Next MutexPlace) → k ≡ l → IsOf l (mutex_goes k n)
+goes_on l k (next.TheVariants.At at) e = e
+goes_on l k (next.TheVariants.End answer) e = tt
+
+pub next_of : (l : ℕ) (p : Place) (reply : Reply) → IsOf l p → IsOf l (next_place p reply)
+next_of l Idle reply h = tt
+next_of l (Mutex k at) reply h = goes_on l k (mutex_next at reply) h
+
+-- it does nothing about another lock
+pub doing_elsewhere : (l k : ℕ) (p : Place) → IsOf l p → k ≢ l → doing_on p k ≡ idle
+doing_elsewhere l k Idle h ne = refl
+doing_elsewhere l k (Mutex j at) h ne = ap (λ b. if b then mutex_doing at else idle) (differ j k (λ e. ne (sym e ∙ h)))
+
+pub taken_elsewhere : (l k : ℕ) (p : Place) → IsOf l p → k ≢ l → taken_at p k ≡ None
+taken_elsewhere l k (Mutex j (Lock e retries (lock.Taken by))) h ne = ap (λ b. if b then Some (record { by = by; want = Exclusive }) else None) (differ j k (λ f. ne (sym f ∙ h)))
+taken_elsewhere l k p h ne = refl
+
+-- how it stands at a lock, by how it stands at its own
+pub stance_is : (l k : ℕ) (p : Place) → IsOf l p → stance_at p k ≡ (if l == k then stance p else nowhere)
+stance_is l k Idle h = either (l == k)
+  where
+    either : (b : Bool) → nowhere ≡ (if b then nowhere else nowhere)
+    either true = refl
+    either false = refl
+stance_is l k (Mutex j at) h = ap (λ x. if x == k then mutex_stance at else nowhere) h
+
+pub stance_here : (l : ℕ) (p : Place) → IsOf l p → stance_at p l ≡ stance p
+stance_here l p h = stance_is l l p h ∙ ap (λ b. if b then stance p else nowhere) (same l)
+
+pub stance_elsewhere : (l k : ℕ) (p : Place) → IsOf l p → k ≢ l → stance_at p k ≡ nowhere
+stance_elsewhere l k p h ne = stance_is l k p h ∙ ap (λ b. if b then stance p else nowhere) (differ l k (λ e. ne (sym e)))
+
+abbrev pub doing_of : Place → Doing
+doing_of Idle = idle
+doing_of (Mutex k at) = mutex_doing at
+
+pub doing_here : (l : ℕ) (p : Place) → IsOf l p → doing_on p l ≡ doing_of p
+doing_here l Idle h = refl
+doing_here l (Mutex k at) h = ap (λ x. if x == l then mutex_doing at else idle) h ∙ ap (λ b. if b then mutex_doing at else idle) (same l)
+
+pub inside_is : (p : Place) (l : ℕ) → (doing_on p l).inside ≡ (stance_at p l).inside
+inside_is Idle l = refl
+inside_is (Mutex k at) l = either (k == l)
+  where
+    either : (b : Bool) → (if b then mutex_doing at else idle).inside ≡ (if b then mutex_stance at else nowhere).inside
+    either true = refl
+    either false = refl
+
+pub own_stance : (l : ℕ) (q : Place) (at : MutexPlace) → q ≡ Mutex l at → stance_at q l ≡ mutex_stance at
+own_stance l q at is = ap (λ x. stance_at x l) is ∙ stance_here l (Mutex l at) refl
+
+-- another lock sees nothing of it
+pub moved_elsewhere : (l k n word : ℕ) (o : Owners) (m s : List Waiter) (p : ℕ → Place) (t : ℕ) (p2 : Place) → IsOf l (p t) → IsOf l p2 → k ≢ l → seen k n word o m s (putting p t p2) ≡ seen k n word o m s p
+moved_elsewhere l k n word o m s p t p2 h h2 ne = moved k n word o m s p t p2 (taken_elsewhere l k (p t) h ne ∙ sym (taken_elsewhere l k p2 h2 ne))
+    ∙ (λ i. record (seen k n word o m s p) { doing = λ u. put_same (λ x. doing_on (p x) k) t (doing_on p2 k) (doing_elsewhere l k (p t) h ne ∙ sym (doing_elsewhere l k p2 h2 ne)) u i })
+
+-- ---------------------------------------------------------------- a release wakes whom it has taken
+
+module _ (places : ℕ → Place) (hands : Hands places) (t l v : ℕ) (p2 : Place) where
+  -- t leaves for p2, and wakes v
+  abbrev pub woken_by : Note → ℕ → Place
+  woken_by x = putting (putting places v (next_place (places v) (Woken x))) t p2
+
+  -- everybody but the one in hand stays
+  lets_but_one : (x : Note) → ((u : ℕ) → u ≢ v → Untaken t (taken_at (places u) l)) → LetGo t l (places v) (next_place (places v) (Woken x)) → (u : ℕ) → u ≢ t → LetGo t l (places u) (woken_by x u)
+  lets_but_one x only one u ne = rw (put_other (putting places v (next_place (places v) (Woken x))) t p2 u ne) (elim (cases_eq u v) [
+    | inl e ↦ rw (e, put_here places v (next_place (places v) (Woken x))) one
+    | inr nv ↦ rw (put_other places v (next_place (places v) (Woken x)) u nv) (stays t l (places u) (only u nv))
+  ])
+
+  pub lets_taken : carried_at (places t) l ≡ hand v false → (u : ℕ) → u ≢ t → LetGo t l (places u) (woken_by note.Normal u)
+  lets_taken holds = lets_but_one note.Normal
+      (λ u ne. untaken (places u) t l (λ h. ne (let a : carried_at (places t) l ≡ hand u false = hands.taken t u l false h in cc)))
+      (let k : IsTakenAt (places v) t l = is_taken (places v) t l (hands.carried t v l false holds) in rw k.is (tries t l k.entry k.retries))
+
+  pub lets_handed : carried_at (places t) l ≡ hand v true → (u : ℕ) → u ≢ t → LetGo t l (places u) (woken_by note.HandOff u)
+  lets_handed holds = lets_but_one note.HandOff
+      (λ u ne. untaken (places u) t l (λ h. let a : carried_at (places t) l ≡ hand u false = hands.taken t u l false h in absurd cc))
+      (let k : IsHandedAt (places v) t l = is_handed (places v) t l (hands.carried t v l true holds) in rw k.is (accepts t l t k.entry k.retries))
+
+-- who has nobody in hand leaves alone
+pub lets_nobody : (places : ℕ → Place) (hands : Hands places) (t l : ℕ) (p2 : Place) → carried_at (places t) l ≡ None → (u : ℕ) → u ≢ t → LetGo t l (places u) (putting places t p2 u)
+lets_nobody places hands t l p2 none u ne = rw (put_other places t p2 u ne) (stays t l (places u) (untaken (places u) t l (λ h. let a : carried_at (places t) l ≡ hand u false = hands.taken t u l false h in absurd cc)))
+
+-- ---------------------------------------------------------------- the first of a line is taken
+
+module _ (r : Rules) (l n word : ℕ) (o : Owners) (s rest : List Waiter) (x : Waiter) (p : ℕ → Place) (t : ℕ) (entry : Entry) (retries : Bool) (sort : r.sort ≡ locks.Mutex)
+    (first : p x.thread ≡ Mutex l (Lock entry retries lock.Asleep)) (wants : x.want ≡ Exclusive) (apart : x.thread ≢ t) where
+  abbrev before : Site
+  before = seen l n word o (x ∷ rest) s p
+
+  abbrev taken_then : ℕ → Option Taken
+  taken_then = putting (λ u. taken_at (p u) l) x.thread (Some (record { by = t; want = Exclusive }))
+
+  pub taking : (p2 : Place) → taken_at (p t) l ≡ None → taken_at p2 l ≡ None → doing_on p2 l ≡ taking_main true (lock_seen n o rest s taken_then) (doing_on (p t) l)
+      → seen l n word o rest s (putting (putting p x.thread (next_place (p x.thread) (TakenBy t))) t p2) ≡ after r (Does (TakeFirst (queued x.thread))) before t
+  taking p2 none none2 own = λ i. record before { lock = lock_seen n o rest s (λ u. taken_now u i); filled = unfilled i; doing = λ u. doing_now u i }
+    where
+      unfilled : false ≡ (false || is_full r (locks.after r (TakeFirst (queued x.thread)) before.lock t))
+      unfilled = rw sort refl
+
+      hand_now : taken_at (next_place (p x.thread) (TakenBy t)) l ≡ Some (record { by = t; want = Exclusive })
+      hand_now = rw (first, same l) refl
+
+      taken_now : (u : ℕ) → taken_at (putting (putting p x.thread (next_place (p x.thread) (TakenBy t))) t p2 u) l ≡ taken_then u
+      taken_now u = elim (cases_eq u t) [
+        | inl e ↦ rw (e, put_here (putting p x.thread (next_place (p x.thread) (TakenBy t))) t p2) (none2 ∙ sym none ∙ sym (put_other (λ k. taken_at (p k) l) x.thread (Some (record { by = t; want = Exclusive })) t (λ f. apart (sym f))))
+        | inr ne ↦ rw (put_other (putting p x.thread (next_place (p x.thread) (TakenBy t))) t p2 u ne) (put_of (λ k. taken_at k l) p x.thread (next_place (p x.thread) (TakenBy t)) u ∙ ap (λ h. putting (λ k. taken_at (p k) l) x.thread h u) hand_now)
+      ]
+
+      doing_now : (u : ℕ) → doing_on (putting (putting p x.thread (next_place (p x.thread) (TakenBy t))) t p2 u) l ≡ putting (λ k. doing_on (p k) l) t (taking_main true (lock_seen n o rest s taken_then) (doing_on (p t) l)) u
+      doing_now u = put_is (λ k. doing_on (p k) l) (λ k. doing_on (putting (putting p x.thread (next_place (p x.thread) (TakenBy t))) t p2 k) l) t (taking_main true (lock_seen n o rest s taken_then) (doing_on (p t) l))
+          (rw (put_here (putting p x.thread (next_place (p x.thread) (TakenBy t))) t p2) own)
+          (λ k ne. rw (put_other (putting p x.thread (next_place (p x.thread) (TakenBy t))) t p2 k ne) (put_of (λ y. doing_on y l) p x.thread (next_place (p x.thread) (TakenBy t)) k ∙ put_same (λ y. doing_on (p y) l) x.thread (doing_on (next_place (p x.thread) (TakenBy t)) l) (rw (first, same l) refl) k))
+          u
+
+-- ---------------------------------------------------------------- a lock is handed over
+
+no_share : (t l : ℕ) (p : Place) → shares_handed t (taken_at p l) ≡ 0
+no_share t l (Mutex k (Lock e retries (lock.Taken by))) = either (k == l) (by == t)
+  where
+    unwanted : (c : Bool) → ◌≡◌ {A = ℕ} (if c && false then 1 else 0) 0
+    unwanted true = refl
+    unwanted false = refl
+
+    either : (b c : Bool) → shares_handed t (if b then Some (record { by = by; want = Exclusive }) else None) ≡ 0
+    either true c = unwanted (by == t)
+    either false c = refl
+no_share t l p = refl
+
+none_share : (t : ℕ) (taken : ℕ → Option Taken) → ((x : ℕ) → shares_handed t (taken x) ≡ 0) → (i n : ℕ) → sharing_from t taken i (replicate n 0) ≡ replicate n 0
+none_share t taken none i zero = refl
+none_share t taken none i (suc n) = λ j. ap (λ m. 0 + m) (none i) j ∷ none_share t taken none (i + 1) n j
+
+pub no_readers : (n : ℕ) → sum (replicate n 0) ≡ 0
+no_readers zero = refl
+no_readers (suc n) = no_readers n
+
+-- to whom the lock goes, if to anybody
+abbrev pub heir : Option ℕ → Option Queued
+heir None = None
+heir (Some u) = Some (queued u)
+
+-- the lock goes from t to those in hand
+pub handed_is : (t n : ℕ) (o : Owners) (m s : List Waiter) (p : ℕ → Place) (l : ℕ) (to : Option ℕ)
+    → locks.handed t Exclusive (heir to) (lock_seen n o m s (λ u. taken_at (p u) l)) ≡ lock_seen n (with_exclusive o to) m s (let_go t (λ u. taken_at (p u) l))
+handed_is t n o m s p l to = (λ i. locks.with_successor (heir to) (record (lock_seen n (with_exclusive o None) m s (let_go t (λ u. taken_at (p u) l))) { shared = none_share t (λ u. taken_at (p u) l) (λ x. no_share t l (p x)) 0 n i })) ∙ by_heir to
+  where
+    by_heir : (to : Option ℕ) → locks.with_successor (heir to) (lock_seen n (with_exclusive o None) m s (let_go t (λ u. taken_at (p u) l))) ≡ lock_seen n (with_exclusive o to) m s (let_go t (λ u. taken_at (p u) l))
+    by_heir None = refl
+    by_heir (Some u) = ap (λ (k : ℕ). if k == 0 then lock_seen n (with_exclusive o (Some u)) m s (let_go t (λ x. taken_at (p x) l)) else locks.pending_for u false (lock_seen n (with_exclusive o None) m s (let_go t (λ x. taken_at (p x) l)))) (no_readers n)
+
+module _ (r : Rules) (l n word : ℕ) (o : Owners) (m s : List Waiter) (p : ℕ → Place) (hands : Hands p) (t u : ℕ) (bumps none_left : Bool) (sort : r.sort ≡ locks.Mutex)
+    (store : p t ≡ Mutex l (HandOff bumps (hand_off.Store (Some u) none_left))) where
+  abbrev at_store : Site
+  at_store = seen l n word o m s p
+
+  abbrev pub handed_places : ℕ → Place
+  handed_places = putting (putting p u (next_place (p u) (HandedBy t))) t (Mutex l (HandOff bumps (hand_off.Leave (Some u))))
+
+  pub own_hand : carried_at (p t) l ≡ hand u false
+  own_hand = ap (λ (x : Stance). x.carries) (own_stance l (p t) _ store)
+
+  pub taken_there : IsTakenAt (p u) t l
+  taken_there = is_taken (p u) t l (hands.carried t u l false own_hand)
+
+  apart : u ≢ t
+  apart e = let a : Mutex l (HandOff bumps (hand_off.Store (Some u) none_left)) ≡ Mutex l (Lock taken_there.entry taken_there.retries (lock.Taken t)) = sym store ∙ ap p (sym e) ∙ taken_there.is in cc
+
+  let_go_now : (x : ℕ) → taken_at (handed_places x) l ≡ keep_from t (taken_at (p x) l)
+  let_go_now x = elim (cases_eq x t) [
+    | inl e ↦ rw (e, put_here (putting p u (next_place (p u) (HandedBy t))) t (Mutex l (HandOff bumps (hand_off.Leave (Some u)))), store) refl
+    | inr nt ↦ rw (put_other (putting p u (next_place (p u) (HandedBy t))) t (Mutex l (HandOff bumps (hand_off.Leave (Some u)))) x nt) (elim (cases_eq x u) [
+      | inl e ↦ rw (e, put_here p u (next_place (p u) (HandedBy t)), taken_there.is, same l, same t) refl
+      | inr nu ↦ rw (put_other p u (next_place (p u) (HandedBy t)) x nu) (sym (untaken (p x) t l (λ h. nu (let a : carried_at (p t) l ≡ hand x false = hands.taken t x l false h in let b : carried_at (p t) l ≡ hand u false = own_hand in cc))))
+    ])
+  ]
+
+  abbrev pub hands_acts : Bool → List Act
+  hands_acts b = record { by = t; deed = Does (locks.HandOff Exclusive (Some (queued u))) } ∷ record { by = t; deed = if b then Clear Main else Mark Main } ∷ record { by = u; deed = Begin (Some (Has Exclusive)) } ∷ []
+
+  doing_then : (b : Bool) → none_left ≡ b → (x : ℕ)
+      → doing_on (handed_places x) l ≡ (after_acts r (hands_acts b) at_store).doing x
+  doing_then true f x = elim (cases_eq x t) [
+    | inl e ↦ rw (e, put_here (putting p u (next_place (p u) (HandedBy t))) t (Mutex l (HandOff bumps (hand_off.Leave (Some u)))), differ t u (λ g. apart (sym g)), same t, store, same l) refl
+    | inr nt ↦ rw (put_other (putting p u (next_place (p u) (HandedBy t))) t (Mutex l (HandOff bumps (hand_off.Leave (Some u)))) x nt) (elim (cases_eq x u) [
+      | inl e ↦ rw (e, put_here p u (next_place (p u) (HandedBy t)), same u, differ u t apart, taken_there.is, same l) refl
+      | inr nu ↦ rw (put_other p u (next_place (p u) (HandedBy t)) x nu, differ x u nu, differ x t nt) refl
+    ])
+  ]
+  doing_then false f x = elim (cases_eq x t) [
+    | inl e ↦ rw (e, put_here (putting p u (next_place (p u) (HandedBy t))) t (Mutex l (HandOff bumps (hand_off.Leave (Some u)))), differ t u (λ g. apart (sym g)), same t, store, same l, f) refl
+    | inr nt ↦ rw (put_other (putting p u (next_place (p u) (HandedBy t))) t (Mutex l (HandOff bumps (hand_off.Leave (Some u)))) x nt) (elim (cases_eq x u) [
+      | inl e ↦ rw (e, put_here p u (next_place (p u) (HandedBy t)), same u, differ u t apart, taken_there.is, same l) refl
+      | inr nu ↦ rw (put_other p u (next_place (p u) (HandedBy t)) x nu, differ x u nu, differ x t nt) refl
+    ])
+  ]
+
+  -- the store does what its deeds do
+  pub handing : (b : Bool) → none_left ≡ b → seen l n (if b then 1 else 3) (with_exclusive o (Some u)) m s handed_places ≡ after_acts r (hands_acts b) at_store
+  handing b f = λ i. record at_store {
+    lock = (let_go_lock ∙ sym (handed_is t n o m s p l (Some u)) ∙ same_lock b) i;
+    parked = bit b i;
+    aside_parked = no_aside b i;
+    filled = unfilled b i;
+    doing = λ x. doing_then b f x i;
+  }
+    where
+      let_go_lock : lock_seen n (with_exclusive o (Some u)) m s (λ x. taken_at (handed_places x) l) ≡ lock_seen n (with_exclusive o (Some u)) m s (let_go t (λ x. taken_at (p x) l))
+      let_go_lock = λ i. lock_seen n (with_exclusive o (Some u)) m s (λ x. let_go_now x i)
+
+      same_lock : (b : Bool) → locks.handed t Exclusive (heir (Some u)) (lock_seen n o m s (λ x. taken_at (p x) l)) ≡ (after_acts r (hands_acts b) at_store).lock
+      same_lock true = refl
+      same_lock false = refl
+
+      bit : (b : Bool) → is_parked (if b then 1 else 3) ≡ (after_acts r (hands_acts b) at_store).parked
+      bit true = refl
+      bit false = refl
+
+      no_aside : (b : Bool) → false ≡ (after_acts r (hands_acts b) at_store).aside_parked
+      no_aside true = refl
+      no_aside false = refl
+
+      unfilled : (b : Bool) → false ≡ (after_acts r (hands_acts b) at_store).filled
+      unfilled true = rw sort refl
+      unfilled false = rw sort refl

@@ -1,0 +1,99 @@
+-- In the opening state each lock is a site, and nobody stands anywhere.
+use Rattle.std.proofs.Common.{ℕ, zero, suc, true, false, None, ◌&&◌, ◌≡◌, ◌+◌, ◌*◌, ◌≤◌, List, [], ◌∷◌, length, get_or, map, replicate, sum, nat_le, All, inl, inr, refl, sym, ◌∙◌, ap, arith}
+use Rattle.std.proofs.lemmas.Bool.{cases_lt, leb-true}
+use Rattle.std.proofs.lemmas.List.{length-replicate}
+use Rattle.lot_calls.specs.declared.kinds.Kind.{Kind}
+use Rattle.lot_calls.specs.declared.kinds.Kind as kind
+use Rattle.lot_calls.specs.declared.kinds.TheConstants.{MOST_READERS}
+use Rattle.lot_calls.specs.Kinds.{fits}
+use Rattle.lot_steps.specs.declared.places.Place.TheVariants.{Idle}
+use Rattle.abstract_locks.specs.Locks.{Rules, opening_lock}
+use Rattle.abstract_locks.specs.Purposes.{rules_of}
+use Rattle.abstract_locks.specs.Sites.{IsSite, opening_site, is_full}
+use Rattle.abstract_locks.proofs.LockKeeps.{opening_is_state}
+use Rattle.lot_world.specs.Machine.{State, opening, unlocked, place_at, kind_at}
+use Rattle.lot_world.specs.MutexDeeds.{nowhere, stance_at}
+use Rattle.lot_world.specs.SitesOf.{IsSteady, site_of, rules_at, code, key_of, carried_at, hand_at}
+use Rattle.lot_world.proofs.Glue.{past_all, seen, no_readers}
+use Rattle.lot_world.proofs.Opening.{idle_at, none_at, empty_at, nobody_owns}
+use Rattle.lot_world.proofs.Shape.{both}
+
+-- where the limit leaves room for a reader
+opening_is_site : (r : Rules) (n : ℕ) → (is_full r (opening_lock n) ≡ true → ⊥) → IsSite r (opening_site n)
+opening_is_site r n room = record {
+  state = opening_is_state r n;
+  alone = λ t u m h k. absurd cc;
+  parked = λ h. absurd (h refl);
+  aside_parked = λ h. absurd (h refl);
+  emptied = λ t m h. absurd cc;
+  covered = λ t h. absurd cc;
+  carried = λ u h e. absurd cc;
+  brought = λ t h. absurd cc;
+  setting = λ t h. absurd cc;
+  held = λ t c h. absurd cc;
+  unwoken = λ t h. refl;
+  full = λ h. absurd (room h);
+  main = λ h. absurd (elim h [ inl g ↦ g refl | inr g ↦ let b : false ≡ true = g.1 in cc ]);
+  second = λ h. absurd (h refl);
+}
+
+-- a limit is no less than the number of threads, so nobody fills a lock by being there
+limit_leaves_room : (n limit : ℕ) → 1 ≤ n → (nat_le n limit && nat_le limit MOST_READERS) ≡ true → nat_le limit ((sum (replicate n 0) + 0)) ≡ true → ⊥
+limit_leaves_room n limit some h full =
+    let a : n ≤ limit = leb-true n limit (both (nat_le n limit) (nat_le limit MOST_READERS) h).0 in
+    let b : limit ≤ (sum (replicate n 0) + 0) = leb-true limit ((sum (replicate n 0) + 0)) full in
+    let c : (sum (replicate n 0) + 0) ≡ 0 = rw (no_readers n) refl in
+    omega arith
+
+room : (k : Kind) (n : ℕ) → 1 ≤ n → fits k n ≡ true → is_full (rules_of k) (opening_lock n) ≡ true → ⊥
+room (kind.TheVariants.RwLock limit) n some h full = limit_leaves_room n limit some h full
+room (kind.TheVariants.Recursive limit) n some h full = limit_leaves_room n limit some h full
+room kind.TheVariants.Mutex n some h full = cc
+room kind.TheVariants.Fair n some h full = cc
+room k n some h full = cc
+
+word_0 : (kinds : List Kind) (l : ℕ) → (get_or (map unlocked kinds) l (unlocked kind.TheVariants.Mutex)).word ≡ 0
+word_0 [] l = refl
+word_0 (x ∷ xs) zero = refl
+word_0 (x ∷ xs) (suc l) = word_0 xs l
+
+kind_is : (kinds : List Kind) (l : ℕ) → (get_or (map unlocked kinds) l (unlocked kind.TheVariants.Mutex)).kind ≡ get_or kinds l kind.TheVariants.Mutex
+kind_is [] l = refl
+kind_is (x ∷ xs) zero = refl
+kind_is (x ∷ xs) (suc l) = kind_is xs l
+
+module _ (kinds : List Kind) (threads : ℕ) where
+  abbrev first : State
+  first = opening kinds threads
+
+  kinds_fit : All (λ k. fits k threads ≡ true) kinds → (l : ℕ) → fits (kind_at first l) threads ≡ true
+  kinds_fit all l = rw (kind_is kinds l) (elim (cases_lt l (length kinds)) [
+    | inl lt ↦ all l kind.TheVariants.Mutex lt
+    | inr ge ↦ rw (past_all kinds l kind.TheVariants.Mutex ge) refl
+  ])
+
+  opening_seen : (l : ℕ) → site_of first l ≡ opening_site (length first.places)
+  opening_seen l = λ i. seen l (length first.places) (word_0 kinds l i) (nobody_owns kinds l i) (empty_at (2 * length kinds) (2 * l) i) (empty_at (2 * length kinds) (2 * l + 1) i) (λ u. idle_at threads u i)
+
+  stands_nowhere : (t l : ℕ) → stance_at (place_at first t) l ≡ nowhere
+  stands_nowhere t l = ap (λ p. stance_at p l) (idle_at threads t)
+
+  size : length first.places ≡ threads
+  size = length-replicate threads Idle
+
+  pub opening_steady : 1 ≤ threads → All (λ k. fits k threads ≡ true) kinds → IsSteady first
+  opening_steady some fit = record {
+    sites = record {
+      site = λ l. rw (opening_seen l) (rw size (opening_is_site (rules_at first l) threads (room (kind_at first l) threads some (kinds_fit fit l))));
+      word = λ l. word_0 kinds l ∙ sym (ap code (opening_seen l));
+    };
+    stands = record {
+      sections = λ t l m. rw (stands_nowhere t l, none_at (2 * length kinds) (key_of l m)) (λ h. absurd cc, λ h. absurd cc);
+      lines = λ t l m. rw (stands_nowhere t l, empty_at (2 * length kinds) (key_of l m)) refl;
+      hands = record {
+        carried = λ t u l b h. absurd (let a : carried_at (place_at first t) l ≡ None = ap (λ s. s.carries) (stands_nowhere t l) in cc);
+        taken = λ t u l b h. absurd (let a : hand_at (place_at first u) l ≡ None = ap (λ s. s.hand) (stands_nowhere u l) in cc);
+      };
+      calls = λ t. rw (idle_at threads t) tt;
+    };
+  }

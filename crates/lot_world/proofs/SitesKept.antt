@@ -1,0 +1,391 @@
+-- Each act of a thread keeps every lock of the world a site, whose word says so.
+use Rattle.std.proofs.Common.{ℕ, Bool, true, false, Option, Some, None, if◌then◌else◌, ◌≡◌, ◌≢◌, ◌+◌, ◌*◌, ◌≤◌, ◌<◌, List, [], ◌∷◌, ◌++◌, length, get_or, set, map, drop, inl, inr, refl, sym, ◌∙◌, ap, subst, arith, length-set, get_or-set_same, get_or-set_other}
+use Rattle.std.proofs.lemmas.Bool.{cases_eq}
+use Rattle.lot_base.specs.declared.keys.Keys.TheVariants.{One}
+use Rattle.lot_base.specs.declared.notes.Note.{Note}
+use Rattle.lot_base.specs.declared.notes.Note.TheVariants as note
+use Rattle.lot_base.specs.declared.ops.Op.{Op}
+use Rattle.lot_base.specs.declared.ops.Op.TheVariants as op
+use Rattle.lot_base.specs.declared.wants.Waiter.{Waiter}
+use Rattle.lot_base.specs.Words.{apply}
+use Rattle.lot_calls.specs.declared.kinds.Kind as kind
+use Rattle.lot_steps.specs.declared.owners.Owners.{Owners}
+use Rattle.lot_steps.specs.declared.places.Place.{Place}
+use Rattle.lot_steps.specs.declared.places.Place.TheVariants.{Idle, Mutex}
+use Rattle.lot_steps.specs.declared.mutex.lock.Entry.{Entry}
+use Rattle.lot_steps.specs.declared.mutex.MutexPlace.{MutexPlace}
+use Rattle.lot_steps.specs.declared.mutex.MutexPlace.TheVariants.{Lock, Unlock, HandOff}
+use Rattle.lot_steps.specs.declared.mutex.lock.LockAt.TheVariants as lock
+use Rattle.lot_steps.specs.declared.mutex.unlock.UnlockAt.TheVariants as unlock
+use Rattle.lot_steps.specs.declared.mutex.hand_off.HandOffAt.TheVariants as hand_off
+use Rattle.lot_steps.specs.declared.acts.Act.{Act}
+use Rattle.lot_steps.specs.declared.acts.Act as act
+use Rattle.lot_steps.specs.declared.acts.Wakes as wakes
+use Rattle.lot_steps.specs.declared.acts.Reply.TheVariants.{Value, Woken, TakenBy, HandedBy}
+use Rattle.lot_steps.specs.MutexSteps.{with_exclusive, mutex_owners, hand_off_word}
+use Rattle.lot_steps.specs.Steps.{next_place}
+use Rattle.abstract_locks.specs.Locks.{Rules, TakeFirst, put as putting}
+use Rattle.abstract_locks.specs.Sites.{Doing, Site, IsSite, Deed, Main, Second, In, Out, Does, idle, leaves, found, is_empty, after}
+use Rattle.abstract_locks.proofs.SiteKeeps.{deed_keeps}
+use Rattle.lot_world.specs.Machine.{State, unlocked, place_at, word_at, owners_at, kind_at, queue_at, put, operated, filled_with, section_at, first_taken, befallen, performed, reply_to}
+use Rattle.lot_world.specs.Refinement.{taken_at}
+use Rattle.abstract_locks.specs.Picks.{queued_of}
+use Rattle.lot_world.specs.MutexDeeds.{Stance, hand, nowhere, mutex_doing, mutex_deeds, mutex_stance, stance, stance_at, doing_on, acts, owner, queued}
+use Rattle.lot_world.specs.MutexDeeds as deeds
+use Rattle.lot_world.specs.SitesOf.{site_of, rules_at, code, AllNeeded, IsSteady, Follows, Goes, CallsMutex, carried_at, after_acts}
+use Rattle.lot_world.proofs.Glue.{seen, site_seen, goes_from, put_places, put_here, put_other, IsOf, next_of, doing_elsewhere, taken_elsewhere, inside_is, own_stance, LetGo, leaving, taking, lets_taken, lets_handed, lets_nobody, IsTakenAt, is_taken, IsHandedAt, is_handed, untaken, handing, hands_acts}
+use Rattle.lot_world.proofs.MutexTable.{mutex, IsCode, OnWord, Steps, own_doing, goes_in as goes_into}
+use Rattle.lot_world.proofs.OnlyMutexes.{operated_kinds}
+use Rattle.lot_world.specs.OnlyMutexes.{is_mutex}
+use Rattle.lot_world.proofs.StandsMoved.{mutex_rules, still, goes_in, goes_out, lets_go, hands_lock, takes}
+use Rattle.lot_world.proofs.MutexSections.{hands_needed, take_needed, first_wants}
+
+-- g is f, but for x at i
+pub record Changed {A : Type 0} (f g : ℕ → A) (i : ℕ) (x : A) : Type 0 where
+  pub here : g i ≡ x
+  pub other : (j : ℕ) → j ≢ i → g j ≡ f j
+
+pub changed_set : {A B : Type 0} (f : A → B) (xs : List A) (i : ℕ) (x d : A) → i < length xs → Changed (λ k. f (get_or xs k d)) (λ k. f (get_or (set xs i x) k d)) i (f x)
+changed_set f xs i x d lt = record { here = ap f (get_or-set_same xs i x d lt); other = λ j ne. ap f (get_or-set_other xs i j x d ne) }
+
+pub unchanged : {A : Type 0} (f : ℕ → A) (l : ℕ) → Changed f f l (f l)
+unchanged f l = record { here = refl; other = λ j ne. refl }
+
+-- deeds one after another
+pub acts_keep : (r : Rules) (ds : List deeds.Act) (s : Site) → IsSite r s → AllNeeded r ds s → IsSite r (after_acts r ds s)
+acts_keep r [] s h n = h
+acts_keep r (a ∷ more) s h n = acts_keep r more (after r a.deed s a.by) (deed_keeps r a.deed s a.by h n.0) n.1
+
+-- what another lock sees of each place
+abbrev pub AlikeAt : ℕ → Place → Place → Type 0
+AlikeAt k p q = (taken_at q k ≡ taken_at p k) × (doing_on q k ≡ doing_on p k)
+
+pub alike_put : (l k : ℕ) (p : ℕ → Place) (t : ℕ) (p2 : Place) → IsOf l (p t) → IsOf l p2 → k ≢ l → (u : ℕ) → AlikeAt k (p u) (putting p t p2 u)
+alike_put l k p t p2 h h2 ne u = elim (cases_eq u t) [
+  | inl e ↦ rw (e, put_here p t p2) (taken_elsewhere l k p2 h2 ne ∙ sym (taken_elsewhere l k (p t) h ne), doing_elsewhere l k p2 h2 ne ∙ sym (doing_elsewhere l k (p t) h ne))
+  | inr nu ↦ rw (put_other p t p2 u nu) (refl, refl)
+]
+
+pub alike_both : (l k : ℕ) (p : ℕ → Place) (v : ℕ) (pv : Place) (t : ℕ) (p2 : Place) → IsOf l (p v) → IsOf l pv → IsOf l (p t) → IsOf l p2 → v ≢ t → k ≢ l → (u : ℕ) → AlikeAt k (p u) (putting (putting p v pv) t p2 u)
+alike_both l k p v pv t p2 hv hpv ht h2 apart ne u =
+    let a = alike_put l k p v pv hv hpv ne u in
+    let b = alike_put l k (putting p v pv) t p2 (rw (put_other p v pv t (λ e. apart (sym e))) ht) h2 ne u in
+    (b.0 ∙ a.0, b.1 ∙ a.1)
+
+module _ (w v : State) (l : ℕ) (rules : rules_at w l ≡ mutex) (q : ℕ → Place) (word : ℕ) (o : Owners) (m : List Waiter)
+    (places : place_at v ≡ q) (threads : length v.places ≡ length w.places) (words : Changed (word_at w) (word_at v) l word) (owners : Changed (owners_at w) (owners_at v) l o)
+    (mains : Changed (λ k. queue_at w (2 * k)) (λ k. queue_at v (2 * k)) l m) (seconds : (k : ℕ) → queue_at v (2 * k + 1) ≡ queue_at w (2 * k + 1)) (kinds : (k : ℕ) → kind_at v k ≡ kind_at w k)
+    (elsewhere : (k : ℕ) → k ≢ l → (u : ℕ) → AlikeAt k (place_at w u) (q u)) where
+  site_here : site_of v l ≡ seen l (length w.places) word o m (queue_at w (2 * l + 1)) q
+  site_here = site_seen v l (length w.places) word o m (queue_at w (2 * l + 1)) q threads words.here owners.here mains.here (seconds l) places
+
+  site_there : (k : ℕ) → k ≢ l → site_of v k ≡ site_of w k
+  site_there k ne = site_seen v k (length w.places) (word_at w k) (owners_at w k) (queue_at w (2 * k)) (queue_at w (2 * k + 1)) q threads (words.other k ne) (owners.other k ne) (mains.other k ne) (seconds k) places
+      ∙ (λ i. record (site_of w k) { lock = record (site_of w k).lock { taken = λ u. (elsewhere k ne u).0 i }; doing = λ u. (elsewhere k ne u).1 i })
+
+  -- what one lock has been through
+  pub follow : (ds : List deeds.Act) → seen l (length w.places) word o m (queue_at w (2 * l + 1)) q ≡ after_acts mutex ds (site_of w l) → AllNeeded mutex ds (site_of w l) → IsCode word o.exclusive → Follows w v l ds
+  follow ds led needed code = record {
+    site = rw rules (site_here ∙ led);
+    needed = rw rules needed;
+    word = rw (words.here, owners.here) code;
+    others = λ k ne. (site_there k ne, words.other k ne);
+    kinds = kinds;
+  }
+
+-- keeps all
+pub goes_steady : (w v : State) (l : ℕ) (ds : List deeds.Act) → IsSteady w → Goes w v l ds → IsSteady v
+goes_steady w v l ds steady g = record {
+  sites = record {
+    site = λ k. rw (g.follows.kinds k) (elim (cases_eq k l) [
+      | inl e ↦ rw (e, g.follows.site) (acts_keep (rules_at w l) ds (site_of w l) (steady.sites.site l) g.follows.needed)
+      | inr ne ↦ rw ((g.follows.others k ne).0) (steady.sites.site k)
+    ]);
+    word = λ k. elim (cases_eq k l) [
+      | inl e ↦ rw e g.follows.word
+      | inr ne ↦ (g.follows.others k ne).1 ∙ steady.sites.word k ∙ sym (ap code (g.follows.others k ne).0)
+    ];
+  };
+  stands = g.stands;
+}
+
+-- ---------------------------------------------------------------- what the acts change
+
+-- what the act of a thread leads to
+abbrev pub go_by : State → ℕ → Place → Act → State
+go_by w t p a = put (performed w t p a) t (next_place p (reply_to w t a))
+
+module _ (w : State) (t l : ℕ) (at : MutexPlace) (steady : IsSteady w) (is : place_at w t ≡ Mutex l at) (there : t < length w.places) where
+  pub of_mutex : is_mutex (kind_at w l) ≡ true
+  of_mutex = let c : CallsMutex w (Mutex l at) = rw is at (steady.stands.calls t) in c
+
+  pub rules : rules_at w l ≡ mutex
+  rules = mutex_rules (kind_at w l) of_mutex
+
+  pub site_l : IsSite mutex (seen l (length w.places) (word_at w l) (owners_at w l) (queue_at w (2 * l)) (queue_at w (2 * l + 1)) (place_at w))
+  site_l = rw rules at (steady.sites.site l)
+
+  pub own : IsOf l (place_at w t)
+  own = rw is refl
+
+  past : (p : Place) → length w.places ≤ t → p ≡ Idle
+  past p h = absurd (omega arith)
+
+  stance_is_at : stance (place_at w t) ≡ mutex_stance at
+  stance_is_at = ap stance is
+
+  -- a step on the word
+  pub word_keeps : l < length w.locks → (f : Op) → OnWord l (length w.places) (word_at w l) (owners_at w l) (queue_at w (2 * l)) (queue_at w (2 * l + 1)) (place_at w) t at f → Goes w (go_by w t (Mutex l at) (act.TheVariants.Word l f)) l (acts t (mutex_deeds at (Value (word_at w l))))
+  word_keeps lt f on = record {
+    follows = follow w after l rules (putting (place_at w) t p2) (apply f (word_at w l)) (mutex_owners at t (word_at w l) (owners_at w l)) (queue_at w (2 * l))
+        places (length-set w.places t p2)
+        (changed_set (λ x. x.word) w.locks l _ (unlocked kind.TheVariants.Mutex) lt) (changed_set (λ x. x.owners) w.locks l _ (unlocked kind.TheVariants.Mutex) lt)
+        (unchanged (λ k. queue_at w (2 * k)) l) (λ k. refl) same_kinds
+        (λ k ne. alike_put l k (place_at w) t p2 own of ne)
+        (acts t (mutex_deeds at (Value (word_at w l)))) on.steps.site on.steps.needed on.code;
+    stands = still w after steady.stands same_kinds l t of_mutex own p2 of places (λ key. refl) (λ key. refl) (on.same ∙ sym stance_is_at);
+  }
+    where
+      p2 : Place
+      p2 = next_place (Mutex l at) (Value (word_at w l))
+
+      after : State
+      after = go_by w t (Mutex l at) (act.TheVariants.Word l f)
+
+      of : IsOf l p2
+      of = next_of l (Mutex l at) (Value (word_at w l)) refl
+
+      places : place_at after ≡ putting (place_at w) t p2
+      places = put_places (operated w t (Mutex l at) l f) t p2 (past p2)
+
+      same_kinds : (k : ℕ) → kind_at after k ≡ kind_at w k
+      same_kinds = operated_kinds w t (Mutex l at) l f
+
+  -- a place and the section of its lock change
+  place_sites : (v : State) (p2 : Place) (ds : List Deed) → v.locks ≡ w.locks → v.queues ≡ w.queues → v.places ≡ set w.places t p2 → IsOf l p2
+      → Steps l (length w.places) (word_at w l) (word_at w l) (owners_at w l) (owners_at w l) (queue_at w (2 * l)) (queue_at w (2 * l)) (queue_at w (2 * l + 1)) (place_at w) t p2 ds → Follows w v l (acts t ds)
+  place_sites v p2 ds el eq ep of steps = follow w v l rules (putting (place_at w) t p2) (word_at w l) (owners_at w l) (queue_at w (2 * l))
+      (ap (λ (xs : List Place). λ u. get_or xs u Idle) ep ∙ put_places w t p2 (past p2)) (ap (λ (xs : List Place). length xs) ep ∙ length-set w.places t p2)
+      (rw el (unchanged (word_at w) l)) (rw el (unchanged (owners_at w) l)) (rw eq (unchanged (λ k. queue_at w (2 * k)) l)) (λ k. rw eq refl) (λ k. rw el refl)
+      (λ k ne. alike_put l k (place_at w) t p2 own of ne)
+      (acts t ds) steps.site steps.needed (steady.sites.word l)
+
+  -- a place that changes alone
+  pub place_keeps : (p2 : Place) (ds : List Deed) → IsOf l p2
+      → Steps l (length w.places) (word_at w l) (word_at w l) (owners_at w l) (owners_at w l) (queue_at w (2 * l)) (queue_at w (2 * l)) (queue_at w (2 * l + 1)) (place_at w) t p2 ds → stance p2 ≡ mutex_stance at → Goes w (put w t p2) l (acts t ds)
+  place_keeps p2 ds of steps e = record {
+    follows = place_sites (put w t p2) p2 ds refl refl refl of steps;
+    stands = still w (put w t p2) steady.stands (λ k. refl) l t of_mutex own p2 of (put_places w t p2 (past p2)) (λ key. refl) (λ key. refl) (e ∙ sym stance_is_at);
+  }
+
+  section_set : 2 * l < length w.sections → (who : Option ℕ) → Changed (section_at w) (section_at (filled_with w (One (2 * l)) who)) (2 * l) who
+  section_set line who = changed_set (λ x. x) w.sections (2 * l) who None line
+
+  -- into a section that is free
+  pub enter_keeps : 2 * l < length w.sections → (p2 : Place) → IsOf l p2 → taken_at (Mutex l at) l ≡ None → taken_at p2 l ≡ None → section_at w (2 * l) ≡ None → (mutex_doing at).inside ≡ None → (mutex_doing at).empty ≡ None → doing_on p2 l ≡ record (mutex_doing at) { inside = Some Main }
+      → stance p2 ≡ record (mutex_stance at) { inside = Some Main } → Goes w (put (filled_with w (One (2 * l)) (Some t)) t p2) l (acts t (In Main ∷ []))
+  enter_keeps line p2 of none none2 free i e own_is s = record {
+    follows = place_sites v p2 (In Main ∷ []) refl refl refl of
+        (goes_into l (length w.places) (word_at w l) (word_at w l) (owners_at w l) (queue_at w (2 * l)) (queue_at w (2 * l + 1)) (place_at w) t p2 site_l (mutex_doing at) (own_doing l (place_at w t) at is) (ap (λ y. taken_at y l) is ∙ none) none2 refl
+        (λ u h. let g : section_at w (2 * l) ≡ Some u = (steady.stands.sections u l Main).0 (sym (inside_is (place_at w u) l) ∙ h) in cc) i e own_is);
+    stands = goes_in w v steady.stands (λ k. refl) l t of_mutex own p2 of (put_places (filled_with w (One (2 * l)) (Some t)) t p2 (past p2)) (section_set line (Some t)).other (λ key. refl) free (section_set line (Some t)).here (ap (λ (x : Stance). x.inside) stance_is_at ∙ i)
+        (s ∙ sym (ap (λ (x : Stance). record x { inside = Some Main }) stance_is_at));
+  }
+    where
+      v : State
+      v = put (filled_with w (One (2 * l)) (Some t)) t p2
+
+  pub out_needed : (mutex_doing at).inside ≡ Some Main → (mutex_doing at).wakes ≡ None → AllNeeded mutex (acts t (Out ∷ [])) (site_of w l)
+  out_needed i k = ((rw (own_doing l (place_at w t) at is) ((λ h. let g : None ≡ Some Main = sym h ∙ i in cc), k, refl)), tt)
+
+  -- out of its own, where nobody is in its hand
+  pub leave_keeps : 2 * l < length w.sections → (p2 : Place) → IsOf l p2 → taken_at (Mutex l at) l ≡ None → taken_at p2 l ≡ None → doing_on p2 l ≡ leaves (mutex_doing at) → (mutex_doing at).inside ≡ Some Main → (mutex_doing at).wakes ≡ None → (mutex_stance at).carries ≡ None
+      → stance p2 ≡ record (mutex_stance at) { inside = None } → Goes w (put (filled_with w (One (2 * l)) None) t p2) l (acts t (Out ∷ []))
+  leave_keeps line p2 of none none2 e i k nobody s = record {
+    follows = follow w v l rules (putting (place_at w) t p2) (word_at w l) (owners_at w l) (queue_at w (2 * l))
+        (put_places (filled_with w (One (2 * l)) None) t p2 (past p2)) (length-set w.places t p2)
+        (unchanged (word_at w) l) (unchanged (owners_at w) l) (unchanged (λ j. queue_at w (2 * j)) l) (λ j. refl) (λ j. refl)
+        (λ j ne. alike_put l j (place_at w) t p2 own of ne)
+        (acts t (Out ∷ []))
+        (leaving mutex l (length w.places) (word_at w l) (owners_at w l) (queue_at w (2 * l)) (queue_at w (2 * l + 1)) (place_at w) _ t (ap (λ y. taken_at y l) is ∙ none) (ap (λ y. taken_at y l) (put_here (place_at w) t p2) ∙ none2)
+        (ap (λ y. doing_on y l) (put_here (place_at w) t p2) ∙ e ∙ sym (ap leaves (own_doing l (place_at w t) at is)))
+        (lets_nobody (place_at w) steady.stands.hands t l p2 (ap (λ (x : Stance). x.carries) (own_stance l (place_at w t) at is) ∙ nobody)))
+        (out_needed i k)
+        (steady.sites.word l);
+    stands = goes_out w v steady.stands (λ j. refl) l t of_mutex own p2 of (put_places (filled_with w (One (2 * l)) None) t p2 (past p2)) (section_set line None).other (λ key. refl) (section_set line None).here (ap (λ (x : Stance). x.inside) stance_is_at ∙ i)
+        (s ∙ sym (ap (λ (x : Stance). record x { inside = None }) stance_is_at));
+  }
+    where
+      v : State
+      v = put (filled_with w (One (2 * l)) None) t p2
+
+  -- out of its own, and v, which it has in hand, is told
+  pub wake_keeps : 2 * l < length w.sections → (v : ℕ) (handed : Bool) (x : Note) (p2 : Place) → IsOf l p2 → IsOf l (place_at w v) → taken_at (Mutex l at) l ≡ None → taken_at p2 l ≡ None → doing_on p2 l ≡ leaves (mutex_doing at) → (mutex_doing at).inside ≡ Some Main → (mutex_doing at).wakes ≡ None
+      → ((u : ℕ) → u ≢ t → LetGo t l (place_at w u) (putting (putting (place_at w) v (next_place (place_at w v) (Woken x))) t p2 u)) → v ≢ t
+      → mutex_stance at ≡ record nowhere { inside = Some Main; carries = hand v handed } → stance (place_at w v) ≡ record nowhere { hand = hand t handed } → stance p2 ≡ nowhere → stance (next_place (place_at w v) (Woken x)) ≡ nowhere
+      → Goes w (put (befallen (filled_with w (One (2 * l)) None) v (Woken x)) t p2) l (acts t (Out ∷ []))
+  wake_keeps line v handed x p2 of of_v none none2 e i k lets apart was was_v is_p2 is_pv = record {
+    follows = follow w after l rules (putting (putting (place_at w) v pv) t p2) (word_at w l) (owners_at w l) (queue_at w (2 * l)) places
+        (length-set (set w.places v _) t p2 ∙ length-set w.places v _)
+        (unchanged (word_at w) l) (unchanged (owners_at w) l) (unchanged (λ j. queue_at w (2 * j)) l) (λ j. refl) (λ j. refl)
+        (λ j ne u. alike_both l j (place_at w) v pv t p2 of_v of_pv own of apart ne u)
+        (acts t (Out ∷ []))
+        (leaving mutex l (length w.places) (word_at w l) (owners_at w l) (queue_at w (2 * l)) (queue_at w (2 * l + 1)) (place_at w) _ t (ap (λ y. taken_at y l) is ∙ none) (ap (λ y. taken_at y l) (put_here (putting (place_at w) v pv) t p2) ∙ none2)
+        (ap (λ y. doing_on y l) (put_here (putting (place_at w) v pv) t p2) ∙ e ∙ sym (ap leaves (own_doing l (place_at w t) at is))) lets)
+        (out_needed i k)
+        (steady.sites.word l);
+    stands = lets_go w after steady.stands (λ j. refl) l t v apart of_mutex own of_v p2 pv of of_pv places handed (section_set line None).other (section_set line None).here (λ key. refl) (stance_is_at ∙ was) was_v is_p2 is_pv;
+  }
+    where
+      pv : Place
+      pv = next_place (place_at w v) (Woken x)
+
+      of_pv : IsOf l pv
+      of_pv = next_of l (place_at w v) (Woken x) of_v
+
+      after : State
+      after = put (befallen (filled_with w (One (2 * l)) None) v (Woken x)) t p2
+
+      places : place_at after ≡ putting (putting (place_at w) v pv) t p2
+      places = put_places (befallen (filled_with w (One (2 * l)) None) v (Woken x)) t p2 (λ h. past p2 (let a : length (set w.places v pv) ≡ length w.places = length-set w.places v pv in omega arith)) ∙ ap (λ (f : ℕ → Place). putting f t p2) (goes_from w v (Woken x))
+
+module _ (w : State) (t l : ℕ) (steady : IsSteady w) (there : t < length w.places) where
+  -- a release leaves, and wakes the one that it took
+  pub release_wakes : 2 * l < length w.sections → (v : ℕ) → place_at w t ≡ Mutex l (Unlock (unlock.Leave (Some v))) → Goes w (go_by w t (Mutex l (Unlock (unlock.Leave (Some v)))) (act.TheVariants.Leave (One (2 * l)) (wakes.TheVariants.One v note.Normal))) l (acts t (Out ∷ []))
+  release_wakes line v is = wake_keeps w t l (Unlock (unlock.Leave (Some v))) steady is there line v false note.Normal Idle tt (rw there_v.is refl) refl refl refl refl refl (lets_taken (place_at w) steady.stands.hands t l v Idle holds) apart refl (rw there_v.is refl) refl (rw there_v.is refl)
+    where
+      holds : carried_at (place_at w t) l ≡ hand v false
+      holds = ap (λ (x : Stance). x.carries) (own_stance l (place_at w t) _ is)
+
+      there_v : IsTakenAt (place_at w v) t l
+      there_v = is_taken (place_at w v) t l (steady.stands.hands.carried t v l false holds)
+
+      apart : v ≢ t
+      apart e = let a : Mutex l (Unlock (unlock.Leave (Some v))) ≡ Mutex l (Lock there_v.entry there_v.retries (lock.Taken t)) = sym is ∙ ap (place_at w) (sym e) ∙ there_v.is in cc
+
+  -- a fair one leaves, and tells the one that it handed the lock
+  pub tells : 2 * l < length w.sections → (bumps : Bool) (v : ℕ) (is : place_at w t ≡ Mutex l (HandOff bumps (hand_off.Leave (Some v)))) (p2 : Place) → IsOf l p2 → taken_at p2 l ≡ None → doing_on p2 l ≡ idle → stance p2 ≡ nowhere → Goes w (put (befallen (filled_with w (One (2 * l)) None) v (Woken note.HandOff)) t p2) l (acts t (Out ∷ []))
+  tells line bumps v is p2 of none e s = wake_keeps w t l (HandOff bumps (hand_off.Leave (Some v))) steady is there line v true note.HandOff p2 of (rw there_v.is refl) refl none e refl refl (lets_handed (place_at w) steady.stands.hands t l v p2 holds) apart refl (rw there_v.is refl) s (rw there_v.is refl)
+    where
+      holds : carried_at (place_at w t) l ≡ hand v true
+      holds = ap (λ (x : Stance). x.carries) (own_stance l (place_at w t) _ is)
+
+      there_v : IsHandedAt (place_at w v) t l
+      there_v = is_handed (place_at w v) t l (steady.stands.hands.carried t v l true holds)
+
+      apart : v ≢ t
+      apart e = let a : Mutex l (HandOff bumps (hand_off.Leave (Some v))) ≡ Mutex l (Lock there_v.entry there_v.retries (lock.Handed t)) = sym is ∙ ap (place_at w) (sym e) ∙ there_v.is in cc
+
+  -- the store that hands the lock over
+  pub hands_over : l < length w.locks → (bumps none_left : Bool) (u : ℕ) → place_at w t ≡ Mutex l (HandOff bumps (hand_off.Store (Some u) none_left)) → Goes w (go_by w t (Mutex l (HandOff bumps (hand_off.Store (Some u) none_left))) (act.TheVariants.HandOver l (op.Store (hand_off_word (Some u) none_left)) u)) l (acts t (deeds.hands_over (Some u) none_left) ++ deeds.claims_of (Some u))
+  hands_over lt bumps none_left u is = record {
+    follows = follow w after l (rules w t l at steady is there) (putting (putting (place_at w) u pu) t p2) (if none_left then 1 else 3) (with_exclusive (owners_at w l) (Some u)) (queue_at w (2 * l)) places
+        (length-set (set w.places u pu) t p2 ∙ length-set w.places u pu)
+        (changed_set (λ x. x.word) w.locks l _ (unlocked kind.TheVariants.Mutex) lt) (changed_set (λ x. x.owners) w.locks l _ (unlocked kind.TheVariants.Mutex) lt)
+        (unchanged (λ k. queue_at w (2 * k)) l) (λ k. refl) same_kinds
+        (λ k ne x. alike_both l k (place_at w) u pu t p2 of_u of_pu own_t refl apart ne x)
+        (hands_acts mutex l (length w.places) (word_at w l) (owners_at w l) (queue_at w (2 * l)) (queue_at w (2 * l + 1)) (place_at w) steady.stands.hands t u bumps none_left refl is none_left)
+        (handing mutex l (length w.places) (word_at w l) (owners_at w l) (queue_at w (2 * l)) (queue_at w (2 * l + 1)) (place_at w) steady.stands.hands t u bumps none_left refl is none_left refl)
+        (hands_needed l (length w.places) (word_at w l) (owners_at w l) (queue_at w (2 * l)) (queue_at w (2 * l + 1)) (place_at w) steady.stands.hands t u bumps none_left is (site_l w t l at steady is there) none_left refl)
+        (coded none_left);
+    stands = hands_lock w after steady.stands same_kinds l t u apart (of_mutex w t l at steady is there) own_t of_u p2 pu refl of_pu places (λ key. refl) (λ key. refl) (ap stance is) (rw there_u.is refl) refl (rw there_u.is refl);
+  }
+    where
+      at : MutexPlace
+      at = HandOff bumps (hand_off.Store (Some u) none_left)
+
+      p2 : Place
+      p2 = Mutex l (HandOff bumps (hand_off.Leave (Some u)))
+
+      pu : Place
+      pu = next_place (place_at w u) (HandedBy t)
+
+      there_u : IsTakenAt (place_at w u) t l
+      there_u = is_taken (place_at w u) t l (steady.stands.hands.carried t u l false (ap (λ (x : Stance). x.carries) (own_stance l (place_at w t) _ is)))
+
+      own_t : IsOf l (place_at w t)
+      own_t = rw is refl
+
+      of_u : IsOf l (place_at w u)
+      of_u = rw there_u.is refl
+
+      of_pu : IsOf l pu
+      of_pu = next_of l (place_at w u) (HandedBy t) of_u
+
+      apart : u ≢ t
+      apart e = let a : Mutex l (HandOff bumps (hand_off.Store (Some u) none_left)) ≡ Mutex l (Lock there_u.entry there_u.retries (lock.Taken t)) = sym is ∙ ap (place_at w) (sym e) ∙ there_u.is in cc
+
+      after : State
+      after = go_by w t (Mutex l at) (act.TheVariants.HandOver l (op.Store (hand_off_word (Some u) none_left)) u)
+
+      places : place_at after ≡ putting (putting (place_at w) u pu) t p2
+      places = put_places (befallen (operated w t (Mutex l at) l (op.Store (hand_off_word (Some u) none_left))) u (HandedBy t)) t p2 (λ h. absurd (let a : length (set w.places u pu) ≡ length w.places = length-set w.places u pu in omega arith))
+          ∙ ap (λ (f : ℕ → Place). putting f t p2) (goes_from w u (HandedBy t))
+
+      coded : (b : Bool) → IsCode (if b then 1 else 3) (Some u)
+      coded true = refl
+      coded false = refl
+
+      same_kinds : (k : ℕ) → kind_at after k ≡ kind_at w k
+      same_kinds k = operated_kinds w t (Mutex l at) l (op.Store (hand_off_word (Some u) none_left)) k
+
+-- ---------------------------------------------------------------- the first of a line is taken
+
+-- the same of the main keys
+pub changed_main : {A : Type 0} (xs : List A) (l : ℕ) (x d : A) → 2 * l < length xs → Changed (λ k. get_or xs (2 * k) d) (λ k. get_or (set xs (2 * l) x) (2 * k) d) l x
+changed_main xs l x d lt = record { here = get_or-set_same xs (2 * l) x d lt; other = λ j ne. get_or-set_other xs (2 * l) (2 * j) x d (λ e. ne (omega arith)) }
+
+module _ (w : State) (t l : ℕ) (at : MutexPlace) (steady : IsSteady w) (is : place_at w t ≡ Mutex l at) (there : t < length w.places) (line : 2 * l < length w.queues)
+    (x : Waiter) (rest : List Waiter) (first : queue_at w (2 * l) ≡ x ∷ rest) (entry : Entry) (retries : Bool) (asleep : place_at w x.thread ≡ Mutex l (Lock entry retries lock.Asleep)) (apart : x.thread ≢ t) where
+  site_first : IsSite mutex (seen l (length w.places) (word_at w l) (owners_at w l) (x ∷ rest) (queue_at w (2 * l + 1)) (place_at w))
+  site_first = subst (λ (q : List Waiter). IsSite mutex (seen l (length w.places) (word_at w l) (owners_at w l) q (queue_at w (2 * l + 1)) (place_at w))) first (site_l w t l at steady is there)
+
+  pub take_keeps : (p2 : Place) → IsOf l p2 → taken_at (Mutex l at) l ≡ None → taken_at p2 l ≡ None → (mutex_stance at).carries ≡ None → (mutex_stance at).hand ≡ None → (mutex_doing at).inside ≡ Some Main → (mutex_doing at).carries ≡ false → (mutex_doing at).wakes ≢ Some Second
+      → doing_on p2 l ≡ record (mutex_doing at) { wakes = None; carries = true; covers = true; empty = found Main (is_empty (map queued_of rest)) }
+      → stance p2 ≡ record (mutex_stance at) { carries = hand x.thread false }
+      → Goes w (put (befallen (record w { queues = first_taken w.queues (2 * l) }) x.thread (TakenBy t)) t p2) l (acts t (Does (TakeFirst (queued x.thread)) ∷ []))
+  take_keeps p2 of none none2 nobody free i c v e s = record {
+    follows = follow w after l (rules w t l at steady is there) (putting (putting (place_at w) x.thread px) t p2) (word_at w l) (owners_at w l) rest places
+        (length-set (set w.places x.thread px) t p2 ∙ length-set w.places x.thread px)
+        (unchanged (word_at w) l) (unchanged (owners_at w) l)
+        (subst (λ (y : List Waiter). Changed (λ k. queue_at w (2 * k)) (λ k. get_or (first_taken w.queues (2 * l)) (2 * k) []) l y) (ap (drop 1) first) (changed_main w.queues l (drop 1 (queue_at w (2 * l))) [] line))
+        (λ k. get_or-set_other w.queues (2 * l) (2 * k + 1) (drop 1 (queue_at w (2 * l))) [] (λ h. omega arith)) (λ k. refl)
+        (λ k ne y. alike_both l k (place_at w) x.thread px t p2 of_x of_px own_t of apart ne y)
+        (acts t (Does (TakeFirst (queued x.thread)) ∷ []))
+        (taking mutex l (length w.places) (word_at w l) (owners_at w l) (queue_at w (2 * l + 1)) rest x (place_at w) t entry retries refl asleep (first_wants l (length w.places) (word_at w l) (owners_at w l) (queue_at w (2 * l + 1)) rest x (place_at w) t site_first) apart p2
+        (ap (λ y. taken_at y l) is ∙ none) none2 (e ∙ sym (ap (λ (d : Doing). record d { wakes = None; carries = true; covers = true; empty = found Main (is_empty (map queued_of rest)) }) (own_doing l (place_at w t) at is)))
+        ∙ same_lines)
+        needed
+        (steady.sites.word l);
+    stands = takes w after steady.stands (λ k. refl) l t x.thread apart (of_mutex w t l at steady is there) own_t of_x p2 px of of_px places rest x (λ key. refl)
+        (λ key ne. get_or-set_other w.queues (2 * l) key (drop 1 (queue_at w (2 * l))) [] (λ h. ne h)) first (get_or-set_same w.queues (2 * l) (drop 1 (queue_at w (2 * l))) [] line ∙ ap (drop 1) first) refl
+        (ap (λ (y : Place). (stance y).carries) is ∙ nobody) (ap (λ (y : Place). (stance y).hand) is ∙ free) (rw asleep refl) (s ∙ sym (ap (λ y. record (stance y) { carries = hand x.thread false }) is)) (rw asleep refl);
+  }
+    where
+      px : Place
+      px = next_place (place_at w x.thread) (TakenBy t)
+
+      own_t : IsOf l (place_at w t)
+      own_t = rw is refl
+
+      of_x : IsOf l (place_at w x.thread)
+      of_x = rw asleep refl
+
+      of_px : IsOf l px
+      of_px = next_of l (place_at w x.thread) (TakenBy t) of_x
+
+      after : State
+      after = put (befallen (record w { queues = first_taken w.queues (2 * l) }) x.thread (TakenBy t)) t p2
+
+      places : place_at after ≡ putting (putting (place_at w) x.thread px) t p2
+      places = put_places (befallen (record w { queues = first_taken w.queues (2 * l) }) x.thread (TakenBy t)) t p2 (λ h. absurd (let a : length (set w.places x.thread px) ≡ length w.places = length-set w.places x.thread px in omega arith))
+          ∙ ap (λ (f : ℕ → Place). putting f t p2) (goes_from w x.thread (TakenBy t))
+
+      -- the line, before and behind the look
+      same_lines : after_acts mutex (acts t (Does (TakeFirst (queued x.thread)) ∷ [])) (seen l (length w.places) (word_at w l) (owners_at w l) (x ∷ rest) (queue_at w (2 * l + 1)) (place_at w)) ≡ after_acts mutex (acts t (Does (TakeFirst (queued x.thread)) ∷ [])) (site_of w l)
+      same_lines = ap (λ q. after_acts mutex (acts t (Does (TakeFirst (queued x.thread)) ∷ [])) (seen l (length w.places) (word_at w l) (owners_at w l) q (queue_at w (2 * l + 1)) (place_at w))) (sym first)
+
+      needed : AllNeeded mutex (acts t (Does (TakeFirst (queued x.thread)) ∷ [])) (site_of w l)
+      needed = subst (λ (q : List Waiter). AllNeeded mutex (acts t (Does (TakeFirst (queued x.thread)) ∷ [])) (seen l (length w.places) (word_at w l) (owners_at w l) q (queue_at w (2 * l + 1)) (place_at w))) (sym first)
+          (take_needed l (length w.places) (word_at w l) (owners_at w l) (queue_at w (2 * l + 1)) rest x (place_at w) t site_first (mutex_doing at) (own_doing l (place_at w t) at is)
+          (λ u. untaken (place_at w u) t l (λ h. let a : carried_at (place_at w t) l ≡ hand u false = steady.stands.hands.taken t u l false h in let b : carried_at (place_at w t) l ≡ None = ap (λ (y : Stance). y.carries) (own_stance l (place_at w t) at is) ∙ nobody in cc)) i c v)

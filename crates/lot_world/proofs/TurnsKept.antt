@@ -1,0 +1,129 @@
+-- Each turn of a thread keeps every lock a site, and every thread in the line, the section and the hand that its place says.
+use Rattle.std.proofs.Common.{ℕ, Bool, true, false, Option, Some, None, if◌then◌else◌, ◌==◌, ◌≡◌, ◌+◌, ◌*◌, ◌<◌, [], ◌∷◌, length, length-set, nat_lt, refl, sym, ◌∙◌, ap, arith}
+use Rattle.std.proofs.lemmas.Bool.{eqb-true, ltb-true}
+use Rattle.lot_base.specs.declared.wants.Want.TheVariants.{Exclusive}
+use Rattle.lot_calls.specs.declared.calls.Call.{Call}
+use Rattle.lot_calls.specs.declared.calls.Call as calling
+use Rattle.lot_calls.specs.declared.calls.MutexCall.{MutexCall}
+use Rattle.lot_calls.specs.declared.calls.MutexCall.TheVariants as call
+use Rattle.lot_calls.specs.declared.calls.Step.{Step}
+use Rattle.lot_calls.specs.declared.calls.Turn.{Turn}
+use Rattle.lot_calls.specs.declared.calls.Turn as turn
+use Rattle.lot_calls.specs.Kinds.{has_call, is_fair}
+use Rattle.lot_steps.specs.declared.places.Place.{Place}
+use Rattle.lot_steps.specs.declared.places.Place.TheVariants.{Idle, Mutex}
+use Rattle.lot_steps.specs.declared.mutex.lock.Entry.{Entry}
+use Rattle.lot_steps.specs.declared.mutex.lock.Entry.TheVariants as entries
+use Rattle.lot_steps.specs.declared.mutex.lock.LockAt.{LockAt}
+use Rattle.lot_steps.specs.declared.mutex.lock.LockAt.TheVariants as lock
+use Rattle.lot_steps.specs.declared.mutex.MutexPlace.{MutexPlace}
+use Rattle.lot_steps.specs.declared.mutex.MutexPlace.TheVariants.{Lock, TryLock, Unlock, UnlockFair, Bump, HandOff}
+use Rattle.lot_steps.specs.MutexSteps.{mutex_first, mutex_right, is_thread}
+use Rattle.lot_steps.specs.Steps.{is_idle, spin_lock, late_key}
+use Rattle.abstract_locks.specs.Locks.{put as putting}
+use Rattle.abstract_locks.specs.Sites.{Claim, Has, Begin, HasClaim, idle}
+use Rattle.lot_world.specs.Machine.{State, place_at, word_at, owners_at, kind_at, queue_at, put, begun, can_begin, is_open_to, spun_on, late_on, is_free_under, turned, can_turn, is_possible, after}
+use Rattle.lot_world.specs.Fits.{IsShaped, PlaceFits}
+use Rattle.lot_world.specs.Refinement.{lock_state, taken_at}
+use Rattle.lot_world.specs.OnlyMutexes.{is_mutex}
+use Rattle.lot_world.specs.MutexDeeds.{nowhere, mutex_doing, mutex_stance, stance, acts, begins}
+use Rattle.lot_world.specs.SitesOf.{IsSteady, Goes, site_of}
+use Rattle.lot_world.proofs.Shape.{both}
+use Rattle.lot_world.proofs.OnlyMutexes.{calls_mutex}
+use Rattle.lot_world.proofs.Glue.{put_places, same}
+use Rattle.lot_world.proofs.MutexTable.{mutex, own_doing, meets, others_same}
+use Rattle.lot_world.proofs.StandsMoved.{mutex_rules, still}
+use Rattle.lot_world.proofs.SitesKept.{unchanged, follow, goes_steady, alike_put}
+use Rattle.lot_world.proofs.GoneKept.{looked, enters, gone_kept}
+
+pub idle_is : (p : Place) → is_idle p ≡ true → p ≡ Idle
+idle_is Idle h = refl
+idle_is (Mutex l at) h = absurd cc
+
+module _ (w : State) (t : ℕ) (steady : IsSteady w) (shape : IsShaped w) (there : t < length w.places) where
+  -- it begins, with the claim that the call needs
+  begin_kept : (l : ℕ) (at : MutexPlace) (c : Option Claim) → is_mutex (kind_at w l) ≡ true → place_at w t ≡ Idle → taken_at (Mutex l at) l ≡ None → mutex_doing at ≡ record idle { claims = c } → HasClaim (lock_state w l) t c → mutex_stance at ≡ nowhere → Goes w (put w t (Mutex l at)) l (acts t (Begin c ∷ []))
+  begin_kept l at c of_mutex is none e has s = record {
+    follows = follow w _ l (mutex_rules (kind_at w l) of_mutex) (putting (place_at w) t (Mutex l at)) (word_at w l) (owners_at w l) (queue_at w (2 * l))
+        places (length-set w.places t (Mutex l at))
+        (unchanged (word_at w) l) (unchanged (owners_at w) l) (unchanged (λ k. queue_at w (2 * k)) l) (λ k. refl) (λ k. refl)
+        (λ k ne. alike_put l k (place_at w) t (Mutex l at) (rw is tt) refl ne)
+        (acts t (Begin c ∷ []))
+        (meets l (length w.places) (word_at w l) (owners_at w l) (queue_at w (2 * l)) (queue_at w (2 * l + 1)) (place_at w) t (Mutex l at) _ (rw is (sym none)) refl refl refl refl (own_doing l (Mutex l at) at refl ∙ e ∙ rw (same t, is) refl)
+        (λ u ne. others_same mutex (Begin c ∷ []) (site_of w l) t u (tt, tt) ne))
+        (has, tt)
+        (steady.sites.word l);
+    stands = still w (put w t (Mutex l at)) steady.stands (λ k. refl) l t of_mutex (rw is tt) (Mutex l at) refl places (λ key. refl) (λ key. refl) (s ∙ sym (ap stance is));
+  }
+    where
+      places : place_at (put w t (Mutex l at)) ≡ putting (place_at w) t (Mutex l at)
+      places = put_places w t (Mutex l at) (λ h. absurd (omega arith))
+
+  owns : (o : Option ℕ) → is_thread t o ≡ true → o ≡ Some t
+  owns None h = absurd cc
+  owns (Some u) h = ap Some (eqb-true u t h)
+
+  -- each call of a mutex
+  calls_begin : (l : ℕ) (fair : Bool) (c : MutexCall) → is_mutex (kind_at w l) ≡ true → place_at w t ≡ Idle → mutex_right c t (owners_at w l) ≡ true → Goes w (put w t (Mutex l (mutex_first fair c))) l (acts t (begins (mutex_first fair c) ∷ []))
+  calls_begin l fair call.Lock of is right = begin_kept l _ None of is refl refl tt refl
+  calls_begin l fair call.LockTimed of is right = begin_kept l _ None of is refl refl tt refl
+  calls_begin l fair call.TryLock of is right = begin_kept l _ None of is refl refl tt refl
+  calls_begin l true call.Unlock of is right = begin_kept l _ (Some (Has Exclusive)) of is refl refl (owns (owners_at w l).exclusive right) refl
+  calls_begin l false call.Unlock of is right = begin_kept l _ (Some (Has Exclusive)) of is refl refl (owns (owners_at w l).exclusive right) refl
+  calls_begin l fair call.UnlockFair of is right = begin_kept l _ (Some (Has Exclusive)) of is refl refl (owns (owners_at w l).exclusive right) refl
+  calls_begin l fair call.Bump of is right = begin_kept l _ (Some (Has Exclusive)) of is refl refl (owns (owners_at w l).exclusive right) refl
+
+  begun_kept : (c : Call) → can_begin w t c ≡ true → IsSteady (begun w t c)
+  begun_kept (calling.TheVariants.Mutex l c) can =
+      let parts = both (is_idle (place_at w t)) (is_open_to w t (calling.TheVariants.Mutex l c)) can in
+      let open_to = both (nat_lt l (length w.locks)) _ parts.1 in
+      let right = both (has_call (kind_at w l) (calling.TheVariants.Mutex l c)) _ open_to.1 in
+      goes_steady w _ l _ steady (calls_begin l (is_fair (kind_at w l)) c (calls_mutex (kind_at w l) (calling.TheVariants.Mutex l c) right.0) (idle_is (place_at w t) parts.0) right.1)
+
+  -- it loads the word again
+  spins : (l : ℕ) (e : Entry) (r : Bool) (x : ℕ) → place_at w t ≡ Mutex l (Lock e r (lock.Decide x)) → (b : Bool) → IsSteady (spun_on w t (if b then Some l else None))
+  spins l e r x is false = steady
+  spins l e r x is true = rw is (goes_steady w _ l [] steady (looked w t steady shape there l (Lock e r (lock.Decide x)) (Lock e r (lock.Decide (word_at w l))) is refl refl refl refl))
+
+  spun_kept : (p : Place) → place_at w t ≡ p → IsSteady (spun_on w t (spin_lock p))
+  spun_kept (Mutex l (Lock e r (lock.Decide x))) is = spins l e r x is (x == 1)
+  spun_kept (Mutex l (Lock e r lock.First)) is = steady
+  spun_kept (Mutex l (Lock e r a)) is = steady
+  spun_kept (Mutex l at) is = steady
+  spun_kept Idle is = steady
+
+  -- its time is up, and it goes into the section of its line
+  asleep_late : (l : ℕ) (e : Entry) (r : Bool) → place_at w t ≡ Mutex l (Lock e r lock.Asleep) → l < length w.locks → is_free_under w (late_key (Mutex l (Lock e r lock.Asleep))) ≡ true → IsSteady (late_on w t (late_key (Mutex l (Lock e r lock.Asleep))))
+  asleep_late l entries.LockTimed r is lt can = rw is (goes_steady w _ l _ steady (enters w t steady shape there l (Lock entries.LockTimed r lock.Asleep) (Lock entries.LockTimed r lock.Remove) is lt can refl refl refl refl refl refl))
+  asleep_late l entries.Lock r is lt can = absurd cc
+  asleep_late l entries.Bump r is lt can = absurd cc
+
+  lock_late : (l : ℕ) (e : Entry) (r : Bool) (a : LockAt) → place_at w t ≡ Mutex l (Lock e r a) → l < length w.locks → is_free_under w (late_key (Mutex l (Lock e r a))) ≡ true → IsSteady (late_on w t (late_key (Mutex l (Lock e r a))))
+  lock_late l e r lock.Asleep is lt can = asleep_late l e r is lt can
+  lock_late l e r lock.First is lt can = absurd cc
+  lock_late l e r a is lt can = absurd cc
+
+  late_kept : (p : Place) → place_at w t ≡ p → PlaceFits (length w.places) (length w.locks) p → is_free_under w (late_key p) ≡ true → IsSteady (late_on w t (late_key p))
+  late_kept (Mutex l (Lock e r a)) is fits can = lock_late l e r a is fits.0 can
+  late_kept (Mutex l TryLock) is fits can = absurd cc
+  late_kept (Mutex l (Unlock a)) is fits can = absurd cc
+  late_kept (Mutex l UnlockFair) is fits can = absurd cc
+  late_kept (Mutex l Bump) is fits can = absurd cc
+  late_kept (Mutex l (HandOff bumps a)) is fits can = absurd cc
+  late_kept Idle is fits can = absurd cc
+
+  turned_kept : (x : Turn) → can_turn w t x ≡ true → IsSteady (turned w t x)
+  turned_kept (turn.TheVariants.Begin c) can = begun_kept c can
+  turned_kept turn.TheVariants.Go can = gone_kept w t steady shape there (place_at w t) refl (shape.places t) can
+  turned_kept turn.TheVariants.Spin can = spun_kept (place_at w t) refl
+  turned_kept turn.TheVariants.Late can = late_kept (place_at w t) refl (shape.places t) can
+  turned_kept x can = steady
+
+-- a step keeps what holds between steps
+pub after_steady : (w : State) (s : Step) → IsShaped w → IsSteady w → IsSteady (after w s)
+after_steady w s shape steady = either (is_possible w s) refl
+  where
+    either : (b : Bool) → is_possible w s ≡ b → IsSteady (if b then turned w s.thread s.turn else w)
+    either true can = let parts = both (nat_lt s.thread (length w.places)) (can_turn w s.thread s.turn) can in
+        turned_kept w s.thread steady shape (ltb-true s.thread (length w.places) parts.0) s.turn parts.1
+    either false can = steady

@@ -1,0 +1,105 @@
+-- The locks of a world, with what each thread does about each.
+use Rattle.std.specs.Prelude.{ℕ, Bool, true, false, Option, Some, ◌≡◌, ◌≢◌, ◌+◌, ◌*◌, ◌↔◌, if◌then◌else◌, List, [], ◌∷◌}
+use Rattle.lot_base.specs.declared.wants.Waiter.{Waiter}
+use Rattle.lot_base.specs.Lines.{times}
+use Rattle.lot_steps.specs.declared.places.Place.{Place}
+use Rattle.lot_steps.specs.declared.places.Place.TheVariants.{Idle, Mutex as OfMutex}
+use Rattle.lot_steps.specs.MutexSteps.{is_parked}
+use Rattle.abstract_locks.specs.Locks.{Rules, one_if_some}
+use Rattle.abstract_locks.specs.Sites.{Line, Main, Second, Site, IsSite, after, Needed}
+use Rattle.abstract_locks.specs.Purposes.{rules_of}
+use Rattle.lot_world.specs.Machine.{State, place_at, word_at, kind_at, queue_at, section_at}
+use Rattle.lot_world.specs.Refinement.{lock_state}
+use Rattle.lot_world.specs.OnlyMutexes.{is_mutex}
+use Rattle.lot_world.specs.MutexDeeds.{Act, Hand, hand, stance_at, doing_on}
+
+abbrev pub site_of : State → ℕ → Site
+site_of w l = record {
+  lock = lock_state w l;
+  parked = is_parked (word_at w l);
+  aside_parked = false;
+  filled = false;
+  doing = λ u. doing_on (place_at w u) l;
+}
+
+abbrev pub rules_at : State → ℕ → Rules
+rules_at w l = rules_of (kind_at w l)
+
+-- the word of a mutex
+abbrev pub code : Site → ℕ
+code s = one_if_some s.lock.exclusive + (if s.parked then 2 else 0)
+
+abbrev pub after_acts : Rules → List Act → Site → Site
+after_acts r [] s = s
+after_acts r (a ∷ more) s = after_acts r more (after r a.deed s a.by)
+
+-- each deed may be done where it is
+abbrev pub AllNeeded : Rules → List Act → Site → Type 0
+AllNeeded r [] s = Unit {0}
+AllNeeded r (a ∷ more) s = Needed r a.deed s a.by × AllNeeded r more (after r a.deed s a.by)
+
+-- each lock is a site, and its word says so
+pub record AreSites (w : State) : Type 0 where
+  pub site : (l : ℕ) → IsSite (rules_at w l) (site_of w l)
+  pub word : (l : ℕ) → word_at w l ≡ code (site_of w l)
+
+-- ---------------------------------------------------------------- what the machine keeps beside its locks' being sites
+
+-- the key of a line of the lock l
+abbrev pub key_of : ℕ → Line → ℕ
+key_of l Main = 2 * l
+key_of l Second = 2 * l + 1
+
+-- how often a thread stands in a line
+abbrev pub stood_in : Option Line → Line → ℕ
+stood_in (Some Main) Main = 1
+stood_in (Some Second) Second = 1
+stood_in line m = 0
+
+-- a section is held by the thread inside it
+abbrev pub Sections : (ℕ → Place) → (ℕ → Option ℕ) → Type 0
+Sections places section = (t l : ℕ) (m : Line) → (stance_at (places t) l).inside ≡ Some m ↔ section (key_of l m) ≡ Some t
+
+-- a thread stands in the line that its place says, and once
+abbrev pub Lines : (ℕ → Place) → (ℕ → List Waiter) → Type 0
+Lines places queue = (t l : ℕ) (m : Line) → times t (queue (key_of l m)) ≡ stood_in (stance_at (places t) l).stands m
+
+abbrev pub carried_at : Place → ℕ → Option Hand
+carried_at p l = (stance_at p l).carries
+
+abbrev pub hand_at : Place → ℕ → Option Hand
+hand_at p l = (stance_at p l).hand
+
+-- whom a thread has in hand is in its hand
+pub record Hands (p : ℕ → Place) : Type 0 where
+  pub carried : (t u l : ℕ) (b : Bool) → carried_at (p t) l ≡ hand u b → hand_at (p u) l ≡ hand t b
+  pub taken : (t u l : ℕ) (b : Bool) → hand_at (p u) l ≡ hand t b → carried_at (p t) l ≡ hand u b
+
+-- a call of a mutex is of a lock of such a kind
+abbrev pub CallsMutex : State → Place → Type 0
+CallsMutex w Idle = Unit {0}
+CallsMutex w (OfMutex l at) = is_mutex (kind_at w l) ≡ true
+
+pub record Stands (w : State) : Type 0 where
+  pub sections : Sections (place_at w) (section_at w)
+  pub lines : Lines (place_at w) (queue_at w)
+  pub hands : Hands (place_at w)
+  pub calls : (t : ℕ) → CallsMutex w (place_at w t)
+
+-- what holds between any two steps
+pub record IsSteady (w : State) : Type 0 where
+  pub sites : AreSites w
+  pub stands : Stands w
+
+-- one lock has been through deeds that are allowed, its word says so, and the others are as they were
+pub record Follows (w v : State) (l : ℕ) (ds : List Act) : Type 0 where
+  pub site : site_of v l ≡ after_acts (rules_at w l) ds (site_of w l)
+  pub needed : AllNeeded (rules_at w l) ds (site_of w l)
+  pub word : word_at v l ≡ code (site_of v l)
+  pub others : (k : ℕ) → k ≢ l → (site_of v k ≡ site_of w k) × (word_at v k ≡ word_at w k)
+  pub kinds : (k : ℕ) → kind_at v k ≡ kind_at w k
+
+-- and each thread stands where its place says
+pub record Goes (w v : State) (l : ℕ) (ds : List Act) : Type 0 where
+  pub follows : Follows w v l ds
+  pub stands : Stands v
