@@ -20,7 +20,8 @@ use Rattle.lot_steps.specs.declared.mutex.hand_off.HandOffAt.{HandOffAt}
 use Rattle.lot_steps.specs.declared.mutex.hand_off.HandOffAt.TheVariants as hand_off
 use Rattle.lot_steps.specs.declared.places.Place.{Place}
 use Rattle.lot_steps.specs.declared.places.Place.TheVariants.{Idle, Mutex}
-use Rattle.lot_steps.specs.MutexSteps.{is_locked, lock_act, unlock_act, hand_off_act, lock_owes}
+use Rattle.lot_steps.specs.MutexSteps.{is_locked, lock_act, unlock_act, hand_off_act}
+use Rattle.lot_steps.specs.MutexProfiles.{mutex_owes}
 use Rattle.lot_steps.specs.Steps.{act_of, owes_on, retries_on}
 use Rattle.lot_world.specs.Machine.{State, opening, kind_at, place_at, after, section_at}
 use Rattle.lot_world.specs.Fits.{IsShaped}
@@ -79,7 +80,7 @@ own_lock : (b : Bool) (own l : ℕ) → (b && (own == l)) ≡ true → (b ≡ tr
 own_lock true own l h = (refl, eqb-true own l h)
 own_lock false own l h = absurd cc
 
-lock_inside : (own : ℕ) (entry : Entry) (retries : Bool) (at : LockAt) → lock_owes at ≡ true → inside (Mutex own (Lock entry retries at)) ≡ Some own
+lock_inside : (own : ℕ) (entry : Entry) (retries : Bool) (at : LockAt) → mutex_owes (Lock entry retries at) ≡ true → inside (Mutex own (Lock entry retries at)) ≡ Some own
 lock_inside own entry retries Check h = refl
 lock_inside own entry retries (Leave parked) h = refl
 lock_inside own entry retries Remove h = refl
@@ -91,7 +92,7 @@ lock_inside own entry retries at h = absurd cc
 owes_means : (p : Place) (l : ℕ) (r : ℕ → Rights) → owes_on p l ≡ true
     → (inside p ≡ Some l) ⊎ ((act_of p ≡ act.TheVariants.Enter (One (2 * l))) × IsReleasing (call_state p r).purpose (call_state p r).released l)
 owes_means Idle l r h = absurd cc
-owes_means (Mutex own (Lock entry retries at)) l r h = let g = own_lock (lock_owes at) own l h in inl (lock_inside own entry retries at g.0 ∙ ap Some g.1)
+owes_means (Mutex own (Lock entry retries at)) l r h = let g = own_lock (mutex_owes (Lock entry retries at)) own l h in inl (lock_inside own entry retries at g.0 ∙ ap Some g.1)
 owes_means (Mutex own TryLock) l r h = absurd cc
 owes_means (Mutex own (Unlock unlock.Subtract)) l r h = absurd cc
 owes_means (Mutex own (Unlock unlock.Enter)) l r h = let e : own ≡ l = eqb-true own l h in inr (ap (λ k. act.TheVariants.Enter (One (2 * k))) e, e)

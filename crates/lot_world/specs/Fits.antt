@@ -10,9 +10,7 @@ use Rattle.lot_steps.specs.declared.acts.Wakes as wakes
 use Rattle.lot_steps.specs.declared.places.Place.{Place}
 use Rattle.lot_steps.specs.declared.places.Place.TheVariants.{Idle, Mutex}
 use Rattle.lot_steps.specs.declared.mutex.MutexPlace.{MutexPlace}
-use Rattle.lot_steps.specs.declared.mutex.MutexPlace.TheVariants.{Unlock, HandOff}
-use Rattle.lot_steps.specs.declared.mutex.unlock.UnlockAt.TheVariants as unlock
-use Rattle.lot_steps.specs.declared.mutex.hand_off.HandOffAt.TheVariants as hand_off
+use Rattle.lot_steps.specs.MutexProfiles.{mutex_profile}
 use Rattle.lot_world.specs.Machine.{State, place_at, queue_at}
 
 abbrev pub KeysFit : ℕ → Keys → Type 0
@@ -39,11 +37,7 @@ SomeBelow n (Some u) = u < n
 
 -- the thread that a release has taken
 abbrev pub taken_in : MutexPlace → Option ℕ
-taken_in (Unlock (unlock.Clear taken)) = taken
-taken_in (Unlock (unlock.Leave taken)) = taken
-taken_in (HandOff bumps (hand_off.Store taken none_left)) = taken
-taken_in (HandOff bumps (hand_off.Leave taken)) = taken
-taken_in at = None
+taken_in at = (mutex_profile at).taken
 
 abbrev pub PlaceFits : ℕ → ℕ → Place → Type 0
 PlaceFits threads locks Idle = Unit {0}
