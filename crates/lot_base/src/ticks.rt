@@ -7,20 +7,27 @@ use std::thread::yield_now;
 /// A clock on which each look takes a nanosecond, whichever thread looks. A pause lets other threads run.
 #[derive(Drop)]
 pub struct TickClock {
+    start: u64,
     now: AtomicU64,
 }
 
 impl TickClock {
     /// A clock at 0.
     pub fn new() -> TickClock {
+        TickClock::starting_at(0)
+    }
+
+    /// A clock at a time. Far from 0, a deadline that leaves out the time of its call is long over.
+    pub fn starting_at(start: u64) -> TickClock {
         TickClock {
-            now: AtomicU64::new(0),
+            start,
+            now: AtomicU64::new(start),
         }
     }
 
-    /// Sets the clock back to 0. No thread may sleep by it then.
+    /// Sets the clock back to its start. No thread may sleep by it then.
     pub fn restart(&self) {
-        self.now.store(0, SeqCst);
+        self.now.store(self.start, SeqCst);
     }
 }
 

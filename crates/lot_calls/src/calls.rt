@@ -52,7 +52,7 @@ impl Call {
         ensures { result ≡ lock_in self }
     {
         match self {
-            Call::Mutex { lock, call: _ } => lock,
+            Call::Mutex { lock, .. } => lock,
         }
     }
 }

@@ -38,19 +38,13 @@ impl Kind {
     pub fn has_call(self, call: Call) -> bool
         ensures { result ≡ has_call self call }
     {
-        match (self, call) {
-            (Kind::Mutex | Kind::Fair, Call::Mutex { lock: _, call: _ }) => true,
-            _ => false,
-        }
+        matches!((self, call), (Kind::Mutex | Kind::Fair, Call::Mutex { .. }))
     }
 
     /// Whether it is a mutex whose `unlock` hands the lock over.
     pub fn is_fair(self) -> bool
         ensures { result ≡ is_fair self }
     {
-        match self {
-            Kind::Fair => true,
-            _ => false,
-        }
+        matches!(self, Kind::Fair)
     }
 }

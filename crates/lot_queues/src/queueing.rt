@@ -162,6 +162,13 @@ impl Queueing {
         self.taken.as_slice()
     }
 
+    /// Those of them that have no right yet, in order.
+    pub fn rightless(&self) -> &[usize]
+        ensures { result.now ≡ self.now.rightless.items }
+    {
+        self.rightless.as_slice()
+    }
+
     /// Puts a thread behind the last under a key. One that stands somewhere leaves that place first.
     pub fn append(&mut self, key: Key, thread: usize, want: Want)
         requires { thread < self.old.seats }

@@ -102,11 +102,7 @@ impl MutexPlace {
         ensures { result ≡ mutex_act lock self }
     {
         match self {
-            MutexPlace::Lock {
-                entry: _,
-                retries: _,
-                at,
-            } => lock_act(lock, at),
+            MutexPlace::Lock { at, .. } => lock_act(lock, at),
             MutexPlace::TryLock => Act::Word {
                 lock,
                 op: Op::Or(LOCKED),
@@ -120,7 +116,7 @@ impl MutexPlace {
                 },
             },
             MutexPlace::Bump => Act::Word { lock, op: Op::Load },
-            MutexPlace::HandOff { bumps: _, at } => hand_off_act(lock, at),
+            MutexPlace::HandOff { at, .. } => hand_off_act(lock, at),
         }
     }
 
@@ -170,11 +166,7 @@ impl MutexPlace {
         ensures { result ≡ mutex_owners self thread seen owners }
     {
         match self {
-            MutexPlace::Lock {
-                entry: _,
-                retries: _,
-                at,
-            } => lock_owners(at, thread, seen, owners),
+            MutexPlace::Lock { at, .. } => lock_owners(at, thread, seen, owners),
             MutexPlace::TryLock => if is_locked(seen) {
                 owners
             } else {
@@ -187,11 +179,8 @@ impl MutexPlace {
                 owners
             },
             MutexPlace::HandOff {
-                bumps: _,
-                at: HandOffAt::Store {
-                    taken,
-                    none_left: _,
-                },
+                at: HandOffAt::Store { taken, .. },
+                ..
             } => owners.with_exclusive(taken),
             _ => owners,
         }
@@ -203,9 +192,8 @@ impl MutexPlace {
     {
         match self {
             MutexPlace::Lock {
-                entry: _,
-                retries: _,
                 at: LockAt::Decide(seen),
+                ..
             } => seen == LOCKED,
             _ => false,
         }
@@ -218,8 +206,8 @@ impl MutexPlace {
         match self {
             MutexPlace::Lock {
                 entry,
-                retries: _,
                 at: LockAt::Asleep,
+                ..
             } => entry.is_timed(),
             _ => false,
         }
@@ -230,17 +218,13 @@ impl MutexPlace {
         ensures { result ≡ mutex_owes self }
     {
         match self {
-            MutexPlace::Lock {
-                entry: _,
-                retries: _,
-                at,
-            } => match at {
-                LockAt::Check | LockAt::Leave { parked: _ } => true,
+            MutexPlace::Lock { at, .. } => match at {
+                LockAt::Check | LockAt::Leave { .. } => true,
                 LockAt::Remove | LockAt::Clear | LockAt::GiveUp => true,
                 _ => false,
             },
             MutexPlace::Unlock(UnlockAt::Subtract) => false,
-            MutexPlace::Unlock(_) | MutexPlace::HandOff { bumps: _, at: _ } => true,
+            MutexPlace::Unlock(_) | MutexPlace::HandOff { .. } => true,
             MutexPlace::TryLock | MutexPlace::UnlockFair | MutexPlace::Bump => false,
         }
     }
@@ -250,11 +234,7 @@ impl MutexPlace {
         ensures { result ≡ mutex_retries self }
     {
         match self {
-            MutexPlace::Lock {
-                entry: _,
-                retries,
-                at: _,
-            } => retries,
+            MutexPlace::Lock { retries, .. } => retries,
             _ => false,
         }
     }

@@ -33,7 +33,7 @@ impl Place {
     {
         match self {
             Place::Idle => true,
-            Place::Mutex { lock: _, at: _ } => false,
+            Place::Mutex { .. } => false,
         }
     }
 
@@ -67,7 +67,7 @@ impl Place {
     {
         match self {
             Place::Idle => owners,
-            Place::Mutex { lock: _, at } => at.owners_after(thread, seen, owners),
+            Place::Mutex { at, .. } => at.owners_after(thread, seen, owners),
         }
     }
 
@@ -120,7 +120,7 @@ pub fn has_right(call: Call, thread: usize, owners: Owners) -> bool
     ensures { result ≡ has_right call thread owners }
 {
     match call {
-        Call::Mutex { lock: _, call } => mutex_right(call, thread, owners),
+        Call::Mutex { call, .. } => mutex_right(call, thread, owners),
     }
 }
 

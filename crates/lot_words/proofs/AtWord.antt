@@ -20,4 +20,4 @@ pub table_allows : {S : Type 0} (lot : LotWords) (seat : Seat S View) (word : Wo
     → at ≡ place word.number word.kind → op ≡ op'
     → IsSeatOf lot seat × (at < lot.table.shared.table_id.words) × Allows (LotRule lot.table.shared.key) lot.table.shared.table_id.slots seat.id seat.me at (apply op') (Takes at op' seat.me)
 table_allows lot seat word {at} {op} {op'} own may there same = let sized = lot.sized in
-    (own.0, omega (arith, rank_lt word.kind, sized.0, sized.1, own.1), steps_at_word lot.table.shared.key lot.table.shared.table_id.slots seat.id seat.me word.number word.kind at op op' same there (omega (arith, sized.1, own.1)) may)
+    (own.0, omega (arith, rank_lt word.kind, sized.0, sized.1, own.1.1), steps_at_word lot.table.shared.key lot.table.shared.table_id.slots seat.id seat.me word.number word.kind at op op' same there (omega (arith, sized.1, own.1.1)) may)

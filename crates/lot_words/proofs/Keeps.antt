@@ -21,7 +21,7 @@ use Rattle.lot_words.specs.declared.views.WordStep.{WordStep}
 use Rattle.lot_words.proofs.Trades.{total-without, traded_here, traded_elsewhere, traded_counts}
 use Rattle.lot_words.specs.declared.owners.Owner.{Owner}
 use Rattle.lot_words.specs.declared.views.View.{View}
-use Rattle.lot_words.specs.declared.words.Word.{Word}
+use Rattle.lot_words.specs.declared.views.Drawn.{Drawn}
 use Rattle.lot_words.specs.declared.words.WordKind.{WordKind}
 use Rattle.lot_words.specs.declared.words.WordKind.TheVariants.{Mutex, Condvar, Count}
 use Rattle.lot_words.proofs.Totals.{total-append, total-set, term_le, total_below-suc, cond_same, cond_other}
@@ -114,7 +114,7 @@ steps {S} words slots id me number kind op below may s o wide at fits =
     let mine : (weight : Owner → ℕ) → owned i weight me.0.owns ≤ named i weight s.views = λ weight. term_le (λ (u : View). owned i weight u.owns) s.views id me.0 at in
     let code = o.coded number kind below in
     let ok = may n (λ weight. named i weight s.views) fits code mine in
-    let t = trade kind n m in let w = after_step kind i op n me.0 in
+    let t = trade kind i op n me.0.owns in let w = after_step kind i op n me.0 in
     let then = λ (k : WordKind). (w : View) × (a : Act S) × Valid s.homes me.1 a × LotRule words (stepped s i m id me.1 w a) × TakesAs k i op me n (w, carried_after me.1 a) in
     subst then (sym (kind_at-place number kind)) (
       w,
@@ -197,7 +197,7 @@ look words slots id me s o wide at fits = let n : ℕ = get_or s.words counter 0
     (w, keeps, tt, count_turned words s o id n me.0 w at (omega arith) o.enough refl (omega arith) (λ r h. at_counter me.0 Load n r h) (λ weight. refl), refl)
 
 -- the numbers that are drawn together
-total_below-numbered : (weight : ℕ → ℕ) (n : ℕ) (kinds : List WordKind) → total (λ (word : Word). weight word.number) (numbered n kinds) + total_below weight n ≡ total_below weight (n + length kinds)
+total_below-numbered : (weight : ℕ → ℕ) (n : ℕ) (kinds : List WordKind) → total (λ (word : Drawn). weight word.number) (numbered n kinds) + total_below weight n ≡ total_below weight (n + length kinds)
 total_below-numbered weight n [] = let e : n ≡ n + 0 = omega arith in omega (arith, ap (total_below weight) e)
 total_below-numbered weight n (kind ∷ kinds) = omega (arith, total_below-suc weight n, total_below-numbered weight (n + 1) kinds, ap (total_below weight) (let e : n + 1 + length kinds ≡ n + suc (length kinds) = omega arith in e))
 
@@ -214,7 +214,7 @@ draw {S} words slots id me kinds seen saw room s o wide at fits =
       keeps,
       tt,
       count_turned words s o id new me.0 w at (omega arith) room refl (omega arith) (λ r h. at_counter me.0 op n r h)
-          (λ weight. omega (arith, total-append (λ (word : Word). weight word.number) (numbered n kinds) me.0.drawn, total_below-numbered weight n kinds, ap (λ (k : ℕ). total_below weight (k + length kinds)) e)),
+          (λ weight. omega (arith, total-append (λ (word : Drawn). weight word.number) (numbered n kinds) me.0.drawn, total_below-numbered weight n kinds, ap (λ (k : ℕ). total_below weight (k + length kinds)) e)),
       ((λ _. refl), λ ne. absurd (ne e)),
     ))
     (λ ne. let w = view (listed me.0 counter op n) me.0.owns me.0.drawn n in

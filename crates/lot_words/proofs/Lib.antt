@@ -4,5 +4,8 @@ mod Places
 pub mod Trades
 pub mod Keeps
 pub mod MutexSteps
+pub mod RwLockSteps
+pub mod RwLockKinds
 mod Alone
 mod AtWord
+mod RuleLaws

@@ -4,7 +4,7 @@ use mathlib.Core.Logic.{dite}
 use native.Mathlib.Decide.{ℕ_discrete}
 use Rattle.lot_base.specs.Words.{apply}
 use Rattle.lot_base.specs.declared.ops.Op.{Op}
-use Rattle.lot_base.specs.declared.ops.Op.TheVariants.{Load, Sub, Or, And, Exchange}
+use Rattle.lot_base.specs.declared.ops.Op.TheVariants.{Load, Store, Sub, Or, And, Exchange}
 use Rattle.lot_words.specs.Views.{total, owned, owning}
 use Rattle.lot_words.specs.Codes.{Owners, IsMutexCode, everyone, exclusive}
 use Rattle.lot_words.specs.Steps.{Trade, trading, has, HasAll, MayStep}
@@ -68,6 +68,14 @@ module _ (at : ℕ) (owns : List Ownership) where
   may_leave there = let mine : 0 < owned at exclusive owns = owned_some at Exclusive owns there exclusive (omega arith) in
       mutex_step at (Sub 1) owns (λ n h counted. dite (ℕ_discrete n 1) (λ e. subst (Fits (Sub 1)) (sym e) (omega arith, λ odd even. there)) (λ ne. let e : n ≡ 3 = omega arith in subst (Fits (Sub 1)) (sym e) (omega arith, λ odd even. there)))
 
+  -- the exchange of who owns a mutex on which nobody waits
+  pub may_leave_alone : has (owning at Exclusive) owns ≡ true → MayStep Mutex at (Exchange 1 0) owns
+  may_leave_alone there = locks (Exchange 1 0) (omega arith, λ a b. absurd (omega arith)) (omega arith, λ a b. there) (omega arith, λ a b. absurd (omega arith)) (omega arith, λ a b. absurd (omega arith))
+
+  -- the store of who owns the mutex
+  pub may_hand_over : (m : ℕ) → m < 4 → has (owning at Exclusive) owns ≡ true → MayStep Mutex at (Store m) owns
+  may_hand_over m small there = mutex_step at (Store m) owns (λ n h counted. (small, λ odd even. there))
+
 -- all of them
 pub mutex_steps : MutexMaySteps
 mutex_steps at owns = record {
@@ -77,4 +85,6 @@ mutex_steps at owns = record {
   set_parked = may_mark at owns;
   clear_parked = may_clear at owns;
   leave = may_leave at owns;
+  leave_alone = may_leave_alone at owns;
+  hand_over = may_hand_over at owns;
 }

@@ -1,7 +1,7 @@
 -- What a lock word says of its owners.
-use Rattle.std.specs.Prelude.{◌≡◌, ℕ, ◌+◌, ◌*◌, ◌/◌, ◌%◌, ◌<◌, ◌≤◌, ◌⊎◌}
+use Rattle.std.specs.Prelude.{◌≡◌, ℕ, ◌+◌, ◌*◌, ◌/◌, ◌%◌, ◌^◌, ◌<◌, ◌≤◌, ◌⊎◌}
 use Rattle.lot_words.specs.declared.owners.Owner.{Owner}
-use Rattle.lot_words.specs.declared.owners.Owner.TheVariants.{Exclusive, Pending, Upgradable, Shared, Runner, Witness}
+use Rattle.lot_words.specs.declared.owners.Owner.TheVariants.{Exclusive, Pending, Upgrading, Upgradable, Shared, Runner, Witness}
 use Rattle.lot_words.specs.declared.words.WordKind.{WordKind}
 use Rattle.lot_words.specs.declared.words.WordKind.TheVariants.{Mutex, RwLock, Condvar, Once, Count}
 
@@ -19,6 +19,10 @@ exclusive _ = 0
 abbrev pub pending : Owner → ℕ
 pending Pending = 1
 pending _ = 0
+
+abbrev pub upgrading : Owner → ℕ
+upgrading Upgrading = 1
+upgrading _ = 0
 
 abbrev pub upgradable : Owner → ℕ
 upgradable Upgradable = 1
@@ -40,10 +44,12 @@ witness _ = 0
 abbrev pub IsMutexCode : ℕ → Owners → Type 0
 IsMutexCode n owners = (n < 4) × (owners everyone ≡ n % 2) × (owners exclusive ≡ n % 2)
 
--- PARKED 1, WRITER_PARKED 2, UPGRADABLE 4, WRITER 8, and 16 for each reader. An upgradable owner is a reader too
+-- PARKED 1, WRITER_PARKED 2, UPGRADABLE 4, WRITER 8, and 16 for each reader. An upgradable owner is a reader too, and the count has
+-- room for the one that an upgrading owner is again where it gives up
 abbrev pub IsRwLockCode : ℕ → Owners → Type 0
-IsRwLockCode n owners = (n / 4 ≡ 4 * (owners shared + owners upgradable) + 2 * (owners exclusive + owners pending) + owners upgradable)
-    × (owners exclusive + owners pending + owners upgradable ≤ 1) × (0 < owners exclusive → owners shared ≡ 0)
+IsRwLockCode n owners = (n / 4 ≡ 4 * (owners shared + owners upgradable) + 2 * (owners exclusive + owners pending + owners upgrading) + owners upgradable)
+    × (owners exclusive + owners pending + owners upgrading + owners upgradable ≤ 1) × (0 < owners exclusive → owners shared ≡ 0)
+    × (owners shared + owners upgradable + owners upgrading < 2 ^ 60)
 
 -- DONE 1, POISON 2, LOCKED 4, PARKED 8: locked beside its one runner, and done for ever where somebody saw it done
 abbrev pub IsOnceCode : ℕ → Owners → Type 0

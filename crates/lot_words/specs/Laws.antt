@@ -1,18 +1,18 @@
 -- What the codes say of owners.
-use Rattle.std.specs.Prelude.{◌≡◌, ℕ, ◌+◌, ◌%◌, ◌<◌, List, true}
-use Rattle.lot_base.specs.declared.ops.Op.TheVariants.{Load, Sub, Or, And, Exchange}
+use Rattle.std.specs.Prelude.{◌≡◌, ◌≢◌, ◌⊎◌, ℕ, ◌+◌, ◌-◌, ◌/◌, ◌%◌, ◌^◌, ◌<◌, ◌≤◌, List, true}
+use Rattle.lot_base.specs.declared.ops.Op.TheVariants.{Load, Store, Add, Sub, Or, And, Exchange}
 use Rattle.lot_words.specs.Views.{owning}
 use Rattle.lot_words.specs.Steps.{MayStep, has}
-use Rattle.lot_words.specs.declared.owners.Owner.TheVariants.{Exclusive}
+use Rattle.lot_words.specs.declared.owners.Owner.TheVariants.{Exclusive, Pending, Upgrading, Upgradable, Shared}
 use Rattle.lot_words.specs.declared.owners.Ownership.{Ownership}
-use Rattle.lot_words.specs.Codes.{Owners, Codes, everyone, exclusive, pending, upgradable, shared}
+use Rattle.lot_words.specs.Codes.{Owners, Codes, everyone, exclusive, pending, upgrading, upgradable, shared}
 use Rattle.lot_words.specs.declared.words.WordKind.{WordKind}
 use Rattle.lot_words.specs.declared.words.WordKind.TheVariants.{Mutex, RwLock}
 
 -- one owner, and nobody beside it
 abbrev pub IsAlone : WordKind → Owners → Type 0
 IsAlone Mutex owners = owners everyone ≡ 1
-IsAlone RwLock owners = (owners exclusive ≡ 1) × (owners pending ≡ 0) × (owners upgradable ≡ 0) × (owners shared ≡ 0)
+IsAlone RwLock owners = (owners exclusive ≡ 1) × (owners pending ≡ 0) × (owners upgrading ≡ 0) × (owners upgradable ≡ 0) × (owners shared ≡ 0)
 IsAlone _ owners = Unit {0}
 
 -- in no code does an exclusive owner stand beside another owner
@@ -28,7 +28,42 @@ pub record MutexSteps (at : ℕ) (owns : List Ownership) : Type 0 where
   pub clear_parked : MayStep Mutex at (And 18446744073709551613) owns
   -- who subtracts 1 owns the mutex
   pub leave : has (owning at Exclusive) owns ≡ true → MayStep Mutex at (Sub 1) owns
+  -- and so does who leaves a word that nobody waits on, or stores a word in a section
+  pub leave_alone : has (owning at Exclusive) owns ≡ true → MayStep Mutex at (Exchange 1 0) owns
+  pub hand_over : (m : ℕ) → m < 4 → has (owning at Exclusive) owns ≡ true → MayStep Mutex at (Store m) owns
 
 -- whoever it is, it may take them
 abbrev pub MutexMaySteps : Type 0
 MutexMaySteps = (at : ℕ) (owns : List Ownership) → MutexSteps at owns
+
+-- the kinds of step on a reader-writer lock's word
+pub record RwLockSteps (at : ℕ) (owns : List Ownership) : Type 0 where
+  pub load : MayStep RwLock at Load owns
+  -- where no writer is there, or who waits has readers beside it, and the count has room
+  pub read : (s : ℕ) → (s / 8 % 2 ≡ 0) ⊎ (0 < s / 16) → s / 16 < 2 ^ 60 - 2 → MayStep RwLock at (Exchange s (s + 16)) owns
+  pub write_alone : MayStep RwLock at (Exchange 0 8) owns
+  pub write : (s : ℕ) → s / 4 % 4 ≡ 0 → MayStep RwLock at (Exchange s (s + 8)) owns
+  pub set_parked : (s : ℕ) → s % 2 ≡ 0 → MayStep RwLock at (Exchange s (s + 1)) owns
+  pub set_writer_parked : (s : ℕ) → s / 2 % 2 ≡ 0 → MayStep RwLock at (Exchange s (s + 2)) owns
+  pub leave_shared : has (owning at Shared) owns ≡ true → MayStep RwLock at (Sub 16) owns
+  pub leave_exclusive : has (owning at Exclusive) owns ≡ true → MayStep RwLock at (Sub 8) owns
+  pub clear_parked : MayStep RwLock at (And 18446744073709551614) owns
+  pub clear_writer_parked : MayStep RwLock at (And 18446744073709551613) owns
+  pub enter_upgradable : (s : ℕ) → s / 4 % 4 ≡ 0 → s / 16 < 2 ^ 60 - 2 → MayStep RwLock at (Exchange s (s + 20)) owns
+  pub leave_upgradable : has (owning at Upgradable) owns ≡ true → MayStep RwLock at (Sub 20) owns
+  pub downgrade : has (owning at Exclusive) owns ≡ true → MayStep RwLock at (Add 8) owns
+  pub downgrade_upgradable : has (owning at Upgradable) owns ≡ true → MayStep RwLock at (Sub 4) owns
+  pub downgrade_to_upgradable : has (owning at Exclusive) owns ≡ true → MayStep RwLock at (Add 12) owns
+  pub upgrade : has (owning at Upgradable) owns ≡ true → MayStep RwLock at (Sub 12) owns
+  pub try_upgrade : (s : ℕ) → has (owning at Upgradable) owns ≡ true → s / 16 ≡ 1 → MayStep RwLock at (Exchange s (s - 12)) owns
+  pub leave_alone : has (owning at Exclusive) owns ≡ true → MayStep RwLock at (Exchange 8 0) owns
+  -- the store of the tokens of those who were taken
+  pub hand_over : (m : ℕ) → has (owning at Exclusive) owns ≡ true → m < 2 ^ 64 → m / 4 % 4 ≤ 2 → m / 4 ≢ 1 → m / 4 ≢ 2 → MayStep RwLock at (Store m) owns
+  -- the exchange that adds the tokens of those who were taken, or none
+  pub hand_upgradable : (s m part : ℕ) → has (owning at Upgradable) owns ≡ true → m < 2 ^ 64 → m / 4 + 5 ≡ s / 4 + part → part % 4 ≤ 2 → part ≢ 1 → MayStep RwLock at (Exchange s m) owns
+  pub fall_back : has (owning at Upgrading) owns ≡ true → MayStep RwLock at (Add 12) owns
+  pub give_up : has (owning at Pending) owns ≡ true → MayStep RwLock at (Sub 8) owns
+
+-- whoever it is, it may take them
+abbrev pub RwLockMaySteps : Type 0
+RwLockMaySteps = (at : ℕ) (owns : List Ownership) → RwLockSteps at owns

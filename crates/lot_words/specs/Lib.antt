@@ -9,3 +9,4 @@ pub mod Draws
 pub mod Rights
 pub mod RightsOf
 pub mod Laws
+pub mod RuleLaws

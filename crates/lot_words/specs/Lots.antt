@@ -8,5 +8,6 @@ use Rattle.lot_words.specs.declared.views.View.{View}
 abbrev pub IsSeatOf : {S : Type 0} → LotWords → Seat S View → Type 0
 IsSeatOf lot seat = seat.table_id ≡ lot.table.shared.table_id
 
+-- of the lot that drew it, by its tag
 abbrev pub IsWordOf : LotWords → Word → Type 0
-IsWordOf lot word = word.number < lot.count
+IsWordOf lot word = (word.tag ≡ lot.tag) × (word.number < lot.count)

@@ -1,14 +1,14 @@
 -- What each step tells who takes it: of the step, the seat before, the value found and the seat after.
-use Rattle.std.specs.Prelude.{◌≡◌, ◌≢◌, ℕ, ◌+◌, ◌<◌, List, [], ◌∷◌, ◌++◌, refl}
+use Rattle.std.specs.Prelude.{◌≡◌, ◌≢◌, ℕ, ◌+◌, ◌<◌, List, [], ◌∷◌, ◌++◌}
 use Rattle.atomic_table.specs.Table.{Me, Step}
 use Rattle.lot_base.specs.declared.ops.Op.{Op}
 use Rattle.lot_base.specs.declared.ops.Op.TheVariants.{Load, Store, Swap, Add, Sub, Or, And, Exchange}
-use Rattle.lot_words.specs.Places.{counter, place, kind_at}
+use Rattle.lot_words.specs.Places.{counter, kind_at}
 use Rattle.lot_words.specs.Views.{view}
 use Rattle.lot_words.specs.Steps.{CodesWith, listed, after_step, without}
 use Rattle.lot_words.specs.declared.owners.Ownership.{Ownership}
+use Rattle.lot_words.specs.declared.views.Drawn.{Drawn}
 use Rattle.lot_words.specs.declared.views.View.{View}
-use Rattle.lot_words.specs.declared.words.Word.{Word}
 use Rattle.lot_words.specs.declared.words.WordKind.{WordKind}
 
 abbrev pub Play : Type 0 → Type 1
@@ -48,9 +48,9 @@ abbrev pub stores : {S : Type 0} → Play S
 stores st me found after = Takes st.word (Store st.first) me found after
 
 -- the words that are drawn together, from a number on
-abbrev pub numbered : ℕ → List WordKind → List Word
+abbrev pub numbered : ℕ → List WordKind → List Drawn
 numbered number [] = []
-numbered number (kind ∷ kinds) = record { number = number; kind = kind; at = place number kind; placed = refl } ∷ numbered (number + 1) kinds
+numbered number (kind ∷ kinds) = record { number = number; kind = kind } ∷ numbered (number + 1) kinds
 
 abbrev pub looks : {S : Type 0} → Play S
 looks st me found after = after ≡ (view (listed me.0 counter Load found) me.0.owns me.0.drawn found, me.1)

@@ -1,24 +1,42 @@
 -- What a right names.
+use Rattle.std.specs.Prelude.{◌≡◌, ◌⊎◌}
 use Rattle.lot_words.specs.Places.{place}
 use Rattle.lot_words.specs.Views.{owning}
 use Rattle.lot_words.specs.Plays.{piece}
 use Rattle.lot_words.specs.declared.owners.Owner.{Owner}
-use Rattle.lot_words.specs.declared.owners.Owner.TheVariants.{Exclusive, Upgradable, Shared, Runner, Witness}
+use Rattle.lot_words.specs.declared.owners.Owner.TheVariants.{Exclusive, Pending, Upgrading, Upgradable, Shared, Runner, Witness}
 use Rattle.lot_words.specs.declared.owners.Ownership.{Ownership}
 use Rattle.lot_words.specs.declared.views.View.{View}
 use Rattle.lot_words.specs.declared.words.Word.{Word}
-use Rattle.lot_base.specs.declared.wants.Want as Wants
+use Rattle.lot_words.specs.declared.words.WordKind.{WordKind}
+use Rattle.lot_words.specs.declared.words.WordKind.TheVariants.{RwLock}
+use Rattle.lot_base.specs.declared.wants.Want as wants
 
 -- who has what was wanted owns the word so
-abbrev pub owner_for : Wants.Want → Owner
-owner_for Wants.TheVariants.Exclusive = Exclusive
-owner_for Wants.TheVariants.Upgradable = Upgradable
-owner_for Wants.TheVariants.Shared = Shared
-owner_for Wants.TheVariants.Wait = Witness
-owner_for Wants.TheVariants.CallOnce = Runner
+abbrev pub owner_for : wants.Want → Owner
+owner_for wants.TheVariants.Exclusive = Exclusive
+owner_for wants.TheVariants.Upgradable = Upgradable
+owner_for wants.TheVariants.Shared = Shared
+owner_for wants.TheVariants.Wait = Witness
+owner_for wants.TheVariants.CallOnce = Runner
 
-abbrev pub named_by : Word → Wants.Want → Ownership
-named_by word want = owning (place word.number word.kind) (owner_for want)
+-- what an owner wanted. Who waits for the last readers wants to own alone
+abbrev pub want_of : Owner → wants.Want
+want_of Exclusive = wants.TheVariants.Exclusive
+want_of Pending = wants.TheVariants.Exclusive
+want_of Upgrading = wants.TheVariants.Exclusive
+want_of Upgradable = wants.TheVariants.Upgradable
+want_of Shared = wants.TheVariants.Shared
+want_of Runner = wants.TheVariants.CallOnce
+want_of Witness = wants.TheVariants.Wait
 
-abbrev pub piece_of : Word → Wants.Want → View
-piece_of word want = piece (named_by word want)
+-- how a word may be owned by who was handed what it wants: a reader-writer lock's writer may have to wait for the last readers
+abbrev pub MayHand : WordKind → wants.Want → Owner → Type 0
+MayHand RwLock wants.TheVariants.Exclusive owner = (owner ≡ Exclusive) ⊎ (owner ≡ Pending)
+MayHand _ want owner = owner ≡ owner_for want
+
+abbrev pub named_by : Word → Owner → Ownership
+named_by word owner = owning (place word.number word.kind) owner
+
+abbrev pub piece_of : Word → Owner → View
+piece_of word owner = piece (named_by word owner)

@@ -1,14 +1,15 @@
 -- Rights of a lot.
-use Rattle.std.specs.Prelude.{◌≡◌, ◌≤◌, ◌+◌}
-use Rattle.atomic_table.specs.Seated.{TableId}
-use Rattle.lot_words.specs.Places.{places}
+use Rattle.std.specs.Prelude.{◌≡◌}
+use Rattle.lot_words.specs.Lots.{IsSeatOf, IsWordOf}
+use Rattle.lot_words.specs.Rights.{MayHand}
 use Rattle.lot_words.specs.declared.table.LotWords.{LotWords}
 use Rattle.lot_words.specs.declared.rights.Right.{Right}
-use Rattle.lot_words.specs.Lots.{IsSeatOf, IsWordOf}
+use Rattle.lot_words.specs.declared.words.Word.{Word}
+use Rattle.lot_base.specs.declared.wants.Want.{Want}
 
 abbrev pub IsRightOf : LotWords → Right → Type 0
 IsRightOf lot right = IsSeatOf lot right.seat × IsWordOf lot right.word
 
--- the same, of the table of the lot
-abbrev pub FitsTable : TableId → Right → Type 0
-FitsTable table right = (right.seat.table_id ≡ table) × (places (right.word.number + 1) ≤ table.words)
+-- it names a word, and an owner whom a want may be handed
+abbrev pub IsFor : Word → Want → Right → Type 0
+IsFor word want right = (right.word ≡ word) × MayHand word.kind want right.owner

@@ -4,9 +4,9 @@ use Rattle.lot_words.specs.declared.owners.Owner.{Owner}
 use Rattle.lot_words.specs.declared.owners.Ownership.{Ownership}
 use Rattle.lot_words.specs.declared.views.View.{View}
 use Rattle.lot_words.specs.declared.views.WordStep.{WordStep}
-use Rattle.lot_words.specs.declared.words.Word.{Word}
+use Rattle.lot_words.specs.declared.views.Drawn.{Drawn}
 
-abbrev pub view : List WordStep → List Ownership → List Word → ℕ → View
+abbrev pub view : List WordStep → List Ownership → List Drawn → ℕ → View
 view steps owns drawn saw = record { steps = steps; owns = owns; drawn = drawn; saw = saw }
 
 -- the view of who has done nothing yet, and owns nothing
@@ -45,4 +45,4 @@ steps_at at v = total (λ (step : WordStep). cond (step.at == at) 1 0) v.steps
 
 -- the drawn words of a view, by a weight of numbers
 abbrev pub drew : (ℕ → ℕ) → View → ℕ
-drew weight v = total (λ (word : Word). weight word.number) v.drawn
+drew weight v = total (λ (word : Drawn). weight word.number) v.drawn

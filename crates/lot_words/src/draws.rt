@@ -1,6 +1,6 @@
 //! How words are drawn: each once, from a counter that never falls.
-ghost use Rattle.std.specs.Prelude.{◌≡◌, ◌+◌, ◌<◌, [], ◌∷◌, length, MatchOption, MatchResult};
-ghost use Rattle.lot_words.specs.Lots.{IsSeatOf};
+ghost use Rattle.std.specs.Prelude.{◌≡◌, ◌+◌, ◌<◌, [], ◌∷◌, length, IfOk, MatchOption, MatchResult};
+ghost use Rattle.lot_words.specs.Lots.{IsSeatOf, IsWordOf};
 ghost use Rattle.lot_words.specs.Draws.{IsDrawn, IsRefused};
 ghost use Rattle.lot_words.specs.declared.words.WordKind.TheVariants.{Mutex, Count};
 
@@ -38,11 +38,12 @@ impl LotWords {
     pub fn new_word(&self, seat: &mut Seat, kind: WordKind) -> Result<Word, Fault>
         requires { IsSeatOf self.now seat.old }
         ensures own { IsSeatOf self.now seat.new × (seat.new.me.1 ≡ seat.old.me.1) × (seat.new.me.0.owns ≡ seat.old.me.0.owns) }
-        ensures drawn { MatchResult result (λ word. (word.kind ≡ kind) × IsDrawn self.now.count (kind ∷ []) word.number seat.old.me.0 seat.new.me.0)
+        ensures word { IfOk result (λ word. IsWordOf self.now word × (word.kind ≡ kind)) }
+        ensures drawn { MatchResult result (λ word. IsDrawn self.now.count (kind ∷ []) word.number seat.old.me.0 seat.new.me.0)
             (λ fault. (fault ≡ Fault.LotFull) × IsRefused self.now.count 1 seat.old.me.0 seat.new.me.0) }
     {
         match self.draw::<Brand>(seat, &[kind]) {
-            Some(number) => Ok(Word::new(number, kind)),
+            Some(number) => Ok(Word::new(number, kind, self.tag)),
             None => Err(Fault::LotFull),
         }
     }
@@ -51,13 +52,15 @@ impl LotWords {
     pub fn new_pair(&self, seat: &mut Seat) -> Result<(Word, Word), Fault>
         requires { IsSeatOf self.now seat.old }
         ensures own { IsSeatOf self.now seat.new × (seat.new.me.1 ≡ seat.old.me.1) × (seat.new.me.0.owns ≡ seat.old.me.0.owns) }
-        ensures drawn { MatchResult result (λ pair. (pair.0.kind ≡ Mutex) × (pair.1.kind ≡ Count) × (pair.1.number ≡ pair.0.number + 1) × IsDrawn self.now.count (Mutex ∷ Count ∷ []) pair.0.number seat.old.me.0 seat.new.me.0)
+        ensures words { IfOk result (λ pair. IsWordOf self.now pair.0 × (pair.0.kind ≡ Mutex) × IsWordOf self.now pair.1 × (pair.1.kind ≡ Count) × (pair.1.number ≡ pair.0.number + 1)) }
+        ensures drawn { MatchResult result (λ pair. IsDrawn self.now.count (Mutex ∷ Count ∷ []) pair.0.number seat.old.me.0 seat.new.me.0)
             (λ fault. (fault ≡ Fault.LotFull) × IsRefused self.now.count 2 seat.old.me.0 seat.new.me.0) }
     {
         match self.draw::<Brand>(seat, &[WordKind::Mutex, WordKind::Count]) {
             Some(number) => {
-                let mutex = Word::new(number, WordKind::Mutex);
-                Ok((mutex, Word::new(number + 1, WordKind::Count)))
+                let mutex = Word::new(number, WordKind::Mutex, self.tag);
+                let count = Word::new(number + 1, WordKind::Count, self.tag);
+                Ok((mutex, count))
             }
             None => Err(Fault::LotFull),
         }

@@ -1,5 +1,6 @@
 //! What the rule says to who takes a step, whoever else takes steps.
-ghost use Rattle.lot_words.specs.Laws.{ExclusiveIsAlone, MutexMaySteps};
+ghost use Rattle.lot_words.specs.Laws.{ExclusiveIsAlone, MutexMaySteps, RwLockMaySteps};
+ghost use Rattle.lot_words.specs.RuleLaws.{CountsAnOwner, DrawnOnce, NeverFalls, ShownWasStepped, UntouchedIs0};
 
 /// In every word of a mutex or a reader-writer lock that a step can find, an exclusive owner stands beside no other owner.
 pub fn exclusive_is_alone()
@@ -10,4 +11,35 @@ pub fn exclusive_is_alone()
 /// anybody, and left by who owns it.
 pub fn mutex_may_step()
     ensures { MutexMaySteps }
+{}
+
+/// A reader-writer lock's word may be loaded, entered where it has room for who enters, marked as parked and cleared of that
+/// by anybody, and left, converted and handed over by who owns it so.
+pub fn rwlock_may_step()
+    ensures { RwLockMaySteps }
+{}
+
+/// The numbers below the counter were drawn, each once, and each is a word of the lot. No other number was drawn.
+pub fn numbers_are_drawn_once<S>()
+    ensures { DrawnOnce S }
+{}
+
+/// The counter of drawn words never falls below what a thread saw of it.
+pub fn counter_never_falls<S>()
+    ensures { NeverFalls S }
+{}
+
+/// A word on which nobody stepped is 0, drawn or not.
+pub fn untouched_word_is_0<S>()
+    ensures { UntouchedIs0 S }
+{}
+
+/// A condition variable shows no mutex, or one on which somebody stepped.
+pub fn shown_mutex_was_stepped_on<S>()
+    ensures { ShownWasStepped S }
+{}
+
+/// A count word is 0, or a thread with how often it locked the mutex before. It is 0 where nobody owns that mutex.
+pub fn count_is_of_an_owner<S>()
+    ensures { CountsAnOwner S }
 {}

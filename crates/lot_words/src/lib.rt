@@ -13,5 +13,5 @@ pub mod words;
 pub use owners::{Owner, Ownership};
 pub use rights::Right;
 pub use table::{LotWords, Seat};
-pub use views::{View, WordStep};
+pub use views::{Drawn, View, WordStep};
 pub use words::{Word, WordKind};

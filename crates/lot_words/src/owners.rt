@@ -1,4 +1,8 @@
-//! What can be owned of a word. No value of these is made: they stand in views.
+//! What can be owned of a word.
+ghost use Rattle.std.specs.Prelude.{◌≡◌, ◌↔◌, IsTrue};
+
+use crate::words::WordKind;
+use lot_base::Want;
 
 /// How a word is owned.
 #[derive(Clone, Copy, Debug, PartialEq, Eq)]
@@ -7,6 +11,8 @@ pub enum Owner {
     Exclusive,
     /// A reader-writer lock, alone once its last readers have left.
     Pending,
+    /// The same, of who upgrades: it has its upgradable ownership again where it gives up.
+    Upgrading,
     /// A reader-writer lock beside readers, with the right to become its writer.
     Upgradable,
     /// A reader-writer lock beside others.
@@ -17,7 +23,52 @@ pub enum Owner {
     Witness,
 }
 
-/// One ownership of the word at a place.
+impl Owner {
+    ghost use Rattle.lot_words.specs.Rights.{MayHand, owner_for, want_of};
+
+    /// How who has what was wanted owns the word.
+    #[inline]
+    pub fn of_want(want: Want) -> Owner
+        ensures { result ≡ owner_for want }
+    {
+        match want {
+            Want::Exclusive => Owner::Exclusive,
+            Want::Upgradable => Owner::Upgradable,
+            Want::Shared => Owner::Shared,
+            Want::Wait => Owner::Witness,
+            Want::CallOnce => Owner::Runner,
+        }
+    }
+
+    /// What such an owner wanted.
+    #[inline]
+    pub fn want(self) -> Want
+        ensures { result ≡ want_of self }
+    {
+        match self {
+            Owner::Exclusive | Owner::Pending | Owner::Upgrading => Want::Exclusive,
+            Owner::Upgradable => Want::Upgradable,
+            Owner::Shared => Want::Shared,
+            Owner::Runner => Want::CallOnce,
+            Owner::Witness => Want::Wait,
+        }
+    }
+
+    /// Whether who waits for a word of this kind may be handed it so.
+    pub fn suits(self, kind: WordKind, want: Want) -> bool
+        ensures { IsTrue result ↔ MayHand kind want self }
+    {
+        if self == Owner::of_want(want) {
+            return true;
+        }
+        match (kind, want, self) {
+            (WordKind::RwLock, Want::Exclusive, Owner::Pending) => true,
+            _ => false,
+        }
+    }
+}
+
+/// One ownership of the word at a place. No value of it is made: it stands in views.
 #[derive(Clone, Copy, Debug, PartialEq, Eq)]
 pub struct Ownership {
     pub at: usize,

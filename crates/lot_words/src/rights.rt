@@ -1,24 +1,27 @@
 //! Ownerships that are split off a seat.
-ghost use Rattle.std.specs.Prelude.{◌≡◌, [], true};
-ghost use Rattle.lot_words.specs.Rights.{named_by, piece_of};
+ghost use Rattle.std.specs.Prelude.{◌≡◌, ◌↔◌, IsTrue, [], true};
+ghost use Rattle.lot_words.specs.Rights.{named_by, piece_of, want_of};
 
+use crate::owners::Owner;
 use crate::plays::{Piece, SplitsOff, TakesIn};
 use crate::table::{LotWords, Seat};
 use crate::words::Word;
 use lot_base::Want;
 use std::marker::Brand;
 
-/// The ownership of a word, split off the view of a seat. It borrows nothing, and takes no memory beside its word and want.
+/// The ownership of a word, split off the view of a seat. It borrows nothing, and takes no memory beside its word and owner.
 ///
 /// It has to be given back, or the word stays owned.
 pub struct Right {
     seat: Seat,
     word: Word,
-    want: Want,
-    ghost names: { seat.me ≡ (piece_of word want, []) },
+    owner: Owner,
+    ghost names: { seat.me ≡ (piece_of word owner, []) },
 }
 
 impl Right {
+    ghost use Rattle.lot_words.specs.RightsOf.{IsFor};
+
     #[inline]
     pub fn word(&self) -> Word
         ensures { result ≡ self.now.word }
@@ -27,10 +30,24 @@ impl Right {
     }
 
     #[inline]
-    pub fn want(&self) -> Want
-        ensures { result ≡ self.now.want }
+    pub fn owner(&self) -> Owner
+        ensures { result ≡ self.now.owner }
     {
-        self.want
+        self.owner
+    }
+
+    #[inline]
+    pub fn want(&self) -> Want
+        ensures { result ≡ want_of self.now.owner }
+    {
+        self.owner.want()
+    }
+
+    /// Whether it is what a thread waits for.
+    pub fn is_for(&self, word: Word, want: Want) -> bool
+        ensures { IsTrue result ↔ IsFor word want self.now }
+    {
+        self.word == word && self.owner.suits(word.kind(), want)
     }
 
     /// Lets the right go without a step. Its word stays owned for good.
@@ -38,7 +55,7 @@ impl Right {
         let Right {
             seat,
             word: _,
-            want: _,
+            owner: _,
         } = self;
         drop(seat);
     }
@@ -52,9 +69,9 @@ impl LotWords {
 
     // The seat of what is split off.
     #[inline]
-    fn split_off<P: Piece>(&self, seat: &mut Seat, word: Word, want: Want) -> Seat
+    fn split_off<P: Piece>(&self, seat: &mut Seat, word: Word, owner: Owner) -> Seat
         requires own { IsSeatOf self.now seat.old }
-        requires named { (P.owned ≡ named_by word want) × (has P.owned seat.old.me.0.owns ≡ true) }
+        requires named { (P.owned ≡ named_by word owner) × (has P.owned seat.old.me.0.owns ≡ true) }
         ensures left { IsSeatOf self.now seat.new × (seat.new.me ≡ (left_over P.owned seat.old.me.0, seat.old.me.1)) }
         ensures split { IsSeatOf self.now result × (result.me ≡ (piece P.owned, [])) }
     {
@@ -63,26 +80,26 @@ impl LotWords {
 
     /// Splits an ownership off that the seat's view names. It loads a word, which is no step of a call.
     #[inline]
-    pub fn split_right(&self, seat: &mut Seat, word: Word, want: Want) -> Right
+    pub fn split_right(&self, seat: &mut Seat, word: Word, owner: Owner) -> Right
         requires own { IsSeatOf self.now seat.old × IsWordOf self.now word }
-        requires named { has (named_by word want) seat.old.me.0.owns ≡ true }
-        ensures left { IsSeatOf self.now seat.new × (seat.new.me ≡ (left_over (named_by word want) seat.old.me.0, seat.old.me.1)) }
-        ensures right { IsRightOf self.now result × (result.word ≡ word) × (result.want ≡ want) }
+        requires named { has (named_by word owner) seat.old.me.0.owns ≡ true }
+        ensures left { IsSeatOf self.now seat.new × (seat.new.me ≡ (left_over (named_by word owner) seat.old.me.0, seat.old.me.1)) }
+        ensures right { IsRightOf self.now result × (result.word ≡ word) × (result.owner ≡ owner) }
     {
-        let seat = self.split_off::<Brand>(seat, word, want);
-        Right { seat, word, want }
+        let seat = self.split_off::<Brand>(seat, word, owner);
+        Right { seat, word, owner }
     }
 
     /// Gives an ownership back to a seat. The right is spent. It loads a word, which is no step of a call.
     #[inline]
     pub fn join_right(&self, seat: &mut Seat, right: Right)
         requires { IsSeatOf self.now seat.old × IsRightOf self.now right }
-        ensures { IsSeatOf self.now seat.new × (seat.new.me ≡ (takes_in seat.old.me.0 (piece_of right.word right.want), seat.old.me.1)) }
+        ensures { IsSeatOf self.now seat.new × (seat.new.me ≡ (takes_in seat.old.me.0 (piece_of right.word right.owner), seat.old.me.1)) }
     {
         let Right {
             seat: other,
             word: _,
-            want: _,
+            owner: _,
         } = right;
         self.table.shared.join_seat::<TakesIn>(seat, other);
     }

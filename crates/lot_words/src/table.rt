@@ -11,6 +11,8 @@ use atomic_table::{Badge, Table};
 use lot_base::Op;
 use std::alloc::{AllocError, Global};
 use std::marker::Model;
+use std::sync::atomic::AtomicU32;
+use std::sync::atomic::Ordering::SeqCst;
 
 /// What may lie beside a word: nothing as yet.
 pub struct Permit {
@@ -33,13 +35,20 @@ pub type Seat = atomic_table::Seat<Slot, View>;
 pub struct LotWords {
     pub(crate) table: Table<Slot, View, usize, OwnershipRule, Global>,
     pub(crate) count: usize,
+    // What its words carry.
+    pub(crate) tag: u32,
     ghost sized: { (table.shared.table_id.words ≡ places count) × (table.shared.key ≡ count) × (count ≤ most_words) },
+}
+
+// Of what an atomic holds nothing is known, so nobody can show that two lots have one tag.
+pub(crate) fn new_tag() -> u32 {
+    AtomicU32::new(0).load(SeqCst)
 }
 
 impl LotWords {
     ghost use Rattle.lot_words.specs.Views.{blank};
     ghost use Rattle.lot_words.specs.Steps.{MayStep, CodesWith, after_step};
-    ghost use Rattle.lot_words.specs.Lots.{IsSeatOf};
+    ghost use Rattle.lot_words.specs.Lots.{IsSeatOf, IsWordOf};
 
     /// Words that are all 0, and the first seat.
     pub fn new(alloc: Global, count: usize) -> Result<(LotWords, Seat), AllocError>
@@ -48,7 +57,8 @@ impl LotWords {
     {
         let zeros = Vec::from_elem(alloc, 0u64, 8 * (count + 1))?;
         let (table, seat) = Table::vacant(alloc, zeros.as_slice(), count, &count)?;
-        Ok((LotWords { table, count }, seat))
+        let tag = new_tag();
+        Ok((LotWords { table, count, tag }, seat))
     }
 
     /// A seat for one more thread.
@@ -63,7 +73,7 @@ impl LotWords {
     /// One step on a word. It answers the value before.
     #[inline]
     pub fn step(&self, seat: &mut Seat, word: Word, op: Op) -> u64
-        requires own { IsSeatOf self.now seat.old × (word.number < self.now.count) }
+        requires own { IsSeatOf self.now seat.old × IsWordOf self.now word }
         requires may { MayStep word.kind (place word.number word.kind) op seat.old.me.0.owns }
         ensures own { IsSeatOf self.now seat.new × (seat.new.me.1 ≡ seat.old.me.1) }
         ensures stepped { seat.new.me.0 ≡ after_step word.kind (place word.number word.kind) op result seat.old.me.0 }

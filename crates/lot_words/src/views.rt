@@ -3,8 +3,9 @@ ghost use Rattle.std.specs.Prelude.{ℕ, List};
 ghost use Rattle.std.specs.Borrow.{ftrue};
 ghost use Rattle.lot_words.specs.declared.owners.Ownership.{Ownership};
 ghost use Rattle.lot_words.specs.declared.views.WordStep.{WordStep};
-ghost use Rattle.lot_words.specs.declared.words.Word.{Word};
+ghost use Rattle.lot_words.specs.declared.views.Drawn.{Drawn};
 
+use crate::words::WordKind;
 use lot_base::Op;
 use std::marker::Model;
 
@@ -16,13 +17,20 @@ pub struct WordStep {
     pub seen: u64,
 }
 
+/// A word that a seat drew.
+#[derive(Clone, Copy, Debug, PartialEq, Eq)]
+pub struct Drawn {
+    pub number: usize,
+    pub kind: WordKind,
+}
+
 /// What a seat has done, what it owns, and what it saw.
 pub struct View {
     // Its steps, the first at the front.
     pub ghost steps: { List WordStep },
     pub ghost owns: { List Ownership },
     // The words that it drew, the last at the front.
-    pub ghost drawn: { List Word },
+    pub ghost drawn: { List Drawn },
     // The greatest count of drawn words that it saw.
     pub ghost saw: { ℕ },
 }

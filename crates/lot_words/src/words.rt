@@ -30,10 +30,14 @@ impl WordKind {
 }
 
 /// A word of a lot: its number there, what it is for, and where it stands. Numbers begin at 0 and are given once.
+///
+/// Only the lot that drew a word is known to have it: a step with a word of another lot meets no condition.
 #[derive(Clone, Copy, Debug, PartialEq, Eq)]
 pub struct Word {
     number: usize,
     kind: WordKind,
+    // Of its lot.
+    tag: u32,
     // So that no step computes it.
     at: usize,
     ghost placed: { at ≡ place number kind },
@@ -42,13 +46,14 @@ pub struct Word {
 impl Word {
     // Each number has eight places, so that no two locks share a cache line.
     #[inline]
-    pub(crate) fn new(number: usize, kind: WordKind) -> Word
+    pub(crate) fn new(number: usize, kind: WordKind, tag: u32) -> Word
         requires { number < most_words }
-        ensures { (result.number ≡ number) × (result.kind ≡ kind) }
+        ensures { (result.number ≡ number) × (result.kind ≡ kind) × (result.tag ≡ tag) }
     {
         Word {
             number,
             kind,
+            tag,
             at: 8 * (number + 1) + kind.rank(),
         }
     }

@@ -1,3 +1,5 @@
+mod sizes;
+
 use crate::{Answer, Call, Debt, Kind, MutexCall, Outcome, Owner, Place, Step, Turn, World};
 use lot_base::{ListQueues, Waiter, Want};
 use std::alloc::AllocError;

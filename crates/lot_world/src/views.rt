@@ -52,13 +52,7 @@ impl Iterator for OwnersOf {
             self.left.exclusive = None;
             return Some((Owner::Exclusive, thread));
         }
-        if let Some(
-            Pending {
-                thread,
-                fallback: _,
-            },
-        ) = self.left.pending
-        {
+        if let Some(Pending { thread, .. }) = self.left.pending {
             self.left.pending = None;
             return Some((Owner::Pending, thread));
         }

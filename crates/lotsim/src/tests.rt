@@ -114,6 +114,40 @@ fn takes_256_locks(rt: HostRuntime) -> Result<(), Fail> {
     Ok(())
 }
 
+/// An input in which one thread gets each of so many locks, and another is refused, and what it prints.
+fn many_tries(alloc: Global, count: u32) -> Result<(String, String), AllocError> {
+    let mut input = String::from_str(alloc, "threads 2\n")?;
+    let mut told = String::new(alloc);
+    for lock in 0..count {
+        write!(input, "lock m{lock} mutex\n")?;
+    }
+    for lock in 0..count {
+        write!(input, "0 do try_lock m{lock}\n1 do try_lock m{lock}\n")?;
+        told.push_str("0 end yes\n1 end no\n")?;
+    }
+    Ok((input, told))
+}
+
+#[test]
+fn gets_each_lock_once(rt: HostRuntime) -> Result<(), Fail> {
+    for count in [4, 256] {
+        let (input, told) = many_tries(rt.alloc(), count)?;
+        let (text, status) = replayed(rt.alloc(), input.as_bytes());
+        assert_eq!(rt; text.as_slice(), told.as_bytes());
+        assert_eq!(rt; status, 0);
+    }
+    Ok(())
+}
+
+#[test]
+fn answers_100_000_lines(rt: HostRuntime) -> Result<(), Fail> {
+    let (input, shown) = many_looks(rt.alloc(), 99_998)?;
+    let (text, status) = replayed(rt.alloc(), input.as_bytes());
+    assert_eq!(rt; text.as_slice(), shown.as_bytes());
+    assert_eq!(rt; status, 0);
+    Ok(())
+}
+
 #[test]
 fn runs_the_steps_of_an_input(rt: HostRuntime) -> Result<(), Fail> {
     let mut world = World::<ListQueues>::new(rt.alloc(), &[Kind::Mutex], 1)?;

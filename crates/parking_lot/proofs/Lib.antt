@@ -1,6 +1,6 @@
-pub mod Doing
 pub mod Paths
-pub mod Coming
-pub mod Sleeping
 pub mod Ending
-pub mod Entering
+pub mod HandingOver
+pub mod Leading
+pub mod Turning
+pub mod Behind

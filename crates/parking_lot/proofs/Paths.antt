@@ -2,12 +2,14 @@
 use Rattle.std.proofs.Common.{ℕ, ◌≡◌, List, [], ◌++◌, sym, refl, ap, ◌∙◌, subst}
 use Rattle.std.proofs.lemmas.List.{append_assoc, append-nil}
 use Rattle.lot_words.specs.declared.views.WordStep.{WordStep}
-use Rattle.lot_steps.specs.Steps.{next_place, next_act}
+use Rattle.lot_base.specs.declared.ops.Op.{Op}
+use Rattle.lot_steps.specs.Steps.{act_of, next_place, next_act}
+use Rattle.lot_steps.specs.declared.acts.Reply.TheVariants.{Value}
 use Rattle.lot_steps.specs.declared.acts.Act as act
 use Rattle.lot_steps.specs.declared.acts.Reply.{Reply}
 use Rattle.lot_calls.specs.declared.outcomes.Answer.{Answer}
 use Rattle.lot_steps.specs.declared.places.Place.{Place}
-use Rattle.parking_lot.specs.Paths.{Tells, Path, here, on, Walks}
+use Rattle.parking_lot.specs.Paths.{Tells, Path, here, on, Walks, step, word}
 
 -- a path so far, of the steps that were added to a list
 abbrev pub Comes : ℕ → Place → List WordStep → List WordStep → Place → Type 0
@@ -40,3 +42,11 @@ walks_on at p q old mid new answer c w = let rest = w.2 in (
   w.1 ∙ ap (λ (l : List WordStep). l ++ w.0) c.1 ∙ append_assoc old c.0 w.0,
   record { last = rest.last; before = c.0 ++ rest.before; then = rest.then; reply = rest.reply; path = joined at p q rest.last c.0 rest.before c.2 rest.path; tells = rest.tells; all = ap (λ (l : List WordStep). c.0 ++ l) rest.all ∙ sym (append_assoc c.0 rest.before rest.then); ends = rest.ends },
 )
+
+-- a call whose first step ends it
+pub ends_at_once : (at : ℕ) (p : Place) (l : ℕ) (op : Op) (seen : ℕ) (old new : List WordStep) (answer : Answer) → act_of p ≡ act.TheVariants.Word l op → new ≡ old ++ step at op seen → next_act p (Value seen) ≡ act.TheVariants.End answer → Walks at p old new answer
+ends_at_once at p l op seen old new answer is e ends = comes_to_end at p p old old new (Value seen) (step at op seen) answer (comes_here at p old) e (word p l op seen is) ends
+
+-- the first step of a call, and then the rest
+pub goes_on : (at : ℕ) (p : Place) (l : ℕ) (op : Op) (seen : ℕ) (old mid new : List WordStep) (answer : Answer) → act_of p ≡ act.TheVariants.Word l op → mid ≡ old ++ step at op seen → Walks at (next_place p (Value seen)) mid new answer → Walks at p old new answer
+goes_on at p l op seen old mid new answer is e rest = walks_on at p (next_place p (Value seen)) old mid new answer (comes_on at p p (next_place p (Value seen)) old old mid (Value seen) (step at op seen) (comes_here at p old) e (word p l op seen is) refl) rest

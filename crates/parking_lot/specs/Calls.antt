@@ -1,27 +1,56 @@
 -- What the calls of a mutex did.
-use Rattle.std.specs.Prelude.{ℕ, ◌≡◌, Bool, true, false, List, [], ◌++◌, Option, Some, None}
-use Rattle.lot_words.specs.declared.views.WordStep.{WordStep}
-use Rattle.lot_steps.specs.MutexSteps.{mutex_first, is_locked, is_parked}
+use Rattle.std.specs.Prelude.{ℕ, ◌≡◌, ◌≢◌, ◌<◌, ◌==◌, not, Bool, true, false, List, [], ◌++◌, Option, Some, None}
+use Rattle.lot_base.specs.declared.ops.Op.{Op}
+use Rattle.lot_base.specs.declared.ops.Op.TheVariants.{Load, Sub, Or, Exchange}
+use Rattle.lot_calls.specs.declared.calls.MutexCall.{MutexCall}
+use Rattle.lot_calls.specs.declared.calls.MutexCall.TheVariants as call
 use Rattle.lot_calls.specs.declared.outcomes.Answer.{Answer}
 use Rattle.lot_calls.specs.declared.outcomes.Answer.TheVariants.{Yes, No}
-use Rattle.lot_calls.specs.declared.calls.MutexCall.{MutexCall}
-use Rattle.lot_calls.specs.declared.calls.MutexCall.TheVariants.{LockTimed}
+use Rattle.lot_steps.specs.MutexSteps.{mutex_first, is_locked, is_parked}
+use Rattle.lot_steps.specs.declared.mutex.lock.Entry as entry
 use Rattle.lot_steps.specs.declared.places.Place.{Place}
 use Rattle.lot_steps.specs.declared.places.Place.TheVariants.{Mutex}
-use Rattle.lot_base.specs.declared.ops.Op.{Op}
-use Rattle.lot_base.specs.declared.ops.Op.TheVariants.{Sub}
+use Rattle.lot_words.specs.Steps.{has}
+use Rattle.lot_words.specs.declared.owners.Ownership.{Ownership}
+use Rattle.lot_words.specs.declared.views.WordStep.{WordStep}
 use Rattle.parking_lot_core.specs.declared.tokens.Record.{Record}
-use Rattle.parking_lot.specs.Driving.{TookAt}
+use Rattle.parking_lot.specs.Fitting.{Purpose, enters, releases, hands_over, TookAt, held}
 use Rattle.parking_lot.specs.Paths.{step, mutex_at, Walks}
 
 -- where a call of a mutex begins
 abbrev pub beginning : ℕ → MutexCall → Place
-beginning n call = Mutex n (mutex_first false call)
+beginning n c = Mutex n (mutex_first false c)
 
--- what a timed call answers: yes with the mutex
-abbrev pub timed_answer : {A : Type 0} → Option A → Answer
-timed_answer None = No
-timed_answer (Some _) = Yes
+-- its first operation on the word
+abbrev pub first_op : MutexCall → Op
+first_op call.Lock = Exchange 0 1
+first_op call.LockTimed = Exchange 0 1
+first_op call.TryLock = Or 1
+first_op call.Unlock = Sub 1
+first_op call.UnlockFair = Exchange 1 0
+first_op call.Bump = Load
+
+-- what it is for behind that
+abbrev pub purpose_in : MutexCall → Purpose
+purpose_in call.Lock = enters entry.TheVariants.Lock
+purpose_in call.LockTimed = enters entry.TheVariants.LockTimed
+purpose_in call.UnlockFair = hands_over
+purpose_in call.Bump = enters entry.TheVariants.Bump
+purpose_in _ = releases
+
+-- it goes on behind the value that its first operation saw; who is to hand the mutex over owns it
+abbrev pub GoesOn : ℕ → MutexCall → ℕ → List Ownership → Type 0
+GoesOn n call.Lock seen owns = 0 < seen
+GoesOn n call.LockTimed seen owns = 0 < seen
+GoesOn n call.TryLock seen owns = ⊥
+GoesOn n call.Unlock seen owns = is_parked seen ≡ true
+GoesOn n call.UnlockFair seen owns = (seen ≢ 1) × (has (held n) owns ≡ true)
+GoesOn n call.Bump seen owns = (is_parked seen ≡ true) × (has (held n) owns ≡ true)
+
+-- what a call answers that may fail: yes with the mutex
+abbrev pub answer_by : {A : Type 0} → Option A → Answer
+answer_by None = No
+answer_by (Some _) = Yes
 
 -- one step was added, which saw this
 abbrev pub Steps : ℕ → Op → ℕ → List WordStep → List WordStep → Type 0
@@ -32,9 +61,14 @@ abbrev pub TookIfParked : ℕ → Bool → List WordStep → Option Record → T
 TookIfParked n true more last = TookAt n last
 TookIfParked n false more last = (more ≡ []) × (last ≡ None)
 
--- the release took one off the word, and took a waiter by what it saw there
-abbrev pub Releases : ℕ → List WordStep → List WordStep → Option Record → Type 0
-Releases n old new last = (seen : ℕ) × (more : List WordStep) × (new ≡ (old ++ step (mutex_at n) (Sub 1) seen) ++ more) × TookIfParked n (is_parked seen) more last
+-- whether the first operation of a release saw a waiter
+abbrev pub saw_waiter : MutexCall → ℕ → Bool
+saw_waiter call.UnlockFair seen = not (seen == 1)
+saw_waiter _ seen = is_parked seen
+
+-- a release took a waiter by what its first operation saw
+abbrev pub Releases : ℕ → MutexCall → List WordStep → List WordStep → Option Record → Type 0
+Releases n c old new last = (seen : ℕ) × (more : List WordStep) × (new ≡ (old ++ step (mutex_at n) (first_op c) seen) ++ more) × TookIfParked n (saw_waiter c seen) more last
 
 -- one step was added, which saw the mutex locked or not
 abbrev pub Sees : ℕ → Bool → List WordStep → List WordStep → Type 0
@@ -42,4 +76,4 @@ Sees n locked old new = (op : Op) × (seen : ℕ) × Steps n op seen old new × 
 
 -- a timed call ended because its time was up
 abbrev pub GaveUp : ℕ → List WordStep → List WordStep → Type 0
-GaveUp n old new = Walks (mutex_at n) (beginning n LockTimed) old new No
+GaveUp n old new = Walks (mutex_at n) (beginning n call.LockTimed) old new No

@@ -1,4 +1,5 @@
 pub mod Paths
 pub mod Driving
-pub mod Sleeping
+pub mod Stages
+pub mod Fitting
 pub mod Calls

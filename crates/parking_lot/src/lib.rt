@@ -1,6 +1,7 @@
 //! Locks for real threads. Each call runs the steps that the simulated world runs.
 #![tactic(auto)]
 
+mod acting;
 mod driver;
 pub mod raw_mutex;
 
@@ -16,6 +17,3 @@ pub type Mutex<T> = lock_api::Mutex<RawMutex, T>;
 
 /// The guard of a [`Mutex`]. It shows the value, and is spent by `unlock`.
 pub type MutexGuard<'a, T> = lock_api::MutexGuard<'a, RawMutex, T>;
-
-#[cfg(test)]
-mod tests;

@@ -1,26 +1,22 @@
 //! The mutex, without a value.
-ghost use Rattle.std.specs.Prelude.{◌≡◌, ◌<◌, ◌*◌, ◌⊎◌, ◌∷◌, [], ℕ, true, false, IfSome, MatchOption, MatchResult, None, if◌then◌else◌};
+ghost use Rattle.std.specs.Prelude.{◌≡◌, ◌<◌, ◌*◌, ◌⊎◌, ◌∷◌, [], ℕ, true, false, IfSome, MatchOption, MatchResult};
 ghost use Rattle.std.specs.Arc.{arc_value};
 ghost use Rattle.lot_words.specs.Lots.{IsWordOf};
 ghost use Rattle.lot_words.specs.Draws.{IsDrawn, IsRefused};
-ghost use Rattle.lot_words.specs.Views.{owning};
-ghost use Rattle.lot_words.specs.declared.owners.Owner.TheVariants.{Exclusive};
 ghost use Rattle.lot_words.specs.declared.words.WordKind.TheVariants.{Mutex};
-ghost use Rattle.lot_steps.specs.MutexSteps.{is_locked, is_parked};
-ghost use Rattle.lot_steps.specs.Steps.{next_place};
-ghost use Rattle.lot_steps.specs.declared.acts.Reply.TheVariants.{Value};
-ghost use Rattle.lot_calls.specs.declared.outcomes.Answer.TheVariants.{Ok, Yes, No};
-ghost use Rattle.lot_calls.specs.declared.calls.MutexCall.TheVariants.{Lock, LockTimed, Unlock};
+ghost use Rattle.lot_steps.specs.MutexSteps.{is_locked};
+ghost use Rattle.lot_calls.specs.declared.outcomes.Answer.TheVariants.{Ok};
+ghost use Rattle.lot_calls.specs.declared.calls.MutexCall.TheVariants.{Lock, LockTimed, Unlock, UnlockFair, Bump};
 ghost use Rattle.lot_base.specs.declared.ops.Op.TheVariants.{Load, Or};
 ghost use Rattle.parking_lot_core.specs.Tokens.{IsTokenOf, Stays, view_of, last_of};
-ghost use Rattle.parking_lot.specs.Calls.{beginning, timed_answer, Steps, Sees, Releases, GaveUp};
-ghost use Rattle.parking_lot.specs.Driving.{MeetAt, IsGuardOf, IsGuardOf-prop, TookAt};
+ghost use Rattle.parking_lot.specs.Calls.{beginning, answer_by, Steps, Sees, Releases, GaveUp};
+ghost use Rattle.parking_lot.specs.Driving.{IsGuardOf, IsGuardOf-prop};
 ghost use Rattle.parking_lot.specs.Paths.{mutex_at, Walks};
 
-use crate::driver::{Ended, NoClock, run, step};
+use crate::driver::{NO_LIMIT, behind, step};
 use lot_base::main_key;
+use lot_calls::{Answer, MutexCall};
 use lot_steps::mutex::{LOCKED, is_locked, is_parked};
-use lot_steps::{MutexCall, MutexPlace, Place, Reply, advance};
 use parking_lot_core::{
     Clock, Fault, Key, Op, ParkingLot, Right, Token, Want, Word, WordKind, to_deadline,
 };
@@ -31,6 +27,12 @@ use std::time::Duration;
 const ENTER: Op = Op::Exchange {
     from: 0,
     to: LOCKED,
+};
+
+// Leaves a word that says that nobody waits.
+const LEAVE: Op = Op::Exchange {
+    from: LOCKED,
+    to: 0,
 };
 
 /// A mutex of a lot. Its word is 1 where it is locked, and 2 where a thread may be parked, or the sum of these.
@@ -71,35 +73,10 @@ impl RawMutex {
         let lot: &ParkingLot = &self.lot;
         let seen = step(lot, token, self.word, ENTER);
         if seen != 0 {
-            self.lock_behind(rt, token, seen);
+            behind(rt, lot, token, self.word, NO_LIMIT, MutexCall::Lock, seen);
             return lot.split_right(token, self.word, Want::Exclusive);
         }
         lot.split_right(token, self.word, Want::Exclusive)
-    }
-
-    // The rest of `lock`, whose first step saw this. It answers no right: a place for one would cost the first step, too.
-    #[cold]
-    #[inline(never)]
-    fn lock_behind<R: Wait>(&self, rt: &R, token: &mut Token, seen: u64)
-        requires own { IsTokenOf (arc_value self.now.lot) token.old }
-        requires seen { 0 < seen }
-        ensures own { Stays (arc_value self.now.lot) token.old token.new }
-        ensures gets { (view_of token.new).owns ≡ owning (mutex_at self.now.word.number) Exclusive ∷ (view_of token.old).owns }
-        ensures path { Walks (mutex_at self.now.word.number) (next_place (beginning self.now.word.number Lock) (Value seen)) (view_of token.old).steps (view_of token.new).steps Ok }
-    {
-        let (place, _) = advance(self.first_place(MutexCall::Lock), Reply::Value(seen));
-        match run(
-            rt,
-            &self.lot,
-            token,
-            self.word,
-            None::<(&NoClock, u64)>,
-            place,
-        ) {
-            Ended::Done => {}
-            Ended::Handed(right) => self.lot.join_right(token, right),
-            Ended::GaveUp => unreachable!(),
-        }
     }
 
     /// Waits until nobody has the mutex, and takes it. None where the time, in nanoseconds of the clock, was over first.
@@ -115,7 +92,7 @@ impl RawMutex {
         requires { IsTokenOf (arc_value self.now.lot) token.old }
         ensures own { Stays (arc_value self.now.lot) token.old token.new × ((view_of token.new).owns ≡ (view_of token.old).owns) }
         ensures guard { IfSome result (IsGuardOf (arc_value self.now.lot) self.now.word) }
-        ensures path { Walks (mutex_at self.now.word.number) (beginning self.now.word.number LockTimed) (view_of token.old).steps (view_of token.new).steps (timed_answer result) }
+        ensures path { Walks (mutex_at self.now.word.number) (beginning self.now.word.number LockTimed) (view_of token.old).steps (view_of token.new).steps (answer_by result) }
     {
         let limit = to_deadline(clock.now(), timeout);
         self.lock_timed(rt, token, limit.map(|deadline| (clock, deadline)))
@@ -133,7 +110,7 @@ impl RawMutex {
         requires { IsTokenOf (arc_value self.now.lot) token.old }
         ensures own { Stays (arc_value self.now.lot) token.old token.new × ((view_of token.new).owns ≡ (view_of token.old).owns) }
         ensures guard { IfSome result (IsGuardOf (arc_value self.now.lot) self.now.word) }
-        ensures path { Walks (mutex_at self.now.word.number) (beginning self.now.word.number LockTimed) (view_of token.old).steps (view_of token.new).steps (timed_answer result) }
+        ensures path { Walks (mutex_at self.now.word.number) (beginning self.now.word.number LockTimed) (view_of token.old).steps (view_of token.new).steps (answer_by result) }
     {
         self.lock_timed(rt, token, Some((clock, deadline)))
     }
@@ -148,53 +125,18 @@ impl RawMutex {
         requires { IsTokenOf (arc_value self.now.lot) token.old }
         ensures own { Stays (arc_value self.now.lot) token.old token.new × ((view_of token.new).owns ≡ (view_of token.old).owns) }
         ensures guard { IfSome result (IsGuardOf (arc_value self.now.lot) self.now.word) }
-        ensures path { Walks (mutex_at self.now.word.number) (beginning self.now.word.number LockTimed) (view_of token.old).steps (view_of token.new).steps (timed_answer result) }
+        ensures path { Walks (mutex_at self.now.word.number) (beginning self.now.word.number LockTimed) (view_of token.old).steps (view_of token.new).steps (answer_by result) }
     {
         let lot: &ParkingLot = &self.lot;
         let seen = step(lot, token, self.word, ENTER);
         if seen == 0 {
             return Some(lot.split_right(token, self.word, Want::Exclusive));
         }
-        if !self.lock_timed_behind(rt, token, limit, seen) {
+        let answer = behind(rt, lot, token, self.word, limit, MutexCall::LockTimed, seen);
+        if matches!(answer, Answer::No) {
             return None;
         }
         Some(lot.split_right(token, self.word, Want::Exclusive))
-    }
-
-    // The rest of a timed lock, whose first step saw this: whether it got the mutex.
-    #[cold]
-    #[inline(never)]
-    fn lock_timed_behind<R: Wait, C: Clock>(
-        &self,
-        rt: &R,
-        token: &mut Token,
-        limit: Option<(&C, u64)>,
-        seen: u64,
-    ) -> bool
-        requires own { IsTokenOf (arc_value self.now.lot) token.old }
-        requires seen { 0 < seen }
-        ensures own { Stays (arc_value self.now.lot) token.old token.new }
-        ensures gets { (view_of token.new).owns ≡ if result then (owning (mutex_at self.now.word.number) Exclusive ∷ (view_of token.old).owns) else (view_of token.old).owns }
-        ensures path { Walks (mutex_at self.now.word.number) (next_place (beginning self.now.word.number LockTimed) (Value seen)) (view_of token.old).steps (view_of token.new).steps (if result then Yes else No) }
-    {
-        let (place, _) = advance(self.first_place(MutexCall::LockTimed), Reply::Value(seen));
-        match run(rt, &self.lot, token, self.word, limit, place) {
-            Ended::Done => true,
-            Ended::Handed(right) => {
-                self.lot.join_right(token, right);
-                true
-            }
-            Ended::GaveUp => false,
-        }
-    }
-
-    fn first_place(&self, call: MutexCall) -> Place
-        ensures { result ≡ beginning self.now.word.number call }
-    {
-        Place::Mutex {
-            lock: self.word.number(),
-            at: MutexPlace::first(call, false),
-        }
     }
 
     /// Takes the mutex where nobody has it, by one step. None only where that step saw it locked.
@@ -219,38 +161,56 @@ impl RawMutex {
         requires { IsTokenOf (arc_value self.now.lot) token.old × IsGuardOf (arc_value self.now.lot) self.now.word guard }
         ensures own { Stays (arc_value self.now.lot) token.old token.new × ((view_of token.new).owns ≡ (view_of token.old).owns) }
         ensures path { Walks (mutex_at self.now.word.number) (beginning self.now.word.number Unlock) (view_of token.old).steps (view_of token.new).steps Ok }
-        ensures took { Releases self.now.word.number (view_of token.old).steps (view_of token.new).steps (last_of token.new) }
+        ensures took { Releases self.now.word.number Unlock (view_of token.old).steps (view_of token.new).steps (last_of token.new) }
     {
         let lot: &ParkingLot = &self.lot;
         lot.join_right(token, guard);
         let seen = step(lot, token, self.word, Op::Sub(LOCKED));
         if is_parked(seen) {
-            self.unlock_behind(rt, token, seen);
+            behind(rt, lot, token, self.word, NO_LIMIT, MutexCall::Unlock, seen);
         }
     }
 
-    // The rest of `unlock`, whose step saw a waiter.
-    #[cold]
-    #[inline(never)]
-    fn unlock_behind<R: Wait>(&self, rt: &R, token: &mut Token, seen: u64)
-        requires own { IsTokenOf (arc_value self.now.lot) token.old }
-        requires seen { is_parked seen ≡ true }
+    /// Hands the mutex to the first who waits for it. Where nobody waits, gives it up.
+    #[inline]
+    pub fn unlock_fair<R: Wait>(&self, rt: &R, token: &mut Token, guard: Right)
+        requires { IsTokenOf (arc_value self.now.lot) token.old × IsGuardOf (arc_value self.now.lot) self.now.word guard }
         ensures own { Stays (arc_value self.now.lot) token.old token.new × ((view_of token.new).owns ≡ (view_of token.old).owns) }
-        ensures path { Walks (mutex_at self.now.word.number) (next_place (beginning self.now.word.number Unlock) (Value seen)) (view_of token.old).steps (view_of token.new).steps Ok }
-        ensures took { TookAt self.now.word.number (last_of token.new) }
+        ensures path { Walks (mutex_at self.now.word.number) (beginning self.now.word.number UnlockFair) (view_of token.old).steps (view_of token.new).steps Ok }
+        ensures took { Releases self.now.word.number UnlockFair (view_of token.old).steps (view_of token.new).steps (last_of token.new) }
     {
-        let (place, _) = advance(self.first_place(MutexCall::Unlock), Reply::Value(seen));
-        match run(
-            rt,
-            &self.lot,
-            token,
-            self.word,
-            None::<(&NoClock, u64)>,
-            place,
-        ) {
-            Ended::Done => {}
-            _ => unreachable!(),
+        let lot: &ParkingLot = &self.lot;
+        lot.join_right(token, guard);
+        let seen = step(lot, token, self.word, LEAVE);
+        if seen != LOCKED {
+            behind(
+                rt,
+                lot,
+                token,
+                self.word,
+                NO_LIMIT,
+                MutexCall::UnlockFair,
+                seen,
+            );
         }
+    }
+
+    /// Hands the mutex to the first who waits for it, and waits to take it again. Where nobody waits, keeps it.
+    #[inline]
+    pub fn bump<R: Wait>(&self, rt: &R, token: &mut Token, guard: Right) -> Right
+        requires { IsTokenOf (arc_value self.now.lot) token.old × IsGuardOf (arc_value self.now.lot) self.now.word guard }
+        ensures own { Stays (arc_value self.now.lot) token.old token.new × ((view_of token.new).owns ≡ (view_of token.old).owns) }
+        ensures guard { IsGuardOf (arc_value self.now.lot) self.now.word result }
+        ensures path { Walks (mutex_at self.now.word.number) (beginning self.now.word.number Bump) (view_of token.old).steps (view_of token.new).steps Ok }
+    {
+        let lot: &ParkingLot = &self.lot;
+        lot.join_right(token, guard);
+        let seen = step(lot, token, self.word, Op::Load);
+        if is_parked(seen) {
+            behind(rt, lot, token, self.word, NO_LIMIT, MutexCall::Bump, seen);
+            return lot.split_right(token, self.word, Want::Exclusive);
+        }
+        lot.split_right(token, self.word, Want::Exclusive)
     }
 
     /// Whether somebody has the mutex, by one load.

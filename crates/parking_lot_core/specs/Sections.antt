@@ -1,8 +1,9 @@
 -- What stands in the queues of a section, and whom it took.
-use Rattle.std.specs.Prelude.{ℕ, ◌≡◌, List}
+use Rattle.std.specs.Prelude.{ℕ, ◌≡◌, List, []}
 use Rattle.std.specs.Sync.Mutex.{mutex_guard_value}
 use Rattle.lot_base.specs.declared.wants.Waiter.{Waiter}
 use Rattle.parking_lot_core.specs.declared.sections.Section.{Section}
+use Rattle.parking_lot_core.specs.declared.tokens.Did.TheVariants.{Nothing}
 
 abbrev pub waiting_in : Section → List Waiter
 waiting_in section = (mutex_guard_value section.queueing).queues.waiters
@@ -21,3 +22,7 @@ moved_in section = section.moved
 -- it is the same section
 abbrev pub StaysIn : Section → Section → Type 0
 StaysIn old new = (new.lot.now ≡ old.lot.now) × (new.keys ≡ old.keys)
+
+-- nothing has been done in it
+abbrev pub IsUntouched : Section → Type 0
+IsUntouched section = (section.did ≡ Nothing) × (taken_in section ≡ []) × (rightless_in section ≡ []) × (moved_in section ≡ 0)

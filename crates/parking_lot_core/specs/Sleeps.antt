@@ -1,27 +1,26 @@
 -- How a sleep ends.
 use Rattle.std.specs.Prelude.{ℕ, ◌≡◌, Some}
-use Rattle.lot_words.specs.RightsOf.{IsRightOf}
+use Rattle.lot_words.specs.RightsOf.{IsRightOf, IsFor}
 use Rattle.lot_words.specs.declared.words.Word.{Word}
 use Rattle.lot_base.specs.Lines.{key_of}
 use Rattle.lot_base.specs.declared.wants.Want.{Want}
 use Rattle.lot_base.specs.declared.keys.Keys.TheVariants.{One}
-use Rattle.parking_lot_core.specs.Sections.{waiting_in}
+use Rattle.parking_lot_core.specs.Sections.{IsUntouched, waiting_in}
 use Rattle.parking_lot_core.specs.declared.lot.ParkingLot.{ParkingLot}
 use Rattle.parking_lot_core.specs.declared.sleep.Slept.{Slept}
 use Rattle.parking_lot_core.specs.declared.sleep.Slept.TheVariants.{Woken, Handed, Late}
-use Rattle.parking_lot_core.specs.declared.tokens.Did.TheVariants.{Nothing}
 
--- what was handed over is a right of the lot, and names the word and the want
+-- what was handed over is a right of the lot, for the word and the want
 abbrev pub IsWoken : ParkingLot → Word → Want → Slept → Type 0
 IsWoken _ _ _ Woken = Unit {0}
-IsWoken lot word wanted (Handed right) = IsRightOf lot.words right × (right.word ≡ word) × (right.want ≡ wanted)
+IsWoken lot word wanted (Handed right) = IsRightOf lot.words right × IsFor word wanted right
 IsWoken _ _ _ (Late _ _) = ⊥
 
 -- who gave up is inside the section of the key where it stands
 abbrev pub IsLate : ParkingLot → ℕ → Slept → Type 0
 IsLate _ _ Woken = ⊥
 IsLate _ _ (Handed _) = ⊥
-IsLate lot thread (Late section key) = (section.lot.now ≡ lot) × (section.keys ≡ One key) × (section.did ≡ Nothing) × (key_of thread (waiting_in section) ≡ Some key)
+IsLate lot thread (Late section key) = (section.lot.now ≡ lot) × (section.keys ≡ One key) × IsUntouched section × (key_of thread (waiting_in section) ≡ Some key)
 
 abbrev pub IsSlept : ParkingLot → ℕ → Word → Want → Slept → Type 0
 IsSlept _ _ _ _ Woken = Unit {0}

@@ -21,11 +21,11 @@ use std::sync::{Arc, Mutex};
 pub struct ParkingLot {
     pub(crate) words: LotWords,
     pub(crate) queueing: Mutex<Queueing>,
-    pub(crate) records: KeyedLocks<Seat, WakeRecord>,
+    pub(crate) records: KeyedLocks<LotWords, WakeRecord>,
     pub(crate) unparkers: Vec<Unparker>,
     // Of a thread that was taken, the one that was taken next with it.
     pub(crate) next_taken: Vec<AtomicUsize>,
-    ghost keyed: { records.table.shared.key.table_id ≡ words.table.shared.table_id },
+    ghost keyed: { records.table.shared.key ≡ words },
     ghost for_each_seat: { (length unparkers.items ≡ records.count) × (length next_taken.items ≡ records.count) },
 }
 
@@ -85,7 +85,7 @@ impl ParkingLot {
         ensures tickets { IfOk result (λ made. (map number_of made.1.items ≡ range_with_len 0 seats) × All (IsNewTicketOf (arc_value made.0)) made.1.items) }
     {
         let (words, first) = LotWords::new(alloc, words)?;
-        let records = KeyedLocks::new(alloc, empty_records(alloc, seats)?, &first)?;
+        let records = KeyedLocks::new(alloc, empty_records(alloc, seats)?, &words)?;
         let (tickets, unparkers) = ParkingLot::tickets(alloc, &words, first, seats)?;
         let lot = ParkingLot {
             words,

@@ -1,7 +1,7 @@
 //! Sections, in which one thread at a time changes the queues of its keys.
 //!
 //! All sections stand behind one lock as yet: a thread that is inside one and enters another waits for itself.
-ghost use Rattle.std.specs.Prelude.{◌≡◌, ◌≢◌, ◌<◌, ◌≤◌, ◌+◌, ◌++◌, ◌∷◌, ◌==◌, not, [], Some, Contains, MatchOption, length};
+ghost use Rattle.std.specs.Prelude.{◌≡◌, ◌≢◌, ◌<◌, ◌≤◌, ◌+◌, ◌++◌, ◌∷◌, ◌==◌, not, [], Some, Contains, MatchOption, length, slice_index};
 ghost use Rattle.std.specs.List.{filter};
 ghost use Rattle.std.specs.Sync.Mutex.{mutex_guard_value};
 ghost use Rattle.lot_base.specs.Lines.{waiter, line, lines, without, without_first, without_key, first_of, threads_of, key_of};
@@ -52,11 +52,12 @@ fn first_of_keys(keys: Keys) -> Key
 }
 
 impl ParkingLot {
+    ghost use Rattle.parking_lot_core.specs.Sections.{IsUntouched};
     ghost use Rattle.parking_lot_core.specs.Tokens.{IsTokenOf, Stays};
 
     // The queues, with nobody taken.
     pub(crate) fn locked<'a, R: Wait>(&'a self, rt: &R, keys: Keys) -> Section<'a>
-        ensures { (result.lot.now ≡ self.now) × (result.keys ≡ keys) × (result.did ≡ Nothing) }
+        ensures { (result.lot.now ≡ self.now) × (result.keys ≡ keys) × IsUntouched result }
     {
         let mut queueing = self.queueing.lock(rt);
         queueing.begin();
@@ -77,7 +78,7 @@ impl ParkingLot {
         requires own { IsTokenOf self.now _token.old }
         requires keys { AreKeys keys }
         ensures same { _token.new ≡ _token.old }
-        ensures section { (result.lot.now ≡ self.now) × (result.keys ≡ keys) × (result.did ≡ Nothing) }
+        ensures section { (result.lot.now ≡ self.now) × (result.keys ≡ keys) × IsUntouched result }
     {
         self.locked(rt, keys)
     }
@@ -87,7 +88,10 @@ impl ParkingLot {
         requires { IsTokenOf self.now token.old }
         ensures { token.new ≡ token.old }
     {
-        self.enter(rt, token, Keys::One(key)).count(key)
+        let section = self.enter(rt, token, Keys::One(key));
+        let number = section.count(key);
+        section.shut();
+        number
     }
 
     // Ties those that were taken together, and gives the first.
@@ -228,6 +232,13 @@ impl<'a> Section<'a> {
         self.queueing.taken()
     }
 
+    /// Those of whom it took that have no right yet, in order.
+    pub fn rightless(&self) -> &[usize]
+        ensures { result.now ≡ rightless_in self.now }
+    {
+        self.queueing.rightless()
+    }
+
     /// Lays a right in the record of a thread that the section took. A right that lies there already goes with the lot.
     pub fn give<R: Wait>(&mut self, rt: &R, thread: usize, right: Right)
         requires taken { Contains (taken_in self.old) thread }
@@ -235,8 +246,43 @@ impl<'a> Section<'a> {
         ensures rightless { rightless_in self.new ≡ filter (λ x. not (x == thread)) (rightless_in self.old) }
         ensures same { StaysIn self.old self.new × (self.new.did ≡ self.old.did) × (taken_in self.new ≡ taken_in self.old) × (moved_in self.new ≡ moved_in self.old) × (waiting_in self.new ≡ waiting_in self.old) }
     {
+        self.lay(rt, thread, right);
+    }
+
+    /// Gives a right to the first who has none yet. It answers whom.
+    pub fn give_next<R: Wait>(&mut self, rt: &R, right: Right) -> usize
+        requires some { 0 < length (rightless_in self.old) }
+        requires right { IsRightOf self.old.lot.now.words right }
+        ensures first { result ≡ slice_index (rightless_in self.old) 0 }
+        ensures rightless { rightless_in self.new ≡ filter (λ x. not (x == result)) (rightless_in self.old) }
+        ensures same { StaysIn self.old self.new × (self.new.did ≡ self.old.did) × (taken_in self.new ≡ taken_in self.old) × (moved_in self.new ≡ moved_in self.old) × (waiting_in self.new ≡ waiting_in self.old) }
+    {
+        let thread = self.queueing.rightless()[0];
+        self.lay(rt, thread, right);
+        thread
+    }
+
+    fn lay<R: Wait>(&mut self, rt: &R, thread: usize, right: Right)
+        requires { IsRightOf self.old.lot.now.words right }
+        ensures rightless { rightless_in self.new ≡ filter (λ x. not (x == thread)) (rightless_in self.old) }
+        ensures same { StaysIn self.old self.new × (self.new.did ≡ self.old.did) × (taken_in self.new ≡ taken_in self.old) × (moved_in self.new ≡ moved_in self.old) × (waiting_in self.new ≡ waiting_in self.old) }
+    {
         self.lot.lay(rt, thread, right);
         self.queueing.note_right(thread);
+    }
+
+    // Leaves a section in which nothing was done.
+    pub(crate) fn shut(self)
+        requires { self.did ≡ Nothing }
+    {
+        let Section {
+            lot: _,
+            queueing,
+            keys: _,
+            did: _,
+            moved: _,
+        } = self;
+        drop(queueing);
     }
 
     /// Leaves. Whom the section took gets the note and is woken, and the token keeps the record of it.

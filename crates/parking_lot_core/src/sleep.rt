@@ -52,7 +52,10 @@ impl ParkingLot {
         ensures { IfSome result (IsLate self.now thread) }
     {
         let mut section = self.locked(rt, Keys::One(0));
-        let key = section.key_of(thread)?;
+        let Some(key) = section.key_of(thread) else {
+            section.shut();
+            return None;
+        };
         section.keys = Keys::One(key);
         Some(Slept::Late(section, key))
     }

@@ -1,5 +1,6 @@
 //! Each call once, and threads that meet.
 mod clocks;
 mod mutexes;
+mod several;
 mod single;
 mod threads;

@@ -1,11 +1,11 @@
 //! What a thread that takes a waiter leaves for it.
 ghost use Rattle.std.specs.Prelude.{◌≡◌, IfSome, None};
-ghost use Rattle.lot_words.specs.RightsOf.{FitsTable};
+ghost use Rattle.lot_words.specs.RightsOf.{IsRightOf, IsFor};
 
 use crate::lot::ParkingLot;
 use keyed_locks::Keyed;
 use lot_base::{Note, Want};
-use lot_words::{Right, Seat, Word};
+use lot_words::{LotWords, Right, Word};
 use std::sync::Wait;
 
 /// A waiter's record: its wake note, and a right that was handed to it.
@@ -26,13 +26,13 @@ impl WakeRecord {
         }
     }
 
-    // Takes the right out, if it names this word and want.
+    // Takes the right out, if it is what its thread waits for.
     pub(crate) fn take_right(&mut self, word: Word, want: Want) -> Option<Right>
-        ensures taken { IfSome result (λ right. (self.old.right ≡ Some right) × (right.word ≡ word) × (right.want ≡ want)) }
+        ensures taken { IfSome result (λ right. (self.old.right ≡ Some right) × IsFor word want right) }
         ensures left { (self.new.right ≡ None) ⊎ (self.new.right ≡ self.old.right) }
     {
         let right = self.right.take()?;
-        if right.word() == word && right.want() == want {
+        if right.is_for(word, want) {
             return Some(right);
         }
         if let Some(before) = self.right.replace(right) {
@@ -52,15 +52,12 @@ impl Drop for WakeRecord {
     }
 }
 
-// The key is a seat of the lot whose rights may lie here.
-impl Keyed<Seat> for WakeRecord {
-    ghost fits = { λ key wake_record. IfSome wake_record.right (FitsTable key.table_id) };
+// The key is the words of the lot whose rights may lie here.
+impl Keyed<LotWords> for WakeRecord {
+    ghost fits = { λ words wake_record. IfSome wake_record.right (IsRightOf words) };
 }
 
 impl ParkingLot {
-    ghost use Rattle.std.specs.Prelude.{◌<◌};
-    ghost use Rattle.lot_words.specs.RightsOf.{IsRightOf};
-
     // Lays a right in the record of a thread.
     pub(crate) fn lay<R: Wait>(&self, rt: &R, thread: usize, right: Right)
         requires { IsRightOf self.now.words right }

@@ -1,11 +1,11 @@
 //! Steps on words, draws and rights, by tokens.
-ghost use Rattle.std.specs.Prelude.{◌≡◌, ◌+◌, ◌∷◌, [], true, None, MatchResult};
+ghost use Rattle.std.specs.Prelude.{◌≡◌, ◌+◌, ◌∷◌, [], true, None, IfOk, MatchResult};
 ghost use Rattle.lot_words.specs.Places.{place};
 ghost use Rattle.lot_words.specs.Steps.{MayStep, CodesWith, after_step, has};
 ghost use Rattle.lot_words.specs.Draws.{IsDrawn, IsRefused};
 ghost use Rattle.lot_words.specs.Lots.{IsWordOf};
 ghost use Rattle.lot_words.specs.Plays.{left_over, takes_in};
-ghost use Rattle.lot_words.specs.Rights.{named_by, piece_of};
+ghost use Rattle.lot_words.specs.Rights.{named_by, owner_for, piece_of};
 ghost use Rattle.lot_words.specs.RightsOf.{IsRightOf};
 ghost use Rattle.lot_words.specs.declared.words.WordKind.TheVariants.{Mutex, Count};
 ghost use Rattle.parking_lot_core.specs.Tokens.{IsTokenOf, Stays, view_of, last_of};
@@ -13,7 +13,7 @@ ghost use Rattle.parking_lot_core.specs.Tokens.{IsTokenOf, Stays, view_of, last_
 use crate::lot::ParkingLot;
 use crate::tokens::Token;
 use lot_base::{Fault, Op, Want};
-use lot_words::{Right, Word, WordKind};
+use lot_words::{Owner, Right, Word, WordKind};
 
 impl ParkingLot {
     /// One step on a word, sequentially consistent. It answers the value before.
@@ -37,7 +37,8 @@ impl ParkingLot {
     pub fn new_word(&self, token: &mut Token, kind: WordKind) -> Result<Word, Fault>
         requires { IsTokenOf self.now token.old }
         ensures own { Stays self.now token.old token.new × ((view_of token.new).owns ≡ (view_of token.old).owns) }
-        ensures drawn { MatchResult result (λ word. (word.kind ≡ kind) × IsDrawn self.now.words.count (kind ∷ []) word.number (view_of token.old) (view_of token.new))
+        ensures word { IfOk result (λ word. IsWordOf self.now.words word × (word.kind ≡ kind)) }
+        ensures drawn { MatchResult result (λ word. IsDrawn self.now.words.count (kind ∷ []) word.number (view_of token.old) (view_of token.new))
             (λ fault. (fault ≡ Fault.LotFull) × IsRefused self.now.words.count 1 (view_of token.old) (view_of token.new)) }
     {
         token.is_recorded = false;
@@ -52,23 +53,36 @@ impl ParkingLot {
     pub fn new_pair(&self, token: &mut Token) -> Result<(Word, Word), Fault>
         requires { IsTokenOf self.now token.old }
         ensures own { Stays self.now token.old token.new × ((view_of token.new).owns ≡ (view_of token.old).owns) }
-        ensures drawn { MatchResult result (λ pair. (pair.0.kind ≡ Mutex) × (pair.1.kind ≡ Count) × (pair.1.number ≡ pair.0.number + 1) × IsDrawn self.now.words.count (Mutex ∷ Count ∷ []) pair.0.number (view_of token.old) (view_of token.new))
+        ensures words { IfOk result (λ pair. IsWordOf self.now.words pair.0 × (pair.0.kind ≡ Mutex) × IsWordOf self.now.words pair.1 × (pair.1.kind ≡ Count) × (pair.1.number ≡ pair.0.number + 1)) }
+        ensures drawn { MatchResult result (λ pair. IsDrawn self.now.words.count (Mutex ∷ Count ∷ []) pair.0.number (view_of token.old) (view_of token.new))
             (λ fault. (fault ≡ Fault.LotFull) × IsRefused self.now.words.count 2 (view_of token.old) (view_of token.new)) }
     {
         token.is_recorded = false;
         self.words.new_pair(&mut token.seat)
     }
 
-    /// Splits an ownership off that the token's view names. It loads a word, which is no step of a call.
+    /// Splits what was wanted off the token's view. It loads a word, which is no step of a call.
     #[inline]
     pub fn split_right(&self, token: &mut Token, word: Word, want: Want) -> Right
         requires own { IsTokenOf self.now token.old × IsWordOf self.now.words word }
-        requires named { has (named_by word want) (view_of token.old).owns ≡ true }
+        requires named { has (named_by word (owner_for want)) (view_of token.old).owns ≡ true }
         ensures own { Stays self.now token.old token.new × (last_of token.new ≡ last_of token.old) }
-        ensures left { view_of token.new ≡ left_over (named_by word want) (view_of token.old) }
-        ensures right { IsRightOf self.now.words result × (result.word ≡ word) × (result.want ≡ want) }
+        ensures left { view_of token.new ≡ left_over (named_by word (owner_for want)) (view_of token.old) }
+        ensures right { IsRightOf self.now.words result × (result.word ≡ word) × (result.owner ≡ owner_for want) }
     {
-        self.words.split_right(&mut token.seat, word, want)
+        self.split_owner(token, word, Owner::of_want(want))
+    }
+
+    /// The same, by how the word is owned: its owner may be pending.
+    #[inline]
+    pub fn split_owner(&self, token: &mut Token, word: Word, owner: Owner) -> Right
+        requires own { IsTokenOf self.now token.old × IsWordOf self.now.words word }
+        requires named { has (named_by word owner) (view_of token.old).owns ≡ true }
+        ensures own { Stays self.now token.old token.new × (last_of token.new ≡ last_of token.old) }
+        ensures left { view_of token.new ≡ left_over (named_by word owner) (view_of token.old) }
+        ensures right { IsRightOf self.now.words result × (result.word ≡ word) × (result.owner ≡ owner) }
+    {
+        self.words.split_right(&mut token.seat, word, owner)
     }
 
     /// Gives an ownership back to a token, and the right is spent. It loads a word, which is no step of a call.
@@ -76,7 +90,7 @@ impl ParkingLot {
     pub fn join_right(&self, token: &mut Token, right: Right)
         requires { IsTokenOf self.now token.old × IsRightOf self.now.words right }
         ensures own { Stays self.now token.old token.new × (last_of token.new ≡ last_of token.old) }
-        ensures joined { view_of token.new ≡ takes_in (view_of token.old) (piece_of right.word right.want) }
+        ensures joined { view_of token.new ≡ takes_in (view_of token.old) (piece_of right.word right.owner) }
     {
         self.words.join_right(&mut token.seat, right);
     }

@@ -39,14 +39,10 @@ pub(super) fn next_hand_off(at: HandOffAt, reply: Reply) -> Next<HandOffAt>
             taken: first,
             none_left,
         }),
-        (
-            HandOffAt::Store {
-                taken,
-                none_left: _,
-            },
-            Reply::Value(_),
-        ) => { Next::At(HandOffAt::Leave { taken }) }
-        (HandOffAt::Leave { taken: _ }, Reply::Done) => Next::End(Answer::Ok),
+        (HandOffAt::Store { taken, .. }, Reply::Value(_)) => {
+            Next::At(HandOffAt::Leave { taken })
+        }
+        (HandOffAt::Leave { .. }, Reply::Done) => Next::End(Answer::Ok),
         (at, _) => Next::At(at),
     }
 }

@@ -125,9 +125,9 @@ pub(super) fn next_lock(entry: Entry, at: LockAt, reply: Reply) -> Next<LockAt>
         // A running thread sees its wake note alone, and not who took it.
         (LockAt::Asleep, Reply::Woken(Note::Normal)) => Next::At(LockAt::Load),
         (LockAt::Asleep, Reply::Woken(Note::HandOff)) => Next::At(LockAt::Accept),
-        (LockAt::Taken { by: _ }, Reply::Woken(Note::Normal)) => Next::At(LockAt::Load),
-        (LockAt::Taken { by: _ }, Reply::HandedBy(by)) => Next::At(LockAt::Handed { by }),
-        (LockAt::Handed { by: _ }, Reply::Woken(Note::HandOff)) => Next::At(LockAt::Accept),
+        (LockAt::Taken { .. }, Reply::Woken(Note::Normal)) => Next::At(LockAt::Load),
+        (LockAt::Taken { .. }, Reply::HandedBy(by)) => Next::At(LockAt::Handed { by }),
+        (LockAt::Handed { .. }, Reply::Woken(Note::HandOff)) => Next::At(LockAt::Accept),
         (LockAt::Accept, Reply::Done) => Next::End(entry.entered()),
         (LockAt::Asleep, Reply::Late) => Next::At(LockAt::Remove),
         (LockAt::Remove, Reply::Removed { none_left }) => if none_left {
@@ -174,11 +174,11 @@ pub(super) fn lock_act(lock: usize, at: LockAt) -> Act
             check: Check::WordIs(LOCKED + PARKED),
             want: Want::Exclusive,
         },
-        LockAt::Leave { parked: _ } => Act::Leave {
+        LockAt::Leave { .. } => Act::Leave {
             keys: Keys::One(main_key(lock)),
             wakes: Wakes::Nobody,
         },
-        LockAt::Asleep | LockAt::Taken { by: _ } | LockAt::Handed { by: _ } => Act::Sleep,
+        LockAt::Asleep | LockAt::Taken { .. } | LockAt::Handed { .. } => Act::Sleep,
         LockAt::Accept => Act::Accept,
         LockAt::Remove => Act::Remove(main_key(lock)),
         LockAt::Clear => Act::Word {

@@ -44,7 +44,7 @@ pub(super) fn next_unlock(at: UnlockAt, reply: Reply) -> Next<UnlockAt>
             Next::At(UnlockAt::Leave { taken: first })
         },
         (UnlockAt::Clear { taken }, Reply::Value(_)) => Next::At(UnlockAt::Leave { taken }),
-        (UnlockAt::Leave { taken: _ }, Reply::Done) => Next::End(Answer::Ok),
+        (UnlockAt::Leave { .. }, Reply::Done) => Next::End(Answer::Ok),
         (at, _) => Next::At(at),
     }
 }
@@ -61,7 +61,7 @@ pub(super) fn unlock_act(lock: usize, at: UnlockAt) -> Act
         },
         UnlockAt::Enter => Act::Enter(Keys::One(main_key(lock))),
         UnlockAt::Take => Act::TakeFirst(main_key(lock)),
-        UnlockAt::Clear { taken: _ } => Act::Word {
+        UnlockAt::Clear { .. } => Act::Word {
             lock,
             op: Op::And(NOT_PARKED),
         },

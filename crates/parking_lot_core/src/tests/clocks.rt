@@ -14,8 +14,8 @@ fn who_is_not_woken_is_late(rt: HostRuntime) -> Result<(), Fail> {
     let mut section = lot.enter(&rt, &mut token, Keys::One(4));
     section.append(4, 0, Want::Exclusive);
     section.leave(&rt, &mut token, Note::Normal);
-    let clock = TickClock::new();
-    match lot.sleep(&rt, &mut token, word, Want::Exclusive, Some((&clock, 5))) {
+    let clock = TickClock::starting_at(1000);
+    match lot.sleep(&rt, &mut token, word, Want::Exclusive, Some((&clock, 1005))) {
         Slept::Late(mut section, key) => {
             assert_eq!(rt; (key, section.key_of(0)), (4, Some(4)));
             section.remove(0);
@@ -24,6 +24,6 @@ fn who_is_not_woken_is_late(rt: HostRuntime) -> Result<(), Fail> {
         Slept::Handed(right) => right.forget(),
         Slept::Woken => panic!(rt; "nobody woke it"),
     }
-    assert_eq!(rt; (lot.queued(&rt, &mut token, 4), clock.now()), (0, 6));
+    assert_eq!(rt; (lot.queued(&rt, &mut token, 4), clock.now()), (0, 1006));
     Ok(())
 }

@@ -3,7 +3,7 @@ ghost use Rattle.std.specs.Prelude.{◌≡◌, IfSome};
 ghost use Rattle.lot_words.specs.Lots.{IsWordOf};
 ghost use Rattle.lot_words.specs.RightsOf.{IsRightOf};
 ghost use Rattle.lot_words.specs.declared.words.WordKind.TheVariants.{Mutex};
-ghost use Rattle.lot_base.specs.declared.wants.Want.TheVariants.{Exclusive};
+ghost use Rattle.lot_words.specs.declared.owners.Owner.TheVariants.{Exclusive};
 ghost use Rattle.parking_lot_core.specs.Tokens.{IsTokenOf, Stays, view_of};
 
 use crate::{Op, ParkingLot, Right, Token, Want, Word};
@@ -12,7 +12,7 @@ use crate::{Op, ParkingLot, Right, Token, Want, Word};
 pub fn try_lock(lot: &ParkingLot, token: &mut Token, word: Word) -> Option<Right>
     requires { IsTokenOf lot.now token.old × IsWordOf lot.now.words word × (word.kind ≡ Mutex) }
     ensures own { Stays lot.now token.old token.new × ((view_of token.new).owns ≡ (view_of token.old).owns) }
-    ensures right { IfSome result (λ right. IsRightOf lot.now.words right × (right.word ≡ word) × (right.want ≡ Exclusive)) }
+    ensures right { IfSome result (λ right. IsRightOf lot.now.words right × (right.word ≡ word) × (right.owner ≡ Exclusive)) }
 {
     let found = lot.word(token, word, Op::Or(1));
     if found % 2 == 1 {
@@ -23,7 +23,7 @@ pub fn try_lock(lot: &ParkingLot, token: &mut Token, word: Word) -> Option<Right
 
 /// Gives a mutex up. It answers the value before.
 pub fn unlock(lot: &ParkingLot, token: &mut Token, right: Right) -> u64
-    requires { IsTokenOf lot.now token.old × IsRightOf lot.now.words right × (right.word.kind ≡ Mutex) × (right.want ≡ Exclusive) }
+    requires { IsTokenOf lot.now token.old × IsRightOf lot.now.words right × (right.word.kind ≡ Mutex) × (right.owner ≡ Exclusive) }
     ensures { Stays lot.now token.old token.new × ((view_of token.new).owns ≡ (view_of token.old).owns) }
 {
     let word = right.word();

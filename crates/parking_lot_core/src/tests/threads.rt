@@ -4,7 +4,7 @@ ghost use Rattle.std.specs.Arc.{arc_value};
 ghost use Rattle.lot_words.specs.Lots.{IsWordOf};
 ghost use Rattle.lot_words.specs.RightsOf.{IsRightOf};
 ghost use Rattle.lot_words.specs.declared.words.WordKind.TheVariants.{Mutex};
-ghost use Rattle.lot_base.specs.declared.wants.Want.TheVariants.{Exclusive};
+ghost use Rattle.lot_words.specs.declared.owners.Owner.TheVariants.{Exclusive};
 ghost use Rattle.parking_lot_core.specs.Tokens.{IsTicketOf, IsTokenOf, Stays};
 
 use super::mutexes::{try_lock, unlock};
@@ -22,6 +22,12 @@ use std::thread::{Threads, join, yield_now};
 const KEY: Key = 0;
 
 const ROUNDS: usize = 200;
+
+// Of rounds in which both threads let time pass.
+const SLOW_ROUNDS: usize = 20;
+
+// How often a thread lets others run then.
+const PAUSE: usize = 5;
 
 fn delay(turns: usize) {
     for _ in 0..turns {
@@ -69,9 +75,9 @@ fn hand_over<R: Wait>(rt: &R, lot: &ParkingLot, token: &mut Token, right: Right,
 
 // The right that somebody hands over.
 fn receive<R: Wait>(rt: &R, lot: &ParkingLot, token: &mut Token, word: Word) -> Option<Right>
-    requires { IsTokenOf lot.now token.old }
+    requires { IsTokenOf lot.now token.old × (word.kind ≡ Mutex) }
     ensures own { Stays lot.now token.old token.new }
-    ensures right { IfSome result (λ right. IsRightOf lot.now.words right × (right.word ≡ word) × (right.want ≡ Exclusive)) }
+    ensures right { IfSome result (λ right. IsRightOf lot.now.words right × (right.word ≡ word) × (right.owner ≡ Exclusive)) }
 {
     line_up(rt, lot, token);
     match lot.sleep(rt, token, word, Want::Exclusive, None::<(&TickClock, u64)>) {
@@ -161,10 +167,10 @@ fn wake_early<R: Wait>(rt: &R, lot: &ParkingLot, ticket: Ticket, word: Word)
     requires { IsTicketOf lot.now ticket × IsWordOf lot.now.words word × (word.kind ≡ Mutex) }
 {
     let mut token = ticket.enter();
-    for _ in 0..ROUNDS {
+    for _ in 0..SLOW_ROUNDS {
         take_one(rt, lot, &mut token);
         let right = lock(rt, lot, &mut token, word);
-        hand_over(rt, lot, &mut token, right, 20);
+        hand_over(rt, lot, &mut token, right, PAUSE);
     }
     drop(token.leave());
 }
@@ -187,7 +193,7 @@ fn take_one<R: Wait>(rt: &R, lot: &ParkingLot, token: &mut Token)
 fn lock<R: Wait>(rt: &R, lot: &ParkingLot, token: &mut Token, word: Word) -> Right
     requires { IsTokenOf lot.now token.old × IsWordOf lot.now.words word × (word.kind ≡ Mutex) }
     ensures own { Stays lot.now token.old token.new }
-    ensures right { IsRightOf lot.now.words result × (result.word ≡ word) × (result.want ≡ Exclusive) }
+    ensures right { IsRightOf lot.now.words result × (result.word ≡ word) × (result.owner ≡ Exclusive) }
 {
     for _ in rt.forever() {
         if let Some(right) = try_lock(lot, token, word) {
@@ -205,9 +211,9 @@ fn sleep_late<R: Wait>(rt: &R, lot: &ParkingLot, ticket: Ticket, word: Word) -> 
 {
     let mut token = ticket.enter();
     let mut woken = 0;
-    for round in 0..ROUNDS {
+    for round in 0..SLOW_ROUNDS {
         line_up(rt, lot, &mut token);
-        delay(20);
+        delay(PAUSE);
         let by_note = match lot.sleep(
             rt,
             &mut token,
@@ -257,7 +263,7 @@ fn both_wake<R: Threads + Wait + Sync>(
 #[test]
 fn an_early_parker_loses_and_doubles_no_wake(rt: HostRuntime) -> Result<(), Fail> {
     let (lot, one, other, word) = two_seats(rt.alloc())?;
-    assert_eq!(rt; both_wake(&rt, &lot, one, other, word), ROUNDS);
+    assert_eq!(rt; both_wake(&rt, &lot, one, other, word), SLOW_ROUNDS);
     Ok(())
 }
 

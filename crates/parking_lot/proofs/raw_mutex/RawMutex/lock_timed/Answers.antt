@@ -1,19 +1,10 @@
-use Rattle.std.proofs.Common.{◌≡◌, rules, refl, ap}
-use Rattle.lot_calls.specs.declared.outcomes.Answer.TheVariants.{Yes, No}
-use Rattle.lot_steps.specs.declared.mutex.lock.Entry.TheVariants.{LockTimed}
+use Rattle.std.proofs.Common.{◌≡◌, ◌∙◌, ap, rules}
+use Rattle.lot_calls.specs.declared.calls.MutexCall.TheVariants.{LockTimed}
 use Rattle.lot_words.specs.declared.views.View.{View}
 use Rattle.parking_lot_core.specs.Tokens.{view_of}
-use Rattle.parking_lot.proofs.Entering.{entered_at_once, entered_behind}
+use Rattle.parking_lot.proofs.Behind.{path_at_once}
 use Rattle.parking_lot.proofs.raw_mutex.RawMutex.lock_timed.Goals as goal
 
 pub returns-then-seen-eq0-clause-path : goal.returns-then-seen-eq0-clause-path
-returns-then-seen-eq0-clause-path g c = let n = c.args.self.now.word.number in let old = (view_of c.args.token.now).steps in let mid = (view_of c.step-seen.new.token).steps in let zero : c.step-seen.result ≡ 0 = search rules in
-    entered_at_once n LockTimed old mid c.step-seen.result (view_of c.split_right.new.token).steps (ap (λ (v : View). v.steps) c.step-seen.ensures.stepped) (ap (λ (v : View). v.steps) c.split_right.ensures.left) zero
-
-pub returns-then-not-lock_timed_behind-clause-path : goal.returns-then-not-lock_timed_behind-clause-path
-returns-then-not-lock_timed_behind-clause-path g c = let n = c.args.self.now.word.number in let old = (view_of c.args.token.now).steps in let mid = (view_of c.step-seen.new.token).steps in let behind = (view_of c.lock_timed_behind.new.token).steps in
-    entered_behind n LockTimed old mid c.step-seen.result behind behind No (ap (λ (v : View). v.steps) c.step-seen.ensures.stepped) (search rules) refl
-
-pub returns-clause-path : goal.returns-clause-path
-returns-clause-path g c = let n = c.args.self.now.word.number in let old = (view_of c.args.token.now).steps in let mid = (view_of c.step-seen.new.token).steps in
-    entered_behind n LockTimed old mid c.step-seen.result (view_of c.lock_timed_behind.new.token).steps (view_of c.split_right-2.new.token).steps Yes (ap (λ (v : View). v.steps) c.step-seen.ensures.stepped) (search rules) (ap (λ (v : View). v.steps) c.split_right-2.ensures.left)
+returns-then-seen-eq0-clause-path g c = let zero : c.step-seen.result ≡ 0 = search rules in
+    path_at_once c.args.self.now.word.number LockTimed c.step-seen.result (view_of c.args.token.now).steps (view_of c.split_right.new.token).steps zero (ap (λ (v : View). v.steps) c.split_right.ensures.left ∙ ap (λ (v : View). v.steps) c.step-seen.ensures.stepped)

@@ -1,0 +1,277 @@
+//! Mutexes with a value.
+ghost use Rattle.std.specs.Prelude.{◌≡◌, All, IfOk};
+ghost use Rattle.std.specs.Arc.{arc_value};
+ghost use Rattle.std.specs.Sync.Mutex.{mutex_guard_value};
+ghost use Rattle.parking_lot_core.specs.Tokens.{IsTicketOf, IsTokenOf};
+
+use parking_lot::{Fault, Mutex, MutexGuard, ParkingLot, Ticket, Token, lock_api, lock_raw};
+use std::alloc::Global;
+use std::sync::atomic::AtomicUsize;
+use std::sync::atomic::Ordering::SeqCst;
+use std::sync::{Arc, Wait};
+use std::test::Fail;
+use std::thread::{Threads, map_vec};
+
+const TIMES: u64 = 1000;
+
+// A lot of one word, with its one thread.
+fn lone(alloc: Global) -> Result<(Arc<ParkingLot>, Token), Fault>
+    ensures { IfOk result (λ made. IsTokenOf (arc_value made.0) made.1) }
+{
+    let (lot, mut tickets) = ParkingLot::new(alloc, 1, 1)?;
+    let Some(ticket) = tickets.pop() else {
+        return Err(Fault::NoMemory);
+    };
+    Ok((lot, ticket.enter()))
+}
+
+// Writes through a guard, which stays that of its mutex.
+fn cleared<'a>(mut guard: MutexGuard<'a, u8>) -> MutexGuard<'a, u8>
+    ensures lock { result.taken.lock.now ≡ guard.entry.taken.lock.now }
+    ensures value { mutex_guard_value result.value ≡ 0 }
+{
+    *guard = 0;
+    guard
+}
+
+#[test]
+fn what_was_written_is_there(rt: HostRuntime) -> Result<(), Fail> {
+    let (lot, mut token) = lone(rt.alloc())?;
+    let mutex = Mutex::new(&lot, &mut token, 5)?;
+    let mut guard = mutex.lock(&rt, &mut token);
+    assert_eq!(rt; *guard, 5);
+    *guard = 7;
+    guard.unlock(&rt, &mut token);
+    let guard = mutex.lock(&rt, &mut token);
+    assert_eq!(rt; *guard, 7);
+    cleared(guard).unlock(&rt, &mut token);
+    let guard = mutex.lock(&rt, &mut token);
+    assert_eq!(rt; *guard, 0);
+    guard.unlock(&rt, &mut token);
+    Ok(())
+}
+
+#[test]
+fn a_guard_lends_its_value(rt: HostRuntime) -> Result<(), Fail> {
+    let (lot, mut token) = lone(rt.alloc())?;
+    let mutex = match Mutex::new(&lot, &mut token, Vec::new(rt.alloc())) {
+        Ok(mutex) => mutex,
+        Err((fault, _)) => return Err(Fail::from(fault)),
+    };
+    let mut guard = mutex.lock(&rt, &mut token);
+    let pushed = guard.push(3u8);
+    assert_eq!(rt; guard.as_slice(), [3].as_slice());
+    guard.unlock(&rt, &mut token);
+    pushed?;
+    assert_eq!(rt; mutex.into_inner().as_slice(), [3].as_slice());
+    Ok(())
+}
+
+// Whether the mutex is locked and a try gets it: before another try that gets it, under that one's guard, and after.
+fn tries<R: Wait>(rt: &R, mutex: &Mutex<u8>, token: &mut Token) -> Option<[(bool, bool); 3]>
+    requires { IsTokenOf (arc_value mutex.now.raw.lot) token.old }
+{
+    let before = look(rt, mutex, token);
+    let guard = mutex.try_lock(rt, token)?;
+    let under = look(rt, mutex, token);
+    guard.unlock(rt, token);
+    Some([before, under, look(rt, mutex, token)])
+}
+
+fn look<R: Wait>(rt: &R, mutex: &Mutex<u8>, token: &mut Token) -> (bool, bool)
+    requires { IsTokenOf (arc_value mutex.now.raw.lot) token.old }
+    ensures { IsTokenOf (arc_value mutex.now.raw.lot) token.new }
+{
+    let locked = mutex.is_locked(token);
+    match mutex.try_lock(rt, token) {
+        Some(guard) => {
+            guard.unlock(rt, token);
+            (locked, true)
+        }
+        None => (locked, false),
+    }
+}
+
+#[test]
+fn a_try_gets_a_free_mutex_alone(rt: HostRuntime) -> Result<(), Fail> {
+    let (lot, mut token) = lone(rt.alloc())?;
+    let mutex = Mutex::new(&lot, &mut token, 0)?;
+    let seen = tries(&rt, &mutex, &mut token);
+    assert_eq!(rt; seen, Some([(false, true), (true, false), (false, true)]));
+    Ok(())
+}
+
+#[test]
+fn the_value_comes_out(rt: HostRuntime) -> Result<(), Fail> {
+    let (lot, mut token) = lone(rt.alloc())?;
+    let mut mutex = Mutex::new(&lot, &mut token, 10)?;
+    let mut guard = mutex.lock(&rt, &mut token);
+    *guard = 15;
+    guard.unlock(&rt, &mut token);
+    assert_eq!(rt; *mutex.get_mut(), 15);
+    *mutex.get_mut() = 20;
+    assert_eq!(rt; mutex.into_inner(), 20);
+    Ok(())
+}
+
+// Counts how often it is dropped.
+struct Counts<'a>(&'a AtomicUsize);
+
+impl Drop for Counts<'_> {
+    fn drop(self) {
+        let Counts(drops) = self;
+        drops.fetch_add(1, SeqCst);
+    }
+}
+
+// How often the value of a mutex had been dropped, before it was let go and after.
+fn drops_of(alloc: Global, drops: &AtomicUsize) -> Result<(usize, usize), Fault> {
+    let (lot, mut token) = lone(alloc)?;
+    let mutex = match Mutex::new(&lot, &mut token, Counts(drops)) {
+        Ok(mutex) => mutex,
+        Err((fault, _)) => return Err(fault),
+    };
+    let value = mutex.into_inner();
+    let before = drops.load(SeqCst);
+    drop(value);
+    Ok((before, drops.load(SeqCst)))
+}
+
+#[test]
+fn the_value_is_dropped_once(rt: HostRuntime) -> Result<(), Fail> {
+    let drops = AtomicUsize::new(0);
+    assert_eq!(rt; drops_of(rt.alloc(), &drops)?, (0, 1));
+    Ok(())
+}
+
+#[test]
+fn a_full_lot_gives_the_value_back(rt: HostRuntime) -> Result<(), Fail> {
+    let (lot, mut token) = lone(rt.alloc())?;
+    let mutex = Mutex::new(&lot, &mut token, 8)?;
+    match Mutex::new(&lot, &mut token, 9) {
+        Ok(_) => panic!(rt; "the lot has one word"),
+        Err(refused) => assert_eq!(rt; refused, (Fault::LotFull, 9)),
+    }
+    assert_eq!(rt; mutex.into_inner(), 8);
+    Ok(())
+}
+
+// A mutex that goes about with a thread of its lot.
+#[derive(Drop)]
+struct Room {
+    mutex: Arc<Mutex<u64>>,
+    token: Token,
+    ghost met: { IsTokenOf (arc_value (arc_value mutex).raw.lot) token },
+}
+
+impl Room {
+    fn new(alloc: Global) -> Result<Room, Fault> {
+        let (lot, mut token) = lone(alloc)?;
+        let Ok(mutex) = Mutex::new(&lot, &mut token, 1) else {
+            return Err(Fault::LotFull);
+        };
+        let Ok(mutex) = Arc::new(alloc, mutex) else {
+            return Err(Fault::NoMemory);
+        };
+        Ok(Room { mutex, token })
+    }
+
+    fn double<R: Wait>(&mut self, rt: &R) -> u64 {
+        let Room { mutex, token } = self;
+        double(rt, mutex, token)
+    }
+}
+
+fn double<R: Wait>(rt: &R, mutex: &Mutex<u64>, token: &mut Token) -> u64
+    requires { IsTokenOf (arc_value mutex.now.raw.lot) token.old }
+    ensures { IsTokenOf (arc_value mutex.now.raw.lot) token.new }
+{
+    let mut guard = mutex.lock(rt, token);
+    *guard = guard.wrapping_mul(2);
+    let value = *guard;
+    guard.unlock(rt, token);
+    value
+}
+
+#[test]
+fn a_mutex_stands_inside_another(rt: HostRuntime) -> Result<(), Fail> {
+    let (lot, mut token) = lone(rt.alloc())?;
+    let mutex = match Mutex::new(&lot, &mut token, Room::new(rt.alloc())?) {
+        Ok(mutex) => mutex,
+        Err((fault, _)) => return Err(Fail::from(fault)),
+    };
+    let mut guard = mutex.lock(&rt, &mut token);
+    assert_eq!(rt; guard.double(&rt), 2);
+    assert_eq!(rt; guard.double(&rt), 4);
+    guard.unlock(&rt, &mut token);
+    Ok(())
+}
+
+// Adds 1 under any raw mutex.
+fn add_one<M: lock_raw::RawMutex, R: Wait>(
+    rt: &R,
+    mutex: &lock_api::Mutex<M, u64>,
+    token: &mut M::Token,
+)
+    requires { M.is_token_of (M.lot_of mutex.now.raw) token.old }
+    ensures { M.is_token_of (M.lot_of mutex.now.raw) token.new }
+{
+    let mut guard = mutex.lock(rt, token);
+    *guard = guard.wrapping_add(1);
+    guard.unlock(rt, token);
+}
+
+fn add_many<R: Wait>(rt: &R, mutex: &Mutex<u64>, ticket: Ticket)
+    requires { IsTicketOf (arc_value mutex.now.raw.lot) ticket }
+{
+    let mut token = ticket.enter();
+    for _ in 0..TIMES {
+        add_one(rt, mutex, &mut token);
+    }
+    drop(token.leave());
+}
+
+// A mutex of 0 in a lot of seven threads, with the tickets of six of them.
+fn six_seats(alloc: Global) -> Result<(Mutex<u64>, Vec<Ticket>), Fault>
+    ensures { IfOk result (λ made. All (IsTicketOf (arc_value made.0.raw.lot)) made.1.items) }
+{
+    let (lot, mut tickets) = ParkingLot::new(alloc, 1, 7)?;
+    let Some(ticket) = tickets.pop() else {
+        return Err(Fault::NoMemory);
+    };
+    let mut token = ticket.enter();
+    match Mutex::new(&lot, &mut token, 0) {
+        Ok(mutex) => Ok((mutex, tickets)),
+        Err((fault, _)) => Err(fault),
+    }
+}
+
+// All threads of these tickets add under one mutex, and what it comes to.
+fn all_add<R: Threads + Wait + Sync>(
+    rt: &R,
+    mutex: Mutex<u64>,
+    tickets: Vec<Ticket>,
+) -> Result<u64, Fault>
+    requires { All (IsTicketOf (arc_value mutex.raw.lot)) tickets.items }
+{
+    let shared = &mutex;
+    let added = map_vec(
+        rt,
+        tickets,
+        &|ticket: Ticket|
+            requires { IsTicketOf (arc_value shared.now.raw.lot) ticket }
+        { add_many(rt, shared, ticket) },
+    );
+    if added.is_err() {
+        return Err(Fault::NoMemory);
+    }
+    Ok(mutex.into_inner())
+}
+
+#[test]
+fn six_threads_add_under_one_mutex(rt: HostRuntime) -> Result<(), Fail> {
+    let (mutex, tickets) = six_seats(rt.alloc())?;
+    assert_eq!(rt; tickets.len(), 6);
+    assert_eq!(rt; all_add(&rt, mutex, tickets)?, 6 * TIMES);
+    Ok(())
+}

@@ -1,0 +1,51 @@
+-- What the rule says, part by part.
+use Rattle.std.proofs.Common.{◌≡◌, ℕ, zero, suc, ◌<◌, ◌≤◌, List, [], ◌∷◌, cond, eqb, refl, arith}
+use mathlib.Core.Logic.{dite}
+use native.Mathlib.Decide.{ℕ_discrete}
+use Rattle.lot_words.specs.Places.{place}
+use Rattle.lot_words.specs.Views.{total, total_below, owned, counted, named}
+use Rattle.lot_words.specs.Codes.{everyone}
+use Rattle.lot_words.specs.RuleLaws.{DrawnOnce, NeverFalls, UntouchedIs0, ShownWasStepped, CountsAnOwner}
+use Rattle.lot_words.specs.declared.owners.Ownership.{Ownership}
+use Rattle.lot_words.specs.declared.views.View.{View}
+use Rattle.lot_words.specs.declared.words.WordKind.TheVariants.{Mutex}
+use Rattle.lot_words.proofs.Totals.{cond_same, cond_other}
+
+-- a number is counted once below any bound above it
+below_none : (n c : ℕ) → c ≤ n → total_below (λ k. cond (eqb k n) 1 0) c ≡ 0
+below_none n zero h = refl
+below_none n (suc c) h = omega (arith, below_none n c (omega arith), cond_other c n 1 (λ e. omega arith))
+
+below_once : (n c : ℕ) → n < c → total_below (λ k. cond (eqb k n) 1 0) c ≡ 1
+below_once n zero h = absurd (omega arith)
+below_once n (suc c) h = dite (ℕ_discrete c n)
+    (λ e. omega (arith, below_none n c (omega arith), cond_same c n 1 e))
+    (λ ne. omega (arith, below_once n c (omega arith), cond_other c n 1 ne))
+
+pub drawn_once : {S : Type 0} → DrawnOnce S
+drawn_once words s rule number = let all = rule.drawn (λ k. cond (eqb k number) 1 0) in let enough = rule.enough in
+    ((λ below. (omega (arith, below_once number _ below), omega arith)), λ above. omega (arith, below_none number _ above))
+
+pub never_falls : {S : Type 0} → NeverFalls S
+never_falls words s rule = rule.saw
+
+pub untouched_is_0 : {S : Type 0} → UntouchedIs0 S
+untouched_is_0 words s rule = rule.untouched
+
+pub shown_was_stepped : {S : Type 0} → ShownWasStepped S
+shown_was_stepped words s rule = rule.shows
+
+-- who isn't there says nothing
+no_count : (at : ℕ) (owns : List Ownership) → owned at everyone owns ≡ 0 → counted at owns ≡ 0
+no_count at [] none = refl
+no_count at (x ∷ xs) none = dite (ℕ_discrete x.at at)
+    (λ e. absurd (omega (arith, cond_same x.at at 1 e)))
+    (λ ne. omega (arith, cond_other x.at at 1 ne, cond_other x.at at x.count ne, no_count at xs (omega (arith, cond_other x.at at 1 ne))))
+
+no_counts : (at : ℕ) (views : List View) → named at everyone views ≡ 0 → total (λ (v : View). counted at v.owns) views ≡ 0
+no_counts at [] none = refl
+no_counts at (v ∷ vs) none = omega (arith, no_count at v.owns (omega arith), no_counts at vs (omega arith))
+
+pub counts_an_owner : {S : Type 0} → CountsAnOwner S
+counts_an_owner words s rule number below = let here = rule.counts number below in let same = here.1 in
+    (here.0, λ none. omega (arith, no_counts (place number Mutex) s.views none))

@@ -1,0 +1,113 @@
+-- Where a call goes on behind its first step, and what it has at its end.
+use Rattle.std.proofs.Common.{ℕ, ◌≡◌, Bool, true, false, List, ◌∷◌, ◌++◌, Option, None, inl, inr, if◌then◌else◌, not, sym, refl, ap, ◌∙◌, subst, arith, ne_eqb}
+use Rattle.lot_calls.specs.declared.calls.MutexCall.{MutexCall}
+use Rattle.lot_calls.specs.declared.calls.MutexCall.TheVariants as call
+use Rattle.lot_calls.specs.declared.outcomes.Answer.{Answer}
+use Rattle.lot_calls.specs.declared.outcomes.Answer.TheVariants.{Ok, Yes}
+use Rattle.lot_steps.specs.MutexSteps.{in_unlock, looked, entered, is_timed, is_parked}
+use Rattle.lot_steps.specs.Steps.{act_of, next_place, next_act, mutex_goes, mutex_does}
+use Rattle.lot_steps.specs.declared.acts.Act as act
+use Rattle.lot_steps.specs.declared.acts.Next as next
+use Rattle.lot_steps.specs.declared.acts.Reply.TheVariants.{Value}
+use Rattle.lot_steps.specs.declared.mutex.MutexPlace.{MutexPlace}
+use Rattle.lot_steps.specs.declared.mutex.MutexPlace.TheVariants as at_mutex
+use Rattle.lot_steps.specs.declared.mutex.hand_off.HandOffAt as hand_off
+use Rattle.lot_steps.specs.declared.mutex.lock.Entry.{Entry}
+use Rattle.lot_steps.specs.declared.mutex.lock.Entry as entry
+use Rattle.lot_steps.specs.declared.mutex.lock.LockAt as lock
+use Rattle.lot_steps.specs.declared.mutex.unlock.UnlockAt as unlock
+use Rattle.lot_steps.specs.declared.places.Place.{Place}
+use Rattle.lot_steps.specs.declared.places.Place.TheVariants.{Mutex}
+use Rattle.lot_words.specs.declared.owners.Ownership.{Ownership}
+use Rattle.lot_words.specs.declared.views.WordStep.{WordStep}
+use Rattle.parking_lot_core.specs.declared.tokens.Record.{Record}
+use Rattle.parking_lot.specs.Calls.{beginning, first_op, purpose_in, saw_waiter, GoesOn, Releases, TookIfParked}
+use Rattle.parking_lot.specs.Fitting.{enters, purpose_of, Fits, IsOver, Outside, TookAt, held, beside}
+use Rattle.parking_lot.specs.Paths.{mutex_at, step, Walks}
+use Rattle.parking_lot.specs.Stages.{Stage, stage}
+use Rattle.parking_lot.proofs.Paths.{goes_on, ends_at_once}
+
+-- the place behind the first step
+abbrev rest : MutexCall → MutexPlace
+rest call.Lock = at_mutex.Lock entry.TheVariants.Lock false lock.TheVariants.Load
+rest call.LockTimed = at_mutex.Lock entry.TheVariants.LockTimed false lock.TheVariants.Load
+rest call.TryLock = at_mutex.TryLock
+rest call.Unlock = at_mutex.Unlock unlock.TheVariants.Enter
+rest call.UnlockFair = at_mutex.HandOff false hand_off.TheVariants.Enter
+rest call.Bump = at_mutex.HandOff true hand_off.TheVariants.Enter
+
+-- the first step saw what ends the call
+abbrev pub EndsAt : MutexCall → ℕ → Type 0
+EndsAt call.Lock seen = seen ≡ 0
+EndsAt call.LockTimed seen = seen ≡ 0
+EndsAt call.TryLock seen = ⊥
+EndsAt call.Unlock seen = is_parked seen ≡ false
+EndsAt call.UnlockFair seen = seen ≡ 1
+EndsAt call.Bump seen = is_parked seen ≡ false
+
+abbrev pub success : MutexCall → Answer
+success call.LockTimed = Yes
+success _ = Ok
+
+module _ (n : ℕ) where
+  goes_to : (c : MutexCall) (seen : ℕ) (owns : List Ownership) → GoesOn n c seen owns → next_place (beginning n c) (Value seen) ≡ Mutex n (rest c)
+  goes_to call.Lock seen owns g = rw (ne_eqb seen 0 (λ z. omega arith)) refl
+  goes_to call.LockTimed seen owns g = rw (ne_eqb seen 0 (λ z. omega arith)) refl
+  goes_to call.TryLock seen owns g = absurd g
+  goes_to call.Unlock seen owns g = ap (λ (b : Bool). mutex_goes n (in_unlock (if b then next.TheVariants.At unlock.TheVariants.Enter else next.TheVariants.End Ok))) g
+  goes_to call.UnlockFair seen owns g = ap (λ (b : Bool). mutex_goes n (looked false (not b))) (ne_eqb seen 1 g.0)
+  goes_to call.Bump seen owns g = ap (λ (b : Bool). mutex_goes n (looked true b)) g.0
+
+  fits_there : (c : MutexCall) (seen : ℕ) (owns : List Ownership) (last : Option Record) → GoesOn n c seen owns → Fits n owns (Mutex n (rest c)) (stage owns None last)
+  fits_there call.Lock seen owns last g = (refl, (refl, refl))
+  fits_there call.LockTimed seen owns last g = (refl, (refl, refl))
+  fits_there call.TryLock seen owns last g = absurd g
+  fits_there call.Unlock seen owns last g = (refl, (refl, refl))
+  fits_there call.UnlockFair seen owns last g = (refl, (g.1, (refl, refl)))
+  fits_there call.Bump seen owns last g = (refl, (g.1, (refl, refl)))
+
+  same_purpose : (c : MutexCall) → purpose_of (Mutex n (rest c)) ≡ purpose_in c
+  same_purpose call.Lock = refl
+  same_purpose call.LockTimed = refl
+  same_purpose call.TryLock = refl
+  same_purpose call.Unlock = refl
+  same_purpose call.UnlockFair = refl
+  same_purpose call.Bump = refl
+
+  ends_with : (c : MutexCall) (seen : ℕ) → EndsAt c seen → next_act (beginning n c) (Value seen) ≡ act.TheVariants.End (success c)
+  ends_with call.Lock seen e = subst (λ (k : ℕ). next_act (beginning n call.Lock) (Value k) ≡ act.TheVariants.End Ok) (sym e) refl
+  ends_with call.LockTimed seen e = subst (λ (k : ℕ). next_act (beginning n call.LockTimed) (Value k) ≡ act.TheVariants.End Yes) (sym e) refl
+  ends_with call.TryLock seen e = absurd e
+  ends_with call.Unlock seen e = ap (λ (b : Bool). mutex_does n (in_unlock (if b then next.TheVariants.At unlock.TheVariants.Enter else next.TheVariants.End Ok))) e
+  ends_with call.UnlockFair seen e = subst (λ (k : ℕ). next_act (beginning n call.UnlockFair) (Value k) ≡ act.TheVariants.End Ok) (sym e) refl
+  ends_with call.Bump seen e = ap (λ (b : Bool). mutex_does n (looked true b)) e
+
+  begins_with : (c : MutexCall) → act_of (beginning n c) ≡ act.TheVariants.Word n (first_op c)
+  begins_with call.Lock = refl
+  begins_with call.LockTimed = refl
+  begins_with call.TryLock = refl
+  begins_with call.Unlock = refl
+  begins_with call.UnlockFair = refl
+  begins_with call.Bump = refl
+
+  -- the first step ends the call
+  pub path_at_once : (c : MutexCall) (seen : ℕ) (old new : List WordStep) → EndsAt c seen → new ≡ old ++ step (mutex_at n) (first_op c) seen → Walks (mutex_at n) (beginning n c) old new (success c)
+  path_at_once c seen old new e saw = ends_at_once (mutex_at n) (beginning n c) n (first_op c) seen old new (success c) (begins_with c) saw (ends_with c seen e)
+
+  -- a release that saw a waiter took it
+  pub releases_behind : (c : MutexCall) (seen : ℕ) (old mid new : List WordStep) (last : Option Record) → saw_waiter c seen ≡ true → mid ≡ old ++ step (mutex_at n) (first_op c) seen → (more : List WordStep) × (new ≡ mid ++ more) → TookAt n last → Releases n c old new last
+  releases_behind c seen old mid new last waits saw rest took = (seen, rest.0, rest.1 ∙ ap (λ (l : List WordStep). l ++ rest.0) saw, subst (λ (b : Bool). TookIfParked n b rest.0 last) (sym waits) took)
+
+  pub fits_behind : (c : MutexCall) (seen : ℕ) (owns : List Ownership) (last : Option Record) → GoesOn n c seen owns → Fits n owns (next_place (beginning n c) (Value seen)) (stage owns None last)
+  fits_behind c seen owns last g = subst (λ (p : Place). Fits n owns p (stage owns None last)) (sym (goes_to c seen owns g)) (fits_there c seen owns last g)
+
+  pub over_behind : (c : MutexCall) (seen : ℕ) (owns : List Ownership) (answer : Answer) (new : Stage) → GoesOn n c seen owns → IsOver n owns (purpose_of (next_place (beginning n c) (Value seen))) answer new → IsOver n owns (purpose_in c) answer new
+  over_behind c seen owns answer new g over = subst (λ purpose. IsOver n owns purpose answer new) (ap purpose_of (goes_to c seen owns g) ∙ same_purpose c) over
+
+  pub path_behind : (c : MutexCall) (seen : ℕ) (old mid new : List WordStep) (answer : Answer) → Walks (mutex_at n) (next_place (beginning n c) (Value seen)) mid new answer → mid ≡ old ++ step (mutex_at n) (first_op c) seen → Walks (mutex_at n) (beginning n c) old new answer
+  path_behind c seen old mid new answer rest saw = goes_on (mutex_at n) (beginning n c) n (first_op c) seen old mid new answer (begins_with c) saw rest
+
+  -- an untimed call has the mutex at its end
+  pub has_entered : (e : Entry) (base : List Ownership) (answer : Answer) (st : Stage) → is_timed e ≡ false → IsOver n base (enters e) answer st → (answer ≡ entered e) × Outside (held n ∷ beside n e base) st
+  has_entered e base answer st untimed (inl h) = (h.0, (h.1.0, h.1.1))
+  has_entered e base answer st untimed (inr h) = absurd cc

@@ -1,0 +1,196 @@
+-- Each act of a mutex's call is one that the thread may take, and leads to a place that fits.
+use Rattle.std.proofs.Common.{ℕ, ◌≡◌, ◌<◌, ◌*◌, Bool, true, false, List, ◌∷◌, Option, Some, None, inl, inr, sym, refl, ap, ◌∙◌, subst, arith}
+use Rattle.lot_base.specs.declared.keys.Keys.{Keys}
+use Rattle.lot_base.specs.declared.keys.Keys.TheVariants.{One}
+use Rattle.lot_base.specs.declared.notes.Note.TheVariants.{Normal, HandOff}
+use Rattle.lot_base.specs.declared.ops.Op.{Op}
+use Rattle.lot_base.specs.declared.ops.Op.TheVariants.{Load, And, Exchange}
+use Rattle.lot_steps.specs.MutexSteps.{lock_act, unlock_act, hand_off_act, decided, is_timed}
+use Rattle.lot_steps.specs.Steps.{act_of, late_key, spin_lock}
+use Rattle.lot_steps.specs.declared.acts.Act.{Act}
+use Rattle.lot_steps.specs.declared.acts.Act as act
+use Rattle.lot_steps.specs.declared.acts.Reply.{Reply}
+use Rattle.lot_steps.specs.declared.acts.Reply.TheVariants.{Done, Value, Spun, Parked, Took, Removed, Late, Woken}
+use Rattle.lot_steps.specs.declared.mutex.MutexPlace.TheVariants as at_mutex
+use Rattle.lot_steps.specs.declared.mutex.lock.Entry.{Entry}
+use Rattle.lot_steps.specs.declared.mutex.lock.Entry as entry
+use Rattle.lot_steps.specs.declared.mutex.lock.LockAt.{LockAt}
+use Rattle.lot_steps.specs.declared.mutex.lock.LockAt as lock
+use Rattle.lot_steps.specs.declared.mutex.unlock.UnlockAt.{UnlockAt}
+use Rattle.lot_steps.specs.declared.mutex.unlock.UnlockAt as unlock
+use Rattle.lot_steps.specs.declared.places.Place.{Place}
+use Rattle.lot_steps.specs.declared.places.Place.TheVariants.{Idle, Mutex}
+use Rattle.lot_words.specs.Views.{owning}
+use Rattle.lot_words.specs.declared.owners.Owner.{Owner}
+use Rattle.lot_words.specs.declared.owners.Ownership.{Ownership}
+use Rattle.lot_words.specs.declared.words.WordKind as kinds
+use Rattle.lot_words.proofs.MutexSteps.{mutex_steps, each_code}
+use Rattle.parking_lot.specs.Fitting.{MutexLeads, FitsLock, FitsUnlock, Fits, Reached, Within, Outside, beside, held}
+use Rattle.parking_lot.specs.Paths.{mutex_at}
+use Rattle.parking_lot.specs.Stages.{Stage, Inside, Needs, Became, HasKey, IsFresh, MayLeave, IsLeft, took, entered_now, stage, stepped}
+use Rattle.parking_lot.proofs.HandingOver.{hand_off_needs, hand_off_leads}
+
+-- a reply to an operation on the word, which saw one of the four codes
+pub word_reply : (n : ℕ) (st new : Stage) (P : Reply → Type 0) (late : Option ℕ) (l : ℕ) (op : Op) → ((seen : ℕ) → seen < 4 → new ≡ stepped kinds.TheVariants.Mutex (mutex_at n) op seen st → P (Value seen)) → (reply : Reply) → Became kinds.TheVariants.Mutex (mutex_at n) late st (act.TheVariants.Word l op) reply new → P reply
+word_reply n st new P late l op h (Value seen) b = h seen b.0.1.0 b.1
+word_reply n st new P late l op h reply b = absurd b
+
+module _ (n : ℕ) (base : List Ownership) (st : Stage) where
+  abbrev Can : Act → Type 0
+  Can = Needs kinds.TheVariants.Mutex (mutex_at n) st
+
+  decide_needs : (seen : ℕ) (owns : List Ownership) → seen < 4 → Outside owns st → Can (decided n seen)
+  decide_needs seen owns = each_code (λ s. Outside owns st → Can (decided n s))
+      (λ f. (mutex_steps (mutex_at n) st.owns).enter 0 (omega arith) refl) (λ f. (mutex_steps (mutex_at n) st.owns).set_parked)
+      (λ f. (mutex_steps (mutex_at n) st.owns).enter 2 (omega arith) refl) (λ f. (tt, f.1)) seen
+
+  -- a section in which nobody was taken is left
+  leaves : (owns : List Ownership) → Within n owns st → MayLeave Normal st.inside
+  leaves owns f = subst (MayLeave Normal) (sym f.1) (λ e. refl)
+
+  lock_needs : (e : Entry) (at : LockAt) → FitsLock n e (beside n e base) at st → Can (lock_act n at)
+  lock_needs e lock.TheVariants.First f = (mutex_steps (mutex_at n) st.owns).enter 0 (omega arith) refl
+  lock_needs e lock.TheVariants.Load f = (mutex_steps (mutex_at n) st.owns).load
+  lock_needs e (lock.TheVariants.Decide seen) f = decide_needs seen (beside n e base) f.0 f.1
+  lock_needs e lock.TheVariants.Check f = ((mutex_steps (mutex_at n) st.owns).load, subst (HasKey (2 * n)) (sym f.1) refl)
+  lock_needs e (lock.TheVariants.Leave parked) f = leaves (beside n e base) f
+  lock_needs e lock.TheVariants.Asleep f = f.1
+  lock_needs e lock.TheVariants.Accept f = tt
+  lock_needs e lock.TheVariants.Remove f = subst (HasKey (2 * n)) (sym f.1.1) refl
+  lock_needs e lock.TheVariants.Clear f = (mutex_steps (mutex_at n) st.owns).clear_parked
+  lock_needs e lock.TheVariants.GiveUp f = leaves (beside n e base) f.1
+  lock_needs e (lock.TheVariants.Taken by) f = absurd f
+  lock_needs e (lock.TheVariants.Handed by) f = absurd f
+
+  unlock_needs : (at : UnlockAt) → FitsUnlock n base at st → Can (unlock_act n at)
+  unlock_needs unlock.TheVariants.Subtract f = absurd f
+  unlock_needs unlock.TheVariants.Enter f = (tt, f.1)
+  unlock_needs unlock.TheVariants.Take f = (subst (HasKey (2 * n)) (sym f.1) refl, subst IsFresh (sym f.1) refl)
+  unlock_needs (unlock.TheVariants.Clear taken) f = (mutex_steps (mutex_at n) st.owns).clear_parked
+  unlock_needs (unlock.TheVariants.Leave None) f = subst (MayLeave Normal) (sym f.1) (λ e. refl)
+  unlock_needs (unlock.TheVariants.Leave (Some thread)) f = subst (MayLeave Normal) (sym f.1) (λ e. absurd cc)
+
+  -- what the place's act needs is there
+  pub needs : (p : Place) → Fits n base p st → Can (act_of p)
+  needs (Mutex l (at_mutex.Lock e retries at)) f = subst (λ l. Can (lock_act l at)) (sym f.0) (lock_needs e at f.1)
+  needs (Mutex l (at_mutex.Unlock at)) f = subst (λ l. Can (unlock_act l at)) (sym f.0) (unlock_needs at f.1)
+  needs (Mutex l (at_mutex.HandOff bumps at)) f = subst (λ l. Can (hand_off_act l at)) (sym f.0) (hand_off_needs n base st at f.1)
+  needs (Mutex l at) f = absurd f.1
+  needs Idle f = absurd f
+
+  module _ (new : Stage) where
+    owns_of : (s : Stage) → new ≡ s → new.owns ≡ s.owns
+    owns_of s e = ap (λ (x : Stage). x.owns) e
+
+    inside_of : (s : Stage) → new ≡ s → new.inside ≡ s.inside
+    inside_of s e = ap (λ (x : Stage). x.inside) e
+
+    -- it is where it was, after a step on the word that changes no owner
+    stays : (owns : List Ownership) (inside : Option Inside) (s : Stage) → new ≡ s → s.owns ≡ st.owns → s.inside ≡ st.inside → (st.owns ≡ owns) × (st.inside ≡ inside) → (new.owns ≡ owns) × (new.inside ≡ inside)
+    stays owns inside s e o i f = (owns_of s e ∙ o ∙ f.0, inside_of s e ∙ i ∙ f.1)
+
+    module _ (e : Entry) (retries : Bool) where
+      abbrev place : LockAt → Place
+      place at = Mutex n (at_mutex.Lock e retries at)
+
+      abbrev rest : List Ownership
+      rest = beside n e base
+
+      -- by the value that an operation saw
+      abbrev Saw : LockAt → Op → ℕ → Type 0
+      Saw at op seen = new ≡ stepped kinds.TheVariants.Mutex (mutex_at n) op seen st → Reached n base (place at) (Value seen) new
+
+      outside_still : Outside rest st → (s : Stage) → new ≡ s → s.owns ≡ st.owns → s.inside ≡ st.inside → Outside rest new
+      outside_still f s x o i = stays rest None s x o i f
+
+      has_it : Outside rest st → (s : Stage) → new ≡ s → s.owns ≡ held n ∷ st.owns → s.inside ≡ st.inside → Outside (held n ∷ rest) new
+      has_it f s x o i = (owns_of s x ∙ o ∙ ap (λ (o : List Ownership). held n ∷ o) f.0, inside_of s x ∙ i ∙ f.1)
+
+      from_first : Outside rest st → (seen : ℕ) → seen < 4 → Saw lock.TheVariants.First (Exchange 0 1) seen
+      from_first f = each_code (Saw lock.TheVariants.First (Exchange 0 1))
+          (λ x. inl (refl, has_it f _ x refl refl)) (λ x. ((refl, outside_still f _ x refl refl), refl)) (λ x. ((refl, outside_still f _ x refl refl), refl)) (λ x. ((refl, outside_still f _ x refl refl), refl))
+
+      from_load : Outside rest st → (seen : ℕ) → seen < 4 → Saw lock.TheVariants.Load Load seen
+      from_load f = each_code (Saw lock.TheVariants.Load Load)
+          (λ x. ((refl, (omega arith, outside_still f _ x refl refl)), refl)) (λ x. ((refl, (omega arith, outside_still f _ x refl refl)), refl))
+          (λ x. ((refl, (omega arith, outside_still f _ x refl refl)), refl)) (λ x. ((refl, (omega arith, outside_still f _ x refl refl)), refl))
+
+      gives_up : (e : Entry) (owns : List Ownership) → Outside owns st → (key : ℕ) → late_key (Mutex n (at_mutex.Lock e retries lock.TheVariants.Asleep)) ≡ Some key → new ≡ stage st.owns (entered_now (One key)) st.last → FitsLock n e owns lock.TheVariants.Remove new
+      gives_up entry.TheVariants.LockTimed owns f key can x = let k : key ≡ 2 * n = cc in (refl, (owns_of _ x ∙ f.0, inside_of _ x ∙ ap (λ (k : ℕ). entered_now (One k)) k))
+      gives_up entry.TheVariants.Lock owns f key can x = absurd cc
+      gives_up entry.TheVariants.Bump owns f key can x = absurd cc
+
+      saw_parked : Outside rest st → (seen : ℕ) → seen < 4 → Saw (lock.TheVariants.Decide 1) (Exchange 1 3) seen
+      saw_parked f = each_code (Saw (lock.TheVariants.Decide 1) (Exchange 1 3))
+          (λ x. ((refl, (omega arith, outside_still f _ x refl refl)), refl)) (λ x. ((refl, (omega arith, outside_still f _ x refl refl)), refl))
+          (λ x. ((refl, (omega arith, outside_still f _ x refl refl)), refl)) (λ x. ((refl, (omega arith, outside_still f _ x refl refl)), refl))
+
+      enters_0 : Outside rest st → (seen : ℕ) → seen < 4 → Saw (lock.TheVariants.Decide 0) (Exchange 0 1) seen
+      enters_0 f = each_code (Saw (lock.TheVariants.Decide 0) (Exchange 0 1))
+          (λ x. inl (refl, has_it f _ x refl refl)) (λ x. ((refl, (omega arith, outside_still f _ x refl refl)), refl))
+          (λ x. ((refl, (omega arith, outside_still f _ x refl refl)), refl)) (λ x. ((refl, (omega arith, outside_still f _ x refl refl)), refl))
+
+      enters_2 : Outside rest st → (seen : ℕ) → seen < 4 → Saw (lock.TheVariants.Decide 2) (Exchange 2 3) seen
+      enters_2 f = each_code (Saw (lock.TheVariants.Decide 2) (Exchange 2 3))
+          (λ x. ((refl, (omega arith, outside_still f _ x refl refl)), refl)) (λ x. ((refl, (omega arith, outside_still f _ x refl refl)), refl))
+          (λ x. inl (refl, has_it f _ x refl refl)) (λ x. ((refl, (omega arith, outside_still f _ x refl refl)), refl))
+
+      clears : (is_timed e ≡ true) × Within n rest st → (seen : ℕ) → seen < 4 → Saw lock.TheVariants.Clear (And 18446744073709551613) seen
+      clears f = each_code (Saw lock.TheVariants.Clear (And 18446744073709551613))
+          (λ x. ((refl, (f.0, stays rest _ _ x refl refl f.1)), refl)) (λ x. ((refl, (f.0, stays rest _ _ x refl refl f.1)), refl))
+          (λ x. ((refl, (f.0, stays rest _ _ x refl refl f.1)), refl)) (λ x. ((refl, (f.0, stays rest _ _ x refl refl f.1)), refl))
+
+      checks : Within n rest st → (seen : ℕ) → seen < 4 → new ≡ stepped kinds.TheVariants.Mutex (mutex_at n) Load seen st → Within n rest new
+      checks f = each_code (λ s. new ≡ stepped kinds.TheVariants.Mutex (mutex_at n) Load s st → Within n rest new)
+          (λ x. stays rest _ _ x refl refl f) (λ x. stays rest _ _ x refl refl f) (λ x. stays rest _ _ x refl refl f) (λ x. stays rest _ _ x refl refl f)
+
+      enter_reply : (P : Reply → Type 0) (keys : Keys) → (new ≡ stage st.owns (entered_now keys) st.last → P Done) → (reply : Reply) → Became kinds.TheVariants.Mutex (mutex_at n) None st (act.TheVariants.Enter keys) reply new → P reply
+      enter_reply P keys h Done b = h b
+      enter_reply P keys h reply b = absurd b
+
+      decides : (seen : ℕ) → seen < 4 → Outside rest st → (reply : Reply) → Became kinds.TheVariants.Mutex (mutex_at n) None st (decided n seen) reply new → Reached n base (place (lock.TheVariants.Decide seen)) reply new
+      decides = each_code (λ s. Outside rest st → (reply : Reply) → Became kinds.TheVariants.Mutex (mutex_at n) None st (decided n s) reply new → Reached n base (place (lock.TheVariants.Decide s)) reply new)
+          (λ f. word_reply n st new (λ r. Reached n base (place (lock.TheVariants.Decide 0)) r new) None n (Exchange 0 1) (enters_0 f))
+          (λ f. word_reply n st new (λ r. Reached n base (place (lock.TheVariants.Decide 1)) r new) None n (Exchange 1 3) (saw_parked f))
+          (λ f. word_reply n st new (λ r. Reached n base (place (lock.TheVariants.Decide 2)) r new) None n (Exchange 2 3) (enters_2 f))
+          (λ f. enter_reply (λ r. Reached n base (place (lock.TheVariants.Decide 3)) r new) (One (2 * n)) (λ x. ((refl, (owns_of _ x ∙ f.0, inside_of _ x)), refl)))
+
+      lock_leads : (at : LockAt) → FitsLock n e rest at st → (reply : Reply) → Became kinds.TheVariants.Mutex (mutex_at n) (late_key (place at)) st (lock_act n at) reply new → Reached n base (place at) reply new
+      lock_leads lock.TheVariants.First f (Value seen) b = from_first f seen b.0.1.0 b.1
+      lock_leads lock.TheVariants.Load f (Value seen) b = from_load f seen b.0.1.0 b.1
+      lock_leads (lock.TheVariants.Decide seen) f reply b = decides seen f.0 f.1 reply b
+      lock_leads lock.TheVariants.Check f (Parked parked) b = let w = checks f b.0 b.2.1.0 b.3 in ((refl, w), refl)
+      lock_leads (lock.TheVariants.Leave true) f Done b = ((refl, (b.0 ∙ f.0, b.1)), refl)
+      lock_leads (lock.TheVariants.Leave false) f Done b = ((refl, (b.0 ∙ f.0, b.1)), refl)
+      lock_leads lock.TheVariants.Asleep f (Woken Normal) b = ((refl, (b.0 ∙ f.0, b.1 ∙ f.1)), refl)
+      lock_leads lock.TheVariants.Asleep f (Woken HandOff) b = ((refl, has_it f _ (b.2 ∙ ap (λ (o : Owner). stage (owning (mutex_at n) o ∷ st.owns) st.inside st.last) b.1) refl refl), refl)
+      lock_leads lock.TheVariants.Asleep f Late b = ((refl, gives_up e rest f b.0 b.1 b.2), refl)
+      lock_leads lock.TheVariants.Remove f (Removed true) b = ((refl, (f.0, stays rest _ _ b refl refl f.1)), refl)
+      lock_leads lock.TheVariants.Remove f (Removed false) b = ((refl, (f.0, stays rest _ _ b refl refl f.1)), refl)
+      lock_leads lock.TheVariants.Clear f (Value seen) b = clears f seen b.0.1.0 b.1
+      lock_leads lock.TheVariants.GiveUp f Done b = inr (refl, f.0, (b.0 ∙ f.1.0, b.1))
+      lock_leads lock.TheVariants.Accept f Done b = inl (refl, (owns_of _ b ∙ f.0, inside_of _ b ∙ f.1))
+      lock_leads (lock.TheVariants.Taken by) f reply b = absurd f
+      lock_leads (lock.TheVariants.Handed by) f reply b = absurd f
+      lock_leads at f reply b = absurd b
+
+    -- a release behind its subtraction
+    unlock_leads : (at : UnlockAt) → FitsUnlock n base at st → (reply : Reply) → Became kinds.TheVariants.Mutex (mutex_at n) None st (unlock_act n at) reply new → Reached n base (Mutex n (at_mutex.Unlock at)) reply new
+    unlock_leads unlock.TheVariants.Subtract f reply b = absurd f
+    unlock_leads unlock.TheVariants.Enter f Done b = ((refl, (owns_of _ b ∙ f.0, inside_of _ b)), refl)
+    unlock_leads unlock.TheVariants.Take f (Took first true) b = ((refl, (owns_of _ b ∙ f.0, inside_of _ b ∙ ap (took (2 * n) first) f.1)), refl)
+    unlock_leads unlock.TheVariants.Take f (Took first false) b = ((refl, (owns_of _ b ∙ f.0, inside_of _ b ∙ ap (took (2 * n) first) f.1)), refl)
+    unlock_leads (unlock.TheVariants.Clear taken) f (Value seen) b = each_code (λ s. new ≡ stepped kinds.TheVariants.Mutex (mutex_at n) (And 18446744073709551613) s st → Reached n base (Mutex n (at_mutex.Unlock (unlock.TheVariants.Clear taken))) (Value s) new)
+        (λ x. ((refl, stays base _ _ x refl refl f), refl)) (λ x. ((refl, stays base _ _ x refl refl f), refl)) (λ x. ((refl, stays base _ _ x refl refl f), refl)) (λ x. ((refl, stays base _ _ x refl refl f), refl)) seen b.0.1.0 b.1
+    unlock_leads (unlock.TheVariants.Leave taken) f Done b = (refl, (b.0 ∙ f.0, b.1), subst (λ (i : Option Inside). IsLeft i new.last) f.1 b.2)
+    unlock_leads at f reply b = absurd b
+
+    leads : (p : Place) → Fits n base p st → (reply : Reply) → Became kinds.TheVariants.Mutex (mutex_at n) (late_key p) st (act_of p) reply new → Reached n base p reply new
+    leads (Mutex l (at_mutex.Lock e retries at)) f = subst (λ l. (reply : Reply) → Became kinds.TheVariants.Mutex (mutex_at n) (late_key (Mutex l (at_mutex.Lock e retries at))) st (lock_act l at) reply new → Reached n base (Mutex l (at_mutex.Lock e retries at)) reply new) (sym f.0) (lock_leads e retries at f.1)
+    leads (Mutex l (at_mutex.Unlock at)) f = subst (λ l. (reply : Reply) → Became kinds.TheVariants.Mutex (mutex_at n) None st (unlock_act l at) reply new → Reached n base (Mutex l (at_mutex.Unlock at)) reply new) (sym f.0) (unlock_leads at f.1)
+    leads (Mutex l (at_mutex.HandOff bumps at)) f = subst (λ l. (reply : Reply) → Became kinds.TheVariants.Mutex (mutex_at n) None st (hand_off_act l at) reply new → Reached n base (Mutex l (at_mutex.HandOff bumps at)) reply new) (sym f.0) (hand_off_leads n base st new bumps at f.1)
+    leads (Mutex l at) f = absurd f.1
+    leads Idle f = absurd f
+
+pub mutex_leads : MutexLeads
+mutex_leads n base p st f = (needs n base st p f, λ reply new. leads n base st new p f reply)

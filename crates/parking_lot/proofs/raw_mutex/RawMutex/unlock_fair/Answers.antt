@@ -1,0 +1,18 @@
+use Rattle.std.proofs.Common.{◌≡◌, ◌≢◌, ◌∙◌, ◌++◌, not, ap, rules, ne_eqb}
+use Rattle.lot_calls.specs.declared.calls.MutexCall.TheVariants.{UnlockFair}
+use Rattle.lot_words.specs.declared.views.View.{View}
+use Rattle.parking_lot_core.specs.Tokens.{view_of, last_of}
+use Rattle.lot_base.specs.declared.ops.Op.TheVariants.{Exchange}
+use Rattle.parking_lot.specs.Paths.{mutex_at, step}
+use Rattle.parking_lot.proofs.Behind.{path_at_once, releases_behind}
+use Rattle.parking_lot.proofs.raw_mutex.RawMutex.unlock_fair.Goals as goal
+
+pub returns-then-seen-ne-LOCKED-clause-took : goal.returns-then-seen-ne-LOCKED-clause-took
+returns-then-seen-ne-LOCKED-clause-took g c = let ne : c.step-seen.result ≢ 1 = search rules in let over = c.behind.ensures.over in
+    let added = ap (λ (v : View). v.steps) c.step-seen.ensures.stepped ∙ ap (λ (v : View). v.steps ++ step (mutex_at c.args.self.now.word.number) (Exchange 1 0) c.step-seen.result) c.join_right.ensures.joined in
+    releases_behind c.args.self.now.word.number UnlockFair c.step-seen.result (view_of c.args.token.now).steps (view_of c.step-seen.new.token).steps (view_of c.behind.new.token).steps (last_of c.behind.new.token) (ap not (ne_eqb c.step-seen.result 1 ne)) added c.behind.ensures.rest over.2
+
+pub returns-else-seen-ne-LOCKED-clause-path : goal.returns-else-seen-ne-LOCKED-clause-path
+returns-else-seen-ne-LOCKED-clause-path g c = let one : c.step-seen.result ≡ 1 = search rules in
+    let added = ap (λ (v : View). v.steps) c.step-seen.ensures.stepped ∙ ap (λ (v : View). v.steps ++ step (mutex_at c.args.self.now.word.number) (Exchange 1 0) c.step-seen.result) c.join_right.ensures.joined in
+    path_at_once c.args.self.now.word.number UnlockFair c.step-seen.result (view_of c.args.token.now).steps (view_of c.step-seen.new.token).steps one added

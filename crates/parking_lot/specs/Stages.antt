@@ -1,0 +1,165 @@
+-- What a thread has between two acts of a call, and what each act needs and changes, whatever the lock is.
+use Rattle.std.specs.Prelude.{ℕ, ◌≡◌, ◌++◌, ◌==◌, not, Contains, List, [], ◌∷◌, Option, Some, None, true}
+use Rattle.std.specs.List.{filter}
+use Rattle.lot_base.specs.declared.keys.Keys.{Keys}
+use Rattle.lot_base.specs.declared.keys.Keys.TheVariants.{One}
+use Rattle.lot_base.specs.declared.notes.Note.{Note}
+use Rattle.lot_base.specs.declared.notes.Note.TheVariants.{Normal, HandOff}
+use Rattle.lot_base.specs.declared.ops.Op.{Op}
+use Rattle.lot_base.specs.declared.ops.Op.TheVariants.{Load}
+use Rattle.lot_base.specs.declared.wants.Waiter.{Waiter}
+use Rattle.lot_base.specs.declared.wants.Want as wants
+use Rattle.lot_words.specs.Rights.{MayHand}
+use Rattle.lot_words.specs.Views.{owning}
+use Rattle.lot_words.specs.Steps.{MayStep, CodesWith, owns_after, has, trade, without}
+use Rattle.lot_words.specs.declared.owners.Owner.{Owner}
+use Rattle.lot_words.specs.declared.owners.Owner.TheVariants.{Exclusive}
+use Rattle.lot_words.specs.declared.owners.Ownership.{Ownership}
+use Rattle.lot_words.specs.declared.views.WordStep.{WordStep}
+use Rattle.lot_words.specs.declared.words.WordKind.{WordKind}
+use Rattle.lot_steps.specs.Acts.{holds}
+use Rattle.lot_steps.specs.declared.acts.Act.{Act}
+use Rattle.lot_steps.specs.declared.acts.Act as act
+use Rattle.lot_steps.specs.declared.acts.Reply.{Reply}
+use Rattle.lot_steps.specs.declared.acts.Reply.TheVariants.{Done, Value, Parked, Took, Removed, Late, Woken}
+use Rattle.lot_steps.specs.declared.acts.Wakes.{Wakes}
+use Rattle.lot_steps.specs.declared.acts.Wakes as wakes
+use Rattle.parking_lot_core.specs.Keys.{AreKeys, IsKeyOf, first_key}
+use Rattle.parking_lot_core.specs.Sections.{waiting_in, taken_in, rightless_in}
+use Rattle.parking_lot_core.specs.Tokens.{view_of, last_of}
+use Rattle.parking_lot_core.specs.declared.lot.ParkingLot.{ParkingLot}
+use Rattle.parking_lot_core.specs.declared.sections.Section.{Section}
+use Rattle.parking_lot_core.specs.declared.tokens.Did.{Did}
+use Rattle.parking_lot_core.specs.declared.tokens.Did.TheVariants.{Nothing, TakeFirst}
+use Rattle.parking_lot_core.specs.declared.tokens.Record.{Record}
+use Rattle.parking_lot_core.specs.declared.tokens.Token.{Token}
+use Rattle.parking_lot.specs.Paths.{step}
+
+-- a section that a thread is inside: what it did there, whom it took, and which of them have no right yet
+pub record Inside : Type 0 where
+  pub keys : Keys
+  pub did : Did
+  pub taken : List ℕ
+  pub rightless : List ℕ
+
+pub record Stage : Type 0 where
+  pub owns : List Ownership
+  pub inside : Option Inside
+  pub last : Option Record
+
+abbrev pub stage : List Ownership → Option Inside → Option Record → Stage
+stage owns inside last = record { owns = owns; inside = inside; last = last }
+
+abbrev pub inside_of : Option Section → Option Inside
+inside_of None = None
+inside_of (Some section) = Some (record { keys = section.keys; did = section.did; taken = taken_in section; rightless = rightless_in section })
+
+-- who stands in the queues of a section
+abbrev pub waiting_of : Option Section → List Waiter
+waiting_of None = []
+waiting_of (Some section) = waiting_in section
+
+abbrev pub stage_of : Token → Option Section → Stage
+stage_of token section = stage (view_of token).owns (inside_of section) (last_of token)
+
+-- the section that a thread is inside, if any, is one of the lot
+abbrev pub IsIn : ParkingLot → Option Section → Type 0
+IsIn lot None = Unit {0}
+IsIn lot (Some section) = section.lot.now ≡ lot
+
+-- one in which nothing was done
+abbrev pub entered_now : Keys → Option Inside
+entered_now keys = Some (record { keys = keys; did = Nothing; taken = []; rightless = [] })
+
+abbrev pub listed : Option ℕ → List ℕ
+listed None = []
+listed (Some thread) = thread ∷ []
+
+-- the first of a queue was taken, if it had one
+abbrev pub took : ℕ → Option ℕ → Option Inside → Option Inside
+took key first None = None
+took key first (Some inside) = Some (record { keys = inside.keys; did = TakeFirst key; taken = listed first; rightless = listed first })
+
+-- one of those who were taken was given a right
+abbrev pub gave : ℕ → Option Inside → Option Inside
+gave thread None = None
+gave thread (Some inside) = Some (record inside { rightless = filter (λ x. not (x == thread)) inside.rightless })
+
+abbrev pub note_of : Wakes → Note
+note_of wakes.TheVariants.Nobody = Normal
+note_of (wakes.TheVariants.One thread note) = note
+
+-- inside a section of this key
+abbrev pub HasKey : ℕ → Option Inside → Type 0
+HasKey key None = ⊥
+HasKey key (Some inside) = IsKeyOf inside.keys key
+
+-- inside one where nothing was done
+abbrev pub IsFresh : Option Inside → Type 0
+IsFresh None = ⊥
+IsFresh (Some inside) = inside.did ≡ Nothing
+
+abbrev pub HasTaken : ℕ → Option Inside → Type 0
+HasTaken thread None = ⊥
+HasTaken thread (Some inside) = Contains inside.taken thread
+
+-- inside one that may be left with the note: each who is handed something was given a right
+abbrev pub MayLeave : Note → Option Inside → Type 0
+MayLeave note None = ⊥
+MayLeave note (Some inside) = note ≡ HandOff → inside.rightless ≡ []
+
+-- what is owned after a step on a word that saw this
+abbrev pub left_with : WordKind → ℕ → Op → ℕ → List Ownership → List Ownership
+left_with kind at op seen owns = owns_after at (trade kind at op seen owns) owns
+
+-- a step that leaves the word owned alone by who takes it, whatever it finds
+abbrev pub KeepsIt : WordKind → ℕ → Op → List Ownership → Type 0
+KeepsIt kind at op owns = (seen : ℕ) → CodesWith kind at seen owns → has (owning at Exclusive) (left_with kind at op seen owns) ≡ true
+
+-- what an act needs of the stage
+abbrev pub Needs : WordKind → ℕ → Stage → Act → Type 0
+Needs kind at st (act.TheVariants.Word lock op) = MayStep kind at op st.owns
+Needs kind at st (act.TheVariants.HandOver lock op to) = MayStep kind at op st.owns × KeepsIt kind at op st.owns × HasTaken to st.inside
+Needs kind at st (act.TheVariants.Enter keys) = AreKeys keys × (st.inside ≡ None)
+Needs kind at st (act.TheVariants.Park lock key check _) = MayStep kind at Load st.owns × HasKey key st.inside
+Needs kind at st (act.TheVariants.TakeFirst key) = HasKey key st.inside × IsFresh st.inside
+Needs kind at st (act.TheVariants.Remove key) = HasKey key st.inside
+Needs kind at st (act.TheVariants.Leave keys wakes) = MayLeave (note_of wakes) st.inside
+Needs kind at st act.TheVariants.Sleep = st.inside ≡ None
+Needs kind at st act.TheVariants.Accept = Unit {0}
+Needs kind at st _ = ⊥
+
+-- after a step on a word
+abbrev pub stepped : WordKind → ℕ → Op → ℕ → Stage → Stage
+stepped kind at op seen st = stage (left_with kind at op seen st.owns) st.inside None
+
+-- after one with which the lock goes to a thread that was taken
+abbrev pub handed : WordKind → ℕ → Op → ℕ → ℕ → Stage → Stage
+handed kind at op to seen st = stage (without (owning at Exclusive) (left_with kind at op seen st.owns)) (gave to st.inside) None
+
+-- what a section that is left leaves behind
+abbrev pub IsLeft : Option Inside → Option Record → Type 0
+IsLeft None last = ⊥
+IsLeft (Some inside) last = (number : ℕ) × (last ≡ Some (record { key = first_key inside.keys; did = inside.did; number = number }))
+
+-- what an act made of the stage, by its reply. A sleeper may be late under one key only, if any
+abbrev pub Became : WordKind → ℕ → Option ℕ → Stage → Act → Reply → Stage → Type 0
+Became kind at late st (act.TheVariants.Word lock op) (Value seen) new = CodesWith kind at seen st.owns × (new ≡ stepped kind at op seen st)
+Became kind at late st (act.TheVariants.HandOver lock op to) (Value seen) new = CodesWith kind at seen st.owns × (new ≡ handed kind at op to seen st)
+Became kind at late st (act.TheVariants.Enter keys) Done new = new ≡ stage st.owns (entered_now keys) st.last
+Became kind at late st (act.TheVariants.Park lock key check _) (Parked parked) new = (seen : ℕ) × (parked ≡ holds check seen) × CodesWith kind at seen st.owns × (new ≡ stepped kind at Load seen st)
+Became kind at late st (act.TheVariants.TakeFirst key) (Took first none_left) new = new ≡ stage st.owns (took key first st.inside) st.last
+Became kind at late st (act.TheVariants.Remove key) (Removed none_left) new = new ≡ st
+Became kind at late st (act.TheVariants.Leave keys wakes) Done new = (new.owns ≡ st.owns) × (new.inside ≡ None) × IsLeft st.inside new.last
+Became kind at late st act.TheVariants.Sleep (Woken Normal) new = (new.owns ≡ st.owns) × (new.inside ≡ st.inside)
+Became kind at late st act.TheVariants.Sleep (Woken HandOff) new = (owner : Owner) × MayHand kind wants.TheVariants.Exclusive owner × (new ≡ stage (owning at owner ∷ st.owns) st.inside st.last)
+Became kind at late st act.TheVariants.Sleep Late new = (key : ℕ) × (late ≡ Some key) × (new ≡ stage st.owns (entered_now (One key)) st.last)
+Became kind at late st act.TheVariants.Accept Done new = new ≡ st
+Became kind at late st _ _ new = ⊥
+
+-- the steps on words that an act adds
+abbrev pub Adds : ℕ → Act → Reply → List WordStep → List WordStep → Type 0
+Adds at (act.TheVariants.Word lock op) (Value seen) old new = new ≡ old ++ step at op seen
+Adds at (act.TheVariants.HandOver lock op to) (Value seen) old new = new ≡ old ++ step at op seen
+Adds at (act.TheVariants.Park lock key check _) (Parked parked) old new = (seen : ℕ) × (parked ≡ holds check seen) × (new ≡ old ++ step at Load seen)
+Adds at _ _ old new = new ≡ old

@@ -1,0 +1,212 @@
+//! What a thread does in one act of any call, whatever the lock is.
+ghost use Rattle.std.specs.Prelude.{◌≡◌, ◌++◌, ◌∷◌, ◌==◌, ℕ, [], true, None, length, MatchBool};
+ghost use Rattle.lot_base.specs.Lines.{waiter, line, lines, without, without_first, first_of};
+ghost use Rattle.lot_base.specs.declared.notes.Note.TheVariants.{HandOff};
+ghost use Rattle.lot_base.specs.declared.ops.Op.TheVariants.{Load};
+ghost use Rattle.lot_steps.specs.Acts.{holds};
+ghost use Rattle.lot_steps.specs.declared.acts.Act.TheVariants as acts;
+ghost use Rattle.lot_steps.specs.declared.acts.Reply.TheVariants.{Value};
+ghost use Rattle.lot_words.specs.Lots.{IsWordOf};
+ghost use Rattle.lot_words.specs.Places.{place};
+ghost use Rattle.lot_words.specs.Steps.{MayStep, CodesWith, after_step};
+ghost use Rattle.parking_lot_core.specs.Tokens.{IsTokenOf, Stays, view_of, last_of};
+ghost use Rattle.parking_lot.specs.Stages.{Adds, HasKey, HasTaken, IsFresh, MayLeave, KeepsIt, IsIn, IsLeft, took, handed, note_of, inside_of, stage_of, waiting_of, Needs, Became};
+
+use lot_steps::{Act, Check, Reply, Wakes};
+use parking_lot_core::{Clock, Key, Note, Op, ParkingLot, Section, Slept, Token, Want, Word};
+use std::sync::Wait;
+
+fn note_of(wakes: Wakes) -> Note
+    ensures { result ≡ note_of wakes }
+{
+    match wakes {
+        Wakes::Nobody => Note::Normal,
+        Wakes::One { thread: _, note } => note,
+    }
+}
+
+// Loads the word inside the section, and where the check holds stands behind the last of the queue.
+fn park(
+    lot: &ParkingLot,
+    token: &mut Token,
+    word: Word,
+    section: &mut Option<Section>,
+    key: Key,
+    check: Check,
+    want: Want,
+) -> bool
+    requires own { IsTokenOf lot.now token.old × IsWordOf lot.now.words word × IsIn lot.now section.old }
+    requires needs { MayStep word.kind (place word.number word.kind) Load (view_of token.old).owns × HasKey key (inside_of section.old) }
+    ensures own { Stays lot.now token.old token.new × (last_of token.new ≡ None) }
+    ensures same { IsIn lot.now section.new × (inside_of section.new ≡ inside_of section.old) }
+    ensures stepped { (seen : ℕ) × (result ≡ holds check seen) × CodesWith word.kind (place word.number word.kind) seen (view_of token.old).owns × (view_of token.new ≡ after_step word.kind (place word.number word.kind) Load seen (view_of token.old)) }
+    ensures stands { MatchBool result (lines (waiting_of section.new) ≡ lines (without token.old.number (waiting_of section.old) ++ waiter key token.old.number want ∷ [])) (waiting_of section.new ≡ waiting_of section.old) }
+{
+    match section {
+        Some(inside) => {
+            let parked = check.holds(lot.word(token, word, Op::Load));
+            if parked {
+                inside.append(key, token.number(), want);
+            }
+            parked
+        }
+        None => unreachable!(),
+    }
+}
+
+// The one that it took, and whether none is left.
+fn take_first(_lot: &ParkingLot, section: &mut Option<Section>, key: Key) -> (Option<usize>, bool)
+    requires { IsIn _lot.now section.old × HasKey key (inside_of section.old) × IsFresh (inside_of section.old) }
+    ensures did { IsIn _lot.now section.new × (inside_of section.new ≡ took key result.0 (inside_of section.old)) }
+    ensures first { result.0 ≡ first_of (line key (waiting_of section.old)) }
+    ensures left { (lines (waiting_of section.new) ≡ lines (without_first key (waiting_of section.old))) × (result.1 ≡ (length (line key (waiting_of section.new)) == 0)) }
+{
+    match section {
+        Some(inside) => {
+            let first = inside.take_first(key);
+            (first, inside.count(key) == 0)
+        }
+        None => unreachable!(),
+    }
+}
+
+// One step on the word, with which the lock goes to a thread that was taken. The right to it is laid in that thread's record.
+fn hand_over<R: Wait>(
+    rt: &R,
+    lot: &ParkingLot,
+    token: &mut Token,
+    word: Word,
+    section: &mut Option<Section>,
+    op: Op,
+    to: usize,
+) -> u64
+    requires own { IsTokenOf lot.now token.old × IsWordOf lot.now.words word × IsIn lot.now section.old }
+    requires needs { MayStep word.kind (place word.number word.kind) op (view_of token.old).owns × KeepsIt word.kind (place word.number word.kind) op (view_of token.old).owns }
+    requires taken { HasTaken to (inside_of section.old) }
+    ensures own { Stays lot.now token.old token.new × IsIn lot.now section.new }
+    ensures became { CodesWith word.kind (place word.number word.kind) result (view_of token.old).owns × (stage_of token.new section.new ≡ handed word.kind (place word.number word.kind) op to result (stage_of token.old section.old)) }
+    ensures adds { Adds (place word.number word.kind) (acts.HandOver 0 op to) (Value result) (view_of token.old).steps (view_of token.new).steps }
+{
+    match section {
+        Some(inside) => {
+            let seen = lot.word(token, word, op);
+            inside.give(rt, to, lot.split_right(token, word, Want::Exclusive));
+            seen
+        }
+        None => unreachable!(),
+    }
+}
+
+// The thread leaves the queue. Whether none is left there.
+fn remove(_lot: &ParkingLot, section: &mut Option<Section>, key: Key, thread: usize) -> bool
+    requires { IsIn _lot.now section.old × HasKey key (inside_of section.old) }
+    ensures same { IsIn _lot.now section.new × (inside_of section.new ≡ inside_of section.old) }
+    ensures left { (lines (waiting_of section.new) ≡ lines (without thread (waiting_of section.old))) × (result ≡ (length (line key (waiting_of section.new)) == 0)) }
+{
+    match section {
+        Some(inside) => {
+            inside.remove(thread);
+            inside.count(key) == 0
+        }
+        None => unreachable!(),
+    }
+}
+
+fn leave<R: Wait>(
+    rt: &R,
+    lot: &ParkingLot,
+    token: &mut Token,
+    section: &mut Option<Section>,
+    note: Note,
+)
+    requires { IsTokenOf lot.now token.old × IsIn lot.now section.old × MayLeave note (inside_of section.old) }
+    ensures own { Stays lot.now token.old token.new × (view_of token.new ≡ view_of token.old) }
+    ensures left { (inside_of section.new ≡ None) × IsIn lot.now section.new × IsLeft (inside_of section.old) (last_of token.new) }
+{
+    match section.take() {
+        Some(inside) => inside.leave(rt, token, note),
+        None => unreachable!(),
+    }
+}
+
+// Sleeps until another thread has taken this one, or its time is up. What was handed over is the token's then.
+fn sleep<'a, R: Wait, C: Clock>(
+    rt: &R,
+    lot: &'a ParkingLot,
+    token: &mut Token,
+    word: Word,
+    limit: Option<(&C, u64)>,
+    late: Option<Key>,
+    section: &mut Option<Section<'a>>,
+) -> Reply
+    requires own { IsTokenOf lot.now token.old × IsWordOf lot.now.words word × IsIn lot.now section.old }
+    ensures own { Stays lot.now token.old token.new × IsIn lot.now section.new × ((view_of token.new).steps ≡ (view_of token.old).steps) }
+    ensures became { Became word.kind (place word.number word.kind) late (stage_of token.old section.old) acts.Sleep result (stage_of token.new section.new) }
+{
+    match lot.sleep(rt, token, word, Want::Exclusive, late.and(limit)) {
+        Slept::Woken => Reply::Woken(Note::Normal),
+        Slept::Handed(right) => {
+            lot.join_right(token, right);
+            Reply::Woken(Note::HandOff)
+        }
+        Slept::Late(inside, key) if late == Some(key) => {
+            *section = Some(inside);
+            Reply::Late
+        }
+        // Somebody moved the thread to another queue. It leaves that, and tries again.
+        Slept::Late(mut inside, _) => {
+            inside.remove(token.number());
+            inside.leave(rt, token, Note::Normal);
+            Reply::Woken(Note::Normal)
+        }
+    }
+}
+
+/// Does an act. It may be late only where it is given a limit, and under this key.
+pub(crate) fn perform<'a, R: Wait, C: Clock>(
+    rt: &R,
+    lot: &'a ParkingLot,
+    token: &mut Token,
+    word: Word,
+    limit: Option<(&C, u64)>,
+    late: Option<Key>,
+    section: &mut Option<Section<'a>>,
+    act: Act,
+) -> Reply
+    requires own { IsTokenOf lot.now token.old × IsWordOf lot.now.words word × IsIn lot.now section.old }
+    requires needs { Needs word.kind (place word.number word.kind) (stage_of token.old section.old) act }
+    ensures own { Stays lot.now token.old token.new × IsIn lot.now section.new }
+    ensures became { Became word.kind (place word.number word.kind) late (stage_of token.old section.old) act result (stage_of token.new section.new) }
+    ensures adds { Adds (place word.number word.kind) act result (view_of token.old).steps (view_of token.new).steps }
+{
+    match act {
+        Act::Word { lock: _, op } => Reply::Value(lot.word(token, word, op)),
+        Act::HandOver { lock: _, op, to } => {
+            Reply::Value(hand_over(rt, lot, token, word, section, op, to))
+        }
+        Act::Enter(keys) => {
+            *section = Some(lot.enter(rt, token, keys));
+            Reply::Done
+        }
+        Act::Park {
+            lock: _,
+            key,
+            check,
+            want,
+        } => Reply::Parked(park(lot, token, word, section, key, check, want)),
+        Act::TakeFirst(key) => {
+            let (first, none_left) = take_first(lot, section, key);
+            Reply::Took { first, none_left }
+        }
+        Act::Remove(key) => Reply::Removed {
+            none_left: remove(lot, section, key, token.number()),
+        },
+        Act::Leave { keys: _, wakes } => {
+            leave(rt, lot, token, section, note_of(wakes));
+            Reply::Done
+        }
+        Act::Sleep => sleep(rt, lot, token, word, limit, late, section),
+        Act::Accept => Reply::Done,
+        _ => unreachable!(),
+    }
+}
