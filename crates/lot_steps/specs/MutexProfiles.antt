@@ -78,8 +78,20 @@ entry_purpose l entry.Bump = Bumps l Exclusive
 
 abbrev pub trying : Profile
 trying = record {
-  doing = idle; stands = None; taken = None; gives = false; hand = None; owes = false; retries = false; spins = false; may_be_late = false; late = false; gave_up = false;
-  purpose = λ l. Enters l Exclusive Try; released = false; handed = false;
+  doing = idle;
+  stands = None;
+  taken = None;
+  gives = false;
+  hand = None;
+  owes = false;
+  retries = false;
+  spins = false;
+  may_be_late = false;
+  late = false;
+  gave_up = false;
+  purpose = λ l. Enters l Exclusive Try;
+  released = false;
+  handed = false;
 }
 
 abbrev pub lock_row : Bool → Bool → LockAt → Profile

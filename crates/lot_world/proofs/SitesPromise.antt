@@ -135,7 +135,7 @@ first_out t (x ∷ q) h = grind (arith, nat_tests)
 
 module _ (w : State) (s : IsSteady w) where
   -- a lock in whose line somebody stands is a mutex
-  rules_waited : (t l : ℕ) → WaitsFor w t l → rules_at w l ≡ mutex
+  pub rules_waited : (t l : ℕ) → WaitsFor w t l → rules_at w l ≡ mutex
   rules_waited t l h =
       let a : 1 ≤ stood_in (station_at (place_at w t) l).stands Main = subst (λ n. 1 ≤ n) (queued_times t (queue_at w (2 * l)) ∙ s.stands.lines t l Main) h in
       let c = called_at (place_at w t) l (in_main (station_at (place_at w t) l).stands a) in

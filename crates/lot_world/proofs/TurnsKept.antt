@@ -29,7 +29,7 @@ use Rattle.lot_world.specs.OnlyMutexes.{is_mutex}
 use Rattle.lot_world.specs.MutexDeeds.{nowhere, mutex_doing, mutex_station, station, acts, begins}
 use Rattle.lot_world.specs.SitesOf.{IsSteady, Goes, site_of}
 use Rattle.lot_world.proofs.Shape.{both}
-use Rattle.lot_world.proofs.OnlyMutexes.{calls_mutex}
+use Rattle.lot_world.proofs.KindsKept.{calls_mutex}
 use Rattle.lot_world.proofs.Glue.{put_places, same}
 use Rattle.lot_world.proofs.MutexTable.{mutex, own_doing, meets, others_same}
 use Rattle.lot_world.proofs.StandsMoved.{mutex_rules, still}

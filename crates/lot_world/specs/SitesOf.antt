@@ -10,7 +10,8 @@ use Rattle.abstract_locks.specs.Sites.{Line, Main, Second, Site, IsSite, after, 
 use Rattle.abstract_locks.specs.Purposes.{rules_of}
 use Rattle.lot_world.specs.Machine.{State, place_at, word_at, kind_at, queue_at, section_at}
 use Rattle.lot_world.specs.Refinement.{lock_state}
-use Rattle.lot_world.specs.OnlyMutexes.{is_mutex}
+use Rattle.lot_calls.specs.declared.kinds.Kind.{Kind}
+use Rattle.lot_calls.specs.declared.kinds.Kind as kind
 use Rattle.lot_world.specs.MutexDeeds.{Act, Hand, hand, station_at, doing_on}
 
 abbrev pub site_of : State → ℕ → Site
@@ -74,6 +75,11 @@ hand_at p l = (station_at p l).hand
 pub record Hands (p : ℕ → Place) : Type 0 where
   pub carried : (t u l : ℕ) (b : Bool) → carried_at (p t) l ≡ hand u b → hand_at (p u) l ≡ hand t b
   pub taken : (t u l : ℕ) (b : Bool) → hand_at (p u) l ≡ hand t b → carried_at (p t) l ≡ hand u b
+
+abbrev pub is_mutex : Kind → Bool
+is_mutex kind.TheVariants.Mutex = true
+is_mutex kind.TheVariants.Fair = true
+is_mutex k = false
 
 -- a call of a mutex is of a lock of such a kind
 abbrev pub CallsMutex : State → Place → Type 0
