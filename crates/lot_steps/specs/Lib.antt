@@ -4,4 +4,5 @@ pub use Rattle.lot_calls.specs.Calls
 pub use Rattle.lot_calls.specs.Kinds
 pub mod Acts
 pub mod MutexSteps
+pub mod MutexProfiles
 pub mod Steps

@@ -209,7 +209,7 @@ mutex_next UnlockFair reply = unlock_fair_next reply
 mutex_next Bump reply = bump_next reply
 mutex_next (HandOff bumps at) reply = in_hand_off bumps (next_hand_off at reply)
 
--- ---------------------------------------------------------------- who owns, owes and retries
+-- ---------------------------------------------------------------- who owns
 
 abbrev pub with_exclusive : Owners → Option ℕ → Owners
 with_exclusive owners thread = record owners { exclusive = thread }
@@ -232,38 +232,3 @@ mutex_owners UnlockFair t seen owners = if seen == 1 then with_exclusive owners 
 mutex_owners Bump t seen owners = owners
 mutex_owners (HandOff bumps (hand_off.TheVariants.Store taken none_left)) t seen owners = with_exclusive owners taken
 mutex_owners (HandOff bumps at) t seen owners = owners
-
--- whether the word may be loaded again in place of the act: where the act would set the parked bit
-abbrev pub mutex_can_spin : MutexPlace → Bool
-mutex_can_spin (Lock e retries (lock.TheVariants.Decide seen)) = seen == 1
-mutex_can_spin _ = false
-
--- whether the thread sleeps in the queue of a call that may give up
-abbrev pub mutex_can_be_late : MutexPlace → Bool
-mutex_can_be_late (Lock e retries lock.TheVariants.Asleep) = is_timed e
-mutex_can_be_late _ = false
-
--- from the step that saw waiters, or from entering the section, until the section is left
-abbrev pub lock_owes : LockAt → Bool
-lock_owes lock.TheVariants.Check = true
-lock_owes (lock.TheVariants.Leave parked) = true
-lock_owes lock.TheVariants.Remove = true
-lock_owes lock.TheVariants.Clear = true
-lock_owes lock.TheVariants.GiveUp = true
-lock_owes _ = false
-
-abbrev pub unlock_owes : UnlockAt → Bool
-unlock_owes unlock.TheVariants.Subtract = false
-unlock_owes _ = true
-
-abbrev pub mutex_owes : MutexPlace → Bool
-mutex_owes (Lock e retries at) = lock_owes at
-mutex_owes TryLock = false
-mutex_owes (Unlock at) = unlock_owes at
-mutex_owes UnlockFair = false
-mutex_owes Bump = false
-mutex_owes (HandOff bumps at) = true
-
-abbrev pub mutex_retries : MutexPlace → Bool
-mutex_retries (Lock e retries at) = retries
-mutex_retries _ = false

@@ -13,7 +13,8 @@ use Rattle.lot_steps.specs.declared.acts.Next.{Next}
 use Rattle.lot_steps.specs.declared.acts.Next.TheVariants.{At, End}
 use Rattle.lot_steps.specs.declared.owners.Owners.{Owners}
 use Rattle.lot_calls.specs.Kinds.{is_fair}
-use Rattle.lot_steps.specs.MutexSteps.{mutex_first, mutex_right, mutex_act, mutex_next, mutex_owners, mutex_can_spin, mutex_can_be_late, mutex_owes, mutex_retries}
+use Rattle.lot_steps.specs.MutexSteps.{mutex_first, mutex_right, mutex_act, mutex_next, mutex_owners}
+use Rattle.lot_steps.specs.MutexProfiles.{mutex_can_spin, mutex_can_be_late, mutex_owes, mutex_retries}
 
 -- where a call of a lock of a kind begins
 abbrev pub first_place : Kind → Call → Place

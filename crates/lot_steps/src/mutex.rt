@@ -7,7 +7,8 @@
 //! | 2, `PARKED` | unlocked; somebody may stand in the queue |
 //! | 3 | owned; somebody may stand in the queue |
 ghost use Rattle.std.specs.Prelude.{◌≡◌, ◌<◌, ◌^◌};
-ghost use Rattle.lot_steps.specs.MutexSteps.{is_locked, is_parked, mutex_first, mutex_right, mutex_act, mutex_next, mutex_owners, mutex_can_spin, mutex_can_be_late, mutex_owes, mutex_retries};
+ghost use Rattle.lot_steps.specs.MutexProfiles.{mutex_can_spin, mutex_can_be_late, mutex_owes, mutex_retries};
+ghost use Rattle.lot_steps.specs.MutexSteps.{is_locked, is_parked, mutex_first, mutex_right, mutex_act, mutex_next, mutex_owners};
 
 pub mod hand_off;
 pub mod lock;

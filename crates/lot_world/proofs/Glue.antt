@@ -28,7 +28,7 @@ use Rattle.abstract_locks.specs.Locks as locks
 use Rattle.abstract_locks.specs.Sites.{Doing, Has, Site, Main, Begin, Out, Mark, Clear, Does, idle, leaves, wakened, taking_main, is_full, after}
 use Rattle.lot_world.specs.Machine.{State, place_at, word_at, owners_at, queue_at, put}
 use Rattle.lot_world.specs.Refinement.{lock_seen, taken_at}
-use Rattle.lot_world.specs.MutexDeeds.{Act, Stance, hand, mutex_doing, mutex_stance, stance, stance_at, nowhere, calls, doing_on, queued}
+use Rattle.lot_world.specs.MutexDeeds.{Act, Station, hand, mutex_doing, mutex_station, station, station_at, nowhere, calls, doing_on, queued}
 use Rattle.lot_world.specs.SitesOf.{site_of, after_acts, carried_at, hand_at, Hands}
 
 -- ---------------------------------------------------------------- lists with one element set, as functions
@@ -151,10 +151,10 @@ pub record IsHandedAt (p : Place) (t l : ℕ) : Type 0 where
   pub is : p ≡ Mutex l (Lock entry retries (lock.Handed t))
 
 -- what a place says nothing of at its own lock, it says nothing of at any
-pub nothing_at : {A : Type 0} (p : Place) (l : ℕ) (g : Stance → Option A) → g nowhere ≡ None → g (stance p) ≡ None → g (stance_at p l) ≡ None
+pub nothing_at : {A : Type 0} (p : Place) (l : ℕ) (g : Station → Option A) → g nowhere ≡ None → g (station p) ≡ None → g (station_at p l) ≡ None
 nothing_at p l g n e = either (calls p l)
   where
-    either : (b : Bool) → g (if b then stance p else nowhere) ≡ None
+    either : (b : Bool) → g (if b then station p else nowhere) ≡ None
     either true = e
     either false = n
 
@@ -165,13 +165,13 @@ IsInHand p t true l = IsHandedAt p t l
 pub in_hand : (p : Place) (t l : ℕ) (b : Bool) → hand_at p l ≡ hand t b → IsInHand p t b l
 in_hand (Mutex k (Lock e retries (lock.Taken by))) t l b h = either (k == l) refl b h
   where
-    either : (c : Bool) → (k == l) ≡ c → (b : Bool) → (if c then mutex_stance (Lock e retries (lock.Taken by)) else nowhere).hand ≡ hand t b → IsInHand (Mutex k (Lock e retries (lock.Taken by))) t b l
+    either : (c : Bool) → (k == l) ≡ c → (b : Bool) → (if c then mutex_station (Lock e retries (lock.Taken by)) else nowhere).hand ≡ hand t b → IsInHand (Mutex k (Lock e retries (lock.Taken by))) t b l
     either true f false g = let own : k ≡ l = eqb-true k l f in let whose : by ≡ t = cc in record { entry = e; retries = retries; is = rw (own, whose) refl }
     either true f true g = absurd cc
     either false f b g = absurd cc
 in_hand (Mutex k (Lock e retries (lock.Handed by))) t l b h = either (k == l) refl b h
   where
-    either : (c : Bool) → (k == l) ≡ c → (b : Bool) → (if c then mutex_stance (Lock e retries (lock.Handed by)) else nowhere).hand ≡ hand t b → IsInHand (Mutex k (Lock e retries (lock.Handed by))) t b l
+    either : (c : Bool) → (k == l) ≡ c → (b : Bool) → (if c then mutex_station (Lock e retries (lock.Handed by)) else nowhere).hand ≡ hand t b → IsInHand (Mutex k (Lock e retries (lock.Handed by))) t b l
     either true f true g = let own : k ≡ l = eqb-true k l f in let whose : by ≡ t = cc in record { entry = e; retries = retries; is = rw (own, whose) refl }
     either true f false g = absurd cc
     either false f b g = absurd cc
@@ -187,7 +187,7 @@ is_handed p t l h = in_hand p t l true h
 pub untaken : (p : Place) (t l : ℕ) → (hand_at p l ≡ hand t false → ⊥) → Untaken t (taken_at p l)
 untaken (Mutex k (Lock e retries (lock.Taken by))) t l none = either (k == l) (by == t) refl none
   where
-    either : (b c : Bool) → (by == t) ≡ c → ((if b then mutex_stance (Lock e retries (lock.Taken by)) else nowhere).hand ≡ hand t false → ⊥)
+    either : (b c : Bool) → (by == t) ≡ c → ((if b then mutex_station (Lock e retries (lock.Taken by)) else nowhere).hand ≡ hand t false → ⊥)
         → keep_from t (if b then Some (record { by = by; want = Exclusive }) else None) ≡ (if b then Some (record { by = by; want = Exclusive }) else None)
     either false c f free = refl
     either true false f free = ap (λ x. if x then None else Some (record { by = by; want = Exclusive })) f
@@ -249,19 +249,19 @@ taken_elsewhere l k (Mutex j (Lock e retries (lock.Taken by))) h ne = ap (λ b. 
 taken_elsewhere l k p h ne = refl
 
 -- how it stands at a lock, by how it stands at its own
-pub stance_is : (l k : ℕ) (p : Place) → IsOf l p → stance_at p k ≡ (if l == k then stance p else nowhere)
-stance_is l k Idle h = either (l == k)
+pub station_is : (l k : ℕ) (p : Place) → IsOf l p → station_at p k ≡ (if l == k then station p else nowhere)
+station_is l k Idle h = either (l == k)
   where
     either : (b : Bool) → nowhere ≡ (if b then nowhere else nowhere)
     either true = refl
     either false = refl
-stance_is l k (Mutex j at) h = ap (λ x. if x == k then mutex_stance at else nowhere) h
+station_is l k (Mutex j at) h = ap (λ x. if x == k then mutex_station at else nowhere) h
 
-pub stance_here : (l : ℕ) (p : Place) → IsOf l p → stance_at p l ≡ stance p
-stance_here l p h = stance_is l l p h ∙ ap (λ b. if b then stance p else nowhere) (same l)
+pub station_here : (l : ℕ) (p : Place) → IsOf l p → station_at p l ≡ station p
+station_here l p h = station_is l l p h ∙ ap (λ b. if b then station p else nowhere) (same l)
 
-pub stance_elsewhere : (l k : ℕ) (p : Place) → IsOf l p → k ≢ l → stance_at p k ≡ nowhere
-stance_elsewhere l k p h ne = stance_is l k p h ∙ ap (λ b. if b then stance p else nowhere) (differ l k (λ e. ne (sym e)))
+pub station_elsewhere : (l k : ℕ) (p : Place) → IsOf l p → k ≢ l → station_at p k ≡ nowhere
+station_elsewhere l k p h ne = station_is l k p h ∙ ap (λ b. if b then station p else nowhere) (differ l k (λ e. ne (sym e)))
 
 abbrev pub doing_of : Place → Doing
 doing_of Idle = idle
@@ -271,16 +271,16 @@ pub doing_here : (l : ℕ) (p : Place) → IsOf l p → doing_on p l ≡ doing_o
 doing_here l Idle h = refl
 doing_here l (Mutex k at) h = ap (λ x. if x == l then mutex_doing at else idle) h ∙ ap (λ b. if b then mutex_doing at else idle) (same l)
 
-pub inside_is : (p : Place) (l : ℕ) → (doing_on p l).inside ≡ (stance_at p l).inside
+pub inside_is : (p : Place) (l : ℕ) → (doing_on p l).inside ≡ (station_at p l).inside
 inside_is Idle l = refl
 inside_is (Mutex k at) l = either (k == l)
   where
-    either : (b : Bool) → (if b then mutex_doing at else idle).inside ≡ (if b then mutex_stance at else nowhere).inside
+    either : (b : Bool) → (if b then mutex_doing at else idle).inside ≡ (if b then mutex_station at else nowhere).inside
     either true = refl
     either false = refl
 
-pub own_stance : (l : ℕ) (q : Place) (at : MutexPlace) → q ≡ Mutex l at → stance_at q l ≡ mutex_stance at
-own_stance l q at is = ap (λ x. stance_at x l) is ∙ stance_here l (Mutex l at) refl
+pub own_stance : (l : ℕ) (q : Place) (at : MutexPlace) → q ≡ Mutex l at → station_at q l ≡ mutex_station at
+own_stance l q at is = ap (λ x. station_at x l) is ∙ station_here l (Mutex l at) refl
 
 -- another lock sees nothing of it
 pub moved_elsewhere : (l k n word : ℕ) (o : Owners) (m s : List Waiter) (p : ℕ → Place) (t : ℕ) (p2 : Place) → IsOf l (p t) → IsOf l p2 → k ≢ l → seen k n word o m s (putting p t p2) ≡ seen k n word o m s p
@@ -392,7 +392,7 @@ module _ (r : Rules) (l n word : ℕ) (o : Owners) (m s : List Waiter) (p : ℕ 
   handed_places = putting (putting p u (next_place (p u) (HandedBy t))) t (Mutex l (HandOff bumps (hand_off.Leave (Some u))))
 
   pub own_hand : carried_at (p t) l ≡ hand u false
-  own_hand = ap (λ (x : Stance). x.carries) (own_stance l (p t) _ store)
+  own_hand = ap (λ (x : Station). x.carries) (own_stance l (p t) _ store)
 
   pub taken_there : IsTakenAt (p u) t l
   taken_there = is_taken (p u) t l (hands.carried t u l false own_hand)

@@ -33,7 +33,7 @@ use Rattle.lot_world.specs.Machine.{State, place_at, word_at, owners_at, queue_a
 use Rattle.lot_world.specs.Fits.{IsShaped, PlaceFits}
 use Rattle.lot_world.specs.Refinement.{taken_at}
 use Rattle.abstract_locks.specs.Picks.{queued_of}
-use Rattle.lot_world.specs.MutexDeeds.{Stance, hand, nowhere, mutex_doing, mutex_stance, stance, stance_at, acts, deeds, mutex_deeds, queued}
+use Rattle.lot_world.specs.MutexDeeds.{Station, hand, nowhere, mutex_doing, mutex_station, station, station_at, acts, deeds, mutex_deeds, queued}
 use Rattle.lot_world.specs.SitesOf.{IsSteady, Goes, stood_in}
 use Rattle.lot_world.proofs.Shape.{main_line_there, main_key_there}
 use Rattle.lot_world.proofs.Glue.{same, differ, IsOf, own_stance, inside_is, doing_of, doing_here}
@@ -60,17 +60,17 @@ pub record IsAsleep (p : Place) (l : ℕ) : Type 0 where
   pub retries : Bool
   pub is : p ≡ Mutex l (Lock entry retries lock.Asleep)
 
-asleep_at : (k l : ℕ) (at : MutexPlace) → k ≡ l → (mutex_stance at).stands ≡ Some Main → ((mutex_stance at).inside ≡ Some Main) ⊎ IsAsleep (Mutex k at) l
+asleep_at : (k l : ℕ) (at : MutexPlace) → k ≡ l → (mutex_station at).stands ≡ Some Main → ((mutex_station at).inside ≡ Some Main) ⊎ IsAsleep (Mutex k at) l
 asleep_at k l (Lock e b (lock.Leave true)) f g = inl refl
 asleep_at k l (Lock e b lock.Asleep) f g = inr (record { entry = e; retries = b; is = rw f refl })
 asleep_at k l (Lock e b lock.Remove) f g = inl refl
 asleep_at k l at f g = absurd cc
 
-pub asleep : (p : Place) (l : ℕ) → (stance_at p l).stands ≡ Some Main → ((stance_at p l).inside ≡ Some Main) ⊎ IsAsleep p l
+pub asleep : (p : Place) (l : ℕ) → (station_at p l).stands ≡ Some Main → ((station_at p l).inside ≡ Some Main) ⊎ IsAsleep p l
 asleep Idle l h = absurd cc
 asleep (Mutex k at) l h = either (k == l) refl h
   where
-    either : (b : Bool) → (k == l) ≡ b → (if b then mutex_stance at else nowhere).stands ≡ Some Main → ((if b then mutex_stance at else nowhere).inside ≡ Some Main) ⊎ IsAsleep (Mutex k at) l
+    either : (b : Bool) → (k == l) ≡ b → (if b then mutex_station at else nowhere).stands ≡ Some Main → ((if b then mutex_station at else nowhere).inside ≡ Some Main) ⊎ IsAsleep (Mutex k at) l
     either true e g = asleep_at k l at (eqb-true k l e) g
     either false e g = absurd cc
 
@@ -90,11 +90,11 @@ module _ (w : State) (t : ℕ) (steady : IsSteady w) (shape : IsShaped w) (there
   key l lt = main_key_there w l shape lt
 
   pub enters : (l : ℕ) (at at2 : MutexPlace) → place_at w t ≡ Mutex l at → l < length w.locks → is_none (section_at w (2 * l)) ≡ true → taken_at (Mutex l at) l ≡ None → taken_at (Mutex l at2) l ≡ None → (mutex_doing at).inside ≡ None → (mutex_doing at).empty ≡ None → mutex_doing at2 ≡ record (mutex_doing at) { inside = Some Main }
-      → mutex_stance at2 ≡ record (mutex_stance at) { inside = Some Main } → Goes w (put (filled_with w (One (2 * l)) (Some t)) t (Mutex l at2)) l (acts t (In Main ∷ []))
+      → mutex_station at2 ≡ record (mutex_station at) { inside = Some Main } → Goes w (put (filled_with w (One (2 * l)) (Some t)) t (Mutex l at2)) l (acts t (In Main ∷ []))
   enters l at at2 is lt free none none2 i e d s = enter_keeps w t l at steady is there (key l lt) (Mutex l at2) refl none none2 (none_is (section_at w (2 * l)) free) i e (own_doing l (Mutex l at2) at2 refl ∙ d) s
 
   -- it looks, and does nothing
-  pub looked : (l : ℕ) (at at2 : MutexPlace) → place_at w t ≡ Mutex l at → taken_at (Mutex l at) l ≡ None → taken_at (Mutex l at2) l ≡ None → mutex_doing at2 ≡ mutex_doing at → mutex_stance at2 ≡ mutex_stance at → Goes w (put w t (Mutex l at2)) l []
+  pub looked : (l : ℕ) (at at2 : MutexPlace) → place_at w t ≡ Mutex l at → taken_at (Mutex l at) l ≡ None → taken_at (Mutex l at2) l ≡ None → mutex_doing at2 ≡ mutex_doing at → mutex_station at2 ≡ mutex_station at → Goes w (put w t (Mutex l at2)) l []
   looked l at at2 is none none2 d s = place_keeps w t l at steady is there (Mutex l at2) [] refl
       (looks l (length w.places) (word_at w l) (word_at w l) (owners_at w l) (queue_at w (2 * l)) (queue_at w (2 * l + 1)) (place_at w) t (Mutex l at2) (site_l w t l at steady is there) (mutex_doing at) (own_doing l (place_at w t) at is) (ap (λ y. taken_at y l) is ∙ none) none2 refl
       (own_doing l (Mutex l at2) at2 refl ∙ d)) s
@@ -133,8 +133,8 @@ module _ (w : State) (t : ℕ) (steady : IsSteady w) (shape : IsShaped w) (there
       either false f = remove_keeps w t l (Lock e r lock.Remove) steady is there (line l lt) (Mutex l (Lock e r lock.GiveUp)) refl refl refl refl refl refl (own_doing l (Mutex l (Lock e r lock.GiveUp)) (Lock e r lock.GiveUp) refl ∙ rw f refl) refl
 
   -- it leaves its section with nobody in hand
-  goes_away : (l : ℕ) (at : MutexPlace) (p2 : Place) → place_at w t ≡ Mutex l at → l < length w.locks → IsOf l p2 → taken_at (Mutex l at) l ≡ None → taken_at p2 l ≡ None → doing_of p2 ≡ leaves (mutex_doing at) → (mutex_doing at).inside ≡ Some Main → (mutex_doing at).wakes ≡ None → (mutex_stance at).carries ≡ None
-      → stance p2 ≡ record (mutex_stance at) { inside = None } → Goes w (put (filled_with w (One (2 * l)) None) t p2) l (acts t (Out ∷ []))
+  goes_away : (l : ℕ) (at : MutexPlace) (p2 : Place) → place_at w t ≡ Mutex l at → l < length w.locks → IsOf l p2 → taken_at (Mutex l at) l ≡ None → taken_at p2 l ≡ None → doing_of p2 ≡ leaves (mutex_doing at) → (mutex_doing at).inside ≡ Some Main → (mutex_doing at).wakes ≡ None → (mutex_station at).carries ≡ None
+      → station p2 ≡ record (mutex_station at) { inside = None } → Goes w (put (filled_with w (One (2 * l)) None) t p2) l (acts t (Out ∷ []))
   goes_away l at p2 is lt of none none2 d i k c s = leave_keeps w t l at steady is there (key l lt) p2 of none none2 (doing_here l p2 of ∙ d) i k c s
 
   leaves_kept : (l : ℕ) (e : Entry) (r b : Bool) → place_at w t ≡ Mutex l (Lock e r (lock.Leave b)) → l < length w.locks → GoesBy l (Lock e r (lock.Leave b)) (act.TheVariants.Leave (One (2 * l)) wakes.TheVariants.Nobody)
@@ -164,34 +164,34 @@ module _ (w : State) (t : ℕ) (steady : IsSteady w) (shape : IsShaped w) (there
     pub none : taken_at (next_place (Mutex l at) (Took (Some u) b)) l ≡ None
     pub doing : doing_of (next_place (Mutex l at) (Took (Some u) b)) ≡ record (mutex_doing at) { wakes = None; carries = true; covers = true; empty = found Main b }
     pub does : deeds t at (Took (Some u) b) ≡ acts t (Does (TakeFirst (queued u)) ∷ [])
-    pub stands : stance (next_place (Mutex l at) (Took (Some u) b)) ≡ record (mutex_stance at) { carries = hand u false }
+    pub stands : station (next_place (Mutex l at) (Took (Some u) b)) ≡ record (mutex_station at) { carries = hand u false }
 
   -- the first of the line, if any, is taken
-  takes : (l : ℕ) (at : MutexPlace) → place_at w t ≡ Mutex l at → l < length w.locks → taken_at (Mutex l at) l ≡ None → mutex_stance at ≡ record nowhere { inside = Some Main } → (mutex_doing at).carries ≡ false → (mutex_doing at).wakes ≢ Some Second
+  takes : (l : ℕ) (at : MutexPlace) → place_at w t ≡ Mutex l at → l < length w.locks → taken_at (Mutex l at) l ≡ None → mutex_station at ≡ record nowhere { inside = Some Main } → (mutex_doing at).carries ≡ false → (mutex_doing at).wakes ≢ Some Second
       → (queue_at w (2 * l) ≡ [] → Goes w (put (record w { queues = first_taken w.queues (2 * l) }) t (next_place (Mutex l at) (Took None true))) l (deeds t at (Took None true)))
       → ((u : ℕ) (b : Bool) → TakesTo l at u b) → GoesBy l at (act.TheVariants.TakeFirst (2 * l))
   takes l at is lt none s c v empty to = by_line (queue_at w (2 * l)) refl
     where
       some : (x : Waiter) (rest : List Waiter) → queue_at w (2 * l) ≡ x ∷ rest → Goes w (put (befallen (record w { queues = first_taken w.queues (2 * l) }) x.thread (TakenBy t)) t (next_place (Mutex l at) (Took (Some x.thread) (length rest == 0)))) l (deeds t at (Took (Some x.thread) (length rest == 0)))
       some x rest e = elim (asleep (place_at w x.thread) l stands_there) [
-        | inl within ↦ absurd (apart ((site_l w t l at steady is there).alone x.thread t Main (inside_is (place_at w x.thread) l ∙ within) (inside_is (place_at w t) l ∙ ap (λ (y : Stance). y.inside) here)))
+        | inl within ↦ absurd (apart ((site_l w t l at steady is there).alone x.thread t Main (inside_is (place_at w x.thread) l ∙ within) (inside_is (place_at w t) l ∙ ap (λ (y : Station). y.inside) here)))
         | inr a ↦ rw ((to x.thread (length rest == 0)).does) (take_keeps w t l at steady is there (line l lt) x rest e a.entry a.retries a.is apart (next_place (Mutex l at) (Took (Some x.thread) (length rest == 0))) (to x.thread (length rest == 0)).of none (to x.thread (length rest == 0)).none
-            (ap (λ (y : Stance). y.carries) s) (ap (λ (y : Stance). y.hand) s) (ap (λ (y : Stance). y.inside) s) c v
+            (ap (λ (y : Station). y.carries) s) (ap (λ (y : Station). y.hand) s) (ap (λ (y : Station). y.inside) s) c v
             (doing_here l (next_place (Mutex l at) (Took (Some x.thread) (length rest == 0))) (to x.thread (length rest == 0)).of ∙ (to x.thread (length rest == 0)).doing ∙ ap (λ b. record (mutex_doing at) { wakes = None; carries = true; covers = true; empty = found Main b }) (sym (empty_line rest)))
             (to x.thread (length rest == 0)).stands)
       ]
         where
-          here : stance_at (place_at w t) l ≡ record nowhere { inside = Some Main }
+          here : station_at (place_at w t) l ≡ record nowhere { inside = Some Main }
           here = own_stance l (place_at w t) at is ∙ s
 
-          stood : times x.thread (x ∷ rest) ≡ stood_in (stance_at (place_at w x.thread) l).stands Main
-          stood = subst (λ (q : List Waiter). times x.thread q ≡ stood_in (stance_at (place_at w x.thread) l).stands Main) e (steady.stands.lines x.thread l Main)
+          stood : times x.thread (x ∷ rest) ≡ stood_in (station_at (place_at w x.thread) l).stands Main
+          stood = subst (λ (q : List Waiter). times x.thread q ≡ stood_in (station_at (place_at w x.thread) l).stands Main) e (steady.stands.lines x.thread l Main)
 
-          stands_there : (stance_at (place_at w x.thread) l).stands ≡ Some Main
-          stands_there = in_main (stance_at (place_at w x.thread) l).stands (let one : ◌≡◌ {A = ℕ} (if x.thread == x.thread then 1 else 0) 1 = ap (λ (b : Bool). if b then 1 else 0) (same x.thread) in let all : times x.thread (x ∷ rest) ≡ stood_in (stance_at (place_at w x.thread) l).stands Main = stood in omega arith)
+          stands_there : (station_at (place_at w x.thread) l).stands ≡ Some Main
+          stands_there = in_main (station_at (place_at w x.thread) l).stands (let one : ◌≡◌ {A = ℕ} (if x.thread == x.thread then 1 else 0) 1 = ap (λ (b : Bool). if b then 1 else 0) (same x.thread) in let all : times x.thread (x ∷ rest) ≡ stood_in (station_at (place_at w x.thread) l).stands Main = stood in omega arith)
 
           apart : x.thread ≢ t
-          apart f = let a : (stance_at (place_at w t) l).stands ≡ Some Main = rw f at stands_there in let b : (stance_at (place_at w t) l).stands ≡ None = ap (λ (y : Stance). y.stands) here in cc
+          apart f = let a : (station_at (place_at w t) l).stands ≡ Some Main = rw f at stands_there in let b : (station_at (place_at w t) l).stands ≡ None = ap (λ (y : Station). y.stands) here in cc
 
       by_line : (q : List Waiter) → queue_at w (2 * l) ≡ q → Goes w (put (taken_by (record w { queues = first_taken w.queues (2 * l) }) t (first_of (queue_at w (2 * l)))) t (next_place (Mutex l at) (Took (first_of (queue_at w (2 * l))) (length (drop 1 (queue_at w (2 * l))) == 0)))) l (deeds t at (Took (first_of (queue_at w (2 * l))) (length (drop 1 (queue_at w (2 * l))) == 0)))
       by_line [] e = let a : first_of (queue_at w (2 * l)) ≡ None = ap first_of e in let b : (length (drop 1 (queue_at w (2 * l))) == 0) ≡ true = ap (λ (q : List Waiter). length (drop 1 q) == 0) e in rw (a, b) (empty e)
@@ -199,7 +199,7 @@ module _ (w : State) (t : ℕ) (steady : IsSteady w) (shape : IsShaped w) (there
 
   -- nobody was there
   takes_nobody : (l : ℕ) (at at2 : MutexPlace) → place_at w t ≡ Mutex l at → l < length w.locks → queue_at w (2 * l) ≡ [] → taken_at (Mutex l at) l ≡ None → taken_at (Mutex l at2) l ≡ None → (mutex_doing at).inside ≡ Some Main → (mutex_doing at).carries ≡ false → ((mutex_doing at).wakes ≡ None) ⊎ ((mutex_doing at).wakes ≡ Some Main)
-      → mutex_doing at2 ≡ record (mutex_doing at) { wakes = None; carries = true; covers = true; empty = Some Main } → mutex_stance at2 ≡ mutex_stance at → Goes w (put (record w { queues = first_taken w.queues (2 * l) }) t (Mutex l at2)) l (acts t (FindNobody Main ∷ []))
+      → mutex_doing at2 ≡ record (mutex_doing at) { wakes = None; carries = true; covers = true; empty = Some Main } → mutex_station at2 ≡ mutex_station at → Goes w (put (record w { queues = first_taken w.queues (2 * l) }) t (Mutex l at2)) l (acts t (FindNobody Main ∷ []))
   takes_nobody l at at2 is lt empty none none2 i c v d s = nobody_keeps w t l at steady is there (line l lt) (Mutex l at2) refl none none2 empty i c v (own_doing l (Mutex l at2) at2 refl ∙ d) s
 
   pub unlock_kept : (l : ℕ) (a : UnlockAt) → place_at w t ≡ Mutex l (Unlock a) → l < length w.locks → can_do w (unlock_act l a) ≡ true → GoesBy l (Unlock a) (unlock_act l a)

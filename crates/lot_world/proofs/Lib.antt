@@ -1,6 +1,7 @@
 pub mod QueueLemmas
 pub mod Opening
 pub mod Shape
+pub mod KindsKept
 pub mod Alone
 pub mod Runs
 pub mod Glue
@@ -15,9 +16,9 @@ pub mod TurnsKept
 pub mod OpeningSites
 pub mod Counts
 pub mod SitesPromise
+pub mod OnlyMutexes
 pub mod ExclusiveOwners
 pub mod Steady
-pub mod OnlyMutexes
 pub mod LockEvents
 pub mod LockHands
 pub mod Possible

@@ -38,7 +38,7 @@ use Rattle.abstract_locks.specs.Locks as locks
 use Rattle.abstract_locks.specs.Runs.{LocksState, CallState, Event, IsTimely, is_taken_by, woken, Nothing, AtLock, MayHappen, Agrees, GoesOn, locks_after, going_on, unless_ended, rules_at, AnswerHolds, one_more_at}
 use Rattle.abstract_locks.specs.Purposes.{Purpose, rules_of, IsMadeOf}
 use Rattle.abstract_locks.specs.Picks.{queued_of}
-use Rattle.lot_world.specs.Refinement.{lock_state, lock_seen, taken_at, gave_up_at, late_at, is_handed, is_bump, entry_purpose, release_purpose, before_release, before_entry, call_state, locks_of}
+use Rattle.lot_world.specs.Refinement.{lock_state, lock_seen, taken_at, mutex_profile, is_bump, entry_purpose, release_purpose, before_release, before_entry, call_state, locks_of}
 use Rattle.lot_world.specs.OnlyMutexes.{AllExclusive, OnlyMutexes, is_mutex}
 use Rattle.lot_world.proofs.Steady.{IsTakenAt, IsAsleep, in_hand, stands_at, stood, absent, same_without, asleep, alone}
 use Rattle.lot_world.proofs.Shape.{main_line_there}
@@ -432,7 +432,7 @@ module _ (w : State) (t l : ℕ) (p : Place) (is : place_at w t ≡ p) (shape : 
       stands_nowhere = rw (queued_times t (queue_at w (2 * l)), absent w t sound nowhere l, only.aside l, is, at_check) refl
 
   -- it leaves the queue
-  pub gives_up : (entry : Entry) (retries : Bool) (a : LockAt) → p ≡ Mutex l (Lock entry retries Remove) → is_timed entry ≡ true → gave_up_at l a ≡ Some l → late_at a ≡ true → is_handed a ≡ false → ((k : ℕ) → taken_at (Mutex l (Lock entry retries a)) k ≡ None)
+  pub gives_up : (entry : Entry) (retries : Bool) (a : LockAt) → p ≡ Mutex l (Lock entry retries Remove) → is_timed entry ≡ true → (mutex_profile (Lock entry retries a)).gave_up ≡ true → (mutex_profile (Lock entry retries a)).late ≡ true → (mutex_profile (Lock entry retries a)).handed ≡ false → ((k : ℕ) → taken_at (Mutex l (Lock entry retries a)) k ≡ None)
       → (v : State) → v ≡ put (record w { queues = removed w.queues t }) t (Mutex l (Lock entry retries a)) → OnlyMutexes v
       → GoesOn (locks_of w) t outcome.TheVariants.Step (locks_of v)
   gives_up entry retries a at_remove late given still_late unhanded untaken v led only_after = rw led (queue_steps w (put (record w { queues = removed w.queues t }) t (Mutex l (Lock entry retries a))) t l (without t (queue_at w (2 * l)))
@@ -448,7 +448,7 @@ module _ (w : State) (t l : ℕ) (p : Place) (is : place_at w t ≡ p) (shape : 
       (λ i. record (lock_state w l) { queue = queued_without t (queue_at w (2 * l)) i; aside = none_aside i })
       (rw (is, at_remove) (λ h. cc))
       (may_happen (locks_of w) t l locks.Late (entry_purpose l entry) _ (ap (λ x. call_state x (rights w t)) (is ∙ at_remove)) refl (late_by l entry late) stands refl)
-      (calls_set _) (rw (is, at_remove) (λ i. record { purpose = Some (entry_purpose l entry); former = before_entry l (is_bump entry) (unhanded i) (rights w t); gave_up = given i; retries = if retries then Some l else None; released = is_bump entry; late = still_late i })) tt)
+      (calls_set _) (rw (is, at_remove) (λ i. record { purpose = Some (entry_purpose l entry); former = before_entry l (is_bump entry) (unhanded i) (rights w t); gave_up = if given i then Some l else None; retries = if retries then Some l else None; released = is_bump entry; late = still_late i })) tt)
     where
       here_queued : queued (place_at w t) ≡ Some l
       here_queued = rw (is, at_remove) refl

@@ -59,7 +59,8 @@ use Rattle.abstract_locks.specs.Runs.{LocksState, CallState, GoesOn, Stays, Does
 use Rattle.abstract_locks.specs.Purposes.{Purpose, Enters, Releases, Try, rules_of, purpose_of, mutex_purpose, IsMadeOf}
 use Rattle.lot_world.specs.Refinement.{lock_state, taken_at, is_bump, entry_purpose, release_purpose, call_state, locks_of, sleeps}
 use Rattle.lot_world.specs.OnlyMutexes.{OnlyMutexes, CallFits, is_mutex}
-use Rattle.lot_world.proofs.OnlyMutexes.{operated_kinds, after_kinds, after_only, calls_mutex}
+use Rattle.lot_world.proofs.KindsKept.{operated_kinds, after_kinds, calls_mutex}
+use Rattle.lot_world.proofs.OnlyMutexes.{after_only}
 use Rattle.lot_world.proofs.LockEvents.{same_place, Moved, Got, quiet, lock_same, enters, enters_by, leaves, leaves_by, parks, gives_up, takes, takes_by, wakes, rights, mutex_rules, mutex_rules_of, differ, calling, taken_nobody, same, queued_times, own_counts, put_is}
 use Rattle.lot_world.proofs.LockHands.{hands}
 

@@ -21,7 +21,7 @@ use Rattle.lot_world.specs.SitesOf.{carried_at, Hands}
 use Rattle.lot_world.proofs.MutexTable.{mutex, own_doing}
 
 -- who waits for a mutex waits for all of it
-exclusive_wanted : (x : Want) → Knows locks.Mutex x → x ≡ Exclusive
+pub exclusive_wanted : (x : Want) → Knows locks.Mutex x → x ≡ Exclusive
 exclusive_wanted Exclusive k = refl
 exclusive_wanted x k = absurd k
 

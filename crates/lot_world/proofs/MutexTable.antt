@@ -26,7 +26,7 @@ use Rattle.abstract_locks.specs.Locks as locks
 use Rattle.abstract_locks.specs.Sites.{Doing, Has, Site, IsSite, Deed, Main, Begin, End, In, Out, Mark, Clear, FindNobody, MarkOwned, Bring, MarkBrought, Does, idle, found, is_empty, seen_main, counts_some, after}
 use Rattle.lot_world.specs.Refinement.{lock_seen, taken_at}
 use Rattle.abstract_locks.specs.Picks.{queued_of}
-use Rattle.lot_world.specs.MutexDeeds.{Stance, hand, nowhere, owner, mutex_doing, mutex_deeds, mutex_stance, stance, doing_on, acts}
+use Rattle.lot_world.specs.MutexDeeds.{Station, hand, nowhere, owner, mutex_doing, mutex_deeds, mutex_station, station, doing_on, acts}
 use Rattle.lot_world.specs.SitesOf.{AllNeeded, after_acts}
 use Rattle.lot_world.proofs.Glue.{seen, moved, same, own_stance, put_here, put_other, no_readers, handed_is, Untaken, untaken}
 use Rattle.lot_world.specs.SitesOf.{Hands, carried_at}
@@ -191,7 +191,7 @@ pub record OnWord (l n w : ℕ) (o : Owners) (m s : List Waiter) (p : ℕ → Pl
   pub steps : Steps l n w (apply f w) o (mutex_owners at t w o) m m s p t (next_place (Mutex l at) (Value w)) (mutex_deeds at (Value w))
   pub code : IsCode (apply f w) (mutex_owners at t w o).exclusive
   -- it neither goes into a section, nor out of one, nor into a line or a hand
-  pub same : stance (next_place (Mutex l at) (Value w)) ≡ mutex_stance at
+  pub same : station (next_place (Mutex l at) (Value w)) ≡ mutex_station at
 
 module _ (l n : ℕ) (o : Owners) (m s : List Waiter) (p : ℕ → Place) (t : ℕ) where
   abbrev pub Fits : ℕ → MutexPlace → Op → Type 0
@@ -341,7 +341,7 @@ module _ (l n : ℕ) (o : Owners) (m s : List Waiter) (p : ℕ → Place) (t : �
   pub at_store_none : Hands p → (bumps none_left : Bool) (w : ℕ) → Fits w (HandOff bumps (hand_off.Store None none_left)) (op.Store 0)
   at_store_none hands bumps none_left w is site code = record {
     steps = hands_nobody l n w 0 o m s p t (Mutex l (HandOff bumps (hand_off.Leave None))) site (mutex_doing (HandOff bumps (hand_off.Store None none_left))) (own_doing l (p t) _ is) (ap (λ x. taken_at x l) is) refl refl
-        (λ u. untaken (p u) t l (λ h. let a : carried_at (p t) l ≡ hand u false = hands.taken t u l false h in let b : carried_at (p t) l ≡ None = ap (λ (x : Stance). x.carries) (own_stance l (p t) _ is) in cc))
+        (λ u. untaken (p u) t l (λ h. let a : carried_at (p t) l ≡ hand u false = hands.taken t u l false h in let b : carried_at (p t) l ≡ None = ap (λ (x : Station). x.carries) (own_stance l (p t) _ is) in cc))
         refl refl refl refl refl refl (own_doing l (Mutex l (HandOff bumps (hand_off.Leave None))) (HandOff bumps (hand_off.Leave None)) refl);
     code = refl;
     same = refl;

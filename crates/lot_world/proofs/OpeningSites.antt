@@ -12,7 +12,7 @@ use Rattle.abstract_locks.specs.Purposes.{rules_of}
 use Rattle.abstract_locks.specs.Sites.{IsSite, opening_site, is_full}
 use Rattle.abstract_locks.proofs.LockKeeps.{opening_is_state}
 use Rattle.lot_world.specs.Machine.{State, opening, unlocked, place_at, kind_at}
-use Rattle.lot_world.specs.MutexDeeds.{nowhere, stance_at}
+use Rattle.lot_world.specs.MutexDeeds.{nowhere, station_at}
 use Rattle.lot_world.specs.SitesOf.{IsSteady, site_of, rules_at, code, key_of, carried_at, hand_at}
 use Rattle.lot_world.proofs.Glue.{past_all, seen, no_readers}
 use Rattle.lot_world.proofs.Opening.{idle_at, none_at, empty_at, nobody_owns}
@@ -75,8 +75,8 @@ module _ (kinds : List Kind) (threads : ℕ) where
   opening_seen : (l : ℕ) → site_of first l ≡ opening_site (length first.places)
   opening_seen l = λ i. seen l (length first.places) (word_0 kinds l i) (nobody_owns kinds l i) (empty_at (2 * length kinds) (2 * l) i) (empty_at (2 * length kinds) (2 * l + 1) i) (λ u. idle_at threads u i)
 
-  stands_nowhere : (t l : ℕ) → stance_at (place_at first t) l ≡ nowhere
-  stands_nowhere t l = ap (λ p. stance_at p l) (idle_at threads t)
+  stands_nowhere : (t l : ℕ) → station_at (place_at first t) l ≡ nowhere
+  stands_nowhere t l = ap (λ p. station_at p l) (idle_at threads t)
 
   size : length first.places ≡ threads
   size = length-replicate threads Idle

@@ -1,5 +1,5 @@
 -- What holds between steps, as callers are told it.
-use Rattle.std.proofs.Common.{All, ℕ, Bool, true, false, Option, Some, None, if◌then◌else◌, ◌==◌, ◌&&◌, not, ◌≡◌, ◌≢◌, ◌+◌, ◌*◌, ◌≤◌, ◌⊎◌, inl, inr, List, length, refl, ◌∙◌, ap, subst, arith, ◌↔◌, sym}
+use Rattle.std.proofs.Common.{ℕ, Bool, true, false, Option, Some, None, if◌then◌else◌, ◌==◌, ◌&&◌, not, ◌≡◌, ◌≢◌, ◌+◌, ◌*◌, ◌≤◌, ◌⊎◌, inl, inr, List, length, refl, ◌∙◌, ap, subst, arith, ◌↔◌, sym}
 use Rattle.lot_base.specs.declared.wants.Want.TheVariants.{Exclusive}
 use Rattle.lot_base.specs.declared.keys.Keys.TheVariants.{One}
 use Rattle.lot_base.specs.declared.ops.Op as op
@@ -20,23 +20,21 @@ use Rattle.lot_steps.specs.declared.mutex.hand_off.HandOffAt.{HandOffAt}
 use Rattle.lot_steps.specs.declared.mutex.hand_off.HandOffAt.TheVariants as hand_off
 use Rattle.lot_steps.specs.declared.places.Place.{Place}
 use Rattle.lot_steps.specs.declared.places.Place.TheVariants.{Idle, Mutex}
-use Rattle.lot_steps.specs.MutexSteps.{is_locked, lock_act, unlock_act, hand_off_act, lock_owes}
+use Rattle.lot_steps.specs.MutexSteps.{is_locked, lock_act, unlock_act, hand_off_act}
+use Rattle.lot_steps.specs.MutexProfiles.{mutex_owes}
 use Rattle.lot_steps.specs.Steps.{act_of, owes_on, retries_on}
-use Rattle.lot_world.specs.Machine.{State, opening, kind_at, place_at, after, section_at}
+use Rattle.lot_world.specs.Machine.{State, opening, place_at, after, section_at}
 use Rattle.lot_world.specs.Fits.{IsShaped}
 use Rattle.lot_world.specs.Sound.{IsSound, Taking, handed_over, Carries, queued, holds, inside, one_if}
 use Rattle.abstract_locks.specs.Runs.{AreLockStates, IsOpening}
 use Rattle.abstract_locks.specs.Locks.{opening_lock, rights_of, Rights, one_if_some, standing}
-use Rattle.abstract_locks.specs.Purposes.{rules_of, Enters, Converts, Bumps, Purpose, MayWait, IsReleasing}
+use Rattle.abstract_locks.specs.Purposes.{Enters, Converts, Bumps, Purpose, MayWait, IsReleasing}
 use Rattle.lot_world.specs.Refinement.{locks_of, lock_state, lock_seen, taken_at, is_bump, entry_purpose, call_state}
 use Rattle.lot_world.specs.OnlyMutexes.{OnlyMutexes}
 use Rattle.lot_world.specs.Promises.{IsKept, GoesToWake, IsHandedOver}
-use Rattle.lot_world.proofs.Steady.{after_sound, sound_of}
+use Rattle.lot_world.proofs.Steady.{after_sound}
 use Rattle.lot_world.proofs.SitesPromise.{looked_after, parked as bit_set}
-use Rattle.lot_world.proofs.OpeningSites.{opening_steady}
-use Rattle.lot_calls.specs.Kinds.{fits}
 use Rattle.lot_world.proofs.OnlyMutexes.{after_only}
-use Rattle.abstract_locks.proofs.LockKeeps.{opening_is_state}
 use Rattle.lot_world.proofs.LockEvents.{same}
 use Rattle.lot_world.proofs.LockRuns.{stands_by, after_locks}
 use Rattle.lot_world.proofs.Opening.{idle_at, empty_at, nobody_owns}
@@ -79,7 +77,7 @@ own_lock : (b : Bool) (own l : ℕ) → (b && (own == l)) ≡ true → (b ≡ tr
 own_lock true own l h = (refl, eqb-true own l h)
 own_lock false own l h = absurd cc
 
-lock_inside : (own : ℕ) (entry : Entry) (retries : Bool) (at : LockAt) → lock_owes at ≡ true → inside (Mutex own (Lock entry retries at)) ≡ Some own
+lock_inside : (own : ℕ) (entry : Entry) (retries : Bool) (at : LockAt) → mutex_owes (Lock entry retries at) ≡ true → inside (Mutex own (Lock entry retries at)) ≡ Some own
 lock_inside own entry retries Check h = refl
 lock_inside own entry retries (Leave parked) h = refl
 lock_inside own entry retries Remove h = refl
@@ -91,7 +89,7 @@ lock_inside own entry retries at h = absurd cc
 owes_means : (p : Place) (l : ℕ) (r : ℕ → Rights) → owes_on p l ≡ true
     → (inside p ≡ Some l) ⊎ ((act_of p ≡ act.TheVariants.Enter (One (2 * l))) × IsReleasing (call_state p r).purpose (call_state p r).released l)
 owes_means Idle l r h = absurd cc
-owes_means (Mutex own (Lock entry retries at)) l r h = let g = own_lock (lock_owes at) own l h in inl (lock_inside own entry retries at g.0 ∙ ap Some g.1)
+owes_means (Mutex own (Lock entry retries at)) l r h = let g = own_lock (mutex_owes (Lock entry retries at)) own l h in inl (lock_inside own entry retries at g.0 ∙ ap Some g.1)
 owes_means (Mutex own TryLock) l r h = absurd cc
 owes_means (Mutex own (Unlock unlock.Subtract)) l r h = absurd cc
 owes_means (Mutex own (Unlock unlock.Enter)) l r h = let e : own ≡ l = eqb-true own l h in inr (ap (λ k. act.TheVariants.Enter (One (2 * k))) e, e)
@@ -250,16 +248,10 @@ kept_after w s shape sound only all = kept (after w s) (after_sound w s shape so
 
 -- ---------------------------------------------------------------- the opening state
 
-pub opening_sound : (kinds : List Kind) (threads : ℕ) → 1 ≤ threads → All (λ k. fits k threads ≡ true) kinds → IsSound (opening kinds threads)
-opening_sound kinds threads some fit = sound_of (opening kinds threads) (opening_steady kinds threads some fit)
-
 -- ---------------------------------------------------------------- the opening state, of the abstract locks
 
 opening_state : (kinds : List Kind) (threads l : ℕ) → lock_state (opening kinds threads) l ≡ opening_lock (length (opening kinds threads).places)
 opening_state kinds threads l = λ i. lock_seen (length (opening kinds threads).places) (nobody_owns kinds l i) (empty_at (2 * length kinds) (2 * l) i) (empty_at (2 * length kinds) (2 * l + 1) i) (λ u. taken_at (idle_at threads u i) l)
-
-pub opening_locks : (kinds : List Kind) (threads : ℕ) → AreLockStates (locks_of (opening kinds threads))
-opening_locks kinds threads l = rw (opening_state kinds threads l) (opening_is_state (rules_of (kind_at (opening kinds threads) l)) (length (opening kinds threads).places))
 
 pub opening_is : (kinds : List Kind) (threads : ℕ) → IsOpening (locks_of (opening kinds threads))
 opening_is kinds threads = record {

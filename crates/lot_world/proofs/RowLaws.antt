@@ -5,19 +5,13 @@ use Rattle.lot_world.specs.Machine.{after_all}
 use Rattle.lot_world.specs.Promises.{IsLookedAfter}
 use Rattle.lot_world.specs.Laws.{FairUnlockHandsOver, NoWaiterIsForgotten, NobodyIsPassedOver, three, row, row_told, forgotten}
 use Rattle.lot_world.proofs.Shape.{opening_shaped}
-use Rattle.lot_world.proofs.OnlyMutexes.{opening_only}
 use Rattle.std.proofs.lemmas.List.Elements.{All-cons, All-nil}
 use Rattle.lot_calls.specs.Kinds.{fits}
-use Rattle.lot_world.proofs.Promises.{opening_sound, opening_locks}
-use Rattle.lot_world.proofs.WorldRuns.{Holds, world_run, run_refines}
+use Rattle.lot_world.proofs.OpeningSites.{opening_steady}
+use Rattle.lot_world.proofs.WorldRuns.{Holds, holds_of, world_run, run_refines}
 
 three_hold : Holds three
-three_hold = record {
-  shaped = opening_shaped (kind.Mutex ∷ []) 3 (omega arith);
-  sound = opening_sound (kind.Mutex ∷ []) 3 (omega arith) (All-cons (λ k. fits k 3 ≡ true) kind.Mutex [] refl (All-nil (λ k. fits k 3 ≡ true)));
-  only = opening_only (kind.Mutex ∷ []) 3;
-  locks = opening_locks (kind.Mutex ∷ []) 3;
-}
+three_hold = holds_of three (opening_shaped (kind.Mutex ∷ []) 3 (omega arith)) (opening_steady (kind.Mutex ∷ []) 3 (omega arith) (All-cons (λ k. fits k 3 ≡ true) kind.Mutex [] refl (All-nil (λ k. fits k 3 ≡ true))))
 
 pub hands_over : FairUnlockHandsOver
 hands_over = record {

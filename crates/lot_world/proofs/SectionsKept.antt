@@ -17,10 +17,10 @@ use Rattle.abstract_locks.specs.Sites.{IsSite, Deed, Line, Main, Second, Does, F
 use Rattle.lot_world.specs.Machine.{State, place_at, word_at, owners_at, queue_at, put, appended, removed, first_taken}
 use Rattle.lot_world.specs.Refinement.{lock_state, taken_at}
 use Rattle.abstract_locks.specs.Picks.{queued_of}
-use Rattle.lot_world.specs.MutexDeeds.{Stance, mutex_doing, mutex_stance, stance, stance_at, doing_on, acts}
+use Rattle.lot_world.specs.MutexDeeds.{Station, mutex_doing, mutex_station, station, station_at, doing_on, acts}
 use Rattle.lot_world.specs.SitesOf.{site_of, Follows, Goes, Stands, IsSteady, key_of, stood_in}
 use Rattle.lot_world.proofs.Counts.{without_absent}
-use Rattle.lot_world.proofs.Glue.{same, differ, put_places, IsOf, own_stance, stance_elsewhere}
+use Rattle.lot_world.proofs.Glue.{same, differ, put_places, IsOf, own_stance, station_elsewhere}
 use Rattle.lot_world.proofs.MutexTable.{mutex, Steps, own_doing, parks, removes, finds_nobody}
 use Rattle.lot_world.proofs.SitesKept.{Changed, unchanged, changed_main, follow, alike_put, of_mutex, rules, site_l, own}
 use Rattle.lot_world.proofs.StandsMoved.{still, line_changes}
@@ -42,18 +42,18 @@ module _ (w : State) (t l : ℕ) (at : MutexPlace) (steady : IsSteady w) (is : p
       none (Some u) h = absurd (h u refl)
 
   -- how often it stands in a line
-  stood : (k : ℕ) (m : Line) → times t (queue_at w (key_of k m)) ≡ stood_in (stance_at (place_at w t) k).stands m
+  stood : (k : ℕ) (m : Line) → times t (queue_at w (key_of k m)) ≡ stood_in (station_at (place_at w t) k).stands m
   stood = steady.stands.lines t
 
   -- elsewhere than at its own lock it stands nowhere
   stood_elsewhere : (k : ℕ) (m : Line) → k ≢ l → times t (queue_at w (key_of k m)) ≡ 0
-  stood_elsewhere k m ne = stood k m ∙ ap (λ (x : Stance). stood_in x.stands m) (stance_elsewhere l k (place_at w t) (own w t l at steady is there) ne)
+  stood_elsewhere k m ne = stood k m ∙ ap (λ (x : Station). stood_in x.stands m) (station_elsewhere l k (place_at w t) (own w t l at steady is there) ne)
 
-  stood_here : (m : Line) → times t (queue_at w (key_of l m)) ≡ stood_in (mutex_stance at).stands m
-  stood_here m = stood l m ∙ ap (λ (x : Stance). stood_in x.stands m) (own_stance l (place_at w t) at is)
+  stood_here : (m : Line) → times t (queue_at w (key_of l m)) ≡ stood_in (mutex_station at).stands m
+  stood_here m = stood l m ∙ ap (λ (x : Station). stood_in x.stands m) (own_stance l (place_at w t) at is)
 
   -- who stands nowhere leaves no line
-  absent : (mutex_stance at).stands ≡ None → (k : ℕ) (m : Line) → times t (queue_at w (key_of k m)) ≡ 0
+  absent : (mutex_station at).stands ≡ None → (k : ℕ) (m : Line) → times t (queue_at w (key_of k m)) ≡ 0
   absent none k m = elim (cases_eq k l) [
     | inl e ↦ rw e (stood_here m ∙ ap (λ x. stood_in x m) none)
     | inr ne ↦ stood_elsewhere k m ne
@@ -80,21 +80,21 @@ module _ (w : State) (t l : ℕ) (at : MutexPlace) (steady : IsSteady w) (is : p
   ]
 
   line_stands : (v : State) (p2 : Place) → v.locks ≡ w.locks → v.sections ≡ w.sections → v.places ≡ set w.places t p2 → IsOf l p2 → ((key : ℕ) → key ≢ 2 * l → queue_at v key ≡ queue_at w key)
-      → ((u : ℕ) → u ≢ t → times u (queue_at v (2 * l)) ≡ times u (queue_at w (2 * l))) → ((m : Line) → times t (queue_at v (key_of l m)) ≡ stood_in (stance p2).stands m) → (to : Option Line) → stance p2 ≡ record (mutex_stance at) { stands = to } → Stands v
+      → ((u : ℕ) → u ≢ t → times u (queue_at v (2 * l)) ≡ times u (queue_at w (2 * l))) → ((m : Line) → times t (queue_at v (key_of l m)) ≡ stood_in (station p2).stands m) → (to : Option Line) → station p2 ≡ record (mutex_station at) { stands = to } → Stands v
   line_stands v p2 el es ep of elsewhere counts own_count to e = line_changes w v steady.stands (λ k. rw el refl) l t (of_mutex w t l at steady is there) (own w t l at steady is there) p2 of
       (ap (λ (xs : List Place). λ u. get_or xs u Idle) ep ∙ put_places w t p2 (λ h. absurd (omega arith))) (λ key. rw es refl) elsewhere counts own_count
-      (ap (λ (x : Stance). x.inside) (e ∙ sym (ap (λ y. record (stance y) { stands = to }) is))) (ap (λ (x : Stance). x.carries) (e ∙ sym (ap (λ y. record (stance y) { stands = to }) is))) (ap (λ (x : Stance). x.hand) (e ∙ sym (ap (λ y. record (stance y) { stands = to }) is)))
+      (ap (λ (x : Station). x.inside) (e ∙ sym (ap (λ y. record (station y) { stands = to }) is))) (ap (λ (x : Station). x.carries) (e ∙ sym (ap (λ y. record (station y) { stands = to }) is))) (ap (λ (x : Station). x.hand) (e ∙ sym (ap (λ y. record (station y) { stands = to }) is)))
 
   -- it stands behind the last
-  pub park_keeps : (p2 : Place) → IsOf l p2 → taken_at (Mutex l at) l ≡ None → taken_at p2 l ≡ None → (mutex_stance at).stands ≡ None → is_parked (word_at w l) ≡ true → (owners_at w l).exclusive ≢ None → (mutex_doing at).inside ≡ Some Main → (mutex_doing at).wakes ≡ None → (mutex_doing at).covers ≡ false
-      → doing_on p2 l ≡ record (mutex_doing at) { retries = None; empty = None } → stance p2 ≡ record (mutex_stance at) { stands = Some Main } → Goes w (put (record w { queues = appended w.queues (2 * l) t Exclusive }) t p2) l (acts t (Does (locks.Park Exclusive) ∷ []))
+  pub park_keeps : (p2 : Place) → IsOf l p2 → taken_at (Mutex l at) l ≡ None → taken_at p2 l ≡ None → (mutex_station at).stands ≡ None → is_parked (word_at w l) ≡ true → (owners_at w l).exclusive ≢ None → (mutex_doing at).inside ≡ Some Main → (mutex_doing at).wakes ≡ None → (mutex_doing at).covers ≡ false
+      → doing_on p2 l ≡ record (mutex_doing at) { retries = None; empty = None } → station p2 ≡ record (mutex_station at) { stands = Some Main } → Goes w (put (record w { queues = appended w.queues (2 * l) t Exclusive }) t p2) l (acts t (Does (locks.Park Exclusive) ∷ []))
   park_keeps p2 of none none2 nowhere full owned i k c e s = record {
     follows = line_sites v p2 behind (Does (locks.Park Exclusive) ∷ []) refl refl of
         (record { here = line_now; other = λ j ne. others (2 * j) (λ h. ne (omega arith)) })
         (λ j. others (2 * j + 1) (λ h. omega arith))
         (parks l (length w.places) (word_at w l) (word_at w l) (owners_at w l) (queue_at w (2 * l)) (queue_at w (2 * l + 1)) (place_at w) t p2 site_here (mutex_doing at) (own_doing l (place_at w t) at is) (ap (λ y. taken_at y l) is ∙ none) none2 (2 * l) refl full owned (absent nowhere l Main) (ap (is_thread t) no_aside) i k c e);
     stands = line_stands v p2 refl refl refl of others (λ u ne. rw line_now (let a : ◌≡◌ {A = ℕ} (if t == u then 1 else 0) 0 = ap (λ (b : Bool). if b then 1 else 0) (differ t u (λ h. ne (sym h))) in let b : times u behind ≡ times u (queue_at w (2 * l)) + (if t == u then 1 else 0) = times_append u (2 * l) t Exclusive (queue_at w (2 * l)) in omega arith))
-        (λ m. own_count m ∙ ap (λ (x : Stance). stood_in x.stands m) (sym s)) (Some Main) s;
+        (λ m. own_count m ∙ ap (λ (x : Station). stood_in x.stands m) (sym s)) (Some Main) s;
   }
     where
       v : State
@@ -114,14 +114,14 @@ module _ (w : State) (t l : ℕ) (at : MutexPlace) (steady : IsSteady w) (is : p
       own_count Second = ap (times t) (others (2 * l + 1) (λ h. omega arith)) ∙ absent nowhere l Second
 
   -- it leaves the line
-  pub remove_keeps : (p2 : Place) → IsOf l p2 → taken_at (Mutex l at) l ≡ None → taken_at p2 l ≡ None → (mutex_stance at).stands ≡ Some Main → (mutex_doing at).inside ≡ Some Main → (mutex_doing at).carries ≡ false
-      → doing_on p2 l ≡ record (mutex_doing at) { empty = found Main (is_empty (map queued_of (without t (queue_at w (2 * l))))) } → stance p2 ≡ record (mutex_stance at) { stands = None } → Goes w (put (record w { queues = removed w.queues t }) t p2) l (acts t (Does locks.Late ∷ []))
+  pub remove_keeps : (p2 : Place) → IsOf l p2 → taken_at (Mutex l at) l ≡ None → taken_at p2 l ≡ None → (mutex_station at).stands ≡ Some Main → (mutex_doing at).inside ≡ Some Main → (mutex_doing at).carries ≡ false
+      → doing_on p2 l ≡ record (mutex_doing at) { empty = found Main (is_empty (map queued_of (without t (queue_at w (2 * l))))) } → station p2 ≡ record (mutex_station at) { stands = None } → Goes w (put (record w { queues = removed w.queues t }) t p2) l (acts t (Does locks.Late ∷ []))
   remove_keeps p2 of none none2 one i c e s = record {
     follows = line_sites v p2 (without t (queue_at w (2 * l))) (Does locks.Late ∷ []) refl refl of
         (record { here = line_now; other = λ j ne. others (2 * j) (λ h. ne (omega arith)) })
         (λ j. others (2 * j + 1) (λ h. omega arith))
         (removes l (length w.places) (word_at w l) (word_at w l) (owners_at w l) (queue_at w (2 * l)) (queue_at w (2 * l + 1)) (place_at w) t p2 site_here (mutex_doing at) (own_doing l (place_at w t) at is) (ap (λ y. taken_at y l) is ∙ none) none2 refl here no_aside i c e);
-    stands = line_stands v p2 refl refl refl of others (λ u ne. rw line_now (times_without u t (queue_at w (2 * l)) ne)) (λ m. own_count m ∙ ap (λ (x : Stance). stood_in x.stands m) (sym s)) None s;
+    stands = line_stands v p2 refl refl refl of others (λ u ne. rw line_now (times_without u t (queue_at w (2 * l)) ne)) (λ m. own_count m ∙ ap (λ (x : Station). stood_in x.stands m) (sym s)) None s;
   }
     where
       v : State
@@ -152,13 +152,13 @@ module _ (w : State) (t l : ℕ) (at : MutexPlace) (steady : IsSteady w) (is : p
 
   -- nobody is there to be taken
   pub nobody_keeps : (p2 : Place) → IsOf l p2 → taken_at (Mutex l at) l ≡ None → taken_at p2 l ≡ None → queue_at w (2 * l) ≡ [] → (mutex_doing at).inside ≡ Some Main → (mutex_doing at).carries ≡ false → ((mutex_doing at).wakes ≡ None) ⊎ ((mutex_doing at).wakes ≡ Some Main)
-      → doing_on p2 l ≡ record (mutex_doing at) { wakes = None; carries = true; covers = true; empty = Some Main } → stance p2 ≡ mutex_stance at → Goes w (put (record w { queues = first_taken w.queues (2 * l) }) t p2) l (acts t (FindNobody Main ∷ []))
+      → doing_on p2 l ≡ record (mutex_doing at) { wakes = None; carries = true; covers = true; empty = Some Main } → station p2 ≡ mutex_station at → Goes w (put (record w { queues = first_taken w.queues (2 * l) }) t p2) l (acts t (FindNobody Main ∷ []))
   nobody_keeps p2 of none none2 empty i c x own_is s = record {
     follows = line_sites v p2 (queue_at w (2 * l)) (FindNobody Main ∷ []) refl refl of
         (subst (λ (y : List Waiter). Changed (λ k. queue_at w (2 * k)) (λ k. get_or (first_taken w.queues (2 * l)) (2 * k) []) l y) (ap (drop 1) empty ∙ sym empty) (changed_main w.queues l (drop 1 (queue_at w (2 * l))) [] line))
         (λ k. others (2 * k + 1) (λ h. omega arith))
         (finds_nobody l (length w.places) (word_at w l) (word_at w l) (owners_at w l) (queue_at w (2 * l)) (queue_at w (2 * l + 1)) (place_at w) t p2 site_here (mutex_doing at) (own_doing l (place_at w t) at is) (ap (λ y. taken_at y l) is ∙ none) none2 refl empty i c x own_is);
-    stands = still w v steady.stands (λ k. refl) l t (of_mutex w t l at steady is there) (own w t l at steady is there) p2 of (put_places (record w { queues = first_taken w.queues (2 * l) }) t p2 (λ h. absurd (omega arith))) (λ key. refl) same_queue (s ∙ sym (ap stance is));
+    stands = still w v steady.stands (λ k. refl) l t (of_mutex w t l at steady is there) (own w t l at steady is there) p2 of (put_places (record w { queues = first_taken w.queues (2 * l) }) t p2 (λ h. absurd (omega arith))) (λ key. refl) same_queue (s ∙ sym (ap station is));
   }
     where
       v : State

@@ -16,7 +16,7 @@ use Rattle.lot_steps.specs.declared.acts.Check.{Check}
 use Rattle.lot_steps.specs.declared.acts.Wakes.{Wakes}
 use Rattle.lot_steps.specs.declared.acts.Wakes as wakes
 use Rattle.lot_steps.specs.declared.acts.Reply.{Reply}
-use Rattle.lot_steps.specs.declared.acts.Reply.TheVariants.{Done, Value, Spun, Took, TakenBy, HandedBy, Late, Woken}
+use Rattle.lot_steps.specs.declared.acts.Reply.TheVariants.{Done, Value, Spun, Parked, Removed, Took, TakenBy, HandedBy, Late, Woken}
 use Rattle.lot_steps.specs.declared.acts.Next.{Next}
 use Rattle.lot_steps.specs.declared.acts.Next as next
 use Rattle.lot_calls.specs.declared.outcomes.Answer as answer
@@ -40,11 +40,13 @@ use Rattle.lot_steps.specs.declared.mutex.hand_off.HandOffAt.{HandOffAt}
 use Rattle.lot_steps.specs.declared.mutex.hand_off.HandOffAt.TheVariants as hand_off
 use Rattle.lot_steps.specs.Acts.{holds}
 use Rattle.lot_calls.specs.Kinds.{is_fair}
-use Rattle.lot_steps.specs.MutexSteps.{is_locked, is_parked, mutex_first, next_lock, still_retries, next_unlock, next_hand_off, looked, unlock_fair_next, bump_next, try_next, in_lock, in_unlock, in_hand_off, mutex_next}
+use Rattle.lot_steps.specs.MutexSteps.{is_locked, is_parked, is_timed, entered, mutex_next, mutex_first, next_unlock, next_hand_off, looked, unlock_fair_next, bump_next, try_next, in_lock, in_unlock, in_hand_off, mutex_next}
 use Rattle.lot_calls.specs.Calls.{lock_in}
 use Rattle.lot_steps.specs.Steps.{is_idle, first_place, act_of, next_place, mutex_goes, spin_lock, late_key}
 use Rattle.lot_world.specs.Machine.{State, unlocked, opening, kind_at, word_at, place_at, queue_at, put, operated, filled_with, appended, first_taken, removed, parked, befallen, taken_by, took, awakened, performed, gone, go_reply, reply_to, begun, can_begin, is_open_to, spun, spun_on, lated, late_on, turned, can_turn, is_possible, after}
-use Rattle.lot_world.specs.Fits.{SomeBelow, taken_in, PlaceFits, AllBelow, IsShaped, SameSize}
+use Rattle.lot_base.specs.declared.notes.Note as note
+use Rattle.lot_steps.specs.declared.mutex.lock.LockAt as lock
+use Rattle.lot_world.specs.Fits.{SomeBelow, taken_in, GivesUpTimed, PlaceFits, AllBelow, IsShaped, SameSize}
 
 -- what holds of all elements holds of them after one is set
 pub set_all : {A : Type 0} (P : A → Type 0) (xs : List A) (i : ℕ) (y d : A) → P y → ((j : ℕ) → P (get_or xs j d)) → (j : ℕ) → P (get_or (set xs i y) j d)
@@ -85,17 +87,49 @@ below_first n (x ∷ xs) h = h.0
 
 -- ---------------------------------------------------------------- places
 
-abbrev pub ReplyFits : ℕ → Reply → Type 0
-ReplyFits threads (Took first none_left) = SomeBelow threads first
-ReplyFits threads reply = Unit {0}
+-- the call of a thread at this place has a deadline
+abbrev pub MayBeLate : Place → Type 0
+MayBeLate (Mutex l (Lock entry retries at)) = is_timed entry ≡ true
+MayBeLate p = Unit {0}
+
+-- a reply names threads that are there; only a timed call is told that it is late
+abbrev pub ReplyFits : ℕ → Place → Reply → Type 0
+ReplyFits threads p (Took first none_left) = SomeBelow threads first
+ReplyFits threads p Late = MayBeLate p
+ReplyFits threads p reply = Unit {0}
 
 abbrev pub NextFits : ℕ → Next MutexPlace → Type 0
-NextFits threads (next.TheVariants.At at) = SomeBelow threads (taken_in at)
+NextFits threads (next.TheVariants.At at) = SomeBelow threads (taken_in at) × GivesUpTimed at
 NextFits threads (next.TheVariants.End answer) = Unit {0}
 
-lock_fits : (threads : ℕ) (entry : Entry) (retries : Bool) (n : Next LockAt) → NextFits threads (in_lock entry retries n)
-lock_fits threads entry retries (next.TheVariants.At at) = tt
-lock_fits threads entry retries (next.TheVariants.End answer) = tt
+lock_fits : (threads l : ℕ) (entry : Entry) (retries : Bool) (at : LockAt) (reply : Reply) → GivesUpTimed (Lock entry retries at) → ReplyFits threads (Mutex l (Lock entry retries at)) reply → NextFits threads (mutex_next (Lock entry retries at) reply)
+lock_fits threads l entry retries lock.TheVariants.First (Value seen) h late = either (seen == 0)
+  where
+    either : (b : Bool) → NextFits threads (in_lock entry retries (if b then next.TheVariants.End (entered entry) else next.TheVariants.At lock.TheVariants.Load))
+    either true = tt
+    either false = (tt, tt)
+lock_fits threads l entry retries (lock.TheVariants.Decide s) (Value seen) h late = either (not (seen == s)) (is_locked seen)
+  where
+    either : (a b : Bool) → NextFits threads (in_lock entry retries (if a then next.TheVariants.At (lock.TheVariants.Decide seen) else if b then next.TheVariants.At (lock.TheVariants.Decide 3) else next.TheVariants.End (entered entry)))
+    either true b = (tt, tt)
+    either false true = (tt, tt)
+    either false false = tt
+lock_fits threads l entry retries lock.TheVariants.Load (Value seen) h late = (tt, tt)
+lock_fits threads l entry retries lock.TheVariants.Check (Parked parked) h late = (tt, tt)
+lock_fits threads l entry retries (lock.TheVariants.Leave true) Done h late = (tt, tt)
+lock_fits threads l entry retries (lock.TheVariants.Leave false) Done h late = (tt, tt)
+lock_fits threads l entry retries lock.TheVariants.Asleep Late h late = (tt, late)
+lock_fits threads l entry retries lock.TheVariants.Asleep (Woken note.TheVariants.Normal) h late = (tt, tt)
+lock_fits threads l entry retries lock.TheVariants.Asleep (Woken note.TheVariants.HandOff) h late = (tt, tt)
+lock_fits threads l entry retries lock.TheVariants.Remove (Removed true) h late = (tt, h)
+lock_fits threads l entry retries lock.TheVariants.Remove (Removed false) h late = (tt, h)
+lock_fits threads l entry retries lock.TheVariants.Clear (Value seen) h late = (tt, h)
+lock_fits threads l entry retries (lock.TheVariants.Taken by) (Woken note.TheVariants.Normal) h late = (tt, tt)
+lock_fits threads l entry retries (lock.TheVariants.Taken by) (HandedBy t) h late = (tt, tt)
+lock_fits threads l entry retries (lock.TheVariants.Handed by) (Woken note.TheVariants.HandOff) h late = (tt, tt)
+lock_fits threads l entry retries lock.TheVariants.Accept Done h late = tt
+lock_fits threads l entry retries lock.TheVariants.GiveUp Done h late = tt
+lock_fits threads l entry retries at reply h late = (tt, h)
 
 try_fits : (threads : ℕ) (reply : Reply) → NextFits threads (try_next reply)
 try_fits threads (Value seen) = either (is_locked seen)
@@ -103,65 +137,65 @@ try_fits threads (Value seen) = either (is_locked seen)
     either : (b : Bool) → NextFits threads (if b then next.TheVariants.End answer.TheVariants.No else next.TheVariants.End answer.TheVariants.Yes)
     either true = tt
     either false = tt
-try_fits threads reply = tt
+try_fits threads reply = (tt, tt)
 
-unlock_fits : (threads : ℕ) (at : UnlockAt) (reply : Reply) → SomeBelow threads (taken_in (Unlock at)) → ReplyFits threads reply → NextFits threads (in_unlock (next_unlock at reply))
-unlock_fits threads unlock.TheVariants.Subtract (Value seen) h r = either (is_parked seen)
+unlock_fits : (threads l : ℕ) (at : UnlockAt) (reply : Reply) → SomeBelow threads (taken_in (Unlock at)) → ReplyFits threads (Mutex l (Unlock at)) reply → NextFits threads (in_unlock (next_unlock at reply))
+unlock_fits threads l unlock.TheVariants.Subtract (Value seen) h r = either (is_parked seen)
   where
     either : (b : Bool) → NextFits threads (in_unlock (if b then next.TheVariants.At unlock.TheVariants.Enter else next.TheVariants.End answer.TheVariants.Ok))
-    either true = tt
+    either true = (tt, tt)
     either false = tt
-unlock_fits threads unlock.TheVariants.Take (Took first none_left) h r = either none_left
+unlock_fits threads l unlock.TheVariants.Take (Took first none_left) h r = either none_left
   where
     either : (b : Bool) → NextFits threads (in_unlock (if b then next.TheVariants.At (unlock.TheVariants.Clear first) else next.TheVariants.At (unlock.TheVariants.Leave first)))
-    either true = r
-    either false = r
-unlock_fits threads unlock.TheVariants.Enter Done h r = tt
-unlock_fits threads (unlock.TheVariants.Clear taken) (Value seen) h r = h
-unlock_fits threads (unlock.TheVariants.Leave taken) Done h r = tt
-unlock_fits threads at reply h r = h
+    either true = (r, tt)
+    either false = (r, tt)
+unlock_fits threads l unlock.TheVariants.Enter Done h r = (tt, tt)
+unlock_fits threads l (unlock.TheVariants.Clear taken) (Value seen) h r = (h, tt)
+unlock_fits threads l (unlock.TheVariants.Leave taken) Done h r = tt
+unlock_fits threads l at reply h r = (h, tt)
 
 looked_fits : (threads : ℕ) (bumps saw_waiters : Bool) → NextFits threads (looked bumps saw_waiters)
-looked_fits threads bumps true = tt
+looked_fits threads bumps true = (tt, tt)
 looked_fits threads bumps false = tt
 
 unlock_fair_fits : (threads : ℕ) (reply : Reply) → NextFits threads (unlock_fair_next reply)
 unlock_fair_fits threads (Value seen) = looked_fits threads false (not (seen == 1))
-unlock_fair_fits threads reply = tt
+unlock_fair_fits threads reply = (tt, tt)
 
 bump_fits : (threads : ℕ) (reply : Reply) → NextFits threads (bump_next reply)
 bump_fits threads (Value seen) = looked_fits threads true (is_parked seen)
-bump_fits threads reply = tt
+bump_fits threads reply = (tt, tt)
 
-hand_off_fits : (threads : ℕ) (bumps : Bool) (at : HandOffAt) (reply : Reply) → SomeBelow threads (taken_in (HandOff bumps at)) → ReplyFits threads reply → NextFits threads (in_hand_off bumps (next_hand_off at reply))
-hand_off_fits threads bumps hand_off.Take (Took first none_left) h r = r
-hand_off_fits threads bumps hand_off.Enter Done h r = tt
-hand_off_fits threads bumps (hand_off.Store taken none_left) (Value seen) h r = h
-hand_off_fits threads true (hand_off.Leave taken) Done h r = tt
-hand_off_fits threads false (hand_off.Leave taken) Done h r = tt
-hand_off_fits threads bumps at reply h r = h
+hand_off_fits : (threads l : ℕ) (bumps : Bool) (at : HandOffAt) (reply : Reply) → SomeBelow threads (taken_in (HandOff bumps at)) → ReplyFits threads (Mutex l (HandOff bumps at)) reply → NextFits threads (in_hand_off bumps (next_hand_off at reply))
+hand_off_fits threads l bumps hand_off.Take (Took first none_left) h r = (r, tt)
+hand_off_fits threads l bumps hand_off.Enter Done h r = (tt, tt)
+hand_off_fits threads l bumps (hand_off.Store taken none_left) (Value seen) h r = (h, tt)
+hand_off_fits threads l true (hand_off.Leave taken) Done h r = (tt, tt)
+hand_off_fits threads l false (hand_off.Leave taken) Done h r = tt
+hand_off_fits threads l bumps at reply h r = (h, tt)
 
 goes_fits : (threads locks l : ℕ) (n : Next MutexPlace) → l < locks → NextFits threads n → PlaceFits threads locks (mutex_goes l n)
-goes_fits threads locks l (next.TheVariants.At at) lt h = (lt, h)
+goes_fits threads locks l (next.TheVariants.At at) lt h = (lt, h.0, h.1)
 goes_fits threads locks l (next.TheVariants.End answer) lt h = tt
 
-pub next_fits : (threads locks : ℕ) (p : Place) (reply : Reply) → PlaceFits threads locks p → ReplyFits threads reply → PlaceFits threads locks (next_place p reply)
+pub next_fits : (threads locks : ℕ) (p : Place) (reply : Reply) → PlaceFits threads locks p → ReplyFits threads p reply → PlaceFits threads locks (next_place p reply)
 next_fits threads locks Idle reply h r = tt
-next_fits threads locks (Mutex l (Lock entry retries at)) reply h r = goes_fits threads locks l (mutex_next (Lock entry retries at) reply) h.0 (lock_fits threads entry (still_retries retries reply) (next_lock entry at reply))
+next_fits threads locks (Mutex l (Lock entry retries at)) reply h r = goes_fits threads locks l (mutex_next (Lock entry retries at) reply) h.0 (lock_fits threads l entry retries at reply h.2 r)
 next_fits threads locks (Mutex l TryLock) reply h r = goes_fits threads locks l (mutex_next TryLock reply) h.0 (try_fits threads reply)
-next_fits threads locks (Mutex l (Unlock at)) reply h r = goes_fits threads locks l (mutex_next (Unlock at) reply) h.0 (unlock_fits threads at reply h.1 r)
+next_fits threads locks (Mutex l (Unlock at)) reply h r = goes_fits threads locks l (mutex_next (Unlock at) reply) h.0 (unlock_fits threads l at reply h.1 r)
 next_fits threads locks (Mutex l UnlockFair) reply h r = goes_fits threads locks l (mutex_next UnlockFair reply) h.0 (unlock_fair_fits threads reply)
 next_fits threads locks (Mutex l Bump) reply h r = goes_fits threads locks l (mutex_next Bump reply) h.0 (bump_fits threads reply)
-next_fits threads locks (Mutex l (HandOff bumps at)) reply h r = goes_fits threads locks l (mutex_next (HandOff bumps at) reply) h.0 (hand_off_fits threads bumps at reply h.1 r)
+next_fits threads locks (Mutex l (HandOff bumps at)) reply h r = goes_fits threads locks l (mutex_next (HandOff bumps at) reply) h.0 (hand_off_fits threads l bumps at reply h.1 r)
 
 first_fits : (threads locks l : ℕ) (fair : Bool) (c : MutexCall) → l < locks → PlaceFits threads locks (Mutex l (mutex_first fair c))
-first_fits threads locks l fair mutex_call.TheVariants.Lock h = (h, tt)
-first_fits threads locks l fair mutex_call.TheVariants.LockTimed h = (h, tt)
-first_fits threads locks l fair mutex_call.TheVariants.TryLock h = (h, tt)
-first_fits threads locks l true mutex_call.TheVariants.Unlock h = (h, tt)
-first_fits threads locks l false mutex_call.TheVariants.Unlock h = (h, tt)
-first_fits threads locks l fair mutex_call.TheVariants.UnlockFair h = (h, tt)
-first_fits threads locks l fair mutex_call.TheVariants.Bump h = (h, tt)
+first_fits threads locks l fair mutex_call.TheVariants.Lock h = (h, tt, tt)
+first_fits threads locks l fair mutex_call.TheVariants.LockTimed h = (h, tt, tt)
+first_fits threads locks l fair mutex_call.TheVariants.TryLock h = (h, tt, tt)
+first_fits threads locks l true mutex_call.TheVariants.Unlock h = (h, tt, tt)
+first_fits threads locks l false mutex_call.TheVariants.Unlock h = (h, tt, tt)
+first_fits threads locks l fair mutex_call.TheVariants.UnlockFair h = (h, tt, tt)
+first_fits threads locks l fair mutex_call.TheVariants.Bump h = (h, tt, tt)
 
 call_fits : (threads locks : ℕ) (kind : Kind) (c : Call) → lock_in c < locks → PlaceFits threads locks (first_place kind c)
 call_fits threads locks kind (call.TheVariants.Mutex l c) h = first_fits threads locks l (is_fair kind) c h
@@ -177,7 +211,7 @@ put_shaped w t p s h = record {
   waiting = λ key. rw (length-set w.places t p) (s.waiting key);
 }
 
-befallen_shaped : (w : State) (t : ℕ) (reply : Reply) → IsShaped w → ReplyFits (length w.places) reply → IsShaped (befallen w t reply)
+befallen_shaped : (w : State) (t : ℕ) (reply : Reply) → IsShaped w → ReplyFits (length w.places) (place_at w t) reply → IsShaped (befallen w t reply)
 befallen_shaped w t reply s r = put_shaped w t (next_place (place_at w t) reply) s (next_fits (length w.places) (length w.locks) (place_at w t) reply (s.places t) r)
 
 filled_shaped : (w : State) (keys : Keys) (who : Option ℕ) → IsShaped w → IsShaped (filled_with w keys who)
@@ -270,15 +304,15 @@ performed_counts w t p (Leave keys wakes.TheVariants.Nobody) = filled_counts w k
 performed_counts w t p (Leave keys (wakes.TheVariants.One u note)) = (length-set (filled_with w keys None).places u _ ∙ (filled_counts w keys None).0, (filled_counts w keys None).1)
 performed_counts w t p act = (refl, refl)
 
-reply_fits : (w : State) (t : ℕ) (act : Act) → IsShaped w → ReplyFits (length w.places) (reply_to w t act)
-reply_fits w t (TakeFirst key) s = below_first (length w.places) (queue_at w key) (s.waiting key)
-reply_fits w t act s = tt
+reply_fits : (w : State) (t : ℕ) (p : Place) (act : Act) → IsShaped w → ReplyFits (length w.places) p (reply_to w t act)
+reply_fits w t p (TakeFirst key) s = below_first (length w.places) (queue_at w key) (s.waiting key)
+reply_fits w t p act s = tt
 
 gone_shaped : (w : State) (t : ℕ) → IsShaped w → t < length w.places → IsShaped (gone w t)
 gone_shaped w t s lt =
     let act = act_of (place_at w t) in
     let counts = performed_counts w t (place_at w t) act in
-    let fits = next_fits (length w.places) (length w.locks) (place_at w t) (go_reply w t) (s.places t) (reply_fits w t act s) in
+    let fits = next_fits (length w.places) (length w.locks) (place_at w t) (go_reply w t) (s.places t) (reply_fits w t (place_at w t) act s) in
     put_shaped (performed w t (place_at w t) act) t (next_place (place_at w t) (go_reply w t)) (performed_shaped w t (place_at w t) act s lt) (rw (counts.0, counts.1) fits)
 
 pub both : (a b : Bool) → (a && b) ≡ true → (a ≡ true) × (b ≡ true)
@@ -299,11 +333,24 @@ spun_shaped w t s = by_lock (spin_lock (place_at w t))
     by_lock (Some l) = befallen_shaped w t (Spun (word_at w l)) s tt
 
 lated_shaped : (w : State) (t : ℕ) → IsShaped w → IsShaped (lated w t)
-lated_shaped w t s = by_key (late_key (place_at w t))
+lated_shaped w t s = by_place (place_at w t) refl
   where
-    by_key : (o : Option ℕ) → IsShaped (late_on w t o)
-    by_key None = s
-    by_key (Some key) = befallen_shaped (filled_with w (One key) (Some t)) t Late (filled_shaped w (One key) (Some t) s) tt
+    asleep : (l : ℕ) (entry : Entry) (retries : Bool) → place_at w t ≡ Mutex l (Lock entry retries lock.TheVariants.Asleep) → (b : Bool) → is_timed entry ≡ b → IsShaped (late_on w t (if b then Some (2 * l) else None))
+    asleep l entry retries e true timed = befallen_shaped (filled_with w (One (2 * l)) (Some t)) t Late (filled_shaped w (One (2 * l)) (Some t) s) (rw e timed)
+    asleep l entry retries e false timed = s
+
+    locks : (l : ℕ) (entry : Entry) (retries : Bool) (at : LockAt) → place_at w t ≡ Mutex l (Lock entry retries at) → IsShaped (late_on w t (late_key (Mutex l (Lock entry retries at))))
+    locks l entry retries lock.TheVariants.Asleep e = asleep l entry retries e (is_timed entry) refl
+    locks l entry retries at e = s
+
+    by_place : (p : Place) → place_at w t ≡ p → IsShaped (late_on w t (late_key p))
+    by_place Idle e = s
+    by_place (Mutex l (Lock entry retries at)) e = locks l entry retries at e
+    by_place (Mutex l TryLock) e = s
+    by_place (Mutex l (Unlock at)) e = s
+    by_place (Mutex l UnlockFair) e = s
+    by_place (Mutex l Bump) e = s
+    by_place (Mutex l (HandOff bumps at)) e = s
 
 turned_shaped : (w : State) (t : ℕ) (x : Turn) → IsShaped w → t < length w.places → can_turn w t x ≡ true → IsShaped (turned w t x)
 turned_shaped w t (turn.TheVariants.Begin c) s lt can = begun_shaped w t c s can

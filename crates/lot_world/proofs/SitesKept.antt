@@ -30,12 +30,12 @@ use Rattle.abstract_locks.proofs.SiteKeeps.{deed_keeps}
 use Rattle.lot_world.specs.Machine.{State, unlocked, place_at, word_at, owners_at, kind_at, queue_at, put, operated, filled_with, section_at, first_taken, befallen, performed, reply_to}
 use Rattle.lot_world.specs.Refinement.{taken_at}
 use Rattle.abstract_locks.specs.Picks.{queued_of}
-use Rattle.lot_world.specs.MutexDeeds.{Stance, hand, nowhere, mutex_doing, mutex_deeds, mutex_stance, stance, stance_at, doing_on, acts, owner, queued}
+use Rattle.lot_world.specs.MutexDeeds.{Station, hand, nowhere, mutex_doing, mutex_deeds, mutex_station, station, station_at, doing_on, acts, owner, queued}
 use Rattle.lot_world.specs.MutexDeeds as deeds
 use Rattle.lot_world.specs.SitesOf.{site_of, rules_at, code, AllNeeded, IsSteady, Follows, Goes, CallsMutex, carried_at, after_acts}
 use Rattle.lot_world.proofs.Glue.{seen, site_seen, goes_from, put_places, put_here, put_other, IsOf, next_of, doing_elsewhere, taken_elsewhere, inside_is, own_stance, LetGo, leaving, taking, lets_taken, lets_handed, lets_nobody, IsTakenAt, is_taken, IsHandedAt, is_handed, untaken, handing, hands_acts}
 use Rattle.lot_world.proofs.MutexTable.{mutex, IsCode, OnWord, Steps, own_doing, goes_in as goes_into}
-use Rattle.lot_world.proofs.OnlyMutexes.{operated_kinds}
+use Rattle.lot_world.proofs.KindsKept.{operated_kinds}
 use Rattle.lot_world.specs.OnlyMutexes.{is_mutex}
 use Rattle.lot_world.proofs.StandsMoved.{mutex_rules, still, goes_in, goes_out, lets_go, hands_lock, takes}
 use Rattle.lot_world.proofs.MutexSections.{hands_needed, take_needed, first_wants}
@@ -131,8 +131,8 @@ module _ (w : State) (t l : ℕ) (at : MutexPlace) (steady : IsSteady w) (is : p
   past : (p : Place) → length w.places ≤ t → p ≡ Idle
   past p h = absurd (omega arith)
 
-  stance_is_at : stance (place_at w t) ≡ mutex_stance at
-  stance_is_at = ap stance is
+  station_is_at : station (place_at w t) ≡ mutex_station at
+  station_is_at = ap station is
 
   -- a step on the word
   pub word_keeps : l < length w.locks → (f : Op) → OnWord l (length w.places) (word_at w l) (owners_at w l) (queue_at w (2 * l)) (queue_at w (2 * l + 1)) (place_at w) t at f → Goes w (go_by w t (Mutex l at) (act.TheVariants.Word l f)) l (acts t (mutex_deeds at (Value (word_at w l))))
@@ -143,7 +143,7 @@ module _ (w : State) (t l : ℕ) (at : MutexPlace) (steady : IsSteady w) (is : p
         (unchanged (λ k. queue_at w (2 * k)) l) (λ k. refl) same_kinds
         (λ k ne. alike_put l k (place_at w) t p2 own of ne)
         (acts t (mutex_deeds at (Value (word_at w l)))) on.steps.site on.steps.needed on.code;
-    stands = still w after steady.stands same_kinds l t of_mutex own p2 of places (λ key. refl) (λ key. refl) (on.same ∙ sym stance_is_at);
+    stands = still w after steady.stands same_kinds l t of_mutex own p2 of places (λ key. refl) (λ key. refl) (on.same ∙ sym station_is_at);
   }
     where
       p2 : Place
@@ -172,10 +172,10 @@ module _ (w : State) (t l : ℕ) (at : MutexPlace) (steady : IsSteady w) (is : p
 
   -- a place that changes alone
   pub place_keeps : (p2 : Place) (ds : List Deed) → IsOf l p2
-      → Steps l (length w.places) (word_at w l) (word_at w l) (owners_at w l) (owners_at w l) (queue_at w (2 * l)) (queue_at w (2 * l)) (queue_at w (2 * l + 1)) (place_at w) t p2 ds → stance p2 ≡ mutex_stance at → Goes w (put w t p2) l (acts t ds)
+      → Steps l (length w.places) (word_at w l) (word_at w l) (owners_at w l) (owners_at w l) (queue_at w (2 * l)) (queue_at w (2 * l)) (queue_at w (2 * l + 1)) (place_at w) t p2 ds → station p2 ≡ mutex_station at → Goes w (put w t p2) l (acts t ds)
   place_keeps p2 ds of steps e = record {
     follows = place_sites (put w t p2) p2 ds refl refl refl of steps;
-    stands = still w (put w t p2) steady.stands (λ k. refl) l t of_mutex own p2 of (put_places w t p2 (past p2)) (λ key. refl) (λ key. refl) (e ∙ sym stance_is_at);
+    stands = still w (put w t p2) steady.stands (λ k. refl) l t of_mutex own p2 of (put_places w t p2 (past p2)) (λ key. refl) (λ key. refl) (e ∙ sym station_is_at);
   }
 
   section_set : 2 * l < length w.sections → (who : Option ℕ) → Changed (section_at w) (section_at (filled_with w (One (2 * l)) who)) (2 * l) who
@@ -183,13 +183,13 @@ module _ (w : State) (t l : ℕ) (at : MutexPlace) (steady : IsSteady w) (is : p
 
   -- into a section that is free
   pub enter_keeps : 2 * l < length w.sections → (p2 : Place) → IsOf l p2 → taken_at (Mutex l at) l ≡ None → taken_at p2 l ≡ None → section_at w (2 * l) ≡ None → (mutex_doing at).inside ≡ None → (mutex_doing at).empty ≡ None → doing_on p2 l ≡ record (mutex_doing at) { inside = Some Main }
-      → stance p2 ≡ record (mutex_stance at) { inside = Some Main } → Goes w (put (filled_with w (One (2 * l)) (Some t)) t p2) l (acts t (In Main ∷ []))
+      → station p2 ≡ record (mutex_station at) { inside = Some Main } → Goes w (put (filled_with w (One (2 * l)) (Some t)) t p2) l (acts t (In Main ∷ []))
   enter_keeps line p2 of none none2 free i e own_is s = record {
     follows = place_sites v p2 (In Main ∷ []) refl refl refl of
         (goes_into l (length w.places) (word_at w l) (word_at w l) (owners_at w l) (queue_at w (2 * l)) (queue_at w (2 * l + 1)) (place_at w) t p2 site_l (mutex_doing at) (own_doing l (place_at w t) at is) (ap (λ y. taken_at y l) is ∙ none) none2 refl
         (λ u h. let g : section_at w (2 * l) ≡ Some u = (steady.stands.sections u l Main).0 (sym (inside_is (place_at w u) l) ∙ h) in cc) i e own_is);
-    stands = goes_in w v steady.stands (λ k. refl) l t of_mutex own p2 of (put_places (filled_with w (One (2 * l)) (Some t)) t p2 (past p2)) (section_set line (Some t)).other (λ key. refl) free (section_set line (Some t)).here (ap (λ (x : Stance). x.inside) stance_is_at ∙ i)
-        (s ∙ sym (ap (λ (x : Stance). record x { inside = Some Main }) stance_is_at));
+    stands = goes_in w v steady.stands (λ k. refl) l t of_mutex own p2 of (put_places (filled_with w (One (2 * l)) (Some t)) t p2 (past p2)) (section_set line (Some t)).other (λ key. refl) free (section_set line (Some t)).here (ap (λ (x : Station). x.inside) station_is_at ∙ i)
+        (s ∙ sym (ap (λ (x : Station). record x { inside = Some Main }) station_is_at));
   }
     where
       v : State
@@ -199,8 +199,8 @@ module _ (w : State) (t l : ℕ) (at : MutexPlace) (steady : IsSteady w) (is : p
   out_needed i k = ((rw (own_doing l (place_at w t) at is) ((λ h. let g : None ≡ Some Main = sym h ∙ i in cc), k, refl)), tt)
 
   -- out of its own, where nobody is in its hand
-  pub leave_keeps : 2 * l < length w.sections → (p2 : Place) → IsOf l p2 → taken_at (Mutex l at) l ≡ None → taken_at p2 l ≡ None → doing_on p2 l ≡ leaves (mutex_doing at) → (mutex_doing at).inside ≡ Some Main → (mutex_doing at).wakes ≡ None → (mutex_stance at).carries ≡ None
-      → stance p2 ≡ record (mutex_stance at) { inside = None } → Goes w (put (filled_with w (One (2 * l)) None) t p2) l (acts t (Out ∷ []))
+  pub leave_keeps : 2 * l < length w.sections → (p2 : Place) → IsOf l p2 → taken_at (Mutex l at) l ≡ None → taken_at p2 l ≡ None → doing_on p2 l ≡ leaves (mutex_doing at) → (mutex_doing at).inside ≡ Some Main → (mutex_doing at).wakes ≡ None → (mutex_station at).carries ≡ None
+      → station p2 ≡ record (mutex_station at) { inside = None } → Goes w (put (filled_with w (One (2 * l)) None) t p2) l (acts t (Out ∷ []))
   leave_keeps line p2 of none none2 e i k nobody s = record {
     follows = follow w v l rules (putting (place_at w) t p2) (word_at w l) (owners_at w l) (queue_at w (2 * l))
         (put_places (filled_with w (One (2 * l)) None) t p2 (past p2)) (length-set w.places t p2)
@@ -209,11 +209,11 @@ module _ (w : State) (t l : ℕ) (at : MutexPlace) (steady : IsSteady w) (is : p
         (acts t (Out ∷ []))
         (leaving mutex l (length w.places) (word_at w l) (owners_at w l) (queue_at w (2 * l)) (queue_at w (2 * l + 1)) (place_at w) _ t (ap (λ y. taken_at y l) is ∙ none) (ap (λ y. taken_at y l) (put_here (place_at w) t p2) ∙ none2)
         (ap (λ y. doing_on y l) (put_here (place_at w) t p2) ∙ e ∙ sym (ap leaves (own_doing l (place_at w t) at is)))
-        (lets_nobody (place_at w) steady.stands.hands t l p2 (ap (λ (x : Stance). x.carries) (own_stance l (place_at w t) at is) ∙ nobody)))
+        (lets_nobody (place_at w) steady.stands.hands t l p2 (ap (λ (x : Station). x.carries) (own_stance l (place_at w t) at is) ∙ nobody)))
         (out_needed i k)
         (steady.sites.word l);
-    stands = goes_out w v steady.stands (λ j. refl) l t of_mutex own p2 of (put_places (filled_with w (One (2 * l)) None) t p2 (past p2)) (section_set line None).other (λ key. refl) (section_set line None).here (ap (λ (x : Stance). x.inside) stance_is_at ∙ i)
-        (s ∙ sym (ap (λ (x : Stance). record x { inside = None }) stance_is_at));
+    stands = goes_out w v steady.stands (λ j. refl) l t of_mutex own p2 of (put_places (filled_with w (One (2 * l)) None) t p2 (past p2)) (section_set line None).other (λ key. refl) (section_set line None).here (ap (λ (x : Station). x.inside) station_is_at ∙ i)
+        (s ∙ sym (ap (λ (x : Station). record x { inside = None }) station_is_at));
   }
     where
       v : State
@@ -222,7 +222,7 @@ module _ (w : State) (t l : ℕ) (at : MutexPlace) (steady : IsSteady w) (is : p
   -- out of its own, and v, which it has in hand, is told
   pub wake_keeps : 2 * l < length w.sections → (v : ℕ) (handed : Bool) (x : Note) (p2 : Place) → IsOf l p2 → IsOf l (place_at w v) → taken_at (Mutex l at) l ≡ None → taken_at p2 l ≡ None → doing_on p2 l ≡ leaves (mutex_doing at) → (mutex_doing at).inside ≡ Some Main → (mutex_doing at).wakes ≡ None
       → ((u : ℕ) → u ≢ t → LetGo t l (place_at w u) (putting (putting (place_at w) v (next_place (place_at w v) (Woken x))) t p2 u)) → v ≢ t
-      → mutex_stance at ≡ record nowhere { inside = Some Main; carries = hand v handed } → stance (place_at w v) ≡ record nowhere { hand = hand t handed } → stance p2 ≡ nowhere → stance (next_place (place_at w v) (Woken x)) ≡ nowhere
+      → mutex_station at ≡ record nowhere { inside = Some Main; carries = hand v handed } → station (place_at w v) ≡ record nowhere { hand = hand t handed } → station p2 ≡ nowhere → station (next_place (place_at w v) (Woken x)) ≡ nowhere
       → Goes w (put (befallen (filled_with w (One (2 * l)) None) v (Woken x)) t p2) l (acts t (Out ∷ []))
   wake_keeps line v handed x p2 of of_v none none2 e i k lets apart was was_v is_p2 is_pv = record {
     follows = follow w after l rules (putting (putting (place_at w) v pv) t p2) (word_at w l) (owners_at w l) (queue_at w (2 * l)) places
@@ -234,7 +234,7 @@ module _ (w : State) (t l : ℕ) (at : MutexPlace) (steady : IsSteady w) (is : p
         (ap (λ y. doing_on y l) (put_here (putting (place_at w) v pv) t p2) ∙ e ∙ sym (ap leaves (own_doing l (place_at w t) at is))) lets)
         (out_needed i k)
         (steady.sites.word l);
-    stands = lets_go w after steady.stands (λ j. refl) l t v apart of_mutex own of_v p2 pv of of_pv places handed (section_set line None).other (section_set line None).here (λ key. refl) (stance_is_at ∙ was) was_v is_p2 is_pv;
+    stands = lets_go w after steady.stands (λ j. refl) l t v apart of_mutex own of_v p2 pv of of_pv places handed (section_set line None).other (section_set line None).here (λ key. refl) (station_is_at ∙ was) was_v is_p2 is_pv;
   }
     where
       pv : Place
@@ -255,7 +255,7 @@ module _ (w : State) (t l : ℕ) (steady : IsSteady w) (there : t < length w.pla
   release_wakes line v is = wake_keeps w t l (Unlock (unlock.Leave (Some v))) steady is there line v false note.Normal Idle tt (rw there_v.is refl) refl refl refl refl refl (lets_taken (place_at w) steady.stands.hands t l v Idle holds) apart refl (rw there_v.is refl) refl (rw there_v.is refl)
     where
       holds : carried_at (place_at w t) l ≡ hand v false
-      holds = ap (λ (x : Stance). x.carries) (own_stance l (place_at w t) _ is)
+      holds = ap (λ (x : Station). x.carries) (own_stance l (place_at w t) _ is)
 
       there_v : IsTakenAt (place_at w v) t l
       there_v = is_taken (place_at w v) t l (steady.stands.hands.carried t v l false holds)
@@ -264,11 +264,11 @@ module _ (w : State) (t l : ℕ) (steady : IsSteady w) (there : t < length w.pla
       apart e = let a : Mutex l (Unlock (unlock.Leave (Some v))) ≡ Mutex l (Lock there_v.entry there_v.retries (lock.Taken t)) = sym is ∙ ap (place_at w) (sym e) ∙ there_v.is in cc
 
   -- a fair one leaves, and tells the one that it handed the lock
-  pub tells : 2 * l < length w.sections → (bumps : Bool) (v : ℕ) (is : place_at w t ≡ Mutex l (HandOff bumps (hand_off.Leave (Some v)))) (p2 : Place) → IsOf l p2 → taken_at p2 l ≡ None → doing_on p2 l ≡ idle → stance p2 ≡ nowhere → Goes w (put (befallen (filled_with w (One (2 * l)) None) v (Woken note.HandOff)) t p2) l (acts t (Out ∷ []))
+  pub tells : 2 * l < length w.sections → (bumps : Bool) (v : ℕ) (is : place_at w t ≡ Mutex l (HandOff bumps (hand_off.Leave (Some v)))) (p2 : Place) → IsOf l p2 → taken_at p2 l ≡ None → doing_on p2 l ≡ idle → station p2 ≡ nowhere → Goes w (put (befallen (filled_with w (One (2 * l)) None) v (Woken note.HandOff)) t p2) l (acts t (Out ∷ []))
   tells line bumps v is p2 of none e s = wake_keeps w t l (HandOff bumps (hand_off.Leave (Some v))) steady is there line v true note.HandOff p2 of (rw there_v.is refl) refl none e refl refl (lets_handed (place_at w) steady.stands.hands t l v p2 holds) apart refl (rw there_v.is refl) s (rw there_v.is refl)
     where
       holds : carried_at (place_at w t) l ≡ hand v true
-      holds = ap (λ (x : Stance). x.carries) (own_stance l (place_at w t) _ is)
+      holds = ap (λ (x : Station). x.carries) (own_stance l (place_at w t) _ is)
 
       there_v : IsHandedAt (place_at w v) t l
       there_v = is_handed (place_at w v) t l (steady.stands.hands.carried t v l true holds)
@@ -288,7 +288,7 @@ module _ (w : State) (t l : ℕ) (steady : IsSteady w) (there : t < length w.pla
         (handing mutex l (length w.places) (word_at w l) (owners_at w l) (queue_at w (2 * l)) (queue_at w (2 * l + 1)) (place_at w) steady.stands.hands t u bumps none_left refl is none_left refl)
         (hands_needed l (length w.places) (word_at w l) (owners_at w l) (queue_at w (2 * l)) (queue_at w (2 * l + 1)) (place_at w) steady.stands.hands t u bumps none_left is (site_l w t l at steady is there) none_left refl)
         (coded none_left);
-    stands = hands_lock w after steady.stands same_kinds l t u apart (of_mutex w t l at steady is there) own_t of_u p2 pu refl of_pu places (λ key. refl) (λ key. refl) (ap stance is) (rw there_u.is refl) refl (rw there_u.is refl);
+    stands = hands_lock w after steady.stands same_kinds l t u apart (of_mutex w t l at steady is there) own_t of_u p2 pu refl of_pu places (λ key. refl) (λ key. refl) (ap station is) (rw there_u.is refl) refl (rw there_u.is refl);
   }
     where
       at : MutexPlace
@@ -301,7 +301,7 @@ module _ (w : State) (t l : ℕ) (steady : IsSteady w) (there : t < length w.pla
       pu = next_place (place_at w u) (HandedBy t)
 
       there_u : IsTakenAt (place_at w u) t l
-      there_u = is_taken (place_at w u) t l (steady.stands.hands.carried t u l false (ap (λ (x : Stance). x.carries) (own_stance l (place_at w t) _ is)))
+      there_u = is_taken (place_at w u) t l (steady.stands.hands.carried t u l false (ap (λ (x : Station). x.carries) (own_stance l (place_at w t) _ is)))
 
       own_t : IsOf l (place_at w t)
       own_t = rw is refl
@@ -340,9 +340,9 @@ module _ (w : State) (t l : ℕ) (at : MutexPlace) (steady : IsSteady w) (is : p
   site_first : IsSite mutex (seen l (length w.places) (word_at w l) (owners_at w l) (x ∷ rest) (queue_at w (2 * l + 1)) (place_at w))
   site_first = subst (λ (q : List Waiter). IsSite mutex (seen l (length w.places) (word_at w l) (owners_at w l) q (queue_at w (2 * l + 1)) (place_at w))) first (site_l w t l at steady is there)
 
-  pub take_keeps : (p2 : Place) → IsOf l p2 → taken_at (Mutex l at) l ≡ None → taken_at p2 l ≡ None → (mutex_stance at).carries ≡ None → (mutex_stance at).hand ≡ None → (mutex_doing at).inside ≡ Some Main → (mutex_doing at).carries ≡ false → (mutex_doing at).wakes ≢ Some Second
+  pub take_keeps : (p2 : Place) → IsOf l p2 → taken_at (Mutex l at) l ≡ None → taken_at p2 l ≡ None → (mutex_station at).carries ≡ None → (mutex_station at).hand ≡ None → (mutex_doing at).inside ≡ Some Main → (mutex_doing at).carries ≡ false → (mutex_doing at).wakes ≢ Some Second
       → doing_on p2 l ≡ record (mutex_doing at) { wakes = None; carries = true; covers = true; empty = found Main (is_empty (map queued_of rest)) }
-      → stance p2 ≡ record (mutex_stance at) { carries = hand x.thread false }
+      → station p2 ≡ record (mutex_station at) { carries = hand x.thread false }
       → Goes w (put (befallen (record w { queues = first_taken w.queues (2 * l) }) x.thread (TakenBy t)) t p2) l (acts t (Does (TakeFirst (queued x.thread)) ∷ []))
   take_keeps p2 of none none2 nobody free i c v e s = record {
     follows = follow w after l (rules w t l at steady is there) (putting (putting (place_at w) x.thread px) t p2) (word_at w l) (owners_at w l) rest places
@@ -359,7 +359,7 @@ module _ (w : State) (t l : ℕ) (at : MutexPlace) (steady : IsSteady w) (is : p
         (steady.sites.word l);
     stands = takes w after steady.stands (λ k. refl) l t x.thread apart (of_mutex w t l at steady is there) own_t of_x p2 px of of_px places rest x (λ key. refl)
         (λ key ne. get_or-set_other w.queues (2 * l) key (drop 1 (queue_at w (2 * l))) [] (λ h. ne h)) first (get_or-set_same w.queues (2 * l) (drop 1 (queue_at w (2 * l))) [] line ∙ ap (drop 1) first) refl
-        (ap (λ (y : Place). (stance y).carries) is ∙ nobody) (ap (λ (y : Place). (stance y).hand) is ∙ free) (rw asleep refl) (s ∙ sym (ap (λ y. record (stance y) { carries = hand x.thread false }) is)) (rw asleep refl);
+        (ap (λ (y : Place). (station y).carries) is ∙ nobody) (ap (λ (y : Place). (station y).hand) is ∙ free) (rw asleep refl) (s ∙ sym (ap (λ y. record (station y) { carries = hand x.thread false }) is)) (rw asleep refl);
   }
     where
       px : Place
@@ -388,4 +388,4 @@ module _ (w : State) (t l : ℕ) (at : MutexPlace) (steady : IsSteady w) (is : p
       needed : AllNeeded mutex (acts t (Does (TakeFirst (queued x.thread)) ∷ [])) (site_of w l)
       needed = subst (λ (q : List Waiter). AllNeeded mutex (acts t (Does (TakeFirst (queued x.thread)) ∷ [])) (seen l (length w.places) (word_at w l) (owners_at w l) q (queue_at w (2 * l + 1)) (place_at w))) (sym first)
           (take_needed l (length w.places) (word_at w l) (owners_at w l) (queue_at w (2 * l + 1)) rest x (place_at w) t site_first (mutex_doing at) (own_doing l (place_at w t) at is)
-          (λ u. untaken (place_at w u) t l (λ h. let a : carried_at (place_at w t) l ≡ hand u false = steady.stands.hands.taken t u l false h in let b : carried_at (place_at w t) l ≡ None = ap (λ (y : Stance). y.carries) (own_stance l (place_at w t) at is) ∙ nobody in cc)) i c v)
+          (λ u. untaken (place_at w u) t l (λ h. let a : carried_at (place_at w t) l ≡ hand u false = steady.stands.hands.taken t u l false h in let b : carried_at (place_at w t) l ≡ None = ap (λ (y : Station). y.carries) (own_stance l (place_at w t) at is) ∙ nobody in cc)) i c v)

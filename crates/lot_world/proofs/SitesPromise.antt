@@ -19,7 +19,8 @@ use Rattle.lot_base.specs.declared.ops.Op.TheVariants as op
 use Rattle.lot_base.specs.declared.wants.Waiter.{Waiter}
 use Rattle.lot_base.specs.Lines as Lines
 use Rattle.std.proofs.lemmas.Bool.Decides.{nat_tests}
-use Rattle.lot_steps.specs.MutexSteps.{is_parked, is_locked, decided, unlock_owes}
+use Rattle.lot_steps.specs.MutexSteps.{is_parked, is_locked, decided}
+use Rattle.lot_steps.specs.MutexProfiles.{mutex_owes}
 use Rattle.lot_steps.specs.Steps.{act_of, owes_on}
 use Rattle.abstract_locks.specs.Locks.{Queued, times, standing, one_if_some}
 use Rattle.abstract_locks.specs.Locks as locks
@@ -28,7 +29,7 @@ use Rattle.lot_world.specs.Machine.{State, place_at, word_at, kind_at, queue_at}
 use Rattle.abstract_locks.specs.Purposes.{Releases}
 use Rattle.lot_world.specs.Refinement.{lock_state, locks_of, taken_at}
 use Rattle.lot_world.specs.Promises.{WaitsFor, Codes, IsLookedAfter}
-use Rattle.lot_world.specs.MutexDeeds.{nowhere, stance, stance_at, mutex_stance, stands_in, doing_on, mutex_doing}
+use Rattle.lot_world.specs.MutexDeeds.{nowhere, station, station_at, mutex_station, mutex_profile, doing_on, mutex_doing}
 use Rattle.lot_world.specs.SitesOf.{IsSteady, CallsMutex, stood_in, site_of, rules_at}
 use Rattle.lot_world.proofs.Glue.{nothing_at}
 use Rattle.lot_world.proofs.MutexTable.{mutex, queued_times}
@@ -83,7 +84,7 @@ Debt w t l = ((owes_on (place_at w t) l ≡ true) × (((locks_of w).calls t).pur
 pub record LooksAfter (w : State) (t l : ℕ) (at : MutexPlace) : Type 0 where
   pub debt : Debt w t l
   pub awake : act_of (Mutex l at) ≢ Sleep
-  pub queued : stands_in at ≡ None
+  pub queued : (mutex_profile at).stands ≡ None
   pub taken : (k : ℕ) → taken_at (Mutex l at) k ≡ None
 
 same : (k : ℕ) → (k == k) ≡ true
@@ -102,7 +103,7 @@ module _ (w : State) (t l : ℕ) where
   again e true at is d = inr (rw is refl)
   again e false at is d = absurd (elim d [ inl h ↦ cc | inr h ↦ elim h [ inl k ↦ cc | inr k ↦ cc ] ])
 
-  release : (a : UnlockAt) → place_at w t ≡ Mutex l (Unlock a) → unlock_owes a ≡ true → Debt w t l
+  release : (a : UnlockAt) → place_at w t ≡ Mutex l (Unlock a) → mutex_owes (Unlock a) ≡ true → Debt w t l
   release a is o = inl (rw (is, same l, o) (refl, refl))
 
   pub looks_after : (at : MutexPlace) → place_at w t ≡ Mutex l at → IsDebtor locks.Mutex (mutex_doing at) → ((mutex_doing at).claims ≡ Some (Has Exclusive) → ⊥) → LooksAfter w t l at
@@ -120,11 +121,11 @@ module _ (w : State) (t l : ℕ) where
   looks_after at is d free = absurd (elim d [ inl h ↦ cc | inr h ↦ elim h [ inl k ↦ cc | inr k ↦ cc ] ])
 
 -- who stands in a line calls the lock
-called_at : (p : Place) (l : ℕ) → (stance_at p l).stands ≡ Some Main → (at : MutexPlace) × (p ≡ Mutex l at)
+called_at : (p : Place) (l : ℕ) → (station_at p l).stands ≡ Some Main → (at : MutexPlace) × (p ≡ Mutex l at)
 called_at Idle l h = absurd cc
 called_at (Mutex k at) l h = either (k == l) refl h
   where
-    either : (b : Bool) → (k == l) ≡ b → (if b then mutex_stance at else nowhere).stands ≡ Some Main → (x : MutexPlace) × (Mutex k at ≡ Mutex l x)
+    either : (b : Bool) → (k == l) ≡ b → (if b then mutex_station at else nowhere).stands ≡ Some Main → (x : MutexPlace) × (Mutex k at ≡ Mutex l x)
     either true e g = (at, ap (λ x. Mutex x at) (eqb-true k l e))
     either false e g = absurd cc
 
@@ -134,15 +135,15 @@ first_out t (x ∷ q) h = grind (arith, nat_tests)
 
 module _ (w : State) (s : IsSteady w) where
   -- a lock in whose line somebody stands is a mutex
-  rules_waited : (t l : ℕ) → WaitsFor w t l → rules_at w l ≡ mutex
+  pub rules_waited : (t l : ℕ) → WaitsFor w t l → rules_at w l ≡ mutex
   rules_waited t l h =
-      let a : 1 ≤ stood_in (stance_at (place_at w t) l).stands Main = subst (λ n. 1 ≤ n) (queued_times t (queue_at w (2 * l)) ∙ s.stands.lines t l Main) h in
-      let c = called_at (place_at w t) l (in_main (stance_at (place_at w t) l).stands a) in
+      let a : 1 ≤ stood_in (station_at (place_at w t) l).stands Main = subst (λ n. 1 ≤ n) (queued_times t (queue_at w (2 * l)) ∙ s.stands.lines t l Main) h in
+      let c = called_at (place_at w t) l (in_main (station_at (place_at w t) l).stands a) in
       let m : CallsMutex w (Mutex l c.0) = rw c.1 at (s.stands.calls t) in
       mutex_rules (kind_at w l) m
 
-  nowhere_then : (u : ℕ) (at : MutexPlace) {l : ℕ} → place_at w u ≡ Mutex l at → stands_in at ≡ None → (j : ℕ) → (stance_at (place_at w u) j).stands ≡ None
-  nowhere_then u at is out j = nothing_at (place_at w u) j (λ x. x.stands) refl (ap (λ x. (stance x).stands) is ∙ out)
+  nowhere_then : (u : ℕ) (at : MutexPlace) {l : ℕ} → place_at w u ≡ Mutex l at → (mutex_profile at).stands ≡ None → (j : ℕ) → (station_at (place_at w u) j).stands ≡ None
+  nowhere_then u at is out j = nothing_at (place_at w u) j (λ x. x.stands) refl (ap (λ x. (station x).stands) is ∙ out)
 
   pub looked_after : (t l : ℕ) → WaitsFor w t l → (lock_state w l).exclusive ≡ None → IsLookedAfter w l
   looked_after t l h free =
@@ -155,7 +156,7 @@ module _ (w : State) (s : IsSteady w) where
         debt = k.debt;
         awake = rw p.is k.awake;
         stands_nowhere = λ j.
-            let n : (stance_at (place_at w d.0) j).stands ≡ None = nowhere_then d.0 p.at p.is k.queued j in
+            let n : (station_at (place_at w d.0) j).stands ≡ None = nowhere_then d.0 p.at p.is k.queued j in
             let a : locks.times d.0 (lock_state w j).queue ≡ 0 = queued_times d.0 (queue_at w (2 * j)) ∙ s.stands.lines d.0 j Main ∙ ap (λ x. stood_in x Main) n in
             let b : locks.is_thread d.0 (lock_state w j).aside ≡ 0 = first_out d.0 (queue_at w (2 * j + 1)) (s.stands.lines d.0 j Second ∙ ap (λ x. stood_in x Second) n) in
             let c : one_if_some (taken_at (place_at w d.0) j) ≡ 0 = ap (λ x. one_if_some (taken_at x j)) p.is ∙ ap one_if_some (k.taken j) in

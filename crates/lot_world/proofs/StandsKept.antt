@@ -1,4 +1,4 @@
--- How the sections, the lines and the hands of the machine are kept, by the stances of threads. No place is named.
+-- How the sections, the lines and the hands of the machine are kept, by the stations of threads. No place is named.
 use Rattle.std.proofs.Common.{ℕ, Bool, true, false, Option, Some, None, if◌then◌else◌, ◌==◌, ◌≡◌, ◌≢◌, ◌+◌, ◌*◌, ◌≤◌, ◌↔◌, List, inl, inr, refl, sym, ◌∙◌, ap, arith}
 use Rattle.std.proofs.lemmas.Bool.{cases_eq}
 use Rattle.lot_base.specs.declared.wants.Waiter.{Waiter}
@@ -9,27 +9,27 @@ use Rattle.abstract_locks.specs.Locks.{put as putting}
 use Rattle.abstract_locks.specs.Sites.{Line, Main, Second}
 use Rattle.lot_world.specs.Machine.{State, kind_at}
 use Rattle.lot_world.specs.OnlyMutexes.{is_mutex}
-use Rattle.lot_world.specs.MutexDeeds.{Hand, Stance, hand, nowhere, stance, stance_at}
+use Rattle.lot_world.specs.MutexDeeds.{Hand, Station, hand, nowhere, station, station_at}
 use Rattle.lot_world.specs.SitesOf.{Sections, Lines, Hands, CallsMutex, key_of, stood_in, carried_at, hand_at}
-use Rattle.lot_world.proofs.Glue.{IsOf, nothing_at, put_here, put_other, same, stance_is, stance_here, stance_elsewhere}
+use Rattle.lot_world.proofs.Glue.{IsOf, nothing_at, put_here, put_other, same, station_is, station_here, station_elsewhere}
 
--- ---------------------------------------------------------------- a part of a stance, where one thread goes elsewhere
+-- ---------------------------------------------------------------- a part of a station, where one thread goes elsewhere
 
-module _ {A : Type 0} (g : Stance → A) (l : ℕ) where
-  pub part_put : (p : ℕ → Place) (t : ℕ) (p2 : Place) → IsOf l (p t) → IsOf l p2 → g (stance p2) ≡ g (stance (p t)) → (u k : ℕ) → g (stance_at (putting p t p2 u) k) ≡ g (stance_at (p u) k)
+module _ {A : Type 0} (g : Station → A) (l : ℕ) where
+  pub part_put : (p : ℕ → Place) (t : ℕ) (p2 : Place) → IsOf l (p t) → IsOf l p2 → g (station p2) ≡ g (station (p t)) → (u k : ℕ) → g (station_at (putting p t p2 u) k) ≡ g (station_at (p u) k)
   part_put p t p2 h h2 e u k = elim (cases_eq u t) [
-    | inl f ↦ rw (f, put_here p t p2) (ap g (stance_is l k p2 h2) ∙ either (l == k) ∙ sym (ap g (stance_is l k (p t) h)))
+    | inl f ↦ rw (f, put_here p t p2) (ap g (station_is l k p2 h2) ∙ either (l == k) ∙ sym (ap g (station_is l k (p t) h)))
     | inr ne ↦ rw (put_other p t p2 u ne) refl
   ]
     where
-      either : (b : Bool) → g (if b then stance p2 else nowhere) ≡ g (if b then stance (p t) else nowhere)
+      either : (b : Bool) → g (if b then station p2 else nowhere) ≡ g (if b then station (p t) else nowhere)
       either true = e
       either false = refl
 
   -- whoever else is looked at
-  pub part_else : (p : ℕ → Place) (t : ℕ) (p2 : Place) → IsOf l (p t) → IsOf l p2 → (u k : ℕ) → (u ≡ t → k ≡ l → ⊥) → g (stance_at (putting p t p2 u) k) ≡ g (stance_at (p u) k)
+  pub part_else : (p : ℕ → Place) (t : ℕ) (p2 : Place) → IsOf l (p t) → IsOf l p2 → (u k : ℕ) → (u ≡ t → k ≡ l → ⊥) → g (station_at (putting p t p2 u) k) ≡ g (station_at (p u) k)
   part_else p t p2 h h2 u k ne = elim (cases_eq u t) [
-    | inl e ↦ rw (e, put_here p t p2) (ap g (stance_elsewhere l k p2 h2 (ne e)) ∙ sym (ap g (stance_elsewhere l k (p t) h (ne e))))
+    | inl e ↦ rw (e, put_here p t p2) (ap g (station_elsewhere l k p2 h2 (ne e)) ∙ sym (ap g (station_elsewhere l k (p t) h (ne e))))
     | inr nu ↦ rw (put_other p t p2 u nu) refl
   ]
 
@@ -39,15 +39,15 @@ other_key : (l k : ℕ) (m : Line) → k ≢ l → key_of k m ≢ 2 * l
 other_key l k Main ne e = ne (omega arith)
 other_key l k Second ne e = omega arith
 
-pub sections_same : (p q : ℕ → Place) (section : ℕ → Option ℕ) → Sections p section → ((u k : ℕ) → (stance_at (q u) k).inside ≡ (stance_at (p u) k).inside) → Sections q section
+pub sections_same : (p q : ℕ → Place) (section : ℕ → Option ℕ) → Sections p section → ((u k : ℕ) → (station_at (q u) k).inside ≡ (station_at (p u) k).inside) → Sections q section
 sections_same p q section s e t l m = (λ h. (s t l m).0 (sym (e t l) ∙ h), λ h. e t l ∙ (s t l m).1 h)
 
-module _ (p q : ℕ → Place) (section after : ℕ → Option ℕ) (s : Sections p section) (t l : ℕ) (others : (u k : ℕ) → (u ≡ t → k ≡ l → ⊥) → (stance_at (q u) k).inside ≡ (stance_at (p u) k).inside) (elsewhere : (key : ℕ) → key ≢ 2 * l → after key ≡ section key) where
-  stays : (u k : ℕ) (m : Line) → (u ≡ t → k ≡ l → ⊥) → key_of k m ≢ 2 * l → (stance_at (q u) k).inside ≡ Some m ↔ after (key_of k m) ≡ Some u
+module _ (p q : ℕ → Place) (section after : ℕ → Option ℕ) (s : Sections p section) (t l : ℕ) (others : (u k : ℕ) → (u ≡ t → k ≡ l → ⊥) → (station_at (q u) k).inside ≡ (station_at (p u) k).inside) (elsewhere : (key : ℕ) → key ≢ 2 * l → after key ≡ section key) where
+  stays : (u k : ℕ) (m : Line) → (u ≡ t → k ≡ l → ⊥) → key_of k m ≢ 2 * l → (station_at (q u) k).inside ≡ Some m ↔ after (key_of k m) ≡ Some u
   stays u k m ne nk = (λ h. elsewhere (key_of k m) nk ∙ (s u k m).0 (sym (others u k ne) ∙ h), λ h. others u k ne ∙ (s u k m).1 (sym (elsewhere (key_of k m) nk) ∙ h))
 
   -- whoever is inside the section of the main line behind it
-  by_main : ((m : Line) → (stance_at (q t) l).inside ≡ Some m ↔ after (key_of l m) ≡ Some t) → ((u : ℕ) → u ≢ t → (stance_at (p u) l).inside ≢ Some Main) → ((u : ℕ) → after (2 * l) ≡ Some u → u ≡ t) → Sections q after
+  by_main : ((m : Line) → (station_at (q t) l).inside ≡ Some m ↔ after (key_of l m) ≡ Some t) → ((u : ℕ) → u ≢ t → (station_at (p u) l).inside ≢ Some Main) → ((u : ℕ) → after (2 * l) ≡ Some u → u ≡ t) → Sections q after
   by_main own alone only u k m = elim (cases_eq k l) [
     | inl e ↦ elim (cases_eq u t) [
       | inl f ↦ rw (e, f) (own m)
@@ -56,29 +56,29 @@ module _ (p q : ℕ → Place) (section after : ℕ → Option ℕ) (s : Section
     | inr ne ↦ stays u k m (λ f g. ne g) (other_key l k m ne)
   ]
     where
-      at_line : u ≢ t → (m : Line) → (stance_at (q u) l).inside ≡ Some m ↔ after (key_of l m) ≡ Some u
+      at_line : u ≢ t → (m : Line) → (station_at (q u) l).inside ≡ Some m ↔ after (key_of l m) ≡ Some u
       at_line ne Main = (λ h. absurd (alone u ne (sym (others u l (λ f g. ne f)) ∙ h)), λ h. absurd (ne (only u h)))
       at_line ne Second = stays u l Second (λ f g. ne f) (λ f. omega arith)
 
   -- t enters a free one
-  pub entered : section (2 * l) ≡ None → (stance_at (p t) l).inside ≡ None → (stance_at (q t) l).inside ≡ Some Main → after (2 * l) ≡ Some t → Sections q after
+  pub entered : section (2 * l) ≡ None → (station_at (p t) l).inside ≡ None → (station_at (q t) l).inside ≡ Some Main → after (2 * l) ≡ Some t → Sections q after
   entered free out within held = by_main own
       (λ u ne h. let a : section (2 * l) ≡ Some u = (s u l Main).0 h in cc)
       (λ u h. let a : Some t ≡ Some u = sym held ∙ h in cc)
     where
-      own : (m : Line) → (stance_at (q t) l).inside ≡ Some m ↔ after (key_of l m) ≡ Some t
+      own : (m : Line) → (station_at (q t) l).inside ≡ Some m ↔ after (key_of l m) ≡ Some t
       own Main = (λ h. held, λ h. within)
-      own Second = (λ h. absurd (let a : Some Main ≡ Some Second = sym within ∙ h in cc), λ h. absurd (let a : (stance_at (p t) l).inside ≡ Some Second = (s t l Second).1 (sym (elsewhere (2 * l + 1) (λ f. omega arith)) ∙ h) in cc))
+      own Second = (λ h. absurd (let a : Some Main ≡ Some Second = sym within ∙ h in cc), λ h. absurd (let a : (station_at (p t) l).inside ≡ Some Second = (s t l Second).1 (sym (elsewhere (2 * l + 1) (λ f. omega arith)) ∙ h) in cc))
 
   -- t leaves its own
-  pub left : (stance_at (p t) l).inside ≡ Some Main → (stance_at (q t) l).inside ≡ None → after (2 * l) ≡ None → Sections q after
+  pub left : (station_at (p t) l).inside ≡ Some Main → (station_at (q t) l).inside ≡ None → after (2 * l) ≡ None → Sections q after
   left within out free = by_main own
       (λ u ne h. ne (let a : section (2 * l) ≡ Some u = (s u l Main).0 h in let b : section (2 * l) ≡ Some t = (s t l Main).0 within in cc))
       (λ u h. absurd (let a : None ≡ Some u = sym free ∙ h in cc))
     where
-      own : (m : Line) → (stance_at (q t) l).inside ≡ Some m ↔ after (key_of l m) ≡ Some t
+      own : (m : Line) → (station_at (q t) l).inside ≡ Some m ↔ after (key_of l m) ≡ Some t
       own Main = (λ h. absurd (let a : None ≡ Some Main = sym out ∙ h in cc), λ h. absurd (let a : None ≡ Some t = sym free ∙ h in cc))
-      own Second = (λ h. absurd (let a : None ≡ Some Second = sym out ∙ h in cc), λ h. absurd (let a : (stance_at (p t) l).inside ≡ Some Second = (s t l Second).1 (sym (elsewhere (2 * l + 1) (λ f. omega arith)) ∙ h) in let b : Some Main ≡ Some Second = sym within ∙ a in cc))
+      own Second = (λ h. absurd (let a : None ≡ Some Second = sym out ∙ h in cc), λ h. absurd (let a : (station_at (p t) l).inside ≡ Some Second = (s t l Second).1 (sym (elsewhere (2 * l + 1) (λ f. omega arith)) ∙ h) in let b : Some Main ≡ Some Second = sym within ∙ a in cc))
 
 -- ---------------------------------------------------------------- lines
 
@@ -87,12 +87,12 @@ in_main (Some Main) h = refl
 in_main (Some Second) h = absurd (omega arith)
 in_main None h = absurd (omega arith)
 
-pub lines_same : (p q : ℕ → Place) (queue after : ℕ → List Waiter) → Lines p queue → ((u k : ℕ) → (stance_at (q u) k).stands ≡ (stance_at (p u) k).stands) → ((key : ℕ) → after key ≡ queue key) → Lines q after
+pub lines_same : (p q : ℕ → Place) (queue after : ℕ → List Waiter) → Lines p queue → ((u k : ℕ) → (station_at (q u) k).stands ≡ (station_at (p u) k).stands) → ((key : ℕ) → after key ≡ queue key) → Lines q after
 lines_same p q queue after s e same t l m = ap (times t) (same (key_of l m)) ∙ s t l m ∙ ap (λ x. stood_in x m) (sym (e t l))
 
 -- one thread comes into the main line, or goes out of it
-pub line_moved : (p q : ℕ → Place) (queue after : ℕ → List Waiter) → Lines p queue → (t l : ℕ) → ((u k : ℕ) → (u ≡ t → k ≡ l → ⊥) → (stance_at (q u) k).stands ≡ (stance_at (p u) k).stands)
-    → ((key : ℕ) → key ≢ 2 * l → after key ≡ queue key) → ((u : ℕ) → u ≢ t → times u (after (2 * l)) ≡ times u (queue (2 * l))) → ((m : Line) → times t (after (key_of l m)) ≡ stood_in (stance_at (q t) l).stands m) → Lines q after
+pub line_moved : (p q : ℕ → Place) (queue after : ℕ → List Waiter) → Lines p queue → (t l : ℕ) → ((u k : ℕ) → (u ≡ t → k ≡ l → ⊥) → (station_at (q u) k).stands ≡ (station_at (p u) k).stands)
+    → ((key : ℕ) → key ≢ 2 * l → after key ≡ queue key) → ((u : ℕ) → u ≢ t → times u (after (2 * l)) ≡ times u (queue (2 * l))) → ((m : Line) → times t (after (key_of l m)) ≡ stood_in (station_at (q t) l).stands m) → Lines q after
 line_moved p q queue after s t l others elsewhere counts own u k m = elim (cases_eq k l) [
   | inl e ↦ elim (cases_eq u t) [
     | inl f ↦ rw (e, f) (own m)
@@ -101,7 +101,7 @@ line_moved p q queue after s t l others elsewhere counts own u k m = elim (cases
   | inr ne ↦ ap (times u) (elsewhere (key_of k m) (other_key l k m ne)) ∙ s u k m ∙ ap (λ x. stood_in x m) (sym (others u k (λ f g. ne g)))
 ]
   where
-    at_line : u ≢ t → (m : Line) → times u (after (key_of l m)) ≡ stood_in (stance_at (q u) l).stands m
+    at_line : u ≢ t → (m : Line) → times u (after (key_of l m)) ≡ stood_in (station_at (q u) l).stands m
     at_line ne Main = counts u ne ∙ s u l Main ∙ ap (λ x. stood_in x Main) (sym (others u l (λ f g. ne f)))
     at_line ne Second = ap (times u) (elsewhere (2 * l + 1) (λ f. omega arith)) ∙ s u l Second ∙ ap (λ x. stood_in x Second) (sym (others u l (λ f g. ne f)))
 
@@ -122,10 +122,10 @@ link (Some b) u = hand u b
 pub record AreLinked (p : ℕ → Place) (t v l : ℕ) (x : Option Bool) : Type 0 where
   pub of_t : IsOf l (p t)
   pub of_v : IsOf l (p v)
-  pub carries : (stance (p t)).carries ≡ link x v
-  pub free : (stance (p t)).hand ≡ None
-  pub hand : (stance (p v)).hand ≡ link x t
-  pub bare : (stance (p v)).carries ≡ None
+  pub carries : (station (p t)).carries ≡ link x v
+  pub free : (station (p t)).hand ≡ None
+  pub hand : (station (p v)).hand ≡ link x t
+  pub bare : (station (p v)).carries ≡ None
 
 linked_is : (x : Option Bool) (u v : ℕ) (b : Bool) → link x v ≡ hand u b → u ≡ v
 linked_is (Some c) u v b h = cc
@@ -139,22 +139,22 @@ module _ (p : ℕ → Place) (t v l : ℕ) (x : Option Bool) (a : AreLinked p t 
   -- whom t has in hand is v
   only : (u k : ℕ) (b : Bool) → carried_at (p t) k ≡ hand u b → (u ≡ v) × (k ≡ l)
   only u k b h = elim (cases_eq k l) [
-    | inl e ↦ (linked_is x u v b (sym (ap (λ (y : Stance). y.carries) (stance_here l (p t) a.of_t) ∙ a.carries) ∙ rw e at h), e)
-    | inr ne ↦ absurd (let g : carried_at (p t) k ≡ None = ap (λ (y : Stance). y.carries) (stance_elsewhere l k (p t) a.of_t ne) in cc)
+    | inl e ↦ (linked_is x u v b (sym (ap (λ (y : Station). y.carries) (station_here l (p t) a.of_t) ∙ a.carries) ∙ rw e at h), e)
+    | inr ne ↦ absurd (let g : carried_at (p t) k ≡ None = ap (λ (y : Station). y.carries) (station_elsewhere l k (p t) a.of_t ne) in cc)
   ]
 
   -- and v is in no hand but that of t
   mine : (u k : ℕ) (b : Bool) → hand_at (p v) k ≡ hand u b → (u ≡ t) × (k ≡ l)
   mine u k b h = elim (cases_eq k l) [
-    | inl e ↦ (linked_is x u t b (sym (ap (λ (y : Stance). y.hand) (stance_here l (p v) a.of_v) ∙ a.hand) ∙ rw e at h), e)
-    | inr ne ↦ absurd (let g : hand_at (p v) k ≡ None = ap (λ (y : Stance). y.hand) (stance_elsewhere l k (p v) a.of_v ne) in cc)
+    | inl e ↦ (linked_is x u t b (sym (ap (λ (y : Station). y.hand) (station_here l (p v) a.of_v) ∙ a.hand) ∙ rw e at h), e)
+    | inr ne ↦ absurd (let g : hand_at (p v) k ≡ None = ap (λ (y : Station). y.hand) (station_elsewhere l k (p v) a.of_v ne) in cc)
   ]
 
   there : (b : Bool) → carried_at (p t) l ≡ hand v b → hand_at (p v) l ≡ hand t b
-  there b h = ap (λ (y : Stance). y.hand) (stance_here l (p v) a.of_v) ∙ a.hand ∙ linked_back x t v b (sym (ap (λ (y : Stance). y.carries) (stance_here l (p t) a.of_t) ∙ a.carries) ∙ h)
+  there b h = ap (λ (y : Station). y.hand) (station_here l (p v) a.of_v) ∙ a.hand ∙ linked_back x t v b (sym (ap (λ (y : Station). y.carries) (station_here l (p t) a.of_t) ∙ a.carries) ∙ h)
 
   back : (b : Bool) → hand_at (p v) l ≡ hand t b → carried_at (p t) l ≡ hand v b
-  back b h = ap (λ (y : Stance). y.carries) (stance_here l (p t) a.of_t) ∙ a.carries ∙ linked_back x v t b (sym (ap (λ (y : Stance). y.hand) (stance_here l (p v) a.of_v) ∙ a.hand) ∙ h)
+  back b h = ap (λ (y : Station). y.carries) (station_here l (p t) a.of_t) ∙ a.carries ∙ linked_back x v t b (sym (ap (λ (y : Station). y.hand) (station_here l (p v) a.of_v) ∙ a.hand) ∙ h)
 
   unheld : (k u : ℕ) (b : Bool) → hand_at (p t) k ≡ hand u b → ⊥
   unheld k u b h = let g : hand_at (p t) k ≡ None = nothing_at (p t) k (λ y. y.hand) refl a.free in cc

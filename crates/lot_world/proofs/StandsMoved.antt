@@ -11,9 +11,9 @@ use Rattle.abstract_locks.specs.Purposes.{rules_of}
 use Rattle.abstract_locks.specs.Sites.{Line, Main, Second}
 use Rattle.lot_world.specs.Machine.{State, place_at, kind_at, section_at, queue_at}
 use Rattle.lot_world.specs.OnlyMutexes.{is_mutex}
-use Rattle.lot_world.specs.MutexDeeds.{Stance, hand, nowhere, stance, stance_at}
+use Rattle.lot_world.specs.MutexDeeds.{Station, hand, nowhere, station, station_at}
 use Rattle.lot_world.specs.SitesOf.{Stands, Sections, Lines, Hands, CallsMutex, key_of, stood_in}
-use Rattle.lot_world.proofs.Glue.{IsOf, same, differ, put_here, put_other, stance_here}
+use Rattle.lot_world.proofs.Glue.{IsOf, same, differ, put_here, put_other, station_here}
 use Rattle.lot_world.proofs.MutexTable.{mutex}
 use Rattle.lot_world.proofs.StandsKept.{part_put, part_else, sections_same, entered, left, lines_same, line_moved, hands_same, link, AreLinked, hands_pair, calls_of, calls_in}
 
@@ -49,55 +49,55 @@ module _ (w v : State) (stands : Stands w) (kinds : (k : ℕ) → kind_at v k �
   abbrev now : ℕ → Place
   now = putting (place_at w) t p2
 
-  same_part : {A : Type 0} (g : Stance → A) → g (stance p2) ≡ g (stance (place_at w t)) → (u k : ℕ) → g (stance_at (now u) k) ≡ g (stance_at (place_at w u) k)
+  same_part : {A : Type 0} (g : Station → A) → g (station p2) ≡ g (station (place_at w t)) → (u k : ℕ) → g (station_at (now u) k) ≡ g (station_at (place_at w u) k)
   same_part g e = part_put g l (place_at w) t p2 own of e
 
-  same_hands : (stance p2).carries ≡ (stance (place_at w t)).carries → (stance p2).hand ≡ (stance (place_at w t)).hand → Hands now
+  same_hands : (station p2).carries ≡ (station (place_at w t)).carries → (station p2).hand ≡ (station (place_at w t)).hand → Hands now
   same_hands c n = hands_same (place_at w) now stands.hands (same_part (λ x. x.carries) c) (same_part (λ x. x.hand) n)
 
-  -- with the same stance, and the same sections and lines
-  pub still : ((key : ℕ) → section_at v key ≡ section_at w key) → ((key : ℕ) → queue_at v key ≡ queue_at w key) → stance p2 ≡ stance (place_at w t) → Stands v
+  -- with the same station, and the same sections and lines
+  pub still : ((key : ℕ) → section_at v key ≡ section_at w key) → ((key : ℕ) → queue_at v key ≡ queue_at w key) → station p2 ≡ station (place_at w t) → Stands v
   still es eq e = stands_then v now places
-      (subst (λ (f : ℕ → Option ℕ). Sections now f) (λ i key. sym (es key) i) (sections_same (place_at w) now (section_at w) stands.sections (same_part (λ x. x.inside) (ap (λ (x : Stance). x.inside) e))))
-      (lines_same (place_at w) now (queue_at w) (queue_at v) stands.lines (same_part (λ x. x.stands) (ap (λ (x : Stance). x.stands) e)) eq)
-      (same_hands (ap (λ (x : Stance). x.carries) e) (ap (λ (x : Stance). x.hand) e))
+      (subst (λ (f : ℕ → Option ℕ). Sections now f) (λ i key. sym (es key) i) (sections_same (place_at w) now (section_at w) stands.sections (same_part (λ x. x.inside) (ap (λ (x : Station). x.inside) e))))
+      (lines_same (place_at w) now (queue_at w) (queue_at v) stands.lines (same_part (λ x. x.stands) (ap (λ (x : Station). x.stands) e)) eq)
+      (same_hands (ap (λ (x : Station). x.carries) e) (ap (λ (x : Station). x.hand) e))
       (calls_one w v stands kinds l of_mutex t p2 of)
 
-  same_lines : ((key : ℕ) → queue_at v key ≡ queue_at w key) → (stance p2).stands ≡ (stance (place_at w t)).stands → Lines now (queue_at v)
+  same_lines : ((key : ℕ) → queue_at v key ≡ queue_at w key) → (station p2).stands ≡ (station (place_at w t)).stands → Lines now (queue_at v)
   same_lines eq e = lines_same (place_at w) now (queue_at w) (queue_at v) stands.lines (same_part (λ x. x.stands) e) eq
 
-  other_part : {A : Type 0} (g : Stance → A) → (u k : ℕ) → (u ≡ t → k ≡ l → ⊥) → g (stance_at (now u) k) ≡ g (stance_at (place_at w u) k)
+  other_part : {A : Type 0} (g : Station → A) → (u k : ℕ) → (u ≡ t → k ≡ l → ⊥) → g (station_at (now u) k) ≡ g (station_at (place_at w u) k)
   other_part g = part_else g l (place_at w) t p2 own of
 
-  stance_then : stance_at (now t) l ≡ stance p2
-  stance_then = ap (λ p. stance_at p l) (put_here (place_at w) t p2) ∙ stance_here l p2 of
+  station_then : station_at (now t) l ≡ station p2
+  station_then = ap (λ p. station_at p l) (put_here (place_at w) t p2) ∙ station_here l p2 of
 
-  stance_before : stance_at (place_at w t) l ≡ stance (place_at w t)
-  stance_before = stance_here l (place_at w t) own
+  station_before : station_at (place_at w t) l ≡ station (place_at w t)
+  station_before = station_here l (place_at w t) own
 
   module _ (elsewhere : (key : ℕ) → key ≢ 2 * l → section_at v key ≡ section_at w key) (queues : (key : ℕ) → queue_at v key ≡ queue_at w key) where
     -- into a section that is free
-    pub goes_in : section_at w (2 * l) ≡ None → section_at v (2 * l) ≡ Some t → (stance (place_at w t)).inside ≡ None → stance p2 ≡ record (stance (place_at w t)) { inside = Some Main } → Stands v
+    pub goes_in : section_at w (2 * l) ≡ None → section_at v (2 * l) ≡ Some t → (station (place_at w t)).inside ≡ None → station p2 ≡ record (station (place_at w t)) { inside = Some Main } → Stands v
     goes_in free held out e = stands_then v now places
-        (entered (place_at w) now (section_at w) (section_at v) stands.sections t l (other_part (λ x. x.inside)) elsewhere free (ap (λ (x : Stance). x.inside) stance_before ∙ out) (ap (λ (x : Stance). x.inside) (stance_then ∙ e)) held)
-        (same_lines queues (ap (λ (x : Stance). x.stands) e))
-        (same_hands (ap (λ (x : Stance). x.carries) e) (ap (λ (x : Stance). x.hand) e))
+        (entered (place_at w) now (section_at w) (section_at v) stands.sections t l (other_part (λ x. x.inside)) elsewhere free (ap (λ (x : Station). x.inside) station_before ∙ out) (ap (λ (x : Station). x.inside) (station_then ∙ e)) held)
+        (same_lines queues (ap (λ (x : Station). x.stands) e))
+        (same_hands (ap (λ (x : Station). x.carries) e) (ap (λ (x : Station). x.hand) e))
         (calls_one w v stands kinds l of_mutex t p2 of)
 
     -- out of its own
-    pub goes_out : section_at v (2 * l) ≡ None → (stance (place_at w t)).inside ≡ Some Main → stance p2 ≡ record (stance (place_at w t)) { inside = None } → Stands v
+    pub goes_out : section_at v (2 * l) ≡ None → (station (place_at w t)).inside ≡ Some Main → station p2 ≡ record (station (place_at w t)) { inside = None } → Stands v
     goes_out free within e = stands_then v now places
-        (left (place_at w) now (section_at w) (section_at v) stands.sections t l (other_part (λ x. x.inside)) elsewhere (ap (λ (x : Stance). x.inside) stance_before ∙ within) (ap (λ (x : Stance). x.inside) (stance_then ∙ e)) free)
-        (same_lines queues (ap (λ (x : Stance). x.stands) e))
-        (same_hands (ap (λ (x : Stance). x.carries) e) (ap (λ (x : Stance). x.hand) e))
+        (left (place_at w) now (section_at w) (section_at v) stands.sections t l (other_part (λ x. x.inside)) elsewhere (ap (λ (x : Station). x.inside) station_before ∙ within) (ap (λ (x : Station). x.inside) (station_then ∙ e)) free)
+        (same_lines queues (ap (λ (x : Station). x.stands) e))
+        (same_hands (ap (λ (x : Station). x.carries) e) (ap (λ (x : Station). x.hand) e))
         (calls_one w v stands kinds l of_mutex t p2 of)
 
   -- into the main line, or out of it
   pub line_changes : ((key : ℕ) → section_at v key ≡ section_at w key) → ((key : ℕ) → key ≢ 2 * l → queue_at v key ≡ queue_at w key) → ((u : ℕ) → u ≢ t → times u (queue_at v (2 * l)) ≡ times u (queue_at w (2 * l)))
-      → ((m : Line) → times t (queue_at v (key_of l m)) ≡ stood_in (stance p2).stands m) → (stance p2).inside ≡ (stance (place_at w t)).inside → (stance p2).carries ≡ (stance (place_at w t)).carries → (stance p2).hand ≡ (stance (place_at w t)).hand → Stands v
+      → ((m : Line) → times t (queue_at v (key_of l m)) ≡ stood_in (station p2).stands m) → (station p2).inside ≡ (station (place_at w t)).inside → (station p2).carries ≡ (station (place_at w t)).carries → (station p2).hand ≡ (station (place_at w t)).hand → Stands v
   line_changes es elsewhere counts own_count i c n = stands_then v now places
       (subst (λ (f : ℕ → Option ℕ). Sections now f) (λ j key. sym (es key) j) (sections_same (place_at w) now (section_at w) stands.sections (same_part (λ x. x.inside) i)))
-      (line_moved (place_at w) now (queue_at w) (queue_at v) stands.lines t l (other_part (λ x. x.stands)) elsewhere counts (λ m. own_count m ∙ ap (λ (x : Stance). stood_in x.stands m) (sym stance_then)))
+      (line_moved (place_at w) now (queue_at w) (queue_at v) stands.lines t l (other_part (λ x. x.stands)) elsewhere counts (λ m. own_count m ∙ ap (λ (x : Station). stood_in x.stands m) (sym station_then)))
       (same_hands c n)
       (calls_one w v stands kinds l of_mutex t p2 of)
 
@@ -120,72 +120,72 @@ module _ (w v : State) (stands : Stands w) (kinds : (k : ℕ) → kind_at v k �
   own_t : IsOf l (halfway t)
   own_t = rw still_t own
 
-  part_x : {A : Type 0} (g : Stance → A) → g (stance px) ≡ g (stance (place_at w x)) → (u k : ℕ) → g (stance_at (halfway u) k) ≡ g (stance_at (place_at w u) k)
+  part_x : {A : Type 0} (g : Station → A) → g (station px) ≡ g (station (place_at w x)) → (u k : ℕ) → g (station_at (halfway u) k) ≡ g (station_at (place_at w u) k)
   part_x g = part_put g l (place_at w) x px own_x of_x
 
-  part_t : {A : Type 0} (g : Stance → A) → g (stance p2) ≡ g (stance (place_at w t)) → (u k : ℕ) → g (stance_at (both_now u) k) ≡ g (stance_at (halfway u) k)
-  part_t g e = part_put g l halfway t p2 own_t of (e ∙ sym (ap (λ y. g (stance y)) still_t))
+  part_t : {A : Type 0} (g : Station → A) → g (station p2) ≡ g (station (place_at w t)) → (u k : ℕ) → g (station_at (both_now u) k) ≡ g (station_at (halfway u) k)
+  part_t g e = part_put g l halfway t p2 own_t of (e ∙ sym (ap (λ y. g (station y)) still_t))
 
   -- a hand changes between them
-  linked_hands : (y z : Option Bool) → AreLinked (place_at w) t x l y → (stance p2).carries ≡ link z x → (stance p2).hand ≡ None → (stance px).hand ≡ link z t → (stance px).carries ≡ None → Hands both_now
+  linked_hands : (y z : Option Bool) → AreLinked (place_at w) t x l y → (station p2).carries ≡ link z x → (station p2).hand ≡ None → (station px).hand ≡ link z t → (station px).carries ≡ None → Hands both_now
   linked_hands y z before c f h b = hands_pair (place_at w) both_now stands.hands t x l y z before
       (record { of_t = rw (put_here halfway t p2) of; of_v = rw at_x of_x; carries = rw (put_here halfway t p2) c; free = rw (put_here halfway t p2) f; hand = rw at_x h; bare = rw at_x b })
       (λ u nt nx. put_other halfway t p2 u nt ∙ put_other (place_at w) x px u nx)
 
-  same_inside : (stance p2).inside ≡ (stance (place_at w t)).inside → (stance px).inside ≡ (stance (place_at w x)).inside → ((key : ℕ) → section_at v key ≡ section_at w key) → Sections both_now (section_at v)
+  same_inside : (station p2).inside ≡ (station (place_at w t)).inside → (station px).inside ≡ (station (place_at w x)).inside → ((key : ℕ) → section_at v key ≡ section_at w key) → Sections both_now (section_at v)
   same_inside e ex es = subst (λ (f : ℕ → Option ℕ). Sections both_now f) (λ j key. sym (es key) j) (sections_same (place_at w) both_now (section_at w) stands.sections (λ u k. part_t (λ y. y.inside) e u k ∙ part_x (λ y. y.inside) ex u k))
 
-  same_stood : (stance p2).stands ≡ (stance (place_at w t)).stands → (stance px).stands ≡ (stance (place_at w x)).stands → ((key : ℕ) → queue_at v key ≡ queue_at w key) → Lines both_now (queue_at v)
+  same_stood : (station p2).stands ≡ (station (place_at w t)).stands → (station px).stands ≡ (station (place_at w x)).stands → ((key : ℕ) → queue_at v key ≡ queue_at w key) → Lines both_now (queue_at v)
   same_stood e ex eq = lines_same (place_at w) both_now (queue_at w) (queue_at v) stands.lines (λ u k. part_t (λ y. y.stands) e u k ∙ part_x (λ y. y.stands) ex u k) eq
 
   -- t leaves its section, and lets x go, whom it has in hand
   pub lets_go : (b : Bool) → (elsewhere : (key : ℕ) → key ≢ 2 * l → section_at v key ≡ section_at w key) → section_at v (2 * l) ≡ None → ((key : ℕ) → queue_at v key ≡ queue_at w key)
-      → stance (place_at w t) ≡ record nowhere { inside = Some Main; carries = hand x b } → stance (place_at w x) ≡ record nowhere { hand = hand t b } → stance p2 ≡ nowhere → stance px ≡ nowhere → Stands v
+      → station (place_at w t) ≡ record nowhere { inside = Some Main; carries = hand x b } → station (place_at w x) ≡ record nowhere { hand = hand t b } → station p2 ≡ nowhere → station px ≡ nowhere → Stands v
   lets_go b elsewhere free eq was was_x is is_x = stands_then v both_now places
       (left (place_at w) both_now (section_at w) (section_at v) stands.sections t l
-      (λ u k ne. part_else (λ y. y.inside) l halfway t p2 own_t of u k ne ∙ part_x (λ y. y.inside) (ap (λ (y : Stance). y.inside) (is_x ∙ sym (ap (λ (y : Stance). record y { hand = None }) was_x))) u k)
-      elsewhere (ap (λ (y : Stance). y.inside) (stance_here l (place_at w t) own ∙ was)) (ap (λ y. (stance_at y l).inside) (put_here halfway t p2) ∙ ap (λ (y : Stance). y.inside) (stance_here l p2 of ∙ is)) free)
-      (same_stood (ap (λ (y : Stance). y.stands) is ∙ sym (ap (λ (y : Stance). y.stands) was)) (ap (λ (y : Stance). y.stands) is_x ∙ sym (ap (λ (y : Stance). y.stands) was_x)) eq)
+      (λ u k ne. part_else (λ y. y.inside) l halfway t p2 own_t of u k ne ∙ part_x (λ y. y.inside) (ap (λ (y : Station). y.inside) (is_x ∙ sym (ap (λ (y : Station). record y { hand = None }) was_x))) u k)
+      elsewhere (ap (λ (y : Station). y.inside) (station_here l (place_at w t) own ∙ was)) (ap (λ y. (station_at y l).inside) (put_here halfway t p2) ∙ ap (λ (y : Station). y.inside) (station_here l p2 of ∙ is)) free)
+      (same_stood (ap (λ (y : Station). y.stands) is ∙ sym (ap (λ (y : Station). y.stands) was)) (ap (λ (y : Station). y.stands) is_x ∙ sym (ap (λ (y : Station). y.stands) was_x)) eq)
       (linked_hands (Some b) None
-      (record { of_t = own; of_v = own_x; carries = ap (λ (y : Stance). y.carries) was; free = ap (λ (y : Stance). y.hand) was; hand = ap (λ (y : Stance). y.hand) was_x; bare = ap (λ (y : Stance). y.carries) was_x })
-      (ap (λ (y : Stance). y.carries) is) (ap (λ (y : Stance). y.hand) is) (ap (λ (y : Stance). y.hand) is_x) (ap (λ (y : Stance). y.carries) is_x))
+      (record { of_t = own; of_v = own_x; carries = ap (λ (y : Station). y.carries) was; free = ap (λ (y : Station). y.hand) was; hand = ap (λ (y : Station). y.hand) was_x; bare = ap (λ (y : Station). y.carries) was_x })
+      (ap (λ (y : Station). y.carries) is) (ap (λ (y : Station). y.hand) is) (ap (λ (y : Station). y.hand) is_x) (ap (λ (y : Station). y.carries) is_x))
       (calls_two w v stands kinds l of_mutex x px t p2 of_x of)
 
   -- t hands x the lock
   pub hands_lock : ((key : ℕ) → section_at v key ≡ section_at w key) → ((key : ℕ) → queue_at v key ≡ queue_at w key)
-      → stance (place_at w t) ≡ record nowhere { inside = Some Main; carries = hand x false } → stance (place_at w x) ≡ record nowhere { hand = hand t false } → stance p2 ≡ record nowhere { inside = Some Main; carries = hand x true } → stance px ≡ record nowhere { hand = hand t true } → Stands v
+      → station (place_at w t) ≡ record nowhere { inside = Some Main; carries = hand x false } → station (place_at w x) ≡ record nowhere { hand = hand t false } → station p2 ≡ record nowhere { inside = Some Main; carries = hand x true } → station px ≡ record nowhere { hand = hand t true } → Stands v
   hands_lock es eq was was_x is is_x = stands_then v both_now places
-      (same_inside (ap (λ (y : Stance). y.inside) is ∙ sym (ap (λ (y : Stance). y.inside) was)) (ap (λ (y : Stance). y.inside) is_x ∙ sym (ap (λ (y : Stance). y.inside) was_x)) es)
-      (same_stood (ap (λ (y : Stance). y.stands) is ∙ sym (ap (λ (y : Stance). y.stands) was)) (ap (λ (y : Stance). y.stands) is_x ∙ sym (ap (λ (y : Stance). y.stands) was_x)) eq)
+      (same_inside (ap (λ (y : Station). y.inside) is ∙ sym (ap (λ (y : Station). y.inside) was)) (ap (λ (y : Station). y.inside) is_x ∙ sym (ap (λ (y : Station). y.inside) was_x)) es)
+      (same_stood (ap (λ (y : Station). y.stands) is ∙ sym (ap (λ (y : Station). y.stands) was)) (ap (λ (y : Station). y.stands) is_x ∙ sym (ap (λ (y : Station). y.stands) was_x)) eq)
       (linked_hands (Some false) (Some true)
-      (record { of_t = own; of_v = own_x; carries = ap (λ (y : Stance). y.carries) was; free = ap (λ (y : Stance). y.hand) was; hand = ap (λ (y : Stance). y.hand) was_x; bare = ap (λ (y : Stance). y.carries) was_x })
-      (ap (λ (y : Stance). y.carries) is) (ap (λ (y : Stance). y.hand) is) (ap (λ (y : Stance). y.hand) is_x) (ap (λ (y : Stance). y.carries) is_x))
+      (record { of_t = own; of_v = own_x; carries = ap (λ (y : Station). y.carries) was; free = ap (λ (y : Station). y.hand) was; hand = ap (λ (y : Station). y.hand) was_x; bare = ap (λ (y : Station). y.carries) was_x })
+      (ap (λ (y : Station). y.carries) is) (ap (λ (y : Station). y.hand) is) (ap (λ (y : Station). y.hand) is_x) (ap (λ (y : Station). y.carries) is_x))
       (calls_two w v stands kinds l of_mutex x px t p2 of_x of)
 
   -- t takes x, the first of the main line
   pub takes : (rest : List Waiter) (first : Waiter) → ((key : ℕ) → section_at v key ≡ section_at w key) → ((key : ℕ) → key ≢ 2 * l → queue_at v key ≡ queue_at w key) → queue_at w (2 * l) ≡ first ∷ rest → queue_at v (2 * l) ≡ rest → first.thread ≡ x
-      → (stance (place_at w t)).carries ≡ None → (stance (place_at w t)).hand ≡ None → stance (place_at w x) ≡ record nowhere { stands = Some Main }
-      → stance p2 ≡ record (stance (place_at w t)) { carries = hand x false } → stance px ≡ record nowhere { hand = hand t false } → Stands v
+      → (station (place_at w t)).carries ≡ None → (station (place_at w t)).hand ≡ None → station (place_at w x) ≡ record nowhere { stands = Some Main }
+      → station p2 ≡ record (station (place_at w t)) { carries = hand x false } → station px ≡ record nowhere { hand = hand t false } → Stands v
   takes rest first es elsewhere was_line line who bare free was_x is is_x = stands_then v both_now places
-      (same_inside (ap (λ (y : Stance). y.inside) is) (ap (λ (y : Stance). y.inside) is_x ∙ sym (ap (λ (y : Stance). y.inside) was_x)) es)
+      (same_inside (ap (λ (y : Station). y.inside) is) (ap (λ (y : Station). y.inside) is_x ∙ sym (ap (λ (y : Station). y.inside) was_x)) es)
       (line_moved (place_at w) both_now (queue_at w) (queue_at v) stands.lines x l
-      (λ u k ne. part_t (λ y. y.stands) (ap (λ (y : Stance). y.stands) is) u k ∙ part_else (λ y. y.stands) l (place_at w) x px own_x of_x u k ne)
+      (λ u k ne. part_t (λ y. y.stands) (ap (λ (y : Station). y.stands) is) u k ∙ part_else (λ y. y.stands) l (place_at w) x px own_x of_x u k ne)
       elsewhere
       (λ u ne. rw (line, was_line) (let a : ◌≡◌ {A = ℕ} (if first.thread == u then 1 else 0) 0 = ap (λ (c : Bool). if c then 1 else 0) (differ first.thread u (λ e. ne (sym e ∙ who))) in omega arith))
       counts)
       (linked_hands None (Some false)
-      (record { of_t = own; of_v = own_x; carries = bare; free = free; hand = ap (λ (y : Stance). y.hand) was_x; bare = ap (λ (y : Stance). y.carries) was_x })
-      (ap (λ (y : Stance). y.carries) is) (ap (λ (y : Stance). y.hand) is ∙ free) (ap (λ (y : Stance). y.hand) is_x) (ap (λ (y : Stance). y.carries) is_x))
+      (record { of_t = own; of_v = own_x; carries = bare; free = free; hand = ap (λ (y : Station). y.hand) was_x; bare = ap (λ (y : Station). y.carries) was_x })
+      (ap (λ (y : Station). y.carries) is) (ap (λ (y : Station). y.hand) is ∙ free) (ap (λ (y : Station). y.hand) is_x) (ap (λ (y : Station). y.carries) is_x))
       (calls_two w v stands kinds l of_mutex x px t p2 of_x of)
     where
       -- it stood there once
-      counts : (m : Line) → times x (queue_at v (key_of l m)) ≡ stood_in (stance_at (both_now x) l).stands m
-      counts m = behind m ∙ sym (ap (λ y. stood_in y.stands m) (ap (λ y. stance_at y l) at_x ∙ stance_here l px of_x ∙ is_x))
+      counts : (m : Line) → times x (queue_at v (key_of l m)) ≡ stood_in (station_at (both_now x) l).stands m
+      counts m = behind m ∙ sym (ap (λ y. stood_in y.stands m) (ap (λ y. station_at y l) at_x ∙ station_here l px of_x ∙ is_x))
         where
           behind : (m : Line) → times x (queue_at v (key_of l m)) ≡ 0
-          behind Main = let a : times x (queue_at w (2 * l)) ≡ 1 = stands.lines x l Main ∙ ap (λ y. stood_in y.stands Main) (stance_here l (place_at w x) own_x ∙ was_x) in
+          behind Main = let a : times x (queue_at w (2 * l)) ≡ 1 = stands.lines x l Main ∙ ap (λ y. stood_in y.stands Main) (station_here l (place_at w x) own_x ∙ was_x) in
               let b : times x (first ∷ rest) ≡ 1 = sym (ap (times x) was_line) ∙ a in
               let c : (first.thread == x) ≡ true = rw who (same x) in
               let d : 1 + times x rest ≡ 1 = sym (ap (λ z. (if z then 1 else 0) + times x rest) c) ∙ b in
               rw line (omega arith)
-          behind Second = ap (times x) (elsewhere (2 * l + 1) (λ e. omega arith)) ∙ stands.lines x l Second ∙ ap (λ y. stood_in y.stands Second) (stance_here l (place_at w x) own_x ∙ was_x)
+          behind Second = ap (times x) (elsewhere (2 * l + 1) (λ e. omega arith)) ∙ stands.lines x l Second ∙ ap (λ y. stood_in y.stands Second) (station_here l (place_at w x) own_x ∙ was_x)

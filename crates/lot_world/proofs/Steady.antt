@@ -18,7 +18,7 @@ use Rattle.abstract_locks.specs.Sites.{Line, Main, Second, Claim, Has}
 use Rattle.lot_world.specs.Machine.{State, place_at, word_at, queue_at, after}
 use Rattle.lot_world.specs.Fits.{IsShaped}
 use Rattle.lot_world.specs.Refinement.{lock_state}
-use Rattle.lot_world.specs.MutexDeeds.{Stance, Hand, hand, nowhere, mutex_doing, mutex_stance, stance_at, doing_on}
+use Rattle.lot_world.specs.MutexDeeds.{Station, Hand, hand, nowhere, mutex_doing, mutex_station, station_at, doing_on}
 use Rattle.lot_world.specs.SitesOf.{IsSteady, stood_in, carried_at, hand_at}
 use Rattle.lot_world.specs.Sound.{IsSound, Taking, taken_from, handed_over, IsTakenBy, Carries, at_main, owned, one_if, inside, queued, holds, main_section, main_queue}
 use Rattle.lot_world.proofs.Counts.{without_absent}
@@ -34,7 +34,7 @@ use Rattle.lot_world.proofs.TurnsKept.{after_steady}
 
 -- ---------------------------------------------------------------- lines and sections
 
-main_is : (l k : ℕ) (s : Stance) (g : Stance → Option Line) → g nowhere ≡ None → (at_main l (g s) ≡ Some k) ↔ (g (if l == k then s else nowhere) ≡ Some Main)
+main_is : (l k : ℕ) (s : Station) (g : Station → Option Line) → g nowhere ≡ None → (at_main l (g s) ≡ Some k) ↔ (g (if l == k then s else nowhere) ≡ Some Main)
 main_is l k s g none = either (l == k) refl (g s) refl
   where
     either : (b : Bool) → (l == k) ≡ b → (x : Option Line) → g s ≡ x → (at_main l x ≡ Some k) ↔ (g (if b then s else nowhere) ≡ Some Main)
@@ -44,13 +44,13 @@ main_is l k s g none = either (l == k) refl (g s) refl
     either false e (Some Main) h = (λ y. absurd (let z : l ≡ k = cc in let t : (l == k) ≡ true = rw z (same k) in cc), λ y. absurd (let z : ◌≡◌ {A = Option Line} None (Some Main) = sym none ∙ y in cc))
     either false e x h = (λ y. absurd cc, λ y. absurd (let z : ◌≡◌ {A = Option Line} None (Some Main) = sym none ∙ y in cc))
 
-inside_main : (p : Place) (k : ℕ) → (inside p ≡ Some k) ↔ ((stance_at p k).inside ≡ Some Main)
+inside_main : (p : Place) (k : ℕ) → (inside p ≡ Some k) ↔ ((station_at p k).inside ≡ Some Main)
 inside_main Idle k = (λ h. absurd cc, λ h. absurd cc)
-inside_main (Mutex l at) k = main_is l k (mutex_stance at) (λ s. s.inside) refl
+inside_main (Mutex l at) k = main_is l k (mutex_station at) (λ s. s.inside) refl
 
-queued_main : (p : Place) (k : ℕ) → (queued p ≡ Some k) ↔ ((stance_at p k).stands ≡ Some Main)
+queued_main : (p : Place) (k : ℕ) → (queued p ≡ Some k) ↔ ((station_at p k).stands ≡ Some Main)
 queued_main Idle k = (λ h. absurd cc, λ h. absurd cc)
-queued_main (Mutex l at) k = main_is l k (mutex_stance at) (λ s. s.stands) refl
+queued_main (Mutex l at) k = main_is l k (mutex_station at) (λ s. s.stands) refl
 
 counted : (o : Option ℕ) (k : ℕ) (x : Option Line) → (o ≡ Some k) ↔ (x ≡ Some Main) → stood_in x Main ≡ one_if o k
 counted None k None h = refl
@@ -83,7 +83,7 @@ owned_is (Mutex l at) k h = by_claim (mutex_doing at).claims refl h
 abbrev taking : ℕ → Bool → Taking
 taking k b = record { lock = k; handed = b }
 
-hand_for : (l k v u : ℕ) (c b : Bool) (s : Stance) (g : Stance → Option Hand) → g s ≡ hand v c → g nowhere ≡ None → (g (if l == k then s else nowhere) ≡ hand u b) ↔ ((v ≡ u) × (taking l c ≡ taking k b))
+hand_for : (l k v u : ℕ) (c b : Bool) (s : Station) (g : Station → Option Hand) → g s ≡ hand v c → g nowhere ≡ None → (g (if l == k then s else nowhere) ≡ hand u b) ↔ ((v ≡ u) × (taking l c ≡ taking k b))
 hand_for l k v u c b s g e n = elim (cases_eq l k) [
   | inl f ↦ rw (f, same k) (λ h. let x : hand v c ≡ hand u b = sym e ∙ h in let y : v ≡ u = cc in let d : c ≡ b = cc in (y, ap (taking k) d), λ h. let d : c ≡ b = ap (λ (x : Taking). x.handed) h.1 in e ∙ (λ i. hand (h.0 i) (d i)))
   | inr ne ↦ rw (differ l k ne) (λ h. absurd (let x : ◌≡◌ {A = Option Hand} None (hand u b) = sym n ∙ h in cc), λ h. absurd (ne (ap (λ (x : Taking). x.lock) h.1)))
@@ -107,7 +107,7 @@ pub sound_of : (w : State) → IsSteady w → IsSound w
 sound_of w s = record {
   steady = s;
   sections = λ t k. (λ h. (s.stands.sections t k Main).0 ((inside_main (place_at w t) k).0 h), λ h. (inside_main (place_at w t) k).1 ((s.stands.sections t k Main).1 h));
-  queues = λ t k. s.stands.lines t k Main ∙ counted (queued (place_at w t)) k (stance_at (place_at w t) k).stands (queued_main (place_at w t) k);
+  queues = λ t k. s.stands.lines t k Main ∙ counted (queued (place_at w t)) k (station_at (place_at w t) k).stands (queued_main (place_at w t) k);
   codes = λ k. codes_by (lock_state w k).exclusive (is_parked (word_at w k)) (word_at w k) (s.sites.word k);
   parked = λ t k h. at_least k (let one : times t (queue_at w (2 * k)) ≡ 1 = s.stands.lines t k Main ∙ ap (λ x. stood_in x Main) ((queued_main (place_at w t) k).0 h) in parked_at w s t k (omega arith));
   held = λ t k h. (s.sites.site k).held t (Has Exclusive) (owned_is (place_at w t) k h);

@@ -26,10 +26,10 @@ use Rattle.lot_world.specs.Machine.{State, place_at, word_at, owners_at, kind_at
 use Rattle.lot_world.specs.Fits.{IsShaped, PlaceFits}
 use Rattle.lot_world.specs.Refinement.{lock_state, taken_at}
 use Rattle.lot_world.specs.OnlyMutexes.{is_mutex}
-use Rattle.lot_world.specs.MutexDeeds.{nowhere, mutex_doing, mutex_stance, stance, acts, begins}
+use Rattle.lot_world.specs.MutexDeeds.{nowhere, mutex_doing, mutex_station, station, acts, begins}
 use Rattle.lot_world.specs.SitesOf.{IsSteady, Goes, site_of}
 use Rattle.lot_world.proofs.Shape.{both}
-use Rattle.lot_world.proofs.OnlyMutexes.{calls_mutex}
+use Rattle.lot_world.proofs.KindsKept.{calls_mutex}
 use Rattle.lot_world.proofs.Glue.{put_places, same}
 use Rattle.lot_world.proofs.MutexTable.{mutex, own_doing, meets, others_same}
 use Rattle.lot_world.proofs.StandsMoved.{mutex_rules, still}
@@ -42,7 +42,7 @@ idle_is (Mutex l at) h = absurd cc
 
 module _ (w : State) (t : ℕ) (steady : IsSteady w) (shape : IsShaped w) (there : t < length w.places) where
   -- it begins, with the claim that the call needs
-  begin_kept : (l : ℕ) (at : MutexPlace) (c : Option Claim) → is_mutex (kind_at w l) ≡ true → place_at w t ≡ Idle → taken_at (Mutex l at) l ≡ None → mutex_doing at ≡ record idle { claims = c } → HasClaim (lock_state w l) t c → mutex_stance at ≡ nowhere → Goes w (put w t (Mutex l at)) l (acts t (Begin c ∷ []))
+  begin_kept : (l : ℕ) (at : MutexPlace) (c : Option Claim) → is_mutex (kind_at w l) ≡ true → place_at w t ≡ Idle → taken_at (Mutex l at) l ≡ None → mutex_doing at ≡ record idle { claims = c } → HasClaim (lock_state w l) t c → mutex_station at ≡ nowhere → Goes w (put w t (Mutex l at)) l (acts t (Begin c ∷ []))
   begin_kept l at c of_mutex is none e has s = record {
     follows = follow w _ l (mutex_rules (kind_at w l) of_mutex) (putting (place_at w) t (Mutex l at)) (word_at w l) (owners_at w l) (queue_at w (2 * l))
         places (length-set w.places t (Mutex l at))
@@ -53,7 +53,7 @@ module _ (w : State) (t : ℕ) (steady : IsSteady w) (shape : IsShaped w) (there
         (λ u ne. others_same mutex (Begin c ∷ []) (site_of w l) t u (tt, tt) ne))
         (has, tt)
         (steady.sites.word l);
-    stands = still w (put w t (Mutex l at)) steady.stands (λ k. refl) l t of_mutex (rw is tt) (Mutex l at) refl places (λ key. refl) (λ key. refl) (s ∙ sym (ap stance is));
+    stands = still w (put w t (Mutex l at)) steady.stands (λ k. refl) l t of_mutex (rw is tt) (Mutex l at) refl places (λ key. refl) (λ key. refl) (s ∙ sym (ap station is));
   }
     where
       places : place_at (put w t (Mutex l at)) ≡ putting (place_at w) t (Mutex l at)

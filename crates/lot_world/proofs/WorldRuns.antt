@@ -15,7 +15,9 @@ use Rattle.lot_world.proofs.Fair.{is_fair}
 use Rattle.lot_world.proofs.LockRuns.{after_locks}
 use Rattle.lot_world.proofs.LockSteps.{after_step}
 use Rattle.lot_world.proofs.OneThing.{one_thing, touches}
-use Rattle.lot_world.proofs.OnlyMutexes.{after_only}
+use Rattle.lot_world.proofs.OnlyMutexes.{after_only, only_of}
+use Rattle.lot_world.proofs.Steady.{sound_of}
+use Rattle.lot_world.specs.SitesOf.{IsSteady}
 use Rattle.lot_world.proofs.Promises.{kept_after}
 use Rattle.lot_world.proofs.Shape.{after_shaped}
 use Rattle.lot_world.proofs.Steady.{after_sound}
@@ -26,6 +28,9 @@ pub record Holds (w : State) : Type 0 where
   pub sound : IsSound w
   pub only : OnlyMutexes w
   pub locks : AreLockStates (locks_of w)
+
+pub holds_of : (w : State) → IsShaped w → IsSteady w → Holds w
+holds_of w shape s = record { shaped = shape; sound = sound_of w s; only = only_of w shape s; locks = λ l. (s.sites.site l).state }
 
 pub holds_after : (w : State) (s : Step) → Holds w → Holds (after w s)
 holds_after w s h = record {

@@ -1,5 +1,5 @@
 -- What a state is made of: the numbers in it name threads, locks and keys that are there.
-use Rattle.std.specs.Prelude.{ℕ, Option, Some, None, ◌≡◌, ◌<◌, ◌≤◌, ◌*◌, List, [], ◌∷◌, length}
+use Rattle.std.specs.Prelude.{ℕ, true, Option, Some, None, ◌≡◌, ◌<◌, ◌≤◌, ◌*◌, List, [], ◌∷◌, length}
 use Rattle.lot_base.specs.declared.keys.Keys.{Keys}
 use Rattle.lot_base.specs.declared.keys.Keys.TheVariants.{One, Two}
 use Rattle.lot_base.specs.declared.wants.Waiter.{Waiter}
@@ -10,9 +10,10 @@ use Rattle.lot_steps.specs.declared.acts.Wakes as wakes
 use Rattle.lot_steps.specs.declared.places.Place.{Place}
 use Rattle.lot_steps.specs.declared.places.Place.TheVariants.{Idle, Mutex}
 use Rattle.lot_steps.specs.declared.mutex.MutexPlace.{MutexPlace}
-use Rattle.lot_steps.specs.declared.mutex.MutexPlace.TheVariants.{Unlock, HandOff}
-use Rattle.lot_steps.specs.declared.mutex.unlock.UnlockAt.TheVariants as unlock
-use Rattle.lot_steps.specs.declared.mutex.hand_off.HandOffAt.TheVariants as hand_off
+use Rattle.lot_steps.specs.declared.mutex.MutexPlace.TheVariants.{Lock}
+use Rattle.lot_steps.specs.declared.mutex.lock.LockAt.TheVariants.{Remove as Removes, Clear, GiveUp}
+use Rattle.lot_steps.specs.MutexSteps.{is_timed}
+use Rattle.lot_steps.specs.MutexProfiles.{mutex_profile}
 use Rattle.lot_world.specs.Machine.{State, place_at, queue_at}
 
 abbrev pub KeysFit : ℕ → Keys → Type 0
@@ -39,15 +40,18 @@ SomeBelow n (Some u) = u < n
 
 -- the thread that a release has taken
 abbrev pub taken_in : MutexPlace → Option ℕ
-taken_in (Unlock (unlock.Clear taken)) = taken
-taken_in (Unlock (unlock.Leave taken)) = taken
-taken_in (HandOff bumps (hand_off.Store taken none_left)) = taken
-taken_in (HandOff bumps (hand_off.Leave taken)) = taken
-taken_in at = None
+taken_in at = (mutex_profile at).taken
+
+-- only a timed call gives up
+abbrev pub GivesUpTimed : MutexPlace → Type 0
+GivesUpTimed (Lock e retries Removes) = is_timed e ≡ true
+GivesUpTimed (Lock e retries Clear) = is_timed e ≡ true
+GivesUpTimed (Lock e retries GiveUp) = is_timed e ≡ true
+GivesUpTimed at = Unit {0}
 
 abbrev pub PlaceFits : ℕ → ℕ → Place → Type 0
 PlaceFits threads locks Idle = Unit {0}
-PlaceFits threads locks (Mutex lock at) = (lock < locks) × SomeBelow threads (taken_in at)
+PlaceFits threads locks (Mutex lock at) = (lock < locks) × SomeBelow threads (taken_in at) × GivesUpTimed at
 
 -- each waiter is a thread that is there
 abbrev pub AllBelow : ℕ → List Waiter → Type 0

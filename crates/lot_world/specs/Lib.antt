@@ -16,8 +16,8 @@ pub mod Promises
 pub mod Fair
 pub mod WorldRuns
 pub mod Solo
-pub mod OnlyMutexes
 pub mod MutexDeeds
 pub mod SitesOf
+pub mod OnlyMutexes
 pub mod Sound
 pub mod Laws

@@ -14,66 +14,15 @@ use Rattle.lot_steps.specs.declared.places.Place.TheVariants.{Idle, Mutex}
 use Rattle.lot_steps.specs.declared.acts.Reply.{Reply}
 use Rattle.lot_steps.specs.declared.acts.Reply.TheVariants.{Done, Value, Parked, Took, Removed, Late}
 use Rattle.lot_steps.specs.MutexSteps.{is_locked, is_parked}
+pub use Rattle.lot_steps.specs.MutexProfiles.{Hand, Of, hand, some_hand, mutex_profile, owner, inside, again, carrying}
 use Rattle.abstract_locks.specs.Locks.{Queued, Enter, Leave, Park, TakeFirst, HandOff as HandsOff, Late as GivesUp}
-use Rattle.abstract_locks.specs.Sites.{Doing, Has, Line, Main, Deed, Begin, End, In, Out, Mark, Clear, FindNobody, Does, idle, found}
+use Rattle.abstract_locks.specs.Sites.{Doing, Has, Line, Main, Deed, Begin, End, In, Out, Mark, Clear, FindNobody, Does, idle}
 
 -- ---------------------------------------------------------------- what a thread does, by its place
 
-abbrev pub owner : Doing
-owner = record idle { claims = Some (Has Exclusive) }
-
-abbrev pub inside : Doing
-inside = record idle { inside = Some Main }
-
-abbrev pub again : Bool → Doing → Doing
-again retries d = record d { retries = if retries then Some Exclusive else None }
-
-abbrev pub lock_doing : Bool → LockAt → Doing
-lock_doing retries lock.First = again retries idle
-lock_doing retries lock.Load = again retries idle
-lock_doing retries (lock.Decide seen) = again retries idle
-lock_doing retries lock.Check = again retries inside
-lock_doing retries (lock.Leave parked) = record inside { retries = if parked then None else (again retries inside).retries }
-lock_doing retries lock.Asleep = idle
-lock_doing retries (lock.Taken by) = idle
-lock_doing retries (lock.Handed by) = owner
-lock_doing retries lock.Accept = owner
-lock_doing retries lock.Remove = inside
-lock_doing retries lock.Clear = record inside { empty = Some Main }
-lock_doing retries lock.GiveUp = inside
-
-abbrev pub carrying : Doing
-carrying = record inside { carries = true; covers = true }
-
-abbrev pub unlock_doing : UnlockAt → Doing
-unlock_doing unlock.Subtract = owner
-unlock_doing unlock.Enter = record idle { wakes = Some Main }
-unlock_doing unlock.Take = record inside { wakes = Some Main }
-unlock_doing (unlock.Clear taken) = record carrying { empty = Some Main }
-unlock_doing (unlock.Leave taken) = carrying
-
--- whether nobody is left behind a take
-abbrev pub seen_empty : Option ℕ → Bool → Bool
-seen_empty None none_left = true
-seen_empty (Some u) none_left = none_left
-
-abbrev pub hand_off_doing : HandOffAt → Doing
-hand_off_doing hand_off.Enter = owner
-hand_off_doing hand_off.Take = record owner { inside = Some Main }
-hand_off_doing (hand_off.Store taken none_left) = record carrying { claims = Some (Has Exclusive); empty = found Main (seen_empty taken none_left) }
-hand_off_doing (hand_off.Leave taken) = record inside { carries = true }
-
-abbrev pub doing_in : MutexPlace → Doing
-doing_in (Lock e retries at) = lock_doing retries at
-doing_in TryLock = idle
-doing_in (Unlock at) = unlock_doing at
-doing_in UnlockFair = owner
-doing_in Bump = owner
-doing_in (HandOff bumps at) = hand_off_doing at
-
--- and no call of a mutex brings waiters
+-- no call of a mutex brings waiters
 abbrev pub mutex_doing : MutexPlace → Doing
-mutex_doing at = record (doing_in at) { brings = false; sets = false }
+mutex_doing at = record (mutex_profile at).doing { brings = false; sets = false }
 
 -- what a thread does about the lock l
 abbrev pub doing_on : Place → ℕ → Doing
@@ -82,19 +31,8 @@ doing_on (Mutex k at) l = if k == l then mutex_doing at else idle
 
 -- ---------------------------------------------------------------- how a thread stands at the lock that it calls
 
--- a thread that another has taken, and hasn't handed the lock yet, or has
-pub data Hand : Type 0 where
-  Of : (thread : ℕ) → (handed : Bool) → Hand
-
-abbrev pub hand : ℕ → Bool → Option Hand
-hand u handed = Some (Of u handed)
-
-abbrev pub some_hand : Option ℕ → Bool → Option Hand
-some_hand None handed = None
-some_hand (Some u) handed = hand u handed
-
 -- What the machine's sections, lines and hands say of a thread.
-pub record Stance : Type 0 where
+pub record Station : Type 0 where
   -- inside whose section it is
   pub inside : Option Line
   -- in which line it stands
@@ -104,33 +42,20 @@ pub record Stance : Type 0 where
   -- in whose hand it is
   pub hand : Option Hand
 
-abbrev pub nowhere : Stance
+abbrev pub nowhere : Station
 nowhere = record { inside = None; stands = None; carries = None; hand = None }
 
-abbrev pub stands_in : MutexPlace → Option Line
-stands_in (Lock e retries (lock.Leave true)) = Some Main
-stands_in (Lock e retries lock.Asleep) = Some Main
-stands_in (Lock e retries lock.Remove) = Some Main
-stands_in at = None
+abbrev pub mutex_station : MutexPlace → Station
+mutex_station at = record {
+  inside = (mutex_doing at).inside;
+  stands = (mutex_profile at).stands;
+  carries = some_hand (mutex_profile at).taken (mutex_profile at).gives;
+  hand = (mutex_profile at).hand;
+}
 
-abbrev pub carried_by : MutexPlace → Option Hand
-carried_by (Unlock (unlock.Clear taken)) = some_hand taken false
-carried_by (Unlock (unlock.Leave taken)) = some_hand taken false
-carried_by (HandOff bumps (hand_off.Store taken none_left)) = some_hand taken false
-carried_by (HandOff bumps (hand_off.Leave taken)) = some_hand taken true
-carried_by at = None
-
-abbrev pub hand_of : MutexPlace → Option Hand
-hand_of (Lock e retries (lock.Taken by)) = hand by false
-hand_of (Lock e retries (lock.Handed by)) = hand by true
-hand_of at = None
-
-abbrev pub mutex_stance : MutexPlace → Stance
-mutex_stance at = record { inside = (mutex_doing at).inside; stands = stands_in at; carries = carried_by at; hand = hand_of at }
-
-abbrev pub stance : Place → Stance
-stance Idle = nowhere
-stance (Mutex k at) = mutex_stance at
+abbrev pub station : Place → Station
+station Idle = nowhere
+station (Mutex k at) = mutex_station at
 
 -- whether it calls the lock l
 abbrev pub calls : Place → ℕ → Bool
@@ -138,8 +63,8 @@ calls Idle l = false
 calls (Mutex k at) l = k == l
 
 -- how it stands at the lock l
-abbrev pub stance_at : Place → ℕ → Stance
-stance_at p l = if calls p l then stance p else nowhere
+abbrev pub station_at : Place → ℕ → Station
+station_at p l = if calls p l then station p else nowhere
 
 -- ---------------------------------------------------------------- the deeds of each step
 

@@ -10,22 +10,16 @@ use Rattle.lot_steps.specs.declared.owners.Fallback as fallback
 use Rattle.lot_steps.specs.declared.places.Place.{Place}
 use Rattle.lot_steps.specs.declared.places.Place.TheVariants.{Idle, Mutex}
 use Rattle.lot_steps.specs.declared.mutex.MutexPlace.{MutexPlace}
-use Rattle.lot_steps.specs.declared.mutex.MutexPlace.TheVariants.{Lock, TryLock, Unlock, UnlockFair, Bump, HandOff}
-use Rattle.lot_steps.specs.declared.mutex.lock.Entry.{Entry}
-use Rattle.lot_steps.specs.declared.mutex.lock.Entry.TheVariants as entry
-use Rattle.lot_steps.specs.declared.mutex.lock.LockAt.{LockAt}
+use Rattle.lot_steps.specs.declared.mutex.MutexPlace.TheVariants.{Lock}
 use Rattle.lot_steps.specs.declared.mutex.lock.LockAt.TheVariants as lock
-use Rattle.lot_steps.specs.declared.mutex.unlock.UnlockAt.TheVariants as unlock
-use Rattle.lot_steps.specs.declared.mutex.hand_off.HandOffAt.TheVariants as hand_off
 use Rattle.abstract_locks.specs.Picks.{queued_of}
 use Rattle.lot_steps.specs.declared.acts.Act.{Act}
 use Rattle.lot_steps.specs.declared.acts.Act.TheVariants.{Enter, Sleep, Closure}
 use Rattle.lot_base.specs.declared.keys.Keys.{Keys}
 use Rattle.lot_steps.specs.Steps.{act_of, spin_lock}
-use Rattle.lot_steps.specs.MutexSteps.{mutex_retries}
+pub use Rattle.lot_steps.specs.MutexProfiles.{mutex_profile, is_bump, entry_purpose, release_purpose}
 use Rattle.lot_world.specs.Machine.{State, place_at, word_at, owners_at, kind_at, queue_at, section_at, is_there}
 use Rattle.abstract_locks.specs.Locks.{LockState, Queued, Taken, Pending, Rights}
-use Rattle.abstract_locks.specs.Purposes.{Purpose, Enters, Releases, Bumps, Patient, Timed, Try}
 use Rattle.abstract_locks.specs.Runs.{LocksState, CallState, Stance, no_call, one_more_at, one_less_at}
 use Rattle.abstract_locks.specs.Locks as locks
 
@@ -61,39 +55,6 @@ lock_state w l = lock_seen (length w.places) (owners_at w l) (queue_at w (2 * l)
 
 -- ---------------------------------------------------------------- one call
 
--- a timed call has given up from its removal from the queue on
-abbrev pub gave_up_at : ℕ → LockAt → Option ℕ
-gave_up_at l lock.Clear = Some l
-gave_up_at l lock.GiveUp = Some l
-gave_up_at l at = None
-
--- what a thread that enters calls for
-abbrev pub entry_purpose : ℕ → Entry → Purpose
-entry_purpose l entry.Lock = Enters l Exclusive Patient
-entry_purpose l entry.LockTimed = Enters l Exclusive Timed
-entry_purpose l entry.Bump = Bumps l Exclusive
-
-abbrev pub is_bump : Entry → Bool
-is_bump entry.Bump = true
-is_bump e = false
-
--- it owns the lock before its call ends only where it was handed it
-abbrev pub is_handed : LockAt → Bool
-is_handed (lock.Handed by) = true
-is_handed lock.Accept = true
-is_handed at = false
-
-abbrev pub release_purpose : ℕ → Bool → Purpose
-release_purpose l bumps = if bumps then Bumps l Exclusive else Releases l Exclusive true
-
--- a release has given its right up from its first step on, a fair one from its store on
-abbrev pub has_released : MutexPlace → Bool
-has_released (Lock e retries at) = is_bump e
-has_released (Unlock unlock.Subtract) = false
-has_released (Unlock at) = true
-has_released (HandOff bumps (hand_off.Leave taken)) = true
-has_released at = false
-
 -- what it owned before, by what it owns now
 abbrev pub before_release : ℕ → Bool → (ℕ → Rights) → ℕ → Rights
 before_release l released rights = if released then one_more_at l Exclusive rights else rights
@@ -102,41 +63,14 @@ abbrev pub before_entry : ℕ → Bool → Bool → (ℕ → Rights) → ℕ →
 before_entry l bumps false rights = before_release l bumps rights
 before_entry l bumps true rights = if bumps then rights else one_less_at l Exclusive rights
 
-abbrev pub mutex_former : ℕ → MutexPlace → (ℕ → Rights) → ℕ → Rights
-mutex_former l (Lock e retries at) rights = before_entry l (is_bump e) (is_handed at) rights
-mutex_former l at rights = before_release l (has_released at) rights
-
-abbrev pub calls_for : ℕ → MutexPlace → Purpose
-calls_for l (Lock e retries at) = entry_purpose l e
-calls_for l TryLock = Enters l Exclusive Try
-calls_for l (Unlock at) = Releases l Exclusive false
-calls_for l UnlockFair = Releases l Exclusive true
-calls_for l Bump = Bumps l Exclusive
-calls_for l (HandOff bumps at) = release_purpose l bumps
-
-abbrev pub mutex_gave_up : ℕ → MutexPlace → Option ℕ
-mutex_gave_up l (Lock e retries at) = gave_up_at l at
-mutex_gave_up l at = None
-
--- a timed call's time is up from its entering the section on
-abbrev pub late_at : LockAt → Bool
-late_at lock.Remove = true
-late_at lock.Clear = true
-late_at lock.GiveUp = true
-late_at at = false
-
-abbrev pub mutex_late : MutexPlace → Bool
-mutex_late (Lock e retries at) = late_at at
-mutex_late at = false
-
 abbrev pub mutex_call_state : ℕ → MutexPlace → (ℕ → Rights) → CallState
 mutex_call_state l at rights = record {
-  purpose = Some (calls_for l at);
-  former = mutex_former l at rights;
-  gave_up = mutex_gave_up l at;
-  retries = if mutex_retries at then Some l else None;
-  released = has_released at;
-  late = mutex_late at;
+  purpose = Some ((mutex_profile at).purpose l);
+  former = before_entry l (mutex_profile at).released (mutex_profile at).handed rights;
+  gave_up = if (mutex_profile at).gave_up then Some l else None;
+  retries = if (mutex_profile at).retries then Some l else None;
+  released = (mutex_profile at).released;
+  late = (mutex_profile at).late;
 }
 
 -- ---------------------------------------------------------------- how a thread stands

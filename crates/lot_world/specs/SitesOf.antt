@@ -10,8 +10,9 @@ use Rattle.abstract_locks.specs.Sites.{Line, Main, Second, Site, IsSite, after, 
 use Rattle.abstract_locks.specs.Purposes.{rules_of}
 use Rattle.lot_world.specs.Machine.{State, place_at, word_at, kind_at, queue_at, section_at}
 use Rattle.lot_world.specs.Refinement.{lock_state}
-use Rattle.lot_world.specs.OnlyMutexes.{is_mutex}
-use Rattle.lot_world.specs.MutexDeeds.{Act, Hand, hand, stance_at, doing_on}
+use Rattle.lot_calls.specs.declared.kinds.Kind.{Kind}
+use Rattle.lot_calls.specs.declared.kinds.Kind as kind
+use Rattle.lot_world.specs.MutexDeeds.{Act, Hand, hand, station_at, doing_on}
 
 abbrev pub site_of : State → ℕ → Site
 site_of w l = record {
@@ -58,22 +59,27 @@ stood_in line m = 0
 
 -- a section is held by the thread inside it
 abbrev pub Sections : (ℕ → Place) → (ℕ → Option ℕ) → Type 0
-Sections places section = (t l : ℕ) (m : Line) → (stance_at (places t) l).inside ≡ Some m ↔ section (key_of l m) ≡ Some t
+Sections places section = (t l : ℕ) (m : Line) → (station_at (places t) l).inside ≡ Some m ↔ section (key_of l m) ≡ Some t
 
 -- a thread stands in the line that its place says, and once
 abbrev pub Lines : (ℕ → Place) → (ℕ → List Waiter) → Type 0
-Lines places queue = (t l : ℕ) (m : Line) → times t (queue (key_of l m)) ≡ stood_in (stance_at (places t) l).stands m
+Lines places queue = (t l : ℕ) (m : Line) → times t (queue (key_of l m)) ≡ stood_in (station_at (places t) l).stands m
 
 abbrev pub carried_at : Place → ℕ → Option Hand
-carried_at p l = (stance_at p l).carries
+carried_at p l = (station_at p l).carries
 
 abbrev pub hand_at : Place → ℕ → Option Hand
-hand_at p l = (stance_at p l).hand
+hand_at p l = (station_at p l).hand
 
 -- whom a thread has in hand is in its hand
 pub record Hands (p : ℕ → Place) : Type 0 where
   pub carried : (t u l : ℕ) (b : Bool) → carried_at (p t) l ≡ hand u b → hand_at (p u) l ≡ hand t b
   pub taken : (t u l : ℕ) (b : Bool) → hand_at (p u) l ≡ hand t b → carried_at (p t) l ≡ hand u b
+
+abbrev pub is_mutex : Kind → Bool
+is_mutex kind.TheVariants.Mutex = true
+is_mutex kind.TheVariants.Fair = true
+is_mutex k = false
 
 -- a call of a mutex is of a lock of such a kind
 abbrev pub CallsMutex : State → Place → Type 0

@@ -12,7 +12,7 @@ use Rattle.lot_steps.specs.declared.mutex.hand_off.HandOffAt.TheVariants as hand
 use Rattle.abstract_locks.specs.Sites.{Line, Main, Claim, Has}
 use Rattle.lot_world.specs.Machine.{State, place_at, word_at, owners_at, section_at, queue_at}
 use Rattle.lot_world.specs.Promises.{Codes}
-use Rattle.lot_world.specs.MutexDeeds.{mutex_doing, mutex_stance}
+use Rattle.lot_world.specs.MutexDeeds.{mutex_doing, mutex_station}
 use Rattle.lot_world.specs.SitesOf.{IsSteady}
 
 -- ---------------------------------------------------------------- what a place says of its thread
@@ -24,12 +24,12 @@ at_main l line = None
 -- the lock inside whose main section the thread is
 abbrev pub inside : Place → Option ℕ
 inside Idle = None
-inside (Mutex l at) = at_main l (mutex_stance at).inside
+inside (Mutex l at) = at_main l (mutex_station at).inside
 
 -- the lock in whose main queue the thread stands
 abbrev pub queued : Place → Option ℕ
 queued Idle = None
-queued (Mutex l at) = at_main l (mutex_stance at).stands
+queued (Mutex l at) = at_main l (mutex_station at).stands
 
 abbrev pub owned : ℕ → Option Claim → Option ℕ
 owned l (Some (Has Exclusive)) = Some l

@@ -44,16 +44,13 @@ pub struct World<Q: Queues + Drop> {
 impl<Q: Queues + Drop> Model for World<Q> {
     ghost use Rattle.lot_world.specs.Machine.{State};
     ghost use Rattle.lot_world.specs.Fits.{IsShaped};
-    ghost use Rattle.lot_world.specs.Sound.{IsSound};
-    ghost use Rattle.lot_world.specs.OnlyMutexes.{OnlyMutexes};
-    ghost use Rattle.abstract_locks.specs.Runs.{AreLockStates};
-    ghost use Rattle.lot_world.specs.Refinement.{locks_of};
+    ghost use Rattle.lot_world.specs.SitesOf.{IsSteady};
 
     ghost Value = { State };
 
     ghost view = { λ a. a.machine };
 
-    ghost invariant = { λ a. IsShaped a.machine × IsSound a.machine × OnlyMutexes a.machine × AreLockStates (locks_of a.machine) };
+    ghost invariant = { λ a. IsShaped a.machine × IsSteady a.machine };
 }
 
 impl<Q: Queues + Drop> World<Q> {

@@ -1,18 +1,16 @@
 use Rattle.lot_world.proofs.Shape.{opening_shaped}
-use Rattle.lot_world.proofs.OnlyMutexes.{opening_only}
-use Rattle.lot_world.proofs.Promises.{kept, opening_sound, opening_locks, opening_is}
+use Rattle.lot_world.proofs.OpeningSites.{opening_steady}
+use Rattle.lot_world.proofs.Promises.{kept, opening_is}
+use Rattle.lot_world.proofs.WorldRuns.{holds_of}
 use Rattle.lot_world.proofs.world.World.new.Goals as goal
 
 pub invariant_of-result : goal.invariant_of-result
 invariant_of-result g c = rw c.in_ok-new.ensures.ok (
   opening_shaped c.args.kinds.now c.args.threads c.requires.few_locks,
-  opening_sound c.args.kinds.now c.args.threads c.requires.some c.requires.fit,
-  opening_only c.args.kinds.now c.args.threads,
-  opening_locks c.args.kinds.now c.args.threads,
+  opening_steady c.args.kinds.now c.args.threads c.requires.some c.requires.fit,
 )
 
 pub returns-clause-opening : goal.returns-clause-opening
-returns-clause-opening g c = rw c.in_ok-new.ensures.ok (
-  opening_is c.args.kinds.now c.args.threads,
-  kept _ (opening_sound c.args.kinds.now c.args.threads c.requires.some c.requires.fit) (opening_only c.args.kinds.now c.args.threads) (opening_locks c.args.kinds.now c.args.threads),
-)
+returns-clause-opening g c =
+    let holds = holds_of _ (opening_shaped c.args.kinds.now c.args.threads c.requires.few_locks) (opening_steady c.args.kinds.now c.args.threads c.requires.some c.requires.fit) in
+    rw c.in_ok-new.ensures.ok (opening_is c.args.kinds.now c.args.threads, kept _ holds.sound holds.only holds.locks)

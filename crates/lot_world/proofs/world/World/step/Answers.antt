@@ -1,45 +1,39 @@
 use Rattle.lot_world.proofs.Shape.{after_shaped, after_size}
-use Rattle.lot_world.proofs.Steady.{after_sound}
-use Rattle.lot_world.proofs.OnlyMutexes.{after_only}
+use Rattle.lot_world.proofs.TurnsKept.{after_steady}
 use Rattle.lot_world.proofs.LockSteps.{after_step}
-use Rattle.lot_world.proofs.LockRuns.{after_locks}
 use Rattle.lot_world.proofs.OneThing.{one_thing, touches}
 use Rattle.lot_world.proofs.Promises.{kept_after}
 use Rattle.lot_world.proofs.Fair.{is_fair}
+use Rattle.lot_world.proofs.WorldRuns.{holds_of}
 use Rattle.lot_world.proofs.world.World.step.Goals as goal
 
 pub invariant_of-self : goal.invariant_of-self
 invariant_of-self g c =
     let before = c.self.invariant in
-    rw c.turn.ensures.state (
-      after_shaped c.self.inside.machine c.args.step before.0,
-      after_sound c.self.inside.machine c.args.step before.0 before.1,
-      after_only c.self.inside.machine c.args.step before.2,
-      after_locks c.self.inside.machine c.args.step before.0 before.1 before.2 before.3,
-    )
+    rw c.turn.ensures.state (after_shaped c.self.inside.machine c.args.step before.0, after_steady c.self.inside.machine c.args.step before.0 before.1)
 
 pub returns-clause-refines : goal.returns-clause-refines
 returns-clause-refines g c =
-    let before = c.self.invariant in
-    rw (c.turn.ensures.outcome, c.turn.ensures.state, ← c.self.view_is) (after_step c.self.inside.machine c.args.step before.0 before.1 before.2)
+    let before = holds_of c.self.inside.machine c.self.invariant.0 c.self.invariant.1 in
+    rw (c.turn.ensures.outcome, c.turn.ensures.state, ← c.self.view_is) (after_step c.self.inside.machine c.args.step before.shaped before.sound before.only)
 
 pub returns-clause-one_thing : goal.returns-clause-one_thing
 returns-clause-one_thing g c =
-    let before = c.self.invariant in
-    rw (c.turn.ensures.state, ← c.self.view_is) (one_thing c.self.inside.machine c.args.step before.1 before.2)
+    let before = holds_of c.self.inside.machine c.self.invariant.0 c.self.invariant.1 in
+    rw (c.turn.ensures.state, ← c.self.view_is) (one_thing c.self.inside.machine c.args.step before.sound before.only)
 
 pub returns-clause-kept : goal.returns-clause-kept
 returns-clause-kept g c =
-    let before = c.self.invariant in
-    rw c.turn.ensures.state (kept_after c.self.inside.machine c.args.step before.0 before.1 before.2 before.3)
+    let before = holds_of c.self.inside.machine c.self.invariant.0 c.self.invariant.1 in
+    rw c.turn.ensures.state (kept_after c.self.inside.machine c.args.step before.shaped before.sound before.only before.locks)
 
 pub returns-clause-same_size : goal.returns-clause-same_size
 returns-clause-same_size g c = rw (c.turn.ensures.state, ← c.self.view_is) (after_size c.self.inside.machine c.args.step)
 
 pub returns-clause-fair : goal.returns-clause-fair
 returns-clause-fair g c =
-    let before = c.self.invariant in
-    rw (c.turn.ensures.state, ← c.self.view_is) (is_fair c.self.inside.machine c.args.step before.0 before.1 before.2 before.3)
+    let before = holds_of c.self.inside.machine c.self.invariant.0 c.self.invariant.1 in
+    rw (c.turn.ensures.state, ← c.self.view_is) (is_fair c.self.inside.machine c.args.step before.shaped before.sound before.only before.locks)
 
 pub returns-clause-touches : goal.returns-clause-touches
 returns-clause-touches g c = rw (c.turn.ensures.state, ← c.self.view_is) (touches c.self.inside.machine c.args.step)

@@ -1,0 +1,167 @@
+-- What each place of a mutex says of its thread: a row for each place. All that is asked of a place is read off its row.
+use Rattle.std.specs.Prelude.{ℕ, Bool, true, false, Option, Some, None, if◌then◌else◌, ◌==◌}
+use Rattle.lot_base.specs.declared.wants.Want.TheVariants.{Exclusive}
+use Rattle.lot_steps.specs.declared.mutex.MutexPlace.{MutexPlace}
+use Rattle.lot_steps.specs.declared.mutex.MutexPlace.TheVariants.{Lock, TryLock, Unlock, UnlockFair, Bump, HandOff}
+use Rattle.lot_steps.specs.declared.mutex.lock.Entry.{Entry}
+use Rattle.lot_steps.specs.declared.mutex.lock.Entry.TheVariants as entry
+use Rattle.lot_steps.specs.declared.mutex.lock.LockAt.{LockAt}
+use Rattle.lot_steps.specs.declared.mutex.lock.LockAt.TheVariants as lock
+use Rattle.lot_steps.specs.declared.mutex.unlock.UnlockAt.{UnlockAt}
+use Rattle.lot_steps.specs.declared.mutex.unlock.UnlockAt.TheVariants as unlock
+use Rattle.lot_steps.specs.declared.mutex.hand_off.HandOffAt.{HandOffAt}
+use Rattle.lot_steps.specs.declared.mutex.hand_off.HandOffAt.TheVariants as hand_off
+use Rattle.lot_steps.specs.MutexSteps.{is_timed}
+use Rattle.abstract_locks.specs.Purposes.{Purpose, Enters, Releases, Bumps, Patient, Timed, Try}
+use Rattle.abstract_locks.specs.Sites.{Doing, Has, Line, Main, idle, found}
+
+-- in whose hand a thread is, and whether it was handed the lock since
+pub data Hand : Type 0 where
+  Of : (thread : ℕ) → (handed : Bool) → Hand
+
+abbrev pub hand : ℕ → Bool → Option Hand
+hand u handed = Some (Of u handed)
+
+abbrev pub some_hand : Option ℕ → Bool → Option Hand
+some_hand None handed = None
+some_hand (Some u) handed = hand u handed
+
+pub record Profile : Type 0 where
+  -- what it does about the lock
+  pub doing : Doing
+  -- in which line it stands
+  pub stands : Option Line
+  -- whom it has taken, and whether it has handed the lock to that thread
+  pub taken : Option ℕ
+  pub gives : Bool
+  -- in whose hand it is
+  pub hand : Option Hand
+  -- it is shown to owe a wake, and to try again
+  pub owes : Bool
+  pub retries : Bool
+  -- it may load the word again in place of its act
+  pub spins : Bool
+  -- it sleeps in a call that may give up
+  pub may_be_late : Bool
+  -- its time was up, and it has left the line
+  pub late : Bool
+  pub gave_up : Bool
+  -- what its call is for, by the lock, and whether it has given its right up, or was handed one
+  pub purpose : ℕ → Purpose
+  pub released : Bool
+  pub handed : Bool
+
+-- ---------------------------------------------------------------- what a thread does about the lock
+
+abbrev pub owner : Doing
+owner = record idle { claims = Some (Has Exclusive) }
+
+abbrev pub inside : Doing
+inside = record idle { inside = Some Main }
+
+abbrev pub carrying : Doing
+carrying = record inside { carries = true; covers = true }
+
+abbrev pub again : Bool → Doing → Doing
+again retries d = record d { retries = if retries then Some Exclusive else None }
+
+-- ---------------------------------------------------------------- calls that enter
+
+abbrev pub is_bump : Entry → Bool
+is_bump entry.Bump = true
+is_bump e = false
+
+abbrev pub entry_purpose : ℕ → Entry → Purpose
+entry_purpose l entry.Lock = Enters l Exclusive Patient
+entry_purpose l entry.LockTimed = Enters l Exclusive Timed
+entry_purpose l entry.Bump = Bumps l Exclusive
+
+abbrev pub trying : Profile
+trying = record {
+  doing = idle;
+  stands = None;
+  taken = None;
+  gives = false;
+  hand = None;
+  owes = false;
+  retries = false;
+  spins = false;
+  may_be_late = false;
+  late = false;
+  gave_up = false;
+  purpose = λ l. Enters l Exclusive Try;
+  released = false;
+  handed = false;
+}
+
+abbrev pub lock_row : Bool → Bool → LockAt → Profile
+lock_row timed retries lock.First = record trying { doing = again retries idle }
+lock_row timed retries lock.Load = record trying { doing = again retries idle }
+lock_row timed retries (lock.Decide seen) = record trying { doing = again retries idle; spins = seen == 1 }
+lock_row timed retries lock.Check = record trying { doing = again retries inside; owes = true }
+lock_row timed retries (lock.Leave parked) = record trying { doing = again (if parked then false else retries) inside; stands = if parked then Some Main else None; owes = true }
+lock_row timed retries lock.Asleep = record trying { stands = Some Main; may_be_late = timed }
+lock_row timed retries (lock.Taken by) = record trying { hand = hand by false }
+lock_row timed retries (lock.Handed by) = record trying { doing = owner; hand = hand by true; handed = true }
+lock_row timed retries lock.Accept = record trying { doing = owner; handed = true }
+lock_row timed retries lock.Remove = record trying { doing = inside; stands = Some Main; owes = true; late = true }
+lock_row timed retries lock.Clear = record trying { doing = record inside { empty = Some Main }; owes = true; late = true; gave_up = true }
+lock_row timed retries lock.GiveUp = record trying { doing = inside; owes = true; late = true; gave_up = true }
+
+-- ---------------------------------------------------------------- calls that release
+
+-- a fair release, or a bump, which enters again behind it
+abbrev pub release_purpose : ℕ → Bool → Purpose
+release_purpose l bumps = if bumps then Bumps l Exclusive else Releases l Exclusive true
+
+abbrev pub unlock_row : UnlockAt → Profile
+unlock_row unlock.Subtract = record trying { doing = owner }
+unlock_row unlock.Enter = record trying { doing = record idle { wakes = Some Main }; owes = true; released = true }
+unlock_row unlock.Take = record trying { doing = record inside { wakes = Some Main }; owes = true; released = true }
+unlock_row (unlock.Clear taken) = record trying { doing = record carrying { empty = Some Main }; taken = taken; owes = true; released = true }
+unlock_row (unlock.Leave taken) = record trying { doing = carrying; taken = taken; owes = true; released = true }
+
+-- whether nobody is left behind a take
+abbrev pub seen_empty : Option ℕ → Bool → Bool
+seen_empty None none_left = true
+seen_empty (Some u) none_left = none_left
+
+abbrev pub hand_off_row : HandOffAt → Profile
+hand_off_row hand_off.Enter = record trying { doing = owner }
+hand_off_row hand_off.Take = record trying { doing = record owner { inside = Some Main } }
+hand_off_row (hand_off.Store taken none_left) =
+    record trying { doing = record carrying { claims = Some (Has Exclusive); empty = found Main (seen_empty taken none_left) }; taken = taken }
+hand_off_row (hand_off.Leave taken) = record trying { doing = record inside { carries = true }; taken = taken; gives = true; released = true }
+
+-- ---------------------------------------------------------------- every place
+
+-- a call that enters has nobody in hand
+abbrev pub entering : Entry → Bool → Profile → Profile
+entering e retries row = record row { taken = None; gives = false; retries = retries; purpose = λ l. entry_purpose l e; released = is_bump e }
+
+-- a call that releases waits for nothing
+abbrev pub leaving : (ℕ → Purpose) → Profile → Profile
+leaving purpose row = record trying { doing = row.doing; taken = row.taken; gives = row.gives; owes = row.owes; purpose = purpose; released = row.released }
+
+abbrev pub mutex_profile : MutexPlace → Profile
+mutex_profile (Lock e retries at) = entering e retries (lock_row (is_timed e) retries at)
+mutex_profile TryLock = trying
+mutex_profile (Unlock at) = leaving (λ l. Releases l Exclusive false) (unlock_row at)
+mutex_profile UnlockFair = leaving (λ l. release_purpose l false) (record trying { doing = owner })
+mutex_profile Bump = leaving (λ l. release_purpose l true) (record trying { doing = owner })
+mutex_profile (HandOff bumps at) = leaving (λ l. release_purpose l bumps) (record (hand_off_row at) { owes = true })
+
+-- whether the word may be loaded again in place of the act: where the act would set the parked bit
+abbrev pub mutex_can_spin : MutexPlace → Bool
+mutex_can_spin at = (mutex_profile at).spins
+
+-- whether the thread sleeps in the queue of a call that may give up
+abbrev pub mutex_can_be_late : MutexPlace → Bool
+mutex_can_be_late at = (mutex_profile at).may_be_late
+
+-- from the step that saw waiters, or from entering the section, until the section is left
+abbrev pub mutex_owes : MutexPlace → Bool
+mutex_owes at = (mutex_profile at).owes
+
+abbrev pub mutex_retries : MutexPlace → Bool
+mutex_retries at = (mutex_profile at).retries

@@ -1,0 +1,91 @@
+-- Locks stay of their kinds.
+use Rattle.std.proofs.Common.{ℕ, zero, suc, Bool, true, false, Option, Some, None, if◌then◌else◌, ◌≡◌, List, [], ◌∷◌, get_or, set, refl, ◌∙◌}
+use Rattle.lot_base.specs.declared.keys.Keys.{Keys}
+use Rattle.lot_base.specs.declared.keys.Keys.TheVariants.{One, Two}
+use Rattle.lot_base.specs.declared.ops.Op.{Op}
+use Rattle.lot_base.specs.declared.wants.Want.{Want}
+use Rattle.lot_base.specs.Lines.{first_of}
+use Rattle.lot_calls.specs.declared.kinds.Kind.{Kind}
+use Rattle.lot_calls.specs.declared.kinds.Kind as kind
+use Rattle.lot_steps.specs.declared.acts.Act.{Act}
+use Rattle.lot_steps.specs.declared.acts.Act.TheVariants.{Word, HandOver, Enter, Park, TakeFirst, Remove, Leave}
+use Rattle.lot_steps.specs.declared.acts.Check.{Check}
+use Rattle.lot_steps.specs.declared.acts.Wakes.{Wakes}
+use Rattle.lot_steps.specs.declared.acts.Wakes as wakes
+use Rattle.lot_calls.specs.declared.calls.Call.{Call}
+use Rattle.lot_calls.specs.declared.calls.Turn.{Turn}
+use Rattle.lot_calls.specs.declared.calls.Turn as turn
+use Rattle.lot_calls.specs.declared.calls.Step.{Step}
+use Rattle.lot_steps.specs.declared.places.Place.{Place}
+use Rattle.lot_steps.specs.Acts.{holds}
+use Rattle.lot_calls.specs.Kinds.{has_call}
+use Rattle.lot_steps.specs.Steps.{act_of, spin_lock, late_key}
+use Rattle.lot_world.specs.Machine.{State, unlocked, place_at, word_at, kind_at, queue_at, operated, filled_with, appended, first_taken, parked, taken_by, awakened, performed, spun_on, late_on, turned, is_possible, after}
+use Rattle.lot_world.specs.OnlyMutexes.{is_mutex}
+
+-- what is read of each lock, where that of one is set
+set_field : {A B : Type 0} (f : A → B) (xs : List A) (i : ℕ) (y d : A) → f y ≡ f (get_or xs i d) → (j : ℕ) → f (get_or (set xs i y) j d) ≡ f (get_or xs j d)
+set_field f [] i y d e j = refl
+set_field f (x ∷ xs) zero y d e zero = e
+set_field f (x ∷ xs) zero y d e (suc j) = refl
+set_field f (x ∷ xs) (suc i) y d e zero = refl
+set_field f (x ∷ xs) (suc i) y d e (suc j) = set_field f xs i y d e j
+
+pub operated_kinds : (w : State) (t : ℕ) (p : Place) (l : ℕ) (f : Op) (k : ℕ) → kind_at (operated w t p l f) k ≡ kind_at w k
+operated_kinds w t p l f k = set_field (λ x. x.kind) w.locks l _ (unlocked kind.TheVariants.Mutex) refl k
+
+filled_kinds : (w : State) (keys : Keys) (who : Option ℕ) (k : ℕ) → kind_at (filled_with w keys who) k ≡ kind_at w k
+filled_kinds w (One key) who k = refl
+filled_kinds w (Two first second) who k = refl
+
+taken_kinds : (w : State) (t : ℕ) (o : Option ℕ) (k : ℕ) → kind_at (taken_by w t o) k ≡ kind_at w k
+taken_kinds w t None k = refl
+taken_kinds w t (Some u) k = refl
+
+awakened_kinds : (w : State) (x : Wakes) (k : ℕ) → kind_at (awakened w x) k ≡ kind_at w k
+awakened_kinds w wakes.TheVariants.Nobody k = refl
+awakened_kinds w (wakes.TheVariants.One u note) k = refl
+
+parked_kinds : (w : State) (t l key : ℕ) (check : Check) (wanted : Want) (k : ℕ) → kind_at (parked w t l key check wanted) k ≡ kind_at w k
+parked_kinds w t l key check wanted k = either (holds check (word_at w l))
+  where
+    either : (b : Bool) → kind_at (if b then record w { queues = appended w.queues key t wanted } else w) k ≡ kind_at w k
+    either true = refl
+    either false = refl
+
+performed_kinds : (w : State) (t : ℕ) (p : Place) (act : Act) (k : ℕ) → kind_at (performed w t p act) k ≡ kind_at w k
+performed_kinds w t p (Word l f) k = operated_kinds w t p l f k
+performed_kinds w t p (HandOver l f u) k = operated_kinds w t p l f k
+performed_kinds w t p (Enter keys) k = filled_kinds w keys (Some t) k
+performed_kinds w t p (Park l key check wanted) k = parked_kinds w t l key check wanted k
+performed_kinds w t p (TakeFirst key) k = taken_kinds (record w { queues = first_taken w.queues key }) t (first_of (queue_at w key)) k
+performed_kinds w t p (Remove key) k = refl
+performed_kinds w t p (Leave keys x) k = awakened_kinds (filled_with w keys None) x k ∙ filled_kinds w keys None k
+performed_kinds w t p act k = refl
+
+late_kinds : (w : State) (t : ℕ) (o : Option ℕ) (k : ℕ) → kind_at (late_on w t o) k ≡ kind_at w k
+late_kinds w t None k = refl
+late_kinds w t (Some key) k = refl
+
+spun_kinds : (w : State) (t : ℕ) (o : Option ℕ) (k : ℕ) → kind_at (spun_on w t o) k ≡ kind_at w k
+spun_kinds w t None k = refl
+spun_kinds w t (Some l) k = refl
+
+turned_kinds : (w : State) (t : ℕ) (x : Turn) (k : ℕ) → kind_at (turned w t x) k ≡ kind_at w k
+turned_kinds w t (turn.TheVariants.Begin c) k = refl
+turned_kinds w t turn.TheVariants.Go k = performed_kinds w t (place_at w t) (act_of (place_at w t)) k
+turned_kinds w t turn.TheVariants.Spin k = spun_kinds w t (spin_lock (place_at w t)) k
+turned_kinds w t turn.TheVariants.Late k = late_kinds w t (late_key (place_at w t)) k
+turned_kinds w t x k = refl
+
+pub after_kinds : (w : State) (s : Step) (k : ℕ) → kind_at (after w s) k ≡ kind_at w k
+after_kinds w s k = either (is_possible w s)
+  where
+    either : (b : Bool) → kind_at (if b then turned w s.thread s.turn else w) k ≡ kind_at w k
+    either true = turned_kinds w s.thread s.turn k
+    either false = refl
+
+pub calls_mutex : (k : Kind) (c : Call) → has_call k c ≡ true → is_mutex k ≡ true
+calls_mutex kind.TheVariants.Mutex c h = refl
+calls_mutex kind.TheVariants.Fair c h = refl
+calls_mutex k c h = absurd cc
