@@ -29,5 +29,6 @@ pub mod Promises
 pub mod Fair
 pub mod SoloActs
 pub mod Solo
+pub mod Owing
 pub mod WorldRuns
 pub mod RowLaws

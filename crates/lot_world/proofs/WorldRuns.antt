@@ -11,6 +11,7 @@ use Rattle.lot_world.specs.OnlyMutexes.{OnlyMutexes}
 use Rattle.lot_world.specs.Refinement.{locks_of}
 use Rattle.lot_world.specs.WorldRuns.{IsWorldStep, IsWorldRun, Tells}
 use Rattle.lot_world.specs.Solo.{IsSoloRun, GoesOnUntil, last_told}
+use Rattle.lot_world.proofs.Owing.{owes_since}
 use Rattle.lot_world.proofs.Fair.{is_fair}
 use Rattle.lot_world.proofs.LockRuns.{after_locks}
 use Rattle.lot_world.proofs.LockSteps.{after_step}
@@ -45,6 +46,7 @@ world_step w s h = record {
   refines = after_step w s h.shaped h.sound h.only;
   one_thing = one_thing w s h.sound h.only;
   touches = touches w s;
+  owing = owes_since w s h.shaped h.sound (kept_after w s h.shaped h.sound h.only h.locks);
   fair = is_fair w s h.shaped h.sound h.only h.locks;
   kept = kept_after w s h.shaped h.sound h.only h.locks;
 }

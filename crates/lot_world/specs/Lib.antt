@@ -14,6 +14,7 @@ pub mod Views
 pub mod Refinement
 pub mod Promises
 pub mod Fair
+pub mod Owing
 pub mod WorldRuns
 pub mod Solo
 pub mod MutexDeeds

@@ -8,6 +8,7 @@ use Rattle.abstract_locks.specs.Runs.{IsStep}
 use Rattle.lot_world.specs.Machine.{State, word_at, queue_at}
 use Rattle.lot_world.specs.Refinement.{locks_of, ChangesOneThing}
 use Rattle.lot_world.specs.Fair.{IsFair}
+use Rattle.lot_world.specs.Owing.{OwesSince}
 use Rattle.lot_world.specs.Promises.{IsKept}
 
 -- words and queues are as they were
@@ -28,6 +29,8 @@ pub record IsWorldStep (w : State) (s : Step) (o : Outcome) (v : State) : Type 0
   -- it changes one word at most, or queues inside whose sections its thread is
   pub one_thing : ChangesOneThing w s.thread v
   pub touches : TouchesOnlyByGoing w s.turn v
+  -- its thread begins and ends to owe a wake by what it sees and where it is
+  pub owing : OwesSince w s.thread o v
   -- a fair release lets its mutex go only where nobody waits, and else the first waiter owns it in its place
   pub fair : IsFair w v
   -- words are coded, and nobody is forgotten

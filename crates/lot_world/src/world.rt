@@ -9,6 +9,7 @@ ghost use Rattle.abstract_locks.specs.Runs.{IsOpening, IsStep, IsRun, purpose_at
 ghost use Rattle.lot_world.specs.Refinement.{locks_of, ChangesOneThing};
 ghost use Rattle.lot_world.specs.Promises.{IsKept};
 ghost use Rattle.lot_world.specs.Fair.{IsFair};
+ghost use Rattle.lot_world.specs.Owing.{OwesSince};
 ghost use Rattle.lot_world.specs.WorldRuns.{IsWorldRun, Tells, TouchesOnlyByGoing};
 ghost use Rattle.lot_world.specs.Solo.{IsUnderWay, HasItsWay, Rests, EndsAlone, IsSoloRun};
 ghost use Rattle.lot_world.specs.Views.{StandUnder, owners_of, queue_of, debts_of};
@@ -85,6 +86,9 @@ impl<Q: Queues + Drop> World<Q> {
 
         // Words are coded, and whoever waits for a mutex without owner has a thread that owes its wake or tries again.
         ensures kept { IsKept self.new }
+
+        // A thread owes a wake since the step that saw waiters, or since it entered the section, until it leaves it.
+        ensures owing { OwesSince self.old step.thread result self.new }
         ensures same_size { SameSize self.old self.new }
     {
         self.machine.turn(step)

@@ -4,6 +4,7 @@ use Rattle.lot_world.proofs.LockSteps.{after_step}
 use Rattle.lot_world.proofs.OneThing.{one_thing, touches}
 use Rattle.lot_world.proofs.Promises.{kept_after}
 use Rattle.lot_world.proofs.Fair.{is_fair}
+use Rattle.lot_world.proofs.Owing.{owes_since}
 use Rattle.lot_world.proofs.WorldRuns.{holds_of}
 use Rattle.lot_world.proofs.world.World.step.Goals as goal
 
@@ -37,3 +38,8 @@ returns-clause-fair g c =
 
 pub returns-clause-touches : goal.returns-clause-touches
 returns-clause-touches g c = rw (c.turn.ensures.state, ← c.self.view_is) (touches c.self.inside.machine c.args.step)
+
+pub returns-clause-owing : goal.returns-clause-owing
+returns-clause-owing g c =
+    let before = holds_of c.self.inside.machine c.self.invariant.0 c.self.invariant.1 in
+    rw (c.turn.ensures.outcome, c.turn.ensures.state, ← c.self.view_is) (owes_since c.self.inside.machine c.args.step before.shaped before.sound (kept_after c.self.inside.machine c.args.step before.shaped before.sound before.only before.locks))

@@ -1,0 +1,396 @@
+-- Who owes a wake does so since it saw waiters, or since it entered the section.
+use Rattle.std.proofs.Common.{ℕ, Bool, true, false, Option, Some, None, if◌then◌else◌, ◌==◌, ◌&&◌, not, ◌≡◌, ◌≢◌, ◌+◌, ◌*◌, ◌<◌, ◌⊎◌, ◌↔◌, inl, inr, List, length, drop, set, get_or, refl, sym, ◌∙◌, ap, subst, arith, get_or-set_other, get_or-set_same, nat_lt}
+use Rattle.std.proofs.lemmas.Bool.{cases_eq, cases_lt, eqb-true, ltb-true}
+use Rattle.std.proofs.lemmas.List.{set_past}
+use Rattle.lot_base.specs.declared.keys.Keys.{Keys}
+use Rattle.lot_base.specs.declared.keys.Keys.TheVariants.{One, Two}
+use Rattle.lot_base.specs.declared.notes.Note.{Note}
+use Rattle.lot_base.specs.declared.notes.Note.TheVariants as note
+use Rattle.lot_base.specs.Lines.{first_of}
+use Rattle.lot_calls.specs.declared.calls.Call.{Call}
+use Rattle.lot_calls.specs.declared.calls.Call as call
+use Rattle.lot_calls.specs.declared.calls.MutexCall.{MutexCall}
+use Rattle.lot_calls.specs.declared.calls.MutexCall as mutex_call
+use Rattle.lot_calls.specs.declared.calls.Turn.{Turn}
+use Rattle.lot_calls.specs.declared.calls.Turn as turn
+use Rattle.lot_calls.specs.declared.calls.Step.{Step}
+use Rattle.lot_calls.specs.declared.outcomes.Outcome.{Outcome}
+use Rattle.lot_calls.specs.declared.outcomes.Outcome as outcome
+use Rattle.lot_steps.specs.declared.acts.Act.{Act}
+use Rattle.lot_steps.specs.declared.acts.Act.TheVariants.{Word, HandOver, Enter, Park, TakeFirst, Remove}
+use Rattle.lot_steps.specs.declared.acts.Act.TheVariants as act
+use Rattle.lot_steps.specs.declared.acts.Wakes.{Wakes}
+use Rattle.lot_steps.specs.declared.acts.Wakes as wakes
+use Rattle.lot_steps.specs.declared.acts.Reply.{Reply}
+use Rattle.lot_steps.specs.declared.acts.Reply.TheVariants.{TakenBy, HandedBy, Woken, Spun, Late}
+use Rattle.lot_steps.specs.declared.mutex.MutexPlace.{MutexPlace}
+use Rattle.lot_steps.specs.declared.mutex.MutexPlace.TheVariants.{Lock, TryLock, Unlock, UnlockFair, Bump, HandOff}
+use Rattle.lot_steps.specs.declared.mutex.lock.LockAt.{LockAt}
+use Rattle.lot_steps.specs.declared.mutex.lock.LockAt.TheVariants as lock
+use Rattle.lot_steps.specs.declared.mutex.unlock.UnlockAt.TheVariants as unlock
+use Rattle.lot_steps.specs.declared.mutex.hand_off.HandOffAt.TheVariants as hand_off
+use Rattle.lot_steps.specs.declared.places.Place.{Place}
+use Rattle.lot_steps.specs.declared.places.Place.TheVariants.{Idle, Mutex}
+use Rattle.lot_steps.specs.Acts.{holds, outcome_of}
+use Rattle.lot_steps.specs.declared.mutex.lock.Entry.{Entry}
+use Rattle.lot_steps.specs.declared.mutex.lock.Entry.TheVariants as entries
+use Rattle.lot_steps.specs.declared.acts.Next.{Next}
+use Rattle.lot_steps.specs.declared.acts.Next.TheVariants as next
+use Rattle.lot_calls.specs.declared.outcomes.Answer as answer
+use Rattle.lot_steps.specs.declared.mutex.unlock.UnlockAt.{UnlockAt}
+use Rattle.lot_steps.specs.declared.mutex.hand_off.HandOffAt.{HandOffAt}
+use Rattle.lot_steps.specs.MutexSteps.{in_lock, in_unlock, is_parked, is_locked, looked, next_lock, lock_act, mutex_first, hand_off_store}
+use Rattle.lot_calls.specs.declared.kinds.Kind.{Kind}
+use Rattle.lot_calls.specs.Kinds.{is_fair}
+use Rattle.lot_calls.specs.Calls.{lock_in}
+use Rattle.lot_steps.specs.Steps.{act_of, owes_on, next_act, next_place, mutex_goes, mutex_does, first_place, is_idle, spin_lock, late_key}
+use Rattle.lot_world.specs.Machine.{State, place_at, section_at, word_at, first_taken, taken_by, awakened, filled_with, queue_at, performed, gone, go_reply, go_outcome, is_there, is_free_under, is_open_to, can_begin, begun, can_turn, turn_outcome, kind_at, reply_to, put, spun_on, late_on, turned, is_possible, after, answered}
+use Rattle.lot_world.specs.Refinement.{call_state, locks_of}
+use Rattle.abstract_locks.specs.Locks.{Rights}
+use Rattle.abstract_locks.specs.Purposes.{IsReleasing}
+use Rattle.lot_world.specs.Owing.{Owes, IsInside, SeesWaiters, OwesSince}
+use Rattle.lot_world.specs.Fits.{IsShaped}
+use Rattle.lot_world.specs.Promises.{Codes, IsKept, GoesToWake}
+use Rattle.lot_world.specs.Sound.{IsSound, owner_at}
+use Rattle.lot_world.specs.Sound as sounds
+use Rattle.lot_world.proofs.Shape.{both, performed_counts}
+use Rattle.lot_world.proofs.Steady.{idle_is}
+use Rattle.lot_world.proofs.LockEvents.{same, rights as rights_at}
+
+-- ---------------------------------------------------------------- what befalls another thread
+
+-- whatever befalls a thread asleep, it owes nothing before and behind it
+owes_same_lock : (l k : ℕ) (e : _) (r : Bool) (a : LockAt) (t : ℕ) → owes_on (next_place (Mutex l (Lock e r a)) (TakenBy t)) k ≡ owes_on (Mutex l (Lock e r a)) k
+owes_same_lock l k e r lock.Asleep t = refl
+owes_same_lock l k e r lock.First t = refl
+owes_same_lock l k e r a t = refl
+
+befalls_taken : (p : Place) (t k : ℕ) → owes_on (next_place p (TakenBy t)) k ≡ owes_on p k
+befalls_taken Idle t k = refl
+befalls_taken (Mutex l (Lock e r a)) t k = owes_same_lock l k e r a t
+befalls_taken (Mutex l TryLock) t k = refl
+befalls_taken (Mutex l (Unlock unlock.Subtract)) t k = refl
+befalls_taken (Mutex l (Unlock a)) t k = refl
+befalls_taken (Mutex l UnlockFair) t k = refl
+befalls_taken (Mutex l Bump) t k = refl
+befalls_taken (Mutex l (HandOff b hand_off.Enter)) t k = refl
+befalls_taken (Mutex l (HandOff b a)) t k = refl
+
+befalls_handed : (p : Place) (t k : ℕ) → owes_on (next_place p (HandedBy t)) k ≡ owes_on p k
+befalls_handed Idle t k = refl
+befalls_handed (Mutex l (Lock e r (lock.Taken by))) t k = refl
+befalls_handed (Mutex l (Lock e r lock.First)) t k = refl
+befalls_handed (Mutex l (Lock e r a)) t k = refl
+befalls_handed (Mutex l TryLock) t k = refl
+befalls_handed (Mutex l (Unlock unlock.Subtract)) t k = refl
+befalls_handed (Mutex l (Unlock a)) t k = refl
+befalls_handed (Mutex l UnlockFair) t k = refl
+befalls_handed (Mutex l Bump) t k = refl
+befalls_handed (Mutex l (HandOff b hand_off.Enter)) t k = refl
+befalls_handed (Mutex l (HandOff b a)) t k = refl
+
+pub befalls_woken : (p : Place) (n : Note) (k : ℕ) → owes_on (next_place p (Woken n)) k ≡ owes_on p k
+befalls_woken Idle n k = refl
+befalls_woken (Mutex l (Lock e r lock.Asleep)) note.Normal k = refl
+befalls_woken (Mutex l (Lock e r lock.Asleep)) note.HandOff k = refl
+befalls_woken (Mutex l (Lock e r (lock.Taken by))) note.Normal k = refl
+befalls_woken (Mutex l (Lock e r (lock.Taken by))) note.HandOff k = refl
+befalls_woken (Mutex l (Lock e r (lock.Handed by))) note.Normal k = refl
+befalls_woken (Mutex l (Lock e r (lock.Handed by))) note.HandOff k = refl
+befalls_woken (Mutex l (Lock e r lock.First)) n k = refl
+befalls_woken (Mutex l (Lock e r a)) n k = refl
+befalls_woken (Mutex l TryLock) n k = refl
+befalls_woken (Mutex l (Unlock unlock.Subtract)) n k = refl
+befalls_woken (Mutex l (Unlock a)) n k = refl
+befalls_woken (Mutex l UnlockFair) n k = refl
+befalls_woken (Mutex l Bump) n k = refl
+befalls_woken (Mutex l (HandOff b hand_off.Enter)) n k = refl
+befalls_woken (Mutex l (HandOff b a)) n k = refl
+
+-- ---------------------------------------------------------------- the other threads
+
+-- a thread stands where it stood, or was befallen
+module _ (w : State) (k u : ℕ) where
+  set_same : (x : ℕ) (p : Place) → (x ≡ u → owes_on p k ≡ owes_on (place_at w u) k) → owes_on (get_or (set w.places x p) u Idle) k ≡ owes_on (place_at w u) k
+  set_same x p here = elim (cases_eq u x) [
+    | inl e ↦ elim (cases_lt x (length w.places)) [
+      | inl lt ↦ rw (e, get_or-set_same w.places x p Idle lt) (here (sym e) ∙ ap (λ y. owes_on (place_at w y) k) e)
+      | inr ge ↦ ap (λ ps. owes_on (get_or ps u Idle) k) (set_past w.places x p ge)
+    ]
+    | inr ne ↦ ap (λ p. owes_on p k) (get_or-set_other w.places x u p Idle ne)
+  ]
+
+  befallen_same : (x : ℕ) (r : Reply) → ((p : Place) → owes_on (next_place p r) k ≡ owes_on p k) → owes_on (get_or (set w.places x (next_place (place_at w x) r)) u Idle) k ≡ owes_on (place_at w u) k
+  befallen_same x r kept = set_same x (next_place (place_at w x) r) (λ e. kept (place_at w x) ∙ ap (λ y. owes_on (place_at w y) k) e)
+
+  parked_owes : (b : Bool) (queues : List (List _)) → owes_on (place_at (if b then record w { queues = queues } else w) u) k ≡ owes_on (place_at w u) k
+  parked_owes true queues = refl
+  parked_owes false queues = refl
+
+  took_owes : (t : ℕ) (queues : List (List _)) (o : Option ℕ) → owes_on (place_at (taken_by (record w { queues = queues }) t o) u) k ≡ owes_on (place_at w u) k
+  took_owes t queues None = refl
+  took_owes t queues (Some x) = befallen_same x (TakenBy t) (λ p. befalls_taken p t k)
+
+  left_owes : (keys : Keys) (x : Wakes) → owes_on (place_at (awakened (filled_with w keys None) x) u) k ≡ owes_on (place_at w u) k
+  left_owes (One key) wakes.TheVariants.Nobody = refl
+  left_owes (One key) (wakes.TheVariants.One x n) = befallen_same x (Woken n) (λ p. befalls_woken p n k)
+  left_owes (Two first second) wakes.TheVariants.Nobody = refl
+  left_owes (Two first second) (wakes.TheVariants.One x n) = befallen_same x (Woken n) (λ p. befalls_woken p n k)
+
+  filled_owes : (keys : Keys) (who : Option ℕ) → owes_on (place_at (filled_with w keys who) u) k ≡ owes_on (place_at w u) k
+  filled_owes (One key) who = refl
+  filled_owes (Two first second) who = refl
+
+  performed_owes : (t : ℕ) (p : Place) (a : Act) → owes_on (place_at (performed w t p a) u) k ≡ owes_on (place_at w u) k
+  performed_owes t p (Word l f) = refl
+  performed_owes t p (HandOver l f x) = befallen_same x (HandedBy t) (λ p. befalls_handed p t k)
+  performed_owes t p (Enter keys) = filled_owes keys (Some t)
+  performed_owes t p (Park l key check x) = parked_owes (holds check (word_at w l)) _
+  performed_owes t p (TakeFirst key) = took_owes t (first_taken w.queues key) (first_of (queue_at w key))
+  performed_owes t p (act.Leave keys x) = left_owes keys x
+  performed_owes t p act.Rest = refl
+  performed_owes t p a = refl
+
+put_owes : (b : State) (t u k : ℕ) (p : Place) → u ≢ t → owes_on (place_at (put b t p) u) k ≡ owes_on (place_at b u) k
+put_owes b t u k p ne = ap (λ q. owes_on q k) (get_or-set_other b.places t u p Idle ne)
+
+spun_owes : (w : State) (t u k : ℕ) (o : Option ℕ) → u ≢ t → owes_on (place_at (spun_on w t o) u) k ≡ owes_on (place_at w u) k
+spun_owes w t u k None ne = refl
+spun_owes w t u k (Some l) ne = put_owes w t u k _ ne
+
+late_owes : (w : State) (t u k : ℕ) (o : Option ℕ) → u ≢ t → owes_on (place_at (late_on w t o) u) k ≡ owes_on (place_at w u) k
+late_owes w t u k None ne = refl
+late_owes w t u k (Some key) ne = put_owes (filled_with w (One key) (Some t)) t u k _ ne
+
+turned_owes : (w : State) (t u k : ℕ) (x : Turn) → u ≢ t → owes_on (place_at (turned w t x) u) k ≡ owes_on (place_at w u) k
+turned_owes w t u k (turn.TheVariants.Begin c) ne = put_owes w t u k _ ne
+turned_owes w t u k turn.TheVariants.Go ne = put_owes (performed w t (place_at w t) (act_of (place_at w t))) t u k _ ne ∙ performed_owes w k u t (place_at w t) (act_of (place_at w t))
+turned_owes w t u k turn.TheVariants.Spin ne = spun_owes w t u k (spin_lock (place_at w t)) ne
+turned_owes w t u k turn.TheVariants.Late ne = late_owes w t u k (late_key (place_at w t)) ne
+turned_owes w t u k x ne = refl
+
+others_owe : (w : State) (s : Step) (u k : ℕ) → u ≢ s.thread → owes_on (place_at (after w s) u) k ≡ owes_on (place_at w u) k
+others_owe w s u k ne = either (is_possible w s)
+  where
+    either : (b : Bool) → owes_on (place_at (if b then turned w s.thread s.turn else w) u) k ≡ owes_on (place_at w u) k
+    either true = turned_owes w s.thread u k s.turn ne
+    either false = refl
+
+-- ---------------------------------------------------------------- the thread of the step
+
+-- a thread that is to enter the section as it releases the lock
+abbrev ToWake : Place → (ℕ → Rights) → ℕ → Type 0
+ToWake q r l = (act_of q ≡ Enter (One (2 * l))) × IsReleasing (call_state q r).purpose (call_state q r).released l
+
+-- no thread that enters releases
+entering_lock : (l k : ℕ) (e : Entry) (r : Bool) (n : Next LockAt) (rights : ℕ → Rights) → IsReleasing (call_state (mutex_goes l (in_lock e r n)) rights).purpose (call_state (mutex_goes l (in_lock e r n)) rights).released k → ⊥
+entering_lock l k entries.Lock r (next.At at) rights h = h
+entering_lock l k entries.LockTimed r (next.At at) rights h = h
+entering_lock l k entries.Bump r (next.At at) rights h = let f : true ≡ false = h.1 in cc
+entering_lock l k e r (next.End a) rights h = h
+
+same_lock : (k l : ℕ) → k ≡ l → (true && (k == l)) ≡ true
+same_lock k l e = rw e (same l)
+
+module _ (w : State) (t : ℕ) (sound : IsSound w) where
+  -- the word of an owner that isn't 1 says that somebody may wait
+  beside_owner : (k : ℕ) → owner_at w k ≡ Some t → (word_at w k == 1) ≡ false → is_parked (word_at w k) ≡ true
+  beside_owner k own ne = by_code (subst (λ o. Codes (word_at w k) o) own (sound.codes k))
+    where
+      by_code : Codes (word_at w k) (Some t) → is_parked (word_at w k) ≡ true
+      by_code (inl e) = let f : (1 == 1) ≡ false = rw e at ne in absurd cc
+      by_code (inr e) = rw e refl
+
+  -- where a thread goes that is then to wake
+  module _ (rights : ℕ → Rights) (l : ℕ) where
+    from_unlock : (k : ℕ) (a : UnlockAt) → place_at w t ≡ Mutex k (Unlock a) → ToWake (next_place (Mutex k (Unlock a)) (reply_to w t (act_of (Mutex k (Unlock a))))) rights l
+        → SeesWaiters w t l (outcome_of (next_act (Mutex k (Unlock a)) (reply_to w t (act_of (Mutex k (Unlock a))))))
+    from_unlock k unlock.Subtract is h = either (is_parked (word_at w k)) refl h
+      where
+        either : (b : Bool) → is_parked (word_at w k) ≡ b → ToWake (mutex_goes k (in_unlock (if b then next.At unlock.Enter else next.End answer.TheVariants.Ok))) rights l
+            → SeesWaiters w t l (outcome_of (mutex_does k (in_unlock (if b then next.At unlock.Enter else next.End answer.TheVariants.Ok))))
+        either true e h = (rw is h.1, ap (λ m. is_parked (word_at w m)) (sym h.1) ∙ e, refl)
+        either false e h = absurd h.1
+    from_unlock k unlock.Enter is h = let f = h.0 in absurd cc
+    from_unlock k unlock.Take is h = either (length (drop 1 (queue_at w (2 * k))) == 0) h
+      where
+        either : (b : Bool) → ToWake (mutex_goes k (in_unlock (if b then next.At (unlock.Clear (first_of (queue_at w (2 * k)))) else next.At (unlock.Leave (first_of (queue_at w (2 * k))))))) rights l
+            → SeesWaiters w t l (outcome_of (mutex_does k (in_unlock (if b then next.At (unlock.Clear (first_of (queue_at w (2 * k)))) else next.At (unlock.Leave (first_of (queue_at w (2 * k))))))))
+        either true h = let f = h.0 in absurd cc
+        either false h = let f = h.0 in absurd cc
+    from_unlock k (unlock.Clear taken) is h = let f = h.0 in absurd cc
+    from_unlock k (unlock.Leave taken) is h = absurd h.1
+
+    from_hand_off : (k : ℕ) (b : Bool) (a : HandOffAt) → ToWake (next_place (Mutex k (HandOff b a)) (reply_to w t (act_of (Mutex k (HandOff b a))))) rights l → ⊥
+    from_hand_off k b hand_off.Enter h = let f = h.0 in cc
+    from_hand_off k b hand_off.Take h = by_taken (first_of (queue_at w (2 * k))) h.0
+      where
+        by_taken : (o : Option ℕ) → hand_off_store k o (length (drop 1 (queue_at w (2 * k))) == 0) ≡ Enter (One (2 * l)) → ⊥
+        by_taken None e = cc
+        by_taken (Some u) e = cc
+    from_hand_off k b (hand_off.Store None n) h = let f = h.0 in cc
+    from_hand_off k b (hand_off.Store (Some u) n) h = let f = h.0 in cc
+    from_hand_off k true (hand_off.Leave taken) h = let f = h.0 in cc
+    from_hand_off k false (hand_off.Leave taken) h = h.1
+
+    goes_to_wake : (p : Place) → place_at w t ≡ p → ToWake (next_place p (reply_to w t (act_of p))) rights l → SeesWaiters w t l (outcome_of (next_act p (reply_to w t (act_of p))))
+    goes_to_wake Idle is h = absurd h.1
+    goes_to_wake (Mutex k (Lock e r a)) is h = absurd (entering_lock k l e _ (next_lock e a (reply_to w t (lock_act k a))) rights h.1)
+    goes_to_wake (Mutex k TryLock) is h = either (is_locked (word_at w k)) h
+      where
+        either : (b : Bool) → ToWake (mutex_goes k (if b then next.End answer.TheVariants.No else next.End answer.TheVariants.Yes)) rights l
+            → SeesWaiters w t l (outcome_of (mutex_does k (if b then next.End answer.TheVariants.No else next.End answer.TheVariants.Yes)))
+        either true h = absurd h.1
+        either false h = absurd h.1
+    goes_to_wake (Mutex k (Unlock a)) is h = from_unlock k a is h
+    goes_to_wake (Mutex k UnlockFair) is h = either (word_at w k == 1) refl h
+      where
+        either : (b : Bool) → (word_at w k == 1) ≡ b → ToWake (mutex_goes k (looked false (not b))) rights l → SeesWaiters w t l (outcome_of (mutex_does k (looked false (not b))))
+        either true e h = absurd h.1
+        either false e h = (rw is h.1, ap (λ m. is_parked (word_at w m)) (sym h.1) ∙ beside_owner k (sound.held t k (ap sounds.holds is)) e, refl)
+    goes_to_wake (Mutex k Bump) is h = either (is_parked (word_at w k)) refl h
+      where
+        either : (b : Bool) → is_parked (word_at w k) ≡ b → ToWake (mutex_goes k (looked true b)) rights l → SeesWaiters w t l (outcome_of (mutex_does k (looked true b)))
+        either true e h = (rw is h.1, ap (λ m. is_parked (word_at w m)) (sym h.1.0) ∙ e, refl)
+        either false e h = absurd h.1
+    goes_to_wake (Mutex k (HandOff b a)) is h = absurd (from_hand_off k b a h)
+
+  -- who saw waiters owes a wake
+  module _ (l : ℕ) where
+    saw_unlock : (k : ℕ) (a : UnlockAt) → k ≡ l → is_parked (word_at w l) ≡ true → outcome_of (next_act (Mutex k (Unlock a)) (reply_to w t (act_of (Mutex k (Unlock a))))) ≡ outcome.TheVariants.Step
+        → owes_on (next_place (Mutex k (Unlock a)) (reply_to w t (act_of (Mutex k (Unlock a))))) l ≡ true
+    saw_unlock k unlock.Subtract e parked o = let here : is_parked (word_at w k) ≡ true = ap (λ m. is_parked (word_at w m)) e ∙ parked in rw here (same_lock k l e)
+    saw_unlock k unlock.Enter e parked o = same_lock k l e
+    saw_unlock k unlock.Take e parked o = either (length (drop 1 (queue_at w (2 * k))) == 0)
+      where
+        either : (b : Bool) → owes_on (mutex_goes k (in_unlock (if b then next.At (unlock.Clear (first_of (queue_at w (2 * k)))) else next.At (unlock.Leave (first_of (queue_at w (2 * k))))))) l ≡ true
+        either true = same_lock k l e
+        either false = same_lock k l e
+    saw_unlock k (unlock.Clear taken) e parked o = same_lock k l e
+    saw_unlock k (unlock.Leave taken) e parked o = absurd cc
+
+    saw : (p : Place) → IsReleasing (call_state p (rights_at w t)).purpose (call_state p (rights_at w t)).released l → is_parked (word_at w l) ≡ true
+        → outcome_of (next_act p (reply_to w t (act_of p))) ≡ outcome.TheVariants.Step → owes_on (next_place p (reply_to w t (act_of p))) l ≡ true
+    saw Idle h parked o = absurd h
+    saw (Mutex k (Lock e r a)) h parked o = absurd (entering_lock k l e r (next.At a) (rights_at w t) h)
+    saw (Mutex k TryLock) h parked o = absurd h
+    saw (Mutex k (Unlock a)) h parked o = saw_unlock k a h parked o
+    saw (Mutex k UnlockFair) h parked o = either (word_at w k == 1) refl
+      where
+        either : (b : Bool) → (word_at w k == 1) ≡ b → owes_on (mutex_goes k (looked false (not b))) l ≡ true
+        either true e = let one : is_parked (word_at w k) ≡ true = ap (λ m. is_parked (word_at w m)) h ∙ parked in let f : is_parked 1 ≡ true = subst (λ v. is_parked v ≡ true) (eqb-true (word_at w k) 1 e) one in absurd cc
+        either false e = same_lock k l h
+    saw (Mutex k Bump) h parked o = let here : is_parked (word_at w k) ≡ true = ap (λ m. is_parked (word_at w m)) h.0 ∙ parked in rw here (same_lock k l h.0)
+    saw (Mutex k (HandOff true hand_off.Enter)) h parked o = same_lock k l h.0
+    saw (Mutex k (HandOff true hand_off.Take)) h parked o = same_lock k l h.0
+    saw (Mutex k (HandOff true (hand_off.Store None n))) h parked o = same_lock k l h.0
+    saw (Mutex k (HandOff true (hand_off.Store (Some u) n))) h parked o = same_lock k l h.0
+    saw (Mutex k (HandOff true (hand_off.Leave taken))) h parked o = absurd (let f : true ≡ false = h.1 in cc)
+    saw (Mutex k (HandOff false hand_off.Enter)) h parked o = same_lock k l h
+    saw (Mutex k (HandOff false hand_off.Take)) h parked o = same_lock k l h
+    saw (Mutex k (HandOff false (hand_off.Store None n))) h parked o = same_lock k l h
+    saw (Mutex k (HandOff false (hand_off.Store (Some u) n))) h parked o = same_lock k l h
+    saw (Mutex k (HandOff false (hand_off.Leave taken))) h parked o = absurd cc
+
+-- ---------------------------------------------------------------- a step
+
+module _ (w v : State) (t : ℕ) (there : t < length w.places) where
+  -- where no turn of a release is taken
+  quietly : (l : ℕ) (o : Outcome) → IsKept v → (GoesToWake v t l → ⊥) → (SeesWaiters w t l o → ⊥) → Owes v t l ↔ (IsInside v t l ⊎ SeesWaiters w t l o)
+  quietly l o kept none unseen = (
+    λ h. elim ((kept.owing t l).0 h) [ inl i ↦ inl i | inr g ↦ absurd (none g) ],
+    λ h. elim h [ inl i ↦ (kept.owing t l).1 (inl i) | inr s ↦ absurd (unseen s) ],
+  )
+
+-- who enters a lock isn't about to wake, nor has it seen waiters
+no_waker : (w : State) (t l k : ℕ) (e : Entry) (r : Bool) (a : LockAt) → place_at w t ≡ Mutex k (Lock e r a) → IsReleasing ((locks_of w).calls t).purpose ((locks_of w).calls t).released l → ⊥
+no_waker w t l k e r a is h = entering_lock k l e r (next.At a) (rights_at w t) (subst (λ p. IsReleasing (call_state p (rights_at w t)).purpose (call_state p (rights_at w t)).released l) is h)
+
+module _ (w : State) (t : ℕ) (shape : IsShaped w) (sound : IsSound w) (there : t < length w.places) where
+  go_place : place_at (gone w t) t ≡ next_place (place_at w t) (go_reply w t)
+  go_place = get_or-set_same (performed w t (place_at w t) (act_of (place_at w t))).places t _ Idle (rw ((performed_counts w t (place_at w t) (act_of (place_at w t))).0) there)
+
+  go_owes : (l : ℕ) → IsKept (gone w t) → Owes (gone w t) t l ↔ (IsInside (gone w t) t l ⊎ SeesWaiters w t l (go_outcome w t))
+  go_owes l kept = (
+    λ h. elim ((kept.owing t l).0 h) [
+      | inl i ↦ inl i
+      | inr g ↦ inr (goes_to_wake w t sound (rights_at (gone w t) t) l (place_at w t) refl (subst (λ p. ToWake p (rights_at (gone w t) t) l) go_place g))
+    ],
+    λ h. elim h [
+      | inl i ↦ (kept.owing t l).1 (inl i)
+      | inr s ↦ ap (λ p. owes_on p l) go_place ∙ saw w t sound l (place_at w t) s.0 s.1 s.2
+    ],
+  )
+
+-- no call begins before a section
+begins_apart : (k : Kind) (c : Call) (l : ℕ) → act_of (first_place k c) ≡ Enter (One (2 * l)) → ⊥
+begins_apart k (call.TheVariants.Mutex m c) l h = either (is_fair k) c h
+  where
+    either : (fair : Bool) (c : MutexCall) → act_of (Mutex m (mutex_first fair c)) ≡ Enter (One (2 * l)) → ⊥
+    either fair mutex_call.TheVariants.Lock h = cc
+    either fair mutex_call.TheVariants.LockTimed h = cc
+    either fair mutex_call.TheVariants.TryLock h = cc
+    either true mutex_call.TheVariants.Unlock h = cc
+    either false mutex_call.TheVariants.Unlock h = cc
+    either fair mutex_call.TheVariants.UnlockFair h = cc
+    either fair mutex_call.TheVariants.Bump h = cc
+
+module _ (w : State) (t : ℕ) (there : t < length w.places) where
+  -- a thread that entered a lock, and does so still
+  enters_on : (v : State) (l k m : ℕ) (e f : Entry) (r s : Bool) (a b : LockAt) (o : Outcome) → place_at w t ≡ Mutex k (Lock e r a) → place_at v t ≡ Mutex m (Lock f s b) → IsKept v
+      → Owes v t l ↔ (IsInside v t l ⊎ SeesWaiters w t l o)
+  enters_on v l k m e f r s a b o is later kept = quietly w v t there l o kept (λ g. no_waker v t l m f s b later g.1) (λ x. no_waker w t l k e r a is x.0)
+
+  spun_owing : (p : Place) → place_at w t ≡ p → is_there (spin_lock p) ≡ true → (l : ℕ) (o : Outcome) → IsKept (spun_on w t (spin_lock p)) → Owes (spun_on w t (spin_lock p)) t l ↔ (IsInside (spun_on w t (spin_lock p)) t l ⊎ SeesWaiters w t l o)
+  spun_owing Idle is can = absurd cc
+  spun_owing (Mutex k (Lock e r (lock.Decide x))) is can = either (x == 1) can
+    where
+      either : (b : Bool) → is_there (if b then Some k else None) ≡ true → (l : ℕ) (o : Outcome) → IsKept (spun_on w t (if b then Some k else None)) → Owes (spun_on w t (if b then Some k else None)) t l ↔ (IsInside (spun_on w t (if b then Some k else None)) t l ⊎ SeesWaiters w t l o)
+      either true can l o kept = enters_on _ l k k e e r r (lock.Decide x) (lock.Decide (word_at w k)) o is (rw (get_or-set_same w.places t (next_place (place_at w t) (Spun (word_at w k))) Idle there, is) refl) kept
+      either false can l o kept = absurd cc
+  spun_owing (Mutex k (Lock e r lock.First)) is can = absurd cc
+  spun_owing (Mutex k (Lock e r a)) is can = absurd cc
+  spun_owing (Mutex k TryLock) is can = absurd cc
+  spun_owing (Mutex k (Unlock a)) is can = absurd cc
+  spun_owing (Mutex k UnlockFair) is can = absurd cc
+  spun_owing (Mutex k Bump) is can = absurd cc
+  spun_owing (Mutex k (HandOff b a)) is can = absurd cc
+
+  late_owing : (p : Place) → place_at w t ≡ p → is_free_under w (late_key p) ≡ true → (l : ℕ) (o : Outcome) → IsKept (late_on w t (late_key p)) → Owes (late_on w t (late_key p)) t l ↔ (IsInside (late_on w t (late_key p)) t l ⊎ SeesWaiters w t l o)
+  late_owing (Mutex k (Lock entries.LockTimed r lock.Asleep)) is can l o kept = enters_on _ l k k entries.LockTimed entries.LockTimed r r lock.Asleep lock.Remove o is (rw (get_or-set_same w.places t (next_place (place_at w t) Late) Idle there, is) refl) kept
+  late_owing Idle is can l o kept = absurd cc
+  late_owing (Mutex k (Lock entries.Lock r lock.Asleep)) is can l o kept = absurd cc
+  late_owing (Mutex k (Lock entries.Bump r lock.Asleep)) is can l o kept = absurd cc
+  late_owing (Mutex k (Lock e r lock.First)) is can l o kept = absurd cc
+  late_owing (Mutex k (Lock e r a)) is can l o kept = absurd cc
+  late_owing (Mutex k TryLock) is can l o kept = absurd cc
+  late_owing (Mutex k (Unlock a)) is can l o kept = absurd cc
+  late_owing (Mutex k UnlockFair) is can l o kept = absurd cc
+  late_owing (Mutex k Bump) is can l o kept = absurd cc
+  late_owing (Mutex k (HandOff b a)) is can l o kept = absurd cc
+
+  begun_owing : (c : Call) → can_begin w t c ≡ true → (l : ℕ) (o : Outcome) → IsKept (begun w t c) → Owes (begun w t c) t l ↔ (IsInside (begun w t c) t l ⊎ SeesWaiters w t l o)
+  begun_owing c can l o kept = quietly w (begun w t c) t there l o kept
+      (λ g. begins_apart (kind_at w (lock_in c)) c l (subst (λ p. act_of p ≡ Enter (One (2 * l))) (get_or-set_same w.places t (first_place (kind_at w (lock_in c)) c) Idle there) g.0))
+      (λ x. let idle : place_at w t ≡ Idle = idle_is (place_at w t) (both (is_idle (place_at w t)) (is_open_to w t c) can).0 in
+      let none : IsReleasing (call_state Idle (rights_at w t)).purpose (call_state Idle (rights_at w t)).released l = subst (λ p. IsReleasing (call_state p (rights_at w t)).purpose (call_state p (rights_at w t)).released l) idle x.0 in none)
+
+module _ (w : State) (t : ℕ) (shape : IsShaped w) (sound : IsSound w) (there : t < length w.places) where
+  turned_owing : (x : Turn) → can_turn w t x ≡ true → (l : ℕ) → IsKept (turned w t x) → Owes (turned w t x) t l ↔ (IsInside (turned w t x) t l ⊎ SeesWaiters w t l (turn_outcome w t x))
+  turned_owing (turn.TheVariants.Begin c) can l kept = begun_owing w t there c can l outcome.TheVariants.Step kept
+  turned_owing turn.TheVariants.Go can l kept = go_owes w t shape sound there l kept
+  turned_owing turn.TheVariants.Spin can l kept = spun_owing w t there (place_at w t) refl can l outcome.TheVariants.Step kept
+  turned_owing turn.TheVariants.Late can l kept = late_owing w t there (place_at w t) refl can l outcome.TheVariants.Step kept
+  turned_owing turn.TheVariants.Ok can l kept = absurd cc
+  turned_owing turn.TheVariants.Err can l kept = absurd cc
+
+pub owes_since : (w : State) (s : Step) → IsShaped w → IsSound w → IsKept (after w s) → OwesSince w s.thread (answered w s) (after w s)
+owes_since w s shape sound kept = record {
+  own = own (is_possible w s) refl kept;
+  others = λ u l ne. ((λ h. sym (others_owe w s u l ne) ∙ h), λ h. others_owe w s u l ne ∙ h);
+}
+  where
+    own : (b : Bool) → is_possible w s ≡ b → IsKept (if b then turned w s.thread s.turn else w) → (l : ℕ) → (if b then turn_outcome w s.thread s.turn else outcome.TheVariants.NotNow) ≢ outcome.TheVariants.NotNow
+        → Owes (if b then turned w s.thread s.turn else w) s.thread l ↔ (IsInside (if b then turned w s.thread s.turn else w) s.thread l ⊎ SeesWaiters w s.thread l (if b then turn_outcome w s.thread s.turn else outcome.TheVariants.NotNow))
+    own true can kept l ne = let h = both (nat_lt s.thread (length w.places)) (can_turn w s.thread s.turn) can in turned_owing w s.thread shape sound (ltb-true s.thread (length w.places) h.0) s.turn h.1 l kept
+    own false cannot kept l ne = absurd (ne refl)
