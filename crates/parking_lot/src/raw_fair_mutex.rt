@@ -66,7 +66,7 @@ impl lock_raw::RawMutex for RawFairMutex {
 
     #[inline]
     fn unlock<R: Wait>(&self, rt: &R, token: &mut Token, guard: RawGuard) {
-        self.raw.unlock_fair(rt, token, guard);
+        self.unlock_fair(rt, token, guard);
     }
 
     #[inline]
