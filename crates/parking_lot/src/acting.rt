@@ -22,7 +22,7 @@ fn note_of(wakes: Wakes) -> Note
 {
     match wakes {
         Wakes::Nobody => Note::Normal,
-        Wakes::One { thread: _, note } => note,
+        Wakes::One { note, .. } => note,
     }
 }
 
@@ -211,8 +211,8 @@ pub(crate) fn perform<'a, R: Wait, C: Clock>(
     ensures adds { Adds (place word.number word.kind) act result (view_of token.old).steps (view_of token.new).steps }
 {
     match act {
-        Act::Word { lock: _, op } => Reply::Value(lot.word(token, word, op)),
-        Act::HandOver { lock: _, op, to } => {
+        Act::Word { op, .. } => Reply::Value(lot.word(token, word, op)),
+        Act::HandOver { op, to, .. } => {
             Reply::Value(hand_over(rt, lot, token, word, section, op, to))
         }
         Act::Enter(keys) => {
@@ -220,10 +220,10 @@ pub(crate) fn perform<'a, R: Wait, C: Clock>(
             Reply::Done
         }
         Act::Park {
-            lock: _,
             key,
             check,
             want,
+            ..
         } => Reply::Parked(park(lot, token, word, section, key, check, want)),
         Act::TakeFirst(key) => {
             let (first, none_left) = take_first(lot, section, key);
@@ -232,7 +232,7 @@ pub(crate) fn perform<'a, R: Wait, C: Clock>(
         Act::Remove(key) => Reply::Removed {
             none_left: remove(lot, section, key, token.number()),
         },
-        Act::Leave { keys: _, wakes } => {
+        Act::Leave { wakes, .. } => {
             leave(rt, lot, token, section, note_of(wakes));
             Reply::Done
         }
