@@ -1,7 +1,7 @@
 //! `lotbench` over the Rust crate `parking_lot`: the same arguments, the same line.
 
 use parking_lot::lock_api::RawMutex as _;
-use parking_lot::{Mutex, RawMutex};
+use parking_lot::{FairMutex, Mutex, RawMutex};
 use std::process::ExitCode;
 use std::sync::atomic::{AtomicU64, Ordering::Relaxed};
 use std::thread;
@@ -10,7 +10,7 @@ use std::time::Instant;
 const BATCH: u64 = 128;
 const MOST_THREADS: usize = 64;
 const MOST_OPERATIONS: u64 = 1_000_000_000_000;
-const USAGE: &str = "usage: lotbench raw_mutex|raw_mutex_try|mutex|mutex_try THREADS N";
+const USAGE: &str = "usage: lotbench raw_mutex|raw_mutex_try|mutex|mutex_try|fair THREADS N";
 
 #[derive(Clone, Copy)]
 enum Mode {
@@ -18,6 +18,7 @@ enum Mode {
     RawMutexTry,
     Mutex,
     MutexTry,
+    Fair,
 }
 
 impl Mode {
@@ -27,6 +28,7 @@ impl Mode {
             "raw_mutex_try" => Some(Mode::RawMutexTry),
             "mutex" => Some(Mode::Mutex),
             "mutex_try" => Some(Mode::MutexTry),
+            "fair" => Some(Mode::Fair),
             _ => None,
         }
     }
@@ -37,6 +39,7 @@ impl Mode {
             Mode::RawMutexTry => "raw_mutex_try",
             Mode::Mutex => "mutex",
             Mode::MutexTry => "mutex_try",
+            Mode::Fair => "fair",
         }
     }
 }
@@ -48,6 +51,7 @@ struct Apart<T>(T);
 struct Bench {
     raw: Apart<RawMutex>,
     value: Apart<Mutex<u64>>,
+    fair: Apart<FairMutex<u64>>,
     taken: Apart<AtomicU64>,
     operations: u64,
 }
@@ -86,6 +90,14 @@ fn lock_value(bench: &Bench, times: u64) {
 }
 
 #[inline(never)]
+fn lock_fair(bench: &Bench, times: u64) {
+    for _ in 0..times {
+        let mut value = bench.fair.0.lock();
+        *value = value.wrapping_add(1);
+    }
+}
+
+#[inline(never)]
 fn try_value(bench: &Bench, times: u64) {
     for _ in 0..times {
         let mut value = loop {
@@ -109,6 +121,7 @@ fn work(mode: Mode, bench: &Bench) -> u64 {
             Mode::RawMutexTry => try_raw(bench, times),
             Mode::Mutex => lock_value(bench, times),
             Mode::MutexTry => try_value(bench, times),
+            Mode::Fair => lock_fair(bench, times),
         }
         done += times;
     }
@@ -137,6 +150,7 @@ fn main() -> ExitCode {
     let bench = Box::new(Bench {
         raw: Apart(RawMutex::INIT),
         value: Apart(Mutex::new(0)),
+        fair: Apart(FairMutex::new(0)),
         taken: Apart(AtomicU64::new(0)),
         operations,
     });
@@ -150,6 +164,7 @@ fn main() -> ExitCode {
     let answer = match mode {
         Mode::RawMutex | Mode::RawMutexTry => counts.iter().sum(),
         Mode::Mutex | Mode::MutexTry => *bench.value.0.lock(),
+        Mode::Fair => *bench.fair.0.lock(),
     };
     let (low, high) = (counts.iter().min().unwrap(), counts.iter().max().unwrap());
     println!("{} {threads} {operations} {nanos} {answer} {low} {high}", mode.name());

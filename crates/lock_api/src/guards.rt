@@ -1,18 +1,15 @@
 //! Guards of locks with a value.
 ghost use Rattle.std.specs.Prelude.{◌≡◌};
+ghost use Rattle.lot_calls.specs.declared.calls.MutexCall.TheVariants.{Unlock, UnlockFair, Bump};
+ghost use Rattle.lot_calls.specs.declared.outcomes.Answer.TheVariants as answers;
 
+use crate::mutex::Mutex;
 use crate::shows::{Shows, ShowsMut};
-use lock_raw::RawMutex;
+use crate::taken::Taken;
+use lock_raw::{RawMutex, RawMutexFair};
 use std::ops::{Deref, DerefMut};
 use std::sync;
 use std::sync::Wait;
-
-/// A raw mutex, with the raw guard of who has it.
-pub struct Taken<'a, R: RawMutex> {
-    lock: &'a R,
-    guard: R::Guard,
-    ghost owned: { R.is_guard_of lock.now guard } by { R.guard_once lock.now guard },
-}
 
 /// A value that may be used. The raw lock is taken, and under it the inner lock of the value is open.
 pub struct Guarded<K, V> {
@@ -21,38 +18,82 @@ pub struct Guarded<K, V> {
 }
 
 /// The mutex is taken for as long as its guard is not spent. A guard has the raw guard, of this very mutex; it can't be
-/// dropped, and `unlock` is its end.
-pub type MutexGuard<'a, R, T> = Guarded<Taken<'a, R>, sync::MutexGuard<'a, T>>;
+/// dropped, and `unlock` or `unlock_fair` is its end.
+pub type MutexGuard<'a, R, T> = Guarded<Taken<'a, R, T>, sync::MutexGuard<'a, T>>;
 
-impl<'a, R: RawMutex, T> Guarded<Taken<'a, R>, sync::MutexGuard<'a, T>> {
+impl<'a, R: RawMutex, T> Guarded<Taken<'a, R, T>, sync::MutexGuard<'a, T>> {
     // The guard of who has the raw guard, and has opened the inner lock.
     #[inline]
     pub(crate) fn new(
-        lock: &'a R,
+        mutex: &'a Mutex<R, T>,
         guard: R::Guard,
         value: sync::MutexGuard<'a, T>,
     ) -> MutexGuard<'a, R, T>
-        requires { R.is_guard_of lock.now guard }
-        ensures { result.taken.lock.now ≡ lock.now }
+        requires { R.is_guard_of mutex.now.raw guard }
+        ensures { result.taken.mutex.now ≡ mutex.now }
     {
         Guarded {
-            taken: Taken { lock, guard },
+            taken: Taken::new(mutex, guard),
             value,
         }
+    }
+
+    // The value is closed, and the mutex is still taken.
+    #[inline]
+    fn close(self) -> (&'a Mutex<R, T>, R::Guard)
+        ensures { (result.0.now ≡ self.entry.taken.mutex.now) × R.is_guard_of self.entry.taken.mutex.now.raw result.1 }
+    {
+        let Guarded { taken, value } = self;
+        taken.close(value)
     }
 
     /// Gives the mutex up, and wakes the first who waits for it.
     #[inline]
     pub fn unlock<W: Wait>(self, rt: &W, token: &mut R::Token)
-        requires { R.is_token_of (R.lot_of self.taken.lock.now) token.old }
-        ensures { R.is_token_of (R.lot_of self.entry.taken.lock.now) token.new }
+        requires { R.is_token_of (R.lot_of self.taken.mutex.now.raw) token.old }
+        ensures token { R.is_token_of (R.lot_of self.entry.taken.mutex.now.raw) token.new × R.stays token.old token.new }
+        ensures path { R.walked self.entry.taken.mutex.now.raw Unlock answers.Ok token.old token.new }
+        ensures record { R.released self.entry.taken.mutex.now.raw Unlock token.old token.new }
     {
-        let Guarded {
-            taken: Taken { lock, guard },
-            value,
-        } = self;
-        drop(value);
-        lock.unlock(rt, token, guard);
+        let (mutex, guard) = self.close();
+        mutex.raw().unlock(rt, token, guard);
+    }
+
+    /// Two guards of one mutex exclude each other: nobody ever has both, so this can't be called.
+    pub fn has_two(self, token: &mut R::Token, other: MutexGuard<'a, R, T>) -> !
+        requires token { R.is_token_of (R.lot_of self.taken.mutex.now.raw) token.old }
+        requires mutex { other.taken.mutex.now.raw ≡ self.taken.mutex.now.raw }
+    {
+        let (mutex, one) = self.close();
+        let (_, other) = other.close();
+        mutex.raw().has_two_guards(token, one, other)
+    }
+}
+
+impl<'a, R: RawMutexFair, T> Guarded<Taken<'a, R, T>, sync::MutexGuard<'a, T>> {
+    /// Hands the mutex to the first who waits for it. Where nobody waits, gives it up.
+    #[inline]
+    pub fn unlock_fair<W: Wait>(self, rt: &W, token: &mut R::Token)
+        requires { R.is_token_of (R.lot_of self.taken.mutex.now.raw) token.old }
+        ensures token { R.is_token_of (R.lot_of self.entry.taken.mutex.now.raw) token.new × R.stays token.old token.new }
+        ensures path { R.walked self.entry.taken.mutex.now.raw UnlockFair answers.Ok token.old token.new }
+        ensures record { R.released self.entry.taken.mutex.now.raw UnlockFair token.old token.new }
+    {
+        let (mutex, guard) = self.close();
+        mutex.raw().unlock_fair(rt, token, guard);
+    }
+
+    /// Hands the mutex to the first who waits for it, and waits to take it again. Where nobody waits, keeps it.
+    #[inline]
+    pub fn bump<W: Wait>(self, rt: &W, token: &mut R::Token) -> MutexGuard<'a, R, T>
+        requires { R.is_token_of (R.lot_of self.taken.mutex.now.raw) token.old }
+        ensures token { R.is_token_of (R.lot_of self.entry.taken.mutex.now.raw) token.new × R.stays token.old token.new }
+        ensures guard { result.taken.mutex.now ≡ self.entry.taken.mutex.now }
+        ensures path { R.walked self.entry.taken.mutex.now.raw Bump answers.Ok token.old token.new }
+    {
+        let (mutex, guard) = self.close();
+        let guard = mutex.raw().bump(rt, token, guard);
+        mutex.open(rt, guard)
     }
 }
 

@@ -4,8 +4,9 @@
 pub mod guards;
 pub mod mutex;
 pub mod shows;
+pub mod taken;
 
 pub use guards::MutexGuard;
 pub use lock_raw;
-pub use lock_raw::{RawMutex, RawMutexTimed};
+pub use lock_raw::{RawMutex, RawMutexFair, RawMutexTimed};
 pub use mutex::Mutex;

@@ -1,6 +1,10 @@
 //! The mutex with its value.
-ghost use Rattle.std.specs.Prelude.{◌≡◌, ◌⊎◌, MatchBool, MatchOption, MatchResult};
+ghost use Rattle.std.specs.Prelude.{◌≡◌, ◌⊎◌, IfSome, MatchOption, MatchResult};
+ghost use Rattle.std.specs.Fn.{FnOnceReturnsAtMut};
 ghost use Rattle.std.specs.Arc.{arc_value};
+ghost use Rattle.lock_raw.specs.Answers.{answer_by};
+ghost use Rattle.lot_calls.specs.declared.calls.MutexCall.TheVariants.{Lock, LockTimed, TryLock};
+ghost use Rattle.lot_calls.specs.declared.outcomes.Answer.TheVariants as answers;
 
 use crate::guards::MutexGuard;
 use lock_raw::{RawMutex, RawMutexTimed};
@@ -8,6 +12,13 @@ use lot_base::{Clock, Fault};
 use std::sync;
 use std::sync::{Arc, Wait};
 use std::time::Duration;
+
+fn run_on<T, U, F: FnOnce(&mut T) -> U>(value: &mut T, f: F) -> U
+    requires { F.IsAlwaysCallable f }
+    ensures { FnOnceReturnsAtMut F.FnOnce f value.old result value.new }
+{
+    f(value)
+}
 
 /// A value that one thread at a time may use. The inner lock is opened only under the raw guard, so nobody ever waits for it.
 #[derive(Drop)]
@@ -25,7 +36,7 @@ impl<R: RawMutex, T> Mutex<R, T> {
     #[inline]
     pub fn new(lot: &Arc<R::Lot>, token: &mut R::Token, value: T) -> Result<Mutex<R, T>, (Fault, T)>
         requires { R.is_token_of (arc_value lot.now) token.old }
-        ensures token { R.is_token_of (arc_value lot.now) token.new }
+        ensures token { R.is_token_of (arc_value lot.now) token.new × R.stays token.old token.new }
         ensures made { MatchResult result (λ mutex. R.lot_of mutex.raw ≡ arc_value lot.now) (λ refused. (refused.1 ≡ value) × ((refused.0 ≡ Fault.NoMemory) ⊎ (refused.0 ≡ Fault.LotFull))) }
     {
         match R::new(lot, token) {
@@ -41,8 +52,9 @@ impl<R: RawMutex, T> Mutex<R, T> {
     #[inline]
     pub fn lock<W: Wait>(&self, rt: &W, token: &mut R::Token) -> MutexGuard<'_, R, T>
         requires { R.is_token_of (R.lot_of self.now.raw) token.old }
-        ensures token { R.is_token_of (R.lot_of self.now.raw) token.new }
-        ensures guard { result.taken.lock.now ≡ self.now.raw }
+        ensures token { R.is_token_of (R.lot_of self.now.raw) token.new × R.stays token.old token.new }
+        ensures guard { result.taken.mutex.now ≡ self.now }
+        ensures path { R.walked self.now.raw Lock answers.Ok token.old token.new }
     {
         let raw = self.raw.lock(rt, token);
         self.open(rt, raw)
@@ -50,32 +62,66 @@ impl<R: RawMutex, T> Mutex<R, T> {
 
     // The guard of who has the raw one.
     #[inline]
-    fn open<W: Wait>(&self, rt: &W, raw: R::Guard) -> MutexGuard<'_, R, T>
+    pub(crate) fn open<W: Wait>(&self, rt: &W, raw: R::Guard) -> MutexGuard<'_, R, T>
         requires { R.is_guard_of self.now.raw raw }
-        ensures { result.taken.lock.now ≡ self.now.raw }
+        ensures { result.taken.mutex.now ≡ self.now }
     {
-        MutexGuard::new(&self.raw, raw, self.value.lock(rt))
+        MutexGuard::new(self, raw, self.value.lock(rt))
     }
 
-    /// Takes the mutex where nobody has it, by one step. None only where that step saw it locked.
+    /// Takes the mutex where nobody has it.
     #[inline]
     pub fn try_lock<W: Wait>(&self, rt: &W, token: &mut R::Token) -> Option<MutexGuard<'_, R, T>>
         requires { R.is_token_of (R.lot_of self.now.raw) token.old }
-        ensures token { R.is_token_of (R.lot_of self.now.raw) token.new }
-        ensures guard { MatchOption result (R.saw_locked self.now.raw token.old token.new) (λ guard. guard.taken.lock.now ≡ self.now.raw) }
+        ensures token { R.is_token_of (R.lot_of self.now.raw) token.new × R.stays token.old token.new }
+        ensures guard { IfSome result (λ guard. guard.taken.mutex.now ≡ self.now) }
+        ensures path { R.walked self.now.raw TryLock (answer_by result) token.old token.new }
     {
         let raw = self.raw.try_lock(token)?;
         Some(self.open(rt, raw))
     }
 
-    /// Whether somebody has the mutex, by one step.
+    /// Whether somebody has the mutex.
     #[inline]
     pub fn is_locked(&self, token: &mut R::Token) -> bool
         requires { R.is_token_of (R.lot_of self.now.raw) token.old }
-        ensures token { R.is_token_of (R.lot_of self.now.raw) token.new }
-        ensures seen { MatchBool result (R.saw_locked self.now.raw token.old token.new) (R.saw_unlocked self.now.raw token.old token.new) }
+        ensures token { R.is_token_of (R.lot_of self.now.raw) token.new × R.stays token.old token.new }
+        ensures seen { R.looked self.now.raw result token.old token.new }
     {
         self.raw.is_locked(token)
+    }
+}
+
+impl<R: RawMutex, T> Mutex<R, T> {
+    /// Locks the mutex, runs a closure on the value, and unlocks: what the closure promises of the value that it found.
+    pub fn with<W: Wait, U, F: FnOnce(&mut T) -> U>(&self, rt: &W, token: &mut R::Token, f: F) -> U
+        requires token { R.is_token_of (R.lot_of self.now.raw) token.old }
+        requires callable { F.IsAlwaysCallable f }
+        ensures token { R.is_token_of (R.lot_of self.now.raw) token.new }
+        ensures ran { (found : T) × (left : T) × FnOnceReturnsAtMut F.FnOnce f found result left }
+    {
+        let mut guard = self.lock(rt, token);
+        let answer = run_on(&mut *guard, f);
+        guard.unlock(rt, token);
+        answer
+    }
+
+    /// The same where nobody has the mutex. None only where it is locked, and the closure was not run.
+    pub fn try_with<W: Wait, U, F: FnOnce(&mut T) -> U + Drop>(
+        &self,
+        rt: &W,
+        token: &mut R::Token,
+        f: F,
+    ) -> Option<U>
+        requires token { R.is_token_of (R.lot_of self.now.raw) token.old }
+        requires callable { F.IsAlwaysCallable f }
+        ensures token { R.is_token_of (R.lot_of self.now.raw) token.new }
+        ensures ran { MatchOption result (R.walked self.now.raw TryLock answers.No token.old token.new) (λ answer. (found : T) × (left : T) × FnOnceReturnsAtMut F.FnOnce f found answer left) }
+    {
+        let mut guard = self.try_lock(rt, token)?;
+        let answer = run_on(&mut *guard, f);
+        guard.unlock(rt, token);
+        Some(answer)
     }
 }
 
@@ -92,8 +138,9 @@ impl<R: RawMutexTimed, T> Mutex<R, T> {
         timeout: Duration,
     ) -> Option<MutexGuard<'_, R, T>>
         requires { R.is_token_of (R.lot_of self.now.raw) token.old }
-        ensures token { R.is_token_of (R.lot_of self.now.raw) token.new }
-        ensures guard { MatchOption result (R.gave_up self.now.raw token.old token.new) (λ guard. guard.taken.lock.now ≡ self.now.raw) }
+        ensures token { R.is_token_of (R.lot_of self.now.raw) token.new × R.stays token.old token.new }
+        ensures guard { IfSome result (λ guard. guard.taken.mutex.now ≡ self.now) }
+        ensures path { R.walked self.now.raw LockTimed (answer_by result) token.old token.new }
     {
         let raw = self.raw.try_lock_for(rt, token, clock, timeout)?;
         Some(self.open(rt, raw))
@@ -109,8 +156,9 @@ impl<R: RawMutexTimed, T> Mutex<R, T> {
         deadline: u64,
     ) -> Option<MutexGuard<'_, R, T>>
         requires { R.is_token_of (R.lot_of self.now.raw) token.old }
-        ensures token { R.is_token_of (R.lot_of self.now.raw) token.new }
-        ensures guard { MatchOption result (R.gave_up self.now.raw token.old token.new) (λ guard. guard.taken.lock.now ≡ self.now.raw) }
+        ensures token { R.is_token_of (R.lot_of self.now.raw) token.new × R.stays token.old token.new }
+        ensures guard { IfSome result (λ guard. guard.taken.mutex.now ≡ self.now) }
+        ensures path { R.walked self.now.raw LockTimed (answer_by result) token.old token.new }
     {
         let raw = self.raw.try_lock_until(rt, token, clock, deadline)?;
         Some(self.open(rt, raw))

@@ -1,10 +1,15 @@
 //! Raw locks, as generic code sees them.
 #![tactic(auto)]
 
-ghost use Rattle.std.specs.Prelude.{◌≡◌, ◌⊎◌, MatchBool, MatchOption, MatchResult};
+ghost use Rattle.std.specs.Prelude.{◌≡◌, ◌⊎◌, Bool, MatchResult, IfSome};
 ghost use Rattle.std.specs.Arc.{arc_value};
+ghost use Rattle.lot_calls.specs.declared.calls.MutexCall.{MutexCall};
+ghost use Rattle.lot_calls.specs.declared.calls.MutexCall.TheVariants.{Lock, LockTimed, TryLock, Unlock, UnlockFair, Bump};
+ghost use Rattle.lot_calls.specs.declared.outcomes.Answer.{Answer};
+ghost use Rattle.lot_calls.specs.declared.outcomes.Answer.TheVariants as answers;
+ghost use Rattle.lock_raw.specs.Answers.{answer_by};
 
-use lot_base::{Clock, Fault, to_deadline};
+use lot_base::{Clock, Fault};
 use std::sync::{Arc, Wait};
 use std::time::Duration;
 
@@ -21,14 +26,18 @@ pub trait RawMutex {
     ghost lot_of: { Self → Self.Lot };
     // A thread belongs to a lot.
     ghost is_token_of: { Self.Lot → Self.Token → Type 0 };
+    // It is the same thread, and owns what it did.
+    ghost stays: { Self.Token → Self.Token → Type 0 };
     // A guard is of this mutex.
     ghost is_guard_of: { Self → Self.Guard → Type 0 };
     // That a guard is of a mutex has one proof at most, so a struct may keep it as a ghost field.
     ghost guard_once: { (mutex : Self) (guard : Self.Guard) → IsProp (is_guard_of mutex guard) };
-    // Between the two states of a thread, it took one step, which saw the mutex locked.
-    ghost saw_locked: { Self → Self.Token → Self.Token → Type 0 };
-    // Likewise, and it saw the mutex unlocked.
-    ghost saw_unlocked: { Self → Self.Token → Self.Token → Type 0 };
+    // Between the two states of a thread, it took the steps of this call of the mutex, to this answer.
+    ghost walked: { Self → MutexCall → Answer → Self.Token → Self.Token → Type 0 };
+    // Between them it gave the mutex up by this call, and took the first who waits where it saw a waiter.
+    ghost released: { Self → MutexCall → Self.Token → Self.Token → Type 0 };
+    // Between them it took one step, which saw the mutex locked or not.
+    ghost looked: { Self → Bool → Self.Token → Self.Token → Type 0 };
 
     /// A mutex that nobody has.
     ///
@@ -37,40 +46,64 @@ pub trait RawMutex {
     /// `LotFull`, where the lot has no word left, and `NoMemory`, where memory was refused.
     fn new(lot: &Arc<Self::Lot>, token: &mut Self::Token) -> Result<Self, Fault>
         requires { is_token_of (arc_value lot.now) token.old }
-        ensures token { is_token_of (arc_value lot.now) token.new }
+        ensures token { is_token_of (arc_value lot.now) token.new × stays token.old token.new }
         ensures made { MatchResult result (λ mutex. lot_of mutex ≡ arc_value lot.now) (λ fault. (fault ≡ Fault.NoMemory) ⊎ (fault ≡ Fault.LotFull)) };
 
     /// Waits until nobody has the mutex, and takes it.
     fn lock<R: Wait>(&self, rt: &R, token: &mut Self::Token) -> Self::Guard
         requires { is_token_of (lot_of self.now) token.old }
-        ensures token { is_token_of (lot_of self.now) token.new }
-        ensures guard { is_guard_of self.now result };
+        ensures token { is_token_of (lot_of self.now) token.new × stays token.old token.new }
+        ensures guard { is_guard_of self.now result }
+        ensures path { walked self.now Lock answers.Ok token.old token.new };
 
-    /// Takes the mutex where nobody has it. None only where one step saw it locked.
+    /// Takes the mutex where nobody has it.
     fn try_lock(&self, token: &mut Self::Token) -> Option<Self::Guard>
         requires { is_token_of (lot_of self.now) token.old }
-        ensures token { is_token_of (lot_of self.now) token.new }
-        ensures guard { MatchOption result (saw_locked self.now token.old token.new) (is_guard_of self.now) };
+        ensures token { is_token_of (lot_of self.now) token.new × stays token.old token.new }
+        ensures guard { IfSome result (is_guard_of self.now) }
+        ensures path { walked self.now TryLock (answer_by result) token.old token.new };
 
-    /// Gives the mutex up, and wakes the first who waits for it. The guard is spent; what the release did to the word and
-    /// to the queue is told by each lock.
+    /// Gives the mutex up, and wakes the first who waits for it. The guard is spent.
     fn unlock<R: Wait>(&self, rt: &R, token: &mut Self::Token, guard: Self::Guard)
         requires token { is_token_of (lot_of self.now) token.old }
         requires guard { is_guard_of self.now guard }
-        ensures { is_token_of (lot_of self.now) token.new };
+        ensures token { is_token_of (lot_of self.now) token.new × stays token.old token.new }
+        ensures path { walked self.now Unlock answers.Ok token.old token.new }
+        ensures record { released self.now Unlock token.old token.new };
 
-    /// Whether somebody has the mutex, by one step.
+    /// Whether somebody has the mutex.
     fn is_locked(&self, token: &mut Self::Token) -> bool
         requires { is_token_of (lot_of self.now) token.old }
-        ensures token { is_token_of (lot_of self.now) token.new }
-        ensures seen { MatchBool result (saw_locked self.now token.old token.new) (saw_unlocked self.now token.old token.new) };
+        ensures token { is_token_of (lot_of self.now) token.new × stays token.old token.new }
+        ensures seen { looked self.now result token.old token.new };
+
+    /// Two guards of one mutex exclude each other: nobody ever has both, so this can't be called.
+    fn has_two_guards(&self, token: &mut Self::Token, one: Self::Guard, other: Self::Guard) -> !
+        requires token { is_token_of (lot_of self.now) token.old }
+        requires guards { is_guard_of self.now one × is_guard_of self.now other };
+}
+
+/// A mutex that its owner may hand to the first who waits.
+pub trait RawMutexFair: RawMutex {
+    /// Hands the mutex to the first who waits for it. Where nobody waits, gives it up. The guard is spent.
+    fn unlock_fair<R: Wait>(&self, rt: &R, token: &mut Self::Token, guard: Self::Guard)
+        requires token { Self.is_token_of (Self.lot_of self.now) token.old }
+        requires guard { Self.is_guard_of self.now guard }
+        ensures token { Self.is_token_of (Self.lot_of self.now) token.new × Self.stays token.old token.new }
+        ensures path { Self.walked self.now UnlockFair answers.Ok token.old token.new }
+        ensures record { Self.released self.now UnlockFair token.old token.new };
+
+    /// Hands the mutex to the first who waits for it, and waits to take it again. Where nobody waits, keeps it.
+    fn bump<R: Wait>(&self, rt: &R, token: &mut Self::Token, guard: Self::Guard) -> Self::Guard
+        requires token { Self.is_token_of (Self.lot_of self.now) token.old }
+        requires guard { Self.is_guard_of self.now guard }
+        ensures token { Self.is_token_of (Self.lot_of self.now) token.new × Self.stays token.old token.new }
+        ensures guard { Self.is_guard_of self.now result }
+        ensures path { Self.walked self.now Bump answers.Ok token.old token.new };
 }
 
 /// A mutex whose waiters may give up.
 pub trait RawMutexTimed: RawMutex {
-    // Between the two states of a thread, a timed call gave up: its time was over while it stood in the queue.
-    ghost gave_up: { Self → Self.Token → Self.Token → Type 0 };
-
     /// Waits until nobody has the mutex, and takes it. None where the time, in nanoseconds of the clock, was over first.
     ///
     /// A time that ends past all that a `u64` tells is no limit.
@@ -82,14 +115,9 @@ pub trait RawMutexTimed: RawMutex {
         timeout: Duration,
     ) -> Option<Self::Guard>
         requires { Self.is_token_of (Self.lot_of self.now) token.old }
-        ensures token { Self.is_token_of (Self.lot_of self.now) token.new }
-        ensures guard { MatchOption result (gave_up self.now token.old token.new) (Self.is_guard_of self.now) }
-    {
-        match to_deadline(clock.now(), timeout) {
-            Some(deadline) => self.try_lock_until(rt, token, clock, deadline),
-            None => Some(self.lock(rt, token)),
-        }
-    }
+        ensures token { Self.is_token_of (Self.lot_of self.now) token.new × Self.stays token.old token.new }
+        ensures guard { IfSome result (Self.is_guard_of self.now) }
+        ensures path { Self.walked self.now LockTimed (answer_by result) token.old token.new };
 
     /// Waits until nobody has the mutex, and takes it. None where the clock came to the deadline first.
     fn try_lock_until<R: Wait, C: Clock>(
@@ -100,6 +128,7 @@ pub trait RawMutexTimed: RawMutex {
         deadline: u64,
     ) -> Option<Self::Guard>
         requires { Self.is_token_of (Self.lot_of self.now) token.old }
-        ensures token { Self.is_token_of (Self.lot_of self.now) token.new }
-        ensures guard { MatchOption result (gave_up self.now token.old token.new) (Self.is_guard_of self.now) };
+        ensures token { Self.is_token_of (Self.lot_of self.now) token.new × Self.stays token.old token.new }
+        ensures guard { IfSome result (Self.is_guard_of self.now) }
+        ensures path { Self.walked self.now LockTimed (answer_by result) token.old token.new };
 }

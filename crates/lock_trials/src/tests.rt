@@ -1,4 +1,5 @@
 //! Threads that meet at one mutex.
+mod fair;
 mod mutexes;
 mod raw_timed;
 mod timed;
@@ -7,6 +8,7 @@ ghost use Rattle.std.specs.Prelude.{◌≡◌, All, IfOk, IfSome};
 ghost use Rattle.std.specs.Arc.{arc_value};
 ghost use Rattle.parking_lot_core.specs.Tokens.{IsTicketOf, IsTokenOf};
 
+use parking_lot::lock_raw::RawMutex as RawLock;
 use parking_lot::{Fault, ParkingLot, RawMutex, Ticket};
 use std::alloc::Global;
 use std::sync::atomic::Ordering::SeqCst;

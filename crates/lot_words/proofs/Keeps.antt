@@ -1,7 +1,8 @@
 -- Each step keeps the rule.
-use Rattle.std.proofs.Common.{◌≡◌, ℕ, ◌+◌, ◌<◌, ◌≤◌, eqb, cond, ◌≢◌, true, List, [], ◌∷◌, ◌++◌, inl, inr, length, get_or, set, sym, refl, ap, ◌∙◌, subst, ⊎_elim, arith, length-set, get_or-set_same, get_or-set_other, eq-eqb, ne_eqb, suc}
+use Rattle.std.proofs.Common.{◌≡◌, ℕ, ◌+◌, ◌<◌, ◌≤◌, eqb, cond, ◌≢◌, true, List, [], ◌∷◌, ◌++◌, inl, inr, length, get_or, set, sym, refl, ap, ◌∙◌, subst, ⊎_elim, arith, length-set, get_or-set_same, get_or-set_other, eq-eqb, ne_eqb, zero, suc, bit_or}
 use mathlib.Core.Logic.{dite}
-use mathlib.Core.Option.{some, none}
+use mathlib.Core.Option.{some, none, some-injective}
+use Rattle.std.proofs.lemmas.List.{set-get_or}
 use native.Mathlib.Decide.{ℕ_discrete}
 use lib.ListN.{get_elem?}
 use prog.Atomic.{either}
@@ -13,9 +14,9 @@ use Rattle.lot_words.specs.Codes.{Owners, Codes, Shows, IsCountCode}
 use Rattle.lot_words.specs.Rule.{LotRule}
 use Rattle.lot_base.specs.Words.{apply}
 use Rattle.lot_base.specs.declared.ops.Op.{Op}
-use Rattle.lot_base.specs.declared.ops.Op.TheVariants.{Load, Exchange}
+use Rattle.lot_base.specs.declared.ops.Op.TheVariants.{Load, Or, Exchange}
 use Rattle.lot_words.specs.Steps.{has, IsTied, trade, MayStep, listed, after_step}
-use Rattle.lot_words.specs.Plays.{TakesAs, Takes, looks, draws, numbered, left_over, piece, takes_in}
+use Rattle.lot_words.specs.Plays.{TakesAs, Takes, saw_set, looks, draws, numbered, left_over, piece, takes_in}
 use Rattle.lot_words.specs.declared.owners.Ownership.{Ownership}
 use Rattle.lot_words.specs.declared.views.WordStep.{WordStep}
 use Rattle.lot_words.proofs.Trades.{total-without, traded_here, traded_elsewhere, traded_counts}
@@ -135,6 +136,28 @@ pub steps_at_word : {S : Type 0} (words slots id : ℕ) (me : Me S View) (number
 steps_at_word words slots id me number kind at op op' same there below may =
     let may' : MayStep kind (place number kind) op' me.0.owns = subst (λ (x : Op). MayStep kind (place number kind) x me.0.owns) same may in
     subst (λ (i : ℕ). Allows (LotRule words) slots id me i (apply op') (Takes i op' me)) (sym there) (steps words slots id me number kind op' below may')
+
+set_elem : {A : Type 0} (xs : List A) (j : ℕ) (x : A) → get_elem? xs j ≡ some x → set xs j x ≡ xs
+set_elem [] j x e = refl
+set_elem (y ∷ ys) zero x e = ap (λ z. z ∷ ys) (sym (some-injective y x e))
+set_elem (y ∷ ys) (suc j) x e = ap (λ zs. y ∷ zs) (set_elem ys j x e)
+
+-- a load that finds bits set is an or with these, and any other is no step
+pub sees_set : {S : Type 0} (words slots id : ℕ) (me : Me S View) (number : ℕ) (kind : WordKind) (bits : ℕ) → number < words → MayStep kind (place number kind) (Or bits) me.0.owns
+    → Allows (LotRule words) slots id me (place number kind) (λ n. n) (saw_set bits (step slots (place number kind) 0 0 none) me)
+sees_set {S} words slots id me number kind bits below may s o wide at fits =
+    let i : ℕ = place number kind in let n : ℕ = get_or s.words i 0 in
+    dite (ℕ_discrete (bit_or n bits) n)
+    (λ e. let t = steps words slots id me number kind (Or bits) below may s o wide at fits in
+    (t.0, t.1, t.2, subst (λ (m : ℕ). LotRule words (stepped s i m id me.1 t.0 t.1)) e t.3, ((λ _. t.4), λ ne. absurd (ne e))))
+    (λ ne. (
+      me.0,
+      keeps,
+      tt,
+      subst (λ (xs : List ℕ). LotRule words (record { words = xs; homes = s.homes; views = set s.views id me.0 })) (sym (set-get_or s.words i 0))
+          (subst (λ (vs : List View). LotRule words (record { words = s.words; homes = s.homes; views = vs })) (sym (set_elem s.views id me.0 at)) o),
+      ((λ e. absurd (ne e)), λ _. refl),
+    ))
 
 -- one ownership goes to a seat of its own
 pub splits_off : {S : Type 0} (words id : ℕ) (v : View) (x : Ownership) → has x v.owns ≡ true → Splits {S = S} (LotRule words) id v (left_over x v) (piece x)

@@ -6,6 +6,7 @@ pub mod Keeps
 pub mod MutexSteps
 pub mod RwLockSteps
 pub mod RwLockKinds
+pub mod OnceSteps
 mod Alone
 mod AtWord
 mod RuleLaws

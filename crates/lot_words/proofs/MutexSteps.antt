@@ -1,5 +1,5 @@
 -- The kinds of step on a mutex's word, each an instance of one law.
-use Rattle.std.proofs.Common.{◌≡◌, ℕ, ◌+◌, ◌%◌, ◌<◌, ◌≤◌, List, [], ◌∷◌, true, cond, eqb, sym, subst, arith, eq-eqb, ne_eqb}
+use Rattle.std.proofs.Common.{◌≡◌, ◌⊎◌, inl, inr, ℕ, ◌+◌, ◌%◌, ◌<◌, ◌≤◌, List, [], ◌∷◌, true, cond, eqb, sym, subst, arith, eq-eqb, ne_eqb}
 use mathlib.Core.Logic.{dite}
 use native.Mathlib.Decide.{ℕ_discrete}
 use Rattle.lot_base.specs.Words.{apply}
@@ -59,6 +59,17 @@ module _ (at : ℕ) (owns : List Ownership) where
   pub may_mark : MayStep Mutex at (Exchange 1 3) owns
   may_mark = locks (Exchange 1 3) (omega arith, λ a b. absurd (omega arith)) (omega arith, λ a b. absurd (omega arith)) (omega arith, λ a b. absurd (omega arith)) (omega arith, λ a b. absurd (omega arith))
 
+  -- the exchange that marks a locked mutex, whether it is marked or not
+  pub may_mark_locked : (s : ℕ) → (s ≡ 1) ⊎ (s ≡ 3) → MayStep Mutex at (Exchange s 3) owns
+  may_mark_locked s which = elim which [
+    | inl e ↦ subst (λ (k : ℕ). MayStep Mutex at (Exchange k 3) owns) (sym e) may_mark
+    | inr e ↦ subst (λ (k : ℕ). MayStep Mutex at (Exchange k 3) owns) (sym e) (locks (Exchange 3 3) (omega arith, λ a b. absurd (omega arith)) (omega arith, λ a b. absurd (omega arith)) (omega arith, λ a b. absurd (omega arith)) (omega arith, λ a b. absurd (omega arith)))
+  ]
+
+  -- or with 2
+  pub may_mark_any : MayStep Mutex at (Or 2) owns
+  may_mark_any = locks (Or 2) (omega arith, λ a b. absurd (omega arith)) (omega arith, λ a b. absurd (omega arith)) (omega arith, λ a b. absurd (omega arith)) (omega arith, λ a b. absurd (omega arith))
+
   -- and with not 2
   pub may_clear : MayStep Mutex at (And 18446744073709551613) owns
   may_clear = locks (And 18446744073709551613) (omega arith, λ a b. absurd (omega arith)) (omega arith, λ a b. absurd (omega arith)) (omega arith, λ a b. absurd (omega arith)) (omega arith, λ a b. absurd (omega arith))
@@ -84,6 +95,8 @@ mutex_steps at owns = record {
   set_locked = may_try at owns;
   set_parked = may_mark at owns;
   clear_parked = may_clear at owns;
+  mark = may_mark_locked at owns;
+  mark_any = may_mark_any at owns;
   leave = may_leave at owns;
   leave_alone = may_leave_alone at owns;
   hand_over = may_hand_over at owns;

@@ -52,8 +52,11 @@ IsRwLockCode n owners = (n / 4 ≡ 4 * (owners shared + owners upgradable) + 2 *
     × (owners shared + owners upgradable + owners upgrading < 2 ^ 60)
 
 -- DONE 1, POISON 2, LOCKED 4, PARKED 8: locked beside its one runner, and done for ever where somebody saw it done
+abbrev pub IsOnceWord : ℕ → Type 0
+IsOnceWord n = (n ≡ 1) ⊎ ((n < 16) × ((n % 8 ≡ 0) ⊎ ((n % 8 ≡ 2) ⊎ (n % 8 ≡ 4))))
+
 abbrev pub IsOnceCode : ℕ → Owners → Type 0
-IsOnceCode n owners = ((n ≡ 1) ⊎ ((n < 16) × ((n % 8 ≡ 0) ⊎ ((n % 8 ≡ 2) ⊎ (n % 8 ≡ 4))))) × (owners runner ≡ n / 4 % 2) × (0 < owners witness → n ≡ 1)
+IsOnceCode n owners = IsOnceWord n × (owners runner ≡ n / 4 % 2) × (0 < owners witness → n ≡ 1)
 
 -- the words that owners alone explain. The other kinds are tied to the word of a mutex
 abbrev pub Codes : WordKind → ℕ → Owners → Type 0

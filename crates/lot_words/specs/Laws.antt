@@ -1,13 +1,13 @@
 -- What the codes say of owners.
-use Rattle.std.specs.Prelude.{◌≡◌, ◌≢◌, ◌⊎◌, ℕ, ◌+◌, ◌-◌, ◌/◌, ◌%◌, ◌^◌, ◌<◌, ◌≤◌, List, true}
-use Rattle.lot_base.specs.declared.ops.Op.TheVariants.{Load, Store, Add, Sub, Or, And, Exchange}
+use Rattle.std.specs.Prelude.{◌≡◌, ◌≢◌, ◌⊎◌, ℕ, ◌+◌, ◌-◌, ◌*◌, ◌/◌, ◌%◌, ◌^◌, ◌<◌, ◌≤◌, List, true}
+use Rattle.lot_base.specs.declared.ops.Op.TheVariants.{Load, Store, Swap, Add, Sub, Or, And, Exchange}
 use Rattle.lot_words.specs.Views.{owning}
 use Rattle.lot_words.specs.Steps.{MayStep, has}
-use Rattle.lot_words.specs.declared.owners.Owner.TheVariants.{Exclusive, Pending, Upgrading, Upgradable, Shared}
+use Rattle.lot_words.specs.declared.owners.Owner.TheVariants.{Exclusive, Pending, Upgrading, Upgradable, Shared, Runner}
 use Rattle.lot_words.specs.declared.owners.Ownership.{Ownership}
 use Rattle.lot_words.specs.Codes.{Owners, Codes, everyone, exclusive, pending, upgrading, upgradable, shared}
 use Rattle.lot_words.specs.declared.words.WordKind.{WordKind}
-use Rattle.lot_words.specs.declared.words.WordKind.TheVariants.{Mutex, RwLock}
+use Rattle.lot_words.specs.declared.words.WordKind.TheVariants.{Mutex, RwLock, Once}
 
 -- one owner, and nobody beside it
 abbrev pub IsAlone : WordKind → Owners → Type 0
@@ -26,6 +26,9 @@ pub record MutexSteps (at : ℕ) (owns : List Ownership) : Type 0 where
   pub set_locked : MayStep Mutex at (Or 1) owns
   pub set_parked : MayStep Mutex at (Exchange 1 3) owns
   pub clear_parked : MayStep Mutex at (And 18446744073709551613) owns
+  -- who notifies marks a locked mutex, or any mutex to which it moved waiters
+  pub mark : (s : ℕ) → (s ≡ 1) ⊎ (s ≡ 3) → MayStep Mutex at (Exchange s 3) owns
+  pub mark_any : MayStep Mutex at (Or 2) owns
   -- who subtracts 1 owns the mutex
   pub leave : has (owning at Exclusive) owns ≡ true → MayStep Mutex at (Sub 1) owns
   -- and so does who leaves a word that nobody waits on, or stores a word in a section
@@ -67,3 +70,16 @@ pub record RwLockSteps (at : ℕ) (owns : List Ownership) : Type 0 where
 -- whoever it is, it may take them
 abbrev pub RwLockMaySteps : Type 0
 RwLockMaySteps = (at : ℕ) (owns : List Ownership) → RwLockSteps at owns
+
+-- the kinds of step on a `Once`'s word
+pub record OnceSteps (at : ℕ) (owns : List Ownership) : Type 0 where
+  pub load : MayStep Once at Load owns
+  -- LOCKED is set and POISON cleared, where nobody runs it and it isn't done
+  pub start : (s : ℕ) → s < 16 → (s % 8 ≡ 0) ⊎ (s % 8 ≡ 2) → MayStep Once at (Exchange s (s / 8 * 8 + 4)) owns
+  pub set_parked : (s : ℕ) → (s ≡ 0) ⊎ ((s ≡ 2) ⊎ (s ≡ 4)) → MayStep Once at (Exchange s (s + 8)) owns
+  -- who runs it leaves it done or poisoned
+  pub finish : (m : ℕ) → (m ≡ 1) ⊎ (m ≡ 2) → has (owning at Runner) owns ≡ true → MayStep Once at (Swap m) owns
+
+-- whoever it is, it may take them
+abbrev pub OnceMaySteps : Type 0
+OnceMaySteps = (at : ℕ) (owns : List Ownership) → OnceSteps at owns

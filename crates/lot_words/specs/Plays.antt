@@ -1,5 +1,5 @@
 -- What each step tells who takes it: of the step, the seat before, the value found and the seat after.
-use Rattle.std.specs.Prelude.{◌≡◌, ◌≢◌, ℕ, ◌+◌, ◌<◌, List, [], ◌∷◌, ◌++◌}
+use Rattle.std.specs.Prelude.{◌≡◌, ◌≢◌, bit_or, ℕ, ◌+◌, ◌<◌, List, [], ◌∷◌, ◌++◌}
 use Rattle.atomic_table.specs.Table.{Me, Step}
 use Rattle.lot_base.specs.declared.ops.Op.{Op}
 use Rattle.lot_base.specs.declared.ops.Op.TheVariants.{Load, Store, Swap, Add, Sub, Or, And, Exchange}
@@ -36,6 +36,10 @@ subs st me found after = Takes st.word (Sub st.first) me found after
 
 abbrev pub ors : {S : Type 0} → Play S
 ors st me found after = Takes st.word (Or st.first) me found after
+
+-- a load that finds the bits set is an or with them, and any other is no step
+abbrev pub saw_set : {S : Type 0} → ℕ → Play S
+saw_set bits st me found after = (bit_or found bits ≡ found → Takes st.word (Or bits) me found after) × (bit_or found bits ≢ found → after ≡ me)
 
 abbrev pub ands : {S : Type 0} → Play S
 ands st me found after = Takes st.word (And st.first) me found after

@@ -1,5 +1,5 @@
 //! What the rule says to who takes a step, whoever else takes steps.
-ghost use Rattle.lot_words.specs.Laws.{ExclusiveIsAlone, MutexMaySteps, RwLockMaySteps};
+ghost use Rattle.lot_words.specs.Laws.{ExclusiveIsAlone, MutexMaySteps, OnceMaySteps, RwLockMaySteps};
 ghost use Rattle.lot_words.specs.RuleLaws.{CountsAnOwner, DrawnOnce, NeverFalls, ShownWasStepped, UntouchedIs0};
 
 /// In every word of a mutex or a reader-writer lock that a step can find, an exclusive owner stands beside no other owner.
@@ -17,6 +17,12 @@ pub fn mutex_may_step()
 /// by anybody, and left, converted and handed over by who owns it so.
 pub fn rwlock_may_step()
     ensures { RwLockMaySteps }
+{}
+
+/// A `Once`'s word may be loaded, taken where nobody runs it and it isn't done, and marked as parked by anybody, and left done
+/// or poisoned by who runs it.
+pub fn once_may_step()
+    ensures { OnceMaySteps }
 {}
 
 /// The numbers below the counter were drawn, each once, and each is a word of the lot. No other number was drawn.

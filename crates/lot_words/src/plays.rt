@@ -1,8 +1,8 @@
 //! The rule of the lot's table, and the names of its steps.
-ghost use Rattle.std.specs.Prelude.{[], List};
+ghost use Rattle.std.specs.Prelude.{ℕ, [], List};
 ghost use Rattle.lot_words.specs.Rule.{LotRule};
 ghost use Rattle.lot_words.specs.Views.{blank};
-ghost use Rattle.lot_words.specs.Plays.{loads, stores, swaps, adds, subs, ors, ands, exchanges, looks, draws, left_over, piece, takes_in};
+ghost use Rattle.lot_words.specs.Plays.{loads, stores, swaps, adds, subs, ors, saw_set, ands, exchanges, looks, draws, left_over, piece, takes_in};
 ghost use Rattle.lot_words.specs.declared.owners.Ownership.{Ownership};
 ghost use Rattle.lot_words.specs.declared.owners.Owner.TheVariants.{Exclusive};
 ghost use Rattle.lot_words.specs.declared.words.WordKind.{WordKind};
@@ -53,6 +53,24 @@ pub struct Ors;
 
 impl<S> Play<S, View> for Ors {
     ghost then = { ors };
+}
+
+/// The bits that a step sets, picked at each call.
+pub trait Bits {
+    ghost bits: { ℕ };
+}
+
+impl Bits for Brand {
+    ghost bits = { 0 };
+}
+
+/// A load in place of an or, which is that or where it finds the bits set, and else no step of a call.
+pub struct SawSet<B: Bits> {
+    bits: PhantomData<B>,
+}
+
+impl<S, B: Bits> Play<S, View> for SawSet<B> {
+    ghost then = { saw_set B.bits };
 }
 
 pub struct Ands;

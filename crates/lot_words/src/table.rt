@@ -3,14 +3,15 @@ ghost use Rattle.std.specs.Prelude.{◌≡◌, ℕ, ◌<◌, ◌≤◌, [], IfOk
 ghost use Rattle.lot_words.specs.Places.{places, place, most_words};
 
 use crate::plays::{
-    Adds, Ands, Exchanges, Loads, Ors, OwnershipRule, SeatsAnother, Stores, Subs, Swaps,
+    Adds, Ands, Bits, Exchanges, Loads, Ors, OwnershipRule, SawSet, SeatsAnother, Stores, Subs,
+    Swaps,
 };
 use crate::views::View;
 use crate::words::Word;
 use atomic_table::{Badge, Table};
 use lot_base::Op;
 use std::alloc::{AllocError, Global};
-use std::marker::Model;
+use std::marker::{Brand, Model};
 use std::sync::atomic::AtomicU32;
 use std::sync::atomic::Ordering::SeqCst;
 
@@ -47,6 +48,7 @@ pub(crate) fn new_tag() -> u32 {
 
 impl LotWords {
     ghost use Rattle.lot_words.specs.Views.{blank};
+    ghost use Rattle.lot_base.specs.declared.ops.Op.TheVariants.{Or};
     ghost use Rattle.lot_words.specs.Steps.{MayStep, CodesWith, after_step};
     ghost use Rattle.lot_words.specs.Lots.{IsSeatOf, IsWordOf};
 
@@ -70,6 +72,24 @@ impl LotWords {
         self.table.shared.split_seat::<SeatsAnother>(seat)
     }
 
+    // Sets bits by one step, which writes nothing to a word that has them. So a try of a locked lock disturbs nobody.
+    #[inline]
+    fn set_bits<B: Bits>(&self, seat: &mut Seat, word: Word, bits: u64) -> u64
+        requires own { (B.bits ≡ bits) × IsSeatOf self.now seat.old × IsWordOf self.now word }
+        requires may { MayStep word.kind (place word.number word.kind) (Or bits) seat.old.me.0.owns }
+        ensures own { IsSeatOf self.now seat.new × (seat.new.me.1 ≡ seat.old.me.1) }
+        ensures stepped { seat.new.me.0 ≡ after_step word.kind (place word.number word.kind) (Or bits) result seat.old.me.0 }
+        ensures coded { CodesWith word.kind (place word.number word.kind) result seat.old.me.0.owns }
+    {
+        let at = word.place();
+        let words = &self.table.shared;
+        let seen = words.load::<SawSet<B>>(seat, at);
+        if seen | bits == seen {
+            return seen;
+        }
+        words.fetch_or::<Ors>(seat, at, bits)
+    }
+
     /// One step on a word. It answers the value before.
     #[inline]
     pub fn step(&self, seat: &mut Seat, word: Word, op: Op) -> u64
@@ -87,7 +107,7 @@ impl LotWords {
             Op::Swap(value) => words.swap::<Swaps>(seat, at, value),
             Op::Add(by) => words.fetch_add::<Adds>(seat, at, by),
             Op::Sub(by) => words.fetch_sub::<Subs>(seat, at, by),
-            Op::Or(bits) => words.fetch_or::<Ors>(seat, at, bits),
+            Op::Or(bits) => self.set_bits::<Brand>(seat, word, bits),
             Op::And(bits) => words.fetch_and::<Ands>(seat, at, bits),
             Op::Exchange { from, to } => words.compare_exchange::<Exchanges>(seat, at, from, to),
         }

@@ -1,13 +1,14 @@
 -- The names of the modes.
 use Rattle.std.specs.Prelude.{◌≡◌, ◌≢◌, ℕ, List, codes, Option, MatchOption}
 use Rattle.lotbench.specs.declared.plans.Mode.{Mode}
-use Rattle.lotbench.specs.declared.plans.Mode.TheVariants.{RawMutex, RawMutexTry, Mutex, MutexTry}
+use Rattle.lotbench.specs.declared.plans.Mode.TheVariants.{RawMutex, RawMutexTry, Mutex, MutexTry, Fair}
 
 abbrev pub name_of : Mode → List ℕ
 name_of RawMutex = codes "raw_mutex"
 name_of RawMutexTry = codes "raw_mutex_try"
 name_of Mutex = codes "mutex"
 name_of MutexTry = codes "mutex_try"
+name_of Fair = codes "fair"
 
 -- the mode of a name, and none where no mode has it
 abbrev pub IsModeNamed : List ℕ → Option Mode → Type 0

@@ -20,6 +20,8 @@ pub(crate) enum Mode {
     Mutex,
     /// Tries of the lock of a value until one gets it; 1 is added to the value, and it is unlocked.
     MutexTry,
+    /// The lock of a value of a fair mutex, to which 1 is added, and its unlock.
+    Fair,
 }
 
 impl Mode {
@@ -32,6 +34,7 @@ impl Mode {
             "raw_mutex_try" => Some(Mode::RawMutexTry),
             "mutex" => Some(Mode::Mutex),
             "mutex_try" => Some(Mode::MutexTry),
+            "fair" => Some(Mode::Fair),
             _ => None,
         }
     }
@@ -44,6 +47,7 @@ impl Mode {
             Mode::RawMutexTry => "raw_mutex_try",
             Mode::Mutex => "mutex",
             Mode::MutexTry => "mutex_try",
+            Mode::Fair => "fair",
         }
     }
 }

@@ -2,11 +2,11 @@
 ghost use Rattle.std.specs.Prelude.{◌≡◌, ◌≤◌, IfOk, IfSome, All};
 ghost use Rattle.std.specs.Arc.{arc_value};
 ghost use Rattle.parking_lot_core.specs.Tokens.{IsTicketOf, IsTokenOf};
-ghost use Rattle.parking_lot.specs.Driving.{IsGuardOf};
 
 use crate::plans::{Mode, Plan};
 use crate::shares::Shares;
-use parking_lot::{Fault, Mutex, MutexGuard, ParkingLot, RawMutex, Right, Ticket, Token};
+use parking_lot::lock_raw::RawMutex as RawLock;
+use parking_lot::{FairMutex, Fault, Mutex, ParkingLot, RawMutex, Ticket, Token, lock_api};
 use std::alloc::Global;
 use std::io;
 use std::sync::{Arc, Wait};
@@ -25,12 +25,13 @@ pub(crate) struct Figures {
     pub(crate) high: u64,
 }
 
-// A mutex without a value and one with, of one lot.
+// A mutex without a value, one with, and a fair one, of one lot.
 #[derive(Drop)]
 struct Bench {
     raw: RawMutex,
     mutex: Mutex<u64>,
-    ghost together: { arc_value mutex.raw.lot ≡ arc_value raw.lot },
+    fair: FairMutex<u64>,
+    ghost together: { (arc_value mutex.raw.lot ≡ arc_value raw.lot) × (arc_value fair.raw.raw.lot ≡ arc_value raw.lot) },
 }
 
 fn one_of(lot: &ParkingLot, tickets: &mut Vec<Ticket>) -> Option<Ticket>
@@ -58,8 +59,12 @@ fn bench_by(lot: &Arc<ParkingLot>, ticket: Ticket) -> Result<(Bench, Ticket), Fa
 {
     let mut token = ticket.enter();
     let raw = RawMutex::new(lot, &mut token)?;
-    match Mutex::new(lot, &mut token, 0) {
-        Ok(mutex) => Ok((Bench { raw, mutex }, token.leave())),
+    let mutex = match Mutex::new(lot, &mut token, 0) {
+        Ok(mutex) => mutex,
+        Err((fault, _)) => return Err(fault),
+    };
+    match FairMutex::new(lot, &mut token, 0) {
+        Ok(fair) => Ok((Bench { raw, mutex, fair }, token.leave())),
         Err((fault, _)) => Err(fault),
     }
 }
@@ -69,7 +74,7 @@ fn bench_for(alloc: Global, threads: usize) -> Result<(Bench, Vec<Ticket>), Faul
     requires { (1 ≤ threads) × (threads ≤ 64) }
     ensures { IfOk result (λ made. All (IsTicketOf (arc_value made.0.raw.lot)) made.1.items) }
 {
-    let (lot, mut tickets) = ParkingLot::new(alloc, 2, threads)?;
+    let (lot, mut tickets) = ParkingLot::new(alloc, 3, threads)?;
     let Some(first) = one_of(&lot, &mut tickets) else {
         return Err(Fault::NoMemory);
     };
@@ -79,10 +84,10 @@ fn bench_for(alloc: Global, threads: usize) -> Result<(Bench, Vec<Ticket>), Faul
 }
 
 #[inline]
-fn raw_by_tries<R: Wait>(rt: &R, mutex: &RawMutex, token: &mut Token) -> Right
-    requires { IsTokenOf (arc_value mutex.now.lot) token.old }
-    ensures token { IsTokenOf (arc_value mutex.now.lot) token.new }
-    ensures guard { IsGuardOf (arc_value mutex.now.lot) mutex.now.word result }
+fn raw_by_tries<M: RawLock, R: Wait>(rt: &R, mutex: &M, token: &mut M::Token) -> M::Guard
+    requires { M.is_token_of (M.lot_of mutex.now) token.old }
+    ensures token { M.is_token_of (M.lot_of mutex.now) token.new }
+    ensures guard { M.is_guard_of mutex.now result }
 {
     for _ in rt.forever() {
         if let Some(guard) = mutex.try_lock(token) {
@@ -93,14 +98,14 @@ fn raw_by_tries<R: Wait>(rt: &R, mutex: &RawMutex, token: &mut Token) -> Right
 }
 
 #[inline]
-fn guard_by_tries<'a, R: Wait>(
+fn guard_by_tries<'a, M: RawLock, R: Wait>(
     rt: &R,
-    mutex: &'a Mutex<u64>,
-    token: &mut Token,
-) -> MutexGuard<'a, u64>
-    requires { IsTokenOf (arc_value mutex.now.raw.lot) token.old }
-    ensures token { IsTokenOf (arc_value mutex.now.raw.lot) token.new }
-    ensures guard { result.taken.lock.now ≡ mutex.now.raw }
+    mutex: &'a lock_api::Mutex<M, u64>,
+    token: &mut M::Token,
+) -> lock_api::MutexGuard<'a, M, u64>
+    requires { M.is_token_of (M.lot_of mutex.now.raw) token.old }
+    ensures token { M.is_token_of (M.lot_of mutex.now.raw) token.new }
+    ensures guard { result.taken.mutex.now ≡ mutex.now }
 {
     for _ in rt.forever() {
         if let Some(guard) = mutex.try_lock(rt, token) {
@@ -110,9 +115,9 @@ fn guard_by_tries<'a, R: Wait>(
     unreachable!()
 }
 
-fn lock_raw<R: Wait>(rt: &R, mutex: &RawMutex, token: &mut Token, times: u64)
-    requires { IsTokenOf (arc_value mutex.now.lot) token.old }
-    ensures { IsTokenOf (arc_value mutex.now.lot) token.new }
+fn lock_raw<M: RawLock, R: Wait>(rt: &R, mutex: &M, token: &mut M::Token, times: u64)
+    requires { M.is_token_of (M.lot_of mutex.now) token.old }
+    ensures { M.is_token_of (M.lot_of mutex.now) token.new }
 {
     for _ in 0..times {
         let guard = mutex.lock(rt, token);
@@ -120,9 +125,9 @@ fn lock_raw<R: Wait>(rt: &R, mutex: &RawMutex, token: &mut Token, times: u64)
     }
 }
 
-fn try_raw<R: Wait>(rt: &R, mutex: &RawMutex, token: &mut Token, times: u64)
-    requires { IsTokenOf (arc_value mutex.now.lot) token.old }
-    ensures { IsTokenOf (arc_value mutex.now.lot) token.new }
+fn try_raw<M: RawLock, R: Wait>(rt: &R, mutex: &M, token: &mut M::Token, times: u64)
+    requires { M.is_token_of (M.lot_of mutex.now) token.old }
+    ensures { M.is_token_of (M.lot_of mutex.now) token.new }
 {
     for _ in 0..times {
         let guard = raw_by_tries(rt, mutex, token);
@@ -130,9 +135,14 @@ fn try_raw<R: Wait>(rt: &R, mutex: &RawMutex, token: &mut Token, times: u64)
     }
 }
 
-fn lock_value<R: Wait>(rt: &R, mutex: &Mutex<u64>, token: &mut Token, times: u64)
-    requires { IsTokenOf (arc_value mutex.now.raw.lot) token.old }
-    ensures { IsTokenOf (arc_value mutex.now.raw.lot) token.new }
+fn lock_value<M: RawLock, R: Wait>(
+    rt: &R,
+    mutex: &lock_api::Mutex<M, u64>,
+    token: &mut M::Token,
+    times: u64,
+)
+    requires { M.is_token_of (M.lot_of mutex.now.raw) token.old }
+    ensures { M.is_token_of (M.lot_of mutex.now.raw) token.new }
 {
     for _ in 0..times {
         let mut guard = mutex.lock(rt, token);
@@ -141,9 +151,14 @@ fn lock_value<R: Wait>(rt: &R, mutex: &Mutex<u64>, token: &mut Token, times: u64
     }
 }
 
-fn try_value<R: Wait>(rt: &R, mutex: &Mutex<u64>, token: &mut Token, times: u64)
-    requires { IsTokenOf (arc_value mutex.now.raw.lot) token.old }
-    ensures { IsTokenOf (arc_value mutex.now.raw.lot) token.new }
+fn try_value<M: RawLock, R: Wait>(
+    rt: &R,
+    mutex: &lock_api::Mutex<M, u64>,
+    token: &mut M::Token,
+    times: u64,
+)
+    requires { M.is_token_of (M.lot_of mutex.now.raw) token.old }
+    ensures { M.is_token_of (M.lot_of mutex.now.raw) token.new }
 {
     for _ in 0..times {
         let mut guard = guard_by_tries(rt, mutex, token);
@@ -168,6 +183,7 @@ fn work<R: Wait>(rt: &R, mode: Mode, bench: &Bench, ticket: Ticket, shares: &Sha
             Mode::RawMutexTry => try_raw(rt, &bench.raw, &mut token, times),
             Mode::Mutex => lock_value(rt, &bench.mutex, &mut token, times),
             Mode::MutexTry => try_value(rt, &bench.mutex, &mut token, times),
+            Mode::Fair => lock_value(rt, &bench.fair, &mut token, times),
         }
         done = done.saturating_add(times);
     }
@@ -181,6 +197,7 @@ fn answer_of(mode: Mode, bench: Bench, counts: &[u64]) -> u64 {
             .iter()
             .fold(0u64, |all, count| all.saturating_add(*count)),
         Mode::Mutex | Mode::MutexTry => bench.mutex.into_inner(),
+        Mode::Fair => bench.fair.into_inner(),
     }
 }
 

@@ -29,6 +29,7 @@ fn does_every_operation(rt: HostRuntime) -> Result<(), Fail> {
         ("raw_mutex_try", Mode::RawMutexTry),
         ("mutex", Mode::Mutex),
         ("mutex_try", Mode::MutexTry),
+        ("fair", Mode::Fair),
     ] {
         let plan = plan_of(&[name, "2", "1000"]).ok_or("it is a plan")?;
         assert_eq!(rt; (plan.mode, plan.threads, plan.operations), (mode, 2, 1000));

@@ -1,10 +1,11 @@
 -- Where a call goes on behind its first step, and what it has at its end.
 use Rattle.std.proofs.Common.{ℕ, ◌≡◌, Bool, true, false, List, ◌∷◌, ◌++◌, Option, None, inl, inr, if◌then◌else◌, not, sym, refl, ap, ◌∙◌, subst, arith, ne_eqb}
+use Rattle.lot_base.specs.declared.ops.Op.TheVariants.{Or}
 use Rattle.lot_calls.specs.declared.calls.MutexCall.{MutexCall}
 use Rattle.lot_calls.specs.declared.calls.MutexCall.TheVariants as call
 use Rattle.lot_calls.specs.declared.outcomes.Answer.{Answer}
-use Rattle.lot_calls.specs.declared.outcomes.Answer.TheVariants.{Ok, Yes}
-use Rattle.lot_steps.specs.MutexSteps.{in_unlock, looked, entered, is_timed, is_parked}
+use Rattle.lot_calls.specs.declared.outcomes.Answer.TheVariants.{Ok, Yes, No}
+use Rattle.lot_steps.specs.MutexSteps.{in_unlock, looked, entered, is_timed, is_locked, is_parked}
 use Rattle.lot_steps.specs.Steps.{act_of, next_place, next_act, mutex_goes, mutex_does}
 use Rattle.lot_steps.specs.declared.acts.Act as act
 use Rattle.lot_steps.specs.declared.acts.Next as next
@@ -93,6 +94,14 @@ module _ (n : ℕ) where
   -- the first step ends the call
   pub path_at_once : (c : MutexCall) (seen : ℕ) (old new : List WordStep) → EndsAt c seen → new ≡ old ++ step (mutex_at n) (first_op c) seen → Walks (mutex_at n) (beginning n c) old new (success c)
   path_at_once c seen old new e saw = ends_at_once (mutex_at n) (beginning n c) n (first_op c) seen old new (success c) (begins_with c) saw (ends_with c seen e)
+
+  -- a try ends with its one step
+  pub path_of_try : (locked : Bool) (seen : ℕ) (old new : List WordStep) → is_locked seen ≡ locked → new ≡ old ++ step (mutex_at n) (Or 1) seen → Walks (mutex_at n) (beginning n call.TryLock) old new (if locked then No else Yes)
+  path_of_try locked seen old new e saw = ends_at_once (mutex_at n) (beginning n call.TryLock) n (Or 1) seen old new (if locked then No else Yes) refl saw (by_bit locked e)
+    where
+      by_bit : (locked : Bool) → is_locked seen ≡ locked → next_act (beginning n call.TryLock) (Value seen) ≡ act.TheVariants.End (if locked then No else Yes)
+      by_bit true e = ap (λ (b : Bool). mutex_does n (if b then next.TheVariants.End No else next.TheVariants.End Yes)) e
+      by_bit false e = ap (λ (b : Bool). mutex_does n (if b then next.TheVariants.End No else next.TheVariants.End Yes)) e
 
   -- a release that saw a waiter took it
   pub releases_behind : (c : MutexCall) (seen : ℕ) (old mid new : List WordStep) (last : Option Record) → saw_waiter c seen ≡ true → mid ≡ old ++ step (mutex_at n) (first_op c) seen → (more : List WordStep) × (new ≡ mid ++ more) → TookAt n last → Releases n c old new last

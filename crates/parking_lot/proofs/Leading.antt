@@ -6,11 +6,11 @@ use Rattle.lot_base.specs.declared.notes.Note.TheVariants.{Normal, HandOff}
 use Rattle.lot_base.specs.declared.ops.Op.{Op}
 use Rattle.lot_base.specs.declared.ops.Op.TheVariants.{Load, And, Exchange}
 use Rattle.lot_steps.specs.MutexSteps.{lock_act, unlock_act, hand_off_act, decided, is_timed}
-use Rattle.lot_steps.specs.Steps.{act_of, late_key, spin_lock}
+use Rattle.lot_steps.specs.Steps.{act_of, late_key}
 use Rattle.lot_steps.specs.declared.acts.Act.{Act}
 use Rattle.lot_steps.specs.declared.acts.Act as act
 use Rattle.lot_steps.specs.declared.acts.Reply.{Reply}
-use Rattle.lot_steps.specs.declared.acts.Reply.TheVariants.{Done, Value, Spun, Parked, Took, Removed, Late, Woken}
+use Rattle.lot_steps.specs.declared.acts.Reply.TheVariants.{Done, Value, Parked, Took, Removed, Late, Woken}
 use Rattle.lot_steps.specs.declared.mutex.MutexPlace.TheVariants as at_mutex
 use Rattle.lot_steps.specs.declared.mutex.lock.Entry.{Entry}
 use Rattle.lot_steps.specs.declared.mutex.lock.Entry as entry

@@ -1,11 +1,9 @@
 -- What the calls of a mutex did.
-use Rattle.std.specs.Prelude.{ℕ, ◌≡◌, ◌≢◌, ◌<◌, ◌==◌, not, Bool, true, false, List, [], ◌++◌, Option, Some, None}
+use Rattle.std.specs.Prelude.{ℕ, ◌≡◌, ◌≢◌, ◌<◌, ◌==◌, not, Bool, true, false, List, [], ◌++◌, Option, None}
 use Rattle.lot_base.specs.declared.ops.Op.{Op}
 use Rattle.lot_base.specs.declared.ops.Op.TheVariants.{Load, Sub, Or, Exchange}
 use Rattle.lot_calls.specs.declared.calls.MutexCall.{MutexCall}
 use Rattle.lot_calls.specs.declared.calls.MutexCall.TheVariants as call
-use Rattle.lot_calls.specs.declared.outcomes.Answer.{Answer}
-use Rattle.lot_calls.specs.declared.outcomes.Answer.TheVariants.{Yes, No}
 use Rattle.lot_steps.specs.MutexSteps.{mutex_first, is_locked, is_parked}
 use Rattle.lot_steps.specs.declared.mutex.lock.Entry as entry
 use Rattle.lot_steps.specs.declared.places.Place.{Place}
@@ -15,7 +13,7 @@ use Rattle.lot_words.specs.declared.owners.Ownership.{Ownership}
 use Rattle.lot_words.specs.declared.views.WordStep.{WordStep}
 use Rattle.parking_lot_core.specs.declared.tokens.Record.{Record}
 use Rattle.parking_lot.specs.Fitting.{Purpose, enters, releases, hands_over, TookAt, held}
-use Rattle.parking_lot.specs.Paths.{step, mutex_at, Walks}
+use Rattle.parking_lot.specs.Paths.{step, mutex_at}
 
 -- where a call of a mutex begins
 abbrev pub beginning : ℕ → MutexCall → Place
@@ -47,15 +45,6 @@ GoesOn n call.Unlock seen owns = is_parked seen ≡ true
 GoesOn n call.UnlockFair seen owns = (seen ≢ 1) × (has (held n) owns ≡ true)
 GoesOn n call.Bump seen owns = (is_parked seen ≡ true) × (has (held n) owns ≡ true)
 
--- what a call answers that may fail: yes with the mutex
-abbrev pub answer_by : {A : Type 0} → Option A → Answer
-answer_by None = No
-answer_by (Some _) = Yes
-
--- one step was added, which saw this
-abbrev pub Steps : ℕ → Op → ℕ → List WordStep → List WordStep → Type 0
-Steps n op seen old new = new ≡ old ++ step (mutex_at n) op seen
-
 -- who saw a waiter left the section in which it took the first of the queue; who saw none took no further step
 abbrev pub TookIfParked : ℕ → Bool → List WordStep → Option Record → Type 0
 TookIfParked n true more last = TookAt n last
@@ -70,10 +59,11 @@ saw_waiter _ seen = is_parked seen
 abbrev pub Releases : ℕ → MutexCall → List WordStep → List WordStep → Option Record → Type 0
 Releases n c old new last = (seen : ℕ) × (more : List WordStep) × (new ≡ (old ++ step (mutex_at n) (first_op c) seen) ++ more) × TookIfParked n (saw_waiter c seen) more last
 
--- one step was added, which saw the mutex locked or not
+-- the word was loaded once, and told that the mutex is locked or not
 abbrev pub Sees : ℕ → Bool → List WordStep → List WordStep → Type 0
-Sees n locked old new = (op : Op) × (seen : ℕ) × Steps n op seen old new × (is_locked seen ≡ locked)
+Sees n locked old new = (seen : ℕ) × (new ≡ old ++ step (mutex_at n) Load seen) × (is_locked seen ≡ locked)
 
--- a timed call ended because its time was up
-abbrev pub GaveUp : ℕ → List WordStep → List WordStep → Type 0
-GaveUp n old new = Walks (mutex_at n) (beginning n call.LockTimed) old new No
+-- the call of a fair mutex: its unlock hands over
+abbrev pub fairly : MutexCall → MutexCall
+fairly call.Unlock = call.UnlockFair
+fairly c = c

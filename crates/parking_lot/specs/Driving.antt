@@ -4,10 +4,10 @@ use Rattle.std.proofs.Props.{props}
 use Rattle.lot_words.specs.Lots.{IsWordOf}
 use Rattle.lot_words.specs.RightsOf.{IsRightOf}
 use Rattle.lot_words.specs.declared.owners.Owner.TheVariants.{Exclusive}
-use Rattle.lot_words.specs.declared.rights.Right.{Right}
 use Rattle.lot_words.specs.declared.words.Word.{Word}
 use Rattle.lot_words.specs.declared.words.WordKind as kinds
-use Rattle.parking_lot_core.specs.Tokens.{IsTokenOf}
+use Rattle.parking_lot.specs.declared.guards.RawGuard.{RawGuard}
+use Rattle.parking_lot_core.specs.Tokens.{IsTokenOf, view_of}
 use Rattle.parking_lot_core.specs.declared.lot.ParkingLot.{ParkingLot}
 use Rattle.parking_lot_core.specs.declared.tokens.Token.{Token}
 
@@ -15,10 +15,14 @@ use Rattle.parking_lot_core.specs.declared.tokens.Token.{Token}
 abbrev pub MeetAt : ParkingLot → Token → Word → Type 0
 MeetAt lot token word = IsTokenOf lot token × IsWordOf lot.words word × (word.kind ≡ kinds.TheVariants.Mutex) × (word.number < 9223372036854775808)
 
--- the right of a mutex
-abbrev pub IsGuardOf : ParkingLot → Word → Right → Type 0
-IsGuardOf lot word right = IsRightOf lot.words right × (right.word ≡ word) × (right.owner ≡ Exclusive)
+-- a guard of a mutex: the right of who owns it alone
+abbrev pub IsGuardOf : ParkingLot → Word → RawGuard → Type 0
+IsGuardOf lot word guard = IsRightOf lot.words guard.right × (guard.right.word ≡ word) × (guard.right.owner ≡ Exclusive)
 
--- that a right is a mutex's has one proof at most
-pub IsGuardOf-prop : (lot : ParkingLot) (word : Word) (right : Right) → IsProp (IsGuardOf lot word right)
-IsGuardOf-prop lot word right = Prim.hlevel props
+-- that a guard is a mutex's has one proof at most
+pub IsGuardOf-prop : (lot : ParkingLot) (word : Word) (guard : RawGuard) → IsProp (IsGuardOf lot word guard)
+IsGuardOf-prop lot word guard = Prim.hlevel props
+
+-- it is the same thread, and owns what it did
+abbrev pub StaysAs : Token → Token → Type 0
+StaysAs old new = (new.number ≡ old.number) × ((view_of new).owns ≡ (view_of old).owns)

@@ -3,3 +3,4 @@ pub mod Driving
 pub mod Stages
 pub mod Fitting
 pub mod Calls
+pub mod Users

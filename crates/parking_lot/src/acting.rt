@@ -9,11 +9,12 @@ ghost use Rattle.lot_steps.specs.declared.acts.Reply.TheVariants.{Value};
 ghost use Rattle.lot_words.specs.Lots.{IsWordOf};
 ghost use Rattle.lot_words.specs.Places.{place};
 ghost use Rattle.lot_words.specs.Steps.{MayStep, CodesWith, after_step};
+ghost use Rattle.parking_lot_core.specs.Keys.{AreKeys};
 ghost use Rattle.parking_lot_core.specs.Tokens.{IsTokenOf, Stays, view_of, last_of};
-ghost use Rattle.parking_lot.specs.Stages.{Adds, HasKey, HasTaken, IsFresh, MayLeave, KeepsIt, IsIn, IsLeft, took, handed, note_of, inside_of, stage_of, waiting_of, Needs, Became};
+ghost use Rattle.parking_lot.specs.Stages.{Adds, HasKey, HasTaken, IsFresh, MayLeave, KeepsIt, IsIn, IsLeft, took, handed, note_of, inside_of, stage_of, waiting_of, entered_now, Needs, Became};
 
 use lot_steps::{Act, Check, Reply, Wakes};
-use parking_lot_core::{Clock, Key, Note, Op, ParkingLot, Section, Slept, Token, Want, Word};
+use parking_lot_core::{Clock, Key, Keys, Note, Op, ParkingLot, Section, Slept, Token, Want, Word};
 use std::sync::Wait;
 
 fn note_of(wakes: Wakes) -> Note
@@ -21,7 +22,7 @@ fn note_of(wakes: Wakes) -> Note
 {
     match wakes {
         Wakes::Nobody => Note::Normal,
-        Wakes::One { thread: _, note } => note,
+        Wakes::One { note, .. } => note,
     }
 }
 
@@ -112,6 +113,34 @@ fn remove(_lot: &ParkingLot, section: &mut Option<Section>, key: Key, thread: us
     }
 }
 
+// The thread goes into a section from outside all.
+fn enter<'a, R: Wait>(
+    rt: &R,
+    lot: &'a ParkingLot,
+    token: &mut Token,
+    section: &mut Option<Section<'a>>,
+    keys: Keys,
+)
+    requires { IsTokenOf lot.now token.old × AreKeys keys × (inside_of section.old ≡ None) }
+    ensures same { token.new ≡ token.old }
+    ensures entered { IsIn lot.now section.new × (inside_of section.new ≡ entered_now keys) }
+{
+    match section.replace(lot.enter(rt, token, keys)) {
+        None => {}
+        Some(_) => unreachable!(),
+    }
+}
+
+/// A thread that is outside all sections has none to leave.
+pub(crate) fn end(section: Option<Section>)
+    requires { inside_of section ≡ None }
+{
+    match section {
+        None => {}
+        Some(_) => unreachable!(),
+    }
+}
+
 fn leave<R: Wait>(
     rt: &R,
     lot: &ParkingLot,
@@ -139,7 +168,7 @@ fn sleep<'a, R: Wait, C: Clock>(
     late: Option<Key>,
     section: &mut Option<Section<'a>>,
 ) -> Reply
-    requires own { IsTokenOf lot.now token.old × IsWordOf lot.now.words word × IsIn lot.now section.old }
+    requires own { IsTokenOf lot.now token.old × IsWordOf lot.now.words word × (inside_of section.old ≡ None) }
     ensures own { Stays lot.now token.old token.new × IsIn lot.now section.new × ((view_of token.new).steps ≡ (view_of token.old).steps) }
     ensures became { Became word.kind (place word.number word.kind) late (stage_of token.old section.old) acts.Sleep result (stage_of token.new section.new) }
 {
@@ -150,8 +179,10 @@ fn sleep<'a, R: Wait, C: Clock>(
             Reply::Woken(Note::HandOff)
         }
         Slept::Late(inside, key) if late == Some(key) => {
-            *section = Some(inside);
-            Reply::Late
+            match section.replace(inside) {
+                None => Reply::Late,
+                Some(_) => unreachable!(),
+            }
         }
         // Somebody moved the thread to another queue. It leaves that, and tries again.
         Slept::Late(mut inside, _) => {
@@ -180,19 +211,19 @@ pub(crate) fn perform<'a, R: Wait, C: Clock>(
     ensures adds { Adds (place word.number word.kind) act result (view_of token.old).steps (view_of token.new).steps }
 {
     match act {
-        Act::Word { lock: _, op } => Reply::Value(lot.word(token, word, op)),
-        Act::HandOver { lock: _, op, to } => {
+        Act::Word { op, .. } => Reply::Value(lot.word(token, word, op)),
+        Act::HandOver { op, to, .. } => {
             Reply::Value(hand_over(rt, lot, token, word, section, op, to))
         }
         Act::Enter(keys) => {
-            *section = Some(lot.enter(rt, token, keys));
+            enter(rt, lot, token, section, keys);
             Reply::Done
         }
         Act::Park {
-            lock: _,
             key,
             check,
             want,
+            ..
         } => Reply::Parked(park(lot, token, word, section, key, check, want)),
         Act::TakeFirst(key) => {
             let (first, none_left) = take_first(lot, section, key);
@@ -201,7 +232,7 @@ pub(crate) fn perform<'a, R: Wait, C: Clock>(
         Act::Remove(key) => Reply::Removed {
             none_left: remove(lot, section, key, token.number()),
         },
-        Act::Leave { keys: _, wakes } => {
+        Act::Leave { wakes, .. } => {
             leave(rt, lot, token, section, note_of(wakes));
             Reply::Done
         }

@@ -14,7 +14,7 @@ ghost use Rattle.parking_lot.specs.Fitting.{MutexLeads, Fits, IsOver, Reached, a
 ghost use Rattle.parking_lot.specs.Paths.{mutex_at, step, Tells, Walks};
 ghost use Rattle.parking_lot.specs.Stages.{IsIn, stage_of};
 
-use crate::acting::perform;
+use crate::acting::{end, perform};
 use lot_calls::{Answer, MutexCall};
 use lot_steps::{Act, MutexPlace, Place, Reply, advance};
 use lot_words::laws::mutex_may_step;
@@ -157,6 +157,7 @@ pub(crate) fn run<R: Wait, C: Clock>(
         let reply = turn(rt, lot, token, word, limit, &mut section, place, &mut loads);
         let (next, act) = advance(place, reply);
         if let Some(answer) = answer_of(act) {
+            end(section);
             return answer;
         }
         place = next;

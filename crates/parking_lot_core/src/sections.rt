@@ -21,9 +21,7 @@ use std::sync::{MutexGuard, Wait};
 
 /// What a thread may do to the queues of its keys while nobody else does anything to them.
 ///
-/// It takes or moves waiters by one call at most, and wakes those that it took as it leaves. A section that is dropped in place
-/// of left wakes nobody.
-#[derive(Drop)]
+/// It takes or moves waiters by one call at most, and wakes those that it took as it leaves. It has to be left: it can't be dropped.
 pub struct Section<'a> {
     lot: &'a ParkingLot,
     queueing: MutexGuard<'a, Queueing>,

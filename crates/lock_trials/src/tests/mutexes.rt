@@ -27,7 +27,7 @@ fn lone(alloc: Global) -> Result<(Arc<ParkingLot>, Token), Fault>
 
 // Writes through a guard, which stays that of its mutex.
 fn cleared<'a>(mut guard: MutexGuard<'a, u8>) -> MutexGuard<'a, u8>
-    ensures lock { result.taken.lock.now ≡ guard.entry.taken.lock.now }
+    ensures lock { result.taken.mutex.now ≡ guard.entry.taken.mutex.now }
     ensures value { mutex_guard_value result.value ≡ 0 }
 {
     *guard = 0;

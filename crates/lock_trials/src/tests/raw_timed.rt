@@ -4,6 +4,7 @@ ghost use Rattle.std.specs.Arc.{arc_value};
 ghost use Rattle.parking_lot_core.specs.Tokens.{IsTicketOf, IsTokenOf};
 
 use super::{hold, three_seats};
+use parking_lot::lock_raw::{RawMutex as RawLock, RawMutexTimed as RawTimedLock};
 use parking_lot::{Fault, ParkingLot, RawMutex, TickClock, Ticket, Token, lock_raw};
 use std::alloc::Global;
 use std::sync::atomic::Ordering::SeqCst;
@@ -35,10 +36,7 @@ fn who_holds_a_mutex_waits_for_it_in_vain(rt: HostRuntime) -> Result<(), Fail> {
     let guard = mutex.lock(&rt, &mut token);
     for deadline in [0, 1, 20] {
         match mutex.try_lock_until(&rt, &mut token, &clock, deadline) {
-            Some(other) => {
-                other.forget();
-                panic!(rt; "it was locked")
-            }
+            Some(other) => mutex.has_two_guards(&mut token, guard, other),
             None => {}
         }
         assert!(rt; mutex.is_locked(&mut token));

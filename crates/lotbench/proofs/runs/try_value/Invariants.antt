@@ -1,6 +1,4 @@
-use Rattle.std.specs.Arc.{arc_value}
-use Rattle.parking_lot_core.specs.Tokens.{IsTokenOf}
 use Rattle.lotbench.proofs.runs.try_value.Given as goal
 
 abbrev pub invariant-loop : goal.invariant-loop
-invariant-loop g l = IsTokenOf (arc_value l.mutex.raw.lot) l.token
+invariant-loop g l = g.M.RawMutex.is_token_of (g.M.RawMutex.lot_of l.mutex.raw) l.token

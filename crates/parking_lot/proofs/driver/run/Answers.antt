@@ -6,7 +6,7 @@ use Rattle.parking_lot_core.specs.Tokens.{view_of, last_of}
 use Rattle.parking_lot.specs.Fitting.{Purpose, Fits, ReachedBy, IsOver, answer_of, purpose_of}
 use Rattle.parking_lot.specs.Paths.{mutex_at}
 use Rattle.parking_lot.specs.Stages.{stage_of, inside_of}
-use Rattle.parking_lot.proofs.Ending.{end_of, ended}
+use Rattle.parking_lot.proofs.Ending.{end_of, ended, outside}
 use Rattle.parking_lot.proofs.Paths.{comes_here, comes_on, comes_to_end}
 use Rattle.parking_lot.proofs.driver.run.Goals as goal
 
@@ -37,3 +37,9 @@ returns-in-Some-answer_of-clause-over g c = let n = c.args.word.number in let ba
     let is : answer_of (next_act c.loop.place c.turn-reply.result) ≡ Some c.in-Some-answer_of.answer = search rules in
     let over = subst (λ (o : Option Answer). ReachedBy c.args.word.number (view_of c.args.token.now).owns (purpose_of c.loop.place) (next_place c.loop.place c.turn-reply.result) o (stage_of c.turn-reply.new.token c.turn-reply.new.section)) is (t.ensures.reached base before.5) in
     subst (λ (purpose : Purpose). IsOver c.args.word.number (view_of c.args.token.now).owns purpose c.in-Some-answer_of.answer (stage_of c.turn-reply.new.token None)) before.6 (ended n base (view_of new).owns (purpose_of p) answer (inside_of t.new.section) (last_of new) over)
+
+pub end-requires : goal.end-requires
+end-requires g c = let n = c.args.word.number in let base = (view_of c.args.token.now).owns in let p = c.loop.place in let t = c.turn-reply in let new = t.new.token in let answer = c.in-Some-answer_of.answer in
+    let is : answer_of (next_act c.loop.place c.turn-reply.result) ≡ Some c.in-Some-answer_of.answer = search rules in
+    let over = subst (λ (o : Option Answer). ReachedBy c.args.word.number (view_of c.args.token.now).owns (purpose_of c.loop.place) (next_place c.loop.place c.turn-reply.result) o (stage_of c.turn-reply.new.token c.turn-reply.new.section)) is (t.ensures.reached base c.loop.invariant.5) in
+    outside n base (view_of new).owns (purpose_of p) answer (inside_of t.new.section) (last_of new) over

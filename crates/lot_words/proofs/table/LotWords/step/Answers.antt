@@ -16,9 +16,6 @@ fetch_add-requires c = table_allows c.args.self.now c.args.seat.now c.args.word 
 pub fetch_sub-requires : goal.fetch_sub-requires
 fetch_sub-requires c = table_allows c.args.self.now c.args.seat.now c.args.word c.requires.own c.requires.may c.place-at.ensures c.in-Sub.is
 
-pub fetch_or-requires : goal.fetch_or-requires
-fetch_or-requires c = table_allows c.args.self.now c.args.seat.now c.args.word c.requires.own c.requires.may c.place-at.ensures c.in-Or.is
-
 pub fetch_and-requires : goal.fetch_and-requires
 fetch_and-requires c = table_allows c.args.self.now c.args.seat.now c.args.word c.requires.own c.requires.may c.place-at.ensures c.in-And.is
 

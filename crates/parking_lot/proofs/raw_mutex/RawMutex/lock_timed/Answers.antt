@@ -7,4 +7,4 @@ use Rattle.parking_lot.proofs.raw_mutex.RawMutex.lock_timed.Goals as goal
 
 pub returns-then-seen-eq0-clause-path : goal.returns-then-seen-eq0-clause-path
 returns-then-seen-eq0-clause-path g c = let zero : c.step-seen.result ≡ 0 = search rules in
-    path_at_once c.args.self.now.word.number LockTimed c.step-seen.result (view_of c.args.token.now).steps (view_of c.split_right.new.token).steps zero (ap (λ (v : View). v.steps) c.split_right.ensures.left ∙ ap (λ (v : View). v.steps) c.step-seen.ensures.stepped)
+    path_at_once c.args.self.now.word.number LockTimed c.step-seen.result (view_of c.args.token.now).steps (view_of c.split.new.token).steps zero (ap (λ (v : View). v.steps) c.split.ensures.left ∙ ap (λ (v : View). v.steps) c.step-seen.ensures.stepped)

@@ -1,0 +1,143 @@
+//! A shared counter, a queue of workers, and a try with a limit.
+ghost use Rattle.std.specs.Prelude.{All, IfOk};
+ghost use Rattle.std.specs.Arc.{arc_value};
+ghost use Rattle.parking_lot.specs.Users.{IsTicketOf, IsTokenOf, lot_of};
+
+use parking_lot::{Fault, Mutex, ParkingLot, TickClock, Ticket, Token};
+use std::alloc::Global;
+use std::sync::{Arc, Wait};
+use std::test::Fail;
+use std::thread::{Threads, map_vec};
+use std::time::Duration;
+
+// A lot of one lock for three threads: the ticket of the first of them, and those of the others.
+fn lot_for_three(alloc: Global) -> Result<(Arc<ParkingLot>, Token, Vec<Ticket>), Fault>
+    ensures { IfOk result (λ made. IsTokenOf (arc_value made.0) made.1 × All (IsTicketOf (arc_value made.0)) made.2.items) }
+{
+    let (lot, mut tickets) = ParkingLot::new(alloc, 1, 3)?;
+    let Some(first) = tickets.pop() else {
+        return Err(Fault::NoMemory);
+    };
+    Ok((lot, first.enter(), tickets))
+}
+
+fn count<R: Wait>(rt: &R, total: &Mutex<u64>, ticket: Ticket)
+    requires { IsTicketOf (lot_of total.now.raw) ticket }
+{
+    let mut token = ticket.enter();
+    for _ in 0..1000 {
+        total.with(rt, &mut token, |value: &mut u64| {
+            *value = value.wrapping_add(1);
+        });
+    }
+    drop(token.leave());
+}
+
+// What threads with these tickets count to.
+fn count_all<R: Threads + Wait + Sync>(
+    rt: &R,
+    counter: Mutex<u64>,
+    tickets: Vec<Ticket>,
+) -> Result<u64, Fault>
+    requires { All (IsTicketOf (lot_of counter.raw)) tickets.items }
+{
+    let shared = &counter;
+    let counted = map_vec(
+        rt,
+        tickets,
+        &|ticket: Ticket|
+            requires { IsTicketOf (lot_of shared.now.raw) ticket }
+        { count(rt, shared, ticket) },
+    );
+    if counted.is_err() {
+        return Err(Fault::NoMemory);
+    }
+    Ok(counter.into_inner())
+}
+
+#[test]
+fn a_shared_counter(rt: HostRuntime) -> Result<(), Fail> {
+    let (lot, mut token, tickets) = lot_for_three(rt.alloc())?;
+    let counter = Mutex::new(&lot, &mut token, 0)?;
+    assert_eq!(rt; count_all(&rt, counter, tickets)?, 2000);
+    Ok(())
+}
+
+// Takes jobs until none is left, and adds them up.
+fn work<R: Wait>(rt: &R, jobs: &Mutex<Vec<u32>>, ticket: Ticket) -> u64
+    requires { IsTicketOf (lot_of jobs.now.raw) ticket }
+{
+    let mut token = ticket.enter();
+    let mut done = 0u64;
+    for _ in rt.forever() {
+        match jobs.with(rt, &mut token, |jobs: &mut Vec<u32>| jobs.pop()) {
+            Some(job) => done = done.wrapping_add(u64::from(job)),
+            None => break,
+        }
+    }
+    drop(token.leave());
+    done
+}
+
+// What workers with these tickets do together.
+fn work_all<R: Threads + Wait + Sync>(
+    rt: &R,
+    jobs: &Mutex<Vec<u32>>,
+    tickets: Vec<Ticket>,
+) -> Result<u64, Fault>
+    requires { All (IsTicketOf (lot_of jobs.now.raw)) tickets.items }
+{
+    let done = map_vec(
+        rt,
+        tickets,
+        &|ticket: Ticket|
+            requires { IsTicketOf (lot_of jobs.now.raw) ticket }
+        { work(rt, jobs, ticket) },
+    );
+    match done {
+        Ok(done) => Ok(done.iter().fold(0u64, |all, one| all.wrapping_add(*one))),
+        Err(_) => Err(Fault::NoMemory),
+    }
+}
+
+#[test]
+fn a_workers_queue(rt: HostRuntime) -> Result<(), Fail> {
+    let (lot, mut token, tickets) = lot_for_three(rt.alloc())?;
+    let jobs = [1u32, 2, 3, 4, 5, 6].to_vec(rt.alloc())?;
+    match Mutex::new(&lot, &mut token, jobs) {
+        Ok(jobs) => assert_eq!(rt; work_all(&rt, &jobs, tickets)?, 21),
+        Err((fault, _)) => return Err(Fail::from(fault)),
+    }
+    Ok(())
+}
+
+// Adds 1 where the mutex is free within a microsecond. Whether it was.
+fn add_soon<R: Wait>(rt: &R, counter: &Mutex<u64>, token: &mut Token, clock: &TickClock) -> bool
+    requires { IsTokenOf (lot_of counter.now.raw) token.old }
+    ensures { IsTokenOf (lot_of counter.now.raw) token.new }
+{
+    match counter.try_lock_for(rt, token, clock, Duration::from_micros(1)) {
+        Some(mut guard) => {
+            *guard = guard.wrapping_add(1);
+            guard.unlock(rt, token);
+            true
+        }
+        None => false,
+    }
+}
+
+#[test]
+fn a_timed_try(rt: HostRuntime) -> Result<(), Fail> {
+    let (lot, mut token, mut tickets) = lot_for_three(rt.alloc())?;
+    let Some(ticket) = tickets.pop() else {
+        return Err(Fail::from(Fault::NoMemory));
+    };
+    let mut other = ticket.enter();
+    let counter = Mutex::new(&lot, &mut token, 0)?;
+    let clock = TickClock::new();
+    let guard = counter.lock(&rt, &mut other);
+    assert!(rt; !add_soon(&rt, &counter, &mut token, &clock));
+    guard.unlock(&rt, &mut other);
+    assert!(rt; add_soon(&rt, &counter, &mut token, &clock));
+    Ok(())
+}

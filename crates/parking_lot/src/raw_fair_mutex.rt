@@ -1,0 +1,116 @@
+//! The mutex whose `unlock` hands it over, without a value.
+ghost use Rattle.std.specs.Prelude.{◌≡◌};
+ghost use Rattle.std.specs.Arc.{arc_value};
+ghost use Rattle.parking_lot_core.specs.Tokens.{IsTokenOf, view_of, last_of};
+ghost use Rattle.parking_lot.specs.Calls.{beginning, fairly, Sees, Releases};
+ghost use Rattle.parking_lot.specs.Driving.{IsGuardOf, IsGuardOf-prop, StaysAs};
+ghost use Rattle.parking_lot.specs.Paths.{mutex_at, Walks};
+
+use crate::guards::RawGuard;
+use crate::raw_mutex::RawMutex;
+use lock_raw::{RawMutexFair, RawMutexTimed};
+use parking_lot_core::{Clock, Fault, Key, ParkingLot, Token};
+use std::sync::{Arc, Wait};
+use std::time::Duration;
+
+/// A mutex of a lot whose `unlock` hands it to the first who waits.
+#[derive(Drop)]
+pub struct RawFairMutex {
+    raw: RawMutex,
+}
+
+impl RawFairMutex {
+    /// The key of its queue.
+    pub fn key(&self) -> Key {
+        self.raw.key()
+    }
+}
+
+impl lock_raw::RawMutex for RawFairMutex {
+    type Lot = ParkingLot;
+
+    type Token = Token;
+
+    type Guard = RawGuard;
+
+    ghost lot_of = { λ mutex. arc_value mutex.raw.lot };
+
+    ghost is_token_of = { λ lot token. IsTokenOf lot token };
+
+    ghost stays = { λ old new. StaysAs old new };
+
+    ghost is_guard_of = { λ mutex guard. IsGuardOf (arc_value mutex.raw.lot) mutex.raw.word guard };
+
+    ghost guard_once = { λ mutex guard. IsGuardOf-prop (arc_value mutex.raw.lot) mutex.raw.word guard };
+
+    ghost walked = { λ mutex call answer old new. Walks (mutex_at mutex.raw.word.number) (beginning mutex.raw.word.number (fairly call)) (view_of old).steps (view_of new).steps answer };
+
+    ghost released = { λ mutex call old new. Releases mutex.raw.word.number (fairly call) (view_of old).steps (view_of new).steps (last_of new) };
+
+    ghost looked = { λ mutex locked old new. Sees mutex.raw.word.number locked (view_of old).steps (view_of new).steps };
+
+    fn new(lot: &Arc<ParkingLot>, token: &mut Token) -> Result<RawFairMutex, Fault> {
+        let raw = <RawMutex as lock_raw::RawMutex>::new(lot, token)?;
+        Ok(RawFairMutex { raw })
+    }
+
+    #[inline]
+    fn lock<R: Wait>(&self, rt: &R, token: &mut Token) -> RawGuard {
+        lock_raw::RawMutex::lock(&self.raw, rt, token)
+    }
+
+    #[inline]
+    fn try_lock(&self, token: &mut Token) -> Option<RawGuard> {
+        lock_raw::RawMutex::try_lock(&self.raw, token)
+    }
+
+    #[inline]
+    fn unlock<R: Wait>(&self, rt: &R, token: &mut Token, guard: RawGuard) {
+        self.unlock_fair(rt, token, guard);
+    }
+
+    #[inline]
+    fn is_locked(&self, token: &mut Token) -> bool {
+        lock_raw::RawMutex::is_locked(&self.raw, token)
+    }
+
+    fn has_two_guards(&self, token: &mut Token, one: RawGuard, other: RawGuard) -> ! {
+        lock_raw::RawMutex::has_two_guards(&self.raw, token, one, other)
+    }
+}
+
+impl RawMutexFair for RawFairMutex {
+    #[inline]
+    fn unlock_fair<R: Wait>(&self, rt: &R, token: &mut Token, guard: RawGuard) {
+        self.raw.unlock_fair(rt, token, guard);
+    }
+
+    #[inline]
+    fn bump<R: Wait>(&self, rt: &R, token: &mut Token, guard: RawGuard) -> RawGuard {
+        self.raw.bump(rt, token, guard)
+    }
+}
+
+impl RawMutexTimed for RawFairMutex {
+    #[inline]
+    fn try_lock_for<R: Wait, C: Clock>(
+        &self,
+        rt: &R,
+        token: &mut Token,
+        clock: &C,
+        timeout: Duration,
+    ) -> Option<RawGuard> {
+        self.raw.try_lock_for(rt, token, clock, timeout)
+    }
+
+    #[inline]
+    fn try_lock_until<R: Wait, C: Clock>(
+        &self,
+        rt: &R,
+        token: &mut Token,
+        clock: &C,
+        deadline: u64,
+    ) -> Option<RawGuard> {
+        self.raw.try_lock_until(rt, token, clock, deadline)
+    }
+}
