@@ -9,6 +9,8 @@ use std::sync::{Arc, Wait};
 use std::test::Fail;
 use std::time::Duration;
 
+const FAR: u64 = 1000;
+
 // A lot of one word, with two threads.
 fn pair(alloc: Global) -> Result<(Arc<ParkingLot>, Token, Token), Fault>
     ensures { IfOk result (λ made. IsTokenOf (arc_value made.0) made.1 × IsTokenOf (arc_value made.0) made.2) }
@@ -60,18 +62,27 @@ fn gets_before<M: lock_raw::RawMutexTimed, R: Wait>(
     }
 }
 
+// A clock that is far from 0, so that a deadline which forgets the time of now has passed on it.
+fn far_clock() -> TickClock {
+    let clock = TickClock::new();
+    for _ in 0..FAR {
+        clock.now();
+    }
+    clock
+}
+
 #[test]
 fn who_waits_gives_up_in_time(rt: HostRuntime) -> Result<(), Fail> {
     let (lot, mut holder, mut waiter) = pair(rt.alloc())?;
     let mutex = Mutex::new(&lot, &mut holder, 0)?;
-    let clock = TickClock::new();
+    let clock = far_clock();
     let guard = mutex.lock(&rt, &mut holder);
     assert!(rt; !gets_within(&rt, &mutex, &mut waiter, &clock, 5));
     let first = clock.now();
-    assert!(rt; !gets_before(&rt, &mutex, &mut waiter, &clock, 40));
+    assert!(rt; !gets_before(&rt, &mutex, &mut waiter, &clock, FAR + 40));
     let second = clock.now();
     guard.unlock(&rt, &mut holder);
-    assert!(rt; 5 < first && first < 40 && 40 < second);
+    assert!(rt; FAR + 5 < first && first < FAR + 40 && FAR + 40 < second);
     assert!(rt; !mutex.is_locked(&mut waiter));
     assert!(rt; gets_within(&rt, &mutex, &mut waiter, &clock, 5));
     assert!(rt; !mutex.is_locked(&mut waiter));
