@@ -3,4 +3,3 @@ pub mod NameLemmas
 pub mod LinesLemmas
 pub mod NumberLaw
 pub mod SentLemmas
-pub mod ShowLemmas

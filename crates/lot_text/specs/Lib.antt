@@ -1,5 +1,3 @@
-pub use Rattle.lot_world.specs.Machine
-pub use Rattle.lot_world.specs.Views
 pub mod Lines
 pub mod Reads
 pub mod Names

@@ -1,21 +1,11 @@
 -- The printed forms.
-use Rattle.std.specs.Prelude.{ℕ, ◌+◌, ◌*◌, List, [], ◌∷◌, ◌++◌, codes, decimal}
-use Rattle.std.specs.List.{join_by}
-use Rattle.lot_base.specs.declared.wants.Waiter.{Waiter}
-use Rattle.lot_base.specs.declared.wants.Want.{Want}
-use Rattle.lot_base.specs.declared.wants.Want as want
-use Rattle.lot_steps.specs.declared.owners.Owner.{Owner}
-use Rattle.lot_steps.specs.declared.owners.Owner as owner
+use Rattle.std.specs.Prelude.{ℕ, List, ◌++◌, codes, decimal}
 use Rattle.lot_calls.specs.declared.outcomes.Outcome.{Outcome}
 use Rattle.lot_calls.specs.declared.outcomes.Outcome.TheVariants.{NotNow, Step, Sleep, Closure, End}
 use Rattle.lot_calls.specs.declared.outcomes.Answer.{Answer}
 use Rattle.lot_calls.specs.declared.outcomes.Answer as answer
 use Rattle.lot_calls.specs.declared.outcomes.OnceState.{OnceState}
 use Rattle.lot_calls.specs.declared.outcomes.OnceState as state
-use Rattle.lot_world.specs.declared.views.Debt.{Debt}
-use Rattle.lot_world.specs.declared.views.Debt.TheVariants.{Owes, Retries}
-use Rattle.lot_world.specs.Machine.{State, word_at, queue_at}
-use Rattle.lot_world.specs.Views.{owners_of, debtors}
 
 -- ---------------------------------------------------------------- outcomes
 
@@ -55,60 +45,3 @@ malformed_line k = codes "line " ++ (decimal k ++ codes " malformed\n")
 
 abbrev pub no_memory_line : ℕ → List ℕ
 no_memory_line k = codes "line " ++ (decimal k ++ codes " no memory\n")
-
--- ---------------------------------------------------------------- `show`
-
-abbrev pub owner_letter : Owner → List ℕ
-owner_letter owner.TheVariants.Exclusive = codes "x"
-owner_letter owner.TheVariants.Pending = codes "p"
-owner_letter owner.TheVariants.Upgradable = codes "u"
-owner_letter owner.TheVariants.Running = codes "r"
-owner_letter owner.TheVariants.Shared = codes "s"
-
-abbrev pub want_letter : Want → List ℕ
-want_letter want.TheVariants.Exclusive = codes "x"
-want_letter want.TheVariants.Upgradable = codes "u"
-want_letter want.TheVariants.Shared = codes "s"
-want_letter want.TheVariants.Wait = codes "w"
-want_letter want.TheVariants.CallOnce = codes "c"
-
-abbrev pub owner_text : Owner × ℕ → List ℕ
-owner_text o = decimal o.1 ++ owner_letter o.0
-
-abbrev pub waiter_text : Waiter → List ℕ
-waiter_text x = decimal x.thread ++ want_letter x.want
-
-abbrev pub aside_text : Waiter → List ℕ
-aside_text x = decimal x.thread
-
-abbrev pub debtor_text : Debt × ℕ → List ℕ
-debtor_text d = decimal d.1
-
--- items parted by commas behind a heading, or nothing where there are none
-abbrev pub group : {X : Type 0} → List ℕ → (X → List ℕ) → List X → List ℕ
-group heading text [] = []
-group heading text (x ∷ xs) = heading ++ join_by text (codes ",") (x ∷ xs)
-
-abbrev pub owners_text : List (Owner × ℕ) → List ℕ
-owners_text owners = group (codes " own=") owner_text owners
-
--- who waits in the main queue, and who waits aside
-abbrev pub waiters_text : List Waiter → List Waiter → List ℕ
-waiters_text main aside = group (codes " queue=") waiter_text main ++ group (codes " aside=") aside_text aside
-
--- who owes a wake, and who tries again
-abbrev pub debtors_text : List (Debt × ℕ) → List (Debt × ℕ) → List ℕ
-debtors_text owing retrying = group (codes " owe=") debtor_text owing ++ group (codes " retry=") debtor_text retrying
-
--- the line of a lock with a name
-abbrev pub show_line : State → ℕ → List ℕ → List ℕ
-show_line w l name =
-    name ++ (codes " " ++ (decimal (word_at w l)
-    ++ (owners_text (owners_of w l)
-    ++ (waiters_text (queue_at w (2 * l)) (queue_at w (2 * l + 1))
-    ++ (debtors_text (debtors Owes l 0 w.places) (debtors Retries l 0 w.places) ++ codes "\n")))))
-
--- the lines of the locks from one on, which have these names
-abbrev pub show_lines : State → ℕ → List (List ℕ) → List ℕ
-show_lines w l [] = []
-show_lines w l (name ∷ names) = show_line w l name ++ show_lines w (l + 1) names

@@ -5,7 +5,7 @@ ghost use Rattle.lot_text.specs.Text.{state_text, answer_text, turn_line, malfor
 ghost use Rattle.std.specs.Prelude.{◌≡◌};
 
 use crate::output::Page;
-use lot_world::{Answer, OnceState, Outcome};
+use lot_calls::{Answer, OnceState, Outcome};
 use std::io::Write;
 
 /// Prints the line that answers a thread's turn.

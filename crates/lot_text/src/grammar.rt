@@ -3,7 +3,7 @@ ghost use Rattle.std.specs.Prelude.{ℕ, List, Some, decimal, ◌^◌, ◌≡◌
 ghost use Rattle.lot_text.specs.Grammar.{words_of, number_of, digits_after, kind_of, call_of, turn_of, calling_turn_of, command_of, meaning};
 
 use crate::names::Name;
-use lot_world::{Kind, MutexCall};
+use lot_calls::{Kind, MutexCall};
 
 /// The most digits of a number. All such numbers fit.
 const MOST_DIGITS: usize = 19;

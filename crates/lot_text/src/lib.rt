@@ -6,7 +6,6 @@ pub mod grammar;
 pub mod input;
 pub mod names;
 pub mod output;
-pub mod show;
 #[cfg(test)]
 mod tests;
 
@@ -15,4 +14,3 @@ pub use grammar::{Command, NamedTurn, meaning, numbers_are_decimal};
 pub use input::{LINE_LEN, Reading, read_line};
 pub use names::{Name, lock_named};
 pub use output::{Page, send_all};
-pub use show::show_locks;

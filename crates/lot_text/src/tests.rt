@@ -6,7 +6,7 @@ use crate::input::{LINE_LEN, Reading, read_line};
 use crate::names::Name;
 use crate::output::Page;
 use arrayvec::ArrayVec;
-use lot_world::{Answer, Kind, MutexCall, OnceState, Outcome};
+use lot_calls::{Answer, Kind, MutexCall, OnceState, Outcome};
 
 /// Outcomes, as they are printed.
 const OUTCOMES: [(Outcome, &str); 18] = [

@@ -2,3 +2,4 @@ pub mod ReplayLemmas
 pub mod Laws
 pub mod ActionLemmas
 pub mod StartLemmas
+pub mod ShowLemmas

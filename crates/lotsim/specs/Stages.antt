@@ -18,7 +18,8 @@ use Rattle.lot_text.specs.declared.grammar.NamedTurn as named
 use Rattle.lot_text.specs.Lines.{line_len}
 use Rattle.lot_text.specs.Names.{lock_named}
 use Rattle.lot_text.specs.Grammar.{meaning}
-use Rattle.lot_text.specs.Text.{turn_line, show_lines}
+use Rattle.lotsim.specs.Shows.{show_lines}
+use Rattle.lot_text.specs.Text.{turn_line}
 use Rattle.lotsim.specs.declared.actions.Action.{Action}
 use Rattle.lotsim.specs.declared.actions.Action as actions
 

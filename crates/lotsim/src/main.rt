@@ -4,6 +4,7 @@
 pub mod actions;
 pub mod replay;
 mod session;
+pub mod show;
 pub mod start;
 pub mod state;
 pub mod status;

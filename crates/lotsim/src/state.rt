@@ -9,7 +9,8 @@ ghost use Rattle.lotsim.specs.Answers.{AnswersTo};
 
 use crate::actions::{Action, action_of, perform};
 use crate::session::Session;
-use lot_text::{Command, Name, Page, lock_named, meaning, print_turn, show_locks};
+use crate::show::show_locks;
+use lot_text::{Command, Name, Page, lock_named, meaning, print_turn};
 use lot_world::{Kind, MOST_LOCKS, MOST_THREADS, World};
 use std::alloc::Global;
 use std::io::Write;

@@ -1,9 +1,9 @@
 use Rattle.std.proofs.Common.{◌*◌, ◌++◌, refl, sym, ap, ◌∙◌}
 use Rattle.std.specs.Prelude.{decimal}
-use Rattle.lot_text.specs.Text.{want_letter, waiter_text, aside_text}
+use Rattle.lotsim.specs.Shows.{want_letter, waiter_text, aside_text}
 use Rattle.lot_text.proofs.SentLemmas.{puts_then, left_all, left_less, left_none}
-use Rattle.lot_text.proofs.ShowLemmas.{waiters_left, waiters_all, left_main, left_aside}
-use Rattle.lot_text.proofs.show.print_waiters.Goals as goal
+use Rattle.lotsim.proofs.ShowLemmas.{waiters_left, waiters_all, left_main, left_aside}
+use Rattle.lotsim.proofs.show.print_waiters.Goals as goal
 
 pub loop-waiter-init : goal.loop-waiter-init
 loop-waiter-init g c = (tt, tt, left_all _ _ _ _ (rw (c.as_slice-main_mark.ensures, c.as_slice-aside_mark.ensures, c.into_iter-waiter-iterator.ensures.into_iter_gives) refl))

@@ -1,8 +1,8 @@
 use Rattle.std.proofs.Common.{◌*◌}
 use Rattle.std.specs.Prelude.{codes}
 use Rattle.lot_text.proofs.SentLemmas.{Left}
-use Rattle.lot_text.proofs.ShowLemmas.{waiters_left}
-use Rattle.lot_text.proofs.show.print_waiters.Given as goal
+use Rattle.lotsim.proofs.ShowLemmas.{waiters_left}
+use Rattle.lotsim.proofs.show.print_waiters.Given as goal
 
 abbrev pub invariant-loop-waiter : goal.invariant-loop-waiter
 invariant-loop-waiter g l =

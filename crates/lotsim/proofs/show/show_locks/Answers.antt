@@ -1,6 +1,6 @@
 use Rattle.lot_text.proofs.SentLemmas.{left_less}
-use Rattle.lot_text.proofs.ShowLemmas.{show_step}
-use Rattle.lot_text.proofs.show.show_locks.Goals as goal
+use Rattle.lotsim.proofs.ShowLemmas.{show_step}
+use Rattle.lotsim.proofs.show.show_locks.Goals as goal
 
 pub loop-lock-preserved : goal.loop-lock-preserved
 loop-lock-preserved g c =

@@ -2,11 +2,10 @@
 ghost use Rattle.std.specs.Prelude.{◌≡◌, ◌<◌, ◌≤◌, ◌+◌, ◌*◌, ◌++◌, ℕ, List, All, length};
 ghost use Rattle.lot_world.specs.Views.{StandUnder};
 ghost use Rattle.lot_text.specs.Sent.{Puts};
-ghost use Rattle.lot_text.specs.Text.{owner_letter, want_letter, owners_text, waiters_text, debtors_text, show_line, show_lines};
+ghost use Rattle.lotsim.specs.Shows.{owner_letter, want_letter, owners_text, waiters_text, debtors_text, show_line, show_lines};
 
-use crate::names::Name;
-use crate::output::Page;
 use lot_base::{ListQueues, Waiter, Want, main_key};
+use lot_text::{Name, Page};
 use lot_world::{Debt, Debts, MOST_LOCKS, Owner, OwnersOf, QueueOf, World};
 use std::io::Write;
 

@@ -1,6 +1,6 @@
-use Rattle.lot_text.specs.Text.{owner_text, owners_text, group}
+use Rattle.lotsim.specs.Shows.{owner_text, owners_text, group}
 use Rattle.lot_text.proofs.SentLemmas.{Left}
-use Rattle.lot_text.proofs.show.print_owners.Given as goal
+use Rattle.lotsim.proofs.show.print_owners.Given as goal
 
 abbrev pub invariant-loop-owner : goal.invariant-loop-owner
 invariant-loop-owner g l =

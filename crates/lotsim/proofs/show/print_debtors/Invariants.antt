@@ -1,7 +1,7 @@
 use Rattle.std.specs.Prelude.{codes}
 use Rattle.lot_text.proofs.SentLemmas.{Left}
-use Rattle.lot_text.proofs.ShowLemmas.{debts_left}
-use Rattle.lot_text.proofs.show.print_debtors.Given as goal
+use Rattle.lotsim.proofs.ShowLemmas.{debts_left}
+use Rattle.lotsim.proofs.show.print_debtors.Given as goal
 
 abbrev pub invariant-loop-debt : goal.invariant-loop-debt
 invariant-loop-debt g l =

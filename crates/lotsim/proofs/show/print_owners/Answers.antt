@@ -1,9 +1,9 @@
 use Rattle.std.proofs.Common.{◌++◌, refl, sym, ap, ◌∙◌, append_assoc}
 use Rattle.std.specs.Prelude.{codes, decimal}
-use Rattle.lot_text.specs.Text.{owner_letter, owner_text, group}
+use Rattle.lotsim.specs.Shows.{owner_letter, owner_text, group}
 use Rattle.lot_text.proofs.SentLemmas.{puts_then, left_all, left_less}
-use Rattle.lot_text.proofs.ShowLemmas.{group_step}
-use Rattle.lot_text.proofs.show.print_owners.Goals as goal
+use Rattle.lotsim.proofs.ShowLemmas.{group_step}
+use Rattle.lotsim.proofs.show.print_owners.Goals as goal
 
 pub loop-owner-init : goal.loop-owner-init
 loop-owner-init g c = (tt, tt, left_all _ _ _ _ (rw (c.as_slice-mark.ensures, c.into_iter-owner-iterator.ensures.into_iter_gives) refl))

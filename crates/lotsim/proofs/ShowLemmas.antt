@@ -8,7 +8,7 @@ use Rattle.lot_world.specs.declared.views.Debt.{Debt}
 use Rattle.lot_world.specs.declared.views.Debt.TheVariants.{Owes, Retries}
 use Rattle.lot_world.specs.Machine.{State}
 use Rattle.lot_world.specs.Views.{StandUnder, has_debt, debtors}
-use Rattle.lot_text.specs.Text.{show_line, show_lines, waiter_text, aside_text, debtor_text, group, waiters_text}
+use Rattle.lotsim.specs.Shows.{show_line, show_lines, waiter_text, aside_text, debtor_text, group, waiters_text}
 
 -- the first item has the heading, and the others a comma
 pub group_step : {X : Type 0} (mark : List ℕ) (text : X → List ℕ) (x : X) (xs : List X) → group mark text (x ∷ xs) ≡ mark ++ (text x ++ group (codes ",") text xs)

@@ -1,8 +1,8 @@
 use Rattle.std.proofs.Common.{◌++◌, refl, ap, ◌∙◌}
 use Rattle.std.specs.Prelude.{codes, decimal}
 use Rattle.lot_text.proofs.SentLemmas.{puts_then, left_all, left_less, left_none}
-use Rattle.lot_text.proofs.ShowLemmas.{debts_left, debts_both, left_owes, left_retries}
-use Rattle.lot_text.proofs.show.print_debtors.Goals as goal
+use Rattle.lotsim.proofs.ShowLemmas.{debts_left, debts_both, left_owes, left_retries}
+use Rattle.lotsim.proofs.show.print_debtors.Goals as goal
 
 pub loop-debt-init : goal.loop-debt-init
 loop-debt-init g c = (tt, tt, left_all _ _ _ _ (rw (c.as_slice-owe_mark.ensures, c.as_slice-retry_mark.ensures, c.into_iter-debt-iterator.ensures.into_iter_gives) refl))

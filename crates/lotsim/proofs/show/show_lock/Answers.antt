@@ -3,10 +3,10 @@ use Rattle.std.specs.Prelude.{codes, decimal}
 use Rattle.lot_world.specs.declared.views.Debt.TheVariants.{Owes, Retries}
 use Rattle.lot_world.specs.Machine.{word_at, queue_at}
 use Rattle.lot_world.specs.Views.{owners_of, debtors}
-use Rattle.lot_text.specs.Text.{owners_text, waiters_text, debtors_text}
+use Rattle.lotsim.specs.Shows.{owners_text, waiters_text, debtors_text}
 use Rattle.lot_text.proofs.SentLemmas.{puts_then}
-use Rattle.lot_text.proofs.ShowLemmas.{debtors_owe}
-use Rattle.lot_text.proofs.show.show_lock.Goals as goal
+use Rattle.lotsim.proofs.ShowLemmas.{debtors_owe}
+use Rattle.lotsim.proofs.show.show_lock.Goals as goal
 
 pub returns : goal.returns
 returns g c =
