@@ -41,7 +41,8 @@ pub record Profile : Type 0 where
   pub retries : Bool
   -- it may load the word again in place of its act
   pub spins : Bool
-  -- it sleeps in a call that may give up
+  -- its call has a deadline, and it sleeps, so that it may give up
+  pub timed : Bool
   pub may_be_late : Bool
   -- its time was up, and it has left the line
   pub late : Bool
@@ -86,6 +87,7 @@ trying = record {
   owes = false;
   retries = false;
   spins = false;
+  timed = false;
   may_be_late = false;
   late = false;
   gave_up = false;
@@ -137,7 +139,7 @@ hand_off_row (hand_off.Leave taken) = record trying { doing = record inside { ca
 
 -- a call that enters has nobody in hand
 abbrev pub entering : Entry → Bool → Profile → Profile
-entering e retries row = record row { taken = None; gives = false; retries = retries; purpose = λ l. entry_purpose l e; released = is_bump e }
+entering e retries row = record row { taken = None; gives = false; retries = retries; timed = is_timed e; purpose = λ l. entry_purpose l e; released = is_bump e }
 
 -- a call that releases waits for nothing
 abbrev pub leaving : (ℕ → Purpose) → Profile → Profile

@@ -13,7 +13,7 @@ use Rattle.lot_steps.specs.declared.acts.Wakes as wakes
 use Rattle.lot_base.specs.declared.notes.Note.TheVariants as note
 use Rattle.lot_steps.specs.declared.mutex.MutexPlace.TheVariants.{Lock, TryLock, Unlock, UnlockFair, Bump, HandOff}
 use Rattle.lot_steps.specs.declared.mutex.lock.LockAt.{LockAt}
-use Rattle.lot_steps.specs.declared.mutex.lock.LockAt.TheVariants.{First, Load, Decide, Check, Leave, Asleep, Taken, Handed, Accept, Remove, Clear, GiveUp}
+use Rattle.lot_steps.specs.declared.mutex.lock.LockAt.TheVariants.{First, Decide, Leave, Asleep, Taken, Handed, Remove}
 use Rattle.lot_steps.specs.declared.mutex.unlock.UnlockAt.{UnlockAt}
 use Rattle.lot_steps.specs.declared.mutex.unlock.UnlockAt.TheVariants as unlock
 use Rattle.lot_steps.specs.declared.mutex.hand_off.HandOffAt.{HandOffAt}
@@ -21,11 +21,13 @@ use Rattle.lot_steps.specs.declared.mutex.hand_off.HandOffAt.TheVariants as hand
 use Rattle.lot_steps.specs.declared.places.Place.{Place}
 use Rattle.lot_steps.specs.declared.places.Place.TheVariants.{Idle, Mutex}
 use Rattle.lot_steps.specs.MutexSteps.{is_locked, lock_act, unlock_act, hand_off_act}
-use Rattle.lot_steps.specs.MutexProfiles.{mutex_owes}
+use Rattle.lot_steps.specs.MutexProfiles.{mutex_owes, lock_row}
+use Rattle.lot_steps.specs.MutexSteps.{is_timed}
+use Rattle.abstract_locks.specs.Sites.{Line, Main}
 use Rattle.lot_steps.specs.Steps.{act_of, owes_on, retries_on}
 use Rattle.lot_world.specs.Machine.{State, opening, place_at, after, section_at}
 use Rattle.lot_world.specs.Fits.{IsShaped}
-use Rattle.lot_world.specs.Sound.{IsSound, Taking, handed_over, Carries, queued, holds, inside, one_if}
+use Rattle.lot_world.specs.Sound.{IsSound, at_main, Taking, handed_over, Carries, queued, holds, inside, one_if}
 use Rattle.abstract_locks.specs.Runs.{AreLockStates, IsOpening}
 use Rattle.abstract_locks.specs.Locks.{opening_lock, rights_of, Rights, one_if_some, standing}
 use Rattle.abstract_locks.specs.Purposes.{Enters, Converts, Bumps, Purpose, MayWait, IsReleasing}
@@ -77,14 +79,17 @@ own_lock : (b : Bool) (own l : ℕ) → (b && (own == l)) ≡ true → (b ≡ tr
 own_lock true own l h = (refl, eqb-true own l h)
 own_lock false own l h = absurd cc
 
+-- a call that enters owes just while it is inside the section
+lock_owes : (timed retries : Bool) (at : LockAt) → (lock_row timed retries at).doing.inside ≡ (if (lock_row timed retries at).owes then Some Main else None)
+lock_owes timed retries First = refl
+lock_owes timed retries at = refl
+
 lock_inside : (own : ℕ) (entry : Entry) (retries : Bool) (at : LockAt) → mutex_owes (Lock entry retries at) ≡ true → inside (Mutex own (Lock entry retries at)) ≡ Some own
-lock_inside own entry retries Check h = refl
-lock_inside own entry retries (Leave parked) h = refl
-lock_inside own entry retries Remove h = refl
-lock_inside own entry retries Clear h = refl
-lock_inside own entry retries GiveUp h = refl
-lock_inside own entry retries First h = absurd cc
-lock_inside own entry retries at h = absurd cc
+lock_inside own entry retries at h = ap (at_main own) (lock_owes (is_timed entry) retries at ∙ ap (λ b. if b then Some Main else None) h)
+
+from_main : (own l : ℕ) (b : Bool) (x : Option Line) → x ≡ (if b then Some Main else None) → at_main own x ≡ Some l → (b && (own == l)) ≡ true
+from_main own l true x e h = let g : Some own ≡ Some l = sym (ap (at_main own) e) ∙ h in let f : own ≡ l = cc in rw f (same l)
+from_main own l false x e h = absurd (let g : ◌≡◌ {A = Option ℕ} None (Some l) = sym (ap (at_main own) e) ∙ h in cc)
 
 owes_means : (p : Place) (l : ℕ) (r : ℕ → Rights) → owes_on p l ≡ true
     → (inside p ≡ Some l) ⊎ ((act_of p ≡ act.TheVariants.Enter (One (2 * l))) × IsReleasing (call_state p r).purpose (call_state p r).released l)
@@ -105,11 +110,7 @@ owes_means (Mutex own (HandOff bumps (hand_off.Store taken none_left))) l r h = 
 owes_means (Mutex own (HandOff bumps (hand_off.Leave taken))) l r h = inl (ap Some (eqb-true own l h))
 
 inside_owes : (p : Place) (l : ℕ) → inside p ≡ Some l → owes_on p l ≡ true
-inside_owes (Mutex own (Lock entry retries Check)) l h = let e : own ≡ l = cc in rw e (same l)
-inside_owes (Mutex own (Lock entry retries (Leave parked))) l h = let e : own ≡ l = cc in rw e (same l)
-inside_owes (Mutex own (Lock entry retries Remove)) l h = let e : own ≡ l = cc in rw e (same l)
-inside_owes (Mutex own (Lock entry retries Clear)) l h = let e : own ≡ l = cc in rw e (same l)
-inside_owes (Mutex own (Lock entry retries GiveUp)) l h = let e : own ≡ l = cc in rw e (same l)
+inside_owes (Mutex own (Lock entry retries at)) l h = from_main own l _ _ (lock_owes (is_timed entry) retries at) h
 inside_owes (Mutex own (Unlock unlock.Take)) l h = let e : own ≡ l = cc in rw e (same l)
 inside_owes (Mutex own (Unlock (unlock.Clear taken))) l h = let e : own ≡ l = cc in rw e (same l)
 inside_owes (Mutex own (Unlock (unlock.Leave taken))) l h = let e : own ≡ l = cc in rw e (same l)
@@ -211,15 +212,9 @@ module _ (w : State) (sound : IsSound w) (only : OnlyMutexes w) (all : AreLockSt
     lock_handed l entry retries (Taken by) is sleeps = absurd (let n : 0 + one_if_some (if l == l then Some (taken_for by) else None) ≡ 0 = rw is at (unlisted l) in
         let m : one_if_some (if l == l then Some (taken_for by) else None) ≡ 1 = ap (λ b. one_if_some (if b then Some (taken_for by) else None)) (same l) in omega arith)
     lock_handed l entry retries (Handed by) is sleeps = handed_to l entry retries by is
-    lock_handed l entry retries First is sleeps = absurd cc
-    lock_handed l entry retries Load is sleeps = absurd cc
     lock_handed l entry retries (Decide seen) is sleeps = absurd (decided_awake l seen (is_locked seen) (seen == 1) sleeps)
-    lock_handed l entry retries Check is sleeps = absurd cc
-    lock_handed l entry retries (Leave parked) is sleeps = absurd cc
-    lock_handed l entry retries Accept is sleeps = absurd cc
-    lock_handed l entry retries Remove is sleeps = absurd cc
-    lock_handed l entry retries Clear is sleeps = absurd cc
-    lock_handed l entry retries GiveUp is sleeps = absurd cc
+    lock_handed l entry retries First is sleeps = absurd cc
+    lock_handed l entry retries a is sleeps = absurd cc
 
     handed_over_at : (p : Place) → place_at w t ≡ p → act_of p ≡ Sleep → IsHandedOver w t
     handed_over_at Idle is sleeps = absurd cc

@@ -6,10 +6,6 @@ use Rattle.std.proofs.Math.ListN.{get_or-map}
 use Rattle.lot_base.specs.declared.wants.Want.TheVariants.{Exclusive}
 use Rattle.lot_base.specs.Lines.{without, times}
 use Rattle.lot_calls.specs.declared.calls.Step.{Step}
-use Rattle.lot_steps.specs.declared.mutex.MutexPlace.TheVariants.{Lock, Unlock, HandOff}
-use Rattle.lot_steps.specs.declared.mutex.lock.LockAt.TheVariants.{Taken, Handed}
-use Rattle.lot_steps.specs.declared.mutex.unlock.UnlockAt.TheVariants as unlock
-use Rattle.lot_steps.specs.declared.mutex.hand_off.HandOffAt.TheVariants as hand_off
 use Rattle.lot_steps.specs.declared.places.Place.{Place}
 use Rattle.lot_steps.specs.declared.places.Place.TheVariants.{Idle, Mutex}
 use Rattle.lot_steps.specs.MutexSteps.{is_parked}
@@ -18,9 +14,9 @@ use Rattle.abstract_locks.specs.Sites.{Line, Main, Second, Claim, Has}
 use Rattle.lot_world.specs.Machine.{State, place_at, word_at, queue_at, after}
 use Rattle.lot_world.specs.Fits.{IsShaped}
 use Rattle.lot_world.specs.Refinement.{lock_state}
-use Rattle.lot_world.specs.MutexDeeds.{Station, Hand, hand, nowhere, mutex_doing, mutex_station, station_at, doing_on}
+use Rattle.lot_world.specs.MutexDeeds.{Station, Hand, Of, hand, some_hand, mutex_profile, nowhere, mutex_doing, mutex_station, station_at, doing_on}
 use Rattle.lot_world.specs.SitesOf.{IsSteady, stood_in, carried_at, hand_at}
-use Rattle.lot_world.specs.Sound.{IsSound, Taking, taken_from, handed_over, IsTakenBy, Carries, at_main, owned, one_if, inside, queued, holds, main_section, main_queue}
+use Rattle.lot_world.specs.Sound.{IsSound, CarriedAt, InHandAt, Taking, taken_from, handed_over, IsTakenBy, Carries, at_main, owned, one_if, inside, queued, holds, main_section, main_queue}
 use Rattle.lot_world.proofs.Counts.{without_absent}
 use Rattle.lot_world.proofs.Glue as glue
 use Rattle.lot_world.proofs.Glue.{same, differ}
@@ -90,16 +86,20 @@ hand_for l k v u c b s g e n = elim (cases_eq l k) [
 ]
 
 carries_is : (p : Place) (u k : ℕ) (b : Bool) → (carried_at p k ≡ hand u b) ↔ Carries p u (taking k b)
-carries_is (Mutex l (Unlock (unlock.Clear (Some v)))) u k b = hand_for l k v u false b _ (λ s. s.carries) refl refl
-carries_is (Mutex l (Unlock (unlock.Leave (Some v)))) u k b = hand_for l k v u false b _ (λ s. s.carries) refl refl
-carries_is (Mutex l (HandOff x (hand_off.Store (Some v) n))) u k b = hand_for l k v u false b _ (λ s. s.carries) refl refl
-carries_is (Mutex l (HandOff x (hand_off.Leave (Some v)))) u k b = hand_for l k v u true b _ (λ s. s.carries) refl refl
-carries_is p u k b = (λ h. absurd (let n : carried_at p k ≡ None = glue.nothing_at p k (λ s. s.carries) refl refl in let x : ◌≡◌ {A = Option Hand} None (hand u b) = sym n ∙ h in cc), λ h. absurd h)
+carries_is Idle u k b = (λ h. absurd cc, λ h. absurd h)
+carries_is (Mutex l at) u k b = either (mutex_profile at).taken refl
+  where
+    either : (o : Option ℕ) → (mutex_profile at).taken ≡ o → (carried_at (Mutex l at) k ≡ hand u b) ↔ CarriedAt l o (mutex_profile at).gives u (taking k b)
+    either None e = (λ h. absurd (let n : carried_at (Mutex l at) k ≡ None = glue.nothing_at (Mutex l at) k (λ s. s.carries) refl (ap (λ o. some_hand o (mutex_profile at).gives) e) in let x : ◌≡◌ {A = Option Hand} None (hand u b) = sym n ∙ h in cc), λ h. absurd h)
+    either (Some v) e = hand_for l k v u (mutex_profile at).gives b (mutex_station at) (λ s. s.carries) (ap (λ o. some_hand o (mutex_profile at).gives) e) refl
 
 taken_is : (p : Place) (t k : ℕ) (b : Bool) → (hand_at p k ≡ hand t b) ↔ IsTakenBy p t (taking k b)
-taken_is (Mutex l (Lock e r (Taken by))) t k b = hand_for l k by t false b _ (λ s. s.hand) refl refl
-taken_is (Mutex l (Lock e r (Handed by))) t k b = hand_for l k by t true b _ (λ s. s.hand) refl refl
-taken_is p t k b = (λ h. absurd (let n : hand_at p k ≡ None = glue.nothing_at p k (λ s. s.hand) refl refl in let x : ◌≡◌ {A = Option Hand} None (hand t b) = sym n ∙ h in cc), λ h. absurd h)
+taken_is Idle t k b = (λ h. absurd cc, λ h. absurd h)
+taken_is (Mutex l at) t k b = either (mutex_profile at).hand refl
+  where
+    either : (o : Option Hand) → (mutex_profile at).hand ≡ o → (hand_at (Mutex l at) k ≡ hand t b) ↔ InHandAt l o t (taking k b)
+    either None e = (λ h. absurd (let n : hand_at (Mutex l at) k ≡ None = glue.nothing_at (Mutex l at) k (λ s. s.hand) refl e in let x : ◌≡◌ {A = Option Hand} None (hand t b) = sym n ∙ h in cc), λ h. absurd h)
+    either (Some (Of by c)) e = hand_for l k by t c b (mutex_station at) (λ s. s.hand) e refl
 
 -- ---------------------------------------------------------------- all of it
 

@@ -1,5 +1,5 @@
 -- What a state is made of: the numbers in it name threads, locks and keys that are there.
-use Rattle.std.specs.Prelude.{ℕ, true, Option, Some, None, ◌≡◌, ◌<◌, ◌≤◌, ◌*◌, List, [], ◌∷◌, length}
+use Rattle.std.specs.Prelude.{ℕ, Bool, true, false, Option, Some, None, ◌≡◌, ◌<◌, ◌≤◌, ◌*◌, List, [], ◌∷◌, length}
 use Rattle.lot_base.specs.declared.keys.Keys.{Keys}
 use Rattle.lot_base.specs.declared.keys.Keys.TheVariants.{One, Two}
 use Rattle.lot_base.specs.declared.wants.Waiter.{Waiter}
@@ -10,9 +10,6 @@ use Rattle.lot_steps.specs.declared.acts.Wakes as wakes
 use Rattle.lot_steps.specs.declared.places.Place.{Place}
 use Rattle.lot_steps.specs.declared.places.Place.TheVariants.{Idle, Mutex}
 use Rattle.lot_steps.specs.declared.mutex.MutexPlace.{MutexPlace}
-use Rattle.lot_steps.specs.declared.mutex.MutexPlace.TheVariants.{Lock}
-use Rattle.lot_steps.specs.declared.mutex.lock.LockAt.TheVariants.{Remove as Removes, Clear, GiveUp}
-use Rattle.lot_steps.specs.MutexSteps.{is_timed}
 use Rattle.lot_steps.specs.MutexProfiles.{mutex_profile}
 use Rattle.lot_world.specs.Machine.{State, place_at, queue_at}
 
@@ -42,12 +39,13 @@ SomeBelow n (Some u) = u < n
 abbrev pub taken_in : MutexPlace → Option ℕ
 taken_in at = (mutex_profile at).taken
 
+abbrev pub Implies : Bool → Bool → Type 0
+Implies true b = b ≡ true
+Implies false b = Unit {0}
+
 -- only a timed call gives up
 abbrev pub GivesUpTimed : MutexPlace → Type 0
-GivesUpTimed (Lock e retries Removes) = is_timed e ≡ true
-GivesUpTimed (Lock e retries Clear) = is_timed e ≡ true
-GivesUpTimed (Lock e retries GiveUp) = is_timed e ≡ true
-GivesUpTimed at = Unit {0}
+GivesUpTimed at = Implies (mutex_profile at).late (mutex_profile at).timed
 
 abbrev pub PlaceFits : ℕ → ℕ → Place → Type 0
 PlaceFits threads locks Idle = Unit {0}

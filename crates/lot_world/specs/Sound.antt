@@ -5,14 +5,10 @@ use Rattle.lot_base.specs.declared.wants.Want.TheVariants.{Exclusive}
 use Rattle.lot_base.specs.Lines.{times}
 use Rattle.lot_steps.specs.declared.places.Place.{Place}
 use Rattle.lot_steps.specs.declared.places.Place.TheVariants.{Idle, Mutex}
-use Rattle.lot_steps.specs.declared.mutex.MutexPlace.TheVariants.{Lock, Unlock, HandOff}
-use Rattle.lot_steps.specs.declared.mutex.lock.LockAt.TheVariants.{Taken, Handed}
-use Rattle.lot_steps.specs.declared.mutex.unlock.UnlockAt.TheVariants as unlock
-use Rattle.lot_steps.specs.declared.mutex.hand_off.HandOffAt.TheVariants as hand_off
 use Rattle.abstract_locks.specs.Sites.{Line, Main, Claim, Has}
 use Rattle.lot_world.specs.Machine.{State, place_at, word_at, owners_at, section_at, queue_at}
 use Rattle.lot_world.specs.Promises.{Codes}
-use Rattle.lot_world.specs.MutexDeeds.{mutex_doing, mutex_station}
+use Rattle.lot_world.specs.MutexDeeds.{Hand, Of, mutex_profile, mutex_doing, mutex_station}
 use Rattle.lot_world.specs.SitesOf.{IsSteady}
 
 -- ---------------------------------------------------------------- what a place says of its thread
@@ -52,18 +48,22 @@ abbrev pub handed_over : ℕ → Taking
 handed_over l = record { lock = l; handed = true }
 
 -- the thread that a release has taken and is to wake
+abbrev pub CarriedAt : ℕ → Option ℕ → Bool → ℕ → Taking → Type 0
+CarriedAt l None handed u k = ⊥
+CarriedAt l (Some v) handed u k = (v ≡ u) × (◌≡◌ {A = Taking} (record { lock = l; handed = handed }) k)
+
 abbrev pub Carries : Place → ℕ → Taking → Type 0
-Carries (Mutex l (Unlock (unlock.Clear (Some v)))) u k = (v ≡ u) × (taken_from l ≡ k)
-Carries (Mutex l (Unlock (unlock.Leave (Some v)))) u k = (v ≡ u) × (taken_from l ≡ k)
-Carries (Mutex l (HandOff bumps (hand_off.Store (Some v) none_left))) u k = (v ≡ u) × (taken_from l ≡ k)
-Carries (Mutex l (HandOff bumps (hand_off.Leave (Some v)))) u k = (v ≡ u) × (handed_over l ≡ k)
-Carries p u k = ⊥
+Carries Idle u k = ⊥
+Carries (Mutex l at) u k = CarriedAt l (mutex_profile at).taken (mutex_profile at).gives u k
 
 -- the thread was taken by t from the queue of a lock
+abbrev pub InHandAt : ℕ → Option Hand → ℕ → Taking → Type 0
+InHandAt l None t k = ⊥
+InHandAt l (Some (Of by handed)) t k = (by ≡ t) × (◌≡◌ {A = Taking} (record { lock = l; handed = handed }) k)
+
 abbrev pub IsTakenBy : Place → ℕ → Taking → Type 0
-IsTakenBy (Mutex l (Lock e retries (Taken by))) t k = (by ≡ t) × (taken_from l ≡ k)
-IsTakenBy (Mutex l (Lock e retries (Handed by))) t k = (by ≡ t) × (handed_over l ≡ k)
-IsTakenBy p t k = ⊥
+IsTakenBy Idle t k = ⊥
+IsTakenBy (Mutex l at) t k = InHandAt l (mutex_profile at).hand t k
 
 abbrev pub one_if : Option ℕ → ℕ → ℕ
 one_if None k = 0
