@@ -13,6 +13,7 @@ pub use lock_raw;
 pub use lot_base::{ListQueues, Queues};
 pub use lot_calls::{Answer, MutexCall};
 pub use lot_steps;
+pub use lot_world;
 pub use parking_lot_core::{
     Clock, Did, Fault, Key, Keys, Note, Op, ParkingLot, Record, Requeue, Right, Section, Slept,
     SystemClock, TickClock, Ticket, Token, Want, Word, WordKind, to_deadline,

@@ -1,5 +1,5 @@
 //! The mutex, without a value.
-ghost use Rattle.std.specs.Prelude.{◌≡◌, ◌<◌, ◌*◌, ◌⊎◌, [], ◌∷◌, true, IfSome, MatchResult};
+ghost use Rattle.std.specs.Prelude.{◌≡◌, ◌<◌, ◌*◌, ◌⊎◌, ◌++◌, [], ◌∷◌, List, None, true, IfSome, MatchResult};
 ghost use Rattle.std.specs.Arc.{arc_value};
 ghost use Rattle.lock_raw.specs.Answers.{answer_by};
 ghost use Rattle.lot_calls.specs.declared.calls.MutexCall.TheVariants.{LockTimed};
@@ -9,10 +9,13 @@ ghost use Rattle.lot_words.specs.Plays.{piece, left_over, takes_in};
 ghost use Rattle.lot_words.specs.Steps.{has};
 ghost use Rattle.lot_words.specs.declared.words.WordKind.TheVariants.{Mutex};
 ghost use Rattle.parking_lot_core.specs.Tokens.{IsTokenOf, Stays, view_of, last_of};
-ghost use Rattle.parking_lot.specs.Calls.{beginning, Sees, Releases};
-ghost use Rattle.parking_lot.specs.Driving.{IsGuardOf, IsGuardOf-prop, StaysAs};
-ghost use Rattle.parking_lot.specs.Fitting.{held};
+ghost use Rattle.lot_words.specs.declared.views.WordStep.{WordStep};
+ghost use Rattle.parking_lot.specs.Calls.{beginning, first_op, purpose_in, GoesOn, Sees, Releases};
+ghost use Rattle.parking_lot.specs.Driving.{IsGuardOf, IsGuardOf-prop, MeetAt, StaysAs};
+ghost use Rattle.parking_lot.specs.Fitting.{IsOver, held};
 ghost use Rattle.parking_lot.specs.Paths.{mutex_at, Walks};
+ghost use Rattle.parking_lot.specs.Paths.{step as seen_step};
+ghost use Rattle.parking_lot.specs.Stages.{stage_of};
 
 use crate::driver::{NO_LIMIT, behind, step};
 use crate::guards::RawGuard;
@@ -76,6 +79,21 @@ impl RawMutex {
     {
         let RawGuard { right } = guard;
         self.lot.join_right(token, right);
+    }
+
+    // The slow half of a call without a limit. It takes the mutex by its address, so that the fast half copies nothing.
+    #[cold]
+    #[inline(never)]
+    fn go_on<R: Wait>(&self, rt: &R, token: &mut Token, call: MutexCall, seen: u64) -> Answer
+        requires own { MeetAt (arc_value self.now.lot) token.old self.now.word }
+        requires goes_on { GoesOn self.now.word.number call seen (view_of token.old).owns }
+        ensures own { Stays (arc_value self.now.lot) token.old token.new }
+        ensures path { (before : List WordStep) → (view_of token.old).steps ≡ before ++ seen_step (mutex_at self.now.word.number) (first_op call) seen
+            → Walks (mutex_at self.now.word.number) (beginning self.now.word.number call) before (view_of token.new).steps result }
+        ensures rest { (more : List WordStep) × ((view_of token.new).steps ≡ (view_of token.old).steps ++ more) }
+        ensures over { IsOver self.now.word.number (view_of token.old).owns (purpose_in call) result (stage_of token.new None) }
+    {
+        behind(rt, &self.lot, token, self.word, NO_LIMIT, call, seen)
     }
 
     #[inline]
@@ -145,7 +163,7 @@ impl lock_raw::RawMutex for RawMutex {
         let lot: &ParkingLot = &self.lot;
         let seen = step(lot, token, self.word, ENTER);
         if seen != 0 {
-            behind(rt, lot, token, self.word, NO_LIMIT, MutexCall::Lock, seen);
+            self.go_on(rt, token, MutexCall::Lock, seen);
             return self.split(token);
         }
         self.split(token)
@@ -166,7 +184,7 @@ impl lock_raw::RawMutex for RawMutex {
         self.join(token, guard);
         let seen = step(lot, token, self.word, Op::Sub(LOCKED));
         if is_parked(seen) {
-            behind(rt, lot, token, self.word, NO_LIMIT, MutexCall::Unlock, seen);
+            self.go_on(rt, token, MutexCall::Unlock, seen);
         }
     }
 
@@ -191,15 +209,7 @@ impl lock_raw::RawMutexFair for RawMutex {
         self.join(token, guard);
         let seen = step(lot, token, self.word, LEAVE);
         if seen != LOCKED {
-            behind(
-                rt,
-                lot,
-                token,
-                self.word,
-                NO_LIMIT,
-                MutexCall::UnlockFair,
-                seen,
-            );
+            self.go_on(rt, token, MutexCall::UnlockFair, seen);
         }
     }
 
@@ -209,7 +219,7 @@ impl lock_raw::RawMutexFair for RawMutex {
         self.join(token, guard);
         let seen = step(lot, token, self.word, Op::Load);
         if is_parked(seen) {
-            behind(rt, lot, token, self.word, NO_LIMIT, MutexCall::Bump, seen);
+            self.go_on(rt, token, MutexCall::Bump, seen);
             return self.split(token);
         }
         self.split(token)
