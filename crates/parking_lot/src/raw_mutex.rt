@@ -21,7 +21,7 @@ use crate::driver::{NO_LIMIT, behind, step};
 use crate::guards::RawGuard;
 use lot_base::main_key;
 use lot_calls::{Answer, MutexCall};
-use lot_steps::mutex::{LOCKED, is_locked, is_parked};
+use lot_steps::mutex::{LOCKED, PARKED, is_locked, is_parked};
 use parking_lot_core::{
     Clock, Fault, Key, Op, ParkingLot, Token, Want, Word, WordKind, to_deadline,
 };
@@ -56,9 +56,10 @@ impl RawMutex {
         main_key(self.word.number())
     }
 
-    // The guard of who owns the mutex.
+    // The guard of who owns the mutex. It takes the lot from its caller, who has it at hand: behind an atomic step it would be loaded anew.
     #[inline]
-    fn split(&self, token: &mut Token) -> RawGuard
+    fn split(&self, lot: &ParkingLot, token: &mut Token) -> RawGuard
+        requires lot { lot.now ≡ arc_value self.now.lot }
         requires own { IsTokenOf (arc_value self.now.lot) token.old }
         requires held { has (held self.now.word.number) (view_of token.old).owns ≡ true }
         ensures own { Stays (arc_value self.now.lot) token.old token.new × (last_of token.new ≡ last_of token.old) }
@@ -66,19 +67,20 @@ impl RawMutex {
         ensures guard { IsGuardOf (arc_value self.now.lot) self.now.word result }
     {
         RawGuard {
-            right: self.lot.split_right(token, self.word, Want::Exclusive),
+            right: lot.split_right(token, self.word, Want::Exclusive),
         }
     }
 
     // Spends a guard: the token owns the mutex then.
     #[inline]
-    fn join(&self, token: &mut Token, guard: RawGuard)
-        requires { IsTokenOf (arc_value self.now.lot) token.old × IsGuardOf (arc_value self.now.lot) self.now.word guard }
+    fn join(&self, lot: &ParkingLot, token: &mut Token, guard: RawGuard)
+        requires lot { lot.now ≡ arc_value self.now.lot }
+        requires own { IsTokenOf (arc_value self.now.lot) token.old × IsGuardOf (arc_value self.now.lot) self.now.word guard }
         ensures own { Stays (arc_value self.now.lot) token.old token.new × (last_of token.new ≡ last_of token.old) }
         ensures joined { view_of token.new ≡ takes_in (view_of token.old) (piece (held self.now.word.number)) }
     {
         let RawGuard { right } = guard;
-        self.lot.join_right(token, right);
+        lot.join_right(token, right);
     }
 
     // The slow half of a call without a limit. It takes the mutex by its address, so that the fast half copies nothing.
@@ -111,13 +113,13 @@ impl RawMutex {
         let lot: &ParkingLot = &self.lot;
         let seen = step(lot, token, self.word, ENTER);
         if seen == 0 {
-            return Some(self.split(token));
+            return Some(self.split(lot, token));
         }
         let answer = behind(rt, lot, token, self.word, limit, MutexCall::LockTimed, seen);
         if matches!(answer, Answer::No) {
             return None;
         }
-        Some(self.split(token))
+        Some(self.split(lot, token))
     }
 }
 
@@ -164,27 +166,29 @@ impl lock_raw::RawMutex for RawMutex {
         let seen = step(lot, token, self.word, ENTER);
         if seen != 0 {
             self.go_on(rt, token, MutexCall::Lock, seen);
-            return self.split(token);
+            return self.split(lot, token);
         }
-        self.split(token)
+        self.split(lot, token)
     }
 
     #[inline]
     fn try_lock(&self, token: &mut Token) -> Option<RawGuard> {
-        let seen = step(&self.lot, token, self.word, Op::Or(LOCKED));
+        let lot: &ParkingLot = &self.lot;
+        let seen = step(lot, token, self.word, Op::Or(LOCKED));
         if is_locked(seen) {
             return None;
         }
-        Some(self.split(token))
+        Some(self.split(lot, token))
     }
 
     #[inline]
     fn unlock<R: Wait>(&self, rt: &R, token: &mut Token, guard: RawGuard) {
         let lot: &ParkingLot = &self.lot;
-        self.join(token, guard);
+        self.join(lot, token, guard);
         let seen = step(lot, token, self.word, Op::Sub(LOCKED));
-        if is_parked(seen) {
-            self.go_on(rt, token, MutexCall::Unlock, seen);
+        // An owner finds one of two values. The flags of the subtraction tell them apart, so the value isn't asked for.
+        if seen != LOCKED {
+            self.go_on(rt, token, MutexCall::Unlock, LOCKED | PARKED);
         }
     }
 
@@ -195,9 +199,10 @@ impl lock_raw::RawMutex for RawMutex {
 
     // A step of who owns the mutex twice would find a word that says so, and there is none.
     fn has_two_guards(&self, token: &mut Token, one: RawGuard, other: RawGuard) -> ! {
-        self.join(token, one);
-        self.join(token, other);
-        step(&self.lot, token, self.word, Op::Load);
+        let lot: &ParkingLot = &self.lot;
+        self.join(lot, token, one);
+        self.join(lot, token, other);
+        step(lot, token, self.word, Op::Load);
         unreachable!()
     }
 }
@@ -206,7 +211,7 @@ impl lock_raw::RawMutexFair for RawMutex {
     #[inline]
     fn unlock_fair<R: Wait>(&self, rt: &R, token: &mut Token, guard: RawGuard) {
         let lot: &ParkingLot = &self.lot;
-        self.join(token, guard);
+        self.join(lot, token, guard);
         let seen = step(lot, token, self.word, LEAVE);
         if seen != LOCKED {
             self.go_on(rt, token, MutexCall::UnlockFair, seen);
@@ -216,13 +221,13 @@ impl lock_raw::RawMutexFair for RawMutex {
     #[inline]
     fn bump<R: Wait>(&self, rt: &R, token: &mut Token, guard: RawGuard) -> RawGuard {
         let lot: &ParkingLot = &self.lot;
-        self.join(token, guard);
+        self.join(lot, token, guard);
         let seen = step(lot, token, self.word, Op::Load);
         if is_parked(seen) {
             self.go_on(rt, token, MutexCall::Bump, seen);
-            return self.split(token);
+            return self.split(lot, token);
         }
-        self.split(token)
+        self.split(lot, token)
     }
 }
 
