@@ -52,7 +52,8 @@ use Rattle.lot_world.specs.Sound.{IsSound, owner_at, Taking, handed_over, IsTake
 use Rattle.lot_world.proofs.Counts.{none_first}
 use Rattle.lot_world.proofs.Shape.{after_size, both, main_line_there, performed_counts}
 use Rattle.lot_world.proofs.Possible.{may_go, go_possible, may_be_late, late_possible, told_gone, told_step, begins_awake, no_closure, turner_there, gone_sections, spun_sections, late_sections, spun_awake, late_awake}
-use Rattle.lot_world.proofs.Steady.{IsHandedAt, is_handed, after_sound, go_by, idle_is}
+use Rattle.lot_world.specs.SitesOf.{IsSteady}
+use Rattle.lot_world.proofs.Steady.{IsHandedAt, is_handed, sound_of, after_sound, go_by, idle_is}
 use Rattle.abstract_locks.specs.Locks.{LockState, Rules, Rights, Owns, HasTakenNobody, rights_of, with_right, without_right, standing}
 use Rattle.abstract_locks.specs.Locks as locks
 use Rattle.abstract_locks.specs.Runs.{LocksState, CallState, GoesOn, Stays, Does, SectionChanges, MayBegin, MayTurn, HasRight, Turned, IsStep, purpose_at, beginning, Agrees, AnswerHolds, unless_ended, rules_at, one_more_at, one_less_at}
@@ -60,7 +61,7 @@ use Rattle.abstract_locks.specs.Purposes.{Purpose, Enters, Releases, Try, rules_
 use Rattle.lot_world.specs.Refinement.{lock_state, taken_at, is_bump, entry_purpose, release_purpose, call_state, locks_of, sleeps}
 use Rattle.lot_world.specs.OnlyMutexes.{OnlyMutexes, CallFits, is_mutex}
 use Rattle.lot_world.proofs.KindsKept.{shares_kept, operated_kinds, after_kinds, calls_mutex}
-use Rattle.lot_world.proofs.OnlyMutexes.{after_only}
+use Rattle.lot_world.proofs.OnlyMutexes.{after_only, only_of}
 use Rattle.lot_world.proofs.LockEvents.{same_place, Moved, Got, quiet, lock_same, enters, enters_by, leaves, leaves_by, parks, gives_up, takes, takes_by, wakes, rights, mutex_rules, mutex_rules_of, differ, calling, taken_nobody, same, queued_times, own_counts, put_is}
 use Rattle.lot_world.proofs.LockHands.{hands}
 
@@ -591,7 +592,7 @@ module _ (w : State) (t : ℕ) (shape : IsShaped w) (sound : IsSound w) (only : 
   turned_does (turn.TheVariants.Begin c) can s o = begin_goes w t c there can s
   turned_does turn.TheVariants.Go can s o = (may_go w t can, go_goes w t shape sound only there (place_at w t) refl (shape.places t) (only.calls t) can s o)
   turned_does turn.TheVariants.Spin can s o = (can, spin_goes w t shape sound only there (place_at w t) refl can s)
-  turned_does turn.TheVariants.Late can s o = (may_be_late w t sound only can, late_goes w t shape sound only there (place_at w t) refl can s)
+  turned_does turn.TheVariants.Late can s o = (may_be_late w t sound.steady can, late_goes w t shape sound only there (place_at w t) refl can s)
   turned_does turn.TheVariants.Ok can s o = absurd cc
   turned_does turn.TheVariants.Err can s o = absurd cc
 
@@ -601,7 +602,7 @@ module _ (w : State) (t : ℕ) (sound : IsSound w) (only : OnlyMutexes w) where
   possible (turn.TheVariants.Begin c) may = begin_possible w t c may
   possible turn.TheVariants.Go may = go_possible w t may
   possible turn.TheVariants.Spin may = may
-  possible turn.TheVariants.Late may = late_possible w t sound only may
+  possible turn.TheVariants.Late may = late_possible w t sound.steady may
   possible turn.TheVariants.Ok may = absurd (no_closure w t may)
   possible turn.TheVariants.Err may = absurd (no_closure w t may)
 
@@ -613,7 +614,7 @@ module _ (w : State) (t : ℕ) (sound : IsSound w) (only : OnlyMutexes w) where
 module _ (w : State) (t : ℕ) (shape : IsShaped w) (sound : IsSound w) (there : t < length w.places) where
   turned_sections : (x : Turn) → can_turn w t x ≡ true → (key : ℕ) → SectionChanges (section_at w key) t (section_at (turned w t x) key)
   turned_sections (turn.TheVariants.Begin c) can key = inl refl
-  turned_sections turn.TheVariants.Go can key = gone_sections w t shape sound can key
+  turned_sections turn.TheVariants.Go can key = gone_sections w t shape sound.steady can key
   turned_sections turn.TheVariants.Spin can key = inl (spun_sections w t (spin_lock (place_at w t)) key)
   turned_sections turn.TheVariants.Late can key = late_sections w t shape (place_at w t) refl (shape.places t) can key
   turned_sections turn.TheVariants.Ok can key = absurd cc
@@ -631,9 +632,15 @@ module _ (w : State) (t : ℕ) (shape : IsShaped w) (sound : IsSound w) (there :
   turned_told turn.TheVariants.Ok can = absurd cc
   turned_told turn.TheVariants.Err can = absurd cc
 
-pub after_step : (w : State) (s : Step) → IsShaped w → IsSound w → OnlyMutexes w → IsStep (locks_of w) s (answered w s) (locks_of (after w s))
-after_step w s shape sound only = (record { threads = size.threads; size = size.locks; kinds = after_kinds w s; sections = sections (is_possible w s) refl; told = told (is_possible w s) refl }, either (is_possible w s) refl (after_sound w s shape sound) (after_only w s only))
+pub after_step : (w : State) (s : Step) → IsShaped w → IsSteady w → IsStep (locks_of w) s (answered w s) (locks_of (after w s))
+after_step w s shape steady = (record { threads = size.threads; size = size.locks; kinds = after_kinds w s; sections = sections (is_possible w s) refl; told = told (is_possible w s) refl }, either (is_possible w s) refl (after_sound w s shape sound) (after_only w s only))
   where
+    sound : IsSound w
+    sound = sound_of w steady
+
+    only : OnlyMutexes w
+    only = only_of w shape steady
+
     size : SameSize w (after w s)
     size = after_size w s
 

@@ -147,7 +147,7 @@ called_at (Mutex k at) l h = either (k == l) refl h
     either true e g = (at, ap (λ x. Mutex x at) (eqb-true k l e))
     either false e g = absurd cc
 
-first_out : (t : ℕ) (q : List Waiter) → Lines.times t q ≡ 0 → locks.is_thread t (Lines.first_of q) ≡ 0
+pub first_out : (t : ℕ) (q : List Waiter) → Lines.times t q ≡ 0 → locks.is_thread t (Lines.first_of q) ≡ 0
 first_out t [] h = refl
 first_out t (x ∷ q) h = grind (arith, nat_tests)
 

@@ -52,6 +52,9 @@ lock_seen shared o main second taken = record {
 abbrev pub lock_state : State → ℕ → LockState
 lock_state w l = lock_seen (shares_at w l) (owners_at w l) (queue_at w (2 * l)) (queue_at w (2 * l + 1)) (λ u. taken_at (place_at w u) l)
 
+abbrev pub owner_at : State → ℕ → Option ℕ
+owner_at w l = (owners_at w l).exclusive
+
 -- ---------------------------------------------------------------- one call
 
 -- what it owned before, by what it owns now
