@@ -76,10 +76,16 @@ AreLockStates w = (l : ℕ) → IsLockState (rules_at w l) (w.locks l)
 abbrev pub no_call : CallState
 no_call = beginning None (λ l. no_rights)
 
--- nobody owns, nobody waits, and nobody is in a call
+-- and it is awake
+abbrev pub no_stance : Stance
+no_stance = record { asleep = false; in_closure = false; enters = None; may_spin = false }
+
+-- nobody owns, nobody waits, nobody is in a call, and nobody is inside a section
 pub record IsOpening (w : LocksState) : Type 0 where
   pub locks : (l : ℕ) → w.locks l ≡ opening_lock w.threads
   pub calls : (t : ℕ) → w.calls t ≡ no_call
+  pub inside : (key : ℕ) → w.inside key ≡ None
+  pub stances : (t : ℕ) → w.stances t ≡ no_stance
 
 -- ---------------------------------------------------------------- what a step does
 

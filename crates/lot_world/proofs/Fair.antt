@@ -16,6 +16,7 @@ use Rattle.lot_calls.specs.declared.calls.Turn as turn
 use Rattle.lot_calls.specs.declared.calls.Step.{Step}
 use Rattle.lot_calls.specs.declared.outcomes.Outcome.{Outcome}
 use Rattle.lot_steps.specs.declared.mutex.lock.Entry.TheVariants as entries
+use Rattle.lot_steps.specs.declared.mutex.MutexPlace.{MutexPlace}
 use Rattle.lot_steps.specs.declared.mutex.MutexPlace.TheVariants.{Lock, TryLock, Unlock, UnlockFair, Bump, HandOff}
 use Rattle.lot_steps.specs.declared.mutex.lock.LockAt.{LockAt}
 use Rattle.lot_steps.specs.declared.mutex.lock.LockAt.TheVariants as lock
@@ -29,17 +30,19 @@ use Rattle.lot_steps.specs.Steps.{act_of, spin_lock, late_key}
 use Rattle.lot_world.specs.Machine.{State, unlocked, place_at, word_at, owners_at, kind_at, queue_at, operated, appended, first_taken, performed, taken_by, spun_on, late_on, turned, is_possible, after, answered}
 use Rattle.lot_world.specs.Fits.{IsShaped, PlaceFits}
 use Rattle.lot_world.specs.Promises.{Codes}
-use Rattle.lot_world.specs.Sound.{IsSound, taken_from, Carries, owner_at}
+use Rattle.lot_world.specs.MutexDeeds.{mutex_doing, hand, mutex_station}
+use Rattle.lot_world.specs.SitesOf.{IsSteady, CallsMutex, is_mutex}
 use Rattle.abstract_locks.specs.Sites.{Main}
 use Rattle.lot_world.proofs.MutexTable.{own_doing}
-use Rattle.lot_world.specs.OnlyMutexes.{OnlyMutexes, CallFits, is_mutex}
 use Rattle.abstract_locks.specs.Locks.{LockState, Queued, Rules, Rights, Taken, LockCase, Enter, Pend, Settle, Leave, Convert, Park, Aside, TakeFirst, TakeAside, TakePicked, Wake, HandOff as HandsLockOff, Late, Rollback, Needs, Owns, IsTaken, HasTakenNobody, IsLockState, Knows, keep_from, first_thread, rights_of}
 use Rattle.abstract_locks.specs.Locks as locks
 use Rattle.abstract_locks.specs.Runs.{LocksState, CallState, Event, Nothing, AtLock, AreLockStates, GoesOn, Stays, Does, MayHappen, IsStep, Turned, rules_at, locks_after}
-use Rattle.lot_world.specs.Refinement.{lock_state, locks_of, call_state}
+use Rattle.lot_world.specs.Refinement.{lock_state, locks_of, call_state, owner_at}
 use Rattle.lot_world.specs.Fair.{IsFairRelease, OwnsOn, HandsOver, LetsGo, IsFair}
 use Rattle.lot_world.proofs.ExclusiveOwners.{owner_after, exclusive-owners, by_code}
-use Rattle.lot_world.proofs.Steady.{IsTakenAt, in_hand, after_sound}
+use Rattle.lot_world.proofs.Glue.{IsTakenAt, is_taken, own_stance}
+use Rattle.lot_world.proofs.AtPlaces.{coded as words_coded, has_nobody, in_no_hand}
+use Rattle.lot_world.proofs.TurnsKept.{after_steady}
 use Rattle.lot_world.proofs.LockEvents.{mutex_rules, mutex_rules_of, taken_nobody, same, rights}
 use Rattle.lot_world.proofs.LockSteps.{after_step}
 use Rattle.abstract_locks.proofs.Runs.{needs_of}
@@ -124,7 +127,7 @@ abbrev ComesTo : State → ℕ → ℕ → State → Type 0
 ComesTo w t l v = (owner_at v l ≡ Some t) ⊎ (((u : ℕ) × IsTaken (lock_state w l) t u Exclusive × (owner_at v l ≡ Some u))
     ⊎ ((owner_at v l ≡ None) × HasTakenNobody (lock_state w l) t × ((is_parked (word_at w l) ≡ false) ⊎ ((lock_state w l).queue ≡ []))))
 
-module _ (w : State) (t l : ℕ) (shape : IsShaped w) (sound : IsSound w) (own : owner_at w l ≡ Some t) where
+module _ (w : State) (t l : ℕ) (shape : IsShaped w) (steady : IsSteady w) (own : owner_at w l ≡ Some t) where
   operated_owner : (p : Place) (f : Op) → l < length w.locks → owner_at (operated w t p l f) l ≡ owner_after p t (word_at w l) (Some t)
   operated_owner p f lt = ap (λ x. x.owners.exclusive) (get_or-set_same w.locks l _ (unlocked kind.TheVariants.Mutex) lt) ∙ exclusive-owners p t (word_at w l) (owners_at w l) ∙ ap (owner_after p t (word_at w l)) own
 
@@ -157,15 +160,15 @@ module _ (w : State) (t l : ℕ) (shape : IsShaped w) (sound : IsSound w) (own :
     lock_keeps retries lock.Clear = inl (operated_owner (Mutex l (Lock entries.Bump retries lock.Clear)) (op.TheVariants.And NOT_PARKED) lt)
     lock_keeps retries lock.GiveUp = inl own
 
-    carries_nobody : (p : Place) → place_at w t ≡ p → ((u k : ℕ) → Carries p u (taken_from k) → ⊥) → HasTakenNobody (lock_state w l) t
-    carries_nobody p is none = taken_nobody w t sound (λ u k h. none u k (rw is at h)) l
+    carries_nobody : (at : MutexPlace) → place_at w t ≡ Mutex l at → ((u : ℕ) → (mutex_station at).carries ≡ hand u false → ⊥) → HasTakenNobody (lock_state w l) t
+    carries_nobody at is none = in_no_hand w steady t l (λ u h. none u (sym (ap (λ x. x.carries) (own_stance l (place_at w t) at is)) ∙ h))
 
     unlock_fair_gives : place_at w t ≡ Mutex l UnlockFair → ComesTo w t l (operated w t (Mutex l UnlockFair) l (op.TheVariants.Exchange 1 0))
     unlock_fair_gives is = either (word_at w l == 1) refl (operated_owner (Mutex l UnlockFair) (op.TheVariants.Exchange 1 0) lt)
       where
         either : (b : Bool) → (word_at w l == 1) ≡ b → owner_at (operated w t (Mutex l UnlockFair) l (op.TheVariants.Exchange 1 0)) l ≡ (if b then None else Some t) → ComesTo w t l (operated w t (Mutex l UnlockFair) l (op.TheVariants.Exchange 1 0))
         either false e h = inl h
-        either true e h = inr (inr (h, carries_nobody (Mutex l UnlockFair) is (λ u k g. g), inl (rw (eqb-true (word_at w l) 1 e) refl)))
+        either true e h = inr (inr (h, carries_nobody UnlockFair is (λ u g. absurd cc), inl (rw (eqb-true (word_at w l) 1 e) refl)))
 
     taken_gives : (bumps : Bool) (o : Option ℕ) → ComesTo w t l (taken_by (record w { queues = first_taken w.queues (2 * l) }) t o)
     taken_gives bumps None = inl own
@@ -176,12 +179,12 @@ module _ (w : State) (t l : ℕ) (shape : IsShaped w) (sound : IsSound w) (own :
     hand_off_gives bumps hand_off.Take is = taken_gives bumps (first_of (queue_at w (2 * l)))
     hand_off_gives bumps (hand_off.Store None none_left) is = inr (inr (
       operated_owner (Mutex l (HandOff bumps (hand_off.Store None none_left))) (op.TheVariants.Store 0) lt,
-      carries_nobody (Mutex l (HandOff bumps (hand_off.Store None none_left))) is (λ u k g. g),
-      inr ((sound.steady.sites.site l).emptied t Main (ap (λ d. d.empty) (own_doing l (place_at w t) _ is))).1,
+      carries_nobody (HandOff bumps (hand_off.Store None none_left)) is (λ u g. absurd cc),
+      inr ((steady.sites.site l).emptied t Main (ap (λ d. d.empty) (own_doing l (place_at w t) _ is))).1,
     ))
     hand_off_gives bumps (hand_off.Store (Some u) none_left) is = inr (inl (
       u,
-      by_taken (in_hand (place_at w u) t l (sound.carried t u (taken_from l) (rw is (refl, refl)))),
+      by_taken (is_taken (place_at w u) t l (steady.stands.hands.carried t u l false (ap (λ x. x.carries) (own_stance l (place_at w t) _ is)))),
       operated_owner (Mutex l (HandOff bumps (hand_off.Store (Some u) none_left))) (op.TheVariants.Store (hand_off_word (Some u) none_left)) lt,
     ))
       where
@@ -235,35 +238,38 @@ locked_by : (v : ℕ) (o : Option ℕ) (u : ℕ) → Codes v o → o ≡ Some u 
 locked_by v o u c e = by_code (λ v o. o ≡ Some u → is_locked v ≡ true) (λ g. absurd cc) (λ g. absurd cc) (λ x g. refl) (λ x g. refl) v o c e
 
 -- the lock that is released fairly is a mutex
-fair_mutex : (w : State) (p : Place) (l : ℕ) (r : ℕ → Rights) → CallFits w p → IsFairRelease (call_state p r).purpose l → is_mutex (kind_at w l) ≡ true
+fair_mutex : (w : State) (p : Place) (l : ℕ) (r : ℕ → Rights) → CallsMutex w p → IsFairRelease (call_state p r).purpose l → is_mutex (kind_at w l) ≡ true
 fair_mutex w Idle l r fits h = absurd h
 fair_mutex w (Mutex k (Lock entries.Lock retries a)) l r fits h = absurd h
 fair_mutex w (Mutex k (Lock entries.LockTimed retries a)) l r fits h = absurd h
-fair_mutex w (Mutex k (Lock entries.Bump retries a)) l r fits h = rw (← h) fits.0
+fair_mutex w (Mutex k (Lock entries.Bump retries a)) l r fits h = rw (← h) fits
 fair_mutex w (Mutex k TryLock) l r fits h = absurd h
-fair_mutex w (Mutex k (Unlock a)) l r fits h = rw (← h.0) fits.0
-fair_mutex w (Mutex k UnlockFair) l r fits h = rw (← h.0) fits.0
-fair_mutex w (Mutex k Bump) l r fits h = rw (← h) fits.0
-fair_mutex w (Mutex k (HandOff true a)) l r fits h = rw (← h) fits.0
-fair_mutex w (Mutex k (HandOff false a)) l r fits h = rw (← h.0) fits.0
+fair_mutex w (Mutex k (Unlock a)) l r fits h = rw (← h.0) fits
+fair_mutex w (Mutex k UnlockFair) l r fits h = rw (← h.0) fits
+fair_mutex w (Mutex k Bump) l r fits h = rw (← h) fits
+fair_mutex w (Mutex k (HandOff true a)) l r fits h = rw (← h) fits
+fair_mutex w (Mutex k (HandOff false a)) l r fits h = rw (← h.0) fits
 
-pub is_fair : (w : State) (s : Step) → IsShaped w → IsSound w → OnlyMutexes w → AreLockStates (locks_of w) → IsFair w (after w s)
-is_fair w s shape sound only all = record {
+pub is_fair : (w : State) (s : Step) → IsShaped w → IsSteady w → IsFair w (after w s)
+is_fair w s shape steady = record {
   gives = λ t l h. elim (cases_eq s.thread t) [
-    | inl e ↦ told t l (after_gives w t l shape sound h.1 h.0 s e)
+    | inl e ↦ told t l (after_gives w t l shape steady h.1 h.0 s e)
     | inr ne ↦ inl (owned t l (turned_so (λ x y. x.exclusive ≡ Some t → y.exclusive ≡ Some t) (locks_of w) (locks_of (after w s)) s.thread l (λ e. e)
         (λ c n e. others_keep (rules_at (locks_of w) l) (lock_state w l) t s.thread (all l) e ne c n) s.turn (answered w s) step.1 h.1))
   ];
   takes = λ t l u h. turned_so (λ x y. IsTaken y t u Exclusive → IsTaken x t u Exclusive ⊎ (first_thread x.queue ≡ Some u)) (locks_of w) (locks_of (after w s)) s.thread l (λ e. inl e)
-      (λ c n. let rules : rules_at (locks_of w) l ≡ mutex_rules = mutex_rules_of (kind_at w l) (fair_mutex w (place_at w t) l (rights w t) (only.calls t) h.0) in
+      (λ c n. let rules : rules_at (locks_of w) l ≡ mutex_rules = mutex_rules_of (kind_at w l) (fair_mutex w (place_at w t) l (rights w t) (steady.stands.calls t) h.0) in
       rw rules (taken_was (lock_state w l) t u s.thread Exclusive (subst (λ r. IsLockState r (lock_state w l)) rules (all l)) c (subst (λ r. Needs r c (lock_state w l) s.thread) rules n))) s.turn (answered w s) step.1;
 }
   where
+    all : AreLockStates (locks_of w)
+    all l = (steady.sites.site l).state
+
     step : IsStep (locks_of w) s (answered w s) (locks_of (after w s))
-    step = after_step w s shape sound only
+    step = after_step w s shape steady
 
     coded : (l : ℕ) → Codes (word_at (after w s) l) (owner_at (after w s) l)
-    coded l = let now : IsSound (after w s) = after_sound w s shape sound in now.codes l
+    coded l = words_coded (after w s) (after_steady w s shape steady) l
 
     owned : (t l : ℕ) → owner_at (after w s) l ≡ Some t → OwnsOn (after w s) t l
     owned t l e = (e, locked_by (word_at (after w s) l) (owner_at (after w s) l) t (coded l) e)

@@ -16,6 +16,7 @@ pub mod TurnsKept
 pub mod OpeningSites
 pub mod Counts
 pub mod SitesPromise
+pub mod AtPlaces
 pub mod OnlyMutexes
 pub mod ExclusiveOwners
 pub mod Steady
@@ -23,7 +24,6 @@ pub mod LockEvents
 pub mod LockHands
 pub mod Possible
 pub mod LockSteps
-pub mod LockRuns
 pub mod OneThing
 pub mod Promises
 pub mod Fair

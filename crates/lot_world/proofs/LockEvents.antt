@@ -28,7 +28,7 @@ use Rattle.lot_steps.specs.declared.mutex.unlock.UnlockAt.TheVariants as unlock
 use Rattle.lot_steps.specs.declared.places.Place.{Place}
 use Rattle.lot_steps.specs.declared.places.Place.TheVariants.{Idle, Mutex}
 use Rattle.lot_steps.specs.MutexSteps.{with_exclusive, is_timed}
-use Rattle.lot_world.specs.Machine.{State, place_at, word_at, owners_at, kind_at, queue_at, put, appended, removed, first_taken, befallen, filled_with}
+use Rattle.lot_world.specs.Machine.{State, place_at, word_at, owners_at, shares_at, kind_at, queue_at, put, appended, removed, first_taken, befallen, filled_with}
 use Rattle.lot_world.specs.Fits.{IsShaped}
 use Rattle.lot_world.specs.Promises.{Codes}
 use Rattle.lot_world.specs.Sound.{IsSound, owner_at, Taking, taken_from, IsTakenBy, Carries, inside, queued, one_if}
@@ -40,6 +40,8 @@ use Rattle.abstract_locks.specs.Purposes.{Purpose, rules_of, IsMadeOf}
 use Rattle.abstract_locks.specs.Picks.{queued_of}
 use Rattle.lot_world.specs.Refinement.{lock_state, lock_seen, taken_at, mutex_profile, is_bump, entry_purpose, release_purpose, before_release, before_entry, call_state, locks_of}
 use Rattle.lot_world.specs.OnlyMutexes.{AllExclusive, OnlyMutexes, is_mutex}
+use Rattle.lot_world.proofs.KindsKept.{shares_kept}
+use Rattle.lot_world.proofs.SitesPromise.{unshared_of}
 use Rattle.lot_world.proofs.Steady.{IsTakenAt, IsAsleep, in_hand, stands_at, stood, absent, same_without, asleep, alone}
 use Rattle.lot_world.proofs.Shape.{main_line_there}
 
@@ -67,17 +69,13 @@ differ j k ne = grind (arith, nat_tests)
 
 -- ---------------------------------------------------------------- locks, seen by their parts
 
-pub seen : (v : State) (l : ℕ) (n : ℕ) (o : Owners) (m s : List Waiter) (taken : ℕ → Option LockTaken) → length v.places ≡ n → owners_at v l ≡ o → queue_at v (2 * l) ≡ m → queue_at v (2 * l + 1) ≡ s
+pub seen : (v : State) (l : ℕ) (n : List ℕ) (o : Owners) (m s : List Waiter) (taken : ℕ → Option LockTaken) → shares_at v l ≡ n → owners_at v l ≡ o → queue_at v (2 * l) ≡ m → queue_at v (2 * l + 1) ≡ s
     → ((u : ℕ) → taken_at (place_at v u) l ≡ taken u) → lock_state v l ≡ lock_seen n o m s taken
 seen v l n o m s taken en eo em es et = λ i. lock_seen (en i) (eo i) (em i) (es i) (λ u. et u i)
 
 -- what a thread owns of each lock
 abbrev pub rights : State → ℕ → ℕ → Rights
 rights w t l = rights_of (lock_state w l) t
-
-pub no_readers : (n : ℕ) → sum (replicate n 0) ≡ 0
-no_readers zero = refl
-no_readers (suc n) = no_readers n
 
 -- ---------------------------------------------------------------- a call that goes on
 
@@ -193,7 +191,7 @@ same_place p q e = record { calls = λ r. ap (λ x. call_state x r) e; taken = �
 pub record Moved (w v : State) (t : ℕ) (p2 : Place) : Type 0 where
   pub place : place_at v t ≡ p2
   pub others : (u : ℕ) → u ≢ t → Alike (place_at v u) (place_at w u)
-  pub threads : length v.places ≡ length w.places
+  pub shares : (k : ℕ) → shares_at v k ≡ shares_at w k
   pub queues : (key : ℕ) → queue_at v key ≡ queue_at w key
   pub kinds : (l : ℕ) → kind_at v l ≡ kind_at w l
   pub sound : IsSound v
@@ -206,8 +204,8 @@ module _ (w v : State) (t : ℕ) (p p2 : Place) (is : place_at w t ≡ p) (moved
   ]
 
   pub lock_same : (l : ℕ) → owners_at v l ≡ owners_at w l → lock_state v l ≡ lock_state w l
-  lock_same l e = seen v l (length w.places) (owners_at w l) (queue_at w (2 * l)) (queue_at w (2 * l + 1)) (λ u. taken_at (place_at w u) l)
-      moved.threads e (moved.queues (2 * l)) (moved.queues (2 * l + 1)) (λ u. taken_same u l)
+  lock_same l e = seen v l (shares_at w l) (owners_at w l) (queue_at w (2 * l)) (queue_at w (2 * l + 1)) (λ u. taken_at (place_at w u) l)
+      (moved.shares l) e (moved.queues (2 * l)) (moved.queues (2 * l + 1)) (λ u. taken_same u l)
 
   other_calls : (u : ℕ) → u ≢ t → (r : ℕ → Rights) → call_state (place_at v u) r ≡ call_state (place_at w u) r
   other_calls u ne r = (moved.others u ne).calls r
@@ -245,9 +243,12 @@ module _ (w v : State) (t l : ℕ) (p : Place) (is : place_at w t ≡ p) (rules 
     (others : (k : ℕ) → k ≢ l → owners_at v k ≡ owners_at w k) where
   module _ (moved : Moved w v t Idle) (stays : (k : ℕ) → taken_at Idle k ≡ taken_at p k) (purpose : Purpose) (released : Bool) (again : Option ℕ) (made : IsMadeOf purpose None released l (Enter Exclusive))
       (called : (r : ℕ → Rights) → call_state p r ≡ calling purpose l released again r) (free : owner_at w l ≡ None) (gets : owners_at v l ≡ with_exclusive (owners_at w l) (Some t)) where
+    unshared : sum (shares_at w l) ≡ 0
+    unshared = ap sum (sym (moved.shares l)) ∙ unshared_of v moved.sound.steady l (ap rules_of (moved.kinds l) ∙ rules)
+
     lock_entered : lock_state v l ≡ locks.owning t Exclusive (lock_state w l)
-    lock_entered = seen v l (length w.places) (with_exclusive (owners_at w l) (Some t)) (queue_at w (2 * l)) (queue_at w (2 * l + 1)) (λ u. taken_at (place_at w u) l)
-        moved.threads gets (moved.queues (2 * l)) (moved.queues (2 * l + 1)) (λ u. taken_same w v t p Idle is moved stays u l)
+    lock_entered = seen v l (shares_at w l) (with_exclusive (owners_at w l) (Some t)) (queue_at w (2 * l)) (queue_at w (2 * l + 1)) (λ u. taken_at (place_at w u) l)
+        (moved.shares l) gets (moved.queues (2 * l)) (moved.queues (2 * l + 1)) (λ u. taken_same w v t p Idle is moved stays u l)
 
     entered_rights : (u : ℕ) → u ≢ t → (k : ℕ) → rights_of (lock_state v k) u ≡ rights_of (lock_state w k) u
     entered_rights u ne k = elim (cases_eq k l) [
@@ -267,7 +268,7 @@ module _ (w v : State) (t l : ℕ) (p : Place) (is : place_at w t ≡ p) (rules 
         → GoesOn (locks_of w) t (outcome.TheVariants.End a) (locks_of v)
     enters a agrees = goes_on w v t (AtLock l (Enter Exclusive)) (outcome.TheVariants.End a) (rw (is, called (rights w t)) (λ h. cc))
         (may_happen (locks_of w) t l (Enter Exclusive) purpose (calling purpose l released again (rights w t)) (ap (λ x. call_state x (rights w t)) is ∙ called (rights w t)) refl made
-        (rw rules (((tt, free), tt), no_readers (length w.places))) tt)
+        (rw rules (((tt, free), tt), unshared)) tt)
         (λ k. put_is (lock_state w) l _ k (lock_state v k) (λ e. rw e lock_entered) (λ nl. lock_same w v t p Idle is moved stays k (others k nl)))
         entered_rights (other_calls w v t p Idle is moved stays) (rw moved.place refl)
         (rw (is, called (rights w t)) (agrees gains, taken_nobody v t moved.sound (λ u k h. rw moved.place at h)))
@@ -277,8 +278,8 @@ module _ (w v : State) (t l : ℕ) (p : Place) (is : place_at w t ≡ p) (rules 
   module _ (p2 : Place) (moved : Moved w v t p2) (stays : (k : ℕ) → taken_at p2 k ≡ taken_at p k) (purpose : Purpose) (made : IsMadeOf purpose None false l (locks.Leave Exclusive))
       (called : (r : ℕ → Rights) → call_state p r ≡ calling purpose l false None r) (own : owner_at w l ≡ Some t) (loses : owners_at v l ≡ with_exclusive (owners_at w l) None) where
     lock_left : lock_state v l ≡ locks.leaving t Exclusive (lock_state w l)
-    lock_left = seen v l (length w.places) (with_exclusive (owners_at w l) None) (queue_at w (2 * l)) (queue_at w (2 * l + 1)) (λ u. taken_at (place_at w u) l)
-        moved.threads loses (moved.queues (2 * l)) (moved.queues (2 * l + 1)) (λ u. taken_same w v t p p2 is moved stays u l)
+    lock_left = seen v l (shares_at w l) (with_exclusive (owners_at w l) None) (queue_at w (2 * l)) (queue_at w (2 * l + 1)) (λ u. taken_at (place_at w u) l)
+        (moved.shares l) loses (moved.queues (2 * l)) (moved.queues (2 * l + 1)) (λ u. taken_same w v t p p2 is moved stays u l)
 
     left_rights : (u : ℕ) → u ≢ t → (k : ℕ) → rights_of (lock_state v k) u ≡ rights_of (lock_state w k) u
     left_rights u ne k = elim (cases_eq k l) [
@@ -328,7 +329,7 @@ queued_times t (y ∷ q) = ap (λ n. (if y.thread == t then 1 else 0) + n) (queu
 
 -- owners are as they were, and so are queues but the main one of lock l
 pub record Queued (w v : State) (l : ℕ) (main : List Waiter) : Type 0 where
-  pub threads : length v.places ≡ length w.places
+  pub shares : (k : ℕ) → shares_at v k ≡ shares_at w k
   pub owners : (k : ℕ) → owners_at v k ≡ owners_at w k
   pub here : queue_at v (2 * l) ≡ main
   pub other : (k : ℕ) → k ≢ l → queue_at v (2 * k) ≡ queue_at w (2 * k)
@@ -336,11 +337,11 @@ pub record Queued (w v : State) (l : ℕ) (main : List Waiter) : Type 0 where
 
 module _ (w v : State) (t l : ℕ) (main : List Waiter) (queued : Queued w v l main) where
   queue_rights : (u k : ℕ) → rights_of (lock_state v k) u ≡ rights_of (lock_state w k) u
-  queue_rights u k = λ i. rights_of (lock_seen (queued.threads i) (queued.owners k i) [] [] (λ x. None)) u
+  queue_rights u k = λ i. rights_of (lock_seen (queued.shares k i) (queued.owners k i) [] [] (λ x. None)) u
 
   queue_steps : (case : LockCase) (taken : ℕ → Option LockTaken) (p2 : Place) (o : Outcome) → place_at v t ≡ p2
       → ((u : ℕ) → taken_at (place_at v u) l ≡ taken u) → ((k : ℕ) → k ≢ l → (u : ℕ) → taken_at (place_at v u) k ≡ taken_at (place_at w u) k)
-      → lock_seen (length w.places) (owners_at w l) main (queue_at w (2 * l + 1)) taken ≡ locks.after (rules_at (locks_of w) l) case (lock_state w l) t
+      → lock_seen (shares_at w l) (owners_at w l) main (queue_at w (2 * l + 1)) taken ≡ locks.after (rules_at (locks_of w) l) case (lock_state w l) t
       → (call_state (place_at w t) (rights w t)).purpose ≢ None → MayHappen (locks_of w) t (AtLock l case)
       → ((u : ℕ) → u ≢ t → (r : ℕ → Rights) → call_state (place_at v u) r ≡ woken (locks_of w) t (AtLock l case) u (call_state (place_at w u) r))
       → call_state p2 (rights w t) ≡ unless_ended o (going_on (AtLock l case) (call_state (place_at w t) (rights w t)))
@@ -348,8 +349,8 @@ module _ (w v : State) (t l : ℕ) (main : List Waiter) (queued : Queued w v l m
       → GoesOn (locks_of w) t o (locks_of v)
   queue_steps case taken p2 o place here other leads called may calls own agrees = goes_on w v t (AtLock l case) o called may
       (λ k. put_is (lock_state w) l _ k (lock_state v k)
-      (λ e. rw e (seen v l (length w.places) (owners_at w l) main (queue_at w (2 * l + 1)) taken queued.threads (queued.owners l) queued.here (queued.aside l) here ∙ leads))
-      (λ nl. seen v k (length w.places) (owners_at w k) (queue_at w (2 * k)) (queue_at w (2 * k + 1)) (λ u. taken_at (place_at w u) k) queued.threads (queued.owners k) (queued.other k nl) (queued.aside k) (other k nl)))
+      (λ e. rw e (seen v l (shares_at w l) (owners_at w l) main (queue_at w (2 * l + 1)) taken (queued.shares l) (queued.owners l) queued.here (queued.aside l) here ∙ leads))
+      (λ nl. seen v k (shares_at w k) (owners_at w k) (queue_at w (2 * k)) (queue_at w (2 * k + 1)) (λ u. taken_at (place_at w u) k) (queued.shares k) (queued.owners k) (queued.other k nl) (queued.aside k) (other k nl)))
       (λ u ne k. queue_rights u k) calls (rw place (ap (call_state p2) (λ i k. queue_rights t k i) ∙ own)) agrees
 
 pub first_waiter : (u : ℕ) (q : List Waiter) → first_of q ≡ Some u → AllExclusive q → map queued_of q ≡ record { thread = u; want = Exclusive } ∷ map queued_of (drop 1 q)
@@ -409,7 +410,7 @@ module _ (w : State) (t l : ℕ) (p : Place) (is : place_at w t ≡ p) (shape : 
       → GoesOn (locks_of w) t outcome.TheVariants.Step (locks_of v)
   parks entry retries again no_retry at_check kind full v led only_after = rw led (queue_steps w (put (record w { queues = appended w.queues (2 * l) t Exclusive }) t (Mutex l (Lock entry again (Leave true)))) t l (queue_at w (2 * l) ++ waiter (2 * l) t Exclusive ∷ [])
       (record {
-        threads = length-set w.places t _;
+        shares = shares_kept w _ (length-set w.places t _);
         owners = λ k. refl;
         here = get_or-set_same (map (without t) w.queues) (2 * l) _ [] (rw (length-map w.queues (without t)) (main_line_there w l shape lt)) ∙ ap (λ q. q ++ waiter (2 * l) t Exclusive ∷ []) (same_without w t sound nowhere l);
         other = λ k ne. get_or-set_other (map (without t) w.queues) (2 * l) (2 * k) _ [] (λ x. ne (omega arith)) ∙ same_without w t sound nowhere k;
@@ -437,7 +438,7 @@ module _ (w : State) (t l : ℕ) (p : Place) (is : place_at w t ≡ p) (shape : 
       → GoesOn (locks_of w) t outcome.TheVariants.Step (locks_of v)
   gives_up entry retries a at_remove late given still_late unhanded untaken v led only_after = rw led (queue_steps w (put (record w { queues = removed w.queues t }) t (Mutex l (Lock entry retries a))) t l (without t (queue_at w (2 * l)))
       (record {
-        threads = length-set w.places t _;
+        shares = shares_kept w _ (length-set w.places t _);
         owners = λ k. refl;
         here = get_or-map (without t) w.queues (2 * l) [];
         other = λ k ne. get_or-map (without t) w.queues (2 * k) [] ∙ without_absent t (queue_at w (2 * k)) (elsewhere k ne);
@@ -471,7 +472,7 @@ module _ (w : State) (t l : ℕ) (p : Place) (is : place_at w t ≡ p) (shape : 
       → GoesOn (locks_of w) t outcome.TheVariants.Step (locks_of v)
   takes u p2 purpose released within nowhere nobody untaken_before called made kind first untaken calls v led only_after = rw led (queue_steps w (put (befallen (record w { queues = first_taken w.queues (2 * l) }) u (TakenBy t)) t p2) t l (drop 1 (queue_at w (2 * l)))
       (record {
-        threads = length-set (set w.places u _) t _ ∙ length-set w.places u _;
+        shares = shares_kept w _ (length-set (set w.places u _) t _ ∙ length-set w.places u _);
         owners = λ k. refl;
         here = get_or-set_same w.queues (2 * l) _ [] (main_line_there w l shape lt);
         other = λ k ne. get_or-set_other w.queues (2 * l) (2 * k) _ [] (λ x. ne (omega arith));
@@ -552,7 +553,7 @@ module _ (w : State) (t l : ℕ) (p : Place) (is : place_at w t ≡ p) (shape : 
       ))
     where
       same_queues : Queued w (put (befallen (filled_with w (One (2 * l)) None) u (Woken Normal)) t Idle) l (queue_at w (2 * l))
-      same_queues = record { threads = length-set (set w.places u _) t _ ∙ length-set w.places u _; owners = λ k. refl; here = refl; other = λ k ne. refl; aside = λ k. refl }
+      same_queues = record { shares = shares_kept w _ (length-set (set w.places u _) t _ ∙ length-set w.places u _); owners = λ k. refl; here = refl; other = λ k ne. refl; aside = λ k. refl }
 
       apart : u ≢ t
       apart e = let h : Mutex l (Unlock (unlock.Leave (Some u))) ≡ Mutex l (Lock entry retries (Taken t)) = sym (is ∙ at_leave) ∙ ap (place_at w) (sym e) ∙ at_taken in cc

@@ -1,5 +1,5 @@
 -- The store by which a thread hands a lock over is a step of the abstract locks.
-use Rattle.std.proofs.Common.{ℕ, zero, suc, Bool, true, false, Option, Some, None, if◌then◌else◌, ◌==◌, ◌&&◌, ◌≡◌, ◌≢◌, ◌+◌, ◌-◌, ◌<◌, ◌*◌, inl, inr, ◌∷◌, length, set, replicate, refl, sym, ◌∙◌, ap, get_or-set_other, get_or-set_same, length-set}
+use Rattle.std.proofs.Common.{ℕ, zero, suc, Bool, true, false, Option, Some, None, if◌then◌else◌, ◌==◌, ◌&&◌, ◌≡◌, ◌≢◌, ◌+◌, ◌-◌, ◌<◌, ◌*◌, inl, inr, ◌∷◌, length, set, replicate, refl, sym, ◌∙◌, ap, get_or-set_other, get_or-set_same, length-set, sum}
 use Rattle.std.proofs.lemmas.Bool.{cases_eq}
 use Rattle.lot_base.specs.declared.ops.Op.{Op}
 use Rattle.lot_base.specs.declared.wants.Want.{Want}
@@ -13,14 +13,16 @@ use Rattle.lot_steps.specs.declared.mutex.hand_off.HandOffAt.TheVariants.{Store,
 use Rattle.lot_steps.specs.declared.places.Place.{Place}
 use Rattle.lot_steps.specs.declared.places.Place.TheVariants.{Idle, Mutex}
 use Rattle.lot_steps.specs.MutexSteps.{with_exclusive}
-use Rattle.lot_world.specs.Machine.{State, unlocked, place_at, owners_at, queue_at, put, operated, befallen}
+use Rattle.lot_world.specs.Machine.{State, unlocked, place_at, owners_at, shares_at, queue_at, put, operated, befallen}
 use Rattle.abstract_locks.specs.Locks.{LockState, Queued, Rights, Taken as LockTaken, IsTaken, IsSuccessor, rights_of, with_right, without_right, is_thread, shares_handed, sharing_from, sharing_handed, leaving, let_go, put as putting}
 use Rattle.abstract_locks.specs.Locks as locks
 use Rattle.abstract_locks.specs.Runs.{GoesOn, AtLock, is_taken_by, one_more_at, one_less_at}
 use Rattle.lot_world.specs.Refinement.{lock_state, taken_at, is_bump, entry_purpose, release_purpose, before_entry, call_state, locks_of}
 use Rattle.lot_world.specs.Sound.{IsSound, IsTakenBy, taken_from, Carries, holds, owner_at}
+use Rattle.lot_world.proofs.KindsKept.{shares_kept}
+use Rattle.lot_world.proofs.Glue.{none_share}
 use Rattle.lot_world.proofs.Steady.{IsTakenAt, in_hand}
-use Rattle.lot_world.proofs.LockEvents.{may_happen, goes_by, hands_by, hand_of, untaken_by, untaken_kept, no_readers, own_counts, other_counts, seen, rights, calling, has_left, put_is, same, differ}
+use Rattle.lot_world.proofs.LockEvents.{may_happen, goes_by, hands_by, hand_of, untaken_by, untaken_kept, own_counts, other_counts, seen, rights, calling, has_left, put_is, same, differ}
 
 the_same : {A : Type 0} {x y : A} → Some x ≡ Some y → x ≡ y
 the_same e = cc
@@ -69,21 +71,16 @@ no_share t l (Mutex k Bump) = refl
 no_share t l (Mutex k (HandOff bumps at)) = refl
 no_share t l Idle = refl
 
-none_share : (t : ℕ) (taken : ℕ → Option LockTaken) → ((x : ℕ) → shares_handed t (taken x) ≡ 0) → (i n : ℕ) → sharing_from t taken i (replicate n 0) ≡ replicate n 0
-none_share t taken none i zero = refl
-none_share t taken none i (suc n) = λ j. ap (λ m. 0 + m) (none i) j ∷ none_share t taken none (i + 1) n j
-
 -- then the one that was taken owns in place of the owner
-handed_is : (s : LockState) (t u n : ℕ) → s.shared ≡ replicate n 0 → ((x : ℕ) → shares_handed t (s.taken x) ≡ 0)
+handed_is : (s : LockState) (t u : ℕ) → sum s.shared ≡ 0 → ((x : ℕ) → shares_handed t (s.taken x) ≡ 0)
     → locks.handed t Exclusive (Some (record { thread = u; want = Exclusive })) s ≡ record s { exclusive = Some u; taken = let_go t s.taken }
-handed_is s t u n shared none = ap (locks.writing u false) left ∙ alone
+handed_is s t u unshared none = ap (locks.writing u false) left ∙ alone
   where
-    left : sharing_handed t (leaving t Exclusive s) ≡ record s { exclusive = None; shared = replicate n 0; taken = let_go t s.taken }
-    left = λ i. record s { exclusive = None; shared = (ap (sharing_from t s.taken 0) shared ∙ none_share t s.taken none 0 n) i; taken = let_go t s.taken }
+    left : sharing_handed t (leaving t Exclusive s) ≡ record s { exclusive = None; taken = let_go t s.taken }
+    left = λ i. record s { exclusive = None; shared = none_share t s.taken none 0 s.shared i; taken = let_go t s.taken }
 
-    alone : locks.writing u false (record s { exclusive = None; shared = replicate n 0; taken = let_go t s.taken }) ≡ record s { exclusive = Some u; taken = let_go t s.taken }
-    alone = ap (λ m. if m == 0 then record s { exclusive = Some u; shared = replicate n 0; taken = let_go t s.taken } else locks.pending_for u false (record s { exclusive = None; shared = replicate n 0; taken = let_go t s.taken })) (no_readers n)
-        ∙ (λ i. record s { exclusive = Some u; shared = sym shared i; taken = let_go t s.taken })
+    alone : locks.writing u false (record s { exclusive = None; taken = let_go t s.taken }) ≡ record s { exclusive = Some u; taken = let_go t s.taken }
+    alone = ap (λ m. if m == 0 then record s { exclusive = Some u; taken = let_go t s.taken } else locks.pending_for u false (record s { exclusive = None; taken = let_go t s.taken })) unshared
 
 -- ---------------------------------------------------------------- the store
 
@@ -117,8 +114,8 @@ module _ (w v : State) (t l u : ℕ) (f : Op) (bumps none_left : Bool) (sound : 
   owners_other : (k : ℕ) → k ≢ l → owners_at v k ≡ owners_at w k
   owners_other k ne = rw led (ap (λ x. x.owners) (get_or-set_other w.locks l k _ (unlocked kind.TheVariants.Mutex) ne))
 
-  sized : length v.places ≡ length w.places
-  sized = rw led (length-set (set w.places u _) t _ ∙ length-set w.places u _)
+  shares_same : (k : ℕ) → shares_at v k ≡ shares_at w k
+  shares_same k = rw led (shares_kept w _ (length-set (set w.places u _) t _ ∙ length-set w.places u _) k)
 
   queues_same : (key : ℕ) → queue_at v key ≡ queue_at w key
   queues_same key = rw led refl
@@ -147,13 +144,16 @@ module _ (w v : State) (t l u : ℕ) (f : Op) (bumps none_left : Bool) (sound : 
     ]
   ]
 
+  unshared : sum (shares_at w l) ≡ 0
+  unshared = ((sound.steady.sites.site l).state.exclusive_alone t own).2
+
   lock_handed : lock_state v l ≡ record (lock_state w l) { exclusive = Some u; taken = let_go t (λ y. taken_at (place_at w y) l) }
-  lock_handed = seen v l (length w.places) (with_exclusive (owners_at w l) (Some u)) (queue_at w (2 * l)) (queue_at w (2 * l + 1)) (let_go t (λ y. taken_at (place_at w y) l))
-      sized owners_here (queues_same (2 * l)) (queues_same (2 * l + 1)) let_go_now
+  lock_handed = seen v l (shares_at w l) (with_exclusive (owners_at w l) (Some u)) (queue_at w (2 * l)) (queue_at w (2 * l + 1)) (let_go t (λ y. taken_at (place_at w y) l))
+      (shares_same l) owners_here (queues_same (2 * l)) (queues_same (2 * l + 1)) let_go_now
 
   lock_other : (k : ℕ) → k ≢ l → lock_state v k ≡ lock_state w k
-  lock_other k ne = seen v k (length w.places) (owners_at w k) (queue_at w (2 * k)) (queue_at w (2 * k + 1)) (λ y. taken_at (place_at w y) k)
-      sized (owners_other k ne) (queues_same (2 * k)) (queues_same (2 * k + 1)) (elsewhere k ne)
+  lock_other k ne = seen v k (shares_at w k) (owners_at w k) (queue_at w (2 * k)) (queue_at w (2 * k + 1)) (λ y. taken_at (place_at w y) k)
+      (shares_same k) (owners_other k ne) (queues_same (2 * k)) (queues_same (2 * k + 1)) (elsewhere k ne)
 
   -- what the two of them own then, and what everybody else owns
   gave_one : (k : ℕ) → one_more_at l Exclusive (rights v t) k ≡ rights w t k
@@ -204,7 +204,7 @@ module _ (w v : State) (t l u : ℕ) (f : Op) (bumps none_left : Bool) (sound : 
       (may_happen (locks_of w) t l (locks.HandOff Exclusive (Some (record { thread = u; want = Exclusive }))) (release_purpose l bumps) (calling (release_purpose l bumps) l false None (rights w t))
       (ap (λ x. call_state x (rights w t)) is) refl (hands_by l bumps _) (own, (λ h. cc), successor, tt) tt)
       (λ k. put_is (lock_state w) l _ k (lock_state v k)
-      (λ e. rw e (lock_handed ∙ sym (handed_is (lock_state w l) t u (length w.places) refl (λ x. no_share t l (place_at w x)))))
+      (λ e. rw e (lock_handed ∙ sym (handed_is (lock_state w l) t u unshared (λ x. no_share t l (place_at w x)))))
       (λ ne. lock_other k ne))
       others_call
       (rw (place_t, is) (ap (has_left (release_purpose l bumps)) (λ i k. gave_one k i)))

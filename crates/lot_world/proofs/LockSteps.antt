@@ -1,5 +1,5 @@
 -- Each act of a thread, place by place, is a step of the abstract locks.
-use Rattle.std.proofs.Common.{ℕ, Bool, true, false, Option, Some, None, if◌then◌else◌, ◌==◌, ◌&&◌, not, ◌≡◌, ◌≢◌, ◌+◌, ◌-◌, ◌*◌, ◌≤◌, ◌<◌, ◌↔◌, inl, inr, List, [], length, get_or, set, drop, refl, sym, ◌∙◌, ap, subst, arith, get_or-set_other, get_or-set_same, length-set, nat_lt}
+use Rattle.std.proofs.Common.{ℕ, Bool, true, false, Option, Some, None, if◌then◌else◌, ◌==◌, ◌&&◌, not, ◌≡◌, ◌≢◌, ◌+◌, ◌-◌, ◌*◌, ◌≤◌, ◌<◌, ◌↔◌, inl, inr, List, [], length, get_or, set, drop, refl, sym, ◌∙◌, ap, subst, arith, get_or-set_other, get_or-set_same, length-set, nat_lt, replicate}
 use Rattle.std.proofs.lemmas.Bool.{cases_eq, eqb-true, ltb-true, lt-ltb}
 use Rattle.lot_base.specs.declared.keys.Keys.TheVariants.{One}
 use Rattle.lot_base.specs.declared.ops.Op.{Op}
@@ -52,15 +52,16 @@ use Rattle.lot_world.specs.Sound.{IsSound, owner_at, Taking, handed_over, IsTake
 use Rattle.lot_world.proofs.Counts.{none_first}
 use Rattle.lot_world.proofs.Shape.{after_size, both, main_line_there, performed_counts}
 use Rattle.lot_world.proofs.Possible.{may_go, go_possible, may_be_late, late_possible, told_gone, told_step, begins_awake, no_closure, turner_there, gone_sections, spun_sections, late_sections, spun_awake, late_awake}
-use Rattle.lot_world.proofs.Steady.{IsHandedAt, is_handed, after_sound, go_by, idle_is}
+use Rattle.lot_world.specs.SitesOf.{IsSteady}
+use Rattle.lot_world.proofs.Steady.{IsHandedAt, is_handed, sound_of, after_sound, go_by, idle_is}
 use Rattle.abstract_locks.specs.Locks.{LockState, Rules, Rights, Owns, HasTakenNobody, rights_of, with_right, without_right, standing}
 use Rattle.abstract_locks.specs.Locks as locks
 use Rattle.abstract_locks.specs.Runs.{LocksState, CallState, GoesOn, Stays, Does, SectionChanges, MayBegin, MayTurn, HasRight, Turned, IsStep, purpose_at, beginning, Agrees, AnswerHolds, unless_ended, rules_at, one_more_at, one_less_at}
 use Rattle.abstract_locks.specs.Purposes.{Purpose, Enters, Releases, Try, rules_of, purpose_of, mutex_purpose, IsMadeOf}
 use Rattle.lot_world.specs.Refinement.{lock_state, taken_at, is_bump, entry_purpose, release_purpose, call_state, locks_of, sleeps}
 use Rattle.lot_world.specs.OnlyMutexes.{OnlyMutexes, CallFits, is_mutex}
-use Rattle.lot_world.proofs.KindsKept.{operated_kinds, after_kinds, calls_mutex}
-use Rattle.lot_world.proofs.OnlyMutexes.{after_only}
+use Rattle.lot_world.proofs.KindsKept.{shares_kept, operated_kinds, after_kinds, calls_mutex}
+use Rattle.lot_world.proofs.OnlyMutexes.{after_only, only_of}
 use Rattle.lot_world.proofs.LockEvents.{same_place, Moved, Got, quiet, lock_same, enters, enters_by, leaves, leaves_by, parks, gives_up, takes, takes_by, wakes, rights, mutex_rules, mutex_rules_of, differ, calling, taken_nobody, same, queued_times, own_counts, put_is}
 use Rattle.lot_world.proofs.LockHands.{hands}
 
@@ -101,11 +102,11 @@ decides l s = either (is_locked s) (s == 1)
 
 module _ (w : State) (t : ℕ) (shape : IsShaped w) (sound : IsSound w) (only : OnlyMutexes w) (there : t < length w.places) where
   -- where only places, words and sections have changed
-  moved_by : (b : State) (p2 : Place) → b.places ≡ w.places → b.queues ≡ w.queues → ((k : ℕ) → kind_at b k ≡ kind_at w k) → IsSound (put b t p2) → Moved w (put b t p2) t p2
-  moved_by b p2 places queues kinds sound_after = record {
+  moved_by : (b : State) (p2 : Place) → b.places ≡ w.places → b.shares ≡ w.shares → b.queues ≡ w.queues → ((k : ℕ) → kind_at b k ≡ kind_at w k) → IsSound (put b t p2) → Moved w (put b t p2) t p2
+  moved_by b p2 places shares queues kinds sound_after = record {
     place = rw places (get_or-set_same w.places t p2 Idle there);
     others = λ u ne. same_place _ _ (rw places (get_or-set_other w.places t u p2 Idle ne));
-    threads = rw places (length-set w.places t p2);
+    shares = λ k. ap (λ (rows : List (List ℕ)). get_or rows k (replicate (length (set b.places t p2)) 0)) shares ∙ shares_kept w (length (set b.places t p2)) (rw places (length-set w.places t p2)) k;
     queues = λ key. ap (λ (q : List (List Waiter)). get_or q key []) queues;
     kinds = kinds;
     sound = sound_after;
@@ -113,7 +114,7 @@ module _ (w : State) (t : ℕ) (shape : IsShaped w) (sound : IsSound w) (only : 
 
   module _ (p : Place) (is : place_at w t ≡ p) (l : ℕ) (lt : l < length w.locks) (f : Op) where
     word_moved : (p2 : Place) → IsSound (put (operated w t p l f) t p2) → Moved w (put (operated w t p l f) t p2) t p2
-    word_moved p2 s = moved_by (operated w t p l f) p2 refl refl (operated_kinds w t p l f) s
+    word_moved p2 s = moved_by (operated w t p l f) p2 refl refl refl (operated_kinds w t p l f) s
 
     owners_there : owners_at (operated w t p l f) l ≡ owners_after p t (word_at w l) (owners_at w l)
     owners_there = ap (λ x. x.owners) (get_or-set_same w.locks l _ (unlocked kind.TheVariants.Mutex) lt)
@@ -137,7 +138,7 @@ module _ (w : State) (t : ℕ) (shape : IsShaped w) (sound : IsSound w) (only : 
       → IsSound (put (filled_with w (One (2 * l)) who) t p2) → ((k : ℕ) → taken_at p2 k ≡ taken_at p k) → (call_state p (rights w t)).purpose ≢ None → ((r : ℕ → Rights) → call_state p2 r ≡ unless_ended o (call_state p r))
       → (((k : ℕ) → lock_state (put (filled_with w (One (2 * l)) who) t p2) k ≡ lock_state w k) → Agrees t (call_state p (rights w t)) o (locks_of (put (filled_with w (One (2 * l)) who) t p2)))
       → GoesOn (locks_of w) t o (locks_of (put (filled_with w (One (2 * l)) who) t p2))
-  section_quiet p is l who p2 o s stays called goes agrees = quiet w (put (filled_with w (One (2 * l)) who) t p2) t p p2 is (moved_by (filled_with w (One (2 * l)) who) p2 refl refl (λ k. refl) s) stays o (λ k. refl) called goes agrees
+  section_quiet p is l who p2 o s stays called goes agrees = quiet w (put (filled_with w (One (2 * l)) who) t p2) t p p2 is (moved_by (filled_with w (One (2 * l)) who) p2 refl refl refl (λ k. refl) s) stays o (λ k. refl) called goes agrees
 
   -- an operation on the word by which the thread enters
   word_enters : (p : Place) (is : place_at w t ≡ p) (l : ℕ) → l < length w.locks → is_mutex (kind_at w l) ≡ true → (f : Op) (purpose : Purpose) (released : Bool) (again : Option ℕ) (a : Answer)
@@ -188,7 +189,7 @@ module _ (w : State) (t : ℕ) (shape : IsShaped w) (sound : IsSound w) (only : 
         → GoesOn (locks_of w) t outcome.TheVariants.Step (locks_of (put (if b then record w { queues = appended w.queues (2 * l) t Exclusive } else w) t (next_place (Mutex l (Lock entry retries Check)) (Parked b))))
     check_goes entry retries is true full s only_after = parks w t l (Mutex l (Lock entry retries Check)) is shape sound only there lt entry retries (retries && not true) (parked_ends l retries) refl kind (eqb-true (word_at w l) 3 full) _ refl only_after
     check_goes entry retries is false other s only_after = quiet w (put w t (Mutex l (Lock entry (retries && not false) (Leave false)))) t (Mutex l (Lock entry retries Check)) (Mutex l (Lock entry (retries && not false) (Leave false))) is
-        (moved_by w (Mutex l (Lock entry (retries && not false) (Leave false))) refl refl (λ k. refl) s) (λ k. refl) outcome.TheVariants.Step (λ k. refl) (λ h. cc) (λ r i. calling (entry_purpose l entry) l (is_bump entry) (unparked_goes_on l retries i) r) (λ same. tt)
+        (moved_by w (Mutex l (Lock entry (retries && not false) (Leave false))) refl refl refl (λ k. refl) s) (λ k. refl) outcome.TheVariants.Step (λ k. refl) (λ h. cc) (λ r i. calling (entry_purpose l entry) l (is_bump entry) (unparked_goes_on l retries i) r) (λ same. tt)
 
     leave_goes : (entry : Entry) (retries b : Bool) → place_at w t ≡ Mutex l (Lock entry retries (Leave b)) → IsSound (go_by w t (Mutex l (Lock entry retries (Leave b))) (lock_act l (Leave b)))
         → GoesOn (locks_of w) t (outcome_of (next_act (Mutex l (Lock entry retries (Leave b))) Done)) (locks_of (go_by w t (Mutex l (Lock entry retries (Leave b))) (lock_act l (Leave b))))
@@ -226,7 +227,7 @@ module _ (w : State) (t : ℕ) (shape : IsShaped w) (sound : IsSound w) (only : 
     accepted entries.Bump retries v stay own = (ap (λ x. x.exclusive) (stay l) ∙ own, λ k. ap (λ x. rights_of x t) (stay k))
 
     accept_goes : (entry : Entry) (retries : Bool) → place_at w t ≡ Mutex l (Lock entry retries Accept) → IsSound (put w t Idle) → GoesOn (locks_of w) t (outcome.TheVariants.End (entered entry)) (locks_of (put w t Idle))
-    accept_goes entry retries is s = quiet w (put w t Idle) t (Mutex l (Lock entry retries Accept)) Idle is (moved_by w Idle refl refl (λ k. refl) s) (λ k. refl) (outcome.TheVariants.End (entered entry)) (λ k. refl) (λ h. cc) (λ r. refl)
+    accept_goes entry retries is s = quiet w (put w t Idle) t (Mutex l (Lock entry retries Accept)) Idle is (moved_by w Idle refl refl refl (λ k. refl) s) (λ k. refl) (outcome.TheVariants.End (entered entry)) (λ k. refl) (λ h. cc) (λ r. refl)
         (λ stay. (accepted entry retries (put w t Idle) stay (sound.held t l (ap holds is)), taken_nobody (put w t Idle) t s (λ u k h. rw (get_or-set_same w.places t Idle Idle there) at h)))
 
     lock_goes : (entry : Entry) (retries : Bool) (a : LockAt) → place_at w t ≡ Mutex l (Lock entry retries a) → can_do w (lock_act l a) ≡ true → CallFits w (Mutex l (Lock entry retries a))
@@ -292,7 +293,7 @@ module _ (w : State) (t : ℕ) (shape : IsShaped w) (sound : IsSound w) (only : 
     none_goes p p2 is empty untaken called calls s = quiet w (put (record w { queues = first_taken w.queues (2 * l) }) t p2) t p p2 is (record {
       place = get_or-set_same w.places t p2 Idle there;
       others = λ u ne. same_place _ _ (get_or-set_other w.places t u p2 Idle ne);
-      threads = length-set w.places t p2;
+      shares = shares_kept w _ (length-set w.places t p2);
       queues = first_taken_same empty;
       kinds = λ k. refl;
       sound = s;
@@ -373,7 +374,7 @@ module _ (w : State) (t : ℕ) (shape : IsShaped w) (sound : IsSound w) (only : 
             | inl e ↦ rw (e, get_or-set_other (set w.places u (next_place (place_at w u) (Woken note.HandOff))) t u p2 Idle apart, get_or-set_same w.places u (next_place (place_at w u) (Woken note.HandOff)) Idle below, h.is) (record { calls = λ r. refl; taken = λ k. refl })
             | inr nu ↦ same_place _ _ (get_or-set_other (set w.places u _) t x p2 Idle nt ∙ get_or-set_other w.places u x _ Idle nu)
           ];
-          threads = length-set (set w.places u _) t _ ∙ length-set w.places u _;
+          shares = shares_kept w _ (length-set (set w.places u _) t _ ∙ length-set w.places u _);
           queues = λ key. refl;
           kinds = λ k. refl;
           sound = s;
@@ -417,9 +418,9 @@ module _ (w : State) (t : ℕ) (shape : IsShaped w) (sound : IsSound w) (only : 
   go_goes (Mutex l (HandOff bumps a)) is fits calls can s o = hand_off_goes l fits.0 calls.0 bumps a is fits.1 s o
 
   -- the place alone changes
-  placed : (b : State) (p p2 : Place) → b.places ≡ w.places → b.queues ≡ w.queues → b.locks ≡ w.locks → place_at w t ≡ p → ((k : ℕ) → taken_at p2 k ≡ taken_at p k) → IsSound (put b t p2)
+  placed : (b : State) (p p2 : Place) → b.places ≡ w.places → b.shares ≡ w.shares → b.queues ≡ w.queues → b.locks ≡ w.locks → place_at w t ≡ p → ((k : ℕ) → taken_at p2 k ≡ taken_at p k) → IsSound (put b t p2)
       → (c : CallState) → ((r : ℕ → Rights) → r ≡ rights w t → call_state p2 r ≡ c) → Stays (locks_of w) t c outcome.TheVariants.Step (locks_of (put b t p2))
-  placed b p p2 places queues locks is stays s c called = record {
+  placed b p p2 places shares queues locks is stays s c called = record {
     told = refl;
     locks = same_locks;
     calls = λ u. put_is (λ x. call_state (place_at w x) (rights w x)) t c u _
@@ -428,7 +429,7 @@ module _ (w : State) (t : ℕ) (shape : IsShaped w) (sound : IsSound w) (only : 
   }
     where
       moved : Moved w (put b t p2) t p2
-      moved = moved_by b p2 places queues (λ k. ap (λ (x : List WorldLock). (get_or x k (unlocked kind.TheVariants.Mutex)).kind) locks) s
+      moved = moved_by b p2 places shares queues (λ k. ap (λ (x : List WorldLock). (get_or x k (unlocked kind.TheVariants.Mutex)).kind) locks) s
 
       same_locks : (k : ℕ) → lock_state (put b t p2) k ≡ lock_state w k
       same_locks k = lock_same w (put b t p2) t p p2 is moved stays k (ap (λ (x : List WorldLock). (get_or x k (unlocked kind.TheVariants.Mutex)).owners) locks)
@@ -439,7 +440,7 @@ module _ (w : State) (t : ℕ) (shape : IsShaped w) (sound : IsSound w) (only : 
     where
       either : (b : Bool) → is_there (if b then Some l else None) ≡ true → IsSound (spun_on w t (if b then Some l else None))
           → Stays (locks_of w) t (call_state (Mutex l (Lock entry retries (Decide x))) (rights w t)) outcome.TheVariants.Step (locks_of (spun_on w t (if b then Some l else None)))
-      either true can s = placed w (Mutex l (Lock entry retries (Decide x))) (next_place (place_at w t) (Spun (word_at w l))) refl refl refl is (rw is (λ k. refl)) s _ (rw is (λ r e. rw e refl))
+      either true can s = placed w (Mutex l (Lock entry retries (Decide x))) (next_place (place_at w t) (Spun (word_at w l))) refl refl refl refl is (rw is (λ k. refl)) s _ (rw is (λ r e. rw e refl))
       either false can s = absurd cc
   spin_goes (Mutex l (Lock entry retries First)) is can s = absurd cc
   spin_goes (Mutex l (Lock entry retries a)) is can s = absurd cc
@@ -452,7 +453,7 @@ module _ (w : State) (t : ℕ) (shape : IsShaped w) (sound : IsSound w) (only : 
   late_goes : (p : Place) → place_at w t ≡ p → is_free_under w (late_key p) ≡ true → IsSound (late_on w t (late_key p))
       → Stays (locks_of w) t (record (call_state p (rights w t)) { late = true }) outcome.TheVariants.Step (locks_of (late_on w t (late_key p)))
   late_goes Idle is can s = absurd cc
-  late_goes (Mutex l (Lock entries.LockTimed retries Asleep)) is can s = placed (filled_with w (One (2 * l)) (Some t)) (Mutex l (Lock entries.LockTimed retries Asleep)) (next_place (place_at w t) reply.Late) refl refl refl is (rw is (λ k. refl)) s _ (rw is (λ r e. rw e refl))
+  late_goes (Mutex l (Lock entries.LockTimed retries Asleep)) is can s = placed (filled_with w (One (2 * l)) (Some t)) (Mutex l (Lock entries.LockTimed retries Asleep)) (next_place (place_at w t) reply.Late) refl refl refl refl is (rw is (λ k. refl)) s _ (rw is (λ r e. rw e refl))
   late_goes (Mutex l (Lock entries.Lock retries Asleep)) is can s = absurd cc
   late_goes (Mutex l (Lock entries.Bump retries Asleep)) is can s = absurd cc
   late_goes (Mutex l (Lock entry retries First)) is can s = absurd cc
@@ -559,7 +560,7 @@ begin_goes w t (call.TheVariants.Mutex l c) there can s = (
     unchanged k = lock_same w (begun w t (call.TheVariants.Mutex l c)) t Idle (Mutex l (mutex_first (is_fair (kind_at w l)) c)) idle (record {
       place = get_or-set_same w.places t (Mutex l (mutex_first (is_fair (kind_at w l)) c)) Idle there;
       others = λ u ne. same_place _ _ (get_or-set_other w.places t u (Mutex l (mutex_first (is_fair (kind_at w l)) c)) Idle ne);
-      threads = length-set w.places t (Mutex l (mutex_first (is_fair (kind_at w l)) c));
+      shares = shares_kept w _ (length-set w.places t (Mutex l (mutex_first (is_fair (kind_at w l)) c)));
       queues = λ key. refl;
       kinds = λ x. refl;
       sound = s;
@@ -591,7 +592,7 @@ module _ (w : State) (t : ℕ) (shape : IsShaped w) (sound : IsSound w) (only : 
   turned_does (turn.TheVariants.Begin c) can s o = begin_goes w t c there can s
   turned_does turn.TheVariants.Go can s o = (may_go w t can, go_goes w t shape sound only there (place_at w t) refl (shape.places t) (only.calls t) can s o)
   turned_does turn.TheVariants.Spin can s o = (can, spin_goes w t shape sound only there (place_at w t) refl can s)
-  turned_does turn.TheVariants.Late can s o = (may_be_late w t sound only can, late_goes w t shape sound only there (place_at w t) refl can s)
+  turned_does turn.TheVariants.Late can s o = (may_be_late w t sound.steady can, late_goes w t shape sound only there (place_at w t) refl can s)
   turned_does turn.TheVariants.Ok can s o = absurd cc
   turned_does turn.TheVariants.Err can s o = absurd cc
 
@@ -601,7 +602,7 @@ module _ (w : State) (t : ℕ) (sound : IsSound w) (only : OnlyMutexes w) where
   possible (turn.TheVariants.Begin c) may = begin_possible w t c may
   possible turn.TheVariants.Go may = go_possible w t may
   possible turn.TheVariants.Spin may = may
-  possible turn.TheVariants.Late may = late_possible w t sound only may
+  possible turn.TheVariants.Late may = late_possible w t sound.steady may
   possible turn.TheVariants.Ok may = absurd (no_closure w t may)
   possible turn.TheVariants.Err may = absurd (no_closure w t may)
 
@@ -613,7 +614,7 @@ module _ (w : State) (t : ℕ) (sound : IsSound w) (only : OnlyMutexes w) where
 module _ (w : State) (t : ℕ) (shape : IsShaped w) (sound : IsSound w) (there : t < length w.places) where
   turned_sections : (x : Turn) → can_turn w t x ≡ true → (key : ℕ) → SectionChanges (section_at w key) t (section_at (turned w t x) key)
   turned_sections (turn.TheVariants.Begin c) can key = inl refl
-  turned_sections turn.TheVariants.Go can key = gone_sections w t shape sound can key
+  turned_sections turn.TheVariants.Go can key = gone_sections w t shape sound.steady can key
   turned_sections turn.TheVariants.Spin can key = inl (spun_sections w t (spin_lock (place_at w t)) key)
   turned_sections turn.TheVariants.Late can key = late_sections w t shape (place_at w t) refl (shape.places t) can key
   turned_sections turn.TheVariants.Ok can key = absurd cc
@@ -631,9 +632,15 @@ module _ (w : State) (t : ℕ) (shape : IsShaped w) (sound : IsSound w) (there :
   turned_told turn.TheVariants.Ok can = absurd cc
   turned_told turn.TheVariants.Err can = absurd cc
 
-pub after_step : (w : State) (s : Step) → IsShaped w → IsSound w → OnlyMutexes w → IsStep (locks_of w) s (answered w s) (locks_of (after w s))
-after_step w s shape sound only = (record { threads = size.threads; size = size.locks; kinds = after_kinds w s; sections = sections (is_possible w s) refl; told = told (is_possible w s) refl }, either (is_possible w s) refl (after_sound w s shape sound) (after_only w s only))
+pub after_step : (w : State) (s : Step) → IsShaped w → IsSteady w → IsStep (locks_of w) s (answered w s) (locks_of (after w s))
+after_step w s shape steady = (record { threads = size.threads; size = size.locks; kinds = after_kinds w s; sections = sections (is_possible w s) refl; told = told (is_possible w s) refl }, either (is_possible w s) refl (after_sound w s shape sound) (after_only w s only))
   where
+    sound : IsSound w
+    sound = sound_of w steady
+
+    only : OnlyMutexes w
+    only = only_of w shape steady
+
     size : SameSize w (after w s)
     size = after_size w s
 

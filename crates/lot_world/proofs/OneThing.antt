@@ -33,11 +33,15 @@ use Rattle.lot_steps.specs.MutexSteps.{is_locked, lock_act, unlock_act, hand_off
 use Rattle.lot_calls.specs.Calls.{lock_in}
 use Rattle.lot_steps.specs.Steps.{act_of, next_place, first_place, spin_lock, late_key}
 use Rattle.lot_world.specs.Machine.{State, unlocked, place_at, word_at, queue_at, section_at, put, operated, filled_with, appended, removed, first_taken, taken_by, awakened, performed, spun_on, late_on, go_reply, turned, is_possible, after, kind_at}
-use Rattle.lot_world.specs.Sound.{IsSound, inside, queued, one_if}
+use Rattle.abstract_locks.specs.Sites.{Main}
+use Rattle.lot_steps.specs.declared.mutex.MutexPlace.{MutexPlace}
+use Rattle.lot_world.specs.MutexDeeds.{mutex_doing, station_at}
+use Rattle.lot_world.specs.SitesOf.{IsSteady, stood_in}
+use Rattle.lot_world.proofs.Glue.{station_elsewhere}
+use Rattle.lot_world.proofs.AtPlaces.{absent_aside, holds_section}
 use Rattle.lot_world.proofs.Counts.{without_absent}
 use Rattle.lot_world.specs.Refinement.{ChangesOneThing}
 use Rattle.lot_world.specs.WorldRuns.{IsUntouched, TouchesOnlyByGoing}
-use Rattle.lot_world.specs.OnlyMutexes.{OnlyMutexes}
 
 -- each key is a main one or one of waiters aside
 parity : (n : ℕ) → ((k : ℕ) × (n ≡ 2 * k)) ⊎ ((k : ℕ) × (n ≡ 2 * k + 1))
@@ -69,7 +73,7 @@ put_one : (w v : State) (t u : ℕ) (p : Place) → ChangesOneThing w t v → Ch
 put_one w v t u p (inl h) = inl h
 put_one w v t u p (inr h) = inr h
 
-module _ (w : State) (t : ℕ) (sound : IsSound w) (only : OnlyMutexes w) where
+module _ (w : State) (t : ℕ) (steady : IsSteady w) where
   word_one : (p : Place) (l : ℕ) (f : op.Op) → ChangesOneThing w t (operated w t p l f)
   word_one p l f = inl (l, (λ k ne. ap (λ x. x.word) (get_or-set_other w.locks l k _ (unlocked kind.TheVariants.Mutex) ne)), λ key. refl)
 
@@ -82,43 +86,43 @@ module _ (w : State) (t : ℕ) (sound : IsSound w) (only : OnlyMutexes w) where
   left_one : (keys : Keys) (x : Wakes) → ChangesOneThing w t (awakened (filled_with w keys None) x)
   left_one keys x = same_one w (awakened (filled_with w keys None) x) t (left_same w keys x)
 
-  held_by : (l : ℕ) → inside (place_at w t) ≡ Some l → section_at w (2 * l) ≡ Some t
-  held_by l h = (sound.sections t l).0 h
-
   -- where a thread leaves the queues in which it stands, others are as they were
-  removed_at : (l : ℕ) → inside (place_at w t) ≡ Some l → ((k : ℕ) → k ≢ l → one_if (queued (place_at w t)) k ≡ 0) → (key : ℕ) → (get_or (map (without t) w.queues) key [] ≡ queue_at w key) ⊎ (section_at w key ≡ Some t)
-  removed_at l within nowhere key = elim (parity key) [
+  removed_at : (l : ℕ) (at : MutexPlace) → place_at w t ≡ Mutex l at → section_at w (2 * l) ≡ Some t → (key : ℕ) → (get_or (map (without t) w.queues) key [] ≡ queue_at w key) ⊎ (section_at w key ≡ Some t)
+  removed_at l at is held key = elim (parity key) [
     | inl h ↦ elim (cases_eq h.0 l) [
-      | inl e ↦ inr (rw (h.1, e) (held_by l within))
-      | inr ne ↦ inl (rw h.1 (get_or-map (without t) w.queues (2 * h.0) [] ∙ without_absent t (queue_at w (2 * h.0)) (sound.queues t h.0 ∙ nowhere h.0 ne)))
+      | inl e ↦ inr (rw (h.1, e) held)
+      | inr ne ↦ inl (rw h.1 (get_or-map (without t) w.queues (2 * h.0) [] ∙ without_absent t (queue_at w (2 * h.0)) (steady.stands.lines t h.0 Main ∙ elsewhere h.0 ne)))
     ]
-    | inr h ↦ inl (rw h.1 (get_or-map (without t) w.queues (2 * h.0 + 1) [] ∙ ap (without t) (only.aside h.0) ∙ sym (only.aside h.0)))
+    | inr h ↦ inl (rw h.1 (get_or-map (without t) w.queues (2 * h.0 + 1) [] ∙ without_absent t (queue_at w (2 * h.0 + 1)) (absent_aside w steady t h.0)))
   ]
+    where
+      elsewhere : (k : ℕ) → k ≢ l → stood_in (station_at (place_at w t) k).stands Main ≡ 0
+      elsewhere k ne = ap (λ x. stood_in x.stands Main) (station_elsewhere l k (place_at w t) (rw is refl) ne)
 
   -- a queue is set whose section the thread is in
-  set_at : (l : ℕ) (queues : List (List _)) (q : List _) → inside (place_at w t) ≡ Some l → ((key : ℕ) → (get_or queues key [] ≡ queue_at w key) ⊎ (section_at w key ≡ Some t))
+  set_at : (l : ℕ) (queues : List (List _)) (q : List _) → section_at w (2 * l) ≡ Some t → ((key : ℕ) → (get_or queues key [] ≡ queue_at w key) ⊎ (section_at w key ≡ Some t))
       → (key : ℕ) → (get_or (set queues (2 * l) q) key [] ≡ queue_at w key) ⊎ (section_at w key ≡ Some t)
-  set_at l queues q within others key = elim (cases_eq key (2 * l)) [
-    | inl e ↦ inr (rw e (held_by l within))
+  set_at l queues q held others key = elim (cases_eq key (2 * l)) [
+    | inl e ↦ inr (rw e held)
     | inr ne ↦ elim (others key) [
       | inl h ↦ inl (get_or-set_other queues (2 * l) key q [] ne ∙ h)
       | inr h ↦ inr h
     ]
   ]
 
+  inside : (l : ℕ) (at : MutexPlace) → place_at w t ≡ Mutex l at → (mutex_doing at).inside ≡ Some Main → section_at w (2 * l) ≡ Some t
+  inside l at is h = holds_section w steady t l at is h
+
   check_one : (l : ℕ) (entry : Entry) (retries : Bool) → place_at w t ≡ Mutex l (Lock entry retries Check) → (b : Bool) → ChangesOneThing w t (if b then record w { queues = appended w.queues (2 * l) t Exclusive } else w)
   check_one l entry retries is false = stays
-  check_one l entry retries is true = inr ((λ k. refl), set_at l (map (without t) w.queues) (get_or (map (without t) w.queues) (2 * l) [] ++ waiter (2 * l) t Exclusive ∷ []) (rw is refl) (removed_at l (rw is refl) (rw is (λ k ne. refl))))
+  check_one l entry retries is true = inr ((λ k. refl), set_at l (map (without t) w.queues) (get_or (map (without t) w.queues) (2 * l) [] ++ waiter (2 * l) t Exclusive ∷ []) (inside l (Lock entry retries Check) is refl) (removed_at l (Lock entry retries Check) is (inside l (Lock entry retries Check) is refl)))
 
-  take_one : (l : ℕ) → inside (place_at w t) ≡ Some l → (o : Option ℕ) → ChangesOneThing w t (taken_by (record w { queues = first_taken w.queues (2 * l) }) t o)
-  take_one l within None = inr ((λ k. refl), set_at l w.queues (drop 1 (queue_at w (2 * l))) within (λ key. inl refl))
-  take_one l within (Some u) = inr ((λ k. refl), set_at l w.queues (drop 1 (queue_at w (2 * l))) within (λ key. inl refl))
+  take_one : (l : ℕ) → section_at w (2 * l) ≡ Some t → (o : Option ℕ) → ChangesOneThing w t (taken_by (record w { queues = first_taken w.queues (2 * l) }) t o)
+  take_one l held None = inr ((λ k. refl), set_at l w.queues (drop 1 (queue_at w (2 * l))) held (λ key. inl refl))
+  take_one l held (Some u) = inr ((λ k. refl), set_at l w.queues (drop 1 (queue_at w (2 * l))) held (λ key. inl refl))
 
   remove_one : (l : ℕ) (entry : Entry) (retries : Bool) → place_at w t ≡ Mutex l (Lock entry retries Remove) → ChangesOneThing w t (record w { queues = removed w.queues t })
-  remove_one l entry retries is = inr ((λ k. refl), removed_at l (rw is refl) (rw is (λ k ne. one_if_other k ne)))
-    where
-      one_if_other : (k : ℕ) → k ≢ l → one_if (Some l) k ≡ 0
-      one_if_other k ne = grind (arith, nat_tests)
+  remove_one l entry retries is = inr ((λ k. refl), removed_at l (Lock entry retries Remove) is (inside l (Lock entry retries Remove) is refl))
 
   decided_one : (l : ℕ) (entry : Entry) (retries : Bool) (s : ℕ) (a b : Bool) → ChangesOneThing w t (performed w t (Mutex l (Lock entry retries (Decide s))) (if not a then act.TheVariants.Word l (op.TheVariants.Exchange s (s + 1)) else if b then act.TheVariants.Word l (op.TheVariants.Exchange 1 3) else act.TheVariants.Enter (One (2 * l))))
   decided_one l entry retries s false b = word_one (Mutex l (Lock entry retries (Decide s))) l (op.TheVariants.Exchange s (s + 1))
@@ -142,14 +146,14 @@ module _ (w : State) (t : ℕ) (sound : IsSound w) (only : OnlyMutexes w) where
   unlock_one : (l : ℕ) (a : UnlockAt) → place_at w t ≡ Mutex l (Unlock a) → ChangesOneThing w t (performed w t (Mutex l (Unlock a)) (unlock_act l a))
   unlock_one l unlock.Subtract is = word_one (Mutex l (Unlock unlock.Subtract)) l (op.TheVariants.Sub 1)
   unlock_one l unlock.Enter is = filled_one (One (2 * l)) (Some t)
-  unlock_one l unlock.Take is = take_one l (rw is refl) (first_of (queue_at w (2 * l)))
+  unlock_one l unlock.Take is = take_one l (inside l (Unlock unlock.Take) is refl) (first_of (queue_at w (2 * l)))
   unlock_one l (unlock.Clear taken) is = word_one (Mutex l (Unlock (unlock.Clear taken))) l (op.TheVariants.And NOT_PARKED)
   unlock_one l (unlock.Leave None) is = left_one (One (2 * l)) wakes.TheVariants.Nobody
   unlock_one l (unlock.Leave (Some u)) is = left_one (One (2 * l)) (wakes.TheVariants.One u note.Normal)
 
   hand_off_one : (l : ℕ) (bumps : Bool) (a : HandOffAt) → place_at w t ≡ Mutex l (HandOff bumps a) → ChangesOneThing w t (performed w t (Mutex l (HandOff bumps a)) (hand_off_act l a))
   hand_off_one l bumps hand_off.Enter is = filled_one (One (2 * l)) (Some t)
-  hand_off_one l bumps hand_off.Take is = take_one l (rw is refl) (first_of (queue_at w (2 * l)))
+  hand_off_one l bumps hand_off.Take is = take_one l (inside l (HandOff bumps hand_off.Take) is refl) (first_of (queue_at w (2 * l)))
   hand_off_one l bumps (hand_off.Store None none_left) is = word_one (Mutex l (HandOff bumps (hand_off.Store None none_left))) l (op.TheVariants.Store 0)
   hand_off_one l bumps (hand_off.Store (Some u) none_left) is = put_one w (operated w t (Mutex l (HandOff bumps (hand_off.Store (Some u) none_left))) l (op.TheVariants.Store (hand_off_word (Some u) none_left))) t u (next_place (place_at w u) (HandedBy t))
       (word_one (Mutex l (HandOff bumps (hand_off.Store (Some u) none_left))) l (op.TheVariants.Store (hand_off_word (Some u) none_left)))
@@ -180,11 +184,11 @@ module _ (w : State) (t : ℕ) (sound : IsSound w) (only : OnlyMutexes w) where
   turned_one turn.TheVariants.Late = late_one (late_key (place_at w t))
   turned_one x = stays
 
-pub one_thing : (w : State) (s : Step) → IsSound w → OnlyMutexes w → ChangesOneThing w s.thread (after w s)
-one_thing w s sound only = either (is_possible w s)
+pub one_thing : (w : State) (s : Step) → IsSteady w → ChangesOneThing w s.thread (after w s)
+one_thing w s steady = either (is_possible w s)
   where
     either : (b : Bool) → ChangesOneThing w s.thread (if b then turned w s.thread s.turn else w)
-    either true = turned_one w s.thread sound only s.turn
+    either true = turned_one w s.thread steady s.turn
     either false = same_one w w s.thread (λ k. refl, λ key. refl)
 
 -- ---------------------------------------------------------------- turns that touch nothing

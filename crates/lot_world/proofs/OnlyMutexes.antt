@@ -15,7 +15,8 @@ use Rattle.abstract_locks.specs.Sites.{IsSite, Line, Main, Second}
 use Rattle.lot_world.specs.Machine.{State, place_at, queue_at, after}
 use Rattle.lot_world.specs.Fits.{IsShaped, PlaceFits}
 use Rattle.lot_world.specs.MutexDeeds.{mutex_station, nowhere, station_at}
-use Rattle.lot_world.specs.SitesOf.{IsSteady, CallsMutex, stood_in, site_of}
+use Rattle.lot_world.specs.SitesOf.{IsSteady, CallsMutex, stood_in}
+use Rattle.lot_world.proofs.SitesKept.{lock_by}
 use Rattle.lot_world.specs.OnlyMutexes.{AllExclusive, CallFits, OnlyMutexes}
 use Rattle.lot_world.proofs.Glue.{same}
 use Rattle.lot_world.proofs.MutexTable.{mutex, queued_times}
@@ -69,7 +70,7 @@ only_of w shape s = record {
         let one : ◌≡◌ {A = ℕ} (if x.thread == x.thread then 1 else 0) 1 = ap (λ (c : Bool). if c then 1 else 0) (same x.thread) in
         let stood : 1 ≤ times x.thread (x ∷ q) = omega arith in
         let waits : 1 ≤ locks.times x.thread (map queued_of (queue_at w (2 * l))) = subst (λ n. 1 ≤ n) (sym (queued_times x.thread (queue_at w (2 * l)) ∙ ap (times x.thread) e)) stood in
-        let site : IsSite mutex (site_of w l) = rw (rules_waited w s x.thread l waits) at (s.sites.site l) in
+        let site : IsSite mutex (lock_by w l mutex) = subst (λ r. IsSite r (lock_by w l r)) (rules_waited w s x.thread l waits) (s.sites.site l) in
         all_exclusive (x ∷ q) (subst (λ (y : List Waiter). KnowsAll locks.Mutex (map queued_of y)) e site.state.known_queue)
 
     fits : (p : Place) → CallsMutex w p → PlaceFits (length w.places) (length w.locks) p → CallFits w p

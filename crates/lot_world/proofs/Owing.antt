@@ -45,17 +45,18 @@ use Rattle.lot_calls.specs.Kinds.{is_fair}
 use Rattle.lot_calls.specs.Calls.{lock_in}
 use Rattle.lot_steps.specs.Steps.{act_of, owes_on, next_act, next_place, mutex_goes, mutex_does, first_place, is_idle, spin_lock, late_key}
 use Rattle.lot_world.specs.Machine.{State, place_at, section_at, word_at, first_taken, taken_by, awakened, filled_with, queue_at, performed, gone, go_reply, go_outcome, is_there, is_free_under, is_open_to, can_begin, begun, can_turn, turn_outcome, kind_at, reply_to, put, spun_on, late_on, turned, is_possible, after, answered}
-use Rattle.lot_world.specs.Refinement.{call_state, locks_of}
+use Rattle.lot_world.specs.Refinement.{owner_at, call_state, locks_of}
 use Rattle.abstract_locks.specs.Locks.{Rights}
 use Rattle.abstract_locks.specs.Purposes.{IsReleasing}
 use Rattle.lot_world.specs.Owing.{Owes, IsInside, SeesWaiters, OwesSince}
 use Rattle.lot_world.specs.Fits.{IsShaped}
 use Rattle.lot_world.specs.Promises.{Codes, IsKept, GoesToWake}
-use Rattle.lot_world.specs.Sound.{IsSound, owner_at}
-use Rattle.lot_world.specs.Sound as sounds
+use Rattle.lot_world.specs.SitesOf.{IsSteady}
 use Rattle.lot_world.proofs.Shape.{both, performed_counts}
-use Rattle.lot_world.proofs.Steady.{idle_is}
-use Rattle.lot_world.proofs.LockEvents.{same, rights as rights_at}
+use Rattle.lot_world.proofs.TurnsKept.{idle_is}
+use Rattle.lot_world.proofs.Glue.{same}
+use Rattle.lot_world.proofs.AtPlaces.{coded, owns}
+use Rattle.lot_world.proofs.LockEvents.{rights as rights_at}
 
 -- ---------------------------------------------------------------- what befalls another thread
 
@@ -192,10 +193,10 @@ entering_lock l k e r (next.End a) rights h = h
 same_lock : (k l : ℕ) → k ≡ l → (true && (k == l)) ≡ true
 same_lock k l e = rw e (same l)
 
-module _ (w : State) (t : ℕ) (sound : IsSound w) where
+module _ (w : State) (t : ℕ) (steady : IsSteady w) where
   -- the word of an owner that isn't 1 says that somebody may wait
   beside_owner : (k : ℕ) → owner_at w k ≡ Some t → (word_at w k == 1) ≡ false → is_parked (word_at w k) ≡ true
-  beside_owner k own ne = by_code (subst (λ o. Codes (word_at w k) o) own (sound.codes k))
+  beside_owner k own ne = by_code (subst (λ o. Codes (word_at w k) o) own (coded w steady k))
     where
       by_code : Codes (word_at w k) (Some t) → is_parked (word_at w k) ≡ true
       by_code (inl e) = let f : (1 == 1) ≡ false = rw e at ne in absurd cc
@@ -247,7 +248,7 @@ module _ (w : State) (t : ℕ) (sound : IsSound w) where
       where
         either : (b : Bool) → (word_at w k == 1) ≡ b → ToWake (mutex_goes k (looked false (not b))) rights l → SeesWaiters w t l (outcome_of (mutex_does k (looked false (not b))))
         either true e h = absurd h.1
-        either false e h = (rw is h.1, ap (λ m. is_parked (word_at w m)) (sym h.1) ∙ beside_owner k (sound.held t k (ap sounds.holds is)) e, refl)
+        either false e h = (rw is h.1, ap (λ m. is_parked (word_at w m)) (sym h.1) ∙ beside_owner k (owns w steady t k UnlockFair is refl) e, refl)
     goes_to_wake (Mutex k Bump) is h = either (is_parked (word_at w k)) refl h
       where
         either : (b : Bool) → is_parked (word_at w k) ≡ b → ToWake (mutex_goes k (looked true b)) rights l → SeesWaiters w t l (outcome_of (mutex_does k (looked true b)))
@@ -306,7 +307,7 @@ module _ (w v : State) (t : ℕ) (there : t < length w.places) where
 no_waker : (w : State) (t l k : ℕ) (e : Entry) (r : Bool) (a : LockAt) → place_at w t ≡ Mutex k (Lock e r a) → IsReleasing ((locks_of w).calls t).purpose ((locks_of w).calls t).released l → ⊥
 no_waker w t l k e r a is h = entering_lock k l e r (next.At a) (rights_at w t) (subst (λ p. IsReleasing (call_state p (rights_at w t)).purpose (call_state p (rights_at w t)).released l) is h)
 
-module _ (w : State) (t : ℕ) (shape : IsShaped w) (sound : IsSound w) (there : t < length w.places) where
+module _ (w : State) (t : ℕ) (shape : IsShaped w) (steady : IsSteady w) (there : t < length w.places) where
   go_place : place_at (gone w t) t ≡ next_place (place_at w t) (go_reply w t)
   go_place = get_or-set_same (performed w t (place_at w t) (act_of (place_at w t))).places t _ Idle (rw ((performed_counts w t (place_at w t) (act_of (place_at w t))).0) there)
 
@@ -314,11 +315,11 @@ module _ (w : State) (t : ℕ) (shape : IsShaped w) (sound : IsSound w) (there :
   go_owes l kept = (
     λ h. elim ((kept.owing t l).0 h) [
       | inl i ↦ inl i
-      | inr g ↦ inr (goes_to_wake w t sound (rights_at (gone w t) t) l (place_at w t) refl (subst (λ p. ToWake p (rights_at (gone w t) t) l) go_place g))
+      | inr g ↦ inr (goes_to_wake w t steady (rights_at (gone w t) t) l (place_at w t) refl (subst (λ p. ToWake p (rights_at (gone w t) t) l) go_place g))
     ],
     λ h. elim h [
       | inl i ↦ (kept.owing t l).1 (inl i)
-      | inr s ↦ ap (λ p. owes_on p l) go_place ∙ saw w t sound l (place_at w t) s.0 s.1 s.2
+      | inr s ↦ ap (λ p. owes_on p l) go_place ∙ saw w t steady l (place_at w t) s.0 s.1 s.2
     ],
   )
 
@@ -375,22 +376,22 @@ module _ (w : State) (t : ℕ) (there : t < length w.places) where
       (λ x. let idle : place_at w t ≡ Idle = idle_is (place_at w t) (both (is_idle (place_at w t)) (is_open_to w t c) can).0 in
       let none : IsReleasing (call_state Idle (rights_at w t)).purpose (call_state Idle (rights_at w t)).released l = subst (λ p. IsReleasing (call_state p (rights_at w t)).purpose (call_state p (rights_at w t)).released l) idle x.0 in none)
 
-module _ (w : State) (t : ℕ) (shape : IsShaped w) (sound : IsSound w) (there : t < length w.places) where
+module _ (w : State) (t : ℕ) (shape : IsShaped w) (steady : IsSteady w) (there : t < length w.places) where
   turned_owing : (x : Turn) → can_turn w t x ≡ true → (l : ℕ) → IsKept (turned w t x) → Owes (turned w t x) t l ↔ (IsInside (turned w t x) t l ⊎ SeesWaiters w t l (turn_outcome w t x))
   turned_owing (turn.TheVariants.Begin c) can l kept = begun_owing w t there c can l outcome.TheVariants.Step kept
-  turned_owing turn.TheVariants.Go can l kept = go_owes w t shape sound there l kept
+  turned_owing turn.TheVariants.Go can l kept = go_owes w t shape steady there l kept
   turned_owing turn.TheVariants.Spin can l kept = spun_owing w t there (place_at w t) refl can l outcome.TheVariants.Step kept
   turned_owing turn.TheVariants.Late can l kept = late_owing w t there (place_at w t) refl can l outcome.TheVariants.Step kept
   turned_owing turn.TheVariants.Ok can l kept = absurd cc
   turned_owing turn.TheVariants.Err can l kept = absurd cc
 
-pub owes_since : (w : State) (s : Step) → IsShaped w → IsSound w → IsKept (after w s) → OwesSince w s.thread (answered w s) (after w s)
-owes_since w s shape sound kept = record {
+pub owes_since : (w : State) (s : Step) → IsShaped w → IsSteady w → IsKept (after w s) → OwesSince w s.thread (answered w s) (after w s)
+owes_since w s shape steady kept = record {
   own = own (is_possible w s) refl kept;
   others = λ u l ne. ((λ h. sym (others_owe w s u l ne) ∙ h), λ h. others_owe w s u l ne ∙ h);
 }
   where
     own : (b : Bool) → is_possible w s ≡ b → IsKept (if b then turned w s.thread s.turn else w) → (l : ℕ) → (if b then turn_outcome w s.thread s.turn else outcome.TheVariants.NotNow) ≢ outcome.TheVariants.NotNow
         → Owes (if b then turned w s.thread s.turn else w) s.thread l ↔ (IsInside (if b then turned w s.thread s.turn else w) s.thread l ⊎ SeesWaiters w s.thread l (if b then turn_outcome w s.thread s.turn else outcome.TheVariants.NotNow))
-    own true can kept l ne = let h = both (nat_lt s.thread (length w.places)) (can_turn w s.thread s.turn) can in turned_owing w s.thread shape sound (ltb-true s.thread (length w.places) h.0) s.turn h.1 l kept
+    own true can kept l ne = let h = both (nat_lt s.thread (length w.places)) (can_turn w s.thread s.turn) can in turned_owing w s.thread shape steady (ltb-true s.thread (length w.places) h.0) s.turn h.1 l kept
     own false cannot kept l ne = absurd (ne refl)

@@ -40,11 +40,14 @@ use Rattle.lot_steps.specs.Steps.{act_of, next_place, next_act, mutex_goes, mute
 use Rattle.lot_world.specs.Machine.{State, place_at, queue_at, section_at, is_there, can_do, can_go, is_free_under, word_at, filled_with, first_taken, taken_by, awakened, performed, gone, spun_on, late_on}
 use Rattle.lot_world.specs.Fits.{IsShaped, PlaceFits}
 use Rattle.lot_world.proofs.Shape.{main_key_there}
-use Rattle.lot_world.specs.Sound.{IsSound, inside, queued, one_if}
-use Rattle.lot_world.specs.OnlyMutexes.{OnlyMutexes}
+use Rattle.abstract_locks.specs.Sites.{Main}
+use Rattle.lot_world.specs.MutexDeeds.{mutex_doing, station, station_at}
+use Rattle.lot_world.specs.SitesOf.{IsSteady, stood_in}
 use Rattle.lot_world.specs.Refinement.{lock_state, locks_of, call_state, sleeps, runs_closure, keys_entered}
-use Rattle.lot_world.proofs.Steady.{none_is}
-use Rattle.lot_world.proofs.LockEvents.{queued_times, rights, same}
+use Rattle.lot_world.proofs.Glue.{nothing_at, same}
+use Rattle.lot_world.proofs.GoneKept.{none_is}
+use Rattle.lot_world.proofs.AtPlaces.{queued_by, not_first_aside, holds_section}
+use Rattle.lot_world.proofs.LockEvents.{rights}
 use Rattle.abstract_locks.specs.Locks.{Rights}
 use Rattle.abstract_locks.specs.Locks as locks
 use Rattle.abstract_locks.specs.Runs.{AreFree, MayGo, MayBeLate, MayTurn, IsTimed, StandsFreely, SectionChanges}
@@ -123,23 +126,17 @@ decides_awake l s false b = refl
 decides_awake l s true true = refl
 decides_awake l s true false = refl
 
-module _ (w : State) (t : ℕ) (sound : IsSound w) (only : OnlyMutexes w) where
+module _ (w : State) (t : ℕ) (steady : IsSteady w) where
   -- how often the thread stands in the queue of a lock, by its place
-  stands_by : (p : Place) → place_at w t ≡ p → (l : ℕ) → locks.times t (lock_state w l).queue ≡ one_if (queued p) l
-  stands_by p is l = queued_times t (queue_at w (2 * l)) ∙ sound.queues t l ∙ ap (λ x. one_if (queued x) l) is
-
-  stands_here : (k : ℕ) → one_if (Some k) k ≡ 1
-  stands_here k = ap (λ b. if b then 1 else 0) (same k)
-
-  none_aside : (l : ℕ) → (lock_state w l).aside ≡ None
-  none_aside l = ap first_of (only.aside l)
+  stands_by : (p : Place) → place_at w t ≡ p → (l : ℕ) → locks.times t (lock_state w l).queue ≡ stood_in (station_at p l).stands Main
+  stands_by p is l = queued_by w steady t l ∙ ap (λ x. stood_in (station_at x l).stands Main) is
 
   late_there : (p : Place) → place_at w t ≡ p → is_free_under w (late_key p) ≡ true → MayBeLate (locks_of w) t
   late_there (Mutex l (Lock entries.LockTimed r lock.Asleep)) is can = record {
     lock = l;
     timed = rw is (refl, refl);
     asleep = rw is refl;
-    stands = inl (rw (stands_by (Mutex l (Lock entries.LockTimed r lock.Asleep)) is l, stands_here l) (omega arith), none_is (section_at w (2 * l)) can);
+    stands = inl (rw (stands_by (Mutex l (Lock entries.LockTimed r lock.Asleep)) is l, same l) (omega arith), none_is (section_at w (2 * l)) can);
   }
   late_there Idle is can = absurd cc
   late_there (Mutex l (Lock entries.Lock r lock.Asleep)) is can = absurd cc
@@ -157,11 +154,11 @@ module _ (w : State) (t : ℕ) (sound : IsSound w) (only : OnlyMutexes w) where
 
   free_there : (l k : ℕ) → k ≡ l → StandsFreely (locks_of w) t l → is_none (section_at w (2 * k)) ≡ true
   free_there l k e (inl h) = rw (e, h.1) refl
-  free_there l k e (inr h) = let none : (lock_state w l).aside ≡ None = none_aside l in absurd (let g : None ≡ Some t = sym none ∙ h.0 in cc)
+  free_there l k e (inr h) = absurd (not_first_aside w steady t l h.0)
 
-  nowhere : (p : Place) → place_at w t ≡ p → queued p ≡ None → (l : ℕ) → StandsFreely (locks_of w) t l → ⊥
-  nowhere p is none l (inl h) = let zero_times : locks.times t (lock_state w l).queue ≡ 0 = stands_by p is l ∙ ap (λ o. one_if o l) none in let one : 1 ≤ locks.times t (lock_state w l).queue = h.0 in omega arith
-  nowhere p is none l (inr h) = let aside : (lock_state w l).aside ≡ None = none_aside l in let g : None ≡ Some t = sym aside ∙ h.0 in cc
+  nowhere : (p : Place) → place_at w t ≡ p → (station p).stands ≡ None → (l : ℕ) → StandsFreely (locks_of w) t l → ⊥
+  nowhere p is none l (inl h) = let zero_times : locks.times t (lock_state w l).queue ≡ 0 = stands_by p is l ∙ ap (λ x. stood_in x Main) (nothing_at p l (λ x. x.stands) refl none) in let one : 1 ≤ locks.times t (lock_state w l).queue = h.0 in omega arith
+  nowhere p is none l (inr h) = not_first_aside w steady t l h.0
 
   late_by : (p : Place) → place_at w t ≡ p → (r : ℕ → Rights) (l : ℕ) → IsTimed (call_state p r).purpose l → sleeps (act_of p) ≡ true → StandsFreely (locks_of w) t l → is_free_under w (late_key p) ≡ true
   late_by Idle is r l timed asleep stands = absurd timed
@@ -281,9 +278,9 @@ decides_main w t l s false b = tt
 decides_main w t l s true true = tt
 decides_main w t l s true false = refl
 
-module _ (w : State) (t : ℕ) (sound : IsSound w) where
-  held : (p : Place) (l : ℕ) → place_at w t ≡ p → inside p ≡ Some l → (2 * l ≡ 2 * l) × (section_at w (2 * l) ≡ Some t)
-  held p l is within = (refl, (sound.sections t l).0 (ap inside is ∙ within))
+module _ (w : State) (t : ℕ) (steady : IsSteady w) where
+  held : (at : MutexPlace) (l : ℕ) → place_at w t ≡ Mutex l at → (mutex_doing at).inside ≡ Some Main → (2 * l ≡ 2 * l) × (section_at w (2 * l) ≡ Some t)
+  held at l is within = (refl, holds_section w steady t l at is within)
 
   on_main : (l : ℕ) (at : MutexPlace) → place_at w t ≡ Mutex l at → OnMain w t l (mutex_act l at)
   on_main l (Lock e r lock.First) is = tt
@@ -334,12 +331,12 @@ module _ (w : State) (t : ℕ) where
   act_sections p l lt Rest can main key = inl refl
   act_sections p l lt a can main key = inl refl
 
-pub gone_sections : (w : State) (t : ℕ) → IsShaped w → IsSound w → can_go w t ≡ true → (key : ℕ) → SectionChanges (section_at w key) t (section_at (gone w t) key)
-gone_sections w t shape sound can = by_place (place_at w t) refl (shape.places t) can
+pub gone_sections : (w : State) (t : ℕ) → IsShaped w → IsSteady w → can_go w t ≡ true → (key : ℕ) → SectionChanges (section_at w key) t (section_at (gone w t) key)
+gone_sections w t shape steady can = by_place (place_at w t) refl (shape.places t) can
   where
     by_place : (p : Place) → place_at w t ≡ p → PlaceFits (length w.places) (length w.locks) p → can_do w (act_of p) ≡ true → (key : ℕ) → SectionChanges (section_at w key) t (section_at (performed w t p (act_of p)) key)
     by_place Idle is fits can key = absurd cc
-    by_place (Mutex l at) is fits can key = act_sections w t (Mutex l at) l (main_key_there w l shape fits.0) (mutex_act l at) can (on_main w t sound l at is) key
+    by_place (Mutex l at) is fits can key = act_sections w t (Mutex l at) l (main_key_there w l shape fits.0) (mutex_act l at) can (on_main w t steady l at is) key
 
 pub spun_sections : (w : State) (t : ℕ) (o : Option ℕ) (key : ℕ) → section_at (spun_on w t o) key ≡ section_at w key
 spun_sections w t None key = refl

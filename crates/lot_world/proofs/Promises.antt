@@ -11,6 +11,7 @@ use Rattle.lot_steps.specs.declared.mutex.lock.Entry.{Entry}
 use Rattle.lot_steps.specs.declared.mutex.lock.Entry.TheVariants as entries
 use Rattle.lot_steps.specs.declared.acts.Wakes as wakes
 use Rattle.lot_base.specs.declared.notes.Note.TheVariants as note
+use Rattle.lot_steps.specs.declared.mutex.MutexPlace.{MutexPlace}
 use Rattle.lot_steps.specs.declared.mutex.MutexPlace.TheVariants.{Lock, TryLock, Unlock, UnlockFair, Bump, HandOff}
 use Rattle.lot_steps.specs.declared.mutex.lock.LockAt.{LockAt}
 use Rattle.lot_steps.specs.declared.mutex.lock.LockAt.TheVariants.{First, Decide, Leave, Asleep, Taken, Handed, Remove}
@@ -20,38 +21,38 @@ use Rattle.lot_steps.specs.declared.mutex.hand_off.HandOffAt.{HandOffAt}
 use Rattle.lot_steps.specs.declared.mutex.hand_off.HandOffAt.TheVariants as hand_off
 use Rattle.lot_steps.specs.declared.places.Place.{Place}
 use Rattle.lot_steps.specs.declared.places.Place.TheVariants.{Idle, Mutex}
-use Rattle.lot_steps.specs.MutexSteps.{is_locked, lock_act, unlock_act, hand_off_act}
+use Rattle.lot_steps.specs.MutexSteps.{is_locked, lock_act, unlock_act, hand_off_act, mutex_act}
 use Rattle.lot_steps.specs.MutexProfiles.{mutex_owes, lock_row}
 use Rattle.lot_steps.specs.MutexSteps.{is_timed}
 use Rattle.abstract_locks.specs.Sites.{Line, Main}
 use Rattle.lot_steps.specs.Steps.{act_of, owes_on, retries_on}
 use Rattle.lot_world.specs.Machine.{State, opening, place_at, after, section_at}
 use Rattle.lot_world.specs.Fits.{IsShaped}
-use Rattle.lot_world.specs.Sound.{IsSound, at_main, Taking, handed_over, Carries, queued, holds, inside, one_if}
+use Rattle.lot_world.specs.MutexDeeds.{Of, hand, Station, mutex_station, nowhere, station_at}
+use Rattle.lot_world.specs.SitesOf.{IsSteady, stood_in, carried_at}
 use Rattle.abstract_locks.specs.Runs.{AreLockStates, IsOpening}
 use Rattle.abstract_locks.specs.Locks.{opening_lock, rights_of, Rights, one_if_some, standing}
 use Rattle.abstract_locks.specs.Purposes.{Enters, Converts, Bumps, Purpose, MayWait, IsReleasing}
-use Rattle.lot_world.specs.Refinement.{locks_of, lock_state, lock_seen, taken_at, is_bump, entry_purpose, call_state}
-use Rattle.lot_world.specs.OnlyMutexes.{OnlyMutexes}
+use Rattle.lot_world.specs.Refinement.{locks_of, lock_state, lock_seen, taken_at, is_bump, entry_purpose, call_state, stance_of}
 use Rattle.lot_world.specs.Promises.{IsKept, GoesToWake, IsHandedOver}
-use Rattle.lot_world.proofs.Steady.{after_sound}
+use Rattle.lot_world.proofs.TurnsKept.{after_steady}
 use Rattle.lot_world.proofs.SitesPromise.{looked_after, parked as bit_set}
-use Rattle.lot_world.proofs.OnlyMutexes.{after_only}
-use Rattle.lot_world.proofs.LockEvents.{same}
-use Rattle.lot_world.proofs.LockRuns.{stands_by, after_locks}
-use Rattle.lot_world.proofs.Opening.{idle_at, empty_at, nobody_owns}
-use Rattle.std.proofs.lemmas.Bool.Decides.{nat_tests}
-use Rattle.std.proofs.lemmas.Bool.{eqb-true}
+use Rattle.lot_world.proofs.Glue.{same, nothing_at, own_stance, station_elsewhere, taken_elsewhere}
+use Rattle.lot_world.proofs.AtPlaces.{coded, stands_by, owns}
+use Rattle.lot_world.proofs.Opening.{idle_at, none_at, empty_at, nobody_owns, opening_shares}
+use Rattle.std.proofs.lemmas.Bool.{cases_eq, eqb-true}
 use Rattle.abstract_locks.specs.Locks as locks
 
-queued_here : (j l : ℕ) → 1 ≤ one_if (Some j) l + 0 → j ≡ l
-queued_here j l h = grind (arith, nat_tests)
+-- what a place says of a lock it says of its own
+part_here : {A : Type 0} (g : Station → Option A) (x : A) (own l : ℕ) (at : MutexPlace) → g nowhere ≡ None → g (station_at (Mutex own at) l) ≡ Some x → (own ≡ l) × (g (mutex_station at) ≡ Some x)
+part_here g x own l at none h = either (own == l) refl h
+  where
+    either : (b : Bool) → (own == l) ≡ b → g (if b then mutex_station at else nowhere) ≡ Some x → (own ≡ l) × (g (mutex_station at) ≡ Some x)
+    either true e f = (eqb-true own l e, f)
+    either false e f = absurd (let c : None ≡ Some x = sym none ∙ f in cc)
 
-abbrev taken_for : ℕ → locks.Taken
-taken_for by = record { by = by; want = Exclusive }
-
-taken_here : (j l by : ℕ) → 1 ≤ 0 + one_if_some (if j == l then Some (taken_for by) else None) → j ≡ l
-taken_here j l by h = grind (arith, nat_tests)
+here : (own l : ℕ) (at : MutexPlace) → own ≡ l → station_at (Mutex own at) l ≡ mutex_station at
+here own l at e = own_stance l (Mutex own at) at (ap (λ k. Mutex k at) e)
 
 -- who stands at a lock is in a call that waits for it
 may_wait : (j l : ℕ) (entry : Entry) → j ≡ l → MayWait (Some (entry_purpose j entry)) l
@@ -59,20 +60,27 @@ may_wait j l entries.Lock e = (e, λ h. cc)
 may_wait j l entries.LockTimed e = (e, λ h. cc)
 may_wait j l entries.Bump e = e
 
-waits_by : (p : Place) (l : ℕ) (r : ℕ → Rights) → 1 ≤ one_if (queued p) l + one_if_some (taken_at p l) → MayWait (call_state p r).purpose l
+-- how often a thread at a place stands at the lock
+abbrev standing_at : Place → ℕ → ℕ
+standing_at p l = stood_in (station_at p l).stands Main + one_if_some (taken_at p l)
+
+calls_it : (own l : ℕ) (at : MutexPlace) → 1 ≤ standing_at (Mutex own at) l → own ≡ l
+calls_it own l at h = elim (cases_eq l own) [
+  | inl e ↦ sym e
+  | inr ne ↦ absurd (let none : standing_at (Mutex own at) l ≡ 0 = rw (station_elsewhere own l (Mutex own at) refl ne, taken_elsewhere own l (Mutex own at) refl ne) refl in omega arith)
+]
+
+stands_nowhere : (own l : ℕ) (at : MutexPlace) → (mutex_station at).stands ≡ None → ((k : ℕ) → taken_at (Mutex own at) k ≡ None) → 1 ≤ standing_at (Mutex own at) l → ⊥
+stands_nowhere own l at e f h = let none : standing_at (Mutex own at) l ≡ 0 = rw (nothing_at (Mutex own at) l (λ x. x.stands) refl e, f l) refl in omega arith
+
+waits_by : (p : Place) (l : ℕ) (r : ℕ → Rights) → 1 ≤ standing_at p l → MayWait (call_state p r).purpose l
 waits_by Idle l r h = absurd (omega arith)
-waits_by (Mutex j (Lock entry retries (Leave true))) l r h = may_wait j l entry (queued_here j l h)
-waits_by (Mutex j (Lock entry retries (Leave false))) l r h = absurd (omega arith)
-waits_by (Mutex j (Lock entry retries Asleep)) l r h = may_wait j l entry (queued_here j l h)
-waits_by (Mutex j (Lock entry retries Remove)) l r h = may_wait j l entry (queued_here j l h)
-waits_by (Mutex j (Lock entry retries (Taken by))) l r h = may_wait j l entry (taken_here j l by h)
-waits_by (Mutex j (Lock entry retries First)) l r h = absurd (omega arith)
-waits_by (Mutex j (Lock entry retries at)) l r h = absurd (omega arith)
-waits_by (Mutex j TryLock) l r h = absurd (omega arith)
-waits_by (Mutex j (Unlock at)) l r h = absurd (omega arith)
-waits_by (Mutex j UnlockFair) l r h = absurd (omega arith)
-waits_by (Mutex j Bump) l r h = absurd (omega arith)
-waits_by (Mutex j (HandOff bumps at)) l r h = absurd (omega arith)
+waits_by (Mutex own (Lock entry retries at)) l r h = may_wait own l entry (calls_it own l (Lock entry retries at) h)
+waits_by (Mutex own TryLock) l r h = absurd (stands_nowhere own l TryLock refl (λ k. refl) h)
+waits_by (Mutex own (Unlock at)) l r h = absurd (stands_nowhere own l (Unlock at) refl (λ k. refl) h)
+waits_by (Mutex own UnlockFair) l r h = absurd (stands_nowhere own l UnlockFair refl (λ k. refl) h)
+waits_by (Mutex own Bump) l r h = absurd (stands_nowhere own l Bump refl (λ k. refl) h)
+waits_by (Mutex own (HandOff bumps at)) l r h = absurd (stands_nowhere own l (HandOff bumps at) refl (λ k. refl) h)
 
 -- who owes is inside the section, or a release on its way into it
 own_lock : (b : Bool) (own l : ℕ) → (b && (own == l)) ≡ true → (b ≡ true) × (own ≡ l)
@@ -84,40 +92,51 @@ lock_owes : (timed retries : Bool) (at : LockAt) → (lock_row timed retries at)
 lock_owes timed retries First = refl
 lock_owes timed retries at = refl
 
-lock_inside : (own : ℕ) (entry : Entry) (retries : Bool) (at : LockAt) → mutex_owes (Lock entry retries at) ≡ true → inside (Mutex own (Lock entry retries at)) ≡ Some own
-lock_inside own entry retries at h = ap (at_main own) (lock_owes (is_timed entry) retries at ∙ ap (λ b. if b then Some Main else None) h)
+abbrev IsWithin : Place → ℕ → Type 0
+IsWithin p l = (station_at p l).inside ≡ Some Main
 
-from_main : (own l : ℕ) (b : Bool) (x : Option Line) → x ≡ (if b then Some Main else None) → at_main own x ≡ Some l → (b && (own == l)) ≡ true
-from_main own l true x e h = let g : Some own ≡ Some l = sym (ap (at_main own) e) ∙ h in let f : own ≡ l = cc in rw f (same l)
-from_main own l false x e h = absurd (let g : ◌≡◌ {A = Option ℕ} None (Some l) = sym (ap (at_main own) e) ∙ h in cc)
+abbrev IsReleaseOnItsWay : Place → ℕ → (ℕ → Rights) → Type 0
+IsReleaseOnItsWay p l r = (act_of p ≡ act.TheVariants.Enter (One (2 * l))) × IsReleasing (call_state p r).purpose (call_state p r).released l
 
-owes_means : (p : Place) (l : ℕ) (r : ℕ → Rights) → owes_on p l ≡ true
-    → (inside p ≡ Some l) ⊎ ((act_of p ≡ act.TheVariants.Enter (One (2 * l))) × IsReleasing (call_state p r).purpose (call_state p r).released l)
+within : (own l : ℕ) (at : MutexPlace) → (mutex_station at).inside ≡ Some Main → (own == l) ≡ true → IsWithin (Mutex own at) l
+within own l at i e = ap (λ x. x.inside) (here own l at (eqb-true own l e)) ∙ i
+
+owes_means : (p : Place) (l : ℕ) (r : ℕ → Rights) → owes_on p l ≡ true → IsWithin p l ⊎ IsReleaseOnItsWay p l r
 owes_means Idle l r h = absurd cc
-owes_means (Mutex own (Lock entry retries at)) l r h = let g = own_lock (mutex_owes (Lock entry retries at)) own l h in inl (lock_inside own entry retries at g.0 ∙ ap Some g.1)
+owes_means (Mutex own (Lock entry retries at)) l r h = let g = own_lock (mutex_owes (Lock entry retries at)) own l h in
+    inl (ap (λ x. x.inside) (here own l (Lock entry retries at) g.1) ∙ lock_owes (is_timed entry) retries at ∙ ap (λ b. if b then Some Main else None) g.0)
 owes_means (Mutex own TryLock) l r h = absurd cc
 owes_means (Mutex own (Unlock unlock.Subtract)) l r h = absurd cc
 owes_means (Mutex own (Unlock unlock.Enter)) l r h = let e : own ≡ l = eqb-true own l h in inr (ap (λ k. act.TheVariants.Enter (One (2 * k))) e, e)
-owes_means (Mutex own (Unlock unlock.Take)) l r h = inl (ap Some (eqb-true own l h))
-owes_means (Mutex own (Unlock (unlock.Clear taken))) l r h = inl (ap Some (eqb-true own l h))
-owes_means (Mutex own (Unlock (unlock.Leave taken))) l r h = inl (ap Some (eqb-true own l h))
+owes_means (Mutex own (Unlock unlock.Take)) l r h = inl (within own l (Unlock unlock.Take) refl h)
+owes_means (Mutex own (Unlock (unlock.Clear taken))) l r h = inl (within own l (Unlock (unlock.Clear taken)) refl h)
+owes_means (Mutex own (Unlock (unlock.Leave taken))) l r h = inl (within own l (Unlock (unlock.Leave taken)) refl h)
 owes_means (Mutex own UnlockFair) l r h = absurd cc
 owes_means (Mutex own Bump) l r h = absurd cc
 owes_means (Mutex own (HandOff true hand_off.Enter)) l r h = let e : own ≡ l = eqb-true own l h in inr (ap (λ k. act.TheVariants.Enter (One (2 * k))) e, (e, refl))
 owes_means (Mutex own (HandOff false hand_off.Enter)) l r h = let e : own ≡ l = eqb-true own l h in inr (ap (λ k. act.TheVariants.Enter (One (2 * k))) e, e)
-owes_means (Mutex own (HandOff bumps hand_off.Take)) l r h = inl (ap Some (eqb-true own l h))
-owes_means (Mutex own (HandOff bumps (hand_off.Store taken none_left))) l r h = inl (ap Some (eqb-true own l h))
-owes_means (Mutex own (HandOff bumps (hand_off.Leave taken))) l r h = inl (ap Some (eqb-true own l h))
+owes_means (Mutex own (HandOff bumps hand_off.Take)) l r h = inl (within own l (HandOff bumps hand_off.Take) refl h)
+owes_means (Mutex own (HandOff bumps (hand_off.Store taken none_left))) l r h = inl (within own l (HandOff bumps (hand_off.Store taken none_left)) refl h)
+owes_means (Mutex own (HandOff bumps (hand_off.Leave taken))) l r h = inl (within own l (HandOff bumps (hand_off.Leave taken)) refl h)
 
-inside_owes : (p : Place) (l : ℕ) → inside p ≡ Some l → owes_on p l ≡ true
-inside_owes (Mutex own (Lock entry retries at)) l h = from_main own l _ _ (lock_owes (is_timed entry) retries at) h
-inside_owes (Mutex own (Unlock unlock.Take)) l h = let e : own ≡ l = cc in rw e (same l)
-inside_owes (Mutex own (Unlock (unlock.Clear taken))) l h = let e : own ≡ l = cc in rw e (same l)
-inside_owes (Mutex own (Unlock (unlock.Leave taken))) l h = let e : own ≡ l = cc in rw e (same l)
-inside_owes (Mutex own (HandOff bumps hand_off.Take)) l h = let e : own ≡ l = cc in rw e (same l)
-inside_owes (Mutex own (HandOff bumps (hand_off.Store taken none_left))) l h = let e : own ≡ l = cc in rw e (same l)
-inside_owes (Mutex own (HandOff bumps (hand_off.Leave taken))) l h = let e : own ≡ l = cc in rw e (same l)
-inside_owes p l h = absurd cc
+-- who is inside the section owes
+entering_owes : (b : Bool) (x : Option Line) → x ≡ (if b then Some Main else None) → x ≡ Some Main → b ≡ true
+entering_owes true x e h = refl
+entering_owes false x e h = absurd (let g : ◌≡◌ {A = Option Line} None (Some Main) = sym e ∙ h in cc)
+
+owes_inside : (at : MutexPlace) → (mutex_station at).inside ≡ Some Main → mutex_owes at ≡ true
+owes_inside (Lock entry retries at) h = entering_owes (lock_row (is_timed entry) retries at).owes _ (lock_owes (is_timed entry) retries at) h
+owes_inside TryLock h = absurd cc
+owes_inside (Unlock unlock.Subtract) h = absurd cc
+owes_inside (Unlock unlock.Enter) h = absurd cc
+owes_inside (Unlock at) h = refl
+owes_inside UnlockFair h = absurd cc
+owes_inside Bump h = absurd cc
+owes_inside (HandOff bumps at) h = refl
+
+inside_owes : (p : Place) (l : ℕ) → IsWithin p l → owes_on p l ≡ true
+inside_owes Idle l h = absurd cc
+inside_owes (Mutex own at) l h = let g = part_here (λ x. x.inside) Main own l at refl h in rw (owes_inside at g.1, g.0, same l) refl
 
 no_release : (own l : ℕ) (entry : Entry) → IsReleasing (Some (entry_purpose own entry)) (is_bump entry) l → ⊥
 no_release own l entries.Lock h = h
@@ -179,38 +198,48 @@ one_purpose (Some (Bumps j x)) l k h g = sym h ∙ g
 one_purpose o l k h g = absurd h
 
 -- a thread that has handed a lock over wakes the new owner next
-tells : (p : Place) (u l : ℕ) → Carries p u (handed_over l) → (act_of p ≡ act.TheVariants.Leave (One (2 * l)) (wakes.TheVariants.One u note.HandOff)) × (inside p ≡ Some l)
-tells (Mutex k (HandOff bumps (hand_off.Leave (Some v)))) u l h = let e : k ≡ l = ap (λ (x : Taking). x.lock) h.1 in rw (h.0, e) (refl, refl)
-tells (Mutex k (Unlock (unlock.Clear (Some v)))) u l h = absurd (let g : false ≡ true = ap (λ (x : Taking). x.handed) h.1 in cc)
-tells (Mutex k (Unlock (unlock.Leave (Some v)))) u l h = absurd (let g : false ≡ true = ap (λ (x : Taking). x.handed) h.1 in cc)
-tells (Mutex k (HandOff bumps (hand_off.Store (Some v) none_left))) u l h = absurd (let g : false ≡ true = ap (λ (x : Taking). x.handed) h.1 in cc)
-tells p u l h = absurd h
+tells_at : (at : MutexPlace) (u l : ℕ) → (mutex_station at).carries ≡ hand u true → (mutex_act l at ≡ act.TheVariants.Leave (One (2 * l)) (wakes.TheVariants.One u note.HandOff)) × ((mutex_station at).inside ≡ Some Main)
+tells_at (HandOff bumps (hand_off.Leave (Some v))) u l h = let e : v ≡ u = cc in rw e (refl, refl)
+tells_at (HandOff bumps (hand_off.Leave None)) u l h = absurd cc
+tells_at (HandOff bumps (hand_off.Store (Some v) none_left)) u l h = absurd cc
+tells_at (HandOff bumps at) u l h = absurd cc
+tells_at (Unlock (unlock.Clear (Some v))) u l h = absurd cc
+tells_at (Unlock (unlock.Leave (Some v))) u l h = absurd cc
+tells_at (Unlock at) u l h = absurd cc
+tells_at at u l h = absurd cc
 
-module _ (w : State) (sound : IsSound w) (only : OnlyMutexes w) (all : AreLockStates (locks_of w)) where
-  owes_so : (t l : ℕ) → (inside (place_at w t) ≡ Some l) ⊎ GoesToWake w t l → (section_at w (2 * l) ≡ Some t) ⊎ GoesToWake w t l
-  owes_so t l (inl h) = inl ((sound.sections t l).0 h)
+tells : (p : Place) (u l : ℕ) → carried_at p l ≡ hand u true → (act_of p ≡ act.TheVariants.Leave (One (2 * l)) (wakes.TheVariants.One u note.HandOff)) × IsWithin p l
+tells Idle u l h = absurd cc
+tells (Mutex own at) u l h = let g = part_here (λ x. x.carries) (Of u true) own l at refl h in let t = tells_at at u l g.1 in (ap (λ k. mutex_act k at) g.0 ∙ t.0, ap (λ x. x.inside) (here own l at g.0) ∙ t.1)
+
+module _ (w : State) (steady : IsSteady w) where
+  -- what a thread owns of each lock
+  abbrev rights_now : ℕ → ℕ → Rights
+  rights_now t k = rights_of (lock_state w k) t
+
+  owes_so : (t l : ℕ) → IsWithin (place_at w t) l ⊎ GoesToWake w t l → (section_at w (2 * l) ≡ Some t) ⊎ GoesToWake w t l
+  owes_so t l (inl h) = inl ((steady.stands.sections t l Main).0 h)
   owes_so t l (inr h) = inr h
 
   owes_by : (t l : ℕ) → (section_at w (2 * l) ≡ Some t) ⊎ GoesToWake w t l → owes_on (place_at w t) l ≡ true
-  owes_by t l (inl h) = inside_owes (place_at w t) l ((sound.sections t l).1 h)
-  owes_by t l (inr h) = release_on_its_way (place_at w t) l (λ k. rights_of (lock_state w k) t) h.0 h.1
+  owes_by t l (inl h) = inside_owes (place_at w t) l ((steady.stands.sections t l Main).1 h)
+  owes_by t l (inr h) = release_on_its_way (place_at w t) l (rights_now t) h.0 h.1
 
   waits : (t l : ℕ) → 1 ≤ standing t (lock_state w l) → MayWait ((locks_of w).calls t).purpose l
-  waits t l h = waits_by (place_at w t) l (λ k. rights_of (lock_state w k) t) (subst (λ n. 1 ≤ n) (stands_by w t sound only l) h)
+  waits t l h = waits_by (place_at w t) l (rights_now t) (subst (λ n. 1 ≤ n) (stands_by w steady t l) h)
 
   module _ (t : ℕ) (nowhere : (l : ℕ) → standing t (lock_state w l) ≡ 0) where
-    unlisted : (l : ℕ) → one_if (queued (place_at w t)) l + one_if_some (taken_at (place_at w t) l) ≡ 0
-    unlisted l = sym (stands_by w t sound only l) ∙ nowhere l
+    unlisted : (l : ℕ) → standing_at (place_at w t) l ≡ 0
+    unlisted l = sym (stands_by w steady t l) ∙ nowhere l
 
     handed_to : (l : ℕ) (entry : Entry) (retries : Bool) (by : ℕ) → place_at w t ≡ Mutex l (Lock entry retries (Handed by)) → IsHandedOver w t
     handed_to l entry retries by is =
-        let told = tells (place_at w by) t l (sound.taken t by (handed_over l) (rw is (refl, refl))) in
-        record { lock = l; by = by; owner = sound.held t l (ap holds is); inside = (sound.sections by l).0 told.1; wakes = told.0 }
+        let told = tells (place_at w by) t l (steady.stands.hands.taken by t l true (ap (λ x. x.hand) (own_stance l (place_at w t) (Lock entry retries (Handed by)) is))) in
+        record { lock = l; by = by; owner = owns w steady t l (Lock entry retries (Handed by)) is refl; inside = (steady.stands.sections by l Main).0 told.1; wakes = told.0 }
 
     lock_handed : (l : ℕ) (entry : Entry) (retries : Bool) (a : LockAt) → place_at w t ≡ Mutex l (Lock entry retries a) → lock_act l a ≡ Sleep → IsHandedOver w t
-    lock_handed l entry retries Asleep is sleeps = absurd (let n : one_if (Some l) l + 0 ≡ 0 = rw is at (unlisted l) in let m : one_if (Some l) l ≡ 1 = ap (λ b. if b then 1 else 0) (same l) in omega arith)
-    lock_handed l entry retries (Taken by) is sleeps = absurd (let n : 0 + one_if_some (if l == l then Some (taken_for by) else None) ≡ 0 = rw is at (unlisted l) in
-        let m : one_if_some (if l == l then Some (taken_for by) else None) ≡ 1 = ap (λ b. one_if_some (if b then Some (taken_for by) else None)) (same l) in omega arith)
+    lock_handed l entry retries Asleep is sleeps = absurd (let n : 1 + 0 ≡ 0 = rw (is, same l) at (unlisted l) in omega arith)
+    lock_handed l entry retries (Taken by) is sleeps = absurd (let n : 0 + 1 ≡ 0 = rw (is, same l) at (unlisted l) in omega arith)
     lock_handed l entry retries (Handed by) is sleeps = handed_to l entry retries by is
     lock_handed l entry retries (Decide seen) is sleeps = absurd (decided_awake l seen (is_locked seen) (seen == 1) sleeps)
     lock_handed l entry retries First is sleeps = absurd cc
@@ -227,29 +256,29 @@ module _ (w : State) (sound : IsSound w) (only : OnlyMutexes w) (all : AreLockSt
 
   pub kept : IsKept w
   kept = record {
-    state = all;
+    state = λ l. (steady.sites.site l).state;
     one_place = λ t l k h g. one_purpose ((locks_of w).calls t).purpose l k (waits t l h) (waits t k g);
     waiting = waits;
-    coded = sound.codes;
-    nobody_forgotten = looked_after w sound.steady;
-    owing = λ t l. ((λ h. owes_so t l (owes_means (place_at w t) l (λ k. rights_of (lock_state w k) t) h)), λ h. owes_by t l h);
-    retrying = λ t l. retry_shown (place_at w t) l (λ k. rights_of (lock_state w k) t);
+    coded = coded w steady;
+    nobody_forgotten = looked_after w steady;
+    owing = λ t l. ((λ h. owes_so t l (owes_means (place_at w t) l (rights_now t) h)), λ h. owes_by t l h);
+    retrying = λ t l. retry_shown (place_at w t) l (rights_now t);
     handing = λ t h. handed_over_at t h.1 (place_at w t) refl h.0;
-    parked = bit_set w sound.steady;
+    parked = bit_set w steady;
   }
 
-pub kept_after : (w : State) (s : Step) → IsShaped w → IsSound w → OnlyMutexes w → AreLockStates (locks_of w) → IsKept (after w s)
-kept_after w s shape sound only all = kept (after w s) (after_sound w s shape sound) (after_only w s only) (after_locks w s shape sound only all)
-
--- ---------------------------------------------------------------- the opening state
+pub kept_after : (w : State) (s : Step) → IsShaped w → IsSteady w → IsKept (after w s)
+kept_after w s shape steady = kept (after w s) (after_steady w s shape steady)
 
 -- ---------------------------------------------------------------- the opening state, of the abstract locks
 
 opening_state : (kinds : List Kind) (threads l : ℕ) → lock_state (opening kinds threads) l ≡ opening_lock (length (opening kinds threads).places)
-opening_state kinds threads l = λ i. lock_seen (length (opening kinds threads).places) (nobody_owns kinds l i) (empty_at (2 * length kinds) (2 * l) i) (empty_at (2 * length kinds) (2 * l + 1) i) (λ u. taken_at (idle_at threads u i) l)
+opening_state kinds threads l = λ i. lock_seen (opening_shares kinds threads l i) (nobody_owns kinds l i) (empty_at (2 * length kinds) (2 * l) i) (empty_at (2 * length kinds) (2 * l + 1) i) (λ u. taken_at (idle_at threads u i) l)
 
 pub opening_is : (kinds : List Kind) (threads : ℕ) → IsOpening (locks_of (opening kinds threads))
 opening_is kinds threads = record {
   locks = opening_state kinds threads;
   calls = λ t. ap (λ p. call_state p (λ l. rights_of (lock_state (opening kinds threads) l) t)) (idle_at threads t);
+  inside = none_at (2 * length kinds);
+  stances = λ t. ap stance_of (idle_at threads t);
 }

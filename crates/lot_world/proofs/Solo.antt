@@ -7,7 +7,7 @@ use Rattle.lot_base.specs.declared.ops.Op as op
 use Rattle.lot_base.specs.declared.wants.Waiter.{Waiter}
 use Rattle.lot_base.specs.declared.wants.Want.TheVariants.{Exclusive}
 use Rattle.lot_base.specs.Words.{apply}
-use Rattle.lot_base.specs.Lines.{waiter, without, first_of}
+use Rattle.lot_base.specs.Lines.{times, waiter, without, first_of}
 use Rattle.lot_steps.specs.declared.acts.Act.{Act}
 use Rattle.lot_steps.specs.declared.acts.Act as act
 use Rattle.lot_steps.specs.declared.acts.Reply.TheVariants.{Value, Took, Removed}
@@ -40,19 +40,22 @@ use Rattle.lot_steps.specs.Steps.{act_of, next_place, next_act, mutex_goes, mute
 use Rattle.lot_world.specs.Machine.{State, place_at, word_at, kind_at, queue_at, section_at, go_of, after, solo}
 use Rattle.lot_world.specs.Fits.{IsShaped, PlaceFits}
 use Rattle.lot_world.specs.Promises.{Codes}
-use Rattle.lot_world.specs.Sound.{IsSound, owner_at, inside, queued, holds}
+use Rattle.abstract_locks.specs.Sites.{Main}
+use Rattle.lot_world.specs.MutexDeeds.{station, station_at}
+use Rattle.lot_world.specs.SitesOf.{IsSteady, CallsMutex, is_mutex, stood_in}
 use Rattle.lot_world.proofs.ExclusiveOwners.{by_code, owner_after}
 use Rattle.abstract_locks.specs.Locks.{Rules, MayEnter, IsBlocked}
 use Rattle.abstract_locks.specs.Purposes.{Releases, Bumps, Patience, Patient, Timed, Try, mutex_purpose}
 use Rattle.abstract_locks.specs.Runs.{rules_at, purpose_at}
 use Rattle.abstract_locks.specs.Picks.{queued_of}
-use Rattle.lot_world.specs.Refinement.{lock_state, locks_of}
+use Rattle.lot_world.specs.Refinement.{lock_state, locks_of, owner_at}
 use Rattle.lot_world.specs.Solo.{Rests, IsUnderWay, HasItsWay, EntersAlone, BumpsAlone, EndsAlone, successor}
-use Rattle.lot_world.specs.OnlyMutexes.{CallFits, OnlyMutexes, is_mutex}
 use Rattle.lot_world.proofs.LockEvents.{mutex_rules, mutex_rules_of, queued_behind}
 use Rattle.lot_world.proofs.LockSteps.{free_word, owned_word, decides, purpose_is}
 use Rattle.lot_world.proofs.Counts.{first_times}
-use Rattle.lot_world.proofs.Steady.{stands_at}
+use Rattle.lot_world.proofs.Glue.{nothing_at}
+use Rattle.lot_world.proofs.SitesPromise.{parked_at}
+use Rattle.lot_world.proofs.AtPlaces.{coded as words_coded, absent, owns}
 use Rattle.lot_world.proofs.SoloActs.{Leads, leads_rest, leads_step, Facing, Faces, word_faces, enter_faces, leave_faces, wake_faces, hand_faces, accept_faces, park_faces, unparked_faces, remove_faces, take_faces}
 
 leads_more : (k m : ℕ) (w : State) (t : ℕ) (P : State → Outcome → Type 0) → k ≤ m → Leads k w t P → Leads m w t P
@@ -88,7 +91,7 @@ module _ (t l : ℕ) (entry : Entry) (q : List Waiter) where
       (λ u w f. leads_more 3 4 w t (LockEnds t l entry (Some u) q) (omega arith) (decide_full retries u w f))
 
   coded : (w : State) (p : Place) (v : ℕ) (o s : Option ℕ) → Facing w t l p v o s q → Codes v o
-  coded w p v o s f = let c : Codes (word_at w l) (owner_at w l) = f.sound.codes l in rw (f.word, f.owner) at c
+  coded w p v o s f = let c : Codes (word_at w l) (owner_at w l) = words_coded w f.steady l in rw (f.word, f.owner) at c
 
   load_leads : (retries : Bool) (v : ℕ) (o : Option ℕ) (w : State) → Facing w t l (Mutex l (Lock entry retries Load)) v o None q → Leads 5 w t (LockEnds t l entry o q)
   load_leads retries v o w f = let h = word_faces w t l (Mutex l (Lock entry retries Load)) v o None q f op.TheVariants.Load refl in
@@ -173,7 +176,7 @@ module _ (t l : ℕ) (entry : Entry) where
 
   -- a section that is free where the thread is outside, and its own where it is inside
   abbrev Way : Place → Option ℕ → Type 0
-  Way p s = inside p ≡ None → s ≡ None
+  Way p s = (station p).inside ≡ None → s ≡ None
 
   lock_rests : (retries : Bool) (a : LockAt) (v : ℕ) (o s : Option ℕ) (q : List Waiter) (w : State) → Facing w t l (Mutex l (Lock entry retries a)) v o s q → Way (Mutex l (Lock entry retries a)) s → act_of (Mutex l (Lock entry retries a)) ≢ act.TheVariants.Sleep → Leads 8 w t (λ c y. Rests y)
   lock_rests retries First v o s q w f way up = let g : Facing w t l (Mutex l (Lock entry retries First)) v o None q = subst (λ x. Facing w t l (Mutex l (Lock entry retries First)) v o x q) (way refl) f in
@@ -235,7 +238,7 @@ module _ (t l : ℕ) where
   ends_so : (o : Option ℕ) (v : State) (x : Outcome) → UnlockEnds l o v x → Rests x
   ends_so o v x h = rw (h.0) tt
 
-  unlock_rests : (a : UnlockAt) (v : ℕ) (o s : Option ℕ) (q : List Waiter) (w : State) → Facing w t l (Mutex l (Unlock a)) v o s q → (inside (Mutex l (Unlock a)) ≡ None → s ≡ None) → Leads 8 w t (λ c y. Rests y)
+  unlock_rests : (a : UnlockAt) (v : ℕ) (o s : Option ℕ) (q : List Waiter) (w : State) → Facing w t l (Mutex l (Unlock a)) v o s q → ((station (Mutex l (Unlock a))).inside ≡ None → s ≡ None) → Leads 8 w t (λ c y. Rests y)
   unlock_rests unlock.Subtract v o s q w f way = leads_more 5 8 w t (λ c y. Rests y) (omega arith) (leads_so 5 w t (UnlockEnds l None) (λ c y. Rests y) (ends_so None) (subtract_leads q v o w (subst (λ x. Facing w t l (Mutex l (Unlock unlock.Subtract)) v o x q) (way refl) f)))
   unlock_rests unlock.Enter v o s q w f way = leads_more 4 8 w t (λ c y. Rests y) (omega arith) (leads_so 4 w t (UnlockEnds l o) (λ c y. Rests y) (ends_so o) (enter_leads q v o w (subst (λ x. Facing w t l (Mutex l (Unlock unlock.Enter)) v o x q) (way refl) f)))
   unlock_rests unlock.Take v o s q w f way = leads_more 3 8 w t (λ c y. Rests y) (omega arith) (leads_so 3 w t (UnlockEnds l o) (λ c y. Rests y) (ends_so o) (take_leads q v o s w f))
@@ -249,13 +252,18 @@ abbrev pub FairEnds : Bool → ℕ → ℕ → Option ℕ → List Waiter → St
 FairEnds false t l o q v x = UnlockEnds l o v x
 FairEnds true t l o q v x = LockEnds t l entries.Bump o q v x
 
+unparked_below : (v : ℕ) → v < 2 → is_parked v ≡ false
+unparked_below zero h = refl
+unparked_below (suc zero) h = refl
+unparked_below (suc (suc v)) h = absurd (omega arith)
+
 -- where the parked bit is clear nobody waits
 none_waits : (t l : ℕ) (p : Place) (v : ℕ) (o s : Option ℕ) (q : List Waiter) (w : State) → Facing w t l p v o s q → v < 2 → q ≡ []
 none_waits t l p v o s [] w f below = refl
 none_waits t l p v o s (x ∷ q) w f below = absurd (
     let first : first_of (queue_at w (2 * l)) ≡ Some x.thread = ap first_of f.queue in
-    let stands = stands_at (queued (place_at w x.thread)) l (subst (λ n. 1 ≤ n) (f.sound.queues x.thread l) (first_times x.thread (queue_at w (2 * l)) first)) in
-    let parked : 2 ≤ v = subst (λ n. 2 ≤ n) f.word (f.sound.parked x.thread l stands) in omega arith
+    let parked : is_parked v ≡ true = subst (λ n. is_parked n ≡ true) f.word (parked_at w f.steady x.thread l (first_times x.thread (queue_at w (2 * l)) first)) in
+    let clear : is_parked v ≡ false = unparked_below v below in cc
     )
 
 unparked : (v : ℕ) (o : Option ℕ) → Codes v o → is_parked v ≡ false → v < 2
@@ -302,7 +310,7 @@ module _ (t l : ℕ) where
   bump_leads q v o w f = either (is_parked v) refl (word_faces w t l (Mutex l Bump) v o None q f op.TheVariants.Load refl)
     where
       owned : o ≡ Some t
-      owned = sym f.owner ∙ f.sound.held t l (ap holds f.place)
+      owned = sym f.owner ∙ owns w f.steady t l Bump f.place refl
 
       either : (b : Bool) → is_parked v ≡ b → Faces w t l (mutex_goes l (looked true b)) (outcome_of (mutex_does l (looked true b))) v o None q → Leads 11 w t (FairEnds true t l (first_of q) (drop 1 q))
       either true e h = leads_step w t (FairEnds true t l (first_of q) (drop 1 q)) 10 h.0 (fair_enter_leads true q v o _ h.1)
@@ -317,7 +325,7 @@ module _ (t l : ℕ) where
   fair_rests : (k : ℕ) (bumps : Bool) (o : Option ℕ) (q : List Waiter) (w : State) → k ≤ 12 → Leads k w t (FairEnds bumps t l o q) → Leads 12 w t (λ c y. Rests y)
   fair_rests k bumps o q w le h = leads_more k 12 w t (λ c y. Rests y) le (leads_so k w t (FairEnds bumps t l o q) (λ c y. Rests y) (fair_so bumps o q) h)
 
-  hand_off_rests : (bumps : Bool) (a : HandOffAt) (v : ℕ) (o s : Option ℕ) (q : List Waiter) (w : State) → Facing w t l (Mutex l (HandOff bumps a)) v o s q → (inside (Mutex l (HandOff bumps a)) ≡ None → s ≡ None) → Leads 12 w t (λ c y. Rests y)
+  hand_off_rests : (bumps : Bool) (a : HandOffAt) (v : ℕ) (o s : Option ℕ) (q : List Waiter) (w : State) → Facing w t l (Mutex l (HandOff bumps a)) v o s q → ((station (Mutex l (HandOff bumps a))).inside ≡ None → s ≡ None) → Leads 12 w t (λ c y. Rests y)
   hand_off_rests bumps hand_off.Enter v o s q w f way = fair_rests 10 bumps (first_of q) (drop 1 q) w (omega arith) (fair_enter_leads bumps q v o w (subst (λ x. Facing w t l (Mutex l (HandOff bumps hand_off.Enter)) v o x q) (way refl) f))
   hand_off_rests bumps hand_off.Take v o s q w f way = fair_rests 9 bumps (first_of q) (drop 1 q) w (omega arith) (fair_take_leads bumps q v o s w f)
   hand_off_rests bumps (hand_off.Store taken none_left) v o s q w f way = fair_rests 8 bumps taken q w (omega arith) (store_leads bumps none_left taken q v o s w f)
@@ -329,17 +337,18 @@ try_so : (b : Bool) (x : Outcome) → x ≡ (if b then outcome.TheVariants.End a
 try_so true x h = rw h tt
 try_so false x h = rw h tt
 
-module _ (w : State) (t : ℕ) (shape : IsShaped w) (sound : IsSound w) (only : OnlyMutexes w) (there : t < length w.places) (way : HasItsWay w t) where
+module _ (w : State) (t : ℕ) (shape : IsShaped w) (steady : IsSteady w) (there : t < length w.places) (way : HasItsWay w t) where
   facing : (l : ℕ) (p : Place) → place_at w t ≡ p → l < length w.locks → Facing w t l p (word_at w l) (owner_at w l) (section_at w (2 * l)) (queue_at w (2 * l))
-  facing l p is lt = record { shape = shape; sound = sound; only = only; thread = there; lock = lt; place = is; word = refl; owner = refl; section = refl; queue = refl }
+  facing l p is lt = record { shape = shape; steady = steady; thread = there; lock = lt; place = is; word = refl; owner = refl; section = refl; queue = refl }
 
   -- outside its section it finds it free
-  free : (l : ℕ) (p : Place) → place_at w t ≡ p → lock_of p ≡ Some l → inside p ≡ None → (x : Option ℕ) → section_at w (2 * l) ≡ x → x ≡ None
+  free : (l : ℕ) (p : Place) → place_at w t ≡ p → lock_of p ≡ Some l → (station p).inside ≡ None → (x : Option ℕ) → section_at w (2 * l) ≡ x → x ≡ None
   free l p is own outside None e = refl
   free l p is own outside (Some u) e = let mine : u ≡ t = way l u (ap lock_of is ∙ own) e in
-      let within : inside (place_at w t) ≡ Some l = (sound.sections t l).1 (e ∙ ap Some mine) in let out : inside (place_at w t) ≡ None = ap inside is ∙ outside in absurd cc
+      let within : (station_at (place_at w t) l).inside ≡ Some Main = (steady.stands.sections t l Main).1 (e ∙ ap Some mine) in
+      let out : (station_at (place_at w t) l).inside ≡ None = nothing_at (place_at w t) l (λ y. y.inside) refl (ap (λ y. (station y).inside) is ∙ outside) in absurd cc
 
-  at_first : (l : ℕ) (p : Place) → place_at w t ≡ p → lock_of p ≡ Some l → inside p ≡ None → l < length w.locks → Facing w t l p (word_at w l) (owner_at w l) None (queue_at w (2 * l))
+  at_first : (l : ℕ) (p : Place) → place_at w t ≡ p → lock_of p ≡ Some l → (station p).inside ≡ None → l < length w.locks → Facing w t l p (word_at w l) (owner_at w l) None (queue_at w (2 * l))
   at_first l p is own outside lt = subst (λ s. Facing w t l p (word_at w l) (owner_at w l) s (queue_at w (2 * l))) (free l p is own outside (section_at w (2 * l)) refl) (facing l p is lt)
 
   place_rests : (p : Place) → place_at w t ≡ p → PlaceFits (length w.places) (length w.locks) p → p ≢ Idle → act_of p ≢ act.TheVariants.Sleep → Leads 12 w t (λ v x. Rests x)
@@ -384,8 +393,8 @@ module _ (w : State) (t : ℕ) (shape : IsShaped w) (sound : IsSound w) (only : 
 
     try_alone : (b : Bool) → is_locked (word_at w l) ≡ b → (x ≡ (if b then outcome.TheVariants.End answer.TheVariants.No else outcome.TheVariants.End answer.TheVariants.Yes)) × (owner_at v l ≡ (if b then owner_at w l else Some t))
         → EntersAlone (locks_of w) t l Exclusive Try x (locks_of v)
-    try_alone true e h = ((λ may. absurd (owned_word (word_at w l) (owner_at w l) (sound.codes l) e (may_own may))), λ b. h.0)
-    try_alone false e h = ((λ may. h), λ b. absurd (blocked_owned b (free_word (word_at w l) (owner_at w l) (sound.codes l) e)))
+    try_alone true e h = ((λ may. absurd (owned_word (word_at w l) (owner_at w l) (words_coded w steady l) e (may_own may))), λ b. h.0)
+    try_alone false e h = ((λ may. h), λ b. absurd (blocked_owned b (free_word (word_at w l) (owner_at w l) (words_coded w steady l) e)))
 
     unlock_alone : UnlockEnds l None v x → EndsAlone (locks_of w) t (Some (Releases l Exclusive false)) x (locks_of v)
     unlock_alone h = (h.0, (λ own. let g : None ≡ Some t = sym h.1 ∙ own in cc), λ mutex. h.1)
@@ -394,12 +403,12 @@ module _ (w : State) (t : ℕ) (shape : IsShaped w) (sound : IsSound w) (only : 
     succeeds [] = refl
     succeeds (y ∷ q) = refl
 
-    unlock_fair_alone : queued (place_at w t) ≡ None → UnlockEnds l (first_of (queue_at w (2 * l))) v x → EndsAlone (locks_of w) t (Some (Releases l Exclusive true)) x (locks_of v)
+    unlock_fair_alone : (station (place_at w t)).stands ≡ None → UnlockEnds l (first_of (queue_at w (2 * l))) v x → EndsAlone (locks_of w) t (Some (Releases l Exclusive true)) x (locks_of v)
     unlock_fair_alone awake h = (h.0, other, λ mutex. h.1 ∙ succeeds (queue_at w (2 * l)))
       where
         other : owner_at v l ≡ Some t → ⊥
         other own = let first : first_of (queue_at w (2 * l)) ≡ Some t = sym h.1 ∙ own in
-            let stands = stands_at (queued (place_at w t)) l (subst (λ n. 1 ≤ n) (sound.queues t l) (first_times t (queue_at w (2 * l)) first)) in cc
+            let stood : 1 ≤ times t (queue_at w (2 * l)) = first_times t (queue_at w (2 * l)) first in let none : times t (queue_at w (2 * l)) ≡ 0 = absent w steady t awake l in omega arith
 
     bump_alone : LockEnds t l entries.Bump (first_of (queue_at w (2 * l))) (drop 1 (queue_at w (2 * l))) v x → EndsAlone (locks_of w) t (Some (Bumps l Exclusive)) x (locks_of v)
     bump_alone h mutex = by_queue (queue_at w (2 * l)) h
@@ -410,15 +419,15 @@ module _ (w : State) (t : ℕ) (shape : IsShaped w) (sound : IsSound w) (only : 
 
   fairly : (l : ℕ) → place_at w t ≡ Mutex l UnlockFair → l < length w.locks → is_mutex (kind_at w l) ≡ true → (n : ℕ) (last : Outcome) → 12 ≤ n
       → EndsAlone (locks_of w) t (Some (Releases l Exclusive true)) (solo n w t last).outcome (locks_of (solo n w t last).state)
-  fairly l is lt kind n last le = unlock_fair_alone l kind (solo n w t last).state (solo n w t last).outcome (ap queued is)
+  fairly l is lt kind n last le = unlock_fair_alone l kind (solo n w t last).state (solo n w t last).outcome (ap (λ p. (station p).stands) is)
       (unlock_fair_leads t l (queue_at w (2 * l)) (word_at w l) (owner_at w l) w (at_first l _ is refl refl lt) n last (omega arith))
 
   call_alone : (l : ℕ) (fair : Bool) (c : MutexCall) → place_at w t ≡ Mutex l (mutex_first fair c) → l < length w.locks → is_mutex (kind_at w l) ≡ true → (n : ℕ) (last : Outcome) → 12 ≤ n
       → EndsAlone (locks_of w) t (Some (mutex_purpose fair l c)) (solo n w t last).outcome (locks_of (solo n w t last).state)
   call_alone l fair mutex_call.TheVariants.Lock is lt kind n last le = lock_alone l kind (solo n w t last).state (solo n w t last).outcome entries.Lock (owner_at w l) refl
-      (first_leads t l entries.Lock (queue_at w (2 * l)) false (word_at w l) (owner_at w l) (sound.codes l) w (at_first l _ is refl refl lt) n last (omega arith))
+      (first_leads t l entries.Lock (queue_at w (2 * l)) false (word_at w l) (owner_at w l) (words_coded w steady l) w (at_first l _ is refl refl lt) n last (omega arith))
   call_alone l fair mutex_call.TheVariants.LockTimed is lt kind n last le = lock_alone l kind (solo n w t last).state (solo n w t last).outcome entries.LockTimed (owner_at w l) refl
-      (first_leads t l entries.LockTimed (queue_at w (2 * l)) false (word_at w l) (owner_at w l) (sound.codes l) w (at_first l _ is refl refl lt) n last (omega arith))
+      (first_leads t l entries.LockTimed (queue_at w (2 * l)) false (word_at w l) (owner_at w l) (words_coded w steady l) w (at_first l _ is refl refl lt) n last (omega arith))
   call_alone l fair mutex_call.TheVariants.TryLock is lt kind n last le = try_alone l kind (solo n w t last).state (solo n w t last).outcome (is_locked (word_at w l)) refl
       (try_leads t l (queue_at w (2 * l)) None (word_at w l) (owner_at w l) w (at_first l _ is refl refl lt) n last (omega arith))
   call_alone l false mutex_call.TheVariants.Unlock is lt kind n last le = unlock_alone l kind (solo n w t last).state (solo n w t last).outcome
@@ -431,11 +440,11 @@ module _ (w : State) (t : ℕ) (shape : IsShaped w) (sound : IsSound w) (only : 
   -- a call that begins, stepped alone
   pub solo_ends : (c : Call) → place_at w t ≡ first_place (kind_at w (lock_in c)) c → (n : ℕ) (last : Outcome) → 12 ≤ n
       → EndsAlone (locks_of w) t (purpose_at (locks_of w) c) (solo n w t last).outcome (locks_of (solo n w t last).state)
-  solo_ends (call.TheVariants.Mutex l c) is n last le = subst (λ o. EndsAlone (locks_of w) t o (solo n w t last).outcome (locks_of (solo n w t last).state)) (sym (purpose_is (kind_at w l) l c calls.0))
-      (call_alone l (is_fair (kind_at w l)) c is fits.0 calls.0 n last le)
+  solo_ends (call.TheVariants.Mutex l c) is n last le = subst (λ o. EndsAlone (locks_of w) t o (solo n w t last).outcome (locks_of (solo n w t last).state)) (sym (purpose_is (kind_at w l) l c calls))
+      (call_alone l (is_fair (kind_at w l)) c is fits.0 calls n last le)
     where
-      calls : CallFits w (Mutex l (mutex_first (is_fair (kind_at w l)) c))
-      calls = subst (CallFits w) is (only.calls t)
+      calls : CallsMutex w (Mutex l (mutex_first (is_fair (kind_at w l)) c))
+      calls = subst (CallsMutex w) is (steady.stands.calls t)
 
       fits : PlaceFits (length w.places) (length w.locks) (Mutex l (mutex_first (is_fair (kind_at w l)) c))
       fits = subst (PlaceFits (length w.places) (length w.locks)) is (shape.places t)
@@ -450,10 +459,10 @@ stands_there (x ∷ xs) (suc t) busy = let ih : t < length xs = stands_there xs 
 first_busy : (k : Kind) (c : Call) (p : Place) → p ≡ first_place k c → p ≢ Idle
 first_busy k (call.TheVariants.Mutex l c) p is idle = let e : Mutex l (mutex_first (is_fair k) c) ≡ Idle = sym is ∙ idle in cc
 
-module _ (w : State) (t : ℕ) (shape : IsShaped w) (sound : IsSound w) (only : OnlyMutexes w) where
+module _ (w : State) (t : ℕ) (shape : IsShaped w) (steady : IsSteady w) where
   pub rests_alone : IsUnderWay w t → HasItsWay w t → Rests (solo 64 w t outcome.TheVariants.NotNow).outcome
-  rests_alone up way = solo_rests w t shape sound only (stands_there w.places t up.0) way up 64 outcome.TheVariants.NotNow (omega arith)
+  rests_alone up way = solo_rests w t shape steady (stands_there w.places t up.0) way up 64 outcome.TheVariants.NotNow (omega arith)
 
   pub ends_alone : (c : Call) → place_at w t ≡ first_place (kind_at w (lock_in c)) c → HasItsWay w t
       → EndsAlone (locks_of w) t (purpose_at (locks_of w) c) (solo 64 w t outcome.TheVariants.NotNow).outcome (locks_of (solo 64 w t outcome.TheVariants.NotNow).state)
-  ends_alone c is way = solo_ends w t shape sound only (stands_there w.places t (first_busy (kind_at w (lock_in c)) c (place_at w t) is)) way c is 64 outcome.TheVariants.NotNow (omega arith)
+  ends_alone c is way = solo_ends w t shape steady (stands_there w.places t (first_busy (kind_at w (lock_in c)) c (place_at w t) is)) way c is 64 outcome.TheVariants.NotNow (omega arith)

@@ -25,14 +25,15 @@ use Rattle.lot_steps.specs.Acts.{outcome_of}
 use Rattle.lot_steps.specs.Steps.{act_of, next_place, next_act}
 use Rattle.lot_world.specs.Machine.{State, unlocked, place_at, word_at, owners_at, section_at, queue_at, put, operated, filled_with, appended, removed, first_taken, taken_by, befallen, performed, reply_to, can_do, gone, go_of, is_possible, after, answered, go_outcome, solo}
 use Rattle.lot_world.specs.Fits.{IsShaped, SameSize}
-use Rattle.lot_world.specs.Sound.{IsSound, owner_at, queued, one_if}
+use Rattle.lot_world.specs.Refinement.{owner_at}
+use Rattle.lot_world.specs.MutexDeeds.{station}
+use Rattle.lot_world.specs.SitesOf.{IsSteady}
 use Rattle.lot_world.proofs.Counts.{without_absent}
 use Rattle.lot_world.proofs.Shape.{after_shaped, after_size, main_key_there, main_line_there}
-use Rattle.lot_world.proofs.Steady.{after_sound}
+use Rattle.lot_world.proofs.TurnsKept.{after_steady}
+use Rattle.lot_world.proofs.AtPlaces.{same_without}
 use Rattle.lot_world.proofs.ExclusiveOwners.{owner_after, exclusive-owners}
-use Rattle.lot_world.specs.OnlyMutexes.{OnlyMutexes}
 use Rattle.lot_world.specs.Solo.{Rests}
-use Rattle.lot_world.proofs.OnlyMutexes.{after_only}
 use Rattle.lot_world.proofs.Alone.{rests_after}
 
 -- ---------------------------------------------------------------- runs
@@ -57,8 +58,7 @@ module _ (w : State) (t : ℕ) (P : State → Outcome → Type 0) where
 -- where a thread stands in a call of a lock, the lock's word and owner, who is inside its section, and its queue
 pub record Facing (w : State) (t l : ℕ) (p : Place) (v : ℕ) (o : Option ℕ) (s : Option ℕ) (q : List Waiter) : Type 0 where
   pub shape : IsShaped w
-  pub sound : IsSound w
-  pub only : OnlyMutexes w
+  pub steady : IsSteady w
   pub thread : t < length w.places
   pub lock : l < length w.locks
   pub place : place_at w t ≡ p
@@ -86,8 +86,7 @@ module _ (w : State) (t l : ℕ) (p : Place) (v : ℕ) (o s : Option ℕ) (q : L
       → next_place p (reply_to w t (act_of p)) ≡ p2 → word_at b l ≡ v2 → owner_at b l ≡ o2 → section_at b (2 * l) ≡ s2 → queue_at b (2 * l) ≡ q2 → Facing (after w (go_of t)) t l p2 v2 o2 s2 q2
   faces b p2 v2 o2 s2 q2 can does places to word owner section queue = record {
     shape = after_shaped w (go_of t) f.shape;
-    sound = after_sound w (go_of t) f.shape f.sound;
-    only = after_only w (go_of t) f.only;
+    steady = after_steady w (go_of t) f.shape f.steady;
     thread = let size : SameSize w (after w (go_of t)) = after_size w (go_of t) in rw size.threads f.thread;
     lock = let size : SameSize w (after w (go_of t)) = after_size w (go_of t) in rw size.locks f.lock;
     place = ap (λ (x : State). place_at x t) led ∙ get_or-set_same b.places t p2 Idle (rw places f.thread);
@@ -178,7 +177,7 @@ module _ (w : State) (t l : ℕ) (p : Place) (v : ℕ) (o s : Option ℕ) (q : L
       heard : reply_to w t (act_of p) ≡ Done
       heard = ap (reply_to w t) is
 
-  pub park_faces : act_of p ≡ act.TheVariants.Park l (2 * l) (WordIs 3) Exclusive → v ≡ 3 → queued p ≡ None
+  pub park_faces : act_of p ≡ act.TheVariants.Park l (2 * l) (WordIs 3) Exclusive → v ≡ 3 → (station p).stands ≡ None
       → Faces w t l (next_place p (Parked true)) (outcome_of (next_act p (Parked true))) v o s (q ++ waiter (2 * l) t Exclusive ∷ [])
   park_faces is full nowhere = (
     told can ∙ ap (λ r. outcome_of (next_act p r)) heard,
@@ -195,12 +194,9 @@ module _ (w : State) (t l : ℕ) (p : Place) (v : ℕ) (o s : Option ℕ) (q : L
       heard : reply_to w t (act_of p) ≡ Parked true
       heard = ap (reply_to w t) is ∙ ap Parked is_full
 
-      absent : times t (queue_at w (2 * l)) ≡ 0
-      absent = f.sound.queues t l ∙ ap (λ x. one_if x l) (ap queued f.place ∙ nowhere)
-
       queue : get_or (appended w.queues (2 * l) t Exclusive) (2 * l) [] ≡ q ++ waiter (2 * l) t Exclusive ∷ []
       queue = get_or-set_same (map (without t) w.queues) (2 * l) _ [] (rw (length-map w.queues (without t)) (main_line_there w l f.shape f.lock))
-          ∙ ap (λ x. x ++ waiter (2 * l) t Exclusive ∷ []) (get_or-map (without t) w.queues (2 * l) [] ∙ without_absent t (queue_at w (2 * l)) absent ∙ f.queue)
+          ∙ ap (λ x. x ++ waiter (2 * l) t Exclusive ∷ []) (same_without w f.steady t (ap (λ x. (station x).stands) f.place ∙ nowhere) l ∙ f.queue)
 
   -- the word was another
   pub unparked_faces : act_of p ≡ act.TheVariants.Park l (2 * l) (WordIs 3) Exclusive → (v == 3) ≡ false → Faces w t l (next_place p (Parked false)) (outcome_of (next_act p (Parked false))) v o s q

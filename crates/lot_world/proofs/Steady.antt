@@ -1,6 +1,6 @@
 -- What the locks' being sites, and how threads stand, say of each place.
-use Rattle.std.proofs.Common.{ℕ, zero, suc, Bool, true, false, Option, Some, None, if◌then◌else◌, ◌==◌, ◌≡◌, ◌≢◌, ◌+◌, ◌*◌, ◌≤◌, ◌<◌, ◌⊎◌, ◌↔◌, inl, inr, List, [], ◌∷◌, length, get_or, map, refl, sym, ◌∙◌, ap, arith}
-use Rattle.std.proofs.lemmas.Bool.{cases_eq, eqb-true}
+use Rattle.std.proofs.Common.{ℕ, zero, suc, Bool, true, false, Option, Some, None, if◌then◌else◌, ◌==◌, ◌≡◌, ◌≢◌, ◌+◌, ◌*◌, ◌/◌, ◌%◌, ◌≤◌, ◌<◌, ◌⊎◌, ◌↔◌, inl, inr, List, [], ◌∷◌, length, get_or, map, refl, sym, ◌∙◌, ap, arith}
+use Rattle.std.proofs.lemmas.Bool.{cases_eq, cases_lt, eqb-true}
 use Rattle.std.proofs.lemmas.Bool.Decides.{nat_tests}
 use Rattle.std.proofs.Math.ListN.{get_or-map}
 use Rattle.lot_base.specs.declared.wants.Want.TheVariants.{Exclusive}
@@ -25,7 +25,7 @@ use Rattle.lot_world.proofs.GoneKept as gone
 pub use Rattle.lot_world.proofs.GoneKept.{IsAsleep, none_is}
 pub use Rattle.lot_world.proofs.SitesKept.{go_by}
 pub use Rattle.lot_world.proofs.TurnsKept.{idle_is}
-use Rattle.lot_world.proofs.SitesPromise.{codes_by, parked_at}
+use Rattle.lot_world.proofs.SitesPromise.{coded_at, parked_at}
 use Rattle.lot_world.proofs.TurnsKept.{after_steady}
 
 -- ---------------------------------------------------------------- lines and sections
@@ -108,7 +108,7 @@ sound_of w s = record {
   steady = s;
   sections = λ t k. (λ h. (s.stands.sections t k Main).0 ((inside_main (place_at w t) k).0 h), λ h. (inside_main (place_at w t) k).1 ((s.stands.sections t k Main).1 h));
   queues = λ t k. s.stands.lines t k Main ∙ counted (queued (place_at w t)) k (station_at (place_at w t) k).stands (queued_main (place_at w t) k);
-  codes = λ k. codes_by (lock_state w k).exclusive (is_parked (word_at w k)) (word_at w k) (s.sites.word k);
+  codes = coded_at w s;
   parked = λ t k h. at_least k (let one : times t (queue_at w (2 * k)) ≡ 1 = s.stands.lines t k Main ∙ ap (λ x. stood_in x Main) ((queued_main (place_at w t) k).0 h) in parked_at w s t k (omega arith));
   held = λ t k h. (s.sites.site k).held t (Has Exclusive) (owned_is (place_at w t) k h);
   carried = λ t u k h. (taken_is (place_at w u) t k.lock k.handed).0 (s.stands.hands.carried t u k.lock k.handed ((carries_is (place_at w t) u k.lock k.handed).1 h));
@@ -116,7 +116,10 @@ sound_of w s = record {
 }
   where
     at_least : (k : ℕ) → is_parked (word_at w k) ≡ true → 2 ≤ word_at w k
-    at_least k h = let a : word_at w k ≡ one_if_some (lock_state w k).exclusive + (if is_parked (word_at w k) then 2 else 0) = s.sites.word k in let b : word_at w k ≡ one_if_some (lock_state w k).exclusive + 2 = a ∙ ap (λ c. one_if_some (lock_state w k).exclusive + (if c then 2 else 0)) h in omega arith
+    at_least k h = elim (cases_lt (word_at w k) 2) [
+      | inl lt ↦ absurd (let none : word_at w k / 2 ≡ 0 = omega arith in let out : is_parked (word_at w k) ≡ false = ap (λ n. n % 2 == 1) none in cc)
+      | inr ge ↦ ge
+    ]
 
 pub after_sound : (w : State) (s : Step) → IsShaped w → IsSound w → IsSound (after w s)
 after_sound w s shape sound = sound_of (after w s) (after_steady w s shape sound.steady)

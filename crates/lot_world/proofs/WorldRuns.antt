@@ -3,52 +3,43 @@ use Rattle.std.proofs.Common.{ℕ, zero, suc, ◌≡◌, ◌≤◌, List, [], �
 use Rattle.lot_calls.specs.declared.calls.Step.{Step}
 use Rattle.lot_calls.specs.declared.outcomes.Outcome.{Outcome}
 use Rattle.lot_calls.specs.declared.outcomes.Outcome as outcome
-use Rattle.abstract_locks.specs.Runs.{AreLockStates, IsRun}
+use Rattle.abstract_locks.specs.Runs.{IsRun}
 use Rattle.lot_world.specs.Machine.{State, after, answered, after_all, answered_all, alone_after, go_of, solo}
 use Rattle.lot_world.specs.Fits.{IsShaped}
-use Rattle.lot_world.specs.Sound.{IsSound}
-use Rattle.lot_world.specs.OnlyMutexes.{OnlyMutexes}
 use Rattle.lot_world.specs.Refinement.{locks_of}
 use Rattle.lot_world.specs.WorldRuns.{IsWorldStep, IsWorldRun, Tells}
 use Rattle.lot_world.specs.Solo.{IsSoloRun, GoesOnUntil, last_told}
 use Rattle.lot_world.proofs.Owing.{owes_since}
 use Rattle.lot_world.proofs.Fair.{is_fair}
-use Rattle.lot_world.proofs.LockRuns.{after_locks}
 use Rattle.lot_world.proofs.LockSteps.{after_step}
 use Rattle.lot_world.proofs.OneThing.{one_thing, touches}
-use Rattle.lot_world.proofs.OnlyMutexes.{after_only, only_of}
-use Rattle.lot_world.proofs.Steady.{sound_of}
 use Rattle.lot_world.specs.SitesOf.{IsSteady}
 use Rattle.lot_world.proofs.Promises.{kept_after}
 use Rattle.lot_world.proofs.Shape.{after_shaped}
-use Rattle.lot_world.proofs.Steady.{after_sound}
+use Rattle.lot_world.proofs.TurnsKept.{after_steady}
 
 -- what the world keeps from step to step
 pub record Holds (w : State) : Type 0 where
   pub shaped : IsShaped w
-  pub sound : IsSound w
-  pub only : OnlyMutexes w
-  pub locks : AreLockStates (locks_of w)
+  pub steady : IsSteady w
 
 pub holds_of : (w : State) → IsShaped w → IsSteady w → Holds w
-holds_of w shape s = record { shaped = shape; sound = sound_of w s; only = only_of w shape s; locks = λ l. (s.sites.site l).state }
+holds_of w shape steady = record { shaped = shape; steady = steady }
 
 pub holds_after : (w : State) (s : Step) → Holds w → Holds (after w s)
 holds_after w s h = record {
   shaped = after_shaped w s h.shaped;
-  sound = after_sound w s h.shaped h.sound;
-  only = after_only w s h.only;
-  locks = after_locks w s h.shaped h.sound h.only h.locks;
+  steady = after_steady w s h.shaped h.steady;
 }
 
 pub world_step : (w : State) (s : Step) → Holds w → IsWorldStep w s (answered w s) (after w s)
 world_step w s h = record {
-  refines = after_step w s h.shaped h.sound h.only;
-  one_thing = one_thing w s h.sound h.only;
+  refines = after_step w s h.shaped h.steady;
+  one_thing = one_thing w s h.steady;
   touches = touches w s;
-  owing = owes_since w s h.shaped h.sound (kept_after w s h.shaped h.sound h.only h.locks);
-  fair = is_fair w s h.shaped h.sound h.only h.locks;
-  kept = kept_after w s h.shaped h.sound h.only h.locks;
+  owing = owes_since w s h.shaped h.steady (kept_after w s h.shaped h.steady);
+  fair = is_fair w s h.shaped h.steady;
+  kept = kept_after w s h.shaped h.steady;
 }
 
 pub world_run : (w : State) (ss : List Step) → Holds w → IsWorldRun w ss (answered_all w ss) (after_all w ss)

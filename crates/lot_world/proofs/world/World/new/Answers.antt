@@ -1,7 +1,6 @@
 use Rattle.lot_world.proofs.Shape.{opening_shaped}
 use Rattle.lot_world.proofs.OpeningSites.{opening_steady}
 use Rattle.lot_world.proofs.Promises.{kept, opening_is}
-use Rattle.lot_world.proofs.WorldRuns.{holds_of}
 use Rattle.lot_world.proofs.world.World.new.Goals as goal
 
 pub invariant_of-result : goal.invariant_of-result
@@ -12,5 +11,5 @@ invariant_of-result g c = rw c.in_ok-new.ensures.ok (
 
 pub returns-clause-opening : goal.returns-clause-opening
 returns-clause-opening g c =
-    let holds = holds_of _ (opening_shaped c.args.kinds.now c.args.threads c.requires.few_locks) (opening_steady c.args.kinds.now c.args.threads c.requires.some c.requires.fit) in
-    rw c.in_ok-new.ensures.ok (opening_is c.args.kinds.now c.args.threads, kept _ holds.sound holds.only holds.locks)
+    let steady = opening_steady c.args.kinds.now c.args.threads c.requires.some c.requires.fit in
+    rw c.in_ok-new.ensures.ok (opening_is c.args.kinds.now c.args.threads, kept _ steady)

@@ -22,12 +22,12 @@ loop-taken-preserved g c =
 pub returns-then-is_err-clause-kept_before : goal.returns-then-is_err-clause-kept_before
 returns-then-is_err-clause-kept_before g c =
     let before = holds_of c.self.inside.machine c.self.invariant.0 c.self.invariant.1 in
-    rw (← c.self.view_is) (kept c.self.inside.machine before.sound before.only before.locks)
+    rw (← c.self.view_is) (kept c.self.inside.machine before.steady)
 
 pub returns-clause-kept_before : goal.returns-clause-kept_before
 returns-clause-kept_before g c =
     let before = holds_of c.self.inside.machine c.self.invariant.0 c.self.invariant.1 in
-    rw (← c.self.view_is) (kept c.self.inside.machine before.sound before.only before.locks)
+    rw (← c.self.view_is) (kept c.self.inside.machine before.steady)
 
 pub returns-then-is_err-clause-stopped_refines : goal.returns-then-is_err-clause-stopped_refines
 returns-then-is_err-clause-stopped_refines g c =

@@ -16,17 +16,17 @@ invariant_of-self g c =
 pub returns-clause-refines : goal.returns-clause-refines
 returns-clause-refines g c =
     let before = holds_of c.self.inside.machine c.self.invariant.0 c.self.invariant.1 in
-    rw (c.turn.ensures.outcome, c.turn.ensures.state, ← c.self.view_is) (after_step c.self.inside.machine c.args.step before.shaped before.sound before.only)
+    rw (c.turn.ensures.outcome, c.turn.ensures.state, ← c.self.view_is) (after_step c.self.inside.machine c.args.step before.shaped before.steady)
 
 pub returns-clause-one_thing : goal.returns-clause-one_thing
 returns-clause-one_thing g c =
     let before = holds_of c.self.inside.machine c.self.invariant.0 c.self.invariant.1 in
-    rw (c.turn.ensures.state, ← c.self.view_is) (one_thing c.self.inside.machine c.args.step before.sound before.only)
+    rw (c.turn.ensures.state, ← c.self.view_is) (one_thing c.self.inside.machine c.args.step before.steady)
 
 pub returns-clause-kept : goal.returns-clause-kept
 returns-clause-kept g c =
     let before = holds_of c.self.inside.machine c.self.invariant.0 c.self.invariant.1 in
-    rw c.turn.ensures.state (kept_after c.self.inside.machine c.args.step before.shaped before.sound before.only before.locks)
+    rw c.turn.ensures.state (kept_after c.self.inside.machine c.args.step before.shaped before.steady)
 
 pub returns-clause-same_size : goal.returns-clause-same_size
 returns-clause-same_size g c = rw (c.turn.ensures.state, ← c.self.view_is) (after_size c.self.inside.machine c.args.step)
@@ -34,7 +34,7 @@ returns-clause-same_size g c = rw (c.turn.ensures.state, ← c.self.view_is) (af
 pub returns-clause-fair : goal.returns-clause-fair
 returns-clause-fair g c =
     let before = holds_of c.self.inside.machine c.self.invariant.0 c.self.invariant.1 in
-    rw (c.turn.ensures.state, ← c.self.view_is) (is_fair c.self.inside.machine c.args.step before.shaped before.sound before.only before.locks)
+    rw (c.turn.ensures.state, ← c.self.view_is) (is_fair c.self.inside.machine c.args.step before.shaped before.steady)
 
 pub returns-clause-touches : goal.returns-clause-touches
 returns-clause-touches g c = rw (c.turn.ensures.state, ← c.self.view_is) (touches c.self.inside.machine c.args.step)
@@ -42,4 +42,4 @@ returns-clause-touches g c = rw (c.turn.ensures.state, ← c.self.view_is) (touc
 pub returns-clause-owing : goal.returns-clause-owing
 returns-clause-owing g c =
     let before = holds_of c.self.inside.machine c.self.invariant.0 c.self.invariant.1 in
-    rw (c.turn.ensures.outcome, c.turn.ensures.state, ← c.self.view_is) (owes_since c.self.inside.machine c.args.step before.shaped before.sound (kept_after c.self.inside.machine c.args.step before.shaped before.sound before.only before.locks))
+    rw (c.turn.ensures.outcome, c.turn.ensures.state, ← c.self.view_is) (owes_since c.self.inside.machine c.args.step before.shaped before.steady (kept_after c.self.inside.machine c.args.step before.shaped before.steady))
