@@ -49,9 +49,11 @@ pub struct RawMutex {
 }
 
 impl RawMutex {
+    ghost use Rattle.parking_lot.specs.Users.{lot_of, word_of};
+
     /// The key of its queue.
     pub fn key(&self) -> Key
-        ensures { result ≡ 2 * self.now.word.number }
+        ensures { result ≡ 2 * (word_of self.now).number }
     {
         main_key(self.word.number())
     }
@@ -59,12 +61,12 @@ impl RawMutex {
     // The guard of who owns the mutex. It takes the lot from its caller, who has it at hand: behind an atomic step it would be loaded anew.
     #[inline]
     fn split(&self, lot: &ParkingLot, token: &mut Token) -> RawGuard
-        requires lot { lot.now ≡ arc_value self.now.lot }
-        requires own { IsTokenOf (arc_value self.now.lot) token.old }
-        requires held { has (held self.now.word.number) (view_of token.old).owns ≡ true }
-        ensures own { Stays (arc_value self.now.lot) token.old token.new × (last_of token.new ≡ last_of token.old) }
-        ensures left { view_of token.new ≡ left_over (held self.now.word.number) (view_of token.old) }
-        ensures guard { IsGuardOf (arc_value self.now.lot) self.now.word result }
+        requires lot { lot.now ≡ lot_of self.now }
+        requires own { IsTokenOf (lot_of self.now) token.old }
+        requires held { has (held (word_of self.now).number) (view_of token.old).owns ≡ true }
+        ensures own { Stays (lot_of self.now) token.old token.new × (last_of token.new ≡ last_of token.old) }
+        ensures left { view_of token.new ≡ left_over (held (word_of self.now).number) (view_of token.old) }
+        ensures guard { IsGuardOf (lot_of self.now) (word_of self.now) result }
     {
         RawGuard {
             right: lot.split_right(token, self.word, Want::Exclusive),
@@ -74,10 +76,10 @@ impl RawMutex {
     // Spends a guard: the token owns the mutex then.
     #[inline]
     fn join(&self, lot: &ParkingLot, token: &mut Token, guard: RawGuard)
-        requires lot { lot.now ≡ arc_value self.now.lot }
-        requires own { IsTokenOf (arc_value self.now.lot) token.old × IsGuardOf (arc_value self.now.lot) self.now.word guard }
-        ensures own { Stays (arc_value self.now.lot) token.old token.new × (last_of token.new ≡ last_of token.old) }
-        ensures joined { view_of token.new ≡ takes_in (view_of token.old) (piece (held self.now.word.number)) }
+        requires lot { lot.now ≡ lot_of self.now }
+        requires own { IsTokenOf (lot_of self.now) token.old × IsGuardOf (lot_of self.now) (word_of self.now) guard }
+        ensures own { Stays (lot_of self.now) token.old token.new × (last_of token.new ≡ last_of token.old) }
+        ensures joined { view_of token.new ≡ takes_in (view_of token.old) (piece (held (word_of self.now).number)) }
     {
         let RawGuard { right } = guard;
         lot.join_right(token, right);
@@ -87,13 +89,13 @@ impl RawMutex {
     #[cold]
     #[inline(never)]
     fn go_on<R: Wait>(&self, rt: &R, token: &mut Token, call: MutexCall, seen: u64) -> Answer
-        requires own { MeetAt (arc_value self.now.lot) token.old self.now.word }
-        requires goes_on { GoesOn self.now.word.number call seen (view_of token.old).owns }
-        ensures own { Stays (arc_value self.now.lot) token.old token.new }
-        ensures path { (before : List WordStep) → (view_of token.old).steps ≡ before ++ seen_step (mutex_at self.now.word.number) (first_op call) seen
-            → Walks (mutex_at self.now.word.number) (beginning self.now.word.number call) before (view_of token.new).steps result }
+        requires own { MeetAt (lot_of self.now) token.old (word_of self.now) }
+        requires goes_on { GoesOn (word_of self.now).number call seen (view_of token.old).owns }
+        ensures own { Stays (lot_of self.now) token.old token.new }
+        ensures path { (before : List WordStep) → (view_of token.old).steps ≡ before ++ seen_step (mutex_at (word_of self.now).number) (first_op call) seen
+            → Walks (mutex_at (word_of self.now).number) (beginning (word_of self.now).number call) before (view_of token.new).steps result }
         ensures rest { (more : List WordStep) × ((view_of token.new).steps ≡ (view_of token.old).steps ++ more) }
-        ensures over { IsOver self.now.word.number (view_of token.old).owns (purpose_in call) result (stage_of token.new None) }
+        ensures over { IsOver (word_of self.now).number (view_of token.old).owns (purpose_in call) result (stage_of token.new None) }
     {
         behind(rt, &self.lot, token, self.word, NO_LIMIT, call, seen)
     }
@@ -105,10 +107,10 @@ impl RawMutex {
         token: &mut Token,
         limit: Option<(&C, u64)>,
     ) -> Option<RawGuard>
-        requires { IsTokenOf (arc_value self.now.lot) token.old }
-        ensures token { IsTokenOf (arc_value self.now.lot) token.new × StaysAs token.old token.new }
-        ensures guard { IfSome result (IsGuardOf (arc_value self.now.lot) self.now.word) }
-        ensures path { Walks (mutex_at self.now.word.number) (beginning self.now.word.number LockTimed) (view_of token.old).steps (view_of token.new).steps (answer_by result) }
+        requires { IsTokenOf (lot_of self.now) token.old }
+        ensures token { IsTokenOf (lot_of self.now) token.new × StaysAs token.old token.new }
+        ensures guard { IfSome result (IsGuardOf (lot_of self.now) (word_of self.now)) }
+        ensures path { Walks (mutex_at (word_of self.now).number) (beginning (word_of self.now).number LockTimed) (view_of token.old).steps (view_of token.new).steps (answer_by result) }
     {
         let lot: &ParkingLot = &self.lot;
         let seen = step(lot, token, self.word, ENTER);
@@ -124,6 +126,8 @@ impl RawMutex {
 }
 
 impl lock_raw::RawMutex for RawMutex {
+    ghost use Rattle.parking_lot.specs.Users.{lot_of as lot_at, word_of};
+
     type Lot = ParkingLot;
 
     type Token = Token;
@@ -149,8 +153,8 @@ impl lock_raw::RawMutex for RawMutex {
     fn new(lot: &Arc<ParkingLot>, token: &mut Token) -> Result<RawMutex, Fault>
         requires { IsTokenOf (arc_value lot.now) token.old }
         ensures token { IsTokenOf (arc_value lot.now) token.new × StaysAs token.old token.new }
-        ensures made { MatchResult result (λ mutex. arc_value mutex.lot ≡ arc_value lot.now) (λ fault. (fault ≡ Fault.NoMemory) ⊎ (fault ≡ Fault.LotFull)) }
-        ensures drawn { MatchResult result (λ mutex. IsDrawn (arc_value lot.now).words.count (Mutex ∷ []) mutex.word.number (view_of token.old) (view_of token.new))
+        ensures made { MatchResult result (λ mutex. lot_at mutex ≡ arc_value lot.now) (λ fault. (fault ≡ Fault.NoMemory) ⊎ (fault ≡ Fault.LotFull)) }
+        ensures drawn { MatchResult result (λ mutex. IsDrawn (arc_value lot.now).words.count (Mutex ∷ []) (word_of mutex).number (view_of token.old) (view_of token.new))
             (λ fault. ((fault ≡ Fault.NoMemory) × (token.new ≡ token.old)) ⊎ ((fault ≡ Fault.LotFull) × IsRefused (arc_value lot.now).words.count 1 (view_of token.old) (view_of token.new))) }
     {
         let Ok(lot) = Arc::try_clone(lot) else {
