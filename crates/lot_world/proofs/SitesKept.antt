@@ -36,7 +36,7 @@ use Rattle.lot_world.specs.SitesOf.{site_of, rules_at, code, AllNeeded, IsSteady
 use Rattle.lot_world.proofs.Glue.{seen, site_seen, goes_from, put_places, put_here, put_other, IsOf, next_of, doing_elsewhere, taken_elsewhere, inside_is, own_stance, LetGo, leaving, taking, lets_taken, lets_handed, lets_nobody, IsTakenAt, is_taken, IsHandedAt, is_handed, untaken, handing, hands_acts}
 use Rattle.lot_world.proofs.MutexTable.{mutex, IsCode, OnWord, Steps, own_doing, goes_in as goes_into}
 use Rattle.lot_world.proofs.KindsKept.{operated_kinds}
-use Rattle.lot_world.specs.OnlyMutexes.{is_mutex}
+use Rattle.lot_world.specs.SitesOf.{is_mutex}
 use Rattle.lot_world.proofs.StandsMoved.{mutex_rules, still, goes_in, goes_out, lets_go, hands_lock, takes}
 use Rattle.lot_world.proofs.MutexSections.{hands_needed, take_needed, first_wants}
 
