@@ -1,5 +1,5 @@
 -- The word of a lock, and what a thread reads in it.
-use Rattle.std.specs.Prelude.{ℕ, Bool, true, false, Option, Some, None, if◌then◌else◌, ◌==◌, ◌&&◌, ◌||◌, not, ◌+◌, ◌-◌, ◌*◌, ◌/◌, ◌%◌, ◌<◌, ◌≤◌, ◌≡◌, length}
+use Rattle.std.specs.Prelude.{ℕ, Bool, true, false, Option, Some, None, if◌then◌else◌, ◌==◌, ◌&&◌, ◌||◌, not, ◌+◌, ◌-◌, ◌*◌, ◌/◌, ◌%◌, ◌<◌, ◌≤◌, ◌≡◌, length, nat_le}
 use Rattle.lot_base.specs.declared.wants.Want.{Want}
 use Rattle.lot_base.specs.declared.wants.Want.TheVariants.{Exclusive, Upgradable, Shared}
 use Rattle.abstract_locks.specs.Locks.{LockState, Pending, Sort, Mutex, Normal, Recursive, Semaphore, Rules, LockCase, Enter, Pend, Leave, Convert, HandOff, Rollback, Knows, NoWriter, IsFree, IsBlocked, is_recursive, count, readers, one_if_some, Needs, IsLockState}
@@ -45,6 +45,20 @@ has_aside v = v / 2 % 2 == 1
 
 abbrev pub has_parked : ℕ → Bool
 has_parked v = v % 2 == 1
+
+-- the parked bit of the main line, and that of the second, where the sort of lock has it
+abbrev pub parked_in : Sort → ℕ → Bool
+parked_in Mutex v = v / 2 % 2 == 1
+parked_in sort v = has_parked v
+
+abbrev pub aside_in : Sort → ℕ → Bool
+aside_in Normal v = has_aside v
+aside_in Recursive v = has_aside v
+aside_in sort v = false
+
+-- whether the count is at the limit, or above it
+abbrev pub fills : Rules → ℕ → Bool
+fills r v = has_readers r.sort && nat_le r.limit (count_in v)
 
 -- whether a want is blocked, by what is read
 abbrev pub is_blocked : Bool → Want → ℕ → Bool

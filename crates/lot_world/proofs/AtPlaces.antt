@@ -24,7 +24,7 @@ use Rattle.lot_world.specs.SitesOf.{IsSteady, carried_at, stood_in}
 use Rattle.lot_world.proofs.Counts.{without_absent, first_times}
 use Rattle.lot_world.proofs.Glue.{same, doing_here, nothing_at, own_stance, untaken}
 use Rattle.lot_world.proofs.MutexTable.{queued_times}
-use Rattle.lot_world.proofs.SitesPromise.{codes_by, first_out}
+use Rattle.lot_world.proofs.SitesPromise.{coded_at, first_out}
 
 -- no call of a mutex waits aside
 never_aside : (at : MutexPlace) → (mutex_station at).stands ≢ Some Second
@@ -58,7 +58,7 @@ stood places u l m h = elim (cases_lt u (length places)) [
 module _ (w : State) (steady : IsSteady w) where
   -- the word says whether the mutex is owned
   pub coded : (l : ℕ) → Codes (word_at w l) (owners_at w l).exclusive
-  coded l = codes_by (owners_at w l).exclusive (is_parked (word_at w l)) (word_at w l) (steady.sites.word l)
+  coded = coded_at w steady
 
   -- who has nobody in hand by its place
   pub taken_nobody : (t l : ℕ) → (doing_on (place_at w t) l).carries ≡ false → HasTakenNobody (lock_state w l) t

@@ -15,6 +15,8 @@ use Rattle.lot_steps.specs.declared.mutex.lock.LockAt.TheVariants as lock
 use Rattle.lot_steps.specs.declared.mutex.hand_off.HandOffAt.TheVariants as hand_off
 use Rattle.lot_steps.specs.declared.acts.Reply.{Reply}
 use Rattle.lot_steps.specs.declared.acts.Reply.TheVariants.{Woken, TakenBy, HandedBy}
+use Rattle.abstract_locks.specs.Codes.{parked_in, aside_in}
+use Rattle.std.proofs.Math.Bool.{or-false}
 use Rattle.lot_steps.specs.MutexSteps.{is_parked}
 use Rattle.lot_steps.specs.declared.acts.Next.{Next}
 use Rattle.lot_steps.specs.declared.acts.Next as next
@@ -22,14 +24,14 @@ use Rattle.lot_steps.specs.MutexSteps.{mutex_next}
 use Rattle.lot_steps.specs.Steps.{next_place, mutex_goes}
 use Rattle.lot_base.specs.declared.notes.Note.{Note}
 use Rattle.abstract_locks.specs.Locks.{LockState, Taken, Queued, Rules, TakeFirst, keep_from, let_go, shares_handed, sharing_from, put as putting}
-use Rattle.std.specs.Prelude.{sum, replicate, ◌&&◌}
+use Rattle.std.specs.Prelude.{sum, ◌&&◌, ◌||◌}
 use Rattle.lot_steps.specs.MutexSteps.{with_exclusive}
 use Rattle.abstract_locks.specs.Locks as locks
 use Rattle.abstract_locks.specs.Sites.{Doing, Has, Site, Main, Begin, Out, Mark, Clear, Does, idle, leaves, wakened, taking_main, is_full, after}
-use Rattle.lot_world.specs.Machine.{State, place_at, word_at, owners_at, queue_at, put}
+use Rattle.lot_world.specs.Machine.{State, place_at, word_at, owners_at, shares_at, filled_at, queue_at, put}
 use Rattle.lot_world.specs.Refinement.{lock_seen, taken_at}
 use Rattle.lot_world.specs.MutexDeeds.{Act, Station, hand, mutex_doing, mutex_station, station, station_at, nowhere, calls, doing_on, queued}
-use Rattle.lot_world.specs.SitesOf.{site_of, after_acts, carried_at, hand_at, Hands}
+use Rattle.lot_world.specs.SitesOf.{site_of, rules_at, after_acts, carried_at, hand_at, Hands}
 
 -- ---------------------------------------------------------------- lists with one element set, as functions
 
@@ -64,18 +66,34 @@ goes_from w t reply = put_places w t (next_place (place_at w t) reply) (λ h. ap
 
 -- ---------------------------------------------------------------- a site by its parts
 
-abbrev pub seen : (l threads word : ℕ) → Owners → (main second : List Waiter) → (ℕ → Place) → Site
-seen l threads word o main second places = record {
-  lock = lock_seen threads o main second (λ u. taken_at (places u) l);
-  parked = is_parked word;
-  aside_parked = false;
-  filled = false;
+abbrev pub mutex : Rules
+mutex = record { sort = locks.Mutex; limit = 0 }
+
+-- what no step of a mutex changes
+pub record Base : Type 0 where
+  pub shared : List ℕ
+  pub filled : Bool
+
+abbrev pub base_at : State → ℕ → Base
+base_at w l = record { shared = shares_at w l; filled = filled_at w l }
+
+-- the site of a lock with these rules, by its parts
+abbrev pub seen_by : Rules → (l : ℕ) → Base → (word : ℕ) → Owners → (main second : List Waiter) → (ℕ → Place) → Site
+seen_by r l n word o main second places = record {
+  lock = lock_seen n.shared o main second (λ u. taken_at (places u) l);
+  parked = parked_in r.sort word;
+  aside_parked = aside_in r.sort word;
+  filled = n.filled;
   doing = λ u. doing_on (places u) l;
 }
 
-pub site_seen : (v : State) (l : ℕ) (n word : ℕ) (o : Owners) (m s : List Waiter) (places : ℕ → Place) → length v.places ≡ n → word_at v l ≡ word → owners_at v l ≡ o → queue_at v (2 * l) ≡ m → queue_at v (2 * l + 1) ≡ s
-    → place_at v ≡ places → site_of v l ≡ seen l n word o m s places
-site_seen v l n word o m s places en ew eo em es ep = λ i. seen l (en i) (ew i) (eo i) (em i) (es i) (ep i)
+-- of a mutex
+abbrev pub seen : (l : ℕ) → Base → (word : ℕ) → Owners → (main second : List Waiter) → (ℕ → Place) → Site
+seen l n word o main second places = seen_by mutex l n word o main second places
+
+pub site_seen : (v : State) (r : Rules) (l : ℕ) (n : Base) (word : ℕ) (o : Owners) (m s : List Waiter) (places : ℕ → Place) → rules_at v l ≡ r → base_at v l ≡ n → word_at v l ≡ word → owners_at v l ≡ o → queue_at v (2 * l) ≡ m → queue_at v (2 * l + 1) ≡ s
+    → place_at v ≡ places → site_of v l ≡ seen_by r l n word o m s places
+site_seen v r l n word o m s places er en ew eo em es ep = λ i. seen_by (er i) l (en i) (ew i) (eo i) (em i) (es i) (ep i)
 
 pub same : (k : ℕ) → (k == k) ≡ true
 same k = grind (arith, nat_tests)
@@ -120,11 +138,11 @@ tries t l e retries = record { taken = rw (same l, same t) refl; doing = rw (sam
 pub accepts : (t l by : ℕ) (e : Entry) (retries : Bool) → LetGo t l (Mutex l (Lock e retries (lock.Handed by))) (next_place (Mutex l (Lock e retries (lock.Handed by))) (Woken note.HandOff))
 accepts t l by e retries = record { taken = refl; doing = refl }
 
-module _ (r : Rules) (l n word : ℕ) (o : Owners) (m s : List Waiter) (p q : ℕ → Place) (t : ℕ) where
+module _ (r : Rules) (l : ℕ) (n : Base) (word : ℕ) (o : Owners) (m s : List Waiter) (p q : ℕ → Place) (t : ℕ) where
   -- leaving a section, whoever is woken by it
   pub leaving : taken_at (p t) l ≡ None → taken_at (q t) l ≡ None → doing_on (q t) l ≡ leaves (doing_on (p t) l) → ((u : ℕ) → u ≢ t → LetGo t l (p u) (q u))
       → seen l n word o m s q ≡ after r Out (seen l n word o m s p) t
-  leaving none none2 own others = λ i. record (seen l n word o m s q) { lock = lock_seen n o m s (λ u. taken_now u i); doing = λ u. doing_now u i }
+  leaving none none2 own others = λ i. record (seen l n word o m s q) { lock = lock_seen n.shared o m s (λ u. taken_now u i); doing = λ u. doing_now u i }
     where
       taken_now : (u : ℕ) → taken_at (q u) l ≡ keep_from t (taken_at (p u) l)
       taken_now u = elim (cases_eq u t) [
@@ -219,9 +237,9 @@ abbrev pub local : Site → ℕ → LockState → Bool → Doing → Site
 local s t lock parked d = record s { lock = lock; parked = parked; doing = putting s.doing t d }
 
 -- what one thread's going elsewhere does to a site
-pub moved : (l n word : ℕ) (o : Owners) (m s : List Waiter) (p : ℕ → Place) (t : ℕ) (p2 : Place) → taken_at (p t) l ≡ taken_at p2 l
-    → seen l n word o m s (putting p t p2) ≡ local (seen l n word o m s p) t (lock_seen n o m s (λ u. taken_at (p u) l)) (is_parked word) (doing_on p2 l)
-moved l n word o m s p t p2 e = λ i. record (seen l n word o m s p) { lock = lock_seen n o m s (λ u. taken_same u i); doing = λ u. put_of (λ x. doing_on x l) p t p2 u i }
+pub moved : (l : ℕ) (n : Base) (word : ℕ) (o : Owners) (m s : List Waiter) (p : ℕ → Place) (t : ℕ) (p2 : Place) → taken_at (p t) l ≡ taken_at p2 l
+    → seen l n word o m s (putting p t p2) ≡ local (seen l n word o m s p) t (lock_seen n.shared o m s (λ u. taken_at (p u) l)) (is_parked word) (doing_on p2 l)
+moved l n word o m s p t p2 e = λ i. record (seen l n word o m s p) { lock = lock_seen n.shared o m s (λ u. taken_same u i); doing = λ u. put_of (λ x. doing_on x l) p t p2 u i }
   where
     taken_same : (u : ℕ) → taken_at (putting p t p2 u) l ≡ taken_at (p u) l
     taken_same u = put_of (λ x. taken_at x l) p t p2 u ∙ put_same (λ k. taken_at (p k) l) t (taken_at p2 l) e u
@@ -283,7 +301,7 @@ pub own_stance : (l : ℕ) (q : Place) (at : MutexPlace) → q ≡ Mutex l at �
 own_stance l q at is = ap (λ x. station_at x l) is ∙ station_here l (Mutex l at) refl
 
 -- another lock sees nothing of it
-pub moved_elsewhere : (l k n word : ℕ) (o : Owners) (m s : List Waiter) (p : ℕ → Place) (t : ℕ) (p2 : Place) → IsOf l (p t) → IsOf l p2 → k ≢ l → seen k n word o m s (putting p t p2) ≡ seen k n word o m s p
+pub moved_elsewhere : (l k : ℕ) (n : Base) (word : ℕ) (o : Owners) (m s : List Waiter) (p : ℕ → Place) (t : ℕ) (p2 : Place) → IsOf l (p t) → IsOf l p2 → k ≢ l → seen k n word o m s (putting p t p2) ≡ seen k n word o m s p
 moved_elsewhere l k n word o m s p t p2 h h2 ne = moved k n word o m s p t p2 (taken_elsewhere l k (p t) h ne ∙ sym (taken_elsewhere l k p2 h2 ne))
     ∙ (λ i. record (seen k n word o m s p) { doing = λ u. put_same (λ x. doing_on (p x) k) t (doing_on p2 k) (doing_elsewhere l k (p t) h ne ∙ sym (doing_elsewhere l k p2 h2 ne)) u i })
 
@@ -317,7 +335,7 @@ lets_nobody places hands t l p2 none u ne = rw (put_other places t p2 u ne) (sta
 
 -- ---------------------------------------------------------------- the first of a line is taken
 
-module _ (r : Rules) (l n word : ℕ) (o : Owners) (s rest : List Waiter) (x : Waiter) (p : ℕ → Place) (t : ℕ) (entry : Entry) (retries : Bool) (sort : r.sort ≡ locks.Mutex)
+module _ (r : Rules) (l : ℕ) (n : Base) (word : ℕ) (o : Owners) (s rest : List Waiter) (x : Waiter) (p : ℕ → Place) (t : ℕ) (entry : Entry) (retries : Bool) (sort : r.sort ≡ locks.Mutex)
     (first : p x.thread ≡ Mutex l (Lock entry retries lock.Asleep)) (wants : x.want ≡ Exclusive) (apart : x.thread ≢ t) where
   abbrev before : Site
   before = seen l n word o (x ∷ rest) s p
@@ -325,12 +343,12 @@ module _ (r : Rules) (l n word : ℕ) (o : Owners) (s rest : List Waiter) (x : W
   abbrev taken_then : ℕ → Option Taken
   taken_then = putting (λ u. taken_at (p u) l) x.thread (Some (record { by = t; want = Exclusive }))
 
-  pub taking : (p2 : Place) → taken_at (p t) l ≡ None → taken_at p2 l ≡ None → doing_on p2 l ≡ taking_main true (lock_seen n o rest s taken_then) (doing_on (p t) l)
+  pub taking : (p2 : Place) → taken_at (p t) l ≡ None → taken_at p2 l ≡ None → doing_on p2 l ≡ taking_main true (lock_seen n.shared o rest s taken_then) (doing_on (p t) l)
       → seen l n word o rest s (putting (putting p x.thread (next_place (p x.thread) (TakenBy t))) t p2) ≡ after r (Does (TakeFirst (queued x.thread))) before t
-  taking p2 none none2 own = λ i. record before { lock = lock_seen n o rest s (λ u. taken_now u i); filled = unfilled i; doing = λ u. doing_now u i }
+  taking p2 none none2 own = λ i. record before { lock = lock_seen n.shared o rest s (λ u. taken_now u i); filled = unfilled i; doing = λ u. doing_now u i }
     where
-      unfilled : false ≡ (false || is_full r (locks.after r (TakeFirst (queued x.thread)) before.lock t))
-      unfilled = rw sort refl
+      unfilled : n.filled ≡ (n.filled || is_full r (locks.after r (TakeFirst (queued x.thread)) before.lock t))
+      unfilled = rw sort (sym (or-false n.filled))
 
       hand_now : taken_at (next_place (p x.thread) (TakenBy t)) l ≡ Some (record { by = t; want = Exclusive })
       hand_now = rw (first, same l) refl
@@ -341,8 +359,8 @@ module _ (r : Rules) (l n word : ℕ) (o : Owners) (s rest : List Waiter) (x : W
         | inr ne ↦ rw (put_other (putting p x.thread (next_place (p x.thread) (TakenBy t))) t p2 u ne) (put_of (λ k. taken_at k l) p x.thread (next_place (p x.thread) (TakenBy t)) u ∙ ap (λ h. putting (λ k. taken_at (p k) l) x.thread h u) hand_now)
       ]
 
-      doing_now : (u : ℕ) → doing_on (putting (putting p x.thread (next_place (p x.thread) (TakenBy t))) t p2 u) l ≡ putting (λ k. doing_on (p k) l) t (taking_main true (lock_seen n o rest s taken_then) (doing_on (p t) l)) u
-      doing_now u = put_is (λ k. doing_on (p k) l) (λ k. doing_on (putting (putting p x.thread (next_place (p x.thread) (TakenBy t))) t p2 k) l) t (taking_main true (lock_seen n o rest s taken_then) (doing_on (p t) l))
+      doing_now : (u : ℕ) → doing_on (putting (putting p x.thread (next_place (p x.thread) (TakenBy t))) t p2 u) l ≡ putting (λ k. doing_on (p k) l) t (taking_main true (lock_seen n.shared o rest s taken_then) (doing_on (p t) l)) u
+      doing_now u = put_is (λ k. doing_on (p k) l) (λ k. doing_on (putting (putting p x.thread (next_place (p x.thread) (TakenBy t))) t p2 k) l) t (taking_main true (lock_seen n.shared o rest s taken_then) (doing_on (p t) l))
           (rw (put_here (putting p x.thread (next_place (p x.thread) (TakenBy t))) t p2) own)
           (λ k ne. rw (put_other (putting p x.thread (next_place (p x.thread) (TakenBy t))) t p2 k ne) (put_of (λ y. doing_on y l) p x.thread (next_place (p x.thread) (TakenBy t)) k ∙ put_same (λ y. doing_on (p y) l) x.thread (doing_on (next_place (p x.thread) (TakenBy t)) l) (rw (first, same l) refl) k))
           u
@@ -361,13 +379,12 @@ no_share t l (Mutex k (Lock e retries (lock.Taken by))) = either (k == l) (by ==
     either false c = refl
 no_share t l p = refl
 
-none_share : (t : ℕ) (taken : ℕ → Option Taken) → ((x : ℕ) → shares_handed t (taken x) ≡ 0) → (i n : ℕ) → sharing_from t taken i (replicate n 0) ≡ replicate n 0
-none_share t taken none i zero = refl
-none_share t taken none i (suc n) = λ j. ap (λ m. 0 + m) (none i) j ∷ none_share t taken none (i + 1) n j
-
-pub no_readers : (n : ℕ) → sum (replicate n 0) ≡ 0
-no_readers zero = refl
-no_readers (suc n) = no_readers n
+pub none_share : (t : ℕ) (taken : ℕ → Option Taken) → ((x : ℕ) → shares_handed t (taken x) ≡ 0) → (i : ℕ) (shared : List ℕ) → sharing_from t taken i shared ≡ shared
+none_share t taken none i [] = refl
+none_share t taken none i (k ∷ shared) = λ j. same_number j ∷ none_share t taken none (i + 1) shared j
+  where
+    same_number : k + shares_handed t (taken i) ≡ k
+    same_number = let none_here : shares_handed t (taken i) ≡ 0 = none i in omega arith
 
 -- to whom the lock goes, if to anybody
 abbrev pub heir : Option ℕ → Option Queued
@@ -375,15 +392,15 @@ heir None = None
 heir (Some u) = Some (queued u)
 
 -- the lock goes from t to those in hand
-pub handed_is : (t n : ℕ) (o : Owners) (m s : List Waiter) (p : ℕ → Place) (l : ℕ) (to : Option ℕ)
-    → locks.handed t Exclusive (heir to) (lock_seen n o m s (λ u. taken_at (p u) l)) ≡ lock_seen n (with_exclusive o to) m s (let_go t (λ u. taken_at (p u) l))
-handed_is t n o m s p l to = (λ i. locks.with_successor (heir to) (record (lock_seen n (with_exclusive o None) m s (let_go t (λ u. taken_at (p u) l))) { shared = none_share t (λ u. taken_at (p u) l) (λ x. no_share t l (p x)) 0 n i })) ∙ by_heir to
+pub handed_is : (t : ℕ) (n : Base) (o : Owners) (m s : List Waiter) (p : ℕ → Place) (l : ℕ) (to : Option ℕ) → sum n.shared ≡ 0
+    → locks.handed t Exclusive (heir to) (lock_seen n.shared o m s (λ u. taken_at (p u) l)) ≡ lock_seen n.shared (with_exclusive o to) m s (let_go t (λ u. taken_at (p u) l))
+handed_is t n o m s p l to unshared = (λ i. locks.with_successor (heir to) (record (lock_seen n.shared (with_exclusive o None) m s (let_go t (λ u. taken_at (p u) l))) { shared = none_share t (λ u. taken_at (p u) l) (λ x. no_share t l (p x)) 0 n.shared i })) ∙ by_heir to
   where
-    by_heir : (to : Option ℕ) → locks.with_successor (heir to) (lock_seen n (with_exclusive o None) m s (let_go t (λ u. taken_at (p u) l))) ≡ lock_seen n (with_exclusive o to) m s (let_go t (λ u. taken_at (p u) l))
+    by_heir : (to : Option ℕ) → locks.with_successor (heir to) (lock_seen n.shared (with_exclusive o None) m s (let_go t (λ u. taken_at (p u) l))) ≡ lock_seen n.shared (with_exclusive o to) m s (let_go t (λ u. taken_at (p u) l))
     by_heir None = refl
-    by_heir (Some u) = ap (λ (k : ℕ). if k == 0 then lock_seen n (with_exclusive o (Some u)) m s (let_go t (λ x. taken_at (p x) l)) else locks.pending_for u false (lock_seen n (with_exclusive o None) m s (let_go t (λ x. taken_at (p x) l)))) (no_readers n)
+    by_heir (Some u) = ap (λ (k : ℕ). if k == 0 then lock_seen n.shared (with_exclusive o (Some u)) m s (let_go t (λ x. taken_at (p x) l)) else locks.pending_for u false (lock_seen n.shared (with_exclusive o None) m s (let_go t (λ x. taken_at (p x) l)))) unshared
 
-module _ (r : Rules) (l n word : ℕ) (o : Owners) (m s : List Waiter) (p : ℕ → Place) (hands : Hands p) (t u : ℕ) (bumps none_left : Bool) (sort : r.sort ≡ locks.Mutex)
+module _ (r : Rules) (l : ℕ) (n : Base) (word : ℕ) (o : Owners) (m s : List Waiter) (p : ℕ → Place) (hands : Hands p) (t u : ℕ) (bumps none_left : Bool) (sort : r.sort ≡ locks.Mutex) (unshared : sum n.shared ≡ 0)
     (store : p t ≡ Mutex l (HandOff bumps (hand_off.Store (Some u) none_left))) where
   abbrev at_store : Site
   at_store = seen l n word o m s p
@@ -432,17 +449,17 @@ module _ (r : Rules) (l n word : ℕ) (o : Owners) (m s : List Waiter) (p : ℕ 
   -- the store does what its deeds do
   pub handing : (b : Bool) → none_left ≡ b → seen l n (if b then 1 else 3) (with_exclusive o (Some u)) m s handed_places ≡ after_acts r (hands_acts b) at_store
   handing b f = λ i. record at_store {
-    lock = (let_go_lock ∙ sym (handed_is t n o m s p l (Some u)) ∙ same_lock b) i;
+    lock = (let_go_lock ∙ sym (handed_is t n o m s p l (Some u) unshared) ∙ same_lock b) i;
     parked = bit b i;
     aside_parked = no_aside b i;
     filled = unfilled b i;
     doing = λ x. doing_then b f x i;
   }
     where
-      let_go_lock : lock_seen n (with_exclusive o (Some u)) m s (λ x. taken_at (handed_places x) l) ≡ lock_seen n (with_exclusive o (Some u)) m s (let_go t (λ x. taken_at (p x) l))
-      let_go_lock = λ i. lock_seen n (with_exclusive o (Some u)) m s (λ x. let_go_now x i)
+      let_go_lock : lock_seen n.shared (with_exclusive o (Some u)) m s (λ x. taken_at (handed_places x) l) ≡ lock_seen n.shared (with_exclusive o (Some u)) m s (let_go t (λ x. taken_at (p x) l))
+      let_go_lock = λ i. lock_seen n.shared (with_exclusive o (Some u)) m s (λ x. let_go_now x i)
 
-      same_lock : (b : Bool) → locks.handed t Exclusive (heir (Some u)) (lock_seen n o m s (λ x. taken_at (p x) l)) ≡ (after_acts r (hands_acts b) at_store).lock
+      same_lock : (b : Bool) → locks.handed t Exclusive (heir (Some u)) (lock_seen n.shared o m s (λ x. taken_at (p x) l)) ≡ (after_acts r (hands_acts b) at_store).lock
       same_lock true = refl
       same_lock false = refl
 
@@ -454,6 +471,6 @@ module _ (r : Rules) (l n word : ℕ) (o : Owners) (m s : List Waiter) (p : ℕ 
       no_aside true = refl
       no_aside false = refl
 
-      unfilled : (b : Bool) → false ≡ (after_acts r (hands_acts b) at_store).filled
-      unfilled true = rw sort refl
-      unfilled false = rw sort refl
+      unfilled : (b : Bool) → n.filled ≡ (after_acts r (hands_acts b) at_store).filled
+      unfilled true = rw sort (sym (or-false n.filled))
+      unfilled false = rw sort (sym (or-false n.filled))

@@ -28,6 +28,7 @@ use Rattle.lot_steps.specs.declared.mutex.TheConstants.{NOT_PARKED}
 use Rattle.lot_steps.specs.MutexSteps.{is_locked, is_parked, lock_act, unlock_act, hand_off_act, mutex_act}
 use Rattle.lot_steps.specs.Steps.{next_place, act_of}
 use Rattle.abstract_locks.specs.Locks.{one_if_some, TakeFirst}
+use Rattle.abstract_locks.specs.Codes.{bit}
 use Rattle.abstract_locks.specs.Sites.{Main, Second, End, is_empty, found, leaves, In, Out, Does, FindNobody}
 use Rattle.lot_world.specs.Machine.{State, place_at, word_at, owners_at, queue_at, section_at, can_do, put, filled_with, appended, removed, first_taken, befallen, taken_by, reply_to}
 use Rattle.lot_world.specs.Fits.{IsShaped, PlaceFits}
@@ -36,9 +37,9 @@ use Rattle.abstract_locks.specs.Picks.{queued_of}
 use Rattle.lot_world.specs.MutexDeeds.{Station, hand, nowhere, mutex_doing, mutex_station, station, station_at, acts, deeds, mutex_deeds, queued}
 use Rattle.lot_world.specs.SitesOf.{IsSteady, Goes, stood_in}
 use Rattle.lot_world.proofs.Shape.{main_line_there, main_key_there}
-use Rattle.lot_world.proofs.Glue.{same, differ, IsOf, own_stance, inside_is, doing_of, doing_here}
+use Rattle.lot_world.proofs.Glue.{base_at, same, differ, IsOf, own_stance, inside_is, doing_of, doing_here}
 use Rattle.lot_world.proofs.MutexTable.{Fits, own_doing, ends, looks, at_first, at_load, at_decide_free, at_decide_one, at_clear, at_release_clear, at_try, at_subtract, at_unlock_fair, at_bump, at_store_none}
-use Rattle.lot_world.proofs.SitesKept.{go_by, goes_steady, site_l, word_keeps, place_keeps, enter_keeps, leave_keeps, release_wakes, tells, hands_over, take_keeps}
+use Rattle.lot_world.proofs.SitesKept.{go_by, goes_steady, site_l, word_l, word_keeps, place_keeps, enter_keeps, leave_keeps, release_wakes, tells, hands_over, take_keeps}
 use Rattle.lot_world.proofs.StandsKept.{in_main}
 use Rattle.lot_world.proofs.SectionsKept.{park_keeps, remove_keeps, nobody_keeps}
 
@@ -46,7 +47,7 @@ pub none_is : (x : Option ℕ) → is_none x ≡ true → x ≡ None
 none_is None h = refl
 none_is (Some y) h = absurd cc
 
-owned_3 : (e : Option ℕ) → 3 ≡ one_if_some e + 2 → e ≢ None
+owned_3 : (e : Option ℕ) → 3 ≡ one_if_some e + 2 * 1 → e ≢ None
 owned_3 None h e = omega arith
 owned_3 (Some x) h e = cc
 
@@ -80,8 +81,8 @@ module _ (w : State) (t : ℕ) (steady : IsSteady w) (shape : IsShaped w) (there
   GoesBy l at a = Goes w (go_by w t (Mutex l at) a) l (deeds t at (reply_to w t a))
 
   -- one operation on the word
-  fitted : (l : ℕ) (at : MutexPlace) → place_at w t ≡ Mutex l at → l < length w.locks → (f : Op) → ((x : ℕ) → Fits l (length w.places) (owners_at w l) (queue_at w (2 * l)) (queue_at w (2 * l + 1)) (place_at w) t x at f) → Goes w (go_by w t (Mutex l at) (act.TheVariants.Word l f)) l (acts t (mutex_deeds at (Value (word_at w l))))
-  fitted l at is lt f fits = word_keeps w t l at steady is there lt f (fits (word_at w l) is (site_l w t l at steady is there) (steady.sites.word l))
+  fitted : (l : ℕ) (at : MutexPlace) → place_at w t ≡ Mutex l at → l < length w.locks → (f : Op) → ((x : ℕ) → Fits l (base_at w l) (owners_at w l) (queue_at w (2 * l)) (queue_at w (2 * l + 1)) (place_at w) t x at f) → Goes w (go_by w t (Mutex l at) (act.TheVariants.Word l f)) l (acts t (mutex_deeds at (Value (word_at w l))))
+  fitted l at is lt f fits = word_keeps w t l at steady is there lt f (fits (word_at w l) is (site_l w t l at steady is there) (word_l w t l at steady is there))
 
   line : (l : ℕ) → l < length w.locks → 2 * l < length w.queues
   line l lt = main_line_there w l shape lt
@@ -96,7 +97,7 @@ module _ (w : State) (t : ℕ) (steady : IsSteady w) (shape : IsShaped w) (there
   -- it looks, and does nothing
   pub looked : (l : ℕ) (at at2 : MutexPlace) → place_at w t ≡ Mutex l at → taken_at (Mutex l at) l ≡ None → taken_at (Mutex l at2) l ≡ None → mutex_doing at2 ≡ mutex_doing at → mutex_station at2 ≡ mutex_station at → Goes w (put w t (Mutex l at2)) l []
   looked l at at2 is none none2 d s = place_keeps w t l at steady is there (Mutex l at2) [] refl
-      (looks l (length w.places) (word_at w l) (word_at w l) (owners_at w l) (queue_at w (2 * l)) (queue_at w (2 * l + 1)) (place_at w) t (Mutex l at2) (site_l w t l at steady is there) (mutex_doing at) (own_doing l (place_at w t) at is) (ap (λ y. taken_at y l) is ∙ none) none2 refl
+      (looks l (base_at w l) (word_at w l) (word_at w l) (owners_at w l) (queue_at w (2 * l)) (queue_at w (2 * l + 1)) (place_at w) t (Mutex l at2) (site_l w t l at steady is there) (mutex_doing at) (own_doing l (place_at w t) at is) (ap (λ y. taken_at y l) is ∙ none) none2 refl
       (own_doing l (Mutex l at2) at2 refl ∙ d)) s
 
   -- what a thread does about the word that it saw, by its two tests
@@ -121,7 +122,7 @@ module _ (w : State) (t : ℕ) (steady : IsSteady w) (shape : IsShaped w) (there
 
       either : (b : Bool) → (word_at w l == 3) ≡ b → Goes w (put (if b then record w { queues = appended w.queues (2 * l) t Exclusive } else w) t (next_place (Mutex l (Lock e r lock.Check)) (Parked b))) l (deeds t (Lock e r lock.Check) (Parked b))
       either true f = let z : word_at w l ≡ 3 = eqb-true (word_at w l) 3 f in
-          park_keeps w t l (Lock e r lock.Check) steady is there (line l lt) (Mutex l (Lock e (r && not true) (lock.Leave true))) refl refl refl refl (ap is_parked z) (owned_3 (owners_at w l).exclusive (subst (λ x. x ≡ one_if_some (owners_at w l).exclusive + (if is_parked x then 2 else 0)) z (steady.sites.word l))) refl refl refl
+          park_keeps w t l (Lock e r lock.Check) steady is there (line l lt) (Mutex l (Lock e (r && not true) (lock.Leave true))) refl refl refl refl (ap is_parked z) (owned_3 (owners_at w l).exclusive (subst (λ x. x ≡ one_if_some (owners_at w l).exclusive + 2 * bit (is_parked x)) z (word_l w t l (Lock e r lock.Check) steady is there))) refl refl refl
           (own_doing l (Mutex l (Lock e (r && not true) (lock.Leave true))) (Lock e (r && not true) (lock.Leave true)) refl) refl
       either false f = looked l (Lock e r lock.Check) (Lock e (r && not false) (lock.Leave false)) is refl refl (again r) refl
 
@@ -152,7 +153,7 @@ module _ (w : State) (t : ℕ) (steady : IsSteady w) (shape : IsShaped w) (there
   lock_kept l e r (lock.Taken by) is lt can = absurd cc
   lock_kept l e r (lock.Handed by) is lt can = absurd cc
   lock_kept l e r lock.Accept is lt can = place_keeps w t l (Lock e r lock.Accept) steady is there Idle (End ∷ []) tt
-      (ends l (length w.places) (word_at w l) (word_at w l) (owners_at w l) (queue_at w (2 * l)) (queue_at w (2 * l + 1)) (place_at w) t Idle (site_l w t l (Lock e r lock.Accept) steady is there) (mutex_doing (Lock e r lock.Accept)) (own_doing l (place_at w t) (Lock e r lock.Accept) is)
+      (ends l (base_at w l) (word_at w l) (word_at w l) (owners_at w l) (queue_at w (2 * l)) (queue_at w (2 * l + 1)) (place_at w) t Idle (site_l w t l (Lock e r lock.Accept) steady is there) (mutex_doing (Lock e r lock.Accept)) (own_doing l (place_at w t) (Lock e r lock.Accept) is)
       (ap (λ y. taken_at y l) is) refl refl refl refl refl refl refl) refl
   lock_kept l e r lock.Remove is lt can = removed_kept l e r is lt
   lock_kept l e r lock.Clear is lt can = fitted l (Lock e r lock.Clear) is lt (op.TheVariants.And NOT_PARKED) (at_clear l _ _ _ _ _ t e r)

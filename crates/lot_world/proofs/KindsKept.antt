@@ -1,5 +1,5 @@
 -- Locks stay of their kinds.
-use Rattle.std.proofs.Common.{ℕ, zero, suc, Bool, true, false, Option, Some, None, if◌then◌else◌, ◌≡◌, List, [], ◌∷◌, get_or, set, refl, ◌∙◌}
+use Rattle.std.proofs.Common.{ℕ, zero, suc, Bool, true, false, Option, Some, None, if◌then◌else◌, ◌||◌, ◌≡◌, List, [], ◌∷◌, length, replicate, get_or, set, refl, ap, ◌∙◌}
 use Rattle.lot_base.specs.declared.keys.Keys.{Keys}
 use Rattle.lot_base.specs.declared.keys.Keys.TheVariants.{One, Two}
 use Rattle.lot_base.specs.declared.ops.Op.{Op}
@@ -20,7 +20,12 @@ use Rattle.lot_steps.specs.declared.places.Place.{Place}
 use Rattle.lot_steps.specs.Acts.{holds}
 use Rattle.lot_calls.specs.Kinds.{has_call}
 use Rattle.lot_steps.specs.Steps.{act_of, spin_lock, late_key}
-use Rattle.lot_world.specs.Machine.{State, unlocked, place_at, word_at, kind_at, queue_at, operated, filled_with, appended, first_taken, parked, taken_by, awakened, performed, spun_on, late_on, turned, is_possible, after}
+use Rattle.lot_world.specs.Machine.{State, unlocked, place_at, word_at, shares_at, filled_at, kind_at, queue_at, operated, filled_with, appended, first_taken, parked, taken_by, awakened, performed, spun_on, late_on, turned, is_possible, after}
+use Rattle.lot_base.specs.Words.{apply}
+use Rattle.abstract_locks.specs.Locks as locks
+use Rattle.abstract_locks.specs.Codes.{fills}
+use Rattle.abstract_locks.specs.Purposes.{rules_of}
+use Rattle.std.proofs.Math.Bool.{or-false}
 use Rattle.lot_world.specs.SitesOf.{is_mutex}
 
 -- what is read of each lock, where that of one is set
@@ -33,6 +38,14 @@ set_field f (x ∷ xs) (suc i) y d e (suc j) = set_field f xs i y d e j
 
 pub operated_kinds : (w : State) (t : ℕ) (p : Place) (l : ℕ) (f : Op) (k : ℕ) → kind_at (operated w t p l f) k ≡ kind_at w k
 operated_kinds w t p l f k = set_field (λ x. x.kind) w.locks l _ (unlocked kind.TheVariants.Mutex) refl k
+
+-- who shares what, where none of it changes
+pub shares_kept : (w : State) (n : ℕ) → n ≡ length w.places → (k : ℕ) → get_or w.shares k (replicate n 0) ≡ shares_at w k
+shares_kept w n threads k = ap (λ m. get_or w.shares k (replicate m 0)) threads
+
+-- a lock that nobody shares is not filled by an operation
+pub operated_filled : (w : State) (t : ℕ) (p : Place) (l : ℕ) (f : Op) → rules_of (kind_at w l) ≡ record { sort = locks.Mutex; limit = 0 } → (k : ℕ) → filled_at (operated w t p l f) k ≡ filled_at w k
+operated_filled w t p l f rules k = set_field (λ x. x.filled) w.locks l _ (unlocked kind.TheVariants.Mutex) (ap (λ r. filled_at w l || fills r (apply f (word_at w l))) rules ∙ or-false (filled_at w l)) k
 
 filled_kinds : (w : State) (keys : Keys) (who : Option ℕ) (k : ℕ) → kind_at (filled_with w keys who) k ≡ kind_at w k
 filled_kinds w (One key) who k = refl

@@ -225,7 +225,7 @@ module _ (w : State) (t : ℕ) (shape : IsShaped w) (steady : IsSteady w) (there
       ]
 
       same_locks : (k : ℕ) → lock_state (put (record w { sections = s }) t p2) k ≡ lock_state w k
-      same_locks k = λ i. record (lock_state w k) { shared = replicate (length-set w.places t p2 i) 0; taken = λ u. taken_same u k i }
+      same_locks k = λ i. record (lock_state w k) { shared = get_or w.shares k (replicate (length-set w.places t p2 i) 0); taken = λ u. taken_same u k i }
 
   spin_goes : (p : Place) → place_at w t ≡ p → is_there (spin_lock p) ≡ true → Stays (locks_of w) t (call_state p (rights w t)) outcome.TheVariants.Step (locks_of (spun_on w t (spin_lock p)))
   spin_goes Idle is can = absurd cc

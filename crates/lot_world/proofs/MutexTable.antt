@@ -1,5 +1,5 @@
 -- The entries of a mutex that touch the word: each does to the lock what its deeds say, they are allowed, and the word is the lock's.
-use Rattle.std.proofs.Common.{ℕ, Bool, true, false, Option, Some, None, if◌then◌else◌, ◌==◌, ◌≡◌, ◌≢◌, ◌+◌, ◌≤◌, List, [], ◌∷◌, ◌++◌, inl, inr, map, ◌⊎◌, ◌↔◌, cond, not, refl, sym, ◌∙◌, ap, subst, arith}
+use Rattle.std.proofs.Common.{ℕ, Bool, true, false, Option, Some, None, if◌then◌else◌, ◌==◌, ◌≡◌, ◌≢◌, ◌+◌, ◌*◌, ◌≤◌, List, [], ◌∷◌, ◌++◌, inl, inr, map, ◌⊎◌, ◌↔◌, cond, not, refl, sym, ◌∙◌, ap, subst, arith}
 use Rattle.std.proofs.lemmas.Bool.{cases_eq, eqb-true}
 use Rattle.lot_base.specs.declared.wants.Waiter.{Waiter}
 use Rattle.lot_base.specs.declared.wants.Want.{Want}
@@ -23,16 +23,17 @@ use Rattle.lot_steps.specs.MutexSteps.{is_parked, is_locked, mutex_owners, with_
 use Rattle.lot_steps.specs.Steps.{next_place}
 use Rattle.abstract_locks.specs.Locks.{LockState, Taken, Queued, Rules, IsTaken, keep_from, one_if_some, is_thread, put as putting}
 use Rattle.abstract_locks.specs.Locks as locks
-use Rattle.abstract_locks.specs.Sites.{Doing, Has, Site, IsSite, Deed, Main, Begin, End, In, Out, Mark, Clear, FindNobody, MarkOwned, Bring, MarkBrought, Does, idle, found, is_empty, seen_main, counts_some, after}
+use Rattle.abstract_locks.specs.Sites.{Doing, Has, Site, IsSite, Deed, Main, Begin, End, In, Out, Mark, Clear, FindNobody, MarkOwned, Bring, MarkBrought, Does, idle, found, is_empty, seen_main, counts_some, has_readers, after}
+use Rattle.abstract_locks.specs.Codes as codes
+use Rattle.std.proofs.Math.Bool.{or-false}
 use Rattle.lot_world.specs.Refinement.{lock_seen, taken_at}
 use Rattle.abstract_locks.specs.Picks.{queued_of}
 use Rattle.lot_world.specs.MutexDeeds.{Station, hand, nowhere, owner, mutex_doing, mutex_deeds, mutex_station, station, doing_on, acts}
+use Rattle.lot_world.specs.MutexDeeds as deeds
 use Rattle.lot_world.specs.SitesOf.{AllNeeded, after_acts}
-use Rattle.lot_world.proofs.Glue.{seen, moved, same, own_stance, put_here, put_other, no_readers, handed_is, Untaken, untaken}
+pub use Rattle.lot_world.proofs.Glue.{mutex}
+use Rattle.lot_world.proofs.Glue.{Base, seen, moved, same, own_stance, put_here, put_other, handed_is, Untaken, untaken}
 use Rattle.lot_world.specs.SitesOf.{Hands, carried_at}
-
-abbrev pub mutex : Rules
-mutex = record { sort = locks.Mutex; limit = 0 }
 
 -- ---------------------------------------------------------------- deeds of one thread
 
@@ -63,8 +64,21 @@ pub others_same : (r : Rules) (ds : List Deed) (s : Site) (t u : ℕ) → AreSin
 others_same r [] s t u h ne = refl
 others_same r (d ∷ ds) s t u h ne = others_same r ds (after r d s t) t u h.1 ne ∙ others_same_by r d s t u h.0 ne
 
+-- no deed fills a lock that nobody shares
+pub same_filled : (r : Rules) (ds : List deeds.Act) (s : Site) → has_readers r.sort ≡ false → (after_acts r ds s).filled ≡ s.filled
+same_filled r [] s h = refl
+same_filled r (a ∷ ds) s h = same_filled r ds (after r a.deed s a.by) h ∙ filled_by a.deed
+  where
+    filled_by : (d : Deed) → (after r d s a.by).filled ≡ s.filled
+    filled_by (Does case) = rw h (or-false s.filled)
+    filled_by (Mark Main) = refl
+    filled_by (Mark m) = refl
+    filled_by (Clear Main) = refl
+    filled_by (Clear m) = refl
+    filled_by d = refl
+
 -- a site as it is seen is one that is known by its parts
-pub meets : (l n word : ℕ) (o : Owners) (m s : List Waiter) (p : ℕ → Place) (t : ℕ) (p2 : Place) (v : Site) → taken_at (p t) l ≡ taken_at p2 l → lock_seen n o m s (λ u. taken_at (p u) l) ≡ v.lock → is_parked word ≡ v.parked → false ≡ v.aside_parked → false ≡ v.filled
+pub meets : (l : ℕ) (n : Base) (word : ℕ) (o : Owners) (m s : List Waiter) (p : ℕ → Place) (t : ℕ) (p2 : Place) (v : Site) → taken_at (p t) l ≡ taken_at p2 l → lock_seen n.shared o m s (λ u. taken_at (p u) l) ≡ v.lock → is_parked word ≡ v.parked → false ≡ v.aside_parked → n.filled ≡ v.filled
     → doing_on p2 l ≡ v.doing t → ((u : ℕ) → u ≢ t → v.doing u ≡ doing_on (p u) l) → seen l n word o m s (putting p t p2) ≡ v
 meets l n word o m s p t p2 v hand lock bit aside full own others = moved l n word o m s p t p2 hand ∙ (λ i. record { lock = lock i; parked = bit i; aside_parked = aside i; filled = full i; doing = λ u. doing_now u i })
   where
@@ -95,66 +109,66 @@ queued_times t (y ∷ q) = ap (λ k. (if y.thread == t then 1 else 0) + k) (queu
 -- ---------------------------------------------------------------- what one thread's step does to the lock that it calls
 
 -- it goes from where it stands to p2, by deeds that are allowed
-pub record Steps (l n w w2 : ℕ) (o o2 : Owners) (m m2 s : List Waiter) (p : ℕ → Place) (t : ℕ) (p2 : Place) (ds : List Deed) : Type 0 where
+pub record Steps (l : ℕ) (n : Base) (w w2 : ℕ) (o o2 : Owners) (m m2 s : List Waiter) (p : ℕ → Place) (t : ℕ) (p2 : Place) (ds : List Deed) : Type 0 where
   pub site : seen l n w2 o2 m2 s (putting p t p2) ≡ after_acts mutex (acts t ds) (seen l n w o m s p)
   pub needed : AllNeeded mutex (acts t ds) (seen l n w o m s p)
 
-module _ (l n w w2 : ℕ) (o : Owners) (m s : List Waiter) (p : ℕ → Place) (t : ℕ) (p2 : Place) (site : IsSite mutex (seen l n w o m s p)) (d : Doing) (is : doing_on (p t) l ≡ d) (hand : taken_at (p t) l ≡ None) (hand2 : taken_at p2 l ≡ None) where
+module _ (l : ℕ) (n : Base) (w w2 : ℕ) (o : Owners) (m s : List Waiter) (p : ℕ → Place) (t : ℕ) (p2 : Place) (site : IsSite mutex (seen l n w o m s p)) (d : Doing) (is : doing_on (p t) l ≡ d) (hand : taken_at (p t) l ≡ None) (hand2 : taken_at p2 l ≡ None) where
   abbrev now : Site
   now = seen l n w o m s p
 
-  meet : (o2 : Owners) (m2 : List Waiter) (ds : List Deed) → AreSingle ds → lock_seen n o2 m2 s (λ u. taken_at (p u) l) ≡ (after_acts mutex (acts t ds) now).lock → is_parked w2 ≡ (after_acts mutex (acts t ds) now).parked
-      → false ≡ (after_acts mutex (acts t ds) now).aside_parked → false ≡ (after_acts mutex (acts t ds) now).filled → doing_on p2 l ≡ (after_acts mutex (acts t ds) now).doing t → seen l n w2 o2 m2 s (putting p t p2) ≡ after_acts mutex (acts t ds) now
-  meet o2 m2 ds single lock bit aside full own = meets l n w2 o2 m2 s p t p2 (after_acts mutex (acts t ds) now) (hand ∙ sym hand2) lock bit aside full own (λ u ne. others_same mutex ds now t u single ne)
+  meet : (o2 : Owners) (m2 : List Waiter) (ds : List Deed) → AreSingle ds → lock_seen n.shared o2 m2 s (λ u. taken_at (p u) l) ≡ (after_acts mutex (acts t ds) now).lock → is_parked w2 ≡ (after_acts mutex (acts t ds) now).parked
+      → false ≡ (after_acts mutex (acts t ds) now).aside_parked → doing_on p2 l ≡ (after_acts mutex (acts t ds) now).doing t → seen l n w2 o2 m2 s (putting p t p2) ≡ after_acts mutex (acts t ds) now
+  meet o2 m2 ds single lock bit aside own = meets l n w2 o2 m2 s p t p2 (after_acts mutex (acts t ds) now) (hand ∙ sym hand2) lock bit aside (sym (same_filled mutex (acts t ds) now refl)) own (λ u ne. others_same mutex ds now t u single ne)
 
   pub looks : is_parked w2 ≡ is_parked w → doing_on p2 l ≡ d → Steps l n w w2 o o m m s p t p2 []
-  looks bit own = record { site = meet o m [] tt refl bit refl refl (own ∙ sym is); needed = tt }
+  looks bit own = record { site = meet o m [] tt refl bit refl (own ∙ sym is); needed = tt }
 
   pub enters : o.exclusive ≡ None → d.inside ≡ None → d.wakes ≡ None → d.carries ≡ false → (d.retries ≡ None) ⊎ (d.retries ≡ Some Exclusive) → is_parked w2 ≡ is_parked w → doing_on p2 l ≡ idle → Steps l n w w2 o (with_exclusive o (Some t)) m m s p t p2 (Does (locks.Enter Exclusive) ∷ End ∷ [])
   enters free i w c r bit own = record {
-    site = meet (with_exclusive o (Some t)) m (Does (locks.Enter Exclusive) ∷ End ∷ []) (tt, (tt, tt)) refl bit refl refl (own ∙ rw (same t) refl);
-    needed = (((((tt, free), tt), no_readers n), rw is r), (rw (same t, is) (i, w, c, λ h. absurd cc), tt));
+    site = meet (with_exclusive o (Some t)) m (Does (locks.Enter Exclusive) ∷ End ∷ []) (tt, (tt, tt)) refl bit refl (own ∙ rw (same t) refl);
+    needed = (((((tt, free), tt), site.state.unshared (λ h. h)), rw is r), (rw (same t, is) (i, w, c, λ h. absurd cc), tt));
   }
 
   pub marks : is_parked w2 ≡ true → doing_on p2 l ≡ d → Steps l n w w2 o o m m s p t p2 (Mark Main ∷ [])
-  marks bit own = record { site = meet o m (Mark Main ∷ []) (tt, tt) refl bit refl refl (own ∙ sym is); needed = (tt, tt) }
+  marks bit own = record { site = meet o m (Mark Main ∷ []) (tt, tt) refl bit refl (own ∙ sym is); needed = (tt, tt) }
 
   pub clears : is_parked w2 ≡ false → d.empty ≡ Some Main → doing_on p2 l ≡ record d { empty = None; brings = false } → Steps l n w w2 o o m m s p t p2 (Clear Main ∷ [])
-  clears bit e own = record { site = meet o m (Clear Main ∷ []) (tt, tt) refl bit refl refl (own ∙ rw (same t, is) refl); needed = (ap (λ (x : Doing). x.empty) is ∙ e, tt) }
+  clears bit e own = record { site = meet o m (Clear Main ∷ []) (tt, tt) refl bit refl (own ∙ rw (same t, is) refl); needed = (ap (λ (x : Doing). x.empty) is ∙ e, tt) }
 
   pub leaves : is_parked w2 ≡ is_parked w → d.claims ≡ Some (Has Exclusive) → d.wakes ≡ None → d.covers ≡ false → doing_on p2 l ≡ record d { wakes = seen_main (is_parked w); claims = None } → Steps l n w w2 o (with_exclusive o None) m m s p t p2 (Does (locks.Leave Exclusive) ∷ [])
   leaves bit c w v own = record {
-    site = meet (with_exclusive o None) m (Does (locks.Leave Exclusive) ∷ []) (tt, tt) refl bit refl refl (own ∙ rw (same t, is, v) refl);
+    site = meet (with_exclusive o None) m (Does (locks.Leave Exclusive) ∷ []) (tt, tt) refl bit refl (own ∙ rw (same t, is, v) refl);
     needed = ((site.held t (Has Exclusive) (ap (λ (x : Doing). x.claims) is ∙ c), ap (λ (x : Doing). x.wakes) is ∙ w), tt);
   }
 
   pub leaves_all : is_parked w2 ≡ is_parked w → is_parked w ≡ false → d.claims ≡ Some (Has Exclusive) → d.wakes ≡ None → d.covers ≡ false → d.inside ≡ None → d.carries ≡ false → d.retries ≡ None → doing_on p2 l ≡ idle → Steps l n w w2 o (with_exclusive o None) m m s p t p2 (Does (locks.Leave Exclusive) ∷ End ∷ [])
   leaves_all bit none c w v i k r own = record {
-    site = meet (with_exclusive o None) m (Does (locks.Leave Exclusive) ∷ End ∷ []) (tt, (tt, tt)) refl bit refl refl (own ∙ rw (same t) refl);
+    site = meet (with_exclusive o None) m (Does (locks.Leave Exclusive) ∷ End ∷ []) (tt, (tt, tt)) refl bit refl (own ∙ rw (same t) refl);
     needed = ((site.held t (Has Exclusive) (ap (λ (x : Doing). x.claims) is ∙ c), ap (λ (x : Doing). x.wakes) is ∙ w), (rw (same t, is, v, none) (i, refl, k, λ h. absurd (let g : counts_some locks.Mutex None ≡ true = rw r at h in cc)), tt));
   }
 
   pub ends : is_parked w2 ≡ is_parked w → d.inside ≡ None → d.wakes ≡ None → d.carries ≡ false → d.retries ≡ None → doing_on p2 l ≡ idle → Steps l n w w2 o o m m s p t p2 (End ∷ [])
   ends bit i w c r own = record {
-    site = meet o m (End ∷ []) (tt, tt) refl bit refl refl (own ∙ rw (same t) refl);
+    site = meet o m (End ∷ []) (tt, tt) refl bit refl (own ∙ rw (same t) refl);
     needed = (rw is (i, w, c, λ h. absurd (let g : counts_some locks.Mutex None ≡ true = rw r at h in cc)), tt);
   }
 
   pub goes_in : is_parked w2 ≡ is_parked w → ((u : ℕ) → (now.doing u).inside ≢ Some Main) → d.inside ≡ None → d.empty ≡ None → doing_on p2 l ≡ record d { inside = Some Main } → Steps l n w w2 o o m m s p t p2 (In Main ∷ [])
   goes_in bit free i e own = record {
-    site = meet o m (In Main ∷ []) (tt, tt) refl bit refl refl (own ∙ rw (same t, is) refl);
+    site = meet o m (In Main ∷ []) (tt, tt) refl bit refl (own ∙ rw (same t, is) refl);
     needed = ((free, rw is i, rw is e), tt);
   }
 
   pub finds_nobody : is_parked w2 ≡ is_parked w → m ≡ [] → d.inside ≡ Some Main → d.carries ≡ false → (d.wakes ≡ None) ⊎ (d.wakes ≡ Some Main) → doing_on p2 l ≡ record d { wakes = None; carries = true; covers = true; empty = Some Main } → Steps l n w w2 o o m m s p t p2 (FindNobody Main ∷ [])
   finds_nobody bit none i c v own = record {
-    site = meet o m (FindNobody Main ∷ []) (tt, tt) refl bit refl refl (own ∙ rw (same t, is) refl);
+    site = meet o m (FindNobody Main ∷ []) (tt, tt) refl bit refl (own ∙ rw (same t, is) refl);
     needed = ((rw is i, rw is c, ap (map queued_of) none, rw is v), tt);
   }
 
   pub parks : (key : ℕ) → is_parked w2 ≡ is_parked w → is_parked w ≡ true → (o.exclusive ≢ None) → times t m ≡ 0 → is_thread t (first_of s) ≡ 0 → d.inside ≡ Some Main → d.wakes ≡ None → d.covers ≡ false → doing_on p2 l ≡ record d { retries = None; empty = None } → Steps l n w w2 o o m (m ++ waiter key t Exclusive ∷ []) s p t p2 (Does (locks.Park Exclusive) ∷ [])
   parks key bit set owned nowhere aside i v c own = record {
-    site = meet o (m ++ waiter key t Exclusive ∷ []) (Does (locks.Park Exclusive) ∷ []) (tt, tt) (ap (λ q. record now.lock { queue = q }) (queued_behind key t Exclusive m)) bit refl refl (own ∙ rw (same t, is) refl);
+    site = meet o (m ++ waiter key t Exclusive ∷ []) (Does (locks.Park Exclusive) ∷ []) (tt, tt) (ap (λ q. record now.lock { queue = q }) (queued_behind key t Exclusive m)) bit refl (own ∙ rw (same t, is) refl);
     needed = ((((tt, owned), stands_nowhere), (rw is i, set, rw is v, rw is c)), tt);
   }
     where
@@ -163,14 +177,14 @@ module _ (l n w w2 : ℕ) (o : Owners) (m s : List Waiter) (p : ℕ → Place) (
 
   pub removes : is_parked w2 ≡ is_parked w → 1 ≤ times t m → first_of s ≡ None → d.inside ≡ Some Main → d.carries ≡ false → doing_on p2 l ≡ record d { empty = found Main (is_empty (map queued_of (without t m))) } → Steps l n w w2 o o m (without t m) s p t p2 (Does locks.Late ∷ [])
   removes bit stands none i c own = record {
-    site = meet o (without t m) (Does locks.Late ∷ []) (tt, tt) (λ j. record now.lock { queue = queued_without t m j; aside = (none ∙ sym (ap (locks.aside_without t) none)) j }) bit refl refl
+    site = meet o (without t m) (Does locks.Late ∷ []) (tt, tt) (λ j. record now.lock { queue = queued_without t m j; aside = (none ∙ sym (ap (locks.aside_without t) none)) j }) bit refl
         (own ∙ rw (same t, is, i, queued_without) refl);
     needed = (((let a : locks.times t (map queued_of m) ≡ times t m = queued_times t m in omega arith), (rw (is, i) (λ h. let g : None ≡ Some t = sym none ∙ h in cc), rw is c)), tt);
   }
 
   pub hands_nobody : is_parked w2 ≡ false → ((u : ℕ) → Untaken t (taken_at (p u) l)) → d.claims ≡ Some (Has Exclusive) → d.covers ≡ true → d.retries ≡ None → d.wakes ≡ None → d.inside ≡ Some Main → d.empty ≡ Some Main → doing_on p2 l ≡ record d { covers = false; claims = None; empty = None; brings = false; sets = false } → Steps l n w w2 o (with_exclusive o None) m m s p t p2 (Does (locks.HandOff Exclusive None) ∷ Clear Main ∷ [])
   hands_nobody bit none c v r k i e own = record {
-    site = meet (with_exclusive o None) m (Does (locks.HandOff Exclusive None) ∷ Clear Main ∷ []) (tt, (tt, tt)) (sym (λ j. lock_seen n (with_exclusive o None) m s (λ u. none u j)) ∙ sym (handed_is t n o m s p l None)) bit refl refl (own ∙ rw (same t, is) refl);
+    site = meet (with_exclusive o None) m (Does (locks.HandOff Exclusive None) ∷ Clear Main ∷ []) (tt, (tt, tt)) (sym (λ j. lock_seen n.shared (with_exclusive o None) m s (λ u. none u j)) ∙ sym (handed_is t n o m s p l None (site.state.unshared (λ h. h)))) bit refl (own ∙ rw (same t, is) refl);
     needed = (((site.held t (Has Exclusive) (ap (λ (x : Doing). x.claims) is ∙ c), (λ h. cc), heirless, tt), (rw is i, rw is v, rw is r, rw is k)), (rw (same t, is) e, tt));
   }
     where
@@ -181,26 +195,26 @@ module _ (l n w w2 : ℕ) (o : Owners) (m s : List Waiter) (p : ℕ → Place) (
 
 -- the word of a lock with this owner
 abbrev pub IsCode : ℕ → Option ℕ → Type 0
-IsCode w o = w ≡ one_if_some o + (if is_parked w then 2 else 0)
+IsCode w o = w ≡ one_if_some o + 2 * codes.bit (is_parked w)
 
 pub own_doing : (l : ℕ) (q : Place) (at : MutexPlace) → q ≡ Mutex l at → doing_on q l ≡ mutex_doing at
 own_doing l q at is = ap (λ x. doing_on x l) is ∙ ap (λ b. if b then mutex_doing at else idle) (same l)
 
 -- what a step on the word does to the lock, and that the word is the lock's
-pub record OnWord (l n w : ℕ) (o : Owners) (m s : List Waiter) (p : ℕ → Place) (t : ℕ) (at : MutexPlace) (f : Op) : Type 0 where
+pub record OnWord (l : ℕ) (n : Base) (w : ℕ) (o : Owners) (m s : List Waiter) (p : ℕ → Place) (t : ℕ) (at : MutexPlace) (f : Op) : Type 0 where
   pub steps : Steps l n w (apply f w) o (mutex_owners at t w o) m m s p t (next_place (Mutex l at) (Value w)) (mutex_deeds at (Value w))
   pub code : IsCode (apply f w) (mutex_owners at t w o).exclusive
   -- it neither goes into a section, nor out of one, nor into a line or a hand
   pub same : station (next_place (Mutex l at) (Value w)) ≡ mutex_station at
 
-module _ (l n : ℕ) (o : Owners) (m s : List Waiter) (p : ℕ → Place) (t : ℕ) where
+module _ (l : ℕ) (n : Base) (o : Owners) (m s : List Waiter) (p : ℕ → Place) (t : ℕ) where
   abbrev pub Fits : ℕ → MutexPlace → Op → Type 0
   Fits w at f = p t ≡ Mutex l at → IsSite mutex (seen l n w o m s p) → IsCode w o.exclusive → OnWord l n w o m s p t at f
 
   by_word : (at : MutexPlace) (f : Op) → Fits 0 at f → Fits 1 at f → Fits 2 at f → Fits 3 at f → (w : ℕ) → Fits w at f
   by_word at f a b c d w is site code = either o.exclusive (is_parked w) code
     where
-      either : (e : Option ℕ) (x : Bool) → w ≡ one_if_some e + (if x then 2 else 0) → OnWord l n w o m s p t at f
+      either : (e : Option ℕ) (x : Bool) → w ≡ one_if_some e + 2 * codes.bit x → OnWord l n w o m s p t at f
       either None false h = let g : w ≡ 0 = h in rw g (a is (rw g at site) (rw g at code))
       either (Some x) false h = let g : w ≡ 1 = h in rw g (b is (rw g at site) (rw g at code))
       either None true h = let g : w ≡ 2 = h in rw g (c is (rw g at site) (rw g at code))

@@ -7,15 +7,17 @@ use Rattle.lot_calls.specs.declared.kinds.Kind as kind
 use Rattle.lot_calls.specs.declared.kinds.TheConstants.{MOST_READERS}
 use Rattle.lot_calls.specs.Kinds.{fits}
 use Rattle.lot_steps.specs.declared.places.Place.TheVariants.{Idle}
-use Rattle.abstract_locks.specs.Locks.{Rules, opening_lock}
+use Rattle.abstract_locks.specs.Locks.{Rules, Sort, opening_lock}
+use Rattle.abstract_locks.specs.Locks as locks
+use Rattle.abstract_locks.specs.Codes.{code, parked_in, aside_in}
 use Rattle.abstract_locks.specs.Purposes.{rules_of}
 use Rattle.abstract_locks.specs.Sites.{IsSite, opening_site, is_full}
 use Rattle.abstract_locks.proofs.LockKeeps.{opening_is_state}
 use Rattle.lot_world.specs.Machine.{State, opening, unlocked, place_at, kind_at}
 use Rattle.lot_world.specs.MutexDeeds.{nowhere, station_at}
-use Rattle.lot_world.specs.SitesOf.{IsSteady, site_of, rules_at, code, key_of, carried_at, hand_at}
-use Rattle.lot_world.proofs.Glue.{past_all, seen, no_readers}
-use Rattle.lot_world.proofs.Opening.{idle_at, none_at, empty_at, nobody_owns}
+use Rattle.lot_world.specs.SitesOf.{IsSteady, site_of, rules_at, key_of, carried_at, hand_at}
+use Rattle.lot_world.proofs.Glue.{past_all, seen_by}
+use Rattle.lot_world.proofs.Opening.{idle_at, none_at, empty_at, nobody_owns, no_readers, opening_shares}
 use Rattle.lot_world.proofs.Shape.{both}
 
 -- where the limit leaves room for a reader
@@ -62,6 +64,27 @@ kind_is [] l = refl
 kind_is (x ∷ xs) zero = refl
 kind_is (x ∷ xs) (suc l) = kind_is xs l
 
+unfilled_0 : (kinds : List Kind) (l : ℕ) → (get_or (map unlocked kinds) l (unlocked kind.TheVariants.Mutex)).filled ≡ false
+unfilled_0 [] l = refl
+unfilled_0 (x ∷ xs) zero = refl
+unfilled_0 (x ∷ xs) (suc l) = unfilled_0 xs l
+
+-- no bit is set in a word that is 0
+no_bits : (sort : Sort) (n : ℕ) → record (opening_site n) { parked = parked_in sort 0; aside_parked = aside_in sort 0 } ≡ opening_site n
+no_bits locks.Mutex n = refl
+no_bits locks.Normal n = refl
+no_bits locks.Recursive n = refl
+no_bits locks.Semaphore n = refl
+
+-- the word of a new lock
+zero_code : (k : Kind) (n : ℕ) → code (rules_of k) (opening_site n) ≡ 0
+zero_code (kind.TheVariants.RwLock limit) n = let none : sum (replicate n 0) ≡ 0 = no_readers n in omega arith
+zero_code (kind.TheVariants.Recursive limit) n = let none : sum (replicate n 0) ≡ 0 = no_readers n in omega arith
+zero_code kind.TheVariants.Mutex n = refl
+zero_code kind.TheVariants.Fair n = refl
+zero_code kind.TheVariants.Condvar n = refl
+zero_code kind.TheVariants.Once n = refl
+
 module _ (kinds : List Kind) (threads : ℕ) where
   abbrev first : State
   first = opening kinds threads
@@ -73,7 +96,7 @@ module _ (kinds : List Kind) (threads : ℕ) where
   ])
 
   opening_seen : (l : ℕ) → site_of first l ≡ opening_site (length first.places)
-  opening_seen l = λ i. seen l (length first.places) (word_0 kinds l i) (nobody_owns kinds l i) (empty_at (2 * length kinds) (2 * l) i) (empty_at (2 * length kinds) (2 * l + 1) i) (λ u. idle_at threads u i)
+  opening_seen l = (λ i. seen_by (rules_at first l) l (record { shared = opening_shares kinds threads l i; filled = unfilled_0 kinds l i }) (word_0 kinds l i) (nobody_owns kinds l i) (empty_at (2 * length kinds) (2 * l) i) (empty_at (2 * length kinds) (2 * l + 1) i) (λ u. idle_at threads u i)) ∙ no_bits (rules_at first l).sort (length first.places)
 
   stands_nowhere : (t l : ℕ) → station_at (place_at first t) l ≡ nowhere
   stands_nowhere t l = ap (λ p. station_at p l) (idle_at threads t)
@@ -85,7 +108,9 @@ module _ (kinds : List Kind) (threads : ℕ) where
   opening_steady some fit = record {
     sites = record {
       site = λ l. rw (opening_seen l) (rw size (opening_is_site (rules_at first l) threads (room (kind_at first l) threads some (kinds_fit fit l))));
-      word = λ l. word_0 kinds l ∙ sym (ap code (opening_seen l));
+      word = λ l. word_0 kinds l ∙ sym (ap (code (rules_at first l)) (opening_seen l) ∙ zero_code (kind_at first l) (length first.places));
+      unused = λ l h. (word_0 kinds l, ap (λ o. o.exclusive) (nobody_owns kinds l));
+      unfilled = λ l h. unfilled_0 kinds l;
     };
     stands = record {
       sections = λ t l m. rw (stands_nowhere t l, none_at (2 * length kinds) (key_of l m)) (λ h. absurd cc, λ h. absurd cc);

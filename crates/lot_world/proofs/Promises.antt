@@ -39,7 +39,7 @@ use Rattle.lot_world.proofs.TurnsKept.{after_steady}
 use Rattle.lot_world.proofs.SitesPromise.{looked_after, parked as bit_set}
 use Rattle.lot_world.proofs.Glue.{same, nothing_at, own_stance, station_elsewhere, taken_elsewhere}
 use Rattle.lot_world.proofs.AtPlaces.{coded, stands_by, owns}
-use Rattle.lot_world.proofs.Opening.{idle_at, none_at, empty_at, nobody_owns}
+use Rattle.lot_world.proofs.Opening.{idle_at, none_at, empty_at, nobody_owns, opening_shares}
 use Rattle.std.proofs.lemmas.Bool.{cases_eq, eqb-true}
 use Rattle.abstract_locks.specs.Locks as locks
 
@@ -273,7 +273,7 @@ kept_after w s shape steady = kept (after w s) (after_steady w s shape steady)
 -- ---------------------------------------------------------------- the opening state, of the abstract locks
 
 opening_state : (kinds : List Kind) (threads l : ℕ) → lock_state (opening kinds threads) l ≡ opening_lock (length (opening kinds threads).places)
-opening_state kinds threads l = λ i. lock_seen (length (opening kinds threads).places) (nobody_owns kinds l i) (empty_at (2 * length kinds) (2 * l) i) (empty_at (2 * length kinds) (2 * l + 1) i) (λ u. taken_at (idle_at threads u i) l)
+opening_state kinds threads l = λ i. lock_seen (opening_shares kinds threads l i) (nobody_owns kinds l i) (empty_at (2 * length kinds) (2 * l) i) (empty_at (2 * length kinds) (2 * l + 1) i) (λ u. taken_at (idle_at threads u i) l)
 
 pub opening_is : (kinds : List Kind) (threads : ℕ) → IsOpening (locks_of (opening kinds threads))
 opening_is kinds threads = record {

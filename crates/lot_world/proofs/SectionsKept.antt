@@ -18,11 +18,11 @@ use Rattle.lot_world.specs.Machine.{State, place_at, word_at, owners_at, queue_a
 use Rattle.lot_world.specs.Refinement.{lock_state, taken_at}
 use Rattle.abstract_locks.specs.Picks.{queued_of}
 use Rattle.lot_world.specs.MutexDeeds.{Station, mutex_doing, mutex_station, station, station_at, doing_on, acts}
-use Rattle.lot_world.specs.SitesOf.{site_of, Follows, Goes, Stands, IsSteady, key_of, stood_in}
+use Rattle.lot_world.specs.SitesOf.{Follows, Goes, Stands, IsSteady, key_of, stood_in}
 use Rattle.lot_world.proofs.Counts.{without_absent}
-use Rattle.lot_world.proofs.Glue.{same, differ, put_places, IsOf, own_stance, station_elsewhere}
+use Rattle.lot_world.proofs.Glue.{base_at, same, differ, put_places, IsOf, own_stance, station_elsewhere}
 use Rattle.lot_world.proofs.MutexTable.{mutex, Steps, own_doing, parks, removes, finds_nobody}
-use Rattle.lot_world.proofs.SitesKept.{Changed, unchanged, changed_main, follow, alike_put, of_mutex, rules, site_l, own}
+use Rattle.lot_world.proofs.SitesKept.{mutex_at, same_bases, word_l, Changed, unchanged, changed_main, follow, alike_put, of_mutex, rules, site_l, own}
 use Rattle.lot_world.proofs.StandsMoved.{still, line_changes}
 
 apart_keys : (l k : ℕ) (m : Line) → (k ≡ l → m ≡ Main → ⊥) → key_of k m ≢ 2 * l
@@ -30,7 +30,7 @@ apart_keys l k Main ne e = ne (omega arith) refl
 apart_keys l k Second ne e = omega arith
 
 module _ (w : State) (t l : ℕ) (at : MutexPlace) (steady : IsSteady w) (is : place_at w t ≡ Mutex l at) (there : t < length w.places) (line : 2 * l < length w.queues) where
-  site_here : IsSite mutex (site_of w l)
+  site_here : IsSite mutex (mutex_at w l)
   site_here = site_l w t l at steady is there
 
   -- nobody stands aside
@@ -63,14 +63,14 @@ module _ (w : State) (t l : ℕ) (at : MutexPlace) (steady : IsSteady w) (is : p
   same_without key none = get_or-map (without t) w.queues key [] ∙ without_absent t (queue_at w key) none
 
   -- a place and the main line of its lock
-  line_sites : (v : State) (p2 : Place) (m : List Waiter) (ds : List Deed) → v.locks ≡ w.locks → v.places ≡ set w.places t p2 → IsOf l p2
+  line_sites : (v : State) (p2 : Place) (m : List Waiter) (ds : List Deed) → v.locks ≡ w.locks → v.shares ≡ w.shares → v.places ≡ set w.places t p2 → IsOf l p2
       → Changed (λ k. queue_at w (2 * k)) (λ k. queue_at v (2 * k)) l m → ((k : ℕ) → queue_at v (2 * k + 1) ≡ queue_at w (2 * k + 1))
-      → Steps l (length w.places) (word_at w l) (word_at w l) (owners_at w l) (owners_at w l) (queue_at w (2 * l)) m (queue_at w (2 * l + 1)) (place_at w) t p2 ds → Follows w v l (acts t ds)
-  line_sites v p2 m ds el ep of mains seconds steps = follow w v l (rules w t l at steady is there) (putting (place_at w) t p2) (word_at w l) (owners_at w l) m
-      (ap (λ (xs : List Place). λ u. get_or xs u Idle) ep ∙ put_places w t p2 (λ h. absurd (omega arith))) (ap (λ (xs : List Place). length xs) ep ∙ length-set w.places t p2)
+      → Steps l (base_at w l) (word_at w l) (word_at w l) (owners_at w l) (owners_at w l) (queue_at w (2 * l)) m (queue_at w (2 * l + 1)) (place_at w) t p2 ds → Follows w v l (acts t ds)
+  line_sites v p2 m ds el eh ep of mains seconds steps = follow w v l (rules w t l at steady is there) (putting (place_at w) t p2) (word_at w l) (owners_at w l) m
+      (ap (λ (xs : List Place). λ u. get_or xs u Idle) ep ∙ put_places w t p2 (λ h. absurd (omega arith))) (same_bases w v el eh (ap (λ (xs : List Place). length xs) ep ∙ length-set w.places t p2))
       (rw el (unchanged (word_at w) l)) (rw el (unchanged (owners_at w) l)) mains seconds (λ k. rw el refl)
       (λ k ne. alike_put l k (place_at w) t p2 (rw is refl) of ne)
-      (acts t ds) steps.site steps.needed (steady.sites.word l)
+      (acts t ds) steps.site steps.needed (word_l w t l at steady is there)
 
   -- the lines of every other key stay
   by_key : (queues : List (List Waiter)) → ((k : ℕ) (m : Line) → (k ≡ l → m ≡ Main → ⊥) → get_or queues (key_of k m) [] ≡ queue_at w (key_of k m)) → (key : ℕ) → key ≢ 2 * l → get_or queues key [] ≡ queue_at w key
@@ -89,10 +89,10 @@ module _ (w : State) (t l : ℕ) (at : MutexPlace) (steady : IsSteady w) (is : p
   pub park_keeps : (p2 : Place) → IsOf l p2 → taken_at (Mutex l at) l ≡ None → taken_at p2 l ≡ None → (mutex_station at).stands ≡ None → is_parked (word_at w l) ≡ true → (owners_at w l).exclusive ≢ None → (mutex_doing at).inside ≡ Some Main → (mutex_doing at).wakes ≡ None → (mutex_doing at).covers ≡ false
       → doing_on p2 l ≡ record (mutex_doing at) { retries = None; empty = None } → station p2 ≡ record (mutex_station at) { stands = Some Main } → Goes w (put (record w { queues = appended w.queues (2 * l) t Exclusive }) t p2) l (acts t (Does (locks.Park Exclusive) ∷ []))
   park_keeps p2 of none none2 nowhere full owned i k c e s = record {
-    follows = line_sites v p2 behind (Does (locks.Park Exclusive) ∷ []) refl refl of
+    follows = line_sites v p2 behind (Does (locks.Park Exclusive) ∷ []) refl refl refl of
         (record { here = line_now; other = λ j ne. others (2 * j) (λ h. ne (omega arith)) })
         (λ j. others (2 * j + 1) (λ h. omega arith))
-        (parks l (length w.places) (word_at w l) (word_at w l) (owners_at w l) (queue_at w (2 * l)) (queue_at w (2 * l + 1)) (place_at w) t p2 site_here (mutex_doing at) (own_doing l (place_at w t) at is) (ap (λ y. taken_at y l) is ∙ none) none2 (2 * l) refl full owned (absent nowhere l Main) (ap (is_thread t) no_aside) i k c e);
+        (parks l (base_at w l) (word_at w l) (word_at w l) (owners_at w l) (queue_at w (2 * l)) (queue_at w (2 * l + 1)) (place_at w) t p2 site_here (mutex_doing at) (own_doing l (place_at w t) at is) (ap (λ y. taken_at y l) is ∙ none) none2 (2 * l) refl full owned (absent nowhere l Main) (ap (is_thread t) no_aside) i k c e);
     stands = line_stands v p2 refl refl refl of others (λ u ne. rw line_now (let a : ◌≡◌ {A = ℕ} (if t == u then 1 else 0) 0 = ap (λ (b : Bool). if b then 1 else 0) (differ t u (λ h. ne (sym h))) in let b : times u behind ≡ times u (queue_at w (2 * l)) + (if t == u then 1 else 0) = times_append u (2 * l) t Exclusive (queue_at w (2 * l)) in omega arith))
         (λ m. own_count m ∙ ap (λ (x : Station). stood_in x.stands m) (sym s)) (Some Main) s;
   }
@@ -117,10 +117,10 @@ module _ (w : State) (t l : ℕ) (at : MutexPlace) (steady : IsSteady w) (is : p
   pub remove_keeps : (p2 : Place) → IsOf l p2 → taken_at (Mutex l at) l ≡ None → taken_at p2 l ≡ None → (mutex_station at).stands ≡ Some Main → (mutex_doing at).inside ≡ Some Main → (mutex_doing at).carries ≡ false
       → doing_on p2 l ≡ record (mutex_doing at) { empty = found Main (is_empty (map queued_of (without t (queue_at w (2 * l))))) } → station p2 ≡ record (mutex_station at) { stands = None } → Goes w (put (record w { queues = removed w.queues t }) t p2) l (acts t (Does locks.Late ∷ []))
   remove_keeps p2 of none none2 one i c e s = record {
-    follows = line_sites v p2 (without t (queue_at w (2 * l))) (Does locks.Late ∷ []) refl refl of
+    follows = line_sites v p2 (without t (queue_at w (2 * l))) (Does locks.Late ∷ []) refl refl refl of
         (record { here = line_now; other = λ j ne. others (2 * j) (λ h. ne (omega arith)) })
         (λ j. others (2 * j + 1) (λ h. omega arith))
-        (removes l (length w.places) (word_at w l) (word_at w l) (owners_at w l) (queue_at w (2 * l)) (queue_at w (2 * l + 1)) (place_at w) t p2 site_here (mutex_doing at) (own_doing l (place_at w t) at is) (ap (λ y. taken_at y l) is ∙ none) none2 refl here no_aside i c e);
+        (removes l (base_at w l) (word_at w l) (word_at w l) (owners_at w l) (queue_at w (2 * l)) (queue_at w (2 * l + 1)) (place_at w) t p2 site_here (mutex_doing at) (own_doing l (place_at w t) at is) (ap (λ y. taken_at y l) is ∙ none) none2 refl here no_aside i c e);
     stands = line_stands v p2 refl refl refl of others (λ u ne. rw line_now (times_without u t (queue_at w (2 * l)) ne)) (λ m. own_count m ∙ ap (λ (x : Station). stood_in x.stands m) (sym s)) None s;
   }
     where
@@ -154,10 +154,10 @@ module _ (w : State) (t l : ℕ) (at : MutexPlace) (steady : IsSteady w) (is : p
   pub nobody_keeps : (p2 : Place) → IsOf l p2 → taken_at (Mutex l at) l ≡ None → taken_at p2 l ≡ None → queue_at w (2 * l) ≡ [] → (mutex_doing at).inside ≡ Some Main → (mutex_doing at).carries ≡ false → ((mutex_doing at).wakes ≡ None) ⊎ ((mutex_doing at).wakes ≡ Some Main)
       → doing_on p2 l ≡ record (mutex_doing at) { wakes = None; carries = true; covers = true; empty = Some Main } → station p2 ≡ mutex_station at → Goes w (put (record w { queues = first_taken w.queues (2 * l) }) t p2) l (acts t (FindNobody Main ∷ []))
   nobody_keeps p2 of none none2 empty i c x own_is s = record {
-    follows = line_sites v p2 (queue_at w (2 * l)) (FindNobody Main ∷ []) refl refl of
+    follows = line_sites v p2 (queue_at w (2 * l)) (FindNobody Main ∷ []) refl refl refl of
         (subst (λ (y : List Waiter). Changed (λ k. queue_at w (2 * k)) (λ k. get_or (first_taken w.queues (2 * l)) (2 * k) []) l y) (ap (drop 1) empty ∙ sym empty) (changed_main w.queues l (drop 1 (queue_at w (2 * l))) [] line))
         (λ k. others (2 * k + 1) (λ h. omega arith))
-        (finds_nobody l (length w.places) (word_at w l) (word_at w l) (owners_at w l) (queue_at w (2 * l)) (queue_at w (2 * l + 1)) (place_at w) t p2 site_here (mutex_doing at) (own_doing l (place_at w t) at is) (ap (λ y. taken_at y l) is ∙ none) none2 refl empty i c x own_is);
+        (finds_nobody l (base_at w l) (word_at w l) (word_at w l) (owners_at w l) (queue_at w (2 * l)) (queue_at w (2 * l + 1)) (place_at w) t p2 site_here (mutex_doing at) (own_doing l (place_at w t) at is) (ap (λ y. taken_at y l) is ∙ none) none2 refl empty i c x own_is);
     stands = still w v steady.stands (λ k. refl) l t (of_mutex w t l at steady is there) (own w t l at steady is there) p2 of (put_places (record w { queues = first_taken w.queues (2 * l) }) t p2 (λ h. absurd (omega arith))) (λ key. refl) same_queue (s ∙ sym (ap station is));
   }
     where

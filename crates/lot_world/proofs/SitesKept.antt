@@ -1,5 +1,5 @@
 -- Each act of a thread keeps every lock of the world a site, whose word says so.
-use Rattle.std.proofs.Common.{ℕ, Bool, true, false, Option, Some, None, if◌then◌else◌, ◌≡◌, ◌≢◌, ◌+◌, ◌*◌, ◌≤◌, ◌<◌, List, [], ◌∷◌, ◌++◌, length, get_or, set, map, drop, inl, inr, refl, sym, ◌∙◌, ap, subst, arith, length-set, get_or-set_same, get_or-set_other}
+use Rattle.std.proofs.Common.{ℕ, Bool, true, false, Option, Some, None, if◌then◌else◌, ◌≡◌, ◌≢◌, ◌+◌, ◌*◌, ◌≤◌, ◌<◌, List, [], ◌∷◌, ◌++◌, length, replicate, get_or, set, map, drop, inl, inr, refl, sym, ◌∙◌, ap, subst, arith, length-set, get_or-set_same, get_or-set_other}
 use Rattle.std.proofs.lemmas.Bool.{cases_eq}
 use Rattle.lot_base.specs.declared.keys.Keys.TheVariants.{One}
 use Rattle.lot_base.specs.declared.notes.Note.{Note}
@@ -25,17 +25,20 @@ use Rattle.lot_steps.specs.declared.acts.Reply.TheVariants.{Value, Woken, TakenB
 use Rattle.lot_steps.specs.MutexSteps.{with_exclusive, mutex_owners, hand_off_word}
 use Rattle.lot_steps.specs.Steps.{next_place}
 use Rattle.abstract_locks.specs.Locks.{Rules, TakeFirst, put as putting}
-use Rattle.abstract_locks.specs.Sites.{Doing, Site, IsSite, Deed, Main, Second, In, Out, Does, idle, leaves, found, is_empty, after}
+use Rattle.abstract_locks.specs.Sites.{Doing, Site, IsSite, Deed, Main, Second, In, Out, Does, idle, leaves, found, is_empty, has_readers, after}
+use Rattle.abstract_locks.specs.Codes.{code}
+use Rattle.abstract_locks.specs.Purposes.{rules_of}
 use Rattle.abstract_locks.proofs.SiteKeeps.{deed_keeps}
-use Rattle.lot_world.specs.Machine.{State, unlocked, place_at, word_at, owners_at, kind_at, queue_at, put, operated, filled_with, section_at, first_taken, befallen, performed, reply_to}
+use Rattle.std.specs.Prelude.{sum}
+use Rattle.lot_world.specs.Machine.{State, unlocked, place_at, word_at, owners_at, shares_at, filled_at, kind_at, queue_at, put, operated, filled_with, section_at, first_taken, befallen, performed, reply_to}
 use Rattle.lot_world.specs.Refinement.{taken_at}
 use Rattle.abstract_locks.specs.Picks.{queued_of}
 use Rattle.lot_world.specs.MutexDeeds.{Station, hand, nowhere, mutex_doing, mutex_deeds, mutex_station, station, station_at, doing_on, acts, owner, queued}
 use Rattle.lot_world.specs.MutexDeeds as deeds
-use Rattle.lot_world.specs.SitesOf.{site_of, rules_at, code, AllNeeded, IsSteady, Follows, Goes, CallsMutex, carried_at, after_acts}
-use Rattle.lot_world.proofs.Glue.{seen, site_seen, goes_from, put_places, put_here, put_other, IsOf, next_of, doing_elsewhere, taken_elsewhere, inside_is, own_stance, LetGo, leaving, taking, lets_taken, lets_handed, lets_nobody, IsTakenAt, is_taken, IsHandedAt, is_handed, untaken, handing, hands_acts}
-use Rattle.lot_world.proofs.MutexTable.{mutex, IsCode, OnWord, Steps, own_doing, goes_in as goes_into}
-use Rattle.lot_world.proofs.KindsKept.{operated_kinds}
+use Rattle.lot_world.specs.SitesOf.{site_of, rules_at, AllNeeded, IsSteady, Follows, Goes, CallsMutex, carried_at, after_acts}
+use Rattle.lot_world.proofs.Glue.{Base, base_at, seen_by, seen, site_seen, goes_from, put_places, put_here, put_other, IsOf, next_of, doing_elsewhere, taken_elsewhere, inside_is, own_stance, LetGo, leaving, taking, lets_taken, lets_handed, lets_nobody, IsTakenAt, is_taken, IsHandedAt, is_handed, untaken, handing, hands_acts}
+use Rattle.lot_world.proofs.MutexTable.{mutex, IsCode, OnWord, Steps, same_filled, own_doing, goes_in as goes_into}
+use Rattle.lot_world.proofs.KindsKept.{operated_kinds, operated_filled}
 use Rattle.lot_world.specs.SitesOf.{is_mutex}
 use Rattle.lot_world.proofs.StandsMoved.{mutex_rules, still, goes_in, goes_out, lets_go, hands_lock, takes}
 use Rattle.lot_world.proofs.MutexSections.{hands_needed, take_needed, first_wants}
@@ -72,42 +75,64 @@ alike_both l k p v pv t p2 hv hpv ht h2 apart ne u =
     let b = alike_put l k (putting p v pv) t p2 (rw (put_other p v pv t (λ e. apart (sym e))) ht) h2 ne u in
     (b.0 ∙ a.0, b.1 ∙ a.1)
 
+-- a lock, by its rules
+abbrev pub lock_by : State → ℕ → Rules → Site
+lock_by w l r = seen_by r l (base_at w l) (word_at w l) (owners_at w l) (queue_at w (2 * l)) (queue_at w (2 * l + 1)) (place_at w)
+
+abbrev pub mutex_at : State → ℕ → Site
+mutex_at w l = lock_by w l mutex
+
+pub same_bases : (w v : State) → v.locks ≡ w.locks → v.shares ≡ w.shares → length v.places ≡ length w.places → (k : ℕ) → base_at v k ≡ base_at w k
+same_bases w v locks shares threads k = λ i. record { shared = get_or (shares i) k (replicate (threads i) 0); filled = (get_or (locks i) k (unlocked kind.TheVariants.Mutex)).filled }
+
 module _ (w v : State) (l : ℕ) (rules : rules_at w l ≡ mutex) (q : ℕ → Place) (word : ℕ) (o : Owners) (m : List Waiter)
-    (places : place_at v ≡ q) (threads : length v.places ≡ length w.places) (words : Changed (word_at w) (word_at v) l word) (owners : Changed (owners_at w) (owners_at v) l o)
+    (places : place_at v ≡ q) (bases : (k : ℕ) → base_at v k ≡ base_at w k) (words : Changed (word_at w) (word_at v) l word) (owners : Changed (owners_at w) (owners_at v) l o)
     (mains : Changed (λ k. queue_at w (2 * k)) (λ k. queue_at v (2 * k)) l m) (seconds : (k : ℕ) → queue_at v (2 * k + 1) ≡ queue_at w (2 * k + 1)) (kinds : (k : ℕ) → kind_at v k ≡ kind_at w k)
     (elsewhere : (k : ℕ) → k ≢ l → (u : ℕ) → AlikeAt k (place_at w u) (q u)) where
-  site_here : site_of v l ≡ seen l (length w.places) word o m (queue_at w (2 * l + 1)) q
-  site_here = site_seen v l (length w.places) word o m (queue_at w (2 * l + 1)) q threads words.here owners.here mains.here (seconds l) places
+  site_here : site_of v l ≡ seen l (base_at w l) word o m (queue_at w (2 * l + 1)) q
+  site_here = site_seen v mutex l (base_at w l) word o m (queue_at w (2 * l + 1)) q (ap rules_of (kinds l) ∙ rules) (bases l) words.here owners.here mains.here (seconds l) places
 
   site_there : (k : ℕ) → k ≢ l → site_of v k ≡ site_of w k
-  site_there k ne = site_seen v k (length w.places) (word_at w k) (owners_at w k) (queue_at w (2 * k)) (queue_at w (2 * k + 1)) q threads (words.other k ne) (owners.other k ne) (mains.other k ne) (seconds k) places
+  site_there k ne = site_seen v (rules_at w k) k (base_at w k) (word_at w k) (owners_at w k) (queue_at w (2 * k)) (queue_at w (2 * k + 1)) q (ap rules_of (kinds k)) (bases k) (words.other k ne) (owners.other k ne) (mains.other k ne) (seconds k) places
       ∙ (λ i. record (site_of w k) { lock = record (site_of w k).lock { taken = λ u. (elsewhere k ne u).0 i }; doing = λ u. (elsewhere k ne u).1 i })
 
   -- what one lock has been through
-  pub follow : (ds : List deeds.Act) → seen l (length w.places) word o m (queue_at w (2 * l + 1)) q ≡ after_acts mutex ds (site_of w l) → AllNeeded mutex ds (site_of w l) → IsCode word o.exclusive → Follows w v l ds
-  follow ds led needed code = record {
-    site = rw rules (site_here ∙ led);
-    needed = rw rules needed;
-    word = rw (words.here, owners.here) code;
+  pub follow : (ds : List deeds.Act) → seen l (base_at w l) word o m (queue_at w (2 * l + 1)) q ≡ after_acts mutex ds (mutex_at w l) → AllNeeded mutex ds (mutex_at w l) → IsCode word o.exclusive → Follows w v l ds
+  follow ds led needed coded = record {
+    site = site_here ∙ led ∙ sym (λ i. after_acts (rules i) ds (lock_by w l (rules i)));
+    needed = subst (λ r. AllNeeded r ds (lock_by w l r)) (sym rules) needed;
+    word = words.here ∙ coded ∙ sym (λ i. code (rules i) (site_here i));
     others = λ k ne. (site_there k ne, words.other k ne);
     kinds = kinds;
+    unshared = ap (λ r. has_readers r.sort) rules;
   }
 
 -- keeps all
 pub goes_steady : (w v : State) (l : ℕ) (ds : List deeds.Act) → IsSteady w → Goes w v l ds → IsSteady v
 goes_steady w v l ds steady g = record {
   sites = record {
-    site = λ k. rw (g.follows.kinds k) (elim (cases_eq k l) [
-      | inl e ↦ rw (e, g.follows.site) (acts_keep (rules_at w l) ds (site_of w l) (steady.sites.site l) g.follows.needed)
-      | inr ne ↦ rw ((g.follows.others k ne).0) (steady.sites.site k)
+    site = λ k. subst (λ x. IsSite (rules_of x) (site_of v k)) (sym (g.follows.kinds k)) (elim (cases_eq k l) [
+      | inl e ↦ rw e (subst (λ s. IsSite (rules_at w l) s) (sym g.follows.site) (acts_keep (rules_at w l) ds (site_of w l) (steady.sites.site l) g.follows.needed))
+      | inr ne ↦ subst (λ s. IsSite (rules_at w k) s) (sym (g.follows.others k ne).0) (steady.sites.site k)
     ]);
     word = λ k. elim (cases_eq k l) [
-      | inl e ↦ rw e g.follows.word
-      | inr ne ↦ (g.follows.others k ne).1 ∙ steady.sites.word k ∙ sym (ap code (g.follows.others k ne).0)
+      | inl e ↦ rw e (g.follows.word ∙ (λ i. code (rules_of (sym (g.follows.kinds l) i)) (site_of v l)))
+      | inr ne ↦ (g.follows.others k ne).1 ∙ steady.sites.word k ∙ sym (λ i. code (rules_of (g.follows.kinds k i)) ((g.follows.others k ne).0 i))
+    ];
+    unused = λ k h. let of_w : has_readers (rules_at w k).sort ≡ true = sym (ap (λ x. has_readers (rules_of x).sort) (g.follows.kinds k)) ∙ h in elim (cases_eq k l) [
+      | inl e ↦ absurd (let none : has_readers (rules_at w k).sort ≡ false = rw e g.follows.unshared in cc)
+      | inr ne ↦ let u = steady.sites.unused k of_w in ((g.follows.others k ne).1 ∙ u.0, ap (λ (s : Site). s.lock.exclusive) (g.follows.others k ne).0 ∙ u.1)
+    ];
+    unfilled = λ k h. let of_w : has_readers (rules_at w k).sort ≡ false = sym (ap (λ x. has_readers (rules_of x).sort) (g.follows.kinds k)) ∙ h in elim (cases_eq k l) [
+      | inl e ↦ rw e (unfilled_here (rw e at of_w))
+      | inr ne ↦ ap (λ (s : Site). s.filled) (g.follows.others k ne).0 ∙ steady.sites.unfilled k of_w
     ];
   };
   stands = g.stands;
 }
+  where
+    unfilled_here : has_readers (rules_at w l).sort ≡ false → filled_at v l ≡ false
+    unfilled_here h = ap (λ (s : Site). s.filled) g.follows.site ∙ same_filled (rules_at w l) ds (site_of w l) h ∙ steady.sites.unfilled l h
 
 -- ---------------------------------------------------------------- what the acts change
 
@@ -122,8 +147,11 @@ module _ (w : State) (t l : ℕ) (at : MutexPlace) (steady : IsSteady w) (is : p
   pub rules : rules_at w l ≡ mutex
   rules = mutex_rules (kind_at w l) of_mutex
 
-  pub site_l : IsSite mutex (seen l (length w.places) (word_at w l) (owners_at w l) (queue_at w (2 * l)) (queue_at w (2 * l + 1)) (place_at w))
-  site_l = rw rules at (steady.sites.site l)
+  pub site_l : IsSite mutex (seen l (base_at w l) (word_at w l) (owners_at w l) (queue_at w (2 * l)) (queue_at w (2 * l + 1)) (place_at w))
+  site_l = subst (λ r. IsSite r (lock_by w l r)) rules (steady.sites.site l)
+
+  pub word_l : IsCode (word_at w l) (owners_at w l).exclusive
+  word_l = steady.sites.word l ∙ (λ i. code (rules i) (lock_by w l (rules i)))
 
   pub own : IsOf l (place_at w t)
   own = rw is refl
@@ -135,10 +163,10 @@ module _ (w : State) (t l : ℕ) (at : MutexPlace) (steady : IsSteady w) (is : p
   station_is_at = ap station is
 
   -- a step on the word
-  pub word_keeps : l < length w.locks → (f : Op) → OnWord l (length w.places) (word_at w l) (owners_at w l) (queue_at w (2 * l)) (queue_at w (2 * l + 1)) (place_at w) t at f → Goes w (go_by w t (Mutex l at) (act.TheVariants.Word l f)) l (acts t (mutex_deeds at (Value (word_at w l))))
+  pub word_keeps : l < length w.locks → (f : Op) → OnWord l (base_at w l) (word_at w l) (owners_at w l) (queue_at w (2 * l)) (queue_at w (2 * l + 1)) (place_at w) t at f → Goes w (go_by w t (Mutex l at) (act.TheVariants.Word l f)) l (acts t (mutex_deeds at (Value (word_at w l))))
   word_keeps lt f on = record {
     follows = follow w after l rules (putting (place_at w) t p2) (apply f (word_at w l)) (mutex_owners at t (word_at w l) (owners_at w l)) (queue_at w (2 * l))
-        places (length-set w.places t p2)
+        places (λ k i. record { shared = get_or w.shares k (replicate (length-set w.places t p2 i) 0); filled = operated_filled w t (Mutex l at) l f rules k i })
         (changed_set (λ x. x.word) w.locks l _ (unlocked kind.TheVariants.Mutex) lt) (changed_set (λ x. x.owners) w.locks l _ (unlocked kind.TheVariants.Mutex) lt)
         (unchanged (λ k. queue_at w (2 * k)) l) (λ k. refl) same_kinds
         (λ k ne. alike_put l k (place_at w) t p2 own of ne)
@@ -162,19 +190,19 @@ module _ (w : State) (t l : ℕ) (at : MutexPlace) (steady : IsSteady w) (is : p
       same_kinds = operated_kinds w t (Mutex l at) l f
 
   -- a place and the section of its lock change
-  place_sites : (v : State) (p2 : Place) (ds : List Deed) → v.locks ≡ w.locks → v.queues ≡ w.queues → v.places ≡ set w.places t p2 → IsOf l p2
-      → Steps l (length w.places) (word_at w l) (word_at w l) (owners_at w l) (owners_at w l) (queue_at w (2 * l)) (queue_at w (2 * l)) (queue_at w (2 * l + 1)) (place_at w) t p2 ds → Follows w v l (acts t ds)
-  place_sites v p2 ds el eq ep of steps = follow w v l rules (putting (place_at w) t p2) (word_at w l) (owners_at w l) (queue_at w (2 * l))
-      (ap (λ (xs : List Place). λ u. get_or xs u Idle) ep ∙ put_places w t p2 (past p2)) (ap (λ (xs : List Place). length xs) ep ∙ length-set w.places t p2)
+  place_sites : (v : State) (p2 : Place) (ds : List Deed) → v.locks ≡ w.locks → v.shares ≡ w.shares → v.queues ≡ w.queues → v.places ≡ set w.places t p2 → IsOf l p2
+      → Steps l (base_at w l) (word_at w l) (word_at w l) (owners_at w l) (owners_at w l) (queue_at w (2 * l)) (queue_at w (2 * l)) (queue_at w (2 * l + 1)) (place_at w) t p2 ds → Follows w v l (acts t ds)
+  place_sites v p2 ds el es eq ep of steps = follow w v l rules (putting (place_at w) t p2) (word_at w l) (owners_at w l) (queue_at w (2 * l))
+      (ap (λ (xs : List Place). λ u. get_or xs u Idle) ep ∙ put_places w t p2 (past p2)) (same_bases w v el es (ap (λ (xs : List Place). length xs) ep ∙ length-set w.places t p2))
       (rw el (unchanged (word_at w) l)) (rw el (unchanged (owners_at w) l)) (rw eq (unchanged (λ k. queue_at w (2 * k)) l)) (λ k. rw eq refl) (λ k. rw el refl)
       (λ k ne. alike_put l k (place_at w) t p2 own of ne)
-      (acts t ds) steps.site steps.needed (steady.sites.word l)
+      (acts t ds) steps.site steps.needed word_l
 
   -- a place that changes alone
   pub place_keeps : (p2 : Place) (ds : List Deed) → IsOf l p2
-      → Steps l (length w.places) (word_at w l) (word_at w l) (owners_at w l) (owners_at w l) (queue_at w (2 * l)) (queue_at w (2 * l)) (queue_at w (2 * l + 1)) (place_at w) t p2 ds → station p2 ≡ mutex_station at → Goes w (put w t p2) l (acts t ds)
+      → Steps l (base_at w l) (word_at w l) (word_at w l) (owners_at w l) (owners_at w l) (queue_at w (2 * l)) (queue_at w (2 * l)) (queue_at w (2 * l + 1)) (place_at w) t p2 ds → station p2 ≡ mutex_station at → Goes w (put w t p2) l (acts t ds)
   place_keeps p2 ds of steps e = record {
-    follows = place_sites (put w t p2) p2 ds refl refl refl of steps;
+    follows = place_sites (put w t p2) p2 ds refl refl refl refl of steps;
     stands = still w (put w t p2) steady.stands (λ k. refl) l t of_mutex own p2 of (put_places w t p2 (past p2)) (λ key. refl) (λ key. refl) (e ∙ sym station_is_at);
   }
 
@@ -185,8 +213,8 @@ module _ (w : State) (t l : ℕ) (at : MutexPlace) (steady : IsSteady w) (is : p
   pub enter_keeps : 2 * l < length w.sections → (p2 : Place) → IsOf l p2 → taken_at (Mutex l at) l ≡ None → taken_at p2 l ≡ None → section_at w (2 * l) ≡ None → (mutex_doing at).inside ≡ None → (mutex_doing at).empty ≡ None → doing_on p2 l ≡ record (mutex_doing at) { inside = Some Main }
       → station p2 ≡ record (mutex_station at) { inside = Some Main } → Goes w (put (filled_with w (One (2 * l)) (Some t)) t p2) l (acts t (In Main ∷ []))
   enter_keeps line p2 of none none2 free i e own_is s = record {
-    follows = place_sites v p2 (In Main ∷ []) refl refl refl of
-        (goes_into l (length w.places) (word_at w l) (word_at w l) (owners_at w l) (queue_at w (2 * l)) (queue_at w (2 * l + 1)) (place_at w) t p2 site_l (mutex_doing at) (own_doing l (place_at w t) at is) (ap (λ y. taken_at y l) is ∙ none) none2 refl
+    follows = place_sites v p2 (In Main ∷ []) refl refl refl refl of
+        (goes_into l (base_at w l) (word_at w l) (word_at w l) (owners_at w l) (queue_at w (2 * l)) (queue_at w (2 * l + 1)) (place_at w) t p2 site_l (mutex_doing at) (own_doing l (place_at w t) at is) (ap (λ y. taken_at y l) is ∙ none) none2 refl
         (λ u h. let g : section_at w (2 * l) ≡ Some u = (steady.stands.sections u l Main).0 (sym (inside_is (place_at w u) l) ∙ h) in cc) i e own_is);
     stands = goes_in w v steady.stands (λ k. refl) l t of_mutex own p2 of (put_places (filled_with w (One (2 * l)) (Some t)) t p2 (past p2)) (section_set line (Some t)).other (λ key. refl) free (section_set line (Some t)).here (ap (λ (x : Station). x.inside) station_is_at ∙ i)
         (s ∙ sym (ap (λ (x : Station). record x { inside = Some Main }) station_is_at));
@@ -195,7 +223,7 @@ module _ (w : State) (t l : ℕ) (at : MutexPlace) (steady : IsSteady w) (is : p
       v : State
       v = put (filled_with w (One (2 * l)) (Some t)) t p2
 
-  pub out_needed : (mutex_doing at).inside ≡ Some Main → (mutex_doing at).wakes ≡ None → AllNeeded mutex (acts t (Out ∷ [])) (site_of w l)
+  pub out_needed : (mutex_doing at).inside ≡ Some Main → (mutex_doing at).wakes ≡ None → AllNeeded mutex (acts t (Out ∷ [])) (mutex_at w l)
   out_needed i k = ((rw (own_doing l (place_at w t) at is) ((λ h. let g : None ≡ Some Main = sym h ∙ i in cc), k, refl)), tt)
 
   -- out of its own, where nobody is in its hand
@@ -203,15 +231,15 @@ module _ (w : State) (t l : ℕ) (at : MutexPlace) (steady : IsSteady w) (is : p
       → station p2 ≡ record (mutex_station at) { inside = None } → Goes w (put (filled_with w (One (2 * l)) None) t p2) l (acts t (Out ∷ []))
   leave_keeps line p2 of none none2 e i k nobody s = record {
     follows = follow w v l rules (putting (place_at w) t p2) (word_at w l) (owners_at w l) (queue_at w (2 * l))
-        (put_places (filled_with w (One (2 * l)) None) t p2 (past p2)) (length-set w.places t p2)
+        (put_places (filled_with w (One (2 * l)) None) t p2 (past p2)) (same_bases w v refl refl (length-set w.places t p2))
         (unchanged (word_at w) l) (unchanged (owners_at w) l) (unchanged (λ j. queue_at w (2 * j)) l) (λ j. refl) (λ j. refl)
         (λ j ne. alike_put l j (place_at w) t p2 own of ne)
         (acts t (Out ∷ []))
-        (leaving mutex l (length w.places) (word_at w l) (owners_at w l) (queue_at w (2 * l)) (queue_at w (2 * l + 1)) (place_at w) _ t (ap (λ y. taken_at y l) is ∙ none) (ap (λ y. taken_at y l) (put_here (place_at w) t p2) ∙ none2)
+        (leaving mutex l (base_at w l) (word_at w l) (owners_at w l) (queue_at w (2 * l)) (queue_at w (2 * l + 1)) (place_at w) _ t (ap (λ y. taken_at y l) is ∙ none) (ap (λ y. taken_at y l) (put_here (place_at w) t p2) ∙ none2)
         (ap (λ y. doing_on y l) (put_here (place_at w) t p2) ∙ e ∙ sym (ap leaves (own_doing l (place_at w t) at is)))
         (lets_nobody (place_at w) steady.stands.hands t l p2 (ap (λ (x : Station). x.carries) (own_stance l (place_at w t) at is) ∙ nobody)))
         (out_needed i k)
-        (steady.sites.word l);
+        word_l;
     stands = goes_out w v steady.stands (λ j. refl) l t of_mutex own p2 of (put_places (filled_with w (One (2 * l)) None) t p2 (past p2)) (section_set line None).other (λ key. refl) (section_set line None).here (ap (λ (x : Station). x.inside) station_is_at ∙ i)
         (s ∙ sym (ap (λ (x : Station). record x { inside = None }) station_is_at));
   }
@@ -226,14 +254,14 @@ module _ (w : State) (t l : ℕ) (at : MutexPlace) (steady : IsSteady w) (is : p
       → Goes w (put (befallen (filled_with w (One (2 * l)) None) v (Woken x)) t p2) l (acts t (Out ∷ []))
   wake_keeps line v handed x p2 of of_v none none2 e i k lets apart was was_v is_p2 is_pv = record {
     follows = follow w after l rules (putting (putting (place_at w) v pv) t p2) (word_at w l) (owners_at w l) (queue_at w (2 * l)) places
-        (length-set (set w.places v _) t p2 ∙ length-set w.places v _)
+        (same_bases w after refl refl (length-set (set w.places v pv) t p2 ∙ length-set w.places v pv))
         (unchanged (word_at w) l) (unchanged (owners_at w) l) (unchanged (λ j. queue_at w (2 * j)) l) (λ j. refl) (λ j. refl)
         (λ j ne u. alike_both l j (place_at w) v pv t p2 of_v of_pv own of apart ne u)
         (acts t (Out ∷ []))
-        (leaving mutex l (length w.places) (word_at w l) (owners_at w l) (queue_at w (2 * l)) (queue_at w (2 * l + 1)) (place_at w) _ t (ap (λ y. taken_at y l) is ∙ none) (ap (λ y. taken_at y l) (put_here (putting (place_at w) v pv) t p2) ∙ none2)
+        (leaving mutex l (base_at w l) (word_at w l) (owners_at w l) (queue_at w (2 * l)) (queue_at w (2 * l + 1)) (place_at w) _ t (ap (λ y. taken_at y l) is ∙ none) (ap (λ y. taken_at y l) (put_here (putting (place_at w) v pv) t p2) ∙ none2)
         (ap (λ y. doing_on y l) (put_here (putting (place_at w) v pv) t p2) ∙ e ∙ sym (ap leaves (own_doing l (place_at w t) at is))) lets)
         (out_needed i k)
-        (steady.sites.word l);
+        word_l;
     stands = lets_go w after steady.stands (λ j. refl) l t v apart of_mutex own of_v p2 pv of of_pv places handed (section_set line None).other (section_set line None).here (λ key. refl) (station_is_at ∙ was) was_v is_p2 is_pv;
   }
     where
@@ -280,13 +308,13 @@ module _ (w : State) (t l : ℕ) (steady : IsSteady w) (there : t < length w.pla
   pub hands_over : l < length w.locks → (bumps none_left : Bool) (u : ℕ) → place_at w t ≡ Mutex l (HandOff bumps (hand_off.Store (Some u) none_left)) → Goes w (go_by w t (Mutex l (HandOff bumps (hand_off.Store (Some u) none_left))) (act.TheVariants.HandOver l (op.Store (hand_off_word (Some u) none_left)) u)) l (acts t (deeds.hands_over (Some u) none_left) ++ deeds.claims_of (Some u))
   hands_over lt bumps none_left u is = record {
     follows = follow w after l (rules w t l at steady is there) (putting (putting (place_at w) u pu) t p2) (if none_left then 1 else 3) (with_exclusive (owners_at w l) (Some u)) (queue_at w (2 * l)) places
-        (length-set (set w.places u pu) t p2 ∙ length-set w.places u pu)
+        (λ k i. record { shared = get_or w.shares k (replicate ((length-set (set w.places u pu) t p2 ∙ length-set w.places u pu) i) 0); filled = operated_filled w t (Mutex l at) l (op.Store (hand_off_word (Some u) none_left)) (rules w t l at steady is there) k i })
         (changed_set (λ x. x.word) w.locks l _ (unlocked kind.TheVariants.Mutex) lt) (changed_set (λ x. x.owners) w.locks l _ (unlocked kind.TheVariants.Mutex) lt)
         (unchanged (λ k. queue_at w (2 * k)) l) (λ k. refl) same_kinds
         (λ k ne x. alike_both l k (place_at w) u pu t p2 of_u of_pu own_t refl apart ne x)
-        (hands_acts mutex l (length w.places) (word_at w l) (owners_at w l) (queue_at w (2 * l)) (queue_at w (2 * l + 1)) (place_at w) steady.stands.hands t u bumps none_left refl is none_left)
-        (handing mutex l (length w.places) (word_at w l) (owners_at w l) (queue_at w (2 * l)) (queue_at w (2 * l + 1)) (place_at w) steady.stands.hands t u bumps none_left refl is none_left refl)
-        (hands_needed l (length w.places) (word_at w l) (owners_at w l) (queue_at w (2 * l)) (queue_at w (2 * l + 1)) (place_at w) steady.stands.hands t u bumps none_left is (site_l w t l at steady is there) none_left refl)
+        (hands_acts mutex l (base_at w l) (word_at w l) (owners_at w l) (queue_at w (2 * l)) (queue_at w (2 * l + 1)) (place_at w) steady.stands.hands t u bumps none_left refl unshared is none_left)
+        (handing mutex l (base_at w l) (word_at w l) (owners_at w l) (queue_at w (2 * l)) (queue_at w (2 * l + 1)) (place_at w) steady.stands.hands t u bumps none_left refl unshared is none_left refl)
+        (hands_needed l (base_at w l) (word_at w l) (owners_at w l) (queue_at w (2 * l)) (queue_at w (2 * l + 1)) (place_at w) steady.stands.hands t u bumps none_left is (site_l w t l at steady is there) none_left refl)
         (coded none_left);
     stands = hands_lock w after steady.stands same_kinds l t u apart (of_mutex w t l at steady is there) own_t of_u p2 pu refl of_pu places (λ key. refl) (λ key. refl) (ap station is) (rw there_u.is refl) refl (rw there_u.is refl);
   }
@@ -322,6 +350,9 @@ module _ (w : State) (t l : ℕ) (steady : IsSteady w) (there : t < length w.pla
       places = put_places (befallen (operated w t (Mutex l at) l (op.Store (hand_off_word (Some u) none_left))) u (HandedBy t)) t p2 (λ h. absurd (let a : length (set w.places u pu) ≡ length w.places = length-set w.places u pu in omega arith))
           ∙ ap (λ (f : ℕ → Place). putting f t p2) (goes_from w u (HandedBy t))
 
+      unshared : sum (shares_at w l) ≡ 0
+      unshared = (site_l w t l at steady is there).state.unshared (λ h. h)
+
       coded : (b : Bool) → IsCode (if b then 1 else 3) (Some u)
       coded true = refl
       coded false = refl
@@ -337,8 +368,8 @@ changed_main xs l x d lt = record { here = get_or-set_same xs (2 * l) x d lt; ot
 
 module _ (w : State) (t l : ℕ) (at : MutexPlace) (steady : IsSteady w) (is : place_at w t ≡ Mutex l at) (there : t < length w.places) (line : 2 * l < length w.queues)
     (x : Waiter) (rest : List Waiter) (first : queue_at w (2 * l) ≡ x ∷ rest) (entry : Entry) (retries : Bool) (asleep : place_at w x.thread ≡ Mutex l (Lock entry retries lock.Asleep)) (apart : x.thread ≢ t) where
-  site_first : IsSite mutex (seen l (length w.places) (word_at w l) (owners_at w l) (x ∷ rest) (queue_at w (2 * l + 1)) (place_at w))
-  site_first = subst (λ (q : List Waiter). IsSite mutex (seen l (length w.places) (word_at w l) (owners_at w l) q (queue_at w (2 * l + 1)) (place_at w))) first (site_l w t l at steady is there)
+  site_first : IsSite mutex (seen l (base_at w l) (word_at w l) (owners_at w l) (x ∷ rest) (queue_at w (2 * l + 1)) (place_at w))
+  site_first = subst (λ (q : List Waiter). IsSite mutex (seen l (base_at w l) (word_at w l) (owners_at w l) q (queue_at w (2 * l + 1)) (place_at w))) first (site_l w t l at steady is there)
 
   pub take_keeps : (p2 : Place) → IsOf l p2 → taken_at (Mutex l at) l ≡ None → taken_at p2 l ≡ None → (mutex_station at).carries ≡ None → (mutex_station at).hand ≡ None → (mutex_doing at).inside ≡ Some Main → (mutex_doing at).carries ≡ false → (mutex_doing at).wakes ≢ Some Second
       → doing_on p2 l ≡ record (mutex_doing at) { wakes = None; carries = true; covers = true; empty = found Main (is_empty (map queued_of rest)) }
@@ -346,17 +377,17 @@ module _ (w : State) (t l : ℕ) (at : MutexPlace) (steady : IsSteady w) (is : p
       → Goes w (put (befallen (record w { queues = first_taken w.queues (2 * l) }) x.thread (TakenBy t)) t p2) l (acts t (Does (TakeFirst (queued x.thread)) ∷ []))
   take_keeps p2 of none none2 nobody free i c v e s = record {
     follows = follow w after l (rules w t l at steady is there) (putting (putting (place_at w) x.thread px) t p2) (word_at w l) (owners_at w l) rest places
-        (length-set (set w.places x.thread px) t p2 ∙ length-set w.places x.thread px)
+        (same_bases w after refl refl (length-set (set w.places x.thread px) t p2 ∙ length-set w.places x.thread px))
         (unchanged (word_at w) l) (unchanged (owners_at w) l)
         (subst (λ (y : List Waiter). Changed (λ k. queue_at w (2 * k)) (λ k. get_or (first_taken w.queues (2 * l)) (2 * k) []) l y) (ap (drop 1) first) (changed_main w.queues l (drop 1 (queue_at w (2 * l))) [] line))
         (λ k. get_or-set_other w.queues (2 * l) (2 * k + 1) (drop 1 (queue_at w (2 * l))) [] (λ h. omega arith)) (λ k. refl)
         (λ k ne y. alike_both l k (place_at w) x.thread px t p2 of_x of_px own_t of apart ne y)
         (acts t (Does (TakeFirst (queued x.thread)) ∷ []))
-        (taking mutex l (length w.places) (word_at w l) (owners_at w l) (queue_at w (2 * l + 1)) rest x (place_at w) t entry retries refl asleep (first_wants l (length w.places) (word_at w l) (owners_at w l) (queue_at w (2 * l + 1)) rest x (place_at w) t site_first) apart p2
+        (taking mutex l (base_at w l) (word_at w l) (owners_at w l) (queue_at w (2 * l + 1)) rest x (place_at w) t entry retries refl asleep (first_wants l (base_at w l) (word_at w l) (owners_at w l) (queue_at w (2 * l + 1)) rest x (place_at w) t site_first) apart p2
         (ap (λ y. taken_at y l) is ∙ none) none2 (e ∙ sym (ap (λ (d : Doing). record d { wakes = None; carries = true; covers = true; empty = found Main (is_empty (map queued_of rest)) }) (own_doing l (place_at w t) at is)))
         ∙ same_lines)
         needed
-        (steady.sites.word l);
+        (word_l w t l at steady is there);
     stands = takes w after steady.stands (λ k. refl) l t x.thread apart (of_mutex w t l at steady is there) own_t of_x p2 px of of_px places rest x (λ key. refl)
         (λ key ne. get_or-set_other w.queues (2 * l) key (drop 1 (queue_at w (2 * l))) [] (λ h. ne h)) first (get_or-set_same w.queues (2 * l) (drop 1 (queue_at w (2 * l))) [] line ∙ ap (drop 1) first) refl
         (ap (λ (y : Place). (station y).carries) is ∙ nobody) (ap (λ (y : Place). (station y).hand) is ∙ free) (rw asleep refl) (s ∙ sym (ap (λ y. record (station y) { carries = hand x.thread false }) is)) (rw asleep refl);
@@ -382,10 +413,10 @@ module _ (w : State) (t l : ℕ) (at : MutexPlace) (steady : IsSteady w) (is : p
           ∙ ap (λ (f : ℕ → Place). putting f t p2) (goes_from w x.thread (TakenBy t))
 
       -- the line, before and behind the look
-      same_lines : after_acts mutex (acts t (Does (TakeFirst (queued x.thread)) ∷ [])) (seen l (length w.places) (word_at w l) (owners_at w l) (x ∷ rest) (queue_at w (2 * l + 1)) (place_at w)) ≡ after_acts mutex (acts t (Does (TakeFirst (queued x.thread)) ∷ [])) (site_of w l)
-      same_lines = ap (λ q. after_acts mutex (acts t (Does (TakeFirst (queued x.thread)) ∷ [])) (seen l (length w.places) (word_at w l) (owners_at w l) q (queue_at w (2 * l + 1)) (place_at w))) (sym first)
+      same_lines : after_acts mutex (acts t (Does (TakeFirst (queued x.thread)) ∷ [])) (seen l (base_at w l) (word_at w l) (owners_at w l) (x ∷ rest) (queue_at w (2 * l + 1)) (place_at w)) ≡ after_acts mutex (acts t (Does (TakeFirst (queued x.thread)) ∷ [])) (mutex_at w l)
+      same_lines = ap (λ q. after_acts mutex (acts t (Does (TakeFirst (queued x.thread)) ∷ [])) (seen l (base_at w l) (word_at w l) (owners_at w l) q (queue_at w (2 * l + 1)) (place_at w))) (sym first)
 
-      needed : AllNeeded mutex (acts t (Does (TakeFirst (queued x.thread)) ∷ [])) (site_of w l)
-      needed = subst (λ (q : List Waiter). AllNeeded mutex (acts t (Does (TakeFirst (queued x.thread)) ∷ [])) (seen l (length w.places) (word_at w l) (owners_at w l) q (queue_at w (2 * l + 1)) (place_at w))) (sym first)
-          (take_needed l (length w.places) (word_at w l) (owners_at w l) (queue_at w (2 * l + 1)) rest x (place_at w) t site_first (mutex_doing at) (own_doing l (place_at w t) at is)
+      needed : AllNeeded mutex (acts t (Does (TakeFirst (queued x.thread)) ∷ [])) (mutex_at w l)
+      needed = subst (λ (q : List Waiter). AllNeeded mutex (acts t (Does (TakeFirst (queued x.thread)) ∷ [])) (seen l (base_at w l) (word_at w l) (owners_at w l) q (queue_at w (2 * l + 1)) (place_at w))) (sym first)
+          (take_needed l (base_at w l) (word_at w l) (owners_at w l) (queue_at w (2 * l + 1)) rest x (place_at w) t site_first (mutex_doing at) (own_doing l (place_at w t) at is)
           (λ u. untaken (place_at w u) t l (λ h. let a : carried_at (place_at w t) l ≡ hand u false = steady.stands.hands.taken t u l false h in let b : carried_at (place_at w t) l ≡ None = ap (λ (y : Station). y.carries) (own_stance l (place_at w t) at is) ∙ nobody in cc)) i c v)

@@ -1,7 +1,7 @@
 -- What is promised of every state follows from its locks' being sites.
 use Rattle.std.proofs.Common.{ℕ, Bool, true, false, Option, Some, None, if◌then◌else◌, not, ◌==◌, ◌≡◌, ◌≢◌, ◌+◌, ◌*◌, ◌≤◌, ◌⊎◌, List, [], ◌∷◌, inl, inr, refl, sym, ◌∙◌, ap, subst, arith}
 use Rattle.std.proofs.lemmas.Bool.{eqb-true}
-use Rattle.lot_base.specs.declared.wants.Want.TheVariants.{Exclusive}
+use Rattle.lot_base.specs.declared.wants.Want.TheVariants.{Exclusive, Shared}
 use Rattle.lot_steps.specs.declared.places.Place.{Place}
 use Rattle.lot_steps.specs.declared.places.Place.TheVariants.{Idle, Mutex}
 use Rattle.lot_steps.specs.declared.mutex.lock.Entry.{Entry}
@@ -24,21 +24,48 @@ use Rattle.lot_steps.specs.MutexProfiles.{mutex_owes}
 use Rattle.lot_steps.specs.Steps.{act_of, owes_on}
 use Rattle.abstract_locks.specs.Locks.{Queued, times, standing, one_if_some}
 use Rattle.abstract_locks.specs.Locks as locks
-use Rattle.abstract_locks.specs.Sites.{Has, Main, Second, IsSite, IsDebtor, idle}
-use Rattle.lot_world.specs.Machine.{State, place_at, word_at, kind_at, queue_at}
-use Rattle.abstract_locks.specs.Purposes.{Releases}
+use Rattle.abstract_locks.specs.Sites.{Has, Main, Second, IsSite, IsDebtor, has_readers, idle}
+use Rattle.lot_world.specs.Machine.{State, place_at, word_at, owners_at, shares_at, kind_at, queue_at}
+use Rattle.abstract_locks.specs.Purposes.{Releases, rules_of}
+use Rattle.abstract_locks.specs.Codes.{bit, code, parked_in}
+use Rattle.std.specs.Prelude.{sum}
+use Rattle.lot_calls.specs.declared.kinds.Kind.{Kind}
+use Rattle.lot_calls.specs.declared.kinds.Kind as kind
 use Rattle.lot_world.specs.Refinement.{lock_state, locks_of, taken_at}
 use Rattle.lot_world.specs.Promises.{WaitsFor, Codes, IsLookedAfter}
 use Rattle.lot_world.specs.MutexDeeds.{nowhere, station, station_at, mutex_station, mutex_profile, doing_on, mutex_doing}
-use Rattle.lot_world.specs.SitesOf.{IsSteady, CallsMutex, stood_in, site_of, rules_at}
+use Rattle.lot_world.specs.SitesOf.{IsSteady, CallsMutex, stood_in, rules_at}
 use Rattle.lot_world.proofs.Glue.{nothing_at}
 use Rattle.lot_world.proofs.MutexTable.{mutex, queued_times}
 use Rattle.lot_world.proofs.StandsKept.{in_main}
 use Rattle.lot_world.proofs.StandsMoved.{mutex_rules}
+use Rattle.lot_world.proofs.SitesKept.{lock_by}
 
-pub codes_by : (e : Option ℕ) (b : Bool) (w : ℕ) → w ≡ one_if_some e + (if b then 2 else 0) → Codes w e
+pub codes_by : (e : Option ℕ) (b : Bool) (w : ℕ) → w ≡ one_if_some e + 2 * bit b → Codes w e
 codes_by e true w h = inr h
 codes_by e false w h = inl (omega arith)
+
+-- nobody shares a mutex
+pub unshared_of : (w : State) → IsSteady w → (l : ℕ) → rules_at w l ≡ mutex → sum (shares_at w l) ≡ 0
+unshared_of w s l rules = (s.sites.site l).state.unshared (λ h. subst (λ r. locks.Knows r.sort Shared) rules h)
+
+-- each word says whether there is an owner
+pub coded_at : (w : State) → IsSteady w → (l : ℕ) → Codes (word_at w l) (owners_at w l).exclusive
+coded_at w s l = by_kind (kind_at w l) refl
+  where
+    of_mutex : rules_at w l ≡ mutex → Codes (word_at w l) (owners_at w l).exclusive
+    of_mutex rules = codes_by (owners_at w l).exclusive (is_parked (word_at w l)) (word_at w l) (s.sites.word l ∙ (λ i. code (rules i) (lock_by w l (rules i))))
+
+    of_unused : has_readers (rules_at w l).sort ≡ true → Codes (word_at w l) (owners_at w l).exclusive
+    of_unused readers = let u = s.sites.unused l readers in inl (u.0 ∙ sym (ap one_if_some u.1))
+
+    by_kind : (k : Kind) → kind_at w l ≡ k → Codes (word_at w l) (owners_at w l).exclusive
+    by_kind (kind.TheVariants.RwLock limit) e = of_unused (ap (λ k. has_readers (rules_of k).sort) e)
+    by_kind (kind.TheVariants.Recursive limit) e = of_unused (ap (λ k. has_readers (rules_of k).sort) e)
+    by_kind kind.TheVariants.Mutex e = of_mutex (ap rules_of e)
+    by_kind kind.TheVariants.Fair e = of_mutex (ap rules_of e)
+    by_kind kind.TheVariants.Condvar e = of_mutex (ap rules_of e)
+    by_kind kind.TheVariants.Once e = of_mutex (ap rules_of e)
 
 waits : (t : ℕ) (q : List Queued) → 1 ≤ times t q → q ≢ []
 waits t [] h e = omega arith
@@ -52,15 +79,6 @@ sets_nothing (Mutex k at) l = either (k == l)
     either : (b : Bool) → (if b then mutex_doing at else idle).sets ≡ false
     either true = refl
     either false = refl
-
-pub parked : (w : State) → IsSteady w → (t l : ℕ) → WaitsFor w t l → is_parked (word_at w l) ≡ true
-parked w s t l h = elim ((s.sites.site l).parked (waits t (lock_state w l).queue h)) [
-  | inl g ↦ g
-  | inr g ↦ absurd (let a : (doing_on (place_at w g.0) l).sets ≡ false = sets_nothing (place_at w g.0) l in let b : (doing_on (place_at w g.0) l).sets ≡ true = g.1 in cc)
-]
-
-pub parked_at : (w : State) → IsSteady w → (t l : ℕ) → 1 ≤ Lines.times t (queue_at w (2 * l)) → is_parked (word_at w l) ≡ true
-parked_at w s t l h = parked w s t l (subst (λ n. 1 ≤ n) (sym (queued_times t (queue_at w (2 * l)))) h)
 
 -- a debtor of a lock that nobody owns, by its place
 pub record Owes (p : Place) (l : ℕ) : Type 0 where
@@ -142,13 +160,23 @@ module _ (w : State) (s : IsSteady w) where
       let m : CallsMutex w (Mutex l c.0) = rw c.1 at (s.stands.calls t) in
       mutex_rules (kind_at w l) m
 
+  pub parked : (t l : ℕ) → WaitsFor w t l → is_parked (word_at w l) ≡ true
+  parked t l h = elim ((s.sites.site l).parked (waits t (lock_state w l).queue h)) [
+    | inl g ↦ subst (λ r. parked_in r.sort (word_at w l) ≡ true) (rules_waited t l h) g
+    | inr g ↦ absurd (let a : (doing_on (place_at w g.0) l).sets ≡ false = sets_nothing (place_at w g.0) l in let b : (doing_on (place_at w g.0) l).sets ≡ true = g.1 in cc)
+  ]
+
+  pub parked_at : (t l : ℕ) → 1 ≤ Lines.times t (queue_at w (2 * l)) → is_parked (word_at w l) ≡ true
+  parked_at t l h = parked t l (subst (λ n. 1 ≤ n) (sym (queued_times t (queue_at w (2 * l)))) h)
+
   nowhere_then : (u : ℕ) (at : MutexPlace) {l : ℕ} → place_at w u ≡ Mutex l at → (mutex_profile at).stands ≡ None → (j : ℕ) → (station_at (place_at w u) j).stands ≡ None
   nowhere_then u at is out j = nothing_at (place_at w u) j (λ x. x.stands) refl (ap (λ x. (station x).stands) is ∙ out)
 
   pub looked_after : (t l : ℕ) → WaitsFor w t l → (lock_state w l).exclusive ≡ None → IsLookedAfter w l
   looked_after t l h free =
-      let site : IsSite mutex (site_of w l) = rw (rules_waited t l h) at (s.sites.site l) in
-      let d = site.main (inl (waits t (lock_state w l).queue h)) free refl in
+      let rules : rules_at w l ≡ mutex = rules_waited t l h in
+      let site : IsSite mutex (lock_by w l mutex) = subst (λ r. IsSite r (lock_by w l r)) rules (s.sites.site l) in
+      let d = site.main (inl (waits t (lock_state w l).queue h)) free (s.sites.unfilled l (ap (λ r. has_readers r.sort) rules)) in
       let p : Owes (place_at w d.0) l = debtor_at (place_at w d.0) l d.1 (λ c. let own : (lock_state w l).exclusive ≡ Some d.0 = site.held d.0 (Has Exclusive) c in cc) in
       let k : LooksAfter w d.0 l p.at = looks_after w d.0 l p.at p.is p.debtor p.free in
       record {

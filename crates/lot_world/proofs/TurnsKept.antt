@@ -27,13 +27,14 @@ use Rattle.lot_world.specs.Fits.{IsShaped, PlaceFits}
 use Rattle.lot_world.specs.Refinement.{lock_state, taken_at}
 use Rattle.lot_world.specs.SitesOf.{is_mutex}
 use Rattle.lot_world.specs.MutexDeeds.{nowhere, mutex_doing, mutex_station, station, acts, begins}
-use Rattle.lot_world.specs.SitesOf.{IsSteady, Goes, site_of}
+use Rattle.lot_world.specs.SitesOf.{IsSteady, Goes}
+use Rattle.abstract_locks.specs.Codes.{code}
 use Rattle.lot_world.proofs.Shape.{both}
 use Rattle.lot_world.proofs.KindsKept.{calls_mutex}
-use Rattle.lot_world.proofs.Glue.{put_places, same}
+use Rattle.lot_world.proofs.Glue.{base_at, put_places, same}
 use Rattle.lot_world.proofs.MutexTable.{mutex, own_doing, meets, others_same}
 use Rattle.lot_world.proofs.StandsMoved.{mutex_rules, still}
-use Rattle.lot_world.proofs.SitesKept.{unchanged, follow, goes_steady, alike_put}
+use Rattle.lot_world.proofs.SitesKept.{lock_by, mutex_at, same_bases, unchanged, follow, goes_steady, alike_put}
 use Rattle.lot_world.proofs.GoneKept.{looked, enters, gone_kept}
 
 pub idle_is : (p : Place) → is_idle p ≡ true → p ≡ Idle
@@ -45,14 +46,14 @@ module _ (w : State) (t : ℕ) (steady : IsSteady w) (shape : IsShaped w) (there
   begin_kept : (l : ℕ) (at : MutexPlace) (c : Option Claim) → is_mutex (kind_at w l) ≡ true → place_at w t ≡ Idle → taken_at (Mutex l at) l ≡ None → mutex_doing at ≡ record idle { claims = c } → HasClaim (lock_state w l) t c → mutex_station at ≡ nowhere → Goes w (put w t (Mutex l at)) l (acts t (Begin c ∷ []))
   begin_kept l at c of_mutex is none e has s = record {
     follows = follow w _ l (mutex_rules (kind_at w l) of_mutex) (putting (place_at w) t (Mutex l at)) (word_at w l) (owners_at w l) (queue_at w (2 * l))
-        places (length-set w.places t (Mutex l at))
+        places (same_bases w (put w t (Mutex l at)) refl refl (length-set w.places t (Mutex l at)))
         (unchanged (word_at w) l) (unchanged (owners_at w) l) (unchanged (λ k. queue_at w (2 * k)) l) (λ k. refl) (λ k. refl)
         (λ k ne. alike_put l k (place_at w) t (Mutex l at) (rw is tt) refl ne)
         (acts t (Begin c ∷ []))
-        (meets l (length w.places) (word_at w l) (owners_at w l) (queue_at w (2 * l)) (queue_at w (2 * l + 1)) (place_at w) t (Mutex l at) _ (rw is (sym none)) refl refl refl refl (own_doing l (Mutex l at) at refl ∙ e ∙ rw (same t, is) refl)
-        (λ u ne. others_same mutex (Begin c ∷ []) (site_of w l) t u (tt, tt) ne))
+        (meets l (base_at w l) (word_at w l) (owners_at w l) (queue_at w (2 * l)) (queue_at w (2 * l + 1)) (place_at w) t (Mutex l at) _ (rw is (sym none)) refl refl refl refl (own_doing l (Mutex l at) at refl ∙ e ∙ rw (same t, is) refl)
+        (λ u ne. others_same mutex (Begin c ∷ []) (mutex_at w l) t u (tt, tt) ne))
         (has, tt)
-        (steady.sites.word l);
+        (steady.sites.word l ∙ (λ i. code (mutex_rules (kind_at w l) of_mutex i) (lock_by w l (mutex_rules (kind_at w l) of_mutex i))));
     stands = still w (put w t (Mutex l at)) steady.stands (λ k. refl) l t of_mutex (rw is tt) (Mutex l at) refl places (λ key. refl) (λ key. refl) (s ∙ sym (ap station is));
   }
     where

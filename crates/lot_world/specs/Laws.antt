@@ -64,6 +64,7 @@ abbrev pub forgotten : State
 forgotten = record {
   places = Idle ∷ Mutex 0 (at.Lock entry.Lock false Asleep) ∷ [];
   locks = unlocked kind.Mutex ∷ [];
+  shares = (0 ∷ 0 ∷ []) ∷ [];
   sections = None ∷ None ∷ [];
   queues = (waiter 0 1 Exclusive ∷ []) ∷ [] ∷ [];
 }
@@ -76,7 +77,8 @@ NoWaiterIsForgotten = IsKept forgotten → ⊥
 abbrev pub handing_over : State
 handing_over = record {
   places = Mutex 0 (at.HandOff false (Store (Some 1) true)) ∷ Mutex 0 (at.Lock entry.Lock false (Taken 0)) ∷ [];
-  locks = (record { kind = kind.Mutex; word = 3; owners = record nobody { exclusive = Some 0 } }) ∷ [];
+  locks = (record { kind = kind.Mutex; word = 3; owners = record nobody { exclusive = Some 0 }; filled = false }) ∷ [];
+  shares = (0 ∷ 0 ∷ []) ∷ [];
   sections = Some 0 ∷ None ∷ [];
   queues = [] ∷ [] ∷ [];
 }

@@ -1,5 +1,5 @@
 -- The machine of the world: its state, and where each step leads.
-use Rattle.std.specs.Prelude.{ℕ, zero, suc, Bool, true, false, Option, Some, None, if◌then◌else◌, ◌==◌, ◌*◌, ◌&&◌, List, [], ◌∷◌, ◌++◌, map, length, drop, replicate, nat_lt, is_none, slice_set, slice_index_or}
+use Rattle.std.specs.Prelude.{ℕ, zero, suc, Bool, true, false, Option, Some, None, if◌then◌else◌, ◌==◌, ◌*◌, ◌&&◌, ◌||◌, List, [], ◌∷◌, ◌++◌, map, length, drop, replicate, nat_lt, is_none, slice_set, slice_index_or}
 use Rattle.lot_base.specs.declared.keys.Keys.{Keys}
 use Rattle.lot_base.specs.declared.keys.Keys as keys
 use Rattle.lot_base.specs.declared.ops.Op.{Op}
@@ -29,20 +29,28 @@ use Rattle.lot_calls.specs.Kinds.{has_call}
 use Rattle.lot_steps.specs.Acts.{holds, outcome_of}
 use Rattle.lot_calls.specs.Calls.{lock_in}
 use Rattle.lot_steps.specs.Steps.{first_place, has_right, is_idle, act_of, next_place, next_act, owners_after, spin_lock, late_key}
+use Rattle.abstract_locks.specs.Codes.{fills}
+use Rattle.abstract_locks.specs.Purposes.{rules_of}
 use Rattle.lot_world.specs.declared.machine.Lock.{Lock}
 
--- each thread's place, each lock, who is inside the section of each key, and the line of each key
+-- Each thread's place, each lock, each thread's number of shared rights of each lock, who is inside the section of each key, and the
+-- line of each key. A condition variable's mutex and a semaphore's permits are what its word says, and stand nowhere else.
 pub record State : Type 0 where
   pub places : List Place
   pub locks : List Lock
+  pub shares : List (List ℕ)
   pub sections : List (Option ℕ)
   pub queues : List (List Waiter)
 
 abbrev pub nobody : Owners
 nobody = record { exclusive = None; pending = None; upgradable = None; running = None }
 
+-- the word of a new lock
+abbrev pub first_word : Kind → ℕ
+first_word kind = 0
+
 abbrev pub unlocked : Kind → Lock
-unlocked kind = record { kind = kind; word = 0; owners = nobody }
+unlocked kind = record { kind = kind; word = first_word kind; owners = nobody; filled = false }
 
 -- the lines of the keys from one on, of this many
 abbrev pub lines_from : ℕ → ℕ → List Waiter → List (List Waiter)
@@ -54,6 +62,7 @@ abbrev pub opening : List Kind → ℕ → State
 opening kinds threads = record {
   places = replicate threads Idle;
   locks = map unlocked kinds;
+  shares = replicate (length kinds) (replicate threads 0);
   sections = replicate (2 * length kinds) None;
   queues = replicate (2 * length kinds) [];
 }
@@ -72,6 +81,14 @@ owners_at w l = (lock_at w l).owners
 
 abbrev pub kind_at : State → ℕ → Kind
 kind_at w l = (lock_at w l).kind
+
+-- whether its count was once at the limit, or above it
+abbrev pub filled_at : State → ℕ → Bool
+filled_at w l = (lock_at w l).filled
+
+-- each thread's number of shared rights
+abbrev pub shares_at : State → ℕ → List ℕ
+shares_at w l = slice_index_or w.shares l (replicate (length w.places) 0)
 
 abbrev pub queue_at : State → ℕ → List Waiter
 queue_at w key = slice_index_or w.queues key []
@@ -92,6 +109,7 @@ operated w t p l op = record w {
     kind = kind_at w l;
     word = apply op (word_at w l);
     owners = owners_after p t (word_at w l) (owners_at w l);
+    filled = filled_at w l || fills (rules_of (kind_at w l)) (apply op (word_at w l));
   });
 }
 

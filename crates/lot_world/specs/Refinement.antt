@@ -1,5 +1,5 @@
 -- The abstract locks that a world's words, places and queues stand for.
-use Rattle.std.specs.Prelude.{ℕ, Bool, true, false, Option, Some, None, if◌then◌else◌, ◌==◌, ◌+◌, ◌*◌, ◌≡◌, ◌≢◌, ◌⊎◌, List, map, length, replicate}
+use Rattle.std.specs.Prelude.{ℕ, Bool, true, false, Option, Some, None, if◌then◌else◌, ◌==◌, ◌+◌, ◌*◌, ◌≡◌, ◌≢◌, ◌⊎◌, List, map, length}
 use Rattle.lot_base.specs.declared.wants.Waiter.{Waiter}
 use Rattle.lot_base.specs.declared.wants.Want.TheVariants.{Exclusive}
 use Rattle.lot_base.specs.Lines.{first_of}
@@ -18,7 +18,7 @@ use Rattle.lot_steps.specs.declared.acts.Act.TheVariants.{Enter, Sleep, Closure}
 use Rattle.lot_base.specs.declared.keys.Keys.{Keys}
 use Rattle.lot_steps.specs.Steps.{act_of, spin_lock}
 pub use Rattle.lot_steps.specs.MutexProfiles.{mutex_profile, is_bump, entry_purpose, release_purpose}
-use Rattle.lot_world.specs.Machine.{State, place_at, word_at, owners_at, kind_at, queue_at, section_at, is_there}
+use Rattle.lot_world.specs.Machine.{State, place_at, word_at, owners_at, shares_at, kind_at, queue_at, section_at, is_there}
 use Rattle.abstract_locks.specs.Locks.{LockState, Queued, Taken, Pending, Rights}
 use Rattle.abstract_locks.specs.Runs.{LocksState, CallState, Stance, no_call, one_more_at, one_less_at}
 use Rattle.abstract_locks.specs.Locks as locks
@@ -38,20 +38,19 @@ abbrev pub taken_at : Place → ℕ → Option Taken
 taken_at (Mutex k (Lock e retries (lock.Taken by))) l = if k == l then Some (record { by = by; want = Exclusive }) else None
 taken_at p l = None
 
--- nobody shares a lock of the kinds that are built
-abbrev pub lock_seen : ℕ → Owners → List Waiter → List Waiter → (ℕ → Option Taken) → LockState
-lock_seen threads o main second taken = record {
+abbrev pub lock_seen : List ℕ → Owners → List Waiter → List Waiter → (ℕ → Option Taken) → LockState
+lock_seen shared o main second taken = record {
   exclusive = o.exclusive;
   pending = pending_owner o.pending;
   upgradable = o.upgradable;
-  shared = replicate threads 0;
+  shared = shared;
   queue = map queued_of main;
   aside = first_of second;
   taken = taken;
 }
 
 abbrev pub lock_state : State → ℕ → LockState
-lock_state w l = lock_seen (length w.places) (owners_at w l) (queue_at w (2 * l)) (queue_at w (2 * l + 1)) (λ u. taken_at (place_at w u) l)
+lock_state w l = lock_seen (shares_at w l) (owners_at w l) (queue_at w (2 * l)) (queue_at w (2 * l + 1)) (λ u. taken_at (place_at w u) l)
 
 abbrev pub owner_at : State → ℕ → Option ℕ
 owner_at w l = (owners_at w l).exclusive

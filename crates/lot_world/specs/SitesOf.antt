@@ -1,34 +1,30 @@
 -- The locks of a world, with what each thread does about each.
-use Rattle.std.specs.Prelude.{ℕ, Bool, true, false, Option, Some, ◌≡◌, ◌≢◌, ◌+◌, ◌*◌, ◌↔◌, if◌then◌else◌, List, [], ◌∷◌}
+use Rattle.std.specs.Prelude.{ℕ, Bool, true, false, Option, Some, None, ◌≡◌, ◌≢◌, ◌+◌, ◌*◌, ◌↔◌, if◌then◌else◌, List, [], ◌∷◌}
 use Rattle.lot_base.specs.declared.wants.Waiter.{Waiter}
 use Rattle.lot_base.specs.Lines.{times}
 use Rattle.lot_steps.specs.declared.places.Place.{Place}
 use Rattle.lot_steps.specs.declared.places.Place.TheVariants.{Idle, Mutex as OfMutex}
-use Rattle.lot_steps.specs.MutexSteps.{is_parked}
-use Rattle.abstract_locks.specs.Locks.{Rules, one_if_some}
-use Rattle.abstract_locks.specs.Sites.{Line, Main, Second, Site, IsSite, after, Needed}
+use Rattle.abstract_locks.specs.Locks.{Rules}
+use Rattle.abstract_locks.specs.Sites.{Line, Main, Second, Site, IsSite, has_readers, after, Needed}
+use Rattle.abstract_locks.specs.Codes.{code, parked_in, aside_in}
 use Rattle.abstract_locks.specs.Purposes.{rules_of}
-use Rattle.lot_world.specs.Machine.{State, place_at, word_at, kind_at, queue_at, section_at}
+use Rattle.lot_world.specs.Machine.{State, place_at, word_at, filled_at, kind_at, queue_at, section_at}
 use Rattle.lot_world.specs.Refinement.{lock_state}
 use Rattle.lot_calls.specs.declared.kinds.Kind.{Kind}
 use Rattle.lot_calls.specs.declared.kinds.Kind as kind
 use Rattle.lot_world.specs.MutexDeeds.{Act, Hand, hand, station_at, doing_on}
 
-abbrev pub site_of : State → ℕ → Site
-site_of w l = record {
-  lock = lock_state w l;
-  parked = is_parked (word_at w l);
-  aside_parked = false;
-  filled = false;
-  doing = λ u. doing_on (place_at w u) l;
-}
-
 abbrev pub rules_at : State → ℕ → Rules
 rules_at w l = rules_of (kind_at w l)
 
--- the word of a mutex
-abbrev pub code : Site → ℕ
-code s = one_if_some s.lock.exclusive + (if s.parked then 2 else 0)
+abbrev pub site_of : State → ℕ → Site
+site_of w l = record {
+  lock = lock_state w l;
+  parked = parked_in (rules_at w l).sort (word_at w l);
+  aside_parked = aside_in (rules_at w l).sort (word_at w l);
+  filled = filled_at w l;
+  doing = λ u. doing_on (place_at w u) l;
+}
 
 abbrev pub after_acts : Rules → List Act → Site → Site
 after_acts r [] s = s
@@ -42,7 +38,11 @@ AllNeeded r (a ∷ more) s = Needed r a.deed s a.by × AllNeeded r more (after r
 -- each lock is a site, and its word says so
 pub record AreSites (w : State) : Type 0 where
   pub site : (l : ℕ) → IsSite (rules_at w l) (site_of w l)
-  pub word : (l : ℕ) → word_at w l ≡ code (site_of w l)
+  pub word : (l : ℕ) → word_at w l ≡ code (rules_at w l) (site_of w l)
+  -- no call of a lock that is shared is built: nobody owns one, and its word is 0
+  pub unused : (l : ℕ) → has_readers (rules_at w l).sort ≡ true → (word_at w l ≡ 0) × ((lock_state w l).exclusive ≡ None)
+  -- a lock that nobody shares is never filled
+  pub unfilled : (l : ℕ) → has_readers (rules_at w l).sort ≡ false → filled_at w l ≡ false
 
 -- ---------------------------------------------------------------- what the machine keeps beside its locks' being sites
 
@@ -101,9 +101,10 @@ pub record IsSteady (w : State) : Type 0 where
 pub record Follows (w v : State) (l : ℕ) (ds : List Act) : Type 0 where
   pub site : site_of v l ≡ after_acts (rules_at w l) ds (site_of w l)
   pub needed : AllNeeded (rules_at w l) ds (site_of w l)
-  pub word : word_at v l ≡ code (site_of v l)
+  pub word : word_at v l ≡ code (rules_at w l) (site_of v l)
   pub others : (k : ℕ) → k ≢ l → (site_of v k ≡ site_of w k) × (word_at v k ≡ word_at w k)
   pub kinds : (k : ℕ) → kind_at v k ≡ kind_at w k
+  pub unshared : has_readers (rules_at w l).sort ≡ false
 
 -- and each thread stands where its place says
 pub record Goes (w v : State) (l : ℕ) (ds : List Act) : Type 0 where
