@@ -1,6 +1,6 @@
 -- What a step is to the abstract locks, by the equation of its deeds: the case is the one that they have, and what is left to say is
 -- what becomes of the calls.
-use Rattle.std.proofs.Common.{ℕ, Bool, true, false, Option, Some, None, if◌then◌else◌, ◌==◌, ◌≡◌, ◌≢◌, ◌+◌, ◌-◌, ◌*◌, ◌≤◌, ◌⊎◌, inl, inr, List, [], ◌∷◌, refl, sym, ◌∙◌, ap, subst, arith}
+use Rattle.std.proofs.Common.{ℕ, Bool, true, false, Option, Some, None, if◌then◌else◌, ◌==◌, ◌≡◌, ◌≢◌, ◌+◌, ◌-◌, ◌⊎◌, inl, inr, List, [], ◌∷◌, refl, sym, ◌∙◌, ap, arith}
 use Rattle.std.specs.Prelude.{slice_index, sum}
 use Rattle.std.proofs.lemmas.Bool.{cases_eq, eqb-true}
 use Rattle.std.proofs.lemmas.Bool.Decides.{nat_tests}
@@ -248,9 +248,10 @@ module _ (w v : State) (t l : ℕ) (at : MutexPlace) (rules : rules_at w l ≡ m
       → (Got w v t l → AnswerHolds (Some ((mutex_profile at).purpose l)) (locks_of v) t (record (mutex_call_state l at (rights w t)) { retries = None }) a) → GoesOn (locks_of w) t (outcome.TheVariants.End a) (locks_of v)
   enters a made others agrees = by_case w v t l at Idle _ gone (Enter Exclusive) refl gone.goes.follows.needed.0.0 made tt (outcome.TheVariants.End a)
       (λ u ne. ap (call_state (place_at v u)) (λ i k. rights_stay w v t l at Idle _ gone (Enter Exclusive) refl gone.goes.follows.needed.0.0 made tt (outcome.TheVariants.End a) u (entered_other (lock_state w l) t u ne free) k i) ∙ others u ne (rights w u))
-      refl
-      (agrees (ap (λ s. s.exclusive) (lock_led w v t l at Idle _ gone), rights_led w v t l at Idle _ gone (Enter Exclusive) refl gone.goes.follows.needed.0.0 made tt (outcome.TheVariants.End a) t (with_right Exclusive (rights w t l)) (entered_own (lock_state w l) t free)),
-      ends_with_nobody w v t l at Idle _ gone refl)
+      refl (
+        agrees (ap (λ s. s.exclusive) (lock_led w v t l at Idle _ gone), rights_led w v t l at Idle _ gone (Enter Exclusive) refl gone.goes.follows.needed.0.0 made tt (outcome.TheVariants.End a) t (with_right Exclusive (rights w t l)) (entered_own (lock_state w l) t free)),
+        ends_with_nobody w v t l at Idle _ gone refl,
+      )
 
 -- ---------------------------------------------------------------- it gives its right up
 

@@ -42,7 +42,7 @@ use Rattle.lot_world.specs.Fits.{IsShaped, PlaceFits}
 use Rattle.lot_world.specs.Promises.{Codes}
 use Rattle.abstract_locks.specs.Sites.{Main}
 use Rattle.lot_world.specs.MutexDeeds.{station, station_at}
-use Rattle.lot_world.specs.SitesOf.{IsSteady, CallsMutex, is_mutex, stood_in}
+use Rattle.lot_world.specs.SitesOf.{IsSteady, CallsMutex, is_mutex}
 use Rattle.lot_world.proofs.ExclusiveOwners.{by_code, owner_after}
 use Rattle.abstract_locks.specs.Locks.{Rules, MayEnter, IsBlocked}
 use Rattle.abstract_locks.specs.Purposes.{Releases, Bumps, Patience, Patient, Timed, Try, mutex_purpose}
