@@ -106,7 +106,7 @@ impl<R: RawMutex, T> Mutex<R, T> {
     pub fn with<W: Wait, U, F: FnOnce(&mut T) -> U>(&self, rt: &W, token: &mut R::Token, f: F) -> U
         requires token { R.is_token_of (R.lot_of self.now) token.old }
         requires callable { F.IsAlwaysCallable f }
-        ensures token { R.is_token_of (R.lot_of self.now) token.new }
+        ensures token { R.is_token_of (R.lot_of self.now) token.new × R.stays token.old token.new }
         ensures ran { (found : T) × (left : T) × FnOnceReturnsAtMut F.FnOnce f found result left }
     {
         let mut guard = self.lock(rt, token);
@@ -124,7 +124,7 @@ impl<R: RawMutex, T> Mutex<R, T> {
     ) -> Option<U>
         requires token { R.is_token_of (R.lot_of self.now) token.old }
         requires callable { F.IsAlwaysCallable f }
-        ensures token { R.is_token_of (R.lot_of self.now) token.new }
+        ensures token { R.is_token_of (R.lot_of self.now) token.new × R.stays token.old token.new }
         ensures ran { MatchOption result (R.walked self.now TryLock answers.No token.old token.new) (λ answer. (found : T) × (left : T) × FnOnceReturnsAtMut F.FnOnce f found answer left) }
     {
         let mut guard = self.try_lock(rt, token)?;

@@ -3,7 +3,7 @@ ghost use Rattle.std.specs.Prelude.{◌≡◌};
 ghost use Rattle.std.specs.Arc.{arc_value};
 ghost use Rattle.parking_lot_core.specs.Tokens.{IsTokenOf, view_of, last_of};
 ghost use Rattle.parking_lot.specs.Calls.{beginning, fairly, Sees, Releases};
-ghost use Rattle.parking_lot.specs.Driving.{IsGuardOf, IsGuardOf-prop, StaysAs};
+ghost use Rattle.parking_lot.specs.Driving.{IsGuardOf, IsGuardOf-prop, StaysAs, StaysAs-on};
 ghost use Rattle.parking_lot.specs.Paths.{mutex_at, Walks};
 
 use crate::guards::RawGuard;
@@ -48,6 +48,8 @@ impl lock_raw::RawMutex for RawFairMutex {
     ghost is_token_of = { λ lot token. IsTokenOf lot token };
 
     ghost stays = { λ old new. StaysAs old new };
+
+    ghost stays_on = { StaysAs-on };
 
     ghost is_guard_of = { λ mutex guard. IsGuardOf (arc_value mutex.lot) mutex.word guard };
 

@@ -11,7 +11,7 @@ ghost use Rattle.lot_words.specs.declared.words.WordKind.TheVariants.{Mutex};
 ghost use Rattle.parking_lot_core.specs.Tokens.{IsTokenOf, Stays, view_of, last_of};
 ghost use Rattle.lot_words.specs.declared.views.WordStep.{WordStep};
 ghost use Rattle.parking_lot.specs.Calls.{beginning, first_op, purpose_in, GoesOn, Sees, Releases};
-ghost use Rattle.parking_lot.specs.Driving.{IsGuardOf, IsGuardOf-prop, MeetAt, StaysAs};
+ghost use Rattle.parking_lot.specs.Driving.{IsGuardOf, IsGuardOf-prop, MeetAt, StaysAs, StaysAs-on};
 ghost use Rattle.parking_lot.specs.Fitting.{IsOver, held};
 ghost use Rattle.parking_lot.specs.Paths.{mutex_at, Walks};
 ghost use Rattle.parking_lot.specs.Paths.{step as seen_step};
@@ -139,6 +139,8 @@ impl lock_raw::RawMutex for RawMutex {
     ghost is_token_of = { λ lot token. IsTokenOf lot token };
 
     ghost stays = { λ old new. StaysAs old new };
+
+    ghost stays_on = { StaysAs-on };
 
     ghost is_guard_of = { λ mutex guard. IsGuardOf (arc_value mutex.lot) mutex.word guard };
 
