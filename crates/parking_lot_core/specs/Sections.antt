@@ -2,6 +2,7 @@
 use Rattle.std.specs.Prelude.{ℕ, ◌≡◌, List, []}
 use Rattle.std.specs.Sync.Mutex.{mutex_guard_value}
 use Rattle.lot_base.specs.declared.wants.Waiter.{Waiter}
+use Rattle.lot_base.specs.declared.wants.Want.{Want}
 use Rattle.parking_lot_core.specs.declared.sections.Section.{Section}
 use Rattle.parking_lot_core.specs.declared.tokens.Did.TheVariants.{Nothing}
 
@@ -10,6 +11,10 @@ waiting_in section = (mutex_guard_value section.queueing).queues.waiters
 
 abbrev pub taken_in : Section → List ℕ
 taken_in section = (mutex_guard_value section.queueing).taken.items
+
+-- what each of them wants
+abbrev pub wants_in : Section → List Want
+wants_in section = (mutex_guard_value section.queueing).wants.items
 
 -- those of whom it took that have no right yet
 abbrev pub rightless_in : Section → List ℕ
@@ -23,6 +28,10 @@ moved_in section = section.moved
 abbrev pub StaysIn : Section → Section → Type 0
 StaysIn old new = (new.lot.now ≡ old.lot.now) × (new.keys ≡ old.keys)
 
+-- and has done no more to whom it took or moved
+abbrev pub TookAs : Section → Section → Type 0
+TookAs old new = (new.did ≡ old.did) × (taken_in new ≡ taken_in old) × (wants_in new ≡ wants_in old) × (moved_in new ≡ moved_in old)
+
 -- nothing has been done in it
 abbrev pub IsUntouched : Section → Type 0
-IsUntouched section = (section.did ≡ Nothing) × (taken_in section ≡ []) × (rightless_in section ≡ []) × (moved_in section ≡ 0)
+IsUntouched section = (section.did ≡ Nothing) × (taken_in section ≡ []) × (wants_in section ≡ []) × (rightless_in section ≡ []) × (moved_in section ≡ 0)
