@@ -30,7 +30,7 @@ use Rattle.lot_steps.specs.Steps.{act_of, spin_lock, late_key}
 use Rattle.lot_world.specs.Machine.{State, unlocked, place_at, word_at, owners_at, kind_at, queue_at, operated, appended, first_taken, performed, taken_by, spun_on, late_on, turned, is_possible, after, answered}
 use Rattle.lot_world.specs.Fits.{IsShaped, PlaceFits}
 use Rattle.lot_world.specs.Promises.{Codes}
-use Rattle.lot_world.specs.MutexDeeds.{mutex_doing, hand, mutex_station}
+use Rattle.lot_world.specs.MutexDeeds.{hand, mutex_station}
 use Rattle.lot_world.specs.SitesOf.{IsSteady, CallsMutex, is_mutex}
 use Rattle.abstract_locks.specs.Sites.{Main}
 use Rattle.lot_world.proofs.MutexTable.{own_doing}
@@ -41,9 +41,12 @@ use Rattle.lot_world.specs.Refinement.{lock_state, locks_of, call_state, owner_a
 use Rattle.lot_world.specs.Fair.{IsFairRelease, OwnsOn, HandsOver, LetsGo, IsFair}
 use Rattle.lot_world.proofs.ExclusiveOwners.{owner_after, exclusive-owners, by_code}
 use Rattle.lot_world.proofs.Glue.{IsTakenAt, is_taken, own_stance}
-use Rattle.lot_world.proofs.AtPlaces.{coded as words_coded, has_nobody, in_no_hand}
+use Rattle.lot_world.proofs.AtPlaces.{coded as words_coded, in_no_hand}
 use Rattle.lot_world.proofs.TurnsKept.{after_steady}
-use Rattle.lot_world.proofs.LockEvents.{mutex_rules, mutex_rules_of, taken_nobody, same, rights}
+use Rattle.lot_world.proofs.Glue.{same}
+use Rattle.lot_world.proofs.MutexTable.{mutex}
+use Rattle.lot_world.proofs.StandsMoved.{mutex_rules}
+use Rattle.lot_world.proofs.LockEvents.{rights}
 use Rattle.lot_world.proofs.LockSteps.{after_step}
 use Rattle.abstract_locks.proofs.Runs.{needs_of}
 
@@ -71,7 +74,7 @@ others_keep r s t u is own ne Rollback n = grind (arith, is.exclusive_alone t ow
 let_go_was : (t : ℕ) (o : Option Taken) (h : Taken) → keep_from t o ≡ Some h → o ≡ Some h
 let_go_was t o h e = grind arith
 
-taken_was : (s : LockState) (t u a : ℕ) (x : Want) → IsLockState mutex_rules s → (c : LockCase) → Needs mutex_rules c s a → IsTaken (locks.after mutex_rules c s a) t u x → IsTaken s t u x ⊎ (first_thread s.queue ≡ Some u)
+taken_was : (s : LockState) (t u a : ℕ) (x : Want) → IsLockState mutex s → (c : LockCase) → Needs mutex c s a → IsTaken (locks.after mutex c s a) t u x → IsTaken s t u x ⊎ (first_thread s.queue ≡ Some u)
 taken_was s t u a x is (Enter Exclusive) n h = inl h
 taken_was s t u a x is (Enter y) n h = inl (grind arith)
 taken_was s t u a x is Pend n h = inl h
@@ -258,7 +261,7 @@ is_fair w s shape steady = record {
         (λ c n e. others_keep (rules_at (locks_of w) l) (lock_state w l) t s.thread (all l) e ne c n) s.turn (answered w s) step.1 h.1))
   ];
   takes = λ t l u h. turned_so (λ x y. IsTaken y t u Exclusive → IsTaken x t u Exclusive ⊎ (first_thread x.queue ≡ Some u)) (locks_of w) (locks_of (after w s)) s.thread l (λ e. inl e)
-      (λ c n. let rules : rules_at (locks_of w) l ≡ mutex_rules = mutex_rules_of (kind_at w l) (fair_mutex w (place_at w t) l (rights w t) (steady.stands.calls t) h.0) in
+      (λ c n. let rules : rules_at (locks_of w) l ≡ mutex = mutex_rules (kind_at w l) (fair_mutex w (place_at w t) l (rights w t) (steady.stands.calls t) h.0) in
       rw rules (taken_was (lock_state w l) t u s.thread Exclusive (subst (λ r. IsLockState r (lock_state w l)) rules (all l)) c (subst (λ r. Needs r c (lock_state w l) s.thread) rules n))) s.turn (answered w s) step.1;
 }
   where

@@ -42,7 +42,7 @@ use Rattle.lot_world.specs.Fits.{IsShaped, PlaceFits}
 use Rattle.lot_world.specs.Promises.{Codes}
 use Rattle.abstract_locks.specs.Sites.{Main}
 use Rattle.lot_world.specs.MutexDeeds.{station, station_at}
-use Rattle.lot_world.specs.SitesOf.{IsSteady, CallsMutex, is_mutex, stood_in}
+use Rattle.lot_world.specs.SitesOf.{IsSteady, CallsMutex, is_mutex}
 use Rattle.lot_world.proofs.ExclusiveOwners.{by_code, owner_after}
 use Rattle.abstract_locks.specs.Locks.{Rules, MayEnter, IsBlocked}
 use Rattle.abstract_locks.specs.Purposes.{Releases, Bumps, Patience, Patient, Timed, Try, mutex_purpose}
@@ -50,8 +50,10 @@ use Rattle.abstract_locks.specs.Runs.{rules_at, purpose_at}
 use Rattle.abstract_locks.specs.Picks.{queued_of}
 use Rattle.lot_world.specs.Refinement.{lock_state, locks_of, owner_at}
 use Rattle.lot_world.specs.Solo.{Rests, IsUnderWay, HasItsWay, EntersAlone, BumpsAlone, EndsAlone, successor}
-use Rattle.lot_world.proofs.LockEvents.{mutex_rules, mutex_rules_of, queued_behind}
-use Rattle.lot_world.proofs.LockSteps.{free_word, owned_word, decides, purpose_is}
+use Rattle.lot_world.proofs.MutexTable.{mutex, queued_behind}
+use Rattle.lot_world.proofs.StandsMoved.{mutex_rules}
+use Rattle.lot_world.proofs.MutexEvents.{free_word, owned_word, decides}
+use Rattle.lot_world.proofs.LockSteps.{purpose_is}
 use Rattle.lot_world.proofs.Counts.{first_times}
 use Rattle.lot_world.proofs.Glue.{nothing_at}
 use Rattle.lot_world.proofs.SitesPromise.{parked_at}
@@ -369,14 +371,14 @@ module _ (w : State) (t : ℕ) (shape : IsShaped w) (steady : IsSteady w) (there
   -- ---------------------------------------------------------------- calls from their beginning
 
   module _ (l : ℕ) (kind : is_mutex (kind_at w l) ≡ true) (v : State) (x : Outcome) where
-    rules : rules_at (locks_of w) l ≡ mutex_rules
-    rules = mutex_rules_of (kind_at w l) kind
+    rules : rules_at (locks_of w) l ≡ mutex
+    rules = mutex_rules (kind_at w l) kind
 
     may_own : MayEnter (rules_at (locks_of w) l) (lock_state w l) Exclusive → owner_at w l ≡ None
-    may_own may = let m : MayEnter mutex_rules (lock_state w l) Exclusive = subst (λ (r : Rules). MayEnter r (lock_state w l) Exclusive) rules may in m.0.1
+    may_own may = let m : MayEnter mutex (lock_state w l) Exclusive = subst (λ (r : Rules). MayEnter r (lock_state w l) Exclusive) rules may in m.0.1
 
     blocked_owned : IsBlocked (rules_at (locks_of w) l) (lock_state w l) Exclusive → owner_at w l ≡ None → ⊥
-    blocked_owned b = let m : IsBlocked mutex_rules (lock_state w l) Exclusive = subst (λ (r : Rules). IsBlocked r (lock_state w l) Exclusive) rules b in m.1
+    blocked_owned b = let m : IsBlocked mutex (lock_state w l) Exclusive = subst (λ (r : Rules). IsBlocked r (lock_state w l) Exclusive) rules b in m.1
 
     -- what a call that waits has come to
     abbrev patience_of : Entry → Patience
