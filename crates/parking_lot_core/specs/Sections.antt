@@ -1,6 +1,8 @@
 -- What stands in the queues of a section, and whom it took.
 use Rattle.std.specs.Prelude.{ℕ, ◌≡◌, List, []}
 use Rattle.std.specs.Sync.Mutex.{mutex_guard_value}
+use Rattle.lot_base.specs.declared.notes.Note.{Note}
+use Rattle.lot_base.specs.declared.notes.Note.TheVariants.{Normal, HandOff}
 use Rattle.lot_base.specs.declared.wants.Waiter.{Waiter}
 use Rattle.lot_base.specs.declared.wants.Want.{Want}
 use Rattle.parking_lot_core.specs.declared.sections.Section.{Section}
@@ -31,6 +33,11 @@ StaysIn old new = (new.lot.now ≡ old.lot.now) × (new.keys ≡ old.keys)
 -- and has done no more to whom it took or moved
 abbrev pub TookAs : Section → Section → Type 0
 TookAs old new = (new.did ≡ old.did) × (taken_in new ≡ taken_in old) × (wants_in new ≡ wants_in old) × (moved_in new ≡ moved_in old)
+
+-- the note that is right for those whom it took: a hand-off where each was given a right, and a normal one where nobody was
+abbrev pub MayNote : Note → List ℕ → List ℕ → Type 0
+MayNote Normal taken rightless = rightless ≡ taken
+MayNote HandOff taken rightless = rightless ≡ []
 
 -- nothing has been done in it
 abbrev pub IsUntouched : Section → Type 0

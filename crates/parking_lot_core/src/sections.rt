@@ -10,7 +10,6 @@ ghost use Rattle.lot_base.specs.Requeues.{taken_by, moved_by, requeued};
 ghost use Rattle.lot_queues.specs.Wants.{wants_of, taken_in_line};
 ghost use Rattle.parking_lot_core.specs.Keys.{AreKeys, IsKeyOf, first_key};
 ghost use Rattle.parking_lot_core.specs.declared.tokens.Did.TheVariants.{Nothing, TakeFirst, TakeAll, TakePicked};
-ghost use Rattle.lot_base.specs.declared.notes.Note.TheVariants.{HandOff};
 
 use crate::lot::ParkingLot;
 use crate::tokens::{Did, Record, Token};
@@ -130,7 +129,7 @@ impl ParkingLot {
 
 impl<'a> Section<'a> {
     ghost use Rattle.parking_lot_core.specs.Tokens.{IsTokenOf, Stays, last_of};
-    ghost use Rattle.parking_lot_core.specs.Sections.{waiting_in, taken_in, wants_in, rightless_in, moved_in, StaysIn, TookAs};
+    ghost use Rattle.parking_lot_core.specs.Sections.{waiting_in, taken_in, wants_in, rightless_in, moved_in, StaysIn, TookAs, MayNote};
     ghost use Rattle.lot_words.specs.RightsOf.{IsRightOf};
 
     /// Puts a thread behind the last under a key. One that stands somewhere leaves that place first.
@@ -298,7 +297,7 @@ impl<'a> Section<'a> {
     /// Leaves. Whom the section took gets the note and is woken, and the token keeps the record of it.
     pub fn leave<R: Wait>(self, rt: &R, token: &mut Token, note: Note)
         requires own { IsTokenOf self.lot.now token.old }
-        requires given { note ≡ HandOff → rightless_in self ≡ [] }
+        requires note { MayNote note (taken_in self) (rightless_in self) }
         ensures own { Stays self.entry.lot.now token.old token.new × (token.new.seat ≡ token.old.seat) }
         ensures recorded { last_of token.new ≡ Some (record { key = first_key self.entry.keys; did = self.entry.did; number = length (taken_in self.entry) + moved_in self.entry }) }
     {
