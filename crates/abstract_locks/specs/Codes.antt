@@ -18,14 +18,18 @@ packed c w u a p = 16 * c + 8 * w + 4 * u + 2 * a + p
 abbrev pub writers : LockState → ℕ
 writers s = one_if_some s.exclusive + one_if_some s.pending
 
+-- the word of a lock, by its owners and its two parked bits
+abbrev pub word_by : Sort → ℕ → LockState → (aside parked : Bool) → ℕ
+word_by Mutex limit s aside parked = one_if_some s.exclusive + 2 * bit parked
+word_by Normal limit s aside parked = packed (count s) (writers s) (one_if_some s.upgradable) (bit aside) (bit parked)
+word_by Recursive limit s aside parked = packed (count s) (writers s) (one_if_some s.upgradable) (bit aside) (bit parked)
+word_by Semaphore limit s aside parked = 2 * (limit - readers s) + bit parked
+
 abbrev pub rw_code : Site → ℕ
 rw_code s = packed (count s.lock) (writers s.lock) (one_if_some s.lock.upgradable) (bit s.aside_parked) (bit s.parked)
 
 abbrev pub code_of : Sort → ℕ → Site → ℕ
-code_of Mutex limit s = one_if_some s.lock.exclusive + 2 * bit s.parked
-code_of Normal limit s = rw_code s
-code_of Recursive limit s = rw_code s
-code_of Semaphore limit s = 2 * (limit - readers s.lock) + bit s.parked
+code_of sort limit s = word_by sort limit s.lock s.aside_parked s.parked
 
 abbrev pub code : Rules → Site → ℕ
 code r s = code_of r.sort r.limit s

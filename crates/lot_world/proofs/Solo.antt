@@ -39,7 +39,7 @@ use Rattle.lot_calls.specs.Calls.{lock_in}
 use Rattle.lot_steps.specs.Steps.{act_of, next_place, next_act, mutex_goes, mutex_does, lock_of, first_place}
 use Rattle.lot_world.specs.Machine.{State, place_at, word_at, kind_at, queue_at, section_at, go_of, after, solo}
 use Rattle.lot_world.specs.Fits.{IsShaped, PlaceFits}
-use Rattle.lot_world.specs.Promises.{Codes}
+use Rattle.lot_world.specs.MutexPromises.{Codes}
 use Rattle.abstract_locks.specs.Sites.{Main}
 use Rattle.lot_world.specs.MutexDeeds.{station, station_at}
 use Rattle.lot_world.specs.SitesOf.{IsSteady, CallsMutex, is_mutex}
