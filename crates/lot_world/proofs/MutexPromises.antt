@@ -17,7 +17,7 @@ use Rattle.lot_world.specs.Machine.{State, place_at, word_at, kind_at}
 use Rattle.lot_world.specs.Refinement.{owner_at, lock_state, call_state, locks_of}
 use Rattle.lot_world.specs.SitesOf.{is_mutex, rules_at}
 use Rattle.lot_world.specs.Promises.{WaitsFor, WakesWaiters, IsKept, IsLookedAfter, IsOpenNow}
-use Rattle.lot_world.specs.MutexPromises.{Codes, HasDebtor, IsMutexKept, MutexesAreKept}
+use Rattle.lot_world.specs.MutexPromises.{IsMutexWord, HasDebtor, IsMutexKept, MutexesAreKept}
 use Rattle.lot_world.proofs.MutexTable.{mutex}
 use Rattle.lot_world.proofs.StandsMoved.{mutex_rules}
 use Rattle.lot_world.proofs.LockEvents.{rights}

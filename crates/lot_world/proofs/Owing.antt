@@ -50,7 +50,7 @@ use Rattle.abstract_locks.specs.Purposes.{IsReleasing}
 use Rattle.lot_world.specs.Owing.{Owes, IsInside, SeesWaiters, OwesSince}
 use Rattle.lot_world.specs.Fits.{IsShaped}
 use Rattle.abstract_locks.specs.Sites.{Main}
-use Rattle.lot_world.specs.MutexPromises.{Codes}
+use Rattle.lot_world.specs.MutexPromises.{IsMutexWord}
 use Rattle.lot_world.specs.Promises.{IsKept, GoesToWake}
 use Rattle.lot_world.specs.SitesOf.{IsSteady}
 use Rattle.lot_world.proofs.Shape.{both, performed_counts}
@@ -197,9 +197,9 @@ same_lock k l e = rw e (same l)
 module _ (w : State) (t : ℕ) (steady : IsSteady w) where
   -- the word of an owner that isn't 1 says that somebody may wait
   beside_owner : (k : ℕ) → owner_at w k ≡ Some t → (word_at w k == 1) ≡ false → is_parked (word_at w k) ≡ true
-  beside_owner k own ne = by_code (subst (λ o. Codes (word_at w k) o) own (coded w steady k))
+  beside_owner k own ne = by_code (subst (λ o. IsMutexWord (word_at w k) o) own (coded w steady k))
     where
-      by_code : Codes (word_at w k) (Some t) → is_parked (word_at w k) ≡ true
+      by_code : IsMutexWord (word_at w k) (Some t) → is_parked (word_at w k) ≡ true
       by_code (inl e) = let f : (1 == 1) ≡ false = rw e at ne in absurd cc
       by_code (inr e) = rw e refl
 

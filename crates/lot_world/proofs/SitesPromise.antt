@@ -33,7 +33,7 @@ use Rattle.lot_calls.specs.declared.kinds.Kind.{Kind}
 use Rattle.lot_calls.specs.declared.kinds.Kind as kind
 use Rattle.lot_world.specs.Refinement.{lock_state, locks_of, taken_at}
 use Rattle.lot_world.specs.Promises.{WaitsFor, want_of, IsDebtorOf, IsLookedAfter, IsOpenNow}
-use Rattle.lot_world.specs.MutexPromises.{Codes}
+use Rattle.lot_world.specs.MutexPromises.{IsMutexWord}
 use Rattle.lot_steps.specs.declared.mutex.lock.Entry.TheVariants as entry
 use Rattle.lot_world.specs.Refinement.{entry_purpose}
 use Rattle.lot_world.specs.MutexDeeds.{nowhere, station, station_at, mutex_station, mutex_profile, doing_on, mutex_doing}
@@ -44,7 +44,7 @@ use Rattle.lot_world.proofs.StandsKept.{in_main}
 use Rattle.lot_world.proofs.StandsMoved.{mutex_rules}
 use Rattle.lot_world.proofs.SitesKept.{lock_by}
 
-pub codes_by : (e : Option ℕ) (b : Bool) (w : ℕ) → w ≡ one_if_some e + 2 * bit b → Codes w e
+pub codes_by : (e : Option ℕ) (b : Bool) (w : ℕ) → w ≡ one_if_some e + 2 * bit b → IsMutexWord w e
 codes_by e true w h = inr h
 codes_by e false w h = inl (omega arith)
 
@@ -53,16 +53,16 @@ pub unshared_of : (w : State) → IsSteady w → (l : ℕ) → rules_at w l ≡ 
 unshared_of w s l rules = (s.sites.site l).state.unshared (λ h. subst (λ r. locks.Knows r.sort Shared) rules h)
 
 -- each word says whether there is an owner
-pub coded_at : (w : State) → IsSteady w → (l : ℕ) → Codes (word_at w l) (owners_at w l).exclusive
+pub coded_at : (w : State) → IsSteady w → (l : ℕ) → IsMutexWord (word_at w l) (owners_at w l).exclusive
 coded_at w s l = by_kind (kind_at w l) refl
   where
-    of_mutex : rules_at w l ≡ mutex → Codes (word_at w l) (owners_at w l).exclusive
+    of_mutex : rules_at w l ≡ mutex → IsMutexWord (word_at w l) (owners_at w l).exclusive
     of_mutex rules = codes_by (owners_at w l).exclusive (is_parked (word_at w l)) (word_at w l) (s.sites.word l ∙ (λ i. code (rules i) (lock_by w l (rules i))))
 
-    of_unused : has_readers (rules_at w l).sort ≡ true → Codes (word_at w l) (owners_at w l).exclusive
+    of_unused : has_readers (rules_at w l).sort ≡ true → IsMutexWord (word_at w l) (owners_at w l).exclusive
     of_unused readers = let u = s.sites.unused l readers in inl (u.0 ∙ sym (ap one_if_some u.1))
 
-    by_kind : (k : Kind) → kind_at w l ≡ k → Codes (word_at w l) (owners_at w l).exclusive
+    by_kind : (k : Kind) → kind_at w l ≡ k → IsMutexWord (word_at w l) (owners_at w l).exclusive
     by_kind (kind.TheVariants.RwLock limit) e = of_unused (ap (λ k. has_readers (rules_of k).sort) e)
     by_kind (kind.TheVariants.Recursive limit) e = of_unused (ap (λ k. has_readers (rules_of k).sort) e)
     by_kind kind.TheVariants.Mutex e = of_mutex (ap rules_of e)

@@ -13,11 +13,11 @@ use Rattle.abstract_locks.specs.Locks.{LockState, Sort, Semaphore, Rules, times,
 use Rattle.abstract_locks.specs.Codes.{word_by, parked_in, aside_in}
 use Rattle.abstract_locks.specs.Runs.{AreLockStates}
 use Rattle.abstract_locks.specs.Sites.{Line, Main, Second, IsOpen, counts_some, has_readers}
-use Rattle.abstract_locks.specs.Purposes.{Purpose, Enters, Releases, Converts, Bumps, MayWait, IsReleasing}
-use Rattle.lot_world.specs.Refinement.{lock_state, locks_of}
+use Rattle.abstract_locks.specs.Purposes.{Purpose, Enters, Releases, Converts, Bumps, MayWait}
+use Rattle.lot_world.specs.Refinement.{lock_state, locks_of, call_at}
 use Rattle.lot_world.specs.MutexDeeds.{doing_on}
 use Rattle.lot_world.specs.SitesOf.{rules_at, key_of}
-use Rattle.lot_world.specs.Owing.{Owes}
+use Rattle.lot_world.specs.Owing.{Owes, ReleasesLock}
 
 abbrev pub sort_at : State → ℕ → Sort
 sort_at w l = (rules_at w l).sort
@@ -36,7 +36,8 @@ has_aside_bit w l = aside_in (sort_at w l) (word_at w l)
 
 -- the word is the one of the lock's owners, beside its parked bits
 abbrev pub IsCoded : State → ℕ → Type 0
-IsCoded w l = word_at w l ≡ word_by (sort_at w l) (rules_at w l).limit (lock_state w l) (has_aside_bit w l) (has_parked_bit w l)
+IsCoded w l =
+    word_at w l ≡ word_by (sort_at w l) (rules_at w l).limit (lock_state w l) (has_aside_bit w l) (has_parked_bit w l)
 
 -- the thread has brought waiters of a condition variable to the lock, and is about to set its parked bit; no such call is built
 abbrev pub IsAboutToMark : State → ℕ → ℕ → Type 0
@@ -51,7 +52,7 @@ OwesOn w t l Second = ⊥
 
 -- a call that releases, and enters the section of the line next
 abbrev pub GoesToWake : State → ℕ → ℕ → Line → Type 0
-GoesToWake w t l m = (act_of (place_at w t) ≡ Enter (One (key_of l m))) × IsReleasing ((locks_of w).calls t).purpose ((locks_of w).calls t).released l
+GoesToWake w t l m = (act_of (place_at w t) ≡ Enter (One (key_of l m))) × ReleasesLock w t l
 
 -- a call that wakes whom it takes of the main line: a release that hands nothing over, a conversion that lets others in, or a writer
 -- beside readers that has given up
@@ -73,8 +74,8 @@ want_of purpose = None
 -- turn on (of a mutex anything, of a reader-writer lock more than to share)
 abbrev pub IsDebtorOf : State → ℕ → ℕ → Line → Type 0
 IsDebtorOf w t l Main =
-    (Owes w t l × WakesWaiters (sort_at w l) ((locks_of w).calls t).purpose ((locks_of w).calls t).gave_up l)
-    ⊎ ((((locks_of w).calls t).retries ≡ Some l) × (counts_some (sort_at w l) (want_of ((locks_of w).calls t).purpose) ≡ true))
+    (Owes w t l × WakesWaiters (sort_at w l) (call_at w t).purpose (call_at w t).gave_up l)
+    ⊎ (((call_at w t).retries ≡ Some l) × (counts_some (sort_at w l) (want_of (call_at w t).purpose) ≡ true))
 IsDebtorOf w t l Second = OwesOn w t l Second
 
 -- some thread, which is awake, stands in no queue and isn't taken, is such a debtor
@@ -94,7 +95,8 @@ WasNeverFull w l = has_readers (sort_at w l) ≡ true → filled_at w l ≡ fals
 
 pub record NobodyForgotten (w : State) : Type 0 where
   -- whoever waits for a lock whose way nobody bars is looked after
-  pub main : (t l : ℕ) → WaitsFor w t l → IsOpenNow (rules_at w l) (lock_state w l) → WasNeverFull w l → IsLookedAfter w l Main
+  pub main : (t l : ℕ) → WaitsFor w t l → IsOpenNow (rules_at w l) (lock_state w l) → WasNeverFull w l
+      → IsLookedAfter w l Main
   -- and so is a writer aside of whom nobody shares any more
   pub second : (l : ℕ) → (lock_state w l).aside ≢ None → readers (lock_state w l) ≡ 0 → IsLookedAfter w l Second
 
@@ -116,13 +118,13 @@ pub record IsKept (w : State) : Type 0 where
   -- and at one lock at most
   pub one_place : (t l k : ℕ) → 1 ≤ standing t (lock_state w l) → 1 ≤ standing t (lock_state w k) → l ≡ k
   -- in a call that waits for it
-  pub waiting : (t l : ℕ) → 1 ≤ standing t (lock_state w l) → MayWait ((locks_of w).calls t).purpose l
+  pub waiting : (t l : ℕ) → 1 ≤ standing t (lock_state w l) → MayWait (call_at w t).purpose l
   pub coded : (l : ℕ) → IsCoded w l
   pub nobody_forgotten : NobodyForgotten w
   -- who is shown to owe a wake on a line is inside its section, or a release on its way into it
   pub owing : (t l : ℕ) (m : Line) → OwesOn w t l m ↔ ((section_at w (key_of l m) ≡ Some t) ⊎ GoesToWake w t l m)
   -- who is shown to try a lock again was woken on it, and has got neither the lock nor a place in a queue since
-  pub retrying : (t l : ℕ) → retries_on (place_at w t) l ≡ true ↔ ((locks_of w).calls t).retries ≡ Some l
+  pub retrying : (t l : ℕ) → retries_on (place_at w t) l ≡ true ↔ (call_at w t).retries ≡ Some l
   -- who is asleep but stands nowhere was handed the lock that it waited for, by a thread that is inside the section and wakes it
   pub handing : (t : ℕ) → IsAsleepNowhere w t → IsHandedOver w t
   -- a waiter implies the parked bit, or somebody who has just brought it and is about to set the bit
