@@ -57,7 +57,8 @@ module _ (n : ℕ) (base : List Ownership) (st : Stage) where
     (λ seen code. subst (λ (o : List Ownership). has (held n) o ≡ true) (sym (kept n to none_left seen code.1.0 (finds_locked n seen st.owns there code) st.owns)) there),
     subst (HasTaken to) (sym f.1.1) (0, omega arith, refl),
   )
-  hand_off_needs (at.Leave taken) f = subst (MayLeave (note_of (wakes_first taken note.TheVariants.HandOff))) (sym f.1) (λ e. refl)
+  hand_off_needs (at.Leave None) f = subst (MayLeave note.TheVariants.Normal) (sym f.1) refl
+  hand_off_needs (at.Leave (Some thread)) f = subst (MayLeave note.TheVariants.HandOff) (sym f.1) refl
 
   module _ (new : Stage) (bumps : Bool) where
     owns_of : (s : Stage) → new ≡ s → new.owns ≡ s.owns
