@@ -47,14 +47,14 @@ taken_from l = record { lock = l; handed = false }
 abbrev pub handed_over : ℕ → Taking
 handed_over l = record { lock = l; handed = true }
 
--- the thread that a release has taken and is to wake
-abbrev pub CarriedAt : ℕ → Option ℕ → Bool → ℕ → Taking → Type 0
-CarriedAt l None handed u k = ⊥
-CarriedAt l (Some v) handed u k = (v ≡ u) × (◌≡◌ {A = Taking} (record { lock = l; handed = handed }) k)
+-- the release has taken a thread and is to wake it
+abbrev pub CarriedAt : ℕ → Option Bool → Taking → Type 0
+CarriedAt l None k = ⊥
+CarriedAt l (Some handed) k = ◌≡◌ {A = Taking} (record { lock = l; handed = handed }) k
 
-abbrev pub Carries : Place → ℕ → Taking → Type 0
-Carries Idle u k = ⊥
-Carries (Mutex l at) u k = CarriedAt l (mutex_profile at).taken (mutex_profile at).gives u k
+abbrev pub Carries : Place → Taking → Type 0
+Carries Idle k = ⊥
+Carries (Mutex l at) k = CarriedAt l (mutex_profile at).carries k
 
 -- the thread was taken by t from the queue of a lock
 abbrev pub InHandAt : ℕ → Option Hand → ℕ → Taking → Type 0
@@ -88,6 +88,7 @@ pub record IsSound (w : State) : Type 0 where
   -- a waiter implies the parked bit
   pub parked : (t k : ℕ) → queued (place_at w t) ≡ Some k → 2 ≤ word_at w k
   pub held : (t k : ℕ) → holds (place_at w t) ≡ Some k → owner_at w k ≡ Some t
-  -- a release carries just those whom it has taken
-  pub carried : (t u : ℕ) (k : Taking) → Carries (place_at w t) u k → IsTakenBy (place_at w u) t k
-  pub taken : (u t : ℕ) (k : Taking) → IsTakenBy (place_at w u) t k → Carries (place_at w t) u k
+  -- a release carries just the one whom it has taken
+  pub carried : (t : ℕ) (k : Taking) → Carries (place_at w t) k → (u : ℕ) × IsTakenBy (place_at w u) t k
+  pub alone : (t u v : ℕ) (k : Taking) → IsTakenBy (place_at w u) t k → IsTakenBy (place_at w v) t k → v ≡ u
+  pub taken : (u t : ℕ) (k : Taking) → IsTakenBy (place_at w u) t k → Carries (place_at w t) k
