@@ -1,5 +1,5 @@
 -- Each step keeps the rule.
-use Rattle.std.proofs.Common.{◌≡◌, ℕ, ◌+◌, ◌<◌, ◌≤◌, eqb, cond, ◌≢◌, true, List, [], ◌∷◌, ◌++◌, inl, inr, length, get_or, set, sym, refl, ap, ◌∙◌, subst, ⊎_elim, arith, length-set, get_or-set_same, get_or-set_other, eq-eqb, ne_eqb, zero, suc, bit_or}
+use Rattle.std.proofs.Common.{◌≡◌, ℕ, ◌+◌, ◌<◌, ◌≤◌, eqb, cond, ◌≢◌, ◌⊎◌, true, List, [], ◌∷◌, ◌++◌, inl, inr, length, get_or, set, sym, refl, ap, ◌∙◌, subst, ⊎_elim, arith, length-set, get_or-set_same, get_or-set_other, eq-eqb, ne_eqb, zero, suc, bit_or}
 use mathlib.Core.Logic.{dite}
 use mathlib.Core.Option.{some, none, some-injective}
 use Rattle.std.proofs.lemmas.List.{set-get_or}
@@ -8,36 +8,44 @@ use lib.ListN.{get_elem?}
 use prog.Atomic.{either}
 use Rattle.atomic_table.specs.Table.{State, Me, step, Act, keeps, Valid, carried_after, stepped, Allows, Splits, Joins}
 use Rattle.atomic_table.proofs.Lists.{at_set, at_snoc}
-use Rattle.lot_words.specs.Places.{place, counter}
-use Rattle.lot_words.specs.Views.{view, blank, total, total_below, owned, named, counted, steps_at, drew}
-use Rattle.lot_words.specs.Codes.{Owners, Codes, Shows, IsCountCode}
+use Rattle.lot_words.specs.Places.{place, counter, mutex_of_count}
+use Rattle.lot_words.specs.Views.{view, blank, total, total_below, owned, owning, owning_with, named, counted, steps_at, drew}
+use Rattle.lot_words.specs.Codes.{Owners, Codes, Shows, IsCountCode, everyone, exclusive}
 use Rattle.lot_words.specs.Rule.{LotRule}
 use Rattle.lot_base.specs.Words.{apply}
 use Rattle.lot_base.specs.declared.ops.Op.{Op}
 use Rattle.lot_base.specs.declared.ops.Op.TheVariants.{Load, Or, Exchange}
-use Rattle.lot_words.specs.Steps.{has, IsTied, trade, MayStep, listed, after_step}
+use Rattle.lot_words.specs.Steps.{has, without, HasAll, trade, Agrees, MayTie, MayStep, owns_after_step, listed, after_step}
 use Rattle.lot_words.specs.Plays.{TakesAs, Takes, saw_set, looks, draws, numbered, left_over, piece, takes_in}
 use Rattle.lot_words.specs.declared.owners.Ownership.{Ownership}
 use Rattle.lot_words.specs.declared.views.WordStep.{WordStep}
-use Rattle.lot_words.proofs.Trades.{total-without, traded_here, traded_elsewhere, traded_counts}
+use Rattle.lot_words.proofs.Trades.{total-without, traded_here, traded_elsewhere, traded_counts, said_total, owned_some}
 use Rattle.lot_words.specs.declared.owners.Owner.{Owner}
+use Rattle.lot_words.specs.declared.owners.Owner.TheVariants.{Exclusive}
 use Rattle.lot_words.specs.declared.views.View.{View}
 use Rattle.lot_words.specs.declared.views.Drawn.{Drawn}
 use Rattle.lot_words.specs.declared.words.WordKind.{WordKind}
-use Rattle.lot_words.specs.declared.words.WordKind.TheVariants.{Mutex, Condvar, Count}
+use Rattle.lot_words.specs.declared.words.WordKind.TheVariants.{Mutex, RwLock, Condvar, Once, Count}
+use Rattle.lot_words.proofs.Counts.{counted-where, no_counts}
 use Rattle.lot_words.proofs.Totals.{total-append, total-set, term_le, total_below-suc, cond_same, cond_other}
 use Rattle.lot_words.proofs.Places.{rank_lt, kind_at-place, place-number, place-kind}
 
 shows_more : (P Q : ℕ → Type 0) (n : ℕ) → ((k : ℕ) → P k → Q k) → Shows P n → Shows Q n
 shows_more P Q n more h = ⊎_elim (λ z. inl z) (λ t. inr (t.0, t.1, more t.0 t.2)) h
 
+-- what ties the value of a word to the word of a mutex
+abbrev pub Tied : WordKind → ℕ → ℕ → List View → Type 0
+Tied Condvar number n views = Shows (λ mutex. 0 < total (steps_at (place mutex Mutex)) views) n
+Tied Count number n views = IsCountCode n × (n ≡ total (λ (v : View). counted (mutex_of_count (place number Count)) v.owns) views)
+Tied _ number n views = Unit {0}
+
 module _ {S : Type 0} (words : ℕ) (s : State S View) (o : LotRule words s) where
-  -- the law of all steps on a lock word: what is owned of this word changes, and its code with that
+  -- the law of all steps on words: what is owned of this word changes, and its code with that
   pub turned : (number : ℕ) (kind : WordKind) (j m : ℕ) (v w : View) → get_elem? s.views j ≡ some v → number < words
       → ((r : ℕ) → r ≢ place number kind → (weight : Owner → ℕ) → owned r weight w.owns ≡ owned r weight v.owns)
       → ((after : Owners) → ((weight : Owner → ℕ) → after weight + owned (place number kind) weight v.owns ≡ named (place number kind) weight s.views + owned (place number kind) weight w.owns) → Codes kind m after)
-      → (IsTied kind → m ≡ get_or s.words (place number kind) 0)
-      → ((r : ℕ) → counted r w.owns ≡ counted r v.owns)
+      → Tied kind number m (set s.views j w)
+      → ((r : ℕ) → (kind ≡ Count → r ≢ mutex_of_count (place number kind)) → counted r w.owns ≡ counted r v.owns)
       → w.drawn ≡ v.drawn → w.saw ≡ v.saw → 0 < steps_at (place number kind) w → ((r : ℕ) → steps_at r v ≤ steps_at r w)
       → LotRule words (record { words = set s.words (place number kind) m; homes = s.homes; views = set s.views j w })
   turned number kind j m v w me below others codes tied same-counts same-drawn same-saw stepped more =
@@ -47,10 +55,10 @@ module _ {S : Type 0} (words : ℕ) (s : State S View) (o : LotRule words s) whe
       let here : get_or (set s.words i m) i 0 ≡ m = get_or-set_same s.words i m 0 near in
       let count-here : get_or (set s.words i m) counter 0 ≡ get_or s.words counter 0 = get_or-set_other s.words i counter m 0 (λ e. omega arith) in
       let sum : (r : ℕ) (weight : Owner → ℕ) → named r weight vs + owned r weight v.owns ≡ named r weight s.views + owned r weight w.owns = λ r weight. total-set (λ (u : View). owned r weight u.owns) s.views j v w me in
-      let tied_still : (number' : ℕ) (kind' : WordKind) → IsTied kind' → get_or (set s.words i m) (place number' kind') 0 ≡ get_or s.words (place number' kind') 0 =
-      λ number' kind' is. dite (ℕ_discrete (place number' kind') i)
-      (λ e. let k = place-kind number' number kind' kind e in ap (λ (r : ℕ). get_or (set s.words i m) r 0) e ∙ here ∙ tied (subst IsTied k is) ∙ ap (λ (r : ℕ). get_or s.words r 0) (sym e))
-      (λ ne. get_or-set_other s.words i (place number' kind') m 0 ne) in
+      let tied_here : (number' : ℕ) (kind' : WordKind) → place number' kind' ≡ i → Tied kind' number' (get_or (set s.words i m) (place number' kind') 0) vs =
+      λ number' kind' e. subst (λ (x : ℕ). Tied kind' number' x vs) (sym (ap (λ (r : ℕ). get_or (set s.words i m) r 0) e ∙ here))
+      (subst (λ (k : WordKind). Tied k number' m vs) (sym (place-kind number' number kind' kind e)) (subst (λ (n : ℕ). Tied kind n m vs) (sym (place-number number' number kind' kind e)) tied)) in
+      let still : (r : ℕ) → r ≢ i → get_or (set s.words i m) r 0 ≡ get_or s.words r 0 = λ r ne. get_or-set_other s.words i r m 0 ne in
       let stepped-more : (r : ℕ) → total (steps_at r) s.views ≤ total (steps_at r) vs = λ r. omega (arith, total-set (steps_at r) s.views j v w me, more r) in
       record {
         size = length-set s.words i m ∙ size;
@@ -62,10 +70,17 @@ module _ {S : Type 0} (words : ℕ) (s : State S View) (o : LotRule words s) whe
             let same : (weight : Owner → ℕ) → named r weight s.views ≡ named r weight vs = λ weight. omega (arith, sum r weight, others r ne weight) in
             subst (λ (x : ℕ). Codes kind' x (λ weight. named r weight vs)) (sym (get_or-set_other s.words i r m 0 ne))
             (subst (Codes kind' (get_or s.words r 0)) (λ k weight. same weight k) (o.coded number' kind' below')));
-        shows = λ number' below'. subst (Shows (λ mutex. 0 < total (steps_at (place mutex Mutex)) vs)) (sym (tied_still number' Condvar tt))
-            (shows_more (λ mutex. 0 < total (steps_at (place mutex Mutex)) s.views) (λ mutex. 0 < total (steps_at (place mutex Mutex)) vs) (get_or s.words (place number' Condvar) 0) (λ k h. omega (arith, stepped-more (place k Mutex))) (o.shows number' below'));
-        counts = λ number' below'. let old = o.counts number' below' in let same = tied_still (number' + 1) Count tt in
-            (subst IsCountCode (sym same) old.0, let old₁ = old.1 in omega (arith, total-set (λ (u : View). counted (place number' Mutex) u.owns) s.views j v w me, same-counts (place number' Mutex)));
+        shows = λ number' below'. dite (ℕ_discrete (place number' Condvar) i) (tied_here number' Condvar)
+            (λ ne. subst (Shows (λ mutex. 0 < total (steps_at (place mutex Mutex)) vs)) (sym (still (place number' Condvar) ne))
+            (shows_more (λ mutex. 0 < total (steps_at (place mutex Mutex)) s.views) (λ mutex. 0 < total (steps_at (place mutex Mutex)) vs) (get_or s.words (place number' Condvar) 0) (λ k h. omega (arith, stepped-more (place k Mutex))) (o.shows number' below')));
+        counts = λ number' below'. dite (ℕ_discrete (place number' Count) i) (tied_here number' Count)
+            (λ ne. let old = o.counts number' below' in let same = still (place number' Count) ne in let r : ℕ = mutex_of_count (place number' Count) in (
+              subst IsCountCode (sym same) old.0,
+              let old₁ = old.1 in
+                  omega (arith, total-set (λ (u : View). counted r u.owns) s.views j v w me, same-counts r (λ k e. ne (let there = ap (place number) k in omega arith))),
+            ));
+        owned = λ r weight some. dite (ℕ_discrete r i) (λ e. (omega arith, omega (arith, length-set s.words i m)))
+            (λ ne. let old = o.owned r weight (omega (arith, sum r weight, others r ne weight)) in let old₁ = old.1 in (old.0, omega (arith, length-set s.words i m)));
         untouched = λ r above h none. dite (ℕ_discrete r i)
             (λ e. absurd (omega (arith, term_le (steps_at r) s.views j v me, total-set (steps_at r) s.views j v w me, subst (λ (q : ℕ). 0 < steps_at q w) (sym e) stepped)))
             (λ ne. get_or-set_other s.words i r m 0 ne ∙ o.untouched r above (omega (arith, length-set s.words i m)) (omega (arith, stepped-more r)));
@@ -84,7 +99,8 @@ module _ {S : Type 0} (words : ℕ) (s : State S View) (o : LotRule words s) whe
     size = o.size;
     coded = λ number' kind' below. subst (Codes kind' (get_or s.words (place number' kind') 0)) (λ k weight. sym (same-named (place number' kind') weight) k) (o.coded number' kind' below);
     shows = λ number' below. shows_more (λ mutex. 0 < total (steps_at (place mutex Mutex)) s.views) (λ mutex. 0 < total (steps_at (place mutex Mutex)) vs) (get_or s.words (place number' Condvar) 0) (λ k h. omega (arith, same-steps (place k Mutex))) (o.shows number' below);
-    counts = λ number' below. let old = o.counts number' below in (old.0, old.1 ∙ sym (same-counts (place number' Mutex)));
+    counts = λ number' below. let old = o.counts number' below in (old.0, old.1 ∙ sym (same-counts (mutex_of_count (place number' Count))));
+    owned = λ r weight some. o.owned r weight (omega (arith, same-named r weight));
     untouched = λ r above h none. o.untouched r above h (omega (arith, same-steps r));
     drawn = λ weight. same-drawn weight ∙ o.drawn weight;
     enough = o.enough;
@@ -107,6 +123,88 @@ seats_another words id v s o me = reseated words s o (set s.views id v ++ blank 
 steps_more : (v : View) (at found r : ℕ) (op : Op) → total (λ (step : WordStep). cond (eqb step.at r) 1 0) (listed v at op found) ≡ steps_at r v + cond (eqb at r) 1 0
 steps_more v at found r op = omega (arith, total-append (λ (step : WordStep). cond (eqb step.at r) 1 0) v.steps (record { at = at; op = op; seen = found } ∷ []))
 
+-- what a step does to ownerships, by any weight of owners, and to what is said of count words
+record Steps (kind : WordKind) (at : ℕ) (op : Op) (found : ℕ) (owns : List Ownership) : Type 0 where
+  here : (weight : Owner → ℕ) → owned at weight (owns_after_step kind at op found owns) + total weight (trade kind at op found owns).gives ≡ owned at weight owns + total weight (trade kind at op found owns).gets
+  elsewhere : (r : ℕ) → r ≢ at → (weight : Owner → ℕ) → owned r weight (owns_after_step kind at op found owns) ≡ owned r weight owns
+  counts : (r : ℕ) → (kind ≡ Count → r ≢ mutex_of_count at) → counted r (owns_after_step kind at op found owns) ≡ counted r owns
+
+stepped_so : (kind : WordKind) (at : ℕ) (op : Op) (found : ℕ) (owns : List Ownership) → HasAll at (trade kind at op found owns).gives owns → MayTie kind at found (apply op found) owns → Steps kind at op found owns
+stepped_so Count at op found owns h tie =
+    let mutex : ℕ = mutex_of_count at in let left : ℕ = apply op found in
+    let may : (left ≡ found) ⊎ (has (owning_with mutex found) owns ≡ true) = ⊎_elim (λ e. inl e) (λ t. inr t.1) tie in
+    let same : (r : ℕ) (weight : Owner → ℕ) → owned r weight (owns_after_step Count at op found owns) ≡ owned r weight owns = λ r weight. omega (arith, said_total (λ (x : Ownership). cond (eqb x.at r) (weight x.owner) 0) mutex found left owns may) in
+    record {
+      here = λ weight. omega (arith, same at weight);
+      elsewhere = λ r ne weight. same r weight;
+      counts = λ r ne. let apart : mutex ≢ r = λ e. ne refl (sym e) in omega (arith, said_total (λ (x : Ownership). cond (eqb x.at r) x.count 0) mutex found left owns may, cond_other mutex r left apart, cond_other mutex r found apart);
+    }
+stepped_so Mutex at op found owns h tie = let t = trade Mutex at op found owns in record { here = traded_here at t owns h; elsewhere = traded_elsewhere at t owns h; counts = λ r ne. traded_counts at t owns h r }
+stepped_so RwLock at op found owns h tie = let t = trade RwLock at op found owns in record { here = traded_here at t owns h; elsewhere = traded_elsewhere at t owns h; counts = λ r ne. traded_counts at t owns h r }
+stepped_so Condvar at op found owns h tie = let t = trade Condvar at op found owns in record { here = traded_here at t owns h; elsewhere = traded_elsewhere at t owns h; counts = λ r ne. traded_counts at t owns h r }
+stepped_so Once at op found owns h tie = let t = trade Once at op found owns in record { here = traded_here at t owns h; elsewhere = traded_elsewhere at t owns h; counts = λ r ne. traded_counts at t owns h r }
+
+number_case : {P : Type 0} (number : ℕ) → (number ≡ 0 → P) → ((before : ℕ) → number ≡ before + 1 → P) → P
+number_case zero z p = z refl
+number_case (suc n) z p = p n (omega arith)
+
+module _ {S : Type 0} (words : ℕ) (s : State S View) (o : LotRule words s) where
+  -- a mutex that somebody owns is a word of the lot, has one owner, and somebody has stepped on it
+  owned_mutex : (mutex : ℕ) → 0 < named (place mutex Mutex) exclusive s.views → (mutex < words) × (named (place mutex Mutex) everyone s.views ≡ 1) × (0 < total (steps_at (place mutex Mutex)) s.views)
+  owned_mutex mutex one = let there = o.owned (place mutex Mutex) exclusive one in let there₁ = there.1 in let size = o.size in
+      let below : mutex < words = omega arith in let code = o.coded mutex Mutex below in let code₁ = code.1 in let code₂ = code.2 in (
+        below,
+        omega arith,
+        dite (ℕ_discrete (total (steps_at (place mutex Mutex)) s.views) 0)
+            (λ z. absurd (let none = o.untouched (place mutex Mutex) there.0 there.1 z in omega arith))
+            (λ nz. omega arith),
+      )
+
+  -- what a seat says of the mutex before a count word is the value of that word
+  agreed : (number : ℕ) (kind : WordKind) (id : ℕ) (v : View) → get_elem? s.views id ≡ some v → number < words → Agrees kind (place number kind) (get_or s.words (place number kind) 0) v.owns
+  agreed number Count id v at below = let here = o.counts number below in (here.0, λ count there. counted-where s.views id v at (mutex_of_count (place number Count)) count there (one_owner number count id v at there) ∙ sym here.1)
+    where
+      one_owner : (number count id : ℕ) (v : View) → get_elem? s.views id ≡ some v → has (owning_with (mutex_of_count (place number Count)) count) v.owns ≡ true → named (mutex_of_count (place number Count)) everyone s.views ≤ 1
+      one_owner number count id v at there = let r : ℕ = mutex_of_count (place number Count) in
+          let f = λ (x : Ownership). cond (eqb x.at r) (exclusive x.owner) 0 in
+          let some : 0 < named r exclusive s.views = omega (arith, term_le (λ (u : View). owned r exclusive u.owns) s.views id v at, total-without f (owning_with r count) v.owns there, cond_same r r 1 refl) in
+          let real = o.owned r exclusive some in
+          number_case number (λ e. absurd (let z = ap (λ (k : ℕ). mutex_of_count (place k Count)) e in let real₀ = real.0 in omega arith))
+          (λ before e. let same : r ≡ place before Mutex = ap (λ (k : ℕ). mutex_of_count (place k Count)) e ∙ omega arith in
+          subst (λ (q : ℕ). named q everyone s.views ≤ 1) (sym same) (let one = owned_mutex before (subst (λ (q : ℕ). 0 < named q exclusive s.views) same some) in let one₁ = one.1 in omega arith))
+  agreed number Mutex id v at below = tt
+  agreed number RwLock id v at below = tt
+  agreed number Condvar id v at below = tt
+  agreed number Once id v at below = tt
+
+  -- a step that may be taken leaves a tied word tied
+  tied_after : (number : ℕ) (kind : WordKind) (op : Op) (id : ℕ) (v : View) → get_elem? s.views id ≡ some v → number < words
+      → MayTie kind (place number kind) (get_or s.words (place number kind) 0) (apply op (get_or s.words (place number kind) 0)) v.owns
+      → ((r : ℕ) → steps_at r v ≤ steps_at r (after_step kind (place number kind) op (get_or s.words (place number kind) 0) v))
+      → Tied kind number (apply op (get_or s.words (place number kind) 0)) (set s.views id (after_step kind (place number kind) op (get_or s.words (place number kind) 0) v))
+  tied_after number Condvar op id v at below tie more =
+      let n : ℕ = get_or s.words (place number Condvar) 0 in let w = after_step Condvar (place number Condvar) op n v in
+      let New : ℕ → Type 0 = λ mutex. 0 < total (steps_at (place mutex Mutex)) (set s.views id w) in
+      let grown : (k : ℕ) → 0 < total (steps_at (place k Mutex)) s.views → New k = λ k h. omega (arith, total-set (steps_at (place k Mutex)) s.views id v w at, more (place k Mutex)) in
+      ⊎_elim (λ e. subst (Shows New) (sym e) (shows_more (λ mutex. 0 < total (steps_at (place mutex Mutex)) s.views) New n grown (o.shows number below)))
+      (λ t. shows_more (λ mutex. has (owning (place mutex Mutex) Exclusive) v.owns ≡ true) New (apply op n)
+      (λ k there. let i : ℕ = place k Mutex in grown k (owned_mutex k (omega (arith, term_le (λ (u : View). owned i exclusive u.owns) s.views id v at, owned_some i Exclusive v.owns there exclusive (omega arith)))).2) t) tie
+  tied_after number Count op id v at below tie more =
+      let n : ℕ = get_or s.words (place number Count) 0 in let m : ℕ = apply op n in let i : ℕ = place number Count in let r : ℕ = mutex_of_count i in let w = after_step Count i op n v in
+      let old = o.counts number below in let old₁ = old.1 in (
+        ⊎_elim (λ e. subst IsCountCode (sym e) old.0) (λ t. t.0) tie,
+        omega (
+          arith,
+          total-set (λ (u : View). counted r u.owns) s.views id v w at,
+          cond_same r r n refl,
+          cond_same r r m refl,
+          said_total (λ (x : Ownership). cond (eqb x.at r) x.count 0) r n m v.owns (⊎_elim (λ e. inl e) (λ t. inr t.1) tie),
+        ),
+      )
+  tied_after number Mutex op id v at below tie more = tt
+  tied_after number RwLock op id v at below tie more = tt
+  tied_after number Once op id v at below tie more = tt
+
 -- the law of all steps on words: one that the seat may take keeps the rule
 pub steps : {S : Type 0} (words slots id : ℕ) (me : Me S View) (number : ℕ) (kind : WordKind) (op : Op) → number < words → MayStep kind (place number kind) op me.0.owns
     → Allows (LotRule words) slots id me (place number kind) (apply op) (Takes (place number kind) op me)
@@ -114,20 +212,22 @@ steps {S} words slots id me number kind op below may s o wide at fits =
     let i : ℕ = place number kind in let n : ℕ = get_or s.words i 0 in let m : ℕ = apply op n in
     let mine : (weight : Owner → ℕ) → owned i weight me.0.owns ≤ named i weight s.views = λ weight. term_le (λ (u : View). owned i weight u.owns) s.views id me.0 at in
     let code = o.coded number kind below in
-    let ok = may n (λ weight. named i weight s.views) fits code mine in
-    let t = trade kind i op n me.0.owns in let w = after_step kind i op n me.0 in
+    let agrees = agreed words s o number kind id me.0 at below in
+    let ok = may n (λ weight. named i weight s.views) fits code mine agrees in
+    let so = stepped_so kind i op n me.0.owns ok.0 ok.2 in let w = after_step kind i op n me.0 in
+    let more : (r : ℕ) → steps_at r me.0 ≤ steps_at r w = λ r. omega (arith, steps_more me.0 i n r op) in
     let then = λ (k : WordKind). (w : View) × (a : Act S) × Valid s.homes me.1 a × LotRule words (stepped s i m id me.1 w a) × TakesAs k i op me n (w, carried_after me.1 a) in
     subst then (sym (kind_at-place number kind)) (
       w,
       keeps,
       tt,
       turned words s o number kind id m me.0 w at below
-          (λ r ne weight. traded_elsewhere i t me.0.owns ok.0 r ne weight)
-          (λ after same. ok.1 after (λ weight. omega (arith, same weight, traded_here i t me.0.owns ok.0 weight)))
-          ok.2
-          (λ r. traded_counts i t me.0.owns ok.0 r)
-          refl refl (omega (arith, steps_more me.0 i n i op, cond_same i i 1 refl)) (λ r. omega (arith, steps_more me.0 i n r op)),
-      (refl, ((λ weight. named i weight s.views), code, mine)),
+          so.elsewhere
+          (λ after same. ok.1 after (λ weight. omega (arith, same weight, so.here weight)))
+          (tied_after words s o number kind op id me.0 at below ok.2 more)
+          so.counts
+          refl refl (omega (arith, steps_more me.0 i n i op, cond_same i i 1 refl)) more,
+      (refl, ((λ weight. named i weight s.views), code, mine, agrees)),
     )
 
 -- the same, by the place that was computed and the operation that was matched
@@ -203,8 +303,9 @@ count_turned words s o j m v w me up fits same-owns saw same-steps same-drawn =
           (subst (Codes kind' (get_or s.words (place number' kind') 0)) (λ k weight. same-named (place number' kind') weight k) (o.coded number' kind' below));
       shows = λ number' below. subst (Shows (λ mutex. 0 < total (steps_at (place mutex Mutex)) vs)) (sym (there (place number' Condvar) (omega arith)))
           (shows_more (λ mutex. 0 < total (steps_at (place mutex Mutex)) s.views) (λ mutex. 0 < total (steps_at (place mutex Mutex)) vs) (get_or s.words (place number' Condvar) 0) (λ k h. omega (arith, stepped (place k Mutex) (omega arith))) (o.shows number' below));
-      counts = λ number' below. let old = o.counts number' below in let old₁ = old.1 in let same = there (place (number' + 1) Count) (omega arith) in
-          (subst IsCountCode (sym same) old.0, omega (arith, total-set (λ (u : View). counted (place number' Mutex) u.owns) s.views j v w me, ap (counted (place number' Mutex)) same-owns));
+      counts = λ number' below. let old = o.counts number' below in let old₁ = old.1 in let same = there (place number' Count) (omega arith) in let r : ℕ = mutex_of_count (place number' Count) in
+          (subst IsCountCode (sym same) old.0, omega (arith, total-set (λ (u : View). counted r u.owns) s.views j v w me, ap (counted r) same-owns));
+      owned = λ r weight some. let old = o.owned r weight (omega (arith, same-named r weight)) in let old₁ = old.1 in (old.0, omega (arith, length-set s.words counter m));
       untouched = λ r above h none. there r above ∙ o.untouched r above (omega (arith, length-set s.words counter m)) (omega (arith, stepped r above));
       drawn = λ weight. omega (arith, total-set (drew weight) s.views j v w me, o.drawn weight, same-drawn weight, ap (total_below weight) here);
       enough = omega arith;

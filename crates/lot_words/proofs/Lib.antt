@@ -2,11 +2,13 @@ pub mod Totals
 pub mod Looks
 mod Places
 pub mod Trades
+mod Counts
 pub mod Keeps
 pub mod MutexSteps
 pub mod RwLockSteps
 pub mod RwLockKinds
 pub mod OnceSteps
+pub mod TiedSteps
 mod Alone
 mod AtWord
 mod RuleLaws

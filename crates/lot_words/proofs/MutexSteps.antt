@@ -17,17 +17,17 @@ use Rattle.lot_words.proofs.Trades.{owned_some}
 
 -- the law of steps on a mutex's word: each code that may be found becomes a code, and who unlocks owns the mutex
 pub mutex_step : (at : ℕ) (op : Op) (owns : List Ownership) → ((n : ℕ) → n < 4 → owned at exclusive owns ≤ n % 2 → (apply op n < 4) × (n % 2 ≡ 1 → apply op n % 2 ≡ 0 → has (owning at Exclusive) owns ≡ true)) → MayStep Mutex at op owns
-mutex_step at op owns ok n owners fits code mine =
+mutex_step at op owns ok n owners fits code mine agrees =
     let m : ℕ = apply op n in let small : n < 4 = code.0 in let all = code.1 in let one = code.2 in let step = ok n small (omega (arith, mine exclusive)) in let near : m < 4 = step.0 in
-    let Goal : Trade → Type 0 = λ t. HasAll at t.gives owns × ((after : Owners) → ((weight : Owner → ℕ) → after weight + total weight t.gives ≡ owners weight + total weight t.gets) → IsMutexCode m after) × (⊥ → m ≡ n) in
+    let Goal : Trade → Type 0 = λ t. HasAll at t.gives owns × ((after : Owners) → ((weight : Owner → ℕ) → after weight + total weight t.gives ≡ owners weight + total weight t.gets) → IsMutexCode m after) × Unit {0} in
     dite (ℕ_discrete (n % 2) (m % 2))
     (λ e. subst (λ b. Goal (cond b (trading [] []) (cond (eqb (n % 2) 0) (trading [] (Exclusive ∷ [])) (trading (Exclusive ∷ []) [])))) (sym (eq-eqb (n % 2) (m % 2) e))
-    (tt, (λ after same. (near, omega (arith, same everyone), omega (arith, same exclusive))), λ h. absurd h))
+    (tt, (λ after same. (near, omega (arith, same everyone), omega (arith, same exclusive))), tt))
     (λ ne. subst (λ b. Goal (cond b (trading [] []) (cond (eqb (n % 2) 0) (trading [] (Exclusive ∷ [])) (trading (Exclusive ∷ []) [])))) (sym (ne_eqb (n % 2) (m % 2) ne)) (dite (ℕ_discrete (n % 2) 0)
     (λ z. subst (λ b. Goal (cond b (trading [] (Exclusive ∷ [])) (trading (Exclusive ∷ []) []))) (sym (eq-eqb (n % 2) 0 z))
-    (tt, (λ after same. (near, omega (arith, same everyone), omega (arith, same exclusive))), λ h. absurd h))
+    (tt, (λ after same. (near, omega (arith, same everyone), omega (arith, same exclusive))), tt))
     (λ nz. subst (λ b. Goal (cond b (trading [] (Exclusive ∷ [])) (trading (Exclusive ∷ []) []))) (sym (ne_eqb (n % 2) 0 nz))
-    ((step.1 (omega arith) (omega arith), tt), (λ after same. (near, omega (arith, same everyone), omega (arith, same exclusive))), λ h. absurd h))))
+    ((step.1 (omega arith) (omega arith), tt), (λ after same. (near, omega (arith, same everyone), omega (arith, same exclusive))), tt))))
 
 -- of the four codes
 pub each_code : (P : ℕ → Type 0) → P 0 → P 1 → P 2 → P 3 → (n : ℕ) → n < 4 → P n

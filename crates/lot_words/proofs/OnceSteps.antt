@@ -21,27 +21,27 @@ module _ (at : ℕ) (owns : List Ownership) where
   Fits n m = IsOnceWord m × (n ≡ 1 → m ≡ 1) × (n / 4 % 2 ≡ 1 → m / 4 % 2 ≡ 0 → has (owning at Runner) owns ≡ true)
 
   keeps : (n m : ℕ) (owners : Owners) → IsOnceCode n owners → Fits n m → (t : Trade) → t ≡ once_trade n m
-      → HasAll at t.gives owns × ((after : Owners) → ((weight : Owner → ℕ) → after weight + total weight t.gives ≡ owners weight + total weight t.gets) → IsOnceCode m after) × (⊥ → m ≡ n)
+      → HasAll at t.gives owns × ((after : Owners) → ((weight : Owner → ℕ) → after weight + total weight t.gives ≡ owners weight + total weight t.gets) → IsOnceCode m after) × Unit {0}
   keeps n m owners code fits t is =
       let runs = code.1 in let done = code.2 in
-      let Goal : Trade → Type 0 = λ t. HasAll at t.gives owns × ((after : Owners) → ((weight : Owner → ℕ) → after weight + total weight t.gives ≡ owners weight + total weight t.gets) → IsOnceCode m after) × (⊥ → m ≡ n) in
+      let Goal : Trade → Type 0 = λ t. HasAll at t.gives owns × ((after : Owners) → ((weight : Owner → ℕ) → after weight + total weight t.gives ≡ owners weight + total weight t.gets) → IsOnceCode m after) × Unit {0} in
       let unseen : m ≢ 1 → (k : ℕ) → k ≡ owners witness → 0 < k → m ≡ 1 = λ nm k e some. fits.1 (done (omega arith)) in
       subst Goal (sym is) (dite (ℕ_discrete m 1)
       (λ m₁. rw (eq-eqb m 1 m₁) (dite (ℕ_discrete (n / 4 % 2) 1)
       (λ l. let z : m / 4 % 2 ≡ 0 = omega arith in rw (eq-eqb (n / 4 % 2) 1 l, eq-eqb (m / 4 % 2) 0 z)
-      ((fits.2 l z, tt), (λ after same. (fits.0, omega (arith, same runner), λ some. m₁)), λ h. absurd h))
-      (λ nl. rw (ne_eqb (n / 4 % 2) 1 nl) (tt, (λ after same. (fits.0, omega (arith, same runner), λ some. m₁)), λ h. absurd h))))
+      ((fits.2 l z, tt), (λ after same. (fits.0, omega (arith, same runner), λ some. m₁)), tt))
+      (λ nl. rw (ne_eqb (n / 4 % 2) 1 nl) (tt, (λ after same. (fits.0, omega (arith, same runner), λ some. m₁)), tt))))
       (λ nm. rw (ne_eqb m 1 nm) (dite (ℕ_discrete (n / 4 % 2) 1)
       (λ l. rw (eq-eqb (n / 4 % 2) 1 l, ne_eqb (n / 4 % 2) 0 (λ z. omega arith)) (dite (ℕ_discrete (m / 4 % 2) 0)
-      (λ z. rw (eq-eqb (m / 4 % 2) 0 z) ((fits.2 l z, tt), (λ after same. (fits.0, omega (arith, same runner), λ some. unseen nm (after witness) (omega (arith, same witness)) some)), λ h. absurd h))
-      (λ nz. rw (ne_eqb (m / 4 % 2) 0 nz) (tt, (λ after same. (fits.0, omega (arith, same runner), λ some. unseen nm (after witness) (omega (arith, same witness)) some)), λ h. absurd h))))
+      (λ z. rw (eq-eqb (m / 4 % 2) 0 z) ((fits.2 l z, tt), (λ after same. (fits.0, omega (arith, same runner), λ some. unseen nm (after witness) (omega (arith, same witness)) some)), tt))
+      (λ nz. rw (ne_eqb (m / 4 % 2) 0 nz) (tt, (λ after same. (fits.0, omega (arith, same runner), λ some. unseen nm (after witness) (omega (arith, same witness)) some)), tt))))
       (λ nl. let z₀ : n / 4 % 2 ≡ 0 = omega arith in rw (ne_eqb (n / 4 % 2) 1 nl, eq-eqb (n / 4 % 2) 0 z₀) (dite (ℕ_discrete (m / 4 % 2) 1)
-      (λ z. rw (eq-eqb (m / 4 % 2) 1 z) (tt, (λ after same. (fits.0, omega (arith, same runner), λ some. unseen nm (after witness) (omega (arith, same witness)) some)), λ h. absurd h))
-      (λ nz. rw (ne_eqb (m / 4 % 2) 1 nz) (tt, (λ after same. (fits.0, omega (arith, same runner), λ some. unseen nm (after witness) (omega (arith, same witness)) some)), λ h. absurd h)))))))
+      (λ z. rw (eq-eqb (m / 4 % 2) 1 z) (tt, (λ after same. (fits.0, omega (arith, same runner), λ some. unseen nm (after witness) (omega (arith, same witness)) some)), tt))
+      (λ nz. rw (ne_eqb (m / 4 % 2) 1 nz) (tt, (λ after same. (fits.0, omega (arith, same runner), λ some. unseen nm (after witness) (omega (arith, same witness)) some)), tt)))))))
 
   -- the law of steps on a `Once`'s word
   once_step : (op : Op) → ((n : ℕ) → IsOnceWord n → owned at runner owns ≤ n / 4 % 2 → Fits n (apply op n)) → MayStep Once at op owns
-  once_step op ok n owners fits code mine = let runs = code.1 in keeps n (apply op n) owners code (ok n code.0 (omega (arith, mine runner))) (once_trade n (apply op n)) refl
+  once_step op ok n owners fits code mine agrees = let runs = code.1 in keeps n (apply op n) owners code (ok n code.0 (omega (arith, mine runner))) (once_trade n (apply op n)) refl
 
   -- a value that stays fits
   same : (n : ℕ) → IsOnceWord n → Fits n n

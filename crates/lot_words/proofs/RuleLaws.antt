@@ -1,14 +1,13 @@
 -- What the rule says, part by part.
-use Rattle.std.proofs.Common.{◌≡◌, ℕ, zero, suc, ◌<◌, ◌≤◌, List, [], ◌∷◌, cond, eqb, refl, arith}
+use Rattle.std.proofs.Common.{◌≡◌, ℕ, zero, suc, ◌+◌, ◌<◌, ◌≤◌, List, [], ◌∷◌, cond, eqb, refl, ap, arith}
 use mathlib.Core.Logic.{dite}
 use native.Mathlib.Decide.{ℕ_discrete}
-use Rattle.lot_words.specs.Places.{place}
-use Rattle.lot_words.specs.Views.{total, total_below, owned, counted, named}
-use Rattle.lot_words.specs.Codes.{everyone}
+use Rattle.lot_words.specs.Places.{place, mutex_of_count}
+use Rattle.lot_words.specs.Views.{total, total_below, counted}
 use Rattle.lot_words.specs.RuleLaws.{DrawnOnce, NeverFalls, UntouchedIs0, ShownWasStepped, CountsAnOwner}
-use Rattle.lot_words.specs.declared.owners.Ownership.{Ownership}
 use Rattle.lot_words.specs.declared.views.View.{View}
-use Rattle.lot_words.specs.declared.words.WordKind.TheVariants.{Mutex}
+use Rattle.lot_words.specs.declared.words.WordKind.TheVariants.{Mutex, Count}
+use Rattle.lot_words.proofs.Counts.{no_counts}
 use Rattle.lot_words.proofs.Totals.{cond_same, cond_other}
 
 -- a number is counted once below any bound above it
@@ -35,17 +34,6 @@ untouched_is_0 words s rule = rule.untouched
 pub shown_was_stepped : {S : Type 0} → ShownWasStepped S
 shown_was_stepped words s rule = rule.shows
 
--- who isn't there says nothing
-no_count : (at : ℕ) (owns : List Ownership) → owned at everyone owns ≡ 0 → counted at owns ≡ 0
-no_count at [] none = refl
-no_count at (x ∷ xs) none = dite (ℕ_discrete x.at at)
-    (λ e. absurd (omega (arith, cond_same x.at at 1 e)))
-    (λ ne. omega (arith, cond_other x.at at 1 ne, cond_other x.at at x.count ne, no_count at xs (omega (arith, cond_other x.at at 1 ne))))
-
-no_counts : (at : ℕ) (views : List View) → named at everyone views ≡ 0 → total (λ (v : View). counted at v.owns) views ≡ 0
-no_counts at [] none = refl
-no_counts at (v ∷ vs) none = omega (arith, no_count at v.owns (omega arith), no_counts at vs (omega arith))
-
 pub counts_an_owner : {S : Type 0} → CountsAnOwner S
-counts_an_owner words s rule number below = let here = rule.counts number below in let same = here.1 in
-    (here.0, λ none. omega (arith, no_counts (place number Mutex) s.views none))
+counts_an_owner words s rule number below = let here = rule.counts (number + 1) below in let same = here.1 in let there : mutex_of_count (place (number + 1) Count) ≡ place number Mutex = omega arith in
+    (here.0, λ none. omega (arith, ap (λ (r : ℕ). total (λ (v : View). counted r v.owns) s.views) there, no_counts (place number Mutex) s.views none))

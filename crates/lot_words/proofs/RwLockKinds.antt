@@ -27,7 +27,7 @@ module _ (at : ℕ) (owns : List Ownership) where
   Law op n = (owners : Owners) (code : IsRwLockCode n owners) (mine : (weight : Owner → ℕ) → owned at weight owns ≤ owners weight) → n < 2 ^ 64 → Trades at owns op n (apply op n) owners code mine
 
   by_law : (op : Op) → ((n : ℕ) → Law op n) → MayStep RwLock at op owns
-  by_law op ok n owners fits code mine = ok n owners code mine fits
+  by_law op ok n owners fits code mine agrees = ok n owners code mine fits
 
   -- a failed exchange is a load
   exchange : (from to : ℕ) → ((owners : Owners) (code : IsRwLockCode from owners) (mine : (weight : Owner → ℕ) → owned at weight owns ≤ owners weight) → from < 2 ^ 64 → Trades at owns (Exchange from to) from to owners code mine) → MayStep RwLock at (Exchange from to) owns

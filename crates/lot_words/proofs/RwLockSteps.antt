@@ -72,7 +72,7 @@ parts part left op small not_one = dite (ℕ_discrete (part % 4) 2)
 module _ (at : ℕ) (owns : List Ownership) (op : Op) (n m : ℕ) (owners : Owners) (code : IsRwLockCode n owners) (mine : (weight : Owner → ℕ) → owned at weight owns ≤ owners weight) where
   -- what a trade has to meet
   abbrev Keeps : Trade → Type 0
-  Keeps t = HasAll at t.gives owns × ((after : Owners) → ((weight : Owner → ℕ) → after weight + total weight t.gives ≡ owners weight + total weight t.gets) → IsRwLockCode m after) × (⊥ → m ≡ n)
+  Keeps t = HasAll at t.gives owns × ((after : Owners) → ((weight : Owner → ℕ) → after weight + total weight t.gives ≡ owners weight + total weight t.gets) → IsRwLockCode m after) × Unit {0}
 
   abbrev pub Trades : Type 0
   Trades = Keeps (rwlock_trade at op n m owns)
@@ -95,7 +95,7 @@ module _ (at : ℕ) (owns : List Ownership) (op : Op) (n m : ℕ) (owners : Owne
       (λ some. omega (arith, same shared, alone (omega (arith, same exclusive)))),
       omega (arith, same shared, same upgradable, same upgrading),
     )),
-    λ h. absurd h,
+    tt,
   )
 
   -- who has an ownership is among the owners

@@ -1,8 +1,10 @@
 -- What a trade does to a list of ownerships, by any weight of these.
-use Rattle.std.proofs.Common.{◌≡◌, ◌≢◌, ℕ, ◌+◌, List, [], ◌∷◌, map, Bool, true, false, cond, eqb, ◌&&◌, ◌||◌, refl, sym, ap, ◌∙◌, arith, ◌<◌}
+use Rattle.std.proofs.Common.{◌≡◌, ◌≢◌, ◌⊎◌, inl, inr, ℕ, ◌+◌, List, [], ◌∷◌, map, Bool, true, false, cond, eqb, ◌&&◌, ◌||◌, refl, sym, ap, ◌∙◌, arith, ◌<◌, eq-eqb, ne_eqb}
+use mathlib.Core.Logic.{dite}
+use native.Mathlib.Decide.{ℕ_discrete}
 use Rattle.std.proofs.lemmas.Bool.{eqb-true, false≢true}
-use Rattle.lot_words.specs.Views.{total, owned, owning, counted}
-use Rattle.lot_words.specs.Steps.{Trade, owner_rank, is_this, has, without, HasAll, without_all, owns_after}
+use Rattle.lot_words.specs.Views.{total, owned, owning, owning_with, counted}
+use Rattle.lot_words.specs.Steps.{Trade, owner_rank, is_this, has, without, HasAll, without_all, owns_after, says_instead}
 use Rattle.lot_words.specs.declared.owners.Owner.{Owner}
 use Rattle.lot_words.specs.declared.owners.Owner.TheVariants.{Exclusive, Pending, Upgrading, Upgradable, Shared, Runner, Witness}
 use Rattle.lot_words.specs.declared.owners.Ownership.{Ownership}
@@ -74,3 +76,13 @@ traded_counts at t owns h r = let f = λ (x : Ownership). cond (eqb x.at r) x.co
 -- who has an ownership has some of the word, by each weight in which it counts
 pub owned_some : (at : ℕ) (o : Owner) (owns : List Ownership) → has (owning at o) owns ≡ true → (weight : Owner → ℕ) → 0 < weight o → 0 < owned at weight owns
 owned_some at o owns there weight some = omega (arith, total-without (λ (x : Ownership). cond (eqb x.at at) (weight x.owner) 0) (owning at o) owns there, cond_same at at (weight o) refl)
+
+-- who says another count of a mutex owns it as before, by any weight that does not ask for the count
+pub said_total : (weight : Ownership → ℕ) (mutex found left : ℕ) (owns : List Ownership) → (left ≡ found) ⊎ (has (owning_with mutex found) owns ≡ true)
+    → total weight (says_instead mutex found left owns) + weight (owning_with mutex found) ≡ total weight owns + weight (owning_with mutex left)
+said_total weight mutex found left owns may = dite (ℕ_discrete found left)
+    (λ e. rw (eq-eqb found left e) (omega (arith, ap (λ (k : ℕ). weight (owning_with mutex k)) e)))
+    (λ ne. rw (ne_eqb found left ne) (elim may [
+      | inl e ↦ absurd (ne (sym e))
+      | inr there ↦ omega (arith, total-without weight (owning_with mutex found) owns there)
+    ]))

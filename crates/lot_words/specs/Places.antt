@@ -1,5 +1,5 @@
 -- Where the words of a lot stand in its table.
-use Rattle.std.specs.Prelude.{ℕ, ◌+◌, ◌*◌, ◌%◌, cond, ◌==◌}
+use Rattle.std.specs.Prelude.{ℕ, ◌+◌, ◌-◌, ◌*◌, ◌%◌, cond, ◌==◌}
 use Rattle.lot_words.specs.declared.words.WordKind.{WordKind}
 use Rattle.lot_words.specs.declared.words.WordKind.TheVariants.{Mutex, RwLock, Condvar, Once, Count}
 
@@ -21,6 +21,10 @@ counter = 0
 -- the word of a number and a kind: each number has eight places, which is a cache line
 abbrev pub place : ℕ → WordKind → ℕ
 place number kind = 8 * (number + 1) + rank kind
+
+-- the mutex of the count word at a place: the word of the number before
+abbrev pub mutex_of_count : ℕ → ℕ
+mutex_of_count at = at - 12
 
 -- the places of so many words, with the counter's
 abbrev pub places : ℕ → ℕ

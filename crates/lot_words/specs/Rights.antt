@@ -1,7 +1,8 @@
 -- What a right names.
-use Rattle.std.specs.Prelude.{◌≡◌, ◌⊎◌}
+use Rattle.std.specs.Prelude.{◌≡◌, ◌⊎◌, ℕ, true}
 use Rattle.lot_words.specs.Places.{place}
-use Rattle.lot_words.specs.Views.{owning}
+use Rattle.lot_words.specs.Views.{owning, owning_with}
+use Rattle.lot_words.specs.Steps.{has}
 use Rattle.lot_words.specs.Plays.{piece}
 use Rattle.lot_words.specs.declared.owners.Owner.{Owner}
 use Rattle.lot_words.specs.declared.owners.Owner.TheVariants.{Exclusive, Pending, Upgrading, Upgradable, Shared, Runner, Witness}
@@ -9,7 +10,7 @@ use Rattle.lot_words.specs.declared.owners.Ownership.{Ownership}
 use Rattle.lot_words.specs.declared.views.View.{View}
 use Rattle.lot_words.specs.declared.words.Word.{Word}
 use Rattle.lot_words.specs.declared.words.WordKind.{WordKind}
-use Rattle.lot_words.specs.declared.words.WordKind.TheVariants.{RwLock}
+use Rattle.lot_words.specs.declared.words.WordKind.TheVariants.{Mutex, RwLock}
 use Rattle.lot_base.specs.declared.wants.Want as wants
 
 -- who has what was wanted owns the word so
@@ -40,3 +41,7 @@ named_by word owner = owning (place word.number word.kind) owner
 
 abbrev pub piece_of : Word → Owner → View
 piece_of word owner = piece (named_by word owner)
+
+-- it owns a mutex, and says this of its count word
+abbrev pub OwnsWith : Word → ℕ → View → Type 0
+OwnsWith mutex count v = has (owning_with (place mutex.number Mutex) count) v.owns ≡ true

@@ -3,9 +3,10 @@ use Rattle.std.specs.Prelude.{◌≡◌, ℕ, ◌+◌, ◌<◌, ◌≤◌, lengt
 use mathlib.Core.Option.{some}
 use lib.ListN.{get_elem?}
 use Rattle.atomic_table.specs.Table.{State}
-use Rattle.lot_words.specs.Places.{counter, place, places}
+use Rattle.lot_words.specs.Places.{counter, place, places, mutex_of_count}
 use Rattle.lot_words.specs.Views.{total, total_below, named, counted, steps_at, drew}
 use Rattle.lot_words.specs.Codes.{Codes, Shows, IsCountCode}
+use Rattle.lot_words.specs.declared.owners.Owner.{Owner}
 use Rattle.lot_words.specs.declared.views.View.{View}
 use Rattle.lot_words.specs.declared.words.WordKind.{WordKind}
 use Rattle.lot_words.specs.declared.words.WordKind.TheVariants.{Mutex, Condvar, Count}
@@ -18,8 +19,10 @@ pub record LotRule {S : Type 0} (words : ℕ) (s : State S View) : Type 0 where
   -- a condition variable shows a mutex on which somebody has stepped, or none
   pub shows : (number : ℕ) → number < words → Shows (λ mutex. 0 < total (steps_at (place mutex Mutex)) s.views) (slice_index s.words (place number Condvar))
   -- a count word is what the owner of the mutex before it says
-  pub counts : (number : ℕ) → number + 1 < words → IsCountCode (slice_index s.words (place (number + 1) Count))
-      × (slice_index s.words (place (number + 1) Count) ≡ total (λ (v : View). counted (place number Mutex) v.owns) s.views)
+  pub counts : (number : ℕ) → number < words → IsCountCode (slice_index s.words (place number Count))
+      × (slice_index s.words (place number Count) ≡ total (λ (v : View). counted (mutex_of_count (place number Count)) v.owns) s.views)
+  -- what is owned is a word of the lot, and not the counter
+  pub owned : (at : ℕ) (weight : Owner → ℕ) → 0 < named at weight s.views → (0 < at) × (at < length s.words)
   -- a word on which nobody has stepped is 0
   pub untouched : (at : ℕ) → 0 < at → at < length s.words → total (steps_at at) s.views ≡ 0 → slice_index s.words at ≡ 0
   -- the numbers below the counter were drawn, each once, and no other was

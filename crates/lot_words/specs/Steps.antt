@@ -1,10 +1,11 @@
 -- What a step on a word does to who owns it.
-use Rattle.std.specs.Prelude.{◌≡◌, ℕ, ◌+◌, ◌%◌, ◌^◌, ◌<◌, ◌≤◌, zero, suc, ◌-◌, ◌/◌, List, [], ◌∷◌, ◌++◌, Bool, true, false, cond, ◌==◌, ◌&&◌, ◌||◌, not, map}
+use Rattle.std.specs.Prelude.{◌≡◌, ℕ, ◌+◌, ◌%◌, ◌^◌, ◌<◌, ◌≤◌, ◌⊎◌, zero, suc, ◌-◌, ◌/◌, List, [], ◌∷◌, ◌++◌, Bool, true, false, cond, ◌==◌, ◌&&◌, ◌||◌, not, map}
 use Rattle.lot_base.specs.Words.{apply}
 use Rattle.lot_base.specs.declared.ops.Op.{Op}
 use Rattle.lot_base.specs.declared.ops.Op.TheVariants.{Load, Sub, Exchange}
-use Rattle.lot_words.specs.Views.{view, total, owned, owning}
-use Rattle.lot_words.specs.Codes.{Owners, Codes}
+use Rattle.lot_words.specs.Places.{place, mutex_of_count}
+use Rattle.lot_words.specs.Views.{view, total, owned, owning, owning_with}
+use Rattle.lot_words.specs.Codes.{Owners, Codes, Shows, IsCountCode}
 use Rattle.lot_words.specs.declared.owners.Owner.{Owner}
 use Rattle.lot_words.specs.declared.owners.Owner.TheVariants.{Exclusive, Pending, Upgrading, Upgradable, Shared, Runner, Witness}
 use Rattle.lot_words.specs.declared.owners.Ownership.{Ownership}
@@ -24,12 +25,6 @@ trading gives gets = record { gives = gives; gets = gets }
 -- by the value found and the value left: who sets LOCKED enters, who clears it leaves
 abbrev pub mutex_trade : ℕ → ℕ → Trade
 mutex_trade found left = cond (found % 2 == left % 2) (trading [] []) (cond (found % 2 == 0) (trading [] (Exclusive ∷ [])) (trading (Exclusive ∷ []) []))
-
--- words that are tied to the word of a mutex: they are only read as yet
-abbrev pub IsTied : WordKind → Type 0
-IsTied Condvar = Unit {0}
-IsTied Count = Unit {0}
-IsTied _ = ⊥
 
 abbrev pub owner_rank : Owner → ℕ
 owner_rank Exclusive = 0
@@ -121,20 +116,41 @@ trade RwLock at op found owns = rwlock_trade at op found (apply op found) owns
 trade Once at op found owns = once_trade found (apply op found)
 trade _ at op found owns = trading [] []
 
+-- who changes a count word says the new count of its mutex from then on
+abbrev pub says_instead : ℕ → ℕ → ℕ → List Ownership → List Ownership
+says_instead mutex found left owns = cond (found == left) owns (owning_with mutex left ∷ without (owning_with mutex found) owns)
+
+-- what is owned after a step, by the operation and the value found
+abbrev pub owns_after_step : WordKind → ℕ → Op → ℕ → List Ownership → List Ownership
+owns_after_step Count at op found owns = says_instead (mutex_of_count at) found (apply op found) owns
+owns_after_step kind at op found owns = owns_after at (trade kind at op found owns) owns
+
+-- a count word is a count, and what an owner of its mutex says
+abbrev pub Agrees : WordKind → ℕ → ℕ → List Ownership → Type 0
+Agrees Count at n owns = IsCountCode n × ((count : ℕ) → has (owning_with (mutex_of_count at) count) owns ≡ true → count ≡ n)
+Agrees _ at n owns = Unit {0}
+
+-- who changes what a condition variable shows hides it, or shows a mutex that it owns. Who changes a count word owns its mutex
+abbrev pub MayTie : WordKind → ℕ → ℕ → ℕ → List Ownership → Type 0
+MayTie Condvar at found left owns = (left ≡ found) ⊎ Shows (λ mutex. has (owning (place mutex Mutex) Exclusive) owns ≡ true) left
+MayTie Count at found left owns = (left ≡ found) ⊎ (IsCountCode left × (has (owning_with (mutex_of_count at) found) owns ≡ true))
+MayTie _ at found left owns = Unit {0}
+
 -- n is the code of owners among whom these are
 abbrev pub CodesWith : WordKind → ℕ → ℕ → List Ownership → Type 0
-CodesWith kind at n owns = (owners : Owners) × Codes kind n owners × ((weight : Owner → ℕ) → owned at weight owns ≤ owners weight)
+CodesWith kind at n owns = (owners : Owners) × Codes kind n owners × ((weight : Owner → ℕ) → owned at weight owns ≤ owners weight) × Agrees kind at n owns
 
--- whatever code a step finds, of owners among whom these are: these have what it gives up, and it leaves the code of the owners after it
+-- whatever code a step finds, of owners among whom these are: these have what it gives up, it leaves the code of the owners after it,
+-- and a word that is tied to a mutex stays so
 abbrev pub MayStep : WordKind → ℕ → Op → List Ownership → Type 0
-MayStep kind at op owns = (n : ℕ) (owners : Owners) → n < 2 ^ 64 → Codes kind n owners → ((weight : Owner → ℕ) → owned at weight owns ≤ owners weight) →
+MayStep kind at op owns = (n : ℕ) (owners : Owners) → n < 2 ^ 64 → Codes kind n owners → ((weight : Owner → ℕ) → owned at weight owns ≤ owners weight) → Agrees kind at n owns →
     HasAll at (trade kind at op n owns).gives owns
     × ((after : Owners) → ((weight : Owner → ℕ) → after weight + total weight (trade kind at op n owns).gives ≡ owners weight + total weight (trade kind at op n owns).gets) → Codes kind (apply op n) after)
-    × (IsTied kind → apply op n ≡ n)
+    × MayTie kind at n (apply op n) owns
 
 abbrev pub listed : View → ℕ → Op → ℕ → List WordStep
 listed v at op found = v.steps ++ record { at = at; op = op; seen = found } ∷ []
 
 -- the view after a step at a place: the step is listed, and it owns what the step trades
 abbrev pub after_step : WordKind → ℕ → Op → ℕ → View → View
-after_step kind at op found v = view (listed v at op found) (owns_after at (trade kind at op found v.owns) v.owns) v.drawn v.saw
+after_step kind at op found v = view (listed v at op found) (owns_after_step kind at op found v.owns) v.drawn v.saw

@@ -1,6 +1,7 @@
 -- What views name, added up.
 use Rattle.std.specs.Prelude.{ℕ, zero, suc, ◌+◌, List, [], ◌∷◌, cond, ◌==◌}
 use Rattle.lot_words.specs.declared.owners.Owner.{Owner}
+use Rattle.lot_words.specs.declared.owners.Owner.TheVariants.{Exclusive}
 use Rattle.lot_words.specs.declared.owners.Ownership.{Ownership}
 use Rattle.lot_words.specs.declared.views.View.{View}
 use Rattle.lot_words.specs.declared.views.WordStep.{WordStep}
@@ -26,6 +27,10 @@ total_below weight (suc n) = total_below weight n + weight n
 -- an ownership of the word at a place
 abbrev pub owning : ℕ → Owner → Ownership
 owning at owner = record { at = at; owner = owner; count = 0 }
+
+-- the ownership of the mutex at a place, of who says this of its count word
+abbrev pub owning_with : ℕ → ℕ → Ownership
+owning_with at count = record { at = at; owner = Exclusive; count = count }
 
 -- how much of the word at a place is owned, by a weight of owners
 abbrev pub owned : ℕ → (Owner → ℕ) → List Ownership → ℕ

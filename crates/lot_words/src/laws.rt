@@ -1,5 +1,5 @@
 //! What the rule says to who takes a step, whoever else takes steps.
-ghost use Rattle.lot_words.specs.Laws.{ExclusiveIsAlone, MutexMaySteps, OnceMaySteps, RwLockMaySteps};
+ghost use Rattle.lot_words.specs.Laws.{CondvarMaySteps, CountMaySteps, ExclusiveIsAlone, MutexMaySteps, OnceMaySteps, RwLockMaySteps};
 ghost use Rattle.lot_words.specs.RuleLaws.{CountsAnOwner, DrawnOnce, NeverFalls, ShownWasStepped, UntouchedIs0};
 
 /// In every word of a mutex or a reader-writer lock that a step can find, an exclusive owner stands beside no other owner.
@@ -23,6 +23,18 @@ pub fn rwlock_may_step()
 /// or poisoned by who runs it.
 pub fn once_may_step()
     ensures { OnceMaySteps }
+{}
+
+/// A condition variable's word may be loaded and set to 0 by anybody, and show a mutex, where it shows none, by who owns that
+/// mutex.
+pub fn condvar_may_step()
+    ensures { CondvarMaySteps }
+{}
+
+/// A count word may be loaded by anybody, and be raised and lowered by one, and given another count, by who owns the mutex
+/// before it and says what the count is.
+pub fn count_may_step()
+    ensures { CountMaySteps }
 {}
 
 /// The numbers below the counter were drawn, each once, and each is a word of the lot. No other number was drawn.

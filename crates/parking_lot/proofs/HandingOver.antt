@@ -13,7 +13,7 @@ use Rattle.lot_steps.specs.declared.mutex.hand_off.HandOffAt.{HandOffAt}
 use Rattle.lot_steps.specs.declared.mutex.hand_off.HandOffAt.TheVariants as at
 use Rattle.lot_steps.specs.declared.places.Place.TheVariants.{Mutex}
 use Rattle.lot_words.specs.Codes.{exclusive}
-use Rattle.lot_words.specs.Steps.{CodesWith, has, without}
+use Rattle.lot_words.specs.Steps.{CodesWith, owns_after_step, has, without}
 use Rattle.lot_words.specs.Views.{owned}
 use Rattle.lot_words.specs.declared.owners.Owner.TheVariants.{Exclusive}
 use Rattle.lot_words.specs.declared.owners.Ownership.{Ownership}
@@ -23,7 +23,7 @@ use Rattle.lot_words.proofs.Trades.{owned_some}
 use Rattle.parking_lot_core.specs.declared.tokens.Did.TheVariants.{TakeFirst}
 use Rattle.parking_lot.specs.Fitting.{FitsHandOff, Reached, held}
 use Rattle.parking_lot.specs.Paths.{mutex_at}
-use Rattle.parking_lot.specs.Stages.{Stage, Inside, Needs, Became, HasKey, HasTaken, IsFresh, MayLeave, IsLeft, note_of, took, gave, left_with}
+use Rattle.parking_lot.specs.Stages.{Stage, Inside, Needs, Became, HasKey, HasTaken, IsFresh, MayLeave, IsLeft, note_of, took, gave}
 
 -- an owner finds the word locked
 pub finds_locked : (n seen : ℕ) (owns : List Ownership) → has (held n) owns ≡ true → CodesWith kinds.TheVariants.Mutex (mutex_at n) seen owns → seen % 2 ≡ 1
@@ -34,12 +34,12 @@ small_word to true = omega arith
 small_word to false = omega arith
 
 -- the store that hands over leaves the word locked, and the other one doesn't
-kept : (n to : ℕ) (none_left : Bool) (seen : ℕ) → seen < 4 → seen % 2 ≡ 1 → (owns : List Ownership) → left_with kinds.TheVariants.Mutex (mutex_at n) (Store (hand_off_word (Some to) none_left)) seen owns ≡ owns
-kept n to true = each_code (λ s. s % 2 ≡ 1 → (owns : List Ownership) → left_with kinds.TheVariants.Mutex (mutex_at n) (Store 1) s owns ≡ owns) (λ odd. absurd (omega arith)) (λ odd owns. refl) (λ odd. absurd (omega arith)) (λ odd owns. refl)
-kept n to false = each_code (λ s. s % 2 ≡ 1 → (owns : List Ownership) → left_with kinds.TheVariants.Mutex (mutex_at n) (Store 3) s owns ≡ owns) (λ odd. absurd (omega arith)) (λ odd owns. refl) (λ odd. absurd (omega arith)) (λ odd owns. refl)
+kept : (n to : ℕ) (none_left : Bool) (seen : ℕ) → seen < 4 → seen % 2 ≡ 1 → (owns : List Ownership) → owns_after_step kinds.TheVariants.Mutex (mutex_at n) (Store (hand_off_word (Some to) none_left)) seen owns ≡ owns
+kept n to true = each_code (λ s. s % 2 ≡ 1 → (owns : List Ownership) → owns_after_step kinds.TheVariants.Mutex (mutex_at n) (Store 1) s owns ≡ owns) (λ odd. absurd (omega arith)) (λ odd owns. refl) (λ odd. absurd (omega arith)) (λ odd owns. refl)
+kept n to false = each_code (λ s. s % 2 ≡ 1 → (owns : List Ownership) → owns_after_step kinds.TheVariants.Mutex (mutex_at n) (Store 3) s owns ≡ owns) (λ odd. absurd (omega arith)) (λ odd owns. refl) (λ odd. absurd (omega arith)) (λ odd owns. refl)
 
-freed : (n seen : ℕ) → seen < 4 → seen % 2 ≡ 1 → (owns : List Ownership) → left_with kinds.TheVariants.Mutex (mutex_at n) (Store 0) seen owns ≡ without (held n) owns
-freed n = each_code (λ s. s % 2 ≡ 1 → (owns : List Ownership) → left_with kinds.TheVariants.Mutex (mutex_at n) (Store 0) s owns ≡ without (held n) owns) (λ odd. absurd (omega arith)) (λ odd owns. refl) (λ odd. absurd (omega arith)) (λ odd owns. refl)
+freed : (n seen : ℕ) → seen < 4 → seen % 2 ≡ 1 → (owns : List Ownership) → owns_after_step kinds.TheVariants.Mutex (mutex_at n) (Store 0) seen owns ≡ without (held n) owns
+freed n = each_code (λ s. s % 2 ≡ 1 → (owns : List Ownership) → owns_after_step kinds.TheVariants.Mutex (mutex_at n) (Store 0) s owns ≡ without (held n) owns) (λ odd. absurd (omega arith)) (λ odd owns. refl) (λ odd. absurd (omega arith)) (λ odd owns. refl)
 
 none_rightless : (thread : ℕ) → filter (λ x. not (x == thread)) (thread ∷ []) ≡ []
 none_rightless thread = rw (eq-eqb thread thread refl) refl

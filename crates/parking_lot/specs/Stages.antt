@@ -11,7 +11,7 @@ use Rattle.lot_base.specs.declared.wants.Waiter.{Waiter}
 use Rattle.lot_base.specs.declared.wants.Want as wants
 use Rattle.lot_words.specs.Rights.{MayHand}
 use Rattle.lot_words.specs.Views.{owning}
-use Rattle.lot_words.specs.Steps.{MayStep, CodesWith, owns_after, has, trade, without}
+use Rattle.lot_words.specs.Steps.{MayStep, CodesWith, owns_after_step, has, without}
 use Rattle.lot_words.specs.declared.owners.Owner.{Owner}
 use Rattle.lot_words.specs.declared.owners.Owner.TheVariants.{Exclusive}
 use Rattle.lot_words.specs.declared.owners.Ownership.{Ownership}
@@ -108,13 +108,9 @@ abbrev pub MayLeave : Note → Option Inside → Type 0
 MayLeave note None = ⊥
 MayLeave note (Some inside) = note ≡ HandOff → inside.rightless ≡ []
 
--- what is owned after a step on a word that saw this
-abbrev pub left_with : WordKind → ℕ → Op → ℕ → List Ownership → List Ownership
-left_with kind at op seen owns = owns_after at (trade kind at op seen owns) owns
-
 -- a step that leaves the word owned alone by who takes it, whatever it finds
 abbrev pub KeepsIt : WordKind → ℕ → Op → List Ownership → Type 0
-KeepsIt kind at op owns = (seen : ℕ) → CodesWith kind at seen owns → has (owning at Exclusive) (left_with kind at op seen owns) ≡ true
+KeepsIt kind at op owns = (seen : ℕ) → CodesWith kind at seen owns → has (owning at Exclusive) (owns_after_step kind at op seen owns) ≡ true
 
 -- what an act needs of the stage
 abbrev pub Needs : WordKind → ℕ → Stage → Act → Type 0
@@ -131,11 +127,11 @@ Needs kind at st _ = ⊥
 
 -- after a step on a word
 abbrev pub stepped : WordKind → ℕ → Op → ℕ → Stage → Stage
-stepped kind at op seen st = stage (left_with kind at op seen st.owns) st.inside None
+stepped kind at op seen st = stage (owns_after_step kind at op seen st.owns) st.inside None
 
 -- after one with which the lock goes to a thread that was taken
 abbrev pub handed : WordKind → ℕ → Op → ℕ → ℕ → Stage → Stage
-handed kind at op to seen st = stage (without (owning at Exclusive) (left_with kind at op seen st.owns)) (gave to st.inside) None
+handed kind at op to seen st = stage (without (owning at Exclusive) (owns_after_step kind at op seen st.owns)) (gave to st.inside) None
 
 -- what a section that is left leaves behind
 abbrev pub IsLeft : Option Inside → Option Record → Type 0

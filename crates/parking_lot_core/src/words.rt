@@ -1,18 +1,22 @@
 //! Steps on words, draws and rights, by tokens.
-ghost use Rattle.std.specs.Prelude.{◌≡◌, ◌+◌, ◌∷◌, [], true, None, IfOk, MatchResult};
+ghost use Rattle.std.specs.Prelude.{◌≡◌, ℕ, ◌+◌, ◌∷◌, [], true, None, IfOk, MatchResult};
 ghost use Rattle.lot_words.specs.Places.{place};
+ghost use Rattle.lot_words.specs.Codes.{IsCountCode};
 ghost use Rattle.lot_words.specs.Steps.{MayStep, CodesWith, after_step, has};
 ghost use Rattle.lot_words.specs.Draws.{IsDrawn, IsRefused};
 ghost use Rattle.lot_words.specs.Lots.{IsWordOf};
 ghost use Rattle.lot_words.specs.Plays.{left_over, takes_in};
-ghost use Rattle.lot_words.specs.Rights.{named_by, owner_for, piece_of};
+ghost use Rattle.lot_words.specs.Rights.{named_by, owner_for, piece_of, OwnsWith};
 ghost use Rattle.lot_words.specs.RightsOf.{IsRightOf};
-ghost use Rattle.lot_words.specs.declared.words.WordKind.TheVariants.{Mutex, Count};
+ghost use Rattle.lot_words.specs.declared.owners.Owner.TheVariants.{Exclusive};
+ghost use Rattle.lot_words.specs.declared.words.WordKind.TheVariants.{Mutex, Condvar, Count};
+ghost use Rattle.lot_base.specs.declared.ops.Op.TheVariants.{Add, Exchange};
 ghost use Rattle.parking_lot_core.specs.Tokens.{IsTokenOf, Stays, view_of, last_of};
 
 use crate::lot::ParkingLot;
 use crate::tokens::Token;
 use lot_base::{Fault, Op, Want};
+use lot_words::laws::{condvar_may_step, count_may_step};
 use lot_words::{Owner, Right, Word, WordKind};
 
 impl ParkingLot {
@@ -27,6 +31,35 @@ impl ParkingLot {
     {
         token.is_recorded = false;
         self.words.step(&mut token.seat, word, op)
+    }
+
+    /// Shows a mutex that the thread owns on the word of a condition variable, where that shows none. It answers the value before:
+    /// 0, or one more than the number of the mutex that is shown.
+    pub fn show_mutex(&self, token: &mut Token, condvar: Word, mutex: Word) -> u64
+        requires own { IsTokenOf self.now token.old × IsWordOf self.now.words condvar × IsWordOf self.now.words mutex }
+        requires kinds { (condvar.kind ≡ Condvar) × (mutex.kind ≡ Mutex) }
+        requires owned { has (named_by mutex Exclusive) (view_of token.old).owns ≡ true }
+        ensures own { Stays self.now token.old token.new × (last_of token.new ≡ None) }
+        ensures stepped { view_of token.new ≡ after_step Condvar (place condvar.number Condvar) (Exchange 0 (mutex.number + 1)) result (view_of token.old) }
+    {
+        condvar_may_step();
+        let to = mutex.number() as u64 + 1;
+        self.word(token, condvar, Op::Exchange { from: 0, to })
+    }
+
+    /// Counts once more how often the thread has locked a mutex that it owns. It answers the count before, which the thread said.
+    pub fn raise_count(&self, token: &mut Token, mutex: Word, count: Word) -> u64
+        requires own { IsTokenOf self.now token.old × IsWordOf self.now.words count }
+        requires pair { (count.kind ≡ Count) × (count.number ≡ mutex.number + 1) }
+        requires owned { (said : ℕ) × OwnsWith mutex said (view_of token.old) × IsCountCode (said + 1) }
+        ensures own { Stays self.now token.old token.new × (last_of token.new ≡ None) }
+        ensures said { OwnsWith mutex result (view_of token.old) }
+        ensures says { OwnsWith mutex (result + 1) (view_of token.new) }
+        ensures stepped { view_of token.new ≡ after_step Count (place count.number Count) (Add 1) result (view_of token.old) }
+    {
+        count_may_step();
+        let _pair = mutex;
+        self.word(token, count, Op::Add(1))
     }
 
     /// The next word, of this kind. A number is never given twice.

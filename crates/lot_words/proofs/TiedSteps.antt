@@ -1,0 +1,47 @@
+-- The kinds of step on words that are tied to the word of a mutex.
+use Rattle.std.proofs.Common.{◌≡◌, ◌≢◌, ◌⊎◌, inl, inr, ℕ, ◌+◌, ◌-◌, ◌^◌, ◌%◌, ◌<◌, List, true, cond, sym, refl, ap, subst, arith, eq-eqb, ne_eqb}
+use mathlib.Core.Logic.{dite}
+use native.Mathlib.Decide.{ℕ_discrete}
+use Rattle.lot_base.specs.Words.{apply}
+use Rattle.lot_base.specs.declared.ops.Op.{Op}
+use Rattle.lot_base.specs.declared.ops.Op.TheVariants.{Load, Store, Add, Sub, Exchange}
+use Rattle.lot_words.specs.Places.{place, mutex_of_count}
+use Rattle.lot_words.specs.Views.{owning_with}
+use Rattle.lot_words.specs.Codes.{IsCountCode, Shows}
+use Rattle.lot_words.specs.Steps.{has, MayTie, MayStep}
+use Rattle.lot_words.specs.Laws.{CondvarMaySteps, CountMaySteps}
+use Rattle.lot_words.specs.declared.owners.Ownership.{Ownership}
+use Rattle.lot_words.specs.declared.words.WordKind.TheVariants.{Mutex, Condvar, Count}
+
+-- the law of steps on a condition variable's word
+condvar_step : (at : ℕ) (op : Op) (owns : List Ownership) → ((n : ℕ) → MayTie Condvar at n (apply op n) owns) → MayStep Condvar at op owns
+condvar_step at op owns ok n owners fits code mine agrees = (tt, (λ after same. tt), ok n)
+
+pub condvar_steps : CondvarMaySteps
+condvar_steps at owns = record {
+  load = condvar_step at Load owns (λ n. inl refl);
+  show = λ mutex there. condvar_step at (Exchange 0 (mutex + 1)) owns (λ n. dite (ℕ_discrete n 0)
+      (λ e. inr (inr (mutex, ap (λ b. cond b (mutex + 1) n) (eq-eqb n 0 e), there)))
+      (λ ne. inl (ap (λ b. cond b (mutex + 1) n) (ne_eqb n 0 ne))));
+  hide = condvar_step at (Store 0) owns (λ n. inr (inl refl));
+}
+
+module _ (mutex : ℕ) (owns : List Ownership) where
+  -- the law of steps on a count word: who owns its mutex finds the count that it says, and leaves a count
+  count_step : (op : Op) (count : ℕ) → has (owning_with (place mutex Mutex) count) owns ≡ true → (count < 2 ^ 64 → IsCountCode (apply op count)) → MayStep Count (place (mutex + 1) Count) op owns
+  count_step op count there ok n owners fits code mine agrees =
+      let same : mutex_of_count (place (mutex + 1) Count) ≡ place mutex Mutex = omega arith in
+      let says : has (owning_with (mutex_of_count (place (mutex + 1) Count)) count) owns ≡ true = subst (λ (r : ℕ). has (owning_with r count) owns ≡ true) (sym same) there in
+      let is : count ≡ n = agrees.1 count says in
+      (tt, (λ after same. tt), inr (subst (λ (k : ℕ). IsCountCode (apply op k)) is (ok (omega arith)), subst (λ (k : ℕ). has (owning_with (mutex_of_count (place (mutex + 1) Count)) k) owns ≡ true) is says))
+
+pub count_steps : CountMaySteps
+count_steps mutex owns = record {
+  load = λ n owners fits code mine agrees. (tt, (λ after same. tt), inl refl);
+  raise = λ count there code. count_step mutex owns (Add 1) count there (λ fits. elim code [
+    | inl none ↦ absurd (omega arith)
+    | inr (thread, times, e, some, few) ↦ inr (thread, times, omega arith, some, few)
+  ]);
+  lower = λ count there code. count_step mutex owns (Sub 1) (count + 1) there (λ fits. subst IsCountCode (omega arith) code);
+  store = λ count m there code. count_step mutex owns (Store m) count there (λ fits. code);
+}
