@@ -53,7 +53,7 @@ takes r s t m n p c =
 -- ---------------------------------------------------------------- the hand-over
 
 -- where the lock knows no readers, nobody who is taken wants to share
-sharing_same : (r : Rules) (s : LockState) (t i : ℕ) (xs : List ℕ) → IsLockState r s → (Knows r.sort Shared → ⊥) → sharing_from t s.taken i xs ≡ xs
+pub sharing_same : (r : Rules) (s : LockState) (t i : ℕ) (xs : List ℕ) → IsLockState r s → (Knows r.sort Shared → ⊥) → sharing_from t s.taken i xs ≡ xs
 sharing_same r s t i [] c none = refl
 sharing_same r s t i (x ∷ xs) c none = grind (arith, c.known_taken i, sharing_same r s t (i + 1) xs c none)
 

@@ -74,14 +74,9 @@ pub enum Reply {
     /// Whether the thread stands in the queue now.
     Parked(bool),
     /// Whether any was taken, and whether none is left in the queue.
-    Took {
-        any: bool,
-        none_left: bool,
-    },
+    Took { any: bool, none_left: bool },
     /// Whether none is left in the queue that the thread left.
-    Removed {
-        none_left: bool,
-    },
+    Removed { none_left: bool },
     /// Another thread took this one from its queue.
     TakenBy(usize),
     /// The thread that took this one has handed it the lock.
@@ -104,11 +99,7 @@ impl Wakes {
     pub fn taken(any: bool, note: Note) -> Wakes
         ensures { result ≡ wakes_taken any note }
     {
-        if any {
-            Wakes::All(note)
-        } else {
-            Wakes::Nobody
-        }
+        if any { Wakes::All(note) } else { Wakes::Nobody }
     }
 }
 

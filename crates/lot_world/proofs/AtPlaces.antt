@@ -14,12 +14,13 @@ use Rattle.lot_steps.specs.declared.mutex.lock.LockAt.TheVariants as lock
 use Rattle.lot_steps.specs.MutexSteps.{is_parked}
 use Rattle.abstract_locks.specs.Locks.{Taken, HasTakenNobody, keep_from, one_if_some, standing}
 use Rattle.abstract_locks.specs.Locks as locks
+use Rattle.abstract_locks.specs.Runs.{is_taken_by}
 use Rattle.abstract_locks.specs.Sites.{Line, Main, Second, Has}
 use Rattle.lot_world.specs.Machine.{State, place_at, word_at, owners_at, section_at, queue_at}
 use Rattle.lot_world.specs.Refinement.{lock_state, taken_at}
 use Rattle.lot_world.specs.Promises.{Codes}
 use Rattle.lot_world.specs.MutexDeeds.{hand, mutex_doing, mutex_station, nowhere, station, station_at, doing_on}
-use Rattle.lot_world.specs.SitesOf.{IsSteady, carried_at, stood_in}
+use Rattle.lot_world.specs.SitesOf.{IsSteady, carried_at, hand_at, stood_in}
 use Rattle.lot_world.proofs.Counts.{without_absent, first_times}
 use Rattle.lot_world.proofs.Glue.{same, doing_here, nothing_at, own_stance, untaken}
 use Rattle.lot_world.proofs.MutexTable.{queued_times}
@@ -63,11 +64,22 @@ module _ (w : State) (steady : IsSteady w) where
   pub taken_nobody : (t l : ℕ) → (doing_on (place_at w t) l).carries ≡ false → HasTakenNobody (lock_state w l) t
   taken_nobody t l none u x h = let some : (doing_on (place_at w t) l).carries ≡ true = (steady.sites.site l).carried u (record { by = t; want = x }) h in cc
 
-  -- who carries nobody that it is to wake or to hand the lock to
-  pub in_no_hand : (t l : ℕ) → ((u : ℕ) → carried_at (place_at w t) l ≡ hand u false → ⊥) → HasTakenNobody (lock_state w l) t
-  in_no_hand t l none u x h = let free : keep_from t (taken_at (place_at w u) l) ≡ taken_at (place_at w u) l = untaken (place_at w u) t l (λ g. none u (steady.stands.hands.taken t u l false g)) in
-      let gone : keep_from t (Some (record { by = t; want = x })) ≡ Some (record { by = t; want = x }) = rw h at free in
-      let f : ◌≡◌ {A = Option Taken} None (Some (record { by = t; want = x })) = rw (same t) at gone in cc
+  module _ (t l : ℕ) where
+    -- who is not in its hand, to be woken or to be handed the lock, it hasn't taken
+    pub unless_held : (u : ℕ) → (hand_at (place_at w u) l ≡ hand t false → ⊥) → is_taken_by t (taken_at (place_at w u) l) ≡ false
+    unless_held u none = freed (taken_at (place_at w u) l) (untaken (place_at w u) t l none)
+      where
+        freed : (o : Option Taken) → keep_from t o ≡ o → is_taken_by t o ≡ false
+        freed None e = refl
+        freed (Some h) e = either (h.by == t) refl
+          where
+            either : (b : Bool) → (h.by == t) ≡ b → b ≡ false
+            either false f = refl
+            either true f = absurd (let g : ◌≡◌ {A = Option Taken} None (Some h) = sym (ap (λ b. if b then None else Some h) f) ∙ e in cc)
+
+    pub in_no_hand : (carried_at (place_at w t) l ≡ Some false → ⊥) → HasTakenNobody (lock_state w l) t
+    in_no_hand none u x h = let free : is_taken_by t (taken_at (place_at w u) l) ≡ false = unless_held u (λ g. none (steady.stands.hands.taken t u l false g)) in
+        let mine : is_taken_by t (taken_at (place_at w u) l) ≡ true = ap (is_taken_by t) h ∙ same t in cc
 
   module _ (t l : ℕ) where
     pub absent_aside : times t (queue_at w (2 * l + 1)) ≡ 0

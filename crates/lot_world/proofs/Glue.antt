@@ -1,5 +1,5 @@
 -- The state of a world by its parts, as total functions, and what each act does to a lock and to what the threads do about it.
-use Rattle.std.proofs.Common.{ℕ, zero, suc, Bool, true, false, Option, Some, None, if◌then◌else◌, ◌==◌, ◌||◌, ◌≡◌, ◌≢◌, ◌+◌, ◌*◌, ◌≤◌, List, [], ◌∷◌, map, length, get_or, set, inl, inr, refl, sym, ◌∙◌, ap, arith, length-set, get_or-set_same, get_or-set_other}
+use Rattle.std.proofs.Common.{ℕ, zero, suc, Bool, true, false, Option, Some, None, if◌then◌else◌, ◌==◌, ◌||◌, ◌≡◌, ◌≢◌, ◌+◌, ◌*◌, ◌≤◌, List, [], ◌∷◌, map, length, get_or, set, inl, inr, refl, sym, ◌∙◌, ap, subst, arith, length-set, get_or-set_same, get_or-set_other}
 use Rattle.std.proofs.lemmas.Bool.{cases_eq, cases_lt, eqb-true}
 use Rattle.std.proofs.lemmas.Bool.Decides.{nat_tests}
 use Rattle.lot_base.specs.declared.wants.Waiter.{Waiter}
@@ -359,7 +359,7 @@ pub told_one : (w : State) (t l u : ℕ) (b : Bool) (reply : Reply) → Hands (p
 told_one w t l u b reply hands of held = λ i. record w { places = told_in t reply w.places u (held_taker (place_at w u) t l b held) (only_held (place_at w) hands t l u b of held) i }
 
 pub heir_one : (w : State) (t l u : ℕ) (b : Bool) → Hands (place_at w) → IsOf l (place_at w t) → hand_at (place_at w u) l ≡ hand t b → heir_from t 0 w.places ≡ Some u
-heir_one w t l u b hands of held = heir_in t 0 w.places u (held_taker (place_at w u) t l b held) (only_held (place_at w) hands t l u b of held)
+heir_one w t l u b hands of held = heir_in t 0 w.places u (held_taker (place_at w u) t l b held) (only_held (place_at w) hands t l u b of held) ∙ ap Some (let e : 0 + u ≡ u = omega arith in e)
 
 -- ---------------------------------------------------------------- a release wakes whom it has taken
 

@@ -26,7 +26,7 @@ use Rattle.abstract_locks.specs.Locks as locks
 use Rattle.abstract_locks.specs.Codes.{fills}
 use Rattle.abstract_locks.specs.Purposes.{rules_of}
 use Rattle.std.proofs.Math.Bool.{or-false}
-use Rattle.lot_world.specs.OnlyMutexes.{is_mutex}
+use Rattle.lot_world.specs.SitesOf.{is_mutex}
 
 -- what is read of each lock, where that of one is set
 set_field : {A B : Type 0} (f : A → B) (xs : List A) (i : ℕ) (y d : A) → f y ≡ f (get_or xs i d) → (j : ℕ) → f (get_or (set xs i y) j d) ≡ f (get_or xs j d)

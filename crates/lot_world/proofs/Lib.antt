@@ -17,11 +17,9 @@ pub mod OpeningSites
 pub mod Counts
 pub mod SitesPromise
 pub mod AtPlaces
-pub mod OnlyMutexes
 pub mod ExclusiveOwners
-pub mod Steady
 pub mod LockEvents
-pub mod LockHands
+pub mod MutexEvents
 pub mod Possible
 pub mod LockSteps
 pub mod OneThing

@@ -202,7 +202,7 @@ put_shaped w t p s h = record {
   few = s.few;
   sections = s.sections;
   queues = s.queues;
-  places = λ u. rw (length-set w.places t p) (set_all (PlaceFits (length w.locks)) w.places t p Idle h s.places u);
+  places = λ u. set_all (PlaceFits (length w.locks)) w.places t p Idle h s.places u;
   waiting = λ key. rw (length-set w.places t p) (s.waiting key);
 }
 
@@ -333,6 +333,7 @@ performed_counts w t p (Leave keys (wakes.TheVariants.All note)) = (length-map (
 performed_counts w t p act = (refl, refl)
 
 reply_fits : (w : State) (t : ℕ) (p : Place) (act : Act) → IsShaped w → ReplyFits p (reply_to w t act)
+reply_fits w t p (TakeFirst key) s = tt
 reply_fits w t p act s = tt
 
 gone_shaped : (w : State) (t : ℕ) → IsShaped w → t < length w.places → IsShaped (gone w t)
@@ -405,7 +406,7 @@ opening_shaped kinds threads few = record {
   waiting = λ key. nobody_below (2 * length kinds) key;
 }
   where
-    idle_fits : (n t : ℕ) → PlaceFits (length (replicate threads Idle)) (length (map unlocked kinds)) (get_or (replicate n Idle) t Idle)
+    idle_fits : (n t : ℕ) → PlaceFits (length (map unlocked kinds)) (get_or (replicate n Idle) t Idle)
     idle_fits zero t = tt
     idle_fits (suc n) zero = tt
     idle_fits (suc n) (suc t) = idle_fits n t

@@ -40,7 +40,7 @@ use Rattle.lot_world.specs.SitesOf.{site_of, rules_at, AllNeeded, IsSteady, Foll
 use Rattle.lot_world.proofs.Glue.{Base, base_at, seen_by, seen, site_seen, goes_from, put_places, put_here, put_other, IsOf, next_of, doing_elsewhere, taken_elsewhere, inside_is, own_stance, LetGo, leaving, taking, told_one, heir_one, lets_taken, lets_handed, lets_nobody, IsTakenAt, is_taken, IsHandedAt, is_handed, untaken, handing, hands_acts}
 use Rattle.lot_world.proofs.MutexTable.{mutex, IsCode, OnWord, Steps, same_filled, own_doing, goes_in as goes_into}
 use Rattle.lot_world.proofs.KindsKept.{operated_kinds, operated_filled, given_kinds, given_filled}
-use Rattle.lot_world.specs.OnlyMutexes.{is_mutex}
+use Rattle.lot_world.specs.SitesOf.{is_mutex}
 use Rattle.lot_world.proofs.StandsMoved.{mutex_rules, still, goes_in, goes_out, lets_go, hands_lock, takes}
 use Rattle.lot_world.proofs.MutexSections.{hands_needed, take_needed, first_wants}
 
@@ -285,7 +285,7 @@ module _ (w : State) (t l : ℕ) (steady : IsSteady w) (there : t < length w.pla
     one_held = steady.stands.hands.carried t l b (ap (λ (x : Station). x.carries) (own_stance l (place_at w t) at is) ∙ carries)
 
     -- it is told alone
-    told_it : (reply : Reply) → all_told (filled_with w (One (2 * l)) None) t reply ≡ befallen (filled_with w (One (2 * l)) None) one_held.0 reply
+    pub told_it : (reply : Reply) → all_told (filled_with w (One (2 * l)) None) t reply ≡ befallen (filled_with w (One (2 * l)) None) one_held.0 reply
     told_it reply = told_one (filled_with w (One (2 * l)) None) t l one_held.0 b reply steady.stands.hands (own w t l at steady is there) one_held.1
 
   -- a release leaves, and wakes the one that it took

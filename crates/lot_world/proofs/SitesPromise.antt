@@ -132,10 +132,10 @@ module _ (w : State) (t l : ℕ) where
   looks_after (Lock e b (lock.Leave false)) is d free = record { debt = again e b (lock.Leave false) is d; awake = λ h. cc; queued = refl; taken = λ k. refl }
   looks_after (Unlock unlock.Enter) is d free = record { debt = release unlock.Enter is refl; awake = λ h. cc; queued = refl; taken = λ k. refl }
   looks_after (Unlock unlock.Take) is d free = record { debt = release unlock.Take is refl; awake = λ h. cc; queued = refl; taken = λ k. refl }
-  looks_after (Unlock (unlock.Clear taken)) is d free = record { debt = release (unlock.Clear taken) is refl; awake = λ h. cc; queued = refl; taken = λ k. refl }
-  looks_after (Unlock (unlock.Leave taken)) is d free = record { debt = release (unlock.Leave taken) is refl; awake = λ h. cc; queued = refl; taken = λ k. refl }
-  looks_after (HandOff bumps (hand_off.Store None b)) is d free = absurd (free refl)
-  looks_after (HandOff bumps (hand_off.Store (Some u) b)) is d free = absurd (free refl)
+  looks_after (Unlock (unlock.Clear any)) is d free = record { debt = release (unlock.Clear any) is refl; awake = λ h. cc; queued = refl; taken = λ k. refl }
+  looks_after (Unlock (unlock.Leave any)) is d free = record { debt = release (unlock.Leave any) is refl; awake = λ h. cc; queued = refl; taken = λ k. refl }
+  looks_after (HandOff bumps (hand_off.Store false b)) is d free = absurd (free refl)
+  looks_after (HandOff bumps (hand_off.Store true b)) is d free = absurd (free refl)
   looks_after at is d free = absurd (elim d [ inl h ↦ cc | inr h ↦ elim h [ inl k ↦ cc | inr k ↦ cc ] ])
 
 -- who stands in a line calls the lock

@@ -1,5 +1,5 @@
 -- How the sections, the lines and the hands of the machine are kept, by the stations of threads. No place is named.
-use Rattle.std.proofs.Common.{ℕ, Bool, true, false, Option, Some, None, if◌then◌else◌, ◌==◌, ◌≡◌, ◌≢◌, ◌+◌, ◌*◌, ◌≤◌, ◌↔◌, List, inl, inr, refl, sym, ◌∙◌, ap, arith}
+use Rattle.std.proofs.Common.{ℕ, Bool, true, false, Option, Some, None, if◌then◌else◌, ◌==◌, ◌≡◌, ◌≢◌, ◌+◌, ◌*◌, ◌≤◌, ◌↔◌, List, inl, inr, refl, sym, ◌∙◌, ap, subst, arith}
 use Rattle.std.proofs.lemmas.Bool.{cases_eq}
 use Rattle.lot_base.specs.declared.wants.Waiter.{Waiter}
 use Rattle.lot_base.specs.Lines.{times}
@@ -8,7 +8,7 @@ use Rattle.lot_steps.specs.declared.places.Place.TheVariants.{Idle, Mutex}
 use Rattle.abstract_locks.specs.Locks.{put as putting}
 use Rattle.abstract_locks.specs.Sites.{Line, Main, Second}
 use Rattle.lot_world.specs.Machine.{State, kind_at}
-use Rattle.lot_world.specs.OnlyMutexes.{is_mutex}
+use Rattle.lot_world.specs.SitesOf.{is_mutex}
 use Rattle.lot_world.specs.MutexDeeds.{Hand, Station, hand, nowhere, station, station_at}
 use Rattle.lot_world.specs.SitesOf.{Sections, Lines, Hands, CallsMutex, key_of, stood_in, carried_at, hand_at}
 use Rattle.lot_world.proofs.Glue.{IsOf, nothing_at, put_here, put_other, same, station_is, station_here, station_elsewhere}

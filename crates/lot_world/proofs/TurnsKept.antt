@@ -25,7 +25,7 @@ use Rattle.abstract_locks.specs.Sites.{Claim, Has, Begin, HasClaim, idle}
 use Rattle.lot_world.specs.Machine.{State, place_at, word_at, owners_at, kind_at, queue_at, put, begun, can_begin, is_open_to, spun_on, late_on, is_free_under, turned, can_turn, is_possible, after}
 use Rattle.lot_world.specs.Fits.{IsShaped, PlaceFits}
 use Rattle.lot_world.specs.Refinement.{lock_state, taken_at}
-use Rattle.lot_world.specs.OnlyMutexes.{is_mutex}
+use Rattle.lot_world.specs.SitesOf.{is_mutex}
 use Rattle.lot_world.specs.MutexDeeds.{nowhere, mutex_doing, mutex_station, station, acts, begins}
 use Rattle.lot_world.specs.SitesOf.{IsSteady, Goes}
 use Rattle.abstract_locks.specs.Codes.{code}

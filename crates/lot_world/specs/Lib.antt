@@ -19,6 +19,4 @@ pub mod WorldRuns
 pub mod Solo
 pub mod MutexDeeds
 pub mod SitesOf
-pub mod OnlyMutexes
-pub mod Sound
 pub mod Laws

@@ -107,16 +107,20 @@ is_there (Some l) = true
 abbrev pub put : State → ℕ → Place → State
 put w t p = record w { places = slice_set w.places t p }
 
--- an operation on a word, by which the thread may get the lock or give it up
-abbrev pub operated : State → ℕ → Place → ℕ → Op → State
-operated w t p l op = record w {
+-- a lock has this word and these owners
+abbrev pub with_word : State → ℕ → ℕ → Owners → State
+with_word w l word owners = record w {
   locks = slice_set w.locks l (record {
     kind = kind_at w l;
-    word = apply op (word_at w l);
-    owners = owners_after p t (word_at w l) (owners_at w l);
-    filled = filled_at w l || fills (rules_of (kind_at w l)) (apply op (word_at w l));
+    word = word;
+    owners = owners;
+    filled = filled_at w l || fills (rules_of (kind_at w l)) word;
   });
 }
+
+-- an operation on a word, by which the thread may get the lock or give it up
+abbrev pub operated : State → ℕ → Place → ℕ → Op → State
+operated w t p l op = with_word w l (apply op (word_at w l)) (owners_after p t (word_at w l) (owners_at w l))
 
 abbrev pub is_free : State → ℕ → Bool
 is_free w key = is_none (section_at w key)
@@ -165,14 +169,7 @@ heir_from t u (p ∷ ps) = if is_thread t (taker p) then Some u else heir_from t
 
 -- the operation with which t hands the lock over: the one in its hand owns then
 abbrev pub given : State → ℕ → Place → ℕ → Op → State
-given w t p l op = record w {
-  locks = slice_set w.locks l (record {
-    kind = kind_at w l;
-    word = apply op (word_at w l);
-    owners = with_exclusive (owners_after p t (word_at w l) (owners_at w l)) (heir_from t 0 w.places);
-    filled = filled_at w l || fills (rules_of (kind_at w l)) (apply op (word_at w l));
-  });
-}
+given w t p l op = with_word w l (apply op (word_at w l)) (with_exclusive (owners_after p t (word_at w l) (owners_at w l)) (heir_from t 0 w.places))
 
 abbrev pub taken_by : State → ℕ → Option ℕ → State
 taken_by w t None = w

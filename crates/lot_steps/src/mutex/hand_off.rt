@@ -20,13 +20,8 @@ pub enum HandOffAt {
     Enter,
     Take,
     /// It stores the word, and with it hands the mutex to the one that it took.
-    Store {
-        any: bool,
-        none_left: bool,
-    },
-    Leave {
-        any: bool,
-    },
+    Store { any: bool, none_left: bool },
+    Leave { any: bool },
 }
 
 /// Where an owner goes that saw `PARKED`.
