@@ -97,6 +97,10 @@ first_seated key capacity waiters (Some thread) seated first =
     let stands : 1 ≤ times thread waiters = times_first key thread waiters cc in
     grind (arith, seated.below thread)
 
+-- nor in a line
+pub line_seated : (key capacity : ℕ) (waiters : List Waiter) → IsSeated waiters capacity → length (line key waiters) ≤ capacity
+line_seated key capacity waiters seated = omega (arith, length-line key waiters, length_seated capacity waiters seated)
+
 -- a list has room for each of its lines
 pub length-threads_of_line : (key : ℕ) (waiters : List Waiter) → length (threads_of (line key waiters)) ≤ length waiters
 length-threads_of_line key [] = omega arith

@@ -86,7 +86,8 @@ pub trait Queues {
     /// The first who stands under a key from a place of the queues on, and the place behind it.
     /// The first place is 0.
     fn find(&self, key: Key, place: usize) -> Option<(Waiter, usize)>
-        ensures { MatchOption result (rest self.now key place ≡ [])
+        ensures few { length (line key (waiting self.now)) ≤ capacity self.now }
+        ensures found { MatchOption result (rest self.now key place ≡ [])
             (λ found. rest self.now key place ≡ found.0 ∷ rest self.now key found.1) };
 
     /// The line of a key begins at place 0.

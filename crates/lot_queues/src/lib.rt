@@ -2,5 +2,6 @@
 #![tactic(auto)]
 
 mod queueing;
+mod wants;
 
 pub use queueing::Queueing;

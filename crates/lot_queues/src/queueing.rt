@@ -1,11 +1,13 @@
 //! The queues, and the lists of those that a section took.
-ghost use Rattle.std.specs.Prelude.{◌≡◌, ◌≢◌, ◌<◌, ◌≤◌, [], IfOk, IfErr, IfSome, MatchOption, ◌∷◌, ◌++◌, length, not, ◌==◌};
+ghost use Rattle.std.specs.Prelude.{◌≡◌, ◌≢◌, ◌<◌, ◌≤◌, [], IfOk, IfErr, IfSome, MatchOption, take, ◌∷◌, ◌++◌, length, not, ◌==◌};
 ghost use Rattle.std.specs.List.{filter};
 ghost use Rattle.std.specs.Vec.{vec_capacity};
 ghost use Rattle.lot_base.specs.Lines.{waiter, line, lines, without, without_first, without_key, first_of, threads_of, key_of};
 ghost use Rattle.lot_base.specs.Picks.{lock_picked, without_lock_picked};
 ghost use Rattle.lot_base.specs.Requeues.{taken_by, moved_by, requeued};
+ghost use Rattle.lot_queues.specs.Wants.{wants_of, taken_in_line};
 
+use crate::wants::{Everybody, note_first_want, note_wants};
 use lot_base::{Fault, Key, ListQueues, LockPicker, Queues, Requeue, Want};
 use std::alloc::{AllocError, Global};
 
@@ -15,18 +17,21 @@ pub struct Queueing {
     queues: ListQueues,
     // In the order in which they were taken.
     taken: Vec<usize>,
+    // What each of them wants.
+    wants: Vec<Want>,
     // Those of them that have not been given a right.
     rightless: Vec<usize>,
     seats: usize,
-    ghost roomy: { (queues.capacity ≡ seats) × (seats ≤ vec_capacity taken) × (vec_capacity taken ≤ vec_capacity rightless) },
+    ghost roomy: { (queues.capacity ≡ seats) × (seats ≤ vec_capacity taken) × (vec_capacity taken ≤ vec_capacity rightless) × (seats ≤ vec_capacity wants) },
 }
 
-fn room(alloc: Global, seats: usize) -> Result<(Vec<usize>, Vec<usize>), AllocError>
-    ensures { IfOk result (λ rooms. (seats ≤ vec_capacity rooms.0) × (vec_capacity rooms.0 ≤ vec_capacity rooms.1)) }
+fn room(alloc: Global, seats: usize) -> Result<(Vec<usize>, Vec<usize>, Vec<Want>), AllocError>
+    ensures { IfOk result (λ rooms. (seats ≤ vec_capacity rooms.0) × (vec_capacity rooms.0 ≤ vec_capacity rooms.1) × (seats ≤ vec_capacity rooms.2)) }
 {
     let taken = Vec::with_capacity(alloc, seats)?;
     let rightless = Vec::with_capacity(alloc, taken.capacity())?;
-    Ok((taken, rightless))
+    let wants = Vec::with_capacity(alloc, seats)?;
+    Ok((taken, rightless, wants))
 }
 
 // Into an empty list that has room.
@@ -57,12 +62,13 @@ impl Queueing {
         ensures err { IfErr result (λ fault. fault ≡ Fault.NoMemory) }
     {
         let queues = ListQueues::with_capacity(alloc, seats)?;
-        let Ok((taken, rightless)) = room(alloc, seats) else {
+        let Ok((taken, rightless, wants)) = room(alloc, seats) else {
             return Err(Fault::NoMemory);
         };
         Ok(Queueing {
             queues,
             taken,
+            wants,
             rightless,
             seats,
         })
@@ -70,10 +76,11 @@ impl Queueing {
 
     /// A section begins: nobody has been taken in it.
     pub fn begin(&mut self)
-        ensures taken { (self.new.taken.items ≡ []) × (self.new.rightless.items ≡ []) }
+        ensures taken { (self.new.taken.items ≡ []) × (self.new.rightless.items ≡ []) × (self.new.wants.items ≡ []) }
         ensures same { (self.new.queues ≡ self.old.queues) × (self.new.seats ≡ self.old.seats) }
     {
         self.taken.clear();
+        self.wants.clear();
         self.rightless.clear();
     }
 
@@ -81,7 +88,7 @@ impl Queueing {
     fn note_taken(&mut self, first: Option<usize>)
         requires { (self.old.taken.items ≡ []) × (self.old.rightless.items ≡ []) × IfSome first (λ thread. thread < self.old.seats) }
         ensures taken { MatchOption first (self.new.taken.items ≡ []) (λ thread. self.new.taken.items ≡ thread ∷ []) × (self.new.rightless.items ≡ self.new.taken.items) }
-        ensures same { (self.new.queues ≡ self.old.queues) × (self.new.seats ≡ self.old.seats) }
+        ensures same { (self.new.queues ≡ self.old.queues) × (self.new.wants.items ≡ self.old.wants.items) × (self.new.seats ≡ self.old.seats) }
     {
         if let Some(thread) = first {
             self.taken.push_reserved(thread);
@@ -91,12 +98,14 @@ impl Queueing {
 
     /// Takes the first under a key.
     pub fn take_first(&mut self, key: Key) -> Option<usize>
-        requires { (self.old.taken.items ≡ []) × (self.old.rightless.items ≡ []) }
+        requires { (self.old.taken.items ≡ []) × (self.old.rightless.items ≡ []) × (self.old.wants.items ≡ []) }
         ensures first { result ≡ first_of (line key self.old.queues.waiters) }
         ensures taken { MatchOption result (self.new.taken.items ≡ []) (λ thread. self.new.taken.items ≡ thread ∷ []) × (self.new.rightless.items ≡ self.new.taken.items) }
+        ensures wants { self.new.wants.items ≡ wants_of (take 1 (line key self.old.queues.waiters)) }
         ensures lines { lines self.new.queues.waiters ≡ lines (without_first key self.old.queues.waiters) }
         ensures same { self.new.seats ≡ self.old.seats }
     {
+        note_first_want(&self.queues, key, &mut self.wants);
         let first = self.queues.take_first(key);
         self.note_taken(first);
         first
@@ -104,37 +113,45 @@ impl Queueing {
 
     /// Takes all under a key.
     pub fn take_all(&mut self, key: Key)
-        requires { (self.old.taken.items ≡ []) × (self.old.rightless.items ≡ []) }
+        requires { (self.old.taken.items ≡ []) × (self.old.rightless.items ≡ []) × (self.old.wants.items ≡ []) }
         ensures taken { (self.new.taken.items ≡ threads_of (line key self.old.queues.waiters)) × (self.new.rightless.items ≡ self.new.taken.items) }
+        ensures wants { self.new.wants.items ≡ wants_of (line key self.old.queues.waiters) }
         ensures lines { lines self.new.queues.waiters ≡ lines (without_key key self.old.queues.waiters) }
         ensures same { self.new.seats ≡ self.old.seats }
     {
+        note_wants(&self.queues, key, Everybody, &mut self.wants);
         self.queues.take_all(key, &mut self.taken);
         copy_all(self.taken.as_slice(), &mut self.rightless);
     }
 
     /// Takes who is picked of the main queue of a reader-writer lock.
     pub fn take_picked(&mut self, key: Key, start: Option<Want>, recursive: bool)
-        requires { (self.old.taken.items ≡ []) × (self.old.rightless.items ≡ []) }
+        requires { (self.old.taken.items ≡ []) × (self.old.rightless.items ≡ []) × (self.old.wants.items ≡ []) }
         ensures taken { (self.new.taken.items ≡ threads_of (lock_picked start recursive (line key self.old.queues.waiters))) × (self.new.rightless.items ≡ self.new.taken.items) }
+        ensures wants { self.new.wants.items ≡ wants_of (lock_picked start recursive (line key self.old.queues.waiters)) }
         ensures lines { lines self.new.queues.waiters ≡ lines (without_lock_picked start recursive key self.old.queues.waiters) }
         ensures same { self.new.seats ≡ self.old.seats }
     {
         let picker = LockPicker::new(start, recursive);
+        note_wants(&self.queues, key, picker, &mut self.wants);
         self.queues.take_by(key, picker, &mut self.taken);
         copy_all(self.taken.as_slice(), &mut self.rightless);
     }
 
     /// Moves waiters from under a key behind the last under another.
     pub fn requeue(&mut self, from: Key, to: Key, op: Requeue) -> (Option<usize>, usize)
-        requires none { (self.old.taken.items ≡ []) × (self.old.rightless.items ≡ []) }
+        requires none { (self.old.taken.items ≡ []) × (self.old.rightless.items ≡ []) × (self.old.wants.items ≡ []) }
         requires differ { from ≢ to }
         ensures first { result.0 ≡ taken_by op (line from self.old.queues.waiters) }
         ensures taken { MatchOption result.0 (self.new.taken.items ≡ []) (λ thread. self.new.taken.items ≡ thread ∷ []) × (self.new.rightless.items ≡ self.new.taken.items) }
+        ensures wants { self.new.wants.items ≡ wants_of (taken_in_line op (line from self.old.queues.waiters)) }
         ensures number { (result.1 ≡ length (moved_by op (line from self.old.queues.waiters))) × (result.1 ≤ self.old.seats) }
         ensures lines { lines self.new.queues.waiters ≡ lines (requeued op from to self.old.queues.waiters) }
         ensures same { self.new.seats ≡ self.old.seats }
     {
+        if op == Requeue::TakeOneMoveRest {
+            note_first_want(&self.queues, from, &mut self.wants);
+        }
         let (first, moved) = self.queues.requeue(from, to, op);
         self.note_taken(first);
         (first, moved)
@@ -143,7 +160,7 @@ impl Queueing {
     /// The thread has been given a right.
     pub fn note_right(&mut self, thread: usize)
         ensures rightless { self.new.rightless.items ≡ filter (λ x. not (x == thread)) self.old.rightless.items }
-        ensures same { (self.new.queues ≡ self.old.queues) × (self.new.taken.items ≡ self.old.taken.items) × (self.new.seats ≡ self.old.seats) }
+        ensures same { (self.new.queues ≡ self.old.queues) × (self.new.taken.items ≡ self.old.taken.items) × (self.new.wants.items ≡ self.old.wants.items) × (self.new.seats ≡ self.old.seats) }
     {
         drop_thread(&mut self.rightless, thread);
     }
@@ -162,6 +179,13 @@ impl Queueing {
         self.taken.as_slice()
     }
 
+    /// What each of them wants, in the same order.
+    pub fn wants(&self) -> &[Want]
+        ensures { result.now ≡ self.now.wants.items }
+    {
+        self.wants.as_slice()
+    }
+
     /// Those of them that have no right yet, in order.
     pub fn rightless(&self) -> &[usize]
         ensures { result.now ≡ self.now.rightless.items }
@@ -173,7 +197,7 @@ impl Queueing {
     pub fn append(&mut self, key: Key, thread: usize, want: Want)
         requires { thread < self.old.seats }
         ensures lines { lines self.new.queues.waiters ≡ lines (without thread self.old.queues.waiters ++ waiter key thread want ∷ []) }
-        ensures same { (self.new.taken.items ≡ self.old.taken.items) × (self.new.rightless.items ≡ self.old.rightless.items) × (self.new.seats ≡ self.old.seats) }
+        ensures same { (self.new.taken.items ≡ self.old.taken.items) × (self.new.rightless.items ≡ self.old.rightless.items) × (self.new.wants.items ≡ self.old.wants.items) × (self.new.seats ≡ self.old.seats) }
     {
         self.queues.append(key, thread, want);
     }
@@ -181,7 +205,7 @@ impl Queueing {
     /// Removes a thread from where it stands.
     pub fn remove(&mut self, thread: usize)
         ensures lines { lines self.new.queues.waiters ≡ lines (without thread self.old.queues.waiters) }
-        ensures same { (self.new.taken.items ≡ self.old.taken.items) × (self.new.rightless.items ≡ self.old.rightless.items) × (self.new.seats ≡ self.old.seats) }
+        ensures same { (self.new.taken.items ≡ self.old.taken.items) × (self.new.rightless.items ≡ self.old.rightless.items) × (self.new.wants.items ≡ self.old.wants.items) × (self.new.seats ≡ self.old.seats) }
     {
         self.queues.remove(thread);
     }

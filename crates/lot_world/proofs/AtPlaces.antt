@@ -1,17 +1,15 @@
 -- What holds between steps, of a thread at a place: the section that it is inside, the lines in which it stands, and what it owns.
-use Rattle.std.proofs.Common.{ℕ, zero, suc, Bool, true, false, Option, Some, None, if◌then◌else◌, ◌==◌, ◌≡◌, ◌≢◌, ◌+◌, ◌*◌, ◌≤◌, ◌<◌, List, [], ◌∷◌, length, get_or, map, refl, sym, ◌∙◌, ap, subst, arith, inl, inr}
+use Rattle.std.proofs.Common.{ℕ, Bool, true, false, Option, Some, None, if◌then◌else◌, ◌==◌, ◌≡◌, ◌≢◌, ◌+◌, ◌*◌, ◌≤◌, ◌<◌, List, [], length, get_or, map, refl, sym, ◌∙◌, ap, arith, inl, inr}
 use Rattle.std.proofs.lemmas.Bool.{cases_lt}
 use Rattle.std.proofs.lemmas.List.{get_or_past}
 use Rattle.std.proofs.Math.ListN.{get_or-map}
 use Rattle.lot_base.specs.declared.wants.Want.TheVariants.{Exclusive}
-use Rattle.lot_base.specs.declared.wants.Waiter.{Waiter}
-use Rattle.lot_base.specs.Lines.{without, times, first_of}
+use Rattle.lot_base.specs.Lines.{without, times}
 use Rattle.lot_steps.specs.declared.places.Place.{Place}
 use Rattle.lot_steps.specs.declared.places.Place.TheVariants.{Idle, Mutex}
 use Rattle.lot_steps.specs.declared.mutex.MutexPlace.{MutexPlace}
 use Rattle.lot_steps.specs.declared.mutex.MutexPlace.TheVariants.{Lock}
 use Rattle.lot_steps.specs.declared.mutex.lock.LockAt.TheVariants as lock
-use Rattle.lot_steps.specs.MutexSteps.{is_parked}
 use Rattle.abstract_locks.specs.Locks.{Taken, HasTakenNobody, keep_from, one_if_some, standing}
 use Rattle.abstract_locks.specs.Locks as locks
 use Rattle.abstract_locks.specs.Runs.{is_taken_by}

@@ -30,7 +30,7 @@ use Rattle.lot_steps.specs.Steps.{act_of, spin_lock, late_key}
 use Rattle.lot_world.specs.Machine.{State, unlocked, place_at, word_at, owners_at, kind_at, queue_at, operated, appended, first_taken, performed, taken_by, spun_on, late_on, turned, is_possible, after, answered}
 use Rattle.lot_world.specs.Fits.{IsShaped, PlaceFits}
 use Rattle.lot_world.specs.Promises.{Codes}
-use Rattle.lot_world.specs.MutexDeeds.{mutex_doing, hand, mutex_station}
+use Rattle.lot_world.specs.MutexDeeds.{hand, mutex_station}
 use Rattle.lot_world.specs.SitesOf.{IsSteady, CallsMutex, is_mutex}
 use Rattle.abstract_locks.specs.Sites.{Main}
 use Rattle.lot_world.proofs.MutexTable.{own_doing}

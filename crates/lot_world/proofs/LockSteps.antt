@@ -1,5 +1,5 @@
 -- Each turn of a thread is a step of the abstract locks.
-use Rattle.std.proofs.Common.{ℕ, Bool, true, false, Option, Some, None, if◌then◌else◌, ◌==◌, ◌&&◌, not, ◌≡◌, ◌≢◌, ◌+◌, ◌-◌, ◌*◌, ◌≤◌, ◌<◌, ◌↔◌, inl, inr, List, [], ◌∷◌, length, get_or, set, drop, refl, sym, ◌∙◌, ap, subst, arith, get_or-set_other, get_or-set_same, length-set, nat_lt}
+use Rattle.std.proofs.Common.{ℕ, Bool, true, false, Option, Some, None, if◌then◌else◌, ◌==◌, ◌&&◌, not, ◌≡◌, ◌≢◌, ◌+◌, ◌*◌, ◌<◌, ◌↔◌, inl, inr, List, [], ◌∷◌, length, get_or, drop, refl, sym, ◌∙◌, ap, subst, get_or-set_other, get_or-set_same, length-set, nat_lt}
 use Rattle.std.proofs.lemmas.Bool.{cases_eq, eqb-true, ltb-true, lt-ltb}
 use Rattle.lot_base.specs.declared.keys.Keys.TheVariants.{One}
 use Rattle.lot_base.specs.declared.ops.Op.{Op}
@@ -13,10 +13,6 @@ use Rattle.lot_steps.specs.declared.acts.Act.{Act}
 use Rattle.lot_steps.specs.declared.acts.Act as act
 use Rattle.lot_steps.specs.declared.acts.Reply.TheVariants.{Done, Value, Spun, Parked, Took, Removed, TakenBy, HandedBy, Woken}
 use Rattle.lot_steps.specs.declared.acts.Reply.TheVariants as reply
-use Rattle.lot_steps.specs.declared.acts.Next.{Next}
-use Rattle.lot_steps.specs.declared.acts.Next as next
-use Rattle.lot_calls.specs.declared.outcomes.Answer.{Answer}
-use Rattle.lot_calls.specs.declared.outcomes.Answer as answer
 use Rattle.lot_calls.specs.declared.calls.Call.{Call}
 use Rattle.lot_calls.specs.declared.calls.Call as call
 use Rattle.lot_calls.specs.declared.calls.Turn.{Turn}
@@ -47,18 +43,16 @@ use Rattle.lot_steps.specs.Steps.{act_of, next_place, next_act, mutex_goes, mute
 use Rattle.lot_world.specs.Machine.{State, unlocked, place_at, word_at, owners_at, kind_at, queue_at, section_at, put, performed, go_reply, operated, given, all_told, appended, removed, first_taken, taken_by, befallen, filled_with, reply_to, can_do, is_there, spun_on, late_on, is_free_under, begun, can_begin, is_open_to, can_turn, turned, turn_outcome, is_possible, after, answered}
 use Rattle.lot_world.specs.declared.machine.Lock.{Lock as WorldLock}
 use Rattle.lot_world.specs.Fits.{IsShaped, SameSize, PlaceFits, GivesUpTimed}
-use Rattle.lot_world.proofs.Counts.{none_first}
-use Rattle.lot_world.proofs.Shape.{after_size, both, main_line_there, performed_counts}
+use Rattle.lot_world.proofs.Shape.{after_size, both, performed_counts}
 use Rattle.lot_world.proofs.Possible.{may_go, go_possible, may_be_late, late_possible, told_gone, told_step, begins_awake, no_closure, turner_there, gone_sections, spun_sections, late_sections, spun_awake, late_awake}
 use Rattle.lot_world.specs.SitesOf.{IsSteady, Goes, CallsMutex, is_mutex, rules_at, carried_at, hand_at}
 use Rattle.abstract_locks.specs.Sites.{Main, In, Clear as Clears}
-use Rattle.abstract_locks.specs.Locks.{LockState, Rules, put as putting, Rights, Owns, HasTakenNobody, rights_of, with_right, without_right, standing}
-use Rattle.abstract_locks.specs.Locks as locks
-use Rattle.abstract_locks.specs.Runs.{LocksState, CallState, GoesOn, Stays, Does, SectionChanges, MayBegin, MayTurn, HasRight, Turned, IsStep, purpose_at, beginning, Agrees, AnswerHolds, unless_ended, is_taken_by, Nothing, one_more_at, one_less_at}
-use Rattle.abstract_locks.specs.Purposes.{Purpose, Enters, Releases, Try, rules_of, purpose_of, mutex_purpose, IsMadeOf}
+use Rattle.abstract_locks.specs.Locks.{put as putting, Rights, rights_of}
+use Rattle.abstract_locks.specs.Runs.{LocksState, CallState, GoesOn, Stays, Does, SectionChanges, MayBegin, MayTurn, HasRight, Turned, IsStep, purpose_at, beginning, is_taken_by, Nothing}
+use Rattle.abstract_locks.specs.Purposes.{purpose_of, mutex_purpose}
 use Rattle.lot_world.specs.MutexDeeds.{Hand, hand, mutex_station, deeds}
-use Rattle.lot_world.specs.Refinement.{owner_at, lock_state, taken_at, is_bump, entry_purpose, release_purpose, call_state, locks_of, sleeps}
-use Rattle.lot_world.proofs.KindsKept.{operated_kinds, after_kinds, calls_mutex}
+use Rattle.lot_world.specs.Refinement.{owner_at, lock_state, taken_at, call_state, locks_of, sleeps}
+use Rattle.lot_world.proofs.KindsKept.{after_kinds, calls_mutex}
 use Rattle.std.specs.Prelude.{replicate}
 use Rattle.lot_steps.specs.declared.acts.Reply.{Reply}
 use Rattle.lot_steps.specs.declared.mutex.MutexPlace.{MutexPlace}

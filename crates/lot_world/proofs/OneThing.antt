@@ -1,7 +1,6 @@
 -- A step changes one word at most, or queues whose sections its thread is in.
-use Rattle.std.proofs.Common.{ℕ, zero, suc, Bool, true, false, Option, Some, None, if◌then◌else◌, ◌==◌, not, ◌≡◌, ◌≢◌, ◌+◌, ◌*◌, ◌⊎◌, inl, inr, List, [], ◌∷◌, ◌++◌, get_or, set, map, drop, refl, sym, ◌∙◌, ap, arith, get_or-set_other}
+use Rattle.std.proofs.Common.{ℕ, zero, suc, Bool, true, false, Option, Some, None, if◌then◌else◌, ◌==◌, not, ◌≡◌, ◌≢◌, ◌+◌, ◌*◌, ◌⊎◌, inl, inr, List, [], ◌∷◌, ◌++◌, get_or, set, map, drop, refl, ◌∙◌, ap, arith, get_or-set_other}
 use Rattle.std.proofs.lemmas.Bool.{cases_eq}
-use Rattle.std.proofs.lemmas.Bool.Decides.{nat_tests}
 use Rattle.std.proofs.Math.ListN.{get_or-map}
 use Rattle.lot_base.specs.declared.keys.Keys.{Keys}
 use Rattle.lot_base.specs.declared.keys.Keys.TheVariants.{One, Two}

@@ -24,7 +24,6 @@ use Rattle.lot_steps.specs.declared.acts.Wakes.{Wakes}
 use Rattle.lot_steps.specs.declared.acts.Wakes as wakes
 use Rattle.lot_steps.specs.declared.acts.Reply.{Reply}
 use Rattle.lot_steps.specs.declared.acts.Reply.TheVariants.{TakenBy, HandedBy, Woken, Spun, Late}
-use Rattle.lot_steps.specs.declared.mutex.MutexPlace.{MutexPlace}
 use Rattle.lot_steps.specs.declared.mutex.MutexPlace.TheVariants.{Lock, TryLock, Unlock, UnlockFair, Bump, HandOff}
 use Rattle.lot_steps.specs.declared.mutex.lock.LockAt.{LockAt}
 use Rattle.lot_steps.specs.declared.mutex.lock.LockAt.TheVariants as lock

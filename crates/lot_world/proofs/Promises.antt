@@ -1,6 +1,5 @@
 -- What holds between steps, as callers are told it.
 use Rattle.std.proofs.Common.{ℕ, Bool, true, false, Option, Some, None, if◌then◌else◌, ◌==◌, ◌&&◌, not, ◌≡◌, ◌≢◌, ◌+◌, ◌*◌, ◌≤◌, ◌⊎◌, inl, inr, List, length, refl, ◌∙◌, ap, subst, arith, ◌↔◌, sym}
-use Rattle.lot_base.specs.declared.wants.Want.TheVariants.{Exclusive}
 use Rattle.lot_base.specs.declared.keys.Keys.TheVariants.{One}
 use Rattle.lot_base.specs.declared.ops.Op as op
 use Rattle.lot_steps.specs.declared.acts.Act as act
@@ -14,7 +13,7 @@ use Rattle.lot_base.specs.declared.notes.Note.TheVariants as note
 use Rattle.lot_steps.specs.declared.mutex.MutexPlace.{MutexPlace}
 use Rattle.lot_steps.specs.declared.mutex.MutexPlace.TheVariants.{Lock, TryLock, Unlock, UnlockFair, Bump, HandOff}
 use Rattle.lot_steps.specs.declared.mutex.lock.LockAt.{LockAt}
-use Rattle.lot_steps.specs.declared.mutex.lock.LockAt.TheVariants.{First, Decide, Leave, Asleep, Taken, Handed, Remove}
+use Rattle.lot_steps.specs.declared.mutex.lock.LockAt.TheVariants.{First, Decide, Asleep, Taken, Handed}
 use Rattle.lot_steps.specs.declared.mutex.unlock.UnlockAt.{UnlockAt}
 use Rattle.lot_steps.specs.declared.mutex.unlock.UnlockAt.TheVariants as unlock
 use Rattle.lot_steps.specs.declared.mutex.hand_off.HandOffAt.{HandOffAt}
@@ -30,7 +29,7 @@ use Rattle.lot_world.specs.Machine.{State, opening, place_at, after, section_at}
 use Rattle.lot_world.specs.Fits.{IsShaped}
 use Rattle.lot_world.specs.MutexDeeds.{Of, hand, Station, mutex_station, nowhere, station_at}
 use Rattle.lot_world.specs.SitesOf.{IsSteady, stood_in, carried_at}
-use Rattle.abstract_locks.specs.Runs.{AreLockStates, IsOpening}
+use Rattle.abstract_locks.specs.Runs.{IsOpening}
 use Rattle.abstract_locks.specs.Locks.{opening_lock, rights_of, Rights, one_if_some, standing}
 use Rattle.abstract_locks.specs.Purposes.{Enters, Converts, Bumps, Purpose, MayWait, IsReleasing}
 use Rattle.lot_world.specs.Refinement.{locks_of, lock_state, lock_seen, taken_at, is_bump, entry_purpose, call_state, stance_of}
@@ -41,7 +40,6 @@ use Rattle.lot_world.proofs.Glue.{same, nothing_at, own_stance, station_elsewher
 use Rattle.lot_world.proofs.AtPlaces.{coded, stands_by, owns}
 use Rattle.lot_world.proofs.Opening.{idle_at, none_at, empty_at, nobody_owns, opening_shares}
 use Rattle.std.proofs.lemmas.Bool.{cases_eq, eqb-true}
-use Rattle.abstract_locks.specs.Locks as locks
 
 -- what a place says of a lock it says of its own
 part_here : {A : Type 0} (g : Station → Option A) (x : A) (own l : ℕ) (at : MutexPlace) → g nowhere ≡ None → g (station_at (Mutex own at) l) ≡ Some x → (own ≡ l) × (g (mutex_station at) ≡ Some x)

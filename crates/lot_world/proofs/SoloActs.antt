@@ -9,7 +9,7 @@ use Rattle.lot_base.specs.declared.ops.Op.{Op}
 use Rattle.lot_base.specs.declared.wants.Waiter.{Waiter}
 use Rattle.lot_base.specs.declared.wants.Want.TheVariants.{Exclusive}
 use Rattle.lot_base.specs.Words.{apply}
-use Rattle.lot_base.specs.Lines.{waiter, without, first_of, times}
+use Rattle.lot_base.specs.Lines.{waiter, without, first_of}
 use Rattle.lot_calls.specs.declared.kinds.Kind as kind
 use Rattle.lot_steps.specs.declared.acts.Act.{Act}
 use Rattle.lot_steps.specs.declared.acts.Act as act
@@ -28,7 +28,6 @@ use Rattle.lot_world.specs.Fits.{IsShaped, SameSize}
 use Rattle.lot_world.specs.Refinement.{owner_at}
 use Rattle.lot_world.specs.MutexDeeds.{station}
 use Rattle.lot_world.specs.SitesOf.{IsSteady}
-use Rattle.lot_world.proofs.Counts.{without_absent}
 use Rattle.lot_world.proofs.Shape.{after_shaped, after_size, main_key_there, main_line_there}
 use Rattle.lot_world.proofs.TurnsKept.{after_steady}
 use Rattle.lot_world.proofs.AtPlaces.{same_without}

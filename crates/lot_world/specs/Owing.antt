@@ -1,6 +1,5 @@
 -- Who owes a wake, by what has happened: from the step that saw waiters, or from entering the section, until the section is left.
 use Rattle.std.specs.Prelude.{ℕ, true, Some, ◌≡◌, ◌≢◌, ◌*◌, ◌⊎◌, ◌↔◌}
-use Rattle.lot_calls.specs.declared.calls.Step.{Step}
 use Rattle.lot_calls.specs.declared.outcomes.Outcome.{Outcome}
 use Rattle.lot_calls.specs.declared.outcomes.Outcome.TheVariants as told
 use Rattle.lot_steps.specs.MutexSteps.{is_parked}

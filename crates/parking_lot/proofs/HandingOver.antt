@@ -57,7 +57,12 @@ module _ (n : ℕ) (base : List Ownership) (st : Stage) where
       by_first : (first : Option ℕ) → true ≡ is_there first → st.inside ≡ Some (record { keys = One (2 * n); did = TakeFirst (2 * n); taken = listed first; rightless = listed first }) → HasOneTaken st.inside
       by_first None e i = absurd cc
       by_first (Some to) e i = subst HasOneTaken (sym i) (to, refl)
-  hand_off_needs (at.Leave any) f = subst (MayLeave (note_of (wakes_taken any note.TheVariants.HandOff))) (sym f.1.1) (λ e. refl)
+  hand_off_needs (at.Leave false) f = by_none f.0 f.1 f.2.1
+    where
+      by_none : (first : Option ℕ) → false ≡ is_there first → st.inside ≡ Some (record { keys = One (2 * n); did = TakeFirst (2 * n); taken = listed first; rightless = [] }) → MayLeave note.TheVariants.Normal st.inside
+      by_none None e i = subst (MayLeave note.TheVariants.Normal) (sym i) refl
+      by_none (Some to) e i = absurd cc
+  hand_off_needs (at.Leave true) f = subst (MayLeave note.TheVariants.HandOff) (sym f.2.1) refl
 
   module _ (new : Stage) (bumps : Bool) where
     owns_of : (s : Stage) → new ≡ s → new.owns ≡ s.owns
@@ -71,16 +76,16 @@ module _ (n : ℕ) (base : List Ownership) (st : Stage) where
     hand_off_leads at.Take f (Took true left) b = ((refl, (f.0, (b.0, b.1, (owns_of _ b.2 ∙ f.1.0, inside_of _ b.2 ∙ ap (took (2 * n) b.0) f.1.1)))), refl)
     hand_off_leads at.Take f (Took false left) b = ((refl, (f.0, (b.0, b.1, (owns_of _ b.2 ∙ f.1.0, inside_of _ b.2 ∙ ap (took (2 * n) b.0) f.1.1)))), refl)
     hand_off_leads (at.Store false left) f (Value seen) b = let odd = finds_locked n seen st.owns (there_now f.0 f.1.2.0) b.0 in
-        ((refl, (f.1.0, (owns_of _ b.1 ∙ freed n seen b.0.1.0 odd st.owns ∙ ap (without (held n)) f.1.2.0, inside_of _ b.1 ∙ f.1.2.1 ∙ none_listed f.1.0 f.1.1))), refl)
+        ((refl, (f.1.0, f.1.1, (owns_of _ b.1 ∙ freed n seen b.0.1.0 odd st.owns ∙ ap (without (held n)) f.1.2.0, inside_of _ b.1 ∙ f.1.2.1 ∙ none_listed f.1.0 f.1.1))), refl)
       where
         none_listed : (first : Option ℕ) → false ≡ is_there first → ◌≡◌ {A = Option Inside} (Some (record { keys = One (2 * n); did = TakeFirst (2 * n); taken = listed first; rightless = listed first })) (Some (record { keys = One (2 * n); did = TakeFirst (2 * n); taken = listed first; rightless = [] }))
         none_listed None e = refl
         none_listed (Some to) e = absurd cc
     hand_off_leads (at.Store true left) f (Value seen) b = let odd = finds_locked n seen st.owns (there_now f.0 f.1.2.0) b.0 in
-        ((refl, (f.1.0, (owns_of _ b.1 ∙ ap (without (held n)) (kept n left seen b.0.1.0 odd st.owns ∙ f.1.2.0), inside_of _ b.1 ∙ ap all_given f.1.2.1))), refl)
+        ((refl, (f.1.0, f.1.1, (owns_of _ b.1 ∙ ap (without (held n)) (kept n left seen b.0.1.0 odd st.owns ∙ f.1.2.0), inside_of _ b.1 ∙ ap all_given f.1.2.1))), refl)
     hand_off_leads (at.Leave any) f Done b = left_by bumps
       where
         left_by : (bumps : Bool) → Reached n base (Mutex n (HandOff bumps (at.Leave any))) Done new
-        left_by true = ((refl, (b.0 ∙ f.1.0, b.1)), refl)
-        left_by false = (refl, (b.0 ∙ f.1.0, b.1), subst (λ (i : Option Inside). IsLeft i new.last) f.1.1 b.2)
+        left_by true = ((refl, (b.0 ∙ f.2.0, b.1)), refl)
+        left_by false = (refl, (b.0 ∙ f.2.0, b.1), subst (λ (i : Option Inside). IsLeft i new.last) f.2.1 b.2)
     hand_off_leads at f reply b = absurd b

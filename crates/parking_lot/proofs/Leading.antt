@@ -46,7 +46,7 @@ module _ (n : ℕ) (base : List Ownership) (st : Stage) where
 
   -- a section in which nobody was taken is left
   leaves : (owns : List Ownership) → Within n owns st → MayLeave Normal st.inside
-  leaves owns f = subst (MayLeave Normal) (sym f.1) (λ e. refl)
+  leaves owns f = subst (MayLeave Normal) (sym f.1) refl
 
   lock_needs : (e : Entry) (at : LockAt) → FitsLock n e (beside n e base) at st → Can (lock_act n at)
   lock_needs e lock.TheVariants.First f = (mutex_steps (mutex_at n) st.owns).enter 0 (omega arith) refl
@@ -67,8 +67,8 @@ module _ (n : ℕ) (base : List Ownership) (st : Stage) where
   unlock_needs unlock.TheVariants.Enter f = (tt, f.1)
   unlock_needs unlock.TheVariants.Take f = (subst (HasKey (2 * n)) (sym f.1) refl, subst IsFresh (sym f.1) refl)
   unlock_needs (unlock.TheVariants.Clear any) f = (mutex_steps (mutex_at n) st.owns).clear_parked
-  unlock_needs (unlock.TheVariants.Leave false) f = subst (MayLeave Normal) (sym f.2.1) (λ e. absurd cc)
-  unlock_needs (unlock.TheVariants.Leave true) f = subst (MayLeave Normal) (sym f.2.1) (λ e. absurd cc)
+  unlock_needs (unlock.TheVariants.Leave false) f = subst (MayLeave Normal) (sym f.2.1) refl
+  unlock_needs (unlock.TheVariants.Leave true) f = subst (MayLeave Normal) (sym f.2.1) refl
 
   -- what the place's act needs is there
   pub needs : (p : Place) → Fits n base p st → Can (act_of p)

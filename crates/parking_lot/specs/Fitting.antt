@@ -112,7 +112,7 @@ abbrev pub FitsHandOff : ℕ → List Ownership → HandOffAt → Stage → Type
 FitsHandOff n base hand_off.TheVariants.Enter st = (has (held n) base ≡ true) × Outside base st
 FitsHandOff n base hand_off.TheVariants.Take st = (has (held n) base ≡ true) × Within n base st
 FitsHandOff n base (hand_off.TheVariants.Store any none_left) st = (has (held n) base ≡ true) × HasTook n any base st
-FitsHandOff n base (hand_off.TheVariants.Leave any) st = (first : Option ℕ) × Took n first [] (without (held n) base) st
+FitsHandOff n base (hand_off.TheVariants.Leave any) st = (first : Option ℕ) × (any ≡ is_there first) × Took n first [] (without (held n) base) st
 
 abbrev pub FitsAt : ℕ → List Ownership → MutexPlace → Stage → Type 0
 FitsAt n base (Lock e retries at) st = FitsLock n e (beside n e base) at st

@@ -24,7 +24,7 @@ use Rattle.lot_steps.specs.declared.acts.Reply.TheVariants.{Done, Value, Parked,
 use Rattle.lot_steps.specs.declared.acts.Wakes.{Wakes}
 use Rattle.lot_steps.specs.declared.acts.Wakes as wakes
 use Rattle.parking_lot_core.specs.Keys.{AreKeys, IsKeyOf, first_key}
-use Rattle.parking_lot_core.specs.Sections.{waiting_in, taken_in, rightless_in}
+use Rattle.parking_lot_core.specs.Sections.{waiting_in, taken_in, rightless_in, MayNote}
 use Rattle.parking_lot_core.specs.Tokens.{view_of, last_of}
 use Rattle.parking_lot_core.specs.declared.lot.ParkingLot.{ParkingLot}
 use Rattle.parking_lot_core.specs.declared.sections.Section.{Section}
@@ -107,10 +107,10 @@ abbrev pub HasOneTaken : Option Inside → Type 0
 HasOneTaken None = ⊥
 HasOneTaken (Some inside) = (thread : ℕ) × (inside.rightless ≡ thread ∷ [])
 
--- inside one that may be left with the note: each who is handed something was given a right
+-- inside one that may be left with the note
 abbrev pub MayLeave : Note → Option Inside → Type 0
 MayLeave note None = ⊥
-MayLeave note (Some inside) = note ≡ HandOff → inside.rightless ≡ []
+MayLeave note (Some inside) = MayNote note inside.taken inside.rightless
 
 -- a step that leaves the word owned alone by who takes it, whatever it finds
 abbrev pub KeepsIt : WordKind → ℕ → Op → List Ownership → Type 0

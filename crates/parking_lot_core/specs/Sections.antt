@@ -1,7 +1,10 @@
 -- What stands in the queues of a section, and whom it took.
 use Rattle.std.specs.Prelude.{ℕ, ◌≡◌, List, []}
 use Rattle.std.specs.Sync.Mutex.{mutex_guard_value}
+use Rattle.lot_base.specs.declared.notes.Note.{Note}
+use Rattle.lot_base.specs.declared.notes.Note.TheVariants.{Normal, HandOff}
 use Rattle.lot_base.specs.declared.wants.Waiter.{Waiter}
+use Rattle.lot_base.specs.declared.wants.Want.{Want}
 use Rattle.parking_lot_core.specs.declared.sections.Section.{Section}
 use Rattle.parking_lot_core.specs.declared.tokens.Did.TheVariants.{Nothing}
 
@@ -10,6 +13,10 @@ waiting_in section = (mutex_guard_value section.queueing).queues.waiters
 
 abbrev pub taken_in : Section → List ℕ
 taken_in section = (mutex_guard_value section.queueing).taken.items
+
+-- what each of them wants
+abbrev pub wants_in : Section → List Want
+wants_in section = (mutex_guard_value section.queueing).wants.items
 
 -- those of whom it took that have no right yet
 abbrev pub rightless_in : Section → List ℕ
@@ -23,6 +30,15 @@ moved_in section = section.moved
 abbrev pub StaysIn : Section → Section → Type 0
 StaysIn old new = (new.lot.now ≡ old.lot.now) × (new.keys ≡ old.keys)
 
+-- and has done no more to whom it took or moved
+abbrev pub TookAs : Section → Section → Type 0
+TookAs old new = (new.did ≡ old.did) × (taken_in new ≡ taken_in old) × (wants_in new ≡ wants_in old) × (moved_in new ≡ moved_in old)
+
+-- the note that is right for those whom it took: a hand-off where each was given a right, and a normal one where nobody was
+abbrev pub MayNote : Note → List ℕ → List ℕ → Type 0
+MayNote Normal taken rightless = rightless ≡ taken
+MayNote HandOff taken rightless = rightless ≡ []
+
 -- nothing has been done in it
 abbrev pub IsUntouched : Section → Type 0
-IsUntouched section = (section.did ≡ Nothing) × (taken_in section ≡ []) × (rightless_in section ≡ []) × (moved_in section ≡ 0)
+IsUntouched section = (section.did ≡ Nothing) × (taken_in section ≡ []) × (wants_in section ≡ []) × (rightless_in section ≡ []) × (moved_in section ≡ 0)

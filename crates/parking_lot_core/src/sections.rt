@@ -1,15 +1,15 @@
 //! Sections, in which one thread at a time changes the queues of its keys.
 //!
 //! All sections stand behind one lock as yet: a thread that is inside one and enters another waits for itself.
-ghost use Rattle.std.specs.Prelude.{◌≡◌, ◌≢◌, ◌<◌, ◌≤◌, ◌+◌, ◌++◌, ◌∷◌, ◌==◌, not, [], Some, Contains, MatchOption, length, slice_index};
+ghost use Rattle.std.specs.Prelude.{◌≡◌, ◌≢◌, ◌<◌, ◌≤◌, ◌+◌, ◌++◌, ◌∷◌, ◌==◌, not, [], Some, Contains, MatchOption, length, slice_index, take};
 ghost use Rattle.std.specs.List.{filter};
 ghost use Rattle.std.specs.Sync.Mutex.{mutex_guard_value};
 ghost use Rattle.lot_base.specs.Lines.{waiter, line, lines, without, without_first, without_key, first_of, threads_of, key_of};
 ghost use Rattle.lot_base.specs.Picks.{lock_picked, without_lock_picked};
 ghost use Rattle.lot_base.specs.Requeues.{taken_by, moved_by, requeued};
+ghost use Rattle.lot_queues.specs.Wants.{wants_of, taken_in_line};
 ghost use Rattle.parking_lot_core.specs.Keys.{AreKeys, IsKeyOf, first_key};
 ghost use Rattle.parking_lot_core.specs.declared.tokens.Did.TheVariants.{Nothing, TakeFirst, TakeAll, TakePicked};
-ghost use Rattle.lot_base.specs.declared.notes.Note.TheVariants.{HandOff};
 
 use crate::lot::ParkingLot;
 use crate::tokens::{Did, Record, Token};
@@ -30,7 +30,7 @@ pub struct Section<'a> {
     // How many it moved to another queue.
     moved: usize,
     ghost seated: { (mutex_guard_value queueing).seats ≡ lot.now.records.count },
-    ghost fresh: { did ≡ Nothing → ((mutex_guard_value queueing).taken.items ≡ []) × ((mutex_guard_value queueing).rightless.items ≡ []) × (moved ≡ 0) },
+    ghost fresh: { did ≡ Nothing → ((mutex_guard_value queueing).taken.items ≡ []) × ((mutex_guard_value queueing).rightless.items ≡ []) × ((mutex_guard_value queueing).wants.items ≡ []) × (moved ≡ 0) },
     ghost few: { moved ≤ (mutex_guard_value queueing).seats },
 }
 
@@ -129,7 +129,7 @@ impl ParkingLot {
 
 impl<'a> Section<'a> {
     ghost use Rattle.parking_lot_core.specs.Tokens.{IsTokenOf, Stays, last_of};
-    ghost use Rattle.parking_lot_core.specs.Sections.{waiting_in, taken_in, rightless_in, moved_in, StaysIn};
+    ghost use Rattle.parking_lot_core.specs.Sections.{waiting_in, taken_in, wants_in, rightless_in, moved_in, StaysIn, TookAs, MayNote};
     ghost use Rattle.lot_words.specs.RightsOf.{IsRightOf};
 
     /// Puts a thread behind the last under a key. One that stands somewhere leaves that place first.
@@ -137,7 +137,7 @@ impl<'a> Section<'a> {
         requires key { IsKeyOf self.old.keys key }
         requires thread { thread < self.old.lot.now.records.count }
         ensures lines { lines (waiting_in self.new) ≡ lines (without thread (waiting_in self.old) ++ waiter key thread want ∷ []) }
-        ensures same { StaysIn self.old self.new × (self.new.did ≡ self.old.did) × (taken_in self.new ≡ taken_in self.old) × (rightless_in self.new ≡ rightless_in self.old) × (moved_in self.new ≡ moved_in self.old) }
+        ensures same { StaysIn self.old self.new × TookAs self.old self.new × (rightless_in self.new ≡ rightless_in self.old) }
     {
         self.queueing.append(key, thread, want);
     }
@@ -145,7 +145,7 @@ impl<'a> Section<'a> {
     /// Removes a thread from where it stands.
     pub fn remove(&mut self, thread: usize)
         ensures lines { lines (waiting_in self.new) ≡ lines (without thread (waiting_in self.old)) }
-        ensures same { StaysIn self.old self.new × (self.new.did ≡ self.old.did) × (taken_in self.new ≡ taken_in self.old) × (rightless_in self.new ≡ rightless_in self.old) × (moved_in self.new ≡ moved_in self.old) }
+        ensures same { StaysIn self.old self.new × TookAs self.old self.new × (rightless_in self.new ≡ rightless_in self.old) }
     {
         self.queueing.remove(thread);
     }
@@ -156,6 +156,7 @@ impl<'a> Section<'a> {
         requires first_take { self.old.did ≡ Nothing }
         ensures first { result ≡ first_of (line key (waiting_in self.old)) }
         ensures taken { MatchOption result (taken_in self.new ≡ []) (λ thread. taken_in self.new ≡ thread ∷ []) × (rightless_in self.new ≡ taken_in self.new) }
+        ensures wants { wants_in self.new ≡ wants_of (take 1 (line key (waiting_in self.old))) }
         ensures lines { lines (waiting_in self.new) ≡ lines (without_first key (waiting_in self.old)) }
         ensures did { StaysIn self.old self.new × (self.new.did ≡ TakeFirst key) × (moved_in self.new ≡ 0) }
     {
@@ -168,6 +169,7 @@ impl<'a> Section<'a> {
         requires key { IsKeyOf self.old.keys key }
         requires first_take { self.old.did ≡ Nothing }
         ensures taken { (taken_in self.new ≡ threads_of (line key (waiting_in self.old))) × (rightless_in self.new ≡ taken_in self.new) }
+        ensures wants { wants_in self.new ≡ wants_of (line key (waiting_in self.old)) }
         ensures lines { lines (waiting_in self.new) ≡ lines (without_key key (waiting_in self.old)) }
         ensures did { StaysIn self.old self.new × (self.new.did ≡ TakeAll key) × (moved_in self.new ≡ 0) }
     {
@@ -180,6 +182,7 @@ impl<'a> Section<'a> {
         requires key { IsKeyOf self.old.keys key }
         requires first_take { self.old.did ≡ Nothing }
         ensures taken { (taken_in self.new ≡ threads_of (lock_picked start recursive (line key (waiting_in self.old)))) × (rightless_in self.new ≡ taken_in self.new) }
+        ensures wants { wants_in self.new ≡ wants_of (lock_picked start recursive (line key (waiting_in self.old))) }
         ensures lines { lines (waiting_in self.new) ≡ lines (without_lock_picked start recursive key (waiting_in self.old)) }
         ensures did { StaysIn self.old self.new × (self.new.did ≡ TakePicked key start recursive) × (moved_in self.new ≡ 0) }
     {
@@ -198,6 +201,7 @@ impl<'a> Section<'a> {
         requires first_take { self.old.did ≡ Nothing }
         ensures first { result.0 ≡ taken_by op (line from (waiting_in self.old)) }
         ensures taken { MatchOption result.0 (taken_in self.new ≡ []) (λ thread. taken_in self.new ≡ thread ∷ []) × (rightless_in self.new ≡ taken_in self.new) }
+        ensures wants { wants_in self.new ≡ wants_of (taken_in_line op (line from (waiting_in self.old))) }
         ensures moved { (result.1 ≡ length (moved_by op (line from (waiting_in self.old)))) × (moved_in self.new ≡ result.1) }
         ensures lines { lines (waiting_in self.new) ≡ lines (requeued op from to (waiting_in self.old)) }
         ensures did { StaysIn self.old self.new × (self.new.did ≡ Did.Requeue from to op) }
@@ -230,6 +234,13 @@ impl<'a> Section<'a> {
         self.queueing.taken()
     }
 
+    /// What each of them wants, in the same order. So who hands a lock over to several gives each the right that it wants.
+    pub fn wants(&self) -> &[Want]
+        ensures { result.now ≡ wants_in self.now }
+    {
+        self.queueing.wants()
+    }
+
     /// Those of whom it took that have no right yet, in order.
     pub fn rightless(&self) -> &[usize]
         ensures { result.now ≡ rightless_in self.now }
@@ -242,7 +253,7 @@ impl<'a> Section<'a> {
         requires taken { Contains (taken_in self.old) thread }
         requires right { IsRightOf self.old.lot.now.words right }
         ensures rightless { rightless_in self.new ≡ filter (λ x. not (x == thread)) (rightless_in self.old) }
-        ensures same { StaysIn self.old self.new × (self.new.did ≡ self.old.did) × (taken_in self.new ≡ taken_in self.old) × (moved_in self.new ≡ moved_in self.old) × (waiting_in self.new ≡ waiting_in self.old) }
+        ensures same { StaysIn self.old self.new × TookAs self.old self.new × (waiting_in self.new ≡ waiting_in self.old) }
     {
         self.lay(rt, thread, right);
     }
@@ -253,7 +264,7 @@ impl<'a> Section<'a> {
         requires right { IsRightOf self.old.lot.now.words right }
         ensures first { result ≡ slice_index (rightless_in self.old) 0 }
         ensures rightless { rightless_in self.new ≡ filter (λ x. not (x == result)) (rightless_in self.old) }
-        ensures same { StaysIn self.old self.new × (self.new.did ≡ self.old.did) × (taken_in self.new ≡ taken_in self.old) × (moved_in self.new ≡ moved_in self.old) × (waiting_in self.new ≡ waiting_in self.old) }
+        ensures same { StaysIn self.old self.new × TookAs self.old self.new × (waiting_in self.new ≡ waiting_in self.old) }
     {
         let thread = self.queueing.rightless()[0];
         self.lay(rt, thread, right);
@@ -263,7 +274,7 @@ impl<'a> Section<'a> {
     fn lay<R: Wait>(&mut self, rt: &R, thread: usize, right: Right)
         requires { IsRightOf self.old.lot.now.words right }
         ensures rightless { rightless_in self.new ≡ filter (λ x. not (x == thread)) (rightless_in self.old) }
-        ensures same { StaysIn self.old self.new × (self.new.did ≡ self.old.did) × (taken_in self.new ≡ taken_in self.old) × (moved_in self.new ≡ moved_in self.old) × (waiting_in self.new ≡ waiting_in self.old) }
+        ensures same { StaysIn self.old self.new × TookAs self.old self.new × (waiting_in self.new ≡ waiting_in self.old) }
     {
         self.lot.lay(rt, thread, right);
         self.queueing.note_right(thread);
@@ -286,7 +297,7 @@ impl<'a> Section<'a> {
     /// Leaves. Whom the section took gets the note and is woken, and the token keeps the record of it.
     pub fn leave<R: Wait>(self, rt: &R, token: &mut Token, note: Note)
         requires own { IsTokenOf self.lot.now token.old }
-        requires given { note ≡ HandOff → rightless_in self ≡ [] }
+        requires note { MayNote note (taken_in self) (rightless_in self) }
         ensures own { Stays self.entry.lot.now token.old token.new × (token.new.seat ≡ token.old.seat) }
         ensures recorded { last_of token.new ≡ Some (record { key = first_key self.entry.keys; did = self.entry.did; number = length (taken_in self.entry) + moved_in self.entry }) }
     {

@@ -165,6 +165,7 @@ fn a_section_takes_who_is_picked(rt: HostRuntime) -> Result<(), Fail> {
     section.append(6, 0, Want::Shared);
     section.take_picked(6, None, false);
     assert_eq!(rt; section.taken(), [2, 1].as_slice());
+    assert_eq!(rt; section.wants(), [Want::Shared, Want::Exclusive].as_slice());
     assert_eq!(rt; section.count(6), 1);
     section.leave(&rt, &mut token, Note::Normal);
     let record = Record {
