@@ -1,13 +1,17 @@
 //! Clocks, and deadlines on them.
-ghost use Rattle.std.specs.Prelude.{◌≡◌, ◌+◌, ◌≤◌, ◌^◌, MatchOption};
+ghost use Rattle.std.specs.Prelude.{◌≡◌, ℕ, ◌+◌, ◌≤◌, ◌^◌, MatchOption};
 ghost use Rattle.std.specs.Duration.{as_nanos};
 
 use std::time::Duration;
 
 /// What tells the time to a sleeper with a deadline.
 pub trait Clock {
+    /// That it told a time. Who knows no more of a clock than that it is one learns this of a look at it alone.
+    ghost tells: { Self → ℕ → Type 0 };
+
     /// Nanoseconds since some start. It doesn't go back.
-    fn now(&self) -> u64;
+    fn now(&self) -> u64
+        ensures { tells self.now result };
 
     /// Waits for a while, `left` nanoseconds at most. The sleeper looks for its wake between two pauses, so they are to be short.
     fn pause(&self, left: u64);

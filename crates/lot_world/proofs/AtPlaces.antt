@@ -16,7 +16,7 @@ use Rattle.abstract_locks.specs.Runs.{is_taken_by}
 use Rattle.abstract_locks.specs.Sites.{Line, Main, Second, Has}
 use Rattle.lot_world.specs.Machine.{State, place_at, word_at, owners_at, section_at, queue_at}
 use Rattle.lot_world.specs.Refinement.{lock_state, taken_at}
-use Rattle.lot_world.specs.Promises.{Codes}
+use Rattle.lot_world.specs.MutexPromises.{IsMutexWord}
 use Rattle.lot_world.specs.MutexDeeds.{hand, mutex_doing, mutex_station, nowhere, station, station_at, doing_on}
 use Rattle.lot_world.specs.SitesOf.{IsSteady, carried_at, hand_at, stood_in}
 use Rattle.lot_world.proofs.Counts.{without_absent, first_times}
@@ -55,7 +55,7 @@ stood places u l m h = elim (cases_lt u (length places)) [
 
 module _ (w : State) (steady : IsSteady w) where
   -- the word says whether the mutex is owned
-  pub coded : (l : ℕ) → Codes (word_at w l) (owners_at w l).exclusive
+  pub coded : (l : ℕ) → IsMutexWord (word_at w l) (owners_at w l).exclusive
   coded = coded_at w steady
 
   -- who has nobody in hand by its place

@@ -11,7 +11,7 @@ use Rattle.lot_steps.specs.declared.places.Place.{Place}
 use Rattle.lot_steps.specs.declared.places.Place.TheVariants.{Idle, Mutex}
 use Rattle.lot_steps.specs.MutexSteps.{is_locked, with_exclusive}
 use Rattle.lot_steps.specs.Steps.{owners_after}
-use Rattle.lot_world.specs.Promises.{Codes}
+use Rattle.lot_world.specs.MutexPromises.{IsMutexWord}
 
 abbrev pub lock_owner : LockAt → ℕ → ℕ → Option ℕ → Option ℕ
 lock_owner First t v o = if v == 0 then Some t else o
@@ -65,7 +65,7 @@ exclusive-owners (Mutex l (HandOff bumps at)) t v r = refl
 -- ---------------------------------------------------------------- words
 
 -- the four words of a mutex
-pub by_code : (P : ℕ → Option ℕ → Type 0) → P 0 None → P 2 None → ((u : ℕ) → P 1 (Some u)) → ((u : ℕ) → P 3 (Some u)) → (v : ℕ) (o : Option ℕ) → Codes v o → P v o
+pub by_code : (P : ℕ → Option ℕ → Type 0) → P 0 None → P 2 None → ((u : ℕ) → P 1 (Some u)) → ((u : ℕ) → P 3 (Some u)) → (v : ℕ) (o : Option ℕ) → IsMutexWord v o → P v o
 by_code P a b c d v None (inl e) = rw e a
 by_code P a b c d v None (inr e) = rw e b
 by_code P a b c d v (Some u) (inl e) = rw e (c u)

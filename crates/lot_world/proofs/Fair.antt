@@ -29,7 +29,7 @@ use Rattle.lot_steps.specs.MutexSteps.{is_locked, is_parked, lock_act, hand_off_
 use Rattle.lot_steps.specs.Steps.{act_of, spin_lock, late_key}
 use Rattle.lot_world.specs.Machine.{State, unlocked, place_at, word_at, owners_at, kind_at, queue_at, operated, appended, first_taken, performed, taken_by, spun_on, late_on, turned, is_possible, after, answered}
 use Rattle.lot_world.specs.Fits.{IsShaped, PlaceFits}
-use Rattle.lot_world.specs.Promises.{Codes}
+use Rattle.lot_world.specs.MutexPromises.{IsMutexWord}
 use Rattle.lot_world.specs.MutexDeeds.{hand, mutex_station}
 use Rattle.lot_world.specs.SitesOf.{IsSteady, CallsMutex, is_mutex}
 use Rattle.abstract_locks.specs.Sites.{Main}
@@ -237,7 +237,7 @@ module _ (w : State) (t l : ℕ) (shape : IsShaped w) (steady : IsSteady w) (own
 
 -- ---------------------------------------------------------------- steps
 
-locked_by : (v : ℕ) (o : Option ℕ) (u : ℕ) → Codes v o → o ≡ Some u → is_locked v ≡ true
+locked_by : (v : ℕ) (o : Option ℕ) (u : ℕ) → IsMutexWord v o → o ≡ Some u → is_locked v ≡ true
 locked_by v o u c e = by_code (λ v o. o ≡ Some u → is_locked v ≡ true) (λ g. absurd cc) (λ g. absurd cc) (λ x g. refl) (λ x g. refl) v o c e
 
 -- the lock that is released fairly is a mutex
@@ -271,7 +271,7 @@ is_fair w s shape steady = record {
     step : IsStep (locks_of w) s (answered w s) (locks_of (after w s))
     step = after_step w s shape steady
 
-    coded : (l : ℕ) → Codes (word_at (after w s) l) (owner_at (after w s) l)
+    coded : (l : ℕ) → IsMutexWord (word_at (after w s) l) (owner_at (after w s) l)
     coded l = words_coded (after w s) (after_steady w s shape steady) l
 
     owned : (t l : ℕ) → owner_at (after w s) l ≡ Some t → OwnsOn (after w s) t l

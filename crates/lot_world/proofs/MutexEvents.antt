@@ -29,7 +29,7 @@ use Rattle.abstract_locks.specs.Purposes.{rules_of, IsMadeOf}
 use Rattle.abstract_locks.specs.Runs.{CallState, Nothing, GoesOn, AnswerHolds, one_more_at, one_less_at}
 use Rattle.abstract_locks.specs.Sites.{Deed, Main, End, Out, Mark, Does}
 use Rattle.lot_world.specs.Machine.{State, place_at, word_at}
-use Rattle.lot_world.specs.Promises.{Codes}
+use Rattle.lot_world.specs.MutexPromises.{IsMutexWord}
 use Rattle.lot_world.specs.Refinement.{owner_at, lock_state, is_bump, entry_purpose, release_purpose, before_release, mutex_call_state, locks_of}
 use Rattle.lot_world.specs.MutexDeeds.{hand, mutex_station, acts, deeds, enters, takes, queued}
 use Rattle.lot_world.specs.SitesOf.{IsSteady, rules_at}
@@ -39,12 +39,12 @@ use Rattle.lot_world.proofs.AtPlaces.{coded, in_no_hand, owns, stands_by}
 use Rattle.lot_world.proofs.LockEvents.{put_is, own_counts, rights, Others, Gone, Got, Befalls, lock_then, ends_with_nobody, quiet, keeps_owners, enters as comes_in, leaves, hands, wakes_others, lets_nobody_go}
 
 -- the word tells whether the mutex is owned
-pub free_word : (v : ℕ) (o : Option ℕ) → Codes v o → is_locked v ≡ false → o ≡ None
+pub free_word : (v : ℕ) (o : Option ℕ) → IsMutexWord v o → is_locked v ≡ false → o ≡ None
 free_word v None c h = refl
 free_word v (Some u) (inl e) h = let g : is_locked 1 ≡ false = rw e at h in absurd cc
 free_word v (Some u) (inr e) h = let g : is_locked 3 ≡ false = rw e at h in absurd cc
 
-pub owned_word : (v : ℕ) (o : Option ℕ) → Codes v o → is_locked v ≡ true → o ≡ None → ⊥
+pub owned_word : (v : ℕ) (o : Option ℕ) → IsMutexWord v o → is_locked v ≡ true → o ≡ None → ⊥
 owned_word v None (inl e) h f = let g : is_locked 0 ≡ true = rw e at h in cc
 owned_word v None (inr e) h f = let g : is_locked 2 ≡ true = rw e at h in cc
 owned_word v (Some u) c h f = cc

@@ -50,7 +50,9 @@ use Rattle.abstract_locks.specs.Locks.{Rights}
 use Rattle.abstract_locks.specs.Purposes.{IsReleasing}
 use Rattle.lot_world.specs.Owing.{Owes, IsInside, SeesWaiters, OwesSince}
 use Rattle.lot_world.specs.Fits.{IsShaped}
-use Rattle.lot_world.specs.Promises.{Codes, IsKept, GoesToWake}
+use Rattle.abstract_locks.specs.Sites.{Main}
+use Rattle.lot_world.specs.MutexPromises.{IsMutexWord}
+use Rattle.lot_world.specs.Promises.{IsKept, GoesToWake}
 use Rattle.lot_world.specs.SitesOf.{IsSteady}
 use Rattle.lot_world.proofs.Shape.{both, performed_counts}
 use Rattle.lot_world.proofs.TurnsKept.{idle_is}
@@ -204,9 +206,9 @@ same_lock k l e = rw e (same l)
 module _ (w : State) (t : ℕ) (steady : IsSteady w) where
   -- the word of an owner that isn't 1 says that somebody may wait
   beside_owner : (k : ℕ) → owner_at w k ≡ Some t → (word_at w k == 1) ≡ false → is_parked (word_at w k) ≡ true
-  beside_owner k own ne = by_code (subst (λ o. Codes (word_at w k) o) own (coded w steady k))
+  beside_owner k own ne = by_code (subst (λ o. IsMutexWord (word_at w k) o) own (coded w steady k))
     where
-      by_code : Codes (word_at w k) (Some t) → is_parked (word_at w k) ≡ true
+      by_code : IsMutexWord (word_at w k) (Some t) → is_parked (word_at w k) ≡ true
       by_code (inl e) = let f : (1 == 1) ≡ false = rw e at ne in absurd cc
       by_code (inr e) = rw e refl
 
@@ -305,10 +307,10 @@ module _ (w : State) (t : ℕ) (steady : IsSteady w) where
 
 module _ (w v : State) (t : ℕ) (there : t < length w.places) where
   -- where no turn of a release is taken
-  quietly : (l : ℕ) (o : Outcome) → IsKept v → (GoesToWake v t l → ⊥) → (SeesWaiters w t l o → ⊥) → Owes v t l ↔ (IsInside v t l ⊎ SeesWaiters w t l o)
+  quietly : (l : ℕ) (o : Outcome) → IsKept v → (GoesToWake v t l Main → ⊥) → (SeesWaiters w t l o → ⊥) → Owes v t l ↔ (IsInside v t l ⊎ SeesWaiters w t l o)
   quietly l o kept none unseen = (
-    λ h. elim ((kept.owing t l).0 h) [ inl i ↦ inl i | inr g ↦ absurd (none g) ],
-    λ h. elim h [ inl i ↦ (kept.owing t l).1 (inl i) | inr s ↦ absurd (unseen s) ],
+    λ h. elim ((kept.owing t l Main).0 h) [ inl i ↦ inl i | inr g ↦ absurd (none g) ],
+    λ h. elim h [ inl i ↦ (kept.owing t l Main).1 (inl i) | inr s ↦ absurd (unseen s) ],
   )
 
 -- who enters a lock isn't about to wake, nor has it seen waiters
@@ -321,12 +323,12 @@ module _ (w : State) (t : ℕ) (shape : IsShaped w) (steady : IsSteady w) (there
 
   go_owes : (l : ℕ) → IsKept (gone w t) → Owes (gone w t) t l ↔ (IsInside (gone w t) t l ⊎ SeesWaiters w t l (go_outcome w t))
   go_owes l kept = (
-    λ h. elim ((kept.owing t l).0 h) [
+    λ h. elim ((kept.owing t l Main).0 h) [
       | inl i ↦ inl i
       | inr g ↦ inr (goes_to_wake w t steady (rights_at (gone w t) t) l (place_at w t) refl (subst (λ p. ToWake p (rights_at (gone w t) t) l) go_place g))
     ],
     λ h. elim h [
-      | inl i ↦ (kept.owing t l).1 (inl i)
+      | inl i ↦ (kept.owing t l Main).1 (inl i)
       | inr s ↦ ap (λ p. owes_on p l) go_place ∙ saw w t steady l (place_at w t) s.0 s.1 s.2
     ],
   )

@@ -266,7 +266,7 @@ turner_there w t x may = elim (cases_lt t (length w.places)) [
 -- ---------------------------------------------------------------- sections
 
 -- an act enters or leaves the main section of one lock alone, and leaves it only from inside
-abbrev OnMain : State → ℕ → ℕ → Act → Type 0
+abbrev pub OnMain : State → ℕ → ℕ → Act → Type 0
 OnMain w t l (Enter (One key)) = key ≡ 2 * l
 OnMain w t l (Enter (Two first second)) = ⊥
 OnMain w t l (act.Leave (One key) x) = (key ≡ 2 * l) × (section_at w (2 * l) ≡ Some t)
@@ -282,7 +282,7 @@ module _ (w : State) (t : ℕ) (steady : IsSteady w) where
   held : (at : MutexPlace) (l : ℕ) → place_at w t ≡ Mutex l at → (mutex_doing at).inside ≡ Some Main → (2 * l ≡ 2 * l) × (section_at w (2 * l) ≡ Some t)
   held at l is within = (refl, holds_section w steady t l at is within)
 
-  on_main : (l : ℕ) (at : MutexPlace) → place_at w t ≡ Mutex l at → OnMain w t l (mutex_act l at)
+  pub on_main : (l : ℕ) (at : MutexPlace) → place_at w t ≡ Mutex l at → OnMain w t l (mutex_act l at)
   on_main l (Lock e r lock.First) is = tt
   on_main l (Lock e r (lock.Decide s)) is = decides_main w t l s (is_locked s) (s == 1)
   on_main l (Lock e r (lock.Leave b)) is = held _ l is refl

@@ -39,10 +39,10 @@ use Rattle.lot_calls.specs.Calls.{lock_in}
 use Rattle.lot_steps.specs.Steps.{act_of, next_place, next_act, mutex_goes, mutex_does, lock_of, first_place}
 use Rattle.lot_world.specs.Machine.{State, place_at, word_at, kind_at, queue_at, section_at, go_of, after, solo, heir_from, is_there}
 use Rattle.lot_world.specs.Fits.{IsShaped, PlaceFits}
-use Rattle.lot_world.specs.Promises.{Codes}
+use Rattle.lot_world.specs.MutexPromises.{IsMutexWord}
 use Rattle.abstract_locks.specs.Sites.{Main, Site}
 use Rattle.lot_world.specs.MutexDeeds.{station, station_at, Station, hand, acts, takes, queued}
-use Rattle.lot_world.specs.SitesOf.{IsSteady, CallsMutex, is_mutex, stood_in, Goes, hand_at}
+use Rattle.lot_world.specs.SitesOf.{IsSteady, CallsMutex, is_mutex, Goes, hand_at}
 use Rattle.lot_world.proofs.ExclusiveOwners.{by_code, owner_after}
 use Rattle.abstract_locks.specs.Locks.{Rules, MayEnter, IsBlocked, first_thread}
 use Rattle.abstract_locks.specs.Purposes.{Releases, Bumps, Patience, Patient, Timed, Try, mutex_purpose}
@@ -89,21 +89,21 @@ module _ (t l : ℕ) (entry : Entry) (q : List Waiter) where
   decide_full retries u w f = let h = enter_faces w t l _ 3 (Some u) None q f refl refl in leads_step w t (LockEnds t l entry (Some u) q) 2 h.0 (check_full retries u _ h.1)
 
   -- it decides by the word as it is
-  decide_leads : (retries : Bool) (v : ℕ) (o : Option ℕ) → Codes v o → (w : State) → Facing w t l (Mutex l (Lock entry retries (Decide v))) v o None q → Leads 4 w t (LockEnds t l entry o q)
+  decide_leads : (retries : Bool) (v : ℕ) (o : Option ℕ) → IsMutexWord v o → (w : State) → Facing w t l (Mutex l (Lock entry retries (Decide v))) v o None q → Leads 4 w t (LockEnds t l entry o q)
   decide_leads retries = by_code (λ v o. (w : State) → Facing w t l (Mutex l (Lock entry retries (Decide v))) v o None q → Leads 4 w t (LockEnds t l entry o q))
       (λ w f. let h = word_faces w t l _ 0 None None q f (op.TheVariants.Exchange 0 1) refl in leads_more 1 4 w t (LockEnds t l entry None q) (omega arith) (leads_rest w t (LockEnds t l entry None q) (outcome.TheVariants.End (entered entry)) h.0 tt (refl, h.1.owner)))
       (λ w f. let h = word_faces w t l _ 2 None None q f (op.TheVariants.Exchange 2 3) refl in leads_more 1 4 w t (LockEnds t l entry None q) (omega arith) (leads_rest w t (LockEnds t l entry None q) (outcome.TheVariants.End (entered entry)) h.0 tt (refl, h.1.owner)))
       (λ u w f. let h = word_faces w t l _ 1 (Some u) None q f (op.TheVariants.Exchange 1 3) refl in leads_step w t (LockEnds t l entry (Some u) q) 3 h.0 (decide_full retries u _ h.1))
       (λ u w f. leads_more 3 4 w t (LockEnds t l entry (Some u) q) (omega arith) (decide_full retries u w f))
 
-  coded : (w : State) (p : Place) (v : ℕ) (o s : Option ℕ) → Facing w t l p v o s q → Codes v o
-  coded w p v o s f = let c : Codes (word_at w l) (owner_at w l) = words_coded w f.steady l in rw (f.word, f.owner) at c
+  coded : (w : State) (p : Place) (v : ℕ) (o s : Option ℕ) → Facing w t l p v o s q → IsMutexWord v o
+  coded w p v o s f = let c : IsMutexWord (word_at w l) (owner_at w l) = words_coded w f.steady l in rw (f.word, f.owner) at c
 
   load_leads : (retries : Bool) (v : ℕ) (o : Option ℕ) (w : State) → Facing w t l (Mutex l (Lock entry retries Load)) v o None q → Leads 5 w t (LockEnds t l entry o q)
   load_leads retries v o w f = let h = word_faces w t l (Mutex l (Lock entry retries Load)) v o None q f op.TheVariants.Load refl in
       leads_step w t (LockEnds t l entry o q) 4 (h.0 ∙ decides l v) (decide_leads retries v o (coded w _ v o None f) _ h.1)
 
-  first_leads : (retries : Bool) (v : ℕ) (o : Option ℕ) → Codes v o → (w : State) → Facing w t l (Mutex l (Lock entry retries First)) v o None q → Leads 6 w t (LockEnds t l entry o q)
+  first_leads : (retries : Bool) (v : ℕ) (o : Option ℕ) → IsMutexWord v o → (w : State) → Facing w t l (Mutex l (Lock entry retries First)) v o None q → Leads 6 w t (LockEnds t l entry o q)
   first_leads retries = by_code (λ v o. (w : State) → Facing w t l (Mutex l (Lock entry retries First)) v o None q → Leads 6 w t (LockEnds t l entry o q))
       (λ w f. let h = word_faces w t l _ 0 None None q f (op.TheVariants.Exchange 0 1) refl in leads_more 1 6 w t (LockEnds t l entry None q) (omega arith) (leads_rest w t (LockEnds t l entry None q) (outcome.TheVariants.End (entered entry)) h.0 tt (refl, h.1.owner)))
       (λ w f. let h = word_faces w t l _ 2 None None q f (op.TheVariants.Exchange 0 1) refl in leads_step w t (LockEnds t l entry None q) 5 h.0 (load_leads retries 2 None _ h.1))
@@ -272,7 +272,7 @@ none_waits t l p v o s (x ∷ q) w f below = absurd (
     let clear : is_parked v ≡ false = unparked_below v below in cc
     )
 
-unparked : (v : ℕ) (o : Option ℕ) → Codes v o → is_parked v ≡ false → v < 2
+unparked : (v : ℕ) (o : Option ℕ) → IsMutexWord v o → is_parked v ≡ false → v < 2
 unparked v o c h = by_code (λ v o. is_parked v ≡ false → v < 2) (λ h. omega arith) (λ h. absurd cc) (λ u h. omega arith) (λ u h. absurd cc) v o c h
 
 module _ (t l : ℕ) where

@@ -22,6 +22,11 @@ IsLate _ _ Woken = ⊥
 IsLate _ _ (Handed _) = ⊥
 IsLate lot thread (Late section key) = (section.lot.now ≡ lot) × (section.keys ≡ One key) × IsUntouched section × (key_of thread (waiting_in section) ≡ Some key)
 
+abbrev pub WasLate : Slept → Type 0
+WasLate Woken = ⊥
+WasLate (Handed _) = ⊥
+WasLate (Late _ _) = Unit {0}
+
 abbrev pub IsSlept : ParkingLot → ℕ → Word → Want → Slept → Type 0
 IsSlept _ _ _ _ Woken = Unit {0}
 IsSlept lot _ word wanted (Handed right) = IsWoken lot word wanted (Handed right)

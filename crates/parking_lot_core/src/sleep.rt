@@ -1,5 +1,5 @@
 //! Sleep, until somebody wakes the thread or its time is up.
-ghost use Rattle.std.specs.Prelude.{◌≡◌, ◌<◌, IfSome, None};
+ghost use Rattle.std.specs.Prelude.{◌≡◌, ℕ, ◌<◌, ◌≤◌, IfSome, MatchOption, None};
 
 use crate::lot::ParkingLot;
 use crate::sections::Section;
@@ -20,7 +20,7 @@ pub enum Slept<'a> {
 
 impl ParkingLot {
     ghost use Rattle.parking_lot_core.specs.Tokens.{IsTokenOf, Stays};
-    ghost use Rattle.parking_lot_core.specs.Sleeps.{IsWoken, IsLate, IsSlept};
+    ghost use Rattle.parking_lot_core.specs.Sleeps.{IsWoken, IsLate, IsSlept, WasLate};
 
     // What the thread was told, if anything. The right is looked at only once there is a note: whoever gives a right
     // writes the note after it, and a note that came later would wake the next sleep.
@@ -76,6 +76,7 @@ impl ParkingLot {
         ensures same { token.new ≡ token.old }
         ensures slept { IsSlept self.now token.old.number word want result }
         ensures unlimited { limit.entry ≡ None → IsWoken self.now word want result }
+        ensures late { WasLate result → (time : ℕ) × MatchOption limit.entry ⊥ (λ limit. C.tells limit.0.now time × (limit.1 ≤ time)) }
     {
         let mut limit = limit;
         for _ in rt.forever() {
