@@ -18,14 +18,19 @@ packed c w u a p = 16 * c + 8 * w + 4 * u + 2 * a + p
 abbrev pub writers : LockState → ℕ
 writers s = one_if_some s.exclusive + one_if_some s.pending
 
+-- the word of a lock, by its owners and its two parked bits
+abbrev pub word_by : Sort → ℕ → LockState → (aside parked : Bool) → ℕ
+word_by Mutex limit s aside parked = one_if_some s.exclusive + 2 * bit parked
+word_by Normal limit s aside parked = packed (count s) (writers s) (one_if_some s.upgradable) (bit aside) (bit parked)
+word_by Recursive limit s aside parked =
+    packed (count s) (writers s) (one_if_some s.upgradable) (bit aside) (bit parked)
+word_by Semaphore limit s aside parked = 2 * (limit - readers s) + bit parked
+
 abbrev pub rw_code : Site → ℕ
 rw_code s = packed (count s.lock) (writers s.lock) (one_if_some s.lock.upgradable) (bit s.aside_parked) (bit s.parked)
 
 abbrev pub code_of : Sort → ℕ → Site → ℕ
-code_of Mutex limit s = one_if_some s.lock.exclusive + 2 * bit s.parked
-code_of Normal limit s = rw_code s
-code_of Recursive limit s = rw_code s
-code_of Semaphore limit s = 2 * (limit - readers s.lock) + bit s.parked
+code_of sort limit s = word_by sort limit s.lock s.aside_parked s.parked
 
 abbrev pub code : Rules → Site → ℕ
 code r s = code_of r.sort r.limit s
@@ -72,7 +77,8 @@ pub record TellsTrue (r : Rules) (s : Site) : Type 0 where
   pub count : count_in (code r s) ≡ count s.lock
   pub parked : has_parked (code r s) ≡ s.parked
   pub aside : has_aside (code r s) ≡ s.aside_parked
-  pub blocked : (x : Want) → Knows r.sort x → is_blocked (is_recursive r.sort) x (code r s) ≡ true → IsBlocked r s.lock x
+  pub blocked : (x : Want) → Knows r.sort x → is_blocked (is_recursive r.sort) x (code r s) ≡ true
+      → IsBlocked r s.lock x
   pub free : (x : Want) → Knows r.sort x → is_blocked (is_recursive r.sort) x (code r s) ≡ false → IsFree r s.lock x
   pub nobody : code r s ≡ 0 → NoWriter s.lock × (readers s.lock ≡ 0)
 
@@ -110,7 +116,9 @@ IsHandOff case = ⊥
 
 -- every case but a hand-off changes the word so; bits stay
 abbrev pub WordFollows : Type 0
-WordFollows = (r : Rules) (case : LockCase) (s : Site) (t : ℕ) → has_readers r.sort ≡ true → t < length s.lock.shared → IsSite r s → Needed r (Does case) s t → (IsHandOff case → ⊥)
+WordFollows =
+    (r : Rules) (case : LockCase) (s : Site) (t : ℕ) → has_readers r.sort ≡ true → t < length s.lock.shared → IsSite r s
+    → Needed r (Does case) s t → (IsHandOff case → ⊥)
     → code r (after r (Does case) s t) + lost s.lock.pending case ≡ code r s + rolled s.lock.pending case
 
 abbrev pub WordsTellTrue : Type 0
@@ -126,4 +134,7 @@ pub record HasLimit (r : Rules) (s : LockState) : Type 0 where
   pub falls_normal : (p : Pending) → s.pending ≡ Some p → p.falls_back ≡ true → r.sort ≡ Normal → count s + 1 ≤ r.limit
 
 abbrev pub LimitKept : Type 0
-LimitKept = (r : Rules) (case : LockCase) (s : LockState) (t : ℕ) → has_readers r.sort ≡ true → t < length s.shared → 1 ≤ r.limit → IsLockState r s → HasLimit r s → Needs r case s t → (IsHandOff case → ⊥) → HasLimit r (locks.after r case s t)
+LimitKept =
+    (r : Rules) (case : LockCase) (s : LockState) (t : ℕ) → has_readers r.sort ≡ true → t < length s.shared
+    → 1 ≤ r.limit → IsLockState r s → HasLimit r s → Needs r case s t → (IsHandOff case → ⊥)
+    → HasLimit r (locks.after r case s t)

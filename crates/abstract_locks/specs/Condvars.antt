@@ -161,7 +161,9 @@ CondvarNeeded LeaveList c t = IsInsideAt c t Rests × (1 ≤ times t c.waiters)
 CondvarNeeded Clear c t = IsInsideAt c t Clears
 
 abbrev pub EachCondvarDeedKeeps : Type 0
-EachCondvarDeedKeeps = (deed : CondvarDeed) (c : CondvarSite) (t : ℕ) → IsCondvar c → CondvarNeeded deed c t → IsCondvar (condvar_leads deed c t)
+EachCondvarDeedKeeps =
+    (deed : CondvarDeed) (c : CondvarSite) (t : ℕ) → IsCondvar c → CondvarNeeded deed c t
+    → IsCondvar (condvar_leads deed c t)
 
 -- ---------------------------------------------------------------- with the mutex
 
@@ -186,7 +188,8 @@ moving all m = if all then Takes m else Sees m
 
 -- who waits stands nowhere at its mutex, and doesn't try it again
 abbrev pub WaitsAside : CondvarSite → Site → ℕ → Type 0
-WaitsAside c s m = (u : ℕ) → 1 ≤ times u c.waiters → c.waits_with u ≡ Some m → (standing u s.lock ≡ 0) × ((s.doing u).retries ≡ None)
+WaitsAside c s m =
+    (u : ℕ) → 1 ≤ times u c.waiters → c.waits_with u ≡ Some m → (standing u s.lock ≡ 0) × ((s.doing u).retries ≡ None)
 
 -- a notification moves somebody, each waits with the mutex that is shown, and that mutex may be brought them
 pub record MoveFits (r : Rules) (all locked : Bool) (c : CondvarSite) (s : Site) (t m : ℕ) : Type 0 where
@@ -195,6 +198,9 @@ pub record MoveFits (r : Rules) (all locked : Bool) (c : CondvarSite) (s : Site)
   pub may : Needed r (Bring (taken_of locked (moved_of all c.waiters)) (line_of locked (moved_of all c.waiters))) s t
 
 abbrev pub EachMoveFits : Type 0
-EachMoveFits = (r : Rules) (all locked : Bool) (c : CondvarSite) (s : Site) (t m : ℕ) → r.sort ≡ Mutex → IsCondvar c → WaitsAside c s m → IsInsideAt c t (moving all m)
-    → (s.doing t).inside ≡ Some Main → (s.doing t).carries ≡ false → (s.doing t).wakes ≡ None → (s.doing t).retries ≡ None → (locked ≡ true → (s.doing t).brings ≡ true)
+EachMoveFits =
+    (r : Rules) (all locked : Bool) (c : CondvarSite) (s : Site) (t m : ℕ) → r.sort ≡ Mutex → IsCondvar c
+    → WaitsAside c s m → IsInsideAt c t (moving all m)
+    → (s.doing t).inside ≡ Some Main → (s.doing t).carries ≡ false → (s.doing t).wakes ≡ None
+    → (s.doing t).retries ≡ None → (locked ≡ true → (s.doing t).brings ≡ true)
     → MoveFits r all locked c s t m

@@ -237,7 +237,8 @@ front_of start q = if keeps_more start then ahead_of_unshared q else 1 + ahead_o
 
 -- before the stop: those at the front, and behind them whoever wants to share
 abbrev pub picked : Sort → Option Want → List Queued → List Queued
-picked sort start q = take (front_of start q) (before_stop sort start q) ++ sharers (drop (front_of start q) (before_stop sort start q))
+picked sort start q =
+    take (front_of start q) (before_stop sort start q) ++ sharers (drop (front_of start q) (before_stop sort start q))
 
 -- and who is left, in order
 abbrev pub unpicked : Sort → Option Want → List Queued → List Queued
@@ -350,7 +351,8 @@ MayConvert right wanted = ⊥
 
 -- the successor is the one whom t has taken and who wants more than to share
 abbrev pub IsSuccessor : LockState → ℕ → Option Queued → Type 0
-IsSuccessor s t successor = (u : ℕ) (x : Want) → (successor ≡ Some (record { thread = u; want = x })) ↔ (IsTaken s t u x × (x ≢ Shared))
+IsSuccessor s t successor =
+    (u : ℕ) (x : Want) → (successor ≡ Some (record { thread = u; want = x })) ↔ (IsTaken s t u x × (x ≢ Shared))
 
 -- after the upgradable right was handed on, the limit holds
 abbrev pub HandOffFits : Rules → Want → LockState → Type 0
@@ -371,11 +373,13 @@ Needs r (Leave right) s t = Owns s t right
 Needs r (Convert right want) s t = Owns s t right × MayConvert right want × Knows r.sort want
 Needs r (Park want) s t = IsBlocked r s want × (standing t s ≡ 0)
 Needs r Aside s t = IsSomePending s.pending t × (1 ≤ readers s) × (standing t s ≡ 0)
-Needs r (TakeFirst x) s t = ((rest : List Queued) × (s.queue ≡ x ∷ rest)) × HasTakenNobody s t × (Knows r.sort Upgradable → ⊥)
+Needs r (TakeFirst x) s t =
+    ((rest : List Queued) × (s.queue ≡ x ∷ rest)) × HasTakenNobody s t × (Knows r.sort Upgradable → ⊥)
 Needs r (TakeAside u) s t = (s.aside ≡ Some u) × HasTakenNobody s t
 Needs r (TakePicked start) s t = HasTakenNobody s t × Knows r.sort Upgradable
 Needs r Wake s t = Unit {0}
-Needs r (HandOff right successor) s t = Owns s t right × (right ≢ Shared) × IsSuccessor s t successor × HandOffFits r right (handed t right successor s)
+Needs r (HandOff right successor) s t =
+    Owns s t right × (right ≢ Shared) × IsSuccessor s t successor × HandOffFits r right (handed t right successor s)
 Needs r Late s t = 1 ≤ times t s.queue + is_thread t s.aside
 Needs r Rollback s t = IsSomePending s.pending t × (s.aside ≡ None)
 
@@ -389,8 +393,10 @@ after r (Convert right want) s t = converted t want (leaving t right s)
 after r (Park want) s t = record s { queue = s.queue ++ (record { thread = t; want = want }) ∷ [] }
 after r Aside s t = record s { aside = Some t }
 after r (TakeFirst x) s t = record s { queue = drop 1 s.queue; taken = taking t (x ∷ []) s.taken }
-after r (TakeAside u) s t = record s { aside = None; taken = put s.taken u (Some (record { by = t; want = Exclusive })) }
-after r (TakePicked start) s t = record s { queue = unpicked r.sort start s.queue; taken = taking t (picked r.sort start s.queue) s.taken }
+after r (TakeAside u) s t =
+    record s { aside = None; taken = put s.taken u (Some (record { by = t; want = Exclusive })) }
+after r (TakePicked start) s t =
+    record s { queue = unpicked r.sort start s.queue; taken = taking t (picked r.sort start s.queue) s.taken }
 after r Wake s t = record s { taken = let_go t s.taken }
 after r (HandOff right successor) s t = handed t right successor s
 after r Late s t = record s { queue = without t s.queue; aside = aside_without t s.aside }

@@ -129,7 +129,9 @@ go_move p Loads v well last = looked p v
 go_move p (Starts seen) v well last = if v == seen then goes (Acts (Start p.forced) ∷ []) Closure else looked p v
 go_move p (Marks seen) v well last = if v == seen then goes (Sets ∷ []) Enters else looked p v
 go_move p Enters v well last = goes (GoesIn ∷ []) Checks
-go_move p Checks v well last = if still_waits p v then goes (Acts (Rest (want_of p) p.forced) ∷ []) (Leaves true) else goes [] (Leaves false)
+go_move p Checks v well last =
+    if still_waits p v then goes (Acts (Rest (want_of p) p.forced) ∷ []) (Leaves true)
+    else goes [] (Leaves false)
 go_move p (Leaves parked) v well last = goes (GoesOut ∷ []) (if parked then Asleep else Loads)
 go_move p Asleep v well last = goes (GoesIn ∷ []) Removes
 go_move p Removes v well last = goes (Acts Late ∷ []) (if last then ClearsBit else GivesUp)
@@ -138,7 +140,8 @@ go_move p GivesUp v well last = record { deeds = GoesOut ∷ Ends ∷ []; next =
 go_move p Closure v well last = ended well v
 go_move p (WakesIn ran) v well last = goes (GoesIn ∷ []) (WakesTake ran)
 go_move p (WakesTake ran) v well last = goes (Acts TakeAll ∷ []) (WakesLeave ran)
-go_move p (WakesLeave ran) v well last = record { deeds = GoesOut ∷ Ends ∷ []; next = EndsWith (if ran then Ok else Failed) }
+go_move p (WakesLeave ran) v well last =
+    record { deeds = GoesOut ∷ Ends ∷ []; next = EndsWith (if ran then Ok else Failed) }
 
 abbrev pub all_deeds : List OnceDeed → OnceSite → ℕ → OnceSite
 all_deeds [] s t = s
@@ -173,12 +176,17 @@ pub record IsAtPlace (s : OnceSite) (t : ℕ) (p : Place) : Type 0 where
   pub free : (p.at ≡ Enters) → (u : ℕ) → (s.doing u).inside ≢ Some Main
   pub free_late : (p.at ≡ Asleep) → (u : ℕ) → (s.doing u).inside ≢ Some Main
   pub free_wakes : (well : Bool) → (p.at ≡ WakesIn well) → (u : ℕ) → (s.doing u).inside ≢ Some Main
-  pub seen : (v : ℕ) → p.at ≡ Starts v → (is_done v ≡ false) × ((is_poisoned v && not p.purpose.forced) ≡ false) × (is_running v ≡ false)
+  pub seen : (v : ℕ) → p.at ≡ Starts v
+      → (is_done v ≡ false) × ((is_poisoned v && not p.purpose.forced) ≡ false) × (is_running v ≡ false)
 
 abbrev pub OnceStepsFollow : Type 0
-OnceStepsFollow = (s : OnceSite) (t : ℕ) (p : Place) (well : Bool) → IsAtPlace s t p → OnceFollows s t p (go_move p.purpose p.at (once_code s) well (is_empty (without t s.once.waiters)))
+OnceStepsFollow =
+    (s : OnceSite) (t : ℕ) (p : Place) (well : Bool) → IsAtPlace s t p
+    → OnceFollows s t p (go_move p.purpose p.at (once_code s) well (is_empty (without t s.once.waiters)))
 
 -- and the word behind each deed that changes it
 abbrev pub OnceWordFollows : Type 0
-OnceWordFollows = (s : OnceSite) (t : ℕ) (forced : Bool) → (once_code (once_leads (Acts (Start forced)) s t) ≡ 8 * (once_code s / 8) + 4)
+OnceWordFollows =
+    (s : OnceSite) (t : ℕ) (forced : Bool)
+    → (once_code (once_leads (Acts (Start forced)) s t) ≡ 8 * (once_code s / 8) + 4)
     × (once_code (once_leads (Acts Finish) s t) ≡ 1) × (once_code (once_leads (Acts Fail) s t) ≡ 2)

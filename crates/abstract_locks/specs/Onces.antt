@@ -151,13 +151,16 @@ abbrev pub OnceNeeds : OnceCase → OnceSite → ℕ → Doing → Type 0
 OnceNeeds (Start forced) s t d = MayStart s.once.phase forced
 OnceNeeds Finish s t d = (s.once.phase ≡ InProgress t) × (d.wakes ≡ None)
 OnceNeeds Fail s t d = (s.once.phase ≡ InProgress t) × (d.wakes ≡ None)
-OnceNeeds (Rest want forced) s t d = MayRest want forced s.once.phase × (rested t s.once ≡ 0) × (d.inside ≡ Some Main) × (s.parked ≡ true) × (d.wakes ≡ None)
+OnceNeeds (Rest want forced) s t d =
+    MayRest want forced s.once.phase × (rested t s.once ≡ 0) × (d.inside ≡ Some Main) × (s.parked ≡ true)
+    × (d.wakes ≡ None)
 OnceNeeds TakeAll s t d = (d.inside ≡ Some Main) × Wakes d
 OnceNeeds Late s t d = (1 ≤ times t s.once.waiters) × (d.inside ≡ Some Main)
 
 abbrev pub OnceNeeded : OnceDeed → OnceSite → ℕ → Type 0
 OnceNeeded Ends s t = ((s.doing t).inside ≡ None) × ((s.doing t).wakes ≡ None)
-OnceNeeded GoesIn s t = ((u : ℕ) → (s.doing u).inside ≢ Some Main) × ((s.doing t).inside ≡ None) × ((s.doing t).empty ≡ None)
+OnceNeeded GoesIn s t =
+    ((u : ℕ) → (s.doing u).inside ≢ Some Main) × ((s.doing t).inside ≡ None) × ((s.doing t).empty ≡ None)
 OnceNeeded GoesOut s t = ((s.doing t).inside ≢ None) × ((s.doing t).wakes ≡ None)
 OnceNeeded Sets s t = Unit {0}
 OnceNeeded Clears s t = (s.doing t).empty ≡ Some Main
@@ -166,7 +169,8 @@ OnceNeeded (Acts case) s t = OnceNeeds case s t (s.doing t)
 -- ---------------------------------------------------------------- the laws
 
 abbrev pub EachOnceDeedKeeps : Type 0
-EachOnceDeedKeeps = (deed : OnceDeed) (s : OnceSite) (t : ℕ) → IsOnce s → OnceNeeded deed s t → IsOnce (once_leads deed s t)
+EachOnceDeedKeeps =
+    (deed : OnceDeed) (s : OnceSite) (t : ℕ) → IsOnce s → OnceNeeded deed s t → IsOnce (once_leads deed s t)
 
 -- the word: 1 where done, 2 where poisoned, 4 where somebody runs it, and 8 for the bit
 abbrev pub phase_code : Phase → ℕ
@@ -180,4 +184,6 @@ once_code s = 8 * bit s.parked + phase_code s.once.phase
 
 -- nothing leaves Done
 abbrev pub NothingLeavesDone : Type 0
-NothingLeavesDone = (deed : OnceDeed) (s : OnceSite) (t : ℕ) → OnceNeeded deed s t → s.once.phase ≡ Done → (once_leads deed s t).once.phase ≡ Done
+NothingLeavesDone =
+    (deed : OnceDeed) (s : OnceSite) (t : ℕ) → OnceNeeded deed s t → s.once.phase ≡ Done
+    → (once_leads deed s t).once.phase ≡ Done

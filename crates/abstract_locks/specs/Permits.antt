@@ -29,7 +29,9 @@ pub record HasPermits (r : Rules) (s : Site) : Type 0 where
   pub known : (u : ℕ) → 1 ≤ standing u s.lock → u < length s.lock.shared
 
 abbrev pub EachDeedKeepsPermits : Type 0
-EachDeedKeepsPermits = (r : Rules) (deed : Deed) (s : Site) (t : ℕ) → r.sort ≡ Semaphore → t < length s.lock.shared → IsSite r s → HasPermits r s → Needed r deed s t → HasPermits r (after r deed s t)
+EachDeedKeepsPermits =
+    (r : Rules) (deed : Deed) (s : Site) (t : ℕ) → r.sort ≡ Semaphore → t < length s.lock.shared → IsSite r s
+    → HasPermits r s → Needed r deed s t → HasPermits r (after r deed s t)
 
 -- so whoever waits while a permit is free is looked after
 abbrev pub PermitsAreLookedAfter : Type 0

@@ -17,12 +17,16 @@ queue_under key waiters = map queued_of (line key waiters)
 -- what a thread that keeps a right of its own, or none, picks of the line of a key
 pub record PicksAsTheLockSays (sort : Sort) (start : Option Want) (key : ℕ) (waiters : List Waiter) : Type 0 where
   -- it takes just those whom the lock says, in order
-  pub taken : map queued_of (lock_picked start (is_recursive sort) (line key waiters)) ≡ picked sort start (queue_under key waiters)
+  pub taken : map queued_of (lock_picked start (is_recursive sort) (line key waiters))
+      ≡ picked sort start (queue_under key waiters)
   -- it leaves just the others, in order
-  pub left : queue_under key (without_lock_picked start (is_recursive sort) key waiters) ≡ unpicked sort start (queue_under key waiters)
+  pub left : queue_under key (without_lock_picked start (is_recursive sort) key waiters)
+      ≡ unpicked sort start (queue_under key waiters)
   -- and every other line stays as it was
-  pub elsewhere : (k : ℕ) → k ≢ key → line k (without_lock_picked start (is_recursive sort) key waiters) ≡ line k waiters
+  pub elsewhere : (k : ℕ) → k ≢ key
+      → line k (without_lock_picked start (is_recursive sort) key waiters) ≡ line k waiters
 
 -- whatever it keeps, and whoever waits for whatever; a thread may stand there twice
 abbrev pub PickersPickAsTheLocksSay : Type 0
-PickersPickAsTheLocksSay = (sort : Sort) (start : Option Want) (key : ℕ) (waiters : List Waiter) → PicksAsTheLockSays sort start key waiters
+PickersPickAsTheLocksSay =
+    (sort : Sort) (start : Option Want) (key : ℕ) (waiters : List Waiter) → PicksAsTheLockSays sort start key waiters

@@ -89,7 +89,8 @@ ConvertsBy x y p gave_up Settle = y ≡ Exclusive
 ConvertsBy x y p gave_up Aside = y ≡ Exclusive
 ConvertsBy x y p gave_up Late = (p ≡ Timed) × (gave_up ≡ None)
 ConvertsBy x y p gave_up Rollback = gave_up ≢ None
-ConvertsBy x y p gave_up (TakePicked start) = ((y ≢ Exclusive) × (start ≡ Some y)) ⊎ ((gave_up ≢ None) × (start ≡ Some x))
+ConvertsBy x y p gave_up (TakePicked start) =
+    ((y ≢ Exclusive) × (start ≡ Some y)) ⊎ ((gave_up ≢ None) × (start ≡ Some x))
 ConvertsBy x y p gave_up Wake = (y ≢ Exclusive) ⊎ (gave_up ≢ None)
 ConvertsBy x y p gave_up case = ⊥
 
@@ -109,4 +110,5 @@ abbrev pub IsMadeOf : Purpose → Option ℕ → Bool → ℕ → LockCase → T
 IsMadeOf (Enters l x p) gave_up released k case = (k ≡ l) × EntersBy x p gave_up case
 IsMadeOf (Releases l x fair) gave_up released k case = (k ≡ l) × ReleasesBy x fair case
 IsMadeOf (Converts l x y p) gave_up released k case = (k ≡ l) × ConvertsBy x y p gave_up case
-IsMadeOf (Bumps l x) gave_up released k case = (k ≡ l) × (GivesWay x released case ⊎ ((released ≡ true) × EntersBy x Patient gave_up case))
+IsMadeOf (Bumps l x) gave_up released k case =
+    (k ≡ l) × (GivesWay x released case ⊎ ((released ≡ true) × EntersBy x Patient gave_up case))

@@ -142,11 +142,17 @@ counts_readers how v =
     else moves [] (Goes (if has_aside v then GoesAside else Counts v))
 
 abbrev pub gave_way : Want → ℕ → Move
-gave_way Shared v = if has_aside v && (count_in v == 1) then moves (Does (Leave Shared) ∷ []) (Goes (Wakes Second ToEnter)) else moves (Does (Leave Shared) ∷ End ∷ []) (Ends Ok)
-gave_way x v = if has_parked v then moves (Does (Leave x) ∷ []) (Goes (Wakes Main ToEnter)) else moves (Does (Leave x) ∷ End ∷ []) (Ends Ok)
+gave_way Shared v =
+    if has_aside v && (count_in v == 1) then moves (Does (Leave Shared) ∷ []) (Goes (Wakes Second ToEnter))
+    else moves (Does (Leave Shared) ∷ End ∷ []) (Ends Ok)
+gave_way x v =
+    if has_parked v then moves (Does (Leave x) ∷ []) (Goes (Wakes Main ToEnter))
+    else moves (Does (Leave x) ∷ End ∷ []) (Ends Ok)
 
 abbrev pub rolled_back : ℕ → Move
-rolled_back v = if has_parked v then moves (Does Rollback ∷ []) (Goes (Wakes Main ToEnter)) else moves (Does Rollback ∷ End ∷ []) (Ends No)
+rolled_back v =
+    if has_parked v then moves (Does Rollback ∷ []) (Goes (Wakes Main ToEnter))
+    else moves (Does Rollback ∷ End ∷ []) (Ends No)
 
 -- one word step: what is done to the word, and by the value before, to the lock
 pub record WordStep : Type 0 where
@@ -154,7 +160,8 @@ pub record WordStep : Type 0 where
   pub moved : ℕ → Move
 
 abbrev pub exchange : ℕ → ℕ → Move → (ℕ → Move) → WordStep
-exchange from to won lost = record { op = op.TheVariants.Exchange from to; moved = λ v. if v == from then won else lost v }
+exchange from to won lost =
+    record { op = op.TheVariants.Exchange from to; moved = λ v. if v == from then won else lost v }
 
 abbrev pub load : (ℕ → Move) → WordStep
 load moved = record { op = op.TheVariants.Load; moved = moved }
@@ -164,20 +171,24 @@ subtract by moved = record { op = op.TheVariants.Sub by; moved = moved }
 
 abbrev pub clear : Line → At → WordStep
 clear Main at = record { op = op.TheVariants.And 18446744073709551614; moved = λ v. moves (Clear Main ∷ []) (Goes at) }
-clear Second at = record { op = op.TheVariants.And 18446744073709551613; moved = λ v. moves (Clear Second ∷ []) (Goes at) }
+clear Second at =
+    record { op = op.TheVariants.And 18446744073709551613; moved = λ v. moves (Clear Second ∷ []) (Goes at) }
 
 abbrev pub decided_step : Rules → Want → Patience → ℕ → Decision → Option WordStep
 decided_step r x how seen (Takes add) = Some (exchange seen (seen + add) (comes_in x how) (looks r x how))
-decided_step r x how seen Marks = Some (exchange seen (seen + 1) (moves (Mark Main ∷ []) (Goes (Decides (seen + 1)))) (looks r x how))
+decided_step r x how seen Marks =
+    Some (exchange seen (seen + 1) (moves (Mark Main ∷ []) (Goes (Decides (seen + 1)))) (looks r x how))
 decided_step r x how seen decision = None
 
 abbrev pub enters_step : Rules → Want → Patience → At → Option WordStep
-enters_step r x how First = Some (exchange 0 8 (moves (Does (Enter Exclusive) ∷ End ∷ []) (Ends (entered how))) (λ v. missed_first how))
+enters_step r x how First =
+    Some (exchange 0 8 (moves (Does (Enter Exclusive) ∷ End ∷ []) (Ends (entered how))) (λ v. missed_first how))
 enters_step r x how Loads = Some (load (looks r x how))
 enters_step r x how (Decides seen) = decided_step r x how seen (decided r x how seen)
 enters_step r x how (Parks Clears) = Some (clear Main (Parks GivesUp))
 enters_step r x how Looks = Some (load (counts_readers how))
-enters_step r x how (Counts seen) = Some (exchange seen (seen + 2) (moves (Mark Second ∷ []) (Goes GoesAside)) (counts_readers how))
+enters_step r x how (Counts seen) =
+    Some (exchange seen (seen + 2) (moves (Mark Second ∷ []) (Goes GoesAside)) (counts_readers how))
 enters_step r x how (StandsAside Clears) = Some (clear Second (StandsAside GivesUp))
 enters_step r x how RollsBack = Some (subtract 8 rolled_back)
 enters_step r x how (Wakes m ToClear) = Some (clear m (Wakes m ToLeave))
@@ -309,7 +320,9 @@ pub record IsAtWord (r : Rules) (s : Site) (t : ℕ) (p : Place) : Type 0 where
 
 -- each step on the word may do to the lock what its table says, and its place says what the thread does then
 abbrev pub WordStepsFollow : Type 0
-WordStepsFollow = (r : Rules) (s : Site) (t : ℕ) (p : Place) (step : WordStep) → IsAtWord r s t p → word_step r p ≡ Some step → Follows r s t p (step.moved (code r s))
+WordStepsFollow =
+    (r : Rules) (s : Site) (t : ℕ) (p : Place) (step : WordStep) → IsAtWord r s t p → word_step r p ≡ Some step
+    → Follows r s t p (step.moved (code r s))
 
 -- ---------------------------------------------------------------- steps in and out of sections
 
@@ -338,7 +351,8 @@ takes_aside (Some u) = moves (Does (TakeAside u) ∷ []) (Goes (Wakes Second ToC
 abbrev pub enters_section : Rules → Site → ℕ → Want → At → Option Move
 enters_section r s t x (Parks Check) = Some (parks_by (main_check r x (code r s)) (Does (Park x)) Parks)
 enters_section r s t x (Parks (Leaves b)) = Some (rests_at b Parks Loads)
-enters_section r s t x (Parks Removes) = Some (moves (Does Late ∷ []) (Goes (Parks (if is_empty (without t s.lock.queue) then Clears else GivesUp))))
+enters_section r s t x (Parks Removes) =
+    Some (moves (Does Late ∷ []) (Goes (Parks (if is_empty (without t s.lock.queue) then Clears else GivesUp))))
 enters_section r s t x (Parks GivesUp) = Some (moves (Out ∷ End ∷ []) (Ends No))
 enters_section r s t x GoesAside = Some (moves (In Second ∷ []) (Goes (StandsAside Check)))
 enters_section r s t x (StandsAside Check) = Some (parks_by (aside_check (code r s)) (Does Aside) StandsAside)
@@ -350,7 +364,8 @@ enters_section r s t x at = None
 -- a release, or a writer that has given up, wakes others
 abbrev pub wakes_section : Rules → Site → At → Answer → Option Move
 wakes_section r s (Wakes m ToEnter) a = Some (moves (In m ∷ []) (Goes (Wakes m ToTake)))
-wakes_section r s (Wakes Main ToTake) a = Some (moves (Does (TakePicked None) ∷ []) (Goes (Wakes Main (if is_empty (unpicked r.sort None s.lock.queue) then ToClear else ToLeave))))
+wakes_section r s (Wakes Main ToTake) a = Some (moves (Does (TakePicked None) ∷ [])
+    (Goes (Wakes Main (if is_empty (unpicked r.sort None s.lock.queue) then ToClear else ToLeave))))
 wakes_section r s (Wakes Second ToTake) a = Some (takes_aside s.lock.aside)
 wakes_section r s (Wakes m ToLeave) a = Some (moves (Out ∷ End ∷ []) (Ends a))
 wakes_section r s at a = None
@@ -368,5 +383,7 @@ IsUnset at = Unit {0}
 
 -- and each step on the word leads to the word of the lock behind it
 abbrev pub WordStepsCode : Type 0
-WordStepsCode = (r : Rules) (s : Site) (t : ℕ) (p : Place) (step : WordStep) → IsAtWord r s t p → IsUnset p.at → word_step r p ≡ Some step → t < length s.lock.shared → code r s < 2 ^ 64
+WordStepsCode =
+    (r : Rules) (s : Site) (t : ℕ) (p : Place) (step : WordStep) → IsAtWord r s t p → IsUnset p.at
+    → word_step r p ≡ Some step → t < length s.lock.shared → code r s < 2 ^ 64
     → apply step.op (code r s) ≡ code r (after_all r (step.moved (code r s)).deeds s t)

@@ -63,7 +63,8 @@ abbrev pub rights_in : LocksState → ℕ → ℕ → Rights
 rights_in w t l = rights_of (w.locks l) t
 
 abbrev pub beginning : Option Purpose → (ℕ → Rights) → CallState
-beginning purpose former = record { purpose = purpose; former = former; gave_up = None; retries = None; released = false; late = false }
+beginning purpose former =
+    record { purpose = purpose; former = former; gave_up = None; retries = None; released = false; late = false }
 
 abbrev pub no_rights : Rights
 no_rights = record { exclusive = 0; pending = 0; upgradable = 0; shared = 0 }
@@ -117,7 +118,9 @@ is_taken_by t (Some h) = h.by == t
 -- and any other thread: whoever is woken tries the lock again, and who was handed it doesn't
 abbrev pub woken : LocksState → ℕ → Event → ℕ → CallState → CallState
 woken w t (AtLock l Wake) u c = if is_taken_by t ((w.locks l).taken u) then record c { retries = Some l } else c
-woken w t (AtLock l (HandOff x successor)) u c = if is_taken_by t ((w.locks l).taken u) then record c { retries = None } else c
+woken w t (AtLock l (HandOff x successor)) u c =
+    if is_taken_by t ((w.locks l).taken u) then record c { retries = None }
+    else c
 woken w t event u c = c
 
 -- a call that ends is forgotten
@@ -126,7 +129,9 @@ unless_ended (outcome.TheVariants.End a) c = no_call
 unless_ended o c = c
 
 abbrev pub calls_after : LocksState → ℕ → Event → Outcome → ℕ → CallState
-calls_after w t event o u = if u == t then unless_ended o (going_on event (w.calls t)) else woken w t event u (w.calls u)
+calls_after w t event o u =
+    if u == t then unless_ended o (going_on event (w.calls t))
+    else woken w t event u (w.calls u)
 
 -- nobody leaves a queue but whose time is up
 abbrev pub IsTimely : Bool → LockCase → Type 0
@@ -136,7 +141,9 @@ IsTimely late case = Unit {0}
 -- the call is made of the case, and what the case needs is there
 abbrev pub MayDo : LocksState → ℕ → ℕ → LockCase → Option Purpose → Type 0
 MayDo w t l case None = ⊥
-MayDo w t l case (Some purpose) = IsMadeOf purpose (w.calls t).gave_up (w.calls t).released l case × Needs (rules_at w l) case (w.locks l) t × IsTimely (w.calls t).late case
+MayDo w t l case (Some purpose) =
+    IsMadeOf purpose (w.calls t).gave_up (w.calls t).released l case × Needs (rules_at w l) case (w.locks l) t
+    × IsTimely (w.calls t).late case
 
 abbrev pub MayHappen : LocksState → ℕ → Event → Type 0
 MayHappen w t Nothing = Unit {0}
@@ -256,7 +263,9 @@ IsTimed purpose k = ⊥
 
 -- the thread stands in a queue of the lock, whose section is free
 abbrev pub StandsFreely : LocksState → ℕ → ℕ → Type 0
-StandsFreely w t l = ((1 ≤ times t (w.locks l).queue) × (w.inside (2 * l) ≡ None)) ⊎ (((w.locks l).aside ≡ Some t) × (w.inside (2 * l + 1) ≡ None))
+StandsFreely w t l =
+    ((1 ≤ times t (w.locks l).queue) × (w.inside (2 * l) ≡ None))
+    ⊎ (((w.locks l).aside ≡ Some t) × (w.inside (2 * l + 1) ≡ None))
 
 -- its time may be up: its call has a deadline, and it sleeps in a queue whose section is free
 pub record MayBeLate (w : LocksState) (t : ℕ) : Type 0 where

@@ -40,7 +40,17 @@ pub record Doing : Type 0 where
   pub sets : Bool
 
 abbrev pub idle : Doing
-idle = record { inside = None; wakes = None; carries = false; covers = false; empty = None; retries = None; claims = None; brings = false; sets = false }
+idle = record {
+  inside = None;
+  wakes = None;
+  carries = false;
+  covers = false;
+  empty = None;
+  retries = None;
+  claims = None;
+  brings = false;
+  sets = false;
+}
 
 pub record Site : Type 0 where
   pub lock : LockState
@@ -51,7 +61,8 @@ pub record Site : Type 0 where
   pub doing : ℕ → Doing
 
 abbrev pub opening_site : ℕ → Site
-opening_site threads = record { lock = opening_lock threads; parked = false; aside_parked = false; filled = false; doing = λ t. idle }
+opening_site threads =
+    record { lock = opening_lock threads; parked = false; aside_parked = false; filled = false; doing = λ t. idle }
 
 -- ---------------------------------------------------------------- words
 
@@ -122,7 +133,8 @@ pub record IsSite (r : Rules) (s : Site) : Type 0 where
   -- who has seen nobody is inside that section, and nobody has come
   pub emptied : (t : ℕ) (m : Line) → (s.doing t).empty ≡ Some m → ((s.doing t).inside ≡ Some m) × IsEmpty s.lock m
   -- who took waiters of the main line has one in hand who passes the turn on, unless none is left
-  pub covered : (t : ℕ) → (s.doing t).covers ≡ true → ((s.doing t).inside ≡ Some Main) × ((s.doing t).carries ≡ true) × ((s.lock.queue ≢ []) → (u : ℕ) × (counts_taken r.sort t (s.lock.taken u) ≡ true))
+  pub covered : (t : ℕ) → (s.doing t).covers ≡ true → ((s.doing t).inside ≡ Some Main) × ((s.doing t).carries ≡ true)
+      × ((s.lock.queue ≢ []) → (u : ℕ) × (counts_taken r.sort t (s.lock.taken u) ≡ true))
   -- who holds others in hand has taken them in this section
   pub carried : (u : ℕ) (h : Taken) → s.lock.taken u ≡ Some h → (s.doing h.by).carries ≡ true
   -- who is to bring waiters is inside, and the bit stays; who is yet to set it has one of them in hand
@@ -134,7 +146,8 @@ pub record IsSite (r : Rules) (s : Site) : Type 0 where
   -- once full, noted
   pub full : is_full r s.lock ≡ true → s.filled ≡ true
   -- nobody is forgotten, nor who is to be brought
-  pub main : (s.lock.queue ≢ []) ⊎ ((t : ℕ) × ((s.doing t).brings ≡ true)) → IsOpen r.sort s.lock → s.filled ≡ false → (t : ℕ) × IsDebtor r.sort (s.doing t)
+  pub main : (s.lock.queue ≢ []) ⊎ ((t : ℕ) × ((s.doing t).brings ≡ true)) → IsOpen r.sort s.lock → s.filled ≡ false
+      → (t : ℕ) × IsDebtor r.sort (s.doing t)
   pub second : s.lock.aside ≢ None → readers s.lock ≡ 0 → (t : ℕ) × ((s.doing t).wakes ≡ Some Second)
 
 -- ---------------------------------------------------------------- what a thread does
@@ -176,7 +189,8 @@ abbrev pub found : Line → Bool → Option Line
 found m none_left = if none_left then Some m else None
 
 abbrev pub taking_main : Bool → LockState → Doing → Doing
-taking_main covers now d = record d { wakes = None; carries = true; covers = covers; empty = found Main (is_empty now.queue) }
+taking_main covers now d =
+    record d { wakes = None; carries = true; covers = covers; empty = found Main (is_empty now.queue) }
 
 abbrev pub late_found : LockState → Option Line → Option Line
 late_found now m = if is_line_empty now m then m else None
@@ -246,7 +260,13 @@ leaves d = record d { inside = None; carries = false; covers = false; empty = No
 
 -- who takes one of those that it brings, and moves more, has the bit to set yet
 abbrev pub bringing : List Queued → List Queued → Doing → Doing
-bringing taken moved d = record d { carries = true; covers = not (is_empty taken); empty = None; brings = false; sets = not (is_empty taken) && not (is_empty moved) }
+bringing taken moved d = record d {
+  carries = true;
+  covers = not (is_empty taken);
+  empty = None;
+  brings = false;
+  sets = not (is_empty taken) && not (is_empty moved);
+}
 
 abbrev pub with_doing : Site → ℕ → Doing → Site
 with_doing s t d = record s { doing = put s.doing t d }
@@ -261,9 +281,12 @@ after r Out s t = record s {
 }
 after r (Mark Main) s t = record s { parked = true }
 after r (Mark Second) s t = record s { aside_parked = true }
-after r (Clear Main) s t = record s { parked = false; doing = put s.doing t (record (s.doing t) { empty = None; brings = false }) }
-after r (Clear Second) s t = record s { aside_parked = false; doing = put s.doing t (record (s.doing t) { empty = None; brings = false }) }
-after r (FindNobody m) s t = with_doing s t (record (s.doing t) { wakes = None; carries = true; covers = is_main m; empty = Some m })
+after r (Clear Main) s t =
+    record s { parked = false; doing = put s.doing t (record (s.doing t) { empty = None; brings = false }) }
+after r (Clear Second) s t =
+    record s { aside_parked = false; doing = put s.doing t (record (s.doing t) { empty = None; brings = false }) }
+after r (FindNobody m) s t =
+    with_doing s t (record (s.doing t) { wakes = None; carries = true; covers = is_main m; empty = Some m })
 after r MarkBrought s t = record s { parked = true; doing = put s.doing t (record (s.doing t) { sets = false }) }
 after r MarkOwned s t = record s { parked = true; doing = put s.doing t (record (s.doing t) { brings = true }) }
 after r (Bring taken moved) s t = record s {
@@ -293,7 +316,8 @@ Fits r s t (Convert x y) d = (d.wakes ≡ None) × (d.carries ≡ false)
 Fits r s t (Park x) d = (d.inside ≡ Some Main) × (s.parked ≡ true) × (d.wakes ≡ None) × (d.covers ≡ false)
 Fits r s t Aside d = (d.inside ≡ Some Second) × (s.aside_parked ≡ true) × (d.wakes ≡ None)
 Fits r s t (TakeFirst x) d = (d.inside ≡ Some Main) × (d.carries ≡ false) × (d.wakes ≢ Some Second)
-Fits r s t (TakePicked start) d = (d.inside ≡ Some Main) × (d.carries ≡ false) × (d.wakes ≢ Some Second) × Keeps s.lock t start
+Fits r s t (TakePicked start) d =
+    (d.inside ≡ Some Main) × (d.carries ≡ false) × (d.wakes ≢ Some Second) × Keeps s.lock t start
 Fits r s t (TakeAside u) d = (d.inside ≡ Some Second) × (d.carries ≡ false) × (d.wakes ≢ Some Main)
 Fits r s t Wake d = ⊥
 Fits r s t (HandOff x successor) d = (d.inside ≡ Some Main) × (d.covers ≡ true) × (d.retries ≡ None) × (d.wakes ≡ None)
@@ -302,7 +326,9 @@ Fits r s t Rollback d = (d.wakes ≡ None) × (d.carries ≡ false)
 
 -- a call ends outside of the sections, and one that was woken has what it wanted, or another has, or the lock is full
 abbrev pub MayEnd : Rules → LockState → Doing → Type 0
-MayEnd r s d = (d.inside ≡ None) × (d.wakes ≡ None) × (d.carries ≡ false) × ((counts_some r.sort d.retries ≡ true) → is_full r s ≡ true)
+MayEnd r s d =
+    (d.inside ≡ None) × (d.wakes ≡ None) × (d.carries ≡ false)
+    × ((counts_some r.sort d.retries ≡ true) → is_full r s ≡ true)
 
 -- whoever is brought is brought once, stood nowhere and didn't try again
 abbrev pub Apart : Site → List Queued → Type 0
@@ -315,14 +341,19 @@ Needed r (In m) s t = ((u : ℕ) → (s.doing u).inside ≢ Some m) × ((s.doing
 Needed r Out s t = ((s.doing t).inside ≢ None) × ((s.doing t).wakes ≡ None) × ((s.doing t).sets ≡ false)
 Needed r (Mark m) s t = Unit {0}
 Needed r (Clear m) s t = (s.doing t).empty ≡ Some m
-Needed r (FindNobody m) s t = ((s.doing t).inside ≡ Some m) × ((s.doing t).carries ≡ false) × IsEmpty s.lock m × ((s.doing t).wakes ≡ None ⊎ (s.doing t).wakes ≡ Some m)
+Needed r (FindNobody m) s t =
+    ((s.doing t).inside ≡ Some m) × ((s.doing t).carries ≡ false) × IsEmpty s.lock m
+    × ((s.doing t).wakes ≡ None ⊎ (s.doing t).wakes ≡ Some m)
 Needed r MarkBrought s t = Unit {0}
 Needed r MarkOwned s t = ((s.doing t).inside ≡ Some Main) × (IsOpen r.sort s.lock → ⊥)
 Needed r (Bring taken moved) s t =
-    (r.sort ≡ Mutex) × ((s.doing t).inside ≡ Some Main) × ((s.doing t).carries ≡ false) × ((s.doing t).wakes ≡ None) × ((s.doing t).retries ≡ None) × Apart s (taken ++ moved) × KnowsAll Mutex (taken ++ moved) × (taken ≡ [] → (s.doing t).brings ≡ true)
+    (r.sort ≡ Mutex) × ((s.doing t).inside ≡ Some Main) × ((s.doing t).carries ≡ false)
+    × ((s.doing t).wakes ≡ None) × ((s.doing t).retries ≡ None)
+    × Apart s (taken ++ moved) × KnowsAll Mutex (taken ++ moved) × (taken ≡ [] → (s.doing t).brings ≡ true)
 Needed r (Does case) s t = Needs r case s.lock t × Fits r s t case (s.doing t)
 
 -- ---------------------------------------------------------------- the law
 
 abbrev pub EachDeedKeeps : Type 0
-EachDeedKeeps = (r : Rules) (deed : Deed) (s : Site) (t : ℕ) → IsSite r s → Needed r deed s t → IsSite r (after r deed s t)
+EachDeedKeeps =
+    (r : Rules) (deed : Deed) (s : Site) (t : ℕ) → IsSite r s → Needed r deed s t → IsSite r (after r deed s t)

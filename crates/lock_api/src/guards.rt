@@ -1,5 +1,6 @@
 //! Guards of locks with a value.
 ghost use Rattle.std.specs.Prelude.{◌≡◌};
+ghost use Rattle.lock_api.specs.Guards.{lock_of};
 ghost use Rattle.lot_calls.specs.declared.calls.MutexCall.TheVariants.{Unlock, UnlockFair, Bump};
 ghost use Rattle.lot_calls.specs.declared.outcomes.Answer.TheVariants as answers;
 
@@ -29,8 +30,8 @@ impl<'a, R: RawMutex, T> Guarded<Taken<'a, R, T>, sync::MutexGuard<'a, T>> {
         guard: R::Guard,
         value: sync::MutexGuard<'a, T>,
     ) -> MutexGuard<'a, R, T>
-        requires { R.is_guard_of mutex.now.raw guard }
-        ensures { result.taken.mutex.now ≡ mutex.now }
+        requires { R.is_guard_of mutex.now guard }
+        ensures { lock_of result ≡ mutex.now }
     {
         Guarded {
             taken: Taken::new(mutex, guard),
@@ -41,7 +42,7 @@ impl<'a, R: RawMutex, T> Guarded<Taken<'a, R, T>, sync::MutexGuard<'a, T>> {
     // The value is closed, and the mutex is still taken.
     #[inline]
     fn close(self) -> (&'a Mutex<R, T>, R::Guard)
-        ensures { (result.0.now ≡ self.entry.taken.mutex.now) × R.is_guard_of self.entry.taken.mutex.now.raw result.1 }
+        ensures { (result.0.now ≡ lock_of self.entry) × R.is_guard_of (lock_of self.entry) result.1 }
     {
         let Guarded { taken, value } = self;
         taken.close(value)
@@ -50,10 +51,10 @@ impl<'a, R: RawMutex, T> Guarded<Taken<'a, R, T>, sync::MutexGuard<'a, T>> {
     /// Gives the mutex up, and wakes the first who waits for it.
     #[inline]
     pub fn unlock<W: Wait>(self, rt: &W, token: &mut R::Token)
-        requires { R.is_token_of (R.lot_of self.taken.mutex.now.raw) token.old }
-        ensures token { R.is_token_of (R.lot_of self.entry.taken.mutex.now.raw) token.new × R.stays token.old token.new }
-        ensures path { R.walked self.entry.taken.mutex.now.raw Unlock answers.Ok token.old token.new }
-        ensures record { R.released self.entry.taken.mutex.now.raw Unlock token.old token.new }
+        requires { R.is_token_of (R.lot_of (lock_of self)) token.old }
+        ensures token { R.is_token_of (R.lot_of (lock_of self.entry)) token.new × R.stays token.old token.new }
+        ensures path { R.walked (lock_of self.entry) Unlock answers.Ok token.old token.new }
+        ensures record { R.released (lock_of self.entry) Unlock token.old token.new }
     {
         let (mutex, guard) = self.close();
         mutex.raw().unlock(rt, token, guard);
@@ -61,8 +62,8 @@ impl<'a, R: RawMutex, T> Guarded<Taken<'a, R, T>, sync::MutexGuard<'a, T>> {
 
     /// Two guards of one mutex exclude each other: nobody ever has both, so this can't be called.
     pub fn has_two(self, token: &mut R::Token, other: MutexGuard<'a, R, T>) -> !
-        requires token { R.is_token_of (R.lot_of self.taken.mutex.now.raw) token.old }
-        requires mutex { other.taken.mutex.now.raw ≡ self.taken.mutex.now.raw }
+        requires token { R.is_token_of (R.lot_of (lock_of self)) token.old }
+        requires mutex { lock_of other ≡ lock_of self }
     {
         let (mutex, one) = self.close();
         let (_, other) = other.close();
@@ -74,10 +75,10 @@ impl<'a, R: RawMutexFair, T> Guarded<Taken<'a, R, T>, sync::MutexGuard<'a, T>> {
     /// Hands the mutex to the first who waits for it. Where nobody waits, gives it up.
     #[inline]
     pub fn unlock_fair<W: Wait>(self, rt: &W, token: &mut R::Token)
-        requires { R.is_token_of (R.lot_of self.taken.mutex.now.raw) token.old }
-        ensures token { R.is_token_of (R.lot_of self.entry.taken.mutex.now.raw) token.new × R.stays token.old token.new }
-        ensures path { R.walked self.entry.taken.mutex.now.raw UnlockFair answers.Ok token.old token.new }
-        ensures record { R.released self.entry.taken.mutex.now.raw UnlockFair token.old token.new }
+        requires { R.is_token_of (R.lot_of (lock_of self)) token.old }
+        ensures token { R.is_token_of (R.lot_of (lock_of self.entry)) token.new × R.stays token.old token.new }
+        ensures path { R.walked (lock_of self.entry) UnlockFair answers.Ok token.old token.new }
+        ensures record { R.released (lock_of self.entry) UnlockFair token.old token.new }
     {
         let (mutex, guard) = self.close();
         mutex.raw().unlock_fair(rt, token, guard);
@@ -86,10 +87,10 @@ impl<'a, R: RawMutexFair, T> Guarded<Taken<'a, R, T>, sync::MutexGuard<'a, T>> {
     /// Hands the mutex to the first who waits for it, and waits to take it again. Where nobody waits, keeps it.
     #[inline]
     pub fn bump<W: Wait>(self, rt: &W, token: &mut R::Token) -> MutexGuard<'a, R, T>
-        requires { R.is_token_of (R.lot_of self.taken.mutex.now.raw) token.old }
-        ensures token { R.is_token_of (R.lot_of self.entry.taken.mutex.now.raw) token.new × R.stays token.old token.new }
-        ensures guard { result.taken.mutex.now ≡ self.entry.taken.mutex.now }
-        ensures path { R.walked self.entry.taken.mutex.now.raw Bump answers.Ok token.old token.new }
+        requires { R.is_token_of (R.lot_of (lock_of self)) token.old }
+        ensures token { R.is_token_of (R.lot_of (lock_of self.entry)) token.new × R.stays token.old token.new }
+        ensures guard { lock_of result ≡ lock_of self.entry }
+        ensures path { R.walked (lock_of self.entry) Bump answers.Ok token.old token.new }
     {
         let (mutex, guard) = self.close();
         let guard = mutex.raw().bump(rt, token, guard);

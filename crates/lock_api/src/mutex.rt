@@ -3,12 +3,14 @@ ghost use Rattle.std.specs.Prelude.{◌≡◌, ◌⊎◌, IfSome, MatchOption, M
 ghost use Rattle.std.specs.Fn.{FnOnceReturnsAtMut};
 ghost use Rattle.std.specs.Arc.{arc_value};
 ghost use Rattle.lock_raw.specs.Answers.{answer_by};
+ghost use Rattle.lock_api.specs.Guards.{lock_of};
 ghost use Rattle.lot_calls.specs.declared.calls.MutexCall.TheVariants.{Lock, LockTimed, TryLock};
 ghost use Rattle.lot_calls.specs.declared.outcomes.Answer.TheVariants as answers;
 
 use crate::guards::MutexGuard;
 use lock_raw::{RawMutex, RawMutexTimed};
 use lot_base::{Clock, Fault};
+use std::marker::Model;
 use std::sync;
 use std::sync::{Arc, Wait};
 use std::time::Duration;
@@ -27,6 +29,13 @@ pub struct Mutex<R, T> {
     value: sync::Mutex<T>,
 }
 
+// In a clause a mutex is its raw one: the value changes behind a shared reference, so none tells it.
+impl<R, T> Model for Mutex<R, T> {
+    ghost Value = { R };
+
+    ghost view = { λ mutex. mutex.raw };
+}
+
 impl<R: RawMutex, T> Mutex<R, T> {
     /// A mutex that nobody has, with its value.
     ///
@@ -37,7 +46,7 @@ impl<R: RawMutex, T> Mutex<R, T> {
     pub fn new(lot: &Arc<R::Lot>, token: &mut R::Token, value: T) -> Result<Mutex<R, T>, (Fault, T)>
         requires { R.is_token_of (arc_value lot.now) token.old }
         ensures token { R.is_token_of (arc_value lot.now) token.new × R.stays token.old token.new }
-        ensures made { MatchResult result (λ mutex. R.lot_of mutex.raw ≡ arc_value lot.now) (λ refused. (refused.1 ≡ value) × ((refused.0 ≡ Fault.NoMemory) ⊎ (refused.0 ≡ Fault.LotFull))) }
+        ensures made { MatchResult result (λ mutex. R.lot_of mutex ≡ arc_value lot.now) (λ refused. (refused.1 ≡ value) × ((refused.0 ≡ Fault.NoMemory) ⊎ (refused.0 ≡ Fault.LotFull))) }
     {
         match R::new(lot, token) {
             Ok(raw) => Ok(Mutex {
@@ -51,10 +60,10 @@ impl<R: RawMutex, T> Mutex<R, T> {
     /// Waits until nobody has the mutex, and takes it.
     #[inline]
     pub fn lock<W: Wait>(&self, rt: &W, token: &mut R::Token) -> MutexGuard<'_, R, T>
-        requires { R.is_token_of (R.lot_of self.now.raw) token.old }
-        ensures token { R.is_token_of (R.lot_of self.now.raw) token.new × R.stays token.old token.new }
-        ensures guard { result.taken.mutex.now ≡ self.now }
-        ensures path { R.walked self.now.raw Lock answers.Ok token.old token.new }
+        requires { R.is_token_of (R.lot_of self.now) token.old }
+        ensures token { R.is_token_of (R.lot_of self.now) token.new × R.stays token.old token.new }
+        ensures guard { lock_of result ≡ self.now }
+        ensures path { R.walked self.now Lock answers.Ok token.old token.new }
     {
         let raw = self.raw.lock(rt, token);
         self.open(rt, raw)
@@ -63,8 +72,8 @@ impl<R: RawMutex, T> Mutex<R, T> {
     // The guard of who has the raw one.
     #[inline]
     pub(crate) fn open<W: Wait>(&self, rt: &W, raw: R::Guard) -> MutexGuard<'_, R, T>
-        requires { R.is_guard_of self.now.raw raw }
-        ensures { result.taken.mutex.now ≡ self.now }
+        requires { R.is_guard_of self.now raw }
+        ensures { lock_of result ≡ self.now }
     {
         MutexGuard::new(self, raw, self.value.lock(rt))
     }
@@ -72,10 +81,10 @@ impl<R: RawMutex, T> Mutex<R, T> {
     /// Takes the mutex where nobody has it.
     #[inline]
     pub fn try_lock<W: Wait>(&self, rt: &W, token: &mut R::Token) -> Option<MutexGuard<'_, R, T>>
-        requires { R.is_token_of (R.lot_of self.now.raw) token.old }
-        ensures token { R.is_token_of (R.lot_of self.now.raw) token.new × R.stays token.old token.new }
-        ensures guard { IfSome result (λ guard. guard.taken.mutex.now ≡ self.now) }
-        ensures path { R.walked self.now.raw TryLock (answer_by result) token.old token.new }
+        requires { R.is_token_of (R.lot_of self.now) token.old }
+        ensures token { R.is_token_of (R.lot_of self.now) token.new × R.stays token.old token.new }
+        ensures guard { IfSome result (λ guard. lock_of guard ≡ self.now) }
+        ensures path { R.walked self.now TryLock (answer_by result) token.old token.new }
     {
         let raw = self.raw.try_lock(token)?;
         Some(self.open(rt, raw))
@@ -84,9 +93,9 @@ impl<R: RawMutex, T> Mutex<R, T> {
     /// Whether somebody has the mutex.
     #[inline]
     pub fn is_locked(&self, token: &mut R::Token) -> bool
-        requires { R.is_token_of (R.lot_of self.now.raw) token.old }
-        ensures token { R.is_token_of (R.lot_of self.now.raw) token.new × R.stays token.old token.new }
-        ensures seen { R.looked self.now.raw result token.old token.new }
+        requires { R.is_token_of (R.lot_of self.now) token.old }
+        ensures token { R.is_token_of (R.lot_of self.now) token.new × R.stays token.old token.new }
+        ensures seen { R.looked self.now result token.old token.new }
     {
         self.raw.is_locked(token)
     }
@@ -95,9 +104,9 @@ impl<R: RawMutex, T> Mutex<R, T> {
 impl<R: RawMutex, T> Mutex<R, T> {
     /// Locks the mutex, runs a closure on the value, and unlocks: what the closure promises of the value that it found.
     pub fn with<W: Wait, U, F: FnOnce(&mut T) -> U>(&self, rt: &W, token: &mut R::Token, f: F) -> U
-        requires token { R.is_token_of (R.lot_of self.now.raw) token.old }
+        requires token { R.is_token_of (R.lot_of self.now) token.old }
         requires callable { F.IsAlwaysCallable f }
-        ensures token { R.is_token_of (R.lot_of self.now.raw) token.new }
+        ensures token { R.is_token_of (R.lot_of self.now) token.new × R.stays token.old token.new }
         ensures ran { (found : T) × (left : T) × FnOnceReturnsAtMut F.FnOnce f found result left }
     {
         let mut guard = self.lock(rt, token);
@@ -113,10 +122,10 @@ impl<R: RawMutex, T> Mutex<R, T> {
         token: &mut R::Token,
         f: F,
     ) -> Option<U>
-        requires token { R.is_token_of (R.lot_of self.now.raw) token.old }
+        requires token { R.is_token_of (R.lot_of self.now) token.old }
         requires callable { F.IsAlwaysCallable f }
-        ensures token { R.is_token_of (R.lot_of self.now.raw) token.new }
-        ensures ran { MatchOption result (R.walked self.now.raw TryLock answers.No token.old token.new) (λ answer. (found : T) × (left : T) × FnOnceReturnsAtMut F.FnOnce f found answer left) }
+        ensures token { R.is_token_of (R.lot_of self.now) token.new × R.stays token.old token.new }
+        ensures ran { MatchOption result (R.walked self.now TryLock answers.No token.old token.new) (λ answer. (found : T) × (left : T) × FnOnceReturnsAtMut F.FnOnce f found answer left) }
     {
         let mut guard = self.try_lock(rt, token)?;
         let answer = run_on(&mut *guard, f);
@@ -137,10 +146,10 @@ impl<R: RawMutexTimed, T> Mutex<R, T> {
         clock: &C,
         timeout: Duration,
     ) -> Option<MutexGuard<'_, R, T>>
-        requires { R.is_token_of (R.lot_of self.now.raw) token.old }
-        ensures token { R.is_token_of (R.lot_of self.now.raw) token.new × R.stays token.old token.new }
-        ensures guard { IfSome result (λ guard. guard.taken.mutex.now ≡ self.now) }
-        ensures path { R.walked self.now.raw LockTimed (answer_by result) token.old token.new }
+        requires { R.is_token_of (R.lot_of self.now) token.old }
+        ensures token { R.is_token_of (R.lot_of self.now) token.new × R.stays token.old token.new }
+        ensures guard { IfSome result (λ guard. lock_of guard ≡ self.now) }
+        ensures path { R.walked self.now LockTimed (answer_by result) token.old token.new }
     {
         let raw = self.raw.try_lock_for(rt, token, clock, timeout)?;
         Some(self.open(rt, raw))
@@ -155,10 +164,10 @@ impl<R: RawMutexTimed, T> Mutex<R, T> {
         clock: &C,
         deadline: u64,
     ) -> Option<MutexGuard<'_, R, T>>
-        requires { R.is_token_of (R.lot_of self.now.raw) token.old }
-        ensures token { R.is_token_of (R.lot_of self.now.raw) token.new × R.stays token.old token.new }
-        ensures guard { IfSome result (λ guard. guard.taken.mutex.now ≡ self.now) }
-        ensures path { R.walked self.now.raw LockTimed (answer_by result) token.old token.new }
+        requires { R.is_token_of (R.lot_of self.now) token.old }
+        ensures token { R.is_token_of (R.lot_of self.now) token.new × R.stays token.old token.new }
+        ensures guard { IfSome result (λ guard. lock_of guard ≡ self.now) }
+        ensures path { R.walked self.now LockTimed (answer_by result) token.old token.new }
     {
         let raw = self.raw.try_lock_until(rt, token, clock, deadline)?;
         Some(self.open(rt, raw))
@@ -169,7 +178,7 @@ impl<R, T> Mutex<R, T> {
     /// The raw mutex.
     #[inline]
     pub fn raw(&self) -> &R
-        ensures { result.now ≡ self.now.raw }
+        ensures { result.now ≡ self.now }
     {
         &self.raw
     }

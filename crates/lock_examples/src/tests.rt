@@ -22,7 +22,7 @@ fn lot_for_three(alloc: Global) -> Result<(Arc<ParkingLot>, Token, Vec<Ticket>),
 }
 
 fn count<R: Wait>(rt: &R, total: &Mutex<u64>, ticket: Ticket)
-    requires { IsTicketOf (lot_of total.now.raw) ticket }
+    requires { IsTicketOf (lot_of total.now) ticket }
 {
     let mut token = ticket.enter();
     for _ in 0..1000 {
@@ -39,14 +39,14 @@ fn count_all<R: Threads + Wait + Sync>(
     counter: Mutex<u64>,
     tickets: Vec<Ticket>,
 ) -> Result<u64, Fault>
-    requires { All (IsTicketOf (lot_of counter.raw)) tickets.items }
+    requires { All (IsTicketOf (lot_of counter)) tickets.items }
 {
     let shared = &counter;
     let counted = map_vec(
         rt,
         tickets,
         &|ticket: Ticket|
-            requires { IsTicketOf (lot_of shared.now.raw) ticket }
+            requires { IsTicketOf (lot_of shared.now) ticket }
         { count(rt, shared, ticket) },
     );
     if counted.is_err() {
@@ -65,7 +65,7 @@ fn a_shared_counter(rt: HostRuntime) -> Result<(), Fail> {
 
 // Takes jobs until none is left, and adds them up.
 fn work<R: Wait>(rt: &R, jobs: &Mutex<Vec<u32>>, ticket: Ticket) -> u64
-    requires { IsTicketOf (lot_of jobs.now.raw) ticket }
+    requires { IsTicketOf (lot_of jobs.now) ticket }
 {
     let mut token = ticket.enter();
     let mut done = 0u64;
@@ -85,13 +85,13 @@ fn work_all<R: Threads + Wait + Sync>(
     jobs: &Mutex<Vec<u32>>,
     tickets: Vec<Ticket>,
 ) -> Result<u64, Fault>
-    requires { All (IsTicketOf (lot_of jobs.now.raw)) tickets.items }
+    requires { All (IsTicketOf (lot_of jobs.now)) tickets.items }
 {
     let done = map_vec(
         rt,
         tickets,
         &|ticket: Ticket|
-            requires { IsTicketOf (lot_of jobs.now.raw) ticket }
+            requires { IsTicketOf (lot_of jobs.now) ticket }
         { work(rt, jobs, ticket) },
     );
     match done {
@@ -113,8 +113,8 @@ fn a_workers_queue(rt: HostRuntime) -> Result<(), Fail> {
 
 // Adds 1 where the mutex is free within a microsecond. Whether it was.
 fn add_soon<R: Wait>(rt: &R, counter: &Mutex<u64>, token: &mut Token, clock: &TickClock) -> bool
-    requires { IsTokenOf (lot_of counter.now.raw) token.old }
-    ensures { IsTokenOf (lot_of counter.now.raw) token.new }
+    requires { IsTokenOf (lot_of counter.now) token.old }
+    ensures { IsTokenOf (lot_of counter.now) token.new }
 {
     match counter.try_lock_for(rt, token, clock, Duration::from_micros(1)) {
         Some(mut guard) => {

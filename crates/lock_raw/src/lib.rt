@@ -28,6 +28,8 @@ pub trait RawMutex {
     ghost is_token_of: { Self.Lot → Self.Token → Type 0 };
     // It is the same thread, and owns what it did.
     ghost stays: { Self.Token → Self.Token → Type 0 };
+    // So it does through two calls, one after the other.
+    ghost stays_on: { (first next last : Self.Token) → stays first next → stays next last → stays first last };
     // A guard is of this mutex.
     ghost is_guard_of: { Self → Self.Guard → Type 0 };
     // That a guard is of a mutex has one proof at most, so a struct may keep it as a ghost field.

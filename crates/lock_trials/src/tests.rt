@@ -8,6 +8,7 @@ mod timed;
 ghost use Rattle.std.specs.Prelude.{◌≡◌, All, IfOk, IfSome};
 ghost use Rattle.std.specs.Arc.{arc_value};
 ghost use Rattle.parking_lot_core.specs.Tokens.{IsTicketOf, IsTokenOf};
+ghost use Rattle.parking_lot.specs.Users.{lot_of};
 
 use parking_lot::lock_raw::RawMutex as RawLock;
 use parking_lot::{Fault, ParkingLot, RawMutex, Ticket};
@@ -35,7 +36,7 @@ fn three_of(lot: &ParkingLot, tickets: &mut Vec<Ticket>) -> Option<(Ticket, Tick
 // A mutex of a lot, made by the thread of a ticket.
 fn mutex_by(lot: &Arc<ParkingLot>, ticket: Ticket) -> Result<(RawMutex, Ticket), Fault>
     requires { IsTicketOf (arc_value lot.now) ticket }
-    ensures { IfOk result (λ made. (arc_value made.0.lot ≡ arc_value lot.now) × IsTicketOf (arc_value lot.now) made.1) }
+    ensures { IfOk result (λ made. (lot_of made.0 ≡ arc_value lot.now) × IsTicketOf (arc_value lot.now) made.1) }
 {
     let mut token = ticket.enter();
     let mutex = RawMutex::new(lot, &mut token)?;
@@ -46,7 +47,7 @@ fn mutex_by(lot: &Arc<ParkingLot>, ticket: Ticket) -> Result<(RawMutex, Ticket),
 fn three_seats(
     alloc: Global,
 ) -> Result<(Arc<ParkingLot>, RawMutex, (Ticket, Ticket, Ticket)), Fault>
-    ensures { IfOk result (λ made. (arc_value made.1.lot ≡ arc_value made.0) × IsTicketOf (arc_value made.0) made.2.0 × IsTicketOf (arc_value made.0) made.2.1 × IsTicketOf (arc_value made.0) made.2.2) }
+    ensures { IfOk result (λ made. (lot_of made.1 ≡ arc_value made.0) × IsTicketOf (arc_value made.0) made.2.0 × IsTicketOf (arc_value made.0) made.2.1 × IsTicketOf (arc_value made.0) made.2.2) }
 {
     let (lot, mut tickets) = ParkingLot::new(alloc, 1, 3)?;
     let Some((one, other, third)) = three_of(&lot, &mut tickets) else {
@@ -58,7 +59,7 @@ fn three_seats(
 
 // Tries once, and holds what it got until both have tried.
 fn try_once<R: Wait>(rt: &R, mutex: &RawMutex, ticket: Ticket, tried: &AtomicUsize) -> bool
-    requires { IsTicketOf (arc_value mutex.now.lot) ticket }
+    requires { IsTicketOf (lot_of mutex.now) ticket }
 {
     let mut token = ticket.enter();
     let guard = mutex.try_lock(&mut token);
@@ -86,7 +87,7 @@ fn both_try<R: Threads + Wait + Sync>(
     one: Ticket,
     other: Ticket,
 ) -> (bool, bool)
-    requires { IsTicketOf (arc_value mutex.now.lot) one × IsTicketOf (arc_value mutex.now.lot) other }
+    requires { IsTicketOf (lot_of mutex.now) one × IsTicketOf (lot_of mutex.now) other }
 {
     let tried = AtomicUsize::new(0);
     let both = &tried;
@@ -99,7 +100,7 @@ fn both_try<R: Threads + Wait + Sync>(
 
 // Whether a try gets the mutex, which is locked then and free afterwards.
 fn try_alone<R: Wait>(rt: &R, mutex: &RawMutex, ticket: Ticket) -> bool
-    requires { IsTicketOf (arc_value mutex.now.lot) ticket }
+    requires { IsTicketOf (lot_of mutex.now) ticket }
 {
     let mut token = ticket.enter();
     let Some(guard) = mutex.try_lock(&mut token) else {
@@ -127,7 +128,7 @@ fn hold<R: Wait>(
     ticket: Ticket,
     held: &AtomicBool,
 ) -> bool
-    requires { IsTicketOf lot.now ticket × (arc_value mutex.now.lot ≡ lot.now) }
+    requires { IsTicketOf lot.now ticket × (lot_of mutex.now ≡ lot.now) }
 {
     let mut token = ticket.enter();
     let guard = mutex.lock(rt, &mut token);
@@ -146,7 +147,7 @@ fn hold<R: Wait>(
 }
 
 fn lock_held<R: Wait>(rt: &R, mutex: &RawMutex, ticket: Ticket, held: &AtomicBool) -> bool
-    requires { IsTicketOf (arc_value mutex.now.lot) ticket }
+    requires { IsTicketOf (lot_of mutex.now) ticket }
 {
     let mut token = ticket.enter();
     for _ in rt.forever() {
@@ -169,7 +170,7 @@ fn hold_and_wait<R: Threads + Wait + Sync>(
     one: Ticket,
     other: Ticket,
 ) -> (bool, bool)
-    requires { IsTicketOf lot.now one × IsTicketOf lot.now other × (arc_value mutex.now.lot ≡ lot.now) }
+    requires { IsTicketOf lot.now one × IsTicketOf lot.now other × (lot_of mutex.now ≡ lot.now) }
 {
     let held = AtomicBool::new(false);
     let is_held = &held;

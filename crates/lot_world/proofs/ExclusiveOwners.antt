@@ -11,7 +11,7 @@ use Rattle.lot_steps.specs.declared.places.Place.{Place}
 use Rattle.lot_steps.specs.declared.places.Place.TheVariants.{Idle, Mutex}
 use Rattle.lot_steps.specs.MutexSteps.{is_locked, with_exclusive}
 use Rattle.lot_steps.specs.Steps.{owners_after}
-use Rattle.lot_world.specs.Promises.{Codes}
+use Rattle.lot_world.specs.MutexPromises.{IsMutexWord}
 
 abbrev pub lock_owner : LockAt → ℕ → ℕ → Option ℕ → Option ℕ
 lock_owner First t v o = if v == 0 then Some t else o
@@ -22,7 +22,7 @@ abbrev pub unlock_owner : UnlockAt → Option ℕ → Option ℕ
 unlock_owner unlock.Subtract o = None
 unlock_owner at o = o
 
--- the exclusive owner after a step on the word that saw v
+-- the exclusive owner after a step on the word that saw v, but for one whom it hands the lock
 abbrev pub owner_after : Place → ℕ → ℕ → Option ℕ → Option ℕ
 owner_after Idle t v o = o
 owner_after (Mutex l (Lock entry retries at)) t v o = lock_owner at t v o
@@ -30,7 +30,7 @@ owner_after (Mutex l TryLock) t v o = if is_locked v then o else Some t
 owner_after (Mutex l (Unlock at)) t v o = unlock_owner at o
 owner_after (Mutex l UnlockFair) t v o = if v == 1 then None else o
 owner_after (Mutex l Bump) t v o = o
-owner_after (Mutex l (HandOff bumps (hand_off.Store taken none_left))) t v o = taken
+owner_after (Mutex l (HandOff bumps (hand_off.Store any none_left))) t v o = None
 owner_after (Mutex l (HandOff bumps at)) t v o = o
 
 pub exclusive-owners : (p : Place) (t v : ℕ) (r : Owners) → (owners_after p t v r).exclusive ≡ owner_after p t v r.exclusive
@@ -59,13 +59,13 @@ exclusive-owners (Mutex l UnlockFair) t v r = either (v == 1)
     either true = refl
     either false = refl
 exclusive-owners (Mutex l Bump) t v r = refl
-exclusive-owners (Mutex l (HandOff bumps (hand_off.Store taken none_left))) t v r = refl
+exclusive-owners (Mutex l (HandOff bumps (hand_off.Store any none_left))) t v r = refl
 exclusive-owners (Mutex l (HandOff bumps at)) t v r = refl
 
 -- ---------------------------------------------------------------- words
 
 -- the four words of a mutex
-pub by_code : (P : ℕ → Option ℕ → Type 0) → P 0 None → P 2 None → ((u : ℕ) → P 1 (Some u)) → ((u : ℕ) → P 3 (Some u)) → (v : ℕ) (o : Option ℕ) → Codes v o → P v o
+pub by_code : (P : ℕ → Option ℕ → Type 0) → P 0 None → P 2 None → ((u : ℕ) → P 1 (Some u)) → ((u : ℕ) → P 3 (Some u)) → (v : ℕ) (o : Option ℕ) → IsMutexWord v o → P v o
 by_code P a b c d v None (inl e) = rw e a
 by_code P a b c d v None (inr e) = rw e b
 by_code P a b c d v (Some u) (inl e) = rw e (c u)

@@ -24,6 +24,7 @@ pub mod Possible
 pub mod LockSteps
 pub mod OneThing
 pub mod Promises
+pub mod MutexPromises
 pub mod Fair
 pub mod SoloActs
 pub mod Solo

@@ -23,21 +23,23 @@ use Rattle.lot_steps.specs.declared.places.Place.TheVariants.{Idle, Mutex}
 use Rattle.lot_steps.specs.MutexSteps.{is_locked, lock_act, unlock_act, hand_off_act, mutex_act}
 use Rattle.lot_steps.specs.MutexProfiles.{mutex_owes, lock_row}
 use Rattle.lot_steps.specs.MutexSteps.{is_timed}
-use Rattle.abstract_locks.specs.Sites.{Line, Main}
-use Rattle.lot_steps.specs.Steps.{act_of, owes_on, retries_on}
-use Rattle.lot_world.specs.Machine.{State, opening, place_at, after, section_at}
+use Rattle.abstract_locks.specs.Sites.{Line, Main, Second}
+use Rattle.lot_steps.specs.Steps.{act_of, taker, owes_on, retries_on}
+use Rattle.lot_world.specs.Machine.{State, opening, place_at, after, section_at, word_at}
 use Rattle.lot_world.specs.Fits.{IsShaped}
 use Rattle.lot_world.specs.MutexDeeds.{Of, hand, Station, mutex_station, nowhere, station_at}
-use Rattle.lot_world.specs.SitesOf.{IsSteady, stood_in, carried_at}
+use Rattle.lot_world.specs.SitesOf.{IsSteady, key_of, stood_in, carried_at}
 use Rattle.abstract_locks.specs.Runs.{IsOpening}
 use Rattle.abstract_locks.specs.Locks.{opening_lock, rights_of, Rights, one_if_some, standing}
 use Rattle.abstract_locks.specs.Purposes.{Enters, Converts, Bumps, Purpose, MayWait, IsReleasing}
 use Rattle.lot_world.specs.Refinement.{locks_of, lock_state, lock_seen, taken_at, is_bump, entry_purpose, call_state, stance_of}
-use Rattle.lot_world.specs.Promises.{IsKept, GoesToWake, IsHandedOver}
+use Rattle.lot_world.specs.Promises.{IsKept, WaitsFor, has_parked_bit, OwesOn, GoesToWake, IsHandedOver}
 use Rattle.lot_world.proofs.TurnsKept.{after_steady}
-use Rattle.lot_world.proofs.SitesPromise.{looked_after, parked as bit_set}
+use Rattle.lot_world.proofs.SitesPromise.{looked_after, parked, rules_waited}
 use Rattle.lot_world.proofs.Glue.{same, nothing_at, own_stance, station_elsewhere, taken_elsewhere}
-use Rattle.lot_world.proofs.AtPlaces.{coded, stands_by, owns}
+use Rattle.lot_world.proofs.AtPlaces.{not_first_aside, stands_by, owns}
+use Rattle.lot_world.proofs.Possible.{OnMain, on_main}
+use Rattle.abstract_locks.specs.Codes.{parked_in}
 use Rattle.lot_world.proofs.Opening.{idle_at, none_at, empty_at, nobody_owns, opening_shares}
 use Rattle.std.proofs.lemmas.Bool.{cases_eq, eqb-true}
 
@@ -183,10 +185,10 @@ unlock_awake l (unlock.Leave taken) e = cc
 hand_off_awake : (l : ℕ) (a : HandOffAt) → hand_off_act l a ≢ Sleep
 hand_off_awake l hand_off.Enter e = cc
 hand_off_awake l hand_off.Take e = cc
-hand_off_awake l (hand_off.Store None none_left) e = cc
-hand_off_awake l (hand_off.Store (Some u) none_left) e = cc
-hand_off_awake l (hand_off.Leave None) e = cc
-hand_off_awake l (hand_off.Leave (Some u)) e = cc
+hand_off_awake l (hand_off.Store false none_left) e = cc
+hand_off_awake l (hand_off.Store true none_left) e = cc
+hand_off_awake l (hand_off.Leave false) e = cc
+hand_off_awake l (hand_off.Leave true) e = cc
 
 -- a call waits for one lock
 one_purpose : (o : Option Purpose) (l k : ℕ) → MayWait o l → MayWait o k → l ≡ k
@@ -196,30 +198,55 @@ one_purpose (Some (Bumps j x)) l k h g = sym h ∙ g
 one_purpose o l k h g = absurd h
 
 -- a thread that has handed a lock over wakes the new owner next
-tells_at : (at : MutexPlace) (u l : ℕ) → (mutex_station at).carries ≡ hand u true → (mutex_act l at ≡ act.TheVariants.Leave (One (2 * l)) (wakes.TheVariants.One u note.HandOff)) × ((mutex_station at).inside ≡ Some Main)
-tells_at (HandOff bumps (hand_off.Leave (Some v))) u l h = let e : v ≡ u = cc in rw e (refl, refl)
-tells_at (HandOff bumps (hand_off.Leave None)) u l h = absurd cc
-tells_at (HandOff bumps (hand_off.Store (Some v) none_left)) u l h = absurd cc
-tells_at (HandOff bumps at) u l h = absurd cc
-tells_at (Unlock (unlock.Clear (Some v))) u l h = absurd cc
-tells_at (Unlock (unlock.Leave (Some v))) u l h = absurd cc
-tells_at (Unlock at) u l h = absurd cc
-tells_at at u l h = absurd cc
+tells_at : (at : MutexPlace) (l : ℕ) → (mutex_station at).carries ≡ Some true → (mutex_act l at ≡ act.TheVariants.Leave (One (2 * l)) (wakes.TheVariants.All note.HandOff)) × ((mutex_station at).inside ≡ Some Main)
+tells_at (HandOff bumps (hand_off.Leave true)) l h = (refl, refl)
+tells_at (HandOff bumps (hand_off.Leave false)) l h = absurd cc
+tells_at (HandOff bumps (hand_off.Store true none_left)) l h = absurd cc
+tells_at (HandOff bumps (hand_off.Store false none_left)) l h = absurd cc
+tells_at (HandOff bumps at) l h = absurd cc
+tells_at (Unlock (unlock.Clear true)) l h = absurd cc
+tells_at (Unlock (unlock.Leave true)) l h = absurd cc
+tells_at (Unlock (unlock.Clear false)) l h = absurd cc
+tells_at (Unlock (unlock.Leave false)) l h = absurd cc
+tells_at (Unlock at) l h = absurd cc
+tells_at at l h = absurd cc
 
-tells : (p : Place) (u l : ℕ) → carried_at p l ≡ hand u true → (act_of p ≡ act.TheVariants.Leave (One (2 * l)) (wakes.TheVariants.One u note.HandOff)) × IsWithin p l
-tells Idle u l h = absurd cc
-tells (Mutex own at) u l h = let g = part_here (λ x. x.carries) (Of u true) own l at refl h in let t = tells_at at u l g.1 in (ap (λ k. mutex_act k at) g.0 ∙ t.0, ap (λ x. x.inside) (here own l at g.0) ∙ t.1)
+tells : (p : Place) (l : ℕ) → carried_at p l ≡ Some true → (act_of p ≡ act.TheVariants.Leave (One (2 * l)) (wakes.TheVariants.All note.HandOff)) × IsWithin p l
+tells Idle l h = absurd cc
+tells (Mutex own at) l h = let g = part_here (λ x. x.carries) true own l at refl h in let t = tells_at at l g.1 in (ap (λ k. mutex_act k at) g.0 ∙ t.0, ap (λ x. x.inside) (here own l at g.0) ∙ t.1)
+
+-- no call of a mutex is inside a second section, or enters one
+not_second : (b : Bool) (x : Option Line) → x ≡ (if b then Some Main else None) → x ≢ Some Second
+not_second true x e h = let f : Some Main ≡ Some Second = sym e ∙ h in cc
+not_second false x e h = let f : ◌≡◌ {A = Option Line} None (Some Second) = sym e ∙ h in cc
+
+never_inside_second : (at : MutexPlace) → (mutex_station at).inside ≢ Some Second
+never_inside_second (Lock entry retries at) h = not_second (lock_row (is_timed entry) retries at).owes _ (lock_owes (is_timed entry) retries at) h
+never_inside_second (Unlock unlock.Subtract) h = cc
+never_inside_second (Unlock unlock.Enter) h = cc
+never_inside_second (Unlock at) h = cc
+never_inside_second (HandOff bumps hand_off.Enter) h = cc
+never_inside_second (HandOff bumps at) h = cc
+never_inside_second at h = cc
+
+never_within_second : (p : Place) (l : ℕ) → (station_at p l).inside ≡ Some Second → ⊥
+never_within_second Idle l h = cc
+never_within_second (Mutex own at) l h = never_inside_second at (part_here (λ x. x.inside) Second own l at refl h).1
+
+never_enters_second : (w : State) → IsSteady w → (t : ℕ) (p : Place) → place_at w t ≡ p → (l : ℕ) → act_of p ≡ act.TheVariants.Enter (One (2 * l + 1)) → ⊥
+never_enters_second w steady t Idle is l h = cc
+never_enters_second w steady t (Mutex own at) is l h = let main : 2 * l + 1 ≡ 2 * own = subst (λ a. OnMain w t own a) h (on_main w t steady own at is) in omega arith
 
 module _ (w : State) (steady : IsSteady w) where
   -- what a thread owns of each lock
   abbrev rights_now : ℕ → ℕ → Rights
   rights_now t k = rights_of (lock_state w k) t
 
-  owes_so : (t l : ℕ) → IsWithin (place_at w t) l ⊎ GoesToWake w t l → (section_at w (2 * l) ≡ Some t) ⊎ GoesToWake w t l
+  owes_so : (t l : ℕ) → IsWithin (place_at w t) l ⊎ GoesToWake w t l Main → (section_at w (2 * l) ≡ Some t) ⊎ GoesToWake w t l Main
   owes_so t l (inl h) = inl ((steady.stands.sections t l Main).0 h)
   owes_so t l (inr h) = inr h
 
-  owes_by : (t l : ℕ) → (section_at w (2 * l) ≡ Some t) ⊎ GoesToWake w t l → owes_on (place_at w t) l ≡ true
+  owes_by : (t l : ℕ) → (section_at w (2 * l) ≡ Some t) ⊎ GoesToWake w t l Main → owes_on (place_at w t) l ≡ true
   owes_by t l (inl h) = inside_owes (place_at w t) l ((steady.stands.sections t l Main).1 h)
   owes_by t l (inr h) = release_on_its_way (place_at w t) l (rights_now t) h.0 h.1
 
@@ -232,8 +259,8 @@ module _ (w : State) (steady : IsSteady w) where
 
     handed_to : (l : ℕ) (entry : Entry) (retries : Bool) (by : ℕ) → place_at w t ≡ Mutex l (Lock entry retries (Handed by)) → IsHandedOver w t
     handed_to l entry retries by is =
-        let told = tells (place_at w by) t l (steady.stands.hands.taken by t l true (ap (λ x. x.hand) (own_stance l (place_at w t) (Lock entry retries (Handed by)) is))) in
-        record { lock = l; by = by; owner = owns w steady t l (Lock entry retries (Handed by)) is refl; inside = (steady.stands.sections by l Main).0 told.1; wakes = told.0 }
+        let told = tells (place_at w by) l (steady.stands.hands.taken by t l true (ap (λ x. x.hand) (own_stance l (place_at w t) (Lock entry retries (Handed by)) is))) in
+        record { lock = l; by = by; owner = owns w steady t l (Lock entry retries (Handed by)) is refl; inside = (steady.stands.sections by l Main).0 told.1; in_hand = ap taker is; wakes = told.0 }
 
     lock_handed : (l : ℕ) (entry : Entry) (retries : Bool) (a : LockAt) → place_at w t ≡ Mutex l (Lock entry retries a) → lock_act l a ≡ Sleep → IsHandedOver w t
     lock_handed l entry retries Asleep is sleeps = absurd (let n : 1 + 0 ≡ 0 = rw (is, same l) at (unlisted l) in omega arith)
@@ -252,17 +279,41 @@ module _ (w : State) (steady : IsSteady w) where
     handed_over_at (Mutex l Bump) is sleeps = absurd cc
     handed_over_at (Mutex l (HandOff bumps a)) is sleeps = absurd (hand_off_awake l a sleeps)
 
+  bit_set : (t l : ℕ) → WaitsFor w t l → has_parked_bit w l ≡ true
+  bit_set t l waits = subst (λ r. parked_in r.sort (word_at w l) ≡ true) (sym (rules_waited w steady t l waits)) (parked w steady t l waits)
+
+  nobody_aside : (l : ℕ) → (lock_state w l).aside ≡ None
+  nobody_aside l = by_thread (lock_state w l).aside refl
+    where
+      by_thread : (o : Option ℕ) → (lock_state w l).aside ≡ o → o ≡ None
+      by_thread None e = refl
+      by_thread (Some t) e = absurd (not_first_aside w steady t l e)
+
+  owing_on : (t l : ℕ) (m : Line) → OwesOn w t l m ↔ ((section_at w (key_of l m) ≡ Some t) ⊎ GoesToWake w t l m)
+  owing_on t l Main = ((λ h. owes_so t l (owes_means (place_at w t) l (rights_now t) h)), λ h. owes_by t l h)
+  owing_on t l Second = (
+    (λ h. absurd h),
+    λ h. elim h [
+      | inl i ↦ never_within_second (place_at w t) l ((steady.stands.sections t l Second).1 i)
+      | inr g ↦ never_enters_second w steady t (place_at w t) refl l g.0
+    ],
+  )
+
   pub kept : IsKept w
   kept = record {
     state = λ l. (steady.sites.site l).state;
     one_place = λ t l k h g. one_purpose ((locks_of w).calls t).purpose l k (waits t l h) (waits t k g);
     waiting = waits;
-    coded = coded w steady;
-    nobody_forgotten = looked_after w steady;
-    owing = λ t l. ((λ h. owes_so t l (owes_means (place_at w t) l (rights_now t) h)), λ h. owes_by t l h);
+    coded = λ l. steady.sites.word l;
+    nobody_forgotten = record {
+      main = λ t l waits now full. looked_after w steady t l waits now;
+      second = λ l aside none. absurd (aside (nobody_aside l));
+    };
+    owing = owing_on;
     retrying = λ t l. retry_shown (place_at w t) l (rights_now t);
     handing = λ t h. handed_over_at t h.1 (place_at w t) refl h.0;
-    parked = bit_set w steady;
+    parked = λ t l waits. inl (bit_set t l waits);
+    aside_parked = λ l. (steady.sites.site l).aside_parked;
   }
 
 pub kept_after : (w : State) (s : Step) → IsShaped w → IsSteady w → IsKept (after w s)

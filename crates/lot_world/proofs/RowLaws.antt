@@ -2,6 +2,7 @@
 use Rattle.std.proofs.Common.{ℕ, zero, suc, true, false, Some, None, ◌≡◌, inl, inr, [], ◌∷◌, refl, sym, ◌∙◌, arith}
 use Rattle.lot_calls.specs.declared.kinds.Kind.TheVariants as kind
 use Rattle.lot_world.specs.Machine.{after_all}
+use Rattle.abstract_locks.specs.Sites.{Main}
 use Rattle.lot_world.specs.Promises.{IsLookedAfter}
 use Rattle.lot_world.specs.Laws.{FairUnlockHandsOver, NoWaiterIsForgotten, NobodyIsPassedOver, three, row, row_told, forgotten}
 use Rattle.lot_world.proofs.Shape.{opening_shaped}
@@ -22,22 +23,22 @@ hands_over = record {
 }
 
 -- nobody owes or retries
-nobody_looks : (u : ℕ) (h : IsLookedAfter forgotten 0) → h.debtor ≡ u → ⊥
+nobody_looks : (u : ℕ) (h : IsLookedAfter forgotten 0 Main) → h.debtor ≡ u → ⊥
 nobody_looks zero h e = elim h.debt [
   | inl owes ↦ let f : false ≡ true = rw e at owes.0 in cc
-  | inr retries ↦ let f : None ≡ Some 0 = rw e at retries in cc
+  | inr retries ↦ let f : None ≡ Some 0 = rw e at retries.0 in cc
 ]
 nobody_looks (suc zero) h e = elim h.debt [
   | inl owes ↦ let f : false ≡ true = rw e at owes.0 in cc
-  | inr retries ↦ let f : None ≡ Some 0 = rw e at retries in cc
+  | inr retries ↦ let f : None ≡ Some 0 = rw e at retries.0 in cc
 ]
 nobody_looks (suc (suc u)) h e = elim h.debt [
   | inl owes ↦ let f : false ≡ true = rw e at owes.0 in cc
-  | inr retries ↦ let f : None ≡ Some 0 = rw e at retries in cc
+  | inr retries ↦ let f : None ≡ Some 0 = rw e at retries.0 in cc
 ]
 
 pub no_waiter_forgotten : NoWaiterIsForgotten
-no_waiter_forgotten kept = let looked = kept.nobody_forgotten 1 0 (omega arith) refl in nobody_looks looked.debtor looked refl
+no_waiter_forgotten kept = let looked = kept.nobody_forgotten.main 1 0 (omega arith) (inl refl) (λ h. absurd cc) in nobody_looks looked.debtor looked refl
 
 pub nobody_passed_over : NobodyIsPassedOver
 nobody_passed_over v free fair = elim (fair.gives 0 0 ((refl, refl), refl)) [

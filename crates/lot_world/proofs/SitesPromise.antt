@@ -24,7 +24,7 @@ use Rattle.lot_steps.specs.MutexProfiles.{mutex_owes}
 use Rattle.lot_steps.specs.Steps.{act_of, owes_on}
 use Rattle.abstract_locks.specs.Locks.{Queued, times, standing, one_if_some}
 use Rattle.abstract_locks.specs.Locks as locks
-use Rattle.abstract_locks.specs.Sites.{Has, Main, Second, IsSite, IsDebtor, has_readers, idle}
+use Rattle.abstract_locks.specs.Sites.{Has, Main, Second, IsSite, IsDebtor, counts_some, has_readers, idle}
 use Rattle.lot_world.specs.Machine.{State, place_at, word_at, owners_at, shares_at, kind_at, queue_at}
 use Rattle.abstract_locks.specs.Purposes.{Releases, rules_of}
 use Rattle.abstract_locks.specs.Codes.{bit, code, parked_in}
@@ -32,7 +32,10 @@ use Rattle.std.specs.Prelude.{sum}
 use Rattle.lot_calls.specs.declared.kinds.Kind.{Kind}
 use Rattle.lot_calls.specs.declared.kinds.Kind as kind
 use Rattle.lot_world.specs.Refinement.{lock_state, locks_of, taken_at}
-use Rattle.lot_world.specs.Promises.{WaitsFor, Codes, IsLookedAfter}
+use Rattle.lot_world.specs.Promises.{WaitsFor, want_of, IsDebtorOf, IsLookedAfter, IsOpenNow}
+use Rattle.lot_world.specs.MutexPromises.{IsMutexWord}
+use Rattle.lot_steps.specs.declared.mutex.lock.Entry.TheVariants as entry
+use Rattle.lot_world.specs.Refinement.{entry_purpose}
 use Rattle.lot_world.specs.MutexDeeds.{nowhere, station, station_at, mutex_station, mutex_profile, doing_on, mutex_doing}
 use Rattle.lot_world.specs.SitesOf.{IsSteady, CallsMutex, stood_in, rules_at}
 use Rattle.lot_world.proofs.Glue.{nothing_at}
@@ -41,7 +44,7 @@ use Rattle.lot_world.proofs.StandsKept.{in_main}
 use Rattle.lot_world.proofs.StandsMoved.{mutex_rules}
 use Rattle.lot_world.proofs.SitesKept.{lock_by}
 
-pub codes_by : (e : Option ℕ) (b : Bool) (w : ℕ) → w ≡ one_if_some e + 2 * bit b → Codes w e
+pub codes_by : (e : Option ℕ) (b : Bool) (w : ℕ) → w ≡ one_if_some e + 2 * bit b → IsMutexWord w e
 codes_by e true w h = inr h
 codes_by e false w h = inl (omega arith)
 
@@ -50,16 +53,16 @@ pub unshared_of : (w : State) → IsSteady w → (l : ℕ) → rules_at w l ≡ 
 unshared_of w s l rules = (s.sites.site l).state.unshared (λ h. subst (λ r. locks.Knows r.sort Shared) rules h)
 
 -- each word says whether there is an owner
-pub coded_at : (w : State) → IsSteady w → (l : ℕ) → Codes (word_at w l) (owners_at w l).exclusive
+pub coded_at : (w : State) → IsSteady w → (l : ℕ) → IsMutexWord (word_at w l) (owners_at w l).exclusive
 coded_at w s l = by_kind (kind_at w l) refl
   where
-    of_mutex : rules_at w l ≡ mutex → Codes (word_at w l) (owners_at w l).exclusive
+    of_mutex : rules_at w l ≡ mutex → IsMutexWord (word_at w l) (owners_at w l).exclusive
     of_mutex rules = codes_by (owners_at w l).exclusive (is_parked (word_at w l)) (word_at w l) (s.sites.word l ∙ (λ i. code (rules i) (lock_by w l (rules i))))
 
-    of_unused : has_readers (rules_at w l).sort ≡ true → Codes (word_at w l) (owners_at w l).exclusive
+    of_unused : has_readers (rules_at w l).sort ≡ true → IsMutexWord (word_at w l) (owners_at w l).exclusive
     of_unused readers = let u = s.sites.unused l readers in inl (u.0 ∙ sym (ap one_if_some u.1))
 
-    by_kind : (k : Kind) → kind_at w l ≡ k → Codes (word_at w l) (owners_at w l).exclusive
+    by_kind : (k : Kind) → kind_at w l ≡ k → IsMutexWord (word_at w l) (owners_at w l).exclusive
     by_kind (kind.TheVariants.RwLock limit) e = of_unused (ap (λ k. has_readers (rules_of k).sort) e)
     by_kind (kind.TheVariants.Recursive limit) e = of_unused (ap (λ k. has_readers (rules_of k).sort) e)
     by_kind kind.TheVariants.Mutex e = of_mutex (ap rules_of e)
@@ -72,7 +75,7 @@ waits t [] h e = omega arith
 waits t (x ∷ q) h e = cc
 
 -- no call of a mutex brings waiters
-sets_nothing : (p : Place) (l : ℕ) → (doing_on p l).sets ≡ false
+pub sets_nothing : (p : Place) (l : ℕ) → (doing_on p l).sets ≡ false
 sets_nothing Idle l = refl
 sets_nothing (Mutex k at) l = either (k == l)
   where
@@ -95,12 +98,9 @@ debtor_at (Mutex k at) l d free = either (k == l) refl d free
     either true e f g = record { at = at; is = ap (λ x. Mutex x at) (eqb-true k l e); debtor = f; free = g }
     either false e f g = absurd (elim f [ inl h ↦ cc | inr h ↦ elim h [ inl x ↦ cc | inr x ↦ cc ] ])
 
-abbrev pub Debt : State → ℕ → ℕ → Type 0
-Debt w t l = ((owes_on (place_at w t) l ≡ true) × (((locks_of w).calls t).purpose ≡ Some (Releases l Exclusive false))) ⊎ (((locks_of w).calls t).retries ≡ Some l)
-
 -- what such a place says: it releases, or was woken; it is awake, and stands nowhere
 pub record LooksAfter (w : State) (t l : ℕ) (at : MutexPlace) : Type 0 where
-  pub debt : Debt w t l
+  pub debt : IsDebtorOf w t l Main
   pub awake : act_of (Mutex l at) ≢ Sleep
   pub queued : (mutex_profile at).stands ≡ None
   pub taken : (k : ℕ) → taken_at (Mutex l at) k ≡ None
@@ -116,13 +116,18 @@ not_asleep x y = either (not (is_locked y)) (y == 1)
     either false true h = cc
     either false false h = cc
 
-module _ (w : State) (t l : ℕ) where
-  again : (e : Entry) (b : Bool) (at : LockAt) → place_at w t ≡ Mutex l (Lock e b at) → IsDebtor locks.Mutex (record idle { retries = if b then Some Exclusive else None }) → Debt w t l
-  again e true at is d = inr (rw is refl)
+module _ (w : State) (t l : ℕ) (rules : rules_at w l ≡ mutex) where
+  again : (e : Entry) (b : Bool) (at : LockAt) → place_at w t ≡ Mutex l (Lock e b at) → IsDebtor locks.Mutex (record idle { retries = if b then Some Exclusive else None }) → IsDebtorOf w t l Main
+  again e true at is d = inr (rw is refl, rw is (ap (λ r. counts_some r.sort (want_of (Some (entry_purpose l e)))) rules ∙ wants_all e))
+    where
+      wants_all : (e : Entry) → counts_some locks.Mutex (want_of (Some (entry_purpose l e))) ≡ true
+      wants_all entry.Lock = refl
+      wants_all entry.LockTimed = refl
+      wants_all entry.Bump = refl
   again e false at is d = absurd (elim d [ inl h ↦ cc | inr h ↦ elim h [ inl k ↦ cc | inr k ↦ cc ] ])
 
-  release : (a : UnlockAt) → place_at w t ≡ Mutex l (Unlock a) → mutex_owes (Unlock a) ≡ true → Debt w t l
-  release a is o = inl (rw (is, same l, o) (refl, refl))
+  release : (a : UnlockAt) → place_at w t ≡ Mutex l (Unlock a) → mutex_owes (Unlock a) ≡ true → IsDebtorOf w t l Main
+  release a is o = inl (rw (is, same l, o) refl, rw is (refl, inl refl))
 
   pub looks_after : (at : MutexPlace) → place_at w t ≡ Mutex l at → IsDebtor locks.Mutex (mutex_doing at) → ((mutex_doing at).claims ≡ Some (Has Exclusive) → ⊥) → LooksAfter w t l at
   looks_after (Lock e b lock.First) is d free = record { debt = again e b lock.First is d; awake = λ h. cc; queued = refl; taken = λ k. refl }
@@ -132,10 +137,10 @@ module _ (w : State) (t l : ℕ) where
   looks_after (Lock e b (lock.Leave false)) is d free = record { debt = again e b (lock.Leave false) is d; awake = λ h. cc; queued = refl; taken = λ k. refl }
   looks_after (Unlock unlock.Enter) is d free = record { debt = release unlock.Enter is refl; awake = λ h. cc; queued = refl; taken = λ k. refl }
   looks_after (Unlock unlock.Take) is d free = record { debt = release unlock.Take is refl; awake = λ h. cc; queued = refl; taken = λ k. refl }
-  looks_after (Unlock (unlock.Clear taken)) is d free = record { debt = release (unlock.Clear taken) is refl; awake = λ h. cc; queued = refl; taken = λ k. refl }
-  looks_after (Unlock (unlock.Leave taken)) is d free = record { debt = release (unlock.Leave taken) is refl; awake = λ h. cc; queued = refl; taken = λ k. refl }
-  looks_after (HandOff bumps (hand_off.Store None b)) is d free = absurd (free refl)
-  looks_after (HandOff bumps (hand_off.Store (Some u) b)) is d free = absurd (free refl)
+  looks_after (Unlock (unlock.Clear any)) is d free = record { debt = release (unlock.Clear any) is refl; awake = λ h. cc; queued = refl; taken = λ k. refl }
+  looks_after (Unlock (unlock.Leave any)) is d free = record { debt = release (unlock.Leave any) is refl; awake = λ h. cc; queued = refl; taken = λ k. refl }
+  looks_after (HandOff bumps (hand_off.Store false b)) is d free = absurd (free refl)
+  looks_after (HandOff bumps (hand_off.Store true b)) is d free = absurd (free refl)
   looks_after at is d free = absurd (elim d [ inl h ↦ cc | inr h ↦ elim h [ inl k ↦ cc | inr k ↦ cc ] ])
 
 -- who stands in a line calls the lock
@@ -172,13 +177,15 @@ module _ (w : State) (s : IsSteady w) where
   nowhere_then : (u : ℕ) (at : MutexPlace) {l : ℕ} → place_at w u ≡ Mutex l at → (mutex_profile at).stands ≡ None → (j : ℕ) → (station_at (place_at w u) j).stands ≡ None
   nowhere_then u at is out j = nothing_at (place_at w u) j (λ x. x.stands) refl (ap (λ x. (station x).stands) is ∙ out)
 
-  pub looked_after : (t l : ℕ) → WaitsFor w t l → (lock_state w l).exclusive ≡ None → IsLookedAfter w l
-  looked_after t l h free =
+  pub looked_after : (t l : ℕ) → WaitsFor w t l → IsOpenNow (rules_at w l) (lock_state w l) → IsLookedAfter w l Main
+  looked_after t l h open_now =
       let rules : rules_at w l ≡ mutex = rules_waited t l h in
+      let now : IsOpenNow mutex (lock_state w l) = subst (λ r. IsOpenNow r (lock_state w l)) rules open_now in
+      let free : (lock_state w l).exclusive ≡ None = elim now [ inl e ↦ e | inr other ↦ absurd (let e : locks.Mutex ≡ locks.Semaphore = other.0 in cc) ] in
       let site : IsSite mutex (lock_by w l mutex) = subst (λ r. IsSite r (lock_by w l r)) rules (s.sites.site l) in
       let d = site.main (inl (waits t (lock_state w l).queue h)) free (s.sites.unfilled l (ap (λ r. has_readers r.sort) rules)) in
       let p : Owes (place_at w d.0) l = debtor_at (place_at w d.0) l d.1 (λ c. let own : (lock_state w l).exclusive ≡ Some d.0 = site.held d.0 (Has Exclusive) c in cc) in
-      let k : LooksAfter w d.0 l p.at = looks_after w d.0 l p.at p.is p.debtor p.free in
+      let k : LooksAfter w d.0 l p.at = looks_after w d.0 l rules p.at p.is p.debtor p.free in
       record {
         debtor = d.0;
         debt = k.debt;

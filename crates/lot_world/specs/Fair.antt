@@ -5,7 +5,7 @@ use Rattle.lot_steps.specs.MutexSteps.{is_locked, is_parked}
 use Rattle.lot_world.specs.Machine.{State, word_at}
 use Rattle.abstract_locks.specs.Locks.{Owns, IsTaken, HasTakenNobody, first_thread}
 use Rattle.abstract_locks.specs.Purposes.{Purpose, Releases, Bumps}
-use Rattle.lot_world.specs.Refinement.{lock_state, locks_of}
+use Rattle.lot_world.specs.Refinement.{lock_state, call_at}
 
 -- unlock_fair, the unlock of a fair mutex, or a bump
 abbrev pub IsFairRelease : Option Purpose → ℕ → Type 0
@@ -15,7 +15,7 @@ IsFairRelease purpose k = ⊥
 
 -- an owner that releases its mutex fairly
 abbrev pub ReleasesFairly : State → ℕ → ℕ → Type 0
-ReleasesFairly w t l = IsFairRelease ((locks_of w).calls t).purpose l × Owns (lock_state w l) t Exclusive
+ReleasesFairly w t l = IsFairRelease (call_at w t).purpose l × Owns (lock_state w l) t Exclusive
 
 -- it owns the mutex still
 abbrev pub OwnsOn : State → ℕ → ℕ → Type 0
@@ -23,14 +23,19 @@ OwnsOn v t l = Owns (lock_state v l) t Exclusive × (is_locked (word_at v l) ≡
 
 -- the waiter that it has taken owns the mutex in its place, and the word stays locked
 abbrev pub HandsOver : State → State → ℕ → ℕ → Type 0
-HandsOver w v t l = (u : ℕ) × IsTaken (lock_state w l) t u Exclusive × Owns (lock_state v l) u Exclusive × (is_locked (word_at v l) ≡ true)
+HandsOver w v t l =
+    (u : ℕ) × IsTaken (lock_state w l) t u Exclusive × Owns (lock_state v l) u Exclusive
+    × (is_locked (word_at v l) ≡ true)
 
 -- nobody owns the mutex then: it had taken nobody, and the parked bit was clear or the queue empty
 abbrev pub LetsGo : State → State → ℕ → ℕ → Type 0
-LetsGo w v t l = ((lock_state v l).exclusive ≡ None) × HasTakenNobody (lock_state w l) t × ((is_parked (word_at w l) ≡ false) ⊎ ((lock_state w l).queue ≡ []))
+LetsGo w v t l =
+    ((lock_state v l).exclusive ≡ None) × HasTakenNobody (lock_state w l) t
+    × ((is_parked (word_at w l) ≡ false) ⊎ ((lock_state w l).queue ≡ []))
 
 -- a step of any thread, from w to v
 pub record IsFair (w v : State) : Type 0 where
   pub gives : (t l : ℕ) → ReleasesFairly w t l → OwnsOn v t l ⊎ (HandsOver w v t l ⊎ LetsGo w v t l)
   -- whom it has taken was the first of the queue
-  pub takes : (t l u : ℕ) → ReleasesFairly w t l → IsTaken (lock_state v l) t u Exclusive → IsTaken (lock_state w l) t u Exclusive ⊎ (first_thread (lock_state w l).queue ≡ Some u)
+  pub takes : (t l u : ℕ) → ReleasesFairly w t l → IsTaken (lock_state v l) t u Exclusive
+      → IsTaken (lock_state w l) t u Exclusive ⊎ (first_thread (lock_state w l).queue ≡ Some u)

@@ -13,6 +13,7 @@ pub mod Fits
 pub mod Views
 pub mod Refinement
 pub mod Promises
+pub mod MutexPromises
 pub mod Fair
 pub mod Owing
 pub mod WorldRuns

@@ -5,7 +5,7 @@ use Rattle.lot_calls.specs.declared.outcomes.Outcome.TheVariants as told
 use Rattle.lot_steps.specs.MutexSteps.{is_parked}
 use Rattle.lot_steps.specs.Steps.{owes_on}
 use Rattle.lot_world.specs.Machine.{State, place_at, word_at, section_at}
-use Rattle.lot_world.specs.Refinement.{locks_of}
+use Rattle.lot_world.specs.Refinement.{call_at}
 use Rattle.abstract_locks.specs.Purposes.{IsReleasing}
 
 -- a thread is shown to owe a wake on a lock
@@ -16,9 +16,13 @@ Owes w t l = owes_on (place_at w t) l ≡ true
 abbrev pub IsInside : State → ℕ → ℕ → Type 0
 IsInside w t l = section_at w (2 * l) ≡ Some t
 
+-- its call releases the lock
+abbrev pub ReleasesLock : State → ℕ → ℕ → Type 0
+ReleasesLock w t l = IsReleasing (call_at w t).purpose (call_at w t).released l
+
 -- a call that releases the lock finds a word that says that somebody may wait, and goes on
 abbrev pub SeesWaiters : State → ℕ → ℕ → Outcome → Type 0
-SeesWaiters w t l o = IsReleasing ((locks_of w).calls t).purpose ((locks_of w).calls t).released l × (is_parked (word_at w l) ≡ true) × (o ≡ told.Step)
+SeesWaiters w t l o = ReleasesLock w t l × (is_parked (word_at w l) ≡ true) × (o ≡ told.Step)
 
 -- in a step from w to v its thread begins and ends to owe by what it sees and where it is, and no other thread does
 pub record OwesSince (w : State) (t : ℕ) (o : Outcome) (v : State) : Type 0 where

@@ -90,7 +90,8 @@ keys_entered (Enter keys) = Some keys
 keys_entered a = None
 
 abbrev pub stance_by : Act → Option ℕ → Stance
-stance_by a spins_on = record { asleep = sleeps a; in_closure = runs_closure a; enters = keys_entered a; may_spin = is_there spins_on }
+stance_by a spins_on =
+    record { asleep = sleeps a; in_closure = runs_closure a; enters = keys_entered a; may_spin = is_there spins_on }
 
 -- by what it does next
 abbrev pub stance_of : Place → Stance
@@ -116,8 +117,13 @@ locks_of w = record {
   stances = λ t. stance_of (place_at w t);
 }
 
+-- the call of a thread
+abbrev pub call_at : State → ℕ → CallState
+call_at w t = (locks_of w).calls t
+
 -- a step changes one word at most, or queues whose sections its thread is in, never both
 abbrev pub ChangesOneThing : State → ℕ → State → Type 0
 ChangesOneThing w t v =
     ((l : ℕ) × ((k : ℕ) → k ≢ l → word_at v k ≡ word_at w k) × ((key : ℕ) → queue_at v key ≡ queue_at w key))
-    ⊎ (((l : ℕ) → word_at v l ≡ word_at w l) × ((key : ℕ) → (queue_at v key ≡ queue_at w key) ⊎ (section_at w key ≡ Some t)))
+    ⊎ (((l : ℕ) → word_at v l ≡ word_at w l)
+    × ((key : ℕ) → (queue_at v key ≡ queue_at w key) ⊎ (section_at w key ≡ Some t)))

@@ -38,11 +38,13 @@ entered_answer how = answer.TheVariants.Yes
 -- a call that waits enters where it may, and else is the last of the queue, asleep
 abbrev pub EntersAlone : LocksState → ℕ → ℕ → Want → Patience → Outcome → LocksState → Type 0
 EntersAlone w t l x Try o v =
-    (MayEnter (rules_at w l) (w.locks l) x → (o ≡ outcome.TheVariants.End answer.TheVariants.Yes) × Owns (v.locks l) t x)
+    (MayEnter (rules_at w l) (w.locks l) x
+    → (o ≡ outcome.TheVariants.End answer.TheVariants.Yes) × Owns (v.locks l) t x)
     × (IsBlocked (rules_at w l) (w.locks l) x → o ≡ outcome.TheVariants.End answer.TheVariants.No)
 EntersAlone w t l x how o v =
     (MayEnter (rules_at w l) (w.locks l) x → (o ≡ outcome.TheVariants.End (entered_answer how)) × Owns (v.locks l) t x)
-    × (IsBlocked (rules_at w l) (w.locks l) x → (o ≡ outcome.TheVariants.Sleep) × ((v.locks l).queue ≡ (w.locks l).queue ++ (record { thread = t; want = x }) ∷ []))
+    × (IsBlocked (rules_at w l) (w.locks l) x
+    → (o ≡ outcome.TheVariants.Sleep) × ((v.locks l).queue ≡ (w.locks l).queue ++ (record { thread = t; want = x }) ∷ []))
 
 -- a fair release leaves the lock to the first waiter, and any other to nobody
 abbrev pub successor : Bool → List Queued → Option ℕ
@@ -59,12 +61,15 @@ ReleasesAlone w t l x fair o v = (o ≡ outcome.TheVariants.End answer.TheVarian
 -- waits it ends with the mutex
 abbrev pub BumpsAlone : ℕ → ℕ → List Queued → Outcome → LockState → Type 0
 BumpsAlone t l [] o s = (o ≡ outcome.TheVariants.End answer.TheVariants.Ok) × (s.exclusive ≡ Some t)
-BumpsAlone t l (x ∷ q) o s = (o ≡ outcome.TheVariants.Sleep) × (s.exclusive ≡ Some x.thread) × (s.queue ≡ q ++ (record { thread = t; want = Exclusive }) ∷ [])
+BumpsAlone t l (x ∷ q) o s =
+    (o ≡ outcome.TheVariants.Sleep) × (s.exclusive ≡ Some x.thread)
+    × (s.queue ≡ q ++ (record { thread = t; want = Exclusive }) ∷ [])
 
 abbrev pub EndsAlone : LocksState → ℕ → Option Purpose → Outcome → LocksState → Type 0
 EndsAlone w t (Some (Enters l x how)) o v = EntersAlone w t l x how o v
 EndsAlone w t (Some (Releases l x fair)) o v = ReleasesAlone w t l x fair o v
-EndsAlone w t (Some (Bumps l Exclusive)) o v = (rules_at w l).sort ≡ Mutex → BumpsAlone t l (w.locks l).queue o (v.locks l)
+EndsAlone w t (Some (Bumps l Exclusive)) o v =
+    (rules_at w l).sort ≡ Mutex → BumpsAlone t l (w.locks l).queue o (v.locks l)
 EndsAlone w t purpose o v = Unit {0}
 
 -- the last of what was told, and NotNow where nothing was

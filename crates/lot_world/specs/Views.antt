@@ -21,7 +21,9 @@ pending_of (Some p) = (Pending, p.thread) ∷ []
 
 -- the exclusive, pending, upgradable and running owner
 abbrev pub owners_listed : Owners → List (Owner × ℕ)
-owners_listed o = owner_of Exclusive o.exclusive ++ (pending_of o.pending ++ (owner_of Upgradable o.upgradable ++ owner_of Running o.running))
+owners_listed o =
+    owner_of Exclusive o.exclusive
+    ++ (pending_of o.pending ++ (owner_of Upgradable o.upgradable ++ owner_of Running o.running))
 
 abbrev pub owners_of : State → ℕ → List (Owner × ℕ)
 owners_of w l = owners_listed (owners_at w l)
@@ -41,7 +43,9 @@ has_debt p Retries l = retries_on p l
 -- the threads of some places that have a debt on a lock, where the first place is that of this thread
 abbrev pub debtors : Debt → ℕ → ℕ → List Place → List (Debt × ℕ)
 debtors debt l t [] = []
-debtors debt l t (p ∷ ps) = if has_debt p debt l then (debt, t) ∷ debtors debt l (t + 1) ps else debtors debt l (t + 1) ps
+debtors debt l t (p ∷ ps) =
+    if has_debt p debt l then (debt, t) ∷ debtors debt l (t + 1) ps
+    else debtors debt l (t + 1) ps
 
 -- who owes a wake on a lock, then who tries again
 abbrev pub debts_of : State → ℕ → List (Debt × ℕ)

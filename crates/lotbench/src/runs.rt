@@ -1,6 +1,7 @@
 //! Plans, carried out by threads.
 ghost use Rattle.std.specs.Prelude.{◌≡◌, ◌≤◌, IfOk, IfSome, All};
 ghost use Rattle.std.specs.Arc.{arc_value};
+ghost use Rattle.parking_lot.specs.Users.{lock_of, lot_of};
 ghost use Rattle.parking_lot_core.specs.Tokens.{IsTicketOf, IsTokenOf};
 
 use crate::plans::{Mode, Plan};
@@ -31,7 +32,7 @@ struct Bench {
     raw: RawMutex,
     mutex: Mutex<u64>,
     fair: FairMutex<u64>,
-    ghost together: { (arc_value mutex.raw.lot ≡ arc_value raw.lot) × (arc_value fair.raw.raw.lot ≡ arc_value raw.lot) },
+    ghost together: { (lot_of mutex ≡ lot_of raw) × (lot_of fair ≡ lot_of raw) },
 }
 
 fn one_of(lot: &ParkingLot, tickets: &mut Vec<Ticket>) -> Option<Ticket>
@@ -55,7 +56,7 @@ fn put_back(lot: &ParkingLot, tickets: &mut Vec<Ticket>, ticket: Ticket) -> Resu
 // The mutexes, drawn from the lot by the thread of a ticket.
 fn bench_by(lot: &Arc<ParkingLot>, ticket: Ticket) -> Result<(Bench, Ticket), Fault>
     requires { IsTicketOf (arc_value lot.now) ticket }
-    ensures { IfOk result (λ made. (arc_value made.0.raw.lot ≡ arc_value lot.now) × IsTicketOf (arc_value lot.now) made.1) }
+    ensures { IfOk result (λ made. (lot_of made.0.raw ≡ arc_value lot.now) × IsTicketOf (arc_value lot.now) made.1) }
 {
     let mut token = ticket.enter();
     let raw = RawMutex::new(lot, &mut token)?;
@@ -72,7 +73,7 @@ fn bench_by(lot: &Arc<ParkingLot>, ticket: Ticket) -> Result<(Bench, Ticket), Fa
 // A lot with so many threads, and mutexes of it.
 fn bench_for(alloc: Global, threads: usize) -> Result<(Bench, Vec<Ticket>), Fault>
     requires { (1 ≤ threads) × (threads ≤ 64) }
-    ensures { IfOk result (λ made. All (IsTicketOf (arc_value made.0.raw.lot)) made.1.items) }
+    ensures { IfOk result (λ made. All (IsTicketOf (lot_of made.0.raw)) made.1.items) }
 {
     let (lot, mut tickets) = ParkingLot::new(alloc, 3, threads)?;
     let Some(first) = one_of(&lot, &mut tickets) else {
@@ -103,9 +104,9 @@ fn guard_by_tries<'a, M: RawLock, R: Wait>(
     mutex: &'a lock_api::Mutex<M, u64>,
     token: &mut M::Token,
 ) -> lock_api::MutexGuard<'a, M, u64>
-    requires { M.is_token_of (M.lot_of mutex.now.raw) token.old }
-    ensures token { M.is_token_of (M.lot_of mutex.now.raw) token.new }
-    ensures guard { result.taken.mutex.now ≡ mutex.now }
+    requires { M.is_token_of (M.lot_of mutex.now) token.old }
+    ensures token { M.is_token_of (M.lot_of mutex.now) token.new }
+    ensures guard { lock_of result ≡ mutex.now }
 {
     for _ in rt.forever() {
         if let Some(guard) = mutex.try_lock(rt, token) {
@@ -141,8 +142,8 @@ fn lock_value<M: RawLock, R: Wait>(
     token: &mut M::Token,
     times: u64,
 )
-    requires { M.is_token_of (M.lot_of mutex.now.raw) token.old }
-    ensures { M.is_token_of (M.lot_of mutex.now.raw) token.new }
+    requires { M.is_token_of (M.lot_of mutex.now) token.old }
+    ensures { M.is_token_of (M.lot_of mutex.now) token.new }
 {
     for _ in 0..times {
         let mut guard = mutex.lock(rt, token);
@@ -157,8 +158,8 @@ fn try_value<M: RawLock, R: Wait>(
     token: &mut M::Token,
     times: u64,
 )
-    requires { M.is_token_of (M.lot_of mutex.now.raw) token.old }
-    ensures { M.is_token_of (M.lot_of mutex.now.raw) token.new }
+    requires { M.is_token_of (M.lot_of mutex.now) token.old }
+    ensures { M.is_token_of (M.lot_of mutex.now) token.new }
 {
     for _ in 0..times {
         let mut guard = guard_by_tries(rt, mutex, token);
@@ -169,7 +170,7 @@ fn try_value<M: RawLock, R: Wait>(
 
 // Does operations until none is left. How many it did.
 fn work<R: Wait>(rt: &R, mode: Mode, bench: &Bench, ticket: Ticket, shares: &Shares) -> u64
-    requires { IsTicketOf (arc_value bench.now.raw.lot) ticket }
+    requires { IsTicketOf (lot_of bench.now.raw) ticket }
 {
     let mut token = ticket.enter();
     let mut done = 0u64;

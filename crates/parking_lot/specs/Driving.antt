@@ -1,6 +1,7 @@
 -- Threads and mutexes that meet, and the rights of these.
 use Rattle.std.specs.Prelude.{◌≡◌, ◌<◌}
 use Rattle.std.proofs.Props.{props}
+use Rattle.std.proofs.Common.{◌∙◌}
 use Rattle.lot_words.specs.Lots.{IsWordOf}
 use Rattle.lot_words.specs.RightsOf.{IsRightOf}
 use Rattle.lot_words.specs.declared.owners.Owner.TheVariants.{Exclusive}
@@ -26,3 +27,6 @@ IsGuardOf-prop lot word guard = Prim.hlevel props
 -- it is the same thread, and owns what it did
 abbrev pub StaysAs : Token → Token → Type 0
 StaysAs old new = (new.number ≡ old.number) × ((view_of new).owns ≡ (view_of old).owns)
+
+pub StaysAs-on : (first next last : Token) → StaysAs first next → StaysAs next last → StaysAs first last
+StaysAs-on first next last a b = (b.0 ∙ a.0, b.1 ∙ a.1)

@@ -3,13 +3,14 @@ ghost use Rattle.std.specs.Prelude.{◌≡◌};
 ghost use Rattle.std.specs.Arc.{arc_value};
 ghost use Rattle.parking_lot_core.specs.Tokens.{IsTokenOf, view_of, last_of};
 ghost use Rattle.parking_lot.specs.Calls.{beginning, fairly, Sees, Releases};
-ghost use Rattle.parking_lot.specs.Driving.{IsGuardOf, IsGuardOf-prop, StaysAs};
+ghost use Rattle.parking_lot.specs.Driving.{IsGuardOf, IsGuardOf-prop, StaysAs, StaysAs-on};
 ghost use Rattle.parking_lot.specs.Paths.{mutex_at, Walks};
 
 use crate::guards::RawGuard;
 use crate::raw_mutex::RawMutex;
 use lock_raw::{RawMutexFair, RawMutexTimed};
 use parking_lot_core::{Clock, Fault, Key, ParkingLot, Token};
+use std::marker::Model;
 use std::sync::{Arc, Wait};
 use std::time::Duration;
 
@@ -17,6 +18,15 @@ use std::time::Duration;
 #[derive(Drop)]
 pub struct RawFairMutex {
     raw: RawMutex,
+}
+
+// In a clause it is its raw mutex.
+impl Model for RawFairMutex {
+    ghost use Rattle.parking_lot.specs.declared.raw_mutex.RawMutex.{RawMutex};
+
+    ghost Value = { RawMutex };
+
+    ghost view = { λ mutex. mutex.raw };
 }
 
 impl RawFairMutex {
@@ -33,21 +43,23 @@ impl lock_raw::RawMutex for RawFairMutex {
 
     type Guard = RawGuard;
 
-    ghost lot_of = { λ mutex. arc_value mutex.raw.lot };
+    ghost lot_of = { λ mutex. arc_value mutex.lot };
 
     ghost is_token_of = { λ lot token. IsTokenOf lot token };
 
     ghost stays = { λ old new. StaysAs old new };
 
-    ghost is_guard_of = { λ mutex guard. IsGuardOf (arc_value mutex.raw.lot) mutex.raw.word guard };
+    ghost stays_on = { StaysAs-on };
 
-    ghost guard_once = { λ mutex guard. IsGuardOf-prop (arc_value mutex.raw.lot) mutex.raw.word guard };
+    ghost is_guard_of = { λ mutex guard. IsGuardOf (arc_value mutex.lot) mutex.word guard };
 
-    ghost walked = { λ mutex call answer old new. Walks (mutex_at mutex.raw.word.number) (beginning mutex.raw.word.number (fairly call)) (view_of old).steps (view_of new).steps answer };
+    ghost guard_once = { λ mutex guard. IsGuardOf-prop (arc_value mutex.lot) mutex.word guard };
 
-    ghost released = { λ mutex call old new. Releases mutex.raw.word.number (fairly call) (view_of old).steps (view_of new).steps (last_of new) };
+    ghost walked = { λ mutex call answer old new. Walks (mutex_at mutex.word.number) (beginning mutex.word.number (fairly call)) (view_of old).steps (view_of new).steps answer };
 
-    ghost looked = { λ mutex locked old new. Sees mutex.raw.word.number locked (view_of old).steps (view_of new).steps };
+    ghost released = { λ mutex call old new. Releases mutex.word.number (fairly call) (view_of old).steps (view_of new).steps (last_of new) };
+
+    ghost looked = { λ mutex locked old new. Sees mutex.word.number locked (view_of old).steps (view_of new).steps };
 
     fn new(lot: &Arc<ParkingLot>, token: &mut Token) -> Result<RawFairMutex, Fault> {
         let raw = <RawMutex as lock_raw::RawMutex>::new(lot, token)?;

@@ -11,7 +11,7 @@ ghost use Rattle.lot_words.specs.declared.words.WordKind.TheVariants.{Mutex};
 ghost use Rattle.parking_lot_core.specs.Tokens.{IsTokenOf, Stays, view_of, last_of};
 ghost use Rattle.lot_words.specs.declared.views.WordStep.{WordStep};
 ghost use Rattle.parking_lot.specs.Calls.{beginning, first_op, purpose_in, GoesOn, Sees, Releases};
-ghost use Rattle.parking_lot.specs.Driving.{IsGuardOf, IsGuardOf-prop, MeetAt, StaysAs};
+ghost use Rattle.parking_lot.specs.Driving.{IsGuardOf, IsGuardOf-prop, MeetAt, StaysAs, StaysAs-on};
 ghost use Rattle.parking_lot.specs.Fitting.{IsOver, held};
 ghost use Rattle.parking_lot.specs.Paths.{mutex_at, Walks};
 ghost use Rattle.parking_lot.specs.Paths.{step as seen_step};
@@ -21,7 +21,7 @@ use crate::driver::{NO_LIMIT, behind, step};
 use crate::guards::RawGuard;
 use lot_base::main_key;
 use lot_calls::{Answer, MutexCall};
-use lot_steps::mutex::{LOCKED, is_locked, is_parked};
+use lot_steps::mutex::{LOCKED, PARKED, is_locked, is_parked};
 use parking_lot_core::{
     Clock, Fault, Key, Op, ParkingLot, Token, Want, Word, WordKind, to_deadline,
 };
@@ -49,49 +49,53 @@ pub struct RawMutex {
 }
 
 impl RawMutex {
+    ghost use Rattle.parking_lot.specs.Users.{lot_of, word_of};
+
     /// The key of its queue.
     pub fn key(&self) -> Key
-        ensures { result ≡ 2 * self.now.word.number }
+        ensures { result ≡ 2 * (word_of self.now).number }
     {
         main_key(self.word.number())
     }
 
-    // The guard of who owns the mutex.
+    // The guard of who owns the mutex. It takes the lot from its caller, who has it at hand: behind an atomic step it would be loaded anew.
     #[inline]
-    fn split(&self, token: &mut Token) -> RawGuard
-        requires own { IsTokenOf (arc_value self.now.lot) token.old }
-        requires held { has (held self.now.word.number) (view_of token.old).owns ≡ true }
-        ensures own { Stays (arc_value self.now.lot) token.old token.new × (last_of token.new ≡ last_of token.old) }
-        ensures left { view_of token.new ≡ left_over (held self.now.word.number) (view_of token.old) }
-        ensures guard { IsGuardOf (arc_value self.now.lot) self.now.word result }
+    fn split(&self, lot: &ParkingLot, token: &mut Token) -> RawGuard
+        requires lot { lot.now ≡ lot_of self.now }
+        requires own { IsTokenOf (lot_of self.now) token.old }
+        requires held { has (held (word_of self.now).number) (view_of token.old).owns ≡ true }
+        ensures own { Stays (lot_of self.now) token.old token.new × (last_of token.new ≡ last_of token.old) }
+        ensures left { view_of token.new ≡ left_over (held (word_of self.now).number) (view_of token.old) }
+        ensures guard { IsGuardOf (lot_of self.now) (word_of self.now) result }
     {
         RawGuard {
-            right: self.lot.split_right(token, self.word, Want::Exclusive),
+            right: lot.split_right(token, self.word, Want::Exclusive),
         }
     }
 
     // Spends a guard: the token owns the mutex then.
     #[inline]
-    fn join(&self, token: &mut Token, guard: RawGuard)
-        requires { IsTokenOf (arc_value self.now.lot) token.old × IsGuardOf (arc_value self.now.lot) self.now.word guard }
-        ensures own { Stays (arc_value self.now.lot) token.old token.new × (last_of token.new ≡ last_of token.old) }
-        ensures joined { view_of token.new ≡ takes_in (view_of token.old) (piece (held self.now.word.number)) }
+    fn join(&self, lot: &ParkingLot, token: &mut Token, guard: RawGuard)
+        requires lot { lot.now ≡ lot_of self.now }
+        requires own { IsTokenOf (lot_of self.now) token.old × IsGuardOf (lot_of self.now) (word_of self.now) guard }
+        ensures own { Stays (lot_of self.now) token.old token.new × (last_of token.new ≡ last_of token.old) }
+        ensures joined { view_of token.new ≡ takes_in (view_of token.old) (piece (held (word_of self.now).number)) }
     {
         let RawGuard { right } = guard;
-        self.lot.join_right(token, right);
+        lot.join_right(token, right);
     }
 
     // The slow half of a call without a limit. It takes the mutex by its address, so that the fast half copies nothing.
     #[cold]
     #[inline(never)]
     fn go_on<R: Wait>(&self, rt: &R, token: &mut Token, call: MutexCall, seen: u64) -> Answer
-        requires own { MeetAt (arc_value self.now.lot) token.old self.now.word }
-        requires goes_on { GoesOn self.now.word.number call seen (view_of token.old).owns }
-        ensures own { Stays (arc_value self.now.lot) token.old token.new }
-        ensures path { (before : List WordStep) → (view_of token.old).steps ≡ before ++ seen_step (mutex_at self.now.word.number) (first_op call) seen
-            → Walks (mutex_at self.now.word.number) (beginning self.now.word.number call) before (view_of token.new).steps result }
+        requires own { MeetAt (lot_of self.now) token.old (word_of self.now) }
+        requires goes_on { GoesOn (word_of self.now).number call seen (view_of token.old).owns }
+        ensures own { Stays (lot_of self.now) token.old token.new }
+        ensures path { (before : List WordStep) → (view_of token.old).steps ≡ before ++ seen_step (mutex_at (word_of self.now).number) (first_op call) seen
+            → Walks (mutex_at (word_of self.now).number) (beginning (word_of self.now).number call) before (view_of token.new).steps result }
         ensures rest { (more : List WordStep) × ((view_of token.new).steps ≡ (view_of token.old).steps ++ more) }
-        ensures over { IsOver self.now.word.number (view_of token.old).owns (purpose_in call) result (stage_of token.new None) }
+        ensures over { IsOver (word_of self.now).number (view_of token.old).owns (purpose_in call) result (stage_of token.new None) }
     {
         behind(rt, &self.lot, token, self.word, NO_LIMIT, call, seen)
     }
@@ -103,25 +107,27 @@ impl RawMutex {
         token: &mut Token,
         limit: Option<(&C, u64)>,
     ) -> Option<RawGuard>
-        requires { IsTokenOf (arc_value self.now.lot) token.old }
-        ensures token { IsTokenOf (arc_value self.now.lot) token.new × StaysAs token.old token.new }
-        ensures guard { IfSome result (IsGuardOf (arc_value self.now.lot) self.now.word) }
-        ensures path { Walks (mutex_at self.now.word.number) (beginning self.now.word.number LockTimed) (view_of token.old).steps (view_of token.new).steps (answer_by result) }
+        requires { IsTokenOf (lot_of self.now) token.old }
+        ensures token { IsTokenOf (lot_of self.now) token.new × StaysAs token.old token.new }
+        ensures guard { IfSome result (IsGuardOf (lot_of self.now) (word_of self.now)) }
+        ensures path { Walks (mutex_at (word_of self.now).number) (beginning (word_of self.now).number LockTimed) (view_of token.old).steps (view_of token.new).steps (answer_by result) }
     {
         let lot: &ParkingLot = &self.lot;
         let seen = step(lot, token, self.word, ENTER);
         if seen == 0 {
-            return Some(self.split(token));
+            return Some(self.split(lot, token));
         }
         let answer = behind(rt, lot, token, self.word, limit, MutexCall::LockTimed, seen);
         if matches!(answer, Answer::No) {
             return None;
         }
-        Some(self.split(token))
+        Some(self.split(lot, token))
     }
 }
 
 impl lock_raw::RawMutex for RawMutex {
+    ghost use Rattle.parking_lot.specs.Users.{lot_of as lot_at, word_of};
+
     type Lot = ParkingLot;
 
     type Token = Token;
@@ -133,6 +139,8 @@ impl lock_raw::RawMutex for RawMutex {
     ghost is_token_of = { λ lot token. IsTokenOf lot token };
 
     ghost stays = { λ old new. StaysAs old new };
+
+    ghost stays_on = { StaysAs-on };
 
     ghost is_guard_of = { λ mutex guard. IsGuardOf (arc_value mutex.lot) mutex.word guard };
 
@@ -147,8 +155,8 @@ impl lock_raw::RawMutex for RawMutex {
     fn new(lot: &Arc<ParkingLot>, token: &mut Token) -> Result<RawMutex, Fault>
         requires { IsTokenOf (arc_value lot.now) token.old }
         ensures token { IsTokenOf (arc_value lot.now) token.new × StaysAs token.old token.new }
-        ensures made { MatchResult result (λ mutex. arc_value mutex.lot ≡ arc_value lot.now) (λ fault. (fault ≡ Fault.NoMemory) ⊎ (fault ≡ Fault.LotFull)) }
-        ensures drawn { MatchResult result (λ mutex. IsDrawn (arc_value lot.now).words.count (Mutex ∷ []) mutex.word.number (view_of token.old) (view_of token.new))
+        ensures made { MatchResult result (λ mutex. lot_at mutex ≡ arc_value lot.now) (λ fault. (fault ≡ Fault.NoMemory) ⊎ (fault ≡ Fault.LotFull)) }
+        ensures drawn { MatchResult result (λ mutex. IsDrawn (arc_value lot.now).words.count (Mutex ∷ []) (word_of mutex).number (view_of token.old) (view_of token.new))
             (λ fault. ((fault ≡ Fault.NoMemory) × (token.new ≡ token.old)) ⊎ ((fault ≡ Fault.LotFull) × IsRefused (arc_value lot.now).words.count 1 (view_of token.old) (view_of token.new))) }
     {
         let Ok(lot) = Arc::try_clone(lot) else {
@@ -164,27 +172,29 @@ impl lock_raw::RawMutex for RawMutex {
         let seen = step(lot, token, self.word, ENTER);
         if seen != 0 {
             self.go_on(rt, token, MutexCall::Lock, seen);
-            return self.split(token);
+            return self.split(lot, token);
         }
-        self.split(token)
+        self.split(lot, token)
     }
 
     #[inline]
     fn try_lock(&self, token: &mut Token) -> Option<RawGuard> {
-        let seen = step(&self.lot, token, self.word, Op::Or(LOCKED));
+        let lot: &ParkingLot = &self.lot;
+        let seen = step(lot, token, self.word, Op::Or(LOCKED));
         if is_locked(seen) {
             return None;
         }
-        Some(self.split(token))
+        Some(self.split(lot, token))
     }
 
     #[inline]
     fn unlock<R: Wait>(&self, rt: &R, token: &mut Token, guard: RawGuard) {
         let lot: &ParkingLot = &self.lot;
-        self.join(token, guard);
+        self.join(lot, token, guard);
         let seen = step(lot, token, self.word, Op::Sub(LOCKED));
-        if is_parked(seen) {
-            self.go_on(rt, token, MutexCall::Unlock, seen);
+        // An owner finds one of two values. The flags of the subtraction tell them apart, so the value isn't asked for.
+        if seen != LOCKED {
+            self.go_on(rt, token, MutexCall::Unlock, LOCKED | PARKED);
         }
     }
 
@@ -195,9 +205,10 @@ impl lock_raw::RawMutex for RawMutex {
 
     // A step of who owns the mutex twice would find a word that says so, and there is none.
     fn has_two_guards(&self, token: &mut Token, one: RawGuard, other: RawGuard) -> ! {
-        self.join(token, one);
-        self.join(token, other);
-        step(&self.lot, token, self.word, Op::Load);
+        let lot: &ParkingLot = &self.lot;
+        self.join(lot, token, one);
+        self.join(lot, token, other);
+        step(lot, token, self.word, Op::Load);
         unreachable!()
     }
 }
@@ -206,7 +217,7 @@ impl lock_raw::RawMutexFair for RawMutex {
     #[inline]
     fn unlock_fair<R: Wait>(&self, rt: &R, token: &mut Token, guard: RawGuard) {
         let lot: &ParkingLot = &self.lot;
-        self.join(token, guard);
+        self.join(lot, token, guard);
         let seen = step(lot, token, self.word, LEAVE);
         if seen != LOCKED {
             self.go_on(rt, token, MutexCall::UnlockFair, seen);
@@ -216,13 +227,13 @@ impl lock_raw::RawMutexFair for RawMutex {
     #[inline]
     fn bump<R: Wait>(&self, rt: &R, token: &mut Token, guard: RawGuard) -> RawGuard {
         let lot: &ParkingLot = &self.lot;
-        self.join(token, guard);
+        self.join(lot, token, guard);
         let seen = step(lot, token, self.word, Op::Load);
         if is_parked(seen) {
             self.go_on(rt, token, MutexCall::Bump, seen);
-            return self.split(token);
+            return self.split(lot, token);
         }
-        self.split(token)
+        self.split(lot, token)
     }
 }
 

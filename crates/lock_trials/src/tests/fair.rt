@@ -2,6 +2,7 @@
 ghost use Rattle.std.specs.Prelude.{◌≡◌, All, IfOk};
 ghost use Rattle.std.specs.Arc.{arc_value};
 ghost use Rattle.parking_lot_core.specs.Tokens.{IsTicketOf, IsTokenOf};
+ghost use Rattle.parking_lot.specs.Users.{lot_of};
 
 use super::three_of;
 use parking_lot::{FairMutex, Fault, Mutex, ParkingLot, Ticket, Token};
@@ -29,7 +30,7 @@ fn wait_until<R: Wait>(rt: &R, flag: &AtomicBool) {
 
 // Whether somebody came to wait for the mutex.
 fn is_waited_for<R: Wait>(rt: &R, lot: &ParkingLot, mutex: &Mutex<u8>, token: &mut Token) -> bool
-    requires { IsTokenOf lot.now token.old × (arc_value mutex.now.raw.lot ≡ lot.now) }
+    requires { IsTokenOf lot.now token.old × (lot_of mutex.now ≡ lot.now) }
     ensures { IsTokenOf lot.now token.new }
 {
     for _ in 0..TURNS {
@@ -43,8 +44,8 @@ fn is_waited_for<R: Wait>(rt: &R, lot: &ParkingLot, mutex: &Mutex<u8>, token: &m
 
 // Whether a try gets the mutex, which is unlocked then.
 fn gets<R: Wait>(rt: &R, mutex: &Mutex<u8>, token: &mut Token) -> bool
-    requires { IsTokenOf (arc_value mutex.now.raw.lot) token.old }
-    ensures { IsTokenOf (arc_value mutex.now.raw.lot) token.new }
+    requires { IsTokenOf (lot_of mutex.now) token.old }
+    ensures { IsTokenOf (lot_of mutex.now) token.new }
 {
     match mutex.try_lock(rt, token) {
         Some(guard) => {
@@ -57,8 +58,8 @@ fn gets<R: Wait>(rt: &R, mutex: &Mutex<u8>, token: &mut Token) -> bool
 
 // Whether the mutex refuses every try.
 fn refuses_tries<R: Wait>(rt: &R, mutex: &Mutex<u8>, token: &mut Token) -> bool
-    requires { IsTokenOf (arc_value mutex.now.raw.lot) token.old }
-    ensures { IsTokenOf (arc_value mutex.now.raw.lot) token.new }
+    requires { IsTokenOf (lot_of mutex.now) token.old }
+    ensures { IsTokenOf (lot_of mutex.now) token.new }
 {
     for _ in 0..TRIES {
         if gets(rt, mutex, token) {
@@ -76,7 +77,7 @@ fn take_and_keep<R: Wait>(
     held: &AtomicBool,
     told: &AtomicBool,
 )
-    requires { IsTicketOf (arc_value mutex.now.raw.lot) ticket }
+    requires { IsTicketOf (lot_of mutex.now) ticket }
 {
     let mut token = ticket.enter();
     wait_until(rt, held);
@@ -96,7 +97,7 @@ fn hand_over<R: Wait>(
     held: &AtomicBool,
     told: &AtomicBool,
 ) -> (bool, bool)
-    requires { IsTicketOf lot.now ticket × (arc_value mutex.now.raw.lot ≡ lot.now) }
+    requires { IsTicketOf lot.now ticket × (lot_of mutex.now ≡ lot.now) }
 {
     let mut token = ticket.enter();
     let guard = mutex.lock(rt, &mut token);
@@ -118,7 +119,7 @@ fn bump<R: Wait>(
     ticket: Ticket,
     held: &AtomicBool,
 ) -> (bool, bool)
-    requires { IsTicketOf lot.now ticket × (arc_value mutex.now.raw.lot ≡ lot.now) }
+    requires { IsTicketOf lot.now ticket × (lot_of mutex.now ≡ lot.now) }
 {
     let mut token = ticket.enter();
     let guard = mutex.lock(rt, &mut token);
@@ -139,7 +140,7 @@ fn release<R: Wait>(
     ticket: Ticket,
     held: &AtomicBool,
 ) -> (bool, bool)
-    requires { IsTicketOf lot.now ticket × (arc_value mutex.now.raw.lot ≡ lot.now) }
+    requires { IsTicketOf lot.now ticket × (lot_of mutex.now ≡ lot.now) }
 {
     let mut token = ticket.enter();
     let guard = mutex.lock(rt, &mut token);
@@ -157,8 +158,8 @@ fn release<R: Wait>(
 }
 
 fn is_written<R: Wait>(rt: &R, mutex: &Mutex<u8>, token: &mut Token) -> bool
-    requires { IsTokenOf (arc_value mutex.now.raw.lot) token.old }
-    ensures { IsTokenOf (arc_value mutex.now.raw.lot) token.new }
+    requires { IsTokenOf (lot_of mutex.now) token.old }
+    ensures { IsTokenOf (lot_of mutex.now) token.new }
 {
     let guard = mutex.lock(rt, token);
     let written = *guard == 1;
@@ -182,7 +183,7 @@ fn hold_and_give_up<R: Threads + Wait + Sync>(
     other: Ticket,
     by: GivesUp,
 ) -> (bool, bool)
-    requires { IsTicketOf lot.now one × IsTicketOf lot.now other × (arc_value mutex.now.raw.lot ≡ lot.now) }
+    requires { IsTicketOf lot.now one × IsTicketOf lot.now other × (lot_of mutex.now ≡ lot.now) }
 {
     let held = AtomicBool::new(false);
     let told = AtomicBool::new(!matches!(by, GivesUp::Fair));
@@ -201,7 +202,7 @@ fn hold_and_give_up<R: Threads + Wait + Sync>(
 
 // A lot with two threads, and a mutex of it.
 fn two_seats(alloc: Global) -> Result<(Arc<ParkingLot>, Mutex<u8>, Ticket, Ticket), Fault>
-    ensures { IfOk result (λ made. (arc_value made.1.raw.lot ≡ arc_value made.0) × IsTicketOf (arc_value made.0) made.2 × IsTicketOf (arc_value made.0) made.3) }
+    ensures { IfOk result (λ made. (lot_of made.1 ≡ arc_value made.0) × IsTicketOf (arc_value made.0) made.2 × IsTicketOf (arc_value made.0) made.3) }
 {
     let (lot, mut tickets) = ParkingLot::new(alloc, 1, 3)?;
     let Some((one, other, third)) = three_of(&lot, &mut tickets) else {
@@ -240,7 +241,7 @@ fn who_waits_has_the_mutex_during_a_bump(rt: HostRuntime) -> Result<(), Fail> {
 
 // A fair mutex of a lot of seven threads, with the tickets of six of them.
 fn six_fair_seats(alloc: Global, value: u64) -> Result<(FairMutex<u64>, Vec<Ticket>), Fault>
-    ensures { IfOk result (λ made. All (IsTicketOf (arc_value made.0.raw.raw.lot)) made.1.items) }
+    ensures { IfOk result (λ made. All (IsTicketOf (lot_of made.0)) made.1.items) }
 {
     let (lot, mut tickets) = ParkingLot::new(alloc, 1, 7)?;
     let Some(ticket) = tickets.pop() else {
@@ -254,7 +255,7 @@ fn six_fair_seats(alloc: Global, value: u64) -> Result<(FairMutex<u64>, Vec<Tick
 }
 
 fn add_many<R: Wait>(rt: &R, mutex: &FairMutex<u64>, ticket: Ticket)
-    requires { IsTicketOf (arc_value mutex.now.raw.raw.lot) ticket }
+    requires { IsTicketOf (lot_of mutex.now) ticket }
 {
     let mut token = ticket.enter();
     for _ in 0..TIMES {
@@ -271,14 +272,14 @@ fn all_add<R: Threads + Wait + Sync>(
     mutex: FairMutex<u64>,
     tickets: Vec<Ticket>,
 ) -> Result<u64, Fault>
-    requires { All (IsTicketOf (arc_value mutex.raw.raw.lot)) tickets.items }
+    requires { All (IsTicketOf (lot_of mutex)) tickets.items }
 {
     let shared = &mutex;
     let added = map_vec(
         rt,
         tickets,
         &|ticket: Ticket|
-            requires { IsTicketOf (arc_value shared.now.raw.raw.lot) ticket }
+            requires { IsTicketOf (lot_of shared.now) ticket }
         { add_many(rt, shared, ticket) },
     );
     if added.is_err() {

@@ -3,6 +3,7 @@ ghost use Rattle.std.specs.Prelude.{◌≡◌, All, IfOk};
 ghost use Rattle.std.specs.Arc.{arc_value};
 ghost use Rattle.std.specs.Sync.Mutex.{mutex_guard_value};
 ghost use Rattle.parking_lot_core.specs.Tokens.{IsTicketOf, IsTokenOf};
+ghost use Rattle.parking_lot.specs.Users.{lock_of, lot_of};
 
 use parking_lot::{Fault, Mutex, MutexGuard, ParkingLot, Ticket, Token, lock_api, lock_raw};
 use std::alloc::Global;
@@ -27,7 +28,7 @@ fn lone(alloc: Global) -> Result<(Arc<ParkingLot>, Token), Fault>
 
 // Writes through a guard, which stays that of its mutex.
 fn cleared<'a>(mut guard: MutexGuard<'a, u8>) -> MutexGuard<'a, u8>
-    ensures lock { result.taken.mutex.now ≡ guard.entry.taken.mutex.now }
+    ensures lock { lock_of result ≡ lock_of guard.entry }
     ensures value { mutex_guard_value result.value ≡ 0 }
 {
     *guard = 0;
@@ -69,7 +70,7 @@ fn a_guard_lends_its_value(rt: HostRuntime) -> Result<(), Fail> {
 
 // Whether the mutex is locked and a try gets it: before another try that gets it, under that one's guard, and after.
 fn tries<R: Wait>(rt: &R, mutex: &Mutex<u8>, token: &mut Token) -> Option<[(bool, bool); 3]>
-    requires { IsTokenOf (arc_value mutex.now.raw.lot) token.old }
+    requires { IsTokenOf (lot_of mutex.now) token.old }
 {
     let before = look(rt, mutex, token);
     let guard = mutex.try_lock(rt, token)?;
@@ -79,8 +80,8 @@ fn tries<R: Wait>(rt: &R, mutex: &Mutex<u8>, token: &mut Token) -> Option<[(bool
 }
 
 fn look<R: Wait>(rt: &R, mutex: &Mutex<u8>, token: &mut Token) -> (bool, bool)
-    requires { IsTokenOf (arc_value mutex.now.raw.lot) token.old }
-    ensures { IsTokenOf (arc_value mutex.now.raw.lot) token.new }
+    requires { IsTokenOf (lot_of mutex.now) token.old }
+    ensures { IsTokenOf (lot_of mutex.now) token.new }
 {
     let locked = mutex.is_locked(token);
     match mutex.try_lock(rt, token) {
@@ -161,7 +162,7 @@ fn a_full_lot_gives_the_value_back(rt: HostRuntime) -> Result<(), Fail> {
 struct Room {
     mutex: Arc<Mutex<u64>>,
     token: Token,
-    ghost met: { IsTokenOf (arc_value (arc_value mutex).raw.lot) token },
+    ghost met: { IsTokenOf (lot_of (arc_value mutex)) token },
 }
 
 impl Room {
@@ -183,8 +184,8 @@ impl Room {
 }
 
 fn double<R: Wait>(rt: &R, mutex: &Mutex<u64>, token: &mut Token) -> u64
-    requires { IsTokenOf (arc_value mutex.now.raw.lot) token.old }
-    ensures { IsTokenOf (arc_value mutex.now.raw.lot) token.new }
+    requires { IsTokenOf (lot_of mutex.now) token.old }
+    ensures { IsTokenOf (lot_of mutex.now) token.new }
 {
     let mut guard = mutex.lock(rt, token);
     *guard = guard.wrapping_mul(2);
@@ -213,8 +214,8 @@ fn add_one<M: lock_raw::RawMutex, R: Wait>(
     mutex: &lock_api::Mutex<M, u64>,
     token: &mut M::Token,
 )
-    requires { M.is_token_of (M.lot_of mutex.now.raw) token.old }
-    ensures { M.is_token_of (M.lot_of mutex.now.raw) token.new }
+    requires { M.is_token_of (M.lot_of mutex.now) token.old }
+    ensures { M.is_token_of (M.lot_of mutex.now) token.new }
 {
     let mut guard = mutex.lock(rt, token);
     *guard = guard.wrapping_add(1);
@@ -222,7 +223,7 @@ fn add_one<M: lock_raw::RawMutex, R: Wait>(
 }
 
 fn add_many<R: Wait>(rt: &R, mutex: &Mutex<u64>, ticket: Ticket)
-    requires { IsTicketOf (arc_value mutex.now.raw.lot) ticket }
+    requires { IsTicketOf (lot_of mutex.now) ticket }
 {
     let mut token = ticket.enter();
     for _ in 0..TIMES {
@@ -233,7 +234,7 @@ fn add_many<R: Wait>(rt: &R, mutex: &Mutex<u64>, ticket: Ticket)
 
 // A mutex of 0 in a lot of seven threads, with the tickets of six of them.
 fn six_seats(alloc: Global) -> Result<(Mutex<u64>, Vec<Ticket>), Fault>
-    ensures { IfOk result (λ made. All (IsTicketOf (arc_value made.0.raw.lot)) made.1.items) }
+    ensures { IfOk result (λ made. All (IsTicketOf (lot_of made.0)) made.1.items) }
 {
     let (lot, mut tickets) = ParkingLot::new(alloc, 1, 7)?;
     let Some(ticket) = tickets.pop() else {
@@ -252,14 +253,14 @@ fn all_add<R: Threads + Wait + Sync>(
     mutex: Mutex<u64>,
     tickets: Vec<Ticket>,
 ) -> Result<u64, Fault>
-    requires { All (IsTicketOf (arc_value mutex.raw.lot)) tickets.items }
+    requires { All (IsTicketOf (lot_of mutex)) tickets.items }
 {
     let shared = &mutex;
     let added = map_vec(
         rt,
         tickets,
         &|ticket: Ticket|
-            requires { IsTicketOf (arc_value shared.now.raw.lot) ticket }
+            requires { IsTicketOf (lot_of shared.now) ticket }
         { add_many(rt, shared, ticket) },
     );
     if added.is_err() {

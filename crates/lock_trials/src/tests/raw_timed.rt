@@ -2,6 +2,7 @@
 ghost use Rattle.std.specs.Prelude.{◌≡◌, ◌≤◌, IfOk, IfSome};
 ghost use Rattle.std.specs.Arc.{arc_value};
 ghost use Rattle.parking_lot_core.specs.Tokens.{IsTicketOf, IsTokenOf};
+ghost use Rattle.parking_lot.specs.Users.{lot_of};
 
 use super::{hold, three_seats};
 use parking_lot::lock_raw::{RawMutex as RawLock, RawMutexTimed as RawTimedLock};
@@ -18,7 +19,7 @@ const ROUNDS: u64 = 200;
 
 // A lot with one thread, and a mutex of it.
 fn one_seat(alloc: Global) -> Result<(Arc<ParkingLot>, RawMutex, Token), Fault>
-    ensures { IfOk result (λ made. (arc_value made.1.lot ≡ arc_value made.0) × IsTokenOf (arc_value made.0) made.2) }
+    ensures { IfOk result (λ made. (lot_of made.1 ≡ arc_value made.0) × IsTokenOf (arc_value made.0) made.2) }
 {
     let (lot, mut tickets) = ParkingLot::new(alloc, 1, 1)?;
     let Some(ticket) = tickets.pop() else {
@@ -100,7 +101,7 @@ fn wait_for_held<R: Wait>(
     held: &AtomicBool,
     deadline: Option<u64>,
 ) -> bool
-    requires { IsTicketOf (arc_value mutex.now.lot) ticket }
+    requires { IsTicketOf (lot_of mutex.now) ticket }
 {
     let mut token = ticket.enter();
     for _ in rt.forever() {
@@ -125,7 +126,7 @@ fn hold_and_wait<R: Threads + Wait + Sync>(
     other: Ticket,
     deadline: Option<u64>,
 ) -> (bool, bool)
-    requires { IsTicketOf lot.now one × IsTicketOf lot.now other × (arc_value mutex.now.lot ≡ lot.now) }
+    requires { IsTicketOf lot.now one × IsTicketOf lot.now other × (lot_of mutex.now ≡ lot.now) }
 {
     let held = AtomicBool::new(false);
     let is_held = &held;
@@ -148,7 +149,7 @@ fn a_release_wakes_who_waits_with_a_limit(rt: HostRuntime) -> Result<(), Fail> {
 
 // Takes the mutex many times, each time up to a deadline that is soon, and adds 1 under it. How often it got it.
 fn race<R: Wait>(rt: &R, mutex: &RawMutex, ticket: Ticket, hits: &AtomicU64) -> u64
-    requires { IsTicketOf (arc_value mutex.now.lot) ticket }
+    requires { IsTicketOf (lot_of mutex.now) ticket }
     ensures { result ≤ 200 }
 {
     let mut token = ticket.enter();
@@ -178,7 +179,7 @@ fn both_race<R: Threads + Wait + Sync>(
     other: Ticket,
     hits: &AtomicU64,
 ) -> (u64, u64)
-    requires { IsTicketOf (arc_value mutex.now.lot) one × IsTicketOf (arc_value mutex.now.lot) other }
+    requires { IsTicketOf (lot_of mutex.now) one × IsTicketOf (lot_of mutex.now) other }
     ensures { (result.0 ≤ 200) × (result.1 ≤ 200) }
 {
     join(

@@ -30,8 +30,8 @@ fn gets_within<M: lock_raw::RawMutexTimed, R: Wait>(
     clock: &TickClock,
     nanos: u64,
 ) -> bool
-    requires { M.is_token_of (M.lot_of mutex.now.raw) token.old }
-    ensures { M.is_token_of (M.lot_of mutex.now.raw) token.new }
+    requires { M.is_token_of (M.lot_of mutex.now) token.old }
+    ensures { M.is_token_of (M.lot_of mutex.now) token.new }
 {
     match mutex.try_lock_for(rt, token, clock, Duration::from_nanos(nanos)) {
         Some(guard) => {
@@ -50,8 +50,8 @@ fn gets_before<M: lock_raw::RawMutexTimed, R: Wait>(
     clock: &TickClock,
     deadline: u64,
 ) -> bool
-    requires { M.is_token_of (M.lot_of mutex.now.raw) token.old }
-    ensures { M.is_token_of (M.lot_of mutex.now.raw) token.new }
+    requires { M.is_token_of (M.lot_of mutex.now) token.old }
+    ensures { M.is_token_of (M.lot_of mutex.now) token.new }
 {
     match mutex.try_lock_until(rt, token, clock, deadline) {
         Some(guard) => {

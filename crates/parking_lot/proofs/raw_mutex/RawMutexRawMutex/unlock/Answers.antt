@@ -1,4 +1,4 @@
-use Rattle.std.proofs.Common.{◌≡◌, ◌∙◌, ◌++◌, false, ap, rules}
+use Rattle.std.proofs.Common.{◌≡◌, ◌∙◌, ◌++◌, false, ap, sym, subst, refl, rules}
 use Rattle.lot_base.specs.declared.ops.Op.TheVariants.{Sub}
 use Rattle.lot_steps.specs.MutexSteps.{is_parked}
 use Rattle.parking_lot.specs.Paths.{mutex_at, step}
@@ -8,7 +8,7 @@ use Rattle.parking_lot_core.specs.Tokens.{view_of}
 use Rattle.parking_lot.proofs.Behind.{path_at_once}
 use Rattle.parking_lot.proofs.raw_mutex.RawMutexRawMutex.unlock.Goals as goal
 
-pub returns-else-is_parked-clause-path : goal.returns-else-is_parked-clause-path
-returns-else-is_parked-clause-path g c = let none : is_parked c.step-seen.result ≡ false = search rules in
+pub returns-else-seen-ne-LOCKED-clause-path : goal.returns-else-seen-ne-LOCKED-clause-path
+returns-else-seen-ne-LOCKED-clause-path g c = let one : c.step-seen.result ≡ 1 = search rules in let none : is_parked c.step-seen.result ≡ false = subst (λ n. is_parked n ≡ false) (sym one) refl in
     let added = ap (λ (v : View). v.steps) c.step-seen.ensures.stepped ∙ ap (λ (v : View). v.steps ++ step (mutex_at c.args.self.now.word.number) (Sub 1) c.step-seen.result) c.join.ensures.joined in
     path_at_once c.args.self.now.word.number Unlock c.step-seen.result (view_of c.args.token.now).steps (view_of c.step-seen.new.token).steps none added
