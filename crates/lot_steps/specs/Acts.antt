@@ -1,5 +1,5 @@
 -- What a thread does in one step, and what it is told.
-use Rattle.std.specs.Prelude.{ℕ, Bool, Option, Some, None, ◌==◌}
+use Rattle.std.specs.Prelude.{ℕ, Bool, if◌then◌else◌, ◌==◌}
 use Rattle.lot_base.specs.declared.notes.Note.{Note}
 use Rattle.lot_steps.specs.declared.acts.Act.{Act}
 use Rattle.lot_steps.specs.declared.acts.Act.TheVariants.{Sleep, Closure, End}
@@ -13,9 +13,9 @@ use Rattle.lot_calls.specs.declared.outcomes.Outcome as outcome
 abbrev pub holds : Check → ℕ → Bool
 holds (WordIs value) word = word == value
 
-abbrev pub wakes_first : Option ℕ → Note → Wakes
-wakes_first (Some thread) note = wakes.TheVariants.One thread note
-wakes_first None note = wakes.TheVariants.Nobody
+-- whoever was taken is woken
+abbrev pub wakes_taken : Bool → Note → Wakes
+wakes_taken any note = if any then wakes.TheVariants.All note else wakes.TheVariants.Nobody
 
 -- what a thread is told that is about to do this
 abbrev pub outcome_of : Act → Outcome

@@ -22,18 +22,18 @@ pub data Hand : Type 0 where
 abbrev pub hand : ℕ → Bool → Option Hand
 hand u handed = Some (Of u handed)
 
-abbrev pub some_hand : Option ℕ → Bool → Option Hand
-some_hand None handed = None
-some_hand (Some u) handed = hand u handed
+-- in the hand of which thread, if any
+abbrev pub hand_owner : Option Hand → Option ℕ
+hand_owner None = None
+hand_owner (Some (Of u handed)) = Some u
 
 pub record Profile : Type 0 where
   -- what it does about the lock
   pub doing : Doing
   -- in which line it stands
   pub stands : Option Line
-  -- whom it has taken, and whether it has handed the lock to that thread
-  pub taken : Option ℕ
-  pub gives : Bool
+  -- whether it has anybody in hand, and if so, whether it has handed the lock over
+  pub carries : Option Bool
   -- in whose hand it is
   pub hand : Option Hand
   -- it is shown to owe a wake, and to try again
@@ -81,8 +81,7 @@ abbrev pub trying : Profile
 trying = record {
   doing = idle;
   stands = None;
-  taken = None;
-  gives = false;
+  carries = None;
   hand = None;
   owes = false;
   retries = false;
@@ -116,34 +115,36 @@ lock_row timed retries lock.GiveUp = record trying { doing = inside; owes = true
 abbrev pub release_purpose : ℕ → Bool → Purpose
 release_purpose l bumps = if bumps then Bumps l Exclusive else Releases l Exclusive true
 
+abbrev pub in_hand : Bool → Bool → Option Bool
+in_hand any handed = if any then Some handed else None
+
 abbrev pub unlock_row : UnlockAt → Profile
 unlock_row unlock.Subtract = record trying { doing = owner }
 unlock_row unlock.Enter = record trying { doing = record idle { wakes = Some Main }; owes = true; released = true }
 unlock_row unlock.Take = record trying { doing = record inside { wakes = Some Main }; owes = true; released = true }
-unlock_row (unlock.Clear taken) = record trying { doing = record carrying { empty = Some Main }; taken = taken; owes = true; released = true }
-unlock_row (unlock.Leave taken) = record trying { doing = carrying; taken = taken; owes = true; released = true }
+unlock_row (unlock.Clear any) = record trying { doing = record carrying { empty = Some Main }; carries = in_hand any false; owes = true; released = true }
+unlock_row (unlock.Leave any) = record trying { doing = carrying; carries = in_hand any false; owes = true; released = true }
 
 -- whether nobody is left behind a take
-abbrev pub seen_empty : Option ℕ → Bool → Bool
-seen_empty None none_left = true
-seen_empty (Some u) none_left = none_left
+abbrev pub seen_empty : Bool → Bool → Bool
+seen_empty any none_left = if any then none_left else true
 
 abbrev pub hand_off_row : HandOffAt → Profile
 hand_off_row hand_off.Enter = record trying { doing = owner }
 hand_off_row hand_off.Take = record trying { doing = record owner { inside = Some Main } }
-hand_off_row (hand_off.Store taken none_left) =
-    record trying { doing = record carrying { claims = Some (Has Exclusive); empty = found Main (seen_empty taken none_left) }; taken = taken }
-hand_off_row (hand_off.Leave taken) = record trying { doing = record inside { carries = true }; taken = taken; gives = true; released = true }
+hand_off_row (hand_off.Store any none_left) =
+    record trying { doing = record carrying { claims = Some (Has Exclusive); empty = found Main (seen_empty any none_left) }; carries = in_hand any false }
+hand_off_row (hand_off.Leave any) = record trying { doing = record inside { carries = true }; carries = in_hand any true; released = true }
 
 -- ---------------------------------------------------------------- every place
 
 -- a call that enters has nobody in hand
 abbrev pub entering : Entry → Bool → Profile → Profile
-entering e retries row = record row { taken = None; gives = false; retries = retries; timed = is_timed e; purpose = λ l. entry_purpose l e; released = is_bump e }
+entering e retries row = record row { carries = None; retries = retries; timed = is_timed e; purpose = λ l. entry_purpose l e; released = is_bump e }
 
 -- a call that releases waits for nothing
 abbrev pub leaving : (ℕ → Purpose) → Profile → Profile
-leaving purpose row = record trying { doing = row.doing; taken = row.taken; gives = row.gives; owes = row.owes; purpose = purpose; released = row.released }
+leaving purpose row = record trying { doing = row.doing; carries = row.carries; owes = row.owes; purpose = purpose; released = row.released }
 
 abbrev pub mutex_profile : MutexPlace → Profile
 mutex_profile (Lock e retries at) = entering e retries (lock_row (is_timed e) retries at)
@@ -152,6 +153,10 @@ mutex_profile (Unlock at) = leaving (λ l. Releases l Exclusive false) (unlock_r
 mutex_profile UnlockFair = leaving (λ l. release_purpose l false) (record trying { doing = owner })
 mutex_profile Bump = leaving (λ l. release_purpose l true) (record trying { doing = owner })
 mutex_profile (HandOff bumps at) = leaving (λ l. release_purpose l bumps) (record (hand_off_row at) { owes = true })
+
+-- the thread that took this one and has not left its section yet
+abbrev pub mutex_taker : MutexPlace → Option ℕ
+mutex_taker at = hand_owner (mutex_profile at).hand
 
 -- whether the word may be loaded again in place of the act: where the act would set the parked bit
 abbrev pub mutex_can_spin : MutexPlace → Bool

@@ -28,7 +28,7 @@ use Rattle.lot_steps.specs.declared.acts.Next.TheVariants.{At, End}
 use Rattle.lot_calls.specs.declared.outcomes.Answer.{Answer}
 use Rattle.lot_calls.specs.declared.outcomes.Answer as answer
 use Rattle.lot_steps.specs.declared.owners.Owners.{Owners}
-use Rattle.lot_steps.specs.Acts.{wakes_first}
+use Rattle.lot_steps.specs.Acts.{wakes_taken}
 
 -- the word: 1 where it is locked, and 2 where a thread may be parked
 abbrev pub is_locked : ℕ → Bool
@@ -92,24 +92,24 @@ abbrev pub unlock_act : ℕ → UnlockAt → Act
 unlock_act l unlock.TheVariants.Subtract = act.TheVariants.Word l (op.TheVariants.Sub 1)
 unlock_act l unlock.TheVariants.Enter = act.TheVariants.Enter (One (2 * l))
 unlock_act l unlock.TheVariants.Take = act.TheVariants.TakeFirst (2 * l)
-unlock_act l (unlock.TheVariants.Clear taken) = act.TheVariants.Word l (op.TheVariants.And NOT_PARKED)
-unlock_act l (unlock.TheVariants.Leave taken) = act.TheVariants.Leave (One (2 * l)) (wakes_first taken note.TheVariants.Normal)
+unlock_act l (unlock.TheVariants.Clear any) = act.TheVariants.Word l (op.TheVariants.And NOT_PARKED)
+unlock_act l (unlock.TheVariants.Leave any) = act.TheVariants.Leave (One (2 * l)) (wakes_taken any note.TheVariants.Normal)
 
 -- the word that a hand-off leaves: unlocked where nobody was taken, else locked, with the parked bit where waiters are left
-abbrev pub hand_off_word : Option ℕ → Bool → ℕ
-hand_off_word None none_left = 0
-hand_off_word (Some u) none_left = if none_left then 1 else 3
+abbrev pub hand_off_word : Bool → Bool → ℕ
+hand_off_word false none_left = 0
+hand_off_word true none_left = if none_left then 1 else 3
 
 -- who was taken owns the lock from that store on
-abbrev pub hand_off_store : ℕ → Option ℕ → Bool → Act
-hand_off_store l None none_left = act.TheVariants.Word l (op.TheVariants.Store (hand_off_word None none_left))
-hand_off_store l (Some u) none_left = act.TheVariants.HandOver l (op.TheVariants.Store (hand_off_word (Some u) none_left)) u
+abbrev pub hand_off_store : ℕ → Bool → Bool → Act
+hand_off_store l false none_left = act.TheVariants.Word l (op.TheVariants.Store (hand_off_word false none_left))
+hand_off_store l true none_left = act.TheVariants.HandOver l (op.TheVariants.Store (hand_off_word true none_left))
 
 abbrev pub hand_off_act : ℕ → HandOffAt → Act
 hand_off_act l hand_off.TheVariants.Enter = act.TheVariants.Enter (One (2 * l))
 hand_off_act l hand_off.TheVariants.Take = act.TheVariants.TakeFirst (2 * l)
-hand_off_act l (hand_off.TheVariants.Store taken none_left) = hand_off_store l taken none_left
-hand_off_act l (hand_off.TheVariants.Leave taken) = act.TheVariants.Leave (One (2 * l)) (wakes_first taken note.TheVariants.HandOff)
+hand_off_act l (hand_off.TheVariants.Store any none_left) = hand_off_store l any none_left
+hand_off_act l (hand_off.TheVariants.Leave any) = act.TheVariants.Leave (One (2 * l)) (wakes_taken any note.TheVariants.HandOff)
 
 abbrev pub mutex_act : ℕ → MutexPlace → Act
 mutex_act l (Lock e retries at) = lock_act l at
@@ -160,16 +160,16 @@ still_retries retries _ = retries
 abbrev pub next_unlock : UnlockAt → Reply → Next UnlockAt
 next_unlock unlock.TheVariants.Subtract (Value seen) = if is_parked seen then At unlock.TheVariants.Enter else End answer.TheVariants.Ok
 next_unlock unlock.TheVariants.Enter Done = At unlock.TheVariants.Take
-next_unlock unlock.TheVariants.Take (Took first none_left) = if none_left then At (unlock.TheVariants.Clear first) else At (unlock.TheVariants.Leave first)
-next_unlock (unlock.TheVariants.Clear taken) (Value seen) = At (unlock.TheVariants.Leave taken)
-next_unlock (unlock.TheVariants.Leave taken) Done = End answer.TheVariants.Ok
+next_unlock unlock.TheVariants.Take (Took any none_left) = if none_left then At (unlock.TheVariants.Clear any) else At (unlock.TheVariants.Leave any)
+next_unlock (unlock.TheVariants.Clear any) (Value seen) = At (unlock.TheVariants.Leave any)
+next_unlock (unlock.TheVariants.Leave any) Done = End answer.TheVariants.Ok
 next_unlock at _ = At at
 
 abbrev pub next_hand_off : HandOffAt → Reply → Next HandOffAt
 next_hand_off hand_off.TheVariants.Enter Done = At hand_off.TheVariants.Take
-next_hand_off hand_off.TheVariants.Take (Took first none_left) = At (hand_off.TheVariants.Store first none_left)
-next_hand_off (hand_off.TheVariants.Store taken none_left) (Value seen) = At (hand_off.TheVariants.Leave taken)
-next_hand_off (hand_off.TheVariants.Leave taken) Done = End answer.TheVariants.Ok
+next_hand_off hand_off.TheVariants.Take (Took any none_left) = At (hand_off.TheVariants.Store any none_left)
+next_hand_off (hand_off.TheVariants.Store any none_left) (Value seen) = At (hand_off.TheVariants.Leave any)
+next_hand_off (hand_off.TheVariants.Leave any) Done = End answer.TheVariants.Ok
 next_hand_off at _ = At at
 
 -- an owner that saw waiters hands the mutex over
@@ -223,12 +223,12 @@ abbrev pub unlock_owners : UnlockAt → Owners → Owners
 unlock_owners unlock.TheVariants.Subtract owners = with_exclusive owners None
 unlock_owners _ owners = owners
 
--- who owns the mutex after an operation on its word that saw this value
+-- who owns the mutex after an operation on its word that saw this value, but for those to whom it hands the lock
 abbrev pub mutex_owners : MutexPlace → ℕ → ℕ → Owners → Owners
 mutex_owners (Lock e retries at) t seen owners = lock_owners at t seen owners
 mutex_owners TryLock t seen owners = if is_locked seen then owners else with_exclusive owners (Some t)
 mutex_owners (Unlock at) t seen owners = unlock_owners at owners
 mutex_owners UnlockFair t seen owners = if seen == 1 then with_exclusive owners None else owners
 mutex_owners Bump t seen owners = owners
-mutex_owners (HandOff bumps (hand_off.TheVariants.Store taken none_left)) t seen owners = with_exclusive owners taken
+mutex_owners (HandOff bumps (hand_off.TheVariants.Store any none_left)) t seen owners = with_exclusive owners None
 mutex_owners (HandOff bumps at) t seen owners = owners

@@ -1,6 +1,6 @@
 //! What a thread does in one step, and what it is told.
 ghost use Rattle.std.specs.Prelude.{◌≡◌};
-ghost use Rattle.lot_steps.specs.Acts.{wakes_first, holds, outcome_of};
+ghost use Rattle.lot_steps.specs.Acts.{wakes_taken, holds, outcome_of};
 
 use lot_base::{Key, Keys, Note, Op, Want};
 use lot_calls::{Answer, OnceState, Outcome};
@@ -15,7 +15,8 @@ pub enum Check {
 #[derive(Clone, Copy, Debug, PartialEq, Eq)]
 pub enum Wakes {
     Nobody,
-    One { thread: usize, note: Note },
+    /// All whom it has taken in them.
+    All(Note),
 }
 
 /// What a thread does in one step.
@@ -28,11 +29,10 @@ pub enum Act {
         lock: usize,
         op: Op,
     },
-    /// One operation on the word of a lock, which hands the lock to a thread that was taken.
+    /// One operation on the word of a lock, which hands the lock to those whom the thread has taken.
     HandOver {
         lock: usize,
         op: Op,
-        to: usize,
     },
     /// Enters sections. All of them have to be free.
     Enter(Keys),
@@ -73,15 +73,10 @@ pub enum Reply {
     Spun(u64),
     /// Whether the thread stands in the queue now.
     Parked(bool),
-    /// Who was taken, and whether none is left in the queue.
-    Took {
-        first: Option<usize>,
-        none_left: bool,
-    },
+    /// Whether any was taken, and whether none is left in the queue.
+    Took { any: bool, none_left: bool },
     /// Whether none is left in the queue that the thread left.
-    Removed {
-        none_left: bool,
-    },
+    Removed { none_left: bool },
     /// Another thread took this one from its queue.
     TakenBy(usize),
     /// The thread that took this one has handed it the lock.
@@ -100,14 +95,11 @@ pub enum Next<P> {
 }
 
 impl Wakes {
-    /// Wakes the one that was taken, if any.
-    pub fn first(taken: Option<usize>, note: Note) -> Wakes
-        ensures { result ≡ wakes_first taken note }
+    /// Wakes those who were taken, if any was.
+    pub fn taken(any: bool, note: Note) -> Wakes
+        ensures { result ≡ wakes_taken any note }
     {
-        match taken {
-            Some(thread) => Wakes::One { thread, note },
-            None => Wakes::Nobody,
-        }
+        if any { Wakes::All(note) } else { Wakes::Nobody }
     }
 }
 

@@ -7,7 +7,7 @@
 //! | 2, `PARKED` | unlocked; somebody may stand in the queue |
 //! | 3 | owned; somebody may stand in the queue |
 ghost use Rattle.std.specs.Prelude.{◌≡◌, ◌<◌, ◌^◌};
-ghost use Rattle.lot_steps.specs.MutexProfiles.{mutex_can_spin, mutex_can_be_late, mutex_owes, mutex_retries};
+ghost use Rattle.lot_steps.specs.MutexProfiles.{mutex_taker, mutex_can_spin, mutex_can_be_late, mutex_owes, mutex_retries};
 ghost use Rattle.lot_steps.specs.MutexSteps.{is_locked, is_parked, mutex_first, mutex_right, mutex_act, mutex_next, mutex_owners};
 
 pub mod hand_off;
@@ -161,7 +161,8 @@ impl MutexPlace {
         }
     }
 
-    /// Who owns the mutex after the thread's operation on the word, which saw this value.
+    /// Who owns the mutex after the thread's operation on the word, which saw this value, but for the one to
+    /// whom it hands the mutex.
     pub fn owners_after(self, thread: usize, seen: u64, owners: Owners) -> Owners
         ensures { result ≡ mutex_owners self thread seen owners }
     {
@@ -179,10 +180,23 @@ impl MutexPlace {
                 owners
             },
             MutexPlace::HandOff {
-                at: HandOffAt::Store { taken, .. },
+                at: HandOffAt::Store { .. },
                 ..
-            } => owners.with_exclusive(taken),
+            } => owners.with_exclusive(None),
             _ => owners,
+        }
+    }
+
+    /// The thread that took this one from the queue, and has not left its section yet.
+    pub fn taker(self) -> Option<usize>
+        ensures { result ≡ mutex_taker self }
+    {
+        match self {
+            MutexPlace::Lock {
+                at: LockAt::Taken { by } | LockAt::Handed { by },
+                ..
+            } => Some(by),
+            _ => None,
         }
     }
 

@@ -1,6 +1,6 @@
 //! Where a thread stands, and where each step leads it.
 ghost use Rattle.std.specs.Prelude.{◌≡◌};
-ghost use Rattle.lot_steps.specs.Steps.{HasKeys, first_place, has_right, act_of, next_place, next_act, owners_after, spin_lock, late_key, owes_on, retries_on, is_idle};
+ghost use Rattle.lot_steps.specs.Steps.{HasKeys, first_place, has_right, act_of, next_place, next_act, owners_after, taker, spin_lock, late_key, owes_on, retries_on, is_idle};
 
 use crate::acts::{Act, Next, Reply};
 use crate::mutex::{MutexPlace, mutex_right};
@@ -61,13 +61,24 @@ impl Place {
         }
     }
 
-    /// Who owns the lock after the thread's operation on its word, which saw this value.
+    /// Who owns the lock after the thread's operation on its word, which saw this value. Those to whom the
+    /// operation hands the lock are told so, and own it too.
     pub fn owners_after(self, thread: usize, seen: u64, owners: Owners) -> Owners
         ensures { result ≡ owners_after self thread seen owners }
     {
         match self {
             Place::Idle => owners,
             Place::Mutex { at, .. } => at.owners_after(thread, seen, owners),
+        }
+    }
+
+    /// The thread that took this one from its queue, and has not left its section yet.
+    pub fn taker(self) -> Option<usize>
+        ensures { result ≡ taker self }
+    {
+        match self {
+            Place::Idle => None,
+            Place::Mutex { at, .. } => at.taker(),
         }
     }
 

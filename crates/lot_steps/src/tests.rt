@@ -47,7 +47,7 @@ fn a_release_wakes_the_one_that_it_took(rt: HostRuntime) {
     assert_eq!(rt; act.outcome(), Outcome::End(Answer::Ok));
     let leave = Place::Mutex {
         lock: 3,
-        at: MutexPlace::Unlock(UnlockAt::Leave { taken: Some(0) }),
+        at: MutexPlace::Unlock(UnlockAt::Leave { any: true }),
     };
     let (end, act) = advance(leave, Reply::Done);
     assert_eq!(rt; act, Act::End(Answer::Ok));
@@ -89,23 +89,19 @@ fn a_bump_hands_the_mutex_over_and_enters_again(rt: HostRuntime) {
     assert!(rt; enter.owes_on(3));
     let (take, _) = advance(enter, Reply::Done);
     let took = Reply::Took {
-        first: Some(2),
+        any: true,
         none_left: false,
     };
     let (store, act) = advance(take, took);
     let hands_over = Act::HandOver {
         lock: 3,
         op: Op::Store(3),
-        to: 2,
     };
     assert_eq!(rt; act, hands_over);
     let owners = store.owners_after(1, 3, Owners::NOBODY.with_exclusive(Some(1)));
-    assert_eq!(rt; owners.exclusive, Some(2));
+    assert_eq!(rt; owners.exclusive, None);
     let (leave, act) = advance(store, Reply::Value(3));
-    let wakes = Wakes::One {
-        thread: 2,
-        note: Note::HandOff,
-    };
+    let wakes = Wakes::All(Note::HandOff);
     let leaves = Act::Leave {
         keys: Keys::One(6),
         wakes,
@@ -132,7 +128,7 @@ fn a_fair_release_beside_nobody_lets_go(rt: HostRuntime) {
         at: MutexPlace::HandOff {
             bumps: false,
             at: HandOffAt::Store {
-                taken: None,
+                any: false,
                 none_left: true,
             },
         },

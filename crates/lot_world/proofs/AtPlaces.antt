@@ -18,7 +18,7 @@ use Rattle.lot_world.specs.Machine.{State, place_at, word_at, owners_at, section
 use Rattle.lot_world.specs.Refinement.{lock_state, taken_at}
 use Rattle.lot_world.specs.MutexPromises.{IsMutexWord}
 use Rattle.lot_world.specs.MutexDeeds.{hand, mutex_doing, mutex_station, nowhere, station, station_at, doing_on}
-use Rattle.lot_world.specs.SitesOf.{IsSteady, carried_at, stood_in}
+use Rattle.lot_world.specs.SitesOf.{IsSteady, carried_at, hand_at, stood_in}
 use Rattle.lot_world.proofs.Counts.{without_absent, first_times}
 use Rattle.lot_world.proofs.Glue.{same, doing_here, nothing_at, own_stance, untaken}
 use Rattle.lot_world.proofs.MutexTable.{queued_times}
@@ -63,9 +63,9 @@ module _ (w : State) (steady : IsSteady w) where
   taken_nobody t l none u x h = let some : (doing_on (place_at w t) l).carries ≡ true = (steady.sites.site l).carried u (record { by = t; want = x }) h in cc
 
   module _ (t l : ℕ) where
-    -- whom it doesn't carry, to be woken or to be handed the lock, it hasn't taken
-    pub unless_carried : (u : ℕ) → (carried_at (place_at w t) l ≡ hand u false → ⊥) → is_taken_by t (taken_at (place_at w u) l) ≡ false
-    unless_carried u none = freed (taken_at (place_at w u) l) (untaken (place_at w u) t l (λ h. none (steady.stands.hands.taken t u l false h)))
+    -- who is not in its hand, to be woken or to be handed the lock, it hasn't taken
+    pub unless_held : (u : ℕ) → (hand_at (place_at w u) l ≡ hand t false → ⊥) → is_taken_by t (taken_at (place_at w u) l) ≡ false
+    unless_held u none = freed (taken_at (place_at w u) l) (untaken (place_at w u) t l none)
       where
         freed : (o : Option Taken) → keep_from t o ≡ o → is_taken_by t o ≡ false
         freed None e = refl
@@ -75,8 +75,8 @@ module _ (w : State) (steady : IsSteady w) where
             either false f = refl
             either true f = absurd (let g : ◌≡◌ {A = Option Taken} None (Some h) = sym (ap (λ b. if b then None else Some h) f) ∙ e in cc)
 
-    pub in_no_hand : ((u : ℕ) → carried_at (place_at w t) l ≡ hand u false → ⊥) → HasTakenNobody (lock_state w l) t
-    in_no_hand none u x h = let free : is_taken_by t (taken_at (place_at w u) l) ≡ false = unless_carried u (none u) in
+    pub in_no_hand : (carried_at (place_at w t) l ≡ Some false → ⊥) → HasTakenNobody (lock_state w l) t
+    in_no_hand none u x h = let free : is_taken_by t (taken_at (place_at w u) l) ≡ false = unless_held u (λ g. none (steady.stands.hands.taken t u l false g)) in
         let mine : is_taken_by t (taken_at (place_at w u) l) ≡ true = ap (is_taken_by t) h ∙ same t in cc
 
   module _ (t l : ℕ) where

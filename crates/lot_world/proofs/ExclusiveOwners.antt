@@ -22,7 +22,7 @@ abbrev pub unlock_owner : UnlockAt → Option ℕ → Option ℕ
 unlock_owner unlock.Subtract o = None
 unlock_owner at o = o
 
--- the exclusive owner after a step on the word that saw v
+-- the exclusive owner after a step on the word that saw v, but for one whom it hands the lock
 abbrev pub owner_after : Place → ℕ → ℕ → Option ℕ → Option ℕ
 owner_after Idle t v o = o
 owner_after (Mutex l (Lock entry retries at)) t v o = lock_owner at t v o
@@ -30,7 +30,7 @@ owner_after (Mutex l TryLock) t v o = if is_locked v then o else Some t
 owner_after (Mutex l (Unlock at)) t v o = unlock_owner at o
 owner_after (Mutex l UnlockFair) t v o = if v == 1 then None else o
 owner_after (Mutex l Bump) t v o = o
-owner_after (Mutex l (HandOff bumps (hand_off.Store taken none_left))) t v o = taken
+owner_after (Mutex l (HandOff bumps (hand_off.Store any none_left))) t v o = None
 owner_after (Mutex l (HandOff bumps at)) t v o = o
 
 pub exclusive-owners : (p : Place) (t v : ℕ) (r : Owners) → (owners_after p t v r).exclusive ≡ owner_after p t v r.exclusive
@@ -59,7 +59,7 @@ exclusive-owners (Mutex l UnlockFair) t v r = either (v == 1)
     either true = refl
     either false = refl
 exclusive-owners (Mutex l Bump) t v r = refl
-exclusive-owners (Mutex l (HandOff bumps (hand_off.Store taken none_left))) t v r = refl
+exclusive-owners (Mutex l (HandOff bumps (hand_off.Store any none_left))) t v r = refl
 exclusive-owners (Mutex l (HandOff bumps at)) t v r = refl
 
 -- ---------------------------------------------------------------- words

@@ -25,12 +25,12 @@ use Rattle.lot_steps.specs.declared.mutex.hand_off.HandOffAt.{HandOffAt}
 use Rattle.lot_steps.specs.declared.mutex.hand_off.HandOffAt.TheVariants as hand_off
 use Rattle.lot_steps.specs.declared.places.Place.{Place}
 use Rattle.lot_steps.specs.declared.places.Place.TheVariants.{Idle, Mutex}
-use Rattle.lot_steps.specs.MutexSteps.{is_locked, is_parked, lock_act, hand_off_act, hand_off_word}
+use Rattle.lot_steps.specs.MutexSteps.{is_locked, is_parked, lock_act, hand_off_act}
 use Rattle.lot_steps.specs.Steps.{act_of, spin_lock, late_key}
 use Rattle.lot_world.specs.Machine.{State, unlocked, place_at, word_at, owners_at, kind_at, queue_at, operated, appended, first_taken, performed, taken_by, spun_on, late_on, turned, is_possible, after, answered}
 use Rattle.lot_world.specs.Fits.{IsShaped, PlaceFits}
 use Rattle.lot_world.specs.MutexPromises.{IsMutexWord}
-use Rattle.lot_world.specs.MutexDeeds.{hand, mutex_station}
+use Rattle.lot_world.specs.MutexDeeds.{mutex_station}
 use Rattle.lot_world.specs.SitesOf.{IsSteady, CallsMutex, is_mutex}
 use Rattle.abstract_locks.specs.Sites.{Main}
 use Rattle.lot_world.proofs.MutexTable.{own_doing}
@@ -40,7 +40,7 @@ use Rattle.abstract_locks.specs.Runs.{LocksState, CallState, Event, Nothing, AtL
 use Rattle.lot_world.specs.Refinement.{lock_state, locks_of, call_state, owner_at}
 use Rattle.lot_world.specs.Fair.{IsFairRelease, OwnsOn, HandsOver, LetsGo, IsFair}
 use Rattle.lot_world.proofs.ExclusiveOwners.{owner_after, exclusive-owners, by_code}
-use Rattle.lot_world.proofs.Glue.{IsTakenAt, is_taken, own_stance}
+use Rattle.lot_world.proofs.Glue.{IsTakenAt, is_taken, own_stance, heir_one}
 use Rattle.lot_world.proofs.AtPlaces.{coded as words_coded, in_no_hand}
 use Rattle.lot_world.proofs.TurnsKept.{after_steady}
 use Rattle.lot_world.proofs.Glue.{same}
@@ -163,15 +163,15 @@ module _ (w : State) (t l : ℕ) (shape : IsShaped w) (steady : IsSteady w) (own
     lock_keeps retries lock.Clear = inl (operated_owner (Mutex l (Lock entries.Bump retries lock.Clear)) (op.TheVariants.And NOT_PARKED) lt)
     lock_keeps retries lock.GiveUp = inl own
 
-    carries_nobody : (at : MutexPlace) → place_at w t ≡ Mutex l at → ((u : ℕ) → (mutex_station at).carries ≡ hand u false → ⊥) → HasTakenNobody (lock_state w l) t
-    carries_nobody at is none = in_no_hand w steady t l (λ u h. none u (sym (ap (λ x. x.carries) (own_stance l (place_at w t) at is)) ∙ h))
+    carries_nobody : (at : MutexPlace) → place_at w t ≡ Mutex l at → ((mutex_station at).carries ≡ Some false → ⊥) → HasTakenNobody (lock_state w l) t
+    carries_nobody at is none = in_no_hand w steady t l (λ h. none (sym (ap (λ x. x.carries) (own_stance l (place_at w t) at is)) ∙ h))
 
     unlock_fair_gives : place_at w t ≡ Mutex l UnlockFair → ComesTo w t l (operated w t (Mutex l UnlockFair) l (op.TheVariants.Exchange 1 0))
     unlock_fair_gives is = either (word_at w l == 1) refl (operated_owner (Mutex l UnlockFair) (op.TheVariants.Exchange 1 0) lt)
       where
         either : (b : Bool) → (word_at w l == 1) ≡ b → owner_at (operated w t (Mutex l UnlockFair) l (op.TheVariants.Exchange 1 0)) l ≡ (if b then None else Some t) → ComesTo w t l (operated w t (Mutex l UnlockFair) l (op.TheVariants.Exchange 1 0))
         either false e h = inl h
-        either true e h = inr (inr (h, carries_nobody UnlockFair is (λ u g. absurd cc), inl (rw (eqb-true (word_at w l) 1 e) refl)))
+        either true e h = inr (inr (h, carries_nobody UnlockFair is (λ g. absurd cc), inl (rw (eqb-true (word_at w l) 1 e) refl)))
 
     taken_gives : (bumps : Bool) (o : Option ℕ) → ComesTo w t l (taken_by (record w { queues = first_taken w.queues (2 * l) }) t o)
     taken_gives bumps None = inl own
@@ -180,27 +180,27 @@ module _ (w : State) (t l : ℕ) (shape : IsShaped w) (steady : IsSteady w) (own
     hand_off_gives : (bumps : Bool) (a : HandOffAt) → place_at w t ≡ Mutex l (HandOff bumps a) → ComesTo w t l (performed w t (Mutex l (HandOff bumps a)) (hand_off_act l a))
     hand_off_gives bumps hand_off.Enter is = inl own
     hand_off_gives bumps hand_off.Take is = taken_gives bumps (first_of (queue_at w (2 * l)))
-    hand_off_gives bumps (hand_off.Store None none_left) is = inr (inr (
-      operated_owner (Mutex l (HandOff bumps (hand_off.Store None none_left))) (op.TheVariants.Store 0) lt,
-      carries_nobody (HandOff bumps (hand_off.Store None none_left)) is (λ u g. absurd cc),
+    hand_off_gives bumps (hand_off.Store false none_left) is = inr (inr (
+      operated_owner (Mutex l (HandOff bumps (hand_off.Store false none_left))) (op.TheVariants.Store 0) lt,
+      carries_nobody (HandOff bumps (hand_off.Store false none_left)) is (λ g. absurd cc),
       inr ((steady.sites.site l).emptied t Main (ap (λ d. d.empty) (own_doing l (place_at w t) _ is))).1,
     ))
-    hand_off_gives bumps (hand_off.Store (Some u) none_left) is = inr (inl (
-      u,
-      by_taken (is_taken (place_at w u) t l (steady.stands.hands.carried t u l false (ap (λ x. x.carries) (own_stance l (place_at w t) _ is)))),
-      operated_owner (Mutex l (HandOff bumps (hand_off.Store (Some u) none_left))) (op.TheVariants.Store (hand_off_word (Some u) none_left)) lt,
+    hand_off_gives bumps (hand_off.Store true none_left) is = let one = steady.stands.hands.carried t l false (ap (λ x. x.carries) (own_stance l (place_at w t) _ is)) in inr (inl (
+      one.0,
+      by_taken one.0 (is_taken (place_at w one.0) t l one.1),
+      ap (λ x. x.owners.exclusive) (get_or-set_same w.locks l _ (unlocked kind.TheVariants.Mutex) lt) ∙ heir_one w t l one.0 false steady.stands.hands (rw is refl) one.1,
     ))
       where
-        by_taken : IsTakenAt (place_at w u) t l → IsTaken (lock_state w l) t u Exclusive
-        by_taken k = rw (k.is, same l) refl
-    hand_off_gives bumps (hand_off.Leave None) is = inl own
-    hand_off_gives bumps (hand_off.Leave (Some u)) is = inl own
+        by_taken : (u : ℕ) → IsTakenAt (place_at w u) t l → IsTaken (lock_state w l) t u Exclusive
+        by_taken u k = rw (k.is, same l) refl
+    hand_off_gives bumps (hand_off.Leave false) is = inl own
+    hand_off_gives bumps (hand_off.Leave true) is = inl own
 
   here : (k : ℕ) → k ≡ l → k < length w.locks → l < length w.locks
   here k e lt = rw (← e) lt
 
   -- whatever the act, and wherever the thread goes then
-  go_gives : (p : Place) → place_at w t ≡ p → PlaceFits (length w.places) (length w.locks) p → IsFairRelease (call_state p (rights w t)).purpose l → ComesTo w t l (performed w t p (act_of p))
+  go_gives : (p : Place) → place_at w t ≡ p → PlaceFits (length w.locks) p → IsFairRelease (call_state p (rights w t)).purpose l → ComesTo w t l (performed w t p (act_of p))
   go_gives Idle is fits h = absurd h
   go_gives (Mutex k (Lock entries.Lock retries a)) is fits h = absurd h
   go_gives (Mutex k (Lock entries.LockTimed retries a)) is fits h = absurd h

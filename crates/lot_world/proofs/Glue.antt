@@ -1,5 +1,5 @@
 -- The state of a world by its parts, as total functions, and what each act does to a lock and to what the threads do about it.
-use Rattle.std.proofs.Common.{ℕ, zero, suc, Bool, true, false, Option, Some, None, if◌then◌else◌, ◌==◌, ◌||◌, ◌≡◌, ◌≢◌, ◌+◌, ◌*◌, ◌≤◌, List, [], ◌∷◌, length, get_or, set, inl, inr, refl, sym, ◌∙◌, ap, arith, length-set, get_or-set_same, get_or-set_other}
+use Rattle.std.proofs.Common.{ℕ, zero, suc, Bool, true, false, Option, Some, None, if◌then◌else◌, ◌==◌, ◌||◌, ◌≡◌, ◌≢◌, ◌+◌, ◌*◌, ◌≤◌, List, [], ◌∷◌, map, length, get_or, set, inl, inr, refl, sym, ◌∙◌, ap, subst, arith, length-set, get_or-set_same, get_or-set_other}
 use Rattle.std.proofs.lemmas.Bool.{cases_eq, cases_lt, eqb-true}
 use Rattle.std.proofs.lemmas.Bool.Decides.{nat_tests}
 use Rattle.lot_base.specs.declared.wants.Waiter.{Waiter}
@@ -21,14 +21,14 @@ use Rattle.lot_steps.specs.MutexSteps.{is_parked}
 use Rattle.lot_steps.specs.declared.acts.Next.{Next}
 use Rattle.lot_steps.specs.declared.acts.Next as next
 use Rattle.lot_steps.specs.MutexSteps.{mutex_next}
-use Rattle.lot_steps.specs.Steps.{next_place, mutex_goes}
+use Rattle.lot_steps.specs.Steps.{next_place, taker, mutex_goes}
 use Rattle.lot_base.specs.declared.notes.Note.{Note}
 use Rattle.abstract_locks.specs.Locks.{LockState, Taken, Queued, Rules, TakeFirst, keep_from, let_go, shares_handed, sharing_from, put as putting}
 use Rattle.std.specs.Prelude.{sum, ◌&&◌, ◌||◌}
-use Rattle.lot_steps.specs.MutexSteps.{with_exclusive}
+use Rattle.lot_steps.specs.MutexSteps.{is_thread, with_exclusive}
 use Rattle.abstract_locks.specs.Locks as locks
 use Rattle.abstract_locks.specs.Sites.{Doing, Has, Site, Main, Begin, Out, Mark, Clear, Does, idle, leaves, wakened, taking_main, is_full, after}
-use Rattle.lot_world.specs.Machine.{State, place_at, word_at, owners_at, shares_at, filled_at, queue_at, put}
+use Rattle.lot_world.specs.Machine.{State, place_at, word_at, owners_at, shares_at, filled_at, queue_at, told_by, all_told, heir_from, befallen, put}
 use Rattle.lot_world.specs.Refinement.{lock_seen, taken_at}
 use Rattle.lot_world.specs.MutexDeeds.{Act, Station, hand, mutex_doing, mutex_station, station, station_at, nowhere, calls, doing_on, queued}
 use Rattle.lot_world.specs.SitesOf.{site_of, rules_at, after_acts, carried_at, hand_at, Hands}
@@ -305,6 +305,62 @@ pub moved_elsewhere : (l k : ℕ) (n : Base) (word : ℕ) (o : Owners) (m s : Li
 moved_elsewhere l k n word o m s p t p2 h h2 ne = moved k n word o m s p t p2 (taken_elsewhere l k (p t) h ne ∙ sym (taken_elsewhere l k p2 h2 ne))
     ∙ (λ i. record (seen k n word o m s p) { doing = λ u. put_same (λ x. doing_on (p x) k) t (doing_on p2 k) (doing_elsewhere l k (p t) h ne ∙ sym (doing_elsewhere l k p2 h2 ne)) u i })
 
+-- ---------------------------------------------------------------- whom a thread has in hand is told
+
+-- nobody is
+told_out : (t : ℕ) (reply : Reply) (ps : List Place) → ((x : ℕ) → is_thread t (taker (get_or ps x Idle)) ≡ false) → map (told_by t reply) ps ≡ ps
+told_out t reply [] none = refl
+told_out t reply (p ∷ ps) none = λ i. ap (λ b. if b then next_place p reply else p) (none 0) i ∷ told_out t reply ps (λ x. none (suc x)) i
+
+-- one is
+told_in : (t : ℕ) (reply : Reply) (ps : List Place) (u : ℕ) → is_thread t (taker (get_or ps u Idle)) ≡ true → ((x : ℕ) → x ≢ u → is_thread t (taker (get_or ps x Idle)) ≡ false)
+    → map (told_by t reply) ps ≡ set ps u (next_place (get_or ps u Idle) reply)
+told_in t reply [] u held only = absurd cc
+told_in t reply (p ∷ ps) zero held only = λ i. ap (λ b. if b then next_place p reply else p) held i ∷ told_out t reply ps (λ x. only (suc x) (λ e. omega arith)) i
+told_in t reply (p ∷ ps) (suc u) held only = λ i. ap (λ b. if b then next_place p reply else p) (only 0 (λ e. omega arith)) i ∷ told_in t reply ps u held (λ x ne. only (suc x) (λ e. ne (omega arith))) i
+
+heir_in : (t k : ℕ) (ps : List Place) (u : ℕ) → is_thread t (taker (get_or ps u Idle)) ≡ true → ((x : ℕ) → x ≢ u → is_thread t (taker (get_or ps x Idle)) ≡ false) → heir_from t k ps ≡ Some (k + u)
+heir_in t k [] u held only = absurd cc
+heir_in t k (p ∷ ps) zero held only = ap (λ b. if b then Some k else heir_from t (suc k) ps) held ∙ ap Some (let e : k ≡ k + 0 = omega arith in e)
+heir_in t k (p ∷ ps) (suc u) held only = ap (λ b. if b then Some k else heir_from t (suc k) ps) (only 0 (λ e. omega arith)) ∙ heir_in t (suc k) ps u held (λ x ne. only (suc x) (λ e. ne (omega arith))) ∙ ap Some (let e : suc k + u ≡ k + suc u = omega arith in e)
+
+-- who is in a hand by the place is so by the taker
+held_taker : (p : Place) (t l : ℕ) (b : Bool) → hand_at p l ≡ hand t b → is_thread t (taker p) ≡ true
+held_taker p t l false h = let k = is_taken p t l h in rw k.is (same t)
+held_taker p t l true h = let k = is_handed p t l h in rw k.is (same t)
+
+-- and at some lock, if by the taker
+record IsHeldBy (p : Place) (t : ℕ) : Type 0 where
+  pub lock : ℕ
+  pub handed : Bool
+  pub hand : hand_at p lock ≡ hand t handed
+
+held_where : (p : Place) (t : ℕ) → is_thread t (taker p) ≡ true → IsHeldBy p t
+held_where (Mutex k (Lock e retries (lock.Taken by))) t h = record { lock = k; handed = false; hand = ap (λ (x : Station). x.hand) (station_here k (Mutex k (Lock e retries (lock.Taken by))) refl) ∙ ap (λ x. hand x false) (eqb-true by t h) }
+held_where (Mutex k (Lock e retries (lock.Handed by))) t h = record { lock = k; handed = true; hand = ap (λ (x : Station). x.hand) (station_here k (Mutex k (Lock e retries (lock.Handed by))) refl) ∙ ap (λ x. hand x true) (eqb-true by t h) }
+held_where p t h = absurd cc
+
+-- of those who call one lock, one at most is in the hand of t
+only_held : (p : ℕ → Place) → Hands p → (t l u : ℕ) (b : Bool) → IsOf l (p t) → hand_at (p u) l ≡ hand t b → (x : ℕ) → x ≢ u → is_thread t (taker (p x)) ≡ false
+only_held p hands t l u b of held x ne = either (is_thread t (taker (p x))) refl
+  where
+    second : IsHeldBy (p x) t → ⊥
+    second h = elim (cases_eq h.lock l) [
+      | inl e ↦ ne (hands.alone t l u x b h.handed held (subst (λ k. hand_at (p x) k ≡ hand t h.handed) e h.hand))
+      | inr nl ↦ let a : carried_at (p t) h.lock ≡ Some h.handed = hands.taken t x h.lock h.handed h.hand in let c : carried_at (p t) h.lock ≡ None = ap (λ (y : Station). y.carries) (station_elsewhere l h.lock (p t) of nl) in cc
+    ]
+
+    either : (c : Bool) → is_thread t (taker (p x)) ≡ c → c ≡ false
+    either false e = refl
+    either true e = absurd (second (held_where (p x) t e))
+
+-- so all whom t has in hand are that one
+pub told_one : (w : State) (t l u : ℕ) (b : Bool) (reply : Reply) → Hands (place_at w) → IsOf l (place_at w t) → hand_at (place_at w u) l ≡ hand t b → all_told w t reply ≡ befallen w u reply
+told_one w t l u b reply hands of held = λ i. record w { places = told_in t reply w.places u (held_taker (place_at w u) t l b held) (only_held (place_at w) hands t l u b of held) i }
+
+pub heir_one : (w : State) (t l u : ℕ) (b : Bool) → Hands (place_at w) → IsOf l (place_at w t) → hand_at (place_at w u) l ≡ hand t b → heir_from t 0 w.places ≡ Some u
+heir_one w t l u b hands of held = heir_in t 0 w.places u (held_taker (place_at w u) t l b held) (only_held (place_at w) hands t l u b of held) ∙ ap Some (let e : 0 + u ≡ u = omega arith in e)
+
 -- ---------------------------------------------------------------- a release wakes whom it has taken
 
 module _ (places : ℕ → Place) (hands : Hands places) (t l v : ℕ) (p2 : Place) where
@@ -319,19 +375,19 @@ module _ (places : ℕ → Place) (hands : Hands places) (t l v : ℕ) (p2 : Pla
     | inr nv ↦ rw (put_other places v (next_place (places v) (Woken x)) u nv) (stays t l (places u) (only u nv))
   ])
 
-  pub lets_taken : carried_at (places t) l ≡ hand v false → (u : ℕ) → u ≢ t → LetGo t l (places u) (woken_by note.Normal u)
+  pub lets_taken : hand_at (places v) l ≡ hand t false → (u : ℕ) → u ≢ t → LetGo t l (places u) (woken_by note.Normal u)
   lets_taken holds = lets_but_one note.Normal
-      (λ u ne. untaken (places u) t l (λ h. ne (let a : carried_at (places t) l ≡ hand u false = hands.taken t u l false h in cc)))
-      (let k : IsTakenAt (places v) t l = is_taken (places v) t l (hands.carried t v l false holds) in rw k.is (tries t l k.entry k.retries))
+      (λ u ne. untaken (places u) t l (λ h. ne (hands.alone t l v u false false holds h)))
+      (let k : IsTakenAt (places v) t l = is_taken (places v) t l holds in rw k.is (tries t l k.entry k.retries))
 
-  pub lets_handed : carried_at (places t) l ≡ hand v true → (u : ℕ) → u ≢ t → LetGo t l (places u) (woken_by note.HandOff u)
+  pub lets_handed : hand_at (places v) l ≡ hand t true → (u : ℕ) → u ≢ t → LetGo t l (places u) (woken_by note.HandOff u)
   lets_handed holds = lets_but_one note.HandOff
-      (λ u ne. untaken (places u) t l (λ h. let a : carried_at (places t) l ≡ hand u false = hands.taken t u l false h in absurd cc))
-      (let k : IsHandedAt (places v) t l = is_handed (places v) t l (hands.carried t v l true holds) in rw k.is (accepts t l t k.entry k.retries))
+      (λ u ne. untaken (places u) t l (λ h. let a : carried_at (places t) l ≡ Some false = hands.taken t u l false h in let b : carried_at (places t) l ≡ Some true = hands.taken t v l true holds in absurd cc))
+      (let k : IsHandedAt (places v) t l = is_handed (places v) t l holds in rw k.is (accepts t l t k.entry k.retries))
 
 -- who has nobody in hand leaves alone
 pub lets_nobody : (places : ℕ → Place) (hands : Hands places) (t l : ℕ) (p2 : Place) → carried_at (places t) l ≡ None → (u : ℕ) → u ≢ t → LetGo t l (places u) (putting places t p2 u)
-lets_nobody places hands t l p2 none u ne = rw (put_other places t p2 u ne) (stays t l (places u) (untaken (places u) t l (λ h. let a : carried_at (places t) l ≡ hand u false = hands.taken t u l false h in absurd cc)))
+lets_nobody places hands t l p2 none u ne = rw (put_other places t p2 u ne) (stays t l (places u) (untaken (places u) t l (λ h. let a : carried_at (places t) l ≡ Some false = hands.taken t u l false h in absurd cc)))
 
 -- ---------------------------------------------------------------- the first of a line is taken
 
@@ -401,28 +457,25 @@ handed_is t n o m s p l to unshared = (λ i. locks.with_successor (heir to) (rec
     by_heir (Some u) = ap (λ (k : ℕ). if k == 0 then lock_seen n.shared (with_exclusive o (Some u)) m s (let_go t (λ x. taken_at (p x) l)) else locks.pending_for u false (lock_seen n.shared (with_exclusive o None) m s (let_go t (λ x. taken_at (p x) l)))) unshared
 
 module _ (r : Rules) (l : ℕ) (n : Base) (word : ℕ) (o : Owners) (m s : List Waiter) (p : ℕ → Place) (hands : Hands p) (t u : ℕ) (bumps none_left : Bool) (sort : r.sort ≡ locks.Mutex) (unshared : sum n.shared ≡ 0)
-    (store : p t ≡ Mutex l (HandOff bumps (hand_off.Store (Some u) none_left))) where
+    (store : p t ≡ Mutex l (HandOff bumps (hand_off.Store true none_left))) (held : hand_at (p u) l ≡ hand t false) where
   abbrev at_store : Site
   at_store = seen l n word o m s p
 
   abbrev pub handed_places : ℕ → Place
-  handed_places = putting (putting p u (next_place (p u) (HandedBy t))) t (Mutex l (HandOff bumps (hand_off.Leave (Some u))))
-
-  pub own_hand : carried_at (p t) l ≡ hand u false
-  own_hand = ap (λ (x : Station). x.carries) (own_stance l (p t) _ store)
+  handed_places = putting (putting p u (next_place (p u) (HandedBy t))) t (Mutex l (HandOff bumps (hand_off.Leave true)))
 
   pub taken_there : IsTakenAt (p u) t l
-  taken_there = is_taken (p u) t l (hands.carried t u l false own_hand)
+  taken_there = is_taken (p u) t l held
 
   apart : u ≢ t
-  apart e = let a : Mutex l (HandOff bumps (hand_off.Store (Some u) none_left)) ≡ Mutex l (Lock taken_there.entry taken_there.retries (lock.Taken t)) = sym store ∙ ap p (sym e) ∙ taken_there.is in cc
+  apart e = let a : Mutex l (HandOff bumps (hand_off.Store true none_left)) ≡ Mutex l (Lock taken_there.entry taken_there.retries (lock.Taken t)) = sym store ∙ ap p (sym e) ∙ taken_there.is in cc
 
   let_go_now : (x : ℕ) → taken_at (handed_places x) l ≡ keep_from t (taken_at (p x) l)
   let_go_now x = elim (cases_eq x t) [
-    | inl e ↦ rw (e, put_here (putting p u (next_place (p u) (HandedBy t))) t (Mutex l (HandOff bumps (hand_off.Leave (Some u)))), store) refl
-    | inr nt ↦ rw (put_other (putting p u (next_place (p u) (HandedBy t))) t (Mutex l (HandOff bumps (hand_off.Leave (Some u)))) x nt) (elim (cases_eq x u) [
+    | inl e ↦ rw (e, put_here (putting p u (next_place (p u) (HandedBy t))) t (Mutex l (HandOff bumps (hand_off.Leave true))), store) refl
+    | inr nt ↦ rw (put_other (putting p u (next_place (p u) (HandedBy t))) t (Mutex l (HandOff bumps (hand_off.Leave true))) x nt) (elim (cases_eq x u) [
       | inl e ↦ rw (e, put_here p u (next_place (p u) (HandedBy t)), taken_there.is, same l, same t) refl
-      | inr nu ↦ rw (put_other p u (next_place (p u) (HandedBy t)) x nu) (sym (untaken (p x) t l (λ h. nu (let a : carried_at (p t) l ≡ hand x false = hands.taken t x l false h in let b : carried_at (p t) l ≡ hand u false = own_hand in cc))))
+      | inr nu ↦ rw (put_other p u (next_place (p u) (HandedBy t)) x nu) (sym (untaken (p x) t l (λ h. nu (hands.alone t l u x false false held h))))
     ])
   ]
 
@@ -432,15 +485,15 @@ module _ (r : Rules) (l : ℕ) (n : Base) (word : ℕ) (o : Owners) (m s : List 
   doing_then : (b : Bool) → none_left ≡ b → (x : ℕ)
       → doing_on (handed_places x) l ≡ (after_acts r (hands_acts b) at_store).doing x
   doing_then true f x = elim (cases_eq x t) [
-    | inl e ↦ rw (e, put_here (putting p u (next_place (p u) (HandedBy t))) t (Mutex l (HandOff bumps (hand_off.Leave (Some u)))), differ t u (λ g. apart (sym g)), same t, store, same l) refl
-    | inr nt ↦ rw (put_other (putting p u (next_place (p u) (HandedBy t))) t (Mutex l (HandOff bumps (hand_off.Leave (Some u)))) x nt) (elim (cases_eq x u) [
+    | inl e ↦ rw (e, put_here (putting p u (next_place (p u) (HandedBy t))) t (Mutex l (HandOff bumps (hand_off.Leave true))), differ t u (λ g. apart (sym g)), same t, store, same l) refl
+    | inr nt ↦ rw (put_other (putting p u (next_place (p u) (HandedBy t))) t (Mutex l (HandOff bumps (hand_off.Leave true))) x nt) (elim (cases_eq x u) [
       | inl e ↦ rw (e, put_here p u (next_place (p u) (HandedBy t)), same u, differ u t apart, taken_there.is, same l) refl
       | inr nu ↦ rw (put_other p u (next_place (p u) (HandedBy t)) x nu, differ x u nu, differ x t nt) refl
     ])
   ]
   doing_then false f x = elim (cases_eq x t) [
-    | inl e ↦ rw (e, put_here (putting p u (next_place (p u) (HandedBy t))) t (Mutex l (HandOff bumps (hand_off.Leave (Some u)))), differ t u (λ g. apart (sym g)), same t, store, same l, f) refl
-    | inr nt ↦ rw (put_other (putting p u (next_place (p u) (HandedBy t))) t (Mutex l (HandOff bumps (hand_off.Leave (Some u)))) x nt) (elim (cases_eq x u) [
+    | inl e ↦ rw (e, put_here (putting p u (next_place (p u) (HandedBy t))) t (Mutex l (HandOff bumps (hand_off.Leave true))), differ t u (λ g. apart (sym g)), same t, store, same l, f) refl
+    | inr nt ↦ rw (put_other (putting p u (next_place (p u) (HandedBy t))) t (Mutex l (HandOff bumps (hand_off.Leave true))) x nt) (elim (cases_eq x u) [
       | inl e ↦ rw (e, put_here p u (next_place (p u) (HandedBy t)), same u, differ u t apart, taken_there.is, same l) refl
       | inr nu ↦ rw (put_other p u (next_place (p u) (HandedBy t)) x nu, differ x u nu, differ x t nt) refl
     ])

@@ -30,16 +30,16 @@ use Rattle.lot_steps.specs.Steps.{next_place, act_of}
 use Rattle.abstract_locks.specs.Locks.{one_if_some, TakeFirst}
 use Rattle.abstract_locks.specs.Codes.{bit}
 use Rattle.abstract_locks.specs.Sites.{Main, Second, End, is_empty, found, leaves, In, Out, Does, FindNobody}
-use Rattle.lot_world.specs.Machine.{State, place_at, word_at, owners_at, queue_at, section_at, can_do, put, filled_with, appended, removed, first_taken, befallen, taken_by, reply_to}
+use Rattle.lot_world.specs.Machine.{State, place_at, word_at, owners_at, queue_at, section_at, can_do, put, filled_with, appended, removed, first_taken, befallen, taken_by, is_there, reply_to}
 use Rattle.lot_world.specs.Fits.{IsShaped, PlaceFits}
 use Rattle.lot_world.specs.Refinement.{taken_at}
 use Rattle.abstract_locks.specs.Picks.{queued_of}
-use Rattle.lot_world.specs.MutexDeeds.{Station, hand, nowhere, mutex_doing, mutex_station, station, station_at, acts, deeds, mutex_deeds, queued}
+use Rattle.lot_world.specs.MutexDeeds.{Station, nowhere, mutex_doing, mutex_station, station, station_at, acts, deeds, mutex_deeds, queued}
 use Rattle.lot_world.specs.SitesOf.{IsSteady, Goes, stood_in}
 use Rattle.lot_world.proofs.Shape.{main_line_there, main_key_there}
 use Rattle.lot_world.proofs.Glue.{base_at, same, differ, IsOf, own_stance, inside_is, doing_of, doing_here}
 use Rattle.lot_world.proofs.MutexTable.{Fits, own_doing, ends, looks, at_first, at_load, at_decide_free, at_decide_one, at_clear, at_release_clear, at_try, at_subtract, at_unlock_fair, at_bump, at_store_none}
-use Rattle.lot_world.proofs.SitesKept.{go_by, goes_steady, site_l, word_l, word_keeps, place_keeps, enter_keeps, leave_keeps, release_wakes, tells, hands_over, take_keeps}
+use Rattle.lot_world.proofs.SitesKept.{go_by, goes_steady, site_l, word_l, word_keeps, place_keeps, enter_keeps, leave_keeps, one_held, release_wakes, tells, hands_over, take_keeps}
 use Rattle.lot_world.proofs.StandsKept.{in_main}
 use Rattle.lot_world.proofs.SectionsKept.{park_keeps, remove_keeps, nobody_keeps}
 
@@ -77,11 +77,15 @@ asleep (Mutex k at) l h = either (k == l) refl h
 
 module _ (w : State) (t : ℕ) (steady : IsSteady w) (shape : IsShaped w) (there : t < length w.places) where
   -- the thread does at the lock l what its act does
+  abbrev GoesWith : ℕ → MutexPlace → Option ℕ → Act → Type 0
+  GoesWith l at whom a = Goes w (go_by w t (Mutex l at) a) l (deeds t at whom (reply_to w t a))
+
+  -- whomever it takes, or hands the lock
   abbrev GoesBy : ℕ → MutexPlace → Act → Type 0
-  GoesBy l at a = Goes w (go_by w t (Mutex l at) a) l (deeds t at (reply_to w t a))
+  GoesBy l at a = (whom : Option ℕ) × GoesWith l at whom a
 
   -- one operation on the word
-  fitted : (l : ℕ) (at : MutexPlace) → place_at w t ≡ Mutex l at → l < length w.locks → (f : Op) → ((x : ℕ) → Fits l (base_at w l) (owners_at w l) (queue_at w (2 * l)) (queue_at w (2 * l + 1)) (place_at w) t x at f) → Goes w (go_by w t (Mutex l at) (act.TheVariants.Word l f)) l (acts t (mutex_deeds at (Value (word_at w l))))
+  fitted : (l : ℕ) (at : MutexPlace) → place_at w t ≡ Mutex l at → l < length w.locks → (f : Op) → ((x : ℕ) → Fits l (base_at w l) (owners_at w l) (queue_at w (2 * l)) (queue_at w (2 * l + 1)) (place_at w) t x at f) → Goes w (go_by w t (Mutex l at) (act.TheVariants.Word l f)) l (acts t (mutex_deeds at None (Value (word_at w l))))
   fitted l at is lt f fits = word_keeps w t l at steady is there lt f (fits (word_at w l) is (site_l w t l at steady is there) (word_l w t l at steady is there))
 
   line : (l : ℕ) → l < length w.locks → 2 * l < length w.queues
@@ -107,29 +111,29 @@ module _ (w : State) (t : ℕ) (steady : IsSteady w) (shape : IsShaped w) (there
       else if b then act.TheVariants.Word l (op.TheVariants.Exchange 1 3)
       else act.TheVariants.Enter (One (2 * l))
 
-  decided_kept : (l : ℕ) (e : Entry) (r : Bool) (x : ℕ) → place_at w t ≡ Mutex l (Lock e r (lock.Decide x)) → l < length w.locks → (a b : Bool) → is_locked x ≡ a → (x == 1) ≡ b → can_do w (decided_by l x a b) ≡ true → GoesBy l (Lock e r (lock.Decide x)) (decided_by l x a b)
+  decided_kept : (l : ℕ) (e : Entry) (r : Bool) (x : ℕ) → place_at w t ≡ Mutex l (Lock e r (lock.Decide x)) → l < length w.locks → (a b : Bool) → is_locked x ≡ a → (x == 1) ≡ b → can_do w (decided_by l x a b) ≡ true → GoesWith l (Lock e r (lock.Decide x)) None (decided_by l x a b)
   unfolding decided_by
   decided_kept l e r x is lt false b ea eb can = fitted l (Lock e r (lock.Decide x)) is lt (op.TheVariants.Exchange x (x + 1)) (at_decide_free l _ _ _ _ _ t e r x ea)
   decided_kept l e r x is lt true true ea eb can = let z : x ≡ 1 = eqb-true x 1 eb in rw z (fitted l (Lock e r (lock.Decide 1)) (rw z at is) lt (op.TheVariants.Exchange 1 3) (at_decide_one l _ _ _ _ _ t e r))
   decided_kept l e r x is lt true false ea eb can = enters l (Lock e r (lock.Decide x)) (Lock e r lock.Check) is lt can refl refl refl refl refl refl
 
-  parked_kept : (l : ℕ) (e : Entry) (r : Bool) → place_at w t ≡ Mutex l (Lock e r lock.Check) → l < length w.locks → GoesBy l (Lock e r lock.Check) (act.TheVariants.Park l (2 * l) (WordIs 3) Exclusive)
+  parked_kept : (l : ℕ) (e : Entry) (r : Bool) → place_at w t ≡ Mutex l (Lock e r lock.Check) → l < length w.locks → GoesWith l (Lock e r lock.Check) None (act.TheVariants.Park l (2 * l) (WordIs 3) Exclusive)
   parked_kept l e r is lt = either (word_at w l == 3) refl
     where
       again : (b : Bool) → mutex_doing (Lock e (b && not false) (lock.Leave false)) ≡ mutex_doing (Lock e b lock.Check)
       again true = refl
       again false = refl
 
-      either : (b : Bool) → (word_at w l == 3) ≡ b → Goes w (put (if b then record w { queues = appended w.queues (2 * l) t Exclusive } else w) t (next_place (Mutex l (Lock e r lock.Check)) (Parked b))) l (deeds t (Lock e r lock.Check) (Parked b))
+      either : (b : Bool) → (word_at w l == 3) ≡ b → Goes w (put (if b then record w { queues = appended w.queues (2 * l) t Exclusive } else w) t (next_place (Mutex l (Lock e r lock.Check)) (Parked b))) l (deeds t (Lock e r lock.Check) None (Parked b))
       either true f = let z : word_at w l ≡ 3 = eqb-true (word_at w l) 3 f in
           park_keeps w t l (Lock e r lock.Check) steady is there (line l lt) (Mutex l (Lock e (r && not true) (lock.Leave true))) refl refl refl refl (ap is_parked z) (owned_3 (owners_at w l).exclusive (subst (λ x. x ≡ one_if_some (owners_at w l).exclusive + 2 * bit (is_parked x)) z (word_l w t l (Lock e r lock.Check) steady is there))) refl refl refl
           (own_doing l (Mutex l (Lock e (r && not true) (lock.Leave true))) (Lock e (r && not true) (lock.Leave true)) refl) refl
       either false f = looked l (Lock e r lock.Check) (Lock e (r && not false) (lock.Leave false)) is refl refl (again r) refl
 
-  removed_kept : (l : ℕ) (e : Entry) (r : Bool) → place_at w t ≡ Mutex l (Lock e r lock.Remove) → l < length w.locks → GoesBy l (Lock e r lock.Remove) (act.TheVariants.Remove (2 * l))
+  removed_kept : (l : ℕ) (e : Entry) (r : Bool) → place_at w t ≡ Mutex l (Lock e r lock.Remove) → l < length w.locks → GoesWith l (Lock e r lock.Remove) None (act.TheVariants.Remove (2 * l))
   removed_kept l e r is lt = either (length (without t (queue_at w (2 * l))) == 0) (empty_line (without t (queue_at w (2 * l))))
     where
-      either : (b : Bool) → is_empty (map queued_of (without t (queue_at w (2 * l)))) ≡ b → Goes w (put (record w { queues = removed w.queues t }) t (next_place (Mutex l (Lock e r lock.Remove)) (Removed b))) l (deeds t (Lock e r lock.Remove) (Removed b))
+      either : (b : Bool) → is_empty (map queued_of (without t (queue_at w (2 * l)))) ≡ b → Goes w (put (record w { queues = removed w.queues t }) t (next_place (Mutex l (Lock e r lock.Remove)) (Removed b))) l (deeds t (Lock e r lock.Remove) None (Removed b))
       either true f = remove_keeps w t l (Lock e r lock.Remove) steady is there (line l lt) (Mutex l (Lock e r lock.Clear)) refl refl refl refl refl refl (own_doing l (Mutex l (Lock e r lock.Clear)) (Lock e r lock.Clear) refl ∙ rw f refl) refl
       either false f = remove_keeps w t l (Lock e r lock.Remove) steady is there (line l lt) (Mutex l (Lock e r lock.GiveUp)) refl refl refl refl refl refl (own_doing l (Mutex l (Lock e r lock.GiveUp)) (Lock e r lock.GiveUp) refl ∙ rw f refl) refl
 
@@ -138,11 +142,11 @@ module _ (w : State) (t : ℕ) (steady : IsSteady w) (shape : IsShaped w) (there
       → station p2 ≡ record (mutex_station at) { inside = None } → Goes w (put (filled_with w (One (2 * l)) None) t p2) l (acts t (Out ∷ []))
   goes_away l at p2 is lt of none none2 d i k c s = leave_keeps w t l at steady is there (key l lt) p2 of none none2 (doing_here l p2 of ∙ d) i k c s
 
-  leaves_kept : (l : ℕ) (e : Entry) (r b : Bool) → place_at w t ≡ Mutex l (Lock e r (lock.Leave b)) → l < length w.locks → GoesBy l (Lock e r (lock.Leave b)) (act.TheVariants.Leave (One (2 * l)) wakes.TheVariants.Nobody)
+  leaves_kept : (l : ℕ) (e : Entry) (r b : Bool) → place_at w t ≡ Mutex l (Lock e r (lock.Leave b)) → l < length w.locks → GoesWith l (Lock e r (lock.Leave b)) None (act.TheVariants.Leave (One (2 * l)) wakes.TheVariants.Nobody)
   leaves_kept l e r true is lt = goes_away l (Lock e r (lock.Leave true)) (Mutex l (Lock e r lock.Asleep)) is lt refl refl refl refl refl refl refl refl
   leaves_kept l e r false is lt = goes_away l (Lock e r (lock.Leave false)) (Mutex l (Lock e r lock.Load)) is lt refl refl refl refl refl refl refl refl
 
-  pub lock_kept : (l : ℕ) (e : Entry) (r : Bool) (a : LockAt) → place_at w t ≡ Mutex l (Lock e r a) → l < length w.locks → can_do w (lock_act l a) ≡ true → GoesBy l (Lock e r a) (lock_act l a)
+  pub lock_kept : (l : ℕ) (e : Entry) (r : Bool) (a : LockAt) → place_at w t ≡ Mutex l (Lock e r a) → l < length w.locks → can_do w (lock_act l a) ≡ true → GoesWith l (Lock e r a) None (lock_act l a)
   unfolding decided_by
   lock_kept l e r lock.First is lt can = fitted l (Lock e r lock.First) is lt (op.TheVariants.Exchange 0 1) (at_first l _ _ _ _ _ t e r)
   lock_kept l e r lock.Load is lt can = fitted l (Lock e r lock.Load) is lt op.TheVariants.Load (at_load l _ _ _ _ _ t e r)
@@ -161,24 +165,24 @@ module _ (w : State) (t : ℕ) (steady : IsSteady w) (shape : IsShaped w) (there
 
   -- where a take of u leads
   record TakesTo (l : ℕ) (at : MutexPlace) (u : ℕ) (b : Bool) : Type 0 where
-    pub of : IsOf l (next_place (Mutex l at) (Took (Some u) b))
-    pub none : taken_at (next_place (Mutex l at) (Took (Some u) b)) l ≡ None
-    pub doing : doing_of (next_place (Mutex l at) (Took (Some u) b)) ≡ record (mutex_doing at) { wakes = None; carries = true; covers = true; empty = found Main b }
-    pub does : deeds t at (Took (Some u) b) ≡ acts t (Does (TakeFirst (queued u)) ∷ [])
-    pub stands : station (next_place (Mutex l at) (Took (Some u) b)) ≡ record (mutex_station at) { carries = hand u false }
+    pub of : IsOf l (next_place (Mutex l at) (Took true b))
+    pub none : taken_at (next_place (Mutex l at) (Took true b)) l ≡ None
+    pub doing : doing_of (next_place (Mutex l at) (Took true b)) ≡ record (mutex_doing at) { wakes = None; carries = true; covers = true; empty = found Main b }
+    pub does : deeds t at (Some u) (Took true b) ≡ acts t (Does (TakeFirst (queued u)) ∷ [])
+    pub stands : station (next_place (Mutex l at) (Took true b)) ≡ record (mutex_station at) { carries = Some false }
 
   -- the first of the line, if any, is taken
   takes : (l : ℕ) (at : MutexPlace) → place_at w t ≡ Mutex l at → l < length w.locks → taken_at (Mutex l at) l ≡ None → mutex_station at ≡ record nowhere { inside = Some Main } → (mutex_doing at).carries ≡ false → (mutex_doing at).wakes ≢ Some Second
-      → (queue_at w (2 * l) ≡ [] → Goes w (put (record w { queues = first_taken w.queues (2 * l) }) t (next_place (Mutex l at) (Took None true))) l (deeds t at (Took None true)))
+      → (queue_at w (2 * l) ≡ [] → Goes w (put (record w { queues = first_taken w.queues (2 * l) }) t (next_place (Mutex l at) (Took false true))) l (deeds t at None (Took false true)))
       → ((u : ℕ) (b : Bool) → TakesTo l at u b) → GoesBy l at (act.TheVariants.TakeFirst (2 * l))
   takes l at is lt none s c v empty to = by_line (queue_at w (2 * l)) refl
     where
-      some : (x : Waiter) (rest : List Waiter) → queue_at w (2 * l) ≡ x ∷ rest → Goes w (put (befallen (record w { queues = first_taken w.queues (2 * l) }) x.thread (TakenBy t)) t (next_place (Mutex l at) (Took (Some x.thread) (length rest == 0)))) l (deeds t at (Took (Some x.thread) (length rest == 0)))
+      some : (x : Waiter) (rest : List Waiter) → queue_at w (2 * l) ≡ x ∷ rest → Goes w (put (befallen (record w { queues = first_taken w.queues (2 * l) }) x.thread (TakenBy t)) t (next_place (Mutex l at) (Took true (length rest == 0)))) l (deeds t at (Some x.thread) (Took true (length rest == 0)))
       some x rest e = elim (asleep (place_at w x.thread) l stands_there) [
         | inl within ↦ absurd (apart ((site_l w t l at steady is there).alone x.thread t Main (inside_is (place_at w x.thread) l ∙ within) (inside_is (place_at w t) l ∙ ap (λ (y : Station). y.inside) here)))
-        | inr a ↦ rw ((to x.thread (length rest == 0)).does) (take_keeps w t l at steady is there (line l lt) x rest e a.entry a.retries a.is apart (next_place (Mutex l at) (Took (Some x.thread) (length rest == 0))) (to x.thread (length rest == 0)).of none (to x.thread (length rest == 0)).none
+        | inr a ↦ rw ((to x.thread (length rest == 0)).does) (take_keeps w t l at steady is there (line l lt) x rest e a.entry a.retries a.is apart (next_place (Mutex l at) (Took true (length rest == 0))) (to x.thread (length rest == 0)).of none (to x.thread (length rest == 0)).none
             (ap (λ (y : Station). y.carries) s) (ap (λ (y : Station). y.hand) s) (ap (λ (y : Station). y.inside) s) c v
-            (doing_here l (next_place (Mutex l at) (Took (Some x.thread) (length rest == 0))) (to x.thread (length rest == 0)).of ∙ (to x.thread (length rest == 0)).doing ∙ ap (λ b. record (mutex_doing at) { wakes = None; carries = true; covers = true; empty = found Main b }) (sym (empty_line rest)))
+            (doing_here l (next_place (Mutex l at) (Took true (length rest == 0))) (to x.thread (length rest == 0)).of ∙ (to x.thread (length rest == 0)).doing ∙ ap (λ b. record (mutex_doing at) { wakes = None; carries = true; covers = true; empty = found Main b }) (sym (empty_line rest)))
             (to x.thread (length rest == 0)).stands)
       ]
         where
@@ -194,9 +198,9 @@ module _ (w : State) (t : ℕ) (steady : IsSteady w) (shape : IsShaped w) (there
           apart : x.thread ≢ t
           apart f = let a : (station_at (place_at w t) l).stands ≡ Some Main = rw f at stands_there in let b : (station_at (place_at w t) l).stands ≡ None = ap (λ (y : Station). y.stands) here in cc
 
-      by_line : (q : List Waiter) → queue_at w (2 * l) ≡ q → Goes w (put (taken_by (record w { queues = first_taken w.queues (2 * l) }) t (first_of (queue_at w (2 * l)))) t (next_place (Mutex l at) (Took (first_of (queue_at w (2 * l))) (length (drop 1 (queue_at w (2 * l))) == 0)))) l (deeds t at (Took (first_of (queue_at w (2 * l))) (length (drop 1 (queue_at w (2 * l))) == 0)))
-      by_line [] e = let a : first_of (queue_at w (2 * l)) ≡ None = ap first_of e in let b : (length (drop 1 (queue_at w (2 * l))) == 0) ≡ true = ap (λ (q : List Waiter). length (drop 1 q) == 0) e in rw (a, b) (empty e)
-      by_line (x ∷ rest) e = let a : first_of (queue_at w (2 * l)) ≡ Some x.thread = ap first_of e in let b : (length (drop 1 (queue_at w (2 * l))) == 0) ≡ (length rest == 0) = ap (λ (q : List Waiter). length (drop 1 q) == 0) e in rw (a, b) (some x rest e)
+      by_line : (q : List Waiter) → queue_at w (2 * l) ≡ q → (whom : Option ℕ) × Goes w (put (taken_by (record w { queues = first_taken w.queues (2 * l) }) t (first_of (queue_at w (2 * l)))) t (next_place (Mutex l at) (Took (is_there (first_of (queue_at w (2 * l)))) (length (drop 1 (queue_at w (2 * l))) == 0)))) l (deeds t at whom (Took (is_there (first_of (queue_at w (2 * l)))) (length (drop 1 (queue_at w (2 * l))) == 0)))
+      by_line [] e = let a : first_of (queue_at w (2 * l)) ≡ None = ap first_of e in let b : (length (drop 1 (queue_at w (2 * l))) == 0) ≡ true = ap (λ (q : List Waiter). length (drop 1 q) == 0) e in (None, rw (a, b) (empty e))
+      by_line (x ∷ rest) e = let a : first_of (queue_at w (2 * l)) ≡ Some x.thread = ap first_of e in let b : (length (drop 1 (queue_at w (2 * l))) == 0) ≡ (length rest == 0) = ap (λ (q : List Waiter). length (drop 1 q) == 0) e in (Some x.thread, rw (a, b) (some x rest e))
 
   -- nobody was there
   takes_nobody : (l : ℕ) (at at2 : MutexPlace) → place_at w t ≡ Mutex l at → l < length w.locks → queue_at w (2 * l) ≡ [] → taken_at (Mutex l at) l ≡ None → taken_at (Mutex l at2) l ≡ None → (mutex_doing at).inside ≡ Some Main → (mutex_doing at).carries ≡ false → ((mutex_doing at).wakes ≡ None) ⊎ ((mutex_doing at).wakes ≡ Some Main)
@@ -204,41 +208,41 @@ module _ (w : State) (t : ℕ) (steady : IsSteady w) (shape : IsShaped w) (there
   takes_nobody l at at2 is lt empty none none2 i c v d s = nobody_keeps w t l at steady is there (line l lt) (Mutex l at2) refl none none2 empty i c v (own_doing l (Mutex l at2) at2 refl ∙ d) s
 
   pub unlock_kept : (l : ℕ) (a : UnlockAt) → place_at w t ≡ Mutex l (Unlock a) → l < length w.locks → can_do w (unlock_act l a) ≡ true → GoesBy l (Unlock a) (unlock_act l a)
-  unlock_kept l unlock.Subtract is lt can = fitted l (Unlock unlock.Subtract) is lt (op.TheVariants.Sub 1) (at_subtract l _ _ _ _ _ t)
-  unlock_kept l unlock.Enter is lt can = enters l (Unlock unlock.Enter) (Unlock unlock.Take) is lt can refl refl refl refl refl refl
+  unlock_kept l unlock.Subtract is lt can = (None, fitted l (Unlock unlock.Subtract) is lt (op.TheVariants.Sub 1) (at_subtract l _ _ _ _ _ t))
+  unlock_kept l unlock.Enter is lt can = (None, enters l (Unlock unlock.Enter) (Unlock unlock.Take) is lt can refl refl refl refl refl refl)
   unlock_kept l unlock.Take is lt can = takes l (Unlock unlock.Take) is lt refl refl refl (λ h. cc)
-      (λ empty. takes_nobody l (Unlock unlock.Take) (Unlock (unlock.Clear None)) is lt empty refl refl refl refl (inr refl) refl refl)
+      (λ empty. takes_nobody l (Unlock unlock.Take) (Unlock (unlock.Clear false)) is lt empty refl refl refl refl (inr refl) refl refl)
       next_take
     where
       next_take : (u : ℕ) (b : Bool) → TakesTo l (Unlock unlock.Take) u b
       next_take u true = record { of = refl; none = refl; doing = refl; does = refl; stands = refl }
       next_take u false = record { of = refl; none = refl; doing = refl; does = refl; stands = refl }
-  unlock_kept l (unlock.Clear taken) is lt can = fitted l (Unlock (unlock.Clear taken)) is lt (op.TheVariants.And NOT_PARKED) (at_release_clear l _ _ _ _ _ t taken)
-  unlock_kept l (unlock.Leave None) is lt can = goes_away l (Unlock (unlock.Leave None)) Idle is lt tt refl refl refl refl refl refl refl
-  unlock_kept l (unlock.Leave (Some v)) is lt can = release_wakes w t l steady there (key l lt) v is
+  unlock_kept l (unlock.Clear any) is lt can = (None, fitted l (Unlock (unlock.Clear any)) is lt (op.TheVariants.And NOT_PARKED) (at_release_clear l _ _ _ _ _ t any))
+  unlock_kept l (unlock.Leave false) is lt can = (None, goes_away l (Unlock (unlock.Leave false)) Idle is lt tt refl refl refl refl refl refl refl)
+  unlock_kept l (unlock.Leave true) is lt can = (None, release_wakes w t l steady there (key l lt) is)
 
   pub hand_off_kept : (l : ℕ) (bumps : Bool) (a : HandOffAt) → place_at w t ≡ Mutex l (HandOff bumps a) → l < length w.locks → can_do w (hand_off_act l a) ≡ true → GoesBy l (HandOff bumps a) (hand_off_act l a)
-  hand_off_kept l bumps hand_off.Enter is lt can = enters l (HandOff bumps hand_off.Enter) (HandOff bumps hand_off.Take) is lt can refl refl refl refl refl refl
+  hand_off_kept l bumps hand_off.Enter is lt can = (None, enters l (HandOff bumps hand_off.Enter) (HandOff bumps hand_off.Take) is lt can refl refl refl refl refl refl)
   hand_off_kept l bumps hand_off.Take is lt can = takes l (HandOff bumps hand_off.Take) is lt refl refl refl (λ h. cc)
-      (λ empty. takes_nobody l (HandOff bumps hand_off.Take) (HandOff bumps (hand_off.Store None true)) is lt empty refl refl refl refl (inl refl) refl refl)
+      (λ empty. takes_nobody l (HandOff bumps hand_off.Take) (HandOff bumps (hand_off.Store false true)) is lt empty refl refl refl refl (inl refl) refl refl)
       (λ u b. record { of = refl; none = refl; doing = refl; does = refl; stands = refl })
-  hand_off_kept l bumps (hand_off.Store None b) is lt can = fitted l (HandOff bumps (hand_off.Store None b)) is lt (op.TheVariants.Store 0) (at_store_none l _ _ _ _ _ t steady.stands.hands bumps b)
-  hand_off_kept l bumps (hand_off.Store (Some u) b) is lt can = hands_over w t l steady there lt bumps b u is
-  hand_off_kept l true (hand_off.Leave None) is lt can = goes_away l (HandOff true (hand_off.Leave None)) (Mutex l (Lock entries.Bump false lock.First)) is lt refl refl refl refl refl refl refl refl
-  hand_off_kept l false (hand_off.Leave None) is lt can = goes_away l (HandOff false (hand_off.Leave None)) Idle is lt tt refl refl refl refl refl refl refl
-  hand_off_kept l true (hand_off.Leave (Some v)) is lt can = tells w t l steady there (key l lt) true v is (Mutex l (Lock entries.Bump false lock.First)) refl refl (own_doing l (Mutex l (Lock entries.Bump false lock.First)) (Lock entries.Bump false lock.First) refl) refl
-  hand_off_kept l false (hand_off.Leave (Some v)) is lt can = tells w t l steady there (key l lt) false v is Idle tt refl refl refl
+  hand_off_kept l bumps (hand_off.Store false b) is lt can = (None, fitted l (HandOff bumps (hand_off.Store false b)) is lt (op.TheVariants.Store 0) (at_store_none l _ _ _ _ _ t steady.stands.hands bumps b))
+  hand_off_kept l bumps (hand_off.Store true b) is lt can = let one = one_held w t l steady there (HandOff bumps (hand_off.Store true b)) is false refl in (Some one.0, hands_over w t l steady there lt bumps b one.0 is one.1)
+  hand_off_kept l true (hand_off.Leave false) is lt can = (None, goes_away l (HandOff true (hand_off.Leave false)) (Mutex l (Lock entries.Bump false lock.First)) is lt refl refl refl refl refl refl refl refl)
+  hand_off_kept l false (hand_off.Leave false) is lt can = (None, goes_away l (HandOff false (hand_off.Leave false)) Idle is lt tt refl refl refl refl refl refl refl)
+  hand_off_kept l true (hand_off.Leave true) is lt can = (None, tells w t l steady there (key l lt) true is (Mutex l (Lock entries.Bump false lock.First)) refl refl (own_doing l (Mutex l (Lock entries.Bump false lock.First)) (Lock entries.Bump false lock.First) refl) refl)
+  hand_off_kept l false (hand_off.Leave true) is lt can = (None, tells w t l steady there (key l lt) false is Idle tt refl refl refl)
 
   -- wherever it stands, its deeds are what the place and the reply say
   pub gone_goes : (l : ℕ) (at : MutexPlace) → place_at w t ≡ Mutex l at → l < length w.locks → can_do w (mutex_act l at) ≡ true → GoesBy l at (mutex_act l at)
-  gone_goes l (Lock e r a) is lt can = lock_kept l e r a is lt can
-  gone_goes l TryLock is lt can = fitted l TryLock is lt (op.TheVariants.Or 1) (at_try l _ _ _ _ _ t)
+  gone_goes l (Lock e r a) is lt can = (None, lock_kept l e r a is lt can)
+  gone_goes l TryLock is lt can = (None, fitted l TryLock is lt (op.TheVariants.Or 1) (at_try l _ _ _ _ _ t))
   gone_goes l (Unlock a) is lt can = unlock_kept l a is lt can
-  gone_goes l UnlockFair is lt can = fitted l UnlockFair is lt (op.TheVariants.Exchange 1 0) (at_unlock_fair l _ _ _ _ _ t)
-  gone_goes l Bump is lt can = fitted l Bump is lt op.TheVariants.Load (at_bump l _ _ _ _ _ t)
+  gone_goes l UnlockFair is lt can = (None, fitted l UnlockFair is lt (op.TheVariants.Exchange 1 0) (at_unlock_fair l _ _ _ _ _ t))
+  gone_goes l Bump is lt can = (None, fitted l Bump is lt op.TheVariants.Load (at_bump l _ _ _ _ _ t))
   gone_goes l (HandOff bumps a) is lt can = hand_off_kept l bumps a is lt can
 
   -- a thread goes on
-  pub gone_kept : (p : Place) → place_at w t ≡ p → PlaceFits (length w.places) (length w.locks) p → can_do w (act_of p) ≡ true → IsSteady (go_by w t p (act_of p))
+  pub gone_kept : (p : Place) → place_at w t ≡ p → PlaceFits (length w.locks) p → can_do w (act_of p) ≡ true → IsSteady (go_by w t p (act_of p))
   gone_kept Idle is fits can = absurd cc
-  gone_kept (Mutex l at) is fits can = goes_steady w _ l _ steady (gone_goes l at is fits.0 can)
+  gone_kept (Mutex l at) is fits can = goes_steady w _ l _ steady (gone_goes l at is fits.0 can).1

@@ -20,7 +20,7 @@ use Rattle.lot_steps.specs.declared.places.Place.{Place}
 use Rattle.lot_steps.specs.Acts.{holds}
 use Rattle.lot_calls.specs.Kinds.{has_call}
 use Rattle.lot_steps.specs.Steps.{act_of, spin_lock, late_key}
-use Rattle.lot_world.specs.Machine.{State, unlocked, place_at, word_at, shares_at, filled_at, kind_at, queue_at, operated, filled_with, appended, first_taken, parked, taken_by, awakened, performed, spun_on, late_on, turned, is_possible, after}
+use Rattle.lot_world.specs.Machine.{State, unlocked, place_at, word_at, shares_at, filled_at, kind_at, queue_at, operated, given, filled_with, appended, first_taken, parked, taken_by, awakened, performed, spun_on, late_on, turned, is_possible, after}
 use Rattle.lot_base.specs.Words.{apply}
 use Rattle.abstract_locks.specs.Locks as locks
 use Rattle.abstract_locks.specs.Codes.{fills}
@@ -39,6 +39,9 @@ set_field f (x ∷ xs) (suc i) y d e (suc j) = set_field f xs i y d e j
 pub operated_kinds : (w : State) (t : ℕ) (p : Place) (l : ℕ) (f : Op) (k : ℕ) → kind_at (operated w t p l f) k ≡ kind_at w k
 operated_kinds w t p l f k = set_field (λ x. x.kind) w.locks l _ (unlocked kind.TheVariants.Mutex) refl k
 
+pub given_kinds : (w : State) (t : ℕ) (p : Place) (l : ℕ) (f : Op) (k : ℕ) → kind_at (given w t p l f) k ≡ kind_at w k
+given_kinds w t p l f k = set_field (λ x. x.kind) w.locks l _ (unlocked kind.TheVariants.Mutex) refl k
+
 -- who shares what, where none of it changes
 pub shares_kept : (w : State) (n : ℕ) → n ≡ length w.places → (k : ℕ) → get_or w.shares k (replicate n 0) ≡ shares_at w k
 shares_kept w n threads k = ap (λ m. get_or w.shares k (replicate m 0)) threads
@@ -46,6 +49,9 @@ shares_kept w n threads k = ap (λ m. get_or w.shares k (replicate m 0)) threads
 -- a lock that nobody shares is not filled by an operation
 pub operated_filled : (w : State) (t : ℕ) (p : Place) (l : ℕ) (f : Op) → rules_of (kind_at w l) ≡ record { sort = locks.Mutex; limit = 0 } → (k : ℕ) → filled_at (operated w t p l f) k ≡ filled_at w k
 operated_filled w t p l f rules k = set_field (λ x. x.filled) w.locks l _ (unlocked kind.TheVariants.Mutex) (ap (λ r. filled_at w l || fills r (apply f (word_at w l))) rules ∙ or-false (filled_at w l)) k
+
+pub given_filled : (w : State) (t : ℕ) (p : Place) (l : ℕ) (f : Op) → rules_of (kind_at w l) ≡ record { sort = locks.Mutex; limit = 0 } → (k : ℕ) → filled_at (given w t p l f) k ≡ filled_at w k
+given_filled w t p l f rules k = set_field (λ x. x.filled) w.locks l _ (unlocked kind.TheVariants.Mutex) (ap (λ r. filled_at w l || fills r (apply f (word_at w l))) rules ∙ or-false (filled_at w l)) k
 
 filled_kinds : (w : State) (keys : Keys) (who : Option ℕ) (k : ℕ) → kind_at (filled_with w keys who) k ≡ kind_at w k
 filled_kinds w (One key) who k = refl
@@ -55,9 +61,9 @@ taken_kinds : (w : State) (t : ℕ) (o : Option ℕ) (k : ℕ) → kind_at (take
 taken_kinds w t None k = refl
 taken_kinds w t (Some u) k = refl
 
-awakened_kinds : (w : State) (x : Wakes) (k : ℕ) → kind_at (awakened w x) k ≡ kind_at w k
-awakened_kinds w wakes.TheVariants.Nobody k = refl
-awakened_kinds w (wakes.TheVariants.One u note) k = refl
+awakened_kinds : (w : State) (t : ℕ) (x : Wakes) (k : ℕ) → kind_at (awakened w t x) k ≡ kind_at w k
+awakened_kinds w t wakes.TheVariants.Nobody k = refl
+awakened_kinds w t (wakes.TheVariants.All note) k = refl
 
 parked_kinds : (w : State) (t l key : ℕ) (check : Check) (wanted : Want) (k : ℕ) → kind_at (parked w t l key check wanted) k ≡ kind_at w k
 parked_kinds w t l key check wanted k = either (holds check (word_at w l))
@@ -68,12 +74,12 @@ parked_kinds w t l key check wanted k = either (holds check (word_at w l))
 
 performed_kinds : (w : State) (t : ℕ) (p : Place) (act : Act) (k : ℕ) → kind_at (performed w t p act) k ≡ kind_at w k
 performed_kinds w t p (Word l f) k = operated_kinds w t p l f k
-performed_kinds w t p (HandOver l f u) k = operated_kinds w t p l f k
+performed_kinds w t p (HandOver l f) k = given_kinds w t p l f k
 performed_kinds w t p (Enter keys) k = filled_kinds w keys (Some t) k
 performed_kinds w t p (Park l key check wanted) k = parked_kinds w t l key check wanted k
 performed_kinds w t p (TakeFirst key) k = taken_kinds (record w { queues = first_taken w.queues key }) t (first_of (queue_at w key)) k
 performed_kinds w t p (Remove key) k = refl
-performed_kinds w t p (Leave keys x) k = awakened_kinds (filled_with w keys None) x k ∙ filled_kinds w keys None k
+performed_kinds w t p (Leave keys x) k = awakened_kinds (filled_with w keys None) t x k ∙ filled_kinds w keys None k
 performed_kinds w t p act k = refl
 
 late_kinds : (w : State) (t : ℕ) (o : Option ℕ) (k : ℕ) → kind_at (late_on w t o) k ≡ kind_at w k

@@ -40,29 +40,29 @@ use Rattle.lot_steps.specs.declared.places.Place.TheVariants.{Idle, Mutex}
 use Rattle.lot_steps.specs.Acts.{outcome_of}
 use Rattle.lot_steps.specs.MutexSteps.{is_thread, mutex_first, mutex_right, is_locked, is_parked, lock_act, unlock_act, hand_off_word, hand_off_act}
 use Rattle.lot_steps.specs.Steps.{act_of, next_place, next_act, spin_lock, late_key, is_idle, has_right, first_place}
-use Rattle.lot_world.specs.Machine.{State, place_at, word_at, owners_at, kind_at, queue_at, section_at, put, performed, go_reply, operated, appended, removed, first_taken, taken_by, befallen, filled_with, reply_to, can_do, is_there, spun_on, late_on, is_free_under, begun, can_begin, is_open_to, can_turn, turned, turn_outcome, is_possible, after, answered}
+use Rattle.lot_world.specs.Machine.{State, place_at, word_at, owners_at, kind_at, queue_at, section_at, put, performed, go_reply, operated, given, all_told, appended, removed, first_taken, taken_by, befallen, filled_with, reply_to, can_do, is_there, spun_on, late_on, is_free_under, begun, can_begin, is_open_to, can_turn, turned, turn_outcome, is_possible, after, answered}
 use Rattle.lot_world.specs.Fits.{IsShaped, SameSize, PlaceFits, GivesUpTimed}
 use Rattle.lot_world.proofs.Shape.{after_size, both, performed_counts}
 use Rattle.lot_world.proofs.Possible.{may_go, go_possible, may_be_late, late_possible, told_gone, told_step, begins_awake, no_closure, turner_there, gone_sections, spun_sections, late_sections, spun_awake, late_awake}
-use Rattle.lot_world.specs.SitesOf.{IsSteady, Goes, CallsMutex, is_mutex, rules_at, carried_at}
+use Rattle.lot_world.specs.SitesOf.{IsSteady, Goes, CallsMutex, is_mutex, rules_at, carried_at, hand_at}
 use Rattle.abstract_locks.specs.Sites.{Main, In, Clear as Clears}
 use Rattle.abstract_locks.specs.Locks.{put as putting, Rights, rights_of}
 use Rattle.abstract_locks.specs.Runs.{LocksState, CallState, GoesOn, Stays, Does, SectionChanges, MayBegin, MayTurn, HasRight, Turned, IsStep, purpose_at, beginning, is_taken_by, Nothing}
 use Rattle.abstract_locks.specs.Purposes.{purpose_of, mutex_purpose}
-use Rattle.lot_world.specs.MutexDeeds.{Hand, hand, mutex_station, deeds}
+use Rattle.lot_world.specs.MutexDeeds.{hand, mutex_station, deeds}
 use Rattle.lot_world.specs.Refinement.{owner_at, lock_state, taken_at, call_state, locks_of, sleeps}
 use Rattle.lot_world.proofs.KindsKept.{after_kinds, calls_mutex}
 use Rattle.std.specs.Prelude.{replicate}
 use Rattle.lot_steps.specs.declared.acts.Reply.{Reply}
 use Rattle.lot_steps.specs.declared.mutex.MutexPlace.{MutexPlace}
 use Rattle.lot_steps.specs.MutexSteps.{mutex_act}
-use Rattle.lot_world.proofs.Glue.{IsTakenAt, IsHandedAt, is_taken, is_handed, same, own_stance, goes_from, put_here, put_other, put_of, put_same}
+use Rattle.lot_world.proofs.Glue.{IsTakenAt, IsHandedAt, is_taken, is_handed, told_one, same, own_stance, goes_from, put_here, put_other, put_of, put_same}
 use Rattle.lot_world.proofs.MutexTable.{mutex}
 use Rattle.lot_world.proofs.StandsMoved.{mutex_rules}
-use Rattle.lot_world.proofs.SitesKept.{go_by}
+use Rattle.lot_world.proofs.SitesKept.{go_by, one_held, told_it}
 use Rattle.lot_world.proofs.GoneKept.{gone_goes}
 use Rattle.lot_world.proofs.TurnsKept.{idle_is}
-use Rattle.lot_world.proofs.AtPlaces.{unless_carried}
+use Rattle.lot_world.proofs.AtPlaces.{unless_held}
 use Rattle.lot_world.proofs.LockEvents.{put_is, rights, taken_call, Others, Gone, Befalls}
 use Rattle.lot_world.proofs.MutexEvents.{goes_on, first, loads, exchanges, checks, leaves_line, removes, gives_up, accepts, tries, subtracts, takes_one, wakes_taken, unlocks_fairly, bumps, takes_fairly, stores, leaves_fairly}
 
@@ -101,22 +101,26 @@ module _ (w : State) (t : ℕ) where
 module _ (w : State) (t : ℕ) (shape : IsShaped w) (steady : IsSteady w) (there : t < length w.places) where
   module _ (l : ℕ) (lt : l < length w.locks) (rules : rules_at w l ≡ mutex) where
     -- where a thread has gone by an act, and what its lock has been through
-    gone_by : (at : MutexPlace) (a : Act) → place_at w t ≡ Mutex l at → Goes w (go_by w t (Mutex l at) a) l (deeds t at (reply_to w t a)) → Gone w (go_by w t (Mutex l at) a) t l at (next_place (Mutex l at) (reply_to w t a)) (deeds t at (reply_to w t a))
-    gone_by at a is goes = record {
+    gone_by : (at : MutexPlace) (a : Act) → place_at w t ≡ Mutex l at → (whom : Option ℕ) → Goes w (go_by w t (Mutex l at) a) l (deeds t at whom (reply_to w t a)) → Gone w (go_by w t (Mutex l at) a) t l at (next_place (Mutex l at) (reply_to w t a)) (deeds t at whom (reply_to w t a))
+    gone_by at a is whom goes = record {
       from = is;
       to = get_or-set_same (performed w t (Mutex l at) a).places t _ Idle (rw ((performed_counts w t (Mutex l at) a).0) there);
       before = steady;
       goes = goes;
     }
 
-    gone_at : (at : MutexPlace) → place_at w t ≡ Mutex l at → can_do w (mutex_act l at) ≡ true → Gone w (go_by w t (Mutex l at) (mutex_act l at)) t l at (next_place (Mutex l at) (reply_to w t (mutex_act l at))) (deeds t at (reply_to w t (mutex_act l at)))
-    gone_at at is can = gone_by at (mutex_act l at) is (gone_goes w t steady shape there l at is lt can)
+    -- whom its act takes, or hands the lock
+    abbrev whom_at : (at : MutexPlace) → place_at w t ≡ Mutex l at → can_do w (mutex_act l at) ≡ true → Option ℕ
+    whom_at at is can = (gone_goes w t steady shape there l at is lt can).0
+
+    gone_at : (at : MutexPlace) (is : place_at w t ≡ Mutex l at) (can : can_do w (mutex_act l at) ≡ true) → Gone w (go_by w t (Mutex l at) (mutex_act l at)) t l at (next_place (Mutex l at) (reply_to w t (mutex_act l at))) (deeds t at (whom_at at is can) (reply_to w t (mutex_act l at)))
+    gone_at at is can = gone_by at (mutex_act l at) is (whom_at at is can) (gone_goes w t steady shape there l at is lt can).1
 
     -- what a thread does about the word that it saw, by its two tests
     abbrev decided_by : ℕ → Bool → Bool → Act
     decided_by s a b = if not a then act.TheVariants.Word l (op.TheVariants.Exchange s (s + 1)) else if b then act.TheVariants.Word l (op.TheVariants.Exchange 1 3) else act.TheVariants.Enter (One (2 * l))
 
-    decided_goes : (e : Entry) (again : Bool) (s : ℕ) (a b : Bool) → Gone w (go_by w t (Mutex l (Lock e again (Decide s))) (decided_by s a b)) t l (Lock e again (Decide s)) (next_place (Mutex l (Lock e again (Decide s))) (reply_to w t (decided_by s a b))) (deeds t (Lock e again (Decide s)) (reply_to w t (decided_by s a b)))
+    decided_goes : (e : Entry) (again : Bool) (s : ℕ) (a b : Bool) → Gone w (go_by w t (Mutex l (Lock e again (Decide s))) (decided_by s a b)) t l (Lock e again (Decide s)) (next_place (Mutex l (Lock e again (Decide s))) (reply_to w t (decided_by s a b))) (deeds t (Lock e again (Decide s)) None (reply_to w t (decided_by s a b)))
         → GoesOn (locks_of w) t (outcome_of (next_act (Mutex l (Lock e again (Decide s))) (reply_to w t (decided_by s a b)))) (locks_of (go_by w t (Mutex l (Lock e again (Decide s))) (decided_by s a b)))
     decided_goes e again s false b gone = exchanges w _ t l rules e again s (word_at w l) (word_at w l == s) (is_locked (word_at w l)) gone (others_stay w t (operated w t (Mutex l (Lock e again (Decide s))) l (op.TheVariants.Exchange s (s + 1))) _ refl)
     decided_goes e again s true true gone = exchanges w _ t l rules e again s (word_at w l) (word_at w l == s) (is_locked (word_at w l)) gone (others_stay w t (operated w t (Mutex l (Lock e again (Decide s))) l (op.TheVariants.Exchange 1 3)) _ refl)
@@ -148,43 +152,56 @@ module _ (w : State) (t : ℕ) (shape : IsShaped w) (steady : IsSteady w) (there
     lock_goes e again Clear is can timed = goes_on w _ t l rules (Lock e again Clear) (Lock e again GiveUp) (Clears Main ∷ []) (gone_at (Lock e again Clear) is can) refl (on_word (Lock e again Clear) (op.TheVariants.And NOT_PARKED)) (λ r. refl)
     lock_goes e again GiveUp is can timed = gives_up w _ t l rules e again timed (gone_at (Lock e again GiveUp) is can) (on_section None _)
 
-    -- whom it has in hand
-    hand_is : (x : ℕ) → carried_at (place_at w t) l ≡ hand x false → is_taken_by t (taken_at (place_at w x) l) ≡ true
-    hand_is x has = let k : IsTakenAt (place_at w x) t l = is_taken (place_at w x) t l (steady.stands.hands.carried t x l false has) in rw (k.is, same l) (same t)
-
-    no_other : (x u : ℕ) → carried_at (place_at w t) l ≡ hand x false → u ≢ x → is_taken_by t (taken_at (place_at w u) l) ≡ false
-    no_other x u has ne = unless_carried w steady t l u (λ h. ne (let e : hand x false ≡ hand u false = sym has ∙ h in cc))
-
     carries : (at : MutexPlace) → place_at w t ≡ Mutex l at → carried_at (place_at w t) l ≡ (mutex_station at).carries
     carries at is = ap (λ x. x.carries) (own_stance l (place_at w t) at is)
+
+    -- whom it has in hand
+    hand_is : (x : ℕ) → hand_at (place_at w x) l ≡ hand t false → is_taken_by t (taken_at (place_at w x) l) ≡ true
+    hand_is x held = let k : IsTakenAt (place_at w x) t l = is_taken (place_at w x) t l held in rw (k.is, same l) (same t)
+
+    no_other : (x u : ℕ) → hand_at (place_at w x) l ≡ hand t false → u ≢ x → is_taken_by t (taken_at (place_at w u) l) ≡ false
+    no_other x u held ne = unless_held w steady t l u (λ h. ne (steady.stands.hands.alone t l x u false false held h))
+
+    nobody_held : (at : MutexPlace) → place_at w t ≡ Mutex l at → (mutex_station at).carries ≡ None → (u : ℕ) → is_taken_by t (taken_at (place_at w u) l) ≡ false
+    nobody_held at is none u = unless_held w steady t l u (λ h. let e : ◌≡◌ {A = Option Bool} None (Some false) = sym (carries at is ∙ none) ∙ steady.stands.hands.taken t u l false h in cc)
 
     unlock_goes : (a : UnlockAt) → place_at w t ≡ Mutex l (Unlock a) → can_do w (unlock_act l a) ≡ true
         → GoesOn (locks_of w) t (outcome_of (next_act (Mutex l (Unlock a)) (reply_to w t (unlock_act l a)))) (locks_of (go_by w t (Mutex l (Unlock a)) (unlock_act l a)))
     unlock_goes unlock.Subtract is can = subtracts w _ t l rules (is_parked (word_at w l)) (gone_at (Unlock unlock.Subtract) is can) (on_word (Unlock unlock.Subtract) (op.TheVariants.Sub 1))
     unlock_goes unlock.Enter is can = goes_on w _ t l rules (Unlock unlock.Enter) (Unlock unlock.Take) (In Main ∷ []) (gone_at (Unlock unlock.Enter) is can) refl (on_section (Some t) _) (λ r. refl)
-    unlock_goes unlock.Take is can = takes_one w _ t l rules (first_of (queue_at w (2 * l))) (length (drop 1 (queue_at w (2 * l))) == 0) (gone_at (Unlock unlock.Take) is can) (others_took w t (first_taken w.queues (2 * l)) (first_of (queue_at w (2 * l))) _)
-    unlock_goes (unlock.Clear taken) is can = goes_on w _ t l rules (Unlock (unlock.Clear taken)) (Unlock (unlock.Leave taken)) (Clears Main ∷ []) (gone_at (Unlock (unlock.Clear taken)) is can) refl (on_word (Unlock (unlock.Clear taken)) (op.TheVariants.And NOT_PARKED)) (λ r. refl)
-    unlock_goes (unlock.Leave None) is can = wakes_taken w _ t l rules None (gone_at (Unlock (unlock.Leave None)) is can)
-        (befalls_nobody w t (filled_with w (One (2 * l)) None) Idle l (Woken note.Normal) refl (λ u. unless_carried w steady t l u (λ h. let e : ◌≡◌ {A = Option Hand} None (hand u false) = sym (carries (Unlock (unlock.Leave None)) is) ∙ h in cc)))
-    unlock_goes (unlock.Leave (Some x)) is can = wakes_taken w _ t l rules (Some x) (gone_at (Unlock (unlock.Leave (Some x))) is can)
-        (befalls_one w t (filled_with w (One (2 * l)) None) x (Woken note.Normal) Idle refl l (hand_is x (carries (Unlock (unlock.Leave (Some x))) is)) (λ u ne. no_other x u (carries (Unlock (unlock.Leave (Some x))) is) ne))
+    unlock_goes unlock.Take is can = takes_one w _ t l rules (whom_at (Unlock unlock.Take) is can) (is_there (first_of (queue_at w (2 * l)))) (length (drop 1 (queue_at w (2 * l))) == 0) (gone_at (Unlock unlock.Take) is can) (others_took w t (first_taken w.queues (2 * l)) (first_of (queue_at w (2 * l))) _)
+    unlock_goes (unlock.Clear any) is can = goes_on w _ t l rules (Unlock (unlock.Clear any)) (Unlock (unlock.Leave any)) (Clears Main ∷ []) (gone_at (Unlock (unlock.Clear any)) is can) refl (on_word (Unlock (unlock.Clear any)) (op.TheVariants.And NOT_PARKED)) (λ r. refl)
+    unlock_goes (unlock.Leave false) is can = wakes_taken w _ t l rules false (gone_at (Unlock (unlock.Leave false)) is can)
+        (befalls_nobody w t (filled_with w (One (2 * l)) None) Idle l (Woken note.Normal) refl (nobody_held (Unlock (unlock.Leave false)) is refl))
+    unlock_goes (unlock.Leave true) is can = let one = one_held w t l steady there (Unlock (unlock.Leave true)) is false refl in
+        wakes_taken w _ t l rules true (gone_at (Unlock (unlock.Leave true)) is can)
+        (subst (λ (z : State). Befalls w (put z t Idle) t l (Woken note.Normal)) (sym (told_it w t l steady there (Unlock (unlock.Leave true)) is false refl (Woken note.Normal)))
+        (befalls_one w t (filled_with w (One (2 * l)) None) one.0 (Woken note.Normal) Idle refl l (hand_is one.0 one.1) (λ u ne. no_other one.0 u one.1 ne)))
 
     -- whoever was handed the lock is told
-    told_handed : (bumping : Bool) (x : ℕ) (p2 : Place) → place_at w t ≡ Mutex l (HandOff bumping (hand_off.Leave (Some x))) → Others w (put (befallen (filled_with w (One (2 * l)) None) x (Woken note.HandOff)) t p2) t Nothing
-    told_handed bumping x p2 is = others_go_on w t (filled_with w (One (2 * l)) None) x (Woken note.HandOff) p2 refl
-        (λ r. let k : IsHandedAt (place_at w x) t l = is_handed (place_at w x) t l (steady.stands.hands.carried t x l true (carries (HandOff bumping (hand_off.Leave (Some x))) is)) in rw k.is refl)
+    told_handed : (bumping : Bool) (p2 : Place) → place_at w t ≡ Mutex l (HandOff bumping (hand_off.Leave true)) → Others w (put (all_told (filled_with w (One (2 * l)) None) t (Woken note.HandOff)) t p2) t Nothing
+    told_handed bumping p2 is = let one = one_held w t l steady there (HandOff bumping (hand_off.Leave true)) is true refl in
+        subst (λ (z : State). Others w (put z t p2) t Nothing) (sym (told_it w t l steady there (HandOff bumping (hand_off.Leave true)) is true refl (Woken note.HandOff)))
+        (others_go_on w t (filled_with w (One (2 * l)) None) one.0 (Woken note.HandOff) p2 refl (λ r. let k : IsHandedAt (place_at w one.0) t l = is_handed (place_at w one.0) t l one.1 in rw k.is refl))
+
+    -- it hands the lock to the one in its hand
+    gives_it : (bumping none_left : Bool) (p2 : Place) (f : Op) → place_at w t ≡ Mutex l (HandOff bumping (hand_off.Store true none_left))
+        → Befalls w (put (all_told (given w t (Mutex l (HandOff bumping (hand_off.Store true none_left))) l f) t (HandedBy t)) t p2) t l (HandedBy t)
+    gives_it bumping none_left p2 f is = let one = one_held w t l steady there (HandOff bumping (hand_off.Store true none_left)) is false refl in
+        let before = given w t (Mutex l (HandOff bumping (hand_off.Store true none_left))) l f in
+        subst (λ (z : State). Befalls w (put z t p2) t l (HandedBy t)) (sym (told_one before t l one.0 false (HandedBy t) steady.stands.hands (rw is refl) one.1))
+        (befalls_one w t before one.0 (HandedBy t) p2 refl l (hand_is one.0 one.1) (λ u ne. no_other one.0 u one.1 ne))
 
     hand_off_goes : (bumping : Bool) (a : HandOffAt) → place_at w t ≡ Mutex l (HandOff bumping a) → can_do w (hand_off_act l a) ≡ true
         → GoesOn (locks_of w) t (outcome_of (next_act (Mutex l (HandOff bumping a)) (reply_to w t (hand_off_act l a)))) (locks_of (go_by w t (Mutex l (HandOff bumping a)) (hand_off_act l a)))
     hand_off_goes bumping hand_off.Enter is can = goes_on w _ t l rules (HandOff bumping hand_off.Enter) (HandOff bumping hand_off.Take) (In Main ∷ []) (gone_at (HandOff bumping hand_off.Enter) is can) refl (on_section (Some t) _) (λ r. refl)
-    hand_off_goes bumping hand_off.Take is can = takes_fairly w _ t l rules bumping (first_of (queue_at w (2 * l))) (length (drop 1 (queue_at w (2 * l))) == 0) (gone_at (HandOff bumping hand_off.Take) is can) (others_took w t (first_taken w.queues (2 * l)) (first_of (queue_at w (2 * l))) _)
-    hand_off_goes bumping (hand_off.Store None none_left) is can = stores w _ t l rules bumping none_left None (word_at w l) (gone_at (HandOff bumping (hand_off.Store None none_left)) is can)
-        (befalls_nobody w t (operated w t (Mutex l (HandOff bumping (hand_off.Store None none_left))) l (op.TheVariants.Store 0)) _ l (HandedBy t) refl (λ u. unless_carried w steady t l u (λ h. let e : ◌≡◌ {A = Option Hand} None (hand u false) = sym (carries (HandOff bumping (hand_off.Store None none_left)) is) ∙ h in cc)))
-    hand_off_goes bumping (hand_off.Store (Some x) none_left) is can = stores w _ t l rules bumping none_left (Some x) (word_at w l) (gone_at (HandOff bumping (hand_off.Store (Some x) none_left)) is can)
-        (befalls_one w t (operated w t (Mutex l (HandOff bumping (hand_off.Store (Some x) none_left))) l (op.TheVariants.Store (hand_off_word (Some x) none_left))) x (HandedBy t) _ refl l
-        (hand_is x (carries (HandOff bumping (hand_off.Store (Some x) none_left)) is)) (λ u ne. no_other x u (carries (HandOff bumping (hand_off.Store (Some x) none_left)) is) ne))
-    hand_off_goes bumping (hand_off.Leave None) is can = leaves_fairly w _ t l rules bumping None (gone_at (HandOff bumping (hand_off.Leave None)) is can) (on_section None _)
-    hand_off_goes bumping (hand_off.Leave (Some x)) is can = leaves_fairly w _ t l rules bumping (Some x) (gone_at (HandOff bumping (hand_off.Leave (Some x))) is can) (told_handed bumping x _ is)
+    hand_off_goes bumping hand_off.Take is can = takes_fairly w _ t l rules bumping (whom_at (HandOff bumping hand_off.Take) is can) (is_there (first_of (queue_at w (2 * l)))) (length (drop 1 (queue_at w (2 * l))) == 0) (gone_at (HandOff bumping hand_off.Take) is can) (others_took w t (first_taken w.queues (2 * l)) (first_of (queue_at w (2 * l))) _)
+    hand_off_goes bumping (hand_off.Store false none_left) is can = stores w _ t l rules bumping false none_left (whom_at (HandOff bumping (hand_off.Store false none_left)) is can) (word_at w l) (gone_at (HandOff bumping (hand_off.Store false none_left)) is can)
+        (befalls_nobody w t (operated w t (Mutex l (HandOff bumping (hand_off.Store false none_left))) l (op.TheVariants.Store 0)) _ l (HandedBy t) refl (nobody_held (HandOff bumping (hand_off.Store false none_left)) is refl))
+    hand_off_goes bumping (hand_off.Store true none_left) is can = stores w _ t l rules bumping true none_left (whom_at (HandOff bumping (hand_off.Store true none_left)) is can) (word_at w l) (gone_at (HandOff bumping (hand_off.Store true none_left)) is can)
+        (gives_it bumping none_left _ (op.TheVariants.Store (hand_off_word true none_left)) is)
+    hand_off_goes bumping (hand_off.Leave false) is can = leaves_fairly w _ t l rules bumping false (gone_at (HandOff bumping (hand_off.Leave false)) is can) (on_section None _)
+    hand_off_goes bumping (hand_off.Leave true) is can = leaves_fairly w _ t l rules bumping true (gone_at (HandOff bumping (hand_off.Leave true)) is can) (told_handed bumping _ is)
 
     mutex_goes_on : (at : MutexPlace) → place_at w t ≡ Mutex l at → can_do w (mutex_act l at) ≡ true → GivesUpTimed at
         → GoesOn (locks_of w) t (outcome_of (next_act (Mutex l at) (reply_to w t (mutex_act l at)))) (locks_of (go_by w t (Mutex l at) (mutex_act l at)))
@@ -195,9 +212,9 @@ module _ (w : State) (t : ℕ) (shape : IsShaped w) (steady : IsSteady w) (there
     mutex_goes_on Bump is can timed = bumps w _ t l rules (is_parked (word_at w l)) (gone_at Bump is can) (on_word Bump op.TheVariants.Load)
     mutex_goes_on (HandOff bumping a) is can timed = hand_off_goes bumping a is can
 
-  go_goes : (p : Place) → place_at w t ≡ p → PlaceFits (length w.places) (length w.locks) p → CallsMutex w p → can_do w (act_of p) ≡ true → GoesOn (locks_of w) t (outcome_of (next_act p (reply_to w t (act_of p)))) (locks_of (go_by w t p (act_of p)))
+  go_goes : (p : Place) → place_at w t ≡ p → PlaceFits (length w.locks) p → CallsMutex w p → can_do w (act_of p) ≡ true → GoesOn (locks_of w) t (outcome_of (next_act p (reply_to w t (act_of p)))) (locks_of (go_by w t p (act_of p)))
   go_goes Idle is fits calls can = absurd cc
-  go_goes (Mutex l at) is fits calls can = mutex_goes_on l fits.0 (mutex_rules (kind_at w l) calls) at is can fits.2
+  go_goes (Mutex l at) is fits calls can = mutex_goes_on l fits.0 (mutex_rules (kind_at w l) calls) at is can fits.1
 
   -- ---------------------------------------------------------------- turns by which the place alone changes
 

@@ -21,7 +21,7 @@ use Rattle.lot_steps.specs.declared.mutex.unlock.UnlockAt.TheVariants as unlock
 use Rattle.lot_steps.specs.declared.mutex.hand_off.HandOffAt.TheVariants as hand_off
 use Rattle.lot_steps.specs.declared.places.Place.TheVariants.{Idle, Mutex}
 use Rattle.lot_steps.specs.Acts.{outcome_of}
-use Rattle.lot_steps.specs.MutexSteps.{is_locked, is_timed, entered, looked, in_lock, in_unlock, in_hand_off, lock_act, hand_off_act}
+use Rattle.lot_steps.specs.MutexSteps.{is_locked, is_timed, entered, looked, in_lock, in_unlock, in_hand_off, lock_act, hand_off_act, unlock_act}
 use Rattle.lot_steps.specs.Steps.{next_place, next_act, mutex_goes, mutex_does}
 use Rattle.abstract_locks.specs.Locks.{Rights, Queued, Enter, Leave as GivesBack, Park, TakeFirst, Wake, HandOff as HandsOff, rights_of, with_right, let_go, standing}
 use Rattle.abstract_locks.specs.Locks as locks
@@ -31,7 +31,7 @@ use Rattle.abstract_locks.specs.Sites.{Deed, Main, End, Out, Mark, Does}
 use Rattle.lot_world.specs.Machine.{State, place_at, word_at}
 use Rattle.lot_world.specs.MutexPromises.{IsMutexWord}
 use Rattle.lot_world.specs.Refinement.{owner_at, lock_state, is_bump, entry_purpose, release_purpose, before_release, mutex_call_state, locks_of}
-use Rattle.lot_world.specs.MutexDeeds.{hand, mutex_station, acts, deeds, enters, takes, queued}
+use Rattle.lot_world.specs.MutexDeeds.{mutex_station, acts, deeds, enters, takes, queued}
 use Rattle.lot_world.specs.SitesOf.{IsSteady, rules_at}
 use Rattle.lot_world.proofs.Glue.{heir, same, differ, own_stance}
 use Rattle.lot_world.proofs.MutexTable.{mutex}
@@ -106,8 +106,8 @@ module _ (w v : State) (t l : ℕ) (rules : rules_at w l ≡ mutex) where
   goes_on at at2 ds gone stays others call = quiet w v t l at (Mutex l at2) (acts t ds) gone stays outcome.TheVariants.Step others call (λ same. tt)
 
   -- it leaves its section with nobody in hand
-  nobody_goes : (at : MutexPlace) → place_at w t ≡ Mutex l at → IsSteady w → ((u : ℕ) → (mutex_station at).carries ≡ hand u false → ⊥) → record (lock_state w l) { taken = let_go t (lock_state w l).taken } ≡ lock_state w l
-  nobody_goes at is steady none = lets_nobody_go (lock_state w l) t (in_no_hand w steady t l (λ u h. none u (sym (ap (λ x. x.carries) (own_stance l (place_at w t) at is)) ∙ h)))
+  nobody_goes : (at : MutexPlace) → place_at w t ≡ Mutex l at → IsSteady w → ((mutex_station at).carries ≡ Some false → ⊥) → record (lock_state w l) { taken = let_go t (lock_state w l).taken } ≡ lock_state w l
+  nobody_goes at is steady none = lets_nobody_go (lock_state w l) t (in_no_hand w steady t l (λ h. none (sym (ap (λ x. x.carries) (own_stance l (place_at w t) at is)) ∙ h)))
 
   pub first : (e : Entry) (again b : Bool) → Gone w v t l (Lock e again First) (mutex_goes l (in_lock e again (if b then next.End (entered e) else next.At Load))) (acts t (if b then enters else []))
       → Others w v t Nothing → GoesOn (locks_of w) t (outcome_of (mutex_does l (in_lock e again (if b then next.End (entered e) else next.At Load)))) (locks_of v)
@@ -127,7 +127,7 @@ module _ (w v : State) (t l : ℕ) (rules : rules_at w l ≡ mutex) where
   exchanges e again s seen true true gone others = goes_on (Lock e again (Decide s)) (Lock e again (Decide 3)) (Mark Main ∷ []) gone refl others (λ r. refl)
   exchanges e again s seen true false gone others = comes_in w v t l (Lock e again (Decide s)) rules gone (entered e) (enters_by l e) others (agreed w v t l e _ refl)
 
-  pub checks : (e : Entry) (again b : Bool) → Gone w v t l (Lock e again Check) (next_place (Mutex l (Lock e again Check)) (Parked b)) (deeds t (Lock e again Check) (Parked b)) → Others w v t Nothing
+  pub checks : (e : Entry) (again b : Bool) → Gone w v t l (Lock e again Check) (next_place (Mutex l (Lock e again Check)) (Parked b)) (deeds t (Lock e again Check) None (Parked b)) → Others w v t Nothing
       → GoesOn (locks_of w) t outcome.TheVariants.Step (locks_of v)
   checks e again true gone others = keeps_owners w v t l (Lock e again Check) _ _ gone (Park Exclusive) refl gone.goes.follows.needed.0.0 (parks_by l e) tt outcome.TheVariants.Step others (λ u. refl)
       (λ r i. record (mutex_call_state l (Lock e again Check) r) { retries = parked_ends l again i }) (λ stay. tt)
@@ -135,9 +135,9 @@ module _ (w v : State) (t l : ℕ) (rules : rules_at w l ≡ mutex) where
 
   pub leaves_line : (e : Entry) (again b : Bool) → Gone w v t l (Lock e again (Leave b)) (mutex_goes l (in_lock e again (if b then next.At Asleep else next.At Load))) (acts t (Out ∷ [])) → Others w v t Nothing
       → GoesOn (locks_of w) t (outcome_of (mutex_does l (in_lock e again (if b then next.At Asleep else next.At Load)))) (locks_of v)
-  leaves_line e again true gone others = quiet w v t l (Lock e again (Leave true)) _ _ gone (nobody_goes (Lock e again (Leave true)) gone.from gone.before (λ u h. cc)) outcome.TheVariants.Sleep others (λ r. refl)
+  leaves_line e again true gone others = quiet w v t l (Lock e again (Leave true)) _ _ gone (nobody_goes (Lock e again (Leave true)) gone.from gone.before (λ h. cc)) outcome.TheVariants.Sleep others (λ r. refl)
       (λ stay. (l, subst (λ x. 1 ≤ standing t x) (sym (stay l)) (rw (stands_by w gone.before t l, gone.from, same l) (omega arith))))
-  leaves_line e again false gone others = goes_on (Lock e again (Leave false)) (Lock e again Load) (Out ∷ []) gone (nobody_goes (Lock e again (Leave false)) gone.from gone.before (λ u h. cc)) others (λ r. refl)
+  leaves_line e again false gone others = goes_on (Lock e again (Leave false)) (Lock e again Load) (Out ∷ []) gone (nobody_goes (Lock e again (Leave false)) gone.from gone.before (λ h. cc)) others (λ r. refl)
 
   pub removes : (e : Entry) (again b : Bool) → is_timed e ≡ true → Gone w v t l (Lock e again Remove) (next_place (Mutex l (Lock e again Remove)) (Removed b)) (acts t (Does locks.Late ∷ [])) → Others w v t Nothing
       → GoesOn (locks_of w) t (outcome_of (next_act (Mutex l (Lock e again Remove)) (Removed b))) (locks_of v)
@@ -146,7 +146,7 @@ module _ (w v : State) (t l : ℕ) (rules : rules_at w l ≡ mutex) where
 
   -- it has given up, and owns what it owned
   pub gives_up : (e : Entry) (again : Bool) → is_timed e ≡ true → Gone w v t l (Lock e again GiveUp) Idle (acts t (Out ∷ [])) → Others w v t Nothing → GoesOn (locks_of w) t (outcome.TheVariants.End answer.No) (locks_of v)
-  gives_up entries.LockTimed again timed gone others = quiet w v t l (Lock entries.LockTimed again GiveUp) Idle _ gone (nobody_goes (Lock entries.LockTimed again GiveUp) gone.from gone.before (λ u h. cc)) (outcome.TheVariants.End answer.No) others (λ r. refl)
+  gives_up entries.LockTimed again timed gone others = quiet w v t l (Lock entries.LockTimed again GiveUp) Idle _ gone (nobody_goes (Lock entries.LockTimed again GiveUp) gone.from gone.before (λ h. cc)) (outcome.TheVariants.End answer.No) others (λ r. refl)
       (λ stay. ((refl, λ k. ap (λ x. rights_of x t) (stay k)), ends_with_nobody w v t l _ Idle _ gone refl))
   gives_up entries.Lock again timed gone others = absurd cc
   gives_up entries.Bump again timed gone others = absurd cc
@@ -187,16 +187,20 @@ module _ (w v : State) (t l : ℕ) (rules : rules_at w l ≡ mutex) where
   subtracts false gone others = leaves w v t l (Unlock unlock.Subtract) Idle _ gone refl gone.goes.follows.needed.0.0 (outcome.TheVariants.End answer.Ok) (refl, refl) others (λ r r2 e. refl) (λ lost. (lost, ends_with_nobody w v t l _ Idle _ gone refl))
 
   -- it takes the first of the queue, or finds nobody
-  pub takes_one : (o : Option ℕ) (b : Bool) → Gone w v t l (Unlock unlock.Take) (next_place (Mutex l (Unlock unlock.Take)) (Took o b)) (acts t (takes o)) → Others w v t Nothing
-      → GoesOn (locks_of w) t (outcome_of (next_act (Mutex l (Unlock unlock.Take)) (Took o b))) (locks_of v)
-  takes_one None true gone others = goes_on (Unlock unlock.Take) (Unlock (unlock.Clear None)) (takes None) gone refl others (λ r. refl)
-  takes_one None false gone others = goes_on (Unlock unlock.Take) (Unlock (unlock.Leave None)) (takes None) gone refl others (λ r. refl)
-  takes_one (Some u) true gone others = keeps_owners w v t l (Unlock unlock.Take) _ _ gone (TakeFirst (queued u)) refl gone.goes.follows.needed.0.0 (refl, tt) tt outcome.TheVariants.Step others (λ x. refl) (λ r. refl) (λ stay. tt)
-  takes_one (Some u) false gone others = keeps_owners w v t l (Unlock unlock.Take) _ _ gone (TakeFirst (queued u)) refl gone.goes.follows.needed.0.0 (refl, tt) tt outcome.TheVariants.Step others (λ x. refl) (λ r. refl) (λ stay. tt)
+  pub takes_one : (o : Option ℕ) (any b : Bool) → Gone w v t l (Unlock unlock.Take) (next_place (Mutex l (Unlock unlock.Take)) (Took any b)) (acts t (takes o)) → Others w v t Nothing
+      → GoesOn (locks_of w) t (outcome_of (next_act (Mutex l (Unlock unlock.Take)) (Took any b))) (locks_of v)
+  takes_one None any true gone others = goes_on (Unlock unlock.Take) (Unlock (unlock.Clear any)) (takes None) gone refl others (λ r. refl)
+  takes_one None any false gone others = leaving any gone
+    where
+      leaving : (any : Bool) → Gone w v t l (Unlock unlock.Take) (Mutex l (Unlock (unlock.Leave any))) (acts t (takes None)) → GoesOn (locks_of w) t (outcome_of (unlock_act l (unlock.Leave any))) (locks_of v)
+      leaving true gone = goes_on (Unlock unlock.Take) (Unlock (unlock.Leave true)) (takes None) gone refl others (λ r. refl)
+      leaving false gone = goes_on (Unlock unlock.Take) (Unlock (unlock.Leave false)) (takes None) gone refl others (λ r. refl)
+  takes_one (Some u) any true gone others = keeps_owners w v t l (Unlock unlock.Take) _ _ gone (TakeFirst (queued u)) refl gone.goes.follows.needed.0.0 (refl, tt) tt outcome.TheVariants.Step others (λ x. refl) (λ r. refl) (λ stay. tt)
+  takes_one (Some u) any false gone others = keeps_owners w v t l (Unlock unlock.Take) _ _ gone (TakeFirst (queued u)) refl gone.goes.follows.needed.0.0 (refl, tt) tt outcome.TheVariants.Step others (λ x. refl) (λ r. refl) (λ stay. tt)
 
   -- it wakes whom it has taken
-  pub wakes_taken : (taken : Option ℕ) → Gone w v t l (Unlock (unlock.Leave taken)) Idle (acts t (Out ∷ [])) → Befalls w v t l (Woken note.Normal) → GoesOn (locks_of w) t (outcome.TheVariants.End answer.Ok) (locks_of v)
-  wakes_taken taken gone befalls = keeps_owners w v t l (Unlock (unlock.Leave taken)) Idle _ gone Wake refl tt (refl, inl refl) tt (outcome.TheVariants.End answer.Ok) (wakes_others w v t l befalls) (λ u. refl) (λ r. refl)
+  pub wakes_taken : (any : Bool) → Gone w v t l (Unlock (unlock.Leave any)) Idle (acts t (Out ∷ [])) → Befalls w v t l (Woken note.Normal) → GoesOn (locks_of w) t (outcome.TheVariants.End answer.Ok) (locks_of v)
+  wakes_taken any gone befalls = keeps_owners w v t l (Unlock (unlock.Leave any)) Idle _ gone Wake refl tt (refl, inl refl) tt (outcome.TheVariants.End answer.Ok) (wakes_others w v t l befalls) (λ u. refl) (λ r. refl)
       (λ stay. (λ k. ap (λ r. one_more_at l Exclusive r k) (λ i x. stay t x i), ends_with_nobody w v t l _ Idle _ gone refl))
 
   -- ---------------------------------------------------------------- fair releases
@@ -211,23 +215,28 @@ module _ (w v : State) (t l : ℕ) (rules : rules_at w l ≡ mutex) where
   bumps false gone others = quiet w v t l Bump Idle _ gone refl (outcome.TheVariants.End answer.Ok) others (λ r. refl)
       (λ stay. ((ap (λ x. x.exclusive) (stay l) ∙ owns w gone.before t l Bump gone.from refl, λ k. ap (λ x. rights_of x t) (stay k)), ends_with_nobody w v t l _ Idle _ gone refl))
 
-  pub takes_fairly : (bumping : Bool) (o : Option ℕ) (b : Bool) → Gone w v t l (HandOff bumping hand_off.Take) (Mutex l (HandOff bumping (hand_off.Store o b))) (acts t (takes o)) → Others w v t Nothing
-      → GoesOn (locks_of w) t (outcome_of (hand_off_act l (hand_off.Store o b))) (locks_of v)
-  takes_fairly bumping None b gone others = goes_on (HandOff bumping hand_off.Take) (HandOff bumping (hand_off.Store None b)) (takes None) gone refl others (λ r. refl)
-  takes_fairly bumping (Some u) b gone others = keeps_owners w v t l (HandOff bumping hand_off.Take) _ _ gone (TakeFirst (queued u)) refl gone.goes.follows.needed.0.0 (takes_by l bumping (queued u)) tt outcome.TheVariants.Step others (λ x. refl) (λ r. refl) (λ stay. tt)
+  -- whatever it hands over, it goes on
+  stores_so : (any none_left : Bool) → outcome_of (hand_off_act l (hand_off.Store any none_left)) ≡ outcome.TheVariants.Step
+  stores_so true none_left = refl
+  stores_so false none_left = refl
 
-  pub stores : (bumping none_left : Bool) (to : Option ℕ) (seen : ℕ) → Gone w v t l (HandOff bumping (hand_off.Store to none_left)) (Mutex l (HandOff bumping (hand_off.Leave to))) (deeds t (HandOff bumping (hand_off.Store to none_left)) (Value seen))
+  pub takes_fairly : (bumping : Bool) (o : Option ℕ) (any b : Bool) → Gone w v t l (HandOff bumping hand_off.Take) (Mutex l (HandOff bumping (hand_off.Store any b))) (acts t (takes o)) → Others w v t Nothing
+      → GoesOn (locks_of w) t (outcome_of (hand_off_act l (hand_off.Store any b))) (locks_of v)
+  takes_fairly bumping None any b gone others = rw (stores_so any b) (goes_on (HandOff bumping hand_off.Take) (HandOff bumping (hand_off.Store any b)) (takes None) gone refl others (λ r. refl))
+  takes_fairly bumping (Some u) any b gone others = rw (stores_so any b) (keeps_owners w v t l (HandOff bumping hand_off.Take) _ _ gone (TakeFirst (queued u)) refl gone.goes.follows.needed.0.0 (takes_by l bumping (queued u)) tt outcome.TheVariants.Step others (λ x. refl) (λ r. refl) (λ stay. tt))
+
+  pub stores : (bumping any none_left : Bool) (to : Option ℕ) (seen : ℕ) → Gone w v t l (HandOff bumping (hand_off.Store any none_left)) (Mutex l (HandOff bumping (hand_off.Leave any))) (deeds t (HandOff bumping (hand_off.Store any none_left)) to (Value seen))
       → Befalls w v t l (HandedBy t) → GoesOn (locks_of w) t outcome.TheVariants.Step (locks_of v)
-  stores bumping none_left None seen gone befalls = hands w v t l (HandOff bumping (hand_off.Store None none_left)) _ _ gone rules None refl gone.goes.follows.needed.0.0 refl outcome.TheVariants.Step (hands_by l bumping None) befalls (λ r r2 e. rw e refl) (λ lost. tt)
-  stores bumping true (Some u) seen gone befalls = hands w v t l (HandOff bumping (hand_off.Store (Some u) true)) _ _ gone rules (Some u) refl gone.goes.follows.needed.0.0 refl outcome.TheVariants.Step (hands_by l bumping (heir (Some u))) befalls (λ r r2 e. rw e refl) (λ lost. tt)
-  stores bumping false (Some u) seen gone befalls = hands w v t l (HandOff bumping (hand_off.Store (Some u) false)) _ _ gone rules (Some u) refl gone.goes.follows.needed.0.0 refl outcome.TheVariants.Step (hands_by l bumping (heir (Some u))) befalls (λ r r2 e. rw e refl) (λ lost. tt)
+  stores bumping any none_left None seen gone befalls = hands w v t l (HandOff bumping (hand_off.Store any none_left)) _ _ gone rules None refl gone.goes.follows.needed.0.0 refl outcome.TheVariants.Step (hands_by l bumping None) befalls (λ r r2 e. rw e refl) (λ lost. tt)
+  stores bumping any true (Some u) seen gone befalls = hands w v t l (HandOff bumping (hand_off.Store any true)) _ _ gone rules (Some u) refl gone.goes.follows.needed.0.0 refl outcome.TheVariants.Step (hands_by l bumping (heir (Some u))) befalls (λ r r2 e. rw e refl) (λ lost. tt)
+  stores bumping any false (Some u) seen gone befalls = hands w v t l (HandOff bumping (hand_off.Store any false)) _ _ gone rules (Some u) refl gone.goes.follows.needed.0.0 refl outcome.TheVariants.Step (hands_by l bumping (heir (Some u))) befalls (λ r r2 e. rw e refl) (λ lost. tt)
 
   -- it leaves, and whoever was handed the lock is told
-  no_more : (bumping : Bool) (to : Option ℕ) (u : ℕ) → (mutex_station (HandOff bumping (hand_off.Leave to))).carries ≡ hand u false → ⊥
-  no_more bumping None u h = cc
-  no_more bumping (Some x) u h = cc
+  no_more : (bumping any : Bool) → (mutex_station (HandOff bumping (hand_off.Leave any))).carries ≡ Some false → ⊥
+  no_more bumping false h = cc
+  no_more bumping true h = cc
 
-  pub leaves_fairly : (bumping : Bool) (to : Option ℕ) → Gone w v t l (HandOff bumping (hand_off.Leave to)) (mutex_goes l (in_hand_off bumping (next.End answer.Ok))) (acts t (Out ∷ [])) → Others w v t Nothing
+  pub leaves_fairly : (bumping to : Bool) → Gone w v t l (HandOff bumping (hand_off.Leave to)) (mutex_goes l (in_hand_off bumping (next.End answer.Ok))) (acts t (Out ∷ [])) → Others w v t Nothing
       → GoesOn (locks_of w) t (outcome_of (mutex_does l (in_hand_off bumping (next.End answer.Ok)))) (locks_of v)
   leaves_fairly true to gone others = goes_on (HandOff true (hand_off.Leave to)) (Lock entries.Bump false First) (Out ∷ []) gone (nobody_goes (HandOff true (hand_off.Leave to)) gone.from gone.before (no_more true to)) others (λ r. refl)
   leaves_fairly false to gone others = quiet w v t l (HandOff false (hand_off.Leave to)) Idle _ gone (nobody_goes (HandOff false (hand_off.Leave to)) gone.from gone.before (no_more false to)) (outcome.TheVariants.End answer.Ok) others (λ r. refl)

@@ -16,8 +16,8 @@ use Rattle.lot_world.specs.Refinement.{lock_seen, taken_at}
 use Rattle.abstract_locks.specs.Picks.{queued_of}
 use Rattle.lot_world.specs.MutexDeeds.{hand, mutex_doing, doing_on, acts, queued}
 use Rattle.lot_world.specs.SitesOf.{AllNeeded}
-use Rattle.lot_world.proofs.Glue.{Base, seen, same, IsTakenAt, Untaken, untaken, hands_acts, handed_is, own_hand, taken_there}
-use Rattle.lot_world.specs.SitesOf.{carried_at, Hands}
+use Rattle.lot_world.proofs.Glue.{Base, seen, same, IsTakenAt, Untaken, untaken, hands_acts, handed_is, taken_there}
+use Rattle.lot_world.specs.SitesOf.{hand_at, Hands}
 use Rattle.lot_world.proofs.MutexTable.{mutex, own_doing}
 
 -- who waits for a mutex waits for all of it
@@ -47,12 +47,12 @@ abbrev want_of : Option Queued → Want
 want_of None = Exclusive
 want_of (Some q) = q.want
 
-module _ (l : ℕ) (n : Base) (w : ℕ) (o : Owners) (m s : List Waiter) (p : ℕ → Place) (hands : Hands p) (t u : ℕ) (bumps none_left : Bool) (store : p t ≡ Mutex l (HandOff bumps (hand_off.Store (Some u) none_left))) (site : IsSite mutex (seen l n w o m s p)) where
-  d_is : doing_on (p t) l ≡ mutex_doing (HandOff bumps (hand_off.Store (Some u) none_left))
-  d_is = own_doing l (p t) (HandOff bumps (hand_off.Store (Some u) none_left)) store
+module _ (l : ℕ) (n : Base) (w : ℕ) (o : Owners) (m s : List Waiter) (p : ℕ → Place) (hands : Hands p) (t u : ℕ) (bumps none_left : Bool) (store : p t ≡ Mutex l (HandOff bumps (hand_off.Store true none_left))) (held : hand_at (p u) l ≡ hand t false) (site : IsSite mutex (seen l n w o m s p)) where
+  d_is : doing_on (p t) l ≡ mutex_doing (HandOff bumps (hand_off.Store true none_left))
+  d_is = own_doing l (p t) (HandOff bumps (hand_off.Store true none_left)) store
 
   hand_is : IsTakenAt (p u) t l
-  hand_is = taken_there mutex l n w o m s p hands t u bumps none_left refl (site.state.unshared (λ h. h)) store
+  hand_is = taken_there mutex l n w o m s p hands t u bumps none_left refl (site.state.unshared (λ h. h)) store held
 
   -- only the one in hand is in hand
   only_one : (y : ℕ) (x : Want) → IsTaken (seen l n w o m s p).lock t y x → (y ≡ u) × (x ≡ Exclusive)
@@ -63,7 +63,7 @@ module _ (l : ℕ) (n : Base) (w : ℕ) (o : Owners) (m s : List Waiter) (p : �
     where
       by_hand : ((y ≡ u) ⊎ (y ≢ u)) → y ≡ u
       by_hand (inl e) = e
-      by_hand (inr ne) = absurd (let none : Untaken t (taken_at (p y) l) = untaken (p y) t l (λ g. ne (let a : carried_at (p t) l ≡ hand y false = hands.taken t y l false g in let b : carried_at (p t) l ≡ hand u false = own_hand mutex l n w o m s p hands t u bumps none_left refl (site.state.unshared (λ h. h)) store in cc)) in
+      by_hand (inr ne) = absurd (let none : Untaken t (taken_at (p y) l) = untaken (p y) t l (λ g. ne (hands.alone t l u y false false held g)) in
           let g : keep_from t (Some (record { by = t; want = x })) ≡ Some (record { by = t; want = x }) = rw h at none in let f : ◌≡◌ {A = Option Taken} None (Some (record { by = t; want = x })) = rw (same t) at g in cc)
 
   successor : (y : ℕ) (x : Want) → (◌≡◌ {A = Option Queued} (Some (queued u)) (Some (record { thread = y; want = x }))) ↔ (IsTaken (seen l n w o m s p).lock t y x × (x ≢ Shared))
@@ -72,7 +72,7 @@ module _ (l : ℕ) (n : Base) (w : ℕ) (o : Owners) (m s : List Waiter) (p : �
     λ h. let a = only_one y x h.0 in λ j. Some (record { thread = sym a.0 j; want = sym a.1 j }),
   )
 
-  pub hands_needed : (b : Bool) → none_left ≡ b → AllNeeded mutex (hands_acts mutex l n w o m s p hands t u bumps none_left refl (site.state.unshared (λ h. h)) store b) (seen l n w o m s p)
+  pub hands_needed : (b : Bool) → none_left ≡ b → AllNeeded mutex (hands_acts mutex l n w o m s p hands t u bumps none_left refl (site.state.unshared (λ h. h)) store held b) (seen l n w o m s p)
   hands_needed true f = (
     ((site.held t (Has Exclusive) (ap (λ (x : Doing). x.claims) d_is), (λ h. cc), successor, tt), (rw d_is refl, rw d_is refl, rw d_is refl, rw d_is refl)),
     (rw (same t, d_is, f) refl, (ap (λ (x : LockState). x.exclusive) (handed_is t n o m s p l (Some u) (site.state.unshared (λ h. h))), tt)),

@@ -202,7 +202,7 @@ own_doing l q at is = ap (λ x. doing_on x l) is ∙ ap (λ b. if b then mutex_d
 
 -- what a step on the word does to the lock, and that the word is the lock's
 pub record OnWord (l : ℕ) (n : Base) (w : ℕ) (o : Owners) (m s : List Waiter) (p : ℕ → Place) (t : ℕ) (at : MutexPlace) (f : Op) : Type 0 where
-  pub steps : Steps l n w (apply f w) o (mutex_owners at t w o) m m s p t (next_place (Mutex l at) (Value w)) (mutex_deeds at (Value w))
+  pub steps : Steps l n w (apply f w) o (mutex_owners at t w o) m m s p t (next_place (Mutex l at) (Value w)) (mutex_deeds at None (Value w))
   pub code : IsCode (apply f w) (mutex_owners at t w o).exclusive
   -- it neither goes into a section, nor out of one, nor into a line or a hand
   pub same : station (next_place (Mutex l at) (Value w)) ≡ mutex_station at
@@ -300,12 +300,12 @@ module _ (l : ℕ) (n : Base) (o : Owners) (m s : List Waiter) (p : ℕ → Plac
       (λ is site code. record { steps = wipes (Lock e b lock.Clear) (Lock e b lock.GiveUp) 3 1 is site refl refl refl refl refl; code = omega (arith, code); same = refl })
       w
 
-  pub at_release_clear : (taken : Option ℕ) (w : ℕ) → Fits w (Unlock (unlock.Clear taken)) (op.And NOT_PARKED)
-  at_release_clear taken w = by_word (Unlock (unlock.Clear taken)) (op.And NOT_PARKED)
-      (λ is site code. record { steps = wipes (Unlock (unlock.Clear taken)) (Unlock (unlock.Leave taken)) 0 0 is site refl refl refl refl refl; code = code; same = refl })
-      (λ is site code. record { steps = wipes (Unlock (unlock.Clear taken)) (Unlock (unlock.Leave taken)) 1 1 is site refl refl refl refl refl; code = code; same = refl })
-      (λ is site code. record { steps = wipes (Unlock (unlock.Clear taken)) (Unlock (unlock.Leave taken)) 2 0 is site refl refl refl refl refl; code = omega (arith, code); same = refl })
-      (λ is site code. record { steps = wipes (Unlock (unlock.Clear taken)) (Unlock (unlock.Leave taken)) 3 1 is site refl refl refl refl refl; code = omega (arith, code); same = refl })
+  pub at_release_clear : (any : Bool) (w : ℕ) → Fits w (Unlock (unlock.Clear any)) (op.And NOT_PARKED)
+  at_release_clear any w = by_word (Unlock (unlock.Clear any)) (op.And NOT_PARKED)
+      (λ is site code. record { steps = wipes (Unlock (unlock.Clear any)) (Unlock (unlock.Leave any)) 0 0 is site refl refl refl refl refl; code = code; same = refl })
+      (λ is site code. record { steps = wipes (Unlock (unlock.Clear any)) (Unlock (unlock.Leave any)) 1 1 is site refl refl refl refl refl; code = code; same = refl })
+      (λ is site code. record { steps = wipes (Unlock (unlock.Clear any)) (Unlock (unlock.Leave any)) 2 0 is site refl refl refl refl refl; code = omega (arith, code); same = refl })
+      (λ is site code. record { steps = wipes (Unlock (unlock.Clear any)) (Unlock (unlock.Leave any)) 3 1 is site refl refl refl refl refl; code = omega (arith, code); same = refl })
       w
 
   -- a call that ends with what it has
@@ -352,11 +352,11 @@ module _ (l : ℕ) (n : Base) (o : Owners) (m s : List Waiter) (p : ℕ → Plac
       w
 
   -- a fair release that has taken nobody
-  pub at_store_none : Hands p → (bumps none_left : Bool) (w : ℕ) → Fits w (HandOff bumps (hand_off.Store None none_left)) (op.Store 0)
+  pub at_store_none : Hands p → (bumps none_left : Bool) (w : ℕ) → Fits w (HandOff bumps (hand_off.Store false none_left)) (op.Store 0)
   at_store_none hands bumps none_left w is site code = record {
-    steps = hands_nobody l n w 0 o m s p t (Mutex l (HandOff bumps (hand_off.Leave None))) site (mutex_doing (HandOff bumps (hand_off.Store None none_left))) (own_doing l (p t) _ is) (ap (λ x. taken_at x l) is) refl refl
-        (λ u. untaken (p u) t l (λ h. let a : carried_at (p t) l ≡ hand u false = hands.taken t u l false h in let b : carried_at (p t) l ≡ None = ap (λ (x : Station). x.carries) (own_stance l (p t) _ is) in cc))
-        refl refl refl refl refl refl (own_doing l (Mutex l (HandOff bumps (hand_off.Leave None))) (HandOff bumps (hand_off.Leave None)) refl);
+    steps = hands_nobody l n w 0 o m s p t (Mutex l (HandOff bumps (hand_off.Leave false))) site (mutex_doing (HandOff bumps (hand_off.Store false none_left))) (own_doing l (p t) _ is) (ap (λ x. taken_at x l) is) refl refl
+        (λ u. untaken (p u) t l (λ h. let a : carried_at (p t) l ≡ Some false = hands.taken t u l false h in let b : carried_at (p t) l ≡ None = ap (λ (x : Station). x.carries) (own_stance l (p t) _ is) in cc))
+        refl refl refl refl refl refl (own_doing l (Mutex l (HandOff bumps (hand_off.Leave false))) (HandOff bumps (hand_off.Leave false)) refl);
     code = refl;
     same = refl;
   }

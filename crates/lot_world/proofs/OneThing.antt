@@ -31,7 +31,7 @@ use Rattle.lot_steps.specs.declared.places.Place.TheVariants.{Idle, Mutex}
 use Rattle.lot_steps.specs.MutexSteps.{is_locked, lock_act, unlock_act, hand_off_word, hand_off_act}
 use Rattle.lot_calls.specs.Calls.{lock_in}
 use Rattle.lot_steps.specs.Steps.{act_of, next_place, first_place, spin_lock, late_key}
-use Rattle.lot_world.specs.Machine.{State, unlocked, place_at, word_at, queue_at, section_at, put, operated, filled_with, appended, removed, first_taken, taken_by, awakened, performed, spun_on, late_on, go_reply, turned, is_possible, after, kind_at}
+use Rattle.lot_world.specs.Machine.{State, unlocked, place_at, word_at, queue_at, section_at, put, operated, filled_with, appended, removed, first_taken, taken_by, awakened, performed, spun_on, late_on, go_reply, turned, is_possible, after, kind_at, given, all_told}
 use Rattle.abstract_locks.specs.Sites.{Main}
 use Rattle.lot_steps.specs.declared.mutex.MutexPlace.{MutexPlace}
 use Rattle.lot_world.specs.MutexDeeds.{mutex_doing, station_at}
@@ -61,11 +61,11 @@ filled_same : (w : State) (keys : Keys) (who : Option ℕ) → Same w (filled_wi
 filled_same w (One key) who = (λ l. refl, λ key. refl)
 filled_same w (Two first second) who = (λ l. refl, λ key. refl)
 
-left_same : (w : State) (keys : Keys) (x : Wakes) → Same w (awakened (filled_with w keys None) x)
-left_same w (One key) wakes.TheVariants.Nobody = (λ l. refl, λ key. refl)
-left_same w (One key) (wakes.TheVariants.One u note) = (λ l. refl, λ key. refl)
-left_same w (Two first second) wakes.TheVariants.Nobody = (λ l. refl, λ key. refl)
-left_same w (Two first second) (wakes.TheVariants.One u note) = (λ l. refl, λ key. refl)
+left_same : (w : State) (t : ℕ) (keys : Keys) (x : Wakes) → Same w (awakened (filled_with w keys None) t x)
+left_same w t (One key) wakes.TheVariants.Nobody = (λ l. refl, λ key. refl)
+left_same w t (One key) (wakes.TheVariants.All note) = (λ l. refl, λ key. refl)
+left_same w t (Two first second) wakes.TheVariants.Nobody = (λ l. refl, λ key. refl)
+left_same w t (Two first second) (wakes.TheVariants.All note) = (λ l. refl, λ key. refl)
 
 -- a thread that goes on changes its place only, beside what its act does
 put_one : (w v : State) (t u : ℕ) (p : Place) → ChangesOneThing w t v → ChangesOneThing w t (put v u p)
@@ -76,14 +76,17 @@ module _ (w : State) (t : ℕ) (steady : IsSteady w) where
   word_one : (p : Place) (l : ℕ) (f : op.Op) → ChangesOneThing w t (operated w t p l f)
   word_one p l f = inl (l, (λ k ne. ap (λ x. x.word) (get_or-set_other w.locks l k _ (unlocked kind.TheVariants.Mutex) ne)), λ key. refl)
 
+  given_one : (p : Place) (l : ℕ) (f : op.Op) → ChangesOneThing w t (all_told (given w t p l f) t (HandedBy t))
+  given_one p l f = inl (l, (λ k ne. ap (λ x. x.word) (get_or-set_other w.locks l k _ (unlocked kind.TheVariants.Mutex) ne)), λ key. refl)
+
   stays : ChangesOneThing w t w
   stays = same_one w w t (λ l. refl, λ key. refl)
 
   filled_one : (keys : Keys) (who : Option ℕ) → ChangesOneThing w t (filled_with w keys who)
   filled_one keys who = same_one w (filled_with w keys who) t (filled_same w keys who)
 
-  left_one : (keys : Keys) (x : Wakes) → ChangesOneThing w t (awakened (filled_with w keys None) x)
-  left_one keys x = same_one w (awakened (filled_with w keys None) x) t (left_same w keys x)
+  left_one : (keys : Keys) (x : Wakes) → ChangesOneThing w t (awakened (filled_with w keys None) t x)
+  left_one keys x = same_one w (awakened (filled_with w keys None) t x) t (left_same w t keys x)
 
   -- where a thread leaves the queues in which it stands, others are as they were
   removed_at : (l : ℕ) (at : MutexPlace) → place_at w t ≡ Mutex l at → section_at w (2 * l) ≡ Some t → (key : ℕ) → (get_or (map (without t) w.queues) key [] ≡ queue_at w key) ⊎ (section_at w key ≡ Some t)
@@ -146,18 +149,17 @@ module _ (w : State) (t : ℕ) (steady : IsSteady w) where
   unlock_one l unlock.Subtract is = word_one (Mutex l (Unlock unlock.Subtract)) l (op.TheVariants.Sub 1)
   unlock_one l unlock.Enter is = filled_one (One (2 * l)) (Some t)
   unlock_one l unlock.Take is = take_one l (inside l (Unlock unlock.Take) is refl) (first_of (queue_at w (2 * l)))
-  unlock_one l (unlock.Clear taken) is = word_one (Mutex l (Unlock (unlock.Clear taken))) l (op.TheVariants.And NOT_PARKED)
-  unlock_one l (unlock.Leave None) is = left_one (One (2 * l)) wakes.TheVariants.Nobody
-  unlock_one l (unlock.Leave (Some u)) is = left_one (One (2 * l)) (wakes.TheVariants.One u note.Normal)
+  unlock_one l (unlock.Clear any) is = word_one (Mutex l (Unlock (unlock.Clear any))) l (op.TheVariants.And NOT_PARKED)
+  unlock_one l (unlock.Leave false) is = left_one (One (2 * l)) wakes.TheVariants.Nobody
+  unlock_one l (unlock.Leave true) is = left_one (One (2 * l)) (wakes.TheVariants.All note.Normal)
 
   hand_off_one : (l : ℕ) (bumps : Bool) (a : HandOffAt) → place_at w t ≡ Mutex l (HandOff bumps a) → ChangesOneThing w t (performed w t (Mutex l (HandOff bumps a)) (hand_off_act l a))
   hand_off_one l bumps hand_off.Enter is = filled_one (One (2 * l)) (Some t)
   hand_off_one l bumps hand_off.Take is = take_one l (inside l (HandOff bumps hand_off.Take) is refl) (first_of (queue_at w (2 * l)))
-  hand_off_one l bumps (hand_off.Store None none_left) is = word_one (Mutex l (HandOff bumps (hand_off.Store None none_left))) l (op.TheVariants.Store 0)
-  hand_off_one l bumps (hand_off.Store (Some u) none_left) is = put_one w (operated w t (Mutex l (HandOff bumps (hand_off.Store (Some u) none_left))) l (op.TheVariants.Store (hand_off_word (Some u) none_left))) t u (next_place (place_at w u) (HandedBy t))
-      (word_one (Mutex l (HandOff bumps (hand_off.Store (Some u) none_left))) l (op.TheVariants.Store (hand_off_word (Some u) none_left)))
-  hand_off_one l bumps (hand_off.Leave None) is = left_one (One (2 * l)) wakes.TheVariants.Nobody
-  hand_off_one l bumps (hand_off.Leave (Some u)) is = left_one (One (2 * l)) (wakes.TheVariants.One u note.HandOff)
+  hand_off_one l bumps (hand_off.Store false none_left) is = word_one (Mutex l (HandOff bumps (hand_off.Store false none_left))) l (op.TheVariants.Store 0)
+  hand_off_one l bumps (hand_off.Store true none_left) is = given_one (Mutex l (HandOff bumps (hand_off.Store true none_left))) l (op.TheVariants.Store (hand_off_word true none_left))
+  hand_off_one l bumps (hand_off.Leave false) is = left_one (One (2 * l)) wakes.TheVariants.Nobody
+  hand_off_one l bumps (hand_off.Leave true) is = left_one (One (2 * l)) (wakes.TheVariants.All note.HandOff)
 
   act_one : (p : Place) → place_at w t ≡ p → ChangesOneThing w t (performed w t p (act_of p))
   act_one Idle is = stays

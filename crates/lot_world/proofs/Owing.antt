@@ -1,5 +1,6 @@
 -- Who owes a wake does so since it saw waiters, or since it entered the section.
-use Rattle.std.proofs.Common.{ℕ, Bool, true, false, Option, Some, None, if◌then◌else◌, ◌==◌, ◌&&◌, not, ◌≡◌, ◌≢◌, ◌*◌, ◌<◌, ◌⊎◌, ◌↔◌, inl, inr, List, length, drop, set, get_or, refl, sym, ◌∙◌, ap, subst, get_or-set_other, get_or-set_same, nat_lt}
+use Rattle.std.proofs.Common.{ℕ, Bool, true, false, Option, Some, None, if◌then◌else◌, ◌==◌, ◌&&◌, not, ◌≡◌, ◌≢◌, ◌*◌, ◌<◌, ◌⊎◌, ◌↔◌, inl, inr, List, length, drop, set, get_or, refl, sym, ◌∙◌, ap, subst, get_or-set_other, get_or-set_same, nat_lt, map}
+use Rattle.std.proofs.Math.ListN.{get_or-map}
 use Rattle.std.proofs.lemmas.Bool.{cases_eq, cases_lt, eqb-true, ltb-true}
 use Rattle.std.proofs.lemmas.List.{set_past}
 use Rattle.lot_base.specs.declared.keys.Keys.{Keys}
@@ -38,12 +39,12 @@ use Rattle.lot_steps.specs.declared.acts.Next.TheVariants as next
 use Rattle.lot_calls.specs.declared.outcomes.Answer as answer
 use Rattle.lot_steps.specs.declared.mutex.unlock.UnlockAt.{UnlockAt}
 use Rattle.lot_steps.specs.declared.mutex.hand_off.HandOffAt.{HandOffAt}
-use Rattle.lot_steps.specs.MutexSteps.{in_lock, in_unlock, is_parked, is_locked, looked, next_lock, lock_act, mutex_first, hand_off_store}
+use Rattle.lot_steps.specs.MutexSteps.{in_lock, in_unlock, is_parked, is_locked, looked, next_lock, lock_act, mutex_first, hand_off_store, is_thread}
 use Rattle.lot_calls.specs.declared.kinds.Kind.{Kind}
 use Rattle.lot_calls.specs.Kinds.{is_fair}
 use Rattle.lot_calls.specs.Calls.{lock_in}
-use Rattle.lot_steps.specs.Steps.{act_of, owes_on, next_act, next_place, mutex_goes, mutex_does, first_place, is_idle, spin_lock, late_key}
-use Rattle.lot_world.specs.Machine.{State, place_at, word_at, first_taken, taken_by, awakened, filled_with, queue_at, performed, gone, go_reply, go_outcome, is_there, is_free_under, is_open_to, can_begin, begun, can_turn, turn_outcome, kind_at, reply_to, put, spun_on, late_on, turned, is_possible, after, answered}
+use Rattle.lot_steps.specs.Steps.{act_of, owes_on, next_act, next_place, mutex_goes, mutex_does, first_place, is_idle, spin_lock, late_key, taker}
+use Rattle.lot_world.specs.Machine.{State, place_at, word_at, first_taken, taken_by, awakened, filled_with, queue_at, performed, gone, go_reply, go_outcome, is_there, is_free_under, is_open_to, can_begin, begun, can_turn, turn_outcome, kind_at, reply_to, put, spun_on, late_on, turned, is_possible, after, answered, told_by}
 use Rattle.lot_world.specs.Refinement.{owner_at, call_state, locks_of}
 use Rattle.abstract_locks.specs.Locks.{Rights}
 use Rattle.abstract_locks.specs.Purposes.{IsReleasing}
@@ -133,11 +134,19 @@ module _ (w : State) (k u : ℕ) where
   took_owes t queues None = refl
   took_owes t queues (Some x) = befallen_same x (TakenBy t) (λ p. befalls_taken p t k)
 
-  left_owes : (keys : Keys) (x : Wakes) → owes_on (place_at (awakened (filled_with w keys None) x) u) k ≡ owes_on (place_at w u) k
-  left_owes (One key) wakes.TheVariants.Nobody = refl
-  left_owes (One key) (wakes.TheVariants.One x n) = befallen_same x (Woken n) (λ p. befalls_woken p n k)
-  left_owes (Two first second) wakes.TheVariants.Nobody = refl
-  left_owes (Two first second) (wakes.TheVariants.One x n) = befallen_same x (Woken n) (λ p. befalls_woken p n k)
+  -- whatever is told to those in a hand
+  told_same : (t : ℕ) (r : Reply) → ((p : Place) → owes_on (next_place p r) k ≡ owes_on p k) → owes_on (get_or (map (told_by t r) w.places) u Idle) k ≡ owes_on (place_at w u) k
+  told_same t r kept = ap (λ p. owes_on p k) (get_or-map (told_by t r) w.places u Idle) ∙ either (is_thread t (taker (place_at w u)))
+    where
+      either : (b : Bool) → owes_on (if b then next_place (place_at w u) r else place_at w u) k ≡ owes_on (place_at w u) k
+      either true = kept (place_at w u)
+      either false = refl
+
+  left_owes : (t : ℕ) (keys : Keys) (x : Wakes) → owes_on (place_at (awakened (filled_with w keys None) t x) u) k ≡ owes_on (place_at w u) k
+  left_owes t (One key) wakes.TheVariants.Nobody = refl
+  left_owes t (One key) (wakes.TheVariants.All n) = told_same t (Woken n) (λ p. befalls_woken p n k)
+  left_owes t (Two first second) wakes.TheVariants.Nobody = refl
+  left_owes t (Two first second) (wakes.TheVariants.All n) = told_same t (Woken n) (λ p. befalls_woken p n k)
 
   filled_owes : (keys : Keys) (who : Option ℕ) → owes_on (place_at (filled_with w keys who) u) k ≡ owes_on (place_at w u) k
   filled_owes (One key) who = refl
@@ -145,11 +154,11 @@ module _ (w : State) (k u : ℕ) where
 
   performed_owes : (t : ℕ) (p : Place) (a : Act) → owes_on (place_at (performed w t p a) u) k ≡ owes_on (place_at w u) k
   performed_owes t p (Word l f) = refl
-  performed_owes t p (HandOver l f x) = befallen_same x (HandedBy t) (λ p. befalls_handed p t k)
+  performed_owes t p (HandOver l f) = told_same t (HandedBy t) (λ p. befalls_handed p t k)
   performed_owes t p (Enter keys) = filled_owes keys (Some t)
   performed_owes t p (Park l key check x) = parked_owes (holds check (word_at w l)) _
   performed_owes t p (TakeFirst key) = took_owes t (first_taken w.queues key) (first_of (queue_at w key))
-  performed_owes t p (act.Leave keys x) = left_owes keys x
+  performed_owes t p (act.Leave keys x) = left_owes t keys x
   performed_owes t p act.Rest = refl
   performed_owes t p a = refl
 
@@ -216,24 +225,24 @@ module _ (w : State) (t : ℕ) (steady : IsSteady w) where
     from_unlock k unlock.Enter is h = let f = h.0 in absurd cc
     from_unlock k unlock.Take is h = either (length (drop 1 (queue_at w (2 * k))) == 0) h
       where
-        either : (b : Bool) → ToWake (mutex_goes k (in_unlock (if b then next.At (unlock.Clear (first_of (queue_at w (2 * k)))) else next.At (unlock.Leave (first_of (queue_at w (2 * k))))))) rights l
-            → SeesWaiters w t l (outcome_of (mutex_does k (in_unlock (if b then next.At (unlock.Clear (first_of (queue_at w (2 * k)))) else next.At (unlock.Leave (first_of (queue_at w (2 * k))))))))
+        either : (b : Bool) → ToWake (mutex_goes k (in_unlock (if b then next.At (unlock.Clear (is_there (first_of (queue_at w (2 * k))))) else next.At (unlock.Leave (is_there (first_of (queue_at w (2 * k)))))))) rights l
+            → SeesWaiters w t l (outcome_of (mutex_does k (in_unlock (if b then next.At (unlock.Clear (is_there (first_of (queue_at w (2 * k))))) else next.At (unlock.Leave (is_there (first_of (queue_at w (2 * k)))))))))
         either true h = let f = h.0 in absurd cc
         either false h = let f = h.0 in absurd cc
-    from_unlock k (unlock.Clear taken) is h = let f = h.0 in absurd cc
-    from_unlock k (unlock.Leave taken) is h = absurd h.1
+    from_unlock k (unlock.Clear any) is h = let f = h.0 in absurd cc
+    from_unlock k (unlock.Leave any) is h = absurd h.1
 
     from_hand_off : (k : ℕ) (b : Bool) (a : HandOffAt) → ToWake (next_place (Mutex k (HandOff b a)) (reply_to w t (act_of (Mutex k (HandOff b a))))) rights l → ⊥
     from_hand_off k b hand_off.Enter h = let f = h.0 in cc
-    from_hand_off k b hand_off.Take h = by_taken (first_of (queue_at w (2 * k))) h.0
+    from_hand_off k b hand_off.Take h = by_taken (is_there (first_of (queue_at w (2 * k)))) h.0
       where
-        by_taken : (o : Option ℕ) → hand_off_store k o (length (drop 1 (queue_at w (2 * k))) == 0) ≡ Enter (One (2 * l)) → ⊥
-        by_taken None e = cc
-        by_taken (Some u) e = cc
-    from_hand_off k b (hand_off.Store None n) h = let f = h.0 in cc
-    from_hand_off k b (hand_off.Store (Some u) n) h = let f = h.0 in cc
-    from_hand_off k true (hand_off.Leave taken) h = let f = h.0 in cc
-    from_hand_off k false (hand_off.Leave taken) h = h.1
+        by_taken : (any : Bool) → hand_off_store k any (length (drop 1 (queue_at w (2 * k))) == 0) ≡ Enter (One (2 * l)) → ⊥
+        by_taken false e = cc
+        by_taken true e = cc
+    from_hand_off k b (hand_off.Store false n) h = let f = h.0 in cc
+    from_hand_off k b (hand_off.Store true n) h = let f = h.0 in cc
+    from_hand_off k true (hand_off.Leave any) h = let f = h.0 in cc
+    from_hand_off k false (hand_off.Leave any) h = h.1
 
     goes_to_wake : (p : Place) → place_at w t ≡ p → ToWake (next_place p (reply_to w t (act_of p))) rights l → SeesWaiters w t l (outcome_of (next_act p (reply_to w t (act_of p))))
     goes_to_wake Idle is h = absurd h.1
@@ -265,11 +274,11 @@ module _ (w : State) (t : ℕ) (steady : IsSteady w) where
     saw_unlock k unlock.Enter e parked o = same_lock k l e
     saw_unlock k unlock.Take e parked o = either (length (drop 1 (queue_at w (2 * k))) == 0)
       where
-        either : (b : Bool) → owes_on (mutex_goes k (in_unlock (if b then next.At (unlock.Clear (first_of (queue_at w (2 * k)))) else next.At (unlock.Leave (first_of (queue_at w (2 * k))))))) l ≡ true
+        either : (b : Bool) → owes_on (mutex_goes k (in_unlock (if b then next.At (unlock.Clear (is_there (first_of (queue_at w (2 * k))))) else next.At (unlock.Leave (is_there (first_of (queue_at w (2 * k)))))))) l ≡ true
         either true = same_lock k l e
         either false = same_lock k l e
-    saw_unlock k (unlock.Clear taken) e parked o = same_lock k l e
-    saw_unlock k (unlock.Leave taken) e parked o = absurd cc
+    saw_unlock k (unlock.Clear any) e parked o = same_lock k l e
+    saw_unlock k (unlock.Leave any) e parked o = absurd cc
 
     saw : (p : Place) → IsReleasing (call_state p (rights_at w t)).purpose (call_state p (rights_at w t)).released l → is_parked (word_at w l) ≡ true
         → outcome_of (next_act p (reply_to w t (act_of p))) ≡ outcome.TheVariants.Step → owes_on (next_place p (reply_to w t (act_of p))) l ≡ true
@@ -285,14 +294,14 @@ module _ (w : State) (t : ℕ) (steady : IsSteady w) where
     saw (Mutex k Bump) h parked o = let here : is_parked (word_at w k) ≡ true = ap (λ m. is_parked (word_at w m)) h.0 ∙ parked in rw here (same_lock k l h.0)
     saw (Mutex k (HandOff true hand_off.Enter)) h parked o = same_lock k l h.0
     saw (Mutex k (HandOff true hand_off.Take)) h parked o = same_lock k l h.0
-    saw (Mutex k (HandOff true (hand_off.Store None n))) h parked o = same_lock k l h.0
-    saw (Mutex k (HandOff true (hand_off.Store (Some u) n))) h parked o = same_lock k l h.0
-    saw (Mutex k (HandOff true (hand_off.Leave taken))) h parked o = absurd (let f : true ≡ false = h.1 in cc)
+    saw (Mutex k (HandOff true (hand_off.Store false n))) h parked o = same_lock k l h.0
+    saw (Mutex k (HandOff true (hand_off.Store true n))) h parked o = same_lock k l h.0
+    saw (Mutex k (HandOff true (hand_off.Leave any))) h parked o = absurd (let f : true ≡ false = h.1 in cc)
     saw (Mutex k (HandOff false hand_off.Enter)) h parked o = same_lock k l h
     saw (Mutex k (HandOff false hand_off.Take)) h parked o = same_lock k l h
-    saw (Mutex k (HandOff false (hand_off.Store None n))) h parked o = same_lock k l h
-    saw (Mutex k (HandOff false (hand_off.Store (Some u) n))) h parked o = same_lock k l h
-    saw (Mutex k (HandOff false (hand_off.Leave taken))) h parked o = absurd cc
+    saw (Mutex k (HandOff false (hand_off.Store false n))) h parked o = same_lock k l h
+    saw (Mutex k (HandOff false (hand_off.Store true n))) h parked o = same_lock k l h
+    saw (Mutex k (HandOff false (hand_off.Leave any))) h parked o = absurd cc
 
 -- ---------------------------------------------------------------- a step
 

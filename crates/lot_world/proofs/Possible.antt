@@ -75,8 +75,8 @@ mutex_acting l (Unlock unlock.Subtract) = refl
 mutex_acting l (Unlock a) = refl
 mutex_acting l UnlockFair = refl
 mutex_acting l Bump = refl
-mutex_acting l (HandOff b (hand_off.Store None n)) = refl
-mutex_acting l (HandOff b (hand_off.Store (Some u) n)) = refl
+mutex_acting l (HandOff b (hand_off.Store false n)) = refl
+mutex_acting l (HandOff b (hand_off.Store true n)) = refl
 mutex_acting l (HandOff b a) = refl
 
 module _ (w : State) where
@@ -175,8 +175,8 @@ module _ (w : State) (t : ℕ) (steady : IsSteady w) where
   late_by (Mutex k (Unlock a)) is r l timed asleep stands = absurd cc
   late_by (Mutex k UnlockFair) is r l timed asleep stands = absurd cc
   late_by (Mutex k Bump) is r l timed asleep stands = absurd cc
-  late_by (Mutex k (HandOff b (hand_off.Store None n))) is r l timed asleep stands = absurd cc
-  late_by (Mutex k (HandOff b (hand_off.Store (Some u) n))) is r l timed asleep stands = absurd cc
+  late_by (Mutex k (HandOff b (hand_off.Store false n))) is r l timed asleep stands = absurd cc
+  late_by (Mutex k (HandOff b (hand_off.Store true n))) is r l timed asleep stands = absurd cc
   late_by (Mutex k (HandOff b a)) is r l timed asleep stands = absurd cc
 
   pub late_possible : MayBeLate (locks_of w) t → is_free_under w (late_key (place_at w t)) ≡ true
@@ -238,8 +238,8 @@ runs_none (Mutex l (Unlock unlock.Subtract)) = refl
 runs_none (Mutex l (Unlock a)) = refl
 runs_none (Mutex l UnlockFair) = refl
 runs_none (Mutex l Bump) = refl
-runs_none (Mutex l (HandOff b (hand_off.Store None n))) = refl
-runs_none (Mutex l (HandOff b (hand_off.Store (Some u) n))) = refl
+runs_none (Mutex l (HandOff b (hand_off.Store false n))) = refl
+runs_none (Mutex l (HandOff b (hand_off.Store true n))) = refl
 runs_none (Mutex l (HandOff b a)) = refl
 
 pub no_closure : (w : State) (t : ℕ) → runs_closure (act_of (place_at w t)) ≡ true → ⊥
@@ -292,15 +292,15 @@ module _ (w : State) (t : ℕ) (steady : IsSteady w) where
   on_main l (Unlock unlock.Subtract) is = tt
   on_main l (Unlock unlock.Enter) is = refl
   on_main l (Unlock unlock.Take) is = tt
-  on_main l (Unlock (unlock.Clear taken)) is = tt
-  on_main l (Unlock (unlock.Leave taken)) is = held _ l is refl
+  on_main l (Unlock (unlock.Clear any)) is = tt
+  on_main l (Unlock (unlock.Leave any)) is = held _ l is refl
   on_main l UnlockFair is = tt
   on_main l Bump is = tt
   on_main l (HandOff b hand_off.Enter) is = refl
   on_main l (HandOff b hand_off.Take) is = tt
-  on_main l (HandOff b (hand_off.Store None n)) is = tt
-  on_main l (HandOff b (hand_off.Store (Some u) n)) is = tt
-  on_main l (HandOff b (hand_off.Leave taken)) is = held _ l is refl
+  on_main l (HandOff b (hand_off.Store false n)) is = tt
+  on_main l (HandOff b (hand_off.Store true n)) is = tt
+  on_main l (HandOff b (hand_off.Leave any)) is = held _ l is refl
 
 module _ (w : State) (t : ℕ) where
   filled_changes : (l : ℕ) (who : Option ℕ) → 2 * l < length w.sections → SectionChanges (section_at w (2 * l)) t who → (key : ℕ) → SectionChanges (section_at w key) t (section_at (filled_with w (One (2 * l)) who) key)
@@ -317,9 +317,9 @@ module _ (w : State) (t : ℕ) where
   took_sections queues None key = refl
   took_sections queues (Some u) key = refl
 
-  left_sections : (keys : Keys) (x : Wakes) (key : ℕ) → section_at (awakened (filled_with w keys None) x) key ≡ section_at (filled_with w keys None) key
+  left_sections : (keys : Keys) (x : Wakes) (key : ℕ) → section_at (awakened (filled_with w keys None) t x) key ≡ section_at (filled_with w keys None) key
   left_sections keys wakes.TheVariants.Nobody key = refl
-  left_sections keys (wakes.TheVariants.One u note) key = refl
+  left_sections keys (wakes.TheVariants.All note) key = refl
 
   act_sections : (p : Place) (l : ℕ) → 2 * l < length w.sections → (a : Act) → can_do w a ≡ true → OnMain w t l a → (key : ℕ) → SectionChanges (section_at w key) t (section_at (performed w t p a) key)
   act_sections p l lt (Enter (One k)) can main key = rw main (filled_changes l (Some t) lt (inr (inl (none_is (section_at w (2 * l)) (rw main at can), refl))) key)
@@ -334,7 +334,7 @@ module _ (w : State) (t : ℕ) where
 pub gone_sections : (w : State) (t : ℕ) → IsShaped w → IsSteady w → can_go w t ≡ true → (key : ℕ) → SectionChanges (section_at w key) t (section_at (gone w t) key)
 gone_sections w t shape steady can = by_place (place_at w t) refl (shape.places t) can
   where
-    by_place : (p : Place) → place_at w t ≡ p → PlaceFits (length w.places) (length w.locks) p → can_do w (act_of p) ≡ true → (key : ℕ) → SectionChanges (section_at w key) t (section_at (performed w t p (act_of p)) key)
+    by_place : (p : Place) → place_at w t ≡ p → PlaceFits (length w.locks) p → can_do w (act_of p) ≡ true → (key : ℕ) → SectionChanges (section_at w key) t (section_at (performed w t p (act_of p)) key)
     by_place Idle is fits can key = absurd cc
     by_place (Mutex l at) is fits can key = act_sections w t (Mutex l at) l (main_key_there w l shape fits.0) (mutex_act l at) can (on_main w t steady l at is) key
 
@@ -374,7 +374,7 @@ module _ (w : State) (t : ℕ) (there : t < length w.places) where
   late_awake (Mutex l (HandOff b a)) is can = absurd cc
 
 module _ (w : State) (t : ℕ) (shape : IsShaped w) where
-  pub late_sections : (p : Place) → place_at w t ≡ p → PlaceFits (length w.places) (length w.locks) p → is_free_under w (late_key p) ≡ true → (key : ℕ) → SectionChanges (section_at w key) t (section_at (late_on w t (late_key p)) key)
+  pub late_sections : (p : Place) → place_at w t ≡ p → PlaceFits (length w.locks) p → is_free_under w (late_key p) ≡ true → (key : ℕ) → SectionChanges (section_at w key) t (section_at (late_on w t (late_key p)) key)
   late_sections (Mutex l (Lock entries.LockTimed r lock.Asleep)) is fits can key = filled_changes w t l (Some t) (main_key_there w l shape fits.0) (inr (inl (none_is (section_at w (2 * l)) can, refl))) key
   late_sections Idle is fits can key = absurd cc
   late_sections (Mutex l (Lock entries.Lock r lock.Asleep)) is fits can key = absurd cc

@@ -24,10 +24,10 @@ use Rattle.lot_steps.specs.MutexSteps.{is_locked, lock_act, unlock_act, hand_off
 use Rattle.lot_steps.specs.MutexProfiles.{mutex_owes, lock_row}
 use Rattle.lot_steps.specs.MutexSteps.{is_timed}
 use Rattle.abstract_locks.specs.Sites.{Line, Main, Second}
-use Rattle.lot_steps.specs.Steps.{act_of, owes_on, retries_on}
+use Rattle.lot_steps.specs.Steps.{act_of, taker, owes_on, retries_on}
 use Rattle.lot_world.specs.Machine.{State, opening, place_at, after, section_at, word_at}
 use Rattle.lot_world.specs.Fits.{IsShaped}
-use Rattle.lot_world.specs.MutexDeeds.{Of, hand, Station, mutex_station, nowhere, station_at}
+use Rattle.lot_world.specs.MutexDeeds.{Station, mutex_station, nowhere, station_at}
 use Rattle.lot_world.specs.SitesOf.{IsSteady, key_of, stood_in, carried_at}
 use Rattle.abstract_locks.specs.Runs.{IsOpening}
 use Rattle.abstract_locks.specs.Locks.{opening_lock, rights_of, Rights, one_if_some, standing}
@@ -185,10 +185,10 @@ unlock_awake l (unlock.Leave taken) e = cc
 hand_off_awake : (l : ℕ) (a : HandOffAt) → hand_off_act l a ≢ Sleep
 hand_off_awake l hand_off.Enter e = cc
 hand_off_awake l hand_off.Take e = cc
-hand_off_awake l (hand_off.Store None none_left) e = cc
-hand_off_awake l (hand_off.Store (Some u) none_left) e = cc
-hand_off_awake l (hand_off.Leave None) e = cc
-hand_off_awake l (hand_off.Leave (Some u)) e = cc
+hand_off_awake l (hand_off.Store false none_left) e = cc
+hand_off_awake l (hand_off.Store true none_left) e = cc
+hand_off_awake l (hand_off.Leave false) e = cc
+hand_off_awake l (hand_off.Leave true) e = cc
 
 -- a call waits for one lock
 one_purpose : (o : Option Purpose) (l k : ℕ) → MayWait o l → MayWait o k → l ≡ k
@@ -198,19 +198,22 @@ one_purpose (Some (Bumps j x)) l k h g = sym h ∙ g
 one_purpose o l k h g = absurd h
 
 -- a thread that has handed a lock over wakes the new owner next
-tells_at : (at : MutexPlace) (u l : ℕ) → (mutex_station at).carries ≡ hand u true → (mutex_act l at ≡ act.TheVariants.Leave (One (2 * l)) (wakes.TheVariants.One u note.HandOff)) × ((mutex_station at).inside ≡ Some Main)
-tells_at (HandOff bumps (hand_off.Leave (Some v))) u l h = let e : v ≡ u = cc in rw e (refl, refl)
-tells_at (HandOff bumps (hand_off.Leave None)) u l h = absurd cc
-tells_at (HandOff bumps (hand_off.Store (Some v) none_left)) u l h = absurd cc
-tells_at (HandOff bumps at) u l h = absurd cc
-tells_at (Unlock (unlock.Clear (Some v))) u l h = absurd cc
-tells_at (Unlock (unlock.Leave (Some v))) u l h = absurd cc
-tells_at (Unlock at) u l h = absurd cc
-tells_at at u l h = absurd cc
+tells_at : (at : MutexPlace) (l : ℕ) → (mutex_station at).carries ≡ Some true → (mutex_act l at ≡ act.TheVariants.Leave (One (2 * l)) (wakes.TheVariants.All note.HandOff)) × ((mutex_station at).inside ≡ Some Main)
+tells_at (HandOff bumps (hand_off.Leave true)) l h = (refl, refl)
+tells_at (HandOff bumps (hand_off.Leave false)) l h = absurd cc
+tells_at (HandOff bumps (hand_off.Store true none_left)) l h = absurd cc
+tells_at (HandOff bumps (hand_off.Store false none_left)) l h = absurd cc
+tells_at (HandOff bumps at) l h = absurd cc
+tells_at (Unlock (unlock.Clear true)) l h = absurd cc
+tells_at (Unlock (unlock.Leave true)) l h = absurd cc
+tells_at (Unlock (unlock.Clear false)) l h = absurd cc
+tells_at (Unlock (unlock.Leave false)) l h = absurd cc
+tells_at (Unlock at) l h = absurd cc
+tells_at at l h = absurd cc
 
-tells : (p : Place) (u l : ℕ) → carried_at p l ≡ hand u true → (act_of p ≡ act.TheVariants.Leave (One (2 * l)) (wakes.TheVariants.One u note.HandOff)) × IsWithin p l
-tells Idle u l h = absurd cc
-tells (Mutex own at) u l h = let g = part_here (λ x. x.carries) (Of u true) own l at refl h in let t = tells_at at u l g.1 in (ap (λ k. mutex_act k at) g.0 ∙ t.0, ap (λ x. x.inside) (here own l at g.0) ∙ t.1)
+tells : (p : Place) (l : ℕ) → carried_at p l ≡ Some true → (act_of p ≡ act.TheVariants.Leave (One (2 * l)) (wakes.TheVariants.All note.HandOff)) × IsWithin p l
+tells Idle l h = absurd cc
+tells (Mutex own at) l h = let g = part_here (λ x. x.carries) true own l at refl h in let t = tells_at at l g.1 in (ap (λ k. mutex_act k at) g.0 ∙ t.0, ap (λ x. x.inside) (here own l at g.0) ∙ t.1)
 
 -- no call of a mutex is inside a second section, or enters one
 not_second : (b : Bool) (x : Option Line) → x ≡ (if b then Some Main else None) → x ≢ Some Second
@@ -256,8 +259,8 @@ module _ (w : State) (steady : IsSteady w) where
 
     handed_to : (l : ℕ) (entry : Entry) (retries : Bool) (by : ℕ) → place_at w t ≡ Mutex l (Lock entry retries (Handed by)) → IsHandedOver w t
     handed_to l entry retries by is =
-        let told = tells (place_at w by) t l (steady.stands.hands.taken by t l true (ap (λ x. x.hand) (own_stance l (place_at w t) (Lock entry retries (Handed by)) is))) in
-        record { lock = l; by = by; owner = owns w steady t l (Lock entry retries (Handed by)) is refl; inside = (steady.stands.sections by l Main).0 told.1; wakes = told.0 }
+        let told = tells (place_at w by) l (steady.stands.hands.taken by t l true (ap (λ x. x.hand) (own_stance l (place_at w t) (Lock entry retries (Handed by)) is))) in
+        record { lock = l; by = by; owner = owns w steady t l (Lock entry retries (Handed by)) is refl; inside = (steady.stands.sections by l Main).0 told.1; in_hand = ap taker is; wakes = told.0 }
 
     lock_handed : (l : ℕ) (entry : Entry) (retries : Bool) (a : LockAt) → place_at w t ≡ Mutex l (Lock entry retries a) → lock_act l a ≡ Sleep → IsHandedOver w t
     lock_handed l entry retries Asleep is sleeps = absurd (let n : 1 + 0 ≡ 0 = rw (is, same l) at (unlisted l) in omega arith)

@@ -40,13 +40,13 @@ use Rattle.lot_steps.specs.declared.mutex.hand_off.HandOffAt.{HandOffAt}
 use Rattle.lot_steps.specs.declared.mutex.hand_off.HandOffAt.TheVariants as hand_off
 use Rattle.lot_steps.specs.Acts.{holds}
 use Rattle.lot_calls.specs.Kinds.{is_fair}
-use Rattle.lot_steps.specs.MutexSteps.{is_locked, is_parked, is_timed, entered, mutex_next, mutex_first, next_unlock, next_hand_off, looked, unlock_fair_next, bump_next, try_next, in_lock, in_unlock, in_hand_off, mutex_next}
+use Rattle.lot_steps.specs.MutexSteps.{is_thread, is_locked, is_parked, is_timed, entered, mutex_next, mutex_first, next_unlock, next_hand_off, looked, unlock_fair_next, bump_next, try_next, in_lock, in_unlock, in_hand_off, mutex_next}
 use Rattle.lot_calls.specs.Calls.{lock_in}
-use Rattle.lot_steps.specs.Steps.{is_idle, first_place, act_of, next_place, mutex_goes, spin_lock, late_key}
-use Rattle.lot_world.specs.Machine.{State, unlocked, opening, kind_at, word_at, place_at, queue_at, put, operated, filled_with, appended, first_taken, removed, parked, befallen, taken_by, took, awakened, performed, gone, go_reply, reply_to, begun, can_begin, is_open_to, spun, spun_on, lated, late_on, turned, can_turn, is_possible, after}
+use Rattle.lot_steps.specs.Steps.{is_idle, first_place, taker, act_of, next_place, mutex_goes, spin_lock, late_key}
+use Rattle.lot_world.specs.Machine.{State, unlocked, opening, kind_at, word_at, place_at, queue_at, put, operated, filled_with, appended, first_taken, removed, parked, befallen, told_by, all_told, given, taken_by, took, awakened, performed, gone, go_reply, reply_to, begun, can_begin, is_open_to, spun, spun_on, lated, late_on, turned, can_turn, is_possible, after}
 use Rattle.lot_base.specs.declared.notes.Note as note
 use Rattle.lot_steps.specs.declared.mutex.lock.LockAt as lock
-use Rattle.lot_world.specs.Fits.{SomeBelow, taken_in, GivesUpTimed, PlaceFits, AllBelow, IsShaped, SameSize}
+use Rattle.lot_world.specs.Fits.{GivesUpTimed, PlaceFits, AllBelow, IsShaped, SameSize}
 
 -- what holds of all elements holds of them after one is set
 pub set_all : {A : Type 0} (P : A → Type 0) (xs : List A) (i : ℕ) (y d : A) → P y → ((j : ℕ) → P (get_or xs j d)) → (j : ℕ) → P (get_or (set xs i y) j d)
@@ -81,10 +81,6 @@ below_rest : (n : ℕ) (xs : List Waiter) → AllBelow n xs → AllBelow n (drop
 below_rest n [] h = tt
 below_rest n (x ∷ xs) h = h.1
 
-below_first : (n : ℕ) (xs : List Waiter) → AllBelow n xs → SomeBelow n (first_of xs)
-below_first n [] h = tt
-below_first n (x ∷ xs) h = h.0
-
 -- ---------------------------------------------------------------- places
 
 -- the call of a thread at this place has a deadline
@@ -92,127 +88,126 @@ abbrev pub MayBeLate : Place → Type 0
 MayBeLate (Mutex l (Lock entry retries at)) = is_timed entry ≡ true
 MayBeLate p = Unit {0}
 
--- a reply names threads that are there; only a timed call is told that it is late
-abbrev pub ReplyFits : ℕ → Place → Reply → Type 0
-ReplyFits threads p (Took first none_left) = SomeBelow threads first
-ReplyFits threads p Late = MayBeLate p
-ReplyFits threads p reply = Unit {0}
+-- only a timed call is told that it is late
+abbrev pub ReplyFits : Place → Reply → Type 0
+ReplyFits p Late = MayBeLate p
+ReplyFits p reply = Unit {0}
 
-abbrev pub NextFits : ℕ → Next MutexPlace → Type 0
-NextFits threads (next.TheVariants.At at) = SomeBelow threads (taken_in at) × GivesUpTimed at
-NextFits threads (next.TheVariants.End answer) = Unit {0}
+abbrev pub NextFits : Next MutexPlace → Type 0
+NextFits (next.TheVariants.At at) = GivesUpTimed at
+NextFits (next.TheVariants.End answer) = Unit {0}
 
-lock_fits : (threads l : ℕ) (entry : Entry) (retries : Bool) (at : LockAt) (reply : Reply) → GivesUpTimed (Lock entry retries at) → ReplyFits threads (Mutex l (Lock entry retries at)) reply → NextFits threads (mutex_next (Lock entry retries at) reply)
-lock_fits threads l entry retries lock.TheVariants.First (Value seen) h late = either (seen == 0)
+lock_fits : (l : ℕ) (entry : Entry) (retries : Bool) (at : LockAt) (reply : Reply) → GivesUpTimed (Lock entry retries at) → ReplyFits (Mutex l (Lock entry retries at)) reply → NextFits (mutex_next (Lock entry retries at) reply)
+lock_fits l entry retries lock.TheVariants.First (Value seen) h late = either (seen == 0)
   where
-    either : (b : Bool) → NextFits threads (in_lock entry retries (if b then next.TheVariants.End (entered entry) else next.TheVariants.At lock.TheVariants.Load))
+    either : (b : Bool) → NextFits (in_lock entry retries (if b then next.TheVariants.End (entered entry) else next.TheVariants.At lock.TheVariants.Load))
     either true = tt
-    either false = (tt, tt)
-lock_fits threads l entry retries (lock.TheVariants.Decide s) (Value seen) h late = either (not (seen == s)) (is_locked seen)
+    either false = tt
+lock_fits l entry retries (lock.TheVariants.Decide s) (Value seen) h late = either (not (seen == s)) (is_locked seen)
   where
-    either : (a b : Bool) → NextFits threads (in_lock entry retries (if a then next.TheVariants.At (lock.TheVariants.Decide seen) else if b then next.TheVariants.At (lock.TheVariants.Decide 3) else next.TheVariants.End (entered entry)))
-    either true b = (tt, tt)
-    either false true = (tt, tt)
+    either : (a b : Bool) → NextFits (in_lock entry retries (if a then next.TheVariants.At (lock.TheVariants.Decide seen) else if b then next.TheVariants.At (lock.TheVariants.Decide 3) else next.TheVariants.End (entered entry)))
+    either true b = tt
+    either false true = tt
     either false false = tt
-lock_fits threads l entry retries lock.TheVariants.Load (Value seen) h late = (tt, tt)
-lock_fits threads l entry retries lock.TheVariants.Check (Parked parked) h late = (tt, tt)
-lock_fits threads l entry retries (lock.TheVariants.Leave true) Done h late = (tt, tt)
-lock_fits threads l entry retries (lock.TheVariants.Leave false) Done h late = (tt, tt)
-lock_fits threads l entry retries lock.TheVariants.Asleep Late h late = (tt, late)
-lock_fits threads l entry retries lock.TheVariants.Asleep (Woken note.TheVariants.Normal) h late = (tt, tt)
-lock_fits threads l entry retries lock.TheVariants.Asleep (Woken note.TheVariants.HandOff) h late = (tt, tt)
-lock_fits threads l entry retries lock.TheVariants.Remove (Removed true) h late = (tt, h)
-lock_fits threads l entry retries lock.TheVariants.Remove (Removed false) h late = (tt, h)
-lock_fits threads l entry retries lock.TheVariants.Clear (Value seen) h late = (tt, h)
-lock_fits threads l entry retries (lock.TheVariants.Taken by) (Woken note.TheVariants.Normal) h late = (tt, tt)
-lock_fits threads l entry retries (lock.TheVariants.Taken by) (HandedBy t) h late = (tt, tt)
-lock_fits threads l entry retries (lock.TheVariants.Handed by) (Woken note.TheVariants.HandOff) h late = (tt, tt)
-lock_fits threads l entry retries lock.TheVariants.Accept Done h late = tt
-lock_fits threads l entry retries lock.TheVariants.GiveUp Done h late = tt
-lock_fits threads l entry retries at reply h late = (tt, h)
+lock_fits l entry retries lock.TheVariants.Load (Value seen) h late = tt
+lock_fits l entry retries lock.TheVariants.Check (Parked parked) h late = tt
+lock_fits l entry retries (lock.TheVariants.Leave true) Done h late = tt
+lock_fits l entry retries (lock.TheVariants.Leave false) Done h late = tt
+lock_fits l entry retries lock.TheVariants.Asleep Late h late = late
+lock_fits l entry retries lock.TheVariants.Asleep (Woken note.TheVariants.Normal) h late = tt
+lock_fits l entry retries lock.TheVariants.Asleep (Woken note.TheVariants.HandOff) h late = tt
+lock_fits l entry retries lock.TheVariants.Remove (Removed true) h late = h
+lock_fits l entry retries lock.TheVariants.Remove (Removed false) h late = h
+lock_fits l entry retries lock.TheVariants.Clear (Value seen) h late = h
+lock_fits l entry retries (lock.TheVariants.Taken by) (Woken note.TheVariants.Normal) h late = tt
+lock_fits l entry retries (lock.TheVariants.Taken by) (HandedBy t) h late = tt
+lock_fits l entry retries (lock.TheVariants.Handed by) (Woken note.TheVariants.HandOff) h late = tt
+lock_fits l entry retries lock.TheVariants.Accept Done h late = tt
+lock_fits l entry retries lock.TheVariants.GiveUp Done h late = tt
+lock_fits l entry retries at reply h late = h
 
-try_fits : (threads : ℕ) (reply : Reply) → NextFits threads (try_next reply)
-try_fits threads (Value seen) = either (is_locked seen)
+try_fits : (reply : Reply) → NextFits (try_next reply)
+try_fits (Value seen) = either (is_locked seen)
   where
-    either : (b : Bool) → NextFits threads (if b then next.TheVariants.End answer.TheVariants.No else next.TheVariants.End answer.TheVariants.Yes)
+    either : (b : Bool) → NextFits (if b then next.TheVariants.End answer.TheVariants.No else next.TheVariants.End answer.TheVariants.Yes)
     either true = tt
     either false = tt
-try_fits threads reply = (tt, tt)
+try_fits reply = tt
 
-unlock_fits : (threads l : ℕ) (at : UnlockAt) (reply : Reply) → SomeBelow threads (taken_in (Unlock at)) → ReplyFits threads (Mutex l (Unlock at)) reply → NextFits threads (in_unlock (next_unlock at reply))
-unlock_fits threads l unlock.TheVariants.Subtract (Value seen) h r = either (is_parked seen)
+unlock_fits : (l : ℕ) (at : UnlockAt) (reply : Reply) → ReplyFits (Mutex l (Unlock at)) reply → NextFits (in_unlock (next_unlock at reply))
+unlock_fits l unlock.TheVariants.Subtract (Value seen) r = either (is_parked seen)
   where
-    either : (b : Bool) → NextFits threads (in_unlock (if b then next.TheVariants.At unlock.TheVariants.Enter else next.TheVariants.End answer.TheVariants.Ok))
-    either true = (tt, tt)
+    either : (b : Bool) → NextFits (in_unlock (if b then next.TheVariants.At unlock.TheVariants.Enter else next.TheVariants.End answer.TheVariants.Ok))
+    either true = tt
     either false = tt
-unlock_fits threads l unlock.TheVariants.Take (Took first none_left) h r = either none_left
+unlock_fits l unlock.TheVariants.Take (Took any none_left) r = either none_left
   where
-    either : (b : Bool) → NextFits threads (in_unlock (if b then next.TheVariants.At (unlock.TheVariants.Clear first) else next.TheVariants.At (unlock.TheVariants.Leave first)))
-    either true = (r, tt)
-    either false = (r, tt)
-unlock_fits threads l unlock.TheVariants.Enter Done h r = (tt, tt)
-unlock_fits threads l (unlock.TheVariants.Clear taken) (Value seen) h r = (h, tt)
-unlock_fits threads l (unlock.TheVariants.Leave taken) Done h r = tt
-unlock_fits threads l at reply h r = (h, tt)
+    either : (b : Bool) → NextFits (in_unlock (if b then next.TheVariants.At (unlock.TheVariants.Clear any) else next.TheVariants.At (unlock.TheVariants.Leave any)))
+    either true = tt
+    either false = tt
+unlock_fits l unlock.TheVariants.Enter Done r = tt
+unlock_fits l (unlock.TheVariants.Clear taken) (Value seen) r = tt
+unlock_fits l (unlock.TheVariants.Leave taken) Done r = tt
+unlock_fits l at reply r = tt
 
-looked_fits : (threads : ℕ) (bumps saw_waiters : Bool) → NextFits threads (looked bumps saw_waiters)
-looked_fits threads bumps true = (tt, tt)
-looked_fits threads bumps false = tt
+looked_fits : (bumps saw_waiters : Bool) → NextFits (looked bumps saw_waiters)
+looked_fits bumps true = tt
+looked_fits bumps false = tt
 
-unlock_fair_fits : (threads : ℕ) (reply : Reply) → NextFits threads (unlock_fair_next reply)
-unlock_fair_fits threads (Value seen) = looked_fits threads false (not (seen == 1))
-unlock_fair_fits threads reply = (tt, tt)
+unlock_fair_fits : (reply : Reply) → NextFits (unlock_fair_next reply)
+unlock_fair_fits (Value seen) = looked_fits false (not (seen == 1))
+unlock_fair_fits reply = tt
 
-bump_fits : (threads : ℕ) (reply : Reply) → NextFits threads (bump_next reply)
-bump_fits threads (Value seen) = looked_fits threads true (is_parked seen)
-bump_fits threads reply = (tt, tt)
+bump_fits : (reply : Reply) → NextFits (bump_next reply)
+bump_fits (Value seen) = looked_fits true (is_parked seen)
+bump_fits reply = tt
 
-hand_off_fits : (threads l : ℕ) (bumps : Bool) (at : HandOffAt) (reply : Reply) → SomeBelow threads (taken_in (HandOff bumps at)) → ReplyFits threads (Mutex l (HandOff bumps at)) reply → NextFits threads (in_hand_off bumps (next_hand_off at reply))
-hand_off_fits threads l bumps hand_off.Take (Took first none_left) h r = (r, tt)
-hand_off_fits threads l bumps hand_off.Enter Done h r = (tt, tt)
-hand_off_fits threads l bumps (hand_off.Store taken none_left) (Value seen) h r = (h, tt)
-hand_off_fits threads l true (hand_off.Leave taken) Done h r = (tt, tt)
-hand_off_fits threads l false (hand_off.Leave taken) Done h r = tt
-hand_off_fits threads l bumps at reply h r = (h, tt)
+hand_off_fits : (l : ℕ) (bumps : Bool) (at : HandOffAt) (reply : Reply) → ReplyFits (Mutex l (HandOff bumps at)) reply → NextFits (in_hand_off bumps (next_hand_off at reply))
+hand_off_fits l bumps hand_off.Take (Took any none_left) r = tt
+hand_off_fits l bumps hand_off.Enter Done r = tt
+hand_off_fits l bumps (hand_off.Store taken none_left) (Value seen) r = tt
+hand_off_fits l true (hand_off.Leave taken) Done r = tt
+hand_off_fits l false (hand_off.Leave taken) Done r = tt
+hand_off_fits l bumps at reply r = tt
 
-goes_fits : (threads locks l : ℕ) (n : Next MutexPlace) → l < locks → NextFits threads n → PlaceFits threads locks (mutex_goes l n)
-goes_fits threads locks l (next.TheVariants.At at) lt h = (lt, h.0, h.1)
-goes_fits threads locks l (next.TheVariants.End answer) lt h = tt
+goes_fits : (locks l : ℕ) (n : Next MutexPlace) → l < locks → NextFits n → PlaceFits locks (mutex_goes l n)
+goes_fits locks l (next.TheVariants.At at) lt h = (lt, h)
+goes_fits locks l (next.TheVariants.End answer) lt h = tt
 
-pub next_fits : (threads locks : ℕ) (p : Place) (reply : Reply) → PlaceFits threads locks p → ReplyFits threads p reply → PlaceFits threads locks (next_place p reply)
-next_fits threads locks Idle reply h r = tt
-next_fits threads locks (Mutex l (Lock entry retries at)) reply h r = goes_fits threads locks l (mutex_next (Lock entry retries at) reply) h.0 (lock_fits threads l entry retries at reply h.2 r)
-next_fits threads locks (Mutex l TryLock) reply h r = goes_fits threads locks l (mutex_next TryLock reply) h.0 (try_fits threads reply)
-next_fits threads locks (Mutex l (Unlock at)) reply h r = goes_fits threads locks l (mutex_next (Unlock at) reply) h.0 (unlock_fits threads l at reply h.1 r)
-next_fits threads locks (Mutex l UnlockFair) reply h r = goes_fits threads locks l (mutex_next UnlockFair reply) h.0 (unlock_fair_fits threads reply)
-next_fits threads locks (Mutex l Bump) reply h r = goes_fits threads locks l (mutex_next Bump reply) h.0 (bump_fits threads reply)
-next_fits threads locks (Mutex l (HandOff bumps at)) reply h r = goes_fits threads locks l (mutex_next (HandOff bumps at) reply) h.0 (hand_off_fits threads l bumps at reply h.1 r)
+pub next_fits : (locks : ℕ) (p : Place) (reply : Reply) → PlaceFits locks p → ReplyFits p reply → PlaceFits locks (next_place p reply)
+next_fits locks Idle reply h r = tt
+next_fits locks (Mutex l (Lock entry retries at)) reply h r = goes_fits locks l (mutex_next (Lock entry retries at) reply) h.0 (lock_fits l entry retries at reply h.1 r)
+next_fits locks (Mutex l TryLock) reply h r = goes_fits locks l (mutex_next TryLock reply) h.0 (try_fits reply)
+next_fits locks (Mutex l (Unlock at)) reply h r = goes_fits locks l (mutex_next (Unlock at) reply) h.0 (unlock_fits l at reply r)
+next_fits locks (Mutex l UnlockFair) reply h r = goes_fits locks l (mutex_next UnlockFair reply) h.0 (unlock_fair_fits reply)
+next_fits locks (Mutex l Bump) reply h r = goes_fits locks l (mutex_next Bump reply) h.0 (bump_fits reply)
+next_fits locks (Mutex l (HandOff bumps at)) reply h r = goes_fits locks l (mutex_next (HandOff bumps at) reply) h.0 (hand_off_fits l bumps at reply r)
 
-first_fits : (threads locks l : ℕ) (fair : Bool) (c : MutexCall) → l < locks → PlaceFits threads locks (Mutex l (mutex_first fair c))
-first_fits threads locks l fair mutex_call.TheVariants.Lock h = (h, tt, tt)
-first_fits threads locks l fair mutex_call.TheVariants.LockTimed h = (h, tt, tt)
-first_fits threads locks l fair mutex_call.TheVariants.TryLock h = (h, tt, tt)
-first_fits threads locks l true mutex_call.TheVariants.Unlock h = (h, tt, tt)
-first_fits threads locks l false mutex_call.TheVariants.Unlock h = (h, tt, tt)
-first_fits threads locks l fair mutex_call.TheVariants.UnlockFair h = (h, tt, tt)
-first_fits threads locks l fair mutex_call.TheVariants.Bump h = (h, tt, tt)
+first_fits : (locks l : ℕ) (fair : Bool) (c : MutexCall) → l < locks → PlaceFits locks (Mutex l (mutex_first fair c))
+first_fits locks l fair mutex_call.TheVariants.Lock h = (h, tt)
+first_fits locks l fair mutex_call.TheVariants.LockTimed h = (h, tt)
+first_fits locks l fair mutex_call.TheVariants.TryLock h = (h, tt)
+first_fits locks l true mutex_call.TheVariants.Unlock h = (h, tt)
+first_fits locks l false mutex_call.TheVariants.Unlock h = (h, tt)
+first_fits locks l fair mutex_call.TheVariants.UnlockFair h = (h, tt)
+first_fits locks l fair mutex_call.TheVariants.Bump h = (h, tt)
 
-call_fits : (threads locks : ℕ) (kind : Kind) (c : Call) → lock_in c < locks → PlaceFits threads locks (first_place kind c)
-call_fits threads locks kind (call.TheVariants.Mutex l c) h = first_fits threads locks l (is_fair kind) c h
+call_fits : (locks : ℕ) (kind : Kind) (c : Call) → lock_in c < locks → PlaceFits locks (first_place kind c)
+call_fits locks kind (call.TheVariants.Mutex l c) h = first_fits locks l (is_fair kind) c h
 
 -- ---------------------------------------------------------------- states
 
-pub put_shaped : (w : State) (t : ℕ) (p : Place) → IsShaped w → PlaceFits (length w.places) (length w.locks) p → IsShaped (put w t p)
+pub put_shaped : (w : State) (t : ℕ) (p : Place) → IsShaped w → PlaceFits (length w.locks) p → IsShaped (put w t p)
 put_shaped w t p s h = record {
   few = s.few;
   sections = s.sections;
   queues = s.queues;
-  places = λ u. rw (length-set w.places t p) (set_all (PlaceFits (length w.places) (length w.locks)) w.places t p Idle h s.places u);
+  places = λ u. set_all (PlaceFits (length w.locks)) w.places t p Idle h s.places u;
   waiting = λ key. rw (length-set w.places t p) (s.waiting key);
 }
 
-befallen_shaped : (w : State) (t : ℕ) (reply : Reply) → IsShaped w → ReplyFits (length w.places) (place_at w t) reply → IsShaped (befallen w t reply)
-befallen_shaped w t reply s r = put_shaped w t (next_place (place_at w t) reply) s (next_fits (length w.places) (length w.locks) (place_at w t) reply (s.places t) r)
+befallen_shaped : (w : State) (t : ℕ) (reply : Reply) → IsShaped w → ReplyFits (place_at w t) reply → IsShaped (befallen w t reply)
+befallen_shaped w t reply s r = put_shaped w t (next_place (place_at w t) reply) s (next_fits (length w.locks) (place_at w t) reply (s.places t) r)
 
 filled_shaped : (w : State) (keys : Keys) (who : Option ℕ) → IsShaped w → IsShaped (filled_with w keys who)
 filled_shaped w (One key) who s = record {
@@ -267,18 +262,51 @@ took_shaped w t key s = by_first (first_of (queue_at w key))
 removed_shaped : (w : State) (t : ℕ) → IsShaped w → IsShaped (record w { queues = removed w.queues t })
 removed_shaped w t s = queues_shaped w (removed w.queues t) s (length-map w.queues (without t)) (λ k. rw (get_or-map (without t) w.queues k []) (below_without (length w.places) t (queue_at w k) (s.waiting k)))
 
-awakened_shaped : (w : State) (x : Wakes) → IsShaped w → IsShaped (awakened w x)
-awakened_shaped w wakes.TheVariants.Nobody s = s
-awakened_shaped w (wakes.TheVariants.One u note) s = befallen_shaped w u (Woken note) s tt
+given_shaped : (w : State) (t : ℕ) (p : Place) (l : ℕ) (f : Op) → IsShaped w → IsShaped (given w t p l f)
+given_shaped w t p l f s = record {
+  few = rw (length-set w.locks l _) s.few;
+  sections = rw (length-set w.locks l _) s.sections;
+  queues = s.queues;
+  places = λ u. rw (length-set w.locks l _) (s.places u);
+  waiting = s.waiting;
+}
+
+-- what is told to all who are in a hand makes nobody late
+abbrev pub IsTimely : Reply → Type 0
+IsTimely Late = ⊥
+IsTimely reply = Unit {0}
+
+timely_fits : (p : Place) (reply : Reply) → IsTimely reply → ReplyFits p reply
+timely_fits p (HandedBy t) h = tt
+timely_fits p (Woken x) h = tt
+timely_fits p Late h = absurd h
+timely_fits p reply h = tt
+
+told_shaped : (w : State) (t : ℕ) (reply : Reply) → IsTimely reply → IsShaped w → IsShaped (all_told w t reply)
+told_shaped w t reply timely s = record {
+  few = s.few;
+  sections = s.sections;
+  queues = s.queues;
+  places = λ u. rw (get_or-map (told_by t reply) w.places u Idle) (by_hand (place_at w u) (s.places u) (is_thread t (taker (place_at w u))));
+  waiting = λ key. rw (length-map w.places (told_by t reply)) (s.waiting key);
+}
+  where
+    by_hand : (p : Place) → PlaceFits (length w.locks) p → (b : Bool) → PlaceFits (length w.locks) (if b then next_place p reply else p)
+    by_hand p h true = next_fits (length w.locks) p reply h (timely_fits p reply timely)
+    by_hand p h false = h
+
+awakened_shaped : (w : State) (t : ℕ) (x : Wakes) → IsShaped w → IsShaped (awakened w t x)
+awakened_shaped w t wakes.TheVariants.Nobody s = s
+awakened_shaped w t (wakes.TheVariants.All note) s = told_shaped w t (Woken note) tt s
 
 performed_shaped : (w : State) (t : ℕ) (p : Place) (act : Act) → IsShaped w → t < length w.places → IsShaped (performed w t p act)
 performed_shaped w t p (Word l f) s lt = operated_shaped w t p l f s
-performed_shaped w t p (HandOver l f u) s lt = befallen_shaped (operated w t p l f) u (HandedBy t) (operated_shaped w t p l f s) tt
+performed_shaped w t p (HandOver l f) s lt = told_shaped (given w t p l f) t (HandedBy t) tt (given_shaped w t p l f s)
 performed_shaped w t p (Enter keys) s lt = filled_shaped w keys (Some t) s
 performed_shaped w t p (Park l key check wanted) s lt = parked_shaped w t l key check wanted s lt
 performed_shaped w t p (TakeFirst key) s lt = took_shaped w t key s
 performed_shaped w t p (Remove key) s lt = removed_shaped w t s
-performed_shaped w t p (Leave keys x) s lt = awakened_shaped (filled_with w keys None) x (filled_shaped w keys None s)
+performed_shaped w t p (Leave keys x) s lt = awakened_shaped (filled_with w keys None) t x (filled_shaped w keys None s)
 performed_shaped w t p act s lt = s
 
 -- an act changes neither the number of threads nor that of locks
@@ -288,7 +316,7 @@ filled_counts w (Two first second) who = (refl, refl)
 
 pub performed_counts : (w : State) (t : ℕ) (p : Place) (act : Act) → (length (performed w t p act).places ≡ length w.places) × (length (performed w t p act).locks ≡ length w.locks)
 performed_counts w t p (Word l f) = (refl, length-set w.locks l _)
-performed_counts w t p (HandOver l f u) = (length-set w.places u _, length-set w.locks l _)
+performed_counts w t p (HandOver l f) = (length-map w.places (told_by t (HandedBy t)), length-set w.locks l _)
 performed_counts w t p (Enter keys) = filled_counts w keys (Some t)
 performed_counts w t p (Park l key check wanted) = either (holds check (word_at w l))
   where
@@ -301,19 +329,19 @@ performed_counts w t p (TakeFirst key) = by_first (first_of (queue_at w key))
     by_first None = (refl, refl)
     by_first (Some u) = (length-set w.places u _, refl)
 performed_counts w t p (Leave keys wakes.TheVariants.Nobody) = filled_counts w keys None
-performed_counts w t p (Leave keys (wakes.TheVariants.One u note)) = (length-set (filled_with w keys None).places u _ ∙ (filled_counts w keys None).0, (filled_counts w keys None).1)
+performed_counts w t p (Leave keys (wakes.TheVariants.All note)) = (length-map (filled_with w keys None).places (told_by t (Woken note)) ∙ (filled_counts w keys None).0, (filled_counts w keys None).1)
 performed_counts w t p act = (refl, refl)
 
-reply_fits : (w : State) (t : ℕ) (p : Place) (act : Act) → IsShaped w → ReplyFits (length w.places) p (reply_to w t act)
-reply_fits w t p (TakeFirst key) s = below_first (length w.places) (queue_at w key) (s.waiting key)
+reply_fits : (w : State) (t : ℕ) (p : Place) (act : Act) → IsShaped w → ReplyFits p (reply_to w t act)
+reply_fits w t p (TakeFirst key) s = tt
 reply_fits w t p act s = tt
 
 gone_shaped : (w : State) (t : ℕ) → IsShaped w → t < length w.places → IsShaped (gone w t)
 gone_shaped w t s lt =
     let act = act_of (place_at w t) in
     let counts = performed_counts w t (place_at w t) act in
-    let fits = next_fits (length w.places) (length w.locks) (place_at w t) (go_reply w t) (s.places t) (reply_fits w t (place_at w t) act s) in
-    put_shaped (performed w t (place_at w t) act) t (next_place (place_at w t) (go_reply w t)) (performed_shaped w t (place_at w t) act s lt) (rw (counts.0, counts.1) fits)
+    let fits = next_fits (length w.locks) (place_at w t) (go_reply w t) (s.places t) (reply_fits w t (place_at w t) act s) in
+    put_shaped (performed w t (place_at w t) act) t (next_place (place_at w t) (go_reply w t)) (performed_shaped w t (place_at w t) act s lt) (rw counts.1 fits)
 
 pub both : (a b : Bool) → (a && b) ≡ true → (a ≡ true) × (b ≡ true)
 both true b h = (refl, h)
@@ -323,7 +351,7 @@ begun_shaped : (w : State) (t : ℕ) (c : Call) → IsShaped w → can_begin w t
 begun_shaped w t c s can =
     let open_to = both (is_idle (place_at w t)) (is_open_to w t c) can in
     let there = both (nat_lt (lock_in c) (length w.locks)) _ open_to.1 in
-    put_shaped w t (first_place (kind_at w (lock_in c)) c) s (call_fits (length w.places) (length w.locks) (kind_at w (lock_in c)) c (ltb-true (lock_in c) (length w.locks) there.0))
+    put_shaped w t (first_place (kind_at w (lock_in c)) c) s (call_fits (length w.locks) (kind_at w (lock_in c)) c (ltb-true (lock_in c) (length w.locks) there.0))
 
 spun_shaped : (w : State) (t : ℕ) → IsShaped w → IsShaped (spun w t)
 spun_shaped w t s = by_lock (spin_lock (place_at w t))
@@ -378,7 +406,7 @@ opening_shaped kinds threads few = record {
   waiting = λ key. nobody_below (2 * length kinds) key;
 }
   where
-    idle_fits : (n t : ℕ) → PlaceFits (length (replicate threads Idle)) (length (map unlocked kinds)) (get_or (replicate n Idle) t Idle)
+    idle_fits : (n t : ℕ) → PlaceFits (length (map unlocked kinds)) (get_or (replicate n Idle) t Idle)
     idle_fits zero t = tt
     idle_fits (suc n) zero = tt
     idle_fits (suc n) (suc t) = idle_fits n t

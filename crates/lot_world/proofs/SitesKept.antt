@@ -21,6 +21,7 @@ use Rattle.lot_steps.specs.declared.mutex.hand_off.HandOffAt.TheVariants as hand
 use Rattle.lot_steps.specs.declared.acts.Act.{Act}
 use Rattle.lot_steps.specs.declared.acts.Act as act
 use Rattle.lot_steps.specs.declared.acts.Wakes as wakes
+use Rattle.lot_steps.specs.declared.acts.Reply.{Reply}
 use Rattle.lot_steps.specs.declared.acts.Reply.TheVariants.{Value, Woken, TakenBy, HandedBy}
 use Rattle.lot_steps.specs.MutexSteps.{with_exclusive, mutex_owners, hand_off_word}
 use Rattle.lot_steps.specs.Steps.{next_place}
@@ -30,15 +31,15 @@ use Rattle.abstract_locks.specs.Codes.{code}
 use Rattle.abstract_locks.specs.Purposes.{rules_of}
 use Rattle.abstract_locks.proofs.SiteKeeps.{deed_keeps}
 use Rattle.std.specs.Prelude.{sum}
-use Rattle.lot_world.specs.Machine.{State, unlocked, place_at, word_at, owners_at, shares_at, filled_at, kind_at, queue_at, put, operated, filled_with, section_at, first_taken, befallen, performed, reply_to}
+use Rattle.lot_world.specs.Machine.{State, unlocked, place_at, word_at, owners_at, shares_at, filled_at, kind_at, queue_at, put, operated, filled_with, section_at, first_taken, befallen, all_told, given, performed, reply_to}
 use Rattle.lot_world.specs.Refinement.{taken_at}
 use Rattle.abstract_locks.specs.Picks.{queued_of}
 use Rattle.lot_world.specs.MutexDeeds.{Station, hand, nowhere, mutex_doing, mutex_deeds, mutex_station, station, station_at, doing_on, acts, owner, queued}
 use Rattle.lot_world.specs.MutexDeeds as deeds
-use Rattle.lot_world.specs.SitesOf.{site_of, rules_at, AllNeeded, IsSteady, Follows, Goes, CallsMutex, carried_at, after_acts}
-use Rattle.lot_world.proofs.Glue.{base_at, seen_by, seen, site_seen, goes_from, put_places, put_here, put_other, IsOf, next_of, doing_elsewhere, taken_elsewhere, inside_is, own_stance, LetGo, leaving, taking, lets_taken, lets_handed, lets_nobody, IsTakenAt, is_taken, IsHandedAt, is_handed, untaken, handing, hands_acts}
+use Rattle.lot_world.specs.SitesOf.{site_of, rules_at, AllNeeded, IsSteady, Follows, Goes, CallsMutex, carried_at, hand_at, after_acts}
+use Rattle.lot_world.proofs.Glue.{base_at, seen_by, seen, site_seen, goes_from, put_places, put_here, put_other, IsOf, next_of, doing_elsewhere, taken_elsewhere, inside_is, own_stance, LetGo, leaving, taking, told_one, heir_one, lets_taken, lets_handed, lets_nobody, IsTakenAt, is_taken, IsHandedAt, is_handed, untaken, handing, hands_acts}
 use Rattle.lot_world.proofs.MutexTable.{mutex, IsCode, OnWord, Steps, same_filled, own_doing, goes_in as goes_into}
-use Rattle.lot_world.proofs.KindsKept.{operated_kinds, operated_filled}
+use Rattle.lot_world.proofs.KindsKept.{operated_kinds, operated_filled, given_kinds, given_filled}
 use Rattle.lot_world.specs.SitesOf.{is_mutex}
 use Rattle.lot_world.proofs.StandsMoved.{mutex_rules, still, goes_in, goes_out, lets_go, hands_lock, takes}
 use Rattle.lot_world.proofs.MutexSections.{hands_needed, take_needed, first_wants}
@@ -163,14 +164,14 @@ module _ (w : State) (t l : ℕ) (at : MutexPlace) (steady : IsSteady w) (is : p
   station_is_at = ap station is
 
   -- a step on the word
-  pub word_keeps : l < length w.locks → (f : Op) → OnWord l (base_at w l) (word_at w l) (owners_at w l) (queue_at w (2 * l)) (queue_at w (2 * l + 1)) (place_at w) t at f → Goes w (go_by w t (Mutex l at) (act.TheVariants.Word l f)) l (acts t (mutex_deeds at (Value (word_at w l))))
+  pub word_keeps : l < length w.locks → (f : Op) → OnWord l (base_at w l) (word_at w l) (owners_at w l) (queue_at w (2 * l)) (queue_at w (2 * l + 1)) (place_at w) t at f → Goes w (go_by w t (Mutex l at) (act.TheVariants.Word l f)) l (acts t (mutex_deeds at None (Value (word_at w l))))
   word_keeps lt f on = record {
     follows = follow w after l rules (putting (place_at w) t p2) (apply f (word_at w l)) (mutex_owners at t (word_at w l) (owners_at w l)) (queue_at w (2 * l))
         places (λ k i. record { shared = get_or w.shares k (replicate (length-set w.places t p2 i) 0); filled = operated_filled w t (Mutex l at) l f rules k i })
         (changed_set (λ x. x.word) w.locks l _ (unlocked kind.TheVariants.Mutex) lt) (changed_set (λ x. x.owners) w.locks l _ (unlocked kind.TheVariants.Mutex) lt)
         (unchanged (λ k. queue_at w (2 * k)) l) (λ k. refl) same_kinds
         (λ k ne. alike_put l k (place_at w) t p2 own of ne)
-        (acts t (mutex_deeds at (Value (word_at w l)))) on.steps.site on.steps.needed on.code;
+        (acts t (mutex_deeds at None (Value (word_at w l)))) on.steps.site on.steps.needed on.code;
     stands = still w after steady.stands same_kinds l t of_mutex own p2 of places (λ key. refl) (λ key. refl) (on.same ∙ sym station_is_at);
   }
     where
@@ -250,7 +251,7 @@ module _ (w : State) (t l : ℕ) (at : MutexPlace) (steady : IsSteady w) (is : p
   -- out of its own, and v, which it has in hand, is told
   pub wake_keeps : 2 * l < length w.sections → (v : ℕ) (handed : Bool) (x : Note) (p2 : Place) → IsOf l p2 → IsOf l (place_at w v) → taken_at (Mutex l at) l ≡ None → taken_at p2 l ≡ None → doing_on p2 l ≡ leaves (mutex_doing at) → (mutex_doing at).inside ≡ Some Main → (mutex_doing at).wakes ≡ None
       → ((u : ℕ) → u ≢ t → LetGo t l (place_at w u) (putting (putting (place_at w) v (next_place (place_at w v) (Woken x))) t p2 u)) → v ≢ t
-      → mutex_station at ≡ record nowhere { inside = Some Main; carries = hand v handed } → station (place_at w v) ≡ record nowhere { hand = hand t handed } → station p2 ≡ nowhere → station (next_place (place_at w v) (Woken x)) ≡ nowhere
+      → mutex_station at ≡ record nowhere { inside = Some Main; carries = Some handed } → station (place_at w v) ≡ record nowhere { hand = hand t handed } → station p2 ≡ nowhere → station (next_place (place_at w v) (Woken x)) ≡ nowhere
       → Goes w (put (befallen (filled_with w (One (2 * l)) None) v (Woken x)) t p2) l (acts t (Out ∷ []))
   wake_keeps line v handed x p2 of of_v none none2 e i k lets apart was was_v is_p2 is_pv = record {
     follows = follow w after l rules (putting (putting (place_at w) v pv) t p2) (word_at w l) (owners_at w l) (queue_at w (2 * l)) places
@@ -278,58 +279,81 @@ module _ (w : State) (t l : ℕ) (at : MutexPlace) (steady : IsSteady w) (is : p
       places = put_places (befallen (filled_with w (One (2 * l)) None) v (Woken x)) t p2 (λ h. past p2 (let a : length (set w.places v pv) ≡ length w.places = length-set w.places v pv in omega arith)) ∙ ap (λ (f : ℕ → Place). putting f t p2) (goes_from w v (Woken x))
 
 module _ (w : State) (t l : ℕ) (steady : IsSteady w) (there : t < length w.places) where
+  -- whom it has in hand
+  module _ (at : MutexPlace) (is : place_at w t ≡ Mutex l at) (b : Bool) (carries : (mutex_station at).carries ≡ Some b) where
+    pub one_held : (u : ℕ) × (hand_at (place_at w u) l ≡ hand t b)
+    one_held = steady.stands.hands.carried t l b (ap (λ (x : Station). x.carries) (own_stance l (place_at w t) at is) ∙ carries)
+
+    -- it is told alone
+    pub told_it : (reply : Reply) → all_told (filled_with w (One (2 * l)) None) t reply ≡ befallen (filled_with w (One (2 * l)) None) one_held.0 reply
+    told_it reply = told_one (filled_with w (One (2 * l)) None) t l one_held.0 b reply steady.stands.hands (own w t l at steady is there) one_held.1
+
   -- a release leaves, and wakes the one that it took
-  pub release_wakes : 2 * l < length w.sections → (v : ℕ) → place_at w t ≡ Mutex l (Unlock (unlock.Leave (Some v))) → Goes w (go_by w t (Mutex l (Unlock (unlock.Leave (Some v)))) (act.TheVariants.Leave (One (2 * l)) (wakes.TheVariants.One v note.Normal))) l (acts t (Out ∷ []))
-  release_wakes line v is = wake_keeps w t l (Unlock (unlock.Leave (Some v))) steady is there line v false note.Normal Idle tt (rw there_v.is refl) refl refl refl refl refl (lets_taken (place_at w) steady.stands.hands t l v Idle holds) apart refl (rw there_v.is refl) refl (rw there_v.is refl)
-    where
-      holds : carried_at (place_at w t) l ≡ hand v false
-      holds = ap (λ (x : Station). x.carries) (own_stance l (place_at w t) _ is)
-
-      there_v : IsTakenAt (place_at w v) t l
-      there_v = is_taken (place_at w v) t l (steady.stands.hands.carried t v l false holds)
-
-      apart : v ≢ t
-      apart e = let a : Mutex l (Unlock (unlock.Leave (Some v))) ≡ Mutex l (Lock there_v.entry there_v.retries (lock.Taken t)) = sym is ∙ ap (place_at w) (sym e) ∙ there_v.is in cc
-
-  -- a fair one leaves, and tells the one that it handed the lock
-  pub tells : 2 * l < length w.sections → (bumps : Bool) (v : ℕ) (is : place_at w t ≡ Mutex l (HandOff bumps (hand_off.Leave (Some v)))) (p2 : Place) → IsOf l p2 → taken_at p2 l ≡ None → doing_on p2 l ≡ idle → station p2 ≡ nowhere → Goes w (put (befallen (filled_with w (One (2 * l)) None) v (Woken note.HandOff)) t p2) l (acts t (Out ∷ []))
-  tells line bumps v is p2 of none e s = wake_keeps w t l (HandOff bumps (hand_off.Leave (Some v))) steady is there line v true note.HandOff p2 of (rw there_v.is refl) refl none e refl refl (lets_handed (place_at w) steady.stands.hands t l v p2 holds) apart refl (rw there_v.is refl) s (rw there_v.is refl)
-    where
-      holds : carried_at (place_at w t) l ≡ hand v true
-      holds = ap (λ (x : Station). x.carries) (own_stance l (place_at w t) _ is)
-
-      there_v : IsHandedAt (place_at w v) t l
-      there_v = is_handed (place_at w v) t l (steady.stands.hands.carried t v l true holds)
-
-      apart : v ≢ t
-      apart e = let a : Mutex l (HandOff bumps (hand_off.Leave (Some v))) ≡ Mutex l (Lock there_v.entry there_v.retries (lock.Handed t)) = sym is ∙ ap (place_at w) (sym e) ∙ there_v.is in cc
-
-  -- the store that hands the lock over
-  pub hands_over : l < length w.locks → (bumps none_left : Bool) (u : ℕ) → place_at w t ≡ Mutex l (HandOff bumps (hand_off.Store (Some u) none_left)) → Goes w (go_by w t (Mutex l (HandOff bumps (hand_off.Store (Some u) none_left))) (act.TheVariants.HandOver l (op.Store (hand_off_word (Some u) none_left)) u)) l (acts t (deeds.hands_over (Some u) none_left) ++ deeds.claims_of (Some u))
-  hands_over lt bumps none_left u is = record {
-    follows = follow w after l (rules w t l at steady is there) (putting (putting (place_at w) u pu) t p2) (if none_left then 1 else 3) (with_exclusive (owners_at w l) (Some u)) (queue_at w (2 * l)) places
-        (λ k i. record { shared = get_or w.shares k (replicate ((length-set (set w.places u pu) t p2 ∙ length-set w.places u pu) i) 0); filled = operated_filled w t (Mutex l at) l (op.Store (hand_off_word (Some u) none_left)) (rules w t l at steady is there) k i })
-        (changed_set (λ x. x.word) w.locks l _ (unlocked kind.TheVariants.Mutex) lt) (changed_set (λ x. x.owners) w.locks l _ (unlocked kind.TheVariants.Mutex) lt)
-        (unchanged (λ k. queue_at w (2 * k)) l) (λ k. refl) same_kinds
-        (λ k ne x. alike_both l k (place_at w) u pu t p2 of_u of_pu own_t refl apart ne x)
-        (hands_acts mutex l (base_at w l) (word_at w l) (owners_at w l) (queue_at w (2 * l)) (queue_at w (2 * l + 1)) (place_at w) steady.stands.hands t u bumps none_left refl unshared is none_left)
-        (handing mutex l (base_at w l) (word_at w l) (owners_at w l) (queue_at w (2 * l)) (queue_at w (2 * l + 1)) (place_at w) steady.stands.hands t u bumps none_left refl unshared is none_left refl)
-        (hands_needed l (base_at w l) (word_at w l) (owners_at w l) (queue_at w (2 * l)) (queue_at w (2 * l + 1)) (place_at w) steady.stands.hands t u bumps none_left is (site_l w t l at steady is there) none_left refl)
-        (coded none_left);
-    stands = hands_lock w after steady.stands same_kinds l t u apart (of_mutex w t l at steady is there) own_t of_u p2 pu refl of_pu places (λ key. refl) (λ key. refl) (ap station is) (rw there_u.is refl) refl (rw there_u.is refl);
-  }
+  pub release_wakes : 2 * l < length w.sections → place_at w t ≡ Mutex l (Unlock (unlock.Leave true)) → Goes w (go_by w t (Mutex l (Unlock (unlock.Leave true))) (act.TheVariants.Leave (One (2 * l)) (wakes.TheVariants.All note.Normal))) l (acts t (Out ∷ []))
+  release_wakes line is = subst (λ (z : State). Goes w (put z t Idle) l (acts t (Out ∷ []))) (sym (told_it at is false refl (Woken note.Normal)))
+      (wake_keeps w t l at steady is there line v false note.Normal Idle tt (rw there_v.is refl) refl refl refl refl refl (lets_taken (place_at w) steady.stands.hands t l v Idle held) apart refl (rw there_v.is refl) refl (rw there_v.is refl))
     where
       at : MutexPlace
-      at = HandOff bumps (hand_off.Store (Some u) none_left)
+      at = Unlock (unlock.Leave true)
+
+      v : ℕ
+      v = (one_held at is false refl).0
+
+      held : hand_at (place_at w v) l ≡ hand t false
+      held = (one_held at is false refl).1
+
+      there_v : IsTakenAt (place_at w v) t l
+      there_v = is_taken (place_at w v) t l held
+
+      apart : v ≢ t
+      apart e = let a : Mutex l (Unlock (unlock.Leave true)) ≡ Mutex l (Lock there_v.entry there_v.retries (lock.Taken t)) = sym is ∙ ap (place_at w) (sym e) ∙ there_v.is in cc
+
+  -- a fair one leaves, and tells the one that it handed the lock
+  pub tells : 2 * l < length w.sections → (bumps : Bool) (is : place_at w t ≡ Mutex l (HandOff bumps (hand_off.Leave true))) (p2 : Place) → IsOf l p2 → taken_at p2 l ≡ None → doing_on p2 l ≡ idle → station p2 ≡ nowhere → Goes w (put (all_told (filled_with w (One (2 * l)) None) t (Woken note.HandOff)) t p2) l (acts t (Out ∷ []))
+  tells line bumps is p2 of none e s = subst (λ (z : State). Goes w (put z t p2) l (acts t (Out ∷ []))) (sym (told_it at is true refl (Woken note.HandOff)))
+      (wake_keeps w t l at steady is there line v true note.HandOff p2 of (rw there_v.is refl) refl none e refl refl (lets_handed (place_at w) steady.stands.hands t l v p2 held) apart refl (rw there_v.is refl) s (rw there_v.is refl))
+    where
+      at : MutexPlace
+      at = HandOff bumps (hand_off.Leave true)
+
+      v : ℕ
+      v = (one_held at is true refl).0
+
+      held : hand_at (place_at w v) l ≡ hand t true
+      held = (one_held at is true refl).1
+
+      there_v : IsHandedAt (place_at w v) t l
+      there_v = is_handed (place_at w v) t l held
+
+      apart : v ≢ t
+      apart e = let a : Mutex l (HandOff bumps (hand_off.Leave true)) ≡ Mutex l (Lock there_v.entry there_v.retries (lock.Handed t)) = sym is ∙ ap (place_at w) (sym e) ∙ there_v.is in cc
+
+  -- the store that hands the lock over
+  pub hands_over : l < length w.locks → (bumps none_left : Bool) (u : ℕ) → place_at w t ≡ Mutex l (HandOff bumps (hand_off.Store true none_left)) → hand_at (place_at w u) l ≡ hand t false → Goes w (go_by w t (Mutex l (HandOff bumps (hand_off.Store true none_left))) (act.TheVariants.HandOver l (op.Store (hand_off_word true none_left)))) l (acts t (deeds.hands_over (Some u) none_left) ++ deeds.claims_of (Some u))
+  hands_over lt bumps none_left u is held = subst (λ (z : State). Goes w (put z t p2) l (acts t (deeds.hands_over (Some u) none_left) ++ deeds.claims_of (Some u))) (sym told) (record {
+    follows = follow w after l (rules w t l at steady is there) (putting (putting (place_at w) u pu) t p2) (if none_left then 1 else 3) (with_exclusive (owners_at w l) (Some u)) (queue_at w (2 * l)) places
+        (λ k i. record { shared = get_or w.shares k (replicate ((length-set (set w.places u pu) t p2 ∙ length-set w.places u pu) i) 0); filled = given_filled w t (Mutex l at) l (op.Store (hand_off_word true none_left)) (rules w t l at steady is there) k i })
+        (changed_set (λ x. x.word) w.locks l _ (unlocked kind.TheVariants.Mutex) lt) owners_given
+        (unchanged (λ k. queue_at w (2 * k)) l) (λ k. refl) same_kinds
+        (λ k ne x. alike_both l k (place_at w) u pu t p2 of_u of_pu own_t refl apart ne x)
+        (hands_acts mutex l (base_at w l) (word_at w l) (owners_at w l) (queue_at w (2 * l)) (queue_at w (2 * l + 1)) (place_at w) steady.stands.hands t u bumps none_left refl unshared is held none_left)
+        (handing mutex l (base_at w l) (word_at w l) (owners_at w l) (queue_at w (2 * l)) (queue_at w (2 * l + 1)) (place_at w) steady.stands.hands t u bumps none_left refl unshared is held none_left refl)
+        (hands_needed l (base_at w l) (word_at w l) (owners_at w l) (queue_at w (2 * l)) (queue_at w (2 * l + 1)) (place_at w) steady.stands.hands t u bumps none_left is held (site_l w t l at steady is there) none_left refl)
+        (coded none_left);
+    stands = hands_lock w after steady.stands same_kinds l t u apart (of_mutex w t l at steady is there) own_t of_u p2 pu refl of_pu places (λ key. refl) (λ key. refl) (ap station is) (rw there_u.is refl) refl (rw there_u.is refl);
+  })
+    where
+      at : MutexPlace
+      at = HandOff bumps (hand_off.Store true none_left)
 
       p2 : Place
-      p2 = Mutex l (HandOff bumps (hand_off.Leave (Some u)))
+      p2 = Mutex l (HandOff bumps (hand_off.Leave true))
 
       pu : Place
       pu = next_place (place_at w u) (HandedBy t)
 
       there_u : IsTakenAt (place_at w u) t l
-      there_u = is_taken (place_at w u) t l (steady.stands.hands.carried t u l false (ap (λ (x : Station). x.carries) (own_stance l (place_at w t) _ is)))
+      there_u = is_taken (place_at w u) t l held
 
       own_t : IsOf l (place_at w t)
       own_t = rw is refl
@@ -341,13 +365,25 @@ module _ (w : State) (t l : ℕ) (steady : IsSteady w) (there : t < length w.pla
       of_pu = next_of l (place_at w u) (HandedBy t) of_u
 
       apart : u ≢ t
-      apart e = let a : Mutex l (HandOff bumps (hand_off.Store (Some u) none_left)) ≡ Mutex l (Lock there_u.entry there_u.retries (lock.Taken t)) = sym is ∙ ap (place_at w) (sym e) ∙ there_u.is in cc
+      apart e = let a : Mutex l (HandOff bumps (hand_off.Store true none_left)) ≡ Mutex l (Lock there_u.entry there_u.retries (lock.Taken t)) = sym is ∙ ap (place_at w) (sym e) ∙ there_u.is in cc
+
+      before : State
+      before = given w t (Mutex l at) l (op.Store (hand_off_word true none_left))
 
       after : State
-      after = go_by w t (Mutex l at) (act.TheVariants.HandOver l (op.Store (hand_off_word (Some u) none_left)) u)
+      after = put (befallen before u (HandedBy t)) t p2
+
+      told : all_told before t (HandedBy t) ≡ befallen before u (HandedBy t)
+      told = told_one before t l u false (HandedBy t) steady.stands.hands own_t held
+
+      owners_given : Changed (owners_at w) (owners_at after) l (with_exclusive (owners_at w l) (Some u))
+      owners_given = record {
+        here = ap (λ x. x.owners) (get_or-set_same w.locks l _ (unlocked kind.TheVariants.Mutex) lt) ∙ ap (with_exclusive (owners_at w l)) (heir_one w t l u false steady.stands.hands own_t held);
+        other = λ k ne. ap (λ x. x.owners) (get_or-set_other w.locks l k _ (unlocked kind.TheVariants.Mutex) ne);
+      }
 
       places : place_at after ≡ putting (putting (place_at w) u pu) t p2
-      places = put_places (befallen (operated w t (Mutex l at) l (op.Store (hand_off_word (Some u) none_left))) u (HandedBy t)) t p2 (λ h. absurd (let a : length (set w.places u pu) ≡ length w.places = length-set w.places u pu in omega arith))
+      places = put_places (befallen before u (HandedBy t)) t p2 (λ h. absurd (let a : length (set w.places u pu) ≡ length w.places = length-set w.places u pu in omega arith))
           ∙ ap (λ (f : ℕ → Place). putting f t p2) (goes_from w u (HandedBy t))
 
       unshared : sum (shares_at w l) ≡ 0
@@ -358,7 +394,7 @@ module _ (w : State) (t l : ℕ) (steady : IsSteady w) (there : t < length w.pla
       coded false = refl
 
       same_kinds : (k : ℕ) → kind_at after k ≡ kind_at w k
-      same_kinds k = operated_kinds w t (Mutex l at) l (op.Store (hand_off_word (Some u) none_left)) k
+      same_kinds k = given_kinds w t (Mutex l at) l (op.Store (hand_off_word true none_left)) k
 
 -- ---------------------------------------------------------------- the first of a line is taken
 
@@ -373,7 +409,7 @@ module _ (w : State) (t l : ℕ) (at : MutexPlace) (steady : IsSteady w) (is : p
 
   pub take_keeps : (p2 : Place) → IsOf l p2 → taken_at (Mutex l at) l ≡ None → taken_at p2 l ≡ None → (mutex_station at).carries ≡ None → (mutex_station at).hand ≡ None → (mutex_doing at).inside ≡ Some Main → (mutex_doing at).carries ≡ false → (mutex_doing at).wakes ≢ Some Second
       → doing_on p2 l ≡ record (mutex_doing at) { wakes = None; carries = true; covers = true; empty = found Main (is_empty (map queued_of rest)) }
-      → station p2 ≡ record (mutex_station at) { carries = hand x.thread false }
+      → station p2 ≡ record (mutex_station at) { carries = Some false }
       → Goes w (put (befallen (record w { queues = first_taken w.queues (2 * l) }) x.thread (TakenBy t)) t p2) l (acts t (Does (TakeFirst (queued x.thread)) ∷ []))
   take_keeps p2 of none none2 nobody free i c v e s = record {
     follows = follow w after l (rules w t l at steady is there) (putting (putting (place_at w) x.thread px) t p2) (word_at w l) (owners_at w l) rest places
@@ -390,7 +426,7 @@ module _ (w : State) (t l : ℕ) (at : MutexPlace) (steady : IsSteady w) (is : p
         (word_l w t l at steady is there);
     stands = takes w after steady.stands (λ k. refl) l t x.thread apart (of_mutex w t l at steady is there) own_t of_x p2 px of of_px places rest x (λ key. refl)
         (λ key ne. get_or-set_other w.queues (2 * l) key (drop 1 (queue_at w (2 * l))) [] (λ h. ne h)) first (get_or-set_same w.queues (2 * l) (drop 1 (queue_at w (2 * l))) [] line ∙ ap (drop 1) first) refl
-        (ap (λ (y : Place). (station y).carries) is ∙ nobody) (ap (λ (y : Place). (station y).hand) is ∙ free) (rw asleep refl) (s ∙ sym (ap (λ y. record (station y) { carries = hand x.thread false }) is)) (rw asleep refl);
+        (ap (λ (y : Place). (station y).carries) is ∙ nobody) (ap (λ (y : Place). (station y).hand) is ∙ free) (rw asleep refl) (s ∙ sym (ap (λ y. record (station y) { carries = Some false }) is)) (rw asleep refl);
   }
     where
       px : Place
@@ -419,4 +455,4 @@ module _ (w : State) (t l : ℕ) (at : MutexPlace) (steady : IsSteady w) (is : p
       needed : AllNeeded mutex (acts t (Does (TakeFirst (queued x.thread)) ∷ [])) (mutex_at w l)
       needed = subst (λ (q : List Waiter). AllNeeded mutex (acts t (Does (TakeFirst (queued x.thread)) ∷ [])) (seen l (base_at w l) (word_at w l) (owners_at w l) q (queue_at w (2 * l + 1)) (place_at w))) (sym first)
           (take_needed l (base_at w l) (word_at w l) (owners_at w l) (queue_at w (2 * l + 1)) rest x (place_at w) t site_first (mutex_doing at) (own_doing l (place_at w t) at is)
-          (λ u. untaken (place_at w u) t l (λ h. let a : carried_at (place_at w t) l ≡ hand u false = steady.stands.hands.taken t u l false h in let b : carried_at (place_at w t) l ≡ None = ap (λ (y : Station). y.carries) (own_stance l (place_at w t) at is) ∙ nobody in cc)) i c v)
+          (λ u. untaken (place_at w u) t l (λ h. let a : carried_at (place_at w t) l ≡ Some false = steady.stands.hands.taken t u l false h in let b : carried_at (place_at w t) l ≡ None = ap (λ (y : Station). y.carries) (own_stance l (place_at w t) at is) ∙ nobody in cc)) i c v)

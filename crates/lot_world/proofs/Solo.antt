@@ -37,28 +37,32 @@ use Rattle.lot_steps.specs.MutexSteps.{mutex_first, is_locked, is_parked, entere
 use Rattle.lot_calls.specs.Kinds.{is_fair}
 use Rattle.lot_calls.specs.Calls.{lock_in}
 use Rattle.lot_steps.specs.Steps.{act_of, next_place, next_act, mutex_goes, mutex_does, lock_of, first_place}
-use Rattle.lot_world.specs.Machine.{State, place_at, word_at, kind_at, queue_at, section_at, go_of, after, solo}
+use Rattle.lot_world.specs.Machine.{State, place_at, word_at, kind_at, queue_at, section_at, go_of, after, solo, heir_from, is_there}
 use Rattle.lot_world.specs.Fits.{IsShaped, PlaceFits}
 use Rattle.lot_world.specs.MutexPromises.{IsMutexWord}
-use Rattle.abstract_locks.specs.Sites.{Main}
-use Rattle.lot_world.specs.MutexDeeds.{station, station_at}
-use Rattle.lot_world.specs.SitesOf.{IsSteady, CallsMutex, is_mutex}
+use Rattle.abstract_locks.specs.Sites.{Main, Site}
+use Rattle.lot_world.specs.MutexDeeds.{station, station_at, Station, hand, acts, takes, queued}
+use Rattle.lot_world.specs.SitesOf.{IsSteady, CallsMutex, is_mutex, Goes, hand_at}
 use Rattle.lot_world.proofs.ExclusiveOwners.{by_code, owner_after}
-use Rattle.abstract_locks.specs.Locks.{Rules, MayEnter, IsBlocked}
+use Rattle.abstract_locks.specs.Locks.{Rules, MayEnter, IsBlocked, first_thread}
 use Rattle.abstract_locks.specs.Purposes.{Releases, Bumps, Patience, Patient, Timed, Try, mutex_purpose}
 use Rattle.abstract_locks.specs.Runs.{rules_at, purpose_at}
 use Rattle.abstract_locks.specs.Picks.{queued_of}
-use Rattle.lot_world.specs.Refinement.{lock_state, locks_of, owner_at}
+use Rattle.lot_world.specs.Refinement.{lock_state, locks_of, owner_at, taken_at}
 use Rattle.lot_world.specs.Solo.{Rests, IsUnderWay, HasItsWay, EntersAlone, BumpsAlone, EndsAlone, successor}
 use Rattle.lot_world.proofs.MutexTable.{mutex, queued_behind}
 use Rattle.lot_world.proofs.StandsMoved.{mutex_rules}
 use Rattle.lot_world.proofs.MutexEvents.{free_word, owned_word, decides}
 use Rattle.lot_world.proofs.LockSteps.{purpose_is}
 use Rattle.lot_world.proofs.Counts.{first_times}
-use Rattle.lot_world.proofs.Glue.{nothing_at}
+use Rattle.lot_world.proofs.Glue.{nothing_at, IsTakenAt, put_here, station_here, own_stance, heir_one, same}
 use Rattle.lot_world.proofs.SitesPromise.{parked_at}
+use Rattle.lot_steps.specs.declared.mutex.MutexPlace.{MutexPlace}
+use Rattle.lot_world.proofs.LockEvents.{taken_place}
+use Rattle.lot_world.proofs.SitesKept.{go_by}
+use Rattle.lot_world.proofs.GoneKept.{gone_goes}
 use Rattle.lot_world.proofs.AtPlaces.{coded as words_coded, absent, owns}
-use Rattle.lot_world.proofs.SoloActs.{Leads, leads_rest, leads_step, Facing, Faces, word_faces, enter_faces, leave_faces, wake_faces, hand_faces, accept_faces, park_faces, unparked_faces, remove_faces, take_faces}
+use Rattle.lot_world.proofs.SoloActs.{Leads, leads_rest, leads_step, Facing, Faces, word_faces, enter_faces, leave_faces, wake_faces, hand_faces, accept_faces, park_faces, unparked_faces, remove_faces, take_faces, act_led}
 
 leads_more : (k m : ℕ) (w : State) (t : ℕ) (P : State → Outcome → Type 0) → k ≤ m → Leads k w t P → Leads m w t P
 leads_more k m w t P le h n last bound = h n last (omega arith)
@@ -212,19 +216,19 @@ abbrev pub UnlockEnds : ℕ → Option ℕ → State → Outcome → Type 0
 UnlockEnds l o x y = (y ≡ outcome.TheVariants.End answer.TheVariants.Ok) × (owner_at x l ≡ o)
 
 module _ (t l : ℕ) where
-  woke_leads : (taken : Option ℕ) (q : List Waiter) (v : ℕ) (o s : Option ℕ) (w : State) → Facing w t l (Mutex l (Unlock (unlock.Leave taken))) v o s q → Leads 1 w t (UnlockEnds l o)
-  woke_leads None q v o s w f = let h = leave_faces w t l (Mutex l (Unlock (unlock.Leave None))) v o s q f refl in leads_rest w t (UnlockEnds l o) (outcome.TheVariants.End answer.TheVariants.Ok) h.0 tt (refl, h.1.owner)
-  woke_leads (Some u) q v o s w f = let h = wake_faces w t l (Mutex l (Unlock (unlock.Leave (Some u)))) v o s q f u note.Normal refl in leads_rest w t (UnlockEnds l o) (outcome.TheVariants.End answer.TheVariants.Ok) h.0 tt (refl, h.1.owner)
+  woke_leads : (any : Bool) (q : List Waiter) (v : ℕ) (o s : Option ℕ) (w : State) → Facing w t l (Mutex l (Unlock (unlock.Leave any))) v o s q → Leads 1 w t (UnlockEnds l o)
+  woke_leads false q v o s w f = let h = leave_faces w t l (Mutex l (Unlock (unlock.Leave false))) v o s q f refl in leads_rest w t (UnlockEnds l o) (outcome.TheVariants.End answer.TheVariants.Ok) h.0 tt (refl, h.1.owner)
+  woke_leads true q v o s w f = let h = wake_faces w t l (Mutex l (Unlock (unlock.Leave true))) v o s q f note.Normal refl in leads_rest w t (UnlockEnds l o) (outcome.TheVariants.End answer.TheVariants.Ok) h.0 tt (refl, h.1.owner)
 
-  cleared_leads : (taken : Option ℕ) (q : List Waiter) (v : ℕ) (o s : Option ℕ) (w : State) → Facing w t l (Mutex l (Unlock (unlock.Clear taken))) v o s q → Leads 2 w t (UnlockEnds l o)
-  cleared_leads taken q v o s w f = let h = word_faces w t l (Mutex l (Unlock (unlock.Clear taken))) v o s q f (op.TheVariants.And NOT_PARKED) refl in leads_step w t (UnlockEnds l o) 1 h.0 (woke_leads taken q _ o s _ h.1)
+  cleared_leads : (any : Bool) (q : List Waiter) (v : ℕ) (o s : Option ℕ) (w : State) → Facing w t l (Mutex l (Unlock (unlock.Clear any))) v o s q → Leads 2 w t (UnlockEnds l o)
+  cleared_leads any q v o s w f = let h = word_faces w t l (Mutex l (Unlock (unlock.Clear any))) v o s q f (op.TheVariants.And NOT_PARKED) refl in leads_step w t (UnlockEnds l o) 1 h.0 (woke_leads any q _ o s _ h.1)
 
   take_leads : (q : List Waiter) (v : ℕ) (o s : Option ℕ) (w : State) → Facing w t l (Mutex l (Unlock unlock.Take)) v o s q → Leads 3 w t (UnlockEnds l o)
   take_leads q v o s w f = either (length (drop 1 q) == 0) (take_faces w t l (Mutex l (Unlock unlock.Take)) v o s q f refl)
     where
-      either : (b : Bool) → Faces w t l (next_place (Mutex l (Unlock unlock.Take)) (Took (first_of q) b)) (outcome_of (next_act (Mutex l (Unlock unlock.Take)) (Took (first_of q) b))) v o s (drop 1 q) → Leads 3 w t (UnlockEnds l o)
-      either true h = leads_step w t (UnlockEnds l o) 2 h.0 (cleared_leads (first_of q) (drop 1 q) v o s _ h.1)
-      either false h = leads_more 2 3 w t (UnlockEnds l o) (omega arith) (leads_step w t (UnlockEnds l o) 1 h.0 (woke_leads (first_of q) (drop 1 q) v o s _ h.1))
+      either : (b : Bool) → Faces w t l (next_place (Mutex l (Unlock unlock.Take)) (Took (is_there (first_of q)) b)) (outcome_of (next_act (Mutex l (Unlock unlock.Take)) (Took (is_there (first_of q)) b))) v o s (drop 1 q) → Leads 3 w t (UnlockEnds l o)
+      either true h = leads_step w t (UnlockEnds l o) 2 h.0 (cleared_leads (is_there (first_of q)) (drop 1 q) v o s _ h.1)
+      either false h = leads_more 2 3 w t (UnlockEnds l o) (omega arith) (leads_step w t (UnlockEnds l o) 1 h.0 (woke_leads (is_there (first_of q)) (drop 1 q) v o s _ h.1))
 
   enter_leads : (q : List Waiter) (v : ℕ) (o : Option ℕ) (w : State) → Facing w t l (Mutex l (Unlock unlock.Enter)) v o None q → Leads 4 w t (UnlockEnds l o)
   enter_leads q v o w f = let h = enter_faces w t l (Mutex l (Unlock unlock.Enter)) v o None q f refl refl in leads_step w t (UnlockEnds l o) 3 h.0 (take_leads q v o (Some t) _ h.1)
@@ -244,8 +248,8 @@ module _ (t l : ℕ) where
   unlock_rests unlock.Subtract v o s q w f way = leads_more 5 8 w t (λ c y. Rests y) (omega arith) (leads_so 5 w t (UnlockEnds l None) (λ c y. Rests y) (ends_so None) (subtract_leads q v o w (subst (λ x. Facing w t l (Mutex l (Unlock unlock.Subtract)) v o x q) (way refl) f)))
   unlock_rests unlock.Enter v o s q w f way = leads_more 4 8 w t (λ c y. Rests y) (omega arith) (leads_so 4 w t (UnlockEnds l o) (λ c y. Rests y) (ends_so o) (enter_leads q v o w (subst (λ x. Facing w t l (Mutex l (Unlock unlock.Enter)) v o x q) (way refl) f)))
   unlock_rests unlock.Take v o s q w f way = leads_more 3 8 w t (λ c y. Rests y) (omega arith) (leads_so 3 w t (UnlockEnds l o) (λ c y. Rests y) (ends_so o) (take_leads q v o s w f))
-  unlock_rests (unlock.Clear taken) v o s q w f way = leads_more 2 8 w t (λ c y. Rests y) (omega arith) (leads_so 2 w t (UnlockEnds l o) (λ c y. Rests y) (ends_so o) (cleared_leads taken q v o s w f))
-  unlock_rests (unlock.Leave taken) v o s q w f way = leads_more 1 8 w t (λ c y. Rests y) (omega arith) (leads_so 1 w t (UnlockEnds l o) (λ c y. Rests y) (ends_so o) (woke_leads taken q v o s w f))
+  unlock_rests (unlock.Clear any) v o s q w f way = leads_more 2 8 w t (λ c y. Rests y) (omega arith) (leads_so 2 w t (UnlockEnds l o) (λ c y. Rests y) (ends_so o) (cleared_leads any q v o s w f))
+  unlock_rests (unlock.Leave any) v o s q w f way = leads_more 1 8 w t (λ c y. Rests y) (omega arith) (leads_so 1 w t (UnlockEnds l o) (λ c y. Rests y) (ends_so o) (woke_leads any q v o s w f))
 
 -- ---------------------------------------------------------------- fair releases
 
@@ -272,29 +276,68 @@ unparked : (v : ℕ) (o : Option ℕ) → IsMutexWord v o → is_parked v ≡ fa
 unparked v o c h = by_code (λ v o. is_parked v ≡ false → v < 2) (λ h. omega arith) (λ h. absurd cc) (λ u h. omega arith) (λ u h. absurd cc) v o c h
 
 module _ (t l : ℕ) where
-  told_leads : (bumps : Bool) (taken : Option ℕ) (q : List Waiter) (v : ℕ) (o s : Option ℕ) (w : State) → Facing w t l (Mutex l (HandOff bumps (hand_off.Leave taken))) v o s q → Leads 7 w t (FairEnds bumps t l o q)
-  told_leads true None q v o s w f = let h = leave_faces w t l (Mutex l (HandOff true (hand_off.Leave None))) v o s q f refl in
+  told_leads : (bumps any : Bool) (q : List Waiter) (v : ℕ) (o s : Option ℕ) (w : State) → Facing w t l (Mutex l (HandOff bumps (hand_off.Leave any))) v o s q → Leads 7 w t (FairEnds bumps t l o q)
+  told_leads true false q v o s w f = let h = leave_faces w t l (Mutex l (HandOff true (hand_off.Leave false))) v o s q f refl in
       leads_step w t (FairEnds true t l o q) 6 h.0 (first_leads t l entries.Bump q false v o (coded t l entries.Bump q w _ v o s f) _ h.1)
-  told_leads true (Some u) q v o s w f = let h = wake_faces w t l (Mutex l (HandOff true (hand_off.Leave (Some u)))) v o s q f u note.HandOff refl in
+  told_leads true true q v o s w f = let h = wake_faces w t l (Mutex l (HandOff true (hand_off.Leave true))) v o s q f note.HandOff refl in
       leads_step w t (FairEnds true t l o q) 6 h.0 (first_leads t l entries.Bump q false v o (coded t l entries.Bump q w _ v o s f) _ h.1)
-  told_leads false None q v o s w f = let h = leave_faces w t l (Mutex l (HandOff false (hand_off.Leave None))) v o s q f refl in
+  told_leads false false q v o s w f = let h = leave_faces w t l (Mutex l (HandOff false (hand_off.Leave false))) v o s q f refl in
       leads_more 1 7 w t (UnlockEnds l o) (omega arith) (leads_rest w t (UnlockEnds l o) (outcome.TheVariants.End answer.TheVariants.Ok) h.0 tt (refl, h.1.owner))
-  told_leads false (Some u) q v o s w f = let h = wake_faces w t l (Mutex l (HandOff false (hand_off.Leave (Some u)))) v o s q f u note.HandOff refl in
+  told_leads false true q v o s w f = let h = wake_faces w t l (Mutex l (HandOff false (hand_off.Leave true))) v o s q f note.HandOff refl in
       leads_more 1 7 w t (UnlockEnds l o) (omega arith) (leads_rest w t (UnlockEnds l o) (outcome.TheVariants.End answer.TheVariants.Ok) h.0 tt (refl, h.1.owner))
 
-  store_leads : (bumps none_left : Bool) (taken : Option ℕ) (q : List Waiter) (v : ℕ) (o s : Option ℕ) (w : State) → Facing w t l (Mutex l (HandOff bumps (hand_off.Store taken none_left))) v o s q → Leads 8 w t (FairEnds bumps t l taken q)
-  store_leads bumps none_left None q v o s w f = let h = word_faces w t l (Mutex l (HandOff bumps (hand_off.Store None none_left))) v o s q f (op.TheVariants.Store 0) refl in
-      leads_step w t (FairEnds bumps t l None q) 7 h.0 (told_leads bumps None q 0 None s _ h.1)
-  store_leads bumps none_left (Some u) q v o s w f = let h = hand_faces w t l (Mutex l (HandOff bumps (hand_off.Store (Some u) none_left))) v o s q f (op.TheVariants.Store (hand_off_word (Some u) none_left)) u refl in
-      leads_step w t (FairEnds bumps t l (Some u) q) 7 h.0 (told_leads bumps (Some u) q (hand_off_word (Some u) none_left) (Some u) s _ h.1)
+  -- the store, where the heir is this one, if there is any
+  store_leads : (bumps none_left : Bool) (to : Option ℕ) (q : List Waiter) (v : ℕ) (o s : Option ℕ) (w : State) → Facing w t l (Mutex l (HandOff bumps (hand_off.Store (is_there to) none_left))) v o s q
+      → ((u : ℕ) → to ≡ Some u → heir_from t 0 w.places ≡ Some u) → Leads 8 w t (FairEnds bumps t l to q)
+  store_leads bumps none_left None q v o s w f heir = let h = word_faces w t l (Mutex l (HandOff bumps (hand_off.Store false none_left))) v o s q f (op.TheVariants.Store 0) refl in
+      leads_step w t (FairEnds bumps t l None q) 7 h.0 (told_leads bumps false q 0 None s _ h.1)
+  store_leads bumps none_left (Some u) q v o s w f heir = let h = hand_faces w t l (Mutex l (HandOff bumps (hand_off.Store true none_left))) v o s q f (op.TheVariants.Store (hand_off_word true none_left)) u refl (heir u refl) in
+      leads_step w t (FairEnds bumps t l (Some u) q) 7 h.0 (told_leads bumps true q (hand_off_word true none_left) (Some u) s _ h.1)
+
+  -- the first of the queue is in its hand then
+  module _ (bumps : Bool) (v : ℕ) (o s : Option ℕ) (x : Waiter) (rest : List Waiter) (w : State) (f : Facing w t l (Mutex l (HandOff bumps hand_off.Take)) v o s (x ∷ rest)) where
+    abbrev taking : MutexPlace
+    taking = HandOff bumps hand_off.Take
+
+    abbrev taken_then : State
+    taken_then = go_by w t (Mutex l taking) (act.TheVariants.TakeFirst (2 * l))
+
+    first_held : (whom : Option ℕ) → Goes w taken_then l (acts t (takes whom)) → IsTakenAt (place_at taken_then x.thread) t l
+    first_held None goes = absurd (let none : map queued_of (queue_at w (2 * l)) ≡ [] = goes.follows.needed.0.2 in let some : map queued_of (queue_at w (2 * l)) ≡ queued_of x ∷ map queued_of rest = ap (map queued_of) f.queue in cc)
+    first_held (Some u) goes =
+        let line : map queued_of (queue_at w (2 * l)) ≡ queued u ∷ goes.follows.needed.0.0.0.0 = goes.follows.needed.0.0.0.1 in
+        let first : queued u ∷ goes.follows.needed.0.0.0.0 ≡ queued_of x ∷ map queued_of rest = sym line ∙ ap (map queued_of) f.queue in
+        let who : Some u ≡ Some x.thread = ap first_thread first in
+        let same_one : u ≡ x.thread = cc in
+        let hand : taken_at (place_at taken_then u) l ≡ Some (record { by = t; want = Exclusive }) = ap (λ (z : Site). z.lock.taken u) goes.follows.site ∙ put_here (λ k. taken_at (place_at w k) l) u (Some (record { by = t; want = Exclusive })) in
+        taken_place (place_at taken_then x.thread) t l (rw (← same_one, hand) (same t))
+
+    heir_first : heir_from t 0 (after w (go_of t)).places ≡ Some x.thread
+    heir_first = heir_one (after w (go_of t)) t l x.thread false steady_then.stands.hands (rw here.place refl) (subst (λ (z : State). hand_at (place_at z x.thread) l ≡ hand t false) (sym led) held)
+      where
+        led : after w (go_of t) ≡ taken_then
+        led = act_led w t l (Mutex l taking) v o s (x ∷ rest) f refl
+
+        here : Facing (after w (go_of t)) t l (Mutex l (HandOff bumps (hand_off.Store true (length rest == 0)))) v o s rest
+        here = (take_faces w t l (Mutex l taking) v o s (x ∷ rest) f refl).1
+
+        steady_then : IsSteady (after w (go_of t))
+        steady_then = here.steady
+
+        goes : (whom : Option ℕ) × Goes w taken_then l (acts t (takes whom))
+        goes = gone_goes w t f.steady f.shape f.thread l taking f.place f.lock refl
+
+        k : IsTakenAt (place_at taken_then x.thread) t l
+        k = first_held goes.0 goes.1
+
+        held : hand_at (place_at taken_then x.thread) l ≡ hand t false
+        held = ap (λ p. hand_at p l) k.is ∙ ap (λ (y : Station). y.hand) (station_here l (Mutex l (Lock k.entry k.retries (Taken t))) refl)
 
   fair_take_leads : (bumps : Bool) (q : List Waiter) (v : ℕ) (o s : Option ℕ) (w : State) → Facing w t l (Mutex l (HandOff bumps hand_off.Take)) v o s q → Leads 9 w t (FairEnds bumps t l (first_of q) (drop 1 q))
-  fair_take_leads bumps q v o s w f = let h = take_faces w t l (Mutex l (HandOff bumps hand_off.Take)) v o s q f refl in
-      leads_step w t (FairEnds bumps t l (first_of q) (drop 1 q)) 8 (h.0 ∙ stores (first_of q)) (store_leads bumps (length (drop 1 q) == 0) (first_of q) (drop 1 q) v o s _ h.1)
-    where
-      stores : (x : Option ℕ) → outcome_of (next_act (Mutex l (HandOff bumps hand_off.Take)) (Took x (length (drop 1 q) == 0))) ≡ outcome.TheVariants.Step
-      stores None = refl
-      stores (Some u) = refl
+  fair_take_leads bumps [] v o s w f = let h = take_faces w t l (Mutex l (HandOff bumps hand_off.Take)) v o s [] f refl in
+      leads_step w t (FairEnds bumps t l None []) 8 h.0 (store_leads bumps true None [] v o s _ h.1 (λ u e. absurd cc))
+  fair_take_leads bumps (x ∷ rest) v o s w f = let h = take_faces w t l (Mutex l (HandOff bumps hand_off.Take)) v o s (x ∷ rest) f refl in
+      leads_step w t (FairEnds bumps t l (Some x.thread) rest) 8 h.0 (store_leads bumps (length rest == 0) (Some x.thread) rest v o s _ h.1 (λ u e. heir_first bumps v o s x rest w f ∙ e))
 
   fair_enter_leads : (bumps : Bool) (q : List Waiter) (v : ℕ) (o : Option ℕ) (w : State) → Facing w t l (Mutex l (HandOff bumps hand_off.Enter)) v o None q → Leads 10 w t (FairEnds bumps t l (first_of q) (drop 1 q))
   fair_enter_leads bumps q v o w f = let h = enter_faces w t l (Mutex l (HandOff bumps hand_off.Enter)) v o None q f refl refl in
@@ -330,8 +373,11 @@ module _ (t l : ℕ) where
   hand_off_rests : (bumps : Bool) (a : HandOffAt) (v : ℕ) (o s : Option ℕ) (q : List Waiter) (w : State) → Facing w t l (Mutex l (HandOff bumps a)) v o s q → ((station (Mutex l (HandOff bumps a))).inside ≡ None → s ≡ None) → Leads 12 w t (λ c y. Rests y)
   hand_off_rests bumps hand_off.Enter v o s q w f way = fair_rests 10 bumps (first_of q) (drop 1 q) w (omega arith) (fair_enter_leads bumps q v o w (subst (λ x. Facing w t l (Mutex l (HandOff bumps hand_off.Enter)) v o x q) (way refl) f))
   hand_off_rests bumps hand_off.Take v o s q w f way = fair_rests 9 bumps (first_of q) (drop 1 q) w (omega arith) (fair_take_leads bumps q v o s w f)
-  hand_off_rests bumps (hand_off.Store taken none_left) v o s q w f way = fair_rests 8 bumps taken q w (omega arith) (store_leads bumps none_left taken q v o s w f)
-  hand_off_rests bumps (hand_off.Leave taken) v o s q w f way = fair_rests 7 bumps o q w (omega arith) (told_leads bumps taken q v o s w f)
+  hand_off_rests bumps (hand_off.Store false none_left) v o s q w f way = fair_rests 8 bumps None q w (omega arith) (store_leads bumps none_left None q v o s w f (λ u e. absurd cc))
+  hand_off_rests bumps (hand_off.Store true none_left) v o s q w f way =
+      let one : (u : ℕ) × (hand_at (place_at w u) l ≡ hand t false) = f.steady.stands.hands.carried t l false (ap (λ (x : Station). x.carries) (own_stance l (place_at w t) (HandOff bumps (hand_off.Store true none_left)) f.place)) in
+      fair_rests 8 bumps (Some one.0) q w (omega arith) (store_leads bumps none_left (Some one.0) q v o s w f (λ u e. heir_one w t l one.0 false f.steady.stands.hands (rw f.place refl) one.1 ∙ e))
+  hand_off_rests bumps (hand_off.Leave any) v o s q w f way = fair_rests 7 bumps o q w (omega arith) (told_leads bumps any q v o s w f)
 
 -- ---------------------------------------------------------------- the laws
 
@@ -353,7 +399,7 @@ module _ (w : State) (t : ℕ) (shape : IsShaped w) (steady : IsSteady w) (there
   at_first : (l : ℕ) (p : Place) → place_at w t ≡ p → lock_of p ≡ Some l → (station p).inside ≡ None → l < length w.locks → Facing w t l p (word_at w l) (owner_at w l) None (queue_at w (2 * l))
   at_first l p is own outside lt = subst (λ s. Facing w t l p (word_at w l) (owner_at w l) s (queue_at w (2 * l))) (free l p is own outside (section_at w (2 * l)) refl) (facing l p is lt)
 
-  place_rests : (p : Place) → place_at w t ≡ p → PlaceFits (length w.places) (length w.locks) p → p ≢ Idle → act_of p ≢ act.TheVariants.Sleep → Leads 12 w t (λ v x. Rests x)
+  place_rests : (p : Place) → place_at w t ≡ p → PlaceFits (length w.locks) p → p ≢ Idle → act_of p ≢ act.TheVariants.Sleep → Leads 12 w t (λ v x. Rests x)
   place_rests Idle is fits busy up = absurd (busy refl)
   place_rests (Mutex l (Lock entry retries a)) is fits busy up = leads_more 8 12 w t (λ v x. Rests x) (omega arith) (lock_rests t l entry retries a (word_at w l) (owner_at w l) (section_at w (2 * l)) (queue_at w (2 * l)) w (facing l (Mutex l (Lock entry retries a)) is fits.0) (λ outside. free l (Mutex l (Lock entry retries a)) is refl outside (section_at w (2 * l)) refl) up)
   place_rests (Mutex l TryLock) is fits busy up = leads_more 1 12 w t (λ v x. Rests x) (omega arith)
@@ -413,7 +459,7 @@ module _ (w : State) (t : ℕ) (shape : IsShaped w) (steady : IsSteady w) (there
             let stood : 1 ≤ times t (queue_at w (2 * l)) = first_times t (queue_at w (2 * l)) first in let none : times t (queue_at w (2 * l)) ≡ 0 = absent w steady t awake l in omega arith
 
     bump_alone : LockEnds t l entries.Bump (first_of (queue_at w (2 * l))) (drop 1 (queue_at w (2 * l))) v x → EndsAlone (locks_of w) t (Some (Bumps l Exclusive)) x (locks_of v)
-    bump_alone h mutex = by_queue (queue_at w (2 * l)) h
+    bump_alone h of_mutex = by_queue (queue_at w (2 * l)) h
       where
         by_queue : (q : List Waiter) → LockEnds t l entries.Bump (first_of q) (drop 1 q) v x → BumpsAlone t l (map queued_of q) x (lock_state v l)
         by_queue [] g = g
@@ -448,8 +494,8 @@ module _ (w : State) (t : ℕ) (shape : IsShaped w) (steady : IsSteady w) (there
       calls : CallsMutex w (Mutex l (mutex_first (is_fair (kind_at w l)) c))
       calls = subst (CallsMutex w) is (steady.stands.calls t)
 
-      fits : PlaceFits (length w.places) (length w.locks) (Mutex l (mutex_first (is_fair (kind_at w l)) c))
-      fits = subst (PlaceFits (length w.places) (length w.locks)) is (shape.places t)
+      fits : PlaceFits (length w.locks) (Mutex l (mutex_first (is_fair (kind_at w l)) c))
+      fits = subst (PlaceFits (length w.locks)) is (shape.places t)
 
 -- ---------------------------------------------------------------- as the world is told them
 

@@ -23,7 +23,7 @@ use Rattle.lot_steps.specs.declared.places.Place.{Place}
 use Rattle.lot_steps.specs.declared.places.Place.TheVariants.{Idle}
 use Rattle.lot_steps.specs.Acts.{outcome_of}
 use Rattle.lot_steps.specs.Steps.{act_of, next_place, next_act}
-use Rattle.lot_world.specs.Machine.{State, unlocked, place_at, word_at, owners_at, section_at, queue_at, put, operated, filled_with, appended, removed, first_taken, taken_by, befallen, performed, reply_to, can_do, gone, go_of, is_possible, after, answered, go_outcome, solo}
+use Rattle.lot_world.specs.Machine.{State, unlocked, place_at, word_at, owners_at, section_at, queue_at, put, operated, filled_with, appended, removed, first_taken, taken_by, befallen, performed, reply_to, can_do, gone, go_of, is_possible, after, answered, go_outcome, solo, told_by, all_told, given, heir_from, is_there}
 use Rattle.lot_world.specs.Fits.{IsShaped, SameSize}
 use Rattle.lot_world.specs.Refinement.{owner_at}
 use Rattle.lot_world.specs.MutexDeeds.{station}
@@ -80,6 +80,9 @@ module _ (w : State) (t l : ℕ) (p : Place) (v : ℕ) (o s : Option ℕ) (q : L
   told : can_do w (act_of p) ≡ true → answered w (go_of t) ≡ outcome_of (next_act p (reply_to w t (act_of p)))
   told can = ap (λ b. if b then go_outcome w t else outcome.TheVariants.NotNow) (possible can) ∙ ap (λ x. outcome_of (next_act x (reply_to w t (act_of x)))) f.place
 
+  pub act_led : can_do w (act_of p) ≡ true → after w (go_of t) ≡ put (performed w t p (act_of p)) t (next_place p (reply_to w t (act_of p)))
+  act_led can = goes can ∙ ap (λ x. put (performed w t x (act_of x)) t (next_place x (reply_to w t (act_of x)))) f.place
+
   -- what it leads to, where the act leads to b
   faces : (b : State) (p2 : Place) (v2 : ℕ) (o2 s2 : Option ℕ) (q2 : List Waiter) → can_do w (act_of p) ≡ true → performed w t p (act_of p) ≡ b → length b.places ≡ length w.places
       → next_place p (reply_to w t (act_of p)) ≡ p2 → word_at b l ≡ v2 → owner_at b l ≡ o2 → section_at b (2 * l) ≡ s2 → queue_at b (2 * l) ≡ q2 → Facing (after w (go_of t)) t l p2 v2 o2 s2 q2
@@ -96,7 +99,7 @@ module _ (w : State) (t l : ℕ) (p : Place) (v : ℕ) (o s : Option ℕ) (q : L
   }
     where
       led : after w (go_of t) ≡ put b t p2
-      led = goes can ∙ ap (λ x. put (performed w t x (act_of x)) t (next_place x (reply_to w t (act_of x)))) f.place ∙ (λ i. put (does i) t (to i))
+      led = act_led can ∙ (λ i. put (does i) t (to i))
 
   word_led : (x : Op) → word_at (operated w t p l x) l ≡ apply x v
   word_led x = ap (λ y. y.word) (get_or-set_same w.locks l _ (unlocked kind.TheVariants.Mutex) f.lock) ∙ ap (apply x) f.word
@@ -116,10 +119,12 @@ module _ (w : State) (t l : ℕ) (p : Place) (v : ℕ) (o s : Option ℕ) (q : L
       heard : reply_to w t (act_of p) ≡ Value v
       heard = ap (reply_to w t) is ∙ ap Value f.word
 
-  pub hand_faces : (x : Op) (u : ℕ) → act_of p ≡ act.TheVariants.HandOver l x u → Faces w t l (next_place p (Value v)) (outcome_of (next_act p (Value v))) (apply x v) (owner_after p t v o) s q
-  hand_faces x u is = (
+  pub hand_faces : (x : Op) (u : ℕ) → act_of p ≡ act.TheVariants.HandOver l x → heir_from t 0 w.places ≡ Some u → Faces w t l (next_place p (Value v)) (outcome_of (next_act p (Value v))) (apply x v) (Some u) s q
+  hand_faces x u is heir = (
     told can ∙ ap (λ r. outcome_of (next_act p r)) heard,
-    faces (befallen (operated w t p l x) u (HandedBy t)) (next_place p (Value v)) (apply x v) (owner_after p t v o) s q can (ap (performed w t p) is) (length-set w.places u _) (ap (next_place p) heard) (word_led x) (owner_led x) f.section f.queue,
+    faces (all_told (given w t p l x) t (HandedBy t)) (next_place p (Value v)) (apply x v) (Some u) s q can (ap (performed w t p) is) (length-map w.places (told_by t (HandedBy t))) (ap (next_place p) heard)
+        (ap (λ y. y.word) (get_or-set_same w.locks l _ (unlocked kind.TheVariants.Mutex) f.lock) ∙ ap (apply x) f.word)
+        (ap (λ y. y.owners.exclusive) (get_or-set_same w.locks l _ (unlocked kind.TheVariants.Mutex) f.lock) ∙ heir) f.section f.queue,
   )
     where
       can : can_do w (act_of p) ≡ true
@@ -164,10 +169,10 @@ module _ (w : State) (t l : ℕ) (p : Place) (v : ℕ) (o s : Option ℕ) (q : L
       heard : reply_to w t (act_of p) ≡ Done
       heard = ap (reply_to w t) is
 
-  pub wake_faces : (u : ℕ) (note : Note) → act_of p ≡ act.TheVariants.Leave (One (2 * l)) (wakes.TheVariants.One u note) → Faces w t l (next_place p Done) (outcome_of (next_act p Done)) v o None q
-  wake_faces u note is = (
+  pub wake_faces : (note : Note) → act_of p ≡ act.TheVariants.Leave (One (2 * l)) (wakes.TheVariants.All note) → Faces w t l (next_place p Done) (outcome_of (next_act p Done)) v o None q
+  wake_faces note is = (
     told can ∙ ap (λ r. outcome_of (next_act p r)) heard,
-    faces (befallen (filled_with w (One (2 * l)) None) u (Woken note)) (next_place p Done) v o None q can (ap (performed w t p) is) (length-set w.places u _) (ap (next_place p) heard) f.word f.owner (get_or-set_same w.sections (2 * l) None None (main_key_there w l f.shape f.lock)) f.queue,
+    faces (all_told (filled_with w (One (2 * l)) None) t (Woken note)) (next_place p Done) v o None q can (ap (performed w t p) is) (length-map w.places (told_by t (Woken note))) (ap (next_place p) heard) f.word f.owner (get_or-set_same w.sections (2 * l) None None (main_key_there w l f.shape f.lock)) f.queue,
   )
     where
       can : can_do w (act_of p) ≡ true
@@ -227,14 +232,14 @@ module _ (w : State) (t l : ℕ) (p : Place) (v : ℕ) (o s : Option ℕ) (q : L
       heard = ap (reply_to w t) is ∙ ap (λ x. Removed (length (without t x) == 0)) f.queue
 
   pub take_faces : act_of p ≡ act.TheVariants.TakeFirst (2 * l)
-      → Faces w t l (next_place p (Took (first_of q) (length (drop 1 q) == 0))) (outcome_of (next_act p (Took (first_of q) (length (drop 1 q) == 0)))) v o s (drop 1 q)
+      → Faces w t l (next_place p (Took (is_there (first_of q)) (length (drop 1 q) == 0))) (outcome_of (next_act p (Took (is_there (first_of q)) (length (drop 1 q) == 0)))) v o s (drop 1 q)
   take_faces is = by_first (first_of q) refl
     where
       can : can_do w (act_of p) ≡ true
       can = rw is refl
 
-      heard : reply_to w t (act_of p) ≡ Took (first_of q) (length (drop 1 q) == 0)
-      heard = ap (reply_to w t) is ∙ ap (λ x. Took (first_of x) (length (drop 1 x) == 0)) f.queue
+      heard : reply_to w t (act_of p) ≡ Took (is_there (first_of q)) (length (drop 1 q) == 0)
+      heard = ap (reply_to w t) is ∙ ap (λ x. Took (is_there (first_of x)) (length (drop 1 x) == 0)) f.queue
 
       queue : get_or (first_taken w.queues (2 * l)) (2 * l) [] ≡ drop 1 q
       queue = get_or-set_same w.queues (2 * l) _ [] (main_line_there w l f.shape f.lock) ∙ ap (drop 1) f.queue
@@ -242,7 +247,7 @@ module _ (w : State) (t l : ℕ) (p : Place) (v : ℕ) (o s : Option ℕ) (q : L
       does : (x : Option ℕ) → first_of q ≡ x → performed w t p (act_of p) ≡ taken_by (record w { queues = first_taken w.queues (2 * l) }) t x
       does x e = ap (performed w t p) is ∙ ap (taken_by (record w { queues = first_taken w.queues (2 * l) }) t) (ap first_of f.queue ∙ e)
 
-      by_first : (x : Option ℕ) → first_of q ≡ x → Faces w t l (next_place p (Took (first_of q) (length (drop 1 q) == 0))) (outcome_of (next_act p (Took (first_of q) (length (drop 1 q) == 0)))) v o s (drop 1 q)
+      by_first : (x : Option ℕ) → first_of q ≡ x → Faces w t l (next_place p (Took (is_there (first_of q)) (length (drop 1 q) == 0))) (outcome_of (next_act p (Took (is_there (first_of q)) (length (drop 1 q) == 0)))) v o s (drop 1 q)
       by_first None e = (
         told can ∙ ap (λ r. outcome_of (next_act p r)) heard,
         faces (record w { queues = first_taken w.queues (2 * l) }) _ v o s (drop 1 q) can (does None e) refl (ap (next_place p) heard) f.word f.owner f.section queue,

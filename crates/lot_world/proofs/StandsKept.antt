@@ -1,5 +1,5 @@
 -- How the sections, the lines and the hands of the machine are kept, by the stations of threads. No place is named.
-use Rattle.std.proofs.Common.{ℕ, Bool, true, false, Option, Some, None, if◌then◌else◌, ◌==◌, ◌≡◌, ◌≢◌, ◌+◌, ◌*◌, ◌≤◌, ◌↔◌, List, inl, inr, refl, sym, ◌∙◌, ap, arith}
+use Rattle.std.proofs.Common.{ℕ, Bool, true, false, Option, Some, None, if◌then◌else◌, ◌==◌, ◌≡◌, ◌≢◌, ◌+◌, ◌*◌, ◌≤◌, ◌↔◌, List, inl, inr, refl, sym, ◌∙◌, ap, subst, arith}
 use Rattle.std.proofs.lemmas.Bool.{cases_eq}
 use Rattle.lot_base.specs.declared.wants.Waiter.{Waiter}
 use Rattle.lot_base.specs.Lines.{times}
@@ -109,7 +109,8 @@ line_moved p q queue after s t l others elsewhere counts own u k m = elim (cases
 
 pub hands_same : (p q : ℕ → Place) → Hands p → ((u k : ℕ) → carried_at (q u) k ≡ carried_at (p u) k) → ((u k : ℕ) → hand_at (q u) k ≡ hand_at (p u) k) → Hands q
 hands_same p q h c n = record {
-  carried = λ t u l b e. n u l ∙ h.carried t u l b (sym (c t l) ∙ e);
+  carried = λ t l b e. let one = h.carried t l b (sym (c t l) ∙ e) in (one.0, n one.0 l ∙ one.1);
+  alone = λ t l u v b d e f. h.alone t l u v b d (sym (n u l) ∙ e) (sym (n v l) ∙ f);
   taken = λ t u l b e. c t l ∙ h.taken t u l b (sym (n u l) ∙ e);
 }
 
@@ -122,7 +123,7 @@ link (Some b) u = hand u b
 pub record AreLinked (p : ℕ → Place) (t v l : ℕ) (x : Option Bool) : Type 0 where
   pub of_t : IsOf l (p t)
   pub of_v : IsOf l (p v)
-  pub carries : (station (p t)).carries ≡ link x v
+  pub carries : (station (p t)).carries ≡ x
   pub free : (station (p t)).hand ≡ None
   pub hand : (station (p v)).hand ≡ link x t
   pub bare : (station (p v)).carries ≡ None
@@ -131,71 +132,101 @@ linked_is : (x : Option Bool) (u v : ℕ) (b : Bool) → link x v ≡ hand u b �
 linked_is (Some c) u v b h = cc
 linked_is None u v b h = absurd cc
 
-linked_back : (x : Option Bool) (t v : ℕ) (b : Bool) → link x v ≡ hand v b → link x t ≡ hand t b
-linked_back (Some c) t v b h = let e : c ≡ b = cc in ap (hand t) e
-linked_back None t v b h = absurd cc
+linked_by : (x : Option Bool) (u v : ℕ) (b : Bool) → link x v ≡ hand u b → x ≡ Some b
+linked_by (Some c) u v b h = let e : c ≡ b = cc in ap Some e
+linked_by None u v b h = absurd cc
 
 module _ (p : ℕ → Place) (t v l : ℕ) (x : Option Bool) (a : AreLinked p t v l x) where
-  -- whom t has in hand is v
-  only : (u k : ℕ) (b : Bool) → carried_at (p t) k ≡ hand u b → (u ≡ v) × (k ≡ l)
-  only u k b h = elim (cases_eq k l) [
-    | inl e ↦ (linked_is x u v b (sym (ap (λ (y : Station). y.carries) (station_here l (p t) a.of_t) ∙ a.carries) ∙ rw e at h), e)
+  carries_here : carried_at (p t) l ≡ x
+  carries_here = ap (λ (y : Station). y.carries) (station_here l (p t) a.of_t) ∙ a.carries
+
+  -- t carries somebody at l alone
+  only : (k : ℕ) (b : Bool) → carried_at (p t) k ≡ Some b → (k ≡ l) × (x ≡ Some b)
+  only k b h = elim (cases_eq k l) [
+    | inl e ↦ (e, sym carries_here ∙ rw e at h)
     | inr ne ↦ absurd (let g : carried_at (p t) k ≡ None = ap (λ (y : Station). y.carries) (station_elsewhere l k (p t) a.of_t ne) in cc)
   ]
 
   -- and v is in no hand but that of t
-  mine : (u k : ℕ) (b : Bool) → hand_at (p v) k ≡ hand u b → (u ≡ t) × (k ≡ l)
+  mine : (u k : ℕ) (b : Bool) → hand_at (p v) k ≡ hand u b → (u ≡ t) × (k ≡ l) × (x ≡ Some b)
   mine u k b h = elim (cases_eq k l) [
-    | inl e ↦ (linked_is x u t b (sym (ap (λ (y : Station). y.hand) (station_here l (p v) a.of_v) ∙ a.hand) ∙ rw e at h), e)
+    | inl e ↦ let g : link x t ≡ hand u b = sym (ap (λ (y : Station). y.hand) (station_here l (p v) a.of_v) ∙ a.hand) ∙ rw e at h in (linked_is x u t b g, e, linked_by x u t b g)
     | inr ne ↦ absurd (let g : hand_at (p v) k ≡ None = ap (λ (y : Station). y.hand) (station_elsewhere l k (p v) a.of_v ne) in cc)
   ]
 
-  there : (b : Bool) → carried_at (p t) l ≡ hand v b → hand_at (p v) l ≡ hand t b
-  there b h = ap (λ (y : Station). y.hand) (station_here l (p v) a.of_v) ∙ a.hand ∙ linked_back x t v b (sym (ap (λ (y : Station). y.carries) (station_here l (p t) a.of_t) ∙ a.carries) ∙ h)
-
-  back : (b : Bool) → hand_at (p v) l ≡ hand t b → carried_at (p t) l ≡ hand v b
-  back b h = ap (λ (y : Station). y.carries) (station_here l (p t) a.of_t) ∙ a.carries ∙ linked_back x v t b (sym (ap (λ (y : Station). y.hand) (station_here l (p v) a.of_v) ∙ a.hand) ∙ h)
+  there : (b : Bool) → x ≡ Some b → hand_at (p v) l ≡ hand t b
+  there b e = ap (λ (y : Station). y.hand) (station_here l (p v) a.of_v) ∙ a.hand ∙ ap (λ y. link y t) e
 
   unheld : (k u : ℕ) (b : Bool) → hand_at (p t) k ≡ hand u b → ⊥
   unheld k u b h = let g : hand_at (p t) k ≡ None = nothing_at (p t) k (λ y. y.hand) refl a.free in cc
 
-  empty : (k u : ℕ) (b : Bool) → carried_at (p v) k ≡ hand u b → ⊥
-  empty k u b h = let g : carried_at (p v) k ≡ None = nothing_at (p v) k (λ y. y.carries) refl a.bare in cc
+  empty : (k : ℕ) (b : Bool) → carried_at (p v) k ≡ Some b → ⊥
+  empty k b h = let g : carried_at (p v) k ≡ None = nothing_at (p v) k (λ y. y.carries) refl a.bare in cc
 
 -- two threads that have to do with each other alone go elsewhere, and so it is behind
 module _ (p q : ℕ → Place) (hands : Hands p) (t v l : ℕ) (x y : Option Bool) (a : AreLinked p t v l x) (b : AreLinked q t v l y) (others : (u : ℕ) → u ≢ t → u ≢ v → q u ≡ p u) where
-  carried_then : (i u k : ℕ) (c : Bool) → carried_at (q i) k ≡ hand u c → hand_at (q u) k ≡ hand i c
-  carried_then i u k c h = elim (cases_eq i t) [
-    | inl e ↦ let g = only q t v l y b u k c (rw e at h) in rw (e, g.0, g.1) (there q t v l y b c (rw (e, g.0, g.1) at h))
+  -- nobody else was in the hand of t
+  no_other : (u k : ℕ) (c : Bool) → u ≢ v → hand_at (p u) k ≡ hand t c → ⊥
+  no_other u k c uv h = let f = only p t v l x a k c (hands.taken t u k c h) in uv (hands.alone t l v u c c (there p t v l x a c f.1) (subst (λ j. hand_at (p u) j ≡ hand t c) f.0 h))
+
+  -- who is in another's hand is so still
+  kept : (i k u : ℕ) (c : Bool) → i ≢ t → hand_at (p u) k ≡ hand i c → hand_at (q u) k ≡ hand i c
+  kept i k u c nt h = elim (cases_eq u t) [
+    | inl e ↦ absurd (unheld p t v l x a k i c (rw e at h))
+    | inr ut ↦ elim (cases_eq u v) [
+      | inl e ↦ absurd (nt (mine p t v l x a i k c (rw e at h)).0)
+      | inr uv ↦ rw (others u ut uv) h
+    ]
+  ]
+
+  carried_then : (i k : ℕ) (c : Bool) → carried_at (q i) k ≡ Some c → (u : ℕ) × (hand_at (q u) k ≡ hand i c)
+  carried_then i k c h = elim (cases_eq i t) [
+    | inl e ↦ let g = only q t v l y b k c (rw e at h) in (v, rw (e, g.0) (there q t v l y b c g.1))
     | inr nt ↦ elim (cases_eq i v) [
-      | inl e ↦ absurd (empty q t v l y b k u c (rw e at h))
-      | inr nv ↦ let g : hand_at (p u) k ≡ hand i c = hands.carried i u k c (rw (others i nt nv) at h) in elim (cases_eq u t) [
-        | inl e ↦ absurd (unheld p t v l x a k i c (rw e at g))
-        | inr ut ↦ elim (cases_eq u v) [
-          | inl e ↦ absurd (nt (mine p t v l x a i k c (rw e at g)).0)
-          | inr uv ↦ rw (others u ut uv) g
+      | inl e ↦ absurd (empty q t v l y b k c (rw e at h))
+      | inr nv ↦ let g = hands.carried i k c (rw (others i nt nv) at h) in (g.0, kept i k g.0 c nt g.1)
+    ]
+  ]
+
+  taken_then : (i u k : ℕ) (c : Bool) → hand_at (q u) k ≡ hand i c → carried_at (q i) k ≡ Some c
+  taken_then i u k c h = elim (cases_eq u t) [
+    | inl e ↦ absurd (unheld q t v l y b k i c (rw e at h))
+    | inr ut ↦ elim (cases_eq u v) [
+      | inl e ↦ let g = mine q t v l y b i k c (rw e at h) in rw (g.0, g.1) (carries_here q t v l y b ∙ g.2)
+      | inr uv ↦ let f : hand_at (p u) k ≡ hand i c = rw (others u ut uv) at h in elim (cases_eq i t) [
+        | inl e ↦ absurd (no_other u k c uv (rw e at f))
+        | inr nt ↦ elim (cases_eq i v) [
+          | inl e ↦ absurd (empty p t v l x a k c (rw e at (hands.taken i u k c f)))
+          | inr nv ↦ rw (others i nt nv) (hands.taken i u k c f)
         ]
       ]
     ]
   ]
 
-  taken_then : (i u k : ℕ) (c : Bool) → hand_at (q u) k ≡ hand i c → carried_at (q i) k ≡ hand u c
-  taken_then i u k c h = elim (cases_eq u t) [
+  -- beside v nobody is in the hand of t
+  beside : (i k u j : ℕ) (c d : Bool) → j ≢ t → j ≢ v → hand_at (q v) k ≡ hand i c → hand_at (q j) k ≡ hand i d → ⊥
+  beside i k u j c d jt jv h g = let m = mine q t v l y b i k c h in let f : hand_at (p j) k ≡ hand i d = rw (others j jt jv) at g in no_other j k d jv (rw m.0 at f)
+
+  alone_then : (i k u j : ℕ) (c d : Bool) → hand_at (q u) k ≡ hand i c → hand_at (q j) k ≡ hand i d → j ≡ u
+  alone_then i k u j c d h g = elim (cases_eq u t) [
     | inl e ↦ absurd (unheld q t v l y b k i c (rw e at h))
-    | inr ut ↦ elim (cases_eq u v) [
-      | inl e ↦ let g = mine q t v l y b i k c (rw e at h) in rw (e, g.0, g.1) (back q t v l y b c (rw (e, g.0, g.1) at h))
-      | inr uv ↦ let g : carried_at (p i) k ≡ hand u c = hands.taken i u k c (rw (others u ut uv) at h) in elim (cases_eq i t) [
-        | inl e ↦ absurd (uv (only p t v l x a u k c (rw e at g)).0)
-        | inr nt ↦ elim (cases_eq i v) [
-          | inl e ↦ absurd (empty p t v l x a k u c (rw e at g))
-          | inr nv ↦ rw (others i nt nv) g
+    | inr ut ↦ elim (cases_eq j t) [
+      | inl e ↦ absurd (unheld q t v l y b k i d (rw e at g))
+      | inr jt ↦ elim (cases_eq u v) [
+        | inl e ↦ elim (cases_eq j v) [
+          | inl f ↦ f ∙ sym e
+          | inr jv ↦ absurd (beside i k u j c d jt jv (rw e at h) g)
+        ]
+        | inr uv ↦ elim (cases_eq j v) [
+          | inl f ↦ absurd (beside i k j u d c ut uv (rw f at g) h)
+          | inr jv ↦ hands.alone i k u j c d (rw (others u ut uv) at h) (rw (others j jt jv) at g)
         ]
       ]
     ]
   ]
 
   pub hands_pair : Hands q
-  hands_pair = record { carried = carried_then; taken = taken_then }
+  hands_pair = record { carried = carried_then; alone = alone_then; taken = taken_then }
 
 -- ---------------------------------------------------------------- calls
 

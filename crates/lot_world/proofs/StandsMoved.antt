@@ -127,7 +127,7 @@ module _ (w v : State) (stands : Stands w) (kinds : (k : ℕ) → kind_at v k �
   part_t g e = part_put g l halfway t p2 own_t of (e ∙ sym (ap (λ y. g (station y)) still_t))
 
   -- a hand changes between them
-  linked_hands : (y z : Option Bool) → AreLinked (place_at w) t x l y → (station p2).carries ≡ link z x → (station p2).hand ≡ None → (station px).hand ≡ link z t → (station px).carries ≡ None → Hands both_now
+  linked_hands : (y z : Option Bool) → AreLinked (place_at w) t x l y → (station p2).carries ≡ z → (station p2).hand ≡ None → (station px).hand ≡ link z t → (station px).carries ≡ None → Hands both_now
   linked_hands y z before c f h b = hands_pair (place_at w) both_now stands.hands t x l y z before
       (record { of_t = rw (put_here halfway t p2) of; of_v = rw at_x of_x; carries = rw (put_here halfway t p2) c; free = rw (put_here halfway t p2) f; hand = rw at_x h; bare = rw at_x b })
       (λ u nt nx. put_other halfway t p2 u nt ∙ put_other (place_at w) x px u nx)
@@ -140,7 +140,7 @@ module _ (w v : State) (stands : Stands w) (kinds : (k : ℕ) → kind_at v k �
 
   -- t leaves its section, and lets x go, whom it has in hand
   pub lets_go : (b : Bool) → (elsewhere : (key : ℕ) → key ≢ 2 * l → section_at v key ≡ section_at w key) → section_at v (2 * l) ≡ None → ((key : ℕ) → queue_at v key ≡ queue_at w key)
-      → station (place_at w t) ≡ record nowhere { inside = Some Main; carries = hand x b } → station (place_at w x) ≡ record nowhere { hand = hand t b } → station p2 ≡ nowhere → station px ≡ nowhere → Stands v
+      → station (place_at w t) ≡ record nowhere { inside = Some Main; carries = Some b } → station (place_at w x) ≡ record nowhere { hand = hand t b } → station p2 ≡ nowhere → station px ≡ nowhere → Stands v
   lets_go b elsewhere free eq was was_x is is_x = stands_then v both_now places
       (left (place_at w) both_now (section_at w) (section_at v) stands.sections t l
       (λ u k ne. part_else (λ y. y.inside) l halfway t p2 own_t of u k ne ∙ part_x (λ y. y.inside) (ap (λ (y : Station). y.inside) (is_x ∙ sym (ap (λ (y : Station). record y { hand = None }) was_x))) u k)
@@ -153,7 +153,7 @@ module _ (w v : State) (stands : Stands w) (kinds : (k : ℕ) → kind_at v k �
 
   -- t hands x the lock
   pub hands_lock : ((key : ℕ) → section_at v key ≡ section_at w key) → ((key : ℕ) → queue_at v key ≡ queue_at w key)
-      → station (place_at w t) ≡ record nowhere { inside = Some Main; carries = hand x false } → station (place_at w x) ≡ record nowhere { hand = hand t false } → station p2 ≡ record nowhere { inside = Some Main; carries = hand x true } → station px ≡ record nowhere { hand = hand t true } → Stands v
+      → station (place_at w t) ≡ record nowhere { inside = Some Main; carries = Some false } → station (place_at w x) ≡ record nowhere { hand = hand t false } → station p2 ≡ record nowhere { inside = Some Main; carries = Some true } → station px ≡ record nowhere { hand = hand t true } → Stands v
   hands_lock es eq was was_x is is_x = stands_then v both_now places
       (same_inside (ap (λ (y : Station). y.inside) is ∙ sym (ap (λ (y : Station). y.inside) was)) (ap (λ (y : Station). y.inside) is_x ∙ sym (ap (λ (y : Station). y.inside) was_x)) es)
       (same_stood (ap (λ (y : Station). y.stands) is ∙ sym (ap (λ (y : Station). y.stands) was)) (ap (λ (y : Station). y.stands) is_x ∙ sym (ap (λ (y : Station). y.stands) was_x)) eq)
@@ -165,7 +165,7 @@ module _ (w v : State) (stands : Stands w) (kinds : (k : ℕ) → kind_at v k �
   -- t takes x, the first of the main line
   pub takes : (rest : List Waiter) (first : Waiter) → ((key : ℕ) → section_at v key ≡ section_at w key) → ((key : ℕ) → key ≢ 2 * l → queue_at v key ≡ queue_at w key) → queue_at w (2 * l) ≡ first ∷ rest → queue_at v (2 * l) ≡ rest → first.thread ≡ x
       → (station (place_at w t)).carries ≡ None → (station (place_at w t)).hand ≡ None → station (place_at w x) ≡ record nowhere { stands = Some Main }
-      → station p2 ≡ record (station (place_at w t)) { carries = hand x false } → station px ≡ record nowhere { hand = hand t false } → Stands v
+      → station p2 ≡ record (station (place_at w t)) { carries = Some false } → station px ≡ record nowhere { hand = hand t false } → Stands v
   takes rest first es elsewhere was_line line who bare free was_x is is_x = stands_then v both_now places
       (same_inside (ap (λ (y : Station). y.inside) is) (ap (λ (y : Station). y.inside) is_x ∙ sym (ap (λ (y : Station). y.inside) was_x)) es)
       (line_moved (place_at w) both_now (queue_at w) (queue_at v) stands.lines x l

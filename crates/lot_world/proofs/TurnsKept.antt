@@ -104,7 +104,7 @@ module _ (w : State) (t : ℕ) (steady : IsSteady w) (shape : IsShaped w) (there
   lock_late l e r lock.First is lt can = absurd cc
   lock_late l e r a is lt can = absurd cc
 
-  late_kept : (p : Place) → place_at w t ≡ p → PlaceFits (length w.places) (length w.locks) p → is_free_under w (late_key p) ≡ true → IsSteady (late_on w t (late_key p))
+  late_kept : (p : Place) → place_at w t ≡ p → PlaceFits (length w.locks) p → is_free_under w (late_key p) ≡ true → IsSteady (late_on w t (late_key p))
   late_kept (Mutex l (Lock e r a)) is fits can = lock_late l e r a is fits.0 can
   late_kept (Mutex l TryLock) is fits can = absurd cc
   late_kept (Mutex l (Unlock a)) is fits can = absurd cc

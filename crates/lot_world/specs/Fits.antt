@@ -1,12 +1,10 @@
 -- What a state is made of: the numbers in it name threads, locks and keys that are there.
-use Rattle.std.specs.Prelude.{ℕ, Bool, true, false, Option, Some, None, ◌≡◌, ◌<◌, ◌≤◌, ◌*◌, List, [], ◌∷◌, length}
+use Rattle.std.specs.Prelude.{ℕ, Bool, true, false, ◌≡◌, ◌<◌, ◌≤◌, ◌*◌, List, [], ◌∷◌, length}
 use Rattle.lot_base.specs.declared.keys.Keys.{Keys}
 use Rattle.lot_base.specs.declared.keys.Keys.TheVariants.{One, Two}
 use Rattle.lot_base.specs.declared.wants.Waiter.{Waiter}
 use Rattle.lot_steps.specs.declared.acts.Act.{Act}
 use Rattle.lot_steps.specs.declared.acts.Act.TheVariants.{Word, HandOver, Enter, Park, TakeFirst, Remove, Leave}
-use Rattle.lot_steps.specs.declared.acts.Wakes.{Wakes}
-use Rattle.lot_steps.specs.declared.acts.Wakes as wakes
 use Rattle.lot_steps.specs.declared.places.Place.{Place}
 use Rattle.lot_steps.specs.declared.places.Place.TheVariants.{Idle, Mutex}
 use Rattle.lot_steps.specs.declared.mutex.MutexPlace.{MutexPlace}
@@ -17,27 +15,15 @@ abbrev pub KeysFit : ℕ → Keys → Type 0
 KeysFit n (One key) = key < n
 KeysFit n (Two first second) = (first < n) × (second < n)
 
-abbrev pub WakesFit : ℕ → Wakes → Type 0
-WakesFit n wakes.TheVariants.Nobody = Unit {0}
-WakesFit n (wakes.TheVariants.One u note) = u < n
-
 abbrev pub ActFits : State → Act → Type 0
 ActFits w (Word l op) = l < length w.locks
-ActFits w (HandOver l op u) = (l < length w.locks) × (u < length w.places)
+ActFits w (HandOver l op) = l < length w.locks
 ActFits w (Enter keys) = KeysFit (length w.sections) keys
 ActFits w (Park l key check x) = (l < length w.locks) × (key < length w.sections)
 ActFits w (TakeFirst key) = key < length w.sections
 ActFits w (Remove key) = key < length w.sections
-ActFits w (Leave keys wakes) = KeysFit (length w.sections) keys × WakesFit (length w.places) wakes
+ActFits w (Leave keys wakes) = KeysFit (length w.sections) keys
 ActFits w act = Unit {0}
-
-abbrev pub SomeBelow : ℕ → Option ℕ → Type 0
-SomeBelow n None = Unit {0}
-SomeBelow n (Some u) = u < n
-
--- the thread that a release has taken
-abbrev pub taken_in : MutexPlace → Option ℕ
-taken_in at = (mutex_profile at).taken
 
 abbrev pub Implies : Bool → Bool → Type 0
 Implies true b = b ≡ true
@@ -47,9 +33,9 @@ Implies false b = Unit {0}
 abbrev pub GivesUpTimed : MutexPlace → Type 0
 GivesUpTimed at = Implies (mutex_profile at).late (mutex_profile at).timed
 
-abbrev pub PlaceFits : ℕ → ℕ → Place → Type 0
-PlaceFits threads locks Idle = Unit {0}
-PlaceFits threads locks (Mutex lock at) = (lock < locks) × SomeBelow threads (taken_in at) × GivesUpTimed at
+abbrev pub PlaceFits : ℕ → Place → Type 0
+PlaceFits locks Idle = Unit {0}
+PlaceFits locks (Mutex lock at) = (lock < locks) × GivesUpTimed at
 
 -- each waiter is a thread that is there
 abbrev pub AllBelow : ℕ → List Waiter → Type 0
@@ -60,7 +46,7 @@ pub record IsShaped (w : State) : Type 0 where
   pub few : length w.locks ≤ 256
   pub sections : length w.sections ≡ 2 * length w.locks
   pub queues : length w.queues ≡ length w.sections
-  pub places : (t : ℕ) → PlaceFits (length w.places) (length w.locks) (place_at w t)
+  pub places : (t : ℕ) → PlaceFits (length w.locks) (place_at w t)
   pub waiting : (key : ℕ) → AllBelow (length w.places) (queue_at w key)
 
 -- the same numbers of threads and of locks

@@ -76,7 +76,7 @@ NoWaiterIsForgotten = IsKept forgotten → ⊥
 -- thread 0 unlocks a mutex fairly, and has taken thread 1
 abbrev pub handing_over : State
 handing_over = record {
-  places = Mutex 0 (at.HandOff false (Store (Some 1) true)) ∷ Mutex 0 (at.Lock entry.Lock false (Taken 0)) ∷ [];
+  places = Mutex 0 (at.HandOff false (Store true true)) ∷ Mutex 0 (at.Lock entry.Lock false (Taken 0)) ∷ [];
   locks = (record { kind = kind.Mutex; word = 3; owners = record nobody { exclusive = Some 0 }; filled = false }) ∷ [];
   shares = (0 ∷ 0 ∷ []) ∷ [];
   sections = Some 0 ∷ None ∷ [];

@@ -27,8 +27,9 @@ use Rattle.lot_calls.specs.declared.outcomes.Outcome.{Outcome}
 use Rattle.lot_calls.specs.declared.outcomes.Outcome as outcome
 use Rattle.lot_calls.specs.Kinds.{has_call}
 use Rattle.lot_steps.specs.Acts.{holds, outcome_of}
+use Rattle.lot_steps.specs.MutexSteps.{is_thread, with_exclusive}
 use Rattle.lot_calls.specs.Calls.{lock_in}
-use Rattle.lot_steps.specs.Steps.{first_place, has_right, is_idle, act_of, next_place, next_act, owners_after, spin_lock, late_key}
+use Rattle.lot_steps.specs.Steps.{first_place, has_right, is_idle, act_of, next_place, next_act, owners_after, taker, spin_lock, late_key}
 use Rattle.abstract_locks.specs.Codes.{fills}
 use Rattle.abstract_locks.specs.Purposes.{rules_of}
 use Rattle.lot_world.specs.declared.machine.Lock.{Lock}
@@ -96,22 +97,30 @@ queue_at w key = slice_index_or w.queues key []
 abbrev pub section_at : State → ℕ → Option ℕ
 section_at w key = slice_index_or w.sections key None
 
+abbrev pub is_there : Option ℕ → Bool
+is_there None = false
+is_there (Some l) = true
+
 -- ---------------------------------------------------------------- what one act does
 
 -- a thread stands at another place
 abbrev pub put : State → ℕ → Place → State
 put w t p = record w { places = slice_set w.places t p }
 
--- an operation on a word, by which the thread may get the lock or give it up
-abbrev pub operated : State → ℕ → Place → ℕ → Op → State
-operated w t p l op = record w {
+-- a lock has this word and these owners
+abbrev pub with_word : State → ℕ → ℕ → Owners → State
+with_word w l word owners = record w {
   locks = slice_set w.locks l (record {
     kind = kind_at w l;
-    word = apply op (word_at w l);
-    owners = owners_after p t (word_at w l) (owners_at w l);
-    filled = filled_at w l || fills (rules_of (kind_at w l)) (apply op (word_at w l));
+    word = word;
+    owners = owners;
+    filled = filled_at w l || fills (rules_of (kind_at w l)) word;
   });
 }
+
+-- an operation on a word, by which the thread may get the lock or give it up
+abbrev pub operated : State → ℕ → Place → ℕ → Op → State
+operated w t p l op = with_word w l (apply op (word_at w l)) (owners_after p t (word_at w l) (owners_at w l))
 
 abbrev pub is_free : State → ℕ → Bool
 is_free w key = is_none (section_at w key)
@@ -146,6 +155,22 @@ parked w t l key check want = if holds check (word_at w l) then record w { queue
 abbrev pub befallen : State → ℕ → Reply → State
 befallen w t reply = put w t (next_place (place_at w t) reply)
 
+-- whom t has in hand is told something, and nobody else
+abbrev pub told_by : ℕ → Reply → Place → Place
+told_by t reply p = if is_thread t (taker p) then next_place p reply else p
+
+abbrev pub all_told : State → ℕ → Reply → State
+all_told w t reply = record w { places = map (told_by t reply) w.places }
+
+-- the first thread in the hand of t, where the first place is that of u
+abbrev pub heir_from : ℕ → ℕ → List Place → Option ℕ
+heir_from t u [] = None
+heir_from t u (p ∷ ps) = if is_thread t (taker p) then Some u else heir_from t (suc u) ps
+
+-- the operation with which t hands the lock over: the one in its hand owns then
+abbrev pub given : State → ℕ → Place → ℕ → Op → State
+given w t p l op = with_word w l (apply op (word_at w l)) (with_exclusive (owners_after p t (word_at w l) (owners_at w l)) (heir_from t 0 w.places))
+
 abbrev pub taken_by : State → ℕ → Option ℕ → State
 taken_by w t None = w
 taken_by w t (Some u) = befallen w u (TakenBy t)
@@ -153,12 +178,12 @@ taken_by w t (Some u) = befallen w u (TakenBy t)
 abbrev pub took : State → ℕ → ℕ → State
 took w t key = taken_by (record w { queues = first_taken w.queues key }) t (first_of (queue_at w key))
 
-abbrev pub awakened : State → Wakes → State
-awakened w wakes.TheVariants.Nobody = w
-awakened w (wakes.TheVariants.One u note) = befallen w u (Woken note)
+abbrev pub awakened : State → ℕ → Wakes → State
+awakened w t wakes.TheVariants.Nobody = w
+awakened w t (wakes.TheVariants.All note) = all_told w t (Woken note)
 
-abbrev pub left : State → Keys → Wakes → State
-left w keys wakes = awakened (filled_with w keys None) wakes
+abbrev pub left : State → ℕ → Keys → Wakes → State
+left w t keys wakes = awakened (filled_with w keys None) t wakes
 
 -- whether an act can be done now
 abbrev pub can_do : State → Act → Bool
@@ -172,20 +197,20 @@ can_do w act = true
 -- what it does
 abbrev pub performed : State → ℕ → Place → Act → State
 performed w t p (Word l op) = operated w t p l op
-performed w t p (HandOver l op u) = befallen (operated w t p l op) u (HandedBy t)
+performed w t p (HandOver l op) = all_told (given w t p l op) t (HandedBy t)
 performed w t p (Enter keys) = filled_with w keys (Some t)
 performed w t p (Park l key check wanted) = parked w t l key check wanted
 performed w t p (TakeFirst key) = took w t key
 performed w t p (Remove key) = record w { queues = removed w.queues t }
-performed w t p (Leave keys wakes) = left w keys wakes
+performed w t p (Leave keys wakes) = left w t keys wakes
 performed w t p act = w
 
 -- and what the thread is told
 abbrev pub reply_to : State → ℕ → Act → Reply
 reply_to w t (Word l op) = Value (word_at w l)
-reply_to w t (HandOver l op u) = Value (word_at w l)
+reply_to w t (HandOver l op) = Value (word_at w l)
 reply_to w t (Park l key check x) = Parked (holds check (word_at w l))
-reply_to w t (TakeFirst key) = Took (first_of (queue_at w key)) (length (drop 1 (queue_at w key)) == 0)
+reply_to w t (TakeFirst key) = Took (is_there (first_of (queue_at w key))) (length (drop 1 (queue_at w key)) == 0)
 reply_to w t (Remove key) = Removed (length (without t (queue_at w key)) == 0)
 reply_to w t act = Done
 
@@ -213,10 +238,6 @@ can_begin w t call = is_idle (place_at w t) && is_open_to w t call
 
 abbrev pub begun : State → ℕ → Call → State
 begun w t call = put w t (first_place (kind_at w (lock_in call)) call)
-
-abbrev pub is_there : Option ℕ → Bool
-is_there None = false
-is_there (Some l) = true
 
 abbrev pub can_spin : State → ℕ → Bool
 can_spin w t = is_there (spin_lock (place_at w t))

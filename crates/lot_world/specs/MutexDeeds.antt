@@ -14,7 +14,7 @@ use Rattle.lot_steps.specs.declared.places.Place.TheVariants.{Idle, Mutex}
 use Rattle.lot_steps.specs.declared.acts.Reply.{Reply}
 use Rattle.lot_steps.specs.declared.acts.Reply.TheVariants.{Done, Value, Parked, Took, Removed, Late}
 use Rattle.lot_steps.specs.MutexSteps.{is_locked, is_parked}
-pub use Rattle.lot_steps.specs.MutexProfiles.{Hand, Of, hand, some_hand, mutex_profile, owner, inside, again, carrying}
+pub use Rattle.lot_steps.specs.MutexProfiles.{Hand, Of, hand, hand_owner, in_hand, mutex_profile, owner, inside, again, carrying}
 use Rattle.abstract_locks.specs.Locks.{Queued, Enter, Leave, Park, TakeFirst, HandOff as HandsOff, Late as GivesUp}
 use Rattle.abstract_locks.specs.Sites.{Doing, Has, Line, Main, Deed, Begin, End, In, Out, Mark, Clear, FindNobody, Does, idle}
 
@@ -37,8 +37,8 @@ pub record Station : Type 0 where
   pub inside : Option Line
   -- in which line it stands
   pub stands : Option Line
-  -- whom it has in hand
-  pub carries : Option Hand
+  -- whether it has anybody in hand, and if so, whether it has handed the lock over
+  pub carries : Option Bool
   -- in whose hand it is
   pub hand : Option Hand
 
@@ -49,7 +49,7 @@ abbrev pub mutex_station : MutexPlace → Station
 mutex_station at = record {
   inside = (mutex_doing at).inside;
   stands = (mutex_profile at).stands;
-  carries = some_hand (mutex_profile at).taken (mutex_profile at).gives;
+  carries = (mutex_profile at).carries;
   hand = (mutex_profile at).hand;
 }
 
@@ -100,34 +100,35 @@ abbrev pub takes : Option ℕ → List Deed
 takes None = FindNobody Main ∷ []
 takes (Some u) = Does (TakeFirst (queued u)) ∷ []
 
-abbrev pub unlock_deeds : UnlockAt → Reply → List Deed
-unlock_deeds unlock.Subtract (Value seen) = Does (Leave Exclusive) ∷ (if is_parked seen then [] else End ∷ [])
-unlock_deeds unlock.Enter Done = In Main ∷ []
-unlock_deeds unlock.Take (Took first none_left) = takes first
-unlock_deeds (unlock.Clear taken) (Value seen) = Clear Main ∷ []
-unlock_deeds (unlock.Leave taken) Done = Out ∷ []
-unlock_deeds at reply = []
+-- Who is taken or handed the lock, if anybody, is no part of a place: `whom`.
+abbrev pub unlock_deeds : UnlockAt → Option ℕ → Reply → List Deed
+unlock_deeds unlock.Subtract whom (Value seen) = Does (Leave Exclusive) ∷ (if is_parked seen then [] else End ∷ [])
+unlock_deeds unlock.Enter whom Done = In Main ∷ []
+unlock_deeds unlock.Take whom (Took any none_left) = takes whom
+unlock_deeds (unlock.Clear any) whom (Value seen) = Clear Main ∷ []
+unlock_deeds (unlock.Leave any) whom Done = Out ∷ []
+unlock_deeds at whom reply = []
 
 -- the store writes the bit anew
 abbrev pub hands_over : Option ℕ → Bool → List Deed
 hands_over None none_left = Does (HandsOff Exclusive None) ∷ Clear Main ∷ []
 hands_over (Some u) none_left = Does (HandsOff Exclusive (Some (queued u))) ∷ (if none_left then Clear Main else Mark Main) ∷ []
 
-abbrev pub hand_off_deeds : Bool → HandOffAt → Reply → List Deed
-hand_off_deeds bumps hand_off.Enter Done = In Main ∷ []
-hand_off_deeds bumps hand_off.Take (Took first none_left) = takes first
-hand_off_deeds bumps (hand_off.Store taken none_left) (Value seen) = hands_over taken none_left
-hand_off_deeds bumps (hand_off.Leave taken) Done = Out ∷ []
-hand_off_deeds bumps at reply = []
+abbrev pub hand_off_deeds : Bool → HandOffAt → Option ℕ → Reply → List Deed
+hand_off_deeds bumps hand_off.Enter whom Done = In Main ∷ []
+hand_off_deeds bumps hand_off.Take whom (Took any none_left) = takes whom
+hand_off_deeds bumps (hand_off.Store any none_left) whom (Value seen) = hands_over whom none_left
+hand_off_deeds bumps (hand_off.Leave any) whom Done = Out ∷ []
+hand_off_deeds bumps at whom reply = []
 
-abbrev pub mutex_deeds : MutexPlace → Reply → List Deed
-mutex_deeds (Lock e retries at) reply = lock_deeds at reply
-mutex_deeds TryLock (Value seen) = if is_locked seen then End ∷ [] else enters
-mutex_deeds (Unlock at) reply = unlock_deeds at reply
-mutex_deeds UnlockFair (Value seen) = if seen == 1 then Does (Leave Exclusive) ∷ End ∷ [] else []
-mutex_deeds Bump (Value seen) = if is_parked seen then [] else End ∷ []
-mutex_deeds (HandOff bumps at) reply = hand_off_deeds bumps at reply
-mutex_deeds at reply = []
+abbrev pub mutex_deeds : MutexPlace → Option ℕ → Reply → List Deed
+mutex_deeds (Lock e retries at) whom reply = lock_deeds at reply
+mutex_deeds TryLock whom (Value seen) = if is_locked seen then End ∷ [] else enters
+mutex_deeds (Unlock at) whom reply = unlock_deeds at whom reply
+mutex_deeds UnlockFair whom (Value seen) = if seen == 1 then Does (Leave Exclusive) ∷ End ∷ [] else []
+mutex_deeds Bump whom (Value seen) = if is_parked seen then [] else End ∷ []
+mutex_deeds (HandOff bumps at) whom reply = hand_off_deeds bumps at whom reply
+mutex_deeds at whom reply = []
 
 -- whom it hands the lock to claims it from then on
 abbrev pub claims_of : Option ℕ → List Act
@@ -135,9 +136,9 @@ claims_of None = []
 claims_of (Some u) = record { by = u; deed = Begin (Some (Has Exclusive)) } ∷ []
 
 -- the deeds of the step of a thread at a place, by what it is told
-abbrev pub deeds : ℕ → MutexPlace → Reply → List Act
-deeds t (HandOff bumps (hand_off.Store taken none_left)) (Value seen) = acts t (hands_over taken none_left) ++ claims_of taken
-deeds t at reply = acts t (mutex_deeds at reply)
+abbrev pub deeds : ℕ → MutexPlace → Option ℕ → Reply → List Act
+deeds t (HandOff bumps (hand_off.Store any none_left)) whom (Value seen) = acts t (hands_over whom none_left) ++ claims_of whom
+deeds t at whom reply = acts t (mutex_deeds at whom reply)
 
 -- the deed with which a call begins
 abbrev pub begins : MutexPlace → Deed

@@ -7,7 +7,7 @@ use Rattle.lot_base.specs.declared.wants.Want.TheVariants.{Exclusive, Upgradable
 use Rattle.lot_steps.specs.declared.acts.Act.TheVariants.{Enter, Leave, Sleep}
 use Rattle.lot_steps.specs.declared.acts.Wakes as wakes
 use Rattle.lot_base.specs.declared.notes.Note.TheVariants.{HandOff}
-use Rattle.lot_steps.specs.Steps.{act_of, retries_on}
+use Rattle.lot_steps.specs.Steps.{act_of, taker, retries_on}
 use Rattle.lot_world.specs.Machine.{State, place_at, word_at, filled_at, section_at}
 use Rattle.abstract_locks.specs.Locks.{LockState, Sort, Semaphore, Rules, times, standing, readers, Owns}
 use Rattle.abstract_locks.specs.Codes.{word_by, parked_in, aside_in}
@@ -104,13 +104,14 @@ pub record NobodyForgotten (w : State) : Type 0 where
 abbrev pub IsAsleepNowhere : State → ℕ → Type 0
 IsAsleepNowhere w t = (act_of (place_at w t) ≡ Sleep) × ((l : ℕ) → standing t (lock_state w l) ≡ 0)
 
--- it owns a lock, and the thread inside the section wakes it as it leaves
+-- it owns a lock, and the thread inside the section has it in its hand, and wakes all whom it has there as it leaves
 pub record IsHandedOver (w : State) (t : ℕ) : Type 0 where
   pub lock : ℕ
   pub by : ℕ
   pub owner : Owns (lock_state w lock) t Exclusive
   pub inside : section_at w (2 * lock) ≡ Some by
-  pub wakes : act_of (place_at w by) ≡ Leave (One (2 * lock)) (wakes.TheVariants.One t HandOff)
+  pub in_hand : taker (place_at w t) ≡ Some by
+  pub wakes : act_of (place_at w by) ≡ Leave (One (2 * lock)) (wakes.TheVariants.All HandOff)
 
 pub record IsKept (w : State) : Type 0 where
   -- owners exclude each other, and a thread stands at most once in the queue of a lock, aside of it or taken from it

@@ -65,16 +65,19 @@ Sections places section = (t l : ℕ) (m : Line) → (station_at (places t) l).i
 abbrev pub Lines : (ℕ → Place) → (ℕ → List Waiter) → Type 0
 Lines places queue = (t l : ℕ) (m : Line) → times t (queue (key_of l m)) ≡ stood_in (station_at (places t) l).stands m
 
-abbrev pub carried_at : Place → ℕ → Option Hand
+abbrev pub carried_at : Place → ℕ → Option Bool
 carried_at p l = (station_at p l).carries
 
 abbrev pub hand_at : Place → ℕ → Option Hand
 hand_at p l = (station_at p l).hand
 
--- whom a thread has in hand is in its hand
 pub record Hands (p : ℕ → Place) : Type 0 where
-  pub carried : (t u l : ℕ) (b : Bool) → carried_at (p t) l ≡ hand u b → hand_at (p u) l ≡ hand t b
-  pub taken : (t u l : ℕ) (b : Bool) → hand_at (p u) l ≡ hand t b → carried_at (p t) l ≡ hand u b
+  -- who has somebody in hand, by its place, has one
+  pub carried : (t l : ℕ) (b : Bool) → carried_at (p t) l ≡ Some b → (u : ℕ) × (hand_at (p u) l ≡ hand t b)
+  -- and no second
+  pub alone : (t l u v : ℕ) (b c : Bool) → hand_at (p u) l ≡ hand t b → hand_at (p v) l ≡ hand t c → v ≡ u
+  -- who is in the hand of a thread, is so by that one's place
+  pub taken : (t u l : ℕ) (b : Bool) → hand_at (p u) l ≡ hand t b → carried_at (p t) l ≡ Some b
 
 abbrev pub is_mutex : Kind → Bool
 is_mutex kind.TheVariants.Mutex = true

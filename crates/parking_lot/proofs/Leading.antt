@@ -66,9 +66,9 @@ module _ (n : ℕ) (base : List Ownership) (st : Stage) where
   unlock_needs unlock.TheVariants.Subtract f = absurd f
   unlock_needs unlock.TheVariants.Enter f = (tt, f.1)
   unlock_needs unlock.TheVariants.Take f = (subst (HasKey (2 * n)) (sym f.1) refl, subst IsFresh (sym f.1) refl)
-  unlock_needs (unlock.TheVariants.Clear taken) f = (mutex_steps (mutex_at n) st.owns).clear_parked
-  unlock_needs (unlock.TheVariants.Leave None) f = subst (MayLeave Normal) (sym f.1) refl
-  unlock_needs (unlock.TheVariants.Leave (Some thread)) f = subst (MayLeave Normal) (sym f.1) refl
+  unlock_needs (unlock.TheVariants.Clear any) f = (mutex_steps (mutex_at n) st.owns).clear_parked
+  unlock_needs (unlock.TheVariants.Leave false) f = subst (MayLeave Normal) (sym f.2.1) refl
+  unlock_needs (unlock.TheVariants.Leave true) f = subst (MayLeave Normal) (sym f.2.1) refl
 
   -- what the place's act needs is there
   pub needs : (p : Place) → Fits n base p st → Can (act_of p)
@@ -178,11 +178,11 @@ module _ (n : ℕ) (base : List Ownership) (st : Stage) where
     unlock_leads : (at : UnlockAt) → FitsUnlock n base at st → (reply : Reply) → Became kinds.TheVariants.Mutex (mutex_at n) None st (unlock_act n at) reply new → Reached n base (Mutex n (at_mutex.Unlock at)) reply new
     unlock_leads unlock.TheVariants.Subtract f reply b = absurd f
     unlock_leads unlock.TheVariants.Enter f Done b = ((refl, (owns_of _ b ∙ f.0, inside_of _ b)), refl)
-    unlock_leads unlock.TheVariants.Take f (Took first true) b = ((refl, (owns_of _ b ∙ f.0, inside_of _ b ∙ ap (took (2 * n) first) f.1)), refl)
-    unlock_leads unlock.TheVariants.Take f (Took first false) b = ((refl, (owns_of _ b ∙ f.0, inside_of _ b ∙ ap (took (2 * n) first) f.1)), refl)
-    unlock_leads (unlock.TheVariants.Clear taken) f (Value seen) b = each_code (λ s. new ≡ stepped kinds.TheVariants.Mutex (mutex_at n) (And 18446744073709551613) s st → Reached n base (Mutex n (at_mutex.Unlock (unlock.TheVariants.Clear taken))) (Value s) new)
-        (λ x. ((refl, stays base _ _ x refl refl f), refl)) (λ x. ((refl, stays base _ _ x refl refl f), refl)) (λ x. ((refl, stays base _ _ x refl refl f), refl)) (λ x. ((refl, stays base _ _ x refl refl f), refl)) seen b.0.1.0 b.1
-    unlock_leads (unlock.TheVariants.Leave taken) f Done b = (refl, (b.0 ∙ f.0, b.1), subst (λ (i : Option Inside). IsLeft i new.last) f.1 b.2)
+    unlock_leads unlock.TheVariants.Take f (Took any true) b = ((refl, (b.0, b.1, (owns_of _ b.2 ∙ f.0, inside_of _ b.2 ∙ ap (took (2 * n) b.0) f.1))), refl)
+    unlock_leads unlock.TheVariants.Take f (Took any false) b = ((refl, (b.0, b.1, (owns_of _ b.2 ∙ f.0, inside_of _ b.2 ∙ ap (took (2 * n) b.0) f.1))), refl)
+    unlock_leads (unlock.TheVariants.Clear any) f (Value seen) b = each_code (λ s. new ≡ stepped kinds.TheVariants.Mutex (mutex_at n) (And 18446744073709551613) s st → Reached n base (Mutex n (at_mutex.Unlock (unlock.TheVariants.Clear any))) (Value s) new)
+        (λ x. ((refl, (f.0, f.1, stays base _ _ x refl refl f.2)), refl)) (λ x. ((refl, (f.0, f.1, stays base _ _ x refl refl f.2)), refl)) (λ x. ((refl, (f.0, f.1, stays base _ _ x refl refl f.2)), refl)) (λ x. ((refl, (f.0, f.1, stays base _ _ x refl refl f.2)), refl)) seen b.0.1.0 b.1
+    unlock_leads (unlock.TheVariants.Leave any) f Done b = (refl, (b.0 ∙ f.2.0, b.1), subst (λ (i : Option Inside). IsLeft i new.last) f.2.1 b.2)
     unlock_leads at f reply b = absurd b
 
     leads : (p : Place) → Fits n base p st → (reply : Reply) → Became kinds.TheVariants.Mutex (mutex_at n) (late_key p) st (act_of p) reply new → Reached n base p reply new

@@ -27,7 +27,7 @@ wordless at p a reply before behind is quiet valueless e = ([], e ∙ sym (appen
 
 pub told : (at : ℕ) (kind : kinds.WordKind) (late : Option ℕ) (p : Place) (a : Act) → act_of p ≡ a → (st new : Stage) (reply : Reply) (before behind : List WordStep) → Became kind at late st a reply new → Adds at a reply before behind → Told at p reply before behind
 told at kind late p (act.TheVariants.Word l op) is st new (Value seen) before behind b e = (step at op seen, e, word p l op seen is)
-told at kind late p (act.TheVariants.HandOver l op to) is st new (Value seen) before behind b e = (step at op seen, e, hands p l op to seen is)
+told at kind late p (act.TheVariants.HandOver l op) is st new (Value seen) before behind b e = (step at op seen, e, hands p l op seen is)
 told at kind late p (act.TheVariants.Park l key check want) is st new (Parked parked) before behind b e = (step at Load e.0, e.2, subst (λ (x : Bool). Tells at p (step at Load e.0) (Parked x)) (sym e.1) (parks p l key check want e.0 is))
 told at kind late p (act.TheVariants.Enter keys) is st new Done before behind b e = wordless at p (act.TheVariants.Enter keys) Done before behind is refl refl e
 told at kind late p (act.TheVariants.TakeFirst key) is st new (Took first left) before behind b e = wordless at p (act.TheVariants.TakeFirst key) (Took first left) before behind is refl refl e

@@ -28,7 +28,7 @@ use Rattle.lot_words.specs.declared.words.WordKind as kinds
 use Rattle.parking_lot_core.specs.declared.tokens.Did.TheVariants.{TakeFirst}
 use Rattle.parking_lot_core.specs.declared.tokens.Record.{Record}
 use Rattle.parking_lot.specs.Paths.{mutex_at}
-use Rattle.parking_lot.specs.Stages.{Stage, Needs, Became, entered_now, listed}
+use Rattle.parking_lot.specs.Stages.{Stage, Needs, Became, entered_now, is_there, listed}
 
 abbrev pub answer_of : Act → Option Answer
 answer_of (act.TheVariants.End answer) = Some answer
@@ -77,6 +77,10 @@ Within n owns st = (st.owns ≡ owns) × (st.inside ≡ entered_now (One (2 * n)
 abbrev pub Took : ℕ → Option ℕ → List ℕ → List Ownership → Stage → Type 0
 Took n first rightless owns st = (st.owns ≡ owns) × (st.inside ≡ Some (record { keys = One (2 * n); did = TakeFirst (2 * n); taken = listed first; rightless = rightless }))
 
+-- or has taken some thread, or none; that one has no right yet
+abbrev pub HasTook : ℕ → Bool → List Ownership → Stage → Type 0
+HasTook n any owns st = (first : Option ℕ) × (any ≡ is_there first) × Took n first (listed first) owns st
+
 -- the section that was left last is one of this key, where the first of the queue was taken
 abbrev pub TookAt : ℕ → Option Record → Type 0
 TookAt n last = (number : ℕ) × (last ≡ Some (record { key = 2 * n; did = TakeFirst (2 * n); number = number }))
@@ -100,15 +104,15 @@ abbrev pub FitsUnlock : ℕ → List Ownership → UnlockAt → Stage → Type 0
 FitsUnlock n base unlock.TheVariants.Subtract st = ⊥
 FitsUnlock n base unlock.TheVariants.Enter st = Outside base st
 FitsUnlock n base unlock.TheVariants.Take st = Within n base st
-FitsUnlock n base (unlock.TheVariants.Clear taken) st = Took n taken (listed taken) base st
-FitsUnlock n base (unlock.TheVariants.Leave taken) st = Took n taken (listed taken) base st
+FitsUnlock n base (unlock.TheVariants.Clear any) st = HasTook n any base st
+FitsUnlock n base (unlock.TheVariants.Leave any) st = HasTook n any base st
 
 -- an owner that saw a waiter, until its store, and behind that
 abbrev pub FitsHandOff : ℕ → List Ownership → HandOffAt → Stage → Type 0
 FitsHandOff n base hand_off.TheVariants.Enter st = (has (held n) base ≡ true) × Outside base st
 FitsHandOff n base hand_off.TheVariants.Take st = (has (held n) base ≡ true) × Within n base st
-FitsHandOff n base (hand_off.TheVariants.Store taken none_left) st = (has (held n) base ≡ true) × Took n taken (listed taken) base st
-FitsHandOff n base (hand_off.TheVariants.Leave taken) st = Took n taken [] (without (held n) base) st
+FitsHandOff n base (hand_off.TheVariants.Store any none_left) st = (has (held n) base ≡ true) × HasTook n any base st
+FitsHandOff n base (hand_off.TheVariants.Leave any) st = (first : Option ℕ) × (any ≡ is_there first) × Took n first [] (without (held n) base) st
 
 abbrev pub FitsAt : ℕ → List Ownership → MutexPlace → Stage → Type 0
 FitsAt n base (Lock e retries at) st = FitsLock n e (beside n e base) at st

@@ -44,7 +44,7 @@ is_valueless _ = true
 -- at a place these steps on a word bring the reply
 pub data Tells (at : ℕ) : Place → List WordStep → Reply → Type 0 where
   word : (p : Place) (lock : ℕ) (op : Op) (seen : ℕ) → act_of p ≡ act.TheVariants.Word lock op → Tells at p (step at op seen) (Value seen)
-  hands : (p : Place) (lock : ℕ) (op : Op) (to seen : ℕ) → act_of p ≡ act.TheVariants.HandOver lock op to → Tells at p (step at op seen) (Value seen)
+  hands : (p : Place) (lock : ℕ) (op : Op) (seen : ℕ) → act_of p ≡ act.TheVariants.HandOver lock op → Tells at p (step at op seen) (Value seen)
   parks : (p : Place) (lock key : ℕ) (check : Check) (want : Want) (seen : ℕ) → act_of p ≡ act.TheVariants.Park lock key check want → Tells at p (step at Load seen) (Parked (holds check seen))
   -- the word is loaded in place of an act that leads to sleep
   spins : (p : Place) (lock seen : ℕ) → spin_lock p ≡ Some lock → Tells at p (step at Load seen) (Spun seen)

@@ -1,6 +1,5 @@
 -- What a thread has between two acts of a call, and what each act needs and changes, whatever the lock is.
-use Rattle.std.specs.Prelude.{ℕ, ◌≡◌, ◌++◌, ◌==◌, not, Contains, List, [], ◌∷◌, Option, Some, None, true}
-use Rattle.std.specs.List.{filter}
+use Rattle.std.specs.Prelude.{ℕ, ◌≡◌, ◌++◌, List, [], ◌∷◌, Option, Some, None, Bool, true, false}
 use Rattle.lot_base.specs.declared.keys.Keys.{Keys}
 use Rattle.lot_base.specs.declared.keys.Keys.TheVariants.{One}
 use Rattle.lot_base.specs.declared.notes.Note.{Note}
@@ -80,14 +79,18 @@ abbrev pub took : ℕ → Option ℕ → Option Inside → Option Inside
 took key first None = None
 took key first (Some inside) = Some (record { keys = inside.keys; did = TakeFirst key; taken = listed first; rightless = listed first })
 
--- one of those who were taken was given a right
-abbrev pub gave : ℕ → Option Inside → Option Inside
-gave thread None = None
-gave thread (Some inside) = Some (record inside { rightless = filter (λ x. not (x == thread)) inside.rightless })
+-- each of those who were taken was given a right
+abbrev pub all_given : Option Inside → Option Inside
+all_given None = None
+all_given (Some inside) = Some (record inside { rightless = [] })
+
+abbrev pub is_there : Option ℕ → Bool
+is_there None = false
+is_there (Some thread) = true
 
 abbrev pub note_of : Wakes → Note
 note_of wakes.TheVariants.Nobody = Normal
-note_of (wakes.TheVariants.One thread note) = note
+note_of (wakes.TheVariants.All note) = note
 
 -- inside a section of this key
 abbrev pub HasKey : ℕ → Option Inside → Type 0
@@ -99,9 +102,10 @@ abbrev pub IsFresh : Option Inside → Type 0
 IsFresh None = ⊥
 IsFresh (Some inside) = inside.did ≡ Nothing
 
-abbrev pub HasTaken : ℕ → Option Inside → Type 0
-HasTaken thread None = ⊥
-HasTaken thread (Some inside) = Contains inside.taken thread
+-- inside one where one thread was taken that has no right yet
+abbrev pub HasOneTaken : Option Inside → Type 0
+HasOneTaken None = ⊥
+HasOneTaken (Some inside) = (thread : ℕ) × (inside.rightless ≡ thread ∷ [])
 
 -- inside one that may be left with the note
 abbrev pub MayLeave : Note → Option Inside → Type 0
@@ -115,7 +119,7 @@ KeepsIt kind at op owns = (seen : ℕ) → CodesWith kind at seen owns → has (
 -- what an act needs of the stage
 abbrev pub Needs : WordKind → ℕ → Stage → Act → Type 0
 Needs kind at st (act.TheVariants.Word lock op) = MayStep kind at op st.owns
-Needs kind at st (act.TheVariants.HandOver lock op to) = MayStep kind at op st.owns × KeepsIt kind at op st.owns × HasTaken to st.inside
+Needs kind at st (act.TheVariants.HandOver lock op) = MayStep kind at op st.owns × KeepsIt kind at op st.owns × HasOneTaken st.inside
 Needs kind at st (act.TheVariants.Enter keys) = AreKeys keys × (st.inside ≡ None)
 Needs kind at st (act.TheVariants.Park lock key check _) = MayStep kind at Load st.owns × HasKey key st.inside
 Needs kind at st (act.TheVariants.TakeFirst key) = HasKey key st.inside × IsFresh st.inside
@@ -130,8 +134,8 @@ abbrev pub stepped : WordKind → ℕ → Op → ℕ → Stage → Stage
 stepped kind at op seen st = stage (owns_after_step kind at op seen st.owns) st.inside None
 
 -- after one with which the lock goes to a thread that was taken
-abbrev pub handed : WordKind → ℕ → Op → ℕ → ℕ → Stage → Stage
-handed kind at op to seen st = stage (without (owning at Exclusive) (owns_after_step kind at op seen st.owns)) (gave to st.inside) None
+abbrev pub handed : WordKind → ℕ → Op → ℕ → Stage → Stage
+handed kind at op seen st = stage (without (owning at Exclusive) (owns_after_step kind at op seen st.owns)) (all_given st.inside) None
 
 -- what a section that is left leaves behind
 abbrev pub IsLeft : Option Inside → Option Record → Type 0
@@ -141,10 +145,10 @@ IsLeft (Some inside) last = (number : ℕ) × (last ≡ Some (record { key = fir
 -- what an act made of the stage, by its reply. A sleeper may be late under one key only, if any
 abbrev pub Became : WordKind → ℕ → Option ℕ → Stage → Act → Reply → Stage → Type 0
 Became kind at late st (act.TheVariants.Word lock op) (Value seen) new = CodesWith kind at seen st.owns × (new ≡ stepped kind at op seen st)
-Became kind at late st (act.TheVariants.HandOver lock op to) (Value seen) new = CodesWith kind at seen st.owns × (new ≡ handed kind at op to seen st)
+Became kind at late st (act.TheVariants.HandOver lock op) (Value seen) new = CodesWith kind at seen st.owns × (new ≡ handed kind at op seen st)
 Became kind at late st (act.TheVariants.Enter keys) Done new = new ≡ stage st.owns (entered_now keys) st.last
 Became kind at late st (act.TheVariants.Park lock key check _) (Parked parked) new = (seen : ℕ) × (parked ≡ holds check seen) × CodesWith kind at seen st.owns × (new ≡ stepped kind at Load seen st)
-Became kind at late st (act.TheVariants.TakeFirst key) (Took first none_left) new = new ≡ stage st.owns (took key first st.inside) st.last
+Became kind at late st (act.TheVariants.TakeFirst key) (Took any none_left) new = (first : Option ℕ) × (any ≡ is_there first) × (new ≡ stage st.owns (took key first st.inside) st.last)
 Became kind at late st (act.TheVariants.Remove key) (Removed none_left) new = new ≡ st
 Became kind at late st (act.TheVariants.Leave keys wakes) Done new = (new.owns ≡ st.owns) × (new.inside ≡ None) × IsLeft st.inside new.last
 Became kind at late st act.TheVariants.Sleep (Woken Normal) new = (new.owns ≡ st.owns) × (new.inside ≡ st.inside)
@@ -156,6 +160,6 @@ Became kind at late st _ _ new = ⊥
 -- the steps on words that an act adds
 abbrev pub Adds : ℕ → Act → Reply → List WordStep → List WordStep → Type 0
 Adds at (act.TheVariants.Word lock op) (Value seen) old new = new ≡ old ++ step at op seen
-Adds at (act.TheVariants.HandOver lock op to) (Value seen) old new = new ≡ old ++ step at op seen
+Adds at (act.TheVariants.HandOver lock op) (Value seen) old new = new ≡ old ++ step at op seen
 Adds at (act.TheVariants.Park lock key check _) (Parked parked) old new = (seen : ℕ) × (parked ≡ holds check seen) × (new ≡ old ++ step at Load seen)
 Adds at _ _ old new = new ≡ old

@@ -11,7 +11,7 @@ ghost use Rattle.lot_words.specs.Places.{place};
 ghost use Rattle.lot_words.specs.Steps.{MayStep, CodesWith, after_step};
 ghost use Rattle.parking_lot_core.specs.Keys.{AreKeys};
 ghost use Rattle.parking_lot_core.specs.Tokens.{IsTokenOf, Stays, view_of, last_of};
-ghost use Rattle.parking_lot.specs.Stages.{Adds, HasKey, HasTaken, IsFresh, MayLeave, KeepsIt, IsIn, IsLeft, took, handed, note_of, inside_of, stage_of, waiting_of, entered_now, Needs, Became};
+ghost use Rattle.parking_lot.specs.Stages.{Adds, HasKey, HasOneTaken, IsFresh, MayLeave, KeepsIt, IsIn, IsLeft, took, handed, note_of, inside_of, stage_of, waiting_of, entered_now, Needs, Became};
 
 use lot_steps::{Act, Check, Reply, Wakes};
 use parking_lot_core::{Clock, Key, Keys, Note, Op, ParkingLot, Section, Slept, Token, Want, Word};
@@ -22,7 +22,7 @@ fn note_of(wakes: Wakes) -> Note
 {
     match wakes {
         Wakes::Nobody => Note::Normal,
-        Wakes::One { note, .. } => note,
+        Wakes::All(note) => note,
     }
 }
 
@@ -71,7 +71,7 @@ fn take_first(_lot: &ParkingLot, section: &mut Option<Section>, key: Key) -> (Op
     }
 }
 
-// One step on the word, with which the lock goes to a thread that was taken. The right to it is laid in that thread's record.
+// One step on the word, with which the lock goes to the thread that was taken. The right to it is laid in that thread's record.
 fn hand_over<R: Wait>(
     rt: &R,
     lot: &ParkingLot,
@@ -79,19 +79,18 @@ fn hand_over<R: Wait>(
     word: Word,
     section: &mut Option<Section>,
     op: Op,
-    to: usize,
 ) -> u64
     requires own { IsTokenOf lot.now token.old × IsWordOf lot.now.words word × IsIn lot.now section.old }
     requires needs { MayStep word.kind (place word.number word.kind) op (view_of token.old).owns × KeepsIt word.kind (place word.number word.kind) op (view_of token.old).owns }
-    requires taken { HasTaken to (inside_of section.old) }
+    requires taken { HasOneTaken (inside_of section.old) }
     ensures own { Stays lot.now token.old token.new × IsIn lot.now section.new }
-    ensures became { CodesWith word.kind (place word.number word.kind) result (view_of token.old).owns × (stage_of token.new section.new ≡ handed word.kind (place word.number word.kind) op to result (stage_of token.old section.old)) }
-    ensures adds { Adds (place word.number word.kind) (acts.HandOver 0 op to) (Value result) (view_of token.old).steps (view_of token.new).steps }
+    ensures became { CodesWith word.kind (place word.number word.kind) result (view_of token.old).owns × (stage_of token.new section.new ≡ handed word.kind (place word.number word.kind) op result (stage_of token.old section.old)) }
+    ensures adds { Adds (place word.number word.kind) (acts.HandOver 0 op) (Value result) (view_of token.old).steps (view_of token.new).steps }
 {
     match section {
         Some(inside) => {
             let seen = lot.word(token, word, op);
-            inside.give(rt, to, lot.split_right(token, word, Want::Exclusive));
+            inside.give_next(rt, lot.split_right(token, word, Want::Exclusive));
             seen
         }
         None => unreachable!(),
@@ -212,8 +211,8 @@ pub(crate) fn perform<'a, R: Wait, C: Clock>(
 {
     match act {
         Act::Word { op, .. } => Reply::Value(lot.word(token, word, op)),
-        Act::HandOver { op, to, .. } => {
-            Reply::Value(hand_over(rt, lot, token, word, section, op, to))
+        Act::HandOver { op, .. } => {
+            Reply::Value(hand_over(rt, lot, token, word, section, op))
         }
         Act::Enter(keys) => {
             enter(rt, lot, token, section, keys);
@@ -227,7 +226,10 @@ pub(crate) fn perform<'a, R: Wait, C: Clock>(
         } => Reply::Parked(park(lot, token, word, section, key, check, want)),
         Act::TakeFirst(key) => {
             let (first, none_left) = take_first(lot, section, key);
-            Reply::Took { first, none_left }
+            Reply::Took {
+                any: first.is_some(),
+                none_left,
+            }
         }
         Act::Remove(key) => Reply::Removed {
             none_left: remove(lot, section, key, token.number()),

@@ -20,13 +20,8 @@ pub enum HandOffAt {
     Enter,
     Take,
     /// It stores the word, and with it hands the mutex to the one that it took.
-    Store {
-        taken: Option<usize>,
-        none_left: bool,
-    },
-    Leave {
-        taken: Option<usize>,
-    },
+    Store { any: bool, none_left: bool },
+    Leave { any: bool },
 }
 
 /// Where an owner goes that saw `PARKED`.
@@ -35,13 +30,10 @@ pub(super) fn next_hand_off(at: HandOffAt, reply: Reply) -> Next<HandOffAt>
 {
     match (at, reply) {
         (HandOffAt::Enter, Reply::Done) => Next::At(HandOffAt::Take),
-        (HandOffAt::Take, Reply::Took { first, none_left }) => Next::At(HandOffAt::Store {
-            taken: first,
-            none_left,
-        }),
-        (HandOffAt::Store { taken, .. }, Reply::Value(_)) => {
-            Next::At(HandOffAt::Leave { taken })
+        (HandOffAt::Take, Reply::Took { any, none_left }) => {
+            Next::At(HandOffAt::Store { any, none_left })
         }
+        (HandOffAt::Store { any, .. }, Reply::Value(_)) => Next::At(HandOffAt::Leave { any }),
         (HandOffAt::Leave { .. }, Reply::Done) => Next::End(Answer::Ok),
         (at, _) => Next::At(at),
     }
@@ -63,24 +55,25 @@ pub(super) fn looked(bumps: bool, saw_waiters: bool) -> Next<MutexPlace>
 
 /// The word that a hand-off leaves: unlocked where nobody was taken, and else locked, with `PARKED`
 /// where waiters are left.
-pub(super) fn hand_off_word(taken: Option<usize>, none_left: bool) -> u64
-    ensures { result ≡ hand_off_word taken none_left }
+pub(super) fn hand_off_word(any: bool, none_left: bool) -> u64
+    ensures { result ≡ hand_off_word any none_left }
 {
-    match (taken, none_left) {
-        (None, _) => 0,
-        (Some(_), true) => LOCKED,
-        (Some(_), false) => LOCKED + PARKED,
+    match (any, none_left) {
+        (false, _) => 0,
+        (true, true) => LOCKED,
+        (true, false) => LOCKED + PARKED,
     }
 }
 
 /// Stores the word; where somebody was taken, that one owns the mutex from then on.
-pub(super) fn hand_off_store(lock: usize, taken: Option<usize>, none_left: bool) -> Act
-    ensures { result ≡ hand_off_store lock taken none_left }
+pub(super) fn hand_off_store(lock: usize, any: bool, none_left: bool) -> Act
+    ensures { result ≡ hand_off_store lock any none_left }
 {
-    let op = Op::Store(hand_off_word(taken, none_left));
-    match taken {
-        None => Act::Word { lock, op },
-        Some(to) => Act::HandOver { lock, op, to },
+    let op = Op::Store(hand_off_word(any, none_left));
+    if any {
+        Act::HandOver { lock, op }
+    } else {
+        Act::Word { lock, op }
     }
 }
 
@@ -92,10 +85,10 @@ pub(super) fn hand_off_act(lock: usize, at: HandOffAt) -> Act
     match at {
         HandOffAt::Enter => Act::Enter(Keys::One(main_key(lock))),
         HandOffAt::Take => Act::TakeFirst(main_key(lock)),
-        HandOffAt::Store { taken, none_left } => hand_off_store(lock, taken, none_left),
-        HandOffAt::Leave { taken } => Act::Leave {
+        HandOffAt::Store { any, none_left } => hand_off_store(lock, any, none_left),
+        HandOffAt::Leave { any } => Act::Leave {
             keys: Keys::One(main_key(lock)),
-            wakes: Wakes::first(taken, Note::HandOff),
+            wakes: Wakes::taken(any, Note::HandOff),
         },
     }
 }

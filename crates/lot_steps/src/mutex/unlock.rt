@@ -23,8 +23,8 @@ pub enum UnlockAt {
     Enter,
     Take,
     /// None is left in the queue.
-    Clear { taken: Option<usize> },
-    Leave { taken: Option<usize> },
+    Clear { any: bool },
+    Leave { any: bool },
 }
 
 /// Where `unlock` goes.
@@ -38,12 +38,12 @@ pub(super) fn next_unlock(at: UnlockAt, reply: Reply) -> Next<UnlockAt>
             Next::End(Answer::Ok)
         },
         (UnlockAt::Enter, Reply::Done) => Next::At(UnlockAt::Take),
-        (UnlockAt::Take, Reply::Took { first, none_left }) => if none_left {
-            Next::At(UnlockAt::Clear { taken: first })
+        (UnlockAt::Take, Reply::Took { any, none_left }) => if none_left {
+            Next::At(UnlockAt::Clear { any })
         } else {
-            Next::At(UnlockAt::Leave { taken: first })
+            Next::At(UnlockAt::Leave { any })
         },
-        (UnlockAt::Clear { taken }, Reply::Value(_)) => Next::At(UnlockAt::Leave { taken }),
+        (UnlockAt::Clear { any }, Reply::Value(_)) => Next::At(UnlockAt::Leave { any }),
         (UnlockAt::Leave { .. }, Reply::Done) => Next::End(Answer::Ok),
         (at, _) => Next::At(at),
     }
@@ -65,9 +65,9 @@ pub(super) fn unlock_act(lock: usize, at: UnlockAt) -> Act
             lock,
             op: Op::And(NOT_PARKED),
         },
-        UnlockAt::Leave { taken } => Act::Leave {
+        UnlockAt::Leave { any } => Act::Leave {
             keys: Keys::One(main_key(lock)),
-            wakes: Wakes::first(taken, Note::Normal),
+            wakes: Wakes::taken(any, Note::Normal),
         },
     }
 }
