@@ -9,7 +9,7 @@ use Rattle.lot_calls.specs.declared.outcomes.Outcome.{Outcome}
 use Rattle.lot_calls.specs.declared.outcomes.Outcome as outcome
 use Rattle.lot_steps.specs.Acts.{outcome_of}
 use Rattle.lot_steps.specs.Steps.{next_act}
-use Rattle.lot_world.specs.Machine.{State, Alone, alone_after, solo, after, answered, is_possible, turned, turn_outcome, go_of, go_reply, place_at}
+use Rattle.lot_world.specs.Machine.{State, Alone, alone_after, solo, after, step_outcome, is_possible, state_after_turn, turn_outcome, go_of, go_reply, place_at}
 
 -- a step that was possible doesn't answer that it wasn't
 outcome_possible : (act : Act) → outcome_of act ≢ outcome.TheVariants.NotNow
@@ -23,10 +23,10 @@ turn_possible w t turn.TheVariants.Go h = outcome_possible (next_act (place_at w
 turn_possible w t x h = cc
 
 -- a step that wasn't possible has changed nothing
-pub after_stuck : (w : State) (s : Step) → answered w s ≡ outcome.TheVariants.NotNow → after w s ≡ w
+pub after_stuck : (w : State) (s : Step) → step_outcome w s ≡ outcome.TheVariants.NotNow → after w s ≡ w
 after_stuck w s h = either (is_possible w s) h
   where
-    either : (b : Bool) → (if b then turn_outcome w s.thread s.turn else outcome.TheVariants.NotNow) ≡ outcome.TheVariants.NotNow → (if b then turned w s.thread s.turn else w) ≡ w
+    either : (b : Bool) → (if b then turn_outcome w s.thread s.turn else outcome.TheVariants.NotNow) ≡ outcome.TheVariants.NotNow → (if b then state_after_turn w s.thread s.turn else w) ≡ w
     either false e = refl
     either true e = absurd (turn_possible w s.thread s.turn e)
 
@@ -35,12 +35,12 @@ unfolding solo
 solo_end zero w t last e = refl
 solo_end (suc n) w t last e = cc
 
-solo_more : (n : ℕ) (w : State) (t : ℕ) (last : Outcome) → solo (suc n) w t last ≡ alone_after (answered w (go_of t)) w (after w (go_of t)) last (solo n (after w (go_of t)) t outcome.TheVariants.Step)
+solo_more : (n : ℕ) (w : State) (t : ℕ) (last : Outcome) → solo (suc n) w t last ≡ alone_after (step_outcome w (go_of t)) w (after w (go_of t)) last (solo n (after w (go_of t)) t outcome.TheVariants.Step)
 unfolding solo
 solo_more n w t last = refl
 
 solo_next : (counter : ℕ) (w : State) (t : ℕ) (last : Outcome) → counter < 64
-    → solo (64 - counter) w t last ≡ alone_after (answered w (go_of t)) w (after w (go_of t)) last (solo (64 - (counter + 1)) (after w (go_of t)) t outcome.TheVariants.Step)
+    → solo (64 - counter) w t last ≡ alone_after (step_outcome w (go_of t)) w (after w (go_of t)) last (solo (64 - (counter + 1)) (after w (go_of t)) t outcome.TheVariants.Step)
 solo_next counter w t last h = let e : 64 - counter ≡ suc (64 - (counter + 1)) = omega arith in ap (λ n. solo n w t last) e ∙ solo_more (64 - (counter + 1)) w t last
 
 pub rests_after : (o : Outcome) (w v : State) (last : Outcome) (more : Alone) → o ≢ outcome.TheVariants.NotNow → o ≢ outcome.TheVariants.Step → alone_after o w v last more ≡ record { state = v; outcome = o }
@@ -48,11 +48,11 @@ rests_after outcome.TheVariants.NotNow w v last more h k = absurd (h refl)
 rests_after outcome.TheVariants.Step w v last more h k = absurd (k refl)
 rests_after o w v last more h k = refl
 
-module _ (counter : ℕ) (w v : State) (t : ℕ) (last o : Outcome) (below : counter < 64) (led : v ≡ after w (go_of t)) (told : o ≡ answered w (go_of t)) where
+module _ (counter : ℕ) (w v : State) (t : ℕ) (last o : Outcome) (below : counter < 64) (led : v ≡ after w (go_of t)) (told : o ≡ step_outcome w (go_of t)) where
   -- no step was possible
   pub alone_stuck : o ≡ outcome.TheVariants.NotNow → solo (64 - counter) w t last ≡ record { state = v; outcome = last }
   alone_stuck h =
-      let stuck : answered w (go_of t) ≡ outcome.TheVariants.NotNow = sym told ∙ h in
+      let stuck : step_outcome w (go_of t) ≡ outcome.TheVariants.NotNow = sym told ∙ h in
       let same : v ≡ w = led ∙ after_stuck w (go_of t) stuck in
       solo_next counter w t last below ∙ ap (λ x. alone_after x w (after w (go_of t)) last (solo (64 - (counter + 1)) (after w (go_of t)) t outcome.TheVariants.Step)) stuck ∙ ap (λ (s : State). record { state = s; outcome = last }) (sym same)
 

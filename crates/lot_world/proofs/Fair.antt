@@ -27,7 +27,7 @@ use Rattle.lot_steps.specs.declared.places.Place.{Place}
 use Rattle.lot_steps.specs.declared.places.Place.TheVariants.{Idle, Mutex}
 use Rattle.lot_steps.specs.MutexSteps.{is_locked, is_parked, lock_act, hand_off_act}
 use Rattle.lot_steps.specs.Steps.{act_of, spin_lock, late_key}
-use Rattle.lot_world.specs.Machine.{State, unlocked, place_at, word_at, owners_at, kind_at, queue_at, operated, appended, first_taken, performed, taken_by, spun_on, late_on, turned, is_possible, after, answered}
+use Rattle.lot_world.specs.Machine.{State, unlocked, place_at, word_at, owners_at, kind_at, queue_at, state_after_operation, queues_with_last, queues_without_first, state_after_act, state_after_taking, state_after_spin_on, state_after_late_on, state_after_turn, is_possible, after, step_outcome}
 use Rattle.lot_world.specs.Fits.{IsShaped, PlaceFits}
 use Rattle.lot_world.specs.MutexPromises.{IsMutexWord}
 use Rattle.lot_world.specs.MutexDeeds.{mutex_station}
@@ -131,7 +131,7 @@ ComesTo w t l v = (owner_at v l ≡ Some t) ⊎ (((u : ℕ) × IsTaken (lock_sta
     ⊎ ((owner_at v l ≡ None) × HasTakenNobody (lock_state w l) t × ((is_parked (word_at w l) ≡ false) ⊎ ((lock_state w l).queue ≡ []))))
 
 module _ (w : State) (t l : ℕ) (shape : IsShaped w) (steady : IsSteady w) (own : owner_at w l ≡ Some t) where
-  operated_owner : (p : Place) (f : Op) → l < length w.locks → owner_at (operated w t p l f) l ≡ owner_after p t (word_at w l) (Some t)
+  operated_owner : (p : Place) (f : Op) → l < length w.locks → owner_at (state_after_operation w t p l f) l ≡ owner_after p t (word_at w l) (Some t)
   operated_owner p f lt = ap (λ x. x.owners.exclusive) (get_or-set_same w.locks l _ (unlocked kind.TheVariants.Mutex) lt) ∙ exclusive-owners p t (word_at w l) (owners_at w l) ∙ ap (owner_after p t (word_at w l)) own
 
   still_own : (b : Bool) → (if b then Some t else Some t) ≡ Some t
@@ -140,16 +140,16 @@ module _ (w : State) (t l : ℕ) (shape : IsShaped w) (steady : IsSteady w) (own
 
   module _ (lt : l < length w.locks) where
     -- a bump that enters again owns what it owned
-    decided_keeps : (retries : Bool) (s : ℕ) (a b : Bool) → ComesTo w t l (performed w t (Mutex l (Lock entries.Bump retries (lock.Decide s))) (if not a then act.TheVariants.Word l (op.TheVariants.Exchange s (s + 1)) else if b then act.TheVariants.Word l (op.TheVariants.Exchange 1 3) else act.TheVariants.Enter (One (2 * l))))
+    decided_keeps : (retries : Bool) (s : ℕ) (a b : Bool) → ComesTo w t l (state_after_act w t (Mutex l (Lock entries.Bump retries (lock.Decide s))) (if not a then act.TheVariants.Word l (op.TheVariants.Exchange s (s + 1)) else if b then act.TheVariants.Word l (op.TheVariants.Exchange 1 3) else act.TheVariants.Enter (One (2 * l))))
     decided_keeps retries s false b = inl (operated_owner (Mutex l (Lock entries.Bump retries (lock.Decide s))) (op.TheVariants.Exchange s (s + 1)) lt ∙ still_own ((word_at w l == s) && not (is_locked (word_at w l))))
     decided_keeps retries s true true = inl (operated_owner (Mutex l (Lock entries.Bump retries (lock.Decide s))) (op.TheVariants.Exchange 1 3) lt ∙ still_own ((word_at w l == s) && not (is_locked (word_at w l))))
     decided_keeps retries s true false = inl own
 
-    parked_keeps : (b : Bool) → ComesTo w t l (if b then record w { queues = appended w.queues (2 * l) t Exclusive } else w)
+    parked_keeps : (b : Bool) → ComesTo w t l (if b then record w { queues = queues_with_last w.queues (2 * l) t Exclusive } else w)
     parked_keeps true = inl own
     parked_keeps false = inl own
 
-    lock_keeps : (retries : Bool) (a : LockAt) → ComesTo w t l (performed w t (Mutex l (Lock entries.Bump retries a)) (lock_act l a))
+    lock_keeps : (retries : Bool) (a : LockAt) → ComesTo w t l (state_after_act w t (Mutex l (Lock entries.Bump retries a)) (lock_act l a))
     lock_keeps retries lock.First = inl (operated_owner (Mutex l (Lock entries.Bump retries lock.First)) (op.TheVariants.Exchange 0 1) lt ∙ still_own (word_at w l == 0))
     lock_keeps retries lock.Load = inl (operated_owner (Mutex l (Lock entries.Bump retries lock.Load)) op.TheVariants.Load lt)
     lock_keeps retries (lock.Decide s) = decided_keeps retries s (is_locked s) (s == 1)
@@ -166,18 +166,18 @@ module _ (w : State) (t l : ℕ) (shape : IsShaped w) (steady : IsSteady w) (own
     carries_nobody : (at : MutexPlace) → place_at w t ≡ Mutex l at → ((mutex_station at).carries ≡ Some false → ⊥) → HasTakenNobody (lock_state w l) t
     carries_nobody at is none = in_no_hand w steady t l (λ h. none (sym (ap (λ x. x.carries) (own_stance l (place_at w t) at is)) ∙ h))
 
-    unlock_fair_gives : place_at w t ≡ Mutex l UnlockFair → ComesTo w t l (operated w t (Mutex l UnlockFair) l (op.TheVariants.Exchange 1 0))
+    unlock_fair_gives : place_at w t ≡ Mutex l UnlockFair → ComesTo w t l (state_after_operation w t (Mutex l UnlockFair) l (op.TheVariants.Exchange 1 0))
     unlock_fair_gives is = either (word_at w l == 1) refl (operated_owner (Mutex l UnlockFair) (op.TheVariants.Exchange 1 0) lt)
       where
-        either : (b : Bool) → (word_at w l == 1) ≡ b → owner_at (operated w t (Mutex l UnlockFair) l (op.TheVariants.Exchange 1 0)) l ≡ (if b then None else Some t) → ComesTo w t l (operated w t (Mutex l UnlockFair) l (op.TheVariants.Exchange 1 0))
+        either : (b : Bool) → (word_at w l == 1) ≡ b → owner_at (state_after_operation w t (Mutex l UnlockFair) l (op.TheVariants.Exchange 1 0)) l ≡ (if b then None else Some t) → ComesTo w t l (state_after_operation w t (Mutex l UnlockFair) l (op.TheVariants.Exchange 1 0))
         either false e h = inl h
         either true e h = inr (inr (h, carries_nobody UnlockFair is (λ g. absurd cc), inl (rw (eqb-true (word_at w l) 1 e) refl)))
 
-    taken_gives : (bumps : Bool) (o : Option ℕ) → ComesTo w t l (taken_by (record w { queues = first_taken w.queues (2 * l) }) t o)
+    taken_gives : (bumps : Bool) (o : Option ℕ) → ComesTo w t l (state_after_taking (record w { queues = queues_without_first w.queues (2 * l) }) t o)
     taken_gives bumps None = inl own
     taken_gives bumps (Some u) = inl own
 
-    hand_off_gives : (bumps : Bool) (a : HandOffAt) → place_at w t ≡ Mutex l (HandOff bumps a) → ComesTo w t l (performed w t (Mutex l (HandOff bumps a)) (hand_off_act l a))
+    hand_off_gives : (bumps : Bool) (a : HandOffAt) → place_at w t ≡ Mutex l (HandOff bumps a) → ComesTo w t l (state_after_act w t (Mutex l (HandOff bumps a)) (hand_off_act l a))
     hand_off_gives bumps hand_off.Enter is = inl own
     hand_off_gives bumps hand_off.Take is = taken_gives bumps (first_of (queue_at w (2 * l)))
     hand_off_gives bumps (hand_off.Store false none_left) is = inr (inr (
@@ -200,7 +200,7 @@ module _ (w : State) (t l : ℕ) (shape : IsShaped w) (steady : IsSteady w) (own
   here k e lt = rw (← e) lt
 
   -- whatever the act, and wherever the thread goes then
-  go_gives : (p : Place) → place_at w t ≡ p → PlaceFits (length w.locks) p → IsFairRelease (call_state p (rights w t)).purpose l → ComesTo w t l (performed w t p (act_of p))
+  go_gives : (p : Place) → place_at w t ≡ p → PlaceFits (length w.locks) p → IsFairRelease (call_state p (rights w t)).purpose l → ComesTo w t l (state_after_act w t p (act_of p))
   go_gives Idle is fits h = absurd h
   go_gives (Mutex k (Lock entries.Lock retries a)) is fits h = absurd h
   go_gives (Mutex k (Lock entries.LockTimed retries a)) is fits h = absurd h
@@ -212,15 +212,15 @@ module _ (w : State) (t l : ℕ) (shape : IsShaped w) (steady : IsSteady w) (own
   go_gives (Mutex k (HandOff true a)) is fits h = rw h (hand_off_gives (here k h fits.0) true a (is ∙ ap (λ n. Mutex n (HandOff true a)) h))
   go_gives (Mutex k (HandOff false a)) is fits h = rw h.0 (hand_off_gives (here k h.0 fits.0) false a (is ∙ ap (λ n. Mutex n (HandOff false a)) h.0))
 
-  spin_gives : (o : Option ℕ) → ComesTo w t l (spun_on w t o)
+  spin_gives : (o : Option ℕ) → ComesTo w t l (state_after_spin_on w t o)
   spin_gives None = inl own
   spin_gives (Some k) = inl own
 
-  late_gives : (o : Option ℕ) → ComesTo w t l (late_on w t o)
+  late_gives : (o : Option ℕ) → ComesTo w t l (state_after_late_on w t o)
   late_gives None = inl own
   late_gives (Some key) = inl own
 
-  turned_gives : IsFairRelease (call_state (place_at w t) (rights w t)).purpose l → (x : Turn) → ComesTo w t l (turned w t x)
+  turned_gives : IsFairRelease (call_state (place_at w t) (rights w t)).purpose l → (x : Turn) → ComesTo w t l (state_after_turn w t x)
   turned_gives h (turn.TheVariants.Begin c) = inl own
   turned_gives h turn.TheVariants.Go = go_gives (place_at w t) refl (shape.places t) h
   turned_gives h turn.TheVariants.Spin = spin_gives (spin_lock (place_at w t))
@@ -231,7 +231,7 @@ module _ (w : State) (t l : ℕ) (shape : IsShaped w) (steady : IsSteady w) (own
   after_gives : IsFairRelease (call_state (place_at w t) (rights w t)).purpose l → (s : Step) → s.thread ≡ t → ComesTo w t l (after w s)
   after_gives h s e = either (is_possible w s)
     where
-      either : (b : Bool) → ComesTo w t l (if b then turned w s.thread s.turn else w)
+      either : (b : Bool) → ComesTo w t l (if b then state_after_turn w s.thread s.turn else w)
       either true = rw e (turned_gives h s.turn)
       either false = inl own
 
@@ -258,17 +258,17 @@ is_fair w s shape steady = record {
   gives = λ t l h. elim (cases_eq s.thread t) [
     | inl e ↦ told t l (after_gives w t l shape steady h.1 h.0 s e)
     | inr ne ↦ inl (owned t l (turned_so (λ x y. x.exclusive ≡ Some t → y.exclusive ≡ Some t) (locks_of w) (locks_of (after w s)) s.thread l (λ e. e)
-        (λ c n e. others_keep (rules_at (locks_of w) l) (lock_state w l) t s.thread (all l) e ne c n) s.turn (answered w s) step.1 h.1))
+        (λ c n e. others_keep (rules_at (locks_of w) l) (lock_state w l) t s.thread (all l) e ne c n) s.turn (step_outcome w s) step.1 h.1))
   ];
   takes = λ t l u h. turned_so (λ x y. IsTaken y t u Exclusive → IsTaken x t u Exclusive ⊎ (first_thread x.queue ≡ Some u)) (locks_of w) (locks_of (after w s)) s.thread l (λ e. inl e)
       (λ c n. let rules : rules_at (locks_of w) l ≡ mutex = mutex_rules (kind_at w l) (fair_mutex w (place_at w t) l (rights w t) (steady.stands.calls t) h.0) in
-      rw rules (taken_was (lock_state w l) t u s.thread Exclusive (subst (λ r. IsLockState r (lock_state w l)) rules (all l)) c (subst (λ r. Needs r c (lock_state w l) s.thread) rules n))) s.turn (answered w s) step.1;
+      rw rules (taken_was (lock_state w l) t u s.thread Exclusive (subst (λ r. IsLockState r (lock_state w l)) rules (all l)) c (subst (λ r. Needs r c (lock_state w l) s.thread) rules n))) s.turn (step_outcome w s) step.1;
 }
   where
     all : AreLockStates (locks_of w)
     all l = (steady.sites.site l).state
 
-    step : IsStep (locks_of w) s (answered w s) (locks_of (after w s))
+    step : IsStep (locks_of w) s (step_outcome w s) (locks_of (after w s))
     step = after_step w s shape steady
 
     coded : (l : ℕ) → IsMutexWord (word_at (after w s) l) (owner_at (after w s) l)

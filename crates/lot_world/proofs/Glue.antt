@@ -28,7 +28,7 @@ use Rattle.std.specs.Prelude.{sum, ◌&&◌, ◌||◌}
 use Rattle.lot_steps.specs.MutexSteps.{is_thread, with_exclusive}
 use Rattle.abstract_locks.specs.Locks as locks
 use Rattle.abstract_locks.specs.Sites.{Doing, Has, Site, Main, Begin, Out, Mark, Clear, Does, idle, leaves, wakened, taking_main, is_full, after}
-use Rattle.lot_world.specs.Machine.{State, place_at, word_at, owners_at, shares_at, filled_at, queue_at, told_by, all_told, heir_from, befallen, put}
+use Rattle.lot_world.specs.Machine.{State, place_at, word_at, owners_at, shares_at, filled_at, queue_at, place_after_telling, state_after_telling, heir_from, state_after_reply, put}
 use Rattle.lot_world.specs.Refinement.{lock_seen, taken_at}
 use Rattle.lot_world.specs.MutexDeeds.{Act, Station, hand, mutex_doing, mutex_station, station, station_at, nowhere, calls, doing_on, queued}
 use Rattle.lot_world.specs.SitesOf.{site_of, rules_at, after_acts, carried_at, hand_at, Hands}
@@ -308,13 +308,13 @@ moved_elsewhere l k n word o m s p t p2 h h2 ne = moved k n word o m s p t p2 (t
 -- ---------------------------------------------------------------- whom a thread has in hand is told
 
 -- nobody is
-told_out : (t : ℕ) (reply : Reply) (ps : List Place) → ((x : ℕ) → is_thread t (taker (get_or ps x Idle)) ≡ false) → map (told_by t reply) ps ≡ ps
+told_out : (t : ℕ) (reply : Reply) (ps : List Place) → ((x : ℕ) → is_thread t (taker (get_or ps x Idle)) ≡ false) → map (place_after_telling t reply) ps ≡ ps
 told_out t reply [] none = refl
 told_out t reply (p ∷ ps) none = λ i. ap (λ b. if b then next_place p reply else p) (none 0) i ∷ told_out t reply ps (λ x. none (suc x)) i
 
 -- one is
 told_in : (t : ℕ) (reply : Reply) (ps : List Place) (u : ℕ) → is_thread t (taker (get_or ps u Idle)) ≡ true → ((x : ℕ) → x ≢ u → is_thread t (taker (get_or ps x Idle)) ≡ false)
-    → map (told_by t reply) ps ≡ set ps u (next_place (get_or ps u Idle) reply)
+    → map (place_after_telling t reply) ps ≡ set ps u (next_place (get_or ps u Idle) reply)
 told_in t reply [] u held only = absurd cc
 told_in t reply (p ∷ ps) zero held only = λ i. ap (λ b. if b then next_place p reply else p) held i ∷ told_out t reply ps (λ x. only (suc x) (λ e. omega arith)) i
 told_in t reply (p ∷ ps) (suc u) held only = λ i. ap (λ b. if b then next_place p reply else p) (only 0 (λ e. omega arith)) i ∷ told_in t reply ps u held (λ x ne. only (suc x) (λ e. ne (omega arith))) i
@@ -355,7 +355,7 @@ only_held p hands t l u b of held x ne = either (is_thread t (taker (p x))) refl
     either true e = absurd (second (held_where (p x) t e))
 
 -- so all whom t has in hand are that one
-pub told_one : (w : State) (t l u : ℕ) (b : Bool) (reply : Reply) → Hands (place_at w) → IsOf l (place_at w t) → hand_at (place_at w u) l ≡ hand t b → all_told w t reply ≡ befallen w u reply
+pub told_one : (w : State) (t l u : ℕ) (b : Bool) (reply : Reply) → Hands (place_at w) → IsOf l (place_at w t) → hand_at (place_at w u) l ≡ hand t b → state_after_telling w t reply ≡ state_after_reply w u reply
 told_one w t l u b reply hands of held = λ i. record w { places = told_in t reply w.places u (held_taker (place_at w u) t l b held) (only_held (place_at w) hands t l u b of held) i }
 
 pub heir_one : (w : State) (t l u : ℕ) (b : Bool) → Hands (place_at w) → IsOf l (place_at w t) → hand_at (place_at w u) l ≡ hand t b → heir_from t 0 w.places ≡ Some u

@@ -30,7 +30,7 @@ use Rattle.lot_steps.specs.Steps.{next_place, act_of}
 use Rattle.abstract_locks.specs.Locks.{one_if_some, TakeFirst}
 use Rattle.abstract_locks.specs.Codes.{bit}
 use Rattle.abstract_locks.specs.Sites.{Main, Second, End, is_empty, found, leaves, In, Out, Does, FindNobody}
-use Rattle.lot_world.specs.Machine.{State, place_at, word_at, owners_at, queue_at, section_at, can_do, put, filled_with, appended, removed, first_taken, befallen, taken_by, is_there, reply_to}
+use Rattle.lot_world.specs.Machine.{State, place_at, word_at, owners_at, queue_at, section_at, can_do, put, state_with_sections, queues_with_last, queues_without, queues_without_first, state_after_reply, state_after_taking, is_there, reply_to}
 use Rattle.lot_world.specs.Fits.{IsShaped, PlaceFits}
 use Rattle.lot_world.specs.Refinement.{taken_at}
 use Rattle.abstract_locks.specs.Picks.{queued_of}
@@ -95,7 +95,7 @@ module _ (w : State) (t : ℕ) (steady : IsSteady w) (shape : IsShaped w) (there
   key l lt = main_key_there w l shape lt
 
   pub enters : (l : ℕ) (at at2 : MutexPlace) → place_at w t ≡ Mutex l at → l < length w.locks → is_none (section_at w (2 * l)) ≡ true → taken_at (Mutex l at) l ≡ None → taken_at (Mutex l at2) l ≡ None → (mutex_doing at).inside ≡ None → (mutex_doing at).empty ≡ None → mutex_doing at2 ≡ record (mutex_doing at) { inside = Some Main }
-      → mutex_station at2 ≡ record (mutex_station at) { inside = Some Main } → Goes w (put (filled_with w (One (2 * l)) (Some t)) t (Mutex l at2)) l (acts t (In Main ∷ []))
+      → mutex_station at2 ≡ record (mutex_station at) { inside = Some Main } → Goes w (put (state_with_sections w (One (2 * l)) (Some t)) t (Mutex l at2)) l (acts t (In Main ∷ []))
   enters l at at2 is lt free none none2 i e d s = enter_keeps w t l at steady is there (key l lt) (Mutex l at2) refl none none2 (none_is (section_at w (2 * l)) free) i e (own_doing l (Mutex l at2) at2 refl ∙ d) s
 
   -- it looks, and does nothing
@@ -124,7 +124,7 @@ module _ (w : State) (t : ℕ) (steady : IsSteady w) (shape : IsShaped w) (there
       again true = refl
       again false = refl
 
-      either : (b : Bool) → (word_at w l == 3) ≡ b → Goes w (put (if b then record w { queues = appended w.queues (2 * l) t Exclusive } else w) t (next_place (Mutex l (Lock e r lock.Check)) (Parked b))) l (deeds t (Lock e r lock.Check) None (Parked b))
+      either : (b : Bool) → (word_at w l == 3) ≡ b → Goes w (put (if b then record w { queues = queues_with_last w.queues (2 * l) t Exclusive } else w) t (next_place (Mutex l (Lock e r lock.Check)) (Parked b))) l (deeds t (Lock e r lock.Check) None (Parked b))
       either true f = let z : word_at w l ≡ 3 = eqb-true (word_at w l) 3 f in
           park_keeps w t l (Lock e r lock.Check) steady is there (line l lt) (Mutex l (Lock e (r && not true) (lock.Leave true))) refl refl refl refl (ap is_parked z) (owned_3 (owners_at w l).exclusive (subst (λ x. x ≡ one_if_some (owners_at w l).exclusive + 2 * bit (is_parked x)) z (word_l w t l (Lock e r lock.Check) steady is there))) refl refl refl
           (own_doing l (Mutex l (Lock e (r && not true) (lock.Leave true))) (Lock e (r && not true) (lock.Leave true)) refl) refl
@@ -133,13 +133,13 @@ module _ (w : State) (t : ℕ) (steady : IsSteady w) (shape : IsShaped w) (there
   removed_kept : (l : ℕ) (e : Entry) (r : Bool) → place_at w t ≡ Mutex l (Lock e r lock.Remove) → l < length w.locks → GoesWith l (Lock e r lock.Remove) None (act.TheVariants.Remove (2 * l))
   removed_kept l e r is lt = either (length (without t (queue_at w (2 * l))) == 0) (empty_line (without t (queue_at w (2 * l))))
     where
-      either : (b : Bool) → is_empty (map queued_of (without t (queue_at w (2 * l)))) ≡ b → Goes w (put (record w { queues = removed w.queues t }) t (next_place (Mutex l (Lock e r lock.Remove)) (Removed b))) l (deeds t (Lock e r lock.Remove) None (Removed b))
+      either : (b : Bool) → is_empty (map queued_of (without t (queue_at w (2 * l)))) ≡ b → Goes w (put (record w { queues = queues_without w.queues t }) t (next_place (Mutex l (Lock e r lock.Remove)) (Removed b))) l (deeds t (Lock e r lock.Remove) None (Removed b))
       either true f = remove_keeps w t l (Lock e r lock.Remove) steady is there (line l lt) (Mutex l (Lock e r lock.Clear)) refl refl refl refl refl refl (own_doing l (Mutex l (Lock e r lock.Clear)) (Lock e r lock.Clear) refl ∙ rw f refl) refl
       either false f = remove_keeps w t l (Lock e r lock.Remove) steady is there (line l lt) (Mutex l (Lock e r lock.GiveUp)) refl refl refl refl refl refl (own_doing l (Mutex l (Lock e r lock.GiveUp)) (Lock e r lock.GiveUp) refl ∙ rw f refl) refl
 
   -- it leaves its section with nobody in hand
   goes_away : (l : ℕ) (at : MutexPlace) (p2 : Place) → place_at w t ≡ Mutex l at → l < length w.locks → IsOf l p2 → taken_at (Mutex l at) l ≡ None → taken_at p2 l ≡ None → doing_of p2 ≡ leaves (mutex_doing at) → (mutex_doing at).inside ≡ Some Main → (mutex_doing at).wakes ≡ None → (mutex_station at).carries ≡ None
-      → station p2 ≡ record (mutex_station at) { inside = None } → Goes w (put (filled_with w (One (2 * l)) None) t p2) l (acts t (Out ∷ []))
+      → station p2 ≡ record (mutex_station at) { inside = None } → Goes w (put (state_with_sections w (One (2 * l)) None) t p2) l (acts t (Out ∷ []))
   goes_away l at p2 is lt of none none2 d i k c s = leave_keeps w t l at steady is there (key l lt) p2 of none none2 (doing_here l p2 of ∙ d) i k c s
 
   leaves_kept : (l : ℕ) (e : Entry) (r b : Bool) → place_at w t ≡ Mutex l (Lock e r (lock.Leave b)) → l < length w.locks → GoesWith l (Lock e r (lock.Leave b)) None (act.TheVariants.Leave (One (2 * l)) wakes.TheVariants.Nobody)
@@ -173,11 +173,11 @@ module _ (w : State) (t : ℕ) (steady : IsSteady w) (shape : IsShaped w) (there
 
   -- the first of the line, if any, is taken
   takes : (l : ℕ) (at : MutexPlace) → place_at w t ≡ Mutex l at → l < length w.locks → taken_at (Mutex l at) l ≡ None → mutex_station at ≡ record nowhere { inside = Some Main } → (mutex_doing at).carries ≡ false → (mutex_doing at).wakes ≢ Some Second
-      → (queue_at w (2 * l) ≡ [] → Goes w (put (record w { queues = first_taken w.queues (2 * l) }) t (next_place (Mutex l at) (Took false true))) l (deeds t at None (Took false true)))
+      → (queue_at w (2 * l) ≡ [] → Goes w (put (record w { queues = queues_without_first w.queues (2 * l) }) t (next_place (Mutex l at) (Took false true))) l (deeds t at None (Took false true)))
       → ((u : ℕ) (b : Bool) → TakesTo l at u b) → GoesBy l at (act.TheVariants.TakeFirst (2 * l))
   takes l at is lt none s c v empty to = by_line (queue_at w (2 * l)) refl
     where
-      some : (x : Waiter) (rest : List Waiter) → queue_at w (2 * l) ≡ x ∷ rest → Goes w (put (befallen (record w { queues = first_taken w.queues (2 * l) }) x.thread (TakenBy t)) t (next_place (Mutex l at) (Took true (length rest == 0)))) l (deeds t at (Some x.thread) (Took true (length rest == 0)))
+      some : (x : Waiter) (rest : List Waiter) → queue_at w (2 * l) ≡ x ∷ rest → Goes w (put (state_after_reply (record w { queues = queues_without_first w.queues (2 * l) }) x.thread (TakenBy t)) t (next_place (Mutex l at) (Took true (length rest == 0)))) l (deeds t at (Some x.thread) (Took true (length rest == 0)))
       some x rest e = elim (asleep (place_at w x.thread) l stands_there) [
         | inl within ↦ absurd (apart ((site_l w t l at steady is there).alone x.thread t Main (inside_is (place_at w x.thread) l ∙ within) (inside_is (place_at w t) l ∙ ap (λ (y : Station). y.inside) here)))
         | inr a ↦ rw ((to x.thread (length rest == 0)).does) (take_keeps w t l at steady is there (line l lt) x rest e a.entry a.retries a.is apart (next_place (Mutex l at) (Took true (length rest == 0))) (to x.thread (length rest == 0)).of none (to x.thread (length rest == 0)).none
@@ -198,13 +198,13 @@ module _ (w : State) (t : ℕ) (steady : IsSteady w) (shape : IsShaped w) (there
           apart : x.thread ≢ t
           apart f = let a : (station_at (place_at w t) l).stands ≡ Some Main = rw f at stands_there in let b : (station_at (place_at w t) l).stands ≡ None = ap (λ (y : Station). y.stands) here in cc
 
-      by_line : (q : List Waiter) → queue_at w (2 * l) ≡ q → (whom : Option ℕ) × Goes w (put (taken_by (record w { queues = first_taken w.queues (2 * l) }) t (first_of (queue_at w (2 * l)))) t (next_place (Mutex l at) (Took (is_there (first_of (queue_at w (2 * l)))) (length (drop 1 (queue_at w (2 * l))) == 0)))) l (deeds t at whom (Took (is_there (first_of (queue_at w (2 * l)))) (length (drop 1 (queue_at w (2 * l))) == 0)))
+      by_line : (q : List Waiter) → queue_at w (2 * l) ≡ q → (whom : Option ℕ) × Goes w (put (state_after_taking (record w { queues = queues_without_first w.queues (2 * l) }) t (first_of (queue_at w (2 * l)))) t (next_place (Mutex l at) (Took (is_there (first_of (queue_at w (2 * l)))) (length (drop 1 (queue_at w (2 * l))) == 0)))) l (deeds t at whom (Took (is_there (first_of (queue_at w (2 * l)))) (length (drop 1 (queue_at w (2 * l))) == 0)))
       by_line [] e = let a : first_of (queue_at w (2 * l)) ≡ None = ap first_of e in let b : (length (drop 1 (queue_at w (2 * l))) == 0) ≡ true = ap (λ (q : List Waiter). length (drop 1 q) == 0) e in (None, rw (a, b) (empty e))
       by_line (x ∷ rest) e = let a : first_of (queue_at w (2 * l)) ≡ Some x.thread = ap first_of e in let b : (length (drop 1 (queue_at w (2 * l))) == 0) ≡ (length rest == 0) = ap (λ (q : List Waiter). length (drop 1 q) == 0) e in (Some x.thread, rw (a, b) (some x rest e))
 
   -- nobody was there
   takes_nobody : (l : ℕ) (at at2 : MutexPlace) → place_at w t ≡ Mutex l at → l < length w.locks → queue_at w (2 * l) ≡ [] → taken_at (Mutex l at) l ≡ None → taken_at (Mutex l at2) l ≡ None → (mutex_doing at).inside ≡ Some Main → (mutex_doing at).carries ≡ false → ((mutex_doing at).wakes ≡ None) ⊎ ((mutex_doing at).wakes ≡ Some Main)
-      → mutex_doing at2 ≡ record (mutex_doing at) { wakes = None; carries = true; covers = true; empty = Some Main } → mutex_station at2 ≡ mutex_station at → Goes w (put (record w { queues = first_taken w.queues (2 * l) }) t (Mutex l at2)) l (acts t (FindNobody Main ∷ []))
+      → mutex_doing at2 ≡ record (mutex_doing at) { wakes = None; carries = true; covers = true; empty = Some Main } → mutex_station at2 ≡ mutex_station at → Goes w (put (record w { queues = queues_without_first w.queues (2 * l) }) t (Mutex l at2)) l (acts t (FindNobody Main ∷ []))
   takes_nobody l at at2 is lt empty none none2 i c v d s = nobody_keeps w t l at steady is there (line l lt) (Mutex l at2) refl none none2 empty i c v (own_doing l (Mutex l at2) at2 refl ∙ d) s
 
   pub unlock_kept : (l : ℕ) (a : UnlockAt) → place_at w t ≡ Mutex l (Unlock a) → l < length w.locks → can_do w (unlock_act l a) ≡ true → GoesBy l (Unlock a) (unlock_act l a)

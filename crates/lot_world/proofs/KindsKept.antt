@@ -20,7 +20,7 @@ use Rattle.lot_steps.specs.declared.places.Place.{Place}
 use Rattle.lot_steps.specs.Acts.{holds}
 use Rattle.lot_calls.specs.Kinds.{has_call}
 use Rattle.lot_steps.specs.Steps.{act_of, spin_lock, late_key}
-use Rattle.lot_world.specs.Machine.{State, unlocked, place_at, word_at, shares_at, filled_at, kind_at, queue_at, operated, given, filled_with, appended, first_taken, parked, taken_by, awakened, performed, spun_on, late_on, turned, is_possible, after}
+use Rattle.lot_world.specs.Machine.{State, unlocked, place_at, word_at, shares_at, filled_at, kind_at, queue_at, state_after_operation, state_after_hand_over, state_with_sections, queues_with_last, queues_without_first, state_after_park, state_after_taking, state_after_wake, state_after_act, state_after_spin_on, state_after_late_on, state_after_turn, is_possible, after}
 use Rattle.lot_base.specs.Words.{apply}
 use Rattle.abstract_locks.specs.Locks as locks
 use Rattle.abstract_locks.specs.Codes.{fills}
@@ -36,10 +36,10 @@ set_field f (x ∷ xs) zero y d e (suc j) = refl
 set_field f (x ∷ xs) (suc i) y d e zero = refl
 set_field f (x ∷ xs) (suc i) y d e (suc j) = set_field f xs i y d e j
 
-pub operated_kinds : (w : State) (t : ℕ) (p : Place) (l : ℕ) (f : Op) (k : ℕ) → kind_at (operated w t p l f) k ≡ kind_at w k
+pub operated_kinds : (w : State) (t : ℕ) (p : Place) (l : ℕ) (f : Op) (k : ℕ) → kind_at (state_after_operation w t p l f) k ≡ kind_at w k
 operated_kinds w t p l f k = set_field (λ x. x.kind) w.locks l _ (unlocked kind.TheVariants.Mutex) refl k
 
-pub given_kinds : (w : State) (t : ℕ) (p : Place) (l : ℕ) (f : Op) (k : ℕ) → kind_at (given w t p l f) k ≡ kind_at w k
+pub given_kinds : (w : State) (t : ℕ) (p : Place) (l : ℕ) (f : Op) (k : ℕ) → kind_at (state_after_hand_over w t p l f) k ≡ kind_at w k
 given_kinds w t p l f k = set_field (λ x. x.kind) w.locks l _ (unlocked kind.TheVariants.Mutex) refl k
 
 -- who shares what, where none of it changes
@@ -47,50 +47,50 @@ pub shares_kept : (w : State) (n : ℕ) → n ≡ length w.places → (k : ℕ) 
 shares_kept w n threads k = ap (λ m. get_or w.shares k (replicate m 0)) threads
 
 -- a lock that nobody shares is not filled by an operation
-pub operated_filled : (w : State) (t : ℕ) (p : Place) (l : ℕ) (f : Op) → rules_of (kind_at w l) ≡ record { sort = locks.Mutex; limit = 0 } → (k : ℕ) → filled_at (operated w t p l f) k ≡ filled_at w k
+pub operated_filled : (w : State) (t : ℕ) (p : Place) (l : ℕ) (f : Op) → rules_of (kind_at w l) ≡ record { sort = locks.Mutex; limit = 0 } → (k : ℕ) → filled_at (state_after_operation w t p l f) k ≡ filled_at w k
 operated_filled w t p l f rules k = set_field (λ x. x.filled) w.locks l _ (unlocked kind.TheVariants.Mutex) (ap (λ r. filled_at w l || fills r (apply f (word_at w l))) rules ∙ or-false (filled_at w l)) k
 
-pub given_filled : (w : State) (t : ℕ) (p : Place) (l : ℕ) (f : Op) → rules_of (kind_at w l) ≡ record { sort = locks.Mutex; limit = 0 } → (k : ℕ) → filled_at (given w t p l f) k ≡ filled_at w k
+pub given_filled : (w : State) (t : ℕ) (p : Place) (l : ℕ) (f : Op) → rules_of (kind_at w l) ≡ record { sort = locks.Mutex; limit = 0 } → (k : ℕ) → filled_at (state_after_hand_over w t p l f) k ≡ filled_at w k
 given_filled w t p l f rules k = set_field (λ x. x.filled) w.locks l _ (unlocked kind.TheVariants.Mutex) (ap (λ r. filled_at w l || fills r (apply f (word_at w l))) rules ∙ or-false (filled_at w l)) k
 
-filled_kinds : (w : State) (keys : Keys) (who : Option ℕ) (k : ℕ) → kind_at (filled_with w keys who) k ≡ kind_at w k
+filled_kinds : (w : State) (keys : Keys) (who : Option ℕ) (k : ℕ) → kind_at (state_with_sections w keys who) k ≡ kind_at w k
 filled_kinds w (One key) who k = refl
 filled_kinds w (Two first second) who k = refl
 
-taken_kinds : (w : State) (t : ℕ) (o : Option ℕ) (k : ℕ) → kind_at (taken_by w t o) k ≡ kind_at w k
+taken_kinds : (w : State) (t : ℕ) (o : Option ℕ) (k : ℕ) → kind_at (state_after_taking w t o) k ≡ kind_at w k
 taken_kinds w t None k = refl
 taken_kinds w t (Some u) k = refl
 
-awakened_kinds : (w : State) (t : ℕ) (x : Wakes) (k : ℕ) → kind_at (awakened w t x) k ≡ kind_at w k
+awakened_kinds : (w : State) (t : ℕ) (x : Wakes) (k : ℕ) → kind_at (state_after_wake w t x) k ≡ kind_at w k
 awakened_kinds w t wakes.TheVariants.Nobody k = refl
 awakened_kinds w t (wakes.TheVariants.All note) k = refl
 
-parked_kinds : (w : State) (t l key : ℕ) (check : Check) (wanted : Want) (k : ℕ) → kind_at (parked w t l key check wanted) k ≡ kind_at w k
+parked_kinds : (w : State) (t l key : ℕ) (check : Check) (wanted : Want) (k : ℕ) → kind_at (state_after_park w t l key check wanted) k ≡ kind_at w k
 parked_kinds w t l key check wanted k = either (holds check (word_at w l))
   where
-    either : (b : Bool) → kind_at (if b then record w { queues = appended w.queues key t wanted } else w) k ≡ kind_at w k
+    either : (b : Bool) → kind_at (if b then record w { queues = queues_with_last w.queues key t wanted } else w) k ≡ kind_at w k
     either true = refl
     either false = refl
 
-performed_kinds : (w : State) (t : ℕ) (p : Place) (act : Act) (k : ℕ) → kind_at (performed w t p act) k ≡ kind_at w k
+performed_kinds : (w : State) (t : ℕ) (p : Place) (act : Act) (k : ℕ) → kind_at (state_after_act w t p act) k ≡ kind_at w k
 performed_kinds w t p (Word l f) k = operated_kinds w t p l f k
 performed_kinds w t p (HandOver l f) k = given_kinds w t p l f k
 performed_kinds w t p (Enter keys) k = filled_kinds w keys (Some t) k
 performed_kinds w t p (Park l key check wanted) k = parked_kinds w t l key check wanted k
-performed_kinds w t p (TakeFirst key) k = taken_kinds (record w { queues = first_taken w.queues key }) t (first_of (queue_at w key)) k
+performed_kinds w t p (TakeFirst key) k = taken_kinds (record w { queues = queues_without_first w.queues key }) t (first_of (queue_at w key)) k
 performed_kinds w t p (Remove key) k = refl
-performed_kinds w t p (Leave keys x) k = awakened_kinds (filled_with w keys None) t x k ∙ filled_kinds w keys None k
+performed_kinds w t p (Leave keys x) k = awakened_kinds (state_with_sections w keys None) t x k ∙ filled_kinds w keys None k
 performed_kinds w t p act k = refl
 
-late_kinds : (w : State) (t : ℕ) (o : Option ℕ) (k : ℕ) → kind_at (late_on w t o) k ≡ kind_at w k
+late_kinds : (w : State) (t : ℕ) (o : Option ℕ) (k : ℕ) → kind_at (state_after_late_on w t o) k ≡ kind_at w k
 late_kinds w t None k = refl
 late_kinds w t (Some key) k = refl
 
-spun_kinds : (w : State) (t : ℕ) (o : Option ℕ) (k : ℕ) → kind_at (spun_on w t o) k ≡ kind_at w k
+spun_kinds : (w : State) (t : ℕ) (o : Option ℕ) (k : ℕ) → kind_at (state_after_spin_on w t o) k ≡ kind_at w k
 spun_kinds w t None k = refl
 spun_kinds w t (Some l) k = refl
 
-turned_kinds : (w : State) (t : ℕ) (x : Turn) (k : ℕ) → kind_at (turned w t x) k ≡ kind_at w k
+turned_kinds : (w : State) (t : ℕ) (x : Turn) (k : ℕ) → kind_at (state_after_turn w t x) k ≡ kind_at w k
 turned_kinds w t (turn.TheVariants.Begin c) k = refl
 turned_kinds w t turn.TheVariants.Go k = performed_kinds w t (place_at w t) (act_of (place_at w t)) k
 turned_kinds w t turn.TheVariants.Spin k = spun_kinds w t (spin_lock (place_at w t)) k
@@ -100,7 +100,7 @@ turned_kinds w t x k = refl
 pub after_kinds : (w : State) (s : Step) (k : ℕ) → kind_at (after w s) k ≡ kind_at w k
 after_kinds w s k = either (is_possible w s)
   where
-    either : (b : Bool) → kind_at (if b then turned w s.thread s.turn else w) k ≡ kind_at w k
+    either : (b : Bool) → kind_at (if b then state_after_turn w s.thread s.turn else w) k ≡ kind_at w k
     either true = turned_kinds w s.thread s.turn k
     either false = refl
 

@@ -40,7 +40,7 @@ use Rattle.lot_steps.specs.declared.places.Place.TheVariants.{Idle, Mutex}
 use Rattle.lot_steps.specs.Acts.{outcome_of}
 use Rattle.lot_steps.specs.MutexSteps.{is_thread, mutex_first, mutex_right, is_locked, is_parked, lock_act, unlock_act, hand_off_word, hand_off_act}
 use Rattle.lot_steps.specs.Steps.{act_of, next_place, next_act, spin_lock, late_key, is_idle, has_right, first_place}
-use Rattle.lot_world.specs.Machine.{State, place_at, word_at, owners_at, kind_at, queue_at, section_at, put, performed, go_reply, operated, given, all_told, appended, removed, first_taken, taken_by, befallen, filled_with, reply_to, can_do, is_there, spun_on, late_on, is_free_under, begun, can_begin, is_open_to, can_turn, turned, turn_outcome, is_possible, after, answered}
+use Rattle.lot_world.specs.Machine.{State, place_at, word_at, owners_at, kind_at, queue_at, section_at, put, state_after_act, go_reply, state_after_operation, state_after_hand_over, state_after_telling, queues_with_last, queues_without, queues_without_first, state_after_taking, state_after_reply, state_with_sections, reply_to, can_do, is_there, state_after_spin_on, state_after_late_on, is_free_under, state_after_begin, can_begin, is_open_to, can_turn, state_after_turn, turn_outcome, is_possible, after, step_outcome}
 use Rattle.lot_world.specs.Fits.{IsShaped, SameSize, PlaceFits, GivesUpTimed}
 use Rattle.lot_world.proofs.Shape.{after_size, both, performed_counts}
 use Rattle.lot_world.proofs.Possible.{may_go, go_possible, may_be_late, late_possible, told_gone, told_step, begins_awake, no_closure, turner_there, gone_sections, spun_sections, late_sections, spun_awake, late_awake}
@@ -75,15 +75,15 @@ module _ (w : State) (t : ℕ) where
 
   module _ (b : State) (x : ℕ) (reply : Reply) (p2 : Place) (places : b.places ≡ w.places) where
     -- but one of them, whom something befalls
-    one_goes : (u : ℕ) → u ≢ t → place_at (put (befallen b x reply) t p2) u ≡ putting (place_at w) x (next_place (place_at w x) reply) u
-    one_goes u ne = get_or-set_other (befallen b x reply).places t u p2 Idle ne ∙ ap (λ f. f u) (goes_from b x reply) ∙ ap (λ (xs : List Place). putting (λ k. get_or xs k Idle) x (next_place (get_or xs x Idle) reply) u) places
+    one_goes : (u : ℕ) → u ≢ t → place_at (put (state_after_reply b x reply) t p2) u ≡ putting (place_at w) x (next_place (place_at w x) reply) u
+    one_goes u ne = get_or-set_other (state_after_reply b x reply).places t u p2 Idle ne ∙ ap (λ f. f u) (goes_from b x reply) ∙ ap (λ (xs : List Place). putting (λ k. get_or xs k Idle) x (next_place (get_or xs x Idle) reply) u) places
 
-    others_go_on : ((r : ℕ → Rights) → call_state (next_place (place_at w x) reply) r ≡ call_state (place_at w x) r) → Others w (put (befallen b x reply) t p2) t Nothing
+    others_go_on : ((r : ℕ → Rights) → call_state (next_place (place_at w x) reply) r ≡ call_state (place_at w x) r) → Others w (put (state_after_reply b x reply) t p2) t Nothing
     others_go_on same_call u ne r = ap (λ p. call_state p r) (one_goes u ne) ∙ put_of (λ p. call_state p r) (place_at w) x (next_place (place_at w x) reply) u
         ∙ put_same (λ k. call_state (place_at w k) r) x (call_state (next_place (place_at w x) reply) r) (sym (same_call r)) u
 
     -- the one that t has in hand
-    befalls_one : (l : ℕ) → is_taken_by t (taken_at (place_at w x) l) ≡ true → ((u : ℕ) → u ≢ x → is_taken_by t (taken_at (place_at w u) l) ≡ false) → Befalls w (put (befallen b x reply) t p2) t l reply
+    befalls_one : (l : ℕ) → is_taken_by t (taken_at (place_at w x) l) ≡ true → ((u : ℕ) → u ≢ x → is_taken_by t (taken_at (place_at w u) l) ≡ false) → Befalls w (put (state_after_reply b x reply) t p2) t l reply
     befalls_one l taken only u ne = one_goes u ne ∙ elim (cases_eq u x) [
       | inl e ↦ rw (e, put_here (place_at w) x (next_place (place_at w x) reply), taken) refl
       | inr nx ↦ rw (put_other (place_at w) x (next_place (place_at w x) reply) u nx, only u nx) refl
@@ -92,7 +92,7 @@ module _ (w : State) (t : ℕ) where
   befalls_nobody : (b : State) (p2 : Place) (l : ℕ) (reply : Reply) → b.places ≡ w.places → ((u : ℕ) → is_taken_by t (taken_at (place_at w u) l) ≡ false) → Befalls w (put b t p2) t l reply
   befalls_nobody b p2 l reply places none u ne = get_or-set_other b.places t u p2 Idle ne ∙ ap (λ (xs : List Place). get_or xs u Idle) places ∙ sym (ap (λ c. if c then next_place (place_at w u) reply else place_at w u) (none u))
 
-  others_took : (queues : List (List Waiter)) (o : Option ℕ) (p2 : Place) → Others w (put (taken_by (record w { queues = queues }) t o) t p2) t Nothing
+  others_took : (queues : List (List Waiter)) (o : Option ℕ) (p2 : Place) → Others w (put (state_after_taking (record w { queues = queues }) t o) t p2) t Nothing
   others_took queues None p2 = others_stay (record w { queues = queues }) p2 refl
   others_took queues (Some x) p2 = others_go_on (record w { queues = queues }) x (TakenBy t) p2 refl (taken_call (place_at w x) t)
 
@@ -104,7 +104,7 @@ module _ (w : State) (t : ℕ) (shape : IsShaped w) (steady : IsSteady w) (there
     gone_by : (at : MutexPlace) (a : Act) → place_at w t ≡ Mutex l at → (whom : Option ℕ) → Goes w (go_by w t (Mutex l at) a) l (deeds t at whom (reply_to w t a)) → Gone w (go_by w t (Mutex l at) a) t l at (next_place (Mutex l at) (reply_to w t a)) (deeds t at whom (reply_to w t a))
     gone_by at a is whom goes = record {
       from = is;
-      to = get_or-set_same (performed w t (Mutex l at) a).places t _ Idle (rw ((performed_counts w t (Mutex l at) a).0) there);
+      to = get_or-set_same (state_after_act w t (Mutex l at) a).places t _ Idle (rw ((performed_counts w t (Mutex l at) a).0) there);
       before = steady;
       goes = goes;
     }
@@ -122,9 +122,9 @@ module _ (w : State) (t : ℕ) (shape : IsShaped w) (steady : IsSteady w) (there
 
     decided_goes : (e : Entry) (again : Bool) (s : ℕ) (a b : Bool) → Gone w (go_by w t (Mutex l (Lock e again (Decide s))) (decided_by s a b)) t l (Lock e again (Decide s)) (next_place (Mutex l (Lock e again (Decide s))) (reply_to w t (decided_by s a b))) (deeds t (Lock e again (Decide s)) None (reply_to w t (decided_by s a b)))
         → GoesOn (locks_of w) t (outcome_of (next_act (Mutex l (Lock e again (Decide s))) (reply_to w t (decided_by s a b)))) (locks_of (go_by w t (Mutex l (Lock e again (Decide s))) (decided_by s a b)))
-    decided_goes e again s false b gone = exchanges w _ t l rules e again s (word_at w l) (word_at w l == s) (is_locked (word_at w l)) gone (others_stay w t (operated w t (Mutex l (Lock e again (Decide s))) l (op.TheVariants.Exchange s (s + 1))) _ refl)
-    decided_goes e again s true true gone = exchanges w _ t l rules e again s (word_at w l) (word_at w l == s) (is_locked (word_at w l)) gone (others_stay w t (operated w t (Mutex l (Lock e again (Decide s))) l (op.TheVariants.Exchange 1 3)) _ refl)
-    decided_goes e again s true false gone = goes_on w _ t l rules (Lock e again (Decide s)) (Lock e again Check) (In Main ∷ []) gone refl (others_stay w t (filled_with w (One (2 * l)) (Some t)) _ refl) (λ r. refl)
+    decided_goes e again s false b gone = exchanges w _ t l rules e again s (word_at w l) (word_at w l == s) (is_locked (word_at w l)) gone (others_stay w t (state_after_operation w t (Mutex l (Lock e again (Decide s))) l (op.TheVariants.Exchange s (s + 1))) _ refl)
+    decided_goes e again s true true gone = exchanges w _ t l rules e again s (word_at w l) (word_at w l == s) (is_locked (word_at w l)) gone (others_stay w t (state_after_operation w t (Mutex l (Lock e again (Decide s))) l (op.TheVariants.Exchange 1 3)) _ refl)
+    decided_goes e again s true false gone = goes_on w _ t l rules (Lock e again (Decide s)) (Lock e again Check) (In Main ∷ []) gone refl (others_stay w t (state_with_sections w (One (2 * l)) (Some t)) _ refl) (λ r. refl)
 
     parked_places : (b : Bool) (queues : List (List Waiter)) → (if b then record w { queues = queues } else w).places ≡ w.places
     parked_places true queues = refl
@@ -132,23 +132,23 @@ module _ (w : State) (t : ℕ) (shape : IsShaped w) (steady : IsSteady w) (there
 
     -- a step on the word, or into a section or out of it
     on_word : (at : MutexPlace) (f : Op) → Others w (go_by w t (Mutex l at) (act.TheVariants.Word l f)) t Nothing
-    on_word at f = others_stay w t (operated w t (Mutex l at) l f) _ refl
+    on_word at f = others_stay w t (state_after_operation w t (Mutex l at) l f) _ refl
 
-    on_section : (who : Option ℕ) (p2 : Place) → Others w (put (filled_with w (One (2 * l)) who) t p2) t Nothing
-    on_section who p2 = others_stay w t (filled_with w (One (2 * l)) who) p2 refl
+    on_section : (who : Option ℕ) (p2 : Place) → Others w (put (state_with_sections w (One (2 * l)) who) t p2) t Nothing
+    on_section who p2 = others_stay w t (state_with_sections w (One (2 * l)) who) p2 refl
 
     lock_goes : (e : Entry) (again : Bool) (a : LockAt) → place_at w t ≡ Mutex l (Lock e again a) → can_do w (lock_act l a) ≡ true → GivesUpTimed (Lock e again a)
         → GoesOn (locks_of w) t (outcome_of (next_act (Mutex l (Lock e again a)) (reply_to w t (lock_act l a)))) (locks_of (go_by w t (Mutex l (Lock e again a)) (lock_act l a)))
     lock_goes e again First is can timed = first w _ t l rules e again (word_at w l == 0) (gone_at (Lock e again First) is can) (on_word (Lock e again First) (op.TheVariants.Exchange 0 1))
     lock_goes e again Load is can timed = loads w _ t l rules e again (word_at w l) (gone_at (Lock e again Load) is can) (on_word (Lock e again Load) op.TheVariants.Load)
     lock_goes e again (Decide x) is can timed = decided_goes e again x (is_locked x) (x == 1) (gone_at (Lock e again (Decide x)) is can)
-    lock_goes e again Check is can timed = checks w _ t l rules e again (word_at w l == 3) (gone_at (Lock e again Check) is can) (others_stay w t (if word_at w l == 3 then record w { queues = appended w.queues (2 * l) t Exclusive } else w) _ (parked_places (word_at w l == 3) _))
+    lock_goes e again Check is can timed = checks w _ t l rules e again (word_at w l == 3) (gone_at (Lock e again Check) is can) (others_stay w t (if word_at w l == 3 then record w { queues = queues_with_last w.queues (2 * l) t Exclusive } else w) _ (parked_places (word_at w l == 3) _))
     lock_goes e again (Leave b) is can timed = leaves_line w _ t l rules e again b (gone_at (Lock e again (Leave b)) is can) (on_section None _)
     lock_goes e again Asleep is can timed = absurd cc
     lock_goes e again (Taken by) is can timed = absurd cc
     lock_goes e again (Handed by) is can timed = absurd cc
     lock_goes e again Accept is can timed = accepts w _ t l rules e again (gone_at (Lock e again Accept) is can) (others_stay w t w _ refl)
-    lock_goes e again Remove is can timed = removes w _ t l rules e again (length (without t (queue_at w (2 * l))) == 0) timed (gone_at (Lock e again Remove) is can) (others_stay w t (record w { queues = removed w.queues t }) _ refl)
+    lock_goes e again Remove is can timed = removes w _ t l rules e again (length (without t (queue_at w (2 * l))) == 0) timed (gone_at (Lock e again Remove) is can) (others_stay w t (record w { queues = queues_without w.queues t }) _ refl)
     lock_goes e again Clear is can timed = goes_on w _ t l rules (Lock e again Clear) (Lock e again GiveUp) (Clears Main ∷ []) (gone_at (Lock e again Clear) is can) refl (on_word (Lock e again Clear) (op.TheVariants.And NOT_PARKED)) (λ r. refl)
     lock_goes e again GiveUp is can timed = gives_up w _ t l rules e again timed (gone_at (Lock e again GiveUp) is can) (on_section None _)
 
@@ -169,35 +169,35 @@ module _ (w : State) (t : ℕ) (shape : IsShaped w) (steady : IsSteady w) (there
         → GoesOn (locks_of w) t (outcome_of (next_act (Mutex l (Unlock a)) (reply_to w t (unlock_act l a)))) (locks_of (go_by w t (Mutex l (Unlock a)) (unlock_act l a)))
     unlock_goes unlock.Subtract is can = subtracts w _ t l rules (is_parked (word_at w l)) (gone_at (Unlock unlock.Subtract) is can) (on_word (Unlock unlock.Subtract) (op.TheVariants.Sub 1))
     unlock_goes unlock.Enter is can = goes_on w _ t l rules (Unlock unlock.Enter) (Unlock unlock.Take) (In Main ∷ []) (gone_at (Unlock unlock.Enter) is can) refl (on_section (Some t) _) (λ r. refl)
-    unlock_goes unlock.Take is can = takes_one w _ t l rules (whom_at (Unlock unlock.Take) is can) (is_there (first_of (queue_at w (2 * l)))) (length (drop 1 (queue_at w (2 * l))) == 0) (gone_at (Unlock unlock.Take) is can) (others_took w t (first_taken w.queues (2 * l)) (first_of (queue_at w (2 * l))) _)
+    unlock_goes unlock.Take is can = takes_one w _ t l rules (whom_at (Unlock unlock.Take) is can) (is_there (first_of (queue_at w (2 * l)))) (length (drop 1 (queue_at w (2 * l))) == 0) (gone_at (Unlock unlock.Take) is can) (others_took w t (queues_without_first w.queues (2 * l)) (first_of (queue_at w (2 * l))) _)
     unlock_goes (unlock.Clear any) is can = goes_on w _ t l rules (Unlock (unlock.Clear any)) (Unlock (unlock.Leave any)) (Clears Main ∷ []) (gone_at (Unlock (unlock.Clear any)) is can) refl (on_word (Unlock (unlock.Clear any)) (op.TheVariants.And NOT_PARKED)) (λ r. refl)
     unlock_goes (unlock.Leave false) is can = wakes_taken w _ t l rules false (gone_at (Unlock (unlock.Leave false)) is can)
-        (befalls_nobody w t (filled_with w (One (2 * l)) None) Idle l (Woken note.Normal) refl (nobody_held (Unlock (unlock.Leave false)) is refl))
+        (befalls_nobody w t (state_with_sections w (One (2 * l)) None) Idle l (Woken note.Normal) refl (nobody_held (Unlock (unlock.Leave false)) is refl))
     unlock_goes (unlock.Leave true) is can = let one = one_held w t l steady there (Unlock (unlock.Leave true)) is false refl in
         wakes_taken w _ t l rules true (gone_at (Unlock (unlock.Leave true)) is can)
         (subst (λ (z : State). Befalls w (put z t Idle) t l (Woken note.Normal)) (sym (told_it w t l steady there (Unlock (unlock.Leave true)) is false refl (Woken note.Normal)))
-        (befalls_one w t (filled_with w (One (2 * l)) None) one.0 (Woken note.Normal) Idle refl l (hand_is one.0 one.1) (λ u ne. no_other one.0 u one.1 ne)))
+        (befalls_one w t (state_with_sections w (One (2 * l)) None) one.0 (Woken note.Normal) Idle refl l (hand_is one.0 one.1) (λ u ne. no_other one.0 u one.1 ne)))
 
     -- whoever was handed the lock is told
-    told_handed : (bumping : Bool) (p2 : Place) → place_at w t ≡ Mutex l (HandOff bumping (hand_off.Leave true)) → Others w (put (all_told (filled_with w (One (2 * l)) None) t (Woken note.HandOff)) t p2) t Nothing
+    told_handed : (bumping : Bool) (p2 : Place) → place_at w t ≡ Mutex l (HandOff bumping (hand_off.Leave true)) → Others w (put (state_after_telling (state_with_sections w (One (2 * l)) None) t (Woken note.HandOff)) t p2) t Nothing
     told_handed bumping p2 is = let one = one_held w t l steady there (HandOff bumping (hand_off.Leave true)) is true refl in
         subst (λ (z : State). Others w (put z t p2) t Nothing) (sym (told_it w t l steady there (HandOff bumping (hand_off.Leave true)) is true refl (Woken note.HandOff)))
-        (others_go_on w t (filled_with w (One (2 * l)) None) one.0 (Woken note.HandOff) p2 refl (λ r. let k : IsHandedAt (place_at w one.0) t l = is_handed (place_at w one.0) t l one.1 in rw k.is refl))
+        (others_go_on w t (state_with_sections w (One (2 * l)) None) one.0 (Woken note.HandOff) p2 refl (λ r. let k : IsHandedAt (place_at w one.0) t l = is_handed (place_at w one.0) t l one.1 in rw k.is refl))
 
     -- it hands the lock to the one in its hand
     gives_it : (bumping none_left : Bool) (p2 : Place) (f : Op) → place_at w t ≡ Mutex l (HandOff bumping (hand_off.Store true none_left))
-        → Befalls w (put (all_told (given w t (Mutex l (HandOff bumping (hand_off.Store true none_left))) l f) t (HandedBy t)) t p2) t l (HandedBy t)
+        → Befalls w (put (state_after_telling (state_after_hand_over w t (Mutex l (HandOff bumping (hand_off.Store true none_left))) l f) t (HandedBy t)) t p2) t l (HandedBy t)
     gives_it bumping none_left p2 f is = let one = one_held w t l steady there (HandOff bumping (hand_off.Store true none_left)) is false refl in
-        let before = given w t (Mutex l (HandOff bumping (hand_off.Store true none_left))) l f in
+        let before = state_after_hand_over w t (Mutex l (HandOff bumping (hand_off.Store true none_left))) l f in
         subst (λ (z : State). Befalls w (put z t p2) t l (HandedBy t)) (sym (told_one before t l one.0 false (HandedBy t) steady.stands.hands (rw is refl) one.1))
         (befalls_one w t before one.0 (HandedBy t) p2 refl l (hand_is one.0 one.1) (λ u ne. no_other one.0 u one.1 ne))
 
     hand_off_goes : (bumping : Bool) (a : HandOffAt) → place_at w t ≡ Mutex l (HandOff bumping a) → can_do w (hand_off_act l a) ≡ true
         → GoesOn (locks_of w) t (outcome_of (next_act (Mutex l (HandOff bumping a)) (reply_to w t (hand_off_act l a)))) (locks_of (go_by w t (Mutex l (HandOff bumping a)) (hand_off_act l a)))
     hand_off_goes bumping hand_off.Enter is can = goes_on w _ t l rules (HandOff bumping hand_off.Enter) (HandOff bumping hand_off.Take) (In Main ∷ []) (gone_at (HandOff bumping hand_off.Enter) is can) refl (on_section (Some t) _) (λ r. refl)
-    hand_off_goes bumping hand_off.Take is can = takes_fairly w _ t l rules bumping (whom_at (HandOff bumping hand_off.Take) is can) (is_there (first_of (queue_at w (2 * l)))) (length (drop 1 (queue_at w (2 * l))) == 0) (gone_at (HandOff bumping hand_off.Take) is can) (others_took w t (first_taken w.queues (2 * l)) (first_of (queue_at w (2 * l))) _)
+    hand_off_goes bumping hand_off.Take is can = takes_fairly w _ t l rules bumping (whom_at (HandOff bumping hand_off.Take) is can) (is_there (first_of (queue_at w (2 * l)))) (length (drop 1 (queue_at w (2 * l))) == 0) (gone_at (HandOff bumping hand_off.Take) is can) (others_took w t (queues_without_first w.queues (2 * l)) (first_of (queue_at w (2 * l))) _)
     hand_off_goes bumping (hand_off.Store false none_left) is can = stores w _ t l rules bumping false none_left (whom_at (HandOff bumping (hand_off.Store false none_left)) is can) (word_at w l) (gone_at (HandOff bumping (hand_off.Store false none_left)) is can)
-        (befalls_nobody w t (operated w t (Mutex l (HandOff bumping (hand_off.Store false none_left))) l (op.TheVariants.Store 0)) _ l (HandedBy t) refl (nobody_held (HandOff bumping (hand_off.Store false none_left)) is refl))
+        (befalls_nobody w t (state_after_operation w t (Mutex l (HandOff bumping (hand_off.Store false none_left))) l (op.TheVariants.Store 0)) _ l (HandedBy t) refl (nobody_held (HandOff bumping (hand_off.Store false none_left)) is refl))
     hand_off_goes bumping (hand_off.Store true none_left) is can = stores w _ t l rules bumping true none_left (whom_at (HandOff bumping (hand_off.Store true none_left)) is can) (word_at w l) (gone_at (HandOff bumping (hand_off.Store true none_left)) is can)
         (gives_it bumping none_left _ (op.TheVariants.Store (hand_off_word true none_left)) is)
     hand_off_goes bumping (hand_off.Leave false) is can = leaves_fairly w _ t l rules bumping false (gone_at (HandOff bumping (hand_off.Leave false)) is can) (on_section None _)
@@ -237,12 +237,12 @@ module _ (w : State) (t : ℕ) (shape : IsShaped w) (steady : IsSteady w) (there
       same_locks : (k : ℕ) → lock_state (put (record w { sections = s }) t p2) k ≡ lock_state w k
       same_locks k = λ i. record (lock_state w k) { shared = get_or w.shares k (replicate (length-set w.places t p2 i) 0); taken = λ u. taken_same u k i }
 
-  spin_goes : (p : Place) → place_at w t ≡ p → is_there (spin_lock p) ≡ true → Stays (locks_of w) t (call_state p (rights w t)) outcome.TheVariants.Step (locks_of (spun_on w t (spin_lock p)))
+  spin_goes : (p : Place) → place_at w t ≡ p → is_there (spin_lock p) ≡ true → Stays (locks_of w) t (call_state p (rights w t)) outcome.TheVariants.Step (locks_of (state_after_spin_on w t (spin_lock p)))
   spin_goes Idle is can = absurd cc
   spin_goes (Mutex l (Lock entry retries (Decide x))) is can = either (x == 1) can
     where
       either : (b : Bool) → is_there (if b then Some l else None) ≡ true
-          → Stays (locks_of w) t (call_state (Mutex l (Lock entry retries (Decide x))) (rights w t)) outcome.TheVariants.Step (locks_of (spun_on w t (if b then Some l else None)))
+          → Stays (locks_of w) t (call_state (Mutex l (Lock entry retries (Decide x))) (rights w t)) outcome.TheVariants.Step (locks_of (state_after_spin_on w t (if b then Some l else None)))
       either true can = placed w.sections (Mutex l (Lock entry retries (Decide x))) (next_place (place_at w t) (Spun (word_at w l))) is (rw is (λ k. refl)) _ (rw is (λ r e. rw e refl))
       either false can = absurd cc
   spin_goes (Mutex l (Lock entry retries First)) is can = absurd cc
@@ -254,9 +254,9 @@ module _ (w : State) (t : ℕ) (shape : IsShaped w) (steady : IsSteady w) (there
   spin_goes (Mutex l (HandOff bumps a)) is can = absurd cc
 
   late_goes : (p : Place) → place_at w t ≡ p → is_free_under w (late_key p) ≡ true
-      → Stays (locks_of w) t (record (call_state p (rights w t)) { late = true }) outcome.TheVariants.Step (locks_of (late_on w t (late_key p)))
+      → Stays (locks_of w) t (record (call_state p (rights w t)) { late = true }) outcome.TheVariants.Step (locks_of (state_after_late_on w t (late_key p)))
   late_goes Idle is can = absurd cc
-  late_goes (Mutex l (Lock entries.LockTimed retries Asleep)) is can = placed (filled_with w (One (2 * l)) (Some t)).sections (Mutex l (Lock entries.LockTimed retries Asleep)) (next_place (place_at w t) reply.Late) is (rw is (λ k. refl)) _ (rw is (λ r e. rw e refl))
+  late_goes (Mutex l (Lock entries.LockTimed retries Asleep)) is can = placed (state_with_sections w (One (2 * l)) (Some t)).sections (Mutex l (Lock entries.LockTimed retries Asleep)) (next_place (place_at w t) reply.Late) is (rw is (λ k. refl)) _ (rw is (λ r e. rw e refl))
   late_goes (Mutex l (Lock entries.Lock retries Asleep)) is can = absurd cc
   late_goes (Mutex l (Lock entries.Bump retries Asleep)) is can = absurd cc
   late_goes (Mutex l (Lock entry retries First)) is can = absurd cc
@@ -332,7 +332,7 @@ module _ (w : State) (t l : ℕ) where
   untaken_first fair mutex_call.TheVariants.Bump k = refl
 
 begin_goes : (w : State) (t : ℕ) (c : Call) → IsShaped w → IsSteady w → t < length w.places → can_begin w t c ≡ true
-    → MayBegin (locks_of w) t c × Stays (locks_of w) t (beginning (purpose_at (locks_of w) c) (rights w t)) outcome.TheVariants.Step (locks_of (begun w t c))
+    → MayBegin (locks_of w) t c × Stays (locks_of w) t (beginning (purpose_at (locks_of w) c) (rights w t)) outcome.TheVariants.Step (locks_of (state_after_begin w t c))
 begin_goes w t (call.TheVariants.Mutex l c) shape steady there can = (
   record { thread = there; idle = rw idle refl; lock = ltb-true l (length w.locks) open_to.0; right = rw (purpose_is (kind_at w l) l c is_kind) (right_held w t l (is_fair (kind_at w l)) c held.1) },
   placed w t shape steady there w.sections Idle (Mutex l (mutex_first (is_fair (kind_at w l)) c)) idle (untaken_first w t l (is_fair (kind_at w l)) c) _
@@ -372,7 +372,7 @@ begin_possible w t c may = either (can_begin w t c) refl
 -- ---------------------------------------------------------------- steps
 
 module _ (w : State) (t : ℕ) (shape : IsShaped w) (steady : IsSteady w) (there : t < length w.places) where
-  turned_does : (x : Turn) → can_turn w t x ≡ true → MayTurn (locks_of w) t x × Does (locks_of w) t x (turn_outcome w t x) (locks_of (turned w t x))
+  turned_does : (x : Turn) → can_turn w t x ≡ true → MayTurn (locks_of w) t x × Does (locks_of w) t x (turn_outcome w t x) (locks_of (state_after_turn w t x))
   turned_does (turn.TheVariants.Begin c) can = begin_goes w t c shape steady there can
   turned_does turn.TheVariants.Go can = (may_go w t can, go_goes w t shape steady there (place_at w t) refl (shape.places t) (steady.stands.calls t) can)
   turned_does turn.TheVariants.Spin can = (can, spin_goes w t shape steady there (place_at w t) refl can)
@@ -396,7 +396,7 @@ module _ (w : State) (t : ℕ) (steady : IsSteady w) where
 
 -- sections, and what the thread is told
 module _ (w : State) (t : ℕ) (shape : IsShaped w) (steady : IsSteady w) (there : t < length w.places) where
-  turned_sections : (x : Turn) → can_turn w t x ≡ true → (key : ℕ) → SectionChanges (section_at w key) t (section_at (turned w t x) key)
+  turned_sections : (x : Turn) → can_turn w t x ≡ true → (key : ℕ) → SectionChanges (section_at w key) t (section_at (state_after_turn w t x) key)
   turned_sections (turn.TheVariants.Begin c) can key = inl refl
   turned_sections turn.TheVariants.Go can key = gone_sections w t shape steady can key
   turned_sections turn.TheVariants.Spin can key = inl (spun_sections w t (spin_lock (place_at w t)) key)
@@ -407,16 +407,16 @@ module _ (w : State) (t : ℕ) (shape : IsShaped w) (steady : IsSteady w) (there
   put_sleeps : (b : State) (p : Place) → length b.places ≡ length w.places → sleeps (act_of (place_at (put b t p) t)) ≡ sleeps (act_of p)
   put_sleeps b p size = ap (λ q. sleeps (act_of q)) (get_or-set_same b.places t p Idle (rw size there))
 
-  turned_told : (x : Turn) → can_turn w t x ≡ true → (turn_outcome w t x ≡ outcome.TheVariants.Sleep) ↔ (sleeps (act_of (place_at (turned w t x) t)) ≡ true)
+  turned_told : (x : Turn) → can_turn w t x ≡ true → (turn_outcome w t x ≡ outcome.TheVariants.Sleep) ↔ (sleeps (act_of (place_at (state_after_turn w t x) t)) ≡ true)
   turned_told (turn.TheVariants.Begin c) can = told_step _ (put_sleeps w (first_place (kind_at w (lock_in c)) c) refl ∙ begins_awake (kind_at w (lock_in c)) c)
-  turned_told turn.TheVariants.Go can = rw (put_sleeps (performed w t (place_at w t) (act_of (place_at w t))) (next_place (place_at w t) (go_reply w t)) (performed_counts w t (place_at w t) (act_of (place_at w t))).0)
+  turned_told turn.TheVariants.Go can = rw (put_sleeps (state_after_act w t (place_at w t) (act_of (place_at w t))) (next_place (place_at w t) (go_reply w t)) (performed_counts w t (place_at w t) (act_of (place_at w t))).0)
       (told_gone (place_at w t) (go_reply w t))
   turned_told turn.TheVariants.Spin can = told_step _ (spun_awake w t there (place_at w t) refl can)
   turned_told turn.TheVariants.Late can = told_step _ (late_awake w t there (place_at w t) refl can)
   turned_told turn.TheVariants.Ok can = absurd cc
   turned_told turn.TheVariants.Err can = absurd cc
 
-pub after_step : (w : State) (s : Step) → IsShaped w → IsSteady w → IsStep (locks_of w) s (answered w s) (locks_of (after w s))
+pub after_step : (w : State) (s : Step) → IsShaped w → IsSteady w → IsStep (locks_of w) s (step_outcome w s) (locks_of (after w s))
 after_step w s shape steady = (record { threads = size.threads; size = size.locks; kinds = after_kinds w s; sections = sections (is_possible w s) refl; told = told (is_possible w s) refl }, either (is_possible w s) refl)
   where
     size : SameSize w (after w s)
@@ -425,15 +425,15 @@ after_step w s shape steady = (record { threads = size.threads; size = size.lock
     parts : is_possible w s ≡ true → (s.thread < length w.places) × (can_turn w s.thread s.turn ≡ true)
     parts can = let h = both (nat_lt s.thread (length w.places)) (can_turn w s.thread s.turn) can in (ltb-true s.thread (length w.places) h.0, h.1)
 
-    sections : (b : Bool) → is_possible w s ≡ b → (key : ℕ) → SectionChanges (section_at w key) s.thread (section_at (if b then turned w s.thread s.turn else w) key)
+    sections : (b : Bool) → is_possible w s ≡ b → (key : ℕ) → SectionChanges (section_at w key) s.thread (section_at (if b then state_after_turn w s.thread s.turn else w) key)
     sections true can key = turned_sections w s.thread shape steady (parts can).0 s.turn (parts can).1 key
     sections false cannot key = inl refl
 
     told : (b : Bool) → is_possible w s ≡ b → (if b then turn_outcome w s.thread s.turn else outcome.TheVariants.NotNow) ≢ outcome.TheVariants.NotNow
-        → ((if b then turn_outcome w s.thread s.turn else outcome.TheVariants.NotNow) ≡ outcome.TheVariants.Sleep) ↔ (sleeps (act_of (place_at (if b then turned w s.thread s.turn else w) s.thread)) ≡ true)
+        → ((if b then turn_outcome w s.thread s.turn else outcome.TheVariants.NotNow) ≡ outcome.TheVariants.Sleep) ↔ (sleeps (act_of (place_at (if b then state_after_turn w s.thread s.turn else w) s.thread)) ≡ true)
     told true can ne = turned_told w s.thread shape steady (parts can).0 s.turn (parts can).1
     told false cannot ne = absurd (ne refl)
 
-    either : (b : Bool) → is_possible w s ≡ b → Turned (locks_of w) s.thread s.turn (if b then turn_outcome w s.thread s.turn else outcome.TheVariants.NotNow) (locks_of (if b then turned w s.thread s.turn else w))
+    either : (b : Bool) → is_possible w s ≡ b → Turned (locks_of w) s.thread s.turn (if b then turn_outcome w s.thread s.turn else outcome.TheVariants.NotNow) (locks_of (if b then state_after_turn w s.thread s.turn else w))
     either true can = inl (turned_does w s.thread shape steady (parts can).0 s.turn (parts can).1)
     either false cannot = inr (stuck w s.thread steady s.turn cannot, (refl, refl))

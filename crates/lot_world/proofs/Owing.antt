@@ -44,7 +44,7 @@ use Rattle.lot_calls.specs.declared.kinds.Kind.{Kind}
 use Rattle.lot_calls.specs.Kinds.{is_fair}
 use Rattle.lot_calls.specs.Calls.{lock_in}
 use Rattle.lot_steps.specs.Steps.{act_of, owes_on, next_act, next_place, mutex_goes, mutex_does, first_place, is_idle, spin_lock, late_key, taker}
-use Rattle.lot_world.specs.Machine.{State, place_at, word_at, first_taken, taken_by, awakened, filled_with, queue_at, performed, gone, go_reply, go_outcome, is_there, is_free_under, is_open_to, can_begin, begun, can_turn, turn_outcome, kind_at, reply_to, put, spun_on, late_on, turned, is_possible, after, answered, told_by}
+use Rattle.lot_world.specs.Machine.{State, place_at, word_at, queues_without_first, state_after_taking, state_after_wake, state_with_sections, queue_at, state_after_act, state_after_go, go_reply, go_outcome, is_there, is_free_under, is_open_to, can_begin, state_after_begin, can_turn, turn_outcome, kind_at, reply_to, put, state_after_spin_on, state_after_late_on, state_after_turn, is_possible, after, step_outcome, place_after_telling}
 use Rattle.lot_world.specs.Refinement.{owner_at, call_state, locks_of}
 use Rattle.abstract_locks.specs.Locks.{Rights}
 use Rattle.abstract_locks.specs.Purposes.{IsReleasing}
@@ -130,34 +130,34 @@ module _ (w : State) (k u : ℕ) where
   parked_owes true queues = refl
   parked_owes false queues = refl
 
-  took_owes : (t : ℕ) (queues : List (List _)) (o : Option ℕ) → owes_on (place_at (taken_by (record w { queues = queues }) t o) u) k ≡ owes_on (place_at w u) k
+  took_owes : (t : ℕ) (queues : List (List _)) (o : Option ℕ) → owes_on (place_at (state_after_taking (record w { queues = queues }) t o) u) k ≡ owes_on (place_at w u) k
   took_owes t queues None = refl
   took_owes t queues (Some x) = befallen_same x (TakenBy t) (λ p. befalls_taken p t k)
 
   -- whatever is told to those in a hand
-  told_same : (t : ℕ) (r : Reply) → ((p : Place) → owes_on (next_place p r) k ≡ owes_on p k) → owes_on (get_or (map (told_by t r) w.places) u Idle) k ≡ owes_on (place_at w u) k
-  told_same t r kept = ap (λ p. owes_on p k) (get_or-map (told_by t r) w.places u Idle) ∙ either (is_thread t (taker (place_at w u)))
+  told_same : (t : ℕ) (r : Reply) → ((p : Place) → owes_on (next_place p r) k ≡ owes_on p k) → owes_on (get_or (map (place_after_telling t r) w.places) u Idle) k ≡ owes_on (place_at w u) k
+  told_same t r kept = ap (λ p. owes_on p k) (get_or-map (place_after_telling t r) w.places u Idle) ∙ either (is_thread t (taker (place_at w u)))
     where
       either : (b : Bool) → owes_on (if b then next_place (place_at w u) r else place_at w u) k ≡ owes_on (place_at w u) k
       either true = kept (place_at w u)
       either false = refl
 
-  left_owes : (t : ℕ) (keys : Keys) (x : Wakes) → owes_on (place_at (awakened (filled_with w keys None) t x) u) k ≡ owes_on (place_at w u) k
+  left_owes : (t : ℕ) (keys : Keys) (x : Wakes) → owes_on (place_at (state_after_wake (state_with_sections w keys None) t x) u) k ≡ owes_on (place_at w u) k
   left_owes t (One key) wakes.TheVariants.Nobody = refl
   left_owes t (One key) (wakes.TheVariants.All n) = told_same t (Woken n) (λ p. befalls_woken p n k)
   left_owes t (Two first second) wakes.TheVariants.Nobody = refl
   left_owes t (Two first second) (wakes.TheVariants.All n) = told_same t (Woken n) (λ p. befalls_woken p n k)
 
-  filled_owes : (keys : Keys) (who : Option ℕ) → owes_on (place_at (filled_with w keys who) u) k ≡ owes_on (place_at w u) k
+  filled_owes : (keys : Keys) (who : Option ℕ) → owes_on (place_at (state_with_sections w keys who) u) k ≡ owes_on (place_at w u) k
   filled_owes (One key) who = refl
   filled_owes (Two first second) who = refl
 
-  performed_owes : (t : ℕ) (p : Place) (a : Act) → owes_on (place_at (performed w t p a) u) k ≡ owes_on (place_at w u) k
+  performed_owes : (t : ℕ) (p : Place) (a : Act) → owes_on (place_at (state_after_act w t p a) u) k ≡ owes_on (place_at w u) k
   performed_owes t p (Word l f) = refl
   performed_owes t p (HandOver l f) = told_same t (HandedBy t) (λ p. befalls_handed p t k)
   performed_owes t p (Enter keys) = filled_owes keys (Some t)
   performed_owes t p (Park l key check x) = parked_owes (holds check (word_at w l)) _
-  performed_owes t p (TakeFirst key) = took_owes t (first_taken w.queues key) (first_of (queue_at w key))
+  performed_owes t p (TakeFirst key) = took_owes t (queues_without_first w.queues key) (first_of (queue_at w key))
   performed_owes t p (act.Leave keys x) = left_owes t keys x
   performed_owes t p act.Rest = refl
   performed_owes t p a = refl
@@ -165,17 +165,17 @@ module _ (w : State) (k u : ℕ) where
 put_owes : (b : State) (t u k : ℕ) (p : Place) → u ≢ t → owes_on (place_at (put b t p) u) k ≡ owes_on (place_at b u) k
 put_owes b t u k p ne = ap (λ q. owes_on q k) (get_or-set_other b.places t u p Idle ne)
 
-spun_owes : (w : State) (t u k : ℕ) (o : Option ℕ) → u ≢ t → owes_on (place_at (spun_on w t o) u) k ≡ owes_on (place_at w u) k
+spun_owes : (w : State) (t u k : ℕ) (o : Option ℕ) → u ≢ t → owes_on (place_at (state_after_spin_on w t o) u) k ≡ owes_on (place_at w u) k
 spun_owes w t u k None ne = refl
 spun_owes w t u k (Some l) ne = put_owes w t u k _ ne
 
-late_owes : (w : State) (t u k : ℕ) (o : Option ℕ) → u ≢ t → owes_on (place_at (late_on w t o) u) k ≡ owes_on (place_at w u) k
+late_owes : (w : State) (t u k : ℕ) (o : Option ℕ) → u ≢ t → owes_on (place_at (state_after_late_on w t o) u) k ≡ owes_on (place_at w u) k
 late_owes w t u k None ne = refl
-late_owes w t u k (Some key) ne = put_owes (filled_with w (One key) (Some t)) t u k _ ne
+late_owes w t u k (Some key) ne = put_owes (state_with_sections w (One key) (Some t)) t u k _ ne
 
-turned_owes : (w : State) (t u k : ℕ) (x : Turn) → u ≢ t → owes_on (place_at (turned w t x) u) k ≡ owes_on (place_at w u) k
+turned_owes : (w : State) (t u k : ℕ) (x : Turn) → u ≢ t → owes_on (place_at (state_after_turn w t x) u) k ≡ owes_on (place_at w u) k
 turned_owes w t u k (turn.TheVariants.Begin c) ne = put_owes w t u k _ ne
-turned_owes w t u k turn.TheVariants.Go ne = put_owes (performed w t (place_at w t) (act_of (place_at w t))) t u k _ ne ∙ performed_owes w k u t (place_at w t) (act_of (place_at w t))
+turned_owes w t u k turn.TheVariants.Go ne = put_owes (state_after_act w t (place_at w t) (act_of (place_at w t))) t u k _ ne ∙ performed_owes w k u t (place_at w t) (act_of (place_at w t))
 turned_owes w t u k turn.TheVariants.Spin ne = spun_owes w t u k (spin_lock (place_at w t)) ne
 turned_owes w t u k turn.TheVariants.Late ne = late_owes w t u k (late_key (place_at w t)) ne
 turned_owes w t u k x ne = refl
@@ -183,7 +183,7 @@ turned_owes w t u k x ne = refl
 others_owe : (w : State) (s : Step) (u k : ℕ) → u ≢ s.thread → owes_on (place_at (after w s) u) k ≡ owes_on (place_at w u) k
 others_owe w s u k ne = either (is_possible w s)
   where
-    either : (b : Bool) → owes_on (place_at (if b then turned w s.thread s.turn else w) u) k ≡ owes_on (place_at w u) k
+    either : (b : Bool) → owes_on (place_at (if b then state_after_turn w s.thread s.turn else w) u) k ≡ owes_on (place_at w u) k
     either true = turned_owes w s.thread u k s.turn ne
     either false = refl
 
@@ -318,14 +318,14 @@ no_waker : (w : State) (t l k : ℕ) (e : Entry) (r : Bool) (a : LockAt) → pla
 no_waker w t l k e r a is h = entering_lock k l e r (next.At a) (rights_at w t) (subst (λ p. IsReleasing (call_state p (rights_at w t)).purpose (call_state p (rights_at w t)).released l) is h)
 
 module _ (w : State) (t : ℕ) (shape : IsShaped w) (steady : IsSteady w) (there : t < length w.places) where
-  go_place : place_at (gone w t) t ≡ next_place (place_at w t) (go_reply w t)
-  go_place = get_or-set_same (performed w t (place_at w t) (act_of (place_at w t))).places t _ Idle (rw ((performed_counts w t (place_at w t) (act_of (place_at w t))).0) there)
+  go_place : place_at (state_after_go w t) t ≡ next_place (place_at w t) (go_reply w t)
+  go_place = get_or-set_same (state_after_act w t (place_at w t) (act_of (place_at w t))).places t _ Idle (rw ((performed_counts w t (place_at w t) (act_of (place_at w t))).0) there)
 
-  go_owes : (l : ℕ) → IsKept (gone w t) → Owes (gone w t) t l ↔ (IsInside (gone w t) t l ⊎ SeesWaiters w t l (go_outcome w t))
+  go_owes : (l : ℕ) → IsKept (state_after_go w t) → Owes (state_after_go w t) t l ↔ (IsInside (state_after_go w t) t l ⊎ SeesWaiters w t l (go_outcome w t))
   go_owes l kept = (
     λ h. elim ((kept.owing t l Main).0 h) [
       | inl i ↦ inl i
-      | inr g ↦ inr (goes_to_wake w t steady (rights_at (gone w t) t) l (place_at w t) refl (subst (λ p. ToWake p (rights_at (gone w t) t) l) go_place g))
+      | inr g ↦ inr (goes_to_wake w t steady (rights_at (state_after_go w t) t) l (place_at w t) refl (subst (λ p. ToWake p (rights_at (state_after_go w t) t) l) go_place g))
     ],
     λ h. elim h [
       | inl i ↦ (kept.owing t l Main).1 (inl i)
@@ -352,11 +352,11 @@ module _ (w : State) (t : ℕ) (there : t < length w.places) where
       → Owes v t l ↔ (IsInside v t l ⊎ SeesWaiters w t l o)
   enters_on v l k m e f r s a b o is later kept = quietly w v t there l o kept (λ g. no_waker v t l m f s b later g.1) (λ x. no_waker w t l k e r a is x.0)
 
-  spun_owing : (p : Place) → place_at w t ≡ p → is_there (spin_lock p) ≡ true → (l : ℕ) (o : Outcome) → IsKept (spun_on w t (spin_lock p)) → Owes (spun_on w t (spin_lock p)) t l ↔ (IsInside (spun_on w t (spin_lock p)) t l ⊎ SeesWaiters w t l o)
+  spun_owing : (p : Place) → place_at w t ≡ p → is_there (spin_lock p) ≡ true → (l : ℕ) (o : Outcome) → IsKept (state_after_spin_on w t (spin_lock p)) → Owes (state_after_spin_on w t (spin_lock p)) t l ↔ (IsInside (state_after_spin_on w t (spin_lock p)) t l ⊎ SeesWaiters w t l o)
   spun_owing Idle is can = absurd cc
   spun_owing (Mutex k (Lock e r (lock.Decide x))) is can = either (x == 1) can
     where
-      either : (b : Bool) → is_there (if b then Some k else None) ≡ true → (l : ℕ) (o : Outcome) → IsKept (spun_on w t (if b then Some k else None)) → Owes (spun_on w t (if b then Some k else None)) t l ↔ (IsInside (spun_on w t (if b then Some k else None)) t l ⊎ SeesWaiters w t l o)
+      either : (b : Bool) → is_there (if b then Some k else None) ≡ true → (l : ℕ) (o : Outcome) → IsKept (state_after_spin_on w t (if b then Some k else None)) → Owes (state_after_spin_on w t (if b then Some k else None)) t l ↔ (IsInside (state_after_spin_on w t (if b then Some k else None)) t l ⊎ SeesWaiters w t l o)
       either true can l o kept = enters_on _ l k k e e r r (lock.Decide x) (lock.Decide (word_at w k)) o is (rw (get_or-set_same w.places t (next_place (place_at w t) (Spun (word_at w k))) Idle there, is) refl) kept
       either false can l o kept = absurd cc
   spun_owing (Mutex k (Lock e r lock.First)) is can = absurd cc
@@ -367,7 +367,7 @@ module _ (w : State) (t : ℕ) (there : t < length w.places) where
   spun_owing (Mutex k Bump) is can = absurd cc
   spun_owing (Mutex k (HandOff b a)) is can = absurd cc
 
-  late_owing : (p : Place) → place_at w t ≡ p → is_free_under w (late_key p) ≡ true → (l : ℕ) (o : Outcome) → IsKept (late_on w t (late_key p)) → Owes (late_on w t (late_key p)) t l ↔ (IsInside (late_on w t (late_key p)) t l ⊎ SeesWaiters w t l o)
+  late_owing : (p : Place) → place_at w t ≡ p → is_free_under w (late_key p) ≡ true → (l : ℕ) (o : Outcome) → IsKept (state_after_late_on w t (late_key p)) → Owes (state_after_late_on w t (late_key p)) t l ↔ (IsInside (state_after_late_on w t (late_key p)) t l ⊎ SeesWaiters w t l o)
   late_owing (Mutex k (Lock entries.LockTimed r lock.Asleep)) is can l o kept = enters_on _ l k k entries.LockTimed entries.LockTimed r r lock.Asleep lock.Remove o is (rw (get_or-set_same w.places t (next_place (place_at w t) Late) Idle there, is) refl) kept
   late_owing Idle is can l o kept = absurd cc
   late_owing (Mutex k (Lock entries.Lock r lock.Asleep)) is can l o kept = absurd cc
@@ -380,14 +380,14 @@ module _ (w : State) (t : ℕ) (there : t < length w.places) where
   late_owing (Mutex k Bump) is can l o kept = absurd cc
   late_owing (Mutex k (HandOff b a)) is can l o kept = absurd cc
 
-  begun_owing : (c : Call) → can_begin w t c ≡ true → (l : ℕ) (o : Outcome) → IsKept (begun w t c) → Owes (begun w t c) t l ↔ (IsInside (begun w t c) t l ⊎ SeesWaiters w t l o)
-  begun_owing c can l o kept = quietly w (begun w t c) t there l o kept
+  begun_owing : (c : Call) → can_begin w t c ≡ true → (l : ℕ) (o : Outcome) → IsKept (state_after_begin w t c) → Owes (state_after_begin w t c) t l ↔ (IsInside (state_after_begin w t c) t l ⊎ SeesWaiters w t l o)
+  begun_owing c can l o kept = quietly w (state_after_begin w t c) t there l o kept
       (λ g. begins_apart (kind_at w (lock_in c)) c l (subst (λ p. act_of p ≡ Enter (One (2 * l))) (get_or-set_same w.places t (first_place (kind_at w (lock_in c)) c) Idle there) g.0))
       (λ x. let idle : place_at w t ≡ Idle = idle_is (place_at w t) (both (is_idle (place_at w t)) (is_open_to w t c) can).0 in
       let none : IsReleasing (call_state Idle (rights_at w t)).purpose (call_state Idle (rights_at w t)).released l = subst (λ p. IsReleasing (call_state p (rights_at w t)).purpose (call_state p (rights_at w t)).released l) idle x.0 in none)
 
 module _ (w : State) (t : ℕ) (shape : IsShaped w) (steady : IsSteady w) (there : t < length w.places) where
-  turned_owing : (x : Turn) → can_turn w t x ≡ true → (l : ℕ) → IsKept (turned w t x) → Owes (turned w t x) t l ↔ (IsInside (turned w t x) t l ⊎ SeesWaiters w t l (turn_outcome w t x))
+  turned_owing : (x : Turn) → can_turn w t x ≡ true → (l : ℕ) → IsKept (state_after_turn w t x) → Owes (state_after_turn w t x) t l ↔ (IsInside (state_after_turn w t x) t l ⊎ SeesWaiters w t l (turn_outcome w t x))
   turned_owing (turn.TheVariants.Begin c) can l kept = begun_owing w t there c can l outcome.TheVariants.Step kept
   turned_owing turn.TheVariants.Go can l kept = go_owes w t shape steady there l kept
   turned_owing turn.TheVariants.Spin can l kept = spun_owing w t there (place_at w t) refl can l outcome.TheVariants.Step kept
@@ -395,13 +395,13 @@ module _ (w : State) (t : ℕ) (shape : IsShaped w) (steady : IsSteady w) (there
   turned_owing turn.TheVariants.Ok can l kept = absurd cc
   turned_owing turn.TheVariants.Err can l kept = absurd cc
 
-pub owes_since : (w : State) (s : Step) → IsShaped w → IsSteady w → IsKept (after w s) → OwesSince w s.thread (answered w s) (after w s)
+pub owes_since : (w : State) (s : Step) → IsShaped w → IsSteady w → IsKept (after w s) → OwesSince w s.thread (step_outcome w s) (after w s)
 owes_since w s shape steady kept = record {
   own = own (is_possible w s) refl kept;
   others = λ u l ne. ((λ h. sym (others_owe w s u l ne) ∙ h), λ h. others_owe w s u l ne ∙ h);
 }
   where
-    own : (b : Bool) → is_possible w s ≡ b → IsKept (if b then turned w s.thread s.turn else w) → (l : ℕ) → (if b then turn_outcome w s.thread s.turn else outcome.TheVariants.NotNow) ≢ outcome.TheVariants.NotNow
-        → Owes (if b then turned w s.thread s.turn else w) s.thread l ↔ (IsInside (if b then turned w s.thread s.turn else w) s.thread l ⊎ SeesWaiters w s.thread l (if b then turn_outcome w s.thread s.turn else outcome.TheVariants.NotNow))
+    own : (b : Bool) → is_possible w s ≡ b → IsKept (if b then state_after_turn w s.thread s.turn else w) → (l : ℕ) → (if b then turn_outcome w s.thread s.turn else outcome.TheVariants.NotNow) ≢ outcome.TheVariants.NotNow
+        → Owes (if b then state_after_turn w s.thread s.turn else w) s.thread l ↔ (IsInside (if b then state_after_turn w s.thread s.turn else w) s.thread l ⊎ SeesWaiters w s.thread l (if b then turn_outcome w s.thread s.turn else outcome.TheVariants.NotNow))
     own true can kept l ne = let h = both (nat_lt s.thread (length w.places)) (can_turn w s.thread s.turn) can in turned_owing w s.thread shape steady (ltb-true s.thread (length w.places) h.0) s.turn h.1 l kept
     own false cannot kept l ne = absurd (ne refl)

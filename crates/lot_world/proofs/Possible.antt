@@ -37,7 +37,7 @@ use Rattle.lot_steps.specs.declared.acts.Wakes as wakes
 use Rattle.lot_steps.specs.Acts.{outcome_of, holds}
 use Rattle.lot_steps.specs.MutexSteps.{is_locked, lock_act, mutex_act, mutex_first, mutex_next}
 use Rattle.lot_steps.specs.Steps.{act_of, next_place, next_act, mutex_goes, mutex_does, late_key, first_place, spin_lock}
-use Rattle.lot_world.specs.Machine.{State, place_at, queue_at, section_at, is_there, can_do, can_go, is_free_under, word_at, filled_with, first_taken, taken_by, awakened, performed, gone, spun_on, late_on}
+use Rattle.lot_world.specs.Machine.{State, place_at, queue_at, section_at, is_there, can_do, can_go, is_free_under, word_at, state_with_sections, queues_without_first, state_after_taking, state_after_wake, state_after_act, state_after_go, state_after_spin_on, state_after_late_on}
 use Rattle.lot_world.specs.Fits.{IsShaped, PlaceFits}
 use Rattle.lot_world.proofs.Shape.{main_key_there}
 use Rattle.abstract_locks.specs.Sites.{Main}
@@ -303,7 +303,7 @@ module _ (w : State) (t : ℕ) (steady : IsSteady w) where
   on_main l (HandOff b (hand_off.Leave any)) is = held _ l is refl
 
 module _ (w : State) (t : ℕ) where
-  filled_changes : (l : ℕ) (who : Option ℕ) → 2 * l < length w.sections → SectionChanges (section_at w (2 * l)) t who → (key : ℕ) → SectionChanges (section_at w key) t (section_at (filled_with w (One (2 * l)) who) key)
+  filled_changes : (l : ℕ) (who : Option ℕ) → 2 * l < length w.sections → SectionChanges (section_at w (2 * l)) t who → (key : ℕ) → SectionChanges (section_at w key) t (section_at (state_with_sections w (One (2 * l)) who) key)
   filled_changes l who lt changes key = elim (cases_eq key (2 * l)) [
     | inl e ↦ rw (e, get_or-set_same w.sections (2 * l) who None lt) changes
     | inr ne ↦ inl (get_or-set_other w.sections (2 * l) key who None ne)
@@ -313,43 +313,43 @@ module _ (w : State) (t : ℕ) where
   parked_sections true queues key = refl
   parked_sections false queues key = refl
 
-  took_sections : (queues : List (List Waiter)) (o : Option ℕ) (key : ℕ) → section_at (taken_by (record w { queues = queues }) t o) key ≡ section_at w key
+  took_sections : (queues : List (List Waiter)) (o : Option ℕ) (key : ℕ) → section_at (state_after_taking (record w { queues = queues }) t o) key ≡ section_at w key
   took_sections queues None key = refl
   took_sections queues (Some u) key = refl
 
-  left_sections : (keys : Keys) (x : Wakes) (key : ℕ) → section_at (awakened (filled_with w keys None) t x) key ≡ section_at (filled_with w keys None) key
+  left_sections : (keys : Keys) (x : Wakes) (key : ℕ) → section_at (state_after_wake (state_with_sections w keys None) t x) key ≡ section_at (state_with_sections w keys None) key
   left_sections keys wakes.TheVariants.Nobody key = refl
   left_sections keys (wakes.TheVariants.All note) key = refl
 
-  act_sections : (p : Place) (l : ℕ) → 2 * l < length w.sections → (a : Act) → can_do w a ≡ true → OnMain w t l a → (key : ℕ) → SectionChanges (section_at w key) t (section_at (performed w t p a) key)
+  act_sections : (p : Place) (l : ℕ) → 2 * l < length w.sections → (a : Act) → can_do w a ≡ true → OnMain w t l a → (key : ℕ) → SectionChanges (section_at w key) t (section_at (state_after_act w t p a) key)
   act_sections p l lt (Enter (One k)) can main key = rw main (filled_changes l (Some t) lt (inr (inl (none_is (section_at w (2 * l)) (rw main at can), refl))) key)
   act_sections p l lt (Enter (Two first second)) can main key = absurd main
   act_sections p l lt (act.Leave (One k) x) can main key = rw (left_sections (One k) x key, main.0) (filled_changes l None lt (inr (inr (main.1, refl))) key)
   act_sections p l lt (act.Leave (Two first second) x) can main key = absurd main
   act_sections p l lt (Park k key_there check x) can main key = inl (parked_sections (holds check (word_at w k)) _ key)
-  act_sections p l lt (TakeFirst k) can main key = inl (took_sections (first_taken w.queues k) (first_of (queue_at w k)) key)
+  act_sections p l lt (TakeFirst k) can main key = inl (took_sections (queues_without_first w.queues k) (first_of (queue_at w k)) key)
   act_sections p l lt Rest can main key = inl refl
   act_sections p l lt a can main key = inl refl
 
-pub gone_sections : (w : State) (t : ℕ) → IsShaped w → IsSteady w → can_go w t ≡ true → (key : ℕ) → SectionChanges (section_at w key) t (section_at (gone w t) key)
+pub gone_sections : (w : State) (t : ℕ) → IsShaped w → IsSteady w → can_go w t ≡ true → (key : ℕ) → SectionChanges (section_at w key) t (section_at (state_after_go w t) key)
 gone_sections w t shape steady can = by_place (place_at w t) refl (shape.places t) can
   where
-    by_place : (p : Place) → place_at w t ≡ p → PlaceFits (length w.locks) p → can_do w (act_of p) ≡ true → (key : ℕ) → SectionChanges (section_at w key) t (section_at (performed w t p (act_of p)) key)
+    by_place : (p : Place) → place_at w t ≡ p → PlaceFits (length w.locks) p → can_do w (act_of p) ≡ true → (key : ℕ) → SectionChanges (section_at w key) t (section_at (state_after_act w t p (act_of p)) key)
     by_place Idle is fits can key = absurd cc
     by_place (Mutex l at) is fits can key = act_sections w t (Mutex l at) l (main_key_there w l shape fits.0) (mutex_act l at) can (on_main w t steady l at is) key
 
-pub spun_sections : (w : State) (t : ℕ) (o : Option ℕ) (key : ℕ) → section_at (spun_on w t o) key ≡ section_at w key
+pub spun_sections : (w : State) (t : ℕ) (o : Option ℕ) (key : ℕ) → section_at (state_after_spin_on w t o) key ≡ section_at w key
 spun_sections w t None key = refl
 spun_sections w t (Some l) key = refl
 
 -- ---------------------------------------------------------------- the other turns
 
 module _ (w : State) (t : ℕ) (there : t < length w.places) where
-  pub spun_awake : (p : Place) → place_at w t ≡ p → is_there (spin_lock p) ≡ true → sleeps (act_of (place_at (spun_on w t (spin_lock p)) t)) ≡ false
+  pub spun_awake : (p : Place) → place_at w t ≡ p → is_there (spin_lock p) ≡ true → sleeps (act_of (place_at (state_after_spin_on w t (spin_lock p)) t)) ≡ false
   spun_awake Idle is can = absurd cc
   spun_awake (Mutex l (Lock e r (lock.Decide x))) is can = either (x == 1) can
     where
-      either : (b : Bool) → is_there (if b then Some l else None) ≡ true → sleeps (act_of (place_at (spun_on w t (if b then Some l else None)) t)) ≡ false
+      either : (b : Bool) → is_there (if b then Some l else None) ≡ true → sleeps (act_of (place_at (state_after_spin_on w t (if b then Some l else None)) t)) ≡ false
       either true can = rw (get_or-set_same w.places t (next_place (place_at w t) (Spun (word_at w l))) Idle there, is) (looks_awake l (word_at w l))
       either false can = absurd cc
   spun_awake (Mutex l (Lock e r lock.First)) is can = absurd cc
@@ -360,7 +360,7 @@ module _ (w : State) (t : ℕ) (there : t < length w.places) where
   spun_awake (Mutex l Bump) is can = absurd cc
   spun_awake (Mutex l (HandOff b a)) is can = absurd cc
 
-  pub late_awake : (p : Place) → place_at w t ≡ p → is_free_under w (late_key p) ≡ true → sleeps (act_of (place_at (late_on w t (late_key p)) t)) ≡ false
+  pub late_awake : (p : Place) → place_at w t ≡ p → is_free_under w (late_key p) ≡ true → sleeps (act_of (place_at (state_after_late_on w t (late_key p)) t)) ≡ false
   late_awake (Mutex l (Lock entries.LockTimed r lock.Asleep)) is can = rw (get_or-set_same w.places t (next_place (place_at w t) Late) Idle there, is) refl
   late_awake Idle is can = absurd cc
   late_awake (Mutex l (Lock entries.Lock r lock.Asleep)) is can = absurd cc
@@ -374,7 +374,7 @@ module _ (w : State) (t : ℕ) (there : t < length w.places) where
   late_awake (Mutex l (HandOff b a)) is can = absurd cc
 
 module _ (w : State) (t : ℕ) (shape : IsShaped w) where
-  pub late_sections : (p : Place) → place_at w t ≡ p → PlaceFits (length w.locks) p → is_free_under w (late_key p) ≡ true → (key : ℕ) → SectionChanges (section_at w key) t (section_at (late_on w t (late_key p)) key)
+  pub late_sections : (p : Place) → place_at w t ≡ p → PlaceFits (length w.locks) p → is_free_under w (late_key p) ≡ true → (key : ℕ) → SectionChanges (section_at w key) t (section_at (state_after_late_on w t (late_key p)) key)
   late_sections (Mutex l (Lock entries.LockTimed r lock.Asleep)) is fits can key = filled_changes w t l (Some t) (main_key_there w l shape fits.0) (inr (inl (none_is (section_at w (2 * l)) can, refl))) key
   late_sections Idle is fits can key = absurd cc
   late_sections (Mutex l (Lock entries.Lock r lock.Asleep)) is fits can key = absurd cc

@@ -8,7 +8,7 @@ use Rattle.lot_base.specs.Lines.{line, lines, waiter, without, without_first}
 use Rattle.std.specs.Prelude.{◌==◌}
 use Rattle.std.proofs.lemmas.List.Elements.{filter_passes}
 use Rattle.lot_world.specs.Views.{StandUnder}
-use Rattle.lot_world.specs.Machine.{lines_from, appended, first_taken, removed}
+use Rattle.lot_world.specs.Machine.{lines_from, queues_with_last, queues_without_first, queues_without}
 
 -- the line of a key is the one at its place
 pub line_at : (key n i : ℕ) (xs : List Waiter) → i < n → slice_index_or (lines_from key n xs) i [] ≡ line (key + i) xs
@@ -68,7 +68,7 @@ lines_append from (suc n) (suc i) key t wanted xs h e =
     cc
 
 -- what an append does to the lines
-pub lines_appended : (n key t : ℕ) (wanted : Want) (xs ys : List Waiter) → key < n → lines ys ≡ lines (without t xs ++ waiter key t wanted ∷ []) → lines_from 0 n ys ≡ appended (lines_from 0 n xs) key t wanted
+pub lines_appended : (n key t : ℕ) (wanted : Want) (xs ys : List Waiter) → key < n → lines ys ≡ lines (without t xs ++ waiter key t wanted ∷ []) → lines_from 0 n ys ≡ queues_with_last (lines_from 0 n xs) key t wanted
 lines_appended n key t wanted xs ys h e =
     lines_same 0 n ys (without t xs ++ waiter key t wanted ∷ []) e
     ∙ lines_append 0 n key key t wanted (without t xs) h (omega arith)
@@ -105,7 +105,7 @@ lines_first from (suc n) (suc i) key xs h e =
     cc
 
 -- what the taking of a first does to the lines
-pub lines_taken : (n key : ℕ) (xs ys : List Waiter) → key < n → lines ys ≡ lines (without_first key xs) → lines_from 0 n ys ≡ first_taken (lines_from 0 n xs) key
+pub lines_taken : (n key : ℕ) (xs ys : List Waiter) → key < n → lines ys ≡ lines (without_first key xs) → lines_from 0 n ys ≡ queues_without_first (lines_from 0 n xs) key
 lines_taken n key xs ys h e = lines_same 0 n ys (without_first key xs) e ∙ lines_first 0 n key key xs h (omega arith)
 
 pub line_here : (n key : ℕ) (xs : List Waiter) → key < n → slice_index_or (lines_from 0 n xs) key [] ≡ line key xs
@@ -116,5 +116,5 @@ pub line_keyed : (key : ℕ) (xs : List Waiter) → StandUnder key (line key xs)
 line_keyed key xs = λ k d h. (Decides-eqb (slice_index_or (line key xs) k d).key key).0 (filter_passes (λ (x : Waiter). x.key == key) xs k d h)
 
 -- what a removal does to the lines
-pub lines_removed : (n t : ℕ) (xs ys : List Waiter) → lines ys ≡ lines (without t xs) → lines_from 0 n ys ≡ removed (lines_from 0 n xs) t
+pub lines_removed : (n t : ℕ) (xs ys : List Waiter) → lines ys ≡ lines (without t xs) → lines_from 0 n ys ≡ queues_without (lines_from 0 n xs) t
 lines_removed n t xs ys e = lines_same 0 n ys (without t xs) e ∙ lines_without 0 n t xs

@@ -2,22 +2,22 @@
 use Rattle.std.proofs.Common.{◌≡◌, List, [], ◌∷◌, ◌++◌, refl, ap, sym, ◌∙◌, append_assoc}
 use Rattle.lot_calls.specs.declared.calls.Step.{Step}
 use Rattle.lot_calls.specs.declared.outcomes.Outcome.{Outcome}
-use Rattle.lot_world.specs.Machine.{State, after, answered, after_all, answered_all}
+use Rattle.lot_world.specs.Machine.{State, after, step_outcome, after_all, step_outcomes}
 
 after_more : (w : State) (ss : List Step) (s : Step) → after_all w (ss ++ s ∷ []) ≡ after (after_all w ss) s
 after_more w [] s = refl
 after_more w (x ∷ ss) s = after_more (after w x) ss s
 
-answered_more : (w : State) (ss : List Step) (s : Step) → answered_all w (ss ++ s ∷ []) ≡ answered_all w ss ++ answered (after_all w ss) s ∷ []
+answered_more : (w : State) (ss : List Step) (s : Step) → step_outcomes w (ss ++ s ∷ []) ≡ step_outcomes w ss ++ step_outcome (after_all w ss) s ∷ []
 answered_more w [] s = refl
-answered_more w (x ∷ ss) s = ap (λ os. answered w x ∷ os) (answered_more (after w x) ss s)
+answered_more w (x ∷ ss) s = ap (λ os. step_outcome w x ∷ os) (answered_more (after w x) ss s)
 
 -- one step more, and its outcome behind the others
 pub run_state : (w v m : State) (ss more : List Step) (s : Step) → more ≡ ss ++ s ∷ [] → v ≡ after_all w ss → m ≡ after v s → m ≡ after_all w more
 run_state w v m ss more s e f g = g ∙ ap (λ u. after u s) f ∙ sym (after_more w ss s) ∙ ap (after_all w) (sym e)
 
-pub run_outcomes : (w v : State) (ss more : List Step) (s : Step) (before now : List Outcome) → more ≡ ss ++ s ∷ [] → v ≡ after_all w ss → now ≡ before ++ answered_all w ss
-    → now ++ answered v s ∷ [] ≡ before ++ answered_all w more
+pub run_outcomes : (w v : State) (ss more : List Step) (s : Step) (before now : List Outcome) → more ≡ ss ++ s ∷ [] → v ≡ after_all w ss → now ≡ before ++ step_outcomes w ss
+    → now ++ step_outcome v s ∷ [] ≡ before ++ step_outcomes w more
 run_outcomes w v ss more s before now e f g =
-    ap (λ os. os ++ answered v s ∷ []) g ∙ append_assoc before (answered_all w ss) (answered v s ∷ [])
-    ∙ ap (λ (u : State). before ++ (answered_all w ss ++ answered u s ∷ [])) f ∙ ap (λ os. before ++ os) (sym (answered_more w ss s) ∙ ap (answered_all w) (sym e))
+    ap (λ os. os ++ step_outcome v s ∷ []) g ∙ append_assoc before (step_outcomes w ss) (step_outcome v s ∷ [])
+    ∙ ap (λ (u : State). before ++ (step_outcomes w ss ++ step_outcome u s ∷ [])) f ∙ ap (λ os. before ++ os) (sym (answered_more w ss s) ∙ ap (step_outcomes w) (sym e))

@@ -14,7 +14,7 @@ use Rattle.lot_steps.specs.MutexSteps.{is_parked}
 use Rattle.abstract_locks.specs.Locks.{Rules, put as putting, is_thread}
 use Rattle.abstract_locks.specs.Locks as locks
 use Rattle.abstract_locks.specs.Sites.{IsSite, Deed, Line, Main, Second, Does, FindNobody, found, is_empty}
-use Rattle.lot_world.specs.Machine.{State, place_at, word_at, owners_at, queue_at, put, appended, removed, first_taken}
+use Rattle.lot_world.specs.Machine.{State, place_at, word_at, owners_at, queue_at, put, queues_with_last, queues_without, queues_without_first}
 use Rattle.lot_world.specs.Refinement.{lock_state, taken_at}
 use Rattle.abstract_locks.specs.Picks.{queued_of}
 use Rattle.lot_world.specs.MutexDeeds.{Station, mutex_doing, mutex_station, station, station_at, doing_on, acts}
@@ -87,7 +87,7 @@ module _ (w : State) (t l : ℕ) (at : MutexPlace) (steady : IsSteady w) (is : p
 
   -- it stands behind the last
   pub park_keeps : (p2 : Place) → IsOf l p2 → taken_at (Mutex l at) l ≡ None → taken_at p2 l ≡ None → (mutex_station at).stands ≡ None → is_parked (word_at w l) ≡ true → (owners_at w l).exclusive ≢ None → (mutex_doing at).inside ≡ Some Main → (mutex_doing at).wakes ≡ None → (mutex_doing at).covers ≡ false
-      → doing_on p2 l ≡ record (mutex_doing at) { retries = None; empty = None } → station p2 ≡ record (mutex_station at) { stands = Some Main } → Goes w (put (record w { queues = appended w.queues (2 * l) t Exclusive }) t p2) l (acts t (Does (locks.Park Exclusive) ∷ []))
+      → doing_on p2 l ≡ record (mutex_doing at) { retries = None; empty = None } → station p2 ≡ record (mutex_station at) { stands = Some Main } → Goes w (put (record w { queues = queues_with_last w.queues (2 * l) t Exclusive }) t p2) l (acts t (Does (locks.Park Exclusive) ∷ []))
   park_keeps p2 of none none2 nowhere full owned i k c e s = record {
     follows = line_sites v p2 behind (Does (locks.Park Exclusive) ∷ []) refl refl refl of
         (record { here = line_now; other = λ j ne. others (2 * j) (λ h. ne (omega arith)) })
@@ -98,7 +98,7 @@ module _ (w : State) (t l : ℕ) (at : MutexPlace) (steady : IsSteady w) (is : p
   }
     where
       v : State
-      v = put (record w { queues = appended w.queues (2 * l) t Exclusive }) t p2
+      v = put (record w { queues = queues_with_last w.queues (2 * l) t Exclusive }) t p2
 
       behind : List Waiter
       behind = queue_at w (2 * l) ++ waiter (2 * l) t Exclusive ∷ []
@@ -107,7 +107,7 @@ module _ (w : State) (t l : ℕ) (at : MutexPlace) (steady : IsSteady w) (is : p
       line_now = get_or-set_same (map (without t) w.queues) (2 * l) _ [] (rw (length-map w.queues (without t)) line) ∙ ap (λ q. q ++ waiter (2 * l) t Exclusive ∷ []) (same_without (2 * l) (absent nowhere l Main))
 
       others : (key : ℕ) → key ≢ 2 * l → queue_at v key ≡ queue_at w key
-      others = by_key (appended w.queues (2 * l) t Exclusive) (λ j m ne. get_or-set_other (map (without t) w.queues) (2 * l) (key_of j m) _ [] (λ h. apart_keys l j m ne h) ∙ same_without (key_of j m) (absent nowhere j m))
+      others = by_key (queues_with_last w.queues (2 * l) t Exclusive) (λ j m ne. get_or-set_other (map (without t) w.queues) (2 * l) (key_of j m) _ [] (λ h. apart_keys l j m ne h) ∙ same_without (key_of j m) (absent nowhere j m))
 
       own_count : (m : Line) → times t (queue_at v (key_of l m)) ≡ stood_in (Some Main) m
       own_count Main = rw line_now (let a : times t behind ≡ times t (queue_at w (2 * l)) + (if t == t then 1 else 0) = times_append t (2 * l) t Exclusive (queue_at w (2 * l)) in let b : times t (queue_at w (2 * l)) ≡ 0 = absent nowhere l Main in let c : ◌≡◌ {A = ℕ} (if t == t then 1 else 0) 1 = ap (λ (x : Bool). if x then 1 else 0) (same t) in omega arith)
@@ -115,7 +115,7 @@ module _ (w : State) (t l : ℕ) (at : MutexPlace) (steady : IsSteady w) (is : p
 
   -- it leaves the line
   pub remove_keeps : (p2 : Place) → IsOf l p2 → taken_at (Mutex l at) l ≡ None → taken_at p2 l ≡ None → (mutex_station at).stands ≡ Some Main → (mutex_doing at).inside ≡ Some Main → (mutex_doing at).carries ≡ false
-      → doing_on p2 l ≡ record (mutex_doing at) { empty = found Main (is_empty (map queued_of (without t (queue_at w (2 * l))))) } → station p2 ≡ record (mutex_station at) { stands = None } → Goes w (put (record w { queues = removed w.queues t }) t p2) l (acts t (Does locks.Late ∷ []))
+      → doing_on p2 l ≡ record (mutex_doing at) { empty = found Main (is_empty (map queued_of (without t (queue_at w (2 * l))))) } → station p2 ≡ record (mutex_station at) { stands = None } → Goes w (put (record w { queues = queues_without w.queues t }) t p2) l (acts t (Does locks.Late ∷ []))
   remove_keeps p2 of none none2 one i c e s = record {
     follows = line_sites v p2 (without t (queue_at w (2 * l))) (Does locks.Late ∷ []) refl refl refl of
         (record { here = line_now; other = λ j ne. others (2 * j) (λ h. ne (omega arith)) })
@@ -125,7 +125,7 @@ module _ (w : State) (t l : ℕ) (at : MutexPlace) (steady : IsSteady w) (is : p
   }
     where
       v : State
-      v = put (record w { queues = removed w.queues t }) t p2
+      v = put (record w { queues = queues_without w.queues t }) t p2
 
       line_now : queue_at v (2 * l) ≡ without t (queue_at w (2 * l))
       line_now = get_or-map (without t) w.queues (2 * l) []
@@ -141,7 +141,7 @@ module _ (w : State) (t l : ℕ) (at : MutexPlace) (steady : IsSteady w) (is : p
           second Second h = stood_here Second ∙ ap (λ x. stood_in x Second) one
 
       others : (key : ℕ) → key ≢ 2 * l → queue_at v key ≡ queue_at w key
-      others = by_key (removed w.queues t) (λ j m ne. same_without (key_of j m) (stood_out j m ne))
+      others = by_key (queues_without w.queues t) (λ j m ne. same_without (key_of j m) (stood_out j m ne))
 
       here : 1 ≤ times t (queue_at w (2 * l))
       here = let a : times t (queue_at w (2 * l)) ≡ 1 = stood_here Main ∙ ap (λ x. stood_in x Main) one in omega arith
@@ -152,17 +152,17 @@ module _ (w : State) (t l : ℕ) (at : MutexPlace) (steady : IsSteady w) (is : p
 
   -- nobody is there to be taken
   pub nobody_keeps : (p2 : Place) → IsOf l p2 → taken_at (Mutex l at) l ≡ None → taken_at p2 l ≡ None → queue_at w (2 * l) ≡ [] → (mutex_doing at).inside ≡ Some Main → (mutex_doing at).carries ≡ false → ((mutex_doing at).wakes ≡ None) ⊎ ((mutex_doing at).wakes ≡ Some Main)
-      → doing_on p2 l ≡ record (mutex_doing at) { wakes = None; carries = true; covers = true; empty = Some Main } → station p2 ≡ mutex_station at → Goes w (put (record w { queues = first_taken w.queues (2 * l) }) t p2) l (acts t (FindNobody Main ∷ []))
+      → doing_on p2 l ≡ record (mutex_doing at) { wakes = None; carries = true; covers = true; empty = Some Main } → station p2 ≡ mutex_station at → Goes w (put (record w { queues = queues_without_first w.queues (2 * l) }) t p2) l (acts t (FindNobody Main ∷ []))
   nobody_keeps p2 of none none2 empty i c x own_is s = record {
     follows = line_sites v p2 (queue_at w (2 * l)) (FindNobody Main ∷ []) refl refl refl of
-        (subst (λ (y : List Waiter). Changed (λ k. queue_at w (2 * k)) (λ k. get_or (first_taken w.queues (2 * l)) (2 * k) []) l y) (ap (drop 1) empty ∙ sym empty) (changed_main w.queues l (drop 1 (queue_at w (2 * l))) [] line))
+        (subst (λ (y : List Waiter). Changed (λ k. queue_at w (2 * k)) (λ k. get_or (queues_without_first w.queues (2 * l)) (2 * k) []) l y) (ap (drop 1) empty ∙ sym empty) (changed_main w.queues l (drop 1 (queue_at w (2 * l))) [] line))
         (λ k. others (2 * k + 1) (λ h. omega arith))
         (finds_nobody l (base_at w l) (word_at w l) (word_at w l) (owners_at w l) (queue_at w (2 * l)) (queue_at w (2 * l + 1)) (place_at w) t p2 site_here (mutex_doing at) (own_doing l (place_at w t) at is) (ap (λ y. taken_at y l) is ∙ none) none2 refl empty i c x own_is);
-    stands = still w v steady.stands (λ k. refl) l t (of_mutex w t l at steady is there) (own w t l at steady is there) p2 of (put_places (record w { queues = first_taken w.queues (2 * l) }) t p2 (λ h. absurd (omega arith))) (λ key. refl) same_queue (s ∙ sym (ap station is));
+    stands = still w v steady.stands (λ k. refl) l t (of_mutex w t l at steady is there) (own w t l at steady is there) p2 of (put_places (record w { queues = queues_without_first w.queues (2 * l) }) t p2 (λ h. absurd (omega arith))) (λ key. refl) same_queue (s ∙ sym (ap station is));
   }
     where
       v : State
-      v = put (record w { queues = first_taken w.queues (2 * l) }) t p2
+      v = put (record w { queues = queues_without_first w.queues (2 * l) }) t p2
 
       others : (key : ℕ) → key ≢ 2 * l → queue_at v key ≡ queue_at w key
       others key ne = get_or-set_other w.queues (2 * l) key (drop 1 (queue_at w (2 * l))) [] ne

@@ -43,7 +43,7 @@ use Rattle.lot_calls.specs.Kinds.{is_fair}
 use Rattle.lot_steps.specs.MutexSteps.{is_thread, is_locked, is_parked, is_timed, entered, mutex_next, mutex_first, next_unlock, next_hand_off, looked, unlock_fair_next, bump_next, try_next, in_lock, in_unlock, in_hand_off, mutex_next}
 use Rattle.lot_calls.specs.Calls.{lock_in}
 use Rattle.lot_steps.specs.Steps.{is_idle, first_place, taker, act_of, next_place, mutex_goes, spin_lock, late_key}
-use Rattle.lot_world.specs.Machine.{State, unlocked, opening, kind_at, word_at, place_at, queue_at, put, operated, filled_with, appended, first_taken, removed, parked, befallen, told_by, all_told, given, taken_by, took, awakened, performed, gone, go_reply, reply_to, begun, can_begin, is_open_to, spun, spun_on, lated, late_on, turned, can_turn, is_possible, after}
+use Rattle.lot_world.specs.Machine.{State, unlocked, opening, kind_at, word_at, place_at, queue_at, put, state_after_operation, state_with_sections, queues_with_last, queues_without_first, queues_without, state_after_park, state_after_reply, place_after_telling, state_after_telling, state_after_hand_over, state_after_taking, state_after_take, state_after_wake, state_after_act, state_after_go, go_reply, reply_to, state_after_begin, can_begin, is_open_to, state_after_spin, state_after_spin_on, state_after_late, state_after_late_on, state_after_turn, can_turn, is_possible, after}
 use Rattle.lot_base.specs.declared.notes.Note as note
 use Rattle.lot_steps.specs.declared.mutex.lock.LockAt as lock
 use Rattle.lot_world.specs.Fits.{GivesUpTimed, PlaceFits, AllBelow, IsShaped, SameSize}
@@ -110,7 +110,7 @@ lock_fits l entry retries (lock.TheVariants.Decide s) (Value seen) h late = eith
     either false true = tt
     either false false = tt
 lock_fits l entry retries lock.TheVariants.Load (Value seen) h late = tt
-lock_fits l entry retries lock.TheVariants.Check (Parked parked) h late = tt
+lock_fits l entry retries lock.TheVariants.Check (Parked state_after_park) h late = tt
 lock_fits l entry retries (lock.TheVariants.Leave true) Done h late = tt
 lock_fits l entry retries (lock.TheVariants.Leave false) Done h late = tt
 lock_fits l entry retries lock.TheVariants.Asleep Late h late = late
@@ -206,10 +206,10 @@ put_shaped w t p s h = record {
   waiting = λ key. rw (length-set w.places t p) (s.waiting key);
 }
 
-befallen_shaped : (w : State) (t : ℕ) (reply : Reply) → IsShaped w → ReplyFits (place_at w t) reply → IsShaped (befallen w t reply)
+befallen_shaped : (w : State) (t : ℕ) (reply : Reply) → IsShaped w → ReplyFits (place_at w t) reply → IsShaped (state_after_reply w t reply)
 befallen_shaped w t reply s r = put_shaped w t (next_place (place_at w t) reply) s (next_fits (length w.locks) (place_at w t) reply (s.places t) r)
 
-filled_shaped : (w : State) (keys : Keys) (who : Option ℕ) → IsShaped w → IsShaped (filled_with w keys who)
+filled_shaped : (w : State) (keys : Keys) (who : Option ℕ) → IsShaped w → IsShaped (state_with_sections w keys who)
 filled_shaped w (One key) who s = record {
   few = s.few;
   sections = rw (length-set w.sections key who) s.sections;
@@ -225,7 +225,7 @@ filled_shaped w (Two first second) who s = record {
   waiting = s.waiting;
 }
 
-operated_shaped : (w : State) (t : ℕ) (p : Place) (l : ℕ) (f : Op) → IsShaped w → IsShaped (operated w t p l f)
+operated_shaped : (w : State) (t : ℕ) (p : Place) (l : ℕ) (f : Op) → IsShaped w → IsShaped (state_after_operation w t p l f)
 operated_shaped w t p l f s = record {
   few = rw (length-set w.locks l _) s.few;
   sections = rw (length-set w.locks l _) s.sections;
@@ -237,32 +237,32 @@ operated_shaped w t p l f s = record {
 queues_shaped : (w : State) (queues : List (List Waiter)) → IsShaped w → length queues ≡ length w.queues → ((key : ℕ) → AllBelow (length w.places) (get_or queues key [])) → IsShaped (record w { queues = queues })
 queues_shaped w queues s e h = record { few = s.few; sections = s.sections; queues = e ∙ s.queues; places = s.places; waiting = h }
 
-parked_shaped : (w : State) (t l key : ℕ) (check : Check) (wanted : Want) → IsShaped w → t < length w.places → IsShaped (parked w t l key check wanted)
+parked_shaped : (w : State) (t l key : ℕ) (check : Check) (wanted : Want) → IsShaped w → t < length w.places → IsShaped (state_after_park w t l key check wanted)
 parked_shaped w t l key check wanted s lt = either (holds check (word_at w l))
   where
     others : (k : ℕ) → AllBelow (length w.places) (get_or (map (without t) w.queues) k [])
     others k = rw (get_or-map (without t) w.queues k []) (below_without (length w.places) t (queue_at w k) (s.waiting k))
 
-    either : (b : Bool) → IsShaped (if b then record w { queues = appended w.queues key t wanted } else w)
+    either : (b : Bool) → IsShaped (if b then record w { queues = queues_with_last w.queues key t wanted } else w)
     either false = s
-    either true = queues_shaped w (appended w.queues key t wanted) s (length-set (map (without t) w.queues) key _ ∙ length-map w.queues (without t))
+    either true = queues_shaped w (queues_with_last w.queues key t wanted) s (length-set (map (without t) w.queues) key _ ∙ length-map w.queues (without t))
         (set_all (AllBelow (length w.places)) (map (without t) w.queues) key _ [] (below_behind (length w.places) key t wanted _ lt (others key)) others)
 
-took_shaped : (w : State) (t key : ℕ) → IsShaped w → IsShaped (took w t key)
+took_shaped : (w : State) (t key : ℕ) → IsShaped w → IsShaped (state_after_take w t key)
 took_shaped w t key s = by_first (first_of (queue_at w key))
   where
-    rest : IsShaped (record w { queues = first_taken w.queues key })
-    rest = queues_shaped w (first_taken w.queues key) s (length-set w.queues key _)
+    rest : IsShaped (record w { queues = queues_without_first w.queues key })
+    rest = queues_shaped w (queues_without_first w.queues key) s (length-set w.queues key _)
         (set_all (AllBelow (length w.places)) w.queues key _ [] (below_rest (length w.places) (queue_at w key) (s.waiting key)) s.waiting)
 
-    by_first : (o : Option ℕ) → IsShaped (taken_by (record w { queues = first_taken w.queues key }) t o)
+    by_first : (o : Option ℕ) → IsShaped (state_after_taking (record w { queues = queues_without_first w.queues key }) t o)
     by_first None = rest
-    by_first (Some u) = befallen_shaped (record w { queues = first_taken w.queues key }) u (TakenBy t) rest tt
+    by_first (Some u) = befallen_shaped (record w { queues = queues_without_first w.queues key }) u (TakenBy t) rest tt
 
-removed_shaped : (w : State) (t : ℕ) → IsShaped w → IsShaped (record w { queues = removed w.queues t })
-removed_shaped w t s = queues_shaped w (removed w.queues t) s (length-map w.queues (without t)) (λ k. rw (get_or-map (without t) w.queues k []) (below_without (length w.places) t (queue_at w k) (s.waiting k)))
+removed_shaped : (w : State) (t : ℕ) → IsShaped w → IsShaped (record w { queues = queues_without w.queues t })
+removed_shaped w t s = queues_shaped w (queues_without w.queues t) s (length-map w.queues (without t)) (λ k. rw (get_or-map (without t) w.queues k []) (below_without (length w.places) t (queue_at w k) (s.waiting k)))
 
-given_shaped : (w : State) (t : ℕ) (p : Place) (l : ℕ) (f : Op) → IsShaped w → IsShaped (given w t p l f)
+given_shaped : (w : State) (t : ℕ) (p : Place) (l : ℕ) (f : Op) → IsShaped w → IsShaped (state_after_hand_over w t p l f)
 given_shaped w t p l f s = record {
   few = rw (length-set w.locks l _) s.few;
   sections = rw (length-set w.locks l _) s.sections;
@@ -282,96 +282,96 @@ timely_fits p (Woken x) h = tt
 timely_fits p Late h = absurd h
 timely_fits p reply h = tt
 
-told_shaped : (w : State) (t : ℕ) (reply : Reply) → IsTimely reply → IsShaped w → IsShaped (all_told w t reply)
+told_shaped : (w : State) (t : ℕ) (reply : Reply) → IsTimely reply → IsShaped w → IsShaped (state_after_telling w t reply)
 told_shaped w t reply timely s = record {
   few = s.few;
   sections = s.sections;
   queues = s.queues;
-  places = λ u. rw (get_or-map (told_by t reply) w.places u Idle) (by_hand (place_at w u) (s.places u) (is_thread t (taker (place_at w u))));
-  waiting = λ key. rw (length-map w.places (told_by t reply)) (s.waiting key);
+  places = λ u. rw (get_or-map (place_after_telling t reply) w.places u Idle) (by_hand (place_at w u) (s.places u) (is_thread t (taker (place_at w u))));
+  waiting = λ key. rw (length-map w.places (place_after_telling t reply)) (s.waiting key);
 }
   where
     by_hand : (p : Place) → PlaceFits (length w.locks) p → (b : Bool) → PlaceFits (length w.locks) (if b then next_place p reply else p)
     by_hand p h true = next_fits (length w.locks) p reply h (timely_fits p reply timely)
     by_hand p h false = h
 
-awakened_shaped : (w : State) (t : ℕ) (x : Wakes) → IsShaped w → IsShaped (awakened w t x)
+awakened_shaped : (w : State) (t : ℕ) (x : Wakes) → IsShaped w → IsShaped (state_after_wake w t x)
 awakened_shaped w t wakes.TheVariants.Nobody s = s
 awakened_shaped w t (wakes.TheVariants.All note) s = told_shaped w t (Woken note) tt s
 
-performed_shaped : (w : State) (t : ℕ) (p : Place) (act : Act) → IsShaped w → t < length w.places → IsShaped (performed w t p act)
+performed_shaped : (w : State) (t : ℕ) (p : Place) (act : Act) → IsShaped w → t < length w.places → IsShaped (state_after_act w t p act)
 performed_shaped w t p (Word l f) s lt = operated_shaped w t p l f s
-performed_shaped w t p (HandOver l f) s lt = told_shaped (given w t p l f) t (HandedBy t) tt (given_shaped w t p l f s)
+performed_shaped w t p (HandOver l f) s lt = told_shaped (state_after_hand_over w t p l f) t (HandedBy t) tt (given_shaped w t p l f s)
 performed_shaped w t p (Enter keys) s lt = filled_shaped w keys (Some t) s
 performed_shaped w t p (Park l key check wanted) s lt = parked_shaped w t l key check wanted s lt
 performed_shaped w t p (TakeFirst key) s lt = took_shaped w t key s
 performed_shaped w t p (Remove key) s lt = removed_shaped w t s
-performed_shaped w t p (Leave keys x) s lt = awakened_shaped (filled_with w keys None) t x (filled_shaped w keys None s)
+performed_shaped w t p (Leave keys x) s lt = awakened_shaped (state_with_sections w keys None) t x (filled_shaped w keys None s)
 performed_shaped w t p act s lt = s
 
 -- an act changes neither the number of threads nor that of locks
-filled_counts : (w : State) (keys : Keys) (who : Option ℕ) → (length (filled_with w keys who).places ≡ length w.places) × (length (filled_with w keys who).locks ≡ length w.locks)
+filled_counts : (w : State) (keys : Keys) (who : Option ℕ) → (length (state_with_sections w keys who).places ≡ length w.places) × (length (state_with_sections w keys who).locks ≡ length w.locks)
 filled_counts w (One key) who = (refl, refl)
 filled_counts w (Two first second) who = (refl, refl)
 
-pub performed_counts : (w : State) (t : ℕ) (p : Place) (act : Act) → (length (performed w t p act).places ≡ length w.places) × (length (performed w t p act).locks ≡ length w.locks)
+pub performed_counts : (w : State) (t : ℕ) (p : Place) (act : Act) → (length (state_after_act w t p act).places ≡ length w.places) × (length (state_after_act w t p act).locks ≡ length w.locks)
 performed_counts w t p (Word l f) = (refl, length-set w.locks l _)
-performed_counts w t p (HandOver l f) = (length-map w.places (told_by t (HandedBy t)), length-set w.locks l _)
+performed_counts w t p (HandOver l f) = (length-map w.places (place_after_telling t (HandedBy t)), length-set w.locks l _)
 performed_counts w t p (Enter keys) = filled_counts w keys (Some t)
 performed_counts w t p (Park l key check wanted) = either (holds check (word_at w l))
   where
-    either : (b : Bool) → (length (if b then record w { queues = appended w.queues key t wanted } else w).places ≡ length w.places) × (length (if b then record w { queues = appended w.queues key t wanted } else w).locks ≡ length w.locks)
+    either : (b : Bool) → (length (if b then record w { queues = queues_with_last w.queues key t wanted } else w).places ≡ length w.places) × (length (if b then record w { queues = queues_with_last w.queues key t wanted } else w).locks ≡ length w.locks)
     either true = (refl, refl)
     either false = (refl, refl)
 performed_counts w t p (TakeFirst key) = by_first (first_of (queue_at w key))
   where
-    by_first : (o : Option ℕ) → (length (taken_by (record w { queues = first_taken w.queues key }) t o).places ≡ length w.places) × (length (taken_by (record w { queues = first_taken w.queues key }) t o).locks ≡ length w.locks)
+    by_first : (o : Option ℕ) → (length (state_after_taking (record w { queues = queues_without_first w.queues key }) t o).places ≡ length w.places) × (length (state_after_taking (record w { queues = queues_without_first w.queues key }) t o).locks ≡ length w.locks)
     by_first None = (refl, refl)
     by_first (Some u) = (length-set w.places u _, refl)
 performed_counts w t p (Leave keys wakes.TheVariants.Nobody) = filled_counts w keys None
-performed_counts w t p (Leave keys (wakes.TheVariants.All note)) = (length-map (filled_with w keys None).places (told_by t (Woken note)) ∙ (filled_counts w keys None).0, (filled_counts w keys None).1)
+performed_counts w t p (Leave keys (wakes.TheVariants.All note)) = (length-map (state_with_sections w keys None).places (place_after_telling t (Woken note)) ∙ (filled_counts w keys None).0, (filled_counts w keys None).1)
 performed_counts w t p act = (refl, refl)
 
 reply_fits : (w : State) (t : ℕ) (p : Place) (act : Act) → IsShaped w → ReplyFits p (reply_to w t act)
 reply_fits w t p (TakeFirst key) s = tt
 reply_fits w t p act s = tt
 
-gone_shaped : (w : State) (t : ℕ) → IsShaped w → t < length w.places → IsShaped (gone w t)
+gone_shaped : (w : State) (t : ℕ) → IsShaped w → t < length w.places → IsShaped (state_after_go w t)
 gone_shaped w t s lt =
     let act = act_of (place_at w t) in
     let counts = performed_counts w t (place_at w t) act in
     let fits = next_fits (length w.locks) (place_at w t) (go_reply w t) (s.places t) (reply_fits w t (place_at w t) act s) in
-    put_shaped (performed w t (place_at w t) act) t (next_place (place_at w t) (go_reply w t)) (performed_shaped w t (place_at w t) act s lt) (rw counts.1 fits)
+    put_shaped (state_after_act w t (place_at w t) act) t (next_place (place_at w t) (go_reply w t)) (performed_shaped w t (place_at w t) act s lt) (rw counts.1 fits)
 
 pub both : (a b : Bool) → (a && b) ≡ true → (a ≡ true) × (b ≡ true)
 both true b h = (refl, h)
 both false b h = cc
 
-begun_shaped : (w : State) (t : ℕ) (c : Call) → IsShaped w → can_begin w t c ≡ true → IsShaped (begun w t c)
+begun_shaped : (w : State) (t : ℕ) (c : Call) → IsShaped w → can_begin w t c ≡ true → IsShaped (state_after_begin w t c)
 begun_shaped w t c s can =
     let open_to = both (is_idle (place_at w t)) (is_open_to w t c) can in
     let there = both (nat_lt (lock_in c) (length w.locks)) _ open_to.1 in
     put_shaped w t (first_place (kind_at w (lock_in c)) c) s (call_fits (length w.locks) (kind_at w (lock_in c)) c (ltb-true (lock_in c) (length w.locks) there.0))
 
-spun_shaped : (w : State) (t : ℕ) → IsShaped w → IsShaped (spun w t)
+spun_shaped : (w : State) (t : ℕ) → IsShaped w → IsShaped (state_after_spin w t)
 spun_shaped w t s = by_lock (spin_lock (place_at w t))
   where
-    by_lock : (o : Option ℕ) → IsShaped (spun_on w t o)
+    by_lock : (o : Option ℕ) → IsShaped (state_after_spin_on w t o)
     by_lock None = s
     by_lock (Some l) = befallen_shaped w t (Spun (word_at w l)) s tt
 
-lated_shaped : (w : State) (t : ℕ) → IsShaped w → IsShaped (lated w t)
+lated_shaped : (w : State) (t : ℕ) → IsShaped w → IsShaped (state_after_late w t)
 lated_shaped w t s = by_place (place_at w t) refl
   where
-    asleep : (l : ℕ) (entry : Entry) (retries : Bool) → place_at w t ≡ Mutex l (Lock entry retries lock.TheVariants.Asleep) → (b : Bool) → is_timed entry ≡ b → IsShaped (late_on w t (if b then Some (2 * l) else None))
-    asleep l entry retries e true timed = befallen_shaped (filled_with w (One (2 * l)) (Some t)) t Late (filled_shaped w (One (2 * l)) (Some t) s) (rw e timed)
+    asleep : (l : ℕ) (entry : Entry) (retries : Bool) → place_at w t ≡ Mutex l (Lock entry retries lock.TheVariants.Asleep) → (b : Bool) → is_timed entry ≡ b → IsShaped (state_after_late_on w t (if b then Some (2 * l) else None))
+    asleep l entry retries e true timed = befallen_shaped (state_with_sections w (One (2 * l)) (Some t)) t Late (filled_shaped w (One (2 * l)) (Some t) s) (rw e timed)
     asleep l entry retries e false timed = s
 
-    locks : (l : ℕ) (entry : Entry) (retries : Bool) (at : LockAt) → place_at w t ≡ Mutex l (Lock entry retries at) → IsShaped (late_on w t (late_key (Mutex l (Lock entry retries at))))
+    locks : (l : ℕ) (entry : Entry) (retries : Bool) (at : LockAt) → place_at w t ≡ Mutex l (Lock entry retries at) → IsShaped (state_after_late_on w t (late_key (Mutex l (Lock entry retries at))))
     locks l entry retries lock.TheVariants.Asleep e = asleep l entry retries e (is_timed entry) refl
     locks l entry retries at e = s
 
-    by_place : (p : Place) → place_at w t ≡ p → IsShaped (late_on w t (late_key p))
+    by_place : (p : Place) → place_at w t ≡ p → IsShaped (state_after_late_on w t (late_key p))
     by_place Idle e = s
     by_place (Mutex l (Lock entry retries at)) e = locks l entry retries at e
     by_place (Mutex l TryLock) e = s
@@ -380,7 +380,7 @@ lated_shaped w t s = by_place (place_at w t) refl
     by_place (Mutex l Bump) e = s
     by_place (Mutex l (HandOff bumps at)) e = s
 
-turned_shaped : (w : State) (t : ℕ) (x : Turn) → IsShaped w → t < length w.places → can_turn w t x ≡ true → IsShaped (turned w t x)
+turned_shaped : (w : State) (t : ℕ) (x : Turn) → IsShaped w → t < length w.places → can_turn w t x ≡ true → IsShaped (state_after_turn w t x)
 turned_shaped w t (turn.TheVariants.Begin c) s lt can = begun_shaped w t c s can
 turned_shaped w t turn.TheVariants.Go s lt can = gone_shaped w t s lt
 turned_shaped w t turn.TheVariants.Spin s lt can = spun_shaped w t s
@@ -391,7 +391,7 @@ turned_shaped w t x s lt can = s
 pub after_shaped : (w : State) (s : Step) → IsShaped w → IsShaped (after w s)
 after_shaped w step s = either (is_possible w step) refl
   where
-    either : (b : Bool) → is_possible w step ≡ b → IsShaped (if b then turned w step.thread step.turn else w)
+    either : (b : Bool) → is_possible w step ≡ b → IsShaped (if b then state_after_turn w step.thread step.turn else w)
     either false e = s
     either true e = let parts = both (nat_lt step.thread (length w.places)) (can_turn w step.thread step.turn) e in
         turned_shaped w step.thread step.turn s (ltb-true step.thread (length w.places) parts.0) parts.1
@@ -418,19 +418,19 @@ opening_shaped kinds threads few = record {
 
 -- ---------------------------------------------------------------- sizes
 
-turned_size : (w : State) (t : ℕ) (x : Turn) → SameSize w (turned w t x)
+turned_size : (w : State) (t : ℕ) (x : Turn) → SameSize w (state_after_turn w t x)
 turned_size w t (turn.TheVariants.Begin c) = record { threads = length-set w.places t _; locks = refl }
 turned_size w t turn.TheVariants.Go =
     let counts = performed_counts w t (place_at w t) (act_of (place_at w t)) in
-    record { threads = length-set (performed w t (place_at w t) (act_of (place_at w t))).places t _ ∙ counts.0; locks = counts.1 }
+    record { threads = length-set (state_after_act w t (place_at w t) (act_of (place_at w t))).places t _ ∙ counts.0; locks = counts.1 }
 turned_size w t turn.TheVariants.Spin = by_lock (spin_lock (place_at w t))
   where
-    by_lock : (o : Option ℕ) → SameSize w (spun_on w t o)
+    by_lock : (o : Option ℕ) → SameSize w (state_after_spin_on w t o)
     by_lock None = record { threads = refl; locks = refl }
     by_lock (Some l) = record { threads = length-set w.places t _; locks = refl }
 turned_size w t turn.TheVariants.Late = by_key (late_key (place_at w t))
   where
-    by_key : (o : Option ℕ) → SameSize w (late_on w t o)
+    by_key : (o : Option ℕ) → SameSize w (state_after_late_on w t o)
     by_key None = record { threads = refl; locks = refl }
     by_key (Some key) = record { threads = length-set w.places t _; locks = refl }
 turned_size w t x = record { threads = refl; locks = refl }
@@ -439,7 +439,7 @@ turned_size w t x = record { threads = refl; locks = refl }
 pub after_size : (w : State) (s : Step) → SameSize w (after w s)
 after_size w step = either (is_possible w step)
   where
-    either : (b : Bool) → SameSize w (if b then turned w step.thread step.turn else w)
+    either : (b : Bool) → SameSize w (if b then state_after_turn w step.thread step.turn else w)
     either true = turned_size w step.thread step.turn
     either false = record { threads = refl; locks = refl }
 

@@ -31,7 +31,7 @@ use Rattle.abstract_locks.specs.Codes.{code}
 use Rattle.abstract_locks.specs.Purposes.{rules_of}
 use Rattle.abstract_locks.proofs.SiteKeeps.{deed_keeps}
 use Rattle.std.specs.Prelude.{sum}
-use Rattle.lot_world.specs.Machine.{State, unlocked, place_at, word_at, owners_at, shares_at, filled_at, kind_at, queue_at, put, operated, filled_with, section_at, first_taken, befallen, all_told, given, performed, reply_to}
+use Rattle.lot_world.specs.Machine.{State, unlocked, place_at, word_at, owners_at, shares_at, filled_at, kind_at, queue_at, put, state_after_operation, state_with_sections, section_at, queues_without_first, state_after_reply, state_after_telling, state_after_hand_over, state_after_act, reply_to}
 use Rattle.lot_world.specs.Refinement.{taken_at}
 use Rattle.abstract_locks.specs.Picks.{queued_of}
 use Rattle.lot_world.specs.MutexDeeds.{Station, hand, nowhere, mutex_doing, mutex_deeds, mutex_station, station, station_at, doing_on, acts, owner, queued}
@@ -139,7 +139,7 @@ goes_steady w v l ds steady g = record {
 
 -- what the act of a thread leads to
 abbrev pub go_by : State → ℕ → Place → Act → State
-go_by w t p a = put (performed w t p a) t (next_place p (reply_to w t a))
+go_by w t p a = put (state_after_act w t p a) t (next_place p (reply_to w t a))
 
 module _ (w : State) (t l : ℕ) (at : MutexPlace) (steady : IsSteady w) (is : place_at w t ≡ Mutex l at) (there : t < length w.places) where
   pub of_mutex : is_mutex (kind_at w l) ≡ true
@@ -185,7 +185,7 @@ module _ (w : State) (t l : ℕ) (at : MutexPlace) (steady : IsSteady w) (is : p
       of = next_of l (Mutex l at) (Value (word_at w l)) refl
 
       places : place_at after ≡ putting (place_at w) t p2
-      places = put_places (operated w t (Mutex l at) l f) t p2 (past p2)
+      places = put_places (state_after_operation w t (Mutex l at) l f) t p2 (past p2)
 
       same_kinds : (k : ℕ) → kind_at after k ≡ kind_at w k
       same_kinds = operated_kinds w t (Mutex l at) l f
@@ -207,32 +207,32 @@ module _ (w : State) (t l : ℕ) (at : MutexPlace) (steady : IsSteady w) (is : p
     stands = still w (put w t p2) steady.stands (λ k. refl) l t of_mutex own p2 of (put_places w t p2 (past p2)) (λ key. refl) (λ key. refl) (e ∙ sym station_is_at);
   }
 
-  section_set : 2 * l < length w.sections → (who : Option ℕ) → Changed (section_at w) (section_at (filled_with w (One (2 * l)) who)) (2 * l) who
+  section_set : 2 * l < length w.sections → (who : Option ℕ) → Changed (section_at w) (section_at (state_with_sections w (One (2 * l)) who)) (2 * l) who
   section_set line who = changed_set (λ x. x) w.sections (2 * l) who None line
 
   -- into a section that is free
   pub enter_keeps : 2 * l < length w.sections → (p2 : Place) → IsOf l p2 → taken_at (Mutex l at) l ≡ None → taken_at p2 l ≡ None → section_at w (2 * l) ≡ None → (mutex_doing at).inside ≡ None → (mutex_doing at).empty ≡ None → doing_on p2 l ≡ record (mutex_doing at) { inside = Some Main }
-      → station p2 ≡ record (mutex_station at) { inside = Some Main } → Goes w (put (filled_with w (One (2 * l)) (Some t)) t p2) l (acts t (In Main ∷ []))
+      → station p2 ≡ record (mutex_station at) { inside = Some Main } → Goes w (put (state_with_sections w (One (2 * l)) (Some t)) t p2) l (acts t (In Main ∷ []))
   enter_keeps line p2 of none none2 free i e own_is s = record {
     follows = place_sites v p2 (In Main ∷ []) refl refl refl refl of
         (goes_into l (base_at w l) (word_at w l) (word_at w l) (owners_at w l) (queue_at w (2 * l)) (queue_at w (2 * l + 1)) (place_at w) t p2 site_l (mutex_doing at) (own_doing l (place_at w t) at is) (ap (λ y. taken_at y l) is ∙ none) none2 refl
         (λ u h. let g : section_at w (2 * l) ≡ Some u = (steady.stands.sections u l Main).0 (sym (inside_is (place_at w u) l) ∙ h) in cc) i e own_is);
-    stands = goes_in w v steady.stands (λ k. refl) l t of_mutex own p2 of (put_places (filled_with w (One (2 * l)) (Some t)) t p2 (past p2)) (section_set line (Some t)).other (λ key. refl) free (section_set line (Some t)).here (ap (λ (x : Station). x.inside) station_is_at ∙ i)
+    stands = goes_in w v steady.stands (λ k. refl) l t of_mutex own p2 of (put_places (state_with_sections w (One (2 * l)) (Some t)) t p2 (past p2)) (section_set line (Some t)).other (λ key. refl) free (section_set line (Some t)).here (ap (λ (x : Station). x.inside) station_is_at ∙ i)
         (s ∙ sym (ap (λ (x : Station). record x { inside = Some Main }) station_is_at));
   }
     where
       v : State
-      v = put (filled_with w (One (2 * l)) (Some t)) t p2
+      v = put (state_with_sections w (One (2 * l)) (Some t)) t p2
 
   pub out_needed : (mutex_doing at).inside ≡ Some Main → (mutex_doing at).wakes ≡ None → AllNeeded mutex (acts t (Out ∷ [])) (mutex_at w l)
   out_needed i k = ((rw (own_doing l (place_at w t) at is) ((λ h. let g : None ≡ Some Main = sym h ∙ i in cc), k, refl)), tt)
 
   -- out of its own, where nobody is in its hand
   pub leave_keeps : 2 * l < length w.sections → (p2 : Place) → IsOf l p2 → taken_at (Mutex l at) l ≡ None → taken_at p2 l ≡ None → doing_on p2 l ≡ leaves (mutex_doing at) → (mutex_doing at).inside ≡ Some Main → (mutex_doing at).wakes ≡ None → (mutex_station at).carries ≡ None
-      → station p2 ≡ record (mutex_station at) { inside = None } → Goes w (put (filled_with w (One (2 * l)) None) t p2) l (acts t (Out ∷ []))
+      → station p2 ≡ record (mutex_station at) { inside = None } → Goes w (put (state_with_sections w (One (2 * l)) None) t p2) l (acts t (Out ∷ []))
   leave_keeps line p2 of none none2 e i k nobody s = record {
     follows = follow w v l rules (putting (place_at w) t p2) (word_at w l) (owners_at w l) (queue_at w (2 * l))
-        (put_places (filled_with w (One (2 * l)) None) t p2 (past p2)) (same_bases w v refl refl (length-set w.places t p2))
+        (put_places (state_with_sections w (One (2 * l)) None) t p2 (past p2)) (same_bases w v refl refl (length-set w.places t p2))
         (unchanged (word_at w) l) (unchanged (owners_at w) l) (unchanged (λ j. queue_at w (2 * j)) l) (λ j. refl) (λ j. refl)
         (λ j ne. alike_put l j (place_at w) t p2 own of ne)
         (acts t (Out ∷ []))
@@ -241,18 +241,18 @@ module _ (w : State) (t l : ℕ) (at : MutexPlace) (steady : IsSteady w) (is : p
         (lets_nobody (place_at w) steady.stands.hands t l p2 (ap (λ (x : Station). x.carries) (own_stance l (place_at w t) at is) ∙ nobody)))
         (out_needed i k)
         word_l;
-    stands = goes_out w v steady.stands (λ j. refl) l t of_mutex own p2 of (put_places (filled_with w (One (2 * l)) None) t p2 (past p2)) (section_set line None).other (λ key. refl) (section_set line None).here (ap (λ (x : Station). x.inside) station_is_at ∙ i)
+    stands = goes_out w v steady.stands (λ j. refl) l t of_mutex own p2 of (put_places (state_with_sections w (One (2 * l)) None) t p2 (past p2)) (section_set line None).other (λ key. refl) (section_set line None).here (ap (λ (x : Station). x.inside) station_is_at ∙ i)
         (s ∙ sym (ap (λ (x : Station). record x { inside = None }) station_is_at));
   }
     where
       v : State
-      v = put (filled_with w (One (2 * l)) None) t p2
+      v = put (state_with_sections w (One (2 * l)) None) t p2
 
   -- out of its own, and v, which it has in hand, is told
   pub wake_keeps : 2 * l < length w.sections → (v : ℕ) (handed : Bool) (x : Note) (p2 : Place) → IsOf l p2 → IsOf l (place_at w v) → taken_at (Mutex l at) l ≡ None → taken_at p2 l ≡ None → doing_on p2 l ≡ leaves (mutex_doing at) → (mutex_doing at).inside ≡ Some Main → (mutex_doing at).wakes ≡ None
       → ((u : ℕ) → u ≢ t → LetGo t l (place_at w u) (putting (putting (place_at w) v (next_place (place_at w v) (Woken x))) t p2 u)) → v ≢ t
       → mutex_station at ≡ record nowhere { inside = Some Main; carries = Some handed } → station (place_at w v) ≡ record nowhere { hand = hand t handed } → station p2 ≡ nowhere → station (next_place (place_at w v) (Woken x)) ≡ nowhere
-      → Goes w (put (befallen (filled_with w (One (2 * l)) None) v (Woken x)) t p2) l (acts t (Out ∷ []))
+      → Goes w (put (state_after_reply (state_with_sections w (One (2 * l)) None) v (Woken x)) t p2) l (acts t (Out ∷ []))
   wake_keeps line v handed x p2 of of_v none none2 e i k lets apart was was_v is_p2 is_pv = record {
     follows = follow w after l rules (putting (putting (place_at w) v pv) t p2) (word_at w l) (owners_at w l) (queue_at w (2 * l)) places
         (same_bases w after refl refl (length-set (set w.places v pv) t p2 ∙ length-set w.places v pv))
@@ -273,10 +273,10 @@ module _ (w : State) (t l : ℕ) (at : MutexPlace) (steady : IsSteady w) (is : p
       of_pv = next_of l (place_at w v) (Woken x) of_v
 
       after : State
-      after = put (befallen (filled_with w (One (2 * l)) None) v (Woken x)) t p2
+      after = put (state_after_reply (state_with_sections w (One (2 * l)) None) v (Woken x)) t p2
 
       places : place_at after ≡ putting (putting (place_at w) v pv) t p2
-      places = put_places (befallen (filled_with w (One (2 * l)) None) v (Woken x)) t p2 (λ h. past p2 (let a : length (set w.places v pv) ≡ length w.places = length-set w.places v pv in omega arith)) ∙ ap (λ (f : ℕ → Place). putting f t p2) (goes_from w v (Woken x))
+      places = put_places (state_after_reply (state_with_sections w (One (2 * l)) None) v (Woken x)) t p2 (λ h. past p2 (let a : length (set w.places v pv) ≡ length w.places = length-set w.places v pv in omega arith)) ∙ ap (λ (f : ℕ → Place). putting f t p2) (goes_from w v (Woken x))
 
 module _ (w : State) (t l : ℕ) (steady : IsSteady w) (there : t < length w.places) where
   -- whom it has in hand
@@ -285,8 +285,8 @@ module _ (w : State) (t l : ℕ) (steady : IsSteady w) (there : t < length w.pla
     one_held = steady.stands.hands.carried t l b (ap (λ (x : Station). x.carries) (own_stance l (place_at w t) at is) ∙ carries)
 
     -- it is told alone
-    pub told_it : (reply : Reply) → all_told (filled_with w (One (2 * l)) None) t reply ≡ befallen (filled_with w (One (2 * l)) None) one_held.0 reply
-    told_it reply = told_one (filled_with w (One (2 * l)) None) t l one_held.0 b reply steady.stands.hands (own w t l at steady is there) one_held.1
+    pub told_it : (reply : Reply) → state_after_telling (state_with_sections w (One (2 * l)) None) t reply ≡ state_after_reply (state_with_sections w (One (2 * l)) None) one_held.0 reply
+    told_it reply = told_one (state_with_sections w (One (2 * l)) None) t l one_held.0 b reply steady.stands.hands (own w t l at steady is there) one_held.1
 
   -- a release leaves, and wakes the one that it took
   pub release_wakes : 2 * l < length w.sections → place_at w t ≡ Mutex l (Unlock (unlock.Leave true)) → Goes w (go_by w t (Mutex l (Unlock (unlock.Leave true))) (act.TheVariants.Leave (One (2 * l)) (wakes.TheVariants.All note.Normal))) l (acts t (Out ∷ []))
@@ -309,7 +309,7 @@ module _ (w : State) (t l : ℕ) (steady : IsSteady w) (there : t < length w.pla
       apart e = let a : Mutex l (Unlock (unlock.Leave true)) ≡ Mutex l (Lock there_v.entry there_v.retries (lock.Taken t)) = sym is ∙ ap (place_at w) (sym e) ∙ there_v.is in cc
 
   -- a fair one leaves, and tells the one that it handed the lock
-  pub tells : 2 * l < length w.sections → (bumps : Bool) (is : place_at w t ≡ Mutex l (HandOff bumps (hand_off.Leave true))) (p2 : Place) → IsOf l p2 → taken_at p2 l ≡ None → doing_on p2 l ≡ idle → station p2 ≡ nowhere → Goes w (put (all_told (filled_with w (One (2 * l)) None) t (Woken note.HandOff)) t p2) l (acts t (Out ∷ []))
+  pub tells : 2 * l < length w.sections → (bumps : Bool) (is : place_at w t ≡ Mutex l (HandOff bumps (hand_off.Leave true))) (p2 : Place) → IsOf l p2 → taken_at p2 l ≡ None → doing_on p2 l ≡ idle → station p2 ≡ nowhere → Goes w (put (state_after_telling (state_with_sections w (One (2 * l)) None) t (Woken note.HandOff)) t p2) l (acts t (Out ∷ []))
   tells line bumps is p2 of none e s = subst (λ (z : State). Goes w (put z t p2) l (acts t (Out ∷ []))) (sym (told_it at is true refl (Woken note.HandOff)))
       (wake_keeps w t l at steady is there line v true note.HandOff p2 of (rw there_v.is refl) refl none e refl refl (lets_handed (place_at w) steady.stands.hands t l v p2 held) apart refl (rw there_v.is refl) s (rw there_v.is refl))
     where
@@ -368,12 +368,12 @@ module _ (w : State) (t l : ℕ) (steady : IsSteady w) (there : t < length w.pla
       apart e = let a : Mutex l (HandOff bumps (hand_off.Store true none_left)) ≡ Mutex l (Lock there_u.entry there_u.retries (lock.Taken t)) = sym is ∙ ap (place_at w) (sym e) ∙ there_u.is in cc
 
       before : State
-      before = given w t (Mutex l at) l (op.Store (hand_off_word true none_left))
+      before = state_after_hand_over w t (Mutex l at) l (op.Store (hand_off_word true none_left))
 
       after : State
-      after = put (befallen before u (HandedBy t)) t p2
+      after = put (state_after_reply before u (HandedBy t)) t p2
 
-      told : all_told before t (HandedBy t) ≡ befallen before u (HandedBy t)
+      told : state_after_telling before t (HandedBy t) ≡ state_after_reply before u (HandedBy t)
       told = told_one before t l u false (HandedBy t) steady.stands.hands own_t held
 
       owners_given : Changed (owners_at w) (owners_at after) l (with_exclusive (owners_at w l) (Some u))
@@ -383,7 +383,7 @@ module _ (w : State) (t l : ℕ) (steady : IsSteady w) (there : t < length w.pla
       }
 
       places : place_at after ≡ putting (putting (place_at w) u pu) t p2
-      places = put_places (befallen before u (HandedBy t)) t p2 (λ h. absurd (let a : length (set w.places u pu) ≡ length w.places = length-set w.places u pu in omega arith))
+      places = put_places (state_after_reply before u (HandedBy t)) t p2 (λ h. absurd (let a : length (set w.places u pu) ≡ length w.places = length-set w.places u pu in omega arith))
           ∙ ap (λ (f : ℕ → Place). putting f t p2) (goes_from w u (HandedBy t))
 
       unshared : sum (shares_at w l) ≡ 0
@@ -410,12 +410,12 @@ module _ (w : State) (t l : ℕ) (at : MutexPlace) (steady : IsSteady w) (is : p
   pub take_keeps : (p2 : Place) → IsOf l p2 → taken_at (Mutex l at) l ≡ None → taken_at p2 l ≡ None → (mutex_station at).carries ≡ None → (mutex_station at).hand ≡ None → (mutex_doing at).inside ≡ Some Main → (mutex_doing at).carries ≡ false → (mutex_doing at).wakes ≢ Some Second
       → doing_on p2 l ≡ record (mutex_doing at) { wakes = None; carries = true; covers = true; empty = found Main (is_empty (map queued_of rest)) }
       → station p2 ≡ record (mutex_station at) { carries = Some false }
-      → Goes w (put (befallen (record w { queues = first_taken w.queues (2 * l) }) x.thread (TakenBy t)) t p2) l (acts t (Does (TakeFirst (queued x.thread)) ∷ []))
+      → Goes w (put (state_after_reply (record w { queues = queues_without_first w.queues (2 * l) }) x.thread (TakenBy t)) t p2) l (acts t (Does (TakeFirst (queued x.thread)) ∷ []))
   take_keeps p2 of none none2 nobody free i c v e s = record {
     follows = follow w after l (rules w t l at steady is there) (putting (putting (place_at w) x.thread px) t p2) (word_at w l) (owners_at w l) rest places
         (same_bases w after refl refl (length-set (set w.places x.thread px) t p2 ∙ length-set w.places x.thread px))
         (unchanged (word_at w) l) (unchanged (owners_at w) l)
-        (subst (λ (y : List Waiter). Changed (λ k. queue_at w (2 * k)) (λ k. get_or (first_taken w.queues (2 * l)) (2 * k) []) l y) (ap (drop 1) first) (changed_main w.queues l (drop 1 (queue_at w (2 * l))) [] line))
+        (subst (λ (y : List Waiter). Changed (λ k. queue_at w (2 * k)) (λ k. get_or (queues_without_first w.queues (2 * l)) (2 * k) []) l y) (ap (drop 1) first) (changed_main w.queues l (drop 1 (queue_at w (2 * l))) [] line))
         (λ k. get_or-set_other w.queues (2 * l) (2 * k + 1) (drop 1 (queue_at w (2 * l))) [] (λ h. omega arith)) (λ k. refl)
         (λ k ne y. alike_both l k (place_at w) x.thread px t p2 of_x of_px own_t of apart ne y)
         (acts t (Does (TakeFirst (queued x.thread)) ∷ []))
@@ -442,10 +442,10 @@ module _ (w : State) (t l : ℕ) (at : MutexPlace) (steady : IsSteady w) (is : p
       of_px = next_of l (place_at w x.thread) (TakenBy t) of_x
 
       after : State
-      after = put (befallen (record w { queues = first_taken w.queues (2 * l) }) x.thread (TakenBy t)) t p2
+      after = put (state_after_reply (record w { queues = queues_without_first w.queues (2 * l) }) x.thread (TakenBy t)) t p2
 
       places : place_at after ≡ putting (putting (place_at w) x.thread px) t p2
-      places = put_places (befallen (record w { queues = first_taken w.queues (2 * l) }) x.thread (TakenBy t)) t p2 (λ h. absurd (let a : length (set w.places x.thread px) ≡ length w.places = length-set w.places x.thread px in omega arith))
+      places = put_places (state_after_reply (record w { queues = queues_without_first w.queues (2 * l) }) x.thread (TakenBy t)) t p2 (λ h. absurd (let a : length (set w.places x.thread px) ≡ length w.places = length-set w.places x.thread px in omega arith))
           ∙ ap (λ (f : ℕ → Place). putting f t p2) (goes_from w x.thread (TakenBy t))
 
       -- the line, before and behind the look

@@ -23,7 +23,7 @@ use Rattle.lot_steps.specs.declared.places.Place.{Place}
 use Rattle.lot_steps.specs.declared.places.Place.TheVariants.{Idle}
 use Rattle.lot_steps.specs.Acts.{outcome_of}
 use Rattle.lot_steps.specs.Steps.{act_of, next_place, next_act}
-use Rattle.lot_world.specs.Machine.{State, unlocked, place_at, word_at, owners_at, section_at, queue_at, put, operated, filled_with, appended, removed, first_taken, taken_by, befallen, performed, reply_to, can_do, gone, go_of, is_possible, after, answered, go_outcome, solo, told_by, all_told, given, heir_from, is_there}
+use Rattle.lot_world.specs.Machine.{State, unlocked, place_at, word_at, owners_at, section_at, queue_at, put, state_after_operation, state_with_sections, queues_with_last, queues_without, queues_without_first, state_after_taking, state_after_reply, state_after_act, reply_to, can_do, state_after_go, go_of, is_possible, after, step_outcome, go_outcome, solo, place_after_telling, state_after_telling, state_after_hand_over, heir_from, is_there}
 use Rattle.lot_world.specs.Fits.{IsShaped, SameSize}
 use Rattle.lot_world.specs.Refinement.{owner_at}
 use Rattle.lot_world.specs.MutexDeeds.{station}
@@ -42,12 +42,12 @@ abbrev pub Leads : ℕ → State → ℕ → (State → Outcome → Type 0) → 
 Leads k w t P = (n : ℕ) (last : Outcome) → k ≤ n → P (solo n w t last).state (solo n w t last).outcome
 
 module _ (w : State) (t : ℕ) (P : State → Outcome → Type 0) where
-  pub leads_rest : (o : Outcome) → answered w (go_of t) ≡ o → Rests o → P (after w (go_of t)) o → Leads 1 w t P
+  pub leads_rest : (o : Outcome) → step_outcome w (go_of t) ≡ o → Rests o → P (after w (go_of t)) o → Leads 1 w t P
   unfolding solo
   leads_rest o told rest h zero last le = absurd (omega arith)
   leads_rest o told rest h (suc n) last le = rw (told, rests_after o w (after w (go_of t)) last (solo n (after w (go_of t)) t outcome.TheVariants.Step) (λ e. subst Rests e rest) (λ e. subst Rests e rest)) h
 
-  pub leads_step : (k : ℕ) → answered w (go_of t) ≡ outcome.TheVariants.Step → Leads k (after w (go_of t)) t P → Leads (k + 1) w t P
+  pub leads_step : (k : ℕ) → step_outcome w (go_of t) ≡ outcome.TheVariants.Step → Leads k (after w (go_of t)) t P → Leads (k + 1) w t P
   unfolding solo
   leads_step k told more zero last le = absurd (omega arith)
   leads_step k told more (suc n) last le = rw told (more n outcome.TheVariants.Step (omega arith))
@@ -68,23 +68,23 @@ pub record Facing (w : State) (t l : ℕ) (p : Place) (v : ℕ) (o : Option ℕ)
 
 -- what a step leads to, and what the thread is told
 abbrev pub Faces : State → ℕ → ℕ → Place → Outcome → ℕ → Option ℕ → Option ℕ → List Waiter → Type 0
-Faces w t l p told v o s q = (answered w (go_of t) ≡ told) × Facing (after w (go_of t)) t l p v o s q
+Faces w t l p told v o s q = (step_outcome w (go_of t) ≡ told) × Facing (after w (go_of t)) t l p v o s q
 
 module _ (w : State) (t l : ℕ) (p : Place) (v : ℕ) (o s : Option ℕ) (q : List Waiter) (f : Facing w t l p v o s q) where
   possible : can_do w (act_of p) ≡ true → is_possible w (go_of t) ≡ true
   possible can = rw (lt-ltb t (length w.places) f.thread, f.place) can
 
-  goes : can_do w (act_of p) ≡ true → after w (go_of t) ≡ gone w t
-  goes can = ap (λ b. if b then gone w t else w) (possible can)
+  goes : can_do w (act_of p) ≡ true → after w (go_of t) ≡ state_after_go w t
+  goes can = ap (λ b. if b then state_after_go w t else w) (possible can)
 
-  told : can_do w (act_of p) ≡ true → answered w (go_of t) ≡ outcome_of (next_act p (reply_to w t (act_of p)))
+  told : can_do w (act_of p) ≡ true → step_outcome w (go_of t) ≡ outcome_of (next_act p (reply_to w t (act_of p)))
   told can = ap (λ b. if b then go_outcome w t else outcome.TheVariants.NotNow) (possible can) ∙ ap (λ x. outcome_of (next_act x (reply_to w t (act_of x)))) f.place
 
-  pub act_led : can_do w (act_of p) ≡ true → after w (go_of t) ≡ put (performed w t p (act_of p)) t (next_place p (reply_to w t (act_of p)))
-  act_led can = goes can ∙ ap (λ x. put (performed w t x (act_of x)) t (next_place x (reply_to w t (act_of x)))) f.place
+  pub act_led : can_do w (act_of p) ≡ true → after w (go_of t) ≡ put (state_after_act w t p (act_of p)) t (next_place p (reply_to w t (act_of p)))
+  act_led can = goes can ∙ ap (λ x. put (state_after_act w t x (act_of x)) t (next_place x (reply_to w t (act_of x)))) f.place
 
   -- what it leads to, where the act leads to b
-  faces : (b : State) (p2 : Place) (v2 : ℕ) (o2 s2 : Option ℕ) (q2 : List Waiter) → can_do w (act_of p) ≡ true → performed w t p (act_of p) ≡ b → length b.places ≡ length w.places
+  faces : (b : State) (p2 : Place) (v2 : ℕ) (o2 s2 : Option ℕ) (q2 : List Waiter) → can_do w (act_of p) ≡ true → state_after_act w t p (act_of p) ≡ b → length b.places ≡ length w.places
       → next_place p (reply_to w t (act_of p)) ≡ p2 → word_at b l ≡ v2 → owner_at b l ≡ o2 → section_at b (2 * l) ≡ s2 → queue_at b (2 * l) ≡ q2 → Facing (after w (go_of t)) t l p2 v2 o2 s2 q2
   faces b p2 v2 o2 s2 q2 can does places to word owner section queue = record {
     shape = after_shaped w (go_of t) f.shape;
@@ -101,16 +101,16 @@ module _ (w : State) (t l : ℕ) (p : Place) (v : ℕ) (o s : Option ℕ) (q : L
       led : after w (go_of t) ≡ put b t p2
       led = act_led can ∙ (λ i. put (does i) t (to i))
 
-  word_led : (x : Op) → word_at (operated w t p l x) l ≡ apply x v
+  word_led : (x : Op) → word_at (state_after_operation w t p l x) l ≡ apply x v
   word_led x = ap (λ y. y.word) (get_or-set_same w.locks l _ (unlocked kind.TheVariants.Mutex) f.lock) ∙ ap (apply x) f.word
 
-  owner_led : (x : Op) → owner_at (operated w t p l x) l ≡ owner_after p t v o
+  owner_led : (x : Op) → owner_at (state_after_operation w t p l x) l ≡ owner_after p t v o
   owner_led x = ap (λ y. y.owners.exclusive) (get_or-set_same w.locks l _ (unlocked kind.TheVariants.Mutex) f.lock) ∙ exclusive-owners p t (word_at w l) (owners_at w l) ∙ (λ i. owner_after p t (f.word i) (f.owner i))
 
   pub word_faces : (x : Op) → act_of p ≡ act.TheVariants.Word l x → Faces w t l (next_place p (Value v)) (outcome_of (next_act p (Value v))) (apply x v) (owner_after p t v o) s q
   word_faces x is = (
     told can ∙ ap (λ r. outcome_of (next_act p r)) heard,
-    faces (operated w t p l x) (next_place p (Value v)) (apply x v) (owner_after p t v o) s q can (ap (performed w t p) is) refl (ap (next_place p) heard) (word_led x) (owner_led x) f.section f.queue,
+    faces (state_after_operation w t p l x) (next_place p (Value v)) (apply x v) (owner_after p t v o) s q can (ap (state_after_act w t p) is) refl (ap (next_place p) heard) (word_led x) (owner_led x) f.section f.queue,
   )
     where
       can : can_do w (act_of p) ≡ true
@@ -122,7 +122,7 @@ module _ (w : State) (t l : ℕ) (p : Place) (v : ℕ) (o s : Option ℕ) (q : L
   pub hand_faces : (x : Op) (u : ℕ) → act_of p ≡ act.TheVariants.HandOver l x → heir_from t 0 w.places ≡ Some u → Faces w t l (next_place p (Value v)) (outcome_of (next_act p (Value v))) (apply x v) (Some u) s q
   hand_faces x u is heir = (
     told can ∙ ap (λ r. outcome_of (next_act p r)) heard,
-    faces (all_told (given w t p l x) t (HandedBy t)) (next_place p (Value v)) (apply x v) (Some u) s q can (ap (performed w t p) is) (length-map w.places (told_by t (HandedBy t))) (ap (next_place p) heard)
+    faces (state_after_telling (state_after_hand_over w t p l x) t (HandedBy t)) (next_place p (Value v)) (apply x v) (Some u) s q can (ap (state_after_act w t p) is) (length-map w.places (place_after_telling t (HandedBy t))) (ap (next_place p) heard)
         (ap (λ y. y.word) (get_or-set_same w.locks l _ (unlocked kind.TheVariants.Mutex) f.lock) ∙ ap (apply x) f.word)
         (ap (λ y. y.owners.exclusive) (get_or-set_same w.locks l _ (unlocked kind.TheVariants.Mutex) f.lock) ∙ heir) f.section f.queue,
   )
@@ -136,7 +136,7 @@ module _ (w : State) (t l : ℕ) (p : Place) (v : ℕ) (o s : Option ℕ) (q : L
   pub accept_faces : act_of p ≡ act.TheVariants.Accept → Faces w t l (next_place p Done) (outcome_of (next_act p Done)) v o s q
   accept_faces is = (
     told can ∙ ap (λ r. outcome_of (next_act p r)) heard,
-    faces w (next_place p Done) v o s q can (ap (performed w t p) is) refl (ap (next_place p) heard) f.word f.owner f.section f.queue,
+    faces w (next_place p Done) v o s q can (ap (state_after_act w t p) is) refl (ap (next_place p) heard) f.word f.owner f.section f.queue,
   )
     where
       can : can_do w (act_of p) ≡ true
@@ -148,7 +148,7 @@ module _ (w : State) (t l : ℕ) (p : Place) (v : ℕ) (o s : Option ℕ) (q : L
   pub enter_faces : act_of p ≡ act.TheVariants.Enter (One (2 * l)) → s ≡ None → Faces w t l (next_place p Done) (outcome_of (next_act p Done)) v o (Some t) q
   enter_faces is free = (
     told can ∙ ap (λ r. outcome_of (next_act p r)) heard,
-    faces (filled_with w (One (2 * l)) (Some t)) (next_place p Done) v o (Some t) q can (ap (performed w t p) is) refl (ap (next_place p) heard) f.word f.owner (get_or-set_same w.sections (2 * l) (Some t) None (main_key_there w l f.shape f.lock)) f.queue,
+    faces (state_with_sections w (One (2 * l)) (Some t)) (next_place p Done) v o (Some t) q can (ap (state_after_act w t p) is) refl (ap (next_place p) heard) f.word f.owner (get_or-set_same w.sections (2 * l) (Some t) None (main_key_there w l f.shape f.lock)) f.queue,
   )
     where
       can : can_do w (act_of p) ≡ true
@@ -160,7 +160,7 @@ module _ (w : State) (t l : ℕ) (p : Place) (v : ℕ) (o s : Option ℕ) (q : L
   pub leave_faces : act_of p ≡ act.TheVariants.Leave (One (2 * l)) wakes.TheVariants.Nobody → Faces w t l (next_place p Done) (outcome_of (next_act p Done)) v o None q
   leave_faces is = (
     told can ∙ ap (λ r. outcome_of (next_act p r)) heard,
-    faces (filled_with w (One (2 * l)) None) (next_place p Done) v o None q can (ap (performed w t p) is) refl (ap (next_place p) heard) f.word f.owner (get_or-set_same w.sections (2 * l) None None (main_key_there w l f.shape f.lock)) f.queue,
+    faces (state_with_sections w (One (2 * l)) None) (next_place p Done) v o None q can (ap (state_after_act w t p) is) refl (ap (next_place p) heard) f.word f.owner (get_or-set_same w.sections (2 * l) None None (main_key_there w l f.shape f.lock)) f.queue,
   )
     where
       can : can_do w (act_of p) ≡ true
@@ -172,7 +172,7 @@ module _ (w : State) (t l : ℕ) (p : Place) (v : ℕ) (o s : Option ℕ) (q : L
   pub wake_faces : (note : Note) → act_of p ≡ act.TheVariants.Leave (One (2 * l)) (wakes.TheVariants.All note) → Faces w t l (next_place p Done) (outcome_of (next_act p Done)) v o None q
   wake_faces note is = (
     told can ∙ ap (λ r. outcome_of (next_act p r)) heard,
-    faces (all_told (filled_with w (One (2 * l)) None) t (Woken note)) (next_place p Done) v o None q can (ap (performed w t p) is) (length-map w.places (told_by t (Woken note))) (ap (next_place p) heard) f.word f.owner (get_or-set_same w.sections (2 * l) None None (main_key_there w l f.shape f.lock)) f.queue,
+    faces (state_after_telling (state_with_sections w (One (2 * l)) None) t (Woken note)) (next_place p Done) v o None q can (ap (state_after_act w t p) is) (length-map w.places (place_after_telling t (Woken note))) (ap (next_place p) heard) f.word f.owner (get_or-set_same w.sections (2 * l) None None (main_key_there w l f.shape f.lock)) f.queue,
   )
     where
       can : can_do w (act_of p) ≡ true
@@ -185,8 +185,8 @@ module _ (w : State) (t l : ℕ) (p : Place) (v : ℕ) (o s : Option ℕ) (q : L
       → Faces w t l (next_place p (Parked true)) (outcome_of (next_act p (Parked true))) v o s (q ++ waiter (2 * l) t Exclusive ∷ [])
   park_faces is full nowhere = (
     told can ∙ ap (λ r. outcome_of (next_act p r)) heard,
-    faces (record w { queues = appended w.queues (2 * l) t Exclusive }) (next_place p (Parked true)) v o s (q ++ waiter (2 * l) t Exclusive ∷ []) can
-        (ap (performed w t p) is ∙ ap (λ b. if b then record w { queues = appended w.queues (2 * l) t Exclusive } else w) is_full) refl (ap (next_place p) heard) f.word f.owner f.section queue,
+    faces (record w { queues = queues_with_last w.queues (2 * l) t Exclusive }) (next_place p (Parked true)) v o s (q ++ waiter (2 * l) t Exclusive ∷ []) can
+        (ap (state_after_act w t p) is ∙ ap (λ b. if b then record w { queues = queues_with_last w.queues (2 * l) t Exclusive } else w) is_full) refl (ap (next_place p) heard) f.word f.owner f.section queue,
   )
     where
       can : can_do w (act_of p) ≡ true
@@ -198,7 +198,7 @@ module _ (w : State) (t l : ℕ) (p : Place) (v : ℕ) (o s : Option ℕ) (q : L
       heard : reply_to w t (act_of p) ≡ Parked true
       heard = ap (reply_to w t) is ∙ ap Parked is_full
 
-      queue : get_or (appended w.queues (2 * l) t Exclusive) (2 * l) [] ≡ q ++ waiter (2 * l) t Exclusive ∷ []
+      queue : get_or (queues_with_last w.queues (2 * l) t Exclusive) (2 * l) [] ≡ q ++ waiter (2 * l) t Exclusive ∷ []
       queue = get_or-set_same (map (without t) w.queues) (2 * l) _ [] (rw (length-map w.queues (without t)) (main_line_there w l f.shape f.lock))
           ∙ ap (λ x. x ++ waiter (2 * l) t Exclusive ∷ []) (same_without w f.steady t (ap (λ x. (station x).stands) f.place ∙ nowhere) l ∙ f.queue)
 
@@ -206,7 +206,7 @@ module _ (w : State) (t l : ℕ) (p : Place) (v : ℕ) (o s : Option ℕ) (q : L
   pub unparked_faces : act_of p ≡ act.TheVariants.Park l (2 * l) (WordIs 3) Exclusive → (v == 3) ≡ false → Faces w t l (next_place p (Parked false)) (outcome_of (next_act p (Parked false))) v o s q
   unparked_faces is other = (
     told can ∙ ap (λ r. outcome_of (next_act p r)) heard,
-    faces w (next_place p (Parked false)) v o s q can (ap (performed w t p) is ∙ ap (λ b. if b then record w { queues = appended w.queues (2 * l) t Exclusive } else w) is_other) refl (ap (next_place p) heard) f.word f.owner f.section f.queue,
+    faces w (next_place p (Parked false)) v o s q can (ap (state_after_act w t p) is ∙ ap (λ b. if b then record w { queues = queues_with_last w.queues (2 * l) t Exclusive } else w) is_other) refl (ap (next_place p) heard) f.word f.owner f.section f.queue,
   )
     where
       can : can_do w (act_of p) ≡ true
@@ -221,7 +221,7 @@ module _ (w : State) (t l : ℕ) (p : Place) (v : ℕ) (o s : Option ℕ) (q : L
   pub remove_faces : act_of p ≡ act.TheVariants.Remove (2 * l) → Faces w t l (next_place p (Removed (length (without t q) == 0))) (outcome_of (next_act p (Removed (length (without t q) == 0)))) v o s (without t q)
   remove_faces is = (
     told can ∙ ap (λ r. outcome_of (next_act p r)) heard,
-    faces (record w { queues = removed w.queues t }) (next_place p (Removed (length (without t q) == 0))) v o s (without t q) can (ap (performed w t p) is) refl (ap (next_place p) heard) f.word f.owner f.section
+    faces (record w { queues = queues_without w.queues t }) (next_place p (Removed (length (without t q) == 0))) v o s (without t q) can (ap (state_after_act w t p) is) refl (ap (next_place p) heard) f.word f.owner f.section
         (get_or-map (without t) w.queues (2 * l) [] ∙ ap (without t) f.queue),
   )
     where
@@ -241,18 +241,18 @@ module _ (w : State) (t l : ℕ) (p : Place) (v : ℕ) (o s : Option ℕ) (q : L
       heard : reply_to w t (act_of p) ≡ Took (is_there (first_of q)) (length (drop 1 q) == 0)
       heard = ap (reply_to w t) is ∙ ap (λ x. Took (is_there (first_of x)) (length (drop 1 x) == 0)) f.queue
 
-      queue : get_or (first_taken w.queues (2 * l)) (2 * l) [] ≡ drop 1 q
+      queue : get_or (queues_without_first w.queues (2 * l)) (2 * l) [] ≡ drop 1 q
       queue = get_or-set_same w.queues (2 * l) _ [] (main_line_there w l f.shape f.lock) ∙ ap (drop 1) f.queue
 
-      does : (x : Option ℕ) → first_of q ≡ x → performed w t p (act_of p) ≡ taken_by (record w { queues = first_taken w.queues (2 * l) }) t x
-      does x e = ap (performed w t p) is ∙ ap (taken_by (record w { queues = first_taken w.queues (2 * l) }) t) (ap first_of f.queue ∙ e)
+      does : (x : Option ℕ) → first_of q ≡ x → state_after_act w t p (act_of p) ≡ state_after_taking (record w { queues = queues_without_first w.queues (2 * l) }) t x
+      does x e = ap (state_after_act w t p) is ∙ ap (state_after_taking (record w { queues = queues_without_first w.queues (2 * l) }) t) (ap first_of f.queue ∙ e)
 
       by_first : (x : Option ℕ) → first_of q ≡ x → Faces w t l (next_place p (Took (is_there (first_of q)) (length (drop 1 q) == 0))) (outcome_of (next_act p (Took (is_there (first_of q)) (length (drop 1 q) == 0)))) v o s (drop 1 q)
       by_first None e = (
         told can ∙ ap (λ r. outcome_of (next_act p r)) heard,
-        faces (record w { queues = first_taken w.queues (2 * l) }) _ v o s (drop 1 q) can (does None e) refl (ap (next_place p) heard) f.word f.owner f.section queue,
+        faces (record w { queues = queues_without_first w.queues (2 * l) }) _ v o s (drop 1 q) can (does None e) refl (ap (next_place p) heard) f.word f.owner f.section queue,
       )
       by_first (Some u) e = (
         told can ∙ ap (λ r. outcome_of (next_act p r)) heard,
-        faces (befallen (record w { queues = first_taken w.queues (2 * l) }) u (TakenBy t)) _ v o s (drop 1 q) can (does (Some u) e) (length-set w.places u _) (ap (next_place p) heard) f.word f.owner f.section queue,
+        faces (state_after_reply (record w { queues = queues_without_first w.queues (2 * l) }) u (TakenBy t)) _ v o s (drop 1 q) can (does (Some u) e) (length-set w.places u _) (ap (next_place p) heard) f.word f.owner f.section queue,
       )

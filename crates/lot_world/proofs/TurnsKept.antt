@@ -22,7 +22,7 @@ use Rattle.lot_steps.specs.MutexSteps.{mutex_first, mutex_right, is_thread}
 use Rattle.lot_steps.specs.Steps.{is_idle, spin_lock, late_key}
 use Rattle.abstract_locks.specs.Locks.{put as putting}
 use Rattle.abstract_locks.specs.Sites.{Claim, Has, Begin, HasClaim, idle}
-use Rattle.lot_world.specs.Machine.{State, place_at, word_at, owners_at, kind_at, queue_at, put, begun, can_begin, is_open_to, spun_on, late_on, is_free_under, turned, can_turn, is_possible, after}
+use Rattle.lot_world.specs.Machine.{State, place_at, word_at, owners_at, kind_at, queue_at, put, state_after_begin, can_begin, is_open_to, state_after_spin_on, state_after_late_on, is_free_under, state_after_turn, can_turn, is_possible, after}
 use Rattle.lot_world.specs.Fits.{IsShaped, PlaceFits}
 use Rattle.lot_world.specs.Refinement.{lock_state, taken_at}
 use Rattle.lot_world.specs.SitesOf.{is_mutex}
@@ -74,7 +74,7 @@ module _ (w : State) (t : ℕ) (steady : IsSteady w) (shape : IsShaped w) (there
   calls_begin l fair call.UnlockFair of is right = begin_kept l _ (Some (Has Exclusive)) of is refl refl (owns (owners_at w l).exclusive right) refl
   calls_begin l fair call.Bump of is right = begin_kept l _ (Some (Has Exclusive)) of is refl refl (owns (owners_at w l).exclusive right) refl
 
-  begun_kept : (c : Call) → can_begin w t c ≡ true → IsSteady (begun w t c)
+  begun_kept : (c : Call) → can_begin w t c ≡ true → IsSteady (state_after_begin w t c)
   begun_kept (calling.TheVariants.Mutex l c) can =
       let parts = both (is_idle (place_at w t)) (is_open_to w t (calling.TheVariants.Mutex l c)) can in
       let open_to = both (nat_lt l (length w.locks)) _ parts.1 in
@@ -82,11 +82,11 @@ module _ (w : State) (t : ℕ) (steady : IsSteady w) (shape : IsShaped w) (there
       goes_steady w _ l _ steady (calls_begin l (is_fair (kind_at w l)) c (calls_mutex (kind_at w l) (calling.TheVariants.Mutex l c) right.0) (idle_is (place_at w t) parts.0) right.1)
 
   -- it loads the word again
-  spins : (l : ℕ) (e : Entry) (r : Bool) (x : ℕ) → place_at w t ≡ Mutex l (Lock e r (lock.Decide x)) → (b : Bool) → IsSteady (spun_on w t (if b then Some l else None))
+  spins : (l : ℕ) (e : Entry) (r : Bool) (x : ℕ) → place_at w t ≡ Mutex l (Lock e r (lock.Decide x)) → (b : Bool) → IsSteady (state_after_spin_on w t (if b then Some l else None))
   spins l e r x is false = steady
   spins l e r x is true = rw is (goes_steady w _ l [] steady (looked w t steady shape there l (Lock e r (lock.Decide x)) (Lock e r (lock.Decide (word_at w l))) is refl refl refl refl))
 
-  spun_kept : (p : Place) → place_at w t ≡ p → IsSteady (spun_on w t (spin_lock p))
+  spun_kept : (p : Place) → place_at w t ≡ p → IsSteady (state_after_spin_on w t (spin_lock p))
   spun_kept (Mutex l (Lock e r (lock.Decide x))) is = spins l e r x is (x == 1)
   spun_kept (Mutex l (Lock e r lock.First)) is = steady
   spun_kept (Mutex l (Lock e r a)) is = steady
@@ -94,17 +94,17 @@ module _ (w : State) (t : ℕ) (steady : IsSteady w) (shape : IsShaped w) (there
   spun_kept Idle is = steady
 
   -- its time is up, and it goes into the section of its line
-  asleep_late : (l : ℕ) (e : Entry) (r : Bool) → place_at w t ≡ Mutex l (Lock e r lock.Asleep) → l < length w.locks → is_free_under w (late_key (Mutex l (Lock e r lock.Asleep))) ≡ true → IsSteady (late_on w t (late_key (Mutex l (Lock e r lock.Asleep))))
+  asleep_late : (l : ℕ) (e : Entry) (r : Bool) → place_at w t ≡ Mutex l (Lock e r lock.Asleep) → l < length w.locks → is_free_under w (late_key (Mutex l (Lock e r lock.Asleep))) ≡ true → IsSteady (state_after_late_on w t (late_key (Mutex l (Lock e r lock.Asleep))))
   asleep_late l entries.LockTimed r is lt can = rw is (goes_steady w _ l _ steady (enters w t steady shape there l (Lock entries.LockTimed r lock.Asleep) (Lock entries.LockTimed r lock.Remove) is lt can refl refl refl refl refl refl))
   asleep_late l entries.Lock r is lt can = absurd cc
   asleep_late l entries.Bump r is lt can = absurd cc
 
-  lock_late : (l : ℕ) (e : Entry) (r : Bool) (a : LockAt) → place_at w t ≡ Mutex l (Lock e r a) → l < length w.locks → is_free_under w (late_key (Mutex l (Lock e r a))) ≡ true → IsSteady (late_on w t (late_key (Mutex l (Lock e r a))))
+  lock_late : (l : ℕ) (e : Entry) (r : Bool) (a : LockAt) → place_at w t ≡ Mutex l (Lock e r a) → l < length w.locks → is_free_under w (late_key (Mutex l (Lock e r a))) ≡ true → IsSteady (state_after_late_on w t (late_key (Mutex l (Lock e r a))))
   lock_late l e r lock.Asleep is lt can = asleep_late l e r is lt can
   lock_late l e r lock.First is lt can = absurd cc
   lock_late l e r a is lt can = absurd cc
 
-  late_kept : (p : Place) → place_at w t ≡ p → PlaceFits (length w.locks) p → is_free_under w (late_key p) ≡ true → IsSteady (late_on w t (late_key p))
+  late_kept : (p : Place) → place_at w t ≡ p → PlaceFits (length w.locks) p → is_free_under w (late_key p) ≡ true → IsSteady (state_after_late_on w t (late_key p))
   late_kept (Mutex l (Lock e r a)) is fits can = lock_late l e r a is fits.0 can
   late_kept (Mutex l TryLock) is fits can = absurd cc
   late_kept (Mutex l (Unlock a)) is fits can = absurd cc
@@ -113,7 +113,7 @@ module _ (w : State) (t : ℕ) (steady : IsSteady w) (shape : IsShaped w) (there
   late_kept (Mutex l (HandOff bumps a)) is fits can = absurd cc
   late_kept Idle is fits can = absurd cc
 
-  turned_kept : (x : Turn) → can_turn w t x ≡ true → IsSteady (turned w t x)
+  turned_kept : (x : Turn) → can_turn w t x ≡ true → IsSteady (state_after_turn w t x)
   turned_kept (turn.TheVariants.Begin c) can = begun_kept c can
   turned_kept turn.TheVariants.Go can = gone_kept w t steady shape there (place_at w t) refl (shape.places t) can
   turned_kept turn.TheVariants.Spin can = spun_kept (place_at w t) refl
@@ -124,7 +124,7 @@ module _ (w : State) (t : ℕ) (steady : IsSteady w) (shape : IsShaped w) (there
 pub after_steady : (w : State) (s : Step) → IsShaped w → IsSteady w → IsSteady (after w s)
 after_steady w s shape steady = either (is_possible w s) refl
   where
-    either : (b : Bool) → is_possible w s ≡ b → IsSteady (if b then turned w s.thread s.turn else w)
+    either : (b : Bool) → is_possible w s ≡ b → IsSteady (if b then state_after_turn w s.thread s.turn else w)
     either true can = let parts = both (nat_lt s.thread (length w.places)) (can_turn w s.thread s.turn) can in
         turned_kept w s.thread steady shape (ltb-true s.thread (length w.places) parts.0) s.turn parts.1
     either false can = steady

@@ -4,7 +4,7 @@ use Rattle.lot_calls.specs.declared.calls.Step.{Step}
 use Rattle.lot_calls.specs.declared.outcomes.Outcome.{Outcome}
 use Rattle.lot_calls.specs.declared.outcomes.Outcome as outcome
 use Rattle.abstract_locks.specs.Runs.{IsRun}
-use Rattle.lot_world.specs.Machine.{State, after, answered, after_all, answered_all, alone_after, go_of, solo}
+use Rattle.lot_world.specs.Machine.{State, after, step_outcome, after_all, step_outcomes, alone_after, go_of, solo}
 use Rattle.lot_world.specs.Fits.{IsShaped}
 use Rattle.lot_world.specs.Refinement.{locks_of}
 use Rattle.lot_world.specs.WorldRuns.{IsWorldStep, IsWorldRun, Tells}
@@ -32,7 +32,7 @@ holds_after w s h = record {
   steady = after_steady w s h.shaped h.steady;
 }
 
-pub world_step : (w : State) (s : Step) → Holds w → IsWorldStep w s (answered w s) (after w s)
+pub world_step : (w : State) (s : Step) → Holds w → IsWorldStep w s (step_outcome w s) (after w s)
 world_step w s h = record {
   refines = after_step w s h.shaped h.steady;
   one_thing = one_thing w s h.steady;
@@ -42,7 +42,7 @@ world_step w s h = record {
   kept = kept_after w s h.shaped h.steady;
 }
 
-pub world_run : (w : State) (ss : List Step) → Holds w → IsWorldRun w ss (answered_all w ss) (after_all w ss)
+pub world_run : (w : State) (ss : List Step) → Holds w → IsWorldRun w ss (step_outcomes w ss) (after_all w ss)
 world_run w [] h = refl
 world_run w (s ∷ ss) h = (after w s, world_step w s h, world_run (after w s) ss (holds_after w s h))
 
@@ -55,12 +55,12 @@ run_refines w v (s ∷ ss) (o ∷ os) h = (locks_of h.0, h.1.refines, run_refine
 
 -- ---------------------------------------------------------------- what was told stands behind what was there
 
-module _ (w v : State) (ss : List Step) (before now : List Outcome) (h : Holds w) (led : v ≡ after_all w ss) (answers : now ≡ before ++ answered_all w ss) where
+module _ (w v : State) (ss : List Step) (before now : List Outcome) (h : Holds w) (led : v ≡ after_all w ss) (answers : now ≡ before ++ step_outcomes w ss) where
   pub tells_run : Tells before now (λ told. IsWorldRun w ss told v)
-  tells_run = (answered_all w ss, answers, subst (IsWorldRun w ss (answered_all w ss)) (sym led) (world_run w ss h))
+  tells_run = (step_outcomes w ss, answers, subst (IsWorldRun w ss (step_outcomes w ss)) (sym led) (world_run w ss h))
 
   pub tells_refines : Tells before now (λ told. IsRun (locks_of w) ss told (locks_of v))
-  tells_refines = (answered_all w ss, answers, run_refines w v ss (answered_all w ss) (subst (IsWorldRun w ss (answered_all w ss)) (sym led) (world_run w ss h)))
+  tells_refines = (step_outcomes w ss, answers, run_refines w v ss (step_outcomes w ss) (subst (IsWorldRun w ss (step_outcomes w ss)) (sym led) (world_run w ss h)))
 
 -- ---------------------------------------------------------------- a thread alone
 
@@ -79,9 +79,9 @@ goes_more o (x ∷ told) e h = (e, h)
 goes_for : (n : ℕ) (w : State) (t : ℕ) (last : Outcome) → Holds w → GoesFor n w t last (solo n w t last).outcome (solo n w t last).state
 unfolding solo
 goes_for zero w t last h = record { told = []; few = omega arith; run = refl; goes_on = tt; result_is = refl }
-goes_for (suc n) w t last h = by_outcome (answered w (go_of t)) refl (goes_for n (after w (go_of t)) t outcome.TheVariants.Step (holds_after w (go_of t) h))
+goes_for (suc n) w t last h = by_outcome (step_outcome w (go_of t)) refl (goes_for n (after w (go_of t)) t outcome.TheVariants.Step (holds_after w (go_of t) h))
   where
-    by_outcome : (o : Outcome) → answered w (go_of t) ≡ o → GoesFor n (after w (go_of t)) t outcome.TheVariants.Step (solo n (after w (go_of t)) t outcome.TheVariants.Step).outcome (solo n (after w (go_of t)) t outcome.TheVariants.Step).state
+    by_outcome : (o : Outcome) → step_outcome w (go_of t) ≡ o → GoesFor n (after w (go_of t)) t outcome.TheVariants.Step (solo n (after w (go_of t)) t outcome.TheVariants.Step).outcome (solo n (after w (go_of t)) t outcome.TheVariants.Step).state
         → GoesFor (suc n) w t last (alone_after o w (after w (go_of t)) last (solo n (after w (go_of t)) t outcome.TheVariants.Step)).outcome (alone_after o w (after w (go_of t)) last (solo n (after w (go_of t)) t outcome.TheVariants.Step)).state
     by_outcome outcome.TheVariants.NotNow e more = record { told = []; few = omega arith; run = refl; goes_on = tt; result_is = refl }
     by_outcome outcome.TheVariants.Step e more = record {

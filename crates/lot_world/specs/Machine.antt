@@ -119,8 +119,8 @@ with_word w l word owners = record w {
 }
 
 -- an operation on a word, by which the thread may get the lock or give it up
-abbrev pub operated : State → ℕ → Place → ℕ → Op → State
-operated w t p l op = with_word w l (apply op (word_at w l)) (owners_after p t (word_at w l) (owners_at w l))
+abbrev pub state_after_operation : State → ℕ → Place → ℕ → Op → State
+state_after_operation w t p l op = with_word w l (apply op (word_at w l)) (owners_after p t (word_at w l) (owners_at w l))
 
 abbrev pub is_free : State → ℕ → Bool
 is_free w key = is_none (section_at w key)
@@ -130,37 +130,37 @@ are_free w (keys.TheVariants.One key) = is_free w key
 are_free w (keys.TheVariants.Two first second) = is_free w first && is_free w second
 
 -- somebody is inside the sections now, or nobody
-abbrev pub filled_with : State → Keys → Option ℕ → State
-filled_with w (keys.TheVariants.One key) who = record w { sections = slice_set w.sections key who }
-filled_with w (keys.TheVariants.Two first second) who = record w { sections = slice_set (slice_set w.sections first who) second who }
+abbrev pub state_with_sections : State → Keys → Option ℕ → State
+state_with_sections w (keys.TheVariants.One key) who = record w { sections = slice_set w.sections key who }
+state_with_sections w (keys.TheVariants.Two first second) who = record w { sections = slice_set (slice_set w.sections first who) second who }
 
 -- a thread leaves where it stands, and then stands behind the last under a key
-abbrev pub appended : List (List Waiter) → ℕ → ℕ → Want → List (List Waiter)
-appended queues key t want =
+abbrev pub queues_with_last : List (List Waiter) → ℕ → ℕ → Want → List (List Waiter)
+queues_with_last queues key t want =
     let others = map (without t) queues in
     slice_set others key (slice_index_or others key [] ++ waiter key t want ∷ [])
 
 -- the first under a key goes
-abbrev pub first_taken : List (List Waiter) → ℕ → List (List Waiter)
-first_taken queues key = slice_set queues key (drop 1 (slice_index_or queues key []))
+abbrev pub queues_without_first : List (List Waiter) → ℕ → List (List Waiter)
+queues_without_first queues key = slice_set queues key (drop 1 (slice_index_or queues key []))
 
 -- a thread leaves where it stands
-abbrev pub removed : List (List Waiter) → ℕ → List (List Waiter)
-removed queues t = map (without t) queues
+abbrev pub queues_without : List (List Waiter) → ℕ → List (List Waiter)
+queues_without queues t = map (without t) queues
 
-abbrev pub parked : State → ℕ → ℕ → ℕ → Check → Want → State
-parked w t l key check want = if holds check (word_at w l) then record w { queues = appended w.queues key t want } else w
+abbrev pub state_after_park : State → ℕ → ℕ → ℕ → Check → Want → State
+state_after_park w t l key check want = if holds check (word_at w l) then record w { queues = queues_with_last w.queues key t want } else w
 
 -- something happens to a thread asleep
-abbrev pub befallen : State → ℕ → Reply → State
-befallen w t reply = put w t (next_place (place_at w t) reply)
+abbrev pub state_after_reply : State → ℕ → Reply → State
+state_after_reply w t reply = put w t (next_place (place_at w t) reply)
 
 -- whom t has in hand is told something, and nobody else
-abbrev pub told_by : ℕ → Reply → Place → Place
-told_by t reply p = if is_thread t (taker p) then next_place p reply else p
+abbrev pub place_after_telling : ℕ → Reply → Place → Place
+place_after_telling t reply p = if is_thread t (taker p) then next_place p reply else p
 
-abbrev pub all_told : State → ℕ → Reply → State
-all_told w t reply = record w { places = map (told_by t reply) w.places }
+abbrev pub state_after_telling : State → ℕ → Reply → State
+state_after_telling w t reply = record w { places = map (place_after_telling t reply) w.places }
 
 -- the first thread in the hand of t, where the first place is that of u
 abbrev pub heir_from : ℕ → ℕ → List Place → Option ℕ
@@ -168,22 +168,22 @@ heir_from t u [] = None
 heir_from t u (p ∷ ps) = if is_thread t (taker p) then Some u else heir_from t (suc u) ps
 
 -- the operation with which t hands the lock over: the one in its hand owns then
-abbrev pub given : State → ℕ → Place → ℕ → Op → State
-given w t p l op = with_word w l (apply op (word_at w l)) (with_exclusive (owners_after p t (word_at w l) (owners_at w l)) (heir_from t 0 w.places))
+abbrev pub state_after_hand_over : State → ℕ → Place → ℕ → Op → State
+state_after_hand_over w t p l op = with_word w l (apply op (word_at w l)) (with_exclusive (owners_after p t (word_at w l) (owners_at w l)) (heir_from t 0 w.places))
 
-abbrev pub taken_by : State → ℕ → Option ℕ → State
-taken_by w t None = w
-taken_by w t (Some u) = befallen w u (TakenBy t)
+abbrev pub state_after_taking : State → ℕ → Option ℕ → State
+state_after_taking w t None = w
+state_after_taking w t (Some u) = state_after_reply w u (TakenBy t)
 
-abbrev pub took : State → ℕ → ℕ → State
-took w t key = taken_by (record w { queues = first_taken w.queues key }) t (first_of (queue_at w key))
+abbrev pub state_after_take : State → ℕ → ℕ → State
+state_after_take w t key = state_after_taking (record w { queues = queues_without_first w.queues key }) t (first_of (queue_at w key))
 
-abbrev pub awakened : State → ℕ → Wakes → State
-awakened w t wakes.TheVariants.Nobody = w
-awakened w t (wakes.TheVariants.All note) = all_told w t (Woken note)
+abbrev pub state_after_wake : State → ℕ → Wakes → State
+state_after_wake w t wakes.TheVariants.Nobody = w
+state_after_wake w t (wakes.TheVariants.All note) = state_after_telling w t (Woken note)
 
-abbrev pub left : State → ℕ → Keys → Wakes → State
-left w t keys wakes = awakened (filled_with w keys None) t wakes
+abbrev pub state_after_leave : State → ℕ → Keys → Wakes → State
+state_after_leave w t keys wakes = state_after_wake (state_with_sections w keys None) t wakes
 
 -- whether an act can be done now
 abbrev pub can_do : State → Act → Bool
@@ -195,15 +195,15 @@ can_do w (End answer) = false
 can_do w act = true
 
 -- what it does
-abbrev pub performed : State → ℕ → Place → Act → State
-performed w t p (Word l op) = operated w t p l op
-performed w t p (HandOver l op) = all_told (given w t p l op) t (HandedBy t)
-performed w t p (Enter keys) = filled_with w keys (Some t)
-performed w t p (Park l key check wanted) = parked w t l key check wanted
-performed w t p (TakeFirst key) = took w t key
-performed w t p (Remove key) = record w { queues = removed w.queues t }
-performed w t p (Leave keys wakes) = left w t keys wakes
-performed w t p act = w
+abbrev pub state_after_act : State → ℕ → Place → Act → State
+state_after_act w t p (Word l op) = state_after_operation w t p l op
+state_after_act w t p (HandOver l op) = state_after_telling (state_after_hand_over w t p l op) t (HandedBy t)
+state_after_act w t p (Enter keys) = state_with_sections w keys (Some t)
+state_after_act w t p (Park l key check wanted) = state_after_park w t l key check wanted
+state_after_act w t p (TakeFirst key) = state_after_take w t key
+state_after_act w t p (Remove key) = record w { queues = queues_without w.queues t }
+state_after_act w t p (Leave keys wakes) = state_after_leave w t keys wakes
+state_after_act w t p act = w
 
 -- and what the thread is told
 abbrev pub reply_to : State → ℕ → Act → Reply
@@ -223,8 +223,8 @@ abbrev pub go_reply : State → ℕ → Reply
 go_reply w t = reply_to w t (act_of (place_at w t))
 
 -- a thread goes on
-abbrev pub gone : State → ℕ → State
-gone w t = put (performed w t (place_at w t) (act_of (place_at w t))) t (next_place (place_at w t) (go_reply w t))
+abbrev pub state_after_go : State → ℕ → State
+state_after_go w t = put (state_after_act w t (place_at w t) (act_of (place_at w t))) t (next_place (place_at w t) (go_reply w t))
 
 abbrev pub go_outcome : State → ℕ → Outcome
 go_outcome w t = outcome_of (next_act (place_at w t) (go_reply w t))
@@ -236,18 +236,18 @@ is_open_to w t call = nat_lt (lock_in call) (length w.locks) && (has_call (kind_
 abbrev pub can_begin : State → ℕ → Call → Bool
 can_begin w t call = is_idle (place_at w t) && is_open_to w t call
 
-abbrev pub begun : State → ℕ → Call → State
-begun w t call = put w t (first_place (kind_at w (lock_in call)) call)
+abbrev pub state_after_begin : State → ℕ → Call → State
+state_after_begin w t call = put w t (first_place (kind_at w (lock_in call)) call)
 
 abbrev pub can_spin : State → ℕ → Bool
 can_spin w t = is_there (spin_lock (place_at w t))
 
-abbrev pub spun_on : State → ℕ → Option ℕ → State
-spun_on w t None = w
-spun_on w t (Some l) = put w t (next_place (place_at w t) (Spun (word_at w l)))
+abbrev pub state_after_spin_on : State → ℕ → Option ℕ → State
+state_after_spin_on w t None = w
+state_after_spin_on w t (Some l) = put w t (next_place (place_at w t) (Spun (word_at w l)))
 
-abbrev pub spun : State → ℕ → State
-spun w t = spun_on w t (spin_lock (place_at w t))
+abbrev pub state_after_spin : State → ℕ → State
+state_after_spin w t = state_after_spin_on w t (spin_lock (place_at w t))
 
 abbrev pub is_free_under : State → Option ℕ → Bool
 is_free_under w None = false
@@ -258,15 +258,15 @@ abbrev pub can_be_late : State → ℕ → Bool
 can_be_late w t = is_free_under w (late_key (place_at w t))
 
 -- it enters that section
-abbrev pub late_under : State → ℕ → ℕ → State
-late_under w t key = befallen (filled_with w (keys.TheVariants.One key) (Some t)) t Late
+abbrev pub state_after_late_under : State → ℕ → ℕ → State
+state_after_late_under w t key = state_after_reply (state_with_sections w (keys.TheVariants.One key) (Some t)) t Late
 
-abbrev pub late_on : State → ℕ → Option ℕ → State
-late_on w t None = w
-late_on w t (Some key) = late_under w t key
+abbrev pub state_after_late_on : State → ℕ → Option ℕ → State
+state_after_late_on w t None = w
+state_after_late_on w t (Some key) = state_after_late_under w t key
 
-abbrev pub lated : State → ℕ → State
-lated w t = late_on w t (late_key (place_at w t))
+abbrev pub state_after_late : State → ℕ → State
+state_after_late w t = state_after_late_on w t (late_key (place_at w t))
 
 -- whether a turn is possible for a thread that is there
 abbrev pub can_turn : State → ℕ → Turn → Bool
@@ -277,12 +277,12 @@ can_turn w t turn.TheVariants.Late = can_be_late w t
 can_turn w t turn.TheVariants.Ok = false
 can_turn w t turn.TheVariants.Err = false
 
-abbrev pub turned : State → ℕ → Turn → State
-turned w t (turn.TheVariants.Begin call) = begun w t call
-turned w t turn.TheVariants.Go = gone w t
-turned w t turn.TheVariants.Spin = spun w t
-turned w t turn.TheVariants.Late = lated w t
-turned w t _ = w
+abbrev pub state_after_turn : State → ℕ → Turn → State
+state_after_turn w t (turn.TheVariants.Begin call) = state_after_begin w t call
+state_after_turn w t turn.TheVariants.Go = state_after_go w t
+state_after_turn w t turn.TheVariants.Spin = state_after_spin w t
+state_after_turn w t turn.TheVariants.Late = state_after_late w t
+state_after_turn w t _ = w
 
 abbrev pub turn_outcome : State → ℕ → Turn → Outcome
 turn_outcome w t turn.TheVariants.Go = go_outcome w t
@@ -295,20 +295,20 @@ is_possible w s = nat_lt s.thread (length w.places) && can_turn w s.thread s.tur
 
 -- the state after a step; one that isn't possible changes nothing
 abbrev pub after : State → Step → State
-after w s = if is_possible w s then turned w s.thread s.turn else w
+after w s = if is_possible w s then state_after_turn w s.thread s.turn else w
 
 -- what a step answers
-abbrev pub answered : State → Step → Outcome
-answered w s = if is_possible w s then turn_outcome w s.thread s.turn else outcome.TheVariants.NotNow
+abbrev pub step_outcome : State → Step → Outcome
+step_outcome w s = if is_possible w s then turn_outcome w s.thread s.turn else outcome.TheVariants.NotNow
 
 -- the state after steps one after another, and what they answer
 abbrev pub after_all : State → List Step → State
 after_all w [] = w
 after_all w (s ∷ ss) = after_all (after w s) ss
 
-abbrev pub answered_all : State → List Step → List Outcome
-answered_all w [] = []
-answered_all w (s ∷ ss) = answered w s ∷ answered_all (after w s) ss
+abbrev pub step_outcomes : State → List Step → List Outcome
+step_outcomes w [] = []
+step_outcomes w (s ∷ ss) = step_outcome w s ∷ step_outcomes (after w s) ss
 
 -- ---------------------------------------------------------------- solo runs
 
@@ -329,4 +329,4 @@ alone_after rests w v last more = record { state = v; outcome = rests }
 -- at most n steps of a thread alone, until its call ends, sleeps or is in its closure, or until none is possible
 unfoldable pub solo : ℕ → State → ℕ → Outcome → Alone
 solo zero w t last = record { state = w; outcome = last }
-solo (suc n) w t last = alone_after (answered w (go_of t)) w (after w (go_of t)) last (solo n (after w (go_of t)) t outcome.TheVariants.Step)
+solo (suc n) w t last = alone_after (step_outcome w (go_of t)) w (after w (go_of t)) last (solo n (after w (go_of t)) t outcome.TheVariants.Step)

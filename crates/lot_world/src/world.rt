@@ -3,7 +3,7 @@ ghost use Rattle.std.specs.Prelude.{◌≡◌, ◌<◌, ◌≤◌, ◌++◌, ◌
 ghost use Rattle.lot_calls.specs.Kinds.{fits};
 ghost use Rattle.lot_calls.specs.Calls.{lock_in};
 ghost use Rattle.lot_steps.specs.Steps.{first_place};
-ghost use Rattle.lot_world.specs.Machine.{opening, place_at, word_at, kind_at, queue_at, after, answered, after_all, answered_all, solo};
+ghost use Rattle.lot_world.specs.Machine.{opening, place_at, word_at, kind_at, queue_at, after, step_outcome, after_all, step_outcomes, solo};
 ghost use Rattle.lot_world.specs.Fits.{SameSize};
 ghost use Rattle.abstract_locks.specs.Runs.{IsOpening, IsStep, IsRun, purpose_at};
 ghost use Rattle.lot_world.specs.Refinement.{locks_of, ChangesOneThing};
@@ -74,7 +74,7 @@ impl<Q: Queues + Drop> World<Q> {
     /// One step of one thread. One that isn't possible answers `NotNow` and changes nothing.
     pub fn step(&mut self, step: Step) -> Outcome
         ensures state { self.new ≡ after self.old step }
-        ensures outcome { result ≡ answered self.old step }
+        ensures outcome { result ≡ step_outcome self.old step }
 
         // The step is one of the abstract locks: one case of one lock, or nothing, and its answer is true.
         ensures refines { IsStep (locks_of self.old) step result (locks_of self.new) }
@@ -154,10 +154,10 @@ impl<Q: Queues + Drop> World<Q> {
         ensures stopped_run { IfErr result (λ stopped. Tells outcomes.old.items outcomes.new.items
             (λ told. IsWorldRun self.old (take stopped.taken steps.now) told self.new)) }
         ensures state { OnOk result (self.new ≡ after_all self.old steps.now) }
-        ensures outcomes { OnOk result (outcomes.new.items ≡ outcomes.old.items ++ answered_all self.old steps.now) }
+        ensures outcomes { OnOk result (outcomes.new.items ≡ outcomes.old.items ++ step_outcomes self.old steps.now) }
         ensures taken { IfErr result (λ stopped. stopped.taken < length steps.now) }
         ensures stopped { IfErr result (λ stopped. self.new ≡ after_all self.old (take stopped.taken steps.now)) }
-        ensures stopped_outcomes { IfErr result (λ stopped. outcomes.new.items ≡ outcomes.old.items ++ answered_all self.old (take stopped.taken steps.now)) }
+        ensures stopped_outcomes { IfErr result (λ stopped. outcomes.new.items ≡ outcomes.old.items ++ step_outcomes self.old (take stopped.taken steps.now)) }
     {
         // The proof reads the world's invariant here.
         let _ = &self.machine;

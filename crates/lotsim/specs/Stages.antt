@@ -10,7 +10,7 @@ use Rattle.lot_calls.specs.declared.calls.Step.{Step}
 use Rattle.lot_calls.specs.declared.outcomes.Outcome.{Outcome}
 use Rattle.lot_calls.specs.declared.outcomes.Outcome as outcome
 use Rattle.lot_calls.specs.Kinds.{fits}
-use Rattle.lot_world.specs.Machine.{State, opening, is_possible, after, answered, solo}
+use Rattle.lot_world.specs.Machine.{State, opening, is_possible, after, step_outcome, solo}
 use Rattle.lot_text.specs.declared.grammar.Command.{Command}
 use Rattle.lot_text.specs.declared.grammar.Command as command
 use Rattle.lot_text.specs.declared.grammar.NamedTurn.{NamedTurn}
@@ -45,7 +45,7 @@ action_of names (named.TheVariants.Do call name) = option_map actions.TheVariant
 
 -- where a step leads, and its outcome
 abbrev pub stepped : State → ℕ → Turn → State × Outcome
-stepped w t turn = let s : Step = record { thread = t; turn = turn } in (after w s, answered w s)
+stepped w t turn = let s : Step = record { thread = t; turn = turn } in (after w s, step_outcome w s)
 
 -- at most 64 steps of a thread alone
 abbrev pub went_alone : State → ℕ → State × Outcome

@@ -1,5 +1,5 @@
 use Rattle.std.proofs.Common.{◌≡◌, ◌++◌, take}
-use Rattle.lot_world.specs.Machine.{after_all, answered_all}
+use Rattle.lot_world.specs.Machine.{after_all, step_outcomes}
 use Rattle.lot_world.specs.Fits.{SameSize}
 use Rattle.lot_world.proofs.world.World.run.Given as goal
 
@@ -7,5 +7,5 @@ abbrev pub invariant-loop-taken : goal.invariant-loop-taken
 invariant-loop-taken g l = record {
   size : SameSize l.fn.self l.self;
   state : l.self ≡ after_all l.fn.self (take l.taken l.steps);
-  outcomes : l.outcomes.items ≡ l.fn.outcomes.items ++ answered_all l.fn.self (take l.taken l.steps);
+  outcomes : l.outcomes.items ≡ l.fn.outcomes.items ++ step_outcomes l.fn.self (take l.taken l.steps);
 }
