@@ -1,5 +1,6 @@
-//! Threads that meet at one mutex.
+//! Threads that meet at one mutex, and the lot that they run on.
 mod fair;
+mod lot;
 mod mutexes;
 mod raw_timed;
 mod timed;

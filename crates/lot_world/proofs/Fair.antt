@@ -25,12 +25,12 @@ use Rattle.lot_steps.specs.declared.mutex.hand_off.HandOffAt.{HandOffAt}
 use Rattle.lot_steps.specs.declared.mutex.hand_off.HandOffAt.TheVariants as hand_off
 use Rattle.lot_steps.specs.declared.places.Place.{Place}
 use Rattle.lot_steps.specs.declared.places.Place.TheVariants.{Idle, Mutex}
-use Rattle.lot_steps.specs.MutexSteps.{is_locked, is_parked, lock_act, hand_off_act, hand_off_word}
+use Rattle.lot_steps.specs.MutexSteps.{is_locked, is_parked, lock_act, hand_off_act}
 use Rattle.lot_steps.specs.Steps.{act_of, spin_lock, late_key}
 use Rattle.lot_world.specs.Machine.{State, unlocked, place_at, word_at, owners_at, kind_at, queue_at, operated, appended, first_taken, performed, taken_by, spun_on, late_on, turned, is_possible, after, answered}
 use Rattle.lot_world.specs.Fits.{IsShaped, PlaceFits}
 use Rattle.lot_world.specs.MutexPromises.{IsMutexWord}
-use Rattle.lot_world.specs.MutexDeeds.{hand, mutex_station}
+use Rattle.lot_world.specs.MutexDeeds.{mutex_station}
 use Rattle.lot_world.specs.SitesOf.{IsSteady, CallsMutex, is_mutex}
 use Rattle.abstract_locks.specs.Sites.{Main}
 use Rattle.lot_world.proofs.MutexTable.{own_doing}
@@ -41,7 +41,7 @@ use Rattle.lot_world.specs.Refinement.{lock_state, locks_of, call_state, owner_a
 use Rattle.lot_world.specs.Fair.{IsFairRelease, OwnsOn, HandsOver, LetsGo, IsFair}
 use Rattle.lot_world.proofs.ExclusiveOwners.{owner_after, exclusive-owners, by_code}
 use Rattle.lot_world.proofs.Glue.{IsTakenAt, is_taken, own_stance, heir_one}
-use Rattle.lot_world.proofs.AtPlaces.{coded as words_coded, has_nobody, in_no_hand}
+use Rattle.lot_world.proofs.AtPlaces.{coded as words_coded, in_no_hand}
 use Rattle.lot_world.proofs.TurnsKept.{after_steady}
 use Rattle.lot_world.proofs.Glue.{same}
 use Rattle.lot_world.proofs.MutexTable.{mutex}

@@ -34,7 +34,7 @@ use Rattle.lot_world.specs.Machine.{State, place_at, word_at, owners_at, queue_a
 use Rattle.lot_world.specs.Fits.{IsShaped, PlaceFits}
 use Rattle.lot_world.specs.Refinement.{taken_at}
 use Rattle.abstract_locks.specs.Picks.{queued_of}
-use Rattle.lot_world.specs.MutexDeeds.{Station, hand, nowhere, mutex_doing, mutex_station, station, station_at, acts, deeds, mutex_deeds, queued}
+use Rattle.lot_world.specs.MutexDeeds.{Station, nowhere, mutex_doing, mutex_station, station, station_at, acts, deeds, mutex_deeds, queued}
 use Rattle.lot_world.specs.SitesOf.{IsSteady, Goes, stood_in}
 use Rattle.lot_world.proofs.Shape.{main_line_there, main_key_there}
 use Rattle.lot_world.proofs.Glue.{base_at, same, differ, IsOf, own_stance, inside_is, doing_of, doing_here}

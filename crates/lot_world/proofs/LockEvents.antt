@@ -298,12 +298,12 @@ pub untaken_by : (s : LockState) (t u : ℕ) → ((x : Want) → IsTaken s t u x
 untaken_by s t u none = by_hand (s.taken u) none
   where
     by_hand : (o : Option LockTaken) → ((x : Want) → o ≡ Some (record { by = t; want = x }) → ⊥) → is_taken_by t o ≡ false
-    by_hand None free = refl
-    by_hand (Some h) free = either (h.by == t) refl
+    by_hand None other = refl
+    by_hand (Some h) other = either (h.by == t) refl
       where
         either : (b : Bool) → (h.by == t) ≡ b → b ≡ false
         either false e = refl
-        either true e = absurd (free h.want (let f : h.by ≡ t = eqb-true h.by t e in λ i. Some (record { by = f i; want = h.want })))
+        either true e = absurd (other h.want (let f : h.by ≡ t = eqb-true h.by t e in λ i. Some (record { by = f i; want = h.want })))
 
 -- who has nobody in hand lets nobody go
 pub lets_nobody_go : (s : LockState) (t : ℕ) → HasTakenNobody s t → record s { taken = let_go t s.taken } ≡ s

@@ -38,10 +38,9 @@ use Rattle.lot_steps.specs.declared.mutex.hand_off.HandOffAt.TheVariants as hand
 use Rattle.lot_steps.specs.declared.places.Place.{Place}
 use Rattle.lot_steps.specs.declared.places.Place.TheVariants.{Idle, Mutex}
 use Rattle.lot_steps.specs.Acts.{outcome_of}
-use Rattle.lot_steps.specs.MutexSteps.{is_thread, mutex_first, mutex_right, is_locked, is_parked, is_timed, with_exclusive, entered, looked, in_lock, in_unlock, in_hand_off, lock_act, unlock_act, hand_off_word, hand_off_act}
-use Rattle.lot_steps.specs.Steps.{act_of, next_place, next_act, mutex_goes, mutex_does, owners_after, spin_lock, late_key, is_idle, has_right, first_place}
-use Rattle.lot_world.specs.Machine.{State, unlocked, place_at, word_at, owners_at, kind_at, queue_at, section_at, put, performed, go_reply, operated, given, all_told, appended, removed, first_taken, taken_by, befallen, filled_with, reply_to, can_do, is_there, spun_on, late_on, is_free_under, begun, can_begin, is_open_to, can_turn, turned, turn_outcome, is_possible, after, answered}
-use Rattle.lot_world.specs.declared.machine.Lock.{Lock as WorldLock}
+use Rattle.lot_steps.specs.MutexSteps.{is_thread, mutex_first, mutex_right, is_locked, is_parked, lock_act, unlock_act, hand_off_word, hand_off_act}
+use Rattle.lot_steps.specs.Steps.{act_of, next_place, next_act, spin_lock, late_key, is_idle, has_right, first_place}
+use Rattle.lot_world.specs.Machine.{State, place_at, word_at, owners_at, kind_at, queue_at, section_at, put, performed, go_reply, operated, given, all_told, appended, removed, first_taken, taken_by, befallen, filled_with, reply_to, can_do, is_there, spun_on, late_on, is_free_under, begun, can_begin, is_open_to, can_turn, turned, turn_outcome, is_possible, after, answered}
 use Rattle.lot_world.specs.Fits.{IsShaped, SameSize, PlaceFits, GivesUpTimed}
 use Rattle.lot_world.proofs.Shape.{after_size, both, performed_counts}
 use Rattle.lot_world.proofs.Possible.{may_go, go_possible, may_be_late, late_possible, told_gone, told_step, begins_awake, no_closure, turner_there, gone_sections, spun_sections, late_sections, spun_awake, late_awake}
@@ -50,7 +49,7 @@ use Rattle.abstract_locks.specs.Sites.{Main, In, Clear as Clears}
 use Rattle.abstract_locks.specs.Locks.{put as putting, Rights, rights_of}
 use Rattle.abstract_locks.specs.Runs.{LocksState, CallState, GoesOn, Stays, Does, SectionChanges, MayBegin, MayTurn, HasRight, Turned, IsStep, purpose_at, beginning, is_taken_by, Nothing}
 use Rattle.abstract_locks.specs.Purposes.{purpose_of, mutex_purpose}
-use Rattle.lot_world.specs.MutexDeeds.{Hand, hand, mutex_station, deeds}
+use Rattle.lot_world.specs.MutexDeeds.{hand, mutex_station, deeds}
 use Rattle.lot_world.specs.Refinement.{owner_at, lock_state, taken_at, call_state, locks_of, sleeps}
 use Rattle.lot_world.proofs.KindsKept.{after_kinds, calls_mutex}
 use Rattle.std.specs.Prelude.{replicate}

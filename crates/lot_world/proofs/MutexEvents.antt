@@ -31,7 +31,7 @@ use Rattle.abstract_locks.specs.Sites.{Deed, Main, End, Out, Mark, Does}
 use Rattle.lot_world.specs.Machine.{State, place_at, word_at}
 use Rattle.lot_world.specs.MutexPromises.{IsMutexWord}
 use Rattle.lot_world.specs.Refinement.{owner_at, lock_state, is_bump, entry_purpose, release_purpose, before_release, mutex_call_state, locks_of}
-use Rattle.lot_world.specs.MutexDeeds.{hand, mutex_station, acts, deeds, enters, takes, queued}
+use Rattle.lot_world.specs.MutexDeeds.{mutex_station, acts, deeds, enters, takes, queued}
 use Rattle.lot_world.specs.SitesOf.{IsSteady, rules_at}
 use Rattle.lot_world.proofs.Glue.{heir, same, differ, own_stance}
 use Rattle.lot_world.proofs.MutexTable.{mutex}

@@ -1,5 +1,5 @@
 -- Who owes a wake does so since it saw waiters, or since it entered the section.
-use Rattle.std.proofs.Common.{ℕ, Bool, true, false, Option, Some, None, if◌then◌else◌, ◌==◌, ◌&&◌, not, ◌≡◌, ◌≢◌, ◌+◌, ◌*◌, ◌<◌, ◌⊎◌, ◌↔◌, inl, inr, List, length, drop, set, get_or, refl, sym, ◌∙◌, ap, subst, arith, get_or-set_other, get_or-set_same, nat_lt, map}
+use Rattle.std.proofs.Common.{ℕ, Bool, true, false, Option, Some, None, if◌then◌else◌, ◌==◌, ◌&&◌, not, ◌≡◌, ◌≢◌, ◌*◌, ◌<◌, ◌⊎◌, ◌↔◌, inl, inr, List, length, drop, set, get_or, refl, sym, ◌∙◌, ap, subst, get_or-set_other, get_or-set_same, nat_lt, map}
 use Rattle.std.proofs.Math.ListN.{get_or-map}
 use Rattle.std.proofs.lemmas.Bool.{cases_eq, cases_lt, eqb-true, ltb-true}
 use Rattle.std.proofs.lemmas.List.{set_past}
@@ -44,7 +44,7 @@ use Rattle.lot_calls.specs.declared.kinds.Kind.{Kind}
 use Rattle.lot_calls.specs.Kinds.{is_fair}
 use Rattle.lot_calls.specs.Calls.{lock_in}
 use Rattle.lot_steps.specs.Steps.{act_of, owes_on, next_act, next_place, mutex_goes, mutex_does, first_place, is_idle, spin_lock, late_key, taker}
-use Rattle.lot_world.specs.Machine.{State, place_at, section_at, word_at, first_taken, taken_by, awakened, filled_with, queue_at, performed, gone, go_reply, go_outcome, is_there, is_free_under, is_open_to, can_begin, begun, can_turn, turn_outcome, kind_at, reply_to, put, spun_on, late_on, turned, is_possible, after, answered, told_by}
+use Rattle.lot_world.specs.Machine.{State, place_at, word_at, first_taken, taken_by, awakened, filled_with, queue_at, performed, gone, go_reply, go_outcome, is_there, is_free_under, is_open_to, can_begin, begun, can_turn, turn_outcome, kind_at, reply_to, put, spun_on, late_on, turned, is_possible, after, answered, told_by}
 use Rattle.lot_world.specs.Refinement.{owner_at, call_state, locks_of}
 use Rattle.abstract_locks.specs.Locks.{Rights}
 use Rattle.abstract_locks.specs.Purposes.{IsReleasing}

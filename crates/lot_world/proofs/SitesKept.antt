@@ -37,7 +37,7 @@ use Rattle.abstract_locks.specs.Picks.{queued_of}
 use Rattle.lot_world.specs.MutexDeeds.{Station, hand, nowhere, mutex_doing, mutex_deeds, mutex_station, station, station_at, doing_on, acts, owner, queued}
 use Rattle.lot_world.specs.MutexDeeds as deeds
 use Rattle.lot_world.specs.SitesOf.{site_of, rules_at, AllNeeded, IsSteady, Follows, Goes, CallsMutex, carried_at, hand_at, after_acts}
-use Rattle.lot_world.proofs.Glue.{Base, base_at, seen_by, seen, site_seen, goes_from, put_places, put_here, put_other, IsOf, next_of, doing_elsewhere, taken_elsewhere, inside_is, own_stance, LetGo, leaving, taking, told_one, heir_one, lets_taken, lets_handed, lets_nobody, IsTakenAt, is_taken, IsHandedAt, is_handed, untaken, handing, hands_acts}
+use Rattle.lot_world.proofs.Glue.{base_at, seen_by, seen, site_seen, goes_from, put_places, put_here, put_other, IsOf, next_of, doing_elsewhere, taken_elsewhere, inside_is, own_stance, LetGo, leaving, taking, told_one, heir_one, lets_taken, lets_handed, lets_nobody, IsTakenAt, is_taken, IsHandedAt, is_handed, untaken, handing, hands_acts}
 use Rattle.lot_world.proofs.MutexTable.{mutex, IsCode, OnWord, Steps, same_filled, own_doing, goes_in as goes_into}
 use Rattle.lot_world.proofs.KindsKept.{operated_kinds, operated_filled, given_kinds, given_filled}
 use Rattle.lot_world.specs.SitesOf.{is_mutex}

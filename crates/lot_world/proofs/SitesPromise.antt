@@ -1,5 +1,5 @@
 -- What is promised of every state follows from its locks' being sites.
-use Rattle.std.proofs.Common.{ℕ, Bool, true, false, Option, Some, None, if◌then◌else◌, not, ◌==◌, ◌≡◌, ◌≢◌, ◌+◌, ◌*◌, ◌≤◌, ◌⊎◌, List, [], ◌∷◌, inl, inr, refl, sym, ◌∙◌, ap, subst, arith}
+use Rattle.std.proofs.Common.{ℕ, Bool, true, false, Option, Some, None, if◌then◌else◌, not, ◌==◌, ◌≡◌, ◌≢◌, ◌+◌, ◌*◌, ◌≤◌, List, [], ◌∷◌, inl, inr, refl, sym, ◌∙◌, ap, subst, arith}
 use Rattle.std.proofs.lemmas.Bool.{eqb-true}
 use Rattle.lot_base.specs.declared.wants.Want.TheVariants.{Exclusive, Shared}
 use Rattle.lot_steps.specs.declared.places.Place.{Place}
@@ -21,17 +21,17 @@ use Rattle.lot_base.specs.Lines as Lines
 use Rattle.std.proofs.lemmas.Bool.Decides.{nat_tests}
 use Rattle.lot_steps.specs.MutexSteps.{is_parked, is_locked, decided}
 use Rattle.lot_steps.specs.MutexProfiles.{mutex_owes}
-use Rattle.lot_steps.specs.Steps.{act_of, owes_on}
+use Rattle.lot_steps.specs.Steps.{act_of}
 use Rattle.abstract_locks.specs.Locks.{Queued, times, standing, one_if_some}
 use Rattle.abstract_locks.specs.Locks as locks
 use Rattle.abstract_locks.specs.Sites.{Has, Main, Second, IsSite, IsDebtor, counts_some, has_readers, idle}
 use Rattle.lot_world.specs.Machine.{State, place_at, word_at, owners_at, shares_at, kind_at, queue_at}
-use Rattle.abstract_locks.specs.Purposes.{Releases, rules_of}
+use Rattle.abstract_locks.specs.Purposes.{rules_of}
 use Rattle.abstract_locks.specs.Codes.{bit, code, parked_in}
 use Rattle.std.specs.Prelude.{sum}
 use Rattle.lot_calls.specs.declared.kinds.Kind.{Kind}
 use Rattle.lot_calls.specs.declared.kinds.Kind as kind
-use Rattle.lot_world.specs.Refinement.{lock_state, locks_of, taken_at}
+use Rattle.lot_world.specs.Refinement.{lock_state, taken_at}
 use Rattle.lot_world.specs.Promises.{WaitsFor, want_of, IsDebtorOf, IsLookedAfter, IsOpenNow}
 use Rattle.lot_world.specs.MutexPromises.{IsMutexWord}
 use Rattle.lot_steps.specs.declared.mutex.lock.Entry.TheVariants as entry

@@ -459,7 +459,7 @@ module _ (w : State) (t : ℕ) (shape : IsShaped w) (steady : IsSteady w) (there
             let stood : 1 ≤ times t (queue_at w (2 * l)) = first_times t (queue_at w (2 * l)) first in let none : times t (queue_at w (2 * l)) ≡ 0 = absent w steady t awake l in omega arith
 
     bump_alone : LockEnds t l entries.Bump (first_of (queue_at w (2 * l))) (drop 1 (queue_at w (2 * l))) v x → EndsAlone (locks_of w) t (Some (Bumps l Exclusive)) x (locks_of v)
-    bump_alone h mutex = by_queue (queue_at w (2 * l)) h
+    bump_alone h of_mutex = by_queue (queue_at w (2 * l)) h
       where
         by_queue : (q : List Waiter) → LockEnds t l entries.Bump (first_of q) (drop 1 q) v x → BumpsAlone t l (map queued_of q) x (lock_state v l)
         by_queue [] g = g

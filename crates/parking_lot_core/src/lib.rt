@@ -16,6 +16,3 @@ pub use lot_words::{Owner, Right, Word, WordKind};
 pub use sections::Section;
 pub use sleep::Slept;
 pub use tokens::{Did, Record, Ticket, Token};
-
-#[cfg(test)]
-mod tests;

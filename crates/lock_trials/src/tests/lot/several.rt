@@ -1,0 +1,304 @@
+//! Several threads that are taken together.
+ghost use Rattle.std.specs.Prelude.{◌≡◌, ◌<◌, [], All, IfOk, IfSome};
+ghost use Rattle.std.specs.Arc.{arc_value};
+ghost use Rattle.lot_words.specs.RightsOf.{IsRightOf};
+ghost use Rattle.parking_lot_core.specs.Sections.{StaysIn, rightless_in};
+ghost use Rattle.parking_lot_core.specs.Tokens.{IsNewTicketOf, IsTicketOf, IsTokenOf, Stays};
+
+use super::mutexes::try_lock;
+use parking_lot_core::{
+    Fault, Key, Keys, Note, ParkingLot, Right, Section, Slept, TickClock, Ticket, Token, Want,
+    Word, WordKind,
+};
+use std::alloc::Global;
+use std::sync::{Arc, Wait};
+use std::test::Fail;
+use std::thread::{Threads, join, yield_now};
+
+const KEY: Key = 0;
+
+// The right of a mutex that is drawn for it. The mutex is pushed to those that were given.
+fn some_right(lot: &ParkingLot, token: &mut Token, given: &mut Vec<Word>) -> Option<Right>
+    requires { IsTokenOf lot.now token.old }
+    ensures own { Stays lot.now token.old token.new }
+    ensures right { IfSome result (IsRightOf lot.now.words) }
+{
+    let Ok(word) = lot.new_word(token, WordKind::Mutex) else {
+        return None;
+    };
+    if given.push(word).is_err() {
+        return None;
+    }
+    try_lock(lot, token, word)
+}
+
+fn give_each<R: Wait>(
+    rt: &R,
+    lot: &ParkingLot,
+    token: &mut Token,
+    section: &mut Section,
+    given: &mut Vec<Word>,
+)
+    requires { IsTokenOf lot.now token.old × (section.old.lot.now ≡ lot.now) }
+    ensures own { Stays lot.now token.old token.new }
+    ensures given { StaysIn section.old section.new × (rightless_in section.new ≡ []) }
+{
+    for _ in rt.forever() {
+        if section.rightless().is_empty() {
+            return;
+        }
+        if let Some(right) = some_right(lot, token, given) {
+            section.give_next(rt, right);
+        }
+    }
+    unreachable!()
+}
+
+#[derive(Clone, Copy)]
+enum Way {
+    TakeAll,
+    TakePicked,
+    HandOff,
+}
+
+// Three threads line up, and are taken together. It gives the mutexes whose rights they were given, in their order.
+fn take_three<R: Wait>(
+    rt: &R,
+    alloc: Global,
+    lot: &ParkingLot,
+    token: &mut Token,
+    way: Way,
+) -> Vec<Word>
+    requires { IsTokenOf lot.now token.old × (lot.now.records.count ≡ 4) }
+    ensures { Stays lot.now token.old token.new }
+{
+    let mut given = Vec::new(alloc);
+    let mut section = lot.enter(rt, token, Keys::One(KEY));
+    section.append(KEY, 1, Want::Shared);
+    section.append(KEY, 2, Want::Shared);
+    section.append(KEY, 3, Want::Shared);
+    match way {
+        Way::TakeAll => section.take_all(KEY),
+        Way::TakePicked | Way::HandOff => section.take_picked(KEY, None, false),
+    }
+    match way {
+        Way::HandOff => {
+            give_each(rt, lot, token, &mut section, &mut given);
+            section.leave(rt, token, Note::HandOff);
+        }
+        _ => section.leave(rt, token, Note::Normal),
+    }
+    given
+}
+
+// What a thread that was taken is told. It sleeps until it is.
+fn told<R: Wait>(rt: &R, lot: &ParkingLot, ticket: Ticket, word: Word) -> Note
+    requires { IsTicketOf lot.now ticket }
+{
+    let mut token = ticket.enter();
+    let note = match lot.sleep(
+        rt,
+        &mut token,
+        word,
+        Want::Exclusive,
+        None::<(&TickClock, u64)>,
+    ) {
+        Slept::Handed(right) => {
+            right.forget();
+            Note::HandOff
+        }
+        Slept::Woken => Note::Normal,
+        Slept::Late(section, _) => {
+            section.leave(rt, &mut token, Note::Normal);
+            Note::Normal
+        }
+    };
+    drop(token.leave());
+    note
+}
+
+// What each of three is told that are taken together.
+fn notes_of_three<R: Wait>(rt: &R, alloc: Global, way: Way) -> Result<[Note; 3], Fault> {
+    let (lot, seats) = seat_four(alloc)?;
+    let Four {
+        one,
+        two,
+        three,
+        four,
+        word,
+    } = seats;
+    let mut token = four.enter();
+    let given = take_three(rt, alloc, &lot, &mut token, way);
+    drop(token.leave());
+    Ok([
+        told(rt, &lot, three, given.first().copied().unwrap_or(word)),
+        told(rt, &lot, two, given.get(1).copied().unwrap_or(word)),
+        told(rt, &lot, one, given.get(2).copied().unwrap_or(word)),
+    ])
+}
+
+#[test]
+fn each_of_three_gets_its_note(rt: HostRuntime) -> Result<(), Fail> {
+    for (way, note) in [
+        (Way::TakeAll, Note::Normal),
+        (Way::TakePicked, Note::Normal),
+        (Way::HandOff, Note::HandOff),
+    ] {
+        assert_eq!(rt; notes_of_three(&rt, rt.alloc(), way)?, [note, note, note]);
+    }
+    Ok(())
+}
+
+// Lines up and sleeps. 1 where it was woken.
+fn sleep_in_line<R: Wait>(rt: &R, lot: &ParkingLot, ticket: Ticket, word: Word) -> usize
+    requires { IsTicketOf lot.now ticket }
+{
+    let mut token = ticket.enter();
+    let mut section = lot.enter(rt, &mut token, Keys::One(KEY));
+    section.append(KEY, token.number(), Want::Shared);
+    section.leave(rt, &mut token, Note::Normal);
+    let woken = match lot.sleep(
+        rt,
+        &mut token,
+        word,
+        Want::Shared,
+        None::<(&TickClock, u64)>,
+    ) {
+        Slept::Woken => 1,
+        Slept::Handed(right) => {
+            right.forget();
+            0
+        }
+        Slept::Late(section, _) => {
+            section.leave(rt, &mut token, Note::Normal);
+            0
+        }
+    };
+    drop(token.leave());
+    woken
+}
+
+// Takes all once three stand in the line. It answers how many it took.
+fn wake_three<R: Wait>(rt: &R, lot: &ParkingLot, ticket: Ticket) -> usize
+    requires { IsTicketOf lot.now ticket }
+{
+    let mut token = ticket.enter();
+    for _ in rt.forever() {
+        let mut section = lot.enter(rt, &mut token, Keys::One(KEY));
+        let number = section.count(KEY);
+        if number == 3 {
+            section.take_all(KEY);
+            section.leave(rt, &mut token, Note::Normal);
+            drop(token.leave());
+            return number;
+        }
+        section.leave(rt, &mut token, Note::Normal);
+        yield_now();
+    }
+    unreachable!()
+}
+
+fn two_sleep<R: Threads + Wait + Sync>(
+    rt: &R,
+    lot: &ParkingLot,
+    one: Ticket,
+    other: Ticket,
+    word: Word,
+) -> usize
+    requires { IsTicketOf lot.now one × IsTicketOf lot.now other }
+{
+    let (first, second) = join(
+        rt,
+        move || sleep_in_line(rt, lot, one, word),
+        move || sleep_in_line(rt, lot, other, word),
+    );
+    first.saturating_add(second)
+}
+
+fn one_sleeps<R: Threads + Wait + Sync>(
+    rt: &R,
+    lot: &ParkingLot,
+    one: Ticket,
+    other: Ticket,
+    word: Word,
+) -> usize
+    requires { IsTicketOf lot.now one × IsTicketOf lot.now other }
+{
+    let (woken, _) = join(
+        rt,
+        move || sleep_in_line(rt, lot, one, word),
+        move || wake_three(rt, lot, other),
+    );
+    woken
+}
+
+// Four seats of a lot, and a word of it.
+#[derive(Drop)]
+struct Four {
+    one: Ticket,
+    two: Ticket,
+    three: Ticket,
+    four: Ticket,
+    word: Word,
+}
+
+fn pop_pair(lot: &ParkingLot, tickets: &mut Vec<Ticket>) -> Option<(Ticket, Ticket)>
+    requires { All (IsNewTicketOf lot.now) tickets.old.items }
+    ensures pair { IfSome result (λ pair. IsTicketOf lot.now pair.0 × IsTicketOf lot.now pair.1) }
+    ensures others { All (IsNewTicketOf lot.now) tickets.new.items }
+{
+    let one = tickets.pop()?;
+    let other = tickets.pop()?;
+    Some((one, other))
+}
+
+fn seat_four(alloc: Global) -> Result<(Arc<ParkingLot>, Four), Fault>
+    ensures { IfOk result (λ made. IsTicketOf (arc_value made.0) made.1.one × IsTicketOf (arc_value made.0) made.1.two × IsTicketOf (arc_value made.0) made.1.three × IsTicketOf (arc_value made.0) made.1.four × ((arc_value made.0).records.count ≡ 4)) }
+{
+    let (lot, mut tickets) = ParkingLot::new(alloc, 8, 4)?;
+    let Some((one, two)) = pop_pair(&lot, &mut tickets) else {
+        return Err(Fault::NoMemory);
+    };
+    let Some((three, four)) = pop_pair(&lot, &mut tickets) else {
+        return Err(Fault::NoMemory);
+    };
+    let mut token = one.enter();
+    let word = lot.new_word(&mut token, WordKind::RwLock)?;
+    let seats = Four {
+        one: token.leave(),
+        two,
+        three,
+        four,
+        word,
+    };
+    Ok((lot, seats))
+}
+
+fn all_four<R: Threads + Wait + Sync>(rt: &R, lot: &ParkingLot, seats: Four) -> usize
+    requires { IsTicketOf lot.now seats.one × IsTicketOf lot.now seats.two × IsTicketOf lot.now seats.three × IsTicketOf lot.now seats.four }
+{
+    let Four {
+        one,
+        two,
+        three,
+        four,
+        word,
+    } = seats;
+    let (some, others) = join(
+        rt,
+        move || -> usize
+            requires { IsTicketOf lot.now one × IsTicketOf lot.now two }
+        { two_sleep(rt, lot, one, two, word) },
+        move || -> usize
+            requires { IsTicketOf lot.now three × IsTicketOf lot.now four }
+        { one_sleeps(rt, lot, three, four, word) },
+    );
+    some.saturating_add(others)
+}
+
+#[test]
+fn three_sleepers_wake_together(rt: HostRuntime) -> Result<(), Fail> {
+    let (lot, seats) = seat_four(rt.alloc())?;
+    assert_eq!(rt; all_four(&rt, &lot, seats), 3);
+    Ok(())
+}

@@ -1,6 +1,0 @@
-//! Each call once, and threads that meet.
-mod clocks;
-mod mutexes;
-mod several;
-mod single;
-mod threads;
