@@ -169,7 +169,9 @@ heir_from t u (p ∷ ps) = if is_thread t (taker p) then Some u else heir_from t
 
 -- the operation with which t hands the lock over: the one in its hand owns then
 abbrev pub state_after_hand_over : State → ℕ → Place → ℕ → Op → State
-state_after_hand_over w t p l op = with_word w l (apply op (word_at w l)) (with_exclusive (owners_after p t (word_at w l) (owners_at w l)) (heir_from t 0 w.places))
+state_after_hand_over w t p l op =
+    let keeps = owners_after p t (word_at w l) (owners_at w l) in
+    with_word w l (apply op (word_at w l)) (with_exclusive keeps (heir_from t 0 w.places))
 
 abbrev pub state_after_taking : State → ℕ → Option ℕ → State
 state_after_taking w t None = w

@@ -30,8 +30,13 @@ impl Model for RawFairMutex {
 }
 
 impl RawFairMutex {
+    ghost use Rattle.std.specs.Prelude.{◌*◌};
+    ghost use Rattle.parking_lot.specs.Users.{word_of};
+
     /// The key of its queue.
-    pub fn key(&self) -> Key {
+    pub fn key(&self) -> Key
+        ensures { result ≡ 2 * (word_of self.now).number }
+    {
         self.raw.key()
     }
 }
