@@ -211,9 +211,7 @@ pub(crate) fn perform<'a, R: Wait, C: Clock>(
 {
     match act {
         Act::Word { op, .. } => Reply::Value(lot.word(token, word, op)),
-        Act::HandOver { op, .. } => {
-            Reply::Value(hand_over(rt, lot, token, word, section, op))
-        }
+        Act::HandOver { op, .. } => { Reply::Value(hand_over(rt, lot, token, word, section, op)) }
         Act::Enter(keys) => {
             enter(rt, lot, token, section, keys);
             Reply::Done
