@@ -4,9 +4,11 @@
 #![tactic(auto)]
 
 pub mod acts;
+pub mod laws;
 pub mod mutex;
 pub mod owners;
 pub mod places;
+pub mod rwlock;
 #[cfg(test)]
 mod tests;
 
