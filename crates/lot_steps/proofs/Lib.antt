@@ -1,1 +1,2 @@
 pub mod RwLockFit
+pub mod RwLockCodes

@@ -1,5 +1,5 @@
 -- What a thread does in one step, and what it is told.
-use Rattle.std.specs.Prelude.{ℕ, Bool, false, if◌then◌else◌, ◌==◌}
+use Rattle.std.specs.Prelude.{ℕ, Bool, if◌then◌else◌, ◌==◌}
 use Rattle.lot_base.specs.declared.notes.Note.{Note}
 use Rattle.lot_steps.specs.declared.acts.Act.{Act}
 use Rattle.lot_steps.specs.declared.acts.Act.TheVariants.{Sleep, Closure, End}
@@ -12,7 +12,6 @@ use Rattle.lot_calls.specs.declared.outcomes.Outcome as outcome
 
 abbrev pub holds : Check → ℕ → Bool
 holds (WordIs value) word = word == value
-holds check word = false
 
 -- whoever was taken is woken
 abbrev pub wakes_taken : Bool → Note → Wakes

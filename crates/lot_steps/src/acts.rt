@@ -9,18 +9,6 @@ use lot_calls::{Answer, OnceState, Outcome};
 #[derive(Clone, Copy, Debug, PartialEq, Eq)]
 pub enum Check {
     WordIs(u64),
-    Blocked { want: Want, recursive: bool },
-    Readers,
-}
-
-#[derive(Clone, Copy, Debug, PartialEq, Eq)]
-pub enum Whom {
-    First,
-    Picked {
-        start: Option<Want>,
-        recursive: bool,
-    },
-    All,
 }
 
 /// Whom a thread wakes as it leaves its sections.
@@ -57,10 +45,6 @@ pub enum Act {
     },
     /// Takes the first of a queue.
     TakeFirst(Key),
-    Take {
-        key: Key,
-        whom: Whom,
-    },
     /// Leaves the queue in which the thread stands.
     Remove(Key),
     /// Leaves the sections, and wakes.
@@ -125,7 +109,6 @@ impl Check {
     {
         match self {
             Check::WordIs(value) => word == value,
-            _ => false,
         }
     }
 }

@@ -1,7 +1,12 @@
 //! What the steps of a lock do to it.
-ghost use Rattle.lot_steps.specs.RwLockDeeds.{RwLockStepsFollow};
+ghost use Rattle.lot_steps.specs.RwLockDeeds.{RwLockStepsCode, RwLockStepsFollow};
 
 /// Each step on the word of a reader-writer lock may do to the lock what its deeds say, and its next place says what the thread does then.
 pub fn rwlock_steps_follow()
     ensures { RwLockStepsFollow }
+{}
+
+/// And the word that it leaves is the word of the lock behind its deeds.
+pub fn rwlock_steps_code()
+    ensures { RwLockStepsCode }
 {}
