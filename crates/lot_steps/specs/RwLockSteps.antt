@@ -144,7 +144,7 @@ unparked Second = op.TheVariants.And NOT_WRITER_PARKED
 -- the test of the word inside the section
 abbrev pub park_check : Admission → Want → Line → Check
 park_check a x Main = check.TheVariants.Blocked x a.recursive
-park_check a x Second = check.TheVariants.Readers
+park_check a x Second = check.TheVariants.ReadersLeft
 
 abbrev pub leaves : ℕ → Line → Act
 leaves l m = act.TheVariants.Leave (One (key_of l m)) wake_notes.TheVariants.Nobody

@@ -1,14 +1,6 @@
-//! The steps of a reader-writer lock.
-//!
-//! | bit of the word | means |
-//! |---|---|
-//! | 1, `PARKED` | somebody may stand in the main queue |
-//! | 2, `WRITER_PARKED` | the pending writer may stand aside, in the second queue |
-//! | 4, `UPGRADABLE` | somebody has the upgradable right |
-//! | 8, `WRITER` | somebody owns alone, or is pending |
-//! | 16, `READER`, and above | how many share; who has the upgradable right is counted with them |
+//! The steps of a reader-writer lock. What the bits of its word mean is told in `bits`.
 ghost use Rattle.std.specs.Prelude.{◌≡◌, ◌<◌, ◌^◌};
-ghost use Rattle.abstract_locks.specs.Codes.{count_in, has_aside, has_parked, is_blocked};
+ghost use Rattle.abstract_locks.specs.Codes as codes;
 ghost use Rattle.lot_steps.specs.RwLockSteps.{wanted, token, access_of, patience_of, ends_with, entered, goes, rwlock_act, rwlock_next};
 
 pub mod enter;
@@ -17,6 +9,7 @@ pub mod pend;
 pub mod release;
 
 use crate::acts::{Act, Next, Reply};
+use crate::bits::is_blocked;
 use crate::rwlock::enter::{decided_act, looked, next_decided, next_first};
 use crate::rwlock::park::{ParkAt, next_park, park_act};
 use crate::rwlock::pend::{count_act, counted, next_count, rolled_back};
@@ -90,30 +83,6 @@ pub struct RwLockPlace {
     pub at: RwLockAt,
 }
 
-/// How many share the lock whose word this is.
-#[inline]
-pub fn readers(word: u64) -> u64
-    ensures { result ≡ count_in word }
-{
-    word / READER
-}
-
-/// Whether somebody may stand in the main queue.
-#[inline]
-pub fn is_parked(word: u64) -> bool
-    ensures { result ≡ has_parked word }
-{
-    word % 2 == PARKED
-}
-
-/// Whether the pending writer may stand aside.
-#[inline]
-pub fn is_writer_parked(word: u64) -> bool
-    ensures { result ≡ has_aside word }
-{
-    word / WRITER_PARKED % 2 == 1
-}
-
 /// What a right adds to the word.
 pub fn token(access: Access) -> u64
     ensures { result ≡ token (wanted access) }
@@ -149,13 +118,9 @@ pub(super) fn entered(patience: Patience) -> Answer
 impl Admission {
     /// Whether a word keeps a thread out that wants this right.
     pub fn blocks(self, access: Access, word: u64) -> bool
-        ensures { result ≡ is_blocked self.recursive (wanted access) word }
+        ensures { result ≡ codes.is_blocked self.recursive (wanted access) word }
     {
-        let has_writer = word / WRITER % 2 == 1;
-        match access {
-            Access::Shared => has_writer && (!self.recursive || readers(word) == 0),
-            Access::Upgradable | Access::Exclusive => has_writer || word / UPGRADABLE % 2 == 1,
-        }
+        is_blocked(self.recursive, wanted(access), word)
     }
 }
 

@@ -13,8 +13,9 @@ ghost use Rattle.std.specs.Prelude.{◌≡◌, ◌<◌, ◌^◌};
 ghost use Rattle.lot_steps.specs.RwLockSteps.{wanted, decision, decided_act, exchange, first_next, looked, came_in, exchanged_next, decided_next};
 
 use crate::acts::{Act, Next, Reply};
+use crate::bits::{count_in, has_parked};
 use crate::rwlock::park::ParkAt;
-use crate::rwlock::{Admission, PARKED, RwLockAt, RwLockPlace, entered, is_parked, readers, token};
+use crate::rwlock::{Admission, PARKED, RwLockAt, RwLockPlace, entered, token};
 use lot_base::{Keys, Op, main_key};
 use lot_calls::{Access, Answer, Patience};
 
@@ -35,12 +36,12 @@ impl Admission {
         if self.blocks(access, word) {
             return match patience {
                 Patience::Try => Decision::Refuse(Answer::No),
-                _ if is_parked(word) => Decision::Park,
+                _ if has_parked(word) => Decision::Park,
                 _ => Decision::Mark,
             };
         }
         match access {
-            Access::Shared | Access::Upgradable if self.limit <= readers(word) => {
+            Access::Shared | Access::Upgradable if self.limit <= count_in(word) => {
                 Decision::Refuse(Answer::ReadersFull)
             }
             _ => Decision::Take,

@@ -75,7 +75,7 @@ fn check(admission: Admission, access: Access, line: Line) -> Check
             want: wanted(access),
             recursive: admission.recursive,
         },
-        Line::Second => Check::Readers,
+        Line::Second => Check::ReadersLeft,
     }
 }
 

@@ -10,12 +10,11 @@ ghost use Rattle.std.specs.Prelude.{◌≡◌, ◌<◌, ◌^◌};
 ghost use Rattle.lot_steps.specs.RwLockSteps.{count_act, counted, count_next, rolled_back};
 
 use crate::acts::{Act, Next, Reply};
+use crate::bits::{count_in, has_aside, has_parked};
 use crate::rwlock::enter::exchange;
 use crate::rwlock::park::ParkAt;
 use crate::rwlock::release::wakes;
-use crate::rwlock::{
-    RwLockAt, RwLockPlace, WRITER_PARKED, entered, is_parked, is_writer_parked, readers,
-};
+use crate::rwlock::{RwLockAt, RwLockPlace, WRITER_PARKED, entered};
 use lot_base::{Keys, Line};
 use lot_calls::Answer;
 
@@ -23,7 +22,7 @@ pub(super) fn count_act(lock: usize, seen: u64) -> Act
     requires { lock < 2 ^ 63 }
     ensures { result ≡ count_act lock seen }
 {
-    if is_writer_parked(seen) {
+    if has_aside(seen) {
         Act::Enter(Keys::One(Line::Second.key(lock)))
     } else {
         exchange(lock, seen, seen.wrapping_add(WRITER_PARKED))
@@ -34,7 +33,7 @@ pub(super) fn count_act(lock: usize, seen: u64) -> Act
 pub(super) fn counted(place: RwLockPlace, seen: u64) -> Next<RwLockPlace>
     ensures { result ≡ counted place seen }
 {
-    if readers(seen) == 0 {
+    if count_in(seen) == 0 {
         Next::End(entered(place.purpose.patience()))
     } else {
         place.goes(RwLockAt::Count(seen), place.retries)
@@ -61,7 +60,7 @@ pub(super) fn next_count(place: RwLockPlace, expected: u64, reply: Reply) -> Nex
 pub(super) fn rolled_back(place: RwLockPlace, seen: u64) -> Next<RwLockPlace>
     ensures { result ≡ rolled_back place seen }
 {
-    if is_parked(seen) {
+    if has_parked(seen) {
         place.goes(wakes(Line::Main), place.retries)
     } else {
         Next::End(Answer::No)

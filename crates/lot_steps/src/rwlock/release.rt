@@ -14,8 +14,9 @@ ghost use Rattle.lot_base.specs.Keys.{key_of};
 ghost use Rattle.lot_steps.specs.RwLockSteps.{wakes, gave_way, whom, wake_act, wake_next};
 
 use crate::acts::{Act, Next, Reply, Wakes, Whom};
+use crate::bits::{count_in, has_aside, has_parked};
 use crate::rwlock::park::{clears, unparked};
-use crate::rwlock::{Admission, RwLockAt, RwLockPlace, is_parked, is_writer_parked, readers};
+use crate::rwlock::{Admission, RwLockAt, RwLockPlace};
 use lot_base::{Keys, Line, Note};
 use lot_calls::{Access, Answer};
 
@@ -44,10 +45,10 @@ pub(super) fn gave_way(place: RwLockPlace, seen: u64) -> Next<RwLockPlace>
     ensures { result ≡ gave_way place seen }
 {
     match place.purpose.access() {
-        Access::Shared if is_writer_parked(seen) && readers(seen) == 1 => {
+        Access::Shared if has_aside(seen) && count_in(seen) == 1 => {
             place.goes(wakes(Line::Second), place.retries)
         }
-        Access::Upgradable | Access::Exclusive if is_parked(seen) => {
+        Access::Upgradable | Access::Exclusive if has_parked(seen) => {
             place.goes(wakes(Line::Main), place.retries)
         }
         _ => Next::End(Answer::Ok),
