@@ -34,7 +34,7 @@ use Rattle.lot_steps.specs.declared.rwlock.enter.Decision.TheVariants as decisio
 use Rattle.lot_steps.specs.declared.rwlock.park.ParkAt.TheVariants as parking
 use Rattle.lot_steps.specs.declared.rwlock.release.WakeAt.TheVariants as waking
 use Rattle.lot_steps.specs.RwLockSteps.{wanted, token, patience_of, is_counted, waits, decision_blocked, decision, decided, decided_act, count_act, rwlock_act, plus, unparked}
-use Rattle.lot_steps.specs.RwLockDeeds.{rwlock_doing, missed_deeds, looked_deeds, came_in_deeds, exchanged_deeds, counted_deeds, does_and_wakes, sees_waiter, rwlock_deeds, AllNeeded, after_all, Admits, AtFits, IsAtWord, RwLockStepsCode}
+use Rattle.lot_steps.specs.RwLockDeeds.{rwlock_doing, missed_deeds, looked_deeds, came_in_deeds, exchanged_deeds, counted_deeds, does_and_wakes, sees_waiter, rwlock_deeds, AllNeeded, after_all, Admits, AtFits, IsAt, RwLockStepsCode}
 use Rattle.lot_steps.proofs.RwLockFit.{rwlock_steps_follow}
 
 subtracts : (v by c : ℕ) → v < 2 ^ 64 → by ≤ v → c + by ≡ v → (v + (2 ^ 64 - by)) % 2 ^ 64 ≡ c
@@ -242,7 +242,7 @@ module _ (r : Rules) (a : Admission) (s : Site) (t l : ℕ) (f : Op) (admits : A
     releases_code x to fits e n = absurd fits
 
 pub rwlock_steps_code : RwLockStepsCode
-rwlock_steps_code r a s t l p f at e there small few = by_purpose p.purpose p.retries p.at at.place at.doing e (rwlock_steps_follow r a s t l p f at e).needed
+rwlock_steps_code r a s t l p f at nowhere e there small few = by_purpose p.purpose p.retries p.at at.place at.doing e (rwlock_steps_follow r a s t l p f at nowhere e).needed
   where
     by_purpose : (q : RwLockPurpose) (again : Bool) (to : RwLockAt) → AtFits q to → s.doing t ≡ rwlock_doing (record { purpose = q; retries = again; at = to })
         → rwlock_act l a (record { purpose = q; retries = again; at = to }) ≡ act.Word l f

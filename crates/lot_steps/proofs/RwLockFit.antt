@@ -32,7 +32,7 @@ use Rattle.lot_steps.specs.declared.rwlock.enter.Decision.TheVariants as decisio
 use Rattle.lot_steps.specs.declared.rwlock.park.ParkAt.TheVariants as parking
 use Rattle.lot_steps.specs.declared.rwlock.release.WakeAt.TheVariants as waking
 use Rattle.lot_steps.specs.RwLockSteps.{wanted, access_of, patience_of, want_at, patience_at, is_counted, waits, decision_blocked, decision, decided, decided_act, count_act, act_at, rwlock_act, missed, first_next, looked_by, looked, came_in_for, came_in, exchanged_next, counted, rolled_back, gave_way_by, stays, plus, wakes, entered, next_at, rwlock_next}
-use Rattle.lot_steps.specs.RwLockDeeds.{at_rest, finding, pends, again_of, rwlock_doing, doing_next, missed_deeds, looked_deeds, came_in_deeds, exchanged_deeds, counted_deeds, does_and_wakes, sees_waiter, deeds_at, rwlock_deeds, AllNeeded, after_all, Admits, IsFreshTry, AtFits, IsAtWord, Follows, RwLockStepsFollow}
+use Rattle.lot_steps.specs.RwLockDeeds.{at_rest, finding, pends, again_of, rwlock_doing, doing_next, missed_deeds, looked_deeds, came_in_deeds, exchanged_deeds, counted_deeds, does_and_wakes, sees_waiter, deeds_at, rwlock_deeds, AllNeeded, after_all, Admits, IsFreshTry, AtFits, IsAt, Follows, RwLockStepsFollow}
 
 pub put_same : {A : Type 0} (f : ℕ → A) (t : ℕ) (x : A) → put f t x t ≡ x
 put_same f t x = grind (arith, nat_tests)
@@ -113,7 +113,7 @@ knows_all r e access.Shared = grind arith
 knows_all r e access.Upgradable = grind arith
 knows_all r e access.Exclusive = grind arith
 
-abbrev retrying : Bool → Want → Option Want
+abbrev pub retrying : Bool → Want → Option Want
 retrying again x = if again then Some x else None
 
 tries : (again : Bool) (x : Want) → tries_for (retrying again x) x
@@ -186,7 +186,7 @@ module _ (r : Rules) (a : Admission) (s : Site) (t l : ℕ) (op : Op) (admits : 
         by_tests false eb true ec f = absurd cc
         by_tests true eb c ec f = absurd (blocked_no how f)
 
-    looks : (to : RwLockAt) → s.doing t ≡ at_rest wants None → (d : Decision) → decision a (wanted x) how v ≡ d → Follows r s t (looked_deeds d) (doing_next (looked_by (place to) v d))
+    pub looks : (to : RwLockAt) → s.doing t ≡ at_rest wants None → (d : Decision) → decision a (wanted x) how v ≡ d → Follows r s t (looked_deeds d) (doing_next (looked_by (place to) v d))
     looks to is (decisions.Refuse answer) e = ends r s t admits.0 h tells wants is (refused answer e)
     looks to is decisions.Take e = goes r s t admits.0 h tells _ is
     looks to is decisions.Mark e = goes r s t admits.0 h tells _ is
@@ -209,7 +209,7 @@ module _ (r : Rules) (a : Admission) (s : Site) (t l : ℕ) (op : Op) (admits : 
     decides expected is decisions.Park d e = absurd cc
     decides expected is (decisions.Refuse answer) d e = absurd cc
 
-    counts : (to : RwLockAt) → s.doing t ≡ at_rest wants pends → (b : Bool) → (count_in v == 0) ≡ b
+    pub counts : (to : RwLockAt) → s.doing t ≡ at_rest wants pends → (b : Bool) → (count_in v == 0) ≡ b
         → Follows r s t (if b then Does Settle ∷ End ∷ [] else []) (doing_next (if b then next.End (entered how) else stays (place to) (at.Count v)))
     counts to is true e = settles r s t admits.0 h tells wants is (eqb-true (count_in v) 0 e) nowhere
     counts to is false e = goes r s t admits.0 h tells _ is
@@ -280,10 +280,10 @@ module _ (r : Rules) (a : Admission) (s : Site) (t l : ℕ) (op : Op) (admits : 
     releases_fit x to fits is e = absurd fits
 
 pub rwlock_steps_follow : RwLockStepsFollow
-rwlock_steps_follow r a s t l p op at e = by_purpose p.purpose p.retries p.at at.fresh at.place at.doing e
+rwlock_steps_follow r a s t l p op at nowhere e = by_purpose p.purpose p.retries p.at at.fresh at.place at.doing e
   where
     by_purpose : (q : RwLockPurpose) (again : Bool) (to : RwLockAt) → IsFreshTry (patience_of q) again → AtFits q to → s.doing t ≡ rwlock_doing (record { purpose = q; retries = again; at = to })
         → rwlock_act l a (record { purpose = q; retries = again; at = to }) ≡ act.Word l op
         → Follows r s t (rwlock_deeds a (record { purpose = q; retries = again; at = to }) None (reply.Value (code r s))) (doing_next (rwlock_next a (record { purpose = q; retries = again; at = to }) (reply.Value (code r s))))
-    by_purpose (purpose.Enter x how) again to fresh fits is f = enters_fit r a s t l op at.admits at.site at.nowhere x how again fresh to fits is f
-    by_purpose (purpose.Release x) again to fresh fits is f = releases_fit r a s t l op at.admits at.site at.nowhere again x to fits is f
+    by_purpose (purpose.Enter x how) again to fresh fits is f = enters_fit r a s t l op at.admits at.site nowhere x how again fresh to fits is f
+    by_purpose (purpose.Release x) again to fresh fits is f = releases_fit r a s t l op at.admits at.site nowhere again x to fits is f

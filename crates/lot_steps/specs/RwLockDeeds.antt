@@ -1,5 +1,5 @@
 -- The steps of a reader-writer lock, told by what a thread does about the abstract lock: what each place is, and the deeds of each step.
-use Rattle.std.specs.Prelude.{ℕ, Bool, true, false, Option, Some, None, if◌then◌else◌, ◌==◌, ◌&&◌, not, ◌≡◌, ◌<◌, ◌^◌, List, [], ◌∷◌, length}
+use Rattle.std.specs.Prelude.{ℕ, Bool, true, false, Option, Some, None, if◌then◌else◌, ◌==◌, ◌&&◌, not, ◌≡◌, ◌≢◌, ◌<◌, ◌≤◌, ◌^◌, List, [], ◌∷◌, length}
 use Rattle.lot_base.specs.declared.keys.Line.{Line}
 use Rattle.lot_base.specs.declared.keys.Line.TheVariants.{Main, Second}
 use Rattle.lot_base.specs.declared.ops.Op.{Op}
@@ -28,9 +28,10 @@ use Rattle.lot_steps.specs.declared.rwlock.park.ParkAt.{ParkAt}
 use Rattle.lot_steps.specs.declared.rwlock.park.ParkAt.TheVariants as parking
 use Rattle.lot_steps.specs.declared.rwlock.release.WakeAt.{WakeAt}
 use Rattle.lot_steps.specs.declared.rwlock.release.WakeAt.TheVariants as waking
-use Rattle.lot_steps.specs.RwLockSteps.{want_at, patience_at, decided, rwlock_act, rwlock_next}
-use Rattle.abstract_locks.specs.Locks.{Rules, Enter, Pend, Settle, Leave, Park, Aside, TakeAside, TakePicked, Late, Rollback, is_recursive, Knows, standing}
-use Rattle.abstract_locks.specs.Sites.{Claim, Has, Pends, Doing, idle, is_main, Site, IsSite, Needed, after, has_readers, Deed, End, In, Out, Mark, Clear, FindNobody, Does}
+use Rattle.lot_steps.specs.RwLockSteps.{want_at, patience_at, decided, park_check, rwlock_act, rwlock_next}
+use Rattle.lot_steps.specs.Acts.{holds}
+use Rattle.abstract_locks.specs.Locks.{Rules, Enter, Pend, Settle, Leave, Park, Aside, TakeAside, TakePicked, Late, Rollback, is_recursive, standing, times, without, unpicked}
+use Rattle.abstract_locks.specs.Sites.{Claim, Has, Pends, Doing, idle, is_main, is_empty, Site, IsSite, Needed, after, has_readers, Deed, End, In, Out, Mark, Clear, FindNobody, Does}
 use Rattle.abstract_locks.specs.Codes.{code, count_in, has_aside, has_parked}
 
 -- ---------------------------------------------------------------- what a thread does, by its place
@@ -142,6 +143,7 @@ takes Second (Some u) = Does (TakeAside u)
 abbrev pub wake_deeds : Line → WakeAt → Option ℕ → Reply → List Deed
 wake_deeds m waking.Enter whom reply.Done = In m ∷ []
 wake_deeds m waking.Take whom (reply.Took any none_left) = takes m whom ∷ []
+wake_deeds m waking.Take whom (reply.Picked sharers successor none_left) = takes m whom ∷ []
 wake_deeds m (waking.Clear any) whom (reply.Value seen) = Clear m ∷ []
 wake_deeds m (waking.Leave any) whom reply.Done = Out ∷ []
 wake_deeds m to whom told = []
@@ -198,30 +200,86 @@ AtFits (purpose.Release x) at.GiveWay = Unit {0}
 AtFits (purpose.Release x) (at.Wake m to) = Unit {0}
 AtFits (purpose.Release x) to = ⊥
 
--- a thread that stands at a place, and in no queue
-pub record IsAtWord (r : Rules) (a : Admission) (s : Site) (t : ℕ) (p : RwLockPlace) : Type 0 where
+-- a thread that stands at a place
+pub record IsAt (r : Rules) (a : Admission) (s : Site) (t : ℕ) (p : RwLockPlace) : Type 0 where
   pub admits : Admits r a
   pub site : IsSite r s
   pub doing : s.doing t ≡ rwlock_doing p
   pub fresh : IsFreshTry (patience_at p) p.retries
   pub place : AtFits p.purpose p.at
-  pub nowhere : standing t s.lock ≡ 0
 
 -- the deeds may be done, and the thread does then what this says
 pub record Follows (r : Rules) (s : Site) (t : ℕ) (ds : List Deed) (d : Doing) : Type 0 where
   pub needed : AllNeeded r ds s t
   pub doing : (after_all r ds s t).doing t ≡ d
 
--- each step on the word may do to the lock what its deeds say, and its next place says what the thread does then
+-- the deeds of a reply may be done, and the next place says what the thread does then
+abbrev pub FollowsBy : Rules → Admission → Site → ℕ → RwLockPlace → Option ℕ → Reply → Type 0
+FollowsBy r a s t p whom told =
+    Follows r s t (rwlock_deeds a p whom told) (doing_next (rwlock_next a p told))
+
+-- each step on the word follows
 abbrev pub RwLockStepsFollow : Type 0
 RwLockStepsFollow =
-    (r : Rules) (a : Admission) (s : Site) (t l : ℕ) (p : RwLockPlace) (op : Op) → IsAtWord r a s t p
-    → rwlock_act l a p ≡ act.Word l op
-    → Follows r s t (rwlock_deeds a p None (reply.Value (code r s))) (doing_next (rwlock_next a p (reply.Value (code r s))))
+    (r : Rules) (a : Admission) (s : Site) (t l : ℕ) (p : RwLockPlace) (op : Op) → IsAt r a s t p
+    → standing t s.lock ≡ 0 → rwlock_act l a p ≡ act.Word l op
+    → FollowsBy r a s t p None (reply.Value (code r s))
 
 -- and the word that it leaves is the word of the lock behind its deeds
 abbrev pub RwLockStepsCode : Type 0
 RwLockStepsCode =
-    (r : Rules) (a : Admission) (s : Site) (t l : ℕ) (p : RwLockPlace) (op : Op) → IsAtWord r a s t p
-    → rwlock_act l a p ≡ act.Word l op → t < length s.lock.shared → code r s < 2 ^ 64 → a.limit < 2 ^ 60
+    (r : Rules) (a : Admission) (s : Site) (t l : ℕ) (p : RwLockPlace) (op : Op) → IsAt r a s t p
+    → standing t s.lock ≡ 0 → rwlock_act l a p ≡ act.Word l op
+    → t < length s.lock.shared → code r s < 2 ^ 64 → a.limit < 2 ^ 60
     → apply op (code r s) ≡ code r (after_all r (rwlock_deeds a p None (reply.Value (code r s))) s t)
+
+-- ---------------------------------------------------------------- steps in and out of sections
+
+-- nobody is inside a section
+abbrev pub IsFree : Site → Line → Type 0
+IsFree s m = (u : ℕ) → (s.doing u).inside ≢ Some m
+
+-- it stands in a line, and whether nobody else does
+abbrev pub StandsAlone : Site → ℕ → Line → Bool → Type 0
+StandsAlone s t Main alone = (1 ≤ times t s.lock.queue) × (alone ≡ is_empty (without t s.lock.queue))
+StandsAlone s t Second alone = s.lock.aside ≡ Some t
+
+-- what a thread may be told on its way into a queue, and out of it
+abbrev pub MayHearParking : Rules → Site → ℕ → Line → Bool → ParkAt → Reply → Type 0
+MayHearParking r s t m finds parking.Check (reply.Parked b) = (b ≡ finds) × (standing t s.lock ≡ 0)
+MayHearParking r s t m finds (parking.Leave parked) reply.Done = s.lock.taken t ≡ None
+MayHearParking r s t m finds parking.Asleep reply.Late = IsFree s m
+MayHearParking r s t m finds parking.Remove (reply.Removed none_left) = StandsAlone s t m none_left
+MayHearParking r s t m finds parking.GiveUp reply.Done = s.lock.taken t ≡ None
+MayHearParking r s t m finds to told = ⊥
+
+-- who is taken of the second queue, and whether somebody is left in the main one
+abbrev pub MayTake : Rules → Site → Line → Option ℕ → Bool → Type 0
+MayTake r s Main whom none_left = none_left ≡ is_empty (unpicked r.sort None s.lock.queue)
+MayTake r s Second whom none_left = whom ≡ s.lock.aside
+
+abbrev pub MayHearWaking : Rules → Site → ℕ → Line → WakeAt → Option ℕ → Reply → Type 0
+MayHearWaking r s t m waking.Enter whom reply.Done = IsFree s m
+MayHearWaking r s t m waking.Take whom (reply.Took any none_left) = MayTake r s m whom none_left
+MayHearWaking r s t m waking.Take whom (reply.Picked n x none_left) = MayTake r s m whom none_left
+MayHearWaking r s t m (waking.Leave any) whom reply.Done = s.lock.taken t ≡ None
+MayHearWaking r s t m to whom told = ⊥
+
+-- what a thread may be told of its steps in and out of sections, and as it spins or is late
+abbrev pub MayHear : Rules → Admission → Site → ℕ → RwLockPlace → RwLockAt → Option ℕ → Reply → Type 0
+MayHear r a s t p (at.Decide seen) whom reply.Done = IsFree s Main
+MayHear r a s t p (at.Decide seen) whom (reply.Spun v) = (v ≡ code r s) × (standing t s.lock ≡ 0)
+MayHear r a s t p (at.Count seen) whom reply.Done = IsFree s Second
+MayHear r a s t p (at.Count seen) whom (reply.Spun v) = (v ≡ code r s) × (standing t s.lock ≡ 0)
+MayHear r a s t p (at.Park to) whom told =
+    MayHearParking r s t Main (holds (park_check a (want_at p) Main) (code r s)) to told
+MayHear r a s t p (at.Aside to) whom told =
+    MayHearParking r s t Second (holds (park_check a (want_at p) Second) (code r s)) to told
+MayHear r a s t p (at.Wake m to) whom told = MayHearWaking r s t m to whom told
+MayHear r a s t p to whom told = ⊥
+
+-- each such step follows too
+abbrev pub RwLockSectionsFollow : Type 0
+RwLockSectionsFollow =
+    (r : Rules) (a : Admission) (s : Site) (t : ℕ) (p : RwLockPlace) (whom : Option ℕ) (told : Reply)
+    → IsAt r a s t p → MayHear r a s t p p.at whom told → FollowsBy r a s t p whom told

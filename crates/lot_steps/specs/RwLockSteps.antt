@@ -25,7 +25,7 @@ use Rattle.lot_steps.specs.declared.acts.Check as check
 use Rattle.lot_steps.specs.declared.acts.Next.{Next}
 use Rattle.lot_steps.specs.declared.acts.Next.TheVariants.{At, End}
 use Rattle.lot_steps.specs.declared.acts.Reply.{Reply}
-use Rattle.lot_steps.specs.declared.acts.Reply.TheVariants.{Done, Value, Spun, Parked, Took, Removed, TakenBy, Late, Woken}
+use Rattle.lot_steps.specs.declared.acts.Reply.TheVariants.{Done, Value, Spun, Parked, Took, Picked, Removed, TakenBy, Late, Woken}
 use Rattle.lot_steps.specs.declared.acts.Wakes as wake_notes
 use Rattle.lot_steps.specs.declared.acts.Whom.{Whom}
 use Rattle.lot_steps.specs.declared.acts.Whom as whom_taken
@@ -286,12 +286,21 @@ park_next p m parking.Clear (Value seen) = stays p (parks_at m parking.GiveUp)
 park_next p m parking.GiveUp Done = gave_up p m
 park_next p m to reply = stays p (parks_at m to)
 
-abbrev pub took : Bool → Bool → WakeAt
-took any clears = if clears then waking.Clear any else waking.Leave any
+abbrev pub took : Line → Bool → Bool → WakeAt
+took m any none_left = if clears m none_left then waking.Clear any else waking.Leave any
+
+abbrev pub is_there : Option Want → Bool
+is_there None = false
+is_there (Some x) = true
+
+abbrev pub any_picked : ℕ → Option Want → Bool
+any_picked sharers successor = not (sharers == 0) || is_there successor
 
 abbrev pub wake_next : RwLockPlace → Line → WakeAt → Reply → Next RwLockPlace
 wake_next p m waking.Enter Done = stays p (at.Wake m waking.Take)
-wake_next p m waking.Take (Took any none_left) = stays p (at.Wake m (took any (clears m none_left)))
+wake_next p m waking.Take (Took any none_left) = stays p (at.Wake m (took m any none_left))
+wake_next p m waking.Take (Picked sharers successor none_left) =
+    stays p (at.Wake m (took m (any_picked sharers successor) none_left))
 wake_next p m (waking.Clear any) (Value seen) = stays p (at.Wake m (waking.Leave any))
 wake_next p m (waking.Leave any) Done = End (ends_with p.purpose)
 wake_next p m to reply = stays p (at.Wake m to)

@@ -11,7 +11,7 @@
 //! The last reader wakes the writer aside, where one may stand there; every other release those in the main queue.
 ghost use Rattle.std.specs.Prelude.{◌≡◌, ◌<◌, ◌^◌};
 ghost use Rattle.lot_base.specs.Keys.{key_of};
-ghost use Rattle.lot_steps.specs.RwLockSteps.{wakes, gave_way, whom, wake_act, wake_next};
+ghost use Rattle.lot_steps.specs.RwLockSteps.{wakes, gave_way, whom, wake_act, took, wake_next};
 
 use crate::acts::{Act, Next, Reply, Wakes, Whom};
 use crate::bits::{count_in, has_aside, has_parked};
@@ -90,6 +90,17 @@ pub(super) fn wake_act(lock: usize, admission: Admission, line: Line, at: WakeAt
     }
 }
 
+/// Behind a take: where nobody is left in the main queue, and always in the second, the parked bit goes.
+fn took(line: Line, any: bool, none_left: bool) -> WakeAt
+    ensures { result ≡ took line any none_left }
+{
+    if clears(line, none_left) {
+        WakeAt::Clear { any }
+    } else {
+        WakeAt::Leave { any }
+    }
+}
+
 pub(super) fn next_wake(
     place: RwLockPlace,
     line: Line,
@@ -101,13 +112,15 @@ pub(super) fn next_wake(
     let goes = |at: WakeAt| place.goes(RwLockAt::Wake { line, at }, place.retries);
     match (at, reply) {
         (WakeAt::Enter, Reply::Done) => goes(WakeAt::Take),
-        (WakeAt::Take, Reply::Took { any, none_left }) => {
-            if clears(line, none_left) {
-                goes(WakeAt::Clear { any })
-            } else {
-                goes(WakeAt::Leave { any })
-            }
-        }
+        (WakeAt::Take, Reply::Took { any, none_left }) => goes(took(line, any, none_left)),
+        (
+            WakeAt::Take,
+            Reply::Picked {
+                sharers,
+                successor,
+                none_left,
+            },
+        ) => goes(took(line, sharers != 0 || successor.is_some(), none_left)),
         (WakeAt::Clear { any }, Reply::Value(_)) => goes(WakeAt::Leave { any }),
         (WakeAt::Leave { .. }, Reply::Done) => Next::End(place.purpose.ends_with()),
         _ => goes(at),
