@@ -3,3 +3,4 @@ pub mod Lines
 pub mod Picks
 pub mod Requeues
 pub mod Laws
+pub mod Clocks
