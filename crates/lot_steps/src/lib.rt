@@ -4,13 +4,14 @@
 #![tactic(auto)]
 
 pub mod acts;
+pub mod bits;
 pub mod mutex;
 pub mod owners;
 pub mod places;
 #[cfg(test)]
 mod tests;
 
-pub use acts::{Act, Check, Next, Reply, Wakes};
+pub use acts::{Act, Check, Next, Reply, Wakes, Whom};
 pub use lot_base::Op;
 pub use lot_calls;
 pub use lot_calls::{Answer, Call, Kind, MutexCall, OnceState, Outcome, Step, Turn};

@@ -5,6 +5,7 @@ use Rattle.lot_base.specs.declared.ops.Op.TheVariants.{Load}
 use Rattle.lot_steps.specs.Steps.{act_of, late_key, HasKeys}
 use Rattle.lot_steps.specs.declared.acts.Act.{Act}
 use Rattle.lot_steps.specs.declared.acts.Act as act
+use Rattle.lot_steps.specs.declared.acts.Whom as whom
 use Rattle.lot_steps.specs.declared.acts.Reply.{Reply}
 use Rattle.lot_steps.specs.declared.acts.Reply.TheVariants.{Done, Value, Parked, Took, Removed, Late, Woken}
 use Rattle.lot_steps.specs.declared.places.Place.{Place}
@@ -30,7 +31,7 @@ told up at kind late p (act.TheVariants.Word l op) is st new (Value seen) before
 told up at kind late p (act.TheVariants.HandOver l op) is st new (Value seen) before behind b e = (step at op seen, e, hands p l op seen is)
 told up at kind late p (act.TheVariants.Park l key check want) is st new (Parked parked) before behind b e = (step at Load e.0, e.2, subst (λ (x : Bool). Tells at p (step at Load e.0) (Parked x)) (sym e.1) (parks p l key check want e.0 is))
 told up at kind late p (act.TheVariants.Enter keys) is st new Done before behind b e = wordless at p (act.TheVariants.Enter keys) Done before behind is refl refl e
-told up at kind late p (act.TheVariants.TakeFirst key) is st new (Took first left) before behind b e = wordless at p (act.TheVariants.TakeFirst key) (Took first left) before behind is refl refl e
+told up at kind late p (act.TheVariants.Take key whom.TheVariants.First) is st new (Took first left) before behind b e = wordless at p (act.TheVariants.Take key whom.TheVariants.First) (Took first left) before behind is refl refl e
 told up at kind late p (act.TheVariants.Remove key) is st new (Removed left) before behind b e = wordless at p (act.TheVariants.Remove key) (Removed left) before behind is refl refl e
 told up at kind late p (act.TheVariants.Leave keys wakes) is st new Done before behind b e = wordless at p (act.TheVariants.Leave keys wakes) Done before behind is refl refl e
 told up at kind late p act.TheVariants.Sleep is st new (Woken note) before behind b e = wordless at p act.TheVariants.Sleep (Woken note) before behind is refl refl e

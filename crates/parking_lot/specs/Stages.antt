@@ -23,6 +23,7 @@ use Rattle.lot_steps.specs.declared.acts.Reply.{Reply}
 use Rattle.lot_steps.specs.declared.acts.Reply.TheVariants.{Done, Value, Parked, Took, Removed, Late, Woken}
 use Rattle.lot_steps.specs.declared.acts.Wakes.{Wakes}
 use Rattle.lot_steps.specs.declared.acts.Wakes as wakes
+use Rattle.lot_steps.specs.declared.acts.Whom as whom
 use Rattle.parking_lot_core.specs.Keys.{AreKeys, IsKeyOf, first_key}
 use Rattle.parking_lot_core.specs.Sections.{waiting_in, taken_in, rightless_in, MayNote}
 use Rattle.parking_lot_core.specs.Tokens.{view_of, last_of}
@@ -122,7 +123,7 @@ Needs kind at st (act.TheVariants.Word lock op) = MayStep kind at op st.owns
 Needs kind at st (act.TheVariants.HandOver lock op) = MayStep kind at op st.owns × KeepsIt kind at op st.owns × HasOneTaken st.inside
 Needs kind at st (act.TheVariants.Enter keys) = AreKeys keys × (st.inside ≡ None)
 Needs kind at st (act.TheVariants.Park lock key check _) = MayStep kind at Load st.owns × HasKey key st.inside
-Needs kind at st (act.TheVariants.TakeFirst key) = HasKey key st.inside × IsFresh st.inside
+Needs kind at st (act.TheVariants.Take key whom.TheVariants.First) = HasKey key st.inside × IsFresh st.inside
 Needs kind at st (act.TheVariants.Remove key) = HasKey key st.inside
 Needs kind at st (act.TheVariants.Leave keys wakes) = MayLeave (note_of wakes) st.inside
 Needs kind at st act.TheVariants.Sleep = st.inside ≡ None
@@ -148,7 +149,7 @@ Became up kind at late st (act.TheVariants.Word lock op) (Value seen) new = Code
 Became up kind at late st (act.TheVariants.HandOver lock op) (Value seen) new = CodesWith kind at seen st.owns × (new ≡ handed kind at op seen st)
 Became up kind at late st (act.TheVariants.Enter keys) Done new = new ≡ stage st.owns (entered_now keys) st.last
 Became up kind at late st (act.TheVariants.Park lock key check _) (Parked parked) new = (seen : ℕ) × (parked ≡ holds check seen) × CodesWith kind at seen st.owns × (new ≡ stepped kind at Load seen st)
-Became up kind at late st (act.TheVariants.TakeFirst key) (Took any none_left) new = (first : Option ℕ) × (any ≡ is_there first) × (new ≡ stage st.owns (took key first st.inside) st.last)
+Became up kind at late st (act.TheVariants.Take key whom.TheVariants.First) (Took any none_left) new = (first : Option ℕ) × (any ≡ is_there first) × (new ≡ stage st.owns (took key first st.inside) st.last)
 Became up kind at late st (act.TheVariants.Remove key) (Removed none_left) new = new ≡ st
 Became up kind at late st (act.TheVariants.Leave keys wakes) Done new = (new.owns ≡ st.owns) × (new.inside ≡ None) × IsLeft st.inside new.last
 Became up kind at late st act.TheVariants.Sleep (Woken Normal) new = (new.owns ≡ st.owns) × (new.inside ≡ st.inside)

@@ -14,7 +14,7 @@ ghost use Rattle.parking_lot_core.specs.Keys.{AreKeys};
 ghost use Rattle.parking_lot_core.specs.Tokens.{IsTokenOf, Stays, view_of, last_of};
 ghost use Rattle.parking_lot.specs.Stages.{Adds, HasKey, HasOneTaken, IsFresh, MayLeave, KeepsIt, IsIn, IsLeft, took, handed, note_of, inside_of, stage_of, waiting_of, entered_now, Needs, Became};
 
-use lot_steps::{Act, Check, Reply, Wakes};
+use lot_steps::{Act, Check, Reply, Wakes, Whom};
 use parking_lot_core::{Clock, Key, Keys, Note, Op, ParkingLot, Section, Slept, Token, Want, Word};
 use std::sync::Wait;
 
@@ -223,7 +223,10 @@ pub(crate) fn perform<'a, R: Wait, C: Clock>(
             want,
             ..
         } => Reply::Parked(park(lot, token, word, section, key, check, want)),
-        Act::TakeFirst(key) => {
+        Act::Take {
+            key,
+            whom: Whom::First,
+        } => {
             let (first, none_left) = take_first(lot, section, key);
             Reply::Took {
                 any: first.is_some(),
