@@ -143,20 +143,20 @@ abbrev pub IsLeft : Option Inside → Option Record → Type 0
 IsLeft None last = ⊥
 IsLeft (Some inside) last = (number : ℕ) × (last ≡ Some (record { key = first_key inside.keys; did = inside.did; number = number }))
 
--- what an act made of the stage, by its reply. A sleeper may be late under one key only, if any
-abbrev pub Became : WordKind → ℕ → Option ℕ → Stage → Act → Reply → Stage → Type 0
-Became kind at late st (act.TheVariants.Word lock op) (Value seen) new = CodesWith kind at seen st.owns × (new ≡ stepped kind at op seen st)
-Became kind at late st (act.TheVariants.HandOver lock op) (Value seen) new = CodesWith kind at seen st.owns × (new ≡ handed kind at op seen st)
-Became kind at late st (act.TheVariants.Enter keys) Done new = new ≡ stage st.owns (entered_now keys) st.last
-Became kind at late st (act.TheVariants.Park lock key check _) (Parked parked) new = (seen : ℕ) × (parked ≡ holds check seen) × CodesWith kind at seen st.owns × (new ≡ stepped kind at Load seen st)
-Became kind at late st (act.TheVariants.Take key whom.TheVariants.First) (Took any none_left) new = (first : Option ℕ) × (any ≡ is_there first) × (new ≡ stage st.owns (took key first st.inside) st.last)
-Became kind at late st (act.TheVariants.Remove key) (Removed none_left) new = new ≡ st
-Became kind at late st (act.TheVariants.Leave keys wakes) Done new = (new.owns ≡ st.owns) × (new.inside ≡ None) × IsLeft st.inside new.last
-Became kind at late st act.TheVariants.Sleep (Woken Normal) new = (new.owns ≡ st.owns) × (new.inside ≡ st.inside)
-Became kind at late st act.TheVariants.Sleep (Woken HandOff) new = (owner : Owner) × MayHand kind wants.TheVariants.Exclusive owner × (new ≡ stage (owning at owner ∷ st.owns) st.inside st.last)
-Became kind at late st act.TheVariants.Sleep Late new = (key : ℕ) × (late ≡ Some key) × (new ≡ stage st.owns (entered_now (One key)) st.last)
-Became kind at late st act.TheVariants.Accept Done new = new ≡ st
-Became kind at late st _ _ new = ⊥
+-- what an act made of the stage, by its reply. A sleeper may be late under one key only, if any, and once its time is up
+abbrev pub Became : Type 0 → WordKind → ℕ → Option ℕ → Stage → Act → Reply → Stage → Type 0
+Became up kind at late st (act.TheVariants.Word lock op) (Value seen) new = CodesWith kind at seen st.owns × (new ≡ stepped kind at op seen st)
+Became up kind at late st (act.TheVariants.HandOver lock op) (Value seen) new = CodesWith kind at seen st.owns × (new ≡ handed kind at op seen st)
+Became up kind at late st (act.TheVariants.Enter keys) Done new = new ≡ stage st.owns (entered_now keys) st.last
+Became up kind at late st (act.TheVariants.Park lock key check _) (Parked parked) new = (seen : ℕ) × (parked ≡ holds check seen) × CodesWith kind at seen st.owns × (new ≡ stepped kind at Load seen st)
+Became up kind at late st (act.TheVariants.Take key whom.TheVariants.First) (Took any none_left) new = (first : Option ℕ) × (any ≡ is_there first) × (new ≡ stage st.owns (took key first st.inside) st.last)
+Became up kind at late st (act.TheVariants.Remove key) (Removed none_left) new = new ≡ st
+Became up kind at late st (act.TheVariants.Leave keys wakes) Done new = (new.owns ≡ st.owns) × (new.inside ≡ None) × IsLeft st.inside new.last
+Became up kind at late st act.TheVariants.Sleep (Woken Normal) new = (new.owns ≡ st.owns) × (new.inside ≡ st.inside)
+Became up kind at late st act.TheVariants.Sleep (Woken HandOff) new = (owner : Owner) × MayHand kind wants.TheVariants.Exclusive owner × (new ≡ stage (owning at owner ∷ st.owns) st.inside st.last)
+Became up kind at late st act.TheVariants.Sleep Late new = (key : ℕ) × (late ≡ Some key) × up × (new ≡ stage st.owns (entered_now (One key)) st.last)
+Became up kind at late st act.TheVariants.Accept Done new = new ≡ st
+Became up kind at late st _ _ new = ⊥
 
 -- the steps on words that an act adds
 abbrev pub Adds : ℕ → Act → Reply → List WordStep → List WordStep → Type 0
