@@ -386,7 +386,7 @@ module _ (w : State) (t l : ℕ) (steady : IsSteady w) (there : t < length w.pla
 
       owners_given : Changed (owners_at w) (owners_at after) l (with_exclusive (owners_at w l) (Some u))
       owners_given = record {
-        here = ap (λ x. x.owners) (get_or-set_same w.locks l _ (unlocked kind.TheVariants.Mutex) lt) ∙ successor_one w t l u false steady.stands.hands own_t held unshared (with_exclusive (owners_at w l) None);
+        here = ap (λ x. x.owners) (get_or-set_same w.locks l _ (unlocked kind.TheVariants.Mutex) lt) ∙ successor_one w t l u false steady.stands.hands own_t held (unshared_at w t l at steady is) (with_exclusive (owners_at w l) None);
         other = λ k ne. ap (λ x. x.owners) (get_or-set_other w.locks l k _ (unlocked kind.TheVariants.Mutex) ne);
       }
 
