@@ -16,11 +16,11 @@ use Rattle.lot_base.specs.declared.keys.Line.TheVariants.{Main, Second}
 use Rattle.lot_steps.specs.declared.acts.Act.TheVariants as act
 use Rattle.lot_steps.specs.declared.acts.Reply.TheVariants as reply
 use Rattle.lot_steps.specs.declared.rwlock.Admission.{Admission}
-use Rattle.lot_steps.specs.declared.rwlock.Change.{Change}
-use Rattle.lot_steps.specs.declared.rwlock.Change.TheVariants as changes
+use Rattle.lot_steps.specs.declared.rwlock.changes.Change.{Change}
+use Rattle.lot_steps.specs.declared.rwlock.changes.Change.TheVariants as changes
 use Rattle.lot_steps.specs.declared.rwlock.RwLockPlace.{RwLockPlace}
-use Rattle.lot_steps.specs.declared.rwlock.RwLockPurpose.{RwLockPurpose}
-use Rattle.lot_steps.specs.declared.rwlock.RwLockPurpose.TheVariants as purpose
+use Rattle.lot_steps.specs.declared.rwlock.purposes.RwLockPurpose.{RwLockPurpose}
+use Rattle.lot_steps.specs.declared.rwlock.purposes.RwLockPurpose.TheVariants as purpose
 use Rattle.lot_steps.specs.declared.rwlock.RwLockAt.{RwLockAt}
 use Rattle.lot_steps.specs.declared.rwlock.RwLockAt.TheVariants as at
 use Rattle.lot_steps.specs.declared.rwlock.enter.Decision.{Decision}
