@@ -337,7 +337,7 @@ module _ (r : Rules) (a : Admission) (s : Site) (t l : ℕ) (op : Op) (admits : 
       upgraded_now true e is = upgrades r s t admits.0 h tells true is e (knows_all r admits.0 access.Exclusive)
       upgraded_now false e is = upgrades r s t admits.0 h tells false is e (knows_all r admits.0 access.Exclusive)
 
-      upgrade_counts : (to : RwLockAt) → s.doing t ≡ at_rest upgrading (Some (Pends true)) → (b : Bool) → (count_in v == 0) ≡ b
+      pub upgrade_counts : (to : RwLockAt) → s.doing t ≡ at_rest upgrading (Some (Pends true)) → (b : Bool) → (count_in v == 0) ≡ b
           → Follows r s t (if b then Does Settle ∷ End ∷ [] else []) (doing_next (if b then next.End (entered how) else stays (upgrade to) (at.Count v)))
       upgrade_counts to is true e = settles r s t admits.0 h tells true upgrading is (eqb-true (count_in v) 0 e) nowhere
       upgrade_counts to is false e = goes r s t admits.0 h tells _ is

@@ -63,6 +63,13 @@ abbrev pub kept_claim : Option Want → Option Claim
 kept_claim (Some Upgradable) = Some (Has Upgradable)
 kept_claim start = None
 
+-- a right that a waking thread may keep
+abbrev pub MayKeep : Option Want → Type 0
+MayKeep None = Unit {0}
+MayKeep (Some Shared) = Unit {0}
+MayKeep (Some Upgradable) = Unit {0}
+MayKeep start = ⊥
+
 abbrev pub covers_line : Option Want → Line → Bool
 covers_line start m = is_main m && not (keeps_more start)
 
@@ -337,8 +344,9 @@ MayHearWaking r s t start m to whom told = ⊥
 
 -- what a thread may be told of its steps in and out of sections, and as it spins or is late
 abbrev pub MayHear : Rules → Admission → Site → ℕ → RwLockPlace → RwLockAt → Option ℕ → Reply → Type 0
-MayHear r a s t p (at.Decide seen) whom reply.Done = IsFree s Main
-MayHear r a s t p (at.Decide seen) whom (reply.Spun v) = (v ≡ code r s) × (standing t s.lock ≡ 0)
+MayHear r a s t p (at.Decide seen) whom reply.Done = (decided a p seen ≡ decisions.Park) × IsFree s Main
+MayHear r a s t p (at.Decide seen) whom (reply.Spun v) =
+    (decided a p seen ≡ decisions.Mark) × (v ≡ code r s) × (standing t s.lock ≡ 0)
 MayHear r a s t p (at.Count seen) whom reply.Done = IsFree s Second
 MayHear r a s t p (at.Count seen) whom (reply.Spun v) = (v ≡ code r s) × (standing t s.lock ≡ 0)
 MayHear r a s t p (at.Park to) whom told =
