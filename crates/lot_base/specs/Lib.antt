@@ -1,4 +1,5 @@
 pub mod Words
+pub mod Keys
 pub mod Lines
 pub mod Picks
 pub mod Requeues

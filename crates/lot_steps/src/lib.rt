@@ -5,9 +5,11 @@
 
 pub mod acts;
 pub mod bits;
+pub mod laws;
 pub mod mutex;
 pub mod owners;
 pub mod places;
+pub mod rwlock;
 #[cfg(test)]
 mod tests;
 

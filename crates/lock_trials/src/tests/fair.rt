@@ -4,7 +4,7 @@ ghost use Rattle.std.specs.Arc.{arc_value};
 ghost use Rattle.parking_lot_core.specs.Tokens.{IsTicketOf, IsTokenOf};
 ghost use Rattle.parking_lot.specs.Users.{lot_of};
 
-use super::three_of;
+use super::pair;
 use parking_lot::{FairMutex, Fault, Mutex, ParkingLot, Ticket, Token};
 use std::alloc::Global;
 use std::sync::atomic::AtomicBool;
@@ -200,41 +200,33 @@ fn hold_and_give_up<R: Threads + Wait + Sync>(
     gave
 }
 
-// A lot with two threads, and a mutex of it.
-fn two_seats(alloc: Global) -> Result<(Arc<ParkingLot>, Mutex<u8>, Ticket, Ticket), Fault>
-    ensures { IfOk result (λ made. (lot_of made.1 ≡ arc_value made.0) × IsTicketOf (arc_value made.0) made.2 × IsTicketOf (arc_value made.0) made.3) }
-{
-    let (lot, mut tickets) = ParkingLot::new(alloc, 1, 3)?;
-    let Some((one, other, third)) = three_of(&lot, &mut tickets) else {
-        return Err(Fault::NoMemory);
-    };
-    let mut token = third.enter();
-    match Mutex::new(&lot, &mut token, 0) {
-        Ok(mutex) => Ok((lot, mutex, one, other)),
-        Err((fault, _)) => Err(fault),
-    }
-}
-
 #[test]
 fn who_waits_gets_the_mutex_by_a_release(rt: HostRuntime) -> Result<(), Fail> {
-    let (lot, mutex, one, other) = two_seats(rt.alloc())?;
-    let gave = hold_and_give_up(&rt, &lot, &mutex, one, other, GivesUp::Plain);
+    let (lot, mutex, one, other) = pair(rt.alloc())?;
+    let gave = hold_and_give_up(
+        &rt,
+        &lot,
+        &mutex,
+        one.leave(),
+        other.leave(),
+        GivesUp::Plain,
+    );
     assert_eq!(rt; gave, (true, true));
     Ok(())
 }
 
 #[test]
 fn who_waits_is_handed_the_mutex(rt: HostRuntime) -> Result<(), Fail> {
-    let (lot, mutex, one, other) = two_seats(rt.alloc())?;
-    let gave = hold_and_give_up(&rt, &lot, &mutex, one, other, GivesUp::Fair);
+    let (lot, mutex, one, other) = pair(rt.alloc())?;
+    let gave = hold_and_give_up(&rt, &lot, &mutex, one.leave(), other.leave(), GivesUp::Fair);
     assert_eq!(rt; gave, (true, true));
     Ok(())
 }
 
 #[test]
 fn who_waits_has_the_mutex_during_a_bump(rt: HostRuntime) -> Result<(), Fail> {
-    let (lot, mutex, one, other) = two_seats(rt.alloc())?;
-    let gave = hold_and_give_up(&rt, &lot, &mutex, one, other, GivesUp::Bump);
+    let (lot, mutex, one, other) = pair(rt.alloc())?;
+    let gave = hold_and_give_up(&rt, &lot, &mutex, one.leave(), other.leave(), GivesUp::Bump);
     assert_eq!(rt; gave, (true, true));
     Ok(())
 }

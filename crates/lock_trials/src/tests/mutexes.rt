@@ -5,8 +5,9 @@ ghost use Rattle.std.specs.Sync.Mutex.{mutex_guard_value};
 ghost use Rattle.parking_lot_core.specs.Tokens.{IsTicketOf, IsTokenOf};
 ghost use Rattle.parking_lot.specs.Users.{lock_of, lot_of};
 
+use super::{lone, mutex_alone};
 use parking_lot::{Fault, Mutex, MutexGuard, ParkingLot, Ticket, Token, lock_api, lock_raw};
-use std::alloc::Global;
+use std::alloc::{AllocError, Global};
 use std::sync::atomic::AtomicUsize;
 use std::sync::atomic::Ordering::SeqCst;
 use std::sync::{Arc, Wait};
@@ -14,17 +15,6 @@ use std::test::Fail;
 use std::thread::{Threads, map_vec};
 
 const TIMES: u64 = 1000;
-
-// A lot of one word, with its one thread.
-fn lone(alloc: Global) -> Result<(Arc<ParkingLot>, Token), Fault>
-    ensures { IfOk result (λ made. IsTokenOf (arc_value made.0) made.1) }
-{
-    let (lot, mut tickets) = ParkingLot::new(alloc, 1, 1)?;
-    let Some(ticket) = tickets.pop() else {
-        return Err(Fault::NoMemory);
-    };
-    Ok((lot, ticket.enter()))
-}
 
 // Writes through a guard, which stays that of its mutex.
 fn cleared<'a>(mut guard: MutexGuard<'a, u8>) -> MutexGuard<'a, u8>
@@ -35,35 +25,57 @@ fn cleared<'a>(mut guard: MutexGuard<'a, u8>) -> MutexGuard<'a, u8>
     guard
 }
 
+// Puts another value under the mutex, and answers the one before.
+fn replace<R: Wait>(rt: &R, mutex: &Mutex<u8>, token: &mut Token, value: u8) -> u8
+    requires { IsTokenOf (lot_of mutex.now) token.old }
+    ensures { IsTokenOf (lot_of mutex.now) token.new }
+{
+    let mut guard = mutex.lock(rt, token);
+    let before = *guard;
+    *guard = value;
+    guard.unlock(rt, token);
+    before
+}
+
+// The same with 0, through a guard that goes about.
+fn clear<R: Wait>(rt: &R, mutex: &Mutex<u8>, token: &mut Token) -> u8
+    requires { IsTokenOf (lot_of mutex.now) token.old }
+    ensures { IsTokenOf (lot_of mutex.now) token.new }
+{
+    let guard = mutex.lock(rt, token);
+    let before = *guard;
+    cleared(guard).unlock(rt, token);
+    before
+}
+
 #[test]
 fn what_was_written_is_there(rt: HostRuntime) -> Result<(), Fail> {
-    let (lot, mut token) = lone(rt.alloc())?;
-    let mutex = Mutex::new(&lot, &mut token, 5)?;
-    let mut guard = mutex.lock(&rt, &mut token);
-    assert_eq!(rt; *guard, 5);
-    *guard = 7;
-    guard.unlock(&rt, &mut token);
-    let guard = mutex.lock(&rt, &mut token);
-    assert_eq!(rt; *guard, 7);
-    cleared(guard).unlock(&rt, &mut token);
-    let guard = mutex.lock(&rt, &mut token);
-    assert_eq!(rt; *guard, 0);
-    guard.unlock(&rt, &mut token);
+    let (mutex, mut token) = mutex_alone(rt.alloc(), 5)?;
+    let seen = [
+        replace(&rt, &mutex, &mut token, 7),
+        clear(&rt, &mutex, &mut token),
+        replace(&rt, &mutex, &mut token, 1),
+    ];
+    assert_eq!(rt; seen, [5, 7, 0]);
     Ok(())
+}
+
+// Pushes under the mutex. Whether that value alone is there.
+fn push<R: Wait>(rt: &R, mutex: &Mutex<Vec<u8>>, token: &mut Token) -> Result<bool, AllocError>
+    requires { IsTokenOf (lot_of mutex.now) token.old }
+{
+    let mut guard = mutex.lock(rt, token);
+    let pushed = guard.push(3);
+    let is_alone = guard.as_slice() == [3].as_slice();
+    guard.unlock(rt, token);
+    pushed?;
+    Ok(is_alone)
 }
 
 #[test]
 fn a_guard_lends_its_value(rt: HostRuntime) -> Result<(), Fail> {
-    let (lot, mut token) = lone(rt.alloc())?;
-    let mutex = match Mutex::new(&lot, &mut token, Vec::new(rt.alloc())) {
-        Ok(mutex) => mutex,
-        Err((fault, _)) => return Err(Fail::from(fault)),
-    };
-    let mut guard = mutex.lock(&rt, &mut token);
-    let pushed = guard.push(3u8);
-    assert_eq!(rt; guard.as_slice(), [3].as_slice());
-    guard.unlock(&rt, &mut token);
-    pushed?;
+    let (mutex, mut token) = mutex_alone(rt.alloc(), Vec::new(rt.alloc()))?;
+    assert!(rt; push(&rt, &mutex, &mut token)?);
     assert_eq!(rt; mutex.into_inner().as_slice(), [3].as_slice());
     Ok(())
 }
@@ -95,8 +107,7 @@ fn look<R: Wait>(rt: &R, mutex: &Mutex<u8>, token: &mut Token) -> (bool, bool)
 
 #[test]
 fn a_try_gets_a_free_mutex_alone(rt: HostRuntime) -> Result<(), Fail> {
-    let (lot, mut token) = lone(rt.alloc())?;
-    let mutex = Mutex::new(&lot, &mut token, 0)?;
+    let (mutex, mut token) = mutex_alone(rt.alloc(), 0)?;
     let seen = tries(&rt, &mutex, &mut token);
     assert_eq!(rt; seen, Some([(false, true), (true, false), (false, true)]));
     Ok(())
@@ -104,11 +115,8 @@ fn a_try_gets_a_free_mutex_alone(rt: HostRuntime) -> Result<(), Fail> {
 
 #[test]
 fn the_value_comes_out(rt: HostRuntime) -> Result<(), Fail> {
-    let (lot, mut token) = lone(rt.alloc())?;
-    let mut mutex = Mutex::new(&lot, &mut token, 10)?;
-    let mut guard = mutex.lock(&rt, &mut token);
-    *guard = 15;
-    guard.unlock(&rt, &mut token);
+    let (mut mutex, mut token) = mutex_alone(rt.alloc(), 10)?;
+    assert_eq!(rt; replace(&rt, &mutex, &mut token, 15), 10);
     assert_eq!(rt; *mutex.get_mut(), 15);
     *mutex.get_mut() = 20;
     assert_eq!(rt; mutex.into_inner(), 20);
@@ -127,11 +135,7 @@ impl Drop for Counts<'_> {
 
 // How often the value of a mutex had been dropped, before it was let go and after.
 fn drops_of(alloc: Global, drops: &AtomicUsize) -> Result<(usize, usize), Fault> {
-    let (lot, mut token) = lone(alloc)?;
-    let mutex = match Mutex::new(&lot, &mut token, Counts(drops)) {
-        Ok(mutex) => mutex,
-        Err((fault, _)) => return Err(fault),
-    };
+    let (mutex, _token) = mutex_alone(alloc, Counts(drops))?;
     let value = mutex.into_inner();
     let before = drops.load(SeqCst);
     drop(value);
@@ -149,10 +153,8 @@ fn the_value_is_dropped_once(rt: HostRuntime) -> Result<(), Fail> {
 fn a_full_lot_gives_the_value_back(rt: HostRuntime) -> Result<(), Fail> {
     let (lot, mut token) = lone(rt.alloc())?;
     let mutex = Mutex::new(&lot, &mut token, 8)?;
-    match Mutex::new(&lot, &mut token, 9) {
-        Ok(_) => panic!(rt; "the lot has one word"),
-        Err(refused) => assert_eq!(rt; refused, (Fault::LotFull, 9)),
-    }
+    let refused = Mutex::new(&lot, &mut token, 9).err();
+    assert_eq!(rt; refused, Some((Fault::LotFull, 9)));
     assert_eq!(rt; mutex.into_inner(), 8);
     Ok(())
 }
@@ -167,10 +169,7 @@ struct Room {
 
 impl Room {
     fn new(alloc: Global) -> Result<Room, Fault> {
-        let (lot, mut token) = lone(alloc)?;
-        let Ok(mutex) = Mutex::new(&lot, &mut token, 1) else {
-            return Err(Fault::LotFull);
-        };
+        let (mutex, token) = mutex_alone(alloc, 1)?;
         let Ok(mutex) = Arc::new(alloc, mutex) else {
             return Err(Fault::NoMemory);
         };
@@ -194,17 +193,21 @@ fn double<R: Wait>(rt: &R, mutex: &Mutex<u64>, token: &mut Token) -> u64
     value
 }
 
+fn double_inside<R: Wait>(rt: &R, mutex: &Mutex<Room>, token: &mut Token) -> u64
+    requires { IsTokenOf (lot_of mutex.now) token.old }
+    ensures { IsTokenOf (lot_of mutex.now) token.new }
+{
+    let mut guard = mutex.lock(rt, token);
+    let value = guard.double(rt);
+    guard.unlock(rt, token);
+    value
+}
+
 #[test]
 fn a_mutex_stands_inside_another(rt: HostRuntime) -> Result<(), Fail> {
-    let (lot, mut token) = lone(rt.alloc())?;
-    let mutex = match Mutex::new(&lot, &mut token, Room::new(rt.alloc())?) {
-        Ok(mutex) => mutex,
-        Err((fault, _)) => return Err(Fail::from(fault)),
-    };
-    let mut guard = mutex.lock(&rt, &mut token);
-    assert_eq!(rt; guard.double(&rt), 2);
-    assert_eq!(rt; guard.double(&rt), 4);
-    guard.unlock(&rt, &mut token);
+    let (mutex, mut token) = mutex_alone(rt.alloc(), Room::new(rt.alloc())?)?;
+    assert_eq!(rt; double_inside(&rt, &mutex, &mut token), 2);
+    assert_eq!(rt; double_inside(&rt, &mutex, &mut token), 4);
     Ok(())
 }
 

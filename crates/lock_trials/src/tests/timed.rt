@@ -1,26 +1,14 @@
 //! Calls of a mutex with a value that give up in time.
-ghost use Rattle.std.specs.Prelude.{IfOk};
-ghost use Rattle.std.specs.Arc.{arc_value};
 ghost use Rattle.parking_lot_core.specs.Tokens.{IsTokenOf};
+ghost use Rattle.parking_lot.specs.Users.{lot_of};
 
-use parking_lot::{Clock, Fault, Mutex, ParkingLot, TickClock, Token, lock_api, lock_raw};
-use std::alloc::Global;
-use std::sync::{Arc, Wait};
+use super::pair;
+use parking_lot::{Clock, Mutex, TickClock, Token, lock_api, lock_raw};
+use std::sync::Wait;
 use std::test::Fail;
 use std::time::Duration;
 
 const FAR: u64 = 1000;
-
-// A lot of one word, with two threads.
-fn pair(alloc: Global) -> Result<(Arc<ParkingLot>, Token, Token), Fault>
-    ensures { IfOk result (λ made. IsTokenOf (arc_value made.0) made.1 × IsTokenOf (arc_value made.0) made.2) }
-{
-    let (lot, mut tickets) = ParkingLot::new(alloc, 1, 2)?;
-    let (Some(one), Some(other)) = (tickets.pop(), tickets.pop()) else {
-        return Err(Fault::NoMemory);
-    };
-    Ok((lot, one.enter(), other.enter()))
-}
 
 // Whether it gets any mutex within so many nanoseconds.
 fn gets_within<M: lock_raw::RawMutexTimed, R: Wait>(
@@ -71,33 +59,58 @@ fn far_clock() -> TickClock {
     clock
 }
 
+// Waits in vain, for a time and up to a deadline. Whether it gave up each time, no sooner than it was to, and the first time
+// no later than the deadline.
+fn gives_up<R: Wait>(rt: &R, mutex: &Mutex<u8>, token: &mut Token, clock: &TickClock) -> bool
+    requires { IsTokenOf (lot_of mutex.now) token.old }
+    ensures { IsTokenOf (lot_of mutex.now) token.new }
+{
+    let got = gets_within(rt, mutex, token, clock, 5);
+    let first = clock.now();
+    let got_later = gets_before(rt, mutex, token, clock, FAR + 40);
+    let second = clock.now();
+    !got && !got_later && FAR + 5 < first && first < FAR + 40 && FAR + 40 < second
+}
+
+// Whether it gets a mutex in time that is free before and afterwards.
+fn gets_free_one<R: Wait>(rt: &R, mutex: &Mutex<u8>, token: &mut Token, clock: &TickClock) -> bool
+    requires { IsTokenOf (lot_of mutex.now) token.old }
+{
+    !mutex.is_locked(token) && gets_within(rt, mutex, token, clock, 5) && !mutex.is_locked(token)
+}
+
 #[test]
 fn who_waits_gives_up_in_time(rt: HostRuntime) -> Result<(), Fail> {
-    let (lot, mut holder, mut waiter) = pair(rt.alloc())?;
-    let mutex = Mutex::new(&lot, &mut holder, 0)?;
+    let (_lot, mutex, mut holder, mut waiter) = pair(rt.alloc())?;
     let clock = far_clock();
     let guard = mutex.lock(&rt, &mut holder);
-    assert!(rt; !gets_within(&rt, &mutex, &mut waiter, &clock, 5));
-    let first = clock.now();
-    assert!(rt; !gets_before(&rt, &mutex, &mut waiter, &clock, FAR + 40));
-    let second = clock.now();
+    assert!(rt; gives_up(&rt, &mutex, &mut waiter, &clock));
     guard.unlock(&rt, &mut holder);
-    assert!(rt; FAR + 5 < first && first < FAR + 40 && FAR + 40 < second);
-    assert!(rt; !mutex.is_locked(&mut waiter));
-    assert!(rt; gets_within(&rt, &mutex, &mut waiter, &clock, 5));
-    assert!(rt; !mutex.is_locked(&mut waiter));
+    assert!(rt; gets_free_one(&rt, &mutex, &mut waiter, &clock));
     Ok(())
+}
+
+// Whether it gets the mutex past the deadline: free, held, and free again.
+fn tries_in_turn<R: Wait>(
+    rt: &R,
+    mutex: &Mutex<u8>,
+    holder: &mut Token,
+    waiter: &mut Token,
+) -> [bool; 3]
+    requires { IsTokenOf (lot_of mutex.now) holder.old × IsTokenOf (lot_of mutex.now) waiter.old }
+{
+    let clock = TickClock::new();
+    let before = gets_before(rt, mutex, waiter, &clock, 0);
+    let guard = mutex.lock(rt, holder);
+    let held = gets_before(rt, mutex, waiter, &clock, 0);
+    guard.unlock(rt, holder);
+    [before, held, gets_before(rt, mutex, waiter, &clock, 0)]
 }
 
 #[test]
 fn a_free_mutex_is_got_past_the_deadline(rt: HostRuntime) -> Result<(), Fail> {
-    let (lot, mut holder, mut waiter) = pair(rt.alloc())?;
-    let mutex = Mutex::new(&lot, &mut holder, 0)?;
-    let clock = TickClock::new();
-    assert!(rt; gets_before(&rt, &mutex, &mut waiter, &clock, 0));
-    let guard = mutex.lock(&rt, &mut holder);
-    assert!(rt; !gets_before(&rt, &mutex, &mut waiter, &clock, 0));
-    guard.unlock(&rt, &mut holder);
-    assert!(rt; gets_before(&rt, &mutex, &mut waiter, &clock, 0));
+    let (_lot, mutex, mut holder, mut waiter) = pair(rt.alloc())?;
+    let got = tries_in_turn(&rt, &mutex, &mut holder, &mut waiter);
+    assert_eq!(rt; got, [true, false, true]);
     Ok(())
 }

@@ -1,0 +1,48 @@
+//! Clocks, and sleepers whose time is up.
+ghost use Rattle.parking_lot_core.specs.Tokens.{IsTokenOf, Stays};
+
+use super::line_up;
+use super::single::one_mutex;
+use lot_base::TickClock;
+use parking_lot_core::{Clock, Key, Note, ParkingLot, Slept, Token, Want, Word};
+use std::sync::Wait;
+use std::test::Fail;
+
+const KEY: Key = 4;
+
+// Sleeps up to a deadline. The key under which it was late, and that of its thread, which leaves its place.
+fn sleep_until<R: Wait>(
+    rt: &R,
+    lot: &ParkingLot,
+    token: &mut Token,
+    word: Word,
+    limit: (&TickClock, u64),
+) -> Option<(Key, Option<Key>)>
+    requires { IsTokenOf lot.now token.old }
+    ensures { Stays lot.now token.old token.new }
+{
+    match lot.sleep(rt, token, word, Want::Exclusive, Some(limit)) {
+        Slept::Late(mut section, key) => {
+            let stood = section.key_of(token.number());
+            section.remove(token.number());
+            section.leave(rt, token, Note::Normal);
+            Some((key, stood))
+        }
+        Slept::Handed(right) => {
+            right.forget();
+            None
+        }
+        Slept::Woken => None,
+    }
+}
+
+#[test]
+fn who_is_not_woken_is_late(rt: HostRuntime) -> Result<(), Fail> {
+    let (lot, mut token, word) = one_mutex(rt.alloc())?;
+    line_up(&rt, &lot, &mut token, KEY);
+    let clock = TickClock::starting_at(1000);
+    let late = sleep_until(&rt, &lot, &mut token, word, (&clock, 1005));
+    assert_eq!(rt; late, Some((KEY, Some(KEY))));
+    assert_eq!(rt; (lot.queued(&rt, &mut token, KEY), clock.now()), (0, 1006));
+    Ok(())
+}

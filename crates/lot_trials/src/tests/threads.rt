@@ -1,0 +1,341 @@
+//! Two threads.
+ghost use Rattle.std.specs.Prelude.{◌≡◌, IfOk, IfSome};
+ghost use Rattle.std.specs.Arc.{arc_value};
+ghost use Rattle.lot_words.specs.Lots.{IsWordOf};
+ghost use Rattle.lot_words.specs.RightsOf.{IsRightOf};
+ghost use Rattle.lot_words.specs.declared.words.WordKind.TheVariants.{Mutex};
+ghost use Rattle.lot_words.specs.declared.owners.Owner.TheVariants.{Exclusive};
+ghost use Rattle.parking_lot_core.specs.Tokens.{IsTicketOf, IsTokenOf, Stays};
+
+use super::line_up;
+use super::mutexes::{try_lock, unlock};
+use lot_base::TickClock;
+use parking_lot_core::{
+    Fault, Key, Keys, Note, ParkingLot, Right, Slept, Ticket, Token, Want, Word, WordKind,
+};
+use std::alloc::Global;
+use std::sync::atomic::AtomicBool;
+use std::sync::atomic::Ordering::SeqCst;
+use std::sync::{Arc, Wait};
+use std::test::Fail;
+use std::thread::{Threads, join, yield_now};
+
+const KEY: Key = 0;
+
+const ROUNDS: usize = 200;
+
+// Of rounds in which both threads let time pass.
+const SLOW_ROUNDS: usize = 20;
+
+// How often a thread lets others run then.
+const PAUSE: usize = 5;
+
+fn delay(turns: usize) {
+    for _ in 0..turns {
+        yield_now();
+    }
+}
+
+fn stands<R: Wait>(rt: &R, lot: &ParkingLot, token: &mut Token) -> bool
+    requires { IsTokenOf lot.now token.old }
+    ensures { Stays lot.now token.old token.new }
+{
+    let section = lot.enter(rt, token, Keys::One(KEY));
+    let key = section.key_of(token.number());
+    section.leave(rt, token, Note::Normal);
+    key.is_some()
+}
+
+// Gives a right to the first in the line, once somebody stands there.
+fn hand_over<R: Wait>(rt: &R, lot: &ParkingLot, token: &mut Token, right: Right, turns: usize)
+    requires { IsTokenOf lot.now token.old × IsRightOf lot.now.words right }
+    ensures { Stays lot.now token.old token.new }
+{
+    for _ in rt.forever() {
+        let mut section = lot.enter(rt, token, Keys::One(KEY));
+        if let Some(thread) = section.take_first(KEY) {
+            section.give(rt, thread, right);
+            delay(turns);
+            section.leave(rt, token, Note::HandOff);
+            return;
+        }
+        section.leave(rt, token, Note::Normal);
+        yield_now();
+    }
+    unreachable!()
+}
+
+// The right that somebody hands over.
+fn receive<R: Wait>(rt: &R, lot: &ParkingLot, token: &mut Token, word: Word) -> Option<Right>
+    requires { IsTokenOf lot.now token.old × (word.kind ≡ Mutex) }
+    ensures own { Stays lot.now token.old token.new }
+    ensures right { IfSome result (λ right. IsRightOf lot.now.words right × (right.word ≡ word) × (right.owner ≡ Exclusive)) }
+{
+    line_up(rt, lot, token, KEY);
+    match lot.sleep(rt, token, word, Want::Exclusive, None::<(&TickClock, u64)>) {
+        Slept::Handed(right) => Some(right),
+        Slept::Woken => None,
+        Slept::Late(section, _) => {
+            section.leave(rt, token, Note::Normal);
+            None
+        }
+    }
+}
+
+// Hands the right over and gets it back, so many times.
+fn serve<R: Wait>(rt: &R, lot: &ParkingLot, ticket: Ticket, word: Word) -> usize
+    requires { IsTicketOf lot.now ticket × IsWordOf lot.now.words word × (word.kind ≡ Mutex) }
+{
+    let mut token = ticket.enter();
+    let mut served = 0;
+    for round in 0..ROUNDS {
+        if let Some(right) = try_lock(lot, &mut token, word) {
+            hand_over(rt, lot, &mut token, right, 0);
+            if let Some(right) = receive(rt, lot, &mut token, word) {
+                unlock(lot, &mut token, right);
+                served = round + 1;
+            }
+        }
+    }
+    drop(token.leave());
+    served
+}
+
+fn answer<R: Wait>(rt: &R, lot: &ParkingLot, ticket: Ticket, word: Word) -> usize
+    requires { IsTicketOf lot.now ticket × IsWordOf lot.now.words word × (word.kind ≡ Mutex) }
+{
+    let mut token = ticket.enter();
+    let mut answered = 0;
+    for round in 0..ROUNDS {
+        if let Some(right) = receive(rt, lot, &mut token, word) {
+            hand_over(rt, lot, &mut token, right, 0);
+            answered = round + 1;
+        }
+    }
+    drop(token.leave());
+    answered
+}
+
+// Two seats of a lot, and a mutex of it.
+fn two_seats(alloc: Global) -> Result<(Arc<ParkingLot>, Ticket, Ticket, Word), Fault>
+    ensures { IfOk result (λ made. IsTicketOf (arc_value made.0) made.1 × IsTicketOf (arc_value made.0) made.2 × IsWordOf (arc_value made.0).words made.3 × (made.3.kind ≡ Mutex)) }
+{
+    let (lot, mut tickets) = ParkingLot::new(alloc, 1, 2)?;
+    let (Some(one), Some(other)) = (tickets.pop(), tickets.pop()) else {
+        return Err(Fault::NoMemory);
+    };
+    let mut token = one.enter();
+    let word = lot.new_word(&mut token, WordKind::Mutex)?;
+    Ok((lot, token.leave(), other, word))
+}
+
+fn both_serve<R: Threads + Wait + Sync>(
+    rt: &R,
+    lot: &ParkingLot,
+    one: Ticket,
+    other: Ticket,
+    word: Word,
+) -> (usize, usize)
+    requires { IsTicketOf lot.now one × IsTicketOf lot.now other × IsWordOf lot.now.words word × (word.kind ≡ Mutex) }
+{
+    join(
+        rt,
+        move || serve(rt, lot, one, word),
+        move || answer(rt, lot, other, word),
+    )
+}
+
+#[test]
+fn a_right_goes_round(rt: HostRuntime) -> Result<(), Fail> {
+    let (lot, one, other, word) = two_seats(rt.alloc())?;
+    let rounds = both_serve(&rt, &lot, one, other, word);
+    assert_eq!(rt; rounds, (ROUNDS, ROUNDS));
+    Ok(())
+}
+
+// Wakes the other thread as soon as it stands in the line, by a plain note and by a right in turn. A right lies in the
+// record for a while before the note is there.
+fn wake_early<R: Wait>(rt: &R, lot: &ParkingLot, ticket: Ticket, word: Word)
+    requires { IsTicketOf lot.now ticket × IsWordOf lot.now.words word × (word.kind ≡ Mutex) }
+{
+    let mut token = ticket.enter();
+    for _ in 0..SLOW_ROUNDS {
+        take_one(rt, lot, &mut token);
+        let right = lock(rt, lot, &mut token, word);
+        hand_over(rt, lot, &mut token, right, PAUSE);
+    }
+    drop(token.leave());
+}
+
+fn take_one<R: Wait>(rt: &R, lot: &ParkingLot, token: &mut Token)
+    requires { IsTokenOf lot.now token.old }
+    ensures { Stays lot.now token.old token.new }
+{
+    for _ in rt.forever() {
+        let mut section = lot.enter(rt, token, Keys::One(KEY));
+        let taken = section.take_first(KEY);
+        section.leave(rt, token, Note::Normal);
+        if taken.is_some() {
+            return;
+        }
+        yield_now();
+    }
+}
+
+fn lock<R: Wait>(rt: &R, lot: &ParkingLot, token: &mut Token, word: Word) -> Right
+    requires { IsTokenOf lot.now token.old × IsWordOf lot.now.words word × (word.kind ≡ Mutex) }
+    ensures own { Stays lot.now token.old token.new }
+    ensures right { IsRightOf lot.now.words result × (result.word ≡ word) × (result.owner ≡ Exclusive) }
+{
+    for _ in rt.forever() {
+        if let Some(right) = try_lock(lot, token, word) {
+            return right;
+        }
+        yield_now();
+    }
+    unreachable!()
+}
+
+// How often the thread is woken as it is to be: by a note, and by a right, in turn. It is late to its sleep, so that it
+// finds its note without parking, and its parker returns early the next time.
+fn sleep_late<R: Wait>(rt: &R, lot: &ParkingLot, ticket: Ticket, word: Word) -> usize
+    requires { IsTicketOf lot.now ticket × IsWordOf lot.now.words word × (word.kind ≡ Mutex) }
+{
+    let mut token = ticket.enter();
+    let mut woken = 0;
+    for round in 0..SLOW_ROUNDS {
+        line_up(rt, lot, &mut token, KEY);
+        delay(PAUSE);
+        let by_note = match lot.sleep(
+            rt,
+            &mut token,
+            word,
+            Want::Exclusive,
+            None::<(&TickClock, u64)>,
+        ) {
+            Slept::Woken => true,
+            Slept::Handed(right) => {
+                unlock(lot, &mut token, right);
+                false
+            }
+            Slept::Late(section, _) => {
+                section.leave(rt, &mut token, Note::Normal);
+                false
+            }
+        };
+        let standing = stands(rt, lot, &mut token);
+        if let Some(right) = receive(rt, lot, &mut token, word) {
+            unlock(lot, &mut token, right);
+            if by_note && !standing && !stands(rt, lot, &mut token) && woken == round {
+                woken = round + 1;
+            }
+        }
+    }
+    drop(token.leave());
+    woken
+}
+
+fn both_wake<R: Threads + Wait + Sync>(
+    rt: &R,
+    lot: &ParkingLot,
+    one: Ticket,
+    other: Ticket,
+    word: Word,
+) -> usize
+    requires { IsTicketOf lot.now one × IsTicketOf lot.now other × IsWordOf lot.now.words word × (word.kind ≡ Mutex) }
+{
+    let (woken, ()) = join(
+        rt,
+        move || sleep_late(rt, lot, one, word),
+        move || wake_early(rt, lot, other, word),
+    );
+    woken
+}
+
+#[test]
+fn an_early_parker_loses_and_doubles_no_wake(rt: HostRuntime) -> Result<(), Fail> {
+    let (lot, one, other, word) = two_seats(rt.alloc())?;
+    assert_eq!(rt; both_wake(&rt, &lot, one, other, word), SLOW_ROUNDS);
+    Ok(())
+}
+
+// How many rounds ended by a wake, and how many by the deadline.
+fn sleep_briefly<R: Wait>(
+    rt: &R,
+    lot: &ParkingLot,
+    ticket: Ticket,
+    word: Word,
+    done: &AtomicBool,
+) -> (usize, usize)
+    requires { IsTicketOf lot.now ticket × IsWordOf lot.now.words word × (word.kind ≡ Mutex) }
+{
+    let mut token = ticket.enter();
+    let clock = TickClock::new();
+    let (mut woken, mut late) = (0, 0);
+    for round in 0..ROUNDS {
+        clock.restart();
+        line_up(rt, lot, &mut token, KEY);
+        let limit = Some((&clock, round as u64 % 8));
+        match lot.sleep(rt, &mut token, word, Want::Exclusive, limit) {
+            Slept::Woken => woken += 1,
+            Slept::Handed(right) => {
+                unlock(lot, &mut token, right);
+            }
+            Slept::Late(mut section, _) => {
+                section.remove(token.number());
+                section.leave(rt, &mut token, Note::Normal);
+                late += 1;
+            }
+        }
+    }
+    done.store(true, SeqCst);
+    drop(token.leave());
+    (woken, late)
+}
+
+// How many it took.
+fn wake_until<R: Wait>(rt: &R, lot: &ParkingLot, ticket: Ticket, done: &AtomicBool) -> u64
+    requires { IsTicketOf lot.now ticket }
+{
+    let mut token = ticket.enter();
+    let mut taken: u64 = 0;
+    for _ in rt.forever() {
+        if done.load(SeqCst) {
+            break;
+        }
+        let mut section = lot.enter(rt, &mut token, Keys::One(KEY));
+        if section.take_first(KEY).is_some() {
+            taken = taken.saturating_add(1);
+        }
+        section.leave(rt, &mut token, Note::Normal);
+        yield_now();
+    }
+    drop(token.leave());
+    taken
+}
+
+fn both_hurry<R: Threads + Wait + Sync>(
+    rt: &R,
+    lot: &ParkingLot,
+    one: Ticket,
+    other: Ticket,
+    word: Word,
+) -> ((usize, usize), u64)
+    requires { IsTicketOf lot.now one × IsTicketOf lot.now other × IsWordOf lot.now.words word × (word.kind ≡ Mutex) }
+{
+    let done = AtomicBool::new(false);
+    let seen = &done;
+    join(
+        rt,
+        move || sleep_briefly(rt, lot, one, word, seen),
+        move || wake_until(rt, lot, other, seen),
+    )
+}
+
+#[test]
+fn who_was_taken_is_woken_and_not_late(rt: HostRuntime) -> Result<(), Fail> {
+    let (lot, one, other, word) = two_seats(rt.alloc())?;
+    let ((woken, late), taken) = both_hurry(&rt, &lot, one, other, word);
+    assert_eq!(rt; (woken as u64, woken.saturating_add(late)), (taken, ROUNDS));
+    Ok(())
+}

@@ -1,0 +1,5 @@
+//! Raw mutexes, tried by threads. Nothing is here but tests: they meet the mutexes as their users do.
+#![tactic(auto)]
+
+#[cfg(test)]
+mod tests;
