@@ -39,7 +39,7 @@ use Rattle.lot_calls.specs.Kinds.{has_call}
 use Rattle.lot_steps.specs.Acts.{holds, outcome_of}
 use Rattle.lot_steps.specs.MutexSteps.{is_thread, with_exclusive}
 use Rattle.lot_calls.specs.Calls.{lock_in}
-use Rattle.lot_steps.specs.Steps.{first_place, has_right, is_idle, act_of, next_place, next_act, owners_after, taker, wants, spin_lock, late_key}
+use Rattle.lot_steps.specs.Steps.{first_place, has_right, is_idle, act_of, next_place, next_act, owners_after, shares_after, taker, wants, spin_lock, late_key}
 use Rattle.abstract_locks.specs.Codes.{fills}
 use Rattle.abstract_locks.specs.Locks.{Taken, wants_shared}
 use Rattle.abstract_locks.specs.Purposes.{rules_of}
@@ -130,9 +130,20 @@ with_word w l word owners = record w {
   });
 }
 
+-- a thread's number of shared rights of a lock
+abbrev pub share_at : State → ℕ → ℕ → ℕ
+share_at w l t = slice_index_or (shares_at w l) t 0
+
+-- the numbers of shared rights, where that of t is another
+abbrev pub shares_with : State → ℕ → ℕ → Option ℕ → List (List ℕ)
+shares_with w l t None = w.shares
+shares_with w l t (Some n) = slice_set w.shares l (slice_set (shares_at w l) t n)
+
 -- an operation on a word, by which the thread may get the lock or give it up
 abbrev pub state_after_operation : State → ℕ → Place → ℕ → Op → State
-state_after_operation w t p l op = with_word w l (apply op (word_at w l)) (owners_after p t (word_at w l) (owners_at w l))
+state_after_operation w t p l op = record (with_word w l (apply op (word_at w l)) (owners_after p t (word_at w l) (owners_at w l))) {
+  shares = shares_with w l t (shares_after p (word_at w l) (share_at w l t));
+}
 
 abbrev pub is_free : State → ℕ → Bool
 is_free w key = is_none (section_at w key)
