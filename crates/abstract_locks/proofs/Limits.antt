@@ -22,7 +22,7 @@ module _ (r : Rules) (s : LockState) (t : ℕ) (there : t < length s.shared) (so
   rolls_by None e = grind arith
   rolls_by (Some p) e = rolls p e p.falls_back refl
 
-  keeps : (case : LockCase) → Needs r case s t → (IsHandOff case → ⊥) → HasLimit r (locks.after r case s t)
+  keeps : (case : LockCase) → Needs r case s t → (IsHandOff case → ⊥) → HasLimit r (locks.after_case r case s t)
   keeps (Enter Shared) n other = grind (arith, one_more s.shared t there)
   keeps (Enter Upgradable) n other = grind arith
   keeps (Enter Exclusive) n other = grind arith

@@ -7,7 +7,7 @@ use Rattle.std.proofs.lemmas.List.Folds.{sum_by-replicate}
 use Rattle.std.specs.Prelude.{not, filter, take, drop}
 use Rattle.lot_base.specs.declared.wants.Want.{Want}
 use Rattle.lot_base.specs.declared.wants.Want.TheVariants.{Shared}
-use Rattle.abstract_locks.specs.Locks.{LockState, Queued, Taken, Sort, Rules, LockCase, Enter, Pend, Settle, Leave, Convert, Park, Aside, TakeFirst, TakeAside, TakePicked, Wake, HandOff, Late, Rollback, Needs, after, IsLockState, Knows, KnowsAll, NoWriter, Owns, leaving, sharing_from, sharing_handed, succeeding, times, one_if_some, taking, wants_shared, front_of, stop_of, opening_lock}
+use Rattle.abstract_locks.specs.Locks.{LockState, Queued, Taken, Sort, Rules, LockCase, Enter, Pend, Settle, Leave, Convert, Park, Aside, TakeFirst, TakeAside, TakePicked, Wake, HandOff, Late, Rollback, Needs, after_case, IsLockState, Knows, KnowsAll, NoWriter, Owns, leaving, sharing_from, sharing_handed, succeeding, times, one_if_some, taking, wants_shared, front_of, stop_of, opening_lock}
 
 none_if_not : {A : Type 0} (o : Option A) → ((x : A) → o ≡ Some x → ⊥) → o ≡ None
 none_if_not o h = grind arith
@@ -67,7 +67,7 @@ succeeds r s x c free knows more = grind (arith, nat_tests, no_aside r s c)
 
 -- ---------------------------------------------------------------- all cases
 
-pub case_keeps : (r : Rules) (c : LockCase) (s : LockState) (t : ℕ) → IsLockState r s → Needs r c s t → IsLockState r (after r c s t)
+pub case_keeps : (r : Rules) (c : LockCase) (s : LockState) (t : ℕ) → IsLockState r s → Needs r c s t → IsLockState r (after_case r c s t)
 case_keeps r (Enter x) s t c n = grind arith
 case_keeps r Pend s t c n = grind (arith, no_aside r s c)
 case_keeps r Settle s t c n = grind arith

@@ -7,7 +7,7 @@ use Rattle.std.proofs.lemmas.List.Sums.{sum_by-set}
 use Rattle.lot_base.specs.declared.wants.Want.{Want}
 use Rattle.lot_base.specs.declared.wants.Want.TheVariants.{Exclusive, Upgradable, Shared}
 use Rattle.abstract_locks.specs.Locks.{LockState, Queued, Taken, Sort, Mutex, Normal, Recursive, Semaphore, Rules, LockCase, Enter, Pend, Settle, Leave, Convert, Park, Aside, TakeFirst, TakeAside, TakePicked, Wake, HandOff, Late, Rollback, Knows, IsLockState, IsBlocked, readers, standing, times, is_thread, one_if_some, put, let_go}
-use Rattle.abstract_locks.specs.Sites.{Line, Main, Second, Doing, Site, IsSite, Begin, End, In, Out, Mark, Clear, FindNobody, MarkOwned, MarkBrought, Bring, Does, Needed, after, done, case_doing, idle, leaves, wakened, counts_taken}
+use Rattle.abstract_locks.specs.Sites.{Line, Main, Second, Doing, Site, IsSite, Begin, End, In, Out, Mark, Clear, FindNobody, MarkOwned, MarkBrought, Bring, Does, Needed, after_deed, done, case_doing, idle, leaves, wakened, counts_taken}
 use Rattle.abstract_locks.specs.Codes.{bit}
 use Rattle.abstract_locks.specs.Permits.{total, debt, debts, HasPermits, EachDeedKeepsPermits, PermitsAreLookedAfter}
 use Rattle.abstract_locks.specs.Locks as locks
@@ -96,18 +96,18 @@ module _ (r : Rules) (s : Site) (t : ℕ) (sort : r.sort ≡ Semaphore) (lt : t 
   does : (e : Doing) (pk ap : Bool) → (s.lock.queue ≢ [] → debt (s.doing t) ≤ debt e) → e.sets ≡ false → HasPermits r (record s { parked = pk; aside_parked = ap; doing = put s.doing t e })
   does e pk ap more unset = turns r s t lt h p (record s { parked = pk; aside_parked = ap; doing = put s.doing t e }) e (put_changed s.doing t e) refl (λ left. inr (left, let a = more left in omega arith)) (λ u ne one. one) unset
 
-  acts : (c : LockCase) → length (locks.after r c s.lock t).shared ≡ length s.lock.shared
-      → ((locks.after r c s.lock t).queue ≢ [] → (r.limit ≤ readers (locks.after r c s.lock t)) ⊎ ((s.lock.queue ≢ []) × (readers s.lock + debt (s.doing t) ≤ readers (locks.after r c s.lock t) + debt (case_doing r.sort s (locks.after r c s.lock t) c (s.doing t)))))
-      → ((u : ℕ) → u ≢ t → 1 ≤ standing u (locks.after r c s.lock t) → 1 ≤ standing u s.lock) → (case_doing r.sort s (locks.after r c s.lock t) c (s.doing t)).sets ≡ false → HasPermits r (after r (Does c) s t)
-  acts c same enough stood unset = turns r s t lt h p (done r c s t (locks.after r c s.lock t)) _ (put_changed s.doing t _) same enough stood unset
+  acts : (c : LockCase) → length (locks.after_case r c s.lock t).shared ≡ length s.lock.shared
+      → ((locks.after_case r c s.lock t).queue ≢ [] → (r.limit ≤ readers (locks.after_case r c s.lock t)) ⊎ ((s.lock.queue ≢ []) × (readers s.lock + debt (s.doing t) ≤ readers (locks.after_case r c s.lock t) + debt (case_doing r.sort s (locks.after_case r c s.lock t) c (s.doing t)))))
+      → ((u : ℕ) → u ≢ t → 1 ≤ standing u (locks.after_case r c s.lock t) → 1 ≤ standing u s.lock) → (case_doing r.sort s (locks.after_case r c s.lock t) c (s.doing t)).sets ≡ false → HasPermits r (after_deed r (Does c) s t)
+  acts c same enough stood unset = turns r s t lt h p (done r c s t (locks.after_case r c s.lock t)) _ (put_changed s.doing t _) same enough stood unset
 
   no_debt : Needed r End s t → debt (s.doing t) ≡ 0
   no_debt n = grind (arith, sort, h.covered t)
 
-  ends : Needed r End s t → HasPermits r (after r End s t)
+  ends : Needed r End s t → HasPermits r (after_deed r End s t)
   ends n = does idle s.parked s.aside_parked (λ left. let e = no_debt n in omega arith) refl
 
-  finds : (m : Line) → Needed r (FindNobody m) s t → HasPermits r (after r (FindNobody m) s t)
+  finds : (m : Line) → Needed r (FindNobody m) s t → HasPermits r (after_deed r (FindNobody m) s t)
   finds Main n = does _ s.parked s.aside_parked (λ left. absurd (left n.2)) (p.unset t)
   finds Second n = does _ s.parked s.aside_parked (λ left. grind (arith, h.covered t)) (p.unset t)
 
@@ -144,10 +144,10 @@ module _ (r : Rules) (s : Site) (t : ℕ) (sort : r.sort ≡ Semaphore) (lt : t 
   some_first : (x : Queued) → (rest : List Queued) → s.lock.queue ≡ x ∷ rest → s.lock.queue ≢ []
   some_first x rest e = λ f. cc
 
-  took : (x : Queued) → Needed r (Does (TakeFirst x)) s t → readers s.lock + debt (s.doing t) ≤ readers s.lock + debt (case_doing r.sort s (locks.after r (TakeFirst x) s.lock t) (TakeFirst x) (s.doing t))
+  took : (x : Queued) → Needed r (Does (TakeFirst x)) s t → readers s.lock + debt (s.doing t) ≤ readers s.lock + debt (case_doing r.sort s (locks.after_case r (TakeFirst x) s.lock t) (TakeFirst x) (s.doing t))
   took x n = let w = n.1.2 in let f = n.1.1 in grind (arith, h.covered t)
 
-  cases_keep : (c : LockCase) → Needed r (Does c) s t → HasPermits r (after r (Does c) s t)
+  cases_keep : (c : LockCase) → Needed r (Does c) s t → HasPermits r (after_deed r (Does c) s t)
   cases_keep (Enter Shared) n = acts (Enter Shared) (length-set s.lock.shared t _) (λ left. inr (left, let a = one_more in let b = entered_debt in omega arith)) (λ u ne one. one) (p.unset t)
   cases_keep (Leave Shared) n = acts (Leave Shared) (length-set s.lock.shared t _) (λ left. inr (left, let a = fewer_share s.lock.shared t n.0 in let b = left_debt r.sort sort (seen left) n.1 in omega arith)) (λ u ne one. one) (unset_left r.sort sort)
   cases_keep (Park x) n = acts (Park x) refl (λ left. inl (full x n.0.0)) (λ u ne one. grind (arith, nat_tests, times_append)) (p.unset t)
@@ -167,7 +167,7 @@ module _ (r : Rules) (s : Site) (t : ℕ) (sort : r.sort ≡ Semaphore) (lt : t 
 
   -- t leaves, and whom it has taken tries again: its debt goes to one of them
   abbrev v : Site
-  v = after r Out s t
+  v = after_deed r Out s t
 
   wakened_more : (o : Option Taken) (d : Doing) → debt d ≤ debt (wakened t o d)
   wakened_more None d = omega arith

@@ -3,7 +3,7 @@ use Rattle.std.proofs.Common.{ℕ, Bool, true, false, Option, Some, None, if◌t
 use Rattle.std.proofs.lemmas.Bool.{cases_eq}
 use Rattle.std.proofs.lemmas.Bool.Decides.{nat_tests}
 use Rattle.abstract_locks.specs.Locks.{Taken, Sort, Mutex, Normal, Recursive, Semaphore, Rules, Wake, readers, times, is_thread, standing, one_if_some, keep_from, let_go, put}
-use Rattle.abstract_locks.specs.Sites.{Line, Main, Second, Claim, Doing, Site, IsSite, IsEmpty, IsOpen, IsDebtor, Holds, Out, Needed, after, leaves, wakened, counts_some, counts_taken}
+use Rattle.abstract_locks.specs.Sites.{Line, Main, Second, Claim, Doing, Site, IsSite, IsEmpty, IsOpen, IsDebtor, Holds, Out, Needed, after_deed, leaves, wakened, counts_some, counts_taken}
 use Rattle.abstract_locks.proofs.LockKeeps.{case_keeps}
 use Rattle.abstract_locks.proofs.Hands.{kept_few, kept_counts, kept_by}
 
@@ -42,7 +42,7 @@ wakened_counts sort t (Some h) d c = grind (arith, nat_tests)
 
 module _ (r : Rules) (s : Site) (t : ℕ) (h : IsSite r s) (n : Needed r Out s t) where
   abbrev v : Site
-  v = after r Out s t
+  v = after_deed r Out s t
 
   other : (u : ℕ) → u ≢ t → Alike (v.doing u) (s.doing u)
   other u ne = let e : put s.doing t (leaves (s.doing t)) u ≡ s.doing u = grind (arith, nat_tests) in rw e (wakened_alike t (s.lock.taken u) (s.doing u))

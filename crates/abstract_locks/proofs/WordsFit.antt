@@ -5,7 +5,7 @@ use Rattle.lot_base.specs.Words.{apply}
 use Rattle.lot_base.specs.declared.wants.Want.{Want}
 use Rattle.lot_base.specs.declared.wants.Want.TheVariants.{Exclusive, Upgradable, Shared}
 use Rattle.abstract_locks.specs.Locks.{Rules, LockCase, Enter, Pend, Settle, Leave, Rollback, Knows, is_recursive}
-use Rattle.abstract_locks.specs.Sites.{Line, Main, Second, Pends, Site, IsSite, End, Mark, Clear, Does, Needed, after, has_readers}
+use Rattle.abstract_locks.specs.Sites.{Line, Main, Second, Pends, Site, IsSite, End, Mark, Clear, Does, Needed, after_deed, has_readers}
 use Rattle.abstract_locks.specs.Codes.{code, rw_code, TellsTrue, count_in, has_parked, has_aside, is_blocked, lost, rolled, IsHandOff}
 use Rattle.abstract_locks.specs.ReadersSteps.{Patience, Patient, Timed, Try, waits, when_blocked, counts_in, Full, Answer, Ok, No, entered, token, decided, decided_step, enters_step, releases_step, step_of, PurposeFits, IsAtWord, IsUnset, WordStepsCode, Purpose, Enters, Releases, At, First, Loads, Decides, Looks, Counts, RollsBack, GivesWay, Wakes, Parks, StandsAside, GoesAside, Clears, GivesUp, ToEnter, ToClear, ToLeave, Place, Goes, Ends, Move, moves, Decision, Refuses, Takes, Marks, Rests, WordStep, clear, looks, looked_by, ends_or_goes, comes_in, missed_first, counts_readers, gave_way, after_all, AllNeeded}
 use Rattle.abstract_locks.proofs.ReadersFit.{word_steps_follow}
@@ -24,14 +24,14 @@ module _ (r : Rules) (s : Site) (t : ℕ) (rw_sort : has_readers r.sort ≡ true
   behind m = code r (after_all r m.deeds s t)
 
   behind_end : (a : Answer) → behind (moves (End ∷ []) (Ends a)) ≡ code r s
-  behind_end a = coded (after r End s t) ∙ sym (coded s)
+  behind_end a = coded (after_deed r End s t) ∙ sym (coded s)
 
   -- a case, at the end of its call or not
-  behind_case : (c : LockCase) → Needed r (Does c) s t → (IsHandOff c → ⊥) → code r (after r (Does c) s t) + lost s.lock.pending c ≡ code r s + rolled s.lock.pending c
-  behind_case c n other = rw (coded (after r (Does c) s t), coded s) (follows r s t there h c n other)
+  behind_case : (c : LockCase) → Needed r (Does c) s t → (IsHandOff c → ⊥) → code r (after_deed r (Does c) s t) + lost s.lock.pending c ≡ code r s + rolled s.lock.pending c
+  behind_case c n other = rw (coded (after_deed r (Does c) s t), coded s) (follows r s t there h c n other)
 
-  behind_case_end : (c : LockCase) → Needed r (Does c) s t → (IsHandOff c → ⊥) → code r (after r End (after r (Does c) s t) t) + lost s.lock.pending c ≡ code r s + rolled s.lock.pending c
-  behind_case_end c n other = rw (coded (after r End (after r (Does c) s t) t), coded s) (follows r s t there h c n other)
+  behind_case_end : (c : LockCase) → Needed r (Does c) s t → (IsHandOff c → ⊥) → code r (after_deed r End (after_deed r (Does c) s t) t) + lost s.lock.pending c ≡ code r s + rolled s.lock.pending c
+  behind_case_end c n other = rw (coded (after_deed r End (after_deed r (Does c) s t) t), coded s) (follows r s t there h c n other)
 
   behind_looks : (d : Decision) → behind (ends_or_goes (looked_by d (code r s))) ≡ code r s
   behind_looks (Refuses a) = behind_end a
@@ -43,17 +43,17 @@ module _ (r : Rules) (s : Site) (t : ℕ) (rw_sort : has_readers r.sort ≡ true
   exchanged from to won other true e here there = sym (here (eqb-true (code r s) from e))
   exchanged from to won other false e here there = sym there
 
-  marked : (m : Line) (by : ℕ) → s.parked ≡ false → code r (after r (Mark Main) s t) ≡ code r s + 1
-  marked m by e = rw (coded (after r (Mark Main) s t), coded s) (grind (arith, e))
+  marked : (m : Line) (by : ℕ) → s.parked ≡ false → code r (after_deed r (Mark Main) s t) ≡ code r s + 1
+  marked m by e = rw (coded (after_deed r (Mark Main) s t), coded s) (grind (arith, e))
 
-  marked_aside : s.aside_parked ≡ false → code r (after r (Mark Second) s t) ≡ code r s + 2
-  marked_aside e = rw (coded (after r (Mark Second) s t), coded s) (grind (arith, e))
+  marked_aside : s.aside_parked ≡ false → code r (after_deed r (Mark Second) s t) ≡ code r s + 2
+  marked_aside e = rw (coded (after_deed r (Mark Second) s t), coded s) (grind (arith, e))
 
-  cleared : bit_and (code r s) 18446744073709551614 ≡ code r (after r (Clear Main) s t)
-  cleared = rw (coded (after r (Clear Main) s t), coded s) (let a = clears_low (rw_code s) (rw (coded s) at small) in let b = low_is r s h in omega arith)
+  cleared : bit_and (code r s) 18446744073709551614 ≡ code r (after_deed r (Clear Main) s t)
+  cleared = rw (coded (after_deed r (Clear Main) s t), coded s) (let a = clears_low (rw_code s) (rw (coded s) at small) in let b = low_is r s h in omega arith)
 
-  cleared_aside : bit_and (code r s) 18446744073709551613 ≡ code r (after r (Clear Second) s t)
-  cleared_aside = rw (coded (after r (Clear Second) s t), coded s) (let a = clears_second (rw_code s) (rw (coded s) at small) in let b = second_is r s h in omega arith)
+  cleared_aside : bit_and (code r s) 18446744073709551613 ≡ code r (after_deed r (Clear Second) s t)
+  cleared_aside = rw (coded (after_deed r (Clear Second) s t), coded s) (let a = clears_second (rw_code s) (rw (coded s) at small) in let b = second_is r s h in omega arith)
 
   clears : (m : Line) (p2 : At) → apply (clear m p2).op (code r s) ≡ behind ((clear m p2).moved (code r s))
   clears Main p2 = cleared

@@ -384,23 +384,23 @@ Needs r Late s t = 1 ≤ times t s.queue + is_thread t s.aside
 Needs r Rollback s t = IsSomePending s.pending t × (s.aside ≡ None)
 
 -- and where it leads
-abbrev pub after : Rules → LockCase → LockState → ℕ → LockState
-after r (Enter x) s t = owning t x s
-after r Pend s t = pending_for t false s
-after r Settle s t = owning t Exclusive (record s { pending = None })
-after r (Leave right) s t = leaving t right s
-after r (Convert right want) s t = converted t want (leaving t right s)
-after r (Park want) s t = record s { queue = s.queue ++ (record { thread = t; want = want }) ∷ [] }
-after r Aside s t = record s { aside = Some t }
-after r (TakeFirst x) s t = record s { queue = drop 1 s.queue; taken = taking t (x ∷ []) s.taken }
-after r (TakeAside u) s t =
+abbrev pub after_case : Rules → LockCase → LockState → ℕ → LockState
+after_case r (Enter x) s t = owning t x s
+after_case r Pend s t = pending_for t false s
+after_case r Settle s t = owning t Exclusive (record s { pending = None })
+after_case r (Leave right) s t = leaving t right s
+after_case r (Convert right want) s t = converted t want (leaving t right s)
+after_case r (Park want) s t = record s { queue = s.queue ++ (record { thread = t; want = want }) ∷ [] }
+after_case r Aside s t = record s { aside = Some t }
+after_case r (TakeFirst x) s t = record s { queue = drop 1 s.queue; taken = taking t (x ∷ []) s.taken }
+after_case r (TakeAside u) s t =
     record s { aside = None; taken = put s.taken u (Some (record { by = t; want = Exclusive })) }
-after r (TakePicked start) s t =
+after_case r (TakePicked start) s t =
     record s { queue = unpicked r.sort start s.queue; taken = taking t (picked r.sort start s.queue) s.taken }
-after r Wake s t = record s { taken = let_go t s.taken }
-after r (HandOff right successor) s t = handed t right successor s
-after r Late s t = record s { queue = without t s.queue; aside = aside_without t s.aside }
-after r Rollback s t = falling_back t s.pending (record s { pending = None })
+after_case r Wake s t = record s { taken = let_go t s.taken }
+after_case r (HandOff right successor) s t = handed t right successor s
+after_case r Late s t = record s { queue = without t s.queue; aside = aside_without t s.aside }
+after_case r Rollback s t = falling_back t s.pending (record s { pending = None })
 
 -- ---------------------------------------------------------------- what holds in every state
 

@@ -6,7 +6,7 @@ use Rattle.lot_base.specs.declared.ops.Op.{Op}
 use Rattle.lot_base.specs.declared.ops.Op as op
 use Rattle.lot_base.specs.Words.{apply}
 use Rattle.abstract_locks.specs.Locks.{Enter, Pend, Settle, Leave, Park, Aside, TakeAside, TakePicked, unpicked, without, Late, Rollback, is_recursive, Rules, Knows, standing}
-use Rattle.abstract_locks.specs.Sites.{Line, Main, Second, Claim, Has, Pends, Doing, idle, is_main, is_empty, Site, IsSite, Needed, after, has_readers, Deed, End, In, Out, Mark, Clear, FindNobody, Does}
+use Rattle.abstract_locks.specs.Sites.{Line, Main, Second, Claim, Has, Pends, Doing, idle, is_main, is_empty, Site, IsSite, Needed, after_deed, has_readers, Deed, End, In, Out, Mark, Clear, FindNobody, Does}
 use Rattle.abstract_locks.specs.Codes.{code, count_in, has_aside, has_parked, is_blocked}
 
 pub data Patience : Type 0 where
@@ -286,11 +286,11 @@ doing_after p m = doing_next p (still_retries m.deeds p.retries) m.next
 
 abbrev pub after_all : Rules → List Deed → Site → ℕ → Site
 after_all r [] s t = s
-after_all r (d ∷ ds) s t = after_all r ds (after r d s t) t
+after_all r (d ∷ ds) s t = after_all r ds (after_deed r d s t) t
 
 abbrev pub AllNeeded : Rules → List Deed → Site → ℕ → Type 0
 AllNeeded r [] s t = Unit {0}
-AllNeeded r (d ∷ ds) s t = Needed r d s t × AllNeeded r ds (after r d s t) t
+AllNeeded r (d ∷ ds) s t = Needed r d s t × AllNeeded r ds (after_deed r d s t) t
 
 -- a step on the word: it may do what it does, the word follows, and so does what its place says
 pub record Follows (r : Rules) (s : Site) (t : ℕ) (p : Place) (m : Move) : Type 0 where

@@ -15,7 +15,7 @@ use Rattle.lot_calls.specs.declared.outcomes.Answer as answer
 use Rattle.lot_calls.specs.declared.outcomes.Outcome.{Outcome}
 use Rattle.lot_calls.specs.declared.outcomes.Outcome as outcome
 use Rattle.lot_calls.specs.Calls.{lock_in}
-use Rattle.abstract_locks.specs.Locks.{LockState, Taken, LockCase, Enter, Pend, Settle, Leave, Park, Aside, Wake, HandOff, Late, Rules, Rights, Mutex, Needs, after, rights_of, with_right, without_right, Owns, IsFree, IsBlocked, count, readers, put, standing, HasTakenNobody, IsLockState, opening_lock, times}
+use Rattle.abstract_locks.specs.Locks.{LockState, Taken, LockCase, Enter, Pend, Settle, Leave, Park, Aside, Wake, HandOff, Late, Rules, Rights, Mutex, Needs, after_case, rights_of, with_right, without_right, Owns, IsFree, IsBlocked, count, readers, put, standing, HasTakenNobody, IsLockState, opening_lock, times}
 use Rattle.abstract_locks.specs.Purposes.{Purpose, Enters, Releases, Converts, Bumps, Patience, Patient, Timed, Try, purpose_of, rules_of, IsMadeOf}
 
 -- what is remembered of a call: what its answer needs of earlier steps, and whether it tries again
@@ -97,7 +97,7 @@ pub data Event : Type 0 where
 
 abbrev pub locks_after : LocksState → ℕ → Event → ℕ → LockState
 locks_after w t Nothing = w.locks
-locks_after w t (AtLock l case) = put w.locks l (after (rules_at w l) case (w.locks l) t)
+locks_after w t (AtLock l case) = put w.locks l (after_case (rules_at w l) case (w.locks l) t)
 
 -- what the thread of the step remembers of it: an ownership, or a place in a queue, ends its retry
 abbrev pub going_on : Event → CallState → CallState

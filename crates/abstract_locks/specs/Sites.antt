@@ -271,29 +271,29 @@ bringing taken moved d = record d {
 abbrev pub with_doing : Site → ℕ → Doing → Site
 with_doing s t d = record s { doing = put s.doing t d }
 
-abbrev pub after : Rules → Deed → Site → ℕ → Site
-after r (Begin claims) s t = with_doing s t (record (s.doing t) { claims = claims })
-after r End s t = with_doing s t idle
-after r (In m) s t = with_doing s t (record (s.doing t) { inside = Some m })
-after r Out s t = record s {
+abbrev pub after_deed : Rules → Deed → Site → ℕ → Site
+after_deed r (Begin claims) s t = with_doing s t (record (s.doing t) { claims = claims })
+after_deed r End s t = with_doing s t idle
+after_deed r (In m) s t = with_doing s t (record (s.doing t) { inside = Some m })
+after_deed r Out s t = record s {
   lock = record s.lock { taken = let_go t s.lock.taken };
   doing = λ u. wakened t (s.lock.taken u) (put s.doing t (leaves (s.doing t)) u);
 }
-after r (Mark Main) s t = record s { parked = true }
-after r (Mark Second) s t = record s { aside_parked = true }
-after r (Clear Main) s t =
+after_deed r (Mark Main) s t = record s { parked = true }
+after_deed r (Mark Second) s t = record s { aside_parked = true }
+after_deed r (Clear Main) s t =
     record s { parked = false; doing = put s.doing t (record (s.doing t) { empty = None; brings = false }) }
-after r (Clear Second) s t =
+after_deed r (Clear Second) s t =
     record s { aside_parked = false; doing = put s.doing t (record (s.doing t) { empty = None; brings = false }) }
-after r (FindNobody m) s t =
+after_deed r (FindNobody m) s t =
     with_doing s t (record (s.doing t) { wakes = None; carries = true; covers = is_main m; empty = Some m })
-after r MarkBrought s t = record s { parked = true; doing = put s.doing t (record (s.doing t) { sets = false }) }
-after r MarkOwned s t = record s { parked = true; doing = put s.doing t (record (s.doing t) { brings = true }) }
-after r (Bring taken moved) s t = record s {
+after_deed r MarkBrought s t = record s { parked = true; doing = put s.doing t (record (s.doing t) { sets = false }) }
+after_deed r MarkOwned s t = record s { parked = true; doing = put s.doing t (record (s.doing t) { brings = true }) }
+after_deed r (Bring taken moved) s t = record s {
   lock = record s.lock { queue = s.lock.queue ++ moved; taken = taking t taken s.lock.taken };
   doing = put s.doing t (bringing taken moved (s.doing t));
 }
-after r (Does case) s t = done r case s t (locks.after r case s.lock t)
+after_deed r (Does case) s t = done r case s t (locks.after_case r case s.lock t)
 
 -- ---------------------------------------------------------------- what a deed needs
 
@@ -356,4 +356,4 @@ Needed r (Does case) s t = Needs r case s.lock t × Fits r s t case (s.doing t)
 
 abbrev pub EachDeedKeeps : Type 0
 EachDeedKeeps =
-    (r : Rules) (deed : Deed) (s : Site) (t : ℕ) → IsSite r s → Needed r deed s t → IsSite r (after r deed s t)
+    (r : Rules) (deed : Deed) (s : Site) (t : ℕ) → IsSite r s → Needed r deed s t → IsSite r (after_deed r deed s t)

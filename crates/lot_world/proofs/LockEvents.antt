@@ -202,7 +202,7 @@ module _ (w v : State) (t l : ℕ) (at : MutexPlace) (p2 : Place) (ds : List Act
 
   -- ---------------------------------------------------------------- one case
 
-  module _ (case : LockCase) (does : lock_then ≡ locks.after (rules_at w l) case (lock_state w l) t) (needs : Needs (rules_at w l) case (lock_state w l) t)
+  module _ (case : LockCase) (does : lock_then ≡ locks.after_case (rules_at w l) case (lock_state w l) t) (needs : Needs (rules_at w l) case (lock_state w l) t)
       (made : IsMadeOf ((mutex_profile at).purpose l) (if (mutex_profile at).gave_up then Some l else None) (mutex_profile at).released l case) (timely : IsTimely (mutex_profile at).late case) (o : Outcome) where
     led : (k : ℕ) → lock_state v k ≡ locks_after (locks_of w) t (AtLock l case) k
     led k = put_is (lock_state w) l _ k (lock_state v k) (λ e. rw e (lock_led ∙ does)) (λ ne. elsewhere k ne)
@@ -211,10 +211,10 @@ module _ (w v : State) (t l : ℕ) (at : MutexPlace) (p2 : Place) (ds : List Act
     may = may_happen (locks_of w) t l case ((mutex_profile at).purpose l) (call_then (rights w t)) (ap (λ p. call_state p (rights w t)) gone.from) refl made needs timely
 
     -- what a thread owns then, by what the case does to its rights at the lock
-    rights_led : (u : ℕ) (at_lock : Rights) → rights_of (locks.after (rules_at w l) case (lock_state w l) t) u ≡ at_lock → (k : ℕ) → rights v u k ≡ putting (rights w u) l at_lock k
+    rights_led : (u : ℕ) (at_lock : Rights) → rights_of (locks.after_case (rules_at w l) case (lock_state w l) t) u ≡ at_lock → (k : ℕ) → rights v u k ≡ putting (rights w u) l at_lock k
     rights_led u at_lock e k = put_is (rights w u) l at_lock k (rights v u k) (λ f. rw f (ap (λ s. rights_of s u) (lock_led ∙ does) ∙ e)) (λ ne. ap (λ s. rights_of s u) (elsewhere k ne))
 
-    rights_stay : (u : ℕ) → rights_of (locks.after (rules_at w l) case (lock_state w l) t) u ≡ rights_of (lock_state w l) u → (k : ℕ) → rights v u k ≡ rights w u k
+    rights_stay : (u : ℕ) → rights_of (locks.after_case (rules_at w l) case (lock_state w l) t) u ≡ rights_of (lock_state w l) u → (k : ℕ) → rights v u k ≡ rights w u k
     rights_stay u e k = elim (cases_eq k l) [
       | inl f ↦ rw f (ap (λ s. rights_of s u) (lock_led ∙ does) ∙ e)
       | inr ne ↦ ap (λ s. rights_of s u) (elsewhere k ne)
@@ -226,7 +226,7 @@ module _ (w v : State) (t l : ℕ) (at : MutexPlace) (p2 : Place) (ds : List Act
     by_case others own agrees = goes_by w v t (AtLock l case) o called may led others (rw (gone.to, gone.from) own) (rw gone.from agrees)
 
     -- owners stay
-    pub keeps_owners : Others w v t (AtLock l case) → ((u : ℕ) → rights_of (locks.after (rules_at w l) case (lock_state w l) t) u ≡ rights_of (lock_state w l) u)
+    pub keeps_owners : Others w v t (AtLock l case) → ((u : ℕ) → rights_of (locks.after_case (rules_at w l) case (lock_state w l) t) u ≡ rights_of (lock_state w l) u)
         → ((r : ℕ → Rights) → call_state p2 r ≡ unless_ended o (going_on (AtLock l case) (call_then r)))
         → (((u k : ℕ) → rights v u k ≡ rights w u k) → Agrees t (going_on (AtLock l case) (call_then (rights w t))) o (locks_of v)) → GoesOn (locks_of w) t o (locks_of v)
     keeps_owners others stay own agrees = by_case

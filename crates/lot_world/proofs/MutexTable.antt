@@ -23,7 +23,7 @@ use Rattle.lot_steps.specs.MutexSteps.{is_parked, is_locked, mutex_owners, with_
 use Rattle.lot_steps.specs.Steps.{next_place}
 use Rattle.abstract_locks.specs.Locks.{LockState, Taken, Queued, Rules, IsTaken, keep_from, one_if_some, is_thread, put as putting}
 use Rattle.abstract_locks.specs.Locks as locks
-use Rattle.abstract_locks.specs.Sites.{Doing, Has, Site, IsSite, Deed, Main, Begin, End, In, Out, Mark, Clear, FindNobody, MarkOwned, Bring, MarkBrought, Does, idle, found, is_empty, seen_main, counts_some, has_readers, after}
+use Rattle.abstract_locks.specs.Sites.{Doing, Has, Site, IsSite, Deed, Main, Begin, End, In, Out, Mark, Clear, FindNobody, MarkOwned, Bring, MarkBrought, Does, idle, found, is_empty, seen_main, counts_some, has_readers, after_deed}
 use Rattle.abstract_locks.specs.Codes as codes
 use Rattle.std.proofs.Math.Bool.{or-false}
 use Rattle.lot_world.specs.Refinement.{lock_seen, taken_at}
@@ -45,7 +45,7 @@ abbrev pub AreSingle : List Deed → Type 0
 AreSingle [] = Unit {0}
 AreSingle (d ∷ ds) = IsSingle d × AreSingle ds
 
-others_same_by : (r : Rules) (d : Deed) (s : Site) (t u : ℕ) → IsSingle d → u ≢ t → (after r d s t).doing u ≡ s.doing u
+others_same_by : (r : Rules) (d : Deed) (s : Site) (t u : ℕ) → IsSingle d → u ≢ t → (after_deed r d s t).doing u ≡ s.doing u
 others_same_by r (Begin c) s t u h ne = put_other s.doing t _ u ne
 others_same_by r End s t u h ne = put_other s.doing t _ u ne
 others_same_by r (In m) s t u h ne = put_other s.doing t _ u ne
@@ -62,14 +62,14 @@ others_same_by r (Does case) s t u h ne = put_other s.doing t _ u ne
 
 pub others_same : (r : Rules) (ds : List Deed) (s : Site) (t u : ℕ) → AreSingle ds → u ≢ t → (after_acts r (acts t ds) s).doing u ≡ s.doing u
 others_same r [] s t u h ne = refl
-others_same r (d ∷ ds) s t u h ne = others_same r ds (after r d s t) t u h.1 ne ∙ others_same_by r d s t u h.0 ne
+others_same r (d ∷ ds) s t u h ne = others_same r ds (after_deed r d s t) t u h.1 ne ∙ others_same_by r d s t u h.0 ne
 
 -- no deed fills a lock that nobody shares
 pub same_filled : (r : Rules) (ds : List deeds.Act) (s : Site) → has_readers r.sort ≡ false → (after_acts r ds s).filled ≡ s.filled
 same_filled r [] s h = refl
-same_filled r (a ∷ ds) s h = same_filled r ds (after r a.deed s a.by) h ∙ filled_by a.deed
+same_filled r (a ∷ ds) s h = same_filled r ds (after_deed r a.deed s a.by) h ∙ filled_by a.deed
   where
-    filled_by : (d : Deed) → (after r d s a.by).filled ≡ s.filled
+    filled_by : (d : Deed) → (after_deed r d s a.by).filled ≡ s.filled
     filled_by (Does case) = rw h (or-false s.filled)
     filled_by (Mark Main) = refl
     filled_by (Mark m) = refl

@@ -26,7 +26,7 @@ use Rattle.lot_steps.specs.declared.acts.Reply.TheVariants.{Value, Woken, TakenB
 use Rattle.lot_steps.specs.MutexSteps.{with_exclusive, mutex_owners, hand_off_word}
 use Rattle.lot_steps.specs.Steps.{next_place}
 use Rattle.abstract_locks.specs.Locks.{Rules, TakeFirst, put as putting}
-use Rattle.abstract_locks.specs.Sites.{Doing, Site, IsSite, Deed, Main, Second, In, Out, Does, idle, leaves, found, is_empty, has_readers, after}
+use Rattle.abstract_locks.specs.Sites.{Doing, Site, IsSite, Deed, Main, Second, In, Out, Does, idle, leaves, found, is_empty, has_readers, after_deed}
 use Rattle.abstract_locks.specs.Codes.{code}
 use Rattle.abstract_locks.specs.Purposes.{rules_of}
 use Rattle.abstract_locks.proofs.SiteKeeps.{deed_keeps}
@@ -58,7 +58,7 @@ unchanged f l = record { here = refl; other = λ j ne. refl }
 -- deeds one after another
 pub acts_keep : (r : Rules) (ds : List deeds.Act) (s : Site) → IsSite r s → AllNeeded r ds s → IsSite r (after_acts r ds s)
 acts_keep r [] s h n = h
-acts_keep r (a ∷ more) s h n = acts_keep r more (after r a.deed s a.by) (deed_keeps r a.deed s a.by h n.0) n.1
+acts_keep r (a ∷ more) s h n = acts_keep r more (after_deed r a.deed s a.by) (deed_keeps r a.deed s a.by h n.0) n.1
 
 -- what another lock sees of each place
 abbrev pub AlikeAt : ℕ → Place → Place → Type 0
