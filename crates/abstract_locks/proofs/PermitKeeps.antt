@@ -111,7 +111,7 @@ module _ (r : Rules) (s : Site) (t : ℕ) (sort : r.sort ≡ Semaphore) (lt : t 
   finds Main n = does _ s.parked s.aside_parked (λ left. absurd (left n.2)) (p.unset t)
   finds Second n = does _ s.parked s.aside_parked (λ left. grind (arith, h.covered t)) (p.unset t)
 
-  one_more : readers (locks.owning t Shared s.lock) ≡ readers s.lock + 1
+  one_more : readers (locks.with_owner t Shared s.lock) ≡ readers s.lock + 1
   one_more = let e = sum_by-set (λ (n : ℕ). n) s.lock.shared t (slice_index s.lock.shared t + 1) 0 lt in omega arith
 
   entered_debt : debt (s.doing t) ≤ 1 + debt (record (s.doing t) { retries = None; claims = None })
@@ -123,7 +123,7 @@ module _ (r : Rules) (s : Site) (t : ℕ) (sort : r.sort ≡ Semaphore) (lt : t 
     | inr one ↦ absurd (let e = p.unset one.0 in let f = one.1 in cc)
   ]
 
-  left_debt : (so : Sort) → so ≡ Semaphore → s.parked ≡ true → (s.doing t).wakes ≡ None → debt (case_doing so s (locks.leaving t Shared s.lock) (Leave Shared) (s.doing t)) ≡ 1 + debt (s.doing t)
+  left_debt : (so : Sort) → so ≡ Semaphore → s.parked ≡ true → (s.doing t).wakes ≡ None → debt (case_doing so s (locks.without_owner t Shared s.lock) (Leave Shared) (s.doing t)) ≡ 1 + debt (s.doing t)
   left_debt Semaphore e parked none = grind arith
   left_debt Mutex e parked none = absurd cc
   left_debt Normal e parked none = absurd cc
@@ -135,7 +135,7 @@ module _ (r : Rules) (s : Site) (t : ℕ) (sort : r.sort ≡ Semaphore) (lt : t 
     | inr past ↦ past
   ]
 
-  unset_left : (so : Sort) → so ≡ Semaphore → (case_doing so s (locks.leaving t Shared s.lock) (Leave Shared) (s.doing t)).sets ≡ false
+  unset_left : (so : Sort) → so ≡ Semaphore → (case_doing so s (locks.without_owner t Shared s.lock) (Leave Shared) (s.doing t)).sets ≡ false
   unset_left Semaphore e = p.unset t
   unset_left Mutex e = p.unset t
   unset_left Normal e = p.unset t

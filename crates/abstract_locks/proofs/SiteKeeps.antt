@@ -209,9 +209,9 @@ module _ (r : Rules) (s : Site) (t : ℕ) (h : IsSite r s) where
 
   -- an upgrade owns where nobody shares, and is pending where somebody does
   upgrades : (n : Needed r (Does (Convert Upgradable Exclusive)) s t) (b : Bool) → (readers s.lock == 0) ≡ b
-      → IsLockState r (if b then locks.owning t Exclusive (locks.leaving t Upgradable s.lock) else locks.pending_for t true (locks.leaving t Upgradable s.lock))
-      → Local r s (done r (Convert Upgradable Exclusive) s t (if b then locks.owning t Exclusive (locks.leaving t Upgradable s.lock) else locks.pending_for t true (locks.leaving t Upgradable s.lock))) t (s.doing t)
-      (case_doing r.sort s (if b then locks.owning t Exclusive (locks.leaving t Upgradable s.lock) else locks.pending_for t true (locks.leaving t Upgradable s.lock)) (Convert Upgradable Exclusive) (s.doing t))
+      → IsLockState r (if b then locks.with_owner t Exclusive (locks.without_owner t Upgradable s.lock) else locks.pending_for t true (locks.without_owner t Upgradable s.lock))
+      → Local r s (done r (Convert Upgradable Exclusive) s t (if b then locks.with_owner t Exclusive (locks.without_owner t Upgradable s.lock) else locks.pending_for t true (locks.without_owner t Upgradable s.lock))) t (s.doing t)
+      (case_doing r.sort s (if b then locks.with_owner t Exclusive (locks.without_owner t Upgradable s.lock) else locks.pending_for t true (locks.without_owner t Upgradable s.lock)) (Convert Upgradable Exclusive) (s.doing t))
   upgrades n true e now = grind (arith, nat_tests, h.emptied t, h.covered t, h.unwoken t, h.brought t, h.setting t)
   upgrades n false e now = grind (arith, nat_tests, h.emptied t, h.covered t, h.unwoken t, h.brought t, h.setting t)
 
@@ -219,8 +219,8 @@ module _ (r : Rules) (s : Site) (t : ℕ) (h : IsSite r s) where
   abbrev unpended : LockState
   unpended = record s.lock { pending = None }
 
-  rolls : (n : Needed r (Does Rollback) s t) (p : Pending) → s.lock.pending ≡ Some p → (b : Bool) → p.falls_back ≡ b → IsLockState r (if b then locks.owning t Upgradable unpended else unpended)
-      → Local r s (done r Rollback s t (if b then locks.owning t Upgradable unpended else unpended)) t (s.doing t) (case_doing r.sort s (if b then locks.owning t Upgradable unpended else unpended) Rollback (s.doing t))
+  rolls : (n : Needed r (Does Rollback) s t) (p : Pending) → s.lock.pending ≡ Some p → (b : Bool) → p.falls_back ≡ b → IsLockState r (if b then locks.with_owner t Upgradable unpended else unpended)
+      → Local r s (done r Rollback s t (if b then locks.with_owner t Upgradable unpended else unpended)) t (s.doing t) (case_doing r.sort s (if b then locks.with_owner t Upgradable unpended else unpended) Rollback (s.doing t))
   rolls n p e true f now = grind (arith, nat_tests, h.emptied t, h.covered t, h.unwoken t, h.brought t, h.setting t)
   rolls n p e false f now = grind (arith, nat_tests, h.emptied t, h.covered t, h.unwoken t, h.brought t, h.setting t)
 
@@ -269,7 +269,7 @@ module _ (r : Rules) (s : Site) (t : ℕ) (h : IsSite r s) where
         let knows = h.state.known_taken u a e in
         let more = counts_more r.sort a.want knows (λ k. rw k at free) c in
         let is : successor ≡ Some (record { thread = u; want = a.want }) = (n.0.2 u a.want).1 (rw (← mine) e, more) in
-        bars r u a.want (locks.sharing_handed t (locks.leaving t x s.lock)) knows more (rw is at (state (HandOff x successor) n)) (rw is at free)
+        bars r u a.want (locks.sharing_handed t (locks.without_owner t x s.lock)) knows more (rw is at (state (HandOff x successor) n)) (rw is at free)
 
     barred_now : s.lock.queue ≢ [] → IsOpen r.sort handed_lock → ⊥
     barred_now left free = let one = (h.covered t n.1.1).2 left in by_hand one.0 (s.lock.taken one.0) refl one.1
@@ -321,10 +321,10 @@ module _ (r : Rules) (s : Site) (t : ℕ) (h : IsSite r s) where
         }
 
   -- one more shares
-  shares_debt : (d : Doing) → Knows r.sort Shared → (d.retries ≡ None) ⊎ (d.retries ≡ Some Shared) → IsOpen r.sort (locks.owning t Shared s.lock) → IsDebtor r.sort d → IsDebtor r.sort (record d { retries = None; claims = None })
+  shares_debt : (d : Doing) → Knows r.sort Shared → (d.retries ≡ None) ⊎ (d.retries ≡ Some Shared) → IsOpen r.sort (locks.with_owner t Shared s.lock) → IsDebtor r.sort d → IsDebtor r.sort (record d { retries = None; claims = None })
   shares_debt d knows wanted free debt = grind arith
 
-  shares_local : (n : Needed r (Does (Enter Shared)) s t) → Local r s (done r (Enter Shared) s t (locks.owning t Shared s.lock)) t (s.doing t) (record (s.doing t) { retries = None; claims = None })
+  shares_local : (n : Needed r (Does (Enter Shared)) s t) → Local r s (done r (Enter Shared) s t (locks.with_owner t Shared s.lock)) t (s.doing t) (record (s.doing t) { retries = None; claims = None })
   shares_local n = record {
     state = state (Enter Shared) n;
     parked = λ e. grind arith;
@@ -350,7 +350,7 @@ module _ (r : Rules) (s : Site) (t : ℕ) (h : IsSite r s) where
   }
 
   -- one shares less
-  shares_less_local : (n : Needed r (Does (Leave Shared)) s t) (sort : Sort) → r.sort ≡ sort → Local r s (done r (Leave Shared) s t (locks.leaving t Shared s.lock)) t (s.doing t) (shares_less sort s (s.doing t))
+  shares_less_local : (n : Needed r (Does (Leave Shared)) s t) (sort : Sort) → r.sort ≡ sort → Local r s (done r (Leave Shared) s t (locks.without_owner t Shared s.lock)) t (s.doing t) (shares_less sort s (s.doing t))
   shares_less_local n Mutex e = grind (arith, state (Leave Shared) n, h.emptied t, h.covered t, h.unwoken t, h.brought t, h.setting t, share_other, fewer_share s.lock.shared t, alone_aside r s.lock h.state)
   shares_less_local n Normal e = grind (arith, state (Leave Shared) n, h.emptied t, h.covered t, h.unwoken t, h.brought t, h.setting t, share_other, fewer_share s.lock.shared t, alone_aside r s.lock h.state)
   shares_less_local n Recursive e = grind (arith, state (Leave Shared) n, h.emptied t, h.covered t, h.unwoken t, h.brought t, h.setting t, share_other, fewer_share s.lock.shared t, alone_aside r s.lock h.state)
@@ -360,7 +360,7 @@ module _ (r : Rules) (s : Site) (t : ℕ) (h : IsSite r s) where
   way_debt : (claims : Option Claim) → (s.lock.queue ≢ []) ⊎ ((s.doing t).brings ≡ true) → IsDebtor r.sort (gives_way s (s.doing t) claims) ⊎ ((s.lock.queue ≢ []) × (s.parked ≡ false) × ((s.doing t).sets ≡ false))
   way_debt claims one = grind (arith, h.brought t, h.setting t)
 
-  shared_local : (n : Needed r (Does (Convert Exclusive Shared)) s t) → Local r s (done r (Convert Exclusive Shared) s t (locks.owning t Shared (locks.leaving t Exclusive s.lock))) t (s.doing t) (gives_way s (s.doing t) None)
+  shared_local : (n : Needed r (Does (Convert Exclusive Shared)) s t) → Local r s (done r (Convert Exclusive Shared) s t (locks.with_owner t Shared (locks.without_owner t Exclusive s.lock))) t (s.doing t) (gives_way s (s.doing t) None)
   shared_local n = record {
     state = state (Convert Exclusive Shared) n;
     parked = λ e. grind arith;

@@ -277,33 +277,33 @@ pub data LockCase : Type 0 where
   Rollback : LockCase
 
 -- the state with one right more
-abbrev pub owning : ℕ → Want → LockState → LockState
-owning t Exclusive s = record s { exclusive = Some t }
-owning t Upgradable s = record s { upgradable = Some t }
-owning t Shared s = record s { shared = slice_set s.shared t (slice_index s.shared t + 1) }
-owning t x s = s
+abbrev pub with_owner : ℕ → Want → LockState → LockState
+with_owner t Exclusive s = record s { exclusive = Some t }
+with_owner t Upgradable s = record s { upgradable = Some t }
+with_owner t Shared s = record s { shared = slice_set s.shared t (slice_index s.shared t + 1) }
+with_owner t x s = s
 
 -- and with one right less
-abbrev pub leaving : ℕ → Want → LockState → LockState
-leaving t Exclusive s = record s { exclusive = None }
-leaving t Upgradable s = record s { upgradable = None }
-leaving t Shared s = record s { shared = slice_set s.shared t (slice_index s.shared t - 1) }
-leaving t x s = s
+abbrev pub without_owner : ℕ → Want → LockState → LockState
+without_owner t Exclusive s = record s { exclusive = None }
+without_owner t Upgradable s = record s { upgradable = None }
+without_owner t Shared s = record s { shared = slice_set s.shared t (slice_index s.shared t - 1) }
+without_owner t x s = s
 
 abbrev pub pending_for : ℕ → Bool → LockState → LockState
 pending_for t falls_back s = record s { pending = Some (record { thread = t; falls_back = falls_back }) }
 
 -- a writer owns where nobody shares, and is pending where somebody does
 abbrev pub writing : ℕ → Bool → LockState → LockState
-writing t falls_back s = if readers s == 0 then owning t Exclusive s else pending_for t falls_back s
+writing t falls_back s = if readers s == 0 then with_owner t Exclusive s else pending_for t falls_back s
 
 abbrev pub converted : ℕ → Want → LockState → LockState
 converted t Exclusive s = writing t true s
-converted t x s = owning t x s
+converted t x s = with_owner t x s
 
 abbrev pub falling_back : ℕ → Option Pending → LockState → LockState
 falling_back t None s = s
-falling_back t (Some p) s = if p.falls_back then owning t Upgradable s else s
+falling_back t (Some p) s = if p.falls_back then with_owner t Upgradable s else s
 
 -- the queue without a thread
 abbrev pub without : ℕ → List Queued → List Queued
@@ -332,14 +332,14 @@ sharing_handed t s = record s { shared = sharing_from t s.taken 0 s.shared; take
 
 abbrev pub succeeding : Want → ℕ → LockState → LockState
 succeeding Exclusive u s = writing u false s
-succeeding x u s = owning u x s
+succeeding x u s = with_owner u x s
 
 abbrev pub with_successor : Option Queued → LockState → LockState
 with_successor None s = s
 with_successor (Some x) s = succeeding x.want x.thread s
 
 abbrev pub handed : ℕ → Want → Option Queued → LockState → LockState
-handed t right successor s = with_successor successor (sharing_handed t (leaving t right s))
+handed t right successor s = with_successor successor (sharing_handed t (without_owner t right s))
 
 -- which rights may become which
 abbrev pub MayConvert : Want → Want → Type 0
@@ -385,11 +385,11 @@ Needs r Rollback s t = IsSomePending s.pending t × (s.aside ≡ None)
 
 -- and where it leads
 abbrev pub after_case : Rules → LockCase → LockState → ℕ → LockState
-after_case r (Enter x) s t = owning t x s
+after_case r (Enter x) s t = with_owner t x s
 after_case r Pend s t = pending_for t false s
-after_case r Settle s t = owning t Exclusive (record s { pending = None })
-after_case r (Leave right) s t = leaving t right s
-after_case r (Convert right want) s t = converted t want (leaving t right s)
+after_case r Settle s t = with_owner t Exclusive (record s { pending = None })
+after_case r (Leave right) s t = without_owner t right s
+after_case r (Convert right want) s t = converted t want (without_owner t right s)
 after_case r (Park want) s t = record s { queue = s.queue ++ (record { thread = t; want = want }) ∷ [] }
 after_case r Aside s t = record s { aside = Some t }
 after_case r (TakeFirst x) s t = record s { queue = drop 1 s.queue; taken = taking t (x ∷ []) s.taken }

@@ -67,24 +67,24 @@ other_counts : (u t : ℕ) → u ≢ t → is_thread u (Some t) ≡ 0
 other_counts u t ne = grind (arith, nat_tests)
 
 module _ (s : LockState) (t : ℕ) where
-  entered_own : s.exclusive ≡ None → rights_of (locks.owning t Exclusive s) t ≡ with_right Exclusive (rights_of s t)
+  entered_own : s.exclusive ≡ None → rights_of (locks.with_owner t Exclusive s) t ≡ with_right Exclusive (rights_of s t)
   entered_own free = let one : is_thread t (Some t) ≡ is_thread t s.exclusive + 1 = own_counts t ∙ ap (λ n. n + 1) (sym (none_counts t s.exclusive free)) in
       λ i. record (rights_of s t) { exclusive = one i }
 
-  entered_other : (u : ℕ) → u ≢ t → s.exclusive ≡ None → rights_of (locks.owning t Exclusive s) u ≡ rights_of s u
+  entered_other : (u : ℕ) → u ≢ t → s.exclusive ≡ None → rights_of (locks.with_owner t Exclusive s) u ≡ rights_of s u
   entered_other u ne free = let same : is_thread u (Some t) ≡ is_thread u s.exclusive = other_counts u t ne ∙ sym (none_counts u s.exclusive free) in
       λ i. record (rights_of s u) { exclusive = same i }
 
-  left_own : s.exclusive ≡ Some t → with_right Exclusive (rights_of (locks.leaving t Exclusive s) t) ≡ rights_of s t
+  left_own : s.exclusive ≡ Some t → with_right Exclusive (rights_of (locks.without_owner t Exclusive s) t) ≡ rights_of s t
   left_own own = let one : 1 ≡ is_thread t s.exclusive = sym (own_counts t) ∙ ap (is_thread t) (sym own) in
       λ i. record (rights_of s t) { exclusive = one i }
 
-  left_other : (u : ℕ) → u ≢ t → s.exclusive ≡ Some t → rights_of (locks.leaving t Exclusive s) u ≡ rights_of s u
+  left_other : (u : ℕ) → u ≢ t → s.exclusive ≡ Some t → rights_of (locks.without_owner t Exclusive s) u ≡ rights_of s u
   left_other u ne own = let same : 0 ≡ is_thread u s.exclusive = sym (other_counts u t ne) ∙ ap (is_thread u) (sym own) in
       λ i. record (rights_of s u) { exclusive = same i }
 
   abbrev given : LockState
-  given = locks.sharing_handed t (locks.leaving t Exclusive s)
+  given = locks.sharing_handed t (locks.without_owner t Exclusive s)
 
   -- where a mutex goes to its heir, it alone owns it
   module _ (state : IsLockState mutex s) (to : Option ℕ) where
@@ -96,7 +96,7 @@ module _ (s : LockState) (t : ℕ) where
 
         by_heir : (to : Option ℕ) → rights_of (locks.with_successor (heir to) given) u ≡ record (rights_of s u) { exclusive = is_thread u to }
         by_heir None = λ i. record (rights_of s u) { exclusive = 0; shared = slice_index (shared i) u }
-        by_heir (Some x) = ap (λ (n : ℕ). rights_of (if n == 0 then locks.owning x Exclusive given else locks.pending_for x false given) u) (ap (λ (xs : List ℕ). sum xs) shared ∙ state.unshared (λ h. h))
+        by_heir (Some x) = ap (λ (n : ℕ). rights_of (if n == 0 then locks.with_owner x Exclusive given else locks.pending_for x false given) u) (ap (λ (xs : List ℕ). sum xs) shared ∙ state.unshared (λ h. h))
             ∙ (λ i. record (rights_of s u) { exclusive = is_thread u (Some x); shared = slice_index (shared i) u })
 
     module _ (own : s.exclusive ≡ Some t) (apart : to ≢ Some t) where
@@ -264,7 +264,7 @@ abbrev pub Releases : ℕ → MutexPlace → Place → LockCase → Outcome → 
 Releases l at p2 case o = (r r2 : ℕ → Rights) → r ≡ one_more_at l Exclusive r2 → call_state p2 r2 ≡ unless_ended o (going_on (AtLock l case) (mutex_call_state l at r))
 
 module _ (w v : State) (t l : ℕ) (at : MutexPlace) (p2 : Place) (ds : List Act) (gone : Gone w v t l at p2 ds) where
-  module _ (does : lock_then w v t l at p2 ds gone ≡ locks.leaving t Exclusive (lock_state w l)) (own : owner_at w l ≡ Some t) where
+  module _ (does : lock_then w v t l at p2 ds gone ≡ locks.without_owner t Exclusive (lock_state w l)) (own : owner_at w l ≡ Some t) where
     left_lost : Lost w v t l
     left_lost k = sym (put_is (rights v t) l (with_right Exclusive (rights v t l)) k (rights w t k)
         (λ e. rw e (sym (ap (λ s. with_right Exclusive (rights_of s t)) (lock_led w v t l at p2 ds gone ∙ does) ∙ left_own (lock_state w l) t own)))
