@@ -6,7 +6,7 @@ use Rattle.std.proofs.lemmas.List.{take-append-drop}
 use Rattle.std.proofs.Math.Seq.{take-nil, drop-nil}
 use Rattle.lot_base.specs.declared.wants.Want.{Want}
 use Rattle.lot_base.specs.declared.wants.Want.TheVariants.{Exclusive, Upgradable, Shared}
-use Rattle.abstract_locks.specs.Locks.{LockState, sharing_handed, sharing_from, shares_handed, without_owner, Queued, Taken, Sort, Mutex, Normal, Recursive, Semaphore, Rules, Knows, IsLockState, times, taking, picked, unpicked, front_of, keeps_more, sharers, stop_of, wants_shared, one_if_some, put, without, keep_from, let_go, with_owner, pending_for, succeeding, with_successor, handed, readers}
+use Rattle.abstract_locks.specs.Locks.{LockState, sharing_handed, sharing_from, shares_handed, without_owner, Queued, Taken, Sort, Mutex, Normal, Recursive, Semaphore, Rules, Knows, IsLockState, times, taking, picked, unpicked, front_of, keeps_more, sharers, stop_of, wants_shared, one_if_some, putting, without, keep_from, let_go, with_owner, pending_for, succeeding, with_successor, handed, readers}
 use Rattle.abstract_locks.specs.Sites.{IsOpen, counts, counts_taken}
 use Rattle.abstract_locks.proofs.LockKeeps.{times_append, times_filter}
 
@@ -66,16 +66,16 @@ pub passes_on : (sort : Sort) (start : Option Want) (t : ℕ) (q : List Queued) 
     → (u : ℕ) × (counts_taken sort t (taking t (picked sort start q) taken u) ≡ true)
 passes_on sort start t [] taken none left once = absurd (left (grind (arith, take-nil {A = Queued}, drop-nil {A = Queued})))
 passes_on sort start t (x ∷ q) taken none left once = either (wants_shared x.want) refl
-    (passes_on sort start t q (put taken x.thread (Some (record { by = t; want = x.want }))) none)
+    (passes_on sort start t q (putting taken x.thread (Some (record { by = t; want = x.want }))) none)
   where
     either : (b : Bool) → wants_shared x.want ≡ b
-        → (unpicked sort start q ≢ [] → ((u : ℕ) → times u q ≤ 1) → (u : ℕ) × (counts_taken sort t (taking t (picked sort start q) (put taken x.thread (Some (record { by = t; want = x.want }))) u) ≡ true))
+        → (unpicked sort start q ≢ [] → ((u : ℕ) → times u q ≤ 1) → (u : ℕ) × (counts_taken sort t (taking t (picked sort start q) (putting taken x.thread (Some (record { by = t; want = x.want }))) u) ≡ true))
         → (u : ℕ) × (counts_taken sort t (taking t (picked sort start (x ∷ q)) taken u) ≡ true)
     either true shares behind = rw (sharer_picked sort start x q shares) (behind (λ e. left (sharer_unpicked sort start x q shares ∙ e)) (λ u. let a = once u in grind (arith, nat_tests)))
     either false more behind =
         let first = unshared_picked sort start x q more none in
         let gone : times x.thread first.rest ≡ 0 = (let a = once x.thread in let b = first.few x.thread in grind (arith, nat_tests)) in
-        (x.thread, rw first.is (rw (taking_others t x.thread first.rest (put taken x.thread (Some (record { by = t; want = x.want }))) gone) (grind (arith, nat_tests))))
+        (x.thread, rw first.is (rw (taking_others t x.thread first.rest (putting taken x.thread (Some (record { by = t; want = x.want }))) gone) (grind (arith, nat_tests))))
 
 -- whoever leaves the queue, the others stand as often
 pub without_fewer : (u t : ℕ) (q : List Queued) → times u (without t q) ≤ times u q

@@ -6,7 +6,7 @@ use Rattle.std.specs.Prelude.{zero, suc, length, slice_index}
 use Rattle.std.proofs.lemmas.List.Sums.{sum_by-set}
 use Rattle.lot_base.specs.declared.wants.Want.{Want}
 use Rattle.lot_base.specs.declared.wants.Want.TheVariants.{Exclusive, Upgradable, Shared}
-use Rattle.abstract_locks.specs.Locks.{LockState, Queued, Taken, Sort, Mutex, Normal, Recursive, Semaphore, Rules, LockCase, Enter, Pend, Settle, Leave, Convert, Park, Aside, TakeFirst, TakeAside, TakePicked, Wake, HandOff, Late, Rollback, Knows, IsLockState, IsBlocked, readers, standing, times, is_thread, one_if_some, put, let_go}
+use Rattle.abstract_locks.specs.Locks.{LockState, Queued, Taken, Sort, Mutex, Normal, Recursive, Semaphore, Rules, LockCase, Enter, Pend, Settle, Leave, Convert, Park, Aside, TakeFirst, TakeAside, TakePicked, Wake, HandOff, Late, Rollback, Knows, IsLockState, IsBlocked, readers, standing, times, is_thread, one_if_some, putting, let_go}
 use Rattle.abstract_locks.specs.Sites.{Line, Main, Second, Doing, Site, IsSite, Begin, End, In, Out, Mark, Clear, FindNobody, MarkOwned, MarkBrought, Bring, Does, Needed, after_deed, done, case_doing, idle, leaves, wakened, counts_taken}
 use Rattle.abstract_locks.specs.Codes.{bit}
 use Rattle.abstract_locks.specs.Permits.{total, debt, debts, HasPermits, EachDeedKeepsPermits, PermitsAreLookedAfter}
@@ -81,7 +81,7 @@ module _ (r : Rules) (s : Site) (t : ℕ) (lt : t < length s.lock.shared) (h : I
     ];
   }
 
-put_changed : {A : Type 0} (f : ℕ → A) (t : ℕ) (x : A) → Changed f (put f t x) t x
+put_changed : {A : Type 0} (f : ℕ → A) (t : ℕ) (x : A) → Changed f (putting f t x) t x
 put_changed f t x = record { here = grind (arith, nat_tests); other = λ j ne. grind (arith, nat_tests) }
 
 module _ (r : Rules) (s : Site) (t : ℕ) (sort : r.sort ≡ Semaphore) (lt : t < length s.lock.shared) (h : IsSite r s) (p : HasPermits r s) where
@@ -93,8 +93,8 @@ module _ (r : Rules) (s : Site) (t : ℕ) (sort : r.sort ≡ Semaphore) (lt : t 
       (a, b.0, b.1, no_aside r s.lock h.state b.0)
 
   -- t does something else, and the lock stays
-  does : (e : Doing) (pk ap : Bool) → (s.lock.queue ≢ [] → debt (s.doing t) ≤ debt e) → e.sets ≡ false → HasPermits r (record s { parked = pk; aside_parked = ap; doing = put s.doing t e })
-  does e pk ap more unset = turns r s t lt h p (record s { parked = pk; aside_parked = ap; doing = put s.doing t e }) e (put_changed s.doing t e) refl (λ left. inr (left, let a = more left in omega arith)) (λ u ne one. one) unset
+  does : (e : Doing) (pk ap : Bool) → (s.lock.queue ≢ [] → debt (s.doing t) ≤ debt e) → e.sets ≡ false → HasPermits r (record s { parked = pk; aside_parked = ap; doing = putting s.doing t e })
+  does e pk ap more unset = turns r s t lt h p (record s { parked = pk; aside_parked = ap; doing = putting s.doing t e }) e (put_changed s.doing t e) refl (λ left. inr (left, let a = more left in omega arith)) (λ u ne one. one) unset
 
   acts : (c : LockCase) → length (locks.after_case r c s.lock t).shared ≡ length s.lock.shared
       → ((locks.after_case r c s.lock t).queue ≢ [] → (r.limit ≤ readers (locks.after_case r c s.lock t)) ⊎ ((s.lock.queue ≢ []) × (readers s.lock + debt (s.doing t) ≤ readers (locks.after_case r c s.lock t) + debt (case_doing r.sort s (locks.after_case r c s.lock t) c (s.doing t)))))
@@ -177,7 +177,7 @@ module _ (r : Rules) (s : Site) (t : ℕ) (sort : r.sort ≡ Semaphore) (lt : t 
   wakened_one None d c e = absurd cc
   wakened_one (Some a) d c e = grind (arith, nat_tests)
 
-  left_few : (u : ℕ) → debt (s.doing u) ≤ debt (put s.doing t (leaves (s.doing t)) u) + (if u == t then bit (s.doing t).covers else 0)
+  left_few : (u : ℕ) → debt (s.doing u) ≤ debt (putting s.doing t (leaves (s.doing t)) u) + (if u == t then bit (s.doing t).covers else 0)
   left_few u = grind (arith, nat_tests)
 
   unset_out : (u : ℕ) → (v.doing u).sets ≡ false
@@ -188,7 +188,7 @@ module _ (r : Rules) (s : Site) (t : ℕ) (sort : r.sort ≡ Semaphore) (lt : t 
 
   same_debts : (s.doing t).covers ≡ false → debts s ≤ debts v
   same_debts e = total_less (length s.lock.shared) (λ u. debt (s.doing u)) (λ u. debt (v.doing u)) (λ u.
-      let a = wakened_more (s.lock.taken u) (put s.doing t (leaves (s.doing t)) u) in
+      let a = wakened_more (s.lock.taken u) (putting s.doing t (leaves (s.doing t)) u) in
       let b = left_few u in
       let z : (if u == t then bit (s.doing t).covers else 0) ≡ 0 = grind (arith, e) in
       omega arith)
@@ -209,13 +209,13 @@ module _ (r : Rules) (s : Site) (t : ℕ) (sort : r.sort ≡ Semaphore) (lt : t 
       each : (u : ℕ) → debt (s.doing u) + one_at x u ≤ debt (v.doing u) + one_at t u
       each u = elim (cases_eq u x) [
         | inl e ↦
-            let a : debt (v.doing u) ≡ debt (put s.doing t (leaves (s.doing t)) u) + 1 = wakened_one (s.lock.taken u) (put s.doing t (leaves (s.doing t)) u) (rw e c) (let w = h.unwoken x (in_hand x c) in grind (arith, nat_tests)) in
+            let a : debt (v.doing u) ≡ debt (putting s.doing t (leaves (s.doing t)) u) + 1 = wakened_one (s.lock.taken u) (putting s.doing t (leaves (s.doing t)) u) (rw e c) (let w = h.unwoken x (in_hand x c) in grind (arith, nat_tests)) in
             let b = left_few u in
             let d = few u in
             let one : one_at x u ≡ 1 = grind (arith, nat_tests) in
             omega arith
         | inr ne ↦
-            let a = wakened_more (s.lock.taken u) (put s.doing t (leaves (s.doing t)) u) in
+            let a = wakened_more (s.lock.taken u) (putting s.doing t (leaves (s.doing t)) u) in
             let b = left_few u in
             let d = few u in
             let none : one_at x u ≡ 0 = grind (arith, nat_tests) in

@@ -4,13 +4,13 @@ use Rattle.std.proofs.lemmas.Bool.Decides.{nat_tests}
 use Rattle.std.proofs.lemmas.Bool.{eqb-true}
 use Rattle.lot_base.specs.declared.wants.Want.{Want}
 use Rattle.lot_base.specs.declared.wants.Want.TheVariants.{Exclusive, Upgradable, Shared}
-use Rattle.abstract_locks.specs.Locks.{Rules, Enter, Settle, Leave, Rollback, Knows, MayEnter, HasRoom, Owns, is_recursive, standing, put, count}
+use Rattle.abstract_locks.specs.Locks.{Rules, Enter, Settle, Leave, Rollback, Knows, MayEnter, HasRoom, Owns, is_recursive, standing, putting, count}
 use Rattle.abstract_locks.specs.Sites.{Line, Main, Second, Has, Pends, Doing, Site, IsSite, End, Mark, Clear, Does, has_readers}
 use Rattle.abstract_locks.specs.Codes.{code, TellsTrue, count_in, has_parked, has_aside, is_blocked}
 use Rattle.abstract_locks.proofs.CodeLaws.{words_tell_true}
 use Rattle.abstract_locks.specs.ReadersSteps.{Patience, Patient, Timed, Try, Answer, Ok, No, ToEnter, ToClear, ToLeave, Clears, GivesUp, Purpose, Enters, Releases, At, First, Loads, Decides, Looks, Counts, RollsBack, GivesWay, Wakes, Place, Goes, Ends, moves, comes_in, missed_first, counts_readers, gave_way, rolled_back, looks, looked_by, ends_or_goes, waits, when_blocked, counts_in, token, Refuses, Takes, Marks, Rests, Full, Decision, WordStep, step_of, clear, WordStepsFollow, decided, decided_step, enters_step, releases_step, PurposeFits, IsAtWord, entered, Parks, StandsAside, GoesAside, doing, Follows}
 
-pub put_same : {A : Type 0} (f : ℕ → A) (t : ℕ) (x : A) → put f t x t ≡ x
+pub put_same : {A : Type 0} (f : ℕ → A) (t : ℕ) (x : A) → putting f t x t ≡ x
 put_same f t x = grind (arith, nat_tests)
 
 module _ (r : Rules) (s : Site) (t : ℕ) (rw_sort : has_readers r.sort ≡ true) (h : IsSite r s) (tells : TellsTrue r s) (p : Place) (is : s.doing t ≡ doing p) where

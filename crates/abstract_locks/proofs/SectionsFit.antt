@@ -3,7 +3,7 @@ use Rattle.std.proofs.Common.{ℕ, Bool, true, false, Option, Some, None, [], �
 use Rattle.std.proofs.lemmas.Bool.Decides.{nat_tests}
 use Rattle.lot_base.specs.declared.wants.Want.{Want}
 use Rattle.lot_base.specs.declared.wants.Want.TheVariants.{Upgradable}
-use Rattle.abstract_locks.specs.Locks.{Rules, Taken, Park, Aside, TakePicked, Late, Knows, HasTakenNobody, standing, times, unpicked, without, put}
+use Rattle.abstract_locks.specs.Locks.{Rules, Taken, Park, Aside, TakePicked, Late, Knows, HasTakenNobody, standing, times, unpicked, without, putting}
 use Rattle.abstract_locks.specs.Sites.{Line, Main, Second, Pends, Doing, idle, is_empty, Site, IsSite, End, In, Out, Does, after_deed, has_readers, leaves, wakened, counts_some}
 use Rattle.abstract_locks.specs.Codes.{code, TellsTrue}
 use Rattle.abstract_locks.specs.ReadersSteps.{Patience, Answer, Enters, At, Parks, StandsAside, Wakes, Check, Removes, Clears, GivesUp, ToTake, ToClear, ToLeave, Place, Goes, Ends, moves, parks_by, takes_aside, main_check, aside_check, doing, Follows}
@@ -51,9 +51,9 @@ module _ (r : Rules) (s : Site) (t : ℕ) (rw_sort : has_readers r.sort ≡ true
 
   -- it leaves the section
   leaves_fit : (p2 : At) → s.lock.taken t ≡ None → (s.doing t).inside ≢ None → (s.doing t).wakes ≡ None → (s.doing t).sets ≡ false → doing (record p { at = p2 }) ≡ leaves (doing p) → Follows r s t p (moves (Out ∷ []) (Goes p2))
-  leaves_fit p2 free within owes unset e = record { needed = ((within, owes, unset), tt); doing = ap (λ (o : Option Taken). wakened t o (put s.doing t (leaves (s.doing t)) t)) free ∙ put_same s.doing t _ ∙ ap leaves is ∙ sym e }
+  leaves_fit p2 free within owes unset e = record { needed = ((within, owes, unset), tt); doing = ap (λ (o : Option Taken). wakened t o (putting s.doing t (leaves (s.doing t)) t)) free ∙ put_same s.doing t _ ∙ ap leaves is ∙ sym e }
 
   ends_fit : (a : Answer) → s.lock.taken t ≡ None → (s.doing t).inside ≢ None → (s.doing t).wakes ≡ None → (s.doing t).sets ≡ false → (s.doing t).retries ≡ None → Follows r s t p (moves (Out ∷ End ∷ []) (Ends a))
   ends_fit a free within owes unset again =
-      let e : (after_deed r Out s t).doing t ≡ leaves (s.doing t) = ap (λ (o : Option Taken). wakened t o (put s.doing t (leaves (s.doing t)) t)) free ∙ put_same s.doing t _ in
+      let e : (after_deed r Out s t).doing t ≡ leaves (s.doing t) = ap (λ (o : Option Taken). wakened t o (putting s.doing t (leaves (s.doing t)) t)) free ∙ put_same s.doing t _ in
       record { needed = ((within, owes, unset), (rw e (refl, owes, refl, λ c. absurd (let g : counts_some r.sort None ≡ true = rw again at c in cc)), tt)); doing = put_same (after_deed r Out s t).doing t idle }

@@ -8,7 +8,7 @@ use Rattle.std.proofs.lemmas.List.Sums.{sum_by-set}
 use Rattle.std.proofs.lemmas.Bool.Decides.{nat_tests}
 use Rattle.lot_base.specs.declared.wants.Want.{Want}
 use Rattle.lot_base.specs.declared.wants.Want.TheVariants.{Exclusive, Upgradable, Shared}
-use Rattle.abstract_locks.specs.Locks.{LockState, Pending, Queued, Taken, Sort, Rules, LockCase, Enter, Pend, Settle, Leave, Convert, Park, Aside, TakeFirst, TakeAside, TakePicked, Wake, HandOff, Late, Rollback, Needs, IsLockState, HasTakenNobody, IsTaken, Knows, KnowsAll, Mutex, Normal, Recursive, Semaphore, keeps_more, Owns, IsSuccessor, picked, unpicked, times, taking, standing, is_thread, one_if_some, readers, put}
+use Rattle.abstract_locks.specs.Locks.{LockState, Pending, Queued, Taken, Sort, Rules, LockCase, Enter, Pend, Settle, Leave, Convert, Park, Aside, TakeFirst, TakeAside, TakePicked, Wake, HandOff, Late, Rollback, Needs, IsLockState, HasTakenNobody, IsTaken, Knows, KnowsAll, Mutex, Normal, Recursive, Semaphore, keeps_more, Owns, IsSuccessor, picked, unpicked, times, taking, standing, is_thread, one_if_some, readers, putting}
 use Rattle.abstract_locks.specs.Sites.{Line, Main, Second, Claim, Doing, Site, IsSite, Begin, End, In, Out, Mark, Clear, FindNobody, MarkOwned, MarkBrought, Bring, Does, Needed, after_deed, with_doing, done, case_doing, taking_main, IsEmpty, IsOpen, IsDebtor, bringing, late_found, gives_way, shares_less, Keeps, Has, Pends, Runs, Ran, Holds, counts, counts_taken, is_full, EachDeedKeeps}
 use Rattle.abstract_locks.specs.Locks as locks
 use Rattle.abstract_locks.proofs.LockKeeps.{case_keeps, no_aside, times_taking, times_append, known_append, known_taking}
@@ -16,7 +16,7 @@ use Rattle.abstract_locks.proofs.Hands.{taking_others, taking_by, times_picked, 
 use Rattle.abstract_locks.proofs.Wakes.{out_keeps}
 use Rattle.abstract_locks.proofs.Turns.{Local, Changed, turn_keeps}
 
-put_changed : {A : Type 0} (f : ℕ → A) (t : ℕ) (x : A) → Changed f (put f t x) t x
+put_changed : {A : Type 0} (f : ℕ → A) (t : ℕ) (x : A) → Changed f (putting f t x) t x
 put_changed f t x = record { here = grind (arith, nat_tests); other = λ j ne. grind (arith, nat_tests) }
 
 -- whoever shares a lock does so whatever another does
@@ -98,8 +98,8 @@ module _ (r : Rules) (s : Site) (t : ℕ) (h : IsSite r s) where
   mark_second = changed_bits s.parked true (grind (arith, h.emptied t, h.covered t, h.unwoken t, h.brought t, h.setting t))
 
   -- a bit, and what t does
-  cleared : (p a : Bool) (d2 : Doing) → Local r s (record s { parked = p; aside_parked = a; doing = put s.doing t d2 }) t (s.doing t) d2 → IsSite r (record s { parked = p; aside_parked = a; doing = put s.doing t d2 })
-  cleared p a d2 local = turn_keeps r s (record s { parked = p; aside_parked = a; doing = put s.doing t d2 }) t (s.doing t) d2 h refl (put_changed s.doing t d2) local
+  cleared : (p a : Bool) (d2 : Doing) → Local r s (record s { parked = p; aside_parked = a; doing = putting s.doing t d2 }) t (s.doing t) d2 → IsSite r (record s { parked = p; aside_parked = a; doing = putting s.doing t d2 })
+  cleared p a d2 local = turn_keeps r s (record s { parked = p; aside_parked = a; doing = putting s.doing t d2 }) t (s.doing t) d2 h refl (put_changed s.doing t d2) local
 
   mark_keeps : (m : Line) → IsSite r (after_deed r (Mark m) s t)
   mark_keeps Main = changed_bits true s.aside_parked (grind (arith, h.emptied t, h.covered t, h.unwoken t, h.brought t, h.setting t))
@@ -151,7 +151,7 @@ module _ (r : Rules) (s : Site) (t : ℕ) (h : IsSite r s) where
     still_bit left = grind (arith, not_set)
 
     abbrev took : Site
-    took = record s { lock = now; filled = s.filled || is_full r now; doing = put s.doing t (taking_main covers now (s.doing t)) }
+    took = record s { lock = now; filled = s.filled || is_full r now; doing = putting s.doing t (taking_main covers now (s.doing t)) }
 
     take_local : Local r s took t (s.doing t) (taking_main covers now (s.doing t))
     take_local = record {
@@ -544,7 +544,7 @@ module _ (r : Rules) (s : Site) (t : ℕ) (h : IsSite r s) where
         let p = (stands x.thread).1 in
         let one : times x.thread gone ≡ 1 + times x.thread xs = rw (← e) (grind (arith, nat_tests)) in
         let gone_once : times x.thread xs ≡ 0 = (let l = a.0 in omega arith) in
-        (x.thread, rw (n.0, taking_others t x.thread xs (put s.lock.taken x.thread (Some (record { by = t; want = x.want }))) gone_once) (grind (arith, nat_tests)))
+        (x.thread, rw (n.0, taking_others t x.thread xs (putting s.lock.taken x.thread (Some (record { by = t; want = x.want }))) gone_once) (grind (arith, nat_tests)))
 
     not_covers : (s.doing t).covers ≡ true → ⊥
     not_covers c = let g = (h.covered t c).1 in let f = n.2 in cc

@@ -67,8 +67,8 @@ abbrev pub count : LockState → ℕ
 count s = readers s + one_if_some s.upgradable
 
 -- a value at one thread, the others as they were
-abbrev pub put : {A : Type 0} → (ℕ → A) → ℕ → A → ℕ → A
-put f t x u = if u == t then x else f u
+abbrev pub putting : {A : Type 0} → (ℕ → A) → ℕ → A → ℕ → A
+putting f t x u = if u == t then x else f u
 
 -- those whom t has taken are let go
 abbrev pub keep_from : ℕ → Option Taken → Option Taken
@@ -316,7 +316,7 @@ aside_without t (Some u) = if u == t then None else Some u
 -- t takes these threads
 abbrev pub taking : ℕ → List Queued → (ℕ → Option Taken) → ℕ → Option Taken
 taking t [] taken = taken
-taking t (x ∷ xs) taken = taking t xs (put taken x.thread (Some (record { by = t; want = x.want })))
+taking t (x ∷ xs) taken = taking t xs (putting taken x.thread (Some (record { by = t; want = x.want })))
 
 -- each thread that t has taken and that wants to share has one right more; i is the number of the first thread
 abbrev pub shares_handed : ℕ → Option Taken → ℕ
@@ -394,7 +394,7 @@ after_case r (Park want) s t = record s { queue = s.queue ++ (record { thread = 
 after_case r Aside s t = record s { aside = Some t }
 after_case r (TakeFirst x) s t = record s { queue = drop 1 s.queue; taken = taking t (x ∷ []) s.taken }
 after_case r (TakeAside u) s t =
-    record s { aside = None; taken = put s.taken u (Some (record { by = t; want = Exclusive })) }
+    record s { aside = None; taken = putting s.taken u (Some (record { by = t; want = Exclusive })) }
 after_case r (TakePicked start) s t =
     record s { queue = unpicked r.sort start s.queue; taken = taking t (picked r.sort start s.queue) s.taken }
 after_case r Wake s t = record s { taken = let_go t s.taken }

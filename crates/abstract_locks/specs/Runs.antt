@@ -15,7 +15,7 @@ use Rattle.lot_calls.specs.declared.outcomes.Answer as answer
 use Rattle.lot_calls.specs.declared.outcomes.Outcome.{Outcome}
 use Rattle.lot_calls.specs.declared.outcomes.Outcome as outcome
 use Rattle.lot_calls.specs.Calls.{lock_in}
-use Rattle.abstract_locks.specs.Locks.{LockState, Taken, LockCase, Enter, Pend, Settle, Leave, Park, Aside, Wake, HandOff, Late, Rules, Rights, Mutex, Needs, after_case, rights_of, with_right, without_right, Owns, IsFree, IsBlocked, count, readers, put, standing, HasTakenNobody, IsLockState, opening_lock, times}
+use Rattle.abstract_locks.specs.Locks.{LockState, Taken, LockCase, Enter, Pend, Settle, Leave, Park, Aside, Wake, HandOff, Late, Rules, Rights, Mutex, Needs, after_case, rights_of, with_right, without_right, Owns, IsFree, IsBlocked, count, readers, putting, standing, HasTakenNobody, IsLockState, opening_lock, times}
 use Rattle.abstract_locks.specs.Purposes.{Purpose, Enters, Releases, Converts, Bumps, Patience, Patient, Timed, Try, purpose_of, rules_of, IsMadeOf}
 
 -- what is remembered of a call: what its answer needs of earlier steps, and whether it tries again
@@ -97,7 +97,7 @@ pub data Event : Type 0 where
 
 abbrev pub locks_after : LocksState → ℕ → Event → ℕ → LockState
 locks_after w t Nothing = w.locks
-locks_after w t (AtLock l case) = put w.locks l (after_case (rules_at w l) case (w.locks l) t)
+locks_after w t (AtLock l case) = putting w.locks l (after_case (rules_at w l) case (w.locks l) t)
 
 -- what the thread of the step remembers of it: an ownership, or a place in a queue, ends its retry
 abbrev pub going_on : Event → CallState → CallState
@@ -153,11 +153,11 @@ MayHappen w t (AtLock l case) = MayDo w t l case (w.calls t).purpose
 
 -- one right more at one lock
 abbrev pub one_more_at : ℕ → Want → (ℕ → Rights) → ℕ → Rights
-one_more_at l x rights = put rights l (with_right x (rights l))
+one_more_at l x rights = putting rights l (with_right x (rights l))
 
 -- and one right less
 abbrev pub one_less_at : ℕ → Want → (ℕ → Rights) → ℕ → Rights
-one_less_at l x rights = put rights l (without_right x (rights l))
+one_less_at l x rights = putting rights l (without_right x (rights l))
 
 -- the thread owns what it owned as its call began
 abbrev pub Keeps : LocksState → ℕ → CallState → Type 0
@@ -287,7 +287,7 @@ MayTurn w t turn.TheVariants.Err = (w.stances t).in_closure ≡ true
 pub record Stays (w : LocksState) (t : ℕ) (c : CallState) (o : Outcome) (v : LocksState) : Type 0 where
   pub told : o ≡ outcome.TheVariants.Step
   pub locks : (l : ℕ) → v.locks l ≡ w.locks l
-  pub calls : (u : ℕ) → v.calls u ≡ put w.calls t c u
+  pub calls : (u : ℕ) → v.calls u ≡ putting w.calls t c u
 
 -- a call goes on by one event, and its answer is true
 pub record GoesOn (w : LocksState) (t : ℕ) (o : Outcome) (v : LocksState) : Type 0 where

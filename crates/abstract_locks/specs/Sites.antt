@@ -2,7 +2,7 @@
 use Rattle.std.specs.Prelude.{ℕ, Bool, true, false, Option, Some, None, if◌then◌else◌, ◌==◌, ◌&&◌, ◌||◌, not, ◌≤◌, ◌≡◌, ◌≢◌, ◌⊎◌, List, [], ◌∷◌, ◌++◌, nat_le, is_none}
 use Rattle.lot_base.specs.declared.wants.Want.{Want}
 use Rattle.lot_base.specs.declared.wants.Want.TheVariants.{Exclusive, Upgradable, Shared}
-use Rattle.abstract_locks.specs.Locks.{LockState, Taken, Queued, Pending, Sort, Mutex, Normal, Recursive, Semaphore, Rules, LockCase, Enter, Pend, Settle, Leave, Convert, Park, Aside, TakeFirst, TakeAside, TakePicked, Wake, HandOff, Late, Rollback, Needs, Owns, Knows, NoWriter, IsLockState, KnowsAll, IsTaken, put, taking, readers, count, times, standing, is_thread, is_writer, keeps_more, unpicked, wants_shared, let_go, opening_lock}
+use Rattle.abstract_locks.specs.Locks.{LockState, Taken, Queued, Pending, Sort, Mutex, Normal, Recursive, Semaphore, Rules, LockCase, Enter, Pend, Settle, Leave, Convert, Park, Aside, TakeFirst, TakeAside, TakePicked, Wake, HandOff, Late, Rollback, Needs, Owns, Knows, NoWriter, IsLockState, KnowsAll, IsTaken, putting, taking, readers, count, times, standing, is_thread, is_writer, keeps_more, unpicked, wants_shared, let_go, opening_lock}
 use Rattle.abstract_locks.specs.Locks as locks
 
 -- the two lines of a lock
@@ -243,7 +243,7 @@ done r case s t now = record {
   parked = case_parked s now case;
   aside_parked = case_aside_parked s case;
   filled = s.filled || is_full r now;
-  doing = put s.doing t (case_doing r.sort s now case (s.doing t));
+  doing = putting s.doing t (case_doing r.sort s now case (s.doing t));
 }
 
 -- whoever is let go tries again for what it wanted
@@ -269,7 +269,7 @@ bringing taken moved d = record d {
 }
 
 abbrev pub with_doing : Site → ℕ → Doing → Site
-with_doing s t d = record s { doing = put s.doing t d }
+with_doing s t d = record s { doing = putting s.doing t d }
 
 abbrev pub after_deed : Rules → Deed → Site → ℕ → Site
 after_deed r (Begin claims) s t = with_doing s t (record (s.doing t) { claims = claims })
@@ -277,21 +277,21 @@ after_deed r End s t = with_doing s t idle
 after_deed r (In m) s t = with_doing s t (record (s.doing t) { inside = Some m })
 after_deed r Out s t = record s {
   lock = record s.lock { taken = let_go t s.lock.taken };
-  doing = λ u. wakened t (s.lock.taken u) (put s.doing t (leaves (s.doing t)) u);
+  doing = λ u. wakened t (s.lock.taken u) (putting s.doing t (leaves (s.doing t)) u);
 }
 after_deed r (Mark Main) s t = record s { parked = true }
 after_deed r (Mark Second) s t = record s { aside_parked = true }
 after_deed r (Clear Main) s t =
-    record s { parked = false; doing = put s.doing t (record (s.doing t) { empty = None; brings = false }) }
+    record s { parked = false; doing = putting s.doing t (record (s.doing t) { empty = None; brings = false }) }
 after_deed r (Clear Second) s t =
-    record s { aside_parked = false; doing = put s.doing t (record (s.doing t) { empty = None; brings = false }) }
+    record s { aside_parked = false; doing = putting s.doing t (record (s.doing t) { empty = None; brings = false }) }
 after_deed r (FindNobody m) s t =
     with_doing s t (record (s.doing t) { wakes = None; carries = true; covers = is_main m; empty = Some m })
-after_deed r MarkBrought s t = record s { parked = true; doing = put s.doing t (record (s.doing t) { sets = false }) }
-after_deed r MarkOwned s t = record s { parked = true; doing = put s.doing t (record (s.doing t) { brings = true }) }
+after_deed r MarkBrought s t = record s { parked = true; doing = putting s.doing t (record (s.doing t) { sets = false }) }
+after_deed r MarkOwned s t = record s { parked = true; doing = putting s.doing t (record (s.doing t) { brings = true }) }
 after_deed r (Bring taken moved) s t = record s {
   lock = record s.lock { queue = s.lock.queue ++ moved; taken = taking t taken s.lock.taken };
-  doing = put s.doing t (bringing taken moved (s.doing t));
+  doing = putting s.doing t (bringing taken moved (s.doing t));
 }
 after_deed r (Does case) s t = done r case s t (locks.after_case r case s.lock t)
 

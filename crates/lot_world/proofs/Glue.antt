@@ -23,7 +23,7 @@ use Rattle.lot_steps.specs.declared.acts.Next as next
 use Rattle.lot_steps.specs.MutexSteps.{mutex_next}
 use Rattle.lot_steps.specs.Steps.{next_place, taker, mutex_goes}
 use Rattle.lot_base.specs.declared.notes.Note.{Note}
-use Rattle.abstract_locks.specs.Locks.{LockState, Taken, Queued, Rules, TakeFirst, keep_from, let_go, shares_handed, sharing_from, put as putting}
+use Rattle.abstract_locks.specs.Locks.{LockState, Taken, Queued, Rules, TakeFirst, keep_from, let_go, shares_handed, sharing_from, putting}
 use Rattle.std.specs.Prelude.{sum, ◌&&◌, ◌||◌}
 use Rattle.lot_steps.specs.MutexSteps.{is_thread, with_exclusive}
 use Rattle.abstract_locks.specs.Locks as locks

@@ -20,7 +20,7 @@ use Rattle.lot_steps.specs.declared.mutex.hand_off.HandOffAt.TheVariants as hand
 use Rattle.lot_steps.specs.Steps.{next_place}
 use Rattle.lot_steps.specs.declared.places.Place.{Place}
 use Rattle.lot_steps.specs.declared.places.Place.TheVariants.{Idle, Mutex}
-use Rattle.abstract_locks.specs.Locks.{LockState, Queued, Taken as LockTaken, Rules, Rights, LockCase, Enter, Leave, Wake, HandOff as HandsOff, HasTakenNobody, IsTaken, IsLockState, Knows, Needs, keep_from, let_go, rights_of, with_right, without_right, is_thread, put as putting}
+use Rattle.abstract_locks.specs.Locks.{LockState, Queued, Taken as LockTaken, Rules, Rights, LockCase, Enter, Leave, Wake, HandOff as HandsOff, HasTakenNobody, IsTaken, IsLockState, Knows, Needs, keep_from, let_go, rights_of, with_right, without_right, is_thread, putting}
 use Rattle.abstract_locks.specs.Locks as locks
 use Rattle.abstract_locks.specs.Runs.{LocksState, CallState, Event, IsTimely, is_taken_by, woken, Nothing, AtLock, MayHappen, Agrees, AnswerHolds, GoesOn, locks_after, going_on, unless_ended, one_more_at, one_less_at, rules_at as locks_rules}
 use Rattle.abstract_locks.specs.Sites.{Does, End}

@@ -46,7 +46,7 @@ use Rattle.lot_world.proofs.Shape.{after_size, both, performed_counts}
 use Rattle.lot_world.proofs.Possible.{may_go, go_possible, may_be_late, late_possible, told_gone, told_step, begins_awake, no_closure, turner_there, gone_sections, spun_sections, late_sections, spun_awake, late_awake}
 use Rattle.lot_world.specs.SitesOf.{IsSteady, Goes, CallsMutex, is_mutex, rules_at, carried_at, hand_at}
 use Rattle.abstract_locks.specs.Sites.{Main, In, Clear as Clears}
-use Rattle.abstract_locks.specs.Locks.{put as putting, Rights, rights_of}
+use Rattle.abstract_locks.specs.Locks.{putting, Rights, rights_of}
 use Rattle.abstract_locks.specs.Runs.{LocksState, CallState, GoesOn, Stays, Does, SectionChanges, MayBegin, MayTurn, HasRight, Turned, IsStep, purpose_at, beginning, is_taken_by, Nothing}
 use Rattle.abstract_locks.specs.Purposes.{purpose_of, mutex_purpose}
 use Rattle.lot_world.specs.MutexDeeds.{hand, mutex_station, deeds}

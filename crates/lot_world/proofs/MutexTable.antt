@@ -21,7 +21,7 @@ use Rattle.lot_steps.specs.declared.mutex.TheConstants.{NOT_PARKED}
 use Rattle.lot_steps.specs.declared.acts.Reply.TheVariants.{Value}
 use Rattle.lot_steps.specs.MutexSteps.{is_parked, is_locked, mutex_owners, with_exclusive}
 use Rattle.lot_steps.specs.Steps.{next_place}
-use Rattle.abstract_locks.specs.Locks.{LockState, Taken, Queued, Rules, IsTaken, keep_from, one_if_some, is_thread, put as putting}
+use Rattle.abstract_locks.specs.Locks.{LockState, Taken, Queued, Rules, IsTaken, keep_from, one_if_some, is_thread, putting}
 use Rattle.abstract_locks.specs.Locks as locks
 use Rattle.abstract_locks.specs.Sites.{Doing, Has, Site, IsSite, Deed, Main, Begin, End, In, Out, Mark, Clear, FindNobody, MarkOwned, Bring, MarkBrought, Does, idle, found, is_empty, seen_main, counts_some, has_readers, after_deed}
 use Rattle.abstract_locks.specs.Codes as codes

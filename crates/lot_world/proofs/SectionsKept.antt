@@ -11,7 +11,7 @@ use Rattle.lot_steps.specs.declared.places.Place.{Place}
 use Rattle.lot_steps.specs.declared.places.Place.TheVariants.{Idle, Mutex}
 use Rattle.lot_steps.specs.declared.mutex.MutexPlace.{MutexPlace}
 use Rattle.lot_steps.specs.MutexSteps.{is_parked}
-use Rattle.abstract_locks.specs.Locks.{Rules, put as putting, is_thread}
+use Rattle.abstract_locks.specs.Locks.{Rules, putting, is_thread}
 use Rattle.abstract_locks.specs.Locks as locks
 use Rattle.abstract_locks.specs.Sites.{IsSite, Deed, Line, Main, Second, Does, FindNobody, found, is_empty}
 use Rattle.lot_world.specs.Machine.{State, place_at, word_at, owners_at, queue_at, put, queues_with_last, queues_without, queues_without_first}

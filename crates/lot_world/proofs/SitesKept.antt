@@ -25,7 +25,7 @@ use Rattle.lot_steps.specs.declared.acts.Reply.{Reply}
 use Rattle.lot_steps.specs.declared.acts.Reply.TheVariants.{Value, Woken, TakenBy, HandedBy}
 use Rattle.lot_steps.specs.MutexSteps.{with_exclusive, mutex_owners, hand_off_word}
 use Rattle.lot_steps.specs.Steps.{next_place}
-use Rattle.abstract_locks.specs.Locks.{Rules, TakeFirst, put as putting}
+use Rattle.abstract_locks.specs.Locks.{Rules, TakeFirst, putting}
 use Rattle.abstract_locks.specs.Sites.{Doing, Site, IsSite, Deed, Main, Second, In, Out, Does, idle, leaves, found, is_empty, has_readers, after_deed}
 use Rattle.abstract_locks.specs.Codes.{code}
 use Rattle.abstract_locks.specs.Purposes.{rules_of}
