@@ -62,8 +62,8 @@ rules_at w l = rules_of (w.kinds l)
 abbrev pub rights_in : LocksState → ℕ → ℕ → Rights
 rights_in w t l = rights_of (w.locks l) t
 
-abbrev pub beginning : Option Purpose → (ℕ → Rights) → CallState
-beginning purpose former =
+abbrev pub new_call : Option Purpose → (ℕ → Rights) → CallState
+new_call purpose former =
     record { purpose = purpose; former = former; gave_up = None; retries = None; released = false; late = false }
 
 abbrev pub no_rights : Rights
@@ -75,7 +75,7 @@ AreLockStates w = (l : ℕ) → IsLockState (rules_at w l) (w.locks l)
 
 -- between its calls a thread remembers nothing
 abbrev pub no_call : CallState
-no_call = beginning None (λ l. no_rights)
+no_call = new_call None (λ l. no_rights)
 
 -- and it is awake
 abbrev pub no_stance : Stance
@@ -172,8 +172,8 @@ abbrev pub Loses : LocksState → ℕ → CallState → ℕ → Want → Type 0
 Loses w t c l x = (k : ℕ) → one_more_at l x (rights_in w t) k ≡ c.former k
 
 -- and one right in place of another
-abbrev pub Turns : LocksState → ℕ → CallState → ℕ → Want → Want → Type 0
-Turns w t c l x y = (k : ℕ) → one_more_at l x (rights_in w t) k ≡ one_more_at l y c.former k
+abbrev pub Replaces : LocksState → ℕ → CallState → ℕ → Want → Want → Type 0
+Replaces w t c l x y = (k : ℕ) → one_more_at l x (rights_in w t) k ≡ one_more_at l y c.former k
 
 -- only the limit keeps it out
 abbrev pub IsFull : LocksState → ℕ → Want → Type 0
@@ -194,10 +194,10 @@ EntersAnswer w t c l x how answer.TheVariants.ReadersFull = IsFull w l x × Keep
 EntersAnswer w t c l x how a = ⊥
 
 abbrev pub ConvertsAnswer : LocksState → ℕ → CallState → ℕ → Want → Want → Patience → Answer → Type 0
-ConvertsAnswer w t c l x y Patient answer.TheVariants.Ok = Turns w t c l x y
-ConvertsAnswer w t c l x y Timed answer.TheVariants.Yes = Turns w t c l x y
+ConvertsAnswer w t c l x y Patient answer.TheVariants.Ok = Replaces w t c l x y
+ConvertsAnswer w t c l x y Timed answer.TheVariants.Yes = Replaces w t c l x y
 ConvertsAnswer w t c l x y Timed answer.TheVariants.No = (c.gave_up ≡ Some l) × Keeps w t c
-ConvertsAnswer w t c l x y Try answer.TheVariants.Yes = Turns w t c l x y
+ConvertsAnswer w t c l x y Try answer.TheVariants.Yes = Replaces w t c l x y
 ConvertsAnswer w t c l x y Try answer.TheVariants.No = (1 ≤ readers (w.locks l)) × Keeps w t c
 ConvertsAnswer w t c l x y how a = ⊥
 
@@ -300,7 +300,7 @@ pub record GoesOn (w : LocksState) (t : ℕ) (o : Outcome) (v : LocksState) : Ty
 
 -- what a turn does: a call begins, goes on, looks once more, or is late
 abbrev pub Does : LocksState → ℕ → Turn → Outcome → LocksState → Type 0
-Does w t (turn.TheVariants.Begin c) o v = Stays w t (beginning (purpose_at w c) (rights_in w t)) o v
+Does w t (turn.TheVariants.Begin c) o v = Stays w t (new_call (purpose_at w c) (rights_in w t)) o v
 Does w t turn.TheVariants.Spin o v = Stays w t (w.calls t) o v
 Does w t turn.TheVariants.Late o v = Stays w t (record (w.calls t) { late = true }) o v
 Does w t x o v = GoesOn w t o v
