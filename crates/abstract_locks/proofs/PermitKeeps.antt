@@ -7,7 +7,7 @@ use Rattle.std.proofs.lemmas.List.Sums.{sum_by-set}
 use Rattle.lot_base.specs.declared.wants.Want.{Want}
 use Rattle.lot_base.specs.declared.wants.Want.TheVariants.{Exclusive, Upgradable, Shared}
 use Rattle.abstract_locks.specs.Locks.{LockState, Queued, Taken, Sort, Mutex, Normal, Recursive, Semaphore, Rules, LockCase, Enter, Pend, Settle, Leave, Convert, Park, Aside, TakeFirst, TakeAside, TakePicked, Wake, HandOff, Late, Rollback, Knows, IsLockState, IsBlocked, readers, standing, times, is_thread, one_if_some, putting, let_go}
-use Rattle.abstract_locks.specs.Sites.{Line, Main, Second, Doing, Site, IsSite, Begin, End, In, Out, Mark, Clear, FindNobody, MarkOwned, MarkBrought, Bring, Does, Needed, after_deed, done, case_doing, idle, leaves, wakened, counts_taken}
+use Rattle.abstract_locks.specs.Sites.{Line, Main, Second, Doing, Site, IsSite, Begin, End, In, Out, Mark, Clear, FindNobody, MarkOwned, MarkBrought, Bring, Case, Needed, after_deed, done, case_doing, idle, leaves, wakened, counts_taken}
 use Rattle.abstract_locks.specs.Codes.{bit}
 use Rattle.abstract_locks.specs.Permits.{total, debt, debts, HasPermits, EachDeedKeepsPermits, PermitsAreLookedAfter}
 use Rattle.abstract_locks.specs.Locks as locks
@@ -98,7 +98,7 @@ module _ (r : Rules) (s : Site) (t : ℕ) (sort : r.sort ≡ Semaphore) (lt : t 
 
   acts : (c : LockCase) → length (locks.after_case r c s.lock t).shared ≡ length s.lock.shared
       → ((locks.after_case r c s.lock t).queue ≢ [] → (r.limit ≤ readers (locks.after_case r c s.lock t)) ⊎ ((s.lock.queue ≢ []) × (readers s.lock + debt (s.doing t) ≤ readers (locks.after_case r c s.lock t) + debt (case_doing r.sort s (locks.after_case r c s.lock t) c (s.doing t)))))
-      → ((u : ℕ) → u ≢ t → 1 ≤ standing u (locks.after_case r c s.lock t) → 1 ≤ standing u s.lock) → (case_doing r.sort s (locks.after_case r c s.lock t) c (s.doing t)).sets ≡ false → HasPermits r (after_deed r (Does c) s t)
+      → ((u : ℕ) → u ≢ t → 1 ≤ standing u (locks.after_case r c s.lock t) → 1 ≤ standing u s.lock) → (case_doing r.sort s (locks.after_case r c s.lock t) c (s.doing t)).sets ≡ false → HasPermits r (after_deed r (Case c) s t)
   acts c same enough stood unset = turns r s t lt h p (done r c s t (locks.after_case r c s.lock t)) _ (put_changed s.doing t _) same enough stood unset
 
   no_debt : Needed r End s t → debt (s.doing t) ≡ 0
@@ -144,10 +144,10 @@ module _ (r : Rules) (s : Site) (t : ℕ) (sort : r.sort ≡ Semaphore) (lt : t 
   some_first : (x : Queued) → (rest : List Queued) → s.lock.queue ≡ x ∷ rest → s.lock.queue ≢ []
   some_first x rest e = λ f. cc
 
-  took : (x : Queued) → Needed r (Does (TakeFirst x)) s t → readers s.lock + debt (s.doing t) ≤ readers s.lock + debt (case_doing r.sort s (locks.after_case r (TakeFirst x) s.lock t) (TakeFirst x) (s.doing t))
+  took : (x : Queued) → Needed r (Case (TakeFirst x)) s t → readers s.lock + debt (s.doing t) ≤ readers s.lock + debt (case_doing r.sort s (locks.after_case r (TakeFirst x) s.lock t) (TakeFirst x) (s.doing t))
   took x n = let w = n.1.2 in let f = n.1.1 in grind (arith, h.covered t)
 
-  cases_keep : (c : LockCase) → Needed r (Does c) s t → HasPermits r (after_deed r (Does c) s t)
+  cases_keep : (c : LockCase) → Needed r (Case c) s t → HasPermits r (after_deed r (Case c) s t)
   cases_keep (Enter Shared) n = acts (Enter Shared) (length-set s.lock.shared t _) (λ left. inr (left, let a = one_more in let b = entered_debt in omega arith)) (λ u ne one. one) (p.unset t)
   cases_keep (Leave Shared) n = acts (Leave Shared) (length-set s.lock.shared t _) (λ left. inr (left, let a = fewer_share s.lock.shared t n.0 in let b = left_debt r.sort sort (seen left) n.1 in omega arith)) (λ u ne one. one) (unset_left r.sort sort)
   cases_keep (Park x) n = acts (Park x) refl (λ left. inl (full x n.0.0)) (λ u ne one. grind (arith, nat_tests, times_append)) (p.unset t)
@@ -242,7 +242,7 @@ permits_kept r (FindNobody m) s t sort lt h p n = finds r s t sort lt h p m n
 permits_kept r MarkOwned s t sort lt h p n = does r s t sort lt h p _ true s.aside_parked (λ left. omega arith) (p.unset t)
 permits_kept r (Bring taken moved) s t sort lt h p n = absurd (let a = n.0 in cc)
 permits_kept r Out s t sort lt h p n = outs r s t sort lt h p
-permits_kept r (Does c) s t sort lt h p n = cases_keep r s t sort lt h p c n
+permits_kept r (Case c) s t sort lt h p n = cases_keep r s t sort lt h p c n
 
 pub looked_after : PermitsAreLookedAfter
 looked_after r s p left free = by_debt one.0 one.1

@@ -5,7 +5,7 @@ use Rattle.std.proofs.lemmas.Bool.{eqb-true}
 use Rattle.lot_base.specs.declared.wants.Want.{Want}
 use Rattle.lot_base.specs.declared.wants.Want.TheVariants.{Exclusive, Upgradable, Shared}
 use Rattle.abstract_locks.specs.Locks.{Rules, Enter, Settle, Leave, Rollback, Knows, MayEnter, HasRoom, Owns, is_recursive, standing, putting, count}
-use Rattle.abstract_locks.specs.Sites.{Line, Main, Second, Has, Pends, Doing, Site, IsSite, End, Mark, Clear, Does, has_readers}
+use Rattle.abstract_locks.specs.Sites.{Line, Main, Second, Has, Pends, Doing, Site, IsSite, End, Mark, Clear, Case, has_readers}
 use Rattle.abstract_locks.specs.Codes.{code, TellsTrue, count_in, has_parked, has_aside, is_blocked}
 use Rattle.abstract_locks.proofs.CodeLaws.{words_tell_true}
 use Rattle.abstract_locks.specs.ReadersSteps.{Patience, Patient, Timed, Try, Answer, Ok, No, ToEnter, ToClear, ToLeave, Clears, GivesUp, Purpose, Enters, Releases, At, First, Loads, Decides, Looks, Counts, RollsBack, GivesWay, Wakes, Place, Goes, Ends, moves, comes_in, missed_first, counts_readers, gave_way, rolled_back, looks, looked_by, ends_or_goes, waits, when_blocked, counts_in, token, Refuses, Takes, Marks, Rests, Full, Decision, WordStep, step_of, clear, WordStepsFollow, decided, decided_step, enters_step, releases_step, PurposeFits, IsAtWord, entered, Parks, StandsAside, GoesAside, doing, Follows}
@@ -14,7 +14,7 @@ pub put_same : {A : Type 0} (f : ℕ → A) (t : ℕ) (x : A) → putting f t x 
 put_same f t x = grind (arith, nat_tests)
 
 module _ (r : Rules) (s : Site) (t : ℕ) (rw_sort : has_readers r.sort ≡ true) (h : IsSite r s) (tells : TellsTrue r s) (p : Place) (is : s.doing t ≡ doing p) where
-  first_won : (x : Want) (how : Patience) (a : Answer) → p.purpose ≡ Enters x how → p.at ≡ First → x ≡ Exclusive → code r s ≡ 0 → Follows r s t p (moves (Does (Enter Exclusive) ∷ End ∷ []) (Ends a))
+  first_won : (x : Want) (how : Patience) (a : Answer) → p.purpose ≡ Enters x how → p.at ≡ First → x ≡ Exclusive → code r s ≡ 0 → Follows r s t p (moves (Case (Enter Exclusive) ∷ End ∷ []) (Ends a))
   first_won x how a pe ae xe z = record { needed = grind (arith, nat_tests, tells.nobody z); doing = grind (arith, nat_tests) }
 
   -- a call ends with nothing
@@ -39,7 +39,7 @@ module _ (r : Rules) (s : Site) (t : ℕ) (rw_sort : has_readers r.sort ≡ true
   pending_there x how pe ae = h.held t (Pends false) (grind arith)
 
   settles : (x : Want) (how : Patience) (a : Answer) → p.purpose ≡ Enters x how → (p.at ≡ Looks) ⊎ (((seen : ℕ) × (p.at ≡ Counts seen)) ⊎ (p.at ≡ RollsBack)) → count_in (code r s) ≡ 0 → standing t s.lock ≡ 0
-      → Follows r s t p (moves (Does Settle ∷ End ∷ []) (Ends a))
+      → Follows r s t p (moves (Case Settle ∷ End ∷ []) (Ends a))
   settles x how a pe ae z nowhere = let own = pending_there x how pe ae in let alone = nobody_aside own nowhere in record { needed = grind (arith, nat_tests, tells.count); doing = grind (arith, nat_tests) }
 
   owned : (x : Want) → p.purpose ≡ Releases x → p.at ≡ GivesWay → Owns s.lock t x
@@ -47,13 +47,13 @@ module _ (r : Rules) (s : Site) (t : ℕ) (rw_sort : has_readers r.sort ≡ true
 
   -- the last reader of a pending writer's lock is to wake it, and any other release whoever stands in the main line
   gives_shared : (a c : Bool) → p.purpose ≡ Releases Shared → p.at ≡ GivesWay → Owns s.lock t Shared → s.aside_parked ≡ a → (count s.lock == 1) ≡ c
-      → Follows r s t p (if a && c then moves (Does (Leave Shared) ∷ []) (Goes (Wakes Second ToEnter)) else moves (Does (Leave Shared) ∷ End ∷ []) (Ends Ok))
+      → Follows r s t p (if a && c then moves (Case (Leave Shared) ∷ []) (Goes (Wakes Second ToEnter)) else moves (Case (Leave Shared) ∷ End ∷ []) (Ends Ok))
   gives_shared true true pe ae own ea ec = record { needed = grind (arith, nat_tests); doing = grind (arith, nat_tests) }
   gives_shared true false pe ae own ea ec = record { needed = grind (arith, nat_tests); doing = grind (arith, nat_tests) }
   gives_shared false c pe ae own ea ec = record { needed = grind (arith, nat_tests); doing = grind (arith, nat_tests) }
 
   gives_more : (x : Want) (a : Bool) → p.purpose ≡ Releases x → p.at ≡ GivesWay → (x ≡ Exclusive) ⊎ (x ≡ Upgradable) → Owns s.lock t x → s.parked ≡ a
-      → Follows r s t p (if a then moves (Does (Leave x) ∷ []) (Goes (Wakes Main ToEnter)) else moves (Does (Leave x) ∷ End ∷ []) (Ends Ok))
+      → Follows r s t p (if a then moves (Case (Leave x) ∷ []) (Goes (Wakes Main ToEnter)) else moves (Case (Leave x) ∷ End ∷ []) (Ends Ok))
   gives_more x true pe ae ex own ea = record { needed = grind (arith, nat_tests); doing = grind (arith, nat_tests) }
   gives_more x false pe ae ex own ea = record { needed = grind (arith, nat_tests); doing = grind (arith, nat_tests) }
 
@@ -64,7 +64,7 @@ module _ (r : Rules) (s : Site) (t : ℕ) (rw_sort : has_readers r.sort ≡ true
   gives x pe ae knows = absurd (grind arith)
 
   rolls_by : (x : Want) (how : Patience) (a : Bool) → p.purpose ≡ Enters x how → p.at ≡ RollsBack → s.lock.pending ≡ Some (record { thread = t; falls_back = false }) → s.lock.aside ≡ None → s.parked ≡ a
-      → Follows r s t p (if a then moves (Does Rollback ∷ []) (Goes (Wakes Main ToEnter)) else moves (Does Rollback ∷ End ∷ []) (Ends No))
+      → Follows r s t p (if a then moves (Case Rollback ∷ []) (Goes (Wakes Main ToEnter)) else moves (Case Rollback ∷ End ∷ []) (Ends No))
   rolls_by x how true pe ae own alone ea = record { needed = grind (arith, nat_tests); doing = grind (arith, nat_tests) }
   rolls_by x how false pe ae own alone ea = record { needed = grind (arith, nat_tests); doing = grind (arith, nat_tests) }
 
@@ -98,7 +98,7 @@ module _ (r : Rules) (s : Site) (t : ℕ) (rw_sort : has_readers r.sort ≡ true
     looks_fit : (p.at ≡ Loads) ⊎ ((seen : ℕ) × (p.at ≡ Decides seen)) → Follows r s t p (looks r x how (code r s))
     looks_fit ae = looks_by (is_blocked (is_recursive r.sort) x (code r s)) ae
 
-    first_fit : (b : Bool) → (code r s == 0) ≡ b → p.at ≡ First → x ≡ Exclusive → Follows r s t p (if b then moves (Does (Enter Exclusive) ∷ End ∷ []) (Ends (entered how)) else missed_first how)
+    first_fit : (b : Bool) → (code r s == 0) ≡ b → p.at ≡ First → x ≡ Exclusive → Follows r s t p (if b then moves (Case (Enter Exclusive) ∷ End ∷ []) (Ends (entered how)) else missed_first how)
     first_fit true e ae xe = first_won x how (entered how) pe ae xe (eqb-true (code r s) 0 e)
     first_fit false e ae xe = by_how how refl
       where
@@ -135,7 +135,7 @@ module _ (r : Rules) (s : Site) (t : ℕ) (rw_sort : has_readers r.sort ≡ true
     marks_fit seen ae = record { needed = (tt, tt); doing = is ∙ grind arith }
 
     counts_fit : (b : Bool) → (count_in (code r s) == 0) ≡ b → (p.at ≡ Looks) ⊎ (((seen : ℕ) × (p.at ≡ Counts seen)) ⊎ (p.at ≡ RollsBack)) → standing t s.lock ≡ 0 → (p.at ≢ RollsBack)
-        → Follows r s t p (if b then moves (Does Settle ∷ End ∷ []) (Ends (entered how)) else moves [] (Goes (if has_aside (code r s) then GoesAside else Counts (code r s))))
+        → Follows r s t p (if b then moves (Case Settle ∷ End ∷ []) (Ends (entered how)) else moves [] (Goes (if has_aside (code r s) then GoesAside else Counts (code r s))))
     counts_fit true e ae nowhere still = settles x how (entered how) pe ae (eqb-true (count_in (code r s)) 0 e) nowhere
     counts_fit false e ae nowhere still = by_bit (has_aside (code r s))
       where

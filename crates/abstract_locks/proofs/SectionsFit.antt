@@ -4,7 +4,7 @@ use Rattle.std.proofs.lemmas.Bool.Decides.{nat_tests}
 use Rattle.lot_base.specs.declared.wants.Want.{Want}
 use Rattle.lot_base.specs.declared.wants.Want.TheVariants.{Upgradable}
 use Rattle.abstract_locks.specs.Locks.{Rules, Taken, Park, Aside, TakePicked, Late, Knows, HasTakenNobody, standing, times, unpicked, without, putting}
-use Rattle.abstract_locks.specs.Sites.{Line, Main, Second, Pends, Doing, idle, is_empty, Site, IsSite, End, In, Out, Does, after_deed, has_readers, leaves, wakened, counts_some}
+use Rattle.abstract_locks.specs.Sites.{Line, Main, Second, Pends, Doing, idle, is_empty, Site, IsSite, End, In, Out, Case, after_deed, has_readers, leaves, wakened, counts_some}
 use Rattle.abstract_locks.specs.Codes.{code, TellsTrue}
 use Rattle.abstract_locks.specs.ReadersSteps.{Patience, Answer, Enters, At, Parks, StandsAside, Wakes, Check, Removes, Clears, GivesUp, ToTake, ToClear, ToLeave, Place, Goes, Ends, moves, parks_by, takes_aside, main_check, aside_check, doing, Follows}
 use Rattle.abstract_locks.proofs.ReadersFit.{put_same}
@@ -15,33 +15,33 @@ module _ (r : Rules) (s : Site) (t : ℕ) (rw_sort : has_readers r.sort ≡ true
   goes_in m p2 free found out e = record { needed = ((free, out, found), tt); doing = put_same s.doing t _ ∙ ap (λ (d : Doing). record d { inside = Some m }) is ∙ sym e }
 
   -- it stands behind the last, where it found what it waits for
-  parks_fit : (x : Want) (how : Patience) (b : Bool) → main_check r x (code r s) ≡ b → p.purpose ≡ Enters x how → p.at ≡ Parks Check → standing t s.lock ≡ 0 → Knows r.sort x → Follows r s t p (parks_by b (Does (Park x)) Parks)
+  parks_fit : (x : Want) (how : Patience) (b : Bool) → main_check r x (code r s) ≡ b → p.purpose ≡ Enters x how → p.at ≡ Parks Check → standing t s.lock ≡ 0 → Knows r.sort x → Follows r s t p (parks_by b (Case (Park x)) Parks)
   parks_fit x how false e pe ae nowhere knows = record { needed = tt; doing = is ∙ grind arith }
   parks_fit x how true e pe ae nowhere knows = record { needed = grind (arith, nat_tests, tells.blocked x knows, tells.parked); doing = grind (arith, nat_tests) }
 
-  aside_fit : (x : Want) (how : Patience) (b : Bool) → aside_check (code r s) ≡ b → p.purpose ≡ Enters x how → p.at ≡ StandsAside Check → standing t s.lock ≡ 0 → Follows r s t p (parks_by b (Does Aside) StandsAside)
+  aside_fit : (x : Want) (how : Patience) (b : Bool) → aside_check (code r s) ≡ b → p.purpose ≡ Enters x how → p.at ≡ StandsAside Check → standing t s.lock ≡ 0 → Follows r s t p (parks_by b (Case Aside) StandsAside)
   aside_fit x how false e pe ae nowhere = record { needed = tt; doing = is ∙ grind arith }
   aside_fit x how true e pe ae nowhere = let own = h.held t (Pends false) (grind arith) in record { needed = grind (arith, nat_tests, tells.count, tells.aside, h.state.pending_alone); doing = grind (arith, nat_tests) }
 
   -- it leaves the line
-  late_fit : (x : Want) (how : Patience) → p.purpose ≡ Enters x how → p.at ≡ Parks Removes → 1 ≤ times t s.lock.queue → Follows r s t p (moves (Does Late ∷ []) (Goes (Parks (if is_empty (without t s.lock.queue) then Clears else GivesUp))))
+  late_fit : (x : Want) (how : Patience) → p.purpose ≡ Enters x how → p.at ≡ Parks Removes → 1 ≤ times t s.lock.queue → Follows r s t p (moves (Case Late ∷ []) (Goes (Parks (if is_empty (without t s.lock.queue) then Clears else GivesUp))))
   late_fit x how pe ae stands = by_rest (is_empty (without t s.lock.queue)) refl
     where
-      by_rest : (b : Bool) → is_empty (without t s.lock.queue) ≡ b → Follows r s t p (moves (Does Late ∷ []) (Goes (Parks (if b then Clears else GivesUp))))
+      by_rest : (b : Bool) → is_empty (without t s.lock.queue) ≡ b → Follows r s t p (moves (Case Late ∷ []) (Goes (Parks (if b then Clears else GivesUp))))
       by_rest true e = record { needed = grind (arith, nat_tests, h.state.once t); doing = grind (arith, nat_tests) }
       by_rest false e = record { needed = grind (arith, nat_tests, h.state.once t); doing = grind (arith, nat_tests) }
 
-  late_aside_fit : (x : Want) (how : Patience) → p.purpose ≡ Enters x how → p.at ≡ StandsAside Removes → s.lock.aside ≡ Some t → Follows r s t p (moves (Does Late ∷ []) (Goes (StandsAside Clears)))
+  late_aside_fit : (x : Want) (how : Patience) → p.purpose ≡ Enters x how → p.at ≡ StandsAside Removes → s.lock.aside ≡ Some t → Follows r s t p (moves (Case Late ∷ []) (Goes (StandsAside Clears)))
   late_aside_fit x how pe ae stands = record { needed = grind (arith, nat_tests); doing = grind (arith, nat_tests) }
 
   -- it takes whom it is to wake
   nobody_taken : (s.doing t).carries ≡ false → HasTakenNobody s.lock t
   nobody_taken none u x e = let g = h.carried u _ e in cc
 
-  takes_fit : (x : Want) → p.at ≡ Wakes Main ToTake → Knows r.sort Upgradable → Follows r s t p (moves (Does (TakePicked None) ∷ []) (Goes (Wakes Main (if is_empty (unpicked r.sort None s.lock.queue) then ToClear else ToLeave))))
+  takes_fit : (x : Want) → p.at ≡ Wakes Main ToTake → Knows r.sort Upgradable → Follows r s t p (moves (Case (TakePicked None) ∷ []) (Goes (Wakes Main (if is_empty (unpicked r.sort None s.lock.queue) then ToClear else ToLeave))))
   takes_fit x ae knows = let free = nobody_taken (grind arith) in by_rest free (is_empty (unpicked r.sort None s.lock.queue)) refl
     where
-      by_rest : HasTakenNobody s.lock t → (b : Bool) → is_empty (unpicked r.sort None s.lock.queue) ≡ b → Follows r s t p (moves (Does (TakePicked None) ∷ []) (Goes (Wakes Main (if b then ToClear else ToLeave))))
+      by_rest : HasTakenNobody s.lock t → (b : Bool) → is_empty (unpicked r.sort None s.lock.queue) ≡ b → Follows r s t p (moves (Case (TakePicked None) ∷ []) (Goes (Wakes Main (if b then ToClear else ToLeave))))
       by_rest free true e = record { needed = grind (arith, nat_tests); doing = grind (arith, nat_tests) }
       by_rest free false e = record { needed = grind (arith, nat_tests); doing = grind (arith, nat_tests) }
 

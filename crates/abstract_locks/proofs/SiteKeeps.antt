@@ -9,7 +9,7 @@ use Rattle.std.proofs.lemmas.Bool.Decides.{nat_tests}
 use Rattle.lot_base.specs.declared.wants.Want.{Want}
 use Rattle.lot_base.specs.declared.wants.Want.TheVariants.{Exclusive, Upgradable, Shared}
 use Rattle.abstract_locks.specs.Locks.{LockState, Pending, Queued, Taken, Sort, Rules, LockCase, Enter, Pend, Settle, Leave, Convert, Park, Aside, TakeFirst, TakeAside, TakePicked, Wake, HandOff, Late, Rollback, Needs, IsLockState, HasTakenNobody, IsTaken, Knows, KnowsAll, Mutex, Normal, Recursive, Semaphore, keeps_more, Owns, IsSuccessor, picked, unpicked, times, taking, standing, is_thread, one_if_some, readers, putting}
-use Rattle.abstract_locks.specs.Sites.{Line, Main, Second, Claim, Doing, Site, IsSite, Begin, End, In, Out, Mark, Clear, FindNobody, MarkOwned, MarkBrought, Bring, Does, Needed, after_deed, with_doing, done, case_doing, taking_main, IsEmpty, IsOpen, IsDebtor, bringing, late_found, gives_way, shares_less, Keeps, Has, Pends, Runs, Ran, Holds, counts, counts_taken, is_full, EachDeedKeeps}
+use Rattle.abstract_locks.specs.Sites.{Line, Main, Second, Claim, Doing, Site, IsSite, Begin, End, In, Out, Mark, Clear, FindNobody, MarkOwned, MarkBrought, Bring, Case, Needed, after_deed, with_doing, done, case_doing, taking_main, IsEmpty, IsOpen, IsDebtor, bringing, late_found, gives_way, shares_less, Keeps, Has, Pends, Runs, Ran, Holds, counts, counts_taken, is_full, EachDeedKeeps}
 use Rattle.abstract_locks.specs.Locks as locks
 use Rattle.abstract_locks.proofs.LockKeeps.{case_keeps, no_aside, times_taking, times_append, known_append, known_taking}
 use Rattle.abstract_locks.proofs.Hands.{taking_others, taking_by, times_picked, passes_on, without_fewer, is_handed, shares_on, counts_more, bars, kept_few, kept_counts, kept_by}
@@ -118,10 +118,10 @@ module _ (r : Rules) (s : Site) (t : ℕ) (h : IsSite r s) where
   clear_keeps Second n = let none = h.emptied t Second n in cleared s.parked false _ (grind (arith, h.emptied t, h.covered t, h.unwoken t, h.brought t, h.setting t))
 
   -- a case of the lock
-  acts : (c : LockCase) → Local r s (done r c s t (locks.after_case r c s.lock t)) t (s.doing t) (case_doing r.sort s (locks.after_case r c s.lock t) c (s.doing t)) → IsSite r (after_deed r (Does c) s t)
+  acts : (c : LockCase) → Local r s (done r c s t (locks.after_case r c s.lock t)) t (s.doing t) (case_doing r.sort s (locks.after_case r c s.lock t) c (s.doing t)) → IsSite r (after_deed r (Case c) s t)
   acts c local = turn_keeps r s (done r c s t (locks.after_case r c s.lock t)) t (s.doing t) _ h refl (put_changed s.doing t _) local
 
-  state : (c : LockCase) → Needed r (Does c) s t → IsLockState r (locks.after_case r c s.lock t)
+  state : (c : LockCase) → Needed r (Case c) s t → IsLockState r (locks.after_case r c s.lock t)
   state c n = case_keeps r c s.lock t h.state n.0
 
   -- t takes some of the main line
@@ -194,7 +194,7 @@ module _ (r : Rules) (s : Site) (t : ℕ) (h : IsSite r s) where
   nobody_picked : (start : Option Want) → s.lock.queue ≡ [] → unpicked r.sort start s.lock.queue ≡ []
   nobody_picked start e = rw e (grind (arith, take-nil {A = Queued}, drop-nil {A = Queued}))
 
-  picked_keeps : (start : Option Want) → Needed r (Does (TakePicked start)) s t → IsSite r (after_deed r (Does (TakePicked start)) s t)
+  picked_keeps : (start : Option Want) → Needed r (Case (TakePicked start)) s t → IsSite r (after_deed r (Case (TakePicked start)) s t)
   picked_keeps start n = take_keeps (picked r.sort start s.lock.queue) (unpicked r.sort start s.lock.queue) (not (keeps_more start)) n.1.0 n.1.1 n.1.2 n.0.0 (state (TakePicked start) n)
       (λ u. times_picked r.sort start u s.lock.queue) (nobody_picked start) (λ e. barred_by start n.1.3 e n.0.1)
       (λ e left. passes_on r.sort start t s.lock.queue s.lock.taken (grind arith) left once)
@@ -203,12 +203,12 @@ module _ (r : Rules) (s : Site) (t : ℕ) (h : IsSite r s) where
   first_counts : (x : Queued) → (Knows r.sort Upgradable → ⊥) → counts_taken r.sort t (taking t (x ∷ []) s.lock.taken x.thread) ≡ true
   first_counts x unknown = grind (arith, nat_tests)
 
-  first_keeps : (x : Queued) → Needed r (Does (TakeFirst x)) s t → IsSite r (after_deed r (Does (TakeFirst x)) s t)
+  first_keeps : (x : Queued) → Needed r (Case (TakeFirst x)) s t → IsSite r (after_deed r (Case (TakeFirst x)) s t)
   first_keeps x n = take_keeps (x ∷ []) (drop 1 s.lock.queue) true n.1.0 n.1.1 n.1.2 n.0.1 (state (TakeFirst x) n)
       (λ u. let e = n.0.0.1 in grind (arith, nat_tests)) (λ e. rw e refl) (λ e. absurd cc) (λ e left. (x.thread, first_counts x n.0.2))
 
   -- an upgrade owns where nobody shares, and is pending where somebody does
-  upgrades : (n : Needed r (Does (Convert Upgradable Exclusive)) s t) (b : Bool) → (readers s.lock == 0) ≡ b
+  upgrades : (n : Needed r (Case (Convert Upgradable Exclusive)) s t) (b : Bool) → (readers s.lock == 0) ≡ b
       → IsLockState r (if b then locks.with_owner t Exclusive (locks.without_owner t Upgradable s.lock) else locks.pending_for t true (locks.without_owner t Upgradable s.lock))
       → Local r s (done r (Convert Upgradable Exclusive) s t (if b then locks.with_owner t Exclusive (locks.without_owner t Upgradable s.lock) else locks.pending_for t true (locks.without_owner t Upgradable s.lock))) t (s.doing t)
       (case_doing r.sort s (if b then locks.with_owner t Exclusive (locks.without_owner t Upgradable s.lock) else locks.pending_for t true (locks.without_owner t Upgradable s.lock)) (Convert Upgradable Exclusive) (s.doing t))
@@ -219,18 +219,18 @@ module _ (r : Rules) (s : Site) (t : ℕ) (h : IsSite r s) where
   abbrev unpended : LockState
   unpended = record s.lock { pending = None }
 
-  rolls : (n : Needed r (Does Rollback) s t) (p : Pending) → s.lock.pending ≡ Some p → (b : Bool) → p.falls_back ≡ b → IsLockState r (if b then locks.with_owner t Upgradable unpended else unpended)
+  rolls : (n : Needed r (Case Rollback) s t) (p : Pending) → s.lock.pending ≡ Some p → (b : Bool) → p.falls_back ≡ b → IsLockState r (if b then locks.with_owner t Upgradable unpended else unpended)
       → Local r s (done r Rollback s t (if b then locks.with_owner t Upgradable unpended else unpended)) t (s.doing t) (case_doing r.sort s (if b then locks.with_owner t Upgradable unpended else unpended) Rollback (s.doing t))
   rolls n p e true f now = grind (arith, nat_tests, h.emptied t, h.covered t, h.unwoken t, h.brought t, h.setting t)
   rolls n p e false f now = grind (arith, nat_tests, h.emptied t, h.covered t, h.unwoken t, h.brought t, h.setting t)
 
-  rolls_by : (n : Needed r (Does Rollback) s t) (p : Option Pending) → s.lock.pending ≡ p → IsLockState r (locks.falling_back t p unpended)
+  rolls_by : (n : Needed r (Case Rollback) s t) (p : Option Pending) → s.lock.pending ≡ p → IsLockState r (locks.falling_back t p unpended)
       → Local r s (done r Rollback s t (locks.falling_back t p unpended)) t (s.doing t) (case_doing r.sort s (locks.falling_back t p unpended) Rollback (s.doing t))
   rolls_by n None e now = absurd (rw e at n.0.0)
   rolls_by n (Some p) e now = rolls n p e p.falls_back refl now
 
   -- the owner hands its right to all whom it has taken
-  module _ (x : Want) (successor : Option Queued) (n : Needed r (Does (HandOff x successor)) s t) where
+  module _ (x : Want) (successor : Option Queued) (n : Needed r (Case (HandOff x successor)) s t) where
     abbrev handed_lock : LockState
     handed_lock = locks.handed t x successor s.lock
 
@@ -324,7 +324,7 @@ module _ (r : Rules) (s : Site) (t : ℕ) (h : IsSite r s) where
   shares_debt : (d : Doing) → Knows r.sort Shared → (d.retries ≡ None) ⊎ (d.retries ≡ Some Shared) → IsOpen r.sort (locks.with_owner t Shared s.lock) → IsDebtor r.sort d → IsDebtor r.sort (record d { retries = None; claims = None })
   shares_debt d knows wanted free debt = grind arith
 
-  shares_local : (n : Needed r (Does (Enter Shared)) s t) → Local r s (done r (Enter Shared) s t (locks.with_owner t Shared s.lock)) t (s.doing t) (record (s.doing t) { retries = None; claims = None })
+  shares_local : (n : Needed r (Case (Enter Shared)) s t) → Local r s (done r (Enter Shared) s t (locks.with_owner t Shared s.lock)) t (s.doing t) (record (s.doing t) { retries = None; claims = None })
   shares_local n = record {
     state = state (Enter Shared) n;
     parked = λ e. grind arith;
@@ -350,7 +350,7 @@ module _ (r : Rules) (s : Site) (t : ℕ) (h : IsSite r s) where
   }
 
   -- one shares less
-  shares_less_local : (n : Needed r (Does (Leave Shared)) s t) (sort : Sort) → r.sort ≡ sort → Local r s (done r (Leave Shared) s t (locks.without_owner t Shared s.lock)) t (s.doing t) (shares_less sort s (s.doing t))
+  shares_less_local : (n : Needed r (Case (Leave Shared)) s t) (sort : Sort) → r.sort ≡ sort → Local r s (done r (Leave Shared) s t (locks.without_owner t Shared s.lock)) t (s.doing t) (shares_less sort s (s.doing t))
   shares_less_local n Mutex e = grind (arith, state (Leave Shared) n, h.emptied t, h.covered t, h.unwoken t, h.brought t, h.setting t, share_other, fewer_share s.lock.shared t, alone_aside r s.lock h.state)
   shares_less_local n Normal e = grind (arith, state (Leave Shared) n, h.emptied t, h.covered t, h.unwoken t, h.brought t, h.setting t, share_other, fewer_share s.lock.shared t, alone_aside r s.lock h.state)
   shares_less_local n Recursive e = grind (arith, state (Leave Shared) n, h.emptied t, h.covered t, h.unwoken t, h.brought t, h.setting t, share_other, fewer_share s.lock.shared t, alone_aside r s.lock h.state)
@@ -360,7 +360,7 @@ module _ (r : Rules) (s : Site) (t : ℕ) (h : IsSite r s) where
   way_debt : (claims : Option Claim) → (s.lock.queue ≢ []) ⊎ ((s.doing t).brings ≡ true) → IsDebtor r.sort (gives_way s (s.doing t) claims) ⊎ ((s.lock.queue ≢ []) × (s.parked ≡ false) × ((s.doing t).sets ≡ false))
   way_debt claims one = grind (arith, h.brought t, h.setting t)
 
-  shared_local : (n : Needed r (Does (Convert Exclusive Shared)) s t) → Local r s (done r (Convert Exclusive Shared) s t (locks.with_owner t Shared (locks.without_owner t Exclusive s.lock))) t (s.doing t) (gives_way s (s.doing t) None)
+  shared_local : (n : Needed r (Case (Convert Exclusive Shared)) s t) → Local r s (done r (Convert Exclusive Shared) s t (locks.with_owner t Shared (locks.without_owner t Exclusive s.lock))) t (s.doing t) (gives_way s (s.doing t) None)
   shared_local n = record {
     state = state (Convert Exclusive Shared) n;
     parked = λ e. grind arith;
@@ -392,7 +392,7 @@ module _ (r : Rules) (s : Site) (t : ℕ) (h : IsSite r s) where
   barred_aside u e Recursive f free = grind (arith, h.state.aside_pending u e)
   barred_aside u e Semaphore f free = free
 
-  aside_local : (u : ℕ) (n : Needed r (Does (TakeAside u)) s t)
+  aside_local : (u : ℕ) (n : Needed r (Case (TakeAside u)) s t)
       → Local r s (done r (TakeAside u) s t (locks.after_case r (TakeAside u) s.lock t)) t (s.doing t) (record (s.doing t) { wakes = None; carries = true; empty = Some Second })
   aside_local u n = record {
     state = state (TakeAside u) n;
@@ -428,7 +428,7 @@ module _ (r : Rules) (s : Site) (t : ℕ) (h : IsSite r s) where
   late_found_so : (m : Line) → late_found late_lock (s.doing t).inside ≡ Some m → ((s.doing t).inside ≡ Some m) × IsEmpty late_lock m
   late_found_so m e = grind arith
 
-  late_local : (n : Needed r (Does Late) s t) → Local r s (done r Late s t late_lock) t (s.doing t) (record (s.doing t) { empty = late_found late_lock (s.doing t).inside })
+  late_local : (n : Needed r (Case Late) s t) → Local r s (done r Late s t late_lock) t (s.doing t) (record (s.doing t) { empty = late_found late_lock (s.doing t).inside })
   late_local n = record {
     state = state Late n;
     parked = λ e. late_bit (λ k. e (rw k refl));
@@ -469,7 +469,7 @@ module _ (r : Rules) (s : Site) (t : ℕ) (h : IsSite r s) where
       late_bit : s.lock.queue ≢ [] → (s.parked ≡ true) ⊎ (((s.doing t).sets ≡ true) ⊎ ((s.lock.queue ≢ []) × (s.parked ≡ false) × ((s.doing t).sets ≡ false)))
       late_bit left = grind arith
 
-  act_keeps : (c : LockCase) → Needed r (Does c) s t → IsSite r (after_deed r (Does c) s t)
+  act_keeps : (c : LockCase) → Needed r (Case c) s t → IsSite r (after_deed r (Case c) s t)
   act_keeps (Enter Exclusive) n = acts (Enter Exclusive) (grind (arith, state (Enter Exclusive) n, h.emptied t, h.covered t, h.unwoken t, h.brought t, h.setting t))
   act_keeps (Enter Upgradable) n = acts (Enter Upgradable) (grind (arith, state (Enter Upgradable) n, h.emptied t, h.covered t, h.unwoken t, h.brought t, h.setting t))
   act_keeps (Enter Shared) n = acts (Enter Shared) (shares_local n)
@@ -607,4 +607,4 @@ deed_keeps r (FindNobody m) s t h n = find_keeps r s t h m n
 deed_keeps r MarkOwned s t h n = owned_keeps r s t h n
 deed_keeps r MarkBrought s t h n = brought_keeps r s t h
 deed_keeps r (Bring taken moved) s t h n = bring_keeps r s t h taken moved n
-deed_keeps r (Does c) s t h n = act_keeps r s t h c n
+deed_keeps r (Case c) s t h n = act_keeps r s t h c n

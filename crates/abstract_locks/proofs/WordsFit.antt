@@ -5,7 +5,7 @@ use Rattle.lot_base.specs.Words.{apply}
 use Rattle.lot_base.specs.declared.wants.Want.{Want}
 use Rattle.lot_base.specs.declared.wants.Want.TheVariants.{Exclusive, Upgradable, Shared}
 use Rattle.abstract_locks.specs.Locks.{Rules, LockCase, Enter, Pend, Settle, Leave, Rollback, Knows, is_recursive}
-use Rattle.abstract_locks.specs.Sites.{Line, Main, Second, Pends, Site, IsSite, End, Mark, Clear, Does, Needed, after_deed, has_readers}
+use Rattle.abstract_locks.specs.Sites.{Line, Main, Second, Pends, Site, IsSite, End, Mark, Clear, Case, Needed, after_deed, has_readers}
 use Rattle.abstract_locks.specs.Codes.{code, rw_code, TellsTrue, count_in, has_parked, has_aside, is_blocked, lost, rolled, IsHandOff}
 use Rattle.abstract_locks.specs.ReadersSteps.{Patience, Patient, Timed, Try, waits, when_blocked, counts_in, Full, Answer, Ok, No, entered, token, decided, decided_step, enters_step, releases_step, step_of, PurposeFits, IsAtWord, IsUnset, WordStepsCode, Purpose, Enters, Releases, At, First, Loads, Decides, Looks, Counts, RollsBack, GivesWay, Wakes, Parks, StandsAside, GoesAside, Clears, GivesUp, ToEnter, ToClear, ToLeave, Place, Goes, Ends, Move, moves, Decision, Refuses, Takes, Marks, Rests, WordStep, clear, looks, looked_by, ends_or_goes, comes_in, missed_first, counts_readers, gave_way, after_all, AllNeeded}
 use Rattle.abstract_locks.proofs.ReadersFit.{word_steps_follow}
@@ -27,11 +27,11 @@ module _ (r : Rules) (s : Site) (t : ℕ) (rw_sort : has_readers r.sort ≡ true
   behind_end a = coded (after_deed r End s t) ∙ sym (coded s)
 
   -- a case, at the end of its call or not
-  behind_case : (c : LockCase) → Needed r (Does c) s t → (IsHandOff c → ⊥) → code r (after_deed r (Does c) s t) + lost s.lock.pending c ≡ code r s + rolled s.lock.pending c
-  behind_case c n other = rw (coded (after_deed r (Does c) s t), coded s) (follows r s t there h c n other)
+  behind_case : (c : LockCase) → Needed r (Case c) s t → (IsHandOff c → ⊥) → code r (after_deed r (Case c) s t) + lost s.lock.pending c ≡ code r s + rolled s.lock.pending c
+  behind_case c n other = rw (coded (after_deed r (Case c) s t), coded s) (follows r s t there h c n other)
 
-  behind_case_end : (c : LockCase) → Needed r (Does c) s t → (IsHandOff c → ⊥) → code r (after_deed r End (after_deed r (Does c) s t) t) + lost s.lock.pending c ≡ code r s + rolled s.lock.pending c
-  behind_case_end c n other = rw (coded (after_deed r End (after_deed r (Does c) s t) t), coded s) (follows r s t there h c n other)
+  behind_case_end : (c : LockCase) → Needed r (Case c) s t → (IsHandOff c → ⊥) → code r (after_deed r End (after_deed r (Case c) s t) t) + lost s.lock.pending c ≡ code r s + rolled s.lock.pending c
+  behind_case_end c n other = rw (coded (after_deed r End (after_deed r (Case c) s t) t), coded s) (follows r s t there h c n other)
 
   behind_looks : (d : Decision) → behind (ends_or_goes (looked_by d (code r s))) ≡ code r s
   behind_looks (Refuses a) = behind_end a
@@ -66,13 +66,13 @@ module _ (r : Rules) (s : Site) (t : ℕ) (rw_sort : has_readers r.sort ≡ true
   comes Shared how k n = let e = behind_case_end (Enter Shared) n.0 (λ f. f) in omega arith
   comes x how k n = absurd (grind arith)
 
-  counts : (how : Patience) (v : ℕ) (b : Bool) → AllNeeded r (if b then moves (Does Settle ∷ End ∷ []) (Ends (entered how)) else moves [] (Goes (if has_aside v then GoesAside else Counts v))).deeds s t
-      → behind (if b then moves (Does Settle ∷ End ∷ []) (Ends (entered how)) else moves [] (Goes (if has_aside v then GoesAside else Counts v))) ≡ code r s
+  counts : (how : Patience) (v : ℕ) (b : Bool) → AllNeeded r (if b then moves (Case Settle ∷ End ∷ []) (Ends (entered how)) else moves [] (Goes (if has_aside v then GoesAside else Counts v))).deeds s t
+      → behind (if b then moves (Case Settle ∷ End ∷ []) (Ends (entered how)) else moves [] (Goes (if has_aside v then GoesAside else Counts v))) ≡ code r s
   counts how v true n = let e = behind_case_end Settle n.0 (λ f. f) in omega arith
   counts how v false n = refl
 
-  gives_by : (x : Want) (p2 : At) (b : Bool) → (x ≡ Shared) ⊎ ((x ≡ Exclusive) ⊎ (x ≡ Upgradable)) → AllNeeded r (if b then moves (Does (Leave x) ∷ []) (Goes p2) else moves (Does (Leave x) ∷ End ∷ []) (Ends Ok)).deeds s t
-      → behind (if b then moves (Does (Leave x) ∷ []) (Goes p2) else moves (Does (Leave x) ∷ End ∷ []) (Ends Ok)) + token x ≡ code r s
+  gives_by : (x : Want) (p2 : At) (b : Bool) → (x ≡ Shared) ⊎ ((x ≡ Exclusive) ⊎ (x ≡ Upgradable)) → AllNeeded r (if b then moves (Case (Leave x) ∷ []) (Goes p2) else moves (Case (Leave x) ∷ End ∷ []) (Ends Ok)).deeds s t
+      → behind (if b then moves (Case (Leave x) ∷ []) (Goes p2) else moves (Case (Leave x) ∷ End ∷ []) (Ends Ok)) + token x ≡ code r s
   gives_by Shared p2 true k n = let e = behind_case (Leave Shared) n.0 (λ f. f) in omega arith
   gives_by Shared p2 false k n = let e = behind_case_end (Leave Shared) n.0 (λ f. f) in omega arith
   gives_by Exclusive p2 true k n = let e = behind_case (Leave Exclusive) n.0 (λ f. f) in omega arith
@@ -88,8 +88,8 @@ module _ (r : Rules) (s : Site) (t : ℕ) (rw_sort : has_readers r.sort ≡ true
   gives x k n = absurd (grind arith)
 
   -- a writer that falls back to nothing
-  rolls_by : (b : Bool) → s.lock.pending ≡ Some (record { thread = t; falls_back = false }) → AllNeeded r (if b then moves (Does Rollback ∷ []) (Goes (Wakes Main ToEnter)) else moves (Does Rollback ∷ End ∷ []) (Ends No)).deeds s t
-      → behind (if b then moves (Does Rollback ∷ []) (Goes (Wakes Main ToEnter)) else moves (Does Rollback ∷ End ∷ []) (Ends No)) + 8 ≡ code r s
+  rolls_by : (b : Bool) → s.lock.pending ≡ Some (record { thread = t; falls_back = false }) → AllNeeded r (if b then moves (Case Rollback ∷ []) (Goes (Wakes Main ToEnter)) else moves (Case Rollback ∷ End ∷ []) (Ends No)).deeds s t
+      → behind (if b then moves (Case Rollback ∷ []) (Goes (Wakes Main ToEnter)) else moves (Case Rollback ∷ End ∷ []) (Ends No)) + 8 ≡ code r s
   rolls_by true e n = let f = behind_case Rollback n.0 (λ g. g) in let k : rolled s.lock.pending Rollback ≡ 0 = rw e refl in omega arith
   rolls_by false e n = let f = behind_case_end Rollback n.0 (λ g. g) in let k : rolled s.lock.pending Rollback ≡ 0 = rw e refl in omega arith
 
@@ -152,7 +152,7 @@ module _ (r : Rules) (s : Site) (t : ℕ) (p : Place) (step : WordStep) (at : Is
       missed_same Timed = refl
 
       enters_code : (a : At) → p.at ≡ a → enters_step r x how a ≡ Some step → apply step.op (code r s) ≡ code r (after_all r (step.moved (code r s)).deeds s t)
-      enters_code First ae e = by_step _ e (won_or_not 0 8 (moves (Does (Enter Exclusive) ∷ End ∷ []) (Ends (entered how))) (λ v. missed_first how) (code r s == 0) refl (λ same k. let f = behind_case_end r s t at.readers at.site tells there small (Enter Exclusive) k.0 (λ g. g) in omega arith) (λ k. missed_same how))
+      enters_code First ae e = by_step _ e (won_or_not 0 8 (moves (Case (Enter Exclusive) ∷ End ∷ []) (Ends (entered how))) (λ v. missed_first how) (code r s == 0) refl (λ same k. let f = behind_case_end r s t at.readers at.site tells there small (Enter Exclusive) k.0 (λ g. g) in omega arith) (λ k. missed_same how))
       enters_code Loads ae e = by_step _ e (λ k. sym (looks_same k))
       enters_code (Decides seen) ae e = decides seen (decided r x how seen) refl e
       enters_code (Parks Clears) ae e = by_step _ e (λ k. clears r s t at.readers at.site tells there small Main (Parks GivesUp))

@@ -6,7 +6,7 @@ use Rattle.lot_base.specs.declared.ops.Op.{Op}
 use Rattle.lot_base.specs.declared.ops.Op as op
 use Rattle.lot_base.specs.Words.{apply}
 use Rattle.abstract_locks.specs.Locks.{Enter, Pend, Settle, Leave, Park, Aside, TakeAside, TakePicked, unpicked, without, Late, Rollback, is_recursive, Rules, Knows, standing}
-use Rattle.abstract_locks.specs.Sites.{Line, Main, Second, Claim, Has, Pends, Doing, idle, is_main, is_empty, Site, IsSite, Needed, after_deed, has_readers, Deed, End, In, Out, Mark, Clear, FindNobody, Does}
+use Rattle.abstract_locks.specs.Sites.{Line, Main, Second, Claim, Has, Pends, Doing, idle, is_main, is_empty, Site, IsSite, Needed, after_deed, has_readers, Deed, End, In, Out, Mark, Clear, FindNobody, Case}
 use Rattle.abstract_locks.specs.Codes.{code, count_in, has_aside, has_parked, is_blocked}
 
 pub data Patience : Type 0 where
@@ -128,8 +128,8 @@ abbrev pub looks : Rules → Want → Patience → ℕ → Move
 looks r x how v = ends_or_goes (looked r x how v)
 
 abbrev pub comes_in : Want → Patience → Move
-comes_in Exclusive how = moves (Does Pend ∷ []) (Goes Looks)
-comes_in x how = moves (Does (Enter x) ∷ End ∷ []) (Ends (entered how))
+comes_in Exclusive how = moves (Case Pend ∷ []) (Goes Looks)
+comes_in x how = moves (Case (Enter x) ∷ End ∷ []) (Ends (entered how))
 
 abbrev pub missed_first : Patience → Move
 missed_first Try = moves (End ∷ []) (Ends No)
@@ -138,21 +138,21 @@ missed_first how = moves [] (Goes Loads)
 -- a pending writer looks whether the last reader has gone
 abbrev pub counts_readers : Patience → ℕ → Move
 counts_readers how v =
-    if count_in v == 0 then moves (Does Settle ∷ End ∷ []) (Ends (entered how))
+    if count_in v == 0 then moves (Case Settle ∷ End ∷ []) (Ends (entered how))
     else moves [] (Goes (if has_aside v then GoesAside else Counts v))
 
 abbrev pub gave_way : Want → ℕ → Move
 gave_way Shared v =
-    if has_aside v && (count_in v == 1) then moves (Does (Leave Shared) ∷ []) (Goes (Wakes Second ToEnter))
-    else moves (Does (Leave Shared) ∷ End ∷ []) (Ends Ok)
+    if has_aside v && (count_in v == 1) then moves (Case (Leave Shared) ∷ []) (Goes (Wakes Second ToEnter))
+    else moves (Case (Leave Shared) ∷ End ∷ []) (Ends Ok)
 gave_way x v =
-    if has_parked v then moves (Does (Leave x) ∷ []) (Goes (Wakes Main ToEnter))
-    else moves (Does (Leave x) ∷ End ∷ []) (Ends Ok)
+    if has_parked v then moves (Case (Leave x) ∷ []) (Goes (Wakes Main ToEnter))
+    else moves (Case (Leave x) ∷ End ∷ []) (Ends Ok)
 
 abbrev pub rolled_back : ℕ → Move
 rolled_back v =
-    if has_parked v then moves (Does Rollback ∷ []) (Goes (Wakes Main ToEnter))
-    else moves (Does Rollback ∷ End ∷ []) (Ends No)
+    if has_parked v then moves (Case Rollback ∷ []) (Goes (Wakes Main ToEnter))
+    else moves (Case Rollback ∷ End ∷ []) (Ends No)
 
 -- one word step: what is done to the word, and by the value before, to the lock
 pub record WordStep : Type 0 where
@@ -182,7 +182,7 @@ decided_step r x how seen decision = None
 
 abbrev pub enters_step : Rules → Want → Patience → At → Option WordStep
 enters_step r x how First =
-    Some (exchange 0 8 (moves (Does (Enter Exclusive) ∷ End ∷ []) (Ends (entered how))) (λ v. missed_first how))
+    Some (exchange 0 8 (moves (Case (Enter Exclusive) ∷ End ∷ []) (Ends (entered how))) (λ v. missed_first how))
 enters_step r x how Loads = Some (load (looks r x how))
 enters_step r x how (Decides seen) = decided_step r x how seen (decided r x how seen)
 enters_step r x how (Parks Clears) = Some (clear Main (Parks GivesUp))
@@ -263,9 +263,9 @@ doing p = doing_at (again_of p) (want_of p.purpose) p.at
 
 -- an ownership, or a place in a line, ends the retry
 abbrev pub ends_retry : Deed → Bool
-ends_retry (Does Pend) = true
-ends_retry (Does (Park x)) = true
-ends_retry (Does Aside) = true
+ends_retry (Case Pend) = true
+ends_retry (Case (Park x)) = true
+ends_retry (Case Aside) = true
 ends_retry deed = false
 
 abbrev pub unless : Bool → Bool → Bool
@@ -346,25 +346,25 @@ if_none none_left yes_at no_at = if none_left then yes_at else no_at
 
 abbrev pub takes_aside : Option ℕ → Move
 takes_aside None = moves (FindNobody Second ∷ []) (Goes (Wakes Second ToClear))
-takes_aside (Some u) = moves (Does (TakeAside u) ∷ []) (Goes (Wakes Second ToClear))
+takes_aside (Some u) = moves (Case (TakeAside u) ∷ []) (Goes (Wakes Second ToClear))
 
 abbrev pub enters_section : Rules → Site → ℕ → Want → At → Option Move
-enters_section r s t x (Parks Check) = Some (parks_by (main_check r x (code r s)) (Does (Park x)) Parks)
+enters_section r s t x (Parks Check) = Some (parks_by (main_check r x (code r s)) (Case (Park x)) Parks)
 enters_section r s t x (Parks (Leaves b)) = Some (rests_at b Parks Loads)
 enters_section r s t x (Parks Removes) =
-    Some (moves (Does Late ∷ []) (Goes (Parks (if is_empty (without t s.lock.queue) then Clears else GivesUp))))
+    Some (moves (Case Late ∷ []) (Goes (Parks (if is_empty (without t s.lock.queue) then Clears else GivesUp))))
 enters_section r s t x (Parks GivesUp) = Some (moves (Out ∷ End ∷ []) (Ends No))
 enters_section r s t x GoesAside = Some (moves (In Second ∷ []) (Goes (StandsAside Check)))
-enters_section r s t x (StandsAside Check) = Some (parks_by (aside_check (code r s)) (Does Aside) StandsAside)
+enters_section r s t x (StandsAside Check) = Some (parks_by (aside_check (code r s)) (Case Aside) StandsAside)
 enters_section r s t x (StandsAside (Leaves b)) = Some (rests_at b StandsAside Looks)
-enters_section r s t x (StandsAside Removes) = Some (moves (Does Late ∷ []) (Goes (StandsAside Clears)))
+enters_section r s t x (StandsAside Removes) = Some (moves (Case Late ∷ []) (Goes (StandsAside Clears)))
 enters_section r s t x (StandsAside GivesUp) = Some (moves (Out ∷ []) (Goes RollsBack))
 enters_section r s t x at = None
 
 -- a release, or a writer that has given up, wakes others
 abbrev pub wakes_section : Rules → Site → At → Answer → Option Move
 wakes_section r s (Wakes m ToEnter) a = Some (moves (In m ∷ []) (Goes (Wakes m ToTake)))
-wakes_section r s (Wakes Main ToTake) a = Some (moves (Does (TakePicked None) ∷ [])
+wakes_section r s (Wakes Main ToTake) a = Some (moves (Case (TakePicked None) ∷ [])
     (Goes (Wakes Main (if is_empty (unpicked r.sort None s.lock.queue) then ToClear else ToLeave))))
 wakes_section r s (Wakes Second ToTake) a = Some (takes_aside s.lock.aside)
 wakes_section r s (Wakes m ToLeave) a = Some (moves (Out ∷ End ∷ []) (Ends a))

@@ -172,7 +172,7 @@ pub data Deed : Type 0 where
   -- and sets the bit for those whom it has brought to one that nobody owned
   MarkBrought : Deed
   -- a case of the lock
-  Does : LockCase → Deed
+  Case : LockCase → Deed
 
 -- who gives way sees the bit
 abbrev pub seen_main : Bool → Option Line
@@ -293,7 +293,7 @@ after_deed r (Bring taken moved) s t = record s {
   lock = record s.lock { queue = s.lock.queue ++ moved; taken = taking t taken s.lock.taken };
   doing = putting s.doing t (bringing taken moved (s.doing t));
 }
-after_deed r (Does case) s t = done r case s t (locks.after_case r case s.lock t)
+after_deed r (Case case) s t = done r case s t (locks.after_case r case s.lock t)
 
 -- ---------------------------------------------------------------- what a deed needs
 
@@ -350,7 +350,7 @@ Needed r (Bring taken moved) s t =
     (r.sort ≡ Mutex) × ((s.doing t).inside ≡ Some Main) × ((s.doing t).carries ≡ false)
     × ((s.doing t).wakes ≡ None) × ((s.doing t).retries ≡ None)
     × Apart s (taken ++ moved) × KnowsAll Mutex (taken ++ moved) × (taken ≡ [] → (s.doing t).brings ≡ true)
-Needed r (Does case) s t = Needs r case s.lock t × Fits r s t case (s.doing t)
+Needed r (Case case) s t = Needs r case s.lock t × Fits r s t case (s.doing t)
 
 -- ---------------------------------------------------------------- the law
 

@@ -23,7 +23,7 @@ use Rattle.lot_steps.specs.declared.places.Place.TheVariants.{Idle, Mutex}
 use Rattle.abstract_locks.specs.Locks.{LockState, Queued, Taken as LockTaken, Rules, Rights, LockCase, Enter, Leave, Wake, HandOff as HandsOff, HasTakenNobody, IsTaken, IsLockState, Knows, Needs, keep_from, let_go, rights_of, with_right, without_right, is_thread, putting}
 use Rattle.abstract_locks.specs.Locks as locks
 use Rattle.abstract_locks.specs.Runs.{LocksState, CallState, Event, IsTimely, is_taken_by, woken, Nothing, AtLock, MayHappen, Agrees, AnswerHolds, GoesOn, locks_after, going_on, unless_ended, one_more_at, one_less_at, rules_at as locks_rules}
-use Rattle.abstract_locks.specs.Sites.{Does, End}
+use Rattle.abstract_locks.specs.Sites.{Case, End}
 use Rattle.abstract_locks.specs.Purposes.{Purpose, IsMadeOf}
 use Rattle.abstract_locks.proofs.LockKeeps.{sharing_same}
 use Rattle.lot_world.specs.Machine.{State, place_at}
@@ -240,7 +240,7 @@ module _ (w v : State) (t l : ℕ) (at : MutexPlace) (p2 : Place) (ds : List Act
 abbrev pub Got : State → State → ℕ → ℕ → Type 0
 Got w v t l = (owner_at v l ≡ Some t) × ((k : ℕ) → rights v t k ≡ one_more_at l Exclusive (rights w t) k)
 
-module _ (w v : State) (t l : ℕ) (at : MutexPlace) (rules : rules_at w l ≡ mutex) (gone : Gone w v t l at Idle (acts t (Does (Enter Exclusive) ∷ End ∷ []))) where
+module _ (w v : State) (t l : ℕ) (at : MutexPlace) (rules : rules_at w l ≡ mutex) (gone : Gone w v t l at Idle (acts t (Case (Enter Exclusive) ∷ End ∷ []))) where
   free : owner_at w l ≡ None
   free = let n : Needs mutex (Enter Exclusive) (lock_state w l) t = rw rules at gone.goes.follows.needed.0.0 in n.0.0.1
 
