@@ -8,7 +8,7 @@ use Rattle.abstract_locks.specs.Locks.{Taken, without, putting}
 use Rattle.abstract_locks.specs.Sites.{Main, Claim, Runs, Ran, Doing, idle, is_empty, found, seen_main, leaves, wakened}
 use Rattle.abstract_locks.specs.Codes.{bit}
 use Rattle.abstract_locks.specs.Onces.{Phase, New, Poisoned, InProgress, Done, OnceCase, Start, Finish, Fail, Rest, Late, MayStart, MayRest, OnceSite, Ends, GoesIn, GoesOut, Sets, Acts, once_leads, once_code, phase_code}
-use Rattle.abstract_locks.specs.OnceSteps.{Answer, Ok, No, IsPoisoned, Failed, At, Loads, Starts, Marks, Enters, Checks, Leaves, Asleep, Removes, ClearsBit, GivesUp, Closure, WakesIn, WakesTake, WakesLeave, Place, want_of, again, doing_at, doing_of, Goes, EndsWith, goes, ends, is_done, is_poisoned, is_running, is_marked, done_answer, looked, still_waits, go_move, doing_then, OnceFollows, IsAtPlace, OnceStepsFollow, OnceWordFollows}
+use Rattle.abstract_locks.specs.OnceSteps.{Answer, Ok, No, IsPoisoned, Failed, At, Loads, Starts, Marks, Enters, Checks, Leaves, Asleep, Removes, ClearsBit, GivesUp, Closure, WakesIn, WakesTake, WakesLeave, OncePlace, want_of, again, doing_at, doing_of, Goes, EndsWith, goes, ends, is_done, is_poisoned, is_running, is_marked, done_answer, looked, still_waits, go_move, doing_then, OnceFollows, IsAtPlace, OnceStepsFollow, OnceWordFollows}
 
 -- ---------------------------------------------------------------- the word
 
@@ -52,7 +52,7 @@ once_words s t forced = (started s.parked s.once.phase, refl, refl)
 put_same : {A : Type 0} (f : ℕ → A) (t : ℕ) (x : A) → putting f t x t ≡ x
 put_same f t x = grind (arith, nat_tests)
 
-module _ (s : OnceSite) (t : ℕ) (p : Place) (a : IsAtPlace s t p) where
+module _ (s : OnceSite) (t : ℕ) (p : OncePlace) (a : IsAtPlace s t p) where
   abbrev v : ℕ
   v = once_code s
 
@@ -67,7 +67,7 @@ module _ (s : OnceSite) (t : ℕ) (p : Place) (a : IsAtPlace s t p) where
   ends_fit : (x : Answer) → (s.doing t).inside ≡ None → (s.doing t).wakes ≡ None → OnceFollows s t p (ends x)
   ends_fit x out none = record { needed = ((out, none), tt); doing = put_same s.doing t idle }
 
-  loads_doing : Place → Doing
+  loads_doing : OncePlace → Doing
   loads_doing q = record idle { retries = again q }
 
   same_again : (b : Bool) → (b && true) ≡ b

@@ -8,12 +8,12 @@ use Rattle.abstract_locks.specs.Locks.{Rules, Enter, Settle, Leave, Rollback, Kn
 use Rattle.abstract_locks.specs.Sites.{Line, Main, Second, Has, Pends, Doing, Site, IsSite, End, Mark, Clear, Case, has_readers}
 use Rattle.abstract_locks.specs.Codes.{code, TellsTrue, count_in, has_parked, has_aside, is_blocked}
 use Rattle.abstract_locks.proofs.CodeLaws.{words_tell_true}
-use Rattle.abstract_locks.specs.ReadersSteps.{Patience, Patient, Timed, Try, Answer, Ok, No, ToEnter, ToClear, ToLeave, Clears, GivesUp, Purpose, Enters, Releases, At, First, Loads, Decides, Looks, Counts, RollsBack, GivesWay, Wakes, Place, Goes, Ends, moves, comes_in, missed_first, counts_readers, gave_way, rolled_back, looks, looked_by, ends_or_goes, waits, when_blocked, counts_in, token, Refuses, Takes, Marks, Rests, Full, Decision, WordStep, step_of, clear, WordStepsFollow, decided, decided_step, enters_step, releases_step, PurposeFits, IsAtWord, entered, Parks, StandsAside, GoesAside, doing, Follows}
+use Rattle.abstract_locks.specs.ReadersSteps.{Patience, Patient, Timed, Try, Answer, Ok, No, ToEnter, ToClear, ToLeave, Clears, GivesUp, Purpose, Enters, Releases, At, First, Loads, Decides, Looks, Counts, RollsBack, GivesWay, Wakes, ReadersPlace, Goes, Ends, moves, comes_in, missed_first, counts_readers, gave_way, rolled_back, looks, looked_by, ends_or_goes, waits, when_blocked, counts_in, token, Refuses, Takes, Marks, Rests, Full, Decision, WordStep, step_of, clear, WordStepsFollow, decided, decided_step, enters_step, releases_step, PurposeFits, IsAtWord, entered, Parks, StandsAside, GoesAside, doing, Follows}
 
 pub put_same : {A : Type 0} (f : ℕ → A) (t : ℕ) (x : A) → putting f t x t ≡ x
 put_same f t x = grind (arith, nat_tests)
 
-module _ (r : Rules) (s : Site) (t : ℕ) (rw_sort : has_readers r.sort ≡ true) (h : IsSite r s) (tells : TellsTrue r s) (p : Place) (is : s.doing t ≡ doing p) where
+module _ (r : Rules) (s : Site) (t : ℕ) (rw_sort : has_readers r.sort ≡ true) (h : IsSite r s) (tells : TellsTrue r s) (p : ReadersPlace) (is : s.doing t ≡ doing p) where
   first_won : (x : Want) (how : Patience) (a : Answer) → p.purpose ≡ Enters x how → p.at ≡ First → x ≡ Exclusive → code r s ≡ 0 → Follows r s t p (moves (Case (Enter Exclusive) ∷ End ∷ []) (Ends a))
   first_won x how a pe ae xe z = record { needed = grind (arith, nat_tests, tells.nobody z); doing = grind (arith, nat_tests) }
 
@@ -168,7 +168,7 @@ module _ (r : Rules) (s : Site) (t : ℕ) (rw_sort : has_readers r.sort ≡ true
 shares : (r : Rules) → has_readers r.sort ≡ true → Knows r.sort Shared
 shares r e = grind arith
 
-module _ (r : Rules) (s : Site) (t : ℕ) (p : Place) (step : WordStep) (at : IsAtWord r s t p) where
+module _ (r : Rules) (s : Site) (t : ℕ) (p : ReadersPlace) (step : WordStep) (at : IsAtWord r s t p) where
   tells : TellsTrue r s
   tells = words_tell_true r s at.readers at.site
 

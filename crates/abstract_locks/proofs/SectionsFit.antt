@@ -6,10 +6,10 @@ use Rattle.lot_base.specs.declared.wants.Want.TheVariants.{Upgradable}
 use Rattle.abstract_locks.specs.Locks.{Rules, Taken, Park, Aside, TakePicked, Late, Knows, HasTakenNobody, standing, times, unpicked, without, putting}
 use Rattle.abstract_locks.specs.Sites.{Line, Main, Second, Pends, Doing, idle, is_empty, Site, IsSite, End, In, Out, Case, after_deed, has_readers, leaves, wakened, counts_some}
 use Rattle.abstract_locks.specs.Codes.{code, TellsTrue}
-use Rattle.abstract_locks.specs.ReadersSteps.{Patience, Answer, Enters, At, Parks, StandsAside, Wakes, Check, Removes, Clears, GivesUp, ToTake, ToClear, ToLeave, Place, Goes, Ends, moves, parks_by, takes_aside, main_check, aside_check, doing, Follows}
+use Rattle.abstract_locks.specs.ReadersSteps.{Patience, Answer, Enters, At, Parks, StandsAside, Wakes, Check, Removes, Clears, GivesUp, ToTake, ToClear, ToLeave, ReadersPlace, Goes, Ends, moves, parks_by, takes_aside, main_check, aside_check, doing, Follows}
 use Rattle.abstract_locks.proofs.ReadersFit.{put_same}
 
-module _ (r : Rules) (s : Site) (t : ℕ) (rw_sort : has_readers r.sort ≡ true) (h : IsSite r s) (tells : TellsTrue r s) (p : Place) (is : s.doing t ≡ doing p) where
+module _ (r : Rules) (s : Site) (t : ℕ) (rw_sort : has_readers r.sort ≡ true) (h : IsSite r s) (tells : TellsTrue r s) (p : ReadersPlace) (is : s.doing t ≡ doing p) where
   -- into a section that is free
   pub goes_in : (m : Line) (p2 : At) → ((u : ℕ) → (s.doing u).inside ≢ Some m) → (s.doing t).empty ≡ None → (s.doing t).inside ≡ None → doing (record p { at = p2 }) ≡ record (doing p) { inside = Some m } → Follows r s t p (moves (In m ∷ []) (Goes p2))
   goes_in m p2 free found out e = record { needed = ((free, out, found), tt); doing = put_same s.doing t _ ∙ ap (λ (d : Doing). record d { inside = Some m }) is ∙ sym e }

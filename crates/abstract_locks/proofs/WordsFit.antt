@@ -7,7 +7,7 @@ use Rattle.lot_base.specs.declared.wants.Want.TheVariants.{Exclusive, Upgradable
 use Rattle.abstract_locks.specs.Locks.{Rules, LockCase, Enter, Pend, Settle, Leave, Rollback, Knows, is_recursive}
 use Rattle.abstract_locks.specs.Sites.{Line, Main, Second, Pends, Site, IsSite, End, Mark, Clear, Case, Needed, after_deed, has_readers}
 use Rattle.abstract_locks.specs.Codes.{code, rw_code, TellsTrue, count_in, has_parked, has_aside, is_blocked, lost, rolled, IsHandOff}
-use Rattle.abstract_locks.specs.ReadersSteps.{Patience, Patient, Timed, Try, waits, when_blocked, counts_in, Full, Answer, Ok, No, entered, token, decided, decided_step, enters_step, releases_step, step_of, PurposeFits, IsAtWord, IsUnset, WordStepsCode, Purpose, Enters, Releases, At, First, Loads, Decides, Looks, Counts, RollsBack, GivesWay, Wakes, Parks, StandsAside, GoesAside, Clears, GivesUp, ToEnter, ToClear, ToLeave, Place, Goes, Ends, Move, moves, Decision, Refuses, Takes, Marks, Rests, WordStep, clear, looks, looked_by, ends_or_goes, comes_in, missed_first, counts_readers, gave_way, after_all, AllNeeded}
+use Rattle.abstract_locks.specs.ReadersSteps.{Patience, Patient, Timed, Try, waits, when_blocked, counts_in, Full, Answer, Ok, No, entered, token, decided, decided_step, enters_step, releases_step, step_of, PurposeFits, IsAtWord, IsUnset, WordStepsCode, Purpose, Enters, Releases, At, First, Loads, Decides, Looks, Counts, RollsBack, GivesWay, Wakes, Parks, StandsAside, GoesAside, Clears, GivesUp, ToEnter, ToClear, ToLeave, ReadersPlace, Goes, Ends, Move, moves, Decision, Refuses, Takes, Marks, Rests, WordStep, clear, looks, looked_by, ends_or_goes, comes_in, missed_first, counts_readers, gave_way, after_deeds, AllNeeded}
 use Rattle.abstract_locks.proofs.ReadersFit.{word_steps_follow}
 use Rattle.abstract_locks.proofs.Seen.{clears_low, clears_second}
 use Rattle.abstract_locks.proofs.CodeLaws.{follows, rw_is, low_is, second_is, words_tell_true}
@@ -21,7 +21,7 @@ module _ (r : Rules) (s : Site) (t : ℕ) (rw_sort : has_readers r.sort ≡ true
 
   -- the word behind a move
   abbrev behind : Move → ℕ
-  behind m = code r (after_all r m.deeds s t)
+  behind m = code r (after_deeds r m.deeds s t)
 
   behind_end : (a : Answer) → behind (moves (End ∷ []) (Ends a)) ≡ code r s
   behind_end a = coded (after_deed r End s t) ∙ sym (coded s)
@@ -93,22 +93,22 @@ module _ (r : Rules) (s : Site) (t : ℕ) (rw_sort : has_readers r.sort ≡ true
   rolls_by true e n = let f = behind_case Rollback n.0 (λ g. g) in let k : rolled s.lock.pending Rollback ≡ 0 = rw e refl in omega arith
   rolls_by false e n = let f = behind_case_end Rollback n.0 (λ g. g) in let k : rolled s.lock.pending Rollback ≡ 0 = rw e refl in omega arith
 
-module _ (r : Rules) (s : Site) (t : ℕ) (p : Place) (step : WordStep) (at : IsAtWord r s t p) (unset : IsUnset p.at) (there : t < length s.lock.shared) (small : code r s < 2 ^ 64) where
+module _ (r : Rules) (s : Site) (t : ℕ) (p : ReadersPlace) (step : WordStep) (at : IsAtWord r s t p) (unset : IsUnset p.at) (there : t < length s.lock.shared) (small : code r s < 2 ^ 64) where
   tells : TellsTrue r s
   tells = words_tell_true r s at.readers at.site
 
   module _ (n : AllNeeded r (step.moved (code r s)).deeds s t) where
-    by_step : (w : WordStep) → Some w ≡ Some step → (AllNeeded r (w.moved (code r s)).deeds s t → apply w.op (code r s) ≡ code r (after_all r (w.moved (code r s)).deeds s t)) → apply step.op (code r s) ≡ code r (after_all r (step.moved (code r s)).deeds s t)
-    by_step w e f = let g : step ≡ w = cc in subst (λ (x : WordStep). (AllNeeded r (x.moved (code r s)).deeds s t → apply x.op (code r s) ≡ code r (after_all r (x.moved (code r s)).deeds s t))) (sym g) f n
+    by_step : (w : WordStep) → Some w ≡ Some step → (AllNeeded r (w.moved (code r s)).deeds s t → apply w.op (code r s) ≡ code r (after_deeds r (w.moved (code r s)).deeds s t)) → apply step.op (code r s) ≡ code r (after_deeds r (step.moved (code r s)).deeds s t)
+    by_step w e f = let g : step ≡ w = cc in subst (λ (x : WordStep). (AllNeeded r (x.moved (code r s)).deeds s t → apply x.op (code r s) ≡ code r (after_deeds r (x.moved (code r s)).deeds s t))) (sym g) f n
 
     module _ (x : Want) (how : Patience) (pe : p.purpose ≡ Enters x how) (fits : PurposeFits r p (Enters x how)) where
       -- an exchange leads where its winning move does, and else nowhere
-      won_or_not : (from to : ℕ) (won : Move) (other : ℕ → Move) (b : Bool) → (code r s == from) ≡ b → (code r s ≡ from → AllNeeded r won.deeds s t → code r (after_all r won.deeds s t) ≡ to) → (AllNeeded r (other (code r s)).deeds s t → code r (after_all r (other (code r s)).deeds s t) ≡ code r s)
-          → AllNeeded r (if b then won else other (code r s)).deeds s t → (if b then to else code r s) ≡ code r (after_all r (if b then won else other (code r s)).deeds s t)
+      won_or_not : (from to : ℕ) (won : Move) (other : ℕ → Move) (b : Bool) → (code r s == from) ≡ b → (code r s ≡ from → AllNeeded r won.deeds s t → code r (after_deeds r won.deeds s t) ≡ to) → (AllNeeded r (other (code r s)).deeds s t → code r (after_deeds r (other (code r s)).deeds s t) ≡ code r s)
+          → AllNeeded r (if b then won else other (code r s)).deeds s t → (if b then to else code r s) ≡ code r (after_deeds r (if b then won else other (code r s)).deeds s t)
       won_or_not from to won other true e f g k = sym (f (eqb-true (code r s) from e) k)
       won_or_not from to won other false e f g k = sym (g k)
 
-      looks_same : AllNeeded r (looks r x how (code r s)).deeds s t → code r (after_all r (looks r x how (code r s)).deeds s t) ≡ code r s
+      looks_same : AllNeeded r (looks r x how (code r s)).deeds s t → code r (after_deeds r (looks r x how (code r s)).deeds s t) ≡ code r s
       looks_same k = behind_looks r s t at.readers at.site tells there small (decided r x how (code r s))
 
       -- what it has seen decides what it adds, and what it marks is clear
@@ -140,18 +140,18 @@ module _ (r : Rules) (s : Site) (t : ℕ) (p : Place) (step : WordStep) (at : Is
       marks_unset seen false true e = absurd cc
       marks_unset seen false false e = absurd cc
 
-      decides : (seen : ℕ) (d : Decision) → decided r x how seen ≡ d → decided_step r x how seen d ≡ Some step → apply step.op (code r s) ≡ code r (after_all r (step.moved (code r s)).deeds s t)
+      decides : (seen : ℕ) (d : Decision) → decided r x how seen ≡ d → decided_step r x how seen d ≡ Some step → apply step.op (code r s) ≡ code r (after_deeds r (step.moved (code r s)).deeds s t)
       decides seen (Takes add) de e = by_step _ e (won_or_not seen (seen + add) (comes_in x how) (looks r x how) (code r s == seen) refl (λ same k. let f = comes r s t at.readers at.site tells there small x how fits.0 k in let g = takes_token seen add (is_blocked (is_recursive r.sort) x seen) (counts_in x && nat_le r.limit (count_in seen)) de in omega arith) looks_same)
       decides seen Marks de e = by_step _ e (won_or_not seen (seen + 1) (moves (Mark Main ∷ []) (Goes (Decides (seen + 1)))) (looks r x how) (code r s == seen) refl (λ same k. let g = marks_unset seen (is_blocked (is_recursive r.sort) x seen) (counts_in x && nat_le r.limit (count_in seen)) de in let f = marked r s t at.readers at.site tells there small Main 1 (sym tells.parked ∙ ap has_parked same ∙ g) in omega arith) looks_same)
       decides seen Rests de e = absurd cc
       decides seen (Refuses a) de e = absurd cc
 
-      missed_same : (y : Patience) → code r (after_all r (missed_first y).deeds s t) ≡ code r s
+      missed_same : (y : Patience) → code r (after_deeds r (missed_first y).deeds s t) ≡ code r s
       missed_same Try = behind_end r s t at.readers at.site tells there small No
       missed_same Patient = refl
       missed_same Timed = refl
 
-      enters_code : (a : At) → p.at ≡ a → enters_step r x how a ≡ Some step → apply step.op (code r s) ≡ code r (after_all r (step.moved (code r s)).deeds s t)
+      enters_code : (a : At) → p.at ≡ a → enters_step r x how a ≡ Some step → apply step.op (code r s) ≡ code r (after_deeds r (step.moved (code r s)).deeds s t)
       enters_code First ae e = by_step _ e (won_or_not 0 8 (moves (Case (Enter Exclusive) ∷ End ∷ []) (Ends (entered how))) (λ v. missed_first how) (code r s == 0) refl (λ same k. let f = behind_case_end r s t at.readers at.site tells there small (Enter Exclusive) k.0 (λ g. g) in omega arith) (λ k. missed_same how))
       enters_code Loads ae e = by_step _ e (λ k. sym (looks_same k))
       enters_code (Decides seen) ae e = decides seen (decided r x how seen) refl e
@@ -163,7 +163,7 @@ module _ (r : Rules) (s : Site) (t : ℕ) (p : Place) (step : WordStep) (at : Is
       enters_code (Wakes m ToClear) ae e = by_step _ e (λ k. clears r s t at.readers at.site tells there small m (Wakes m ToLeave))
       enters_code a ae e = absurd cc
 
-    releases_code : (x : Want) → Knows r.sort x → (a : At) → releases_step x a ≡ Some step → apply step.op (code r s) ≡ code r (after_all r (step.moved (code r s)).deeds s t)
+    releases_code : (x : Want) → Knows r.sort x → (a : At) → releases_step x a ≡ Some step → apply step.op (code r s) ≡ code r (after_deeds r (step.moved (code r s)).deeds s t)
     releases_code x knows GivesWay e = by_step _ e (λ k. let f = gives r s t at.readers at.site tells there small x knows k in subtracts (code r s) (token x) _ small (omega arith) f)
     releases_code x knows (Wakes m ToClear) e = by_step _ e (λ k. clears r s t at.readers at.site tells there small m (Wakes m ToLeave))
     releases_code x knows a e = absurd cc
@@ -171,6 +171,6 @@ module _ (r : Rules) (s : Site) (t : ℕ) (p : Place) (step : WordStep) (at : Is
 pub word_steps_code : WordStepsCode
 word_steps_code r s t p step at unset e there small = by_purpose p.purpose refl at.purpose e
   where
-    by_purpose : (q : Purpose) → p.purpose ≡ q → PurposeFits r p q → step_of r q p.at ≡ Some step → apply step.op (code r s) ≡ code r (after_all r (step.moved (code r s)).deeds s t)
+    by_purpose : (q : Purpose) → p.purpose ≡ q → PurposeFits r p q → step_of r q p.at ≡ Some step → apply step.op (code r s) ≡ code r (after_deeds r (step.moved (code r s)).deeds s t)
     by_purpose (Enters x how) pe fits f = enters_code r s t p step at unset there small (word_steps_follow r s t p step at e).needed x how pe fits p.at refl f
     by_purpose (Releases x) pe fits f = releases_code r s t p step at unset there small (word_steps_follow r s t p step at e).needed x fits p.at f

@@ -58,7 +58,7 @@ pub data At : Type 0 where
   GivesWay : At
   Wakes : Line → WakeAt → At
 
-pub record Place : Type 0 where
+pub record ReadersPlace : Type 0 where
   pub purpose : Purpose
   pub retries : Bool
   pub at : At
@@ -203,7 +203,7 @@ abbrev pub step_of : Rules → Purpose → At → Option WordStep
 step_of r (Enters x how) at = enters_step r x how at
 step_of r (Releases x) at = releases_step x at
 
-abbrev pub word_step : Rules → Place → Option WordStep
+abbrev pub word_step : Rules → ReadersPlace → Option WordStep
 word_step r p = step_of r p.purpose p.at
 
 -- ---------------------------------------------------------------- what a place says of its thread
@@ -253,10 +253,10 @@ abbrev pub want_of : Purpose → Want
 want_of (Enters x how) = x
 want_of (Releases x) = x
 
-abbrev pub again_of : Place → Option Want
+abbrev pub again_of : ReadersPlace → Option Want
 again_of p = if p.retries then Some (want_of p.purpose) else None
 
-abbrev pub doing : Place → Doing
+abbrev pub doing : ReadersPlace → Doing
 doing p = doing_at (again_of p) (want_of p.purpose) p.at
 
 -- ---------------------------------------------------------------- what a step has to do with the lock
@@ -276,26 +276,26 @@ abbrev pub still_retries : List Deed → Bool → Bool
 still_retries [] again = again
 still_retries (d ∷ ds) again = still_retries ds (unless (ends_retry d) again)
 
-abbrev pub doing_next : Place → Bool → Next → Doing
+abbrev pub doing_next : ReadersPlace → Bool → Next → Doing
 doing_next p again (Ends a) = idle
 doing_next p again (Goes at) = doing (record { purpose = p.purpose; retries = again; at = at })
 
 -- what a thread does behind a move
-abbrev pub doing_after : Place → Move → Doing
+abbrev pub doing_after : ReadersPlace → Move → Doing
 doing_after p m = doing_next p (still_retries m.deeds p.retries) m.next
 
-abbrev pub after_all : Rules → List Deed → Site → ℕ → Site
-after_all r [] s t = s
-after_all r (d ∷ ds) s t = after_all r ds (after_deed r d s t) t
+abbrev pub after_deeds : Rules → List Deed → Site → ℕ → Site
+after_deeds r [] s t = s
+after_deeds r (d ∷ ds) s t = after_deeds r ds (after_deed r d s t) t
 
 abbrev pub AllNeeded : Rules → List Deed → Site → ℕ → Type 0
 AllNeeded r [] s t = Unit {0}
 AllNeeded r (d ∷ ds) s t = Needed r d s t × AllNeeded r ds (after_deed r d s t) t
 
 -- a step on the word: it may do what it does, the word follows, and so does what its place says
-pub record Follows (r : Rules) (s : Site) (t : ℕ) (p : Place) (m : Move) : Type 0 where
+pub record Follows (r : Rules) (s : Site) (t : ℕ) (p : ReadersPlace) (m : Move) : Type 0 where
   pub needed : AllNeeded r m.deeds s t
-  pub doing : (after_all r m.deeds s t).doing t ≡ doing_after p m
+  pub doing : (after_deeds r m.deeds s t).doing t ≡ doing_after p m
 
 -- the call knows its want, and tries the word that is 0 only for the exclusive right
 abbrev pub PlaceFits : Rules → Purpose → At → Type 0
@@ -306,12 +306,12 @@ PlaceFits r (Releases x) at = Knows r.sort x
 -- ---------------------------------------------------------------- the law
 
 -- a try is of a thread that wasn't woken, and has its want
-abbrev pub PurposeFits : Rules → Place → Purpose → Type 0
+abbrev pub PurposeFits : Rules → ReadersPlace → Purpose → Type 0
 PurposeFits r p (Enters x how) = Knows r.sort x × (how ≡ Try → p.retries ≡ false) × (p.at ≡ First → x ≡ Exclusive)
 PurposeFits r p (Releases x) = Knows r.sort x
 
 -- whoever is at a step on the word stands nowhere
-pub record IsAtWord (r : Rules) (s : Site) (t : ℕ) (p : Place) : Type 0 where
+pub record IsAtWord (r : Rules) (s : Site) (t : ℕ) (p : ReadersPlace) : Type 0 where
   pub readers : has_readers r.sort ≡ true
   pub site : IsSite r s
   pub doing : s.doing t ≡ doing p
@@ -321,7 +321,7 @@ pub record IsAtWord (r : Rules) (s : Site) (t : ℕ) (p : Place) : Type 0 where
 -- each step on the word may do to the lock what its table says, and its place says what the thread does then
 abbrev pub WordStepsFollow : Type 0
 WordStepsFollow =
-    (r : Rules) (s : Site) (t : ℕ) (p : Place) (step : WordStep) → IsAtWord r s t p → word_step r p ≡ Some step
+    (r : Rules) (s : Site) (t : ℕ) (p : ReadersPlace) (step : WordStep) → IsAtWord r s t p → word_step r p ≡ Some step
     → Follows r s t p (step.moved (code r s))
 
 -- ---------------------------------------------------------------- steps in and out of sections
@@ -384,6 +384,6 @@ IsUnset at = Unit {0}
 -- and each step on the word leads to the word of the lock behind it
 abbrev pub WordStepsCode : Type 0
 WordStepsCode =
-    (r : Rules) (s : Site) (t : ℕ) (p : Place) (step : WordStep) → IsAtWord r s t p → IsUnset p.at
+    (r : Rules) (s : Site) (t : ℕ) (p : ReadersPlace) (step : WordStep) → IsAtWord r s t p → IsUnset p.at
     → word_step r p ≡ Some step → t < length s.lock.shared → code r s < 2 ^ 64
-    → apply step.op (code r s) ≡ code r (after_all r (step.moved (code r s)).deeds s t)
+    → apply step.op (code r s) ≡ code r (after_deeds r (step.moved (code r s)).deeds s t)
