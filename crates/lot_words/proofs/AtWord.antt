@@ -6,7 +6,7 @@ use Rattle.atomic_table.specs.declared.shared.Seat.{Seat}
 use Rattle.lot_words.specs.Places.{place}
 use Rattle.lot_words.specs.Rule.{LotRule}
 use Rattle.lot_words.specs.Steps.{MayStep}
-use Rattle.lot_words.specs.Plays.{Takes, saw_set}
+use Rattle.lot_words.specs.Plays.{TakesStep, saw_set}
 use Rattle.lot_words.specs.Lots.{IsSeatOf, IsWordOf}
 use Rattle.lot_words.specs.declared.table.LotWords.{LotWords}
 use Rattle.lot_words.specs.declared.views.View.{View}
@@ -20,7 +20,7 @@ use Rattle.lot_words.proofs.Places.{rank_lt}
 -- by the place that was computed and the operation that was matched
 pub table_allows : {S : Type 0} (lot : LotWords) (seat : Seat S View) (word : Word) {at : ℕ} {op op' : Op} → IsSeatOf lot seat × IsWordOf lot word → MayStep word.kind (place word.number word.kind) op seat.me.0.owns
     → at ≡ place word.number word.kind → op ≡ op'
-    → IsSeatOf lot seat × (at < lot.table.shared.table_id.words) × Allows (LotRule lot.table.shared.key) lot.table.shared.table_id.slots seat.id seat.me at (apply op') (Takes at op' seat.me)
+    → IsSeatOf lot seat × (at < lot.table.shared.table_id.words) × Allows (LotRule lot.table.shared.key) lot.table.shared.table_id.slots seat.id seat.me at (apply op') (TakesStep at op' seat.me)
 table_allows lot seat word {at} {op} {op'} own may there same = let sized = lot.sized in
     (own.0, omega (arith, rank_lt word.kind, sized.0, sized.1, own.1.1), steps_at_word lot.table.shared.key lot.table.shared.table_id.slots seat.id seat.me word.number word.kind at op op' same there (omega (arith, sized.1, own.1.1)) may)
 

@@ -16,7 +16,7 @@ use Rattle.lot_base.specs.Words.{apply}
 use Rattle.lot_base.specs.declared.ops.Op.{Op}
 use Rattle.lot_base.specs.declared.ops.Op.TheVariants.{Load, Or, Exchange}
 use Rattle.lot_words.specs.Steps.{has, without, HasAll, trade, Agrees, MayTie, MayStep, owns_after_step, listed, after_step}
-use Rattle.lot_words.specs.Plays.{TakesAs, Takes, saw_set, looks, draws, numbered, left_over, piece, takes_in}
+use Rattle.lot_words.specs.Plays.{TakesStepOf, TakesStep, saw_set, looks, draws, numbered, left_over, piece, takes_in}
 use Rattle.lot_words.specs.declared.owners.Ownership.{Ownership}
 use Rattle.lot_words.specs.declared.views.WordStep.{WordStep}
 use Rattle.lot_words.proofs.Trades.{total-without, traded_here, traded_elsewhere, traded_counts, said_total, owned_some}
@@ -28,7 +28,7 @@ use Rattle.lot_words.specs.declared.words.WordKind.{WordKind}
 use Rattle.lot_words.specs.declared.words.WordKind.TheVariants.{Mutex, RwLock, Condvar, Once, Count}
 use Rattle.lot_words.proofs.Counts.{counted-where, no_counts}
 use Rattle.lot_words.proofs.Totals.{total-append, total-set, term_le, total_below-suc, cond_same, cond_other}
-use Rattle.lot_words.proofs.Places.{rank_lt, kind_at-place, place-number, place-kind}
+use Rattle.lot_words.proofs.Places.{rank_lt, word_kind_at-place, place-number, place-kind}
 
 shows_more : (P Q : ℕ → Type 0) (n : ℕ) → ((k : ℕ) → P k → Q k) → Shows P n → Shows Q n
 shows_more P Q n more h = ⊎_elim (λ z. inl z) (λ t. inr (t.0, t.1, more t.0 t.2)) h
@@ -207,7 +207,7 @@ module _ {S : Type 0} (words : ℕ) (s : State S View) (o : LotRule words s) whe
 
 -- the law of all steps on words: one that the seat may take keeps the rule
 pub steps : {S : Type 0} (words slots id : ℕ) (me : Me S View) (number : ℕ) (kind : WordKind) (op : Op) → number < words → MayStep kind (place number kind) op me.0.owns
-    → Allows (LotRule words) slots id me (place number kind) (apply op) (Takes (place number kind) op me)
+    → Allows (LotRule words) slots id me (place number kind) (apply op) (TakesStep (place number kind) op me)
 steps {S} words slots id me number kind op below may s o wide at fits =
     let i : ℕ = place number kind in let n : ℕ = get_or s.words i 0 in let m : ℕ = apply op n in
     let mine : (weight : Owner → ℕ) → owned i weight me.0.owns ≤ named i weight s.views = λ weight. term_le (λ (u : View). owned i weight u.owns) s.views id me.0 at in
@@ -216,8 +216,8 @@ steps {S} words slots id me number kind op below may s o wide at fits =
     let ok = may n (λ weight. named i weight s.views) fits code mine agrees in
     let so = stepped_so kind i op n me.0.owns ok.0 ok.2 in let w = after_step kind i op n me.0 in
     let more : (r : ℕ) → steps_at r me.0 ≤ steps_at r w = λ r. omega (arith, steps_more me.0 i n r op) in
-    let then = λ (k : WordKind). (w : View) × (a : Act S) × Valid s.homes me.1 a × LotRule words (stepped s i m id me.1 w a) × TakesAs k i op me n (w, carried_after me.1 a) in
-    subst then (sym (kind_at-place number kind)) (
+    let then = λ (k : WordKind). (w : View) × (a : Act S) × Valid s.homes me.1 a × LotRule words (stepped s i m id me.1 w a) × TakesStepOf k i op me n (w, carried_after me.1 a) in
+    subst then (sym (word_kind_at-place number kind)) (
       w,
       keeps,
       tt,
@@ -232,10 +232,10 @@ steps {S} words slots id me number kind op below may s o wide at fits =
 
 -- the same, by the place that was computed and the operation that was matched
 pub steps_at_word : {S : Type 0} (words slots id : ℕ) (me : Me S View) (number : ℕ) (kind : WordKind) (at : ℕ) (op op' : Op) → op ≡ op' → at ≡ place number kind → number < words → MayStep kind (place number kind) op me.0.owns
-    → Allows (LotRule words) slots id me at (apply op') (Takes at op' me)
+    → Allows (LotRule words) slots id me at (apply op') (TakesStep at op' me)
 steps_at_word words slots id me number kind at op op' same there below may =
     let may' : MayStep kind (place number kind) op' me.0.owns = subst (λ (x : Op). MayStep kind (place number kind) x me.0.owns) same may in
-    subst (λ (i : ℕ). Allows (LotRule words) slots id me i (apply op') (Takes i op' me)) (sym there) (steps words slots id me number kind op' below may')
+    subst (λ (i : ℕ). Allows (LotRule words) slots id me i (apply op') (TakesStep i op' me)) (sym there) (steps words slots id me number kind op' below may')
 
 set_elem : {A : Type 0} (xs : List A) (j : ℕ) (x : A) → get_elem? xs j ≡ some x → set xs j x ≡ xs
 set_elem [] j x e = refl

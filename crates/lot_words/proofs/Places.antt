@@ -1,6 +1,6 @@
 -- A place tells its number and its kind.
 use Rattle.std.proofs.Common.{◌≡◌, ℕ, ◌%◌, ◌<◌, sym, refl, ap, ◌∙◌, arith}
-use Rattle.lot_words.specs.Places.{rank, place, kind_of_rank, kind_at}
+use Rattle.lot_words.specs.Places.{rank, place, kind_of_rank, word_kind_at}
 use Rattle.lot_words.specs.declared.words.WordKind.{WordKind}
 use Rattle.lot_words.specs.declared.words.WordKind.TheVariants.{Mutex, RwLock, Condvar, Once, Count}
 
@@ -18,8 +18,8 @@ kind_of_rank-rank Condvar = refl
 kind_of_rank-rank Once = refl
 kind_of_rank-rank Count = refl
 
-pub kind_at-place : (number : ℕ) (kind : WordKind) → kind_at (place number kind) ≡ kind
-kind_at-place number kind = let e : place number kind % 8 ≡ rank kind = omega (arith, rank_lt kind) in ap kind_of_rank e ∙ kind_of_rank-rank kind
+pub word_kind_at-place : (number : ℕ) (kind : WordKind) → word_kind_at (place number kind) ≡ kind
+word_kind_at-place number kind = let e : place number kind % 8 ≡ rank kind = omega (arith, rank_lt kind) in ap kind_of_rank e ∙ kind_of_rank-rank kind
 
 pub place-number : (number number' : ℕ) (kind kind' : WordKind) → place number kind ≡ place number' kind' → number ≡ number'
 place-number number number' kind kind' e = omega (arith, rank_lt kind, rank_lt kind')

@@ -27,5 +27,5 @@ IsDrawn words kinds number old new = (number + length kinds ≤ words) × (new.d
     × ((looked : List WordStep) × Looked old.steps looked (words + 1) × (new.steps ≡ looked ++ record { at = counter; op = Exchange number (number + length kinds); seen = number } ∷ []))
 
 -- nothing was drawn: the last step saw that fewer words were left than are needed
-abbrev pub IsRefused : ℕ → ℕ → View → View → Type 0
-IsRefused words needed old new = (new.drawn ≡ old.drawn) × Looked old.steps new.steps (words + 1) × ((n : ℕ) × LastSaw n new.steps × (words < n + needed))
+abbrev pub IsDrawRefused : ℕ → ℕ → View → View → Type 0
+IsDrawRefused words needed old new = (new.drawn ≡ old.drawn) × Looked old.steps new.steps (words + 1) × ((n : ℕ) × LastSaw n new.steps × (words < n + needed))

@@ -34,5 +34,5 @@ abbrev pub kind_of_rank : ℕ → WordKind
 kind_of_rank r = cond (r == 0) Mutex (cond (r == 1) RwLock (cond (r == 2) Condvar (cond (r == 3) Once Count)))
 
 -- the kind of the word at a place
-abbrev pub kind_at : ℕ → WordKind
-kind_at at = kind_of_rank (at % 8)
+abbrev pub word_kind_at : ℕ → WordKind
+word_kind_at at = kind_of_rank (at % 8)

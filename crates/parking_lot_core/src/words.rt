@@ -3,7 +3,7 @@ ghost use Rattle.std.specs.Prelude.{◌≡◌, ℕ, ◌+◌, ◌∷◌, [], true
 ghost use Rattle.lot_words.specs.Places.{place};
 ghost use Rattle.lot_words.specs.Codes.{IsCountCode};
 ghost use Rattle.lot_words.specs.Steps.{MayStep, CodesWith, after_step, has};
-ghost use Rattle.lot_words.specs.Draws.{IsDrawn, IsRefused};
+ghost use Rattle.lot_words.specs.Draws.{IsDrawn, IsDrawRefused};
 ghost use Rattle.lot_words.specs.Lots.{IsWordOf};
 ghost use Rattle.lot_words.specs.Plays.{left_over, takes_in};
 ghost use Rattle.lot_words.specs.Rights.{named_by, owner_for, piece_of, OwnsWith};
@@ -72,7 +72,7 @@ impl ParkingLot {
         ensures own { Stays self.now token.old token.new × ((view_of token.new).owns ≡ (view_of token.old).owns) }
         ensures word { IfOk result (λ word. IsWordOf self.now.words word × (word.kind ≡ kind)) }
         ensures drawn { MatchResult result (λ word. IsDrawn self.now.words.count (kind ∷ []) word.number (view_of token.old) (view_of token.new))
-            (λ fault. (fault ≡ Fault.LotFull) × IsRefused self.now.words.count 1 (view_of token.old) (view_of token.new)) }
+            (λ fault. (fault ≡ Fault.LotFull) × IsDrawRefused self.now.words.count 1 (view_of token.old) (view_of token.new)) }
     {
         token.is_recorded = false;
         self.words.new_word(&mut token.seat, kind)
@@ -88,7 +88,7 @@ impl ParkingLot {
         ensures own { Stays self.now token.old token.new × ((view_of token.new).owns ≡ (view_of token.old).owns) }
         ensures words { IfOk result (λ pair. IsWordOf self.now.words pair.0 × (pair.0.kind ≡ Mutex) × IsWordOf self.now.words pair.1 × (pair.1.kind ≡ Count) × (pair.1.number ≡ pair.0.number + 1)) }
         ensures drawn { MatchResult result (λ pair. IsDrawn self.now.words.count (Mutex ∷ Count ∷ []) pair.0.number (view_of token.old) (view_of token.new))
-            (λ fault. (fault ≡ Fault.LotFull) × IsRefused self.now.words.count 2 (view_of token.old) (view_of token.new)) }
+            (λ fault. (fault ≡ Fault.LotFull) × IsDrawRefused self.now.words.count 2 (view_of token.old) (view_of token.new)) }
     {
         token.is_recorded = false;
         self.words.new_pair(&mut token.seat)
