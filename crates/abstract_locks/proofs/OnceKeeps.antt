@@ -5,7 +5,7 @@ use Rattle.std.proofs.lemmas.Bool.Decides.{nat_tests}
 use Rattle.std.specs.Prelude.{filter, ◌||◌}
 use Rattle.abstract_locks.specs.Locks.{Queued, Taken, putting, times, let_go, keep_from, one_if_some}
 use Rattle.abstract_locks.specs.Sites.{Main, Claim, Doing, leaves}
-use Rattle.abstract_locks.specs.Onces.{Done, OnceCase, Start, Finish, Fail, Rest, TakeAll, Late, has_caller, rested, IsRun, OnceSite, IsOnce, Claims, Wakes, Ends, GoesIn, GoesOut, Sets, Clears, Acts, once_after, once_doing, with_once_doing, once_leads, MayStart, OnceNeeded, EachOnceDeedKeeps, NothingLeavesDone}
+use Rattle.abstract_locks.specs.Onces.{Done, OnceCase, Start, Finish, Fail, Rest, TakeAll, Late, has_caller, rested, IsOnceRun, OnceSite, IsOnce, Claims, Wakes, Ends, GoesIn, GoesOut, Sets, Clears, Acts, once_after, once_doing, with_once_doing, once_leads, MayStart, OnceNeeded, EachOnceDeedKeeps, NothingLeavesDone}
 use Rattle.abstract_locks.proofs.LockKeeps.{times_append, times_taking}
 use Rattle.abstract_locks.proofs.Hands.{without_fewer, kept_few}
 use Rattle.abstract_locks.proofs.Turns.{Changed}
@@ -34,8 +34,8 @@ record Local (s v : OnceSite) (t : ℕ) (d e : Doing) : Type 0 where
   pub fills : s.once.waiters ≡ [] → (v.once.waiters ≡ []) ⊎ (d.inside ≡ Some Main)
   -- the bit stands, or t has seen it, or another who has seen it had not taken yet
   pub parked : v.once.waiters ≢ [] → (v.parked ≡ true) ⊎ (Wakes e ⊎ ((s.once.waiters ≢ []) × (s.parked ≡ false) × (Wakes d → ⊥)))
-  pub main : has_caller v.once.waiters ≡ true → (IsRun v.once.phase → ⊥)
-      → Wakes e ⊎ (((s.once.waiters ≢ []) × (s.parked ≡ false) × (Wakes d → ⊥)) ⊎ ((has_caller s.once.waiters ≡ true) × (IsRun s.once.phase → ⊥) × (Wakes d → Wakes e)))
+  pub main : has_caller v.once.waiters ≡ true → (IsOnceRun v.once.phase → ⊥)
+      → Wakes e ⊎ (((s.once.waiters ≢ []) × (s.parked ≡ false) × (Wakes d → ⊥)) ⊎ ((has_caller s.once.waiters ≡ true) × (IsOnceRun s.once.phase → ⊥) × (Wakes d → Wakes e)))
   pub emptied : e.empty ≡ Some Main → (e.inside ≡ Some Main) × (v.once.waiters ≡ [])
   pub held : (c : Claim) → e.claims ≡ Some c → Claims v.once.phase t c
   pub others_claim : (u : ℕ) (c : Claim) → u ≢ t → Claims s.once.phase u c → Claims v.once.phase u c
@@ -87,7 +87,7 @@ module _ (s v : OnceSite) (t : ℕ) (e : Doing) (h : IsOnce s) (doing : Changed 
     | inr (inr k) ↦ inr (other_seer k.0 k.1 k.2)
   ]
 
-  still_main : has_caller v.once.waiters ≡ true → (IsRun v.once.phase → ⊥) → (u : ℕ) × Wakes (v.doing u)
+  still_main : has_caller v.once.waiters ≡ true → (IsOnceRun v.once.phase → ⊥) → (u : ℕ) × Wakes (v.doing u)
   still_main call free = elim (local.main call free) [
     | inl k ↦ (t, rw doing.here k)
     | inr (inl k) ↦ other_seer k.0 k.1 k.2

@@ -8,7 +8,7 @@ use Rattle.abstract_locks.specs.Locks.{Rules, Enter, Settle, Leave, Rollback, Kn
 use Rattle.abstract_locks.specs.Sites.{Line, Main, Second, Has, Pends, Doing, Site, IsSite, End, Mark, Clear, Case, has_readers}
 use Rattle.abstract_locks.specs.Codes.{code, TellsTrue, count_in, has_parked, has_aside, is_blocked}
 use Rattle.abstract_locks.proofs.CodeLaws.{words_tell_true}
-use Rattle.abstract_locks.specs.ReadersSteps.{Patience, Patient, Timed, Try, Answer, Ok, No, ToEnter, ToClear, ToLeave, Clears, GivesUp, Purpose, Enters, Releases, At, First, Loads, Decides, Looks, Counts, RollsBack, GivesWay, Wakes, ReadersPlace, Goes, Ends, moves, comes_in, missed_first, counts_readers, gave_way, rolled_back, looks, looked_by, ends_or_goes, waits, when_blocked, counts_in, token, Refuses, Takes, Marks, Rests, Full, Decision, WordStep, step_of, clear, WordStepsFollow, decided, decided_step, enters_step, releases_step, PurposeFits, IsAtWord, entered, Parks, StandsAside, GoesAside, doing, Follows}
+use Rattle.abstract_locks.specs.ReadersSteps.{Patience, Patient, Timed, Try, Answer, Ok, No, ToEnter, ToClear, ToLeave, Clears, GivesUp, Purpose, Enters, Releases, At, First, Loads, Decides, Looks, Counts, RollsBack, GivesWay, Wakes, ReadersPlace, Goes, Ends, moves, comes_in, missed_first, counts_readers, gave_way, rolled_back, looks, looked_by, ends_or_goes, waits, when_blocked, counts_in, token, Refuses, Takes, Marks, Rests, Full, Decision, ReadersStep, step_of, clear, WordStepsFollow, decided, decided_step, enters_step, releases_step, PurposeFits, IsAtWord, entered, Parks, StandsAside, GoesAside, doing, Follows}
 
 pub put_same : {A : Type 0} (f : ℕ → A) (t : ℕ) (x : A) → putting f t x t ≡ x
 put_same f t x = grind (arith, nat_tests)
@@ -168,12 +168,12 @@ module _ (r : Rules) (s : Site) (t : ℕ) (rw_sort : has_readers r.sort ≡ true
 shares : (r : Rules) → has_readers r.sort ≡ true → Knows r.sort Shared
 shares r e = grind arith
 
-module _ (r : Rules) (s : Site) (t : ℕ) (p : ReadersPlace) (step : WordStep) (at : IsAtWord r s t p) where
+module _ (r : Rules) (s : Site) (t : ℕ) (p : ReadersPlace) (step : ReadersStep) (at : IsAtWord r s t p) where
   tells : TellsTrue r s
   tells = words_tell_true r s at.readers at.site
 
-  by_step : (w : WordStep) → Some w ≡ Some step → Follows r s t p (w.moved (code r s)) → Follows r s t p (step.moved (code r s))
-  by_step w e f = let g : w ≡ step = cc in subst (λ (x : WordStep). Follows r s t p (x.moved (code r s))) g f
+  by_step : (w : ReadersStep) → Some w ≡ Some step → Follows r s t p (w.moved (code r s)) → Follows r s t p (step.moved (code r s))
+  by_step w e f = let g : w ≡ step = cc in subst (λ (x : ReadersStep). Follows r s t p (x.moved (code r s))) g f
 
   wakes_clear : (m : Line) → p.at ≡ Wakes m ToClear → Some (clear m (Wakes m ToLeave)) ≡ Some step → Follows r s t p (step.moved (code r s))
   wakes_clear Main ae e = by_step _ e (clears_fit r s t at.readers at.site tells p at.doing Main (Wakes Main ToLeave) (grind (arith, at.doing)) (grind arith))

@@ -7,7 +7,7 @@ use Rattle.lot_base.specs.declared.wants.Want.TheVariants.{Exclusive, Upgradable
 use Rattle.abstract_locks.specs.Locks.{Rules, LockCase, Enter, Pend, Settle, Leave, Rollback, Knows, is_recursive}
 use Rattle.abstract_locks.specs.Sites.{Line, Main, Second, Pends, Site, IsSite, End, Mark, Clear, Case, Needed, after_deed, has_readers}
 use Rattle.abstract_locks.specs.Codes.{code, rw_code, TellsTrue, count_in, has_parked, has_aside, is_blocked, lost, rolled, IsHandOff}
-use Rattle.abstract_locks.specs.ReadersSteps.{Patience, Patient, Timed, Try, waits, when_blocked, counts_in, Full, Answer, Ok, No, entered, token, decided, decided_step, enters_step, releases_step, step_of, PurposeFits, IsAtWord, IsUnset, WordStepsCode, Purpose, Enters, Releases, At, First, Loads, Decides, Looks, Counts, RollsBack, GivesWay, Wakes, Parks, StandsAside, GoesAside, Clears, GivesUp, ToEnter, ToClear, ToLeave, ReadersPlace, Goes, Ends, Move, moves, Decision, Refuses, Takes, Marks, Rests, WordStep, clear, looks, looked_by, ends_or_goes, comes_in, missed_first, counts_readers, gave_way, after_deeds, AllNeeded}
+use Rattle.abstract_locks.specs.ReadersSteps.{Patience, Patient, Timed, Try, waits, when_blocked, counts_in, Full, Answer, Ok, No, entered, token, decided, decided_step, enters_step, releases_step, step_of, PurposeFits, IsAtWord, IsUnset, WordStepsCode, Purpose, Enters, Releases, At, First, Loads, Decides, Looks, Counts, RollsBack, GivesWay, Wakes, Parks, StandsAside, GoesAside, Clears, GivesUp, ToEnter, ToClear, ToLeave, ReadersPlace, Goes, Ends, Move, moves, Decision, Refuses, Takes, Marks, Rests, ReadersStep, clear, looks, looked_by, ends_or_goes, comes_in, missed_first, counts_readers, gave_way, after_deeds, AllNeeded}
 use Rattle.abstract_locks.proofs.ReadersFit.{word_steps_follow}
 use Rattle.abstract_locks.proofs.Seen.{clears_low, clears_second}
 use Rattle.abstract_locks.proofs.CodeLaws.{follows, rw_is, low_is, second_is, words_tell_true}
@@ -93,13 +93,13 @@ module _ (r : Rules) (s : Site) (t : ℕ) (rw_sort : has_readers r.sort ≡ true
   rolls_by true e n = let f = behind_case Rollback n.0 (λ g. g) in let k : rolled s.lock.pending Rollback ≡ 0 = rw e refl in omega arith
   rolls_by false e n = let f = behind_case_end Rollback n.0 (λ g. g) in let k : rolled s.lock.pending Rollback ≡ 0 = rw e refl in omega arith
 
-module _ (r : Rules) (s : Site) (t : ℕ) (p : ReadersPlace) (step : WordStep) (at : IsAtWord r s t p) (unset : IsUnset p.at) (there : t < length s.lock.shared) (small : code r s < 2 ^ 64) where
+module _ (r : Rules) (s : Site) (t : ℕ) (p : ReadersPlace) (step : ReadersStep) (at : IsAtWord r s t p) (unset : IsUnset p.at) (there : t < length s.lock.shared) (small : code r s < 2 ^ 64) where
   tells : TellsTrue r s
   tells = words_tell_true r s at.readers at.site
 
   module _ (n : AllNeeded r (step.moved (code r s)).deeds s t) where
-    by_step : (w : WordStep) → Some w ≡ Some step → (AllNeeded r (w.moved (code r s)).deeds s t → apply w.op (code r s) ≡ code r (after_deeds r (w.moved (code r s)).deeds s t)) → apply step.op (code r s) ≡ code r (after_deeds r (step.moved (code r s)).deeds s t)
-    by_step w e f = let g : step ≡ w = cc in subst (λ (x : WordStep). (AllNeeded r (x.moved (code r s)).deeds s t → apply x.op (code r s) ≡ code r (after_deeds r (x.moved (code r s)).deeds s t))) (sym g) f n
+    by_step : (w : ReadersStep) → Some w ≡ Some step → (AllNeeded r (w.moved (code r s)).deeds s t → apply w.op (code r s) ≡ code r (after_deeds r (w.moved (code r s)).deeds s t)) → apply step.op (code r s) ≡ code r (after_deeds r (step.moved (code r s)).deeds s t)
+    by_step w e f = let g : step ≡ w = cc in subst (λ (x : ReadersStep). (AllNeeded r (x.moved (code r s)).deeds s t → apply x.op (code r s) ≡ code r (after_deeds r (x.moved (code r s)).deeds s t))) (sym g) f n
 
     module _ (x : Want) (how : Patience) (pe : p.purpose ≡ Enters x how) (fits : PurposeFits r p (Enters x how)) where
       -- an exchange leads where its winning move does, and else nowhere

@@ -59,9 +59,9 @@ abbrev pub has_caller : List Queued → Bool
 has_caller [] = false
 has_caller (x ∷ xs) = calls x.want || has_caller xs
 
-abbrev pub IsRun : Phase → Type 0
-IsRun (InProgress runner) = Unit {0}
-IsRun phase = ⊥
+abbrev pub IsOnceRun : Phase → Type 0
+IsOnceRun (InProgress runner) = Unit {0}
+IsOnceRun phase = ⊥
 
 -- ---------------------------------------------------------------- what each thread does about it
 
@@ -87,7 +87,7 @@ pub record IsOnce (s : OnceSite) : Type 0 where
   -- a waiter implies the bit, or somebody who has seen it and hasn't taken yet
   pub parked : s.once.waiters ≢ [] → (s.parked ≡ true) ⊎ ((t : ℕ) × Wakes (s.doing t))
   -- nobody who waits to run it is forgotten
-  pub main : has_caller s.once.waiters ≡ true → (IsRun s.once.phase → ⊥) → (t : ℕ) × Wakes (s.doing t)
+  pub main : has_caller s.once.waiters ≡ true → (IsOnceRun s.once.phase → ⊥) → (t : ℕ) × Wakes (s.doing t)
   -- who has seen nobody is inside, and nobody has come
   pub emptied : (t : ℕ) → (s.doing t).empty ≡ Some Main → ((s.doing t).inside ≡ Some Main) × (s.once.waiters ≡ [])
   pub held : (t : ℕ) (c : Claim) → (s.doing t).claims ≡ Some c → Claims s.once.phase t c

@@ -155,32 +155,32 @@ rolled_back v =
     else moves (Case Rollback ∷ End ∷ []) (Ends No)
 
 -- one word step: what is done to the word, and by the value before, to the lock
-pub record WordStep : Type 0 where
+pub record ReadersStep : Type 0 where
   pub op : Op
   pub moved : ℕ → Move
 
-abbrev pub exchange : ℕ → ℕ → Move → (ℕ → Move) → WordStep
+abbrev pub exchange : ℕ → ℕ → Move → (ℕ → Move) → ReadersStep
 exchange from to won lost =
     record { op = op.TheVariants.Exchange from to; moved = λ v. if v == from then won else lost v }
 
-abbrev pub load : (ℕ → Move) → WordStep
+abbrev pub load : (ℕ → Move) → ReadersStep
 load moved = record { op = op.TheVariants.Load; moved = moved }
 
-abbrev pub subtract : ℕ → (ℕ → Move) → WordStep
+abbrev pub subtract : ℕ → (ℕ → Move) → ReadersStep
 subtract by moved = record { op = op.TheVariants.Sub by; moved = moved }
 
-abbrev pub clear : Line → At → WordStep
+abbrev pub clear : Line → At → ReadersStep
 clear Main at = record { op = op.TheVariants.And 18446744073709551614; moved = λ v. moves (Clear Main ∷ []) (Goes at) }
 clear Second at =
     record { op = op.TheVariants.And 18446744073709551613; moved = λ v. moves (Clear Second ∷ []) (Goes at) }
 
-abbrev pub decided_step : Rules → Want → Patience → ℕ → Decision → Option WordStep
+abbrev pub decided_step : Rules → Want → Patience → ℕ → Decision → Option ReadersStep
 decided_step r x how seen (Takes add) = Some (exchange seen (seen + add) (comes_in x how) (looks r x how))
 decided_step r x how seen Marks =
     Some (exchange seen (seen + 1) (moves (Mark Main ∷ []) (Goes (Decides (seen + 1)))) (looks r x how))
 decided_step r x how seen decision = None
 
-abbrev pub enters_step : Rules → Want → Patience → At → Option WordStep
+abbrev pub enters_step : Rules → Want → Patience → At → Option ReadersStep
 enters_step r x how First =
     Some (exchange 0 8 (moves (Case (Enter Exclusive) ∷ End ∷ []) (Ends (entered how))) (λ v. missed_first how))
 enters_step r x how Loads = Some (load (looks r x how))
@@ -194,16 +194,16 @@ enters_step r x how RollsBack = Some (subtract 8 rolled_back)
 enters_step r x how (Wakes m ToClear) = Some (clear m (Wakes m ToLeave))
 enters_step r x how at = None
 
-abbrev pub releases_step : Want → At → Option WordStep
+abbrev pub releases_step : Want → At → Option ReadersStep
 releases_step x GivesWay = Some (subtract (token x) (gave_way x))
 releases_step x (Wakes m ToClear) = Some (clear m (Wakes m ToLeave))
 releases_step x at = None
 
-abbrev pub step_of : Rules → Purpose → At → Option WordStep
+abbrev pub step_of : Rules → Purpose → At → Option ReadersStep
 step_of r (Enters x how) at = enters_step r x how at
 step_of r (Releases x) at = releases_step x at
 
-abbrev pub word_step : Rules → ReadersPlace → Option WordStep
+abbrev pub word_step : Rules → ReadersPlace → Option ReadersStep
 word_step r p = step_of r p.purpose p.at
 
 -- ---------------------------------------------------------------- what a place says of its thread
@@ -321,7 +321,7 @@ pub record IsAtWord (r : Rules) (s : Site) (t : ℕ) (p : ReadersPlace) : Type 0
 -- each step on the word may do to the lock what its table says, and its place says what the thread does then
 abbrev pub WordStepsFollow : Type 0
 WordStepsFollow =
-    (r : Rules) (s : Site) (t : ℕ) (p : ReadersPlace) (step : WordStep) → IsAtWord r s t p → word_step r p ≡ Some step
+    (r : Rules) (s : Site) (t : ℕ) (p : ReadersPlace) (step : ReadersStep) → IsAtWord r s t p → word_step r p ≡ Some step
     → Follows r s t p (step.moved (code r s))
 
 -- ---------------------------------------------------------------- steps in and out of sections
@@ -384,6 +384,6 @@ IsUnset at = Unit {0}
 -- and each step on the word leads to the word of the lock behind it
 abbrev pub WordStepsCode : Type 0
 WordStepsCode =
-    (r : Rules) (s : Site) (t : ℕ) (p : ReadersPlace) (step : WordStep) → IsAtWord r s t p → IsUnset p.at
+    (r : Rules) (s : Site) (t : ℕ) (p : ReadersPlace) (step : ReadersStep) → IsAtWord r s t p → IsUnset p.at
     → word_step r p ≡ Some step → t < length s.lock.shared → code r s < 2 ^ 64
     → apply step.op (code r s) ≡ code r (after_deeds r (step.moved (code r s)).deeds s t)

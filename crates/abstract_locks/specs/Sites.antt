@@ -302,27 +302,27 @@ HasClaim s t None = Unit {0}
 HasClaim s t (Some c) = Holds s t c
 
 -- it may keep more than a shared right only where it has it
-abbrev pub Keeps : LockState → ℕ → Option Want → Type 0
-Keeps s t None = Unit {0}
-Keeps s t (Some Shared) = Unit {0}
-Keeps s t (Some x) = Owns s t x
+abbrev pub MayKeep : LockState → ℕ → Option Want → Type 0
+MayKeep s t None = Unit {0}
+MayKeep s t (Some Shared) = Unit {0}
+MayKeep s t (Some x) = Owns s t x
 
-abbrev pub Fits : Rules → Site → ℕ → LockCase → Doing → Type 0
-Fits r s t (Enter x) d = (d.retries ≡ None) ⊎ (d.retries ≡ Some x)
-Fits r s t Pend d = Unit {0}
-Fits r s t Settle d = Unit {0}
-Fits r s t (Leave x) d = d.wakes ≡ None
-Fits r s t (Convert x y) d = (d.wakes ≡ None) × (d.carries ≡ false)
-Fits r s t (Park x) d = (d.inside ≡ Some Main) × (s.parked ≡ true) × (d.wakes ≡ None) × (d.covers ≡ false)
-Fits r s t Aside d = (d.inside ≡ Some Second) × (s.aside_parked ≡ true) × (d.wakes ≡ None)
-Fits r s t (TakeFirst x) d = (d.inside ≡ Some Main) × (d.carries ≡ false) × (d.wakes ≢ Some Second)
-Fits r s t (TakePicked start) d =
-    (d.inside ≡ Some Main) × (d.carries ≡ false) × (d.wakes ≢ Some Second) × Keeps s.lock t start
-Fits r s t (TakeAside u) d = (d.inside ≡ Some Second) × (d.carries ≡ false) × (d.wakes ≢ Some Main)
-Fits r s t Wake d = ⊥
-Fits r s t (HandOff x successor) d = (d.inside ≡ Some Main) × (d.covers ≡ true) × (d.retries ≡ None) × (d.wakes ≡ None)
-Fits r s t Late d = StandsIn s.lock t d.inside × (d.carries ≡ false)
-Fits r s t Rollback d = (d.wakes ≡ None) × (d.carries ≡ false)
+abbrev pub CaseFits : Rules → Site → ℕ → LockCase → Doing → Type 0
+CaseFits r s t (Enter x) d = (d.retries ≡ None) ⊎ (d.retries ≡ Some x)
+CaseFits r s t Pend d = Unit {0}
+CaseFits r s t Settle d = Unit {0}
+CaseFits r s t (Leave x) d = d.wakes ≡ None
+CaseFits r s t (Convert x y) d = (d.wakes ≡ None) × (d.carries ≡ false)
+CaseFits r s t (Park x) d = (d.inside ≡ Some Main) × (s.parked ≡ true) × (d.wakes ≡ None) × (d.covers ≡ false)
+CaseFits r s t Aside d = (d.inside ≡ Some Second) × (s.aside_parked ≡ true) × (d.wakes ≡ None)
+CaseFits r s t (TakeFirst x) d = (d.inside ≡ Some Main) × (d.carries ≡ false) × (d.wakes ≢ Some Second)
+CaseFits r s t (TakePicked start) d =
+    (d.inside ≡ Some Main) × (d.carries ≡ false) × (d.wakes ≢ Some Second) × MayKeep s.lock t start
+CaseFits r s t (TakeAside u) d = (d.inside ≡ Some Second) × (d.carries ≡ false) × (d.wakes ≢ Some Main)
+CaseFits r s t Wake d = ⊥
+CaseFits r s t (HandOff x successor) d = (d.inside ≡ Some Main) × (d.covers ≡ true) × (d.retries ≡ None) × (d.wakes ≡ None)
+CaseFits r s t Late d = StandsIn s.lock t d.inside × (d.carries ≡ false)
+CaseFits r s t Rollback d = (d.wakes ≡ None) × (d.carries ≡ false)
 
 -- a call ends outside of the sections, and one that was woken has what it wanted, or another has, or the lock is full
 abbrev pub MayEnd : Rules → LockState → Doing → Type 0
@@ -350,7 +350,7 @@ Needed r (Bring taken moved) s t =
     (r.sort ≡ Mutex) × ((s.doing t).inside ≡ Some Main) × ((s.doing t).carries ≡ false)
     × ((s.doing t).wakes ≡ None) × ((s.doing t).retries ≡ None)
     × Apart s (taken ++ moved) × KnowsAll Mutex (taken ++ moved) × (taken ≡ [] → (s.doing t).brings ≡ true)
-Needed r (Case case) s t = Needs r case s.lock t × Fits r s t case (s.doing t)
+Needed r (Case case) s t = Needs r case s.lock t × CaseFits r s t case (s.doing t)
 
 -- ---------------------------------------------------------------- the law
 
