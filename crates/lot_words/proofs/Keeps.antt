@@ -15,7 +15,7 @@ use Rattle.lot_words.specs.Rule.{LotRule}
 use Rattle.lot_base.specs.Words.{apply}
 use Rattle.lot_base.specs.declared.ops.Op.{Op}
 use Rattle.lot_base.specs.declared.ops.Op.TheVariants.{Load, Or, Exchange}
-use Rattle.lot_words.specs.Steps.{has, without, HasAll, trade, Agrees, MayTie, MayStep, owns_after_step, listed, after_step}
+use Rattle.lot_words.specs.Steps.{has, without, HasAll, trade, CountAgrees, MayTie, MayStep, owns_after_step, listed, after_step}
 use Rattle.lot_words.specs.Plays.{TakesStepOf, TakesStep, saw_set, looks, draws, numbered, left_over, piece, takes_in}
 use Rattle.lot_words.specs.declared.owners.Ownership.{Ownership}
 use Rattle.lot_words.specs.declared.views.WordStep.{WordStep}
@@ -161,7 +161,7 @@ module _ {S : Type 0} (words : ℕ) (s : State S View) (o : LotRule words s) whe
       )
 
   -- what a seat says of the mutex before a count word is the value of that word
-  agreed : (number : ℕ) (kind : WordKind) (id : ℕ) (v : View) → get_elem? s.views id ≡ some v → number < words → Agrees kind (place number kind) (get_or s.words (place number kind) 0) v.owns
+  agreed : (number : ℕ) (kind : WordKind) (id : ℕ) (v : View) → get_elem? s.views id ≡ some v → number < words → CountAgrees kind (place number kind) (get_or s.words (place number kind) 0) v.owns
   agreed number Count id v at below = let here = o.counts number below in (here.0, λ count there. counted-where s.views id v at (mutex_of_count (place number Count)) count there (one_owner number count id v at there) ∙ sym here.1)
     where
       one_owner : (number count id : ℕ) (v : View) → get_elem? s.views id ≡ some v → has (owning_with (mutex_of_count (place number Count)) count) v.owns ≡ true → named (mutex_of_count (place number Count)) everyone s.views ≤ 1

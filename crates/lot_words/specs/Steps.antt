@@ -126,9 +126,9 @@ owns_after_step Count at op found owns = says_instead (mutex_of_count at) found 
 owns_after_step kind at op found owns = owns_after at (trade kind at op found owns) owns
 
 -- a count word is a count, and what an owner of its mutex says
-abbrev pub Agrees : WordKind → ℕ → ℕ → List Ownership → Type 0
-Agrees Count at n owns = IsCountCode n × ((count : ℕ) → has (owning_with (mutex_of_count at) count) owns ≡ true → count ≡ n)
-Agrees _ at n owns = Unit {0}
+abbrev pub CountAgrees : WordKind → ℕ → ℕ → List Ownership → Type 0
+CountAgrees Count at n owns = IsCountCode n × ((count : ℕ) → has (owning_with (mutex_of_count at) count) owns ≡ true → count ≡ n)
+CountAgrees _ at n owns = Unit {0}
 
 -- who changes what a condition variable shows hides it, or shows a mutex that it owns. Who changes a count word owns its mutex
 abbrev pub MayTie : WordKind → ℕ → ℕ → ℕ → List Ownership → Type 0
@@ -138,12 +138,12 @@ MayTie _ at found left owns = Unit {0}
 
 -- n is the code of owners among whom these are
 abbrev pub CodesWith : WordKind → ℕ → ℕ → List Ownership → Type 0
-CodesWith kind at n owns = (owners : Owners) × Codes kind n owners × ((weight : Owner → ℕ) → owned at weight owns ≤ owners weight) × Agrees kind at n owns
+CodesWith kind at n owns = (owners : Owners) × Codes kind n owners × ((weight : Owner → ℕ) → owned at weight owns ≤ owners weight) × CountAgrees kind at n owns
 
 -- whatever code a step finds, of owners among whom these are: these have what it gives up, it leaves the code of the owners after it,
 -- and a word that is tied to a mutex stays so
 abbrev pub MayStep : WordKind → ℕ → Op → List Ownership → Type 0
-MayStep kind at op owns = (n : ℕ) (owners : Owners) → n < 2 ^ 64 → Codes kind n owners → ((weight : Owner → ℕ) → owned at weight owns ≤ owners weight) → Agrees kind at n owns →
+MayStep kind at op owns = (n : ℕ) (owners : Owners) → n < 2 ^ 64 → Codes kind n owners → ((weight : Owner → ℕ) → owned at weight owns ≤ owners weight) → CountAgrees kind at n owns →
     HasAll at (trade kind at op n owns).gives owns
     × ((after : Owners) → ((weight : Owner → ℕ) → after weight + total weight (trade kind at op n owns).gives ≡ owners weight + total weight (trade kind at op n owns).gets) → Codes kind (apply op n) after)
     × MayTie kind at n (apply op n) owns
