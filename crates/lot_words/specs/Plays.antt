@@ -3,7 +3,7 @@ use Rattle.std.specs.Prelude.{◌≡◌, ◌≢◌, bit_or, ℕ, ◌+◌, ◌<�
 use Rattle.atomic_table.specs.Table.{Me, Step}
 use Rattle.lot_base.specs.declared.ops.Op.{Op}
 use Rattle.lot_base.specs.declared.ops.Op.TheVariants.{Load, Store, Swap, Add, Sub, Or, And, Exchange}
-use Rattle.lot_words.specs.Places.{counter, word_kind_at}
+use Rattle.lot_words.specs.Indices.{counter, word_kind_at}
 use Rattle.lot_words.specs.Views.{view}
 use Rattle.lot_words.specs.Steps.{CodesWith, listed, after_step, without}
 use Rattle.lot_words.specs.declared.owners.Ownership.{Ownership}

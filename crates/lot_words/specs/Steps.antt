@@ -3,7 +3,7 @@ use Rattle.std.specs.Prelude.{◌≡◌, ℕ, ◌+◌, ◌%◌, ◌^◌, ◌<◌
 use Rattle.lot_base.specs.Words.{apply}
 use Rattle.lot_base.specs.declared.ops.Op.{Op}
 use Rattle.lot_base.specs.declared.ops.Op.TheVariants.{Load, Sub, Exchange}
-use Rattle.lot_words.specs.Places.{place, mutex_of_count}
+use Rattle.lot_words.specs.Indices.{word_index, mutex_of_count}
 use Rattle.lot_words.specs.Views.{view, total, owned, owning, owning_with}
 use Rattle.lot_words.specs.Codes.{Owners, Codes, Shows, IsCountCode}
 use Rattle.lot_words.specs.declared.owners.Owner.{Owner}
@@ -132,7 +132,7 @@ CountAgrees _ at n owns = Unit {0}
 
 -- who changes what a condition variable shows hides it, or shows a mutex that it owns. Who changes a count word owns its mutex
 abbrev pub MayTie : WordKind → ℕ → ℕ → ℕ → List Ownership → Type 0
-MayTie Condvar at found left owns = (left ≡ found) ⊎ Shows (λ mutex. has (owning (place mutex Mutex) Exclusive) owns ≡ true) left
+MayTie Condvar at found left owns = (left ≡ found) ⊎ Shows (λ mutex. has (owning (word_index mutex Mutex) Exclusive) owns ≡ true) left
 MayTie Count at found left owns = (left ≡ found) ⊎ (IsCountCode left × (has (owning_with (mutex_of_count at) found) owns ≡ true))
 MayTie _ at found left owns = Unit {0}
 

@@ -1,6 +1,6 @@
 //! The words of a lot, by number and kind.
 ghost use Rattle.std.specs.Prelude.{◌≡◌, ◌<◌};
-ghost use Rattle.lot_words.specs.Places.{rank, place, most_words};
+ghost use Rattle.lot_words.specs.Indices.{rank, word_index, most_words};
 
 /// What a word is for. It is fixed as the word is drawn.
 #[derive(Clone, Copy, Debug, PartialEq, Eq)]
@@ -40,7 +40,7 @@ pub struct Word {
     tag: u32,
     // So that no step computes it.
     at: usize,
-    ghost placed: { at ≡ place number kind },
+    ghost indexed: { at ≡ word_index number kind },
 }
 
 impl Word {
@@ -73,8 +73,8 @@ impl Word {
     }
 
     #[inline]
-    pub(crate) fn place(self) -> usize
-        ensures { result ≡ place self.number self.kind }
+    pub(crate) fn index(self) -> usize
+        ensures { result ≡ word_index self.number self.kind }
     {
         self.at
     }

@@ -3,7 +3,7 @@ ghost use Rattle.std.specs.Prelude.{◌≡◌, ◌<◌, ◌≤◌, IfOk, IfErr, 
 ghost use Rattle.std.specs.List.{range_with_len};
 ghost use Rattle.std.specs.Arc.{arc_value};
 ghost use Rattle.keyed_locks.specs.Guards.{HasValue};
-ghost use Rattle.lot_words.specs.Places.{most_words};
+ghost use Rattle.lot_words.specs.Indices.{most_words};
 
 use crate::tokens::Ticket;
 use crate::waiters::WakeRecord;

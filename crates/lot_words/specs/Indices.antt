@@ -19,16 +19,16 @@ abbrev pub counter : ℕ
 counter = 0
 
 -- the word of a number and a kind: each number has eight places, which is a cache line
-abbrev pub place : ℕ → WordKind → ℕ
-place number kind = 8 * (number + 1) + rank kind
+abbrev pub word_index : ℕ → WordKind → ℕ
+word_index number kind = 8 * (number + 1) + rank kind
 
 -- the mutex of the count word at a place: the word of the number before
 abbrev pub mutex_of_count : ℕ → ℕ
 mutex_of_count at = at - 12
 
 -- the places of so many words, with the counter's
-abbrev pub places : ℕ → ℕ
-places words = 8 * (words + 1)
+abbrev pub table_size : ℕ → ℕ
+table_size words = 8 * (words + 1)
 
 abbrev pub kind_of_rank : ℕ → WordKind
 kind_of_rank r = cond (r == 0) Mutex (cond (r == 1) RwLock (cond (r == 2) Condvar (cond (r == 3) Once Count)))
