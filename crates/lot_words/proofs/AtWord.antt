@@ -17,7 +17,7 @@ use Rattle.lot_base.specs.declared.ops.Op.TheVariants.{Or}
 use Rattle.lot_words.proofs.Keeps.{steps_at_word, sees_set}
 use Rattle.lot_words.proofs.Indices.{rank_lt}
 
--- by the place that was computed and the operation that was matched
+-- by the index that was computed and the operation that was matched
 pub table_allows : {S : Type 0} (lot : LotWords) (seat : Seat S View) (word : Word) {at : ℕ} {op op' : Op} → IsSeatOf lot seat × IsWordOf lot word → MayStep word.kind (word_index word.number word.kind) op seat.me.0.owns
     → at ≡ word_index word.number word.kind → op ≡ op'
     → IsSeatOf lot seat × (at < lot.table.shared.table_id.words) × Allows (LotRule lot.table.shared.key) lot.table.shared.table_id.slots seat.id seat.me at (apply op') (TakesStep at op' seat.me)

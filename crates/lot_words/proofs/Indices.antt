@@ -1,4 +1,4 @@
--- A place tells its number and its kind.
+-- An index tells its number and its kind.
 use Rattle.std.proofs.Common.{◌≡◌, ℕ, ◌%◌, ◌<◌, sym, refl, ap, ◌∙◌, arith}
 use Rattle.lot_words.specs.Indices.{rank, word_index, kind_of_rank, word_kind_at}
 use Rattle.lot_words.specs.declared.words.WordKind.{WordKind}

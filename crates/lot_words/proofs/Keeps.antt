@@ -230,7 +230,7 @@ steps {S} words slots id me number kind op below may s o wide at fits =
       (refl, ((λ weight. named i weight s.views), code, mine, agrees)),
     )
 
--- the same, by the place that was computed and the operation that was matched
+-- the same, by the index that was computed and the operation that was matched
 pub steps_at_word : {S : Type 0} (words slots id : ℕ) (me : Me S View) (number : ℕ) (kind : WordKind) (at : ℕ) (op op' : Op) → op ≡ op' → at ≡ word_index number kind → number < words → MayStep kind (word_index number kind) op me.0.owns
     → Allows (LotRule words) slots id me at (apply op') (TakesStep at op' me)
 steps_at_word words slots id me number kind at op op' same there below may =

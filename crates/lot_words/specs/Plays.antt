@@ -18,7 +18,7 @@ Play S = Step S → Me S View → ℕ → Me S View → Type 0
 abbrev pub TakesStepOf : {S : Type 0} → WordKind → ℕ → Op → Me S View → ℕ → Me S View → Type 0
 TakesStepOf kind at op me found after = (after ≡ (after_step kind at op found me.0, me.1)) × CodesWith kind at found me.0.owns
 
--- a place tells the kind
+-- an index tells the kind
 abbrev pub TakesStep : {S : Type 0} → ℕ → Op → Me S View → ℕ → Me S View → Type 0
 TakesStep at op me found after = TakesStepOf (word_kind_at at) at op me found after
 

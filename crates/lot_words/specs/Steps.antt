@@ -109,7 +109,7 @@ abbrev pub once_trade : ℕ → ℕ → Trade
 once_trade found left = trading (cond ((found / 4 % 2 == 1) && (left / 4 % 2 == 0)) (Runner ∷ []) [])
     (cond (left == 1) (Witness ∷ []) (cond ((found / 4 % 2 == 0) && (left / 4 % 2 == 1)) (Runner ∷ []) []))
 
--- of who steps on a word at a place and owns these: by the operation and the value found
+-- of who steps on the word at an index and owns these: by the operation and the value found
 abbrev pub trade : WordKind → ℕ → Op → ℕ → List Ownership → Trade
 trade Mutex at op found owns = mutex_trade found (apply op found)
 trade RwLock at op found owns = rwlock_trade at op found (apply op found) owns
@@ -151,6 +151,6 @@ MayStep kind at op owns = (n : ℕ) (owners : Owners) → n < 2 ^ 64 → Codes k
 abbrev pub listed : View → ℕ → Op → ℕ → List WordStep
 listed v at op found = v.steps ++ record { at = at; op = op; seen = found } ∷ []
 
--- the view after a step at a place: the step is listed, and it owns what the step trades
+-- the view after a step at an index: the step is listed, and it owns what the step trades
 abbrev pub after_step : WordKind → ℕ → Op → ℕ → View → View
 after_step kind at op found v = view (listed v at op found) (owns_after_step kind at op found v.owns) v.drawn v.saw

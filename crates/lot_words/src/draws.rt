@@ -10,7 +10,7 @@ use crate::words::{Word, WordKind};
 use lot_base::Fault;
 use std::marker::Brand;
 
-// The counter's place.
+// The counter's index.
 const COUNTER: usize = 0;
 
 impl LotWords {

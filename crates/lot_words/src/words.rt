@@ -14,7 +14,7 @@ pub enum WordKind {
 }
 
 impl WordKind {
-    // Which of the eight places of a number the word has.
+    // Which of the eight indices of a number the word has.
     #[inline]
     pub(crate) fn rank(self) -> usize
         ensures { result ≡ rank self }
@@ -44,7 +44,7 @@ pub struct Word {
 }
 
 impl Word {
-    // Each number has eight places, so that no two locks share a cache line.
+    // Each number has eight indices, so that no two locks share a cache line.
     #[inline]
     pub(crate) fn new(number: usize, kind: WordKind, tag: u32) -> Word
         requires { number < most_words }
