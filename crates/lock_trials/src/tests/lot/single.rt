@@ -5,7 +5,7 @@ ghost use Rattle.parking_lot_core.specs.Tokens.{IsTokenOf};
 
 use super::mutexes::{try_lock, unlock};
 use parking_lot_core::{
-    Did, Fault, Keys, Note, Op, ParkingLot, Record, Requeue, Token, Want, WordKind,
+    Did, Fault, Keys, Note, Op, ParkingLot, SectionRecord, Requeue, Token, Want, WordKind,
 };
 use std::alloc::Global;
 use std::sync::Arc;
@@ -148,7 +148,7 @@ fn a_section_takes_in_order(rt: HostRuntime) -> Result<(), Fail> {
     section.take_all(7);
     assert_eq!(rt; section.taken(), [0].as_slice());
     section.leave(&rt, &mut token, Note::Normal);
-    let record = Record {
+    let record = SectionRecord {
         key: 6,
         did: Did::TakeAll(7),
         number: 1,
@@ -170,7 +170,7 @@ fn a_section_takes_who_is_picked(rt: HostRuntime) -> Result<(), Fail> {
     assert_eq!(rt; section.wants(), [Want::Shared, Want::Exclusive].as_slice());
     assert_eq!(rt; section.count(6), 1);
     section.leave(&rt, &mut token, Note::Normal);
-    let record = Record {
+    let record = SectionRecord {
         key: 6,
         did: Did::TakePicked {
             key: 6,
@@ -202,7 +202,7 @@ fn a_section_requeues(rt: HostRuntime) -> Result<(), Fail> {
             (3 - number, answer.1)
         );
         section.leave(&rt, &mut token, Note::Normal);
-        let record = Record {
+        let record = SectionRecord {
             key: 6,
             did: Did::Requeue { from: 6, to: 1, op },
             number,
@@ -219,7 +219,7 @@ fn a_step_forgets_the_last_section(rt: HostRuntime) -> Result<(), Fail> {
     let mut section = lot.enter(&rt, &mut token, Keys::One(0));
     assert_eq!(rt; section.take_first(0), None);
     section.leave(&rt, &mut token, Note::Normal);
-    let record = Record {
+    let record = SectionRecord {
         key: 0,
         did: Did::TakeFirst(0),
         number: 0,
