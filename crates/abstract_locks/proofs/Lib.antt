@@ -9,9 +9,6 @@ pub mod SiteKeeps
 pub mod Seen
 pub mod CodeLaws
 pub mod Limits
-pub mod ReadersFit
-pub mod SectionsFit
-pub mod WordsFit
 pub mod OnceKeeps
 pub mod CondvarKeeps
 pub mod PermitKeeps

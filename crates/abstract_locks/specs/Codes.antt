@@ -70,6 +70,13 @@ abbrev pub is_blocked : Bool → Want → ℕ → Bool
 is_blocked recursive Shared v = has_writer v && (not recursive || (count_in v == 0))
 is_blocked recursive x v = has_writer v || has_upgradable v
 
+-- what a thread finds inside its section that stands in the main line, and in the second: its way is barred, readers are left
+abbrev pub bars : Bool → Want → ℕ → Bool
+bars recursive x v = has_parked v && is_blocked recursive x v
+
+abbrev pub leaves_readers : ℕ → Bool
+leaves_readers v = has_aside v && not (count_in v == 0)
+
 -- ---------------------------------------------------------------- the laws
 
 -- what a reader-writer word says is so

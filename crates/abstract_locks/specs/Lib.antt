@@ -5,7 +5,6 @@ pub mod Picks
 pub mod Laws
 pub mod Sites
 pub mod Codes
-pub mod ReadersSteps
 pub mod Onces
 pub mod Condvars
 pub mod Permits

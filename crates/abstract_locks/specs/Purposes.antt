@@ -7,14 +7,10 @@ use Rattle.lot_calls.specs.declared.kinds.Kind as kind
 use Rattle.lot_calls.specs.declared.calls.Call.{Call}
 use Rattle.lot_calls.specs.declared.calls.Call as call
 use Rattle.lot_calls.specs.declared.calls.MutexCall.{MutexCall}
+pub use Rattle.lot_calls.specs.declared.calls.Patience.{Patience}
+pub use Rattle.lot_calls.specs.declared.calls.Patience.TheVariants.{Patient, Timed, Try}
 use Rattle.lot_calls.specs.declared.calls.MutexCall as mutex_call
 use Rattle.abstract_locks.specs.Locks.{Rules, Mutex, Normal, Recursive, LockCase, Enter, Pend, Settle, Leave, Convert, Park, Aside, TakeFirst, TakeAside, TakePicked, Wake, HandOff, Late, Rollback}
-
--- whether a call waits for ever, up to a deadline, or not at all
-pub data Patience : Type 0 where
-  Patient : Patience
-  Timed : Patience
-  Try : Patience
 
 -- what a call of a lock is for
 pub data Purpose : Type 0 where

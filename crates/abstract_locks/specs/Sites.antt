@@ -1,14 +1,11 @@
 -- A lock of the lot: its abstract state, its parked bits, and what each thread does about it. No word, no place and no loop.
 use Rattle.std.specs.Prelude.{ℕ, Bool, true, false, Option, Some, None, if◌then◌else◌, ◌==◌, ◌&&◌, ◌||◌, not, ◌≤◌, ◌≡◌, ◌≢◌, ◌⊎◌, List, [], ◌∷◌, ◌++◌, nat_le, is_none}
+pub use Rattle.lot_base.specs.declared.keys.Line.{Line}
+pub use Rattle.lot_base.specs.declared.keys.Line.TheVariants.{Main, Second}
 use Rattle.lot_base.specs.declared.wants.Want.{Want}
 use Rattle.lot_base.specs.declared.wants.Want.TheVariants.{Exclusive, Upgradable, Shared}
 use Rattle.abstract_locks.specs.Locks.{LockState, Taken, Queued, Pending, Sort, Mutex, Normal, Recursive, Semaphore, Rules, LockCase, Enter, Pend, Settle, Leave, Convert, Park, Aside, TakeFirst, TakeAside, TakePicked, Wake, HandOff, Late, Rollback, Needs, Owns, Knows, NoWriter, IsLockState, KnowsAll, IsTaken, putting, taking, readers, count, times, standing, is_thread, is_writer, keeps_more, unpicked, wants_shared, let_go, opening_lock}
 use Rattle.abstract_locks.specs.Locks as locks
-
--- the two lines of a lock
-pub data Line : Type 0 where
-  Main : Line
-  Second : Line
 
 -- what a thread has by its place: a right, or a pending one with what it falls back to
 pub data Claim : Type 0 where

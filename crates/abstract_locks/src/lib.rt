@@ -4,7 +4,6 @@
 ghost use Rattle.abstract_locks.specs.Laws.{CallsTakeSteps, FairReleasesHandOver, FreeMutexIsGot, OwnersExclude, PossibleTurnsAreTaken};
 ghost use Rattle.abstract_locks.specs.Picks.{PickersPickAsTheLocksSay};
 ghost use Rattle.abstract_locks.specs.Sites.{EachDeedKeeps};
-ghost use Rattle.abstract_locks.specs.ReadersSteps.{WordStepsCode, WordStepsFollow};
 ghost use Rattle.abstract_locks.specs.OnceSteps.{OnceStepsFollow, OnceWordFollows};
 ghost use Rattle.abstract_locks.specs.Permits.{EachDeedKeepsPermits, PermitsAreLookedAfter};
 ghost use Rattle.abstract_locks.specs.Condvars.{EachCondvarDeedKeeps, EachMoveFits};
@@ -66,19 +65,9 @@ pub fn words_tell_true()
     ensures { WordsTellTrue }
 {}
 
-/// Each step on the word, of the calls that enter or release a reader-writer lock, does to the lock what its table says.
-pub fn word_steps_follow()
-    ensures { WordStepsFollow }
-{}
-
 /// The count passes the limit by a roll-back alone, on a recursive lock, and by 1.
 pub fn limit_kept()
     ensures { LimitKept }
-{}
-
-/// And the word that it leads to is the word of the lock behind it.
-pub fn word_steps_code()
-    ensures { WordStepsCode }
 {}
 
 /// A thread that wakes others takes of a reader-writer lock's main queue just those whom the abstract lock says, and leaves

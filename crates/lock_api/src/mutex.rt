@@ -1,7 +1,9 @@
 //! The mutex with its value.
-ghost use Rattle.std.specs.Prelude.{◌≡◌, ◌⊎◌, IfSome, MatchOption, MatchResult};
+ghost use Rattle.std.specs.Prelude.{◌≡◌, ◌⊎◌, IfNone, IfSome, MatchOption, MatchResult};
 ghost use Rattle.std.specs.Fn.{FnOnceReturnsAtMut};
 ghost use Rattle.std.specs.Arc.{arc_value};
+ghost use Rattle.std.specs.Duration.{as_nanos};
+ghost use Rattle.lot_base.specs.Clocks.{HasElapsed, HasPassed};
 ghost use Rattle.lock_raw.specs.Answers.{answer_by};
 ghost use Rattle.lock_api.specs.Guards.{lock_of};
 ghost use Rattle.lot_calls.specs.declared.calls.MutexCall.TheVariants.{Lock, LockTimed, TryLock};
@@ -135,7 +137,7 @@ impl<R: RawMutex, T> Mutex<R, T> {
 }
 
 impl<R: RawMutexTimed, T> Mutex<R, T> {
-    /// Waits until nobody has the mutex, and takes it. None where the time, in nanoseconds of the clock, was over first.
+    /// Waits until nobody has the mutex, and takes it. None only where so much time, in nanoseconds of the clock, had passed.
     ///
     /// A time that ends past all that a `u64` tells is no limit.
     #[inline]
@@ -150,12 +152,13 @@ impl<R: RawMutexTimed, T> Mutex<R, T> {
         ensures token { R.is_token_of (R.lot_of self.now) token.new × R.stays token.old token.new }
         ensures guard { IfSome result (λ guard. lock_of guard ≡ self.now) }
         ensures path { R.walked self.now LockTimed (answer_by result) token.old token.new }
+        ensures late { IfNone result (HasElapsed (C.tells clock.now) (as_nanos timeout)) }
     {
         let raw = self.raw.try_lock_for(rt, token, clock, timeout)?;
         Some(self.open(rt, raw))
     }
 
-    /// Waits until nobody has the mutex, and takes it. None where the clock, in nanoseconds, came to the deadline first.
+    /// Waits until nobody has the mutex, and takes it. None only where the clock, in nanoseconds, had come to the deadline.
     #[inline]
     pub fn try_lock_until<W: Wait, C: Clock>(
         &self,
@@ -168,6 +171,7 @@ impl<R: RawMutexTimed, T> Mutex<R, T> {
         ensures token { R.is_token_of (R.lot_of self.now) token.new × R.stays token.old token.new }
         ensures guard { IfSome result (λ guard. lock_of guard ≡ self.now) }
         ensures path { R.walked self.now LockTimed (answer_by result) token.old token.new }
+        ensures late { IfNone result (HasPassed (C.tells clock.now) deadline) }
     {
         let raw = self.raw.try_lock_until(rt, token, clock, deadline)?;
         Some(self.open(rt, raw))

@@ -1,8 +1,10 @@
 //! Raw locks, as generic code sees them.
 #![tactic(auto)]
 
-ghost use Rattle.std.specs.Prelude.{◌≡◌, ◌⊎◌, Bool, MatchResult, IfSome};
+ghost use Rattle.std.specs.Prelude.{◌≡◌, ◌⊎◌, Bool, MatchResult, IfNone, IfSome};
 ghost use Rattle.std.specs.Arc.{arc_value};
+ghost use Rattle.std.specs.Duration.{as_nanos};
+ghost use Rattle.lot_base.specs.Clocks.{HasElapsed, HasPassed};
 ghost use Rattle.lot_calls.specs.declared.calls.MutexCall.{MutexCall};
 ghost use Rattle.lot_calls.specs.declared.calls.MutexCall.TheVariants.{Lock, LockTimed, TryLock, Unlock, UnlockFair, Bump};
 ghost use Rattle.lot_calls.specs.declared.outcomes.Answer.{Answer};
@@ -106,7 +108,7 @@ pub trait RawMutexFair: RawMutex {
 
 /// A mutex whose waiters may give up.
 pub trait RawMutexTimed: RawMutex {
-    /// Waits until nobody has the mutex, and takes it. None where the time, in nanoseconds of the clock, was over first.
+    /// Waits until nobody has the mutex, and takes it. None only where so much time, in nanoseconds of the clock, had passed.
     ///
     /// A time that ends past all that a `u64` tells is no limit.
     fn try_lock_for<R: Wait, C: Clock>(
@@ -119,9 +121,10 @@ pub trait RawMutexTimed: RawMutex {
         requires { Self.is_token_of (Self.lot_of self.now) token.old }
         ensures token { Self.is_token_of (Self.lot_of self.now) token.new × Self.stays token.old token.new }
         ensures guard { IfSome result (Self.is_guard_of self.now) }
-        ensures path { Self.walked self.now LockTimed (answer_by result) token.old token.new };
+        ensures path { Self.walked self.now LockTimed (answer_by result) token.old token.new }
+        ensures late { IfNone result (HasElapsed (C.tells clock.now) (as_nanos timeout)) };
 
-    /// Waits until nobody has the mutex, and takes it. None where the clock came to the deadline first.
+    /// Waits until nobody has the mutex, and takes it. None only where the clock had come to the deadline.
     fn try_lock_until<R: Wait, C: Clock>(
         &self,
         rt: &R,
@@ -132,5 +135,6 @@ pub trait RawMutexTimed: RawMutex {
         requires { Self.is_token_of (Self.lot_of self.now) token.old }
         ensures token { Self.is_token_of (Self.lot_of self.now) token.new × Self.stays token.old token.new }
         ensures guard { IfSome result (Self.is_guard_of self.now) }
-        ensures path { Self.walked self.now LockTimed (answer_by result) token.old token.new };
+        ensures path { Self.walked self.now LockTimed (answer_by result) token.old token.new }
+        ensures late { IfNone result (HasPassed (C.tells clock.now) deadline) };
 }

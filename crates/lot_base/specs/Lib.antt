@@ -1,5 +1,7 @@
 pub mod Words
+pub mod Keys
 pub mod Lines
 pub mod Picks
 pub mod Requeues
 pub mod Laws
+pub mod Clocks

@@ -1,5 +1,6 @@
 //! The keys under which threads wait.
 ghost use Rattle.std.specs.Prelude.{◌≡◌, ◌+◌, ◌*◌, ◌<◌, ◌^◌};
+ghost use Rattle.lot_base.specs.Keys.{key_of};
 
 /// A queue's number. The word `w` has the keys `2 * w` and `2 * w + 1`.
 pub type Key = usize;
@@ -9,6 +10,27 @@ pub type Key = usize;
 pub enum Keys {
     One(Key),
     Two(Key, Key),
+}
+
+/// The two queues of a word.
+#[derive(Clone, Copy, Debug, PartialEq, Eq)]
+pub enum Line {
+    Main,
+    /// The queue of the writer that waits for the last readers.
+    Second,
+}
+
+impl Line {
+    /// The key of this queue of a word.
+    pub fn key(self, word: usize) -> Key
+        requires { 2 * word + 1 < 2 ^ 64 }
+        ensures { result ≡ key_of word self }
+    {
+        match self {
+            Line::Main => main_key(word),
+            Line::Second => second_key(word),
+        }
+    }
 }
 
 /// The key of a word's main queue.

@@ -18,7 +18,7 @@ pub mod wants;
 
 pub use clocks::{Clock, to_deadline};
 pub use faults::Fault;
-pub use keys::{Key, Keys, main_key, second_key};
+pub use keys::{Key, Keys, Line, main_key, second_key};
 pub use list::ListQueues;
 pub use lock_picker::LockPicker;
 pub use notes::Note;

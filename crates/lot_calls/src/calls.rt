@@ -22,6 +22,25 @@ pub enum Call {
     Mutex { lock: usize, call: MutexCall },
 }
 
+/// A right to a reader-writer lock.
+#[derive(Clone, Copy, Debug, PartialEq, Eq)]
+pub enum Access {
+    /// To read, beside others that read.
+    Shared,
+    /// To read, and to own alone later; one thread has it beside those that read.
+    Upgradable,
+    /// To own alone.
+    Exclusive,
+}
+
+/// Whether a call waits for ever, up to a deadline, or not at all.
+#[derive(Clone, Copy, Debug, PartialEq, Eq)]
+pub enum Patience {
+    Patient,
+    Timed,
+    Try,
+}
+
 /// What a thread is to do.
 #[derive(Clone, Copy, Debug, PartialEq, Eq)]
 pub enum Turn {

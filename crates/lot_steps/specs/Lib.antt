@@ -5,4 +5,6 @@ pub use Rattle.lot_calls.specs.Kinds
 pub mod Acts
 pub mod MutexSteps
 pub mod MutexProfiles
+pub mod RwLockSteps
+pub mod RwLockDeeds
 pub mod Steps

@@ -1,5 +1,6 @@
 -- What each place of a mutex says of its thread: a row for each place. All that is asked of a place is read off its row.
 use Rattle.std.specs.Prelude.{ℕ, Bool, true, false, Option, Some, None, if◌then◌else◌, ◌==◌}
+use Rattle.lot_base.specs.declared.wants.Want.{Want}
 use Rattle.lot_base.specs.declared.wants.Want.TheVariants.{Exclusive}
 use Rattle.lot_steps.specs.declared.mutex.MutexPlace.{MutexPlace}
 use Rattle.lot_steps.specs.declared.mutex.MutexPlace.TheVariants.{Lock, TryLock, Unlock, UnlockFair, Bump, HandOff}
@@ -36,6 +37,8 @@ pub record Profile : Type 0 where
   pub carries : Option Bool
   -- in whose hand it is
   pub hand : Option Hand
+  -- what it wants, where it waits
+  pub wants : Option Want
   -- it is shown to owe a wake, and to try again
   pub owes : Bool
   pub retries : Bool
@@ -83,6 +86,7 @@ trying = record {
   stands = None;
   carries = None;
   hand = None;
+  wants = None;
   owes = false;
   retries = false;
   spins = false;
@@ -140,7 +144,7 @@ hand_off_row (hand_off.Leave any) = record trying { doing = record inside { carr
 
 -- a call that enters has nobody in hand
 abbrev pub entering : Entry → Bool → Profile → Profile
-entering e retries row = record row { carries = None; retries = retries; timed = is_timed e; purpose = λ l. entry_purpose l e; released = is_bump e }
+entering e retries row = record row { carries = None; wants = Some Exclusive; retries = retries; timed = is_timed e; purpose = λ l. entry_purpose l e; released = is_bump e }
 
 -- a call that releases waits for nothing
 abbrev pub leaving : (ℕ → Purpose) → Profile → Profile
@@ -157,6 +161,10 @@ mutex_profile (HandOff bumps at) = leaving (λ l. release_purpose l bumps) (reco
 -- the thread that took this one and has not left its section yet
 abbrev pub mutex_taker : MutexPlace → Option ℕ
 mutex_taker at = hand_owner (mutex_profile at).hand
+
+-- what it wants, where it waits
+abbrev pub mutex_wants : MutexPlace → Option Want
+mutex_wants at = (mutex_profile at).wants
 
 -- whether the word may be loaded again in place of the act: where the act would set the parked bit
 abbrev pub mutex_can_spin : MutexPlace → Bool

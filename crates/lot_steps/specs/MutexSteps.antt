@@ -21,6 +21,7 @@ use Rattle.lot_steps.specs.declared.acts.Act.{Act}
 use Rattle.lot_steps.specs.declared.acts.Act as act
 use Rattle.lot_steps.specs.declared.acts.Check.TheVariants.{WordIs}
 use Rattle.lot_steps.specs.declared.acts.Wakes as wakes
+use Rattle.lot_steps.specs.declared.acts.Whom as whom
 use Rattle.lot_steps.specs.declared.acts.Reply.{Reply}
 use Rattle.lot_steps.specs.declared.acts.Reply.TheVariants.{Done, Value, Spun, Parked, Took, Removed, TakenBy, HandedBy, Late, Woken}
 use Rattle.lot_steps.specs.declared.acts.Next.{Next}
@@ -91,7 +92,7 @@ lock_act l lock.TheVariants.GiveUp = act.TheVariants.Leave (One (2 * l)) wakes.T
 abbrev pub unlock_act : ℕ → UnlockAt → Act
 unlock_act l unlock.TheVariants.Subtract = act.TheVariants.Word l (op.TheVariants.Sub 1)
 unlock_act l unlock.TheVariants.Enter = act.TheVariants.Enter (One (2 * l))
-unlock_act l unlock.TheVariants.Take = act.TheVariants.TakeFirst (2 * l)
+unlock_act l unlock.TheVariants.Take = act.TheVariants.Take (2 * l) whom.TheVariants.First
 unlock_act l (unlock.TheVariants.Clear any) = act.TheVariants.Word l (op.TheVariants.And NOT_PARKED)
 unlock_act l (unlock.TheVariants.Leave any) = act.TheVariants.Leave (One (2 * l)) (wakes_taken any note.TheVariants.Normal)
 
@@ -107,7 +108,7 @@ hand_off_store l true none_left = act.TheVariants.HandOver l (op.TheVariants.Sto
 
 abbrev pub hand_off_act : ℕ → HandOffAt → Act
 hand_off_act l hand_off.TheVariants.Enter = act.TheVariants.Enter (One (2 * l))
-hand_off_act l hand_off.TheVariants.Take = act.TheVariants.TakeFirst (2 * l)
+hand_off_act l hand_off.TheVariants.Take = act.TheVariants.Take (2 * l) whom.TheVariants.First
 hand_off_act l (hand_off.TheVariants.Store any none_left) = hand_off_store l any none_left
 hand_off_act l (hand_off.TheVariants.Leave any) = act.TheVariants.Leave (One (2 * l)) (wakes_taken any note.TheVariants.HandOff)
 

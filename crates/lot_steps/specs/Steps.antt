@@ -14,7 +14,8 @@ use Rattle.lot_steps.specs.declared.acts.Next.TheVariants.{At, End}
 use Rattle.lot_steps.specs.declared.owners.Owners.{Owners}
 use Rattle.lot_calls.specs.Kinds.{is_fair}
 use Rattle.lot_steps.specs.MutexSteps.{mutex_first, mutex_right, mutex_act, mutex_next, mutex_owners}
-use Rattle.lot_steps.specs.MutexProfiles.{mutex_taker, mutex_can_spin, mutex_can_be_late, mutex_owes, mutex_retries}
+use Rattle.lot_base.specs.declared.wants.Want.{Want}
+use Rattle.lot_steps.specs.MutexProfiles.{mutex_taker, mutex_wants, mutex_can_spin, mutex_can_be_late, mutex_owes, mutex_retries}
 
 -- where a call of a lock of a kind begins
 abbrev pub first_place : Kind → Call → Place
@@ -65,6 +66,16 @@ next_act (Mutex lock at) reply = mutex_does lock (mutex_next at reply)
 abbrev pub owners_after : Place → ℕ → ℕ → Owners → Owners
 owners_after Idle t seen owners = owners
 owners_after (Mutex lock at) t seen owners = mutex_owners at t seen owners
+
+-- how many shared rights the thread has then, where their number changes; nobody shares a mutex
+abbrev pub shares_after : Place → ℕ → ℕ → Option ℕ
+shares_after Idle seen shares = None
+shares_after (Mutex lock at) seen shares = None
+
+-- what a thread wants, where it waits
+abbrev pub wants : Place → Option Want
+wants Idle = None
+wants (Mutex lock at) = mutex_wants at
 
 -- the thread that took this one from its queue, and has not left its section yet
 abbrev pub taker : Place → Option ℕ

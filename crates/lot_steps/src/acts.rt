@@ -2,13 +2,32 @@
 ghost use Rattle.std.specs.Prelude.{◌≡◌};
 ghost use Rattle.lot_steps.specs.Acts.{wakes_taken, holds, outcome_of};
 
-use lot_base::{Key, Keys, Note, Op, Want};
+use crate::bits::{count_in, has_aside, has_parked, is_blocked, is_done, is_marked, is_poisoned};
+use lot_base::{Key, Keys, Note, Op, Requeue, Want};
 use lot_calls::{Answer, OnceState, Outcome};
 
 /// The test that a parking thread makes of the word inside the section.
 #[derive(Clone, Copy, Debug, PartialEq, Eq)]
 pub enum Check {
     WordIs(u64),
+    /// Of a reader-writer lock: its parked bit is set, and its owners keep out who wants this.
+    Blocked { want: Want, recursive: bool },
+    /// Of a reader-writer lock: readers are left, and the bit of the second queue is set.
+    ReadersLeft,
+    /// Of a `Once`: its parked bit is set, it is not done, and not poisoned either for who isn't forced.
+    Unfinished { forced: bool },
+}
+
+/// Whom a thread takes of a queue.
+#[derive(Clone, Copy, Debug, PartialEq, Eq)]
+pub enum Whom {
+    First,
+    /// Whom a reader-writer lock picks, by the right of its own that the thread keeps.
+    Picked {
+        start: Option<Want>,
+        recursive: bool,
+    },
+    All,
 }
 
 /// Whom a thread wakes as it leaves its sections.
@@ -43,8 +62,22 @@ pub enum Act {
         check: Check,
         want: Want,
     },
-    /// Takes the first of a queue.
-    TakeFirst(Key),
+    /// Stands behind the last of the queue, whatever the word is.
+    Stand {
+        key: Key,
+        want: Want,
+    },
+    /// Takes waiters of a queue.
+    Take {
+        key: Key,
+        whom: Whom,
+    },
+    /// Moves waiters of a queue behind the last of another, and may take the first of them.
+    Requeue {
+        from: Key,
+        to: Key,
+        how: Requeue,
+    },
     /// Leaves the queue in which the thread stands.
     Remove(Key),
     /// Leaves the sections, and wakes.
@@ -74,17 +107,40 @@ pub enum Reply {
     /// Whether the thread stands in the queue now.
     Parked(bool),
     /// Whether any was taken, and whether none is left in the queue.
-    Took { any: bool, none_left: bool },
+    Took {
+        any: bool,
+        none_left: bool,
+    },
+    /// How many of those who were picked want to share, what the one of them wants that wants more, and
+    /// whether none is left in the queue.
+    Picked {
+        sharers: usize,
+        successor: Option<Want>,
+        none_left: bool,
+    },
+    /// How many were taken and moved, and whether none is left in the queue where they stood.
+    Requeued {
+        number: usize,
+        none_left: bool,
+    },
     /// Whether none is left in the queue that the thread left.
-    Removed { none_left: bool },
+    Removed {
+        none_left: bool,
+    },
     /// Another thread took this one from its queue.
     TakenBy(usize),
+    /// Another thread moved this one to the queue of this key.
+    MovedTo(Key),
     /// The thread that took this one has handed it the lock.
     HandedBy(usize),
     /// Its time is up, and it has entered the section of the queue where it stands.
     Late,
     /// The wake note is there.
     Woken(Note),
+    /// What the closure has answered.
+    Closed {
+        succeeded: bool,
+    },
 }
 
 /// Where a call goes on, or what it answers at its end.
@@ -109,6 +165,13 @@ impl Check {
     {
         match self {
             Check::WordIs(value) => word == value,
+            Check::Blocked { want, recursive } => {
+                has_parked(word) && is_blocked(recursive, want, word)
+            }
+            Check::ReadersLeft => has_aside(word) && count_in(word) != 0,
+            Check::Unfinished { forced } => {
+                is_marked(word) && !is_done(word) && (forced || !is_poisoned(word))
+            }
         }
     }
 }

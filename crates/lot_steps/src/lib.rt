@@ -4,13 +4,16 @@
 #![tactic(auto)]
 
 pub mod acts;
+pub mod bits;
+pub mod laws;
 pub mod mutex;
 pub mod owners;
 pub mod places;
+pub mod rwlock;
 #[cfg(test)]
 mod tests;
 
-pub use acts::{Act, Check, Next, Reply, Wakes};
+pub use acts::{Act, Check, Next, Reply, Wakes, Whom};
 pub use lot_base::Op;
 pub use lot_calls;
 pub use lot_calls::{Answer, Call, Kind, MutexCall, OnceState, Outcome, Step, Turn};

@@ -7,7 +7,7 @@
 //! | 2, `PARKED` | unlocked; somebody may stand in the queue |
 //! | 3 | owned; somebody may stand in the queue |
 ghost use Rattle.std.specs.Prelude.{◌≡◌, ◌<◌, ◌^◌};
-ghost use Rattle.lot_steps.specs.MutexProfiles.{mutex_taker, mutex_can_spin, mutex_can_be_late, mutex_owes, mutex_retries};
+ghost use Rattle.lot_steps.specs.MutexProfiles.{mutex_taker, mutex_wants, mutex_can_spin, mutex_can_be_late, mutex_owes, mutex_retries};
 ghost use Rattle.lot_steps.specs.MutexSteps.{is_locked, is_parked, mutex_first, mutex_right, mutex_act, mutex_next, mutex_owners};
 
 pub mod hand_off;
@@ -19,7 +19,7 @@ use crate::mutex::hand_off::{HandOffAt, hand_off_act, looked, next_hand_off};
 use crate::mutex::lock::{Entry, LockAt, lock_act, lock_owners, next_lock, still_retries};
 use crate::mutex::unlock::{UnlockAt, next_unlock, unlock_act};
 use crate::owners::Owners;
-use lot_base::Op;
+use lot_base::{Op, Want};
 use lot_calls::{Answer, MutexCall};
 
 pub const LOCKED: u64 = 1;
@@ -196,6 +196,16 @@ impl MutexPlace {
                 at: LockAt::Taken { by } | LockAt::Handed { by },
                 ..
             } => Some(by),
+            _ => None,
+        }
+    }
+
+    /// What the thread wants, where it waits.
+    pub fn wants(self) -> Option<Want>
+        ensures { result ≡ mutex_wants self }
+    {
+        match self {
+            MutexPlace::Lock { .. } => Some(Want::Exclusive),
             _ => None,
         }
     }

@@ -1,11 +1,11 @@
 //! Where a thread stands, and where each step leads it.
 ghost use Rattle.std.specs.Prelude.{◌≡◌};
-ghost use Rattle.lot_steps.specs.Steps.{HasKeys, first_place, has_right, act_of, next_place, next_act, owners_after, taker, spin_lock, late_key, owes_on, retries_on, is_idle};
+ghost use Rattle.lot_steps.specs.Steps.{HasKeys, first_place, has_right, act_of, next_place, next_act, owners_after, shares_after, taker, wants, spin_lock, late_key, owes_on, retries_on, is_idle};
 
 use crate::acts::{Act, Next, Reply};
 use crate::mutex::{MutexPlace, mutex_right};
 use crate::owners::Owners;
-use lot_base::{Key, main_key};
+use lot_base::{Key, Want, main_key};
 use lot_calls::{Call, Kind};
 
 /// Where a thread stands: in no call, or in a call of a lock, with all that the call remembers.
@@ -69,6 +69,26 @@ impl Place {
         match self {
             Place::Idle => owners,
             Place::Mutex { at, .. } => at.owners_after(thread, seen, owners),
+        }
+    }
+
+    /// How many shared rights of the lock the thread has after its operation on the word, which saw this value.
+    /// None where their number stays.
+    pub fn shares_after(self, _seen: u64, _shares: usize) -> Option<usize>
+        ensures { result ≡ shares_after self _seen _shares }
+    {
+        match self {
+            Place::Idle | Place::Mutex { .. } => None,
+        }
+    }
+
+    /// What the thread wants, where it waits.
+    pub fn wants(self) -> Option<Want>
+        ensures { result ≡ wants self }
+    {
+        match self {
+            Place::Idle => None,
+            Place::Mutex { at, .. } => at.wants(),
         }
     }
 

@@ -25,6 +25,7 @@ use Rattle.lot_steps.specs.declared.acts.Check.TheVariants.{WordIs}
 use Rattle.lot_steps.specs.declared.acts.Wakes as wakes
 use Rattle.lot_steps.specs.declared.acts.Reply.TheVariants.{Parked, Removed, Took, TakenBy, Value}
 use Rattle.lot_steps.specs.declared.mutex.TheConstants.{NOT_PARKED}
+use Rattle.lot_steps.specs.declared.acts.Whom as whoms
 use Rattle.lot_steps.specs.MutexSteps.{is_locked, is_parked, lock_act, unlock_act, hand_off_act, mutex_act}
 use Rattle.lot_steps.specs.Steps.{next_place, act_of}
 use Rattle.abstract_locks.specs.Locks.{one_if_some, TakeFirst}
@@ -174,7 +175,7 @@ module _ (w : State) (t : ℕ) (steady : IsSteady w) (shape : IsShaped w) (there
   -- the first of the line, if any, is taken
   takes : (l : ℕ) (at : MutexPlace) → place_at w t ≡ Mutex l at → l < length w.locks → taken_at (Mutex l at) l ≡ None → mutex_station at ≡ record nowhere { inside = Some Main } → (mutex_doing at).carries ≡ false → (mutex_doing at).wakes ≢ Some Second
       → (queue_at w (2 * l) ≡ [] → Goes w (put (record w { queues = queues_without_first w.queues (2 * l) }) t (next_place (Mutex l at) (Took false true))) l (deeds t at None (Took false true)))
-      → ((u : ℕ) (b : Bool) → TakesTo l at u b) → GoesBy l at (act.TheVariants.TakeFirst (2 * l))
+      → ((u : ℕ) (b : Bool) → TakesTo l at u b) → GoesBy l at (act.TheVariants.Take (2 * l) whoms.TheVariants.First)
   takes l at is lt none s c v empty to = by_line (queue_at w (2 * l)) refl
     where
       some : (x : Waiter) (rest : List Waiter) → queue_at w (2 * l) ≡ x ∷ rest → Goes w (put (state_after_reply (record w { queues = queues_without_first w.queues (2 * l) }) x.thread (TakenBy t)) t (next_place (Mutex l at) (Took true (length rest == 0)))) l (deeds t at (Some x.thread) (Took true (length rest == 0)))

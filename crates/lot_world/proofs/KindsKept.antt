@@ -8,7 +8,7 @@ use Rattle.lot_base.specs.Lines.{first_of}
 use Rattle.lot_calls.specs.declared.kinds.Kind.{Kind}
 use Rattle.lot_calls.specs.declared.kinds.Kind as kind
 use Rattle.lot_steps.specs.declared.acts.Act.{Act}
-use Rattle.lot_steps.specs.declared.acts.Act.TheVariants.{Word, HandOver, Enter, Park, TakeFirst, Remove, Leave}
+use Rattle.lot_steps.specs.declared.acts.Act.TheVariants.{Word, HandOver, Enter, Park, Take, Remove, Leave}
 use Rattle.lot_steps.specs.declared.acts.Check.{Check}
 use Rattle.lot_steps.specs.declared.acts.Wakes.{Wakes}
 use Rattle.lot_steps.specs.declared.acts.Wakes as wakes
@@ -17,6 +17,7 @@ use Rattle.lot_calls.specs.declared.calls.Turn.{Turn}
 use Rattle.lot_calls.specs.declared.calls.Turn as turn
 use Rattle.lot_calls.specs.declared.calls.Step.{Step}
 use Rattle.lot_steps.specs.declared.places.Place.{Place}
+use Rattle.lot_steps.specs.declared.acts.Whom as whom
 use Rattle.lot_steps.specs.Acts.{holds}
 use Rattle.lot_calls.specs.Kinds.{has_call}
 use Rattle.lot_steps.specs.Steps.{act_of, spin_lock, late_key}
@@ -77,7 +78,7 @@ performed_kinds w t p (Word l f) k = operated_kinds w t p l f k
 performed_kinds w t p (HandOver l f) k = given_kinds w t p l f k
 performed_kinds w t p (Enter keys) k = filled_kinds w keys (Some t) k
 performed_kinds w t p (Park l key check wanted) k = parked_kinds w t l key check wanted k
-performed_kinds w t p (TakeFirst key) k = taken_kinds (record w { queues = queues_without_first w.queues key }) t (first_of (queue_at w key)) k
+performed_kinds w t p (Take key whom.TheVariants.First) k = taken_kinds (record w { queues = queues_without_first w.queues key }) t (first_of (queue_at w key)) k
 performed_kinds w t p (Remove key) k = refl
 performed_kinds w t p (Leave keys x) k = awakened_kinds (state_with_sections w keys None) t x k ∙ filled_kinds w keys None k
 performed_kinds w t p act k = refl

@@ -18,7 +18,7 @@ use Rattle.lot_calls.specs.declared.calls.Step.{Step}
 use Rattle.lot_calls.specs.declared.outcomes.Outcome.{Outcome}
 use Rattle.lot_calls.specs.declared.outcomes.Outcome as outcome
 use Rattle.lot_steps.specs.declared.acts.Act.{Act}
-use Rattle.lot_steps.specs.declared.acts.Act.TheVariants.{Word, HandOver, Enter, Park, TakeFirst, Remove}
+use Rattle.lot_steps.specs.declared.acts.Act.TheVariants.{Word, HandOver, Enter, Park, Take, Remove}
 use Rattle.lot_steps.specs.declared.acts.Act.TheVariants as act
 use Rattle.lot_steps.specs.declared.acts.Wakes.{Wakes}
 use Rattle.lot_steps.specs.declared.acts.Wakes as wakes
@@ -39,6 +39,7 @@ use Rattle.lot_steps.specs.declared.acts.Next.TheVariants as next
 use Rattle.lot_calls.specs.declared.outcomes.Answer as answer
 use Rattle.lot_steps.specs.declared.mutex.unlock.UnlockAt.{UnlockAt}
 use Rattle.lot_steps.specs.declared.mutex.hand_off.HandOffAt.{HandOffAt}
+use Rattle.lot_steps.specs.declared.acts.Whom as whom
 use Rattle.lot_steps.specs.MutexSteps.{in_lock, in_unlock, is_parked, is_locked, looked, next_lock, lock_act, mutex_first, hand_off_store, is_thread}
 use Rattle.lot_calls.specs.declared.kinds.Kind.{Kind}
 use Rattle.lot_calls.specs.Kinds.{is_fair}
@@ -157,7 +158,7 @@ module _ (w : State) (k u : ℕ) where
   performed_owes t p (HandOver l f) = told_same t (HandedBy t) (λ p. befalls_handed p t k)
   performed_owes t p (Enter keys) = filled_owes keys (Some t)
   performed_owes t p (Park l key check x) = parked_owes (holds check (word_at w l)) _
-  performed_owes t p (TakeFirst key) = took_owes t (queues_without_first w.queues key) (first_of (queue_at w key))
+  performed_owes t p (Take key whom.TheVariants.First) = took_owes t (queues_without_first w.queues key) (first_of (queue_at w key))
   performed_owes t p (act.Leave keys x) = left_owes t keys x
   performed_owes t p act.Rest = refl
   performed_owes t p a = refl

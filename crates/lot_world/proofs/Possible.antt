@@ -18,7 +18,7 @@ use Rattle.lot_calls.specs.Kinds.{is_fair}
 use Rattle.lot_calls.specs.declared.outcomes.Outcome.{Outcome}
 use Rattle.lot_calls.specs.declared.outcomes.Outcome as outcome
 use Rattle.lot_steps.specs.declared.acts.Act.{Act}
-use Rattle.lot_steps.specs.declared.acts.Act.TheVariants.{Rest, Word, HandOver, Enter, Park, TakeFirst, Remove, Sleep, Closure, End, Accept}
+use Rattle.lot_steps.specs.declared.acts.Act.TheVariants.{Rest, Word, HandOver, Enter, Park, Take, Remove, Sleep, Closure, End, Accept}
 use Rattle.lot_steps.specs.declared.acts.Act.TheVariants as act
 use Rattle.lot_steps.specs.declared.acts.Reply.{Reply}
 use Rattle.lot_steps.specs.declared.acts.Reply.TheVariants.{Spun, Late}
@@ -34,6 +34,7 @@ use Rattle.lot_steps.specs.declared.places.Place.{Place}
 use Rattle.lot_steps.specs.declared.places.Place.TheVariants.{Idle, Mutex}
 use Rattle.lot_steps.specs.declared.acts.Wakes.{Wakes}
 use Rattle.lot_steps.specs.declared.acts.Wakes as wakes
+use Rattle.lot_steps.specs.declared.acts.Whom as whom
 use Rattle.lot_steps.specs.Acts.{outcome_of, holds}
 use Rattle.lot_steps.specs.MutexSteps.{is_locked, lock_act, mutex_act, mutex_first, mutex_next}
 use Rattle.lot_steps.specs.Steps.{act_of, next_place, next_act, mutex_goes, mutex_does, late_key, first_place, spin_lock}
@@ -327,7 +328,7 @@ module _ (w : State) (t : ℕ) where
   act_sections p l lt (act.Leave (One k) x) can main key = rw (left_sections (One k) x key, main.0) (filled_changes l None lt (inr (inr (main.1, refl))) key)
   act_sections p l lt (act.Leave (Two first second) x) can main key = absurd main
   act_sections p l lt (Park k key_there check x) can main key = inl (parked_sections (holds check (word_at w k)) _ key)
-  act_sections p l lt (TakeFirst k) can main key = inl (took_sections (queues_without_first w.queues k) (first_of (queue_at w k)) key)
+  act_sections p l lt (Take k whom.TheVariants.First) can main key = inl (took_sections (queues_without_first w.queues k) (first_of (queue_at w k)) key)
   act_sections p l lt Rest can main key = inl refl
   act_sections p l lt a can main key = inl refl
 

@@ -11,7 +11,7 @@ use Rattle.lot_base.specs.declared.wants.Waiter.{Waiter}
 use Rattle.lot_base.specs.declared.wants.Want.{Want}
 use Rattle.lot_base.specs.Lines.{waiter, without, first_of}
 use Rattle.lot_steps.specs.declared.acts.Act.{Act}
-use Rattle.lot_steps.specs.declared.acts.Act.TheVariants.{Word, HandOver, Enter, Park, TakeFirst, Remove, Leave}
+use Rattle.lot_steps.specs.declared.acts.Act.TheVariants.{Word, HandOver, Enter, Park, Take, Remove, Leave}
 use Rattle.lot_steps.specs.declared.acts.Check.{Check}
 use Rattle.lot_steps.specs.declared.acts.Wakes.{Wakes}
 use Rattle.lot_steps.specs.declared.acts.Wakes as wakes
@@ -46,6 +46,7 @@ use Rattle.lot_steps.specs.Steps.{is_idle, first_place, taker, act_of, next_plac
 use Rattle.lot_world.specs.Machine.{State, unlocked, opening, kind_at, word_at, place_at, queue_at, put, state_after_operation, state_with_sections, queues_with_last, queues_without_first, queues_without, state_after_park, state_after_reply, place_after_telling, state_after_telling, state_after_hand_over, state_after_taking, state_after_take, state_after_wake, state_after_act, state_after_go, go_reply, reply_to, state_after_begin, can_begin, is_open_to, state_after_spin, state_after_spin_on, state_after_late, state_after_late_on, state_after_turn, can_turn, is_possible, after}
 use Rattle.lot_base.specs.declared.notes.Note as note
 use Rattle.lot_steps.specs.declared.mutex.lock.LockAt as lock
+use Rattle.lot_steps.specs.declared.acts.Whom as whom
 use Rattle.lot_world.specs.Fits.{GivesUpTimed, PlaceFits, AllBelow, IsShaped, SameSize}
 
 -- what holds of all elements holds of them after one is set
@@ -304,7 +305,7 @@ performed_shaped w t p (Word l f) s lt = operated_shaped w t p l f s
 performed_shaped w t p (HandOver l f) s lt = told_shaped (state_after_hand_over w t p l f) t (HandedBy t) tt (given_shaped w t p l f s)
 performed_shaped w t p (Enter keys) s lt = filled_shaped w keys (Some t) s
 performed_shaped w t p (Park l key check wanted) s lt = parked_shaped w t l key check wanted s lt
-performed_shaped w t p (TakeFirst key) s lt = took_shaped w t key s
+performed_shaped w t p (Take key whom.TheVariants.First) s lt = took_shaped w t key s
 performed_shaped w t p (Remove key) s lt = removed_shaped w t s
 performed_shaped w t p (Leave keys x) s lt = awakened_shaped (state_with_sections w keys None) t x (filled_shaped w keys None s)
 performed_shaped w t p act s lt = s
@@ -323,7 +324,7 @@ performed_counts w t p (Park l key check wanted) = either (holds check (word_at 
     either : (b : Bool) → (length (if b then record w { queues = queues_with_last w.queues key t wanted } else w).places ≡ length w.places) × (length (if b then record w { queues = queues_with_last w.queues key t wanted } else w).locks ≡ length w.locks)
     either true = (refl, refl)
     either false = (refl, refl)
-performed_counts w t p (TakeFirst key) = by_first (first_of (queue_at w key))
+performed_counts w t p (Take key whom.TheVariants.First) = by_first (first_of (queue_at w key))
   where
     by_first : (o : Option ℕ) → (length (state_after_taking (record w { queues = queues_without_first w.queues key }) t o).places ≡ length w.places) × (length (state_after_taking (record w { queues = queues_without_first w.queues key }) t o).locks ≡ length w.locks)
     by_first None = (refl, refl)
@@ -332,8 +333,16 @@ performed_counts w t p (Leave keys wakes.TheVariants.Nobody) = filled_counts w k
 performed_counts w t p (Leave keys (wakes.TheVariants.All note)) = (length-map (state_with_sections w keys None).places (place_after_telling t (Woken note)) ∙ (filled_counts w keys None).0, (filled_counts w keys None).1)
 performed_counts w t p act = (refl, refl)
 
+-- so who was there is there behind it
+pub acted_there : (w v : State) (t u : ℕ) (p : Place) (act : Act) (b : Bool) → v ≡ (if b then state_after_act w u p act else w) → t < length w.places → t < length v.places
+acted_there w v t u p act b e lt = rw e (either b)
+  where
+    either : (b : Bool) → t < length (if b then state_after_act w u p act else w).places
+    either true = rw (performed_counts w u p act).0 lt
+    either false = lt
+
 reply_fits : (w : State) (t : ℕ) (p : Place) (act : Act) → IsShaped w → ReplyFits p (reply_to w t act)
-reply_fits w t p (TakeFirst key) s = tt
+reply_fits w t p (Take key whom.TheVariants.First) s = tt
 reply_fits w t p act s = tt
 
 gone_shaped : (w : State) (t : ℕ) → IsShaped w → t < length w.places → IsShaped (state_after_go w t)

@@ -58,6 +58,7 @@ use Rattle.lot_world.proofs.Counts.{first_times}
 use Rattle.lot_world.proofs.Glue.{nothing_at, IsTakenAt, put_here, station_here, own_stance, heir_one, same}
 use Rattle.lot_world.proofs.SitesPromise.{parked_at}
 use Rattle.lot_steps.specs.declared.mutex.MutexPlace.{MutexPlace}
+use Rattle.lot_steps.specs.declared.acts.Whom as whoms
 use Rattle.lot_world.proofs.LockEvents.{taken_place}
 use Rattle.lot_world.proofs.SitesKept.{go_by}
 use Rattle.lot_world.proofs.GoneKept.{gone_goes}
@@ -300,7 +301,7 @@ module _ (t l : ℕ) where
     taking = HandOff bumps hand_off.Take
 
     abbrev taken_then : State
-    taken_then = go_by w t (Mutex l taking) (act.TheVariants.TakeFirst (2 * l))
+    taken_then = go_by w t (Mutex l taking) (act.TheVariants.Take (2 * l) whoms.TheVariants.First)
 
     first_held : (whom : Option ℕ) → Goes w taken_then l (acts t (takes whom)) → IsTakenAt (place_at taken_then x.thread) t l
     first_held None goes = absurd (let none : map queued_of (queue_at w (2 * l)) ≡ [] = goes.follows.needed.0.2 in let some : map queued_of (queue_at w (2 * l)) ≡ queued_of x ∷ map queued_of rest = ap (map queued_of) f.queue in cc)

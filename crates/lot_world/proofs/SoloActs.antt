@@ -21,6 +21,7 @@ use Rattle.lot_calls.specs.declared.outcomes.Outcome.{Outcome}
 use Rattle.lot_calls.specs.declared.outcomes.Outcome as outcome
 use Rattle.lot_steps.specs.declared.places.Place.{Place}
 use Rattle.lot_steps.specs.declared.places.Place.TheVariants.{Idle}
+use Rattle.lot_steps.specs.declared.acts.Whom as whoms
 use Rattle.lot_steps.specs.Acts.{outcome_of}
 use Rattle.lot_steps.specs.Steps.{act_of, next_place, next_act}
 use Rattle.lot_world.specs.Machine.{State, unlocked, place_at, word_at, owners_at, section_at, queue_at, put, state_after_operation, state_with_sections, queues_with_last, queues_without, queues_without_first, state_after_taking, state_after_reply, state_after_act, reply_to, can_do, state_after_go, go_of, is_possible, after, step_outcome, go_outcome, solo, place_after_telling, state_after_telling, state_after_hand_over, heir_from, is_there}
@@ -231,7 +232,7 @@ module _ (w : State) (t l : ℕ) (p : Place) (v : ℕ) (o s : Option ℕ) (q : L
       heard : reply_to w t (act_of p) ≡ Removed (length (without t q) == 0)
       heard = ap (reply_to w t) is ∙ ap (λ x. Removed (length (without t x) == 0)) f.queue
 
-  pub take_faces : act_of p ≡ act.TheVariants.TakeFirst (2 * l)
+  pub take_faces : act_of p ≡ act.TheVariants.Take (2 * l) whoms.TheVariants.First
       → Faces w t l (next_place p (Took (is_there (first_of q)) (length (drop 1 q) == 0))) (outcome_of (next_act p (Took (is_there (first_of q)) (length (drop 1 q) == 0)))) v o s (drop 1 q)
   take_faces is = by_first (first_of q) refl
     where

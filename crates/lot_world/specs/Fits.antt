@@ -4,7 +4,7 @@ use Rattle.lot_base.specs.declared.keys.Keys.{Keys}
 use Rattle.lot_base.specs.declared.keys.Keys.TheVariants.{One, Two}
 use Rattle.lot_base.specs.declared.wants.Waiter.{Waiter}
 use Rattle.lot_steps.specs.declared.acts.Act.{Act}
-use Rattle.lot_steps.specs.declared.acts.Act.TheVariants.{Word, HandOver, Enter, Park, TakeFirst, Remove, Leave}
+use Rattle.lot_steps.specs.declared.acts.Act.TheVariants.{Word, HandOver, Enter, Park, Take, Remove, Leave}
 use Rattle.lot_steps.specs.declared.places.Place.{Place}
 use Rattle.lot_steps.specs.declared.places.Place.TheVariants.{Idle, Mutex}
 use Rattle.lot_steps.specs.declared.mutex.MutexPlace.{MutexPlace}
@@ -20,7 +20,7 @@ ActFits w (Word l op) = l < length w.locks
 ActFits w (HandOver l op) = l < length w.locks
 ActFits w (Enter keys) = KeysFit (length w.sections) keys
 ActFits w (Park l key check x) = (l < length w.locks) × (key < length w.sections)
-ActFits w (TakeFirst key) = key < length w.sections
+ActFits w (Take key whom) = key < length w.sections
 ActFits w (Remove key) = key < length w.sections
 ActFits w (Leave keys wakes) = KeysFit (length w.sections) keys
 ActFits w act = Unit {0}

@@ -13,12 +13,13 @@ use Rattle.lot_steps.specs.declared.owners.Owners.{Owners}
 use Rattle.lot_steps.specs.declared.places.Place.{Place}
 use Rattle.lot_steps.specs.declared.places.Place.TheVariants.{Idle}
 use Rattle.lot_steps.specs.declared.acts.Act.{Act}
-use Rattle.lot_steps.specs.declared.acts.Act.TheVariants.{Rest, Word, HandOver, Enter, Park, TakeFirst, Remove, Leave, Sleep, Closure, End}
+use Rattle.lot_steps.specs.declared.acts.Act.TheVariants.{Rest, Word, HandOver, Enter, Park, Take, Remove, Leave, Sleep, Closure, End}
 use Rattle.lot_steps.specs.declared.acts.Check.{Check}
 use Rattle.lot_steps.specs.declared.acts.Wakes.{Wakes}
 use Rattle.lot_steps.specs.declared.acts.Wakes as wakes
 use Rattle.lot_steps.specs.declared.acts.Reply.{Reply}
 use Rattle.lot_steps.specs.declared.acts.Reply.TheVariants.{Done, Value, Spun, Parked, Took, Removed, TakenBy, HandedBy, Late, Woken}
+use Rattle.lot_steps.specs.declared.acts.Whom as whom
 use Rattle.lot_calls.specs.declared.calls.Call.{Call}
 use Rattle.lot_calls.specs.declared.calls.Turn.{Turn}
 use Rattle.lot_calls.specs.declared.calls.Turn as turn
@@ -202,7 +203,7 @@ state_after_act w t p (Word l op) = state_after_operation w t p l op
 state_after_act w t p (HandOver l op) = state_after_telling (state_after_hand_over w t p l op) t (HandedBy t)
 state_after_act w t p (Enter keys) = state_with_sections w keys (Some t)
 state_after_act w t p (Park l key check wanted) = state_after_park w t l key check wanted
-state_after_act w t p (TakeFirst key) = state_after_take w t key
+state_after_act w t p (Take key whom.TheVariants.First) = state_after_take w t key
 state_after_act w t p (Remove key) = record w { queues = queues_without w.queues t }
 state_after_act w t p (Leave keys wakes) = state_after_leave w t keys wakes
 state_after_act w t p act = w
@@ -212,7 +213,7 @@ abbrev pub reply_to : State → ℕ → Act → Reply
 reply_to w t (Word l op) = Value (word_at w l)
 reply_to w t (HandOver l op) = Value (word_at w l)
 reply_to w t (Park l key check x) = Parked (holds check (word_at w l))
-reply_to w t (TakeFirst key) = Took (is_there (first_of (queue_at w key))) (length (drop 1 (queue_at w key)) == 0)
+reply_to w t (Take key whom.TheVariants.First) = Took (is_there (first_of (queue_at w key))) (length (drop 1 (queue_at w key)) == 0)
 reply_to w t (Remove key) = Removed (length (without t (queue_at w key)) == 0)
 reply_to w t act = Done
 

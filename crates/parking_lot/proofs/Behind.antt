@@ -59,13 +59,13 @@ module _ (n : ℕ) where
   goes_to call.UnlockFair seen owns g = ap (λ (b : Bool). mutex_goes n (looked false (not b))) (ne_eqb seen 1 g.0)
   goes_to call.Bump seen owns g = ap (λ (b : Bool). mutex_goes n (looked true b)) g.0
 
-  fits_there : (c : MutexCall) (seen : ℕ) (owns : List Ownership) (last : Option SectionRecord) → GoesOn n c seen owns → Fits n owns (Mutex n (rest c)) (stage owns None last)
-  fits_there call.Lock seen owns last g = (refl, (refl, refl))
-  fits_there call.LockTimed seen owns last g = (refl, (refl, refl))
-  fits_there call.TryLock seen owns last g = absurd g
-  fits_there call.Unlock seen owns last g = (refl, (refl, refl))
-  fits_there call.UnlockFair seen owns last g = (refl, (g.1, (refl, refl)))
-  fits_there call.Bump seen owns last g = (refl, (g.1, (refl, refl)))
+  fits_there : (up : Type 0) (c : MutexCall) (seen : ℕ) (owns : List Ownership) (last : Option SectionRecord) → GoesOn n c seen owns → Fits up n owns (Mutex n (rest c)) (stage owns None last)
+  fits_there up call.Lock seen owns last g = (refl, (refl, refl))
+  fits_there up call.LockTimed seen owns last g = (refl, (refl, refl))
+  fits_there up call.TryLock seen owns last g = absurd g
+  fits_there up call.Unlock seen owns last g = (refl, (refl, refl))
+  fits_there up call.UnlockFair seen owns last g = (refl, (g.1, (refl, refl)))
+  fits_there up call.Bump seen owns last g = (refl, (g.1, (refl, refl)))
 
   same_purpose : (c : MutexCall) → purpose_of (Mutex n (rest c)) ≡ purpose_in c
   same_purpose call.Lock = refl
@@ -107,16 +107,16 @@ module _ (n : ℕ) where
   pub releases_behind : (c : MutexCall) (seen : ℕ) (old mid new : List WordStep) (last : Option SectionRecord) → saw_waiter c seen ≡ true → mid ≡ old ++ step (mutex_at n) (first_op c) seen → (more : List WordStep) × (new ≡ mid ++ more) → TookAt n last → Releases n c old new last
   releases_behind c seen old mid new last waits saw rest took = (seen, rest.0, rest.1 ∙ ap (λ (l : List WordStep). l ++ rest.0) saw, subst (λ (b : Bool). TookIfParked n b rest.0 last) (sym waits) took)
 
-  pub fits_behind : (c : MutexCall) (seen : ℕ) (owns : List Ownership) (last : Option SectionRecord) → GoesOn n c seen owns → Fits n owns (next_place (beginning n c) (Value seen)) (stage owns None last)
-  fits_behind c seen owns last g = subst (λ (p : Place). Fits n owns p (stage owns None last)) (sym (goes_to c seen owns g)) (fits_there c seen owns last g)
+  pub fits_behind : (up : Type 0) (c : MutexCall) (seen : ℕ) (owns : List Ownership) (last : Option SectionRecord) → GoesOn n c seen owns → Fits up n owns (next_place (beginning n c) (Value seen)) (stage owns None last)
+  fits_behind up c seen owns last g = subst (λ (p : Place). Fits up n owns p (stage owns None last)) (sym (goes_to c seen owns g)) (fits_there up c seen owns last g)
 
-  pub over_behind : (c : MutexCall) (seen : ℕ) (owns : List Ownership) (answer : Answer) (new : Stage) → GoesOn n c seen owns → IsOver n owns (purpose_of (next_place (beginning n c) (Value seen))) answer new → IsOver n owns (purpose_in c) answer new
-  over_behind c seen owns answer new g over = subst (λ purpose. IsOver n owns purpose answer new) (ap purpose_of (goes_to c seen owns g) ∙ same_purpose c) over
+  pub over_behind : (up : Type 0) (c : MutexCall) (seen : ℕ) (owns : List Ownership) (answer : Answer) (new : Stage) → GoesOn n c seen owns → IsOver up n owns (purpose_of (next_place (beginning n c) (Value seen))) answer new → IsOver up n owns (purpose_in c) answer new
+  over_behind up c seen owns answer new g over = subst (λ purpose. IsOver up n owns purpose answer new) (ap purpose_of (goes_to c seen owns g) ∙ same_purpose c) over
 
   pub path_behind : (c : MutexCall) (seen : ℕ) (old mid new : List WordStep) (answer : Answer) → Walks (mutex_at n) (next_place (beginning n c) (Value seen)) mid new answer → mid ≡ old ++ step (mutex_at n) (first_op c) seen → Walks (mutex_at n) (beginning n c) old new answer
   path_behind c seen old mid new answer rest saw = goes_on (mutex_at n) (beginning n c) n (first_op c) seen old mid new answer (begins_with c) saw rest
 
   -- an untimed call has the mutex at its end
-  pub has_entered : (e : Entry) (base : List Ownership) (answer : Answer) (st : Stage) → is_timed e ≡ false → IsOver n base (enters e) answer st → (answer ≡ entered e) × Outside (held n ∷ beside n e base) st
-  has_entered e base answer st untimed (inl h) = (h.0, (h.1.0, h.1.1))
-  has_entered e base answer st untimed (inr h) = absurd cc
+  pub has_entered : (up : Type 0) (e : Entry) (base : List Ownership) (answer : Answer) (st : Stage) → is_timed e ≡ false → IsOver up n base (enters e) answer st → (answer ≡ entered e) × Outside (held n ∷ beside n e base) st
+  has_entered up e base answer st untimed (inl h) = (h.0, (h.1.0, h.1.1))
+  has_entered up e base answer st untimed (inr h) = let timed = h.1.0 in absurd cc

@@ -64,14 +64,14 @@ module _ (n : ℕ) (base : List Ownership) (st : Stage) where
       by_none (Some to) e i = absurd cc
   hand_off_needs (at.Leave true) f = subst (MayLeave note.TheVariants.HandOff) (sym f.2.1) refl
 
-  module _ (new : Stage) (bumps : Bool) where
+  module _ (up : Type 0) (new : Stage) (bumps : Bool) where
     owns_of : (s : Stage) → new ≡ s → new.owns ≡ s.owns
     owns_of s e = ap (λ (x : Stage). x.owns) e
 
     inside_of : (s : Stage) → new ≡ s → new.inside ≡ s.inside
     inside_of s e = ap (λ (x : Stage). x.inside) e
 
-    pub hand_off_leads : (at : HandOffAt) → FitsHandOff n base at st → (reply : Reply) → Became kinds.TheVariants.Mutex (mutex_at n) None st (hand_off_act n at) reply new → Reached n base (Mutex n (HandOff bumps at)) reply new
+    pub hand_off_leads : (at : HandOffAt) → FitsHandOff n base at st → (reply : Reply) → Became up kinds.TheVariants.Mutex (mutex_at n) None st (hand_off_act n at) reply new → Reached up n base (Mutex n (HandOff bumps at)) reply new
     hand_off_leads at.Enter f Done b = ((refl, (f.0, (owns_of _ b ∙ f.1.0, inside_of _ b))), refl)
     hand_off_leads at.Take f (Took true left) b = ((refl, (f.0, (b.0, b.1, (owns_of _ b.2 ∙ f.1.0, inside_of _ b.2 ∙ ap (took (2 * n) b.0) f.1.1)))), refl)
     hand_off_leads at.Take f (Took false left) b = ((refl, (f.0, (b.0, b.1, (owns_of _ b.2 ∙ f.1.0, inside_of _ b.2 ∙ ap (took (2 * n) b.0) f.1.1)))), refl)
@@ -85,7 +85,7 @@ module _ (n : ℕ) (base : List Ownership) (st : Stage) where
         ((refl, (f.1.0, f.1.1, (owns_of _ b.1 ∙ ap (without (held n)) (kept n left seen b.0.1.0 odd st.owns ∙ f.1.2.0), inside_of _ b.1 ∙ ap all_given f.1.2.1))), refl)
     hand_off_leads (at.Leave any) f Done b = left_by bumps
       where
-        left_by : (bumps : Bool) → Reached n base (Mutex n (HandOff bumps (at.Leave any))) Done new
+        left_by : (bumps : Bool) → Reached up n base (Mutex n (HandOff bumps (at.Leave any))) Done new
         left_by true = ((refl, (b.0 ∙ f.2.0, b.1)), refl)
         left_by false = (refl, (b.0 ∙ f.2.0, b.1), subst (λ (i : Option Inside). IsLeft i new.last) f.2.1 b.2)
     hand_off_leads at f reply b = absurd b

@@ -5,7 +5,7 @@ use Rattle.lot_base.specs.declared.keys.Keys.TheVariants.{One}
 use Rattle.lot_base.specs.declared.notes.Note.TheVariants.{Normal, HandOff}
 use Rattle.lot_base.specs.declared.ops.Op.{Op}
 use Rattle.lot_base.specs.declared.ops.Op.TheVariants.{Load, And, Exchange}
-use Rattle.lot_steps.specs.MutexSteps.{lock_act, unlock_act, hand_off_act, decided, is_timed}
+use Rattle.lot_steps.specs.MutexSteps.{lock_act, unlock_act, hand_off_act, decided}
 use Rattle.lot_steps.specs.Steps.{act_of, late_key}
 use Rattle.lot_steps.specs.declared.acts.Act.{Act}
 use Rattle.lot_steps.specs.declared.acts.Act as act
@@ -25,17 +25,17 @@ use Rattle.lot_words.specs.declared.owners.Owner.{Owner}
 use Rattle.lot_words.specs.declared.owners.Ownership.{Ownership}
 use Rattle.lot_words.specs.declared.words.WordKind as kinds
 use Rattle.lot_words.proofs.MutexSteps.{mutex_steps, each_code}
-use Rattle.parking_lot.specs.Fitting.{MutexLeads, FitsLock, FitsUnlock, Fits, Reached, Within, Outside, beside, held}
+use Rattle.parking_lot.specs.Fitting.{MutexLeads, GaveUp, FitsLock, FitsUnlock, Fits, Reached, Within, Outside, beside, held}
 use Rattle.parking_lot.specs.Paths.{mutex_at}
 use Rattle.parking_lot.specs.Stages.{Stage, Inside, Needs, Became, HasKey, IsFresh, MayLeave, IsLeft, took, entered_now, stage, stepped}
 use Rattle.parking_lot.proofs.HandingOver.{hand_off_needs, hand_off_leads}
 
 -- a reply to an operation on the word, which saw one of the four codes
-pub word_reply : (n : ℕ) (st new : Stage) (P : Reply → Type 0) (late : Option ℕ) (l : ℕ) (op : Op) → ((seen : ℕ) → seen < 4 → new ≡ stepped kinds.TheVariants.Mutex (mutex_at n) op seen st → P (Value seen)) → (reply : Reply) → Became kinds.TheVariants.Mutex (mutex_at n) late st (act.TheVariants.Word l op) reply new → P reply
-word_reply n st new P late l op h (Value seen) b = h seen b.0.1.0 b.1
-word_reply n st new P late l op h reply b = absurd b
+pub word_reply : (up : Type 0) (n : ℕ) (st new : Stage) (P : Reply → Type 0) (late : Option ℕ) (l : ℕ) (op : Op) → ((seen : ℕ) → seen < 4 → new ≡ stepped kinds.TheVariants.Mutex (mutex_at n) op seen st → P (Value seen)) → (reply : Reply) → Became up kinds.TheVariants.Mutex (mutex_at n) late st (act.TheVariants.Word l op) reply new → P reply
+word_reply up n st new P late l op h (Value seen) b = h seen b.0.1.0 b.1
+word_reply up n st new P late l op h reply b = absurd b
 
-module _ (n : ℕ) (base : List Ownership) (st : Stage) where
+module _ (up : Type 0) (n : ℕ) (base : List Ownership) (st : Stage) where
   abbrev Can : Act → Type 0
   Can = Needs kinds.TheVariants.Mutex (mutex_at n) st
 
@@ -48,7 +48,7 @@ module _ (n : ℕ) (base : List Ownership) (st : Stage) where
   leaves : (owns : List Ownership) → Within n owns st → MayLeave Normal st.inside
   leaves owns f = subst (MayLeave Normal) (sym f.1) refl
 
-  lock_needs : (e : Entry) (at : LockAt) → FitsLock n e (beside n e base) at st → Can (lock_act n at)
+  lock_needs : (e : Entry) (at : LockAt) → FitsLock up n e (beside n e base) at st → Can (lock_act n at)
   lock_needs e lock.TheVariants.First f = (mutex_steps (mutex_at n) st.owns).enter 0 (omega arith) refl
   lock_needs e lock.TheVariants.Load f = (mutex_steps (mutex_at n) st.owns).load
   lock_needs e (lock.TheVariants.Decide seen) f = decide_needs seen (beside n e base) f.0 f.1
@@ -71,7 +71,7 @@ module _ (n : ℕ) (base : List Ownership) (st : Stage) where
   unlock_needs (unlock.TheVariants.Leave true) f = subst (MayLeave Normal) (sym f.2.1) refl
 
   -- what the place's act needs is there
-  pub needs : (p : Place) → Fits n base p st → Can (act_of p)
+  pub needs : (p : Place) → Fits up n base p st → Can (act_of p)
   needs (Mutex l (at_mutex.Lock e retries at)) f = subst (λ l. Can (lock_act l at)) (sym f.0) (lock_needs e at f.1)
   needs (Mutex l (at_mutex.Unlock at)) f = subst (λ l. Can (unlock_act l at)) (sym f.0) (unlock_needs at f.1)
   needs (Mutex l (at_mutex.HandOff bumps at)) f = subst (λ l. Can (hand_off_act l at)) (sym f.0) (hand_off_needs n base st at f.1)
@@ -98,7 +98,7 @@ module _ (n : ℕ) (base : List Ownership) (st : Stage) where
 
       -- by the value that an operation saw
       abbrev Saw : LockAt → Op → ℕ → Type 0
-      Saw at op seen = new ≡ stepped kinds.TheVariants.Mutex (mutex_at n) op seen st → Reached n base (place at) (Value seen) new
+      Saw at op seen = new ≡ stepped kinds.TheVariants.Mutex (mutex_at n) op seen st → Reached up n base (place at) (Value seen) new
 
       outside_still : Outside rest st → (s : Stage) → new ≡ s → s.owns ≡ st.owns → s.inside ≡ st.inside → Outside rest new
       outside_still f s x o i = stays rest None s x o i f
@@ -115,10 +115,10 @@ module _ (n : ℕ) (base : List Ownership) (st : Stage) where
           (λ x. ((refl, (omega arith, outside_still f _ x refl refl)), refl)) (λ x. ((refl, (omega arith, outside_still f _ x refl refl)), refl))
           (λ x. ((refl, (omega arith, outside_still f _ x refl refl)), refl)) (λ x. ((refl, (omega arith, outside_still f _ x refl refl)), refl))
 
-      gives_up : (e : Entry) (owns : List Ownership) → Outside owns st → (key : ℕ) → late_key (Mutex n (at_mutex.Lock e retries lock.TheVariants.Asleep)) ≡ Some key → new ≡ stage st.owns (entered_now (One key)) st.last → FitsLock n e owns lock.TheVariants.Remove new
-      gives_up entry.TheVariants.LockTimed owns f key can x = let k : key ≡ 2 * n = cc in (refl, (owns_of _ x ∙ f.0, inside_of _ x ∙ ap (λ (k : ℕ). entered_now (One k)) k))
-      gives_up entry.TheVariants.Lock owns f key can x = absurd cc
-      gives_up entry.TheVariants.Bump owns f key can x = absurd cc
+      gives_up : (e : Entry) (owns : List Ownership) → Outside owns st → (key : ℕ) → late_key (Mutex n (at_mutex.Lock e retries lock.TheVariants.Asleep)) ≡ Some key → up → new ≡ stage st.owns (entered_now (One key)) st.last → FitsLock up n e owns lock.TheVariants.Remove new
+      gives_up entry.TheVariants.LockTimed owns f key can over x = let k : key ≡ 2 * n = cc in ((refl, over), (owns_of _ x ∙ f.0, inside_of _ x ∙ ap (λ (k : ℕ). entered_now (One k)) k))
+      gives_up entry.TheVariants.Lock owns f key can over x = absurd cc
+      gives_up entry.TheVariants.Bump owns f key can over x = absurd cc
 
       saw_parked : Outside rest st → (seen : ℕ) → seen < 4 → Saw (lock.TheVariants.Decide 1) (Exchange 1 3) seen
       saw_parked f = each_code (Saw (lock.TheVariants.Decide 1) (Exchange 1 3))
@@ -135,7 +135,7 @@ module _ (n : ℕ) (base : List Ownership) (st : Stage) where
           (λ x. ((refl, (omega arith, outside_still f _ x refl refl)), refl)) (λ x. ((refl, (omega arith, outside_still f _ x refl refl)), refl))
           (λ x. inl (refl, has_it f _ x refl refl)) (λ x. ((refl, (omega arith, outside_still f _ x refl refl)), refl))
 
-      clears : (is_timed e ≡ true) × Within n rest st → (seen : ℕ) → seen < 4 → Saw lock.TheVariants.Clear (And 18446744073709551613) seen
+      clears : GaveUp up e × Within n rest st → (seen : ℕ) → seen < 4 → Saw lock.TheVariants.Clear (And 18446744073709551613) seen
       clears f = each_code (Saw lock.TheVariants.Clear (And 18446744073709551613))
           (λ x. ((refl, (f.0, stays rest _ _ x refl refl f.1)), refl)) (λ x. ((refl, (f.0, stays rest _ _ x refl refl f.1)), refl))
           (λ x. ((refl, (f.0, stays rest _ _ x refl refl f.1)), refl)) (λ x. ((refl, (f.0, stays rest _ _ x refl refl f.1)), refl))
@@ -144,18 +144,18 @@ module _ (n : ℕ) (base : List Ownership) (st : Stage) where
       checks f = each_code (λ s. new ≡ stepped kinds.TheVariants.Mutex (mutex_at n) Load s st → Within n rest new)
           (λ x. stays rest _ _ x refl refl f) (λ x. stays rest _ _ x refl refl f) (λ x. stays rest _ _ x refl refl f) (λ x. stays rest _ _ x refl refl f)
 
-      enter_reply : (P : Reply → Type 0) (keys : Keys) → (new ≡ stage st.owns (entered_now keys) st.last → P Done) → (reply : Reply) → Became kinds.TheVariants.Mutex (mutex_at n) None st (act.TheVariants.Enter keys) reply new → P reply
+      enter_reply : (P : Reply → Type 0) (keys : Keys) → (new ≡ stage st.owns (entered_now keys) st.last → P Done) → (reply : Reply) → Became up kinds.TheVariants.Mutex (mutex_at n) None st (act.TheVariants.Enter keys) reply new → P reply
       enter_reply P keys h Done b = h b
       enter_reply P keys h reply b = absurd b
 
-      decides : (seen : ℕ) → seen < 4 → Outside rest st → (reply : Reply) → Became kinds.TheVariants.Mutex (mutex_at n) None st (decided n seen) reply new → Reached n base (place (lock.TheVariants.Decide seen)) reply new
-      decides = each_code (λ s. Outside rest st → (reply : Reply) → Became kinds.TheVariants.Mutex (mutex_at n) None st (decided n s) reply new → Reached n base (place (lock.TheVariants.Decide s)) reply new)
-          (λ f. word_reply n st new (λ r. Reached n base (place (lock.TheVariants.Decide 0)) r new) None n (Exchange 0 1) (enters_0 f))
-          (λ f. word_reply n st new (λ r. Reached n base (place (lock.TheVariants.Decide 1)) r new) None n (Exchange 1 3) (saw_parked f))
-          (λ f. word_reply n st new (λ r. Reached n base (place (lock.TheVariants.Decide 2)) r new) None n (Exchange 2 3) (enters_2 f))
-          (λ f. enter_reply (λ r. Reached n base (place (lock.TheVariants.Decide 3)) r new) (One (2 * n)) (λ x. ((refl, (owns_of _ x ∙ f.0, inside_of _ x)), refl)))
+      decides : (seen : ℕ) → seen < 4 → Outside rest st → (reply : Reply) → Became up kinds.TheVariants.Mutex (mutex_at n) None st (decided n seen) reply new → Reached up n base (place (lock.TheVariants.Decide seen)) reply new
+      decides = each_code (λ s. Outside rest st → (reply : Reply) → Became up kinds.TheVariants.Mutex (mutex_at n) None st (decided n s) reply new → Reached up n base (place (lock.TheVariants.Decide s)) reply new)
+          (λ f. word_reply up n st new (λ r. Reached up n base (place (lock.TheVariants.Decide 0)) r new) None n (Exchange 0 1) (enters_0 f))
+          (λ f. word_reply up n st new (λ r. Reached up n base (place (lock.TheVariants.Decide 1)) r new) None n (Exchange 1 3) (saw_parked f))
+          (λ f. word_reply up n st new (λ r. Reached up n base (place (lock.TheVariants.Decide 2)) r new) None n (Exchange 2 3) (enters_2 f))
+          (λ f. enter_reply (λ r. Reached up n base (place (lock.TheVariants.Decide 3)) r new) (One (2 * n)) (λ x. ((refl, (owns_of _ x ∙ f.0, inside_of _ x)), refl)))
 
-      lock_leads : (at : LockAt) → FitsLock n e rest at st → (reply : Reply) → Became kinds.TheVariants.Mutex (mutex_at n) (late_key (place at)) st (lock_act n at) reply new → Reached n base (place at) reply new
+      lock_leads : (at : LockAt) → FitsLock up n e rest at st → (reply : Reply) → Became up kinds.TheVariants.Mutex (mutex_at n) (late_key (place at)) st (lock_act n at) reply new → Reached up n base (place at) reply new
       lock_leads lock.TheVariants.First f (Value seen) b = from_first f seen b.0.1.0 b.1
       lock_leads lock.TheVariants.Load f (Value seen) b = from_load f seen b.0.1.0 b.1
       lock_leads (lock.TheVariants.Decide seen) f reply b = decides seen f.0 f.1 reply b
@@ -164,7 +164,7 @@ module _ (n : ℕ) (base : List Ownership) (st : Stage) where
       lock_leads (lock.TheVariants.Leave false) f Done b = ((refl, (b.0 ∙ f.0, b.1)), refl)
       lock_leads lock.TheVariants.Asleep f (Woken Normal) b = ((refl, (b.0 ∙ f.0, b.1 ∙ f.1)), refl)
       lock_leads lock.TheVariants.Asleep f (Woken HandOff) b = ((refl, has_it f _ (b.2 ∙ ap (λ (o : Owner). stage (owning (mutex_at n) o ∷ st.owns) st.inside st.last) b.1) refl refl), refl)
-      lock_leads lock.TheVariants.Asleep f Late b = ((refl, gives_up e rest f b.0 b.1 b.2), refl)
+      lock_leads lock.TheVariants.Asleep f Late b = ((refl, gives_up e rest f b.0 b.1 b.2 b.3), refl)
       lock_leads lock.TheVariants.Remove f (Removed true) b = ((refl, (f.0, stays rest _ _ b refl refl f.1)), refl)
       lock_leads lock.TheVariants.Remove f (Removed false) b = ((refl, (f.0, stays rest _ _ b refl refl f.1)), refl)
       lock_leads lock.TheVariants.Clear f (Value seen) b = clears f seen b.0.1.0 b.1
@@ -175,22 +175,22 @@ module _ (n : ℕ) (base : List Ownership) (st : Stage) where
       lock_leads at f reply b = absurd b
 
     -- a release behind its subtraction
-    unlock_leads : (at : UnlockAt) → FitsUnlock n base at st → (reply : Reply) → Became kinds.TheVariants.Mutex (mutex_at n) None st (unlock_act n at) reply new → Reached n base (Mutex n (at_mutex.Unlock at)) reply new
+    unlock_leads : (at : UnlockAt) → FitsUnlock n base at st → (reply : Reply) → Became up kinds.TheVariants.Mutex (mutex_at n) None st (unlock_act n at) reply new → Reached up n base (Mutex n (at_mutex.Unlock at)) reply new
     unlock_leads unlock.TheVariants.Subtract f reply b = absurd f
     unlock_leads unlock.TheVariants.Enter f Done b = ((refl, (owns_of _ b ∙ f.0, inside_of _ b)), refl)
     unlock_leads unlock.TheVariants.Take f (Took any true) b = ((refl, (b.0, b.1, (owns_of _ b.2 ∙ f.0, inside_of _ b.2 ∙ ap (took (2 * n) b.0) f.1))), refl)
     unlock_leads unlock.TheVariants.Take f (Took any false) b = ((refl, (b.0, b.1, (owns_of _ b.2 ∙ f.0, inside_of _ b.2 ∙ ap (took (2 * n) b.0) f.1))), refl)
-    unlock_leads (unlock.TheVariants.Clear any) f (Value seen) b = each_code (λ s. new ≡ stepped kinds.TheVariants.Mutex (mutex_at n) (And 18446744073709551613) s st → Reached n base (Mutex n (at_mutex.Unlock (unlock.TheVariants.Clear any))) (Value s) new)
+    unlock_leads (unlock.TheVariants.Clear any) f (Value seen) b = each_code (λ s. new ≡ stepped kinds.TheVariants.Mutex (mutex_at n) (And 18446744073709551613) s st → Reached up n base (Mutex n (at_mutex.Unlock (unlock.TheVariants.Clear any))) (Value s) new)
         (λ x. ((refl, (f.0, f.1, stays base _ _ x refl refl f.2)), refl)) (λ x. ((refl, (f.0, f.1, stays base _ _ x refl refl f.2)), refl)) (λ x. ((refl, (f.0, f.1, stays base _ _ x refl refl f.2)), refl)) (λ x. ((refl, (f.0, f.1, stays base _ _ x refl refl f.2)), refl)) seen b.0.1.0 b.1
     unlock_leads (unlock.TheVariants.Leave any) f Done b = (refl, (b.0 ∙ f.2.0, b.1), subst (λ (i : Option Inside). IsLeft i new.last) f.2.1 b.2)
     unlock_leads at f reply b = absurd b
 
-    leads : (p : Place) → Fits n base p st → (reply : Reply) → Became kinds.TheVariants.Mutex (mutex_at n) (late_key p) st (act_of p) reply new → Reached n base p reply new
-    leads (Mutex l (at_mutex.Lock e retries at)) f = subst (λ l. (reply : Reply) → Became kinds.TheVariants.Mutex (mutex_at n) (late_key (Mutex l (at_mutex.Lock e retries at))) st (lock_act l at) reply new → Reached n base (Mutex l (at_mutex.Lock e retries at)) reply new) (sym f.0) (lock_leads e retries at f.1)
-    leads (Mutex l (at_mutex.Unlock at)) f = subst (λ l. (reply : Reply) → Became kinds.TheVariants.Mutex (mutex_at n) None st (unlock_act l at) reply new → Reached n base (Mutex l (at_mutex.Unlock at)) reply new) (sym f.0) (unlock_leads at f.1)
-    leads (Mutex l (at_mutex.HandOff bumps at)) f = subst (λ l. (reply : Reply) → Became kinds.TheVariants.Mutex (mutex_at n) None st (hand_off_act l at) reply new → Reached n base (Mutex l (at_mutex.HandOff bumps at)) reply new) (sym f.0) (hand_off_leads n base st new bumps at f.1)
+    leads : (p : Place) → Fits up n base p st → (reply : Reply) → Became up kinds.TheVariants.Mutex (mutex_at n) (late_key p) st (act_of p) reply new → Reached up n base p reply new
+    leads (Mutex l (at_mutex.Lock e retries at)) f = subst (λ l. (reply : Reply) → Became up kinds.TheVariants.Mutex (mutex_at n) (late_key (Mutex l (at_mutex.Lock e retries at))) st (lock_act l at) reply new → Reached up n base (Mutex l (at_mutex.Lock e retries at)) reply new) (sym f.0) (lock_leads e retries at f.1)
+    leads (Mutex l (at_mutex.Unlock at)) f = subst (λ l. (reply : Reply) → Became up kinds.TheVariants.Mutex (mutex_at n) None st (unlock_act l at) reply new → Reached up n base (Mutex l (at_mutex.Unlock at)) reply new) (sym f.0) (unlock_leads at f.1)
+    leads (Mutex l (at_mutex.HandOff bumps at)) f = subst (λ l. (reply : Reply) → Became up kinds.TheVariants.Mutex (mutex_at n) None st (hand_off_act l at) reply new → Reached up n base (Mutex l (at_mutex.HandOff bumps at)) reply new) (sym f.0) (hand_off_leads n base st up new bumps at f.1)
     leads (Mutex l at) f = absurd f.1
     leads Idle f = absurd f
 
-pub mutex_leads : MutexLeads
-mutex_leads n base p st f = (needs n base st p f, λ reply new. leads n base st new p f reply)
+pub mutex_leads : (up : Type 0) → MutexLeads up
+mutex_leads up n base p st f = (needs up n base st p f, λ reply new. leads up n base st new p f reply)

@@ -85,20 +85,6 @@ HasTook n any owns st = (first : Option ℕ) × (any ≡ is_there first) × Took
 abbrev pub TookAt : ℕ → Option SectionRecord → Type 0
 TookAt n last = (number : ℕ) × (last ≡ Some (record { key = 2 * n; did = TakeFirst (2 * n); number = number }))
 
--- a thread that enters, beside what it owns
-abbrev pub FitsLock : ℕ → Entry → List Ownership → LockAt → Stage → Type 0
-FitsLock n e owns lock.TheVariants.First st = Outside owns st
-FitsLock n e owns lock.TheVariants.Load st = Outside owns st
-FitsLock n e owns (lock.TheVariants.Decide seen) st = (seen < 4) × Outside owns st
-FitsLock n e owns lock.TheVariants.Check st = Within n owns st
-FitsLock n e owns (lock.TheVariants.Leave parked) st = Within n owns st
-FitsLock n e owns lock.TheVariants.Asleep st = Outside owns st
-FitsLock n e owns lock.TheVariants.Accept st = Outside (held n ∷ owns) st
-FitsLock n e owns lock.TheVariants.Remove st = (is_timed e ≡ true) × Within n owns st
-FitsLock n e owns lock.TheVariants.Clear st = (is_timed e ≡ true) × Within n owns st
-FitsLock n e owns lock.TheVariants.GiveUp st = (is_timed e ≡ true) × Within n owns st
-FitsLock n e owns _ st = ⊥
-
 -- a release, behind its subtraction
 abbrev pub FitsUnlock : ℕ → List Ownership → UnlockAt → Stage → Type 0
 FitsUnlock n base unlock.TheVariants.Subtract st = ⊥
@@ -114,32 +100,52 @@ FitsHandOff n base hand_off.TheVariants.Take st = (has (held n) base ≡ true) �
 FitsHandOff n base (hand_off.TheVariants.Store any none_left) st = (has (held n) base ≡ true) × HasTook n any base st
 FitsHandOff n base (hand_off.TheVariants.Leave any) st = (first : Option ℕ) × (any ≡ is_there first) × Took n first [] (without (held n) base) st
 
-abbrev pub FitsAt : ℕ → List Ownership → MutexPlace → Stage → Type 0
-FitsAt n base (Lock e retries at) st = FitsLock n e (beside n e base) at st
-FitsAt n base (Unlock at) st = FitsUnlock n base at st
-FitsAt n base (HandOff bumps at) st = FitsHandOff n base at st
-FitsAt n base _ st = ⊥
+-- `up` says that the time of the call is up
+module _ (up : Type 0) where
+  -- who gives up is in a timed call
+  abbrev pub GaveUp : Entry → Type 0
+  GaveUp e = (is_timed e ≡ true) × up
 
--- what a thread has at a place, which owned so much as it began to run. The first step of a release or a bump is taken before
-abbrev pub Fits : ℕ → List Ownership → Place → Stage → Type 0
-Fits n base Idle st = ⊥
-Fits n base (Mutex l at) st = (l ≡ n) × FitsAt n base at st
+  -- a thread that enters, beside what it owns
+  abbrev pub FitsLock : ℕ → Entry → List Ownership → LockAt → Stage → Type 0
+  FitsLock n e owns lock.TheVariants.First st = Outside owns st
+  FitsLock n e owns lock.TheVariants.Load st = Outside owns st
+  FitsLock n e owns (lock.TheVariants.Decide seen) st = (seen < 4) × Outside owns st
+  FitsLock n e owns lock.TheVariants.Check st = Within n owns st
+  FitsLock n e owns (lock.TheVariants.Leave parked) st = Within n owns st
+  FitsLock n e owns lock.TheVariants.Asleep st = Outside owns st
+  FitsLock n e owns lock.TheVariants.Accept st = Outside (held n ∷ owns) st
+  FitsLock n e owns lock.TheVariants.Remove st = GaveUp e × Within n owns st
+  FitsLock n e owns lock.TheVariants.Clear st = GaveUp e × Within n owns st
+  FitsLock n e owns lock.TheVariants.GiveUp st = GaveUp e × Within n owns st
+  FitsLock n e owns _ st = ⊥
 
--- what an answer says at the end of a call
-abbrev pub IsOver : ℕ → List Ownership → Purpose → Answer → Stage → Type 0
-IsOver n base (enters e) answer st = ((answer ≡ entered e) × Outside (held n ∷ beside n e base) st) ⊎ ((answer ≡ answers.TheVariants.No) × (is_timed e ≡ true) × Outside (beside n e base) st)
-IsOver n base releases answer st = (answer ≡ answers.TheVariants.Ok) × Outside base st × TookAt n st.last
-IsOver n base hands_over answer st = (answer ≡ answers.TheVariants.Ok) × Outside (without (held n) base) st × TookAt n st.last
+  abbrev pub FitsAt : ℕ → List Ownership → MutexPlace → Stage → Type 0
+  FitsAt n base (Lock e retries at) st = FitsLock n e (beside n e base) at st
+  FitsAt n base (Unlock at) st = FitsUnlock n base at st
+  FitsAt n base (HandOff bumps at) st = FitsHandOff n base at st
+  FitsAt n base _ st = ⊥
 
-abbrev pub ReachedBy : ℕ → List Ownership → Purpose → Place → Option Answer → Stage → Type 0
-ReachedBy n base purpose p None st = Fits n base p st × (purpose_of p ≡ purpose)
-ReachedBy n base purpose p (Some answer) st = IsOver n base purpose answer st
+  -- what a thread has at a place, which owned so much as it began to run. The first step of a release or a bump is taken before
+  abbrev pub Fits : ℕ → List Ownership → Place → Stage → Type 0
+  Fits n base Idle st = ⊥
+  Fits n base (Mutex l at) st = (l ≡ n) × FitsAt n base at st
 
--- where a reply leads
-abbrev pub Reached : ℕ → List Ownership → Place → Reply → Stage → Type 0
-Reached n base p reply st = ReachedBy n base (purpose_of p) (next_place p reply) (answer_of (next_act p reply)) st
+  -- what an answer says at the end of a call
+  abbrev pub IsOver : ℕ → List Ownership → Purpose → Answer → Stage → Type 0
+  IsOver n base (enters e) answer st = ((answer ≡ entered e) × Outside (held n ∷ beside n e base) st) ⊎ ((answer ≡ answers.TheVariants.No) × GaveUp e × Outside (beside n e base) st)
+  IsOver n base releases answer st = (answer ≡ answers.TheVariants.Ok) × Outside base st × TookAt n st.last
+  IsOver n base hands_over answer st = (answer ≡ answers.TheVariants.Ok) × Outside (without (held n) base) st × TookAt n st.last
 
--- each place's act is one that the thread may take, and each reply leads to a place that fits
-abbrev pub MutexLeads : Type 0
-MutexLeads = (n : ℕ) (base : List Ownership) (p : Place) (st : Stage) → Fits n base p st → Needs kinds.TheVariants.Mutex (mutex_at n) st (act_of p)
-    × ((reply : Reply) (new : Stage) → Became kinds.TheVariants.Mutex (mutex_at n) (late_key p) st (act_of p) reply new → Reached n base p reply new)
+  abbrev pub ReachedBy : ℕ → List Ownership → Purpose → Place → Option Answer → Stage → Type 0
+  ReachedBy n base purpose p None st = Fits n base p st × (purpose_of p ≡ purpose)
+  ReachedBy n base purpose p (Some answer) st = IsOver n base purpose answer st
+
+  -- where a reply leads
+  abbrev pub Reached : ℕ → List Ownership → Place → Reply → Stage → Type 0
+  Reached n base p reply st = ReachedBy n base (purpose_of p) (next_place p reply) (answer_of (next_act p reply)) st
+
+  -- each place's act is one that the thread may take, and each reply leads to a place that fits
+  abbrev pub MutexLeads : Type 0
+  MutexLeads = (n : ℕ) (base : List Ownership) (p : Place) (st : Stage) → Fits n base p st → Needs kinds.TheVariants.Mutex (mutex_at n) st (act_of p)
+      × ((reply : Reply) (new : Stage) → Became up kinds.TheVariants.Mutex (mutex_at n) (late_key p) st (act_of p) reply new → Reached n base p reply new)

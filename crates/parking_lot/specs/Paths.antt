@@ -27,7 +27,9 @@ step at op seen = record { at = at; op = op; seen = seen } ∷ []
 -- acts that touch no word
 abbrev pub is_wordless : Act → Bool
 is_wordless (act.TheVariants.Enter keys) = true
-is_wordless (act.TheVariants.TakeFirst key) = true
+is_wordless (act.TheVariants.Stand key want) = true
+is_wordless (act.TheVariants.Take key whom) = true
+is_wordless (act.TheVariants.Requeue from to how) = true
 is_wordless (act.TheVariants.Remove key) = true
 is_wordless (act.TheVariants.Leave keys wakes) = true
 is_wordless act.TheVariants.Sleep = true

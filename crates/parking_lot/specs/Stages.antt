@@ -23,6 +23,7 @@ use Rattle.lot_steps.specs.declared.acts.Reply.{Reply}
 use Rattle.lot_steps.specs.declared.acts.Reply.TheVariants.{Done, Value, Parked, Took, Removed, Late, Woken}
 use Rattle.lot_steps.specs.declared.acts.Wakes.{Wakes}
 use Rattle.lot_steps.specs.declared.acts.Wakes as wakes
+use Rattle.lot_steps.specs.declared.acts.Whom as whom
 use Rattle.parking_lot_core.specs.Keys.{AreKeys, IsKeyOf, first_key}
 use Rattle.parking_lot_core.specs.Sections.{waiting_in, taken_in, rightless_in, MayNote}
 use Rattle.parking_lot_core.specs.Tokens.{view_of, last_of}
@@ -122,7 +123,7 @@ Needs kind at st (act.TheVariants.Word lock op) = MayStep kind at op st.owns
 Needs kind at st (act.TheVariants.HandOver lock op) = MayStep kind at op st.owns × KeepsIt kind at op st.owns × HasOneTaken st.inside
 Needs kind at st (act.TheVariants.Enter keys) = AreKeys keys × (st.inside ≡ None)
 Needs kind at st (act.TheVariants.Park lock key check _) = MayStep kind at Load st.owns × HasKey key st.inside
-Needs kind at st (act.TheVariants.TakeFirst key) = HasKey key st.inside × IsFresh st.inside
+Needs kind at st (act.TheVariants.Take key whom.TheVariants.First) = HasKey key st.inside × IsFresh st.inside
 Needs kind at st (act.TheVariants.Remove key) = HasKey key st.inside
 Needs kind at st (act.TheVariants.Leave keys wakes) = MayLeave (note_of wakes) st.inside
 Needs kind at st act.TheVariants.Sleep = st.inside ≡ None
@@ -142,20 +143,20 @@ abbrev pub IsLeft : Option Inside → Option SectionRecord → Type 0
 IsLeft None last = ⊥
 IsLeft (Some inside) last = (number : ℕ) × (last ≡ Some (record { key = first_key inside.keys; did = inside.did; number = number }))
 
--- what an act made of the stage, by its reply. A sleeper may be late under one key only, if any
-abbrev pub Became : WordKind → ℕ → Option ℕ → Stage → Act → Reply → Stage → Type 0
-Became kind at late st (act.TheVariants.Word lock op) (Value seen) new = CodesWith kind at seen st.owns × (new ≡ stepped kind at op seen st)
-Became kind at late st (act.TheVariants.HandOver lock op) (Value seen) new = CodesWith kind at seen st.owns × (new ≡ handed kind at op seen st)
-Became kind at late st (act.TheVariants.Enter keys) Done new = new ≡ stage st.owns (entered_now keys) st.last
-Became kind at late st (act.TheVariants.Park lock key check _) (Parked parked) new = (seen : ℕ) × (parked ≡ holds check seen) × CodesWith kind at seen st.owns × (new ≡ stepped kind at Load seen st)
-Became kind at late st (act.TheVariants.TakeFirst key) (Took any none_left) new = (first : Option ℕ) × (any ≡ is_there first) × (new ≡ stage st.owns (took key first st.inside) st.last)
-Became kind at late st (act.TheVariants.Remove key) (Removed none_left) new = new ≡ st
-Became kind at late st (act.TheVariants.Leave keys wakes) Done new = (new.owns ≡ st.owns) × (new.inside ≡ None) × IsLeft st.inside new.last
-Became kind at late st act.TheVariants.Sleep (Woken Normal) new = (new.owns ≡ st.owns) × (new.inside ≡ st.inside)
-Became kind at late st act.TheVariants.Sleep (Woken HandOff) new = (owner : Owner) × MayHand kind wants.TheVariants.Exclusive owner × (new ≡ stage (owning at owner ∷ st.owns) st.inside st.last)
-Became kind at late st act.TheVariants.Sleep Late new = (key : ℕ) × (late ≡ Some key) × (new ≡ stage st.owns (entered_now (One key)) st.last)
-Became kind at late st act.TheVariants.Accept Done new = new ≡ st
-Became kind at late st _ _ new = ⊥
+-- what an act made of the stage, by its reply. A sleeper may be late under one key only, if any, and once its time is up
+abbrev pub Became : Type 0 → WordKind → ℕ → Option ℕ → Stage → Act → Reply → Stage → Type 0
+Became up kind at late st (act.TheVariants.Word lock op) (Value seen) new = CodesWith kind at seen st.owns × (new ≡ stepped kind at op seen st)
+Became up kind at late st (act.TheVariants.HandOver lock op) (Value seen) new = CodesWith kind at seen st.owns × (new ≡ handed kind at op seen st)
+Became up kind at late st (act.TheVariants.Enter keys) Done new = new ≡ stage st.owns (entered_now keys) st.last
+Became up kind at late st (act.TheVariants.Park lock key check _) (Parked parked) new = (seen : ℕ) × (parked ≡ holds check seen) × CodesWith kind at seen st.owns × (new ≡ stepped kind at Load seen st)
+Became up kind at late st (act.TheVariants.Take key whom.TheVariants.First) (Took any none_left) new = (first : Option ℕ) × (any ≡ is_there first) × (new ≡ stage st.owns (took key first st.inside) st.last)
+Became up kind at late st (act.TheVariants.Remove key) (Removed none_left) new = new ≡ st
+Became up kind at late st (act.TheVariants.Leave keys wakes) Done new = (new.owns ≡ st.owns) × (new.inside ≡ None) × IsLeft st.inside new.last
+Became up kind at late st act.TheVariants.Sleep (Woken Normal) new = (new.owns ≡ st.owns) × (new.inside ≡ st.inside)
+Became up kind at late st act.TheVariants.Sleep (Woken HandOff) new = (owner : Owner) × MayHand kind wants.TheVariants.Exclusive owner × (new ≡ stage (owning at owner ∷ st.owns) st.inside st.last)
+Became up kind at late st act.TheVariants.Sleep Late new = (key : ℕ) × (late ≡ Some key) × up × (new ≡ stage st.owns (entered_now (One key)) st.last)
+Became up kind at late st act.TheVariants.Accept Done new = new ≡ st
+Became up kind at late st _ _ new = ⊥
 
 -- the steps on words that an act adds
 abbrev pub Adds : ℕ → Act → Reply → List WordStep → List WordStep → Type 0

@@ -1,5 +1,6 @@
 //! What a thread does in one act of any call, whatever the lock is.
 ghost use Rattle.std.specs.Prelude.{◌≡◌, ◌++◌, ◌∷◌, ◌==◌, ℕ, [], true, None, length, MatchBool};
+ghost use Rattle.lot_base.specs.Clocks.{IsUp};
 ghost use Rattle.lot_base.specs.Lines.{waiter, line, lines, without, without_first, first_of};
 ghost use Rattle.lot_base.specs.declared.notes.Note.TheVariants.{HandOff};
 ghost use Rattle.lot_base.specs.declared.ops.Op.TheVariants.{Load};
@@ -13,7 +14,7 @@ ghost use Rattle.parking_lot_core.specs.Keys.{AreKeys};
 ghost use Rattle.parking_lot_core.specs.Tokens.{IsTokenOf, Stays, view_of, last_of};
 ghost use Rattle.parking_lot.specs.Stages.{Adds, HasKey, HasOneTaken, IsFresh, MayLeave, KeepsIt, IsIn, IsLeft, took, handed, note_of, inside_of, stage_of, waiting_of, entered_now, Needs, Became};
 
-use lot_steps::{Act, Check, Reply, Wakes};
+use lot_steps::{Act, Check, Reply, Wakes, Whom};
 use parking_lot_core::{Clock, Key, Keys, Note, Op, ParkingLot, Section, Slept, Token, Want, Word};
 use std::sync::Wait;
 
@@ -169,7 +170,7 @@ fn sleep<'a, R: Wait, C: Clock>(
 ) -> Reply
     requires own { IsTokenOf lot.now token.old × IsWordOf lot.now.words word × (inside_of section.old ≡ None) }
     ensures own { Stays lot.now token.old token.new × IsIn lot.now section.new × ((view_of token.new).steps ≡ (view_of token.old).steps) }
-    ensures became { Became word.kind (word_index word.number word.kind) late (stage_of token.old section.old) acts.Sleep result (stage_of token.new section.new) }
+    ensures became { Became (IsUp C.tells limit.entry) word.kind (word_index word.number word.kind) late (stage_of token.old section.old) acts.Sleep result (stage_of token.new section.new) }
 {
     match lot.sleep(rt, token, word, Want::Exclusive, late.and(limit)) {
         Slept::Woken => Reply::Woken(Note::Normal),
@@ -206,7 +207,7 @@ pub(crate) fn perform<'a, R: Wait, C: Clock>(
     requires own { IsTokenOf lot.now token.old × IsWordOf lot.now.words word × IsIn lot.now section.old }
     requires needs { Needs word.kind (word_index word.number word.kind) (stage_of token.old section.old) act }
     ensures own { Stays lot.now token.old token.new × IsIn lot.now section.new }
-    ensures became { Became word.kind (word_index word.number word.kind) late (stage_of token.old section.old) act result (stage_of token.new section.new) }
+    ensures became { Became (IsUp C.tells limit.entry) word.kind (word_index word.number word.kind) late (stage_of token.old section.old) act result (stage_of token.new section.new) }
     ensures adds { Adds (word_index word.number word.kind) act result (view_of token.old).steps (view_of token.new).steps }
 {
     match act {
@@ -222,7 +223,10 @@ pub(crate) fn perform<'a, R: Wait, C: Clock>(
             want,
             ..
         } => Reply::Parked(park(lot, token, word, section, key, check, want)),
-        Act::TakeFirst(key) => {
+        Act::Take {
+            key,
+            whom: Whom::First,
+        } => {
             let (first, none_left) = take_first(lot, section, key);
             Reply::Took {
                 any: first.is_some(),

@@ -1,5 +1,6 @@
 //! One driver for all calls: it does the act of a place on the real lot, and `advance` leads on.
 ghost use Rattle.std.specs.Prelude.{◌≡◌, ◌++◌, ℕ, List, None};
+ghost use Rattle.lot_base.specs.Clocks.{IsUp};
 ghost use Rattle.lot_base.specs.declared.ops.Op.TheVariants.{Load};
 ghost use Rattle.lot_steps.specs.Steps.{next_place};
 ghost use Rattle.lot_steps.specs.declared.acts.Reply.TheVariants.{Value};
@@ -95,8 +96,8 @@ fn spin(lot: &ParkingLot, token: &mut Token, word: Word, loads: u32) -> u64
 }
 
 /// The calls of a mutex keep what fits at their places.
-pub(crate) fn mutex_leads()
-    ensures { MutexLeads }
+pub(crate) fn mutex_leads<C: Clock>(_limit: Option<(&C, u64)>)
+    ensures { MutexLeads (IsUp C.tells _limit.entry) }
 {}
 
 // One turn of a call: the act of its place, or a load in place of it. Whatever fitted there leads on to what fits.
@@ -111,10 +112,11 @@ fn turn<'a, R: Wait, C: Clock>(
     loads: &mut u32,
 ) -> Reply
     requires own { MeetAt lot.now token.old word × IsIn lot.now section.old }
-    requires fits { (base : List Ownership) × Fits word.number base place (stage_of token.old section.old) }
+    requires fits { (base : List Ownership) × Fits (IsUp C.tells limit) word.number base place (stage_of token.old section.old) }
     ensures own { Stays lot.now token.old token.new × IsIn lot.now section.new }
     ensures told { (then : List WordStep) × ((view_of token.new).steps ≡ (view_of token.old).steps ++ then) × Tells (mutex_at word.number) place then result }
-    ensures reached { (base : List Ownership) → Fits word.number base place (stage_of token.old section.old) → Reached word.number base place result (stage_of token.new section.new) }
+    ensures reached { (base : List Ownership) → Fits (IsUp C.tells limit.entry) word.number base place (stage_of token.old section.old)
+        → Reached (IsUp C.tells limit.entry) word.number base place result (stage_of token.new section.new) }
 {
     if let Some(_) = place.spin_lock() {
         if *loads < MOST_LOADS {
@@ -147,10 +149,10 @@ pub(crate) fn run<R: Wait, C: Clock>(
     start: Place,
 ) -> Answer
     requires own { MeetAt lot.now token.old word }
-    requires start { Fits word.number (view_of token.old).owns start (stage_of token.old None) }
+    requires start { Fits (IsUp C.tells limit) word.number (view_of token.old).owns start (stage_of token.old None) }
     ensures own { Stays lot.now token.old token.new }
     ensures path { Walks (mutex_at word.number) start (view_of token.old).steps (view_of token.new).steps result }
-    ensures over { IsOver word.number (view_of token.old).owns (purpose_of start) result (stage_of token.new None) }
+    ensures over { IsOver (IsUp C.tells limit.entry) word.number (view_of token.old).owns (purpose_of start) result (stage_of token.new None) }
 {
     let mut place = start;
     let mut section = None;
@@ -195,7 +197,7 @@ pub(crate) fn behind<R: Wait, C: Clock>(
     ensures own { Stays lot.now token.old token.new }
     ensures path { (before : List WordStep) → (view_of token.old).steps ≡ before ++ step (mutex_at word.number) (first_op call) seen → Walks (mutex_at word.number) (beginning word.number call) before (view_of token.new).steps result }
     ensures rest { (more : List WordStep) × ((view_of token.new).steps ≡ (view_of token.old).steps ++ more) }
-    ensures over { IsOver word.number (view_of token.old).owns (purpose_in call) result (stage_of token.new None) }
+    ensures over { IsOver (IsUp C.tells limit.entry) word.number (view_of token.old).owns (purpose_in call) result (stage_of token.new None) }
 {
     run(rt, lot, token, word, limit, place_behind(word, call, seen))
 }

@@ -1,6 +1,7 @@
 //! The mutex, without a value.
-ghost use Rattle.std.specs.Prelude.{◌≡◌, ◌<◌, ◌*◌, ◌⊎◌, ◌++◌, [], ◌∷◌, List, None, true, IfSome, MatchResult};
+ghost use Rattle.std.specs.Prelude.{◌≡◌, ◌<◌, ◌*◌, ◌⊎◌, ◌++◌, [], ◌∷◌, List, None, true, IfNone, IfSome, MatchResult};
 ghost use Rattle.std.specs.Arc.{arc_value};
+ghost use Rattle.lot_base.specs.Clocks.{IsUp};
 ghost use Rattle.lock_raw.specs.Answers.{answer_by};
 ghost use Rattle.lot_calls.specs.declared.calls.MutexCall.TheVariants.{LockTimed};
 ghost use Rattle.lot_words.specs.Draws.{IsDrawn, IsDrawRefused};
@@ -95,7 +96,7 @@ impl RawMutex {
         ensures path { (before : List WordStep) → (view_of token.old).steps ≡ before ++ seen_step (mutex_at (word_of self.now).number) (first_op call) seen
             → Walks (mutex_at (word_of self.now).number) (beginning (word_of self.now).number call) before (view_of token.new).steps result }
         ensures rest { (more : List WordStep) × ((view_of token.new).steps ≡ (view_of token.old).steps ++ more) }
-        ensures over { IsOver (word_of self.now).number (view_of token.old).owns (purpose_in call) result (stage_of token.new None) }
+        ensures over { IsOver ⊥ (word_of self.now).number (view_of token.old).owns (purpose_in call) result (stage_of token.new None) }
     {
         behind(rt, &self.lot, token, self.word, NO_LIMIT, call, seen)
     }
@@ -111,6 +112,7 @@ impl RawMutex {
         ensures token { IsTokenOf (lot_of self.now) token.new × StaysAs token.old token.new }
         ensures guard { IfSome result (IsGuardOf (lot_of self.now) (word_of self.now)) }
         ensures path { Walks (mutex_at (word_of self.now).number) (beginning (word_of self.now).number LockTimed) (view_of token.old).steps (view_of token.new).steps (answer_by result) }
+        ensures late { IfNone result (IsUp C.tells limit.entry) }
     {
         let lot: &ParkingLot = &self.lot;
         let seen = step(lot, token, self.word, ENTER);

@@ -1,5 +1,6 @@
 //! Sleep, until somebody wakes the thread or its time is up.
-ghost use Rattle.std.specs.Prelude.{◌≡◌, ℕ, ◌<◌, ◌≤◌, IfSome, MatchOption, None};
+ghost use Rattle.std.specs.Prelude.{◌≡◌, ◌<◌, IfSome, None};
+ghost use Rattle.lot_base.specs.Clocks.{IsUp};
 
 use crate::lot::ParkingLot;
 use crate::sections::Section;
@@ -76,7 +77,7 @@ impl ParkingLot {
         ensures same { token.new ≡ token.old }
         ensures slept { IsSlept self.now token.old.number word want result }
         ensures unlimited { limit.entry ≡ None → IsWoken self.now word want result }
-        ensures late { WasLate result → (time : ℕ) × MatchOption limit.entry ⊥ (λ limit. C.tells limit.0.now time × (limit.1 ≤ time)) }
+        ensures late { WasLate result → IsUp C.tells limit.entry }
     {
         let mut limit = limit;
         for _ in rt.forever() {

@@ -9,7 +9,7 @@
 ghost use Rattle.std.specs.Prelude.{◌≡◌, ◌<◌, ◌^◌};
 ghost use Rattle.lot_steps.specs.MutexSteps.{next_hand_off, looked, hand_off_word, hand_off_store, hand_off_act};
 
-use crate::acts::{Act, Next, Reply, Wakes};
+use crate::acts::{Act, Next, Reply, Wakes, Whom};
 use crate::mutex::{LOCKED, MutexPlace, PARKED};
 use lot_base::{Keys, Note, Op, main_key};
 use lot_calls::Answer;
@@ -84,7 +84,10 @@ pub(super) fn hand_off_act(lock: usize, at: HandOffAt) -> Act
 {
     match at {
         HandOffAt::Enter => Act::Enter(Keys::One(main_key(lock))),
-        HandOffAt::Take => Act::TakeFirst(main_key(lock)),
+        HandOffAt::Take => Act::Take {
+            key: main_key(lock),
+            whom: Whom::First,
+        },
         HandOffAt::Store { any, none_left } => hand_off_store(lock, any, none_left),
         HandOffAt::Leave { any } => Act::Leave {
             keys: Keys::One(main_key(lock)),

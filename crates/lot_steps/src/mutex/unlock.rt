@@ -10,7 +10,7 @@
 ghost use Rattle.std.specs.Prelude.{◌≡◌, ◌<◌, ◌^◌};
 ghost use Rattle.lot_steps.specs.MutexSteps.{next_unlock, unlock_act};
 
-use crate::acts::{Act, Next, Reply, Wakes};
+use crate::acts::{Act, Next, Reply, Wakes, Whom};
 use crate::mutex::{LOCKED, NOT_PARKED, is_parked};
 use lot_base::{Keys, Note, Op, main_key};
 use lot_calls::Answer;
@@ -60,7 +60,10 @@ pub(super) fn unlock_act(lock: usize, at: UnlockAt) -> Act
             op: Op::Sub(LOCKED),
         },
         UnlockAt::Enter => Act::Enter(Keys::One(main_key(lock))),
-        UnlockAt::Take => Act::TakeFirst(main_key(lock)),
+        UnlockAt::Take => Act::Take {
+            key: main_key(lock),
+            whom: Whom::First,
+        },
         UnlockAt::Clear { .. } => Act::Word {
             lock,
             op: Op::And(NOT_PARKED),

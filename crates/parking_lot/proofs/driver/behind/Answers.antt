@@ -1,4 +1,5 @@
 use Rattle.std.proofs.Common.{None, sym, subst}
+use Rattle.lot_base.specs.Clocks.{IsUp}
 use Rattle.lot_steps.specs.declared.places.Place.{Place}
 use Rattle.parking_lot_core.specs.Tokens.{view_of, last_of}
 use Rattle.parking_lot.specs.Fitting.{Fits, IsOver, purpose_of}
@@ -9,7 +10,7 @@ use Rattle.parking_lot.proofs.driver.behind.Goals as goal
 
 pub run-requires-clause-start : goal.run-requires-clause-start
 run-requires-clause-start g c = let v = view_of c.args.token.now in
-    subst (λ (p : Place). Fits c.args.word.number (view_of c.args.token.now).owns p (stage_of c.args.token.now None)) (sym c.place_behind.ensures) (fits_behind c.args.word.number c.args.call c.args.seen v.owns (last_of c.args.token.now) c.requires.goes_on)
+    subst (λ (p : Place). Fits (IsUp g.C.Clock.tells c.args.limit) c.args.word.number (view_of c.args.token.now).owns p (stage_of c.args.token.now None)) (sym c.place_behind.ensures) (fits_behind c.args.word.number (IsUp g.C.Clock.tells c.args.limit) c.args.call c.args.seen v.owns (last_of c.args.token.now) c.requires.goes_on)
 
 pub returns-clause-path : goal.returns-clause-path
 returns-clause-path g c = λ before saw. let n = c.args.word.number in
@@ -18,5 +19,5 @@ returns-clause-path g c = λ before saw. let n = c.args.word.number in
 
 pub returns-clause-over : goal.returns-clause-over
 returns-clause-over g c = let n = c.args.word.number in
-    over_behind n c.args.call c.args.seen (view_of c.args.token.now).owns c.run.result (stage_of c.run.new.token None) c.requires.goes_on
-    (subst (λ (p : Place). IsOver c.args.word.number (view_of c.args.token.now).owns (purpose_of p) c.run.result (stage_of c.run.new.token None)) c.place_behind.ensures c.run.ensures.over)
+    over_behind n (IsUp g.C.Clock.tells c.args.limit) c.args.call c.args.seen (view_of c.args.token.now).owns c.run.result (stage_of c.run.new.token None) c.requires.goes_on
+    (subst (λ (p : Place). IsOver (IsUp g.C.Clock.tells c.args.limit) c.args.word.number (view_of c.args.token.now).owns (purpose_of p) c.run.result (stage_of c.run.new.token None)) c.place_behind.ensures c.run.ensures.over)

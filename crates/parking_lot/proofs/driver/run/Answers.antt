@@ -1,4 +1,5 @@
 use Rattle.std.proofs.Common.{◌≡◌, ◌∙◌, None, Some, Option, sym, refl, ap, subst, rules}
+use Rattle.lot_base.specs.Clocks.{IsUp}
 use Rattle.lot_calls.specs.declared.outcomes.Answer.{Answer}
 use Rattle.lot_steps.specs.Steps.{next_place, next_act}
 use Rattle.lot_steps.specs.declared.places.Place.{Place}
@@ -17,13 +18,13 @@ pub loop-preserved : goal.loop-preserved
 loop-preserved g c = let n = c.args.word.number in let base = (view_of c.args.token.now).owns in let p = c.loop.place in let t = c.turn-reply in let reply = t.result in let new = t.new.token in
     let before = c.loop.invariant in let next = c.advance-next.ensures.place in
     let none : answer_of (next_act c.loop.place c.turn-reply.result) ≡ None = search rules in
-    let reached = subst (λ (o : Option Answer). ReachedBy c.args.word.number (view_of c.args.token.now).owns (purpose_of c.loop.place) (next_place c.loop.place c.turn-reply.result) o (stage_of c.turn-reply.new.token c.turn-reply.new.section)) none (t.ensures.reached base before.5) in (
+    let reached = subst (λ (o : Option Answer). ReachedBy (IsUp g.C.Clock.tells c.args.limit) c.args.word.number (view_of c.args.token.now).owns (purpose_of c.loop.place) (next_place c.loop.place c.turn-reply.result) o (stage_of c.turn-reply.new.token c.turn-reply.new.section)) none (t.ensures.reached base before.5) in (
       tt,
       tt,
       (t.ensures.own.0.0, t.ensures.own.0.1 ∙ before.2.1),
       t.ensures.own.1,
       comes_on (mutex_at n) c.args.start p c.advance-next.result.0 (view_of c.args.token.now).steps (view_of c.loop.token).steps (view_of new).steps reply t.ensures.told.0 before.4 t.ensures.told.1 t.ensures.told.2 next,
-      subst (λ (q : Place). Fits c.args.word.number (view_of c.args.token.now).owns q (stage_of c.turn-reply.new.token c.turn-reply.new.section)) (sym next) reached.0,
+      subst (λ (q : Place). Fits (IsUp g.C.Clock.tells c.args.limit) c.args.word.number (view_of c.args.token.now).owns q (stage_of c.turn-reply.new.token c.turn-reply.new.section)) (sym next) reached.0,
       ap purpose_of next ∙ reached.1 ∙ before.6,
     )
 
@@ -35,11 +36,11 @@ returns-in-Some-answer_of-clause-path g c = let n = c.args.word.number in let p 
 pub returns-in-Some-answer_of-clause-over : goal.returns-in-Some-answer_of-clause-over
 returns-in-Some-answer_of-clause-over g c = let n = c.args.word.number in let base = (view_of c.args.token.now).owns in let p = c.loop.place in let t = c.turn-reply in let new = t.new.token in let before = c.loop.invariant in let answer = c.in-Some-answer_of.answer in
     let is : answer_of (next_act c.loop.place c.turn-reply.result) ≡ Some c.in-Some-answer_of.answer = search rules in
-    let over = subst (λ (o : Option Answer). ReachedBy c.args.word.number (view_of c.args.token.now).owns (purpose_of c.loop.place) (next_place c.loop.place c.turn-reply.result) o (stage_of c.turn-reply.new.token c.turn-reply.new.section)) is (t.ensures.reached base before.5) in
-    subst (λ (purpose : Purpose). IsOver c.args.word.number (view_of c.args.token.now).owns purpose c.in-Some-answer_of.answer (stage_of c.turn-reply.new.token None)) before.6 (ended n base (view_of new).owns (purpose_of p) answer (inside_of t.new.section) (last_of new) over)
+    let over = subst (λ (o : Option Answer). ReachedBy (IsUp g.C.Clock.tells c.args.limit) c.args.word.number (view_of c.args.token.now).owns (purpose_of c.loop.place) (next_place c.loop.place c.turn-reply.result) o (stage_of c.turn-reply.new.token c.turn-reply.new.section)) is (t.ensures.reached base before.5) in
+    subst (λ (purpose : Purpose). IsOver (IsUp g.C.Clock.tells c.args.limit) c.args.word.number (view_of c.args.token.now).owns purpose c.in-Some-answer_of.answer (stage_of c.turn-reply.new.token None)) before.6 (ended (IsUp g.C.Clock.tells c.args.limit) n base (view_of new).owns (purpose_of p) answer (inside_of t.new.section) (last_of new) over)
 
 pub end-requires : goal.end-requires
 end-requires g c = let n = c.args.word.number in let base = (view_of c.args.token.now).owns in let p = c.loop.place in let t = c.turn-reply in let new = t.new.token in let answer = c.in-Some-answer_of.answer in
     let is : answer_of (next_act c.loop.place c.turn-reply.result) ≡ Some c.in-Some-answer_of.answer = search rules in
-    let over = subst (λ (o : Option Answer). ReachedBy c.args.word.number (view_of c.args.token.now).owns (purpose_of c.loop.place) (next_place c.loop.place c.turn-reply.result) o (stage_of c.turn-reply.new.token c.turn-reply.new.section)) is (t.ensures.reached base c.loop.invariant.5) in
-    outside n base (view_of new).owns (purpose_of p) answer (inside_of t.new.section) (last_of new) over
+    let over = subst (λ (o : Option Answer). ReachedBy (IsUp g.C.Clock.tells c.args.limit) c.args.word.number (view_of c.args.token.now).owns (purpose_of c.loop.place) (next_place c.loop.place c.turn-reply.result) o (stage_of c.turn-reply.new.token c.turn-reply.new.section)) is (t.ensures.reached base c.loop.invariant.5) in
+    outside (IsUp g.C.Clock.tells c.args.limit) n base (view_of new).owns (purpose_of p) answer (inside_of t.new.section) (last_of new) over

@@ -1,0 +1,3 @@
+pub mod RwLockFit
+pub mod RwLockCodes
+pub mod RwLockSections

@@ -1,0 +1,252 @@
+-- Each step on the word of a reader-writer lock leads to the word of the lock behind it.
+use Rattle.std.proofs.Common.{ℕ, Bool, true, false, Option, Some, None, List, [], ◌∷◌, if◌then◌else◌, ◌==◌, ◌&&◌, ◌||◌, ◌≡◌, ◌⊎◌, ◌+◌, ◌*◌, ◌-◌, ◌/◌, ◌%◌, ◌^◌, ◌≤◌, ◌<◌, inl, inr, subst, refl, ap, ◌∙◌, sym, length, arith, bit_and, nat_le}
+use Rattle.std.proofs.lemmas.Bool.{eqb-true}
+use Rattle.std.proofs.lemmas.Bool.Decides.{nat_tests}
+use Rattle.lot_base.specs.Words.{apply}
+use Rattle.lot_base.specs.declared.keys.Keys.TheVariants.{One}
+use Rattle.lot_base.specs.declared.keys.Line.{Line}
+use Rattle.lot_base.specs.declared.keys.Line.TheVariants.{Main, Second}
+use Rattle.lot_base.specs.declared.ops.Op.{Op}
+use Rattle.lot_base.specs.declared.ops.Op.TheVariants as op
+use Rattle.lot_base.specs.declared.wants.Want.{Want}
+use Rattle.lot_base.specs.declared.wants.Want.TheVariants.{Exclusive, Upgradable, Shared}
+use Rattle.lot_calls.specs.declared.calls.Access.{Access}
+use Rattle.lot_calls.specs.declared.calls.Access.TheVariants as access
+use Rattle.lot_calls.specs.declared.calls.Patience.{Patience}
+use Rattle.lot_calls.specs.declared.calls.Patience.TheVariants.{Patient, Timed, Try}
+use Rattle.lot_calls.specs.declared.outcomes.Answer.{Answer}
+use Rattle.lot_calls.specs.declared.outcomes.Answer.TheVariants.{ReadersFull}
+use Rattle.abstract_locks.specs.Locks.{Rules, LockCase, Enter, Pend, Settle, Leave, Rollback}
+use Rattle.abstract_locks.specs.Sites.{Pends, Site, IsSite, Deed, End, Mark, Clear, Case, Needed, after_deed, has_readers}
+use Rattle.abstract_locks.specs.Codes.{code, rw_code, TellsTrue, count_in, has_writer, has_upgradable, has_parked, has_aside, is_blocked, lost, rolled, IsHandOff}
+use Rattle.abstract_locks.proofs.Seen.{clears_low, clears_second}
+use Rattle.abstract_locks.proofs.CodeLaws.{follows, rw_is, low_is, second_is, words_tell_true}
+use Rattle.lot_steps.specs.declared.acts.Act.TheVariants as act
+use Rattle.lot_steps.specs.declared.acts.Reply.TheVariants as reply
+use Rattle.lot_steps.specs.declared.rwlock.Admission.{Admission}
+use Rattle.lot_steps.specs.declared.rwlock.RwLockPlace.{RwLockPlace}
+use Rattle.lot_steps.specs.declared.rwlock.RwLockPurpose.{RwLockPurpose}
+use Rattle.lot_steps.specs.declared.rwlock.RwLockPurpose.TheVariants as purpose
+use Rattle.lot_steps.specs.declared.rwlock.RwLockAt.{RwLockAt}
+use Rattle.lot_steps.specs.declared.rwlock.RwLockAt.TheVariants as at
+use Rattle.lot_steps.specs.declared.rwlock.enter.Decision.{Decision}
+use Rattle.lot_steps.specs.declared.rwlock.enter.Decision.TheVariants as decisions
+use Rattle.lot_steps.specs.declared.rwlock.park.ParkAt.TheVariants as parking
+use Rattle.lot_steps.specs.declared.rwlock.release.WakeAt.TheVariants as waking
+use Rattle.lot_steps.specs.RwLockSteps.{wanted, token, patience_of, is_counted, waits, decision_blocked, decision, decided, decided_act, count_act, rwlock_act, plus, unparked}
+use Rattle.lot_steps.specs.RwLockDeeds.{rwlock_doing, missed_deeds, looked_deeds, came_in_deeds, exchanged_deeds, counted_deeds, does_and_wakes, sees_waiter, rwlock_deeds, AllNeeded, after_all, Admits, AtFits, IsAt, RwLockStepsCode}
+use Rattle.lot_steps.proofs.RwLockFit.{rwlock_steps_follow}
+
+subtracts : (v by c : ℕ) → v < 2 ^ 64 → by ≤ v → c + by ≡ v → (v + (2 ^ 64 - by)) % 2 ^ 64 ≡ c
+subtracts v by c lt le e = omega arith
+
+module _ (r : Rules) (s : Site) (t : ℕ) (rw_sort : has_readers r.sort ≡ true) (h : IsSite r s) (tells : TellsTrue r s) (there : t < length s.lock.shared) (small : code r s < 2 ^ 64) where
+  coded : (x : Site) → code r x ≡ rw_code x
+  coded x = rw_is r.sort r.limit x rw_sort
+
+  -- the word behind deeds
+  abbrev behind : List Deed → ℕ
+  behind ds = code r (after_all r ds s t)
+
+  behind_end : behind (End ∷ []) ≡ code r s
+  behind_end = coded (after_deed r End s t) ∙ sym (coded s)
+
+  -- a case, at the end of its call or not
+  behind_case : (c : LockCase) → Needed r (Case c) s t → (IsHandOff c → ⊥) → code r (after_deed r (Case c) s t) + lost s.lock.pending c ≡ code r s + rolled s.lock.pending c
+  behind_case c n other = rw (coded (after_deed r (Case c) s t), coded s) (follows r s t there h c n other)
+
+  behind_case_end : (c : LockCase) → Needed r (Case c) s t → (IsHandOff c → ⊥) → code r (after_deed r End (after_deed r (Case c) s t) t) + lost s.lock.pending c ≡ code r s + rolled s.lock.pending c
+  behind_case_end c n other = rw (coded (after_deed r End (after_deed r (Case c) s t) t), coded s) (follows r s t there h c n other)
+
+  behind_looks : (d : Decision) → behind (looked_deeds d) ≡ code r s
+  behind_looks (decisions.Refuse answer) = behind_end
+  behind_looks decisions.Take = refl
+  behind_looks decisions.Mark = refl
+  behind_looks decisions.Park = refl
+
+  behind_missed : (how : Patience) → behind (missed_deeds how) ≡ code r s
+  behind_missed Try = behind_end
+  behind_missed Patient = refl
+  behind_missed Timed = refl
+
+  marked : s.parked ≡ false → behind (Mark Main ∷ []) ≡ code r s + 1
+  marked e = rw (coded (after_deed r (Mark Main) s t), coded s) (grind (arith, e))
+
+  marked_aside : s.aside_parked ≡ false → behind (Mark Second ∷ []) ≡ code r s + 2
+  marked_aside e = rw (coded (after_deed r (Mark Second) s t), coded s) (grind (arith, e))
+
+  clears : (m : Line) → apply (unparked m) (code r s) ≡ behind (Clear m ∷ [])
+  clears Main = rw (coded (after_deed r (Clear Main) s t), coded s) (let a = clears_low (rw_code s) (rw (coded s) at small) in let b = low_is r s h in omega arith)
+  clears Second = rw (coded (after_deed r (Clear Second) s t), coded s) (let a = clears_second (rw_code s) (rw (coded s) at small) in let b = second_is r s h in omega arith)
+
+  comes : (x : Access) → AllNeeded r (came_in_deeds (wanted x)) s t → behind (came_in_deeds (wanted x)) ≡ code r s + token (wanted x)
+  comes access.Exclusive n = let e = behind_case Pend n.0 (λ f. f) in omega arith
+  comes access.Upgradable n = let e = behind_case_end (Enter Upgradable) n.0 (λ f. f) in omega arith
+  comes access.Shared n = let e = behind_case_end (Enter Shared) n.0 (λ f. f) in omega arith
+
+  counts : (b : Bool) → AllNeeded r (if b then Case Settle ∷ End ∷ [] else []) s t → behind (if b then Case Settle ∷ End ∷ [] else []) ≡ code r s
+  counts true n = let e = behind_case_end Settle n.0 (λ f. f) in omega arith
+  counts false n = refl
+
+  gives : (x : Access) (b : Bool) → AllNeeded r (does_and_wakes b (Case (Leave (wanted x)))) s t → behind (does_and_wakes b (Case (Leave (wanted x)))) + token (wanted x) ≡ code r s
+  gives access.Shared true n = let e = behind_case (Leave Shared) n.0 (λ f. f) in omega arith
+  gives access.Shared false n = let e = behind_case_end (Leave Shared) n.0 (λ f. f) in omega arith
+  gives access.Exclusive true n = let e = behind_case (Leave Exclusive) n.0 (λ f. f) in omega arith
+  gives access.Exclusive false n = let e = behind_case_end (Leave Exclusive) n.0 (λ f. f) in omega arith
+  gives access.Upgradable true n = let e = behind_case (Leave Upgradable) n.0 (λ f. f) in omega arith
+  gives access.Upgradable false n = let e = behind_case_end (Leave Upgradable) n.0 (λ f. f) in omega arith
+
+  -- a writer that falls back to nothing
+  rolls : (b : Bool) → s.lock.pending ≡ Some (record { thread = t; falls_back = false }) → AllNeeded r (does_and_wakes b (Case Rollback)) s t → behind (does_and_wakes b (Case Rollback)) + 8 ≡ code r s
+  rolls true e n = let f = behind_case Rollback n.0 (λ g. g) in let k : rolled s.lock.pending Rollback ≡ 0 = rw e refl in omega arith
+  rolls false e n = let f = behind_case_end Rollback n.0 (λ g. g) in let k : rolled s.lock.pending Rollback ≡ 0 = rw e refl in omega arith
+
+-- ---------------------------------------------------------------- sums that don't wrap
+
+fits_even : (v : ℕ) → v < 2 ^ 64 → has_parked v ≡ false → (v + 1) % 2 ^ 64 ≡ v + 1
+fits_even v lt e = grind (arith, nat_tests)
+
+fits_aside : (v : ℕ) → v < 2 ^ 64 → has_aside v ≡ false → (v + 2) % 2 ^ 64 ≡ v + 2
+fits_aside v lt e = grind (arith, nat_tests)
+
+fits_writer : (v : ℕ) → v < 2 ^ 64 → (has_writer v || has_upgradable v) ≡ false → (v + 8) % 2 ^ 64 ≡ v + 8
+fits_writer v lt e = grind (arith, nat_tests)
+
+fits_upgradable : (v limit : ℕ) → limit < 2 ^ 60 → (has_writer v || has_upgradable v) ≡ false → nat_le limit (count_in v) ≡ false → (v + 20) % 2 ^ 64 ≡ v + 20
+fits_upgradable v limit few e f = grind (arith, nat_tests)
+
+fits_reader : (v limit : ℕ) → limit < 2 ^ 60 → nat_le limit (count_in v) ≡ false → (v + 16) % 2 ^ 64 ≡ v + 16
+fits_reader v limit few f = grind (arith, nat_tests)
+
+takes_no : (b : Bool) → waits b ≡ decisions.Take → ⊥
+takes_no true e = cc
+takes_no false e = cc
+
+blocked_takes_no : (how : Patience) (v : ℕ) → decision_blocked how v ≡ decisions.Take → ⊥
+blocked_takes_no Try v e = cc
+blocked_takes_no Patient v e = takes_no (has_parked v) e
+blocked_takes_no Timed v e = takes_no (has_parked v) e
+
+marks_unset : (b : Bool) → waits b ≡ decisions.Mark → b ≡ false
+marks_unset true e = absurd cc
+marks_unset false e = refl
+
+blocked_unset : (how : Patience) (v : ℕ) → decision_blocked how v ≡ decisions.Mark → has_parked v ≡ false
+blocked_unset Try v e = absurd cc
+blocked_unset Patient v e = marks_unset (has_parked v) e
+blocked_unset Timed v e = marks_unset (has_parked v) e
+
+module _ (a : Admission) (how : Patience) (v : ℕ) (small : v < 2 ^ 64) (few : a.limit < 2 ^ 60) where
+  -- what is taken fits into the word
+  take_fits : (x : Access) → decision a (wanted x) how v ≡ decisions.Take → plus v (token (wanted x)) ≡ v + token (wanted x)
+  take_fits x e = by_tests (is_blocked a.recursive (wanted x) v) refl (is_counted (wanted x) && nat_le a.limit (count_in v)) refl e
+    where
+      by_access : (x : Access) → is_blocked a.recursive (wanted x) v ≡ false → (is_counted (wanted x) && nat_le a.limit (count_in v)) ≡ false → plus v (token (wanted x)) ≡ v + token (wanted x)
+      by_access access.Exclusive eb ec = fits_writer v small eb
+      by_access access.Upgradable eb ec = fits_upgradable v a.limit few eb ec
+      by_access access.Shared eb ec = fits_reader v a.limit few ec
+
+      by_tests : (b : Bool) → is_blocked a.recursive (wanted x) v ≡ b → (c : Bool) → (is_counted (wanted x) && nat_le a.limit (count_in v)) ≡ c → (if b then decision_blocked how v else if c then decisions.Refuse ReadersFull else decisions.Take) ≡ decisions.Take → plus v (token (wanted x)) ≡ v + token (wanted x)
+      by_tests false eb false ec f = by_access x eb ec
+      by_tests false eb true ec f = absurd cc
+      by_tests true eb c ec f = absurd (blocked_takes_no how v f)
+
+  -- what is marked is clear
+  mark_fits : (x : Want) → decision a x how v ≡ decisions.Mark → has_parked v ≡ false
+  mark_fits x e = by_tests (is_blocked a.recursive x v) (is_counted x && nat_le a.limit (count_in v)) e
+    where
+      by_tests : (b c : Bool) → (if b then decision_blocked how v else if c then decisions.Refuse ReadersFull else decisions.Take) ≡ decisions.Mark → has_parked v ≡ false
+      by_tests true c f = blocked_unset how v f
+      by_tests false true f = absurd cc
+      by_tests false false f = absurd cc
+
+-- ---------------------------------------------------------------- all places
+
+module _ (r : Rules) (a : Admission) (s : Site) (t l : ℕ) (f : Op) (admits : Admits r a) (h : IsSite r s) (there : t < length s.lock.shared) (small : code r s < 2 ^ 64) (few : a.limit < 2 ^ 60) where
+  tells : TellsTrue r s
+  tells = words_tell_true r s admits.0 h
+
+  abbrev v : ℕ
+  v = code r s
+
+  -- the operation leads to the word behind deeds that are needed
+  abbrev Leads : List Deed → Type 0
+  Leads ds = AllNeeded r ds s t → apply f v ≡ code r (after_all r ds s t)
+
+  -- an exchange leads where it would, or nowhere
+  exchanged : (from to : ℕ) → f ≡ op.Exchange from to → (won missed : List Deed) → (b : Bool) → (v == from) ≡ b
+      → (v ≡ from → AllNeeded r won s t → code r (after_all r won s t) ≡ to) → (AllNeeded r missed s t → code r (after_all r missed s t) ≡ v)
+      → Leads (if b then won else missed)
+  exchanged from to is won missed true e hit miss n = rw (is, e) (sym (hit (eqb-true v from e) n))
+  exchanged from to is won missed false e hit miss n = rw (is, e) (sym (miss n))
+
+  clears_fit : (m : Line) → f ≡ unparked m → Leads (Clear m ∷ [])
+  clears_fit m is n = rw is (clears r s t admits.0 h tells there small m)
+
+  module _ (x : Access) (how : Patience) (again : Bool) where
+    abbrev place : RwLockAt → RwLockPlace
+    place to = record { purpose = purpose.Enter x how; retries = again; at = to }
+
+    looks_same : AllNeeded r (looked_deeds (decision a (wanted x) how v)) s t → code r (after_all r (looked_deeds (decision a (wanted x) how v)) s t) ≡ v
+    looks_same n = behind_looks r s t admits.0 h tells there small (decision a (wanted x) how v)
+
+    decides : (expected : ℕ) (d : Decision) → decision a (wanted x) how expected ≡ d → decided_act l (wanted x) expected d ≡ act.Word l f → (b : Bool) → (v == expected) ≡ b
+        → Leads (exchanged_deeds (wanted x) d b (decision a (wanted x) how v))
+    decides expected decisions.Take de e true be n =
+        let same = eqb-true v expected be in let is : f ≡ op.Exchange expected (plus expected (token (wanted x))) = cc in
+        rw (is, be) (sym (comes r s t admits.0 h tells there small x n ∙ sym (take_fits a how v small few x (rw same de)) ∙ ap (λ y. plus y (token (wanted x))) same))
+    decides expected decisions.Take de e false be n = let is : f ≡ op.Exchange expected (plus expected (token (wanted x))) = cc in rw (is, be) (sym (looks_same n))
+    decides expected decisions.Mark de e true be n =
+        let same = eqb-true v expected be in let is : f ≡ op.Exchange expected (plus expected 1) = cc in
+        let clear : has_parked v ≡ false = mark_fits a how v small few (wanted x) (rw same de) in
+        rw (is, be) (sym (marked r s t admits.0 h tells there small (sym tells.parked ∙ clear) ∙ sym (fits_even v small clear) ∙ ap (λ y. plus y 1) same))
+    decides expected decisions.Mark de e false be n = let is : f ≡ op.Exchange expected (plus expected 1) = cc in rw (is, be) (sym (looks_same n))
+    decides expected decisions.Park de e b be n = absurd cc
+    decides expected (decisions.Refuse answer) de e b be n = absurd cc
+
+    counts_same : AllNeeded r (counted_deeds v) s t → code r (after_all r (counted_deeds v) s t) ≡ v
+    counts_same n = counts r s t admits.0 h tells there small (count_in v == 0) n
+
+    sets_aside : (expected : ℕ) (b : Bool) → has_aside expected ≡ b → (if b then act.Enter (One (2 * l + 1)) else act.Word l (op.Exchange expected (plus expected 2))) ≡ act.Word l f → (c : Bool) → (v == expected) ≡ c → Leads (if c then Mark Second ∷ [] else counted_deeds v)
+    sets_aside expected true eb e c ec n = absurd cc
+    sets_aside expected false eb e true ec n =
+        let same = eqb-true v expected ec in let is : f ≡ op.Exchange expected (plus expected 2) = cc in
+        let clear : has_aside v ≡ false = rw same eb in
+        rw (is, ec) (sym (marked_aside r s t admits.0 h tells there small (sym tells.aside ∙ clear) ∙ sym (fits_aside v small clear) ∙ ap (λ y. plus y 2) same))
+    sets_aside expected false eb e false ec n = let is : f ≡ op.Exchange expected (plus expected 2) = cc in rw (is, ec) (sym (counts_same n))
+
+    enters_code : (to : RwLockAt) → AtFits (purpose.Enter x how) to → s.doing t ≡ rwlock_doing (place to) → rwlock_act l a (place to) ≡ act.Word l f → Leads (rwlock_deeds a (place to) None (reply.Value v))
+    enters_code at.First fits is e n = let same : f ≡ op.Exchange 0 8 = cc in exchanged 0 8 same (Case (Enter Exclusive) ∷ End ∷ []) (missed_deeds how) (v == 0) refl (λ same k. let g = behind_case_end r s t admits.0 h tells there small (Enter Exclusive) k.0 (λ g. g) in omega arith) (λ k. behind_missed r s t admits.0 h tells there small how) n
+    enters_code at.Load fits is e n = let same : f ≡ op.Load = cc in rw same (sym (looks_same n))
+    enters_code (at.Decide expected) fits is e n = decides expected (decision a (wanted x) how expected) refl e (v == expected) refl n
+    enters_code (at.Park parking.Clear) fits is e n = let same : f ≡ unparked Main = cc in clears_fit Main same n
+    enters_code at.Look fits is e n = let same : f ≡ op.Load = cc in rw same (sym (counts_same n))
+    enters_code (at.Count expected) fits is e n = sets_aside expected (has_aside expected) refl e (v == expected) refl n
+    enters_code (at.Aside parking.Clear) fits is e n = let same : f ≡ unparked Second = cc in clears_fit Second same n
+    enters_code at.RollBack fits is e n =
+        let same : f ≡ op.Sub 8 = cc in let own : s.lock.pending ≡ Some (record { thread = t; falls_back = false }) = h.held t (Pends false) (grind (arith, is)) in
+        let g = rolls r s t admits.0 h tells there small (has_parked v) own n in rw same (subtracts v 8 _ small (omega arith) g)
+    enters_code (at.Wake m (waking.Clear any)) fits is e n = let same : f ≡ unparked m = cc in clears_fit m same n
+    enters_code at.GiveWay fits is e n = absurd fits
+    enters_code to fits is e n = absurd cc
+
+  module _ (again : Bool) where
+    abbrev leaving : Access → RwLockAt → RwLockPlace
+    leaving x to = record { purpose = purpose.Release x; retries = again; at = to }
+
+    releases_code : (x : Access) (to : RwLockAt) → AtFits (purpose.Release x) to → rwlock_act l a (leaving x to) ≡ act.Word l f → Leads (rwlock_deeds a (leaving x to) None (reply.Value v))
+    releases_code x at.GiveWay fits e n =
+        let same : f ≡ op.Sub (token (wanted x)) = cc in let g = gives r s t admits.0 h tells there small x (sees_waiter (wanted x) v) n in rw same (subtracts v (token (wanted x)) _ small (omega arith) g)
+    releases_code x (at.Wake m (waking.Clear any)) fits e n = let same : f ≡ unparked m = cc in clears_fit m same n
+    releases_code x (at.Wake m to) fits e n = absurd cc
+    releases_code x to fits e n = absurd fits
+
+pub rwlock_steps_code : RwLockStepsCode
+rwlock_steps_code r a s t l p f at nowhere e there small few = by_purpose p.purpose p.retries p.at at.place at.doing e (rwlock_steps_follow r a s t l p f at nowhere e).needed
+  where
+    by_purpose : (q : RwLockPurpose) (again : Bool) (to : RwLockAt) → AtFits q to → s.doing t ≡ rwlock_doing (record { purpose = q; retries = again; at = to })
+        → rwlock_act l a (record { purpose = q; retries = again; at = to }) ≡ act.Word l f
+        → AllNeeded r (rwlock_deeds a (record { purpose = q; retries = again; at = to }) None (reply.Value (code r s))) s t
+        → apply f (code r s) ≡ code r (after_all r (rwlock_deeds a (record { purpose = q; retries = again; at = to }) None (reply.Value (code r s))) s t)
+    by_purpose (purpose.Enter x how) again to fits is g n = enters_code r a s t l f at.admits at.site there small few x how again to fits is g n
+    by_purpose (purpose.Release x) again to fits is g n = releases_code r a s t l f at.admits at.site there small few again x to fits g n

@@ -1,0 +1,128 @@
+//! How a thread gives a right up, and wakes whom that lets in.
+//!
+//! | place | does | then |
+//! |---|---|---|
+//! | `GiveWay` | subtracts its right from the word | ends, or wakes those of a queue |
+//! | `Wake`, `Enter` | enters the section of the queue | `Take` |
+//! | `Take` | takes the picked of the main queue, or the writer aside | `Clear` where nobody is left there, and of the second queue always, else `Leave` |
+//! | `Clear` | clears the parked bit of the queue | `Leave` |
+//! | `Leave` | leaves the section and wakes whom it has taken | ends |
+//!
+//! The last reader wakes the writer aside, where one may stand there; every other release those in the main queue.
+ghost use Rattle.std.specs.Prelude.{◌≡◌, ◌<◌, ◌^◌};
+ghost use Rattle.lot_base.specs.Keys.{key_of};
+ghost use Rattle.lot_steps.specs.RwLockSteps.{wakes, gave_way, whom, wake_act, took, wake_next};
+
+use crate::acts::{Act, Next, Reply, Wakes, Whom};
+use crate::bits::{count_in, has_aside, has_parked};
+use crate::rwlock::park::{clears, unparked};
+use crate::rwlock::{Admission, RwLockAt, RwLockPlace};
+use lot_base::{Keys, Line, Note};
+use lot_calls::{Access, Answer};
+
+#[derive(Clone, Copy, Debug, PartialEq, Eq)]
+pub enum WakeAt {
+    Enter,
+    /// Inside the section.
+    Take,
+    /// None is left in the queue.
+    Clear { any: bool },
+    Leave { any: bool },
+}
+
+/// On its way to wake those of a queue.
+pub(super) fn wakes(line: Line) -> RwLockAt
+    ensures { result ≡ wakes line }
+{
+    RwLockAt::Wake {
+        line,
+        at: WakeAt::Enter,
+    }
+}
+
+/// Where a thread goes that gave its right up, and saw this.
+pub(super) fn gave_way(place: RwLockPlace, seen: u64) -> Next<RwLockPlace>
+    ensures { result ≡ gave_way place seen }
+{
+    match place.purpose.access() {
+        Access::Shared if has_aside(seen) && count_in(seen) == 1 => {
+            place.goes(wakes(Line::Second), place.retries)
+        }
+        Access::Upgradable | Access::Exclusive if has_parked(seen) => {
+            place.goes(wakes(Line::Main), place.retries)
+        }
+        _ => Next::End(Answer::Ok),
+    }
+}
+
+/// Whom a thread takes of a queue: those whom the lock lets in, or the writer aside.
+fn whom(admission: Admission, line: Line) -> Whom
+    ensures { result ≡ whom admission line }
+{
+    match line {
+        Line::Main => Whom::Picked {
+            start: None,
+            recursive: admission.recursive,
+        },
+        Line::Second => Whom::First,
+    }
+}
+
+pub(super) fn wake_act(lock: usize, admission: Admission, line: Line, at: WakeAt) -> Act
+    requires { lock < 2 ^ 63 }
+    ensures { result ≡ wake_act lock admission line at }
+{
+    let key = line.key(lock);
+    match at {
+        WakeAt::Enter => Act::Enter(Keys::One(key)),
+        WakeAt::Take => Act::Take {
+            key,
+            whom: whom(admission, line),
+        },
+        WakeAt::Clear { .. } => Act::Word {
+            lock,
+            op: unparked(line),
+        },
+        WakeAt::Leave { any } => Act::Leave {
+            keys: Keys::One(key),
+            wakes: Wakes::taken(any, Note::Normal),
+        },
+    }
+}
+
+/// Behind a take: where nobody is left in the main queue, and always in the second, the parked bit goes.
+fn took(line: Line, any: bool, none_left: bool) -> WakeAt
+    ensures { result ≡ took line any none_left }
+{
+    if clears(line, none_left) {
+        WakeAt::Clear { any }
+    } else {
+        WakeAt::Leave { any }
+    }
+}
+
+pub(super) fn next_wake(
+    place: RwLockPlace,
+    line: Line,
+    at: WakeAt,
+    reply: Reply,
+) -> Next<RwLockPlace>
+    ensures { result ≡ wake_next place line at reply }
+{
+    let goes = |at: WakeAt| place.goes(RwLockAt::Wake { line, at }, place.retries);
+    match (at, reply) {
+        (WakeAt::Enter, Reply::Done) => goes(WakeAt::Take),
+        (WakeAt::Take, Reply::Took { any, none_left }) => goes(took(line, any, none_left)),
+        (
+            WakeAt::Take,
+            Reply::Picked {
+                sharers,
+                successor,
+                none_left,
+            },
+        ) => goes(took(line, sharers != 0 || successor.is_some(), none_left)),
+        (WakeAt::Clear { any }, Reply::Value(_)) => goes(WakeAt::Leave { any }),
+        (WakeAt::Leave { .. }, Reply::Done) => Next::End(place.purpose.ends_with()),
+        _ => goes(at),
+    }
+}
