@@ -17,7 +17,7 @@ use Rattle.lot_calls.specs.declared.calls.Patience.TheVariants.{Patient, Timed, 
 use Rattle.lot_calls.specs.declared.outcomes.Answer.{Answer}
 use Rattle.lot_calls.specs.declared.outcomes.Answer.TheVariants.{ReadersFull}
 use Rattle.abstract_locks.specs.Locks.{Rules, LockCase, Enter, Pend, Settle, Leave, Rollback}
-use Rattle.abstract_locks.specs.Sites.{Pends, Site, IsSite, Deed, End, Mark, Clear, Does, Needed, after, has_readers}
+use Rattle.abstract_locks.specs.Sites.{Pends, Site, IsSite, Deed, End, Mark, Clear, Case, Needed, after_deed, has_readers}
 use Rattle.abstract_locks.specs.Codes.{code, rw_code, TellsTrue, count_in, has_writer, has_upgradable, has_parked, has_aside, is_blocked, lost, rolled, IsHandOff}
 use Rattle.abstract_locks.proofs.Seen.{clears_low, clears_second}
 use Rattle.abstract_locks.proofs.CodeLaws.{follows, rw_is, low_is, second_is, words_tell_true}
@@ -49,14 +49,14 @@ module _ (r : Rules) (s : Site) (t : ℕ) (rw_sort : has_readers r.sort ≡ true
   behind ds = code r (after_all r ds s t)
 
   behind_end : behind (End ∷ []) ≡ code r s
-  behind_end = coded (after r End s t) ∙ sym (coded s)
+  behind_end = coded (after_deed r End s t) ∙ sym (coded s)
 
   -- a case, at the end of its call or not
-  behind_case : (c : LockCase) → Needed r (Does c) s t → (IsHandOff c → ⊥) → code r (after r (Does c) s t) + lost s.lock.pending c ≡ code r s + rolled s.lock.pending c
-  behind_case c n other = rw (coded (after r (Does c) s t), coded s) (follows r s t there h c n other)
+  behind_case : (c : LockCase) → Needed r (Case c) s t → (IsHandOff c → ⊥) → code r (after_deed r (Case c) s t) + lost s.lock.pending c ≡ code r s + rolled s.lock.pending c
+  behind_case c n other = rw (coded (after_deed r (Case c) s t), coded s) (follows r s t there h c n other)
 
-  behind_case_end : (c : LockCase) → Needed r (Does c) s t → (IsHandOff c → ⊥) → code r (after r End (after r (Does c) s t) t) + lost s.lock.pending c ≡ code r s + rolled s.lock.pending c
-  behind_case_end c n other = rw (coded (after r End (after r (Does c) s t) t), coded s) (follows r s t there h c n other)
+  behind_case_end : (c : LockCase) → Needed r (Case c) s t → (IsHandOff c → ⊥) → code r (after_deed r End (after_deed r (Case c) s t) t) + lost s.lock.pending c ≡ code r s + rolled s.lock.pending c
+  behind_case_end c n other = rw (coded (after_deed r End (after_deed r (Case c) s t) t), coded s) (follows r s t there h c n other)
 
   behind_looks : (d : Decision) → behind (looked_deeds d) ≡ code r s
   behind_looks (decisions.Refuse answer) = behind_end
@@ -70,25 +70,25 @@ module _ (r : Rules) (s : Site) (t : ℕ) (rw_sort : has_readers r.sort ≡ true
   behind_missed Timed = refl
 
   marked : s.parked ≡ false → behind (Mark Main ∷ []) ≡ code r s + 1
-  marked e = rw (coded (after r (Mark Main) s t), coded s) (grind (arith, e))
+  marked e = rw (coded (after_deed r (Mark Main) s t), coded s) (grind (arith, e))
 
   marked_aside : s.aside_parked ≡ false → behind (Mark Second ∷ []) ≡ code r s + 2
-  marked_aside e = rw (coded (after r (Mark Second) s t), coded s) (grind (arith, e))
+  marked_aside e = rw (coded (after_deed r (Mark Second) s t), coded s) (grind (arith, e))
 
   clears : (m : Line) → apply (unparked m) (code r s) ≡ behind (Clear m ∷ [])
-  clears Main = rw (coded (after r (Clear Main) s t), coded s) (let a = clears_low (rw_code s) (rw (coded s) at small) in let b = low_is r s h in omega arith)
-  clears Second = rw (coded (after r (Clear Second) s t), coded s) (let a = clears_second (rw_code s) (rw (coded s) at small) in let b = second_is r s h in omega arith)
+  clears Main = rw (coded (after_deed r (Clear Main) s t), coded s) (let a = clears_low (rw_code s) (rw (coded s) at small) in let b = low_is r s h in omega arith)
+  clears Second = rw (coded (after_deed r (Clear Second) s t), coded s) (let a = clears_second (rw_code s) (rw (coded s) at small) in let b = second_is r s h in omega arith)
 
   comes : (x : Access) → AllNeeded r (came_in_deeds (wanted x)) s t → behind (came_in_deeds (wanted x)) ≡ code r s + token (wanted x)
   comes access.Exclusive n = let e = behind_case Pend n.0 (λ f. f) in omega arith
   comes access.Upgradable n = let e = behind_case_end (Enter Upgradable) n.0 (λ f. f) in omega arith
   comes access.Shared n = let e = behind_case_end (Enter Shared) n.0 (λ f. f) in omega arith
 
-  counts : (b : Bool) → AllNeeded r (if b then Does Settle ∷ End ∷ [] else []) s t → behind (if b then Does Settle ∷ End ∷ [] else []) ≡ code r s
+  counts : (b : Bool) → AllNeeded r (if b then Case Settle ∷ End ∷ [] else []) s t → behind (if b then Case Settle ∷ End ∷ [] else []) ≡ code r s
   counts true n = let e = behind_case_end Settle n.0 (λ f. f) in omega arith
   counts false n = refl
 
-  gives : (x : Access) (b : Bool) → AllNeeded r (does_and_wakes b (Does (Leave (wanted x)))) s t → behind (does_and_wakes b (Does (Leave (wanted x)))) + token (wanted x) ≡ code r s
+  gives : (x : Access) (b : Bool) → AllNeeded r (does_and_wakes b (Case (Leave (wanted x)))) s t → behind (does_and_wakes b (Case (Leave (wanted x)))) + token (wanted x) ≡ code r s
   gives access.Shared true n = let e = behind_case (Leave Shared) n.0 (λ f. f) in omega arith
   gives access.Shared false n = let e = behind_case_end (Leave Shared) n.0 (λ f. f) in omega arith
   gives access.Exclusive true n = let e = behind_case (Leave Exclusive) n.0 (λ f. f) in omega arith
@@ -97,7 +97,7 @@ module _ (r : Rules) (s : Site) (t : ℕ) (rw_sort : has_readers r.sort ≡ true
   gives access.Upgradable false n = let e = behind_case_end (Leave Upgradable) n.0 (λ f. f) in omega arith
 
   -- a writer that falls back to nothing
-  rolls : (b : Bool) → s.lock.pending ≡ Some (record { thread = t; falls_back = false }) → AllNeeded r (does_and_wakes b (Does Rollback)) s t → behind (does_and_wakes b (Does Rollback)) + 8 ≡ code r s
+  rolls : (b : Bool) → s.lock.pending ≡ Some (record { thread = t; falls_back = false }) → AllNeeded r (does_and_wakes b (Case Rollback)) s t → behind (does_and_wakes b (Case Rollback)) + 8 ≡ code r s
   rolls true e n = let f = behind_case Rollback n.0 (λ g. g) in let k : rolled s.lock.pending Rollback ≡ 0 = rw e refl in omega arith
   rolls false e n = let f = behind_case_end Rollback n.0 (λ g. g) in let k : rolled s.lock.pending Rollback ≡ 0 = rw e refl in omega arith
 
@@ -216,7 +216,7 @@ module _ (r : Rules) (a : Admission) (s : Site) (t l : ℕ) (f : Op) (admits : A
     sets_aside expected false eb e false ec n = let is : f ≡ op.Exchange expected (plus expected 2) = cc in rw (is, ec) (sym (counts_same n))
 
     enters_code : (to : RwLockAt) → AtFits (purpose.Enter x how) to → s.doing t ≡ rwlock_doing (place to) → rwlock_act l a (place to) ≡ act.Word l f → Leads (rwlock_deeds a (place to) None (reply.Value v))
-    enters_code at.First fits is e n = let same : f ≡ op.Exchange 0 8 = cc in exchanged 0 8 same (Does (Enter Exclusive) ∷ End ∷ []) (missed_deeds how) (v == 0) refl (λ same k. let g = behind_case_end r s t admits.0 h tells there small (Enter Exclusive) k.0 (λ g. g) in omega arith) (λ k. behind_missed r s t admits.0 h tells there small how) n
+    enters_code at.First fits is e n = let same : f ≡ op.Exchange 0 8 = cc in exchanged 0 8 same (Case (Enter Exclusive) ∷ End ∷ []) (missed_deeds how) (v == 0) refl (λ same k. let g = behind_case_end r s t admits.0 h tells there small (Enter Exclusive) k.0 (λ g. g) in omega arith) (λ k. behind_missed r s t admits.0 h tells there small how) n
     enters_code at.Load fits is e n = let same : f ≡ op.Load = cc in rw same (sym (looks_same n))
     enters_code (at.Decide expected) fits is e n = decides expected (decision a (wanted x) how expected) refl e (v == expected) refl n
     enters_code (at.Park parking.Clear) fits is e n = let same : f ≡ unparked Main = cc in clears_fit Main same n

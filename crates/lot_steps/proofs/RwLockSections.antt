@@ -8,8 +8,8 @@ use Rattle.lot_base.specs.declared.wants.Want.TheVariants.{Upgradable, Shared}
 use Rattle.lot_calls.specs.declared.calls.Access.{Access}
 use Rattle.lot_calls.specs.declared.calls.Access.TheVariants as access
 use Rattle.lot_calls.specs.declared.calls.Patience.{Patience}
-use Rattle.abstract_locks.specs.Locks.{Rules, Taken, Park, Aside, TakeAside, TakePicked, Late, Knows, HasTakenNobody, is_recursive, standing, times, unpicked, without, put}
-use Rattle.abstract_locks.specs.Sites.{Claim, Pends, Doing, idle, is_main, is_empty, Site, IsSite, Deed, End, In, Out, FindNobody, Does, after, has_readers, leaves, wakened, counts_some}
+use Rattle.abstract_locks.specs.Locks.{Rules, Taken, Park, Aside, TakeAside, TakePicked, Late, Knows, HasTakenNobody, is_recursive, standing, times, unpicked, without, putting}
+use Rattle.abstract_locks.specs.Sites.{Claim, Pends, Doing, idle, is_main, is_empty, Site, IsSite, Deed, End, In, Out, FindNobody, Case, after_deed, has_readers, leaves, wakened, counts_some}
 use Rattle.abstract_locks.specs.Codes.{code, TellsTrue, has_parked, has_aside, count_in, is_blocked}
 use Rattle.abstract_locks.proofs.CodeLaws.{words_tell_true}
 use Rattle.lot_base.specs.declared.ops.Op.TheVariants.{Load}
@@ -38,22 +38,22 @@ module _ (r : Rules) (s : Site) (t : ℕ) (rw_sort : has_readers r.sort ≡ true
   goes_out : (d : Doing) → s.lock.taken t ≡ None → s.doing t ≡ d → d.inside ≢ None → d.wakes ≡ None → d.sets ≡ false → Follows r s t (Out ∷ []) (leaves d)
   goes_out d free is inside owes unset = record {
     needed = (((λ e. inside (sym (ap (λ (x : Doing). x.inside) is) ∙ e)), ap (λ (x : Doing). x.wakes) is ∙ owes, ap (λ (x : Doing). x.sets) is ∙ unset), tt);
-    doing = ap (λ (o : Option Taken). wakened t o (put s.doing t (leaves (s.doing t)) t)) free ∙ put_same s.doing t _ ∙ ap leaves is;
+    doing = ap (λ (o : Option Taken). wakened t o (putting s.doing t (leaves (s.doing t)) t)) free ∙ put_same s.doing t _ ∙ ap leaves is;
   }
 
   -- it stands behind the last, where it found what it waits for
-  parks : (x : Want) (again : Option Want) → (has_parked (code r s) && is_blocked (is_recursive r.sort) x (code r s)) ≡ true → s.doing t ≡ within Main again None → standing t s.lock ≡ 0 → Knows r.sort x → Follows r s t (Does (Park x) ∷ []) (within Main None None)
+  parks : (x : Want) (again : Option Want) → (has_parked (code r s) && is_blocked (is_recursive r.sort) x (code r s)) ≡ true → s.doing t ≡ within Main again None → standing t s.lock ≡ 0 → Knows r.sort x → Follows r s t (Case (Park x) ∷ []) (within Main None None)
   parks x again e is nowhere knows = record { needed = grind (arith, nat_tests, tells.blocked x knows, tells.parked); doing = grind (arith, nat_tests) }
 
-  parks_aside : (again : Option Want) → (has_aside (code r s) && not (count_in (code r s) == 0)) ≡ true → s.doing t ≡ within Second again pends → standing t s.lock ≡ 0 → Follows r s t (Does Aside ∷ []) (within Second None pends)
+  parks_aside : (again : Option Want) → (has_aside (code r s) && not (count_in (code r s) == 0)) ≡ true → s.doing t ≡ within Second again pends → standing t s.lock ≡ 0 → Follows r s t (Case Aside ∷ []) (within Second None pends)
   parks_aside again e is nowhere = let own = h.held t (Pends false) (grind arith) in record { needed = grind (arith, nat_tests, tells.count, tells.aside, h.state.pending_alone); doing = grind (arith, nat_tests) }
 
   -- it leaves the line
-  gives_up : (b : Bool) → is_empty (without t s.lock.queue) ≡ b → s.doing t ≡ within Main None None → 1 ≤ times t s.lock.queue → Follows r s t (Does Late ∷ []) (if b then finding Main None else within Main None None)
+  gives_up : (b : Bool) → is_empty (without t s.lock.queue) ≡ b → s.doing t ≡ within Main None None → 1 ≤ times t s.lock.queue → Follows r s t (Case Late ∷ []) (if b then finding Main None else within Main None None)
   gives_up true e is stands = record { needed = grind (arith, nat_tests, h.state.once t); doing = grind (arith, nat_tests) }
   gives_up false e is stands = record { needed = grind (arith, nat_tests, h.state.once t); doing = grind (arith, nat_tests) }
 
-  gives_up_aside : s.doing t ≡ within Second None pends → s.lock.aside ≡ Some t → Follows r s t (Does Late ∷ []) (finding Second pends)
+  gives_up_aside : s.doing t ≡ within Second None pends → s.lock.aside ≡ Some t → Follows r s t (Case Late ∷ []) (finding Second pends)
   gives_up_aside is stands = record { needed = grind (arith, nat_tests); doing = grind (arith, nat_tests) }
 
   -- it takes whom it is to wake
@@ -61,10 +61,10 @@ module _ (r : Rules) (s : Site) (t : ℕ) (rw_sort : has_readers r.sort ≡ true
   nobody_taken none u x e = let g = h.carried u _ e in cc
 
   takes_picked : (any b : Bool) → is_empty (unpicked r.sort None s.lock.queue) ≡ b → s.doing t ≡ waking_doing Main waking.Take → Knows r.sort Upgradable
-      → Follows r s t (Does (TakePicked None) ∷ []) (waking_doing Main (if b then waking.Clear any else waking.Leave any))
+      → Follows r s t (Case (TakePicked None) ∷ []) (waking_doing Main (if b then waking.Clear any else waking.Leave any))
   takes_picked any b e is knows = by_rest (nobody_taken (grind arith)) b e
     where
-      by_rest : HasTakenNobody s.lock t → (b : Bool) → is_empty (unpicked r.sort None s.lock.queue) ≡ b → Follows r s t (Does (TakePicked None) ∷ []) (waking_doing Main (if b then waking.Clear any else waking.Leave any))
+      by_rest : HasTakenNobody s.lock t → (b : Bool) → is_empty (unpicked r.sort None s.lock.queue) ≡ b → Follows r s t (Case (TakePicked None) ∷ []) (waking_doing Main (if b then waking.Clear any else waking.Leave any))
       by_rest free true e = record { needed = grind (arith, nat_tests); doing = grind (arith, nat_tests) }
       by_rest free false e = record { needed = grind (arith, nat_tests); doing = grind (arith, nat_tests) }
 
@@ -83,12 +83,12 @@ module _ (r : Rules) (a : Admission) (s : Site) (t : ℕ) (admits : Admits r a) 
   wakes_fit p m waking.Enter whom reply.Done may is = goes_in r s t admits.0 h tells m _ may is refl refl
   wakes_fit p Main waking.Take whom (reply.Took any none_left) may is = takes_main any none_left may
     where
-      takes_main : (any none_left : Bool) → none_left ≡ is_empty (unpicked r.sort None s.lock.queue) → Follows r s t (Does (TakePicked None) ∷ []) (waking_doing Main (took Main any none_left))
+      takes_main : (any none_left : Bool) → none_left ≡ is_empty (unpicked r.sort None s.lock.queue) → Follows r s t (Case (TakePicked None) ∷ []) (waking_doing Main (took Main any none_left))
       takes_main any true e = takes_picked r s t admits.0 h tells any true (sym e) is (knows_all r admits.0 access.Upgradable)
       takes_main any false e = takes_picked r s t admits.0 h tells any false (sym e) is (knows_all r admits.0 access.Upgradable)
   wakes_fit p Main waking.Take whom (reply.Picked n x none_left) may is = takes_main (any_picked n x) none_left may
     where
-      takes_main : (any none_left : Bool) → none_left ≡ is_empty (unpicked r.sort None s.lock.queue) → Follows r s t (Does (TakePicked None) ∷ []) (waking_doing Main (took Main any none_left))
+      takes_main : (any none_left : Bool) → none_left ≡ is_empty (unpicked r.sort None s.lock.queue) → Follows r s t (Case (TakePicked None) ∷ []) (waking_doing Main (took Main any none_left))
       takes_main any true e = takes_picked r s t admits.0 h tells any true (sym e) is (knows_all r admits.0 access.Upgradable)
       takes_main any false e = takes_picked r s t admits.0 h tells any false (sym e) is (knows_all r admits.0 access.Upgradable)
   wakes_fit p Second waking.Take whom (reply.Took any none_left) may is = takes_aside r s t admits.0 h tells any whom may is
@@ -104,7 +104,7 @@ module _ (r : Rules) (a : Admission) (s : Site) (t : ℕ) (admits : Admits r a) 
     wants = retrying again (wanted x)
 
     parks_fit : (to : ParkAt) (told : Reply) → MayHearParking r s t Main (has_parked (code r s) && is_blocked a.recursive (wanted x) (code r s)) to told → s.doing t ≡ parking_doing Main wants None to
-        → Follows r s t (park_deeds (Does (Park (wanted x))) Main to told) (doing_next (park_next (place (at.Park to)) Main to told))
+        → Follows r s t (park_deeds (Case (Park (wanted x))) Main to told) (doing_next (park_next (place (at.Park to)) Main to told))
     parks_fit parking.Check (reply.Parked true) may is = parks r s t admits.0 h tells (wanted x) wants (rw admits.1 (sym may.0)) is may.1 (knows_all r admits.0 x)
     parks_fit parking.Check (reply.Parked false) may is = record { needed = tt; doing = is ∙ grind arith }
     parks_fit (parking.Leave true) reply.Done may is = goes_out r s t admits.0 h tells _ may is (λ e. cc) refl refl
@@ -116,7 +116,7 @@ module _ (r : Rules) (a : Admission) (s : Site) (t : ℕ) (admits : Admits r a) 
     parks_fit to told may is = absurd may
 
     aside_fit : (to : ParkAt) (told : Reply) → MayHearParking r s t Second (has_aside (code r s) && not (count_in (code r s) == 0)) to told → s.doing t ≡ parking_doing Second wants pends to
-        → Follows r s t (park_deeds (Does Aside) Second to told) (doing_next (park_next (place (at.Aside to)) Second to told))
+        → Follows r s t (park_deeds (Case Aside) Second to told) (doing_next (park_next (place (at.Aside to)) Second to told))
     aside_fit parking.Check (reply.Parked true) may is = parks_aside r s t admits.0 h tells wants (sym may.0) is may.1
     aside_fit parking.Check (reply.Parked false) may is = record { needed = tt; doing = is ∙ grind arith }
     aside_fit (parking.Leave true) reply.Done may is = goes_out r s t admits.0 h tells _ may is (λ e. cc) refl refl

@@ -31,7 +31,7 @@ use Rattle.lot_steps.specs.declared.rwlock.release.WakeAt.TheVariants as waking
 use Rattle.lot_steps.specs.RwLockSteps.{want_at, patience_at, decided, park_check, rwlock_act, rwlock_next}
 use Rattle.lot_steps.specs.Acts.{holds}
 use Rattle.abstract_locks.specs.Locks.{Rules, Enter, Pend, Settle, Leave, Park, Aside, TakeAside, TakePicked, Late, Rollback, is_recursive, standing, times, without, unpicked}
-use Rattle.abstract_locks.specs.Sites.{Claim, Has, Pends, Doing, idle, is_main, is_empty, Site, IsSite, Needed, after, has_readers, Deed, End, In, Out, Mark, Clear, FindNobody, Does}
+use Rattle.abstract_locks.specs.Sites.{Claim, Has, Pends, Doing, idle, is_main, is_empty, Site, IsSite, Needed, after_deed, has_readers, Deed, End, In, Out, Mark, Clear, FindNobody, Case}
 use Rattle.abstract_locks.specs.Codes.{code, count_in, has_aside, has_parked}
 
 -- ---------------------------------------------------------------- what a thread does, by its place
@@ -102,8 +102,8 @@ looked_deeds decision = []
 
 -- a writer is pending until it has looked for readers
 abbrev pub came_in_deeds : Want → List Deed
-came_in_deeds Exclusive = Does Pend ∷ []
-came_in_deeds x = Does (Enter x) ∷ End ∷ []
+came_in_deeds Exclusive = Case Pend ∷ []
+came_in_deeds x = Case (Enter x) ∷ End ∷ []
 
 -- behind its exchange, by whether it succeeded
 abbrev pub exchanged_deeds : Want → Decision → Bool → Decision → List Deed
@@ -113,7 +113,7 @@ exchanged_deeds x decision won now = looked_deeds now
 
 -- a pending writer owns where nobody shares
 abbrev pub counted_deeds : ℕ → List Deed
-counted_deeds seen = if count_in seen == 0 then Does Settle ∷ End ∷ [] else []
+counted_deeds seen = if count_in seen == 0 then Case Settle ∷ End ∷ [] else []
 
 -- a case of the lock, and the end of the call where nobody is to be woken
 abbrev pub does_and_wakes : Bool → Deed → List Deed
@@ -129,16 +129,16 @@ abbrev pub park_deeds : Deed → Line → ParkAt → Reply → List Deed
 park_deeds parks m parking.Check (reply.Parked true) = parks ∷ []
 park_deeds parks m (parking.Leave parked) reply.Done = Out ∷ []
 park_deeds parks m parking.Asleep reply.Late = In m ∷ []
-park_deeds parks m parking.Remove (reply.Removed none_left) = Does Late ∷ []
+park_deeds parks m parking.Remove (reply.Removed none_left) = Case Late ∷ []
 park_deeds parks m parking.Clear (reply.Value seen) = Clear m ∷ []
 park_deeds parks m parking.GiveUp reply.Done = Out ∷ []
 park_deeds parks m to told = []
 
 -- who is taken of the second queue, if anybody, is no part of a place: `whom`
 abbrev pub takes : Line → Option ℕ → Deed
-takes Main whom = Does (TakePicked None)
+takes Main whom = Case (TakePicked None)
 takes Second None = FindNobody Second
-takes Second (Some u) = Does (TakeAside u)
+takes Second (Some u) = Case (TakeAside u)
 
 abbrev pub wake_deeds : Line → WakeAt → Option ℕ → Reply → List Deed
 wake_deeds m waking.Enter whom reply.Done = In m ∷ []
@@ -150,22 +150,22 @@ wake_deeds m to whom told = []
 
 abbrev pub deeds_at : Admission → RwLockPlace → RwLockAt → Option ℕ → Reply → List Deed
 deeds_at a p at.First whom (reply.Value seen) =
-    if seen == 0 then Does (Enter Exclusive) ∷ End ∷ [] else missed_deeds (patience_at p)
+    if seen == 0 then Case (Enter Exclusive) ∷ End ∷ [] else missed_deeds (patience_at p)
 deeds_at a p at.Load whom (reply.Value seen) = looked_deeds (decided a p seen)
 deeds_at a p (at.Decide expected) whom (reply.Value seen) =
     exchanged_deeds (want_at p) (decided a p expected) (seen == expected) (decided a p seen)
 deeds_at a p (at.Decide expected) whom (reply.Spun seen) = looked_deeds (decided a p seen)
 deeds_at a p (at.Decide expected) whom reply.Done = In Main ∷ []
-deeds_at a p (at.Park to) whom told = park_deeds (Does (Park (want_at p))) Main to told
+deeds_at a p (at.Park to) whom told = park_deeds (Case (Park (want_at p))) Main to told
 deeds_at a p at.Look whom (reply.Value seen) = counted_deeds seen
 deeds_at a p (at.Count expected) whom (reply.Value seen) =
     if seen == expected then Mark Second ∷ [] else counted_deeds seen
 deeds_at a p (at.Count expected) whom (reply.Spun seen) = counted_deeds seen
 deeds_at a p (at.Count expected) whom reply.Done = In Second ∷ []
-deeds_at a p (at.Aside to) whom told = park_deeds (Does Aside) Second to told
-deeds_at a p at.RollBack whom (reply.Value seen) = does_and_wakes (has_parked seen) (Does Rollback)
+deeds_at a p (at.Aside to) whom told = park_deeds (Case Aside) Second to told
+deeds_at a p at.RollBack whom (reply.Value seen) = does_and_wakes (has_parked seen) (Case Rollback)
 deeds_at a p at.GiveWay whom (reply.Value seen) =
-    does_and_wakes (sees_waiter (want_at p) seen) (Does (Leave (want_at p)))
+    does_and_wakes (sees_waiter (want_at p) seen) (Case (Leave (want_at p)))
 deeds_at a p (at.Wake m to) whom told = wake_deeds m to whom told
 deeds_at a p to whom told = []
 
@@ -174,11 +174,11 @@ rwlock_deeds a p whom told = deeds_at a p p.at whom told
 
 abbrev pub after_all : Rules → List Deed → Site → ℕ → Site
 after_all r [] s t = s
-after_all r (d ∷ ds) s t = after_all r ds (after r d s t) t
+after_all r (d ∷ ds) s t = after_all r ds (after_deed r d s t) t
 
 abbrev pub AllNeeded : Rules → List Deed → Site → ℕ → Type 0
 AllNeeded r [] s t = Unit {0}
-AllNeeded r (d ∷ ds) s t = Needed r d s t × AllNeeded r ds (after r d s t) t
+AllNeeded r (d ∷ ds) s t = Needed r d s t × AllNeeded r ds (after_deed r d s t) t
 
 -- ---------------------------------------------------------------- the laws
 

@@ -1,7 +1,7 @@
 -- What the codes say of owners.
 use Rattle.std.specs.Prelude.{◌≡◌, ◌≢◌, ◌⊎◌, ℕ, ◌+◌, ◌-◌, ◌*◌, ◌/◌, ◌%◌, ◌^◌, ◌<◌, ◌≤◌, List, true}
 use Rattle.lot_base.specs.declared.ops.Op.TheVariants.{Load, Store, Swap, Add, Sub, Or, And, Exchange}
-use Rattle.lot_words.specs.Places.{place}
+use Rattle.lot_words.specs.Indices.{word_index}
 use Rattle.lot_words.specs.Views.{owning, owning_with}
 use Rattle.lot_words.specs.Steps.{MayStep, has}
 use Rattle.lot_words.specs.declared.owners.Owner.TheVariants.{Exclusive, Pending, Upgrading, Upgradable, Shared, Runner}
@@ -89,7 +89,7 @@ OnceMaySteps = (at : ℕ) (owns : List Ownership) → OnceSteps at owns
 pub record CondvarSteps (at : ℕ) (owns : List Ownership) : Type 0 where
   pub load : MayStep Condvar at Load owns
   -- who owns a mutex shows it, where none is shown
-  pub show : (mutex : ℕ) → has (owning (place mutex Mutex) Exclusive) owns ≡ true → MayStep Condvar at (Exchange 0 (mutex + 1)) owns
+  pub show : (mutex : ℕ) → has (owning (word_index mutex Mutex) Exclusive) owns ≡ true → MayStep Condvar at (Exchange 0 (mutex + 1)) owns
   pub hide : MayStep Condvar at (Store 0) owns
 
 -- whoever it is, it may take them
@@ -98,11 +98,11 @@ CondvarMaySteps = (at : ℕ) (owns : List Ownership) → CondvarSteps at owns
 
 -- the kinds of step on the count word of the mutex before it
 pub record CountSteps (mutex : ℕ) (owns : List Ownership) : Type 0 where
-  pub load : MayStep Count (place (mutex + 1) Count) Load owns
+  pub load : MayStep Count (word_index (mutex + 1) Count) Load owns
   -- who owns the mutex, and says this count of it, counts once more or once less, or stores another count
-  pub raise : (count : ℕ) → has (owning_with (place mutex Mutex) count) owns ≡ true → IsCountCode (count + 1) → MayStep Count (place (mutex + 1) Count) (Add 1) owns
-  pub lower : (count : ℕ) → has (owning_with (place mutex Mutex) (count + 1)) owns ≡ true → IsCountCode count → MayStep Count (place (mutex + 1) Count) (Sub 1) owns
-  pub store : (count m : ℕ) → has (owning_with (place mutex Mutex) count) owns ≡ true → IsCountCode m → MayStep Count (place (mutex + 1) Count) (Store m) owns
+  pub raise : (count : ℕ) → has (owning_with (word_index mutex Mutex) count) owns ≡ true → IsCountCode (count + 1) → MayStep Count (word_index (mutex + 1) Count) (Add 1) owns
+  pub lower : (count : ℕ) → has (owning_with (word_index mutex Mutex) (count + 1)) owns ≡ true → IsCountCode count → MayStep Count (word_index (mutex + 1) Count) (Sub 1) owns
+  pub store : (count m : ℕ) → has (owning_with (word_index mutex Mutex) count) owns ≡ true → IsCountCode m → MayStep Count (word_index (mutex + 1) Count) (Store m) owns
 
 -- whoever it is, it may take them
 abbrev pub CountMaySteps : Type 0

@@ -3,7 +3,7 @@ use Rattle.std.specs.Prelude.{◌≡◌, ℕ, ◌+◌, ◌<◌, ◌≤◌, cond,
 use mathlib.Core.Option.{some}
 use lib.ListN.{get_elem?}
 use Rattle.atomic_table.specs.Table.{State}
-use Rattle.lot_words.specs.Places.{counter, place}
+use Rattle.lot_words.specs.Indices.{counter, word_index}
 use Rattle.lot_words.specs.Views.{total, drew, steps_at, named}
 use Rattle.lot_words.specs.Codes.{everyone, IsCountCode, Shows}
 use Rattle.lot_words.specs.Rule.{LotRule}
@@ -30,10 +30,10 @@ UntouchedIs0 S = (words : ℕ) (s : State S View) → LotRule words s → (at : 
 -- a condition variable shows no mutex, or one on which somebody stepped
 abbrev pub ShownWasStepped : Type 0 → Type 0
 ShownWasStepped S = (words : ℕ) (s : State S View) → LotRule words s → (number : ℕ) → number < words →
-    Shows (λ mutex. 0 < total (steps_at (place mutex Mutex)) s.views) (slice_index s.words (place number Condvar))
+    Shows (λ mutex. 0 < total (steps_at (word_index mutex Mutex)) s.views) (slice_index s.words (word_index number Condvar))
 
 -- a count word is 0, or a thread with how often it locked the mutex before, and 0 where nobody owns that
 abbrev pub CountsAnOwner : Type 0 → Type 0
 CountsAnOwner S = (words : ℕ) (s : State S View) → LotRule words s → (number : ℕ) → number + 1 < words →
-    IsCountCode (slice_index s.words (place (number + 1) Count))
-    × (named (place number Mutex) everyone s.views ≡ 0 → slice_index s.words (place (number + 1) Count) ≡ 0)
+    IsCountCode (slice_index s.words (word_index (number + 1) Count))
+    × (named (word_index number Mutex) everyone s.views ≡ 0 → slice_index s.words (word_index (number + 1) Count) ≡ 0)

@@ -5,16 +5,16 @@ use Rattle.lot_text.specs.Sent.{SendsFront}
 use Rattle.lot_text.specs.Lines.{lines_of}
 use Rattle.lot_text.specs.Reads.{IsOneLine}
 use Rattle.lot_text.specs.Text.{malformed_line, no_memory_line}
-use Rattle.lotsim.specs.Stages.{Stage, nothing, answer_of}
+use Rattle.lotsim.specs.Stages.{Stage, nothing, after_line}
 
 -- ---------------------------------------------------------------- the text of a schedule
 
 -- a line may lead from a stage to another with this text
 abbrev pub MayAnswer : Stage → List ℕ → Stage → List ℕ → Type 0
-MayAnswer stage line next text = answer_of stage line ≡ Some (next, text)
+MayAnswer stage line next text = after_line stage line ≡ Some (next, text)
 
 abbrev pub IsMalformed : Stage → List ℕ → Type 0
-IsMalformed stage line = answer_of stage line ≡ None
+IsMalformed stage line = after_line stage line ≡ None
 
 -- the lines from a number on have this text and end in this status: the first of another form is the last that is answered
 abbrev pub IsReplay : ℕ → Stage → List (List ℕ) → List ℕ → ℕ → Type 0

@@ -88,5 +88,5 @@ obeyed (declaring threads names kinds) command = played names (opening kinds thr
 obeyed (running names w) command = played names w command
 
 -- the stage and the text after a line, or none where it is malformed
-abbrev pub answer_of : Stage → List ℕ → Option (Stage × List ℕ)
-answer_of stage line = if nat_le (length line) line_len then option_and_then (obeyed stage) (meaning line) else None
+abbrev pub after_line : Stage → List ℕ → Option (Stage × List ℕ)
+after_line stage line = if nat_le (length line) line_len then option_and_then (obeyed stage) (meaning line) else None

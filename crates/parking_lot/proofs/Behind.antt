@@ -21,7 +21,7 @@ use Rattle.lot_steps.specs.declared.places.Place.{Place}
 use Rattle.lot_steps.specs.declared.places.Place.TheVariants.{Mutex}
 use Rattle.lot_words.specs.declared.owners.Ownership.{Ownership}
 use Rattle.lot_words.specs.declared.views.WordStep.{WordStep}
-use Rattle.parking_lot_core.specs.declared.tokens.Record.{Record}
+use Rattle.parking_lot_core.specs.declared.tokens.SectionRecord.{SectionRecord}
 use Rattle.parking_lot.specs.Calls.{beginning, first_op, purpose_in, saw_waiter, GoesOn, Releases, TookIfParked}
 use Rattle.parking_lot.specs.Fitting.{enters, purpose_of, Fits, IsOver, Outside, TookAt, held, beside}
 use Rattle.parking_lot.specs.Paths.{mutex_at, step, Walks}
@@ -59,7 +59,7 @@ module _ (n : ℕ) where
   goes_to call.UnlockFair seen owns g = ap (λ (b : Bool). mutex_goes n (looked false (not b))) (ne_eqb seen 1 g.0)
   goes_to call.Bump seen owns g = ap (λ (b : Bool). mutex_goes n (looked true b)) g.0
 
-  fits_there : (up : Type 0) (c : MutexCall) (seen : ℕ) (owns : List Ownership) (last : Option Record) → GoesOn n c seen owns → Fits up n owns (Mutex n (rest c)) (stage owns None last)
+  fits_there : (up : Type 0) (c : MutexCall) (seen : ℕ) (owns : List Ownership) (last : Option SectionRecord) → GoesOn n c seen owns → Fits up n owns (Mutex n (rest c)) (stage owns None last)
   fits_there up call.Lock seen owns last g = (refl, (refl, refl))
   fits_there up call.LockTimed seen owns last g = (refl, (refl, refl))
   fits_there up call.TryLock seen owns last g = absurd g
@@ -104,10 +104,10 @@ module _ (n : ℕ) where
       by_bit false e = ap (λ (b : Bool). mutex_does n (if b then next.TheVariants.End No else next.TheVariants.End Yes)) e
 
   -- a release that saw a waiter took it
-  pub releases_behind : (c : MutexCall) (seen : ℕ) (old mid new : List WordStep) (last : Option Record) → saw_waiter c seen ≡ true → mid ≡ old ++ step (mutex_at n) (first_op c) seen → (more : List WordStep) × (new ≡ mid ++ more) → TookAt n last → Releases n c old new last
+  pub releases_behind : (c : MutexCall) (seen : ℕ) (old mid new : List WordStep) (last : Option SectionRecord) → saw_waiter c seen ≡ true → mid ≡ old ++ step (mutex_at n) (first_op c) seen → (more : List WordStep) × (new ≡ mid ++ more) → TookAt n last → Releases n c old new last
   releases_behind c seen old mid new last waits saw rest took = (seen, rest.0, rest.1 ∙ ap (λ (l : List WordStep). l ++ rest.0) saw, subst (λ (b : Bool). TookIfParked n b rest.0 last) (sym waits) took)
 
-  pub fits_behind : (up : Type 0) (c : MutexCall) (seen : ℕ) (owns : List Ownership) (last : Option Record) → GoesOn n c seen owns → Fits up n owns (next_place (beginning n c) (Value seen)) (stage owns None last)
+  pub fits_behind : (up : Type 0) (c : MutexCall) (seen : ℕ) (owns : List Ownership) (last : Option SectionRecord) → GoesOn n c seen owns → Fits up n owns (next_place (beginning n c) (Value seen)) (stage owns None last)
   fits_behind up c seen owns last g = subst (λ (p : Place). Fits up n owns p (stage owns None last)) (sym (goes_to c seen owns g)) (fits_there up c seen owns last g)
 
   pub over_behind : (up : Type 0) (c : MutexCall) (seen : ℕ) (owns : List Ownership) (answer : Answer) (new : Stage) → GoesOn n c seen owns → IsOver up n owns (purpose_of (next_place (beginning n c) (Value seen))) answer new → IsOver up n owns (purpose_in c) answer new

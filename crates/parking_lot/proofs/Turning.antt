@@ -10,7 +10,7 @@ use Rattle.lot_steps.specs.declared.acts.Reply.{Reply}
 use Rattle.lot_steps.specs.declared.acts.Reply.TheVariants.{Done, Value, Parked, Took, Removed, Late, Woken}
 use Rattle.lot_steps.specs.declared.places.Place.{Place}
 use Rattle.lot_steps.specs.declared.places.Place.TheVariants.{Idle, Mutex}
-use Rattle.lot_words.specs.Places.{place}
+use Rattle.lot_words.specs.Indices.{word_index}
 use Rattle.lot_words.specs.declared.owners.Ownership.{Ownership}
 use Rattle.lot_words.specs.declared.views.WordStep.{WordStep}
 use Rattle.lot_words.specs.declared.words.WordKind as kinds
@@ -44,6 +44,6 @@ has_keys up n base (Mutex l at) st small f = subst (λ (l : ℕ). l < 9223372036
 has_keys up n base Idle st small f = absurd f
 
 -- by the word's kind, which is a mutex
-pub leads_by : (up : Type 0) (kind : kinds.WordKind) → kind ≡ kinds.TheVariants.Mutex → (n : ℕ) (base : List Ownership) (p : Place) (st : Stage) → Fits up n base p st → Needs kind (place n kind) st (act_of p)
-    × ((reply : Reply) (new : Stage) → Became up kind (place n kind) (late_key p) st (act_of p) reply new → Reached up n base p reply new)
-leads_by up kind is n base p st f = subst (λ (k : kinds.WordKind). Needs k (place n k) st (act_of p) × ((reply : Reply) (new : Stage) → Became up k (place n k) (late_key p) st (act_of p) reply new → Reached up n base p reply new)) (sym is) (mutex_leads up n base p st f)
+pub leads_by : (up : Type 0) (kind : kinds.WordKind) → kind ≡ kinds.TheVariants.Mutex → (n : ℕ) (base : List Ownership) (p : Place) (st : Stage) → Fits up n base p st → Needs kind (word_index n kind) st (act_of p)
+    × ((reply : Reply) (new : Stage) → Became up kind (word_index n kind) (late_key p) st (act_of p) reply new → Reached up n base p reply new)
+leads_by up kind is n base p st f = subst (λ (k : kinds.WordKind). Needs k (word_index n k) st (act_of p) × ((reply : Reply) (new : Stage) → Became up k (word_index n k) (late_key p) st (act_of p) reply new → Reached up n base p reply new)) (sym is) (mutex_leads up n base p st f)

@@ -31,7 +31,7 @@ use Rattle.parking_lot_core.specs.declared.lot.ParkingLot.{ParkingLot}
 use Rattle.parking_lot_core.specs.declared.sections.Section.{Section}
 use Rattle.parking_lot_core.specs.declared.tokens.Did.{Did}
 use Rattle.parking_lot_core.specs.declared.tokens.Did.TheVariants.{Nothing, TakeFirst}
-use Rattle.parking_lot_core.specs.declared.tokens.Record.{Record}
+use Rattle.parking_lot_core.specs.declared.tokens.SectionRecord.{SectionRecord}
 use Rattle.parking_lot_core.specs.declared.tokens.Token.{Token}
 use Rattle.parking_lot.specs.Paths.{step}
 
@@ -45,9 +45,9 @@ pub record Inside : Type 0 where
 pub record Stage : Type 0 where
   pub owns : List Ownership
   pub inside : Option Inside
-  pub last : Option Record
+  pub last : Option SectionRecord
 
-abbrev pub stage : List Ownership → Option Inside → Option Record → Stage
+abbrev pub stage : List Ownership → Option Inside → Option SectionRecord → Stage
 stage owns inside last = record { owns = owns; inside = inside; last = last }
 
 abbrev pub inside_of : Option Section → Option Inside
@@ -139,7 +139,7 @@ abbrev pub handed : WordKind → ℕ → Op → ℕ → Stage → Stage
 handed kind at op seen st = stage (without (owning at Exclusive) (owns_after_step kind at op seen st.owns)) (all_given st.inside) None
 
 -- what a section that is left leaves behind
-abbrev pub IsLeft : Option Inside → Option Record → Type 0
+abbrev pub IsLeft : Option Inside → Option SectionRecord → Type 0
 IsLeft None last = ⊥
 IsLeft (Some inside) last = (number : ℕ) × (last ≡ Some (record { key = first_key inside.keys; did = inside.did; number = number }))
 

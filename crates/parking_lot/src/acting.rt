@@ -8,7 +8,7 @@ ghost use Rattle.lot_steps.specs.Acts.{holds};
 ghost use Rattle.lot_steps.specs.declared.acts.Act.TheVariants as acts;
 ghost use Rattle.lot_steps.specs.declared.acts.Reply.TheVariants.{Value};
 ghost use Rattle.lot_words.specs.Lots.{IsWordOf};
-ghost use Rattle.lot_words.specs.Places.{place};
+ghost use Rattle.lot_words.specs.Indices.{word_index};
 ghost use Rattle.lot_words.specs.Steps.{MayStep, CodesWith, after_step};
 ghost use Rattle.parking_lot_core.specs.Keys.{AreKeys};
 ghost use Rattle.parking_lot_core.specs.Tokens.{IsTokenOf, Stays, view_of, last_of};
@@ -38,10 +38,10 @@ fn park(
     want: Want,
 ) -> bool
     requires own { IsTokenOf lot.now token.old × IsWordOf lot.now.words word × IsIn lot.now section.old }
-    requires needs { MayStep word.kind (place word.number word.kind) Load (view_of token.old).owns × HasKey key (inside_of section.old) }
+    requires needs { MayStep word.kind (word_index word.number word.kind) Load (view_of token.old).owns × HasKey key (inside_of section.old) }
     ensures own { Stays lot.now token.old token.new × (last_of token.new ≡ None) }
     ensures same { IsIn lot.now section.new × (inside_of section.new ≡ inside_of section.old) }
-    ensures stepped { (seen : ℕ) × (result ≡ holds check seen) × CodesWith word.kind (place word.number word.kind) seen (view_of token.old).owns × (view_of token.new ≡ after_step word.kind (place word.number word.kind) Load seen (view_of token.old)) }
+    ensures stepped { (seen : ℕ) × (result ≡ holds check seen) × CodesWith word.kind (word_index word.number word.kind) seen (view_of token.old).owns × (view_of token.new ≡ after_step word.kind (word_index word.number word.kind) Load seen (view_of token.old)) }
     ensures stands { MatchBool result (lines (waiting_of section.new) ≡ lines (without token.old.number (waiting_of section.old) ++ waiter key token.old.number want ∷ [])) (waiting_of section.new ≡ waiting_of section.old) }
 {
     match section {
@@ -82,11 +82,11 @@ fn hand_over<R: Wait>(
     op: Op,
 ) -> u64
     requires own { IsTokenOf lot.now token.old × IsWordOf lot.now.words word × IsIn lot.now section.old }
-    requires needs { MayStep word.kind (place word.number word.kind) op (view_of token.old).owns × KeepsIt word.kind (place word.number word.kind) op (view_of token.old).owns }
+    requires needs { MayStep word.kind (word_index word.number word.kind) op (view_of token.old).owns × KeepsIt word.kind (word_index word.number word.kind) op (view_of token.old).owns }
     requires taken { HasOneTaken (inside_of section.old) }
     ensures own { Stays lot.now token.old token.new × IsIn lot.now section.new }
-    ensures became { CodesWith word.kind (place word.number word.kind) result (view_of token.old).owns × (stage_of token.new section.new ≡ handed word.kind (place word.number word.kind) op result (stage_of token.old section.old)) }
-    ensures adds { Adds (place word.number word.kind) (acts.HandOver 0 op) (Value result) (view_of token.old).steps (view_of token.new).steps }
+    ensures became { CodesWith word.kind (word_index word.number word.kind) result (view_of token.old).owns × (stage_of token.new section.new ≡ handed word.kind (word_index word.number word.kind) op result (stage_of token.old section.old)) }
+    ensures adds { Adds (word_index word.number word.kind) (acts.HandOver 0 op) (Value result) (view_of token.old).steps (view_of token.new).steps }
 {
     match section {
         Some(inside) => {
@@ -170,7 +170,7 @@ fn sleep<'a, R: Wait, C: Clock>(
 ) -> Reply
     requires own { IsTokenOf lot.now token.old × IsWordOf lot.now.words word × (inside_of section.old ≡ None) }
     ensures own { Stays lot.now token.old token.new × IsIn lot.now section.new × ((view_of token.new).steps ≡ (view_of token.old).steps) }
-    ensures became { Became (IsUp C.tells limit.entry) word.kind (place word.number word.kind) late (stage_of token.old section.old) acts.Sleep result (stage_of token.new section.new) }
+    ensures became { Became (IsUp C.tells limit.entry) word.kind (word_index word.number word.kind) late (stage_of token.old section.old) acts.Sleep result (stage_of token.new section.new) }
 {
     match lot.sleep(rt, token, word, Want::Exclusive, late.and(limit)) {
         Slept::Woken => Reply::Woken(Note::Normal),
@@ -205,10 +205,10 @@ pub(crate) fn perform<'a, R: Wait, C: Clock>(
     act: Act,
 ) -> Reply
     requires own { IsTokenOf lot.now token.old × IsWordOf lot.now.words word × IsIn lot.now section.old }
-    requires needs { Needs word.kind (place word.number word.kind) (stage_of token.old section.old) act }
+    requires needs { Needs word.kind (word_index word.number word.kind) (stage_of token.old section.old) act }
     ensures own { Stays lot.now token.old token.new × IsIn lot.now section.new }
-    ensures became { Became (IsUp C.tells limit.entry) word.kind (place word.number word.kind) late (stage_of token.old section.old) act result (stage_of token.new section.new) }
-    ensures adds { Adds (place word.number word.kind) act result (view_of token.old).steps (view_of token.new).steps }
+    ensures became { Became (IsUp C.tells limit.entry) word.kind (word_index word.number word.kind) late (stage_of token.old section.old) act result (stage_of token.new section.new) }
+    ensures adds { Adds (word_index word.number word.kind) act result (view_of token.old).steps (view_of token.new).steps }
 {
     match act {
         Act::Word { op, .. } => Reply::Value(lot.word(token, word, op)),

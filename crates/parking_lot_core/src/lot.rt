@@ -2,8 +2,8 @@
 ghost use Rattle.std.specs.Prelude.{◌≡◌, ◌<◌, ◌≤◌, IfOk, IfErr, IsTrue, ◌↔◌, All, None, length, map};
 ghost use Rattle.std.specs.List.{range_with_len};
 ghost use Rattle.std.specs.Arc.{arc_value};
-ghost use Rattle.keyed_locks.specs.Guards.{IsFull};
-ghost use Rattle.lot_words.specs.Places.{most_words};
+ghost use Rattle.keyed_locks.specs.Guards.{HasValue};
+ghost use Rattle.lot_words.specs.Indices.{most_words};
 
 use crate::tokens::Ticket;
 use crate::waiters::WakeRecord;
@@ -30,7 +30,7 @@ pub struct ParkingLot {
 }
 
 fn empty_records(alloc: Global, seats: usize) -> Result<Vec<Option<WakeRecord>>, AllocError>
-    ensures { IfOk result (λ records. (length records.items ≡ seats) × All (IsFull (λ wake_record. wake_record.right ≡ None)) records.items) }
+    ensures { IfOk result (λ records. (length records.items ≡ seats) × All (HasValue (λ wake_record. wake_record.right ≡ None)) records.items) }
 {
     let mut records = Vec::with_capacity(alloc, seats)?;
     for _ in 0..seats {

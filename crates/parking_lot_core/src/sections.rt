@@ -12,7 +12,7 @@ ghost use Rattle.parking_lot_core.specs.Keys.{AreKeys, IsKeyOf, first_key};
 ghost use Rattle.parking_lot_core.specs.declared.tokens.Did.TheVariants.{Nothing, TakeFirst, TakeAll, TakePicked};
 
 use crate::lot::ParkingLot;
-use crate::tokens::{Did, Record, Token};
+use crate::tokens::{Did, SectionRecord, Token};
 use lot_base::{Key, Keys, Note, Requeue, Want};
 use lot_queues::Queueing;
 use lot_words::Right;
@@ -311,7 +311,7 @@ impl<'a> Section<'a> {
         let taken = queueing.taken().len();
         let first = lot.tie(queueing.taken());
         drop(queueing);
-        token.record = Record {
+        token.record = SectionRecord {
             key: first_of_keys(keys),
             did,
             number: taken + moved,
