@@ -217,8 +217,8 @@ abbrev pub is_recursive : Sort → Bool
 is_recursive Recursive = true
 is_recursive sort = false
 
--- where the picking stops: behind that first one, where it is a writer, the lock isn't recursive and no more than a shared right is
--- kept; else behind the last
+-- where the picking stops: behind that first one, where it is a writer, the lock isn't recursive and no more than a shared
+-- right is kept; else behind the last
 abbrev pub stop_of : Sort → Option Want → List Queued → ℕ
 stop_of sort start q =
     if is_writer (first_unshared q) && (not (is_recursive sort) && not (keeps_more start))
@@ -268,8 +268,8 @@ pub data LockCase : Type 0 where
   TakePicked : (start : Option Want) → LockCase
   -- it wakes all whom it has taken, and they try again
   Wake : LockCase
-  -- it hands its right to all whom it has taken: it owns no longer, and they own, in one step; the successor is the one among them
-  -- that wants more than to share
+  -- it hands its right to all whom it has taken: it owns no longer, and they own, in one step; the successor is the one
+  -- among them that wants more than to share
   HandOff : (right : Want) → (successor : Option Queued) → LockCase
   -- its time is up, and it leaves the queue
   Late : LockCase

@@ -165,8 +165,8 @@ pub record OnceFollows (s : OnceSite) (t : ℕ) (p : OncePlace) (m : Move) : Typ
   pub needed : AllNeeded m.deeds s t
   pub doing : (all_deeds m.deeds s t).doing t ≡ doing_then p m.next
 
--- what the machine knows: who sleeps or removes itself stands in the list, and nobody else stands; the section entered is free; a place by
--- which nobody retries says so; a value by which it decides was seen
+-- what the machine knows: who sleeps or removes itself stands in the list, and nobody else stands; the section entered is
+-- free; a place by which nobody retries says so; a value by which it decides was seen
 pub record IsAtPlace (s : OnceSite) (t : ℕ) (p : OncePlace) : Type 0 where
   pub holds : IsOnce s
   pub is : s.doing t ≡ doing_of p

@@ -225,7 +225,8 @@ case_doing sort s now (HandOff x successor) d = record d { covers = false; claim
 case_doing sort s now Late d = record d { empty = late_found now d.inside }
 case_doing sort s now Rollback d = gives_way s d (fallen s.lock.pending)
 
--- a hand-over stores the word anew: the bit of the main line stands where somebody is left, and an exclusive owner leaves no other
+-- a hand-over stores the word anew: the bit of the main line stands where somebody is left, and an exclusive owner leaves no
+-- other
 abbrev pub case_parked : Site → LockState → LockCase → Bool
 case_parked s now (HandOff x successor) = not (is_empty now.queue)
 case_parked s now case = s.parked

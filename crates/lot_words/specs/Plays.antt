@@ -39,7 +39,8 @@ ors st me found after = TakesStep st.word (Or st.first) me found after
 
 -- a load that finds the bits set is an or with them, and any other is no step
 abbrev pub saw_set : {S : Type 0} → ℕ → Play S
-saw_set bits st me found after = (bit_or found bits ≡ found → TakesStep st.word (Or bits) me found after) × (bit_or found bits ≢ found → after ≡ me)
+saw_set bits st me found after = (bit_or found bits ≡ found → TakesStep st.word (Or bits) me found after)
+    × (bit_or found bits ≢ found → after ≡ me)
 
 abbrev pub ands : {S : Type 0} → Play S
 ands st me found after = TakesStep st.word (And st.first) me found after
@@ -61,8 +62,14 @@ looks st me found after = after ≡ (view (listed me.0 counter Load found) me.0.
 
 -- words of these kinds are drawn where the counter is as expected, and else it is greater
 abbrev pub draws : {S : Type 0} → List WordKind → Play S
-draws kinds st me found after = (found ≡ st.first → after ≡ (view (listed me.0 counter (Exchange st.first st.second) found) me.0.owns (numbered found kinds ++ me.0.drawn) st.second, me.1))
-    × (found ≢ st.first → (st.first < found) × (after ≡ (view (listed me.0 counter (Exchange st.first st.second) found) me.0.owns me.0.drawn found, me.1)))
+draws kinds st me found after =
+    (found ≡ st.first → after ≡ (
+      view (listed me.0 counter (Exchange st.first st.second) found) me.0.owns
+          (numbered found kinds ++ me.0.drawn) st.second,
+      me.1,
+    ))
+    × (found ≢ st.first → (st.first < found)
+    × (after ≡ (view (listed me.0 counter (Exchange st.first st.second) found) me.0.owns me.0.drawn found, me.1)))
 
 -- one ownership is split off a view
 abbrev pub left_over : Ownership → View → View

@@ -15,12 +15,16 @@ use Rattle.lot_words.specs.declared.words.WordKind.TheVariants.{Mutex, Condvar, 
 pub record LotRule {S : Type 0} (words : ℕ) (s : State S View) : Type 0 where
   pub size : length s.words ≡ table_size words
   -- each lock word is the code of the owners that all views together name
-  pub coded : (number : ℕ) (kind : WordKind) → number < words → Codes kind (slice_index s.words (word_index number kind)) (λ weight. named (word_index number kind) weight s.views)
+  pub coded : (number : ℕ) (kind : WordKind) → number < words
+      → Codes kind (slice_index s.words (word_index number kind))
+      (λ weight. named (word_index number kind) weight s.views)
   -- a condition variable shows a mutex on which somebody has stepped, or none
-  pub shows : (number : ℕ) → number < words → Shows (λ mutex. 0 < total (steps_at (word_index mutex Mutex)) s.views) (slice_index s.words (word_index number Condvar))
+  pub shows : (number : ℕ) → number < words
+      → Shows (λ mutex. 0 < total (steps_at (word_index mutex Mutex)) s.views) (slice_index s.words (word_index number Condvar))
   -- a count word is what the owner of the mutex before it says
   pub counts : (number : ℕ) → number < words → IsCountCode (slice_index s.words (word_index number Count))
-      × (slice_index s.words (word_index number Count) ≡ total (λ (v : View). counted (mutex_of_count (word_index number Count)) v.owns) s.views)
+      × (slice_index s.words (word_index number Count)
+      ≡ total (λ (v : View). counted (mutex_of_count (word_index number Count)) v.owns) s.views)
   -- what is owned is a word of the lot, and not the counter
   pub owned : (at : ℕ) (weight : Owner → ℕ) → 0 < named at weight s.views → (0 < at) × (at < length s.words)
   -- a word on which nobody has stepped is 0

@@ -17,15 +17,18 @@ times_drawn number views = total (drew (λ k. cond (k == number) 1 0)) views
 -- the numbers below the counter were drawn, each once, and each is a word of the lot. No other number was drawn
 abbrev pub DrawnOnce : Type 0 → Type 0
 DrawnOnce S = (words : ℕ) (s : State S View) → LotRule words s → (number : ℕ) →
-    (number < slice_index s.words counter → (times_drawn number s.views ≡ 1) × (number < words)) × (slice_index s.words counter ≤ number → times_drawn number s.views ≡ 0)
+    (number < slice_index s.words counter → (times_drawn number s.views ≡ 1) × (number < words))
+    × (slice_index s.words counter ≤ number → times_drawn number s.views ≡ 0)
 
 -- the counter never falls below what a view saw of it
 abbrev pub NeverFalls : Type 0 → Type 0
-NeverFalls S = (words : ℕ) (s : State S View) → LotRule words s → (seat : ℕ) (v : View) → get_elem? s.views seat ≡ some v → v.saw ≤ slice_index s.words counter
+NeverFalls S = (words : ℕ) (s : State S View) → LotRule words s → (seat : ℕ) (v : View)
+    → get_elem? s.views seat ≡ some v → v.saw ≤ slice_index s.words counter
 
 -- a word on which nobody stepped is 0, drawn or not
 abbrev pub UntouchedIs0 : Type 0 → Type 0
-UntouchedIs0 S = (words : ℕ) (s : State S View) → LotRule words s → (at : ℕ) → 0 < at → at < length s.words → total (steps_at at) s.views ≡ 0 → slice_index s.words at ≡ 0
+UntouchedIs0 S = (words : ℕ) (s : State S View) → LotRule words s → (at : ℕ) → 0 < at → at < length s.words
+    → total (steps_at at) s.views ≡ 0 → slice_index s.words at ≡ 0
 
 -- a condition variable shows no mutex, or one on which somebody stepped
 abbrev pub ShownWasStepped : Type 0 → Type 0

@@ -24,7 +24,8 @@ trading gives gets = record { gives = gives; gets = gets }
 
 -- by the value found and the value left: who sets LOCKED enters, who clears it leaves
 abbrev pub mutex_trade : ℕ → ℕ → Trade
-mutex_trade found left = cond (found % 2 == left % 2) (trading [] []) (cond (found % 2 == 0) (trading [] (Exclusive ∷ [])) (trading (Exclusive ∷ []) []))
+mutex_trade found left = cond (found % 2 == left % 2) (trading [] [])
+    (cond (found % 2 == 0) (trading [] (Exclusive ∷ [])) (trading (Exclusive ∷ []) []))
 
 abbrev pub owner_rank : Owner → ℕ
 owner_rank Exclusive = 0
@@ -132,20 +133,26 @@ CountAgrees _ at n owns = Unit {0}
 
 -- who changes what a condition variable shows hides it, or shows a mutex that it owns. Who changes a count word owns its mutex
 abbrev pub MayTie : WordKind → ℕ → ℕ → ℕ → List Ownership → Type 0
-MayTie Condvar at found left owns = (left ≡ found) ⊎ Shows (λ mutex. has (owning (word_index mutex Mutex) Exclusive) owns ≡ true) left
+MayTie Condvar at found left owns = (left ≡ found)
+    ⊎ Shows (λ mutex. has (owning (word_index mutex Mutex) Exclusive) owns ≡ true) left
 MayTie Count at found left owns = (left ≡ found) ⊎ (IsCountCode left × (has (owning_with (mutex_of_count at) found) owns ≡ true))
 MayTie _ at found left owns = Unit {0}
 
 -- n is the code of owners among whom these are
 abbrev pub CodesWith : WordKind → ℕ → ℕ → List Ownership → Type 0
-CodesWith kind at n owns = (owners : Owners) × Codes kind n owners × ((weight : Owner → ℕ) → owned at weight owns ≤ owners weight) × CountAgrees kind at n owns
+CodesWith kind at n owns = (owners : Owners) × Codes kind n owners
+    × ((weight : Owner → ℕ) → owned at weight owns ≤ owners weight) × CountAgrees kind at n owns
 
--- whatever code a step finds, of owners among whom these are: these have what it gives up, it leaves the code of the owners after it,
--- and a word that is tied to a mutex stays so
+-- whatever code a step finds, of owners among whom these are: these have what it gives up, it leaves the code of the owners
+-- after it, and a word that is tied to a mutex stays so
 abbrev pub MayStep : WordKind → ℕ → Op → List Ownership → Type 0
-MayStep kind at op owns = (n : ℕ) (owners : Owners) → n < 2 ^ 64 → Codes kind n owners → ((weight : Owner → ℕ) → owned at weight owns ≤ owners weight) → CountAgrees kind at n owns →
-    HasAll at (trade kind at op n owns).gives owns
-    × ((after : Owners) → ((weight : Owner → ℕ) → after weight + total weight (trade kind at op n owns).gives ≡ owners weight + total weight (trade kind at op n owns).gets) → Codes kind (apply op n) after)
+MayStep kind at op owns = (n : ℕ) (owners : Owners) → n < 2 ^ 64 → Codes kind n owners
+    → ((weight : Owner → ℕ) → owned at weight owns ≤ owners weight) → CountAgrees kind at n owns
+    → HasAll at (trade kind at op n owns).gives owns
+    × ((after : Owners)
+    → ((weight : Owner → ℕ) → after weight + total weight (trade kind at op n owns).gives
+    ≡ owners weight + total weight (trade kind at op n owns).gets)
+    → Codes kind (apply op n) after)
     × MayTie kind at n (apply op n) owns
 
 abbrev pub listed : View → ℕ → Op → ℕ → List WordStep

@@ -52,8 +52,10 @@ impl LotWords {
     pub fn new_pair(&self, seat: &mut Seat) -> Result<(Word, Word), Fault>
         requires { IsSeatOf self.now seat.old }
         ensures own { IsSeatOf self.now seat.new × (seat.new.me.1 ≡ seat.old.me.1) × (seat.new.me.0.owns ≡ seat.old.me.0.owns) }
-        ensures words { IfOk result (λ pair. IsWordOf self.now pair.0 × (pair.0.kind ≡ Mutex) × IsWordOf self.now pair.1 × (pair.1.kind ≡ Count) × (pair.1.number ≡ pair.0.number + 1)) }
-        ensures drawn { MatchResult result (λ pair. IsDrawn self.now.count (Mutex ∷ Count ∷ []) pair.0.number seat.old.me.0 seat.new.me.0)
+        ensures words { IfOk result (λ pair. IsWordOf self.now pair.0 × (pair.0.kind ≡ Mutex)
+            × IsWordOf self.now pair.1 × (pair.1.kind ≡ Count) × (pair.1.number ≡ pair.0.number + 1)) }
+        ensures drawn { MatchResult result
+            (λ pair. IsDrawn self.now.count (Mutex ∷ Count ∷ []) pair.0.number seat.old.me.0 seat.new.me.0)
             (λ fault. (fault ≡ Fault.LotFull) × IsDrawRefused self.now.count 2 seat.old.me.0 seat.new.me.0) }
     {
         match self.draw::<Brand>(seat, &[WordKind::Mutex, WordKind::Count]) {

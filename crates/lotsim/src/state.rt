@@ -128,7 +128,8 @@ impl Session {
 
     /// Makes the world, where it isn't there yet. It stays away where memory is refused.
     fn make_world(&mut self, alloc: Global)
-        ensures made { IfSome self.new.world (λ w. session_stage self.new ≡ running self.old.names.items (session_world self.old)) }
+        ensures made { IfSome self.new.world
+            (λ w. session_stage self.new ≡ running self.old.names.items (session_world self.old)) }
         ensures refused { IfNone self.new.world (session_stage self.new ≡ session_stage self.old) }
     {
         if self.world.is_none() {

@@ -19,7 +19,8 @@ use std::test::Fail;
 // A lot of one seat, and its token.
 fn one_seat(alloc: Global, words: usize) -> Result<(Arc<ParkingLot>, Token), Fault>
     requires { (0 < words) × (words ≤ 100) }
-    ensures { IfOk result (λ made. ((arc_value made.0).words.count ≡ words) × ((arc_value made.0).records.count ≡ 1) × IsTokenOf (arc_value made.0) made.1) }
+    ensures { IfOk result (λ made. ((arc_value made.0).words.count ≡ words) × ((arc_value made.0).records.count ≡ 1)
+        × IsTokenOf (arc_value made.0) made.1) }
 {
     one_of(alloc, words, 1)
 }
@@ -27,7 +28,8 @@ fn one_seat(alloc: Global, words: usize) -> Result<(Arc<ParkingLot>, Token), Fau
 // A lot of so many seats, and one token.
 fn one_of(alloc: Global, words: usize, seats: usize) -> Result<(Arc<ParkingLot>, Token), Fault>
     requires { (0 < words) × (words ≤ 100) × (0 < seats) × (seats ≤ 100) }
-    ensures { IfOk result (λ made. ((arc_value made.0).words.count ≡ words) × ((arc_value made.0).records.count ≡ seats) × IsTokenOf (arc_value made.0) made.1) }
+    ensures { IfOk result (λ made. ((arc_value made.0).words.count ≡ words)
+        × ((arc_value made.0).records.count ≡ seats) × IsTokenOf (arc_value made.0) made.1) }
 {
     let (lot, mut tickets) = ParkingLot::new(alloc, words, seats)?;
     match tickets.pop() {
@@ -38,7 +40,8 @@ fn one_of(alloc: Global, words: usize, seats: usize) -> Result<(Arc<ParkingLot>,
 
 // A lot of one seat, its token, and a mutex.
 pub fn one_mutex(alloc: Global) -> Result<(Arc<ParkingLot>, Token, Word), Fault>
-    ensures { IfOk result (λ made. IsTokenOf (arc_value made.0) made.1 × IsWordOf (arc_value made.0).words made.2 × (made.2.kind ≡ Mutex)) }
+    ensures { IfOk result (λ made. IsTokenOf (arc_value made.0) made.1 × IsWordOf (arc_value made.0).words made.2
+        × (made.2.kind ≡ Mutex)) }
 {
     let (lot, mut token) = one_seat(alloc, 4)?;
     let word = lot.new_word(&mut token, WordKind::Mutex)?;
