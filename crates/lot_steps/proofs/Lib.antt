@@ -1,3 +1,4 @@
 pub mod RwLockFit
 pub mod RwLockCodes
 pub mod RwLockSections
+pub mod RwLockOwners

@@ -7,4 +7,5 @@ pub mod MutexSteps
 pub mod MutexProfiles
 pub mod RwLockSteps
 pub mod RwLockDeeds
+pub mod RwLockProfiles
 pub mod Steps

@@ -17,6 +17,8 @@ use Rattle.lot_steps.specs.declared.acts.Next.TheVariants as next
 use Rattle.lot_steps.specs.declared.acts.Reply.{Reply}
 use Rattle.lot_steps.specs.declared.acts.Reply.TheVariants as reply
 use Rattle.lot_steps.specs.declared.rwlock.Admission.{Admission}
+use Rattle.lot_steps.specs.declared.rwlock.Change.{Change}
+use Rattle.lot_steps.specs.declared.rwlock.Change.TheVariants as changes
 use Rattle.lot_steps.specs.declared.rwlock.RwLockPlace.{RwLockPlace}
 use Rattle.lot_steps.specs.declared.rwlock.RwLockPurpose.{RwLockPurpose}
 use Rattle.lot_steps.specs.declared.rwlock.RwLockPurpose.TheVariants as purpose
@@ -28,9 +30,9 @@ use Rattle.lot_steps.specs.declared.rwlock.park.ParkAt.{ParkAt}
 use Rattle.lot_steps.specs.declared.rwlock.park.ParkAt.TheVariants as parking
 use Rattle.lot_steps.specs.declared.rwlock.release.WakeAt.{WakeAt}
 use Rattle.lot_steps.specs.declared.rwlock.release.WakeAt.TheVariants as waking
-use Rattle.lot_steps.specs.RwLockSteps.{want_at, patience_at, decided, park_check, rwlock_act, rwlock_next}
+use Rattle.lot_steps.specs.RwLockSteps.{wanted, want_at, patience_at, decided, park_check, rwlock_act, rwlock_next, change}
 use Rattle.lot_steps.specs.Acts.{holds}
-use Rattle.abstract_locks.specs.Locks.{Rules, Enter, Pend, Settle, Leave, Park, Aside, TakeAside, TakePicked, Late, Rollback, is_recursive, standing, times, without, unpicked}
+use Rattle.abstract_locks.specs.Locks.{LockState, Rules, with_owner, without_owner, pending_for, Enter, Pend, Settle, Leave, Park, Aside, TakeAside, TakePicked, Late, Rollback, is_recursive, standing, times, without, unpicked}
 use Rattle.abstract_locks.specs.Sites.{Claim, Has, Pends, Doing, idle, is_main, is_empty, Site, IsSite, Needed, after_deed, has_readers, Deed, End, In, Out, Mark, Clear, FindNobody, Case}
 use Rattle.abstract_locks.specs.Codes.{code, count_in, has_aside, has_parked}
 
@@ -283,3 +285,21 @@ abbrev pub RwLockSectionsFollow : Type 0
 RwLockSectionsFollow =
     (r : Rules) (a : Admission) (s : Site) (t : ℕ) (p : RwLockPlace) (whom : Option ℕ) (told : Reply)
     → IsAt r a s t p → MayHear r a s t p p.at whom told → FollowsBy r a s t p whom told
+
+-- ---------------------------------------------------------------- owners
+
+-- the lock behind what an operation does to its owners
+abbrev pub lock_by : Change → ℕ → LockState → LockState
+lock_by changes.Nothing t s = s
+lock_by (changes.Enter x) t s = with_owner t (wanted x) s
+lock_by changes.Pend t s = pending_for t false s
+lock_by changes.Settle t s = with_owner t Exclusive (record s { pending = None })
+lock_by (changes.Leave x) t s = without_owner t (wanted x) s
+lock_by changes.RollBack t s = record s { pending = None }
+
+-- each step on the word changes owners as its deeds say
+abbrev pub RwLockOwnersFollow : Type 0
+RwLockOwnersFollow =
+    (r : Rules) (a : Admission) (s : Site) (t l : ℕ) (p : RwLockPlace) (op : Op) → IsAt r a s t p
+    → rwlock_act l a p ≡ act.Word l op
+    → (after_all r (rwlock_deeds a p None (reply.Value (code r s))) s t).lock ≡ lock_by (change a p (code r s)) t s.lock

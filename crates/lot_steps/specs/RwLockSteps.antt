@@ -1,5 +1,5 @@
 -- The steps of a reader-writer lock: what a thread does at each place, and where each reply leads it.
-use Rattle.std.specs.Prelude.{ℕ, Bool, true, false, Option, Some, None, if◌then◌else◌, ◌==◌, ◌&&◌, ◌||◌, not, ◌+◌, ◌*◌, nat_le}
+use Rattle.std.specs.Prelude.{ℕ, Bool, true, false, Option, Some, None, if◌then◌else◌, ◌==◌, ◌&&◌, ◌||◌, not, ◌+◌, ◌-◌, ◌*◌, nat_le}
 use Rattle.lot_base.specs.declared.keys.Keys.TheVariants.{One}
 use Rattle.lot_base.specs.declared.keys.Line.{Line}
 use Rattle.lot_base.specs.declared.keys.Line.TheVariants.{Main, Second}
@@ -30,6 +30,11 @@ use Rattle.lot_steps.specs.declared.acts.Wakes as wake_notes
 use Rattle.lot_steps.specs.declared.acts.Whom.{Whom}
 use Rattle.lot_steps.specs.declared.acts.Whom as whom_taken
 use Rattle.lot_steps.specs.declared.rwlock.Admission.{Admission}
+use Rattle.lot_steps.specs.declared.owners.Fallback.TheVariants as fallbacks
+use Rattle.lot_steps.specs.declared.owners.Owners.{Owners}
+use Rattle.lot_steps.specs.declared.owners.Pending as owners
+use Rattle.lot_steps.specs.declared.rwlock.Change.{Change}
+use Rattle.lot_steps.specs.declared.rwlock.Change.TheVariants as changes
 use Rattle.lot_steps.specs.declared.rwlock.RwLockPlace.{RwLockPlace}
 use Rattle.lot_steps.specs.declared.rwlock.RwLockPurpose.{RwLockPurpose}
 use Rattle.lot_steps.specs.declared.rwlock.RwLockPurpose.TheVariants as purpose
@@ -320,3 +325,55 @@ next_at a p to reply = stays p to
 
 abbrev pub rwlock_next : Admission → RwLockPlace → Reply → Next RwLockPlace
 rwlock_next a p reply = next_at a p p.at reply
+
+-- ---------------------------------------------------------------- who owns
+
+-- behind an exchange that succeeded
+abbrev pub comes_in : Decision → Access → Change
+comes_in decisions.Take access.TheVariants.Exclusive = changes.Pend
+comes_in decisions.Take x = changes.Enter x
+comes_in decision x = changes.Nothing
+
+-- of a pending writer that saw this
+abbrev pub settles : ℕ → Change
+settles seen = if count_in seen == 0 then changes.Settle else changes.Nothing
+
+abbrev pub change_at : Admission → RwLockPlace → ℕ → RwLockAt → Change
+change_at a p seen at.First =
+    if seen == 0 then changes.Enter access.TheVariants.Exclusive else changes.Nothing
+change_at a p seen (at.Decide expected) =
+    if seen == expected then comes_in (decided a p expected) (access_of p.purpose) else changes.Nothing
+change_at a p seen at.Look = settles seen
+change_at a p seen (at.Count expected) = if seen == expected then changes.Nothing else settles seen
+change_at a p seen at.RollBack = changes.RollBack
+change_at a p seen at.GiveWay = changes.Leave (access_of p.purpose)
+change_at a p seen to = changes.Nothing
+
+-- what an operation on the word does to the owners, which saw this value
+abbrev pub change : Admission → RwLockPlace → ℕ → Change
+change a p seen = change_at a p seen p.at
+
+abbrev pub pending_only : ℕ → owners.Pending
+pending_only t = record { thread = t; fallback = fallbacks.Nothing }
+
+abbrev pub owners_by : Change → ℕ → Owners → Owners
+owners_by (changes.Enter access.TheVariants.Upgradable) t o = record o { upgradable = Some t }
+owners_by (changes.Enter access.TheVariants.Exclusive) t o = record o { exclusive = Some t }
+owners_by changes.Pend t o = record o { pending = Some (pending_only t) }
+owners_by changes.Settle t o = record o { exclusive = Some t; pending = None }
+owners_by (changes.Leave access.TheVariants.Upgradable) t o = record o { upgradable = None }
+owners_by (changes.Leave access.TheVariants.Exclusive) t o = record o { exclusive = None }
+owners_by changes.RollBack t o = record o { pending = None }
+owners_by change t o = o
+
+abbrev pub rwlock_owners : Admission → RwLockPlace → ℕ → ℕ → Owners → Owners
+rwlock_owners a p t seen o = owners_by (change a p seen) t o
+
+abbrev pub shares_by : Change → ℕ → Option ℕ
+shares_by (changes.Enter access.TheVariants.Shared) n = Some (plus n 1)
+shares_by (changes.Leave access.TheVariants.Shared) n = Some (n - 1)
+shares_by change n = None
+
+-- how many shared rights the thread has then, where their number changes
+abbrev pub rwlock_shares : Admission → RwLockPlace → ℕ → ℕ → Option ℕ
+rwlock_shares a p seen n = shares_by (change a p seen) n

@@ -53,4 +53,21 @@ impl Owners {
             ..self
         }
     }
+
+    /// The same owners but for the pending one.
+    pub fn with_pending(self, pending: Option<Pending>) -> Owners
+        ensures { result ≡ record self { pending = pending } }
+    {
+        Owners { pending, ..self }
+    }
+
+    /// The same owners but for the upgradable one.
+    pub fn with_upgradable(self, thread: Option<usize>) -> Owners
+        ensures { result ≡ record self { upgradable = thread } }
+    {
+        Owners {
+            upgradable: thread,
+            ..self
+        }
+    }
 }

@@ -1,7 +1,8 @@
 //! The steps of a reader-writer lock. What the bits of its word mean is told in `bits`.
 ghost use Rattle.std.specs.Prelude.{◌≡◌, ◌<◌, ◌^◌};
 ghost use Rattle.abstract_locks.specs.Codes as codes;
-ghost use Rattle.lot_steps.specs.RwLockSteps.{wanted, token, access_of, patience_of, ends_with, entered, goes, rwlock_act, rwlock_next};
+ghost use Rattle.lot_steps.specs.RwLockSteps.{wanted, token, access_of, patience_of, ends_with, entered, goes, rwlock_act, rwlock_next, comes_in, settles, change, rwlock_owners, rwlock_shares};
+ghost use Rattle.lot_steps.specs.RwLockProfiles.{rwlock_taker, rwlock_wants, rwlock_can_spin, rwlock_late_line, rwlock_owes};
 
 pub mod enter;
 pub mod park;
@@ -9,8 +10,9 @@ pub mod pend;
 pub mod release;
 
 use crate::acts::{Act, Next, Reply};
-use crate::bits::is_blocked;
-use crate::rwlock::enter::{decided_act, looked, next_decided, next_first};
+use crate::bits::{count_in, has_aside, is_blocked};
+use crate::owners::{Fallback, Owners, Pending};
+use crate::rwlock::enter::{Decision, decided_act, looked, next_decided, next_first};
 use crate::rwlock::park::{ParkAt, next_park, park_act};
 use crate::rwlock::pend::{count_act, counted, next_count, rolled_back};
 use crate::rwlock::release::{WakeAt, gave_way, next_wake, wake_act};
@@ -72,6 +74,17 @@ pub enum RwLockAt {
     GiveWay,
     /// On its way to wake others.
     Wake { line: Line, at: WakeAt },
+}
+
+/// What an operation on the word does to the lock's owners.
+#[derive(Clone, Copy, Debug, PartialEq, Eq)]
+enum Change {
+    Nothing,
+    Enter(Access),
+    Pend,
+    Settle,
+    Leave(Access),
+    RollBack,
 }
 
 /// Where a thread stands, and what its call remembers.
@@ -155,6 +168,28 @@ impl RwLockPurpose {
     }
 }
 
+/// Behind an exchange that succeeded.
+fn comes_in(decision: Decision, access: Access) -> Change
+    ensures { result ≡ comes_in decision access }
+{
+    match (decision, access) {
+        (Decision::Take, Access::Exclusive) => Change::Pend,
+        (Decision::Take, _) => Change::Enter(access),
+        _ => Change::Nothing,
+    }
+}
+
+/// Of a pending writer that saw this.
+fn settles(seen: u64) -> Change
+    ensures { result ≡ settles seen }
+{
+    if count_in(seen) == 0 {
+        Change::Settle
+    } else {
+        Change::Nothing
+    }
+}
+
 impl RwLockPlace {
     /// Goes on in the same call.
     pub(super) fn goes(self, at: RwLockAt, retries: bool) -> Next<RwLockPlace>
@@ -221,6 +256,125 @@ impl RwLockPlace {
             (RwLockAt::GiveWay, Reply::Value(seen)) => gave_way(self, seen),
             (RwLockAt::Wake { line, at }, reply) => next_wake(self, line, at, reply),
             (at, _) => self.goes(at, self.retries),
+        }
+    }
+
+    /// Who owns the lock after the thread's operation on the word, which saw this value; the number of its shared rights
+    /// stands apart.
+    pub fn owners_after(
+        self,
+        admission: Admission,
+        thread: usize,
+        seen: u64,
+        owners: Owners,
+    ) -> Owners
+        ensures { result ≡ rwlock_owners admission self thread seen owners }
+    {
+        match self.change(admission, seen) {
+            Change::Nothing | Change::Enter(Access::Shared) | Change::Leave(Access::Shared) =>
+                owners,
+            Change::Enter(Access::Upgradable) => owners.with_upgradable(Some(thread)),
+            Change::Enter(Access::Exclusive) => owners.with_exclusive(Some(thread)),
+            Change::Pend => owners.with_pending(Some(Pending {
+                thread,
+                fallback: Fallback::Nothing,
+            })),
+            Change::Settle => owners.with_pending(None).with_exclusive(Some(thread)),
+            Change::Leave(Access::Upgradable) => owners.with_upgradable(None),
+            Change::Leave(Access::Exclusive) => owners.with_exclusive(None),
+            Change::RollBack => owners.with_pending(None),
+        }
+    }
+
+    /// How many shared rights the thread has then, where their number changes.
+    pub fn shares_after(self, admission: Admission, seen: u64, shares: usize) -> Option<usize>
+        ensures { result ≡ rwlock_shares admission self seen shares }
+    {
+        match self.change(admission, seen) {
+            Change::Enter(Access::Shared) => Some(shares.wrapping_add(1)),
+            Change::Leave(Access::Shared) => Some(shares.saturating_sub(1)),
+            _ => None,
+        }
+    }
+
+    /// What the operation on the word does to the lock's owners, which saw this value.
+    fn change(self, admission: Admission, seen: u64) -> Change
+        ensures { result ≡ change admission self seen }
+    {
+        let access = self.purpose.access();
+        match self.at {
+            RwLockAt::First if seen == 0 => Change::Enter(Access::Exclusive),
+            RwLockAt::Decide(expected) if seen == expected => {
+                comes_in(
+                    admission.decide(access, self.purpose.patience(), expected),
+                    access,
+                )
+            }
+            RwLockAt::Look => settles(seen),
+            RwLockAt::Count(expected) if seen != expected => settles(seen),
+            RwLockAt::RollBack => Change::RollBack,
+            RwLockAt::GiveWay => Change::Leave(access),
+            _ => Change::Nothing,
+        }
+    }
+
+    /// The thread that took this one from a queue, and has not left its section yet.
+    pub fn taker(self) -> Option<usize>
+        ensures { result ≡ rwlock_taker self }
+    {
+        match self.at {
+            RwLockAt::Park(ParkAt::Taken { by }) | RwLockAt::Aside(ParkAt::Taken { by }) => Some(
+                by,
+            ),
+            _ => None,
+        }
+    }
+
+    /// What the thread wants, where it waits.
+    pub fn wants(self) -> Option<Want>
+        ensures { result ≡ rwlock_wants self }
+    {
+        match self.purpose {
+            RwLockPurpose::Enter { access, .. } => Some(wanted(access)),
+            RwLockPurpose::Release(_) => None,
+        }
+    }
+
+    /// Whether the thread may load the word again in place of its act: where that leads to sleep, and nobody sleeps yet.
+    pub fn can_spin(self, admission: Admission) -> bool
+        ensures { result ≡ rwlock_can_spin admission self }
+    {
+        match self.at {
+            RwLockAt::Decide(seen) => {
+                let patience = self.purpose.patience();
+                admission.decide(self.purpose.access(), patience, seen) == Decision::Mark
+                    && !has_aside(seen)
+            }
+            RwLockAt::Count(_) => true,
+            _ => false,
+        }
+    }
+
+    /// The queue in which the thread sleeps, where it may give up.
+    pub fn late_line(self) -> Option<Line>
+        ensures { result ≡ rwlock_late_line self }
+    {
+        match (self.at, self.purpose.patience()) {
+            (RwLockAt::Park(ParkAt::Asleep), Patience::Timed) => Some(Line::Main),
+            (RwLockAt::Aside(ParkAt::Asleep), Patience::Timed) => Some(Line::Second),
+            _ => None,
+        }
+    }
+
+    /// The queue on which the thread owes a wake.
+    pub fn owes(self) -> Option<Line>
+        ensures { result ≡ rwlock_owes self }
+    {
+        match self.at {
+            RwLockAt::Park(at) if at.is_inside() => Some(Line::Main),
+            RwLockAt::Aside(at) if at.is_inside() => Some(Line::Second),
+            RwLockAt::Wake { line, .. } => Some(line),
+            _ => None,
         }
     }
 }

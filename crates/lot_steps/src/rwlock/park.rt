@@ -12,6 +12,7 @@
 ghost use Rattle.std.specs.Prelude.{◌≡◌, ◌<◌, ◌^◌};
 ghost use Rattle.lot_steps.specs.RwLockSteps.{wanted, unparked, parks_at, looks_again, park_check, park_act, clears, gave_up, park_next};
 ghost use Rattle.lot_base.specs.Keys.{key_of};
+ghost use Rattle.lot_steps.specs.RwLockProfiles.{is_inside};
 
 use crate::acts::{Act, Check, Next, Reply, Wakes};
 use crate::rwlock::{Admission, NOT_PARKED, NOT_WRITER_PARKED, RwLockAt, RwLockPlace, wanted};
@@ -34,6 +35,15 @@ pub enum ParkAt {
     Clear,
     /// Late, behind its removal.
     GiveUp,
+}
+
+impl ParkAt {
+    /// Whether the thread is inside the section of the queue.
+    pub fn is_inside(self) -> bool
+        ensures { result ≡ is_inside self }
+    {
+        !matches!(self, ParkAt::Asleep | ParkAt::Taken { .. })
+    }
 }
 
 /// The operation that clears the parked bit of a queue.
