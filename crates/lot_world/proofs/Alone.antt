@@ -8,8 +8,8 @@ use Rattle.lot_calls.specs.declared.calls.Turn as turn
 use Rattle.lot_calls.specs.declared.outcomes.Outcome.{Outcome}
 use Rattle.lot_calls.specs.declared.outcomes.Outcome as outcome
 use Rattle.lot_steps.specs.Acts.{outcome_of}
-use Rattle.lot_steps.specs.Steps.{next_act}
-use Rattle.lot_world.specs.Machine.{State, Alone, alone_after, solo, after, step_outcome, is_possible, state_after_turn, turn_outcome, go_of, go_reply, place_at}
+use Rattle.lot_steps.specs.Steps.{act_of, next_act}
+use Rattle.lot_world.specs.Machine.{State, Alone, alone_after, solo, after, step_outcome, is_possible, state_after_turn, turn_outcome, go_of, go_reply, reply_to, closed_place, place_at}
 
 -- a step that was possible doesn't answer that it wasn't
 outcome_possible : (act : Act) → outcome_of act ≢ outcome.TheVariants.NotNow
@@ -20,6 +20,8 @@ outcome_possible act h = cc
 
 turn_possible : (w : State) (t : ℕ) (x : Turn) → turn_outcome w t x ≢ outcome.TheVariants.NotNow
 turn_possible w t turn.TheVariants.Go h = outcome_possible (next_act (place_at w t) (go_reply w t)) h
+turn_possible w t turn.TheVariants.Ok h = outcome_possible (next_act (closed_place w t true) (reply_to w t (act_of (closed_place w t true)))) h
+turn_possible w t turn.TheVariants.Err h = outcome_possible (next_act (closed_place w t false) (reply_to w t (act_of (closed_place w t false)))) h
 turn_possible w t x h = cc
 
 -- a step that wasn't possible has changed nothing

@@ -27,13 +27,16 @@ use Rattle.lot_steps.specs.declared.places.Place.{Place}
 use Rattle.lot_steps.specs.declared.places.Place.TheVariants.{Idle, Mutex}
 use Rattle.lot_steps.specs.MutexSteps.{is_locked, is_parked, lock_act, hand_off_act}
 use Rattle.lot_steps.specs.Steps.{act_of, spin_lock, late_key}
-use Rattle.lot_world.specs.Machine.{State, unlocked, place_at, word_at, owners_at, kind_at, queue_at, state_after_operation, queues_with_last, queues_without_first, state_after_act, state_after_taking, state_after_spin_on, state_after_late_on, state_after_turn, is_possible, after, step_outcome}
+use Rattle.lot_world.specs.Machine.{State, unlocked, place_at, word_at, owners_at, kind_at, queue_at, state_after_operation, queues_with_last, queues_without_first, state_after_act, state_after_taking, state_after_spin_on, state_after_late_on, state_after_turn, can_turn, is_possible, after, step_outcome}
 use Rattle.lot_world.specs.Fits.{IsShaped, PlaceFits}
 use Rattle.lot_world.specs.MutexPromises.{IsMutexWord}
 use Rattle.lot_world.specs.MutexDeeds.{mutex_station}
 use Rattle.lot_world.specs.SitesOf.{IsSteady, CallsMutex, is_mutex}
 use Rattle.abstract_locks.specs.Sites.{Main}
 use Rattle.lot_world.proofs.MutexTable.{own_doing}
+use Rattle.lot_world.proofs.Closures.{nothing_closes}
+use Rattle.lot_world.proofs.Shape.{both}
+use Rattle.std.specs.Prelude.{nat_lt}
 use Rattle.abstract_locks.specs.Locks.{LockState, Queued, Rules, Rights, Taken, LockCase, Enter, Pend, Settle, Leave, Convert, Park, Aside, TakeFirst, TakeAside, TakePicked, Wake, HandOff as HandsLockOff, Late, Rollback, Needs, Owns, IsTaken, HasTakenNobody, IsLockState, Knows, keep_from, first_thread, rights_of}
 use Rattle.abstract_locks.specs.Locks as locks
 use Rattle.abstract_locks.specs.Runs.{LocksState, CallState, Event, Nothing, AtLock, AreLockStates, GoesOn, Stays, Does, MayHappen, IsStep, Turned, rules_at, locks_after}
@@ -220,20 +223,20 @@ module _ (w : State) (t l : ℕ) (shape : IsShaped w) (steady : IsSteady w) (own
   late_gives None = inl own
   late_gives (Some key) = inl own
 
-  turned_gives : IsFairRelease (call_state (place_at w t) (rights w t)).purpose l → (x : Turn) → ComesTo w t l (state_after_turn w t x)
-  turned_gives h (turn.TheVariants.Begin c) = inl own
-  turned_gives h turn.TheVariants.Go = go_gives (place_at w t) refl (shape.places t) h
-  turned_gives h turn.TheVariants.Spin = spin_gives (spin_lock (place_at w t))
-  turned_gives h turn.TheVariants.Late = late_gives (late_key (place_at w t))
-  turned_gives h turn.TheVariants.Ok = inl own
-  turned_gives h turn.TheVariants.Err = inl own
+  turned_gives : IsFairRelease (call_state (place_at w t) (rights w t)).purpose l → (x : Turn) → can_turn w t x ≡ true → ComesTo w t l (state_after_turn w t x)
+  turned_gives h (turn.TheVariants.Begin c) can = inl own
+  turned_gives h turn.TheVariants.Go can = go_gives (place_at w t) refl (shape.places t) h
+  turned_gives h turn.TheVariants.Spin can = spin_gives (spin_lock (place_at w t))
+  turned_gives h turn.TheVariants.Late can = late_gives (late_key (place_at w t))
+  turned_gives h turn.TheVariants.Ok can = absurd (nothing_closes w t true can)
+  turned_gives h turn.TheVariants.Err can = absurd (nothing_closes w t false can)
 
   after_gives : IsFairRelease (call_state (place_at w t) (rights w t)).purpose l → (s : Step) → s.thread ≡ t → ComesTo w t l (after w s)
-  after_gives h s e = either (is_possible w s)
+  after_gives h s e = either (is_possible w s) refl
     where
-      either : (b : Bool) → ComesTo w t l (if b then state_after_turn w s.thread s.turn else w)
-      either true = rw e (turned_gives h s.turn)
-      either false = inl own
+      either : (b : Bool) → is_possible w s ≡ b → ComesTo w t l (if b then state_after_turn w s.thread s.turn else w)
+      either true can = rw e (turned_gives h s.turn (rw e at (both (nat_lt s.thread (length w.places)) (can_turn w s.thread s.turn) can).1))
+      either false can = inl own
 
 -- ---------------------------------------------------------------- steps
 

@@ -21,7 +21,7 @@ use Rattle.lot_steps.specs.declared.acts.Whom as whom
 use Rattle.lot_steps.specs.Acts.{holds}
 use Rattle.lot_calls.specs.Kinds.{has_call}
 use Rattle.lot_steps.specs.Steps.{act_of, spin_lock, late_key}
-use Rattle.lot_world.specs.Machine.{State, unlocked, place_at, word_at, shares_at, filled_at, kind_at, queue_at, state_after_operation, state_after_hand_over, state_with_sections, queues_with_last, queues_without_first, state_after_park, state_after_taking, state_after_wake, state_after_act, state_after_spin_on, state_after_late_on, state_after_turn, is_possible, after}
+use Rattle.lot_world.specs.Machine.{State, unlocked, place_at, word_at, shares_at, filled_at, kind_at, queue_at, state_after_operation, state_after_hand_over, state_with_sections, queues_with_last, queues_without_first, state_after_park, state_after_taking, state_after_wake, state_after_act, state_after_spin_on, state_after_late_on, state_after_turn, closed_place, is_possible, after}
 use Rattle.lot_base.specs.Words.{apply}
 use Rattle.abstract_locks.specs.Locks as locks
 use Rattle.abstract_locks.specs.Codes.{fills}
@@ -96,7 +96,8 @@ turned_kinds w t (turn.TheVariants.Begin c) k = refl
 turned_kinds w t turn.TheVariants.Go k = performed_kinds w t (place_at w t) (act_of (place_at w t)) k
 turned_kinds w t turn.TheVariants.Spin k = spun_kinds w t (spin_lock (place_at w t)) k
 turned_kinds w t turn.TheVariants.Late k = late_kinds w t (late_key (place_at w t)) k
-turned_kinds w t x k = refl
+turned_kinds w t turn.TheVariants.Ok k = performed_kinds w t (closed_place w t true) (act_of (closed_place w t true)) k
+turned_kinds w t turn.TheVariants.Err k = performed_kinds w t (closed_place w t false) (act_of (closed_place w t false)) k
 
 pub after_kinds : (w : State) (s : Step) (k : ℕ) → kind_at (after w s) k ≡ kind_at w k
 after_kinds w s k = either (is_possible w s)

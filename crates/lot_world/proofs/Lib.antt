@@ -2,6 +2,7 @@ pub mod QueueLemmas
 pub mod Opening
 pub mod Shape
 pub mod KindsKept
+pub mod Closures
 pub mod Alone
 pub mod Runs
 pub mod Glue

@@ -43,7 +43,8 @@ use Rattle.lot_steps.specs.Steps.{act_of, next_place, next_act, spin_lock, late_
 use Rattle.lot_world.specs.Machine.{State, place_at, word_at, owners_at, kind_at, queue_at, section_at, put, state_after_act, go_reply, state_after_operation, state_after_hand_over, state_after_telling, queues_with_last, queues_without, queues_without_first, state_after_taking, state_after_reply, state_with_sections, reply_to, can_do, is_there, state_after_spin_on, state_after_late_on, is_free_under, state_after_begin, can_begin, is_open_to, can_turn, state_after_turn, turn_outcome, is_possible, after, step_outcome}
 use Rattle.lot_world.specs.Fits.{IsShaped, SameSize, PlaceFits, GivesUpTimed}
 use Rattle.lot_world.proofs.Shape.{after_size, both, performed_counts}
-use Rattle.lot_world.proofs.Possible.{may_go, go_possible, may_be_late, late_possible, told_gone, told_step, begins_awake, no_closure, turner_there, gone_sections, spun_sections, late_sections, spun_awake, late_awake}
+use Rattle.lot_world.proofs.Possible.{may_go, go_possible, may_be_late, late_possible, told_gone, told_step, begins_awake, turner_there, gone_sections, spun_sections, late_sections, spun_awake, late_awake}
+use Rattle.lot_world.proofs.Closures.{no_closure, nothing_closes}
 use Rattle.lot_world.specs.SitesOf.{IsSteady, Goes, CallsMutex, is_mutex, rules_at, carried_at, hand_at}
 use Rattle.abstract_locks.specs.Sites.{Main, In, Clear as Clears}
 use Rattle.abstract_locks.specs.Locks.{putting, Rights, rights_of}
@@ -377,8 +378,8 @@ module _ (w : State) (t : ℕ) (shape : IsShaped w) (steady : IsSteady w) (there
   turned_does turn.TheVariants.Go can = (may_go w t can, go_goes w t shape steady there (place_at w t) refl (shape.places t) (steady.stands.calls t) can)
   turned_does turn.TheVariants.Spin can = (can, spin_goes w t shape steady there (place_at w t) refl can)
   turned_does turn.TheVariants.Late can = (may_be_late w t steady can, late_goes w t shape steady there (place_at w t) refl can)
-  turned_does turn.TheVariants.Ok can = absurd cc
-  turned_does turn.TheVariants.Err can = absurd cc
+  turned_does turn.TheVariants.Ok can = absurd (nothing_closes w t true can)
+  turned_does turn.TheVariants.Err can = absurd (nothing_closes w t false can)
 
 -- a turn that may be taken is possible
 module _ (w : State) (t : ℕ) (steady : IsSteady w) where
@@ -401,8 +402,8 @@ module _ (w : State) (t : ℕ) (shape : IsShaped w) (steady : IsSteady w) (there
   turned_sections turn.TheVariants.Go can key = gone_sections w t shape steady can key
   turned_sections turn.TheVariants.Spin can key = inl (spun_sections w t (spin_lock (place_at w t)) key)
   turned_sections turn.TheVariants.Late can key = late_sections w t shape (place_at w t) refl (shape.places t) can key
-  turned_sections turn.TheVariants.Ok can key = absurd cc
-  turned_sections turn.TheVariants.Err can key = absurd cc
+  turned_sections turn.TheVariants.Ok can key = absurd (nothing_closes w t true can)
+  turned_sections turn.TheVariants.Err can key = absurd (nothing_closes w t false can)
 
   put_sleeps : (b : State) (p : Place) → length b.places ≡ length w.places → sleeps (act_of (place_at (put b t p) t)) ≡ sleeps (act_of p)
   put_sleeps b p size = ap (λ q. sleeps (act_of q)) (get_or-set_same b.places t p Idle (rw size there))
@@ -413,8 +414,8 @@ module _ (w : State) (t : ℕ) (shape : IsShaped w) (steady : IsSteady w) (there
       (told_gone (place_at w t) (go_reply w t))
   turned_told turn.TheVariants.Spin can = told_step _ (spun_awake w t there (place_at w t) refl can)
   turned_told turn.TheVariants.Late can = told_step _ (late_awake w t there (place_at w t) refl can)
-  turned_told turn.TheVariants.Ok can = absurd cc
-  turned_told turn.TheVariants.Err can = absurd cc
+  turned_told turn.TheVariants.Ok can = absurd (nothing_closes w t true can)
+  turned_told turn.TheVariants.Err can = absurd (nothing_closes w t false can)
 
 pub after_step : (w : State) (s : Step) → IsShaped w → IsSteady w → IsStep (locks_of w) s (step_outcome w s) (locks_of (after w s))
 after_step w s shape steady = (record { threads = size.threads; size = size.locks; kinds = after_kinds w s; sections = sections (is_possible w s) refl; told = told (is_possible w s) refl }, either (is_possible w s) refl)

@@ -31,7 +31,10 @@ use Rattle.lot_steps.specs.declared.places.Place.TheVariants.{Idle, Mutex}
 use Rattle.lot_steps.specs.MutexSteps.{is_locked, lock_act, unlock_act, hand_off_word, hand_off_act}
 use Rattle.lot_calls.specs.Calls.{lock_in}
 use Rattle.lot_steps.specs.Steps.{act_of, next_place, first_place, spin_lock, late_key}
-use Rattle.lot_world.specs.Machine.{State, unlocked, place_at, word_at, queue_at, section_at, put, state_after_operation, state_with_sections, queues_with_last, queues_without, queues_without_first, state_after_taking, state_after_wake, state_after_act, state_after_spin_on, state_after_late_on, go_reply, state_after_turn, is_possible, after, kind_at, state_after_hand_over, state_after_telling}
+use Rattle.lot_world.specs.Machine.{State, can_turn, unlocked, place_at, word_at, queue_at, section_at, put, state_after_operation, state_with_sections, queues_with_last, queues_without, queues_without_first, state_after_taking, state_after_wake, state_after_act, state_after_spin_on, state_after_late_on, go_reply, state_after_turn, is_possible, after, kind_at, state_after_hand_over, state_after_telling}
+use Rattle.lot_world.proofs.Closures.{nothing_closes}
+use Rattle.lot_world.proofs.Shape.{both}
+use Rattle.std.specs.Prelude.{nat_lt, length}
 use Rattle.abstract_locks.specs.Sites.{Main}
 use Rattle.lot_steps.specs.declared.mutex.MutexPlace.{MutexPlace}
 use Rattle.lot_world.specs.MutexDeeds.{mutex_doing, station_at}
@@ -178,19 +181,20 @@ module _ (w : State) (t : ℕ) (steady : IsSteady w) where
   late_one None = stays
   late_one (Some key) = put_one w (state_with_sections w (One key) (Some t)) t t (next_place (place_at w t) Late) (filled_one (One key) (Some t))
 
-  turned_one : (x : Turn) → ChangesOneThing w t (state_after_turn w t x)
-  turned_one (turn.TheVariants.Begin c) = put_one w w t t (first_place (kind_at w (lock_in c)) c) stays
-  turned_one turn.TheVariants.Go = put_one w (state_after_act w t (place_at w t) (act_of (place_at w t))) t t (next_place (place_at w t) (go_reply w t)) (act_one (place_at w t) refl)
-  turned_one turn.TheVariants.Spin = spin_one (spin_lock (place_at w t))
-  turned_one turn.TheVariants.Late = late_one (late_key (place_at w t))
-  turned_one x = stays
+  turned_one : (x : Turn) → can_turn w t x ≡ true → ChangesOneThing w t (state_after_turn w t x)
+  turned_one (turn.TheVariants.Begin c) can = put_one w w t t (first_place (kind_at w (lock_in c)) c) stays
+  turned_one turn.TheVariants.Go can = put_one w (state_after_act w t (place_at w t) (act_of (place_at w t))) t t (next_place (place_at w t) (go_reply w t)) (act_one (place_at w t) refl)
+  turned_one turn.TheVariants.Spin can = spin_one (spin_lock (place_at w t))
+  turned_one turn.TheVariants.Late can = late_one (late_key (place_at w t))
+  turned_one turn.TheVariants.Ok can = absurd (nothing_closes w t true can)
+  turned_one turn.TheVariants.Err can = absurd (nothing_closes w t false can)
 
 pub one_thing : (w : State) (s : Step) → IsSteady w → ChangesOneThing w s.thread (after w s)
-one_thing w s steady = either (is_possible w s)
+one_thing w s steady = either (is_possible w s) refl
   where
-    either : (b : Bool) → ChangesOneThing w s.thread (if b then state_after_turn w s.thread s.turn else w)
-    either true = turned_one w s.thread steady s.turn
-    either false = same_one w w s.thread (λ k. refl, λ key. refl)
+    either : (b : Bool) → is_possible w s ≡ b → ChangesOneThing w s.thread (if b then state_after_turn w s.thread s.turn else w)
+    either true can = turned_one w s.thread steady s.turn (both (nat_lt s.thread (length w.places)) (can_turn w s.thread s.turn) can).1
+    either false can = same_one w w s.thread (λ k. refl, λ key. refl)
 
 -- ---------------------------------------------------------------- turns that touch nothing
 

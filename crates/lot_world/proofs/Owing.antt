@@ -1,5 +1,5 @@
 -- Who owes a wake does so since it saw waiters, or since it entered the section.
-use Rattle.std.proofs.Common.{ℕ, Bool, true, false, Option, Some, None, if◌then◌else◌, ◌==◌, ◌&&◌, not, ◌≡◌, ◌≢◌, ◌*◌, ◌<◌, ◌⊎◌, ◌↔◌, inl, inr, List, length, drop, set, get_or, refl, sym, ◌∙◌, ap, subst, get_or-set_other, get_or-set_same, nat_lt, map}
+use Rattle.std.proofs.Common.{◌∷◌, [], ℕ, Bool, true, false, Option, Some, None, if◌then◌else◌, ◌==◌, ◌&&◌, not, ◌≡◌, ◌≢◌, ◌*◌, ◌<◌, ◌⊎◌, ◌↔◌, inl, inr, List, length, drop, set, get_or, refl, sym, ◌∙◌, ap, subst, get_or-set_other, get_or-set_same, nat_lt, map}
 use Rattle.std.proofs.Math.ListN.{get_or-map}
 use Rattle.std.proofs.lemmas.Bool.{cases_eq, cases_lt, eqb-true, ltb-true}
 use Rattle.std.proofs.lemmas.List.{set_past}
@@ -23,7 +23,7 @@ use Rattle.lot_steps.specs.declared.acts.Act.TheVariants as act
 use Rattle.lot_steps.specs.declared.acts.Wakes.{Wakes}
 use Rattle.lot_steps.specs.declared.acts.Wakes as wakes
 use Rattle.lot_steps.specs.declared.acts.Reply.{Reply}
-use Rattle.lot_steps.specs.declared.acts.Reply.TheVariants.{TakenBy, HandedBy, Woken, Spun, Late}
+use Rattle.lot_steps.specs.declared.acts.Reply.TheVariants.{TakenBy, MovedTo, HandedBy, Woken, Spun, Late}
 use Rattle.lot_steps.specs.declared.mutex.MutexPlace.TheVariants.{Lock, TryLock, Unlock, UnlockFair, Bump, HandOff}
 use Rattle.lot_steps.specs.declared.mutex.lock.LockAt.{LockAt}
 use Rattle.lot_steps.specs.declared.mutex.lock.LockAt.TheVariants as lock
@@ -45,7 +45,11 @@ use Rattle.lot_calls.specs.declared.kinds.Kind.{Kind}
 use Rattle.lot_calls.specs.Kinds.{is_fair}
 use Rattle.lot_calls.specs.Calls.{lock_in}
 use Rattle.lot_steps.specs.Steps.{act_of, owes_on, next_act, next_place, mutex_goes, mutex_does, first_place, is_idle, spin_lock, late_key, taker}
-use Rattle.lot_world.specs.Machine.{State, place_at, word_at, queues_without_first, state_after_taking, state_after_wake, state_with_sections, queue_at, state_after_act, state_after_go, go_reply, go_outcome, is_there, is_free_under, is_open_to, can_begin, state_after_begin, can_turn, turn_outcome, kind_at, reply_to, put, state_after_spin_on, state_after_late_on, state_after_turn, is_possible, after, step_outcome, place_after_telling}
+use Rattle.lot_world.specs.Machine.{State, places_told, listed, moved_threads, closed_place, state_after_going, place_at, word_at, queues_without_first, state_after_taking, state_after_wake, state_with_sections, queue_at, state_after_act, state_after_go, go_reply, go_outcome, is_there, is_free_under, is_open_to, can_begin, state_after_begin, can_turn, turn_outcome, kind_at, reply_to, put, state_after_spin_on, state_after_late_on, state_after_turn, is_possible, after, step_outcome, place_after_telling}
+use Rattle.lot_base.specs.Lines.{threads_of}
+use Rattle.lot_base.specs.Picks.{lock_picked}
+use Rattle.lot_base.specs.Requeues.{taken_by}
+use Rattle.lot_world.proofs.Closures.{nothing_closes}
 use Rattle.lot_world.specs.Refinement.{owner_at, call_state, locks_of}
 use Rattle.abstract_locks.specs.Locks.{Rights}
 use Rattle.abstract_locks.specs.Purposes.{IsReleasing}
@@ -79,6 +83,18 @@ befalls_taken (Mutex l UnlockFair) t k = refl
 befalls_taken (Mutex l Bump) t k = refl
 befalls_taken (Mutex l (HandOff b hand_off.Enter)) t k = refl
 befalls_taken (Mutex l (HandOff b a)) t k = refl
+
+befalls_moved : (p : Place) (key k : ℕ) → owes_on (next_place p (MovedTo key)) k ≡ owes_on p k
+befalls_moved Idle key k = refl
+befalls_moved (Mutex l (Lock e r lock.First)) key k = refl
+befalls_moved (Mutex l (Lock e r a)) key k = refl
+befalls_moved (Mutex l TryLock) key k = refl
+befalls_moved (Mutex l (Unlock unlock.Subtract)) key k = refl
+befalls_moved (Mutex l (Unlock a)) key k = refl
+befalls_moved (Mutex l UnlockFair) key k = refl
+befalls_moved (Mutex l Bump) key k = refl
+befalls_moved (Mutex l (HandOff b hand_off.Enter)) key k = refl
+befalls_moved (Mutex l (HandOff b a)) key k = refl
 
 befalls_handed : (p : Place) (t k : ℕ) → owes_on (next_place p (HandedBy t)) k ≡ owes_on p k
 befalls_handed Idle t k = refl
@@ -114,18 +130,25 @@ befalls_woken (Mutex l (HandOff b a)) n k = refl
 -- ---------------------------------------------------------------- the other threads
 
 -- a thread stands where it stood, or was befallen
-module _ (w : State) (k u : ℕ) where
-  set_same : (x : ℕ) (p : Place) → (x ≡ u → owes_on p k ≡ owes_on (place_at w u) k) → owes_on (get_or (set w.places x p) u Idle) k ≡ owes_on (place_at w u) k
-  set_same x p here = elim (cases_eq u x) [
-    | inl e ↦ elim (cases_lt x (length w.places)) [
-      | inl lt ↦ rw (e, get_or-set_same w.places x p Idle lt) (here (sym e) ∙ ap (λ y. owes_on (place_at w y) k) e)
-      | inr ge ↦ ap (λ ps. owes_on (get_or ps u Idle) k) (set_past w.places x p ge)
-    ]
-    | inr ne ↦ ap (λ p. owes_on p k) (get_or-set_other w.places x u p Idle ne)
+befallen_owes : (k u : ℕ) (ps : List Place) (x : ℕ) (r : Reply) → ((p : Place) → owes_on (next_place p r) k ≡ owes_on p k)
+    → owes_on (get_or (set ps x (next_place (get_or ps x Idle) r)) u Idle) k ≡ owes_on (get_or ps u Idle) k
+befallen_owes k u ps x r kept = elim (cases_eq u x) [
+  | inl e ↦ elim (cases_lt x (length ps)) [
+    | inl lt ↦ rw (e, get_or-set_same ps x (next_place (get_or ps x Idle) r) Idle lt) (kept (get_or ps x Idle))
+    | inr ge ↦ ap (λ qs. owes_on (get_or qs u Idle) k) (set_past ps x (next_place (get_or ps x Idle) r) ge)
   ]
+  | inr ne ↦ ap (λ p. owes_on p k) (get_or-set_other ps x u (next_place (get_or ps x Idle) r) Idle ne)
+]
 
+-- one after another
+told_owes : (k u : ℕ) (r : Reply) → ((p : Place) → owes_on (next_place p r) k ≡ owes_on p k) → (us : List ℕ) (ps : List Place)
+    → owes_on (get_or (places_told r us ps) u Idle) k ≡ owes_on (get_or ps u Idle) k
+told_owes k u r kept [] ps = refl
+told_owes k u r kept (x ∷ us) ps = told_owes k u r kept us (set ps x (next_place (get_or ps x Idle) r)) ∙ befallen_owes k u ps x r kept
+
+module _ (w : State) (k u : ℕ) where
   befallen_same : (x : ℕ) (r : Reply) → ((p : Place) → owes_on (next_place p r) k ≡ owes_on p k) → owes_on (get_or (set w.places x (next_place (place_at w x) r)) u Idle) k ≡ owes_on (place_at w u) k
-  befallen_same x r kept = set_same x (next_place (place_at w x) r) (λ e. kept (place_at w x) ∙ ap (λ y. owes_on (place_at w y) k) e)
+  befallen_same x r kept = befallen_owes k u w.places x r kept
 
   parked_owes : (b : Bool) (queues : List (List _)) → owes_on (place_at (if b then record w { queues = queues } else w) u) k ≡ owes_on (place_at w u) k
   parked_owes true queues = refl
@@ -159,6 +182,11 @@ module _ (w : State) (k u : ℕ) where
   performed_owes t p (Enter keys) = filled_owes keys (Some t)
   performed_owes t p (Park l key check x) = parked_owes (holds check (word_at w l)) _
   performed_owes t p (Take key whom.TheVariants.First) = took_owes t (queues_without_first w.queues key) (first_of (queue_at w key))
+  performed_owes t p (Take key (whom.TheVariants.Picked start recursive)) = told_owes k u (TakenBy t) (λ q. befalls_taken q t k) (threads_of (lock_picked start recursive (queue_at w key))) w.places
+  performed_owes t p (Take key whom.TheVariants.All) = told_owes k u (TakenBy t) (λ q. befalls_taken q t k) (threads_of (queue_at w key)) w.places
+  performed_owes t p (act.Requeue from to how) =
+      told_owes k u (MovedTo to) (λ q. befalls_moved q to k) (moved_threads how (threads_of (queue_at w from))) (places_told (TakenBy t) (listed (taken_by how (queue_at w from))) w.places)
+      ∙ told_owes k u (TakenBy t) (λ q. befalls_taken q t k) (listed (taken_by how (queue_at w from))) w.places
   performed_owes t p (act.Leave keys x) = left_owes t keys x
   performed_owes t p act.Rest = refl
   performed_owes t p a = refl
@@ -174,12 +202,16 @@ late_owes : (w : State) (t u k : ℕ) (o : Option ℕ) → u ≢ t → owes_on (
 late_owes w t u k None ne = refl
 late_owes w t u k (Some key) ne = put_owes (state_with_sections w (One key) (Some t)) t u k _ ne
 
+went_owes : (w : State) (t u k : ℕ) (p : Place) → u ≢ t → owes_on (place_at (state_after_going w t p) u) k ≡ owes_on (place_at w u) k
+went_owes w t u k p ne = put_owes (state_after_act w t p (act_of p)) t u k _ ne ∙ performed_owes w k u t p (act_of p)
+
 turned_owes : (w : State) (t u k : ℕ) (x : Turn) → u ≢ t → owes_on (place_at (state_after_turn w t x) u) k ≡ owes_on (place_at w u) k
 turned_owes w t u k (turn.TheVariants.Begin c) ne = put_owes w t u k _ ne
-turned_owes w t u k turn.TheVariants.Go ne = put_owes (state_after_act w t (place_at w t) (act_of (place_at w t))) t u k _ ne ∙ performed_owes w k u t (place_at w t) (act_of (place_at w t))
+turned_owes w t u k turn.TheVariants.Go ne = went_owes w t u k (place_at w t) ne
 turned_owes w t u k turn.TheVariants.Spin ne = spun_owes w t u k (spin_lock (place_at w t)) ne
 turned_owes w t u k turn.TheVariants.Late ne = late_owes w t u k (late_key (place_at w t)) ne
-turned_owes w t u k x ne = refl
+turned_owes w t u k turn.TheVariants.Ok ne = went_owes w t u k (closed_place w t true) ne
+turned_owes w t u k turn.TheVariants.Err ne = went_owes w t u k (closed_place w t false) ne
 
 others_owe : (w : State) (s : Step) (u k : ℕ) → u ≢ s.thread → owes_on (place_at (after w s) u) k ≡ owes_on (place_at w u) k
 others_owe w s u k ne = either (is_possible w s)
@@ -393,8 +425,8 @@ module _ (w : State) (t : ℕ) (shape : IsShaped w) (steady : IsSteady w) (there
   turned_owing turn.TheVariants.Go can l kept = go_owes w t shape steady there l kept
   turned_owing turn.TheVariants.Spin can l kept = spun_owing w t there (place_at w t) refl can l outcome.TheVariants.Step kept
   turned_owing turn.TheVariants.Late can l kept = late_owing w t there (place_at w t) refl can l outcome.TheVariants.Step kept
-  turned_owing turn.TheVariants.Ok can l kept = absurd cc
-  turned_owing turn.TheVariants.Err can l kept = absurd cc
+  turned_owing turn.TheVariants.Ok can l kept = absurd (nothing_closes w t true can)
+  turned_owing turn.TheVariants.Err can l kept = absurd (nothing_closes w t false can)
 
 pub owes_since : (w : State) (s : Step) → IsShaped w → IsSteady w → IsKept (after w s) → OwesSince w s.thread (step_outcome w s) (after w s)
 owes_since w s shape steady kept = record {

@@ -47,6 +47,7 @@ use Rattle.lot_world.specs.SitesOf.{IsSteady, stood_in}
 use Rattle.lot_world.specs.Refinement.{lock_state, locks_of, call_state, sleeps, runs_closure, keys_entered}
 use Rattle.lot_world.proofs.Glue.{nothing_at, same}
 use Rattle.lot_world.proofs.GoneKept.{none_is}
+use Rattle.lot_world.proofs.Closures.{no_closure}
 use Rattle.lot_world.proofs.AtPlaces.{queued_by, not_first_aside, holds_section}
 use Rattle.lot_world.proofs.LockEvents.{rights}
 use Rattle.abstract_locks.specs.Locks.{Rights}
@@ -222,29 +223,7 @@ begins_awake k (call.TheVariants.Mutex l c) = either (is_fair k) c
 pub looks_awake : (l s : ℕ) → sleeps (lock_act l (lock.Decide s)) ≡ false
 looks_awake l s = decides_awake l s (is_locked s) (s == 1)
 
--- ---------------------------------------------------------------- no closure, and nobody past the last thread
-
-decides_plainly : (l s : ℕ) (a b : Bool) → runs_closure (if not a then Word l (op.TheVariants.Exchange s (s + 1)) else if b then Word l (op.TheVariants.Exchange 1 3) else Enter (One (2 * l))) ≡ false
-decides_plainly l s false b = refl
-decides_plainly l s true true = refl
-decides_plainly l s true false = refl
-
-runs_none : (p : Place) → runs_closure (act_of p) ≡ false
-runs_none Idle = refl
-runs_none (Mutex l (Lock e r lock.First)) = refl
-runs_none (Mutex l (Lock e r (lock.Decide s))) = decides_plainly l s (is_locked s) (s == 1)
-runs_none (Mutex l (Lock e r a)) = refl
-runs_none (Mutex l TryLock) = refl
-runs_none (Mutex l (Unlock unlock.Subtract)) = refl
-runs_none (Mutex l (Unlock a)) = refl
-runs_none (Mutex l UnlockFair) = refl
-runs_none (Mutex l Bump) = refl
-runs_none (Mutex l (HandOff b (hand_off.Store false n))) = refl
-runs_none (Mutex l (HandOff b (hand_off.Store true n))) = refl
-runs_none (Mutex l (HandOff b a)) = refl
-
-pub no_closure : (w : State) (t : ℕ) → runs_closure (act_of (place_at w t)) ≡ true → ⊥
-no_closure w t h = let e : false ≡ true = sym (runs_none (place_at w t)) ∙ h in cc
+-- ---------------------------------------------------------------- nobody past the last thread
 
 pub nobody_turns : (w : State) (t : ℕ) (x : Turn) → place_at w t ≡ Idle → t < length w.places ⊎ (MayTurn (locks_of w) t x → ⊥)
 nobody_turns w t (turn.TheVariants.Begin c) idle = elim (cases_lt t (length w.places)) [

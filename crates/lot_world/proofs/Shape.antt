@@ -11,12 +11,13 @@ use Rattle.lot_base.specs.declared.wants.Waiter.{Waiter}
 use Rattle.lot_base.specs.declared.wants.Want.{Want}
 use Rattle.lot_base.specs.Lines.{waiter, without, first_of}
 use Rattle.lot_steps.specs.declared.acts.Act.{Act}
-use Rattle.lot_steps.specs.declared.acts.Act.TheVariants.{Word, HandOver, Enter, Park, Take, Remove, Leave}
+use Rattle.lot_steps.specs.declared.acts.Act.TheVariants.{Word, HandOver, Enter, Park, Stand, Take, Remove, Leave}
+use Rattle.lot_steps.specs.declared.acts.Act.TheVariants as act
 use Rattle.lot_steps.specs.declared.acts.Check.{Check}
 use Rattle.lot_steps.specs.declared.acts.Wakes.{Wakes}
 use Rattle.lot_steps.specs.declared.acts.Wakes as wakes
 use Rattle.lot_steps.specs.declared.acts.Reply.{Reply}
-use Rattle.lot_steps.specs.declared.acts.Reply.TheVariants.{Done, Value, Spun, Parked, Removed, Took, TakenBy, HandedBy, Late, Woken}
+use Rattle.lot_steps.specs.declared.acts.Reply.TheVariants.{Done, Value, Spun, Parked, Removed, Took, TakenBy, MovedTo, HandedBy, Late, Woken, Closed}
 use Rattle.lot_steps.specs.declared.acts.Next.{Next}
 use Rattle.lot_steps.specs.declared.acts.Next as next
 use Rattle.lot_calls.specs.declared.outcomes.Answer as answer
@@ -38,12 +39,24 @@ use Rattle.lot_steps.specs.declared.mutex.unlock.UnlockAt.{UnlockAt}
 use Rattle.lot_steps.specs.declared.mutex.unlock.UnlockAt as unlock
 use Rattle.lot_steps.specs.declared.mutex.hand_off.HandOffAt.{HandOffAt}
 use Rattle.lot_steps.specs.declared.mutex.hand_off.HandOffAt.TheVariants as hand_off
-use Rattle.lot_steps.specs.Acts.{holds}
+use Rattle.lot_steps.specs.Acts.{holds, outcome_of}
+use Rattle.lot_calls.specs.declared.outcomes.Outcome.{Outcome}
+use Rattle.lot_calls.specs.declared.outcomes.Outcome as outcome
+use Rattle.lot_steps.specs.Steps.{next_act}
+use Rattle.lot_base.specs.declared.requeues.Requeue.{Requeue}
+use Rattle.lot_base.specs.declared.requeues.Requeue as requeue
+use Rattle.lot_base.specs.declared.lock_picker.LockPicker.{LockPicker}
+use Rattle.lot_base.specs.declared.picks.Pick.{Pick}
+use Rattle.lot_base.specs.declared.picks.Pick.TheVariants.{Unpark, Skip, Stop}
+use Rattle.lot_base.specs.Lines.{threads_of}
+use Rattle.lot_base.specs.Picks.{without_picked, without_lock_picked, lock_picked, lock_answer, next_picker, lock_picker}
+use Rattle.lot_base.specs.Requeues.{taken_by, moved_by}
+use Rattle.lot_world.proofs.QueueLemmas.{told_count}
 use Rattle.lot_calls.specs.Kinds.{is_fair}
 use Rattle.lot_steps.specs.MutexSteps.{is_thread, is_locked, is_parked, is_timed, entered, mutex_next, mutex_first, next_unlock, next_hand_off, looked, unlock_fair_next, bump_next, try_next, in_lock, in_unlock, in_hand_off, mutex_next}
 use Rattle.lot_calls.specs.Calls.{lock_in}
 use Rattle.lot_steps.specs.Steps.{is_idle, first_place, taker, act_of, next_place, mutex_goes, spin_lock, late_key}
-use Rattle.lot_world.specs.Machine.{State, unlocked, opening, kind_at, word_at, place_at, queue_at, put, state_after_operation, state_with_sections, queues_with_last, queues_without_first, queues_without, state_after_park, state_after_reply, place_after_telling, state_after_telling, state_after_hand_over, state_after_taking, state_after_take, state_after_wake, state_after_act, state_after_go, go_reply, reply_to, state_after_begin, can_begin, is_open_to, state_after_spin, state_after_spin_on, state_after_late, state_after_late_on, state_after_turn, can_turn, is_possible, after}
+use Rattle.lot_world.specs.Machine.{State, unlocked, opening, kind_at, word_at, place_at, queue_at, put, state_after_operation, state_with_sections, queues_with_last, queues_without_first, queues_without, state_after_park, state_after_reply, place_after_telling, state_after_telling, state_after_hand_over, state_after_taking, state_after_wake, state_after_act, state_after_takes, state_after_take_first, state_after_requeue, queues_requeued, left_behind, moved_under, moved_threads, listed, places_told, state_after_going, going_outcome, closed_place, can_do, state_after_go, reply_to, state_after_begin, can_begin, is_open_to, state_after_spin, state_after_spin_on, state_after_late, state_after_late_on, state_after_turn, can_turn, is_possible, after}
 use Rattle.lot_base.specs.declared.notes.Note as note
 use Rattle.lot_steps.specs.declared.mutex.lock.LockAt as lock
 use Rattle.lot_steps.specs.declared.acts.Whom as whom
@@ -81,6 +94,44 @@ below_behind n key t wanted (x ∷ xs) lt h = (h.0, below_behind n key t wanted 
 below_rest : (n : ℕ) (xs : List Waiter) → AllBelow n xs → AllBelow n (drop 1 xs)
 below_rest n [] h = tt
 below_rest n (x ∷ xs) h = h.1
+
+below_both : (n : ℕ) (xs ys : List Waiter) → AllBelow n xs → AllBelow n ys → AllBelow n (xs ++ ys)
+below_both n [] ys h k = k
+below_both n (x ∷ xs) ys h k = (h.0, below_both n xs ys h.1 k)
+
+below_unpicked : (n : ℕ) (picker : LockPicker) (key : ℕ) (xs : List Waiter) → AllBelow n xs → AllBelow n (without_picked lock_answer next_picker picker key xs)
+below_unpicked n picker key [] h = tt
+below_unpicked n picker key (x ∷ xs) h = either (x.key == key) (lock_answer picker x.want) (below_unpicked n (next_picker picker x.want) key xs h.1) (below_unpicked n picker key xs h.1)
+  where
+    either : (b : Bool) (answer : Pick) → AllBelow n (without_picked lock_answer next_picker (next_picker picker x.want) key xs) → AllBelow n (without_picked lock_answer next_picker picker key xs) → AllBelow n (if b
+        then (elim answer [
+          | Unpark ↦ without_picked lock_answer next_picker (next_picker picker x.want) key xs
+          | Skip ↦ x ∷ without_picked lock_answer next_picker (next_picker picker x.want) key xs
+          | Stop ↦ x ∷ xs
+        ])
+        else (x ∷ without_picked lock_answer next_picker picker key xs))
+    either true Unpark more same = more
+    either true Skip more same = (h.0, more)
+    either true Stop more same = h
+    either false answer more same = (h.0, same)
+
+below_moved : (n key : ℕ) (xs : List Waiter) → AllBelow n xs → AllBelow n (moved_under key xs)
+below_moved n key [] h = tt
+below_moved n key (x ∷ xs) h = (h.0, below_moved n key xs h.1)
+
+below_first : (n : ℕ) (xs : List Waiter) → AllBelow n xs → AllBelow n (moved_by requeue.TheVariants.One xs)
+below_first n [] h = tt
+below_first n (x ∷ xs) h = (h.0, tt)
+
+below_requeued : (n key : ℕ) (how : Requeue) (xs : List Waiter) → AllBelow n xs → AllBelow n (moved_under key (moved_by how xs))
+below_requeued n key requeue.TheVariants.One xs h = below_moved n key (moved_by requeue.TheVariants.One xs) (below_first n xs h)
+below_requeued n key requeue.TheVariants.All xs h = below_moved n key xs h
+below_requeued n key requeue.TheVariants.TakeOneMoveRest xs h = below_moved n key (drop 1 xs) (below_rest n xs h)
+
+below_behind_requeue : (n : ℕ) (how : Requeue) (xs : List Waiter) → AllBelow n xs → AllBelow n (left_behind how xs)
+below_behind_requeue n requeue.TheVariants.One xs h = below_rest n xs h
+below_behind_requeue n requeue.TheVariants.All xs h = tt
+below_behind_requeue n requeue.TheVariants.TakeOneMoveRest xs h = tt
 
 -- ---------------------------------------------------------------- places
 
@@ -238,18 +289,21 @@ operated_shaped w t p l f s = record {
 queues_shaped : (w : State) (queues : List (List Waiter)) → IsShaped w → length queues ≡ length w.queues → ((key : ℕ) → AllBelow (length w.places) (get_or queues key [])) → IsShaped (record w { queues = queues })
 queues_shaped w queues s e h = record { few = s.few; sections = s.sections; queues = e ∙ s.queues; places = s.places; waiting = h }
 
-parked_shaped : (w : State) (t l key : ℕ) (check : Check) (wanted : Want) → IsShaped w → t < length w.places → IsShaped (state_after_park w t l key check wanted)
-parked_shaped w t l key check wanted s lt = either (holds check (word_at w l))
+stood_shaped : (w : State) (t key : ℕ) (wanted : Want) → IsShaped w → t < length w.places → IsShaped (record w { queues = queues_with_last w.queues key t wanted })
+stood_shaped w t key wanted s lt = queues_shaped w (queues_with_last w.queues key t wanted) s (length-set (map (without t) w.queues) key _ ∙ length-map w.queues (without t))
+    (set_all (AllBelow (length w.places)) (map (without t) w.queues) key _ [] (below_behind (length w.places) key t wanted _ lt (others key)) others)
   where
     others : (k : ℕ) → AllBelow (length w.places) (get_or (map (without t) w.queues) k [])
     others k = rw (get_or-map (without t) w.queues k []) (below_without (length w.places) t (queue_at w k) (s.waiting k))
 
+parked_shaped : (w : State) (t l key : ℕ) (check : Check) (wanted : Want) → IsShaped w → t < length w.places → IsShaped (state_after_park w t l key check wanted)
+parked_shaped w t l key check wanted s lt = either (holds check (word_at w l))
+  where
     either : (b : Bool) → IsShaped (if b then record w { queues = queues_with_last w.queues key t wanted } else w)
     either false = s
-    either true = queues_shaped w (queues_with_last w.queues key t wanted) s (length-set (map (without t) w.queues) key _ ∙ length-map w.queues (without t))
-        (set_all (AllBelow (length w.places)) (map (without t) w.queues) key _ [] (below_behind (length w.places) key t wanted _ lt (others key)) others)
+    either true = stood_shaped w t key wanted s lt
 
-took_shaped : (w : State) (t key : ℕ) → IsShaped w → IsShaped (state_after_take w t key)
+took_shaped : (w : State) (t key : ℕ) → IsShaped w → IsShaped (state_after_take_first w t key)
 took_shaped w t key s = by_first (first_of (queue_at w key))
   where
     rest : IsShaped (record w { queues = queues_without_first w.queues key })
@@ -259,6 +313,38 @@ took_shaped w t key s = by_first (first_of (queue_at w key))
     by_first : (o : Option ℕ) → IsShaped (state_after_taking (record w { queues = queues_without_first w.queues key }) t o)
     by_first None = rest
     by_first (Some u) = befallen_shaped (record w { queues = queues_without_first w.queues key }) u (TakenBy t) rest tt
+
+-- wherever threads are told to go fits
+told_fit : (locks : ℕ) (reply : Reply) → ((p : Place) → ReplyFits p reply) → (us : List ℕ) (ps : List Place) → ((u : ℕ) → PlaceFits locks (get_or ps u Idle)) → (u : ℕ) → PlaceFits locks (get_or (places_told reply us ps) u Idle)
+told_fit locks reply timely [] ps h = h
+told_fit locks reply timely (x ∷ us) ps h = told_fit locks reply timely us (set ps x (next_place (get_or ps x Idle) reply))
+    (set_all (PlaceFits locks) ps x (next_place (get_or ps x Idle) reply) Idle (next_fits locks (get_or ps x Idle) reply (h x) (timely (get_or ps x Idle))) h)
+
+-- threads are told something, and lines change
+led_shaped : (w : State) (queues : List (List Waiter)) (places : List Place) → IsShaped w → length places ≡ length w.places → length queues ≡ length w.queues → ((u : ℕ) → PlaceFits (length w.locks) (get_or places u Idle))
+    → ((key : ℕ) → AllBelow (length w.places) (get_or queues key [])) → IsShaped (record w { queues = queues; places = places })
+led_shaped w queues places s threads lines fit below = record {
+  few = s.few;
+  sections = s.sections;
+  queues = lines ∙ s.queues;
+  places = fit;
+  waiting = λ key. rw threads (below key);
+}
+
+takes_shaped : (w : State) (t key : ℕ) (taken : List ℕ) (left : List Waiter) → IsShaped w → AllBelow (length w.places) left → IsShaped (state_after_takes w t key taken left)
+takes_shaped w t key taken left s below = led_shaped w (set w.queues key left) (places_told (TakenBy t) taken w.places) s (told_count (TakenBy t) taken w.places) (length-set w.queues key left)
+    (told_fit (length w.locks) (TakenBy t) (λ p. tt) taken w.places s.places)
+    (set_all (AllBelow (length w.places)) w.queues key left [] below s.waiting)
+
+requeued_shaped : (w : State) (t from to : ℕ) (how : Requeue) → IsShaped w → IsShaped (state_after_requeue w t from to how)
+requeued_shaped w t from to how s = led_shaped w (queues_requeued w.queues from to how) (places_told (MovedTo to) (moved_threads how (threads_of (queue_at w from))) (places_told (TakenBy t) (listed (taken_by how (queue_at w from))) w.places)) s
+    (told_count (MovedTo to) (moved_threads how (threads_of (queue_at w from))) (places_told (TakenBy t) (listed (taken_by how (queue_at w from))) w.places) ∙ told_count (TakenBy t) (listed (taken_by how (queue_at w from))) w.places)
+    (length-set (set w.queues from (left_behind how (queue_at w from))) to _ ∙ length-set w.queues from _)
+    (told_fit (length w.locks) (MovedTo to) (λ p. tt) (moved_threads how (threads_of (queue_at w from))) (places_told (TakenBy t) (listed (taken_by how (queue_at w from))) w.places) (told_fit (length w.locks) (TakenBy t) (λ p. tt) (listed (taken_by how (queue_at w from))) w.places s.places))
+    (set_all (AllBelow (length w.places)) (set w.queues from (left_behind how (queue_at w from))) to _ [] (below_both (length w.places) _ _ (stays to) (below_requeued (length w.places) to how (queue_at w from) (s.waiting from))) stays)
+  where
+    stays : (key : ℕ) → AllBelow (length w.places) (get_or (set w.queues from (left_behind how (queue_at w from))) key [])
+    stays = set_all (AllBelow (length w.places)) w.queues from (left_behind how (queue_at w from)) [] (below_behind_requeue (length w.places) how (queue_at w from) (s.waiting from)) s.waiting
 
 removed_shaped : (w : State) (t : ℕ) → IsShaped w → IsShaped (record w { queues = queues_without w.queues t })
 removed_shaped w t s = queues_shaped w (queues_without w.queues t) s (length-map w.queues (without t)) (λ k. rw (get_or-map (without t) w.queues k []) (below_without (length w.places) t (queue_at w k) (s.waiting k)))
@@ -305,7 +391,11 @@ performed_shaped w t p (Word l f) s lt = operated_shaped w t p l f s
 performed_shaped w t p (HandOver l f) s lt = told_shaped (state_after_hand_over w t p l f) t (HandedBy t) tt (given_shaped w t p l f s)
 performed_shaped w t p (Enter keys) s lt = filled_shaped w keys (Some t) s
 performed_shaped w t p (Park l key check wanted) s lt = parked_shaped w t l key check wanted s lt
+performed_shaped w t p (Stand key wanted) s lt = stood_shaped w t key wanted s lt
 performed_shaped w t p (Take key whom.TheVariants.First) s lt = took_shaped w t key s
+performed_shaped w t p (Take key (whom.TheVariants.Picked start recursive)) s lt = takes_shaped w t key (threads_of (lock_picked start recursive (queue_at w key))) (without_lock_picked start recursive key (queue_at w key)) s (below_unpicked (length w.places) (lock_picker start recursive) key (queue_at w key) (s.waiting key))
+performed_shaped w t p (Take key whom.TheVariants.All) s lt = takes_shaped w t key (threads_of (queue_at w key)) [] s tt
+performed_shaped w t p (act.Requeue from to how) s lt = requeued_shaped w t from to how s
 performed_shaped w t p (Remove key) s lt = removed_shaped w t s
 performed_shaped w t p (Leave keys x) s lt = awakened_shaped (state_with_sections w keys None) t x (filled_shaped w keys None s)
 performed_shaped w t p act s lt = s
@@ -329,6 +419,13 @@ performed_counts w t p (Take key whom.TheVariants.First) = by_first (first_of (q
     by_first : (o : Option ℕ) → (length (state_after_taking (record w { queues = queues_without_first w.queues key }) t o).places ≡ length w.places) × (length (state_after_taking (record w { queues = queues_without_first w.queues key }) t o).locks ≡ length w.locks)
     by_first None = (refl, refl)
     by_first (Some u) = (length-set w.places u _, refl)
+performed_counts w t p (Take key (whom.TheVariants.Picked start recursive)) = (told_count (TakenBy t) (threads_of (lock_picked start recursive (queue_at w key))) w.places, refl)
+performed_counts w t p (Take key whom.TheVariants.All) = (told_count (TakenBy t) (threads_of (queue_at w key)) w.places, refl)
+performed_counts w t p (act.Requeue from to how) = (
+  told_count (MovedTo to) (moved_threads how (threads_of (queue_at w from))) (places_told (TakenBy t) (listed (taken_by how (queue_at w from))) w.places)
+      ∙ told_count (TakenBy t) (listed (taken_by how (queue_at w from))) w.places,
+  refl,
+)
 performed_counts w t p (Leave keys wakes.TheVariants.Nobody) = filled_counts w keys None
 performed_counts w t p (Leave keys (wakes.TheVariants.All note)) = (length-map (state_with_sections w keys None).places (place_after_telling t (Woken note)) ∙ (filled_counts w keys None).0, (filled_counts w keys None).1)
 performed_counts w t p act = (refl, refl)
@@ -341,16 +438,37 @@ acted_there w v t u p act b e lt = rw e (either b)
     either true = rw (performed_counts w u p act).0 lt
     either false = lt
 
+-- where the reply to the act of a place leads
+pub went : (w v u : State) (t : ℕ) (p : Place) (a : Act) (r : Reply) (b : Bool) → a ≡ act_of p → can_do w a ≡ b
+    → Some r ≡ (if b then Some (reply_to w t a) else None) → v ≡ (if b then state_after_act w t p a else w) → u ≡ put v t (next_place p r)
+    → u ≡ (if can_do w (act_of p) then state_after_going w t p else w)
+went w v u t p a r true ea eb er ev eu = rw (← ea, eb) (let same : r ≡ reply_to w t a = cc in rw (eu, ev, same, ea) refl)
+went w v u t p a r false ea eb er ev eu = absurd cc
+
+pub went_told : (w : State) (t : ℕ) (p : Place) (a : Act) (r : Reply) (b : Bool) → a ≡ act_of p → can_do w a ≡ b
+    → Some r ≡ (if b then Some (reply_to w t a) else None) → (o : Outcome) → o ≡ outcome_of (next_act p r)
+    → o ≡ (if can_do w (act_of p) then going_outcome w t p else outcome.TheVariants.NotNow)
+went_told w t p a r true ea eb er o eo = rw (← ea, eb) (let same : r ≡ reply_to w t a = cc in rw (eo, same, ea) refl)
+went_told w t p a r false ea eb er o eo = absurd cc
+
 reply_fits : (w : State) (t : ℕ) (p : Place) (act : Act) → IsShaped w → ReplyFits p (reply_to w t act)
 reply_fits w t p (Take key whom.TheVariants.First) s = tt
+reply_fits w t p (Take key (whom.TheVariants.Picked start recursive)) s = tt
+reply_fits w t p (Take key whom.TheVariants.All) s = tt
 reply_fits w t p act s = tt
 
+went_shaped : (w : State) (t : ℕ) (p : Place) → IsShaped w → t < length w.places → PlaceFits (length w.locks) p → IsShaped (state_after_going w t p)
+went_shaped w t p s lt h =
+    let counts = performed_counts w t p (act_of p) in
+    let fits = next_fits (length w.locks) p (reply_to w t (act_of p)) h (reply_fits w t p (act_of p) s) in
+    put_shaped (state_after_act w t p (act_of p)) t (next_place p (reply_to w t (act_of p))) (performed_shaped w t p (act_of p) s lt) (rw counts.1 fits)
+
 gone_shaped : (w : State) (t : ℕ) → IsShaped w → t < length w.places → IsShaped (state_after_go w t)
-gone_shaped w t s lt =
-    let act = act_of (place_at w t) in
-    let counts = performed_counts w t (place_at w t) act in
-    let fits = next_fits (length w.locks) (place_at w t) (go_reply w t) (s.places t) (reply_fits w t (place_at w t) act s) in
-    put_shaped (state_after_act w t (place_at w t) act) t (next_place (place_at w t) (go_reply w t)) (performed_shaped w t (place_at w t) act s lt) (rw counts.1 fits)
+gone_shaped w t s lt = went_shaped w t (place_at w t) s lt (s.places t)
+
+-- where a closure's answer leads
+pub closed_fits : (w : State) (t : ℕ) (succeeded : Bool) → IsShaped w → PlaceFits (length w.locks) (closed_place w t succeeded)
+closed_fits w t succeeded s = next_fits (length w.locks) (place_at w t) (Closed succeeded) (s.places t) tt
 
 pub both : (a b : Bool) → (a && b) ≡ true → (a ≡ true) × (b ≡ true)
 both true b h = (refl, h)
@@ -394,7 +512,8 @@ turned_shaped w t (turn.TheVariants.Begin c) s lt can = begun_shaped w t c s can
 turned_shaped w t turn.TheVariants.Go s lt can = gone_shaped w t s lt
 turned_shaped w t turn.TheVariants.Spin s lt can = spun_shaped w t s
 turned_shaped w t turn.TheVariants.Late s lt can = lated_shaped w t s
-turned_shaped w t x s lt can = s
+turned_shaped w t turn.TheVariants.Ok s lt can = went_shaped w t (closed_place w t true) s lt (closed_fits w t true s)
+turned_shaped w t turn.TheVariants.Err s lt can = went_shaped w t (closed_place w t false) s lt (closed_fits w t false s)
 
 -- a step keeps the shape
 pub after_shaped : (w : State) (s : Step) → IsShaped w → IsShaped (after w s)
@@ -427,11 +546,16 @@ opening_shaped kinds threads few = record {
 
 -- ---------------------------------------------------------------- sizes
 
+went_size : (w : State) (t : ℕ) (p : Place) → SameSize w (state_after_going w t p)
+went_size w t p =
+    let counts = performed_counts w t p (act_of p) in
+    record { threads = length-set (state_after_act w t p (act_of p)).places t _ ∙ counts.0; locks = counts.1 }
+
 turned_size : (w : State) (t : ℕ) (x : Turn) → SameSize w (state_after_turn w t x)
 turned_size w t (turn.TheVariants.Begin c) = record { threads = length-set w.places t _; locks = refl }
-turned_size w t turn.TheVariants.Go =
-    let counts = performed_counts w t (place_at w t) (act_of (place_at w t)) in
-    record { threads = length-set (state_after_act w t (place_at w t) (act_of (place_at w t))).places t _ ∙ counts.0; locks = counts.1 }
+turned_size w t turn.TheVariants.Go = went_size w t (place_at w t)
+turned_size w t turn.TheVariants.Ok = went_size w t (closed_place w t true)
+turned_size w t turn.TheVariants.Err = went_size w t (closed_place w t false)
 turned_size w t turn.TheVariants.Spin = by_lock (spin_lock (place_at w t))
   where
     by_lock : (o : Option ℕ) → SameSize w (state_after_spin_on w t o)
@@ -442,7 +566,6 @@ turned_size w t turn.TheVariants.Late = by_key (late_key (place_at w t))
     by_key : (o : Option ℕ) → SameSize w (state_after_late_on w t o)
     by_key None = record { threads = refl; locks = refl }
     by_key (Some key) = record { threads = length-set w.places t _; locks = refl }
-turned_size w t x = record { threads = refl; locks = refl }
 
 -- a step changes no number of threads or locks
 pub after_size : (w : State) (s : Step) → SameSize w (after w s)

@@ -35,6 +35,7 @@ use Rattle.lot_world.proofs.Glue.{base_at, put_places, same}
 use Rattle.lot_world.proofs.MutexTable.{mutex, own_doing, meets, others_same}
 use Rattle.lot_world.proofs.StandsMoved.{mutex_rules, still}
 use Rattle.lot_world.proofs.SitesKept.{lock_by, mutex_at, same_bases, unchanged, follow, goes_steady, alike_put}
+use Rattle.lot_world.proofs.Closures.{nothing_closes}
 use Rattle.lot_world.proofs.GoneKept.{looked, enters, gone_kept}
 
 pub idle_is : (p : Place) → is_idle p ≡ true → p ≡ Idle
@@ -118,7 +119,8 @@ module _ (w : State) (t : ℕ) (steady : IsSteady w) (shape : IsShaped w) (there
   turned_kept turn.TheVariants.Go can = gone_kept w t steady shape there (place_at w t) refl (shape.places t) can
   turned_kept turn.TheVariants.Spin can = spun_kept (place_at w t) refl
   turned_kept turn.TheVariants.Late can = late_kept (place_at w t) refl (shape.places t) can
-  turned_kept x can = steady
+  turned_kept turn.TheVariants.Ok can = absurd (nothing_closes w t true can)
+  turned_kept turn.TheVariants.Err can = absurd (nothing_closes w t false can)
 
 -- a step keeps what holds between steps
 pub after_steady : (w : State) (s : Step) → IsShaped w → IsSteady w → IsSteady (after w s)

@@ -1,10 +1,10 @@
 -- What a state is made of: the numbers in it name threads, locks and keys that are there.
-use Rattle.std.specs.Prelude.{ℕ, Bool, true, false, ◌≡◌, ◌<◌, ◌≤◌, ◌*◌, List, [], ◌∷◌, length}
+use Rattle.std.specs.Prelude.{ℕ, Bool, true, false, ◌≡◌, ◌≢◌, ◌<◌, ◌≤◌, ◌*◌, List, [], ◌∷◌, length}
 use Rattle.lot_base.specs.declared.keys.Keys.{Keys}
 use Rattle.lot_base.specs.declared.keys.Keys.TheVariants.{One, Two}
 use Rattle.lot_base.specs.declared.wants.Waiter.{Waiter}
 use Rattle.lot_steps.specs.declared.acts.Act.{Act}
-use Rattle.lot_steps.specs.declared.acts.Act.TheVariants.{Word, HandOver, Enter, Park, Take, Remove, Leave}
+use Rattle.lot_steps.specs.declared.acts.Act.TheVariants.{Word, HandOver, Enter, Park, Stand, Take, Requeue, Remove, Leave}
 use Rattle.lot_steps.specs.declared.places.Place.{Place}
 use Rattle.lot_steps.specs.declared.places.Place.TheVariants.{Idle, Mutex}
 use Rattle.lot_steps.specs.declared.mutex.MutexPlace.{MutexPlace}
@@ -20,7 +20,9 @@ ActFits w (Word l op) = l < length w.locks
 ActFits w (HandOver l op) = l < length w.locks
 ActFits w (Enter keys) = KeysFit (length w.sections) keys
 ActFits w (Park l key check x) = (l < length w.locks) × (key < length w.sections)
+ActFits w (Stand key x) = key < length w.sections
 ActFits w (Take key whom) = key < length w.sections
+ActFits w (Requeue from to how) = (from < length w.sections) × (to < length w.sections) × (from ≢ to)
 ActFits w (Remove key) = key < length w.sections
 ActFits w (Leave keys wakes) = KeysFit (length w.sections) keys
 ActFits w act = Unit {0}

@@ -1,24 +1,32 @@
 -- The machine of the world: its state, and where each step leads.
-use Rattle.std.specs.Prelude.{ℕ, zero, suc, Bool, true, false, Option, Some, None, if◌then◌else◌, ◌==◌, ◌*◌, ◌&&◌, ◌||◌, List, [], ◌∷◌, ◌++◌, map, length, drop, replicate, nat_lt, is_none, slice_set, slice_index_or}
+use Rattle.std.specs.Prelude.{ℕ, zero, suc, Bool, true, false, Option, Some, None, if◌then◌else◌, ◌==◌, ◌*◌, ◌+◌, ◌&&◌, ◌||◌, not, List, [], ◌∷◌, ◌++◌, map, length, take, drop, replicate, nat_lt, is_none, slice_set, slice_index_or}
 use Rattle.lot_base.specs.declared.keys.Keys.{Keys}
 use Rattle.lot_base.specs.declared.keys.Keys as keys
 use Rattle.lot_base.specs.declared.ops.Op.{Op}
 use Rattle.lot_base.specs.declared.wants.Waiter.{Waiter}
 use Rattle.lot_base.specs.declared.wants.Want.{Want}
+use Rattle.lot_base.specs.declared.wants.Want.TheVariants.{Exclusive}
+use Rattle.lot_base.specs.declared.requeues.Requeue.{Requeue}
+use Rattle.lot_base.specs.declared.requeues.Requeue as requeue
 use Rattle.lot_base.specs.Words.{apply}
-use Rattle.lot_base.specs.Lines.{waiter, line, without, first_of}
+use Rattle.lot_base.specs.Lines.{waiter, line, without, first_of, threads_of}
+use Rattle.lot_base.specs.Picks.{lock_picked, without_lock_picked}
+use Rattle.lot_base.specs.Requeues.{taken_by, moved_by}
+use Rattle.std.specs.List.{filter}
 use Rattle.lot_calls.specs.declared.kinds.Kind.{Kind}
 use Rattle.lot_calls.specs.declared.kinds.Kind.TheVariants.{Mutex}
 use Rattle.lot_steps.specs.declared.owners.Owners.{Owners}
 use Rattle.lot_steps.specs.declared.places.Place.{Place}
 use Rattle.lot_steps.specs.declared.places.Place.TheVariants.{Idle}
 use Rattle.lot_steps.specs.declared.acts.Act.{Act}
-use Rattle.lot_steps.specs.declared.acts.Act.TheVariants.{Rest, Word, HandOver, Enter, Park, Take, Remove, Leave, Sleep, Closure, End}
+use Rattle.lot_steps.specs.declared.acts.Act.TheVariants.{Rest, Word, HandOver, Enter, Park, Stand, Take, Remove, Leave, Sleep, Closure, End}
+use Rattle.lot_steps.specs.declared.acts.Act.TheVariants as act
 use Rattle.lot_steps.specs.declared.acts.Check.{Check}
 use Rattle.lot_steps.specs.declared.acts.Wakes.{Wakes}
 use Rattle.lot_steps.specs.declared.acts.Wakes as wakes
 use Rattle.lot_steps.specs.declared.acts.Reply.{Reply}
-use Rattle.lot_steps.specs.declared.acts.Reply.TheVariants.{Done, Value, Spun, Parked, Took, Removed, TakenBy, HandedBy, Late, Woken}
+use Rattle.lot_steps.specs.declared.acts.Reply.TheVariants.{Done, Value, Spun, Parked, Took, Picked, Requeued, Removed, TakenBy, MovedTo, HandedBy, Late, Woken, Closed}
+use Rattle.lot_steps.specs.declared.acts.Whom.{Whom}
 use Rattle.lot_steps.specs.declared.acts.Whom as whom
 use Rattle.lot_calls.specs.declared.calls.Call.{Call}
 use Rattle.lot_calls.specs.declared.calls.Turn.{Turn}
@@ -30,10 +38,12 @@ use Rattle.lot_calls.specs.Kinds.{has_call}
 use Rattle.lot_steps.specs.Acts.{holds, outcome_of}
 use Rattle.lot_steps.specs.MutexSteps.{is_thread, with_exclusive}
 use Rattle.lot_calls.specs.Calls.{lock_in}
-use Rattle.lot_steps.specs.Steps.{first_place, has_right, is_idle, act_of, next_place, next_act, owners_after, taker, spin_lock, late_key}
+use Rattle.lot_steps.specs.Steps.{first_place, has_right, is_idle, act_of, next_place, next_act, owners_after, taker, wants, spin_lock, late_key}
 use Rattle.abstract_locks.specs.Codes.{fills}
+use Rattle.abstract_locks.specs.Locks.{Taken, wants_shared}
 use Rattle.abstract_locks.specs.Purposes.{rules_of}
 use Rattle.lot_world.specs.declared.machine.Lock.{Lock}
+use Rattle.lot_world.specs.declared.machine.Successor.{Successor}
 
 -- Each thread's place, each lock, each thread's number of shared rights of each lock, who is inside the section of each key, and the
 -- line of each key. A condition variable's mutex and a semaphore's permits are what its word says, and stand nowhere else.
@@ -163,6 +173,46 @@ place_after_telling t reply p = if is_thread t (taker p) then next_place p reply
 abbrev pub state_after_telling : State → ℕ → Reply → State
 state_after_telling w t reply = record w { places = map (place_after_telling t reply) w.places }
 
+-- what is told to threads asleep, one after another
+abbrev pub places_told : Reply → List ℕ → List Place → List Place
+places_told reply [] ps = ps
+places_told reply (u ∷ us) ps = places_told reply us (slice_set ps u (next_place (slice_index_or ps u Idle) reply))
+
+-- by whom a thread at a place was taken, and what it wants
+abbrev pub held_by : Option ℕ → Option Want → Option Taken
+held_by (Some t) (Some x) = Some (record { by = t; want = x })
+held_by t x = None
+
+abbrev pub held : Place → Option Taken
+held p = held_by (taker p) (wants p)
+
+-- whether t has it in hand, and it wants to share
+abbrev pub shares_in_hand : ℕ → Option Taken → Bool
+shares_in_hand t None = false
+shares_in_hand t (Some h) = (h.by == t) && wants_shared h.want
+
+-- how many t has in hand who want to share
+abbrev pub sharers : ℕ → List Place → ℕ
+sharers t ps = length (filter (λ (p : Place). shares_in_hand t (held p)) ps)
+
+-- what it wants, where t has it in hand and it wants more than to share
+abbrev pub wants_more_in_hand : ℕ → Option Taken → Option Want
+wants_more_in_hand t None = None
+wants_more_in_hand t (Some h) = if (h.by == t) && not (wants_shared h.want) then Some h.want else None
+
+abbrev pub successor_or : ℕ → Option Want → Option Successor → Option Successor
+successor_or u None later = later
+successor_or u (Some x) later = Some (record { thread = u; want = x })
+
+-- the first whom t has in hand and who wants more than to share, where the first place is that of u
+abbrev pub successor_from : ℕ → ℕ → List Place → Option Successor
+successor_from t u [] = None
+successor_from t u (p ∷ ps) = successor_or u (wants_more_in_hand t (held p)) (successor_from t (suc u) ps)
+
+abbrev pub want_of_successor : Option Successor → Option Want
+want_of_successor None = None
+want_of_successor (Some s) = Some s.want
+
 -- the first thread in the hand of t, where the first place is that of u
 abbrev pub heir_from : ℕ → ℕ → List Place → Option ℕ
 heir_from t u [] = None
@@ -178,8 +228,52 @@ abbrev pub state_after_taking : State → ℕ → Option ℕ → State
 state_after_taking w t None = w
 state_after_taking w t (Some u) = state_after_reply w u (TakenBy t)
 
-abbrev pub state_after_take : State → ℕ → ℕ → State
-state_after_take w t key = state_after_taking (record w { queues = queues_without_first w.queues key }) t (first_of (queue_at w key))
+abbrev pub state_after_take_first : State → ℕ → ℕ → State
+state_after_take_first w t key = state_after_taking (record w { queues = queues_without_first w.queues key }) t (first_of (queue_at w key))
+
+-- t has taken these threads of the line of a key, and the others are left
+abbrev pub state_after_takes : State → ℕ → ℕ → List ℕ → List Waiter → State
+state_after_takes w t key taken left =
+    record w { queues = slice_set w.queues key left; places = places_told (TakenBy t) taken w.places }
+
+abbrev pub state_after_take : State → ℕ → ℕ → Whom → State
+state_after_take w t key whom.TheVariants.First = state_after_take_first w t key
+state_after_take w t key (whom.TheVariants.Picked start recursive) =
+    state_after_takes w t key (threads_of (lock_picked start recursive (queue_at w key)))
+    (without_lock_picked start recursive key (queue_at w key))
+state_after_take w t key whom.TheVariants.All = state_after_takes w t key (threads_of (queue_at w key)) []
+
+-- who is left in a line behind a requeue
+abbrev pub left_behind : Requeue → List Waiter → List Waiter
+left_behind requeue.TheVariants.One q = drop 1 q
+left_behind how q = []
+
+-- who is moved stands behind the last of the other line, and wants to own alone
+abbrev pub moved_under : ℕ → List Waiter → List Waiter
+moved_under key q = map (λ (x : Waiter). waiter key x.thread Exclusive) q
+
+-- whom it moves, by the threads of the line
+abbrev pub moved_threads : Requeue → List ℕ → List ℕ
+moved_threads requeue.TheVariants.One us = take 1 us
+moved_threads requeue.TheVariants.All us = us
+moved_threads requeue.TheVariants.TakeOneMoveRest us = drop 1 us
+
+abbrev pub queues_requeued : List (List Waiter) → ℕ → ℕ → Requeue → List (List Waiter)
+queues_requeued queues from to how =
+    let q = slice_index_or queues from [] in
+    let others = slice_set queues from (left_behind how q) in
+    slice_set others to (slice_index_or others to [] ++ moved_under to (moved_by how q))
+
+abbrev pub listed : Option ℕ → List ℕ
+listed None = []
+listed (Some u) = u ∷ []
+
+abbrev pub state_after_requeue : State → ℕ → ℕ → ℕ → Requeue → State
+state_after_requeue w t from to how = record w {
+  queues = queues_requeued w.queues from to how;
+  places = places_told (MovedTo to) (moved_threads how (threads_of (queue_at w from)))
+      (places_told (TakenBy t) (listed (taken_by how (queue_at w from))) w.places);
+}
 
 abbrev pub state_after_wake : State → ℕ → Wakes → State
 state_after_wake w t wakes.TheVariants.Nobody = w
@@ -203,17 +297,31 @@ state_after_act w t p (Word l op) = state_after_operation w t p l op
 state_after_act w t p (HandOver l op) = state_after_telling (state_after_hand_over w t p l op) t (HandedBy t)
 state_after_act w t p (Enter keys) = state_with_sections w keys (Some t)
 state_after_act w t p (Park l key check wanted) = state_after_park w t l key check wanted
-state_after_act w t p (Take key whom.TheVariants.First) = state_after_take w t key
+state_after_act w t p (Stand key want) = record w { queues = queues_with_last w.queues key t want }
+state_after_act w t p (Take key whom) = state_after_take w t key whom
+state_after_act w t p (act.Requeue from to how) = state_after_requeue w t from to how
 state_after_act w t p (Remove key) = record w { queues = queues_without w.queues t }
 state_after_act w t p (Leave keys wakes) = state_after_leave w t keys wakes
 state_after_act w t p act = w
+
+-- what a take comes to
+abbrev pub reply_to_take : State → ℕ → ℕ → Whom → Reply
+reply_to_take w t key whom.TheVariants.First = Took (is_there (first_of (queue_at w key))) (length (drop 1 (queue_at w key)) == 0)
+reply_to_take w t key (whom.TheVariants.Picked start recursive) =
+    let v = state_after_take w t key (whom.TheVariants.Picked start recursive) in
+    Picked (sharers t v.places) (want_of_successor (successor_from t 0 v.places))
+    (length (without_lock_picked start recursive key (queue_at w key)) == 0)
+reply_to_take w t key whom.TheVariants.All = Took (not (length (queue_at w key) == 0)) true
 
 -- and what the thread is told
 abbrev pub reply_to : State → ℕ → Act → Reply
 reply_to w t (Word l op) = Value (word_at w l)
 reply_to w t (HandOver l op) = Value (word_at w l)
 reply_to w t (Park l key check x) = Parked (holds check (word_at w l))
-reply_to w t (Take key whom.TheVariants.First) = Took (is_there (first_of (queue_at w key))) (length (drop 1 (queue_at w key)) == 0)
+reply_to w t (Take key whom) = reply_to_take w t key whom
+reply_to w t (act.Requeue from to how) =
+    Requeued (length (listed (taken_by how (queue_at w from))) + length (moved_by how (queue_at w from)))
+    (length (left_behind how (queue_at w from)) == 0)
 reply_to w t (Remove key) = Removed (length (without t (queue_at w key)) == 0)
 reply_to w t act = Done
 
@@ -225,12 +333,37 @@ can_go w t = can_do w (act_of (place_at w t))
 abbrev pub go_reply : State → ℕ → Reply
 go_reply w t = reply_to w t (act_of (place_at w t))
 
--- a thread goes on
+-- a thread goes on from a place
+abbrev pub state_after_going : State → ℕ → Place → State
+state_after_going w t p = put (state_after_act w t p (act_of p)) t (next_place p (reply_to w t (act_of p)))
+
+abbrev pub going_outcome : State → ℕ → Place → Outcome
+going_outcome w t p = outcome_of (next_act p (reply_to w t (act_of p)))
+
+-- from where it stands
 abbrev pub state_after_go : State → ℕ → State
-state_after_go w t = put (state_after_act w t (place_at w t) (act_of (place_at w t))) t (next_place (place_at w t) (go_reply w t))
+state_after_go w t = state_after_going w t (place_at w t)
 
 abbrev pub go_outcome : State → ℕ → Outcome
-go_outcome w t = outcome_of (next_act (place_at w t) (go_reply w t))
+go_outcome w t = going_outcome w t (place_at w t)
+
+abbrev pub runs_closure : Act → Bool
+runs_closure (Closure state) = true
+runs_closure act = false
+
+-- where the answer of its closure leads a thread
+abbrev pub closed_place : State → ℕ → Bool → Place
+closed_place w t succeeded = next_place (place_at w t) (Closed succeeded)
+
+-- the closure of a thread has answered, and the thread goes on by it
+abbrev pub can_close : State → ℕ → Bool → Bool
+can_close w t succeeded = runs_closure (act_of (place_at w t)) && can_do w (act_of (closed_place w t succeeded))
+
+abbrev pub state_after_close : State → ℕ → Bool → State
+state_after_close w t succeeded = state_after_going w t (closed_place w t succeeded)
+
+abbrev pub close_outcome : State → ℕ → Bool → Outcome
+close_outcome w t succeeded = going_outcome w t (closed_place w t succeeded)
 
 -- the lock is there, has the call, and the thread has the right that the call needs
 abbrev pub is_open_to : State → ℕ → Call → Bool
@@ -277,18 +410,21 @@ can_turn w t (turn.TheVariants.Begin call) = can_begin w t call
 can_turn w t turn.TheVariants.Go = can_go w t
 can_turn w t turn.TheVariants.Spin = can_spin w t
 can_turn w t turn.TheVariants.Late = can_be_late w t
-can_turn w t turn.TheVariants.Ok = false
-can_turn w t turn.TheVariants.Err = false
+can_turn w t turn.TheVariants.Ok = can_close w t true
+can_turn w t turn.TheVariants.Err = can_close w t false
 
 abbrev pub state_after_turn : State → ℕ → Turn → State
 state_after_turn w t (turn.TheVariants.Begin call) = state_after_begin w t call
 state_after_turn w t turn.TheVariants.Go = state_after_go w t
 state_after_turn w t turn.TheVariants.Spin = state_after_spin w t
 state_after_turn w t turn.TheVariants.Late = state_after_late w t
-state_after_turn w t _ = w
+state_after_turn w t turn.TheVariants.Ok = state_after_close w t true
+state_after_turn w t turn.TheVariants.Err = state_after_close w t false
 
 abbrev pub turn_outcome : State → ℕ → Turn → Outcome
 turn_outcome w t turn.TheVariants.Go = go_outcome w t
+turn_outcome w t turn.TheVariants.Ok = close_outcome w t true
+turn_outcome w t turn.TheVariants.Err = close_outcome w t false
 turn_outcome w t _ = outcome.TheVariants.Step
 
 -- ---------------------------------------------------------------- steps and runs

@@ -14,10 +14,11 @@ use Rattle.lot_steps.specs.declared.mutex.MutexPlace.TheVariants.{Lock}
 use Rattle.lot_steps.specs.declared.mutex.lock.LockAt.TheVariants as lock
 use Rattle.abstract_locks.specs.Picks.{queued_of}
 use Rattle.lot_steps.specs.declared.acts.Act.{Act}
-use Rattle.lot_steps.specs.declared.acts.Act.TheVariants.{Enter, Sleep, Closure}
+use Rattle.lot_steps.specs.declared.acts.Act.TheVariants.{Enter, Sleep}
 use Rattle.lot_base.specs.declared.keys.Keys.{Keys}
 use Rattle.lot_steps.specs.Steps.{act_of, spin_lock}
 pub use Rattle.lot_steps.specs.MutexProfiles.{mutex_profile, is_bump, entry_purpose, release_purpose}
+pub use Rattle.lot_world.specs.Machine.{runs_closure}
 use Rattle.lot_world.specs.Machine.{State, place_at, word_at, owners_at, shares_at, kind_at, queue_at, section_at, is_there}
 use Rattle.abstract_locks.specs.Locks.{LockState, Queued, Taken, Pending, Rights}
 use Rattle.abstract_locks.specs.Runs.{LocksState, CallState, Stance, no_call, one_more_at, one_less_at}
@@ -80,10 +81,6 @@ mutex_call_state l at rights = record {
 abbrev pub sleeps : Act → Bool
 sleeps Sleep = true
 sleeps a = false
-
-abbrev pub runs_closure : Act → Bool
-runs_closure (Closure state) = true
-runs_closure a = false
 
 abbrev pub keys_entered : Act → Option Keys
 keys_entered (Enter keys) = Some keys

@@ -1,5 +1,5 @@
 -- Where a call goes on behind its first step, and what it has at its end.
-use Rattle.std.proofs.Common.{ℕ, ◌≡◌, Bool, true, false, List, ◌∷◌, ◌++◌, Option, None, inl, inr, if◌then◌else◌, not, sym, refl, ap, ◌∙◌, subst, arith, ne_eqb}
+use Rattle.std.proofs.Common.{ℕ, ◌≡◌, Bool, true, false, List, ◌∷◌, ◌++◌, ◌<◌, Option, None, inl, inr, if◌then◌else◌, not, sym, refl, ap, ◌∙◌, subst, arith, ne_eqb}
 use Rattle.lot_base.specs.declared.ops.Op.TheVariants.{Or}
 use Rattle.lot_calls.specs.declared.calls.MutexCall.{MutexCall}
 use Rattle.lot_calls.specs.declared.calls.MutexCall.TheVariants as call
@@ -20,13 +20,19 @@ use Rattle.lot_steps.specs.declared.mutex.unlock.UnlockAt as unlock
 use Rattle.lot_steps.specs.declared.places.Place.{Place}
 use Rattle.lot_steps.specs.declared.places.Place.TheVariants.{Mutex}
 use Rattle.lot_words.specs.declared.owners.Ownership.{Ownership}
+use Rattle.lot_words.specs.Indices.{word_index}
 use Rattle.lot_words.specs.declared.views.WordStep.{WordStep}
+use Rattle.lot_words.specs.declared.words.Word.{Word}
+use Rattle.lot_words.specs.declared.words.WordKind as kinds
 use Rattle.parking_lot_core.specs.declared.tokens.SectionRecord.{SectionRecord}
 use Rattle.parking_lot.specs.Calls.{beginning, first_op, purpose_in, saw_waiter, GoesOn, Releases, TookIfParked}
-use Rattle.parking_lot.specs.Fitting.{enters, purpose_of, Fits, IsOver, Outside, TookAt, held, beside}
-use Rattle.parking_lot.specs.Paths.{mutex_at, step, Walks}
+use Rattle.parking_lot.specs.Fitting.{of_mutex, aim_of, AreWordsFor, Fits, IsOver}
+use Rattle.parking_lot.specs.MutexFitting.{enters, IsMutexOver, Outside, TookAt, held, beside}
+use Rattle.parking_lot.specs.Paths.{mutex_at, mutexes, at_mutex, step, Walks}
 use Rattle.parking_lot.specs.Stages.{Stage, stage}
+use Rattle.parking_lot.specs.Words.{alone, kind_in, at_in}
 use Rattle.parking_lot.proofs.Paths.{goes_on, ends_at_once}
+use Rattle.parking_lot.proofs.Turning.{words_on}
 
 -- the place behind the first step
 abbrev rest : MutexCall → MutexPlace
@@ -59,21 +65,21 @@ module _ (n : ℕ) where
   goes_to call.UnlockFair seen owns g = ap (λ (b : Bool). mutex_goes n (looked false (not b))) (ne_eqb seen 1 g.0)
   goes_to call.Bump seen owns g = ap (λ (b : Bool). mutex_goes n (looked true b)) g.0
 
-  fits_there : (up : Type 0) (c : MutexCall) (seen : ℕ) (owns : List Ownership) (last : Option SectionRecord) → GoesOn n c seen owns → Fits up n owns (Mutex n (rest c)) (stage owns None last)
-  fits_there up call.Lock seen owns last g = (refl, (refl, refl))
-  fits_there up call.LockTimed seen owns last g = (refl, (refl, refl))
+  fits_there : (up : Type 0) (c : MutexCall) (seen : ℕ) (owns : List Ownership) (last : Option SectionRecord) → GoesOn n c seen owns → Fits up owns (Mutex n (rest c)) (stage owns None last)
+  fits_there up call.Lock seen owns last g = (refl, refl)
+  fits_there up call.LockTimed seen owns last g = (refl, refl)
   fits_there up call.TryLock seen owns last g = absurd g
-  fits_there up call.Unlock seen owns last g = (refl, (refl, refl))
-  fits_there up call.UnlockFair seen owns last g = (refl, (g.1, (refl, refl)))
-  fits_there up call.Bump seen owns last g = (refl, (g.1, (refl, refl)))
+  fits_there up call.Unlock seen owns last g = (refl, refl)
+  fits_there up call.UnlockFair seen owns last g = (g.1, (refl, refl))
+  fits_there up call.Bump seen owns last g = (g.1, (refl, refl))
 
-  same_purpose : (c : MutexCall) → purpose_of (Mutex n (rest c)) ≡ purpose_in c
-  same_purpose call.Lock = refl
-  same_purpose call.LockTimed = refl
-  same_purpose call.TryLock = refl
-  same_purpose call.Unlock = refl
-  same_purpose call.UnlockFair = refl
-  same_purpose call.Bump = refl
+  same_aim : (c : MutexCall) → aim_of (Mutex n (rest c)) ≡ of_mutex n (purpose_in c)
+  same_aim call.Lock = refl
+  same_aim call.LockTimed = refl
+  same_aim call.TryLock = refl
+  same_aim call.Unlock = refl
+  same_aim call.UnlockFair = refl
+  same_aim call.Bump = refl
 
   ends_with : (c : MutexCall) (seen : ℕ) → EndsAt c seen → next_act (beginning n c) (Value seen) ≡ act.TheVariants.End (success c)
   ends_with call.Lock seen e = subst (λ (k : ℕ). next_act (beginning n call.Lock) (Value k) ≡ act.TheVariants.End Ok) (sym e) refl
@@ -92,12 +98,12 @@ module _ (n : ℕ) where
   begins_with call.Bump = refl
 
   -- the first step ends the call
-  pub path_at_once : (c : MutexCall) (seen : ℕ) (old new : List WordStep) → EndsAt c seen → new ≡ old ++ step (mutex_at n) (first_op c) seen → Walks (mutex_at n) (beginning n c) old new (success c)
-  path_at_once c seen old new e saw = ends_at_once (mutex_at n) (beginning n c) n (first_op c) seen old new (success c) (begins_with c) saw (ends_with c seen e)
+  pub path_at_once : (c : MutexCall) (seen : ℕ) (old new : List WordStep) → EndsAt c seen → new ≡ old ++ step (mutex_at n) (first_op c) seen → Walks (at_mutex n) (beginning n c) old new (success c)
+  path_at_once c seen old new e saw = ends_at_once (at_mutex n) (beginning n c) n (first_op c) seen old new (success c) (begins_with c) saw (ends_with c seen e)
 
   -- a try ends with its one step
-  pub path_of_try : (locked : Bool) (seen : ℕ) (old new : List WordStep) → is_locked seen ≡ locked → new ≡ old ++ step (mutex_at n) (Or 1) seen → Walks (mutex_at n) (beginning n call.TryLock) old new (if locked then No else Yes)
-  path_of_try locked seen old new e saw = ends_at_once (mutex_at n) (beginning n call.TryLock) n (Or 1) seen old new (if locked then No else Yes) refl saw (by_bit locked e)
+  pub path_of_try : (locked : Bool) (seen : ℕ) (old new : List WordStep) → is_locked seen ≡ locked → new ≡ old ++ step (mutex_at n) (Or 1) seen → Walks (at_mutex n) (beginning n call.TryLock) old new (if locked then No else Yes)
+  path_of_try locked seen old new e saw = ends_at_once (at_mutex n) (beginning n call.TryLock) n (Or 1) seen old new (if locked then No else Yes) refl saw (by_bit locked e)
     where
       by_bit : (locked : Bool) → is_locked seen ≡ locked → next_act (beginning n call.TryLock) (Value seen) ≡ act.TheVariants.End (if locked then No else Yes)
       by_bit true e = ap (λ (b : Bool). mutex_does n (if b then next.TheVariants.End No else next.TheVariants.End Yes)) e
@@ -107,16 +113,27 @@ module _ (n : ℕ) where
   pub releases_behind : (c : MutexCall) (seen : ℕ) (old mid new : List WordStep) (last : Option SectionRecord) → saw_waiter c seen ≡ true → mid ≡ old ++ step (mutex_at n) (first_op c) seen → (more : List WordStep) × (new ≡ mid ++ more) → TookAt n last → Releases n c old new last
   releases_behind c seen old mid new last waits saw rest took = (seen, rest.0, rest.1 ∙ ap (λ (l : List WordStep). l ++ rest.0) saw, subst (λ (b : Bool). TookIfParked n b rest.0 last) (sym waits) took)
 
-  pub fits_behind : (up : Type 0) (c : MutexCall) (seen : ℕ) (owns : List Ownership) (last : Option SectionRecord) → GoesOn n c seen owns → Fits up n owns (next_place (beginning n c) (Value seen)) (stage owns None last)
-  fits_behind up c seen owns last g = subst (λ (p : Place). Fits up n owns p (stage owns None last)) (sym (goes_to c seen owns g)) (fits_there up c seen owns last g)
+  pub fits_behind : (up : Type 0) (c : MutexCall) (seen : ℕ) (owns : List Ownership) (last : Option SectionRecord) → GoesOn n c seen owns → Fits up owns (next_place (beginning n c) (Value seen)) (stage owns None last)
+  fits_behind up c seen owns last g = subst (λ (p : Place). Fits up owns p (stage owns None last)) (sym (goes_to c seen owns g)) (fits_there up c seen owns last g)
 
-  pub over_behind : (up : Type 0) (c : MutexCall) (seen : ℕ) (owns : List Ownership) (answer : Answer) (new : Stage) → GoesOn n c seen owns → IsOver up n owns (purpose_of (next_place (beginning n c) (Value seen))) answer new → IsOver up n owns (purpose_in c) answer new
-  over_behind up c seen owns answer new g over = subst (λ purpose. IsOver up n owns purpose answer new) (ap purpose_of (goes_to c seen owns g) ∙ same_purpose c) over
+  pub over_behind : (up : Type 0) (c : MutexCall) (seen : ℕ) (owns : List Ownership) (answer : Answer) (new : Stage) → GoesOn n c seen owns → IsOver up owns (aim_of (next_place (beginning n c) (Value seen))) answer new → IsMutexOver up n owns (purpose_in c) answer new
+  over_behind up c seen owns answer new g over = subst (λ aim. IsOver up owns aim answer new) (ap aim_of (goes_to c seen owns g) ∙ same_aim c) over
 
-  pub path_behind : (c : MutexCall) (seen : ℕ) (old mid new : List WordStep) (answer : Answer) → Walks (mutex_at n) (next_place (beginning n c) (Value seen)) mid new answer → mid ≡ old ++ step (mutex_at n) (first_op c) seen → Walks (mutex_at n) (beginning n c) old new answer
-  path_behind c seen old mid new answer rest saw = goes_on (mutex_at n) (beginning n c) n (first_op c) seen old mid new answer (begins_with c) saw rest
+  pub path_behind : (c : MutexCall) (seen : ℕ) (old mid new : List WordStep) (answer : Answer) → Walks (at_mutex n) (next_place (beginning n c) (Value seen)) mid new answer → mid ≡ old ++ step (mutex_at n) (first_op c) seen → Walks (at_mutex n) (beginning n c) old new answer
+  path_behind c seen old mid new answer rest saw = goes_on (at_mutex n) (beginning n c) n (first_op c) seen old mid new answer (begins_with c) saw rest
 
   -- an untimed call has the mutex at its end
-  pub has_entered : (up : Type 0) (e : Entry) (base : List Ownership) (answer : Answer) (st : Stage) → is_timed e ≡ false → IsOver up n base (enters e) answer st → (answer ≡ entered e) × Outside (held n ∷ beside n e base) st
+  pub has_entered : (up : Type 0) (e : Entry) (base : List Ownership) (answer : Answer) (st : Stage) → is_timed e ≡ false → IsMutexOver up n base (enters e) answer st → (answer ≡ entered e) × Outside (held n ∷ beside n e base) st
   has_entered up e base answer st untimed (inl h) = (h.0, (h.1.0, h.1.1))
   has_entered up e base answer st untimed (inr h) = let timed = h.1.0 in absurd cc
+
+module _ (word : Word) (is : word.kind ≡ kinds.TheVariants.Mutex) where
+  alone_kinds : kind_in (alone word) ≡ mutexes
+  alone_kinds = ap {B = ℕ → kinds.WordKind} (λ (kind : kinds.WordKind) (lock : ℕ). kind) is
+
+  pub alone_at : at_in (alone word) ≡ at_mutex word.number
+  alone_at = ap {B = ℕ → ℕ} (λ (kind : kinds.WordKind) (lock : ℕ). word_index word.number kind) is
+
+  -- the word of a mutex serves its call
+  pub words_behind : (c : MutexCall) (seen : ℕ) → word.number < 9223372036854775808 → AreWordsFor (next_place (beginning word.number c) (Value seen)) (kind_in (alone word)) (at_in (alone word))
+  words_behind c seen small = words_on (beginning word.number c) (Value seen) (kind_in (alone word)) (at_in (alone word)) (small, alone_kinds, alone_at)

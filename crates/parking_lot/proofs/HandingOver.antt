@@ -20,8 +20,9 @@ use Rattle.lot_words.specs.declared.words.WordKind as kinds
 use Rattle.lot_words.proofs.MutexSteps.{mutex_steps, each_code}
 use Rattle.lot_words.proofs.Trades.{owned_some}
 use Rattle.parking_lot_core.specs.declared.tokens.Did.TheVariants.{TakeFirst}
-use Rattle.parking_lot.specs.Fitting.{FitsHandOff, Reached, held}
-use Rattle.parking_lot.specs.Paths.{mutex_at}
+use Rattle.parking_lot.specs.Fitting.{Reached, sleeper_at}
+use Rattle.parking_lot.specs.MutexFitting.{FitsHandOff, held}
+use Rattle.parking_lot.specs.Paths.{mutex_at, mutexes, at_mutex}
 use Rattle.parking_lot.specs.Stages.{Stage, Inside, Needs, Became, HasKey, HasOneTaken, IsFresh, MayLeave, IsLeft, note_of, is_there, listed, took, all_given}
 
 -- an owner finds the word locked
@@ -44,7 +45,7 @@ module _ (n : ℕ) (base : List Ownership) (st : Stage) where
   there_now : has (held n) base ≡ true → st.owns ≡ base → has (held n) st.owns ≡ true
   there_now there same = subst (λ (o : List Ownership). has (held n) o ≡ true) (sym same) there
 
-  pub hand_off_needs : (at : HandOffAt) → FitsHandOff n base at st → Needs kinds.TheVariants.Mutex (mutex_at n) st (hand_off_act n at)
+  pub hand_off_needs : (at : HandOffAt) → FitsHandOff n base at st → Needs mutexes (at_mutex n) st (hand_off_act n at)
   hand_off_needs at.Enter f = (tt, f.1.1)
   hand_off_needs at.Take f = (subst (HasKey (2 * n)) (sym f.1.1) refl, subst IsFresh (sym f.1.1) refl)
   hand_off_needs (at.Store false none_left) f = (mutex_steps (mutex_at n) st.owns).hand_over 0 (omega arith) (there_now f.0 f.1.2.0)
@@ -71,21 +72,21 @@ module _ (n : ℕ) (base : List Ownership) (st : Stage) where
     inside_of : (s : Stage) → new ≡ s → new.inside ≡ s.inside
     inside_of s e = ap (λ (x : Stage). x.inside) e
 
-    pub hand_off_leads : (at : HandOffAt) → FitsHandOff n base at st → (reply : Reply) → Became up kinds.TheVariants.Mutex (mutex_at n) None st (hand_off_act n at) reply new → Reached up n base (Mutex n (HandOff bumps at)) reply new
-    hand_off_leads at.Enter f Done b = ((refl, (f.0, (owns_of _ b ∙ f.1.0, inside_of _ b))), refl)
-    hand_off_leads at.Take f (Took true left) b = ((refl, (f.0, (b.0, b.1, (owns_of _ b.2 ∙ f.1.0, inside_of _ b.2 ∙ ap (took (2 * n) b.0) f.1.1)))), refl)
-    hand_off_leads at.Take f (Took false left) b = ((refl, (f.0, (b.0, b.1, (owns_of _ b.2 ∙ f.1.0, inside_of _ b.2 ∙ ap (took (2 * n) b.0) f.1.1)))), refl)
+    pub hand_off_leads : (at : HandOffAt) → FitsHandOff n base at st → (reply : Reply) → Became up mutexes (at_mutex n) (sleeper_at (Mutex n (HandOff bumps at))) st (hand_off_act n at) reply new → Reached up base (Mutex n (HandOff bumps at)) reply new
+    hand_off_leads at.Enter f Done b = ((f.0, (owns_of _ b ∙ f.1.0, inside_of _ b)), refl)
+    hand_off_leads at.Take f (Took true left) b = ((f.0, (b.0, b.1, (owns_of _ b.2 ∙ f.1.0, inside_of _ b.2 ∙ ap (took (2 * n) b.0) f.1.1))), refl)
+    hand_off_leads at.Take f (Took false left) b = ((f.0, (b.0, b.1, (owns_of _ b.2 ∙ f.1.0, inside_of _ b.2 ∙ ap (took (2 * n) b.0) f.1.1))), refl)
     hand_off_leads (at.Store false left) f (Value seen) b = let odd = finds_locked n seen st.owns (there_now f.0 f.1.2.0) b.0 in
-        ((refl, (f.1.0, f.1.1, (owns_of _ b.1 ∙ freed n seen b.0.1.0 odd st.owns ∙ ap (without (held n)) f.1.2.0, inside_of _ b.1 ∙ f.1.2.1 ∙ none_listed f.1.0 f.1.1))), refl)
+        ((f.1.0, f.1.1, (owns_of _ b.1 ∙ freed n seen b.0.1.0 odd st.owns ∙ ap (without (held n)) f.1.2.0, inside_of _ b.1 ∙ f.1.2.1 ∙ none_listed f.1.0 f.1.1)), refl)
       where
         none_listed : (first : Option ℕ) → false ≡ is_there first → ◌≡◌ {A = Option Inside} (Some (record { keys = One (2 * n); did = TakeFirst (2 * n); taken = listed first; rightless = listed first })) (Some (record { keys = One (2 * n); did = TakeFirst (2 * n); taken = listed first; rightless = [] }))
         none_listed None e = refl
         none_listed (Some to) e = absurd cc
     hand_off_leads (at.Store true left) f (Value seen) b = let odd = finds_locked n seen st.owns (there_now f.0 f.1.2.0) b.0 in
-        ((refl, (f.1.0, f.1.1, (owns_of _ b.1 ∙ ap (without (held n)) (kept n left seen b.0.1.0 odd st.owns ∙ f.1.2.0), inside_of _ b.1 ∙ ap all_given f.1.2.1))), refl)
+        ((f.1.0, f.1.1, (owns_of _ b.1 ∙ ap (without (held n)) (kept n left seen b.0.1.0 odd st.owns ∙ f.1.2.0), inside_of _ b.1 ∙ ap all_given f.1.2.1)), refl)
     hand_off_leads (at.Leave any) f Done b = left_by bumps
       where
-        left_by : (bumps : Bool) → Reached up n base (Mutex n (HandOff bumps (at.Leave any))) Done new
-        left_by true = ((refl, (b.0 ∙ f.2.0, b.1)), refl)
+        left_by : (bumps : Bool) → Reached up base (Mutex n (HandOff bumps (at.Leave any))) Done new
+        left_by true = ((b.0 ∙ f.2.0, b.1), refl)
         left_by false = (refl, (b.0 ∙ f.2.0, b.1), subst (λ (i : Option Inside). IsLeft i new.last) f.2.1 b.2)
     hand_off_leads at f reply b = absurd b

@@ -5,13 +5,14 @@ use Rattle.lot_base.specs.declared.keys.Keys.TheVariants.{One}
 use Rattle.lot_base.specs.declared.notes.Note.TheVariants.{Normal, HandOff}
 use Rattle.lot_base.specs.declared.ops.Op.{Op}
 use Rattle.lot_base.specs.declared.ops.Op.TheVariants.{Load, And, Exchange}
-use Rattle.lot_steps.specs.MutexSteps.{lock_act, unlock_act, hand_off_act, decided}
-use Rattle.lot_steps.specs.Steps.{act_of, late_key}
+use Rattle.lot_steps.specs.MutexSteps.{mutex_act, lock_act, unlock_act, hand_off_act, decided}
+use Rattle.lot_steps.specs.Steps.{late_key}
 use Rattle.lot_steps.specs.declared.acts.Act.{Act}
 use Rattle.lot_steps.specs.declared.acts.Act as act
 use Rattle.lot_steps.specs.declared.acts.Reply.{Reply}
-use Rattle.lot_steps.specs.declared.acts.Reply.TheVariants.{Done, Value, Parked, Took, Removed, Late, Woken}
-use Rattle.lot_steps.specs.declared.mutex.MutexPlace.TheVariants as at_mutex
+use Rattle.lot_steps.specs.declared.acts.Reply.TheVariants.{Done, Value, Spun, Parked, Took, Removed, Late, Woken}
+use Rattle.lot_steps.specs.declared.mutex.MutexPlace.{MutexPlace}
+use Rattle.lot_steps.specs.declared.mutex.MutexPlace.TheVariants as at_mutex_place
 use Rattle.lot_steps.specs.declared.mutex.lock.Entry.{Entry}
 use Rattle.lot_steps.specs.declared.mutex.lock.Entry as entry
 use Rattle.lot_steps.specs.declared.mutex.lock.LockAt.{LockAt}
@@ -23,21 +24,24 @@ use Rattle.lot_steps.specs.declared.places.Place.TheVariants.{Idle, Mutex}
 use Rattle.lot_words.specs.Views.{owning}
 use Rattle.lot_words.specs.declared.owners.Owner.{Owner}
 use Rattle.lot_words.specs.declared.owners.Ownership.{Ownership}
+use Rattle.lot_words.specs.declared.words.WordKind.{WordKind}
 use Rattle.lot_words.specs.declared.words.WordKind as kinds
 use Rattle.lot_words.proofs.MutexSteps.{mutex_steps, each_code}
-use Rattle.parking_lot.specs.Fitting.{MutexLeads, GaveUp, FitsLock, FitsUnlock, Fits, Reached, Within, Outside, beside, held}
-use Rattle.parking_lot.specs.Paths.{mutex_at}
+use Rattle.parking_lot.specs.Fitting.{PlacesLead, Spins, Reached, sleeper_at}
+use Rattle.parking_lot.specs.MutexFitting.{GaveUp, FitsLock, FitsUnlock, FitsMutex, Within, Outside, beside, held}
+use Rattle.parking_lot.specs.Paths.{mutex_at, mutexes, at_mutex}
+use Rattle.parking_lot.specs.declared.acting.Sleeper.{Sleeper}
 use Rattle.parking_lot.specs.Stages.{Stage, Inside, Needs, Became, HasKey, IsFresh, MayLeave, IsLeft, took, entered_now, stage, stepped}
 use Rattle.parking_lot.proofs.HandingOver.{hand_off_needs, hand_off_leads}
 
 -- a reply to an operation on the word, which saw one of the four codes
-pub word_reply : (up : Type 0) (n : ℕ) (st new : Stage) (P : Reply → Type 0) (late : Option ℕ) (l : ℕ) (op : Op) → ((seen : ℕ) → seen < 4 → new ≡ stepped kinds.TheVariants.Mutex (mutex_at n) op seen st → P (Value seen)) → (reply : Reply) → Became up kinds.TheVariants.Mutex (mutex_at n) late st (act.TheVariants.Word l op) reply new → P reply
-word_reply up n st new P late l op h (Value seen) b = h seen b.0.1.0 b.1
-word_reply up n st new P late l op h reply b = absurd b
+pub word_reply : (up : Type 0) (n : ℕ) (st new : Stage) (P : Reply → Type 0) (sleeper : Sleeper) (l : ℕ) (op : Op) → ((seen : ℕ) → seen < 4 → new ≡ stepped kinds.TheVariants.Mutex (mutex_at n) op seen st → P (Value seen)) → (reply : Reply) → Became up mutexes (at_mutex n) sleeper st (act.TheVariants.Word l op) reply new → P reply
+word_reply up n st new P sleeper l op h (Value seen) b = h seen b.0.1.0 b.1
+word_reply up n st new P sleeper l op h reply b = absurd b
 
 module _ (up : Type 0) (n : ℕ) (base : List Ownership) (st : Stage) where
   abbrev Can : Act → Type 0
-  Can = Needs kinds.TheVariants.Mutex (mutex_at n) st
+  Can = Needs mutexes (at_mutex n) st
 
   decide_needs : (seen : ℕ) (owns : List Ownership) → seen < 4 → Outside owns st → Can (decided n seen)
   decide_needs seen owns = each_code (λ s. Outside owns st → Can (decided n s))
@@ -71,12 +75,11 @@ module _ (up : Type 0) (n : ℕ) (base : List Ownership) (st : Stage) where
   unlock_needs (unlock.TheVariants.Leave true) f = subst (MayLeave Normal) (sym f.2.1) refl
 
   -- what the place's act needs is there
-  pub needs : (p : Place) → Fits up n base p st → Can (act_of p)
-  needs (Mutex l (at_mutex.Lock e retries at)) f = subst (λ l. Can (lock_act l at)) (sym f.0) (lock_needs e at f.1)
-  needs (Mutex l (at_mutex.Unlock at)) f = subst (λ l. Can (unlock_act l at)) (sym f.0) (unlock_needs at f.1)
-  needs (Mutex l (at_mutex.HandOff bumps at)) f = subst (λ l. Can (hand_off_act l at)) (sym f.0) (hand_off_needs n base st at f.1)
-  needs (Mutex l at) f = absurd f.1
-  needs Idle f = absurd f
+  pub needs : (at : MutexPlace) → FitsMutex up n base at st → Can (mutex_act n at)
+  needs (at_mutex_place.Lock e retries at) f = lock_needs e at f
+  needs (at_mutex_place.Unlock at) f = unlock_needs at f
+  needs (at_mutex_place.HandOff bumps at) f = hand_off_needs n base st at f
+  needs at f = absurd f
 
   module _ (new : Stage) where
     owns_of : (s : Stage) → new ≡ s → new.owns ≡ s.owns
@@ -91,14 +94,14 @@ module _ (up : Type 0) (n : ℕ) (base : List Ownership) (st : Stage) where
 
     module _ (e : Entry) (retries : Bool) where
       abbrev place : LockAt → Place
-      place at = Mutex n (at_mutex.Lock e retries at)
+      place at = Mutex n (at_mutex_place.Lock e retries at)
 
       abbrev rest : List Ownership
       rest = beside n e base
 
       -- by the value that an operation saw
       abbrev Saw : LockAt → Op → ℕ → Type 0
-      Saw at op seen = new ≡ stepped kinds.TheVariants.Mutex (mutex_at n) op seen st → Reached up n base (place at) (Value seen) new
+      Saw at op seen = new ≡ stepped kinds.TheVariants.Mutex (mutex_at n) op seen st → Reached up base (place at) (Value seen) new
 
       outside_still : Outside rest st → (s : Stage) → new ≡ s → s.owns ≡ st.owns → s.inside ≡ st.inside → Outside rest new
       outside_still f s x o i = stays rest None s x o i f
@@ -108,65 +111,65 @@ module _ (up : Type 0) (n : ℕ) (base : List Ownership) (st : Stage) where
 
       from_first : Outside rest st → (seen : ℕ) → seen < 4 → Saw lock.TheVariants.First (Exchange 0 1) seen
       from_first f = each_code (Saw lock.TheVariants.First (Exchange 0 1))
-          (λ x. inl (refl, has_it f _ x refl refl)) (λ x. ((refl, outside_still f _ x refl refl), refl)) (λ x. ((refl, outside_still f _ x refl refl), refl)) (λ x. ((refl, outside_still f _ x refl refl), refl))
+          (λ x. inl (refl, has_it f _ x refl refl)) (λ x. (outside_still f _ x refl refl, refl)) (λ x. (outside_still f _ x refl refl, refl)) (λ x. (outside_still f _ x refl refl, refl))
 
       from_load : Outside rest st → (seen : ℕ) → seen < 4 → Saw lock.TheVariants.Load Load seen
       from_load f = each_code (Saw lock.TheVariants.Load Load)
-          (λ x. ((refl, (omega arith, outside_still f _ x refl refl)), refl)) (λ x. ((refl, (omega arith, outside_still f _ x refl refl)), refl))
-          (λ x. ((refl, (omega arith, outside_still f _ x refl refl)), refl)) (λ x. ((refl, (omega arith, outside_still f _ x refl refl)), refl))
+          (λ x. ((omega arith, outside_still f _ x refl refl), refl)) (λ x. ((omega arith, outside_still f _ x refl refl), refl))
+          (λ x. ((omega arith, outside_still f _ x refl refl), refl)) (λ x. ((omega arith, outside_still f _ x refl refl), refl))
 
-      gives_up : (e : Entry) (owns : List Ownership) → Outside owns st → (key : ℕ) → late_key (Mutex n (at_mutex.Lock e retries lock.TheVariants.Asleep)) ≡ Some key → up → new ≡ stage st.owns (entered_now (One key)) st.last → FitsLock up n e owns lock.TheVariants.Remove new
+      gives_up : (e : Entry) (owns : List Ownership) → Outside owns st → (key : ℕ) → late_key (Mutex n (at_mutex_place.Lock e retries lock.TheVariants.Asleep)) ≡ Some key → up → new ≡ stage st.owns (entered_now (One key)) st.last → FitsLock up n e owns lock.TheVariants.Remove new
       gives_up entry.TheVariants.LockTimed owns f key can over x = let k : key ≡ 2 * n = cc in ((refl, over), (owns_of _ x ∙ f.0, inside_of _ x ∙ ap (λ (k : ℕ). entered_now (One k)) k))
       gives_up entry.TheVariants.Lock owns f key can over x = absurd cc
       gives_up entry.TheVariants.Bump owns f key can over x = absurd cc
 
       saw_parked : Outside rest st → (seen : ℕ) → seen < 4 → Saw (lock.TheVariants.Decide 1) (Exchange 1 3) seen
       saw_parked f = each_code (Saw (lock.TheVariants.Decide 1) (Exchange 1 3))
-          (λ x. ((refl, (omega arith, outside_still f _ x refl refl)), refl)) (λ x. ((refl, (omega arith, outside_still f _ x refl refl)), refl))
-          (λ x. ((refl, (omega arith, outside_still f _ x refl refl)), refl)) (λ x. ((refl, (omega arith, outside_still f _ x refl refl)), refl))
+          (λ x. ((omega arith, outside_still f _ x refl refl), refl)) (λ x. ((omega arith, outside_still f _ x refl refl), refl))
+          (λ x. ((omega arith, outside_still f _ x refl refl), refl)) (λ x. ((omega arith, outside_still f _ x refl refl), refl))
 
       enters_0 : Outside rest st → (seen : ℕ) → seen < 4 → Saw (lock.TheVariants.Decide 0) (Exchange 0 1) seen
       enters_0 f = each_code (Saw (lock.TheVariants.Decide 0) (Exchange 0 1))
-          (λ x. inl (refl, has_it f _ x refl refl)) (λ x. ((refl, (omega arith, outside_still f _ x refl refl)), refl))
-          (λ x. ((refl, (omega arith, outside_still f _ x refl refl)), refl)) (λ x. ((refl, (omega arith, outside_still f _ x refl refl)), refl))
+          (λ x. inl (refl, has_it f _ x refl refl)) (λ x. ((omega arith, outside_still f _ x refl refl), refl))
+          (λ x. ((omega arith, outside_still f _ x refl refl), refl)) (λ x. ((omega arith, outside_still f _ x refl refl), refl))
 
       enters_2 : Outside rest st → (seen : ℕ) → seen < 4 → Saw (lock.TheVariants.Decide 2) (Exchange 2 3) seen
       enters_2 f = each_code (Saw (lock.TheVariants.Decide 2) (Exchange 2 3))
-          (λ x. ((refl, (omega arith, outside_still f _ x refl refl)), refl)) (λ x. ((refl, (omega arith, outside_still f _ x refl refl)), refl))
-          (λ x. inl (refl, has_it f _ x refl refl)) (λ x. ((refl, (omega arith, outside_still f _ x refl refl)), refl))
+          (λ x. ((omega arith, outside_still f _ x refl refl), refl)) (λ x. ((omega arith, outside_still f _ x refl refl), refl))
+          (λ x. inl (refl, has_it f _ x refl refl)) (λ x. ((omega arith, outside_still f _ x refl refl), refl))
 
       clears : GaveUp up e × Within n rest st → (seen : ℕ) → seen < 4 → Saw lock.TheVariants.Clear (And 18446744073709551613) seen
       clears f = each_code (Saw lock.TheVariants.Clear (And 18446744073709551613))
-          (λ x. ((refl, (f.0, stays rest _ _ x refl refl f.1)), refl)) (λ x. ((refl, (f.0, stays rest _ _ x refl refl f.1)), refl))
-          (λ x. ((refl, (f.0, stays rest _ _ x refl refl f.1)), refl)) (λ x. ((refl, (f.0, stays rest _ _ x refl refl f.1)), refl))
+          (λ x. ((f.0, stays rest _ _ x refl refl f.1), refl)) (λ x. ((f.0, stays rest _ _ x refl refl f.1), refl))
+          (λ x. ((f.0, stays rest _ _ x refl refl f.1), refl)) (λ x. ((f.0, stays rest _ _ x refl refl f.1), refl))
 
       checks : Within n rest st → (seen : ℕ) → seen < 4 → new ≡ stepped kinds.TheVariants.Mutex (mutex_at n) Load seen st → Within n rest new
       checks f = each_code (λ s. new ≡ stepped kinds.TheVariants.Mutex (mutex_at n) Load s st → Within n rest new)
           (λ x. stays rest _ _ x refl refl f) (λ x. stays rest _ _ x refl refl f) (λ x. stays rest _ _ x refl refl f) (λ x. stays rest _ _ x refl refl f)
 
-      enter_reply : (P : Reply → Type 0) (keys : Keys) → (new ≡ stage st.owns (entered_now keys) st.last → P Done) → (reply : Reply) → Became up kinds.TheVariants.Mutex (mutex_at n) None st (act.TheVariants.Enter keys) reply new → P reply
+      enter_reply : (P : Reply → Type 0) (keys : Keys) → (new ≡ stage st.owns (entered_now keys) st.last → P Done) → (reply : Reply) → Became up mutexes (at_mutex n) (sleeper_at (place lock.TheVariants.First)) st (act.TheVariants.Enter keys) reply new → P reply
       enter_reply P keys h Done b = h b
       enter_reply P keys h reply b = absurd b
 
-      decides : (seen : ℕ) → seen < 4 → Outside rest st → (reply : Reply) → Became up kinds.TheVariants.Mutex (mutex_at n) None st (decided n seen) reply new → Reached up n base (place (lock.TheVariants.Decide seen)) reply new
-      decides = each_code (λ s. Outside rest st → (reply : Reply) → Became up kinds.TheVariants.Mutex (mutex_at n) None st (decided n s) reply new → Reached up n base (place (lock.TheVariants.Decide s)) reply new)
-          (λ f. word_reply up n st new (λ r. Reached up n base (place (lock.TheVariants.Decide 0)) r new) None n (Exchange 0 1) (enters_0 f))
-          (λ f. word_reply up n st new (λ r. Reached up n base (place (lock.TheVariants.Decide 1)) r new) None n (Exchange 1 3) (saw_parked f))
-          (λ f. word_reply up n st new (λ r. Reached up n base (place (lock.TheVariants.Decide 2)) r new) None n (Exchange 2 3) (enters_2 f))
-          (λ f. enter_reply (λ r. Reached up n base (place (lock.TheVariants.Decide 3)) r new) (One (2 * n)) (λ x. ((refl, (owns_of _ x ∙ f.0, inside_of _ x)), refl)))
+      decides : (seen : ℕ) → seen < 4 → Outside rest st → (reply : Reply) → Became up mutexes (at_mutex n) (sleeper_at (place lock.TheVariants.First)) st (decided n seen) reply new → Reached up base (place (lock.TheVariants.Decide seen)) reply new
+      decides = each_code (λ s. Outside rest st → (reply : Reply) → Became up mutexes (at_mutex n) (sleeper_at (place lock.TheVariants.First)) st (decided n s) reply new → Reached up base (place (lock.TheVariants.Decide s)) reply new)
+          (λ f. word_reply up n st new (λ r. Reached up base (place (lock.TheVariants.Decide 0)) r new) (sleeper_at (place lock.TheVariants.First)) n (Exchange 0 1) (enters_0 f))
+          (λ f. word_reply up n st new (λ r. Reached up base (place (lock.TheVariants.Decide 1)) r new) (sleeper_at (place lock.TheVariants.First)) n (Exchange 1 3) (saw_parked f))
+          (λ f. word_reply up n st new (λ r. Reached up base (place (lock.TheVariants.Decide 2)) r new) (sleeper_at (place lock.TheVariants.First)) n (Exchange 2 3) (enters_2 f))
+          (λ f. enter_reply (λ r. Reached up base (place (lock.TheVariants.Decide 3)) r new) (One (2 * n)) (λ x. ((owns_of _ x ∙ f.0, inside_of _ x), refl)))
 
-      lock_leads : (at : LockAt) → FitsLock up n e rest at st → (reply : Reply) → Became up kinds.TheVariants.Mutex (mutex_at n) (late_key (place at)) st (lock_act n at) reply new → Reached up n base (place at) reply new
+      lock_leads : (at : LockAt) → FitsLock up n e rest at st → (reply : Reply) → Became up mutexes (at_mutex n) (sleeper_at (place at)) st (lock_act n at) reply new → Reached up base (place at) reply new
       lock_leads lock.TheVariants.First f (Value seen) b = from_first f seen b.0.1.0 b.1
       lock_leads lock.TheVariants.Load f (Value seen) b = from_load f seen b.0.1.0 b.1
       lock_leads (lock.TheVariants.Decide seen) f reply b = decides seen f.0 f.1 reply b
-      lock_leads lock.TheVariants.Check f (Parked parked) b = let w = checks f b.0 b.2.1.0 b.3 in ((refl, w), refl)
-      lock_leads (lock.TheVariants.Leave true) f Done b = ((refl, (b.0 ∙ f.0, b.1)), refl)
-      lock_leads (lock.TheVariants.Leave false) f Done b = ((refl, (b.0 ∙ f.0, b.1)), refl)
-      lock_leads lock.TheVariants.Asleep f (Woken Normal) b = ((refl, (b.0 ∙ f.0, b.1 ∙ f.1)), refl)
-      lock_leads lock.TheVariants.Asleep f (Woken HandOff) b = ((refl, has_it f _ (b.2 ∙ ap (λ (o : Owner). stage (owning (mutex_at n) o ∷ st.owns) st.inside st.last) b.1) refl refl), refl)
-      lock_leads lock.TheVariants.Asleep f Late b = ((refl, gives_up e rest f b.0 b.1 b.2 b.3), refl)
-      lock_leads lock.TheVariants.Remove f (Removed true) b = ((refl, (f.0, stays rest _ _ b refl refl f.1)), refl)
-      lock_leads lock.TheVariants.Remove f (Removed false) b = ((refl, (f.0, stays rest _ _ b refl refl f.1)), refl)
+      lock_leads lock.TheVariants.Check f (Parked parked) b = let w = checks f b.0 b.2.0.1.0 b.2.1 in (w, refl)
+      lock_leads (lock.TheVariants.Leave true) f Done b = ((b.0 ∙ f.0, b.1), refl)
+      lock_leads (lock.TheVariants.Leave false) f Done b = ((b.0 ∙ f.0, b.1), refl)
+      lock_leads lock.TheVariants.Asleep f (Woken Normal) b = ((b.0 ∙ f.0, b.1 ∙ f.1), refl)
+      lock_leads lock.TheVariants.Asleep f (Woken HandOff) b = (has_it f _ (b.2 ∙ ap (λ (o : Owner). stage (owning (mutex_at n) o ∷ st.owns) st.inside st.last) b.1) refl refl, refl)
+      lock_leads lock.TheVariants.Asleep f Late b = (gives_up e rest f b.0 b.1 b.2 b.3, refl)
+      lock_leads lock.TheVariants.Remove f (Removed true) b = ((f.0, stays rest _ _ b refl refl f.1), refl)
+      lock_leads lock.TheVariants.Remove f (Removed false) b = ((f.0, stays rest _ _ b refl refl f.1), refl)
       lock_leads lock.TheVariants.Clear f (Value seen) b = clears f seen b.0.1.0 b.1
       lock_leads lock.TheVariants.GiveUp f Done b = inr (refl, f.0, (b.0 ∙ f.1.0, b.1))
       lock_leads lock.TheVariants.Accept f Done b = inl (refl, (owns_of _ b ∙ f.0, inside_of _ b ∙ f.1))
@@ -175,22 +178,44 @@ module _ (up : Type 0) (n : ℕ) (base : List Ownership) (st : Stage) where
       lock_leads at f reply b = absurd b
 
     -- a release behind its subtraction
-    unlock_leads : (at : UnlockAt) → FitsUnlock n base at st → (reply : Reply) → Became up kinds.TheVariants.Mutex (mutex_at n) None st (unlock_act n at) reply new → Reached up n base (Mutex n (at_mutex.Unlock at)) reply new
+    unlock_leads : (at : UnlockAt) → FitsUnlock n base at st → (reply : Reply) → Became up mutexes (at_mutex n) (sleeper_at (Mutex n (at_mutex_place.Unlock at))) st (unlock_act n at) reply new → Reached up base (Mutex n (at_mutex_place.Unlock at)) reply new
     unlock_leads unlock.TheVariants.Subtract f reply b = absurd f
-    unlock_leads unlock.TheVariants.Enter f Done b = ((refl, (owns_of _ b ∙ f.0, inside_of _ b)), refl)
-    unlock_leads unlock.TheVariants.Take f (Took any true) b = ((refl, (b.0, b.1, (owns_of _ b.2 ∙ f.0, inside_of _ b.2 ∙ ap (took (2 * n) b.0) f.1))), refl)
-    unlock_leads unlock.TheVariants.Take f (Took any false) b = ((refl, (b.0, b.1, (owns_of _ b.2 ∙ f.0, inside_of _ b.2 ∙ ap (took (2 * n) b.0) f.1))), refl)
-    unlock_leads (unlock.TheVariants.Clear any) f (Value seen) b = each_code (λ s. new ≡ stepped kinds.TheVariants.Mutex (mutex_at n) (And 18446744073709551613) s st → Reached up n base (Mutex n (at_mutex.Unlock (unlock.TheVariants.Clear any))) (Value s) new)
-        (λ x. ((refl, (f.0, f.1, stays base _ _ x refl refl f.2)), refl)) (λ x. ((refl, (f.0, f.1, stays base _ _ x refl refl f.2)), refl)) (λ x. ((refl, (f.0, f.1, stays base _ _ x refl refl f.2)), refl)) (λ x. ((refl, (f.0, f.1, stays base _ _ x refl refl f.2)), refl)) seen b.0.1.0 b.1
+    unlock_leads unlock.TheVariants.Enter f Done b = ((owns_of _ b ∙ f.0, inside_of _ b), refl)
+    unlock_leads unlock.TheVariants.Take f (Took any true) b = ((b.0, b.1, (owns_of _ b.2 ∙ f.0, inside_of _ b.2 ∙ ap (took (2 * n) b.0) f.1)), refl)
+    unlock_leads unlock.TheVariants.Take f (Took any false) b = ((b.0, b.1, (owns_of _ b.2 ∙ f.0, inside_of _ b.2 ∙ ap (took (2 * n) b.0) f.1)), refl)
+    unlock_leads (unlock.TheVariants.Clear any) f (Value seen) b = each_code (λ s. new ≡ stepped kinds.TheVariants.Mutex (mutex_at n) (And 18446744073709551613) s st → Reached up base (Mutex n (at_mutex_place.Unlock (unlock.TheVariants.Clear any))) (Value s) new)
+        (λ x. ((f.0, f.1, stays base _ _ x refl refl f.2), refl)) (λ x. ((f.0, f.1, stays base _ _ x refl refl f.2), refl)) (λ x. ((f.0, f.1, stays base _ _ x refl refl f.2), refl)) (λ x. ((f.0, f.1, stays base _ _ x refl refl f.2), refl)) seen b.0.1.0 b.1
     unlock_leads (unlock.TheVariants.Leave any) f Done b = (refl, (b.0 ∙ f.2.0, b.1), subst (λ (i : Option Inside). IsLeft i new.last) f.2.1 b.2)
     unlock_leads at f reply b = absurd b
 
-    leads : (p : Place) → Fits up n base p st → (reply : Reply) → Became up kinds.TheVariants.Mutex (mutex_at n) (late_key p) st (act_of p) reply new → Reached up n base p reply new
-    leads (Mutex l (at_mutex.Lock e retries at)) f = subst (λ l. (reply : Reply) → Became up kinds.TheVariants.Mutex (mutex_at n) (late_key (Mutex l (at_mutex.Lock e retries at))) st (lock_act l at) reply new → Reached up n base (Mutex l (at_mutex.Lock e retries at)) reply new) (sym f.0) (lock_leads e retries at f.1)
-    leads (Mutex l (at_mutex.Unlock at)) f = subst (λ l. (reply : Reply) → Became up kinds.TheVariants.Mutex (mutex_at n) None st (unlock_act l at) reply new → Reached up n base (Mutex l (at_mutex.Unlock at)) reply new) (sym f.0) (unlock_leads at f.1)
-    leads (Mutex l (at_mutex.HandOff bumps at)) f = subst (λ l. (reply : Reply) → Became up kinds.TheVariants.Mutex (mutex_at n) None st (hand_off_act l at) reply new → Reached up n base (Mutex l (at_mutex.HandOff bumps at)) reply new) (sym f.0) (hand_off_leads n base st up new bumps at f.1)
-    leads (Mutex l at) f = absurd f.1
-    leads Idle f = absurd f
+    leads : (at : MutexPlace) → FitsMutex up n base at st → (reply : Reply) → Became up mutexes (at_mutex n) (sleeper_at (Mutex n at)) st (mutex_act n at) reply new → Reached up base (Mutex n at) reply new
+    leads (at_mutex_place.Lock e retries at) f = lock_leads e retries at f
+    leads (at_mutex_place.Unlock at) f = unlock_leads at f
+    leads (at_mutex_place.HandOff bumps at) f = hand_off_leads n base st up new bumps at f
+    leads at f = absurd f
 
-pub mutex_leads : (up : Type 0) → MutexLeads up
-mutex_leads up n base p st f = (needs up n base st p f, λ reply new. leads up n base st new p f reply)
+    -- a load in place of the act that would set the parked bit
+    spins_on : (e : Entry) (retries : Bool) (expected : ℕ) → Outside (beside n e base) st → (seen : ℕ) → seen < 4 → new ≡ stepped kinds.TheVariants.Mutex (mutex_at n) Load seen st → Reached up base (Mutex n (at_mutex_place.Lock e retries (lock.TheVariants.Decide expected))) (Spun seen) new
+    spins_on e retries expected f = each_code (λ s. new ≡ stepped kinds.TheVariants.Mutex (mutex_at n) Load s st → Reached up base (Mutex n (at_mutex_place.Lock e retries (lock.TheVariants.Decide expected))) (Spun s) new)
+        (λ x. ((omega arith, stays (beside n e base) None _ x refl refl f), refl)) (λ x. ((omega arith, stays (beside n e base) None _ x refl refl f), refl))
+        (λ x. ((omega arith, stays (beside n e base) None _ x refl refl f), refl)) (λ x. ((omega arith, stays (beside n e base) None _ x refl refl f), refl))
+
+  spins : (at : MutexPlace) → FitsMutex up n base at st → Spins up mutexes (at_mutex n) base (Mutex n at) st
+  spins (at_mutex_place.Lock e retries (lock.TheVariants.Decide expected)) f l is = ((mutex_steps (mutex_at n) st.owns).load, λ seen new b. spins_on new e retries expected f.1 seen b.0.1.0 b.1)
+  spins at f l is = absurd cc
+
+-- the words of a call of a mutex are that one alone
+mutex_place_leads : (up : Type 0) (n : ℕ) (base : List Ownership) (at : MutexPlace) (st : Stage) → FitsMutex up n base at st →
+    Needs mutexes (at_mutex n) st (mutex_act n at) × Spins up mutexes (at_mutex n) base (Mutex n at) st
+    × ((reply : Reply) (new : Stage) → Became up mutexes (at_mutex n) (sleeper_at (Mutex n at)) st (mutex_act n at) reply new → Reached up base (Mutex n at) reply new)
+mutex_place_leads up n base at st f = (needs up n base st at f, spins up n base st at f, λ reply new. leads up n base st new at f reply)
+
+pub places_lead : (up : Type 0) → PlacesLead up
+places_lead up kinds at base Idle st words f = absurd f
+places_lead up kinds at base (Mutex n p) st words f =
+    subst (λ (k : (ℕ → WordKind) × (ℕ → ℕ)). Needs k.0 k.1 st (mutex_act n p) × Spins up k.0 k.1 base (Mutex n p) st
+    × ((reply : Reply) (new : Stage) → Became up k.0 k.1 (sleeper_at (Mutex n p)) st (mutex_act n p) reply new → Reached up base (Mutex n p) reply new))
+    (sym (both words.1 words.2)) (mutex_place_leads up n base p st f)
+  where
+    both : kinds ≡ mutexes → at ≡ at_mutex n → ◌≡◌ {A = (ℕ → WordKind) × (ℕ → ℕ)} (kinds, at) (mutexes, at_mutex n)
+    both a b = ap (λ (k : ℕ → WordKind). (k, at)) a ∙ ap (λ (w : ℕ → ℕ). (mutexes, w)) b

@@ -1,8 +1,13 @@
 -- One turn of the driver: the steps that it added bring the reply, and that leads on.
-use Rattle.std.proofs.Common.{ℕ, ◌≡◌, ◌<◌, Bool, true, List, [], ◌++◌, Option, refl, sym, ap, ◌∙◌, subst}
+use Rattle.std.proofs.Common.{ℕ, ◌≡◌, ◌<◌, Bool, true, List, [], ◌++◌, Option, None, refl, sym, ap, ◌∙◌, subst}
 use Rattle.std.proofs.lemmas.List.{append-nil}
+use Rattle.lot_base.specs.declared.ops.Op.{Op}
 use Rattle.lot_base.specs.declared.ops.Op.TheVariants.{Load}
-use Rattle.lot_steps.specs.Steps.{act_of, late_key, HasKeys}
+use Rattle.lot_steps.specs.MutexSteps.{mutex_next}
+use Rattle.lot_steps.specs.Steps.{act_of, next_place, mutex_goes, HasKeys}
+use Rattle.lot_steps.specs.declared.acts.Next.{Next}
+use Rattle.lot_steps.specs.declared.acts.Next.TheVariants.{At, End}
+use Rattle.lot_steps.specs.declared.mutex.MutexPlace.{MutexPlace}
 use Rattle.lot_steps.specs.declared.acts.Act.{Act}
 use Rattle.lot_steps.specs.declared.acts.Act as act
 use Rattle.lot_steps.specs.declared.acts.Whom as whom
@@ -11,39 +16,54 @@ use Rattle.lot_steps.specs.declared.acts.Reply.TheVariants.{Done, Value, Parked,
 use Rattle.lot_steps.specs.declared.places.Place.{Place}
 use Rattle.lot_steps.specs.declared.places.Place.TheVariants.{Idle, Mutex}
 use Rattle.lot_words.specs.Indices.{word_index}
-use Rattle.lot_words.specs.declared.owners.Ownership.{Ownership}
+use Rattle.lot_words.specs.Steps.{CodesWith, after_step, owns_after_step}
+use Rattle.lot_words.specs.declared.views.View.{View}
 use Rattle.lot_words.specs.declared.views.WordStep.{WordStep}
-use Rattle.lot_words.specs.declared.words.WordKind as kinds
-use Rattle.parking_lot.specs.Fitting.{Fits, Reached}
+use Rattle.lot_words.specs.declared.words.Word.{Word}
+use Rattle.lot_words.specs.declared.words.WordKind.{WordKind}
+use Rattle.parking_lot_core.specs.Tokens.{view_of, last_of}
+use Rattle.parking_lot_core.specs.declared.sections.Section.{Section}
+use Rattle.parking_lot_core.specs.declared.tokens.SectionRecord.{SectionRecord}
+use Rattle.parking_lot_core.specs.declared.tokens.Token.{Token}
+use Rattle.parking_lot.specs.Fitting.{AreWordsFor}
 use Rattle.parking_lot.specs.Paths.{Tells, step, word, hands, parks, other, is_wordless, is_valueless}
-use Rattle.parking_lot.specs.Stages.{Stage, Needs, Became, Adds}
-use Rattle.parking_lot.proofs.Leading.{mutex_leads}
+use Rattle.parking_lot.specs.Stages.{Stage, Became, Stepped, Adds, stage, stage_of, inside_of}
+use Rattle.parking_lot.specs.declared.acting.Sleeper.{Sleeper}
 
 -- these steps were added, and bring the reply
-abbrev pub Told : ℕ → Place → Reply → List WordStep → List WordStep → Type 0
+abbrev pub Told : (ℕ → ℕ) → Place → Reply → List WordStep → List WordStep → Type 0
 Told at p reply before behind = (then : List WordStep) × (behind ≡ before ++ then) × Tells at p then reply
 
-wordless : (at : ℕ) (p : Place) (a : Act) (reply : Reply) (before behind : List WordStep) → act_of p ≡ a → is_wordless a ≡ true → is_valueless reply ≡ true → behind ≡ before → Told at p reply before behind
+wordless : (at : ℕ → ℕ) (p : Place) (a : Act) (reply : Reply) (before behind : List WordStep) → act_of p ≡ a → is_wordless a ≡ true → is_valueless reply ≡ true → behind ≡ before → Told at p reply before behind
 wordless at p a reply before behind is quiet valueless e = ([], e ∙ sym (append-nil before), other p reply (ap is_wordless is ∙ quiet) valueless)
 
-pub told : (up : Type 0) (at : ℕ) (kind : kinds.WordKind) (late : Option ℕ) (p : Place) (a : Act) → act_of p ≡ a → (st new : Stage) (reply : Reply) (before behind : List WordStep) → Became up kind at late st a reply new → Adds at a reply before behind → Told at p reply before behind
-told up at kind late p (act.TheVariants.Word l op) is st new (Value seen) before behind b e = (step at op seen, e, word p l op seen is)
-told up at kind late p (act.TheVariants.HandOver l op) is st new (Value seen) before behind b e = (step at op seen, e, hands p l op seen is)
-told up at kind late p (act.TheVariants.Park l key check want) is st new (Parked parked) before behind b e = (step at Load e.0, e.2, subst (λ (x : Bool). Tells at p (step at Load e.0) (Parked x)) (sym e.1) (parks p l key check want e.0 is))
-told up at kind late p (act.TheVariants.Enter keys) is st new Done before behind b e = wordless at p (act.TheVariants.Enter keys) Done before behind is refl refl e
-told up at kind late p (act.TheVariants.Take key whom.TheVariants.First) is st new (Took first left) before behind b e = wordless at p (act.TheVariants.Take key whom.TheVariants.First) (Took first left) before behind is refl refl e
-told up at kind late p (act.TheVariants.Remove key) is st new (Removed left) before behind b e = wordless at p (act.TheVariants.Remove key) (Removed left) before behind is refl refl e
-told up at kind late p (act.TheVariants.Leave keys wakes) is st new Done before behind b e = wordless at p (act.TheVariants.Leave keys wakes) Done before behind is refl refl e
-told up at kind late p act.TheVariants.Sleep is st new (Woken note) before behind b e = wordless at p act.TheVariants.Sleep (Woken note) before behind is refl refl e
-told up at kind late p act.TheVariants.Sleep is st new Late before behind b e = wordless at p act.TheVariants.Sleep Late before behind is refl refl e
-told up at kind late p act.TheVariants.Accept is st new Done before behind b e = wordless at p act.TheVariants.Accept Done before behind is refl refl e
-told up at kind late p a is st new reply before behind b e = absurd b
+pub told : (up : Type 0) (at : ℕ → ℕ) (kinds : ℕ → WordKind) (sleeper : Sleeper) (p : Place) (a : Act) → act_of p ≡ a → (st new : Stage) (reply : Reply) (before behind : List WordStep) → Became up kinds at sleeper st a reply new → Adds at a reply before behind → Told at p reply before behind
+told up at kinds sleeper p (act.TheVariants.Word l op) is st new (Value seen) before behind b e = (step (at l) op seen, e, word p l op seen is)
+told up at kinds sleeper p (act.TheVariants.HandOver l op) is st new (Value seen) before behind b e = (step (at l) op seen, e, hands p l op seen is)
+told up at kinds sleeper p (act.TheVariants.Park l key check want) is st new (Parked parked) before behind b e = (step (at l) Load e.0, e.2, subst (λ (x : Bool). Tells at p (step (at l) Load e.0) (Parked x)) (sym e.1) (parks p l key check want e.0 is))
+told up at kinds sleeper p (act.TheVariants.Enter keys) is st new Done before behind b e = wordless at p (act.TheVariants.Enter keys) Done before behind is refl refl e
+told up at kinds sleeper p (act.TheVariants.Take key whom.TheVariants.First) is st new (Took first left) before behind b e = wordless at p (act.TheVariants.Take key whom.TheVariants.First) (Took first left) before behind is refl refl e
+told up at kinds sleeper p (act.TheVariants.Remove key) is st new (Removed left) before behind b e = wordless at p (act.TheVariants.Remove key) (Removed left) before behind is refl refl e
+told up at kinds sleeper p (act.TheVariants.Leave keys wakes) is st new Done before behind b e = wordless at p (act.TheVariants.Leave keys wakes) Done before behind is refl refl e
+told up at kinds sleeper p act.TheVariants.Sleep is st new (Woken note) before behind b e = wordless at p act.TheVariants.Sleep (Woken note) before behind is refl refl e
+told up at kinds sleeper p act.TheVariants.Sleep is st new Late before behind b e = wordless at p act.TheVariants.Sleep Late before behind is refl refl e
+told up at kinds sleeper p act.TheVariants.Accept is st new Done before behind b e = wordless at p act.TheVariants.Accept Done before behind is refl refl e
+told up at kinds sleeper p a is st new reply before behind b e = absurd b
 
-pub has_keys : (up : Type 0) (n : ℕ) (base : List Ownership) (p : Place) (st : Stage) → n < 9223372036854775808 → Fits up n base p st → HasKeys p
-has_keys up n base (Mutex l at) st small f = subst (λ (l : ℕ). l < 9223372036854775808) (sym f.0) small
-has_keys up n base Idle st small f = absurd f
+-- the words of a call serve it to its end
+pub words_on : (p : Place) (reply : Reply) (kinds : ℕ → WordKind) (at : ℕ → ℕ) → AreWordsFor p kinds at → AreWordsFor (next_place p reply) kinds at
+words_on Idle reply kinds at w = tt
+words_on (Mutex l word_index) reply kinds at w = by_next (mutex_next word_index reply)
+  where
+    by_next : (goes : Next MutexPlace) → AreWordsFor (mutex_goes l goes) kinds at
+    by_next (At next) = w
+    by_next (End answer) = tt
 
--- by the word's kind, which is a mutex
-pub leads_by : (up : Type 0) (kind : kinds.WordKind) → kind ≡ kinds.TheVariants.Mutex → (n : ℕ) (base : List Ownership) (p : Place) (st : Stage) → Fits up n base p st → Needs kind (word_index n kind) st (act_of p)
-    × ((reply : Reply) (new : Stage) → Became up kind (word_index n kind) (late_key p) st (act_of p) reply new → Reached up n base p reply new)
-leads_by up kind is n base p st f = subst (λ (k : kinds.WordKind). Needs k (word_index n k) st (act_of p) × ((reply : Reply) (new : Stage) → Became up k (word_index n k) (late_key p) st (act_of p) reply new → Reached up n base p reply new)) (sym is) (mutex_leads up n base p st f)
+pub has_keys : (p : Place) (kinds : ℕ → WordKind) (at : ℕ → ℕ) → AreWordsFor p kinds at → HasKeys p
+has_keys (Mutex l at) kinds places w = w.0
+has_keys Idle kinds at w = tt
+
+-- a step on a word, as the stage has it
+pub by_stage : (w : Word) (op : Op) (seen : ℕ) (old : Token) (section : Option Section) (new : Token) → view_of new ≡ after_step w.kind (word_index w.number w.kind) op seen (view_of old) → last_of new ≡ None → CodesWith w.kind (word_index w.number w.kind) seen (view_of old).owns
+    → Stepped w.kind (word_index w.number w.kind) op seen (stage_of old section) (stage_of new section)
+by_stage w op seen old section new e last code = (code, ap (λ (v : View). stage v.owns (inside_of section) (last_of new)) e ∙ ap (λ (l : Option SectionRecord). stage (owns_after_step w.kind (word_index w.number w.kind) op seen (view_of old).owns) (inside_of section) l) last)

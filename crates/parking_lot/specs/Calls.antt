@@ -12,7 +12,7 @@ use Rattle.lot_words.specs.Steps.{has}
 use Rattle.lot_words.specs.declared.owners.Ownership.{Ownership}
 use Rattle.lot_words.specs.declared.views.WordStep.{WordStep}
 use Rattle.parking_lot_core.specs.declared.tokens.SectionRecord.{SectionRecord}
-use Rattle.parking_lot.specs.Fitting.{Purpose, enters, releases, hands_over, TookAt, held}
+use Rattle.parking_lot.specs.MutexFitting.{Purpose, enters, releases, hands_over, TookAt, held}
 use Rattle.parking_lot.specs.Paths.{step, mutex_at}
 
 -- where a call of a mutex begins

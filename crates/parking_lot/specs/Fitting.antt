@@ -1,151 +1,74 @@
--- What a thread of a mutex's call has at each place, and at its end.
-use Rattle.std.specs.Prelude.{ℕ, ◌≡◌, ◌<◌, ◌*◌, ◌⊎◌, Bool, true, false, List, [], ◌∷◌, Option, Some, None}
-use Rattle.lot_base.specs.declared.keys.Keys.TheVariants.{One}
+-- What a thread has at each place of its call, and at its end. Each sort of lock says so in a file of its own.
+use Rattle.std.specs.Prelude.{ℕ, ◌≡◌, List, Option, Some, None}
+use Rattle.lot_base.specs.declared.ops.Op.TheVariants.{Load}
+use Rattle.lot_base.specs.declared.wants.Want.TheVariants.{Exclusive}
 use Rattle.lot_calls.specs.declared.outcomes.Answer.{Answer}
-use Rattle.lot_calls.specs.declared.outcomes.Answer as answers
-use Rattle.lot_steps.specs.MutexSteps.{is_timed, entered}
-use Rattle.lot_steps.specs.Steps.{act_of, late_key, next_place, next_act}
+use Rattle.lot_steps.specs.Steps.{act_of, late_key, next_place, next_act, spin_lock, HasKeys}
 use Rattle.lot_steps.specs.declared.acts.Act.{Act}
 use Rattle.lot_steps.specs.declared.acts.Act as act
 use Rattle.lot_steps.specs.declared.acts.Reply.{Reply}
-use Rattle.lot_steps.specs.declared.mutex.MutexPlace.{MutexPlace}
-use Rattle.lot_steps.specs.declared.mutex.MutexPlace.TheVariants.{Lock, Unlock, UnlockFair, Bump, HandOff}
-use Rattle.lot_steps.specs.declared.mutex.hand_off.HandOffAt.{HandOffAt}
-use Rattle.lot_steps.specs.declared.mutex.hand_off.HandOffAt as hand_off
-use Rattle.lot_steps.specs.declared.mutex.lock.Entry.{Entry}
-use Rattle.lot_steps.specs.declared.mutex.lock.Entry as entry
-use Rattle.lot_steps.specs.declared.mutex.lock.LockAt.{LockAt}
-use Rattle.lot_steps.specs.declared.mutex.lock.LockAt as lock
-use Rattle.lot_steps.specs.declared.mutex.unlock.UnlockAt.{UnlockAt}
-use Rattle.lot_steps.specs.declared.mutex.unlock.UnlockAt as unlock
+use Rattle.lot_steps.specs.declared.acts.Reply.TheVariants.{Spun}
 use Rattle.lot_steps.specs.declared.places.Place.{Place}
 use Rattle.lot_steps.specs.declared.places.Place.TheVariants.{Idle, Mutex}
-use Rattle.lot_words.specs.Steps.{has, without}
-use Rattle.lot_words.specs.Views.{owning}
-use Rattle.lot_words.specs.declared.owners.Owner.TheVariants.{Exclusive}
+use Rattle.lot_words.specs.Steps.{MayStep}
 use Rattle.lot_words.specs.declared.owners.Ownership.{Ownership}
-use Rattle.lot_words.specs.declared.words.WordKind as kinds
-use Rattle.parking_lot_core.specs.declared.tokens.Did.TheVariants.{TakeFirst}
-use Rattle.parking_lot_core.specs.declared.tokens.SectionRecord.{SectionRecord}
-use Rattle.parking_lot.specs.Paths.{mutex_at}
-use Rattle.parking_lot.specs.Stages.{Stage, Needs, Became, entered_now, is_there, listed}
+use Rattle.lot_words.specs.declared.words.WordKind.{WordKind}
+use Rattle.parking_lot.specs.MutexFitting.{Purpose, purpose_at, FitsMutex, IsMutexOver}
+use Rattle.parking_lot.specs.Paths.{mutexes, at_mutex}
+use Rattle.parking_lot.specs.Stages.{Stage, Needs, Became, Stepped}
+use Rattle.parking_lot.specs.declared.acting.Sleeper.{Sleeper}
 
 abbrev pub answer_of : Act → Option Answer
 answer_of (act.TheVariants.End answer) = Some answer
 answer_of _ = None
 
--- what a call is for: to enter, to end a release that has given the lock up, or to hand it over
-pub data Purpose : Type 0 where
-  enters : Entry → Purpose
-  releases : Purpose
-  hands_over : Purpose
+-- what a call is for, and of which lock
+pub data Aim : Type 0 where
+  nothing : Aim
+  of_mutex : ℕ → Purpose → Aim
 
--- who bumps enters again
-abbrev pub hands_for : Bool → Purpose
-hands_for true = enters entry.TheVariants.Bump
-hands_for false = hands_over
+abbrev pub aim_of : Place → Aim
+aim_of Idle = nothing
+aim_of (Mutex l at) = of_mutex l (purpose_at at)
 
-abbrev pub purpose_at : MutexPlace → Purpose
-purpose_at (Lock e retries at) = enters e
-purpose_at UnlockFair = hands_over
-purpose_at Bump = enters entry.TheVariants.Bump
-purpose_at (HandOff bumps at) = hands_for bumps
-purpose_at _ = releases
+-- for what a thread sleeps in a call, and the key under which it may be late
+abbrev pub sleeper_at : Place → Sleeper
+sleeper_at Idle = record { lock = 0; want = Exclusive; late = None }
+sleeper_at (Mutex l at) = record { lock = l; want = Exclusive; late = late_key (Mutex l at) }
 
-abbrev pub purpose_of : Place → Purpose
-purpose_of Idle = releases
-purpose_of (Mutex l at) = purpose_at at
-
--- a mutex that is owned
-abbrev pub held : ℕ → Ownership
-held n = owning (mutex_at n) Exclusive
-
--- what a thread that enters owns beside the mutex: who bumps had it as the call began
-abbrev pub beside : ℕ → Entry → List Ownership → List Ownership
-beside n entry.TheVariants.Bump base = without (held n) base
-beside n _ base = base
-
--- a thread that owns this, outside all sections
-abbrev pub Outside : List Ownership → Stage → Type 0
-Outside owns st = (st.owns ≡ owns) × (st.inside ≡ None)
-
--- one that is in the section of the mutex's main key, where it has done nothing
-abbrev pub Within : ℕ → List Ownership → Stage → Type 0
-Within n owns st = (st.owns ≡ owns) × (st.inside ≡ entered_now (One (2 * n)))
-
--- or has taken the first of the queue, if any; these have no right yet
-abbrev pub Took : ℕ → Option ℕ → List ℕ → List Ownership → Stage → Type 0
-Took n first rightless owns st = (st.owns ≡ owns) × (st.inside ≡ Some (record { keys = One (2 * n); did = TakeFirst (2 * n); taken = listed first; rightless = rightless }))
-
--- or has taken some thread, or none; that one has no right yet
-abbrev pub HasTook : ℕ → Bool → List Ownership → Stage → Type 0
-HasTook n any owns st = (first : Option ℕ) × (any ≡ is_there first) × Took n first (listed first) owns st
-
--- the section that was left last is one of this key, where the first of the queue was taken
-abbrev pub TookAt : ℕ → Option SectionRecord → Type 0
-TookAt n last = (number : ℕ) × (last ≡ Some (record { key = 2 * n; did = TakeFirst (2 * n); number = number }))
-
--- a release, behind its subtraction
-abbrev pub FitsUnlock : ℕ → List Ownership → UnlockAt → Stage → Type 0
-FitsUnlock n base unlock.TheVariants.Subtract st = ⊥
-FitsUnlock n base unlock.TheVariants.Enter st = Outside base st
-FitsUnlock n base unlock.TheVariants.Take st = Within n base st
-FitsUnlock n base (unlock.TheVariants.Clear any) st = HasTook n any base st
-FitsUnlock n base (unlock.TheVariants.Leave any) st = HasTook n any base st
-
--- an owner that saw a waiter, until its store, and behind that
-abbrev pub FitsHandOff : ℕ → List Ownership → HandOffAt → Stage → Type 0
-FitsHandOff n base hand_off.TheVariants.Enter st = (has (held n) base ≡ true) × Outside base st
-FitsHandOff n base hand_off.TheVariants.Take st = (has (held n) base ≡ true) × Within n base st
-FitsHandOff n base (hand_off.TheVariants.Store any none_left) st = (has (held n) base ≡ true) × HasTook n any base st
-FitsHandOff n base (hand_off.TheVariants.Leave any) st = (first : Option ℕ) × (any ≡ is_there first) × Took n first [] (without (held n) base) st
+-- the keys of the call's lock are numbers, and its words are of the kinds that the call steps on
+abbrev pub AreWordsFor : Place → (ℕ → WordKind) → (ℕ → ℕ) → Type 0
+AreWordsFor Idle kinds at = Unit {0}
+AreWordsFor (Mutex l place) kinds at = HasKeys (Mutex l place) × (kinds ≡ mutexes) × (at ≡ at_mutex l)
 
 -- `up` says that the time of the call is up
 module _ (up : Type 0) where
-  -- who gives up is in a timed call
-  abbrev pub GaveUp : Entry → Type 0
-  GaveUp e = (is_timed e ≡ true) × up
-
-  -- a thread that enters, beside what it owns
-  abbrev pub FitsLock : ℕ → Entry → List Ownership → LockAt → Stage → Type 0
-  FitsLock n e owns lock.TheVariants.First st = Outside owns st
-  FitsLock n e owns lock.TheVariants.Load st = Outside owns st
-  FitsLock n e owns (lock.TheVariants.Decide seen) st = (seen < 4) × Outside owns st
-  FitsLock n e owns lock.TheVariants.Check st = Within n owns st
-  FitsLock n e owns (lock.TheVariants.Leave parked) st = Within n owns st
-  FitsLock n e owns lock.TheVariants.Asleep st = Outside owns st
-  FitsLock n e owns lock.TheVariants.Accept st = Outside (held n ∷ owns) st
-  FitsLock n e owns lock.TheVariants.Remove st = GaveUp e × Within n owns st
-  FitsLock n e owns lock.TheVariants.Clear st = GaveUp e × Within n owns st
-  FitsLock n e owns lock.TheVariants.GiveUp st = GaveUp e × Within n owns st
-  FitsLock n e owns _ st = ⊥
-
-  abbrev pub FitsAt : ℕ → List Ownership → MutexPlace → Stage → Type 0
-  FitsAt n base (Lock e retries at) st = FitsLock n e (beside n e base) at st
-  FitsAt n base (Unlock at) st = FitsUnlock n base at st
-  FitsAt n base (HandOff bumps at) st = FitsHandOff n base at st
-  FitsAt n base _ st = ⊥
-
-  -- what a thread has at a place, which owned so much as it began to run. The first step of a release or a bump is taken before
-  abbrev pub Fits : ℕ → List Ownership → Place → Stage → Type 0
-  Fits n base Idle st = ⊥
-  Fits n base (Mutex l at) st = (l ≡ n) × FitsAt n base at st
+  -- what a thread has at a place, which owned so much as it began to run
+  abbrev pub Fits : List Ownership → Place → Stage → Type 0
+  Fits base Idle st = ⊥
+  Fits base (Mutex l at) st = FitsMutex up l base at st
 
   -- what an answer says at the end of a call
-  abbrev pub IsOver : ℕ → List Ownership → Purpose → Answer → Stage → Type 0
-  IsOver n base (enters e) answer st = ((answer ≡ entered e) × Outside (held n ∷ beside n e base) st) ⊎ ((answer ≡ answers.TheVariants.No) × GaveUp e × Outside (beside n e base) st)
-  IsOver n base releases answer st = (answer ≡ answers.TheVariants.Ok) × Outside base st × TookAt n st.last
-  IsOver n base hands_over answer st = (answer ≡ answers.TheVariants.Ok) × Outside (without (held n) base) st × TookAt n st.last
+  abbrev pub IsOver : List Ownership → Aim → Answer → Stage → Type 0
+  IsOver base nothing answer st = ⊥
+  IsOver base (of_mutex l purpose) answer st = IsMutexOver up l base purpose answer st
 
-  abbrev pub ReachedBy : ℕ → List Ownership → Purpose → Place → Option Answer → Stage → Type 0
-  ReachedBy n base purpose p None st = Fits n base p st × (purpose_of p ≡ purpose)
-  ReachedBy n base purpose p (Some answer) st = IsOver n base purpose answer st
+  abbrev pub ReachedBy : List Ownership → Aim → Place → Option Answer → Stage → Type 0
+  ReachedBy base aim p None st = Fits base p st × (aim_of p ≡ aim)
+  ReachedBy base aim p (Some answer) st = IsOver base aim answer st
 
   -- where a reply leads
-  abbrev pub Reached : ℕ → List Ownership → Place → Reply → Stage → Type 0
-  Reached n base p reply st = ReachedBy n base (purpose_of p) (next_place p reply) (answer_of (next_act p reply)) st
+  abbrev pub Reached : List Ownership → Place → Reply → Stage → Type 0
+  Reached base p reply st = ReachedBy base (aim_of p) (next_place p reply) (answer_of (next_act p reply)) st
+
+  -- where the word of a lock may be loaded in place of the act, that leads on too
+  abbrev pub Spins : (ℕ → WordKind) → (ℕ → ℕ) → List Ownership → Place → Stage → Type 0
+  Spins kinds at base p st = (lock : ℕ) → spin_lock p ≡ Some lock → MayStep (kinds lock) (at lock) Load st.owns
+      × ((seen : ℕ) (new : Stage) → Stepped (kinds lock) (at lock) Load seen st new → Reached base p (Spun seen) new)
 
   -- each place's act is one that the thread may take, and each reply leads to a place that fits
-  abbrev pub MutexLeads : Type 0
-  MutexLeads = (n : ℕ) (base : List Ownership) (p : Place) (st : Stage) → Fits n base p st → Needs kinds.TheVariants.Mutex (mutex_at n) st (act_of p)
-      × ((reply : Reply) (new : Stage) → Became up kinds.TheVariants.Mutex (mutex_at n) (late_key p) st (act_of p) reply new → Reached n base p reply new)
+  abbrev pub PlacesLead : Type 0
+  PlacesLead = (kinds : ℕ → WordKind) (at : ℕ → ℕ) (base : List Ownership) (p : Place) (st : Stage) → AreWordsFor p kinds at → Fits base p st →
+      Needs kinds at st (act_of p)
+      × Spins kinds at base p st
+      × ((reply : Reply) (new : Stage) → Became up kinds at (sleeper_at p) st (act_of p) reply new → Reached base p reply new)

@@ -20,6 +20,13 @@ use Rattle.lot_steps.specs.declared.places.Place.{Place}
 abbrev pub mutex_at : ℕ → ℕ
 mutex_at number = word_index number kinds.TheVariants.Mutex
 
+-- a call of a mutex steps on no other word
+abbrev pub mutexes : ℕ → kinds.WordKind
+mutexes lock = kinds.TheVariants.Mutex
+
+abbrev pub at_mutex : ℕ → ℕ → ℕ
+at_mutex number lock = mutex_at number
+
 -- one step on the word at a place, and what it saw
 abbrev pub step : ℕ → Op → ℕ → List WordStep
 step at op seen = record { at = at; op = op; seen = seen } ∷ []
@@ -43,22 +50,22 @@ is_valueless (Spun seen) = false
 is_valueless (Parked parked) = false
 is_valueless _ = true
 
--- at a place these steps on a word bring the reply
-pub data Tells (at : ℕ) : Place → List WordStep → Reply → Type 0 where
-  word : (p : Place) (lock : ℕ) (op : Op) (seen : ℕ) → act_of p ≡ act.TheVariants.Word lock op → Tells at p (step at op seen) (Value seen)
-  hands : (p : Place) (lock : ℕ) (op : Op) (seen : ℕ) → act_of p ≡ act.TheVariants.HandOver lock op → Tells at p (step at op seen) (Value seen)
-  parks : (p : Place) (lock key : ℕ) (check : Check) (want : Want) (seen : ℕ) → act_of p ≡ act.TheVariants.Park lock key check want → Tells at p (step at Load seen) (Parked (holds check seen))
+-- at a place these steps on words bring the reply, by where the word of each lock stands
+pub data Tells (at : ℕ → ℕ) : Place → List WordStep → Reply → Type 0 where
+  word : (p : Place) (lock : ℕ) (op : Op) (seen : ℕ) → act_of p ≡ act.TheVariants.Word lock op → Tells at p (step (at lock) op seen) (Value seen)
+  hands : (p : Place) (lock : ℕ) (op : Op) (seen : ℕ) → act_of p ≡ act.TheVariants.HandOver lock op → Tells at p (step (at lock) op seen) (Value seen)
+  parks : (p : Place) (lock key : ℕ) (check : Check) (want : Want) (seen : ℕ) → act_of p ≡ act.TheVariants.Park lock key check want → Tells at p (step (at lock) Load seen) (Parked (holds check seen))
   -- the word is loaded in place of an act that leads to sleep
-  spins : (p : Place) (lock seen : ℕ) → spin_lock p ≡ Some lock → Tells at p (step at Load seen) (Spun seen)
+  spins : (p : Place) (lock seen : ℕ) → spin_lock p ≡ Some lock → Tells at p (step (at lock) Load seen) (Spun seen)
   other : (p : Place) (reply : Reply) → is_wordless (act_of p) ≡ true → is_valueless reply ≡ true → Tells at p [] reply
 
 -- these steps lead from one place to another
-pub data Path (at : ℕ) : Place → List WordStep → Place → Type 0 where
+pub data Path (at : ℕ → ℕ) : Place → List WordStep → Place → Type 0 where
   here : (p : Place) → Path at p [] p
   on : (p q : Place) (xs ys : List WordStep) (reply : Reply) → Path at p xs q → Tells at q ys reply → Path at p (xs ++ ys) (next_place q reply)
 
 -- the last reply of a call, which ends it by an answer
-pub record Ending (at : ℕ) (p : Place) (steps : List WordStep) (answer : Answer) : Type 0 where
+pub record Ending (at : ℕ → ℕ) (p : Place) (steps : List WordStep) (answer : Answer) : Type 0 where
   pub last : Place
   pub before : List WordStep
   pub then : List WordStep
@@ -69,5 +76,5 @@ pub record Ending (at : ℕ) (p : Place) (steps : List WordStep) (answer : Answe
   pub ends : next_act last reply ≡ act.TheVariants.End answer
 
 -- the steps that were added to a list lead from a place to the end of its call
-abbrev pub Walks : ℕ → Place → List WordStep → List WordStep → Answer → Type 0
+abbrev pub Walks : (ℕ → ℕ) → Place → List WordStep → List WordStep → Answer → Type 0
 Walks at p old new answer = (more : List WordStep) × (new ≡ old ++ more) × Ending at p more answer

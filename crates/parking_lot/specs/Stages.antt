@@ -7,7 +7,6 @@ use Rattle.lot_base.specs.declared.notes.Note.TheVariants.{Normal, HandOff}
 use Rattle.lot_base.specs.declared.ops.Op.{Op}
 use Rattle.lot_base.specs.declared.ops.Op.TheVariants.{Load}
 use Rattle.lot_base.specs.declared.wants.Waiter.{Waiter}
-use Rattle.lot_base.specs.declared.wants.Want as wants
 use Rattle.lot_words.specs.Rights.{MayHand}
 use Rattle.lot_words.specs.Views.{owning}
 use Rattle.lot_words.specs.Steps.{MayStep, CodesWith, owns_after_step, has, without}
@@ -34,6 +33,7 @@ use Rattle.parking_lot_core.specs.declared.tokens.Did.TheVariants.{Nothing, Take
 use Rattle.parking_lot_core.specs.declared.tokens.SectionRecord.{SectionRecord}
 use Rattle.parking_lot_core.specs.declared.tokens.Token.{Token}
 use Rattle.parking_lot.specs.Paths.{step}
+use Rattle.parking_lot.specs.declared.acting.Sleeper.{Sleeper}
 
 -- a section that a thread is inside: what it did there, whom it took, and which of them have no right yet
 pub record Inside : Type 0 where
@@ -117,18 +117,19 @@ MayLeave note (Some inside) = MayNote note inside.taken inside.rightless
 abbrev pub KeepsIt : WordKind → ℕ → Op → List Ownership → Type 0
 KeepsIt kind at op owns = (seen : ℕ) → CodesWith kind at seen owns → has (owning at Exclusive) (owns_after_step kind at op seen owns) ≡ true
 
--- what an act needs of the stage
-abbrev pub Needs : WordKind → ℕ → Stage → Act → Type 0
-Needs kind at st (act.TheVariants.Word lock op) = MayStep kind at op st.owns
-Needs kind at st (act.TheVariants.HandOver lock op) = MayStep kind at op st.owns × KeepsIt kind at op st.owns × HasOneTaken st.inside
-Needs kind at st (act.TheVariants.Enter keys) = AreKeys keys × (st.inside ≡ None)
-Needs kind at st (act.TheVariants.Park lock key check _) = MayStep kind at Load st.owns × HasKey key st.inside
-Needs kind at st (act.TheVariants.Take key whom.TheVariants.First) = HasKey key st.inside × IsFresh st.inside
-Needs kind at st (act.TheVariants.Remove key) = HasKey key st.inside
-Needs kind at st (act.TheVariants.Leave keys wakes) = MayLeave (note_of wakes) st.inside
-Needs kind at st act.TheVariants.Sleep = st.inside ≡ None
-Needs kind at st act.TheVariants.Accept = Unit {0}
-Needs kind at st _ = ⊥
+-- what an act needs of the stage, by the kind of each lock's word and where it stands
+abbrev pub Needs : (ℕ → WordKind) → (ℕ → ℕ) → Stage → Act → Type 0
+Needs kinds at st (act.TheVariants.Word lock op) = MayStep (kinds lock) (at lock) op st.owns
+Needs kinds at st (act.TheVariants.HandOver lock op) =
+    MayStep (kinds lock) (at lock) op st.owns × KeepsIt (kinds lock) (at lock) op st.owns × HasOneTaken st.inside
+Needs kinds at st (act.TheVariants.Enter keys) = AreKeys keys × (st.inside ≡ None)
+Needs kinds at st (act.TheVariants.Park lock key check _) = MayStep (kinds lock) (at lock) Load st.owns × HasKey key st.inside
+Needs kinds at st (act.TheVariants.Take key whom.TheVariants.First) = HasKey key st.inside × IsFresh st.inside
+Needs kinds at st (act.TheVariants.Remove key) = HasKey key st.inside
+Needs kinds at st (act.TheVariants.Leave keys wakes) = MayLeave (note_of wakes) st.inside
+Needs kinds at st act.TheVariants.Sleep = st.inside ≡ None
+Needs kinds at st act.TheVariants.Accept = Unit {0}
+Needs kinds at st _ = ⊥
 
 -- after a step on a word
 abbrev pub stepped : WordKind → ℕ → Op → ℕ → Stage → Stage
@@ -143,24 +144,40 @@ abbrev pub IsLeft : Option Inside → Option SectionRecord → Type 0
 IsLeft None last = ⊥
 IsLeft (Some inside) last = (number : ℕ) × (last ≡ Some (record { key = first_key inside.keys; did = inside.did; number = number }))
 
--- what an act made of the stage, by its reply. A sleeper may be late under one key only, if any, and once its time is up
-abbrev pub Became : Type 0 → WordKind → ℕ → Option ℕ → Stage → Act → Reply → Stage → Type 0
-Became up kind at late st (act.TheVariants.Word lock op) (Value seen) new = CodesWith kind at seen st.owns × (new ≡ stepped kind at op seen st)
-Became up kind at late st (act.TheVariants.HandOver lock op) (Value seen) new = CodesWith kind at seen st.owns × (new ≡ handed kind at op seen st)
-Became up kind at late st (act.TheVariants.Enter keys) Done new = new ≡ stage st.owns (entered_now keys) st.last
-Became up kind at late st (act.TheVariants.Park lock key check _) (Parked parked) new = (seen : ℕ) × (parked ≡ holds check seen) × CodesWith kind at seen st.owns × (new ≡ stepped kind at Load seen st)
-Became up kind at late st (act.TheVariants.Take key whom.TheVariants.First) (Took any none_left) new = (first : Option ℕ) × (any ≡ is_there first) × (new ≡ stage st.owns (took key first st.inside) st.last)
-Became up kind at late st (act.TheVariants.Remove key) (Removed none_left) new = new ≡ st
-Became up kind at late st (act.TheVariants.Leave keys wakes) Done new = (new.owns ≡ st.owns) × (new.inside ≡ None) × IsLeft st.inside new.last
-Became up kind at late st act.TheVariants.Sleep (Woken Normal) new = (new.owns ≡ st.owns) × (new.inside ≡ st.inside)
-Became up kind at late st act.TheVariants.Sleep (Woken HandOff) new = (owner : Owner) × MayHand kind wants.TheVariants.Exclusive owner × (new ≡ stage (owning at owner ∷ st.owns) st.inside st.last)
-Became up kind at late st act.TheVariants.Sleep Late new = (key : ℕ) × (late ≡ Some key) × up × (new ≡ stage st.owns (entered_now (One key)) st.last)
-Became up kind at late st act.TheVariants.Accept Done new = new ≡ st
-Became up kind at late st _ _ new = ⊥
+-- what a sleep made of the stage, by its end. A sleeper may be late under one key only, if any, and once its time is up
+abbrev pub Awoke : Type 0 → WordKind → ℕ → Sleeper → Stage → Reply → Stage → Type 0
+Awoke up kind at sleeper st (Woken Normal) new = (new.owns ≡ st.owns) × (new.inside ≡ st.inside)
+Awoke up kind at sleeper st (Woken HandOff) new =
+    (owner : Owner) × MayHand kind sleeper.want owner × (new ≡ stage (owning at owner ∷ st.owns) st.inside st.last)
+Awoke up kind at sleeper st Late new =
+    (key : ℕ) × (sleeper.late ≡ Some key) × up × (new ≡ stage st.owns (entered_now (One key)) st.last)
+Awoke up kind at sleeper st _ new = ⊥
+
+-- after a step on a word, which found the code of owners among whom these are
+abbrev pub Stepped : WordKind → ℕ → Op → ℕ → Stage → Stage → Type 0
+Stepped kind at op seen st new = CodesWith kind at seen st.owns × (new ≡ stepped kind at op seen st)
+
+-- what an act made of the stage, by its reply
+abbrev pub Became : Type 0 → (ℕ → WordKind) → (ℕ → ℕ) → Sleeper → Stage → Act → Reply → Stage → Type 0
+Became up kinds at sleeper st (act.TheVariants.Word lock op) (Value seen) new = Stepped (kinds lock) (at lock) op seen st new
+Became up kinds at sleeper st (act.TheVariants.HandOver lock op) (Value seen) new =
+    CodesWith (kinds lock) (at lock) seen st.owns × (new ≡ handed (kinds lock) (at lock) op seen st)
+Became up kinds at sleeper st (act.TheVariants.Enter keys) Done new = new ≡ stage st.owns (entered_now keys) st.last
+Became up kinds at sleeper st (act.TheVariants.Park lock key check _) (Parked parked) new =
+    (seen : ℕ) × (parked ≡ holds check seen) × Stepped (kinds lock) (at lock) Load seen st new
+Became up kinds at sleeper st (act.TheVariants.Take key whom.TheVariants.First) (Took any none_left) new =
+    (first : Option ℕ) × (any ≡ is_there first) × (new ≡ stage st.owns (took key first st.inside) st.last)
+Became up kinds at sleeper st (act.TheVariants.Remove key) (Removed none_left) new = new ≡ st
+Became up kinds at sleeper st (act.TheVariants.Leave keys wakes) Done new =
+    (new.owns ≡ st.owns) × (new.inside ≡ None) × IsLeft st.inside new.last
+Became up kinds at sleeper st act.TheVariants.Sleep reply new = Awoke up (kinds sleeper.lock) (at sleeper.lock) sleeper st reply new
+Became up kinds at sleeper st act.TheVariants.Accept Done new = new ≡ st
+Became up kinds at sleeper st _ _ new = ⊥
 
 -- the steps on words that an act adds
-abbrev pub Adds : ℕ → Act → Reply → List WordStep → List WordStep → Type 0
-Adds at (act.TheVariants.Word lock op) (Value seen) old new = new ≡ old ++ step at op seen
-Adds at (act.TheVariants.HandOver lock op) (Value seen) old new = new ≡ old ++ step at op seen
-Adds at (act.TheVariants.Park lock key check _) (Parked parked) old new = (seen : ℕ) × (parked ≡ holds check seen) × (new ≡ old ++ step at Load seen)
+abbrev pub Adds : (ℕ → ℕ) → Act → Reply → List WordStep → List WordStep → Type 0
+Adds at (act.TheVariants.Word lock op) (Value seen) old new = new ≡ old ++ step (at lock) op seen
+Adds at (act.TheVariants.HandOver lock op) (Value seen) old new = new ≡ old ++ step (at lock) op seen
+Adds at (act.TheVariants.Park lock key check _) (Parked parked) old new =
+    (seen : ℕ) × (parked ≡ holds check seen) × (new ≡ old ++ step (at lock) Load seen)
 Adds at _ _ old new = new ≡ old

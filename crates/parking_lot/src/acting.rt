@@ -5,15 +5,16 @@ ghost use Rattle.lot_base.specs.Lines.{waiter, line, lines, without, without_fir
 ghost use Rattle.lot_base.specs.declared.notes.Note.TheVariants.{HandOff};
 ghost use Rattle.lot_base.specs.declared.ops.Op.TheVariants.{Load};
 ghost use Rattle.lot_steps.specs.Acts.{holds};
-ghost use Rattle.lot_steps.specs.declared.acts.Act.TheVariants as acts;
-ghost use Rattle.lot_steps.specs.declared.acts.Reply.TheVariants.{Value};
 ghost use Rattle.lot_words.specs.Lots.{IsWordOf};
 ghost use Rattle.lot_words.specs.Indices.{word_index};
 ghost use Rattle.lot_words.specs.Steps.{MayStep, CodesWith, after_step};
 ghost use Rattle.parking_lot_core.specs.Keys.{AreKeys};
 ghost use Rattle.parking_lot_core.specs.Tokens.{IsTokenOf, Stays, view_of, last_of};
-ghost use Rattle.parking_lot.specs.Stages.{Adds, HasKey, HasOneTaken, IsFresh, MayLeave, KeepsIt, IsIn, IsLeft, took, handed, note_of, inside_of, stage_of, waiting_of, entered_now, Needs, Became};
+ghost use Rattle.parking_lot.specs.Paths.{step};
+ghost use Rattle.parking_lot.specs.Words.{AreWordsOf, word_in, kind_in, at_in};
+ghost use Rattle.parking_lot.specs.Stages.{Adds, Awoke, HasKey, HasOneTaken, IsFresh, MayLeave, KeepsIt, IsIn, IsLeft, took, handed, note_of, inside_of, stage_of, waiting_of, entered_now, Needs, Became};
 
+use crate::words::Words;
 use lot_steps::{Act, Check, Reply, Wakes, Whom};
 use parking_lot_core::{Clock, Key, Keys, Note, Op, ParkingLot, Section, Slept, Token, Want, Word};
 use std::sync::Wait;
@@ -86,7 +87,7 @@ fn hand_over<R: Wait>(
     requires taken { HasOneTaken (inside_of section.old) }
     ensures own { Stays lot.now token.old token.new × IsIn lot.now section.new }
     ensures became { CodesWith word.kind (word_index word.number word.kind) result (view_of token.old).owns × (stage_of token.new section.new ≡ handed word.kind (word_index word.number word.kind) op result (stage_of token.old section.old)) }
-    ensures adds { Adds (word_index word.number word.kind) (acts.HandOver 0 op) (Value result) (view_of token.old).steps (view_of token.new).steps }
+    ensures adds { (view_of token.new).steps ≡ (view_of token.old).steps ++ step (word_index word.number word.kind) op result }
 {
     match section {
         Some(inside) => {
@@ -158,6 +159,14 @@ fn leave<R: Wait>(
     }
 }
 
+/// What a thread waits for where it sleeps, and the key under which it may be late.
+#[derive(Clone, Copy)]
+pub(crate) struct Sleeper {
+    pub lock: usize,
+    pub want: Want,
+    pub late: Option<Key>,
+}
+
 // Sleeps until another thread has taken this one, or its time is up. What was handed over is the token's then.
 fn sleep<'a, R: Wait, C: Clock>(
     rt: &R,
@@ -165,14 +174,15 @@ fn sleep<'a, R: Wait, C: Clock>(
     token: &mut Token,
     word: Word,
     limit: Option<(&C, u64)>,
-    late: Option<Key>,
+    sleeper: Sleeper,
     section: &mut Option<Section<'a>>,
 ) -> Reply
     requires own { IsTokenOf lot.now token.old × IsWordOf lot.now.words word × (inside_of section.old ≡ None) }
     ensures own { Stays lot.now token.old token.new × IsIn lot.now section.new × ((view_of token.new).steps ≡ (view_of token.old).steps) }
-    ensures became { Became (IsUp C.tells limit.entry) word.kind (word_index word.number word.kind) late (stage_of token.old section.old) acts.Sleep result (stage_of token.new section.new) }
+    ensures awoke { Awoke (IsUp C.tells limit.entry) word.kind (word_index word.number word.kind) sleeper (stage_of token.old section.old) result (stage_of token.new section.new) }
 {
-    match lot.sleep(rt, token, word, Want::Exclusive, late.and(limit)) {
+    let late = sleeper.late;
+    match lot.sleep(rt, token, word, sleeper.want, late.and(limit)) {
         Slept::Woken => Reply::Woken(Note::Normal),
         Slept::Handed(right) => {
             lot.join_right(token, right);
@@ -193,36 +203,38 @@ fn sleep<'a, R: Wait, C: Clock>(
     }
 }
 
-/// Does an act. It may be late only where it is given a limit, and under this key.
+/// Does an act. A sleeper may be late only where it is given a limit.
 pub(crate) fn perform<'a, R: Wait, C: Clock>(
     rt: &R,
     lot: &'a ParkingLot,
     token: &mut Token,
-    word: Word,
+    words: Words,
     limit: Option<(&C, u64)>,
-    late: Option<Key>,
+    sleeper: Sleeper,
     section: &mut Option<Section<'a>>,
     act: Act,
 ) -> Reply
-    requires own { IsTokenOf lot.now token.old × IsWordOf lot.now.words word × IsIn lot.now section.old }
-    requires needs { Needs word.kind (word_index word.number word.kind) (stage_of token.old section.old) act }
+    requires own { IsTokenOf lot.now token.old × AreWordsOf lot.now words × IsIn lot.now section.old }
+    requires needs { Needs (kind_in words) (at_in words) (stage_of token.old section.old) act }
     ensures own { Stays lot.now token.old token.new × IsIn lot.now section.new }
-    ensures became { Became (IsUp C.tells limit.entry) word.kind (word_index word.number word.kind) late (stage_of token.old section.old) act result (stage_of token.new section.new) }
-    ensures adds { Adds (word_index word.number word.kind) act result (view_of token.old).steps (view_of token.new).steps }
+    ensures became { Became (IsUp C.tells limit.entry) (kind_in words) (at_in words) sleeper (stage_of token.old section.old) act result (stage_of token.new section.new) }
+    ensures adds { Adds (at_in words) act result (view_of token.old).steps (view_of token.new).steps }
 {
     match act {
-        Act::Word { op, .. } => Reply::Value(lot.word(token, word, op)),
-        Act::HandOver { op, .. } => { Reply::Value(hand_over(rt, lot, token, word, section, op)) }
+        Act::Word { lock, op } => Reply::Value(lot.word(token, words.of(lock), op)),
+        Act::HandOver { lock, op } => {
+            Reply::Value(hand_over(rt, lot, token, words.of(lock), section, op))
+        }
         Act::Enter(keys) => {
             enter(rt, lot, token, section, keys);
             Reply::Done
         }
         Act::Park {
+            lock,
             key,
             check,
             want,
-            ..
-        } => Reply::Parked(park(lot, token, word, section, key, check, want)),
+        } => Reply::Parked(park(lot, token, words.of(lock), section, key, check, want)),
         Act::Take {
             key,
             whom: Whom::First,
@@ -240,7 +252,15 @@ pub(crate) fn perform<'a, R: Wait, C: Clock>(
             leave(rt, lot, token, section, note_of(wakes));
             Reply::Done
         }
-        Act::Sleep => sleep(rt, lot, token, word, limit, late, section),
+        Act::Sleep => sleep(
+            rt,
+            lot,
+            token,
+            words.of(sleeper.lock),
+            limit,
+            sleeper,
+            section,
+        ),
         Act::Accept => Reply::Done,
         _ => unreachable!(),
     }

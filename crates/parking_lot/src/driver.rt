@@ -2,24 +2,28 @@
 ghost use Rattle.std.specs.Prelude.{◌≡◌, ◌++◌, ℕ, List, None};
 ghost use Rattle.lot_base.specs.Clocks.{IsUp};
 ghost use Rattle.lot_base.specs.declared.ops.Op.TheVariants.{Load};
-ghost use Rattle.lot_steps.specs.Steps.{next_place};
+ghost use Rattle.lot_steps.specs.Steps.{next_place, HasKeys};
 ghost use Rattle.lot_steps.specs.declared.acts.Reply.TheVariants.{Value};
+ghost use Rattle.lot_words.specs.Lots.{IsWordOf};
+ghost use Rattle.lot_words.specs.Indices.{word_index};
 ghost use Rattle.lot_words.specs.Steps.{MayStep, CodesWith, after_step};
 ghost use Rattle.lot_words.specs.declared.owners.Ownership.{Ownership};
 ghost use Rattle.lot_words.specs.declared.views.WordStep.{WordStep};
 ghost use Rattle.lot_words.specs.declared.words.WordKind.TheVariants.{Mutex};
-ghost use Rattle.parking_lot_core.specs.Tokens.{Stays, view_of, last_of};
+ghost use Rattle.parking_lot_core.specs.Tokens.{IsTokenOf, Stays, view_of, last_of};
 ghost use Rattle.parking_lot.specs.Calls.{beginning, first_op, purpose_in, GoesOn};
 ghost use Rattle.parking_lot.specs.Driving.{MeetAt};
-ghost use Rattle.parking_lot.specs.Fitting.{MutexLeads, Fits, IsOver, Reached, answer_of, purpose_of};
-ghost use Rattle.parking_lot.specs.Paths.{mutex_at, step, Tells, Walks};
+ghost use Rattle.parking_lot.specs.Fitting.{PlacesLead, AreWordsFor, Fits, IsOver, Reached, answer_of, aim_of, sleeper_at};
+ghost use Rattle.parking_lot.specs.MutexFitting.{IsMutexOver};
+ghost use Rattle.parking_lot.specs.Paths.{mutex_at, at_mutex, step, Tells, Walks};
+ghost use Rattle.parking_lot.specs.Words.{AreWordsOf, kind_in, at_in};
 ghost use Rattle.parking_lot.specs.Stages.{IsIn, stage_of};
 
-use crate::acting::{end, perform};
+use crate::acting::{Sleeper, end, perform};
+use crate::words::Words;
 use lot_calls::{Answer, MutexCall};
 use lot_steps::{Act, MutexPlace, Place, Reply, advance};
-use lot_words::laws::mutex_may_step;
-use parking_lot_core::{Clock, Op, ParkingLot, Section, Token, Word};
+use parking_lot_core::{Clock, Op, ParkingLot, Section, Token, Want, Word};
 use std::hint::spin_loop;
 use std::sync::Wait;
 use std::thread::yield_now;
@@ -82,45 +86,62 @@ fn pause(loads: u32) {
 
 // Loads the word in place of an act that leads to sleep, after a pause. Before a later load the thread lets others run.
 fn spin(lot: &ParkingLot, token: &mut Token, word: Word, loads: u32) -> u64
-    requires { MeetAt lot.now token.old word }
+    requires own { IsTokenOf lot.now token.old × IsWordOf lot.now.words word }
+    requires may { MayStep word.kind (word_index word.number word.kind) Load (view_of token.old).owns }
     ensures own { Stays lot.now token.old token.new × (last_of token.new ≡ None) }
-    ensures stepped { view_of token.new ≡ after_step Mutex (mutex_at word.number) Load result (view_of token.old) }
-    ensures coded { CodesWith Mutex (mutex_at word.number) result (view_of token.old).owns }
+    ensures stepped { view_of token.new ≡ after_step word.kind (word_index word.number word.kind) Load result (view_of token.old) }
+    ensures coded { CodesWith word.kind (word_index word.number word.kind) result (view_of token.old).owns }
 {
     pause(loads);
     if loads >= PATIENT_LOADS {
         yield_now();
     }
-    mutex_may_step();
-    step(lot, token, word, Op::Load)
+    lot.word(token, word, Op::Load)
 }
 
-/// The calls of a mutex keep what fits at their places.
-pub(crate) fn mutex_leads<C: Clock>(_limit: Option<(&C, u64)>)
-    ensures { MutexLeads (IsUp C.tells _limit.entry) }
+/// All calls keep what fits at their places.
+pub(crate) fn places_lead<C: Clock>(_limit: Option<(&C, u64)>)
+    ensures { PlacesLead (IsUp C.tells _limit.entry) }
 {}
+
+// For what a thread sleeps in its call.
+fn sleeper(word_index: Place) -> Sleeper
+    requires { HasKeys word_index }
+    ensures { result ≡ sleeper_at word_index }
+{
+    let lock = match word_index {
+        Place::Idle => 0,
+        Place::Mutex { lock, .. } => lock,
+    };
+    Sleeper {
+        lock,
+        want: Want::Exclusive,
+        late: word_index.late_key(),
+    }
+}
 
 // One turn of a call: the act of its place, or a load in place of it. Whatever fitted there leads on to what fits.
 fn turn<'a, R: Wait, C: Clock>(
     rt: &R,
     lot: &'a ParkingLot,
     token: &mut Token,
-    word: Word,
+    words: Words,
     limit: Option<(&C, u64)>,
     section: &mut Option<Section<'a>>,
-    place: Place,
+    word_index: Place,
     loads: &mut u32,
 ) -> Reply
-    requires own { MeetAt lot.now token.old word × IsIn lot.now section.old }
-    requires fits { (base : List Ownership) × Fits (IsUp C.tells limit) word.number base place (stage_of token.old section.old) }
+    requires own { IsTokenOf lot.now token.old × AreWordsOf lot.now words × IsIn lot.now section.old }
+    requires words { AreWordsFor word_index (kind_in words) (at_in words) }
+    requires fits { (base : List Ownership) × Fits (IsUp C.tells limit) base word_index (stage_of token.old section.old) }
     ensures own { Stays lot.now token.old token.new × IsIn lot.now section.new }
-    ensures told { (then : List WordStep) × ((view_of token.new).steps ≡ (view_of token.old).steps ++ then) × Tells (mutex_at word.number) place then result }
-    ensures reached { (base : List Ownership) → Fits (IsUp C.tells limit.entry) word.number base place (stage_of token.old section.old)
-        → Reached (IsUp C.tells limit.entry) word.number base place result (stage_of token.new section.new) }
+    ensures told { (then : List WordStep) × ((view_of token.new).steps ≡ (view_of token.old).steps ++ then) × Tells (at_in words) word_index then result }
+    ensures reached { (base : List Ownership) → Fits (IsUp C.tells limit.entry) base word_index (stage_of token.old section.old)
+        → Reached (IsUp C.tells limit.entry) base word_index result (stage_of token.new section.new) }
 {
-    if let Some(_) = place.spin_lock() {
+    if let Some(lock) = word_index.spin_lock() {
         if *loads < MOST_LOADS {
-            let seen = spin(lot, token, word, *loads);
+            let seen = spin(lot, token, words.of(lock), *loads);
             *loads += 1;
             return Reply::Spun(seen);
         }
@@ -129,11 +150,11 @@ fn turn<'a, R: Wait, C: Clock>(
         rt,
         lot,
         token,
-        word,
+        words,
         limit,
-        place.late_key(),
+        sleeper(word_index),
         section,
-        place.act(),
+        word_index.act(),
     )
 }
 
@@ -144,27 +165,37 @@ pub(crate) fn run<R: Wait, C: Clock>(
     rt: &R,
     lot: &ParkingLot,
     token: &mut Token,
-    word: Word,
+    words: Words,
     limit: Option<(&C, u64)>,
     start: Place,
 ) -> Answer
-    requires own { MeetAt lot.now token.old word }
-    requires start { Fits (IsUp C.tells limit) word.number (view_of token.old).owns start (stage_of token.old None) }
+    requires own { IsTokenOf lot.now token.old × AreWordsOf lot.now words }
+    requires words { AreWordsFor start (kind_in words) (at_in words) }
+    requires start { Fits (IsUp C.tells limit) (view_of token.old).owns start (stage_of token.old None) }
     ensures own { Stays lot.now token.old token.new }
-    ensures path { Walks (mutex_at word.number) start (view_of token.old).steps (view_of token.new).steps result }
-    ensures over { IsOver (IsUp C.tells limit.entry) word.number (view_of token.old).owns (purpose_of start) result (stage_of token.new None) }
+    ensures path { Walks (at_in words) start (view_of token.old).steps (view_of token.new).steps result }
+    ensures over { IsOver (IsUp C.tells limit.entry) (view_of token.old).owns (aim_of start) result (stage_of token.new None) }
 {
-    let mut place = start;
+    let mut word_index = start;
     let mut section = None;
     let mut loads = 0;
     for _ in rt.forever() {
-        let reply = turn(rt, lot, token, word, limit, &mut section, place, &mut loads);
-        let (next, act) = advance(place, reply);
+        let reply = turn(
+            rt,
+            lot,
+            token,
+            words,
+            limit,
+            &mut section,
+            word_index,
+            &mut loads,
+        );
+        let (next, act) = advance(word_index, reply);
         if let Some(answer) = answer_of(act) {
             end(section);
             return answer;
         }
-        place = next;
+        word_index = next;
     }
     unreachable!()
 }
@@ -195,9 +226,11 @@ pub(crate) fn behind<R: Wait, C: Clock>(
     requires own { MeetAt lot.now token.old word }
     requires goes_on { GoesOn word.number call seen (view_of token.old).owns }
     ensures own { Stays lot.now token.old token.new }
-    ensures path { (before : List WordStep) → (view_of token.old).steps ≡ before ++ step (mutex_at word.number) (first_op call) seen → Walks (mutex_at word.number) (beginning word.number call) before (view_of token.new).steps result }
+    ensures path { (before : List WordStep) → (view_of token.old).steps ≡ before ++ step (mutex_at word.number) (first_op call) seen
+        → Walks (at_mutex word.number) (beginning word.number call) before (view_of token.new).steps result }
     ensures rest { (more : List WordStep) × ((view_of token.new).steps ≡ (view_of token.old).steps ++ more) }
-    ensures over { IsOver (IsUp C.tells limit.entry) word.number (view_of token.old).owns (purpose_in call) result (stage_of token.new None) }
+    ensures over { IsMutexOver (IsUp C.tells limit.entry) word.number (view_of token.old).owns (purpose_in call) result (stage_of token.new None) }
 {
-    run(rt, lot, token, word, limit, place_behind(word, call, seen))
+    let start = place_behind(word, call, seen);
+    run(rt, lot, token, Words::alone(word), limit, start)
 }

@@ -4,7 +4,7 @@ ghost use Rattle.std.specs.Arc.{arc_value};
 ghost use Rattle.parking_lot_core.specs.Tokens.{IsTokenOf, view_of, last_of};
 ghost use Rattle.parking_lot.specs.Calls.{beginning, fairly, Sees, Releases};
 ghost use Rattle.parking_lot.specs.Driving.{IsGuardOf, IsGuardOf-prop, StaysAs, StaysAs-on};
-ghost use Rattle.parking_lot.specs.Paths.{mutex_at, Walks};
+ghost use Rattle.parking_lot.specs.Paths.{at_mutex, Walks};
 
 use crate::guards::RawGuard;
 use crate::raw_mutex::RawMutex;
@@ -60,7 +60,7 @@ impl lock_raw::RawMutex for RawFairMutex {
 
     ghost guard_once = { λ mutex guard. IsGuardOf-prop (arc_value mutex.lot) mutex.word guard };
 
-    ghost walked = { λ mutex call answer old new. Walks (mutex_at mutex.word.number) (beginning mutex.word.number (fairly call)) (view_of old).steps (view_of new).steps answer };
+    ghost walked = { λ mutex call answer old new. Walks (at_mutex mutex.word.number) (beginning mutex.word.number (fairly call)) (view_of old).steps (view_of new).steps answer };
 
     ghost released = { λ mutex call old new. Releases mutex.word.number (fairly call) (view_of old).steps (view_of new).steps (last_of new) };
 

@@ -13,8 +13,8 @@ ghost use Rattle.parking_lot_core.specs.Tokens.{IsTokenOf, Stays, view_of, last_
 ghost use Rattle.lot_words.specs.declared.views.WordStep.{WordStep};
 ghost use Rattle.parking_lot.specs.Calls.{beginning, first_op, purpose_in, GoesOn, Sees, Releases};
 ghost use Rattle.parking_lot.specs.Driving.{IsGuardOf, IsGuardOf-prop, MeetAt, StaysAs, StaysAs-on};
-ghost use Rattle.parking_lot.specs.Fitting.{IsOver, held};
-ghost use Rattle.parking_lot.specs.Paths.{mutex_at, Walks};
+ghost use Rattle.parking_lot.specs.MutexFitting.{IsMutexOver, held};
+ghost use Rattle.parking_lot.specs.Paths.{mutex_at, at_mutex, Walks};
 ghost use Rattle.parking_lot.specs.Paths.{step as seen_step};
 ghost use Rattle.parking_lot.specs.Stages.{stage_of};
 
@@ -94,9 +94,9 @@ impl RawMutex {
         requires goes_on { GoesOn (word_of self.now).number call seen (view_of token.old).owns }
         ensures own { Stays (lot_of self.now) token.old token.new }
         ensures path { (before : List WordStep) → (view_of token.old).steps ≡ before ++ seen_step (mutex_at (word_of self.now).number) (first_op call) seen
-            → Walks (mutex_at (word_of self.now).number) (beginning (word_of self.now).number call) before (view_of token.new).steps result }
+            → Walks (at_mutex (word_of self.now).number) (beginning (word_of self.now).number call) before (view_of token.new).steps result }
         ensures rest { (more : List WordStep) × ((view_of token.new).steps ≡ (view_of token.old).steps ++ more) }
-        ensures over { IsOver ⊥ (word_of self.now).number (view_of token.old).owns (purpose_in call) result (stage_of token.new None) }
+        ensures over { IsMutexOver ⊥ (word_of self.now).number (view_of token.old).owns (purpose_in call) result (stage_of token.new None) }
     {
         behind(rt, &self.lot, token, self.word, NO_LIMIT, call, seen)
     }
@@ -111,7 +111,7 @@ impl RawMutex {
         requires { IsTokenOf (lot_of self.now) token.old }
         ensures token { IsTokenOf (lot_of self.now) token.new × StaysAs token.old token.new }
         ensures guard { IfSome result (IsGuardOf (lot_of self.now) (word_of self.now)) }
-        ensures path { Walks (mutex_at (word_of self.now).number) (beginning (word_of self.now).number LockTimed) (view_of token.old).steps (view_of token.new).steps (answer_by result) }
+        ensures path { Walks (at_mutex (word_of self.now).number) (beginning (word_of self.now).number LockTimed) (view_of token.old).steps (view_of token.new).steps (answer_by result) }
         ensures late { IfNone result (IsUp C.tells limit.entry) }
     {
         let lot: &ParkingLot = &self.lot;
@@ -148,7 +148,7 @@ impl lock_raw::RawMutex for RawMutex {
 
     ghost guard_once = { λ mutex guard. IsGuardOf-prop (arc_value mutex.lot) mutex.word guard };
 
-    ghost walked = { λ mutex call answer old new. Walks (mutex_at mutex.word.number) (beginning mutex.word.number call) (view_of old).steps (view_of new).steps answer };
+    ghost walked = { λ mutex call answer old new. Walks (at_mutex mutex.word.number) (beginning mutex.word.number call) (view_of old).steps (view_of new).steps answer };
 
     ghost released = { λ mutex call old new. Releases mutex.word.number call (view_of old).steps (view_of new).steps (last_of new) };
 

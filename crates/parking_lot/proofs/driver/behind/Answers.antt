@@ -1,23 +1,35 @@
-use Rattle.std.proofs.Common.{None, sym, subst}
+use Rattle.std.proofs.Common.{◌∙◌, None, sym, ap, subst, ℕ}
 use Rattle.lot_base.specs.Clocks.{IsUp}
+use Rattle.lot_steps.specs.Steps.{next_place}
+use Rattle.lot_steps.specs.declared.acts.Reply.TheVariants.{Value}
 use Rattle.lot_steps.specs.declared.places.Place.{Place}
 use Rattle.parking_lot_core.specs.Tokens.{view_of, last_of}
-use Rattle.parking_lot.specs.Fitting.{Fits, IsOver, purpose_of}
-use Rattle.parking_lot.specs.Paths.{mutex_at, Walks}
+use Rattle.parking_lot.specs.Calls.{beginning}
+use Rattle.parking_lot.specs.Fitting.{AreWordsFor, Fits, IsOver, aim_of}
+use Rattle.parking_lot.specs.Paths.{Walks}
 use Rattle.parking_lot.specs.Stages.{stage_of}
-use Rattle.parking_lot.proofs.Behind.{fits_behind, over_behind, path_behind}
+use Rattle.parking_lot.specs.Words.{kind_in, at_in, alone}
+use Rattle.parking_lot.specs.declared.words.Words.{Words}
+use Rattle.parking_lot.proofs.Behind.{fits_behind, over_behind, path_behind, words_behind, alone_at}
 use Rattle.parking_lot.proofs.driver.behind.Goals as goal
+
+pub run-requires-clause-words : goal.run-requires-clause-words
+run-requires-clause-words g c = let word = c.args.word in
+    subst (λ (words : Words). AreWordsFor c.place_behind-start.result (kind_in words) (at_in words)) (sym c.alone.ensures)
+    (subst (λ (p : Place). AreWordsFor p (kind_in (alone c.args.word)) (at_in (alone c.args.word))) (sym c.place_behind-start.ensures)
+    (words_behind word c.requires.own.2 c.args.call c.args.seen c.requires.own.3))
 
 pub run-requires-clause-start : goal.run-requires-clause-start
 run-requires-clause-start g c = let v = view_of c.args.token.now in
-    subst (λ (p : Place). Fits (IsUp g.C.Clock.tells c.args.limit) c.args.word.number (view_of c.args.token.now).owns p (stage_of c.args.token.now None)) (sym c.place_behind.ensures) (fits_behind c.args.word.number (IsUp g.C.Clock.tells c.args.limit) c.args.call c.args.seen v.owns (last_of c.args.token.now) c.requires.goes_on)
+    subst (λ (p : Place). Fits (IsUp g.C.Clock.tells c.args.limit) (view_of c.args.token.now).owns p (stage_of c.args.token.now None)) (sym c.place_behind-start.ensures) (fits_behind c.args.word.number (IsUp g.C.Clock.tells c.args.limit) c.args.call c.args.seen v.owns (last_of c.args.token.now) c.requires.goes_on)
 
 pub returns-clause-path : goal.returns-clause-path
-returns-clause-path g c = λ before saw. let n = c.args.word.number in
+returns-clause-path g c = λ before saw. let n = c.args.word.number in let at = ap at_in c.alone.ensures ∙ alone_at c.args.word c.requires.own.2 in
     path_behind n c.args.call c.args.seen before (view_of c.args.token.now).steps (view_of c.run.new.token).steps c.run.result
-    (subst (λ (p : Place). Walks (mutex_at c.args.word.number) p (view_of c.args.token.now).steps (view_of c.run.new.token).steps c.run.result) c.place_behind.ensures c.run.ensures.path) saw
+    (subst (λ (at : ℕ → ℕ). Walks at (next_place (beginning c.args.word.number c.args.call) (Value c.args.seen)) (view_of c.args.token.now).steps (view_of c.run.new.token).steps c.run.result) at
+    (subst (λ (p : Place). Walks (at_in c.alone.result) p (view_of c.args.token.now).steps (view_of c.run.new.token).steps c.run.result) c.place_behind-start.ensures c.run.ensures.path)) saw
 
 pub returns-clause-over : goal.returns-clause-over
 returns-clause-over g c = let n = c.args.word.number in
     over_behind n (IsUp g.C.Clock.tells c.args.limit) c.args.call c.args.seen (view_of c.args.token.now).owns c.run.result (stage_of c.run.new.token None) c.requires.goes_on
-    (subst (λ (p : Place). IsOver (IsUp g.C.Clock.tells c.args.limit) c.args.word.number (view_of c.args.token.now).owns (purpose_of p) c.run.result (stage_of c.run.new.token None)) c.place_behind.ensures c.run.ensures.over)
+    (subst (λ (p : Place). IsOver (IsUp g.C.Clock.tells c.args.limit) (view_of c.args.token.now).owns (aim_of p) c.run.result (stage_of c.run.new.token None)) c.place_behind-start.ensures c.run.ensures.over)

@@ -1,34 +1,48 @@
-use Rattle.std.proofs.Common.{◌∙◌, List, Option, sym, refl, ap, subst, ℕ}
+use Rattle.std.proofs.Common.{◌≡◌, ◌∙◌, ◌++◌, List, Option, sym, refl, ap, subst, ℕ}
 use Rattle.lot_base.specs.Clocks.{IsUp}
 use Rattle.lot_base.specs.declared.ops.Op.TheVariants.{Load}
-use Rattle.lot_steps.specs.Steps.{act_of, late_key}
+use Rattle.lot_steps.specs.Steps.{act_of}
 use Rattle.lot_steps.specs.declared.acts.Act.{Act}
 use Rattle.lot_words.specs.Indices.{word_index}
 use Rattle.lot_words.specs.declared.owners.Ownership.{Ownership}
 use Rattle.lot_words.specs.declared.views.View.{View}
-use Rattle.lot_words.specs.declared.words.WordKind.{WordKind}
+use Rattle.lot_words.specs.declared.words.Word.{Word}
 use Rattle.parking_lot_core.specs.Tokens.{view_of}
-use Rattle.parking_lot.specs.Paths.{mutex_at, step, spins}
-use Rattle.parking_lot.specs.Stages.{Needs, Became, Adds, stage_of}
-use Rattle.parking_lot.proofs.Turning.{Told, told, leads_by}
+use Rattle.parking_lot.specs.Fitting.{sleeper_at}
+use Rattle.parking_lot.specs.Paths.{step, spins}
+use Rattle.parking_lot.specs.Stages.{Needs, Became, Stepped, Adds, stage_of}
+use Rattle.parking_lot.specs.Words.{word_in, kind_in, at_in}
+use Rattle.parking_lot.specs.declared.acting.Sleeper.{Sleeper}
+use Rattle.parking_lot.proofs.Leading.{places_lead}
+use Rattle.parking_lot.proofs.Turning.{told, by_stage}
 use Rattle.parking_lot.proofs.driver.turn.Goals as goal
 
-pub returns-then-loads-lt-MOST_LOADS-clause-told : goal.returns-then-loads-lt-MOST_LOADS-clause-told
-returns-then-loads-lt-MOST_LOADS-clause-told g c = (step (mutex_at c.args.word.number) Load c.spin-seen.result, ap (λ (v : View). v.steps) c.spin-seen.ensures.stepped, spins c.args.place c.in-Some.field-0 c.spin-seen.result (sym c.spin_lock.ensures ∙ c.in-Some.is))
-
 pub perform-requires-clause-needs : goal.perform-requires-clause-needs
-perform-requires-clause-needs g c = let w = c.args.word in let fits = c.requires.fits in
-    subst (Needs c.args.word.kind (word_index c.args.word.number c.args.word.kind) (stage_of c.args.token.now c.args.section.now)) (sym c.act.ensures) (leads_by (IsUp g.C.Clock.tells c.args.limit) w.kind c.requires.own.0.2 w.number fits.0 c.args.place (stage_of c.args.token.now c.args.section.now) fits.1).0
+perform-requires-clause-needs g c = let words = c.args.words in let st = stage_of c.args.token.now c.args.section.now in let fits = c.requires.fits in
+    subst (Needs (kind_in c.args.words) (at_in c.args.words) (stage_of c.args.token.now c.args.section.now)) (sym c.act.ensures)
+    (places_lead (IsUp g.C.Clock.tells c.args.limit) (kind_in words) (at_in words) fits.0 c.args.place st c.requires.words fits.1).0
 
 pub returns-clause-told : goal.returns-clause-told
-returns-clause-told g c = let w = c.args.word in let at = word_index c.args.word.number c.args.word.kind in let old = (view_of c.args.token.now).steps in let new = (view_of c.perform.new.token).steps in
-    let adds = subst (λ (a : Act). Adds (word_index c.args.word.number c.args.word.kind) a c.perform.result (view_of c.args.token.now).steps (view_of c.perform.new.token).steps) c.act.ensures c.perform.ensures.adds in
-    let became = subst (λ (a : Act). Became (IsUp g.C.Clock.tells c.args.limit) c.args.word.kind (word_index c.args.word.number c.args.word.kind) c.late_key.result (stage_of c.args.token.now c.args.section.now) a c.perform.result (stage_of c.perform.new.token c.perform.new.section)) c.act.ensures c.perform.ensures.became in
-    let t = told (IsUp g.C.Clock.tells c.args.limit) at w.kind c.late_key.result c.args.place (act_of c.args.place) refl (stage_of c.args.token.now c.args.section.now) (stage_of c.perform.new.token c.perform.new.section) c.perform.result old new became adds in
-    subst (λ (k : WordKind). Told (word_index c.args.word.number k) c.args.place c.perform.result (view_of c.args.token.now).steps (view_of c.perform.new.token).steps) c.requires.own.0.2 t
+returns-clause-told g c = let old = (view_of c.args.token.now).steps in let new = (view_of c.perform.new.token).steps in let words = c.args.words in
+    let adds = subst (λ (a : Act). Adds (at_in c.args.words) a c.perform.result (view_of c.args.token.now).steps (view_of c.perform.new.token).steps) c.act.ensures c.perform.ensures.adds in
+    let became = subst (λ (a : Act). Became (IsUp g.C.Clock.tells c.args.limit) (kind_in c.args.words) (at_in c.args.words) c.sleeper.result (stage_of c.args.token.now c.args.section.now) a c.perform.result (stage_of c.perform.new.token c.perform.new.section)) c.act.ensures c.perform.ensures.became in
+    told (IsUp g.C.Clock.tells c.args.limit) (at_in words) (kind_in words) c.sleeper.result c.args.place (act_of c.args.place) refl (stage_of c.args.token.now c.args.section.now) (stage_of c.perform.new.token c.perform.new.section) c.perform.result old new became adds
 
 pub returns-clause-reached : goal.returns-clause-reached
-returns-clause-reached g c = let w = c.args.word in
-    let late = subst (λ (o : Option ℕ). Became (IsUp g.C.Clock.tells c.args.limit) c.args.word.kind (word_index c.args.word.number c.args.word.kind) o (stage_of c.args.token.now c.args.section.now) c.act.result c.perform.result (stage_of c.perform.new.token c.perform.new.section)) c.late_key.ensures c.perform.ensures.became in
-    let became = subst (λ (a : Act). Became (IsUp g.C.Clock.tells c.args.limit) c.args.word.kind (word_index c.args.word.number c.args.word.kind) (late_key c.args.place) (stage_of c.args.token.now c.args.section.now) a c.perform.result (stage_of c.perform.new.token c.perform.new.section)) c.act.ensures late in
-    λ (base : List Ownership) fits. (leads_by (IsUp g.C.Clock.tells c.args.limit) w.kind c.requires.own.0.2 w.number base c.args.place (stage_of c.args.token.now c.args.section.now) fits).1 c.perform.result (stage_of c.perform.new.token c.perform.new.section) became
+returns-clause-reached g c = let words = c.args.words in let st = stage_of c.args.token.now c.args.section.now in
+    let slept = subst (λ (s : Sleeper). Became (IsUp g.C.Clock.tells c.args.limit) (kind_in c.args.words) (at_in c.args.words) s (stage_of c.args.token.now c.args.section.now) c.act.result c.perform.result (stage_of c.perform.new.token c.perform.new.section)) c.sleeper.ensures c.perform.ensures.became in
+    let became = subst (λ (a : Act). Became (IsUp g.C.Clock.tells c.args.limit) (kind_in c.args.words) (at_in c.args.words) (sleeper_at c.args.place) (stage_of c.args.token.now c.args.section.now) a c.perform.result (stage_of c.perform.new.token c.perform.new.section)) c.act.ensures slept in
+    λ (base : List Ownership) fits. (places_lead (IsUp g.C.Clock.tells c.args.limit) (kind_in words) (at_in words) base c.args.place st c.requires.words fits).2 c.perform.result (stage_of c.perform.new.token c.perform.new.section) became
+
+pub returns-then-loads-lt-MOST_LOADS-clause-told : goal.returns-then-loads-lt-MOST_LOADS-clause-told
+returns-then-loads-lt-MOST_LOADS-clause-told g c = let old = (view_of c.args.token.now).steps in let seen = c.spin-seen.result in (
+  step (at_in c.args.words c.in-Some.lock) Load c.spin-seen.result,
+  ap (λ (v : View). v.steps) c.spin-seen.ensures.stepped ∙ ap (λ (w : Word). (view_of c.args.token.now).steps ++ step (word_index w.number w.kind) Load c.spin-seen.result) c.of.ensures,
+  spins c.args.place c.in-Some.lock c.spin-seen.result (sym c.spin_lock.ensures ∙ c.in-Some.is),
+)
+
+pub returns-then-loads-lt-MOST_LOADS-clause-reached : goal.returns-then-loads-lt-MOST_LOADS-clause-reached
+returns-then-loads-lt-MOST_LOADS-clause-reached g c = let words = c.args.words in let st = stage_of c.args.token.now c.args.section.now in let new = c.spin-seen.new.token in
+    let stepped = by_stage c.of.result Load c.spin-seen.result c.args.token.now c.args.section.now new c.spin-seen.ensures.stepped c.spin-seen.ensures.own.1 c.spin-seen.ensures.coded in
+    let found = subst (λ (w : Word). Stepped w.kind (word_index w.number w.kind) Load c.spin-seen.result (stage_of c.args.token.now c.args.section.now) (stage_of c.spin-seen.new.token c.args.section.now)) c.of.ensures stepped in
+    λ (base : List Ownership) fits. ((places_lead (IsUp g.C.Clock.tells c.args.limit) (kind_in words) (at_in words) base c.args.place st c.requires.words fits).1 c.in-Some.lock (sym c.spin_lock.ensures ∙ c.in-Some.is)).1 c.spin-seen.result (stage_of new c.args.section.now) found
