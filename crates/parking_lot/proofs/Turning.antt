@@ -53,7 +53,7 @@ told up at kinds sleeper p a is st new reply before behind b e = absurd b
 -- the words of a call serve it to its end
 pub words_on : (p : Place) (reply : Reply) (kinds : ℕ → WordKind) (at : ℕ → ℕ) → AreWordsFor p kinds at → AreWordsFor (next_place p reply) kinds at
 words_on Idle reply kinds at w = tt
-words_on (Mutex l word_index) reply kinds at w = by_next (mutex_next word_index reply)
+words_on (Mutex l place) reply kinds at w = by_next (mutex_next place reply)
   where
     by_next : (goes : Next MutexPlace) → AreWordsFor (mutex_goes l goes) kinds at
     by_next (At next) = w

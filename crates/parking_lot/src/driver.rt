@@ -105,18 +105,18 @@ pub(crate) fn places_lead<C: Clock>(_limit: Option<(&C, u64)>)
 {}
 
 // For what a thread sleeps in its call.
-fn sleeper(word_index: Place) -> Sleeper
-    requires { HasKeys word_index }
-    ensures { result ≡ sleeper_at word_index }
+fn sleeper(place: Place) -> Sleeper
+    requires { HasKeys place }
+    ensures { result ≡ sleeper_at place }
 {
-    let lock = match word_index {
+    let lock = match place {
         Place::Idle => 0,
         Place::Mutex { lock, .. } => lock,
     };
     Sleeper {
         lock,
         want: Want::Exclusive,
-        late: word_index.late_key(),
+        late: place.late_key(),
     }
 }
 
@@ -128,18 +128,18 @@ fn turn<'a, R: Wait, C: Clock>(
     words: Words,
     limit: Option<(&C, u64)>,
     section: &mut Option<Section<'a>>,
-    word_index: Place,
+    place: Place,
     loads: &mut u32,
 ) -> Reply
     requires own { IsTokenOf lot.now token.old × AreWordsOf lot.now words × IsIn lot.now section.old }
-    requires words { AreWordsFor word_index (kind_in words) (at_in words) }
-    requires fits { (base : List Ownership) × Fits (IsUp C.tells limit) base word_index (stage_of token.old section.old) }
+    requires words { AreWordsFor place (kind_in words) (at_in words) }
+    requires fits { (base : List Ownership) × Fits (IsUp C.tells limit) base place (stage_of token.old section.old) }
     ensures own { Stays lot.now token.old token.new × IsIn lot.now section.new }
-    ensures told { (then : List WordStep) × ((view_of token.new).steps ≡ (view_of token.old).steps ++ then) × Tells (at_in words) word_index then result }
-    ensures reached { (base : List Ownership) → Fits (IsUp C.tells limit.entry) base word_index (stage_of token.old section.old)
-        → Reached (IsUp C.tells limit.entry) base word_index result (stage_of token.new section.new) }
+    ensures told { (then : List WordStep) × ((view_of token.new).steps ≡ (view_of token.old).steps ++ then) × Tells (at_in words) place then result }
+    ensures reached { (base : List Ownership) → Fits (IsUp C.tells limit.entry) base place (stage_of token.old section.old)
+        → Reached (IsUp C.tells limit.entry) base place result (stage_of token.new section.new) }
 {
-    if let Some(lock) = word_index.spin_lock() {
+    if let Some(lock) = place.spin_lock() {
         if *loads < MOST_LOADS {
             let seen = spin(lot, token, words.of(lock), *loads);
             *loads += 1;
@@ -152,9 +152,9 @@ fn turn<'a, R: Wait, C: Clock>(
         token,
         words,
         limit,
-        sleeper(word_index),
+        sleeper(place),
         section,
-        word_index.act(),
+        place.act(),
     )
 }
 
@@ -176,7 +176,7 @@ pub(crate) fn run<R: Wait, C: Clock>(
     ensures path { Walks (at_in words) start (view_of token.old).steps (view_of token.new).steps result }
     ensures over { IsOver (IsUp C.tells limit.entry) (view_of token.old).owns (aim_of start) result (stage_of token.new None) }
 {
-    let mut word_index = start;
+    let mut place = start;
     let mut section = None;
     let mut loads = 0;
     for _ in rt.forever() {
@@ -187,15 +187,15 @@ pub(crate) fn run<R: Wait, C: Clock>(
             words,
             limit,
             &mut section,
-            word_index,
+            place,
             &mut loads,
         );
-        let (next, act) = advance(word_index, reply);
+        let (next, act) = advance(place, reply);
         if let Some(answer) = answer_of(act) {
             end(section);
             return answer;
         }
-        word_index = next;
+        place = next;
     }
     unreachable!()
 }
