@@ -9,7 +9,7 @@ use Rattle.std.proofs.lemmas.Bool.Decides.{nat_tests}
 use Rattle.lot_base.specs.declared.wants.Want.{Want}
 use Rattle.lot_base.specs.declared.wants.Want.TheVariants.{Exclusive, Upgradable, Shared}
 use Rattle.abstract_locks.specs.Locks.{LockState, Pending, Queued, Taken, Sort, Rules, LockCase, Enter, Pend, Settle, Leave, Convert, Park, Aside, TakeFirst, TakeAside, TakePicked, Wake, HandOff, Late, Rollback, Needs, IsLockState, HasTakenNobody, IsTaken, Knows, KnowsAll, Mutex, Normal, Recursive, Semaphore, keeps_more, Owns, IsSuccessor, picked, unpicked, times, taking, standing, is_thread, one_if_some, readers, putting}
-use Rattle.abstract_locks.specs.Sites.{Line, Main, Second, Claim, Doing, Site, IsSite, Begin, End, In, Out, Mark, Clear, FindNobody, MarkOwned, MarkBrought, Bring, Case, Needed, after_deed, with_doing, done, case_doing, taking_main, IsEmpty, IsOpen, IsDebtor, bringing, late_found, gives_way, shares_less, MayKeep, Has, Pends, Runs, Ran, Holds, counts, counts_taken, is_full, EachDeedKeeps}
+use Rattle.abstract_locks.specs.Sites.{Line, Main, Second, Claim, Doing, Site, IsSite, Begin, End, In, Out, Mark, Clear, FindNobody, MarkOwned, MarkBrought, Bring, Case, Needed, after_deed, with_doing, done, case_doing, taking_main, IsEmpty, IsOpen, IsDebtor, bringing, late_found, gives_way, shares_less, KeepsOwned, Has, Pends, Runs, Ran, Holds, counts, counts_taken, is_full, EachDeedKeeps}
 use Rattle.abstract_locks.specs.Locks as locks
 use Rattle.abstract_locks.proofs.LockKeeps.{case_keeps, no_aside, times_taking, times_append, known_append, known_taking}
 use Rattle.abstract_locks.proofs.Hands.{taking_others, taking_by, times_picked, passes_on, without_fewer, is_handed, shares_on, counts_more, bars, kept_few, kept_counts, kept_by}
@@ -184,7 +184,7 @@ module _ (r : Rules) (s : Site) (t : ℕ) (h : IsSite r s) where
   once : (u : ℕ) → times u s.lock.queue ≤ 1
   once u = let a = h.state.once u in omega arith
 
-  barred_by : (start : Option Want) → MayKeep s.lock t start → not (keeps_more start) ≡ false → Knows r.sort Upgradable → IsOpen r.sort s.lock → ⊥
+  barred_by : (start : Option Want) → KeepsOwned s.lock t start → not (keeps_more start) ≡ false → Knows r.sort Upgradable → IsOpen r.sort s.lock → ⊥
   barred_by None k e knows free = cc
   barred_by (Some Exclusive) k e knows free = grind arith
   barred_by (Some Upgradable) k e knows free = grind arith

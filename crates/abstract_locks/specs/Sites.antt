@@ -300,10 +300,10 @@ HasClaim s t None = Unit {0}
 HasClaim s t (Some c) = Holds s t c
 
 -- it may keep more than a shared right only where it has it
-abbrev pub MayKeep : LockState → ℕ → Option Want → Type 0
-MayKeep s t None = Unit {0}
-MayKeep s t (Some Shared) = Unit {0}
-MayKeep s t (Some x) = Owns s t x
+abbrev pub KeepsOwned : LockState → ℕ → Option Want → Type 0
+KeepsOwned s t None = Unit {0}
+KeepsOwned s t (Some Shared) = Unit {0}
+KeepsOwned s t (Some x) = Owns s t x
 
 abbrev pub CaseFits : Rules → Site → ℕ → LockCase → Doing → Type 0
 CaseFits r s t (Enter x) d = (d.retries ≡ None) ⊎ (d.retries ≡ Some x)
@@ -315,7 +315,7 @@ CaseFits r s t (Park x) d = (d.inside ≡ Some Main) × (s.parked ≡ true) × (
 CaseFits r s t Aside d = (d.inside ≡ Some Second) × (s.aside_parked ≡ true) × (d.wakes ≡ None)
 CaseFits r s t (TakeFirst x) d = (d.inside ≡ Some Main) × (d.carries ≡ false) × (d.wakes ≢ Some Second)
 CaseFits r s t (TakePicked start) d =
-    (d.inside ≡ Some Main) × (d.carries ≡ false) × (d.wakes ≢ Some Second) × MayKeep s.lock t start
+    (d.inside ≡ Some Main) × (d.carries ≡ false) × (d.wakes ≢ Some Second) × KeepsOwned s.lock t start
 CaseFits r s t (TakeAside u) d = (d.inside ≡ Some Second) × (d.carries ≡ false) × (d.wakes ≢ Some Main)
 CaseFits r s t Wake d = ⊥
 CaseFits r s t (HandOff x successor) d = (d.inside ≡ Some Main) × (d.covers ≡ true) × (d.retries ≡ None) × (d.wakes ≡ None)

@@ -12,7 +12,7 @@ use Rattle.lot_calls.specs.declared.calls.Downgrade.TheVariants as downgrade
 use Rattle.lot_calls.specs.declared.calls.Patience.{Patience}
 use Rattle.lot_calls.specs.declared.calls.Patience.TheVariants.{Patient, Timed, Try}
 use Rattle.abstract_locks.specs.Locks.{Rules, Taken, Park, Aside, TakeAside, TakePicked, Late, Knows, HasTakenNobody, is_recursive, standing, times, unpicked, without, putting}
-use Rattle.abstract_locks.specs.Sites.{Claim, Has, Pends, MayKeep, Doing, idle, is_main, is_empty, Site, IsSite, Deed, End, In, Out, FindNobody, Case, after_deed, has_readers, leaves, wakened, counts_some}
+use Rattle.abstract_locks.specs.Sites.{Claim, Has, Pends, KeepsOwned, Doing, idle, is_main, is_empty, Site, IsSite, Deed, End, In, Out, FindNobody, Case, after_deed, has_readers, leaves, wakened, counts_some}
 use Rattle.abstract_locks.specs.Codes.{code, TellsTrue, has_parked, has_aside, count_in, is_blocked}
 use Rattle.abstract_locks.proofs.CodeLaws.{words_tell_true}
 use Rattle.lot_base.specs.declared.ops.Op.TheVariants.{Load}
@@ -66,7 +66,7 @@ module _ (r : Rules) (s : Site) (t : ℕ) (rw_sort : has_readers r.sort ≡ true
   nobody_taken none u x e = let g = h.carried u _ e in cc
 
   -- what it keeps it has
-  keeps : (start : Option Want) → MayKeep start → (s.doing t).claims ≡ kept_claim start → MayKeep s.lock t start
+  keeps : (start : Option Want) → MayKeep start → (s.doing t).claims ≡ kept_claim start → KeepsOwned s.lock t start
   keeps None may e = tt
   keeps (Some Shared) may e = tt
   keeps (Some Upgradable) may e = h.held t (Has Upgradable) e
@@ -76,7 +76,7 @@ module _ (r : Rules) (s : Site) (t : ℕ) (rw_sort : has_readers r.sort ≡ true
       → Follows r s t (Case (TakePicked start) ∷ []) (waking_doing start Main (if b then waking.Clear any else waking.Leave any))
   takes_picked start any b may e is knows = by_rest (nobody_taken (grind arith)) (keeps start may (ap (λ (d : Doing). d.claims) is)) b e
     where
-      by_rest : HasTakenNobody s.lock t → MayKeep s.lock t start → (b : Bool) → is_empty (unpicked r.sort start s.lock.queue) ≡ b → Follows r s t (Case (TakePicked start) ∷ []) (waking_doing start Main (if b then waking.Clear any else waking.Leave any))
+      by_rest : HasTakenNobody s.lock t → KeepsOwned s.lock t start → (b : Bool) → is_empty (unpicked r.sort start s.lock.queue) ≡ b → Follows r s t (Case (TakePicked start) ∷ []) (waking_doing start Main (if b then waking.Clear any else waking.Leave any))
       by_rest free own true e = record { needed = grind (arith, nat_tests); doing = grind (arith, nat_tests) }
       by_rest free own false e = record { needed = grind (arith, nat_tests); doing = grind (arith, nat_tests) }
 
