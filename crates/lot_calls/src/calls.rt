@@ -33,6 +33,17 @@ pub enum Access {
     Exclusive,
 }
 
+/// A right that is turned into a lesser one.
+#[derive(Clone, Copy, Debug, PartialEq, Eq)]
+pub enum Downgrade {
+    /// The exclusive one into a shared one.
+    ToShared,
+    /// The exclusive one into the upgradable one.
+    ToUpgradable,
+    /// The upgradable one into a shared one.
+    UpgradableToShared,
+}
+
 /// Whether a call waits for ever, up to a deadline, or not at all.
 #[derive(Clone, Copy, Debug, PartialEq, Eq)]
 pub enum Patience {

@@ -1,5 +1,5 @@
 -- The steps of a reader-writer lock, told by what a thread does about the abstract lock: what each place is, and the deeds of each step.
-use Rattle.std.specs.Prelude.{ℕ, Bool, true, false, Option, Some, None, if◌then◌else◌, ◌==◌, ◌&&◌, not, ◌≡◌, ◌≢◌, ◌<◌, ◌≤◌, ◌^◌, List, [], ◌∷◌, length}
+use Rattle.std.specs.Prelude.{ℕ, Bool, true, false, Option, Some, None, if◌then◌else◌, ◌==◌, ◌&&◌, not, ◌≡◌, ◌≢◌, ◌<◌, ◌≤◌, ◌-◌, ◌^◌, List, [], ◌∷◌, length}
 use Rattle.lot_base.specs.declared.keys.Line.{Line}
 use Rattle.lot_base.specs.declared.keys.Line.TheVariants.{Main, Second}
 use Rattle.lot_base.specs.declared.ops.Op.{Op}
@@ -17,11 +17,11 @@ use Rattle.lot_steps.specs.declared.acts.Next.TheVariants as next
 use Rattle.lot_steps.specs.declared.acts.Reply.{Reply}
 use Rattle.lot_steps.specs.declared.acts.Reply.TheVariants as reply
 use Rattle.lot_steps.specs.declared.rwlock.Admission.{Admission}
-use Rattle.lot_steps.specs.declared.rwlock.Change.{Change}
-use Rattle.lot_steps.specs.declared.rwlock.Change.TheVariants as changes
+use Rattle.lot_steps.specs.declared.rwlock.changes.Change.{Change}
+use Rattle.lot_steps.specs.declared.rwlock.changes.Change.TheVariants as changes
 use Rattle.lot_steps.specs.declared.rwlock.RwLockPlace.{RwLockPlace}
-use Rattle.lot_steps.specs.declared.rwlock.RwLockPurpose.{RwLockPurpose}
-use Rattle.lot_steps.specs.declared.rwlock.RwLockPurpose.TheVariants as purpose
+use Rattle.lot_steps.specs.declared.rwlock.purposes.RwLockPurpose.{RwLockPurpose}
+use Rattle.lot_steps.specs.declared.rwlock.purposes.RwLockPurpose.TheVariants as purpose
 use Rattle.lot_steps.specs.declared.rwlock.RwLockAt.{RwLockAt}
 use Rattle.lot_steps.specs.declared.rwlock.RwLockAt.TheVariants as at
 use Rattle.lot_steps.specs.declared.rwlock.enter.Decision.{Decision}
@@ -30,11 +30,11 @@ use Rattle.lot_steps.specs.declared.rwlock.park.ParkAt.{ParkAt}
 use Rattle.lot_steps.specs.declared.rwlock.park.ParkAt.TheVariants as parking
 use Rattle.lot_steps.specs.declared.rwlock.release.WakeAt.{WakeAt}
 use Rattle.lot_steps.specs.declared.rwlock.release.WakeAt.TheVariants as waking
-use Rattle.lot_steps.specs.RwLockSteps.{wanted, want_at, patience_at, decided, park_check, rwlock_act, rwlock_next, change}
+use Rattle.lot_steps.specs.RwLockSteps.{wanted, from_of, to_of, access_of, start_of, want_at, patience_at, decided, park_check, rwlock_act, rwlock_next, change}
 use Rattle.lot_steps.specs.Acts.{holds}
-use Rattle.abstract_locks.specs.Locks.{LockState, Rules, owning, leaving, pending_for, Enter, Pend, Settle, Leave, Park, Aside, TakeAside, TakePicked, Late, Rollback, is_recursive, standing, times, without, unpicked}
+use Rattle.abstract_locks.specs.Locks.{LockState, Rules, owning, leaving, pending_for, Enter, Pend, Settle, Leave, Convert, Park, Aside, TakeAside, TakePicked, Late, Rollback, is_recursive, keeps_more, standing, times, without, unpicked}
 use Rattle.abstract_locks.specs.Sites.{Claim, Has, Pends, Doing, idle, is_main, is_empty, Site, IsSite, Needed, after, has_readers, Deed, End, In, Out, Mark, Clear, FindNobody, Does}
-use Rattle.abstract_locks.specs.Codes.{code, count_in, has_aside, has_parked}
+use Rattle.abstract_locks.specs.Codes.{code, HasLimit, count_in, has_aside, has_parked}
 
 -- ---------------------------------------------------------------- what a thread does, by its place
 
@@ -58,34 +58,65 @@ parking_doing m again claims parking.Remove = within m None claims
 parking_doing m again claims parking.Clear = finding m claims
 parking_doing m again claims parking.GiveUp = within m None claims
 
-abbrev pub waking_doing : Line → WakeAt → Doing
-waking_doing m waking.Enter = record idle { wakes = Some m }
-waking_doing m waking.Take = record idle { inside = Some m; wakes = Some m }
-waking_doing m (waking.Clear any) =
-    record idle { inside = Some m; carries = true; covers = is_main m; empty = Some m }
-waking_doing m (waking.Leave any) = record idle { inside = Some m; carries = true; covers = is_main m }
+-- what a thread keeps while it wakes others, beside a shared right
+abbrev pub kept_claim : Option Want → Option Claim
+kept_claim (Some Upgradable) = Some (Has Upgradable)
+kept_claim start = None
 
-abbrev pub pends : Option Claim
-pends = Some (Pends false)
+-- a right that a waking thread may keep
+abbrev pub MayKeep : Option Want → Type 0
+MayKeep None = Unit {0}
+MayKeep (Some Shared) = Unit {0}
+MayKeep (Some Upgradable) = Unit {0}
+MayKeep start = ⊥
 
-abbrev pub doing_at : Option Want → Want → RwLockAt → Doing
-doing_at again x at.First = at_rest again None
-doing_at again x at.Load = at_rest again None
-doing_at again x (at.Decide seen) = at_rest again None
-doing_at again x (at.Park to) = parking_doing Main again None to
-doing_at again x at.Look = at_rest again pends
-doing_at again x (at.Count seen) = at_rest again pends
-doing_at again x (at.Aside to) = parking_doing Second again pends to
-doing_at again x at.RollBack = at_rest None pends
-doing_at again x at.GiveWay = at_rest None (Some (Has x))
-doing_at again x (at.Wake m to) = waking_doing m to
+abbrev pub covers_line : Option Want → Line → Bool
+covers_line start m = is_main m && not (keeps_more start)
+
+abbrev pub waking_doing : Option Want → Line → WakeAt → Doing
+waking_doing start m waking.Enter = record idle { wakes = Some m; claims = kept_claim start }
+waking_doing start m waking.Take =
+    record idle { inside = Some m; wakes = Some m; claims = kept_claim start }
+waking_doing start m (waking.Clear any) =
+    record idle { inside = Some m; carries = true; covers = covers_line start m; empty = Some m; claims = kept_claim start }
+waking_doing start m (waking.Leave any) =
+    record idle { inside = Some m; carries = true; covers = covers_line start m; claims = kept_claim start }
+
+abbrev pub falls_back : RwLockPurpose → Bool
+falls_back (purpose.Upgrade how) = true
+falls_back q = false
+
+abbrev pub pends : RwLockPurpose → Option Claim
+pends q = Some (Pends (falls_back q))
+
+-- an upgrade has the upgradable right until it has taken another
+abbrev pub claimed : RwLockPurpose → Option Claim
+claimed (purpose.Upgrade how) = Some (Has Upgradable)
+claimed q = None
+
+-- what a thread has that is about to give it up, or to turn it into another right
+abbrev pub held_of : RwLockPurpose → Want
+held_of (purpose.Upgrade how) = Upgradable
+held_of q = wanted (access_of q)
+
+abbrev pub doing_at : Option Want → RwLockPurpose → RwLockAt → Doing
+doing_at again q at.First = at_rest again None
+doing_at again q at.Load = at_rest again (claimed q)
+doing_at again q (at.Decide seen) = at_rest again (claimed q)
+doing_at again q (at.Park to) = parking_doing Main again None to
+doing_at again q at.Look = at_rest again (pends q)
+doing_at again q (at.Count seen) = at_rest again (pends q)
+doing_at again q (at.Aside to) = parking_doing Second again (pends q) to
+doing_at again q at.RollBack = at_rest None (pends q)
+doing_at again q at.GiveWay = at_rest None (Some (Has (held_of q)))
+doing_at again q (at.Wake m to) = waking_doing (start_of q) m to
 
 -- what it wants again since it was woken
 abbrev pub again_of : RwLockPlace → Option Want
 again_of p = if p.retries then Some (want_at p) else None
 
 abbrev pub rwlock_doing : RwLockPlace → Doing
-rwlock_doing p = doing_at (again_of p) (want_at p) p.at
+rwlock_doing p = doing_at (again_of p) p.purpose p.at
 
 -- behind a step, at its next place or in no call
 abbrev pub doing_next : Next RwLockPlace → Doing
@@ -103,15 +134,19 @@ looked_deeds (decisions.Refuse answer) = End ∷ []
 looked_deeds decision = []
 
 -- a writer is pending until it has looked for readers
-abbrev pub came_in_deeds : Want → List Deed
-came_in_deeds Exclusive = Does Pend ∷ []
-came_in_deeds x = Does (Enter x) ∷ End ∷ []
+abbrev pub enters_deeds : Want → List Deed
+enters_deeds Exclusive = Does Pend ∷ []
+enters_deeds x = Does (Enter x) ∷ End ∷ []
+
+abbrev pub came_in_deeds : RwLockPurpose → List Deed
+came_in_deeds (purpose.Upgrade how) = Does (Convert Upgradable Exclusive) ∷ End ∷ []
+came_in_deeds q = enters_deeds (wanted (access_of q))
 
 -- behind its exchange, by whether it succeeded
-abbrev pub exchanged_deeds : Want → Decision → Bool → Decision → List Deed
-exchanged_deeds x decisions.Take true now = came_in_deeds x
-exchanged_deeds x decisions.Mark true now = Mark Main ∷ []
-exchanged_deeds x decision won now = looked_deeds now
+abbrev pub exchanged_deeds : RwLockPurpose → Decision → Bool → Decision → List Deed
+exchanged_deeds q decisions.Take true now = came_in_deeds q
+exchanged_deeds q decisions.Mark true now = Mark Main ∷ []
+exchanged_deeds q decision won now = looked_deeds now
 
 -- a pending writer owns where nobody shares
 abbrev pub counted_deeds : ℕ → List Deed
@@ -127,6 +162,17 @@ abbrev pub sees_waiter : Want → ℕ → Bool
 sees_waiter Shared seen = has_aside seen && (count_in seen == 1)
 sees_waiter x seen = has_parked seen
 
+-- how a thread gives its right up, or turns it into another
+abbrev pub gives_deeds : RwLockPurpose → ℕ → List Deed
+gives_deeds (purpose.Enter x how) seen =
+    does_and_wakes (sees_waiter (wanted x) seen) (Does (Leave (wanted x)))
+gives_deeds (purpose.Release x) seen =
+    does_and_wakes (sees_waiter (wanted x) seen) (Does (Leave (wanted x)))
+gives_deeds (purpose.Downgrade d) seen =
+    does_and_wakes (has_parked seen) (Does (Convert (wanted (from_of d)) (wanted (to_of d))))
+gives_deeds (purpose.Upgrade how) seen =
+    does_and_wakes (not (count_in seen == 1)) (Does (Convert Upgradable Exclusive))
+
 abbrev pub park_deeds : Deed → Line → ParkAt → Reply → List Deed
 park_deeds parks m parking.Check (reply.Parked true) = parks ∷ []
 park_deeds parks m (parking.Leave parked) reply.Done = Out ∷ []
@@ -137,25 +183,30 @@ park_deeds parks m parking.GiveUp reply.Done = Out ∷ []
 park_deeds parks m to told = []
 
 -- who is taken of the second queue, if anybody, is no part of a place: `whom`
-abbrev pub takes : Line → Option ℕ → Deed
-takes Main whom = Does (TakePicked None)
-takes Second None = FindNobody Second
-takes Second (Some u) = Does (TakeAside u)
+abbrev pub takes : Option Want → Line → Option ℕ → Deed
+takes start Main whom = Does (TakePicked start)
+takes start Second None = FindNobody Second
+takes start Second (Some u) = Does (TakeAside u)
 
-abbrev pub wake_deeds : Line → WakeAt → Option ℕ → Reply → List Deed
-wake_deeds m waking.Enter whom reply.Done = In m ∷ []
-wake_deeds m waking.Take whom (reply.Took any none_left) = takes m whom ∷ []
-wake_deeds m waking.Take whom (reply.Picked sharers successor none_left) = takes m whom ∷ []
-wake_deeds m (waking.Clear any) whom (reply.Value seen) = Clear m ∷ []
-wake_deeds m (waking.Leave any) whom reply.Done = Out ∷ []
-wake_deeds m to whom told = []
+-- who keeps a right of its own ends that as its call ends
+abbrev pub leaves_with : Option Want → List Deed
+leaves_with None = Out ∷ []
+leaves_with (Some x) = Out ∷ End ∷ []
+
+abbrev pub wake_deeds : Option Want → Line → WakeAt → Option ℕ → Reply → List Deed
+wake_deeds start m waking.Enter whom reply.Done = In m ∷ []
+wake_deeds start m waking.Take whom (reply.Took any none_left) = takes start m whom ∷ []
+wake_deeds start m waking.Take whom (reply.Picked n x none_left) = takes start m whom ∷ []
+wake_deeds start m (waking.Clear any) whom (reply.Value seen) = Clear m ∷ []
+wake_deeds start m (waking.Leave any) whom reply.Done = leaves_with start
+wake_deeds start m to whom told = []
 
 abbrev pub deeds_at : Admission → RwLockPlace → RwLockAt → Option ℕ → Reply → List Deed
 deeds_at a p at.First whom (reply.Value seen) =
     if seen == 0 then Does (Enter Exclusive) ∷ End ∷ [] else missed_deeds (patience_at p)
 deeds_at a p at.Load whom (reply.Value seen) = looked_deeds (decided a p seen)
 deeds_at a p (at.Decide expected) whom (reply.Value seen) =
-    exchanged_deeds (want_at p) (decided a p expected) (seen == expected) (decided a p seen)
+    exchanged_deeds p.purpose (decided a p expected) (seen == expected) (decided a p seen)
 deeds_at a p (at.Decide expected) whom (reply.Spun seen) = looked_deeds (decided a p seen)
 deeds_at a p (at.Decide expected) whom reply.Done = In Main ∷ []
 deeds_at a p (at.Park to) whom told = park_deeds (Does (Park (want_at p))) Main to told
@@ -166,9 +217,8 @@ deeds_at a p (at.Count expected) whom (reply.Spun seen) = counted_deeds seen
 deeds_at a p (at.Count expected) whom reply.Done = In Second ∷ []
 deeds_at a p (at.Aside to) whom told = park_deeds (Does Aside) Second to told
 deeds_at a p at.RollBack whom (reply.Value seen) = does_and_wakes (has_parked seen) (Does Rollback)
-deeds_at a p at.GiveWay whom (reply.Value seen) =
-    does_and_wakes (sees_waiter (want_at p) seen) (Does (Leave (want_at p)))
-deeds_at a p (at.Wake m to) whom told = wake_deeds m to whom told
+deeds_at a p at.GiveWay whom (reply.Value seen) = gives_deeds p.purpose seen
+deeds_at a p (at.Wake m to) whom told = wake_deeds (start_of p.purpose) m to whom told
 deeds_at a p to whom told = []
 
 abbrev pub rwlock_deeds : Admission → RwLockPlace → Option ℕ → Reply → List Deed
@@ -193,7 +243,27 @@ abbrev pub IsFreshTry : Patience → Bool → Type 0
 IsFreshTry Try retries = retries ≡ false
 IsFreshTry how retries = Unit {0}
 
--- only a writer tries a word that is 0, and only who releases gives a right up
+-- an upgrade that tries looks at the word
+abbrev pub AtTry : RwLockAt → Type 0
+AtTry at.Load = Unit {0}
+AtTry (at.Decide seen) = Unit {0}
+AtTry to = ⊥
+
+-- and another gives its right up, and is pending
+abbrev pub AtPending : RwLockAt → Type 0
+AtPending at.GiveWay = Unit {0}
+AtPending at.Look = Unit {0}
+AtPending (at.Count seen) = Unit {0}
+AtPending (at.Aside to) = Unit {0}
+AtPending at.RollBack = Unit {0}
+AtPending (at.Wake Main to) = Unit {0}
+AtPending to = ⊥
+
+abbrev pub AtUpgrade : Patience → RwLockAt → Type 0
+AtUpgrade Try to = AtTry to
+AtUpgrade how to = AtPending to
+
+-- only a writer tries a word that is 0, only who wants to write is pending, and who gives a right up only wakes others then
 abbrev pub AtFits : RwLockPurpose → RwLockAt → Type 0
 AtFits (purpose.Enter x how) at.First = x ≡ access.Exclusive
 AtFits (purpose.Enter x how) at.GiveWay = ⊥
@@ -201,6 +271,10 @@ AtFits (purpose.Enter x how) to = Unit {0}
 AtFits (purpose.Release x) at.GiveWay = Unit {0}
 AtFits (purpose.Release x) (at.Wake m to) = Unit {0}
 AtFits (purpose.Release x) to = ⊥
+AtFits (purpose.Downgrade d) at.GiveWay = Unit {0}
+AtFits (purpose.Downgrade d) (at.Wake Main to) = Unit {0}
+AtFits (purpose.Downgrade d) to = ⊥
+AtFits (purpose.Upgrade how) to = AtUpgrade how to
 
 -- a thread that stands at a place
 pub record IsAt (r : Rules) (a : Admission) (s : Site) (t : ℕ) (p : RwLockPlace) : Type 0 where
@@ -232,7 +306,7 @@ abbrev pub RwLockStepsCode : Type 0
 RwLockStepsCode =
     (r : Rules) (a : Admission) (s : Site) (t l : ℕ) (p : RwLockPlace) (op : Op) → IsAt r a s t p
     → standing t s.lock ≡ 0 → rwlock_act l a p ≡ act.Word l op
-    → t < length s.lock.shared → code r s < 2 ^ 64 → a.limit < 2 ^ 60
+    → t < length s.lock.shared → code r s < 2 ^ 64 → a.limit < 2 ^ 60 - 1 → HasLimit r s.lock
     → apply op (code r s) ≡ code r (after_all r (rwlock_deeds a p None (reply.Value (code r s))) s t)
 
 -- ---------------------------------------------------------------- steps in and out of sections
@@ -256,28 +330,30 @@ MayHearParking r s t m finds parking.GiveUp reply.Done = s.lock.taken t ≡ None
 MayHearParking r s t m finds to told = ⊥
 
 -- who is taken of the second queue, and whether somebody is left in the main one
-abbrev pub MayTake : Rules → Site → Line → Option ℕ → Bool → Type 0
-MayTake r s Main whom none_left = none_left ≡ is_empty (unpicked r.sort None s.lock.queue)
-MayTake r s Second whom none_left = whom ≡ s.lock.aside
+abbrev pub MayTake : Rules → Site → Option Want → Line → Option ℕ → Bool → Type 0
+MayTake r s start Main whom none_left = none_left ≡ is_empty (unpicked r.sort start s.lock.queue)
+MayTake r s start Second whom none_left = whom ≡ s.lock.aside
 
-abbrev pub MayHearWaking : Rules → Site → ℕ → Line → WakeAt → Option ℕ → Reply → Type 0
-MayHearWaking r s t m waking.Enter whom reply.Done = IsFree s m
-MayHearWaking r s t m waking.Take whom (reply.Took any none_left) = MayTake r s m whom none_left
-MayHearWaking r s t m waking.Take whom (reply.Picked n x none_left) = MayTake r s m whom none_left
-MayHearWaking r s t m (waking.Leave any) whom reply.Done = s.lock.taken t ≡ None
-MayHearWaking r s t m to whom told = ⊥
+abbrev pub MayHearWaking : Rules → Site → ℕ → Option Want → Line → WakeAt → Option ℕ → Reply → Type 0
+MayHearWaking r s t start m waking.Enter whom reply.Done = IsFree s m
+MayHearWaking r s t start m waking.Take whom (reply.Took any none_left) = MayTake r s start m whom none_left
+MayHearWaking r s t start m waking.Take whom (reply.Picked n x none_left) =
+    MayTake r s start m whom none_left
+MayHearWaking r s t start m (waking.Leave any) whom reply.Done = s.lock.taken t ≡ None
+MayHearWaking r s t start m to whom told = ⊥
 
 -- what a thread may be told of its steps in and out of sections, and as it spins or is late
 abbrev pub MayHear : Rules → Admission → Site → ℕ → RwLockPlace → RwLockAt → Option ℕ → Reply → Type 0
-MayHear r a s t p (at.Decide seen) whom reply.Done = IsFree s Main
-MayHear r a s t p (at.Decide seen) whom (reply.Spun v) = (v ≡ code r s) × (standing t s.lock ≡ 0)
+MayHear r a s t p (at.Decide seen) whom reply.Done = (decided a p seen ≡ decisions.Park) × IsFree s Main
+MayHear r a s t p (at.Decide seen) whom (reply.Spun v) =
+    (decided a p seen ≡ decisions.Mark) × (v ≡ code r s) × (standing t s.lock ≡ 0)
 MayHear r a s t p (at.Count seen) whom reply.Done = IsFree s Second
 MayHear r a s t p (at.Count seen) whom (reply.Spun v) = (v ≡ code r s) × (standing t s.lock ≡ 0)
 MayHear r a s t p (at.Park to) whom told =
     MayHearParking r s t Main (holds (park_check a (want_at p) Main) (code r s)) to told
 MayHear r a s t p (at.Aside to) whom told =
     MayHearParking r s t Second (holds (park_check a (want_at p) Second) (code r s)) to told
-MayHear r a s t p (at.Wake m to) whom told = MayHearWaking r s t m to whom told
+MayHear r a s t p (at.Wake m to) whom told = MayHearWaking r s t (start_of p.purpose) m to whom told
 MayHear r a s t p to whom told = ⊥
 
 -- each such step follows too
@@ -295,7 +371,11 @@ lock_by (changes.Enter x) t s = owning t (wanted x) s
 lock_by changes.Pend t s = pending_for t false s
 lock_by changes.Settle t s = owning t Exclusive (record s { pending = None })
 lock_by (changes.Leave x) t s = leaving t (wanted x) s
-lock_by changes.RollBack t s = record s { pending = None }
+lock_by (changes.Downgrade d) t s = owning t (wanted (to_of d)) (leaving t (wanted (from_of d)) s)
+lock_by (changes.Upgrade true) t s = owning t Exclusive (leaving t Upgradable s)
+lock_by (changes.Upgrade false) t s = pending_for t true (leaving t Upgradable s)
+lock_by (changes.RollBack false) t s = record s { pending = None }
+lock_by (changes.RollBack true) t s = owning t Upgradable (record s { pending = None })
 
 -- each step on the word changes owners as its deeds say
 abbrev pub RwLockOwnersFollow : Type 0

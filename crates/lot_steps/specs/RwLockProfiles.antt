@@ -3,12 +3,13 @@ use Rattle.std.specs.Prelude.{ℕ, Bool, true, false, Option, Some, None, if◌t
 use Rattle.lot_base.specs.declared.keys.Line.{Line}
 use Rattle.lot_base.specs.declared.keys.Line.TheVariants.{Main, Second}
 use Rattle.lot_base.specs.declared.wants.Want.{Want}
+use Rattle.lot_base.specs.declared.wants.Want.TheVariants.{Exclusive, Upgradable}
 use Rattle.lot_calls.specs.declared.calls.Patience.{Patience}
-use Rattle.lot_calls.specs.declared.calls.Patience.TheVariants.{Timed}
+use Rattle.lot_calls.specs.declared.calls.Patience.TheVariants.{Patient, Timed}
 use Rattle.lot_steps.specs.declared.rwlock.Admission.{Admission}
 use Rattle.lot_steps.specs.declared.rwlock.RwLockPlace.{RwLockPlace}
-use Rattle.lot_steps.specs.declared.rwlock.RwLockPurpose.{RwLockPurpose}
-use Rattle.lot_steps.specs.declared.rwlock.RwLockPurpose.TheVariants as purposes
+use Rattle.lot_steps.specs.declared.rwlock.purposes.RwLockPurpose.{RwLockPurpose}
+use Rattle.lot_steps.specs.declared.rwlock.purposes.RwLockPurpose.TheVariants as purposes
 use Rattle.lot_steps.specs.declared.rwlock.RwLockAt.{RwLockAt}
 use Rattle.lot_steps.specs.declared.rwlock.RwLockAt.TheVariants as at
 use Rattle.lot_steps.specs.declared.rwlock.enter.Decision.{Decision}
@@ -17,11 +18,11 @@ use Rattle.lot_steps.specs.declared.rwlock.park.ParkAt.{ParkAt}
 use Rattle.lot_steps.specs.declared.rwlock.park.ParkAt.TheVariants as parking
 use Rattle.lot_steps.specs.declared.rwlock.release.WakeAt.{WakeAt}
 use Rattle.lot_steps.specs.declared.rwlock.release.WakeAt.TheVariants as waking
-use Rattle.lot_steps.specs.RwLockSteps.{wanted, access_of, patience_of, decided}
+use Rattle.lot_steps.specs.RwLockSteps.{wanted, from_of, to_of, patience_of, decided}
 use Rattle.lot_steps.specs.RwLockDeeds.{rwlock_doing}
 use Rattle.lot_steps.specs.MutexProfiles.{Hand, Profile, hand, hand_owner, in_hand}
 use Rattle.abstract_locks.specs.Codes.{has_aside}
-use Rattle.abstract_locks.specs.Purposes.{Purpose, Enters, Releases}
+use Rattle.abstract_locks.specs.Purposes.{Purpose, Enters, Releases, Converts}
 
 -- ---------------------------------------------------------------- on its way into a queue, and out of it
 
@@ -117,15 +118,19 @@ enters_late parked to = false
 
 abbrev pub late_at : (ParkAt → Bool) → RwLockPurpose → RwLockAt → Bool
 late_at parked (purposes.Enter x how) to = enters_late parked to
-late_at parked (purposes.Release x) to = false
+late_at parked (purposes.Upgrade how) to = enters_late parked to
+late_at parked q to = false
 
 abbrev pub wants_for : RwLockPurpose → Option Want
 wants_for (purposes.Enter x how) = Some (wanted x)
-wants_for (purposes.Release x) = None
+wants_for (purposes.Upgrade how) = Some Exclusive
+wants_for q = None
 
 abbrev pub purpose_by : RwLockPurpose → ℕ → Purpose
 purpose_by (purposes.Enter x how) l = Enters l (wanted x) how
 purpose_by (purposes.Release x) l = Releases l (wanted x) false
+purpose_by (purposes.Downgrade d) l = Converts l (wanted (from_of d)) (wanted (to_of d)) Patient
+purpose_by (purposes.Upgrade how) l = Converts l Upgradable Exclusive how
 
 -- a release has given its right up once it wakes others
 abbrev pub has_released : RwLockPurpose → RwLockAt → Bool

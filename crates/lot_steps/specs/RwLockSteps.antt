@@ -12,6 +12,8 @@ use Rattle.lot_base.specs.Keys.{key_of}
 use Rattle.lot_base.specs.Words.{apply}
 use Rattle.lot_calls.specs.declared.calls.Access.{Access}
 use Rattle.lot_calls.specs.declared.calls.Access as access
+use Rattle.lot_calls.specs.declared.calls.Downgrade.{Downgrade}
+use Rattle.lot_calls.specs.declared.calls.Downgrade.TheVariants as downgrade
 use Rattle.lot_calls.specs.declared.calls.Patience.{Patience}
 use Rattle.lot_calls.specs.declared.calls.Patience.TheVariants.{Patient, Timed, Try}
 use Rattle.lot_calls.specs.declared.outcomes.Answer.{Answer}
@@ -30,14 +32,15 @@ use Rattle.lot_steps.specs.declared.acts.Wakes as wake_notes
 use Rattle.lot_steps.specs.declared.acts.Whom.{Whom}
 use Rattle.lot_steps.specs.declared.acts.Whom as whom_taken
 use Rattle.lot_steps.specs.declared.rwlock.Admission.{Admission}
+use Rattle.lot_steps.specs.declared.owners.Fallback.{Fallback}
 use Rattle.lot_steps.specs.declared.owners.Fallback.TheVariants as fallbacks
 use Rattle.lot_steps.specs.declared.owners.Owners.{Owners}
 use Rattle.lot_steps.specs.declared.owners.Pending as owners
-use Rattle.lot_steps.specs.declared.rwlock.Change.{Change}
-use Rattle.lot_steps.specs.declared.rwlock.Change.TheVariants as changes
+use Rattle.lot_steps.specs.declared.rwlock.changes.Change.{Change}
+use Rattle.lot_steps.specs.declared.rwlock.changes.Change.TheVariants as changes
 use Rattle.lot_steps.specs.declared.rwlock.RwLockPlace.{RwLockPlace}
-use Rattle.lot_steps.specs.declared.rwlock.RwLockPurpose.{RwLockPurpose}
-use Rattle.lot_steps.specs.declared.rwlock.RwLockPurpose.TheVariants as purpose
+use Rattle.lot_steps.specs.declared.rwlock.purposes.RwLockPurpose.{RwLockPurpose}
+use Rattle.lot_steps.specs.declared.rwlock.purposes.RwLockPurpose.TheVariants as purpose
 use Rattle.lot_steps.specs.declared.rwlock.RwLockAt.{RwLockAt}
 use Rattle.lot_steps.specs.declared.rwlock.RwLockAt.TheVariants as at
 use Rattle.lot_steps.specs.declared.rwlock.enter.Decision.{Decision}
@@ -68,19 +71,38 @@ is_counted x = true
 
 -- ---------------------------------------------------------------- calls
 
--- the right that a call enters for, or gives up
+-- the greater right of a downgrade, and the lesser one
+abbrev pub from_of : Downgrade → Access
+from_of downgrade.UpgradableToShared = access.TheVariants.Upgradable
+from_of d = access.TheVariants.Exclusive
+
+abbrev pub to_of : Downgrade → Access
+to_of downgrade.ToUpgradable = access.TheVariants.Upgradable
+to_of d = access.TheVariants.Shared
+
+-- the right that a call waits for, or gives up
 abbrev pub access_of : RwLockPurpose → Access
 access_of (purpose.Enter x how) = x
 access_of (purpose.Release x) = x
+access_of (purpose.Downgrade d) = from_of d
+access_of (purpose.Upgrade how) = access.TheVariants.Exclusive
 
 abbrev pub patience_of : RwLockPurpose → Patience
 patience_of (purpose.Enter x how) = how
-patience_of (purpose.Release x) = Patient
+patience_of (purpose.Upgrade how) = how
+patience_of q = Patient
 
--- behind a wake a release has done its part, and who entered has given up
+-- what a thread keeps while it wakes others
+abbrev pub start_of : RwLockPurpose → Option Want
+start_of (purpose.Downgrade d) = Some (wanted (to_of d))
+start_of (purpose.Upgrade how) = Some want.TheVariants.Upgradable
+start_of q = None
+
+-- behind a wake a release has done its part, and who entered or upgraded has given up
 abbrev pub ends_with : RwLockPurpose → Answer
 ends_with (purpose.Enter x how) = answer.TheVariants.No
-ends_with (purpose.Release x) = answer.TheVariants.Ok
+ends_with (purpose.Upgrade how) = answer.TheVariants.No
+ends_with q = answer.TheVariants.Ok
 
 -- a call that waits for ever answers ok
 abbrev pub entered : Patience → Answer
@@ -117,9 +139,15 @@ decision a x how word =
     then decisions.Refuse answer.TheVariants.ReadersFull
     else decisions.Take
 
+-- an upgrade tries where nobody else shares
+abbrev pub decided_for : Admission → RwLockPurpose → ℕ → Decision
+decided_for a (purpose.Upgrade how) seen =
+    if count_in seen == 1 then decisions.Take else decisions.Refuse answer.TheVariants.No
+decided_for a q seen = decision a (wanted (access_of q)) (patience_of q) seen
+
 -- by the value that it saw
 abbrev pub decided : Admission → RwLockPlace → ℕ → Decision
-decided a p seen = decision a (want_at p) (patience_at p) seen
+decided a p seen = decided_for a p.purpose seen
 
 -- ---------------------------------------------------------------- what a thread does
 
@@ -130,11 +158,30 @@ exchange l from to = act.TheVariants.Word l (op.TheVariants.Exchange from to)
 abbrev pub plus : ℕ → ℕ → ℕ
 plus word n = apply (op.TheVariants.Add n) word
 
-abbrev pub decided_act : ℕ → Want → ℕ → Decision → Act
-decided_act l x seen decisions.Take = exchange l seen (plus seen (token x))
-decided_act l x seen decisions.Mark = exchange l seen (plus seen 1)
-decided_act l x seen decisions.Park = act.TheVariants.Enter (One (2 * l))
-decided_act l x seen (decisions.Refuse answer) = act.TheVariants.End answer
+-- the word with the right that a thread takes: an upgrade is a reader with the upgradable right less, and a writer more
+abbrev pub word_taken : RwLockPurpose → ℕ → ℕ
+word_taken (purpose.Upgrade how) seen = apply (op.TheVariants.Sub 12) seen
+word_taken q seen = plus seen (token (wanted (access_of q)))
+
+abbrev pub decided_act : ℕ → RwLockPurpose → ℕ → Decision → Act
+decided_act l q seen decisions.Take = exchange l seen (word_taken q seen)
+decided_act l q seen decisions.Mark = exchange l seen (plus seen 1)
+decided_act l q seen decisions.Park = act.TheVariants.Enter (One (2 * l))
+decided_act l q seen (decisions.Refuse answer) = act.TheVariants.End answer
+
+-- how a thread gives its right up, or turns it into another
+abbrev pub give_op : RwLockPurpose → Op
+give_op (purpose.Enter x how) = op.TheVariants.Sub (token (wanted x))
+give_op (purpose.Release x) = op.TheVariants.Sub (token (wanted x))
+give_op (purpose.Downgrade downgrade.ToShared) = op.TheVariants.Add 8
+give_op (purpose.Downgrade downgrade.ToUpgradable) = op.TheVariants.Add 12
+give_op (purpose.Downgrade downgrade.UpgradableToShared) = op.TheVariants.Sub 4
+give_op (purpose.Upgrade how) = op.TheVariants.Sub 12
+
+-- and how a pending writer falls back: an upgrade has the upgradable right again
+abbrev pub rollback_op : RwLockPurpose → Op
+rollback_op (purpose.Upgrade how) = op.TheVariants.Add 12
+rollback_op q = op.TheVariants.Sub 8
 
 -- a pending writer sets its parked bit, and goes aside where it is set
 abbrev pub count_act : ℕ → ℕ → Act
@@ -164,28 +211,28 @@ park_act l a x m parking.Clear = act.TheVariants.Word l (unparked m)
 park_act l a x m parking.GiveUp = leaves l m
 
 -- whom a thread takes of a queue: those whom the lock lets in, or the writer aside
-abbrev pub whom : Admission → Line → Whom
-whom a Main = whom_taken.TheVariants.Picked None a.recursive
-whom a Second = whom_taken.TheVariants.First
+abbrev pub whom : Admission → Option Want → Line → Whom
+whom a start Main = whom_taken.TheVariants.Picked start a.recursive
+whom a start Second = whom_taken.TheVariants.First
 
-abbrev pub wake_act : ℕ → Admission → Line → WakeAt → Act
-wake_act l a m waking.Enter = act.TheVariants.Enter (One (key_of l m))
-wake_act l a m waking.Take = act.TheVariants.Take (key_of l m) (whom a m)
-wake_act l a m (waking.Clear any) = act.TheVariants.Word l (unparked m)
-wake_act l a m (waking.Leave any) =
+abbrev pub wake_act : ℕ → Admission → RwLockPurpose → Line → WakeAt → Act
+wake_act l a q m waking.Enter = act.TheVariants.Enter (One (key_of l m))
+wake_act l a q m waking.Take = act.TheVariants.Take (key_of l m) (whom a (start_of q) m)
+wake_act l a q m (waking.Clear any) = act.TheVariants.Word l (unparked m)
+wake_act l a q m (waking.Leave any) =
     act.TheVariants.Leave (One (key_of l m)) (wakes_taken any note.TheVariants.Normal)
 
 abbrev pub act_at : ℕ → Admission → RwLockPlace → RwLockAt → Act
 act_at l a p at.First = exchange l 0 8
 act_at l a p at.Load = act.TheVariants.Word l op.TheVariants.Load
-act_at l a p (at.Decide seen) = decided_act l (want_at p) seen (decided a p seen)
+act_at l a p (at.Decide seen) = decided_act l p.purpose seen (decided a p seen)
 act_at l a p (at.Park to) = park_act l a (want_at p) Main to
 act_at l a p at.Look = act.TheVariants.Word l op.TheVariants.Load
 act_at l a p (at.Count seen) = count_act l seen
 act_at l a p (at.Aside to) = park_act l a (want_at p) Second to
-act_at l a p at.RollBack = act.TheVariants.Word l (op.TheVariants.Sub 8)
-act_at l a p at.GiveWay = act.TheVariants.Word l (op.TheVariants.Sub (token (want_at p)))
-act_at l a p (at.Wake m to) = wake_act l a m to
+act_at l a p at.RollBack = act.TheVariants.Word l (rollback_op p.purpose)
+act_at l a p at.GiveWay = act.TheVariants.Word l (give_op p.purpose)
+act_at l a p (at.Wake m to) = wake_act l a p.purpose m to
 
 abbrev pub rwlock_act : ℕ → Admission → RwLockPlace → Act
 rwlock_act l a p = act_at l a p p.at
@@ -210,13 +257,13 @@ looked_by p seen decision = stays p (at.Decide seen)
 abbrev pub looked : Admission → RwLockPlace → ℕ → Next RwLockPlace
 looked a p seen = looked_by p seen (decided a p seen)
 
-abbrev pub came_in_for : RwLockPlace → Access → Next RwLockPlace
-came_in_for p access.TheVariants.Exclusive = goes p at.Look false
-came_in_for p x = End (entered (patience_at p))
+-- its exchange succeeded: a writer that enters is pending until it has looked for readers
+abbrev pub came_in_for : RwLockPlace → RwLockPurpose → Next RwLockPlace
+came_in_for p (purpose.Enter access.TheVariants.Exclusive how) = goes p at.Look false
+came_in_for p q = End (entered (patience_of q))
 
--- its exchange succeeded: a writer is pending until it has looked for readers
 abbrev pub came_in : RwLockPlace → Next RwLockPlace
-came_in p = came_in_for p (access_of p.purpose)
+came_in p = came_in_for p p.purpose
 
 abbrev pub exchanged_next : Admission → RwLockPlace → ℕ → ℕ → Decision → Next RwLockPlace
 exchanged_next a p expected seen decisions.Take =
@@ -246,15 +293,25 @@ count_next p expected reply = stays p (at.Count expected)
 abbrev pub rolled_back : RwLockPlace → ℕ → Next RwLockPlace
 rolled_back p seen = if has_parked seen then stays p (wakes Main) else End answer.TheVariants.No
 
-abbrev pub gave_way_by : RwLockPlace → ℕ → Access → Next RwLockPlace
-gave_way_by p seen access.TheVariants.Shared =
-    if has_aside seen && (count_in seen == 1) then stays p (wakes Second)
-    else End answer.TheVariants.Ok
-gave_way_by p seen x = if has_parked seen then stays p (wakes Main) else End answer.TheVariants.Ok
+abbrev pub wakes_or_ends : RwLockPlace → Line → Bool → Next RwLockPlace
+wakes_or_ends p m is_there = if is_there then stays p (wakes m) else End answer.TheVariants.Ok
 
 -- the last reader wakes the writer aside, and every other release those in the main queue
+abbrev pub released : RwLockPlace → ℕ → Access → Next RwLockPlace
+released p seen access.TheVariants.Shared =
+    wakes_or_ends p Second (has_aside seen && (count_in seen == 1))
+released p seen x = wakes_or_ends p Main (has_parked seen)
+
+-- as a downgrade does; an upgrade owns where it was the only reader, and else it is pending
+abbrev pub gave_way_by : RwLockPlace → ℕ → RwLockPurpose → Next RwLockPlace
+gave_way_by p seen (purpose.Enter x how) = released p seen x
+gave_way_by p seen (purpose.Release x) = released p seen x
+gave_way_by p seen (purpose.Downgrade d) = wakes_or_ends p Main (has_parked seen)
+gave_way_by p seen (purpose.Upgrade how) =
+    if count_in seen == 1 then End (entered how) else goes p at.Look false
+
 abbrev pub gave_way : RwLockPlace → ℕ → Next RwLockPlace
-gave_way p seen = gave_way_by p seen (access_of p.purpose)
+gave_way p seen = gave_way_by p seen p.purpose
 
 -- ---------------------------------------------------------------- in and out of queues
 
@@ -328,11 +385,29 @@ rwlock_next a p reply = next_at a p p.at reply
 
 -- ---------------------------------------------------------------- who owns
 
+abbrev pub enters_by : Access → Change
+enters_by access.TheVariants.Exclusive = changes.Pend
+enters_by x = changes.Enter x
+
+abbrev pub taken_change : RwLockPurpose → Change
+taken_change (purpose.Upgrade how) = changes.Upgrade true
+taken_change q = enters_by (access_of q)
+
 -- behind an exchange that succeeded
-abbrev pub comes_in : Decision → Access → Change
-comes_in decisions.Take access.TheVariants.Exclusive = changes.Pend
-comes_in decisions.Take x = changes.Enter x
-comes_in decision x = changes.Nothing
+abbrev pub came_change : RwLockPurpose → Decision → Change
+came_change q decisions.Take = taken_change q
+came_change q decision = changes.Nothing
+
+-- of a thread that gave way, and saw this
+abbrev pub gives_change : RwLockPurpose → ℕ → Change
+gives_change (purpose.Enter x how) seen = changes.Leave x
+gives_change (purpose.Release x) seen = changes.Leave x
+gives_change (purpose.Downgrade d) seen = changes.Downgrade d
+gives_change (purpose.Upgrade how) seen = changes.Upgrade (count_in seen == 1)
+
+abbrev pub rollback_change : RwLockPurpose → Change
+rollback_change (purpose.Upgrade how) = changes.RollBack true
+rollback_change q = changes.RollBack false
 
 -- of a pending writer that saw this
 abbrev pub settles : ℕ → Change
@@ -342,28 +417,35 @@ abbrev pub change_at : Admission → RwLockPlace → ℕ → RwLockAt → Change
 change_at a p seen at.First =
     if seen == 0 then changes.Enter access.TheVariants.Exclusive else changes.Nothing
 change_at a p seen (at.Decide expected) =
-    if seen == expected then comes_in (decided a p expected) (access_of p.purpose) else changes.Nothing
+    if seen == expected then came_change p.purpose (decided a p expected) else changes.Nothing
 change_at a p seen at.Look = settles seen
 change_at a p seen (at.Count expected) = if seen == expected then changes.Nothing else settles seen
-change_at a p seen at.RollBack = changes.RollBack
-change_at a p seen at.GiveWay = changes.Leave (access_of p.purpose)
+change_at a p seen at.RollBack = rollback_change p.purpose
+change_at a p seen at.GiveWay = gives_change p.purpose seen
 change_at a p seen to = changes.Nothing
 
 -- what an operation on the word does to the owners, which saw this value
 abbrev pub change : Admission → RwLockPlace → ℕ → Change
 change a p seen = change_at a p seen p.at
 
-abbrev pub pending_only : ℕ → owners.Pending
-pending_only t = record { thread = t; fallback = fallbacks.Nothing }
+abbrev pub pending : ℕ → Fallback → Option owners.Pending
+pending t fallback = Some (record { thread = t; fallback = fallback })
 
 abbrev pub owners_by : Change → ℕ → Owners → Owners
 owners_by (changes.Enter access.TheVariants.Upgradable) t o = record o { upgradable = Some t }
 owners_by (changes.Enter access.TheVariants.Exclusive) t o = record o { exclusive = Some t }
-owners_by changes.Pend t o = record o { pending = Some (pending_only t) }
+owners_by changes.Pend t o = record o { pending = pending t fallbacks.Nothing }
 owners_by changes.Settle t o = record o { exclusive = Some t; pending = None }
 owners_by (changes.Leave access.TheVariants.Upgradable) t o = record o { upgradable = None }
 owners_by (changes.Leave access.TheVariants.Exclusive) t o = record o { exclusive = None }
-owners_by changes.RollBack t o = record o { pending = None }
+owners_by (changes.Downgrade downgrade.ToShared) t o = record o { exclusive = None }
+owners_by (changes.Downgrade downgrade.ToUpgradable) t o = record o { exclusive = None; upgradable = Some t }
+owners_by (changes.Downgrade downgrade.UpgradableToShared) t o = record o { upgradable = None }
+owners_by (changes.Upgrade true) t o = record o { exclusive = Some t; upgradable = None }
+owners_by (changes.Upgrade false) t o =
+    record o { pending = pending t fallbacks.Upgradable; upgradable = None }
+owners_by (changes.RollBack false) t o = record o { pending = None }
+owners_by (changes.RollBack true) t o = record o { pending = None; upgradable = Some t }
 owners_by change t o = o
 
 abbrev pub rwlock_owners : Admission → RwLockPlace → ℕ → ℕ → Owners → Owners
@@ -372,6 +454,8 @@ rwlock_owners a p t seen o = owners_by (change a p seen) t o
 abbrev pub shares_by : Change → ℕ → Option ℕ
 shares_by (changes.Enter access.TheVariants.Shared) n = Some (plus n 1)
 shares_by (changes.Leave access.TheVariants.Shared) n = Some (n - 1)
+shares_by (changes.Downgrade downgrade.ToShared) n = Some (plus n 1)
+shares_by (changes.Downgrade downgrade.UpgradableToShared) n = Some (plus n 1)
 shares_by change n = None
 
 -- how many shared rights the thread has then, where their number changes

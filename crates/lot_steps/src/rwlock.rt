@@ -1,23 +1,25 @@
 //! The steps of a reader-writer lock. What the bits of its word mean is told in `bits`.
 ghost use Rattle.std.specs.Prelude.{◌≡◌, ◌<◌, ◌^◌};
 ghost use Rattle.abstract_locks.specs.Codes as codes;
-ghost use Rattle.lot_steps.specs.RwLockSteps.{wanted, token, access_of, patience_of, ends_with, entered, goes, rwlock_act, rwlock_next, comes_in, settles, change, rwlock_owners, rwlock_shares};
+ghost use Rattle.lot_steps.specs.RwLockSteps.{wanted, goes, rwlock_act, rwlock_next};
 ghost use Rattle.lot_steps.specs.RwLockProfiles.{rwlock_taker, rwlock_wants, rwlock_can_spin, rwlock_late_line, rwlock_owes};
 
+pub mod changes;
 pub mod enter;
 pub mod park;
 pub mod pend;
+pub mod purposes;
 pub mod release;
 
 use crate::acts::{Act, Next, Reply};
-use crate::bits::{count_in, has_aside, is_blocked};
-use crate::owners::{Fallback, Owners, Pending};
+use crate::bits::{has_aside, is_blocked};
 use crate::rwlock::enter::{Decision, decided_act, looked, next_decided, next_first};
 use crate::rwlock::park::{ParkAt, next_park, park_act};
 use crate::rwlock::pend::{count_act, counted, next_count, rolled_back};
+use crate::rwlock::purposes::{RwLockPurpose, wanted};
 use crate::rwlock::release::{WakeAt, gave_way, next_wake, wake_act};
 use lot_base::{Line, Op, Want};
-use lot_calls::{Access, Answer, Patience};
+use lot_calls::{Access, Patience};
 
 pub const PARKED: u64 = 1;
 
@@ -45,13 +47,6 @@ pub struct Admission {
     pub limit: u64,
 }
 
-/// What a call of a reader-writer lock is for.
-#[derive(Clone, Copy, Debug, PartialEq, Eq)]
-pub enum RwLockPurpose {
-    Enter { access: Access, patience: Patience },
-    Release(Access),
-}
-
 /// Where a thread stands in a call of a reader-writer lock.
 #[derive(Clone, Copy, Debug, PartialEq, Eq)]
 pub enum RwLockAt {
@@ -76,17 +71,6 @@ pub enum RwLockAt {
     Wake { line: Line, at: WakeAt },
 }
 
-/// What an operation on the word does to the lock's owners.
-#[derive(Clone, Copy, Debug, PartialEq, Eq)]
-enum Change {
-    Nothing,
-    Enter(Access),
-    Pend,
-    Settle,
-    Leave(Access),
-    RollBack,
-}
-
 /// Where a thread stands, and what its call remembers.
 #[derive(Clone, Copy, Debug, PartialEq, Eq)]
 pub struct RwLockPlace {
@@ -96,97 +80,12 @@ pub struct RwLockPlace {
     pub at: RwLockAt,
 }
 
-/// What a right adds to the word.
-pub fn token(access: Access) -> u64
-    ensures { result ≡ token (wanted access) }
-{
-    match access {
-        Access::Shared => READER,
-        Access::Upgradable => READER + UPGRADABLE,
-        Access::Exclusive => WRITER,
-    }
-}
-
-/// The want of a thread that waits for a right.
-pub fn wanted(access: Access) -> Want
-    ensures { result ≡ wanted access }
-{
-    match access {
-        Access::Shared => Want::Shared,
-        Access::Upgradable => Want::Upgradable,
-        Access::Exclusive => Want::Exclusive,
-    }
-}
-
-/// What a call answers with its right: one that waits for ever `Ok`, another `Yes`.
-pub(super) fn entered(patience: Patience) -> Answer
-    ensures { result ≡ entered patience }
-{
-    match patience {
-        Patience::Patient => Answer::Ok,
-        Patience::Timed | Patience::Try => Answer::Yes,
-    }
-}
-
 impl Admission {
     /// Whether a word keeps a thread out that wants this right.
     pub fn blocks(self, access: Access, word: u64) -> bool
         ensures { result ≡ codes.is_blocked self.recursive (wanted access) word }
     {
         is_blocked(self.recursive, wanted(access), word)
-    }
-}
-
-impl RwLockPurpose {
-    /// The right that the call enters for, or gives up.
-    pub fn access(self) -> Access
-        ensures { result ≡ access_of self }
-    {
-        match self {
-            RwLockPurpose::Enter { access, .. } | RwLockPurpose::Release(access) => access,
-        }
-    }
-
-    /// How long the call waits.
-    pub fn patience(self) -> Patience
-        ensures { result ≡ patience_of self }
-    {
-        match self {
-            RwLockPurpose::Enter { patience, .. } => patience,
-            RwLockPurpose::Release(_) => Patience::Patient,
-        }
-    }
-
-    /// What the call answers behind a wake: a release has done its part, and who entered has given up.
-    fn ends_with(self) -> Answer
-        ensures { result ≡ ends_with self }
-    {
-        match self {
-            RwLockPurpose::Enter { .. } => Answer::No,
-            RwLockPurpose::Release(_) => Answer::Ok,
-        }
-    }
-}
-
-/// Behind an exchange that succeeded.
-fn comes_in(decision: Decision, access: Access) -> Change
-    ensures { result ≡ comes_in decision access }
-{
-    match (decision, access) {
-        (Decision::Take, Access::Exclusive) => Change::Pend,
-        (Decision::Take, _) => Change::Enter(access),
-        _ => Change::Nothing,
-    }
-}
-
-/// Of a pending writer that saw this.
-fn settles(seen: u64) -> Change
-    ensures { result ≡ settles seen }
-{
-    if count_in(seen) == 0 {
-        Change::Settle
-    } else {
-        Change::Nothing
     }
 }
 
@@ -218,25 +117,21 @@ impl RwLockPlace {
             },
             RwLockAt::Load | RwLockAt::Look => Act::Word { lock, op: Op::Load },
             RwLockAt::Decide(seen) => {
-                decided_act(
-                    lock,
-                    admission.decide(access, self.purpose.patience(), seen),
-                    access,
-                    seen,
-                )
+                let purpose = self.purpose;
+                decided_act(lock, admission.decided(purpose, seen), purpose, seen)
             }
             RwLockAt::Park(at) => park_act(lock, admission, access, Line::Main, at),
             RwLockAt::Count(seen) => count_act(lock, seen),
             RwLockAt::Aside(at) => park_act(lock, admission, access, Line::Second, at),
             RwLockAt::RollBack => Act::Word {
                 lock,
-                op: Op::Sub(WRITER),
+                op: self.purpose.rollback_op(),
             },
             RwLockAt::GiveWay => Act::Word {
                 lock,
-                op: Op::Sub(token(access)),
+                op: self.purpose.give_op(),
             },
-            RwLockAt::Wake { line, at } => wake_act(lock, admission, line, at),
+            RwLockAt::Wake { line, at } => wake_act(lock, admission, self.purpose, line, at),
         }
     }
 
@@ -259,65 +154,6 @@ impl RwLockPlace {
         }
     }
 
-    /// Who owns the lock after the thread's operation on the word, which saw this value; the number of its shared rights
-    /// stands apart.
-    pub fn owners_after(
-        self,
-        admission: Admission,
-        thread: usize,
-        seen: u64,
-        owners: Owners,
-    ) -> Owners
-        ensures { result ≡ rwlock_owners admission self thread seen owners }
-    {
-        match self.change(admission, seen) {
-            Change::Nothing | Change::Enter(Access::Shared) | Change::Leave(Access::Shared) =>
-                owners,
-            Change::Enter(Access::Upgradable) => owners.with_upgradable(Some(thread)),
-            Change::Enter(Access::Exclusive) => owners.with_exclusive(Some(thread)),
-            Change::Pend => owners.with_pending(Some(Pending {
-                thread,
-                fallback: Fallback::Nothing,
-            })),
-            Change::Settle => owners.with_pending(None).with_exclusive(Some(thread)),
-            Change::Leave(Access::Upgradable) => owners.with_upgradable(None),
-            Change::Leave(Access::Exclusive) => owners.with_exclusive(None),
-            Change::RollBack => owners.with_pending(None),
-        }
-    }
-
-    /// How many shared rights the thread has then, where their number changes.
-    pub fn shares_after(self, admission: Admission, seen: u64, shares: usize) -> Option<usize>
-        ensures { result ≡ rwlock_shares admission self seen shares }
-    {
-        match self.change(admission, seen) {
-            Change::Enter(Access::Shared) => Some(shares.wrapping_add(1)),
-            Change::Leave(Access::Shared) => Some(shares.saturating_sub(1)),
-            _ => None,
-        }
-    }
-
-    /// What the operation on the word does to the lock's owners, which saw this value.
-    fn change(self, admission: Admission, seen: u64) -> Change
-        ensures { result ≡ change admission self seen }
-    {
-        let access = self.purpose.access();
-        match self.at {
-            RwLockAt::First if seen == 0 => Change::Enter(Access::Exclusive),
-            RwLockAt::Decide(expected) if seen == expected => {
-                comes_in(
-                    admission.decide(access, self.purpose.patience(), expected),
-                    access,
-                )
-            }
-            RwLockAt::Look => settles(seen),
-            RwLockAt::Count(expected) if seen != expected => settles(seen),
-            RwLockAt::RollBack => Change::RollBack,
-            RwLockAt::GiveWay => Change::Leave(access),
-            _ => Change::Nothing,
-        }
-    }
-
     /// The thread that took this one from a queue, and has not left its section yet.
     pub fn taker(self) -> Option<usize>
         ensures { result ≡ rwlock_taker self }
@@ -335,8 +171,10 @@ impl RwLockPlace {
         ensures { result ≡ rwlock_wants self }
     {
         match self.purpose {
-            RwLockPurpose::Enter { access, .. } => Some(wanted(access)),
-            RwLockPurpose::Release(_) => None,
+            RwLockPurpose::Enter { .. } | RwLockPurpose::Upgrade(_) => {
+                Some(wanted(self.purpose.access()))
+            }
+            RwLockPurpose::Release(_) | RwLockPurpose::Downgrade(_) => None,
         }
     }
 
@@ -346,9 +184,7 @@ impl RwLockPlace {
     {
         match self.at {
             RwLockAt::Decide(seen) => {
-                let patience = self.purpose.patience();
-                admission.decide(self.purpose.access(), patience, seen) == Decision::Mark
-                    && !has_aside(seen)
+                admission.decided(self.purpose, seen) == Decision::Mark && !has_aside(seen)
             }
             RwLockAt::Count(_) => true,
             _ => false,

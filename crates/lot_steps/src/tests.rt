@@ -1,3 +1,5 @@
+mod rwlock;
+
 ghost use Rattle.std.specs.Prelude.{◌≡◌};
 
 use crate::{

@@ -8,14 +8,15 @@
 //! | `Decide(v)`, blocked, without `PARKED` | exchanges `v` for `v + PARKED`, or loads again as it spins | decides |
 //! | `Decide(v)`, blocked, with `PARKED` | enters the main section | `Park` |
 //!
-//! A try that is blocked ends with `No`. Whoever counts, and isn't blocked, ends with `ReadersFull` where the count is at the limit.
+//! A try to upgrade decides the same way: it takes where nobody else shares, and else ends with `No`. A try that is blocked ends with `No`. Whoever counts, and isn't blocked, ends with `ReadersFull` where the count is at the limit.
 ghost use Rattle.std.specs.Prelude.{◌≡◌, ◌<◌, ◌^◌};
-ghost use Rattle.lot_steps.specs.RwLockSteps.{wanted, decision, decided_act, exchange, first_next, looked, came_in, exchanged_next, decided_next};
+ghost use Rattle.lot_steps.specs.RwLockSteps.{wanted, decision, decided_for, decided_act, exchange, first_next, looked, came_in, exchanged_next, decided_next};
 
 use crate::acts::{Act, Next, Reply};
 use crate::bits::{count_in, has_parked};
 use crate::rwlock::park::ParkAt;
-use crate::rwlock::{Admission, PARKED, RwLockAt, RwLockPlace, entered, token};
+use crate::rwlock::purposes::{RwLockPurpose, entered};
+use crate::rwlock::{Admission, PARKED, RwLockAt, RwLockPlace};
 use lot_base::{Keys, Op, main_key};
 use lot_calls::{Access, Answer, Patience};
 
@@ -49,6 +50,19 @@ impl Admission {
     }
 }
 
+impl Admission {
+    /// What a call does about a word that it saw.
+    pub fn decided(self, purpose: RwLockPurpose, word: u64) -> Decision
+        ensures { result ≡ decided_for self purpose word }
+    {
+        match purpose {
+            RwLockPurpose::Upgrade(_) if count_in(word) == 1 => Decision::Take,
+            RwLockPurpose::Upgrade(_) => Decision::Refuse(Answer::No),
+            _ => self.decide(purpose.access(), purpose.patience(), word),
+        }
+    }
+}
+
 /// One exchange on the word.
 pub(super) fn exchange(lock: usize, from: u64, to: u64) -> Act
     ensures { result ≡ exchange lock from to }
@@ -60,12 +74,12 @@ pub(super) fn exchange(lock: usize, from: u64, to: u64) -> Act
 }
 
 /// What a thread does about a value that it saw.
-pub(super) fn decided_act(lock: usize, decision: Decision, access: Access, seen: u64) -> Act
+pub(super) fn decided_act(lock: usize, decision: Decision, purpose: RwLockPurpose, seen: u64) -> Act
     requires { lock < 2 ^ 63 }
-    ensures { result ≡ decided_act lock (wanted access) seen decision }
+    ensures { result ≡ decided_act lock purpose seen decision }
 {
     match decision {
-        Decision::Take => exchange(lock, seen, seen.wrapping_add(token(access))),
+        Decision::Take => exchange(lock, seen, purpose.taken(seen)),
         Decision::Mark => exchange(lock, seen, seen.wrapping_add(PARKED)),
         Decision::Park => Act::Enter(Keys::One(main_key(lock))),
         Decision::Refuse(answer) => Act::End(answer),
@@ -87,7 +101,7 @@ pub(super) fn next_first(place: RwLockPlace, seen: u64) -> Next<RwLockPlace>
 pub(super) fn looked(place: RwLockPlace, admission: Admission, seen: u64) -> Next<RwLockPlace>
     ensures { result ≡ looked admission place seen }
 {
-    match admission.decide(place.purpose.access(), place.purpose.patience(), seen) {
+    match admission.decided(place.purpose, seen) {
         Decision::Refuse(answer) => Next::End(answer),
         _ => place.goes(RwLockAt::Decide(seen), place.retries),
     }
@@ -97,8 +111,11 @@ pub(super) fn looked(place: RwLockPlace, admission: Admission, seen: u64) -> Nex
 fn came_in(place: RwLockPlace) -> Next<RwLockPlace>
     ensures { result ≡ came_in place }
 {
-    match place.purpose.access() {
-        Access::Exclusive => place.goes(RwLockAt::Look, false),
+    match place.purpose {
+        RwLockPurpose::Enter {
+            access: Access::Exclusive,
+            ..
+        } => place.goes(RwLockAt::Look, false),
         _ => Next::End(entered(place.purpose.patience())),
     }
 }
@@ -135,8 +152,7 @@ pub(super) fn next_decided(
 {
     match reply {
         Reply::Value(seen) => {
-            let RwLockPlace { purpose, .. } = place;
-            let decision = admission.decide(purpose.access(), purpose.patience(), expected);
+            let decision = admission.decided(place.purpose, expected);
             exchanged(place, admission, expected, seen, decision)
         }
         Reply::Spun(seen) => looked(place, admission, seen),

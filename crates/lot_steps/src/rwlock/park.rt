@@ -15,7 +15,8 @@ ghost use Rattle.lot_base.specs.Keys.{key_of};
 ghost use Rattle.lot_steps.specs.RwLockProfiles.{is_inside};
 
 use crate::acts::{Act, Check, Next, Reply, Wakes};
-use crate::rwlock::{Admission, NOT_PARKED, NOT_WRITER_PARKED, RwLockAt, RwLockPlace, wanted};
+use crate::rwlock::purposes::wanted;
+use crate::rwlock::{Admission, NOT_PARKED, NOT_WRITER_PARKED, RwLockAt, RwLockPlace};
 use lot_base::{Keys, Line, Note, Op};
 use lot_calls::{Access, Answer};
 

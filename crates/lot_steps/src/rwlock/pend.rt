@@ -5,7 +5,7 @@
 //! | `Look` | loads | owns where nobody shares, else `Count` |
 //! | `Count(v)`, without `WRITER_PARKED` | exchanges `v` for `v + WRITER_PARKED`, or loads again as it spins | `Count`, or owns |
 //! | `Count(v)`, with `WRITER_PARKED` | enters the second section, or loads again as it spins | `Aside`, or as `Look` |
-//! | `RollBack` | subtracts `WRITER` | ends with `No`, or wakes those in the main queue first |
+//! | `RollBack` | subtracts `WRITER`; an upgrade has the upgradable right again | ends with `No`, or wakes those in the main queue first |
 ghost use Rattle.std.specs.Prelude.{◌≡◌, ◌<◌, ◌^◌};
 ghost use Rattle.lot_steps.specs.RwLockSteps.{count_act, counted, count_next, rolled_back};
 
@@ -13,8 +13,9 @@ use crate::acts::{Act, Next, Reply};
 use crate::bits::{count_in, has_aside, has_parked};
 use crate::rwlock::enter::exchange;
 use crate::rwlock::park::ParkAt;
+use crate::rwlock::purposes::entered;
 use crate::rwlock::release::wakes;
-use crate::rwlock::{RwLockAt, RwLockPlace, WRITER_PARKED, entered};
+use crate::rwlock::{RwLockAt, RwLockPlace, WRITER_PARKED};
 use lot_base::{Keys, Line};
 use lot_calls::Answer;
 

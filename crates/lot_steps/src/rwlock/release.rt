@@ -1,23 +1,24 @@
-//! How a thread gives a right up, and wakes whom that lets in.
+//! How a thread gives a right up or turns it into another, and wakes whom that lets in.
 //!
 //! | place | does | then |
 //! |---|---|---|
-//! | `GiveWay` | subtracts its right from the word | ends, or wakes those of a queue |
+//! | `GiveWay` | one sum or difference on the word (see `purposes`) | ends, or wakes those of a queue; an upgrade beside readers is pending |
 //! | `Wake`, `Enter` | enters the section of the queue | `Take` |
 //! | `Take` | takes the picked of the main queue, or the writer aside | `Clear` where nobody is left there, and of the second queue always, else `Leave` |
 //! | `Clear` | clears the parked bit of the queue | `Leave` |
 //! | `Leave` | leaves the section and wakes whom it has taken | ends |
 //!
-//! The last reader wakes the writer aside, where one may stand there; every other release those in the main queue.
+//! The last reader wakes the writer aside, where one may stand there; every other release, and every downgrade, those in the main queue.
 ghost use Rattle.std.specs.Prelude.{◌≡◌, ◌<◌, ◌^◌};
 ghost use Rattle.lot_base.specs.Keys.{key_of};
-ghost use Rattle.lot_steps.specs.RwLockSteps.{wakes, gave_way, whom, wake_act, took, wake_next};
+ghost use Rattle.lot_steps.specs.RwLockSteps.{wakes, wakes_or_ends, gave_way, whom, wake_act, took, wake_next};
 
 use crate::acts::{Act, Next, Reply, Wakes, Whom};
 use crate::bits::{count_in, has_aside, has_parked};
 use crate::rwlock::park::{clears, unparked};
+use crate::rwlock::purposes::{RwLockPurpose, entered};
 use crate::rwlock::{Admission, RwLockAt, RwLockPlace};
-use lot_base::{Keys, Line, Note};
+use lot_base::{Keys, Line, Note, Want};
 use lot_calls::{Access, Answer};
 
 #[derive(Clone, Copy, Debug, PartialEq, Eq)]
@@ -44,40 +45,60 @@ pub(super) fn wakes(line: Line) -> RwLockAt
 pub(super) fn gave_way(place: RwLockPlace, seen: u64) -> Next<RwLockPlace>
     ensures { result ≡ gave_way place seen }
 {
-    match place.purpose.access() {
-        Access::Shared if has_aside(seen) && count_in(seen) == 1 => {
-            place.goes(wakes(Line::Second), place.retries)
+    match place.purpose {
+        RwLockPurpose::Enter {
+            access: Access::Shared,
+            ..
         }
-        Access::Upgradable | Access::Exclusive if has_parked(seen) => {
-            place.goes(wakes(Line::Main), place.retries)
+        | RwLockPurpose::Release(Access::Shared) => {
+            sees_waiter(place, Line::Second, has_aside(seen) && count_in(seen) == 1)
         }
-        _ => Next::End(Answer::Ok),
+        RwLockPurpose::Upgrade(patience) if count_in(seen) == 1 => Next::End(entered(patience)),
+        RwLockPurpose::Upgrade(_) => place.goes(RwLockAt::Look, false),
+        _ => sees_waiter(place, Line::Main, has_parked(seen)),
+    }
+}
+
+/// Where a thread goes that saw somebody to wake, or nobody.
+fn sees_waiter(place: RwLockPlace, line: Line, is_there: bool) -> Next<RwLockPlace>
+    ensures { result ≡ wakes_or_ends place line is_there }
+{
+    if is_there {
+        place.goes(wakes(line), place.retries)
+    } else {
+        Next::End(Answer::Ok)
     }
 }
 
 /// Whom a thread takes of a queue: those whom the lock lets in, or the writer aside.
-fn whom(admission: Admission, line: Line) -> Whom
-    ensures { result ≡ whom admission line }
+fn whom(admission: Admission, start: Option<Want>, line: Line) -> Whom
+    ensures { result ≡ whom admission start line }
 {
     match line {
         Line::Main => Whom::Picked {
-            start: None,
+            start,
             recursive: admission.recursive,
         },
         Line::Second => Whom::First,
     }
 }
 
-pub(super) fn wake_act(lock: usize, admission: Admission, line: Line, at: WakeAt) -> Act
+pub(super) fn wake_act(
+    lock: usize,
+    admission: Admission,
+    purpose: RwLockPurpose,
+    line: Line,
+    at: WakeAt,
+) -> Act
     requires { lock < 2 ^ 63 }
-    ensures { result ≡ wake_act lock admission line at }
+    ensures { result ≡ wake_act lock admission purpose line at }
 {
     let key = line.key(lock);
     match at {
         WakeAt::Enter => Act::Enter(Keys::One(key)),
         WakeAt::Take => Act::Take {
             key,
-            whom: whom(admission, line),
+            whom: whom(admission, purpose.start(), line),
         },
         WakeAt::Clear { .. } => Act::Word {
             lock,
