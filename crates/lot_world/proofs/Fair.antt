@@ -43,12 +43,15 @@ use Rattle.abstract_locks.specs.Runs.{LocksState, CallState, Event, Nothing, AtL
 use Rattle.lot_world.specs.Refinement.{lock_state, locks_of, call_state, owner_at}
 use Rattle.lot_world.specs.Fair.{IsFairRelease, OwnsOn, HandsOver, LetsGo, IsFair}
 use Rattle.lot_world.proofs.ExclusiveOwners.{owner_after, exclusive-owners, by_code}
-use Rattle.lot_world.proofs.Glue.{IsTakenAt, is_taken, own_stance, heir_one}
+use Rattle.lot_world.proofs.Glue.{IsTakenAt, is_taken, own_stance, successor_one}
 use Rattle.lot_world.proofs.AtPlaces.{coded as words_coded, in_no_hand}
 use Rattle.lot_world.proofs.TurnsKept.{after_steady}
 use Rattle.lot_world.proofs.Glue.{same}
 use Rattle.lot_world.proofs.MutexTable.{mutex}
 use Rattle.lot_world.proofs.StandsMoved.{mutex_rules}
+use Rattle.lot_world.proofs.SitesKept.{unshared_at}
+use Rattle.lot_steps.specs.declared.owners.Owners.{Owners}
+use Rattle.lot_steps.specs.MutexSteps.{with_exclusive}
 use Rattle.lot_world.proofs.LockEvents.{rights}
 use Rattle.lot_world.proofs.LockSteps.{after_step}
 use Rattle.abstract_locks.proofs.Runs.{needs_of}
@@ -191,7 +194,7 @@ module _ (w : State) (t l : ℕ) (shape : IsShaped w) (steady : IsSteady w) (own
     hand_off_gives bumps (hand_off.Store true none_left) is = let one = steady.stands.hands.carried t l false (ap (λ x. x.carries) (own_stance l (place_at w t) _ is)) in inr (inl (
       one.0,
       by_taken one.0 (is_taken (place_at w one.0) t l one.1),
-      ap (λ x. x.owners.exclusive) (get_or-set_same w.locks l _ (unlocked kind.TheVariants.Mutex) lt) ∙ heir_one w t l one.0 false steady.stands.hands (rw is refl) one.1,
+      ap (λ x. x.owners.exclusive) (get_or-set_same w.locks l _ (unlocked kind.TheVariants.Mutex) lt) ∙ ap (λ (o : Owners). o.exclusive) (successor_one w t l one.0 false steady.stands.hands (rw is refl) one.1 (unshared_at w t l (HandOff bumps (hand_off.Store true none_left)) steady is) (with_exclusive (owners_at w l) None)),
     ))
       where
         by_taken : (u : ℕ) → IsTakenAt (place_at w u) t l → IsTaken (lock_state w l) t u Exclusive

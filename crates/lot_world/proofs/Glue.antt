@@ -10,13 +10,13 @@ use Rattle.lot_steps.specs.declared.places.Place.{Place}
 use Rattle.lot_steps.specs.declared.places.Place.TheVariants.{Idle, Mutex}
 use Rattle.lot_steps.specs.declared.mutex.lock.Entry.{Entry}
 use Rattle.lot_steps.specs.declared.mutex.MutexPlace.{MutexPlace}
-use Rattle.lot_steps.specs.declared.mutex.MutexPlace.TheVariants.{Lock, HandOff}
+use Rattle.lot_steps.specs.declared.mutex.MutexPlace.TheVariants.{Lock, TryLock, Unlock, UnlockFair, Bump, HandOff}
 use Rattle.lot_steps.specs.declared.mutex.lock.LockAt.TheVariants as lock
 use Rattle.lot_steps.specs.declared.mutex.hand_off.HandOffAt.TheVariants as hand_off
 use Rattle.lot_steps.specs.declared.acts.Reply.{Reply}
 use Rattle.lot_steps.specs.declared.acts.Reply.TheVariants.{Woken, TakenBy, HandedBy}
 use Rattle.abstract_locks.specs.Codes.{parked_in, aside_in}
-use Rattle.std.proofs.Math.Bool.{or-false}
+use Rattle.std.proofs.Math.Bool.{or-false, and-false}
 use Rattle.lot_steps.specs.MutexSteps.{is_parked}
 use Rattle.lot_steps.specs.declared.acts.Next.{Next}
 use Rattle.lot_steps.specs.declared.acts.Next as next
@@ -28,7 +28,8 @@ use Rattle.std.specs.Prelude.{sum, ◌&&◌, ◌||◌}
 use Rattle.lot_steps.specs.MutexSteps.{is_thread, with_exclusive}
 use Rattle.abstract_locks.specs.Locks as locks
 use Rattle.abstract_locks.specs.Sites.{Doing, Has, Site, Main, Begin, Out, Mark, Clear, Case, idle, leaves, wakened, taking_main, is_full, after_deed}
-use Rattle.lot_world.specs.Machine.{State, place_at, word_at, owners_at, shares_at, filled_at, queue_at, place_after_telling, state_after_telling, heir_from, state_after_reply, put}
+use Rattle.lot_world.specs.Machine.{State, place_at, word_at, owners_at, shares_at, filled_at, queue_at, place_after_telling, state_after_telling, held, shares_in_hand, with_share, shares_given, wants_more_in_hand, successor_or, successor_from, pending_for, owners_of_successor, shares_handed_over, owners_handed_over, state_after_reply, put}
+use Rattle.lot_world.specs.declared.machine.Successor.{Successor}
 use Rattle.lot_world.specs.Refinement.{lock_seen, taken_at}
 use Rattle.lot_world.specs.MutexDeeds.{Act, Station, hand, mutex_doing, mutex_station, station, station_at, nowhere, calls, doing_on, queued}
 use Rattle.lot_world.specs.SitesOf.{site_of, rules_at, after_acts, carried_at, hand_at, Hands}
@@ -319,10 +320,58 @@ told_in t reply [] u held only = absurd cc
 told_in t reply (p ∷ ps) zero held only = λ i. ap (λ b. if b then next_place p reply else p) held i ∷ told_out t reply ps (λ x. only (suc x) (λ e. omega arith)) i
 told_in t reply (p ∷ ps) (suc u) held only = λ i. ap (λ b. if b then next_place p reply else p) (only 0 (λ e. omega arith)) i ∷ told_in t reply ps u held (λ x ne. only (suc x) (λ e. ne (omega arith))) i
 
-heir_in : (t k : ℕ) (ps : List Place) (u : ℕ) → is_thread t (taker (get_or ps u Idle)) ≡ true → ((x : ℕ) → x ≢ u → is_thread t (taker (get_or ps x Idle)) ≡ false) → heir_from t k ps ≡ Some (k + u)
-heir_in t k [] u held only = absurd cc
-heir_in t k (p ∷ ps) zero held only = ap (λ b. if b then Some k else heir_from t (suc k) ps) held ∙ ap Some (let e : k ≡ k + 0 = omega arith in e)
-heir_in t k (p ∷ ps) (suc u) held only = ap (λ b. if b then Some k else heir_from t (suc k) ps) (only 0 (λ e. omega arith)) ∙ heir_in t (suc k) ps u held (λ x ne. only (suc x) (λ e. ne (omega arith))) ∙ ap Some (let e : suc k + u ≡ k + suc u = omega arith in e)
+-- nobody who is in a hand at a mutex wants to share
+no_sharer : (t : ℕ) (p : Place) → shares_in_hand t (held p) ≡ false
+no_sharer t Idle = refl
+no_sharer t (Mutex k (Lock e r (lock.Taken by))) = and-false (by == t)
+no_sharer t (Mutex k (Lock e r (lock.Handed by))) = and-false (by == t)
+no_sharer t (Mutex k (Lock e r lock.First)) = refl
+no_sharer t (Mutex k (Lock e r a)) = refl
+no_sharer t (Mutex k TryLock) = refl
+no_sharer t (Mutex k (Unlock a)) = refl
+no_sharer t (Mutex k UnlockFair) = refl
+no_sharer t (Mutex k Bump) = refl
+no_sharer t (Mutex k (HandOff b a)) = refl
+
+-- so nobody gets a share
+pub none_given : (t : ℕ) (ps : List Place) (ns : List ℕ) → shares_given t ps ns ≡ ns
+none_given t [] ns = refl
+none_given t (p ∷ ps) [] = refl
+none_given t (p ∷ ps) (n ∷ ns) = λ i. ap (λ b. with_share b n) (no_sharer t p) i ∷ none_given t ps ns i
+
+-- whoever is in a hand there wants to own alone
+wants_all : (t : ℕ) (p : Place) → is_thread t (taker p) ≡ true → wants_more_in_hand t (held p) ≡ Some Exclusive
+wants_all t (Mutex k (Lock e r (lock.Taken by))) h = ap (λ b. if b && true then Some Exclusive else None) h
+wants_all t (Mutex k (Lock e r (lock.Handed by))) h = ap (λ b. if b && true then Some Exclusive else None) h
+wants_all t Idle h = absurd cc
+wants_all t (Mutex k (Lock e r lock.First)) h = absurd cc
+wants_all t (Mutex k (Lock e r a)) h = absurd cc
+wants_all t (Mutex k TryLock) h = absurd cc
+wants_all t (Mutex k (Unlock a)) h = absurd cc
+wants_all t (Mutex k UnlockFair) h = absurd cc
+wants_all t (Mutex k Bump) h = absurd cc
+wants_all t (Mutex k (HandOff b a)) h = absurd cc
+
+wants_none : (t : ℕ) (p : Place) → is_thread t (taker p) ≡ false → wants_more_in_hand t (held p) ≡ None
+wants_none t (Mutex k (Lock e r (lock.Taken by))) h = ap (λ b. if b && true then Some Exclusive else None) h
+wants_none t (Mutex k (Lock e r (lock.Handed by))) h = ap (λ b. if b && true then Some Exclusive else None) h
+wants_none t Idle h = refl
+wants_none t (Mutex k (Lock e r lock.First)) h = refl
+wants_none t (Mutex k (Lock e r a)) h = refl
+wants_none t (Mutex k TryLock) h = refl
+wants_none t (Mutex k (Unlock a)) h = refl
+wants_none t (Mutex k UnlockFair) h = refl
+wants_none t (Mutex k Bump) h = refl
+wants_none t (Mutex k (HandOff b a)) h = refl
+
+abbrev successor_is : ℕ → Successor
+successor_is u = record { thread = u; want = Exclusive }
+
+successor_in : (t k : ℕ) (ps : List Place) (u : ℕ) → is_thread t (taker (get_or ps u Idle)) ≡ true → ((x : ℕ) → x ≢ u → is_thread t (taker (get_or ps x Idle)) ≡ false) → successor_from t k ps ≡ Some (successor_is (k + u))
+successor_in t k [] u held_by only = absurd cc
+successor_in t k (p ∷ ps) zero held_by only = ap (λ o. successor_or k o (successor_from t (suc k) ps)) (wants_all t p held_by) ∙ ap (λ n. Some (successor_is n)) (let e : k ≡ k + 0 = omega arith in e)
+successor_in t k (p ∷ ps) (suc u) held_by only = ap (λ o. successor_or k o (successor_from t (suc k) ps)) (wants_none t p (only 0 (λ e. omega arith)))
+    ∙ successor_in t (suc k) ps u held_by (λ x ne. only (suc x) (λ e. ne (omega arith))) ∙ ap (λ n. Some (successor_is n)) (let e : suc k + u ≡ k + suc u = omega arith in e)
 
 -- who is in a hand by the place is so by the taker
 held_taker : (p : Place) (t l : ℕ) (b : Bool) → hand_at p l ≡ hand t b → is_thread t (taker p) ≡ true
@@ -358,8 +407,11 @@ only_held p hands t l u b of held x ne = either (is_thread t (taker (p x))) refl
 pub told_one : (w : State) (t l u : ℕ) (b : Bool) (reply : Reply) → Hands (place_at w) → IsOf l (place_at w t) → hand_at (place_at w u) l ≡ hand t b → state_after_telling w t reply ≡ state_after_reply w u reply
 told_one w t l u b reply hands of held = λ i. record w { places = told_in t reply w.places u (held_taker (place_at w u) t l b held) (only_held (place_at w) hands t l u b of held) i }
 
-pub heir_one : (w : State) (t l u : ℕ) (b : Bool) → Hands (place_at w) → IsOf l (place_at w t) → hand_at (place_at w u) l ≡ hand t b → heir_from t 0 w.places ≡ Some u
-heir_one w t l u b hands of held = heir_in t 0 w.places u (held_taker (place_at w u) t l b held) (only_held (place_at w) hands t l u b of held) ∙ ap Some (let e : 0 + u ≡ u = omega arith in e)
+-- and it owns when t hands the lock over
+pub successor_one : (w : State) (t l u : ℕ) (b : Bool) → Hands (place_at w) → IsOf l (place_at w t) → hand_at (place_at w u) l ≡ hand t b → sum (shares_at w l) ≡ 0 → (o : Owners) → owners_handed_over w t l o ≡ with_exclusive o (Some u)
+successor_one w t l u b hands of held_at unshared o =
+    ap (λ s. owners_of_successor (sum (shares_handed_over w t l)) s o) (successor_in t 0 w.places u (held_taker (place_at w u) t l b held_at) (only_held (place_at w) hands t l u b of held_at) ∙ ap (λ n. Some (successor_is n)) (let e : 0 + u ≡ u = omega arith in e))
+    ∙ ap (λ (n : ℕ). if n == 0 then with_exclusive o (Some u) else pending_for u o) (ap sum (none_given t w.places (shares_at w l)) ∙ unshared)
 
 -- ---------------------------------------------------------------- a release wakes whom it has taken
 

@@ -1,4 +1,5 @@
 pub mod QueueLemmas
+pub mod Shares
 pub mod Opening
 pub mod Shape
 pub mod KindsKept

@@ -31,15 +31,15 @@ use Rattle.abstract_locks.specs.Codes.{code}
 use Rattle.abstract_locks.specs.Purposes.{rules_of}
 use Rattle.abstract_locks.proofs.SiteKeeps.{deed_keeps}
 use Rattle.std.specs.Prelude.{sum}
-use Rattle.lot_world.specs.Machine.{State, unlocked, place_at, word_at, owners_at, shares_at, filled_at, kind_at, queue_at, put, state_after_operation, state_with_sections, section_at, queues_without_first, state_after_reply, state_after_telling, state_after_hand_over, state_after_act, reply_to}
+use Rattle.lot_world.specs.Machine.{State, shares_handed_over, unlocked, place_at, word_at, owners_at, shares_at, filled_at, kind_at, queue_at, put, state_after_operation, state_with_sections, section_at, queues_without_first, state_after_reply, state_after_telling, state_after_hand_over, state_after_act, reply_to}
 use Rattle.lot_world.specs.Refinement.{taken_at}
 use Rattle.abstract_locks.specs.Picks.{queued_of}
 use Rattle.lot_world.specs.MutexDeeds.{Station, hand, nowhere, mutex_doing, mutex_deeds, mutex_station, station, station_at, doing_on, acts, owner, queued}
 use Rattle.lot_world.specs.MutexDeeds as deeds
 use Rattle.lot_world.specs.SitesOf.{site_of, rules_at, AllNeeded, IsSteady, Follows, Goes, CallsMutex, carried_at, hand_at, after_acts}
-use Rattle.lot_world.proofs.Glue.{base_at, seen_by, seen, site_seen, goes_from, put_places, put_here, put_other, IsOf, next_of, doing_elsewhere, taken_elsewhere, inside_is, own_stance, LetGo, leaving, taking, told_one, heir_one, lets_taken, lets_handed, lets_nobody, IsTakenAt, is_taken, IsHandedAt, is_handed, untaken, handing, hands_acts}
+use Rattle.lot_world.proofs.Glue.{base_at, seen_by, seen, site_seen, goes_from, put_places, put_here, put_other, IsOf, next_of, doing_elsewhere, taken_elsewhere, inside_is, own_stance, LetGo, leaving, taking, told_one, successor_one, none_given, lets_taken, lets_handed, lets_nobody, IsTakenAt, is_taken, IsHandedAt, is_handed, untaken, handing, hands_acts}
 use Rattle.lot_world.proofs.MutexTable.{mutex, IsCode, OnWord, Steps, same_filled, own_doing, goes_in as goes_into}
-use Rattle.lot_world.proofs.KindsKept.{operated_kinds, operated_filled, given_kinds, given_filled}
+use Rattle.lot_world.proofs.KindsKept.{operated_kinds, operated_filled, given_kinds, given_filled, given_shares}
 use Rattle.lot_world.specs.SitesOf.{is_mutex}
 use Rattle.lot_world.proofs.StandsMoved.{mutex_rules, still, goes_in, goes_out, lets_go, hands_lock, takes}
 use Rattle.lot_world.proofs.MutexSections.{hands_needed, take_needed, first_wants}
@@ -134,6 +134,14 @@ goes_steady w v l ds steady g = record {
   where
     unfilled_here : has_readers (rules_at w l).sort ≡ false → filled_at v l ≡ false
     unfilled_here h = ap (λ (s : Site). s.filled) g.follows.site ∙ same_filled (rules_at w l) ds (site_of w l) h ∙ steady.sites.unfilled l h
+
+-- nobody shares a mutex
+pub mutex_unshared : (w : State) (l : ℕ) → IsSteady w → rules_at w l ≡ mutex → sum (shares_at w l) ≡ 0
+mutex_unshared w l steady rules = (subst (λ r. IsSite r (lock_by w l r)) rules (steady.sites.site l)).state.unshared (λ h. h)
+
+-- so it is where a thread calls one
+pub unshared_at : (w : State) (t l : ℕ) (at : MutexPlace) → IsSteady w → place_at w t ≡ Mutex l at → sum (shares_at w l) ≡ 0
+unshared_at w t l at steady is = mutex_unshared w l steady (mutex_rules (kind_at w l) (let c : CallsMutex w (Mutex l at) = rw is at (steady.stands.calls t) in c))
 
 -- ---------------------------------------------------------------- what the acts change
 
@@ -332,7 +340,7 @@ module _ (w : State) (t l : ℕ) (steady : IsSteady w) (there : t < length w.pla
   pub hands_over : l < length w.locks → (bumps none_left : Bool) (u : ℕ) → place_at w t ≡ Mutex l (HandOff bumps (hand_off.Store true none_left)) → hand_at (place_at w u) l ≡ hand t false → Goes w (go_by w t (Mutex l (HandOff bumps (hand_off.Store true none_left))) (act.TheVariants.HandOver l (op.Store (hand_off_word true none_left)))) l (acts t (deeds.hands_over (Some u) none_left) ++ deeds.claims_of (Some u))
   hands_over lt bumps none_left u is held = subst (λ (z : State). Goes w (put z t p2) l (acts t (deeds.hands_over (Some u) none_left) ++ deeds.claims_of (Some u))) (sym told) (record {
     follows = follow w after l (rules w t l at steady is there) (putting (putting (place_at w) u pu) t p2) (if none_left then 1 else 3) (with_exclusive (owners_at w l) (Some u)) (queue_at w (2 * l)) places
-        (λ k i. record { shared = get_or w.shares k (replicate ((length-set (set w.places u pu) t p2 ∙ length-set w.places u pu) i) 0); filled = given_filled w t (Mutex l at) l (op.Store (hand_off_word true none_left)) (rules w t l at steady is there) k i })
+        (λ k i. record { shared = ((λ j. get_or (set w.shares l (shares_handed_over w t l)) k (replicate ((length-set (set w.places u pu) t p2 ∙ length-set w.places u pu) j) 0)) ∙ given_shares w t l (none_given t w.places (shares_at w l)) k) i; filled = given_filled w t (Mutex l at) l (op.Store (hand_off_word true none_left)) (rules w t l at steady is there) k i })
         (changed_set (λ x. x.word) w.locks l _ (unlocked kind.TheVariants.Mutex) lt) owners_given
         (unchanged (λ k. queue_at w (2 * k)) l) (λ k. refl) same_kinds
         (λ k ne x. alike_both l k (place_at w) u pu t p2 of_u of_pu own_t refl apart ne x)
@@ -378,7 +386,7 @@ module _ (w : State) (t l : ℕ) (steady : IsSteady w) (there : t < length w.pla
 
       owners_given : Changed (owners_at w) (owners_at after) l (with_exclusive (owners_at w l) (Some u))
       owners_given = record {
-        here = ap (λ x. x.owners) (get_or-set_same w.locks l _ (unlocked kind.TheVariants.Mutex) lt) ∙ ap (with_exclusive (owners_at w l)) (heir_one w t l u false steady.stands.hands own_t held);
+        here = ap (λ x. x.owners) (get_or-set_same w.locks l _ (unlocked kind.TheVariants.Mutex) lt) ∙ successor_one w t l u false steady.stands.hands own_t held (unshared_at w t l at steady is) (with_exclusive (owners_at w l) None);
         other = λ k ne. ap (λ x. x.owners) (get_or-set_other w.locks l k _ (unlocked kind.TheVariants.Mutex) ne);
       }
 
@@ -387,7 +395,7 @@ module _ (w : State) (t l : ℕ) (steady : IsSteady w) (there : t < length w.pla
           ∙ ap (λ (f : ℕ → Place). putting f t p2) (goes_from w u (HandedBy t))
 
       unshared : sum (shares_at w l) ≡ 0
-      unshared = (site_l w t l at steady is there).state.unshared (λ h. h)
+      unshared = mutex_unshared w l steady (rules w t l at steady is there)
 
       coded : (b : Bool) → IsCode (if b then 1 else 3) (Some u)
       coded true = refl

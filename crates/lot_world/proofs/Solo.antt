@@ -37,7 +37,7 @@ use Rattle.lot_steps.specs.MutexSteps.{mutex_first, is_locked, is_parked, entere
 use Rattle.lot_calls.specs.Kinds.{is_fair}
 use Rattle.lot_calls.specs.Calls.{lock_in}
 use Rattle.lot_steps.specs.Steps.{act_of, next_place, next_act, mutex_goes, mutex_does, lock_of, first_place}
-use Rattle.lot_world.specs.Machine.{State, place_at, word_at, kind_at, queue_at, section_at, go_of, after, solo, heir_from, is_there}
+use Rattle.lot_world.specs.Machine.{State, place_at, word_at, kind_at, queue_at, section_at, go_of, after, solo, owners_handed_over, is_there}
 use Rattle.lot_world.specs.Fits.{IsShaped, PlaceFits}
 use Rattle.lot_world.specs.MutexPromises.{IsMutexWord}
 use Rattle.abstract_locks.specs.Sites.{Main, Site}
@@ -55,12 +55,14 @@ use Rattle.lot_world.proofs.StandsMoved.{mutex_rules}
 use Rattle.lot_world.proofs.MutexEvents.{free_word, owned_word, decides}
 use Rattle.lot_world.proofs.LockSteps.{purpose_is}
 use Rattle.lot_world.proofs.Counts.{first_times}
-use Rattle.lot_world.proofs.Glue.{nothing_at, IsTakenAt, put_here, station_here, own_stance, heir_one, same}
+use Rattle.lot_world.proofs.Glue.{nothing_at, IsTakenAt, put_here, station_here, own_stance, successor_one, same}
 use Rattle.lot_world.proofs.SitesPromise.{parked_at}
 use Rattle.lot_steps.specs.declared.mutex.MutexPlace.{MutexPlace}
 use Rattle.lot_steps.specs.declared.acts.Whom as whoms
 use Rattle.lot_world.proofs.LockEvents.{taken_place}
-use Rattle.lot_world.proofs.SitesKept.{go_by}
+use Rattle.lot_world.proofs.SitesKept.{go_by, unshared_at}
+use Rattle.lot_steps.specs.declared.owners.Owners.{Owners}
+use Rattle.lot_steps.specs.MutexSteps.{with_exclusive}
 use Rattle.lot_world.proofs.GoneKept.{gone_goes}
 use Rattle.lot_world.proofs.AtPlaces.{coded as words_coded, absent, owns}
 use Rattle.lot_world.proofs.SoloActs.{Leads, leads_rest, leads_step, Facing, Faces, word_faces, enter_faces, leave_faces, wake_faces, hand_faces, accept_faces, park_faces, unparked_faces, remove_faces, take_faces, act_led}
@@ -289,7 +291,7 @@ module _ (t l : ℕ) where
 
   -- the store, where the heir is this one, if there is any
   store_leads : (bumps none_left : Bool) (to : Option ℕ) (q : List Waiter) (v : ℕ) (o s : Option ℕ) (w : State) → Facing w t l (Mutex l (HandOff bumps (hand_off.Store (is_there to) none_left))) v o s q
-      → ((u : ℕ) → to ≡ Some u → heir_from t 0 w.places ≡ Some u) → Leads 8 w t (FairEnds bumps t l to q)
+      → ((u : ℕ) → to ≡ Some u → (o : Owners) → owners_handed_over w t l o ≡ with_exclusive o (Some u)) → Leads 8 w t (FairEnds bumps t l to q)
   store_leads bumps none_left None q v o s w f heir = let h = word_faces w t l (Mutex l (HandOff bumps (hand_off.Store false none_left))) v o s q f (op.TheVariants.Store 0) refl in
       leads_step w t (FairEnds bumps t l None q) 7 h.0 (told_leads bumps false q 0 None s _ h.1)
   store_leads bumps none_left (Some u) q v o s w f heir = let h = hand_faces w t l (Mutex l (HandOff bumps (hand_off.Store true none_left))) v o s q f (op.TheVariants.Store (hand_off_word true none_left)) u refl (heir u refl) in
@@ -313,8 +315,8 @@ module _ (t l : ℕ) where
         let hand : taken_at (place_at taken_then u) l ≡ Some (record { by = t; want = Exclusive }) = ap (λ (z : Site). z.lock.taken u) goes.follows.site ∙ put_here (λ k. taken_at (place_at w k) l) u (Some (record { by = t; want = Exclusive })) in
         taken_place (place_at taken_then x.thread) t l (rw (← same_one, hand) (same t))
 
-    heir_first : heir_from t 0 (after w (go_of t)).places ≡ Some x.thread
-    heir_first = heir_one (after w (go_of t)) t l x.thread false steady_then.stands.hands (rw here.place refl) (subst (λ (z : State). hand_at (place_at z x.thread) l ≡ hand t false) (sym led) held)
+    heir_first : (o : Owners) → owners_handed_over (after w (go_of t)) t l o ≡ with_exclusive o (Some x.thread)
+    heir_first = successor_one (after w (go_of t)) t l x.thread false steady_then.stands.hands (rw here.place refl) (subst (λ (z : State). hand_at (place_at z x.thread) l ≡ hand t false) (sym led) held) (unshared_at (after w (go_of t)) t l (HandOff bumps (hand_off.Store true (length rest == 0))) steady_then here.place)
       where
         led : after w (go_of t) ≡ taken_then
         led = act_led w t l (Mutex l taking) v o s (x ∷ rest) f refl
@@ -338,7 +340,7 @@ module _ (t l : ℕ) where
   fair_take_leads bumps [] v o s w f = let h = take_faces w t l (Mutex l (HandOff bumps hand_off.Take)) v o s [] f refl in
       leads_step w t (FairEnds bumps t l None []) 8 h.0 (store_leads bumps true None [] v o s _ h.1 (λ u e. absurd cc))
   fair_take_leads bumps (x ∷ rest) v o s w f = let h = take_faces w t l (Mutex l (HandOff bumps hand_off.Take)) v o s (x ∷ rest) f refl in
-      leads_step w t (FairEnds bumps t l (Some x.thread) rest) 8 h.0 (store_leads bumps (length rest == 0) (Some x.thread) rest v o s _ h.1 (λ u e. heir_first bumps v o s x rest w f ∙ e))
+      leads_step w t (FairEnds bumps t l (Some x.thread) rest) 8 h.0 (store_leads bumps (length rest == 0) (Some x.thread) rest v o s _ h.1 (λ u e o2. heir_first bumps v o s x rest w f o2 ∙ ap (λ (z : Option ℕ). with_exclusive o2 z) e))
 
   fair_enter_leads : (bumps : Bool) (q : List Waiter) (v : ℕ) (o : Option ℕ) (w : State) → Facing w t l (Mutex l (HandOff bumps hand_off.Enter)) v o None q → Leads 10 w t (FairEnds bumps t l (first_of q) (drop 1 q))
   fair_enter_leads bumps q v o w f = let h = enter_faces w t l (Mutex l (HandOff bumps hand_off.Enter)) v o None q f refl refl in
@@ -377,7 +379,7 @@ module _ (t l : ℕ) where
   hand_off_rests bumps (hand_off.Store false none_left) v o s q w f way = fair_rests 8 bumps None q w (omega arith) (store_leads bumps none_left None q v o s w f (λ u e. absurd cc))
   hand_off_rests bumps (hand_off.Store true none_left) v o s q w f way =
       let one : (u : ℕ) × (hand_at (place_at w u) l ≡ hand t false) = f.steady.stands.hands.carried t l false (ap (λ (x : Station). x.carries) (own_stance l (place_at w t) (HandOff bumps (hand_off.Store true none_left)) f.place)) in
-      fair_rests 8 bumps (Some one.0) q w (omega arith) (store_leads bumps none_left (Some one.0) q v o s w f (λ u e. heir_one w t l one.0 false f.steady.stands.hands (rw f.place refl) one.1 ∙ e))
+      fair_rests 8 bumps (Some one.0) q w (omega arith) (store_leads bumps none_left (Some one.0) q v o s w f (λ u e o2. successor_one w t l one.0 false f.steady.stands.hands (rw f.place refl) one.1 (unshared_at w t l (HandOff bumps (hand_off.Store true none_left)) f.steady f.place) o2 ∙ ap (λ (z : Option ℕ). with_exclusive o2 z) e))
   hand_off_rests bumps (hand_off.Leave any) v o s q w f way = fair_rests 7 bumps o q w (omega arith) (told_leads bumps any q v o s w f)
 
 -- ---------------------------------------------------------------- the laws

@@ -1,11 +1,11 @@
 -- The machine of the world: its state, and where each step leads.
-use Rattle.std.specs.Prelude.{ℕ, zero, suc, Bool, true, false, Option, Some, None, if◌then◌else◌, ◌==◌, ◌*◌, ◌+◌, ◌&&◌, ◌||◌, not, List, [], ◌∷◌, ◌++◌, map, length, take, drop, replicate, nat_lt, is_none, slice_set, slice_index_or}
+use Rattle.std.specs.Prelude.{ℕ, zero, suc, Bool, true, false, Option, Some, None, if◌then◌else◌, ◌==◌, ◌*◌, ◌+◌, ◌%◌, ◌^◌, sum, ◌&&◌, ◌||◌, not, List, [], ◌∷◌, ◌++◌, map, length, take, drop, replicate, nat_lt, is_none, slice_set, slice_index_or}
 use Rattle.lot_base.specs.declared.keys.Keys.{Keys}
 use Rattle.lot_base.specs.declared.keys.Keys as keys
 use Rattle.lot_base.specs.declared.ops.Op.{Op}
 use Rattle.lot_base.specs.declared.wants.Waiter.{Waiter}
 use Rattle.lot_base.specs.declared.wants.Want.{Want}
-use Rattle.lot_base.specs.declared.wants.Want.TheVariants.{Exclusive}
+use Rattle.lot_base.specs.declared.wants.Want.TheVariants.{Exclusive, Upgradable, Shared, Wait, CallOnce}
 use Rattle.lot_base.specs.declared.requeues.Requeue.{Requeue}
 use Rattle.lot_base.specs.declared.requeues.Requeue as requeue
 use Rattle.lot_base.specs.Words.{apply}
@@ -16,6 +16,7 @@ use Rattle.std.specs.List.{filter}
 use Rattle.lot_calls.specs.declared.kinds.Kind.{Kind}
 use Rattle.lot_calls.specs.declared.kinds.Kind.TheVariants.{Mutex}
 use Rattle.lot_steps.specs.declared.owners.Owners.{Owners}
+use Rattle.lot_steps.specs.declared.owners.Fallback as fallback
 use Rattle.lot_steps.specs.declared.places.Place.{Place}
 use Rattle.lot_steps.specs.declared.places.Place.TheVariants.{Idle}
 use Rattle.lot_steps.specs.declared.acts.Act.{Act}
@@ -213,16 +214,45 @@ abbrev pub want_of_successor : Option Successor → Option Want
 want_of_successor None = None
 want_of_successor (Some s) = Some s.want
 
--- the first thread in the hand of t, where the first place is that of u
-abbrev pub heir_from : ℕ → ℕ → List Place → Option ℕ
-heir_from t u [] = None
-heir_from t u (p ∷ ps) = if is_thread t (taker p) then Some u else heir_from t (suc u) ps
+-- each whom t has in hand and who wants to share has one right more; a number wraps at 64 bits, as a word does
+abbrev pub with_share : Bool → ℕ → ℕ
+with_share true n = (n + 1) % 2 ^ 64
+with_share false n = n
 
--- the operation with which t hands the lock over: the one in its hand owns then
+abbrev pub shares_given : ℕ → List Place → List ℕ → List ℕ
+shares_given t [] ns = ns
+shares_given t (p ∷ ps) [] = []
+shares_given t (p ∷ ps) (n ∷ ns) = with_share (shares_in_hand t (held p)) n ∷ shares_given t ps ns
+
+abbrev pub pending_for : ℕ → Owners → Owners
+pending_for u owners = record owners { pending = Some (record { thread = u; fallback = fallback.TheVariants.Nothing }) }
+
+-- a writer owns where nobody shares, and else is pending, with nothing to fall back to
+abbrev pub owners_of_successor : ℕ → Option Successor → Owners → Owners
+owners_of_successor readers None owners = owners
+owners_of_successor readers (Some s) owners = elim s.want [
+  | Exclusive ↦ if readers == 0 then with_exclusive owners (Some s.thread) else pending_for s.thread owners
+  | Upgradable ↦ record owners { upgradable = Some s.thread }
+  | Shared ↦ owners
+  | Wait ↦ owners
+  | CallOnce ↦ owners
+]
+
+-- who shares the lock when t has handed it over
+abbrev pub shares_handed_over : State → ℕ → ℕ → List ℕ
+shares_handed_over w t l = shares_given t w.places (shares_at w l)
+
+-- and who else owns it, beside those who keep it
+abbrev pub owners_handed_over : State → ℕ → ℕ → Owners → Owners
+owners_handed_over w t l keeps = owners_of_successor (sum (shares_handed_over w t l)) (successor_from t 0 w.places) keeps
+
+-- the operation with which t hands the lock over: all whom it has in hand own by what they want
 abbrev pub state_after_hand_over : State → ℕ → Place → ℕ → Op → State
 state_after_hand_over w t p l op =
     let keeps = owners_after p t (word_at w l) (owners_at w l) in
-    with_word w l (apply op (word_at w l)) (with_exclusive keeps (heir_from t 0 w.places))
+    record (with_word w l (apply op (word_at w l)) (owners_handed_over w t l keeps)) {
+      shares = slice_set w.shares l (shares_handed_over w t l);
+    }
 
 abbrev pub state_after_taking : State → ℕ → Option ℕ → State
 state_after_taking w t None = w

@@ -1,7 +1,7 @@
 //! What a thread does in one act of any call, whatever the lock is.
 ghost use Rattle.std.specs.Prelude.{◌≡◌, ◌++◌, ◌∷◌, ◌==◌, ℕ, [], true, None, length, MatchBool};
 ghost use Rattle.lot_base.specs.Clocks.{IsUp};
-ghost use Rattle.lot_base.specs.Lines.{waiter, line, lines, without, without_first, first_of};
+ghost use Rattle.lot_base.specs.Lines.{waiter, line, lines, without};
 ghost use Rattle.lot_base.specs.declared.notes.Note.TheVariants.{HandOff};
 ghost use Rattle.lot_base.specs.declared.ops.Op.TheVariants.{Load};
 ghost use Rattle.lot_steps.specs.Acts.{holds};
@@ -12,8 +12,9 @@ ghost use Rattle.parking_lot_core.specs.Keys.{AreKeys};
 ghost use Rattle.parking_lot_core.specs.Tokens.{IsTokenOf, Stays, view_of, last_of};
 ghost use Rattle.parking_lot.specs.Paths.{step};
 ghost use Rattle.parking_lot.specs.Words.{AreWordsOf, word_in, kind_in, at_in};
-ghost use Rattle.parking_lot.specs.Stages.{Adds, Awoke, HasKey, HasOneTaken, IsFresh, MayLeave, KeepsIt, IsIn, IsLeft, took, handed, note_of, inside_of, stage_of, waiting_of, entered_now, Needs, Became};
+ghost use Rattle.parking_lot.specs.Stages.{Adds, Awoke, HasKey, HasOneTaken, IsFresh, MayLeave, KeepsIt, IsIn, IsLeft, TookBy, handed, note_of, inside_of, stage_of, waiting_of, entered_now, Needs, Became};
 
+use crate::taking::{requeue, take_all, take_first, take_picked, tell_wants};
 use crate::words::Words;
 use lot_steps::{Act, Check, Reply, Wakes, Whom};
 use parking_lot_core::{Clock, Key, Keys, Note, Op, ParkingLot, Section, Slept, Token, Want, Word};
@@ -57,18 +58,14 @@ fn park(
     }
 }
 
-// The one that it took, and whether none is left.
-fn take_first(_lot: &ParkingLot, section: &mut Option<Section>, key: Key) -> (Option<usize>, bool)
-    requires { IsIn _lot.now section.old × HasKey key (inside_of section.old) × IsFresh (inside_of section.old) }
-    ensures did { IsIn _lot.now section.new × (inside_of section.new ≡ took key result.0 (inside_of section.old)) }
-    ensures first { result.0 ≡ first_of (line key (waiting_of section.old)) }
-    ensures left { (lines (waiting_of section.new) ≡ lines (without_first key (waiting_of section.old))) × (result.1 ≡ (length (line key (waiting_of section.new)) == 0)) }
+// Stands behind the last of the queue.
+fn stand(lot: &ParkingLot, token: &Token, section: &mut Option<Section>, key: Key, want: Want)
+    requires { IsTokenOf lot.now token.now × IsIn lot.now section.old × HasKey key (inside_of section.old) }
+    ensures same { IsIn lot.now section.new × (inside_of section.new ≡ inside_of section.old) }
+    ensures stands { lines (waiting_of section.new) ≡ lines (without token.now.number (waiting_of section.old) ++ waiter key token.now.number want ∷ []) }
 {
     match section {
-        Some(inside) => {
-            let first = inside.take_first(key);
-            (first, inside.count(key) == 0)
-        }
+        Some(inside) => inside.append(key, token.number(), want),
         None => unreachable!(),
     }
 }
@@ -159,6 +156,34 @@ fn leave<R: Wait>(
     }
 }
 
+fn take(lot: &ParkingLot, section: &mut Option<Section>, key: Key, whom: Whom) -> Reply
+    requires { IsIn lot.now section.old × HasKey key (inside_of section.old) × IsFresh (inside_of section.old) }
+    ensures { IsIn lot.now section.new × TookBy key whom result (inside_of section.old) (inside_of section.new) }
+{
+    match whom {
+        Whom::First => {
+            let (first, none_left) = take_first(lot, section, key);
+            Reply::Took {
+                any: first.is_some(),
+                none_left,
+            }
+        }
+        Whom::All => {
+            let (any, none_left) = take_all(lot, section, key);
+            Reply::Took { any, none_left }
+        }
+        Whom::Picked { start, recursive } => {
+            let none_left = take_picked(lot, section, key, start, recursive);
+            let (sharers, successor) = tell_wants(section);
+            Reply::Picked {
+                sharers,
+                successor,
+                none_left,
+            }
+        }
+    }
+}
+
 /// What a thread waits for where it sleeps, and the key under which it may be late.
 #[derive(Clone, Copy)]
 pub(crate) struct Sleeper {
@@ -235,15 +260,14 @@ pub(crate) fn perform<'a, R: Wait, C: Clock>(
             check,
             want,
         } => Reply::Parked(park(lot, token, words.of(lock), section, key, check, want)),
-        Act::Take {
-            key,
-            whom: Whom::First,
-        } => {
-            let (first, none_left) = take_first(lot, section, key);
-            Reply::Took {
-                any: first.is_some(),
-                none_left,
-            }
+        Act::Stand { key, want } => {
+            stand(lot, token, section, key, want);
+            Reply::Done
+        }
+        Act::Take { key, whom } => take(lot, section, key, whom),
+        Act::Requeue { from, to, how } => {
+            let (number, none_left) = requeue(lot, section, from, to, how);
+            Reply::Requeued { number, none_left }
         }
         Act::Remove(key) => Reply::Removed {
             none_left: remove(lot, section, key, token.number()),

@@ -6,6 +6,7 @@ mod driver;
 pub mod guards;
 pub mod raw_fair_mutex;
 pub mod raw_mutex;
+mod taking;
 mod words;
 
 pub use guards::RawGuard;

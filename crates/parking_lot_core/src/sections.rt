@@ -257,6 +257,13 @@ impl<'a> Section<'a> {
         self.queueing.rightless()
     }
 
+    /// How many it took and moved.
+    pub fn number(&self) -> usize
+        ensures { result ≡ length (taken_in self.now) + moved_in self.now }
+    {
+        self.queueing.taken().len() + self.moved
+    }
+
     /// Lays a right in the record of a thread that the section took. A right that lies there already goes with the lot.
     pub fn give<R: Wait>(&mut self, rt: &R, thread: usize, right: Right)
         requires taken { Contains (taken_in self.old) thread }

@@ -1,4 +1,4 @@
-use Rattle.std.proofs.Common.{◌≡◌, ◌∙◌, ◌++◌, List, Option, sym, refl, ap, subst, ℕ}
+use Rattle.std.proofs.Common.{◌∙◌, ◌++◌, List, sym, refl, ap, subst}
 use Rattle.lot_base.specs.Clocks.{IsUp}
 use Rattle.lot_base.specs.declared.ops.Op.TheVariants.{Load}
 use Rattle.lot_steps.specs.Steps.{act_of}
@@ -11,7 +11,7 @@ use Rattle.parking_lot_core.specs.Tokens.{view_of}
 use Rattle.parking_lot.specs.Fitting.{sleeper_at}
 use Rattle.parking_lot.specs.Paths.{step, spins}
 use Rattle.parking_lot.specs.Stages.{Needs, Became, Stepped, Adds, stage_of}
-use Rattle.parking_lot.specs.Words.{word_in, kind_in, at_in}
+use Rattle.parking_lot.specs.Words.{kind_in, at_in}
 use Rattle.parking_lot.specs.declared.acting.Sleeper.{Sleeper}
 use Rattle.parking_lot.proofs.Leading.{places_lead}
 use Rattle.parking_lot.proofs.Turning.{told, by_stage}
