@@ -6,7 +6,7 @@ use Rattle.std.proofs.lemmas.List.Sums.{sum_by-set}
 use Rattle.lot_base.specs.declared.wants.Want.{Want}
 use Rattle.lot_base.specs.declared.wants.Want.TheVariants.{Exclusive, Upgradable, Shared}
 use Rattle.abstract_locks.specs.Locks.{Sort, Mutex, Normal, Recursive, Semaphore, Rules, LockCase, Enter, Pend, Settle, Leave, Convert, Wake, HandOff, Rollback, Knows, NoWriter, IsFreeAt, is_recursive, count, readers, one_if_some}
-use Rattle.abstract_locks.specs.Sites.{Site, IsSite, Does, Needed, after, has_readers}
+use Rattle.abstract_locks.specs.Sites.{Site, IsSite, Case, Needed, after_deed, has_readers}
 use Rattle.abstract_locks.specs.Codes.{bit, writers, code_of, rw_code, count_in, has_writer, has_upgradable, has_aside, has_parked, is_blocked, lost, rolled, IsHandOff, WordFollows, WordsTellTrue}
 use Rattle.abstract_locks.proofs.Seen.{packed_count, packed_writer, packed_upgradable, packed_aside, packed_parked}
 use Rattle.abstract_locks.proofs.SiteKeeps.{fewer_share}
@@ -15,7 +15,7 @@ pub one_more : (xs : List ℕ) (t : ℕ) → t < length xs → sum (slice_set xs
 one_more xs t lt = let e = sum_by-set (λ (n : ℕ). n) xs t (slice_index xs t + 1) 0 lt in omega arith
 
 module _ (r : Rules) (s : Site) (t : ℕ) (there : t < length s.lock.shared) (h : IsSite r s) where
-  pub follows : (case : LockCase) → Needed r (Does case) s t → (IsHandOff case → ⊥) → rw_code (after r (Does case) s t) + lost s.lock.pending case ≡ rw_code s + rolled s.lock.pending case
+  pub follows : (case : LockCase) → Needed r (Case case) s t → (IsHandOff case → ⊥) → rw_code (after_deed r (Case case) s t) + lost s.lock.pending case ≡ rw_code s + rolled s.lock.pending case
   follows (Enter Shared) n other = grind (arith, one_more s.lock.shared t there)
   follows (Enter Upgradable) n other = grind arith
   follows (Enter Exclusive) n other = grind arith
@@ -100,7 +100,7 @@ module _ (r : Rules) (s : Site) (h : IsSite r s) where
 pub words_follow : WordFollows
 words_follow r case s t rw there h n other = by_sort r.sort rw
   where
-    by_sort : (sort : Sort) → has_readers sort ≡ true → code_of sort r.limit (after r (Does case) s t) + lost s.lock.pending case ≡ code_of sort r.limit s + rolled s.lock.pending case
+    by_sort : (sort : Sort) → has_readers sort ≡ true → code_of sort r.limit (after_deed r (Case case) s t) + lost s.lock.pending case ≡ code_of sort r.limit s + rolled s.lock.pending case
     by_sort Normal e = follows r s t there h case n other
     by_sort Recursive e = follows r s t there h case n other
     by_sort Mutex e = absurd cc

@@ -3,7 +3,7 @@ use Rattle.std.proofs.Common.{ℕ, Bool, true, false, Option, Some, None, ◌≡
 use Rattle.std.proofs.lemmas.Bool.{cases_eq}
 use Rattle.std.proofs.lemmas.Bool.Decides.{nat_tests}
 use Rattle.std.specs.Prelude.{drop, map}
-use Rattle.abstract_locks.specs.Locks.{Queued, Mutex, KnowsAll, put, times, without}
+use Rattle.abstract_locks.specs.Locks.{Queued, Mutex, KnowsAll, putting, times, without}
 use Rattle.abstract_locks.specs.Sites.{Apart}
 use Rattle.abstract_locks.specs.Condvars.{Stage, Rests, Adds, Refuses, Misses, Sees, Takes, Clears, Inside, CondvarSite, AllOf, IsSettledAt, IsSettled, IsAt, IsAsInside, IsCondvar, BeginsWait, EndsWait, GoesIn, GoesOut, Show, SeeOther, StandLast, SeeAgain, MissIt, Hide, MoveFirst, MoveAll, LeaveList, Clear, IsInsideAt, at, clears_if, hidden, waiter, condvar_leads, MayGo, MayGoOut, IsInsideNot, CondvarNeeded, EachCondvarDeedKeeps, moved_of, in_line, taken_of, line_of, moving, EachMoveFits}
 use Rattle.abstract_locks.proofs.LockKeeps.{times_append}
@@ -38,7 +38,7 @@ module _ (c : CondvarSite) (f : ℕ → Option ℕ) (agree : (u : ℕ) → 1 ≤
   still_inside None e k = still_settled c.shown k
   still_inside (Some j) e k = still_at j.thread j.stage (e j refl) k
 
-put_other : (f : ℕ → Option ℕ) (t u : ℕ) (x : Option ℕ) → u ≢ t → put f t x u ≡ f u
+put_other : (f : ℕ → Option ℕ) (t u : ℕ) (x : Option ℕ) → u ≢ t → putting f t x u ≡ f u
 put_other f t u x ne = grind (arith, nat_tests)
 
 -- ---------------------------------------------------------------- inside the section
@@ -68,10 +68,10 @@ module _ (c : CondvarSite) (t : ℕ) (h : IsCondvar c) where
   left_over [] m e all = refl
   left_over (x ∷ xs) m e all = subst (λ (o : Option ℕ). IsSettledAt o (at (record c { waiters = x ∷ xs }) t Rests)) (sym e) ((λ k. cc), all)
 
-  calls_keeps : (o : Option ℕ) → times t c.waiters ≡ 0 → IsInsideNot c.inside t → IsCondvar (record c { waits_with = put c.waits_with t o })
+  calls_keeps : (o : Option ℕ) → times t c.waiters ≡ 0 → IsInsideNot c.inside t → IsCondvar (record c { waits_with = putting c.waits_with t o })
   calls_keeps o none apart = record {
     once = h.once;
-    inside = still_inside c (put c.waits_with t o) (λ u k. put_other c.waits_with t u o (λ e. let g : 1 ≤ times t c.waiters = rw e at k in omega arith)) c.inside
+    inside = still_inside c (putting c.waits_with t o) (λ u k. put_other c.waits_with t u o (λ e. let g : 1 ≤ times t c.waiters = rw e at k in omega arith)) c.inside
         (λ j e. put_other c.waits_with t j.thread o (let g : IsInsideNot (Some j) t = subst (λ (i : Option Inside). IsInsideNot i t) e apart in g)) h.inside;
   }
 

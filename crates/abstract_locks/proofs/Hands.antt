@@ -6,7 +6,7 @@ use Rattle.std.proofs.lemmas.List.{take-append-drop}
 use Rattle.std.proofs.Math.Seq.{take-nil, drop-nil}
 use Rattle.lot_base.specs.declared.wants.Want.{Want}
 use Rattle.lot_base.specs.declared.wants.Want.TheVariants.{Exclusive, Upgradable, Shared}
-use Rattle.abstract_locks.specs.Locks.{LockState, sharing_handed, sharing_from, shares_handed, leaving, Queued, Taken, Sort, Mutex, Normal, Recursive, Semaphore, Rules, Knows, IsLockState, times, taking, picked, unpicked, front_of, keeps_more, sharers, stop_of, wants_shared, one_if_some, put, without, keep_from, let_go, owning, pending_for, succeeding, with_successor, handed, readers}
+use Rattle.abstract_locks.specs.Locks.{LockState, sharing_handed, sharing_from, shares_handed, without_owner, Queued, Taken, Sort, Mutex, Normal, Recursive, Semaphore, Rules, Knows, IsLockState, times, taking, picked, unpicked, front_of, keeps_more, sharers, stop_of, wants_shared, one_if_some, putting, without, keep_from, let_go, with_owner, pending_for, succeeding, with_successor, handed, readers}
 use Rattle.abstract_locks.specs.Sites.{IsOpen, counts, counts_taken}
 use Rattle.abstract_locks.proofs.LockKeeps.{times_append, times_filter}
 
@@ -66,16 +66,16 @@ pub passes_on : (sort : Sort) (start : Option Want) (t : ℕ) (q : List Queued) 
     → (u : ℕ) × (counts_taken sort t (taking t (picked sort start q) taken u) ≡ true)
 passes_on sort start t [] taken none left once = absurd (left (grind (arith, take-nil {A = Queued}, drop-nil {A = Queued})))
 passes_on sort start t (x ∷ q) taken none left once = either (wants_shared x.want) refl
-    (passes_on sort start t q (put taken x.thread (Some (record { by = t; want = x.want }))) none)
+    (passes_on sort start t q (putting taken x.thread (Some (record { by = t; want = x.want }))) none)
   where
     either : (b : Bool) → wants_shared x.want ≡ b
-        → (unpicked sort start q ≢ [] → ((u : ℕ) → times u q ≤ 1) → (u : ℕ) × (counts_taken sort t (taking t (picked sort start q) (put taken x.thread (Some (record { by = t; want = x.want }))) u) ≡ true))
+        → (unpicked sort start q ≢ [] → ((u : ℕ) → times u q ≤ 1) → (u : ℕ) × (counts_taken sort t (taking t (picked sort start q) (putting taken x.thread (Some (record { by = t; want = x.want }))) u) ≡ true))
         → (u : ℕ) × (counts_taken sort t (taking t (picked sort start (x ∷ q)) taken u) ≡ true)
     either true shares behind = rw (sharer_picked sort start x q shares) (behind (λ e. left (sharer_unpicked sort start x q shares ∙ e)) (λ u. let a = once u in grind (arith, nat_tests)))
     either false more behind =
         let first = unshared_picked sort start x q more none in
         let gone : times x.thread first.rest ≡ 0 = (let a = once x.thread in let b = first.few x.thread in grind (arith, nat_tests)) in
-        (x.thread, rw first.is (rw (taking_others t x.thread first.rest (put taken x.thread (Some (record { by = t; want = x.want }))) gone) (grind (arith, nat_tests))))
+        (x.thread, rw first.is (rw (taking_others t x.thread first.rest (putting taken x.thread (Some (record { by = t; want = x.want }))) gone) (grind (arith, nat_tests))))
 
 -- whoever leaves the queue, the others stand as often
 pub without_fewer : (u t : ℕ) (q : List Queued) → times u (without t q) ≤ times u q
@@ -103,7 +103,7 @@ pub record IsHanded (s now : LockState) (t : ℕ) : Type 0 where
   pub aside : now.aside ≡ s.aside
   pub taken : (u : ℕ) → now.taken u ≡ let_go t s.taken u
 
-writes : (t u : ℕ) (b : Bool) (s now : LockState) → IsHanded s now t → IsHanded s (if b then owning u Exclusive now else pending_for u false now) t
+writes : (t u : ℕ) (b : Bool) (s now : LockState) → IsHanded s now t → IsHanded s (if b then with_owner u Exclusive now else pending_for u false now) t
 writes t u true s now e = record { queue = e.queue; aside = e.aside; taken = e.taken }
 writes t u false s now e = record { queue = e.queue; aside = e.aside; taken = e.taken }
 
@@ -129,7 +129,7 @@ sharing_more t taken i u [] = grind arith
 sharing_more t taken i zero (n ∷ ns) = grind arith
 sharing_more t taken i (suc u) (n ∷ ns) = sharing_more t taken (i + 1) u ns
 
-writes_on : (b : Bool) (u i n : ℕ) (now : LockState) → n ≤ slice_index now.shared i → n ≤ slice_index (if b then owning u Exclusive now else pending_for u false now).shared i
+writes_on : (b : Bool) (u i n : ℕ) (now : LockState) → n ≤ slice_index now.shared i → n ≤ slice_index (if b then with_owner u Exclusive now else pending_for u false now).shared i
 writes_on true u i n now h = h
 writes_on false u i n now h = h
 
@@ -150,7 +150,7 @@ shares_on t i n Shared successor s more e h = absurd (more refl)
 shares_on t i n x successor s more e h = let a = sharing_more t s.taken 0 i s.shared in succeeds_on i n successor _ e (omega arith)
 
 -- where somebody passes the turn on, the lock is barred by whoever has succeeded
-writes_bar : (r : Rules) (b : Bool) (u : ℕ) (now : LockState) → IsLockState r (if b then owning u Exclusive now else pending_for u false now) → IsOpen r.sort (if b then owning u Exclusive now else pending_for u false now) → ⊥
+writes_bar : (r : Rules) (b : Bool) (u : ℕ) (now : LockState) → IsLockState r (if b then with_owner u Exclusive now else pending_for u false now) → IsOpen r.sort (if b then with_owner u Exclusive now else pending_for u false now) → ⊥
 writes_bar r true u now c free = grind arith
 writes_bar r false u now c free = grind (arith, c.unpending)
 
@@ -178,11 +178,11 @@ shared_one t taken i (suc u) (n ∷ ns) lt e = shared_one t taken (i + 1) u ns (
 pub has_upgradable_handed : (t u : ℕ) (right : Want) (s : LockState) → (handed t right (Some (record { thread = u; want = Upgradable })) s).upgradable ≡ Some u
 has_upgradable_handed t u right s = refl
 
-pub has_exclusive_handed : (t u : ℕ) (right : Want) (s : LockState) → (readers (sharing_handed t (leaving t right s)) == 0) ≡ true → (handed t right (Some (record { thread = u; want = Exclusive })) s).exclusive ≡ Some u
-has_exclusive_handed t u right s e = ap (λ (b : Bool). (if b then owning u Exclusive (sharing_handed t (leaving t right s)) else pending_for u false (sharing_handed t (leaving t right s))).exclusive) e
+pub has_exclusive_handed : (t u : ℕ) (right : Want) (s : LockState) → (readers (sharing_handed t (without_owner t right s)) == 0) ≡ true → (handed t right (Some (record { thread = u; want = Exclusive })) s).exclusive ≡ Some u
+has_exclusive_handed t u right s e = ap (λ (b : Bool). (if b then with_owner u Exclusive (sharing_handed t (without_owner t right s)) else pending_for u false (sharing_handed t (without_owner t right s))).exclusive) e
 
-pub pends_handed : (t u : ℕ) (right : Want) (s : LockState) → (readers (sharing_handed t (leaving t right s)) == 0) ≡ false → (handed t right (Some (record { thread = u; want = Exclusive })) s).pending ≡ Some (record { thread = u; falls_back = false })
-pends_handed t u right s e = ap (λ (b : Bool). (if b then owning u Exclusive (sharing_handed t (leaving t right s)) else pending_for u false (sharing_handed t (leaving t right s))).pending) e
+pub pends_handed : (t u : ℕ) (right : Want) (s : LockState) → (readers (sharing_handed t (without_owner t right s)) == 0) ≡ false → (handed t right (Some (record { thread = u; want = Exclusive })) s).pending ≡ Some (record { thread = u; falls_back = false })
+pends_handed t u right s e = ap (λ (b : Bool). (if b then with_owner u Exclusive (sharing_handed t (without_owner t right s)) else pending_for u false (sharing_handed t (without_owner t right s))).pending) e
 
 -- each in hand that wants to share does, whoever succeeds
 pub shares_handed_on : (t u : ℕ) (right : Want) (successor : Option Queued) (s : LockState) (a : Taken) → right ≢ Shared → ((successor ≡ None) ⊎ ((x : Queued) × ((successor ≡ Some x) × (x.want ≢ Shared)))) → u < length s.shared

@@ -10,11 +10,11 @@ use Rattle.abstract_locks.proofs.CodeLaws.{one_more}
 
 module _ (r : Rules) (s : LockState) (t : ℕ) (there : t < length s.shared) (some : 1 ≤ r.limit) (c : IsLockState r s) (h : HasLimit r s) where
   upgrades : (b : Bool) → (readers s == 0) ≡ b → Needs r (Convert Upgradable Exclusive) s t
-      → HasLimit r (if b then locks.owning t Exclusive (locks.leaving t Upgradable s) else locks.pending_for t true (locks.leaving t Upgradable s))
+      → HasLimit r (if b then locks.with_owner t Exclusive (locks.without_owner t Upgradable s) else locks.pending_for t true (locks.without_owner t Upgradable s))
   upgrades true e n = grind (arith, nat_tests, c.exclusive_alone, c.pending_alone)
   upgrades false e n = grind (arith, nat_tests, c.exclusive_alone, c.pending_alone)
 
-  rolls : (p : Pending) → s.pending ≡ Some p → (b : Bool) → p.falls_back ≡ b → HasLimit r (if b then locks.owning t Upgradable (record s { pending = None }) else record s { pending = None })
+  rolls : (p : Pending) → s.pending ≡ Some p → (b : Bool) → p.falls_back ≡ b → HasLimit r (if b then locks.with_owner t Upgradable (record s { pending = None }) else record s { pending = None })
   rolls p e true f = grind (arith, c.pending_alone)
   rolls p e false f = grind (arith, c.pending_alone)
 
@@ -22,7 +22,7 @@ module _ (r : Rules) (s : LockState) (t : ℕ) (there : t < length s.shared) (so
   rolls_by None e = grind arith
   rolls_by (Some p) e = rolls p e p.falls_back refl
 
-  keeps : (case : LockCase) → Needs r case s t → (IsHandOff case → ⊥) → HasLimit r (locks.after r case s t)
+  keeps : (case : LockCase) → Needs r case s t → (IsHandOff case → ⊥) → HasLimit r (locks.after_case r case s t)
   keeps (Enter Shared) n other = grind (arith, one_more s.shared t there)
   keeps (Enter Upgradable) n other = grind arith
   keeps (Enter Exclusive) n other = grind arith

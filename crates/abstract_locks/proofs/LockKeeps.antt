@@ -7,7 +7,7 @@ use Rattle.std.proofs.lemmas.List.Folds.{sum_by-replicate}
 use Rattle.std.specs.Prelude.{not, filter, take, drop}
 use Rattle.lot_base.specs.declared.wants.Want.{Want}
 use Rattle.lot_base.specs.declared.wants.Want.TheVariants.{Shared}
-use Rattle.abstract_locks.specs.Locks.{LockState, Queued, Taken, Sort, Rules, LockCase, Enter, Pend, Settle, Leave, Convert, Park, Aside, TakeFirst, TakeAside, TakePicked, Wake, HandOff, Late, Rollback, Needs, after, IsLockState, Knows, KnowsAll, NoWriter, Owns, leaving, sharing_from, sharing_handed, succeeding, times, one_if_some, taking, wants_shared, front_of, stop_of, opening_lock}
+use Rattle.abstract_locks.specs.Locks.{LockState, Queued, Taken, Sort, Rules, LockCase, Enter, Pend, Settle, Leave, Convert, Park, Aside, TakeFirst, TakeAside, TakePicked, Wake, HandOff, Late, Rollback, Needs, after_case, IsLockState, Knows, KnowsAll, NoWriter, Owns, without_owner, sharing_from, sharing_handed, succeeding, times, one_if_some, taking, wants_shared, front_of, stop_of, opening_lock}
 
 none_if_not : {A : Type 0} (o : Option A) → ((x : A) → o ≡ Some x → ⊥) → o ≡ None
 none_if_not o h = grind arith
@@ -58,7 +58,7 @@ sharing_same r s t i [] c none = refl
 sharing_same r s t i (x ∷ xs) c none = grind (arith, c.known_taken i, sharing_same r s t (i + 1) xs c none)
 
 -- the owner has left, and those whom it has taken and who want to share do so: no writer is there
-shares : (r : Rules) (s : LockState) (t : ℕ) (right : Want) → IsLockState r s → Owns s t right → right ≢ Shared → IsLockState r (sharing_handed t (leaving t right s)) × NoWriter (leaving t right s)
+shares : (r : Rules) (s : LockState) (t : ℕ) (right : Want) → IsLockState r s → Owns s t right → right ≢ Shared → IsLockState r (sharing_handed t (without_owner t right s)) × NoWriter (without_owner t right s)
 shares r s t right c owns more = grind (arith, nat_tests, sharing_same r s t 0 s.shared c)
 
 -- then the successor owns, or is pending
@@ -67,7 +67,7 @@ succeeds r s x c free knows more = grind (arith, nat_tests, no_aside r s c)
 
 -- ---------------------------------------------------------------- all cases
 
-pub case_keeps : (r : Rules) (c : LockCase) (s : LockState) (t : ℕ) → IsLockState r s → Needs r c s t → IsLockState r (after r c s t)
+pub case_keeps : (r : Rules) (c : LockCase) (s : LockState) (t : ℕ) → IsLockState r s → Needs r c s t → IsLockState r (after_case r c s t)
 case_keeps r (Enter x) s t c n = grind arith
 case_keeps r Pend s t c n = grind (arith, no_aside r s c)
 case_keeps r Settle s t c n = grind arith
@@ -80,7 +80,7 @@ case_keeps r (TakeAside u) s t c n = grind (arith, nat_tests, c.aside_pending u 
 case_keeps r (TakePicked start) s t c n = takes r s t (front_of start s.queue) (stop_of r.sort start s.queue) (λ x. wants_shared x.want) c
 case_keeps r Wake s t c n = grind (arith, nat_tests)
 case_keeps r (HandOff right None) s t c n = (shares r s t right c n.0 n.1).0
-case_keeps r (HandOff right (Some x)) s t c n = let left = shares r s t right c n.0 n.1 in let is_taken = (n.2 x.thread x.want).0 refl in succeeds r (sharing_handed t (leaving t right s)) x left.0 left.1 (c.known_taken x.thread _ is_taken.0) is_taken.1
+case_keeps r (HandOff right (Some x)) s t c n = let left = shares r s t right c n.0 n.1 in let is_taken = (n.2 x.thread x.want).0 refl in succeeds r (sharing_handed t (without_owner t right s)) x left.0 left.1 (c.known_taken x.thread _ is_taken.0) is_taken.1
 case_keeps r Late s t c n = grind (arith, nat_tests, times_filter, known_filter)
 case_keeps r Rollback s t c n = grind arith
 

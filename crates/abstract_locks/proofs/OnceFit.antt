@@ -4,11 +4,11 @@ use Rattle.std.proofs.lemmas.Bool.{eqb-true}
 use Rattle.std.proofs.lemmas.Bool.Decides.{nat_tests}
 use Rattle.std.specs.Prelude.{not, ◌&&◌, ◌||◌, ◌*◌, ◌/◌}
 use Rattle.lot_base.specs.declared.wants.Want.TheVariants.{Wait, CallOnce}
-use Rattle.abstract_locks.specs.Locks.{Taken, without, put}
+use Rattle.abstract_locks.specs.Locks.{Taken, without, putting}
 use Rattle.abstract_locks.specs.Sites.{Main, Claim, Runs, Ran, Doing, idle, is_empty, found, seen_main, leaves, wakened}
 use Rattle.abstract_locks.specs.Codes.{bit}
 use Rattle.abstract_locks.specs.Onces.{Phase, New, Poisoned, InProgress, Done, OnceCase, Start, Finish, Fail, Rest, Late, MayStart, MayRest, OnceSite, Ends, GoesIn, GoesOut, Sets, Acts, once_leads, once_code, phase_code}
-use Rattle.abstract_locks.specs.OnceSteps.{Answer, Ok, No, IsPoisoned, Failed, At, Loads, Starts, Marks, Enters, Checks, Leaves, Asleep, Removes, ClearsBit, GivesUp, Closure, WakesIn, WakesTake, WakesLeave, Place, want_of, again, doing_at, doing_of, Goes, EndsWith, goes, ends, is_done, is_poisoned, is_running, is_marked, done_answer, looked, still_waits, go_move, doing_then, OnceFollows, IsAtPlace, OnceStepsFollow, OnceWordFollows}
+use Rattle.abstract_locks.specs.OnceSteps.{Answer, Ok, No, IsPoisoned, Failed, At, Loads, Starts, Marks, Enters, Checks, Leaves, Asleep, Removes, ClearsBit, GivesUp, Closure, WakesIn, WakesTake, WakesLeave, OncePlace, want_of, again, doing_at, doing_of, Goes, EndsWith, goes, ends, is_done, is_poisoned, is_running, is_marked, done_answer, looked, still_waits, go_move, doing_then, OnceFollows, IsAtPlace, OnceStepsFollow, OnceWordFollows}
 
 -- ---------------------------------------------------------------- the word
 
@@ -49,10 +49,10 @@ once_words s t forced = (started s.parked s.once.phase, refl, refl)
 
 -- ---------------------------------------------------------------- each place
 
-put_same : {A : Type 0} (f : ℕ → A) (t : ℕ) (x : A) → put f t x t ≡ x
+put_same : {A : Type 0} (f : ℕ → A) (t : ℕ) (x : A) → putting f t x t ≡ x
 put_same f t x = grind (arith, nat_tests)
 
-module _ (s : OnceSite) (t : ℕ) (p : Place) (a : IsAtPlace s t p) where
+module _ (s : OnceSite) (t : ℕ) (p : OncePlace) (a : IsAtPlace s t p) where
   abbrev v : ℕ
   v = once_code s
 
@@ -67,7 +67,7 @@ module _ (s : OnceSite) (t : ℕ) (p : Place) (a : IsAtPlace s t p) where
   ends_fit : (x : Answer) → (s.doing t).inside ≡ None → (s.doing t).wakes ≡ None → OnceFollows s t p (ends x)
   ends_fit x out none = record { needed = ((out, none), tt); doing = put_same s.doing t idle }
 
-  loads_doing : Place → Doing
+  loads_doing : OncePlace → Doing
   loads_doing q = record idle { retries = again q }
 
   same_again : (b : Bool) → (b && true) ≡ b
@@ -94,7 +94,7 @@ module _ (s : OnceSite) (t : ℕ) (p : Place) (a : IsAtPlace s t p) where
   is_at at ae = a.is ∙ ap (doing_at (again p)) ae
 
   -- a deed that changes what t does leads there
-  leads : (d e : Doing) → d ≡ e → put s.doing t d t ≡ e
+  leads : (d e : Doing) → d ≡ e → putting s.doing t d t ≡ e
   leads d e k = put_same s.doing t d ∙ k
 
   starts_fit : (seen : ℕ) → p.at ≡ Starts seen → (b : Bool) → (v == seen) ≡ b → OnceFollows s t p (if b then goes (Acts (Start p.purpose.forced) ∷ []) Closure else looked p.purpose v)
@@ -153,7 +153,7 @@ module _ (s : OnceSite) (t : ℕ) (p : Place) (a : IsAtPlace s t p) where
   comes at next ae free out none e = record { needed = ((free, rw (is_at at ae) out, rw (is_at at ae) none), tt); doing = leads _ _ (ap (λ (d : Doing). record d { inside = Some Main }) (is_at at ae) ∙ e) }
 
   out_doing : (at : At) → p.at ≡ at → (once_leads GoesOut s t).doing t ≡ leaves (doing_at (again p) at)
-  out_doing at ae = ap (λ (o : Option Taken). wakened t o (put s.doing t (leaves (s.doing t)) t)) a.untaken ∙ leads _ _ (ap leaves (is_at at ae))
+  out_doing at ae = ap (λ (o : Option Taken). wakened t o (putting s.doing t (leaves (s.doing t)) t)) a.untaken ∙ leads _ _ (ap leaves (is_at at ae))
 
   ends_out : (at : At) (x : Answer) → p.at ≡ at → (doing_at (again p) at).inside ≡ Some Main → (doing_at (again p) at).wakes ≡ None → OnceFollows s t p (record { deeds = GoesOut ∷ Ends ∷ []; next = EndsWith x })
   ends_out at x ae within none =

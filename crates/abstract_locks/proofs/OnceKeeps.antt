@@ -3,9 +3,9 @@ use Rattle.std.proofs.Common.{ℕ, Bool, true, false, Option, Some, None, if◌t
 use Rattle.std.proofs.lemmas.Bool.{cases_eq}
 use Rattle.std.proofs.lemmas.Bool.Decides.{nat_tests}
 use Rattle.std.specs.Prelude.{filter, ◌||◌}
-use Rattle.abstract_locks.specs.Locks.{Queued, Taken, put, times, let_go, keep_from, one_if_some}
+use Rattle.abstract_locks.specs.Locks.{Queued, Taken, putting, times, let_go, keep_from, one_if_some}
 use Rattle.abstract_locks.specs.Sites.{Main, Claim, Doing, leaves}
-use Rattle.abstract_locks.specs.Onces.{Done, OnceCase, Start, Finish, Fail, Rest, TakeAll, Late, has_caller, rested, IsRun, OnceSite, IsOnce, Claims, Wakes, Ends, GoesIn, GoesOut, Sets, Clears, Acts, once_after, once_doing, with_once_doing, once_leads, MayStart, OnceNeeded, EachOnceDeedKeeps, NothingLeavesDone}
+use Rattle.abstract_locks.specs.Onces.{Done, OnceCase, Start, Finish, Fail, Rest, TakeAll, Late, has_caller, rested, IsOnceRun, OnceSite, IsOnce, Claims, Wakes, Ends, GoesIn, GoesOut, Sets, Clears, Acts, once_after, once_doing, with_once_doing, once_leads, MayStart, OnceNeeded, EachOnceDeedKeeps, NothingLeavesDone}
 use Rattle.abstract_locks.proofs.LockKeeps.{times_append, times_taking}
 use Rattle.abstract_locks.proofs.Hands.{without_fewer, kept_few}
 use Rattle.abstract_locks.proofs.Turns.{Changed}
@@ -34,15 +34,15 @@ record Local (s v : OnceSite) (t : ℕ) (d e : Doing) : Type 0 where
   pub fills : s.once.waiters ≡ [] → (v.once.waiters ≡ []) ⊎ (d.inside ≡ Some Main)
   -- the bit stands, or t has seen it, or another who has seen it had not taken yet
   pub parked : v.once.waiters ≢ [] → (v.parked ≡ true) ⊎ (Wakes e ⊎ ((s.once.waiters ≢ []) × (s.parked ≡ false) × (Wakes d → ⊥)))
-  pub main : has_caller v.once.waiters ≡ true → (IsRun v.once.phase → ⊥)
-      → Wakes e ⊎ (((s.once.waiters ≢ []) × (s.parked ≡ false) × (Wakes d → ⊥)) ⊎ ((has_caller s.once.waiters ≡ true) × (IsRun s.once.phase → ⊥) × (Wakes d → Wakes e)))
+  pub main : has_caller v.once.waiters ≡ true → (IsOnceRun v.once.phase → ⊥)
+      → Wakes e ⊎ (((s.once.waiters ≢ []) × (s.parked ≡ false) × (Wakes d → ⊥)) ⊎ ((has_caller s.once.waiters ≡ true) × (IsOnceRun s.once.phase → ⊥) × (Wakes d → Wakes e)))
   pub emptied : e.empty ≡ Some Main → (e.inside ≡ Some Main) × (v.once.waiters ≡ [])
   pub held : (c : Claim) → e.claims ≡ Some c → Claims v.once.phase t c
   pub others_claim : (u : ℕ) (c : Claim) → u ≢ t → Claims s.once.phase u c → Claims v.once.phase u c
   pub unwoken : 1 ≤ rested t v.once → e.retries ≡ None
   pub others_rest : (u : ℕ) → u ≢ t → 1 ≤ rested u v.once → 1 ≤ rested u s.once
 
-put_changed : {A : Type 0} (f : ℕ → A) (t : ℕ) (x : A) → Changed f (put f t x) t x
+put_changed : {A : Type 0} (f : ℕ → A) (t : ℕ) (x : A) → Changed f (putting f t x) t x
 put_changed f t x = record { here = grind (arith, nat_tests); other = λ j ne. grind (arith, nat_tests) }
 
 module _ (s v : OnceSite) (t : ℕ) (e : Doing) (h : IsOnce s) (doing : Changed s.doing v.doing t e) (local : Local s v t (s.doing t) e) where
@@ -87,7 +87,7 @@ module _ (s v : OnceSite) (t : ℕ) (e : Doing) (h : IsOnce s) (doing : Changed 
     | inr (inr k) ↦ inr (other_seer k.0 k.1 k.2)
   ]
 
-  still_main : has_caller v.once.waiters ≡ true → (IsRun v.once.phase → ⊥) → (u : ℕ) × Wakes (v.doing u)
+  still_main : has_caller v.once.waiters ≡ true → (IsOnceRun v.once.phase → ⊥) → (u : ℕ) × Wakes (v.doing u)
   still_main call free = elim (local.main call free) [
     | inl k ↦ (t, rw doing.here k)
     | inr (inl k) ↦ other_seer k.0 k.1 k.2
@@ -166,12 +166,12 @@ module _ (s : OnceSite) (t : ℕ) (h : IsOnce s) where
     w = once_leads GoesOut s t
 
     other : (u : ℕ) → u ≢ t → Alike (w.doing u) (s.doing u)
-    other u ne = let e : put s.doing t (leaves (s.doing t)) u ≡ s.doing u = grind (arith, nat_tests) in rw e (wakened_alike t (s.once.taken u) (s.doing u))
+    other u ne = let e : putting s.doing t (leaves (s.doing t)) u ≡ s.doing u = grind (arith, nat_tests) in rw e (wakened_alike t (s.once.taken u) (s.doing u))
 
     own : Alike (w.doing t) (leaves (s.doing t))
-    own = let e : put s.doing t (leaves (s.doing t)) t ≡ leaves (s.doing t) = grind (arith, nat_tests) in rw e (wakened_alike t (s.once.taken t) (leaves (s.doing t)))
+    own = let e : putting s.doing t (leaves (s.doing t)) t ≡ leaves (s.doing t) = grind (arith, nat_tests) in rw e (wakened_alike t (s.once.taken t) (leaves (s.doing t)))
 
-    same_retries : (u : ℕ) → (put s.doing t (leaves (s.doing t)) u).retries ≡ (s.doing u).retries
+    same_retries : (u : ℕ) → (putting s.doing t (leaves (s.doing t)) u).retries ≡ (s.doing u).retries
     same_retries u = elim (cases_eq u t) [
       | inl e ↦ rw e (grind (arith, nat_tests))
       | inr ne ↦ grind (arith, nat_tests)
@@ -217,7 +217,7 @@ module _ (s : OnceSite) (t : ℕ) (h : IsOnce s) where
     out_unwoken : (u : ℕ) → 1 ≤ rested u w.once → (w.doing u).retries ≡ None
     out_unwoken u e =
         let stood : 1 ≤ rested u s.once = (let k = kept_few t (s.once.taken u) in let g : 1 ≤ times u s.once.waiters + one_if_some (let_go t s.once.taken u) = e in omega arith) in
-        unwakened t (s.once.taken u) (put s.doing t (leaves (s.doing t)) u) (still_there u e) ∙ same_retries u ∙ h.unwoken u stood
+        unwakened t (s.once.taken u) (putting s.doing t (leaves (s.doing t)) u) (still_there u e) ∙ same_retries u ∙ h.unwoken u stood
 
     out_keeps : IsOnce w
     out_keeps = record {

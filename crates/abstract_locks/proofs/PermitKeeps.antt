@@ -6,8 +6,8 @@ use Rattle.std.specs.Prelude.{zero, suc, length, slice_index}
 use Rattle.std.proofs.lemmas.List.Sums.{sum_by-set}
 use Rattle.lot_base.specs.declared.wants.Want.{Want}
 use Rattle.lot_base.specs.declared.wants.Want.TheVariants.{Exclusive, Upgradable, Shared}
-use Rattle.abstract_locks.specs.Locks.{LockState, Queued, Taken, Sort, Mutex, Normal, Recursive, Semaphore, Rules, LockCase, Enter, Pend, Settle, Leave, Convert, Park, Aside, TakeFirst, TakeAside, TakePicked, Wake, HandOff, Late, Rollback, Knows, IsLockState, IsBlocked, readers, standing, times, is_thread, one_if_some, put, let_go}
-use Rattle.abstract_locks.specs.Sites.{Line, Main, Second, Doing, Site, IsSite, Begin, End, In, Out, Mark, Clear, FindNobody, MarkOwned, MarkBrought, Bring, Does, Needed, after, done, case_doing, idle, leaves, wakened, counts_taken}
+use Rattle.abstract_locks.specs.Locks.{LockState, Queued, Taken, Sort, Mutex, Normal, Recursive, Semaphore, Rules, LockCase, Enter, Pend, Settle, Leave, Convert, Park, Aside, TakeFirst, TakeAside, TakePicked, Wake, HandOff, Late, Rollback, Knows, IsLockState, IsBlocked, readers, standing, times, is_thread, one_if_some, putting, let_go}
+use Rattle.abstract_locks.specs.Sites.{Line, Main, Second, Doing, Site, IsSite, Begin, End, In, Out, Mark, Clear, FindNobody, MarkOwned, MarkBrought, Bring, Case, Needed, after_deed, done, case_doing, idle, leaves, wakened, counts_taken}
 use Rattle.abstract_locks.specs.Codes.{bit}
 use Rattle.abstract_locks.specs.Permits.{total, debt, debts, HasPermits, EachDeedKeepsPermits, PermitsAreLookedAfter}
 use Rattle.abstract_locks.specs.Locks as locks
@@ -81,7 +81,7 @@ module _ (r : Rules) (s : Site) (t : ℕ) (lt : t < length s.lock.shared) (h : I
     ];
   }
 
-put_changed : {A : Type 0} (f : ℕ → A) (t : ℕ) (x : A) → Changed f (put f t x) t x
+put_changed : {A : Type 0} (f : ℕ → A) (t : ℕ) (x : A) → Changed f (putting f t x) t x
 put_changed f t x = record { here = grind (arith, nat_tests); other = λ j ne. grind (arith, nat_tests) }
 
 module _ (r : Rules) (s : Site) (t : ℕ) (sort : r.sort ≡ Semaphore) (lt : t < length s.lock.shared) (h : IsSite r s) (p : HasPermits r s) where
@@ -93,25 +93,25 @@ module _ (r : Rules) (s : Site) (t : ℕ) (sort : r.sort ≡ Semaphore) (lt : t 
       (a, b.0, b.1, no_aside r s.lock h.state b.0)
 
   -- t does something else, and the lock stays
-  does : (e : Doing) (pk ap : Bool) → (s.lock.queue ≢ [] → debt (s.doing t) ≤ debt e) → e.sets ≡ false → HasPermits r (record s { parked = pk; aside_parked = ap; doing = put s.doing t e })
-  does e pk ap more unset = turns r s t lt h p (record s { parked = pk; aside_parked = ap; doing = put s.doing t e }) e (put_changed s.doing t e) refl (λ left. inr (left, let a = more left in omega arith)) (λ u ne one. one) unset
+  does : (e : Doing) (pk ap : Bool) → (s.lock.queue ≢ [] → debt (s.doing t) ≤ debt e) → e.sets ≡ false → HasPermits r (record s { parked = pk; aside_parked = ap; doing = putting s.doing t e })
+  does e pk ap more unset = turns r s t lt h p (record s { parked = pk; aside_parked = ap; doing = putting s.doing t e }) e (put_changed s.doing t e) refl (λ left. inr (left, let a = more left in omega arith)) (λ u ne one. one) unset
 
-  acts : (c : LockCase) → length (locks.after r c s.lock t).shared ≡ length s.lock.shared
-      → ((locks.after r c s.lock t).queue ≢ [] → (r.limit ≤ readers (locks.after r c s.lock t)) ⊎ ((s.lock.queue ≢ []) × (readers s.lock + debt (s.doing t) ≤ readers (locks.after r c s.lock t) + debt (case_doing r.sort s (locks.after r c s.lock t) c (s.doing t)))))
-      → ((u : ℕ) → u ≢ t → 1 ≤ standing u (locks.after r c s.lock t) → 1 ≤ standing u s.lock) → (case_doing r.sort s (locks.after r c s.lock t) c (s.doing t)).sets ≡ false → HasPermits r (after r (Does c) s t)
-  acts c same enough stood unset = turns r s t lt h p (done r c s t (locks.after r c s.lock t)) _ (put_changed s.doing t _) same enough stood unset
+  acts : (c : LockCase) → length (locks.after_case r c s.lock t).shared ≡ length s.lock.shared
+      → ((locks.after_case r c s.lock t).queue ≢ [] → (r.limit ≤ readers (locks.after_case r c s.lock t)) ⊎ ((s.lock.queue ≢ []) × (readers s.lock + debt (s.doing t) ≤ readers (locks.after_case r c s.lock t) + debt (case_doing r.sort s (locks.after_case r c s.lock t) c (s.doing t)))))
+      → ((u : ℕ) → u ≢ t → 1 ≤ standing u (locks.after_case r c s.lock t) → 1 ≤ standing u s.lock) → (case_doing r.sort s (locks.after_case r c s.lock t) c (s.doing t)).sets ≡ false → HasPermits r (after_deed r (Case c) s t)
+  acts c same enough stood unset = turns r s t lt h p (done r c s t (locks.after_case r c s.lock t)) _ (put_changed s.doing t _) same enough stood unset
 
   no_debt : Needed r End s t → debt (s.doing t) ≡ 0
   no_debt n = grind (arith, sort, h.covered t)
 
-  ends : Needed r End s t → HasPermits r (after r End s t)
+  ends : Needed r End s t → HasPermits r (after_deed r End s t)
   ends n = does idle s.parked s.aside_parked (λ left. let e = no_debt n in omega arith) refl
 
-  finds : (m : Line) → Needed r (FindNobody m) s t → HasPermits r (after r (FindNobody m) s t)
+  finds : (m : Line) → Needed r (FindNobody m) s t → HasPermits r (after_deed r (FindNobody m) s t)
   finds Main n = does _ s.parked s.aside_parked (λ left. absurd (left n.2)) (p.unset t)
   finds Second n = does _ s.parked s.aside_parked (λ left. grind (arith, h.covered t)) (p.unset t)
 
-  one_more : readers (locks.owning t Shared s.lock) ≡ readers s.lock + 1
+  one_more : readers (locks.with_owner t Shared s.lock) ≡ readers s.lock + 1
   one_more = let e = sum_by-set (λ (n : ℕ). n) s.lock.shared t (slice_index s.lock.shared t + 1) 0 lt in omega arith
 
   entered_debt : debt (s.doing t) ≤ 1 + debt (record (s.doing t) { retries = None; claims = None })
@@ -123,7 +123,7 @@ module _ (r : Rules) (s : Site) (t : ℕ) (sort : r.sort ≡ Semaphore) (lt : t 
     | inr one ↦ absurd (let e = p.unset one.0 in let f = one.1 in cc)
   ]
 
-  left_debt : (so : Sort) → so ≡ Semaphore → s.parked ≡ true → (s.doing t).wakes ≡ None → debt (case_doing so s (locks.leaving t Shared s.lock) (Leave Shared) (s.doing t)) ≡ 1 + debt (s.doing t)
+  left_debt : (so : Sort) → so ≡ Semaphore → s.parked ≡ true → (s.doing t).wakes ≡ None → debt (case_doing so s (locks.without_owner t Shared s.lock) (Leave Shared) (s.doing t)) ≡ 1 + debt (s.doing t)
   left_debt Semaphore e parked none = grind arith
   left_debt Mutex e parked none = absurd cc
   left_debt Normal e parked none = absurd cc
@@ -135,7 +135,7 @@ module _ (r : Rules) (s : Site) (t : ℕ) (sort : r.sort ≡ Semaphore) (lt : t 
     | inr past ↦ past
   ]
 
-  unset_left : (so : Sort) → so ≡ Semaphore → (case_doing so s (locks.leaving t Shared s.lock) (Leave Shared) (s.doing t)).sets ≡ false
+  unset_left : (so : Sort) → so ≡ Semaphore → (case_doing so s (locks.without_owner t Shared s.lock) (Leave Shared) (s.doing t)).sets ≡ false
   unset_left Semaphore e = p.unset t
   unset_left Mutex e = p.unset t
   unset_left Normal e = p.unset t
@@ -144,10 +144,10 @@ module _ (r : Rules) (s : Site) (t : ℕ) (sort : r.sort ≡ Semaphore) (lt : t 
   some_first : (x : Queued) → (rest : List Queued) → s.lock.queue ≡ x ∷ rest → s.lock.queue ≢ []
   some_first x rest e = λ f. cc
 
-  took : (x : Queued) → Needed r (Does (TakeFirst x)) s t → readers s.lock + debt (s.doing t) ≤ readers s.lock + debt (case_doing r.sort s (locks.after r (TakeFirst x) s.lock t) (TakeFirst x) (s.doing t))
+  took : (x : Queued) → Needed r (Case (TakeFirst x)) s t → readers s.lock + debt (s.doing t) ≤ readers s.lock + debt (case_doing r.sort s (locks.after_case r (TakeFirst x) s.lock t) (TakeFirst x) (s.doing t))
   took x n = let w = n.1.2 in let f = n.1.1 in grind (arith, h.covered t)
 
-  cases_keep : (c : LockCase) → Needed r (Does c) s t → HasPermits r (after r (Does c) s t)
+  cases_keep : (c : LockCase) → Needed r (Case c) s t → HasPermits r (after_deed r (Case c) s t)
   cases_keep (Enter Shared) n = acts (Enter Shared) (length-set s.lock.shared t _) (λ left. inr (left, let a = one_more in let b = entered_debt in omega arith)) (λ u ne one. one) (p.unset t)
   cases_keep (Leave Shared) n = acts (Leave Shared) (length-set s.lock.shared t _) (λ left. inr (left, let a = fewer_share s.lock.shared t n.0 in let b = left_debt r.sort sort (seen left) n.1 in omega arith)) (λ u ne one. one) (unset_left r.sort sort)
   cases_keep (Park x) n = acts (Park x) refl (λ left. inl (full x n.0.0)) (λ u ne one. grind (arith, nat_tests, times_append)) (p.unset t)
@@ -167,7 +167,7 @@ module _ (r : Rules) (s : Site) (t : ℕ) (sort : r.sort ≡ Semaphore) (lt : t 
 
   -- t leaves, and whom it has taken tries again: its debt goes to one of them
   abbrev v : Site
-  v = after r Out s t
+  v = after_deed r Out s t
 
   wakened_more : (o : Option Taken) (d : Doing) → debt d ≤ debt (wakened t o d)
   wakened_more None d = omega arith
@@ -177,7 +177,7 @@ module _ (r : Rules) (s : Site) (t : ℕ) (sort : r.sort ≡ Semaphore) (lt : t 
   wakened_one None d c e = absurd cc
   wakened_one (Some a) d c e = grind (arith, nat_tests)
 
-  left_few : (u : ℕ) → debt (s.doing u) ≤ debt (put s.doing t (leaves (s.doing t)) u) + (if u == t then bit (s.doing t).covers else 0)
+  left_few : (u : ℕ) → debt (s.doing u) ≤ debt (putting s.doing t (leaves (s.doing t)) u) + (if u == t then bit (s.doing t).covers else 0)
   left_few u = grind (arith, nat_tests)
 
   unset_out : (u : ℕ) → (v.doing u).sets ≡ false
@@ -188,7 +188,7 @@ module _ (r : Rules) (s : Site) (t : ℕ) (sort : r.sort ≡ Semaphore) (lt : t 
 
   same_debts : (s.doing t).covers ≡ false → debts s ≤ debts v
   same_debts e = total_less (length s.lock.shared) (λ u. debt (s.doing u)) (λ u. debt (v.doing u)) (λ u.
-      let a = wakened_more (s.lock.taken u) (put s.doing t (leaves (s.doing t)) u) in
+      let a = wakened_more (s.lock.taken u) (putting s.doing t (leaves (s.doing t)) u) in
       let b = left_few u in
       let z : (if u == t then bit (s.doing t).covers else 0) ≡ 0 = grind (arith, e) in
       omega arith)
@@ -209,13 +209,13 @@ module _ (r : Rules) (s : Site) (t : ℕ) (sort : r.sort ≡ Semaphore) (lt : t 
       each : (u : ℕ) → debt (s.doing u) + one_at x u ≤ debt (v.doing u) + one_at t u
       each u = elim (cases_eq u x) [
         | inl e ↦
-            let a : debt (v.doing u) ≡ debt (put s.doing t (leaves (s.doing t)) u) + 1 = wakened_one (s.lock.taken u) (put s.doing t (leaves (s.doing t)) u) (rw e c) (let w = h.unwoken x (in_hand x c) in grind (arith, nat_tests)) in
+            let a : debt (v.doing u) ≡ debt (putting s.doing t (leaves (s.doing t)) u) + 1 = wakened_one (s.lock.taken u) (putting s.doing t (leaves (s.doing t)) u) (rw e c) (let w = h.unwoken x (in_hand x c) in grind (arith, nat_tests)) in
             let b = left_few u in
             let d = few u in
             let one : one_at x u ≡ 1 = grind (arith, nat_tests) in
             omega arith
         | inr ne ↦
-            let a = wakened_more (s.lock.taken u) (put s.doing t (leaves (s.doing t)) u) in
+            let a = wakened_more (s.lock.taken u) (putting s.doing t (leaves (s.doing t)) u) in
             let b = left_few u in
             let d = few u in
             let none : one_at x u ≡ 0 = grind (arith, nat_tests) in
@@ -242,7 +242,7 @@ permits_kept r (FindNobody m) s t sort lt h p n = finds r s t sort lt h p m n
 permits_kept r MarkOwned s t sort lt h p n = does r s t sort lt h p _ true s.aside_parked (λ left. omega arith) (p.unset t)
 permits_kept r (Bring taken moved) s t sort lt h p n = absurd (let a = n.0 in cc)
 permits_kept r Out s t sort lt h p n = outs r s t sort lt h p
-permits_kept r (Does c) s t sort lt h p n = cases_keep r s t sort lt h p c n
+permits_kept r (Case c) s t sort lt h p n = cases_keep r s t sort lt h p c n
 
 pub looked_after : PermitsAreLookedAfter
 looked_after r s p left free = by_debt one.0 one.1

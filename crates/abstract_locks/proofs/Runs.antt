@@ -19,7 +19,7 @@ event_keeps : (w : LocksState) (t : ℕ) (e : Event) → AreLockStates w → May
 event_keeps w t Nothing all may l = all l
 event_keeps w t (AtLock k case) all may l = either (l == k) refl
   where
-    either : (b : Bool) → (l == k) ≡ b → IsLockState (rules_at w l) (if b then locks.after (rules_at w k) case (w.locks k) t else w.locks l)
+    either : (b : Bool) → (l == k) ≡ b → IsLockState (rules_at w l) (if b then locks.after_case (rules_at w k) case (w.locks k) t else w.locks l)
     either false e = all l
     either true e = let same : l ≡ k = eqb-true l k e in rw same (case_keeps (rules_at w k) case (w.locks k) t (all k) (needs_of w t k case (w.calls t).purpose may))
 

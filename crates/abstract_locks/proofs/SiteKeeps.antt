@@ -8,15 +8,15 @@ use Rattle.std.proofs.lemmas.List.Sums.{sum_by-set}
 use Rattle.std.proofs.lemmas.Bool.Decides.{nat_tests}
 use Rattle.lot_base.specs.declared.wants.Want.{Want}
 use Rattle.lot_base.specs.declared.wants.Want.TheVariants.{Exclusive, Upgradable, Shared}
-use Rattle.abstract_locks.specs.Locks.{LockState, Pending, Queued, Taken, Sort, Rules, LockCase, Enter, Pend, Settle, Leave, Convert, Park, Aside, TakeFirst, TakeAside, TakePicked, Wake, HandOff, Late, Rollback, Needs, IsLockState, HasTakenNobody, IsTaken, Knows, KnowsAll, Mutex, Normal, Recursive, Semaphore, keeps_more, Owns, IsSuccessor, picked, unpicked, times, taking, standing, is_thread, one_if_some, readers, put}
-use Rattle.abstract_locks.specs.Sites.{Line, Main, Second, Claim, Doing, Site, IsSite, Begin, End, In, Out, Mark, Clear, FindNobody, MarkOwned, MarkBrought, Bring, Does, Needed, after, with_doing, done, case_doing, taking_main, IsEmpty, IsOpen, IsDebtor, bringing, late_found, gives_way, shares_less, Keeps, Has, Pends, Runs, Ran, Holds, counts, counts_taken, is_full, EachDeedKeeps}
+use Rattle.abstract_locks.specs.Locks.{LockState, Pending, Queued, Taken, Sort, Rules, LockCase, Enter, Pend, Settle, Leave, Convert, Park, Aside, TakeFirst, TakeAside, TakePicked, Wake, HandOff, Late, Rollback, Needs, IsLockState, HasTakenNobody, IsTaken, Knows, KnowsAll, Mutex, Normal, Recursive, Semaphore, keeps_more, Owns, IsSuccessor, picked, unpicked, times, taking, standing, is_thread, one_if_some, readers, putting}
+use Rattle.abstract_locks.specs.Sites.{Line, Main, Second, Claim, Doing, Site, IsSite, Begin, End, In, Out, Mark, Clear, FindNobody, MarkOwned, MarkBrought, Bring, Case, Needed, after_deed, with_doing, done, case_doing, taking_main, IsEmpty, IsOpen, IsDebtor, bringing, late_found, gives_way, shares_less, KeepsOwned, Has, Pends, Runs, Ran, Holds, counts, counts_taken, is_full, EachDeedKeeps}
 use Rattle.abstract_locks.specs.Locks as locks
 use Rattle.abstract_locks.proofs.LockKeeps.{case_keeps, no_aside, times_taking, times_append, known_append, known_taking}
 use Rattle.abstract_locks.proofs.Hands.{taking_others, taking_by, times_picked, passes_on, without_fewer, is_handed, shares_on, counts_more, bars, kept_few, kept_counts, kept_by}
 use Rattle.abstract_locks.proofs.Wakes.{out_keeps}
 use Rattle.abstract_locks.proofs.Turns.{Local, Changed, turn_keeps}
 
-put_changed : {A : Type 0} (f : ℕ → A) (t : ℕ) (x : A) → Changed f (put f t x) t x
+put_changed : {A : Type 0} (f : ℕ → A) (t : ℕ) (x : A) → Changed f (putting f t x) t x
 put_changed f t x = record { here = grind (arith, nat_tests); other = λ j ne. grind (arith, nat_tests) }
 
 -- whoever shares a lock does so whatever another does
@@ -55,7 +55,7 @@ module _ (r : Rules) (s : Site) (t : ℕ) (h : IsSite r s) where
   does : (d2 : Doing) → Local r s (with_doing s t d2) t (s.doing t) d2 → IsSite r (with_doing s t d2)
   does d2 local = turn_keeps r s (with_doing s t d2) t (s.doing t) d2 h refl (put_changed s.doing t d2) local
 
-  begin_keeps : (c : Option Claim) → Needed r (Begin c) s t → IsSite r (after r (Begin c) s t)
+  begin_keeps : (c : Option Claim) → Needed r (Begin c) s t → IsSite r (after_deed r (Begin c) s t)
   begin_keeps c n = does _ (record {
     state = h.state;
     parked = λ e. grind arith;
@@ -80,13 +80,13 @@ module _ (r : Rules) (s : Site) (t : ℕ) (h : IsSite r s) where
     second = λ e none. grind arith;
   })
 
-  end_keeps : Needed r End s t → IsSite r (after r End s t)
+  end_keeps : Needed r End s t → IsSite r (after_deed r End s t)
   end_keeps n = does _ (grind (arith, h.unwoken t, h.covered t, h.brought t, h.setting t))
 
-  in_keeps : (m : Line) → Needed r (In m) s t → IsSite r (after r (In m) s t)
+  in_keeps : (m : Line) → Needed r (In m) s t → IsSite r (after_deed r (In m) s t)
   in_keeps m n = does _ (grind (arith, h.unwoken t, h.covered t, h.brought t, h.setting t))
 
-  find_keeps : (m : Line) → Needed r (FindNobody m) s t → IsSite r (after r (FindNobody m) s t)
+  find_keeps : (m : Line) → Needed r (FindNobody m) s t → IsSite r (after_deed r (FindNobody m) s t)
   find_keeps Main n = does _ (grind (arith, h.unwoken t, h.covered t, h.brought t, h.setting t))
   find_keeps Second n = does _ (grind (arith, h.unwoken t, h.covered t, h.brought t, h.setting t))
 
@@ -94,34 +94,34 @@ module _ (r : Rules) (s : Site) (t : ℕ) (h : IsSite r s) where
   changed_bits : (p a : Bool) → Local r s (record s { parked = p; aside_parked = a }) t (s.doing t) (s.doing t) → IsSite r (record s { parked = p; aside_parked = a })
   changed_bits p a local = turn_keeps r s (record s { parked = p; aside_parked = a }) t (s.doing t) (s.doing t) h refl (record { here = refl; other = λ j ne. refl }) local
 
-  mark_second : IsSite r (after r (Mark Second) s t)
+  mark_second : IsSite r (after_deed r (Mark Second) s t)
   mark_second = changed_bits s.parked true (grind (arith, h.emptied t, h.covered t, h.unwoken t, h.brought t, h.setting t))
 
   -- a bit, and what t does
-  cleared : (p a : Bool) (d2 : Doing) → Local r s (record s { parked = p; aside_parked = a; doing = put s.doing t d2 }) t (s.doing t) d2 → IsSite r (record s { parked = p; aside_parked = a; doing = put s.doing t d2 })
-  cleared p a d2 local = turn_keeps r s (record s { parked = p; aside_parked = a; doing = put s.doing t d2 }) t (s.doing t) d2 h refl (put_changed s.doing t d2) local
+  cleared : (p a : Bool) (d2 : Doing) → Local r s (record s { parked = p; aside_parked = a; doing = putting s.doing t d2 }) t (s.doing t) d2 → IsSite r (record s { parked = p; aside_parked = a; doing = putting s.doing t d2 })
+  cleared p a d2 local = turn_keeps r s (record s { parked = p; aside_parked = a; doing = putting s.doing t d2 }) t (s.doing t) d2 h refl (put_changed s.doing t d2) local
 
-  mark_keeps : (m : Line) → IsSite r (after r (Mark m) s t)
+  mark_keeps : (m : Line) → IsSite r (after_deed r (Mark m) s t)
   mark_keeps Main = changed_bits true s.aside_parked (grind (arith, h.emptied t, h.covered t, h.unwoken t, h.brought t, h.setting t))
   mark_keeps Second = mark_second
 
   -- who has brought waiters sets the bit
-  brought_keeps : IsSite r (after r MarkBrought s t)
+  brought_keeps : IsSite r (after_deed r MarkBrought s t)
   brought_keeps = cleared true s.aside_parked _ (grind (arith, h.emptied t, h.covered t, h.unwoken t, h.brought t))
 
   -- a notification marks a mutex that somebody owns
-  owned_keeps : Needed r MarkOwned s t → IsSite r (after r MarkOwned s t)
+  owned_keeps : Needed r MarkOwned s t → IsSite r (after_deed r MarkOwned s t)
   owned_keeps n = cleared true s.aside_parked _ (grind (arith, h.emptied t, h.covered t, h.unwoken t, h.setting t))
 
-  clear_keeps : (m : Line) → Needed r (Clear m) s t → IsSite r (after r (Clear m) s t)
+  clear_keeps : (m : Line) → Needed r (Clear m) s t → IsSite r (after_deed r (Clear m) s t)
   clear_keeps Main n = let none = h.emptied t Main n in cleared false s.aside_parked _ (grind (arith, h.emptied t, h.covered t, h.unwoken t, h.brought t, h.setting t))
   clear_keeps Second n = let none = h.emptied t Second n in cleared s.parked false _ (grind (arith, h.emptied t, h.covered t, h.unwoken t, h.brought t, h.setting t))
 
   -- a case of the lock
-  acts : (c : LockCase) → Local r s (done r c s t (locks.after r c s.lock t)) t (s.doing t) (case_doing r.sort s (locks.after r c s.lock t) c (s.doing t)) → IsSite r (after r (Does c) s t)
-  acts c local = turn_keeps r s (done r c s t (locks.after r c s.lock t)) t (s.doing t) _ h refl (put_changed s.doing t _) local
+  acts : (c : LockCase) → Local r s (done r c s t (locks.after_case r c s.lock t)) t (s.doing t) (case_doing r.sort s (locks.after_case r c s.lock t) c (s.doing t)) → IsSite r (after_deed r (Case c) s t)
+  acts c local = turn_keeps r s (done r c s t (locks.after_case r c s.lock t)) t (s.doing t) _ h refl (put_changed s.doing t _) local
 
-  state : (c : LockCase) → Needed r (Does c) s t → IsLockState r (locks.after r c s.lock t)
+  state : (c : LockCase) → Needed r (Case c) s t → IsLockState r (locks.after_case r c s.lock t)
   state c n = case_keeps r c s.lock t h.state n.0
 
   -- t takes some of the main line
@@ -151,7 +151,7 @@ module _ (r : Rules) (s : Site) (t : ℕ) (h : IsSite r s) where
     still_bit left = grind (arith, not_set)
 
     abbrev took : Site
-    took = record s { lock = now; filled = s.filled || is_full r now; doing = put s.doing t (taking_main covers now (s.doing t)) }
+    took = record s { lock = now; filled = s.filled || is_full r now; doing = putting s.doing t (taking_main covers now (s.doing t)) }
 
     take_local : Local r s took t (s.doing t) (taking_main covers now (s.doing t))
     take_local = record {
@@ -184,7 +184,7 @@ module _ (r : Rules) (s : Site) (t : ℕ) (h : IsSite r s) where
   once : (u : ℕ) → times u s.lock.queue ≤ 1
   once u = let a = h.state.once u in omega arith
 
-  barred_by : (start : Option Want) → Keeps s.lock t start → not (keeps_more start) ≡ false → Knows r.sort Upgradable → IsOpen r.sort s.lock → ⊥
+  barred_by : (start : Option Want) → KeepsOwned s.lock t start → not (keeps_more start) ≡ false → Knows r.sort Upgradable → IsOpen r.sort s.lock → ⊥
   barred_by None k e knows free = cc
   barred_by (Some Exclusive) k e knows free = grind arith
   barred_by (Some Upgradable) k e knows free = grind arith
@@ -194,7 +194,7 @@ module _ (r : Rules) (s : Site) (t : ℕ) (h : IsSite r s) where
   nobody_picked : (start : Option Want) → s.lock.queue ≡ [] → unpicked r.sort start s.lock.queue ≡ []
   nobody_picked start e = rw e (grind (arith, take-nil {A = Queued}, drop-nil {A = Queued}))
 
-  picked_keeps : (start : Option Want) → Needed r (Does (TakePicked start)) s t → IsSite r (after r (Does (TakePicked start)) s t)
+  picked_keeps : (start : Option Want) → Needed r (Case (TakePicked start)) s t → IsSite r (after_deed r (Case (TakePicked start)) s t)
   picked_keeps start n = take_keeps (picked r.sort start s.lock.queue) (unpicked r.sort start s.lock.queue) (not (keeps_more start)) n.1.0 n.1.1 n.1.2 n.0.0 (state (TakePicked start) n)
       (λ u. times_picked r.sort start u s.lock.queue) (nobody_picked start) (λ e. barred_by start n.1.3 e n.0.1)
       (λ e left. passes_on r.sort start t s.lock.queue s.lock.taken (grind arith) left once)
@@ -203,15 +203,15 @@ module _ (r : Rules) (s : Site) (t : ℕ) (h : IsSite r s) where
   first_counts : (x : Queued) → (Knows r.sort Upgradable → ⊥) → counts_taken r.sort t (taking t (x ∷ []) s.lock.taken x.thread) ≡ true
   first_counts x unknown = grind (arith, nat_tests)
 
-  first_keeps : (x : Queued) → Needed r (Does (TakeFirst x)) s t → IsSite r (after r (Does (TakeFirst x)) s t)
+  first_keeps : (x : Queued) → Needed r (Case (TakeFirst x)) s t → IsSite r (after_deed r (Case (TakeFirst x)) s t)
   first_keeps x n = take_keeps (x ∷ []) (drop 1 s.lock.queue) true n.1.0 n.1.1 n.1.2 n.0.1 (state (TakeFirst x) n)
       (λ u. let e = n.0.0.1 in grind (arith, nat_tests)) (λ e. rw e refl) (λ e. absurd cc) (λ e left. (x.thread, first_counts x n.0.2))
 
   -- an upgrade owns where nobody shares, and is pending where somebody does
-  upgrades : (n : Needed r (Does (Convert Upgradable Exclusive)) s t) (b : Bool) → (readers s.lock == 0) ≡ b
-      → IsLockState r (if b then locks.owning t Exclusive (locks.leaving t Upgradable s.lock) else locks.pending_for t true (locks.leaving t Upgradable s.lock))
-      → Local r s (done r (Convert Upgradable Exclusive) s t (if b then locks.owning t Exclusive (locks.leaving t Upgradable s.lock) else locks.pending_for t true (locks.leaving t Upgradable s.lock))) t (s.doing t)
-      (case_doing r.sort s (if b then locks.owning t Exclusive (locks.leaving t Upgradable s.lock) else locks.pending_for t true (locks.leaving t Upgradable s.lock)) (Convert Upgradable Exclusive) (s.doing t))
+  upgrades : (n : Needed r (Case (Convert Upgradable Exclusive)) s t) (b : Bool) → (readers s.lock == 0) ≡ b
+      → IsLockState r (if b then locks.with_owner t Exclusive (locks.without_owner t Upgradable s.lock) else locks.pending_for t true (locks.without_owner t Upgradable s.lock))
+      → Local r s (done r (Convert Upgradable Exclusive) s t (if b then locks.with_owner t Exclusive (locks.without_owner t Upgradable s.lock) else locks.pending_for t true (locks.without_owner t Upgradable s.lock))) t (s.doing t)
+      (case_doing r.sort s (if b then locks.with_owner t Exclusive (locks.without_owner t Upgradable s.lock) else locks.pending_for t true (locks.without_owner t Upgradable s.lock)) (Convert Upgradable Exclusive) (s.doing t))
   upgrades n true e now = grind (arith, nat_tests, h.emptied t, h.covered t, h.unwoken t, h.brought t, h.setting t)
   upgrades n false e now = grind (arith, nat_tests, h.emptied t, h.covered t, h.unwoken t, h.brought t, h.setting t)
 
@@ -219,18 +219,18 @@ module _ (r : Rules) (s : Site) (t : ℕ) (h : IsSite r s) where
   abbrev unpended : LockState
   unpended = record s.lock { pending = None }
 
-  rolls : (n : Needed r (Does Rollback) s t) (p : Pending) → s.lock.pending ≡ Some p → (b : Bool) → p.falls_back ≡ b → IsLockState r (if b then locks.owning t Upgradable unpended else unpended)
-      → Local r s (done r Rollback s t (if b then locks.owning t Upgradable unpended else unpended)) t (s.doing t) (case_doing r.sort s (if b then locks.owning t Upgradable unpended else unpended) Rollback (s.doing t))
+  rolls : (n : Needed r (Case Rollback) s t) (p : Pending) → s.lock.pending ≡ Some p → (b : Bool) → p.falls_back ≡ b → IsLockState r (if b then locks.with_owner t Upgradable unpended else unpended)
+      → Local r s (done r Rollback s t (if b then locks.with_owner t Upgradable unpended else unpended)) t (s.doing t) (case_doing r.sort s (if b then locks.with_owner t Upgradable unpended else unpended) Rollback (s.doing t))
   rolls n p e true f now = grind (arith, nat_tests, h.emptied t, h.covered t, h.unwoken t, h.brought t, h.setting t)
   rolls n p e false f now = grind (arith, nat_tests, h.emptied t, h.covered t, h.unwoken t, h.brought t, h.setting t)
 
-  rolls_by : (n : Needed r (Does Rollback) s t) (p : Option Pending) → s.lock.pending ≡ p → IsLockState r (locks.falling_back t p unpended)
+  rolls_by : (n : Needed r (Case Rollback) s t) (p : Option Pending) → s.lock.pending ≡ p → IsLockState r (locks.falling_back t p unpended)
       → Local r s (done r Rollback s t (locks.falling_back t p unpended)) t (s.doing t) (case_doing r.sort s (locks.falling_back t p unpended) Rollback (s.doing t))
   rolls_by n None e now = absurd (rw e at n.0.0)
   rolls_by n (Some p) e now = rolls n p e p.falls_back refl now
 
   -- the owner hands its right to all whom it has taken
-  module _ (x : Want) (successor : Option Queued) (n : Needed r (Does (HandOff x successor)) s t) where
+  module _ (x : Want) (successor : Option Queued) (n : Needed r (Case (HandOff x successor)) s t) where
     abbrev handed_lock : LockState
     handed_lock = locks.handed t x successor s.lock
 
@@ -269,7 +269,7 @@ module _ (r : Rules) (s : Site) (t : ℕ) (h : IsSite r s) where
         let knows = h.state.known_taken u a e in
         let more = counts_more r.sort a.want knows (λ k. rw k at free) c in
         let is : successor ≡ Some (record { thread = u; want = a.want }) = (n.0.2 u a.want).1 (rw (← mine) e, more) in
-        bars r u a.want (locks.sharing_handed t (locks.leaving t x s.lock)) knows more (rw is at (state (HandOff x successor) n)) (rw is at free)
+        bars r u a.want (locks.sharing_handed t (locks.without_owner t x s.lock)) knows more (rw is at (state (HandOff x successor) n)) (rw is at free)
 
     barred_now : s.lock.queue ≢ [] → IsOpen r.sort handed_lock → ⊥
     barred_now left free = let one = (h.covered t n.1.1).2 left in by_hand one.0 (s.lock.taken one.0) refl one.1
@@ -321,10 +321,10 @@ module _ (r : Rules) (s : Site) (t : ℕ) (h : IsSite r s) where
         }
 
   -- one more shares
-  shares_debt : (d : Doing) → Knows r.sort Shared → (d.retries ≡ None) ⊎ (d.retries ≡ Some Shared) → IsOpen r.sort (locks.owning t Shared s.lock) → IsDebtor r.sort d → IsDebtor r.sort (record d { retries = None; claims = None })
+  shares_debt : (d : Doing) → Knows r.sort Shared → (d.retries ≡ None) ⊎ (d.retries ≡ Some Shared) → IsOpen r.sort (locks.with_owner t Shared s.lock) → IsDebtor r.sort d → IsDebtor r.sort (record d { retries = None; claims = None })
   shares_debt d knows wanted free debt = grind arith
 
-  shares_local : (n : Needed r (Does (Enter Shared)) s t) → Local r s (done r (Enter Shared) s t (locks.owning t Shared s.lock)) t (s.doing t) (record (s.doing t) { retries = None; claims = None })
+  shares_local : (n : Needed r (Case (Enter Shared)) s t) → Local r s (done r (Enter Shared) s t (locks.with_owner t Shared s.lock)) t (s.doing t) (record (s.doing t) { retries = None; claims = None })
   shares_local n = record {
     state = state (Enter Shared) n;
     parked = λ e. grind arith;
@@ -350,7 +350,7 @@ module _ (r : Rules) (s : Site) (t : ℕ) (h : IsSite r s) where
   }
 
   -- one shares less
-  shares_less_local : (n : Needed r (Does (Leave Shared)) s t) (sort : Sort) → r.sort ≡ sort → Local r s (done r (Leave Shared) s t (locks.leaving t Shared s.lock)) t (s.doing t) (shares_less sort s (s.doing t))
+  shares_less_local : (n : Needed r (Case (Leave Shared)) s t) (sort : Sort) → r.sort ≡ sort → Local r s (done r (Leave Shared) s t (locks.without_owner t Shared s.lock)) t (s.doing t) (shares_less sort s (s.doing t))
   shares_less_local n Mutex e = grind (arith, state (Leave Shared) n, h.emptied t, h.covered t, h.unwoken t, h.brought t, h.setting t, share_other, fewer_share s.lock.shared t, alone_aside r s.lock h.state)
   shares_less_local n Normal e = grind (arith, state (Leave Shared) n, h.emptied t, h.covered t, h.unwoken t, h.brought t, h.setting t, share_other, fewer_share s.lock.shared t, alone_aside r s.lock h.state)
   shares_less_local n Recursive e = grind (arith, state (Leave Shared) n, h.emptied t, h.covered t, h.unwoken t, h.brought t, h.setting t, share_other, fewer_share s.lock.shared t, alone_aside r s.lock h.state)
@@ -360,7 +360,7 @@ module _ (r : Rules) (s : Site) (t : ℕ) (h : IsSite r s) where
   way_debt : (claims : Option Claim) → (s.lock.queue ≢ []) ⊎ ((s.doing t).brings ≡ true) → IsDebtor r.sort (gives_way s (s.doing t) claims) ⊎ ((s.lock.queue ≢ []) × (s.parked ≡ false) × ((s.doing t).sets ≡ false))
   way_debt claims one = grind (arith, h.brought t, h.setting t)
 
-  shared_local : (n : Needed r (Does (Convert Exclusive Shared)) s t) → Local r s (done r (Convert Exclusive Shared) s t (locks.owning t Shared (locks.leaving t Exclusive s.lock))) t (s.doing t) (gives_way s (s.doing t) None)
+  shared_local : (n : Needed r (Case (Convert Exclusive Shared)) s t) → Local r s (done r (Convert Exclusive Shared) s t (locks.with_owner t Shared (locks.without_owner t Exclusive s.lock))) t (s.doing t) (gives_way s (s.doing t) None)
   shared_local n = record {
     state = state (Convert Exclusive Shared) n;
     parked = λ e. grind arith;
@@ -392,8 +392,8 @@ module _ (r : Rules) (s : Site) (t : ℕ) (h : IsSite r s) where
   barred_aside u e Recursive f free = grind (arith, h.state.aside_pending u e)
   barred_aside u e Semaphore f free = free
 
-  aside_local : (u : ℕ) (n : Needed r (Does (TakeAside u)) s t)
-      → Local r s (done r (TakeAside u) s t (locks.after r (TakeAside u) s.lock t)) t (s.doing t) (record (s.doing t) { wakes = None; carries = true; empty = Some Second })
+  aside_local : (u : ℕ) (n : Needed r (Case (TakeAside u)) s t)
+      → Local r s (done r (TakeAside u) s t (locks.after_case r (TakeAside u) s.lock t)) t (s.doing t) (record (s.doing t) { wakes = None; carries = true; empty = Some Second })
   aside_local u n = record {
     state = state (TakeAside u) n;
     parked = λ e. grind arith;
@@ -420,7 +420,7 @@ module _ (r : Rules) (s : Site) (t : ℕ) (h : IsSite r s) where
 
   -- who gives up leaves its line, from inside
   abbrev late_lock : LockState
-  late_lock = locks.after r Late s.lock t
+  late_lock = locks.after_case r Late s.lock t
 
   late_stood : (u : ℕ) → 1 ≤ standing u late_lock → 1 ≤ standing u s.lock
   late_stood u e = let a = without_fewer u t s.lock.queue in grind (arith, nat_tests)
@@ -428,7 +428,7 @@ module _ (r : Rules) (s : Site) (t : ℕ) (h : IsSite r s) where
   late_found_so : (m : Line) → late_found late_lock (s.doing t).inside ≡ Some m → ((s.doing t).inside ≡ Some m) × IsEmpty late_lock m
   late_found_so m e = grind arith
 
-  late_local : (n : Needed r (Does Late) s t) → Local r s (done r Late s t late_lock) t (s.doing t) (record (s.doing t) { empty = late_found late_lock (s.doing t).inside })
+  late_local : (n : Needed r (Case Late) s t) → Local r s (done r Late s t late_lock) t (s.doing t) (record (s.doing t) { empty = late_found late_lock (s.doing t).inside })
   late_local n = record {
     state = state Late n;
     parked = λ e. late_bit (λ k. e (rw k refl));
@@ -469,7 +469,7 @@ module _ (r : Rules) (s : Site) (t : ℕ) (h : IsSite r s) where
       late_bit : s.lock.queue ≢ [] → (s.parked ≡ true) ⊎ (((s.doing t).sets ≡ true) ⊎ ((s.lock.queue ≢ []) × (s.parked ≡ false) × ((s.doing t).sets ≡ false)))
       late_bit left = grind arith
 
-  act_keeps : (c : LockCase) → Needed r (Does c) s t → IsSite r (after r (Does c) s t)
+  act_keeps : (c : LockCase) → Needed r (Case c) s t → IsSite r (after_deed r (Case c) s t)
   act_keeps (Enter Exclusive) n = acts (Enter Exclusive) (grind (arith, state (Enter Exclusive) n, h.emptied t, h.covered t, h.unwoken t, h.brought t, h.setting t))
   act_keeps (Enter Upgradable) n = acts (Enter Upgradable) (grind (arith, state (Enter Upgradable) n, h.emptied t, h.covered t, h.unwoken t, h.brought t, h.setting t))
   act_keeps (Enter Shared) n = acts (Enter Shared) (shares_local n)
@@ -544,7 +544,7 @@ module _ (r : Rules) (s : Site) (t : ℕ) (h : IsSite r s) where
         let p = (stands x.thread).1 in
         let one : times x.thread gone ≡ 1 + times x.thread xs = rw (← e) (grind (arith, nat_tests)) in
         let gone_once : times x.thread xs ≡ 0 = (let l = a.0 in omega arith) in
-        (x.thread, rw (n.0, taking_others t x.thread xs (put s.lock.taken x.thread (Some (record { by = t; want = x.want }))) gone_once) (grind (arith, nat_tests)))
+        (x.thread, rw (n.0, taking_others t x.thread xs (putting s.lock.taken x.thread (Some (record { by = t; want = x.want }))) gone_once) (grind (arith, nat_tests)))
 
     not_covers : (s.doing t).covers ≡ true → ⊥
     not_covers c = let g = (h.covered t c).1 in let f = n.2 in cc
@@ -555,7 +555,7 @@ module _ (r : Rules) (s : Site) (t : ℕ) (h : IsSite r s) where
     still_bit_there : s.lock.queue ≢ [] → (s.parked ≡ true) ⊎ (((bringing gone moved (s.doing t)).sets ≡ true) ⊎ ((s.lock.queue ≢ []) × (s.parked ≡ false) × ((s.doing t).sets ≡ false)))
     still_bit_there left = grind (arith, not_sets)
 
-    brings_local : Local r s (after r (Bring gone moved) s t) t (s.doing t) (bringing gone moved (s.doing t))
+    brings_local : Local r s (after_deed r (Bring gone moved) s t) t (s.doing t) (bringing gone moved (s.doing t))
     brings_local = record {
       state = brings_state;
       parked = λ e. bit_by gone refl moved refl e;
@@ -593,8 +593,8 @@ module _ (r : Rules) (s : Site) (t : ℕ) (h : IsSite r s) where
         debt_by free [] e = inr (inl (inr (n.7 (sym e)), free, λ debt. absurd (grind (arith, not_covers))))
         debt_by free (x ∷ xs) e = inl (inr (inl (rw (← e) refl)))
 
-    bring_keeps : IsSite r (after r (Bring gone moved) s t)
-    bring_keeps = turn_keeps r s (after r (Bring gone moved) s t) t (s.doing t) _ h refl (put_changed s.doing t _) brings_local
+    bring_keeps : IsSite r (after_deed r (Bring gone moved) s t)
+    bring_keeps = turn_keeps r s (after_deed r (Bring gone moved) s t) t (s.doing t) _ h refl (put_changed s.doing t _) brings_local
 
 pub deed_keeps : EachDeedKeeps
 deed_keeps r (Begin c) s t h n = begin_keeps r s t h c n
@@ -607,4 +607,4 @@ deed_keeps r (FindNobody m) s t h n = find_keeps r s t h m n
 deed_keeps r MarkOwned s t h n = owned_keeps r s t h n
 deed_keeps r MarkBrought s t h n = brought_keeps r s t h
 deed_keeps r (Bring taken moved) s t h n = bring_keeps r s t h taken moved n
-deed_keeps r (Does c) s t h n = act_keeps r s t h c n
+deed_keeps r (Case c) s t h n = act_keeps r s t h c n

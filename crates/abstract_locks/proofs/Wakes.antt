@@ -2,8 +2,8 @@
 use Rattle.std.proofs.Common.{ℕ, Bool, true, false, Option, Some, None, if◌then◌else◌, ◌==◌, ◌≡◌, ◌≢◌, ◌≤◌, ◌+◌, ◌⊎◌, inl, inr, [], refl, sym, ap, ◌∙◌, arith}
 use Rattle.std.proofs.lemmas.Bool.{cases_eq}
 use Rattle.std.proofs.lemmas.Bool.Decides.{nat_tests}
-use Rattle.abstract_locks.specs.Locks.{Taken, Sort, Mutex, Normal, Recursive, Semaphore, Rules, Wake, readers, times, is_thread, standing, one_if_some, keep_from, let_go, put}
-use Rattle.abstract_locks.specs.Sites.{Line, Main, Second, Claim, Doing, Site, IsSite, IsEmpty, IsOpen, IsDebtor, Holds, Out, Needed, after, leaves, wakened, counts_some, counts_taken}
+use Rattle.abstract_locks.specs.Locks.{Taken, Sort, Mutex, Normal, Recursive, Semaphore, Rules, Wake, readers, times, is_thread, standing, one_if_some, keep_from, let_go, putting}
+use Rattle.abstract_locks.specs.Sites.{Line, Main, Second, Claim, Doing, Site, IsSite, IsEmpty, IsOpen, IsDebtor, Holds, Out, Needed, after_deed, leaves, wakened, counts_some, counts_taken}
 use Rattle.abstract_locks.proofs.LockKeeps.{case_keeps}
 use Rattle.abstract_locks.proofs.Hands.{kept_few, kept_counts, kept_by}
 
@@ -42,15 +42,15 @@ wakened_counts sort t (Some h) d c = grind (arith, nat_tests)
 
 module _ (r : Rules) (s : Site) (t : ℕ) (h : IsSite r s) (n : Needed r Out s t) where
   abbrev v : Site
-  v = after r Out s t
+  v = after_deed r Out s t
 
   other : (u : ℕ) → u ≢ t → Alike (v.doing u) (s.doing u)
-  other u ne = let e : put s.doing t (leaves (s.doing t)) u ≡ s.doing u = grind (arith, nat_tests) in rw e (wakened_alike t (s.lock.taken u) (s.doing u))
+  other u ne = let e : putting s.doing t (leaves (s.doing t)) u ≡ s.doing u = grind (arith, nat_tests) in rw e (wakened_alike t (s.lock.taken u) (s.doing u))
 
   own : Alike (v.doing t) (leaves (s.doing t))
-  own = let e : put s.doing t (leaves (s.doing t)) t ≡ leaves (s.doing t) = grind (arith, nat_tests) in rw e (wakened_alike t (s.lock.taken t) (leaves (s.doing t)))
+  own = let e : putting s.doing t (leaves (s.doing t)) t ≡ leaves (s.doing t) = grind (arith, nat_tests) in rw e (wakened_alike t (s.lock.taken t) (leaves (s.doing t)))
 
-  same_retries : (u : ℕ) → (put s.doing t (leaves (s.doing t)) u).retries ≡ (s.doing u).retries
+  same_retries : (u : ℕ) → (putting s.doing t (leaves (s.doing t)) u).retries ≡ (s.doing u).retries
   same_retries u = elim (cases_eq u t) [
     | inl e ↦ rw e (grind (arith, nat_tests))
     | inr ne ↦ grind (arith, nat_tests)
@@ -143,7 +143,7 @@ module _ (r : Rules) (s : Site) (t : ℕ) (h : IsSite r s) (n : Needed r Out s t
   still_unwoken : (u : ℕ) → 1 ≤ standing u v.lock → (v.doing u).retries ≡ None
   still_unwoken u e =
       let stood : 1 ≤ standing u s.lock = (let k = kept_few t (s.lock.taken u) in let g : 1 ≤ times u s.lock.queue + is_thread u s.lock.aside + one_if_some (let_go t s.lock.taken u) = e in omega arith) in
-      unwakened t (s.lock.taken u) (put s.doing t (leaves (s.doing t)) u) (still_there u e) ∙ same_retries u ∙ h.unwoken u stood
+      unwakened t (s.lock.taken u) (putting s.doing t (leaves (s.doing t)) u) (still_there u e) ∙ same_retries u ∙ h.unwoken u stood
 
   was_open : (sort : Sort) → IsOpen sort v.lock → IsOpen sort s.lock
   was_open Mutex e = e
@@ -170,10 +170,10 @@ module _ (r : Rules) (s : Site) (t : ℕ) (h : IsSite r s) (n : Needed r Out s t
       by_debt : (u : ℕ) → IsDebtor r.sort (s.doing u) → (x : ℕ) × IsDebtor r.sort (v.doing x)
       by_debt u (inl w) = let ne : u ≢ t = (λ e. let k : (s.doing t).wakes ≡ Some Main = rw e at w in let g = n.1 in cc) in (u, inl ((other u ne).wakes ∙ w))
       by_debt u (inr (inl c)) = elim (cases_eq u t) [
-        | inl e ↦ let one = (h.covered t (rw e at c)).2 (left_by left (rw e at c)) in (one.0, inr (inr (wakened_counts r.sort t (s.lock.taken one.0) (put s.doing t (leaves (s.doing t)) one.0) one.1)))
+        | inl e ↦ let one = (h.covered t (rw e at c)).2 (left_by left (rw e at c)) in (one.0, inr (inr (wakened_counts r.sort t (s.lock.taken one.0) (putting s.doing t (leaves (s.doing t)) one.0) one.1)))
         | inr ne ↦ (u, inr (inl ((other u ne).covers ∙ c)))
       ]
-      by_debt u (inr (inr c)) = (u, inr (inr (ap (counts_some r.sort) (unwakened t (s.lock.taken u) (put s.doing t (leaves (s.doing t)) u) (in_no_hand u c (s.lock.taken u) refl) ∙ same_retries u) ∙ c)))
+      by_debt u (inr (inr c)) = (u, inr (inr (ap (counts_some r.sort) (unwakened t (s.lock.taken u) (putting s.doing t (leaves (s.doing t)) u) (in_no_hand u c (s.lock.taken u) refl) ∙ same_retries u) ∙ c)))
 
   still_second : v.lock.aside ≢ None → readers v.lock ≡ 0 → (u : ℕ) × ((v.doing u).wakes ≡ Some Second)
   still_second stands none = let one = h.second stands none in

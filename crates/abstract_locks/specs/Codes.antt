@@ -4,7 +4,7 @@ use Rattle.lot_base.specs.declared.wants.Want.{Want}
 use Rattle.lot_base.specs.declared.wants.Want.TheVariants.{Exclusive, Upgradable, Shared}
 use Rattle.abstract_locks.specs.Locks.{LockState, Pending, Sort, Mutex, Normal, Recursive, Semaphore, Rules, LockCase, Enter, Pend, Leave, Convert, HandOff, Rollback, Knows, NoWriter, IsFree, IsBlocked, is_recursive, count, readers, one_if_some, Needs, IsLockState}
 use Rattle.abstract_locks.specs.Locks as locks
-use Rattle.abstract_locks.specs.Sites.{Site, IsSite, Does, Needed, after, has_readers}
+use Rattle.abstract_locks.specs.Sites.{Site, IsSite, Case, Needed, after_deed, has_readers}
 
 abbrev pub bit : Bool → ℕ
 bit true = 1
@@ -125,8 +125,8 @@ IsHandOff case = ⊥
 abbrev pub WordFollows : Type 0
 WordFollows =
     (r : Rules) (case : LockCase) (s : Site) (t : ℕ) → has_readers r.sort ≡ true → t < length s.lock.shared → IsSite r s
-    → Needed r (Does case) s t → (IsHandOff case → ⊥)
-    → code r (after r (Does case) s t) + lost s.lock.pending case ≡ code r s + rolled s.lock.pending case
+    → Needed r (Case case) s t → (IsHandOff case → ⊥)
+    → code r (after_deed r (Case case) s t) + lost s.lock.pending case ≡ code r s + rolled s.lock.pending case
 
 abbrev pub WordsTellTrue : Type 0
 WordsTellTrue = (r : Rules) (s : Site) → has_readers r.sort ≡ true → IsSite r s → TellsTrue r s
@@ -144,4 +144,4 @@ abbrev pub LimitKept : Type 0
 LimitKept =
     (r : Rules) (case : LockCase) (s : LockState) (t : ℕ) → has_readers r.sort ≡ true → t < length s.shared
     → 1 ≤ r.limit → IsLockState r s → HasLimit r s → Needs r case s t → (IsHandOff case → ⊥)
-    → HasLimit r (locks.after r case s t)
+    → HasLimit r (locks.after_case r case s t)

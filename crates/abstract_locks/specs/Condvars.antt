@@ -1,7 +1,7 @@
 -- The abstract condition variable, and what a thread inside its section does. No word, no place and no loop.
 use Rattle.std.specs.Prelude.{ℕ, Bool, true, false, Option, Some, None, if◌then◌else◌, ◌≤◌, ◌≡◌, ◌≢◌, ◌⊎◌, List, [], ◌∷◌, ◌++◌, map, take, drop}
 use Rattle.lot_base.specs.declared.wants.Want.TheVariants.{Exclusive, Wait}
-use Rattle.abstract_locks.specs.Locks.{Queued, Mutex, Rules, put, times, standing, without}
+use Rattle.abstract_locks.specs.Locks.{Queued, Mutex, Rules, putting, times, standing, without}
 use Rattle.abstract_locks.specs.Sites.{Main, Site, Bring, Needed, is_empty}
 
 -- What a thread inside the section is about to do, `m` being a mutex.
@@ -113,8 +113,8 @@ abbrev pub waiter : ℕ → Queued
 waiter t = record { thread = t; want = Wait }
 
 abbrev pub condvar_leads : CondvarDeed → CondvarSite → ℕ → CondvarSite
-condvar_leads (BeginsWait m) c t = record c { waits_with = put c.waits_with t (Some m) }
-condvar_leads EndsWait c t = record c { waits_with = put c.waits_with t None }
+condvar_leads (BeginsWait m) c t = record c { waits_with = putting c.waits_with t (Some m) }
+condvar_leads EndsWait c t = record c { waits_with = putting c.waits_with t None }
 condvar_leads GoesIn c t = at c t Rests
 condvar_leads GoesOut c t = record c { inside = None }
 condvar_leads (Show m) c t = at (record c { shown = Some m }) t (Adds m)

@@ -11,7 +11,7 @@ use Rattle.lot_calls.specs.declared.outcomes.Answer as answer
 use Rattle.lot_calls.specs.declared.outcomes.Outcome as outcome
 use Rattle.abstract_locks.specs.Locks.{Wake, Enter, LockCase, IsFree, opening_lock}
 use Rattle.abstract_locks.specs.Purposes.{Purpose, Enters, Releases, Try}
-use Rattle.abstract_locks.specs.Runs.{LocksState, Stance, AtLock, MayHappen, MayTurn, IsStep, beginning, no_rights, rules_at}
+use Rattle.abstract_locks.specs.Runs.{LocksState, Stance, AtLock, MayHappen, MayTurn, IsStep, new_call, no_rights, rules_at}
 
 -- a turn that is possible isn't refused
 abbrev pub PossibleTurnsAreTaken : Type 0
@@ -44,7 +44,7 @@ trying = record {
   kinds = λ l. kind.Mutex;
   locks = λ l. opening_lock 1;
   inside = λ key. None;
-  calls = λ t. beginning (Some (Enters 0 Exclusive Try)) (λ l. no_rights);
+  calls = λ t. new_call (Some (Enters 0 Exclusive Try)) (λ l. no_rights);
   stances = λ t. record { asleep = false; in_closure = false; enters = None; may_spin = false };
 }
 

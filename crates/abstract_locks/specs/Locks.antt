@@ -67,8 +67,8 @@ abbrev pub count : LockState → ℕ
 count s = readers s + one_if_some s.upgradable
 
 -- a value at one thread, the others as they were
-abbrev pub put : {A : Type 0} → (ℕ → A) → ℕ → A → ℕ → A
-put f t x u = if u == t then x else f u
+abbrev pub putting : {A : Type 0} → (ℕ → A) → ℕ → A → ℕ → A
+putting f t x u = if u == t then x else f u
 
 -- those whom t has taken are let go
 abbrev pub keep_from : ℕ → Option Taken → Option Taken
@@ -217,8 +217,8 @@ abbrev pub is_recursive : Sort → Bool
 is_recursive Recursive = true
 is_recursive sort = false
 
--- where the picking stops: behind that first one, where it is a writer, the lock isn't recursive and no more than a shared right is
--- kept; else behind the last
+-- where the picking stops: behind that first one, where it is a writer, the lock isn't recursive and no more than a shared
+-- right is kept; else behind the last
 abbrev pub stop_of : Sort → Option Want → List Queued → ℕ
 stop_of sort start q =
     if is_writer (first_unshared q) && (not (is_recursive sort) && not (keeps_more start))
@@ -268,8 +268,8 @@ pub data LockCase : Type 0 where
   TakePicked : (start : Option Want) → LockCase
   -- it wakes all whom it has taken, and they try again
   Wake : LockCase
-  -- it hands its right to all whom it has taken: it owns no longer, and they own, in one step; the successor is the one among them
-  -- that wants more than to share
+  -- it hands its right to all whom it has taken: it owns no longer, and they own, in one step; the successor is the one
+  -- among them that wants more than to share
   HandOff : (right : Want) → (successor : Option Queued) → LockCase
   -- its time is up, and it leaves the queue
   Late : LockCase
@@ -277,33 +277,33 @@ pub data LockCase : Type 0 where
   Rollback : LockCase
 
 -- the state with one right more
-abbrev pub owning : ℕ → Want → LockState → LockState
-owning t Exclusive s = record s { exclusive = Some t }
-owning t Upgradable s = record s { upgradable = Some t }
-owning t Shared s = record s { shared = slice_set s.shared t (slice_index s.shared t + 1) }
-owning t x s = s
+abbrev pub with_owner : ℕ → Want → LockState → LockState
+with_owner t Exclusive s = record s { exclusive = Some t }
+with_owner t Upgradable s = record s { upgradable = Some t }
+with_owner t Shared s = record s { shared = slice_set s.shared t (slice_index s.shared t + 1) }
+with_owner t x s = s
 
 -- and with one right less
-abbrev pub leaving : ℕ → Want → LockState → LockState
-leaving t Exclusive s = record s { exclusive = None }
-leaving t Upgradable s = record s { upgradable = None }
-leaving t Shared s = record s { shared = slice_set s.shared t (slice_index s.shared t - 1) }
-leaving t x s = s
+abbrev pub without_owner : ℕ → Want → LockState → LockState
+without_owner t Exclusive s = record s { exclusive = None }
+without_owner t Upgradable s = record s { upgradable = None }
+without_owner t Shared s = record s { shared = slice_set s.shared t (slice_index s.shared t - 1) }
+without_owner t x s = s
 
 abbrev pub pending_for : ℕ → Bool → LockState → LockState
 pending_for t falls_back s = record s { pending = Some (record { thread = t; falls_back = falls_back }) }
 
 -- a writer owns where nobody shares, and is pending where somebody does
 abbrev pub writing : ℕ → Bool → LockState → LockState
-writing t falls_back s = if readers s == 0 then owning t Exclusive s else pending_for t falls_back s
+writing t falls_back s = if readers s == 0 then with_owner t Exclusive s else pending_for t falls_back s
 
 abbrev pub converted : ℕ → Want → LockState → LockState
 converted t Exclusive s = writing t true s
-converted t x s = owning t x s
+converted t x s = with_owner t x s
 
 abbrev pub falling_back : ℕ → Option Pending → LockState → LockState
 falling_back t None s = s
-falling_back t (Some p) s = if p.falls_back then owning t Upgradable s else s
+falling_back t (Some p) s = if p.falls_back then with_owner t Upgradable s else s
 
 -- the queue without a thread
 abbrev pub without : ℕ → List Queued → List Queued
@@ -316,7 +316,7 @@ aside_without t (Some u) = if u == t then None else Some u
 -- t takes these threads
 abbrev pub taking : ℕ → List Queued → (ℕ → Option Taken) → ℕ → Option Taken
 taking t [] taken = taken
-taking t (x ∷ xs) taken = taking t xs (put taken x.thread (Some (record { by = t; want = x.want })))
+taking t (x ∷ xs) taken = taking t xs (putting taken x.thread (Some (record { by = t; want = x.want })))
 
 -- each thread that t has taken and that wants to share has one right more; i is the number of the first thread
 abbrev pub shares_handed : ℕ → Option Taken → ℕ
@@ -332,14 +332,14 @@ sharing_handed t s = record s { shared = sharing_from t s.taken 0 s.shared; take
 
 abbrev pub succeeding : Want → ℕ → LockState → LockState
 succeeding Exclusive u s = writing u false s
-succeeding x u s = owning u x s
+succeeding x u s = with_owner u x s
 
 abbrev pub with_successor : Option Queued → LockState → LockState
 with_successor None s = s
 with_successor (Some x) s = succeeding x.want x.thread s
 
 abbrev pub handed : ℕ → Want → Option Queued → LockState → LockState
-handed t right successor s = with_successor successor (sharing_handed t (leaving t right s))
+handed t right successor s = with_successor successor (sharing_handed t (without_owner t right s))
 
 -- which rights may become which
 abbrev pub MayConvert : Want → Want → Type 0
@@ -384,23 +384,23 @@ Needs r Late s t = 1 ≤ times t s.queue + is_thread t s.aside
 Needs r Rollback s t = IsSomePending s.pending t × (s.aside ≡ None)
 
 -- and where it leads
-abbrev pub after : Rules → LockCase → LockState → ℕ → LockState
-after r (Enter x) s t = owning t x s
-after r Pend s t = pending_for t false s
-after r Settle s t = owning t Exclusive (record s { pending = None })
-after r (Leave right) s t = leaving t right s
-after r (Convert right want) s t = converted t want (leaving t right s)
-after r (Park want) s t = record s { queue = s.queue ++ (record { thread = t; want = want }) ∷ [] }
-after r Aside s t = record s { aside = Some t }
-after r (TakeFirst x) s t = record s { queue = drop 1 s.queue; taken = taking t (x ∷ []) s.taken }
-after r (TakeAside u) s t =
-    record s { aside = None; taken = put s.taken u (Some (record { by = t; want = Exclusive })) }
-after r (TakePicked start) s t =
+abbrev pub after_case : Rules → LockCase → LockState → ℕ → LockState
+after_case r (Enter x) s t = with_owner t x s
+after_case r Pend s t = pending_for t false s
+after_case r Settle s t = with_owner t Exclusive (record s { pending = None })
+after_case r (Leave right) s t = without_owner t right s
+after_case r (Convert right want) s t = converted t want (without_owner t right s)
+after_case r (Park want) s t = record s { queue = s.queue ++ (record { thread = t; want = want }) ∷ [] }
+after_case r Aside s t = record s { aside = Some t }
+after_case r (TakeFirst x) s t = record s { queue = drop 1 s.queue; taken = taking t (x ∷ []) s.taken }
+after_case r (TakeAside u) s t =
+    record s { aside = None; taken = putting s.taken u (Some (record { by = t; want = Exclusive })) }
+after_case r (TakePicked start) s t =
     record s { queue = unpicked r.sort start s.queue; taken = taking t (picked r.sort start s.queue) s.taken }
-after r Wake s t = record s { taken = let_go t s.taken }
-after r (HandOff right successor) s t = handed t right successor s
-after r Late s t = record s { queue = without t s.queue; aside = aside_without t s.aside }
-after r Rollback s t = falling_back t s.pending (record s { pending = None })
+after_case r Wake s t = record s { taken = let_go t s.taken }
+after_case r (HandOff right successor) s t = handed t right successor s
+after_case r Late s t = record s { queue = without t s.queue; aside = aside_without t s.aside }
+after_case r Rollback s t = falling_back t s.pending (record s { pending = None })
 
 -- ---------------------------------------------------------------- what holds in every state
 

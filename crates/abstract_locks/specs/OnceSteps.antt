@@ -39,7 +39,7 @@ pub data At : Type 0 where
   WakesTake : (well : Bool) → At
   WakesLeave : (well : Bool) → At
 
-pub record Place : Type 0 where
+pub record OncePlace : Type 0 where
   pub purpose : Purpose
   pub retries : Bool
   pub at : At
@@ -47,7 +47,7 @@ pub record Place : Type 0 where
 abbrev pub want_of : Purpose → Want
 want_of p = if p.runs then CallOnce else Wait
 
-abbrev pub again : Place → Option Want
+abbrev pub again : OncePlace → Option Want
 again p = if p.retries then Some (want_of p.purpose) else None
 
 abbrev pub claim : Bool → Option Claim
@@ -71,7 +71,7 @@ doing_at again (WakesIn well) = record idle { wakes = Some Main; claims = claim 
 doing_at again (WakesTake well) = record idle { inside = Some Main; wakes = Some Main; claims = claim well }
 doing_at again (WakesLeave well) = record idle { inside = Some Main; claims = claim well }
 
-abbrev pub doing_of : Place → Doing
+abbrev pub doing_of : OncePlace → Doing
 doing_of p = doing_at (again p) p.at
 
 -- ---------------------------------------------------------------- where a step leads
@@ -157,17 +157,17 @@ keeps_retry Closure = false
 keeps_retry (Leaves true) = false
 keeps_retry at = true
 
-abbrev pub doing_then : Place → Next → Doing
+abbrev pub doing_then : OncePlace → Next → Doing
 doing_then p (Goes at) = doing_of (record p { retries = p.retries && keeps_retry at; at = at })
 doing_then p (EndsWith answer) = idle
 
-pub record OnceFollows (s : OnceSite) (t : ℕ) (p : Place) (m : Move) : Type 0 where
+pub record OnceFollows (s : OnceSite) (t : ℕ) (p : OncePlace) (m : Move) : Type 0 where
   pub needed : AllNeeded m.deeds s t
   pub doing : (all_deeds m.deeds s t).doing t ≡ doing_then p m.next
 
--- what the machine knows: who sleeps or removes itself stands in the list, and nobody else stands; the section entered is free; a place by
--- which nobody retries says so; a value by which it decides was seen
-pub record IsAtPlace (s : OnceSite) (t : ℕ) (p : Place) : Type 0 where
+-- what the machine knows: who sleeps or removes itself stands in the list, and nobody else stands; the section entered is
+-- free; a place by which nobody retries says so; a value by which it decides was seen
+pub record IsAtPlace (s : OnceSite) (t : ℕ) (p : OncePlace) : Type 0 where
   pub holds : IsOnce s
   pub is : s.doing t ≡ doing_of p
   pub listed : p.at ≡ Removes → 1 ≤ times t s.once.waiters
@@ -181,7 +181,7 @@ pub record IsAtPlace (s : OnceSite) (t : ℕ) (p : Place) : Type 0 where
 
 abbrev pub OnceStepsFollow : Type 0
 OnceStepsFollow =
-    (s : OnceSite) (t : ℕ) (p : Place) (well : Bool) → IsAtPlace s t p
+    (s : OnceSite) (t : ℕ) (p : OncePlace) (well : Bool) → IsAtPlace s t p
     → OnceFollows s t p (go_move p.purpose p.at (once_code s) well (is_empty (without t s.once.waiters)))
 
 -- and the word behind each deed that changes it

@@ -2,7 +2,7 @@
 use Rattle.std.specs.Prelude.{ℕ, Bool, true, false, Option, Some, None, ◌||◌, ◌+◌, ◌*◌, ◌≤◌, ◌≡◌, ◌≢◌, ◌⊎◌, List, [], ◌∷◌, ◌++◌}
 use Rattle.lot_base.specs.declared.wants.Want.{Want}
 use Rattle.lot_base.specs.declared.wants.Want.TheVariants.{Wait, CallOnce}
-use Rattle.abstract_locks.specs.Locks.{Queued, Taken, put, times, taking, let_go, without, one_if_some}
+use Rattle.abstract_locks.specs.Locks.{Queued, Taken, putting, times, taking, let_go, without, one_if_some}
 use Rattle.abstract_locks.specs.Sites.{Main, Claim, Runs, Ran, Doing, idle, seen_main, is_empty, found, leaves, wakened}
 use Rattle.abstract_locks.specs.Codes.{bit}
 
@@ -59,9 +59,9 @@ abbrev pub has_caller : List Queued → Bool
 has_caller [] = false
 has_caller (x ∷ xs) = calls x.want || has_caller xs
 
-abbrev pub IsRun : Phase → Type 0
-IsRun (InProgress runner) = Unit {0}
-IsRun phase = ⊥
+abbrev pub IsOnceRun : Phase → Type 0
+IsOnceRun (InProgress runner) = Unit {0}
+IsOnceRun phase = ⊥
 
 -- ---------------------------------------------------------------- what each thread does about it
 
@@ -87,7 +87,7 @@ pub record IsOnce (s : OnceSite) : Type 0 where
   -- a waiter implies the bit, or somebody who has seen it and hasn't taken yet
   pub parked : s.once.waiters ≢ [] → (s.parked ≡ true) ⊎ ((t : ℕ) × Wakes (s.doing t))
   -- nobody who waits to run it is forgotten
-  pub main : has_caller s.once.waiters ≡ true → (IsRun s.once.phase → ⊥) → (t : ℕ) × Wakes (s.doing t)
+  pub main : has_caller s.once.waiters ≡ true → (IsOnceRun s.once.phase → ⊥) → (t : ℕ) × Wakes (s.doing t)
   -- who has seen nobody is inside, and nobody has come
   pub emptied : (t : ℕ) → (s.doing t).empty ≡ Some Main → ((s.doing t).inside ≡ Some Main) × (s.once.waiters ≡ [])
   pub held : (t : ℕ) (c : Claim) → (s.doing t).claims ≡ Some c → Claims s.once.phase t c
@@ -130,21 +130,21 @@ once_doing TakeAll s now d = record d { wakes = None }
 once_doing Late s now d = record d { empty = found Main (is_empty now.waiters) }
 
 abbrev pub with_once_doing : OnceSite → ℕ → Doing → OnceSite
-with_once_doing s t d = record s { doing = put s.doing t d }
+with_once_doing s t d = record s { doing = putting s.doing t d }
 
 abbrev pub once_leads : OnceDeed → OnceSite → ℕ → OnceSite
 once_leads Ends s t = with_once_doing s t idle
 once_leads GoesIn s t = with_once_doing s t (record (s.doing t) { inside = Some Main })
 once_leads GoesOut s t = record s {
   once = record s.once { taken = let_go t s.once.taken };
-  doing = λ u. wakened t (s.once.taken u) (put s.doing t (leaves (s.doing t)) u);
+  doing = λ u. wakened t (s.once.taken u) (putting s.doing t (leaves (s.doing t)) u);
 }
 once_leads Sets s t = record s { parked = true }
-once_leads Clears s t = record s { parked = false; doing = put s.doing t (record (s.doing t) { empty = None }) }
+once_leads Clears s t = record s { parked = false; doing = putting s.doing t (record (s.doing t) { empty = None }) }
 once_leads (Acts case) s t = record s {
   once = once_after case s.once t;
   parked = bit_after case s.parked;
-  doing = put s.doing t (once_doing case s (once_after case s.once t) (s.doing t));
+  doing = putting s.doing t (once_doing case s (once_after case s.once t) (s.doing t));
 }
 
 abbrev pub OnceNeeds : OnceCase → OnceSite → ℕ → Doing → Type 0

@@ -1,7 +1,7 @@
 -- Of a semaphore as many threads look after the line as permits are free.
 use Rattle.std.specs.Prelude.{ℕ, true, Option, Some, None, zero, suc, false, ◌+◌, ◌<◌, ◌≤◌, ◌≡◌, ◌≢◌, ◌⊎◌, [], length}
 use Rattle.abstract_locks.specs.Locks.{Semaphore, Rules, readers, standing, one_if_some}
-use Rattle.abstract_locks.specs.Sites.{Line, Main, Doing, Site, IsSite, Deed, Needed, after}
+use Rattle.abstract_locks.specs.Sites.{Line, Main, Doing, Site, IsSite, Deed, Needed, after_deed}
 use Rattle.abstract_locks.specs.Codes.{bit}
 
 -- the sum of the first n values
@@ -31,7 +31,7 @@ pub record HasPermits (r : Rules) (s : Site) : Type 0 where
 abbrev pub EachDeedKeepsPermits : Type 0
 EachDeedKeepsPermits =
     (r : Rules) (deed : Deed) (s : Site) (t : ℕ) → r.sort ≡ Semaphore → t < length s.lock.shared → IsSite r s
-    → HasPermits r s → Needed r deed s t → HasPermits r (after r deed s t)
+    → HasPermits r s → Needed r deed s t → HasPermits r (after_deed r deed s t)
 
 -- so whoever waits while a permit is free is looked after
 abbrev pub PermitsAreLookedAfter : Type 0

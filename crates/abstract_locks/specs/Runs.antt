@@ -15,7 +15,7 @@ use Rattle.lot_calls.specs.declared.outcomes.Answer as answer
 use Rattle.lot_calls.specs.declared.outcomes.Outcome.{Outcome}
 use Rattle.lot_calls.specs.declared.outcomes.Outcome as outcome
 use Rattle.lot_calls.specs.Calls.{lock_in}
-use Rattle.abstract_locks.specs.Locks.{LockState, Taken, LockCase, Enter, Pend, Settle, Leave, Park, Aside, Wake, HandOff, Late, Rules, Rights, Mutex, Needs, after, rights_of, with_right, without_right, Owns, IsFree, IsBlocked, count, readers, put, standing, HasTakenNobody, IsLockState, opening_lock, times}
+use Rattle.abstract_locks.specs.Locks.{LockState, Taken, LockCase, Enter, Pend, Settle, Leave, Park, Aside, Wake, HandOff, Late, Rules, Rights, Mutex, Needs, after_case, rights_of, with_right, without_right, Owns, IsFree, IsBlocked, count, readers, putting, standing, HasTakenNobody, IsLockState, opening_lock, times}
 use Rattle.abstract_locks.specs.Purposes.{Purpose, Enters, Releases, Converts, Bumps, Patience, Patient, Timed, Try, purpose_of, rules_of, IsMadeOf}
 
 -- what is remembered of a call: what its answer needs of earlier steps, and whether it tries again
@@ -62,8 +62,8 @@ rules_at w l = rules_of (w.kinds l)
 abbrev pub rights_in : LocksState → ℕ → ℕ → Rights
 rights_in w t l = rights_of (w.locks l) t
 
-abbrev pub beginning : Option Purpose → (ℕ → Rights) → CallState
-beginning purpose former =
+abbrev pub new_call : Option Purpose → (ℕ → Rights) → CallState
+new_call purpose former =
     record { purpose = purpose; former = former; gave_up = None; retries = None; released = false; late = false }
 
 abbrev pub no_rights : Rights
@@ -75,7 +75,7 @@ AreLockStates w = (l : ℕ) → IsLockState (rules_at w l) (w.locks l)
 
 -- between its calls a thread remembers nothing
 abbrev pub no_call : CallState
-no_call = beginning None (λ l. no_rights)
+no_call = new_call None (λ l. no_rights)
 
 -- and it is awake
 abbrev pub no_stance : Stance
@@ -97,7 +97,7 @@ pub data Event : Type 0 where
 
 abbrev pub locks_after : LocksState → ℕ → Event → ℕ → LockState
 locks_after w t Nothing = w.locks
-locks_after w t (AtLock l case) = put w.locks l (after (rules_at w l) case (w.locks l) t)
+locks_after w t (AtLock l case) = putting w.locks l (after_case (rules_at w l) case (w.locks l) t)
 
 -- what the thread of the step remembers of it: an ownership, or a place in a queue, ends its retry
 abbrev pub going_on : Event → CallState → CallState
@@ -153,11 +153,11 @@ MayHappen w t (AtLock l case) = MayDo w t l case (w.calls t).purpose
 
 -- one right more at one lock
 abbrev pub one_more_at : ℕ → Want → (ℕ → Rights) → ℕ → Rights
-one_more_at l x rights = put rights l (with_right x (rights l))
+one_more_at l x rights = putting rights l (with_right x (rights l))
 
 -- and one right less
 abbrev pub one_less_at : ℕ → Want → (ℕ → Rights) → ℕ → Rights
-one_less_at l x rights = put rights l (without_right x (rights l))
+one_less_at l x rights = putting rights l (without_right x (rights l))
 
 -- the thread owns what it owned as its call began
 abbrev pub Keeps : LocksState → ℕ → CallState → Type 0
@@ -172,8 +172,8 @@ abbrev pub Loses : LocksState → ℕ → CallState → ℕ → Want → Type 0
 Loses w t c l x = (k : ℕ) → one_more_at l x (rights_in w t) k ≡ c.former k
 
 -- and one right in place of another
-abbrev pub Turns : LocksState → ℕ → CallState → ℕ → Want → Want → Type 0
-Turns w t c l x y = (k : ℕ) → one_more_at l x (rights_in w t) k ≡ one_more_at l y c.former k
+abbrev pub Replaces : LocksState → ℕ → CallState → ℕ → Want → Want → Type 0
+Replaces w t c l x y = (k : ℕ) → one_more_at l x (rights_in w t) k ≡ one_more_at l y c.former k
 
 -- only the limit keeps it out
 abbrev pub IsFull : LocksState → ℕ → Want → Type 0
@@ -194,10 +194,10 @@ EntersAnswer w t c l x how answer.TheVariants.ReadersFull = IsFull w l x × Keep
 EntersAnswer w t c l x how a = ⊥
 
 abbrev pub ConvertsAnswer : LocksState → ℕ → CallState → ℕ → Want → Want → Patience → Answer → Type 0
-ConvertsAnswer w t c l x y Patient answer.TheVariants.Ok = Turns w t c l x y
-ConvertsAnswer w t c l x y Timed answer.TheVariants.Yes = Turns w t c l x y
+ConvertsAnswer w t c l x y Patient answer.TheVariants.Ok = Replaces w t c l x y
+ConvertsAnswer w t c l x y Timed answer.TheVariants.Yes = Replaces w t c l x y
 ConvertsAnswer w t c l x y Timed answer.TheVariants.No = (c.gave_up ≡ Some l) × Keeps w t c
-ConvertsAnswer w t c l x y Try answer.TheVariants.Yes = Turns w t c l x y
+ConvertsAnswer w t c l x y Try answer.TheVariants.Yes = Replaces w t c l x y
 ConvertsAnswer w t c l x y Try answer.TheVariants.No = (1 ≤ readers (w.locks l)) × Keeps w t c
 ConvertsAnswer w t c l x y how a = ⊥
 
@@ -287,7 +287,7 @@ MayTurn w t turn.TheVariants.Err = (w.stances t).in_closure ≡ true
 pub record Stays (w : LocksState) (t : ℕ) (c : CallState) (o : Outcome) (v : LocksState) : Type 0 where
   pub told : o ≡ outcome.TheVariants.Step
   pub locks : (l : ℕ) → v.locks l ≡ w.locks l
-  pub calls : (u : ℕ) → v.calls u ≡ put w.calls t c u
+  pub calls : (u : ℕ) → v.calls u ≡ putting w.calls t c u
 
 -- a call goes on by one event, and its answer is true
 pub record GoesOn (w : LocksState) (t : ℕ) (o : Outcome) (v : LocksState) : Type 0 where
@@ -300,7 +300,7 @@ pub record GoesOn (w : LocksState) (t : ℕ) (o : Outcome) (v : LocksState) : Ty
 
 -- what a turn does: a call begins, goes on, looks once more, or is late
 abbrev pub Does : LocksState → ℕ → Turn → Outcome → LocksState → Type 0
-Does w t (turn.TheVariants.Begin c) o v = Stays w t (beginning (purpose_at w c) (rights_in w t)) o v
+Does w t (turn.TheVariants.Begin c) o v = Stays w t (new_call (purpose_at w c) (rights_in w t)) o v
 Does w t turn.TheVariants.Spin o v = Stays w t (w.calls t) o v
 Does w t turn.TheVariants.Late o v = Stays w t (record (w.calls t) { late = true }) o v
 Does w t x o v = GoesOn w t o v

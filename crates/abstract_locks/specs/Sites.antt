@@ -4,7 +4,7 @@ pub use Rattle.lot_base.specs.declared.keys.Line.{Line}
 pub use Rattle.lot_base.specs.declared.keys.Line.TheVariants.{Main, Second}
 use Rattle.lot_base.specs.declared.wants.Want.{Want}
 use Rattle.lot_base.specs.declared.wants.Want.TheVariants.{Exclusive, Upgradable, Shared}
-use Rattle.abstract_locks.specs.Locks.{LockState, Taken, Queued, Pending, Sort, Mutex, Normal, Recursive, Semaphore, Rules, LockCase, Enter, Pend, Settle, Leave, Convert, Park, Aside, TakeFirst, TakeAside, TakePicked, Wake, HandOff, Late, Rollback, Needs, Owns, Knows, NoWriter, IsLockState, KnowsAll, IsTaken, put, taking, readers, count, times, standing, is_thread, is_writer, keeps_more, unpicked, wants_shared, let_go, opening_lock}
+use Rattle.abstract_locks.specs.Locks.{LockState, Taken, Queued, Pending, Sort, Mutex, Normal, Recursive, Semaphore, Rules, LockCase, Enter, Pend, Settle, Leave, Convert, Park, Aside, TakeFirst, TakeAside, TakePicked, Wake, HandOff, Late, Rollback, Needs, Owns, Knows, NoWriter, IsLockState, KnowsAll, IsTaken, putting, taking, readers, count, times, standing, is_thread, is_writer, keeps_more, unpicked, wants_shared, let_go, opening_lock}
 use Rattle.abstract_locks.specs.Locks as locks
 
 -- what a thread has by its place: a right, or a pending one with what it falls back to
@@ -169,7 +169,7 @@ pub data Deed : Type 0 where
   -- and sets the bit for those whom it has brought to one that nobody owned
   MarkBrought : Deed
   -- a case of the lock
-  Does : LockCase → Deed
+  Case : LockCase → Deed
 
 -- who gives way sees the bit
 abbrev pub seen_main : Bool → Option Line
@@ -225,7 +225,8 @@ case_doing sort s now (HandOff x successor) d = record d { covers = false; claim
 case_doing sort s now Late d = record d { empty = late_found now d.inside }
 case_doing sort s now Rollback d = gives_way s d (fallen s.lock.pending)
 
--- a hand-over stores the word anew: the bit of the main line stands where somebody is left, and an exclusive owner leaves no other
+-- a hand-over stores the word anew: the bit of the main line stands where somebody is left, and an exclusive owner leaves no
+-- other
 abbrev pub case_parked : Site → LockState → LockCase → Bool
 case_parked s now (HandOff x successor) = not (is_empty now.queue)
 case_parked s now case = s.parked
@@ -240,7 +241,7 @@ done r case s t now = record {
   parked = case_parked s now case;
   aside_parked = case_aside_parked s case;
   filled = s.filled || is_full r now;
-  doing = put s.doing t (case_doing r.sort s now case (s.doing t));
+  doing = putting s.doing t (case_doing r.sort s now case (s.doing t));
 }
 
 -- whoever is let go tries again for what it wanted
@@ -266,31 +267,31 @@ bringing taken moved d = record d {
 }
 
 abbrev pub with_doing : Site → ℕ → Doing → Site
-with_doing s t d = record s { doing = put s.doing t d }
+with_doing s t d = record s { doing = putting s.doing t d }
 
-abbrev pub after : Rules → Deed → Site → ℕ → Site
-after r (Begin claims) s t = with_doing s t (record (s.doing t) { claims = claims })
-after r End s t = with_doing s t idle
-after r (In m) s t = with_doing s t (record (s.doing t) { inside = Some m })
-after r Out s t = record s {
+abbrev pub after_deed : Rules → Deed → Site → ℕ → Site
+after_deed r (Begin claims) s t = with_doing s t (record (s.doing t) { claims = claims })
+after_deed r End s t = with_doing s t idle
+after_deed r (In m) s t = with_doing s t (record (s.doing t) { inside = Some m })
+after_deed r Out s t = record s {
   lock = record s.lock { taken = let_go t s.lock.taken };
-  doing = λ u. wakened t (s.lock.taken u) (put s.doing t (leaves (s.doing t)) u);
+  doing = λ u. wakened t (s.lock.taken u) (putting s.doing t (leaves (s.doing t)) u);
 }
-after r (Mark Main) s t = record s { parked = true }
-after r (Mark Second) s t = record s { aside_parked = true }
-after r (Clear Main) s t =
-    record s { parked = false; doing = put s.doing t (record (s.doing t) { empty = None; brings = false }) }
-after r (Clear Second) s t =
-    record s { aside_parked = false; doing = put s.doing t (record (s.doing t) { empty = None; brings = false }) }
-after r (FindNobody m) s t =
+after_deed r (Mark Main) s t = record s { parked = true }
+after_deed r (Mark Second) s t = record s { aside_parked = true }
+after_deed r (Clear Main) s t =
+    record s { parked = false; doing = putting s.doing t (record (s.doing t) { empty = None; brings = false }) }
+after_deed r (Clear Second) s t =
+    record s { aside_parked = false; doing = putting s.doing t (record (s.doing t) { empty = None; brings = false }) }
+after_deed r (FindNobody m) s t =
     with_doing s t (record (s.doing t) { wakes = None; carries = true; covers = is_main m; empty = Some m })
-after r MarkBrought s t = record s { parked = true; doing = put s.doing t (record (s.doing t) { sets = false }) }
-after r MarkOwned s t = record s { parked = true; doing = put s.doing t (record (s.doing t) { brings = true }) }
-after r (Bring taken moved) s t = record s {
+after_deed r MarkBrought s t = record s { parked = true; doing = putting s.doing t (record (s.doing t) { sets = false }) }
+after_deed r MarkOwned s t = record s { parked = true; doing = putting s.doing t (record (s.doing t) { brings = true }) }
+after_deed r (Bring taken moved) s t = record s {
   lock = record s.lock { queue = s.lock.queue ++ moved; taken = taking t taken s.lock.taken };
-  doing = put s.doing t (bringing taken moved (s.doing t));
+  doing = putting s.doing t (bringing taken moved (s.doing t));
 }
-after r (Does case) s t = done r case s t (locks.after r case s.lock t)
+after_deed r (Case case) s t = done r case s t (locks.after_case r case s.lock t)
 
 -- ---------------------------------------------------------------- what a deed needs
 
@@ -299,27 +300,27 @@ HasClaim s t None = Unit {0}
 HasClaim s t (Some c) = Holds s t c
 
 -- it may keep more than a shared right only where it has it
-abbrev pub Keeps : LockState → ℕ → Option Want → Type 0
-Keeps s t None = Unit {0}
-Keeps s t (Some Shared) = Unit {0}
-Keeps s t (Some x) = Owns s t x
+abbrev pub KeepsOwned : LockState → ℕ → Option Want → Type 0
+KeepsOwned s t None = Unit {0}
+KeepsOwned s t (Some Shared) = Unit {0}
+KeepsOwned s t (Some x) = Owns s t x
 
-abbrev pub Fits : Rules → Site → ℕ → LockCase → Doing → Type 0
-Fits r s t (Enter x) d = (d.retries ≡ None) ⊎ (d.retries ≡ Some x)
-Fits r s t Pend d = Unit {0}
-Fits r s t Settle d = Unit {0}
-Fits r s t (Leave x) d = d.wakes ≡ None
-Fits r s t (Convert x y) d = (d.wakes ≡ None) × (d.carries ≡ false)
-Fits r s t (Park x) d = (d.inside ≡ Some Main) × (s.parked ≡ true) × (d.wakes ≡ None) × (d.covers ≡ false)
-Fits r s t Aside d = (d.inside ≡ Some Second) × (s.aside_parked ≡ true) × (d.wakes ≡ None)
-Fits r s t (TakeFirst x) d = (d.inside ≡ Some Main) × (d.carries ≡ false) × (d.wakes ≢ Some Second)
-Fits r s t (TakePicked start) d =
-    (d.inside ≡ Some Main) × (d.carries ≡ false) × (d.wakes ≢ Some Second) × Keeps s.lock t start
-Fits r s t (TakeAside u) d = (d.inside ≡ Some Second) × (d.carries ≡ false) × (d.wakes ≢ Some Main)
-Fits r s t Wake d = ⊥
-Fits r s t (HandOff x successor) d = (d.inside ≡ Some Main) × (d.covers ≡ true) × (d.retries ≡ None) × (d.wakes ≡ None)
-Fits r s t Late d = StandsIn s.lock t d.inside × (d.carries ≡ false)
-Fits r s t Rollback d = (d.wakes ≡ None) × (d.carries ≡ false)
+abbrev pub CaseFits : Rules → Site → ℕ → LockCase → Doing → Type 0
+CaseFits r s t (Enter x) d = (d.retries ≡ None) ⊎ (d.retries ≡ Some x)
+CaseFits r s t Pend d = Unit {0}
+CaseFits r s t Settle d = Unit {0}
+CaseFits r s t (Leave x) d = d.wakes ≡ None
+CaseFits r s t (Convert x y) d = (d.wakes ≡ None) × (d.carries ≡ false)
+CaseFits r s t (Park x) d = (d.inside ≡ Some Main) × (s.parked ≡ true) × (d.wakes ≡ None) × (d.covers ≡ false)
+CaseFits r s t Aside d = (d.inside ≡ Some Second) × (s.aside_parked ≡ true) × (d.wakes ≡ None)
+CaseFits r s t (TakeFirst x) d = (d.inside ≡ Some Main) × (d.carries ≡ false) × (d.wakes ≢ Some Second)
+CaseFits r s t (TakePicked start) d =
+    (d.inside ≡ Some Main) × (d.carries ≡ false) × (d.wakes ≢ Some Second) × KeepsOwned s.lock t start
+CaseFits r s t (TakeAside u) d = (d.inside ≡ Some Second) × (d.carries ≡ false) × (d.wakes ≢ Some Main)
+CaseFits r s t Wake d = ⊥
+CaseFits r s t (HandOff x successor) d = (d.inside ≡ Some Main) × (d.covers ≡ true) × (d.retries ≡ None) × (d.wakes ≡ None)
+CaseFits r s t Late d = StandsIn s.lock t d.inside × (d.carries ≡ false)
+CaseFits r s t Rollback d = (d.wakes ≡ None) × (d.carries ≡ false)
 
 -- a call ends outside of the sections, and one that was woken has what it wanted, or another has, or the lock is full
 abbrev pub MayEnd : Rules → LockState → Doing → Type 0
@@ -347,10 +348,10 @@ Needed r (Bring taken moved) s t =
     (r.sort ≡ Mutex) × ((s.doing t).inside ≡ Some Main) × ((s.doing t).carries ≡ false)
     × ((s.doing t).wakes ≡ None) × ((s.doing t).retries ≡ None)
     × Apart s (taken ++ moved) × KnowsAll Mutex (taken ++ moved) × (taken ≡ [] → (s.doing t).brings ≡ true)
-Needed r (Does case) s t = Needs r case s.lock t × Fits r s t case (s.doing t)
+Needed r (Case case) s t = Needs r case s.lock t × CaseFits r s t case (s.doing t)
 
 -- ---------------------------------------------------------------- the law
 
 abbrev pub EachDeedKeeps : Type 0
 EachDeedKeeps =
-    (r : Rules) (deed : Deed) (s : Site) (t : ℕ) → IsSite r s → Needed r deed s t → IsSite r (after r deed s t)
+    (r : Rules) (deed : Deed) (s : Site) (t : ℕ) → IsSite r s → Needed r deed s t → IsSite r (after_deed r deed s t)

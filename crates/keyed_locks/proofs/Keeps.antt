@@ -7,10 +7,10 @@ use native.Mathlib.Decide.{ℕ_discrete}
 use lib.ListN.{get_elem?}
 use Rattle.atomic_table.specs.Table.{Me, keeps, takes, gives, Allows, Arrives, opening}
 use Rattle.atomic_table.proofs.Lists.{set_here, set_else}
-use Rattle.keyed_locks.specs.Guards.{Guards, Takes, IsFull}
+use Rattle.keyed_locks.specs.Guards.{Guards, HasTaken, HasValue}
 
 module _ {T : Type 0} (fits : T → Type 0) where
-  full_at : (xs : List (Option T)) (i : ℕ) → All (IsFull fits) xs → i < length xs → (value : T) × (get_elem? (map some xs) i ≡ some (some (Some value))) × fits value
+  full_at : (xs : List (Option T)) (i : ℕ) → All (HasValue fits) xs → i < length xs → (value : T) × (get_elem? (map some xs) i ≡ some (some (Some value))) × fits value
   full_at [] i all h = absurd (omega arith)
   full_at (x ∷ xs) zero all h = let t = all 0 x (omega arith) in (t.0, ap (λ (y : Option T). some (some y)) t.1, t.2)
   full_at (x ∷ xs) (suc i) all h = full_at xs i (λ k d near. all (suc k) d (omega arith)) (omega arith)
@@ -34,7 +34,7 @@ module _ {T K : Type 0} (fits : T → Type 0) where
       ))
 
   -- a swap of 1 by a new seat
-  pub seizes : (n i : ℕ) (key : K) → i < n → Arrives (Guards fits) n i (λ _. 1) (λ found me. found ≡ 0 → Takes {K = K} fits i me)
+  pub seizes : (n i : ℕ) (key : K) → i < n → Arrives (Guards fits) n i (λ _. 1) (λ found me. found ≡ 0 → HasTaken {K = K} fits i me)
   seizes n i key near s g wide _ = let g₀ = g.0 in let one = get_or-set_same s.words i 1 0 (omega arith) in
       dite (ℕ_discrete (get_or s.words i 0) 0)
       (λ free. let t = g.1 i (omega arith) free in (
@@ -60,5 +60,5 @@ module _ {T K : Type 0} (fits : T → Type 0) where
         λ e. absurd (held e),
       ))
 
-  pub opens : (words : List ℕ) (values : List (Option T)) (key : K) → length words ≡ length values → All (IsFull fits) values → Guards {K = K} fits (opening words values key)
+  pub opens : (words : List ℕ) (values : List (Option T)) (key : K) → length words ≡ length values → All (HasValue fits) values → Guards {K = K} fits (opening words values key)
   opens words values key same all = (same ∙ sym (length-map values some), λ i h free. full_at fits values i all (omega arith))

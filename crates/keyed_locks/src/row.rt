@@ -1,6 +1,6 @@
 //! The row, and the hold of a value that is out of it.
 ghost use Rattle.std.specs.Prelude.{◌≡◌, ◌<◌, None, [], ◌∷◌, IfOk, All, length};
-ghost use Rattle.keyed_locks.specs.Guards.{Guards, Takes, IsFull};
+ghost use Rattle.keyed_locks.specs.Guards.{Guards, HasTaken, HasValue};
 
 use atomic_table::{Play, Refused, Seat, Table, TableRule};
 use std::alloc::{AllocError, Global};
@@ -14,11 +14,11 @@ pub trait Keyed<K> {
 }
 
 /// Each word is 0 while its value is at home, and then the value fits the key.
-pub struct Guarded<K, T> {
+pub struct RowRule<K, T> {
     marker: PhantomData<(K, T)>,
 }
 
-impl<K, T: Keyed<K>> TableRule<Option<T>, K, K> for Guarded<K, T> {
+impl<K, T: Keyed<K>> TableRule<Option<T>, K, K> for RowRule<K, T> {
     ghost holds = { λ key. Guards (T.fits key) };
 
     // A seat's view is the key.
@@ -26,8 +26,8 @@ impl<K, T: Keyed<K>> TableRule<Option<T>, K, K> for Guarded<K, T> {
 }
 
 /// A swap of 1 for 0 takes the value.
-impl<K, T: Keyed<K>> Play<Option<T>, K> for Guarded<K, T> {
-    ghost then = { λ step before found after. found ≡ 0 → Takes (T.fits before.0) step.word after };
+impl<K, T: Keyed<K>> Play<Option<T>, K> for RowRule<K, T> {
+    ghost then = { λ step before found after. found ≡ 0 → HasTaken (T.fits before.0) step.word after };
 }
 
 struct Released;
@@ -39,7 +39,7 @@ impl<K, T> Play<Option<T>, K> for Released {
 /// A row of values, each behind a lock of its own.
 #[derive(Drop)]
 pub struct KeyedLocks<K, T: Keyed<K>> {
-    table: Table<Option<T>, K, K, Guarded<K, T>, Global>,
+    table: Table<Option<T>, K, K, RowRule<K, T>, Global>,
     count: usize,
     ghost sized: { (table.shared.table_id.words ≡ count) × (table.shared.table_id.slots ≡ count) },
 }
@@ -58,7 +58,7 @@ impl<K, T: Keyed<K> + Drop> KeyedLocks<K, T> {
         values: Vec<Option<T>>,
         key: &K,
     ) -> Result<KeyedLocks<K, T>, AllocError>
-        requires { All (IsFull (T.fits key.now)) values.items }
+        requires { All (HasValue (T.fits key.now)) values.items }
         ensures { IfOk result (λ row. (row.table.shared.key ≡ key.now) × (row.count ≡ length values.items)) }
     {
         let count = values.len();
@@ -83,7 +83,7 @@ impl<K, T: Keyed<K> + Drop> KeyedLocks<K, T> {
     {
         let locks = &self.table.shared;
         for _ in rt.forever() {
-            let (found, mut seat) = locks.swap_new_seat::<Guarded<K, T>>(at, 1);
+            let (found, mut seat) = locks.swap_new_seat::<RowRule<K, T>>(at, 1);
             if found == 0 {
                 let value = locks.exchange(&mut seat, at, None).unwrap();
                 return (value, Held { seat, at });

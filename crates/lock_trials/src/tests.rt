@@ -36,7 +36,8 @@ fn mutex_alone<T: Drop>(alloc: Global, value: T) -> Result<(Mutex<T>, Token), Fa
 
 // A lot of one word, with two threads, and its mutex.
 fn pair(alloc: Global) -> Result<(Arc<ParkingLot>, Mutex<u8>, Token, Token), Fault>
-    ensures { IfOk result (λ made. (lot_of made.1 ≡ arc_value made.0) × IsTokenOf (arc_value made.0) made.2 × IsTokenOf (arc_value made.0) made.3) }
+    ensures { IfOk result (λ made. (lot_of made.1 ≡ arc_value made.0) × IsTokenOf (arc_value made.0) made.2
+        × IsTokenOf (arc_value made.0) made.3) }
 {
     let (lot, mut tickets) = ParkingLot::new(alloc, 1, 2)?;
     let (Some(one), Some(other)) = (tickets.pop(), tickets.pop()) else {

@@ -22,11 +22,13 @@ pub struct Queueing {
     // Those of them that have not been given a right.
     rightless: Vec<usize>,
     seats: usize,
-    ghost roomy: { (queues.capacity ≡ seats) × (seats ≤ vec_capacity taken) × (vec_capacity taken ≤ vec_capacity rightless) × (seats ≤ vec_capacity wants) },
+    ghost roomy: { (queues.capacity ≡ seats) × (seats ≤ vec_capacity taken)
+        × (vec_capacity taken ≤ vec_capacity rightless) × (seats ≤ vec_capacity wants) },
 }
 
 fn room(alloc: Global, seats: usize) -> Result<(Vec<usize>, Vec<usize>, Vec<Want>), AllocError>
-    ensures { IfOk result (λ rooms. (seats ≤ vec_capacity rooms.0) × (vec_capacity rooms.0 ≤ vec_capacity rooms.1) × (seats ≤ vec_capacity rooms.2)) }
+    ensures { IfOk result (λ rooms. (seats ≤ vec_capacity rooms.0) × (vec_capacity rooms.0 ≤ vec_capacity rooms.1)
+        × (seats ≤ vec_capacity rooms.2)) }
 {
     let taken = Vec::with_capacity(alloc, seats)?;
     let rightless = Vec::with_capacity(alloc, taken.capacity())?;
@@ -86,9 +88,12 @@ impl Queueing {
 
     // The one that was taken, if any.
     fn note_taken(&mut self, first: Option<usize>)
-        requires { (self.old.taken.items ≡ []) × (self.old.rightless.items ≡ []) × IfSome first (λ thread. thread < self.old.seats) }
-        ensures taken { MatchOption first (self.new.taken.items ≡ []) (λ thread. self.new.taken.items ≡ thread ∷ []) × (self.new.rightless.items ≡ self.new.taken.items) }
-        ensures same { (self.new.queues ≡ self.old.queues) × (self.new.wants.items ≡ self.old.wants.items) × (self.new.seats ≡ self.old.seats) }
+        requires { (self.old.taken.items ≡ []) × (self.old.rightless.items ≡ [])
+            × IfSome first (λ thread. thread < self.old.seats) }
+        ensures taken { MatchOption first (self.new.taken.items ≡ []) (λ thread. self.new.taken.items ≡ thread ∷ [])
+            × (self.new.rightless.items ≡ self.new.taken.items) }
+        ensures same { (self.new.queues ≡ self.old.queues) × (self.new.wants.items ≡ self.old.wants.items)
+            × (self.new.seats ≡ self.old.seats) }
     {
         if let Some(thread) = first {
             self.taken.push_reserved(thread);
@@ -100,7 +105,8 @@ impl Queueing {
     pub fn take_first(&mut self, key: Key) -> Option<usize>
         requires { (self.old.taken.items ≡ []) × (self.old.rightless.items ≡ []) × (self.old.wants.items ≡ []) }
         ensures first { result ≡ first_of (line key self.old.queues.waiters) }
-        ensures taken { MatchOption result (self.new.taken.items ≡ []) (λ thread. self.new.taken.items ≡ thread ∷ []) × (self.new.rightless.items ≡ self.new.taken.items) }
+        ensures taken { MatchOption result (self.new.taken.items ≡ []) (λ thread. self.new.taken.items ≡ thread ∷ [])
+            × (self.new.rightless.items ≡ self.new.taken.items) }
         ensures wants { self.new.wants.items ≡ wants_of (take 1 (line key self.old.queues.waiters)) }
         ensures lines { lines self.new.queues.waiters ≡ lines (without_first key self.old.queues.waiters) }
         ensures same { self.new.seats ≡ self.old.seats }
@@ -114,7 +120,8 @@ impl Queueing {
     /// Takes all under a key.
     pub fn take_all(&mut self, key: Key)
         requires { (self.old.taken.items ≡ []) × (self.old.rightless.items ≡ []) × (self.old.wants.items ≡ []) }
-        ensures taken { (self.new.taken.items ≡ threads_of (line key self.old.queues.waiters)) × (self.new.rightless.items ≡ self.new.taken.items) }
+        ensures taken { (self.new.taken.items ≡ threads_of (line key self.old.queues.waiters))
+            × (self.new.rightless.items ≡ self.new.taken.items) }
         ensures wants { self.new.wants.items ≡ wants_of (line key self.old.queues.waiters) }
         ensures lines { lines self.new.queues.waiters ≡ lines (without_key key self.old.queues.waiters) }
         ensures same { self.new.seats ≡ self.old.seats }
@@ -127,7 +134,9 @@ impl Queueing {
     /// Takes who is picked of the main queue of a reader-writer lock.
     pub fn take_picked(&mut self, key: Key, start: Option<Want>, recursive: bool)
         requires { (self.old.taken.items ≡ []) × (self.old.rightless.items ≡ []) × (self.old.wants.items ≡ []) }
-        ensures taken { (self.new.taken.items ≡ threads_of (lock_picked start recursive (line key self.old.queues.waiters))) × (self.new.rightless.items ≡ self.new.taken.items) }
+        ensures taken { (self.new.taken.items
+            ≡ threads_of (lock_picked start recursive (line key self.old.queues.waiters)))
+            × (self.new.rightless.items ≡ self.new.taken.items) }
         ensures wants { self.new.wants.items ≡ wants_of (lock_picked start recursive (line key self.old.queues.waiters)) }
         ensures lines { lines self.new.queues.waiters ≡ lines (without_lock_picked start recursive key self.old.queues.waiters) }
         ensures same { self.new.seats ≡ self.old.seats }
@@ -143,7 +152,8 @@ impl Queueing {
         requires none { (self.old.taken.items ≡ []) × (self.old.rightless.items ≡ []) × (self.old.wants.items ≡ []) }
         requires differ { from ≢ to }
         ensures first { result.0 ≡ taken_by op (line from self.old.queues.waiters) }
-        ensures taken { MatchOption result.0 (self.new.taken.items ≡ []) (λ thread. self.new.taken.items ≡ thread ∷ []) × (self.new.rightless.items ≡ self.new.taken.items) }
+        ensures taken { MatchOption result.0 (self.new.taken.items ≡ [])
+            (λ thread. self.new.taken.items ≡ thread ∷ []) × (self.new.rightless.items ≡ self.new.taken.items) }
         ensures wants { self.new.wants.items ≡ wants_of (taken_in_line op (line from self.old.queues.waiters)) }
         ensures number { (result.1 ≡ length (moved_by op (line from self.old.queues.waiters))) × (result.1 ≤ self.old.seats) }
         ensures lines { lines self.new.queues.waiters ≡ lines (requeued op from to self.old.queues.waiters) }
@@ -160,7 +170,8 @@ impl Queueing {
     /// The thread has been given a right.
     pub fn note_right(&mut self, thread: usize)
         ensures rightless { self.new.rightless.items ≡ filter (λ x. not (x == thread)) self.old.rightless.items }
-        ensures same { (self.new.queues ≡ self.old.queues) × (self.new.taken.items ≡ self.old.taken.items) × (self.new.wants.items ≡ self.old.wants.items) × (self.new.seats ≡ self.old.seats) }
+        ensures same { (self.new.queues ≡ self.old.queues) × (self.new.taken.items ≡ self.old.taken.items)
+            × (self.new.wants.items ≡ self.old.wants.items) × (self.new.seats ≡ self.old.seats) }
     {
         drop_thread(&mut self.rightless, thread);
     }
@@ -196,8 +207,11 @@ impl Queueing {
     /// Puts a thread behind the last under a key. One that stands somewhere leaves that place first.
     pub fn append(&mut self, key: Key, thread: usize, want: Want)
         requires { thread < self.old.seats }
-        ensures lines { lines self.new.queues.waiters ≡ lines (without thread self.old.queues.waiters ++ waiter key thread want ∷ []) }
-        ensures same { (self.new.taken.items ≡ self.old.taken.items) × (self.new.rightless.items ≡ self.old.rightless.items) × (self.new.wants.items ≡ self.old.wants.items) × (self.new.seats ≡ self.old.seats) }
+        ensures lines { lines self.new.queues.waiters
+            ≡ lines (without thread self.old.queues.waiters ++ waiter key thread want ∷ []) }
+        ensures same { (self.new.taken.items ≡ self.old.taken.items)
+            × (self.new.rightless.items ≡ self.old.rightless.items) × (self.new.wants.items ≡ self.old.wants.items)
+            × (self.new.seats ≡ self.old.seats) }
     {
         self.queues.append(key, thread, want);
     }
@@ -205,7 +219,9 @@ impl Queueing {
     /// Removes a thread from where it stands.
     pub fn remove(&mut self, thread: usize)
         ensures lines { lines self.new.queues.waiters ≡ lines (without thread self.old.queues.waiters) }
-        ensures same { (self.new.taken.items ≡ self.old.taken.items) × (self.new.rightless.items ≡ self.old.rightless.items) × (self.new.wants.items ≡ self.old.wants.items) × (self.new.seats ≡ self.old.seats) }
+        ensures same { (self.new.taken.items ≡ self.old.taken.items)
+            × (self.new.rightless.items ≡ self.old.rightless.items) × (self.new.wants.items ≡ self.old.wants.items)
+            × (self.new.seats ≡ self.old.seats) }
     {
         self.queues.remove(thread);
     }

@@ -19,7 +19,7 @@ use Rattle.lot_calls.specs.declared.calls.Patience.TheVariants.{Patient, Timed, 
 use Rattle.lot_calls.specs.declared.outcomes.Answer.{Answer}
 use Rattle.lot_calls.specs.declared.outcomes.Answer.TheVariants.{No, ReadersFull}
 use Rattle.abstract_locks.specs.Locks.{Rules, LockCase, Enter, Pend, Settle, Leave, Convert, Rollback, Owns}
-use Rattle.abstract_locks.specs.Sites.{Has, Pends, Site, IsSite, Deed, End, Mark, Clear, Does, Needed, after, has_readers}
+use Rattle.abstract_locks.specs.Sites.{Has, Pends, Site, IsSite, Deed, End, Mark, Clear, Case, Needed, after_deed, has_readers}
 use Rattle.abstract_locks.specs.Codes.{code, rw_code, TellsTrue, HasLimit, count_in, has_writer, has_upgradable, has_parked, has_aside, is_blocked, lost, rolled, IsHandOff}
 use Rattle.abstract_locks.proofs.Seen.{clears_low, clears_second}
 use Rattle.abstract_locks.proofs.CodeLaws.{follows, rw_is, low_is, second_is, words_tell_true}
@@ -51,14 +51,14 @@ module _ (r : Rules) (s : Site) (t : ℕ) (rw_sort : has_readers r.sort ≡ true
   behind ds = code r (after_all r ds s t)
 
   behind_end : behind (End ∷ []) ≡ code r s
-  behind_end = coded (after r End s t) ∙ sym (coded s)
+  behind_end = coded (after_deed r End s t) ∙ sym (coded s)
 
   -- a case, at the end of its call or not
-  behind_case : (c : LockCase) → Needed r (Does c) s t → (IsHandOff c → ⊥) → code r (after r (Does c) s t) + lost s.lock.pending c ≡ code r s + rolled s.lock.pending c
-  behind_case c n other = rw (coded (after r (Does c) s t), coded s) (follows r s t there h c n other)
+  behind_case : (c : LockCase) → Needed r (Case c) s t → (IsHandOff c → ⊥) → code r (after_deed r (Case c) s t) + lost s.lock.pending c ≡ code r s + rolled s.lock.pending c
+  behind_case c n other = rw (coded (after_deed r (Case c) s t), coded s) (follows r s t there h c n other)
 
-  behind_case_end : (c : LockCase) → Needed r (Does c) s t → (IsHandOff c → ⊥) → code r (after r End (after r (Does c) s t) t) + lost s.lock.pending c ≡ code r s + rolled s.lock.pending c
-  behind_case_end c n other = rw (coded (after r End (after r (Does c) s t) t), coded s) (follows r s t there h c n other)
+  behind_case_end : (c : LockCase) → Needed r (Case c) s t → (IsHandOff c → ⊥) → code r (after_deed r End (after_deed r (Case c) s t) t) + lost s.lock.pending c ≡ code r s + rolled s.lock.pending c
+  behind_case_end c n other = rw (coded (after_deed r End (after_deed r (Case c) s t) t), coded s) (follows r s t there h c n other)
 
   behind_looks : (d : Decision) → behind (looked_deeds d) ≡ code r s
   behind_looks (decisions.Refuse answer) = behind_end
@@ -72,25 +72,25 @@ module _ (r : Rules) (s : Site) (t : ℕ) (rw_sort : has_readers r.sort ≡ true
   behind_missed Timed = refl
 
   marked : s.parked ≡ false → behind (Mark Main ∷ []) ≡ code r s + 1
-  marked e = rw (coded (after r (Mark Main) s t), coded s) (grind (arith, e))
+  marked e = rw (coded (after_deed r (Mark Main) s t), coded s) (grind (arith, e))
 
   marked_aside : s.aside_parked ≡ false → behind (Mark Second ∷ []) ≡ code r s + 2
-  marked_aside e = rw (coded (after r (Mark Second) s t), coded s) (grind (arith, e))
+  marked_aside e = rw (coded (after_deed r (Mark Second) s t), coded s) (grind (arith, e))
 
   clears : (m : Line) → apply (unparked m) (code r s) ≡ behind (Clear m ∷ [])
-  clears Main = rw (coded (after r (Clear Main) s t), coded s) (let a = clears_low (rw_code s) (rw (coded s) at small) in let b = low_is r s h in omega arith)
-  clears Second = rw (coded (after r (Clear Second) s t), coded s) (let a = clears_second (rw_code s) (rw (coded s) at small) in let b = second_is r s h in omega arith)
+  clears Main = rw (coded (after_deed r (Clear Main) s t), coded s) (let a = clears_low (rw_code s) (rw (coded s) at small) in let b = low_is r s h in omega arith)
+  clears Second = rw (coded (after_deed r (Clear Second) s t), coded s) (let a = clears_second (rw_code s) (rw (coded s) at small) in let b = second_is r s h in omega arith)
 
   comes : (x : Access) → AllNeeded r (enters_deeds (wanted x)) s t → behind (enters_deeds (wanted x)) ≡ code r s + token (wanted x)
   comes access.Exclusive n = let e = behind_case Pend n.0 (λ f. f) in omega arith
   comes access.Upgradable n = let e = behind_case_end (Enter Upgradable) n.0 (λ f. f) in omega arith
   comes access.Shared n = let e = behind_case_end (Enter Shared) n.0 (λ f. f) in omega arith
 
-  counts : (b : Bool) → AllNeeded r (if b then Does Settle ∷ End ∷ [] else []) s t → behind (if b then Does Settle ∷ End ∷ [] else []) ≡ code r s
+  counts : (b : Bool) → AllNeeded r (if b then Case Settle ∷ End ∷ [] else []) s t → behind (if b then Case Settle ∷ End ∷ [] else []) ≡ code r s
   counts true n = let e = behind_case_end Settle n.0 (λ f. f) in omega arith
   counts false n = refl
 
-  gives : (x : Access) (b : Bool) → AllNeeded r (does_and_wakes b (Does (Leave (wanted x)))) s t → behind (does_and_wakes b (Does (Leave (wanted x)))) + token (wanted x) ≡ code r s
+  gives : (x : Access) (b : Bool) → AllNeeded r (does_and_wakes b (Case (Leave (wanted x)))) s t → behind (does_and_wakes b (Case (Leave (wanted x)))) + token (wanted x) ≡ code r s
   gives access.Shared true n = let e = behind_case (Leave Shared) n.0 (λ f. f) in omega arith
   gives access.Shared false n = let e = behind_case_end (Leave Shared) n.0 (λ f. f) in omega arith
   gives access.Exclusive true n = let e = behind_case (Leave Exclusive) n.0 (λ f. f) in omega arith
@@ -99,29 +99,29 @@ module _ (r : Rules) (s : Site) (t : ℕ) (rw_sort : has_readers r.sort ≡ true
   gives access.Upgradable false n = let e = behind_case_end (Leave Upgradable) n.0 (λ f. f) in omega arith
 
   -- a writer that falls back to nothing
-  rolls : (b : Bool) → s.lock.pending ≡ Some (record { thread = t; falls_back = false }) → AllNeeded r (does_and_wakes b (Does Rollback)) s t → behind (does_and_wakes b (Does Rollback)) + 8 ≡ code r s
+  rolls : (b : Bool) → s.lock.pending ≡ Some (record { thread = t; falls_back = false }) → AllNeeded r (does_and_wakes b (Case Rollback)) s t → behind (does_and_wakes b (Case Rollback)) + 8 ≡ code r s
   rolls true e n = let f = behind_case Rollback n.0 (λ g. g) in let k : rolled s.lock.pending Rollback ≡ 0 = rw e refl in omega arith
   rolls false e n = let f = behind_case_end Rollback n.0 (λ g. g) in let k : rolled s.lock.pending Rollback ≡ 0 = rw e refl in omega arith
 
   -- and one that falls back to the upgradable right
-  falls : (b : Bool) → s.lock.pending ≡ Some (record { thread = t; falls_back = true }) → AllNeeded r (does_and_wakes b (Does Rollback)) s t → behind (does_and_wakes b (Does Rollback)) ≡ code r s + 12
+  falls : (b : Bool) → s.lock.pending ≡ Some (record { thread = t; falls_back = true }) → AllNeeded r (does_and_wakes b (Case Rollback)) s t → behind (does_and_wakes b (Case Rollback)) ≡ code r s + 12
   falls true e n = let f = behind_case Rollback n.0 (λ g. g) in let k : rolled s.lock.pending Rollback ≡ 20 = rw e refl in omega arith
   falls false e n = let f = behind_case_end Rollback n.0 (λ g. g) in let k : rolled s.lock.pending Rollback ≡ 20 = rw e refl in omega arith
 
   -- conversions
-  to_shared : (b : Bool) → AllNeeded r (does_and_wakes b (Does (Convert Exclusive Shared))) s t → behind (does_and_wakes b (Does (Convert Exclusive Shared))) ≡ code r s + 8
+  to_shared : (b : Bool) → AllNeeded r (does_and_wakes b (Case (Convert Exclusive Shared))) s t → behind (does_and_wakes b (Case (Convert Exclusive Shared))) ≡ code r s + 8
   to_shared true n = let e = behind_case (Convert Exclusive Shared) n.0 (λ f. f) in omega arith
   to_shared false n = let e = behind_case_end (Convert Exclusive Shared) n.0 (λ f. f) in omega arith
 
-  to_upgradable : (b : Bool) → AllNeeded r (does_and_wakes b (Does (Convert Exclusive Upgradable))) s t → behind (does_and_wakes b (Does (Convert Exclusive Upgradable))) ≡ code r s + 12
+  to_upgradable : (b : Bool) → AllNeeded r (does_and_wakes b (Case (Convert Exclusive Upgradable))) s t → behind (does_and_wakes b (Case (Convert Exclusive Upgradable))) ≡ code r s + 12
   to_upgradable true n = let e = behind_case (Convert Exclusive Upgradable) n.0 (λ f. f) in omega arith
   to_upgradable false n = let e = behind_case_end (Convert Exclusive Upgradable) n.0 (λ f. f) in omega arith
 
-  upgradable_to_shared : (b : Bool) → AllNeeded r (does_and_wakes b (Does (Convert Upgradable Shared))) s t → behind (does_and_wakes b (Does (Convert Upgradable Shared))) + 4 ≡ code r s
+  upgradable_to_shared : (b : Bool) → AllNeeded r (does_and_wakes b (Case (Convert Upgradable Shared))) s t → behind (does_and_wakes b (Case (Convert Upgradable Shared))) + 4 ≡ code r s
   upgradable_to_shared true n = let e = behind_case (Convert Upgradable Shared) n.0 (λ f. f) in omega arith
   upgradable_to_shared false n = let e = behind_case_end (Convert Upgradable Shared) n.0 (λ f. f) in omega arith
 
-  upgrades : (b : Bool) → AllNeeded r (does_and_wakes b (Does (Convert Upgradable Exclusive))) s t → behind (does_and_wakes b (Does (Convert Upgradable Exclusive))) + 12 ≡ code r s
+  upgrades : (b : Bool) → AllNeeded r (does_and_wakes b (Case (Convert Upgradable Exclusive))) s t → behind (does_and_wakes b (Case (Convert Upgradable Exclusive))) + 12 ≡ code r s
   upgrades true n = let e = behind_case (Convert Upgradable Exclusive) n.0 (λ f. f) in omega arith
   upgrades false n = let e = behind_case_end (Convert Upgradable Exclusive) n.0 (λ f. f) in omega arith
 
@@ -247,7 +247,7 @@ module _ (r : Rules) (a : Admission) (s : Site) (t l : ℕ) (f : Op) (admits : A
     sets_aside expected false eb e false ec n = let is : f ≡ op.Exchange expected (plus expected 2) = cc in rw (is, ec) (sym (counts_same n))
 
     enters_code : (to : RwLockAt) → AtFits (purpose.Enter x how) to → s.doing t ≡ rwlock_doing (place to) → rwlock_act l a (place to) ≡ act.Word l f → Leads (rwlock_deeds a (place to) None (reply.Value v))
-    enters_code at.First fits is e n = let same : f ≡ op.Exchange 0 8 = cc in exchanged 0 8 same (Does (Enter Exclusive) ∷ End ∷ []) (missed_deeds how) (v == 0) refl (λ same k. let g = behind_case_end r s t admits.0 h tells there small (Enter Exclusive) k.0 (λ g. g) in omega arith) (λ k. behind_missed r s t admits.0 h tells there small how) n
+    enters_code at.First fits is e n = let same : f ≡ op.Exchange 0 8 = cc in exchanged 0 8 same (Case (Enter Exclusive) ∷ End ∷ []) (missed_deeds how) (v == 0) refl (λ same k. let g = behind_case_end r s t admits.0 h tells there small (Enter Exclusive) k.0 (λ g. g) in omega arith) (λ k. behind_missed r s t admits.0 h tells there small how) n
     enters_code at.Load fits is e n = let same : f ≡ op.Load = cc in rw same (sym (looks_same n))
     enters_code (at.Decide expected) fits is e n = decides expected (decision a (wanted x) how expected) refl e (v == expected) refl n
     enters_code (at.Park parking.Clear) fits is e n = let same : f ≡ unparked Main = cc in clears_fit Main same n
@@ -279,7 +279,7 @@ module _ (r : Rules) (a : Admission) (s : Site) (t l : ℕ) (f : Op) (admits : A
     releases_code x (at.Wake m to) fits e n = absurd cc
     releases_code x to fits e n = absurd fits
 
-    downgraded : (d : Downgrade) (b : Bool) → f ≡ give_op (purpose.Downgrade d) → s.doing t ≡ at_rest None (Some (Has (wanted (from_of d)))) → Leads (does_and_wakes b (Does (Convert (wanted (from_of d)) (wanted (to_of d)))))
+    downgraded : (d : Downgrade) (b : Bool) → f ≡ give_op (purpose.Downgrade d) → s.doing t ≡ at_rest None (Some (Has (wanted (from_of d)))) → Leads (does_and_wakes b (Case (Convert (wanted (from_of d)) (wanted (to_of d)))))
     downgraded downgrade.ToShared b is own n = let lt = lone r s t admits.0 h tells there small (h.held t (Has Exclusive) (grind (arith, own))) in added 8 _ is (omega arith) (to_shared r s t admits.0 h tells there small b n)
     downgraded downgrade.ToUpgradable b is own n = let lt = lone r s t admits.0 h tells there small (h.held t (Has Exclusive) (grind (arith, own))) in added 12 _ is (omega arith) (to_upgradable r s t admits.0 h tells there small b n)
     downgraded downgrade.UpgradableToShared b is own n = let g = upgradable_to_shared r s t admits.0 h tells there small b n in subtracted 4 _ is (omega arith) g

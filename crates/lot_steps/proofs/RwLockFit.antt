@@ -16,8 +16,8 @@ use Rattle.lot_calls.specs.declared.calls.Patience.TheVariants.{Patient, Timed, 
 use Rattle.lot_calls.specs.declared.outcomes.Answer.{Answer}
 use Rattle.lot_calls.specs.declared.outcomes.Answer.TheVariants.{Ok, No, ReadersFull}
 use Rattle.lot_steps.specs.declared.acts.Next.TheVariants as next
-use Rattle.abstract_locks.specs.Locks.{Rules, Enter, Pend, Settle, Leave, Convert, Rollback, Knows, MayEnter, HasRoom, Owns, is_recursive, readers, converted, leaving, standing, put, count}
-use Rattle.abstract_locks.specs.Sites.{Claim, Has, Pends, Doing, idle, Site, IsSite, Deed, End, Mark, Clear, Does, has_readers, upgraded}
+use Rattle.abstract_locks.specs.Locks.{Rules, Enter, Pend, Settle, Leave, Convert, Rollback, Knows, MayEnter, HasRoom, Owns, is_recursive, readers, converted, without_owner, standing, putting, count}
+use Rattle.abstract_locks.specs.Sites.{Claim, Has, Pends, Doing, idle, Site, IsSite, Deed, End, Mark, Clear, Case, has_readers, upgraded}
 use Rattle.abstract_locks.specs.Codes.{code, TellsTrue, count_in, has_parked, has_aside, is_blocked}
 use Rattle.abstract_locks.proofs.CodeLaws.{words_tell_true}
 use Rattle.lot_steps.specs.declared.acts.Act.{Act}
@@ -36,7 +36,7 @@ use Rattle.lot_steps.specs.declared.rwlock.release.WakeAt.TheVariants as waking
 use Rattle.lot_steps.specs.RwLockSteps.{wanted, from_of, to_of, decided_for, released, gave_way_by, wakes_or_ends, access_of, patience_of, want_at, patience_at, is_counted, waits, decision_blocked, decision, decided, decided_act, count_act, act_at, rwlock_act, missed, first_next, looked_by, looked, came_in_for, came_in, exchanged_next, counted, rolled_back, stays, goes as goes_to, plus, wakes, entered, next_at, rwlock_next}
 use Rattle.lot_steps.specs.RwLockDeeds.{at_rest, finding, pends, kept_claim, enters_deeds, gives_deeds, again_of, rwlock_doing, doing_next, missed_deeds, looked_deeds, came_in_deeds, exchanged_deeds, counted_deeds, does_and_wakes, sees_waiter, deeds_at, rwlock_deeds, AllNeeded, after_all, Admits, IsFreshTry, AtFits, AtTry, AtPending, AtUpgrade, IsAt, Follows, RwLockStepsFollow}
 
-pub put_same : {A : Type 0} (f : ℕ → A) (t : ℕ) (x : A) → put f t x t ≡ x
+pub put_same : {A : Type 0} (f : ℕ → A) (t : ℕ) (x : A) → putting f t x t ≡ x
 put_same f t x = grind (arith, nat_tests)
 
 abbrev tries_for : Option Want → Want → Type 0
@@ -51,20 +51,20 @@ module _ (r : Rules) (s : Site) (t : ℕ) (rw_sort : has_readers r.sort ≡ true
   marks Main d is = record { needed = (tt, tt); doing = is }
   marks Second d is = record { needed = (tt, tt); doing = is }
 
-  first_won : (again : Option Want) → tries_for again Exclusive → s.doing t ≡ at_rest again None → code r s ≡ 0 → Follows r s t (Does (Enter Exclusive) ∷ End ∷ []) idle
+  first_won : (again : Option Want) → tries_for again Exclusive → s.doing t ≡ at_rest again None → code r s ≡ 0 → Follows r s t (Case (Enter Exclusive) ∷ End ∷ []) idle
   first_won again for is z = record { needed = grind (arith, nat_tests, tells.nobody z); doing = grind (arith, nat_tests) }
 
   -- a call ends with nothing
   ends : (again : Option Want) (claims : Option Claim) → s.doing t ≡ at_rest again claims → (again ≡ None) ⊎ (r.limit ≤ count_in (code r s)) → Follows r s t (End ∷ []) idle
   ends again claims is why = record { needed = grind (arith, nat_tests, tells.count); doing = grind (arith, nat_tests) }
 
-  comes : (x : Want) (again : Option Want) → tries_for again x → s.doing t ≡ at_rest again None → MayEnter r s.lock x → Knows r.sort Shared → (x ≢ Exclusive) → Follows r s t (Does (Enter x) ∷ End ∷ []) idle
+  comes : (x : Want) (again : Option Want) → tries_for again x → s.doing t ≡ at_rest again None → MayEnter r s.lock x → Knows r.sort Shared → (x ≢ Exclusive) → Follows r s t (Case (Enter x) ∷ End ∷ []) idle
   comes Exclusive again for is may knows not_it = absurd (not_it refl)
   comes Upgradable again for is may knows not_it = record { needed = grind (arith, nat_tests); doing = grind (arith, nat_tests) }
   comes Shared again for is may knows not_it = record { needed = grind (arith, nat_tests); doing = grind (arith, nat_tests) }
   comes x again for is may knows not_it = absurd (grind arith)
 
-  begins_to_write : (again : Option Want) → s.doing t ≡ at_rest again None → MayEnter r s.lock Exclusive → Knows r.sort Shared → Follows r s t (Does Pend ∷ []) (at_rest None (Some (Pends false)))
+  begins_to_write : (again : Option Want) → s.doing t ≡ at_rest again None → MayEnter r s.lock Exclusive → Knows r.sort Shared → Follows r s t (Case Pend ∷ []) (at_rest None (Some (Pends false)))
   begins_to_write again is may knows = record { needed = grind (arith, nat_tests); doing = grind (arith, nat_tests) }
 
   -- a pending writer that stands nowhere leaves nobody aside
@@ -75,49 +75,49 @@ module _ (r : Rules) (s : Site) (t : ℕ) (rw_sort : has_readers r.sort ≡ true
       by_aside None f = f
       by_aside (Some u) f = absurd (let g = h.state.aside_pending u f in grind (arith, nat_tests))
 
-  settles : (b : Bool) (again : Option Want) → s.doing t ≡ at_rest again (Some (Pends b)) → count_in (code r s) ≡ 0 → standing t s.lock ≡ 0 → Follows r s t (Does Settle ∷ End ∷ []) idle
+  settles : (b : Bool) (again : Option Want) → s.doing t ≡ at_rest again (Some (Pends b)) → count_in (code r s) ≡ 0 → standing t s.lock ≡ 0 → Follows r s t (Case Settle ∷ End ∷ []) idle
   settles b again is z nowhere =
       let own : s.lock.pending ≡ Some (record { thread = t; falls_back = b }) = h.held t (Pends b) (grind arith) in
       let alone = nobody_aside b own nowhere in record { needed = grind (arith, nat_tests, tells.count); doing = grind (arith, nat_tests) }
 
   -- the last reader of a pending writer's lock is to wake it, and any other release whoever stands in the main line
   gives_shared : (a c : Bool) → s.doing t ≡ at_rest None (Some (Has Shared)) → Owns s.lock t Shared → s.aside_parked ≡ a → (count s.lock == 1) ≡ c
-      → Follows r s t (does_and_wakes (a && c) (Does (Leave Shared))) (if a && c then record idle { wakes = Some Second } else idle)
+      → Follows r s t (does_and_wakes (a && c) (Case (Leave Shared))) (if a && c then record idle { wakes = Some Second } else idle)
   gives_shared true true is own ea ec = record { needed = grind (arith, nat_tests); doing = grind (arith, nat_tests) }
   gives_shared true false is own ea ec = record { needed = grind (arith, nat_tests); doing = grind (arith, nat_tests) }
   gives_shared false c is own ea ec = record { needed = grind (arith, nat_tests); doing = grind (arith, nat_tests) }
 
   gives_more : (x : Want) (a : Bool) → s.doing t ≡ at_rest None (Some (Has x)) → (x ≡ Exclusive) ⊎ (x ≡ Upgradable) → Owns s.lock t x → s.parked ≡ a
-      → Follows r s t (does_and_wakes a (Does (Leave x))) (if a then record idle { wakes = Some Main } else idle)
+      → Follows r s t (does_and_wakes a (Case (Leave x))) (if a then record idle { wakes = Some Main } else idle)
   gives_more x true is ex own ea = record { needed = grind (arith, nat_tests); doing = grind (arith, nat_tests) }
   gives_more x false is ex own ea = record { needed = grind (arith, nat_tests); doing = grind (arith, nat_tests) }
 
   rolls : (a : Bool) → s.doing t ≡ at_rest None (Some (Pends false)) → s.parked ≡ a → standing t s.lock ≡ 0
-      → Follows r s t (does_and_wakes a (Does Rollback)) (if a then record idle { wakes = Some Main } else idle)
+      → Follows r s t (does_and_wakes a (Case Rollback)) (if a then record idle { wakes = Some Main } else idle)
   rolls a is ea nowhere =
       let own : s.lock.pending ≡ Some (record { thread = t; falls_back = false }) = h.held t (Pends false) (grind arith) in
       by_bit a is ea own (nobody_aside false own nowhere)
     where
       by_bit : (a : Bool) → s.doing t ≡ at_rest None (Some (Pends false)) → s.parked ≡ a → s.lock.pending ≡ Some (record { thread = t; falls_back = false }) → s.lock.aside ≡ None
-          → Follows r s t (does_and_wakes a (Does Rollback)) (if a then record idle { wakes = Some Main } else idle)
+          → Follows r s t (does_and_wakes a (Case Rollback)) (if a then record idle { wakes = Some Main } else idle)
       by_bit true is ea own alone = record { needed = grind (arith, nat_tests); doing = grind (arith, nat_tests) }
       by_bit false is ea own alone = record { needed = grind (arith, nat_tests); doing = grind (arith, nat_tests) }
 
   -- an upgrade falls back to the upgradable right
   falls : (a : Bool) → s.doing t ≡ at_rest None (Some (Pends true)) → s.parked ≡ a → standing t s.lock ≡ 0
-      → Follows r s t (does_and_wakes a (Does Rollback)) (if a then record idle { wakes = Some Main; claims = Some (Has Upgradable) } else idle)
+      → Follows r s t (does_and_wakes a (Case Rollback)) (if a then record idle { wakes = Some Main; claims = Some (Has Upgradable) } else idle)
   falls a is ea nowhere =
       let own : s.lock.pending ≡ Some (record { thread = t; falls_back = true }) = h.held t (Pends true) (grind arith) in
       by_bit a is ea own (nobody_aside true own nowhere)
     where
       by_bit : (a : Bool) → s.doing t ≡ at_rest None (Some (Pends true)) → s.parked ≡ a → s.lock.pending ≡ Some (record { thread = t; falls_back = true }) → s.lock.aside ≡ None
-          → Follows r s t (does_and_wakes a (Does Rollback)) (if a then record idle { wakes = Some Main; claims = Some (Has Upgradable) } else idle)
+          → Follows r s t (does_and_wakes a (Case Rollback)) (if a then record idle { wakes = Some Main; claims = Some (Has Upgradable) } else idle)
       by_bit true is ea own alone = record { needed = grind (arith, nat_tests); doing = grind (arith, nat_tests) }
       by_bit false is ea own alone = record { needed = grind (arith, nat_tests); doing = grind (arith, nat_tests) }
 
   -- a greater right becomes a lesser one, which is kept
   downgrades : (d : Downgrade) (a : Bool) → s.doing t ≡ at_rest None (Some (Has (wanted (from_of d)))) → s.parked ≡ a → Knows r.sort (wanted (to_of d))
-      → Follows r s t (does_and_wakes a (Does (Convert (wanted (from_of d)) (wanted (to_of d))))) (if a then record idle { wakes = Some Main; claims = kept_claim (Some (wanted (to_of d))) } else idle)
+      → Follows r s t (does_and_wakes a (Case (Convert (wanted (from_of d)) (wanted (to_of d))))) (if a then record idle { wakes = Some Main; claims = kept_claim (Some (wanted (to_of d))) } else idle)
   downgrades downgrade.ToShared true is ea knows = let own = h.held t (Has Exclusive) (grind arith) in record { needed = grind (arith, nat_tests); doing = grind (arith, nat_tests) }
   downgrades downgrade.ToShared false is ea knows = let own = h.held t (Has Exclusive) (grind arith) in record { needed = grind (arith, nat_tests); doing = grind (arith, nat_tests) }
   downgrades downgrade.ToUpgradable true is ea knows = let own = h.held t (Has Exclusive) (grind arith) in record { needed = grind (arith, nat_tests); doing = grind (arith, nat_tests) }
@@ -127,7 +127,7 @@ module _ (r : Rules) (s : Site) (t : ℕ) (rw_sort : has_readers r.sort ≡ true
 
   -- an upgrade owns where nobody shares beside it, and is pending where somebody does
   upgrades : (b : Bool) → s.doing t ≡ at_rest None (Some (Has Upgradable)) → (count_in (code r s) == 1) ≡ b → Knows r.sort Exclusive
-      → Follows r s t (does_and_wakes (not b) (Does (Convert Upgradable Exclusive))) (if b then idle else at_rest None (Some (Pends true)))
+      → Follows r s t (does_and_wakes (not b) (Case (Convert Upgradable Exclusive))) (if b then idle else at_rest None (Some (Pends true)))
   upgrades true is eb knows = let own = h.held t (Has Upgradable) (grind arith) in record { needed = grind (arith, nat_tests, tells.count); doing = grind (arith, nat_tests, tells.count) }
   upgrades false is eb knows =
       let own = h.held t (Has Upgradable) (grind arith) in
@@ -244,7 +244,7 @@ module _ (r : Rules) (a : Admission) (s : Site) (t l : ℕ) (op : Op) (admits : 
     decides expected is (decisions.Refuse answer) d e = absurd cc
 
     pub counts : (to : RwLockAt) → s.doing t ≡ at_rest wants (Some (Pends false)) → (b : Bool) → (count_in v == 0) ≡ b
-        → Follows r s t (if b then Does Settle ∷ End ∷ [] else []) (doing_next (if b then next.End (entered how) else stays (place to) (at.Count v)))
+        → Follows r s t (if b then Case Settle ∷ End ∷ [] else []) (doing_next (if b then next.End (entered how) else stays (place to) (at.Count v)))
     counts to is true e = settles r s t admits.0 h tells false wants is (eqb-true (count_in v) 0 e) nowhere
     counts to is false e = goes r s t admits.0 h tells _ is
 
@@ -254,7 +254,7 @@ module _ (r : Rules) (a : Admission) (s : Site) (t l : ℕ) (op : Op) (admits : 
     sets_aside expected is false = counts (at.Count expected) is (count_in v == 0) refl
 
     first : (b : Bool) → (v == 0) ≡ b → x ≡ access.Exclusive → s.doing t ≡ at_rest wants None
-        → Follows r s t (if b then Does (Enter Exclusive) ∷ End ∷ [] else missed_deeds how) (doing_next (if b then next.End (entered how) else missed (place at.First) how))
+        → Follows r s t (if b then Case (Enter Exclusive) ∷ End ∷ [] else missed_deeds how) (doing_next (if b then next.End (entered how) else missed (place at.First) how))
     first true e xe is = first_won r s t admits.0 h tells wants (subst (λ (y : Access). tries_for wants (wanted y)) xe (tries again (wanted x))) is (eqb-true v 0 e)
     first false e xe is = by_how how fresh refl
       where
@@ -264,7 +264,7 @@ module _ (r : Rules) (a : Admission) (s : Site) (t l : ℕ) (op : Op) (admits : 
         by_how Timed f g = goes r s t admits.0 h tells _ is
 
     rolled : (b : Bool) → s.parked ≡ b → s.doing t ≡ at_rest None (Some (Pends false))
-        → Follows r s t (does_and_wakes b (Does Rollback)) (doing_next (if b then stays (place at.RollBack) (wakes Main) else next.End No))
+        → Follows r s t (does_and_wakes b (Case Rollback)) (doing_next (if b then stays (place at.RollBack) (wakes Main) else next.End No))
     rolled true e is = rolls r s t admits.0 h tells true is e nowhere
     rolled false e is = rolls r s t admits.0 h tells false is e nowhere
 
@@ -289,19 +289,19 @@ module _ (r : Rules) (a : Admission) (s : Site) (t l : ℕ) (op : Op) (admits : 
     of q to = record { purpose = q; retries = again; at = to }
 
     released_shared : (b : Bool) → (has_aside v && (count_in v == 1)) ≡ b → s.doing t ≡ at_rest None (Some (Has Shared))
-        → Follows r s t (does_and_wakes b (Does (Leave Shared))) (doing_next (wakes_or_ends (of (purpose.Release access.Shared) at.GiveWay) Second b))
+        → Follows r s t (does_and_wakes b (Case (Leave Shared))) (doing_next (wakes_or_ends (of (purpose.Release access.Shared) at.GiveWay) Second b))
     released_shared b e is = by_bits s.aside_parked (count s.lock == 1) refl refl
       where
-        by_both : (x y : Bool) → s.aside_parked ≡ x → (count s.lock == 1) ≡ y → Owns s.lock t Shared → Follows r s t (does_and_wakes (x && y) (Does (Leave Shared))) (doing_next (wakes_or_ends (of (purpose.Release access.Shared) at.GiveWay) Second (x && y)))
+        by_both : (x y : Bool) → s.aside_parked ≡ x → (count s.lock == 1) ≡ y → Owns s.lock t Shared → Follows r s t (does_and_wakes (x && y) (Case (Leave Shared))) (doing_next (wakes_or_ends (of (purpose.Release access.Shared) at.GiveWay) Second (x && y)))
         by_both true true ex ey own = gives_shared r s t admits.0 h tells true true is own ex ey
         by_both true false ex ey own = gives_shared r s t admits.0 h tells true false is own ex ey
         by_both false y ex ey own = gives_shared r s t admits.0 h tells false y is own ex ey
 
-        by_bits : (x y : Bool) → s.aside_parked ≡ x → (count s.lock == 1) ≡ y → Follows r s t (does_and_wakes b (Does (Leave Shared))) (doing_next (wakes_or_ends (of (purpose.Release access.Shared) at.GiveWay) Second b))
+        by_bits : (x y : Bool) → s.aside_parked ≡ x → (count s.lock == 1) ≡ y → Follows r s t (does_and_wakes b (Case (Leave Shared))) (doing_next (wakes_or_ends (of (purpose.Release access.Shared) at.GiveWay) Second b))
         by_bits x y ex ey = let own : Owns s.lock t Shared = h.held t (Has Shared) (grind arith) in let same : b ≡ x && y = sym e ∙ rw (tells.aside, tells.count, ex, ey) refl in rw same (by_both x y ex ey own)
 
     released_more : (x : Access) (b : Bool) → (wanted x ≡ Exclusive) ⊎ (wanted x ≡ Upgradable) → s.parked ≡ b → s.doing t ≡ at_rest None (Some (Has (wanted x)))
-        → Follows r s t (does_and_wakes b (Does (Leave (wanted x)))) (doing_next (wakes_or_ends (of (purpose.Release x) at.GiveWay) Main b))
+        → Follows r s t (does_and_wakes b (Case (Leave (wanted x)))) (doing_next (wakes_or_ends (of (purpose.Release x) at.GiveWay) Main b))
     released_more x true ex e is = gives_more r s t admits.0 h tells (wanted x) true is ex (h.held t (Has (wanted x)) (grind arith)) e
     released_more x false ex e is = gives_more r s t admits.0 h tells (wanted x) false is ex (h.held t (Has (wanted x)) (grind arith)) e
 
@@ -314,7 +314,7 @@ module _ (r : Rules) (a : Admission) (s : Site) (t l : ℕ) (op : Op) (admits : 
     releases_fit x to fits is e = absurd fits
 
     downgraded : (d : Downgrade) (b : Bool) → s.parked ≡ b → s.doing t ≡ at_rest None (Some (Has (wanted (from_of d))))
-        → Follows r s t (does_and_wakes b (Does (Convert (wanted (from_of d)) (wanted (to_of d))))) (doing_next (wakes_or_ends (of (purpose.Downgrade d) at.GiveWay) Main b))
+        → Follows r s t (does_and_wakes b (Case (Convert (wanted (from_of d)) (wanted (to_of d))))) (doing_next (wakes_or_ends (of (purpose.Downgrade d) at.GiveWay) Main b))
     downgraded d true e is = downgrades r s t admits.0 h tells d true is e (knows_all r admits.0 (to_of d))
     downgraded d false e is = downgrades r s t admits.0 h tells d false is e (knows_all r admits.0 (to_of d))
 
@@ -333,12 +333,12 @@ module _ (r : Rules) (a : Admission) (s : Site) (t l : ℕ) (op : Op) (admits : 
       upgrading = retrying again Exclusive
 
       upgraded_now : (b : Bool) → (count_in v == 1) ≡ b → s.doing t ≡ at_rest None (Some (Has Upgradable))
-          → Follows r s t (does_and_wakes (not b) (Does (Convert Upgradable Exclusive))) (doing_next (if b then next.End (entered how) else goes_to (upgrade at.GiveWay) at.Look false))
+          → Follows r s t (does_and_wakes (not b) (Case (Convert Upgradable Exclusive))) (doing_next (if b then next.End (entered how) else goes_to (upgrade at.GiveWay) at.Look false))
       upgraded_now true e is = upgrades r s t admits.0 h tells true is e (knows_all r admits.0 access.Exclusive)
       upgraded_now false e is = upgrades r s t admits.0 h tells false is e (knows_all r admits.0 access.Exclusive)
 
       pub upgrade_counts : (to : RwLockAt) → s.doing t ≡ at_rest upgrading (Some (Pends true)) → (b : Bool) → (count_in v == 0) ≡ b
-          → Follows r s t (if b then Does Settle ∷ End ∷ [] else []) (doing_next (if b then next.End (entered how) else stays (upgrade to) (at.Count v)))
+          → Follows r s t (if b then Case Settle ∷ End ∷ [] else []) (doing_next (if b then next.End (entered how) else stays (upgrade to) (at.Count v)))
       upgrade_counts to is true e = settles r s t admits.0 h tells true upgrading is (eqb-true (count_in v) 0 e) nowhere
       upgrade_counts to is false e = goes r s t admits.0 h tells _ is
 
@@ -348,7 +348,7 @@ module _ (r : Rules) (a : Admission) (s : Site) (t l : ℕ) (op : Op) (admits : 
       upgrade_sets expected is false = upgrade_counts (at.Count expected) is (count_in v == 0) refl
 
       fell : (b : Bool) → s.parked ≡ b → s.doing t ≡ at_rest None (Some (Pends true))
-          → Follows r s t (does_and_wakes b (Does Rollback)) (doing_next (if b then stays (upgrade at.RollBack) (wakes Main) else next.End No))
+          → Follows r s t (does_and_wakes b (Case Rollback)) (doing_next (if b then stays (upgrade at.RollBack) (wakes Main) else next.End No))
       fell true e is = falls r s t admits.0 h tells true is e nowhere
       fell false e is = falls r s t admits.0 h tells false is e nowhere
 

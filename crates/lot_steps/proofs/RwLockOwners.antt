@@ -15,7 +15,7 @@ use Rattle.lot_calls.specs.declared.calls.Patience.{Patience}
 use Rattle.lot_calls.specs.declared.calls.Patience.TheVariants.{Patient, Timed, Try}
 use Rattle.abstract_locks.specs.Locks.{LockState, Rules, Pending, Settle, Leave, Convert, Rollback, Owns, readers, falling_back}
 use Rattle.abstract_locks.specs.Locks as locks
-use Rattle.abstract_locks.specs.Sites.{Has, Pends, Site, IsSite, Deed, End, Mark, Does, after}
+use Rattle.abstract_locks.specs.Sites.{Has, Pends, Site, IsSite, Deed, End, Mark, Case, after_deed}
 use Rattle.abstract_locks.specs.Codes.{code, TellsTrue, count_in, has_parked}
 use Rattle.lot_base.specs.declared.keys.Line.{Line}
 use Rattle.lot_base.specs.declared.keys.Line.TheVariants.{Main, Second}
@@ -70,40 +70,40 @@ module _ (r : Rules) (a : Admission) (s : Site) (t l : ℕ) (f : Op) (h : IsSite
   exchanged x how decisions.Park now false = looks_same now
   exchanged x how (decisions.Refuse answer) now false = looks_same now
 
-  first : (how : Patience) (b : Bool) → behind (if b then Does (locks.Enter Exclusive) ∷ End ∷ [] else missed_deeds how) ≡ lock_by (if b then changes.Enter access.Exclusive else changes.Nothing) t s.lock
+  first : (how : Patience) (b : Bool) → behind (if b then Case (locks.Enter Exclusive) ∷ End ∷ [] else missed_deeds how) ≡ lock_by (if b then changes.Enter access.Exclusive else changes.Nothing) t s.lock
   first how true = refl
   first how false = missed_same how
 
-  settled : (b : Bool) → behind (if b then Does Settle ∷ End ∷ [] else []) ≡ lock_by (if b then changes.Settle else changes.Nothing) t s.lock
+  settled : (b : Bool) → behind (if b then Case Settle ∷ End ∷ [] else []) ≡ lock_by (if b then changes.Settle else changes.Nothing) t s.lock
   settled true = refl
   settled false = refl
 
-  counts : (b c : Bool) → behind (if b then Mark Second ∷ [] else if c then Does Settle ∷ End ∷ [] else []) ≡ lock_by (if b then changes.Nothing else if c then changes.Settle else changes.Nothing) t s.lock
+  counts : (b c : Bool) → behind (if b then Mark Second ∷ [] else if c then Case Settle ∷ End ∷ [] else []) ≡ lock_by (if b then changes.Nothing else if c then changes.Settle else changes.Nothing) t s.lock
   counts true c = refl
   counts false c = settled c
 
   -- a case, at the end of its call or not
-  does : (b : Bool) (c : locks.LockCase) → behind (does_and_wakes b (Does c)) ≡ locks.after r c s.lock t
+  does : (b : Bool) (c : locks.LockCase) → behind (does_and_wakes b (Case c)) ≡ locks.after_case r c s.lock t
   does true c = refl
   does false c = refl
 
   -- a writer that entered falls back to nothing, and one that upgrades to its right
-  rolled : (b : Bool) → s.lock.pending ≡ Some (record { thread = t; falls_back = false }) → behind (does_and_wakes b (Does Rollback)) ≡ lock_by (changes.RollBack false) t s.lock
+  rolled : (b : Bool) → s.lock.pending ≡ Some (record { thread = t; falls_back = false }) → behind (does_and_wakes b (Case Rollback)) ≡ lock_by (changes.RollBack false) t s.lock
   rolled b e = does b Rollback ∙ rw e refl
 
-  fell : (b : Bool) → s.lock.pending ≡ Some (record { thread = t; falls_back = true }) → behind (does_and_wakes b (Does Rollback)) ≡ lock_by (changes.RollBack true) t s.lock
+  fell : (b : Bool) → s.lock.pending ≡ Some (record { thread = t; falls_back = true }) → behind (does_and_wakes b (Case Rollback)) ≡ lock_by (changes.RollBack true) t s.lock
   fell b e = does b Rollback ∙ rw e refl
 
-  left : (x : Access) (b : Bool) → behind (does_and_wakes b (Does (Leave (wanted x)))) ≡ lock_by (changes.Leave x) t s.lock
+  left : (x : Access) (b : Bool) → behind (does_and_wakes b (Case (Leave (wanted x)))) ≡ lock_by (changes.Leave x) t s.lock
   left x b = does b (Leave (wanted x))
 
-  downgraded : (d : Downgrade) (b : Bool) → behind (does_and_wakes b (Does (Convert (wanted (from_of d)) (wanted (to_of d))))) ≡ lock_by (changes.Downgrade d) t s.lock
+  downgraded : (d : Downgrade) (b : Bool) → behind (does_and_wakes b (Case (Convert (wanted (from_of d)) (wanted (to_of d))))) ≡ lock_by (changes.Downgrade d) t s.lock
   downgraded downgrade.ToShared b = does b (Convert Exclusive Shared)
   downgraded downgrade.ToUpgradable b = does b (Convert Exclusive Upgradable)
   downgraded downgrade.UpgradableToShared b = does b (Convert Upgradable Shared)
 
   -- an upgrade owns where it sees one reader, itself
-  upgraded : (b c : Bool) → (readers s.lock == 0) ≡ c → behind (does_and_wakes b (Does (Convert Upgradable Exclusive))) ≡ lock_by (changes.Upgrade c) t s.lock
+  upgraded : (b c : Bool) → (readers s.lock == 0) ≡ c → behind (does_and_wakes b (Case (Convert Upgradable Exclusive))) ≡ lock_by (changes.Upgrade c) t s.lock
   upgraded b true e = does b (Convert Upgradable Exclusive) ∙ rw e refl
   upgraded b false e = does b (Convert Upgradable Exclusive) ∙ rw e refl
 

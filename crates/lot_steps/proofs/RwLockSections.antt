@@ -11,8 +11,8 @@ use Rattle.lot_calls.specs.declared.calls.Downgrade.{Downgrade}
 use Rattle.lot_calls.specs.declared.calls.Downgrade.TheVariants as downgrade
 use Rattle.lot_calls.specs.declared.calls.Patience.{Patience}
 use Rattle.lot_calls.specs.declared.calls.Patience.TheVariants.{Patient, Timed, Try}
-use Rattle.abstract_locks.specs.Locks.{Rules, Taken, Park, Aside, TakeAside, TakePicked, Late, Knows, HasTakenNobody, is_recursive, standing, times, unpicked, without, put}
-use Rattle.abstract_locks.specs.Sites.{Claim, Has, Pends, Keeps, Doing, idle, is_main, is_empty, Site, IsSite, Deed, End, In, Out, FindNobody, Does, after, has_readers, leaves, wakened, counts_some}
+use Rattle.abstract_locks.specs.Locks.{Rules, Taken, Park, Aside, TakeAside, TakePicked, Late, Knows, HasTakenNobody, is_recursive, standing, times, unpicked, without, putting}
+use Rattle.abstract_locks.specs.Sites.{Claim, Has, Pends, KeepsOwned, Doing, idle, is_main, is_empty, Site, IsSite, Deed, End, In, Out, FindNobody, Case, after_deed, has_readers, leaves, wakened, counts_some}
 use Rattle.abstract_locks.specs.Codes.{code, TellsTrue, has_parked, has_aside, count_in, is_blocked}
 use Rattle.abstract_locks.proofs.CodeLaws.{words_tell_true}
 use Rattle.lot_base.specs.declared.ops.Op.TheVariants.{Load}
@@ -43,22 +43,22 @@ module _ (r : Rules) (s : Site) (t : ℕ) (rw_sort : has_readers r.sort ≡ true
   goes_out : (d : Doing) → s.lock.taken t ≡ None → s.doing t ≡ d → d.inside ≢ None → d.wakes ≡ None → d.sets ≡ false → Follows r s t (Out ∷ []) (leaves d)
   goes_out d free is inside owes unset = record {
     needed = (((λ e. inside (sym (ap (λ (x : Doing). x.inside) is) ∙ e)), ap (λ (x : Doing). x.wakes) is ∙ owes, ap (λ (x : Doing). x.sets) is ∙ unset), tt);
-    doing = ap (λ (o : Option Taken). wakened t o (put s.doing t (leaves (s.doing t)) t)) free ∙ put_same s.doing t _ ∙ ap leaves is;
+    doing = ap (λ (o : Option Taken). wakened t o (putting s.doing t (leaves (s.doing t)) t)) free ∙ put_same s.doing t _ ∙ ap leaves is;
   }
 
   -- it stands behind the last, where it found what it waits for
-  parks : (x : Want) (again : Option Want) → (has_parked (code r s) && is_blocked (is_recursive r.sort) x (code r s)) ≡ true → s.doing t ≡ within Main again None → standing t s.lock ≡ 0 → Knows r.sort x → Follows r s t (Does (Park x) ∷ []) (within Main None None)
+  parks : (x : Want) (again : Option Want) → (has_parked (code r s) && is_blocked (is_recursive r.sort) x (code r s)) ≡ true → s.doing t ≡ within Main again None → standing t s.lock ≡ 0 → Knows r.sort x → Follows r s t (Case (Park x) ∷ []) (within Main None None)
   parks x again e is nowhere knows = record { needed = grind (arith, nat_tests, tells.blocked x knows, tells.parked); doing = grind (arith, nat_tests) }
 
-  parks_aside : (b : Bool) (again : Option Want) → (has_aside (code r s) && not (count_in (code r s) == 0)) ≡ true → s.doing t ≡ within Second again (Some (Pends b)) → standing t s.lock ≡ 0 → Follows r s t (Does Aside ∷ []) (within Second None (Some (Pends b)))
+  parks_aside : (b : Bool) (again : Option Want) → (has_aside (code r s) && not (count_in (code r s) == 0)) ≡ true → s.doing t ≡ within Second again (Some (Pends b)) → standing t s.lock ≡ 0 → Follows r s t (Case Aside ∷ []) (within Second None (Some (Pends b)))
   parks_aside b again e is nowhere = let own = h.held t (Pends b) (grind arith) in record { needed = grind (arith, nat_tests, tells.count, tells.aside, h.state.pending_alone); doing = grind (arith, nat_tests) }
 
   -- it leaves the line
-  gives_up : (b : Bool) → is_empty (without t s.lock.queue) ≡ b → s.doing t ≡ within Main None None → 1 ≤ times t s.lock.queue → Follows r s t (Does Late ∷ []) (if b then finding Main None else within Main None None)
+  gives_up : (b : Bool) → is_empty (without t s.lock.queue) ≡ b → s.doing t ≡ within Main None None → 1 ≤ times t s.lock.queue → Follows r s t (Case Late ∷ []) (if b then finding Main None else within Main None None)
   gives_up true e is stands = record { needed = grind (arith, nat_tests, h.state.once t); doing = grind (arith, nat_tests) }
   gives_up false e is stands = record { needed = grind (arith, nat_tests, h.state.once t); doing = grind (arith, nat_tests) }
 
-  gives_up_aside : (b : Bool) → s.doing t ≡ within Second None (Some (Pends b)) → s.lock.aside ≡ Some t → Follows r s t (Does Late ∷ []) (finding Second (Some (Pends b)))
+  gives_up_aside : (b : Bool) → s.doing t ≡ within Second None (Some (Pends b)) → s.lock.aside ≡ Some t → Follows r s t (Case Late ∷ []) (finding Second (Some (Pends b)))
   gives_up_aside b is stands = record { needed = grind (arith, nat_tests); doing = grind (arith, nat_tests) }
 
   -- it takes whom it is to wake
@@ -66,17 +66,17 @@ module _ (r : Rules) (s : Site) (t : ℕ) (rw_sort : has_readers r.sort ≡ true
   nobody_taken none u x e = let g = h.carried u _ e in cc
 
   -- what it keeps it has
-  keeps : (start : Option Want) → MayKeep start → (s.doing t).claims ≡ kept_claim start → Keeps s.lock t start
+  keeps : (start : Option Want) → MayKeep start → (s.doing t).claims ≡ kept_claim start → KeepsOwned s.lock t start
   keeps None may e = tt
   keeps (Some Shared) may e = tt
   keeps (Some Upgradable) may e = h.held t (Has Upgradable) e
   keeps (Some x) may e = absurd may
 
   takes_picked : (start : Option Want) (any b : Bool) → MayKeep start → is_empty (unpicked r.sort start s.lock.queue) ≡ b → s.doing t ≡ waking_doing start Main waking.Take → Knows r.sort Upgradable
-      → Follows r s t (Does (TakePicked start) ∷ []) (waking_doing start Main (if b then waking.Clear any else waking.Leave any))
+      → Follows r s t (Case (TakePicked start) ∷ []) (waking_doing start Main (if b then waking.Clear any else waking.Leave any))
   takes_picked start any b may e is knows = by_rest (nobody_taken (grind arith)) (keeps start may (ap (λ (d : Doing). d.claims) is)) b e
     where
-      by_rest : HasTakenNobody s.lock t → Keeps s.lock t start → (b : Bool) → is_empty (unpicked r.sort start s.lock.queue) ≡ b → Follows r s t (Does (TakePicked start) ∷ []) (waking_doing start Main (if b then waking.Clear any else waking.Leave any))
+      by_rest : HasTakenNobody s.lock t → KeepsOwned s.lock t start → (b : Bool) → is_empty (unpicked r.sort start s.lock.queue) ≡ b → Follows r s t (Case (TakePicked start) ∷ []) (waking_doing start Main (if b then waking.Clear any else waking.Leave any))
       by_rest free own true e = record { needed = grind (arith, nat_tests); doing = grind (arith, nat_tests) }
       by_rest free own false e = record { needed = grind (arith, nat_tests); doing = grind (arith, nat_tests) }
 
@@ -90,7 +90,7 @@ module _ (r : Rules) (s : Site) (t : ℕ) (rw_sort : has_readers r.sort ≡ true
       let out = goes_out d free is inside owes unset in
       record {
         needed = (out.needed.0, (rw out.doing (refl, owes, refl, λ c. absurd (let g : counts_some r.sort None ≡ true = rw again at c in cc)), tt));
-        doing = put_same (after r Out s t).doing t idle;
+        doing = put_same (after_deed r Out s t).doing t idle;
       }
 
 -- ---------------------------------------------------------------- all places
@@ -100,7 +100,7 @@ module _ (r : Rules) (a : Admission) (s : Site) (t : ℕ) (admits : Admits r a) 
   tells = words_tell_true r s admits.0 h
 
   takes_main : (start : Option Want) → MayKeep start → (any none_left : Bool) → none_left ≡ is_empty (unpicked r.sort start s.lock.queue) → s.doing t ≡ waking_doing start Main waking.Take
-      → Follows r s t (Does (TakePicked start) ∷ []) (waking_doing start Main (took Main any none_left))
+      → Follows r s t (Case (TakePicked start) ∷ []) (waking_doing start Main (took Main any none_left))
   takes_main start may any true e is = takes_picked r s t admits.0 h tells start any true may (sym e) is (knows_all r admits.0 access.Upgradable)
   takes_main start may any false e is = takes_picked r s t admits.0 h tells start any false may (sym e) is (knows_all r admits.0 access.Upgradable)
 
@@ -129,7 +129,7 @@ module _ (r : Rules) (a : Admission) (s : Site) (t : ℕ) (admits : Admits r a) 
     waits = again_of (pending at.Look)
 
     aside_fit : (to : ParkAt) (told : Reply) → MayHearParking r s t Second (has_aside (code r s) && not (count_in (code r s) == 0)) to told → s.doing t ≡ parking_doing Second waits (Some (Pends b)) to
-        → Follows r s t (park_deeds (Does Aside) Second to told) (doing_next (park_next (pending (at.Aside to)) Second to told))
+        → Follows r s t (park_deeds (Case Aside) Second to told) (doing_next (park_next (pending (at.Aside to)) Second to told))
     aside_fit parking.Check (reply.Parked true) may is = rw pe (parks_aside r s t admits.0 h tells b waits (sym may.0) is may.1)
     aside_fit parking.Check (reply.Parked false) may is = record { needed = tt; doing = rw pe (is ∙ ap (λ (c : Bool). within Second (if c then Some (wanted (access_of q)) else None) (Some (Pends b))) (same again)) }
       where
@@ -151,7 +151,7 @@ module _ (r : Rules) (a : Admission) (s : Site) (t : ℕ) (admits : Admits r a) 
     wants = retrying again (wanted x)
 
     parks_fit : (to : ParkAt) (told : Reply) → MayHearParking r s t Main (has_parked (code r s) && is_blocked a.recursive (wanted x) (code r s)) to told → s.doing t ≡ parking_doing Main wants None to
-        → Follows r s t (park_deeds (Does (Park (wanted x))) Main to told) (doing_next (park_next (place (at.Park to)) Main to told))
+        → Follows r s t (park_deeds (Case (Park (wanted x))) Main to told) (doing_next (park_next (place (at.Park to)) Main to told))
     parks_fit parking.Check (reply.Parked true) may is = parks r s t admits.0 h tells (wanted x) wants (rw admits.1 (sym may.0)) is may.1 (knows_all r admits.0 x)
     parks_fit parking.Check (reply.Parked false) may is = record { needed = tt; doing = is ∙ grind arith }
     parks_fit (parking.Leave true) reply.Done may is = goes_out r s t admits.0 h tells _ may is (λ e. cc) refl refl

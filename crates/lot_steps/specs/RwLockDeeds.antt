@@ -32,8 +32,8 @@ use Rattle.lot_steps.specs.declared.rwlock.release.WakeAt.{WakeAt}
 use Rattle.lot_steps.specs.declared.rwlock.release.WakeAt.TheVariants as waking
 use Rattle.lot_steps.specs.RwLockSteps.{wanted, from_of, to_of, access_of, start_of, want_at, patience_at, decided, park_check, rwlock_act, rwlock_next, change}
 use Rattle.lot_steps.specs.Acts.{holds}
-use Rattle.abstract_locks.specs.Locks.{LockState, Rules, owning, leaving, pending_for, Enter, Pend, Settle, Leave, Convert, Park, Aside, TakeAside, TakePicked, Late, Rollback, is_recursive, keeps_more, standing, times, without, unpicked}
-use Rattle.abstract_locks.specs.Sites.{Claim, Has, Pends, Doing, idle, is_main, is_empty, Site, IsSite, Needed, after, has_readers, Deed, End, In, Out, Mark, Clear, FindNobody, Does}
+use Rattle.abstract_locks.specs.Locks.{LockState, Rules, with_owner, without_owner, pending_for, Enter, Pend, Settle, Leave, Convert, Park, Aside, TakeAside, TakePicked, Late, Rollback, is_recursive, keeps_more, standing, times, without, unpicked}
+use Rattle.abstract_locks.specs.Sites.{Claim, Has, Pends, Doing, idle, is_main, is_empty, Site, IsSite, Needed, after_deed, has_readers, Deed, End, In, Out, Mark, Clear, FindNobody, Case}
 use Rattle.abstract_locks.specs.Codes.{code, HasLimit, count_in, has_aside, has_parked}
 
 -- ---------------------------------------------------------------- what a thread does, by its place
@@ -135,11 +135,11 @@ looked_deeds decision = []
 
 -- a writer is pending until it has looked for readers
 abbrev pub enters_deeds : Want → List Deed
-enters_deeds Exclusive = Does Pend ∷ []
-enters_deeds x = Does (Enter x) ∷ End ∷ []
+enters_deeds Exclusive = Case Pend ∷ []
+enters_deeds x = Case (Enter x) ∷ End ∷ []
 
 abbrev pub came_in_deeds : RwLockPurpose → List Deed
-came_in_deeds (purpose.Upgrade how) = Does (Convert Upgradable Exclusive) ∷ End ∷ []
+came_in_deeds (purpose.Upgrade how) = Case (Convert Upgradable Exclusive) ∷ End ∷ []
 came_in_deeds q = enters_deeds (wanted (access_of q))
 
 -- behind its exchange, by whether it succeeded
@@ -150,7 +150,7 @@ exchanged_deeds q decision won now = looked_deeds now
 
 -- a pending writer owns where nobody shares
 abbrev pub counted_deeds : ℕ → List Deed
-counted_deeds seen = if count_in seen == 0 then Does Settle ∷ End ∷ [] else []
+counted_deeds seen = if count_in seen == 0 then Case Settle ∷ End ∷ [] else []
 
 -- a case of the lock, and the end of the call where nobody is to be woken
 abbrev pub does_and_wakes : Bool → Deed → List Deed
@@ -165,28 +165,28 @@ sees_waiter x seen = has_parked seen
 -- how a thread gives its right up, or turns it into another
 abbrev pub gives_deeds : RwLockPurpose → ℕ → List Deed
 gives_deeds (purpose.Enter x how) seen =
-    does_and_wakes (sees_waiter (wanted x) seen) (Does (Leave (wanted x)))
+    does_and_wakes (sees_waiter (wanted x) seen) (Case (Leave (wanted x)))
 gives_deeds (purpose.Release x) seen =
-    does_and_wakes (sees_waiter (wanted x) seen) (Does (Leave (wanted x)))
+    does_and_wakes (sees_waiter (wanted x) seen) (Case (Leave (wanted x)))
 gives_deeds (purpose.Downgrade d) seen =
-    does_and_wakes (has_parked seen) (Does (Convert (wanted (from_of d)) (wanted (to_of d))))
+    does_and_wakes (has_parked seen) (Case (Convert (wanted (from_of d)) (wanted (to_of d))))
 gives_deeds (purpose.Upgrade how) seen =
-    does_and_wakes (not (count_in seen == 1)) (Does (Convert Upgradable Exclusive))
+    does_and_wakes (not (count_in seen == 1)) (Case (Convert Upgradable Exclusive))
 
 abbrev pub park_deeds : Deed → Line → ParkAt → Reply → List Deed
 park_deeds parks m parking.Check (reply.Parked true) = parks ∷ []
 park_deeds parks m (parking.Leave parked) reply.Done = Out ∷ []
 park_deeds parks m parking.Asleep reply.Late = In m ∷ []
-park_deeds parks m parking.Remove (reply.Removed none_left) = Does Late ∷ []
+park_deeds parks m parking.Remove (reply.Removed none_left) = Case Late ∷ []
 park_deeds parks m parking.Clear (reply.Value seen) = Clear m ∷ []
 park_deeds parks m parking.GiveUp reply.Done = Out ∷ []
 park_deeds parks m to told = []
 
 -- who is taken of the second queue, if anybody, is no part of a place: `whom`
 abbrev pub takes : Option Want → Line → Option ℕ → Deed
-takes start Main whom = Does (TakePicked start)
+takes start Main whom = Case (TakePicked start)
 takes start Second None = FindNobody Second
-takes start Second (Some u) = Does (TakeAside u)
+takes start Second (Some u) = Case (TakeAside u)
 
 -- who keeps a right of its own ends that as its call ends
 abbrev pub leaves_with : Option Want → List Deed
@@ -203,20 +203,20 @@ wake_deeds start m to whom told = []
 
 abbrev pub deeds_at : Admission → RwLockPlace → RwLockAt → Option ℕ → Reply → List Deed
 deeds_at a p at.First whom (reply.Value seen) =
-    if seen == 0 then Does (Enter Exclusive) ∷ End ∷ [] else missed_deeds (patience_at p)
+    if seen == 0 then Case (Enter Exclusive) ∷ End ∷ [] else missed_deeds (patience_at p)
 deeds_at a p at.Load whom (reply.Value seen) = looked_deeds (decided a p seen)
 deeds_at a p (at.Decide expected) whom (reply.Value seen) =
     exchanged_deeds p.purpose (decided a p expected) (seen == expected) (decided a p seen)
 deeds_at a p (at.Decide expected) whom (reply.Spun seen) = looked_deeds (decided a p seen)
 deeds_at a p (at.Decide expected) whom reply.Done = In Main ∷ []
-deeds_at a p (at.Park to) whom told = park_deeds (Does (Park (want_at p))) Main to told
+deeds_at a p (at.Park to) whom told = park_deeds (Case (Park (want_at p))) Main to told
 deeds_at a p at.Look whom (reply.Value seen) = counted_deeds seen
 deeds_at a p (at.Count expected) whom (reply.Value seen) =
     if seen == expected then Mark Second ∷ [] else counted_deeds seen
 deeds_at a p (at.Count expected) whom (reply.Spun seen) = counted_deeds seen
 deeds_at a p (at.Count expected) whom reply.Done = In Second ∷ []
-deeds_at a p (at.Aside to) whom told = park_deeds (Does Aside) Second to told
-deeds_at a p at.RollBack whom (reply.Value seen) = does_and_wakes (has_parked seen) (Does Rollback)
+deeds_at a p (at.Aside to) whom told = park_deeds (Case Aside) Second to told
+deeds_at a p at.RollBack whom (reply.Value seen) = does_and_wakes (has_parked seen) (Case Rollback)
 deeds_at a p at.GiveWay whom (reply.Value seen) = gives_deeds p.purpose seen
 deeds_at a p (at.Wake m to) whom told = wake_deeds (start_of p.purpose) m to whom told
 deeds_at a p to whom told = []
@@ -226,11 +226,11 @@ rwlock_deeds a p whom told = deeds_at a p p.at whom told
 
 abbrev pub after_all : Rules → List Deed → Site → ℕ → Site
 after_all r [] s t = s
-after_all r (d ∷ ds) s t = after_all r ds (after r d s t) t
+after_all r (d ∷ ds) s t = after_all r ds (after_deed r d s t) t
 
 abbrev pub AllNeeded : Rules → List Deed → Site → ℕ → Type 0
 AllNeeded r [] s t = Unit {0}
-AllNeeded r (d ∷ ds) s t = Needed r d s t × AllNeeded r ds (after r d s t) t
+AllNeeded r (d ∷ ds) s t = Needed r d s t × AllNeeded r ds (after_deed r d s t) t
 
 -- ---------------------------------------------------------------- the laws
 
@@ -367,15 +367,15 @@ RwLockSectionsFollow =
 -- the lock behind what an operation does to its owners
 abbrev pub lock_by : Change → ℕ → LockState → LockState
 lock_by changes.Nothing t s = s
-lock_by (changes.Enter x) t s = owning t (wanted x) s
+lock_by (changes.Enter x) t s = with_owner t (wanted x) s
 lock_by changes.Pend t s = pending_for t false s
-lock_by changes.Settle t s = owning t Exclusive (record s { pending = None })
-lock_by (changes.Leave x) t s = leaving t (wanted x) s
-lock_by (changes.Downgrade d) t s = owning t (wanted (to_of d)) (leaving t (wanted (from_of d)) s)
-lock_by (changes.Upgrade true) t s = owning t Exclusive (leaving t Upgradable s)
-lock_by (changes.Upgrade false) t s = pending_for t true (leaving t Upgradable s)
+lock_by changes.Settle t s = with_owner t Exclusive (record s { pending = None })
+lock_by (changes.Leave x) t s = without_owner t (wanted x) s
+lock_by (changes.Downgrade d) t s = with_owner t (wanted (to_of d)) (without_owner t (wanted (from_of d)) s)
+lock_by (changes.Upgrade true) t s = with_owner t Exclusive (without_owner t Upgradable s)
+lock_by (changes.Upgrade false) t s = pending_for t true (without_owner t Upgradable s)
 lock_by (changes.RollBack false) t s = record s { pending = None }
-lock_by (changes.RollBack true) t s = owning t Upgradable (record s { pending = None })
+lock_by (changes.RollBack true) t s = with_owner t Upgradable (record s { pending = None })
 
 -- each step on the word changes owners as its deeds say
 abbrev pub RwLockOwnersFollow : Type 0

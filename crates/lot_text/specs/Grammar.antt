@@ -72,9 +72,12 @@ lock_command (Some name) kind = option_map (command.TheVariants.Lock name) kind
 -- the words of a line with a meaning: `show`, `threads N`, `T TURN`, `lock NAME KIND`, `T begin CALL NAME`, `T do CALL NAME`
 abbrev pub command_of : List (List ℕ) → Option Command
 command_of (a ∷ []) = if bytes_eq a (codes "show") then Some command.TheVariants.Show else None
-command_of (a ∷ b ∷ []) = if bytes_eq a (codes "threads") then option_map command.TheVariants.Threads (number_of b) else turn_command (number_of a) (turn_of b)
+command_of (a ∷ b ∷ []) =
+    if bytes_eq a (codes "threads") then option_map command.TheVariants.Threads (number_of b)
+    else turn_command (number_of a) (turn_of b)
 command_of (a ∷ b ∷ c ∷ []) = if bytes_eq a (codes "lock") then lock_command (name_of b) (kind_of c) else None
-command_of (a ∷ b ∷ c ∷ d ∷ []) = turn_command (number_of a) (option_and_then (λ call. option_and_then (calling_turn_of b call) (name_of d)) (call_of c))
+command_of (a ∷ b ∷ c ∷ d ∷ []) =
+    turn_command (number_of a) (option_and_then (λ call. option_and_then (calling_turn_of b call) (name_of d)) (call_of c))
 command_of _ = None
 
 abbrev pub meaning : List ℕ → Option Command

@@ -35,8 +35,11 @@ ReadsLine old new Failed line = TakesPart old new
 
 -- what one look at the reader's bytes does, where the line read so far grows from `before` to `after`
 abbrev pub TakesPiece : Option (List ℕ) → Option (List ℕ) → Piece → List ℕ → List ℕ → Type 0
-TakesPiece old new More before after = (part : List ℕ) × IsOneLine part × Consumes old new part × (after ≡ before ++ part) × (length after ≤ line_len)
-TakesPiece old new LineFeed before after = (part : List ℕ) × IsOneLine part × Consumes old new (part ++ 10 ∷ []) × (after ≡ before ++ part) × (length after ≤ line_len)
-TakesPiece old new NoRoom before after = (part : List ℕ) × (then : Option (List ℕ)) × IsOneLine part × Consumes old then part × (line_len < length (before ++ part))
+TakesPiece old new More before after = (part : List ℕ) × IsOneLine part × Consumes old new part
+    × (after ≡ before ++ part) × (length after ≤ line_len)
+TakesPiece old new LineFeed before after = (part : List ℕ) × IsOneLine part × Consumes old new (part ++ 10 ∷ [])
+    × (after ≡ before ++ part) × (length after ≤ line_len)
+TakesPiece old new NoRoom before after = (part : List ℕ) × (then : Option (List ℕ)) × IsOneLine part
+    × Consumes old then part × (line_len < length (before ++ part))
 TakesPiece old new NoMore before after = IsAtEnd old × Keeps old new × (after ≡ before)
 TakesPiece old new Refused before after = Keeps old new × (after ≡ before)

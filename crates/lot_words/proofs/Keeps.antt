@@ -8,15 +8,15 @@ use lib.ListN.{get_elem?}
 use prog.Atomic.{either}
 use Rattle.atomic_table.specs.Table.{State, Me, step, Act, keeps, Valid, carried_after, stepped, Allows, Splits, Joins}
 use Rattle.atomic_table.proofs.Lists.{at_set, at_snoc}
-use Rattle.lot_words.specs.Places.{place, counter, mutex_of_count}
+use Rattle.lot_words.specs.Indices.{word_index, counter, mutex_of_count}
 use Rattle.lot_words.specs.Views.{view, blank, total, total_below, owned, owning, owning_with, named, counted, steps_at, drew}
 use Rattle.lot_words.specs.Codes.{Owners, Codes, Shows, IsCountCode, everyone, exclusive}
 use Rattle.lot_words.specs.Rule.{LotRule}
 use Rattle.lot_base.specs.Words.{apply}
 use Rattle.lot_base.specs.declared.ops.Op.{Op}
 use Rattle.lot_base.specs.declared.ops.Op.TheVariants.{Load, Or, Exchange}
-use Rattle.lot_words.specs.Steps.{has, without, HasAll, trade, Agrees, MayTie, MayStep, owns_after_step, listed, after_step}
-use Rattle.lot_words.specs.Plays.{TakesAs, Takes, saw_set, looks, draws, numbered, left_over, piece, takes_in}
+use Rattle.lot_words.specs.Steps.{has, without, HasAll, trade, CountAgrees, MayTie, MayStep, owns_after_step, listed, after_step}
+use Rattle.lot_words.specs.Plays.{TakesStepOf, TakesStep, saw_set, looks, draws, numbered, left_over, piece, takes_in}
 use Rattle.lot_words.specs.declared.owners.Ownership.{Ownership}
 use Rattle.lot_words.specs.declared.views.WordStep.{WordStep}
 use Rattle.lot_words.proofs.Trades.{total-without, traded_here, traded_elsewhere, traded_counts, said_total, owned_some}
@@ -28,56 +28,56 @@ use Rattle.lot_words.specs.declared.words.WordKind.{WordKind}
 use Rattle.lot_words.specs.declared.words.WordKind.TheVariants.{Mutex, RwLock, Condvar, Once, Count}
 use Rattle.lot_words.proofs.Counts.{counted-where, no_counts}
 use Rattle.lot_words.proofs.Totals.{total-append, total-set, term_le, total_below-suc, cond_same, cond_other}
-use Rattle.lot_words.proofs.Places.{rank_lt, kind_at-place, place-number, place-kind}
+use Rattle.lot_words.proofs.Indices.{rank_lt, word_kind_at-index, index-number, index-kind}
 
 shows_more : (P Q : ℕ → Type 0) (n : ℕ) → ((k : ℕ) → P k → Q k) → Shows P n → Shows Q n
 shows_more P Q n more h = ⊎_elim (λ z. inl z) (λ t. inr (t.0, t.1, more t.0 t.2)) h
 
 -- what ties the value of a word to the word of a mutex
 abbrev pub Tied : WordKind → ℕ → ℕ → List View → Type 0
-Tied Condvar number n views = Shows (λ mutex. 0 < total (steps_at (place mutex Mutex)) views) n
-Tied Count number n views = IsCountCode n × (n ≡ total (λ (v : View). counted (mutex_of_count (place number Count)) v.owns) views)
+Tied Condvar number n views = Shows (λ mutex. 0 < total (steps_at (word_index mutex Mutex)) views) n
+Tied Count number n views = IsCountCode n × (n ≡ total (λ (v : View). counted (mutex_of_count (word_index number Count)) v.owns) views)
 Tied _ number n views = Unit {0}
 
 module _ {S : Type 0} (words : ℕ) (s : State S View) (o : LotRule words s) where
   -- the law of all steps on words: what is owned of this word changes, and its code with that
   pub turned : (number : ℕ) (kind : WordKind) (j m : ℕ) (v w : View) → get_elem? s.views j ≡ some v → number < words
-      → ((r : ℕ) → r ≢ place number kind → (weight : Owner → ℕ) → owned r weight w.owns ≡ owned r weight v.owns)
-      → ((after : Owners) → ((weight : Owner → ℕ) → after weight + owned (place number kind) weight v.owns ≡ named (place number kind) weight s.views + owned (place number kind) weight w.owns) → Codes kind m after)
+      → ((r : ℕ) → r ≢ word_index number kind → (weight : Owner → ℕ) → owned r weight w.owns ≡ owned r weight v.owns)
+      → ((after : Owners) → ((weight : Owner → ℕ) → after weight + owned (word_index number kind) weight v.owns ≡ named (word_index number kind) weight s.views + owned (word_index number kind) weight w.owns) → Codes kind m after)
       → Tied kind number m (set s.views j w)
-      → ((r : ℕ) → (kind ≡ Count → r ≢ mutex_of_count (place number kind)) → counted r w.owns ≡ counted r v.owns)
-      → w.drawn ≡ v.drawn → w.saw ≡ v.saw → 0 < steps_at (place number kind) w → ((r : ℕ) → steps_at r v ≤ steps_at r w)
-      → LotRule words (record { words = set s.words (place number kind) m; homes = s.homes; views = set s.views j w })
+      → ((r : ℕ) → (kind ≡ Count → r ≢ mutex_of_count (word_index number kind)) → counted r w.owns ≡ counted r v.owns)
+      → w.drawn ≡ v.drawn → w.saw ≡ v.saw → 0 < steps_at (word_index number kind) w → ((r : ℕ) → steps_at r v ≤ steps_at r w)
+      → LotRule words (record { words = set s.words (word_index number kind) m; homes = s.homes; views = set s.views j w })
   turned number kind j m v w me below others codes tied same-counts same-drawn same-saw stepped more =
-      let i : ℕ = place number kind in let size = o.size in let enough = o.enough in
+      let i : ℕ = word_index number kind in let size = o.size in let enough = o.enough in
       let near : i < length s.words = omega (arith, rank_lt kind) in
       let vs = set s.views j w in
       let here : get_or (set s.words i m) i 0 ≡ m = get_or-set_same s.words i m 0 near in
       let count-here : get_or (set s.words i m) counter 0 ≡ get_or s.words counter 0 = get_or-set_other s.words i counter m 0 (λ e. omega arith) in
       let sum : (r : ℕ) (weight : Owner → ℕ) → named r weight vs + owned r weight v.owns ≡ named r weight s.views + owned r weight w.owns = λ r weight. total-set (λ (u : View). owned r weight u.owns) s.views j v w me in
-      let tied_here : (number' : ℕ) (kind' : WordKind) → place number' kind' ≡ i → Tied kind' number' (get_or (set s.words i m) (place number' kind') 0) vs =
+      let tied_here : (number' : ℕ) (kind' : WordKind) → word_index number' kind' ≡ i → Tied kind' number' (get_or (set s.words i m) (word_index number' kind') 0) vs =
       λ number' kind' e. subst (λ (x : ℕ). Tied kind' number' x vs) (sym (ap (λ (r : ℕ). get_or (set s.words i m) r 0) e ∙ here))
-      (subst (λ (k : WordKind). Tied k number' m vs) (sym (place-kind number' number kind' kind e)) (subst (λ (n : ℕ). Tied kind n m vs) (sym (place-number number' number kind' kind e)) tied)) in
+      (subst (λ (k : WordKind). Tied k number' m vs) (sym (index-kind number' number kind' kind e)) (subst (λ (n : ℕ). Tied kind n m vs) (sym (index-number number' number kind' kind e)) tied)) in
       let still : (r : ℕ) → r ≢ i → get_or (set s.words i m) r 0 ≡ get_or s.words r 0 = λ r ne. get_or-set_other s.words i r m 0 ne in
       let stepped-more : (r : ℕ) → total (steps_at r) s.views ≤ total (steps_at r) vs = λ r. omega (arith, total-set (steps_at r) s.views j v w me, more r) in
       record {
         size = length-set s.words i m ∙ size;
-        coded = λ number' kind' below'. dite (ℕ_discrete (place number' kind') i)
-            (λ e. let n≡ = place-number number' number kind' kind e in let k≡ = place-kind number' number kind' kind e in
-            let Goal : ℕ → WordKind → Type 0 = λ n k. Codes k (get_or (set s.words i m) (place n k) 0) (λ weight. named (place n k) weight vs) in
+        coded = λ number' kind' below'. dite (ℕ_discrete (word_index number' kind') i)
+            (λ e. let n≡ = index-number number' number kind' kind e in let k≡ = index-kind number' number kind' kind e in
+            let Goal : ℕ → WordKind → Type 0 = λ n k. Codes k (get_or (set s.words i m) (word_index n k) 0) (λ weight. named (word_index n k) weight vs) in
             subst (λ (k : WordKind). Goal number' k) (sym k≡) (subst (λ (n : ℕ). Goal n kind) (sym n≡) (subst (λ (x : ℕ). Codes kind x (λ weight. named i weight vs)) (sym here) (codes (λ weight. named i weight vs) (λ weight. sum i weight)))))
-            (λ ne. let r : ℕ = place number' kind' in
+            (λ ne. let r : ℕ = word_index number' kind' in
             let same : (weight : Owner → ℕ) → named r weight s.views ≡ named r weight vs = λ weight. omega (arith, sum r weight, others r ne weight) in
             subst (λ (x : ℕ). Codes kind' x (λ weight. named r weight vs)) (sym (get_or-set_other s.words i r m 0 ne))
             (subst (Codes kind' (get_or s.words r 0)) (λ k weight. same weight k) (o.coded number' kind' below')));
-        shows = λ number' below'. dite (ℕ_discrete (place number' Condvar) i) (tied_here number' Condvar)
-            (λ ne. subst (Shows (λ mutex. 0 < total (steps_at (place mutex Mutex)) vs)) (sym (still (place number' Condvar) ne))
-            (shows_more (λ mutex. 0 < total (steps_at (place mutex Mutex)) s.views) (λ mutex. 0 < total (steps_at (place mutex Mutex)) vs) (get_or s.words (place number' Condvar) 0) (λ k h. omega (arith, stepped-more (place k Mutex))) (o.shows number' below')));
-        counts = λ number' below'. dite (ℕ_discrete (place number' Count) i) (tied_here number' Count)
-            (λ ne. let old = o.counts number' below' in let same = still (place number' Count) ne in let r : ℕ = mutex_of_count (place number' Count) in (
+        shows = λ number' below'. dite (ℕ_discrete (word_index number' Condvar) i) (tied_here number' Condvar)
+            (λ ne. subst (Shows (λ mutex. 0 < total (steps_at (word_index mutex Mutex)) vs)) (sym (still (word_index number' Condvar) ne))
+            (shows_more (λ mutex. 0 < total (steps_at (word_index mutex Mutex)) s.views) (λ mutex. 0 < total (steps_at (word_index mutex Mutex)) vs) (get_or s.words (word_index number' Condvar) 0) (λ k h. omega (arith, stepped-more (word_index k Mutex))) (o.shows number' below')));
+        counts = λ number' below'. dite (ℕ_discrete (word_index number' Count) i) (tied_here number' Count)
+            (λ ne. let old = o.counts number' below' in let same = still (word_index number' Count) ne in let r : ℕ = mutex_of_count (word_index number' Count) in (
               subst IsCountCode (sym same) old.0,
               let old₁ = old.1 in
-                  omega (arith, total-set (λ (u : View). counted r u.owns) s.views j v w me, same-counts r (λ k e. ne (let there = ap (place number) k in omega arith))),
+                  omega (arith, total-set (λ (u : View). counted r u.owns) s.views j v w me, same-counts r (λ k e. ne (let there = ap (word_index number) k in omega arith))),
             ));
         owned = λ r weight some. dite (ℕ_discrete r i) (λ e. (omega arith, omega (arith, length-set s.words i m)))
             (λ ne. let old = o.owned r weight (omega (arith, sum r weight, others r ne weight)) in let old₁ = old.1 in (old.0, omega (arith, length-set s.words i m)));
@@ -97,9 +97,9 @@ module _ {S : Type 0} (words : ℕ) (s : State S View) (o : LotRule words s) whe
       → LotRule words (record { words = s.words; homes = s.homes; views = vs })
   reseated vs same-named same-counts same-steps same-drawn saw = record {
     size = o.size;
-    coded = λ number' kind' below. subst (Codes kind' (get_or s.words (place number' kind') 0)) (λ k weight. sym (same-named (place number' kind') weight) k) (o.coded number' kind' below);
-    shows = λ number' below. shows_more (λ mutex. 0 < total (steps_at (place mutex Mutex)) s.views) (λ mutex. 0 < total (steps_at (place mutex Mutex)) vs) (get_or s.words (place number' Condvar) 0) (λ k h. omega (arith, same-steps (place k Mutex))) (o.shows number' below);
-    counts = λ number' below. let old = o.counts number' below in (old.0, old.1 ∙ sym (same-counts (mutex_of_count (place number' Count))));
+    coded = λ number' kind' below. subst (Codes kind' (get_or s.words (word_index number' kind') 0)) (λ k weight. sym (same-named (word_index number' kind') weight) k) (o.coded number' kind' below);
+    shows = λ number' below. shows_more (λ mutex. 0 < total (steps_at (word_index mutex Mutex)) s.views) (λ mutex. 0 < total (steps_at (word_index mutex Mutex)) vs) (get_or s.words (word_index number' Condvar) 0) (λ k h. omega (arith, same-steps (word_index k Mutex))) (o.shows number' below);
+    counts = λ number' below. let old = o.counts number' below in (old.0, old.1 ∙ sym (same-counts (mutex_of_count (word_index number' Count))));
     owned = λ r weight some. o.owned r weight (omega (arith, same-named r weight));
     untouched = λ r above h none. o.untouched r above h (omega (arith, same-steps r));
     drawn = λ weight. same-drawn weight ∙ o.drawn weight;
@@ -150,27 +150,27 @@ number_case (suc n) z p = p n (omega arith)
 
 module _ {S : Type 0} (words : ℕ) (s : State S View) (o : LotRule words s) where
   -- a mutex that somebody owns is a word of the lot, has one owner, and somebody has stepped on it
-  owned_mutex : (mutex : ℕ) → 0 < named (place mutex Mutex) exclusive s.views → (mutex < words) × (named (place mutex Mutex) everyone s.views ≡ 1) × (0 < total (steps_at (place mutex Mutex)) s.views)
-  owned_mutex mutex one = let there = o.owned (place mutex Mutex) exclusive one in let there₁ = there.1 in let size = o.size in
+  owned_mutex : (mutex : ℕ) → 0 < named (word_index mutex Mutex) exclusive s.views → (mutex < words) × (named (word_index mutex Mutex) everyone s.views ≡ 1) × (0 < total (steps_at (word_index mutex Mutex)) s.views)
+  owned_mutex mutex one = let there = o.owned (word_index mutex Mutex) exclusive one in let there₁ = there.1 in let size = o.size in
       let below : mutex < words = omega arith in let code = o.coded mutex Mutex below in let code₁ = code.1 in let code₂ = code.2 in (
         below,
         omega arith,
-        dite (ℕ_discrete (total (steps_at (place mutex Mutex)) s.views) 0)
-            (λ z. absurd (let none = o.untouched (place mutex Mutex) there.0 there.1 z in omega arith))
+        dite (ℕ_discrete (total (steps_at (word_index mutex Mutex)) s.views) 0)
+            (λ z. absurd (let none = o.untouched (word_index mutex Mutex) there.0 there.1 z in omega arith))
             (λ nz. omega arith),
       )
 
   -- what a seat says of the mutex before a count word is the value of that word
-  agreed : (number : ℕ) (kind : WordKind) (id : ℕ) (v : View) → get_elem? s.views id ≡ some v → number < words → Agrees kind (place number kind) (get_or s.words (place number kind) 0) v.owns
-  agreed number Count id v at below = let here = o.counts number below in (here.0, λ count there. counted-where s.views id v at (mutex_of_count (place number Count)) count there (one_owner number count id v at there) ∙ sym here.1)
+  agreed : (number : ℕ) (kind : WordKind) (id : ℕ) (v : View) → get_elem? s.views id ≡ some v → number < words → CountAgrees kind (word_index number kind) (get_or s.words (word_index number kind) 0) v.owns
+  agreed number Count id v at below = let here = o.counts number below in (here.0, λ count there. counted-where s.views id v at (mutex_of_count (word_index number Count)) count there (one_owner number count id v at there) ∙ sym here.1)
     where
-      one_owner : (number count id : ℕ) (v : View) → get_elem? s.views id ≡ some v → has (owning_with (mutex_of_count (place number Count)) count) v.owns ≡ true → named (mutex_of_count (place number Count)) everyone s.views ≤ 1
-      one_owner number count id v at there = let r : ℕ = mutex_of_count (place number Count) in
+      one_owner : (number count id : ℕ) (v : View) → get_elem? s.views id ≡ some v → has (owning_with (mutex_of_count (word_index number Count)) count) v.owns ≡ true → named (mutex_of_count (word_index number Count)) everyone s.views ≤ 1
+      one_owner number count id v at there = let r : ℕ = mutex_of_count (word_index number Count) in
           let f = λ (x : Ownership). cond (eqb x.at r) (exclusive x.owner) 0 in
           let some : 0 < named r exclusive s.views = omega (arith, term_le (λ (u : View). owned r exclusive u.owns) s.views id v at, total-without f (owning_with r count) v.owns there, cond_same r r 1 refl) in
           let real = o.owned r exclusive some in
-          number_case number (λ e. absurd (let z = ap (λ (k : ℕ). mutex_of_count (place k Count)) e in let real₀ = real.0 in omega arith))
-          (λ before e. let same : r ≡ place before Mutex = ap (λ (k : ℕ). mutex_of_count (place k Count)) e ∙ omega arith in
+          number_case number (λ e. absurd (let z = ap (λ (k : ℕ). mutex_of_count (word_index k Count)) e in let real₀ = real.0 in omega arith))
+          (λ before e. let same : r ≡ word_index before Mutex = ap (λ (k : ℕ). mutex_of_count (word_index k Count)) e ∙ omega arith in
           subst (λ (q : ℕ). named q everyone s.views ≤ 1) (sym same) (let one = owned_mutex before (subst (λ (q : ℕ). 0 < named q exclusive s.views) same some) in let one₁ = one.1 in omega arith))
   agreed number Mutex id v at below = tt
   agreed number RwLock id v at below = tt
@@ -179,18 +179,18 @@ module _ {S : Type 0} (words : ℕ) (s : State S View) (o : LotRule words s) whe
 
   -- a step that may be taken leaves a tied word tied
   tied_after : (number : ℕ) (kind : WordKind) (op : Op) (id : ℕ) (v : View) → get_elem? s.views id ≡ some v → number < words
-      → MayTie kind (place number kind) (get_or s.words (place number kind) 0) (apply op (get_or s.words (place number kind) 0)) v.owns
-      → ((r : ℕ) → steps_at r v ≤ steps_at r (after_step kind (place number kind) op (get_or s.words (place number kind) 0) v))
-      → Tied kind number (apply op (get_or s.words (place number kind) 0)) (set s.views id (after_step kind (place number kind) op (get_or s.words (place number kind) 0) v))
+      → MayTie kind (word_index number kind) (get_or s.words (word_index number kind) 0) (apply op (get_or s.words (word_index number kind) 0)) v.owns
+      → ((r : ℕ) → steps_at r v ≤ steps_at r (after_step kind (word_index number kind) op (get_or s.words (word_index number kind) 0) v))
+      → Tied kind number (apply op (get_or s.words (word_index number kind) 0)) (set s.views id (after_step kind (word_index number kind) op (get_or s.words (word_index number kind) 0) v))
   tied_after number Condvar op id v at below tie more =
-      let n : ℕ = get_or s.words (place number Condvar) 0 in let w = after_step Condvar (place number Condvar) op n v in
-      let New : ℕ → Type 0 = λ mutex. 0 < total (steps_at (place mutex Mutex)) (set s.views id w) in
-      let grown : (k : ℕ) → 0 < total (steps_at (place k Mutex)) s.views → New k = λ k h. omega (arith, total-set (steps_at (place k Mutex)) s.views id v w at, more (place k Mutex)) in
-      ⊎_elim (λ e. subst (Shows New) (sym e) (shows_more (λ mutex. 0 < total (steps_at (place mutex Mutex)) s.views) New n grown (o.shows number below)))
-      (λ t. shows_more (λ mutex. has (owning (place mutex Mutex) Exclusive) v.owns ≡ true) New (apply op n)
-      (λ k there. let i : ℕ = place k Mutex in grown k (owned_mutex k (omega (arith, term_le (λ (u : View). owned i exclusive u.owns) s.views id v at, owned_some i Exclusive v.owns there exclusive (omega arith)))).2) t) tie
+      let n : ℕ = get_or s.words (word_index number Condvar) 0 in let w = after_step Condvar (word_index number Condvar) op n v in
+      let New : ℕ → Type 0 = λ mutex. 0 < total (steps_at (word_index mutex Mutex)) (set s.views id w) in
+      let grown : (k : ℕ) → 0 < total (steps_at (word_index k Mutex)) s.views → New k = λ k h. omega (arith, total-set (steps_at (word_index k Mutex)) s.views id v w at, more (word_index k Mutex)) in
+      ⊎_elim (λ e. subst (Shows New) (sym e) (shows_more (λ mutex. 0 < total (steps_at (word_index mutex Mutex)) s.views) New n grown (o.shows number below)))
+      (λ t. shows_more (λ mutex. has (owning (word_index mutex Mutex) Exclusive) v.owns ≡ true) New (apply op n)
+      (λ k there. let i : ℕ = word_index k Mutex in grown k (owned_mutex k (omega (arith, term_le (λ (u : View). owned i exclusive u.owns) s.views id v at, owned_some i Exclusive v.owns there exclusive (omega arith)))).2) t) tie
   tied_after number Count op id v at below tie more =
-      let n : ℕ = get_or s.words (place number Count) 0 in let m : ℕ = apply op n in let i : ℕ = place number Count in let r : ℕ = mutex_of_count i in let w = after_step Count i op n v in
+      let n : ℕ = get_or s.words (word_index number Count) 0 in let m : ℕ = apply op n in let i : ℕ = word_index number Count in let r : ℕ = mutex_of_count i in let w = after_step Count i op n v in
       let old = o.counts number below in let old₁ = old.1 in (
         ⊎_elim (λ e. subst IsCountCode (sym e) old.0) (λ t. t.0) tie,
         omega (
@@ -206,18 +206,18 @@ module _ {S : Type 0} (words : ℕ) (s : State S View) (o : LotRule words s) whe
   tied_after number Once op id v at below tie more = tt
 
 -- the law of all steps on words: one that the seat may take keeps the rule
-pub steps : {S : Type 0} (words slots id : ℕ) (me : Me S View) (number : ℕ) (kind : WordKind) (op : Op) → number < words → MayStep kind (place number kind) op me.0.owns
-    → Allows (LotRule words) slots id me (place number kind) (apply op) (Takes (place number kind) op me)
+pub steps : {S : Type 0} (words slots id : ℕ) (me : Me S View) (number : ℕ) (kind : WordKind) (op : Op) → number < words → MayStep kind (word_index number kind) op me.0.owns
+    → Allows (LotRule words) slots id me (word_index number kind) (apply op) (TakesStep (word_index number kind) op me)
 steps {S} words slots id me number kind op below may s o wide at fits =
-    let i : ℕ = place number kind in let n : ℕ = get_or s.words i 0 in let m : ℕ = apply op n in
+    let i : ℕ = word_index number kind in let n : ℕ = get_or s.words i 0 in let m : ℕ = apply op n in
     let mine : (weight : Owner → ℕ) → owned i weight me.0.owns ≤ named i weight s.views = λ weight. term_le (λ (u : View). owned i weight u.owns) s.views id me.0 at in
     let code = o.coded number kind below in
     let agrees = agreed words s o number kind id me.0 at below in
     let ok = may n (λ weight. named i weight s.views) fits code mine agrees in
     let so = stepped_so kind i op n me.0.owns ok.0 ok.2 in let w = after_step kind i op n me.0 in
     let more : (r : ℕ) → steps_at r me.0 ≤ steps_at r w = λ r. omega (arith, steps_more me.0 i n r op) in
-    let then = λ (k : WordKind). (w : View) × (a : Act S) × Valid s.homes me.1 a × LotRule words (stepped s i m id me.1 w a) × TakesAs k i op me n (w, carried_after me.1 a) in
-    subst then (sym (kind_at-place number kind)) (
+    let then = λ (k : WordKind). (w : View) × (a : Act S) × Valid s.homes me.1 a × LotRule words (stepped s i m id me.1 w a) × TakesStepOf k i op me n (w, carried_after me.1 a) in
+    subst then (sym (word_kind_at-index number kind)) (
       w,
       keeps,
       tt,
@@ -230,12 +230,12 @@ steps {S} words slots id me number kind op below may s o wide at fits =
       (refl, ((λ weight. named i weight s.views), code, mine, agrees)),
     )
 
--- the same, by the place that was computed and the operation that was matched
-pub steps_at_word : {S : Type 0} (words slots id : ℕ) (me : Me S View) (number : ℕ) (kind : WordKind) (at : ℕ) (op op' : Op) → op ≡ op' → at ≡ place number kind → number < words → MayStep kind (place number kind) op me.0.owns
-    → Allows (LotRule words) slots id me at (apply op') (Takes at op' me)
+-- the same, by the index that was computed and the operation that was matched
+pub steps_at_word : {S : Type 0} (words slots id : ℕ) (me : Me S View) (number : ℕ) (kind : WordKind) (at : ℕ) (op op' : Op) → op ≡ op' → at ≡ word_index number kind → number < words → MayStep kind (word_index number kind) op me.0.owns
+    → Allows (LotRule words) slots id me at (apply op') (TakesStep at op' me)
 steps_at_word words slots id me number kind at op op' same there below may =
-    let may' : MayStep kind (place number kind) op' me.0.owns = subst (λ (x : Op). MayStep kind (place number kind) x me.0.owns) same may in
-    subst (λ (i : ℕ). Allows (LotRule words) slots id me i (apply op') (Takes i op' me)) (sym there) (steps words slots id me number kind op' below may')
+    let may' : MayStep kind (word_index number kind) op' me.0.owns = subst (λ (x : Op). MayStep kind (word_index number kind) x me.0.owns) same may in
+    subst (λ (i : ℕ). Allows (LotRule words) slots id me i (apply op') (TakesStep i op' me)) (sym there) (steps words slots id me number kind op' below may')
 
 set_elem : {A : Type 0} (xs : List A) (j : ℕ) (x : A) → get_elem? xs j ≡ some x → set xs j x ≡ xs
 set_elem [] j x e = refl
@@ -243,10 +243,10 @@ set_elem (y ∷ ys) zero x e = ap (λ z. z ∷ ys) (sym (some-injective y x e))
 set_elem (y ∷ ys) (suc j) x e = ap (λ zs. y ∷ zs) (set_elem ys j x e)
 
 -- a load that finds bits set is an or with these, and any other is no step
-pub sees_set : {S : Type 0} (words slots id : ℕ) (me : Me S View) (number : ℕ) (kind : WordKind) (bits : ℕ) → number < words → MayStep kind (place number kind) (Or bits) me.0.owns
-    → Allows (LotRule words) slots id me (place number kind) (λ n. n) (saw_set bits (step slots (place number kind) 0 0 none) me)
+pub sees_set : {S : Type 0} (words slots id : ℕ) (me : Me S View) (number : ℕ) (kind : WordKind) (bits : ℕ) → number < words → MayStep kind (word_index number kind) (Or bits) me.0.owns
+    → Allows (LotRule words) slots id me (word_index number kind) (λ n. n) (saw_set bits (step slots (word_index number kind) 0 0 none) me)
 sees_set {S} words slots id me number kind bits below may s o wide at fits =
-    let i : ℕ = place number kind in let n : ℕ = get_or s.words i 0 in
+    let i : ℕ = word_index number kind in let n : ℕ = get_or s.words i 0 in
     dite (ℕ_discrete (bit_or n bits) n)
     (λ e. let t = steps words slots id me number kind (Or bits) below may s o wide at fits in
     (t.0, t.1, t.2, subst (λ (m : ℕ). LotRule words (stepped s i m id me.1 t.0 t.1)) e t.3, ((λ _. t.4), λ ne. absurd (ne e))))
@@ -299,11 +299,11 @@ count_turned words s o j m v w me up fits same-owns saw same-steps same-drawn =
     let stepped : (r : ℕ) → 0 < r → total (steps_at r) vs ≡ total (steps_at r) s.views = λ r h. omega (arith, total-set (steps_at r) s.views j v w me, same-steps r h) in
     record {
       size = length-set s.words counter m ∙ size;
-      coded = λ number' kind' below. subst (λ (x : ℕ). Codes kind' x (λ weight. named (place number' kind') weight vs)) (sym (there (place number' kind') (omega arith)))
-          (subst (Codes kind' (get_or s.words (place number' kind') 0)) (λ k weight. same-named (place number' kind') weight k) (o.coded number' kind' below));
-      shows = λ number' below. subst (Shows (λ mutex. 0 < total (steps_at (place mutex Mutex)) vs)) (sym (there (place number' Condvar) (omega arith)))
-          (shows_more (λ mutex. 0 < total (steps_at (place mutex Mutex)) s.views) (λ mutex. 0 < total (steps_at (place mutex Mutex)) vs) (get_or s.words (place number' Condvar) 0) (λ k h. omega (arith, stepped (place k Mutex) (omega arith))) (o.shows number' below));
-      counts = λ number' below. let old = o.counts number' below in let old₁ = old.1 in let same = there (place number' Count) (omega arith) in let r : ℕ = mutex_of_count (place number' Count) in
+      coded = λ number' kind' below. subst (λ (x : ℕ). Codes kind' x (λ weight. named (word_index number' kind') weight vs)) (sym (there (word_index number' kind') (omega arith)))
+          (subst (Codes kind' (get_or s.words (word_index number' kind') 0)) (λ k weight. same-named (word_index number' kind') weight k) (o.coded number' kind' below));
+      shows = λ number' below. subst (Shows (λ mutex. 0 < total (steps_at (word_index mutex Mutex)) vs)) (sym (there (word_index number' Condvar) (omega arith)))
+          (shows_more (λ mutex. 0 < total (steps_at (word_index mutex Mutex)) s.views) (λ mutex. 0 < total (steps_at (word_index mutex Mutex)) vs) (get_or s.words (word_index number' Condvar) 0) (λ k h. omega (arith, stepped (word_index k Mutex) (omega arith))) (o.shows number' below));
+      counts = λ number' below. let old = o.counts number' below in let old₁ = old.1 in let same = there (word_index number' Count) (omega arith) in let r : ℕ = mutex_of_count (word_index number' Count) in
           (subst IsCountCode (sym same) old.0, omega (arith, total-set (λ (u : View). counted r u.owns) s.views j v w me, ap (counted r) same-owns));
       owned = λ r weight some. let old = o.owned r weight (omega (arith, same-named r weight)) in let old₁ = old.1 in (old.0, omega (arith, length-set s.words counter m));
       untouched = λ r above h none. there r above ∙ o.untouched r above (omega (arith, length-set s.words counter m)) (omega (arith, stepped r above));

@@ -1,6 +1,6 @@
 pub mod Totals
 pub mod Looks
-mod Places
+mod Indices
 pub mod Trades
 mod Counts
 pub mod Keeps

@@ -2,7 +2,7 @@
 use Rattle.std.proofs.Common.{◌≡◌, ◌≢◌, ℕ, zero, suc, ◌+◌, ◌<◌, ◌≤◌, List, [], ◌∷◌, ◌++◌, All, length, refl, ap, ◌∙◌, arith, append_assoc, length-append, cond, ne_eqb}
 use Rattle.std.proofs.lemmas.List.Elements.{All-append}
 use Rattle.lot_base.specs.declared.ops.Op.TheVariants.{Load, Exchange}
-use Rattle.lot_words.specs.Places.{counter}
+use Rattle.lot_words.specs.Indices.{counter}
 use Rattle.lot_words.specs.Draws.{IsLook, Looked}
 use Rattle.lot_words.specs.declared.views.WordStep.{WordStep}
 

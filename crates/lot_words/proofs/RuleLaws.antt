@@ -2,7 +2,7 @@
 use Rattle.std.proofs.Common.{◌≡◌, ℕ, zero, suc, ◌+◌, ◌<◌, ◌≤◌, List, [], ◌∷◌, cond, eqb, refl, ap, arith}
 use mathlib.Core.Logic.{dite}
 use native.Mathlib.Decide.{ℕ_discrete}
-use Rattle.lot_words.specs.Places.{place, mutex_of_count}
+use Rattle.lot_words.specs.Indices.{word_index, mutex_of_count}
 use Rattle.lot_words.specs.Views.{total, total_below, counted}
 use Rattle.lot_words.specs.RuleLaws.{DrawnOnce, NeverFalls, UntouchedIs0, ShownWasStepped, CountsAnOwner}
 use Rattle.lot_words.specs.declared.views.View.{View}
@@ -35,5 +35,5 @@ pub shown_was_stepped : {S : Type 0} → ShownWasStepped S
 shown_was_stepped words s rule = rule.shows
 
 pub counts_an_owner : {S : Type 0} → CountsAnOwner S
-counts_an_owner words s rule number below = let here = rule.counts (number + 1) below in let same = here.1 in let there : mutex_of_count (place (number + 1) Count) ≡ place number Mutex = omega arith in
-    (here.0, λ none. omega (arith, ap (λ (r : ℕ). total (λ (v : View). counted r v.owns) s.views) there, no_counts (place number Mutex) s.views none))
+counts_an_owner words s rule number below = let here = rule.counts (number + 1) below in let same = here.1 in let there : mutex_of_count (word_index (number + 1) Count) ≡ word_index number Mutex = omega arith in
+    (here.0, λ none. omega (arith, ap (λ (r : ℕ). total (λ (v : View). counted r v.owns) s.views) there, no_counts (word_index number Mutex) s.views none))

@@ -5,7 +5,7 @@ use native.Mathlib.Decide.{ℕ_discrete}
 use Rattle.lot_base.specs.Words.{apply}
 use Rattle.lot_base.specs.declared.ops.Op.{Op}
 use Rattle.lot_base.specs.declared.ops.Op.TheVariants.{Load, Store, Add, Sub, Exchange}
-use Rattle.lot_words.specs.Places.{place, mutex_of_count}
+use Rattle.lot_words.specs.Indices.{word_index, mutex_of_count}
 use Rattle.lot_words.specs.Views.{owning_with}
 use Rattle.lot_words.specs.Codes.{IsCountCode, Shows}
 use Rattle.lot_words.specs.Steps.{has, MayTie, MayStep}
@@ -28,12 +28,12 @@ condvar_steps at owns = record {
 
 module _ (mutex : ℕ) (owns : List Ownership) where
   -- the law of steps on a count word: who owns its mutex finds the count that it says, and leaves a count
-  count_step : (op : Op) (count : ℕ) → has (owning_with (place mutex Mutex) count) owns ≡ true → (count < 2 ^ 64 → IsCountCode (apply op count)) → MayStep Count (place (mutex + 1) Count) op owns
+  count_step : (op : Op) (count : ℕ) → has (owning_with (word_index mutex Mutex) count) owns ≡ true → (count < 2 ^ 64 → IsCountCode (apply op count)) → MayStep Count (word_index (mutex + 1) Count) op owns
   count_step op count there ok n owners fits code mine agrees =
-      let same : mutex_of_count (place (mutex + 1) Count) ≡ place mutex Mutex = omega arith in
-      let says : has (owning_with (mutex_of_count (place (mutex + 1) Count)) count) owns ≡ true = subst (λ (r : ℕ). has (owning_with r count) owns ≡ true) (sym same) there in
+      let same : mutex_of_count (word_index (mutex + 1) Count) ≡ word_index mutex Mutex = omega arith in
+      let says : has (owning_with (mutex_of_count (word_index (mutex + 1) Count)) count) owns ≡ true = subst (λ (r : ℕ). has (owning_with r count) owns ≡ true) (sym same) there in
       let is : count ≡ n = agrees.1 count says in
-      (tt, (λ after same. tt), inr (subst (λ (k : ℕ). IsCountCode (apply op k)) is (ok (omega arith)), subst (λ (k : ℕ). has (owning_with (mutex_of_count (place (mutex + 1) Count)) k) owns ≡ true) is says))
+      (tt, (λ after same. tt), inr (subst (λ (k : ℕ). IsCountCode (apply op k)) is (ok (omega arith)), subst (λ (k : ℕ). has (owning_with (mutex_of_count (word_index (mutex + 1) Count)) k) owns ≡ true) is says))
 
 pub count_steps : CountMaySteps
 count_steps mutex owns = record {

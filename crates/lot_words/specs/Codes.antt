@@ -44,10 +44,11 @@ witness _ = 0
 abbrev pub IsMutexCode : ℕ → Owners → Type 0
 IsMutexCode n owners = (n < 4) × (owners everyone ≡ n % 2) × (owners exclusive ≡ n % 2)
 
--- PARKED 1, WRITER_PARKED 2, UPGRADABLE 4, WRITER 8, and 16 for each reader. An upgradable owner is a reader too, and the count has
--- room for the one that an upgrading owner is again where it gives up
+-- PARKED 1, WRITER_PARKED 2, UPGRADABLE 4, WRITER 8, and 16 for each reader. An upgradable owner is a reader too, and the
+-- count has room for the one that an upgrading owner is again where it gives up
 abbrev pub IsRwLockCode : ℕ → Owners → Type 0
-IsRwLockCode n owners = (n / 4 ≡ 4 * (owners shared + owners upgradable) + 2 * (owners exclusive + owners pending + owners upgrading) + owners upgradable)
+IsRwLockCode n owners = (n / 4 ≡ 4 * (owners shared + owners upgradable)
+    + 2 * (owners exclusive + owners pending + owners upgrading) + owners upgradable)
     × (owners exclusive + owners pending + owners upgrading + owners upgradable ≤ 1) × (0 < owners exclusive → owners shared ≡ 0)
     × (owners shared + owners upgradable + owners upgrading < 2 ^ 60)
 
@@ -72,4 +73,5 @@ Shows is_mutex n = (n ≡ 0) ⊎ ((number : ℕ) × (n ≡ number + 1) × is_mut
 
 -- a count word: 0, or the number of a thread with how often it locked the mutex
 abbrev pub IsCountCode : ℕ → Type 0
-IsCountCode n = (n ≡ 0) ⊎ ((thread : ℕ) × (times : ℕ) × (n ≡ (thread + 1) * 4294967296 + times) × (1 ≤ times) × (times < 4294967296))
+IsCountCode n = (n ≡ 0) ⊎ ((thread : ℕ) × (times : ℕ) × (n ≡ (thread + 1) * 4294967296 + times) × (1 ≤ times)
+    × (times < 4294967296))

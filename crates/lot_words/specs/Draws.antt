@@ -3,7 +3,7 @@ use Rattle.std.specs.Prelude.{◌≡◌, ℕ, ◌+◌, ◌<◌, ◌≤◌, List,
 use Rattle.lot_base.specs.Words.{apply}
 use Rattle.lot_base.specs.declared.ops.Op.{Op}
 use Rattle.lot_base.specs.declared.ops.Op.TheVariants.{Exchange}
-use Rattle.lot_words.specs.Places.{counter}
+use Rattle.lot_words.specs.Indices.{counter}
 use Rattle.lot_words.specs.Plays.{numbered}
 use Rattle.lot_words.specs.declared.views.View.{View}
 use Rattle.lot_words.specs.declared.views.WordStep.{WordStep}
@@ -24,8 +24,10 @@ LastSaw n steps = (before : List WordStep) × (op : Op) × (steps ≡ before ++ 
 -- from a lot of so many words, words of these kinds were drawn from a number on: the last step moved the counter past them
 abbrev pub IsDrawn : ℕ → List WordKind → ℕ → View → View → Type 0
 IsDrawn words kinds number old new = (number + length kinds ≤ words) × (new.drawn ≡ numbered number kinds ++ old.drawn)
-    × ((looked : List WordStep) × Looked old.steps looked (words + 1) × (new.steps ≡ looked ++ record { at = counter; op = Exchange number (number + length kinds); seen = number } ∷ []))
+    × ((looked : List WordStep) × Looked old.steps looked (words + 1)
+    × (new.steps ≡ looked ++ record { at = counter; op = Exchange number (number + length kinds); seen = number } ∷ []))
 
 -- nothing was drawn: the last step saw that fewer words were left than are needed
-abbrev pub IsRefused : ℕ → ℕ → View → View → Type 0
-IsRefused words needed old new = (new.drawn ≡ old.drawn) × Looked old.steps new.steps (words + 1) × ((n : ℕ) × LastSaw n new.steps × (words < n + needed))
+abbrev pub IsDrawRefused : ℕ → ℕ → View → View → Type 0
+IsDrawRefused words needed old new = (new.drawn ≡ old.drawn) × Looked old.steps new.steps (words + 1)
+    × ((n : ℕ) × LastSaw n new.steps × (words < n + needed))

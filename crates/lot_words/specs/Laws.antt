@@ -1,7 +1,7 @@
 -- What the codes say of owners.
 use Rattle.std.specs.Prelude.{◌≡◌, ◌≢◌, ◌⊎◌, ℕ, ◌+◌, ◌-◌, ◌*◌, ◌/◌, ◌%◌, ◌^◌, ◌<◌, ◌≤◌, List, true}
 use Rattle.lot_base.specs.declared.ops.Op.TheVariants.{Load, Store, Swap, Add, Sub, Or, And, Exchange}
-use Rattle.lot_words.specs.Places.{place}
+use Rattle.lot_words.specs.Indices.{word_index}
 use Rattle.lot_words.specs.Views.{owning, owning_with}
 use Rattle.lot_words.specs.Steps.{MayStep, has}
 use Rattle.lot_words.specs.declared.owners.Owner.TheVariants.{Exclusive, Pending, Upgrading, Upgradable, Shared, Runner}
@@ -13,7 +13,8 @@ use Rattle.lot_words.specs.declared.words.WordKind.TheVariants.{Mutex, RwLock, O
 -- one owner, and nobody beside it
 abbrev pub IsAlone : WordKind → Owners → Type 0
 IsAlone Mutex owners = owners everyone ≡ 1
-IsAlone RwLock owners = (owners exclusive ≡ 1) × (owners pending ≡ 0) × (owners upgrading ≡ 0) × (owners upgradable ≡ 0) × (owners shared ≡ 0)
+IsAlone RwLock owners = (owners exclusive ≡ 1) × (owners pending ≡ 0) × (owners upgrading ≡ 0)
+    × (owners upgradable ≡ 0) × (owners shared ≡ 0)
 IsAlone _ owners = Unit {0}
 
 -- in no code does an exclusive owner stand beside another owner
@@ -62,9 +63,11 @@ pub record RwLockSteps (at : ℕ) (owns : List Ownership) : Type 0 where
   pub try_upgrade : (s : ℕ) → has (owning at Upgradable) owns ≡ true → s / 16 ≡ 1 → MayStep RwLock at (Exchange s (s - 12)) owns
   pub leave_alone : has (owning at Exclusive) owns ≡ true → MayStep RwLock at (Exchange 8 0) owns
   -- the store of the tokens of those who were taken
-  pub hand_over : (m : ℕ) → has (owning at Exclusive) owns ≡ true → m < 2 ^ 64 → m / 4 % 4 ≤ 2 → m / 4 ≢ 1 → m / 4 ≢ 2 → MayStep RwLock at (Store m) owns
+  pub hand_over : (m : ℕ) → has (owning at Exclusive) owns ≡ true → m < 2 ^ 64 → m / 4 % 4 ≤ 2 → m / 4 ≢ 1 → m / 4 ≢ 2
+      → MayStep RwLock at (Store m) owns
   -- the exchange that adds the tokens of those who were taken, or none
-  pub hand_upgradable : (s m part : ℕ) → has (owning at Upgradable) owns ≡ true → m < 2 ^ 64 → m / 4 + 5 ≡ s / 4 + part → part % 4 ≤ 2 → part ≢ 1 → MayStep RwLock at (Exchange s m) owns
+  pub hand_upgradable : (s m part : ℕ) → has (owning at Upgradable) owns ≡ true → m < 2 ^ 64
+      → m / 4 + 5 ≡ s / 4 + part → part % 4 ≤ 2 → part ≢ 1 → MayStep RwLock at (Exchange s m) owns
   pub fall_back : has (owning at Upgrading) owns ≡ true → MayStep RwLock at (Add 12) owns
   pub give_up : has (owning at Pending) owns ≡ true → MayStep RwLock at (Sub 8) owns
 
@@ -89,7 +92,8 @@ OnceMaySteps = (at : ℕ) (owns : List Ownership) → OnceSteps at owns
 pub record CondvarSteps (at : ℕ) (owns : List Ownership) : Type 0 where
   pub load : MayStep Condvar at Load owns
   -- who owns a mutex shows it, where none is shown
-  pub show : (mutex : ℕ) → has (owning (place mutex Mutex) Exclusive) owns ≡ true → MayStep Condvar at (Exchange 0 (mutex + 1)) owns
+  pub show : (mutex : ℕ) → has (owning (word_index mutex Mutex) Exclusive) owns ≡ true
+      → MayStep Condvar at (Exchange 0 (mutex + 1)) owns
   pub hide : MayStep Condvar at (Store 0) owns
 
 -- whoever it is, it may take them
@@ -98,11 +102,14 @@ CondvarMaySteps = (at : ℕ) (owns : List Ownership) → CondvarSteps at owns
 
 -- the kinds of step on the count word of the mutex before it
 pub record CountSteps (mutex : ℕ) (owns : List Ownership) : Type 0 where
-  pub load : MayStep Count (place (mutex + 1) Count) Load owns
+  pub load : MayStep Count (word_index (mutex + 1) Count) Load owns
   -- who owns the mutex, and says this count of it, counts once more or once less, or stores another count
-  pub raise : (count : ℕ) → has (owning_with (place mutex Mutex) count) owns ≡ true → IsCountCode (count + 1) → MayStep Count (place (mutex + 1) Count) (Add 1) owns
-  pub lower : (count : ℕ) → has (owning_with (place mutex Mutex) (count + 1)) owns ≡ true → IsCountCode count → MayStep Count (place (mutex + 1) Count) (Sub 1) owns
-  pub store : (count m : ℕ) → has (owning_with (place mutex Mutex) count) owns ≡ true → IsCountCode m → MayStep Count (place (mutex + 1) Count) (Store m) owns
+  pub raise : (count : ℕ) → has (owning_with (word_index mutex Mutex) count) owns ≡ true → IsCountCode (count + 1)
+      → MayStep Count (word_index (mutex + 1) Count) (Add 1) owns
+  pub lower : (count : ℕ) → has (owning_with (word_index mutex Mutex) (count + 1)) owns ≡ true → IsCountCode count
+      → MayStep Count (word_index (mutex + 1) Count) (Sub 1) owns
+  pub store : (count m : ℕ) → has (owning_with (word_index mutex Mutex) count) owns ≡ true → IsCountCode m
+      → MayStep Count (word_index (mutex + 1) Count) (Store m) owns
 
 -- whoever it is, it may take them
 abbrev pub CountMaySteps : Type 0

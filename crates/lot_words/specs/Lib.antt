@@ -1,4 +1,4 @@
-pub mod Places
+pub mod Indices
 pub mod Views
 pub mod Codes
 pub mod Rule

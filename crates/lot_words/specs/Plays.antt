@@ -3,7 +3,7 @@ use Rattle.std.specs.Prelude.{◌≡◌, ◌≢◌, bit_or, ℕ, ◌+◌, ◌<�
 use Rattle.atomic_table.specs.Table.{Me, Step}
 use Rattle.lot_base.specs.declared.ops.Op.{Op}
 use Rattle.lot_base.specs.declared.ops.Op.TheVariants.{Load, Store, Swap, Add, Sub, Or, And, Exchange}
-use Rattle.lot_words.specs.Places.{counter, kind_at}
+use Rattle.lot_words.specs.Indices.{counter, word_kind_at}
 use Rattle.lot_words.specs.Views.{view}
 use Rattle.lot_words.specs.Steps.{CodesWith, listed, after_step, without}
 use Rattle.lot_words.specs.declared.owners.Ownership.{Ownership}
@@ -15,41 +15,42 @@ abbrev pub Play : Type 0 → Type 1
 Play S = Step S → Me S View → ℕ → Me S View → Type 0
 
 -- the value found is a code in which the seat's own ownerships are counted, and its view changes by this step alone
-abbrev pub TakesAs : {S : Type 0} → WordKind → ℕ → Op → Me S View → ℕ → Me S View → Type 0
-TakesAs kind at op me found after = (after ≡ (after_step kind at op found me.0, me.1)) × CodesWith kind at found me.0.owns
+abbrev pub TakesStepOf : {S : Type 0} → WordKind → ℕ → Op → Me S View → ℕ → Me S View → Type 0
+TakesStepOf kind at op me found after = (after ≡ (after_step kind at op found me.0, me.1)) × CodesWith kind at found me.0.owns
 
--- a place tells the kind
-abbrev pub Takes : {S : Type 0} → ℕ → Op → Me S View → ℕ → Me S View → Type 0
-Takes at op me found after = TakesAs (kind_at at) at op me found after
+-- an index tells the kind
+abbrev pub TakesStep : {S : Type 0} → ℕ → Op → Me S View → ℕ → Me S View → Type 0
+TakesStep at op me found after = TakesStepOf (word_kind_at at) at op me found after
 
 abbrev pub loads : {S : Type 0} → Play S
-loads st me found after = Takes st.word Load me found after
+loads st me found after = TakesStep st.word Load me found after
 
 abbrev pub swaps : {S : Type 0} → Play S
-swaps st me found after = Takes st.word (Swap st.first) me found after
+swaps st me found after = TakesStep st.word (Swap st.first) me found after
 
 abbrev pub adds : {S : Type 0} → Play S
-adds st me found after = Takes st.word (Add st.first) me found after
+adds st me found after = TakesStep st.word (Add st.first) me found after
 
 abbrev pub subs : {S : Type 0} → Play S
-subs st me found after = Takes st.word (Sub st.first) me found after
+subs st me found after = TakesStep st.word (Sub st.first) me found after
 
 abbrev pub ors : {S : Type 0} → Play S
-ors st me found after = Takes st.word (Or st.first) me found after
+ors st me found after = TakesStep st.word (Or st.first) me found after
 
 -- a load that finds the bits set is an or with them, and any other is no step
 abbrev pub saw_set : {S : Type 0} → ℕ → Play S
-saw_set bits st me found after = (bit_or found bits ≡ found → Takes st.word (Or bits) me found after) × (bit_or found bits ≢ found → after ≡ me)
+saw_set bits st me found after = (bit_or found bits ≡ found → TakesStep st.word (Or bits) me found after)
+    × (bit_or found bits ≢ found → after ≡ me)
 
 abbrev pub ands : {S : Type 0} → Play S
-ands st me found after = Takes st.word (And st.first) me found after
+ands st me found after = TakesStep st.word (And st.first) me found after
 
 abbrev pub exchanges : {S : Type 0} → Play S
-exchanges st me found after = Takes st.word (Exchange st.first st.second) me found after
+exchanges st me found after = TakesStep st.word (Exchange st.first st.second) me found after
 
 -- a store is listed as such, and found what a swap finds
 abbrev pub stores : {S : Type 0} → Play S
-stores st me found after = Takes st.word (Store st.first) me found after
+stores st me found after = TakesStep st.word (Store st.first) me found after
 
 -- the words that are drawn together, from a number on
 abbrev pub numbered : ℕ → List WordKind → List Drawn
@@ -61,8 +62,14 @@ looks st me found after = after ≡ (view (listed me.0 counter Load found) me.0.
 
 -- words of these kinds are drawn where the counter is as expected, and else it is greater
 abbrev pub draws : {S : Type 0} → List WordKind → Play S
-draws kinds st me found after = (found ≡ st.first → after ≡ (view (listed me.0 counter (Exchange st.first st.second) found) me.0.owns (numbered found kinds ++ me.0.drawn) st.second, me.1))
-    × (found ≢ st.first → (st.first < found) × (after ≡ (view (listed me.0 counter (Exchange st.first st.second) found) me.0.owns me.0.drawn found, me.1)))
+draws kinds st me found after =
+    (found ≡ st.first → after ≡ (
+      view (listed me.0 counter (Exchange st.first st.second) found) me.0.owns
+          (numbered found kinds ++ me.0.drawn) st.second,
+      me.1,
+    ))
+    × (found ≢ st.first → (st.first < found)
+    × (after ≡ (view (listed me.0 counter (Exchange st.first st.second) found) me.0.owns me.0.drawn found, me.1)))
 
 -- one ownership is split off a view
 abbrev pub left_over : Ownership → View → View

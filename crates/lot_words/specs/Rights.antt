@@ -1,6 +1,6 @@
 -- What a right names.
 use Rattle.std.specs.Prelude.{◌≡◌, ◌⊎◌, ℕ, true}
-use Rattle.lot_words.specs.Places.{place}
+use Rattle.lot_words.specs.Indices.{word_index}
 use Rattle.lot_words.specs.Views.{owning, owning_with}
 use Rattle.lot_words.specs.Steps.{has}
 use Rattle.lot_words.specs.Plays.{piece}
@@ -37,11 +37,11 @@ MayHand RwLock wants.TheVariants.Exclusive owner = (owner ≡ Exclusive) ⊎ (ow
 MayHand _ want owner = owner ≡ owner_for want
 
 abbrev pub named_by : Word → Owner → Ownership
-named_by word owner = owning (place word.number word.kind) owner
+named_by word owner = owning (word_index word.number word.kind) owner
 
 abbrev pub piece_of : Word → Owner → View
 piece_of word owner = piece (named_by word owner)
 
 -- it owns a mutex, and says this of its count word
 abbrev pub OwnsWith : Word → ℕ → View → Type 0
-OwnsWith mutex count v = has (owning_with (place mutex.number Mutex) count) v.owns ≡ true
+OwnsWith mutex count v = has (owning_with (word_index mutex.number Mutex) count) v.owns ≡ true

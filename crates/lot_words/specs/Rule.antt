@@ -3,7 +3,7 @@ use Rattle.std.specs.Prelude.{◌≡◌, ℕ, ◌+◌, ◌<◌, ◌≤◌, lengt
 use mathlib.Core.Option.{some}
 use lib.ListN.{get_elem?}
 use Rattle.atomic_table.specs.Table.{State}
-use Rattle.lot_words.specs.Places.{counter, place, places, mutex_of_count}
+use Rattle.lot_words.specs.Indices.{counter, word_index, table_size, mutex_of_count}
 use Rattle.lot_words.specs.Views.{total, total_below, named, counted, steps_at, drew}
 use Rattle.lot_words.specs.Codes.{Codes, Shows, IsCountCode}
 use Rattle.lot_words.specs.declared.owners.Owner.{Owner}
@@ -13,14 +13,18 @@ use Rattle.lot_words.specs.declared.words.WordKind.TheVariants.{Mutex, Condvar, 
 
 -- of a lot of so many words
 pub record LotRule {S : Type 0} (words : ℕ) (s : State S View) : Type 0 where
-  pub size : length s.words ≡ places words
+  pub size : length s.words ≡ table_size words
   -- each lock word is the code of the owners that all views together name
-  pub coded : (number : ℕ) (kind : WordKind) → number < words → Codes kind (slice_index s.words (place number kind)) (λ weight. named (place number kind) weight s.views)
+  pub coded : (number : ℕ) (kind : WordKind) → number < words
+      → Codes kind (slice_index s.words (word_index number kind))
+      (λ weight. named (word_index number kind) weight s.views)
   -- a condition variable shows a mutex on which somebody has stepped, or none
-  pub shows : (number : ℕ) → number < words → Shows (λ mutex. 0 < total (steps_at (place mutex Mutex)) s.views) (slice_index s.words (place number Condvar))
+  pub shows : (number : ℕ) → number < words
+      → Shows (λ mutex. 0 < total (steps_at (word_index mutex Mutex)) s.views) (slice_index s.words (word_index number Condvar))
   -- a count word is what the owner of the mutex before it says
-  pub counts : (number : ℕ) → number < words → IsCountCode (slice_index s.words (place number Count))
-      × (slice_index s.words (place number Count) ≡ total (λ (v : View). counted (mutex_of_count (place number Count)) v.owns) s.views)
+  pub counts : (number : ℕ) → number < words → IsCountCode (slice_index s.words (word_index number Count))
+      × (slice_index s.words (word_index number Count)
+      ≡ total (λ (v : View). counted (mutex_of_count (word_index number Count)) v.owns) s.views)
   -- what is owned is a word of the lot, and not the counter
   pub owned : (at : ℕ) (weight : Owner → ℕ) → 0 < named at weight s.views → (0 < at) × (at < length s.words)
   -- a word on which nobody has stepped is 0

@@ -3,7 +3,7 @@ use Rattle.std.specs.Prelude.{◌≡◌, ℕ, ◌+◌, ◌%◌, ◌^◌, ◌<◌
 use Rattle.lot_base.specs.Words.{apply}
 use Rattle.lot_base.specs.declared.ops.Op.{Op}
 use Rattle.lot_base.specs.declared.ops.Op.TheVariants.{Load, Sub, Exchange}
-use Rattle.lot_words.specs.Places.{place, mutex_of_count}
+use Rattle.lot_words.specs.Indices.{word_index, mutex_of_count}
 use Rattle.lot_words.specs.Views.{view, total, owned, owning, owning_with}
 use Rattle.lot_words.specs.Codes.{Owners, Codes, Shows, IsCountCode}
 use Rattle.lot_words.specs.declared.owners.Owner.{Owner}
@@ -24,7 +24,8 @@ trading gives gets = record { gives = gives; gets = gets }
 
 -- by the value found and the value left: who sets LOCKED enters, who clears it leaves
 abbrev pub mutex_trade : ℕ → ℕ → Trade
-mutex_trade found left = cond (found % 2 == left % 2) (trading [] []) (cond (found % 2 == 0) (trading [] (Exclusive ∷ [])) (trading (Exclusive ∷ []) []))
+mutex_trade found left = cond (found % 2 == left % 2) (trading [] [])
+    (cond (found % 2 == 0) (trading [] (Exclusive ∷ [])) (trading (Exclusive ∷ []) []))
 
 abbrev pub owner_rank : Owner → ℕ
 owner_rank Exclusive = 0
@@ -109,7 +110,7 @@ abbrev pub once_trade : ℕ → ℕ → Trade
 once_trade found left = trading (cond ((found / 4 % 2 == 1) && (left / 4 % 2 == 0)) (Runner ∷ []) [])
     (cond (left == 1) (Witness ∷ []) (cond ((found / 4 % 2 == 0) && (left / 4 % 2 == 1)) (Runner ∷ []) []))
 
--- of who steps on a word at a place and owns these: by the operation and the value found
+-- of who steps on the word at an index and owns these: by the operation and the value found
 abbrev pub trade : WordKind → ℕ → Op → ℕ → List Ownership → Trade
 trade Mutex at op found owns = mutex_trade found (apply op found)
 trade RwLock at op found owns = rwlock_trade at op found (apply op found) owns
@@ -126,31 +127,37 @@ owns_after_step Count at op found owns = says_instead (mutex_of_count at) found 
 owns_after_step kind at op found owns = owns_after at (trade kind at op found owns) owns
 
 -- a count word is a count, and what an owner of its mutex says
-abbrev pub Agrees : WordKind → ℕ → ℕ → List Ownership → Type 0
-Agrees Count at n owns = IsCountCode n × ((count : ℕ) → has (owning_with (mutex_of_count at) count) owns ≡ true → count ≡ n)
-Agrees _ at n owns = Unit {0}
+abbrev pub CountAgrees : WordKind → ℕ → ℕ → List Ownership → Type 0
+CountAgrees Count at n owns = IsCountCode n × ((count : ℕ) → has (owning_with (mutex_of_count at) count) owns ≡ true → count ≡ n)
+CountAgrees _ at n owns = Unit {0}
 
 -- who changes what a condition variable shows hides it, or shows a mutex that it owns. Who changes a count word owns its mutex
 abbrev pub MayTie : WordKind → ℕ → ℕ → ℕ → List Ownership → Type 0
-MayTie Condvar at found left owns = (left ≡ found) ⊎ Shows (λ mutex. has (owning (place mutex Mutex) Exclusive) owns ≡ true) left
+MayTie Condvar at found left owns = (left ≡ found)
+    ⊎ Shows (λ mutex. has (owning (word_index mutex Mutex) Exclusive) owns ≡ true) left
 MayTie Count at found left owns = (left ≡ found) ⊎ (IsCountCode left × (has (owning_with (mutex_of_count at) found) owns ≡ true))
 MayTie _ at found left owns = Unit {0}
 
 -- n is the code of owners among whom these are
 abbrev pub CodesWith : WordKind → ℕ → ℕ → List Ownership → Type 0
-CodesWith kind at n owns = (owners : Owners) × Codes kind n owners × ((weight : Owner → ℕ) → owned at weight owns ≤ owners weight) × Agrees kind at n owns
+CodesWith kind at n owns = (owners : Owners) × Codes kind n owners
+    × ((weight : Owner → ℕ) → owned at weight owns ≤ owners weight) × CountAgrees kind at n owns
 
--- whatever code a step finds, of owners among whom these are: these have what it gives up, it leaves the code of the owners after it,
--- and a word that is tied to a mutex stays so
+-- whatever code a step finds, of owners among whom these are: these have what it gives up, it leaves the code of the owners
+-- after it, and a word that is tied to a mutex stays so
 abbrev pub MayStep : WordKind → ℕ → Op → List Ownership → Type 0
-MayStep kind at op owns = (n : ℕ) (owners : Owners) → n < 2 ^ 64 → Codes kind n owners → ((weight : Owner → ℕ) → owned at weight owns ≤ owners weight) → Agrees kind at n owns →
-    HasAll at (trade kind at op n owns).gives owns
-    × ((after : Owners) → ((weight : Owner → ℕ) → after weight + total weight (trade kind at op n owns).gives ≡ owners weight + total weight (trade kind at op n owns).gets) → Codes kind (apply op n) after)
+MayStep kind at op owns = (n : ℕ) (owners : Owners) → n < 2 ^ 64 → Codes kind n owners
+    → ((weight : Owner → ℕ) → owned at weight owns ≤ owners weight) → CountAgrees kind at n owns
+    → HasAll at (trade kind at op n owns).gives owns
+    × ((after : Owners)
+    → ((weight : Owner → ℕ) → after weight + total weight (trade kind at op n owns).gives
+    ≡ owners weight + total weight (trade kind at op n owns).gets)
+    → Codes kind (apply op n) after)
     × MayTie kind at n (apply op n) owns
 
 abbrev pub listed : View → ℕ → Op → ℕ → List WordStep
 listed v at op found = v.steps ++ record { at = at; op = op; seen = found } ∷ []
 
--- the view after a step at a place: the step is listed, and it owns what the step trades
+-- the view after a step at an index: the step is listed, and it owns what the step trades
 abbrev pub after_step : WordKind → ℕ → Op → ℕ → View → View
 after_step kind at op found v = view (listed v at op found) (owns_after_step kind at op found v.owns) v.drawn v.saw

@@ -24,15 +24,15 @@ abbrev pub total_below : (ℕ → ℕ) → ℕ → ℕ
 total_below weight zero = 0
 total_below weight (suc n) = total_below weight n + weight n
 
--- an ownership of the word at a place
+-- an ownership of the word at an index
 abbrev pub owning : ℕ → Owner → Ownership
 owning at owner = record { at = at; owner = owner; count = 0 }
 
--- the ownership of the mutex at a place, of who says this of its count word
+-- the ownership of the mutex at an index, of who says this of its count word
 abbrev pub owning_with : ℕ → ℕ → Ownership
 owning_with at count = record { at = at; owner = Exclusive; count = count }
 
--- how much of the word at a place is owned, by a weight of owners
+-- how much of the word at an index is owned, by a weight of owners
 abbrev pub owned : ℕ → (Owner → ℕ) → List Ownership → ℕ
 owned at weight owns = total (λ (x : Ownership). cond (x.at == at) (weight x.owner) 0) owns
 
@@ -40,11 +40,11 @@ owned at weight owns = total (λ (x : Ownership). cond (x.at == at) (weight x.ow
 abbrev pub named : ℕ → (Owner → ℕ) → List View → ℕ
 named at weight views = total (λ (v : View). owned at weight v.owns) views
 
--- what the owners of the mutex at a place say that its count word is
+-- what the owners of the mutex at an index say that its count word is
 abbrev pub counted : ℕ → List Ownership → ℕ
 counted at owns = total (λ (x : Ownership). cond (x.at == at) x.count 0) owns
 
--- how many steps at a place a view lists
+-- how many steps at an index a view lists
 abbrev pub steps_at : ℕ → View → ℕ
 steps_at at v = total (λ (step : WordStep). cond (step.at == at) 1 0) v.steps
 

@@ -1,7 +1,7 @@
 //! How words are drawn: each once, from a counter that never falls.
 ghost use Rattle.std.specs.Prelude.{◌≡◌, ◌+◌, ◌<◌, [], ◌∷◌, length, IfOk, MatchOption, MatchResult};
 ghost use Rattle.lot_words.specs.Lots.{IsSeatOf, IsWordOf};
-ghost use Rattle.lot_words.specs.Draws.{IsDrawn, IsRefused};
+ghost use Rattle.lot_words.specs.Draws.{IsDrawn, IsDrawRefused};
 ghost use Rattle.lot_words.specs.declared.words.WordKind.TheVariants.{Mutex, Count};
 
 use crate::plays::{Draws, Kinds, Looks};
@@ -10,7 +10,7 @@ use crate::words::{Word, WordKind};
 use lot_base::Fault;
 use std::marker::Brand;
 
-// The counter's place.
+// The counter's index.
 const COUNTER: usize = 0;
 
 impl LotWords {
@@ -19,7 +19,7 @@ impl LotWords {
         requires own { IsSeatOf self.now seat.old }
         requires kinds { (K.kinds ≡ kinds.now) × (0 < length kinds.now) }
         ensures own { IsSeatOf self.now seat.new × (seat.new.me.1 ≡ seat.old.me.1) × (seat.new.me.0.owns ≡ seat.old.me.0.owns) }
-        ensures drawn { MatchOption result (IsRefused self.now.count (length kinds.now) seat.old.me.0 seat.new.me.0) (λ number. IsDrawn self.now.count kinds.now number seat.old.me.0 seat.new.me.0) }
+        ensures drawn { MatchOption result (IsDrawRefused self.now.count (length kinds.now) seat.old.me.0 seat.new.me.0) (λ number. IsDrawn self.now.count kinds.now number seat.old.me.0 seat.new.me.0) }
     {
         let (words, needed) = (self.count as u64, kinds.len() as u64);
         let counter = &self.table.shared;
@@ -40,7 +40,7 @@ impl LotWords {
         ensures own { IsSeatOf self.now seat.new × (seat.new.me.1 ≡ seat.old.me.1) × (seat.new.me.0.owns ≡ seat.old.me.0.owns) }
         ensures word { IfOk result (λ word. IsWordOf self.now word × (word.kind ≡ kind)) }
         ensures drawn { MatchResult result (λ word. IsDrawn self.now.count (kind ∷ []) word.number seat.old.me.0 seat.new.me.0)
-            (λ fault. (fault ≡ Fault.LotFull) × IsRefused self.now.count 1 seat.old.me.0 seat.new.me.0) }
+            (λ fault. (fault ≡ Fault.LotFull) × IsDrawRefused self.now.count 1 seat.old.me.0 seat.new.me.0) }
     {
         match self.draw::<Brand>(seat, &[kind]) {
             Some(number) => Ok(Word::new(number, kind, self.tag)),
@@ -52,9 +52,11 @@ impl LotWords {
     pub fn new_pair(&self, seat: &mut Seat) -> Result<(Word, Word), Fault>
         requires { IsSeatOf self.now seat.old }
         ensures own { IsSeatOf self.now seat.new × (seat.new.me.1 ≡ seat.old.me.1) × (seat.new.me.0.owns ≡ seat.old.me.0.owns) }
-        ensures words { IfOk result (λ pair. IsWordOf self.now pair.0 × (pair.0.kind ≡ Mutex) × IsWordOf self.now pair.1 × (pair.1.kind ≡ Count) × (pair.1.number ≡ pair.0.number + 1)) }
-        ensures drawn { MatchResult result (λ pair. IsDrawn self.now.count (Mutex ∷ Count ∷ []) pair.0.number seat.old.me.0 seat.new.me.0)
-            (λ fault. (fault ≡ Fault.LotFull) × IsRefused self.now.count 2 seat.old.me.0 seat.new.me.0) }
+        ensures words { IfOk result (λ pair. IsWordOf self.now pair.0 × (pair.0.kind ≡ Mutex)
+            × IsWordOf self.now pair.1 × (pair.1.kind ≡ Count) × (pair.1.number ≡ pair.0.number + 1)) }
+        ensures drawn { MatchResult result
+            (λ pair. IsDrawn self.now.count (Mutex ∷ Count ∷ []) pair.0.number seat.old.me.0 seat.new.me.0)
+            (λ fault. (fault ≡ Fault.LotFull) × IsDrawRefused self.now.count 2 seat.old.me.0 seat.new.me.0) }
     {
         match self.draw::<Brand>(seat, &[WordKind::Mutex, WordKind::Count]) {
             Some(number) => {

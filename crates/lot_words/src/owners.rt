@@ -68,7 +68,7 @@ impl Owner {
     }
 }
 
-/// One ownership of the word at a place. No value of it is made: it stands in views.
+/// One ownership of the word at an index. No value of it is made: it stands in views.
 #[derive(Clone, Copy, Debug, PartialEq, Eq)]
 pub struct Ownership {
     pub at: usize,

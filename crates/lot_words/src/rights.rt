@@ -83,7 +83,8 @@ impl LotWords {
     pub fn split_right(&self, seat: &mut Seat, word: Word, owner: Owner) -> Right
         requires own { IsSeatOf self.now seat.old × IsWordOf self.now word }
         requires named { has (named_by word owner) seat.old.me.0.owns ≡ true }
-        ensures left { IsSeatOf self.now seat.new × (seat.new.me ≡ (left_over (named_by word owner) seat.old.me.0, seat.old.me.1)) }
+        ensures left { IsSeatOf self.now seat.new
+            × (seat.new.me ≡ (left_over (named_by word owner) seat.old.me.0, seat.old.me.1)) }
         ensures right { IsRightOf self.now result × (result.word ≡ word) × (result.owner ≡ owner) }
     {
         let seat = self.split_off::<Brand>(seat, word, owner);
@@ -94,7 +95,8 @@ impl LotWords {
     #[inline]
     pub fn join_right(&self, seat: &mut Seat, right: Right)
         requires { IsSeatOf self.now seat.old × IsRightOf self.now right }
-        ensures { IsSeatOf self.now seat.new × (seat.new.me ≡ (takes_in seat.old.me.0 (piece_of right.word right.owner), seat.old.me.1)) }
+        ensures { IsSeatOf self.now seat.new
+            × (seat.new.me ≡ (takes_in seat.old.me.0 (piece_of right.word right.owner), seat.old.me.1)) }
     {
         let Right {
             seat: other,

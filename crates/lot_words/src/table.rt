@@ -1,6 +1,6 @@
 //! The words in their table.
 ghost use Rattle.std.specs.Prelude.{◌≡◌, ℕ, ◌<◌, ◌≤◌, [], IfOk};
-ghost use Rattle.lot_words.specs.Places.{places, place, most_words};
+ghost use Rattle.lot_words.specs.Indices.{table_size, word_index, most_words};
 
 use crate::plays::{
     Adds, Ands, Bits, Exchanges, Loads, Ors, OwnershipRule, SawSet, SeatsAnother, Stores, Subs,
@@ -38,7 +38,7 @@ pub struct LotWords {
     pub(crate) count: usize,
     // What its words carry.
     pub(crate) tag: u32,
-    ghost sized: { (table.shared.table_id.words ≡ places count) × (table.shared.key ≡ count) × (count ≤ most_words) },
+    ghost sized: { (table.shared.table_id.words ≡ table_size count) × (table.shared.key ≡ count) × (count ≤ most_words) },
 }
 
 // Of what an atomic holds nothing is known, so nobody can show that two lots have one tag.
@@ -76,12 +76,12 @@ impl LotWords {
     #[inline]
     fn set_bits<B: Bits>(&self, seat: &mut Seat, word: Word, bits: u64) -> u64
         requires own { (B.bits ≡ bits) × IsSeatOf self.now seat.old × IsWordOf self.now word }
-        requires may { MayStep word.kind (place word.number word.kind) (Or bits) seat.old.me.0.owns }
+        requires may { MayStep word.kind (word_index word.number word.kind) (Or bits) seat.old.me.0.owns }
         ensures own { IsSeatOf self.now seat.new × (seat.new.me.1 ≡ seat.old.me.1) }
-        ensures stepped { seat.new.me.0 ≡ after_step word.kind (place word.number word.kind) (Or bits) result seat.old.me.0 }
-        ensures coded { CodesWith word.kind (place word.number word.kind) result seat.old.me.0.owns }
+        ensures stepped { seat.new.me.0 ≡ after_step word.kind (word_index word.number word.kind) (Or bits) result seat.old.me.0 }
+        ensures coded { CodesWith word.kind (word_index word.number word.kind) result seat.old.me.0.owns }
     {
-        let at = word.place();
+        let at = word.index();
         let words = &self.table.shared;
         let seen = words.load::<SawSet<B>>(seat, at);
         if seen | bits == seen {
@@ -94,12 +94,12 @@ impl LotWords {
     #[inline]
     pub fn step(&self, seat: &mut Seat, word: Word, op: Op) -> u64
         requires own { IsSeatOf self.now seat.old × IsWordOf self.now word }
-        requires may { MayStep word.kind (place word.number word.kind) op seat.old.me.0.owns }
+        requires may { MayStep word.kind (word_index word.number word.kind) op seat.old.me.0.owns }
         ensures own { IsSeatOf self.now seat.new × (seat.new.me.1 ≡ seat.old.me.1) }
-        ensures stepped { seat.new.me.0 ≡ after_step word.kind (place word.number word.kind) op result seat.old.me.0 }
-        ensures coded { CodesWith word.kind (place word.number word.kind) result seat.old.me.0.owns }
+        ensures stepped { seat.new.me.0 ≡ after_step word.kind (word_index word.number word.kind) op result seat.old.me.0 }
+        ensures coded { CodesWith word.kind (word_index word.number word.kind) result seat.old.me.0.owns }
     {
-        let at = word.place();
+        let at = word.index();
         let words = &self.table.shared;
         match op {
             Op::Load => words.load::<Loads>(seat, at),

@@ -9,7 +9,7 @@ use crate::words::WordKind;
 use lot_base::Op;
 use std::marker::Model;
 
-/// A step that a seat took: at which place, by which operation, and the value before.
+/// A step that a seat took: at which index, by which operation, and the value before.
 #[derive(Clone, Copy, Debug, PartialEq, Eq)]
 pub struct WordStep {
     pub at: usize,

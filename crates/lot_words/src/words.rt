@@ -1,6 +1,6 @@
 //! The words of a lot, by number and kind.
 ghost use Rattle.std.specs.Prelude.{◌≡◌, ◌<◌};
-ghost use Rattle.lot_words.specs.Places.{rank, place, most_words};
+ghost use Rattle.lot_words.specs.Indices.{rank, word_index, most_words};
 
 /// What a word is for. It is fixed as the word is drawn.
 #[derive(Clone, Copy, Debug, PartialEq, Eq)]
@@ -14,7 +14,7 @@ pub enum WordKind {
 }
 
 impl WordKind {
-    // Which of the eight places of a number the word has.
+    // Which of the eight indices of a number the word has.
     #[inline]
     pub(crate) fn rank(self) -> usize
         ensures { result ≡ rank self }
@@ -40,11 +40,11 @@ pub struct Word {
     tag: u32,
     // So that no step computes it.
     at: usize,
-    ghost placed: { at ≡ place number kind },
+    ghost indexed: { at ≡ word_index number kind },
 }
 
 impl Word {
-    // Each number has eight places, so that no two locks share a cache line.
+    // Each number has eight indices, so that no two locks share a cache line.
     #[inline]
     pub(crate) fn new(number: usize, kind: WordKind, tag: u32) -> Word
         requires { number < most_words }
@@ -73,8 +73,8 @@ impl Word {
     }
 
     #[inline]
-    pub(crate) fn place(self) -> usize
-        ensures { result ≡ place self.number self.kind }
+    pub(crate) fn index(self) -> usize
+        ensures { result ≡ word_index self.number self.kind }
     {
         self.at
     }

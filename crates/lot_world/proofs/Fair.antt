@@ -59,7 +59,7 @@ use Rattle.abstract_locks.proofs.Runs.{needs_of}
 -- ---------------------------------------------------------------- what others do to an owner
 
 -- no case of another thread takes a lock from its owner
-others_keep : (r : Rules) (s : LockState) (t u : ℕ) → IsLockState r s → s.exclusive ≡ Some t → u ≢ t → (c : LockCase) → Needs r c s u → (locks.after r c s u).exclusive ≡ Some t
+others_keep : (r : Rules) (s : LockState) (t u : ℕ) → IsLockState r s → s.exclusive ≡ Some t → u ≢ t → (c : LockCase) → Needs r c s u → (locks.after_case r c s u).exclusive ≡ Some t
 others_keep r s t u is own ne (Enter Exclusive) n = grind arith
 others_keep r s t u is own ne (Enter x) n = grind arith
 others_keep r s t u is own ne Pend n = grind arith
@@ -80,7 +80,7 @@ others_keep r s t u is own ne Rollback n = grind (arith, is.exclusive_alone t ow
 let_go_was : (t : ℕ) (o : Option Taken) (h : Taken) → keep_from t o ≡ Some h → o ≡ Some h
 let_go_was t o h e = grind arith
 
-taken_was : (s : LockState) (t u a : ℕ) (x : Want) → IsLockState mutex s → (c : LockCase) → Needs mutex c s a → IsTaken (locks.after mutex c s a) t u x → IsTaken s t u x ⊎ (first_thread s.queue ≡ Some u)
+taken_was : (s : LockState) (t u a : ℕ) (x : Want) → IsLockState mutex s → (c : LockCase) → Needs mutex c s a → IsTaken (locks.after_case mutex c s a) t u x → IsTaken s t u x ⊎ (first_thread s.queue ≡ Some u)
 taken_was s t u a x is (Enter Exclusive) n h = inl h
 taken_was s t u a x is (Enter y) n h = inl (grind arith)
 taken_was s t u a x is Pend n h = inl h
@@ -102,12 +102,12 @@ taken_was s t u a x is Rollback n h = inl (grind arith)
 
 -- what holds of a lock before and after each case, and where nothing happens, holds of each step
 module _ (P : LockState → LockState → Type 0) (w v : LocksState) (a l : ℕ) (stays : P (w.locks l) (w.locks l))
-    (goes : (c : LockCase) → Needs (rules_at w l) c (w.locks l) a → P (w.locks l) (locks.after (rules_at w l) c (w.locks l) a)) where
+    (goes : (c : LockCase) → Needs (rules_at w l) c (w.locks l) a → P (w.locks l) (locks.after_case (rules_at w l) c (w.locks l) a)) where
   event_so : (e : Event) → MayHappen w a e → P (w.locks l) (locks_after w a e l)
   event_so Nothing may = stays
   event_so (AtLock k case) may = either (l == k) refl
     where
-      either : (b : Bool) → (l == k) ≡ b → P (w.locks l) (if b then locks.after (rules_at w k) case (w.locks k) a else w.locks l)
+      either : (b : Bool) → (l == k) ≡ b → P (w.locks l) (if b then locks.after_case (rules_at w k) case (w.locks k) a else w.locks l)
       either false e = stays
       either true e = let here : l ≡ k = eqb-true l k e in rw (← here) (goes case (subst (λ n. Needs (rules_at w n) case (w.locks n) a) (sym here) (needs_of w a k case (w.calls a).purpose may)))
 

@@ -23,11 +23,11 @@ use Rattle.lot_steps.specs.declared.acts.Next as next
 use Rattle.lot_steps.specs.MutexSteps.{mutex_next}
 use Rattle.lot_steps.specs.Steps.{next_place, taker, mutex_goes}
 use Rattle.lot_base.specs.declared.notes.Note.{Note}
-use Rattle.abstract_locks.specs.Locks.{LockState, Taken, Queued, Rules, TakeFirst, keep_from, let_go, shares_handed, sharing_from, put as putting}
+use Rattle.abstract_locks.specs.Locks.{LockState, Taken, Queued, Rules, TakeFirst, keep_from, let_go, shares_handed, sharing_from, putting}
 use Rattle.std.specs.Prelude.{sum, ◌&&◌, ◌||◌}
 use Rattle.lot_steps.specs.MutexSteps.{is_thread, with_exclusive}
 use Rattle.abstract_locks.specs.Locks as locks
-use Rattle.abstract_locks.specs.Sites.{Doing, Has, Site, Main, Begin, Out, Mark, Clear, Does, idle, leaves, wakened, taking_main, is_full, after}
+use Rattle.abstract_locks.specs.Sites.{Doing, Has, Site, Main, Begin, Out, Mark, Clear, Case, idle, leaves, wakened, taking_main, is_full, after_deed}
 use Rattle.lot_world.specs.Machine.{State, place_at, word_at, owners_at, shares_at, filled_at, queue_at, place_after_telling, state_after_telling, held, shares_in_hand, with_share, shares_given, wants_more_in_hand, successor_or, successor_from, pending_for, owners_of_successor, shares_handed_over, owners_handed_over, state_after_reply, put}
 use Rattle.lot_world.specs.declared.machine.Successor.{Successor}
 use Rattle.lot_world.specs.Refinement.{lock_seen, taken_at}
@@ -142,7 +142,7 @@ accepts t l by e retries = record { taken = refl; doing = refl }
 module _ (r : Rules) (l : ℕ) (n : Base) (word : ℕ) (o : Owners) (m s : List Waiter) (p q : ℕ → Place) (t : ℕ) where
   -- leaving a section, whoever is woken by it
   pub leaving : taken_at (p t) l ≡ None → taken_at (q t) l ≡ None → doing_on (q t) l ≡ leaves (doing_on (p t) l) → ((u : ℕ) → u ≢ t → LetGo t l (p u) (q u))
-      → seen l n word o m s q ≡ after r Out (seen l n word o m s p) t
+      → seen l n word o m s q ≡ after_deed r Out (seen l n word o m s p) t
   leaving none none2 own others = λ i. record (seen l n word o m s q) { lock = lock_seen n.shared o m s (λ u. taken_now u i); doing = λ u. doing_now u i }
     where
       taken_now : (u : ℕ) → taken_at (q u) l ≡ keep_from t (taken_at (p u) l)
@@ -452,10 +452,10 @@ module _ (r : Rules) (l : ℕ) (n : Base) (word : ℕ) (o : Owners) (s rest : Li
   taken_then = putting (λ u. taken_at (p u) l) x.thread (Some (record { by = t; want = Exclusive }))
 
   pub taking : (p2 : Place) → taken_at (p t) l ≡ None → taken_at p2 l ≡ None → doing_on p2 l ≡ taking_main true (lock_seen n.shared o rest s taken_then) (doing_on (p t) l)
-      → seen l n word o rest s (putting (putting p x.thread (next_place (p x.thread) (TakenBy t))) t p2) ≡ after r (Does (TakeFirst (queued x.thread))) before t
+      → seen l n word o rest s (putting (putting p x.thread (next_place (p x.thread) (TakenBy t))) t p2) ≡ after_deed r (Case (TakeFirst (queued x.thread))) before t
   taking p2 none none2 own = λ i. record before { lock = lock_seen n.shared o rest s (λ u. taken_now u i); filled = unfilled i; doing = λ u. doing_now u i }
     where
-      unfilled : n.filled ≡ (n.filled || is_full r (locks.after r (TakeFirst (queued x.thread)) before.lock t))
+      unfilled : n.filled ≡ (n.filled || is_full r (locks.after_case r (TakeFirst (queued x.thread)) before.lock t))
       unfilled = rw sort (sym (or-false n.filled))
 
       hand_now : taken_at (next_place (p x.thread) (TakenBy t)) l ≡ Some (record { by = t; want = Exclusive })
@@ -532,7 +532,7 @@ module _ (r : Rules) (l : ℕ) (n : Base) (word : ℕ) (o : Owners) (m s : List 
   ]
 
   abbrev pub hands_acts : Bool → List Act
-  hands_acts b = record { by = t; deed = Does (locks.HandOff Exclusive (Some (queued u))) } ∷ record { by = t; deed = if b then Clear Main else Mark Main } ∷ record { by = u; deed = Begin (Some (Has Exclusive)) } ∷ []
+  hands_acts b = record { by = t; deed = Case (locks.HandOff Exclusive (Some (queued u))) } ∷ record { by = t; deed = if b then Clear Main else Mark Main } ∷ record { by = u; deed = Begin (Some (Has Exclusive)) } ∷ []
 
   doing_then : (b : Bool) → none_left ≡ b → (x : ℕ)
       → doing_on (handed_places x) l ≡ (after_acts r (hands_acts b) at_store).doing x

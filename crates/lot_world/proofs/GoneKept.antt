@@ -30,7 +30,7 @@ use Rattle.lot_steps.specs.MutexSteps.{is_locked, is_parked, lock_act, unlock_ac
 use Rattle.lot_steps.specs.Steps.{next_place, act_of}
 use Rattle.abstract_locks.specs.Locks.{one_if_some, TakeFirst}
 use Rattle.abstract_locks.specs.Codes.{bit}
-use Rattle.abstract_locks.specs.Sites.{Main, Second, End, is_empty, found, leaves, In, Out, Does, FindNobody}
+use Rattle.abstract_locks.specs.Sites.{Main, Second, End, is_empty, found, leaves, In, Out, Case, FindNobody}
 use Rattle.lot_world.specs.Machine.{State, place_at, word_at, owners_at, queue_at, section_at, can_do, put, state_with_sections, queues_with_last, queues_without, queues_without_first, state_after_reply, state_after_taking, is_there, reply_to}
 use Rattle.lot_world.specs.Fits.{IsShaped, PlaceFits}
 use Rattle.lot_world.specs.Refinement.{taken_at}
@@ -169,7 +169,7 @@ module _ (w : State) (t : ℕ) (steady : IsSteady w) (shape : IsShaped w) (there
     pub of : IsOf l (next_place (Mutex l at) (Took true b))
     pub none : taken_at (next_place (Mutex l at) (Took true b)) l ≡ None
     pub doing : doing_of (next_place (Mutex l at) (Took true b)) ≡ record (mutex_doing at) { wakes = None; carries = true; covers = true; empty = found Main b }
-    pub does : deeds t at (Some u) (Took true b) ≡ acts t (Does (TakeFirst (queued u)) ∷ [])
+    pub does : deeds t at (Some u) (Took true b) ≡ acts t (Case (TakeFirst (queued u)) ∷ [])
     pub stands : station (next_place (Mutex l at) (Took true b)) ≡ record (mutex_station at) { carries = Some false }
 
   -- the first of the line, if any, is taken

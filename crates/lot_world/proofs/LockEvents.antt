@@ -20,10 +20,10 @@ use Rattle.lot_steps.specs.declared.mutex.hand_off.HandOffAt.TheVariants as hand
 use Rattle.lot_steps.specs.Steps.{next_place}
 use Rattle.lot_steps.specs.declared.places.Place.{Place}
 use Rattle.lot_steps.specs.declared.places.Place.TheVariants.{Idle, Mutex}
-use Rattle.abstract_locks.specs.Locks.{LockState, Queued, Taken as LockTaken, Rules, Rights, LockCase, Enter, Leave, Wake, HandOff as HandsOff, HasTakenNobody, IsTaken, IsLockState, Knows, Needs, keep_from, let_go, rights_of, with_right, without_right, is_thread, put as putting}
+use Rattle.abstract_locks.specs.Locks.{LockState, Queued, Taken as LockTaken, Rules, Rights, LockCase, Enter, Leave, Wake, HandOff as HandsOff, HasTakenNobody, IsTaken, IsLockState, Knows, Needs, keep_from, let_go, rights_of, with_right, without_right, is_thread, putting}
 use Rattle.abstract_locks.specs.Locks as locks
 use Rattle.abstract_locks.specs.Runs.{LocksState, CallState, Event, IsTimely, is_taken_by, woken, Nothing, AtLock, MayHappen, Agrees, AnswerHolds, GoesOn, locks_after, going_on, unless_ended, one_more_at, one_less_at, rules_at as locks_rules}
-use Rattle.abstract_locks.specs.Sites.{Does, End}
+use Rattle.abstract_locks.specs.Sites.{Case, End}
 use Rattle.abstract_locks.specs.Purposes.{Purpose, IsMadeOf}
 use Rattle.abstract_locks.proofs.LockKeeps.{sharing_same}
 use Rattle.lot_world.specs.Machine.{State, place_at}
@@ -67,24 +67,24 @@ other_counts : (u t : ℕ) → u ≢ t → is_thread u (Some t) ≡ 0
 other_counts u t ne = grind (arith, nat_tests)
 
 module _ (s : LockState) (t : ℕ) where
-  entered_own : s.exclusive ≡ None → rights_of (locks.owning t Exclusive s) t ≡ with_right Exclusive (rights_of s t)
+  entered_own : s.exclusive ≡ None → rights_of (locks.with_owner t Exclusive s) t ≡ with_right Exclusive (rights_of s t)
   entered_own free = let one : is_thread t (Some t) ≡ is_thread t s.exclusive + 1 = own_counts t ∙ ap (λ n. n + 1) (sym (none_counts t s.exclusive free)) in
       λ i. record (rights_of s t) { exclusive = one i }
 
-  entered_other : (u : ℕ) → u ≢ t → s.exclusive ≡ None → rights_of (locks.owning t Exclusive s) u ≡ rights_of s u
+  entered_other : (u : ℕ) → u ≢ t → s.exclusive ≡ None → rights_of (locks.with_owner t Exclusive s) u ≡ rights_of s u
   entered_other u ne free = let same : is_thread u (Some t) ≡ is_thread u s.exclusive = other_counts u t ne ∙ sym (none_counts u s.exclusive free) in
       λ i. record (rights_of s u) { exclusive = same i }
 
-  left_own : s.exclusive ≡ Some t → with_right Exclusive (rights_of (locks.leaving t Exclusive s) t) ≡ rights_of s t
+  left_own : s.exclusive ≡ Some t → with_right Exclusive (rights_of (locks.without_owner t Exclusive s) t) ≡ rights_of s t
   left_own own = let one : 1 ≡ is_thread t s.exclusive = sym (own_counts t) ∙ ap (is_thread t) (sym own) in
       λ i. record (rights_of s t) { exclusive = one i }
 
-  left_other : (u : ℕ) → u ≢ t → s.exclusive ≡ Some t → rights_of (locks.leaving t Exclusive s) u ≡ rights_of s u
+  left_other : (u : ℕ) → u ≢ t → s.exclusive ≡ Some t → rights_of (locks.without_owner t Exclusive s) u ≡ rights_of s u
   left_other u ne own = let same : 0 ≡ is_thread u s.exclusive = sym (other_counts u t ne) ∙ ap (is_thread u) (sym own) in
       λ i. record (rights_of s u) { exclusive = same i }
 
   abbrev given : LockState
-  given = locks.sharing_handed t (locks.leaving t Exclusive s)
+  given = locks.sharing_handed t (locks.without_owner t Exclusive s)
 
   -- where a mutex goes to its heir, it alone owns it
   module _ (state : IsLockState mutex s) (to : Option ℕ) where
@@ -96,7 +96,7 @@ module _ (s : LockState) (t : ℕ) where
 
         by_heir : (to : Option ℕ) → rights_of (locks.with_successor (heir to) given) u ≡ record (rights_of s u) { exclusive = is_thread u to }
         by_heir None = λ i. record (rights_of s u) { exclusive = 0; shared = slice_index (shared i) u }
-        by_heir (Some x) = ap (λ (n : ℕ). rights_of (if n == 0 then locks.owning x Exclusive given else locks.pending_for x false given) u) (ap (λ (xs : List ℕ). sum xs) shared ∙ state.unshared (λ h. h))
+        by_heir (Some x) = ap (λ (n : ℕ). rights_of (if n == 0 then locks.with_owner x Exclusive given else locks.pending_for x false given) u) (ap (λ (xs : List ℕ). sum xs) shared ∙ state.unshared (λ h. h))
             ∙ (λ i. record (rights_of s u) { exclusive = is_thread u (Some x); shared = slice_index (shared i) u })
 
     module _ (own : s.exclusive ≡ Some t) (apart : to ≢ Some t) where
@@ -202,7 +202,7 @@ module _ (w v : State) (t l : ℕ) (at : MutexPlace) (p2 : Place) (ds : List Act
 
   -- ---------------------------------------------------------------- one case
 
-  module _ (case : LockCase) (does : lock_then ≡ locks.after (rules_at w l) case (lock_state w l) t) (needs : Needs (rules_at w l) case (lock_state w l) t)
+  module _ (case : LockCase) (does : lock_then ≡ locks.after_case (rules_at w l) case (lock_state w l) t) (needs : Needs (rules_at w l) case (lock_state w l) t)
       (made : IsMadeOf ((mutex_profile at).purpose l) (if (mutex_profile at).gave_up then Some l else None) (mutex_profile at).released l case) (timely : IsTimely (mutex_profile at).late case) (o : Outcome) where
     led : (k : ℕ) → lock_state v k ≡ locks_after (locks_of w) t (AtLock l case) k
     led k = put_is (lock_state w) l _ k (lock_state v k) (λ e. rw e (lock_led ∙ does)) (λ ne. elsewhere k ne)
@@ -211,10 +211,10 @@ module _ (w v : State) (t l : ℕ) (at : MutexPlace) (p2 : Place) (ds : List Act
     may = may_happen (locks_of w) t l case ((mutex_profile at).purpose l) (call_then (rights w t)) (ap (λ p. call_state p (rights w t)) gone.from) refl made needs timely
 
     -- what a thread owns then, by what the case does to its rights at the lock
-    rights_led : (u : ℕ) (at_lock : Rights) → rights_of (locks.after (rules_at w l) case (lock_state w l) t) u ≡ at_lock → (k : ℕ) → rights v u k ≡ putting (rights w u) l at_lock k
+    rights_led : (u : ℕ) (at_lock : Rights) → rights_of (locks.after_case (rules_at w l) case (lock_state w l) t) u ≡ at_lock → (k : ℕ) → rights v u k ≡ putting (rights w u) l at_lock k
     rights_led u at_lock e k = put_is (rights w u) l at_lock k (rights v u k) (λ f. rw f (ap (λ s. rights_of s u) (lock_led ∙ does) ∙ e)) (λ ne. ap (λ s. rights_of s u) (elsewhere k ne))
 
-    rights_stay : (u : ℕ) → rights_of (locks.after (rules_at w l) case (lock_state w l) t) u ≡ rights_of (lock_state w l) u → (k : ℕ) → rights v u k ≡ rights w u k
+    rights_stay : (u : ℕ) → rights_of (locks.after_case (rules_at w l) case (lock_state w l) t) u ≡ rights_of (lock_state w l) u → (k : ℕ) → rights v u k ≡ rights w u k
     rights_stay u e k = elim (cases_eq k l) [
       | inl f ↦ rw f (ap (λ s. rights_of s u) (lock_led ∙ does) ∙ e)
       | inr ne ↦ ap (λ s. rights_of s u) (elsewhere k ne)
@@ -226,7 +226,7 @@ module _ (w v : State) (t l : ℕ) (at : MutexPlace) (p2 : Place) (ds : List Act
     by_case others own agrees = goes_by w v t (AtLock l case) o called may led others (rw (gone.to, gone.from) own) (rw gone.from agrees)
 
     -- owners stay
-    pub keeps_owners : Others w v t (AtLock l case) → ((u : ℕ) → rights_of (locks.after (rules_at w l) case (lock_state w l) t) u ≡ rights_of (lock_state w l) u)
+    pub keeps_owners : Others w v t (AtLock l case) → ((u : ℕ) → rights_of (locks.after_case (rules_at w l) case (lock_state w l) t) u ≡ rights_of (lock_state w l) u)
         → ((r : ℕ → Rights) → call_state p2 r ≡ unless_ended o (going_on (AtLock l case) (call_then r)))
         → (((u k : ℕ) → rights v u k ≡ rights w u k) → Agrees t (going_on (AtLock l case) (call_then (rights w t))) o (locks_of v)) → GoesOn (locks_of w) t o (locks_of v)
     keeps_owners others stay own agrees = by_case
@@ -240,7 +240,7 @@ module _ (w v : State) (t l : ℕ) (at : MutexPlace) (p2 : Place) (ds : List Act
 abbrev pub Got : State → State → ℕ → ℕ → Type 0
 Got w v t l = (owner_at v l ≡ Some t) × ((k : ℕ) → rights v t k ≡ one_more_at l Exclusive (rights w t) k)
 
-module _ (w v : State) (t l : ℕ) (at : MutexPlace) (rules : rules_at w l ≡ mutex) (gone : Gone w v t l at Idle (acts t (Does (Enter Exclusive) ∷ End ∷ []))) where
+module _ (w v : State) (t l : ℕ) (at : MutexPlace) (rules : rules_at w l ≡ mutex) (gone : Gone w v t l at Idle (acts t (Case (Enter Exclusive) ∷ End ∷ []))) where
   free : owner_at w l ≡ None
   free = let n : Needs mutex (Enter Exclusive) (lock_state w l) t = rw rules at gone.goes.follows.needed.0.0 in n.0.0.1
 
@@ -264,7 +264,7 @@ abbrev pub Releases : ℕ → MutexPlace → Place → LockCase → Outcome → 
 Releases l at p2 case o = (r r2 : ℕ → Rights) → r ≡ one_more_at l Exclusive r2 → call_state p2 r2 ≡ unless_ended o (going_on (AtLock l case) (mutex_call_state l at r))
 
 module _ (w v : State) (t l : ℕ) (at : MutexPlace) (p2 : Place) (ds : List Act) (gone : Gone w v t l at p2 ds) where
-  module _ (does : lock_then w v t l at p2 ds gone ≡ locks.leaving t Exclusive (lock_state w l)) (own : owner_at w l ≡ Some t) where
+  module _ (does : lock_then w v t l at p2 ds gone ≡ locks.without_owner t Exclusive (lock_state w l)) (own : owner_at w l ≡ Some t) where
     left_lost : Lost w v t l
     left_lost k = sym (put_is (rights v t) l (with_right Exclusive (rights v t l)) k (rights w t k)
         (λ e. rw e (sym (ap (λ s. with_right Exclusive (rights_of s t)) (lock_led w v t l at p2 ds gone ∙ does) ∙ left_own (lock_state w l) t own)))

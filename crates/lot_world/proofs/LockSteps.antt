@@ -47,8 +47,8 @@ use Rattle.lot_world.proofs.Possible.{may_go, go_possible, may_be_late, late_pos
 use Rattle.lot_world.proofs.Closures.{no_closure, nothing_closes}
 use Rattle.lot_world.specs.SitesOf.{IsSteady, Goes, CallsMutex, is_mutex, rules_at, carried_at, hand_at}
 use Rattle.abstract_locks.specs.Sites.{Main, In, Clear as Clears}
-use Rattle.abstract_locks.specs.Locks.{put as putting, Rights, rights_of}
-use Rattle.abstract_locks.specs.Runs.{LocksState, CallState, GoesOn, Stays, Does, SectionChanges, MayBegin, MayTurn, HasRight, Turned, IsStep, purpose_at, beginning, is_taken_by, Nothing}
+use Rattle.abstract_locks.specs.Locks.{putting, Rights, rights_of}
+use Rattle.abstract_locks.specs.Runs.{LocksState, CallState, GoesOn, Stays, Does, SectionChanges, MayBegin, MayTurn, HasRight, Turned, IsStep, purpose_at, new_call, is_taken_by, Nothing}
 use Rattle.abstract_locks.specs.Purposes.{purpose_of, mutex_purpose}
 use Rattle.lot_world.specs.MutexDeeds.{hand, mutex_station, deeds}
 use Rattle.lot_world.specs.Refinement.{owner_at, lock_state, taken_at, call_state, locks_of, sleeps}
@@ -314,7 +314,7 @@ module _ (w : State) (t l : ℕ) where
   right_needed fair mutex_call.TheVariants.UnlockFair h = is_owner (owner_at w l) h
   right_needed fair mutex_call.TheVariants.Bump h = is_owner (owner_at w l) h
 
-  begins_with : (fair : Bool) (c : MutexCall) (r : ℕ → Rights) → call_state (Mutex l (mutex_first fair c)) r ≡ beginning (Some (mutex_purpose fair l c)) r
+  begins_with : (fair : Bool) (c : MutexCall) (r : ℕ → Rights) → call_state (Mutex l (mutex_first fair c)) r ≡ new_call (Some (mutex_purpose fair l c)) r
   begins_with fair mutex_call.TheVariants.Lock r = refl
   begins_with fair mutex_call.TheVariants.LockTimed r = refl
   begins_with fair mutex_call.TheVariants.TryLock r = refl
@@ -333,11 +333,11 @@ module _ (w : State) (t l : ℕ) where
   untaken_first fair mutex_call.TheVariants.Bump k = refl
 
 begin_goes : (w : State) (t : ℕ) (c : Call) → IsShaped w → IsSteady w → t < length w.places → can_begin w t c ≡ true
-    → MayBegin (locks_of w) t c × Stays (locks_of w) t (beginning (purpose_at (locks_of w) c) (rights w t)) outcome.TheVariants.Step (locks_of (state_after_begin w t c))
+    → MayBegin (locks_of w) t c × Stays (locks_of w) t (new_call (purpose_at (locks_of w) c) (rights w t)) outcome.TheVariants.Step (locks_of (state_after_begin w t c))
 begin_goes w t (call.TheVariants.Mutex l c) shape steady there can = (
   record { thread = there; idle = rw idle refl; lock = ltb-true l (length w.locks) open_to.0; right = rw (purpose_is (kind_at w l) l c is_kind) (right_held w t l (is_fair (kind_at w l)) c held.1) },
   placed w t shape steady there w.sections Idle (Mutex l (mutex_first (is_fair (kind_at w l)) c)) idle (untaken_first w t l (is_fair (kind_at w l)) c) _
-      (λ r e. begins_with w t l (is_fair (kind_at w l)) c r ∙ (λ i. beginning (sym (purpose_is (kind_at w l) l c is_kind) i) (e i))),
+      (λ r e. begins_with w t l (is_fair (kind_at w l)) c r ∙ (λ i. new_call (sym (purpose_is (kind_at w l) l c is_kind) i) (e i))),
 )
   where
     idle : place_at w t ≡ Idle

@@ -27,7 +27,7 @@ use Rattle.abstract_locks.specs.Locks.{Rights, Queued, Enter, Leave as GivesBack
 use Rattle.abstract_locks.specs.Locks as locks
 use Rattle.abstract_locks.specs.Purposes.{rules_of, IsMadeOf}
 use Rattle.abstract_locks.specs.Runs.{CallState, Nothing, GoesOn, AnswerHolds, one_more_at, one_less_at}
-use Rattle.abstract_locks.specs.Sites.{Deed, Main, End, Out, Mark, Does}
+use Rattle.abstract_locks.specs.Sites.{Deed, Main, End, Out, Mark, Case}
 use Rattle.lot_world.specs.Machine.{State, place_at, word_at}
 use Rattle.lot_world.specs.MutexPromises.{IsMutexWord}
 use Rattle.lot_world.specs.Refinement.{owner_at, lock_state, is_bump, entry_purpose, release_purpose, before_release, mutex_call_state, locks_of}
@@ -139,7 +139,7 @@ module _ (w v : State) (t l : ℕ) (rules : rules_at w l ≡ mutex) where
       (λ stay. (l, subst (λ x. 1 ≤ standing t x) (sym (stay l)) (rw (stands_by w gone.before t l, gone.from, same l) (omega arith))))
   leaves_line e again false gone others = goes_on (Lock e again (Leave false)) (Lock e again Load) (Out ∷ []) gone (nobody_goes (Lock e again (Leave false)) gone.from gone.before (λ h. cc)) others (λ r. refl)
 
-  pub removes : (e : Entry) (again b : Bool) → is_timed e ≡ true → Gone w v t l (Lock e again Remove) (next_place (Mutex l (Lock e again Remove)) (Removed b)) (acts t (Does locks.Late ∷ [])) → Others w v t Nothing
+  pub removes : (e : Entry) (again b : Bool) → is_timed e ≡ true → Gone w v t l (Lock e again Remove) (next_place (Mutex l (Lock e again Remove)) (Removed b)) (acts t (Case locks.Late ∷ [])) → Others w v t Nothing
       → GoesOn (locks_of w) t (outcome_of (next_act (Mutex l (Lock e again Remove)) (Removed b))) (locks_of v)
   removes e again true timed gone others = keeps_owners w v t l (Lock e again Remove) _ _ gone locks.Late refl gone.goes.follows.needed.0.0 (late_by l e timed) refl outcome.TheVariants.Step others (λ u. refl) (λ r. refl) (λ stay. tt)
   removes e again false timed gone others = keeps_owners w v t l (Lock e again Remove) _ _ gone locks.Late refl gone.goes.follows.needed.0.0 (late_by l e timed) refl outcome.TheVariants.Step others (λ u. refl) (λ r. refl) (λ stay. tt)
@@ -181,7 +181,7 @@ module _ (w v : State) (t l : ℕ) (rules : rules_at w l ≡ mutex) where
   -- ---------------------------------------------------------------- releases
 
   -- a release that still has its right
-  pub subtracts : (b : Bool) → Gone w v t l (Unlock unlock.Subtract) (mutex_goes l (in_unlock (if b then next.At unlock.Enter else next.End answer.Ok))) (acts t (Does (GivesBack Exclusive) ∷ (if b then [] else End ∷ []))) → Others w v t Nothing
+  pub subtracts : (b : Bool) → Gone w v t l (Unlock unlock.Subtract) (mutex_goes l (in_unlock (if b then next.At unlock.Enter else next.End answer.Ok))) (acts t (Case (GivesBack Exclusive) ∷ (if b then [] else End ∷ []))) → Others w v t Nothing
       → GoesOn (locks_of w) t (outcome_of (mutex_does l (in_unlock (if b then next.At unlock.Enter else next.End answer.Ok)))) (locks_of v)
   subtracts true gone others = leaves w v t l (Unlock unlock.Subtract) _ _ gone refl gone.goes.follows.needed.0.0 outcome.TheVariants.Step (refl, refl) others (λ r r2 e. rw e refl) (λ lost. tt)
   subtracts false gone others = leaves w v t l (Unlock unlock.Subtract) Idle _ gone refl gone.goes.follows.needed.0.0 (outcome.TheVariants.End answer.Ok) (refl, refl) others (λ r r2 e. refl) (λ lost. (lost, ends_with_nobody w v t l _ Idle _ gone refl))
@@ -205,7 +205,7 @@ module _ (w v : State) (t l : ℕ) (rules : rules_at w l ≡ mutex) where
 
   -- ---------------------------------------------------------------- fair releases
 
-  pub unlocks_fairly : (b : Bool) → Gone w v t l UnlockFair (mutex_goes l (looked false (not b))) (acts t (if b then Does (GivesBack Exclusive) ∷ End ∷ [] else [])) → Others w v t Nothing
+  pub unlocks_fairly : (b : Bool) → Gone w v t l UnlockFair (mutex_goes l (looked false (not b))) (acts t (if b then Case (GivesBack Exclusive) ∷ End ∷ [] else [])) → Others w v t Nothing
       → GoesOn (locks_of w) t (outcome_of (mutex_does l (looked false (not b)))) (locks_of v)
   unlocks_fairly true gone others = leaves w v t l UnlockFair Idle _ gone refl gone.goes.follows.needed.0.0 (outcome.TheVariants.End answer.Ok) (refl, refl) others (λ r r2 e. refl) (λ lost. (lost, ends_with_nobody w v t l _ Idle _ gone refl))
   unlocks_fairly false gone others = goes_on UnlockFair (HandOff false hand_off.Enter) [] gone refl others (λ r. refl)

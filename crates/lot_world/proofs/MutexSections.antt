@@ -11,7 +11,7 @@ use Rattle.lot_steps.specs.declared.mutex.MutexPlace.TheVariants.{HandOff}
 use Rattle.lot_steps.specs.declared.mutex.hand_off.HandOffAt.TheVariants as hand_off
 use Rattle.abstract_locks.specs.Locks.{LockState, Taken, Queued, Rules, IsTaken, HasTakenNobody, KnowsAll, Knows, TakeFirst, keep_from, let_go}
 use Rattle.abstract_locks.specs.Locks as locks
-use Rattle.abstract_locks.specs.Sites.{Doing, Has, IsSite, Main, Second, Does}
+use Rattle.abstract_locks.specs.Sites.{Doing, Has, IsSite, Main, Second, Case}
 use Rattle.lot_world.specs.Refinement.{lock_seen, taken_at}
 use Rattle.abstract_locks.specs.Picks.{queued_of}
 use Rattle.lot_world.specs.MutexDeeds.{hand, mutex_doing, doing_on, acts, queued}
@@ -33,7 +33,7 @@ module _ (l : ℕ) (n : Base) (w : ℕ) (o : Owners) (s rest : List Waiter) (x :
   pub first_wants : x.want ≡ Exclusive
   first_wants = exclusive_wanted x.want site.state.known_queue.0
 
-  pub take_needed : (d : Doing) → doing_on (p t) l ≡ d → ((u : ℕ) → Untaken t (taken_at (p u) l)) → d.inside ≡ Some Main → d.carries ≡ false → d.wakes ≢ Some Second → AllNeeded mutex (acts t (Does (TakeFirst (queued x.thread)) ∷ [])) (seen l n w o (x ∷ rest) s p)
+  pub take_needed : (d : Doing) → doing_on (p t) l ≡ d → ((u : ℕ) → Untaken t (taken_at (p u) l)) → d.inside ≡ Some Main → d.carries ≡ false → d.wakes ≢ Some Second → AllNeeded mutex (acts t (Case (TakeFirst (queued x.thread)) ∷ [])) (seen l n w o (x ∷ rest) s p)
   take_needed d is none i c v = (
     (((map queued_of rest, λ j. (record { thread = x.thread; want = first_wants j }) ∷ map queued_of rest), taken_nobody l p t n o (x ∷ rest) s none, λ h. h), (rw is i, rw is c, rw is v)),
     tt,

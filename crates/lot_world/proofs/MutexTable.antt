@@ -21,9 +21,9 @@ use Rattle.lot_steps.specs.declared.mutex.TheConstants.{NOT_PARKED}
 use Rattle.lot_steps.specs.declared.acts.Reply.TheVariants.{Value}
 use Rattle.lot_steps.specs.MutexSteps.{is_parked, is_locked, mutex_owners, with_exclusive}
 use Rattle.lot_steps.specs.Steps.{next_place}
-use Rattle.abstract_locks.specs.Locks.{LockState, Taken, Queued, Rules, IsTaken, keep_from, one_if_some, is_thread, put as putting}
+use Rattle.abstract_locks.specs.Locks.{LockState, Taken, Queued, Rules, IsTaken, keep_from, one_if_some, is_thread, putting}
 use Rattle.abstract_locks.specs.Locks as locks
-use Rattle.abstract_locks.specs.Sites.{Doing, Has, Site, IsSite, Deed, Main, Begin, End, In, Out, Mark, Clear, FindNobody, MarkOwned, Bring, MarkBrought, Does, idle, found, is_empty, seen_main, counts_some, has_readers, after}
+use Rattle.abstract_locks.specs.Sites.{Doing, Has, Site, IsSite, Deed, Main, Begin, End, In, Out, Mark, Clear, FindNobody, MarkOwned, Bring, MarkBrought, Case, idle, found, is_empty, seen_main, counts_some, has_readers, after_deed}
 use Rattle.abstract_locks.specs.Codes as codes
 use Rattle.std.proofs.Math.Bool.{or-false}
 use Rattle.lot_world.specs.Refinement.{lock_seen, taken_at}
@@ -45,7 +45,7 @@ abbrev pub AreSingle : List Deed → Type 0
 AreSingle [] = Unit {0}
 AreSingle (d ∷ ds) = IsSingle d × AreSingle ds
 
-others_same_by : (r : Rules) (d : Deed) (s : Site) (t u : ℕ) → IsSingle d → u ≢ t → (after r d s t).doing u ≡ s.doing u
+others_same_by : (r : Rules) (d : Deed) (s : Site) (t u : ℕ) → IsSingle d → u ≢ t → (after_deed r d s t).doing u ≡ s.doing u
 others_same_by r (Begin c) s t u h ne = put_other s.doing t _ u ne
 others_same_by r End s t u h ne = put_other s.doing t _ u ne
 others_same_by r (In m) s t u h ne = put_other s.doing t _ u ne
@@ -58,19 +58,19 @@ others_same_by r (FindNobody m) s t u h ne = put_other s.doing t _ u ne
 others_same_by r MarkOwned s t u h ne = put_other s.doing t _ u ne
 others_same_by r (Bring taken moved) s t u h ne = put_other s.doing t _ u ne
 others_same_by r MarkBrought s t u h ne = put_other s.doing t _ u ne
-others_same_by r (Does case) s t u h ne = put_other s.doing t _ u ne
+others_same_by r (Case case) s t u h ne = put_other s.doing t _ u ne
 
 pub others_same : (r : Rules) (ds : List Deed) (s : Site) (t u : ℕ) → AreSingle ds → u ≢ t → (after_acts r (acts t ds) s).doing u ≡ s.doing u
 others_same r [] s t u h ne = refl
-others_same r (d ∷ ds) s t u h ne = others_same r ds (after r d s t) t u h.1 ne ∙ others_same_by r d s t u h.0 ne
+others_same r (d ∷ ds) s t u h ne = others_same r ds (after_deed r d s t) t u h.1 ne ∙ others_same_by r d s t u h.0 ne
 
 -- no deed fills a lock that nobody shares
 pub same_filled : (r : Rules) (ds : List deeds.Act) (s : Site) → has_readers r.sort ≡ false → (after_acts r ds s).filled ≡ s.filled
 same_filled r [] s h = refl
-same_filled r (a ∷ ds) s h = same_filled r ds (after r a.deed s a.by) h ∙ filled_by a.deed
+same_filled r (a ∷ ds) s h = same_filled r ds (after_deed r a.deed s a.by) h ∙ filled_by a.deed
   where
-    filled_by : (d : Deed) → (after r d s a.by).filled ≡ s.filled
-    filled_by (Does case) = rw h (or-false s.filled)
+    filled_by : (d : Deed) → (after_deed r d s a.by).filled ≡ s.filled
+    filled_by (Case case) = rw h (or-false s.filled)
     filled_by (Mark Main) = refl
     filled_by (Mark m) = refl
     filled_by (Clear Main) = refl
@@ -124,9 +124,9 @@ module _ (l : ℕ) (n : Base) (w w2 : ℕ) (o : Owners) (m s : List Waiter) (p :
   pub looks : is_parked w2 ≡ is_parked w → doing_on p2 l ≡ d → Steps l n w w2 o o m m s p t p2 []
   looks bit own = record { site = meet o m [] tt refl bit refl (own ∙ sym is); needed = tt }
 
-  pub enters : o.exclusive ≡ None → d.inside ≡ None → d.wakes ≡ None → d.carries ≡ false → (d.retries ≡ None) ⊎ (d.retries ≡ Some Exclusive) → is_parked w2 ≡ is_parked w → doing_on p2 l ≡ idle → Steps l n w w2 o (with_exclusive o (Some t)) m m s p t p2 (Does (locks.Enter Exclusive) ∷ End ∷ [])
+  pub enters : o.exclusive ≡ None → d.inside ≡ None → d.wakes ≡ None → d.carries ≡ false → (d.retries ≡ None) ⊎ (d.retries ≡ Some Exclusive) → is_parked w2 ≡ is_parked w → doing_on p2 l ≡ idle → Steps l n w w2 o (with_exclusive o (Some t)) m m s p t p2 (Case (locks.Enter Exclusive) ∷ End ∷ [])
   enters free i w c r bit own = record {
-    site = meet (with_exclusive o (Some t)) m (Does (locks.Enter Exclusive) ∷ End ∷ []) (tt, (tt, tt)) refl bit refl (own ∙ rw (same t) refl);
+    site = meet (with_exclusive o (Some t)) m (Case (locks.Enter Exclusive) ∷ End ∷ []) (tt, (tt, tt)) refl bit refl (own ∙ rw (same t) refl);
     needed = (((((tt, free), tt), site.state.unshared (λ h. h)), rw is r), (rw (same t, is) (i, w, c, λ h. absurd cc), tt));
   }
 
@@ -136,15 +136,15 @@ module _ (l : ℕ) (n : Base) (w w2 : ℕ) (o : Owners) (m s : List Waiter) (p :
   pub clears : is_parked w2 ≡ false → d.empty ≡ Some Main → doing_on p2 l ≡ record d { empty = None; brings = false } → Steps l n w w2 o o m m s p t p2 (Clear Main ∷ [])
   clears bit e own = record { site = meet o m (Clear Main ∷ []) (tt, tt) refl bit refl (own ∙ rw (same t, is) refl); needed = (ap (λ (x : Doing). x.empty) is ∙ e, tt) }
 
-  pub leaves : is_parked w2 ≡ is_parked w → d.claims ≡ Some (Has Exclusive) → d.wakes ≡ None → d.covers ≡ false → doing_on p2 l ≡ record d { wakes = seen_main (is_parked w); claims = None } → Steps l n w w2 o (with_exclusive o None) m m s p t p2 (Does (locks.Leave Exclusive) ∷ [])
+  pub leaves : is_parked w2 ≡ is_parked w → d.claims ≡ Some (Has Exclusive) → d.wakes ≡ None → d.covers ≡ false → doing_on p2 l ≡ record d { wakes = seen_main (is_parked w); claims = None } → Steps l n w w2 o (with_exclusive o None) m m s p t p2 (Case (locks.Leave Exclusive) ∷ [])
   leaves bit c w v own = record {
-    site = meet (with_exclusive o None) m (Does (locks.Leave Exclusive) ∷ []) (tt, tt) refl bit refl (own ∙ rw (same t, is, v) refl);
+    site = meet (with_exclusive o None) m (Case (locks.Leave Exclusive) ∷ []) (tt, tt) refl bit refl (own ∙ rw (same t, is, v) refl);
     needed = ((site.held t (Has Exclusive) (ap (λ (x : Doing). x.claims) is ∙ c), ap (λ (x : Doing). x.wakes) is ∙ w), tt);
   }
 
-  pub leaves_all : is_parked w2 ≡ is_parked w → is_parked w ≡ false → d.claims ≡ Some (Has Exclusive) → d.wakes ≡ None → d.covers ≡ false → d.inside ≡ None → d.carries ≡ false → d.retries ≡ None → doing_on p2 l ≡ idle → Steps l n w w2 o (with_exclusive o None) m m s p t p2 (Does (locks.Leave Exclusive) ∷ End ∷ [])
+  pub leaves_all : is_parked w2 ≡ is_parked w → is_parked w ≡ false → d.claims ≡ Some (Has Exclusive) → d.wakes ≡ None → d.covers ≡ false → d.inside ≡ None → d.carries ≡ false → d.retries ≡ None → doing_on p2 l ≡ idle → Steps l n w w2 o (with_exclusive o None) m m s p t p2 (Case (locks.Leave Exclusive) ∷ End ∷ [])
   leaves_all bit none c w v i k r own = record {
-    site = meet (with_exclusive o None) m (Does (locks.Leave Exclusive) ∷ End ∷ []) (tt, (tt, tt)) refl bit refl (own ∙ rw (same t) refl);
+    site = meet (with_exclusive o None) m (Case (locks.Leave Exclusive) ∷ End ∷ []) (tt, (tt, tt)) refl bit refl (own ∙ rw (same t) refl);
     needed = ((site.held t (Has Exclusive) (ap (λ (x : Doing). x.claims) is ∙ c), ap (λ (x : Doing). x.wakes) is ∙ w), (rw (same t, is, v, none) (i, refl, k, λ h. absurd (let g : counts_some locks.Mutex None ≡ true = rw r at h in cc)), tt));
   }
 
@@ -166,25 +166,25 @@ module _ (l : ℕ) (n : Base) (w w2 : ℕ) (o : Owners) (m s : List Waiter) (p :
     needed = ((rw is i, rw is c, ap (map queued_of) none, rw is v), tt);
   }
 
-  pub parks : (key : ℕ) → is_parked w2 ≡ is_parked w → is_parked w ≡ true → (o.exclusive ≢ None) → times t m ≡ 0 → is_thread t (first_of s) ≡ 0 → d.inside ≡ Some Main → d.wakes ≡ None → d.covers ≡ false → doing_on p2 l ≡ record d { retries = None; empty = None } → Steps l n w w2 o o m (m ++ waiter key t Exclusive ∷ []) s p t p2 (Does (locks.Park Exclusive) ∷ [])
+  pub parks : (key : ℕ) → is_parked w2 ≡ is_parked w → is_parked w ≡ true → (o.exclusive ≢ None) → times t m ≡ 0 → is_thread t (first_of s) ≡ 0 → d.inside ≡ Some Main → d.wakes ≡ None → d.covers ≡ false → doing_on p2 l ≡ record d { retries = None; empty = None } → Steps l n w w2 o o m (m ++ waiter key t Exclusive ∷ []) s p t p2 (Case (locks.Park Exclusive) ∷ [])
   parks key bit set owned nowhere aside i v c own = record {
-    site = meet o (m ++ waiter key t Exclusive ∷ []) (Does (locks.Park Exclusive) ∷ []) (tt, tt) (ap (λ q. record now.lock { queue = q }) (queued_behind key t Exclusive m)) bit refl (own ∙ rw (same t, is) refl);
+    site = meet o (m ++ waiter key t Exclusive ∷ []) (Case (locks.Park Exclusive) ∷ []) (tt, tt) (ap (λ q. record now.lock { queue = q }) (queued_behind key t Exclusive m)) bit refl (own ∙ rw (same t, is) refl);
     needed = ((((tt, owned), stands_nowhere), (rw is i, set, rw is v, rw is c)), tt);
   }
     where
       stands_nowhere : locks.times t (map queued_of m) + is_thread t (first_of s) + one_if_some (taken_at (p t) l) ≡ 0
       stands_nowhere = let a : locks.times t (map queued_of m) ≡ times t m = queued_times t m in let b : one_if_some (taken_at (p t) l) ≡ 0 = ap one_if_some hand in omega arith
 
-  pub removes : is_parked w2 ≡ is_parked w → 1 ≤ times t m → first_of s ≡ None → d.inside ≡ Some Main → d.carries ≡ false → doing_on p2 l ≡ record d { empty = found Main (is_empty (map queued_of (without t m))) } → Steps l n w w2 o o m (without t m) s p t p2 (Does locks.Late ∷ [])
+  pub removes : is_parked w2 ≡ is_parked w → 1 ≤ times t m → first_of s ≡ None → d.inside ≡ Some Main → d.carries ≡ false → doing_on p2 l ≡ record d { empty = found Main (is_empty (map queued_of (without t m))) } → Steps l n w w2 o o m (without t m) s p t p2 (Case locks.Late ∷ [])
   removes bit stands none i c own = record {
-    site = meet o (without t m) (Does locks.Late ∷ []) (tt, tt) (λ j. record now.lock { queue = queued_without t m j; aside = (none ∙ sym (ap (locks.aside_without t) none)) j }) bit refl
+    site = meet o (without t m) (Case locks.Late ∷ []) (tt, tt) (λ j. record now.lock { queue = queued_without t m j; aside = (none ∙ sym (ap (locks.aside_without t) none)) j }) bit refl
         (own ∙ rw (same t, is, i, queued_without) refl);
     needed = (((let a : locks.times t (map queued_of m) ≡ times t m = queued_times t m in omega arith), (rw (is, i) (λ h. let g : None ≡ Some t = sym none ∙ h in cc), rw is c)), tt);
   }
 
-  pub hands_nobody : is_parked w2 ≡ false → ((u : ℕ) → Untaken t (taken_at (p u) l)) → d.claims ≡ Some (Has Exclusive) → d.covers ≡ true → d.retries ≡ None → d.wakes ≡ None → d.inside ≡ Some Main → d.empty ≡ Some Main → doing_on p2 l ≡ record d { covers = false; claims = None; empty = None; brings = false; sets = false } → Steps l n w w2 o (with_exclusive o None) m m s p t p2 (Does (locks.HandOff Exclusive None) ∷ Clear Main ∷ [])
+  pub hands_nobody : is_parked w2 ≡ false → ((u : ℕ) → Untaken t (taken_at (p u) l)) → d.claims ≡ Some (Has Exclusive) → d.covers ≡ true → d.retries ≡ None → d.wakes ≡ None → d.inside ≡ Some Main → d.empty ≡ Some Main → doing_on p2 l ≡ record d { covers = false; claims = None; empty = None; brings = false; sets = false } → Steps l n w w2 o (with_exclusive o None) m m s p t p2 (Case (locks.HandOff Exclusive None) ∷ Clear Main ∷ [])
   hands_nobody bit none c v r k i e own = record {
-    site = meet (with_exclusive o None) m (Does (locks.HandOff Exclusive None) ∷ Clear Main ∷ []) (tt, (tt, tt)) (sym (λ j. lock_seen n.shared (with_exclusive o None) m s (λ u. none u j)) ∙ sym (handed_is t n o m s p l None (site.state.unshared (λ h. h)))) bit refl (own ∙ rw (same t, is) refl);
+    site = meet (with_exclusive o None) m (Case (locks.HandOff Exclusive None) ∷ Clear Main ∷ []) (tt, (tt, tt)) (sym (λ j. lock_seen n.shared (with_exclusive o None) m s (λ u. none u j)) ∙ sym (handed_is t n o m s p l None (site.state.unshared (λ h. h)))) bit refl (own ∙ rw (same t, is) refl);
     needed = (((site.held t (Has Exclusive) (ap (λ (x : Doing). x.claims) is ∙ c), (λ h. cc), heirless, tt), (rw is i, rw is v, rw is r, rw is k)), (rw (same t, is) e, tt));
   }
     where
@@ -229,7 +229,7 @@ module _ (l : ℕ) (n : Base) (o : Owners) (m s : List Waiter) (p : ℕ → Plac
   stay w at at2 is site none none2 e = looks l n w w o m s p t (Mutex l at2) site (mutex_doing at) (own_doing l (p t) at is) (ap (λ x. taken_at x l) is ∙ none) none2 refl (own_doing l (Mutex l at2) at2 refl ∙ e)
 
   takes : (w w2 : ℕ) (at : MutexPlace) → p t ≡ Mutex l at → IsSite mutex (seen l n w o m s p) → taken_at (Mutex l at) l ≡ None → o.exclusive ≡ None → (mutex_doing at).inside ≡ None → (mutex_doing at).wakes ≡ None → (mutex_doing at).carries ≡ false
-      → ((mutex_doing at).retries ≡ None) ⊎ ((mutex_doing at).retries ≡ Some Exclusive) → is_parked w2 ≡ is_parked w → Steps l n w w2 o (with_exclusive o (Some t)) m m s p t Idle (Does (locks.Enter Exclusive) ∷ End ∷ [])
+      → ((mutex_doing at).retries ≡ None) ⊎ ((mutex_doing at).retries ≡ Some Exclusive) → is_parked w2 ≡ is_parked w → Steps l n w w2 o (with_exclusive o (Some t)) m m s p t Idle (Case (locks.Enter Exclusive) ∷ End ∷ [])
   takes w w2 at is site none free i v c r bit = enters l n w w2 o m s p t Idle site (mutex_doing at) (own_doing l (p t) at is) (ap (λ x. taken_at x l) is ∙ none) refl free i v c r bit refl
 
   again_is : (b : Bool) → ((if b then Some Exclusive else None) ≡ None) ⊎ ((if b then Some Exclusive else None) ≡ Some Exclusive)
@@ -324,7 +324,7 @@ module _ (l : ℕ) (n : Base) (o : Owners) (m s : List Waiter) (p : ℕ → Plac
   owned : (w k : ℕ) (at : MutexPlace) → p t ≡ Mutex l at → IsSite mutex (seen l n w o m s p) → (mutex_doing at).claims ≡ Some (Has Exclusive) → k + 0 ≡ one_if_some o.exclusive + k → ⊥
   owned w k at is site c code = let a : o.exclusive ≡ Some t = site.held t (Has Exclusive) (ap (λ (x : Doing). x.claims) (own_doing l (p t) at is) ∙ c) in let b : o.exclusive ≡ None = none_owns o.exclusive k code in cc
 
-  gives_up : (at : MutexPlace) → p t ≡ Mutex l at → IsSite mutex (seen l n 1 o m s p) → taken_at (Mutex l at) l ≡ None → mutex_doing at ≡ owner → Steps l n 1 0 o (with_exclusive o None) m m s p t Idle (Does (locks.Leave Exclusive) ∷ End ∷ [])
+  gives_up : (at : MutexPlace) → p t ≡ Mutex l at → IsSite mutex (seen l n 1 o m s p) → taken_at (Mutex l at) l ≡ None → mutex_doing at ≡ owner → Steps l n 1 0 o (with_exclusive o None) m m s p t Idle (Case (locks.Leave Exclusive) ∷ End ∷ [])
   gives_up at is site none e = leaves_all l n 1 0 o m s p t Idle site owner (own_doing l (p t) at is ∙ e) (ap (λ x. taken_at x l) is ∙ none) refl refl refl refl refl refl refl refl refl refl
 
   pub at_subtract : (w : ℕ) → Fits w (Unlock unlock.Subtract) (op.Sub 1)

@@ -11,9 +11,9 @@ use Rattle.lot_steps.specs.declared.places.Place.{Place}
 use Rattle.lot_steps.specs.declared.places.Place.TheVariants.{Idle, Mutex}
 use Rattle.lot_steps.specs.declared.mutex.MutexPlace.{MutexPlace}
 use Rattle.lot_steps.specs.MutexSteps.{is_parked}
-use Rattle.abstract_locks.specs.Locks.{Rules, put as putting, is_thread}
+use Rattle.abstract_locks.specs.Locks.{Rules, putting, is_thread}
 use Rattle.abstract_locks.specs.Locks as locks
-use Rattle.abstract_locks.specs.Sites.{IsSite, Deed, Line, Main, Second, Does, FindNobody, found, is_empty}
+use Rattle.abstract_locks.specs.Sites.{IsSite, Deed, Line, Main, Second, Case, FindNobody, found, is_empty}
 use Rattle.lot_world.specs.Machine.{State, place_at, word_at, owners_at, queue_at, put, queues_with_last, queues_without, queues_without_first}
 use Rattle.lot_world.specs.Refinement.{lock_state, taken_at}
 use Rattle.abstract_locks.specs.Picks.{queued_of}
@@ -87,9 +87,9 @@ module _ (w : State) (t l : ℕ) (at : MutexPlace) (steady : IsSteady w) (is : p
 
   -- it stands behind the last
   pub park_keeps : (p2 : Place) → IsOf l p2 → taken_at (Mutex l at) l ≡ None → taken_at p2 l ≡ None → (mutex_station at).stands ≡ None → is_parked (word_at w l) ≡ true → (owners_at w l).exclusive ≢ None → (mutex_doing at).inside ≡ Some Main → (mutex_doing at).wakes ≡ None → (mutex_doing at).covers ≡ false
-      → doing_on p2 l ≡ record (mutex_doing at) { retries = None; empty = None } → station p2 ≡ record (mutex_station at) { stands = Some Main } → Goes w (put (record w { queues = queues_with_last w.queues (2 * l) t Exclusive }) t p2) l (acts t (Does (locks.Park Exclusive) ∷ []))
+      → doing_on p2 l ≡ record (mutex_doing at) { retries = None; empty = None } → station p2 ≡ record (mutex_station at) { stands = Some Main } → Goes w (put (record w { queues = queues_with_last w.queues (2 * l) t Exclusive }) t p2) l (acts t (Case (locks.Park Exclusive) ∷ []))
   park_keeps p2 of none none2 nowhere full owned i k c e s = record {
-    follows = line_sites v p2 behind (Does (locks.Park Exclusive) ∷ []) refl refl refl of
+    follows = line_sites v p2 behind (Case (locks.Park Exclusive) ∷ []) refl refl refl of
         (record { here = line_now; other = λ j ne. others (2 * j) (λ h. ne (omega arith)) })
         (λ j. others (2 * j + 1) (λ h. omega arith))
         (parks l (base_at w l) (word_at w l) (word_at w l) (owners_at w l) (queue_at w (2 * l)) (queue_at w (2 * l + 1)) (place_at w) t p2 site_here (mutex_doing at) (own_doing l (place_at w t) at is) (ap (λ y. taken_at y l) is ∙ none) none2 (2 * l) refl full owned (absent nowhere l Main) (ap (is_thread t) no_aside) i k c e);
@@ -115,9 +115,9 @@ module _ (w : State) (t l : ℕ) (at : MutexPlace) (steady : IsSteady w) (is : p
 
   -- it leaves the line
   pub remove_keeps : (p2 : Place) → IsOf l p2 → taken_at (Mutex l at) l ≡ None → taken_at p2 l ≡ None → (mutex_station at).stands ≡ Some Main → (mutex_doing at).inside ≡ Some Main → (mutex_doing at).carries ≡ false
-      → doing_on p2 l ≡ record (mutex_doing at) { empty = found Main (is_empty (map queued_of (without t (queue_at w (2 * l))))) } → station p2 ≡ record (mutex_station at) { stands = None } → Goes w (put (record w { queues = queues_without w.queues t }) t p2) l (acts t (Does locks.Late ∷ []))
+      → doing_on p2 l ≡ record (mutex_doing at) { empty = found Main (is_empty (map queued_of (without t (queue_at w (2 * l))))) } → station p2 ≡ record (mutex_station at) { stands = None } → Goes w (put (record w { queues = queues_without w.queues t }) t p2) l (acts t (Case locks.Late ∷ []))
   remove_keeps p2 of none none2 one i c e s = record {
-    follows = line_sites v p2 (without t (queue_at w (2 * l))) (Does locks.Late ∷ []) refl refl refl of
+    follows = line_sites v p2 (without t (queue_at w (2 * l))) (Case locks.Late ∷ []) refl refl refl of
         (record { here = line_now; other = λ j ne. others (2 * j) (λ h. ne (omega arith)) })
         (λ j. others (2 * j + 1) (λ h. omega arith))
         (removes l (base_at w l) (word_at w l) (word_at w l) (owners_at w l) (queue_at w (2 * l)) (queue_at w (2 * l + 1)) (place_at w) t p2 site_here (mutex_doing at) (own_doing l (place_at w t) at is) (ap (λ y. taken_at y l) is ∙ none) none2 refl here no_aside i c e);

@@ -25,8 +25,8 @@ use Rattle.lot_steps.specs.declared.acts.Reply.{Reply}
 use Rattle.lot_steps.specs.declared.acts.Reply.TheVariants.{Value, Woken, TakenBy, HandedBy}
 use Rattle.lot_steps.specs.MutexSteps.{with_exclusive, mutex_owners, hand_off_word}
 use Rattle.lot_steps.specs.Steps.{next_place}
-use Rattle.abstract_locks.specs.Locks.{Rules, TakeFirst, put as putting}
-use Rattle.abstract_locks.specs.Sites.{Doing, Site, IsSite, Deed, Main, Second, In, Out, Does, idle, leaves, found, is_empty, has_readers, after}
+use Rattle.abstract_locks.specs.Locks.{Rules, TakeFirst, putting}
+use Rattle.abstract_locks.specs.Sites.{Doing, Site, IsSite, Deed, Main, Second, In, Out, Case, idle, leaves, found, is_empty, has_readers, after_deed}
 use Rattle.abstract_locks.specs.Codes.{code}
 use Rattle.abstract_locks.specs.Purposes.{rules_of}
 use Rattle.abstract_locks.proofs.SiteKeeps.{deed_keeps}
@@ -58,7 +58,7 @@ unchanged f l = record { here = refl; other = λ j ne. refl }
 -- deeds one after another
 pub acts_keep : (r : Rules) (ds : List deeds.Act) (s : Site) → IsSite r s → AllNeeded r ds s → IsSite r (after_acts r ds s)
 acts_keep r [] s h n = h
-acts_keep r (a ∷ more) s h n = acts_keep r more (after r a.deed s a.by) (deed_keeps r a.deed s a.by h n.0) n.1
+acts_keep r (a ∷ more) s h n = acts_keep r more (after_deed r a.deed s a.by) (deed_keeps r a.deed s a.by h n.0) n.1
 
 -- what another lock sees of each place
 abbrev pub AlikeAt : ℕ → Place → Place → Type 0
@@ -418,7 +418,7 @@ module _ (w : State) (t l : ℕ) (at : MutexPlace) (steady : IsSteady w) (is : p
   pub take_keeps : (p2 : Place) → IsOf l p2 → taken_at (Mutex l at) l ≡ None → taken_at p2 l ≡ None → (mutex_station at).carries ≡ None → (mutex_station at).hand ≡ None → (mutex_doing at).inside ≡ Some Main → (mutex_doing at).carries ≡ false → (mutex_doing at).wakes ≢ Some Second
       → doing_on p2 l ≡ record (mutex_doing at) { wakes = None; carries = true; covers = true; empty = found Main (is_empty (map queued_of rest)) }
       → station p2 ≡ record (mutex_station at) { carries = Some false }
-      → Goes w (put (state_after_reply (record w { queues = queues_without_first w.queues (2 * l) }) x.thread (TakenBy t)) t p2) l (acts t (Does (TakeFirst (queued x.thread)) ∷ []))
+      → Goes w (put (state_after_reply (record w { queues = queues_without_first w.queues (2 * l) }) x.thread (TakenBy t)) t p2) l (acts t (Case (TakeFirst (queued x.thread)) ∷ []))
   take_keeps p2 of none none2 nobody free i c v e s = record {
     follows = follow w after l (rules w t l at steady is there) (putting (putting (place_at w) x.thread px) t p2) (word_at w l) (owners_at w l) rest places
         (same_bases w after refl refl (length-set (set w.places x.thread px) t p2 ∙ length-set w.places x.thread px))
@@ -426,7 +426,7 @@ module _ (w : State) (t l : ℕ) (at : MutexPlace) (steady : IsSteady w) (is : p
         (subst (λ (y : List Waiter). Changed (λ k. queue_at w (2 * k)) (λ k. get_or (queues_without_first w.queues (2 * l)) (2 * k) []) l y) (ap (drop 1) first) (changed_main w.queues l (drop 1 (queue_at w (2 * l))) [] line))
         (λ k. get_or-set_other w.queues (2 * l) (2 * k + 1) (drop 1 (queue_at w (2 * l))) [] (λ h. omega arith)) (λ k. refl)
         (λ k ne y. alike_both l k (place_at w) x.thread px t p2 of_x of_px own_t of apart ne y)
-        (acts t (Does (TakeFirst (queued x.thread)) ∷ []))
+        (acts t (Case (TakeFirst (queued x.thread)) ∷ []))
         (taking mutex l (base_at w l) (word_at w l) (owners_at w l) (queue_at w (2 * l + 1)) rest x (place_at w) t entry retries refl asleep (first_wants l (base_at w l) (word_at w l) (owners_at w l) (queue_at w (2 * l + 1)) rest x (place_at w) t site_first) apart p2
         (ap (λ y. taken_at y l) is ∙ none) none2 (e ∙ sym (ap (λ (d : Doing). record d { wakes = None; carries = true; covers = true; empty = found Main (is_empty (map queued_of rest)) }) (own_doing l (place_at w t) at is)))
         ∙ same_lines)
@@ -457,10 +457,10 @@ module _ (w : State) (t l : ℕ) (at : MutexPlace) (steady : IsSteady w) (is : p
           ∙ ap (λ (f : ℕ → Place). putting f t p2) (goes_from w x.thread (TakenBy t))
 
       -- the line, before and behind the look
-      same_lines : after_acts mutex (acts t (Does (TakeFirst (queued x.thread)) ∷ [])) (seen l (base_at w l) (word_at w l) (owners_at w l) (x ∷ rest) (queue_at w (2 * l + 1)) (place_at w)) ≡ after_acts mutex (acts t (Does (TakeFirst (queued x.thread)) ∷ [])) (mutex_at w l)
-      same_lines = ap (λ q. after_acts mutex (acts t (Does (TakeFirst (queued x.thread)) ∷ [])) (seen l (base_at w l) (word_at w l) (owners_at w l) q (queue_at w (2 * l + 1)) (place_at w))) (sym first)
+      same_lines : after_acts mutex (acts t (Case (TakeFirst (queued x.thread)) ∷ [])) (seen l (base_at w l) (word_at w l) (owners_at w l) (x ∷ rest) (queue_at w (2 * l + 1)) (place_at w)) ≡ after_acts mutex (acts t (Case (TakeFirst (queued x.thread)) ∷ [])) (mutex_at w l)
+      same_lines = ap (λ q. after_acts mutex (acts t (Case (TakeFirst (queued x.thread)) ∷ [])) (seen l (base_at w l) (word_at w l) (owners_at w l) q (queue_at w (2 * l + 1)) (place_at w))) (sym first)
 
-      needed : AllNeeded mutex (acts t (Does (TakeFirst (queued x.thread)) ∷ [])) (mutex_at w l)
-      needed = subst (λ (q : List Waiter). AllNeeded mutex (acts t (Does (TakeFirst (queued x.thread)) ∷ [])) (seen l (base_at w l) (word_at w l) (owners_at w l) q (queue_at w (2 * l + 1)) (place_at w))) (sym first)
+      needed : AllNeeded mutex (acts t (Case (TakeFirst (queued x.thread)) ∷ [])) (mutex_at w l)
+      needed = subst (λ (q : List Waiter). AllNeeded mutex (acts t (Case (TakeFirst (queued x.thread)) ∷ [])) (seen l (base_at w l) (word_at w l) (owners_at w l) q (queue_at w (2 * l + 1)) (place_at w))) (sym first)
           (take_needed l (base_at w l) (word_at w l) (owners_at w l) (queue_at w (2 * l + 1)) rest x (place_at w) t site_first (mutex_doing at) (own_doing l (place_at w t) at is)
           (λ u. untaken (place_at w u) t l (λ h. let a : carried_at (place_at w t) l ≡ Some false = steady.stands.hands.taken t u l false h in let b : carried_at (place_at w t) l ≡ None = ap (λ (y : Station). y.carries) (own_stance l (place_at w t) at is) ∙ nobody in cc)) i c v)

@@ -5,7 +5,7 @@ use Rattle.lot_base.specs.declared.wants.Waiter.{Waiter}
 use Rattle.lot_base.specs.Lines.{times}
 use Rattle.lot_steps.specs.declared.places.Place.{Place}
 use Rattle.lot_steps.specs.declared.places.Place.TheVariants.{Idle, Mutex}
-use Rattle.abstract_locks.specs.Locks.{put as putting}
+use Rattle.abstract_locks.specs.Locks.{putting}
 use Rattle.abstract_locks.specs.Sites.{Line, Main, Second}
 use Rattle.lot_world.specs.Machine.{State, kind_at}
 use Rattle.lot_world.specs.SitesOf.{is_mutex}

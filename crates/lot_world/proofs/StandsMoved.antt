@@ -6,7 +6,7 @@ use Rattle.lot_base.specs.Lines.{times}
 use Rattle.lot_calls.specs.declared.kinds.Kind.{Kind}
 use Rattle.lot_calls.specs.declared.kinds.Kind as kind
 use Rattle.lot_steps.specs.declared.places.Place.{Place}
-use Rattle.abstract_locks.specs.Locks.{put as putting}
+use Rattle.abstract_locks.specs.Locks.{putting}
 use Rattle.abstract_locks.specs.Purposes.{rules_of}
 use Rattle.abstract_locks.specs.Sites.{Line, Main, Second}
 use Rattle.lot_world.specs.Machine.{State, place_at, kind_at, section_at, queue_at}

@@ -20,7 +20,7 @@ use Rattle.lot_steps.specs.declared.mutex.MutexPlace.{MutexPlace}
 use Rattle.lot_steps.specs.declared.mutex.MutexPlace.TheVariants.{Lock, TryLock, Unlock, UnlockFair, Bump, HandOff}
 use Rattle.lot_steps.specs.MutexSteps.{mutex_first, mutex_right, is_thread}
 use Rattle.lot_steps.specs.Steps.{is_idle, spin_lock, late_key}
-use Rattle.abstract_locks.specs.Locks.{put as putting}
+use Rattle.abstract_locks.specs.Locks.{putting}
 use Rattle.abstract_locks.specs.Sites.{Claim, Has, Begin, HasClaim, idle}
 use Rattle.lot_world.specs.Machine.{State, place_at, word_at, owners_at, kind_at, queue_at, put, state_after_begin, can_begin, is_open_to, state_after_spin_on, state_after_late_on, is_free_under, state_after_turn, can_turn, is_possible, after}
 use Rattle.lot_world.specs.Fits.{IsShaped, PlaceFits}

@@ -5,7 +5,7 @@ use Rattle.lot_base.specs.Lines.{times}
 use Rattle.lot_steps.specs.declared.places.Place.{Place}
 use Rattle.lot_steps.specs.declared.places.Place.TheVariants.{Idle, Mutex as OfMutex}
 use Rattle.abstract_locks.specs.Locks.{Rules}
-use Rattle.abstract_locks.specs.Sites.{Line, Main, Second, Site, IsSite, has_readers, after, Needed}
+use Rattle.abstract_locks.specs.Sites.{Line, Main, Second, Site, IsSite, has_readers, after_deed, Needed}
 use Rattle.abstract_locks.specs.Codes.{code, parked_in, aside_in}
 use Rattle.abstract_locks.specs.Purposes.{rules_of}
 use Rattle.lot_world.specs.Machine.{State, place_at, word_at, filled_at, kind_at, queue_at, section_at}
@@ -28,12 +28,12 @@ site_of w l = record {
 
 abbrev pub after_acts : Rules → List Act → Site → Site
 after_acts r [] s = s
-after_acts r (a ∷ more) s = after_acts r more (after r a.deed s a.by)
+after_acts r (a ∷ more) s = after_acts r more (after_deed r a.deed s a.by)
 
 -- each deed may be done where it is
 abbrev pub AllNeeded : Rules → List Act → Site → Type 0
 AllNeeded r [] s = Unit {0}
-AllNeeded r (a ∷ more) s = Needed r a.deed s a.by × AllNeeded r more (after r a.deed s a.by)
+AllNeeded r (a ∷ more) s = Needed r a.deed s a.by × AllNeeded r more (after_deed r a.deed s a.by)
 
 -- each lock is a site, and its word says so
 pub record AreSites (w : State) : Type 0 where

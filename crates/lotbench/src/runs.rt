@@ -192,7 +192,7 @@ fn work<R: Wait>(rt: &R, mode: Mode, bench: &Bench, ticket: Ticket, shares: &Sha
     done
 }
 
-fn answer_of(mode: Mode, bench: Bench, counts: &[u64]) -> u64 {
+fn total_of(mode: Mode, bench: Bench, counts: &[u64]) -> u64 {
     match mode {
         Mode::RawMutex | Mode::RawMutexTry => counts
             .iter()
@@ -229,7 +229,7 @@ pub(crate) fn carry_out<R: Threads + Wait + Sync + Clock>(
     };
     Ok(Ok(Figures {
         nanos,
-        answer: answer_of(mode, bench, counts.as_slice()),
+        answer: total_of(mode, bench, counts.as_slice()),
         low: counts.iter().copied().min().unwrap_or(0),
         high: counts.iter().copied().max().unwrap_or(0),
     }))

@@ -4,7 +4,7 @@ use Rattle.std.specs.Prelude.{◌==◌}
 use Rattle.std.specs.List.{onto_first}
 use Rattle.lot_text.specs.Lines.{lines_of}
 use Rattle.lot_text.specs.Text.{malformed_line}
-use Rattle.lotsim.specs.Stages.{Stage, nothing, answer_of}
+use Rattle.lotsim.specs.Stages.{Stage, nothing, after_line}
 use Rattle.lotsim.specs.Replay.{IsReplay, LinesWrite, IsBeginning, BeginningsBegin, EarlyTextsBegin, HasOneText}
 
 -- a text that ends in a line feed adds its lines in front
@@ -78,13 +78,13 @@ pub record HasReplay (k : ℕ) (s : Stage) (lines : List (List ℕ)) : Type 0 wh
   status : ℕ
   is : IsReplay k s lines text status
 
-first_replay : (k : ℕ) (s : Stage) (line : List ℕ) (lines : List (List ℕ)) (o : Option (Stage × List ℕ)) → answer_of s line ≡ o → ((n : Stage) → HasReplay (k + 1) n lines) → HasReplay k s (line ∷ lines)
+first_replay : (k : ℕ) (s : Stage) (line : List ℕ) (lines : List (List ℕ)) (o : Option (Stage × List ℕ)) → after_line s line ≡ o → ((n : Stage) → HasReplay (k + 1) n lines) → HasReplay k s (line ∷ lines)
 first_replay k s line lines None e rest = record { text = malformed_line k; status = 2; is = inl (e, refl, refl) }
 first_replay k s line lines (Some a) e rest = let r = rest a.0 in record { text = a.1 ++ r.text; status = r.status; is = inr (a.0, a.1, r.text, e, refl, r.is) }
 
 has_replay : (lines : List (List ℕ)) (k : ℕ) (s : Stage) → HasReplay k s lines
 has_replay [] k s = record { text = []; status = 0; is = (refl, refl) }
-has_replay (line ∷ lines) k s = first_replay k s line lines (answer_of s line) refl (has_replay lines (k + 1))
+has_replay (line ∷ lines) k s = first_replay k s line lines (after_line s line) refl (has_replay lines (k + 1))
 
 pub one_text : HasOneText
 one_text input =

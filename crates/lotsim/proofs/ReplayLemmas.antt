@@ -13,7 +13,7 @@ use Rattle.lot_text.specs.Sent.{Held, Puts, PutsWhere, Sends, SendsFront}
 use Rattle.lot_text.proofs.SentLemmas.{puts_then}
 use Rattle.lotsim.specs.declared.state.Refusal.{Refusal}
 use Rattle.lotsim.specs.declared.state.Refusal.TheVariants.{Malformed, NoMemory}
-use Rattle.lotsim.specs.Stages.{Stage, nothing, obeyed, answer_of}
+use Rattle.lotsim.specs.Stages.{Stage, nothing, obeyed, after_line}
 use Rattle.lotsim.specs.Answers.{AnswersTo, last_line, last_status}
 use Rattle.lotsim.specs.Replay.{MayAnswer, IsMalformed, IsReplay, LinesWrite, IsText, StopsForMemory, MayWrite}
 
@@ -144,7 +144,7 @@ refused_puts (Some x) Malformed old new Wrote h = absurd h
 refused_puts (Some x) NoMemory old new Wrote h = h.1
 
 pub known_refused : (w : Option (Stage × List ℕ)) (refusal : Refusal) (new : Stage) (Wrote : List ℕ → Type 0) (a b c d : Option (List ℕ)) (text : List ℕ) (k : ℕ) (s : Stage) (line : List ℕ)
-    → answer_of s line ≡ w → AnswersTo w (Err refusal) s new Wrote → ReachedKnown a b text k s → TakesLine b c line → MayWrite a d (text ++ last_line refusal k) (last_status refusal)
+    → after_line s line ≡ w → AnswersTo w (Err refusal) s new Wrote → ReachedKnown a b text k s → TakesLine b c line → MayWrite a d (text ++ last_line refusal k) (last_status refusal)
 known_refused None Malformed new Wrote a b c d text k s line e h r q = known_malformed a b c d text k s line r q e
 known_refused None NoMemory new Wrote a b c d text k s line e h r q = absurd h
 known_refused (Some x) Malformed new Wrote a b c d text k s line e h r q = absurd h

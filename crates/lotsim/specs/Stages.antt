@@ -36,7 +36,8 @@ abbrev pub call_named : List (List ℕ) → MutexCall → List ℕ → Option Ca
 call_named names call name = option_map (λ lock. calls.TheVariants.Mutex lock call) (lock_named names name)
 
 abbrev pub action_of : List (List ℕ) → NamedTurn → Option Action
-action_of names (named.TheVariants.Begin call name) = option_map (λ called. actions.TheVariants.Turn (turns.TheVariants.Begin called)) (call_named names call name)
+action_of names (named.TheVariants.Begin call name) =
+    option_map (λ called. actions.TheVariants.Turn (turns.TheVariants.Begin called)) (call_named names call name)
 action_of names named.TheVariants.Go = Some (actions.TheVariants.Turn turns.TheVariants.Go)
 action_of names named.TheVariants.Spin = Some (actions.TheVariants.Turn turns.TheVariants.Spin)
 action_of names named.TheVariants.Late = Some (actions.TheVariants.Turn turns.TheVariants.Late)
@@ -80,7 +81,8 @@ may_declare threads names kind name = nat_lt (length names) 256 && (fits kind th
 
 -- the stage and the text after a line with a meaning, or none where the line may not stand there
 abbrev pub obeyed : Stage → Command → Option (Stage × List ℕ)
-obeyed nothing (command.TheVariants.Threads threads) = if nat_le 1 threads && nat_le threads 1024 then Some (declaring threads [] [], []) else None
+obeyed nothing (command.TheVariants.Threads threads) =
+    if nat_le 1 threads && nat_le threads 1024 then Some (declaring threads [] [], []) else None
 obeyed nothing _ = None
 obeyed (declaring threads names kinds) (command.TheVariants.Lock name kind) =
     if may_declare threads names kind name then Some (declaring threads (names ++ name ∷ []) (kinds ++ kind ∷ []), []) else None
@@ -88,5 +90,5 @@ obeyed (declaring threads names kinds) command = played names (opening kinds thr
 obeyed (running names w) command = played names w command
 
 -- the stage and the text after a line, or none where it is malformed
-abbrev pub answer_of : Stage → List ℕ → Option (Stage × List ℕ)
-answer_of stage line = if nat_le (length line) line_len then option_and_then (obeyed stage) (meaning line) else None
+abbrev pub after_line : Stage → List ℕ → Option (Stage × List ℕ)
+after_line stage line = if nat_le (length line) line_len then option_and_then (obeyed stage) (meaning line) else None

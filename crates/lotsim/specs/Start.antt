@@ -12,4 +12,5 @@ usage_line = codes "usage: lotsim replay | lotsim live\n"
 
 -- the usage went out, or a write failed and a beginning of it went out
 abbrev pub TellsUsage : Option (List ℕ) → Option (List ℕ) → ℕ → Type 0
-TellsUsage before after status = ((status ≡ 2) × Appends before after usage_line) ⊎ ((status ≡ 4) × SendsFront before after usage_line)
+TellsUsage before after status = ((status ≡ 2) × Appends before after usage_line)
+    ⊎ ((status ≡ 4) × SendsFront before after usage_line)

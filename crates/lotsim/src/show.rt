@@ -67,7 +67,8 @@ fn print_waiters<W: Write>(
 )
     requires { lock < MOST_LOCKS }
     ensures { (main aside : List Waiter) → queue.entry ≡ main ++ aside
-        → StandUnder (2 * lock) main → StandUnder (2 * lock + 1) aside → Puts (W.contents writer.old) (W.contents writer.new) page.old page.new (waiters_text main aside) }
+        → StandUnder (2 * lock) main → StandUnder (2 * lock + 1) aside
+        → Puts (W.contents writer.old) (W.contents writer.new) page.old page.new (waiters_text main aside) }
 {
     let mut main_mark = b" queue=".as_slice();
     let mut aside_mark = b" aside=".as_slice();
@@ -88,7 +89,8 @@ fn print_waiters<W: Write>(
 /// Prints who owes a wake on a lock, and who tries it again.
 fn print_debtors<W: Write>(page: &mut Page, writer: &mut W, debts: Debts<'_>)
     ensures { (owing retrying : List (Debt × ℕ)) → debts.entry ≡ owing ++ retrying
-        → All (λ d. d.0 ≡ Debt.Owes) owing → All (λ d. d.0 ≡ Debt.Retries) retrying → Puts (W.contents writer.old) (W.contents writer.new) page.old page.new (debtors_text owing retrying) }
+        → All (λ d. d.0 ≡ Debt.Owes) owing → All (λ d. d.0 ≡ Debt.Retries) retrying
+        → Puts (W.contents writer.old) (W.contents writer.new) page.old page.new (debtors_text owing retrying) }
 {
     let mut owe_mark = b" owe=".as_slice();
     let mut retry_mark = b" retry=".as_slice();

@@ -22,10 +22,13 @@ pub fn start<R: BufRead, W: Write, E: Write>(
 ) -> u8
     ensures replay { texts_of args.now ≡ codes "replay" ∷ [] → Replays (R.remaining reader.old) (R.remaining reader.new)
         (W.contents writer.old) (W.contents writer.new) result }
-    ensures replay_tells_no_error { texts_of args.now ≡ codes "replay" ∷ [] → Keeps (E.contents errors.old) (E.contents errors.new) }
+    ensures replay_tells_no_error { texts_of args.now ≡ codes "replay" ∷ []
+        → Keeps (E.contents errors.old) (E.contents errors.new) }
     ensures usage { texts_of args.now ≢ codes "replay" ∷ [] → TellsUsage (E.contents errors.old) (E.contents errors.new) result }
-    ensures usage_reads_nothing { texts_of args.now ≢ codes "replay" ∷ [] → Keeps (R.remaining reader.old) (R.remaining reader.new) }
-    ensures usage_writes_nothing { texts_of args.now ≢ codes "replay" ∷ [] → Keeps (W.contents writer.old) (W.contents writer.new) }
+    ensures usage_reads_nothing { texts_of args.now ≢ codes "replay" ∷ []
+        → Keeps (R.remaining reader.old) (R.remaining reader.new) }
+    ensures usage_writes_nothing { texts_of args.now ≢ codes "replay" ∷ []
+        → Keeps (W.contents writer.old) (W.contents writer.new) }
 {
     if is_job(args, "replay") {
         return replay(alloc, reader, writer);

@@ -3,7 +3,7 @@ ghost use Rattle.std.specs.Prelude.{◌≡◌, ◌≤◌, [], Some, IfSome, IfNo
 ghost use Rattle.lot_world.specs.declared.world.TheConstants.{MOST_THREADS, MOST_LOCKS};
 ghost use Rattle.lot_text.specs.Lines.{line_len};
 ghost use Rattle.lot_text.specs.Sent.{Puts};
-ghost use Rattle.lotsim.specs.Stages.{nothing, declaring, running, acted, played, obeyed, answer_of};
+ghost use Rattle.lotsim.specs.Stages.{nothing, declaring, running, acted, played, obeyed, after_line};
 ghost use Rattle.lotsim.specs.Sessions.{session_stage, session_world, stage_of};
 ghost use Rattle.lotsim.specs.Answers.{AnswersTo};
 
@@ -44,7 +44,7 @@ impl State {
         line: &[u8],
     ) -> Result<(), Refusal>
         requires { length line.now ≤ line_len }
-        ensures { AnswersTo (answer_of (stage_of self.old.session) line.now) result
+        ensures { AnswersTo (after_line (stage_of self.old.session) line.now) result
             (stage_of self.old.session) (stage_of self.new.session)
             (Puts (W.contents writer.old) (W.contents writer.new) page.old page.new) }
     {
@@ -128,7 +128,8 @@ impl Session {
 
     /// Makes the world, where it isn't there yet. It stays away where memory is refused.
     fn make_world(&mut self, alloc: Global)
-        ensures made { IfSome self.new.world (λ w. session_stage self.new ≡ running self.old.names.items (session_world self.old)) }
+        ensures made { IfSome self.new.world
+            (λ w. session_stage self.new ≡ running self.old.names.items (session_world self.old)) }
         ensures refused { IfNone self.new.world (session_stage self.new ≡ session_stage self.old) }
     {
         if self.world.is_none() {

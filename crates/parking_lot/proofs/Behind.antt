@@ -20,11 +20,11 @@ use Rattle.lot_steps.specs.declared.mutex.unlock.UnlockAt as unlock
 use Rattle.lot_steps.specs.declared.places.Place.{Place}
 use Rattle.lot_steps.specs.declared.places.Place.TheVariants.{Mutex}
 use Rattle.lot_words.specs.declared.owners.Ownership.{Ownership}
-use Rattle.lot_words.specs.Places.{place}
+use Rattle.lot_words.specs.Indices.{word_index}
 use Rattle.lot_words.specs.declared.views.WordStep.{WordStep}
 use Rattle.lot_words.specs.declared.words.Word.{Word}
 use Rattle.lot_words.specs.declared.words.WordKind as kinds
-use Rattle.parking_lot_core.specs.declared.tokens.Record.{Record}
+use Rattle.parking_lot_core.specs.declared.tokens.SectionRecord.{SectionRecord}
 use Rattle.parking_lot.specs.Calls.{beginning, first_op, purpose_in, saw_waiter, GoesOn, Releases, TookIfParked}
 use Rattle.parking_lot.specs.Fitting.{of_mutex, aim_of, AreWordsFor, Fits, IsOver}
 use Rattle.parking_lot.specs.MutexFitting.{enters, IsMutexOver, Outside, TookAt, held, beside}
@@ -65,7 +65,7 @@ module _ (n : ℕ) where
   goes_to call.UnlockFair seen owns g = ap (λ (b : Bool). mutex_goes n (looked false (not b))) (ne_eqb seen 1 g.0)
   goes_to call.Bump seen owns g = ap (λ (b : Bool). mutex_goes n (looked true b)) g.0
 
-  fits_there : (up : Type 0) (c : MutexCall) (seen : ℕ) (owns : List Ownership) (last : Option Record) → GoesOn n c seen owns → Fits up owns (Mutex n (rest c)) (stage owns None last)
+  fits_there : (up : Type 0) (c : MutexCall) (seen : ℕ) (owns : List Ownership) (last : Option SectionRecord) → GoesOn n c seen owns → Fits up owns (Mutex n (rest c)) (stage owns None last)
   fits_there up call.Lock seen owns last g = (refl, refl)
   fits_there up call.LockTimed seen owns last g = (refl, refl)
   fits_there up call.TryLock seen owns last g = absurd g
@@ -110,10 +110,10 @@ module _ (n : ℕ) where
       by_bit false e = ap (λ (b : Bool). mutex_does n (if b then next.TheVariants.End No else next.TheVariants.End Yes)) e
 
   -- a release that saw a waiter took it
-  pub releases_behind : (c : MutexCall) (seen : ℕ) (old mid new : List WordStep) (last : Option Record) → saw_waiter c seen ≡ true → mid ≡ old ++ step (mutex_at n) (first_op c) seen → (more : List WordStep) × (new ≡ mid ++ more) → TookAt n last → Releases n c old new last
+  pub releases_behind : (c : MutexCall) (seen : ℕ) (old mid new : List WordStep) (last : Option SectionRecord) → saw_waiter c seen ≡ true → mid ≡ old ++ step (mutex_at n) (first_op c) seen → (more : List WordStep) × (new ≡ mid ++ more) → TookAt n last → Releases n c old new last
   releases_behind c seen old mid new last waits saw rest took = (seen, rest.0, rest.1 ∙ ap (λ (l : List WordStep). l ++ rest.0) saw, subst (λ (b : Bool). TookIfParked n b rest.0 last) (sym waits) took)
 
-  pub fits_behind : (up : Type 0) (c : MutexCall) (seen : ℕ) (owns : List Ownership) (last : Option Record) → GoesOn n c seen owns → Fits up owns (next_place (beginning n c) (Value seen)) (stage owns None last)
+  pub fits_behind : (up : Type 0) (c : MutexCall) (seen : ℕ) (owns : List Ownership) (last : Option SectionRecord) → GoesOn n c seen owns → Fits up owns (next_place (beginning n c) (Value seen)) (stage owns None last)
   fits_behind up c seen owns last g = subst (λ (p : Place). Fits up owns p (stage owns None last)) (sym (goes_to c seen owns g)) (fits_there up c seen owns last g)
 
   pub over_behind : (up : Type 0) (c : MutexCall) (seen : ℕ) (owns : List Ownership) (answer : Answer) (new : Stage) → GoesOn n c seen owns → IsOver up owns (aim_of (next_place (beginning n c) (Value seen))) answer new → IsMutexOver up n owns (purpose_in c) answer new
@@ -132,7 +132,7 @@ module _ (word : Word) (is : word.kind ≡ kinds.TheVariants.Mutex) where
   alone_kinds = ap {B = ℕ → kinds.WordKind} (λ (kind : kinds.WordKind) (lock : ℕ). kind) is
 
   pub alone_at : at_in (alone word) ≡ at_mutex word.number
-  alone_at = ap {B = ℕ → ℕ} (λ (kind : kinds.WordKind) (lock : ℕ). place word.number kind) is
+  alone_at = ap {B = ℕ → ℕ} (λ (kind : kinds.WordKind) (lock : ℕ). word_index word.number kind) is
 
   -- the word of a mutex serves its call
   pub words_behind : (c : MutexCall) (seen : ℕ) → word.number < 9223372036854775808 → AreWordsFor (next_place (beginning word.number c) (Value seen)) (kind_in (alone word)) (at_in (alone word))

@@ -1,9 +1,8 @@
 -- The acts of an owner that saw a waiter, and where they lead.
-use Rattle.std.proofs.Common.{ℕ, ◌≡◌, ◌<◌, ◌*◌, ◌%◌, Bool, true, false, not, ◌==◌, List, [], ◌∷◌, Option, Some, None, sym, refl, ap, ◌∙◌, subst, arith, eq-eqb}
+use Rattle.std.proofs.Common.{ℕ, ◌≡◌, ◌<◌, ◌*◌, ◌%◌, Bool, true, false, List, [], Option, Some, None, sym, refl, ap, ◌∙◌, subst, arith}
 use Rattle.lot_base.specs.declared.keys.Keys.TheVariants.{One}
 use Rattle.lot_base.specs.declared.notes.Note as note
 use Rattle.lot_base.specs.declared.ops.Op.TheVariants.{Store}
-use Rattle.lot_steps.specs.Acts.{wakes_taken}
 use Rattle.lot_steps.specs.MutexSteps.{hand_off_act, hand_off_word}
 use Rattle.lot_steps.specs.declared.acts.Reply.{Reply}
 use Rattle.lot_steps.specs.declared.acts.Reply.TheVariants.{Done, Value, Took}
@@ -23,7 +22,7 @@ use Rattle.parking_lot_core.specs.declared.tokens.Did.TheVariants.{TakeFirst}
 use Rattle.parking_lot.specs.Fitting.{Reached, sleeper_at}
 use Rattle.parking_lot.specs.MutexFitting.{FitsHandOff, held}
 use Rattle.parking_lot.specs.Paths.{mutex_at, mutexes, at_mutex}
-use Rattle.parking_lot.specs.Stages.{Stage, Inside, Needs, Became, HasKey, HasOneTaken, IsFresh, MayLeave, IsLeft, note_of, is_there, listed, took, all_given}
+use Rattle.parking_lot.specs.Stages.{Stage, Inside, Needs, Became, HasKey, HasOneTaken, IsFresh, MayLeave, IsLeft, is_there, listed, took_as, all_given}
 
 -- an owner finds the word locked
 pub finds_locked : (n seen : ℕ) (owns : List Ownership) → has (held n) owns ≡ true → CodesWith kinds.TheVariants.Mutex (mutex_at n) seen owns → seen % 2 ≡ 1
@@ -74,8 +73,8 @@ module _ (n : ℕ) (base : List Ownership) (st : Stage) where
 
     pub hand_off_leads : (at : HandOffAt) → FitsHandOff n base at st → (reply : Reply) → Became up mutexes (at_mutex n) (sleeper_at (Mutex n (HandOff bumps at))) st (hand_off_act n at) reply new → Reached up base (Mutex n (HandOff bumps at)) reply new
     hand_off_leads at.Enter f Done b = ((f.0, (owns_of _ b ∙ f.1.0, inside_of _ b)), refl)
-    hand_off_leads at.Take f (Took true left) b = ((f.0, (b.0, b.1, (owns_of _ b.2 ∙ f.1.0, inside_of _ b.2 ∙ ap (took (2 * n) b.0) f.1.1))), refl)
-    hand_off_leads at.Take f (Took false left) b = ((f.0, (b.0, b.1, (owns_of _ b.2 ∙ f.1.0, inside_of _ b.2 ∙ ap (took (2 * n) b.0) f.1.1))), refl)
+    hand_off_leads at.Take f (Took true left) b = ((f.0, (b.0.0, b.0.1, (b.1 ∙ f.1.0, b.0.2 ∙ ap (took_as (TakeFirst (2 * n)) (listed b.0.0)) f.1.1))), refl)
+    hand_off_leads at.Take f (Took false left) b = ((f.0, (b.0.0, b.0.1, (b.1 ∙ f.1.0, b.0.2 ∙ ap (took_as (TakeFirst (2 * n)) (listed b.0.0)) f.1.1))), refl)
     hand_off_leads (at.Store false left) f (Value seen) b = let odd = finds_locked n seen st.owns (there_now f.0 f.1.2.0) b.0 in
         ((f.1.0, f.1.1, (owns_of _ b.1 ∙ freed n seen b.0.1.0 odd st.owns ∙ ap (without (held n)) f.1.2.0, inside_of _ b.1 ∙ f.1.2.1 ∙ none_listed f.1.0 f.1.1)), refl)
       where
@@ -89,4 +88,5 @@ module _ (n : ℕ) (base : List Ownership) (st : Stage) where
         left_by : (bumps : Bool) → Reached up base (Mutex n (HandOff bumps (at.Leave any))) Done new
         left_by true = ((b.0 ∙ f.2.0, b.1), refl)
         left_by false = (refl, (b.0 ∙ f.2.0, b.1), subst (λ (i : Option Inside). IsLeft i new.last) f.2.1 b.2)
+    hand_off_leads at.Take f reply b = absurd b.0
     hand_off_leads at f reply b = absurd b

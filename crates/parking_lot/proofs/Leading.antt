@@ -5,7 +5,7 @@ use Rattle.lot_base.specs.declared.keys.Keys.TheVariants.{One}
 use Rattle.lot_base.specs.declared.notes.Note.TheVariants.{Normal, HandOff}
 use Rattle.lot_base.specs.declared.ops.Op.{Op}
 use Rattle.lot_base.specs.declared.ops.Op.TheVariants.{Load, And, Exchange}
-use Rattle.lot_steps.specs.MutexSteps.{mutex_act, lock_act, unlock_act, hand_off_act, decided}
+use Rattle.lot_steps.specs.MutexSteps.{mutex_act, lock_act, unlock_act, decided}
 use Rattle.lot_steps.specs.Steps.{late_key}
 use Rattle.lot_steps.specs.declared.acts.Act.{Act}
 use Rattle.lot_steps.specs.declared.acts.Act as act
@@ -27,11 +27,12 @@ use Rattle.lot_words.specs.declared.owners.Ownership.{Ownership}
 use Rattle.lot_words.specs.declared.words.WordKind.{WordKind}
 use Rattle.lot_words.specs.declared.words.WordKind as kinds
 use Rattle.lot_words.proofs.MutexSteps.{mutex_steps, each_code}
+use Rattle.parking_lot_core.specs.declared.tokens.Did.TheVariants.{TakeFirst}
 use Rattle.parking_lot.specs.Fitting.{PlacesLead, Spins, Reached, sleeper_at}
 use Rattle.parking_lot.specs.MutexFitting.{GaveUp, FitsLock, FitsUnlock, FitsMutex, Within, Outside, beside, held}
 use Rattle.parking_lot.specs.Paths.{mutex_at, mutexes, at_mutex}
 use Rattle.parking_lot.specs.declared.acting.Sleeper.{Sleeper}
-use Rattle.parking_lot.specs.Stages.{Stage, Inside, Needs, Became, HasKey, IsFresh, MayLeave, IsLeft, took, entered_now, stage, stepped}
+use Rattle.parking_lot.specs.Stages.{Stage, Inside, Needs, Became, HasKey, IsFresh, MayLeave, IsLeft, took_as, listed, entered_now, stage, stepped}
 use Rattle.parking_lot.proofs.HandingOver.{hand_off_needs, hand_off_leads}
 
 -- a reply to an operation on the word, which saw one of the four codes
@@ -181,11 +182,12 @@ module _ (up : Type 0) (n : ℕ) (base : List Ownership) (st : Stage) where
     unlock_leads : (at : UnlockAt) → FitsUnlock n base at st → (reply : Reply) → Became up mutexes (at_mutex n) (sleeper_at (Mutex n (at_mutex_place.Unlock at))) st (unlock_act n at) reply new → Reached up base (Mutex n (at_mutex_place.Unlock at)) reply new
     unlock_leads unlock.TheVariants.Subtract f reply b = absurd f
     unlock_leads unlock.TheVariants.Enter f Done b = ((owns_of _ b ∙ f.0, inside_of _ b), refl)
-    unlock_leads unlock.TheVariants.Take f (Took any true) b = ((b.0, b.1, (owns_of _ b.2 ∙ f.0, inside_of _ b.2 ∙ ap (took (2 * n) b.0) f.1)), refl)
-    unlock_leads unlock.TheVariants.Take f (Took any false) b = ((b.0, b.1, (owns_of _ b.2 ∙ f.0, inside_of _ b.2 ∙ ap (took (2 * n) b.0) f.1)), refl)
+    unlock_leads unlock.TheVariants.Take f (Took any true) b = ((b.0.0, b.0.1, (b.1 ∙ f.0, b.0.2 ∙ ap (took_as (TakeFirst (2 * n)) (listed b.0.0)) f.1)), refl)
+    unlock_leads unlock.TheVariants.Take f (Took any false) b = ((b.0.0, b.0.1, (b.1 ∙ f.0, b.0.2 ∙ ap (took_as (TakeFirst (2 * n)) (listed b.0.0)) f.1)), refl)
     unlock_leads (unlock.TheVariants.Clear any) f (Value seen) b = each_code (λ s. new ≡ stepped kinds.TheVariants.Mutex (mutex_at n) (And 18446744073709551613) s st → Reached up base (Mutex n (at_mutex_place.Unlock (unlock.TheVariants.Clear any))) (Value s) new)
         (λ x. ((f.0, f.1, stays base _ _ x refl refl f.2), refl)) (λ x. ((f.0, f.1, stays base _ _ x refl refl f.2), refl)) (λ x. ((f.0, f.1, stays base _ _ x refl refl f.2), refl)) (λ x. ((f.0, f.1, stays base _ _ x refl refl f.2), refl)) seen b.0.1.0 b.1
     unlock_leads (unlock.TheVariants.Leave any) f Done b = (refl, (b.0 ∙ f.2.0, b.1), subst (λ (i : Option Inside). IsLeft i new.last) f.2.1 b.2)
+    unlock_leads unlock.TheVariants.Take f reply b = absurd b.0
     unlock_leads at f reply b = absurd b
 
     leads : (at : MutexPlace) → FitsMutex up n base at st → (reply : Reply) → Became up mutexes (at_mutex n) (sleeper_at (Mutex n at)) st (mutex_act n at) reply new → Reached up base (Mutex n at) reply new

@@ -1,5 +1,5 @@
 -- One turn of the driver: the steps that it added bring the reply, and that leads on.
-use Rattle.std.proofs.Common.{ℕ, ◌≡◌, ◌<◌, Bool, true, List, [], ◌++◌, Option, None, refl, sym, ap, ◌∙◌, subst}
+use Rattle.std.proofs.Common.{ℕ, ◌≡◌, Bool, true, List, [], ◌++◌, Option, None, refl, sym, ap, ◌∙◌, subst}
 use Rattle.std.proofs.lemmas.List.{append-nil}
 use Rattle.lot_base.specs.declared.ops.Op.{Op}
 use Rattle.lot_base.specs.declared.ops.Op.TheVariants.{Load}
@@ -12,10 +12,10 @@ use Rattle.lot_steps.specs.declared.acts.Act.{Act}
 use Rattle.lot_steps.specs.declared.acts.Act as act
 use Rattle.lot_steps.specs.declared.acts.Whom as whom
 use Rattle.lot_steps.specs.declared.acts.Reply.{Reply}
-use Rattle.lot_steps.specs.declared.acts.Reply.TheVariants.{Done, Value, Parked, Took, Removed, Late, Woken}
+use Rattle.lot_steps.specs.declared.acts.Reply.TheVariants.{Done, Value, Parked, Took, Picked, Requeued, Removed, Late, Woken}
 use Rattle.lot_steps.specs.declared.places.Place.{Place}
 use Rattle.lot_steps.specs.declared.places.Place.TheVariants.{Idle, Mutex}
-use Rattle.lot_words.specs.Places.{place}
+use Rattle.lot_words.specs.Indices.{word_index}
 use Rattle.lot_words.specs.Steps.{CodesWith, after_step, owns_after_step}
 use Rattle.lot_words.specs.declared.views.View.{View}
 use Rattle.lot_words.specs.declared.views.WordStep.{WordStep}
@@ -23,7 +23,7 @@ use Rattle.lot_words.specs.declared.words.Word.{Word}
 use Rattle.lot_words.specs.declared.words.WordKind.{WordKind}
 use Rattle.parking_lot_core.specs.Tokens.{view_of, last_of}
 use Rattle.parking_lot_core.specs.declared.sections.Section.{Section}
-use Rattle.parking_lot_core.specs.declared.tokens.Record.{Record}
+use Rattle.parking_lot_core.specs.declared.tokens.SectionRecord.{SectionRecord}
 use Rattle.parking_lot_core.specs.declared.tokens.Token.{Token}
 use Rattle.parking_lot.specs.Fitting.{AreWordsFor}
 use Rattle.parking_lot.specs.Paths.{Tells, step, word, hands, parks, other, is_wordless, is_valueless}
@@ -42,7 +42,12 @@ told up at kinds sleeper p (act.TheVariants.Word l op) is st new (Value seen) be
 told up at kinds sleeper p (act.TheVariants.HandOver l op) is st new (Value seen) before behind b e = (step (at l) op seen, e, hands p l op seen is)
 told up at kinds sleeper p (act.TheVariants.Park l key check want) is st new (Parked parked) before behind b e = (step (at l) Load e.0, e.2, subst (λ (x : Bool). Tells at p (step (at l) Load e.0) (Parked x)) (sym e.1) (parks p l key check want e.0 is))
 told up at kinds sleeper p (act.TheVariants.Enter keys) is st new Done before behind b e = wordless at p (act.TheVariants.Enter keys) Done before behind is refl refl e
-told up at kinds sleeper p (act.TheVariants.Take key whom.TheVariants.First) is st new (Took first left) before behind b e = wordless at p (act.TheVariants.Take key whom.TheVariants.First) (Took first left) before behind is refl refl e
+told up at kinds sleeper p (act.TheVariants.Stand key want) is st new Done before behind b e = wordless at p (act.TheVariants.Stand key want) Done before behind is refl refl e
+told up at kinds sleeper p (act.TheVariants.Take key whom.TheVariants.First) is st new (Took any left) before behind b e = wordless at p (act.TheVariants.Take key whom.TheVariants.First) (Took any left) before behind is refl refl e
+told up at kinds sleeper p (act.TheVariants.Take key whom.TheVariants.All) is st new (Took any left) before behind b e = wordless at p (act.TheVariants.Take key whom.TheVariants.All) (Took any left) before behind is refl refl e
+told up at kinds sleeper p (act.TheVariants.Take key (whom.TheVariants.Picked start recursive)) is st new (Picked sharers successor left) before behind b e = wordless at p (act.TheVariants.Take key (whom.TheVariants.Picked start recursive)) (Picked sharers successor left) before behind is refl refl e
+told up at kinds sleeper p (act.TheVariants.Take key who) is st new reply before behind b e = absurd b.0
+told up at kinds sleeper p (act.TheVariants.Requeue from to how) is st new (Requeued number left) before behind b e = wordless at p (act.TheVariants.Requeue from to how) (Requeued number left) before behind is refl refl e
 told up at kinds sleeper p (act.TheVariants.Remove key) is st new (Removed left) before behind b e = wordless at p (act.TheVariants.Remove key) (Removed left) before behind is refl refl e
 told up at kinds sleeper p (act.TheVariants.Leave keys wakes) is st new Done before behind b e = wordless at p (act.TheVariants.Leave keys wakes) Done before behind is refl refl e
 told up at kinds sleeper p act.TheVariants.Sleep is st new (Woken note) before behind b e = wordless at p act.TheVariants.Sleep (Woken note) before behind is refl refl e
@@ -64,6 +69,6 @@ has_keys (Mutex l at) kinds places w = w.0
 has_keys Idle kinds at w = tt
 
 -- a step on a word, as the stage has it
-pub by_stage : (w : Word) (op : Op) (seen : ℕ) (old : Token) (section : Option Section) (new : Token) → view_of new ≡ after_step w.kind (place w.number w.kind) op seen (view_of old) → last_of new ≡ None → CodesWith w.kind (place w.number w.kind) seen (view_of old).owns
-    → Stepped w.kind (place w.number w.kind) op seen (stage_of old section) (stage_of new section)
-by_stage w op seen old section new e last code = (code, ap (λ (v : View). stage v.owns (inside_of section) (last_of new)) e ∙ ap (λ (l : Option Record). stage (owns_after_step w.kind (place w.number w.kind) op seen (view_of old).owns) (inside_of section) l) last)
+pub by_stage : (w : Word) (op : Op) (seen : ℕ) (old : Token) (section : Option Section) (new : Token) → view_of new ≡ after_step w.kind (word_index w.number w.kind) op seen (view_of old) → last_of new ≡ None → CodesWith w.kind (word_index w.number w.kind) seen (view_of old).owns
+    → Stepped w.kind (word_index w.number w.kind) op seen (stage_of old section) (stage_of new section)
+by_stage w op seen old section new e last code = (code, ap (λ (v : View). stage v.owns (inside_of section) (last_of new)) e ∙ ap (λ (l : Option SectionRecord). stage (owns_after_step w.kind (word_index w.number w.kind) op seen (view_of old).owns) (inside_of section) l) last)

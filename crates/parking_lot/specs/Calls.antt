@@ -11,7 +11,7 @@ use Rattle.lot_steps.specs.declared.places.Place.TheVariants.{Mutex}
 use Rattle.lot_words.specs.Steps.{has}
 use Rattle.lot_words.specs.declared.owners.Ownership.{Ownership}
 use Rattle.lot_words.specs.declared.views.WordStep.{WordStep}
-use Rattle.parking_lot_core.specs.declared.tokens.Record.{Record}
+use Rattle.parking_lot_core.specs.declared.tokens.SectionRecord.{SectionRecord}
 use Rattle.parking_lot.specs.MutexFitting.{Purpose, enters, releases, hands_over, TookAt, held}
 use Rattle.parking_lot.specs.Paths.{step, mutex_at}
 
@@ -46,7 +46,7 @@ GoesOn n call.UnlockFair seen owns = (seen ≢ 1) × (has (held n) owns ≡ true
 GoesOn n call.Bump seen owns = (is_parked seen ≡ true) × (has (held n) owns ≡ true)
 
 -- who saw a waiter left the section in which it took the first of the queue; who saw none took no further step
-abbrev pub TookIfParked : ℕ → Bool → List WordStep → Option Record → Type 0
+abbrev pub TookIfParked : ℕ → Bool → List WordStep → Option SectionRecord → Type 0
 TookIfParked n true more last = TookAt n last
 TookIfParked n false more last = (more ≡ []) × (last ≡ None)
 
@@ -56,7 +56,7 @@ saw_waiter call.UnlockFair seen = not (seen == 1)
 saw_waiter _ seen = is_parked seen
 
 -- a release took a waiter by what its first operation saw
-abbrev pub Releases : ℕ → MutexCall → List WordStep → List WordStep → Option Record → Type 0
+abbrev pub Releases : ℕ → MutexCall → List WordStep → List WordStep → Option SectionRecord → Type 0
 Releases n c old new last = (seen : ℕ) × (more : List WordStep) × (new ≡ (old ++ step (mutex_at n) (first_op c) seen) ++ more) × TookIfParked n (saw_waiter c seen) more last
 
 -- the word was loaded once, and told that the mutex is locked or not

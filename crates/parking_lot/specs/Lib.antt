@@ -1,4 +1,5 @@
 pub mod Words
+pub mod Takes
 pub mod Paths
 pub mod Driving
 pub mod Stages

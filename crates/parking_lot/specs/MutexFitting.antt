@@ -19,7 +19,7 @@ use Rattle.lot_words.specs.Views.{owning}
 use Rattle.lot_words.specs.declared.owners.Owner.TheVariants.{Exclusive}
 use Rattle.lot_words.specs.declared.owners.Ownership.{Ownership}
 use Rattle.parking_lot_core.specs.declared.tokens.Did.TheVariants.{TakeFirst}
-use Rattle.parking_lot_core.specs.declared.tokens.Record.{Record}
+use Rattle.parking_lot_core.specs.declared.tokens.SectionRecord.{SectionRecord}
 use Rattle.parking_lot.specs.Paths.{mutex_at}
 use Rattle.parking_lot.specs.Stages.{Stage, entered_now, is_there, listed}
 
@@ -67,7 +67,7 @@ abbrev pub HasTook : ℕ → Bool → List Ownership → Stage → Type 0
 HasTook n any owns st = (first : Option ℕ) × (any ≡ is_there first) × Took n first (listed first) owns st
 
 -- the section that was left last is one of this key, where the first of the queue was taken
-abbrev pub TookAt : ℕ → Option Record → Type 0
+abbrev pub TookAt : ℕ → Option SectionRecord → Type 0
 TookAt n last = (number : ℕ) × (last ≡ Some (record { key = 2 * n; did = TakeFirst (2 * n); number = number }))
 
 -- a release, behind its subtraction

@@ -3,7 +3,7 @@ use Rattle.std.specs.Prelude.{ℕ, ◌≡◌, Bool, true, false, Some, List, [],
 use Rattle.lot_base.specs.declared.ops.Op.{Op}
 use Rattle.lot_base.specs.declared.ops.Op.TheVariants.{Load}
 use Rattle.lot_base.specs.declared.wants.Want.{Want}
-use Rattle.lot_words.specs.Places.{place}
+use Rattle.lot_words.specs.Indices.{word_index}
 use Rattle.lot_words.specs.declared.views.WordStep.{WordStep}
 use Rattle.lot_words.specs.declared.words.WordKind as kinds
 use Rattle.lot_steps.specs.Acts.{holds}
@@ -18,7 +18,7 @@ use Rattle.lot_steps.specs.declared.places.Place.{Place}
 
 -- where the word of a mutex stands
 abbrev pub mutex_at : ℕ → ℕ
-mutex_at number = place number kinds.TheVariants.Mutex
+mutex_at number = word_index number kinds.TheVariants.Mutex
 
 -- a call of a mutex steps on no other word
 abbrev pub mutexes : ℕ → kinds.WordKind

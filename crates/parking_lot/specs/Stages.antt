@@ -1,5 +1,6 @@
 -- What a thread has between two acts of a call, and what each act needs and changes, whatever the lock is.
-use Rattle.std.specs.Prelude.{ℕ, ◌≡◌, ◌++◌, List, [], ◌∷◌, Option, Some, None, Bool, true, false}
+use Rattle.std.specs.Prelude.{ℕ, ◌≡◌, ◌≢◌, ◌≤◌, ◌==◌, not, length, ◌++◌, List, [], ◌∷◌, Option, Some, None, Bool, true, false}
+use Rattle.lot_base.specs.Lines.{threads_of}
 use Rattle.lot_base.specs.declared.keys.Keys.{Keys}
 use Rattle.lot_base.specs.declared.keys.Keys.TheVariants.{One}
 use Rattle.lot_base.specs.declared.notes.Note.{Note}
@@ -7,6 +8,7 @@ use Rattle.lot_base.specs.declared.notes.Note.TheVariants.{Normal, HandOff}
 use Rattle.lot_base.specs.declared.ops.Op.{Op}
 use Rattle.lot_base.specs.declared.ops.Op.TheVariants.{Load}
 use Rattle.lot_base.specs.declared.wants.Waiter.{Waiter}
+use Rattle.lot_base.specs.declared.wants.Want.{Want}
 use Rattle.lot_words.specs.Rights.{MayHand}
 use Rattle.lot_words.specs.Views.{owning}
 use Rattle.lot_words.specs.Steps.{MayStep, CodesWith, owns_after_step, has, without}
@@ -19,20 +21,24 @@ use Rattle.lot_steps.specs.Acts.{holds}
 use Rattle.lot_steps.specs.declared.acts.Act.{Act}
 use Rattle.lot_steps.specs.declared.acts.Act as act
 use Rattle.lot_steps.specs.declared.acts.Reply.{Reply}
-use Rattle.lot_steps.specs.declared.acts.Reply.TheVariants.{Done, Value, Parked, Took, Removed, Late, Woken}
+use Rattle.lot_steps.specs.declared.acts.Reply.TheVariants.{Done, Value, Parked, Took, Picked, Requeued, Removed, Late, Woken}
 use Rattle.lot_steps.specs.declared.acts.Wakes.{Wakes}
 use Rattle.lot_steps.specs.declared.acts.Wakes as wakes
+use Rattle.lot_steps.specs.declared.acts.Whom.{Whom}
 use Rattle.lot_steps.specs.declared.acts.Whom as whom
 use Rattle.parking_lot_core.specs.Keys.{AreKeys, IsKeyOf, first_key}
-use Rattle.parking_lot_core.specs.Sections.{waiting_in, taken_in, rightless_in, MayNote}
+use Rattle.parking_lot_core.specs.Sections.{waiting_in, taken_in, wants_in, rightless_in, MayNote}
 use Rattle.parking_lot_core.specs.Tokens.{view_of, last_of}
 use Rattle.parking_lot_core.specs.declared.lot.ParkingLot.{ParkingLot}
 use Rattle.parking_lot_core.specs.declared.sections.Section.{Section}
 use Rattle.parking_lot_core.specs.declared.tokens.Did.{Did}
+use Rattle.parking_lot_core.specs.declared.tokens.Did as did
 use Rattle.parking_lot_core.specs.declared.tokens.Did.TheVariants.{Nothing, TakeFirst}
-use Rattle.parking_lot_core.specs.declared.tokens.Record.{Record}
+use Rattle.parking_lot_core.specs.declared.tokens.SectionRecord.{SectionRecord}
 use Rattle.parking_lot_core.specs.declared.tokens.Token.{Token}
+use Rattle.lot_queues.specs.Wants.{wants_of}
 use Rattle.parking_lot.specs.Paths.{step}
+use Rattle.parking_lot.specs.Takes.{sharers_in, successor_in}
 use Rattle.parking_lot.specs.declared.acting.Sleeper.{Sleeper}
 
 -- a section that a thread is inside: what it did there, whom it took, and which of them have no right yet
@@ -45,9 +51,9 @@ pub record Inside : Type 0 where
 pub record Stage : Type 0 where
   pub owns : List Ownership
   pub inside : Option Inside
-  pub last : Option Record
+  pub last : Option SectionRecord
 
-abbrev pub stage : List Ownership → Option Inside → Option Record → Stage
+abbrev pub stage : List Ownership → Option Inside → Option SectionRecord → Stage
 stage owns inside last = record { owns = owns; inside = inside; last = last }
 
 abbrev pub inside_of : Option Section → Option Inside
@@ -58,6 +64,11 @@ inside_of (Some section) = Some (record { keys = section.keys; did = section.did
 abbrev pub waiting_of : Option Section → List Waiter
 waiting_of None = []
 waiting_of (Some section) = waiting_in section
+
+-- what those want whom it took
+abbrev pub wants_taken : Option Section → List Want
+wants_taken None = []
+wants_taken (Some section) = wants_in section
 
 abbrev pub stage_of : Token → Option Section → Stage
 stage_of token section = stage (view_of token).owns (inside_of section) (last_of token)
@@ -75,10 +86,10 @@ abbrev pub listed : Option ℕ → List ℕ
 listed None = []
 listed (Some thread) = thread ∷ []
 
--- the first of a queue was taken, if it had one
-abbrev pub took : ℕ → Option ℕ → Option Inside → Option Inside
-took key first None = None
-took key first (Some inside) = Some (record { keys = inside.keys; did = TakeFirst key; taken = listed first; rightless = listed first })
+-- these were taken, and have no right yet
+abbrev pub took_as : Did → List ℕ → Option Inside → Option Inside
+took_as did threads None = None
+took_as did threads (Some inside) = Some (record { keys = inside.keys; did = did; taken = threads; rightless = threads })
 
 -- each of those who were taken was given a right
 abbrev pub all_given : Option Inside → Option Inside
@@ -124,7 +135,9 @@ Needs kinds at st (act.TheVariants.HandOver lock op) =
     MayStep (kinds lock) (at lock) op st.owns × KeepsIt (kinds lock) (at lock) op st.owns × HasOneTaken st.inside
 Needs kinds at st (act.TheVariants.Enter keys) = AreKeys keys × (st.inside ≡ None)
 Needs kinds at st (act.TheVariants.Park lock key check _) = MayStep (kinds lock) (at lock) Load st.owns × HasKey key st.inside
-Needs kinds at st (act.TheVariants.Take key whom.TheVariants.First) = HasKey key st.inside × IsFresh st.inside
+Needs kinds at st (act.TheVariants.Stand key want) = HasKey key st.inside
+Needs kinds at st (act.TheVariants.Take key whom) = HasKey key st.inside × IsFresh st.inside
+Needs kinds at st (act.TheVariants.Requeue from to how) = HasKey from st.inside × HasKey to st.inside × (from ≢ to) × IsFresh st.inside
 Needs kinds at st (act.TheVariants.Remove key) = HasKey key st.inside
 Needs kinds at st (act.TheVariants.Leave keys wakes) = MayLeave (note_of wakes) st.inside
 Needs kinds at st act.TheVariants.Sleep = st.inside ≡ None
@@ -140,9 +153,20 @@ abbrev pub handed : WordKind → ℕ → Op → ℕ → Stage → Stage
 handed kind at op seen st = stage (without (owning at Exclusive) (owns_after_step kind at op seen st.owns)) (all_given st.inside) None
 
 -- what a section that is left leaves behind
-abbrev pub IsLeft : Option Inside → Option Record → Type 0
+abbrev pub IsLeft : Option Inside → Option SectionRecord → Type 0
 IsLeft None last = ⊥
 IsLeft (Some inside) last = (number : ℕ) × (last ≡ Some (record { key = first_key inside.keys; did = inside.did; number = number }))
+
+-- whom a take took, by its reply
+abbrev pub TookBy : ℕ → Whom → Reply → Option Inside → Option Inside → Type 0
+TookBy key whom.TheVariants.First (Took any none_left) old new =
+    (first : Option ℕ) × (any ≡ is_there first) × (new ≡ took_as (TakeFirst key) (listed first) old)
+TookBy key whom.TheVariants.All (Took any none_left) old new =
+    (threads : List ℕ) × (any ≡ not (length threads == 0)) × (new ≡ took_as (did.TheVariants.TakeAll key) threads old)
+TookBy key (whom.TheVariants.Picked start recursive) (Picked sharers successor none_left) old new =
+    (waiters : List Waiter) × (sharers ≡ sharers_in (wants_of waiters)) × (successor ≡ successor_in (wants_of waiters))
+    × (new ≡ took_as (did.TheVariants.TakePicked key start recursive) (threads_of waiters) old)
+TookBy key _ _ old new = ⊥
 
 -- what a sleep made of the stage, by its end. A sleeper may be late under one key only, if any, and once its time is up
 abbrev pub Awoke : Type 0 → WordKind → ℕ → Sleeper → Stage → Reply → Stage → Type 0
@@ -165,8 +189,11 @@ Became up kinds at sleeper st (act.TheVariants.HandOver lock op) (Value seen) ne
 Became up kinds at sleeper st (act.TheVariants.Enter keys) Done new = new ≡ stage st.owns (entered_now keys) st.last
 Became up kinds at sleeper st (act.TheVariants.Park lock key check _) (Parked parked) new =
     (seen : ℕ) × (parked ≡ holds check seen) × Stepped (kinds lock) (at lock) Load seen st new
-Became up kinds at sleeper st (act.TheVariants.Take key whom.TheVariants.First) (Took any none_left) new =
-    (first : Option ℕ) × (any ≡ is_there first) × (new ≡ stage st.owns (took key first st.inside) st.last)
+Became up kinds at sleeper st (act.TheVariants.Stand key want) Done new = new ≡ st
+Became up kinds at sleeper st (act.TheVariants.Take key whom) reply new =
+    TookBy key whom reply st.inside new.inside × (new.owns ≡ st.owns) × (new.last ≡ st.last)
+Became up kinds at sleeper st (act.TheVariants.Requeue from to how) (Requeued number none_left) new =
+    (first : Option ℕ) × (length (listed first) ≤ number) × (new ≡ stage st.owns (took_as (did.TheVariants.Requeue from to how) (listed first) st.inside) st.last)
 Became up kinds at sleeper st (act.TheVariants.Remove key) (Removed none_left) new = new ≡ st
 Became up kinds at sleeper st (act.TheVariants.Leave keys wakes) Done new =
     (new.owns ≡ st.owns) × (new.inside ≡ None) × IsLeft st.inside new.last

@@ -1,7 +1,7 @@
 -- The words on which a call steps.
 use Rattle.std.specs.Prelude.{ℕ, ◌==◌, Option, Some, None, if◌then◌else◌}
 use Rattle.lot_words.specs.Lots.{IsWordOf}
-use Rattle.lot_words.specs.Places.{place}
+use Rattle.lot_words.specs.Indices.{word_index}
 use Rattle.lot_words.specs.declared.words.Word.{Word}
 use Rattle.lot_words.specs.declared.words.WordKind.{WordKind}
 use Rattle.parking_lot_core.specs.declared.lot.ParkingLot.{ParkingLot}
@@ -24,7 +24,7 @@ kind_in words lock = (word_in words lock).kind
 
 -- where it stands
 abbrev pub at_in : Words → ℕ → ℕ
-at_in words lock = place (word_in words lock).number (kind_in words lock)
+at_in words lock = word_index (word_in words lock).number (kind_in words lock)
 
 -- all of them are of the lot
 abbrev pub AreWordsOf : ParkingLot → Words → Type 0

@@ -1,19 +1,20 @@
 //! What a thread does in one act of any call, whatever the lock is.
 ghost use Rattle.std.specs.Prelude.{◌≡◌, ◌++◌, ◌∷◌, ◌==◌, ℕ, [], true, None, length, MatchBool};
 ghost use Rattle.lot_base.specs.Clocks.{IsUp};
-ghost use Rattle.lot_base.specs.Lines.{waiter, line, lines, without, without_first, first_of};
+ghost use Rattle.lot_base.specs.Lines.{waiter, line, lines, without};
 ghost use Rattle.lot_base.specs.declared.notes.Note.TheVariants.{HandOff};
 ghost use Rattle.lot_base.specs.declared.ops.Op.TheVariants.{Load};
 ghost use Rattle.lot_steps.specs.Acts.{holds};
 ghost use Rattle.lot_words.specs.Lots.{IsWordOf};
-ghost use Rattle.lot_words.specs.Places.{place};
+ghost use Rattle.lot_words.specs.Indices.{word_index};
 ghost use Rattle.lot_words.specs.Steps.{MayStep, CodesWith, after_step};
 ghost use Rattle.parking_lot_core.specs.Keys.{AreKeys};
 ghost use Rattle.parking_lot_core.specs.Tokens.{IsTokenOf, Stays, view_of, last_of};
 ghost use Rattle.parking_lot.specs.Paths.{step};
 ghost use Rattle.parking_lot.specs.Words.{AreWordsOf, word_in, kind_in, at_in};
-ghost use Rattle.parking_lot.specs.Stages.{Adds, Awoke, HasKey, HasOneTaken, IsFresh, MayLeave, KeepsIt, IsIn, IsLeft, took, handed, note_of, inside_of, stage_of, waiting_of, entered_now, Needs, Became};
+ghost use Rattle.parking_lot.specs.Stages.{Adds, Awoke, HasKey, HasOneTaken, IsFresh, MayLeave, KeepsIt, IsIn, IsLeft, TookBy, handed, note_of, inside_of, stage_of, waiting_of, entered_now, Needs, Became};
 
+use crate::taking::{requeue, take_all, take_first, take_picked, tell_wants};
 use crate::words::Words;
 use lot_steps::{Act, Check, Reply, Wakes, Whom};
 use parking_lot_core::{Clock, Key, Keys, Note, Op, ParkingLot, Section, Slept, Token, Want, Word};
@@ -39,10 +40,10 @@ fn park(
     want: Want,
 ) -> bool
     requires own { IsTokenOf lot.now token.old × IsWordOf lot.now.words word × IsIn lot.now section.old }
-    requires needs { MayStep word.kind (place word.number word.kind) Load (view_of token.old).owns × HasKey key (inside_of section.old) }
+    requires needs { MayStep word.kind (word_index word.number word.kind) Load (view_of token.old).owns × HasKey key (inside_of section.old) }
     ensures own { Stays lot.now token.old token.new × (last_of token.new ≡ None) }
     ensures same { IsIn lot.now section.new × (inside_of section.new ≡ inside_of section.old) }
-    ensures stepped { (seen : ℕ) × (result ≡ holds check seen) × CodesWith word.kind (place word.number word.kind) seen (view_of token.old).owns × (view_of token.new ≡ after_step word.kind (place word.number word.kind) Load seen (view_of token.old)) }
+    ensures stepped { (seen : ℕ) × (result ≡ holds check seen) × CodesWith word.kind (word_index word.number word.kind) seen (view_of token.old).owns × (view_of token.new ≡ after_step word.kind (word_index word.number word.kind) Load seen (view_of token.old)) }
     ensures stands { MatchBool result (lines (waiting_of section.new) ≡ lines (without token.old.number (waiting_of section.old) ++ waiter key token.old.number want ∷ [])) (waiting_of section.new ≡ waiting_of section.old) }
 {
     match section {
@@ -57,18 +58,14 @@ fn park(
     }
 }
 
-// The one that it took, and whether none is left.
-fn take_first(_lot: &ParkingLot, section: &mut Option<Section>, key: Key) -> (Option<usize>, bool)
-    requires { IsIn _lot.now section.old × HasKey key (inside_of section.old) × IsFresh (inside_of section.old) }
-    ensures did { IsIn _lot.now section.new × (inside_of section.new ≡ took key result.0 (inside_of section.old)) }
-    ensures first { result.0 ≡ first_of (line key (waiting_of section.old)) }
-    ensures left { (lines (waiting_of section.new) ≡ lines (without_first key (waiting_of section.old))) × (result.1 ≡ (length (line key (waiting_of section.new)) == 0)) }
+// Stands behind the last of the queue.
+fn stand(lot: &ParkingLot, token: &Token, section: &mut Option<Section>, key: Key, want: Want)
+    requires { IsTokenOf lot.now token.now × IsIn lot.now section.old × HasKey key (inside_of section.old) }
+    ensures same { IsIn lot.now section.new × (inside_of section.new ≡ inside_of section.old) }
+    ensures stands { lines (waiting_of section.new) ≡ lines (without token.now.number (waiting_of section.old) ++ waiter key token.now.number want ∷ []) }
 {
     match section {
-        Some(inside) => {
-            let first = inside.take_first(key);
-            (first, inside.count(key) == 0)
-        }
+        Some(inside) => inside.append(key, token.number(), want),
         None => unreachable!(),
     }
 }
@@ -83,11 +80,11 @@ fn hand_over<R: Wait>(
     op: Op,
 ) -> u64
     requires own { IsTokenOf lot.now token.old × IsWordOf lot.now.words word × IsIn lot.now section.old }
-    requires needs { MayStep word.kind (place word.number word.kind) op (view_of token.old).owns × KeepsIt word.kind (place word.number word.kind) op (view_of token.old).owns }
+    requires needs { MayStep word.kind (word_index word.number word.kind) op (view_of token.old).owns × KeepsIt word.kind (word_index word.number word.kind) op (view_of token.old).owns }
     requires taken { HasOneTaken (inside_of section.old) }
     ensures own { Stays lot.now token.old token.new × IsIn lot.now section.new }
-    ensures became { CodesWith word.kind (place word.number word.kind) result (view_of token.old).owns × (stage_of token.new section.new ≡ handed word.kind (place word.number word.kind) op result (stage_of token.old section.old)) }
-    ensures adds { (view_of token.new).steps ≡ (view_of token.old).steps ++ step (place word.number word.kind) op result }
+    ensures became { CodesWith word.kind (word_index word.number word.kind) result (view_of token.old).owns × (stage_of token.new section.new ≡ handed word.kind (word_index word.number word.kind) op result (stage_of token.old section.old)) }
+    ensures adds { (view_of token.new).steps ≡ (view_of token.old).steps ++ step (word_index word.number word.kind) op result }
 {
     match section {
         Some(inside) => {
@@ -159,6 +156,34 @@ fn leave<R: Wait>(
     }
 }
 
+fn take(lot: &ParkingLot, section: &mut Option<Section>, key: Key, whom: Whom) -> Reply
+    requires { IsIn lot.now section.old × HasKey key (inside_of section.old) × IsFresh (inside_of section.old) }
+    ensures { IsIn lot.now section.new × TookBy key whom result (inside_of section.old) (inside_of section.new) }
+{
+    match whom {
+        Whom::First => {
+            let (first, none_left) = take_first(lot, section, key);
+            Reply::Took {
+                any: first.is_some(),
+                none_left,
+            }
+        }
+        Whom::All => {
+            let (any, none_left) = take_all(lot, section, key);
+            Reply::Took { any, none_left }
+        }
+        Whom::Picked { start, recursive } => {
+            let none_left = take_picked(lot, section, key, start, recursive);
+            let (sharers, successor) = tell_wants(section);
+            Reply::Picked {
+                sharers,
+                successor,
+                none_left,
+            }
+        }
+    }
+}
+
 /// What a thread waits for where it sleeps, and the key under which it may be late.
 #[derive(Clone, Copy)]
 pub(crate) struct Sleeper {
@@ -179,7 +204,7 @@ fn sleep<'a, R: Wait, C: Clock>(
 ) -> Reply
     requires own { IsTokenOf lot.now token.old × IsWordOf lot.now.words word × (inside_of section.old ≡ None) }
     ensures own { Stays lot.now token.old token.new × IsIn lot.now section.new × ((view_of token.new).steps ≡ (view_of token.old).steps) }
-    ensures awoke { Awoke (IsUp C.tells limit.entry) word.kind (place word.number word.kind) sleeper (stage_of token.old section.old) result (stage_of token.new section.new) }
+    ensures awoke { Awoke (IsUp C.tells limit.entry) word.kind (word_index word.number word.kind) sleeper (stage_of token.old section.old) result (stage_of token.new section.new) }
 {
     let late = sleeper.late;
     match lot.sleep(rt, token, word, sleeper.want, late.and(limit)) {
@@ -235,15 +260,14 @@ pub(crate) fn perform<'a, R: Wait, C: Clock>(
             check,
             want,
         } => Reply::Parked(park(lot, token, words.of(lock), section, key, check, want)),
-        Act::Take {
-            key,
-            whom: Whom::First,
-        } => {
-            let (first, none_left) = take_first(lot, section, key);
-            Reply::Took {
-                any: first.is_some(),
-                none_left,
-            }
+        Act::Stand { key, want } => {
+            stand(lot, token, section, key, want);
+            Reply::Done
+        }
+        Act::Take { key, whom } => take(lot, section, key, whom),
+        Act::Requeue { from, to, how } => {
+            let (number, none_left) = requeue(lot, section, from, to, how);
+            Reply::Requeued { number, none_left }
         }
         Act::Remove(key) => Reply::Removed {
             none_left: remove(lot, section, key, token.number()),

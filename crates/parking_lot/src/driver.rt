@@ -5,7 +5,7 @@ ghost use Rattle.lot_base.specs.declared.ops.Op.TheVariants.{Load};
 ghost use Rattle.lot_steps.specs.Steps.{next_place, HasKeys};
 ghost use Rattle.lot_steps.specs.declared.acts.Reply.TheVariants.{Value};
 ghost use Rattle.lot_words.specs.Lots.{IsWordOf};
-ghost use Rattle.lot_words.specs.Places.{place};
+ghost use Rattle.lot_words.specs.Indices.{word_index};
 ghost use Rattle.lot_words.specs.Steps.{MayStep, CodesWith, after_step};
 ghost use Rattle.lot_words.specs.declared.owners.Ownership.{Ownership};
 ghost use Rattle.lot_words.specs.declared.views.WordStep.{WordStep};
@@ -87,10 +87,10 @@ fn pause(loads: u32) {
 // Loads the word in place of an act that leads to sleep, after a pause. Before a later load the thread lets others run.
 fn spin(lot: &ParkingLot, token: &mut Token, word: Word, loads: u32) -> u64
     requires own { IsTokenOf lot.now token.old × IsWordOf lot.now.words word }
-    requires may { MayStep word.kind (place word.number word.kind) Load (view_of token.old).owns }
+    requires may { MayStep word.kind (word_index word.number word.kind) Load (view_of token.old).owns }
     ensures own { Stays lot.now token.old token.new × (last_of token.new ≡ None) }
-    ensures stepped { view_of token.new ≡ after_step word.kind (place word.number word.kind) Load result (view_of token.old) }
-    ensures coded { CodesWith word.kind (place word.number word.kind) result (view_of token.old).owns }
+    ensures stepped { view_of token.new ≡ after_step word.kind (word_index word.number word.kind) Load result (view_of token.old) }
+    ensures coded { CodesWith word.kind (word_index word.number word.kind) result (view_of token.old).owns }
 {
     pause(loads);
     if loads >= PATIENT_LOADS {

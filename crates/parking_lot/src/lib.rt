@@ -6,6 +6,7 @@ mod driver;
 pub mod guards;
 pub mod raw_fair_mutex;
 pub mod raw_mutex;
+mod taking;
 mod words;
 
 pub use guards::RawGuard;
@@ -16,8 +17,8 @@ pub use lot_calls::{Answer, MutexCall};
 pub use lot_steps;
 pub use lot_world;
 pub use parking_lot_core::{
-    Clock, Did, Fault, Key, Keys, Note, Op, ParkingLot, Record, Requeue, Right, Section, Slept,
-    SystemClock, TickClock, Ticket, Token, Want, Word, WordKind, to_deadline,
+    Clock, Did, Fault, Key, Keys, Note, Op, ParkingLot, Requeue, Right, Section, SectionRecord,
+    Slept, SystemClock, TickClock, Ticket, Token, Want, Word, WordKind, to_deadline,
 };
 pub use raw_fair_mutex::RawFairMutex;
 pub use raw_mutex::RawMutex;

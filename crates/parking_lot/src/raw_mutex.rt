@@ -4,7 +4,7 @@ ghost use Rattle.std.specs.Arc.{arc_value};
 ghost use Rattle.lot_base.specs.Clocks.{IsUp};
 ghost use Rattle.lock_raw.specs.Answers.{answer_by};
 ghost use Rattle.lot_calls.specs.declared.calls.MutexCall.TheVariants.{LockTimed};
-ghost use Rattle.lot_words.specs.Draws.{IsDrawn, IsRefused};
+ghost use Rattle.lot_words.specs.Draws.{IsDrawn, IsDrawRefused};
 ghost use Rattle.lot_words.specs.Lots.{IsWordOf};
 ghost use Rattle.lot_words.specs.Plays.{piece, left_over, takes_in};
 ghost use Rattle.lot_words.specs.Steps.{has};
@@ -159,7 +159,7 @@ impl lock_raw::RawMutex for RawMutex {
         ensures token { IsTokenOf (arc_value lot.now) token.new × StaysAs token.old token.new }
         ensures made { MatchResult result (λ mutex. lot_at mutex ≡ arc_value lot.now) (λ fault. (fault ≡ Fault.NoMemory) ⊎ (fault ≡ Fault.LotFull)) }
         ensures drawn { MatchResult result (λ mutex. IsDrawn (arc_value lot.now).words.count (Mutex ∷ []) (word_of mutex).number (view_of token.old) (view_of token.new))
-            (λ fault. ((fault ≡ Fault.NoMemory) × (token.new ≡ token.old)) ⊎ ((fault ≡ Fault.LotFull) × IsRefused (arc_value lot.now).words.count 1 (view_of token.old) (view_of token.new))) }
+            (λ fault. ((fault ≡ Fault.NoMemory) × (token.new ≡ token.old)) ⊎ ((fault ≡ Fault.LotFull) × IsDrawRefused (arc_value lot.now).words.count 1 (view_of token.old) (view_of token.new))) }
     {
         let Ok(lot) = Arc::try_clone(lot) else {
             return Err(Fault::NoMemory);

@@ -2,7 +2,7 @@
 use Rattle.std.proofs.Common.{◌≡◌, Option, None, IfSome, ℕ, zero, suc, List, [], ◌∷◌, ◌++◌, ◌+◌, map, All, sym, ap, ◌∙◌, subst, arith}
 use Rattle.std.proofs.lemmas.List.{map-append}
 use Rattle.std.proofs.lemmas.List.Elements.{All-append}
-use Rattle.keyed_locks.specs.Guards.{IsFull}
+use Rattle.keyed_locks.specs.Guards.{HasValue}
 use Rattle.std.specs.List.{range_with_len}
 
 one : {A : Type 0} (P : A → Type 0) (x : A) → P x → All P (x ∷ [])
@@ -21,5 +21,5 @@ numbers_more f xs ys x n e h all = let z : n ≡ 0 + n = omega arith in let one 
     ap (map f) e ∙ map-append f xs (x ∷ []) ∙ ap (λ zs. zs ++ f x ∷ []) all ∙ ap (λ k. range_with_len 0 n ++ k ∷ []) (h ∙ z) ∙ range_more 0 n ∙ ap (range_with_len 0) one
 
 -- records that have no right fit each key
-pub all_empty : {A B : Type 0} (right : A → Option B) (fits : B → Type 0) (xs : List (Option A)) → All (IsFull (λ (a : A). right a ≡ None)) xs → All (IsFull (λ (a : A). IfSome (right a) fits)) xs
+pub all_empty : {A B : Type 0} (right : A → Option B) (fits : B → Type 0) (xs : List (Option A)) → All (HasValue (λ (a : A). right a ≡ None)) xs → All (HasValue (λ (a : A). IfSome (right a) fits)) xs
 all_empty right fits xs all k d h = let t = all k d h in (t.0, t.1, subst (λ o. IfSome o fits) (sym t.2) tt)

@@ -32,7 +32,8 @@ StaysIn old new = (new.lot.now ≡ old.lot.now) × (new.keys ≡ old.keys)
 
 -- and has done no more to whom it took or moved
 abbrev pub TookAs : Section → Section → Type 0
-TookAs old new = (new.did ≡ old.did) × (taken_in new ≡ taken_in old) × (wants_in new ≡ wants_in old) × (moved_in new ≡ moved_in old)
+TookAs old new = (new.did ≡ old.did) × (taken_in new ≡ taken_in old) × (wants_in new ≡ wants_in old)
+    × (moved_in new ≡ moved_in old)
 
 -- the note that is right for those whom it took: a hand-off where each was given a right, and a normal one where nobody was
 abbrev pub MayNote : Note → List ℕ → List ℕ → Type 0
@@ -41,4 +42,5 @@ MayNote HandOff taken rightless = rightless ≡ []
 
 -- nothing has been done in it
 abbrev pub IsUntouched : Section → Type 0
-IsUntouched section = (section.did ≡ Nothing) × (taken_in section ≡ []) × (wants_in section ≡ []) × (rightless_in section ≡ []) × (moved_in section ≡ 0)
+IsUntouched section = (section.did ≡ Nothing) × (taken_in section ≡ []) × (wants_in section ≡ [])
+    × (rightless_in section ≡ []) × (moved_in section ≡ 0)

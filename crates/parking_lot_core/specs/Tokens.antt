@@ -5,7 +5,7 @@ use Rattle.lot_words.specs.Lots.{IsSeatOf}
 use Rattle.lot_words.specs.declared.table.LotWords.{LotWords}
 use Rattle.lot_words.specs.declared.views.View.{View}
 use Rattle.parking_lot_core.specs.declared.lot.ParkingLot.{ParkingLot}
-use Rattle.parking_lot_core.specs.declared.tokens.Record.{Record}
+use Rattle.parking_lot_core.specs.declared.tokens.SectionRecord.{SectionRecord}
 use Rattle.parking_lot_core.specs.declared.tokens.Ticket.{Ticket}
 use Rattle.parking_lot_core.specs.declared.tokens.Token.{Token}
 
@@ -20,7 +20,7 @@ abbrev pub view_of : Token → View
 view_of token = token.seat.me.0
 
 -- what it did in the section that it left last, if it has taken no step since
-abbrev pub last_of : Token → Option Record
+abbrev pub last_of : Token → Option SectionRecord
 last_of token = if token.is_recorded then Some token.record else None
 
 -- it is the same thread of the same lot

@@ -15,4 +15,4 @@ pub use lot_base::{
 pub use lot_words::{Owner, Right, Word, WordKind};
 pub use sections::Section;
 pub use sleep::Slept;
-pub use tokens::{Did, Record, Ticket, Token};
+pub use tokens::{Did, SectionRecord, Ticket, Token};

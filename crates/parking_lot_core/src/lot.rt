@@ -2,8 +2,8 @@
 ghost use Rattle.std.specs.Prelude.{◌≡◌, ◌<◌, ◌≤◌, IfOk, IfErr, IsTrue, ◌↔◌, All, None, length, map};
 ghost use Rattle.std.specs.List.{range_with_len};
 ghost use Rattle.std.specs.Arc.{arc_value};
-ghost use Rattle.keyed_locks.specs.Guards.{IsFull};
-ghost use Rattle.lot_words.specs.Places.{most_words};
+ghost use Rattle.keyed_locks.specs.Guards.{HasValue};
+ghost use Rattle.lot_words.specs.Indices.{most_words};
 
 use crate::tokens::Ticket;
 use crate::waiters::WakeRecord;
@@ -30,7 +30,8 @@ pub struct ParkingLot {
 }
 
 fn empty_records(alloc: Global, seats: usize) -> Result<Vec<Option<WakeRecord>>, AllocError>
-    ensures { IfOk result (λ records. (length records.items ≡ seats) × All (IsFull (λ wake_record. wake_record.right ≡ None)) records.items) }
+    ensures { IfOk result (λ records. (length records.items ≡ seats)
+        × All (HasValue (λ wake_record. wake_record.right ≡ None)) records.items) }
 {
     let mut records = Vec::with_capacity(alloc, seats)?;
     for _ in 0..seats {
@@ -60,7 +61,8 @@ impl ParkingLot {
         seats: usize,
     ) -> Result<(Vec<Ticket>, Vec<Unparker>), AllocError>
         requires { first.table_id ≡ words.now.table.shared.table_id }
-        ensures tickets { IfOk result (λ made. (map number_of made.0.items ≡ range_with_len 0 seats) × All (IsNewTicket words.now seats) made.0.items) }
+        ensures tickets { IfOk result (λ made. (map number_of made.0.items ≡ range_with_len 0 seats)
+            × All (IsNewTicket words.now seats) made.0.items) }
         ensures unparkers { IfOk result (λ made. length made.1.items ≡ seats) }
     {
         let mut tickets = Vec::with_capacity(alloc, seats)?;
@@ -81,8 +83,10 @@ impl ParkingLot {
         queueing: Queueing,
     ) -> Result<(Arc<ParkingLot>, Vec<Ticket>), AllocError>
         requires { (0 < words) × (words ≤ most_words) }
-        ensures lot { IfOk result (λ made. ((arc_value made.0).words.count ≡ words) × ((arc_value made.0).records.count ≡ seats)) }
-        ensures tickets { IfOk result (λ made. (map number_of made.1.items ≡ range_with_len 0 seats) × All (IsNewTicketOf (arc_value made.0)) made.1.items) }
+        ensures lot { IfOk result (λ made. ((arc_value made.0).words.count ≡ words)
+            × ((arc_value made.0).records.count ≡ seats)) }
+        ensures tickets { IfOk result (λ made. (map number_of made.1.items ≡ range_with_len 0 seats)
+            × All (IsNewTicketOf (arc_value made.0)) made.1.items) }
     {
         let (words, first) = LotWords::new(alloc, words)?;
         let records = KeyedLocks::new(alloc, empty_records(alloc, seats)?, &words)?;
@@ -118,8 +122,10 @@ impl ParkingLot {
     ) -> Result<(Arc<ParkingLot>, Vec<Ticket>), Fault>
         requires words { (0 < words) × (words ≤ most_words) }
         requires seats { (0 < seats) × (seats ≤ 1024) }
-        ensures lot { IfOk result (λ made. ((arc_value made.0).words.count ≡ words) × ((arc_value made.0).records.count ≡ seats)) }
-        ensures tickets { IfOk result (λ made. (map number_of made.1.items ≡ range_with_len 0 seats) × All (IsNewTicketOf (arc_value made.0)) made.1.items) }
+        ensures lot { IfOk result (λ made. ((arc_value made.0).words.count ≡ words)
+            × ((arc_value made.0).records.count ≡ seats)) }
+        ensures tickets { IfOk result (λ made. (map number_of made.1.items ≡ range_with_len 0 seats)
+            × All (IsNewTicketOf (arc_value made.0)) made.1.items) }
         ensures err { IfErr result (λ fault. fault ≡ Fault.NoMemory) }
     {
         let queueing = Queueing::with_capacity(alloc, seats)?;

@@ -12,7 +12,7 @@ ghost use Rattle.parking_lot_core.specs.Keys.{AreKeys, IsKeyOf, first_key};
 ghost use Rattle.parking_lot_core.specs.declared.tokens.Did.TheVariants.{Nothing, TakeFirst, TakeAll, TakePicked};
 
 use crate::lot::ParkingLot;
-use crate::tokens::{Did, Record, Token};
+use crate::tokens::{Did, SectionRecord, Token};
 use lot_base::{Key, Keys, Note, Requeue, Want};
 use lot_queues::Queueing;
 use lot_words::Right;
@@ -21,7 +21,8 @@ use std::sync::{MutexGuard, Wait};
 
 /// What a thread may do to the queues of its keys while nobody else does anything to them.
 ///
-/// It takes or moves waiters by one call at most, and wakes those that it took as it leaves. It has to be left: it can't be dropped.
+/// It takes or moves waiters by one call at most, and wakes those that it took as it leaves. It has to be left: it can't be
+/// dropped.
 pub struct Section<'a> {
     lot: &'a ParkingLot,
     queueing: MutexGuard<'a, Queueing>,
@@ -30,7 +31,9 @@ pub struct Section<'a> {
     // How many it moved to another queue.
     moved: usize,
     ghost seated: { (mutex_guard_value queueing).seats ≡ lot.now.records.count },
-    ghost fresh: { did ≡ Nothing → ((mutex_guard_value queueing).taken.items ≡ []) × ((mutex_guard_value queueing).rightless.items ≡ []) × ((mutex_guard_value queueing).wants.items ≡ []) × (moved ≡ 0) },
+    ghost fresh: { did ≡ Nothing → ((mutex_guard_value queueing).taken.items ≡ [])
+        × ((mutex_guard_value queueing).rightless.items ≡ []) × ((mutex_guard_value queueing).wants.items ≡ [])
+        × (moved ≡ 0) },
     ghost few: { moved ≤ (mutex_guard_value queueing).seats },
 }
 
@@ -136,7 +139,8 @@ impl<'a> Section<'a> {
     pub fn append(&mut self, key: Key, thread: usize, want: Want)
         requires key { IsKeyOf self.old.keys key }
         requires thread { thread < self.old.lot.now.records.count }
-        ensures lines { lines (waiting_in self.new) ≡ lines (without thread (waiting_in self.old) ++ waiter key thread want ∷ []) }
+        ensures lines { lines (waiting_in self.new)
+            ≡ lines (without thread (waiting_in self.old) ++ waiter key thread want ∷ []) }
         ensures same { StaysIn self.old self.new × TookAs self.old self.new × (rightless_in self.new ≡ rightless_in self.old) }
     {
         self.queueing.append(key, thread, want);
@@ -155,7 +159,8 @@ impl<'a> Section<'a> {
         requires key { IsKeyOf self.old.keys key }
         requires first_take { self.old.did ≡ Nothing }
         ensures first { result ≡ first_of (line key (waiting_in self.old)) }
-        ensures taken { MatchOption result (taken_in self.new ≡ []) (λ thread. taken_in self.new ≡ thread ∷ []) × (rightless_in self.new ≡ taken_in self.new) }
+        ensures taken { MatchOption result (taken_in self.new ≡ []) (λ thread. taken_in self.new ≡ thread ∷ [])
+            × (rightless_in self.new ≡ taken_in self.new) }
         ensures wants { wants_in self.new ≡ wants_of (take 1 (line key (waiting_in self.old))) }
         ensures lines { lines (waiting_in self.new) ≡ lines (without_first key (waiting_in self.old)) }
         ensures did { StaysIn self.old self.new × (self.new.did ≡ TakeFirst key) × (moved_in self.new ≡ 0) }
@@ -168,7 +173,8 @@ impl<'a> Section<'a> {
     pub fn take_all(&mut self, key: Key)
         requires key { IsKeyOf self.old.keys key }
         requires first_take { self.old.did ≡ Nothing }
-        ensures taken { (taken_in self.new ≡ threads_of (line key (waiting_in self.old))) × (rightless_in self.new ≡ taken_in self.new) }
+        ensures taken { (taken_in self.new ≡ threads_of (line key (waiting_in self.old)))
+            × (rightless_in self.new ≡ taken_in self.new) }
         ensures wants { wants_in self.new ≡ wants_of (line key (waiting_in self.old)) }
         ensures lines { lines (waiting_in self.new) ≡ lines (without_key key (waiting_in self.old)) }
         ensures did { StaysIn self.old self.new × (self.new.did ≡ TakeAll key) × (moved_in self.new ≡ 0) }
@@ -181,7 +187,9 @@ impl<'a> Section<'a> {
     pub fn take_picked(&mut self, key: Key, start: Option<Want>, recursive: bool)
         requires key { IsKeyOf self.old.keys key }
         requires first_take { self.old.did ≡ Nothing }
-        ensures taken { (taken_in self.new ≡ threads_of (lock_picked start recursive (line key (waiting_in self.old)))) × (rightless_in self.new ≡ taken_in self.new) }
+        ensures taken { (taken_in self.new
+            ≡ threads_of (lock_picked start recursive (line key (waiting_in self.old))))
+            × (rightless_in self.new ≡ taken_in self.new) }
         ensures wants { wants_in self.new ≡ wants_of (lock_picked start recursive (line key (waiting_in self.old))) }
         ensures lines { lines (waiting_in self.new) ≡ lines (without_lock_picked start recursive key (waiting_in self.old)) }
         ensures did { StaysIn self.old self.new × (self.new.did ≡ TakePicked key start recursive) × (moved_in self.new ≡ 0) }
@@ -200,7 +208,8 @@ impl<'a> Section<'a> {
         requires keys { IsKeyOf self.old.keys from × IsKeyOf self.old.keys to × (from ≢ to) }
         requires first_take { self.old.did ≡ Nothing }
         ensures first { result.0 ≡ taken_by op (line from (waiting_in self.old)) }
-        ensures taken { MatchOption result.0 (taken_in self.new ≡ []) (λ thread. taken_in self.new ≡ thread ∷ []) × (rightless_in self.new ≡ taken_in self.new) }
+        ensures taken { MatchOption result.0 (taken_in self.new ≡ []) (λ thread. taken_in self.new ≡ thread ∷ [])
+            × (rightless_in self.new ≡ taken_in self.new) }
         ensures wants { wants_in self.new ≡ wants_of (taken_in_line op (line from (waiting_in self.old))) }
         ensures moved { (result.1 ≡ length (moved_by op (line from (waiting_in self.old)))) × (moved_in self.new ≡ result.1) }
         ensures lines { lines (waiting_in self.new) ≡ lines (requeued op from to (waiting_in self.old)) }
@@ -246,6 +255,13 @@ impl<'a> Section<'a> {
         ensures { result.now ≡ rightless_in self.now }
     {
         self.queueing.rightless()
+    }
+
+    /// How many it took and moved.
+    pub fn number(&self) -> usize
+        ensures { result ≡ length (taken_in self.now) + moved_in self.now }
+    {
+        self.queueing.taken().len() + self.moved
     }
 
     /// Lays a right in the record of a thread that the section took. A right that lies there already goes with the lot.
@@ -299,7 +315,12 @@ impl<'a> Section<'a> {
         requires own { IsTokenOf self.lot.now token.old }
         requires note { MayNote note (taken_in self) (rightless_in self) }
         ensures own { Stays self.entry.lot.now token.old token.new × (token.new.seat ≡ token.old.seat) }
-        ensures recorded { last_of token.new ≡ Some (record { key = first_key self.entry.keys; did = self.entry.did; number = length (taken_in self.entry) + moved_in self.entry }) }
+        ensures recorded { last_of token.new
+            ≡ Some (record {
+              key = first_key self.entry.keys;
+              did = self.entry.did;
+              number = length (taken_in self.entry) + moved_in self.entry;
+            }) }
     {
         let Section {
             lot,
@@ -311,7 +332,7 @@ impl<'a> Section<'a> {
         let taken = queueing.taken().len();
         let first = lot.tie(queueing.taken());
         drop(queueing);
-        token.record = Record {
+        token.record = SectionRecord {
             key: first_of_keys(keys),
             did,
             number: taken + moved,

@@ -27,7 +27,7 @@ pub enum Did {
 
 /// What a thread did in a section that it has left.
 #[derive(Clone, Copy, Debug, PartialEq, Eq)]
-pub struct Record {
+pub struct SectionRecord {
     /// The section's key, of two keys the first.
     pub key: Key,
     pub did: Did,
@@ -35,7 +35,7 @@ pub struct Record {
     pub number: usize,
 }
 
-const NOTHING: Record = Record {
+const NOTHING: SectionRecord = SectionRecord {
     key: 0,
     did: Did::Nothing,
     number: 0,
@@ -56,7 +56,7 @@ pub struct Token {
     pub(crate) number: usize,
     pub(crate) parker: Parker,
     // What it did in the section that it left last, if it has taken no step since. Apart, so that a step writes one byte.
-    pub(crate) record: Record,
+    pub(crate) record: SectionRecord,
     pub(crate) is_recorded: bool,
     here: PhantomData<*const ()>,
 }
@@ -124,7 +124,7 @@ impl Token {
 
     /// What the thread did in the section that it left last. None once it has stepped on a word since.
     #[inline]
-    pub fn last_section(&self) -> Option<Record>
+    pub fn last_section(&self) -> Option<SectionRecord>
         ensures { result ≡ last_of self.now }
     {
         if self.is_recorded {

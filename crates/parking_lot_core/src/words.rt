@@ -1,9 +1,9 @@
 //! Steps on words, draws and rights, by tokens.
 ghost use Rattle.std.specs.Prelude.{◌≡◌, ℕ, ◌+◌, ◌∷◌, [], true, None, IfOk, MatchResult};
-ghost use Rattle.lot_words.specs.Places.{place};
+ghost use Rattle.lot_words.specs.Indices.{word_index};
 ghost use Rattle.lot_words.specs.Codes.{IsCountCode};
 ghost use Rattle.lot_words.specs.Steps.{MayStep, CodesWith, after_step, has};
-ghost use Rattle.lot_words.specs.Draws.{IsDrawn, IsRefused};
+ghost use Rattle.lot_words.specs.Draws.{IsDrawn, IsDrawRefused};
 ghost use Rattle.lot_words.specs.Lots.{IsWordOf};
 ghost use Rattle.lot_words.specs.Plays.{left_over, takes_in};
 ghost use Rattle.lot_words.specs.Rights.{named_by, owner_for, piece_of, OwnsWith};
@@ -24,23 +24,25 @@ impl ParkingLot {
     #[inline]
     pub fn word(&self, token: &mut Token, word: Word, op: Op) -> u64
         requires own { IsTokenOf self.now token.old × IsWordOf self.now.words word }
-        requires may { MayStep word.kind (place word.number word.kind) op (view_of token.old).owns }
+        requires may { MayStep word.kind (word_index word.number word.kind) op (view_of token.old).owns }
         ensures own { Stays self.now token.old token.new × (last_of token.new ≡ None) }
-        ensures stepped { view_of token.new ≡ after_step word.kind (place word.number word.kind) op result (view_of token.old) }
-        ensures coded { CodesWith word.kind (place word.number word.kind) result (view_of token.old).owns }
+        ensures stepped { view_of token.new
+            ≡ after_step word.kind (word_index word.number word.kind) op result (view_of token.old) }
+        ensures coded { CodesWith word.kind (word_index word.number word.kind) result (view_of token.old).owns }
     {
         token.is_recorded = false;
         self.words.step(&mut token.seat, word, op)
     }
 
-    /// Shows a mutex that the thread owns on the word of a condition variable, where that shows none. It answers the value before:
-    /// 0, or one more than the number of the mutex that is shown.
+    /// Shows a mutex that the thread owns on the word of a condition variable, where that shows none. It answers the value
+    /// before: 0, or one more than the number of the mutex that is shown.
     pub fn show_mutex(&self, token: &mut Token, condvar: Word, mutex: Word) -> u64
         requires own { IsTokenOf self.now token.old × IsWordOf self.now.words condvar × IsWordOf self.now.words mutex }
         requires kinds { (condvar.kind ≡ Condvar) × (mutex.kind ≡ Mutex) }
         requires owned { has (named_by mutex Exclusive) (view_of token.old).owns ≡ true }
         ensures own { Stays self.now token.old token.new × (last_of token.new ≡ None) }
-        ensures stepped { view_of token.new ≡ after_step Condvar (place condvar.number Condvar) (Exchange 0 (mutex.number + 1)) result (view_of token.old) }
+        ensures stepped { view_of token.new
+            ≡ after_step Condvar (word_index condvar.number Condvar) (Exchange 0 (mutex.number + 1)) result (view_of token.old) }
     {
         condvar_may_step();
         let to = mutex.number() as u64 + 1;
@@ -55,7 +57,8 @@ impl ParkingLot {
         ensures own { Stays self.now token.old token.new × (last_of token.new ≡ None) }
         ensures said { OwnsWith mutex result (view_of token.old) }
         ensures says { OwnsWith mutex (result + 1) (view_of token.new) }
-        ensures stepped { view_of token.new ≡ after_step Count (place count.number Count) (Add 1) result (view_of token.old) }
+        ensures stepped { view_of token.new
+            ≡ after_step Count (word_index count.number Count) (Add 1) result (view_of token.old) }
     {
         count_may_step();
         let _pair = mutex;
@@ -71,8 +74,9 @@ impl ParkingLot {
         requires { IsTokenOf self.now token.old }
         ensures own { Stays self.now token.old token.new × ((view_of token.new).owns ≡ (view_of token.old).owns) }
         ensures word { IfOk result (λ word. IsWordOf self.now.words word × (word.kind ≡ kind)) }
-        ensures drawn { MatchResult result (λ word. IsDrawn self.now.words.count (kind ∷ []) word.number (view_of token.old) (view_of token.new))
-            (λ fault. (fault ≡ Fault.LotFull) × IsRefused self.now.words.count 1 (view_of token.old) (view_of token.new)) }
+        ensures drawn { MatchResult result
+            (λ word. IsDrawn self.now.words.count (kind ∷ []) word.number (view_of token.old) (view_of token.new))
+            (λ fault. (fault ≡ Fault.LotFull) × IsDrawRefused self.now.words.count 1 (view_of token.old) (view_of token.new)) }
     {
         token.is_recorded = false;
         self.words.new_word(&mut token.seat, kind)
@@ -86,9 +90,12 @@ impl ParkingLot {
     pub fn new_pair(&self, token: &mut Token) -> Result<(Word, Word), Fault>
         requires { IsTokenOf self.now token.old }
         ensures own { Stays self.now token.old token.new × ((view_of token.new).owns ≡ (view_of token.old).owns) }
-        ensures words { IfOk result (λ pair. IsWordOf self.now.words pair.0 × (pair.0.kind ≡ Mutex) × IsWordOf self.now.words pair.1 × (pair.1.kind ≡ Count) × (pair.1.number ≡ pair.0.number + 1)) }
-        ensures drawn { MatchResult result (λ pair. IsDrawn self.now.words.count (Mutex ∷ Count ∷ []) pair.0.number (view_of token.old) (view_of token.new))
-            (λ fault. (fault ≡ Fault.LotFull) × IsRefused self.now.words.count 2 (view_of token.old) (view_of token.new)) }
+        ensures words { IfOk result (λ pair. IsWordOf self.now.words pair.0 × (pair.0.kind ≡ Mutex)
+            × IsWordOf self.now.words pair.1 × (pair.1.kind ≡ Count) × (pair.1.number ≡ pair.0.number + 1)) }
+        ensures drawn { MatchResult result
+            (λ pair. IsDrawn self.now.words.count (Mutex ∷ Count ∷ []) pair.0.number (view_of token.old)
+            (view_of token.new))
+            (λ fault. (fault ≡ Fault.LotFull) × IsDrawRefused self.now.words.count 2 (view_of token.old) (view_of token.new)) }
     {
         token.is_recorded = false;
         self.words.new_pair(&mut token.seat)

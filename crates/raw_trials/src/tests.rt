@@ -21,7 +21,8 @@ const TURNS: usize = 1_000_000;
 fn three_of(lot: &ParkingLot, tickets: &mut Vec<Ticket>) -> Option<(Ticket, Ticket, Ticket)>
     requires { All (IsTicketOf lot.now) tickets.old.items }
     ensures left { All (IsTicketOf lot.now) tickets.new.items }
-    ensures three { IfSome result (λ three. IsTicketOf lot.now three.0 × IsTicketOf lot.now three.1 × IsTicketOf lot.now three.2) }
+    ensures three { IfSome result (λ three. IsTicketOf lot.now three.0 × IsTicketOf lot.now three.1
+        × IsTicketOf lot.now three.2) }
 {
     let one = tickets.pop()?;
     let other = tickets.pop()?;
@@ -43,7 +44,8 @@ fn mutex_by(lot: &Arc<ParkingLot>, ticket: Ticket) -> Result<(RawMutex, Ticket),
 fn three_seats(
     alloc: Global,
 ) -> Result<(Arc<ParkingLot>, RawMutex, (Ticket, Ticket, Ticket)), Fault>
-    ensures { IfOk result (λ made. (lot_of made.1 ≡ arc_value made.0) × IsTicketOf (arc_value made.0) made.2.0 × IsTicketOf (arc_value made.0) made.2.1 × IsTicketOf (arc_value made.0) made.2.2) }
+    ensures { IfOk result (λ made. (lot_of made.1 ≡ arc_value made.0) × IsTicketOf (arc_value made.0) made.2.0
+        × IsTicketOf (arc_value made.0) made.2.1 × IsTicketOf (arc_value made.0) made.2.2) }
 {
     let (lot, mut tickets) = ParkingLot::new(alloc, 1, 3)?;
     let Some((one, other, third)) = three_of(&lot, &mut tickets) else {

@@ -23,7 +23,8 @@ pub fn try_lock(lot: &ParkingLot, token: &mut Token, word: Word) -> Option<Right
 
 /// Gives a mutex up. It answers the value before.
 pub fn unlock(lot: &ParkingLot, token: &mut Token, right: Right) -> u64
-    requires { IsTokenOf lot.now token.old × IsRightOf lot.now.words right × (right.word.kind ≡ Mutex) × (right.owner ≡ Exclusive) }
+    requires { IsTokenOf lot.now token.old × IsRightOf lot.now.words right × (right.word.kind ≡ Mutex)
+        × (right.owner ≡ Exclusive) }
     ensures { Stays lot.now token.old token.new × ((view_of token.new).owns ≡ (view_of token.old).owns) }
 {
     let word = right.word();

@@ -253,7 +253,9 @@ fn pop_pair(lot: &ParkingLot, tickets: &mut Vec<Ticket>) -> Option<(Ticket, Tick
 }
 
 fn seat_four(alloc: Global) -> Result<(Arc<ParkingLot>, Four), Fault>
-    ensures { IfOk result (λ made. IsTicketOf (arc_value made.0) made.1.one × IsTicketOf (arc_value made.0) made.1.two × IsTicketOf (arc_value made.0) made.1.three × IsTicketOf (arc_value made.0) made.1.four × ((arc_value made.0).records.count ≡ 4)) }
+    ensures { IfOk result (λ made. IsTicketOf (arc_value made.0) made.1.one × IsTicketOf (arc_value made.0) made.1.two
+        × IsTicketOf (arc_value made.0) made.1.three × IsTicketOf (arc_value made.0) made.1.four
+        × ((arc_value made.0).records.count ≡ 4)) }
 {
     let (lot, mut tickets) = ParkingLot::new(alloc, 8, 4)?;
     let Some((one, two)) = pop_pair(&lot, &mut tickets) else {
@@ -275,7 +277,8 @@ fn seat_four(alloc: Global) -> Result<(Arc<ParkingLot>, Four), Fault>
 }
 
 fn all_four<R: Threads + Wait + Sync>(rt: &R, lot: &ParkingLot, seats: Four) -> usize
-    requires { IsTicketOf lot.now seats.one × IsTicketOf lot.now seats.two × IsTicketOf lot.now seats.three × IsTicketOf lot.now seats.four }
+    requires { IsTicketOf lot.now seats.one × IsTicketOf lot.now seats.two × IsTicketOf lot.now seats.three
+        × IsTicketOf lot.now seats.four }
 {
     let Four {
         one,

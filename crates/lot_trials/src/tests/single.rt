@@ -9,8 +9,8 @@ ghost use Rattle.parking_lot_core.specs.Tokens.{IsTokenOf, Stays};
 use super::mutexes::{try_lock, unlock};
 use lot_words::laws::mutex_may_step;
 use parking_lot_core::{
-    Did, Fault, Key, Keys, Note, Op, ParkingLot, Record, Requeue, Section, Ticket, Token, Want,
-    Word, WordKind,
+    Did, Fault, Key, Keys, Note, Op, ParkingLot, Requeue, Section, SectionRecord, Ticket, Token,
+    Want, Word, WordKind,
 };
 use std::alloc::Global;
 use std::sync::{Arc, Wait};
@@ -19,7 +19,8 @@ use std::test::Fail;
 // A lot of one seat, and its token.
 fn one_seat(alloc: Global, words: usize) -> Result<(Arc<ParkingLot>, Token), Fault>
     requires { (0 < words) × (words ≤ 100) }
-    ensures { IfOk result (λ made. ((arc_value made.0).words.count ≡ words) × ((arc_value made.0).records.count ≡ 1) × IsTokenOf (arc_value made.0) made.1) }
+    ensures { IfOk result (λ made. ((arc_value made.0).words.count ≡ words) × ((arc_value made.0).records.count ≡ 1)
+        × IsTokenOf (arc_value made.0) made.1) }
 {
     one_of(alloc, words, 1)
 }
@@ -27,7 +28,8 @@ fn one_seat(alloc: Global, words: usize) -> Result<(Arc<ParkingLot>, Token), Fau
 // A lot of so many seats, and one token.
 fn one_of(alloc: Global, words: usize, seats: usize) -> Result<(Arc<ParkingLot>, Token), Fault>
     requires { (0 < words) × (words ≤ 100) × (0 < seats) × (seats ≤ 100) }
-    ensures { IfOk result (λ made. ((arc_value made.0).words.count ≡ words) × ((arc_value made.0).records.count ≡ seats) × IsTokenOf (arc_value made.0) made.1) }
+    ensures { IfOk result (λ made. ((arc_value made.0).words.count ≡ words)
+        × ((arc_value made.0).records.count ≡ seats) × IsTokenOf (arc_value made.0) made.1) }
 {
     let (lot, mut tickets) = ParkingLot::new(alloc, words, seats)?;
     match tickets.pop() {
@@ -38,7 +40,8 @@ fn one_of(alloc: Global, words: usize, seats: usize) -> Result<(Arc<ParkingLot>,
 
 // A lot of one seat, its token, and a mutex.
 pub fn one_mutex(alloc: Global) -> Result<(Arc<ParkingLot>, Token, Word), Fault>
-    ensures { IfOk result (λ made. IsTokenOf (arc_value made.0) made.1 × IsWordOf (arc_value made.0).words made.2 × (made.2.kind ≡ Mutex)) }
+    ensures { IfOk result (λ made. IsTokenOf (arc_value made.0) made.1 × IsWordOf (arc_value made.0).words made.2
+        × (made.2.kind ≡ Mutex)) }
 {
     let (lot, mut token) = one_seat(alloc, 4)?;
     let word = lot.new_word(&mut token, WordKind::Mutex)?;
@@ -261,7 +264,7 @@ fn a_section_takes_in_order(rt: HostRuntime) -> Result<(), Fail> {
     let (lot, mut token) = one_seat(rt.alloc(), 1)?;
     let seen = line_up_twice(&rt, &lot, &mut token);
     assert_eq!(rt; seen, ([(1, 0, Some(6)), (0, 1, Some(7))], 0, true));
-    let record = Record {
+    let record = SectionRecord {
         key: 6,
         did: Did::TakeAll(7),
         number: 1,
@@ -297,7 +300,7 @@ fn a_section_takes_who_is_picked(rt: HostRuntime) -> Result<(), Fail> {
         start: None,
         recursive: false,
     };
-    let record = Record {
+    let record = SectionRecord {
         key: 6,
         did,
         number: 2,
@@ -328,9 +331,9 @@ fn requeue_three<R: Wait>(
 }
 
 // The record that a requeue of so many leaves.
-fn record_of(op: Requeue, number: usize) -> Option<Record> {
+fn record_of(op: Requeue, number: usize) -> Option<SectionRecord> {
     let did = Did::Requeue { from: 6, to: 1, op };
-    Some(Record {
+    Some(SectionRecord {
         key: 6,
         did,
         number,
@@ -365,7 +368,7 @@ fn take_nobody<R: Wait>(rt: &R, lot: &ParkingLot, token: &mut Token) -> Option<u
 fn a_step_forgets_the_last_section(rt: HostRuntime) -> Result<(), Fail> {
     let (lot, mut token, word) = one_mutex(rt.alloc())?;
     assert_eq!(rt; take_nobody(&rt, &lot, &mut token), None);
-    let record = Record {
+    let record = SectionRecord {
         key: 0,
         did: Did::TakeFirst(0),
         number: 0,

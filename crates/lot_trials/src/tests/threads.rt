@@ -118,7 +118,8 @@ fn answer<R: Wait>(rt: &R, lot: &ParkingLot, ticket: Ticket, word: Word) -> usiz
 
 // Two seats of a lot, and a mutex of it.
 fn two_seats(alloc: Global) -> Result<(Arc<ParkingLot>, Ticket, Ticket, Word), Fault>
-    ensures { IfOk result (λ made. IsTicketOf (arc_value made.0) made.1 × IsTicketOf (arc_value made.0) made.2 × IsWordOf (arc_value made.0).words made.3 × (made.3.kind ≡ Mutex)) }
+    ensures { IfOk result (λ made. IsTicketOf (arc_value made.0) made.1 × IsTicketOf (arc_value made.0) made.2
+        × IsWordOf (arc_value made.0).words made.3 × (made.3.kind ≡ Mutex)) }
 {
     let (lot, mut tickets) = ParkingLot::new(alloc, 1, 2)?;
     let (Some(one), Some(other)) = (tickets.pop(), tickets.pop()) else {

@@ -1,7 +1,7 @@
 use Rattle.std.proofs.Common.{◌+◌, [], ◌++◌, refl, sym, subst}
 use Rattle.lot_text.specs.Reads.{TakesLine}
 use Rattle.lot_text.proofs.SentLemmas.{puts_then, puts_nothing}
-use Rattle.lotsim.specs.Stages.{answer_of}
+use Rattle.lotsim.specs.Stages.{after_line}
 use Rattle.lotsim.specs.Sessions.{stage_of}
 use Rattle.lotsim.specs.Answers.{last_line, last_status}
 use Rattle.lotsim.specs.declared.state.Refusal.TheVariants.{Malformed}
@@ -46,10 +46,10 @@ returns-in-Err g c =
     let refusal = c.in-Err.refusal in
     let last = last_line refusal c.loop-number.number in
     let takes = subst (TakesLine (g.R.Read.remaining c.loop-number.reader) (g.R.Read.remaining c.read_line.new.reader)) (sym c.as_slice.ensures.value) c.in-Line.ensures.0 in
-    let none = refused_puts (answer_of stage line) refusal stage next _ c.in-Err.ensures in (
+    let none = refused_puts (after_line stage line) refusal stage next _ c.in-Err.ensures in (
       i.0 ++ last,
       last_status refusal,
-      known_refused (answer_of stage line) refusal next _ _ _ _ _ i.0 c.loop-number.number stage line refl c.in-Err.ensures i.1 takes,
+      known_refused (after_line stage line) refusal next _ _ _ _ _ i.0 c.loop-number.number stage line refl c.in-Err.ensures i.1 takes,
       puts_then _ _ _ c.args.page.now c.loop-number.page c.stop-in-Err.new.page i.0 last i.2 (puts_then _ _ _ c.loop-number.page c.answer.new.page c.stop-in-Err.new.page [] last none c.stop-in-Err.ensures.text),
       λ _. c.stop-in-Err.ensures.status,
     )
@@ -61,7 +61,7 @@ loop-number-preserved g c =
     let next = stage_of c.answer.new.self.session in
     let line = c.as_slice.result.now in
     let takes = subst (TakesLine (g.R.Read.remaining c.loop-number.reader) (g.R.Read.remaining c.read_line.new.reader)) (sym c.as_slice.ensures.value) c.in-Line.ensures.0 in
-    let said = as_answered (answer_of stage line) c.in_default.field-0 stage next _ _ c.loop-number.page c.answer.new.page c.in_default.ensures in (
+    let said = as_answered (after_line stage line) c.in_default.field-0 stage next _ _ c.loop-number.page c.answer.new.page c.in_default.ensures in (
       i.0 ++ said.text,
       known_step _ _ _ i.0 c.loop-number.number stage line next said.text i.1 takes said.wanted,
       puts_then _ _ _ c.args.page.now c.loop-number.page c.answer.new.page i.0 said.text i.2 said.puts,
@@ -74,7 +74,7 @@ returns-then-is_lost g c =
     let next = stage_of c.answer.new.self.session in
     let line = c.as_slice.result.now in
     let takes = subst (TakesLine (g.R.Read.remaining c.loop-number.reader) (g.R.Read.remaining c.read_line.new.reader)) (sym c.as_slice.ensures.value) c.in-Line.ensures.0 in
-    let said = as_answered (answer_of stage line) c.in_default.field-0 stage next _ _ c.loop-number.page c.answer.new.page c.in_default.ensures in
+    let said = as_answered (after_line stage line) c.in_default.field-0 stage next _ _ c.loop-number.page c.answer.new.page c.in_default.ensures in
     let step = known_step _ _ _ i.0 c.loop-number.number stage line next said.text i.1 takes said.wanted in
     let puts = puts_then _ _ _ c.args.page.now c.loop-number.page c.answer.new.page i.0 said.text i.2 said.puts in
     (i.0 ++ said.text, 4, known_failed _ _ _ (i.0 ++ said.text) (c.loop-number.number + 1) next step (nothing_taken _), puts, λ _. refl)

@@ -1,7 +1,7 @@
 use Rattle.std.specs.Prelude.{◌≡◌, List}
 use Rattle.std.proofs.Common.{rules, sym, subst, refl}
 use Rattle.lot_base.specs.declared.ops.Op.{Op}
-use Rattle.lot_words.specs.Places.{place}
+use Rattle.lot_words.specs.Indices.{word_index}
 use Rattle.lot_words.specs.Steps.{MayStep}
 use Rattle.lot_words.specs.declared.owners.Ownership.{Ownership}
 use Rattle.lot_words.specs.declared.words.Word.{Word}
@@ -10,9 +10,9 @@ use Rattle.lot_words.specs.declared.words.WordKind.TheVariants.{Mutex}
 use Rattle.lot_trials.proofs.tests.single.found_by_each.Goals as goal
 
 -- what may be done to a mutex may be done to this word
-may : (word : Word) (op : Op) (owns : List Ownership) → word.kind ≡ Mutex → MayStep Mutex (place word.number Mutex) op owns
-    → MayStep word.kind (place word.number word.kind) op owns
-may word op owns is step = subst (λ (kind : WordKind). MayStep kind (place word.number kind) op owns) (sym is) step
+may : (word : Word) (op : Op) (owns : List Ownership) → word.kind ≡ Mutex → MayStep Mutex (word_index word.number Mutex) op owns
+    → MayStep word.kind (word_index word.number word.kind) op owns
+may word op owns is step = subst (λ (kind : WordKind). MayStep kind (word_index word.number kind) op owns) (sym is) step
 
 pub word-requires-clause-may : goal.word-requires-clause-may
 word-requires-clause-may c = may c.args.word _ _ c.requires.2 ((c.mutex_may_step.ensures _ _).enter 0 (search rules) refl)

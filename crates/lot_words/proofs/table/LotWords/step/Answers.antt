@@ -2,22 +2,22 @@ use Rattle.lot_words.proofs.AtWord.{table_allows}
 use Rattle.lot_words.proofs.table.LotWords.step.Goals as goal
 
 pub load-requires : goal.load-requires
-load-requires c = table_allows c.args.self.now c.args.seat.now c.args.word c.requires.own c.requires.may c.place-at.ensures c.in-Load.is
+load-requires c = table_allows c.args.self.now c.args.seat.now c.args.word c.requires.own c.requires.may c.index-at.ensures c.in-Load.is
 
 pub swap-requires : goal.swap-requires
-swap-requires c = table_allows c.args.self.now c.args.seat.now c.args.word c.requires.own c.requires.may c.place-at.ensures c.in-Store.is
+swap-requires c = table_allows c.args.self.now c.args.seat.now c.args.word c.requires.own c.requires.may c.index-at.ensures c.in-Store.is
 
 pub swap-requires-in-Swap : goal.swap-requires-in-Swap
-swap-requires-in-Swap c = table_allows c.args.self.now c.args.seat.now c.args.word c.requires.own c.requires.may c.place-at.ensures c.in-Swap.is
+swap-requires-in-Swap c = table_allows c.args.self.now c.args.seat.now c.args.word c.requires.own c.requires.may c.index-at.ensures c.in-Swap.is
 
 pub fetch_add-requires : goal.fetch_add-requires
-fetch_add-requires c = table_allows c.args.self.now c.args.seat.now c.args.word c.requires.own c.requires.may c.place-at.ensures c.in-Add.is
+fetch_add-requires c = table_allows c.args.self.now c.args.seat.now c.args.word c.requires.own c.requires.may c.index-at.ensures c.in-Add.is
 
 pub fetch_sub-requires : goal.fetch_sub-requires
-fetch_sub-requires c = table_allows c.args.self.now c.args.seat.now c.args.word c.requires.own c.requires.may c.place-at.ensures c.in-Sub.is
+fetch_sub-requires c = table_allows c.args.self.now c.args.seat.now c.args.word c.requires.own c.requires.may c.index-at.ensures c.in-Sub.is
 
 pub fetch_and-requires : goal.fetch_and-requires
-fetch_and-requires c = table_allows c.args.self.now c.args.seat.now c.args.word c.requires.own c.requires.may c.place-at.ensures c.in-And.is
+fetch_and-requires c = table_allows c.args.self.now c.args.seat.now c.args.word c.requires.own c.requires.may c.index-at.ensures c.in-And.is
 
 pub compare_exchange-requires : goal.compare_exchange-requires
-compare_exchange-requires c = table_allows c.args.self.now c.args.seat.now c.args.word c.requires.own c.requires.may c.place-at.ensures c.in-Exchange.is
+compare_exchange-requires c = table_allows c.args.self.now c.args.seat.now c.args.word c.requires.own c.requires.may c.index-at.ensures c.in-Exchange.is

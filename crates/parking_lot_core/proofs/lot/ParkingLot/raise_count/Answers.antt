@@ -1,5 +1,5 @@
 use Rattle.std.proofs.Common.{ℕ, sym, subst}
-use Rattle.lot_words.specs.Places.{place}
+use Rattle.lot_words.specs.Indices.{word_index}
 use Rattle.lot_words.specs.Steps.{MayStep}
 use Rattle.lot_words.specs.declared.words.WordKind.{WordKind}
 use Rattle.lot_words.specs.declared.words.WordKind.TheVariants.{Count}
@@ -9,5 +9,5 @@ use Rattle.parking_lot_core.proofs.lot.ParkingLot.raise_count.Goals as goal
 
 pub word-requires-clause-may : goal.word-requires-clause-may
 word-requires-clause-may c = let count = c.args.count in let owns = (view_of c.args.token.now).owns in let owned = c.requires.owned in
-    subst (λ (kind : WordKind). MayStep kind (place count.number kind) (Add 1) owns) (sym c.requires.pair.0)
-    (subst (λ (number : ℕ). MayStep Count (place number Count) (Add 1) owns) (sym c.requires.pair.1) ((c.count_may_step.ensures c.args.mutex.number owns).raise owned.0 owned.1 owned.2))
+    subst (λ (kind : WordKind). MayStep kind (word_index count.number kind) (Add 1) owns) (sym c.requires.pair.0)
+    (subst (λ (number : ℕ). MayStep Count (word_index number Count) (Add 1) owns) (sym c.requires.pair.1) ((c.count_may_step.ensures c.args.mutex.number owns).raise owned.0 owned.1 owned.2))

@@ -1,4 +1,4 @@
--- Where the words of a lot stand in its table.
+-- The indices of the words of a lot in its table.
 use Rattle.std.specs.Prelude.{ℕ, ◌+◌, ◌-◌, ◌*◌, ◌%◌, cond, ◌==◌}
 use Rattle.lot_words.specs.declared.words.WordKind.{WordKind}
 use Rattle.lot_words.specs.declared.words.WordKind.TheVariants.{Mutex, RwLock, Condvar, Once, Count}
@@ -14,25 +14,25 @@ rank Condvar = 2
 rank Once = 3
 rank Count = 4
 
--- the counter of drawn words
+-- the index of the counter of drawn words
 abbrev pub counter : ℕ
 counter = 0
 
--- the word of a number and a kind: each number has eight places, which is a cache line
-abbrev pub place : ℕ → WordKind → ℕ
-place number kind = 8 * (number + 1) + rank kind
+-- of the word of a number and a kind: each number has eight, which is a cache line
+abbrev pub word_index : ℕ → WordKind → ℕ
+word_index number kind = 8 * (number + 1) + rank kind
 
--- the mutex of the count word at a place: the word of the number before
+-- of the mutex of a count word: the word of the number before
 abbrev pub mutex_of_count : ℕ → ℕ
 mutex_of_count at = at - 12
 
--- the places of so many words, with the counter's
-abbrev pub places : ℕ → ℕ
-places words = 8 * (words + 1)
+-- how many there are for so many words and the counter
+abbrev pub table_size : ℕ → ℕ
+table_size words = 8 * (words + 1)
 
 abbrev pub kind_of_rank : ℕ → WordKind
 kind_of_rank r = cond (r == 0) Mutex (cond (r == 1) RwLock (cond (r == 2) Condvar (cond (r == 3) Once Count)))
 
--- the kind of the word at a place
-abbrev pub kind_at : ℕ → WordKind
-kind_at at = kind_of_rank (at % 8)
+-- the kind of the word at an index
+abbrev pub word_kind_at : ℕ → WordKind
+word_kind_at at = kind_of_rank (at % 8)

@@ -1,0 +1,130 @@
+//! Takes and moves of waiters, as acts.
+ghost use Rattle.std.specs.Prelude.{◌≡◌, ◌≢◌, ◌+◌, ◌==◌, not, length};
+ghost use Rattle.std.specs.List.{filter};
+ghost use Rattle.lot_base.specs.Lines.{line, lines, without_first, without_key, first_of, threads_of};
+ghost use Rattle.lot_base.specs.Picks.{lock_picked, without_lock_picked};
+ghost use Rattle.lot_base.specs.Requeues.{taken_by, moved_by, requeued};
+ghost use Rattle.lot_queues.specs.Wants.{wants_of};
+ghost use Rattle.parking_lot_core.specs.declared.tokens.Did.TheVariants.{TakeFirst, TakeAll, TakePicked};
+ghost use Rattle.parking_lot_core.specs.declared.tokens.Did.TheVariants as did;
+ghost use Rattle.parking_lot.specs.Stages.{HasKey, IsFresh, IsIn, inside_of, listed, took_as, waiting_of, wants_taken};
+ghost use Rattle.parking_lot.specs.Takes.{shares, sharers_in, successor_in};
+
+use parking_lot_core::{Key, ParkingLot, Requeue, Section, Want};
+
+fn shares(want: Want) -> bool
+    ensures { result ≡ shares want }
+{
+    match want {
+        Want::Shared => true,
+        _ => false,
+    }
+}
+
+fn sharers(wants: &[Want]) -> usize
+    ensures { result ≡ sharers_in wants.now }
+{
+    wants.iter().filter(|want| shares(**want)).count()
+}
+
+fn successor(wants: &[Want]) -> Option<Want>
+    ensures { result ≡ successor_in wants.now }
+{
+    for k in 0..wants.len() {
+        if !shares(wants[k]) {
+            return Some(wants[k]);
+        }
+    }
+    None
+}
+
+/// The one that it took, and whether none is left.
+pub(crate) fn take_first(
+    _lot: &ParkingLot,
+    section: &mut Option<Section>,
+    key: Key,
+) -> (Option<usize>, bool)
+    requires { IsIn _lot.now section.old × HasKey key (inside_of section.old) × IsFresh (inside_of section.old) }
+    ensures did { IsIn _lot.now section.new × (inside_of section.new ≡ took_as (TakeFirst key) (listed result.0) (inside_of section.old)) }
+    ensures first { result.0 ≡ first_of (line key (waiting_of section.old)) }
+    ensures left { (lines (waiting_of section.new) ≡ lines (without_first key (waiting_of section.old))) × (result.1 ≡ (length (line key (waiting_of section.new)) == 0)) }
+{
+    match section {
+        Some(inside) => {
+            let first = inside.take_first(key);
+            (first, inside.count(key) == 0)
+        }
+        None => unreachable!(),
+    }
+}
+
+/// Whether it took any, and whether none is left.
+pub(crate) fn take_all(_lot: &ParkingLot, section: &mut Option<Section>, key: Key) -> (bool, bool)
+    requires { IsIn _lot.now section.old × HasKey key (inside_of section.old) × IsFresh (inside_of section.old) }
+    ensures did { IsIn _lot.now section.new × (inside_of section.new ≡ took_as (TakeAll key) (threads_of (line key (waiting_of section.old))) (inside_of section.old)) }
+    ensures any { result.0 ≡ not (length (threads_of (line key (waiting_of section.old))) == 0) }
+    ensures left { (lines (waiting_of section.new) ≡ lines (without_key key (waiting_of section.old))) × (result.1 ≡ (length (line key (waiting_of section.new)) == 0)) }
+{
+    match section {
+        Some(inside) => {
+            inside.take_all(key);
+            (inside.taken().len() != 0, inside.count(key) == 0)
+        }
+        None => unreachable!(),
+    }
+}
+
+/// Whether none is left.
+pub(crate) fn take_picked(
+    _lot: &ParkingLot,
+    section: &mut Option<Section>,
+    key: Key,
+    start: Option<Want>,
+    recursive: bool,
+) -> bool
+    requires { IsIn _lot.now section.old × HasKey key (inside_of section.old) × IsFresh (inside_of section.old) }
+    ensures did { IsIn _lot.now section.new × (inside_of section.new ≡ took_as (TakePicked key start recursive) (threads_of (lock_picked start recursive (line key (waiting_of section.old)))) (inside_of section.old)) }
+    ensures wants { wants_taken section.new ≡ wants_of (lock_picked start recursive (line key (waiting_of section.old))) }
+    ensures left { (lines (waiting_of section.new) ≡ lines (without_lock_picked start recursive key (waiting_of section.old))) × (result ≡ (length (line key (waiting_of section.new)) == 0)) }
+{
+    match section {
+        Some(inside) => {
+            inside.take_picked(key, start, recursive);
+            inside.count(key) == 0
+        }
+        None => unreachable!(),
+    }
+}
+
+/// How many of those whom it took want to share, and what the first of them wants that wants more.
+pub(crate) fn tell_wants(section: &Option<Section>) -> (usize, Option<Want>)
+    ensures sharers { result.0 ≡ sharers_in (wants_taken section.now) }
+    ensures successor { result.1 ≡ successor_in (wants_taken section.now) }
+{
+    match section {
+        Some(inside) => (sharers(inside.wants()), successor(inside.wants())),
+        None => (0, None),
+    }
+}
+
+/// How many it took and moved, and whether none is left where they stood.
+pub(crate) fn requeue(
+    _lot: &ParkingLot,
+    section: &mut Option<Section>,
+    from: Key,
+    to: Key,
+    how: Requeue,
+) -> (usize, bool)
+    requires { IsIn _lot.now section.old × HasKey from (inside_of section.old) × HasKey to (inside_of section.old) × (from ≢ to) × IsFresh (inside_of section.old) }
+    ensures did { IsIn _lot.now section.new × (inside_of section.new ≡ took_as (did.Requeue from to how) (listed (taken_by how (line from (waiting_of section.old)))) (inside_of section.old)) }
+    ensures number { result.0 ≡ length (listed (taken_by how (line from (waiting_of section.old)))) + length (moved_by how (line from (waiting_of section.old))) }
+    ensures left { (lines (waiting_of section.new) ≡ lines (requeued how from to (waiting_of section.old))) × (result.1 ≡ (length (line from (waiting_of section.new)) == 0)) }
+{
+    match section {
+        Some(inside) => {
+            inside.requeue(from, to, how);
+            (inside.number(), inside.count(from) == 0)
+        }
+        None => unreachable!(),
+    }
+}
