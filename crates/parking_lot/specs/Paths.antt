@@ -34,7 +34,7 @@ step at op seen = record { at = at; op = op; seen = seen } ∷ []
 -- acts that touch no word
 abbrev pub is_wordless : Act → Bool
 is_wordless (act.TheVariants.Enter keys) = true
-is_wordless (act.TheVariants.Stand key want) = true
+is_wordless (act.TheVariants.Stand key _) = true
 is_wordless (act.TheVariants.Take key whom) = true
 is_wordless (act.TheVariants.Requeue from to how) = true
 is_wordless (act.TheVariants.Remove key) = true

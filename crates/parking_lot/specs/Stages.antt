@@ -135,7 +135,7 @@ Needs kinds at st (act.TheVariants.HandOver lock op) =
     MayStep (kinds lock) (at lock) op st.owns × KeepsIt (kinds lock) (at lock) op st.owns × HasOneTaken st.inside
 Needs kinds at st (act.TheVariants.Enter keys) = AreKeys keys × (st.inside ≡ None)
 Needs kinds at st (act.TheVariants.Park lock key check _) = MayStep (kinds lock) (at lock) Load st.owns × HasKey key st.inside
-Needs kinds at st (act.TheVariants.Stand key want) = HasKey key st.inside
+Needs kinds at st (act.TheVariants.Stand key _) = HasKey key st.inside
 Needs kinds at st (act.TheVariants.Take key whom) = HasKey key st.inside × IsFresh st.inside
 Needs kinds at st (act.TheVariants.Requeue from to how) = HasKey from st.inside × HasKey to st.inside × (from ≢ to) × IsFresh st.inside
 Needs kinds at st (act.TheVariants.Remove key) = HasKey key st.inside
@@ -189,7 +189,7 @@ Became up kinds at sleeper st (act.TheVariants.HandOver lock op) (Value seen) ne
 Became up kinds at sleeper st (act.TheVariants.Enter keys) Done new = new ≡ stage st.owns (entered_now keys) st.last
 Became up kinds at sleeper st (act.TheVariants.Park lock key check _) (Parked parked) new =
     (seen : ℕ) × (parked ≡ holds check seen) × Stepped (kinds lock) (at lock) Load seen st new
-Became up kinds at sleeper st (act.TheVariants.Stand key want) Done new = new ≡ st
+Became up kinds at sleeper st (act.TheVariants.Stand key _) Done new = new ≡ st
 Became up kinds at sleeper st (act.TheVariants.Take key whom) reply new =
     TookBy key whom reply st.inside new.inside × (new.owns ≡ st.owns) × (new.last ≡ st.last)
 Became up kinds at sleeper st (act.TheVariants.Requeue from to how) (Requeued number none_left) new =
