@@ -2,10 +2,4 @@ pub use Rattle.lot_base.specs.Words
 pub use Rattle.lot_base.specs.Lines
 pub use Rattle.lot_calls.specs.Calls
 pub use Rattle.lot_calls.specs.Kinds
-pub mod Acts
-pub mod MutexSteps
-pub mod MutexProfiles
-pub mod RwLockSteps
-pub mod RwLockDeeds
-pub mod RwLockProfiles
 pub mod Steps

@@ -5,17 +5,17 @@ use Rattle.lot_calls.specs.declared.calls.Call.{Call}
 use Rattle.lot_calls.specs.declared.calls.Call as call
 use Rattle.lot_steps.specs.declared.places.Place.{Place}
 use Rattle.lot_steps.specs.declared.places.Place.TheVariants.{Idle, Mutex}
-use Rattle.lot_steps.specs.declared.mutex.MutexPlace.{MutexPlace}
-use Rattle.lot_steps.specs.declared.acts.Act.{Act}
-use Rattle.lot_steps.specs.declared.acts.Act as act
-use Rattle.lot_steps.specs.declared.acts.Reply.{Reply}
-use Rattle.lot_steps.specs.declared.acts.Next.{Next}
-use Rattle.lot_steps.specs.declared.acts.Next.TheVariants.{At, End}
-use Rattle.lot_steps.specs.declared.owners.Owners.{Owners}
+use Rattle.lot_mutex.specs.declared.places.MutexPlace.{MutexPlace}
+use Rattle.lot_acts.specs.declared.acts.Act.{Act}
+use Rattle.lot_acts.specs.declared.acts.Act as act
+use Rattle.lot_acts.specs.declared.acts.Reply.{Reply}
+use Rattle.lot_acts.specs.declared.acts.Next.{Next}
+use Rattle.lot_acts.specs.declared.acts.Next.TheVariants.{At, End}
+use Rattle.lot_acts.specs.declared.owners.Owners.{Owners}
 use Rattle.lot_calls.specs.Kinds.{is_fair}
-use Rattle.lot_steps.specs.MutexSteps.{mutex_first, mutex_right, mutex_act, mutex_next, mutex_owners}
+use Rattle.lot_mutex.specs.MutexSteps.{mutex_first, mutex_right, mutex_act, mutex_next, mutex_owners}
 use Rattle.lot_base.specs.declared.wants.Want.{Want}
-use Rattle.lot_steps.specs.MutexProfiles.{mutex_taker, mutex_wants, mutex_can_spin, mutex_can_be_late, mutex_owes, mutex_retries}
+use Rattle.lot_mutex.specs.MutexProfiles.{mutex_taker, mutex_wants, mutex_can_spin, mutex_can_be_late, mutex_owes, mutex_retries}
 
 -- where a call of a lock of a kind begins
 abbrev pub first_place : Kind → Call → Place

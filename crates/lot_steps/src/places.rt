@@ -2,11 +2,10 @@
 ghost use Rattle.std.specs.Prelude.{◌≡◌};
 ghost use Rattle.lot_steps.specs.Steps.{HasKeys, first_place, has_right, act_of, next_place, next_act, owners_after, shares_after, taker, wants, spin_lock, late_key, owes_on, retries_on, is_idle};
 
-use crate::acts::{Act, Next, Reply};
-use crate::mutex::{MutexPlace, mutex_right};
-use crate::owners::Owners;
+use lot_acts::{Act, Next, Owners, Reply};
 use lot_base::{Key, Want, main_key};
 use lot_calls::{Call, Kind};
+use lot_mutex::{MutexPlace, mutex_right};
 
 /// Where a thread stands: in no call, or in a call of a lock, with all that the call remembers.
 #[derive(Clone, Copy, Debug, PartialEq, Eq)]

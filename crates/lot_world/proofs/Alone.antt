@@ -1,15 +1,15 @@
 -- Steps of a thread alone, one after another.
 use Rattle.std.proofs.Common.{◌≡◌, ◌≢◌, ℕ, zero, suc, ◌+◌, ◌-◌, ◌<◌, Bool, true, false, if◌then◌else◌, refl, ap, sym, ◌∙◌, arith}
-use Rattle.lot_steps.specs.declared.acts.Act.{Act}
-use Rattle.lot_steps.specs.declared.acts.Act.TheVariants.{Sleep, Closure, End}
+use Rattle.lot_acts.specs.declared.acts.Act.{Act}
+use Rattle.lot_acts.specs.declared.acts.Act.TheVariants.{Sleep, Closure, End}
 use Rattle.lot_calls.specs.declared.calls.Step.{Step}
 use Rattle.lot_calls.specs.declared.calls.Turn.{Turn}
 use Rattle.lot_calls.specs.declared.calls.Turn as turn
 use Rattle.lot_calls.specs.declared.outcomes.Outcome.{Outcome}
 use Rattle.lot_calls.specs.declared.outcomes.Outcome as outcome
-use Rattle.lot_steps.specs.Acts.{outcome_of}
+use Rattle.lot_acts.specs.Acts.{outcome_of}
 use Rattle.lot_steps.specs.Steps.{act_of, next_act}
-use Rattle.lot_world.specs.Machine.{State, Alone, alone_after, solo, after, step_outcome, is_possible, state_after_turn, turn_outcome, go_of, go_reply, reply_to, closed_place, place_at}
+use Rattle.lot_machine.specs.Machine.{State, Alone, alone_after, solo, after, step_outcome, is_possible, state_after_turn, turn_outcome, go_of, go_reply, reply_to, closed_place, place_at}
 
 -- a step that was possible doesn't answer that it wasn't
 outcome_possible : (act : Act) → outcome_of act ≢ outcome.TheVariants.NotNow

@@ -7,14 +7,14 @@ use Rattle.lot_base.specs.declared.wants.Want.TheVariants.{Exclusive}
 use Rattle.lot_base.specs.Lines.{without, times}
 use Rattle.lot_steps.specs.declared.places.Place.{Place}
 use Rattle.lot_steps.specs.declared.places.Place.TheVariants.{Idle, Mutex}
-use Rattle.lot_steps.specs.declared.mutex.MutexPlace.{MutexPlace}
-use Rattle.lot_steps.specs.declared.mutex.MutexPlace.TheVariants.{Lock}
-use Rattle.lot_steps.specs.declared.mutex.lock.LockAt.TheVariants as lock
+use Rattle.lot_mutex.specs.declared.places.MutexPlace.{MutexPlace}
+use Rattle.lot_mutex.specs.declared.places.MutexPlace.TheVariants.{Lock}
+use Rattle.lot_mutex.specs.declared.lock.LockAt.TheVariants as lock
 use Rattle.abstract_locks.specs.Locks.{Taken, HasTakenNobody, keep_from, one_if_some, standing}
 use Rattle.abstract_locks.specs.Locks as locks
 use Rattle.abstract_locks.specs.Runs.{is_taken_by}
 use Rattle.abstract_locks.specs.Sites.{Line, Main, Second, Has}
-use Rattle.lot_world.specs.Machine.{State, place_at, word_at, owners_at, section_at, queue_at}
+use Rattle.lot_machine.specs.Machine.{State, place_at, word_at, owners_at, section_at, queue_at}
 use Rattle.lot_world.specs.Refinement.{lock_state, taken_at}
 use Rattle.lot_world.specs.MutexPromises.{IsMutexWord}
 use Rattle.lot_world.specs.MutexDeeds.{hand, mutex_doing, mutex_station, nowhere, station, station_at, doing_on}

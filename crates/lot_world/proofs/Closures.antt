@@ -2,16 +2,16 @@
 use Rattle.std.proofs.Common.{ℕ, Bool, true, false, if◌then◌else◌, ◌==◌, not, ◌≡◌, ◌+◌, ◌*◌, refl, sym, ◌∙◌}
 use Rattle.lot_base.specs.declared.keys.Keys.TheVariants.{One}
 use Rattle.lot_base.specs.declared.ops.Op as op
-use Rattle.lot_steps.specs.declared.acts.Act.TheVariants.{Word, Enter}
-use Rattle.lot_steps.specs.declared.mutex.MutexPlace.TheVariants.{Lock, TryLock, Unlock, UnlockFair, Bump, HandOff}
-use Rattle.lot_steps.specs.declared.mutex.lock.LockAt.TheVariants as lock
-use Rattle.lot_steps.specs.declared.mutex.unlock.UnlockAt.TheVariants as unlock
-use Rattle.lot_steps.specs.declared.mutex.hand_off.HandOffAt.TheVariants as hand_off
+use Rattle.lot_acts.specs.declared.acts.Act.TheVariants.{Word, Enter}
+use Rattle.lot_mutex.specs.declared.places.MutexPlace.TheVariants.{Lock, TryLock, Unlock, UnlockFair, Bump, HandOff}
+use Rattle.lot_mutex.specs.declared.lock.LockAt.TheVariants as lock
+use Rattle.lot_mutex.specs.declared.unlock.UnlockAt.TheVariants as unlock
+use Rattle.lot_mutex.specs.declared.hand_off.HandOffAt.TheVariants as hand_off
 use Rattle.lot_steps.specs.declared.places.Place.{Place}
 use Rattle.lot_steps.specs.declared.places.Place.TheVariants.{Idle, Mutex}
-use Rattle.lot_steps.specs.MutexSteps.{is_locked}
+use Rattle.lot_mutex.specs.MutexSteps.{is_locked}
 use Rattle.lot_steps.specs.Steps.{act_of}
-use Rattle.lot_world.specs.Machine.{State, place_at, runs_closure, can_close}
+use Rattle.lot_machine.specs.Machine.{State, place_at, runs_closure, can_close}
 
 decides_plainly : (l s : ℕ) (a b : Bool) → runs_closure (if not a then Word l (op.TheVariants.Exchange s (s + 1)) else if b then Word l (op.TheVariants.Exchange 1 3) else Enter (One (2 * l))) ≡ false
 decides_plainly l s false b = refl

@@ -7,21 +7,21 @@ use Rattle.lot_base.specs.declared.wants.Want.{Want}
 use Rattle.lot_base.specs.Lines.{first_of}
 use Rattle.lot_calls.specs.declared.kinds.Kind.{Kind}
 use Rattle.lot_calls.specs.declared.kinds.Kind as kind
-use Rattle.lot_steps.specs.declared.acts.Act.{Act}
-use Rattle.lot_steps.specs.declared.acts.Act.TheVariants.{Word, HandOver, Enter, Park, Take, Remove, Leave}
-use Rattle.lot_steps.specs.declared.acts.Check.{Check}
-use Rattle.lot_steps.specs.declared.acts.Wakes.{Wakes}
-use Rattle.lot_steps.specs.declared.acts.Wakes as wakes
+use Rattle.lot_acts.specs.declared.acts.Act.{Act}
+use Rattle.lot_acts.specs.declared.acts.Act.TheVariants.{Word, HandOver, Enter, Park, Take, Remove, Leave}
+use Rattle.lot_acts.specs.declared.acts.Check.{Check}
+use Rattle.lot_acts.specs.declared.acts.Wakes.{Wakes}
+use Rattle.lot_acts.specs.declared.acts.Wakes as wakes
 use Rattle.lot_calls.specs.declared.calls.Call.{Call}
 use Rattle.lot_calls.specs.declared.calls.Turn.{Turn}
 use Rattle.lot_calls.specs.declared.calls.Turn as turn
 use Rattle.lot_calls.specs.declared.calls.Step.{Step}
 use Rattle.lot_steps.specs.declared.places.Place.{Place}
-use Rattle.lot_steps.specs.declared.acts.Whom as whom
-use Rattle.lot_steps.specs.Acts.{holds}
+use Rattle.lot_acts.specs.declared.acts.Whom as whom
+use Rattle.lot_acts.specs.Acts.{holds}
 use Rattle.lot_calls.specs.Kinds.{has_call}
 use Rattle.lot_steps.specs.Steps.{act_of, spin_lock, late_key}
-use Rattle.lot_world.specs.Machine.{State, shares_handed_over, unlocked, place_at, word_at, shares_at, filled_at, kind_at, queue_at, state_after_operation, state_after_hand_over, state_with_sections, queues_with_last, queues_without_first, state_after_park, state_after_taking, state_after_wake, state_after_act, state_after_spin_on, state_after_late_on, state_after_turn, closed_place, is_possible, after}
+use Rattle.lot_machine.specs.Machine.{State, shares_handed_over, unlocked, place_at, word_at, shares_at, filled_at, kind_at, queue_at, state_after_operation, state_after_hand_over, state_with_sections, queues_with_last, queues_without_first, state_after_park, state_after_taking, state_after_wake, state_after_act, state_after_spin_on, state_after_late_on, state_after_turn, closed_place, is_possible, after}
 use Rattle.lot_base.specs.Words.{apply}
 use Rattle.abstract_locks.specs.Locks as locks
 use Rattle.abstract_locks.specs.Codes.{fills}

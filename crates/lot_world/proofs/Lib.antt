@@ -1,7 +1,3 @@
-pub mod QueueLemmas
-pub mod Shares
-pub mod Opening
-pub mod Shape
 pub mod KindsKept
 pub mod Closures
 pub mod Alone

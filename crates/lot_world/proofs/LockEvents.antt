@@ -10,13 +10,13 @@ use Rattle.lot_base.specs.declared.wants.Want.TheVariants.{Exclusive, Shared}
 use Rattle.lot_calls.specs.declared.outcomes.Answer.{Answer}
 use Rattle.lot_calls.specs.declared.outcomes.Outcome.{Outcome}
 use Rattle.lot_calls.specs.declared.outcomes.Outcome as outcome
-use Rattle.lot_steps.specs.declared.acts.Reply.{Reply}
-use Rattle.lot_steps.specs.declared.acts.Reply.TheVariants.{TakenBy, HandedBy, Woken}
-use Rattle.lot_steps.specs.declared.mutex.MutexPlace.{MutexPlace}
-use Rattle.lot_steps.specs.declared.mutex.MutexPlace.TheVariants.{Lock, TryLock, Unlock, UnlockFair, Bump, HandOff}
-use Rattle.lot_steps.specs.declared.mutex.lock.LockAt.TheVariants.{First, Taken}
-use Rattle.lot_steps.specs.declared.mutex.unlock.UnlockAt.TheVariants as unlock
-use Rattle.lot_steps.specs.declared.mutex.hand_off.HandOffAt.TheVariants as hand_off
+use Rattle.lot_acts.specs.declared.acts.Reply.{Reply}
+use Rattle.lot_acts.specs.declared.acts.Reply.TheVariants.{TakenBy, HandedBy, Woken}
+use Rattle.lot_mutex.specs.declared.places.MutexPlace.{MutexPlace}
+use Rattle.lot_mutex.specs.declared.places.MutexPlace.TheVariants.{Lock, TryLock, Unlock, UnlockFair, Bump, HandOff}
+use Rattle.lot_mutex.specs.declared.lock.LockAt.TheVariants.{First, Taken}
+use Rattle.lot_mutex.specs.declared.unlock.UnlockAt.TheVariants as unlock
+use Rattle.lot_mutex.specs.declared.hand_off.HandOffAt.TheVariants as hand_off
 use Rattle.lot_steps.specs.Steps.{next_place}
 use Rattle.lot_steps.specs.declared.places.Place.{Place}
 use Rattle.lot_steps.specs.declared.places.Place.TheVariants.{Idle, Mutex}
@@ -26,7 +26,7 @@ use Rattle.abstract_locks.specs.Runs.{LocksState, CallState, Event, IsTimely, is
 use Rattle.abstract_locks.specs.Sites.{Case, End}
 use Rattle.abstract_locks.specs.Purposes.{Purpose, IsMadeOf}
 use Rattle.abstract_locks.proofs.LockKeeps.{sharing_same}
-use Rattle.lot_world.specs.Machine.{State, place_at}
+use Rattle.lot_machine.specs.Machine.{State, place_at}
 use Rattle.lot_world.specs.Refinement.{owner_at, lock_state, taken_at, is_bump, before_entry, mutex_profile, mutex_call_state, call_state, locks_of}
 use Rattle.lot_world.specs.MutexDeeds.{Act, acts, queued}
 use Rattle.lot_world.specs.SitesOf.{IsSteady, Goes, rules_at, after_acts, site_of}

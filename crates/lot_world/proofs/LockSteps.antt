@@ -9,10 +9,10 @@ use Rattle.lot_base.specs.declared.wants.Want.TheVariants.{Exclusive}
 use Rattle.lot_base.specs.Lines.{without, first_of}
 use Rattle.lot_calls.specs.declared.kinds.Kind.{Kind}
 use Rattle.lot_calls.specs.declared.kinds.Kind as kind
-use Rattle.lot_steps.specs.declared.acts.Act.{Act}
-use Rattle.lot_steps.specs.declared.acts.Act as act
-use Rattle.lot_steps.specs.declared.acts.Reply.TheVariants.{Done, Value, Spun, Parked, Took, Removed, TakenBy, HandedBy, Woken}
-use Rattle.lot_steps.specs.declared.acts.Reply.TheVariants as reply
+use Rattle.lot_acts.specs.declared.acts.Act.{Act}
+use Rattle.lot_acts.specs.declared.acts.Act as act
+use Rattle.lot_acts.specs.declared.acts.Reply.TheVariants.{Done, Value, Spun, Parked, Took, Removed, TakenBy, HandedBy, Woken}
+use Rattle.lot_acts.specs.declared.acts.Reply.TheVariants as reply
 use Rattle.lot_calls.specs.declared.calls.Call.{Call}
 use Rattle.lot_calls.specs.declared.calls.Call as call
 use Rattle.lot_calls.specs.declared.calls.Turn.{Turn}
@@ -24,25 +24,26 @@ use Rattle.lot_calls.specs.Calls.{lock_in}
 use Rattle.lot_calls.specs.Kinds.{has_call, is_fair}
 use Rattle.lot_calls.specs.declared.outcomes.Outcome.{Outcome}
 use Rattle.lot_calls.specs.declared.outcomes.Outcome as outcome
-use Rattle.lot_steps.specs.declared.mutex.TheConstants.{NOT_PARKED}
-use Rattle.lot_steps.specs.declared.mutex.lock.Entry.{Entry}
-use Rattle.lot_steps.specs.declared.mutex.lock.Entry.TheVariants as entries
+use Rattle.lot_mutex.specs.declared.places.TheConstants.{NOT_PARKED}
+use Rattle.lot_mutex.specs.declared.lock.Entry.{Entry}
+use Rattle.lot_mutex.specs.declared.lock.Entry.TheVariants as entries
 use Rattle.lot_base.specs.declared.notes.Note.TheVariants as note
-use Rattle.lot_steps.specs.declared.mutex.MutexPlace.TheVariants.{Lock, TryLock, Unlock, UnlockFair, Bump, HandOff}
-use Rattle.lot_steps.specs.declared.mutex.lock.LockAt.{LockAt}
-use Rattle.lot_steps.specs.declared.mutex.lock.LockAt.TheVariants.{First, Load, Decide, Check, Leave, Asleep, Taken, Handed, Accept, Remove, Clear, GiveUp}
-use Rattle.lot_steps.specs.declared.mutex.unlock.UnlockAt.{UnlockAt}
-use Rattle.lot_steps.specs.declared.mutex.unlock.UnlockAt.TheVariants as unlock
-use Rattle.lot_steps.specs.declared.mutex.hand_off.HandOffAt.{HandOffAt}
-use Rattle.lot_steps.specs.declared.mutex.hand_off.HandOffAt.TheVariants as hand_off
+use Rattle.lot_mutex.specs.declared.places.MutexPlace.TheVariants.{Lock, TryLock, Unlock, UnlockFair, Bump, HandOff}
+use Rattle.lot_mutex.specs.declared.lock.LockAt.{LockAt}
+use Rattle.lot_mutex.specs.declared.lock.LockAt.TheVariants.{First, Load, Decide, Check, Leave, Asleep, Taken, Handed, Accept, Remove, Clear, GiveUp}
+use Rattle.lot_mutex.specs.declared.unlock.UnlockAt.{UnlockAt}
+use Rattle.lot_mutex.specs.declared.unlock.UnlockAt.TheVariants as unlock
+use Rattle.lot_mutex.specs.declared.hand_off.HandOffAt.{HandOffAt}
+use Rattle.lot_mutex.specs.declared.hand_off.HandOffAt.TheVariants as hand_off
 use Rattle.lot_steps.specs.declared.places.Place.{Place}
 use Rattle.lot_steps.specs.declared.places.Place.TheVariants.{Idle, Mutex}
-use Rattle.lot_steps.specs.Acts.{outcome_of}
-use Rattle.lot_steps.specs.MutexSteps.{is_thread, mutex_first, mutex_right, is_locked, is_parked, lock_act, unlock_act, hand_off_word, hand_off_act}
+use Rattle.lot_acts.specs.Acts.{outcome_of}
+use Rattle.lot_mutex.specs.MutexSteps.{mutex_first, mutex_right, is_locked, is_parked, lock_act, unlock_act, hand_off_word, hand_off_act}
+use Rattle.lot_acts.specs.Owners.{is_thread}
 use Rattle.lot_steps.specs.Steps.{act_of, next_place, next_act, spin_lock, late_key, is_idle, has_right, first_place}
-use Rattle.lot_world.specs.Machine.{State, place_at, word_at, owners_at, kind_at, queue_at, section_at, put, state_after_act, go_reply, state_after_operation, state_after_hand_over, state_after_telling, queues_with_last, queues_without, queues_without_first, state_after_taking, state_after_reply, state_with_sections, reply_to, can_do, is_there, state_after_spin_on, state_after_late_on, is_free_under, state_after_begin, can_begin, is_open_to, can_turn, state_after_turn, turn_outcome, is_possible, after, step_outcome}
-use Rattle.lot_world.specs.Fits.{IsShaped, SameSize, PlaceFits, GivesUpTimed}
-use Rattle.lot_world.proofs.Shape.{after_size, both, performed_counts}
+use Rattle.lot_machine.specs.Machine.{State, place_at, word_at, owners_at, kind_at, queue_at, section_at, put, state_after_act, go_reply, state_after_operation, state_after_hand_over, state_after_telling, queues_with_last, queues_without, queues_without_first, state_after_taking, state_after_reply, state_with_sections, reply_to, can_do, is_there, state_after_spin_on, state_after_late_on, is_free_under, state_after_begin, can_begin, is_open_to, can_turn, state_after_turn, turn_outcome, is_possible, after, step_outcome}
+use Rattle.lot_machine.specs.Fits.{IsShaped, SameSize, PlaceFits, GivesUpTimed}
+use Rattle.lot_machine.proofs.Shape.{after_size, both, performed_counts}
 use Rattle.lot_world.proofs.Possible.{may_go, go_possible, may_be_late, late_possible, told_gone, told_step, begins_awake, turner_there, gone_sections, spun_sections, late_sections, spun_awake, late_awake}
 use Rattle.lot_world.proofs.Closures.{no_closure, nothing_closes}
 use Rattle.lot_world.specs.SitesOf.{IsSteady, Goes, CallsMutex, is_mutex, rules_at, carried_at, hand_at}
@@ -54,9 +55,9 @@ use Rattle.lot_world.specs.MutexDeeds.{hand, mutex_station, deeds}
 use Rattle.lot_world.specs.Refinement.{owner_at, lock_state, taken_at, call_state, locks_of, sleeps}
 use Rattle.lot_world.proofs.KindsKept.{after_kinds, calls_mutex}
 use Rattle.std.specs.Prelude.{replicate}
-use Rattle.lot_steps.specs.declared.acts.Reply.{Reply}
-use Rattle.lot_steps.specs.declared.mutex.MutexPlace.{MutexPlace}
-use Rattle.lot_steps.specs.MutexSteps.{mutex_act}
+use Rattle.lot_acts.specs.declared.acts.Reply.{Reply}
+use Rattle.lot_mutex.specs.declared.places.MutexPlace.{MutexPlace}
+use Rattle.lot_mutex.specs.MutexSteps.{mutex_act}
 use Rattle.lot_world.proofs.Glue.{IsTakenAt, IsHandedAt, is_taken, is_handed, told_one, same, own_stance, goes_from, put_here, put_other, put_of, put_same}
 use Rattle.lot_world.proofs.MutexTable.{mutex}
 use Rattle.lot_world.proofs.StandsMoved.{mutex_rules}

@@ -6,29 +6,29 @@ use Rattle.lot_base.specs.declared.ops.Op as op
 use Rattle.lot_base.specs.declared.wants.Want.TheVariants.{Exclusive}
 use Rattle.lot_calls.specs.declared.outcomes.Answer.TheVariants as answer
 use Rattle.lot_calls.specs.declared.outcomes.Outcome as outcome
-use Rattle.lot_steps.specs.declared.acts.Act.{Act}
-use Rattle.lot_steps.specs.declared.acts.Act as act
-use Rattle.lot_steps.specs.declared.acts.Next.{Next}
-use Rattle.lot_steps.specs.declared.acts.Next.TheVariants as next
-use Rattle.lot_steps.specs.declared.acts.Reply.TheVariants.{Value, Parked, Took, Removed, HandedBy, Woken}
-use Rattle.lot_steps.specs.declared.mutex.MutexPlace.{MutexPlace}
-use Rattle.lot_steps.specs.declared.mutex.MutexPlace.TheVariants.{Lock, TryLock, Unlock, UnlockFair, Bump, HandOff}
-use Rattle.lot_steps.specs.declared.mutex.lock.Entry.{Entry}
-use Rattle.lot_steps.specs.declared.mutex.lock.Entry.TheVariants as entries
-use Rattle.lot_steps.specs.declared.mutex.lock.LockAt.{LockAt}
-use Rattle.lot_steps.specs.declared.mutex.lock.LockAt.TheVariants.{First, Load, Decide, Check, Leave, Asleep, Accept, Remove, GiveUp}
-use Rattle.lot_steps.specs.declared.mutex.unlock.UnlockAt.TheVariants as unlock
-use Rattle.lot_steps.specs.declared.mutex.hand_off.HandOffAt.TheVariants as hand_off
+use Rattle.lot_acts.specs.declared.acts.Act.{Act}
+use Rattle.lot_acts.specs.declared.acts.Act as act
+use Rattle.lot_acts.specs.declared.acts.Next.{Next}
+use Rattle.lot_acts.specs.declared.acts.Next.TheVariants as next
+use Rattle.lot_acts.specs.declared.acts.Reply.TheVariants.{Value, Parked, Took, Removed, HandedBy, Woken}
+use Rattle.lot_mutex.specs.declared.places.MutexPlace.{MutexPlace}
+use Rattle.lot_mutex.specs.declared.places.MutexPlace.TheVariants.{Lock, TryLock, Unlock, UnlockFair, Bump, HandOff}
+use Rattle.lot_mutex.specs.declared.lock.Entry.{Entry}
+use Rattle.lot_mutex.specs.declared.lock.Entry.TheVariants as entries
+use Rattle.lot_mutex.specs.declared.lock.LockAt.{LockAt}
+use Rattle.lot_mutex.specs.declared.lock.LockAt.TheVariants.{First, Load, Decide, Check, Leave, Asleep, Accept, Remove, GiveUp}
+use Rattle.lot_mutex.specs.declared.unlock.UnlockAt.TheVariants as unlock
+use Rattle.lot_mutex.specs.declared.hand_off.HandOffAt.TheVariants as hand_off
 use Rattle.lot_steps.specs.declared.places.Place.TheVariants.{Idle, Mutex}
-use Rattle.lot_steps.specs.Acts.{outcome_of}
-use Rattle.lot_steps.specs.MutexSteps.{is_locked, is_timed, entered, looked, in_lock, in_unlock, in_hand_off, lock_act, hand_off_act, unlock_act}
+use Rattle.lot_acts.specs.Acts.{outcome_of}
+use Rattle.lot_mutex.specs.MutexSteps.{is_locked, is_timed, entered, looked, in_lock, in_unlock, in_hand_off, lock_act, hand_off_act, unlock_act}
 use Rattle.lot_steps.specs.Steps.{next_place, next_act, mutex_goes, mutex_does}
 use Rattle.abstract_locks.specs.Locks.{Rights, Queued, Enter, Leave as GivesBack, Park, TakeFirst, Wake, HandOff as HandsOff, rights_of, with_right, let_go, standing}
 use Rattle.abstract_locks.specs.Locks as locks
 use Rattle.abstract_locks.specs.Purposes.{rules_of, IsMadeOf}
 use Rattle.abstract_locks.specs.Runs.{CallState, Nothing, GoesOn, AnswerHolds, one_more_at, one_less_at}
 use Rattle.abstract_locks.specs.Sites.{Deed, Main, End, Out, Mark, Case}
-use Rattle.lot_world.specs.Machine.{State, place_at, word_at}
+use Rattle.lot_machine.specs.Machine.{State, place_at, word_at}
 use Rattle.lot_world.specs.MutexPromises.{IsMutexWord}
 use Rattle.lot_world.specs.Refinement.{owner_at, lock_state, is_bump, entry_purpose, release_purpose, before_release, mutex_call_state, locks_of}
 use Rattle.lot_world.specs.MutexDeeds.{mutex_station, acts, deeds, enters, takes, queued}

@@ -1,17 +1,17 @@
 -- What is promised of every state says of a mutex what its users know it by.
 use Rattle.std.proofs.Common.{ℕ, true, false, Some, ◌≡◌, inl, inr, refl, sym, ◌∙◌, ap, subst}
 use Rattle.lot_base.specs.declared.wants.Want.TheVariants.{Exclusive}
-use Rattle.lot_steps.specs.declared.mutex.MutexPlace.TheVariants.{Lock, TryLock, Unlock, UnlockFair, Bump, HandOff}
-use Rattle.lot_steps.specs.declared.mutex.lock.Entry.TheVariants as entries
+use Rattle.lot_mutex.specs.declared.places.MutexPlace.TheVariants.{Lock, TryLock, Unlock, UnlockFair, Bump, HandOff}
+use Rattle.lot_mutex.specs.declared.lock.Entry.TheVariants as entries
 use Rattle.lot_steps.specs.declared.places.Place.{Place}
 use Rattle.lot_steps.specs.declared.places.Place.TheVariants.{Idle, Mutex}
-use Rattle.lot_steps.specs.MutexSteps.{is_parked}
+use Rattle.lot_mutex.specs.MutexSteps.{is_parked}
 use Rattle.abstract_locks.specs.Locks.{Rights}
 use Rattle.abstract_locks.specs.Locks as locks
 use Rattle.abstract_locks.specs.Codes.{parked_in, aside_in, word_by}
 use Rattle.abstract_locks.specs.Sites.{Main, has_readers}
 use Rattle.abstract_locks.specs.Purposes.{Releases}
-use Rattle.lot_world.specs.Machine.{State, place_at, word_at, kind_at}
+use Rattle.lot_machine.specs.Machine.{State, place_at, word_at, kind_at}
 use Rattle.lot_world.specs.Refinement.{owner_at, lock_state, call_state}
 use Rattle.lot_world.specs.SitesOf.{is_mutex, rules_at}
 use Rattle.lot_world.specs.Promises.{WakesWaiters, IsKept, IsLookedAfter, IsOpenNow}

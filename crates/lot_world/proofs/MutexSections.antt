@@ -4,11 +4,11 @@ use Rattle.std.proofs.lemmas.Bool.{cases_eq}
 use Rattle.lot_base.specs.declared.wants.Waiter.{Waiter}
 use Rattle.lot_base.specs.declared.wants.Want.{Want}
 use Rattle.lot_base.specs.declared.wants.Want.TheVariants.{Exclusive, Shared}
-use Rattle.lot_steps.specs.declared.owners.Owners.{Owners}
+use Rattle.lot_acts.specs.declared.owners.Owners.{Owners}
 use Rattle.lot_steps.specs.declared.places.Place.{Place}
 use Rattle.lot_steps.specs.declared.places.Place.TheVariants.{Mutex}
-use Rattle.lot_steps.specs.declared.mutex.MutexPlace.TheVariants.{HandOff}
-use Rattle.lot_steps.specs.declared.mutex.hand_off.HandOffAt.TheVariants as hand_off
+use Rattle.lot_mutex.specs.declared.places.MutexPlace.TheVariants.{HandOff}
+use Rattle.lot_mutex.specs.declared.hand_off.HandOffAt.TheVariants as hand_off
 use Rattle.abstract_locks.specs.Locks.{LockState, Taken, Queued, Rules, IsTaken, HasTakenNobody, KnowsAll, Knows, TakeFirst, keep_from, let_go}
 use Rattle.abstract_locks.specs.Locks as locks
 use Rattle.abstract_locks.specs.Sites.{Doing, Has, IsSite, Main, Second, Case}

@@ -8,18 +8,19 @@ use Rattle.lot_base.specs.declared.ops.Op.{Op}
 use Rattle.lot_base.specs.declared.ops.Op.TheVariants as op
 use Rattle.lot_base.specs.Words.{apply}
 use Rattle.lot_base.specs.Lines.{waiter, without, first_of, times}
-use Rattle.lot_steps.specs.declared.owners.Owners.{Owners}
+use Rattle.lot_acts.specs.declared.owners.Owners.{Owners}
 use Rattle.lot_steps.specs.declared.places.Place.{Place}
 use Rattle.lot_steps.specs.declared.places.Place.TheVariants.{Idle, Mutex}
-use Rattle.lot_steps.specs.declared.mutex.lock.Entry.{Entry}
-use Rattle.lot_steps.specs.declared.mutex.MutexPlace.{MutexPlace}
-use Rattle.lot_steps.specs.declared.mutex.MutexPlace.TheVariants.{Lock, TryLock, Unlock, UnlockFair, Bump, HandOff}
-use Rattle.lot_steps.specs.declared.mutex.lock.LockAt.TheVariants as lock
-use Rattle.lot_steps.specs.declared.mutex.unlock.UnlockAt.TheVariants as unlock
-use Rattle.lot_steps.specs.declared.mutex.hand_off.HandOffAt.TheVariants as hand_off
-use Rattle.lot_steps.specs.declared.mutex.TheConstants.{NOT_PARKED}
-use Rattle.lot_steps.specs.declared.acts.Reply.TheVariants.{Value}
-use Rattle.lot_steps.specs.MutexSteps.{is_parked, is_locked, mutex_owners, with_exclusive}
+use Rattle.lot_mutex.specs.declared.lock.Entry.{Entry}
+use Rattle.lot_mutex.specs.declared.places.MutexPlace.{MutexPlace}
+use Rattle.lot_mutex.specs.declared.places.MutexPlace.TheVariants.{Lock, TryLock, Unlock, UnlockFair, Bump, HandOff}
+use Rattle.lot_mutex.specs.declared.lock.LockAt.TheVariants as lock
+use Rattle.lot_mutex.specs.declared.unlock.UnlockAt.TheVariants as unlock
+use Rattle.lot_mutex.specs.declared.hand_off.HandOffAt.TheVariants as hand_off
+use Rattle.lot_mutex.specs.declared.places.TheConstants.{NOT_PARKED}
+use Rattle.lot_acts.specs.declared.acts.Reply.TheVariants.{Value}
+use Rattle.lot_mutex.specs.MutexSteps.{is_parked, is_locked, mutex_owners}
+use Rattle.lot_acts.specs.Owners.{with_exclusive}
 use Rattle.lot_steps.specs.Steps.{next_place}
 use Rattle.abstract_locks.specs.Locks.{LockState, Taken, Queued, Rules, IsTaken, keep_from, one_if_some, is_thread, putting}
 use Rattle.abstract_locks.specs.Locks as locks

@@ -17,35 +17,36 @@ use Rattle.lot_calls.specs.declared.calls.Turn as turn
 use Rattle.lot_calls.specs.declared.calls.Step.{Step}
 use Rattle.lot_calls.specs.declared.outcomes.Outcome.{Outcome}
 use Rattle.lot_calls.specs.declared.outcomes.Outcome as outcome
-use Rattle.lot_steps.specs.declared.acts.Act.{Act}
-use Rattle.lot_steps.specs.declared.acts.Act.TheVariants.{Word, HandOver, Enter, Park, Take, Remove}
-use Rattle.lot_steps.specs.declared.acts.Act.TheVariants as act
-use Rattle.lot_steps.specs.declared.acts.Wakes.{Wakes}
-use Rattle.lot_steps.specs.declared.acts.Wakes as wakes
-use Rattle.lot_steps.specs.declared.acts.Reply.{Reply}
-use Rattle.lot_steps.specs.declared.acts.Reply.TheVariants.{TakenBy, MovedTo, HandedBy, Woken, Spun, Late}
-use Rattle.lot_steps.specs.declared.mutex.MutexPlace.TheVariants.{Lock, TryLock, Unlock, UnlockFair, Bump, HandOff}
-use Rattle.lot_steps.specs.declared.mutex.lock.LockAt.{LockAt}
-use Rattle.lot_steps.specs.declared.mutex.lock.LockAt.TheVariants as lock
-use Rattle.lot_steps.specs.declared.mutex.unlock.UnlockAt.TheVariants as unlock
-use Rattle.lot_steps.specs.declared.mutex.hand_off.HandOffAt.TheVariants as hand_off
+use Rattle.lot_acts.specs.declared.acts.Act.{Act}
+use Rattle.lot_acts.specs.declared.acts.Act.TheVariants.{Word, HandOver, Enter, Park, Take, Remove}
+use Rattle.lot_acts.specs.declared.acts.Act.TheVariants as act
+use Rattle.lot_acts.specs.declared.acts.Wakes.{Wakes}
+use Rattle.lot_acts.specs.declared.acts.Wakes as wakes
+use Rattle.lot_acts.specs.declared.acts.Reply.{Reply}
+use Rattle.lot_acts.specs.declared.acts.Reply.TheVariants.{TakenBy, MovedTo, HandedBy, Woken, Spun, Late}
+use Rattle.lot_mutex.specs.declared.places.MutexPlace.TheVariants.{Lock, TryLock, Unlock, UnlockFair, Bump, HandOff}
+use Rattle.lot_mutex.specs.declared.lock.LockAt.{LockAt}
+use Rattle.lot_mutex.specs.declared.lock.LockAt.TheVariants as lock
+use Rattle.lot_mutex.specs.declared.unlock.UnlockAt.TheVariants as unlock
+use Rattle.lot_mutex.specs.declared.hand_off.HandOffAt.TheVariants as hand_off
 use Rattle.lot_steps.specs.declared.places.Place.{Place}
 use Rattle.lot_steps.specs.declared.places.Place.TheVariants.{Idle, Mutex}
-use Rattle.lot_steps.specs.Acts.{holds, outcome_of}
-use Rattle.lot_steps.specs.declared.mutex.lock.Entry.{Entry}
-use Rattle.lot_steps.specs.declared.mutex.lock.Entry.TheVariants as entries
-use Rattle.lot_steps.specs.declared.acts.Next.{Next}
-use Rattle.lot_steps.specs.declared.acts.Next.TheVariants as next
+use Rattle.lot_acts.specs.Acts.{holds, outcome_of}
+use Rattle.lot_mutex.specs.declared.lock.Entry.{Entry}
+use Rattle.lot_mutex.specs.declared.lock.Entry.TheVariants as entries
+use Rattle.lot_acts.specs.declared.acts.Next.{Next}
+use Rattle.lot_acts.specs.declared.acts.Next.TheVariants as next
 use Rattle.lot_calls.specs.declared.outcomes.Answer as answer
-use Rattle.lot_steps.specs.declared.mutex.unlock.UnlockAt.{UnlockAt}
-use Rattle.lot_steps.specs.declared.mutex.hand_off.HandOffAt.{HandOffAt}
-use Rattle.lot_steps.specs.declared.acts.Whom as whom
-use Rattle.lot_steps.specs.MutexSteps.{in_lock, in_unlock, is_parked, is_locked, looked, next_lock, lock_act, mutex_first, hand_off_store, is_thread}
+use Rattle.lot_mutex.specs.declared.unlock.UnlockAt.{UnlockAt}
+use Rattle.lot_mutex.specs.declared.hand_off.HandOffAt.{HandOffAt}
+use Rattle.lot_acts.specs.declared.acts.Whom as whom
+use Rattle.lot_mutex.specs.MutexSteps.{in_lock, in_unlock, is_parked, is_locked, looked, next_lock, lock_act, mutex_first, hand_off_store}
+use Rattle.lot_acts.specs.Owners.{is_thread}
 use Rattle.lot_calls.specs.declared.kinds.Kind.{Kind}
 use Rattle.lot_calls.specs.Kinds.{is_fair}
 use Rattle.lot_calls.specs.Calls.{lock_in}
 use Rattle.lot_steps.specs.Steps.{act_of, owes_on, next_act, next_place, mutex_goes, mutex_does, first_place, is_idle, spin_lock, late_key, taker}
-use Rattle.lot_world.specs.Machine.{State, places_told, listed, moved_threads, closed_place, state_after_going, place_at, word_at, queues_without_first, state_after_taking, state_after_wake, state_with_sections, queue_at, state_after_act, state_after_go, go_reply, go_outcome, is_there, is_free_under, is_open_to, can_begin, state_after_begin, can_turn, turn_outcome, kind_at, reply_to, put, state_after_spin_on, state_after_late_on, state_after_turn, is_possible, after, step_outcome, place_after_telling}
+use Rattle.lot_machine.specs.Machine.{State, places_told, listed, moved_threads, closed_place, state_after_going, place_at, word_at, queues_without_first, state_after_taking, state_after_wake, state_with_sections, queue_at, state_after_act, state_after_go, go_reply, go_outcome, is_there, is_free_under, is_open_to, can_begin, state_after_begin, can_turn, turn_outcome, kind_at, reply_to, put, state_after_spin_on, state_after_late_on, state_after_turn, is_possible, after, step_outcome, place_after_telling}
 use Rattle.lot_base.specs.Lines.{threads_of}
 use Rattle.lot_base.specs.Picks.{lock_picked}
 use Rattle.lot_base.specs.Requeues.{taken_by}
@@ -54,12 +55,12 @@ use Rattle.lot_world.specs.Refinement.{owner_at, call_state, locks_of}
 use Rattle.abstract_locks.specs.Locks.{Rights}
 use Rattle.abstract_locks.specs.Purposes.{IsReleasing}
 use Rattle.lot_world.specs.Owing.{Owes, IsInside, SeesWaiters, OwesSince}
-use Rattle.lot_world.specs.Fits.{IsShaped}
+use Rattle.lot_machine.specs.Fits.{IsShaped}
 use Rattle.abstract_locks.specs.Sites.{Main}
 use Rattle.lot_world.specs.MutexPromises.{IsMutexWord}
 use Rattle.lot_world.specs.Promises.{IsKept, GoesToWake}
 use Rattle.lot_world.specs.SitesOf.{IsSteady}
-use Rattle.lot_world.proofs.Shape.{both, performed_counts}
+use Rattle.lot_machine.proofs.Shape.{both, performed_counts}
 use Rattle.lot_world.proofs.TurnsKept.{idle_is}
 use Rattle.lot_world.proofs.Glue.{same}
 use Rattle.lot_world.proofs.AtPlaces.{coded, owns}

@@ -2,31 +2,31 @@
 use Rattle.std.proofs.Common.{ℕ, Bool, true, false, Option, Some, None, if◌then◌else◌, ◌==◌, ◌&&◌, not, ◌≡◌, ◌≢◌, ◌+◌, ◌*◌, ◌≤◌, ◌⊎◌, inl, inr, List, length, refl, ◌∙◌, ap, subst, arith, ◌↔◌, sym}
 use Rattle.lot_base.specs.declared.keys.Keys.TheVariants.{One}
 use Rattle.lot_base.specs.declared.ops.Op as op
-use Rattle.lot_steps.specs.declared.acts.Act as act
-use Rattle.lot_steps.specs.declared.acts.Act.TheVariants.{Sleep}
+use Rattle.lot_acts.specs.declared.acts.Act as act
+use Rattle.lot_acts.specs.declared.acts.Act.TheVariants.{Sleep}
 use Rattle.lot_calls.specs.declared.kinds.Kind.{Kind}
 use Rattle.lot_calls.specs.declared.calls.Step.{Step}
-use Rattle.lot_steps.specs.declared.mutex.lock.Entry.{Entry}
-use Rattle.lot_steps.specs.declared.mutex.lock.Entry.TheVariants as entries
-use Rattle.lot_steps.specs.declared.acts.Wakes as wakes
+use Rattle.lot_mutex.specs.declared.lock.Entry.{Entry}
+use Rattle.lot_mutex.specs.declared.lock.Entry.TheVariants as entries
+use Rattle.lot_acts.specs.declared.acts.Wakes as wakes
 use Rattle.lot_base.specs.declared.notes.Note.TheVariants as note
-use Rattle.lot_steps.specs.declared.mutex.MutexPlace.{MutexPlace}
-use Rattle.lot_steps.specs.declared.mutex.MutexPlace.TheVariants.{Lock, TryLock, Unlock, UnlockFair, Bump, HandOff}
-use Rattle.lot_steps.specs.declared.mutex.lock.LockAt.{LockAt}
-use Rattle.lot_steps.specs.declared.mutex.lock.LockAt.TheVariants.{First, Decide, Asleep, Taken, Handed}
-use Rattle.lot_steps.specs.declared.mutex.unlock.UnlockAt.{UnlockAt}
-use Rattle.lot_steps.specs.declared.mutex.unlock.UnlockAt.TheVariants as unlock
-use Rattle.lot_steps.specs.declared.mutex.hand_off.HandOffAt.{HandOffAt}
-use Rattle.lot_steps.specs.declared.mutex.hand_off.HandOffAt.TheVariants as hand_off
+use Rattle.lot_mutex.specs.declared.places.MutexPlace.{MutexPlace}
+use Rattle.lot_mutex.specs.declared.places.MutexPlace.TheVariants.{Lock, TryLock, Unlock, UnlockFair, Bump, HandOff}
+use Rattle.lot_mutex.specs.declared.lock.LockAt.{LockAt}
+use Rattle.lot_mutex.specs.declared.lock.LockAt.TheVariants.{First, Decide, Asleep, Taken, Handed}
+use Rattle.lot_mutex.specs.declared.unlock.UnlockAt.{UnlockAt}
+use Rattle.lot_mutex.specs.declared.unlock.UnlockAt.TheVariants as unlock
+use Rattle.lot_mutex.specs.declared.hand_off.HandOffAt.{HandOffAt}
+use Rattle.lot_mutex.specs.declared.hand_off.HandOffAt.TheVariants as hand_off
 use Rattle.lot_steps.specs.declared.places.Place.{Place}
 use Rattle.lot_steps.specs.declared.places.Place.TheVariants.{Idle, Mutex}
-use Rattle.lot_steps.specs.MutexSteps.{is_locked, lock_act, unlock_act, hand_off_act, mutex_act}
-use Rattle.lot_steps.specs.MutexProfiles.{mutex_owes, lock_row}
-use Rattle.lot_steps.specs.MutexSteps.{is_timed}
+use Rattle.lot_mutex.specs.MutexSteps.{is_locked, lock_act, unlock_act, hand_off_act, mutex_act}
+use Rattle.lot_mutex.specs.MutexProfiles.{mutex_owes, lock_row}
+use Rattle.lot_mutex.specs.MutexSteps.{is_timed}
 use Rattle.abstract_locks.specs.Sites.{Line, Main, Second}
 use Rattle.lot_steps.specs.Steps.{act_of, taker, owes_on, retries_on}
-use Rattle.lot_world.specs.Machine.{State, opening, place_at, after, section_at, word_at}
-use Rattle.lot_world.specs.Fits.{IsShaped}
+use Rattle.lot_machine.specs.Machine.{State, opening, place_at, after, section_at, word_at}
+use Rattle.lot_machine.specs.Fits.{IsShaped}
 use Rattle.lot_world.specs.MutexDeeds.{Station, mutex_station, nowhere, station_at}
 use Rattle.lot_world.specs.SitesOf.{IsSteady, key_of, stood_in, carried_at}
 use Rattle.abstract_locks.specs.Runs.{IsOpening}
@@ -40,7 +40,7 @@ use Rattle.lot_world.proofs.Glue.{same, nothing_at, own_stance, station_elsewher
 use Rattle.lot_world.proofs.AtPlaces.{not_first_aside, stands_by, owns}
 use Rattle.lot_world.proofs.Possible.{OnMain, on_main}
 use Rattle.abstract_locks.specs.Codes.{parked_in}
-use Rattle.lot_world.proofs.Opening.{idle_at, none_at, empty_at, nobody_owns, opening_shares}
+use Rattle.lot_machine.proofs.Opening.{idle_at, none_at, empty_at, nobody_owns, opening_shares}
 use Rattle.std.proofs.lemmas.Bool.{cases_eq, eqb-true}
 
 -- what a place says of a lock it says of its own

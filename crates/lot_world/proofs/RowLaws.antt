@@ -1,11 +1,11 @@
 -- One run of the world, and what its definitions refuse.
 use Rattle.std.proofs.Common.{ℕ, zero, suc, true, false, Some, None, ◌≡◌, inl, inr, [], ◌∷◌, refl, sym, ◌∙◌, arith}
 use Rattle.lot_calls.specs.declared.kinds.Kind.TheVariants as kind
-use Rattle.lot_world.specs.Machine.{after_all}
+use Rattle.lot_machine.specs.Machine.{after_all}
 use Rattle.abstract_locks.specs.Sites.{Main}
 use Rattle.lot_world.specs.Promises.{IsLookedAfter}
 use Rattle.lot_world.specs.Laws.{FairUnlockHandsOver, NoWaiterIsForgotten, NobodyIsPassedOver, three, row, row_told, forgotten}
-use Rattle.lot_world.proofs.Shape.{opening_shaped}
+use Rattle.lot_machine.proofs.Shape.{opening_shaped}
 use Rattle.std.proofs.lemmas.List.Elements.{All-cons, All-nil}
 use Rattle.lot_calls.specs.Kinds.{fits}
 use Rattle.lot_world.proofs.OpeningSites.{opening_steady}

@@ -2,7 +2,7 @@
 use Rattle.std.proofs.Common.{◌≡◌, List, [], ◌∷◌, ◌++◌, refl, ap, sym, ◌∙◌, append_assoc}
 use Rattle.lot_calls.specs.declared.calls.Step.{Step}
 use Rattle.lot_calls.specs.declared.outcomes.Outcome.{Outcome}
-use Rattle.lot_world.specs.Machine.{State, after, step_outcome, after_all, step_outcomes}
+use Rattle.lot_machine.specs.Machine.{State, after, step_outcome, after_all, step_outcomes}
 
 after_more : (w : State) (ss : List Step) (s : Step) → after_all w (ss ++ s ∷ []) ≡ after (after_all w ss) s
 after_more w [] s = refl

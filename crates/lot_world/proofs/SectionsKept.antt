@@ -9,12 +9,12 @@ use Rattle.lot_base.proofs.Counts.{times_append, times_without, times_gone}
 use Rattle.lot_base.specs.Lines.{waiter, without, first_of, times}
 use Rattle.lot_steps.specs.declared.places.Place.{Place}
 use Rattle.lot_steps.specs.declared.places.Place.TheVariants.{Idle, Mutex}
-use Rattle.lot_steps.specs.declared.mutex.MutexPlace.{MutexPlace}
-use Rattle.lot_steps.specs.MutexSteps.{is_parked}
+use Rattle.lot_mutex.specs.declared.places.MutexPlace.{MutexPlace}
+use Rattle.lot_mutex.specs.MutexSteps.{is_parked}
 use Rattle.abstract_locks.specs.Locks.{Rules, putting, is_thread}
 use Rattle.abstract_locks.specs.Locks as locks
 use Rattle.abstract_locks.specs.Sites.{IsSite, Deed, Line, Main, Second, Case, FindNobody, found, is_empty}
-use Rattle.lot_world.specs.Machine.{State, place_at, word_at, owners_at, queue_at, put, queues_with_last, queues_without, queues_without_first}
+use Rattle.lot_machine.specs.Machine.{State, place_at, word_at, owners_at, queue_at, put, queues_with_last, queues_without, queues_without_first}
 use Rattle.lot_world.specs.Refinement.{lock_state, taken_at}
 use Rattle.abstract_locks.specs.Picks.{queued_of}
 use Rattle.lot_world.specs.MutexDeeds.{Station, mutex_doing, mutex_station, station, station_at, doing_on, acts}

@@ -9,21 +9,22 @@ use Rattle.lot_base.specs.declared.ops.Op.TheVariants as op
 use Rattle.lot_base.specs.declared.wants.Waiter.{Waiter}
 use Rattle.lot_base.specs.Words.{apply}
 use Rattle.lot_calls.specs.declared.kinds.Kind as kind
-use Rattle.lot_steps.specs.declared.owners.Owners.{Owners}
+use Rattle.lot_acts.specs.declared.owners.Owners.{Owners}
 use Rattle.lot_steps.specs.declared.places.Place.{Place}
 use Rattle.lot_steps.specs.declared.places.Place.TheVariants.{Idle, Mutex}
-use Rattle.lot_steps.specs.declared.mutex.lock.Entry.{Entry}
-use Rattle.lot_steps.specs.declared.mutex.MutexPlace.{MutexPlace}
-use Rattle.lot_steps.specs.declared.mutex.MutexPlace.TheVariants.{Lock, Unlock, HandOff}
-use Rattle.lot_steps.specs.declared.mutex.lock.LockAt.TheVariants as lock
-use Rattle.lot_steps.specs.declared.mutex.unlock.UnlockAt.TheVariants as unlock
-use Rattle.lot_steps.specs.declared.mutex.hand_off.HandOffAt.TheVariants as hand_off
-use Rattle.lot_steps.specs.declared.acts.Act.{Act}
-use Rattle.lot_steps.specs.declared.acts.Act as act
-use Rattle.lot_steps.specs.declared.acts.Wakes as wakes
-use Rattle.lot_steps.specs.declared.acts.Reply.{Reply}
-use Rattle.lot_steps.specs.declared.acts.Reply.TheVariants.{Value, Woken, TakenBy, HandedBy}
-use Rattle.lot_steps.specs.MutexSteps.{with_exclusive, mutex_owners, hand_off_word}
+use Rattle.lot_mutex.specs.declared.lock.Entry.{Entry}
+use Rattle.lot_mutex.specs.declared.places.MutexPlace.{MutexPlace}
+use Rattle.lot_mutex.specs.declared.places.MutexPlace.TheVariants.{Lock, Unlock, HandOff}
+use Rattle.lot_mutex.specs.declared.lock.LockAt.TheVariants as lock
+use Rattle.lot_mutex.specs.declared.unlock.UnlockAt.TheVariants as unlock
+use Rattle.lot_mutex.specs.declared.hand_off.HandOffAt.TheVariants as hand_off
+use Rattle.lot_acts.specs.declared.acts.Act.{Act}
+use Rattle.lot_acts.specs.declared.acts.Act as act
+use Rattle.lot_acts.specs.declared.acts.Wakes as wakes
+use Rattle.lot_acts.specs.declared.acts.Reply.{Reply}
+use Rattle.lot_acts.specs.declared.acts.Reply.TheVariants.{Value, Woken, TakenBy, HandedBy}
+use Rattle.lot_mutex.specs.MutexSteps.{mutex_owners, hand_off_word}
+use Rattle.lot_acts.specs.Owners.{with_exclusive}
 use Rattle.lot_steps.specs.Steps.{next_place}
 use Rattle.abstract_locks.specs.Locks.{Rules, TakeFirst, putting}
 use Rattle.abstract_locks.specs.Sites.{Doing, Site, IsSite, Deed, Main, Second, In, Out, Case, idle, leaves, found, is_empty, has_readers, after_deed}
@@ -31,7 +32,7 @@ use Rattle.abstract_locks.specs.Codes.{code}
 use Rattle.abstract_locks.specs.Purposes.{rules_of}
 use Rattle.abstract_locks.proofs.SiteKeeps.{deed_keeps}
 use Rattle.std.specs.Prelude.{sum}
-use Rattle.lot_world.specs.Machine.{State, shares_handed_over, unlocked, place_at, word_at, owners_at, shares_at, filled_at, kind_at, queue_at, put, state_after_operation, state_with_sections, section_at, queues_without_first, state_after_reply, state_after_telling, state_after_hand_over, state_after_act, reply_to}
+use Rattle.lot_machine.specs.Machine.{State, shares_handed_over, unlocked, place_at, word_at, owners_at, shares_at, filled_at, kind_at, queue_at, put, state_after_operation, state_with_sections, section_at, queues_without_first, state_after_reply, state_after_telling, state_after_hand_over, state_after_act, reply_to}
 use Rattle.lot_world.specs.Refinement.{taken_at}
 use Rattle.abstract_locks.specs.Picks.{queued_of}
 use Rattle.lot_world.specs.MutexDeeds.{Station, hand, nowhere, mutex_doing, mutex_deeds, mutex_station, station, station_at, doing_on, acts, owner, queued}

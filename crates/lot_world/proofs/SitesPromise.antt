@@ -4,28 +4,28 @@ use Rattle.std.proofs.lemmas.Bool.{eqb-true}
 use Rattle.lot_base.specs.declared.wants.Want.TheVariants.{Exclusive, Shared}
 use Rattle.lot_steps.specs.declared.places.Place.{Place}
 use Rattle.lot_steps.specs.declared.places.Place.TheVariants.{Idle, Mutex}
-use Rattle.lot_steps.specs.declared.mutex.lock.Entry.{Entry}
-use Rattle.lot_steps.specs.declared.mutex.MutexPlace.{MutexPlace}
-use Rattle.lot_steps.specs.declared.mutex.MutexPlace.TheVariants.{Lock, Unlock, HandOff}
-use Rattle.lot_steps.specs.declared.mutex.lock.LockAt.{LockAt}
-use Rattle.lot_steps.specs.declared.mutex.lock.LockAt.TheVariants as lock
-use Rattle.lot_steps.specs.declared.mutex.unlock.UnlockAt.{UnlockAt}
-use Rattle.lot_steps.specs.declared.mutex.unlock.UnlockAt.TheVariants as unlock
-use Rattle.lot_steps.specs.declared.mutex.hand_off.HandOffAt.TheVariants as hand_off
-use Rattle.lot_steps.specs.declared.acts.Act.TheVariants.{Sleep}
-use Rattle.lot_steps.specs.declared.acts.Act as act
+use Rattle.lot_mutex.specs.declared.lock.Entry.{Entry}
+use Rattle.lot_mutex.specs.declared.places.MutexPlace.{MutexPlace}
+use Rattle.lot_mutex.specs.declared.places.MutexPlace.TheVariants.{Lock, Unlock, HandOff}
+use Rattle.lot_mutex.specs.declared.lock.LockAt.{LockAt}
+use Rattle.lot_mutex.specs.declared.lock.LockAt.TheVariants as lock
+use Rattle.lot_mutex.specs.declared.unlock.UnlockAt.{UnlockAt}
+use Rattle.lot_mutex.specs.declared.unlock.UnlockAt.TheVariants as unlock
+use Rattle.lot_mutex.specs.declared.hand_off.HandOffAt.TheVariants as hand_off
+use Rattle.lot_acts.specs.declared.acts.Act.TheVariants.{Sleep}
+use Rattle.lot_acts.specs.declared.acts.Act as act
 use Rattle.lot_base.specs.declared.keys.Keys.TheVariants.{One}
 use Rattle.lot_base.specs.declared.ops.Op.TheVariants as op
 use Rattle.lot_base.specs.declared.wants.Waiter.{Waiter}
 use Rattle.lot_base.specs.Lines as Lines
 use Rattle.std.proofs.lemmas.Bool.Decides.{nat_tests}
-use Rattle.lot_steps.specs.MutexSteps.{is_parked, is_locked, decided}
-use Rattle.lot_steps.specs.MutexProfiles.{mutex_owes}
+use Rattle.lot_mutex.specs.MutexSteps.{is_parked, is_locked, decided}
+use Rattle.lot_mutex.specs.MutexProfiles.{mutex_owes}
 use Rattle.lot_steps.specs.Steps.{act_of}
 use Rattle.abstract_locks.specs.Locks.{Queued, times, standing, one_if_some}
 use Rattle.abstract_locks.specs.Locks as locks
 use Rattle.abstract_locks.specs.Sites.{Has, Main, Second, IsSite, IsDebtor, counts_some, has_readers, idle}
-use Rattle.lot_world.specs.Machine.{State, place_at, word_at, owners_at, shares_at, kind_at, queue_at}
+use Rattle.lot_machine.specs.Machine.{State, place_at, word_at, owners_at, shares_at, kind_at, queue_at}
 use Rattle.abstract_locks.specs.Purposes.{rules_of}
 use Rattle.abstract_locks.specs.Codes.{bit, code, parked_in}
 use Rattle.std.specs.Prelude.{sum}
@@ -34,7 +34,7 @@ use Rattle.lot_calls.specs.declared.kinds.Kind as kind
 use Rattle.lot_world.specs.Refinement.{lock_state, taken_at}
 use Rattle.lot_world.specs.Promises.{WaitsFor, want_of, IsDebtorOf, IsLookedAfter, IsOpenNow}
 use Rattle.lot_world.specs.MutexPromises.{IsMutexWord}
-use Rattle.lot_steps.specs.declared.mutex.lock.Entry.TheVariants as entry
+use Rattle.lot_mutex.specs.declared.lock.Entry.TheVariants as entry
 use Rattle.lot_world.specs.Refinement.{entry_purpose}
 use Rattle.lot_world.specs.MutexDeeds.{nowhere, station, station_at, mutex_station, mutex_profile, doing_on, mutex_doing}
 use Rattle.lot_world.specs.SitesOf.{IsSteady, CallsMutex, stood_in, rules_at}

@@ -8,10 +8,10 @@ use Rattle.lot_base.specs.declared.wants.Waiter.{Waiter}
 use Rattle.lot_base.specs.declared.wants.Want.TheVariants.{Exclusive}
 use Rattle.lot_base.specs.Words.{apply}
 use Rattle.lot_base.specs.Lines.{times, waiter, without, first_of}
-use Rattle.lot_steps.specs.declared.acts.Act.{Act}
-use Rattle.lot_steps.specs.declared.acts.Act as act
-use Rattle.lot_steps.specs.declared.acts.Reply.TheVariants.{Value, Took, Removed}
-use Rattle.lot_steps.specs.declared.acts.Next as next
+use Rattle.lot_acts.specs.declared.acts.Act.{Act}
+use Rattle.lot_acts.specs.declared.acts.Act as act
+use Rattle.lot_acts.specs.declared.acts.Reply.TheVariants.{Value, Took, Removed}
+use Rattle.lot_acts.specs.declared.acts.Next as next
 use Rattle.lot_calls.specs.declared.outcomes.Answer as answer
 use Rattle.lot_calls.specs.declared.calls.Call.{Call}
 use Rattle.lot_calls.specs.declared.calls.Call as call
@@ -20,25 +20,25 @@ use Rattle.lot_calls.specs.declared.calls.MutexCall as mutex_call
 use Rattle.lot_calls.specs.declared.kinds.Kind.{Kind}
 use Rattle.lot_calls.specs.declared.outcomes.Outcome.{Outcome}
 use Rattle.lot_calls.specs.declared.outcomes.Outcome as outcome
-use Rattle.lot_steps.specs.declared.mutex.TheConstants.{NOT_PARKED}
-use Rattle.lot_steps.specs.declared.mutex.lock.Entry.{Entry}
-use Rattle.lot_steps.specs.declared.mutex.lock.Entry.TheVariants as entries
-use Rattle.lot_steps.specs.declared.mutex.MutexPlace.TheVariants.{Lock, TryLock, Unlock, UnlockFair, Bump, HandOff}
-use Rattle.lot_steps.specs.declared.mutex.lock.LockAt.{LockAt}
-use Rattle.lot_steps.specs.declared.mutex.lock.LockAt.TheVariants.{First, Load, Decide, Check, Leave, Asleep, Taken, Handed, Accept, Remove, Clear, GiveUp}
-use Rattle.lot_steps.specs.declared.mutex.unlock.UnlockAt.{UnlockAt}
-use Rattle.lot_steps.specs.declared.mutex.unlock.UnlockAt.TheVariants as unlock
-use Rattle.lot_steps.specs.declared.mutex.hand_off.HandOffAt.{HandOffAt}
-use Rattle.lot_steps.specs.declared.mutex.hand_off.HandOffAt.TheVariants as hand_off
+use Rattle.lot_mutex.specs.declared.places.TheConstants.{NOT_PARKED}
+use Rattle.lot_mutex.specs.declared.lock.Entry.{Entry}
+use Rattle.lot_mutex.specs.declared.lock.Entry.TheVariants as entries
+use Rattle.lot_mutex.specs.declared.places.MutexPlace.TheVariants.{Lock, TryLock, Unlock, UnlockFair, Bump, HandOff}
+use Rattle.lot_mutex.specs.declared.lock.LockAt.{LockAt}
+use Rattle.lot_mutex.specs.declared.lock.LockAt.TheVariants.{First, Load, Decide, Check, Leave, Asleep, Taken, Handed, Accept, Remove, Clear, GiveUp}
+use Rattle.lot_mutex.specs.declared.unlock.UnlockAt.{UnlockAt}
+use Rattle.lot_mutex.specs.declared.unlock.UnlockAt.TheVariants as unlock
+use Rattle.lot_mutex.specs.declared.hand_off.HandOffAt.{HandOffAt}
+use Rattle.lot_mutex.specs.declared.hand_off.HandOffAt.TheVariants as hand_off
 use Rattle.lot_steps.specs.declared.places.Place.{Place}
 use Rattle.lot_steps.specs.declared.places.Place.TheVariants.{Idle, Mutex}
-use Rattle.lot_steps.specs.Acts.{outcome_of}
-use Rattle.lot_steps.specs.MutexSteps.{mutex_first, is_locked, is_parked, entered, looked, hand_off_word, in_unlock}
+use Rattle.lot_acts.specs.Acts.{outcome_of}
+use Rattle.lot_mutex.specs.MutexSteps.{mutex_first, is_locked, is_parked, entered, looked, hand_off_word, in_unlock}
 use Rattle.lot_calls.specs.Kinds.{is_fair}
 use Rattle.lot_calls.specs.Calls.{lock_in}
 use Rattle.lot_steps.specs.Steps.{act_of, next_place, next_act, mutex_goes, mutex_does, lock_of, first_place}
-use Rattle.lot_world.specs.Machine.{State, place_at, word_at, kind_at, queue_at, section_at, go_of, after, solo, owners_handed_over, is_there}
-use Rattle.lot_world.specs.Fits.{IsShaped, PlaceFits}
+use Rattle.lot_machine.specs.Machine.{State, place_at, word_at, kind_at, queue_at, section_at, go_of, after, solo, owners_handed_over, is_there}
+use Rattle.lot_machine.specs.Fits.{IsShaped, PlaceFits}
 use Rattle.lot_world.specs.MutexPromises.{IsMutexWord}
 use Rattle.abstract_locks.specs.Sites.{Main, Site}
 use Rattle.lot_world.specs.MutexDeeds.{station, station_at, Station, hand, acts, takes, queued}
@@ -57,12 +57,12 @@ use Rattle.lot_world.proofs.LockSteps.{purpose_is}
 use Rattle.lot_world.proofs.Counts.{first_times}
 use Rattle.lot_world.proofs.Glue.{nothing_at, IsTakenAt, put_here, station_here, own_stance, successor_one, same}
 use Rattle.lot_world.proofs.SitesPromise.{parked_at}
-use Rattle.lot_steps.specs.declared.mutex.MutexPlace.{MutexPlace}
-use Rattle.lot_steps.specs.declared.acts.Whom as whoms
+use Rattle.lot_mutex.specs.declared.places.MutexPlace.{MutexPlace}
+use Rattle.lot_acts.specs.declared.acts.Whom as whoms
 use Rattle.lot_world.proofs.LockEvents.{taken_place}
 use Rattle.lot_world.proofs.SitesKept.{go_by, unshared_at}
-use Rattle.lot_steps.specs.declared.owners.Owners.{Owners}
-use Rattle.lot_steps.specs.MutexSteps.{with_exclusive}
+use Rattle.lot_acts.specs.declared.owners.Owners.{Owners}
+use Rattle.lot_acts.specs.Owners.{with_exclusive}
 use Rattle.lot_world.proofs.GoneKept.{gone_goes}
 use Rattle.lot_world.proofs.AtPlaces.{coded as words_coded, absent, owns}
 use Rattle.lot_world.proofs.SoloActs.{Leads, leads_rest, leads_step, Facing, Faces, word_faces, enter_faces, leave_faces, wake_faces, hand_faces, accept_faces, park_faces, unparked_faces, remove_faces, take_faces, act_led}

@@ -11,30 +11,30 @@ use Rattle.lot_base.specs.declared.wants.Want.TheVariants.{Exclusive}
 use Rattle.lot_base.specs.Words.{apply}
 use Rattle.lot_base.specs.Lines.{waiter, without, first_of}
 use Rattle.lot_calls.specs.declared.kinds.Kind as kind
-use Rattle.lot_steps.specs.declared.acts.Act.{Act}
-use Rattle.lot_steps.specs.declared.acts.Act as act
-use Rattle.lot_steps.specs.declared.acts.Check.TheVariants.{WordIs}
-use Rattle.lot_steps.specs.declared.acts.Wakes.{Wakes}
-use Rattle.lot_steps.specs.declared.acts.Wakes as wakes
-use Rattle.lot_steps.specs.declared.acts.Reply.TheVariants.{Done, Value, Parked, Took, Removed, TakenBy, HandedBy, Woken}
+use Rattle.lot_acts.specs.declared.acts.Act.{Act}
+use Rattle.lot_acts.specs.declared.acts.Act as act
+use Rattle.lot_acts.specs.declared.acts.Check.TheVariants.{WordIs}
+use Rattle.lot_acts.specs.declared.acts.Wakes.{Wakes}
+use Rattle.lot_acts.specs.declared.acts.Wakes as wakes
+use Rattle.lot_acts.specs.declared.acts.Reply.TheVariants.{Done, Value, Parked, Took, Removed, TakenBy, HandedBy, Woken}
 use Rattle.lot_calls.specs.declared.outcomes.Outcome.{Outcome}
 use Rattle.lot_calls.specs.declared.outcomes.Outcome as outcome
 use Rattle.lot_steps.specs.declared.places.Place.{Place}
 use Rattle.lot_steps.specs.declared.places.Place.TheVariants.{Idle}
-use Rattle.lot_steps.specs.declared.acts.Whom as whoms
-use Rattle.lot_steps.specs.Acts.{outcome_of}
+use Rattle.lot_acts.specs.declared.acts.Whom as whoms
+use Rattle.lot_acts.specs.Acts.{outcome_of}
 use Rattle.lot_steps.specs.Steps.{act_of, next_place, next_act}
-use Rattle.lot_world.specs.Machine.{State, unlocked, place_at, word_at, owners_at, section_at, queue_at, put, state_after_operation, state_with_sections, queues_with_last, queues_without, queues_without_first, state_after_taking, state_after_reply, state_after_act, reply_to, can_do, state_after_go, go_of, is_possible, after, step_outcome, go_outcome, solo, place_after_telling, state_after_telling, state_after_hand_over, owners_handed_over, is_there}
-use Rattle.lot_world.specs.Fits.{IsShaped, SameSize}
+use Rattle.lot_machine.specs.Machine.{State, unlocked, place_at, word_at, owners_at, section_at, queue_at, put, state_after_operation, state_with_sections, queues_with_last, queues_without, queues_without_first, state_after_taking, state_after_reply, state_after_act, reply_to, can_do, state_after_go, go_of, is_possible, after, step_outcome, go_outcome, solo, place_after_telling, state_after_telling, state_after_hand_over, owners_handed_over, is_there}
+use Rattle.lot_machine.specs.Fits.{IsShaped, SameSize}
 use Rattle.lot_world.specs.Refinement.{owner_at}
 use Rattle.lot_world.specs.MutexDeeds.{station}
 use Rattle.lot_world.specs.SitesOf.{IsSteady}
-use Rattle.lot_world.proofs.Shape.{after_shaped, after_size, main_key_there, main_line_there}
+use Rattle.lot_machine.proofs.Shape.{after_shaped, after_size, main_key_there, main_line_there}
 use Rattle.lot_world.proofs.TurnsKept.{after_steady}
 use Rattle.lot_world.proofs.AtPlaces.{same_without}
 use Rattle.lot_world.proofs.ExclusiveOwners.{owner_after, exclusive-owners}
-use Rattle.lot_steps.specs.declared.owners.Owners.{Owners}
-use Rattle.lot_steps.specs.MutexSteps.{with_exclusive}
+use Rattle.lot_acts.specs.declared.owners.Owners.{Owners}
+use Rattle.lot_acts.specs.Owners.{with_exclusive}
 use Rattle.lot_steps.specs.Steps.{owners_after}
 use Rattle.lot_world.specs.Solo.{Rests}
 use Rattle.lot_world.proofs.Alone.{rests_after}

@@ -7,7 +7,7 @@ use Rattle.lot_steps.specs.declared.places.Place.{Place}
 use Rattle.lot_steps.specs.declared.places.Place.TheVariants.{Idle, Mutex}
 use Rattle.abstract_locks.specs.Locks.{putting}
 use Rattle.abstract_locks.specs.Sites.{Line, Main, Second}
-use Rattle.lot_world.specs.Machine.{State, kind_at}
+use Rattle.lot_machine.specs.Machine.{State, kind_at}
 use Rattle.lot_world.specs.SitesOf.{is_mutex}
 use Rattle.lot_world.specs.MutexDeeds.{Hand, Station, hand, nowhere, station, station_at}
 use Rattle.lot_world.specs.SitesOf.{Sections, Lines, Hands, CallsMutex, key_of, stood_in, carried_at, hand_at}

@@ -9,7 +9,7 @@ use Rattle.lot_steps.specs.declared.places.Place.{Place}
 use Rattle.abstract_locks.specs.Locks.{putting}
 use Rattle.abstract_locks.specs.Purposes.{rules_of}
 use Rattle.abstract_locks.specs.Sites.{Line, Main, Second}
-use Rattle.lot_world.specs.Machine.{State, place_at, kind_at, section_at, queue_at}
+use Rattle.lot_machine.specs.Machine.{State, place_at, kind_at, section_at, queue_at}
 use Rattle.lot_world.specs.SitesOf.{is_mutex}
 use Rattle.lot_world.specs.MutexDeeds.{Station, hand, nowhere, station, station_at}
 use Rattle.lot_world.specs.SitesOf.{Stands, Sections, Lines, Hands, CallsMutex, key_of, stood_in}

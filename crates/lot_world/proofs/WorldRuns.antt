@@ -4,8 +4,8 @@ use Rattle.lot_calls.specs.declared.calls.Step.{Step}
 use Rattle.lot_calls.specs.declared.outcomes.Outcome.{Outcome}
 use Rattle.lot_calls.specs.declared.outcomes.Outcome as outcome
 use Rattle.abstract_locks.specs.Runs.{IsRun}
-use Rattle.lot_world.specs.Machine.{State, after, step_outcome, after_all, step_outcomes, alone_after, go_of, solo}
-use Rattle.lot_world.specs.Fits.{IsShaped}
+use Rattle.lot_machine.specs.Machine.{State, after, step_outcome, after_all, step_outcomes, alone_after, go_of, solo}
+use Rattle.lot_machine.specs.Fits.{IsShaped}
 use Rattle.lot_world.specs.Refinement.{locks_of}
 use Rattle.lot_world.specs.WorldRuns.{IsWorldStep, IsWorldRun, Tells}
 use Rattle.lot_world.specs.Solo.{IsSoloRun, GoesOnUntil, last_told}
@@ -15,7 +15,7 @@ use Rattle.lot_world.proofs.LockSteps.{after_step}
 use Rattle.lot_world.proofs.OneThing.{one_thing, touches}
 use Rattle.lot_world.specs.SitesOf.{IsSteady}
 use Rattle.lot_world.proofs.Promises.{kept_after}
-use Rattle.lot_world.proofs.Shape.{after_shaped}
+use Rattle.lot_machine.proofs.Shape.{after_shaped}
 use Rattle.lot_world.proofs.TurnsKept.{after_steady}
 
 -- what the world keeps from step to step

@@ -1,8 +1,8 @@
 -- What a fair release does: it lets its mutex go only where nobody waits for it, and else the first waiter owns it in its place.
 use Rattle.std.specs.Prelude.{ℕ, true, false, Option, Some, None, ◌≡◌, ◌⊎◌, []}
 use Rattle.lot_base.specs.declared.wants.Want.TheVariants.{Exclusive}
-use Rattle.lot_steps.specs.MutexSteps.{is_locked, is_parked}
-use Rattle.lot_world.specs.Machine.{State, word_at}
+use Rattle.lot_mutex.specs.MutexSteps.{is_locked, is_parked}
+use Rattle.lot_machine.specs.Machine.{State, word_at}
 use Rattle.abstract_locks.specs.Locks.{Owns, IsTaken, HasTakenNobody, first_thread}
 use Rattle.abstract_locks.specs.Purposes.{Purpose, Releases, Bumps}
 use Rattle.lot_world.specs.Refinement.{lock_state, call_at}

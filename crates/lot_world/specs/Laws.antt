@@ -12,12 +12,12 @@ use Rattle.lot_calls.specs.declared.calls.Step.{Step}
 use Rattle.lot_calls.specs.declared.outcomes.Answer.TheVariants as answer
 use Rattle.lot_calls.specs.declared.outcomes.Outcome.{Outcome}
 use Rattle.lot_calls.specs.declared.outcomes.Outcome.TheVariants as told
-use Rattle.lot_steps.specs.declared.mutex.MutexPlace.TheVariants as at
-use Rattle.lot_steps.specs.declared.mutex.lock.Entry.TheVariants as entry
-use Rattle.lot_steps.specs.declared.mutex.lock.LockAt.TheVariants.{Asleep, Taken}
-use Rattle.lot_steps.specs.declared.mutex.hand_off.HandOffAt.TheVariants.{Store}
+use Rattle.lot_mutex.specs.declared.places.MutexPlace.TheVariants as at
+use Rattle.lot_mutex.specs.declared.lock.Entry.TheVariants as entry
+use Rattle.lot_mutex.specs.declared.lock.LockAt.TheVariants.{Asleep, Taken}
+use Rattle.lot_mutex.specs.declared.hand_off.HandOffAt.TheVariants.{Store}
 use Rattle.lot_steps.specs.declared.places.Place.TheVariants.{Idle, Mutex}
-use Rattle.lot_world.specs.Machine.{State, opening, unlocked, nobody, after_all, word_at}
+use Rattle.lot_machine.specs.Machine.{State, opening, unlocked, nobody, after_all, word_at}
 use Rattle.lot_world.specs.Refinement.{lock_state, locks_of}
 use Rattle.lot_world.specs.Fair.{IsFair}
 use Rattle.lot_world.specs.Promises.{IsKept}

@@ -5,12 +5,12 @@ pub use Rattle.lot_calls.specs.Kinds
 pub use Rattle.abstract_locks.specs.Locks
 pub use Rattle.abstract_locks.specs.Purposes
 pub use Rattle.abstract_locks.specs.Runs
-pub use Rattle.lot_steps.specs.Acts
-pub use Rattle.lot_steps.specs.MutexSteps
+pub use Rattle.lot_acts.specs.Acts
+pub use Rattle.lot_mutex.specs.MutexSteps
 pub use Rattle.lot_steps.specs.Steps
-pub mod Machine
-pub mod Fits
-pub mod Views
+pub use Rattle.lot_machine.specs.Machine
+pub use Rattle.lot_machine.specs.Fits
+pub use Rattle.lot_machine.specs.Views
 pub mod Refinement
 pub mod Promises
 pub mod MutexPromises

@@ -1,20 +1,21 @@
 -- The steps of a mutex, told by what a thread does about the abstract lock: what each place is, and the deeds of each step.
 use Rattle.std.specs.Prelude.{ℕ, Bool, true, false, Option, Some, None, if◌then◌else◌, ◌==◌, not, List, [], ◌∷◌, ◌++◌}
 use Rattle.lot_base.specs.declared.wants.Want.TheVariants.{Exclusive}
-use Rattle.lot_steps.specs.declared.mutex.MutexPlace.{MutexPlace}
-use Rattle.lot_steps.specs.declared.mutex.MutexPlace.TheVariants.{Lock, TryLock, Unlock, UnlockFair, Bump, HandOff}
-use Rattle.lot_steps.specs.declared.mutex.lock.LockAt.{LockAt}
-use Rattle.lot_steps.specs.declared.mutex.lock.LockAt.TheVariants as lock
-use Rattle.lot_steps.specs.declared.mutex.unlock.UnlockAt.{UnlockAt}
-use Rattle.lot_steps.specs.declared.mutex.unlock.UnlockAt.TheVariants as unlock
-use Rattle.lot_steps.specs.declared.mutex.hand_off.HandOffAt.{HandOffAt}
-use Rattle.lot_steps.specs.declared.mutex.hand_off.HandOffAt.TheVariants as hand_off
+use Rattle.lot_mutex.specs.declared.places.MutexPlace.{MutexPlace}
+use Rattle.lot_mutex.specs.declared.places.MutexPlace.TheVariants.{Lock, TryLock, Unlock, UnlockFair, Bump, HandOff}
+use Rattle.lot_mutex.specs.declared.lock.LockAt.{LockAt}
+use Rattle.lot_mutex.specs.declared.lock.LockAt.TheVariants as lock
+use Rattle.lot_mutex.specs.declared.unlock.UnlockAt.{UnlockAt}
+use Rattle.lot_mutex.specs.declared.unlock.UnlockAt.TheVariants as unlock
+use Rattle.lot_mutex.specs.declared.hand_off.HandOffAt.{HandOffAt}
+use Rattle.lot_mutex.specs.declared.hand_off.HandOffAt.TheVariants as hand_off
 use Rattle.lot_steps.specs.declared.places.Place.{Place}
 use Rattle.lot_steps.specs.declared.places.Place.TheVariants.{Idle, Mutex}
-use Rattle.lot_steps.specs.declared.acts.Reply.{Reply}
-use Rattle.lot_steps.specs.declared.acts.Reply.TheVariants.{Done, Value, Parked, Took, Removed, Late}
-use Rattle.lot_steps.specs.MutexSteps.{is_locked, is_parked}
-pub use Rattle.lot_steps.specs.MutexProfiles.{Hand, Of, hand, hand_owner, in_hand, mutex_profile, owner, inside, again, carrying}
+use Rattle.lot_acts.specs.declared.acts.Reply.{Reply}
+use Rattle.lot_acts.specs.declared.acts.Reply.TheVariants.{Done, Value, Parked, Took, Removed, Late}
+use Rattle.lot_mutex.specs.MutexSteps.{is_locked, is_parked}
+pub use Rattle.lot_mutex.specs.MutexProfiles.{mutex_profile, owner, inside, again, carrying}
+pub use Rattle.lot_acts.specs.Profiles.{Hand, Of, hand, hand_owner, in_hand}
 use Rattle.abstract_locks.specs.Locks.{Queued, Enter, Leave, Park, TakeFirst, HandOff as HandsOff, Late as GivesUp}
 use Rattle.abstract_locks.specs.Sites.{Doing, Has, Line, Main, Deed, Begin, End, In, Out, Mark, Clear, FindNobody, Case, idle}
 

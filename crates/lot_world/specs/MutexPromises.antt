@@ -1,12 +1,12 @@
 -- What is promised of every state, in the words of a mutex.
 use Rattle.std.specs.Prelude.{ℕ, true, false, Option, None, Some, ◌≡◌, ◌≢◌, ◌+◌, ◌⊎◌}
 use Rattle.lot_base.specs.declared.wants.Want.TheVariants.{Exclusive}
-use Rattle.lot_steps.specs.declared.acts.Act.TheVariants.{Sleep}
-use Rattle.lot_steps.specs.MutexSteps.{is_parked}
+use Rattle.lot_acts.specs.declared.acts.Act.TheVariants.{Sleep}
+use Rattle.lot_mutex.specs.MutexSteps.{is_parked}
 use Rattle.lot_steps.specs.Steps.{act_of}
 use Rattle.abstract_locks.specs.Locks.{one_if_some, standing}
 use Rattle.abstract_locks.specs.Purposes.{Releases}
-use Rattle.lot_world.specs.Machine.{State, place_at, word_at, kind_at}
+use Rattle.lot_machine.specs.Machine.{State, place_at, word_at, kind_at}
 use Rattle.lot_world.specs.Refinement.{owner_at, lock_state, call_at}
 use Rattle.lot_world.specs.SitesOf.{is_mutex}
 use Rattle.lot_world.specs.Owing.{Owes}

@@ -2,9 +2,9 @@
 use Rattle.std.specs.Prelude.{ℕ, true, Some, ◌≡◌, ◌≢◌, ◌*◌, ◌⊎◌, ◌↔◌}
 use Rattle.lot_calls.specs.declared.outcomes.Outcome.{Outcome}
 use Rattle.lot_calls.specs.declared.outcomes.Outcome.TheVariants as told
-use Rattle.lot_steps.specs.MutexSteps.{is_parked}
+use Rattle.lot_mutex.specs.MutexSteps.{is_parked}
 use Rattle.lot_steps.specs.Steps.{owes_on}
-use Rattle.lot_world.specs.Machine.{State, place_at, word_at, section_at}
+use Rattle.lot_machine.specs.Machine.{State, place_at, word_at, section_at}
 use Rattle.lot_world.specs.Refinement.{call_at}
 use Rattle.abstract_locks.specs.Purposes.{IsReleasing}
 

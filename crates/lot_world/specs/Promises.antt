@@ -4,11 +4,11 @@ use Rattle.std.specs.Prelude.{ℕ, Bool, false, true, None, Option, ◌≡◌, �
 use Rattle.lot_base.specs.declared.keys.Keys.TheVariants.{One}
 use Rattle.lot_base.specs.declared.wants.Want.{Want}
 use Rattle.lot_base.specs.declared.wants.Want.TheVariants.{Exclusive, Upgradable}
-use Rattle.lot_steps.specs.declared.acts.Act.TheVariants.{Enter, Leave, Sleep}
-use Rattle.lot_steps.specs.declared.acts.Wakes as wakes
+use Rattle.lot_acts.specs.declared.acts.Act.TheVariants.{Enter, Leave, Sleep}
+use Rattle.lot_acts.specs.declared.acts.Wakes as wakes
 use Rattle.lot_base.specs.declared.notes.Note.TheVariants.{HandOff}
 use Rattle.lot_steps.specs.Steps.{act_of, taker, retries_on}
-use Rattle.lot_world.specs.Machine.{State, place_at, word_at, filled_at, section_at}
+use Rattle.lot_machine.specs.Machine.{State, place_at, word_at, filled_at, section_at}
 use Rattle.abstract_locks.specs.Locks.{LockState, Sort, Semaphore, Rules, times, standing, readers, Owns}
 use Rattle.abstract_locks.specs.Codes.{word_by, parked_in, aside_in}
 use Rattle.abstract_locks.specs.Runs.{AreLockStates}

@@ -8,7 +8,7 @@ use Rattle.abstract_locks.specs.Locks.{Rules}
 use Rattle.abstract_locks.specs.Sites.{Line, Main, Second, Site, IsSite, has_readers, after_deed, Needed}
 use Rattle.abstract_locks.specs.Codes.{code, parked_in, aside_in}
 use Rattle.abstract_locks.specs.Purposes.{rules_of}
-use Rattle.lot_world.specs.Machine.{State, place_at, word_at, filled_at, kind_at, queue_at, section_at}
+use Rattle.lot_machine.specs.Machine.{State, place_at, word_at, filled_at, kind_at, queue_at, section_at}
 use Rattle.lot_world.specs.Refinement.{lock_state}
 use Rattle.lot_calls.specs.declared.kinds.Kind.{Kind}
 use Rattle.lot_calls.specs.declared.kinds.Kind as kind

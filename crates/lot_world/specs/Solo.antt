@@ -2,14 +2,14 @@
 use Rattle.std.specs.Prelude.{ℕ, Bool, if◌then◌else◌, List, Option, Some, None, ◌≡◌, ◌≢◌, ◌*◌, ◌≤◌, ◌++◌, ◌∷◌, [], length, replicate}
 use Rattle.lot_base.specs.declared.wants.Want.{Want}
 use Rattle.lot_base.specs.declared.wants.Want.TheVariants.{Exclusive}
-use Rattle.lot_steps.specs.declared.acts.Act.TheVariants.{Sleep}
+use Rattle.lot_acts.specs.declared.acts.Act.TheVariants.{Sleep}
 use Rattle.lot_calls.specs.declared.outcomes.Answer.{Answer}
 use Rattle.lot_calls.specs.declared.outcomes.Answer as answer
 use Rattle.lot_calls.specs.declared.outcomes.Outcome.{Outcome}
 use Rattle.lot_calls.specs.declared.outcomes.Outcome as outcome
 use Rattle.lot_steps.specs.declared.places.Place.TheVariants.{Idle}
 use Rattle.lot_steps.specs.Steps.{act_of, lock_of}
-use Rattle.lot_world.specs.Machine.{State, place_at, section_at, go_of}
+use Rattle.lot_machine.specs.Machine.{State, place_at, section_at, go_of}
 use Rattle.abstract_locks.specs.Locks.{Mutex, LockState, first_thread, Queued, MayEnter, IsBlocked, Owns}
 use Rattle.abstract_locks.specs.Purposes.{Purpose, Enters, Releases, Bumps, Patience, Patient, Try}
 use Rattle.abstract_locks.specs.Runs.{LocksState, rules_at}

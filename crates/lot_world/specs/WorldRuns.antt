@@ -5,7 +5,7 @@ use Rattle.lot_calls.specs.declared.calls.Turn as turn
 use Rattle.lot_calls.specs.declared.calls.Step.{Step}
 use Rattle.lot_calls.specs.declared.outcomes.Outcome.{Outcome}
 use Rattle.abstract_locks.specs.Runs.{IsStep}
-use Rattle.lot_world.specs.Machine.{State, word_at, queue_at}
+use Rattle.lot_machine.specs.Machine.{State, word_at, queue_at}
 use Rattle.lot_world.specs.Refinement.{locks_of, ChangesOneThing}
 use Rattle.lot_world.specs.Fair.{IsFair}
 use Rattle.lot_world.specs.Owing.{OwesSince}

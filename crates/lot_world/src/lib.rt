@@ -2,15 +2,11 @@
 #![tactic(auto)]
 
 pub mod laws;
-pub mod machine;
-#[cfg(test)]
-mod tests;
-pub mod views;
 pub mod world;
 
 pub use lot_calls::{Answer, Call, Kind, MutexCall, OnceState, Outcome, Step, Turn};
+pub use lot_machine;
+pub use lot_machine::{Debt, Debts, Lock, OwnersOf, QueueOf};
 pub use lot_steps;
 pub use lot_steps::{Owner, Place};
-pub use machine::Lock;
-pub use views::{Debt, Debts, OwnersOf, QueueOf};
 pub use world::{MOST_LOCKS, MOST_THREADS, SOLO_STEPS, Stopped, World};

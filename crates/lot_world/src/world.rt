@@ -3,8 +3,8 @@ ghost use Rattle.std.specs.Prelude.{◌≡◌, ◌<◌, ◌≤◌, ◌++◌, ◌
 ghost use Rattle.lot_calls.specs.Kinds.{fits};
 ghost use Rattle.lot_calls.specs.Calls.{lock_in};
 ghost use Rattle.lot_steps.specs.Steps.{first_place};
-ghost use Rattle.lot_world.specs.Machine.{opening, place_at, word_at, kind_at, queue_at, after, step_outcome, after_all, step_outcomes, solo};
-ghost use Rattle.lot_world.specs.Fits.{SameSize};
+ghost use Rattle.lot_machine.specs.Machine.{opening, place_at, word_at, kind_at, queue_at, after, step_outcome, after_all, step_outcomes, solo};
+ghost use Rattle.lot_machine.specs.Fits.{SameSize};
 ghost use Rattle.abstract_locks.specs.Runs.{IsOpening, IsStep, IsRun, purpose_at};
 ghost use Rattle.lot_world.specs.Refinement.{locks_of, ChangesOneThing};
 ghost use Rattle.lot_world.specs.Promises.{IsKept};
@@ -12,11 +12,10 @@ ghost use Rattle.lot_world.specs.Fair.{IsFair};
 ghost use Rattle.lot_world.specs.Owing.{OwesSince};
 ghost use Rattle.lot_world.specs.WorldRuns.{IsWorldRun, Tells, TouchesOnlyByGoing};
 ghost use Rattle.lot_world.specs.Solo.{IsUnderWay, HasItsWay, Rests, EndsAlone, IsSoloRun};
-ghost use Rattle.lot_world.specs.Views.{StandUnder, owners_of, queue_of, debts_of};
+ghost use Rattle.lot_machine.specs.Views.{StandUnder, owners_of, queue_of, debts_of};
 
-use crate::machine::Machine;
-use crate::views::{Debts, OwnersOf, QueueOf};
 use lot_base::{Fault, Queues};
+use lot_machine::{Debts, Machine, OwnersOf, QueueOf};
 use lot_steps::{Call, Kind, Outcome, Place, Step, Turn};
 use std::alloc::Global;
 use std::marker::Model;
@@ -43,8 +42,8 @@ pub struct World<Q: Queues + Drop> {
 }
 
 impl<Q: Queues + Drop> Model for World<Q> {
-    ghost use Rattle.lot_world.specs.Machine.{State};
-    ghost use Rattle.lot_world.specs.Fits.{IsShaped};
+    ghost use Rattle.lot_machine.specs.Machine.{State};
+    ghost use Rattle.lot_machine.specs.Fits.{IsShaped};
     ghost use Rattle.lot_world.specs.SitesOf.{IsSteady};
 
     ghost Value = { State };

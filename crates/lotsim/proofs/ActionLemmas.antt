@@ -5,7 +5,7 @@ use Rattle.lot_calls.specs.declared.calls.Turn.TheVariants.{Begin}
 use Rattle.lot_calls.specs.declared.calls.Step.{Step}
 use Rattle.lot_calls.specs.declared.outcomes.Outcome.{Outcome}
 use Rattle.lot_calls.specs.declared.outcomes.Outcome.TheVariants.{NotNow}
-use Rattle.lot_world.specs.Machine.{State, is_possible, after, step_outcome, turn_outcome}
+use Rattle.lot_machine.specs.Machine.{State, is_possible, after, step_outcome, turn_outcome}
 use Rattle.lotsim.specs.Stages.{went_alone, did}
 
 abbrev pub begin_of : ℕ → Call → Step

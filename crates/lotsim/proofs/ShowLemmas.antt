@@ -4,10 +4,10 @@ use Rattle.std.specs.Prelude.{codes, decimal, if◌then◌else◌, ◌==◌}
 use Rattle.std.proofs.lemmas.List.Elements.{All-nil, All-cons, All-head, All-tail}
 use Rattle.lot_base.specs.declared.wants.Waiter.{Waiter}
 use Rattle.lot_steps.specs.declared.places.Place.{Place}
-use Rattle.lot_world.specs.declared.views.Debt.{Debt}
-use Rattle.lot_world.specs.declared.views.Debt.TheVariants.{Owes, Retries}
-use Rattle.lot_world.specs.Machine.{State}
-use Rattle.lot_world.specs.Views.{StandUnder, has_debt, debtors}
+use Rattle.lot_machine.specs.declared.views.Debt.{Debt}
+use Rattle.lot_machine.specs.declared.views.Debt.TheVariants.{Owes, Retries}
+use Rattle.lot_machine.specs.Machine.{State}
+use Rattle.lot_machine.specs.Views.{StandUnder, has_debt, debtors}
 use Rattle.lotsim.specs.Shows.{show_line, show_lines, waiter_text, aside_text, debtor_text, group, waiters_text}
 
 -- the first item has the heading, and the others a comma

@@ -1,8 +1,8 @@
 pub use Rattle.lot_text.specs.Lines
 pub use Rattle.lot_text.specs.Grammar
 pub use Rattle.lot_text.specs.Text
-pub use Rattle.lot_world.specs.Machine
-pub use Rattle.lot_world.specs.Views
+pub use Rattle.lot_machine.specs.Machine
+pub use Rattle.lot_machine.specs.Views
 pub mod Shows
 pub mod Stages
 pub mod Sessions

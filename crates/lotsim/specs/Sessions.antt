@@ -1,7 +1,7 @@
 -- The stage that the program keeps.
 use Rattle.std.specs.Prelude.{ℕ, List, Option, None, Some}
 use Rattle.lot_calls.specs.declared.kinds.Kind.{Kind}
-use Rattle.lot_world.specs.Machine.{State, opening}
+use Rattle.lot_machine.specs.Machine.{State, opening}
 use Rattle.lotsim.specs.declared.session.Session.{Session}
 use Rattle.lotsim.specs.Stages.{Stage, nothing, declaring, running}
 

@@ -4,12 +4,12 @@ use Rattle.std.specs.List.{join_by}
 use Rattle.lot_base.specs.declared.wants.Waiter.{Waiter}
 use Rattle.lot_base.specs.declared.wants.Want.{Want}
 use Rattle.lot_base.specs.declared.wants.Want as want
-use Rattle.lot_steps.specs.declared.owners.Owner.{Owner}
-use Rattle.lot_steps.specs.declared.owners.Owner as owner
-use Rattle.lot_world.specs.declared.views.Debt.{Debt}
-use Rattle.lot_world.specs.declared.views.Debt.TheVariants.{Owes, Retries}
-use Rattle.lot_world.specs.Machine.{State, word_at, queue_at}
-use Rattle.lot_world.specs.Views.{owners_of, debtors}
+use Rattle.lot_acts.specs.declared.owners.Owner.{Owner}
+use Rattle.lot_acts.specs.declared.owners.Owner as owner
+use Rattle.lot_machine.specs.declared.views.Debt.{Debt}
+use Rattle.lot_machine.specs.declared.views.Debt.TheVariants.{Owes, Retries}
+use Rattle.lot_machine.specs.Machine.{State, word_at, queue_at}
+use Rattle.lot_machine.specs.Views.{owners_of, debtors}
 
 abbrev pub owner_letter : Owner → List ℕ
 owner_letter owner.TheVariants.Exclusive = codes "x"

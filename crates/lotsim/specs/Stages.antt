@@ -10,7 +10,7 @@ use Rattle.lot_calls.specs.declared.calls.Step.{Step}
 use Rattle.lot_calls.specs.declared.outcomes.Outcome.{Outcome}
 use Rattle.lot_calls.specs.declared.outcomes.Outcome as outcome
 use Rattle.lot_calls.specs.Kinds.{fits}
-use Rattle.lot_world.specs.Machine.{State, opening, is_possible, after, step_outcome, solo}
+use Rattle.lot_machine.specs.Machine.{State, opening, is_possible, after, step_outcome, solo}
 use Rattle.lot_text.specs.declared.grammar.Command.{Command}
 use Rattle.lot_text.specs.declared.grammar.Command as command
 use Rattle.lot_text.specs.declared.grammar.NamedTurn.{NamedTurn}

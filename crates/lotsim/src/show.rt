@@ -1,6 +1,6 @@
 //! The lines of `show`: a lock's name, its word, and each group of threads that isn't empty.
 ghost use Rattle.std.specs.Prelude.{◌≡◌, ◌<◌, ◌≤◌, ◌+◌, ◌*◌, ◌++◌, ℕ, List, All, length};
-ghost use Rattle.lot_world.specs.Views.{StandUnder};
+ghost use Rattle.lot_machine.specs.Views.{StandUnder};
 ghost use Rattle.lot_text.specs.Sent.{Puts};
 ghost use Rattle.lotsim.specs.Shows.{owner_letter, want_letter, owners_text, waiters_text, debtors_text, show_line, show_lines};
 

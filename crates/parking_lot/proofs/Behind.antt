@@ -5,18 +5,18 @@ use Rattle.lot_calls.specs.declared.calls.MutexCall.{MutexCall}
 use Rattle.lot_calls.specs.declared.calls.MutexCall.TheVariants as call
 use Rattle.lot_calls.specs.declared.outcomes.Answer.{Answer}
 use Rattle.lot_calls.specs.declared.outcomes.Answer.TheVariants.{Ok, Yes, No}
-use Rattle.lot_steps.specs.MutexSteps.{in_unlock, looked, entered, is_timed, is_locked, is_parked}
+use Rattle.lot_mutex.specs.MutexSteps.{in_unlock, looked, entered, is_timed, is_locked, is_parked}
 use Rattle.lot_steps.specs.Steps.{act_of, next_place, next_act, mutex_goes, mutex_does}
-use Rattle.lot_steps.specs.declared.acts.Act as act
-use Rattle.lot_steps.specs.declared.acts.Next as next
-use Rattle.lot_steps.specs.declared.acts.Reply.TheVariants.{Value}
-use Rattle.lot_steps.specs.declared.mutex.MutexPlace.{MutexPlace}
-use Rattle.lot_steps.specs.declared.mutex.MutexPlace.TheVariants as at_mutex
-use Rattle.lot_steps.specs.declared.mutex.hand_off.HandOffAt as hand_off
-use Rattle.lot_steps.specs.declared.mutex.lock.Entry.{Entry}
-use Rattle.lot_steps.specs.declared.mutex.lock.Entry as entry
-use Rattle.lot_steps.specs.declared.mutex.lock.LockAt as lock
-use Rattle.lot_steps.specs.declared.mutex.unlock.UnlockAt as unlock
+use Rattle.lot_acts.specs.declared.acts.Act as act
+use Rattle.lot_acts.specs.declared.acts.Next as next
+use Rattle.lot_acts.specs.declared.acts.Reply.TheVariants.{Value}
+use Rattle.lot_mutex.specs.declared.places.MutexPlace.{MutexPlace}
+use Rattle.lot_mutex.specs.declared.places.MutexPlace.TheVariants as at_mutex
+use Rattle.lot_mutex.specs.declared.hand_off.HandOffAt as hand_off
+use Rattle.lot_mutex.specs.declared.lock.Entry.{Entry}
+use Rattle.lot_mutex.specs.declared.lock.Entry as entry
+use Rattle.lot_mutex.specs.declared.lock.LockAt as lock
+use Rattle.lot_mutex.specs.declared.unlock.UnlockAt as unlock
 use Rattle.lot_steps.specs.declared.places.Place.{Place}
 use Rattle.lot_steps.specs.declared.places.Place.TheVariants.{Mutex}
 use Rattle.lot_words.specs.declared.owners.Ownership.{Ownership}

@@ -3,12 +3,12 @@ use Rattle.std.proofs.Common.{ℕ, ◌≡◌, ◌<◌, ◌*◌, ◌%◌, Bool, t
 use Rattle.lot_base.specs.declared.keys.Keys.TheVariants.{One}
 use Rattle.lot_base.specs.declared.notes.Note as note
 use Rattle.lot_base.specs.declared.ops.Op.TheVariants.{Store}
-use Rattle.lot_steps.specs.MutexSteps.{hand_off_act, hand_off_word}
-use Rattle.lot_steps.specs.declared.acts.Reply.{Reply}
-use Rattle.lot_steps.specs.declared.acts.Reply.TheVariants.{Done, Value, Took}
-use Rattle.lot_steps.specs.declared.mutex.MutexPlace.TheVariants.{HandOff}
-use Rattle.lot_steps.specs.declared.mutex.hand_off.HandOffAt.{HandOffAt}
-use Rattle.lot_steps.specs.declared.mutex.hand_off.HandOffAt.TheVariants as at
+use Rattle.lot_mutex.specs.MutexSteps.{hand_off_act, hand_off_word}
+use Rattle.lot_acts.specs.declared.acts.Reply.{Reply}
+use Rattle.lot_acts.specs.declared.acts.Reply.TheVariants.{Done, Value, Took}
+use Rattle.lot_mutex.specs.declared.places.MutexPlace.TheVariants.{HandOff}
+use Rattle.lot_mutex.specs.declared.hand_off.HandOffAt.{HandOffAt}
+use Rattle.lot_mutex.specs.declared.hand_off.HandOffAt.TheVariants as at
 use Rattle.lot_steps.specs.declared.places.Place.TheVariants.{Mutex}
 use Rattle.lot_words.specs.Codes.{exclusive}
 use Rattle.lot_words.specs.Steps.{CodesWith, owns_after_step, has, without}

@@ -5,20 +5,20 @@ use Rattle.lot_base.specs.declared.keys.Keys.TheVariants.{One}
 use Rattle.lot_base.specs.declared.notes.Note.TheVariants.{Normal, HandOff}
 use Rattle.lot_base.specs.declared.ops.Op.{Op}
 use Rattle.lot_base.specs.declared.ops.Op.TheVariants.{Load, And, Exchange}
-use Rattle.lot_steps.specs.MutexSteps.{mutex_act, lock_act, unlock_act, decided}
+use Rattle.lot_mutex.specs.MutexSteps.{mutex_act, lock_act, unlock_act, decided}
 use Rattle.lot_steps.specs.Steps.{late_key}
-use Rattle.lot_steps.specs.declared.acts.Act.{Act}
-use Rattle.lot_steps.specs.declared.acts.Act as act
-use Rattle.lot_steps.specs.declared.acts.Reply.{Reply}
-use Rattle.lot_steps.specs.declared.acts.Reply.TheVariants.{Done, Value, Spun, Parked, Took, Removed, Late, Woken}
-use Rattle.lot_steps.specs.declared.mutex.MutexPlace.{MutexPlace}
-use Rattle.lot_steps.specs.declared.mutex.MutexPlace.TheVariants as at_mutex_place
-use Rattle.lot_steps.specs.declared.mutex.lock.Entry.{Entry}
-use Rattle.lot_steps.specs.declared.mutex.lock.Entry as entry
-use Rattle.lot_steps.specs.declared.mutex.lock.LockAt.{LockAt}
-use Rattle.lot_steps.specs.declared.mutex.lock.LockAt as lock
-use Rattle.lot_steps.specs.declared.mutex.unlock.UnlockAt.{UnlockAt}
-use Rattle.lot_steps.specs.declared.mutex.unlock.UnlockAt as unlock
+use Rattle.lot_acts.specs.declared.acts.Act.{Act}
+use Rattle.lot_acts.specs.declared.acts.Act as act
+use Rattle.lot_acts.specs.declared.acts.Reply.{Reply}
+use Rattle.lot_acts.specs.declared.acts.Reply.TheVariants.{Done, Value, Spun, Parked, Took, Removed, Late, Woken}
+use Rattle.lot_mutex.specs.declared.places.MutexPlace.{MutexPlace}
+use Rattle.lot_mutex.specs.declared.places.MutexPlace.TheVariants as at_mutex_place
+use Rattle.lot_mutex.specs.declared.lock.Entry.{Entry}
+use Rattle.lot_mutex.specs.declared.lock.Entry as entry
+use Rattle.lot_mutex.specs.declared.lock.LockAt.{LockAt}
+use Rattle.lot_mutex.specs.declared.lock.LockAt as lock
+use Rattle.lot_mutex.specs.declared.unlock.UnlockAt.{UnlockAt}
+use Rattle.lot_mutex.specs.declared.unlock.UnlockAt as unlock
 use Rattle.lot_steps.specs.declared.places.Place.{Place}
 use Rattle.lot_steps.specs.declared.places.Place.TheVariants.{Idle, Mutex}
 use Rattle.lot_words.specs.Views.{owning}

@@ -4,9 +4,9 @@ use Rattle.std.proofs.lemmas.List.{append_assoc, append-nil}
 use Rattle.lot_words.specs.declared.views.WordStep.{WordStep}
 use Rattle.lot_base.specs.declared.ops.Op.{Op}
 use Rattle.lot_steps.specs.Steps.{act_of, next_place, next_act}
-use Rattle.lot_steps.specs.declared.acts.Reply.TheVariants.{Value}
-use Rattle.lot_steps.specs.declared.acts.Act as act
-use Rattle.lot_steps.specs.declared.acts.Reply.{Reply}
+use Rattle.lot_acts.specs.declared.acts.Reply.TheVariants.{Value}
+use Rattle.lot_acts.specs.declared.acts.Act as act
+use Rattle.lot_acts.specs.declared.acts.Reply.{Reply}
 use Rattle.lot_calls.specs.declared.outcomes.Answer.{Answer}
 use Rattle.lot_steps.specs.declared.places.Place.{Place}
 use Rattle.parking_lot.specs.Paths.{Tells, Path, here, on, Walks, step, word}

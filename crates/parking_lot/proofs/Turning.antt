@@ -3,16 +3,16 @@ use Rattle.std.proofs.Common.{ℕ, ◌≡◌, Bool, true, List, [], ◌++◌, Op
 use Rattle.std.proofs.lemmas.List.{append-nil}
 use Rattle.lot_base.specs.declared.ops.Op.{Op}
 use Rattle.lot_base.specs.declared.ops.Op.TheVariants.{Load}
-use Rattle.lot_steps.specs.MutexSteps.{mutex_next}
+use Rattle.lot_mutex.specs.MutexSteps.{mutex_next}
 use Rattle.lot_steps.specs.Steps.{act_of, next_place, mutex_goes, HasKeys}
-use Rattle.lot_steps.specs.declared.acts.Next.{Next}
-use Rattle.lot_steps.specs.declared.acts.Next.TheVariants.{At, End}
-use Rattle.lot_steps.specs.declared.mutex.MutexPlace.{MutexPlace}
-use Rattle.lot_steps.specs.declared.acts.Act.{Act}
-use Rattle.lot_steps.specs.declared.acts.Act as act
-use Rattle.lot_steps.specs.declared.acts.Whom as whom
-use Rattle.lot_steps.specs.declared.acts.Reply.{Reply}
-use Rattle.lot_steps.specs.declared.acts.Reply.TheVariants.{Done, Value, Parked, Took, Picked, Requeued, Removed, Late, Woken}
+use Rattle.lot_acts.specs.declared.acts.Next.{Next}
+use Rattle.lot_acts.specs.declared.acts.Next.TheVariants.{At, End}
+use Rattle.lot_mutex.specs.declared.places.MutexPlace.{MutexPlace}
+use Rattle.lot_acts.specs.declared.acts.Act.{Act}
+use Rattle.lot_acts.specs.declared.acts.Act as act
+use Rattle.lot_acts.specs.declared.acts.Whom as whom
+use Rattle.lot_acts.specs.declared.acts.Reply.{Reply}
+use Rattle.lot_acts.specs.declared.acts.Reply.TheVariants.{Done, Value, Parked, Took, Picked, Requeued, Removed, Late, Woken}
 use Rattle.lot_steps.specs.declared.places.Place.{Place}
 use Rattle.lot_steps.specs.declared.places.Place.TheVariants.{Idle, Mutex}
 use Rattle.lot_words.specs.Indices.{word_index}

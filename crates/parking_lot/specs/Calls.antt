@@ -4,8 +4,8 @@ use Rattle.lot_base.specs.declared.ops.Op.{Op}
 use Rattle.lot_base.specs.declared.ops.Op.TheVariants.{Load, Sub, Or, Exchange}
 use Rattle.lot_calls.specs.declared.calls.MutexCall.{MutexCall}
 use Rattle.lot_calls.specs.declared.calls.MutexCall.TheVariants as call
-use Rattle.lot_steps.specs.MutexSteps.{mutex_first, is_locked, is_parked}
-use Rattle.lot_steps.specs.declared.mutex.lock.Entry as entry
+use Rattle.lot_mutex.specs.MutexSteps.{mutex_first, is_locked, is_parked}
+use Rattle.lot_mutex.specs.declared.lock.Entry as entry
 use Rattle.lot_steps.specs.declared.places.Place.{Place}
 use Rattle.lot_steps.specs.declared.places.Place.TheVariants.{Mutex}
 use Rattle.lot_words.specs.Steps.{has}

@@ -6,13 +6,13 @@ use Rattle.lot_base.specs.declared.wants.Want.{Want}
 use Rattle.lot_words.specs.Indices.{word_index}
 use Rattle.lot_words.specs.declared.views.WordStep.{WordStep}
 use Rattle.lot_words.specs.declared.words.WordKind as kinds
-use Rattle.lot_steps.specs.Acts.{holds}
+use Rattle.lot_acts.specs.Acts.{holds}
 use Rattle.lot_steps.specs.Steps.{act_of, next_place, next_act, spin_lock}
-use Rattle.lot_steps.specs.declared.acts.Act.{Act}
-use Rattle.lot_steps.specs.declared.acts.Act as act
-use Rattle.lot_steps.specs.declared.acts.Check.{Check}
-use Rattle.lot_steps.specs.declared.acts.Reply.{Reply}
-use Rattle.lot_steps.specs.declared.acts.Reply.TheVariants.{Value, Spun, Parked}
+use Rattle.lot_acts.specs.declared.acts.Act.{Act}
+use Rattle.lot_acts.specs.declared.acts.Act as act
+use Rattle.lot_acts.specs.declared.acts.Check.{Check}
+use Rattle.lot_acts.specs.declared.acts.Reply.{Reply}
+use Rattle.lot_acts.specs.declared.acts.Reply.TheVariants.{Value, Spun, Parked}
 use Rattle.lot_calls.specs.declared.outcomes.Answer.{Answer}
 use Rattle.lot_steps.specs.declared.places.Place.{Place}
 

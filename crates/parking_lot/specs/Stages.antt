@@ -17,15 +17,15 @@ use Rattle.lot_words.specs.declared.owners.Owner.TheVariants.{Exclusive}
 use Rattle.lot_words.specs.declared.owners.Ownership.{Ownership}
 use Rattle.lot_words.specs.declared.views.WordStep.{WordStep}
 use Rattle.lot_words.specs.declared.words.WordKind.{WordKind}
-use Rattle.lot_steps.specs.Acts.{holds}
-use Rattle.lot_steps.specs.declared.acts.Act.{Act}
-use Rattle.lot_steps.specs.declared.acts.Act as act
-use Rattle.lot_steps.specs.declared.acts.Reply.{Reply}
-use Rattle.lot_steps.specs.declared.acts.Reply.TheVariants.{Done, Value, Parked, Took, Picked, Requeued, Removed, Late, Woken}
-use Rattle.lot_steps.specs.declared.acts.Wakes.{Wakes}
-use Rattle.lot_steps.specs.declared.acts.Wakes as wakes
-use Rattle.lot_steps.specs.declared.acts.Whom.{Whom}
-use Rattle.lot_steps.specs.declared.acts.Whom as whom
+use Rattle.lot_acts.specs.Acts.{holds}
+use Rattle.lot_acts.specs.declared.acts.Act.{Act}
+use Rattle.lot_acts.specs.declared.acts.Act as act
+use Rattle.lot_acts.specs.declared.acts.Reply.{Reply}
+use Rattle.lot_acts.specs.declared.acts.Reply.TheVariants.{Done, Value, Parked, Took, Picked, Requeued, Removed, Late, Woken}
+use Rattle.lot_acts.specs.declared.acts.Wakes.{Wakes}
+use Rattle.lot_acts.specs.declared.acts.Wakes as wakes
+use Rattle.lot_acts.specs.declared.acts.Whom.{Whom}
+use Rattle.lot_acts.specs.declared.acts.Whom as whom
 use Rattle.parking_lot_core.specs.Keys.{AreKeys, IsKeyOf, first_key}
 use Rattle.parking_lot_core.specs.Sections.{waiting_in, taken_in, wants_in, rightless_in, MayNote}
 use Rattle.parking_lot_core.specs.Tokens.{view_of, last_of}

@@ -4,7 +4,7 @@ ghost use Rattle.lot_base.specs.Clocks.{IsUp};
 ghost use Rattle.lot_base.specs.Lines.{waiter, line, lines, without};
 ghost use Rattle.lot_base.specs.declared.notes.Note.TheVariants.{HandOff};
 ghost use Rattle.lot_base.specs.declared.ops.Op.TheVariants.{Load};
-ghost use Rattle.lot_steps.specs.Acts.{holds};
+ghost use Rattle.lot_acts.specs.Acts.{holds};
 ghost use Rattle.lot_words.specs.Lots.{IsWordOf};
 ghost use Rattle.lot_words.specs.Indices.{word_index};
 ghost use Rattle.lot_words.specs.Steps.{MayStep, CodesWith, after_step};

@@ -22,7 +22,7 @@ use crate::driver::{NO_LIMIT, behind, step};
 use crate::guards::RawGuard;
 use lot_base::main_key;
 use lot_calls::{Answer, MutexCall};
-use lot_steps::mutex::{LOCKED, PARKED, is_locked, is_parked};
+use lot_mutex::{LOCKED, PARKED, is_locked, is_parked};
 use parking_lot_core::{
     Clock, Fault, Key, Op, ParkingLot, Token, Want, Word, WordKind, to_deadline,
 };

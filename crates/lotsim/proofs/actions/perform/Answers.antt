@@ -1,6 +1,6 @@
 use Rattle.std.proofs.Common.{sym, ap, ◌∙◌}
 use Rattle.lot_calls.specs.declared.outcomes.Outcome.{Outcome}
-use Rattle.lot_world.specs.Machine.{State}
+use Rattle.lot_machine.specs.Machine.{State}
 use Rattle.lotsim.specs.Stages.{went_alone}
 use Rattle.lot_world.proofs.Alone.{after_stuck}
 use Rattle.lotsim.proofs.ActionLemmas.{begin_of, did_begin, did_nothing}

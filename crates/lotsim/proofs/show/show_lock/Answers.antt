@@ -1,8 +1,8 @@
 use Rattle.std.proofs.Common.{◌+◌, ◌*◌, ◌++◌}
 use Rattle.std.specs.Prelude.{codes, decimal}
-use Rattle.lot_world.specs.declared.views.Debt.TheVariants.{Owes, Retries}
-use Rattle.lot_world.specs.Machine.{word_at, queue_at}
-use Rattle.lot_world.specs.Views.{owners_of, debtors}
+use Rattle.lot_machine.specs.declared.views.Debt.TheVariants.{Owes, Retries}
+use Rattle.lot_machine.specs.Machine.{word_at, queue_at}
+use Rattle.lot_machine.specs.Views.{owners_of, debtors}
 use Rattle.lotsim.specs.Shows.{owners_text, waiters_text, debtors_text}
 use Rattle.lot_text.proofs.SentLemmas.{puts_then}
 use Rattle.lotsim.proofs.ShowLemmas.{debtors_owe}

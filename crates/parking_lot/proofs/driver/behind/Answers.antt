@@ -1,7 +1,7 @@
 use Rattle.std.proofs.Common.{◌∙◌, None, sym, ap, subst, ℕ}
 use Rattle.lot_base.specs.Clocks.{IsUp}
 use Rattle.lot_steps.specs.Steps.{next_place}
-use Rattle.lot_steps.specs.declared.acts.Reply.TheVariants.{Value}
+use Rattle.lot_acts.specs.declared.acts.Reply.TheVariants.{Value}
 use Rattle.lot_steps.specs.declared.places.Place.{Place}
 use Rattle.parking_lot_core.specs.Tokens.{view_of, last_of}
 use Rattle.parking_lot.specs.Calls.{beginning}

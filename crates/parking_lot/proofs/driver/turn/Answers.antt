@@ -2,7 +2,7 @@ use Rattle.std.proofs.Common.{◌∙◌, ◌++◌, List, sym, refl, ap, subst}
 use Rattle.lot_base.specs.Clocks.{IsUp}
 use Rattle.lot_base.specs.declared.ops.Op.TheVariants.{Load}
 use Rattle.lot_steps.specs.Steps.{act_of}
-use Rattle.lot_steps.specs.declared.acts.Act.{Act}
+use Rattle.lot_acts.specs.declared.acts.Act.{Act}
 use Rattle.lot_words.specs.Indices.{word_index}
 use Rattle.lot_words.specs.declared.owners.Ownership.{Ownership}
 use Rattle.lot_words.specs.declared.views.View.{View}

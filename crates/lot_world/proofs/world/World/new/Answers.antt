@@ -1,4 +1,4 @@
-use Rattle.lot_world.proofs.Shape.{opening_shaped}
+use Rattle.lot_machine.proofs.Shape.{opening_shaped}
 use Rattle.lot_world.proofs.OpeningSites.{opening_steady}
 use Rattle.lot_world.proofs.Promises.{kept, opening_is}
 use Rattle.lot_world.proofs.world.World.new.Goals as goal

@@ -1,10 +1,10 @@
 use Rattle.std.proofs.Common.{◌+◌, take}
 use Rattle.std.proofs.lemmas.List.{take_more}
-use Rattle.lot_world.proofs.Shape.{size_more}
+use Rattle.lot_machine.proofs.Shape.{size_more}
 use Rattle.lot_world.proofs.Runs.{run_state, run_outcomes}
 use Rattle.std.proofs.lemmas.List.{take_all}
 use Rattle.std.proofs.Common.{◌≡◌, ap, ◌∙◌, ◌++◌, arith}
-use Rattle.lot_world.specs.Machine.{after_all, step_outcomes}
+use Rattle.lot_machine.specs.Machine.{after_all, step_outcomes}
 use Rattle.lot_world.proofs.Promises.{kept}
 use Rattle.lot_world.proofs.WorldRuns.{holds_of, Holds, tells_run, tells_refines}
 use Rattle.lot_world.proofs.world.World.run.Goals as goal

@@ -1,6 +1,6 @@
 use Rattle.std.proofs.Common.{◌≡◌, ◌++◌, take}
-use Rattle.lot_world.specs.Machine.{after_all, step_outcomes}
-use Rattle.lot_world.specs.Fits.{SameSize}
+use Rattle.lot_machine.specs.Machine.{after_all, step_outcomes}
+use Rattle.lot_machine.specs.Fits.{SameSize}
 use Rattle.lot_world.proofs.world.World.run.Given as goal
 
 abbrev pub invariant-loop-taken : goal.invariant-loop-taken

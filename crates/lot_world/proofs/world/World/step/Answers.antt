@@ -1,4 +1,4 @@
-use Rattle.lot_world.proofs.Shape.{after_shaped, after_size}
+use Rattle.lot_machine.proofs.Shape.{after_shaped, after_size}
 use Rattle.lot_world.proofs.TurnsKept.{after_steady}
 use Rattle.lot_world.proofs.LockSteps.{after_step}
 use Rattle.lot_world.proofs.OneThing.{one_thing, touches}

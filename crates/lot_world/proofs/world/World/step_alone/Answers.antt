@@ -1,6 +1,6 @@
 use Rattle.std.proofs.Common.{◌-◌, sym, ap, ◌∙◌, arith}
-use Rattle.lot_world.specs.Machine.{Alone}
-use Rattle.lot_world.proofs.Shape.{size_more}
+use Rattle.lot_machine.specs.Machine.{Alone}
+use Rattle.lot_machine.proofs.Shape.{size_more}
 use Rattle.lot_world.proofs.Alone.{alone_stuck, alone_goes, alone_rests, solo_end}
 use Rattle.lot_world.proofs.world.World.step_alone.Goals as goal
 

@@ -1,7 +1,7 @@
 use Rattle.std.proofs.Common.{◌≡◌, ◌-◌}
 use Rattle.lot_calls.specs.declared.outcomes.Outcome as outcome
-use Rattle.lot_world.specs.Machine.{solo}
-use Rattle.lot_world.specs.Fits.{SameSize}
+use Rattle.lot_machine.specs.Machine.{solo}
+use Rattle.lot_machine.specs.Fits.{SameSize}
 use Rattle.lot_world.proofs.world.World.step_alone.Given as goal
 
 -- what is left to do leads where all of it leads

@@ -1,5 +1,5 @@
 use Rattle.std.proofs.Common.{◌≡◌, ◌∙◌, true, false, ap, rules}
-use Rattle.lot_steps.specs.MutexSteps.{is_locked}
+use Rattle.lot_mutex.specs.MutexSteps.{is_locked}
 use Rattle.lot_words.specs.declared.views.View.{View}
 use Rattle.parking_lot_core.specs.Tokens.{view_of}
 use Rattle.parking_lot.proofs.Behind.{path_of_try}

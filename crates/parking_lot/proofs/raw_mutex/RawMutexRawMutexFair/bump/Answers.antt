@@ -1,6 +1,6 @@
 use Rattle.std.proofs.Common.{◌≡◌, ◌∙◌, ◌++◌, false, ap, rules}
 use Rattle.lot_base.specs.declared.ops.Op.TheVariants.{Load}
-use Rattle.lot_steps.specs.MutexSteps.{is_parked}
+use Rattle.lot_mutex.specs.MutexSteps.{is_parked}
 use Rattle.parking_lot.specs.Paths.{mutex_at, step}
 use Rattle.lot_calls.specs.declared.calls.MutexCall.TheVariants.{Bump}
 use Rattle.lot_words.specs.declared.views.View.{View}

@@ -1,0 +1,35 @@
+-- What a thread does in one step, and what it is told.
+use Rattle.std.specs.Prelude.{ℕ, Bool, false, if◌then◌else◌, ◌==◌}
+use Rattle.lot_base.specs.declared.notes.Note.{Note}
+use Rattle.lot_acts.specs.declared.acts.Act.{Act}
+use Rattle.lot_acts.specs.declared.acts.Act.TheVariants.{Sleep, Closure, End}
+use Rattle.lot_acts.specs.declared.acts.Check.{Check}
+use Rattle.lot_acts.specs.declared.acts.Check.TheVariants.{WordIs, Blocked, ReadersLeft, Unfinished}
+use Rattle.lot_acts.specs.declared.acts.Wakes.{Wakes}
+use Rattle.lot_acts.specs.declared.acts.Wakes as wakes
+use Rattle.lot_calls.specs.declared.outcomes.Outcome.{Outcome}
+use Rattle.lot_calls.specs.declared.outcomes.Outcome as outcome
+use Rattle.abstract_locks.specs.Codes.{bars, leaves_readers}
+use Rattle.abstract_locks.specs.OnceSteps.{still_waits}
+use Rattle.abstract_locks.specs.OnceSteps as once
+
+-- who only waits for the end of a `Once`
+abbrev pub waits_for_end : Bool → once.Purpose
+waits_for_end forced = record { runs = false; forced = forced; timed = false }
+
+abbrev pub holds : Check → ℕ → Bool
+holds (WordIs value) word = word == value
+holds (Blocked want recursive) word = bars recursive want word
+holds ReadersLeft word = leaves_readers word
+holds (Unfinished forced) word = still_waits (waits_for_end forced) word
+
+-- whoever was taken is woken
+abbrev pub wakes_taken : Bool → Note → Wakes
+wakes_taken any note = if any then wakes.TheVariants.All note else wakes.TheVariants.Nobody
+
+-- what a thread is told that is about to do this
+abbrev pub outcome_of : Act → Outcome
+outcome_of (End answer) = outcome.TheVariants.End answer
+outcome_of Sleep = outcome.TheVariants.Sleep
+outcome_of (Closure state) = outcome.TheVariants.Closure state
+outcome_of _ = outcome.TheVariants.Step

@@ -1,0 +1,4 @@
+pub mod QueueLemmas
+pub mod ShareLemmas
+pub mod Opening
+pub mod Shape

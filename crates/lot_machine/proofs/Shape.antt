@@ -1,0 +1,580 @@
+-- Each step keeps the shape of a state: its numbers go on naming threads, locks and keys that are there.
+use Rattle.std.proofs.Common.{ℕ, zero, suc, Bool, true, false, cond, Option, Some, None, if◌then◌else◌, ◌==◌, ◌&&◌, not, nat_lt, ◌≡◌, ◌*◌, ◌≤◌, ◌<◌, List, [], ◌∷◌, ◌++◌, length, get_or, set, map, drop, refl, ◌∙◌, length-set, replicate, arith}
+use Rattle.std.proofs.lemmas.List.{length-replicate}
+use Rattle.std.proofs.lemmas.Bool.{ltb-true}
+use Rattle.std.proofs.lemmas.List.{length-map}
+use Rattle.std.proofs.Math.ListN.{get_or-map}
+use Rattle.lot_base.specs.declared.keys.Keys.{Keys}
+use Rattle.lot_base.specs.declared.keys.Keys.TheVariants.{One, Two}
+use Rattle.lot_base.specs.declared.ops.Op.{Op}
+use Rattle.lot_base.specs.declared.wants.Waiter.{Waiter}
+use Rattle.lot_base.specs.declared.wants.Want.{Want}
+use Rattle.lot_base.specs.Lines.{waiter, without, first_of}
+use Rattle.lot_acts.specs.declared.acts.Act.{Act}
+use Rattle.lot_acts.specs.declared.acts.Act.TheVariants.{Word, HandOver, Enter, Park, Stand, Take, Remove, Leave}
+use Rattle.lot_acts.specs.declared.acts.Act.TheVariants as act
+use Rattle.lot_acts.specs.declared.acts.Check.{Check}
+use Rattle.lot_acts.specs.declared.acts.Wakes.{Wakes}
+use Rattle.lot_acts.specs.declared.acts.Wakes as wakes
+use Rattle.lot_acts.specs.declared.acts.Reply.{Reply}
+use Rattle.lot_acts.specs.declared.acts.Reply.TheVariants.{Done, Value, Spun, Parked, Removed, Took, TakenBy, MovedTo, HandedBy, Late, Woken, Closed}
+use Rattle.lot_acts.specs.declared.acts.Next.{Next}
+use Rattle.lot_acts.specs.declared.acts.Next as next
+use Rattle.lot_calls.specs.declared.outcomes.Answer as answer
+use Rattle.lot_calls.specs.declared.calls.Call.{Call}
+use Rattle.lot_calls.specs.declared.calls.Call as call
+use Rattle.lot_calls.specs.declared.kinds.Kind.{Kind}
+use Rattle.lot_calls.specs.declared.calls.Turn.{Turn}
+use Rattle.lot_calls.specs.declared.calls.Turn as turn
+use Rattle.lot_calls.specs.declared.calls.Step.{Step}
+use Rattle.lot_steps.specs.declared.places.Place.{Place}
+use Rattle.lot_steps.specs.declared.places.Place.TheVariants.{Idle, Mutex}
+use Rattle.lot_calls.specs.declared.calls.MutexCall.{MutexCall}
+use Rattle.lot_calls.specs.declared.calls.MutexCall as mutex_call
+use Rattle.lot_mutex.specs.declared.lock.Entry.{Entry}
+use Rattle.lot_mutex.specs.declared.places.MutexPlace.{MutexPlace}
+use Rattle.lot_mutex.specs.declared.places.MutexPlace.TheVariants.{Lock, TryLock, Unlock, UnlockFair, Bump, HandOff}
+use Rattle.lot_mutex.specs.declared.lock.LockAt.{LockAt}
+use Rattle.lot_mutex.specs.declared.unlock.UnlockAt.{UnlockAt}
+use Rattle.lot_mutex.specs.declared.unlock.UnlockAt as unlock
+use Rattle.lot_mutex.specs.declared.hand_off.HandOffAt.{HandOffAt}
+use Rattle.lot_mutex.specs.declared.hand_off.HandOffAt.TheVariants as hand_off
+use Rattle.lot_acts.specs.Acts.{holds, outcome_of}
+use Rattle.lot_calls.specs.declared.outcomes.Outcome.{Outcome}
+use Rattle.lot_calls.specs.declared.outcomes.Outcome as outcome
+use Rattle.lot_steps.specs.Steps.{next_act}
+use Rattle.lot_base.specs.declared.requeues.Requeue.{Requeue}
+use Rattle.lot_base.specs.declared.requeues.Requeue as requeue
+use Rattle.lot_base.specs.declared.lock_picker.LockPicker.{LockPicker}
+use Rattle.lot_base.specs.declared.picks.Pick.{Pick}
+use Rattle.lot_base.specs.declared.picks.Pick.TheVariants.{Unpark, Skip, Stop}
+use Rattle.lot_base.specs.Lines.{threads_of}
+use Rattle.lot_base.specs.Picks.{without_picked, without_lock_picked, lock_picked, lock_answer, next_picker, lock_picker}
+use Rattle.lot_base.specs.Requeues.{taken_by, moved_by}
+use Rattle.lot_machine.proofs.QueueLemmas.{told_count}
+use Rattle.lot_calls.specs.Kinds.{is_fair}
+use Rattle.lot_mutex.specs.MutexSteps.{is_locked, is_parked, is_timed, entered, mutex_next, mutex_first, next_unlock, next_hand_off, looked, unlock_fair_next, bump_next, try_next, in_lock, in_unlock, in_hand_off}
+use Rattle.lot_acts.specs.Owners.{is_thread}
+use Rattle.lot_calls.specs.Calls.{lock_in}
+use Rattle.lot_steps.specs.Steps.{is_idle, first_place, taker, act_of, next_place, mutex_goes, spin_lock, late_key}
+use Rattle.lot_machine.specs.Machine.{State, unlocked, opening, kind_at, word_at, place_at, queue_at, put, state_after_operation, state_with_sections, queues_with_last, queues_without_first, queues_without, state_after_park, state_after_reply, place_after_telling, state_after_telling, state_after_hand_over, state_after_taking, state_after_wake, state_after_act, state_after_takes, state_after_take_first, state_after_requeue, queues_requeued, left_behind, moved_under, moved_threads, listed, places_told, state_after_going, going_outcome, closed_place, can_do, state_after_go, reply_to, state_after_begin, can_begin, is_open_to, state_after_spin, state_after_spin_on, state_after_late, state_after_late_on, state_after_turn, can_turn, is_possible, after}
+use Rattle.lot_base.specs.declared.notes.Note as note
+use Rattle.lot_mutex.specs.declared.lock.LockAt as lock
+use Rattle.lot_acts.specs.declared.acts.Whom as whom
+use Rattle.lot_machine.specs.Fits.{GivesUpTimed, PlaceFits, AllBelow, IsShaped, SameSize}
+
+-- what holds of all elements holds of them after one is set
+pub set_all : {A : Type 0} (P : A → Type 0) (xs : List A) (i : ℕ) (y d : A) → P y → ((j : ℕ) → P (get_or xs j d)) → (j : ℕ) → P (get_or (set xs i y) j d)
+set_all P [] i y d p h j = h j
+set_all P (x ∷ xs) zero y d p h zero = p
+set_all P (x ∷ xs) zero y d p h (suc j) = h (suc j)
+set_all P (x ∷ xs) (suc i) y d p h zero = h zero
+set_all P (x ∷ xs) (suc i) y d p h (suc j) = set_all P xs i y d p (λ k. h (suc k)) j
+
+-- a lock's main key has its section and its queue
+pub main_key_there : (w : State) (l : ℕ) → IsShaped w → l < length w.locks → 2 * l < length w.sections
+main_key_there w l s lt = let n : length w.sections ≡ 2 * length w.locks = s.sections in omega arith
+
+pub main_line_there : (w : State) (l : ℕ) → IsShaped w → l < length w.locks → 2 * l < length w.queues
+main_line_there w l s lt = let m : length w.queues ≡ length w.sections = s.queues in let key : 2 * l < length w.sections = main_key_there w l s lt in omega arith
+
+-- ---------------------------------------------------------------- waiters
+
+below_without : (n t : ℕ) (xs : List Waiter) → AllBelow n xs → AllBelow n (without t xs)
+below_without n t [] h = tt
+below_without n t (x ∷ xs) h = either (not (x.thread == t)) (below_without n t xs h.1)
+  where
+    either : (b : Bool) → AllBelow n (without t xs) → AllBelow n (cond b (x ∷ without t xs) (without t xs))
+    either true more = (h.0, more)
+    either false more = more
+
+below_behind : (n key t : ℕ) (wanted : Want) (xs : List Waiter) → t < n → AllBelow n xs → AllBelow n (xs ++ waiter key t wanted ∷ [])
+below_behind n key t wanted [] lt h = (lt, tt)
+below_behind n key t wanted (x ∷ xs) lt h = (h.0, below_behind n key t wanted xs lt h.1)
+
+below_rest : (n : ℕ) (xs : List Waiter) → AllBelow n xs → AllBelow n (drop 1 xs)
+below_rest n [] h = tt
+below_rest n (x ∷ xs) h = h.1
+
+below_both : (n : ℕ) (xs ys : List Waiter) → AllBelow n xs → AllBelow n ys → AllBelow n (xs ++ ys)
+below_both n [] ys h k = k
+below_both n (x ∷ xs) ys h k = (h.0, below_both n xs ys h.1 k)
+
+below_unpicked : (n : ℕ) (picker : LockPicker) (key : ℕ) (xs : List Waiter) → AllBelow n xs → AllBelow n (without_picked lock_answer next_picker picker key xs)
+below_unpicked n picker key [] h = tt
+below_unpicked n picker key (x ∷ xs) h = either (x.key == key) (lock_answer picker x.want) (below_unpicked n (next_picker picker x.want) key xs h.1) (below_unpicked n picker key xs h.1)
+  where
+    either : (b : Bool) (answer : Pick) → AllBelow n (without_picked lock_answer next_picker (next_picker picker x.want) key xs) → AllBelow n (without_picked lock_answer next_picker picker key xs) → AllBelow n (if b
+        then (elim answer [
+          | Unpark ↦ without_picked lock_answer next_picker (next_picker picker x.want) key xs
+          | Skip ↦ x ∷ without_picked lock_answer next_picker (next_picker picker x.want) key xs
+          | Stop ↦ x ∷ xs
+        ])
+        else (x ∷ without_picked lock_answer next_picker picker key xs))
+    either true Unpark more same = more
+    either true Skip more same = (h.0, more)
+    either true Stop more same = h
+    either false answer more same = (h.0, same)
+
+below_moved : (n key : ℕ) (xs : List Waiter) → AllBelow n xs → AllBelow n (moved_under key xs)
+below_moved n key [] h = tt
+below_moved n key (x ∷ xs) h = (h.0, below_moved n key xs h.1)
+
+below_first : (n : ℕ) (xs : List Waiter) → AllBelow n xs → AllBelow n (moved_by requeue.TheVariants.One xs)
+below_first n [] h = tt
+below_first n (x ∷ xs) h = (h.0, tt)
+
+below_requeued : (n key : ℕ) (how : Requeue) (xs : List Waiter) → AllBelow n xs → AllBelow n (moved_under key (moved_by how xs))
+below_requeued n key requeue.TheVariants.One xs h = below_moved n key (moved_by requeue.TheVariants.One xs) (below_first n xs h)
+below_requeued n key requeue.TheVariants.All xs h = below_moved n key xs h
+below_requeued n key requeue.TheVariants.TakeOneMoveRest xs h = below_moved n key (drop 1 xs) (below_rest n xs h)
+
+below_behind_requeue : (n : ℕ) (how : Requeue) (xs : List Waiter) → AllBelow n xs → AllBelow n (left_behind how xs)
+below_behind_requeue n requeue.TheVariants.One xs h = below_rest n xs h
+below_behind_requeue n requeue.TheVariants.All xs h = tt
+below_behind_requeue n requeue.TheVariants.TakeOneMoveRest xs h = tt
+
+-- ---------------------------------------------------------------- places
+
+-- the call of a thread at this place has a deadline
+abbrev pub MayBeLate : Place → Type 0
+MayBeLate (Mutex l (Lock entry retries at)) = is_timed entry ≡ true
+MayBeLate p = Unit {0}
+
+-- only a timed call is told that it is late
+abbrev pub ReplyFits : Place → Reply → Type 0
+ReplyFits p Late = MayBeLate p
+ReplyFits p reply = Unit {0}
+
+abbrev pub NextFits : Next MutexPlace → Type 0
+NextFits (next.TheVariants.At at) = GivesUpTimed at
+NextFits (next.TheVariants.End answer) = Unit {0}
+
+lock_fits : (l : ℕ) (entry : Entry) (retries : Bool) (at : LockAt) (reply : Reply) → GivesUpTimed (Lock entry retries at) → ReplyFits (Mutex l (Lock entry retries at)) reply → NextFits (mutex_next (Lock entry retries at) reply)
+lock_fits l entry retries lock.TheVariants.First (Value seen) h late = either (seen == 0)
+  where
+    either : (b : Bool) → NextFits (in_lock entry retries (if b then next.TheVariants.End (entered entry) else next.TheVariants.At lock.TheVariants.Load))
+    either true = tt
+    either false = tt
+lock_fits l entry retries (lock.TheVariants.Decide s) (Value seen) h late = either (not (seen == s)) (is_locked seen)
+  where
+    either : (a b : Bool) → NextFits (in_lock entry retries (if a then next.TheVariants.At (lock.TheVariants.Decide seen) else if b then next.TheVariants.At (lock.TheVariants.Decide 3) else next.TheVariants.End (entered entry)))
+    either true b = tt
+    either false true = tt
+    either false false = tt
+lock_fits l entry retries lock.TheVariants.Load (Value seen) h late = tt
+lock_fits l entry retries lock.TheVariants.Check (Parked state_after_park) h late = tt
+lock_fits l entry retries (lock.TheVariants.Leave true) Done h late = tt
+lock_fits l entry retries (lock.TheVariants.Leave false) Done h late = tt
+lock_fits l entry retries lock.TheVariants.Asleep Late h late = late
+lock_fits l entry retries lock.TheVariants.Asleep (Woken note.TheVariants.Normal) h late = tt
+lock_fits l entry retries lock.TheVariants.Asleep (Woken note.TheVariants.HandOff) h late = tt
+lock_fits l entry retries lock.TheVariants.Remove (Removed true) h late = h
+lock_fits l entry retries lock.TheVariants.Remove (Removed false) h late = h
+lock_fits l entry retries lock.TheVariants.Clear (Value seen) h late = h
+lock_fits l entry retries (lock.TheVariants.Taken by) (Woken note.TheVariants.Normal) h late = tt
+lock_fits l entry retries (lock.TheVariants.Taken by) (HandedBy t) h late = tt
+lock_fits l entry retries (lock.TheVariants.Handed by) (Woken note.TheVariants.HandOff) h late = tt
+lock_fits l entry retries lock.TheVariants.Accept Done h late = tt
+lock_fits l entry retries lock.TheVariants.GiveUp Done h late = tt
+lock_fits l entry retries at reply h late = h
+
+try_fits : (reply : Reply) → NextFits (try_next reply)
+try_fits (Value seen) = either (is_locked seen)
+  where
+    either : (b : Bool) → NextFits (if b then next.TheVariants.End answer.TheVariants.No else next.TheVariants.End answer.TheVariants.Yes)
+    either true = tt
+    either false = tt
+try_fits reply = tt
+
+unlock_fits : (l : ℕ) (at : UnlockAt) (reply : Reply) → ReplyFits (Mutex l (Unlock at)) reply → NextFits (in_unlock (next_unlock at reply))
+unlock_fits l unlock.TheVariants.Subtract (Value seen) r = either (is_parked seen)
+  where
+    either : (b : Bool) → NextFits (in_unlock (if b then next.TheVariants.At unlock.TheVariants.Enter else next.TheVariants.End answer.TheVariants.Ok))
+    either true = tt
+    either false = tt
+unlock_fits l unlock.TheVariants.Take (Took any none_left) r = either none_left
+  where
+    either : (b : Bool) → NextFits (in_unlock (if b then next.TheVariants.At (unlock.TheVariants.Clear any) else next.TheVariants.At (unlock.TheVariants.Leave any)))
+    either true = tt
+    either false = tt
+unlock_fits l unlock.TheVariants.Enter Done r = tt
+unlock_fits l (unlock.TheVariants.Clear taken) (Value seen) r = tt
+unlock_fits l (unlock.TheVariants.Leave taken) Done r = tt
+unlock_fits l at reply r = tt
+
+looked_fits : (bumps saw_waiters : Bool) → NextFits (looked bumps saw_waiters)
+looked_fits bumps true = tt
+looked_fits bumps false = tt
+
+unlock_fair_fits : (reply : Reply) → NextFits (unlock_fair_next reply)
+unlock_fair_fits (Value seen) = looked_fits false (not (seen == 1))
+unlock_fair_fits reply = tt
+
+bump_fits : (reply : Reply) → NextFits (bump_next reply)
+bump_fits (Value seen) = looked_fits true (is_parked seen)
+bump_fits reply = tt
+
+hand_off_fits : (l : ℕ) (bumps : Bool) (at : HandOffAt) (reply : Reply) → ReplyFits (Mutex l (HandOff bumps at)) reply → NextFits (in_hand_off bumps (next_hand_off at reply))
+hand_off_fits l bumps hand_off.Take (Took any none_left) r = tt
+hand_off_fits l bumps hand_off.Enter Done r = tt
+hand_off_fits l bumps (hand_off.Store taken none_left) (Value seen) r = tt
+hand_off_fits l true (hand_off.Leave taken) Done r = tt
+hand_off_fits l false (hand_off.Leave taken) Done r = tt
+hand_off_fits l bumps at reply r = tt
+
+goes_fits : (locks l : ℕ) (n : Next MutexPlace) → l < locks → NextFits n → PlaceFits locks (mutex_goes l n)
+goes_fits locks l (next.TheVariants.At at) lt h = (lt, h)
+goes_fits locks l (next.TheVariants.End answer) lt h = tt
+
+pub next_fits : (locks : ℕ) (p : Place) (reply : Reply) → PlaceFits locks p → ReplyFits p reply → PlaceFits locks (next_place p reply)
+next_fits locks Idle reply h r = tt
+next_fits locks (Mutex l (Lock entry retries at)) reply h r = goes_fits locks l (mutex_next (Lock entry retries at) reply) h.0 (lock_fits l entry retries at reply h.1 r)
+next_fits locks (Mutex l TryLock) reply h r = goes_fits locks l (mutex_next TryLock reply) h.0 (try_fits reply)
+next_fits locks (Mutex l (Unlock at)) reply h r = goes_fits locks l (mutex_next (Unlock at) reply) h.0 (unlock_fits l at reply r)
+next_fits locks (Mutex l UnlockFair) reply h r = goes_fits locks l (mutex_next UnlockFair reply) h.0 (unlock_fair_fits reply)
+next_fits locks (Mutex l Bump) reply h r = goes_fits locks l (mutex_next Bump reply) h.0 (bump_fits reply)
+next_fits locks (Mutex l (HandOff bumps at)) reply h r = goes_fits locks l (mutex_next (HandOff bumps at) reply) h.0 (hand_off_fits l bumps at reply r)
+
+first_fits : (locks l : ℕ) (fair : Bool) (c : MutexCall) → l < locks → PlaceFits locks (Mutex l (mutex_first fair c))
+first_fits locks l fair mutex_call.TheVariants.Lock h = (h, tt)
+first_fits locks l fair mutex_call.TheVariants.LockTimed h = (h, tt)
+first_fits locks l fair mutex_call.TheVariants.TryLock h = (h, tt)
+first_fits locks l true mutex_call.TheVariants.Unlock h = (h, tt)
+first_fits locks l false mutex_call.TheVariants.Unlock h = (h, tt)
+first_fits locks l fair mutex_call.TheVariants.UnlockFair h = (h, tt)
+first_fits locks l fair mutex_call.TheVariants.Bump h = (h, tt)
+
+call_fits : (locks : ℕ) (kind : Kind) (c : Call) → lock_in c < locks → PlaceFits locks (first_place kind c)
+call_fits locks kind (call.TheVariants.Mutex l c) h = first_fits locks l (is_fair kind) c h
+
+-- ---------------------------------------------------------------- states
+
+pub put_shaped : (w : State) (t : ℕ) (p : Place) → IsShaped w → PlaceFits (length w.locks) p → IsShaped (put w t p)
+put_shaped w t p s h = record {
+  few = s.few;
+  sections = s.sections;
+  queues = s.queues;
+  places = λ u. set_all (PlaceFits (length w.locks)) w.places t p Idle h s.places u;
+  waiting = λ key. rw (length-set w.places t p) (s.waiting key);
+}
+
+befallen_shaped : (w : State) (t : ℕ) (reply : Reply) → IsShaped w → ReplyFits (place_at w t) reply → IsShaped (state_after_reply w t reply)
+befallen_shaped w t reply s r = put_shaped w t (next_place (place_at w t) reply) s (next_fits (length w.locks) (place_at w t) reply (s.places t) r)
+
+filled_shaped : (w : State) (keys : Keys) (who : Option ℕ) → IsShaped w → IsShaped (state_with_sections w keys who)
+filled_shaped w (One key) who s = record {
+  few = s.few;
+  sections = rw (length-set w.sections key who) s.sections;
+  queues = rw (length-set w.sections key who) s.queues;
+  places = s.places;
+  waiting = s.waiting;
+}
+filled_shaped w (Two first second) who s = record {
+  few = s.few;
+  sections = rw (length-set (set w.sections first who) second who, length-set w.sections first who) s.sections;
+  queues = rw (length-set (set w.sections first who) second who, length-set w.sections first who) s.queues;
+  places = s.places;
+  waiting = s.waiting;
+}
+
+operated_shaped : (w : State) (t : ℕ) (p : Place) (l : ℕ) (f : Op) → IsShaped w → IsShaped (state_after_operation w t p l f)
+operated_shaped w t p l f s = record {
+  few = rw (length-set w.locks l _) s.few;
+  sections = rw (length-set w.locks l _) s.sections;
+  queues = s.queues;
+  places = λ u. rw (length-set w.locks l _) (s.places u);
+  waiting = s.waiting;
+}
+
+queues_shaped : (w : State) (queues : List (List Waiter)) → IsShaped w → length queues ≡ length w.queues → ((key : ℕ) → AllBelow (length w.places) (get_or queues key [])) → IsShaped (record w { queues = queues })
+queues_shaped w queues s e h = record { few = s.few; sections = s.sections; queues = e ∙ s.queues; places = s.places; waiting = h }
+
+stood_shaped : (w : State) (t key : ℕ) (wanted : Want) → IsShaped w → t < length w.places → IsShaped (record w { queues = queues_with_last w.queues key t wanted })
+stood_shaped w t key wanted s lt = queues_shaped w (queues_with_last w.queues key t wanted) s (length-set (map (without t) w.queues) key _ ∙ length-map w.queues (without t))
+    (set_all (AllBelow (length w.places)) (map (without t) w.queues) key _ [] (below_behind (length w.places) key t wanted _ lt (others key)) others)
+  where
+    others : (k : ℕ) → AllBelow (length w.places) (get_or (map (without t) w.queues) k [])
+    others k = rw (get_or-map (without t) w.queues k []) (below_without (length w.places) t (queue_at w k) (s.waiting k))
+
+parked_shaped : (w : State) (t l key : ℕ) (check : Check) (wanted : Want) → IsShaped w → t < length w.places → IsShaped (state_after_park w t l key check wanted)
+parked_shaped w t l key check wanted s lt = either (holds check (word_at w l))
+  where
+    either : (b : Bool) → IsShaped (if b then record w { queues = queues_with_last w.queues key t wanted } else w)
+    either false = s
+    either true = stood_shaped w t key wanted s lt
+
+took_shaped : (w : State) (t key : ℕ) → IsShaped w → IsShaped (state_after_take_first w t key)
+took_shaped w t key s = by_first (first_of (queue_at w key))
+  where
+    rest : IsShaped (record w { queues = queues_without_first w.queues key })
+    rest = queues_shaped w (queues_without_first w.queues key) s (length-set w.queues key _)
+        (set_all (AllBelow (length w.places)) w.queues key _ [] (below_rest (length w.places) (queue_at w key) (s.waiting key)) s.waiting)
+
+    by_first : (o : Option ℕ) → IsShaped (state_after_taking (record w { queues = queues_without_first w.queues key }) t o)
+    by_first None = rest
+    by_first (Some u) = befallen_shaped (record w { queues = queues_without_first w.queues key }) u (TakenBy t) rest tt
+
+-- wherever threads are told to go fits
+told_fit : (locks : ℕ) (reply : Reply) → ((p : Place) → ReplyFits p reply) → (us : List ℕ) (ps : List Place) → ((u : ℕ) → PlaceFits locks (get_or ps u Idle)) → (u : ℕ) → PlaceFits locks (get_or (places_told reply us ps) u Idle)
+told_fit locks reply timely [] ps h = h
+told_fit locks reply timely (x ∷ us) ps h = told_fit locks reply timely us (set ps x (next_place (get_or ps x Idle) reply))
+    (set_all (PlaceFits locks) ps x (next_place (get_or ps x Idle) reply) Idle (next_fits locks (get_or ps x Idle) reply (h x) (timely (get_or ps x Idle))) h)
+
+-- threads are told something, and lines change
+led_shaped : (w : State) (queues : List (List Waiter)) (places : List Place) → IsShaped w → length places ≡ length w.places → length queues ≡ length w.queues → ((u : ℕ) → PlaceFits (length w.locks) (get_or places u Idle))
+    → ((key : ℕ) → AllBelow (length w.places) (get_or queues key [])) → IsShaped (record w { queues = queues; places = places })
+led_shaped w queues places s threads lines fit below = record {
+  few = s.few;
+  sections = s.sections;
+  queues = lines ∙ s.queues;
+  places = fit;
+  waiting = λ key. rw threads (below key);
+}
+
+takes_shaped : (w : State) (t key : ℕ) (taken : List ℕ) (left : List Waiter) → IsShaped w → AllBelow (length w.places) left → IsShaped (state_after_takes w t key taken left)
+takes_shaped w t key taken left s below = led_shaped w (set w.queues key left) (places_told (TakenBy t) taken w.places) s (told_count (TakenBy t) taken w.places) (length-set w.queues key left)
+    (told_fit (length w.locks) (TakenBy t) (λ p. tt) taken w.places s.places)
+    (set_all (AllBelow (length w.places)) w.queues key left [] below s.waiting)
+
+requeued_shaped : (w : State) (t from to : ℕ) (how : Requeue) → IsShaped w → IsShaped (state_after_requeue w t from to how)
+requeued_shaped w t from to how s = led_shaped w (queues_requeued w.queues from to how) (places_told (MovedTo to) (moved_threads how (threads_of (queue_at w from))) (places_told (TakenBy t) (listed (taken_by how (queue_at w from))) w.places)) s
+    (told_count (MovedTo to) (moved_threads how (threads_of (queue_at w from))) (places_told (TakenBy t) (listed (taken_by how (queue_at w from))) w.places) ∙ told_count (TakenBy t) (listed (taken_by how (queue_at w from))) w.places)
+    (length-set (set w.queues from (left_behind how (queue_at w from))) to _ ∙ length-set w.queues from _)
+    (told_fit (length w.locks) (MovedTo to) (λ p. tt) (moved_threads how (threads_of (queue_at w from))) (places_told (TakenBy t) (listed (taken_by how (queue_at w from))) w.places) (told_fit (length w.locks) (TakenBy t) (λ p. tt) (listed (taken_by how (queue_at w from))) w.places s.places))
+    (set_all (AllBelow (length w.places)) (set w.queues from (left_behind how (queue_at w from))) to _ [] (below_both (length w.places) _ _ (stays to) (below_requeued (length w.places) to how (queue_at w from) (s.waiting from))) stays)
+  where
+    stays : (key : ℕ) → AllBelow (length w.places) (get_or (set w.queues from (left_behind how (queue_at w from))) key [])
+    stays = set_all (AllBelow (length w.places)) w.queues from (left_behind how (queue_at w from)) [] (below_behind_requeue (length w.places) how (queue_at w from) (s.waiting from)) s.waiting
+
+removed_shaped : (w : State) (t : ℕ) → IsShaped w → IsShaped (record w { queues = queues_without w.queues t })
+removed_shaped w t s = queues_shaped w (queues_without w.queues t) s (length-map w.queues (without t)) (λ k. rw (get_or-map (without t) w.queues k []) (below_without (length w.places) t (queue_at w k) (s.waiting k)))
+
+given_shaped : (w : State) (t : ℕ) (p : Place) (l : ℕ) (f : Op) → IsShaped w → IsShaped (state_after_hand_over w t p l f)
+given_shaped w t p l f s = record {
+  few = rw (length-set w.locks l _) s.few;
+  sections = rw (length-set w.locks l _) s.sections;
+  queues = s.queues;
+  places = λ u. rw (length-set w.locks l _) (s.places u);
+  waiting = s.waiting;
+}
+
+-- what is told to all who are in a hand makes nobody late
+abbrev pub IsTimely : Reply → Type 0
+IsTimely Late = ⊥
+IsTimely reply = Unit {0}
+
+timely_fits : (p : Place) (reply : Reply) → IsTimely reply → ReplyFits p reply
+timely_fits p (HandedBy t) h = tt
+timely_fits p (Woken x) h = tt
+timely_fits p Late h = absurd h
+timely_fits p reply h = tt
+
+told_shaped : (w : State) (t : ℕ) (reply : Reply) → IsTimely reply → IsShaped w → IsShaped (state_after_telling w t reply)
+told_shaped w t reply timely s = record {
+  few = s.few;
+  sections = s.sections;
+  queues = s.queues;
+  places = λ u. rw (get_or-map (place_after_telling t reply) w.places u Idle) (by_hand (place_at w u) (s.places u) (is_thread t (taker (place_at w u))));
+  waiting = λ key. rw (length-map w.places (place_after_telling t reply)) (s.waiting key);
+}
+  where
+    by_hand : (p : Place) → PlaceFits (length w.locks) p → (b : Bool) → PlaceFits (length w.locks) (if b then next_place p reply else p)
+    by_hand p h true = next_fits (length w.locks) p reply h (timely_fits p reply timely)
+    by_hand p h false = h
+
+awakened_shaped : (w : State) (t : ℕ) (x : Wakes) → IsShaped w → IsShaped (state_after_wake w t x)
+awakened_shaped w t wakes.TheVariants.Nobody s = s
+awakened_shaped w t (wakes.TheVariants.All note) s = told_shaped w t (Woken note) tt s
+
+performed_shaped : (w : State) (t : ℕ) (p : Place) (act : Act) → IsShaped w → t < length w.places → IsShaped (state_after_act w t p act)
+performed_shaped w t p (Word l f) s lt = operated_shaped w t p l f s
+performed_shaped w t p (HandOver l f) s lt = told_shaped (state_after_hand_over w t p l f) t (HandedBy t) tt (given_shaped w t p l f s)
+performed_shaped w t p (Enter keys) s lt = filled_shaped w keys (Some t) s
+performed_shaped w t p (Park l key check wanted) s lt = parked_shaped w t l key check wanted s lt
+performed_shaped w t p (Stand key wanted) s lt = stood_shaped w t key wanted s lt
+performed_shaped w t p (Take key whom.TheVariants.First) s lt = took_shaped w t key s
+performed_shaped w t p (Take key (whom.TheVariants.Picked start recursive)) s lt = takes_shaped w t key (threads_of (lock_picked start recursive (queue_at w key))) (without_lock_picked start recursive key (queue_at w key)) s (below_unpicked (length w.places) (lock_picker start recursive) key (queue_at w key) (s.waiting key))
+performed_shaped w t p (Take key whom.TheVariants.All) s lt = takes_shaped w t key (threads_of (queue_at w key)) [] s tt
+performed_shaped w t p (act.Requeue from to how) s lt = requeued_shaped w t from to how s
+performed_shaped w t p (Remove key) s lt = removed_shaped w t s
+performed_shaped w t p (Leave keys x) s lt = awakened_shaped (state_with_sections w keys None) t x (filled_shaped w keys None s)
+performed_shaped w t p act s lt = s
+
+-- an act changes neither the number of threads nor that of locks
+filled_counts : (w : State) (keys : Keys) (who : Option ℕ) → (length (state_with_sections w keys who).places ≡ length w.places) × (length (state_with_sections w keys who).locks ≡ length w.locks)
+filled_counts w (One key) who = (refl, refl)
+filled_counts w (Two first second) who = (refl, refl)
+
+pub performed_counts : (w : State) (t : ℕ) (p : Place) (act : Act) → (length (state_after_act w t p act).places ≡ length w.places) × (length (state_after_act w t p act).locks ≡ length w.locks)
+performed_counts w t p (Word l f) = (refl, length-set w.locks l _)
+performed_counts w t p (HandOver l f) = (length-map w.places (place_after_telling t (HandedBy t)), length-set w.locks l _)
+performed_counts w t p (Enter keys) = filled_counts w keys (Some t)
+performed_counts w t p (Park l key check wanted) = either (holds check (word_at w l))
+  where
+    either : (b : Bool) → (length (if b then record w { queues = queues_with_last w.queues key t wanted } else w).places ≡ length w.places) × (length (if b then record w { queues = queues_with_last w.queues key t wanted } else w).locks ≡ length w.locks)
+    either true = (refl, refl)
+    either false = (refl, refl)
+performed_counts w t p (Take key whom.TheVariants.First) = by_first (first_of (queue_at w key))
+  where
+    by_first : (o : Option ℕ) → (length (state_after_taking (record w { queues = queues_without_first w.queues key }) t o).places ≡ length w.places) × (length (state_after_taking (record w { queues = queues_without_first w.queues key }) t o).locks ≡ length w.locks)
+    by_first None = (refl, refl)
+    by_first (Some u) = (length-set w.places u _, refl)
+performed_counts w t p (Take key (whom.TheVariants.Picked start recursive)) = (told_count (TakenBy t) (threads_of (lock_picked start recursive (queue_at w key))) w.places, refl)
+performed_counts w t p (Take key whom.TheVariants.All) = (told_count (TakenBy t) (threads_of (queue_at w key)) w.places, refl)
+performed_counts w t p (act.Requeue from to how) = (
+  told_count (MovedTo to) (moved_threads how (threads_of (queue_at w from))) (places_told (TakenBy t) (listed (taken_by how (queue_at w from))) w.places)
+      ∙ told_count (TakenBy t) (listed (taken_by how (queue_at w from))) w.places,
+  refl,
+)
+performed_counts w t p (Leave keys wakes.TheVariants.Nobody) = filled_counts w keys None
+performed_counts w t p (Leave keys (wakes.TheVariants.All note)) = (length-map (state_with_sections w keys None).places (place_after_telling t (Woken note)) ∙ (filled_counts w keys None).0, (filled_counts w keys None).1)
+performed_counts w t p act = (refl, refl)
+
+-- so who was there is there behind it
+pub acted_there : (w v : State) (t u : ℕ) (p : Place) (act : Act) (b : Bool) → v ≡ (if b then state_after_act w u p act else w) → t < length w.places → t < length v.places
+acted_there w v t u p act b e lt = rw e (either b)
+  where
+    either : (b : Bool) → t < length (if b then state_after_act w u p act else w).places
+    either true = rw (performed_counts w u p act).0 lt
+    either false = lt
+
+-- where the reply to the act of a place leads
+pub went : (w v u : State) (t : ℕ) (p : Place) (a : Act) (r : Reply) (b : Bool) → a ≡ act_of p → can_do w a ≡ b
+    → Some r ≡ (if b then Some (reply_to w t a) else None) → v ≡ (if b then state_after_act w t p a else w) → u ≡ put v t (next_place p r)
+    → u ≡ (if can_do w (act_of p) then state_after_going w t p else w)
+went w v u t p a r true ea eb er ev eu = rw (← ea, eb) (let same : r ≡ reply_to w t a = cc in rw (eu, ev, same, ea) refl)
+went w v u t p a r false ea eb er ev eu = absurd cc
+
+pub went_told : (w : State) (t : ℕ) (p : Place) (a : Act) (r : Reply) (b : Bool) → a ≡ act_of p → can_do w a ≡ b
+    → Some r ≡ (if b then Some (reply_to w t a) else None) → (o : Outcome) → o ≡ outcome_of (next_act p r)
+    → o ≡ (if can_do w (act_of p) then going_outcome w t p else outcome.TheVariants.NotNow)
+went_told w t p a r true ea eb er o eo = rw (← ea, eb) (let same : r ≡ reply_to w t a = cc in rw (eo, same, ea) refl)
+went_told w t p a r false ea eb er o eo = absurd cc
+
+reply_fits : (w : State) (t : ℕ) (p : Place) (act : Act) → IsShaped w → ReplyFits p (reply_to w t act)
+reply_fits w t p (Take key whom.TheVariants.First) s = tt
+reply_fits w t p (Take key (whom.TheVariants.Picked start recursive)) s = tt
+reply_fits w t p (Take key whom.TheVariants.All) s = tt
+reply_fits w t p act s = tt
+
+went_shaped : (w : State) (t : ℕ) (p : Place) → IsShaped w → t < length w.places → PlaceFits (length w.locks) p → IsShaped (state_after_going w t p)
+went_shaped w t p s lt h =
+    let counts = performed_counts w t p (act_of p) in
+    let fits = next_fits (length w.locks) p (reply_to w t (act_of p)) h (reply_fits w t p (act_of p) s) in
+    put_shaped (state_after_act w t p (act_of p)) t (next_place p (reply_to w t (act_of p))) (performed_shaped w t p (act_of p) s lt) (rw counts.1 fits)
+
+gone_shaped : (w : State) (t : ℕ) → IsShaped w → t < length w.places → IsShaped (state_after_go w t)
+gone_shaped w t s lt = went_shaped w t (place_at w t) s lt (s.places t)
+
+-- where a closure's answer leads
+pub closed_fits : (w : State) (t : ℕ) (succeeded : Bool) → IsShaped w → PlaceFits (length w.locks) (closed_place w t succeeded)
+closed_fits w t succeeded s = next_fits (length w.locks) (place_at w t) (Closed succeeded) (s.places t) tt
+
+pub both : (a b : Bool) → (a && b) ≡ true → (a ≡ true) × (b ≡ true)
+both true b h = (refl, h)
+both false b h = cc
+
+begun_shaped : (w : State) (t : ℕ) (c : Call) → IsShaped w → can_begin w t c ≡ true → IsShaped (state_after_begin w t c)
+begun_shaped w t c s can =
+    let open_to = both (is_idle (place_at w t)) (is_open_to w t c) can in
+    let there = both (nat_lt (lock_in c) (length w.locks)) _ open_to.1 in
+    put_shaped w t (first_place (kind_at w (lock_in c)) c) s (call_fits (length w.locks) (kind_at w (lock_in c)) c (ltb-true (lock_in c) (length w.locks) there.0))
+
+spun_shaped : (w : State) (t : ℕ) → IsShaped w → IsShaped (state_after_spin w t)
+spun_shaped w t s = by_lock (spin_lock (place_at w t))
+  where
+    by_lock : (o : Option ℕ) → IsShaped (state_after_spin_on w t o)
+    by_lock None = s
+    by_lock (Some l) = befallen_shaped w t (Spun (word_at w l)) s tt
+
+lated_shaped : (w : State) (t : ℕ) → IsShaped w → IsShaped (state_after_late w t)
+lated_shaped w t s = by_place (place_at w t) refl
+  where
+    asleep : (l : ℕ) (entry : Entry) (retries : Bool) → place_at w t ≡ Mutex l (Lock entry retries lock.TheVariants.Asleep) → (b : Bool) → is_timed entry ≡ b → IsShaped (state_after_late_on w t (if b then Some (2 * l) else None))
+    asleep l entry retries e true timed = befallen_shaped (state_with_sections w (One (2 * l)) (Some t)) t Late (filled_shaped w (One (2 * l)) (Some t) s) (rw e timed)
+    asleep l entry retries e false timed = s
+
+    locks : (l : ℕ) (entry : Entry) (retries : Bool) (at : LockAt) → place_at w t ≡ Mutex l (Lock entry retries at) → IsShaped (state_after_late_on w t (late_key (Mutex l (Lock entry retries at))))
+    locks l entry retries lock.TheVariants.Asleep e = asleep l entry retries e (is_timed entry) refl
+    locks l entry retries at e = s
+
+    by_place : (p : Place) → place_at w t ≡ p → IsShaped (state_after_late_on w t (late_key p))
+    by_place Idle e = s
+    by_place (Mutex l (Lock entry retries at)) e = locks l entry retries at e
+    by_place (Mutex l TryLock) e = s
+    by_place (Mutex l (Unlock at)) e = s
+    by_place (Mutex l UnlockFair) e = s
+    by_place (Mutex l Bump) e = s
+    by_place (Mutex l (HandOff bumps at)) e = s
+
+turned_shaped : (w : State) (t : ℕ) (x : Turn) → IsShaped w → t < length w.places → can_turn w t x ≡ true → IsShaped (state_after_turn w t x)
+turned_shaped w t (turn.TheVariants.Begin c) s lt can = begun_shaped w t c s can
+turned_shaped w t turn.TheVariants.Go s lt can = gone_shaped w t s lt
+turned_shaped w t turn.TheVariants.Spin s lt can = spun_shaped w t s
+turned_shaped w t turn.TheVariants.Late s lt can = lated_shaped w t s
+turned_shaped w t turn.TheVariants.Ok s lt can = went_shaped w t (closed_place w t true) s lt (closed_fits w t true s)
+turned_shaped w t turn.TheVariants.Err s lt can = went_shaped w t (closed_place w t false) s lt (closed_fits w t false s)
+
+-- a step keeps the shape
+pub after_shaped : (w : State) (s : Step) → IsShaped w → IsShaped (after w s)
+after_shaped w step s = either (is_possible w step) refl
+  where
+    either : (b : Bool) → is_possible w step ≡ b → IsShaped (if b then state_after_turn w step.thread step.turn else w)
+    either false e = s
+    either true e = let parts = both (nat_lt step.thread (length w.places)) (can_turn w step.thread step.turn) e in
+        turned_shaped w step.thread step.turn s (ltb-true step.thread (length w.places) parts.0) parts.1
+
+-- the opening state has the shape
+pub opening_shaped : (kinds : List Kind) (threads : ℕ) → length kinds ≤ 256 → IsShaped (opening kinds threads)
+opening_shaped kinds threads few = record {
+  few = rw (length-map kinds unlocked) few;
+  sections = rw (length-replicate {A = Option ℕ} (2 * length kinds) None, length-map kinds unlocked) refl;
+  queues = rw (length-replicate {A = List Waiter} (2 * length kinds) [], length-replicate {A = Option ℕ} (2 * length kinds) None) refl;
+  places = λ t. idle_fits threads t;
+  waiting = λ key. nobody_below (2 * length kinds) key;
+}
+  where
+    idle_fits : (n t : ℕ) → PlaceFits (length (map unlocked kinds)) (get_or (replicate n Idle) t Idle)
+    idle_fits zero t = tt
+    idle_fits (suc n) zero = tt
+    idle_fits (suc n) (suc t) = idle_fits n t
+
+    nobody_below : (n key : ℕ) → AllBelow (length (replicate threads Idle)) (get_or (replicate n []) key [])
+    nobody_below zero key = tt
+    nobody_below (suc n) zero = tt
+    nobody_below (suc n) (suc key) = nobody_below n key
+
+-- ---------------------------------------------------------------- sizes
+
+went_size : (w : State) (t : ℕ) (p : Place) → SameSize w (state_after_going w t p)
+went_size w t p =
+    let counts = performed_counts w t p (act_of p) in
+    record { threads = length-set (state_after_act w t p (act_of p)).places t _ ∙ counts.0; locks = counts.1 }
+
+turned_size : (w : State) (t : ℕ) (x : Turn) → SameSize w (state_after_turn w t x)
+turned_size w t (turn.TheVariants.Begin c) = record { threads = length-set w.places t _; locks = refl }
+turned_size w t turn.TheVariants.Go = went_size w t (place_at w t)
+turned_size w t turn.TheVariants.Ok = went_size w t (closed_place w t true)
+turned_size w t turn.TheVariants.Err = went_size w t (closed_place w t false)
+turned_size w t turn.TheVariants.Spin = by_lock (spin_lock (place_at w t))
+  where
+    by_lock : (o : Option ℕ) → SameSize w (state_after_spin_on w t o)
+    by_lock None = record { threads = refl; locks = refl }
+    by_lock (Some l) = record { threads = length-set w.places t _; locks = refl }
+turned_size w t turn.TheVariants.Late = by_key (late_key (place_at w t))
+  where
+    by_key : (o : Option ℕ) → SameSize w (state_after_late_on w t o)
+    by_key None = record { threads = refl; locks = refl }
+    by_key (Some key) = record { threads = length-set w.places t _; locks = refl }
+
+-- a step changes no number of threads or locks
+pub after_size : (w : State) (s : Step) → SameSize w (after w s)
+after_size w step = either (is_possible w step)
+  where
+    either : (b : Bool) → SameSize w (if b then state_after_turn w step.thread step.turn else w)
+    either true = turned_size w step.thread step.turn
+    either false = record { threads = refl; locks = refl }
+
+pub size_more : (w v u : State) → SameSize w v → SameSize v u → SameSize w u
+size_more w v u p q = record { threads = q.threads ∙ p.threads; locks = q.locks ∙ p.locks }

@@ -1,0 +1,28 @@
+use Rattle.std.proofs.Common.{◌≡◌, ◌<◌, ◌∙◌, sym, map, length, replicate, ap, refl}
+use Rattle.std.specs.Prelude.{slice_set, slice_index_or}
+use Rattle.std.proofs.lemmas.List.{map-set, length-map, with_items_is}
+use Rattle.std.proofs.Math.ListN.{get_or-map}
+use Rattle.std.specs.Vec.{with_items}
+use Rattle.lot_machine.specs.Machine.{State, lines_from, shares_given}
+use Rattle.lot_machine.proofs.ShareLemmas.{given_count, get_any}
+use Rattle.lot_machine.proofs.machine.Machine.share_out.Goals as goal
+
+pub returns-clause-state : goal.returns-clause-state
+returns-clause-state g c =
+    let rows = map (λ row. row.items) c.self.inside.shares.items in
+    let d = replicate (length c.self.inside.places.items) 0 in
+    let row = c.index_mut-shares.result.now in
+    let there : c.args.lock < length c.self.inside.locks.items = rw (ap (λ (v : State). length v.locks) c.self.view_is) c.requires in
+    let within : c.args.lock < length rows = rw (length-map c.self.inside.shares.items (λ y. y.items), c.self.invariant.2) there in
+    let old : row.items ≡ slice_index_or rows c.args.lock d =
+    ap (λ y. y.items) c.index_mut-shares.ensures.value ∙ sym (get_or-map (λ y. y.items) c.self.inside.shares.items c.args.lock row) ∙ get_any rows c.args.lock row.items d within in
+    let given : c.give_shares.new.shares ≡ shares_given c.args.thread c.self.inside.places.items (slice_index_or rows c.args.lock d) =
+    c.give_shares.ensures ∙ (λ i. shares_given c.args.thread (c.as_slice.ensures.value i) ((c.as_mut_slice.ensures.value ∙ old) i)) in
+    let back = with_items_is c.index_mut-shares.result.now c.give_shares.new.shares (ap length given ∙ given_count c.args.thread c.self.inside.places.items (slice_index_or rows c.args.lock d) ∙ ap length (sym old) ∙ sym c.index_mut-shares.result.now.ok.0) in
+    rw (← c.self.view_is) (λ i. record {
+      places = c.self.inside.places.items;
+      locks = c.self.inside.locks.items;
+      shares = (map-set (λ row. row.items) c.self.inside.shares.items c.args.lock (with_items row c.give_shares.new.shares) ∙ ap (λ q. slice_set rows c.args.lock q) (back ∙ given)) i;
+      sections = c.self.inside.sections.items;
+      queues = lines_from 0 (length c.self.inside.sections.items) (g.Q.Queues.waiting c.self.inside.queues);
+    })

@@ -1,0 +1,57 @@
+-- What a state is made of: the numbers in it name threads, locks and keys that are there.
+use Rattle.std.specs.Prelude.{ℕ, Bool, true, false, ◌≡◌, ◌≢◌, ◌<◌, ◌≤◌, ◌*◌, List, [], ◌∷◌, length}
+use Rattle.lot_base.specs.declared.keys.Keys.{Keys}
+use Rattle.lot_base.specs.declared.keys.Keys.TheVariants.{One, Two}
+use Rattle.lot_base.specs.declared.wants.Waiter.{Waiter}
+use Rattle.lot_acts.specs.declared.acts.Act.{Act}
+use Rattle.lot_acts.specs.declared.acts.Act.TheVariants.{Word, HandOver, Enter, Park, Stand, Take, Requeue, Remove, Leave}
+use Rattle.lot_steps.specs.declared.places.Place.{Place}
+use Rattle.lot_steps.specs.declared.places.Place.TheVariants.{Idle, Mutex}
+use Rattle.lot_mutex.specs.declared.places.MutexPlace.{MutexPlace}
+use Rattle.lot_mutex.specs.MutexProfiles.{mutex_profile}
+use Rattle.lot_machine.specs.Machine.{State, place_at, queue_at}
+
+abbrev pub KeysFit : ℕ → Keys → Type 0
+KeysFit n (One key) = key < n
+KeysFit n (Two first second) = (first < n) × (second < n)
+
+abbrev pub ActFits : State → Act → Type 0
+ActFits w (Word l op) = l < length w.locks
+ActFits w (HandOver l op) = l < length w.locks
+ActFits w (Enter keys) = KeysFit (length w.sections) keys
+ActFits w (Park l key check x) = (l < length w.locks) × (key < length w.sections)
+ActFits w (Stand key x) = key < length w.sections
+ActFits w (Take key whom) = key < length w.sections
+ActFits w (Requeue from to how) = (from < length w.sections) × (to < length w.sections) × (from ≢ to)
+ActFits w (Remove key) = key < length w.sections
+ActFits w (Leave keys wakes) = KeysFit (length w.sections) keys
+ActFits w act = Unit {0}
+
+abbrev pub Implies : Bool → Bool → Type 0
+Implies true b = b ≡ true
+Implies false b = Unit {0}
+
+-- only a timed call gives up
+abbrev pub GivesUpTimed : MutexPlace → Type 0
+GivesUpTimed at = Implies (mutex_profile at).late (mutex_profile at).timed
+
+abbrev pub PlaceFits : ℕ → Place → Type 0
+PlaceFits locks Idle = Unit {0}
+PlaceFits locks (Mutex lock at) = (lock < locks) × GivesUpTimed at
+
+-- each waiter is a thread that is there
+abbrev pub AllBelow : ℕ → List Waiter → Type 0
+AllBelow n [] = Unit {0}
+AllBelow n (x ∷ xs) = (x.thread < n) × AllBelow n xs
+
+pub record IsShaped (w : State) : Type 0 where
+  pub few : length w.locks ≤ 256
+  pub sections : length w.sections ≡ 2 * length w.locks
+  pub queues : length w.queues ≡ length w.sections
+  pub places : (t : ℕ) → PlaceFits (length w.locks) (place_at w t)
+  pub waiting : (key : ℕ) → AllBelow (length w.places) (queue_at w key)
+
+-- the same numbers of threads and of locks
+pub record SameSize (w v : State) : Type 0 where
+  pub threads : length v.places ≡ length w.places
+  pub locks : length v.locks ≡ length w.locks

@@ -1,0 +1,9 @@
+pub use Rattle.lot_base.specs.Words
+pub use Rattle.lot_base.specs.Lines
+pub use Rattle.lot_calls.specs.Calls
+pub use Rattle.lot_calls.specs.Kinds
+pub use Rattle.lot_acts.specs.Acts
+pub use Rattle.lot_steps.specs.Steps
+pub mod Machine
+pub mod Fits
+pub mod Views

@@ -1,0 +1,129 @@
+//! Whom a thread has in hand: those whom it has taken of queues, until it wakes them.
+ghost use Rattle.std.specs.Prelude.{◌≡◌, ◌≤◌, vec_capacity, length, map};
+ghost use Rattle.lot_machine.specs.Machine.{places_told, listed, moved_threads, held, shares_in_hand, sharers, wants_more_in_hand, successor_from, want_of_successor, place_after_telling};
+
+use lot_base::{Requeue, Want};
+use lot_steps::{Place, Reply};
+
+/// The one of those in a hand that wants more than to share.
+#[derive(Clone, Copy, Debug, PartialEq, Eq)]
+pub struct Successor {
+    pub thread: usize,
+    pub want: Want,
+}
+
+/// Where something leads that is told to all whom a thread has in hand.
+pub(crate) fn place_after_telling(thread: usize, reply: Reply, place: Place) -> Place
+    ensures { result ≡ place_after_telling thread reply place }
+{
+    if place.taker() == Some(thread) {
+        place.after(reply)
+    } else {
+        place
+    }
+}
+
+pub(crate) fn tell_taken(places: &mut [Place], thread: usize, reply: Reply)
+    ensures { places.new ≡ map (place_after_telling thread reply) places.old }
+{
+    for place in places.iter_mut() {
+        *place = place_after_telling(thread, reply, *place);
+    }
+}
+
+/// Tells something to threads asleep. One that isn't there is told nothing.
+pub(crate) fn tell_each(places: &mut [Place], threads: &[usize], reply: Reply)
+    ensures { places.new ≡ places_told reply threads.now places.old }
+{
+    for thread in threads {
+        if *thread < places.len() {
+            places[*thread] = places[*thread].after(reply);
+        }
+    }
+}
+
+/// Tells something to a thread asleep, if there is one.
+pub(crate) fn tell_one(places: &mut [Place], thread: Option<usize>, reply: Reply)
+    ensures { places.new ≡ places_told reply (listed thread) places.old }
+{
+    if let Some(thread) = thread {
+        tell_each(places, &[thread], reply);
+    }
+}
+
+pub(crate) fn one_if_some(thread: Option<usize>) -> usize
+    ensures number { result ≡ length (listed thread) }
+    ensures one { result ≤ 1 }
+{
+    match thread {
+        Some(_) => 1,
+        None => 0,
+    }
+}
+
+/// Of those who stand in a line, whom a requeue moves.
+pub(crate) fn keep_moved(whom: &mut Vec<usize>, how: Requeue)
+    ensures moved { whom.new.items ≡ moved_threads how whom.old.items }
+    ensures room { vec_capacity whom.new ≡ vec_capacity whom.old }
+{
+    match how {
+        Requeue::One => whom.truncate(1),
+        Requeue::All => {}
+        Requeue::TakeOneMoveRest => {
+            if !whom.is_empty() {
+                whom.remove(0);
+            }
+        }
+    }
+}
+
+/// Whether a thread has this one in hand, and it wants to share.
+pub(crate) fn shares_in_hand(thread: usize, place: Place) -> bool
+    ensures { result ≡ shares_in_hand thread (held place) }
+{
+    place.taker() == Some(thread) && place.wants() == Some(Want::Shared)
+}
+
+/// How many a thread has in hand who want to share.
+pub(crate) fn sharers(thread: usize, places: &[Place]) -> usize
+    ensures { result ≡ sharers thread places.now }
+{
+    places
+        .iter()
+        .filter(|place| shares_in_hand(thread, **place))
+        .count()
+}
+
+/// What this one wants, where a thread has it in hand and it wants more than to share.
+pub(crate) fn wants_more_in_hand(thread: usize, place: Place) -> Option<Want>
+    ensures { result ≡ wants_more_in_hand thread (held place) }
+{
+    match (place.taker(), place.wants()) {
+        (Some(by), Some(want)) if by == thread && want != Want::Shared => Some(want),
+        _ => None,
+    }
+}
+
+/// The first whom a thread has in hand and who wants more than to share.
+pub(crate) fn find_successor(places: &[Place], thread: usize) -> Option<Successor>
+    ensures { result ≡ successor_from thread 0 places.now }
+{
+    for other in 0..places.len() {
+        if let Some(want) = wants_more_in_hand(thread, places[other]) {
+            return Some(Successor {
+                thread: other,
+                want,
+            });
+        }
+    }
+    None
+}
+
+pub(crate) fn want_of_successor(successor: Option<Successor>) -> Option<Want>
+    ensures { result ≡ want_of_successor successor }
+{
+    match successor {
+        Some(Successor { want, .. }) => Some(want),
+        None => None,
+    }
+}

@@ -1,0 +1,13 @@
+//! The world's machine: places, locks, sections and queues, and each act of a thread, exactly.
+#![tactic(auto)]
+
+pub mod hands;
+pub mod locks;
+pub mod machine;
+pub mod shares;
+pub mod views;
+
+pub use hands::Successor;
+pub use locks::Lock;
+pub use machine::Machine;
+pub use views::{Debt, Debts, OwnersOf, QueueOf};

@@ -1,0 +1,227 @@
+//! What a world shows of a lock: named iterators in the order of a printed line, without memory.
+ghost use Rattle.std.specs.Prelude.{◌≡◌, ◌<◌, ◌^◌, ◌+◌, ◌*◌, ◌++◌, ◌∷◌, [], MatchOption, IfSome, length, drop};
+ghost use Rattle.std.specs.Iterator.{YieldsFirst, item_count};
+ghost use Rattle.lot_machine.specs.Views.{owners_listed, has_debt, debtors};
+
+use lot_base::{Queues, Waiter, main_key, second_key};
+use lot_steps::{Owner, Owners, Pending, Place};
+use std::marker::Model;
+
+/// What a thread still has to do for a lock's waiters.
+#[derive(Clone, Copy, Debug, PartialEq, Eq)]
+pub enum Debt {
+    /// It owes a wake.
+    Owes,
+    /// It was woken, and tries again.
+    Retries,
+}
+
+/// The owners of a lock, each with its sort.
+#[derive(Drop)]
+pub struct OwnersOf {
+    left: Owners,
+}
+
+impl Model for OwnersOf {
+    ghost use Rattle.std.specs.Prelude.{List, ℕ};
+    ghost use Rattle.lot_acts.specs.declared.owners.Owner.{Owner};
+    ghost use Rattle.lot_machine.specs.Views.{owners_listed};
+
+    ghost Value = { List (Owner × ℕ) };
+
+    ghost view = { λ o. owners_listed o.left };
+}
+
+impl OwnersOf {
+    pub fn new(owners: Owners) -> OwnersOf
+        ensures { result ≡ owners_listed owners }
+    {
+        OwnersOf { left: owners }
+    }
+}
+
+impl Iterator for OwnersOf {
+    type Item = (Owner, usize);
+
+    ghost next_gives = { YieldsFirst (λ owners. owners) };
+
+    ghost remaining = { item_count (λ owners. owners) };
+
+    fn next(&mut self) -> Option<(Owner, usize)> {
+        if let Some(thread) = self.left.exclusive {
+            self.left.exclusive = None;
+            return Some((Owner::Exclusive, thread));
+        }
+        if let Some(Pending { thread, .. }) = self.left.pending {
+            self.left.pending = None;
+            return Some((Owner::Pending, thread));
+        }
+        if let Some(thread) = self.left.upgradable {
+            self.left.upgradable = None;
+            return Some((Owner::Upgradable, thread));
+        }
+        if let Some(thread) = self.left.running {
+            self.left.running = None;
+            return Some((Owner::Running, thread));
+        }
+        None
+    }
+}
+
+/// The waiters of a lock: its main queue from the front, then who waits aside.
+#[derive(Drop)]
+pub struct QueueOf<'a, Q: Queues> {
+    queues: &'a Q,
+    lock: usize,
+    place: usize,
+    is_aside: bool,
+}
+
+impl<'a, Q: Queues> Model for QueueOf<'a, Q> {
+    ghost use Rattle.std.specs.Prelude.{List, ◌+◌, ◌*◌, ◌<◌, ◌^◌, ◌++◌, if◌then◌else◌};
+    ghost use Rattle.lot_base.specs.declared.wants.Waiter.{Waiter};
+
+    ghost Value = { List Waiter };
+
+    ghost view = { λ s. if s.is_aside then Q.rest s.queues.now (2 * s.lock + 1) s.place
+        else Q.rest s.queues.now (2 * s.lock) s.place ++ Q.rest s.queues.now (2 * s.lock + 1) 0 };
+
+    ghost invariant = { λ s. s.lock < 2 ^ 63 };
+}
+
+impl<'a, Q: Queues> QueueOf<'a, Q> {
+    pub fn new(queues: &'a Q, lock: usize) -> QueueOf<'a, Q>
+        requires { lock < 2 ^ 63 }
+        ensures { result ≡ Q.rest queues.now (2 * lock) 0 ++ Q.rest queues.now (2 * lock + 1) 0 }
+    {
+        QueueOf {
+            queues,
+            lock,
+            place: 0,
+            is_aside: false,
+        }
+    }
+}
+
+impl<Q: Queues> Iterator for QueueOf<'_, Q> {
+    type Item = Waiter;
+
+    ghost next_gives = { YieldsFirst (λ waiters. waiters) };
+
+    ghost remaining = { item_count (λ waiters. waiters) };
+
+    fn next(&mut self) -> Option<Waiter> {
+        if !self.is_aside {
+            if let Some((waiter, place)) = self.queues.find(main_key(self.lock), self.place) {
+                self.place = place;
+                return Some(waiter);
+            }
+            self.is_aside = true;
+            self.place = 0;
+        }
+        match self.queues.find(second_key(self.lock), self.place) {
+            Some((waiter, place)) => {
+                self.place = place;
+                Some(waiter)
+            }
+            None => None,
+        }
+    }
+}
+
+/// The threads that owe a wake on a lock, then those that try again, each by their numbers.
+#[derive(Drop)]
+pub struct Debts<'a> {
+    places: &'a [Place],
+    lock: usize,
+    owes: usize,
+    retries: usize,
+}
+
+impl<'a> Model for Debts<'a> {
+    ghost use Rattle.std.specs.Prelude.{List, ℕ, ◌++◌, drop};
+    ghost use Rattle.lot_machine.specs.declared.views.Debt.{Debt};
+    ghost use Rattle.lot_machine.specs.declared.views.Debt.TheVariants.{Owes, Retries};
+    ghost use Rattle.lot_machine.specs.Views.{debtors};
+
+    ghost Value = { List (Debt × ℕ) };
+
+    ghost view = { λ s. debtors Owes s.lock s.owes (drop s.owes s.places.now) ++ debtors Retries s.lock s.retries (drop s.retries s.places.now) };
+}
+
+impl<'a> Debts<'a> {
+    pub fn new(places: &'a [Place], lock: usize) -> Debts<'a>
+        ensures { result ≡ debtors Debt.Owes lock 0 places.now ++ debtors Debt.Retries lock 0 places.now }
+    {
+        let first = first_debtor(places, lock);
+        Debts {
+            places,
+            lock,
+            owes: first,
+            retries: first,
+        }
+    }
+}
+
+/// Whether a thread at this place has the debt.
+fn has_debt(place: Place, debt: Debt, lock: usize) -> bool
+    ensures { result ≡ has_debt place debt lock }
+{
+    match debt {
+        Debt::Owes => place.owes_on(lock),
+        Debt::Retries => place.retries_on(lock),
+    }
+}
+
+/// The first thread with a debt on the lock, or the number of threads. On most locks nobody has one, and
+/// this is then the only way through all threads.
+fn first_debtor(places: &[Place], lock: usize) -> usize
+    ensures owes { debtors Debt.Owes lock 0 places.now ≡ debtors Debt.Owes lock result (drop result places.now) }
+    ensures retries { debtors Debt.Retries lock 0 places.now ≡ debtors Debt.Retries lock result (drop result places.now) }
+{
+    for thread in 0..places.len() {
+        if has_debt(places[thread], Debt::Owes, lock)
+            || has_debt(places[thread], Debt::Retries, lock)
+        {
+            return thread;
+        }
+    }
+    places.len()
+}
+
+/// The first thread from one on that has the debt.
+fn find_debtor(places: &[Place], from: usize, debt: Debt, lock: usize) -> Option<usize>
+    ensures within { IfSome result (λ thread. thread < length places.now) }
+    ensures found { MatchOption result (debtors debt lock from (drop from places.now) ≡ [])
+        (λ thread. debtors debt lock from (drop from places.now) ≡ (debt, thread) ∷ debtors debt lock (thread + 1) (drop (thread + 1) places.now)) }
+{
+    for thread in from..places.len() {
+        if has_debt(places[thread], debt, lock) {
+            return Some(thread);
+        }
+    }
+    None
+}
+
+impl Iterator for Debts<'_> {
+    type Item = (Debt, usize);
+
+    ghost next_gives = { YieldsFirst (λ debts. debts) };
+
+    ghost remaining = { item_count (λ debts. debts) };
+
+    fn next(&mut self) -> Option<(Debt, usize)> {
+        if let Some(thread) = find_debtor(self.places, self.owes, Debt::Owes, self.lock) {
+            self.owes = thread + 1;
+            return Some((Debt::Owes, thread));
+        }
+        self.owes = self.places.len();
+        match find_debtor(self.places, self.retries, Debt::Retries, self.lock) {
+            Some(thread) => {
+                self.retries = thread + 1;
+                Some((Debt::Retries, thread))
+            }
+            None => None,
+        }
+    }
+}

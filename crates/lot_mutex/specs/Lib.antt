@@ -1,0 +1,2 @@
+pub mod MutexSteps
+pub mod MutexProfiles

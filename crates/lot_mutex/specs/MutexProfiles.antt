@@ -1,0 +1,141 @@
+-- What each place of a mutex says of its thread: a row for each place. All that is asked of a place is read off its row.
+use Rattle.std.specs.Prelude.{ℕ, Bool, true, false, Option, Some, None, if◌then◌else◌, ◌==◌}
+use Rattle.lot_base.specs.declared.wants.Want.{Want}
+use Rattle.lot_base.specs.declared.wants.Want.TheVariants.{Exclusive}
+use Rattle.lot_mutex.specs.declared.places.MutexPlace.{MutexPlace}
+use Rattle.lot_mutex.specs.declared.places.MutexPlace.TheVariants.{Lock, TryLock, Unlock, UnlockFair, Bump, HandOff}
+use Rattle.lot_mutex.specs.declared.lock.Entry.{Entry}
+use Rattle.lot_mutex.specs.declared.lock.Entry.TheVariants as entry
+use Rattle.lot_mutex.specs.declared.lock.LockAt.{LockAt}
+use Rattle.lot_mutex.specs.declared.lock.LockAt.TheVariants as lock
+use Rattle.lot_mutex.specs.declared.unlock.UnlockAt.{UnlockAt}
+use Rattle.lot_mutex.specs.declared.unlock.UnlockAt.TheVariants as unlock
+use Rattle.lot_mutex.specs.declared.hand_off.HandOffAt.{HandOffAt}
+use Rattle.lot_mutex.specs.declared.hand_off.HandOffAt.TheVariants as hand_off
+use Rattle.lot_mutex.specs.MutexSteps.{is_timed}
+use Rattle.lot_acts.specs.Profiles.{Hand, hand, hand_owner, in_hand, Profile}
+use Rattle.abstract_locks.specs.Purposes.{Purpose, Enters, Releases, Bumps, Patient, Timed, Try}
+use Rattle.abstract_locks.specs.Sites.{Doing, Has, Line, Main, idle, found}
+
+-- ---------------------------------------------------------------- what a thread does about the lock
+
+abbrev pub owner : Doing
+owner = record idle { claims = Some (Has Exclusive) }
+
+abbrev pub inside : Doing
+inside = record idle { inside = Some Main }
+
+abbrev pub carrying : Doing
+carrying = record inside { carries = true; covers = true }
+
+abbrev pub again : Bool → Doing → Doing
+again retries d = record d { retries = if retries then Some Exclusive else None }
+
+-- ---------------------------------------------------------------- calls that enter
+
+abbrev pub is_bump : Entry → Bool
+is_bump entry.Bump = true
+is_bump e = false
+
+abbrev pub entry_purpose : ℕ → Entry → Purpose
+entry_purpose l entry.Lock = Enters l Exclusive Patient
+entry_purpose l entry.LockTimed = Enters l Exclusive Timed
+entry_purpose l entry.Bump = Bumps l Exclusive
+
+abbrev pub trying : Profile
+trying = record {
+  doing = idle;
+  stands = None;
+  carries = None;
+  hand = None;
+  wants = None;
+  owes = false;
+  retries = false;
+  spins = false;
+  timed = false;
+  may_be_late = false;
+  late = false;
+  gave_up = false;
+  purpose = λ l. Enters l Exclusive Try;
+  released = false;
+  handed = false;
+}
+
+abbrev pub lock_row : Bool → Bool → LockAt → Profile
+lock_row timed retries lock.First = record trying { doing = again retries idle }
+lock_row timed retries lock.Load = record trying { doing = again retries idle }
+lock_row timed retries (lock.Decide seen) = record trying { doing = again retries idle; spins = seen == 1 }
+lock_row timed retries lock.Check = record trying { doing = again retries inside; owes = true }
+lock_row timed retries (lock.Leave parked) = record trying { doing = again (if parked then false else retries) inside; stands = if parked then Some Main else None; owes = true }
+lock_row timed retries lock.Asleep = record trying { stands = Some Main; may_be_late = timed }
+lock_row timed retries (lock.Taken by) = record trying { hand = hand by false }
+lock_row timed retries (lock.Handed by) = record trying { doing = owner; hand = hand by true; handed = true }
+lock_row timed retries lock.Accept = record trying { doing = owner; handed = true }
+lock_row timed retries lock.Remove = record trying { doing = inside; stands = Some Main; owes = true; late = true }
+lock_row timed retries lock.Clear = record trying { doing = record inside { empty = Some Main }; owes = true; late = true; gave_up = true }
+lock_row timed retries lock.GiveUp = record trying { doing = inside; owes = true; late = true; gave_up = true }
+
+-- ---------------------------------------------------------------- calls that release
+
+-- a fair release, or a bump, which enters again behind it
+abbrev pub release_purpose : ℕ → Bool → Purpose
+release_purpose l bumps = if bumps then Bumps l Exclusive else Releases l Exclusive true
+
+abbrev pub unlock_row : UnlockAt → Profile
+unlock_row unlock.Subtract = record trying { doing = owner }
+unlock_row unlock.Enter = record trying { doing = record idle { wakes = Some Main }; owes = true; released = true }
+unlock_row unlock.Take = record trying { doing = record inside { wakes = Some Main }; owes = true; released = true }
+unlock_row (unlock.Clear any) = record trying { doing = record carrying { empty = Some Main }; carries = in_hand any false; owes = true; released = true }
+unlock_row (unlock.Leave any) = record trying { doing = carrying; carries = in_hand any false; owes = true; released = true }
+
+-- whether nobody is left behind a take
+abbrev pub seen_empty : Bool → Bool → Bool
+seen_empty any none_left = if any then none_left else true
+
+abbrev pub hand_off_row : HandOffAt → Profile
+hand_off_row hand_off.Enter = record trying { doing = owner }
+hand_off_row hand_off.Take = record trying { doing = record owner { inside = Some Main } }
+hand_off_row (hand_off.Store any none_left) =
+    record trying { doing = record carrying { claims = Some (Has Exclusive); empty = found Main (seen_empty any none_left) }; carries = in_hand any false }
+hand_off_row (hand_off.Leave any) = record trying { doing = record inside { carries = true }; carries = in_hand any true; released = true }
+
+-- ---------------------------------------------------------------- every place
+
+-- a call that enters has nobody in hand
+abbrev pub entering : Entry → Bool → Profile → Profile
+entering e retries row = record row { carries = None; wants = Some Exclusive; retries = retries; timed = is_timed e; purpose = λ l. entry_purpose l e; released = is_bump e }
+
+-- a call that releases waits for nothing
+abbrev pub leaving : (ℕ → Purpose) → Profile → Profile
+leaving purpose row = record trying { doing = row.doing; carries = row.carries; owes = row.owes; purpose = purpose; released = row.released }
+
+abbrev pub mutex_profile : MutexPlace → Profile
+mutex_profile (Lock e retries at) = entering e retries (lock_row (is_timed e) retries at)
+mutex_profile TryLock = trying
+mutex_profile (Unlock at) = leaving (λ l. Releases l Exclusive false) (unlock_row at)
+mutex_profile UnlockFair = leaving (λ l. release_purpose l false) (record trying { doing = owner })
+mutex_profile Bump = leaving (λ l. release_purpose l true) (record trying { doing = owner })
+mutex_profile (HandOff bumps at) = leaving (λ l. release_purpose l bumps) (record (hand_off_row at) { owes = true })
+
+-- the thread that took this one and has not left its section yet
+abbrev pub mutex_taker : MutexPlace → Option ℕ
+mutex_taker at = hand_owner (mutex_profile at).hand
+
+-- what it wants, where it waits
+abbrev pub mutex_wants : MutexPlace → Option Want
+mutex_wants at = (mutex_profile at).wants
+
+-- whether the word may be loaded again in place of the act: where the act would set the parked bit
+abbrev pub mutex_can_spin : MutexPlace → Bool
+mutex_can_spin at = (mutex_profile at).spins
+
+-- whether the thread sleeps in the queue of a call that may give up
+abbrev pub mutex_can_be_late : MutexPlace → Bool
+mutex_can_be_late at = (mutex_profile at).may_be_late
+
+-- from the step that saw waiters, or from entering the section, until the section is left
+abbrev pub mutex_owes : MutexPlace → Bool
+mutex_owes at = (mutex_profile at).owes
+
+abbrev pub mutex_retries : MutexPlace → Bool
+mutex_retries at = (mutex_profile at).retries

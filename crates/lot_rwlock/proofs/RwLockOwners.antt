@@ -1,0 +1,196 @@
+-- Each step on the word of a reader-writer lock changes its owners as its deeds say.
+use Rattle.std.proofs.Common.{ℕ, Bool, true, false, Option, Some, None, List, [], ◌∷◌, if◌then◌else◌, ◌==◌, ◌&&◌, not, ◌≡◌, refl, ap, ◌∙◌, sym, arith}
+use Rattle.lot_base.specs.declared.ops.Op.{Op}
+use Rattle.lot_base.specs.declared.wants.Want.{Want}
+use Rattle.lot_base.specs.declared.wants.Want.TheVariants.{Exclusive, Upgradable, Shared}
+use Rattle.lot_calls.specs.declared.calls.Access.{Access}
+use Rattle.lot_calls.specs.declared.calls.Access.TheVariants as access
+use Rattle.lot_calls.specs.declared.calls.Downgrade.{Downgrade}
+use Rattle.lot_calls.specs.declared.calls.Downgrade.TheVariants as downgrade
+use Rattle.lot_calls.specs.declared.outcomes.Answer.TheVariants.{No}
+use Rattle.abstract_locks.proofs.CodeLaws.{words_tell_true}
+use Rattle.std.proofs.lemmas.Bool.{eqb-true}
+use Rattle.std.proofs.lemmas.Bool.Decides.{nat_tests}
+use Rattle.lot_calls.specs.declared.calls.Patience.{Patience}
+use Rattle.lot_calls.specs.declared.calls.Patience.TheVariants.{Patient, Timed, Try}
+use Rattle.abstract_locks.specs.Locks.{LockState, Rules, Pending, Settle, Leave, Convert, Rollback, Owns, readers, falling_back}
+use Rattle.abstract_locks.specs.Locks as locks
+use Rattle.abstract_locks.specs.Sites.{Has, Pends, Site, IsSite, Deed, End, Mark, Case, after_deed}
+use Rattle.abstract_locks.specs.Codes.{code, TellsTrue, count_in, has_parked}
+use Rattle.lot_base.specs.declared.keys.Line.{Line}
+use Rattle.lot_base.specs.declared.keys.Line.TheVariants.{Main, Second}
+use Rattle.lot_acts.specs.declared.acts.Act.TheVariants as act
+use Rattle.lot_acts.specs.declared.acts.Reply.TheVariants as reply
+use Rattle.lot_rwlock.specs.declared.places.Admission.{Admission}
+use Rattle.lot_rwlock.specs.declared.changes.Change.{Change}
+use Rattle.lot_rwlock.specs.declared.changes.Change.TheVariants as changes
+use Rattle.lot_rwlock.specs.declared.places.RwLockPlace.{RwLockPlace}
+use Rattle.lot_rwlock.specs.declared.purposes.RwLockPurpose.{RwLockPurpose}
+use Rattle.lot_rwlock.specs.declared.purposes.RwLockPurpose.TheVariants as purpose
+use Rattle.lot_rwlock.specs.declared.places.RwLockAt.{RwLockAt}
+use Rattle.lot_rwlock.specs.declared.places.RwLockAt.TheVariants as at
+use Rattle.lot_rwlock.specs.declared.enter.Decision.{Decision}
+use Rattle.lot_rwlock.specs.declared.enter.Decision.TheVariants as decisions
+use Rattle.lot_rwlock.specs.declared.park.ParkAt.TheVariants as parking
+use Rattle.lot_rwlock.specs.declared.release.WakeAt.TheVariants as waking
+use Rattle.lot_rwlock.specs.RwLockSteps.{wanted, from_of, to_of, decision, decided_act, rwlock_act, enters_by, came_change, settles, change}
+use Rattle.lot_rwlock.specs.RwLockDeeds.{Admits, AtTry, AtPending, AtUpgrade, rwlock_doing, missed_deeds, looked_deeds, enters_deeds, exchanged_deeds, counted_deeds, does_and_wakes, sees_waiter, rwlock_deeds, after_all, AtFits, IsAt, lock_by, RwLockOwnersFollow}
+
+module _ (r : Rules) (a : Admission) (s : Site) (t l : ℕ) (f : Op) (h : IsSite r s) where
+  abbrev v : ℕ
+  v = code r s
+
+  -- the lock behind deeds
+  abbrev behind : List Deed → LockState
+  behind ds = (after_all r ds s t).lock
+
+  looks_same : (d : Decision) → behind (looked_deeds d) ≡ s.lock
+  looks_same (decisions.Refuse answer) = refl
+  looks_same decisions.Take = refl
+  looks_same decisions.Mark = refl
+  looks_same decisions.Park = refl
+
+  missed_same : (how : Patience) → behind (missed_deeds how) ≡ s.lock
+  missed_same Try = refl
+  missed_same Patient = refl
+  missed_same Timed = refl
+
+  came : (x : Access) → behind (enters_deeds (wanted x)) ≡ lock_by (enters_by x) t s.lock
+  came access.Exclusive = refl
+  came access.Upgradable = refl
+  came access.Shared = refl
+
+  exchanged : (x : Access) (how : Patience) (d now : Decision) (b : Bool) → behind (exchanged_deeds (purpose.Enter x how) d b now) ≡ lock_by (if b then came_change (purpose.Enter x how) d else changes.Nothing) t s.lock
+  exchanged x how decisions.Take now true = came x
+  exchanged x how decisions.Mark now true = refl
+  exchanged x how decisions.Park now true = looks_same now
+  exchanged x how (decisions.Refuse answer) now true = looks_same now
+  exchanged x how decisions.Take now false = looks_same now
+  exchanged x how decisions.Mark now false = looks_same now
+  exchanged x how decisions.Park now false = looks_same now
+  exchanged x how (decisions.Refuse answer) now false = looks_same now
+
+  first : (how : Patience) (b : Bool) → behind (if b then Case (locks.Enter Exclusive) ∷ End ∷ [] else missed_deeds how) ≡ lock_by (if b then changes.Enter access.Exclusive else changes.Nothing) t s.lock
+  first how true = refl
+  first how false = missed_same how
+
+  settled : (b : Bool) → behind (if b then Case Settle ∷ End ∷ [] else []) ≡ lock_by (if b then changes.Settle else changes.Nothing) t s.lock
+  settled true = refl
+  settled false = refl
+
+  counts : (b c : Bool) → behind (if b then Mark Second ∷ [] else if c then Case Settle ∷ End ∷ [] else []) ≡ lock_by (if b then changes.Nothing else if c then changes.Settle else changes.Nothing) t s.lock
+  counts true c = refl
+  counts false c = settled c
+
+  -- a case, at the end of its call or not
+  does : (b : Bool) (c : locks.LockCase) → behind (does_and_wakes b (Case c)) ≡ locks.after_case r c s.lock t
+  does true c = refl
+  does false c = refl
+
+  -- a writer that entered falls back to nothing, and one that upgrades to its right
+  rolled : (b : Bool) → s.lock.pending ≡ Some (record { thread = t; falls_back = false }) → behind (does_and_wakes b (Case Rollback)) ≡ lock_by (changes.RollBack false) t s.lock
+  rolled b e = does b Rollback ∙ rw e refl
+
+  fell : (b : Bool) → s.lock.pending ≡ Some (record { thread = t; falls_back = true }) → behind (does_and_wakes b (Case Rollback)) ≡ lock_by (changes.RollBack true) t s.lock
+  fell b e = does b Rollback ∙ rw e refl
+
+  left : (x : Access) (b : Bool) → behind (does_and_wakes b (Case (Leave (wanted x)))) ≡ lock_by (changes.Leave x) t s.lock
+  left x b = does b (Leave (wanted x))
+
+  downgraded : (d : Downgrade) (b : Bool) → behind (does_and_wakes b (Case (Convert (wanted (from_of d)) (wanted (to_of d))))) ≡ lock_by (changes.Downgrade d) t s.lock
+  downgraded downgrade.ToShared b = does b (Convert Exclusive Shared)
+  downgraded downgrade.ToUpgradable b = does b (Convert Exclusive Upgradable)
+  downgraded downgrade.UpgradableToShared b = does b (Convert Upgradable Shared)
+
+  -- an upgrade owns where it sees one reader, itself
+  upgraded : (b c : Bool) → (readers s.lock == 0) ≡ c → behind (does_and_wakes b (Case (Convert Upgradable Exclusive))) ≡ lock_by (changes.Upgrade c) t s.lock
+  upgraded b true e = does b (Convert Upgradable Exclusive) ∙ rw e refl
+  upgraded b false e = does b (Convert Upgradable Exclusive) ∙ rw e refl
+
+  module _ (admits : Admits r a) where
+    tells : TellsTrue r s
+    tells = words_tell_true r s admits.0 h
+
+    alone : Owns s.lock t Upgradable → (b : Bool) → (count_in v == 1) ≡ b → (readers s.lock == 0) ≡ b
+    alone own b e = let c = tells.count in grind (arith, nat_tests)
+
+    module _ (again : Bool) where
+      abbrev of : RwLockPurpose → RwLockAt → RwLockPlace
+      of q to = record { purpose = q; retries = again; at = to }
+
+      -- the owners behind a step at a place
+      abbrev Owned : RwLockPlace → Type 0
+      Owned p = behind (rwlock_deeds a p None (reply.Value v)) ≡ lock_by (change a p v) t s.lock
+
+      enters_owners : (x : Access) (how : Patience) (to : RwLockAt) → AtFits (purpose.Enter x how) to → s.doing t ≡ rwlock_doing (of (purpose.Enter x how) to) → rwlock_act l a (of (purpose.Enter x how) to) ≡ act.Word l f → Owned (of (purpose.Enter x how) to)
+      enters_owners x how at.First fits is e = first how (v == 0)
+      enters_owners x how at.Load fits is e = looks_same (decision a (wanted x) how v)
+      enters_owners x how (at.Decide expected) fits is e = exchanged x how (decision a (wanted x) how expected) (decision a (wanted x) how v) (v == expected)
+      enters_owners x how (at.Park parking.Clear) fits is e = refl
+      enters_owners x how at.Look fits is e = settled (count_in v == 0)
+      enters_owners x how (at.Count expected) fits is e = counts (v == expected) (count_in v == 0)
+      enters_owners x how (at.Aside parking.Clear) fits is e = refl
+      enters_owners x how at.RollBack fits is e = rolled _ (h.held t (Pends false) (grind (arith, is)))
+      enters_owners x how (at.Wake Main (waking.Clear any)) fits is e = refl
+      enters_owners x how (at.Wake Second (waking.Clear any)) fits is e = refl
+      enters_owners x how at.GiveWay fits is e = absurd fits
+      enters_owners x how to fits is e = absurd cc
+
+      releases_owners : (x : Access) (to : RwLockAt) → AtFits (purpose.Release x) to → rwlock_act l a (of (purpose.Release x) to) ≡ act.Word l f → Owned (of (purpose.Release x) to)
+      releases_owners x at.GiveWay fits e = left x (sees_waiter (wanted x) v)
+      releases_owners x (at.Wake Main (waking.Clear any)) fits e = refl
+      releases_owners x (at.Wake Second (waking.Clear any)) fits e = refl
+      releases_owners x (at.Wake m to) fits e = absurd cc
+      releases_owners x to fits e = absurd fits
+
+      downgrades_owners : (d : Downgrade) (to : RwLockAt) → AtFits (purpose.Downgrade d) to → rwlock_act l a (of (purpose.Downgrade d) to) ≡ act.Word l f → Owned (of (purpose.Downgrade d) to)
+      downgrades_owners d at.GiveWay fits e = downgraded d (has_parked v)
+      downgrades_owners d (at.Wake Main (waking.Clear any)) fits e = refl
+      downgrades_owners d (at.Wake Main to) fits e = absurd cc
+      downgrades_owners d to fits e = absurd fits
+
+      pending_owners : (how : Patience) (to : RwLockAt) → AtPending to → s.doing t ≡ rwlock_doing (of (purpose.Upgrade how) to) → rwlock_act l a (of (purpose.Upgrade how) to) ≡ act.Word l f → Owned (of (purpose.Upgrade how) to)
+      pending_owners how at.GiveWay fits is e = upgraded (not (count_in v == 1)) (count_in v == 1) (alone (h.held t (Has Upgradable) (grind (arith, is))) (count_in v == 1) refl)
+      pending_owners how at.Look fits is e = settled (count_in v == 0)
+      pending_owners how (at.Count expected) fits is e = counts (v == expected) (count_in v == 0)
+      pending_owners how (at.Aside parking.Clear) fits is e = refl
+      pending_owners how at.RollBack fits is e = fell _ (h.held t (Pends true) (grind (arith, is)))
+      pending_owners how (at.Wake Main (waking.Clear any)) fits is e = refl
+      pending_owners how (at.Aside to) fits is e = absurd cc
+      pending_owners how (at.Wake Main to) fits is e = absurd cc
+      pending_owners how to fits is e = absurd fits
+
+      looks_up : (b : Bool) → behind (looked_deeds (if b then decisions.Take else decisions.Refuse No)) ≡ s.lock
+      looks_up true = refl
+      looks_up false = refl
+
+      takes_up : (how : Patience) (expected : ℕ) (b : Bool) → (count_in expected == 1) ≡ b → decided_act l (purpose.Upgrade how) expected (if b then decisions.Take else decisions.Refuse No) ≡ act.Word l f → (c : Bool) → (v == expected) ≡ c → Owns s.lock t Upgradable
+          → behind (exchanged_deeds (purpose.Upgrade how) (if b then decisions.Take else decisions.Refuse No) c (if count_in v == 1 then decisions.Take else decisions.Refuse No)) ≡ lock_by (if c then came_change (purpose.Upgrade how) (if b then decisions.Take else decisions.Refuse No) else changes.Nothing) t s.lock
+      takes_up how expected true one e true ec own = upgraded false true (alone own true (ap (λ n. count_in n == 1) (eqb-true v expected ec) ∙ one))
+      takes_up how expected true one e false ec own = looks_up (count_in v == 1)
+      takes_up how expected false one e c ec own = absurd cc
+
+      try_owners : (to : RwLockAt) → AtTry to → s.doing t ≡ rwlock_doing (of (purpose.Upgrade Try) to) → rwlock_act l a (of (purpose.Upgrade Try) to) ≡ act.Word l f → Owned (of (purpose.Upgrade Try) to)
+      try_owners at.Load fits is e = looks_up (count_in v == 1)
+      try_owners (at.Decide expected) fits is e = takes_up Try expected (count_in expected == 1) refl e (v == expected) refl (h.held t (Has Upgradable) (grind (arith, is)))
+      try_owners to fits is e = absurd fits
+
+abbrev IsOwned : Rules → Admission → Site → ℕ → RwLockPlace → Type 0
+IsOwned r a s t p =
+    (after_all r (rwlock_deeds a p None (reply.Value (code r s))) s t).lock ≡ lock_by (change a p (code r s)) t s.lock
+
+pub rwlock_owners_follow : RwLockOwnersFollow
+rwlock_owners_follow r a s t l p f at e = by_purpose p.purpose p.retries p.at at.place at.doing e
+  where
+    by_patience : (how : Patience) (again : Bool) (to : RwLockAt) → AtUpgrade how to → s.doing t ≡ rwlock_doing (record { purpose = purpose.Upgrade how; retries = again; at = to })
+        → rwlock_act l a (record { purpose = purpose.Upgrade how; retries = again; at = to }) ≡ act.Word l f → IsOwned r a s t (record { purpose = purpose.Upgrade how; retries = again; at = to })
+    by_patience Try again to fits is g = try_owners r a s t l f at.site at.admits again to fits is g
+    by_patience Patient again to fits is g = pending_owners r a s t l f at.site at.admits again Patient to fits is g
+    by_patience Timed again to fits is g = pending_owners r a s t l f at.site at.admits again Timed to fits is g
+
+    by_purpose : (q : RwLockPurpose) (again : Bool) (to : RwLockAt) → AtFits q to → s.doing t ≡ rwlock_doing (record { purpose = q; retries = again; at = to })
+        → rwlock_act l a (record { purpose = q; retries = again; at = to }) ≡ act.Word l f → IsOwned r a s t (record { purpose = q; retries = again; at = to })
+    by_purpose (purpose.Enter x how) again to fits is g = enters_owners r a s t l f at.site at.admits again x how to fits is g
+    by_purpose (purpose.Release x) again to fits is g = releases_owners r a s t l f at.site at.admits again x to fits g
+    by_purpose (purpose.Downgrade d) again to fits is g = downgrades_owners r a s t l f at.site at.admits again d to fits g
+    by_purpose (purpose.Upgrade how) again to fits is g = by_patience how again to fits is g

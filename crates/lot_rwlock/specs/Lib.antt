@@ -1,0 +1,3 @@
+pub mod RwLockSteps
+pub mod RwLockDeeds
+pub mod RwLockProfiles

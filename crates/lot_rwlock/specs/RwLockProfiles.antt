@@ -1,0 +1,178 @@
+-- What each place of a reader-writer lock says of its thread: all that is asked of a place is read off its row.
+use Rattle.std.specs.Prelude.{ℕ, Bool, true, false, Option, Some, None, if◌then◌else◌, ◌&&◌, not}
+use Rattle.lot_base.specs.declared.keys.Line.{Line}
+use Rattle.lot_base.specs.declared.keys.Line.TheVariants.{Main, Second}
+use Rattle.lot_base.specs.declared.wants.Want.{Want}
+use Rattle.lot_base.specs.declared.wants.Want.TheVariants.{Exclusive, Upgradable}
+use Rattle.lot_calls.specs.declared.calls.Patience.{Patience}
+use Rattle.lot_calls.specs.declared.calls.Patience.TheVariants.{Patient, Timed}
+use Rattle.lot_rwlock.specs.declared.places.Admission.{Admission}
+use Rattle.lot_rwlock.specs.declared.places.RwLockPlace.{RwLockPlace}
+use Rattle.lot_rwlock.specs.declared.purposes.RwLockPurpose.{RwLockPurpose}
+use Rattle.lot_rwlock.specs.declared.purposes.RwLockPurpose.TheVariants as purposes
+use Rattle.lot_rwlock.specs.declared.places.RwLockAt.{RwLockAt}
+use Rattle.lot_rwlock.specs.declared.places.RwLockAt.TheVariants as at
+use Rattle.lot_rwlock.specs.declared.enter.Decision.{Decision}
+use Rattle.lot_rwlock.specs.declared.enter.Decision.TheVariants as decisions
+use Rattle.lot_rwlock.specs.declared.park.ParkAt.{ParkAt}
+use Rattle.lot_rwlock.specs.declared.park.ParkAt.TheVariants as parking
+use Rattle.lot_rwlock.specs.declared.release.WakeAt.{WakeAt}
+use Rattle.lot_rwlock.specs.declared.release.WakeAt.TheVariants as waking
+use Rattle.lot_rwlock.specs.RwLockSteps.{wanted, from_of, to_of, patience_of, decided}
+use Rattle.lot_rwlock.specs.RwLockDeeds.{rwlock_doing}
+use Rattle.lot_acts.specs.Profiles.{Hand, Profile, hand, hand_owner, in_hand}
+use Rattle.abstract_locks.specs.Codes.{has_aside}
+use Rattle.abstract_locks.specs.Purposes.{Purpose, Enters, Releases, Converts}
+
+-- ---------------------------------------------------------------- on its way into a queue, and out of it
+
+abbrev pub is_inside : ParkAt → Bool
+is_inside parking.Asleep = false
+is_inside (parking.Taken by) = false
+is_inside to = true
+
+abbrev pub stands_parking : Line → ParkAt → Option Line
+stands_parking m (parking.Leave parked) = if parked then Some m else None
+stands_parking m parking.Asleep = Some m
+stands_parking m parking.Remove = Some m
+stands_parking m to = None
+
+abbrev pub hand_parking : ParkAt → Option Hand
+hand_parking (parking.Taken by) = hand by false
+hand_parking to = None
+
+abbrev pub is_asleep : ParkAt → Bool
+is_asleep parking.Asleep = true
+is_asleep to = false
+
+-- its time was up, and it has left the line
+abbrev pub is_late : ParkAt → Bool
+is_late parking.Remove = true
+is_late parking.Clear = true
+is_late parking.GiveUp = true
+is_late to = false
+
+abbrev pub has_given_up : ParkAt → Bool
+has_given_up parking.Clear = true
+has_given_up parking.GiveUp = true
+has_given_up to = false
+
+-- ---------------------------------------------------------------- fields of the row
+
+abbrev pub stands_at : RwLockAt → Option Line
+stands_at (at.Park to) = stands_parking Main to
+stands_at (at.Aside to) = stands_parking Second to
+stands_at to = None
+
+abbrev pub hand_at : RwLockAt → Option Hand
+hand_at (at.Park to) = hand_parking to
+hand_at (at.Aside to) = hand_parking to
+hand_at to = None
+
+abbrev pub carries_waking : WakeAt → Option Bool
+carries_waking (waking.Clear any) = in_hand any false
+carries_waking (waking.Leave any) = in_hand any false
+carries_waking to = None
+
+abbrev pub carries_at : RwLockAt → Option Bool
+carries_at (at.Wake m to) = carries_waking to
+carries_at to = None
+
+abbrev pub in_line : Bool → Line → Option Line
+in_line b m = if b then Some m else None
+
+-- the queue on which it owes a wake: from the step that saw waiters, or from entering the section, until the section is left
+abbrev pub owes_at : RwLockAt → Option Line
+owes_at (at.Park to) = in_line (is_inside to) Main
+owes_at (at.Aside to) = in_line (is_inside to) Second
+owes_at (at.Wake m to) = Some m
+owes_at to = None
+
+abbrev pub is_mark : Decision → Bool
+is_mark decisions.Mark = true
+is_mark decision = false
+
+-- where the act leads to sleep, and nobody sleeps yet
+abbrev pub spins_at : Admission → RwLockPlace → RwLockAt → Bool
+spins_at a p (at.Decide seen) = is_mark (decided a p seen) && not (has_aside seen)
+spins_at a p (at.Count seen) = true
+spins_at a p to = false
+
+abbrev pub is_timed : Patience → Bool
+is_timed Timed = true
+is_timed how = false
+
+-- the line in which it sleeps and may give up
+abbrev pub late_line_at : Patience → RwLockAt → Option Line
+late_line_at how (at.Park to) = in_line (is_asleep to && is_timed how) Main
+late_line_at how (at.Aside to) = in_line (is_asleep to && is_timed how) Second
+late_line_at how to = None
+
+-- who enters wakes others only where it has given up
+abbrev pub enters_late : (ParkAt → Bool) → RwLockAt → Bool
+enters_late parked (at.Park to) = parked to
+enters_late parked (at.Aside to) = parked to
+enters_late parked at.RollBack = true
+enters_late parked (at.Wake m to) = true
+enters_late parked to = false
+
+abbrev pub late_at : (ParkAt → Bool) → RwLockPurpose → RwLockAt → Bool
+late_at parked (purposes.Enter x how) to = enters_late parked to
+late_at parked (purposes.Upgrade how) to = enters_late parked to
+late_at parked q to = false
+
+abbrev pub wants_for : RwLockPurpose → Option Want
+wants_for (purposes.Enter x how) = Some (wanted x)
+wants_for (purposes.Upgrade how) = Some Exclusive
+wants_for q = None
+
+abbrev pub purpose_by : RwLockPurpose → ℕ → Purpose
+purpose_by (purposes.Enter x how) l = Enters l (wanted x) how
+purpose_by (purposes.Release x) l = Releases l (wanted x) false
+purpose_by (purposes.Downgrade d) l = Converts l (wanted (from_of d)) (wanted (to_of d)) Patient
+purpose_by (purposes.Upgrade how) l = Converts l Upgradable Exclusive how
+
+-- a release has given its right up once it wakes others
+abbrev pub has_released : RwLockPurpose → RwLockAt → Bool
+has_released (purposes.Release x) (at.Wake m to) = true
+has_released q to = false
+
+abbrev pub is_some : Option Line → Bool
+is_some None = false
+is_some (Some m) = true
+
+abbrev pub rwlock_profile : Admission → RwLockPlace → Profile
+rwlock_profile a p = record {
+  doing = rwlock_doing p;
+  stands = stands_at p.at;
+  carries = carries_at p.at;
+  hand = hand_at p.at;
+  wants = wants_for p.purpose;
+  owes = is_some (owes_at p.at);
+  retries = p.retries;
+  spins = spins_at a p p.at;
+  timed = is_timed (patience_of p.purpose);
+  may_be_late = is_some (late_line_at (patience_of p.purpose) p.at);
+  late = late_at is_late p.purpose p.at;
+  gave_up = late_at has_given_up p.purpose p.at;
+  purpose = purpose_by p.purpose;
+  released = has_released p.purpose p.at;
+  handed = false;
+}
+
+-- ---------------------------------------------------------------- what is asked of a place
+
+abbrev pub rwlock_taker : RwLockPlace → Option ℕ
+rwlock_taker p = hand_owner (hand_at p.at)
+
+abbrev pub rwlock_wants : RwLockPlace → Option Want
+rwlock_wants p = wants_for p.purpose
+
+abbrev pub rwlock_can_spin : Admission → RwLockPlace → Bool
+rwlock_can_spin a p = spins_at a p p.at
+
+abbrev pub rwlock_late_line : RwLockPlace → Option Line
+rwlock_late_line p = late_line_at (patience_of p.purpose) p.at
+
+abbrev pub rwlock_owes : RwLockPlace → Option Line
+rwlock_owes p = owes_at p.at

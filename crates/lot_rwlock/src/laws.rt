@@ -1,0 +1,23 @@
+//! What the steps of a lock do to it.
+ghost use Rattle.lot_rwlock.specs.RwLockDeeds.{RwLockOwnersFollow, RwLockSectionsFollow, RwLockStepsCode, RwLockStepsFollow};
+
+/// Each step on the word of a reader-writer lock may do to the lock what its deeds say, and its next place says what the thread does then.
+pub fn rwlock_steps_follow()
+    ensures { RwLockStepsFollow }
+{}
+
+/// And the word that it leaves is the word of the lock behind its deeds.
+pub fn rwlock_steps_code()
+    ensures { RwLockStepsCode }
+{}
+
+/// And the owners that it leaves are those of the lock behind its deeds.
+pub fn rwlock_owners_follow()
+    ensures { RwLockOwnersFollow }
+{}
+
+/// Each step into a section, in it, and out of it may do to the lock what its deeds say too, as may a load in place of an act, and
+/// the step of a thread whose time is up.
+pub fn rwlock_sections_follow()
+    ensures { RwLockSectionsFollow }
+{}

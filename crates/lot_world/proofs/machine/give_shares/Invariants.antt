@@ -1,7 +1,0 @@
-use Rattle.std.proofs.Common.{◌≡◌, ◌++◌, take, drop}
-use Rattle.lot_world.specs.Machine.{shares_given}
-use Rattle.lot_world.proofs.machine.give_shares.Given as goal
-
--- those so far have theirs
-abbrev pub invariant-loop-other : goal.invariant-loop-other
-invariant-loop-other l = shares_given l.thread l.places l.fn.shares ≡ take l.other l.shares ++ shares_given l.thread (drop l.other l.places) (drop l.other l.shares)

@@ -1,5 +1,0 @@
-use Rattle.std.proofs.Common.{◌≡◌, map, replicate}
-use Rattle.lot_world.proofs.machine.unshared_locks.Given as goal
-
-abbrev pub invariant-loop : goal.invariant-loop
-invariant-loop l = map (λ row. row.items) l.shares.items ≡ replicate l.counter (replicate l.threads 0)

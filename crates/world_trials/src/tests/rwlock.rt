@@ -1,0 +1,142 @@
+ghost use Rattle.std.specs.Prelude.{◌≡◌};
+
+use lot_acts::{Act, Next, Reply};
+use lot_base::Keys;
+use lot_calls::{Access, Answer, Downgrade, Patience};
+use lot_rwlock::{Admission, RwLockAt, RwLockPlace, RwLockPurpose};
+
+const NORMAL: Admission = Admission {
+    recursive: false,
+    limit: 2,
+};
+
+const RECURSIVE: Admission = Admission {
+    recursive: true,
+    limit: 2,
+};
+
+// What a call that nobody disturbs makes of a word, until it ends or does what is no operation on the word.
+fn alone(admission: Admission, purpose: RwLockPurpose, at: RwLockAt, word: u64) -> (u64, Act) {
+    let mut place = RwLockPlace {
+        purpose,
+        retries: false,
+        at,
+    };
+    let mut now = word;
+    for _ in 0..8 {
+        let act = place.act(0, admission);
+        let Act::Word { op, .. } = act else {
+            return (now, act);
+        };
+        let seen = now;
+        now = op.apply(seen);
+        match place.next(admission, Reply::Value(seen)) {
+            Next::At(next) => place = next,
+            Next::End(answer) => return (now, Act::End(answer)),
+        }
+    }
+    (now, Act::Rest)
+}
+
+fn entering(access: Access, patience: Patience) -> RwLockPurpose {
+    RwLockPurpose::Enter { access, patience }
+}
+
+fn enters(admission: Admission, access: Access, word: u64) -> (u64, Act) {
+    let at = if access == Access::Exclusive {
+        RwLockAt::First
+    } else {
+        RwLockAt::Load
+    };
+    alone(admission, entering(access, Patience::Patient), at, word)
+}
+
+fn gives(purpose: RwLockPurpose, word: u64) -> (u64, Act) {
+    alone(NORMAL, purpose, RwLockAt::GiveWay, word)
+}
+
+const OK: Act = Act::End(Answer::Ok);
+
+const FULL: Act = Act::End(Answer::ReadersFull);
+
+const MAIN: Act = Act::Enter(Keys::One(0));
+
+const SECOND: Act = Act::Enter(Keys::One(1));
+
+#[test]
+fn who_is_not_kept_out_enters(rt: HostRuntime) {
+    assert_eq!(rt; enters(NORMAL, Access::Exclusive, 0), (8, OK));
+    assert_eq!(rt; enters(NORMAL, Access::Shared, 16), (32, OK));
+    assert_eq!(rt; enters(NORMAL, Access::Upgradable, 16), (36, OK));
+    assert_eq!(rt; enters(NORMAL, Access::Shared, 32), (32, FULL));
+    // A stale bit alone keeps no writer out that doesn't try.
+    assert_eq!(rt; enters(NORMAL, Access::Exclusive, 1), (9, OK));
+}
+
+#[test]
+fn who_is_kept_out_goes_into_the_main_queue(rt: HostRuntime) {
+    assert_eq!(rt; enters(NORMAL, Access::Shared, 8), (9, MAIN));
+    assert_eq!(rt; enters(NORMAL, Access::Exclusive, 21), (21, MAIN));
+    assert_eq!(rt; enters(NORMAL, Access::Shared, 24), (25, MAIN));
+    assert_eq!(rt; enters(RECURSIVE, Access::Shared, 24), (40, OK));
+    assert_eq!(rt; enters(RECURSIVE, Access::Shared, 8), (9, MAIN));
+}
+
+#[test]
+fn a_writer_waits_aside_for_the_last_reader(rt: HostRuntime) {
+    assert_eq!(rt; enters(NORMAL, Access::Exclusive, 16), (26, SECOND));
+    let shared = RwLockPurpose::Release(Access::Shared);
+    assert_eq!(rt; gives(shared, 42), (26, OK));
+    assert_eq!(rt; gives(shared, 26), (10, SECOND));
+    let writing = entering(Access::Exclusive, Patience::Timed);
+    assert_eq!(rt;
+        alone(NORMAL, writing, RwLockAt::Look, 10),
+        (10, Act::End(Answer::Yes))
+    );
+    assert_eq!(rt; alone(NORMAL, writing, RwLockAt::RollBack, 25), (17, MAIN));
+    assert_eq!(rt;
+        alone(NORMAL, writing, RwLockAt::RollBack, 24),
+        (16, Act::End(Answer::No))
+    );
+}
+
+#[test]
+fn tries_answer_by_the_word(rt: HostRuntime) {
+    let writing = entering(Access::Exclusive, Patience::Try);
+    let reading = entering(Access::Shared, Patience::Try);
+    let no = Act::End(Answer::No);
+    let yes = Act::End(Answer::Yes);
+    assert_eq!(rt; alone(NORMAL, writing, RwLockAt::First, 0), (8, yes));
+    assert_eq!(rt; alone(NORMAL, writing, RwLockAt::First, 1), (1, no));
+    assert_eq!(rt; alone(NORMAL, reading, RwLockAt::Load, 8), (8, no));
+    assert_eq!(rt; alone(NORMAL, reading, RwLockAt::Load, 32), (32, FULL));
+    assert_eq!(rt; alone(NORMAL, reading, RwLockAt::Load, 21), (37, yes));
+}
+
+#[test]
+fn rights_are_converted(rt: HostRuntime) {
+    let downgrade = |to: Downgrade| RwLockPurpose::Downgrade(to);
+    assert_eq!(rt; gives(downgrade(Downgrade::ToShared), 8), (16, OK));
+    assert_eq!(rt; gives(downgrade(Downgrade::ToUpgradable), 9), (21, MAIN));
+    assert_eq!(rt;
+        gives(downgrade(Downgrade::UpgradableToShared), 20),
+        (16, OK)
+    );
+    let upgrade = RwLockPurpose::Upgrade(Patience::Patient);
+    assert_eq!(rt; gives(upgrade, 20), (8, OK));
+    assert_eq!(rt; gives(upgrade, 36), (26, SECOND));
+    let tries = RwLockPurpose::Upgrade(Patience::Try);
+    assert_eq!(rt;
+        alone(NORMAL, tries, RwLockAt::Load, 20),
+        (8, Act::End(Answer::Yes))
+    );
+    assert_eq!(rt;
+        alone(NORMAL, tries, RwLockAt::Load, 36),
+        (36, Act::End(Answer::No))
+    );
+    let late = RwLockPurpose::Upgrade(Patience::Timed);
+    assert_eq!(rt;
+        alone(RECURSIVE, late, RwLockAt::RollBack, 24),
+        (36, Act::End(Answer::No))
+    );
+}

@@ -1,0 +1,123 @@
+//! Worlds of many threads, many locks and many steps.
+ghost use Rattle.std.specs.Prelude.{◌≤◌, ◌≡◌, true};
+ghost use Rattle.lot_calls.specs.Kinds.{fits};
+
+use super::turn;
+use lot_base::ListQueues;
+use lot_world::{Answer, Call, Kind, MutexCall, Outcome, Step, Turn, World};
+use std::alloc::{AllocError, Global};
+use std::process::Abort;
+use std::test::Fail;
+
+fn begin(lock: usize, call: MutexCall) -> Turn {
+    Turn::Begin(Call::Mutex { lock, call })
+}
+
+/// Begins a call and steps it alone.
+fn done(world: &mut World<ListQueues>, thread: usize, lock: usize, call: MutexCall) -> Outcome {
+    if world.step(turn(thread, begin(lock, call))) == Outcome::Step {
+        world.solo(thread)
+    } else {
+        Outcome::NotNow
+    }
+}
+
+/// The word of a lock that is there.
+fn word_of(world: &World<ListQueues>, lock: usize) -> Option<u64> {
+    if lock < world.locks() {
+        Some(world.word(lock))
+    } else {
+        None
+    }
+}
+
+/// The thread that waits longest on a lock that is there.
+fn first_waiter(world: &World<ListQueues>, lock: usize) -> Option<usize> {
+    if lock < world.locks() {
+        world.queue(lock).next().map(|waiter| waiter.thread)
+    } else {
+        None
+    }
+}
+
+/// The last thread owns a mutex, and all others wait for it in their order. It goes from one to the next.
+fn goes_from_one_to_the_next<A: Abort>(
+    rt: &A,
+    alloc: Global,
+    kind: Kind,
+    threads: usize,
+) -> Result<(), Fail>
+    requires few { (2 ≤ threads) × (threads ≤ 1024) }
+    requires fits { fits kind threads ≡ true }
+{
+    let mut world = World::<ListQueues>::new(alloc, &[kind, Kind::Mutex], threads)?;
+    let last = threads - 1;
+    let owns = Outcome::End(Answer::Ok);
+    assert_eq!(rt; done(&mut world, last, 0, MutexCall::Lock), owns);
+    for thread in 0..last {
+        assert_eq!(rt;
+            done(&mut world, thread, 0, MutexCall::Lock),
+            Outcome::Sleep
+        );
+    }
+    assert_eq!(rt; first_waiter(&world, 0), Some(0));
+    let mut owner = last;
+    for thread in 0..last {
+        assert_eq!(rt; done(&mut world, owner, 0, MutexCall::Unlock), owns);
+        assert_eq!(rt; world.solo(thread), owns);
+        owner = thread;
+    }
+    assert_eq!(rt; done(&mut world, owner, 0, MutexCall::Unlock), owns);
+    assert_eq!(rt; word_of(&world, 0), Some(0));
+    Ok(())
+}
+
+#[test]
+fn a_mutex_goes_through_300_threads(rt: HostRuntime) -> Result<(), Fail> {
+    goes_from_one_to_the_next(&rt, rt.alloc(), Kind::Mutex, 300)
+}
+
+#[test]
+fn a_fair_mutex_goes_through_601_threads(rt: HostRuntime) -> Result<(), Fail> {
+    goes_from_one_to_the_next(&rt, rt.alloc(), Kind::Fair, 601)
+}
+
+#[test]
+fn a_mutex_goes_through_1023_threads(rt: HostRuntime) -> Result<(), Fail> {
+    goes_from_one_to_the_next(&rt, rt.alloc(), Kind::Mutex, 1023)
+}
+
+/// A thread that locks and unlocks, so many times.
+fn rounds(alloc: Global, count: usize) -> Result<Vec<Step>, AllocError> {
+    let mut steps = Vec::new(alloc);
+    for _ in 0..count {
+        for next in [
+            begin(0, MutexCall::Lock),
+            Turn::Go,
+            begin(0, MutexCall::Unlock),
+            Turn::Go,
+        ] {
+            steps.push(turn(1, next)).map_err(AllocError::from)?;
+        }
+    }
+    Ok(steps)
+}
+
+#[test]
+fn a_run_of_100_000_steps_goes_to_its_end(rt: HostRuntime) -> Result<(), Fail> {
+    let steps = rounds(rt.alloc(), 25_000)?;
+    let mut world = World::<ListQueues>::new(rt.alloc(), &[Kind::Mutex], 2)?;
+    let mut outcomes = Vec::new(rt.alloc());
+    assert_eq!(rt; world.run(&steps, &mut outcomes), Ok(()));
+    assert_eq!(rt; outcomes.len(), 100_000);
+    for (index, outcome) in outcomes.iter().enumerate() {
+        let wanted = if index % 2 == 0 {
+            Outcome::Step
+        } else {
+            Outcome::End(Answer::Ok)
+        };
+        assert_eq!(rt; *outcome, wanted, "step {index}");
+    }
+    assert_eq!(rt; word_of(&world, 0), Some(0));
+    Ok(())
+}
