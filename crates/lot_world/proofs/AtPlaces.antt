@@ -17,7 +17,8 @@ use Rattle.abstract_locks.specs.Sites.{Line, Main, Second, Has}
 use Rattle.lot_machine.specs.Machine.{State, place_at, word_at, owners_at, section_at, queue_at}
 use Rattle.lot_world.specs.Refinement.{lock_state, taken_at}
 use Rattle.lot_world.specs.MutexPromises.{IsMutexWord}
-use Rattle.lot_world.specs.MutexDeeds.{hand, mutex_doing, mutex_station, nowhere, station, station_at, doing_on}
+use Rattle.lot_world.specs.MutexDeeds.{mutex_doing, mutex_station}
+use Rattle.lot_world.specs.Stations.{hand, nowhere, station, station_at, doing_on}
 use Rattle.lot_world.specs.SitesOf.{IsSteady, carried_at, hand_at, stood_in}
 use Rattle.lot_world.proofs.Counts.{without_absent, first_times}
 use Rattle.lot_world.proofs.Glue.{same, doing_here, nothing_at, own_stance, untaken}

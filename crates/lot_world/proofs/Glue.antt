@@ -31,7 +31,8 @@ use Rattle.abstract_locks.specs.Sites.{Doing, Has, Site, Main, Begin, Out, Mark,
 use Rattle.lot_machine.specs.Machine.{State, place_at, word_at, owners_at, shares_at, filled_at, queue_at, place_after_telling, state_after_telling, held, shares_in_hand, with_share, shares_given, wants_more_in_hand, successor_or, successor_from, pending_for, owners_of_successor, shares_handed_over, owners_handed_over, state_after_reply, put}
 use Rattle.lot_machine.specs.declared.hands.Successor.{Successor}
 use Rattle.lot_world.specs.Refinement.{lock_seen, taken_at}
-use Rattle.lot_world.specs.MutexDeeds.{Act, Station, hand, mutex_doing, mutex_station, station, station_at, nowhere, calls, doing_on, queued}
+use Rattle.lot_world.specs.MutexDeeds.{Act, mutex_doing, mutex_station, queued}
+use Rattle.lot_world.specs.Stations.{Station, hand, station, station_at, nowhere, calls, doing_on}
 use Rattle.lot_world.specs.SitesOf.{site_of, rules_at, after_acts, carried_at, hand_at, Hands}
 
 -- ---------------------------------------------------------------- lists with one element set, as functions

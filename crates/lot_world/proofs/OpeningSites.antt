@@ -14,7 +14,7 @@ use Rattle.abstract_locks.specs.Purposes.{rules_of}
 use Rattle.abstract_locks.specs.Sites.{IsSite, opening_site, is_full}
 use Rattle.abstract_locks.proofs.LockKeeps.{opening_is_state}
 use Rattle.lot_machine.specs.Machine.{State, opening, unlocked, place_at, kind_at}
-use Rattle.lot_world.specs.MutexDeeds.{nowhere, station_at}
+use Rattle.lot_world.specs.Stations.{nowhere, station_at}
 use Rattle.lot_world.specs.SitesOf.{IsSteady, site_of, rules_at, key_of, carried_at, hand_at}
 use Rattle.lot_world.proofs.Glue.{past_all, seen_by}
 use Rattle.lot_machine.proofs.Opening.{idle_at, none_at, empty_at, nobody_owns, no_readers, opening_shares}

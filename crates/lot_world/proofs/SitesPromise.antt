@@ -36,7 +36,8 @@ use Rattle.lot_world.specs.Promises.{WaitsFor, want_of, IsDebtorOf, IsLookedAfte
 use Rattle.lot_world.specs.MutexPromises.{IsMutexWord}
 use Rattle.lot_mutex.specs.declared.lock.Entry.TheVariants as entry
 use Rattle.lot_world.specs.Refinement.{entry_purpose}
-use Rattle.lot_world.specs.MutexDeeds.{nowhere, station, station_at, mutex_station, mutex_profile, doing_on, mutex_doing}
+use Rattle.lot_world.specs.MutexDeeds.{mutex_station, mutex_profile, mutex_doing}
+use Rattle.lot_world.specs.Stations.{nowhere, station, station_at, doing_on}
 use Rattle.lot_world.specs.SitesOf.{IsSteady, CallsMutex, stood_in, rules_at}
 use Rattle.lot_world.proofs.Glue.{nothing_at}
 use Rattle.lot_world.proofs.MutexTable.{mutex, queued_times}

@@ -41,7 +41,8 @@ use Rattle.lot_machine.specs.Machine.{State, place_at, word_at, kind_at, queue_a
 use Rattle.lot_machine.specs.Fits.{IsShaped, PlaceFits}
 use Rattle.lot_world.specs.MutexPromises.{IsMutexWord}
 use Rattle.abstract_locks.specs.Sites.{Main, Site}
-use Rattle.lot_world.specs.MutexDeeds.{station, station_at, Station, hand, acts, takes, queued}
+use Rattle.lot_world.specs.MutexDeeds.{acts, takes, queued}
+use Rattle.lot_world.specs.Stations.{station, station_at, Station, hand}
 use Rattle.lot_world.specs.SitesOf.{IsSteady, CallsMutex, is_mutex, Goes, hand_at}
 use Rattle.lot_world.proofs.ExclusiveOwners.{by_code, owner_after}
 use Rattle.abstract_locks.specs.Locks.{Rules, MayEnter, IsBlocked, first_thread}

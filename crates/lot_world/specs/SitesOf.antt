@@ -12,7 +12,8 @@ use Rattle.lot_machine.specs.Machine.{State, place_at, word_at, filled_at, kind_
 use Rattle.lot_world.specs.Refinement.{lock_state}
 use Rattle.lot_calls.specs.declared.kinds.Kind.{Kind}
 use Rattle.lot_calls.specs.declared.kinds.Kind as kind
-use Rattle.lot_world.specs.MutexDeeds.{Act, Hand, hand, station_at, doing_on}
+use Rattle.lot_world.specs.MutexDeeds.{Act}
+use Rattle.lot_world.specs.Stations.{Hand, hand, station_at, doing_on}
 
 abbrev pub rules_at : State → ℕ → Rules
 rules_at w l = rules_of (kind_at w l)
