@@ -109,7 +109,6 @@ module _ (kinds : List Kind) (threads : ℕ) where
     sites = record {
       site = λ l. rw (opening_seen l) (rw size (opening_is_site (rules_at first l) threads (room (kind_at first l) threads some (kinds_fit fit l))));
       word = λ l. word_0 kinds l ∙ sym (ap (code (rules_at first l)) (opening_seen l) ∙ zero_code (kind_at first l) (length first.places));
-      unused = λ l h. (word_0 kinds l, ap (λ o. o.exclusive) (nobody_owns kinds l));
       unfilled = λ l h. unfilled_0 kinds l;
     };
     stands = record {

@@ -107,7 +107,6 @@ module _ (w v : State) (l : ℕ) (rules : rules_at w l ≡ mutex) (q : ℕ → P
     word = words.here ∙ coded ∙ sym (λ i. code (rules i) (site_here i));
     others = λ k ne. (site_there k ne, words.other k ne);
     kinds = kinds;
-    unshared = ap (λ r. has_readers r.sort) rules;
   }
 
 -- keeps all
@@ -121,10 +120,6 @@ goes_steady w v l ds steady g = record {
     word = λ k. elim (cases_eq k l) [
       | inl e ↦ rw e (g.follows.word ∙ (λ i. code (rules_of (sym (g.follows.kinds l) i)) (site_of v l)))
       | inr ne ↦ (g.follows.others k ne).1 ∙ steady.sites.word k ∙ sym (λ i. code (rules_of (g.follows.kinds k i)) ((g.follows.others k ne).0 i))
-    ];
-    unused = λ k h. let of_w : has_readers (rules_at w k).sort ≡ true = sym (ap (λ x. has_readers (rules_of x).sort) (g.follows.kinds k)) ∙ h in elim (cases_eq k l) [
-      | inl e ↦ absurd (let none : has_readers (rules_at w k).sort ≡ false = rw e g.follows.unshared in cc)
-      | inr ne ↦ let u = steady.sites.unused k of_w in ((g.follows.others k ne).1 ∙ u.0, ap (λ (s : Site). s.lock.exclusive) (g.follows.others k ne).0 ∙ u.1)
     ];
     unfilled = λ k h. let of_w : has_readers (rules_at w k).sort ≡ false = sym (ap (λ x. has_readers (rules_of x).sort) (g.follows.kinds k)) ∙ h in elim (cases_eq k l) [
       | inl e ↦ rw e (unfilled_here (rw e at of_w))
