@@ -3,6 +3,7 @@ pub mod Closures
 pub mod Alone
 pub mod Runs
 pub mod Glue
+pub mod OneStep
 pub mod MutexTable
 pub mod MutexSections
 pub mod StandsKept

@@ -22,7 +22,7 @@ use Rattle.lot_world.specs.Stations.{Station, station, station_at, doing_on}
 use Rattle.lot_world.specs.SitesOf.{Follows, Goes, Stands, IsSteady, key_of, stood_in}
 use Rattle.lot_world.proofs.Counts.{without_absent}
 use Rattle.lot_world.proofs.Glue.{base_at, same, differ, put_places, IsOf, own_stance, station_elsewhere}
-use Rattle.lot_world.proofs.MutexTable.{mutex, Steps, own_doing, parks, removes, finds_nobody}
+use Rattle.lot_world.proofs.MutexTable.{mutex, MutexSteps, own_doing, parks, removes, finds_nobody}
 use Rattle.lot_world.proofs.SitesKept.{mutex_at, same_bases, word_l, Changed, unchanged, changed_main, follow, alike_put, of_mutex, rules, site_l, own}
 use Rattle.lot_world.proofs.StandsMoved.{still, line_changes}
 
@@ -66,7 +66,7 @@ module _ (w : State) (t l : ℕ) (at : MutexPlace) (steady : IsSteady w) (is : p
   -- a place and the main line of its lock
   line_sites : (v : State) (p2 : Place) (m : List Waiter) (ds : List Deed) → v.locks ≡ w.locks → v.shares ≡ w.shares → v.places ≡ set w.places t p2 → IsOf l p2
       → Changed (λ k. queue_at w (2 * k)) (λ k. queue_at v (2 * k)) l m → ((k : ℕ) → queue_at v (2 * k + 1) ≡ queue_at w (2 * k + 1))
-      → Steps l (base_at w l) (word_at w l) (word_at w l) (owners_at w l) (owners_at w l) (queue_at w (2 * l)) m (queue_at w (2 * l + 1)) (place_at w) t p2 ds → Follows w v l (acts t ds)
+      → MutexSteps l (base_at w l) (word_at w l) (word_at w l) (owners_at w l) (owners_at w l) (queue_at w (2 * l)) m (queue_at w (2 * l + 1)) (place_at w) t p2 ds → Follows w v l (acts t ds)
   line_sites v p2 m ds el eh ep of mains seconds steps = follow w v l (rules w t l at steady is there) (putting (place_at w) t p2) (word_at w l) (owners_at w l) m
       (ap (λ (xs : List Place). λ u. get_or xs u Idle) ep ∙ put_places w t p2 (λ h. absurd (omega arith))) (same_bases w v el eh (ap (λ (xs : List Place). length xs) ep ∙ length-set w.places t p2))
       (rw el (unchanged (word_at w) l)) (rw el (unchanged (owners_at w) l)) mains seconds (λ k. rw el refl)

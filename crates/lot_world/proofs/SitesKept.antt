@@ -30,7 +30,7 @@ use Rattle.abstract_locks.specs.Locks.{Rules, TakeFirst, putting}
 use Rattle.abstract_locks.specs.Sites.{Doing, Site, IsSite, Deed, Main, Second, In, Out, Case, idle, leaves, found, is_empty, has_readers, after_deed}
 use Rattle.abstract_locks.specs.Codes.{code}
 use Rattle.abstract_locks.specs.Purposes.{rules_of}
-use Rattle.abstract_locks.proofs.SiteKeeps.{deed_keeps}
+pub use Rattle.lot_world.proofs.OneStep.{acts_keep}
 use Rattle.std.specs.Prelude.{sum}
 use Rattle.lot_machine.specs.Machine.{State, shares_handed_over, unlocked, place_at, word_at, owners_at, shares_at, filled_at, kind_at, queue_at, put, state_after_operation, state_with_sections, section_at, queues_without_first, state_after_reply, state_after_telling, state_after_hand_over, state_after_act, reply_to}
 use Rattle.lot_world.specs.Refinement.{taken_at}
@@ -40,7 +40,7 @@ use Rattle.lot_world.specs.Stations.{Station, hand, nowhere, station, doing_on}
 use Rattle.lot_world.specs.MutexDeeds as deeds
 use Rattle.lot_world.specs.SitesOf.{site_of, rules_at, AllNeeded, IsSteady, Follows, Goes, CallsMutex, carried_at, hand_at, after_acts}
 use Rattle.lot_world.proofs.Glue.{base_at, seen_by, seen, site_seen, goes_from, put_places, put_here, put_other, IsOf, next_of, doing_elsewhere, taken_elsewhere, inside_is, own_stance, LetGo, leaving, taking, told_one, successor_one, none_given, lets_taken, lets_handed, lets_nobody, IsTakenAt, is_taken, IsHandedAt, is_handed, untaken, handing, hands_acts}
-use Rattle.lot_world.proofs.MutexTable.{mutex, IsCode, OnWord, Steps, same_filled, own_doing, goes_in as goes_into}
+use Rattle.lot_world.proofs.MutexTable.{mutex, IsCode, OnWord, MutexSteps, same_filled, own_doing, goes_in as goes_into}
 use Rattle.lot_world.proofs.KindsKept.{operated_kinds, operated_filled, given_kinds, given_filled, given_shares}
 use Rattle.lot_world.specs.SitesOf.{is_mutex}
 use Rattle.lot_world.proofs.StandsMoved.{mutex_rules, still, goes_in, goes_out, lets_go, hands_lock, takes}
@@ -56,11 +56,6 @@ changed_set f xs i x d lt = record { here = ap f (get_or-set_same xs i x d lt); 
 
 pub unchanged : {A : Type 0} (f : ℕ → A) (l : ℕ) → Changed f f l (f l)
 unchanged f l = record { here = refl; other = λ j ne. refl }
-
--- deeds one after another
-pub acts_keep : (r : Rules) (ds : List deeds.Act) (s : Site) → IsSite r s → AllNeeded r ds s → IsSite r (after_acts r ds s)
-acts_keep r [] s h n = h
-acts_keep r (a ∷ more) s h n = acts_keep r more (after_deed r a.deed s a.by) (deed_keeps r a.deed s a.by h n.0) n.1
 
 -- what another lock sees of each place
 abbrev pub AlikeAt : ℕ → Place → Place → Type 0
@@ -197,7 +192,7 @@ module _ (w : State) (t l : ℕ) (at : MutexPlace) (steady : IsSteady w) (is : p
 
   -- a place and the section of its lock change
   place_sites : (v : State) (p2 : Place) (ds : List Deed) → v.locks ≡ w.locks → v.shares ≡ w.shares → v.queues ≡ w.queues → v.places ≡ set w.places t p2 → IsOf l p2
-      → Steps l (base_at w l) (word_at w l) (word_at w l) (owners_at w l) (owners_at w l) (queue_at w (2 * l)) (queue_at w (2 * l)) (queue_at w (2 * l + 1)) (place_at w) t p2 ds → Follows w v l (acts t ds)
+      → MutexSteps l (base_at w l) (word_at w l) (word_at w l) (owners_at w l) (owners_at w l) (queue_at w (2 * l)) (queue_at w (2 * l)) (queue_at w (2 * l + 1)) (place_at w) t p2 ds → Follows w v l (acts t ds)
   place_sites v p2 ds el es eq ep of steps = follow w v l rules (putting (place_at w) t p2) (word_at w l) (owners_at w l) (queue_at w (2 * l))
       (ap (λ (xs : List Place). λ u. get_or xs u Idle) ep ∙ put_places w t p2 (past p2)) (same_bases w v el es (ap (λ (xs : List Place). length xs) ep ∙ length-set w.places t p2))
       (rw el (unchanged (word_at w) l)) (rw el (unchanged (owners_at w) l)) (rw eq (unchanged (λ k. queue_at w (2 * k)) l)) (λ k. rw eq refl) (λ k. rw el refl)
@@ -206,7 +201,7 @@ module _ (w : State) (t l : ℕ) (at : MutexPlace) (steady : IsSteady w) (is : p
 
   -- a place that changes alone
   pub place_keeps : (p2 : Place) (ds : List Deed) → IsOf l p2
-      → Steps l (base_at w l) (word_at w l) (word_at w l) (owners_at w l) (owners_at w l) (queue_at w (2 * l)) (queue_at w (2 * l)) (queue_at w (2 * l + 1)) (place_at w) t p2 ds → station p2 ≡ mutex_station at → Goes w (put w t p2) l (acts t ds)
+      → MutexSteps l (base_at w l) (word_at w l) (word_at w l) (owners_at w l) (owners_at w l) (queue_at w (2 * l)) (queue_at w (2 * l)) (queue_at w (2 * l + 1)) (place_at w) t p2 ds → station p2 ≡ mutex_station at → Goes w (put w t p2) l (acts t ds)
   place_keeps p2 ds of steps e = record {
     follows = place_sites (put w t p2) p2 ds refl refl refl refl of steps;
     stands = still w (put w t p2) steady.stands (λ k. refl) l t of_mutex own p2 of (put_places w t p2 (past p2)) (λ key. refl) (λ key. refl) (e ∙ sym station_is_at);

@@ -33,7 +33,7 @@ use Rattle.lot_world.specs.SitesOf.{IsSteady, Goes}
 use Rattle.abstract_locks.specs.Codes.{code}
 use Rattle.lot_machine.proofs.Shape.{both}
 use Rattle.lot_world.proofs.KindsKept.{calls_mutex}
-use Rattle.lot_world.proofs.Glue.{base_at, put_places, same}
+use Rattle.lot_world.proofs.Glue.{base_at, parts_at, put_places, same}
 use Rattle.lot_world.proofs.MutexTable.{mutex, own_doing, meets, others_same}
 use Rattle.lot_world.proofs.StandsMoved.{mutex_rules, still}
 use Rattle.lot_world.proofs.SitesKept.{lock_by, mutex_at, same_bases, unchanged, follow, goes_steady, alike_put}
@@ -53,7 +53,7 @@ module _ (w : State) (t : ℕ) (steady : IsSteady w) (shape : IsShaped w) (there
         (unchanged (word_at w) l) (unchanged (owners_at w) l) (unchanged (λ k. queue_at w (2 * k)) l) (λ k. refl) (λ k. refl)
         (λ k ne. alike_put l k (place_at w) t (Mutex l at) (rw is tt) refl ne)
         (acts t (Begin c ∷ []))
-        (meets l (base_at w l) (word_at w l) (owners_at w l) (queue_at w (2 * l)) (queue_at w (2 * l + 1)) (place_at w) t (Mutex l at) _ (rw is (sym none)) refl refl refl refl (own_doing l (Mutex l at) at refl ∙ e ∙ rw (same t, is) refl)
+        (meets mutex l (parts_at w l) (place_at w) t (Mutex l at) _ (rw is (sym none)) refl refl refl refl (own_doing l (Mutex l at) at refl ∙ e ∙ rw (same t, is) refl)
         (λ u ne. others_same mutex (Begin c ∷ []) (mutex_at w l) t u (tt, tt) ne))
         (has, tt)
         (steady.sites.word l ∙ (λ i. code (mutex_rules (kind_at w l) of_mutex i) (lock_by w l (mutex_rules (kind_at w l) of_mutex i))));
