@@ -83,7 +83,7 @@ module _ (w : State) (t l : ℕ) (at : MutexPlace) (steady : IsSteady w) (is : p
   line_stands : (v : State) (p2 : Place) → v.locks ≡ w.locks → v.sections ≡ w.sections → v.places ≡ set w.places t p2 → IsOf l p2 → ((key : ℕ) → key ≢ 2 * l → queue_at v key ≡ queue_at w key)
       → ((u : ℕ) → u ≢ t → times u (queue_at v (2 * l)) ≡ times u (queue_at w (2 * l))) → ((m : Line) → times t (queue_at v (key_of l m)) ≡ stood_in (station p2).stands m) → (to : Option Line) → station p2 ≡ record (mutex_station at) { stands = to } → Stands v
   line_stands v p2 el es ep of elsewhere counts own_count to e = line_changes w v steady.stands (λ k. rw el refl) l t (of_mutex w t l at steady is there) (own w t l at steady is there) p2 of
-      (ap (λ (xs : List Place). λ u. get_or xs u Idle) ep ∙ put_places w t p2 (λ h. absurd (omega arith))) (λ key. rw es refl) elsewhere counts own_count
+      (ap (λ (xs : List Place). λ u. get_or xs u Idle) ep ∙ put_places w t p2 (λ h. absurd (omega arith))) Main (λ key. rw es refl) elsewhere counts own_count
       (ap (λ (x : Station). x.inside) (e ∙ sym (ap (λ y. record (station y) { stands = to }) is))) (ap (λ (x : Station). x.carries) (e ∙ sym (ap (λ y. record (station y) { stands = to }) is))) (ap (λ (x : Station). x.hand) (e ∙ sym (ap (λ y. record (station y) { stands = to }) is)))
 
   -- it stands behind the last

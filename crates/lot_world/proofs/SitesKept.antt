@@ -217,7 +217,7 @@ module _ (w : State) (t l : ℕ) (at : MutexPlace) (steady : IsSteady w) (is : p
     follows = place_sites v p2 (In Main ∷ []) refl refl refl refl of
         (goes_into l (base_at w l) (word_at w l) (word_at w l) (owners_at w l) (queue_at w (2 * l)) (queue_at w (2 * l + 1)) (place_at w) t p2 site_l (mutex_doing at) (own_doing l (place_at w t) at is) (ap (λ y. taken_at y l) is ∙ none) none2 refl
         (λ u h. let g : section_at w (2 * l) ≡ Some u = (steady.stands.sections u l Main).0 (sym (inside_is (place_at w u) l) ∙ h) in cc) i e own_is);
-    stands = goes_in w v steady.stands (λ k. refl) l t of_mutex own p2 of (put_places (state_with_sections w (One (2 * l)) (Some t)) t p2 (past p2)) (section_set line (Some t)).other (λ key. refl) free (section_set line (Some t)).here (ap (λ (x : Station). x.inside) station_is_at ∙ i)
+    stands = goes_in w v steady.stands (λ k. refl) l t of_mutex own p2 of (put_places (state_with_sections w (One (2 * l)) (Some t)) t p2 (past p2)) Main (section_set line (Some t)).other (λ key. refl) free (section_set line (Some t)).here (ap (λ (x : Station). x.inside) station_is_at ∙ i)
         (s ∙ sym (ap (λ (x : Station). record x { inside = Some Main }) station_is_at));
   }
     where
@@ -241,7 +241,7 @@ module _ (w : State) (t l : ℕ) (at : MutexPlace) (steady : IsSteady w) (is : p
         (lets_nobody (place_at w) steady.stands.hands t l p2 (ap (λ (x : Station). x.carries) (own_stance l (place_at w t) at is) ∙ nobody)))
         (out_needed i k)
         word_l;
-    stands = goes_out w v steady.stands (λ j. refl) l t of_mutex own p2 of (put_places (state_with_sections w (One (2 * l)) None) t p2 (past p2)) (section_set line None).other (λ key. refl) (section_set line None).here (ap (λ (x : Station). x.inside) station_is_at ∙ i)
+    stands = goes_out w v steady.stands (λ j. refl) l t of_mutex own p2 of (put_places (state_with_sections w (One (2 * l)) None) t p2 (past p2)) Main (section_set line None).other (λ key. refl) (section_set line None).here (ap (λ (x : Station). x.inside) station_is_at ∙ i)
         (s ∙ sym (ap (λ (x : Station). record x { inside = None }) station_is_at));
   }
     where

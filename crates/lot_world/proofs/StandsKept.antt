@@ -1,5 +1,5 @@
 -- How the sections, the lines and the hands of the machine are kept, by the stations of threads. No place is named.
-use Rattle.std.proofs.Common.{ℕ, Bool, true, false, Option, Some, None, if◌then◌else◌, ◌==◌, ◌≡◌, ◌≢◌, ◌+◌, ◌*◌, ◌≤◌, ◌↔◌, List, inl, inr, refl, sym, ◌∙◌, ap, subst, arith}
+use Rattle.std.proofs.Common.{ℕ, Bool, true, false, Option, Some, None, if◌then◌else◌, ◌==◌, ◌≡◌, ◌≢◌, ◌+◌, ◌*◌, ◌≤◌, ◌↔◌, ◌⊎◌, List, inl, inr, refl, sym, ◌∙◌, ap, subst, arith}
 use Rattle.std.proofs.lemmas.Bool.{cases_eq}
 use Rattle.lot_base.specs.declared.wants.Waiter.{Waiter}
 use Rattle.lot_base.specs.Lines.{times}
@@ -35,50 +35,80 @@ module _ {A : Type 0} (g : Station → A) (l : ℕ) where
 
 -- ---------------------------------------------------------------- sections
 
-other_key : (l k : ℕ) (m : Line) → k ≢ l → key_of k m ≢ 2 * l
-other_key l k Main ne e = ne (omega arith)
-other_key l k Second ne e = omega arith
+pub same_line : (n m : Line) → (n ≡ m) ⊎ (n ≢ m)
+same_line Main Main = inl refl
+same_line Second Second = inl refl
+same_line Main Second = inr (λ e. cc)
+same_line Second Main = inr (λ e. cc)
+
+pub other_key : (l k : ℕ) (m n : Line) → k ≢ l → key_of k n ≢ key_of l m
+other_key l k Main Main ne e = ne (omega arith)
+other_key l k Main Second ne e = omega arith
+other_key l k Second Main ne e = omega arith
+other_key l k Second Second ne e = ne (omega arith)
+
+pub other_line : (l : ℕ) (m n : Line) → n ≢ m → key_of l n ≢ key_of l m
+other_line l Main Main ne e = ne refl
+other_line l Main Second ne e = omega arith
+other_line l Second Main ne e = omega arith
+other_line l Second Second ne e = ne refl
 
 pub sections_same : (p q : ℕ → Place) (section : ℕ → Option ℕ) → Sections p section → ((u k : ℕ) → (station_at (q u) k).inside ≡ (station_at (p u) k).inside) → Sections q section
 sections_same p q section s e t l m = (λ h. (s t l m).0 (sym (e t l) ∙ h), λ h. e t l ∙ (s t l m).1 h)
 
-module _ (p q : ℕ → Place) (section after : ℕ → Option ℕ) (s : Sections p section) (t l : ℕ) (others : (u k : ℕ) → (u ≡ t → k ≡ l → ⊥) → (station_at (q u) k).inside ≡ (station_at (p u) k).inside) (elsewhere : (key : ℕ) → key ≢ 2 * l → after key ≡ section key) where
-  stays : (u k : ℕ) (m : Line) → (u ≡ t → k ≡ l → ⊥) → key_of k m ≢ 2 * l → (station_at (q u) k).inside ≡ Some m ↔ after (key_of k m) ≡ Some u
-  stays u k m ne nk = (λ h. elsewhere (key_of k m) nk ∙ (s u k m).0 (sym (others u k ne) ∙ h), λ h. others u k ne ∙ (s u k m).1 (sym (elsewhere (key_of k m) nk) ∙ h))
+module _ (p q : ℕ → Place) (section after : ℕ → Option ℕ) (s : Sections p section) (t l : ℕ) (m : Line) (others : (u k : ℕ) → (u ≡ t → k ≡ l → ⊥) → (station_at (q u) k).inside ≡ (station_at (p u) k).inside) (elsewhere : (key : ℕ) → key ≢ key_of l m → after key ≡ section key) where
+  stays : (u k : ℕ) (n : Line) → (u ≡ t → k ≡ l → ⊥) → key_of k n ≢ key_of l m → (station_at (q u) k).inside ≡ Some n ↔ after (key_of k n) ≡ Some u
+  stays u k n ne nk = (λ h. elsewhere (key_of k n) nk ∙ (s u k n).0 (sym (others u k ne) ∙ h), λ h. others u k ne ∙ (s u k n).1 (sym (elsewhere (key_of k n) nk) ∙ h))
 
-  -- whoever is inside the section of the main line behind it
-  by_main : ((m : Line) → (station_at (q t) l).inside ≡ Some m ↔ after (key_of l m) ≡ Some t) → ((u : ℕ) → u ≢ t → (station_at (p u) l).inside ≢ Some Main) → ((u : ℕ) → after (2 * l) ≡ Some u → u ≡ t) → Sections q after
-  by_main own alone only u k m = elim (cases_eq k l) [
+  -- whoever is inside the section of the line behind it
+  by_line : ((n : Line) → (station_at (q t) l).inside ≡ Some n ↔ after (key_of l n) ≡ Some t) → ((u : ℕ) → u ≢ t → (station_at (p u) l).inside ≢ Some m) → ((u : ℕ) → after (key_of l m) ≡ Some u → u ≡ t) → Sections q after
+  by_line own alone only u k n = elim (cases_eq k l) [
     | inl e ↦ elim (cases_eq u t) [
-      | inl f ↦ rw (e, f) (own m)
-      | inr ne ↦ rw e (at_line ne m)
+      | inl f ↦ rw (e, f) (own n)
+      | inr ne ↦ rw e (elim (same_line n m) [
+        | inl g ↦ rw g (λ h. absurd (alone u ne (sym (others u l (λ f j. ne f)) ∙ h)), λ h. absurd (ne (only u h)))
+        | inr ng ↦ stays u l n (λ f g. ne f) (other_line l m n ng)
+      ])
     ]
-    | inr ne ↦ stays u k m (λ f g. ne g) (other_key l k m ne)
+    | inr ne ↦ stays u k n (λ f g. ne g) (other_key l k m n ne)
   ]
-    where
-      at_line : u ≢ t → (m : Line) → (station_at (q u) l).inside ≡ Some m ↔ after (key_of l m) ≡ Some u
-      at_line ne Main = (λ h. absurd (alone u ne (sym (others u l (λ f g. ne f)) ∙ h)), λ h. absurd (ne (only u h)))
-      at_line ne Second = stays u l Second (λ f g. ne f) (λ f. omega arith)
+
+  -- it is inside no other section of the lock, before and behind
+  not_other : (n : Line) → n ≢ m → (station_at (p t) l).inside ≡ Some n → after (key_of l n) ≡ Some t
+  not_other n ne h = elsewhere (key_of l n) (other_line l m n ne) ∙ (s t l n).0 h
+
+  was_other : (n : Line) → n ≢ m → after (key_of l n) ≡ Some t → (station_at (p t) l).inside ≡ Some n
+  was_other n ne h = (s t l n).1 (sym (elsewhere (key_of l n) (other_line l m n ne)) ∙ h)
 
   -- t enters a free one
-  pub entered : section (2 * l) ≡ None → (station_at (p t) l).inside ≡ None → (station_at (q t) l).inside ≡ Some Main → after (2 * l) ≡ Some t → Sections q after
-  entered free out within held = by_main own
-      (λ u ne h. let a : section (2 * l) ≡ Some u = (s u l Main).0 h in cc)
+  pub entered : section (key_of l m) ≡ None → (station_at (p t) l).inside ≡ None → (station_at (q t) l).inside ≡ Some m → after (key_of l m) ≡ Some t → Sections q after
+  entered free out within held = by_line own
+      (λ u ne h. let a : section (key_of l m) ≡ Some u = (s u l m).0 h in let b : ◌≡◌ {A = Option ℕ} None (Some u) = sym free ∙ a in cc)
       (λ u h. let a : Some t ≡ Some u = sym held ∙ h in cc)
     where
-      own : (m : Line) → (station_at (q t) l).inside ≡ Some m ↔ after (key_of l m) ≡ Some t
-      own Main = (λ h. held, λ h. within)
-      own Second = (λ h. absurd (let a : Some Main ≡ Some Second = sym within ∙ h in cc), λ h. absurd (let a : (station_at (p t) l).inside ≡ Some Second = (s t l Second).1 (sym (elsewhere (2 * l + 1) (λ f. omega arith)) ∙ h) in cc))
+      own : (n : Line) → (station_at (q t) l).inside ≡ Some n ↔ after (key_of l n) ≡ Some t
+      own n = elim (same_line n m) [
+        | inl e ↦ rw e (λ h. held, λ h. within)
+        | inr ne ↦ (
+          λ h. absurd (ne (let a : Some m ≡ Some n = sym within ∙ h in cc)),
+          λ h. absurd (let a : (station_at (p t) l).inside ≡ Some n = was_other n ne h in let b : ◌≡◌ {A = Option Line} None (Some n) = sym out ∙ a in cc),
+        )
+      ]
 
   -- t leaves its own
-  pub left : (station_at (p t) l).inside ≡ Some Main → (station_at (q t) l).inside ≡ None → after (2 * l) ≡ None → Sections q after
-  left within out free = by_main own
-      (λ u ne h. ne (let a : section (2 * l) ≡ Some u = (s u l Main).0 h in let b : section (2 * l) ≡ Some t = (s t l Main).0 within in cc))
+  pub left : (station_at (p t) l).inside ≡ Some m → (station_at (q t) l).inside ≡ None → after (key_of l m) ≡ None → Sections q after
+  left within out free = by_line own
+      (λ u ne h. ne (let a : section (key_of l m) ≡ Some u = (s u l m).0 h in let b : section (key_of l m) ≡ Some t = (s t l m).0 within in let c : Some u ≡ Some t = sym a ∙ b in cc))
       (λ u h. absurd (let a : None ≡ Some u = sym free ∙ h in cc))
     where
-      own : (m : Line) → (station_at (q t) l).inside ≡ Some m ↔ after (key_of l m) ≡ Some t
-      own Main = (λ h. absurd (let a : None ≡ Some Main = sym out ∙ h in cc), λ h. absurd (let a : None ≡ Some t = sym free ∙ h in cc))
-      own Second = (λ h. absurd (let a : None ≡ Some Second = sym out ∙ h in cc), λ h. absurd (let a : (station_at (p t) l).inside ≡ Some Second = (s t l Second).1 (sym (elsewhere (2 * l + 1) (λ f. omega arith)) ∙ h) in let b : Some Main ≡ Some Second = sym within ∙ a in cc))
+      own : (n : Line) → (station_at (q t) l).inside ≡ Some n ↔ after (key_of l n) ≡ Some t
+      own n = elim (same_line n m) [
+        | inl e ↦ rw e (λ h. absurd (let a : ◌≡◌ {A = Option Line} None (Some m) = sym out ∙ h in cc), λ h. absurd (let a : None ≡ Some t = sym free ∙ h in cc))
+        | inr ne ↦ (
+          λ h. absurd (let a : ◌≡◌ {A = Option Line} None (Some n) = sym out ∙ h in cc),
+          λ h. absurd (ne (let a : (station_at (p t) l).inside ≡ Some n = was_other n ne h in let b : Some m ≡ Some n = sym within ∙ a in cc)),
+        )
+      ]
 
 -- ---------------------------------------------------------------- lines
 
@@ -90,20 +120,20 @@ in_main None h = absurd (omega arith)
 pub lines_same : (p q : ℕ → Place) (queue after : ℕ → List Waiter) → Lines p queue → ((u k : ℕ) → (station_at (q u) k).stands ≡ (station_at (p u) k).stands) → ((key : ℕ) → after key ≡ queue key) → Lines q after
 lines_same p q queue after s e same t l m = ap (times t) (same (key_of l m)) ∙ s t l m ∙ ap (λ x. stood_in x m) (sym (e t l))
 
--- one thread comes into the main line, or goes out of it
-pub line_moved : (p q : ℕ → Place) (queue after : ℕ → List Waiter) → Lines p queue → (t l : ℕ) → ((u k : ℕ) → (u ≡ t → k ≡ l → ⊥) → (station_at (q u) k).stands ≡ (station_at (p u) k).stands)
-    → ((key : ℕ) → key ≢ 2 * l → after key ≡ queue key) → ((u : ℕ) → u ≢ t → times u (after (2 * l)) ≡ times u (queue (2 * l))) → ((m : Line) → times t (after (key_of l m)) ≡ stood_in (station_at (q t) l).stands m) → Lines q after
-line_moved p q queue after s t l others elsewhere counts own u k m = elim (cases_eq k l) [
+-- one thread comes into a line, or goes out of it
+pub line_moved : (p q : ℕ → Place) (queue after : ℕ → List Waiter) → Lines p queue → (t l : ℕ) (m : Line) → ((u k : ℕ) → (u ≡ t → k ≡ l → ⊥) → (station_at (q u) k).stands ≡ (station_at (p u) k).stands)
+    → ((key : ℕ) → key ≢ key_of l m → after key ≡ queue key) → ((u : ℕ) → u ≢ t → times u (after (key_of l m)) ≡ times u (queue (key_of l m))) → ((n : Line) → times t (after (key_of l n)) ≡ stood_in (station_at (q t) l).stands n) → Lines q after
+line_moved p q queue after s t l m others elsewhere counts own u k n = elim (cases_eq k l) [
   | inl e ↦ elim (cases_eq u t) [
-    | inl f ↦ rw (e, f) (own m)
-    | inr ne ↦ rw e (at_line ne m)
+    | inl f ↦ rw (e, f) (own n)
+    | inr ne ↦ rw e (at_line ne (same_line n m))
   ]
-  | inr ne ↦ ap (times u) (elsewhere (key_of k m) (other_key l k m ne)) ∙ s u k m ∙ ap (λ x. stood_in x m) (sym (others u k (λ f g. ne g)))
+  | inr ne ↦ ap (times u) (elsewhere (key_of k n) (other_key l k m n ne)) ∙ s u k n ∙ ap (λ x. stood_in x n) (sym (others u k (λ f g. ne g)))
 ]
   where
-    at_line : u ≢ t → (m : Line) → times u (after (key_of l m)) ≡ stood_in (station_at (q u) l).stands m
-    at_line ne Main = counts u ne ∙ s u l Main ∙ ap (λ x. stood_in x Main) (sym (others u l (λ f g. ne f)))
-    at_line ne Second = ap (times u) (elsewhere (2 * l + 1) (λ f. omega arith)) ∙ s u l Second ∙ ap (λ x. stood_in x Second) (sym (others u l (λ f g. ne f)))
+    at_line : u ≢ t → ((n ≡ m) ⊎ (n ≢ m)) → times u (after (key_of l n)) ≡ stood_in (station_at (q u) l).stands n
+    at_line ne (inl e) = ap (λ x. times u (after (key_of l x))) e ∙ counts u ne ∙ ap (λ x. times u (queue (key_of l x))) (sym e) ∙ s u l n ∙ ap (λ x. stood_in x n) (sym (others u l (λ f g. ne f)))
+    at_line ne (inr nn) = ap (times u) (elsewhere (key_of l n) (other_line l m n nn)) ∙ s u l n ∙ ap (λ x. stood_in x n) (sym (others u l (λ f g. ne f)))
 
 -- ---------------------------------------------------------------- hands
 

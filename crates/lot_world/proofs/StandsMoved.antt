@@ -75,29 +75,29 @@ module _ (w v : State) (stands : Stands w) (kinds : (k : ℕ) → kind_at v k �
   station_before : station_at (place_at w t) l ≡ station (place_at w t)
   station_before = station_here l (place_at w t) own
 
-  module _ (elsewhere : (key : ℕ) → key ≢ 2 * l → section_at v key ≡ section_at w key) (queues : (key : ℕ) → queue_at v key ≡ queue_at w key) where
+  module _ (m : Line) (elsewhere : (key : ℕ) → key ≢ key_of l m → section_at v key ≡ section_at w key) (queues : (key : ℕ) → queue_at v key ≡ queue_at w key) where
     -- into a section that is free
-    pub goes_in : section_at w (2 * l) ≡ None → section_at v (2 * l) ≡ Some t → (station (place_at w t)).inside ≡ None → station p2 ≡ record (station (place_at w t)) { inside = Some Main } → Stands v
+    pub goes_in : section_at w (key_of l m) ≡ None → section_at v (key_of l m) ≡ Some t → (station (place_at w t)).inside ≡ None → station p2 ≡ record (station (place_at w t)) { inside = Some m } → Stands v
     goes_in free held out e = stands_then v now places
-        (entered (place_at w) now (section_at w) (section_at v) stands.sections t l (other_part (λ x. x.inside)) elsewhere free (ap (λ (x : Station). x.inside) station_before ∙ out) (ap (λ (x : Station). x.inside) (station_then ∙ e)) held)
+        (entered (place_at w) now (section_at w) (section_at v) stands.sections t l m (other_part (λ x. x.inside)) elsewhere free (ap (λ (x : Station). x.inside) station_before ∙ out) (ap (λ (x : Station). x.inside) (station_then ∙ e)) held)
         (same_lines queues (ap (λ (x : Station). x.stands) e))
         (same_hands (ap (λ (x : Station). x.carries) e) (ap (λ (x : Station). x.hand) e))
         (calls_one w v stands kinds l of_mutex t p2 of)
 
     -- out of its own
-    pub goes_out : section_at v (2 * l) ≡ None → (station (place_at w t)).inside ≡ Some Main → station p2 ≡ record (station (place_at w t)) { inside = None } → Stands v
+    pub goes_out : section_at v (key_of l m) ≡ None → (station (place_at w t)).inside ≡ Some m → station p2 ≡ record (station (place_at w t)) { inside = None } → Stands v
     goes_out free within e = stands_then v now places
-        (left (place_at w) now (section_at w) (section_at v) stands.sections t l (other_part (λ x. x.inside)) elsewhere (ap (λ (x : Station). x.inside) station_before ∙ within) (ap (λ (x : Station). x.inside) (station_then ∙ e)) free)
+        (left (place_at w) now (section_at w) (section_at v) stands.sections t l m (other_part (λ x. x.inside)) elsewhere (ap (λ (x : Station). x.inside) station_before ∙ within) (ap (λ (x : Station). x.inside) (station_then ∙ e)) free)
         (same_lines queues (ap (λ (x : Station). x.stands) e))
         (same_hands (ap (λ (x : Station). x.carries) e) (ap (λ (x : Station). x.hand) e))
         (calls_one w v stands kinds l of_mutex t p2 of)
 
-  -- into the main line, or out of it
-  pub line_changes : ((key : ℕ) → section_at v key ≡ section_at w key) → ((key : ℕ) → key ≢ 2 * l → queue_at v key ≡ queue_at w key) → ((u : ℕ) → u ≢ t → times u (queue_at v (2 * l)) ≡ times u (queue_at w (2 * l)))
-      → ((m : Line) → times t (queue_at v (key_of l m)) ≡ stood_in (station p2).stands m) → (station p2).inside ≡ (station (place_at w t)).inside → (station p2).carries ≡ (station (place_at w t)).carries → (station p2).hand ≡ (station (place_at w t)).hand → Stands v
-  line_changes es elsewhere counts own_count i c n = stands_then v now places
+  -- into a line, or out of it
+  pub line_changes : (m : Line) → ((key : ℕ) → section_at v key ≡ section_at w key) → ((key : ℕ) → key ≢ key_of l m → queue_at v key ≡ queue_at w key) → ((u : ℕ) → u ≢ t → times u (queue_at v (key_of l m)) ≡ times u (queue_at w (key_of l m)))
+      → ((n : Line) → times t (queue_at v (key_of l n)) ≡ stood_in (station p2).stands n) → (station p2).inside ≡ (station (place_at w t)).inside → (station p2).carries ≡ (station (place_at w t)).carries → (station p2).hand ≡ (station (place_at w t)).hand → Stands v
+  line_changes m es elsewhere counts own_count i c n = stands_then v now places
       (subst (λ (f : ℕ → Option ℕ). Sections now f) (λ j key. sym (es key) j) (sections_same (place_at w) now (section_at w) stands.sections (same_part (λ x. x.inside) i)))
-      (line_moved (place_at w) now (queue_at w) (queue_at v) stands.lines t l (other_part (λ x. x.stands)) elsewhere counts (λ m. own_count m ∙ ap (λ (x : Station). stood_in x.stands m) (sym station_then)))
+      (line_moved (place_at w) now (queue_at w) (queue_at v) stands.lines t l m (other_part (λ x. x.stands)) elsewhere counts (λ j. own_count j ∙ ap (λ (x : Station). stood_in x.stands j) (sym station_then)))
       (same_hands c n)
       (calls_one w v stands kinds l of_mutex t p2 of)
 
@@ -142,7 +142,7 @@ module _ (w v : State) (stands : Stands w) (kinds : (k : ℕ) → kind_at v k �
   pub lets_go : (b : Bool) → (elsewhere : (key : ℕ) → key ≢ 2 * l → section_at v key ≡ section_at w key) → section_at v (2 * l) ≡ None → ((key : ℕ) → queue_at v key ≡ queue_at w key)
       → station (place_at w t) ≡ record nowhere { inside = Some Main; carries = Some b } → station (place_at w x) ≡ record nowhere { hand = hand t b } → station p2 ≡ nowhere → station px ≡ nowhere → Stands v
   lets_go b elsewhere free eq was was_x is is_x = stands_then v both_now places
-      (left (place_at w) both_now (section_at w) (section_at v) stands.sections t l
+      (left (place_at w) both_now (section_at w) (section_at v) stands.sections t l Main
       (λ u k ne. part_else (λ y. y.inside) l halfway t p2 own_t of u k ne ∙ part_x (λ y. y.inside) (ap (λ (y : Station). y.inside) (is_x ∙ sym (ap (λ (y : Station). record y { hand = None }) was_x))) u k)
       elsewhere (ap (λ (y : Station). y.inside) (station_here l (place_at w t) own ∙ was)) (ap (λ y. (station_at y l).inside) (put_here halfway t p2) ∙ ap (λ (y : Station). y.inside) (station_here l p2 of ∙ is)) free)
       (same_stood (ap (λ (y : Station). y.stands) is ∙ sym (ap (λ (y : Station). y.stands) was)) (ap (λ (y : Station). y.stands) is_x ∙ sym (ap (λ (y : Station). y.stands) was_x)) eq)
@@ -168,7 +168,7 @@ module _ (w v : State) (stands : Stands w) (kinds : (k : ℕ) → kind_at v k �
       → station p2 ≡ record (station (place_at w t)) { carries = Some false } → station px ≡ record nowhere { hand = hand t false } → Stands v
   takes rest first es elsewhere was_line line who bare free was_x is is_x = stands_then v both_now places
       (same_inside (ap (λ (y : Station). y.inside) is) (ap (λ (y : Station). y.inside) is_x ∙ sym (ap (λ (y : Station). y.inside) was_x)) es)
-      (line_moved (place_at w) both_now (queue_at w) (queue_at v) stands.lines x l
+      (line_moved (place_at w) both_now (queue_at w) (queue_at v) stands.lines x l Main
       (λ u k ne. part_t (λ y. y.stands) (ap (λ (y : Station). y.stands) is) u k ∙ part_else (λ y. y.stands) l (place_at w) x px own_x of_x u k ne)
       elsewhere
       (λ u ne. rw (line, was_line) (let a : ◌≡◌ {A = ℕ} (if first.thread == u then 1 else 0) 0 = ap (λ (c : Bool). if c then 1 else 0) (differ first.thread u (λ e. ne (sym e ∙ who))) in omega arith))
