@@ -24,6 +24,7 @@ use Rattle.lot_world.proofs.Counts.{without_absent}
 use Rattle.lot_world.proofs.Glue.{base_at, same, differ, put_places, IsOf, own_stance, station_elsewhere}
 use Rattle.lot_world.proofs.MutexTable.{mutex, MutexSteps, own_doing, parks, removes, finds_nobody}
 use Rattle.lot_world.proofs.SitesKept.{mutex_at, same_bases, word_l, Changed, unchanged, changed_main, follow, alike_put, of_mutex, rules, site_l, own}
+use Rattle.lot_world.proofs.StandsKept.{calls_of}
 use Rattle.lot_world.proofs.StandsMoved.{still, line_changes}
 
 apart_keys : (l k : ℕ) (m : Line) → (k ≡ l → m ≡ Main → ⊥) → key_of k m ≢ 2 * l
@@ -82,7 +83,7 @@ module _ (w : State) (t l : ℕ) (at : MutexPlace) (steady : IsSteady w) (is : p
 
   line_stands : (v : State) (p2 : Place) → v.locks ≡ w.locks → v.sections ≡ w.sections → v.places ≡ set w.places t p2 → IsOf l p2 → ((key : ℕ) → key ≢ 2 * l → queue_at v key ≡ queue_at w key)
       → ((u : ℕ) → u ≢ t → times u (queue_at v (2 * l)) ≡ times u (queue_at w (2 * l))) → ((m : Line) → times t (queue_at v (key_of l m)) ≡ stood_in (station p2).stands m) → (to : Option Line) → station p2 ≡ record (mutex_station at) { stands = to } → Stands v
-  line_stands v p2 el es ep of elsewhere counts own_count to e = line_changes w v steady.stands (λ k. rw el refl) l t (of_mutex w t l at steady is there) (own w t l at steady is there) p2 of
+  line_stands v p2 el es ep of elsewhere counts own_count to e = line_changes w v steady.stands (λ k. rw el refl) l t (own w t l at steady is there) p2 of (calls_of w l p2 of (of_mutex w t l at steady is there))
       (ap (λ (xs : List Place). λ u. get_or xs u Idle) ep ∙ put_places w t p2 (λ h. absurd (omega arith))) Main (λ key. rw es refl) elsewhere counts own_count
       (ap (λ (x : Station). x.inside) (e ∙ sym (ap (λ y. record (station y) { stands = to }) is))) (ap (λ (x : Station). x.carries) (e ∙ sym (ap (λ y. record (station y) { stands = to }) is))) (ap (λ (x : Station). x.hand) (e ∙ sym (ap (λ y. record (station y) { stands = to }) is)))
 
@@ -159,7 +160,7 @@ module _ (w : State) (t l : ℕ) (at : MutexPlace) (steady : IsSteady w) (is : p
         (subst (λ (y : List Waiter). Changed (λ k. queue_at w (2 * k)) (λ k. get_or (queues_without_first w.queues (2 * l)) (2 * k) []) l y) (ap (drop 1) empty ∙ sym empty) (changed_main w.queues l (drop 1 (queue_at w (2 * l))) [] line))
         (λ k. others (2 * k + 1) (λ h. omega arith))
         (finds_nobody l (base_at w l) (word_at w l) (word_at w l) (owners_at w l) (queue_at w (2 * l)) (queue_at w (2 * l + 1)) (place_at w) t p2 site_here (mutex_doing at) (own_doing l (place_at w t) at is) (ap (λ y. taken_at y l) is ∙ none) none2 refl empty i c x own_is);
-    stands = still w v steady.stands (λ k. refl) l t (of_mutex w t l at steady is there) (own w t l at steady is there) p2 of (put_places (record w { queues = queues_without_first w.queues (2 * l) }) t p2 (λ h. absurd (omega arith))) (λ key. refl) same_queue (s ∙ sym (ap station is));
+    stands = still w v steady.stands (λ k. refl) l t (own w t l at steady is there) p2 of (calls_of w l p2 of (of_mutex w t l at steady is there)) (put_places (record w { queues = queues_without_first w.queues (2 * l) }) t p2 (λ h. absurd (omega arith))) (λ key. refl) same_queue (s ∙ sym (ap station is));
   }
     where
       v : State

@@ -43,6 +43,7 @@ use Rattle.lot_world.proofs.Glue.{base_at, seen_by, seen, site_seen, goes_from, 
 use Rattle.lot_world.proofs.MutexTable.{mutex, IsCode, OnWord, MutexSteps, same_filled, own_doing, goes_in as goes_into}
 use Rattle.lot_world.proofs.KindsKept.{operated_kinds, operated_filled, given_kinds, given_filled, given_shares}
 use Rattle.lot_world.specs.SitesOf.{is_mutex}
+use Rattle.lot_world.proofs.StandsKept.{calls_of}
 use Rattle.lot_world.proofs.StandsMoved.{mutex_rules, still, goes_in, goes_out, lets_go, hands_lock, takes}
 use Rattle.lot_world.proofs.MutexSections.{hands_needed, take_needed, first_wants}
 
@@ -172,7 +173,7 @@ module _ (w : State) (t l : ℕ) (at : MutexPlace) (steady : IsSteady w) (is : p
         (unchanged (λ k. queue_at w (2 * k)) l) (λ k. refl) same_kinds
         (λ k ne. alike_put l k (place_at w) t p2 own of ne)
         (acts t (mutex_deeds at None (Value (word_at w l)))) on.steps.site on.steps.needed on.code;
-    stands = still w after steady.stands same_kinds l t of_mutex own p2 of places (λ key. refl) (λ key. refl) (on.same ∙ sym station_is_at);
+    stands = still w after steady.stands same_kinds l t own p2 of (calls_of w l p2 of of_mutex) places (λ key. refl) (λ key. refl) (on.same ∙ sym station_is_at);
   }
     where
       p2 : Place
@@ -204,7 +205,7 @@ module _ (w : State) (t l : ℕ) (at : MutexPlace) (steady : IsSteady w) (is : p
       → MutexSteps l (base_at w l) (word_at w l) (word_at w l) (owners_at w l) (owners_at w l) (queue_at w (2 * l)) (queue_at w (2 * l)) (queue_at w (2 * l + 1)) (place_at w) t p2 ds → station p2 ≡ mutex_station at → Goes w (put w t p2) l (acts t ds)
   place_keeps p2 ds of steps e = record {
     follows = place_sites (put w t p2) p2 ds refl refl refl refl of steps;
-    stands = still w (put w t p2) steady.stands (λ k. refl) l t of_mutex own p2 of (put_places w t p2 (past p2)) (λ key. refl) (λ key. refl) (e ∙ sym station_is_at);
+    stands = still w (put w t p2) steady.stands (λ k. refl) l t own p2 of (calls_of w l p2 of of_mutex) (put_places w t p2 (past p2)) (λ key. refl) (λ key. refl) (e ∙ sym station_is_at);
   }
 
   section_set : 2 * l < length w.sections → (who : Option ℕ) → Changed (section_at w) (section_at (state_with_sections w (One (2 * l)) who)) (2 * l) who
@@ -217,7 +218,7 @@ module _ (w : State) (t l : ℕ) (at : MutexPlace) (steady : IsSteady w) (is : p
     follows = place_sites v p2 (In Main ∷ []) refl refl refl refl of
         (goes_into l (base_at w l) (word_at w l) (word_at w l) (owners_at w l) (queue_at w (2 * l)) (queue_at w (2 * l + 1)) (place_at w) t p2 site_l (mutex_doing at) (own_doing l (place_at w t) at is) (ap (λ y. taken_at y l) is ∙ none) none2 refl
         (λ u h. let g : section_at w (2 * l) ≡ Some u = (steady.stands.sections u l Main).0 (sym (inside_is (place_at w u) l) ∙ h) in cc) i e own_is);
-    stands = goes_in w v steady.stands (λ k. refl) l t of_mutex own p2 of (put_places (state_with_sections w (One (2 * l)) (Some t)) t p2 (past p2)) Main (section_set line (Some t)).other (λ key. refl) free (section_set line (Some t)).here (ap (λ (x : Station). x.inside) station_is_at ∙ i)
+    stands = goes_in w v steady.stands (λ k. refl) l t own p2 of (calls_of w l p2 of of_mutex) (put_places (state_with_sections w (One (2 * l)) (Some t)) t p2 (past p2)) Main (section_set line (Some t)).other (λ key. refl) free (section_set line (Some t)).here (ap (λ (x : Station). x.inside) station_is_at ∙ i)
         (s ∙ sym (ap (λ (x : Station). record x { inside = Some Main }) station_is_at));
   }
     where
@@ -241,7 +242,7 @@ module _ (w : State) (t l : ℕ) (at : MutexPlace) (steady : IsSteady w) (is : p
         (lets_nobody (place_at w) steady.stands.hands t l p2 (ap (λ (x : Station). x.carries) (own_stance l (place_at w t) at is) ∙ nobody)))
         (out_needed i k)
         word_l;
-    stands = goes_out w v steady.stands (λ j. refl) l t of_mutex own p2 of (put_places (state_with_sections w (One (2 * l)) None) t p2 (past p2)) Main (section_set line None).other (λ key. refl) (section_set line None).here (ap (λ (x : Station). x.inside) station_is_at ∙ i)
+    stands = goes_out w v steady.stands (λ j. refl) l t own p2 of (calls_of w l p2 of of_mutex) (put_places (state_with_sections w (One (2 * l)) None) t p2 (past p2)) Main (section_set line None).other (λ key. refl) (section_set line None).here (ap (λ (x : Station). x.inside) station_is_at ∙ i)
         (s ∙ sym (ap (λ (x : Station). record x { inside = None }) station_is_at));
   }
     where

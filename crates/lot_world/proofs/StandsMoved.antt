@@ -37,15 +37,15 @@ calls_put v p t p2 c c2 u = elim (cases_eq u t) [
   | inr ne ↦ rw (put_other p t p2 u ne) (c u)
 ]
 
-module _ (w v : State) (stands : Stands w) (kinds : (k : ℕ) → kind_at v k ≡ kind_at w k) (l : ℕ) (of_mutex : is_mutex (kind_at w l) ≡ true) where
-  pub calls_one : (t : ℕ) (p2 : Place) → IsOf l p2 → (u : ℕ) → CallsMutex v (putting (place_at w) t p2 u)
-  calls_one t p2 of = calls_put v (place_at w) t p2 (λ u. calls_in w v (place_at w u) kinds (stands.calls u)) (calls_of v l p2 of (ap is_mutex (kinds l) ∙ of_mutex))
+module _ (w v : State) (stands : Stands w) (kinds : (k : ℕ) → kind_at v k ≡ kind_at w k) where
+  pub calls_one : (t : ℕ) (p2 : Place) → CallsMutex w p2 → (u : ℕ) → CallsMutex v (putting (place_at w) t p2 u)
+  calls_one t p2 fits = calls_put v (place_at w) t p2 (λ u. calls_in w v (place_at w u) kinds (stands.calls u)) (calls_in w v p2 kinds fits)
 
-  pub calls_two : (x : ℕ) (px : Place) (t : ℕ) (p2 : Place) → IsOf l px → IsOf l p2 → (u : ℕ) → CallsMutex v (putting (putting (place_at w) x px) t p2 u)
-  calls_two x px t p2 of_x of = calls_put v (putting (place_at w) x px) t p2 (calls_one x px of_x) (calls_of v l p2 of (ap is_mutex (kinds l) ∙ of_mutex))
+  pub calls_two : (x : ℕ) (px : Place) (t : ℕ) (p2 : Place) → CallsMutex w px → CallsMutex w p2 → (u : ℕ) → CallsMutex v (putting (putting (place_at w) x px) t p2 u)
+  calls_two x px t p2 fits_x fits = calls_put v (putting (place_at w) x px) t p2 (calls_one x px fits_x) (calls_in w v p2 kinds fits)
 
 -- one thread goes elsewhere
-module _ (w v : State) (stands : Stands w) (kinds : (k : ℕ) → kind_at v k ≡ kind_at w k) (l t : ℕ) (of_mutex : is_mutex (kind_at w l) ≡ true) (own : IsOf l (place_at w t)) (p2 : Place) (of : IsOf l p2) (places : place_at v ≡ putting (place_at w) t p2) where
+module _ (w v : State) (stands : Stands w) (kinds : (k : ℕ) → kind_at v k ≡ kind_at w k) (l t : ℕ) (own : IsOf l (place_at w t)) (p2 : Place) (of : IsOf l p2) (fits : CallsMutex w p2) (places : place_at v ≡ putting (place_at w) t p2) where
   abbrev now : ℕ → Place
   now = putting (place_at w) t p2
 
@@ -61,7 +61,7 @@ module _ (w v : State) (stands : Stands w) (kinds : (k : ℕ) → kind_at v k �
       (subst (λ (f : ℕ → Option ℕ). Sections now f) (λ i key. sym (es key) i) (sections_same (place_at w) now (section_at w) stands.sections (same_part (λ x. x.inside) (ap (λ (x : Station). x.inside) e))))
       (lines_same (place_at w) now (queue_at w) (queue_at v) stands.lines (same_part (λ x. x.stands) (ap (λ (x : Station). x.stands) e)) eq)
       (same_hands (ap (λ (x : Station). x.carries) e) (ap (λ (x : Station). x.hand) e))
-      (calls_one w v stands kinds l of_mutex t p2 of)
+      (calls_one w v stands kinds t p2 fits)
 
   same_lines : ((key : ℕ) → queue_at v key ≡ queue_at w key) → (station p2).stands ≡ (station (place_at w t)).stands → Lines now (queue_at v)
   same_lines eq e = lines_same (place_at w) now (queue_at w) (queue_at v) stands.lines (same_part (λ x. x.stands) e) eq
@@ -82,7 +82,7 @@ module _ (w v : State) (stands : Stands w) (kinds : (k : ℕ) → kind_at v k �
         (entered (place_at w) now (section_at w) (section_at v) stands.sections t l m (other_part (λ x. x.inside)) elsewhere free (ap (λ (x : Station). x.inside) station_before ∙ out) (ap (λ (x : Station). x.inside) (station_then ∙ e)) held)
         (same_lines queues (ap (λ (x : Station). x.stands) e))
         (same_hands (ap (λ (x : Station). x.carries) e) (ap (λ (x : Station). x.hand) e))
-        (calls_one w v stands kinds l of_mutex t p2 of)
+        (calls_one w v stands kinds t p2 fits)
 
     -- out of its own
     pub goes_out : section_at v (key_of l m) ≡ None → (station (place_at w t)).inside ≡ Some m → station p2 ≡ record (station (place_at w t)) { inside = None } → Stands v
@@ -90,7 +90,7 @@ module _ (w v : State) (stands : Stands w) (kinds : (k : ℕ) → kind_at v k �
         (left (place_at w) now (section_at w) (section_at v) stands.sections t l m (other_part (λ x. x.inside)) elsewhere (ap (λ (x : Station). x.inside) station_before ∙ within) (ap (λ (x : Station). x.inside) (station_then ∙ e)) free)
         (same_lines queues (ap (λ (x : Station). x.stands) e))
         (same_hands (ap (λ (x : Station). x.carries) e) (ap (λ (x : Station). x.hand) e))
-        (calls_one w v stands kinds l of_mutex t p2 of)
+        (calls_one w v stands kinds t p2 fits)
 
   -- into a line, or out of it
   pub line_changes : (m : Line) → ((key : ℕ) → section_at v key ≡ section_at w key) → ((key : ℕ) → key ≢ key_of l m → queue_at v key ≡ queue_at w key) → ((u : ℕ) → u ≢ t → times u (queue_at v (key_of l m)) ≡ times u (queue_at w (key_of l m)))
@@ -99,7 +99,7 @@ module _ (w v : State) (stands : Stands w) (kinds : (k : ℕ) → kind_at v k �
       (subst (λ (f : ℕ → Option ℕ). Sections now f) (λ j key. sym (es key) j) (sections_same (place_at w) now (section_at w) stands.sections (same_part (λ x. x.inside) i)))
       (line_moved (place_at w) now (queue_at w) (queue_at v) stands.lines t l m (other_part (λ x. x.stands)) elsewhere counts (λ j. own_count j ∙ ap (λ (x : Station). stood_in x.stands j) (sym station_then)))
       (same_hands c n)
-      (calls_one w v stands kinds l of_mutex t p2 of)
+      (calls_one w v stands kinds t p2 fits)
 
 -- ---------------------------------------------------------------- two threads go elsewhere
 
@@ -149,7 +149,7 @@ module _ (w v : State) (stands : Stands w) (kinds : (k : ℕ) → kind_at v k �
       (linked_hands (Some b) None
       (record { of_t = own; of_v = own_x; carries = ap (λ (y : Station). y.carries) was; free = ap (λ (y : Station). y.hand) was; hand = ap (λ (y : Station). y.hand) was_x; bare = ap (λ (y : Station). y.carries) was_x })
       (ap (λ (y : Station). y.carries) is) (ap (λ (y : Station). y.hand) is) (ap (λ (y : Station). y.hand) is_x) (ap (λ (y : Station). y.carries) is_x))
-      (calls_two w v stands kinds l of_mutex x px t p2 of_x of)
+      (calls_two w v stands kinds x px t p2 (calls_of w l px of_x of_mutex) (calls_of w l p2 of of_mutex))
 
   -- t hands x the lock
   pub hands_lock : ((key : ℕ) → section_at v key ≡ section_at w key) → ((key : ℕ) → queue_at v key ≡ queue_at w key)
@@ -160,7 +160,7 @@ module _ (w v : State) (stands : Stands w) (kinds : (k : ℕ) → kind_at v k �
       (linked_hands (Some false) (Some true)
       (record { of_t = own; of_v = own_x; carries = ap (λ (y : Station). y.carries) was; free = ap (λ (y : Station). y.hand) was; hand = ap (λ (y : Station). y.hand) was_x; bare = ap (λ (y : Station). y.carries) was_x })
       (ap (λ (y : Station). y.carries) is) (ap (λ (y : Station). y.hand) is) (ap (λ (y : Station). y.hand) is_x) (ap (λ (y : Station). y.carries) is_x))
-      (calls_two w v stands kinds l of_mutex x px t p2 of_x of)
+      (calls_two w v stands kinds x px t p2 (calls_of w l px of_x of_mutex) (calls_of w l p2 of of_mutex))
 
   -- t takes x, the first of the main line
   pub takes : (rest : List Waiter) (first : Waiter) → ((key : ℕ) → section_at v key ≡ section_at w key) → ((key : ℕ) → key ≢ 2 * l → queue_at v key ≡ queue_at w key) → queue_at w (2 * l) ≡ first ∷ rest → queue_at v (2 * l) ≡ rest → first.thread ≡ x
@@ -176,7 +176,7 @@ module _ (w v : State) (stands : Stands w) (kinds : (k : ℕ) → kind_at v k �
       (linked_hands None (Some false)
       (record { of_t = own; of_v = own_x; carries = bare; free = free; hand = ap (λ (y : Station). y.hand) was_x; bare = ap (λ (y : Station). y.carries) was_x })
       (ap (λ (y : Station). y.carries) is) (ap (λ (y : Station). y.hand) is ∙ free) (ap (λ (y : Station). y.hand) is_x) (ap (λ (y : Station). y.carries) is_x))
-      (calls_two w v stands kinds l of_mutex x px t p2 of_x of)
+      (calls_two w v stands kinds x px t p2 (calls_of w l px of_x of_mutex) (calls_of w l p2 of of_mutex))
     where
       -- it stood there once
       counts : (m : Line) → times x (queue_at v (key_of l m)) ≡ stood_in (station_at (both_now x) l).stands m

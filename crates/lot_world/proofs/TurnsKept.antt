@@ -57,7 +57,7 @@ module _ (w : State) (t : ℕ) (steady : IsSteady w) (shape : IsShaped w) (there
         (λ u ne. others_same mutex (Begin c ∷ []) (mutex_at w l) t u (tt, tt) ne))
         (has, tt)
         (steady.sites.word l ∙ (λ i. code (mutex_rules (kind_at w l) of_mutex i) (lock_by w l (mutex_rules (kind_at w l) of_mutex i))));
-    stands = still w (put w t (Mutex l at)) steady.stands (λ k. refl) l t of_mutex (rw is tt) (Mutex l at) refl places (λ key. refl) (λ key. refl) (s ∙ sym (ap station is));
+    stands = still w (put w t (Mutex l at)) steady.stands (λ k. refl) l t (rw is tt) (Mutex l at) refl of_mutex places (λ key. refl) (λ key. refl) (s ∙ sym (ap station is));
   }
     where
       places : place_at (put w t (Mutex l at)) ≡ putting (place_at w) t (Mutex l at)
