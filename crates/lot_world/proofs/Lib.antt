@@ -8,6 +8,7 @@ pub mod MutexTable
 pub mod MutexSections
 pub mod StandsKept
 pub mod StandsMoved
+pub mod ActsKept
 pub mod SitesKept
 pub mod SectionsKept
 pub mod GoneKept

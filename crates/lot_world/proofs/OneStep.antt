@@ -105,7 +105,7 @@ quiet_all r (d ∷ ds) s t h =
     record { filled = b.filled ∙ a.filled; full = b.full ∙ a.full }
 
 -- once full, noted
-noted : (r : Rules) (s : Site) → IsSite r s → s.filled ≡ (s.filled || is_full r s.lock)
+pub noted : (r : Rules) (s : Site) → IsSite r s → s.filled ≡ (s.filled || is_full r s.lock)
 noted r s site = either s.filled (is_full r s.lock) refl refl
   where
     either : (a b : Bool) → s.filled ≡ a → is_full r s.lock ≡ b → a ≡ (a || b)
