@@ -101,6 +101,16 @@ module _ (w : State) (l t n : ℕ) (threads : n ≡ length w.places) (there : l 
 
 -- ---------------------------------------------------------------- lines
 
+stood_one : (n : Line) → stood_in (Some n) n ≡ 1
+stood_one Main = refl
+stood_one Second = refl
+
+stood_other : (n o : Line) → o ≢ n → stood_in (Some n) o ≡ 0
+stood_other Main Main ne = absurd (ne refl)
+stood_other Main Second ne = refl
+stood_other Second Main ne = refl
+stood_other Second Second ne = absurd (ne refl)
+
 -- one line is another
 abbrev pub with_line : Parts → Line → List Waiter → Parts
 with_line a Main q = record a { main = q }
@@ -323,19 +333,50 @@ module _ (w : State) (t l : ℕ) (steady : IsSteady w) (own : IsOf l (place_at w
       others : (key : ℕ) → key ≢ key_of l m → queue_at v key ≡ queue_at w key
       others = by_key (λ key. key ≢ key_of l m → queue_at v key ≡ queue_at w key) (λ k n ne. get_or-set_other (map (without t) w.queues) (key_of l m) (key_of k n) _ [] ne ∙ same_without (key_of k n) (absent nowhere k n))
 
-      stood_one : (n : Line) → stood_in (Some n) n ≡ 1
-      stood_one Main = refl
-      stood_one Second = refl
-
-      stood_other : (n o : Line) → o ≢ n → stood_in (Some n) o ≡ 0
-      stood_other Main Main ne = absurd (ne refl)
-      stood_other Main Second ne = refl
-      stood_other Second Main ne = refl
-      stood_other Second Second ne = absurd (ne refl)
-
       own_count : (n : Line) → ((n ≡ m) ⊎ (n ≢ m)) → times t (queue_at v (key_of l n)) ≡ stood_in (Some m) n
       own_count n (inl f) = ap (λ y. times t (queue_at v (key_of l y))) f ∙ ap (times t) line_now ∙ one ∙ sym (ap (stood_in (Some m)) f ∙ stood_one m)
         where
           one : times t behind ≡ 1
           one = let a : times t behind ≡ times t (queue_at w (key_of l m)) + (if t == t then 1 else 0) = times_append t (key_of l m) t x (queue_at w (key_of l m)) in let b : times t (queue_at w (key_of l m)) ≡ 0 = absent nowhere l m in let c : ◌≡◌ {A = ℕ} (if t == t then 1 else 0) 1 = ap (λ (y : Bool). if y then 1 else 0) (same t) in omega arith
       own_count n (inr ne) = ap (times t) (others (key_of l n) (other_line l m n ne)) ∙ absent nowhere l n ∙ sym (stood_other m n ne)
+
+  -- it leaves the line in which it stands
+  pub remove_goes : (m : Line) (ds : List Deed) → (station (place_at w t)).stands ≡ Some m → Steps r l (parts_at w l) (with_line (parts_at w l) m (without t (queue_at w (key_of l m)))) (place_at w) t p2 ds
+      → station p2 ≡ record (station (place_at w t)) { stands = None } → Goes w (put (record w { queues = queues_without w.queues t }) t p2) l (acts t ds)
+  remove_goes m ds stands steps e = line_goes m v (without t (queue_at w (key_of l m))) refl refl refl refl (get_or-map (without t) w.queues (key_of l m) []) others ds steps
+      (λ u ne. times_without u t (queue_at w (key_of l m)) ne) (λ n. own_count n (same_line n m) ∙ ap (λ (y : Station). stood_in y.stands n) (sym e)) None e
+    where
+      v : State
+      v = put (record w { queues = queues_without w.queues t }) t p2
+
+      stood_out : (k : ℕ) (n : Line) → key_of k n ≢ key_of l m → times t (queue_at w (key_of k n)) ≡ 0
+      stood_out k n ne = elim (cases_eq k l) [
+        | inl f ↦ rw f (stood_here n ∙ ap (λ x. stood_in x n) stands ∙ stood_other m n (λ g. ne (λ i. key_of (f i) (g i))))
+        | inr nf ↦ stood_elsewhere k n nf
+      ]
+
+      others : (key : ℕ) → key ≢ key_of l m → queue_at v key ≡ queue_at w key
+      others = by_key (λ key. key ≢ key_of l m → queue_at v key ≡ queue_at w key) (λ k n ne. same_without (key_of k n) (stood_out k n ne))
+
+      own_count : (n : Line) → ((n ≡ m) ⊎ (n ≢ m)) → times t (queue_at v (key_of l n)) ≡ stood_in None n
+      own_count n (inl f) = ap (λ y. times t (queue_at v (key_of l y))) f ∙ ap (times t) (get_or-map (without t) w.queues (key_of l m) []) ∙ times_gone t (queue_at w (key_of l m))
+      own_count n (inr ne) = ap (times t) (others (key_of l n) (other_line l m n ne)) ∙ stood_out l n (other_line l m n ne)
+
+  -- nobody is there to be taken
+  pub nobody_goes : (m : Line) (ds : List Deed) → key_of l m < length w.queues → queue_at w (key_of l m) ≡ [] → Steps r l (parts_at w l) (parts_at w l) (place_at w) t p2 ds → station p2 ≡ station (place_at w t)
+      → Goes w (put (record w { queues = queues_without_first w.queues (key_of l m) }) t p2) l (acts t ds)
+  nobody_goes m ds line empty steps e = record {
+    follows = follows_by w v l (parts_at w l) (putting (place_at w) t p2)
+        (lines_move v (queue_at w (2 * l)) (queue_at w (2 * l + 1)) refl refl refl (same_queue (2 * l)) (same_queue (2 * l + 1)) (λ k ne n. same_queue (key_of k n)))
+        r rules (acts t ds) steps.site steps.needed (word_by_lines (queue_at w (2 * l)) (queue_at w (2 * l + 1)) (putting (place_at w) t p2));
+    stands = still w v steady.stands (λ k. refl) l t own p2 of fits (places_put v refl) (λ key. refl) same_queue e;
+  }
+    where
+      v : State
+      v = put (record w { queues = queues_without_first w.queues (key_of l m) }) t p2
+
+      same_queue : (key : ℕ) → queue_at v key ≡ queue_at w key
+      same_queue key = elim (cases_eq key (key_of l m)) [
+        | inl f ↦ rw f (get_or-set_same w.queues (key_of l m) (drop 1 (queue_at w (key_of l m))) [] line ∙ ap (drop 1) empty ∙ sym empty)
+        | inr ne ↦ get_or-set_other w.queues (key_of l m) key (drop 1 (queue_at w (key_of l m))) [] ne
+      ]
