@@ -1,24 +1,26 @@
 -- What a step of one thread does to the site of the lock that it calls, for locks of any rules and places of any sort.
-use Rattle.std.proofs.Common.{ℕ, Bool, true, false, Option, Some, None, if◌then◌else◌, ◌==◌, ◌&&◌, ◌||◌, ◌≡◌, ◌≢◌, ◌+◌, ◌*◌, List, [], ◌∷◌, ◌++◌, inl, inr, map, cond, not, refl, sym, ◌∙◌, ap, subst, arith}
+use Rattle.std.proofs.Common.{ℕ, Bool, true, false, Option, Some, None, if◌then◌else◌, ◌==◌, ◌&&◌, ◌||◌, ◌≡◌, ◌≢◌, ◌+◌, ◌*◌, ◌≤◌, ◌<◌, length, length-set, List, [], ◌∷◌, ◌++◌, inl, inr, map, cond, not, refl, sym, ◌∙◌, ap, subst, arith}
 use Rattle.std.specs.Prelude.{sum}
 use Rattle.std.proofs.lemmas.Bool.{cases_eq}
 use Rattle.std.proofs.Math.Bool.{or-false}
 use Rattle.lot_base.specs.declared.wants.Waiter.{Waiter}
 use Rattle.lot_base.specs.declared.wants.Want.{Want}
+use Rattle.lot_base.specs.declared.wants.Want.TheVariants as wants
 use Rattle.lot_base.specs.Lines.{waiter, without, times}
 use Rattle.lot_steps.specs.declared.places.Place.{Place}
-use Rattle.abstract_locks.specs.Locks.{LockState, Pending, Rules, Sort, Mutex, Normal, Recursive, Semaphore, putting}
+use Rattle.abstract_locks.specs.Locks.{LockState, LockCase, Pending, Rules, Sort, Mutex, Normal, Recursive, Semaphore, putting, readers}
 use Rattle.abstract_locks.specs.Locks as locks
 use Rattle.abstract_locks.specs.Picks.{queued_of}
-use Rattle.abstract_locks.specs.Sites.{Site, IsSite, Deed, Line, Main, Second, Begin, End, In, Out, Mark, Clear, FindNobody, MarkOwned, Bring, MarkBrought, Case, has_readers, is_full, after_deed}
-use Rattle.abstract_locks.specs.Codes.{bit, packed, code, word_by, parked_in, aside_in, fills, WordsTellTrue}
+use Rattle.abstract_locks.specs.Sites.{Site, IsSite, Deed, Line, Main, Second, Begin, End, In, Out, Mark, Clear, FindNobody, MarkOwned, Bring, MarkBrought, Case, has_readers, is_full, after_deed, Needed}
+use Rattle.abstract_locks.specs.Codes.{bit, packed, code, word_by, parked_in, aside_in, fills, HasLimit, IsHandOff}
 use Rattle.abstract_locks.proofs.CodeLaws.{words_tell_true}
+use Rattle.abstract_locks.proofs.Limits.{limit_kept}
 use Rattle.abstract_locks.proofs.SiteKeeps.{deed_keeps}
 use Rattle.lot_world.specs.Refinement.{taken_at}
 use Rattle.lot_world.specs.MutexDeeds.{acts}
 use Rattle.lot_world.specs.MutexDeeds as deeds
 use Rattle.lot_world.specs.Stations.{doing_on}
-use Rattle.lot_world.specs.SitesOf.{AllNeeded, after_acts}
+use Rattle.lot_world.specs.SitesOf.{AllNeeded, AreOrdinary, IsOrdinary, after_acts}
 use Rattle.lot_world.proofs.Glue.{Parts, lock_in, seen_in, put_here, put_other, put_of, put_same}
 
 -- ---------------------------------------------------------------- deeds of one thread
@@ -135,6 +137,70 @@ fills_by r s v site e = either (has_readers r.sort) refl
     either : (b : Bool) → has_readers r.sort ≡ b → fills r v ≡ is_full r s.lock
     either false f = rw f refl
     either true f = let c = (words_tell_true r s f site).count in rw (e, c) refl
+
+-- ---------------------------------------------------------------- the limit
+
+module _ (t : ℕ) where
+  with_owner_count : (x : Want) (s : LockState) → length (locks.with_owner t x s).shared ≡ length s.shared
+  with_owner_count wants.Shared s = length-set s.shared t _
+  with_owner_count wants.Exclusive s = refl
+  with_owner_count wants.Upgradable s = refl
+  with_owner_count x s = refl
+
+  without_owner_count : (x : Want) (s : LockState) → length (locks.without_owner t x s).shared ≡ length s.shared
+  without_owner_count wants.Shared s = length-set s.shared t _
+  without_owner_count wants.Exclusive s = refl
+  without_owner_count wants.Upgradable s = refl
+  without_owner_count x s = refl
+
+  writing_count : (b : Bool) (s : LockState) → length (if b then locks.with_owner t wants.Exclusive s else locks.pending_for t true s).shared ≡ length s.shared
+  writing_count true s = refl
+  writing_count false s = refl
+
+  converted_count : (x : Want) (s : LockState) → length (locks.converted t x s).shared ≡ length s.shared
+  converted_count wants.Exclusive s = writing_count (readers s == 0) s
+  converted_count wants.Shared s = length-set s.shared t _
+  converted_count wants.Upgradable s = refl
+  converted_count x s = refl
+
+  fallen_count : (o : Option Pending) (s : LockState) → length (locks.falling_back t o s).shared ≡ length s.shared
+  fallen_count None s = refl
+  fallen_count (Some p) s = either p.falls_back
+    where
+      either : (b : Bool) → length (if b then locks.with_owner t wants.Upgradable s else s).shared ≡ length s.shared
+      either true = refl
+      either false = refl
+
+  -- as many numbers as before
+  case_count : (r : Rules) (case : LockCase) (s : LockState) → (IsHandOff case → ⊥) → length (locks.after_case r case s t).shared ≡ length s.shared
+  case_count r (locks.Enter x) s other = with_owner_count x s
+  case_count r (locks.Leave x) s other = without_owner_count x s
+  case_count r (locks.Convert x y) s other = converted_count y (locks.without_owner t x s) ∙ without_owner_count x s
+  case_count r locks.Rollback s other = fallen_count s.pending (record s { pending = None })
+  case_count r (locks.HandOff x y) s other = absurd (other tt)
+  case_count r case s other = refl
+
+-- what a deed that hands nothing over keeps
+record KeepsLimit (r : Rules) (s v : LockState) : Type 0 where
+  pub count : length v.shared ≡ length s.shared
+  pub limit : HasLimit r v
+
+deed_limited : (r : Rules) (d : Deed) (s : Site) (t n : ℕ) → has_readers r.sort ≡ true → 1 ≤ r.limit → length s.lock.shared ≡ n → IsOrdinary n t d → IsSite r s → Needed r d s t → HasLimit r s.lock → KeepsLimit r s.lock (after_deed r d s t).lock
+deed_limited r (Case case) s t n readers some e o site needed h = record {
+  count = case_count t r case s.lock o.1;
+  limit = limit_kept r case s.lock t readers (let lt : t < n = o.0 in omega arith) some site.state h needed.0 o.1;
+}
+deed_limited r (Mark Main) s t n readers some e o site needed h = record { count = refl; limit = h }
+deed_limited r (Mark m) s t n readers some e o site needed h = record { count = refl; limit = h }
+deed_limited r (Clear Main) s t n readers some e o site needed h = record { count = refl; limit = h }
+deed_limited r (Clear m) s t n readers some e o site needed h = record { count = refl; limit = h }
+deed_limited r d s t n readers some e o site needed h = record { count = refl; limit = record { top = h.top; normal = h.normal; falls = h.falls; falls_normal = h.falls_normal } }
+
+pub acts_limited : (r : Rules) (ds : List deeds.Act) (s : Site) (n : ℕ) → has_readers r.sort ≡ true → 1 ≤ r.limit → length s.lock.shared ≡ n → AreOrdinary n ds → IsSite r s → AllNeeded r ds s → HasLimit r s.lock → HasLimit r (after_acts r ds s).lock
+acts_limited r [] s n readers some e o site needed h = h
+acts_limited r (a ∷ more) s n readers some e o site needed h =
+    let k = deed_limited r a.deed s a.by n readers some e o.0 site needed.0 h in
+    acts_limited r more (after_deed r a.deed s a.by) n readers some (k.count ∙ e) o.1 (deed_keeps r a.deed s a.by site needed.0) needed.1 k.limit
 
 -- ---------------------------------------------------------------- words
 
