@@ -286,7 +286,7 @@ module _ (l : ℕ) (n : Base) (o : Owners) (m s : List Waiter) (p : ℕ → Plac
       w
 
   -- a fair release that has taken nobody
-  pub at_store_none : Hands p → (bumps none_left : Bool) (w : ℕ) → Fits w (HandOff bumps (hand_off.Store false none_left)) (op.Store 0)
+  pub at_store_none : {one : ℕ → Type 0} → Hands one p → (bumps none_left : Bool) (w : ℕ) → Fits w (HandOff bumps (hand_off.Store false none_left)) (op.Store 0)
   at_store_none hands bumps none_left w is site code = record {
     steps = hands_nobody l n w 0 o m s p t (Mutex l (HandOff bumps (hand_off.Leave false))) site (mutex_doing (HandOff bumps (hand_off.Store false none_left))) (own_doing l (p t) _ is) (ap (λ x. taken_at x l) is) refl refl
         (λ u. untaken (p u) t l (λ h. let a : carried_at (p t) l ≡ Some false = hands.taken t u l false h in let b : carried_at (p t) l ≡ None = ap (λ (x : Station). x.carries) (own_stance l (p t) _ is) in cc))

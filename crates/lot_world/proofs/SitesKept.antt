@@ -40,13 +40,13 @@ use Rattle.abstract_locks.specs.Picks.{queued_of}
 use Rattle.lot_world.specs.MutexDeeds.{mutex_doing, mutex_deeds, mutex_station, acts, owner, queued}
 use Rattle.lot_world.specs.Stations.{Station, hand, nowhere, station, doing_on}
 use Rattle.lot_world.specs.MutexDeeds as deeds
-use Rattle.lot_world.specs.SitesOf.{SameNumbers, site_of, rules_at, AllNeeded, IsSteady, Follows, Goes, CallsMutex, carried_at, hand_at, after_acts}
+use Rattle.lot_world.specs.SitesOf.{SameNumbers, TakesOne, site_of, rules_at, AllNeeded, IsSteady, Follows, Goes, CallsMutex, carried_at, hand_at, after_acts}
 use Rattle.lot_world.proofs.Glue.{base_at, seen_by, seen_in, seen, site_seen, goes_from, put_places, put_here, put_other, IsOf, next_of, doing_elsewhere, taken_elsewhere, inside_is, own_stance, LetGo, leaving, taking, told_one, successor_one, none_given, lets_taken, lets_handed, lets_nobody, IsTakenAt, is_taken, IsHandedAt, is_handed, untaken, handing, hands_acts}
 use Rattle.lot_world.proofs.MutexTable.{mutex, parts, IsCode, OnWord, MutexSteps, same_filled, own_doing, goes_in as goes_into}
 use Rattle.lot_world.proofs.KindsKept.{operated_kinds, operated_filled, given_kinds, given_filled, given_shares}
 use Rattle.lot_world.specs.SitesOf.{is_mutex}
 use Rattle.lot_world.proofs.StandsKept.{calls_of}
-use Rattle.lot_world.proofs.StandsMoved.{mutex_rules, still, goes_in, goes_out, lets_go, hands_lock, takes}
+use Rattle.lot_world.proofs.StandsMoved.{mutex_rules, takes_one, still, goes_in, goes_out, lets_go, hands_lock, takes}
 use Rattle.lot_world.proofs.MutexSections.{hands_needed, take_needed, first_wants}
 
 -- g is f, but for x at i
@@ -96,6 +96,10 @@ mutex_unshared w l steady rules = (subst (λ r. IsSite r (lock_by w l r)) rules 
 pub unshared_at : (w : State) (t l : ℕ) (at : MutexPlace) → IsSteady w → place_at w t ≡ Mutex l at → sum (shares_at w l) ≡ 0
 unshared_at w t l at steady is = mutex_unshared w l steady (mutex_rules (kind_at w l) (let c : CallsMutex w (Mutex l at) = rw is at (steady.stands.calls t) in c))
 
+-- and it is taken from one by one
+pub single_at : (w : State) (t l : ℕ) (at : MutexPlace) → IsSteady w → place_at w t ≡ Mutex l at → TakesOne w l
+single_at w t l at steady is = takes_one w l (mutex_rules (kind_at w l) (let c : CallsMutex w (Mutex l at) = rw is at (steady.stands.calls t) in c))
+
 -- ---------------------------------------------------------------- what the acts change
 
 -- what the act of a thread leads to
@@ -108,6 +112,9 @@ module _ (w : State) (t l : ℕ) (at : MutexPlace) (steady : IsSteady w) (is : p
 
   pub rules : rules_at w l ≡ mutex
   rules = mutex_rules (kind_at w l) of_mutex
+
+  pub single : TakesOne w l
+  single = takes_one w l rules
 
   pub site_l : IsSite mutex (seen l (base_at w l) (word_at w l) (owners_at w l) (queue_at w (2 * l)) (queue_at w (2 * l + 1)) (place_at w))
   site_l = subst (λ r. IsSite r (lock_by w l r)) rules (steady.sites.site l)
@@ -219,12 +226,12 @@ module _ (w : State) (t l : ℕ) (steady : IsSteady w) (there : t < length w.pla
 
     -- it is told alone
     pub told_it : (reply : Reply) → state_after_telling (state_with_sections w (One (2 * l)) None) t reply ≡ state_after_reply (state_with_sections w (One (2 * l)) None) one_held.0 reply
-    told_it reply = told_one (state_with_sections w (One (2 * l)) None) t l one_held.0 b reply steady.stands.hands (own w t l at steady is there) one_held.1
+    told_it reply = told_one (state_with_sections w (One (2 * l)) None) t l one_held.0 b reply steady.stands.hands (single w t l at steady is there) (own w t l at steady is there) one_held.1
 
   -- a release leaves, and wakes the one that it took
   pub release_wakes : 2 * l < length w.sections → place_at w t ≡ Mutex l (Unlock (unlock.Leave true)) → Goes w (go_by w t (Mutex l (Unlock (unlock.Leave true))) (act.TheVariants.Leave (One (2 * l)) (wakes.TheVariants.All note.Normal))) l (acts t (Out ∷ []))
   release_wakes line is = subst (λ (z : State). Goes w (put z t Idle) l (acts t (Out ∷ []))) (sym (told_it at is false refl (Woken note.Normal)))
-      (wake_keeps w t l at steady is there line v false note.Normal Idle tt (rw there_v.is refl) refl refl refl refl refl (lets_taken (place_at w) steady.stands.hands t l v Idle held) apart refl (rw there_v.is refl) refl (rw there_v.is refl))
+      (wake_keeps w t l at steady is there line v false note.Normal Idle tt (rw there_v.is refl) refl refl refl refl refl (lets_taken (TakesOne w) (place_at w) steady.stands.hands t l v Idle (single w t l at steady is there) held) apart refl (rw there_v.is refl) refl (rw there_v.is refl))
     where
       at : MutexPlace
       at = Unlock (unlock.Leave true)
@@ -244,7 +251,7 @@ module _ (w : State) (t l : ℕ) (steady : IsSteady w) (there : t < length w.pla
   -- a fair one leaves, and tells the one that it handed the lock
   pub tells : 2 * l < length w.sections → (bumps : Bool) (is : place_at w t ≡ Mutex l (HandOff bumps (hand_off.Leave true))) (p2 : Place) → IsOf l p2 → taken_at p2 l ≡ None → doing_on p2 l ≡ idle → station p2 ≡ nowhere → Goes w (put (state_after_telling (state_with_sections w (One (2 * l)) None) t (Woken note.HandOff)) t p2) l (acts t (Out ∷ []))
   tells line bumps is p2 of none e s = subst (λ (z : State). Goes w (put z t p2) l (acts t (Out ∷ []))) (sym (told_it at is true refl (Woken note.HandOff)))
-      (wake_keeps w t l at steady is there line v true note.HandOff p2 of (rw there_v.is refl) refl none e refl refl (lets_handed (place_at w) steady.stands.hands t l v p2 held) apart refl (rw there_v.is refl) s (rw there_v.is refl))
+      (wake_keeps w t l at steady is there line v true note.HandOff p2 of (rw there_v.is refl) refl none e refl refl (lets_handed (TakesOne w) (place_at w) steady.stands.hands t l v p2 (single w t l at steady is there) held) apart refl (rw there_v.is refl) s (rw there_v.is refl))
     where
       at : MutexPlace
       at = HandOff bumps (hand_off.Leave true)
@@ -270,9 +277,9 @@ module _ (w : State) (t l : ℕ) (steady : IsSteady w) (there : t < length w.pla
         (changed_set (λ x. x.word) w.locks l _ (unlocked kind.TheVariants.Mutex) lt) owners_given
         (unchanged (λ k. queue_at w (2 * k)) l) (λ k. refl) same_kinds
         (λ k ne x. alike_both l k (place_at w) u pu t p2 of_u of_pu own_t refl apart ne x)
-        (hands_acts mutex l (base_at w l) (word_at w l) (owners_at w l) (queue_at w (2 * l)) (queue_at w (2 * l + 1)) (place_at w) steady.stands.hands t u bumps none_left refl unshared is held none_left)
-        (handing mutex l (base_at w l) (word_at w l) (owners_at w l) (queue_at w (2 * l)) (queue_at w (2 * l + 1)) (place_at w) steady.stands.hands t u bumps none_left refl unshared is held none_left refl)
-        (hands_needed l (base_at w l) (word_at w l) (owners_at w l) (queue_at w (2 * l)) (queue_at w (2 * l + 1)) (place_at w) steady.stands.hands t u bumps none_left is held (site_l w t l at steady is there) none_left refl)
+        (hands_acts mutex l (base_at w l) (word_at w l) (owners_at w l) (queue_at w (2 * l)) (queue_at w (2 * l + 1)) (place_at w) (TakesOne w) steady.stands.hands (single w t l at steady is there) t u bumps none_left refl unshared is held none_left)
+        (handing mutex l (base_at w l) (word_at w l) (owners_at w l) (queue_at w (2 * l)) (queue_at w (2 * l + 1)) (place_at w) (TakesOne w) steady.stands.hands (single w t l at steady is there) t u bumps none_left refl unshared is held none_left refl)
+        (hands_needed l (base_at w l) (word_at w l) (owners_at w l) (queue_at w (2 * l)) (queue_at w (2 * l + 1)) (place_at w) (TakesOne w) steady.stands.hands (single w t l at steady is there) t u bumps none_left is held (site_l w t l at steady is there) none_left refl)
         (coded none_left);
     stands = hands_lock w after steady.stands same_kinds l t u apart (of_mutex w t l at steady is there) own_t of_u p2 pu refl of_pu places (λ key. refl) (λ key. refl) (ap station is) (rw there_u.is refl) refl (rw there_u.is refl);
   })
@@ -308,11 +315,11 @@ module _ (w : State) (t l : ℕ) (steady : IsSteady w) (there : t < length w.pla
       after = put (state_after_reply before u (HandedBy t)) t p2
 
       told : state_after_telling before t (HandedBy t) ≡ state_after_reply before u (HandedBy t)
-      told = told_one before t l u false (HandedBy t) steady.stands.hands own_t held
+      told = told_one before t l u false (HandedBy t) steady.stands.hands (single w t l at steady is there) own_t held
 
       owners_given : Changed (owners_at w) (owners_at after) l (with_exclusive (owners_at w l) (Some u))
       owners_given = record {
-        here = ap (λ x. x.owners) (get_or-set_same w.locks l _ (unlocked kind.TheVariants.Mutex) lt) ∙ successor_one w t l u false steady.stands.hands own_t held (unshared_at w t l at steady is) (with_exclusive (owners_at w l) None);
+        here = ap (λ x. x.owners) (get_or-set_same w.locks l _ (unlocked kind.TheVariants.Mutex) lt) ∙ successor_one w t l u false steady.stands.hands (single w t l at steady is there) own_t held (unshared_at w t l at steady is) (with_exclusive (owners_at w l) None);
         other = λ k ne. ap (λ x. x.owners) (get_or-set_other w.locks l k _ (unlocked kind.TheVariants.Mutex) ne);
       }
 

@@ -6,13 +6,14 @@ use Rattle.lot_base.specs.Lines.{times}
 use Rattle.lot_calls.specs.declared.kinds.Kind.{Kind}
 use Rattle.lot_calls.specs.declared.kinds.Kind as kind
 use Rattle.lot_steps.specs.declared.places.Place.{Place}
-use Rattle.abstract_locks.specs.Locks.{putting}
+use Rattle.lot_base.specs.declared.wants.Want.TheVariants.{Upgradable}
+use Rattle.abstract_locks.specs.Locks.{Rules, Knows, putting}
 use Rattle.abstract_locks.specs.Purposes.{rules_of}
 use Rattle.abstract_locks.specs.Sites.{Line, Main, Second}
 use Rattle.lot_machine.specs.Machine.{State, place_at, kind_at, section_at, queue_at}
 use Rattle.lot_world.specs.SitesOf.{is_mutex}
 use Rattle.lot_world.specs.Stations.{Station, hand, nowhere, station, station_at}
-use Rattle.lot_world.specs.SitesOf.{Stands, Sections, Lines, Hands, CallsMutex, key_of, stood_in}
+use Rattle.lot_world.specs.SitesOf.{Stands, Sections, Lines, Hands, TakesOne, CallsMutex, rules_at, key_of, stood_in}
 use Rattle.lot_world.proofs.Glue.{IsOf, same, differ, put_here, put_other, station_here}
 use Rattle.lot_world.proofs.MutexTable.{mutex}
 use Rattle.lot_world.proofs.StandsKept.{part_put, part_else, sections_same, entered, left, lines_same, line_moved, hands_same, link, AreLinked, hands_pair, calls_of, calls_in}
@@ -22,12 +23,24 @@ mutex_rules kind.TheVariants.Mutex h = refl
 mutex_rules kind.TheVariants.Fair h = refl
 mutex_rules k h = absurd cc
 
+-- a thread has one waiter of a mutex in hand
+pub takes_one : (w : State) (l : ℕ) → rules_at w l ≡ mutex → TakesOne w l
+takes_one w l rules k = let none : Knows mutex.sort Upgradable = subst (λ (r : Rules). Knows r.sort Upgradable) rules k in none
+
+-- locks of the same kinds take as many
+pub hands_in : (w v : State) (p : ℕ → Place) → ((k : ℕ) → kind_at v k ≡ kind_at w k) → Hands (TakesOne w) p → Hands (TakesOne v) p
+hands_in w v p kinds h = record {
+  carried = h.carried;
+  alone = λ t l u x b c o. h.alone t l u x b c (λ k. o (subst (λ y. Knows (rules_of y).sort Upgradable) (sym (kinds l)) k));
+  taken = h.taken;
+}
+
 -- a state by how its threads stand
-pub stands_then : (v : State) (q : ℕ → Place) → place_at v ≡ q → Sections q (section_at v) → Lines q (queue_at v) → Hands q → ((u : ℕ) → CallsMutex v (q u)) → Stands v
+pub stands_then : (v : State) (q : ℕ → Place) → place_at v ≡ q → Sections q (section_at v) → Lines q (queue_at v) → Hands (TakesOne v) q → ((u : ℕ) → CallsMutex v (q u)) → Stands v
 stands_then v q e s n h c = record {
   sections = subst (λ (f : ℕ → Place). Sections f (section_at v)) (sym e) s;
   lines = subst (λ (f : ℕ → Place). Lines f (queue_at v)) (sym e) n;
-  hands = subst (λ (f : ℕ → Place). Hands f) (sym e) h;
+  hands = subst (λ (f : ℕ → Place). Hands (TakesOne v) f) (sym e) h;
   calls = λ u. subst (λ (f : ℕ → Place). CallsMutex v (f u)) (sym e) (c u);
 }
 
@@ -52,8 +65,8 @@ module _ (w v : State) (stands : Stands w) (kinds : (k : ℕ) → kind_at v k �
   same_part : {A : Type 0} (g : Station → A) → g (station p2) ≡ g (station (place_at w t)) → (u k : ℕ) → g (station_at (now u) k) ≡ g (station_at (place_at w u) k)
   same_part g e = part_put g l (place_at w) t p2 own of e
 
-  same_hands : (station p2).carries ≡ (station (place_at w t)).carries → (station p2).hand ≡ (station (place_at w t)).hand → Hands now
-  same_hands c n = hands_same (place_at w) now stands.hands (same_part (λ x. x.carries) c) (same_part (λ x. x.hand) n)
+  same_hands : (station p2).carries ≡ (station (place_at w t)).carries → (station p2).hand ≡ (station (place_at w t)).hand → Hands (TakesOne v) now
+  same_hands c n = hands_in w v now kinds (hands_same (place_at w) now stands.hands (same_part (λ x. x.carries) c) (same_part (λ x. x.hand) n))
 
   -- with the same station, and the same sections and lines
   pub still : ((key : ℕ) → section_at v key ≡ section_at w key) → ((key : ℕ) → queue_at v key ≡ queue_at w key) → station p2 ≡ station (place_at w t) → Stands v
@@ -127,10 +140,10 @@ module _ (w v : State) (stands : Stands w) (kinds : (k : ℕ) → kind_at v k �
   part_t g e = part_put g l halfway t p2 own_t of (e ∙ sym (ap (λ y. g (station y)) still_t))
 
   -- a hand changes between them
-  linked_hands : (y z : Option Bool) → AreLinked (place_at w) t x l y → (station p2).carries ≡ z → (station p2).hand ≡ None → (station px).hand ≡ link z t → (station px).carries ≡ None → Hands both_now
-  linked_hands y z before c f h b = hands_pair (place_at w) both_now stands.hands t x l y z before
+  linked_hands : (y z : Option Bool) → AreLinked (place_at w) t x l y → (station p2).carries ≡ z → (station p2).hand ≡ None → (station px).hand ≡ link z t → (station px).carries ≡ None → Hands (TakesOne v) both_now
+  linked_hands y z before c f h b = hands_in w v both_now kinds (hands_pair (TakesOne w) (place_at w) both_now stands.hands t x l (takes_one w l (mutex_rules (kind_at w l) of_mutex)) y z before
       (record { of_t = rw (put_here halfway t p2) of; of_v = rw at_x of_x; carries = rw (put_here halfway t p2) c; free = rw (put_here halfway t p2) f; hand = rw at_x h; bare = rw at_x b })
-      (λ u nt nx. put_other halfway t p2 u nt ∙ put_other (place_at w) x px u nx)
+      (λ u nt nx. put_other halfway t p2 u nt ∙ put_other (place_at w) x px u nx))
 
   same_inside : (station p2).inside ≡ (station (place_at w t)).inside → (station px).inside ≡ (station (place_at w x)).inside → ((key : ℕ) → section_at v key ≡ section_at w key) → Sections both_now (section_at v)
   same_inside e ex es = subst (λ (f : ℕ → Option ℕ). Sections both_now f) (λ j key. sym (es key) j) (sections_same (place_at w) both_now (section_at w) stands.sections (λ u k. part_t (λ y. y.inside) e u k ∙ part_x (λ y. y.inside) ex u k))

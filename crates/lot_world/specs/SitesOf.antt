@@ -4,7 +4,8 @@ use Rattle.lot_base.specs.declared.wants.Waiter.{Waiter}
 use Rattle.lot_base.specs.Lines.{times}
 use Rattle.lot_steps.specs.declared.places.Place.{Place}
 use Rattle.lot_steps.specs.declared.places.Place.TheVariants.{Idle, Mutex as OfMutex}
-use Rattle.abstract_locks.specs.Locks.{Rules}
+use Rattle.lot_base.specs.declared.wants.Want.TheVariants.{Upgradable}
+use Rattle.abstract_locks.specs.Locks.{Rules, Knows}
 use Rattle.abstract_locks.specs.Sites.{Line, Main, Second, Site, IsSite, Deed, Case, has_readers, after_deed, Needed}
 use Rattle.abstract_locks.specs.Codes.{code, parked_in, aside_in, HasLimit, IsHandOff}
 use Rattle.abstract_locks.specs.Purposes.{rules_of}
@@ -77,13 +78,18 @@ carried_at p l = (station_at p l).carries
 abbrev pub hand_at : Place → ℕ → Option Hand
 hand_at p l = (station_at p l).hand
 
-pub record Hands (p : ℕ → Place) : Type 0 where
+-- at some locks a thread has one in hand at a time
+pub record Hands (one : ℕ → Type 0) (p : ℕ → Place) : Type 0 where
   -- who has somebody in hand, by its place, has one
   pub carried : (t l : ℕ) (b : Bool) → carried_at (p t) l ≡ Some b → (u : ℕ) × (hand_at (p u) l ≡ hand t b)
-  -- and no second
-  pub alone : (t l u v : ℕ) (b c : Bool) → hand_at (p u) l ≡ hand t b → hand_at (p v) l ≡ hand t c → v ≡ u
+  -- and there no second
+  pub alone : (t l u v : ℕ) (b c : Bool) → one l → hand_at (p u) l ≡ hand t b → hand_at (p v) l ≡ hand t c → v ≡ u
   -- who is in the hand of a thread, is so by that one's place
   pub taken : (t u l : ℕ) (b : Bool) → hand_at (p u) l ≡ hand t b → carried_at (p t) l ≡ Some b
+
+-- only the waiters of a reader-writer lock are taken many at a time
+abbrev pub TakesOne : State → ℕ → Type 0
+TakesOne w l = Knows (rules_at w l).sort Upgradable → ⊥
 
 abbrev pub is_mutex : Kind → Bool
 is_mutex kind.TheVariants.Mutex = true
@@ -98,7 +104,7 @@ CallsMutex w (OfMutex l at) = is_mutex (kind_at w l) ≡ true
 pub record Stands (w : State) : Type 0 where
   pub sections : Sections (place_at w) (section_at w)
   pub lines : Lines (place_at w) (queue_at w)
-  pub hands : Hands (place_at w)
+  pub hands : Hands (TakesOne w) (place_at w)
   pub calls : (t : ℕ) → CallsMutex w (place_at w t)
 
 -- each thread has a number of shared rights of each lock
