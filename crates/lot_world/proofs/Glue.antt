@@ -484,28 +484,6 @@ successor_one w t l u b hands single of held_at unshared o =
 
 -- ---------------------------------------------------------------- a release wakes whom it has taken
 
-module _ (one : ℕ → Type 0) (places : ℕ → Place) (hands : Hands one places) (t l v : ℕ) (p2 : Place) (single : one l) where
-  -- t leaves for p2, and wakes v
-  abbrev pub woken_by : Note → ℕ → Place
-  woken_by x = putting (putting places v (next_place (places v) (Woken x))) t p2
-
-  -- everybody but the one in hand stays
-  lets_but_one : (x : Note) → ((u : ℕ) → u ≢ v → Untaken t (taken_at (places u) l)) → LetGo t l (places v) (next_place (places v) (Woken x)) → (u : ℕ) → u ≢ t → LetGo t l (places u) (woken_by x u)
-  lets_but_one x only one u ne = rw (put_other (putting places v (next_place (places v) (Woken x))) t p2 u ne) (elim (cases_eq u v) [
-    | inl e ↦ rw (e, put_here places v (next_place (places v) (Woken x))) one
-    | inr nv ↦ rw (put_other places v (next_place (places v) (Woken x)) u nv) (stays t l (places u) (only u nv))
-  ])
-
-  pub lets_taken : hand_at (places v) l ≡ hand t false → (u : ℕ) → u ≢ t → LetGo t l (places u) (woken_by note.Normal u)
-  lets_taken holds = lets_but_one note.Normal
-      (λ u ne. untaken (places u) t l (λ h. ne (hands.alone t l v u false false single holds h)))
-      (let k : IsTakenAt (places v) t l = is_taken (places v) t l holds in rw k.is (tries t l k.entry k.retries))
-
-  pub lets_handed : hand_at (places v) l ≡ hand t true → (u : ℕ) → u ≢ t → LetGo t l (places u) (woken_by note.HandOff u)
-  lets_handed holds = lets_but_one note.HandOff
-      (λ u ne. untaken (places u) t l (λ h. let a : carried_at (places t) l ≡ Some false = hands.taken t u l false h in let b : carried_at (places t) l ≡ Some true = hands.taken t v l true holds in absurd cc))
-      (let k : IsHandedAt (places v) t l = is_handed (places v) t l holds in rw k.is (accepts t l t k.entry k.retries))
-
 -- who has nobody in hand leaves alone
 pub lets_nobody : {one : ℕ → Type 0} (places : ℕ → Place) (hands : Hands one places) (t l : ℕ) (p2 : Place) → carried_at (places t) l ≡ None → (u : ℕ) → u ≢ t → LetGo t l (places u) (putting places t p2 u)
 lets_nobody places hands t l p2 none u ne = rw (put_other places t p2 u ne) (stays t l (places u) (untaken (places u) t l (λ h. let a : carried_at (places t) l ≡ Some false = hands.taken t u l false h in absurd cc)))
