@@ -56,6 +56,21 @@ module _ (s : LockState) (t : ℕ) where
   lowered Upgradable Exclusive r state own may less there = absurd (less refl)
   lowered x y r state own may less there = absurd (grind arith)
 
+  pub replaced : (x y : Want) (r : Rules) → IsLockState r s → Owns s t x → MayConvert x y → y ≢ Exclusive → (y ≡ Shared → t < length s.shared)
+      → with_right x (rights_of (with_owner t y (without_owner t x s)) t) ≡ with_right y (rights_of s t)
+  replaced Exclusive Upgradable r state own may less there = let alone = state.exclusive_alone t own in rights_are _ _ _ _ _ _ _ _ (grind (arith, nat_tests)) refl (grind (arith, nat_tests)) refl
+  replaced Exclusive Shared r state own may less there = let more = get_or-set_same s.shared t (slice_index s.shared t + 1) 0 (there refl) in rights_are _ _ _ _ _ _ _ _ (grind (arith, nat_tests)) refl refl more
+  replaced Upgradable Shared r state own may less there = let more = get_or-set_same s.shared t (slice_index s.shared t + 1) 0 (there refl) in rights_are _ _ _ _ _ _ _ _ refl refl (grind (arith, nat_tests)) more
+  replaced Upgradable Exclusive r state own may less there = absurd (less refl)
+  replaced x y r state own may less there = absurd (grind arith)
+
+  -- who has a right has it again when it has given it up and got it
+  pub regained : (x : Want) → Owns s t x → with_right x (without_right x (rights_of s t)) ≡ rights_of s t
+  regained Exclusive own = rights_are _ _ _ _ _ _ _ _ (grind (arith, nat_tests)) refl refl refl
+  regained Upgradable own = rights_are _ _ _ _ _ _ _ _ refl refl (grind (arith, nat_tests)) refl
+  regained Shared own = rights_are _ _ _ _ _ _ _ _ refl refl refl (omega arith)
+  regained x own = refl
+
   -- the upgradable right becomes the exclusive one, or is pending, or is there again
   pub raised : (r : Rules) → IsLockState r s → Owns s t Upgradable → with_right Upgradable (rights_of (with_owner t Exclusive (without_owner t Upgradable s)) t) ≡ with_right Exclusive (rights_of s t)
   raised r state own = let free : s.exclusive ≡ None = grind (arith, state.exclusive_alone) in rights_are _ _ _ _ _ _ _ _ (grind (arith, nat_tests)) refl (grind (arith, nat_tests)) refl
