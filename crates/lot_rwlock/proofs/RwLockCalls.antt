@@ -31,10 +31,10 @@ use Rattle.lot_rwlock.specs.declared.enter.Decision.{Decision}
 use Rattle.lot_rwlock.specs.declared.enter.Decision.TheVariants as decisions
 use Rattle.lot_rwlock.specs.declared.park.ParkAt.TheVariants as parking
 use Rattle.lot_rwlock.specs.declared.release.WakeAt.TheVariants as waking
-use Rattle.lot_rwlock.specs.RwLockSteps.{rwlock_act, rwlock_next, wanted, from_of, to_of, entered, is_counted, waits, decision_blocked, decision, decided, missed, looked_by, looked, came_in, exchanged_next, counted, stays, goes as goes_to, plus, wakes, wakes_or_ends}
-use Rattle.lot_rwlock.specs.RwLockDeeds.{rwlock_deeds, AtPending, AtTry, Admits, IsFreshTry, IsAt, missed_deeds, looked_deeds, enters_deeds, came_in_deeds, exchanged_deeds, counted_deeds, does_and_wakes, sees_waiter, pends, rwlock_doing}
+use Rattle.lot_rwlock.specs.RwLockSteps.{patience_of, rwlock_act, rwlock_next, wanted, from_of, to_of, entered, is_counted, waits, decision_blocked, decision, decided, missed, looked_by, looked, came_in, exchanged_next, counted, stays, goes as goes_to, plus, wakes, wakes_or_ends}
+use Rattle.lot_rwlock.specs.RwLockDeeds.{rwlock_deeds, AtPending, AtTry, AtUpgrade, AtFits, Admits, IsFreshTry, IsAt, missed_deeds, looked_deeds, enters_deeds, came_in_deeds, exchanged_deeds, counted_deeds, does_and_wakes, sees_waiter, pends, rwlock_doing}
 use Rattle.lot_rwlock.specs.RwLockProfiles.{rwlock_profile, before}
-use Rattle.lot_rwlock.specs.RwLockCalls.{MayWait, HasDeadline, EntersAt, WritesAt, SharesAt, ReleasesAt, DowngradesAt, UpgradesAt, next_row, CallFollowsBy}
+use Rattle.lot_rwlock.specs.RwLockCalls.{MayWait, HasDeadline, EntersAt, WritesAt, SharesAt, ReleasesAt, DowngradesAt, UpgradesAt, StandsAt, RwLockStepsTell, next_row, CallFollowsBy}
 use Rattle.lot_rwlock.proofs.RwLockFit.{knows_all, may_enter}
 use Rattle.lot_rwlock.proofs.RwLockCallRights.{found, recalls, goes, keeps, loses, replaces, enters, raises}
 use Rattle.abstract_locks.specs.Locks.{LockState, Pending, Mutex, Rules, Rights, LockCase, after_case, falling_back, Enter, Pend, Settle, Leave, Convert, Rollback, Knows, MayEnter, Owns, MayConvert, NoWriter, IsFree, is_recursive, count, readers, standing, rights_of, with_right, without_right, with_owner, without_owner, pending_for}
@@ -420,3 +420,63 @@ module _ (r : Rules) (a : Admission) (s : Site) (t l : ℕ) (op : Op) (admits : 
     waits_up (at.Aside to) pending fits doing e more = absurd cc
     waits_up (at.Wake Main to) pending fits doing e more = absurd cc
     waits_up to pending fits doing e more = absurd pending
+
+  -- ---------------------------------------------------------------- a try to upgrade
+
+  module _ (again : Bool) where
+    abbrev trier : RwLockAt → RwLockPlace
+    trier to = of (purpose.Upgrade Try) again to
+
+    -- it looks whether another shares beside it
+    pub looks_up : (to : RwLockAt) → AtTry to → Owns s.lock t Upgradable → (b : Bool) → (count_in v == 1) ≡ b
+        → Tells (trier to) (looked_deeds (if b then decisions.Take else decisions.Refuse No)) (looked_by (trier to) v (if b then decisions.Take else decisions.Refuse No))
+    looks_up at.Load is own true e = record { one = tt; may = tt; comes = λ rights f. recalls _ _ (goes l t s.lock s.lock (purpose.Upgrade Try) at.Load (at.Decide v) rights f refl) }
+    looks_up (at.Decide was) is own true e = record { one = tt; may = tt; comes = λ rights f. recalls _ _ (goes l t s.lock s.lock (purpose.Upgrade Try) (at.Decide was) (at.Decide v) rights f refl) }
+    looks_up at.Load is own false e = record { one = tt; may = tt; comes = λ w rights ruled now f has. (subst (λ z. 1 ≤ readers z) (sym now) (others own e), keeps l t s.lock s.lock (purpose.Upgrade Try) at.Load r w rights ruled now f has refl) }
+      where
+        others : Owns s.lock t Upgradable → (count_in v == 1) ≡ false → 1 ≤ readers s.lock
+        others own e = let c = tells.count in grind (arith, nat_tests)
+    looks_up (at.Decide was) is own false e = record { one = tt; may = tt; comes = λ w rights ruled now f has. (subst (λ z. 1 ≤ readers z) (sym now) (others own e), keeps l t s.lock s.lock (purpose.Upgrade Try) (at.Decide was) r w rights ruled now f has refl) }
+      where
+        others : Owns s.lock t Upgradable → (count_in v == 1) ≡ false → 1 ≤ readers s.lock
+        others own e = let c = tells.count in grind (arith, nat_tests)
+    looks_up to is own b e = absurd is
+
+    tries_up : (to : RwLockAt) → AtTry to → s.doing t ≡ rwlock_doing (trier to) → Tells (trier to) (rwlock_deeds a (trier to) None (reply.Value v)) (rwlock_next a (trier to) (reply.Value v))
+    tries_up at.Load is doing = looks_up at.Load tt (h.held t (Has Upgradable) (ap (λ (d : Doing). d.claims) doing)) (count_in v == 1) refl
+    tries_up (at.Decide was) is doing = by_sight (count_in was == 1) refl
+      where
+        own : Owns s.lock t Upgradable
+        own = h.held t (Has Upgradable) (ap (λ (d : Doing). d.claims) doing)
+
+        won : (c : Bool) → (v == was) ≡ c → (count_in was == 1) ≡ true → Tells (trier (at.Decide was)) (exchanged_deeds (purpose.Upgrade Try) decisions.Take c (decided a (trier (at.Decide was)) v)) (if c then next.End Yes else looked a (trier (at.Decide was)) v)
+        won true f e = owns_it Try again (at.Decide was) (inr (was, refl)) own (ap (λ n. count_in n == 1) (eqb-true v was f) ∙ e)
+        won false f e = looks_up (at.Decide was) tt own (count_in v == 1) refl
+
+        by_sight : (b : Bool) → (count_in was == 1) ≡ b
+            → Tells (trier (at.Decide was)) (exchanged_deeds (purpose.Upgrade Try) (if b then decisions.Take else decisions.Refuse No) (v == was) (decided a (trier (at.Decide was)) v))
+            (exchanged_next a (trier (at.Decide was)) was v (if b then decisions.Take else decisions.Refuse No))
+        by_sight true e = won (v == was) refl e
+        by_sight false e = looks_up (at.Decide was) tt own (count_in v == 1) refl
+    tries_up to is doing = absurd is
+
+-- ---------------------------------------------------------------- every place
+
+pub rwlock_steps_tell : RwLockStepsTell
+rwlock_steps_tell r a s t l p op calling nowhere e = by_purpose p.purpose p.retries p.at calling.stands calling.at.place calling.at.fresh calling.at.doing e
+  where
+    admits : Admits r a
+    admits = calling.at.admits
+
+    by_patience : (how : Patience) (again : Bool) (to : RwLockAt) → UpgradesAt how again to → AtUpgrade how to → s.doing t ≡ rwlock_doing (record { purpose = purpose.Upgrade how; retries = again; at = to })
+        → rwlock_act l a (record { purpose = purpose.Upgrade how; retries = again; at = to }) ≡ act.Word l op → CallFollowsBy r a s t l (record { purpose = purpose.Upgrade how; retries = again; at = to }) None (reply.Value (code r s))
+    by_patience Try again to stands fits doing e = tries_up r a s t l op admits calling.at.site nowhere calling.there again to fits doing
+    by_patience Patient again to stands fits doing e = waits_up r a s t l op admits calling.at.site nowhere calling.there Patient again to fits stands doing e (λ f. cc)
+    by_patience Timed again to stands fits doing e = waits_up r a s t l op admits calling.at.site nowhere calling.there Timed again to fits stands doing e (λ f. cc)
+
+    by_purpose : (q : RwLockPurpose) (again : Bool) (to : RwLockAt) → StandsAt q again to → AtFits q to → IsFreshTry (patience_of q) again → s.doing t ≡ rwlock_doing (record { purpose = q; retries = again; at = to })
+        → rwlock_act l a (record { purpose = q; retries = again; at = to }) ≡ act.Word l op → CallFollowsBy r a s t l (record { purpose = q; retries = again; at = to }) None (reply.Value (code r s))
+    by_purpose (purpose.Enter x how) again to stands fits fresh doing e = enters_tell r a s t l op admits calling.at.site nowhere calling.there x how again to stands fresh doing e
+    by_purpose (purpose.Release x) again to stands fits fresh doing e = releases_tell r a s t l op admits calling.at.site nowhere calling.there x again to stands doing e
+    by_purpose (purpose.Downgrade d) again to stands fits fresh doing e = downgrades_tell r a s t l op admits calling.at.site nowhere calling.there d again to stands doing e
+    by_purpose (purpose.Upgrade how) again to stands fits fresh doing e = by_patience how again to stands fits doing e
