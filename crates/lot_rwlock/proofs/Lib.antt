@@ -4,3 +4,4 @@ pub mod RwLockSections
 pub mod RwLockOwners
 pub mod RwLockCallRights
 pub mod RwLockCalls
+pub mod RwLockCallSections

@@ -368,7 +368,7 @@ module _ (r : Rules) (a : Admission) (s : Site) (t l : ℕ) (op : Op) (admits : 
             → call_by l (rwlock_profile a (of (purpose.Upgrade how) false at.Look)) (rights_where l upgraded t rights) ≡ by_case (Convert Upgradable Exclusive) (raiser at.GiveWay) rights
         next_call rights same = λ i. record (call_by l (rwlock_profile a (raiser at.GiveWay)) rights) { former = λ k. same k i; retries = (ap (λ b. if b then Some l else None) (sym first)) i }
 
-    settles_up : (to : RwLockAt) → IsCounting how again to → s.doing t ≡ rwlock_doing (raiser to) → (b : Bool) → Tells (raiser to) (if b then Case Settle ∷ End ∷ [] else []) (if b then next.End (entered how) else stays (raiser to) (at.Count v))
+    pub settles_up : (to : RwLockAt) → IsCounting how again to → s.doing t ≡ rwlock_doing (raiser to) → (b : Bool) → Tells (raiser to) (if b then Case Settle ∷ End ∷ [] else []) (if b then next.End (entered how) else stays (raiser to) (at.Count v))
     settles_up at.Look is doing true = let own : s.lock.pending ≡ Some (record { thread = t; falls_back = true }) = h.held t (Pends true) (ap (λ (d : Doing). d.claims) doing) in
         record { one = tt; may = ((refl, refl), tt); comes = λ w rights ruled now e has. raises l t s.lock (after_case r Settle s.lock t) (purpose.Upgrade how) at.Look r w rights ruled now e has (by_case Settle (raiser at.Look) rights) refl Upgradable Exclusive how (ap (with_right Upgradable) (settled s.lock t true own (alone how again true own))) }
     settles_up (at.Count was) is doing true = let own : s.lock.pending ≡ Some (record { thread = t; falls_back = true }) = h.held t (Pends true) (ap (λ (d : Doing). d.claims) doing) in

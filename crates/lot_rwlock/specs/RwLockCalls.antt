@@ -25,10 +25,10 @@ use Rattle.lot_rwlock.specs.declared.places.RwLockAt.TheVariants as at
 use Rattle.lot_rwlock.specs.declared.enter.Decision.TheVariants as decisions
 use Rattle.lot_rwlock.specs.declared.park.ParkAt.{ParkAt}
 use Rattle.lot_rwlock.specs.declared.park.ParkAt.TheVariants as parking
-use Rattle.lot_rwlock.specs.RwLockSteps.{patience_of, decided, rwlock_act, rwlock_next}
+use Rattle.lot_rwlock.specs.RwLockSteps.{wanted, to_of, patience_of, decided, rwlock_act, rwlock_next}
 use Rattle.lot_rwlock.specs.RwLockDeeds.{IsAt, MayHear, rwlock_deeds}
 use Rattle.lot_rwlock.specs.RwLockProfiles.{rwlock_profile, hand_at, late_line_at}
-use Rattle.abstract_locks.specs.Locks.{Rules, Rights, standing}
+use Rattle.abstract_locks.specs.Locks.{LockState, Rules, Rights, Owns, standing}
 use Rattle.abstract_locks.specs.Codes.{code}
 use Rattle.abstract_locks.specs.Runs.{CallState}
 use Rattle.abstract_locks.specs.Sites.{Site}
@@ -131,10 +131,16 @@ abbrev pub CallFollowsBy : Rules → Admission → Site → ℕ → ℕ → RwLo
 CallFollowsBy r a s t l p whom told =
     CallFollows r s.lock t l (rwlock_profile a p) (rwlock_deeds a p whom told) (next_row a (rwlock_next a p told))
 
+-- who wakes others behind a downgrade owns what it got by it
+abbrev pub KeepsRight : LockState → ℕ → RwLockPurpose → RwLockAt → Type 0
+KeepsRight s t (purpose.Downgrade d) (at.Wake m to) = Owns s t (wanted (to_of d))
+KeepsRight s t q to = Unit {0}
+
 -- a thread that is there stands at a place of a call of the lock
 pub record IsCalling (r : Rules) (a : Admission) (s : Site) (t : ℕ) (p : RwLockPlace) : Type 0 where
   pub at : IsAt r a s t p
   pub stands : MayStand p
+  pub keeps : KeepsRight s.lock t p.purpose p.at
   pub there : t < length s.lock.shared
 
 abbrev pub IsNotLate : Reply → Type 0
