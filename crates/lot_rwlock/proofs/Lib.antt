@@ -5,3 +5,4 @@ pub mod RwLockOwners
 pub mod RwLockCallRights
 pub mod RwLockCalls
 pub mod RwLockCallSections
+pub mod RwLockCallPlaces
