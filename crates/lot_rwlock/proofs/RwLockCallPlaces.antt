@@ -28,7 +28,12 @@ use Rattle.lot_rwlock.specs.declared.park.ParkAt.TheVariants as parking
 use Rattle.lot_rwlock.specs.declared.release.WakeAt.{WakeAt}
 use Rattle.lot_rwlock.specs.declared.release.WakeAt.TheVariants as waking
 use Rattle.lot_rwlock.specs.RwLockSteps.{entered, goes, counted, wanted, to_of, patience_of, waits, decision_blocked, decision, decided, is_counted, plus, stays, missed, looked_by, looked, came_in, exchanged_next, wakes, wakes_or_ends, park_next, wake_next, rwlock_next}
-use Rattle.lot_rwlock.specs.RwLockCalls.{MayWait, HasDeadline, ParksBy, EntersAt, SharesAt, WritesAt, ReleasesAt, DowngradesAt, UpgradesAt, StandsAt, MayStandNext, MayBeTold, RwLockCallsStand}
+use Rattle.lot_rwlock.specs.RwLockCalls.{MayWait, HasDeadline, ParksBy, EntersAt, SharesAt, WritesAt, ReleasesAt, DowngradesAt, UpgradesAt, StandsAt, MayStandNext, MayBeTold, RwLockCallsStand, CallBecomes, SleepersHear, RwLockSleepersHear}
+use Rattle.lot_acts.specs.Calls.{call_by}
+use Rattle.lot_acts.specs.Profiles.{hand}
+use Rattle.lot_rwlock.specs.RwLockProfiles.{rwlock_profile, hand_at, late_line_at}
+use Rattle.abstract_locks.specs.Locks.{Rights}
+use Rattle.abstract_locks.specs.Runs.{CallState}
 use Rattle.abstract_locks.specs.Codes.{count_in, has_parked, has_aside, is_blocked}
 
 module _ (a : Admission) where
@@ -276,3 +281,98 @@ rwlock_calls_stand a p told stands may = by_purpose p.purpose p.retries p.at sta
     by_purpose (purpose.Upgrade Patient) again to fits may = patient_stands a again to told fits may
     by_purpose (purpose.Upgrade Timed) again to fits may = timed_stands a again to told fits may
     by_purpose (purpose.Upgrade Try) again to fits may = tries_stand a again to told fits may
+
+-- ---------------------------------------------------------------- threads asleep
+
+module _ (a : Admission) (l : ℕ) where
+  -- where a thread stands then is one place
+  becomes : (p n : RwLockPlace) (told : Reply) (f : CallState → CallState) → rwlock_next a p told ≡ next.At n → ((rights : ℕ → Rights) → call_by l (rwlock_profile a n) rights ≡ f (call_by l (rwlock_profile a p) rights)) → CallBecomes a l p told f
+  becomes p n told f is same p2 rights e = let there : p2 ≡ n = cc in subst (λ q. call_by l (rwlock_profile a q) rights ≡ f (call_by l (rwlock_profile a p) rights)) (sym there) (same rights)
+
+  abbrev again_then : CallState → CallState
+  again_then c = record c { retries = Some l }
+
+  abbrev late_then : CallState → CallState
+  late_then c = record c { late = true }
+
+  abbrev taken_to : ℕ → RwLockAt → RwLockAt
+  taken_to u (at.Park parking.Asleep) = at.Park (parking.Taken u)
+  taken_to u (at.Aside parking.Asleep) = at.Aside (parking.Taken u)
+  taken_to u to = to
+
+  takes : (q : RwLockPurpose) (again : Bool) (to : RwLockAt) (u : ℕ) → rwlock_next a (of a q again to) (reply.TakenBy u) ≡ next.At (of a q again (taken_to u to))
+  takes q again (at.Park parking.Asleep) u = refl
+  takes q again (at.Park to) u = refl
+  takes q again (at.Aside parking.Asleep) u = refl
+  takes q again (at.Aside to) u = refl
+  takes q again (at.Wake m waking.Enter) u = refl
+  takes q again (at.Wake m to) u = refl
+  takes q again (at.Decide seen) u = refl
+  takes q again to u = refl
+
+  taken_same : (q : RwLockPurpose) (again : Bool) (to : RwLockAt) (u : ℕ) (rights : ℕ → Rights) → call_by l (rwlock_profile a (of a q again (taken_to u to))) rights ≡ call_by l (rwlock_profile a (of a q again to)) rights
+  taken_same (purpose.Enter x how) again (at.Park parking.Asleep) u rights = refl
+  taken_same (purpose.Release x) again (at.Park parking.Asleep) u rights = refl
+  taken_same (purpose.Downgrade d) again (at.Park parking.Asleep) u rights = refl
+  taken_same (purpose.Upgrade how) again (at.Park parking.Asleep) u rights = refl
+  taken_same (purpose.Enter x how) again (at.Aside parking.Asleep) u rights = refl
+  taken_same (purpose.Release x) again (at.Aside parking.Asleep) u rights = refl
+  taken_same (purpose.Downgrade d) again (at.Aside parking.Asleep) u rights = refl
+  taken_same (purpose.Upgrade how) again (at.Aside parking.Asleep) u rights = refl
+  taken_same q again (at.Park to) u rights = refl
+  taken_same q again (at.Aside to) u rights = refl
+  taken_same q again to u rights = refl
+
+  -- who was taken, and is woken, tries again
+  wakes_up : (q : RwLockPurpose) (again : Bool) (to : RwLockAt) (u : ℕ) → hand_at to ≡ hand u false → CallBecomes a l (of a q again to) (reply.Woken note.Normal) (λ c. record c { retries = Some l })
+  wakes_up q again (at.Park (parking.Taken v)) u h = becomes (of a q again (at.Park (parking.Taken v))) (of a q true at.Load) (reply.Woken note.Normal) again_then refl (by_purpose q)
+    where
+      by_purpose : (q : RwLockPurpose) (rights : ℕ → Rights) → call_by l (rwlock_profile a (of a q true at.Load)) rights ≡ record (call_by l (rwlock_profile a (of a q again (at.Park (parking.Taken v)))) rights) { retries = Some l }
+      by_purpose (purpose.Enter x how) rights = refl
+      by_purpose (purpose.Release x) rights = refl
+      by_purpose (purpose.Downgrade d) rights = refl
+      by_purpose (purpose.Upgrade how) rights = refl
+  wakes_up q again (at.Aside (parking.Taken v)) u h = becomes (of a q again (at.Aside (parking.Taken v))) (of a q true at.Look) (reply.Woken note.Normal) again_then refl (by_purpose q)
+    where
+      by_purpose : (q : RwLockPurpose) (rights : ℕ → Rights) → call_by l (rwlock_profile a (of a q true at.Look)) rights ≡ record (call_by l (rwlock_profile a (of a q again (at.Aside (parking.Taken v)))) rights) { retries = Some l }
+      by_purpose (purpose.Enter x how) rights = refl
+      by_purpose (purpose.Release x) rights = refl
+      by_purpose (purpose.Downgrade d) rights = refl
+      by_purpose (purpose.Upgrade how) rights = refl
+  wakes_up q again (at.Park to) u h = absurd cc
+  wakes_up q again (at.Aside to) u h = absurd cc
+  wakes_up q again to u h = absurd cc
+
+  -- and whose time is up is late
+  is_late_then : (q : RwLockPurpose) (again : Bool) (to : RwLockAt) → StandsAt q again to → late_line_at (patience_of q) to ≢ None → CallBecomes a l (of a q again to) reply.Late (λ c. record c { late = true })
+  is_late_then (purpose.Enter x how) again (at.Park parking.Asleep) fits may = becomes (of a (purpose.Enter x how) again (at.Park parking.Asleep)) (of a (purpose.Enter x how) again (at.Park parking.Remove)) reply.Late late_then refl (λ rights. refl)
+  is_late_then (purpose.Enter x how) again (at.Aside parking.Asleep) fits may = becomes (of a (purpose.Enter x how) again (at.Aside parking.Asleep)) (of a (purpose.Enter x how) again (at.Aside parking.Remove)) reply.Late late_then refl (λ rights. refl)
+  is_late_then (purpose.Upgrade how) again (at.Aside parking.Asleep) fits may = becomes (of a (purpose.Upgrade how) again (at.Aside parking.Asleep)) (of a (purpose.Upgrade how) again (at.Aside parking.Remove)) reply.Late late_then refl (λ rights. refl)
+  is_late_then (purpose.Upgrade how) again (at.Park parking.Asleep) fits may = absurd (nowhere how fits)
+    where
+      nowhere : (y : Patience) → UpgradesAt y again (at.Park parking.Asleep) → ⊥
+      nowhere Patient f = f
+      nowhere Timed f = f
+      nowhere Try f = f
+  is_late_then (purpose.Release x) again (at.Park to) fits may = absurd (may (never to))
+    where
+      never : (to : ParkAt) → late_line_at Patient (at.Park to) ≡ None
+      never parking.Asleep = refl
+      never to = refl
+  is_late_then (purpose.Release x) again (at.Aside to) fits may = absurd (may (never to))
+    where
+      never : (to : ParkAt) → late_line_at Patient (at.Aside to) ≡ None
+      never parking.Asleep = refl
+      never to = refl
+  is_late_then (purpose.Downgrade d) again (at.Park to) fits may = absurd fits
+  is_late_then (purpose.Downgrade d) again (at.Aside to) fits may = absurd fits
+  is_late_then q again (at.Park to) fits may = absurd (may refl)
+  is_late_then q again (at.Aside to) fits may = absurd (may refl)
+  is_late_then q again to fits may = absurd (may refl)
+
+pub rwlock_sleepers_hear : RwLockSleepersHear
+rwlock_sleepers_hear a l p stands = record {
+  taken = λ u. becomes a l p (of a p.purpose p.retries (taken_to a l u p.at)) (reply.TakenBy u) (λ c. c) (takes a l p.purpose p.retries p.at u) (taken_same a l p.purpose p.retries p.at u);
+  woken = λ u h. wakes_up a l p.purpose p.retries p.at u h;
+  late = λ may. is_late_then a l p.purpose p.retries p.at stands may;
+}
