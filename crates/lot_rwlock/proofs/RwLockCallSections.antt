@@ -76,16 +76,28 @@ module _ (r : Rules) (a : Admission) (s : Site) (t l : ℕ) (admits : Admits r a
     enterer to = of (purpose.Enter x how) again to
 
     parks_tell : (to : ParkAt) (told : Reply) (finds : Bool) → ParksBy how to → IsNotLate told → MayHearParking r s t Main finds to told → Tells (enterer (at.Park to)) (park_deeds (Case (Park (wanted x))) Main to told) (park_next (enterer (at.Park to)) Main to told)
-    parks_tell parking.Check (reply.Parked true) finds by now hears = record { one = tt; may = ((refl, (refl, can_wait how by)), tt); comes = λ rights e i.
-        record (call_by l (rwlock_profile a (enterer (at.Park parking.Check))) rights) { former = λ k. goes l t s.lock s.lock (purpose.Enter x how) (at.Park parking.Check) (at.Park (parking.Leave true)) rights e refl k i; retries = parked_ends again i } }
-    parks_tell parking.Check (reply.Parked false) finds by now hears = record { one = tt; may = tt; comes = λ rights e i.
-        record (call_by l (rwlock_profile a (enterer (at.Park parking.Check))) rights) { former = λ k. goes l t s.lock s.lock (purpose.Enter x how) (at.Park parking.Check) (at.Park (parking.Leave false)) rights e refl k i; retries = unparked_stays again i } }
+    parks_tell parking.Check (reply.Parked true) finds by now hears = record {
+      one = tt;
+      may = ((refl, (refl, can_wait how by)), tt);
+      comes = λ rights e i.
+          record (call_by l (rwlock_profile a (enterer (at.Park parking.Check))) rights) { former = λ k. goes l t s.lock s.lock (purpose.Enter x how) (at.Park parking.Check) (at.Park (parking.Leave true)) rights e refl k i; retries = parked_ends again i };
+    }
+    parks_tell parking.Check (reply.Parked false) finds by now hears = record {
+      one = tt;
+      may = tt;
+      comes = λ rights e i.
+          record (call_by l (rwlock_profile a (enterer (at.Park parking.Check))) rights) { former = λ k. goes l t s.lock s.lock (purpose.Enter x how) (at.Park parking.Check) (at.Park (parking.Leave false)) rights e refl k i; retries = unparked_stays again i };
+    }
     parks_tell (parking.Leave true) reply.Done finds by now hears = record { one = tt; may = tt; comes = λ rights e. recalls _ _ (goes l t s.lock s.lock (purpose.Enter x how) (at.Park (parking.Leave true)) (at.Park parking.Asleep) rights e refl) }
     parks_tell (parking.Leave false) reply.Done finds by now hears = record { one = tt; may = tt; comes = λ rights e. recalls _ _ (goes l t s.lock s.lock (purpose.Enter x how) (at.Park (parking.Leave false)) at.Load rights e refl) }
     parks_tell parking.Remove (reply.Removed true) finds by now hears = record { one = tt; may = ((refl, (is_timed how by, refl)), refl); comes = λ rights e. recalls _ _ (goes l t s.lock (after_case r Late s.lock t) (purpose.Enter x how) (at.Park parking.Remove) (at.Park parking.Clear) rights e refl) }
     parks_tell parking.Remove (reply.Removed false) finds by now hears = record { one = tt; may = ((refl, (is_timed how by, refl)), refl); comes = λ rights e. recalls _ _ (goes l t s.lock (after_case r Late s.lock t) (purpose.Enter x how) (at.Park parking.Remove) (at.Park parking.GiveUp) rights e refl) }
-    parks_tell parking.GiveUp reply.Done finds by now hears = record { one = tt; may = tt; comes = λ w rights ruled now e has.
-        subst (λ y. EntersAnswer w t (call_by l (rwlock_profile a (enterer (at.Park parking.GiveUp))) rights) l (wanted x) y No) (sym (is_timed how by)) (refl, keeps l t s.lock s.lock (purpose.Enter x how) (at.Park parking.GiveUp) r w rights ruled now e has refl) }
+    parks_tell parking.GiveUp reply.Done finds by now hears = record {
+      one = tt;
+      may = tt;
+      comes = λ w rights ruled now e has.
+          subst (λ y. EntersAnswer w t (call_by l (rwlock_profile a (enterer (at.Park parking.GiveUp))) rights) l (wanted x) y No) (sym (is_timed how by)) (refl, keeps l t s.lock s.lock (purpose.Enter x how) (at.Park parking.GiveUp) r w rights ruled now e has refl);
+    }
     parks_tell parking.Asleep reply.Late finds by now hears = absurd now
     parks_tell to told finds by now hears = absurd hears
 
@@ -96,10 +108,18 @@ module _ (r : Rules) (a : Admission) (s : Site) (t l : ℕ) (admits : Admits r a
     writer to = of (purpose.Enter access.Exclusive how) again to
 
     aside_tells : (to : ParkAt) (told : Reply) (finds : Bool) → ParksBy how to → IsNotLate told → MayHearParking r s t Second finds to told → Tells (writer (at.Aside to)) (park_deeds (Case Aside) Second to told) (park_next (writer (at.Aside to)) Second to told)
-    aside_tells parking.Check (reply.Parked true) finds by now hears = record { one = tt; may = ((refl, refl), tt); comes = λ rights e i.
-        record (call_by l (rwlock_profile a (writer (at.Aside parking.Check))) rights) { former = λ k. goes l t s.lock (after_case r Aside s.lock t) (purpose.Enter access.Exclusive how) (at.Aside parking.Check) (at.Aside (parking.Leave true)) rights e refl k i; retries = parked_ends again i } }
-    aside_tells parking.Check (reply.Parked false) finds by now hears = record { one = tt; may = tt; comes = λ rights e i.
-        record (call_by l (rwlock_profile a (writer (at.Aside parking.Check))) rights) { former = λ k. goes l t s.lock s.lock (purpose.Enter access.Exclusive how) (at.Aside parking.Check) (at.Aside (parking.Leave false)) rights e refl k i; retries = unparked_stays again i } }
+    aside_tells parking.Check (reply.Parked true) finds by now hears = record {
+      one = tt;
+      may = ((refl, refl), tt);
+      comes = λ rights e i.
+          record (call_by l (rwlock_profile a (writer (at.Aside parking.Check))) rights) { former = λ k. goes l t s.lock (after_case r Aside s.lock t) (purpose.Enter access.Exclusive how) (at.Aside parking.Check) (at.Aside (parking.Leave true)) rights e refl k i; retries = parked_ends again i };
+    }
+    aside_tells parking.Check (reply.Parked false) finds by now hears = record {
+      one = tt;
+      may = tt;
+      comes = λ rights e i.
+          record (call_by l (rwlock_profile a (writer (at.Aside parking.Check))) rights) { former = λ k. goes l t s.lock s.lock (purpose.Enter access.Exclusive how) (at.Aside parking.Check) (at.Aside (parking.Leave false)) rights e refl k i; retries = unparked_stays again i };
+    }
     aside_tells (parking.Leave true) reply.Done finds by now hears = record { one = tt; may = tt; comes = λ rights e. recalls _ _ (goes l t s.lock s.lock (purpose.Enter access.Exclusive how) (at.Aside (parking.Leave true)) (at.Aside parking.Asleep) rights e refl) }
     aside_tells (parking.Leave false) reply.Done finds by now hears = record { one = tt; may = tt; comes = λ rights e. recalls _ _ (goes l t s.lock s.lock (purpose.Enter access.Exclusive how) (at.Aside (parking.Leave false)) (at.Look) rights e refl) }
     aside_tells parking.Remove (reply.Removed none_left) finds by now hears = record { one = tt; may = ((refl, (is_timed how by, refl)), refl); comes = λ rights e. recalls _ _ (goes l t s.lock (after_case r Late s.lock t) (purpose.Enter access.Exclusive how) (at.Aside parking.Remove) (at.Aside parking.Clear) rights e refl) }
@@ -111,10 +131,18 @@ module _ (r : Rules) (a : Admission) (s : Site) (t l : ℕ) (admits : Admits r a
     raiser to = of (purpose.Upgrade how) again to
 
     aside_up : (to : ParkAt) (told : Reply) (finds : Bool) → ParksBy how to → IsNotLate told → MayHearParking r s t Second finds to told → Tells (raiser (at.Aside to)) (park_deeds (Case Aside) Second to told) (park_next (raiser (at.Aside to)) Second to told)
-    aside_up parking.Check (reply.Parked true) finds by now hears = record { one = tt; may = ((refl, refl), tt); comes = λ rights e i.
-        record (call_by l (rwlock_profile a (raiser (at.Aside parking.Check))) rights) { former = λ k. goes l t s.lock (after_case r Aside s.lock t) (purpose.Upgrade how) (at.Aside parking.Check) (at.Aside (parking.Leave true)) rights e refl k i; retries = parked_ends again i } }
-    aside_up parking.Check (reply.Parked false) finds by now hears = record { one = tt; may = tt; comes = λ rights e i.
-        record (call_by l (rwlock_profile a (raiser (at.Aside parking.Check))) rights) { former = λ k. goes l t s.lock s.lock (purpose.Upgrade how) (at.Aside parking.Check) (at.Aside (parking.Leave false)) rights e refl k i; retries = unparked_stays again i } }
+    aside_up parking.Check (reply.Parked true) finds by now hears = record {
+      one = tt;
+      may = ((refl, refl), tt);
+      comes = λ rights e i.
+          record (call_by l (rwlock_profile a (raiser (at.Aside parking.Check))) rights) { former = λ k. goes l t s.lock (after_case r Aside s.lock t) (purpose.Upgrade how) (at.Aside parking.Check) (at.Aside (parking.Leave true)) rights e refl k i; retries = parked_ends again i };
+    }
+    aside_up parking.Check (reply.Parked false) finds by now hears = record {
+      one = tt;
+      may = tt;
+      comes = λ rights e i.
+          record (call_by l (rwlock_profile a (raiser (at.Aside parking.Check))) rights) { former = λ k. goes l t s.lock s.lock (purpose.Upgrade how) (at.Aside parking.Check) (at.Aside (parking.Leave false)) rights e refl k i; retries = unparked_stays again i };
+    }
     aside_up (parking.Leave true) reply.Done finds by now hears = record { one = tt; may = tt; comes = λ rights e. recalls _ _ (goes l t s.lock s.lock (purpose.Upgrade how) (at.Aside (parking.Leave true)) (at.Aside parking.Asleep) rights e refl) }
     aside_up (parking.Leave false) reply.Done finds by now hears = record { one = tt; may = tt; comes = λ rights e. recalls _ _ (goes l t s.lock s.lock (purpose.Upgrade how) (at.Aside (parking.Leave false)) (at.Look) rights e refl) }
     aside_up parking.Remove (reply.Removed none_left) finds by now hears = record { one = tt; may = ((refl, (is_timed how by, refl)), refl); comes = λ rights e. recalls _ _ (goes l t s.lock (after_case r Late s.lock t) (purpose.Upgrade how) (at.Aside parking.Remove) (at.Aside parking.Clear) rights e refl) }

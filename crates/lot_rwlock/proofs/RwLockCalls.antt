@@ -180,7 +180,6 @@ module _ (r : Rules) (a : Admission) (s : Site) (t l : ℕ) (op : Op) (admits : 
     decides was fits decisions.Mark e = marks was fits (v == was)
     decides was fits decisions.Park e = looks (at.Decide was) tt fits
     decides was fits (decisions.Refuse ans) e = looks (at.Decide was) tt fits
-
     -- ---------------------------------------------------------------- a writer
 
   module _ (how : Patience) (again : Bool) where
@@ -307,10 +306,18 @@ module _ (r : Rules) (a : Admission) (s : Site) (t l : ℕ) (op : Op) (admits : 
     lowers : Owns s.lock t (wanted (from_of d)) → MayConvert (wanted (from_of d)) (wanted (to_of d)) → wanted (to_of d) ≢ Exclusive
         → after_case r (Convert (wanted (from_of d)) (wanted (to_of d))) s.lock t ≡ with_owner t (wanted (to_of d)) (without_owner t (wanted (from_of d)) s.lock)
         → (b : Bool) → Tells (lowerer at.GiveWay) (does_and_wakes b (Case (Convert (wanted (from_of d)) (wanted (to_of d))))) (wakes_or_ends (lowerer at.GiveWay) Main b)
-    lowers own may less leads true = record { one = tt; may = ((refl, (refl, refl)), tt); comes = λ rights e. recalls _ _ (goes l t s.lock (after_case r (Convert (wanted (from_of d)) (wanted (to_of d))) s.lock t) (purpose.Downgrade d) at.GiveWay (wakes Main) rights e
-        (ap (λ z. with_right (wanted (from_of d)) (without_right (wanted (to_of d)) (rights_of z t))) leads ∙ lowered s.lock t (wanted (from_of d)) (wanted (to_of d)) r h.state own may less (λ f. there))) }
-    lowers own may less leads false = record { one = tt; may = ((refl, (refl, refl)), tt); comes = λ w rights ruled now e has. replaces l t s.lock (after_case r (Convert (wanted (from_of d)) (wanted (to_of d))) s.lock t) (purpose.Downgrade d) at.GiveWay r w rights ruled now e has (wanted (from_of d)) (wanted (to_of d))
-        (ap (λ z. with_right (wanted (from_of d)) (rights_of z t)) leads ∙ replaced s.lock t (wanted (from_of d)) (wanted (to_of d)) r h.state own may less (λ f. there)) }
+    lowers own may less leads true = record {
+      one = tt;
+      may = ((refl, (refl, refl)), tt);
+      comes = λ rights e. recalls _ _ (goes l t s.lock (after_case r (Convert (wanted (from_of d)) (wanted (to_of d))) s.lock t) (purpose.Downgrade d) at.GiveWay (wakes Main) rights e
+          (ap (λ z. with_right (wanted (from_of d)) (without_right (wanted (to_of d)) (rights_of z t))) leads ∙ lowered s.lock t (wanted (from_of d)) (wanted (to_of d)) r h.state own may less (λ f. there)));
+    }
+    lowers own may less leads false = record {
+      one = tt;
+      may = ((refl, (refl, refl)), tt);
+      comes = λ w rights ruled now e has. replaces l t s.lock (after_case r (Convert (wanted (from_of d)) (wanted (to_of d))) s.lock t) (purpose.Downgrade d) at.GiveWay r w rights ruled now e has (wanted (from_of d)) (wanted (to_of d))
+          (ap (λ z. with_right (wanted (from_of d)) (rights_of z t)) leads ∙ replaced s.lock t (wanted (from_of d)) (wanted (to_of d)) r h.state own may less (λ f. there));
+    }
 
     clears_lower : (any : Bool) → Tells (lowerer (at.Wake Main (waking.Clear any))) (Clear Main ∷ []) (next.At (lowerer (at.Wake Main (waking.Leave any))))
     clears_lower any = record { one = tt; may = tt; comes = λ rights e. recalls _ _ (goes l t s.lock s.lock (purpose.Downgrade d) (at.Wake Main (waking.Clear any)) (at.Wake Main (waking.Leave any)) rights e refl) }
@@ -351,10 +358,18 @@ module _ (r : Rules) (a : Admission) (s : Site) (t l : ℕ) (op : Op) (admits : 
 
     -- it owns where it saw one reader, itself
     owns_it : (to : RwLockAt) → to ≡ at.GiveWay ⊎ ((was : ℕ) × (to ≡ at.Decide was)) → Owns s.lock t Upgradable → (count_in v == 1) ≡ true → Tells (raiser to) (Case (Convert Upgradable Exclusive) ∷ End ∷ []) (next.End (entered how))
-    owns_it at.GiveWay is own e = record { one = tt; may = ((refl, (refl, refl)), tt); comes = λ w rights ruled now f has. raises l t s.lock upgraded (purpose.Upgrade how) at.GiveWay r w rights ruled now f has (by_case (Convert Upgradable Exclusive) (raiser at.GiveWay) rights) refl Upgradable Exclusive how
-        (ap (λ z. with_right Upgradable (rights_of z t)) (owns_then (alone_when own e)) ∙ raised s.lock t r h.state own) }
-    owns_it (at.Decide was) is own e = record { one = tt; may = ((refl, (refl, refl)), tt); comes = λ w rights ruled now f has. raises l t s.lock upgraded (purpose.Upgrade how) (at.Decide was) r w rights ruled now f has (by_case (Convert Upgradable Exclusive) (raiser (at.Decide was)) rights) refl Upgradable Exclusive how
-        (ap (λ z. with_right Upgradable (rights_of z t)) (owns_then (alone_when own e)) ∙ raised s.lock t r h.state own) }
+    owns_it at.GiveWay is own e = record {
+      one = tt;
+      may = ((refl, (refl, refl)), tt);
+      comes = λ w rights ruled now f has. raises l t s.lock upgraded (purpose.Upgrade how) at.GiveWay r w rights ruled now f has (by_case (Convert Upgradable Exclusive) (raiser at.GiveWay) rights) refl Upgradable Exclusive how
+          (ap (λ z. with_right Upgradable (rights_of z t)) (owns_then (alone_when own e)) ∙ raised s.lock t r h.state own);
+    }
+    owns_it (at.Decide was) is own e = record {
+      one = tt;
+      may = ((refl, (refl, refl)), tt);
+      comes = λ w rights ruled now f has. raises l t s.lock upgraded (purpose.Upgrade how) (at.Decide was) r w rights ruled now f has (by_case (Convert Upgradable Exclusive) (raiser (at.Decide was)) rights) refl Upgradable Exclusive how
+          (ap (λ z. with_right Upgradable (rights_of z t)) (owns_then (alone_when own e)) ∙ raised s.lock t r h.state own);
+    }
     owns_it to is own e = absurd (elim is [ inl f ↦ cc | inr f ↦ (let g = f.1 in cc) ])
 
     gives_up_right : Owns s.lock t Upgradable → again ≡ false → (b : Bool) → (count_in v == 1) ≡ b → Tells (raiser at.GiveWay) (does_and_wakes (not b) (Case (Convert Upgradable Exclusive))) (if b then next.End (entered how) else goes_to (raiser at.GiveWay) at.Look false)
