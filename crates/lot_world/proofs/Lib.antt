@@ -10,6 +10,7 @@ pub mod StandsKept
 pub mod StandsMoved
 pub mod ActsKept
 pub mod WakesKept
+pub mod TakesKept
 pub mod SitesKept
 pub mod SectionsKept
 pub mod GoneKept
