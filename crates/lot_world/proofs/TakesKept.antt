@@ -14,11 +14,12 @@ use Rattle.abstract_locks.specs.Locks as locks
 use Rattle.abstract_locks.specs.Picks.{queued_of}
 use Rattle.abstract_locks.specs.Sites.{Site, IsSite, Deed, Line, Main, Second}
 use Rattle.abstract_locks.specs.Codes.{code, parked_in, aside_in}
-use Rattle.lot_machine.specs.Machine.{State, place_at, section_at, queue_at, filled_at, word_at, kind_at, places_told}
+use Rattle.lot_calls.specs.declared.kinds.Kind as kind
+use Rattle.lot_machine.specs.Machine.{State, unlocked, shares_at, place_at, section_at, queue_at, filled_at, word_at, kind_at, places_told}
 use Rattle.lot_world.specs.Refinement.{taken_at}
 use Rattle.lot_world.specs.MutexDeeds.{acts}
 use Rattle.lot_world.specs.Stations.{Station, Hand, hand, station, station_at, nowhere, doing_on}
-use Rattle.lot_world.specs.SitesOf.{AllNeeded, TakesOne, Hands, IsSteady, Follows, Goes, Stands, CallsMutex, Lines, SameNumbers, after_acts, rules_at, key_of, stood_in, carried_at, hand_at}
+use Rattle.lot_world.specs.SitesOf.{AllNeeded, TakesOne, Hands, IsSteady, Follows, Goes, Stands, CallsMutex, Lines, Sections, SameNumbers, after_acts, rules_at, key_of, stood_in, carried_at, hand_at}
 use Rattle.lot_world.proofs.Glue.{Parts, parts_at, base_at, lock_in, seen_in, same, differ, put_here, put_other, set_puts, past_all, IsOf, doing_elsewhere, taken_elsewhere, station_here, station_elsewhere, nothing_at}
 use Rattle.lot_world.proofs.OneStep.{AreSingle, others_same}
 use Rattle.lot_world.proofs.ActsKept.{AlikeAt, Moves, NoHandOff, ordinary_by, with_line, stood_other, follows_by, lock_by, word_by_lines}
@@ -232,3 +233,95 @@ module _ (w : State) (t l : ℕ) (steady : IsSteady w) (own : IsOf l (place_at w
             | inl g ↦ rw (g, here) (let a : times u taken + times u left ≡ stood_in (station_at (place_at w u) l).stands m = stood u in let b : 1 ≤ times u taken = member_times u taken h in let c : stood_in (station_at (place_at w u) l).stands m ≤ 1 = at_most_one (station_at (place_at w u) l).stands m in omega arith)
             | inr ng ↦ let s = splits.sleeps u h in ap (times u) (others (key_of l n) (other_line l m n ng)) ∙ steady.stands.lines u l n ∙ ap (λ (y : Station). stood_in y.stands n) (station_here l (place_at w u) s.calls ∙ s.was) ∙ stood_other m n ng
           ])
+
+  -- the lock, by those whom t has in hand then
+  module _ (r : Rules) (rules : rules_at w l ≡ r) (none : taken_at (place_at w t) l ≡ None) (none2 : taken_at p2 l ≡ None) where
+    abbrev pub lock_taken : Site
+    lock_taken = record (seen_in r l (with_line (parts_at w l) m left) (place_at w)) {
+      lock = lock_in (with_line (parts_at w l) m left) (locks.taking t (map queued_of taken) (λ u. taken_at (place_at w u) l));
+    }
+
+    taken_now : (u : ℕ) → taken_at (places_now u) l ≡ locks.taking t (map queued_of taken) (λ u. taken_at (place_at w u) l) u
+    taken_now = by_thread (λ u p. taken_at p l ≡ locks.taking t (map queued_of taken) (λ u. taken_at (place_at w u) l) u)
+        (none2 ∙ sym (in_hand_by t ∙ ap (λ b. if b then taken_at (next_place (place_at w t) (TakenBy t)) l else taken_at (place_at w t) l) not_self ∙ none))
+        (λ u nu h. sym (in_hand_by u ∙ ap (λ b. if b then taken_at (next_place (place_at w u) (TakenBy t)) l else taken_at (place_at w u) l) h))
+        (λ u nu h. sym (in_hand_by u ∙ ap (λ b. if b then taken_at (next_place (place_at w u) (TakenBy t)) l else taken_at (place_at w u) l) h))
+      where
+        in_hand_by : (u : ℕ) → locks.taking t (map queued_of taken) (λ u. taken_at (place_at w u) l) u ≡ (if member u taken then taken_at (next_place (place_at w u) (TakenBy t)) l else taken_at (place_at w u) l)
+        in_hand_by u = taking_is t taken (λ u. taken_at (place_at w u) l) (λ u. taken_at (next_place (place_at w u) (TakenBy t)) l) u splits.wants
+
+    take_site : (d : Deed) → AreSingle (d ∷ []) → lock_taken.lock ≡ (after_acts r (acts t (d ∷ [])) (lock_by w l r)).lock → lock_taken.parked ≡ (after_acts r (acts t (d ∷ [])) (lock_by w l r)).parked → lock_taken.aside_parked ≡ (after_acts r (acts t (d ∷ [])) (lock_by w l r)).aside_parked
+        → lock_taken.filled ≡ (after_acts r (acts t (d ∷ [])) (lock_by w l r)).filled → doing_on p2 l ≡ (after_acts r (acts t (d ∷ [])) (lock_by w l r)).doing t → seen_in r l (with_line (parts_at w l) m left) places_now ≡ after_acts r (acts t (d ∷ [])) (lock_by w l r)
+    take_site d single lock parked aside full own_is = λ i. record {
+      lock = ((λ j. lock_in (with_line (parts_at w l) m left) (λ u. taken_now u j)) ∙ lock) i;
+      parked = parked i;
+      aside_parked = aside i;
+      filled = full i;
+      doing = λ u. doing_now u i;
+    }
+      where
+        doing_now : (u : ℕ) → doing_on (places_now u) l ≡ (after_acts r (acts t (d ∷ [])) (lock_by w l r)).doing u
+        doing_now = by_thread (λ u p. doing_on p l ≡ (after_acts r (acts t (d ∷ [])) (lock_by w l r)).doing u) own_is
+            (λ u nu h. (splits.sleeps u h).doing ∙ sym (others_same r (d ∷ []) (lock_by w l r) t u single nu))
+            (λ u nu h. sym (others_same r (d ∷ []) (lock_by w l r) t u single nu))
+
+    -- the deed, and what it makes of the lock
+    module _ (v : State) (el : v.locks ≡ w.locks) (eh : v.shares ≡ w.shares) (es : v.sections ≡ w.sections) (threads : length v.places ≡ length w.places) (places : place_at v ≡ places_now) (here : queue_at v (key_of l m) ≡ left) (others : (key : ℕ) → key ≢ key_of l m → queue_at v key ≡ queue_at w key) where
+      same_lock : (k : ℕ) → base_at v k ≡ base_at w k
+      same_lock k = λ i. record { shared = get_or (eh i) k (replicate (threads i) 0); filled = (get_or (el i) k (unlocked kind.TheVariants.Mutex)).filled }
+
+      here_now : (n : Line) → m ≡ n → parts_at v l ≡ with_line (parts_at w l) n left
+      here_now Main e = λ i. record {
+        base = same_lock l i;
+        word = (get_or (el i) l (unlocked kind.TheVariants.Mutex)).word;
+        owners = (get_or (el i) l (unlocked kind.TheVariants.Mutex)).owners;
+        main = (subst (λ n. queue_at v (key_of l n) ≡ left) e here) i;
+        second = (others (2 * l + 1) (subst (λ n. 2 * l + 1 ≢ key_of l n) (sym e) (λ h. omega arith))) i;
+      }
+      here_now Second e = λ i. record {
+        base = same_lock l i;
+        word = (get_or (el i) l (unlocked kind.TheVariants.Mutex)).word;
+        owners = (get_or (el i) l (unlocked kind.TheVariants.Mutex)).owners;
+        main = (others (2 * l) (subst (λ n. 2 * l ≢ key_of l n) (sym e) (λ h. omega arith))) i;
+        second = (subst (λ n. queue_at v (key_of l n) ≡ left) e here) i;
+      }
+
+      moves : Moves w v l (with_line (parts_at w l) m left) places_now
+      moves = record {
+        here = here_now m refl;
+        others = λ k ne i. record {
+          base = same_lock k i;
+          word = (get_or (el i) k (unlocked kind.TheVariants.Mutex)).word;
+          owners = (get_or (el i) k (unlocked kind.TheVariants.Mutex)).owners;
+          main = (others (key_of k Main) (other_key l k m Main ne)) i;
+          second = (others (key_of k Second) (other_key l k m Second ne)) i;
+        };
+        places = places;
+        kinds = same_kinds;
+        alike = alike;
+        numbers = record { threads = threads; locks = λ i. length (el i); shares = λ i. length (eh i) };
+        sharers = same_sharers m;
+      }
+        where
+          same_kinds : (k : ℕ) → kind_at v k ≡ kind_at w k
+          same_kinds k i = (get_or (el i) k (unlocked kind.TheVariants.Mutex)).kind
+
+          same_sharers : (n : Line) → length (with_line (parts_at w l) n left).base.shared ≡ length (shares_at w l)
+          same_sharers Main = refl
+          same_sharers Second = refl
+
+      word_now : (n : Line) → m ≡ n → (with_line (parts_at w l) n left).word ≡ code r (seen_in r l (with_line (parts_at w l) n left) places_now)
+      word_now Main e = word_by_lines w t l steady own there r rules p2 of fits left (queue_at w (2 * l + 1)) places_now
+      word_now Second e = word_by_lines w t l steady own there r rules p2 of fits (queue_at w (2 * l)) left places_now
+
+      pub take_goes : (station p2).inside ≡ (station (place_at w t)).inside → (station p2).stands ≡ None → (station p2).hand ≡ None → ((b : Bool) → (station p2).carries ≡ Some b → (b ≡ false) × ((u : ℕ) × (has u ≡ true))) → ((u : ℕ) → has u ≡ true → (station p2).carries ≡ Some false)
+          → (d : Deed) → AreSingle (d ∷ []) → NoHandOff (d ∷ []) → AllNeeded r (acts t (d ∷ [])) (lock_by w l r) → lock_taken.lock ≡ (after_acts r (acts t (d ∷ [])) (lock_by w l r)).lock → lock_taken.parked ≡ (after_acts r (acts t (d ∷ [])) (lock_by w l r)).parked
+          → lock_taken.aside_parked ≡ (after_acts r (acts t (d ∷ [])) (lock_by w l r)).aside_parked → lock_taken.filled ≡ (after_acts r (acts t (d ∷ [])) (lock_by w l r)).filled → doing_on p2 l ≡ (after_acts r (acts t (d ∷ [])) (lock_by w l r)).doing t → Goes w v l (acts t (d ∷ []))
+      take_goes inside stands unheld some full d single plain needed lock parked aside filled own_is = record {
+        follows = follows_by w v l (with_line (parts_at w l) m left) places_now moves r rules (acts t (d ∷ [])) (λ h. ordinary_by (length w.places) t (d ∷ []) there plain) (take_site d single lock parked aside filled own_is) needed (word_now m refl);
+        stands = stands_then v places_now places
+            (subst (λ (f : ℕ → Option ℕ). Sections places_now f) (sym (λ i key. get_or (es i) key None)) (sections_same (place_at w) places_now (section_at w) steady.stands.sections (part_now (λ y. y.inside) inside refl)))
+            (lines_now (queue_at v) stands here others)
+            (hands_in w v places_now moves.kinds (hands_now unheld some full))
+            (λ u. calls_in w v (places_now u) moves.kinds (calls_now u));
+      }
