@@ -12,7 +12,7 @@ ghost use Rattle.parking_lot_core.specs.Keys.{AreKeys};
 ghost use Rattle.parking_lot_core.specs.Tokens.{IsTokenOf, Stays, view_of, last_of};
 ghost use Rattle.parking_lot.specs.Paths.{step};
 ghost use Rattle.parking_lot.specs.Words.{AreWordsOf, word_in, kind_in, at_in};
-ghost use Rattle.parking_lot.specs.Stages.{Adds, Awoke, HasKey, HasOneTaken, IsFresh, MayLeave, KeepsIt, IsIn, IsLeft, TookBy, handed, note_of, inside_of, stage_of, waiting_of, entered_now, Needs, Became};
+ghost use Rattle.parking_lot.specs.Stages.{Adds, Awoke, HandsEach, HasKey, IsFresh, IsUngiven, MayLeave, IsIn, IsLeft, TookBy, handed, note_of, inside_of, stage_of, waiting_of, wanted_in, entered_now, Needs, Became};
 
 use crate::taking::{requeue, take_all, take_first, take_picked, tell_wants};
 use crate::words::Words;
@@ -70,7 +70,7 @@ fn stand(lot: &ParkingLot, token: &Token, section: &mut Option<Section>, key: Ke
     }
 }
 
-// One step on the word, with which the lock goes to the thread that was taken. The right to it is laid in that thread's record.
+// One step on the word, with which the lock goes to those who were taken. The right that each of them wants is laid in its record.
 fn hand_over<R: Wait>(
     rt: &R,
     lot: &ParkingLot,
@@ -80,16 +80,19 @@ fn hand_over<R: Wait>(
     op: Op,
 ) -> u64
     requires own { IsTokenOf lot.now token.old × IsWordOf lot.now.words word × IsIn lot.now section.old }
-    requires needs { MayStep word.kind (word_index word.number word.kind) op (view_of token.old).owns × KeepsIt word.kind (word_index word.number word.kind) op (view_of token.old).owns }
-    requires taken { HasOneTaken (inside_of section.old) }
+    requires may { MayStep word.kind (word_index word.number word.kind) op (view_of token.old).owns }
+    requires each { IsUngiven (inside_of section.old)
+        × HandsEach word.kind (word_index word.number word.kind) op (view_of token.old).owns (wanted_in (inside_of section.old)) }
     ensures own { Stays lot.now token.old token.new × IsIn lot.now section.new }
-    ensures became { CodesWith word.kind (word_index word.number word.kind) result (view_of token.old).owns × (stage_of token.new section.new ≡ handed word.kind (word_index word.number word.kind) op result (stage_of token.old section.old)) }
+    ensures coded { CodesWith word.kind (word_index word.number word.kind) result (view_of token.old).owns }
+    ensures handed { stage_of token.new section.new
+        ≡ handed word.kind (word_index word.number word.kind) op result (stage_of token.old section.old) }
     ensures adds { (view_of token.new).steps ≡ (view_of token.old).steps ++ step (word_index word.number word.kind) op result }
 {
     match section {
         Some(inside) => {
             let seen = lot.word(token, word, op);
-            inside.give_next(rt, lot.split_right(token, word, Want::Exclusive));
+            inside.give_each(rt, token, word, op.apply(seen));
             seen
         }
         None => unreachable!(),
@@ -162,11 +165,8 @@ fn take(lot: &ParkingLot, section: &mut Option<Section>, key: Key, whom: Whom) -
 {
     match whom {
         Whom::First => {
-            let (first, none_left) = take_first(lot, section, key);
-            Reply::Took {
-                any: first.is_some(),
-                none_left,
-            }
+            let (any, none_left) = take_first(lot, section, key);
+            Reply::Took { any, none_left }
         }
         Whom::All => {
             let (any, none_left) = take_all(lot, section, key);
