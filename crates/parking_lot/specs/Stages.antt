@@ -8,6 +8,8 @@ use Rattle.lot_base.specs.declared.notes.Note.{Note}
 use Rattle.lot_base.specs.declared.notes.Note.TheVariants.{Normal, HandOff}
 use Rattle.lot_base.specs.declared.ops.Op.{Op}
 use Rattle.lot_base.specs.declared.ops.Op.TheVariants.{Load}
+use Rattle.lot_base.specs.declared.requeues.Requeue.{Requeue}
+use Rattle.lot_base.specs.declared.requeues.Requeue.TheVariants.{TakeOneMoveRest}
 use Rattle.lot_base.specs.declared.wants.Waiter.{Waiter}
 use Rattle.lot_base.specs.declared.wants.Want.{Want}
 use Rattle.lot_words.specs.Rights.{MayHand, owners_given}
@@ -92,6 +94,11 @@ entered_now keys = Some (record { keys = keys; did = Nothing; taken = []; wants 
 abbrev pub first_in : List Waiter → Option Waiter
 first_in [] = None
 first_in (waiter ∷ waiters) = Some waiter
+
+-- whom a requeue takes of a line
+abbrev pub taken_of : Requeue → List Waiter → Option Waiter
+taken_of TakeOneMoveRest line = first_in line
+taken_of _ line = None
 
 abbrev pub listed : Option Waiter → List Waiter
 listed None = []

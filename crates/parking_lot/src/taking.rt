@@ -4,10 +4,10 @@ ghost use Rattle.std.specs.List.{filter};
 ghost use Rattle.lot_base.specs.Lines.{line, lines, without_first, without_key};
 ghost use Rattle.lot_base.specs.Picks.{lock_picked, without_lock_picked};
 ghost use Rattle.lot_base.specs.Requeues.{moved_by, requeued};
-ghost use Rattle.lot_queues.specs.Wants.{wants_of, taken_in_line};
+ghost use Rattle.lot_queues.specs.Wants.{wants_of};
 ghost use Rattle.parking_lot_core.specs.declared.tokens.Did.TheVariants.{TakeFirst, TakeAll, TakePicked};
 ghost use Rattle.parking_lot_core.specs.declared.tokens.Did.TheVariants as did;
-ghost use Rattle.parking_lot.specs.Stages.{HasKey, IsFresh, IsIn, first_in, inside_of, is_there, listed, took_as, waiting_of, wants_taken};
+ghost use Rattle.parking_lot.specs.Stages.{HasKey, IsFresh, IsIn, first_in, inside_of, is_there, listed, taken_of, took_as, waiting_of, wants_taken};
 ghost use Rattle.parking_lot.specs.Takes.{shares, sharers_in, successor_in};
 
 use parking_lot_core::{Key, ParkingLot, Requeue, Section, Want};
@@ -114,8 +114,8 @@ pub(crate) fn requeue(
     how: Requeue,
 ) -> (usize, bool)
     requires { IsIn _lot.now section.old × HasKey from (inside_of section.old) × HasKey to (inside_of section.old) × (from ≢ to) × IsFresh (inside_of section.old) }
-    ensures did { IsIn _lot.now section.new × (inside_of section.new ≡ took_as (did.Requeue from to how) (taken_in_line how (line from (waiting_of section.old))) (inside_of section.old)) }
-    ensures number { result.0 ≡ length (taken_in_line how (line from (waiting_of section.old))) + length (moved_by how (line from (waiting_of section.old))) }
+    ensures did { IsIn _lot.now section.new × (inside_of section.new ≡ took_as (did.Requeue from to how) (listed (taken_of how (line from (waiting_of section.old)))) (inside_of section.old)) }
+    ensures number { result.0 ≡ length (listed (taken_of how (line from (waiting_of section.old)))) + length (moved_by how (line from (waiting_of section.old))) }
     ensures left { (lines (waiting_of section.new) ≡ lines (requeued how from to (waiting_of section.old))) × (result.1 ≡ (length (line from (waiting_of section.new)) == 0)) }
 {
     match section {

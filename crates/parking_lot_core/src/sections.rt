@@ -305,7 +305,14 @@ impl<'a> Section<'a> {
 
     /// Gives the thread at a place among those whom the section took its right to a lock, by what it wants and by the value at
     /// which the word of the lock is left. The right is split off the token.
-    pub fn give_wanted<R: Wait>(&mut self, rt: &R, token: &mut Token, word: Word, left: u64, place: usize)
+    pub fn give_wanted<R: Wait>(
+        &mut self,
+        rt: &R,
+        token: &mut Token,
+        word: Word,
+        left: u64,
+        place: usize,
+    )
         requires own { IsTokenOf self.old.lot.now token.old × IsWordOf self.old.lot.now.words word }
         requires place { place < length (taken_in self.old) }
         requires named { has (named_by word (owner_at word left (wants_in self.old) place)) (view_of token.old).owns ≡ true }
