@@ -1,8 +1,10 @@
 -- What a place says of its thread: all that is asked of a place is read off its profile, and each sort of lock has a row for each place.
-use Rattle.std.specs.Prelude.{ℕ, Bool, Option, Some, None, if◌then◌else◌}
+use Rattle.std.specs.Prelude.{ℕ, Bool, false, Option, Some, None, if◌then◌else◌, ◌==◌}
 use Rattle.lot_base.specs.declared.wants.Want.{Want}
-use Rattle.abstract_locks.specs.Purposes.{Purpose}
-use Rattle.abstract_locks.specs.Sites.{Doing, Line}
+use Rattle.lot_base.specs.declared.wants.Want.TheVariants.{Exclusive}
+use Rattle.abstract_locks.specs.Locks.{Rights, Taken}
+use Rattle.abstract_locks.specs.Purposes.{Purpose, Enters, Try}
+use Rattle.abstract_locks.specs.Sites.{Doing, Line, idle}
 
 -- in whose hand a thread is, and whether it was handed the lock since
 pub data Hand : Type 0 where
@@ -41,7 +43,37 @@ pub record Profile : Type 0 where
   -- its time was up, and it has left the line
   pub late : Bool
   pub gave_up : Bool
-  -- what its call is for, by the lock, and whether it has given its right up, or was handed one
+  -- what its call is for, by the lock, and whether it has given its right up
   pub purpose : ℕ → Purpose
   pub released : Bool
-  pub handed : Bool
+  -- what it owned of each lock as its call of this one began, by what it owns now
+  pub former : ℕ → (ℕ → Rights) → ℕ → Rights
+
+-- the row of a try: each other row is told by what is otherwise
+abbrev pub blank : Profile
+blank = record {
+  doing = idle;
+  stands = None;
+  carries = None;
+  hand = None;
+  wants = None;
+  owes = false;
+  retries = false;
+  spins = false;
+  timed = false;
+  may_be_late = false;
+  late = false;
+  gave_up = false;
+  purpose = λ l. Enters l Exclusive Try;
+  released = false;
+  former = λ l rights. rights;
+}
+
+-- it brings no waiters: only a condition variable does
+abbrev pub bringing_nobody : Profile → Profile
+bringing_nobody row = record row { doing = record row.doing { brings = false; sets = false } }
+
+-- by whom it was taken from a queue of the lock, where it was not handed the lock since
+abbrev pub taken_from : Option Hand → Option Want → Bool → Option Taken
+taken_from (Some (Of u false)) (Some x) here = if here then Some (record { by = u; want = x }) else None
+taken_from held x here = None

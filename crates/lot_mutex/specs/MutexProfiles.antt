@@ -13,7 +13,9 @@ use Rattle.lot_mutex.specs.declared.unlock.UnlockAt.TheVariants as unlock
 use Rattle.lot_mutex.specs.declared.hand_off.HandOffAt.{HandOffAt}
 use Rattle.lot_mutex.specs.declared.hand_off.HandOffAt.TheVariants as hand_off
 use Rattle.lot_mutex.specs.MutexSteps.{is_timed}
-use Rattle.lot_acts.specs.Profiles.{Hand, hand, hand_owner, in_hand, Profile}
+use Rattle.lot_acts.specs.Profiles.{Hand, hand, hand_owner, in_hand, Profile, blank}
+use Rattle.abstract_locks.specs.Locks.{Rights}
+use Rattle.abstract_locks.specs.Runs.{one_more_at, one_less_at}
 use Rattle.abstract_locks.specs.Purposes.{Purpose, Enters, Releases, Bumps, Patient, Timed, Try}
 use Rattle.abstract_locks.specs.Sites.{Doing, Has, Line, Main, idle, found}
 
@@ -42,38 +44,32 @@ entry_purpose l entry.Lock = Enters l Exclusive Patient
 entry_purpose l entry.LockTimed = Enters l Exclusive Timed
 entry_purpose l entry.Bump = Bumps l Exclusive
 
-abbrev pub trying : Profile
-trying = record {
-  doing = idle;
-  stands = None;
-  carries = None;
-  hand = None;
-  wants = None;
-  owes = false;
-  retries = false;
-  spins = false;
-  timed = false;
-  may_be_late = false;
-  late = false;
-  gave_up = false;
-  purpose = λ l. Enters l Exclusive Try;
-  released = false;
-  handed = false;
-}
+-- what it owned before, by what it owns now
+abbrev pub before_release : ℕ → Bool → (ℕ → Rights) → ℕ → Rights
+before_release l released rights = if released then one_more_at l Exclusive rights else rights
+
+abbrev pub before_entry : ℕ → Bool → Bool → (ℕ → Rights) → ℕ → Rights
+before_entry l bumps false rights = before_release l bumps rights
+before_entry l bumps true rights = if bumps then rights else one_less_at l Exclusive rights
+
+abbrev pub was_handed : LockAt → Bool
+was_handed (lock.Handed by) = true
+was_handed lock.Accept = true
+was_handed at = false
 
 abbrev pub lock_row : Bool → Bool → LockAt → Profile
-lock_row timed retries lock.First = record trying { doing = again retries idle }
-lock_row timed retries lock.Load = record trying { doing = again retries idle }
-lock_row timed retries (lock.Decide seen) = record trying { doing = again retries idle; spins = seen == 1 }
-lock_row timed retries lock.Check = record trying { doing = again retries inside; owes = true }
-lock_row timed retries (lock.Leave parked) = record trying { doing = again (if parked then false else retries) inside; stands = if parked then Some Main else None; owes = true }
-lock_row timed retries lock.Asleep = record trying { stands = Some Main; may_be_late = timed }
-lock_row timed retries (lock.Taken by) = record trying { hand = hand by false }
-lock_row timed retries (lock.Handed by) = record trying { doing = owner; hand = hand by true; handed = true }
-lock_row timed retries lock.Accept = record trying { doing = owner; handed = true }
-lock_row timed retries lock.Remove = record trying { doing = inside; stands = Some Main; owes = true; late = true }
-lock_row timed retries lock.Clear = record trying { doing = record inside { empty = Some Main }; owes = true; late = true; gave_up = true }
-lock_row timed retries lock.GiveUp = record trying { doing = inside; owes = true; late = true; gave_up = true }
+lock_row timed retries lock.First = record blank { doing = again retries idle }
+lock_row timed retries lock.Load = record blank { doing = again retries idle }
+lock_row timed retries (lock.Decide seen) = record blank { doing = again retries idle; spins = seen == 1 }
+lock_row timed retries lock.Check = record blank { doing = again retries inside; owes = true }
+lock_row timed retries (lock.Leave parked) = record blank { doing = again (if parked then false else retries) inside; stands = if parked then Some Main else None; owes = true }
+lock_row timed retries lock.Asleep = record blank { stands = Some Main; may_be_late = timed }
+lock_row timed retries (lock.Taken by) = record blank { hand = hand by false }
+lock_row timed retries (lock.Handed by) = record blank { doing = owner; hand = hand by true }
+lock_row timed retries lock.Accept = record blank { doing = owner }
+lock_row timed retries lock.Remove = record blank { doing = inside; stands = Some Main; owes = true; late = true }
+lock_row timed retries lock.Clear = record blank { doing = record inside { empty = Some Main }; owes = true; late = true; gave_up = true }
+lock_row timed retries lock.GiveUp = record blank { doing = inside; owes = true; late = true; gave_up = true }
 
 -- ---------------------------------------------------------------- calls that release
 
@@ -82,39 +78,54 @@ abbrev pub release_purpose : ℕ → Bool → Purpose
 release_purpose l bumps = if bumps then Bumps l Exclusive else Releases l Exclusive true
 
 abbrev pub unlock_row : UnlockAt → Profile
-unlock_row unlock.Subtract = record trying { doing = owner }
-unlock_row unlock.Enter = record trying { doing = record idle { wakes = Some Main }; owes = true; released = true }
-unlock_row unlock.Take = record trying { doing = record inside { wakes = Some Main }; owes = true; released = true }
-unlock_row (unlock.Clear any) = record trying { doing = record carrying { empty = Some Main }; carries = in_hand any false; owes = true; released = true }
-unlock_row (unlock.Leave any) = record trying { doing = carrying; carries = in_hand any false; owes = true; released = true }
+unlock_row unlock.Subtract = record blank { doing = owner }
+unlock_row unlock.Enter = record blank { doing = record idle { wakes = Some Main }; owes = true; released = true }
+unlock_row unlock.Take = record blank { doing = record inside { wakes = Some Main }; owes = true; released = true }
+unlock_row (unlock.Clear any) = record blank { doing = record carrying { empty = Some Main }; carries = in_hand any false; owes = true; released = true }
+unlock_row (unlock.Leave any) = record blank { doing = carrying; carries = in_hand any false; owes = true; released = true }
 
 -- whether nobody is left behind a take
 abbrev pub seen_empty : Bool → Bool → Bool
 seen_empty any none_left = if any then none_left else true
 
 abbrev pub hand_off_row : HandOffAt → Profile
-hand_off_row hand_off.Enter = record trying { doing = owner }
-hand_off_row hand_off.Take = record trying { doing = record owner { inside = Some Main } }
+hand_off_row hand_off.Enter = record blank { doing = owner }
+hand_off_row hand_off.Take = record blank { doing = record owner { inside = Some Main } }
 hand_off_row (hand_off.Store any none_left) =
-    record trying { doing = record carrying { claims = Some (Has Exclusive); empty = found Main (seen_empty any none_left) }; carries = in_hand any false }
-hand_off_row (hand_off.Leave any) = record trying { doing = record inside { carries = true }; carries = in_hand any true; released = true }
+    record blank { doing = record carrying { claims = Some (Has Exclusive); empty = found Main (seen_empty any none_left) }; carries = in_hand any false }
+hand_off_row (hand_off.Leave any) = record blank { doing = record inside { carries = true }; carries = in_hand any true; released = true }
 
 -- ---------------------------------------------------------------- every place
 
 -- a call that enters has nobody in hand
-abbrev pub entering : Entry → Bool → Profile → Profile
-entering e retries row = record row { carries = None; wants = Some Exclusive; retries = retries; timed = is_timed e; purpose = λ l. entry_purpose l e; released = is_bump e }
+abbrev pub entering : Entry → Bool → Bool → Profile → Profile
+entering e retries handed row = record row {
+  carries = None;
+  wants = Some Exclusive;
+  retries = retries;
+  timed = is_timed e;
+  purpose = λ l. entry_purpose l e;
+  released = is_bump e;
+  former = λ l. before_entry l (is_bump e) handed;
+}
 
 -- a call that releases waits for nothing
 abbrev pub leaving : (ℕ → Purpose) → Profile → Profile
-leaving purpose row = record trying { doing = row.doing; carries = row.carries; owes = row.owes; purpose = purpose; released = row.released }
+leaving purpose row = record blank {
+  doing = row.doing;
+  carries = row.carries;
+  owes = row.owes;
+  purpose = purpose;
+  released = row.released;
+  former = λ l. before_release l row.released;
+}
 
 abbrev pub mutex_profile : MutexPlace → Profile
-mutex_profile (Lock e retries at) = entering e retries (lock_row (is_timed e) retries at)
-mutex_profile TryLock = trying
+mutex_profile (Lock e retries at) = entering e retries (was_handed at) (lock_row (is_timed e) retries at)
+mutex_profile TryLock = blank
 mutex_profile (Unlock at) = leaving (λ l. Releases l Exclusive false) (unlock_row at)
-mutex_profile UnlockFair = leaving (λ l. release_purpose l false) (record trying { doing = owner })
-mutex_profile Bump = leaving (λ l. release_purpose l true) (record trying { doing = owner })
+mutex_profile UnlockFair = leaving (λ l. release_purpose l false) (record blank { doing = owner })
+mutex_profile Bump = leaving (λ l. release_purpose l true) (record blank { doing = owner })
 mutex_profile (HandOff bumps at) = leaving (λ l. release_purpose l bumps) (record (hand_off_row at) { owes = true })
 
 -- the thread that took this one and has not left its section yet

@@ -1,5 +1,5 @@
 -- What each place of a reader-writer lock says of its thread: all that is asked of a place is read off its row.
-use Rattle.std.specs.Prelude.{ℕ, Bool, true, false, Option, Some, None, if◌then◌else◌, ◌&&◌, not}
+use Rattle.std.specs.Prelude.{ℕ, Bool, true, false, Option, Some, None, if◌then◌else◌, ◌&&◌, not, ◌-◌, ◌==◌}
 use Rattle.lot_base.specs.declared.keys.Line.{Line}
 use Rattle.lot_base.specs.declared.keys.Line.TheVariants.{Main, Second}
 use Rattle.lot_base.specs.declared.wants.Want.{Want}
@@ -22,6 +22,8 @@ use Rattle.lot_rwlock.specs.RwLockSteps.{wanted, from_of, to_of, patience_of, de
 use Rattle.lot_rwlock.specs.RwLockDeeds.{rwlock_doing}
 use Rattle.lot_acts.specs.Profiles.{Hand, Profile, hand, hand_owner, in_hand}
 use Rattle.abstract_locks.specs.Codes.{has_aside}
+use Rattle.abstract_locks.specs.Locks.{Rights, putting}
+use Rattle.abstract_locks.specs.Runs.{one_more_at, one_less_at}
 use Rattle.abstract_locks.specs.Purposes.{Purpose, Enters, Releases, Converts}
 
 -- ---------------------------------------------------------------- on its way into a queue, and out of it
@@ -137,6 +139,30 @@ abbrev pub has_released : RwLockPurpose → RwLockAt → Bool
 has_released (purposes.Release x) (at.Wake m to) = true
 has_released q to = false
 
+-- a pending writer has its right yet to come
+abbrev pub is_pending : RwLockAt → Bool
+is_pending at.Look = true
+is_pending (at.Count seen) = true
+is_pending (at.Aside to) = true
+is_pending at.RollBack = true
+is_pending to = false
+
+abbrev pub is_waking : RwLockAt → Bool
+is_waking (at.Wake m to) = true
+is_waking to = false
+
+abbrev pub without_pending : ℕ → (ℕ → Rights) → ℕ → Rights
+without_pending l rights = putting rights l (record (rights l) { pending = (rights l).pending - 1 })
+
+-- what it owned of each lock as its call began, by what it owns now
+abbrev pub before : RwLockPurpose → RwLockAt → ℕ → (ℕ → Rights) → ℕ → Rights
+before (purposes.Enter x how) to l rights = if is_pending to then without_pending l rights else rights
+before (purposes.Release x) to l rights = if is_waking to then one_more_at l (wanted x) rights else rights
+before (purposes.Downgrade d) to l rights =
+    if is_waking to then one_more_at l (wanted (from_of d)) (one_less_at l (wanted (to_of d)) rights) else rights
+before (purposes.Upgrade how) to l rights =
+    if is_pending to then one_more_at l Upgradable (without_pending l rights) else rights
+
 abbrev pub is_some : Option Line → Bool
 is_some None = false
 is_some (Some m) = true
@@ -157,7 +183,7 @@ rwlock_profile a p = record {
   gave_up = late_at has_given_up p.purpose p.at;
   purpose = purpose_by p.purpose;
   released = has_released p.purpose p.at;
-  handed = false;
+  former = before p.purpose p.at;
 }
 
 -- ---------------------------------------------------------------- what is asked of a place

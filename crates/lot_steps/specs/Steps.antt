@@ -15,7 +15,8 @@ use Rattle.lot_acts.specs.declared.owners.Owners.{Owners}
 use Rattle.lot_calls.specs.Kinds.{is_fair}
 use Rattle.lot_mutex.specs.MutexSteps.{mutex_first, mutex_right, mutex_act, mutex_next, mutex_owners}
 use Rattle.lot_base.specs.declared.wants.Want.{Want}
-use Rattle.lot_mutex.specs.MutexProfiles.{mutex_taker, mutex_wants, mutex_can_spin, mutex_can_be_late, mutex_owes, mutex_retries}
+use Rattle.lot_acts.specs.Profiles.{Profile, blank, bringing_nobody}
+use Rattle.lot_mutex.specs.MutexProfiles.{mutex_profile, mutex_taker, mutex_wants, mutex_can_spin, mutex_can_be_late, mutex_owes, mutex_retries}
 
 -- where a call of a lock of a kind begins
 abbrev pub first_place : Kind → Call → Place
@@ -33,6 +34,11 @@ is_idle (Mutex lock at) = false
 abbrev pub lock_of : Place → Option ℕ
 lock_of Idle = None
 lock_of (Mutex lock at) = Some lock
+
+-- what a place says of its thread
+abbrev pub profile : Place → Profile
+profile Idle = blank
+profile (Mutex lock at) = bringing_nobody (mutex_profile at)
 
 -- the keys of the lock that a thread calls are numbers
 abbrev pub HasKeys : Place → Type 0

@@ -14,14 +14,16 @@ use Rattle.abstract_locks.specs.Locks.{Taken, HasTakenNobody, keep_from, one_if_
 use Rattle.abstract_locks.specs.Locks as locks
 use Rattle.abstract_locks.specs.Runs.{is_taken_by}
 use Rattle.abstract_locks.specs.Sites.{Line, Main, Second, Has}
-use Rattle.lot_machine.specs.Machine.{State, place_at, word_at, owners_at, section_at, queue_at}
+use Rattle.lot_machine.specs.Machine.{State, place_at, word_at, owners_at, kind_at, section_at, queue_at}
 use Rattle.lot_world.specs.Refinement.{lock_state, taken_at}
 use Rattle.lot_world.specs.MutexPromises.{IsMutexWord}
-use Rattle.lot_world.specs.MutexDeeds.{hand, mutex_doing, mutex_station, nowhere, station, station_at, doing_on}
-use Rattle.lot_world.specs.SitesOf.{IsSteady, carried_at, hand_at, stood_in}
+use Rattle.lot_world.specs.MutexDeeds.{mutex_doing, mutex_station}
+use Rattle.lot_world.specs.Stations.{hand, nowhere, station, station_at, doing_on}
+use Rattle.lot_world.specs.SitesOf.{IsSteady, CallsMutex, rules_at, carried_at, hand_at, stood_in}
 use Rattle.lot_world.proofs.Counts.{without_absent, first_times}
 use Rattle.lot_world.proofs.Glue.{same, doing_here, nothing_at, own_stance, untaken}
-use Rattle.lot_world.proofs.MutexTable.{queued_times}
+use Rattle.lot_world.proofs.MutexTable.{mutex, queued_times}
+use Rattle.lot_world.proofs.StandsMoved.{mutex_rules}
 use Rattle.lot_world.proofs.SitesPromise.{coded_at, first_out}
 
 -- no call of a mutex waits aside
@@ -55,8 +57,12 @@ stood places u l m h = elim (cases_lt u (length places)) [
 
 module _ (w : State) (steady : IsSteady w) where
   -- the word says whether the mutex is owned
-  pub coded : (l : ℕ) → IsMutexWord (word_at w l) (owners_at w l).exclusive
+  pub coded : (l : ℕ) → rules_at w l ≡ mutex → IsMutexWord (word_at w l) (owners_at w l).exclusive
   coded = coded_at w steady
+
+  -- of a lock that a thread calls
+  pub coded_for : (t l : ℕ) (at : MutexPlace) → place_at w t ≡ Mutex l at → IsMutexWord (word_at w l) (owners_at w l).exclusive
+  coded_for t l at is = coded l (mutex_rules (kind_at w l) (let c : CallsMutex w (Mutex l at) = rw is at (steady.stands.calls t) in c))
 
   -- who has nobody in hand by its place
   pub taken_nobody : (t l : ℕ) → (doing_on (place_at w t) l).carries ≡ false → HasTakenNobody (lock_state w l) t

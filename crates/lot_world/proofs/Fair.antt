@@ -41,7 +41,7 @@ use Rattle.abstract_locks.specs.Locks.{LockState, Queued, Rules, Rights, Taken, 
 use Rattle.abstract_locks.specs.Locks as locks
 use Rattle.abstract_locks.specs.Runs.{LocksState, CallState, Event, Nothing, AtLock, AreLockStates, GoesOn, Stays, Does, MayHappen, IsStep, Turned, rules_at, locks_after}
 use Rattle.lot_world.specs.Refinement.{lock_state, locks_of, call_state, owner_at}
-use Rattle.lot_world.specs.Fair.{IsFairRelease, OwnsOn, HandsOver, LetsGo, IsFair}
+use Rattle.lot_world.specs.Fair.{ReleasesFairly, IsFairRelease, OwnsOn, HandsOver, LetsGo, IsFair}
 use Rattle.lot_world.proofs.ExclusiveOwners.{owner_after, exclusive-owners, by_code}
 use Rattle.lot_world.proofs.Glue.{IsTakenAt, is_taken, own_stance, successor_one}
 use Rattle.lot_world.proofs.AtPlaces.{coded as words_coded, in_no_hand}
@@ -49,6 +49,8 @@ use Rattle.lot_world.proofs.TurnsKept.{after_steady}
 use Rattle.lot_world.proofs.Glue.{same}
 use Rattle.lot_world.proofs.MutexTable.{mutex}
 use Rattle.lot_world.proofs.StandsMoved.{mutex_rules}
+use Rattle.lot_world.proofs.KindsKept.{after_kinds}
+use Rattle.abstract_locks.specs.Purposes.{rules_of}
 use Rattle.lot_world.proofs.SitesKept.{unshared_at}
 use Rattle.lot_acts.specs.declared.owners.Owners.{Owners}
 use Rattle.lot_acts.specs.Owners.{with_exclusive}
@@ -262,8 +264,8 @@ fair_mutex w (Mutex k (HandOff false a)) l r fits h = rw (← h.0) fits
 pub is_fair : (w : State) (s : Step) → IsShaped w → IsSteady w → IsFair w (after w s)
 is_fair w s shape steady = record {
   gives = λ t l h. elim (cases_eq s.thread t) [
-    | inl e ↦ told t l (after_gives w t l shape steady h.1 h.0 s e)
-    | inr ne ↦ inl (owned t l (turned_so (λ x y. x.exclusive ≡ Some t → y.exclusive ≡ Some t) (locks_of w) (locks_of (after w s)) s.thread l (λ e. e)
+    | inl e ↦ told t l h (after_gives w t l shape steady h.1 h.0 s e)
+    | inr ne ↦ inl (owned t l h (turned_so (λ x y. x.exclusive ≡ Some t → y.exclusive ≡ Some t) (locks_of w) (locks_of (after w s)) s.thread l (λ e. e)
         (λ c n e. others_keep (rules_at (locks_of w) l) (lock_state w l) t s.thread (all l) e ne c n) s.turn (step_outcome w s) step.1 h.1))
   ];
   takes = λ t l u h. turned_so (λ x y. IsTaken y t u Exclusive → IsTaken x t u Exclusive ⊎ (first_thread x.queue ≡ Some u)) (locks_of w) (locks_of (after w s)) s.thread l (λ e. inl e)
@@ -277,13 +279,15 @@ is_fair w s shape steady = record {
     step : IsStep (locks_of w) s (step_outcome w s) (locks_of (after w s))
     step = after_step w s shape steady
 
-    coded : (l : ℕ) → IsMutexWord (word_at (after w s) l) (owner_at (after w s) l)
-    coded l = words_coded (after w s) (after_steady w s shape steady) l
+    -- a lock that is released fairly is a mutex
+    coded : (t l : ℕ) → ReleasesFairly w t l → IsMutexWord (word_at (after w s) l) (owner_at (after w s) l)
+    coded t l h = words_coded (after w s) (after_steady w s shape steady) l
+        (ap rules_of (after_kinds w s l) ∙ mutex_rules (kind_at w l) (fair_mutex w (place_at w t) l (rights w t) (steady.stands.calls t) h.0))
 
-    owned : (t l : ℕ) → owner_at (after w s) l ≡ Some t → OwnsOn (after w s) t l
-    owned t l e = (e, locked_by (word_at (after w s) l) (owner_at (after w s) l) t (coded l) e)
+    owned : (t l : ℕ) → ReleasesFairly w t l → owner_at (after w s) l ≡ Some t → OwnsOn (after w s) t l
+    owned t l h e = (e, locked_by (word_at (after w s) l) (owner_at (after w s) l) t (coded t l h) e)
 
-    told : (t l : ℕ) → ComesTo w t l (after w s) → OwnsOn (after w s) t l ⊎ (HandsOver w (after w s) t l ⊎ LetsGo w (after w s) t l)
-    told t l (inl e) = inl (owned t l e)
-    told t l (inr (inl h)) = inr (inl (h.0, h.1, h.2, locked_by (word_at (after w s) l) (owner_at (after w s) l) h.0 (coded l) h.2))
-    told t l (inr (inr h)) = inr (inr h)
+    told : (t l : ℕ) → ReleasesFairly w t l → ComesTo w t l (after w s) → OwnsOn (after w s) t l ⊎ (HandsOver w (after w s) t l ⊎ LetsGo w (after w s) t l)
+    told t l fair (inl e) = inl (owned t l fair e)
+    told t l fair (inr (inl h)) = inr (inl (h.0, h.1, h.2, locked_by (word_at (after w s) l) (owner_at (after w s) l) h.0 (coded t l fair) h.2))
+    told t l fair (inr (inr h)) = inr (inr h)

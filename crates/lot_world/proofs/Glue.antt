@@ -21,7 +21,9 @@ use Rattle.lot_mutex.specs.MutexSteps.{is_parked}
 use Rattle.lot_acts.specs.declared.acts.Next.{Next}
 use Rattle.lot_acts.specs.declared.acts.Next as next
 use Rattle.lot_mutex.specs.MutexSteps.{mutex_next}
-use Rattle.lot_steps.specs.Steps.{next_place, taker, mutex_goes}
+use Rattle.lot_base.specs.declared.wants.Want.{Want}
+use Rattle.lot_acts.specs.Profiles.{Hand, Of, taken_from}
+use Rattle.lot_steps.specs.Steps.{next_place, taker, mutex_goes, lock_of, profile}
 use Rattle.lot_base.specs.declared.notes.Note.{Note}
 use Rattle.abstract_locks.specs.Locks.{LockState, Taken, Queued, Rules, TakeFirst, keep_from, let_go, shares_handed, sharing_from, putting}
 use Rattle.std.specs.Prelude.{sum, ◌&&◌, ◌||◌}
@@ -31,7 +33,8 @@ use Rattle.abstract_locks.specs.Sites.{Doing, Has, Site, Main, Begin, Out, Mark,
 use Rattle.lot_machine.specs.Machine.{State, place_at, word_at, owners_at, shares_at, filled_at, queue_at, place_after_telling, state_after_telling, held, shares_in_hand, with_share, shares_given, wants_more_in_hand, successor_or, successor_from, pending_for, owners_of_successor, shares_handed_over, owners_handed_over, state_after_reply, put}
 use Rattle.lot_machine.specs.declared.hands.Successor.{Successor}
 use Rattle.lot_world.specs.Refinement.{lock_seen, taken_at}
-use Rattle.lot_world.specs.MutexDeeds.{Act, Station, hand, mutex_doing, mutex_station, station, station_at, nowhere, calls, doing_on, queued}
+use Rattle.lot_world.specs.MutexDeeds.{Act, mutex_doing, mutex_station, queued}
+use Rattle.lot_world.specs.Stations.{Station, hand, station, station_at, nowhere, is_lock, calls, doing_on}
 use Rattle.lot_world.specs.SitesOf.{site_of, rules_at, after_acts, carried_at, hand_at, Hands}
 
 -- ---------------------------------------------------------------- lists with one element set, as functions
@@ -78,15 +81,33 @@ pub record Base : Type 0 where
 abbrev pub base_at : State → ℕ → Base
 base_at w l = record { shared = shares_at w l; filled = filled_at w l }
 
+-- all that the machine has of a lock, but for its kind
+pub record Parts : Type 0 where
+  pub base : Base
+  pub word : ℕ
+  pub owners : Owners
+  pub main : List Waiter
+  pub second : List Waiter
+
+abbrev pub parts_at : State → ℕ → Parts
+parts_at w l = record { base = base_at w l; word = word_at w l; owners = owners_at w l; main = queue_at w (2 * l); second = queue_at w (2 * l + 1) }
+
+-- the lock by its parts, where these threads are in somebody's hand
+abbrev pub lock_in : Parts → (ℕ → Option Taken) → LockState
+lock_in a taken = lock_seen a.base.shared a.owners a.main a.second taken
+
 -- the site of a lock with these rules, by its parts
-abbrev pub seen_by : Rules → (l : ℕ) → Base → (word : ℕ) → Owners → (main second : List Waiter) → (ℕ → Place) → Site
-seen_by r l n word o main second places = record {
-  lock = lock_seen n.shared o main second (λ u. taken_at (places u) l);
-  parked = parked_in r.sort word;
-  aside_parked = aside_in r.sort word;
-  filled = n.filled;
+abbrev pub seen_in : Rules → ℕ → Parts → (ℕ → Place) → Site
+seen_in r l a places = record {
+  lock = lock_in a (λ u. taken_at (places u) l);
+  parked = parked_in r.sort a.word;
+  aside_parked = aside_in r.sort a.word;
+  filled = a.base.filled;
   doing = λ u. doing_on (places u) l;
 }
+
+abbrev pub seen_by : Rules → (l : ℕ) → Base → (word : ℕ) → Owners → (main second : List Waiter) → (ℕ → Place) → Site
+seen_by r l n word o main second places = seen_in r l (record { base = n; word = word; owners = o; main = main; second = second }) places
 
 -- of a mutex
 abbrev pub seen : (l : ℕ) → Base → (word : ℕ) → Owners → (main second : List Waiter) → (ℕ → Place) → Site
@@ -202,16 +223,33 @@ is_taken p t l h = in_hand p t l false h
 pub is_handed : (p : Place) (t l : ℕ) → hand_at p l ≡ hand t true → IsHandedAt p t l
 is_handed p t l h = in_hand p t l true h
 
+-- who calls another lock is in nobody's hand here
+taken_out : (h : Option Hand) (x : Option Want) → taken_from h x false ≡ None
+taken_out None x = refl
+taken_out (Some (Of u true)) x = refl
+taken_out (Some (Of u false)) None = refl
+taken_out (Some (Of u false)) (Some x) = refl
+
+untaken_by : (t : ℕ) (h : Option Hand) (x : Option Want) → (h ≡ hand t false → ⊥) → Untaken t (taken_from h x true)
+untaken_by t None x none = refl
+untaken_by t (Some (Of u true)) x none = refl
+untaken_by t (Some (Of u false)) None none = refl
+untaken_by t (Some (Of u false)) (Some x) none = either (u == t) refl
+  where
+    held_so : Taken
+    held_so = record { by = u; want = x }
+
+    either : (b : Bool) → (u == t) ≡ b → (if b then None else Some held_so) ≡ Some held_so
+    either false e = refl
+    either true e = absurd (none (ap (λ y. hand y false) (eqb-true u t e)))
+
 -- who isn't in the hand of t
 pub untaken : (p : Place) (t l : ℕ) → (hand_at p l ≡ hand t false → ⊥) → Untaken t (taken_at p l)
-untaken (Mutex k (Lock e retries (lock.Taken by))) t l none = either (k == l) (by == t) refl none
+untaken p t l none = either (calls p l) none
   where
-    either : (b c : Bool) → (by == t) ≡ c → ((if b then mutex_station (Lock e retries (lock.Taken by)) else nowhere).hand ≡ hand t false → ⊥)
-        → keep_from t (if b then Some (record { by = by; want = Exclusive }) else None) ≡ (if b then Some (record { by = by; want = Exclusive }) else None)
-    either false c f free = refl
-    either true false f free = ap (λ x. if x then None else Some (record { by = by; want = Exclusive })) f
-    either true true f free = absurd (free (ap (λ x. hand x false) (eqb-true by t f)))
-untaken p t l none = refl
+    either : (b : Bool) → ((if b then station p else nowhere).hand ≡ hand t false → ⊥) → Untaken t (taken_from (profile p).hand (profile p).wants b)
+    either true free = untaken_by t (profile p).hand (profile p).wants free
+    either false free = ap (keep_from t) (taken_out (profile p).hand (profile p).wants) ∙ sym (taken_out (profile p).hand (profile p).wants)
 
 -- ---------------------------------------------------------------- one thread goes elsewhere
 
@@ -245,10 +283,13 @@ moved l n word o m s p t p2 e = λ i. record (seen l n word o m s p) { lock = lo
     taken_same : (u : ℕ) → taken_at (putting p t p2 u) l ≡ taken_at (p u) l
     taken_same u = put_of (λ x. taken_at x l) p t p2 u ∙ put_same (λ k. taken_at (p k) l) t (taken_at p2 l) e u
 
+abbrev pub IsLock : ℕ → Option ℕ → Type 0
+IsLock l None = Unit {0}
+IsLock l (Some k) = k ≡ l
+
 -- a place of a call of the lock l, or of none
 abbrev pub IsOf : ℕ → Place → Type 0
-IsOf l Idle = Unit {0}
-IsOf l (Mutex k at) = k ≡ l
+IsOf l p = IsLock l (lock_of p)
 
 goes_on : (l k : ℕ) (n : Next MutexPlace) → k ≡ l → IsOf l (mutex_goes k n)
 goes_on l k (next.TheVariants.At at) e = e
@@ -258,23 +299,33 @@ pub next_of : (l : ℕ) (p : Place) (reply : Reply) → IsOf l p → IsOf l (nex
 next_of l Idle reply h = tt
 next_of l (Mutex k at) reply h = goes_on l k (mutex_next at reply) h
 
+-- who calls no lock is idle
+pub calls_none : (p : Place) → lock_of p ≡ None → p ≡ Idle
+calls_none Idle e = refl
+calls_none (Mutex k at) e = absurd cc
+
+calls_other : (l k : ℕ) (o : Option ℕ) → IsLock l o → k ≢ l → is_lock k o ≡ false
+calls_other l k None h ne = refl
+calls_other l k (Some j) h ne = differ j k (λ e. ne (sym e ∙ h))
+
 -- it does nothing about another lock
 pub doing_elsewhere : (l k : ℕ) (p : Place) → IsOf l p → k ≢ l → doing_on p k ≡ idle
-doing_elsewhere l k Idle h ne = refl
-doing_elsewhere l k (Mutex j at) h ne = ap (λ b. if b then mutex_doing at else idle) (differ j k (λ e. ne (sym e ∙ h)))
+doing_elsewhere l k p h ne = ap (λ b. if b then (profile p).doing else idle) (calls_other l k (lock_of p) h ne)
 
 pub taken_elsewhere : (l k : ℕ) (p : Place) → IsOf l p → k ≢ l → taken_at p k ≡ None
-taken_elsewhere l k (Mutex j (Lock e retries (lock.Taken by))) h ne = ap (λ b. if b then Some (record { by = by; want = Exclusive }) else None) (differ j k (λ f. ne (sym f ∙ h)))
-taken_elsewhere l k p h ne = refl
+taken_elsewhere l k p h ne = ap (taken_from (profile p).hand (profile p).wants) (calls_other l k (lock_of p) h ne) ∙ taken_out (profile p).hand (profile p).wants
 
 -- how it stands at a lock, by how it stands at its own
 pub station_is : (l k : ℕ) (p : Place) → IsOf l p → station_at p k ≡ (if l == k then station p else nowhere)
-station_is l k Idle h = either (l == k)
+station_is l k p h = by_lock (lock_of p) refl h
   where
-    either : (b : Bool) → nowhere ≡ (if b then nowhere else nowhere)
-    either true = refl
-    either false = refl
-station_is l k (Mutex j at) h = ap (λ x. if x == k then mutex_station at else nowhere) h
+    out : (b : Bool) → station p ≡ nowhere → nowhere ≡ (if b then station p else nowhere)
+    out true e = sym e
+    out false e = refl
+
+    by_lock : (o : Option ℕ) → lock_of p ≡ o → IsLock l o → (if is_lock k o then station p else nowhere) ≡ (if l == k then station p else nowhere)
+    by_lock None e own = out (l == k) (ap station (calls_none p e))
+    by_lock (Some j) e own = ap (λ x. if x == k then station p else nowhere) own
 
 pub station_here : (l : ℕ) (p : Place) → IsOf l p → station_at p l ≡ station p
 station_here l p h = station_is l l p h ∙ ap (λ b. if b then station p else nowhere) (same l)
@@ -283,18 +334,19 @@ pub station_elsewhere : (l k : ℕ) (p : Place) → IsOf l p → k ≢ l → sta
 station_elsewhere l k p h ne = station_is l k p h ∙ ap (λ b. if b then station p else nowhere) (differ l k (λ e. ne (sym e)))
 
 abbrev pub doing_of : Place → Doing
-doing_of Idle = idle
-doing_of (Mutex k at) = mutex_doing at
+doing_of p = (profile p).doing
 
 pub doing_here : (l : ℕ) (p : Place) → IsOf l p → doing_on p l ≡ doing_of p
-doing_here l Idle h = refl
-doing_here l (Mutex k at) h = ap (λ x. if x == l then mutex_doing at else idle) h ∙ ap (λ b. if b then mutex_doing at else idle) (same l)
+doing_here l p h = by_lock (lock_of p) refl h
+  where
+    by_lock : (o : Option ℕ) → lock_of p ≡ o → IsLock l o → (if is_lock l o then doing_of p else idle) ≡ doing_of p
+    by_lock None e own = sym (ap doing_of (calls_none p e))
+    by_lock (Some j) e own = ap (λ x. if x == l then doing_of p else idle) own ∙ ap (λ b. if b then doing_of p else idle) (same l)
 
 pub inside_is : (p : Place) (l : ℕ) → (doing_on p l).inside ≡ (station_at p l).inside
-inside_is Idle l = refl
-inside_is (Mutex k at) l = either (k == l)
+inside_is p l = either (calls p l)
   where
-    either : (b : Bool) → (if b then mutex_doing at else idle).inside ≡ (if b then mutex_station at else nowhere).inside
+    either : (b : Bool) → (if b then doing_of p else idle).inside ≡ (if b then station p else nowhere).inside
     either true = refl
     either false = refl
 

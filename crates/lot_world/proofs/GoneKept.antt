@@ -35,7 +35,8 @@ use Rattle.lot_machine.specs.Machine.{State, place_at, word_at, owners_at, queue
 use Rattle.lot_machine.specs.Fits.{IsShaped, PlaceFits}
 use Rattle.lot_world.specs.Refinement.{taken_at}
 use Rattle.abstract_locks.specs.Picks.{queued_of}
-use Rattle.lot_world.specs.MutexDeeds.{Station, nowhere, mutex_doing, mutex_station, station, station_at, acts, deeds, mutex_deeds, queued}
+use Rattle.lot_world.specs.MutexDeeds.{mutex_doing, mutex_station, acts, deeds, mutex_deeds, queued}
+use Rattle.lot_world.specs.Stations.{Station, nowhere, station, station_at}
 use Rattle.lot_world.specs.SitesOf.{IsSteady, Goes, stood_in}
 use Rattle.lot_machine.proofs.Shape.{main_line_there, main_key_there}
 use Rattle.lot_world.proofs.Glue.{base_at, same, differ, IsOf, own_stance, inside_is, doing_of, doing_here}

@@ -51,7 +51,8 @@ use Rattle.abstract_locks.specs.Sites.{Main, In, Clear as Clears}
 use Rattle.abstract_locks.specs.Locks.{putting, Rights, rights_of}
 use Rattle.abstract_locks.specs.Runs.{LocksState, CallState, GoesOn, Stays, Does, SectionChanges, MayBegin, MayTurn, HasRight, Turned, IsStep, purpose_at, new_call, is_taken_by, Nothing}
 use Rattle.abstract_locks.specs.Purposes.{purpose_of, mutex_purpose}
-use Rattle.lot_world.specs.MutexDeeds.{hand, mutex_station, deeds}
+use Rattle.lot_world.specs.MutexDeeds.{mutex_station, deeds}
+use Rattle.lot_world.specs.Stations.{hand}
 use Rattle.lot_world.specs.Refinement.{owner_at, lock_state, taken_at, call_state, locks_of, sleeps}
 use Rattle.lot_world.proofs.KindsKept.{after_kinds, calls_mutex}
 use Rattle.std.specs.Prelude.{replicate}

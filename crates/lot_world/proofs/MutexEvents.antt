@@ -170,7 +170,7 @@ module _ (w v : State) (t l : ℕ) (rules : rules_at w l ≡ mutex) where
       → GoesOn (locks_of w) t (outcome_of (mutex_does l (if b then next.End answer.No else next.End answer.Yes))) (locks_of v)
   tries false e gone others = comes_in w v t l TryLock rules gone answer.Yes (refl, refl) others (λ got. got)
   tries true e gone others = quiet w v t l TryLock Idle _ gone refl (outcome.TheVariants.End answer.No) others (λ r. refl)
-      (λ stay. ((λ of_mutex. (rw rules_then tt, λ free. owned_word (word_at w l) (owner_at w l) (coded w gone.before l) e (sym (ap (λ x. x.exclusive) (stay l)) ∙ is_free free)), λ k. ap (λ x. rights_of x t) (stay k)), ends_with_nobody w v t l _ Idle _ gone refl))
+      (λ stay. ((λ of_mutex. (rw rules_then tt, λ free. owned_word (word_at w l) (owner_at w l) (coded w gone.before l rules) e (sym (ap (λ x. x.exclusive) (stay l)) ∙ is_free free)), λ k. ap (λ x. rights_of x t) (stay k)), ends_with_nobody w v t l _ Idle _ gone refl))
     where
       rules_then : rules_at v l ≡ mutex
       rules_then = ap rules_of (gone.goes.follows.kinds l) ∙ rules

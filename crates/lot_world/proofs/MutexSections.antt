@@ -14,7 +14,8 @@ use Rattle.abstract_locks.specs.Locks as locks
 use Rattle.abstract_locks.specs.Sites.{Doing, Has, IsSite, Main, Second, Case}
 use Rattle.lot_world.specs.Refinement.{lock_seen, taken_at}
 use Rattle.abstract_locks.specs.Picks.{queued_of}
-use Rattle.lot_world.specs.MutexDeeds.{hand, mutex_doing, doing_on, acts, queued}
+use Rattle.lot_world.specs.MutexDeeds.{mutex_doing, acts, queued}
+use Rattle.lot_world.specs.Stations.{hand, doing_on}
 use Rattle.lot_world.specs.SitesOf.{AllNeeded}
 use Rattle.lot_world.proofs.Glue.{Base, seen, same, IsTakenAt, Untaken, untaken, hands_acts, handed_is, taken_there}
 use Rattle.lot_world.specs.SitesOf.{hand_at, Hands}

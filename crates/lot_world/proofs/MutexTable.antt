@@ -29,7 +29,8 @@ use Rattle.abstract_locks.specs.Codes as codes
 use Rattle.std.proofs.Math.Bool.{or-false}
 use Rattle.lot_world.specs.Refinement.{lock_seen, taken_at}
 use Rattle.abstract_locks.specs.Picks.{queued_of}
-use Rattle.lot_world.specs.MutexDeeds.{Station, hand, nowhere, owner, mutex_doing, mutex_deeds, mutex_station, station, doing_on, acts}
+use Rattle.lot_world.specs.MutexDeeds.{owner, mutex_doing, mutex_deeds, mutex_station, acts}
+use Rattle.lot_world.specs.Stations.{Station, hand, nowhere, station, doing_on}
 use Rattle.lot_world.specs.MutexDeeds as deeds
 use Rattle.lot_world.specs.SitesOf.{AllNeeded, after_acts}
 pub use Rattle.lot_world.proofs.Glue.{mutex}

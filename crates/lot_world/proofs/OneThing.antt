@@ -37,7 +37,8 @@ use Rattle.lot_machine.proofs.Shape.{both}
 use Rattle.std.specs.Prelude.{nat_lt, length}
 use Rattle.abstract_locks.specs.Sites.{Main}
 use Rattle.lot_mutex.specs.declared.places.MutexPlace.{MutexPlace}
-use Rattle.lot_world.specs.MutexDeeds.{mutex_doing, station_at}
+use Rattle.lot_world.specs.MutexDeeds.{mutex_doing}
+use Rattle.lot_world.specs.Stations.{station_at}
 use Rattle.lot_world.specs.SitesOf.{IsSteady, stood_in}
 use Rattle.lot_world.proofs.Glue.{station_elsewhere}
 use Rattle.lot_world.proofs.AtPlaces.{absent_aside, holds_section}

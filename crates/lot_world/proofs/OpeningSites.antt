@@ -14,7 +14,7 @@ use Rattle.abstract_locks.specs.Purposes.{rules_of}
 use Rattle.abstract_locks.specs.Sites.{IsSite, opening_site, is_full}
 use Rattle.abstract_locks.proofs.LockKeeps.{opening_is_state}
 use Rattle.lot_machine.specs.Machine.{State, opening, unlocked, place_at, kind_at}
-use Rattle.lot_world.specs.MutexDeeds.{nowhere, station_at}
+use Rattle.lot_world.specs.Stations.{nowhere, station_at}
 use Rattle.lot_world.specs.SitesOf.{IsSteady, site_of, rules_at, key_of, carried_at, hand_at}
 use Rattle.lot_world.proofs.Glue.{past_all, seen_by}
 use Rattle.lot_machine.proofs.Opening.{idle_at, none_at, empty_at, nobody_owns, no_readers, opening_shares}
@@ -109,7 +109,6 @@ module _ (kinds : List Kind) (threads : ℕ) where
     sites = record {
       site = λ l. rw (opening_seen l) (rw size (opening_is_site (rules_at first l) threads (room (kind_at first l) threads some (kinds_fit fit l))));
       word = λ l. word_0 kinds l ∙ sym (ap (code (rules_at first l)) (opening_seen l) ∙ zero_code (kind_at first l) (length first.places));
-      unused = λ l h. (word_0 kinds l, ap (λ o. o.exclusive) (nobody_owns kinds l));
       unfilled = λ l h. unfilled_0 kinds l;
     };
     stands = record {

@@ -24,6 +24,7 @@ use Rattle.lot_acts.specs.declared.acts.Wakes.{Wakes}
 use Rattle.lot_acts.specs.declared.acts.Wakes as wakes
 use Rattle.lot_acts.specs.declared.acts.Reply.{Reply}
 use Rattle.lot_acts.specs.declared.acts.Reply.TheVariants.{TakenBy, MovedTo, HandedBy, Woken, Spun, Late}
+use Rattle.lot_mutex.specs.declared.places.MutexPlace.{MutexPlace}
 use Rattle.lot_mutex.specs.declared.places.MutexPlace.TheVariants.{Lock, TryLock, Unlock, UnlockFair, Bump, HandOff}
 use Rattle.lot_mutex.specs.declared.lock.LockAt.{LockAt}
 use Rattle.lot_mutex.specs.declared.lock.LockAt.TheVariants as lock
@@ -63,7 +64,7 @@ use Rattle.lot_world.specs.SitesOf.{IsSteady}
 use Rattle.lot_machine.proofs.Shape.{both, performed_counts}
 use Rattle.lot_world.proofs.TurnsKept.{idle_is}
 use Rattle.lot_world.proofs.Glue.{same}
-use Rattle.lot_world.proofs.AtPlaces.{coded, owns}
+use Rattle.lot_world.proofs.AtPlaces.{coded_for, owns}
 use Rattle.lot_world.proofs.LockEvents.{rights as rights_at}
 
 -- ---------------------------------------------------------------- what befalls another thread
@@ -239,8 +240,8 @@ same_lock k l e = rw e (same l)
 
 module _ (w : State) (t : ℕ) (steady : IsSteady w) where
   -- the word of an owner that isn't 1 says that somebody may wait
-  beside_owner : (k : ℕ) → owner_at w k ≡ Some t → (word_at w k == 1) ≡ false → is_parked (word_at w k) ≡ true
-  beside_owner k own ne = by_code (subst (λ o. IsMutexWord (word_at w k) o) own (coded w steady k))
+  beside_owner : (k : ℕ) (at : MutexPlace) → place_at w t ≡ Mutex k at → owner_at w k ≡ Some t → (word_at w k == 1) ≡ false → is_parked (word_at w k) ≡ true
+  beside_owner k at is own ne = by_code (subst (λ o. IsMutexWord (word_at w k) o) own (coded_for w steady t k at is))
     where
       by_code : IsMutexWord (word_at w k) (Some t) → is_parked (word_at w k) ≡ true
       by_code (inl e) = let f : (1 == 1) ≡ false = rw e at ne in absurd cc
@@ -292,7 +293,7 @@ module _ (w : State) (t : ℕ) (steady : IsSteady w) where
       where
         either : (b : Bool) → (word_at w k == 1) ≡ b → ToWake (mutex_goes k (looked false (not b))) rights l → SeesWaiters w t l (outcome_of (mutex_does k (looked false (not b))))
         either true e h = absurd h.1
-        either false e h = (rw is h.1, ap (λ m. is_parked (word_at w m)) (sym h.1) ∙ beside_owner k (owns w steady t k UnlockFair is refl) e, refl)
+        either false e h = (rw is h.1, ap (λ m. is_parked (word_at w m)) (sym h.1) ∙ beside_owner k UnlockFair is (owns w steady t k UnlockFair is refl) e, refl)
     goes_to_wake (Mutex k Bump) is h = either (is_parked (word_at w k)) refl h
       where
         either : (b : Bool) → is_parked (word_at w k) ≡ b → ToWake (mutex_goes k (looked true b)) rights l → SeesWaiters w t l (outcome_of (mutex_does k (looked true b)))

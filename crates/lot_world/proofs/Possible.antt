@@ -42,7 +42,8 @@ use Rattle.lot_machine.specs.Machine.{State, place_at, queue_at, section_at, is_
 use Rattle.lot_machine.specs.Fits.{IsShaped, PlaceFits}
 use Rattle.lot_machine.proofs.Shape.{main_key_there}
 use Rattle.abstract_locks.specs.Sites.{Main}
-use Rattle.lot_world.specs.MutexDeeds.{mutex_doing, station, station_at}
+use Rattle.lot_world.specs.MutexDeeds.{mutex_doing}
+use Rattle.lot_world.specs.Stations.{station, station_at}
 use Rattle.lot_world.specs.SitesOf.{IsSteady, stood_in}
 use Rattle.lot_world.specs.Refinement.{lock_state, locks_of, call_state, sleeps, runs_closure, keys_entered}
 use Rattle.lot_world.proofs.Glue.{nothing_at, same}

@@ -27,7 +27,8 @@ use Rattle.abstract_locks.specs.Sites.{Line, Main, Second}
 use Rattle.lot_steps.specs.Steps.{act_of, taker, owes_on, retries_on}
 use Rattle.lot_machine.specs.Machine.{State, opening, place_at, after, section_at, word_at}
 use Rattle.lot_machine.specs.Fits.{IsShaped}
-use Rattle.lot_world.specs.MutexDeeds.{Station, mutex_station, nowhere, station_at}
+use Rattle.lot_world.specs.MutexDeeds.{mutex_station}
+use Rattle.lot_world.specs.Stations.{Station, nowhere, station_at}
 use Rattle.lot_world.specs.SitesOf.{IsSteady, key_of, stood_in, carried_at}
 use Rattle.abstract_locks.specs.Runs.{IsOpening}
 use Rattle.abstract_locks.specs.Locks.{opening_lock, rights_of, Rights, one_if_some, standing}

@@ -17,7 +17,8 @@ use Rattle.abstract_locks.specs.Sites.{IsSite, Deed, Line, Main, Second, Case, F
 use Rattle.lot_machine.specs.Machine.{State, place_at, word_at, owners_at, queue_at, put, queues_with_last, queues_without, queues_without_first}
 use Rattle.lot_world.specs.Refinement.{lock_state, taken_at}
 use Rattle.abstract_locks.specs.Picks.{queued_of}
-use Rattle.lot_world.specs.MutexDeeds.{Station, mutex_doing, mutex_station, station, station_at, doing_on, acts}
+use Rattle.lot_world.specs.MutexDeeds.{mutex_doing, mutex_station, acts}
+use Rattle.lot_world.specs.Stations.{Station, station, station_at, doing_on}
 use Rattle.lot_world.specs.SitesOf.{Follows, Goes, Stands, IsSteady, key_of, stood_in}
 use Rattle.lot_world.proofs.Counts.{without_absent}
 use Rattle.lot_world.proofs.Glue.{base_at, same, differ, put_places, IsOf, own_stance, station_elsewhere}

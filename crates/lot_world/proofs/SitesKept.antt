@@ -35,7 +35,8 @@ use Rattle.std.specs.Prelude.{sum}
 use Rattle.lot_machine.specs.Machine.{State, shares_handed_over, unlocked, place_at, word_at, owners_at, shares_at, filled_at, kind_at, queue_at, put, state_after_operation, state_with_sections, section_at, queues_without_first, state_after_reply, state_after_telling, state_after_hand_over, state_after_act, reply_to}
 use Rattle.lot_world.specs.Refinement.{taken_at}
 use Rattle.abstract_locks.specs.Picks.{queued_of}
-use Rattle.lot_world.specs.MutexDeeds.{Station, hand, nowhere, mutex_doing, mutex_deeds, mutex_station, station, station_at, doing_on, acts, owner, queued}
+use Rattle.lot_world.specs.MutexDeeds.{mutex_doing, mutex_deeds, mutex_station, acts, owner, queued}
+use Rattle.lot_world.specs.Stations.{Station, hand, nowhere, station, doing_on}
 use Rattle.lot_world.specs.MutexDeeds as deeds
 use Rattle.lot_world.specs.SitesOf.{site_of, rules_at, AllNeeded, IsSteady, Follows, Goes, CallsMutex, carried_at, hand_at, after_acts}
 use Rattle.lot_world.proofs.Glue.{base_at, seen_by, seen, site_seen, goes_from, put_places, put_here, put_other, IsOf, next_of, doing_elsewhere, taken_elsewhere, inside_is, own_stance, LetGo, leaving, taking, told_one, successor_one, none_given, lets_taken, lets_handed, lets_nobody, IsTakenAt, is_taken, IsHandedAt, is_handed, untaken, handing, hands_acts}
@@ -106,7 +107,6 @@ module _ (w v : State) (l : ℕ) (rules : rules_at w l ≡ mutex) (q : ℕ → P
     word = words.here ∙ coded ∙ sym (λ i. code (rules i) (site_here i));
     others = λ k ne. (site_there k ne, words.other k ne);
     kinds = kinds;
-    unshared = ap (λ r. has_readers r.sort) rules;
   }
 
 -- keeps all
@@ -120,10 +120,6 @@ goes_steady w v l ds steady g = record {
     word = λ k. elim (cases_eq k l) [
       | inl e ↦ rw e (g.follows.word ∙ (λ i. code (rules_of (sym (g.follows.kinds l) i)) (site_of v l)))
       | inr ne ↦ (g.follows.others k ne).1 ∙ steady.sites.word k ∙ sym (λ i. code (rules_of (g.follows.kinds k i)) ((g.follows.others k ne).0 i))
-    ];
-    unused = λ k h. let of_w : has_readers (rules_at w k).sort ≡ true = sym (ap (λ x. has_readers (rules_of x).sort) (g.follows.kinds k)) ∙ h in elim (cases_eq k l) [
-      | inl e ↦ absurd (let none : has_readers (rules_at w k).sort ≡ false = rw e g.follows.unshared in cc)
-      | inr ne ↦ let u = steady.sites.unused k of_w in ((g.follows.others k ne).1 ∙ u.0, ap (λ (s : Site). s.lock.exclusive) (g.follows.others k ne).0 ∙ u.1)
     ];
     unfilled = λ k h. let of_w : has_readers (rules_at w k).sort ≡ false = sym (ap (λ x. has_readers (rules_of x).sort) (g.follows.kinds k)) ∙ h in elim (cases_eq k l) [
       | inl e ↦ rw e (unfilled_here (rw e at of_w))

@@ -36,7 +36,8 @@ use Rattle.lot_world.specs.Promises.{WaitsFor, want_of, IsDebtorOf, IsLookedAfte
 use Rattle.lot_world.specs.MutexPromises.{IsMutexWord}
 use Rattle.lot_mutex.specs.declared.lock.Entry.TheVariants as entry
 use Rattle.lot_world.specs.Refinement.{entry_purpose}
-use Rattle.lot_world.specs.MutexDeeds.{nowhere, station, station_at, mutex_station, mutex_profile, doing_on, mutex_doing}
+use Rattle.lot_world.specs.MutexDeeds.{mutex_station, mutex_profile, mutex_doing}
+use Rattle.lot_world.specs.Stations.{nowhere, station, station_at, doing_on}
 use Rattle.lot_world.specs.SitesOf.{IsSteady, CallsMutex, stood_in, rules_at}
 use Rattle.lot_world.proofs.Glue.{nothing_at}
 use Rattle.lot_world.proofs.MutexTable.{mutex, queued_times}
@@ -52,23 +53,9 @@ codes_by e false w h = inl (omega arith)
 pub unshared_of : (w : State) → IsSteady w → (l : ℕ) → rules_at w l ≡ mutex → sum (shares_at w l) ≡ 0
 unshared_of w s l rules = (s.sites.site l).state.unshared (λ h. subst (λ r. locks.Knows r.sort Shared) rules h)
 
--- each word says whether there is an owner
-pub coded_at : (w : State) → IsSteady w → (l : ℕ) → IsMutexWord (word_at w l) (owners_at w l).exclusive
-coded_at w s l = by_kind (kind_at w l) refl
-  where
-    of_mutex : rules_at w l ≡ mutex → IsMutexWord (word_at w l) (owners_at w l).exclusive
-    of_mutex rules = codes_by (owners_at w l).exclusive (is_parked (word_at w l)) (word_at w l) (s.sites.word l ∙ (λ i. code (rules i) (lock_by w l (rules i))))
-
-    of_unused : has_readers (rules_at w l).sort ≡ true → IsMutexWord (word_at w l) (owners_at w l).exclusive
-    of_unused readers = let u = s.sites.unused l readers in inl (u.0 ∙ sym (ap one_if_some u.1))
-
-    by_kind : (k : Kind) → kind_at w l ≡ k → IsMutexWord (word_at w l) (owners_at w l).exclusive
-    by_kind (kind.TheVariants.RwLock limit) e = of_unused (ap (λ k. has_readers (rules_of k).sort) e)
-    by_kind (kind.TheVariants.Recursive limit) e = of_unused (ap (λ k. has_readers (rules_of k).sort) e)
-    by_kind kind.TheVariants.Mutex e = of_mutex (ap rules_of e)
-    by_kind kind.TheVariants.Fair e = of_mutex (ap rules_of e)
-    by_kind kind.TheVariants.Condvar e = of_mutex (ap rules_of e)
-    by_kind kind.TheVariants.Once e = of_mutex (ap rules_of e)
+-- the word of a mutex says whether there is an owner
+pub coded_at : (w : State) → IsSteady w → (l : ℕ) → rules_at w l ≡ mutex → IsMutexWord (word_at w l) (owners_at w l).exclusive
+coded_at w s l rules = codes_by (owners_at w l).exclusive (is_parked (word_at w l)) (word_at w l) (s.sites.word l ∙ (λ i. code (rules i) (lock_by w l (rules i))))
 
 waits : (t : ℕ) (q : List Queued) → 1 ≤ times t q → q ≢ []
 waits t [] h e = omega arith

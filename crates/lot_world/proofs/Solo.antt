@@ -41,7 +41,8 @@ use Rattle.lot_machine.specs.Machine.{State, place_at, word_at, kind_at, queue_a
 use Rattle.lot_machine.specs.Fits.{IsShaped, PlaceFits}
 use Rattle.lot_world.specs.MutexPromises.{IsMutexWord}
 use Rattle.abstract_locks.specs.Sites.{Main, Site}
-use Rattle.lot_world.specs.MutexDeeds.{station, station_at, Station, hand, acts, takes, queued}
+use Rattle.lot_world.specs.MutexDeeds.{acts, takes, queued}
+use Rattle.lot_world.specs.Stations.{station, station_at, Station, hand}
 use Rattle.lot_world.specs.SitesOf.{IsSteady, CallsMutex, is_mutex, Goes, hand_at}
 use Rattle.lot_world.proofs.ExclusiveOwners.{by_code, owner_after}
 use Rattle.abstract_locks.specs.Locks.{Rules, MayEnter, IsBlocked, first_thread}
@@ -64,7 +65,7 @@ use Rattle.lot_world.proofs.SitesKept.{go_by, unshared_at}
 use Rattle.lot_acts.specs.declared.owners.Owners.{Owners}
 use Rattle.lot_acts.specs.Owners.{with_exclusive}
 use Rattle.lot_world.proofs.GoneKept.{gone_goes}
-use Rattle.lot_world.proofs.AtPlaces.{coded as words_coded, absent, owns}
+use Rattle.lot_world.proofs.AtPlaces.{coded as words_coded, coded_for, absent, owns}
 use Rattle.lot_world.proofs.SoloActs.{Leads, leads_rest, leads_step, Facing, Faces, word_faces, enter_faces, leave_faces, wake_faces, hand_faces, accept_faces, park_faces, unparked_faces, remove_faces, take_faces, act_led}
 
 leads_more : (k m : ℕ) (w : State) (t : ℕ) (P : State → Outcome → Type 0) → k ≤ m → Leads k w t P → Leads m w t P
@@ -99,8 +100,8 @@ module _ (t l : ℕ) (entry : Entry) (q : List Waiter) where
       (λ u w f. let h = word_faces w t l _ 1 (Some u) None q f (op.TheVariants.Exchange 1 3) refl in leads_step w t (LockEnds t l entry (Some u) q) 3 h.0 (decide_full retries u _ h.1))
       (λ u w f. leads_more 3 4 w t (LockEnds t l entry (Some u) q) (omega arith) (decide_full retries u w f))
 
-  coded : (w : State) (p : Place) (v : ℕ) (o s : Option ℕ) → Facing w t l p v o s q → IsMutexWord v o
-  coded w p v o s f = let c : IsMutexWord (word_at w l) (owner_at w l) = words_coded w f.steady l in rw (f.word, f.owner) at c
+  coded : (w : State) (at : MutexPlace) (v : ℕ) (o s : Option ℕ) → Facing w t l (Mutex l at) v o s q → IsMutexWord v o
+  coded w at v o s f = let c : IsMutexWord (word_at w l) (owner_at w l) = coded_for w f.steady t l at f.place in rw (f.word, f.owner) at c
 
   load_leads : (retries : Bool) (v : ℕ) (o : Option ℕ) (w : State) → Facing w t l (Mutex l (Lock entry retries Load)) v o None q → Leads 5 w t (LockEnds t l entry o q)
   load_leads retries v o w f = let h = word_faces w t l (Mutex l (Lock entry retries Load)) v o None q f op.TheVariants.Load refl in
@@ -444,8 +445,8 @@ module _ (w : State) (t : ℕ) (shape : IsShaped w) (steady : IsSteady w) (there
 
     try_alone : (b : Bool) → is_locked (word_at w l) ≡ b → (x ≡ (if b then outcome.TheVariants.End answer.TheVariants.No else outcome.TheVariants.End answer.TheVariants.Yes)) × (owner_at v l ≡ (if b then owner_at w l else Some t))
         → EntersAlone (locks_of w) t l Exclusive Try x (locks_of v)
-    try_alone true e h = ((λ may. absurd (owned_word (word_at w l) (owner_at w l) (words_coded w steady l) e (may_own may))), λ b. h.0)
-    try_alone false e h = ((λ may. h), λ b. absurd (blocked_owned b (free_word (word_at w l) (owner_at w l) (words_coded w steady l) e)))
+    try_alone true e h = ((λ may. absurd (owned_word (word_at w l) (owner_at w l) (words_coded w steady l rules) e (may_own may))), λ b. h.0)
+    try_alone false e h = ((λ may. h), λ b. absurd (blocked_owned b (free_word (word_at w l) (owner_at w l) (words_coded w steady l rules) e)))
 
     unlock_alone : UnlockEnds l None v x → EndsAlone (locks_of w) t (Some (Releases l Exclusive false)) x (locks_of v)
     unlock_alone h = (h.0, (λ own. let g : None ≡ Some t = sym h.1 ∙ own in cc), λ mutex. h.1)
@@ -476,9 +477,9 @@ module _ (w : State) (t : ℕ) (shape : IsShaped w) (steady : IsSteady w) (there
   call_alone : (l : ℕ) (fair : Bool) (c : MutexCall) → place_at w t ≡ Mutex l (mutex_first fair c) → l < length w.locks → is_mutex (kind_at w l) ≡ true → (n : ℕ) (last : Outcome) → 12 ≤ n
       → EndsAlone (locks_of w) t (Some (mutex_purpose fair l c)) (solo n w t last).outcome (locks_of (solo n w t last).state)
   call_alone l fair mutex_call.TheVariants.Lock is lt kind n last le = lock_alone l kind (solo n w t last).state (solo n w t last).outcome entries.Lock (owner_at w l) refl
-      (first_leads t l entries.Lock (queue_at w (2 * l)) false (word_at w l) (owner_at w l) (words_coded w steady l) w (at_first l _ is refl refl lt) n last (omega arith))
+      (first_leads t l entries.Lock (queue_at w (2 * l)) false (word_at w l) (owner_at w l) (coded_for w steady t l _ is) w (at_first l _ is refl refl lt) n last (omega arith))
   call_alone l fair mutex_call.TheVariants.LockTimed is lt kind n last le = lock_alone l kind (solo n w t last).state (solo n w t last).outcome entries.LockTimed (owner_at w l) refl
-      (first_leads t l entries.LockTimed (queue_at w (2 * l)) false (word_at w l) (owner_at w l) (words_coded w steady l) w (at_first l _ is refl refl lt) n last (omega arith))
+      (first_leads t l entries.LockTimed (queue_at w (2 * l)) false (word_at w l) (owner_at w l) (coded_for w steady t l _ is) w (at_first l _ is refl refl lt) n last (omega arith))
   call_alone l fair mutex_call.TheVariants.TryLock is lt kind n last le = try_alone l kind (solo n w t last).state (solo n w t last).outcome (is_locked (word_at w l)) refl
       (try_leads t l (queue_at w (2 * l)) None (word_at w l) (owner_at w l) w (at_first l _ is refl refl lt) n last (omega arith))
   call_alone l false mutex_call.TheVariants.Unlock is lt kind n last le = unlock_alone l kind (solo n w t last).state (solo n w t last).outcome

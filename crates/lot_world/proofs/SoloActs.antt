@@ -27,7 +27,7 @@ use Rattle.lot_steps.specs.Steps.{act_of, next_place, next_act}
 use Rattle.lot_machine.specs.Machine.{State, unlocked, place_at, word_at, owners_at, section_at, queue_at, put, state_after_operation, state_with_sections, queues_with_last, queues_without, queues_without_first, state_after_taking, state_after_reply, state_after_act, reply_to, can_do, state_after_go, go_of, is_possible, after, step_outcome, go_outcome, solo, place_after_telling, state_after_telling, state_after_hand_over, owners_handed_over, is_there}
 use Rattle.lot_machine.specs.Fits.{IsShaped, SameSize}
 use Rattle.lot_world.specs.Refinement.{owner_at}
-use Rattle.lot_world.specs.MutexDeeds.{station}
+use Rattle.lot_world.specs.Stations.{station}
 use Rattle.lot_world.specs.SitesOf.{IsSteady}
 use Rattle.lot_machine.proofs.Shape.{after_shaped, after_size, main_key_there, main_line_there}
 use Rattle.lot_world.proofs.TurnsKept.{after_steady}

@@ -9,7 +9,7 @@ use Rattle.abstract_locks.specs.Locks.{putting}
 use Rattle.abstract_locks.specs.Sites.{Line, Main, Second}
 use Rattle.lot_machine.specs.Machine.{State, kind_at}
 use Rattle.lot_world.specs.SitesOf.{is_mutex}
-use Rattle.lot_world.specs.MutexDeeds.{Hand, Station, hand, nowhere, station, station_at}
+use Rattle.lot_world.specs.Stations.{Hand, Station, hand, nowhere, station, station_at}
 use Rattle.lot_world.specs.SitesOf.{Sections, Lines, Hands, CallsMutex, key_of, stood_in, carried_at, hand_at}
 use Rattle.lot_world.proofs.Glue.{IsOf, nothing_at, put_here, put_other, same, station_is, station_here, station_elsewhere}
 

@@ -11,7 +11,7 @@ use Rattle.abstract_locks.specs.Purposes.{rules_of}
 use Rattle.abstract_locks.specs.Sites.{Line, Main, Second}
 use Rattle.lot_machine.specs.Machine.{State, place_at, kind_at, section_at, queue_at}
 use Rattle.lot_world.specs.SitesOf.{is_mutex}
-use Rattle.lot_world.specs.MutexDeeds.{Station, hand, nowhere, station, station_at}
+use Rattle.lot_world.specs.Stations.{Station, hand, nowhere, station, station_at}
 use Rattle.lot_world.specs.SitesOf.{Stands, Sections, Lines, Hands, CallsMutex, key_of, stood_in}
 use Rattle.lot_world.proofs.Glue.{IsOf, same, differ, put_here, put_other, station_here}
 use Rattle.lot_world.proofs.MutexTable.{mutex}

@@ -27,7 +27,8 @@ use Rattle.lot_machine.specs.Machine.{State, place_at, word_at, owners_at, kind_
 use Rattle.lot_machine.specs.Fits.{IsShaped, PlaceFits}
 use Rattle.lot_world.specs.Refinement.{lock_state, taken_at}
 use Rattle.lot_world.specs.SitesOf.{is_mutex}
-use Rattle.lot_world.specs.MutexDeeds.{nowhere, mutex_doing, mutex_station, station, acts, begins}
+use Rattle.lot_world.specs.MutexDeeds.{mutex_doing, mutex_station, acts, begins}
+use Rattle.lot_world.specs.Stations.{nowhere, station}
 use Rattle.lot_world.specs.SitesOf.{IsSteady, Goes}
 use Rattle.abstract_locks.specs.Codes.{code}
 use Rattle.lot_machine.proofs.Shape.{both}

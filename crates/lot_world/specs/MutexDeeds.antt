@@ -1,5 +1,5 @@
--- The steps of a mutex, told by what a thread does about the abstract lock: what each place is, and the deeds of each step.
-use Rattle.std.specs.Prelude.{ℕ, Bool, true, false, Option, Some, None, if◌then◌else◌, ◌==◌, not, List, [], ◌∷◌, ◌++◌}
+-- The steps of a mutex, told by what a thread does about the abstract lock: the deeds of each step.
+use Rattle.std.specs.Prelude.{ℕ, Bool, true, Option, Some, None, if◌then◌else◌, ◌==◌, not, List, [], ◌∷◌, ◌++◌}
 use Rattle.lot_base.specs.declared.wants.Want.TheVariants.{Exclusive}
 use Rattle.lot_mutex.specs.declared.places.MutexPlace.{MutexPlace}
 use Rattle.lot_mutex.specs.declared.places.MutexPlace.TheVariants.{Lock, TryLock, Unlock, UnlockFair, Bump, HandOff}
@@ -9,63 +9,24 @@ use Rattle.lot_mutex.specs.declared.unlock.UnlockAt.{UnlockAt}
 use Rattle.lot_mutex.specs.declared.unlock.UnlockAt.TheVariants as unlock
 use Rattle.lot_mutex.specs.declared.hand_off.HandOffAt.{HandOffAt}
 use Rattle.lot_mutex.specs.declared.hand_off.HandOffAt.TheVariants as hand_off
-use Rattle.lot_steps.specs.declared.places.Place.{Place}
-use Rattle.lot_steps.specs.declared.places.Place.TheVariants.{Idle, Mutex}
 use Rattle.lot_acts.specs.declared.acts.Reply.{Reply}
 use Rattle.lot_acts.specs.declared.acts.Reply.TheVariants.{Done, Value, Parked, Took, Removed, Late}
 use Rattle.lot_mutex.specs.MutexSteps.{is_locked, is_parked}
+use Rattle.lot_world.specs.Stations.{Station, station_by}
+use Rattle.lot_acts.specs.Profiles.{Profile, bringing_nobody}
 pub use Rattle.lot_mutex.specs.MutexProfiles.{mutex_profile, owner, inside, again, carrying}
 pub use Rattle.lot_acts.specs.Profiles.{Hand, Of, hand, hand_owner, in_hand}
 use Rattle.abstract_locks.specs.Locks.{Queued, Enter, Leave, Park, TakeFirst, HandOff as HandsOff, Late as GivesUp}
-use Rattle.abstract_locks.specs.Sites.{Doing, Has, Line, Main, Deed, Begin, End, In, Out, Mark, Clear, FindNobody, Case, idle}
+use Rattle.abstract_locks.specs.Sites.{Doing, Has, Main, Deed, Begin, End, In, Out, Mark, Clear, FindNobody, Case}
 
--- ---------------------------------------------------------------- what a thread does, by its place
+abbrev pub mutex_row : MutexPlace → Profile
+mutex_row at = bringing_nobody (mutex_profile at)
 
--- no call of a mutex brings waiters
 abbrev pub mutex_doing : MutexPlace → Doing
-mutex_doing at = record (mutex_profile at).doing { brings = false; sets = false }
-
--- what a thread does about the lock l
-abbrev pub doing_on : Place → ℕ → Doing
-doing_on Idle l = idle
-doing_on (Mutex k at) l = if k == l then mutex_doing at else idle
-
--- ---------------------------------------------------------------- how a thread stands at the lock that it calls
-
--- What the machine's sections, lines and hands say of a thread.
-pub record Station : Type 0 where
-  -- inside whose section it is
-  pub inside : Option Line
-  -- in which line it stands
-  pub stands : Option Line
-  -- whether it has anybody in hand, and if so, whether it has handed the lock over
-  pub carries : Option Bool
-  -- in whose hand it is
-  pub hand : Option Hand
-
-abbrev pub nowhere : Station
-nowhere = record { inside = None; stands = None; carries = None; hand = None }
+mutex_doing at = (mutex_row at).doing
 
 abbrev pub mutex_station : MutexPlace → Station
-mutex_station at = record {
-  inside = (mutex_doing at).inside;
-  stands = (mutex_profile at).stands;
-  carries = (mutex_profile at).carries;
-  hand = (mutex_profile at).hand;
-}
-
-abbrev pub station : Place → Station
-station Idle = nowhere
-station (Mutex k at) = mutex_station at
-
--- whether it calls the lock l
-abbrev pub calls : Place → ℕ → Bool
-calls Idle l = false
-calls (Mutex k at) l = k == l
-
--- how it stands at the lock l
-abbrev pub station_at : Place → ℕ → Station
-station_at p l = if calls p l then station p else nowhere
+mutex_station at = station_by (mutex_row at)
 
 -- ---------------------------------------------------------------- the deeds of each step
 

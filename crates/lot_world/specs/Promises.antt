@@ -15,7 +15,7 @@ use Rattle.abstract_locks.specs.Runs.{AreLockStates}
 use Rattle.abstract_locks.specs.Sites.{Line, Main, Second, IsOpen, counts_some, has_readers}
 use Rattle.abstract_locks.specs.Purposes.{Purpose, Enters, Releases, Converts, Bumps, MayWait}
 use Rattle.lot_world.specs.Refinement.{lock_state, locks_of, call_at}
-use Rattle.lot_world.specs.MutexDeeds.{doing_on}
+use Rattle.lot_world.specs.Stations.{doing_on}
 use Rattle.lot_world.specs.SitesOf.{rules_at, key_of}
 use Rattle.lot_world.specs.Owing.{Owes, ReleasesLock}
 

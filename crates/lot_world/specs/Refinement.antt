@@ -1,27 +1,25 @@
 -- The abstract locks that a world's words, places and queues stand for.
-use Rattle.std.specs.Prelude.{ℕ, Bool, true, false, Option, Some, None, if◌then◌else◌, ◌==◌, ◌+◌, ◌*◌, ◌≡◌, ◌≢◌, ◌⊎◌, List, map, length}
+use Rattle.std.specs.Prelude.{ℕ, Bool, true, false, Option, Some, None, if◌then◌else◌, ◌+◌, ◌*◌, ◌≡◌, ◌≢◌, ◌⊎◌, List, map, length}
 use Rattle.lot_base.specs.declared.wants.Waiter.{Waiter}
-use Rattle.lot_base.specs.declared.wants.Want.TheVariants.{Exclusive}
 use Rattle.lot_base.specs.Lines.{first_of}
 use Rattle.lot_acts.specs.declared.owners.Owners.{Owners}
 use Rattle.lot_acts.specs.declared.owners.Pending as owners
 use Rattle.lot_acts.specs.declared.owners.Fallback.{Fallback}
 use Rattle.lot_acts.specs.declared.owners.Fallback as fallback
 use Rattle.lot_steps.specs.declared.places.Place.{Place}
-use Rattle.lot_steps.specs.declared.places.Place.TheVariants.{Idle, Mutex}
+use Rattle.lot_acts.specs.Profiles.{Profile, bringing_nobody, taken_from}
 use Rattle.lot_mutex.specs.declared.places.MutexPlace.{MutexPlace}
-use Rattle.lot_mutex.specs.declared.places.MutexPlace.TheVariants.{Lock}
-use Rattle.lot_mutex.specs.declared.lock.LockAt.TheVariants as lock
 use Rattle.abstract_locks.specs.Picks.{queued_of}
 use Rattle.lot_acts.specs.declared.acts.Act.{Act}
 use Rattle.lot_acts.specs.declared.acts.Act.TheVariants.{Enter, Sleep}
 use Rattle.lot_base.specs.declared.keys.Keys.{Keys}
-use Rattle.lot_steps.specs.Steps.{act_of, spin_lock}
-pub use Rattle.lot_mutex.specs.MutexProfiles.{mutex_profile, is_bump, entry_purpose, release_purpose}
+use Rattle.lot_steps.specs.Steps.{act_of, spin_lock, lock_of, profile}
+use Rattle.lot_world.specs.Stations.{calls}
+pub use Rattle.lot_mutex.specs.MutexProfiles.{mutex_profile, is_bump, entry_purpose, release_purpose, before_entry, before_release}
 pub use Rattle.lot_machine.specs.Machine.{runs_closure}
 use Rattle.lot_machine.specs.Machine.{State, place_at, word_at, owners_at, shares_at, kind_at, queue_at, section_at, is_there}
 use Rattle.abstract_locks.specs.Locks.{LockState, Queued, Taken, Pending, Rights}
-use Rattle.abstract_locks.specs.Runs.{LocksState, CallState, Stance, no_call, one_more_at, one_less_at}
+use Rattle.abstract_locks.specs.Runs.{LocksState, CallState, Stance, no_call}
 use Rattle.abstract_locks.specs.Locks as locks
 
 -- ---------------------------------------------------------------- one lock
@@ -36,8 +34,7 @@ pending_owner (Some p) = Some (record { thread = p.thread; falls_back = is_upgra
 
 -- by whom the thread at a place was taken from the queue of a lock
 abbrev pub taken_at : Place → ℕ → Option Taken
-taken_at (Mutex k (Lock e retries (lock.Taken by))) l = if k == l then Some (record { by = by; want = Exclusive }) else None
-taken_at p l = None
+taken_at p l = taken_from (profile p).hand (profile p).wants (calls p l)
 
 abbrev pub lock_seen : List ℕ → Owners → List Waiter → List Waiter → (ℕ → Option Taken) → LockState
 lock_seen shared o main second taken = record {
@@ -58,23 +55,19 @@ owner_at w l = (owners_at w l).exclusive
 
 -- ---------------------------------------------------------------- one call
 
--- what it owned before, by what it owns now
-abbrev pub before_release : ℕ → Bool → (ℕ → Rights) → ℕ → Rights
-before_release l released rights = if released then one_more_at l Exclusive rights else rights
-
-abbrev pub before_entry : ℕ → Bool → Bool → (ℕ → Rights) → ℕ → Rights
-before_entry l bumps false rights = before_release l bumps rights
-before_entry l bumps true rights = if bumps then rights else one_less_at l Exclusive rights
+-- by the row of its place
+abbrev pub call_by : ℕ → Profile → (ℕ → Rights) → CallState
+call_by l row rights = record {
+  purpose = Some (row.purpose l);
+  former = row.former l rights;
+  gave_up = if row.gave_up then Some l else None;
+  retries = if row.retries then Some l else None;
+  released = row.released;
+  late = row.late;
+}
 
 abbrev pub mutex_call_state : ℕ → MutexPlace → (ℕ → Rights) → CallState
-mutex_call_state l at rights = record {
-  purpose = Some ((mutex_profile at).purpose l);
-  former = before_entry l (mutex_profile at).released (mutex_profile at).handed rights;
-  gave_up = if (mutex_profile at).gave_up then Some l else None;
-  retries = if (mutex_profile at).retries then Some l else None;
-  released = (mutex_profile at).released;
-  late = (mutex_profile at).late;
-}
+mutex_call_state l at rights = call_by l (bringing_nobody (mutex_profile at)) rights
 
 -- ---------------------------------------------------------------- how a thread stands
 
@@ -97,9 +90,12 @@ stance_of p = stance_by (act_of p) (spin_lock p)
 -- ---------------------------------------------------------------- calls
 
 -- what a thread's call has come to, by its place and by what it owns now
+abbrev pub call_on : Option ℕ → Profile → (ℕ → Rights) → CallState
+call_on None row rights = no_call
+call_on (Some l) row rights = call_by l row rights
+
 abbrev pub call_state : Place → (ℕ → Rights) → CallState
-call_state Idle rights = no_call
-call_state (Mutex l at) rights = mutex_call_state l at rights
+call_state p rights = call_on (lock_of p) (profile p) rights
 
 -- ---------------------------------------------------------------- the world
 

@@ -12,7 +12,8 @@ use Rattle.lot_machine.specs.Machine.{State, place_at, word_at, filled_at, kind_
 use Rattle.lot_world.specs.Refinement.{lock_state}
 use Rattle.lot_calls.specs.declared.kinds.Kind.{Kind}
 use Rattle.lot_calls.specs.declared.kinds.Kind as kind
-use Rattle.lot_world.specs.MutexDeeds.{Act, Hand, hand, station_at, doing_on}
+use Rattle.lot_world.specs.MutexDeeds.{Act}
+use Rattle.lot_world.specs.Stations.{Hand, hand, station_at, doing_on}
 
 abbrev pub rules_at : State → ℕ → Rules
 rules_at w l = rules_of (kind_at w l)
@@ -39,8 +40,6 @@ AllNeeded r (a ∷ more) s = Needed r a.deed s a.by × AllNeeded r more (after_d
 pub record AreSites (w : State) : Type 0 where
   pub site : (l : ℕ) → IsSite (rules_at w l) (site_of w l)
   pub word : (l : ℕ) → word_at w l ≡ code (rules_at w l) (site_of w l)
-  -- no call of a lock that is shared is built: nobody owns one, and its word is 0
-  pub unused : (l : ℕ) → has_readers (rules_at w l).sort ≡ true → (word_at w l ≡ 0) × ((lock_state w l).exclusive ≡ None)
   -- a lock that nobody shares is never filled
   pub unfilled : (l : ℕ) → has_readers (rules_at w l).sort ≡ false → filled_at w l ≡ false
 
@@ -107,7 +106,6 @@ pub record Follows (w v : State) (l : ℕ) (ds : List Act) : Type 0 where
   pub word : word_at v l ≡ code (rules_at w l) (site_of v l)
   pub others : (k : ℕ) → k ≢ l → (site_of v k ≡ site_of w k) × (word_at v k ≡ word_at w k)
   pub kinds : (k : ℕ) → kind_at v k ≡ kind_at w k
-  pub unshared : has_readers (rules_at w l).sort ≡ false
 
 -- and each thread stands where its place says
 pub record Goes (w v : State) (l : ℕ) (ds : List Act) : Type 0 where

@@ -1,4 +1,4 @@
-use Rattle.std.proofs.Common.{◌≡◌, ◌<◌, ◌∙◌, sym, map, length, replicate, ap, refl}
+use Rattle.std.proofs.Common.{◌≡◌, ◌<◌, ◌∙◌, sym, map, length, replicate, ap}
 use Rattle.std.specs.Prelude.{slice_set, slice_index_or}
 use Rattle.std.proofs.lemmas.List.{map-set, length-map, with_items_is}
 use Rattle.std.proofs.Math.ListN.{get_or-map}

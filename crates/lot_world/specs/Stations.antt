@@ -1,0 +1,44 @@
+-- What a place says of its thread at a lock: what the thread does about it, and where the machine has the thread.
+use Rattle.std.specs.Prelude.{ℕ, Bool, false, Option, Some, None, if◌then◌else◌, ◌==◌}
+use Rattle.lot_steps.specs.declared.places.Place.{Place}
+use Rattle.lot_steps.specs.Steps.{lock_of, profile}
+pub use Rattle.lot_acts.specs.Profiles.{Hand, Of, hand, hand_owner, in_hand}
+use Rattle.lot_acts.specs.Profiles.{Profile, blank}
+use Rattle.abstract_locks.specs.Sites.{Doing, Line, idle}
+
+-- whether it is the lock l
+abbrev pub is_lock : ℕ → Option ℕ → Bool
+is_lock l None = false
+is_lock l (Some k) = k == l
+
+-- whether a thread at the place calls the lock l
+abbrev pub calls : Place → ℕ → Bool
+calls p l = is_lock l (lock_of p)
+
+-- what it does about the lock l
+abbrev pub doing_on : Place → ℕ → Doing
+doing_on p l = if calls p l then (profile p).doing else idle
+
+-- What the machine's sections, lines and hands say of a thread.
+pub record Station : Type 0 where
+  -- inside whose section it is
+  pub inside : Option Line
+  -- in which line it stands
+  pub stands : Option Line
+  -- whether it has anybody in hand, and if so, whether it has handed the lock over
+  pub carries : Option Bool
+  -- in whose hand it is
+  pub hand : Option Hand
+
+abbrev pub station_by : Profile → Station
+station_by row = record { inside = row.doing.inside; stands = row.stands; carries = row.carries; hand = row.hand }
+
+abbrev pub nowhere : Station
+nowhere = station_by blank
+
+abbrev pub station : Place → Station
+station p = station_by (profile p)
+
+-- how it stands at the lock l
+abbrev pub station_at : Place → ℕ → Station
+station_at p l = if calls p l then station p else nowhere
