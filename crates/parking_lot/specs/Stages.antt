@@ -23,7 +23,7 @@ use Rattle.lot_acts.specs.Acts.{holds}
 use Rattle.lot_acts.specs.declared.acts.Act.{Act}
 use Rattle.lot_acts.specs.declared.acts.Act as act
 use Rattle.lot_acts.specs.declared.acts.Reply.{Reply}
-use Rattle.lot_acts.specs.declared.acts.Reply.TheVariants.{Done, Value, Parked, Took, Picked, Requeued, Removed, Late, Woken}
+use Rattle.lot_acts.specs.declared.acts.Reply.TheVariants.{Done, Value, Parked, Took, Picked, Requeued, Removed, MovedTo, Late, Woken, Closed}
 use Rattle.lot_acts.specs.declared.acts.Wakes.{Wakes}
 use Rattle.lot_acts.specs.declared.acts.Wakes as wakes
 use Rattle.lot_acts.specs.declared.acts.Whom.{Whom}
@@ -172,6 +172,7 @@ Needs kinds at st (act.TheVariants.Remove key) = HasKey key st.inside
 Needs kinds at st (act.TheVariants.Leave keys wakes) = MayLeave (note_of wakes) st.inside
 Needs kinds at st act.TheVariants.Sleep = st.inside ≡ None
 Needs kinds at st act.TheVariants.Accept = Unit {0}
+Needs kinds at st (act.TheVariants.Closure state) = st.inside ≡ None
 Needs kinds at st _ = ⊥
 
 -- after a step on a word
@@ -202,13 +203,22 @@ TookBy key (whom.TheVariants.Picked start recursive) (Picked sharers successor n
     × (new ≡ took_as (did.TheVariants.TakePicked key start recursive) waiters old)
 TookBy key _ _ old new = ⊥
 
--- what a sleep made of the stage, by its end. A sleeper may be late under one key only, if any, and once its time is up
+-- what the end of its time made of a sleeper that stands under a key: it is inside the section of the key under which it may be
+-- late, it is told of the key to which it may be moved, and under any other key it has left the queue
+abbrev pub AwokeLate : ℕ → Sleeper → Stage → Reply → Stage → Type 0
+AwokeLate key sleeper st Late new = (sleeper.late ≡ Some key) × (new ≡ stage st.owns (entered_now (One key)) st.last)
+AwokeLate key sleeper st (MovedTo to) new =
+    (key ≡ to) × (sleeper.moved ≡ Some to) × (new.owns ≡ st.owns) × (new.inside ≡ None)
+AwokeLate key sleeper st (Woken Normal) new = (new.owns ≡ st.owns) × (new.inside ≡ None)
+AwokeLate key sleeper st _ new = ⊥
+
+-- what a sleep made of the stage, by its end
 abbrev pub Awoke : Type 0 → WordKind → ℕ → Sleeper → Stage → Reply → Stage → Type 0
-Awoke up kind at sleeper st (Woken Normal) new = (new.owns ≡ st.owns) × (new.inside ≡ st.inside)
+Awoke up kind at sleeper st (Woken Normal) new = (new.owns ≡ st.owns) × (new.inside ≡ None)
 Awoke up kind at sleeper st (Woken HandOff) new =
     (owner : Owner) × MayHand kind sleeper.want owner × (new ≡ stage (owning at owner ∷ st.owns) st.inside st.last)
-Awoke up kind at sleeper st Late new =
-    (key : ℕ) × (sleeper.late ≡ Some key) × up × (new ≡ stage st.owns (entered_now (One key)) st.last)
+Awoke up kind at sleeper st Late new = (key : ℕ) × AwokeLate key sleeper st Late new × up
+Awoke up kind at sleeper st (MovedTo to) new = AwokeLate to sleeper st (MovedTo to) new × up
 Awoke up kind at sleeper st _ new = ⊥
 
 -- after a step on a word, which found the code of owners among whom these are
@@ -233,6 +243,7 @@ Became up kinds at sleeper st (act.TheVariants.Leave keys wakes) Done new =
     (new.owns ≡ st.owns) × (new.inside ≡ None) × IsLeft st.inside new.last
 Became up kinds at sleeper st act.TheVariants.Sleep reply new = Awoke up (kinds sleeper.lock) (at sleeper.lock) sleeper st reply new
 Became up kinds at sleeper st act.TheVariants.Accept Done new = new ≡ st
+Became up kinds at sleeper st (act.TheVariants.Closure state) (Closed succeeded) new = new ≡ st
 Became up kinds at sleeper st _ _ new = ⊥
 
 -- the steps on words that an act adds
