@@ -442,12 +442,12 @@ held_where (Mutex k (Lock e retries (lock.Handed by))) t h = record { lock = k; 
 held_where p t h = absurd cc
 
 -- of those who call one lock, one at most is in the hand of t
-only_held : (p : ℕ → Place) → Hands p → (t l u : ℕ) (b : Bool) → IsOf l (p t) → hand_at (p u) l ≡ hand t b → (x : ℕ) → x ≢ u → is_thread t (taker (p x)) ≡ false
-only_held p hands t l u b of held x ne = either (is_thread t (taker (p x))) refl
+only_held : {one : ℕ → Type 0} (p : ℕ → Place) → Hands one p → (t l u : ℕ) (b : Bool) → one l → IsOf l (p t) → hand_at (p u) l ≡ hand t b → (x : ℕ) → x ≢ u → is_thread t (taker (p x)) ≡ false
+only_held p hands t l u b single of held x ne = either (is_thread t (taker (p x))) refl
   where
     second : IsHeldBy (p x) t → ⊥
     second h = elim (cases_eq h.lock l) [
-      | inl e ↦ ne (hands.alone t l u x b h.handed held (subst (λ k. hand_at (p x) k ≡ hand t h.handed) e h.hand))
+      | inl e ↦ ne (hands.alone t l u x b h.handed single held (subst (λ k. hand_at (p x) k ≡ hand t h.handed) e h.hand))
       | inr nl ↦ let a : carried_at (p t) h.lock ≡ Some h.handed = hands.taken t x h.lock h.handed h.hand in let c : carried_at (p t) h.lock ≡ None = ap (λ (y : Station). y.carries) (station_elsewhere l h.lock (p t) of nl) in cc
     ]
 
@@ -456,18 +456,18 @@ only_held p hands t l u b of held x ne = either (is_thread t (taker (p x))) refl
     either true e = absurd (second (held_where (p x) t e))
 
 -- so all whom t has in hand are that one
-pub told_one : (w : State) (t l u : ℕ) (b : Bool) (reply : Reply) → Hands (place_at w) → IsOf l (place_at w t) → hand_at (place_at w u) l ≡ hand t b → state_after_telling w t reply ≡ state_after_reply w u reply
-told_one w t l u b reply hands of held = λ i. record w { places = told_in t reply w.places u (held_taker (place_at w u) t l b held) (only_held (place_at w) hands t l u b of held) i }
+pub told_one : {one : ℕ → Type 0} (w : State) (t l u : ℕ) (b : Bool) (reply : Reply) → Hands one (place_at w) → one l → IsOf l (place_at w t) → hand_at (place_at w u) l ≡ hand t b → state_after_telling w t reply ≡ state_after_reply w u reply
+told_one w t l u b reply hands single of held = λ i. record w { places = told_in t reply w.places u (held_taker (place_at w u) t l b held) (only_held (place_at w) hands t l u b single of held) i }
 
 -- and it owns when t hands the lock over
-pub successor_one : (w : State) (t l u : ℕ) (b : Bool) → Hands (place_at w) → IsOf l (place_at w t) → hand_at (place_at w u) l ≡ hand t b → sum (shares_at w l) ≡ 0 → (o : Owners) → owners_handed_over w t l o ≡ with_exclusive o (Some u)
-successor_one w t l u b hands of held_at unshared o =
-    ap (λ s. owners_of_successor (sum (shares_handed_over w t l)) s o) (successor_in t 0 w.places u (held_taker (place_at w u) t l b held_at) (only_held (place_at w) hands t l u b of held_at) ∙ ap (λ n. Some (successor_is n)) (let e : 0 + u ≡ u = omega arith in e))
+pub successor_one : {one : ℕ → Type 0} (w : State) (t l u : ℕ) (b : Bool) → Hands one (place_at w) → one l → IsOf l (place_at w t) → hand_at (place_at w u) l ≡ hand t b → sum (shares_at w l) ≡ 0 → (o : Owners) → owners_handed_over w t l o ≡ with_exclusive o (Some u)
+successor_one w t l u b hands single of held_at unshared o =
+    ap (λ s. owners_of_successor (sum (shares_handed_over w t l)) s o) (successor_in t 0 w.places u (held_taker (place_at w u) t l b held_at) (only_held (place_at w) hands t l u b single of held_at) ∙ ap (λ n. Some (successor_is n)) (let e : 0 + u ≡ u = omega arith in e))
     ∙ ap (λ (n : ℕ). if n == 0 then with_exclusive o (Some u) else pending_for u o) (ap sum (none_given t w.places (shares_at w l)) ∙ unshared)
 
 -- ---------------------------------------------------------------- a release wakes whom it has taken
 
-module _ (places : ℕ → Place) (hands : Hands places) (t l v : ℕ) (p2 : Place) where
+module _ (one : ℕ → Type 0) (places : ℕ → Place) (hands : Hands one places) (t l v : ℕ) (p2 : Place) (single : one l) where
   -- t leaves for p2, and wakes v
   abbrev pub woken_by : Note → ℕ → Place
   woken_by x = putting (putting places v (next_place (places v) (Woken x))) t p2
@@ -481,7 +481,7 @@ module _ (places : ℕ → Place) (hands : Hands places) (t l v : ℕ) (p2 : Pla
 
   pub lets_taken : hand_at (places v) l ≡ hand t false → (u : ℕ) → u ≢ t → LetGo t l (places u) (woken_by note.Normal u)
   lets_taken holds = lets_but_one note.Normal
-      (λ u ne. untaken (places u) t l (λ h. ne (hands.alone t l v u false false holds h)))
+      (λ u ne. untaken (places u) t l (λ h. ne (hands.alone t l v u false false single holds h)))
       (let k : IsTakenAt (places v) t l = is_taken (places v) t l holds in rw k.is (tries t l k.entry k.retries))
 
   pub lets_handed : hand_at (places v) l ≡ hand t true → (u : ℕ) → u ≢ t → LetGo t l (places u) (woken_by note.HandOff u)
@@ -490,7 +490,7 @@ module _ (places : ℕ → Place) (hands : Hands places) (t l v : ℕ) (p2 : Pla
       (let k : IsHandedAt (places v) t l = is_handed (places v) t l holds in rw k.is (accepts t l t k.entry k.retries))
 
 -- who has nobody in hand leaves alone
-pub lets_nobody : (places : ℕ → Place) (hands : Hands places) (t l : ℕ) (p2 : Place) → carried_at (places t) l ≡ None → (u : ℕ) → u ≢ t → LetGo t l (places u) (putting places t p2 u)
+pub lets_nobody : {one : ℕ → Type 0} (places : ℕ → Place) (hands : Hands one places) (t l : ℕ) (p2 : Place) → carried_at (places t) l ≡ None → (u : ℕ) → u ≢ t → LetGo t l (places u) (putting places t p2 u)
 lets_nobody places hands t l p2 none u ne = rw (put_other places t p2 u ne) (stays t l (places u) (untaken (places u) t l (λ h. let a : carried_at (places t) l ≡ Some false = hands.taken t u l false h in absurd cc)))
 
 -- ---------------------------------------------------------------- the first of a line is taken
@@ -560,7 +560,7 @@ handed_is t n o m s p l to unshared = (λ i. locks.with_successor (heir to) (rec
     by_heir None = refl
     by_heir (Some u) = ap (λ (k : ℕ). if k == 0 then lock_seen n.shared (with_exclusive o (Some u)) m s (let_go t (λ x. taken_at (p x) l)) else locks.pending_for u false (lock_seen n.shared (with_exclusive o None) m s (let_go t (λ x. taken_at (p x) l)))) unshared
 
-module _ (r : Rules) (l : ℕ) (n : Base) (word : ℕ) (o : Owners) (m s : List Waiter) (p : ℕ → Place) (hands : Hands p) (t u : ℕ) (bumps none_left : Bool) (sort : r.sort ≡ locks.Mutex) (unshared : sum n.shared ≡ 0)
+module _ (r : Rules) (l : ℕ) (n : Base) (word : ℕ) (o : Owners) (m s : List Waiter) (p : ℕ → Place) (one : ℕ → Type 0) (hands : Hands one p) (single : one l) (t u : ℕ) (bumps none_left : Bool) (sort : r.sort ≡ locks.Mutex) (unshared : sum n.shared ≡ 0)
     (store : p t ≡ Mutex l (HandOff bumps (hand_off.Store true none_left))) (held : hand_at (p u) l ≡ hand t false) where
   abbrev at_store : Site
   at_store = seen l n word o m s p
@@ -579,7 +579,7 @@ module _ (r : Rules) (l : ℕ) (n : Base) (word : ℕ) (o : Owners) (m s : List 
     | inl e ↦ rw (e, put_here (putting p u (next_place (p u) (HandedBy t))) t (Mutex l (HandOff bumps (hand_off.Leave true))), store) refl
     | inr nt ↦ rw (put_other (putting p u (next_place (p u) (HandedBy t))) t (Mutex l (HandOff bumps (hand_off.Leave true))) x nt) (elim (cases_eq x u) [
       | inl e ↦ rw (e, put_here p u (next_place (p u) (HandedBy t)), taken_there.is, same l, same t) refl
-      | inr nu ↦ rw (put_other p u (next_place (p u) (HandedBy t)) x nu) (sym (untaken (p x) t l (λ h. nu (hands.alone t l u x false false held h))))
+      | inr nu ↦ rw (put_other p u (next_place (p u) (HandedBy t)) x nu) (sym (untaken (p x) t l (λ h. nu (hands.alone t l u x false false single held h))))
     ])
   ]
 

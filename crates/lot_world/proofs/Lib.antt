@@ -3,10 +3,12 @@ pub mod Closures
 pub mod Alone
 pub mod Runs
 pub mod Glue
+pub mod OneStep
 pub mod MutexTable
 pub mod MutexSections
 pub mod StandsKept
 pub mod StandsMoved
+pub mod ActsKept
 pub mod SitesKept
 pub mod SectionsKept
 pub mod GoneKept

@@ -61,7 +61,7 @@ use Rattle.lot_mutex.specs.declared.places.MutexPlace.{MutexPlace}
 use Rattle.lot_mutex.specs.MutexSteps.{mutex_act}
 use Rattle.lot_world.proofs.Glue.{IsTakenAt, IsHandedAt, is_taken, is_handed, told_one, same, own_stance, goes_from, put_here, put_other, put_of, put_same}
 use Rattle.lot_world.proofs.MutexTable.{mutex}
-use Rattle.lot_world.proofs.StandsMoved.{mutex_rules}
+use Rattle.lot_world.proofs.StandsMoved.{mutex_rules, takes_one as one_in_hand}
 use Rattle.lot_world.proofs.SitesKept.{go_by, one_held, told_it}
 use Rattle.lot_world.proofs.GoneKept.{gone_goes}
 use Rattle.lot_world.proofs.TurnsKept.{idle_is}
@@ -163,7 +163,7 @@ module _ (w : State) (t : ℕ) (shape : IsShaped w) (steady : IsSteady w) (there
     hand_is x held = let k : IsTakenAt (place_at w x) t l = is_taken (place_at w x) t l held in rw (k.is, same l) (same t)
 
     no_other : (x u : ℕ) → hand_at (place_at w x) l ≡ hand t false → u ≢ x → is_taken_by t (taken_at (place_at w u) l) ≡ false
-    no_other x u held ne = unless_held w steady t l u (λ h. ne (steady.stands.hands.alone t l x u false false held h))
+    no_other x u held ne = unless_held w steady t l u (λ h. ne (steady.stands.hands.alone t l x u false false (one_in_hand w l rules) held h))
 
     nobody_held : (at : MutexPlace) → place_at w t ≡ Mutex l at → (mutex_station at).carries ≡ None → (u : ℕ) → is_taken_by t (taken_at (place_at w u) l) ≡ false
     nobody_held at is none u = unless_held w steady t l u (λ h. let e : ◌≡◌ {A = Option Bool} None (Some false) = sym (carries at is ∙ none) ∙ steady.stands.hands.taken t u l false h in cc)
@@ -192,7 +192,7 @@ module _ (w : State) (t : ℕ) (shape : IsShaped w) (steady : IsSteady w) (there
         → Befalls w (put (state_after_telling (state_after_hand_over w t (Mutex l (HandOff bumping (hand_off.Store true none_left))) l f) t (HandedBy t)) t p2) t l (HandedBy t)
     gives_it bumping none_left p2 f is = let one = one_held w t l steady there (HandOff bumping (hand_off.Store true none_left)) is false refl in
         let before = state_after_hand_over w t (Mutex l (HandOff bumping (hand_off.Store true none_left))) l f in
-        subst (λ (z : State). Befalls w (put z t p2) t l (HandedBy t)) (sym (told_one before t l one.0 false (HandedBy t) steady.stands.hands (rw is refl) one.1))
+        subst (λ (z : State). Befalls w (put z t p2) t l (HandedBy t)) (sym (told_one before t l one.0 false (HandedBy t) steady.stands.hands (one_in_hand w l rules) (rw is refl) one.1))
         (befalls_one w t before one.0 (HandedBy t) p2 refl l (hand_is one.0 one.1) (λ u ne. no_other one.0 u one.1 ne))
 
     hand_off_goes : (bumping : Bool) (a : HandOffAt) → place_at w t ≡ Mutex l (HandOff bumping a) → can_do w (hand_off_act l a) ≡ true

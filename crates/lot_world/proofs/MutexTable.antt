@@ -34,86 +34,18 @@ use Rattle.lot_world.specs.Stations.{Station, hand, nowhere, station, doing_on}
 use Rattle.lot_world.specs.MutexDeeds as deeds
 use Rattle.lot_world.specs.SitesOf.{AllNeeded, after_acts}
 pub use Rattle.lot_world.proofs.Glue.{mutex}
-use Rattle.lot_world.proofs.Glue.{Base, seen, moved, same, own_stance, put_here, put_other, handed_is, Untaken, untaken}
+use Rattle.lot_world.proofs.Glue.{Base, Parts, seen, same, own_stance, handed_is, Untaken, untaken}
+pub use Rattle.lot_world.proofs.OneStep.{AreSingle, others_same, same_filled, meets, Steps, queued_behind, queued_without, queued_times}
 use Rattle.lot_world.specs.SitesOf.{Hands, carried_at}
-
--- ---------------------------------------------------------------- deeds of one thread
-
-abbrev pub IsSingle : Deed → Type 0
-IsSingle Out = ⊥
-IsSingle deed = Unit {0}
-
-abbrev pub AreSingle : List Deed → Type 0
-AreSingle [] = Unit {0}
-AreSingle (d ∷ ds) = IsSingle d × AreSingle ds
-
-others_same_by : (r : Rules) (d : Deed) (s : Site) (t u : ℕ) → IsSingle d → u ≢ t → (after_deed r d s t).doing u ≡ s.doing u
-others_same_by r (Begin c) s t u h ne = put_other s.doing t _ u ne
-others_same_by r End s t u h ne = put_other s.doing t _ u ne
-others_same_by r (In m) s t u h ne = put_other s.doing t _ u ne
-others_same_by r Out s t u h ne = absurd h
-others_same_by r (Mark Main) s t u h ne = refl
-others_same_by r (Mark m) s t u h ne = refl
-others_same_by r (Clear Main) s t u h ne = put_other s.doing t _ u ne
-others_same_by r (Clear m) s t u h ne = put_other s.doing t _ u ne
-others_same_by r (FindNobody m) s t u h ne = put_other s.doing t _ u ne
-others_same_by r MarkOwned s t u h ne = put_other s.doing t _ u ne
-others_same_by r (Bring taken moved) s t u h ne = put_other s.doing t _ u ne
-others_same_by r MarkBrought s t u h ne = put_other s.doing t _ u ne
-others_same_by r (Case case) s t u h ne = put_other s.doing t _ u ne
-
-pub others_same : (r : Rules) (ds : List Deed) (s : Site) (t u : ℕ) → AreSingle ds → u ≢ t → (after_acts r (acts t ds) s).doing u ≡ s.doing u
-others_same r [] s t u h ne = refl
-others_same r (d ∷ ds) s t u h ne = others_same r ds (after_deed r d s t) t u h.1 ne ∙ others_same_by r d s t u h.0 ne
-
--- no deed fills a lock that nobody shares
-pub same_filled : (r : Rules) (ds : List deeds.Act) (s : Site) → has_readers r.sort ≡ false → (after_acts r ds s).filled ≡ s.filled
-same_filled r [] s h = refl
-same_filled r (a ∷ ds) s h = same_filled r ds (after_deed r a.deed s a.by) h ∙ filled_by a.deed
-  where
-    filled_by : (d : Deed) → (after_deed r d s a.by).filled ≡ s.filled
-    filled_by (Case case) = rw h (or-false s.filled)
-    filled_by (Mark Main) = refl
-    filled_by (Mark m) = refl
-    filled_by (Clear Main) = refl
-    filled_by (Clear m) = refl
-    filled_by d = refl
-
--- a site as it is seen is one that is known by its parts
-pub meets : (l : ℕ) (n : Base) (word : ℕ) (o : Owners) (m s : List Waiter) (p : ℕ → Place) (t : ℕ) (p2 : Place) (v : Site) → taken_at (p t) l ≡ taken_at p2 l → lock_seen n.shared o m s (λ u. taken_at (p u) l) ≡ v.lock → is_parked word ≡ v.parked → false ≡ v.aside_parked → n.filled ≡ v.filled
-    → doing_on p2 l ≡ v.doing t → ((u : ℕ) → u ≢ t → v.doing u ≡ doing_on (p u) l) → seen l n word o m s (putting p t p2) ≡ v
-meets l n word o m s p t p2 v hand lock bit aside full own others = moved l n word o m s p t p2 hand ∙ (λ i. record { lock = lock i; parked = bit i; aside_parked = aside i; filled = full i; doing = λ u. doing_now u i })
-  where
-    doing_now : (u : ℕ) → putting (λ x. doing_on (p x) l) t (doing_on p2 l) u ≡ v.doing u
-    doing_now u = elim (cases_eq u t) [
-      | inl e ↦ rw e (put_here (λ x. doing_on (p x) l) t (doing_on p2 l) ∙ own)
-      | inr ne ↦ put_other (λ x. doing_on (p x) l) t (doing_on p2 l) u ne ∙ sym (others u ne)
-    ]
-
--- ---------------------------------------------------------------- queues, seen without their keys
-
-pub queued_behind : (key t : ℕ) (x : Want) (q : List Waiter) → map queued_of (q ++ waiter key t x ∷ []) ≡ map queued_of q ++ (record { thread = t; want = x }) ∷ []
-queued_behind key t x [] = refl
-queued_behind key t x (y ∷ q) = ap (λ ys. queued_of y ∷ ys) (queued_behind key t x q)
-
-pub queued_without : (t : ℕ) (q : List Waiter) → map queued_of (without t q) ≡ locks.without t (map queued_of q)
-queued_without t [] = refl
-queued_without t (y ∷ q) = either (not (y.thread == t)) (queued_without t q)
-  where
-    either : (b : Bool) → map queued_of (without t q) ≡ locks.without t (map queued_of q) → map queued_of (cond b (y ∷ without t q) (without t q)) ≡ cond b (queued_of y ∷ locks.without t (map queued_of q)) (locks.without t (map queued_of q))
-    either true e = ap (λ ys. queued_of y ∷ ys) e
-    either false e = e
-
-pub queued_times : (t : ℕ) (q : List Waiter) → locks.times t (map queued_of q) ≡ times t q
-queued_times t [] = refl
-queued_times t (y ∷ q) = ap (λ k. (if y.thread == t then 1 else 0) + k) (queued_times t q)
 
 -- ---------------------------------------------------------------- what one thread's step does to the lock that it calls
 
--- it goes from where it stands to p2, by deeds that are allowed
-pub record Steps (l : ℕ) (n : Base) (w w2 : ℕ) (o o2 : Owners) (m m2 s : List Waiter) (p : ℕ → Place) (t : ℕ) (p2 : Place) (ds : List Deed) : Type 0 where
-  pub site : seen l n w2 o2 m2 s (putting p t p2) ≡ after_acts mutex (acts t ds) (seen l n w o m s p)
-  pub needed : AllNeeded mutex (acts t ds) (seen l n w o m s p)
+abbrev pub parts : Base → ℕ → Owners → (main second : List Waiter) → Parts
+parts n word o main second = record { base = n; word = word; owners = o; main = main; second = second }
+
+-- a step of a mutex
+abbrev pub MutexSteps : (l : ℕ) → Base → (w w2 : ℕ) → (o o2 : Owners) → (m m2 s : List Waiter) → (ℕ → Place) → (t : ℕ) → Place → List Deed → Type 0
+MutexSteps l n w w2 o o2 m m2 s p t p2 ds = Steps mutex l (parts n w o m s) (parts n w2 o2 m2 s) p t p2 ds
 
 module _ (l : ℕ) (n : Base) (w w2 : ℕ) (o : Owners) (m s : List Waiter) (p : ℕ → Place) (t : ℕ) (p2 : Place) (site : IsSite mutex (seen l n w o m s p)) (d : Doing) (is : doing_on (p t) l ≡ d) (hand : taken_at (p t) l ≡ None) (hand2 : taken_at p2 l ≡ None) where
   abbrev now : Site
@@ -121,54 +53,54 @@ module _ (l : ℕ) (n : Base) (w w2 : ℕ) (o : Owners) (m s : List Waiter) (p :
 
   meet : (o2 : Owners) (m2 : List Waiter) (ds : List Deed) → AreSingle ds → lock_seen n.shared o2 m2 s (λ u. taken_at (p u) l) ≡ (after_acts mutex (acts t ds) now).lock → is_parked w2 ≡ (after_acts mutex (acts t ds) now).parked
       → false ≡ (after_acts mutex (acts t ds) now).aside_parked → doing_on p2 l ≡ (after_acts mutex (acts t ds) now).doing t → seen l n w2 o2 m2 s (putting p t p2) ≡ after_acts mutex (acts t ds) now
-  meet o2 m2 ds single lock bit aside own = meets l n w2 o2 m2 s p t p2 (after_acts mutex (acts t ds) now) (hand ∙ sym hand2) lock bit aside (sym (same_filled mutex (acts t ds) now refl)) own (λ u ne. others_same mutex ds now t u single ne)
+  meet o2 m2 ds single lock bit aside own = meets mutex l (parts n w2 o2 m2 s) p t p2 (after_acts mutex (acts t ds) now) (hand ∙ sym hand2) lock bit aside (sym (same_filled mutex (acts t ds) now refl)) own (λ u ne. others_same mutex ds now t u single ne)
 
-  pub looks : is_parked w2 ≡ is_parked w → doing_on p2 l ≡ d → Steps l n w w2 o o m m s p t p2 []
+  pub looks : is_parked w2 ≡ is_parked w → doing_on p2 l ≡ d → MutexSteps l n w w2 o o m m s p t p2 []
   looks bit own = record { site = meet o m [] tt refl bit refl (own ∙ sym is); needed = tt }
 
-  pub enters : o.exclusive ≡ None → d.inside ≡ None → d.wakes ≡ None → d.carries ≡ false → (d.retries ≡ None) ⊎ (d.retries ≡ Some Exclusive) → is_parked w2 ≡ is_parked w → doing_on p2 l ≡ idle → Steps l n w w2 o (with_exclusive o (Some t)) m m s p t p2 (Case (locks.Enter Exclusive) ∷ End ∷ [])
+  pub enters : o.exclusive ≡ None → d.inside ≡ None → d.wakes ≡ None → d.carries ≡ false → (d.retries ≡ None) ⊎ (d.retries ≡ Some Exclusive) → is_parked w2 ≡ is_parked w → doing_on p2 l ≡ idle → MutexSteps l n w w2 o (with_exclusive o (Some t)) m m s p t p2 (Case (locks.Enter Exclusive) ∷ End ∷ [])
   enters free i w c r bit own = record {
     site = meet (with_exclusive o (Some t)) m (Case (locks.Enter Exclusive) ∷ End ∷ []) (tt, (tt, tt)) refl bit refl (own ∙ rw (same t) refl);
     needed = (((((tt, free), tt), site.state.unshared (λ h. h)), rw is r), (rw (same t, is) (i, w, c, λ h. absurd cc), tt));
   }
 
-  pub marks : is_parked w2 ≡ true → doing_on p2 l ≡ d → Steps l n w w2 o o m m s p t p2 (Mark Main ∷ [])
+  pub marks : is_parked w2 ≡ true → doing_on p2 l ≡ d → MutexSteps l n w w2 o o m m s p t p2 (Mark Main ∷ [])
   marks bit own = record { site = meet o m (Mark Main ∷ []) (tt, tt) refl bit refl (own ∙ sym is); needed = (tt, tt) }
 
-  pub clears : is_parked w2 ≡ false → d.empty ≡ Some Main → doing_on p2 l ≡ record d { empty = None; brings = false } → Steps l n w w2 o o m m s p t p2 (Clear Main ∷ [])
+  pub clears : is_parked w2 ≡ false → d.empty ≡ Some Main → doing_on p2 l ≡ record d { empty = None; brings = false } → MutexSteps l n w w2 o o m m s p t p2 (Clear Main ∷ [])
   clears bit e own = record { site = meet o m (Clear Main ∷ []) (tt, tt) refl bit refl (own ∙ rw (same t, is) refl); needed = (ap (λ (x : Doing). x.empty) is ∙ e, tt) }
 
-  pub leaves : is_parked w2 ≡ is_parked w → d.claims ≡ Some (Has Exclusive) → d.wakes ≡ None → d.covers ≡ false → doing_on p2 l ≡ record d { wakes = seen_main (is_parked w); claims = None } → Steps l n w w2 o (with_exclusive o None) m m s p t p2 (Case (locks.Leave Exclusive) ∷ [])
+  pub leaves : is_parked w2 ≡ is_parked w → d.claims ≡ Some (Has Exclusive) → d.wakes ≡ None → d.covers ≡ false → doing_on p2 l ≡ record d { wakes = seen_main (is_parked w); claims = None } → MutexSteps l n w w2 o (with_exclusive o None) m m s p t p2 (Case (locks.Leave Exclusive) ∷ [])
   leaves bit c w v own = record {
     site = meet (with_exclusive o None) m (Case (locks.Leave Exclusive) ∷ []) (tt, tt) refl bit refl (own ∙ rw (same t, is, v) refl);
     needed = ((site.held t (Has Exclusive) (ap (λ (x : Doing). x.claims) is ∙ c), ap (λ (x : Doing). x.wakes) is ∙ w), tt);
   }
 
-  pub leaves_all : is_parked w2 ≡ is_parked w → is_parked w ≡ false → d.claims ≡ Some (Has Exclusive) → d.wakes ≡ None → d.covers ≡ false → d.inside ≡ None → d.carries ≡ false → d.retries ≡ None → doing_on p2 l ≡ idle → Steps l n w w2 o (with_exclusive o None) m m s p t p2 (Case (locks.Leave Exclusive) ∷ End ∷ [])
+  pub leaves_all : is_parked w2 ≡ is_parked w → is_parked w ≡ false → d.claims ≡ Some (Has Exclusive) → d.wakes ≡ None → d.covers ≡ false → d.inside ≡ None → d.carries ≡ false → d.retries ≡ None → doing_on p2 l ≡ idle → MutexSteps l n w w2 o (with_exclusive o None) m m s p t p2 (Case (locks.Leave Exclusive) ∷ End ∷ [])
   leaves_all bit none c w v i k r own = record {
     site = meet (with_exclusive o None) m (Case (locks.Leave Exclusive) ∷ End ∷ []) (tt, (tt, tt)) refl bit refl (own ∙ rw (same t) refl);
     needed = ((site.held t (Has Exclusive) (ap (λ (x : Doing). x.claims) is ∙ c), ap (λ (x : Doing). x.wakes) is ∙ w), (rw (same t, is, v, none) (i, refl, k, λ h. absurd (let g : counts_some locks.Mutex None ≡ true = rw r at h in cc)), tt));
   }
 
-  pub ends : is_parked w2 ≡ is_parked w → d.inside ≡ None → d.wakes ≡ None → d.carries ≡ false → d.retries ≡ None → doing_on p2 l ≡ idle → Steps l n w w2 o o m m s p t p2 (End ∷ [])
+  pub ends : is_parked w2 ≡ is_parked w → d.inside ≡ None → d.wakes ≡ None → d.carries ≡ false → d.retries ≡ None → doing_on p2 l ≡ idle → MutexSteps l n w w2 o o m m s p t p2 (End ∷ [])
   ends bit i w c r own = record {
     site = meet o m (End ∷ []) (tt, tt) refl bit refl (own ∙ rw (same t) refl);
     needed = (rw is (i, w, c, λ h. absurd (let g : counts_some locks.Mutex None ≡ true = rw r at h in cc)), tt);
   }
 
-  pub goes_in : is_parked w2 ≡ is_parked w → ((u : ℕ) → (now.doing u).inside ≢ Some Main) → d.inside ≡ None → d.empty ≡ None → doing_on p2 l ≡ record d { inside = Some Main } → Steps l n w w2 o o m m s p t p2 (In Main ∷ [])
+  pub goes_in : is_parked w2 ≡ is_parked w → ((u : ℕ) → (now.doing u).inside ≢ Some Main) → d.inside ≡ None → d.empty ≡ None → doing_on p2 l ≡ record d { inside = Some Main } → MutexSteps l n w w2 o o m m s p t p2 (In Main ∷ [])
   goes_in bit free i e own = record {
     site = meet o m (In Main ∷ []) (tt, tt) refl bit refl (own ∙ rw (same t, is) refl);
     needed = ((free, rw is i, rw is e), tt);
   }
 
-  pub finds_nobody : is_parked w2 ≡ is_parked w → m ≡ [] → d.inside ≡ Some Main → d.carries ≡ false → (d.wakes ≡ None) ⊎ (d.wakes ≡ Some Main) → doing_on p2 l ≡ record d { wakes = None; carries = true; covers = true; empty = Some Main } → Steps l n w w2 o o m m s p t p2 (FindNobody Main ∷ [])
+  pub finds_nobody : is_parked w2 ≡ is_parked w → m ≡ [] → d.inside ≡ Some Main → d.carries ≡ false → (d.wakes ≡ None) ⊎ (d.wakes ≡ Some Main) → doing_on p2 l ≡ record d { wakes = None; carries = true; covers = true; empty = Some Main } → MutexSteps l n w w2 o o m m s p t p2 (FindNobody Main ∷ [])
   finds_nobody bit none i c v own = record {
     site = meet o m (FindNobody Main ∷ []) (tt, tt) refl bit refl (own ∙ rw (same t, is) refl);
     needed = ((rw is i, rw is c, ap (map queued_of) none, rw is v), tt);
   }
 
-  pub parks : (key : ℕ) → is_parked w2 ≡ is_parked w → is_parked w ≡ true → (o.exclusive ≢ None) → times t m ≡ 0 → is_thread t (first_of s) ≡ 0 → d.inside ≡ Some Main → d.wakes ≡ None → d.covers ≡ false → doing_on p2 l ≡ record d { retries = None; empty = None } → Steps l n w w2 o o m (m ++ waiter key t Exclusive ∷ []) s p t p2 (Case (locks.Park Exclusive) ∷ [])
+  pub parks : (key : ℕ) → is_parked w2 ≡ is_parked w → is_parked w ≡ true → (o.exclusive ≢ None) → times t m ≡ 0 → is_thread t (first_of s) ≡ 0 → d.inside ≡ Some Main → d.wakes ≡ None → d.covers ≡ false → doing_on p2 l ≡ record d { retries = None; empty = None } → MutexSteps l n w w2 o o m (m ++ waiter key t Exclusive ∷ []) s p t p2 (Case (locks.Park Exclusive) ∷ [])
   parks key bit set owned nowhere aside i v c own = record {
     site = meet o (m ++ waiter key t Exclusive ∷ []) (Case (locks.Park Exclusive) ∷ []) (tt, tt) (ap (λ q. record now.lock { queue = q }) (queued_behind key t Exclusive m)) bit refl (own ∙ rw (same t, is) refl);
     needed = ((((tt, owned), stands_nowhere), (rw is i, set, rw is v, rw is c)), tt);
@@ -177,14 +109,14 @@ module _ (l : ℕ) (n : Base) (w w2 : ℕ) (o : Owners) (m s : List Waiter) (p :
       stands_nowhere : locks.times t (map queued_of m) + is_thread t (first_of s) + one_if_some (taken_at (p t) l) ≡ 0
       stands_nowhere = let a : locks.times t (map queued_of m) ≡ times t m = queued_times t m in let b : one_if_some (taken_at (p t) l) ≡ 0 = ap one_if_some hand in omega arith
 
-  pub removes : is_parked w2 ≡ is_parked w → 1 ≤ times t m → first_of s ≡ None → d.inside ≡ Some Main → d.carries ≡ false → doing_on p2 l ≡ record d { empty = found Main (is_empty (map queued_of (without t m))) } → Steps l n w w2 o o m (without t m) s p t p2 (Case locks.Late ∷ [])
+  pub removes : is_parked w2 ≡ is_parked w → 1 ≤ times t m → first_of s ≡ None → d.inside ≡ Some Main → d.carries ≡ false → doing_on p2 l ≡ record d { empty = found Main (is_empty (map queued_of (without t m))) } → MutexSteps l n w w2 o o m (without t m) s p t p2 (Case locks.Late ∷ [])
   removes bit stands none i c own = record {
     site = meet o (without t m) (Case locks.Late ∷ []) (tt, tt) (λ j. record now.lock { queue = queued_without t m j; aside = (none ∙ sym (ap (locks.aside_without t) none)) j }) bit refl
         (own ∙ rw (same t, is, i, queued_without) refl);
     needed = (((let a : locks.times t (map queued_of m) ≡ times t m = queued_times t m in omega arith), (rw (is, i) (λ h. let g : None ≡ Some t = sym none ∙ h in cc), rw is c)), tt);
   }
 
-  pub hands_nobody : is_parked w2 ≡ false → ((u : ℕ) → Untaken t (taken_at (p u) l)) → d.claims ≡ Some (Has Exclusive) → d.covers ≡ true → d.retries ≡ None → d.wakes ≡ None → d.inside ≡ Some Main → d.empty ≡ Some Main → doing_on p2 l ≡ record d { covers = false; claims = None; empty = None; brings = false; sets = false } → Steps l n w w2 o (with_exclusive o None) m m s p t p2 (Case (locks.HandOff Exclusive None) ∷ Clear Main ∷ [])
+  pub hands_nobody : is_parked w2 ≡ false → ((u : ℕ) → Untaken t (taken_at (p u) l)) → d.claims ≡ Some (Has Exclusive) → d.covers ≡ true → d.retries ≡ None → d.wakes ≡ None → d.inside ≡ Some Main → d.empty ≡ Some Main → doing_on p2 l ≡ record d { covers = false; claims = None; empty = None; brings = false; sets = false } → MutexSteps l n w w2 o (with_exclusive o None) m m s p t p2 (Case (locks.HandOff Exclusive None) ∷ Clear Main ∷ [])
   hands_nobody bit none c v r k i e own = record {
     site = meet (with_exclusive o None) m (Case (locks.HandOff Exclusive None) ∷ Clear Main ∷ []) (tt, (tt, tt)) (sym (λ j. lock_seen n.shared (with_exclusive o None) m s (λ u. none u j)) ∙ sym (handed_is t n o m s p l None (site.state.unshared (λ h. h)))) bit refl (own ∙ rw (same t, is) refl);
     needed = (((site.held t (Has Exclusive) (ap (λ (x : Doing). x.claims) is ∙ c), (λ h. cc), heirless, tt), (rw is i, rw is v, rw is r, rw is k)), (rw (same t, is) e, tt));
@@ -204,7 +136,7 @@ own_doing l q at is = ap (λ x. doing_on x l) is ∙ ap (λ b. if b then mutex_d
 
 -- what a step on the word does to the lock, and that the word is the lock's
 pub record OnWord (l : ℕ) (n : Base) (w : ℕ) (o : Owners) (m s : List Waiter) (p : ℕ → Place) (t : ℕ) (at : MutexPlace) (f : Op) : Type 0 where
-  pub steps : Steps l n w (apply f w) o (mutex_owners at t w o) m m s p t (next_place (Mutex l at) (Value w)) (mutex_deeds at None (Value w))
+  pub steps : MutexSteps l n w (apply f w) o (mutex_owners at t w o) m m s p t (next_place (Mutex l at) (Value w)) (mutex_deeds at None (Value w))
   pub code : IsCode (apply f w) (mutex_owners at t w o).exclusive
   -- it neither goes into a section, nor out of one, nor into a line or a hand
   pub same : station (next_place (Mutex l at) (Value w)) ≡ mutex_station at
@@ -227,11 +159,11 @@ module _ (l : ℕ) (n : Base) (o : Owners) (m s : List Waiter) (p : ℕ → Plac
   none_owns (Some x) k h = absurd (omega arith)
 
   -- where nothing changes
-  stay : (w : ℕ) (at at2 : MutexPlace) → p t ≡ Mutex l at → IsSite mutex (seen l n w o m s p) → taken_at (Mutex l at) l ≡ None → taken_at (Mutex l at2) l ≡ None → mutex_doing at2 ≡ mutex_doing at → Steps l n w w o o m m s p t (Mutex l at2) []
+  stay : (w : ℕ) (at at2 : MutexPlace) → p t ≡ Mutex l at → IsSite mutex (seen l n w o m s p) → taken_at (Mutex l at) l ≡ None → taken_at (Mutex l at2) l ≡ None → mutex_doing at2 ≡ mutex_doing at → MutexSteps l n w w o o m m s p t (Mutex l at2) []
   stay w at at2 is site none none2 e = looks l n w w o m s p t (Mutex l at2) site (mutex_doing at) (own_doing l (p t) at is) (ap (λ x. taken_at x l) is ∙ none) none2 refl (own_doing l (Mutex l at2) at2 refl ∙ e)
 
   takes : (w w2 : ℕ) (at : MutexPlace) → p t ≡ Mutex l at → IsSite mutex (seen l n w o m s p) → taken_at (Mutex l at) l ≡ None → o.exclusive ≡ None → (mutex_doing at).inside ≡ None → (mutex_doing at).wakes ≡ None → (mutex_doing at).carries ≡ false
-      → ((mutex_doing at).retries ≡ None) ⊎ ((mutex_doing at).retries ≡ Some Exclusive) → is_parked w2 ≡ is_parked w → Steps l n w w2 o (with_exclusive o (Some t)) m m s p t Idle (Case (locks.Enter Exclusive) ∷ End ∷ [])
+      → ((mutex_doing at).retries ≡ None) ⊎ ((mutex_doing at).retries ≡ Some Exclusive) → is_parked w2 ≡ is_parked w → MutexSteps l n w w2 o (with_exclusive o (Some t)) m m s p t Idle (Case (locks.Enter Exclusive) ∷ End ∷ [])
   takes w w2 at is site none free i v c r bit = enters l n w w2 o m s p t Idle site (mutex_doing at) (own_doing l (p t) at is) (ap (λ x. taken_at x l) is ∙ none) refl free i v c r bit refl
 
   again_is : (b : Bool) → ((if b then Some Exclusive else None) ≡ None) ⊎ ((if b then Some Exclusive else None) ≡ Some Exclusive)
@@ -291,7 +223,7 @@ module _ (l : ℕ) (n : Base) (o : Owners) (m s : List Waiter) (p : ℕ → Plac
 
   -- the bit is cleared where nobody is left
   wipes : (at at2 : MutexPlace) (w w2 : ℕ) → p t ≡ Mutex l at → IsSite mutex (seen l n w o m s p) → taken_at (Mutex l at) l ≡ None → taken_at (Mutex l at2) l ≡ None → is_parked w2 ≡ false → (mutex_doing at).empty ≡ Some Main
-      → mutex_doing at2 ≡ record (mutex_doing at) { empty = None; brings = false } → Steps l n w w2 o o m m s p t (Mutex l at2) (Clear Main ∷ [])
+      → mutex_doing at2 ≡ record (mutex_doing at) { empty = None; brings = false } → MutexSteps l n w w2 o o m m s p t (Mutex l at2) (Clear Main ∷ [])
   wipes at at2 w w2 is site none none2 bit e e2 = clears l n w w2 o m s p t (Mutex l at2) site (mutex_doing at) (own_doing l (p t) at is) (ap (λ x. taken_at x l) is ∙ none) none2 bit e (own_doing l (Mutex l at2) at2 refl ∙ e2)
 
   pub at_clear : (e : Entry) (b : Bool) (w : ℕ) → Fits w (Lock e b lock.Clear) (op.And NOT_PARKED)
@@ -311,7 +243,7 @@ module _ (l : ℕ) (n : Base) (o : Owners) (m s : List Waiter) (p : ℕ → Plac
       w
 
   -- a call that ends with what it has
-  rests : (w : ℕ) (at : MutexPlace) → p t ≡ Mutex l at → IsSite mutex (seen l n w o m s p) → taken_at (Mutex l at) l ≡ None → (mutex_doing at).inside ≡ None → (mutex_doing at).wakes ≡ None → (mutex_doing at).carries ≡ false → (mutex_doing at).retries ≡ None → Steps l n w w o o m m s p t Idle (End ∷ [])
+  rests : (w : ℕ) (at : MutexPlace) → p t ≡ Mutex l at → IsSite mutex (seen l n w o m s p) → taken_at (Mutex l at) l ≡ None → (mutex_doing at).inside ≡ None → (mutex_doing at).wakes ≡ None → (mutex_doing at).carries ≡ false → (mutex_doing at).retries ≡ None → MutexSteps l n w w o o m m s p t Idle (End ∷ [])
   rests w at is site none i v c r = ends l n w w o m s p t Idle site (mutex_doing at) (own_doing l (p t) at is) (ap (λ x. taken_at x l) is ∙ none) refl refl i v c r refl
 
   pub at_try : (w : ℕ) → Fits w TryLock (op.Or 1)
@@ -326,7 +258,7 @@ module _ (l : ℕ) (n : Base) (o : Owners) (m s : List Waiter) (p : ℕ → Plac
   owned : (w k : ℕ) (at : MutexPlace) → p t ≡ Mutex l at → IsSite mutex (seen l n w o m s p) → (mutex_doing at).claims ≡ Some (Has Exclusive) → k + 0 ≡ one_if_some o.exclusive + k → ⊥
   owned w k at is site c code = let a : o.exclusive ≡ Some t = site.held t (Has Exclusive) (ap (λ (x : Doing). x.claims) (own_doing l (p t) at is) ∙ c) in let b : o.exclusive ≡ None = none_owns o.exclusive k code in cc
 
-  gives_up : (at : MutexPlace) → p t ≡ Mutex l at → IsSite mutex (seen l n 1 o m s p) → taken_at (Mutex l at) l ≡ None → mutex_doing at ≡ owner → Steps l n 1 0 o (with_exclusive o None) m m s p t Idle (Case (locks.Leave Exclusive) ∷ End ∷ [])
+  gives_up : (at : MutexPlace) → p t ≡ Mutex l at → IsSite mutex (seen l n 1 o m s p) → taken_at (Mutex l at) l ≡ None → mutex_doing at ≡ owner → MutexSteps l n 1 0 o (with_exclusive o None) m m s p t Idle (Case (locks.Leave Exclusive) ∷ End ∷ [])
   gives_up at is site none e = leaves_all l n 1 0 o m s p t Idle site owner (own_doing l (p t) at is ∙ e) (ap (λ x. taken_at x l) is ∙ none) refl refl refl refl refl refl refl refl refl refl
 
   pub at_subtract : (w : ℕ) → Fits w (Unlock unlock.Subtract) (op.Sub 1)
@@ -354,7 +286,7 @@ module _ (l : ℕ) (n : Base) (o : Owners) (m s : List Waiter) (p : ℕ → Plac
       w
 
   -- a fair release that has taken nobody
-  pub at_store_none : Hands p → (bumps none_left : Bool) (w : ℕ) → Fits w (HandOff bumps (hand_off.Store false none_left)) (op.Store 0)
+  pub at_store_none : {one : ℕ → Type 0} → Hands one p → (bumps none_left : Bool) (w : ℕ) → Fits w (HandOff bumps (hand_off.Store false none_left)) (op.Store 0)
   at_store_none hands bumps none_left w is site code = record {
     steps = hands_nobody l n w 0 o m s p t (Mutex l (HandOff bumps (hand_off.Leave false))) site (mutex_doing (HandOff bumps (hand_off.Store false none_left))) (own_doing l (p t) _ is) (ap (λ x. taken_at x l) is) refl refl
         (λ u. untaken (p u) t l (λ h. let a : carried_at (p t) l ≡ Some false = hands.taken t u l false h in let b : carried_at (p t) l ≡ None = ap (λ (x : Station). x.carries) (own_stance l (p t) _ is) in cc))

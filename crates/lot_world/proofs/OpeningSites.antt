@@ -1,7 +1,7 @@
 -- In the opening state each lock is a site, and nobody stands anywhere.
-use Rattle.std.proofs.Common.{ℕ, zero, suc, true, false, None, ◌&&◌, ◌≡◌, ◌+◌, ◌*◌, ◌≤◌, List, [], ◌∷◌, length, get_or, map, replicate, sum, nat_le, All, inl, inr, refl, sym, ◌∙◌, ap, arith}
+use Rattle.std.proofs.Common.{ℕ, zero, suc, true, false, None, ◌&&◌, ◌≡◌, ◌+◌, ◌-◌, ◌*◌, ◌^◌, ◌≤◌, ◌<◌, List, [], ◌∷◌, length, get_or, map, replicate, sum, nat_le, All, inl, inr, refl, sym, ◌∙◌, ap, arith}
 use Rattle.std.proofs.lemmas.Bool.{cases_lt, leb-true}
-use Rattle.std.proofs.lemmas.List.{length-replicate}
+use Rattle.std.proofs.lemmas.List.{length-replicate, length-map}
 use Rattle.lot_calls.specs.declared.kinds.Kind.{Kind}
 use Rattle.lot_calls.specs.declared.kinds.Kind as kind
 use Rattle.lot_calls.specs.declared.kinds.TheConstants.{MOST_READERS}
@@ -9,13 +9,13 @@ use Rattle.lot_calls.specs.Kinds.{fits}
 use Rattle.lot_steps.specs.declared.places.Place.TheVariants.{Idle}
 use Rattle.abstract_locks.specs.Locks.{Rules, Sort, opening_lock}
 use Rattle.abstract_locks.specs.Locks as locks
-use Rattle.abstract_locks.specs.Codes.{code, parked_in, aside_in}
+use Rattle.abstract_locks.specs.Codes.{code, parked_in, aside_in, HasLimit}
 use Rattle.abstract_locks.specs.Purposes.{rules_of}
-use Rattle.abstract_locks.specs.Sites.{IsSite, opening_site, is_full}
+use Rattle.abstract_locks.specs.Sites.{Site, IsSite, opening_site, is_full, has_readers}
 use Rattle.abstract_locks.proofs.LockKeeps.{opening_is_state}
 use Rattle.lot_machine.specs.Machine.{State, opening, unlocked, place_at, kind_at}
 use Rattle.lot_world.specs.Stations.{nowhere, station_at}
-use Rattle.lot_world.specs.SitesOf.{IsSteady, site_of, rules_at, key_of, carried_at, hand_at}
+use Rattle.lot_world.specs.SitesOf.{IsSteady, HasRoom, site_of, rules_at, key_of, carried_at, hand_at}
 use Rattle.lot_world.proofs.Glue.{past_all, seen_by}
 use Rattle.lot_machine.proofs.Opening.{idle_at, none_at, empty_at, nobody_owns, no_readers, opening_shares}
 use Rattle.lot_machine.proofs.Shape.{both}
@@ -47,6 +47,12 @@ limit_leaves_room n limit some h full =
     let c : (sum (replicate n 0) + 0) ≡ 0 = rw (no_readers n) refl in
     omega arith
 
+limit_fits : (n limit : ℕ) → 1 ≤ n → (nat_le n limit && nat_le limit MOST_READERS) ≡ true → (1 ≤ limit) × (limit < 2 ^ 60 - 1)
+limit_fits n limit some h =
+    let a : n ≤ limit = leb-true n limit (both (nat_le n limit) (nat_le limit MOST_READERS) h).0 in
+    let b : limit ≤ MOST_READERS = leb-true limit MOST_READERS (both (nat_le n limit) (nat_le limit MOST_READERS) h).1 in
+    (omega arith, omega arith)
+
 room : (k : Kind) (n : ℕ) → 1 ≤ n → fits k n ≡ true → is_full (rules_of k) (opening_lock n) ≡ true → ⊥
 room (kind.TheVariants.RwLock limit) n some h full = limit_leaves_room n limit some h full
 room (kind.TheVariants.Recursive limit) n some h full = limit_leaves_room n limit some h full
@@ -68,6 +74,23 @@ unfilled_0 : (kinds : List Kind) (l : ℕ) → (get_or (map unlocked kinds) l (u
 unfilled_0 [] l = refl
 unfilled_0 (x ∷ xs) zero = refl
 unfilled_0 (x ∷ xs) (suc l) = unfilled_0 xs l
+
+-- a number of readers that a word can count
+roomy : (k : Kind) (n : ℕ) → 1 ≤ n → fits k n ≡ true → has_readers (rules_of k).sort ≡ true → HasRoom (rules_of k)
+roomy (kind.TheVariants.RwLock limit) n some h r = limit_fits n limit some h
+roomy (kind.TheVariants.Recursive limit) n some h r = limit_fits n limit some h
+roomy kind.TheVariants.Mutex n some h r = absurd cc
+roomy kind.TheVariants.Fair n some h r = absurd cc
+roomy k n some h r = absurd cc
+
+-- nobody shares
+opening_limit : (r : Rules) (n : ℕ) → HasLimit r (opening_lock n)
+opening_limit r n = let none : sum (replicate n 0) ≡ 0 = no_readers n in record {
+  top = omega arith;
+  normal = λ h. omega arith;
+  falls = λ p h f. absurd cc;
+  falls_normal = λ p h f g. absurd cc;
+}
 
 -- no bit is set in a word that is 0
 no_bits : (sort : Sort) (n : ℕ) → record (opening_site n) { parked = parked_in sort 0; aside_parked = aside_in sort 0 } ≡ opening_site n
@@ -110,13 +133,18 @@ module _ (kinds : List Kind) (threads : ℕ) where
       site = λ l. rw (opening_seen l) (rw size (opening_is_site (rules_at first l) threads (room (kind_at first l) threads some (kinds_fit fit l))));
       word = λ l. word_0 kinds l ∙ sym (ap (code (rules_at first l)) (opening_seen l) ∙ zero_code (kind_at first l) (length first.places));
       unfilled = λ l h. unfilled_0 kinds l;
+      limits = λ l h. (roomy (kind_at first l) threads some (kinds_fit fit l) h, rw (ap (λ (s : Site). s.lock) (opening_seen l)) (rw size (opening_limit (rules_at first l) threads)));
+    };
+    numbers = record {
+      locks = length-replicate (length kinds) (replicate threads 0) ∙ sym (length-map kinds unlocked);
+      threads = λ l. ap (λ (ns : List ℕ). length ns) (opening_shares kinds threads l) ∙ length-replicate (length first.places) 0;
     };
     stands = record {
       sections = λ t l m. rw (stands_nowhere t l, none_at (2 * length kinds) (key_of l m)) (λ h. absurd cc, λ h. absurd cc);
       lines = λ t l m. rw (stands_nowhere t l, empty_at (2 * length kinds) (key_of l m)) refl;
       hands = record {
         carried = λ t l b h. absurd (let a : carried_at (place_at first t) l ≡ None = ap (λ s. s.carries) (stands_nowhere t l) in cc);
-        alone = λ t l u v b c h. absurd (let a : hand_at (place_at first u) l ≡ None = ap (λ s. s.hand) (stands_nowhere u l) in cc);
+        alone = λ t l u v b c o h. absurd (let a : hand_at (place_at first u) l ≡ None = ap (λ s. s.hand) (stands_nowhere u l) in cc);
         taken = λ t u l b h. absurd (let a : hand_at (place_at first u) l ≡ None = ap (λ s. s.hand) (stands_nowhere u l) in cc);
       };
       calls = λ t. rw (idle_at threads t) tt;

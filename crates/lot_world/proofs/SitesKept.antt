@@ -1,5 +1,6 @@
 -- Each act of a thread keeps every lock of the world a site, whose word says so.
-use Rattle.std.proofs.Common.{ℕ, Bool, true, false, Option, Some, None, if◌then◌else◌, ◌≡◌, ◌≢◌, ◌+◌, ◌*◌, ◌≤◌, ◌<◌, List, [], ◌∷◌, ◌++◌, length, replicate, get_or, set, map, drop, inl, inr, refl, sym, ◌∙◌, ap, subst, arith, length-set, get_or-set_same, get_or-set_other}
+use Rattle.std.proofs.Math.Bool.{or-false}
+use Rattle.std.proofs.Common.{ℕ, Bool, true, false, Option, Some, None, if◌then◌else◌, ◌||◌, ◌≡◌, ◌≢◌, ◌+◌, ◌*◌, ◌≤◌, ◌<◌, List, [], ◌∷◌, ◌++◌, length, replicate, get_or, set, map, drop, inl, inr, refl, sym, ◌∙◌, ap, subst, arith, length-set, get_or-set_same, get_or-set_other}
 use Rattle.std.proofs.lemmas.Bool.{cases_eq}
 use Rattle.lot_base.specs.declared.keys.Keys.TheVariants.{One}
 use Rattle.lot_base.specs.declared.notes.Note.{Note}
@@ -28,9 +29,10 @@ use Rattle.lot_acts.specs.Owners.{with_exclusive}
 use Rattle.lot_steps.specs.Steps.{next_place}
 use Rattle.abstract_locks.specs.Locks.{Rules, TakeFirst, putting}
 use Rattle.abstract_locks.specs.Sites.{Doing, Site, IsSite, Deed, Main, Second, In, Out, Case, idle, leaves, found, is_empty, has_readers, after_deed}
-use Rattle.abstract_locks.specs.Codes.{code}
+use Rattle.abstract_locks.specs.Codes.{code, fills}
 use Rattle.abstract_locks.specs.Purposes.{rules_of}
-use Rattle.abstract_locks.proofs.SiteKeeps.{deed_keeps}
+pub use Rattle.lot_world.proofs.OneStep.{acts_keep}
+pub use Rattle.lot_world.proofs.ActsKept.{AlikeAt, alike_put, lock_by, follows_by, goes_steady, operated, word_goes, place_goes, enter_goes, leave_goes, nobody_inside}
 use Rattle.std.specs.Prelude.{sum}
 use Rattle.lot_machine.specs.Machine.{State, shares_handed_over, unlocked, place_at, word_at, owners_at, shares_at, filled_at, kind_at, queue_at, put, state_after_operation, state_with_sections, section_at, queues_without_first, state_after_reply, state_after_telling, state_after_hand_over, state_after_act, reply_to}
 use Rattle.lot_world.specs.Refinement.{taken_at}
@@ -38,12 +40,13 @@ use Rattle.abstract_locks.specs.Picks.{queued_of}
 use Rattle.lot_world.specs.MutexDeeds.{mutex_doing, mutex_deeds, mutex_station, acts, owner, queued}
 use Rattle.lot_world.specs.Stations.{Station, hand, nowhere, station, doing_on}
 use Rattle.lot_world.specs.MutexDeeds as deeds
-use Rattle.lot_world.specs.SitesOf.{site_of, rules_at, AllNeeded, IsSteady, Follows, Goes, CallsMutex, carried_at, hand_at, after_acts}
-use Rattle.lot_world.proofs.Glue.{base_at, seen_by, seen, site_seen, goes_from, put_places, put_here, put_other, IsOf, next_of, doing_elsewhere, taken_elsewhere, inside_is, own_stance, LetGo, leaving, taking, told_one, successor_one, none_given, lets_taken, lets_handed, lets_nobody, IsTakenAt, is_taken, IsHandedAt, is_handed, untaken, handing, hands_acts}
-use Rattle.lot_world.proofs.MutexTable.{mutex, IsCode, OnWord, Steps, same_filled, own_doing, goes_in as goes_into}
+use Rattle.lot_world.specs.SitesOf.{SameNumbers, TakesOne, site_of, rules_at, AllNeeded, IsSteady, Follows, Goes, CallsMutex, carried_at, hand_at, after_acts}
+use Rattle.lot_world.proofs.Glue.{base_at, seen_by, seen_in, seen, site_seen, goes_from, put_places, put_here, put_other, IsOf, next_of, doing_elsewhere, taken_elsewhere, inside_is, own_stance, LetGo, leaving, taking, told_one, successor_one, none_given, lets_taken, lets_handed, lets_nobody, IsTakenAt, is_taken, IsHandedAt, is_handed, untaken, handing, hands_acts}
+use Rattle.lot_world.proofs.MutexTable.{mutex, parts, IsCode, OnWord, MutexSteps, same_filled, own_doing, goes_in as goes_into}
 use Rattle.lot_world.proofs.KindsKept.{operated_kinds, operated_filled, given_kinds, given_filled, given_shares}
 use Rattle.lot_world.specs.SitesOf.{is_mutex}
-use Rattle.lot_world.proofs.StandsMoved.{mutex_rules, still, goes_in, goes_out, lets_go, hands_lock, takes}
+use Rattle.lot_world.proofs.StandsKept.{calls_of}
+use Rattle.lot_world.proofs.StandsMoved.{mutex_rules, takes_one, still, goes_in, goes_out, lets_go, hands_lock, takes}
 use Rattle.lot_world.proofs.MutexSections.{hands_needed, take_needed, first_wants}
 
 -- g is f, but for x at i
@@ -57,30 +60,11 @@ changed_set f xs i x d lt = record { here = ap f (get_or-set_same xs i x d lt); 
 pub unchanged : {A : Type 0} (f : ℕ → A) (l : ℕ) → Changed f f l (f l)
 unchanged f l = record { here = refl; other = λ j ne. refl }
 
--- deeds one after another
-pub acts_keep : (r : Rules) (ds : List deeds.Act) (s : Site) → IsSite r s → AllNeeded r ds s → IsSite r (after_acts r ds s)
-acts_keep r [] s h n = h
-acts_keep r (a ∷ more) s h n = acts_keep r more (after_deed r a.deed s a.by) (deed_keeps r a.deed s a.by h n.0) n.1
-
--- what another lock sees of each place
-abbrev pub AlikeAt : ℕ → Place → Place → Type 0
-AlikeAt k p q = (taken_at q k ≡ taken_at p k) × (doing_on q k ≡ doing_on p k)
-
-pub alike_put : (l k : ℕ) (p : ℕ → Place) (t : ℕ) (p2 : Place) → IsOf l (p t) → IsOf l p2 → k ≢ l → (u : ℕ) → AlikeAt k (p u) (putting p t p2 u)
-alike_put l k p t p2 h h2 ne u = elim (cases_eq u t) [
-  | inl e ↦ rw (e, put_here p t p2) (taken_elsewhere l k p2 h2 ne ∙ sym (taken_elsewhere l k (p t) h ne), doing_elsewhere l k p2 h2 ne ∙ sym (doing_elsewhere l k (p t) h ne))
-  | inr nu ↦ rw (put_other p t p2 u nu) (refl, refl)
-]
-
 pub alike_both : (l k : ℕ) (p : ℕ → Place) (v : ℕ) (pv : Place) (t : ℕ) (p2 : Place) → IsOf l (p v) → IsOf l pv → IsOf l (p t) → IsOf l p2 → v ≢ t → k ≢ l → (u : ℕ) → AlikeAt k (p u) (putting (putting p v pv) t p2 u)
 alike_both l k p v pv t p2 hv hpv ht h2 apart ne u =
     let a = alike_put l k p v pv hv hpv ne u in
     let b = alike_put l k (putting p v pv) t p2 (rw (put_other p v pv t (λ e. apart (sym e))) ht) h2 ne u in
     (b.0 ∙ a.0, b.1 ∙ a.1)
-
--- a lock, by its rules
-abbrev pub lock_by : State → ℕ → Rules → Site
-lock_by w l r = seen_by r l (base_at w l) (word_at w l) (owners_at w l) (queue_at w (2 * l)) (queue_at w (2 * l + 1)) (place_at w)
 
 abbrev pub mutex_at : State → ℕ → Site
 mutex_at w l = lock_by w l mutex
@@ -89,48 +73,20 @@ pub same_bases : (w v : State) → v.locks ≡ w.locks → v.shares ≡ w.shares
 same_bases w v locks shares threads k = λ i. record { shared = get_or (shares i) k (replicate (threads i) 0); filled = (get_or (locks i) k (unlocked kind.TheVariants.Mutex)).filled }
 
 module _ (w v : State) (l : ℕ) (rules : rules_at w l ≡ mutex) (q : ℕ → Place) (word : ℕ) (o : Owners) (m : List Waiter)
-    (places : place_at v ≡ q) (bases : (k : ℕ) → base_at v k ≡ base_at w k) (words : Changed (word_at w) (word_at v) l word) (owners : Changed (owners_at w) (owners_at v) l o)
+    (places : place_at v ≡ q) (numbers : SameNumbers w v) (bases : (k : ℕ) → base_at v k ≡ base_at w k) (words : Changed (word_at w) (word_at v) l word) (owners : Changed (owners_at w) (owners_at v) l o)
     (mains : Changed (λ k. queue_at w (2 * k)) (λ k. queue_at v (2 * k)) l m) (seconds : (k : ℕ) → queue_at v (2 * k + 1) ≡ queue_at w (2 * k + 1)) (kinds : (k : ℕ) → kind_at v k ≡ kind_at w k)
     (elsewhere : (k : ℕ) → k ≢ l → (u : ℕ) → AlikeAt k (place_at w u) (q u)) where
-  site_here : site_of v l ≡ seen l (base_at w l) word o m (queue_at w (2 * l + 1)) q
-  site_here = site_seen v mutex l (base_at w l) word o m (queue_at w (2 * l + 1)) q (ap rules_of (kinds l) ∙ rules) (bases l) words.here owners.here mains.here (seconds l) places
-
-  site_there : (k : ℕ) → k ≢ l → site_of v k ≡ site_of w k
-  site_there k ne = site_seen v (rules_at w k) k (base_at w k) (word_at w k) (owners_at w k) (queue_at w (2 * k)) (queue_at w (2 * k + 1)) q (ap rules_of (kinds k)) (bases k) (words.other k ne) (owners.other k ne) (mains.other k ne) (seconds k) places
-      ∙ (λ i. record (site_of w k) { lock = record (site_of w k).lock { taken = λ u. (elsewhere k ne u).0 i }; doing = λ u. (elsewhere k ne u).1 i })
-
-  -- what one lock has been through
+  -- what one mutex has been through
   pub follow : (ds : List deeds.Act) → seen l (base_at w l) word o m (queue_at w (2 * l + 1)) q ≡ after_acts mutex ds (mutex_at w l) → AllNeeded mutex ds (mutex_at w l) → IsCode word o.exclusive → Follows w v l ds
-  follow ds led needed coded = record {
-    site = site_here ∙ led ∙ sym (λ i. after_acts (rules i) ds (lock_by w l (rules i)));
-    needed = subst (λ r. AllNeeded r ds (lock_by w l r)) (sym rules) needed;
-    word = words.here ∙ coded ∙ sym (λ i. code (rules i) (site_here i));
-    others = λ k ne. (site_there k ne, words.other k ne);
+  follow ds led needed coded = follows_by w v l _ q (record {
+    here = λ i. record { base = bases l i; word = words.here i; owners = owners.here i; main = mains.here i; second = seconds l i };
+    others = λ k ne i. record { base = bases k i; word = words.other k ne i; owners = owners.other k ne i; main = mains.other k ne i; second = seconds k i };
+    places = places;
     kinds = kinds;
-  }
-
--- keeps all
-pub goes_steady : (w v : State) (l : ℕ) (ds : List deeds.Act) → IsSteady w → Goes w v l ds → IsSteady v
-goes_steady w v l ds steady g = record {
-  sites = record {
-    site = λ k. subst (λ x. IsSite (rules_of x) (site_of v k)) (sym (g.follows.kinds k)) (elim (cases_eq k l) [
-      | inl e ↦ rw e (subst (λ s. IsSite (rules_at w l) s) (sym g.follows.site) (acts_keep (rules_at w l) ds (site_of w l) (steady.sites.site l) g.follows.needed))
-      | inr ne ↦ subst (λ s. IsSite (rules_at w k) s) (sym (g.follows.others k ne).0) (steady.sites.site k)
-    ]);
-    word = λ k. elim (cases_eq k l) [
-      | inl e ↦ rw e (g.follows.word ∙ (λ i. code (rules_of (sym (g.follows.kinds l) i)) (site_of v l)))
-      | inr ne ↦ (g.follows.others k ne).1 ∙ steady.sites.word k ∙ sym (λ i. code (rules_of (g.follows.kinds k i)) ((g.follows.others k ne).0 i))
-    ];
-    unfilled = λ k h. let of_w : has_readers (rules_at w k).sort ≡ false = sym (ap (λ x. has_readers (rules_of x).sort) (g.follows.kinds k)) ∙ h in elim (cases_eq k l) [
-      | inl e ↦ rw e (unfilled_here (rw e at of_w))
-      | inr ne ↦ ap (λ (s : Site). s.filled) (g.follows.others k ne).0 ∙ steady.sites.unfilled k of_w
-    ];
-  };
-  stands = g.stands;
-}
-  where
-    unfilled_here : has_readers (rules_at w l).sort ≡ false → filled_at v l ≡ false
-    unfilled_here h = ap (λ (s : Site). s.filled) g.follows.site ∙ same_filled (rules_at w l) ds (site_of w l) h ∙ steady.sites.unfilled l h
+    alike = elsewhere;
+    numbers = numbers;
+    sharers = refl;
+  }) mutex rules ds (λ h. absurd cc) led needed coded
 
 -- nobody shares a mutex
 pub mutex_unshared : (w : State) (l : ℕ) → IsSteady w → rules_at w l ≡ mutex → sum (shares_at w l) ≡ 0
@@ -139,6 +95,10 @@ mutex_unshared w l steady rules = (subst (λ r. IsSite r (lock_by w l r)) rules 
 -- so it is where a thread calls one
 pub unshared_at : (w : State) (t l : ℕ) (at : MutexPlace) → IsSteady w → place_at w t ≡ Mutex l at → sum (shares_at w l) ≡ 0
 unshared_at w t l at steady is = mutex_unshared w l steady (mutex_rules (kind_at w l) (let c : CallsMutex w (Mutex l at) = rw is at (steady.stands.calls t) in c))
+
+-- and it is taken from one by one
+pub single_at : (w : State) (t l : ℕ) (at : MutexPlace) → IsSteady w → place_at w t ≡ Mutex l at → TakesOne w l
+single_at w t l at steady is = takes_one w l (mutex_rules (kind_at w l) (let c : CallsMutex w (Mutex l at) = rw is at (steady.stands.calls t) in c))
 
 -- ---------------------------------------------------------------- what the acts change
 
@@ -152,6 +112,9 @@ module _ (w : State) (t l : ℕ) (at : MutexPlace) (steady : IsSteady w) (is : p
 
   pub rules : rules_at w l ≡ mutex
   rules = mutex_rules (kind_at w l) of_mutex
+
+  pub single : TakesOne w l
+  single = takes_one w l rules
 
   pub site_l : IsSite mutex (seen l (base_at w l) (word_at w l) (owners_at w l) (queue_at w (2 * l)) (queue_at w (2 * l + 1)) (place_at w))
   site_l = subst (λ r. IsSite r (lock_by w l r)) rules (steady.sites.site l)
@@ -168,49 +131,36 @@ module _ (w : State) (t l : ℕ) (at : MutexPlace) (steady : IsSteady w) (is : p
   station_is_at : station (place_at w t) ≡ mutex_station at
   station_is_at = ap station is
 
+  plain : has_readers mutex.sort ≡ true → ⊥
+  plain h = cc
+
+  fits : (p2 : Place) → IsOf l p2 → CallsMutex w p2
+  fits p2 of = calls_of w l p2 of of_mutex
+
+  hand_none : taken_at (Mutex l at) l ≡ None → taken_at (place_at w t) l ≡ None
+  hand_none none = ap (λ y. taken_at y l) is ∙ none
+
   -- a step on the word
   pub word_keeps : l < length w.locks → (f : Op) → OnWord l (base_at w l) (word_at w l) (owners_at w l) (queue_at w (2 * l)) (queue_at w (2 * l + 1)) (place_at w) t at f → Goes w (go_by w t (Mutex l at) (act.TheVariants.Word l f)) l (acts t (mutex_deeds at None (Value (word_at w l))))
-  word_keeps lt f on = record {
-    follows = follow w after l rules (putting (place_at w) t p2) (apply f (word_at w l)) (mutex_owners at t (word_at w l) (owners_at w l)) (queue_at w (2 * l))
-        places (λ k i. record { shared = get_or w.shares k (replicate (length-set w.places t p2 i) 0); filled = operated_filled w t (Mutex l at) l f rules k i })
-        (changed_set (λ x. x.word) w.locks l _ (unlocked kind.TheVariants.Mutex) lt) (changed_set (λ x. x.owners) w.locks l _ (unlocked kind.TheVariants.Mutex) lt)
-        (unchanged (λ k. queue_at w (2 * k)) l) (λ k. refl) same_kinds
-        (λ k ne. alike_put l k (place_at w) t p2 own of ne)
-        (acts t (mutex_deeds at None (Value (word_at w l)))) on.steps.site on.steps.needed on.code;
-    stands = still w after steady.stands same_kinds l t of_mutex own p2 of places (λ key. refl) (λ key. refl) (on.same ∙ sym station_is_at);
-  }
+  word_keeps lt f on = word_goes w t l steady own there mutex rules p2 of (fits p2 of) (Mutex l at) lt (rw steady.numbers.locks lt) f (mutex_deeds at None (Value (word_at w l))) (λ h. absurd (plain h))
+      (record { site = (λ i. seen_in mutex l (same_parts i) (putting (place_at w) t p2)) ∙ on.steps.site; needed = on.steps.needed }) on.code (on.same ∙ sym station_is_at)
     where
       p2 : Place
       p2 = next_place (Mutex l at) (Value (word_at w l))
 
-      after : State
-      after = go_by w t (Mutex l at) (act.TheVariants.Word l f)
-
       of : IsOf l p2
       of = next_of l (Mutex l at) (Value (word_at w l)) refl
 
-      places : place_at after ≡ putting (place_at w) t p2
-      places = put_places (state_after_operation w t (Mutex l at) l f) t p2 (past p2)
-
-      same_kinds : (k : ℕ) → kind_at after k ≡ kind_at w k
-      same_kinds = operated_kinds w t (Mutex l at) l f
-
-  -- a place and the section of its lock change
-  place_sites : (v : State) (p2 : Place) (ds : List Deed) → v.locks ≡ w.locks → v.shares ≡ w.shares → v.queues ≡ w.queues → v.places ≡ set w.places t p2 → IsOf l p2
-      → Steps l (base_at w l) (word_at w l) (word_at w l) (owners_at w l) (owners_at w l) (queue_at w (2 * l)) (queue_at w (2 * l)) (queue_at w (2 * l + 1)) (place_at w) t p2 ds → Follows w v l (acts t ds)
-  place_sites v p2 ds el es eq ep of steps = follow w v l rules (putting (place_at w) t p2) (word_at w l) (owners_at w l) (queue_at w (2 * l))
-      (ap (λ (xs : List Place). λ u. get_or xs u Idle) ep ∙ put_places w t p2 (past p2)) (same_bases w v el es (ap (λ (xs : List Place). length xs) ep ∙ length-set w.places t p2))
-      (rw el (unchanged (word_at w) l)) (rw el (unchanged (owners_at w) l)) (rw eq (unchanged (λ k. queue_at w (2 * k)) l)) (λ k. rw eq refl) (λ k. rw el refl)
-      (λ k ne. alike_put l k (place_at w) t p2 own of ne)
-      (acts t ds) steps.site steps.needed word_l
+      -- no mutex is ever full
+      same_parts : operated w t (Mutex l at) l f ≡ parts (base_at w l) (apply f (word_at w l)) (mutex_owners at t (word_at w l) (owners_at w l)) (queue_at w (2 * l)) (queue_at w (2 * l + 1))
+      same_parts i = record (parts (base_at w l) (apply f (word_at w l)) (mutex_owners at t (word_at w l) (owners_at w l)) (queue_at w (2 * l)) (queue_at w (2 * l + 1))) {
+        base = record { shared = shares_at w l; filled = (ap (λ r. filled_at w l || fills r (apply f (word_at w l))) rules ∙ or-false (filled_at w l)) i };
+      }
 
   -- a place that changes alone
   pub place_keeps : (p2 : Place) (ds : List Deed) → IsOf l p2
-      → Steps l (base_at w l) (word_at w l) (word_at w l) (owners_at w l) (owners_at w l) (queue_at w (2 * l)) (queue_at w (2 * l)) (queue_at w (2 * l + 1)) (place_at w) t p2 ds → station p2 ≡ mutex_station at → Goes w (put w t p2) l (acts t ds)
-  place_keeps p2 ds of steps e = record {
-    follows = place_sites (put w t p2) p2 ds refl refl refl refl of steps;
-    stands = still w (put w t p2) steady.stands (λ k. refl) l t of_mutex own p2 of (put_places w t p2 (past p2)) (λ key. refl) (λ key. refl) (e ∙ sym station_is_at);
-  }
+      → MutexSteps l (base_at w l) (word_at w l) (word_at w l) (owners_at w l) (owners_at w l) (queue_at w (2 * l)) (queue_at w (2 * l)) (queue_at w (2 * l + 1)) (place_at w) t p2 ds → station p2 ≡ mutex_station at → Goes w (put w t p2) l (acts t ds)
+  place_keeps p2 ds of steps e = place_goes w t l steady own there mutex rules p2 of (fits p2 of) ds (λ h. absurd (plain h)) steps (e ∙ sym station_is_at)
 
   section_set : 2 * l < length w.sections → (who : Option ℕ) → Changed (section_at w) (section_at (state_with_sections w (One (2 * l)) who)) (2 * l) who
   section_set line who = changed_set (λ x. x) w.sections (2 * l) who None line
@@ -218,16 +168,10 @@ module _ (w : State) (t l : ℕ) (at : MutexPlace) (steady : IsSteady w) (is : p
   -- into a section that is free
   pub enter_keeps : 2 * l < length w.sections → (p2 : Place) → IsOf l p2 → taken_at (Mutex l at) l ≡ None → taken_at p2 l ≡ None → section_at w (2 * l) ≡ None → (mutex_doing at).inside ≡ None → (mutex_doing at).empty ≡ None → doing_on p2 l ≡ record (mutex_doing at) { inside = Some Main }
       → station p2 ≡ record (mutex_station at) { inside = Some Main } → Goes w (put (state_with_sections w (One (2 * l)) (Some t)) t p2) l (acts t (In Main ∷ []))
-  enter_keeps line p2 of none none2 free i e own_is s = record {
-    follows = place_sites v p2 (In Main ∷ []) refl refl refl refl of
-        (goes_into l (base_at w l) (word_at w l) (word_at w l) (owners_at w l) (queue_at w (2 * l)) (queue_at w (2 * l + 1)) (place_at w) t p2 site_l (mutex_doing at) (own_doing l (place_at w t) at is) (ap (λ y. taken_at y l) is ∙ none) none2 refl
-        (λ u h. let g : section_at w (2 * l) ≡ Some u = (steady.stands.sections u l Main).0 (sym (inside_is (place_at w u) l) ∙ h) in cc) i e own_is);
-    stands = goes_in w v steady.stands (λ k. refl) l t of_mutex own p2 of (put_places (state_with_sections w (One (2 * l)) (Some t)) t p2 (past p2)) (section_set line (Some t)).other (λ key. refl) free (section_set line (Some t)).here (ap (λ (x : Station). x.inside) station_is_at ∙ i)
-        (s ∙ sym (ap (λ (x : Station). record x { inside = Some Main }) station_is_at));
-  }
-    where
-      v : State
-      v = put (state_with_sections w (One (2 * l)) (Some t)) t p2
+  enter_keeps line p2 of none none2 free i e own_is s = enter_goes w t l steady own there mutex rules p2 of (fits p2 of) Main line free (ap (λ (x : Station). x.inside) station_is_at ∙ i)
+      (goes_into l (base_at w l) (word_at w l) (word_at w l) (owners_at w l) (queue_at w (2 * l)) (queue_at w (2 * l + 1)) (place_at w) t p2 site_l (mutex_doing at) (own_doing l (place_at w t) at is) (hand_none none) none2 refl
+      (nobody_inside w t l steady own there mutex rules p2 of (fits p2 of) Main free) i e own_is)
+      (s ∙ sym (ap (λ (x : Station). record x { inside = Some Main }) station_is_at))
 
   pub out_needed : (mutex_doing at).inside ≡ Some Main → (mutex_doing at).wakes ≡ None → AllNeeded mutex (acts t (Out ∷ [])) (mutex_at w l)
   out_needed i k = ((rw (own_doing l (place_at w t) at is) ((λ h. let g : None ≡ Some Main = sym h ∙ i in cc), k, refl)), tt)
@@ -235,23 +179,14 @@ module _ (w : State) (t l : ℕ) (at : MutexPlace) (steady : IsSteady w) (is : p
   -- out of its own, where nobody is in its hand
   pub leave_keeps : 2 * l < length w.sections → (p2 : Place) → IsOf l p2 → taken_at (Mutex l at) l ≡ None → taken_at p2 l ≡ None → doing_on p2 l ≡ leaves (mutex_doing at) → (mutex_doing at).inside ≡ Some Main → (mutex_doing at).wakes ≡ None → (mutex_station at).carries ≡ None
       → station p2 ≡ record (mutex_station at) { inside = None } → Goes w (put (state_with_sections w (One (2 * l)) None) t p2) l (acts t (Out ∷ []))
-  leave_keeps line p2 of none none2 e i k nobody s = record {
-    follows = follow w v l rules (putting (place_at w) t p2) (word_at w l) (owners_at w l) (queue_at w (2 * l))
-        (put_places (state_with_sections w (One (2 * l)) None) t p2 (past p2)) (same_bases w v refl refl (length-set w.places t p2))
-        (unchanged (word_at w) l) (unchanged (owners_at w) l) (unchanged (λ j. queue_at w (2 * j)) l) (λ j. refl) (λ j. refl)
-        (λ j ne. alike_put l j (place_at w) t p2 own of ne)
-        (acts t (Out ∷ []))
-        (leaving mutex l (base_at w l) (word_at w l) (owners_at w l) (queue_at w (2 * l)) (queue_at w (2 * l + 1)) (place_at w) _ t (ap (λ y. taken_at y l) is ∙ none) (ap (λ y. taken_at y l) (put_here (place_at w) t p2) ∙ none2)
-        (ap (λ y. doing_on y l) (put_here (place_at w) t p2) ∙ e ∙ sym (ap leaves (own_doing l (place_at w t) at is)))
-        (lets_nobody (place_at w) steady.stands.hands t l p2 (ap (λ (x : Station). x.carries) (own_stance l (place_at w t) at is) ∙ nobody)))
-        (out_needed i k)
-        word_l;
-    stands = goes_out w v steady.stands (λ j. refl) l t of_mutex own p2 of (put_places (state_with_sections w (One (2 * l)) None) t p2 (past p2)) (section_set line None).other (λ key. refl) (section_set line None).here (ap (λ (x : Station). x.inside) station_is_at ∙ i)
-        (s ∙ sym (ap (λ (x : Station). record x { inside = None }) station_is_at));
-  }
-    where
-      v : State
-      v = put (state_with_sections w (One (2 * l)) None) t p2
+  leave_keeps line p2 of none none2 e i k nobody s = leave_goes w t l steady own there mutex rules p2 of (fits p2 of) Main line (ap (λ (x : Station). x.inside) station_is_at ∙ i) (Out ∷ []) (λ h. tt)
+      (record {
+        site = leaving mutex l (base_at w l) (word_at w l) (owners_at w l) (queue_at w (2 * l)) (queue_at w (2 * l + 1)) (place_at w) _ t (hand_none none) (ap (λ y. taken_at y l) (put_here (place_at w) t p2) ∙ none2)
+            (ap (λ y. doing_on y l) (put_here (place_at w) t p2) ∙ e ∙ sym (ap leaves (own_doing l (place_at w t) at is)))
+            (lets_nobody (place_at w) steady.stands.hands t l p2 (ap (λ (x : Station). x.carries) (own_stance l (place_at w t) at is) ∙ nobody));
+        needed = out_needed i k;
+      })
+      (s ∙ sym (ap (λ (x : Station). record x { inside = None }) station_is_at))
 
   -- out of its own, and v, which it has in hand, is told
   pub wake_keeps : 2 * l < length w.sections → (v : ℕ) (handed : Bool) (x : Note) (p2 : Place) → IsOf l p2 → IsOf l (place_at w v) → taken_at (Mutex l at) l ≡ None → taken_at p2 l ≡ None → doing_on p2 l ≡ leaves (mutex_doing at) → (mutex_doing at).inside ≡ Some Main → (mutex_doing at).wakes ≡ None
@@ -259,7 +194,7 @@ module _ (w : State) (t l : ℕ) (at : MutexPlace) (steady : IsSteady w) (is : p
       → mutex_station at ≡ record nowhere { inside = Some Main; carries = Some handed } → station (place_at w v) ≡ record nowhere { hand = hand t handed } → station p2 ≡ nowhere → station (next_place (place_at w v) (Woken x)) ≡ nowhere
       → Goes w (put (state_after_reply (state_with_sections w (One (2 * l)) None) v (Woken x)) t p2) l (acts t (Out ∷ []))
   wake_keeps line v handed x p2 of of_v none none2 e i k lets apart was was_v is_p2 is_pv = record {
-    follows = follow w after l rules (putting (putting (place_at w) v pv) t p2) (word_at w l) (owners_at w l) (queue_at w (2 * l)) places
+    follows = follow w after l rules (putting (putting (place_at w) v pv) t p2) (word_at w l) (owners_at w l) (queue_at w (2 * l)) places (record { threads = length-set (set w.places v pv) t p2 ∙ length-set w.places v pv; locks = refl; shares = refl })
         (same_bases w after refl refl (length-set (set w.places v pv) t p2 ∙ length-set w.places v pv))
         (unchanged (word_at w) l) (unchanged (owners_at w) l) (unchanged (λ j. queue_at w (2 * j)) l) (λ j. refl) (λ j. refl)
         (λ j ne u. alike_both l j (place_at w) v pv t p2 of_v of_pv own of apart ne u)
@@ -291,12 +226,12 @@ module _ (w : State) (t l : ℕ) (steady : IsSteady w) (there : t < length w.pla
 
     -- it is told alone
     pub told_it : (reply : Reply) → state_after_telling (state_with_sections w (One (2 * l)) None) t reply ≡ state_after_reply (state_with_sections w (One (2 * l)) None) one_held.0 reply
-    told_it reply = told_one (state_with_sections w (One (2 * l)) None) t l one_held.0 b reply steady.stands.hands (own w t l at steady is there) one_held.1
+    told_it reply = told_one (state_with_sections w (One (2 * l)) None) t l one_held.0 b reply steady.stands.hands (single w t l at steady is there) (own w t l at steady is there) one_held.1
 
   -- a release leaves, and wakes the one that it took
   pub release_wakes : 2 * l < length w.sections → place_at w t ≡ Mutex l (Unlock (unlock.Leave true)) → Goes w (go_by w t (Mutex l (Unlock (unlock.Leave true))) (act.TheVariants.Leave (One (2 * l)) (wakes.TheVariants.All note.Normal))) l (acts t (Out ∷ []))
   release_wakes line is = subst (λ (z : State). Goes w (put z t Idle) l (acts t (Out ∷ []))) (sym (told_it at is false refl (Woken note.Normal)))
-      (wake_keeps w t l at steady is there line v false note.Normal Idle tt (rw there_v.is refl) refl refl refl refl refl (lets_taken (place_at w) steady.stands.hands t l v Idle held) apart refl (rw there_v.is refl) refl (rw there_v.is refl))
+      (wake_keeps w t l at steady is there line v false note.Normal Idle tt (rw there_v.is refl) refl refl refl refl refl (lets_taken (TakesOne w) (place_at w) steady.stands.hands t l v Idle (single w t l at steady is there) held) apart refl (rw there_v.is refl) refl (rw there_v.is refl))
     where
       at : MutexPlace
       at = Unlock (unlock.Leave true)
@@ -316,7 +251,7 @@ module _ (w : State) (t l : ℕ) (steady : IsSteady w) (there : t < length w.pla
   -- a fair one leaves, and tells the one that it handed the lock
   pub tells : 2 * l < length w.sections → (bumps : Bool) (is : place_at w t ≡ Mutex l (HandOff bumps (hand_off.Leave true))) (p2 : Place) → IsOf l p2 → taken_at p2 l ≡ None → doing_on p2 l ≡ idle → station p2 ≡ nowhere → Goes w (put (state_after_telling (state_with_sections w (One (2 * l)) None) t (Woken note.HandOff)) t p2) l (acts t (Out ∷ []))
   tells line bumps is p2 of none e s = subst (λ (z : State). Goes w (put z t p2) l (acts t (Out ∷ []))) (sym (told_it at is true refl (Woken note.HandOff)))
-      (wake_keeps w t l at steady is there line v true note.HandOff p2 of (rw there_v.is refl) refl none e refl refl (lets_handed (place_at w) steady.stands.hands t l v p2 held) apart refl (rw there_v.is refl) s (rw there_v.is refl))
+      (wake_keeps w t l at steady is there line v true note.HandOff p2 of (rw there_v.is refl) refl none e refl refl (lets_handed (TakesOne w) (place_at w) steady.stands.hands t l v p2 (single w t l at steady is there) held) apart refl (rw there_v.is refl) s (rw there_v.is refl))
     where
       at : MutexPlace
       at = HandOff bumps (hand_off.Leave true)
@@ -337,13 +272,14 @@ module _ (w : State) (t l : ℕ) (steady : IsSteady w) (there : t < length w.pla
   pub hands_over : l < length w.locks → (bumps none_left : Bool) (u : ℕ) → place_at w t ≡ Mutex l (HandOff bumps (hand_off.Store true none_left)) → hand_at (place_at w u) l ≡ hand t false → Goes w (go_by w t (Mutex l (HandOff bumps (hand_off.Store true none_left))) (act.TheVariants.HandOver l (op.Store (hand_off_word true none_left)))) l (acts t (deeds.hands_over (Some u) none_left) ++ deeds.claims_of (Some u))
   hands_over lt bumps none_left u is held = subst (λ (z : State). Goes w (put z t p2) l (acts t (deeds.hands_over (Some u) none_left) ++ deeds.claims_of (Some u))) (sym told) (record {
     follows = follow w after l (rules w t l at steady is there) (putting (putting (place_at w) u pu) t p2) (if none_left then 1 else 3) (with_exclusive (owners_at w l) (Some u)) (queue_at w (2 * l)) places
+        (record { threads = length-set (set w.places u pu) t p2 ∙ length-set w.places u pu; locks = length-set w.locks l _; shares = length-set w.shares l (shares_handed_over w t l) })
         (λ k i. record { shared = ((λ j. get_or (set w.shares l (shares_handed_over w t l)) k (replicate ((length-set (set w.places u pu) t p2 ∙ length-set w.places u pu) j) 0)) ∙ given_shares w t l (none_given t w.places (shares_at w l)) k) i; filled = given_filled w t (Mutex l at) l (op.Store (hand_off_word true none_left)) (rules w t l at steady is there) k i })
         (changed_set (λ x. x.word) w.locks l _ (unlocked kind.TheVariants.Mutex) lt) owners_given
         (unchanged (λ k. queue_at w (2 * k)) l) (λ k. refl) same_kinds
         (λ k ne x. alike_both l k (place_at w) u pu t p2 of_u of_pu own_t refl apart ne x)
-        (hands_acts mutex l (base_at w l) (word_at w l) (owners_at w l) (queue_at w (2 * l)) (queue_at w (2 * l + 1)) (place_at w) steady.stands.hands t u bumps none_left refl unshared is held none_left)
-        (handing mutex l (base_at w l) (word_at w l) (owners_at w l) (queue_at w (2 * l)) (queue_at w (2 * l + 1)) (place_at w) steady.stands.hands t u bumps none_left refl unshared is held none_left refl)
-        (hands_needed l (base_at w l) (word_at w l) (owners_at w l) (queue_at w (2 * l)) (queue_at w (2 * l + 1)) (place_at w) steady.stands.hands t u bumps none_left is held (site_l w t l at steady is there) none_left refl)
+        (hands_acts mutex l (base_at w l) (word_at w l) (owners_at w l) (queue_at w (2 * l)) (queue_at w (2 * l + 1)) (place_at w) (TakesOne w) steady.stands.hands (single w t l at steady is there) t u bumps none_left refl unshared is held none_left)
+        (handing mutex l (base_at w l) (word_at w l) (owners_at w l) (queue_at w (2 * l)) (queue_at w (2 * l + 1)) (place_at w) (TakesOne w) steady.stands.hands (single w t l at steady is there) t u bumps none_left refl unshared is held none_left refl)
+        (hands_needed l (base_at w l) (word_at w l) (owners_at w l) (queue_at w (2 * l)) (queue_at w (2 * l + 1)) (place_at w) (TakesOne w) steady.stands.hands (single w t l at steady is there) t u bumps none_left is held (site_l w t l at steady is there) none_left refl)
         (coded none_left);
     stands = hands_lock w after steady.stands same_kinds l t u apart (of_mutex w t l at steady is there) own_t of_u p2 pu refl of_pu places (λ key. refl) (λ key. refl) (ap station is) (rw there_u.is refl) refl (rw there_u.is refl);
   })
@@ -379,11 +315,11 @@ module _ (w : State) (t l : ℕ) (steady : IsSteady w) (there : t < length w.pla
       after = put (state_after_reply before u (HandedBy t)) t p2
 
       told : state_after_telling before t (HandedBy t) ≡ state_after_reply before u (HandedBy t)
-      told = told_one before t l u false (HandedBy t) steady.stands.hands own_t held
+      told = told_one before t l u false (HandedBy t) steady.stands.hands (single w t l at steady is there) own_t held
 
       owners_given : Changed (owners_at w) (owners_at after) l (with_exclusive (owners_at w l) (Some u))
       owners_given = record {
-        here = ap (λ x. x.owners) (get_or-set_same w.locks l _ (unlocked kind.TheVariants.Mutex) lt) ∙ successor_one w t l u false steady.stands.hands own_t held (unshared_at w t l at steady is) (with_exclusive (owners_at w l) None);
+        here = ap (λ x. x.owners) (get_or-set_same w.locks l _ (unlocked kind.TheVariants.Mutex) lt) ∙ successor_one w t l u false steady.stands.hands (single w t l at steady is there) own_t held (unshared_at w t l at steady is) (with_exclusive (owners_at w l) None);
         other = λ k ne. ap (λ x. x.owners) (get_or-set_other w.locks l k _ (unlocked kind.TheVariants.Mutex) ne);
       }
 
@@ -417,7 +353,7 @@ module _ (w : State) (t l : ℕ) (at : MutexPlace) (steady : IsSteady w) (is : p
       → station p2 ≡ record (mutex_station at) { carries = Some false }
       → Goes w (put (state_after_reply (record w { queues = queues_without_first w.queues (2 * l) }) x.thread (TakenBy t)) t p2) l (acts t (Case (TakeFirst (queued x.thread)) ∷ []))
   take_keeps p2 of none none2 nobody free i c v e s = record {
-    follows = follow w after l (rules w t l at steady is there) (putting (putting (place_at w) x.thread px) t p2) (word_at w l) (owners_at w l) rest places
+    follows = follow w after l (rules w t l at steady is there) (putting (putting (place_at w) x.thread px) t p2) (word_at w l) (owners_at w l) rest places (record { threads = length-set (set w.places x.thread px) t p2 ∙ length-set w.places x.thread px; locks = refl; shares = refl })
         (same_bases w after refl refl (length-set (set w.places x.thread px) t p2 ∙ length-set w.places x.thread px))
         (unchanged (word_at w) l) (unchanged (owners_at w) l)
         (subst (λ (y : List Waiter). Changed (λ k. queue_at w (2 * k)) (λ k. get_or (queues_without_first w.queues (2 * l)) (2 * k) []) l y) (ap (drop 1) first) (changed_main w.queues l (drop 1 (queue_at w (2 * l))) [] line))

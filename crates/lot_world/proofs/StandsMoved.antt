@@ -6,13 +6,14 @@ use Rattle.lot_base.specs.Lines.{times}
 use Rattle.lot_calls.specs.declared.kinds.Kind.{Kind}
 use Rattle.lot_calls.specs.declared.kinds.Kind as kind
 use Rattle.lot_steps.specs.declared.places.Place.{Place}
-use Rattle.abstract_locks.specs.Locks.{putting}
+use Rattle.lot_base.specs.declared.wants.Want.TheVariants.{Upgradable}
+use Rattle.abstract_locks.specs.Locks.{Rules, Knows, putting}
 use Rattle.abstract_locks.specs.Purposes.{rules_of}
 use Rattle.abstract_locks.specs.Sites.{Line, Main, Second}
 use Rattle.lot_machine.specs.Machine.{State, place_at, kind_at, section_at, queue_at}
 use Rattle.lot_world.specs.SitesOf.{is_mutex}
 use Rattle.lot_world.specs.Stations.{Station, hand, nowhere, station, station_at}
-use Rattle.lot_world.specs.SitesOf.{Stands, Sections, Lines, Hands, CallsMutex, key_of, stood_in}
+use Rattle.lot_world.specs.SitesOf.{Stands, Sections, Lines, Hands, TakesOne, CallsMutex, rules_at, key_of, stood_in}
 use Rattle.lot_world.proofs.Glue.{IsOf, same, differ, put_here, put_other, station_here}
 use Rattle.lot_world.proofs.MutexTable.{mutex}
 use Rattle.lot_world.proofs.StandsKept.{part_put, part_else, sections_same, entered, left, lines_same, line_moved, hands_same, link, AreLinked, hands_pair, calls_of, calls_in}
@@ -22,12 +23,24 @@ mutex_rules kind.TheVariants.Mutex h = refl
 mutex_rules kind.TheVariants.Fair h = refl
 mutex_rules k h = absurd cc
 
+-- a thread has one waiter of a mutex in hand
+pub takes_one : (w : State) (l : ℕ) → rules_at w l ≡ mutex → TakesOne w l
+takes_one w l rules k = let none : Knows mutex.sort Upgradable = subst (λ (r : Rules). Knows r.sort Upgradable) rules k in none
+
+-- locks of the same kinds take as many
+pub hands_in : (w v : State) (p : ℕ → Place) → ((k : ℕ) → kind_at v k ≡ kind_at w k) → Hands (TakesOne w) p → Hands (TakesOne v) p
+hands_in w v p kinds h = record {
+  carried = h.carried;
+  alone = λ t l u x b c o. h.alone t l u x b c (λ k. o (subst (λ y. Knows (rules_of y).sort Upgradable) (sym (kinds l)) k));
+  taken = h.taken;
+}
+
 -- a state by how its threads stand
-pub stands_then : (v : State) (q : ℕ → Place) → place_at v ≡ q → Sections q (section_at v) → Lines q (queue_at v) → Hands q → ((u : ℕ) → CallsMutex v (q u)) → Stands v
+pub stands_then : (v : State) (q : ℕ → Place) → place_at v ≡ q → Sections q (section_at v) → Lines q (queue_at v) → Hands (TakesOne v) q → ((u : ℕ) → CallsMutex v (q u)) → Stands v
 stands_then v q e s n h c = record {
   sections = subst (λ (f : ℕ → Place). Sections f (section_at v)) (sym e) s;
   lines = subst (λ (f : ℕ → Place). Lines f (queue_at v)) (sym e) n;
-  hands = subst (λ (f : ℕ → Place). Hands f) (sym e) h;
+  hands = subst (λ (f : ℕ → Place). Hands (TakesOne v) f) (sym e) h;
   calls = λ u. subst (λ (f : ℕ → Place). CallsMutex v (f u)) (sym e) (c u);
 }
 
@@ -37,23 +50,23 @@ calls_put v p t p2 c c2 u = elim (cases_eq u t) [
   | inr ne ↦ rw (put_other p t p2 u ne) (c u)
 ]
 
-module _ (w v : State) (stands : Stands w) (kinds : (k : ℕ) → kind_at v k ≡ kind_at w k) (l : ℕ) (of_mutex : is_mutex (kind_at w l) ≡ true) where
-  pub calls_one : (t : ℕ) (p2 : Place) → IsOf l p2 → (u : ℕ) → CallsMutex v (putting (place_at w) t p2 u)
-  calls_one t p2 of = calls_put v (place_at w) t p2 (λ u. calls_in w v (place_at w u) kinds (stands.calls u)) (calls_of v l p2 of (ap is_mutex (kinds l) ∙ of_mutex))
+module _ (w v : State) (stands : Stands w) (kinds : (k : ℕ) → kind_at v k ≡ kind_at w k) where
+  pub calls_one : (t : ℕ) (p2 : Place) → CallsMutex w p2 → (u : ℕ) → CallsMutex v (putting (place_at w) t p2 u)
+  calls_one t p2 fits = calls_put v (place_at w) t p2 (λ u. calls_in w v (place_at w u) kinds (stands.calls u)) (calls_in w v p2 kinds fits)
 
-  pub calls_two : (x : ℕ) (px : Place) (t : ℕ) (p2 : Place) → IsOf l px → IsOf l p2 → (u : ℕ) → CallsMutex v (putting (putting (place_at w) x px) t p2 u)
-  calls_two x px t p2 of_x of = calls_put v (putting (place_at w) x px) t p2 (calls_one x px of_x) (calls_of v l p2 of (ap is_mutex (kinds l) ∙ of_mutex))
+  pub calls_two : (x : ℕ) (px : Place) (t : ℕ) (p2 : Place) → CallsMutex w px → CallsMutex w p2 → (u : ℕ) → CallsMutex v (putting (putting (place_at w) x px) t p2 u)
+  calls_two x px t p2 fits_x fits = calls_put v (putting (place_at w) x px) t p2 (calls_one x px fits_x) (calls_in w v p2 kinds fits)
 
 -- one thread goes elsewhere
-module _ (w v : State) (stands : Stands w) (kinds : (k : ℕ) → kind_at v k ≡ kind_at w k) (l t : ℕ) (of_mutex : is_mutex (kind_at w l) ≡ true) (own : IsOf l (place_at w t)) (p2 : Place) (of : IsOf l p2) (places : place_at v ≡ putting (place_at w) t p2) where
+module _ (w v : State) (stands : Stands w) (kinds : (k : ℕ) → kind_at v k ≡ kind_at w k) (l t : ℕ) (own : IsOf l (place_at w t)) (p2 : Place) (of : IsOf l p2) (fits : CallsMutex w p2) (places : place_at v ≡ putting (place_at w) t p2) where
   abbrev now : ℕ → Place
   now = putting (place_at w) t p2
 
   same_part : {A : Type 0} (g : Station → A) → g (station p2) ≡ g (station (place_at w t)) → (u k : ℕ) → g (station_at (now u) k) ≡ g (station_at (place_at w u) k)
   same_part g e = part_put g l (place_at w) t p2 own of e
 
-  same_hands : (station p2).carries ≡ (station (place_at w t)).carries → (station p2).hand ≡ (station (place_at w t)).hand → Hands now
-  same_hands c n = hands_same (place_at w) now stands.hands (same_part (λ x. x.carries) c) (same_part (λ x. x.hand) n)
+  same_hands : (station p2).carries ≡ (station (place_at w t)).carries → (station p2).hand ≡ (station (place_at w t)).hand → Hands (TakesOne v) now
+  same_hands c n = hands_in w v now kinds (hands_same (place_at w) now stands.hands (same_part (λ x. x.carries) c) (same_part (λ x. x.hand) n))
 
   -- with the same station, and the same sections and lines
   pub still : ((key : ℕ) → section_at v key ≡ section_at w key) → ((key : ℕ) → queue_at v key ≡ queue_at w key) → station p2 ≡ station (place_at w t) → Stands v
@@ -61,7 +74,7 @@ module _ (w v : State) (stands : Stands w) (kinds : (k : ℕ) → kind_at v k �
       (subst (λ (f : ℕ → Option ℕ). Sections now f) (λ i key. sym (es key) i) (sections_same (place_at w) now (section_at w) stands.sections (same_part (λ x. x.inside) (ap (λ (x : Station). x.inside) e))))
       (lines_same (place_at w) now (queue_at w) (queue_at v) stands.lines (same_part (λ x. x.stands) (ap (λ (x : Station). x.stands) e)) eq)
       (same_hands (ap (λ (x : Station). x.carries) e) (ap (λ (x : Station). x.hand) e))
-      (calls_one w v stands kinds l of_mutex t p2 of)
+      (calls_one w v stands kinds t p2 fits)
 
   same_lines : ((key : ℕ) → queue_at v key ≡ queue_at w key) → (station p2).stands ≡ (station (place_at w t)).stands → Lines now (queue_at v)
   same_lines eq e = lines_same (place_at w) now (queue_at w) (queue_at v) stands.lines (same_part (λ x. x.stands) e) eq
@@ -75,31 +88,31 @@ module _ (w v : State) (stands : Stands w) (kinds : (k : ℕ) → kind_at v k �
   station_before : station_at (place_at w t) l ≡ station (place_at w t)
   station_before = station_here l (place_at w t) own
 
-  module _ (elsewhere : (key : ℕ) → key ≢ 2 * l → section_at v key ≡ section_at w key) (queues : (key : ℕ) → queue_at v key ≡ queue_at w key) where
+  module _ (m : Line) (elsewhere : (key : ℕ) → key ≢ key_of l m → section_at v key ≡ section_at w key) (queues : (key : ℕ) → queue_at v key ≡ queue_at w key) where
     -- into a section that is free
-    pub goes_in : section_at w (2 * l) ≡ None → section_at v (2 * l) ≡ Some t → (station (place_at w t)).inside ≡ None → station p2 ≡ record (station (place_at w t)) { inside = Some Main } → Stands v
+    pub goes_in : section_at w (key_of l m) ≡ None → section_at v (key_of l m) ≡ Some t → (station (place_at w t)).inside ≡ None → station p2 ≡ record (station (place_at w t)) { inside = Some m } → Stands v
     goes_in free held out e = stands_then v now places
-        (entered (place_at w) now (section_at w) (section_at v) stands.sections t l (other_part (λ x. x.inside)) elsewhere free (ap (λ (x : Station). x.inside) station_before ∙ out) (ap (λ (x : Station). x.inside) (station_then ∙ e)) held)
+        (entered (place_at w) now (section_at w) (section_at v) stands.sections t l m (other_part (λ x. x.inside)) elsewhere free (ap (λ (x : Station). x.inside) station_before ∙ out) (ap (λ (x : Station). x.inside) (station_then ∙ e)) held)
         (same_lines queues (ap (λ (x : Station). x.stands) e))
         (same_hands (ap (λ (x : Station). x.carries) e) (ap (λ (x : Station). x.hand) e))
-        (calls_one w v stands kinds l of_mutex t p2 of)
+        (calls_one w v stands kinds t p2 fits)
 
     -- out of its own
-    pub goes_out : section_at v (2 * l) ≡ None → (station (place_at w t)).inside ≡ Some Main → station p2 ≡ record (station (place_at w t)) { inside = None } → Stands v
+    pub goes_out : section_at v (key_of l m) ≡ None → (station (place_at w t)).inside ≡ Some m → station p2 ≡ record (station (place_at w t)) { inside = None } → Stands v
     goes_out free within e = stands_then v now places
-        (left (place_at w) now (section_at w) (section_at v) stands.sections t l (other_part (λ x. x.inside)) elsewhere (ap (λ (x : Station). x.inside) station_before ∙ within) (ap (λ (x : Station). x.inside) (station_then ∙ e)) free)
+        (left (place_at w) now (section_at w) (section_at v) stands.sections t l m (other_part (λ x. x.inside)) elsewhere (ap (λ (x : Station). x.inside) station_before ∙ within) (ap (λ (x : Station). x.inside) (station_then ∙ e)) free)
         (same_lines queues (ap (λ (x : Station). x.stands) e))
         (same_hands (ap (λ (x : Station). x.carries) e) (ap (λ (x : Station). x.hand) e))
-        (calls_one w v stands kinds l of_mutex t p2 of)
+        (calls_one w v stands kinds t p2 fits)
 
-  -- into the main line, or out of it
-  pub line_changes : ((key : ℕ) → section_at v key ≡ section_at w key) → ((key : ℕ) → key ≢ 2 * l → queue_at v key ≡ queue_at w key) → ((u : ℕ) → u ≢ t → times u (queue_at v (2 * l)) ≡ times u (queue_at w (2 * l)))
-      → ((m : Line) → times t (queue_at v (key_of l m)) ≡ stood_in (station p2).stands m) → (station p2).inside ≡ (station (place_at w t)).inside → (station p2).carries ≡ (station (place_at w t)).carries → (station p2).hand ≡ (station (place_at w t)).hand → Stands v
-  line_changes es elsewhere counts own_count i c n = stands_then v now places
+  -- into a line, or out of it
+  pub line_changes : (m : Line) → ((key : ℕ) → section_at v key ≡ section_at w key) → ((key : ℕ) → key ≢ key_of l m → queue_at v key ≡ queue_at w key) → ((u : ℕ) → u ≢ t → times u (queue_at v (key_of l m)) ≡ times u (queue_at w (key_of l m)))
+      → ((n : Line) → times t (queue_at v (key_of l n)) ≡ stood_in (station p2).stands n) → (station p2).inside ≡ (station (place_at w t)).inside → (station p2).carries ≡ (station (place_at w t)).carries → (station p2).hand ≡ (station (place_at w t)).hand → Stands v
+  line_changes m es elsewhere counts own_count i c n = stands_then v now places
       (subst (λ (f : ℕ → Option ℕ). Sections now f) (λ j key. sym (es key) j) (sections_same (place_at w) now (section_at w) stands.sections (same_part (λ x. x.inside) i)))
-      (line_moved (place_at w) now (queue_at w) (queue_at v) stands.lines t l (other_part (λ x. x.stands)) elsewhere counts (λ m. own_count m ∙ ap (λ (x : Station). stood_in x.stands m) (sym station_then)))
+      (line_moved (place_at w) now (queue_at w) (queue_at v) stands.lines t l m (other_part (λ x. x.stands)) elsewhere counts (λ j. own_count j ∙ ap (λ (x : Station). stood_in x.stands j) (sym station_then)))
       (same_hands c n)
-      (calls_one w v stands kinds l of_mutex t p2 of)
+      (calls_one w v stands kinds t p2 fits)
 
 -- ---------------------------------------------------------------- two threads go elsewhere
 
@@ -127,10 +140,10 @@ module _ (w v : State) (stands : Stands w) (kinds : (k : ℕ) → kind_at v k �
   part_t g e = part_put g l halfway t p2 own_t of (e ∙ sym (ap (λ y. g (station y)) still_t))
 
   -- a hand changes between them
-  linked_hands : (y z : Option Bool) → AreLinked (place_at w) t x l y → (station p2).carries ≡ z → (station p2).hand ≡ None → (station px).hand ≡ link z t → (station px).carries ≡ None → Hands both_now
-  linked_hands y z before c f h b = hands_pair (place_at w) both_now stands.hands t x l y z before
+  linked_hands : (y z : Option Bool) → AreLinked (place_at w) t x l y → (station p2).carries ≡ z → (station p2).hand ≡ None → (station px).hand ≡ link z t → (station px).carries ≡ None → Hands (TakesOne v) both_now
+  linked_hands y z before c f h b = hands_in w v both_now kinds (hands_pair (TakesOne w) (place_at w) both_now stands.hands t x l (takes_one w l (mutex_rules (kind_at w l) of_mutex)) y z before
       (record { of_t = rw (put_here halfway t p2) of; of_v = rw at_x of_x; carries = rw (put_here halfway t p2) c; free = rw (put_here halfway t p2) f; hand = rw at_x h; bare = rw at_x b })
-      (λ u nt nx. put_other halfway t p2 u nt ∙ put_other (place_at w) x px u nx)
+      (λ u nt nx. put_other halfway t p2 u nt ∙ put_other (place_at w) x px u nx))
 
   same_inside : (station p2).inside ≡ (station (place_at w t)).inside → (station px).inside ≡ (station (place_at w x)).inside → ((key : ℕ) → section_at v key ≡ section_at w key) → Sections both_now (section_at v)
   same_inside e ex es = subst (λ (f : ℕ → Option ℕ). Sections both_now f) (λ j key. sym (es key) j) (sections_same (place_at w) both_now (section_at w) stands.sections (λ u k. part_t (λ y. y.inside) e u k ∙ part_x (λ y. y.inside) ex u k))
@@ -142,14 +155,14 @@ module _ (w v : State) (stands : Stands w) (kinds : (k : ℕ) → kind_at v k �
   pub lets_go : (b : Bool) → (elsewhere : (key : ℕ) → key ≢ 2 * l → section_at v key ≡ section_at w key) → section_at v (2 * l) ≡ None → ((key : ℕ) → queue_at v key ≡ queue_at w key)
       → station (place_at w t) ≡ record nowhere { inside = Some Main; carries = Some b } → station (place_at w x) ≡ record nowhere { hand = hand t b } → station p2 ≡ nowhere → station px ≡ nowhere → Stands v
   lets_go b elsewhere free eq was was_x is is_x = stands_then v both_now places
-      (left (place_at w) both_now (section_at w) (section_at v) stands.sections t l
+      (left (place_at w) both_now (section_at w) (section_at v) stands.sections t l Main
       (λ u k ne. part_else (λ y. y.inside) l halfway t p2 own_t of u k ne ∙ part_x (λ y. y.inside) (ap (λ (y : Station). y.inside) (is_x ∙ sym (ap (λ (y : Station). record y { hand = None }) was_x))) u k)
       elsewhere (ap (λ (y : Station). y.inside) (station_here l (place_at w t) own ∙ was)) (ap (λ y. (station_at y l).inside) (put_here halfway t p2) ∙ ap (λ (y : Station). y.inside) (station_here l p2 of ∙ is)) free)
       (same_stood (ap (λ (y : Station). y.stands) is ∙ sym (ap (λ (y : Station). y.stands) was)) (ap (λ (y : Station). y.stands) is_x ∙ sym (ap (λ (y : Station). y.stands) was_x)) eq)
       (linked_hands (Some b) None
       (record { of_t = own; of_v = own_x; carries = ap (λ (y : Station). y.carries) was; free = ap (λ (y : Station). y.hand) was; hand = ap (λ (y : Station). y.hand) was_x; bare = ap (λ (y : Station). y.carries) was_x })
       (ap (λ (y : Station). y.carries) is) (ap (λ (y : Station). y.hand) is) (ap (λ (y : Station). y.hand) is_x) (ap (λ (y : Station). y.carries) is_x))
-      (calls_two w v stands kinds l of_mutex x px t p2 of_x of)
+      (calls_two w v stands kinds x px t p2 (calls_of w l px of_x of_mutex) (calls_of w l p2 of of_mutex))
 
   -- t hands x the lock
   pub hands_lock : ((key : ℕ) → section_at v key ≡ section_at w key) → ((key : ℕ) → queue_at v key ≡ queue_at w key)
@@ -160,7 +173,7 @@ module _ (w v : State) (stands : Stands w) (kinds : (k : ℕ) → kind_at v k �
       (linked_hands (Some false) (Some true)
       (record { of_t = own; of_v = own_x; carries = ap (λ (y : Station). y.carries) was; free = ap (λ (y : Station). y.hand) was; hand = ap (λ (y : Station). y.hand) was_x; bare = ap (λ (y : Station). y.carries) was_x })
       (ap (λ (y : Station). y.carries) is) (ap (λ (y : Station). y.hand) is) (ap (λ (y : Station). y.hand) is_x) (ap (λ (y : Station). y.carries) is_x))
-      (calls_two w v stands kinds l of_mutex x px t p2 of_x of)
+      (calls_two w v stands kinds x px t p2 (calls_of w l px of_x of_mutex) (calls_of w l p2 of of_mutex))
 
   -- t takes x, the first of the main line
   pub takes : (rest : List Waiter) (first : Waiter) → ((key : ℕ) → section_at v key ≡ section_at w key) → ((key : ℕ) → key ≢ 2 * l → queue_at v key ≡ queue_at w key) → queue_at w (2 * l) ≡ first ∷ rest → queue_at v (2 * l) ≡ rest → first.thread ≡ x
@@ -168,7 +181,7 @@ module _ (w v : State) (stands : Stands w) (kinds : (k : ℕ) → kind_at v k �
       → station p2 ≡ record (station (place_at w t)) { carries = Some false } → station px ≡ record nowhere { hand = hand t false } → Stands v
   takes rest first es elsewhere was_line line who bare free was_x is is_x = stands_then v both_now places
       (same_inside (ap (λ (y : Station). y.inside) is) (ap (λ (y : Station). y.inside) is_x ∙ sym (ap (λ (y : Station). y.inside) was_x)) es)
-      (line_moved (place_at w) both_now (queue_at w) (queue_at v) stands.lines x l
+      (line_moved (place_at w) both_now (queue_at w) (queue_at v) stands.lines x l Main
       (λ u k ne. part_t (λ y. y.stands) (ap (λ (y : Station). y.stands) is) u k ∙ part_else (λ y. y.stands) l (place_at w) x px own_x of_x u k ne)
       elsewhere
       (λ u ne. rw (line, was_line) (let a : ◌≡◌ {A = ℕ} (if first.thread == u then 1 else 0) 0 = ap (λ (c : Bool). if c then 1 else 0) (differ first.thread u (λ e. ne (sym e ∙ who))) in omega arith))
@@ -176,7 +189,7 @@ module _ (w v : State) (stands : Stands w) (kinds : (k : ℕ) → kind_at v k �
       (linked_hands None (Some false)
       (record { of_t = own; of_v = own_x; carries = bare; free = free; hand = ap (λ (y : Station). y.hand) was_x; bare = ap (λ (y : Station). y.carries) was_x })
       (ap (λ (y : Station). y.carries) is) (ap (λ (y : Station). y.hand) is ∙ free) (ap (λ (y : Station). y.hand) is_x) (ap (λ (y : Station). y.carries) is_x))
-      (calls_two w v stands kinds l of_mutex x px t p2 of_x of)
+      (calls_two w v stands kinds x px t p2 (calls_of w l px of_x of_mutex) (calls_of w l p2 of of_mutex))
     where
       -- it stood there once
       counts : (m : Line) → times x (queue_at v (key_of l m)) ≡ stood_in (station_at (both_now x) l).stands m

@@ -1,14 +1,15 @@
 -- The locks of a world, with what each thread does about each.
-use Rattle.std.specs.Prelude.{ℕ, Bool, true, false, Option, Some, None, ◌≡◌, ◌≢◌, ◌+◌, ◌*◌, ◌↔◌, List, [], ◌∷◌}
+use Rattle.std.specs.Prelude.{ℕ, Bool, true, false, Option, Some, None, ◌≡◌, ◌≢◌, ◌<◌, ◌≤◌, ◌+◌, ◌-◌, ◌*◌, ◌^◌, ◌↔◌, List, [], ◌∷◌, length}
 use Rattle.lot_base.specs.declared.wants.Waiter.{Waiter}
 use Rattle.lot_base.specs.Lines.{times}
 use Rattle.lot_steps.specs.declared.places.Place.{Place}
 use Rattle.lot_steps.specs.declared.places.Place.TheVariants.{Idle, Mutex as OfMutex}
-use Rattle.abstract_locks.specs.Locks.{Rules}
-use Rattle.abstract_locks.specs.Sites.{Line, Main, Second, Site, IsSite, has_readers, after_deed, Needed}
-use Rattle.abstract_locks.specs.Codes.{code, parked_in, aside_in}
+use Rattle.lot_base.specs.declared.wants.Want.TheVariants.{Upgradable}
+use Rattle.abstract_locks.specs.Locks.{Rules, Knows}
+use Rattle.abstract_locks.specs.Sites.{Line, Main, Second, Site, IsSite, Deed, Case, has_readers, after_deed, Needed}
+use Rattle.abstract_locks.specs.Codes.{code, parked_in, aside_in, HasLimit, IsHandOff}
 use Rattle.abstract_locks.specs.Purposes.{rules_of}
-use Rattle.lot_machine.specs.Machine.{State, place_at, word_at, filled_at, kind_at, queue_at, section_at}
+use Rattle.lot_machine.specs.Machine.{State, place_at, word_at, shares_at, filled_at, kind_at, queue_at, section_at}
 use Rattle.lot_world.specs.Refinement.{lock_state}
 use Rattle.lot_calls.specs.declared.kinds.Kind.{Kind}
 use Rattle.lot_calls.specs.declared.kinds.Kind as kind
@@ -36,12 +37,19 @@ abbrev pub AllNeeded : Rules → List Act → Site → Type 0
 AllNeeded r [] s = Unit {0}
 AllNeeded r (a ∷ more) s = Needed r a.deed s a.by × AllNeeded r more (after_deed r a.deed s a.by)
 
+-- a number of readers that a word can count
+abbrev pub HasRoom : Rules → Type 0
+HasRoom r = (1 ≤ r.limit) × (r.limit < 2 ^ 60 - 1)
+
 -- each lock is a site, and its word says so
 pub record AreSites (w : State) : Type 0 where
   pub site : (l : ℕ) → IsSite (rules_at w l) (site_of w l)
   pub word : (l : ℕ) → word_at w l ≡ code (rules_at w l) (site_of w l)
   -- a lock that nobody shares is never filled
   pub unfilled : (l : ℕ) → has_readers (rules_at w l).sort ≡ false → filled_at w l ≡ false
+  -- as many readers as the limit lets in, or one more
+  pub limits : (l : ℕ) → has_readers (rules_at w l).sort ≡ true
+      → HasRoom (rules_at w l) × HasLimit (rules_at w l) (lock_state w l)
 
 -- ---------------------------------------------------------------- what the machine keeps beside its locks' being sites
 
@@ -70,13 +78,18 @@ carried_at p l = (station_at p l).carries
 abbrev pub hand_at : Place → ℕ → Option Hand
 hand_at p l = (station_at p l).hand
 
-pub record Hands (p : ℕ → Place) : Type 0 where
+-- at some locks a thread has one in hand at a time
+pub record Hands (one : ℕ → Type 0) (p : ℕ → Place) : Type 0 where
   -- who has somebody in hand, by its place, has one
   pub carried : (t l : ℕ) (b : Bool) → carried_at (p t) l ≡ Some b → (u : ℕ) × (hand_at (p u) l ≡ hand t b)
-  -- and no second
-  pub alone : (t l u v : ℕ) (b c : Bool) → hand_at (p u) l ≡ hand t b → hand_at (p v) l ≡ hand t c → v ≡ u
+  -- and there no second
+  pub alone : (t l u v : ℕ) (b c : Bool) → one l → hand_at (p u) l ≡ hand t b → hand_at (p v) l ≡ hand t c → v ≡ u
   -- who is in the hand of a thread, is so by that one's place
   pub taken : (t u l : ℕ) (b : Bool) → hand_at (p u) l ≡ hand t b → carried_at (p t) l ≡ Some b
+
+-- only the waiters of a reader-writer lock are taken many at a time
+abbrev pub TakesOne : State → ℕ → Type 0
+TakesOne w l = Knows (rules_at w l).sort Upgradable → ⊥
 
 abbrev pub is_mutex : Kind → Bool
 is_mutex kind.TheVariants.Mutex = true
@@ -91,13 +104,34 @@ CallsMutex w (OfMutex l at) = is_mutex (kind_at w l) ≡ true
 pub record Stands (w : State) : Type 0 where
   pub sections : Sections (place_at w) (section_at w)
   pub lines : Lines (place_at w) (queue_at w)
-  pub hands : Hands (place_at w)
+  pub hands : Hands (TakesOne w) (place_at w)
   pub calls : (t : ℕ) → CallsMutex w (place_at w t)
+
+-- each thread has a number of shared rights of each lock
+pub record HasNumbers (w : State) : Type 0 where
+  pub locks : length w.shares ≡ length w.locks
+  pub threads : (l : ℕ) → length (shares_at w l) ≡ length w.places
 
 -- what holds between any two steps
 pub record IsSteady (w : State) : Type 0 where
   pub sites : AreSites w
   pub stands : Stands w
+  pub numbers : HasNumbers w
+
+-- a thread that is there hands nothing over
+abbrev pub IsOrdinary : ℕ → ℕ → Deed → Type 0
+IsOrdinary threads t (Case case) = (t < threads) × (IsHandOff case → ⊥)
+IsOrdinary threads t deed = Unit {0}
+
+abbrev pub AreOrdinary : ℕ → List Act → Type 0
+AreOrdinary threads [] = Unit {0}
+AreOrdinary threads (a ∷ ds) = IsOrdinary threads a.by a.deed × AreOrdinary threads ds
+
+-- a step changes no number of threads or locks
+pub record SameNumbers (w v : State) : Type 0 where
+  pub threads : length v.places ≡ length w.places
+  pub locks : length v.locks ≡ length w.locks
+  pub shares : length v.shares ≡ length w.shares
 
 -- one lock has been through deeds that are allowed, its word says so, and the others are as they were
 pub record Follows (w v : State) (l : ℕ) (ds : List Act) : Type 0 where
@@ -106,6 +140,10 @@ pub record Follows (w v : State) (l : ℕ) (ds : List Act) : Type 0 where
   pub word : word_at v l ≡ code (rules_at w l) (site_of v l)
   pub others : (k : ℕ) → k ≢ l → (site_of v k ≡ site_of w k) × (word_at v k ≡ word_at w k)
   pub kinds : (k : ℕ) → kind_at v k ≡ kind_at w k
+  pub numbers : SameNumbers w v
+  pub sharers : (k : ℕ) → length (shares_at v k) ≡ length (shares_at w k)
+  -- no call that hands over a lock that is shared is built
+  pub ordinary : has_readers (rules_at w l).sort ≡ true → AreOrdinary (length w.places) ds
 
 -- and each thread stands where its place says
 pub record Goes (w v : State) (l : ℕ) (ds : List Act) : Type 0 where
