@@ -13,3 +13,5 @@ pub mod OnceKeeps
 pub mod CondvarKeeps
 pub mod PermitKeeps
 pub mod OnceFit
+pub mod Deeds
+pub mod Rights

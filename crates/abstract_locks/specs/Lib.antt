@@ -9,3 +9,4 @@ pub mod Onces
 pub mod Condvars
 pub mod Permits
 pub mod OnceSteps
+pub mod Deeds

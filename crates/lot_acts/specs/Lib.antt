@@ -2,3 +2,4 @@ pub use Rattle.lot_base.specs.Words
 pub mod Acts
 pub mod Owners
 pub mod Profiles
+pub mod Calls

@@ -201,7 +201,7 @@ module _ (r : Rules) (a : Admission) (s : Site) (t l : ℕ) (op : Op) (admits : 
         by_tests false false ec f = absurd cc
 
     -- who takes what it saw may
-    may_enter : decision a (wanted x) how v ≡ decisions.Take → MayEnter r s.lock (wanted x)
+    pub may_enter : decision a (wanted x) how v ≡ decisions.Take → MayEnter r s.lock (wanted x)
     may_enter e = by_tests (is_blocked a.recursive (wanted x) v) refl (is_counted (wanted x) && nat_le a.limit (count_in v)) refl e
       where
         blocked_no : (y : Patience) → decision_blocked y v ≡ decisions.Take → ⊥

@@ -1,3 +1,4 @@
 pub mod RwLockSteps
 pub mod RwLockDeeds
 pub mod RwLockProfiles
+pub mod RwLockCalls

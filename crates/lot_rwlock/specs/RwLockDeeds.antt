@@ -34,6 +34,7 @@ use Rattle.lot_rwlock.specs.RwLockSteps.{wanted, from_of, to_of, access_of, star
 use Rattle.lot_acts.specs.Acts.{holds}
 use Rattle.abstract_locks.specs.Locks.{LockState, Rules, with_owner, without_owner, pending_for, Enter, Pend, Settle, Leave, Convert, Park, Aside, TakeAside, TakePicked, Late, Rollback, is_recursive, keeps_more, standing, times, without, unpicked}
 use Rattle.abstract_locks.specs.Sites.{Claim, Has, Pends, Doing, idle, is_main, is_empty, Site, IsSite, Needed, after_deed, has_readers, Deed, End, In, Out, Mark, Clear, FindNobody, Case}
+pub use Rattle.abstract_locks.specs.Deeds.{after_all, AllNeeded}
 use Rattle.abstract_locks.specs.Codes.{code, HasLimit, count_in, has_aside, has_parked}
 
 -- ---------------------------------------------------------------- what a thread does, by its place
@@ -223,14 +224,6 @@ deeds_at a p to whom told = []
 
 abbrev pub rwlock_deeds : Admission → RwLockPlace → Option ℕ → Reply → List Deed
 rwlock_deeds a p whom told = deeds_at a p p.at whom told
-
-abbrev pub after_all : Rules → List Deed → Site → ℕ → Site
-after_all r [] s t = s
-after_all r (d ∷ ds) s t = after_all r ds (after_deed r d s t) t
-
-abbrev pub AllNeeded : Rules → List Deed → Site → ℕ → Type 0
-AllNeeded r [] s t = Unit {0}
-AllNeeded r (d ∷ ds) s t = Needed r d s t × AllNeeded r ds (after_deed r d s t) t
 
 -- ---------------------------------------------------------------- the laws
 

@@ -1,4 +1,5 @@
 //! What the steps of a lock do to it.
+ghost use Rattle.lot_rwlock.specs.RwLockCalls.{RwLockCallsStand, RwLockSectionsTell, RwLockSleepersHear, RwLockStepsTell};
 ghost use Rattle.lot_rwlock.specs.RwLockDeeds.{RwLockOwnersFollow, RwLockSectionsFollow, RwLockStepsCode, RwLockStepsFollow};
 
 /// Each step on the word of a reader-writer lock may do to the lock what its deeds say, and its next place says what the thread does then.
@@ -20,4 +21,25 @@ pub fn rwlock_owners_follow()
 /// the step of a thread whose time is up.
 pub fn rwlock_sections_follow()
     ensures { RwLockSectionsFollow }
+{}
+
+/// Each step on the word of a reader-writer lock makes of its call what its next row says, the call is made of the step's case, and
+/// its answer is true.
+pub fn rwlock_steps_tell()
+    ensures { RwLockStepsTell }
+{}
+
+/// And so does each step into a section, in it, and out of it, and each load in place of an act.
+pub fn rwlock_sections_tell()
+    ensures { RwLockSectionsTell }
+{}
+
+/// A call that stands where its patience and its right allow goes on where they do.
+pub fn rwlock_calls_stand()
+    ensures { RwLockCallsStand }
+{}
+
+/// What befalls a thread asleep makes of its call what its row says.
+pub fn rwlock_sleepers_hear()
+    ensures { RwLockSleepersHear }
 {}

@@ -1,5 +1,5 @@
 -- What a right names.
-use Rattle.std.specs.Prelude.{◌≡◌, ◌⊎◌, ℕ, true}
+use Rattle.std.specs.Prelude.{◌≡◌, ◌⊎◌, ◌/◌, ◌==◌, ℕ, List, cond, map, true}
 use Rattle.lot_words.specs.Indices.{word_index}
 use Rattle.lot_words.specs.Views.{owning, owning_with}
 use Rattle.lot_words.specs.Steps.{has}
@@ -36,6 +36,18 @@ want_of Witness = wants.TheVariants.Wait
 abbrev pub MayHand : WordKind → wants.Want → Owner → Type 0
 MayHand RwLock wants.TheVariants.Exclusive owner = (owner ≡ Exclusive) ⊎ (owner ≡ Pending)
 MayHand _ want owner = owner ≡ owner_for want
+
+-- how who is handed a lock owns it, whose word is left at this value: a mutex alone, and a reader-writer lock by what it wants,
+-- where a writer waits for the readers that are left
+abbrev pub owner_given : WordKind → ℕ → wants.Want → Owner
+owner_given Mutex left want = Exclusive
+owner_given RwLock left wants.TheVariants.Shared = Shared
+owner_given RwLock left wants.TheVariants.Upgradable = Upgradable
+owner_given RwLock left _ = cond (left / 16 == 0) Exclusive Pending
+owner_given _ left want = owner_for want
+
+abbrev pub owners_given : WordKind → ℕ → List wants.Want → List Owner
+owners_given kind left wants = map (owner_given kind left) wants
 
 abbrev pub named_by : Word → Owner → Ownership
 named_by word owner = owning (word_index word.number word.kind) owner

@@ -26,7 +26,7 @@ pub enum Owner {
 }
 
 impl Owner {
-    ghost use Rattle.lot_words.specs.Rights.{MayHand, owner_for, want_of};
+    ghost use Rattle.lot_words.specs.Rights.{MayHand, owner_for, owner_given, want_of};
 
     /// How who has what was wanted owns the word.
     #[inline]
@@ -39,6 +39,21 @@ impl Owner {
             Want::Shared => Owner::Shared,
             Want::Wait => Owner::Witness,
             Want::CallOnce => Owner::Runner,
+        }
+    }
+
+    /// How who is handed a lock owns it, whose word is left at this value: a mutex alone, and a reader-writer lock by what it
+    /// wants, where a writer waits for the readers that are left.
+    pub fn given(kind: WordKind, left: u64, want: Want) -> Owner
+        ensures { result ≡ owner_given kind left want }
+    {
+        match (kind, want) {
+            (WordKind::Mutex, _) => Owner::Exclusive,
+            (WordKind::RwLock, Want::Shared) => Owner::Shared,
+            (WordKind::RwLock, Want::Upgradable) => Owner::Upgradable,
+            (WordKind::RwLock, _) if left / 16 == 0 => Owner::Exclusive,
+            (WordKind::RwLock, _) => Owner::Pending,
+            _ => Owner::of_want(want),
         }
     }
 

@@ -151,19 +151,6 @@ module _ (w v : State) (stands : Stands w) (kinds : (k : ℕ) → kind_at v k �
   same_stood : (station p2).stands ≡ (station (place_at w t)).stands → (station px).stands ≡ (station (place_at w x)).stands → ((key : ℕ) → queue_at v key ≡ queue_at w key) → Lines both_now (queue_at v)
   same_stood e ex eq = lines_same (place_at w) both_now (queue_at w) (queue_at v) stands.lines (λ u k. part_t (λ y. y.stands) e u k ∙ part_x (λ y. y.stands) ex u k) eq
 
-  -- t leaves its section, and lets x go, whom it has in hand
-  pub lets_go : (b : Bool) → (elsewhere : (key : ℕ) → key ≢ 2 * l → section_at v key ≡ section_at w key) → section_at v (2 * l) ≡ None → ((key : ℕ) → queue_at v key ≡ queue_at w key)
-      → station (place_at w t) ≡ record nowhere { inside = Some Main; carries = Some b } → station (place_at w x) ≡ record nowhere { hand = hand t b } → station p2 ≡ nowhere → station px ≡ nowhere → Stands v
-  lets_go b elsewhere free eq was was_x is is_x = stands_then v both_now places
-      (left (place_at w) both_now (section_at w) (section_at v) stands.sections t l Main
-      (λ u k ne. part_else (λ y. y.inside) l halfway t p2 own_t of u k ne ∙ part_x (λ y. y.inside) (ap (λ (y : Station). y.inside) (is_x ∙ sym (ap (λ (y : Station). record y { hand = None }) was_x))) u k)
-      elsewhere (ap (λ (y : Station). y.inside) (station_here l (place_at w t) own ∙ was)) (ap (λ y. (station_at y l).inside) (put_here halfway t p2) ∙ ap (λ (y : Station). y.inside) (station_here l p2 of ∙ is)) free)
-      (same_stood (ap (λ (y : Station). y.stands) is ∙ sym (ap (λ (y : Station). y.stands) was)) (ap (λ (y : Station). y.stands) is_x ∙ sym (ap (λ (y : Station). y.stands) was_x)) eq)
-      (linked_hands (Some b) None
-      (record { of_t = own; of_v = own_x; carries = ap (λ (y : Station). y.carries) was; free = ap (λ (y : Station). y.hand) was; hand = ap (λ (y : Station). y.hand) was_x; bare = ap (λ (y : Station). y.carries) was_x })
-      (ap (λ (y : Station). y.carries) is) (ap (λ (y : Station). y.hand) is) (ap (λ (y : Station). y.hand) is_x) (ap (λ (y : Station). y.carries) is_x))
-      (calls_two w v stands kinds x px t p2 (calls_of w l px of_x of_mutex) (calls_of w l p2 of of_mutex))
-
   -- t hands x the lock
   pub hands_lock : ((key : ℕ) → section_at v key ≡ section_at w key) → ((key : ℕ) → queue_at v key ≡ queue_at w key)
       → station (place_at w t) ≡ record nowhere { inside = Some Main; carries = Some false } → station (place_at w x) ≡ record nowhere { hand = hand t false } → station p2 ≡ record nowhere { inside = Some Main; carries = Some true } → station px ≡ record nowhere { hand = hand t true } → Stands v

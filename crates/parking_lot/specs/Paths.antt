@@ -1,5 +1,5 @@
 -- The word steps of a call are a path of its transitions.
-use Rattle.std.specs.Prelude.{ℕ, ◌≡◌, Bool, true, false, Some, List, [], ◌∷◌, ◌++◌}
+use Rattle.std.specs.Prelude.{ℕ, ◌≡◌, Bool, true, false, Option, Some, None, List, [], ◌∷◌, ◌++◌}
 use Rattle.lot_base.specs.declared.ops.Op.{Op}
 use Rattle.lot_base.specs.declared.ops.Op.TheVariants.{Load}
 use Rattle.lot_base.specs.declared.wants.Want.{Want}
@@ -14,7 +14,10 @@ use Rattle.lot_acts.specs.declared.acts.Check.{Check}
 use Rattle.lot_acts.specs.declared.acts.Reply.{Reply}
 use Rattle.lot_acts.specs.declared.acts.Reply.TheVariants.{Value, Spun, Parked}
 use Rattle.lot_calls.specs.declared.outcomes.Answer.{Answer}
+use Rattle.lot_calls.specs.declared.outcomes.OnceState.{OnceState}
 use Rattle.lot_steps.specs.declared.places.Place.{Place}
+use Rattle.parking_lot.specs.declared.driver.Stop.{Stop}
+use Rattle.parking_lot.specs.declared.driver.Stop.TheVariants.{Ended, Paused}
 
 -- where the word of a mutex stands
 abbrev pub mutex_at : ℕ → ℕ
@@ -30,6 +33,11 @@ at_mutex number lock = mutex_at number
 -- one step on the word at a place, and what it saw
 abbrev pub step : ℕ → Op → ℕ → List WordStep
 step at op seen = record { at = at; op = op; seen = seen } ∷ []
+
+-- the state with which the closure of a call runs
+abbrev pub closure_of : Act → Option OnceState
+closure_of (act.TheVariants.Closure state) = Some state
+closure_of _ = None
 
 -- acts that touch no word
 abbrev pub is_wordless : Act → Bool
@@ -78,3 +86,8 @@ pub record Ending (at : ℕ → ℕ) (p : Place) (steps : List WordStep) (answer
 -- the steps that were added to a list lead from a place to the end of its call
 abbrev pub Walks : (ℕ → ℕ) → Place → List WordStep → List WordStep → Answer → Type 0
 Walks at p old new answer = (more : List WordStep) × (new ≡ old ++ more) × Ending at p more answer
+
+-- and so do the steps of a run, which ends the call or comes to its closure
+abbrev pub Runs : (ℕ → ℕ) → Place → List WordStep → List WordStep → Stop → Type 0
+Runs at p old new (Ended answer) = Walks at p old new answer
+Runs at p old new (Paused place state) = (more : List WordStep) × (new ≡ old ++ more) × Path at p more place

@@ -1,13 +1,13 @@
 //! Takes and moves of waiters, as acts.
 ghost use Rattle.std.specs.Prelude.{◌≡◌, ◌≢◌, ◌+◌, ◌==◌, not, length};
 ghost use Rattle.std.specs.List.{filter};
-ghost use Rattle.lot_base.specs.Lines.{line, lines, without_first, without_key, first_of, threads_of};
+ghost use Rattle.lot_base.specs.Lines.{line, lines, without_first, without_key};
 ghost use Rattle.lot_base.specs.Picks.{lock_picked, without_lock_picked};
-ghost use Rattle.lot_base.specs.Requeues.{taken_by, moved_by, requeued};
+ghost use Rattle.lot_base.specs.Requeues.{moved_by, requeued};
 ghost use Rattle.lot_queues.specs.Wants.{wants_of};
 ghost use Rattle.parking_lot_core.specs.declared.tokens.Did.TheVariants.{TakeFirst, TakeAll, TakePicked};
 ghost use Rattle.parking_lot_core.specs.declared.tokens.Did.TheVariants as did;
-ghost use Rattle.parking_lot.specs.Stages.{HasKey, IsFresh, IsIn, inside_of, listed, took_as, waiting_of, wants_taken};
+ghost use Rattle.parking_lot.specs.Stages.{HasKey, IsFresh, IsIn, first_in, inside_of, is_there, listed, taken_of, took_as, waiting_of, wants_taken};
 ghost use Rattle.parking_lot.specs.Takes.{shares, sharers_in, successor_in};
 
 use parking_lot_core::{Key, ParkingLot, Requeue, Section, Want};
@@ -38,21 +38,19 @@ fn successor(wants: &[Want]) -> Option<Want>
     None
 }
 
-/// The one that it took, and whether none is left.
-pub(crate) fn take_first(
-    _lot: &ParkingLot,
-    section: &mut Option<Section>,
-    key: Key,
-) -> (Option<usize>, bool)
+/// Whether it took one, and whether none is left.
+pub(crate) fn take_first(_lot: &ParkingLot, section: &mut Option<Section>, key: Key) -> (bool, bool)
     requires { IsIn _lot.now section.old × HasKey key (inside_of section.old) × IsFresh (inside_of section.old) }
-    ensures did { IsIn _lot.now section.new × (inside_of section.new ≡ took_as (TakeFirst key) (listed result.0) (inside_of section.old)) }
-    ensures first { result.0 ≡ first_of (line key (waiting_of section.old)) }
-    ensures left { (lines (waiting_of section.new) ≡ lines (without_first key (waiting_of section.old))) × (result.1 ≡ (length (line key (waiting_of section.new)) == 0)) }
+    ensures did { IsIn _lot.now section.new
+        × (inside_of section.new ≡ took_as (TakeFirst key) (listed (first_in (line key (waiting_of section.old)))) (inside_of section.old)) }
+    ensures any { result.0 ≡ is_there (first_in (line key (waiting_of section.old))) }
+    ensures left { (lines (waiting_of section.new) ≡ lines (without_first key (waiting_of section.old)))
+        × (result.1 ≡ (length (line key (waiting_of section.new)) == 0)) }
 {
     match section {
         Some(inside) => {
             let first = inside.take_first(key);
-            (first, inside.count(key) == 0)
+            (first.is_some(), inside.count(key) == 0)
         }
         None => unreachable!(),
     }
@@ -61,8 +59,8 @@ pub(crate) fn take_first(
 /// Whether it took any, and whether none is left.
 pub(crate) fn take_all(_lot: &ParkingLot, section: &mut Option<Section>, key: Key) -> (bool, bool)
     requires { IsIn _lot.now section.old × HasKey key (inside_of section.old) × IsFresh (inside_of section.old) }
-    ensures did { IsIn _lot.now section.new × (inside_of section.new ≡ took_as (TakeAll key) (threads_of (line key (waiting_of section.old))) (inside_of section.old)) }
-    ensures any { result.0 ≡ not (length (threads_of (line key (waiting_of section.old))) == 0) }
+    ensures did { IsIn _lot.now section.new × (inside_of section.new ≡ took_as (TakeAll key) (line key (waiting_of section.old)) (inside_of section.old)) }
+    ensures any { result.0 ≡ not (length (line key (waiting_of section.old)) == 0) }
     ensures left { (lines (waiting_of section.new) ≡ lines (without_key key (waiting_of section.old))) × (result.1 ≡ (length (line key (waiting_of section.new)) == 0)) }
 {
     match section {
@@ -83,7 +81,7 @@ pub(crate) fn take_picked(
     recursive: bool,
 ) -> bool
     requires { IsIn _lot.now section.old × HasKey key (inside_of section.old) × IsFresh (inside_of section.old) }
-    ensures did { IsIn _lot.now section.new × (inside_of section.new ≡ took_as (TakePicked key start recursive) (threads_of (lock_picked start recursive (line key (waiting_of section.old)))) (inside_of section.old)) }
+    ensures did { IsIn _lot.now section.new × (inside_of section.new ≡ took_as (TakePicked key start recursive) (lock_picked start recursive (line key (waiting_of section.old))) (inside_of section.old)) }
     ensures wants { wants_taken section.new ≡ wants_of (lock_picked start recursive (line key (waiting_of section.old))) }
     ensures left { (lines (waiting_of section.new) ≡ lines (without_lock_picked start recursive key (waiting_of section.old))) × (result ≡ (length (line key (waiting_of section.new)) == 0)) }
 {
@@ -116,8 +114,8 @@ pub(crate) fn requeue(
     how: Requeue,
 ) -> (usize, bool)
     requires { IsIn _lot.now section.old × HasKey from (inside_of section.old) × HasKey to (inside_of section.old) × (from ≢ to) × IsFresh (inside_of section.old) }
-    ensures did { IsIn _lot.now section.new × (inside_of section.new ≡ took_as (did.Requeue from to how) (listed (taken_by how (line from (waiting_of section.old)))) (inside_of section.old)) }
-    ensures number { result.0 ≡ length (listed (taken_by how (line from (waiting_of section.old)))) + length (moved_by how (line from (waiting_of section.old))) }
+    ensures did { IsIn _lot.now section.new × (inside_of section.new ≡ took_as (did.Requeue from to how) (listed (taken_of how (line from (waiting_of section.old)))) (inside_of section.old)) }
+    ensures number { result.0 ≡ length (listed (taken_of how (line from (waiting_of section.old)))) + length (moved_by how (line from (waiting_of section.old))) }
     ensures left { (lines (waiting_of section.new) ≡ lines (requeued how from to (waiting_of section.old))) × (result.1 ≡ (length (line from (waiting_of section.new)) == 0)) }
 {
     match section {

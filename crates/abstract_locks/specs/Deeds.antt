@@ -1,0 +1,47 @@
+-- Deeds of one thread, one after another, and the one case of the abstract lock that they are.
+use Rattle.std.specs.Prelude.{ℕ, Bool, false, Option, Some, List, [], ◌∷◌}
+use Rattle.abstract_locks.specs.Locks.{LockState, Rules, Wake, Needs, after_case}
+use Rattle.abstract_locks.specs.Sites.{Site, Deed, Out, Bring, Case, Needed, after_deed}
+use Rattle.abstract_locks.specs.Runs.{Event, Nothing, AtLock}
+
+-- the site behind them
+abbrev pub after_all : Rules → List Deed → Site → ℕ → Site
+after_all r [] s t = s
+after_all r (d ∷ ds) s t = after_all r ds (after_deed r d s t) t
+
+-- each may be done where it is
+abbrev pub AllNeeded : Rules → List Deed → Site → ℕ → Type 0
+AllNeeded r [] s t = Unit {0}
+AllNeeded r (d ∷ ds) s t = Needed r d s t × AllNeeded r ds (after_deed r d s t) t
+
+-- owners, queue and hands stay
+abbrev pub KeepLock : List Deed → Type 0
+KeepLock [] = Unit {0}
+KeepLock (Case case ∷ ds) = ⊥
+KeepLock (Out ∷ ds) = ⊥
+KeepLock (Bring taken moved ∷ ds) = ⊥
+KeepLock (d ∷ ds) = KeepLock ds
+
+-- one case at most, or out of a section
+abbrev pub AreOneCase : List Deed → Type 0
+AreOneCase [] = Unit {0}
+AreOneCase (Case case ∷ ds) = KeepLock ds
+AreOneCase (Out ∷ ds) = KeepLock ds
+AreOneCase (Bring taken moved ∷ ds) = ⊥
+AreOneCase (d ∷ ds) = AreOneCase ds
+
+-- That case at the lock l. Who leaves a section wakes whom it has in hand, if anybody, where it hasn't handed the lock over: hand says.
+abbrev pub event_of : ℕ → Option Bool → List Deed → Event
+event_of l hand [] = Nothing
+event_of l hand (Case case ∷ ds) = AtLock l case
+event_of l (Some false) (Out ∷ ds) = AtLock l Wake
+event_of l hand (d ∷ ds) = event_of l hand ds
+
+-- what an event needs of its lock, and where it leads it
+abbrev pub EventNeeds : Rules → Event → LockState → ℕ → Type 0
+EventNeeds r Nothing s t = Unit {0}
+EventNeeds r (AtLock l case) s t = Needs r case s t
+
+abbrev pub after_event : Rules → Event → LockState → ℕ → LockState
+after_event r Nothing s t = s
+after_event r (AtLock l case) s t = after_case r case s t
