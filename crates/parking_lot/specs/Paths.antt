@@ -67,6 +67,10 @@ pub data Tells (at : ℕ → ℕ) : Place → List WordStep → Reply → Type 0
   spins : (p : Place) (lock seen : ℕ) → spin_lock p ≡ Some lock → Tells at p (step (at lock) Load seen) (Spun seen)
   other : (p : Place) (reply : Reply) → is_wordless (act_of p) ≡ true → is_valueless reply ≡ true → Tells at p [] reply
 
+-- these steps were added, and bring the reply
+abbrev pub Told : (ℕ → ℕ) → Place → Reply → List WordStep → List WordStep → Type 0
+Told at p reply before behind = (then : List WordStep) × (behind ≡ before ++ then) × Tells at p then reply
+
 -- these steps lead from one place to another
 pub data Path (at : ℕ → ℕ) : Place → List WordStep → Place → Type 0 where
   here : (p : Place) → Path at p [] p
