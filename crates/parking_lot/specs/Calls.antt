@@ -60,7 +60,8 @@ saw_waiter _ seen = is_parked seen
 
 -- a release took a waiter by what its first operation saw
 abbrev pub Releases : ℕ → MutexCall → List WordStep → List WordStep → Option SectionRecord → Type 0
-Releases n c old new last = (seen : ℕ) × (more : List WordStep) × (new ≡ (old ++ step (mutex_at n) (first_op c) seen) ++ more) × TookIfParked n (saw_waiter c seen) more last
+Releases n c old new last = (seen : ℕ) × (more : List WordStep)
+    × (new ≡ (old ++ step (mutex_at n) (first_op c) seen) ++ more) × TookIfParked n (saw_waiter c seen) more last
 
 -- the word was loaded once, and told that the mutex is locked or not
 abbrev pub Sees : ℕ → Bool → List WordStep → List WordStep → Type 0

@@ -106,7 +106,8 @@ fn hand_over<R: Wait>(
 fn remove(_lot: &ParkingLot, section: &mut Option<Section>, key: Key, thread: usize) -> bool
     requires { IsIn _lot.now section.old × HasKey key (inside_of section.old) }
     ensures same { IsIn _lot.now section.new × (inside_of section.new ≡ inside_of section.old) }
-    ensures left { AreWaiting (without thread (waiting_of section.old)) section.new × (result ≡ is_empty_at key section.new) }
+    ensures left { AreWaiting (without thread (waiting_of section.old)) section.new
+        × (result ≡ is_empty_at key section.new) }
 {
     match section {
         Some(inside) => {
@@ -165,7 +166,8 @@ fn leave<R: Wait>(
 
 fn take(lot: &ParkingLot, section: &mut Option<Section>, key: Key, whom: Whom) -> Reply
     requires { MayTakeAt lot.now key section.old }
-    ensures { IsIn lot.now section.new × TookBy key whom result (inside_of section.old) (inside_of section.new) }
+    ensures { IsIn lot.now section.new
+        × TookBy key whom result (inside_of section.old) (inside_of section.new) }
 {
     match whom {
         Whom::First => {
@@ -210,7 +212,8 @@ fn awake_late<'a, R: Wait>(
     requires late { inside_of (Some inside) ≡ entered_now (One key) }
     ensures own { Stays inside.entry.lot.now token.old token.new × IsIn inside.entry.lot.now section.new
         × (steps_of token.new ≡ steps_of token.old) }
-    ensures awoke { AwokeLate key sleeper (stage_of token.old section.old) result (stage_of token.new section.new) }
+    ensures awoke { AwokeLate key sleeper (stage_of token.old section.old) result
+        (stage_of token.new section.new) }
 {
     if sleeper.late == Some(key) {
         match section.replace(inside) {
@@ -240,7 +243,8 @@ fn sleep<'a, R: Wait, C: Clock>(
     section: &mut Option<Section<'a>>,
 ) -> Reply
     requires own { IsTokenOf lot.now token.old × IsWordOf lot.now.words word × (inside_of section.old ≡ None) }
-    ensures own { Stays lot.now token.old token.new × IsIn lot.now section.new × (steps_of token.new ≡ steps_of token.old) }
+    ensures own { Stays lot.now token.old token.new × IsIn lot.now section.new
+        × (steps_of token.new ≡ steps_of token.old) }
     ensures awoke { Awoke (IsUp C.tells limit.entry) word.kind (index_of word) sleeper
         (stage_of token.old section.old) result (stage_of token.new section.new) }
 {

@@ -152,11 +152,13 @@ fn turn<'a, R: Wait, C: Clock>(
 ) -> Reply
     requires own { IsTokenOf lot.now token.old × AreWordsOf lot.now words × IsIn lot.now section.old }
     requires words { AreWordsFor place (kind_in words) (at_in words) }
-    requires fits { (base : List Ownership) × Fits (IsUp C.tells limit) base place (stage_of token.old section.old) }
+    requires fits { (base : List Ownership)
+        × Fits (IsUp C.tells limit) base place (stage_of token.old section.old) }
     requires no_closure { closure_of (act_of place) ≡ None }
     ensures own { Stays lot.now token.old token.new × IsIn lot.now section.new }
     ensures told { Told (at_in words) place result (steps_of token.old) (steps_of token.new) }
-    ensures reached { (base : List Ownership) → Fits (IsUp C.tells limit.entry) base place (stage_of token.old section.old)
+    ensures reached { (base : List Ownership)
+        → Fits (IsUp C.tells limit.entry) base place (stage_of token.old section.old)
         → Reached (IsUp C.tells limit.entry) base place result (stage_of token.new section.new) }
 {
     if let Some(lock) = place.spin_lock() {
@@ -194,7 +196,8 @@ pub(crate) fn run<R: Wait, C: Clock>(
     requires start { (base : List Ownership) × Fits (IsUp C.tells limit) base start (stage_of token.old None) }
     ensures own { Stays lot.now token.old token.new }
     ensures path { Runs (at_in words) start (steps_of token.old) (steps_of token.new) result }
-    ensures stopped { (base : List Ownership) → Fits (IsUp C.tells limit.entry) base start (stage_of token.old None)
+    ensures stopped { (base : List Ownership)
+        → Fits (IsUp C.tells limit.entry) base start (stage_of token.old None)
         → IsStopped (IsUp C.tells limit.entry) base (aim_of start) result (stage_of token.new None) }
     ensures words { AreWordsAfter result (kind_in words) (at_in words) }
 {
@@ -242,8 +245,10 @@ pub(crate) fn resume<R: Wait, C: Clock>(
     requires goes_on { answer_of (next_act place (Closed succeeded)) ≡ None }
     requires fits { (base : List Ownership) × Fits (IsUp C.tells limit) base place (stage_of token.old None) }
     ensures own { Stays lot.now token.old token.new }
-    ensures path { Runs (at_in words) (next_place place (Closed succeeded)) (steps_of token.old) (steps_of token.new) result }
-    ensures stopped { (base : List Ownership) → Fits (IsUp C.tells limit.entry) base place (stage_of token.old None)
+    ensures path { Runs (at_in words) (next_place place (Closed succeeded))
+        (steps_of token.old) (steps_of token.new) result }
+    ensures stopped { (base : List Ownership)
+        → Fits (IsUp C.tells limit.entry) base place (stage_of token.old None)
         → IsStopped (IsUp C.tells limit.entry) base (aim_of place) result (stage_of token.new None) }
     ensures words { AreWordsAfter result (kind_in words) (at_in words) }
 {
@@ -279,8 +284,8 @@ pub(crate) fn behind<R: Wait, C: Clock>(
     ensures own { Stays lot.now token.old token.new }
     ensures path { WalksBehind word.number call seen token.old token.new result }
     ensures rest { (more : List WordStep) × (steps_of token.new ≡ steps_of token.old ++ more) }
-    ensures over { IsMutexOver (IsUp C.tells limit.entry) word.number (owns_of token.old) (purpose_in call) result
-        (stage_of token.new None) }
+    ensures over { IsMutexOver (IsUp C.tells limit.entry) word.number (owns_of token.old)
+        (purpose_in call) result (stage_of token.new None) }
 {
     let start = place_behind(word, call, seen);
     match run(rt, lot, token, Words::alone(word), limit, start) {

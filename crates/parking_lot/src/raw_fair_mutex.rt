@@ -62,7 +62,8 @@ impl lock_raw::RawMutex for RawFairMutex {
 
     ghost walked = { λ mutex call answer old new. HasWalked mutex.word.number (fairly call) answer old new };
 
-    ghost released = { λ mutex call old new. Releases mutex.word.number (fairly call) (steps_of old) (steps_of new) (last_of new) };
+    ghost released = { λ mutex call old new.
+        Releases mutex.word.number (fairly call) (steps_of old) (steps_of new) (last_of new) };
 
     ghost looked = { λ mutex locked old new. Sees mutex.word.number locked (steps_of old) (steps_of new) };
 

@@ -96,7 +96,8 @@ impl RawMutex {
         ensures own { Stays (lot_of self.now) token.old token.new }
         ensures path { WalksBehind (word_of self.now).number call seen token.old token.new result }
         ensures rest { (more : List WordStep) × (steps_of token.new ≡ steps_of token.old ++ more) }
-        ensures over { IsMutexOver ⊥ (word_of self.now).number (owns_of token.old) (purpose_in call) result (stage_of token.new None) }
+        ensures over { IsMutexOver ⊥ (word_of self.now).number (owns_of token.old) (purpose_in call) result
+            (stage_of token.new None) }
     {
         behind(rt, &self.lot, token, self.word, NO_LIMIT, call, seen)
     }
@@ -150,7 +151,8 @@ impl lock_raw::RawMutex for RawMutex {
 
     ghost walked = { λ mutex call answer old new. HasWalked mutex.word.number call answer old new };
 
-    ghost released = { λ mutex call old new. Releases mutex.word.number call (steps_of old) (steps_of new) (last_of new) };
+    ghost released = { λ mutex call old new.
+        Releases mutex.word.number call (steps_of old) (steps_of new) (last_of new) };
 
     ghost looked = { λ mutex locked old new. Sees mutex.word.number locked (steps_of old) (steps_of new) };
 

@@ -42,9 +42,11 @@ fn successor(wants: &[Want]) -> Option<Want>
 /// Whether it took one, and whether none is left.
 pub(crate) fn take_first(_lot: &ParkingLot, section: &mut Option<Section>, key: Key) -> (bool, bool)
     requires { MayTakeAt _lot.now key section.old }
-    ensures did { HasTaken _lot.now (TakeFirst key) (listed (first_in (line_in key section.old))) section.old section.new }
+    ensures did { HasTaken _lot.now (TakeFirst key) (listed (first_in (line_in key section.old)))
+        section.old section.new }
     ensures any { result.0 ≡ is_there (first_in (line_in key section.old)) }
-    ensures left { AreWaiting (without_first key (waiting_of section.old)) section.new × (result.1 ≡ is_empty_at key section.new) }
+    ensures left { AreWaiting (without_first key (waiting_of section.old)) section.new
+        × (result.1 ≡ is_empty_at key section.new) }
 {
     match section {
         Some(inside) => {
@@ -60,7 +62,8 @@ pub(crate) fn take_all(_lot: &ParkingLot, section: &mut Option<Section>, key: Ke
     requires { MayTakeAt _lot.now key section.old }
     ensures did { HasTaken _lot.now (TakeAll key) (line_in key section.old) section.old section.new }
     ensures any { result.0 ≡ not (is_empty_at key section.old) }
-    ensures left { AreWaiting (without_key key (waiting_of section.old)) section.new × (result.1 ≡ is_empty_at key section.new) }
+    ensures left { AreWaiting (without_key key (waiting_of section.old)) section.new
+        × (result.1 ≡ is_empty_at key section.new) }
 {
     match section {
         Some(inside) => {
@@ -80,8 +83,8 @@ pub(crate) fn take_picked(
     recursive: bool,
 ) -> bool
     requires { MayTakeAt _lot.now key section.old }
-    ensures did { HasTaken _lot.now (TakePicked key start recursive) (lock_picked start recursive (line_in key section.old))
-        section.old section.new }
+    ensures did { HasTaken _lot.now (TakePicked key start recursive)
+        (lock_picked start recursive (line_in key section.old)) section.old section.new }
     ensures wants { wants_taken section.new ≡ wants_of (lock_picked start recursive (line_in key section.old)) }
     ensures left { AreWaiting (without_lock_picked start recursive key (waiting_of section.old)) section.new
         × (result ≡ is_empty_at key section.new) }
