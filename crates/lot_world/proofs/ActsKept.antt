@@ -169,11 +169,11 @@ module _ (w : State) (l t n : ℕ) (threads : n ≡ length w.places) (there : l 
 
 -- ---------------------------------------------------------------- lines
 
-stood_one : (n : Line) → stood_in (Some n) n ≡ 1
+pub stood_one : (n : Line) → stood_in (Some n) n ≡ 1
 stood_one Main = refl
 stood_one Second = refl
 
-stood_other : (n o : Line) → o ≢ n → stood_in (Some n) o ≡ 0
+pub stood_other : (n o : Line) → o ≢ n → stood_in (Some n) o ≡ 0
 stood_other Main Main ne = absurd (ne refl)
 stood_other Main Second ne = refl
 stood_other Second Main ne = refl

@@ -1,0 +1,116 @@
+-- A thread takes those who are picked of the main queue of a reader-writer lock, or the writer aside: what the machine does is the case of the lock.
+use Rattle.std.proofs.Common.{ℕ, Bool, true, false, Option, Some, None, if◌then◌else◌, ◌==◌, ◌≡◌, ◌≢◌, ◌+◌, ◌*◌, ◌≤◌, ◌<◌, List, [], ◌∷◌, length, get_or, set, map, drop, refl, sym, ◌∙◌, ap, subst, arith, length-set, get_or-set_same, get_or-set_other}
+use Rattle.std.proofs.lemmas.Bool.Decides.{nat_tests}
+use Rattle.lot_base.specs.declared.lock_picker.LockPicker.{LockPicker}
+use Rattle.lot_base.specs.declared.wants.Waiter.{Waiter}
+use Rattle.lot_base.specs.declared.wants.Want.{Want}
+use Rattle.lot_base.specs.declared.wants.Want.TheVariants.{Exclusive}
+use Rattle.lot_base.specs.Lines.{line, times, threads_of}
+use Rattle.lot_base.specs.Picks.{picked, without_picked, lock_answer, next_picker, lock_picker, lock_picked, without_lock_picked}
+use Rattle.lot_steps.specs.declared.places.Place.{Place}
+use Rattle.lot_steps.specs.declared.places.Place.TheVariants.{Idle}
+use Rattle.lot_acts.specs.declared.acts.Reply.TheVariants.{TakenBy}
+use Rattle.lot_acts.specs.declared.acts.Whom as whom
+use Rattle.lot_steps.specs.Steps.{next_place}
+use Rattle.abstract_locks.specs.Locks.{Rules, Sort, TakePicked, TakeAside, is_recursive, putting}
+use Rattle.abstract_locks.specs.Locks as locks
+use Rattle.abstract_locks.specs.Picks.{queued_of}
+use Rattle.abstract_locks.specs.Sites.{Main, Second, Case}
+use Rattle.abstract_locks.proofs.Picks.{pickers_pick}
+use Rattle.lot_machine.specs.Machine.{State, place_at, queue_at, put, state_after_take, state_after_reply, queues_without_first, places_told}
+use Rattle.lot_machine.proofs.QueueLemmas.{told_count}
+use Rattle.lot_world.specs.Refinement.{taken_at}
+use Rattle.lot_world.specs.MutexDeeds.{acts}
+use Rattle.lot_world.specs.Stations.{Station, station, doing_on}
+use Rattle.lot_world.specs.SitesOf.{AllNeeded, TakesOne, IsSteady, Goes, CallsMutex, after_acts, rules_at, key_of}
+use Rattle.lot_world.proofs.Glue.{parts_at, seen_in, lock_in, put_places, IsOf}
+use Rattle.lot_world.proofs.OneStep.{noted}
+use Rattle.lot_world.proofs.ActsKept.{lock_by, site_by}
+use Rattle.lot_world.proofs.TakesKept.{member, told_by, told_places, AllAre, IsTakenFrom, Splits, take_goes}
+
+-- all stand under one key
+abbrev pub AllUnder : ℕ → List Waiter → Type 0
+AllUnder key [] = Unit {0}
+AllUnder key (x ∷ xs) = (x.key ≡ key) × AllUnder key xs
+
+line_all : (key : ℕ) (xs : List Waiter) → AllUnder key xs → line key xs ≡ xs
+line_all key [] h = refl
+line_all key (x ∷ xs) h = grind (arith, nat_tests, line_all key xs h.1)
+
+under_left : (key : ℕ) (picker : LockPicker) (xs : List Waiter) → AllUnder key xs → AllUnder key (without_picked lock_answer next_picker picker key xs)
+under_left key picker [] h = tt
+under_left key picker (x ∷ xs) h = grind (arith, nat_tests, under_left key (next_picker picker x.want) xs h.1)
+
+picked_counts : (u key : ℕ) (picker : LockPicker) (xs : List Waiter) → AllUnder key xs → times u (picked lock_answer next_picker picker xs) + times u (without_picked lock_answer next_picker picker key xs) ≡ times u xs
+picked_counts u key picker [] h = refl
+picked_counts u key picker (x ∷ xs) h = grind (arith, nat_tests, picked_counts u key (next_picker picker x.want) xs h.1)
+
+-- the picker picks as the lock says
+module _ (sort : Sort) (start : Option Want) (key : ℕ) (q : List Waiter) (under : AllUnder key q) where
+  pub picks_tied : map queued_of (lock_picked start (is_recursive sort) q) ≡ locks.picked sort start (map queued_of q)
+  picks_tied = ap (λ y. map queued_of (lock_picked start (is_recursive sort) y)) (sym (line_all key q under)) ∙ (pickers_pick sort start key q).taken ∙ ap (λ y. locks.picked sort start (map queued_of y)) (line_all key q under)
+
+  pub left_tied : map queued_of (without_lock_picked start (is_recursive sort) key q) ≡ locks.unpicked sort start (map queued_of q)
+  left_tied = ap (map queued_of) (sym (line_all key _ (under_left key (lock_picker start (is_recursive sort)) q under))) ∙ (pickers_pick sort start key q).left ∙ ap (λ y. locks.unpicked sort start (map queued_of y)) (line_all key q under)
+
+module _ (w : State) (t l : ℕ) (steady : IsSteady w) (own : IsOf l (place_at w t)) (there : t < length w.places) (p2 : Place) (of : IsOf l p2) (fits : CallsMutex w p2) (many : TakesOne w l → ⊥)
+    (out : (station (place_at w t)).stands ≡ None) (free : (station (place_at w t)).hand ≡ None) (bare : (station (place_at w t)).carries ≡ None) (r : Rules) (rules : rules_at w l ≡ r) (none : taken_at (place_at w t) l ≡ None) (none2 : taken_at p2 l ≡ None)
+    (inside : (station p2).inside ≡ (station (place_at w t)).inside) (stands : (station p2).stands ≡ None) (unheld : (station p2).hand ≡ None) where
+  past : (n : ℕ) → n ≡ length w.places → n ≤ t → p2 ≡ Idle
+  past n e h = absurd (omega arith)
+
+  -- those who are picked of the main queue
+  module _ (start : Option Want) (under : AllUnder (2 * l) (queue_at w (2 * l))) (some_line : 2 * l < length w.queues) where
+    abbrev pub picks : List Waiter
+    picks = lock_picked start (is_recursive r.sort) (queue_at w (2 * l))
+
+    abbrev pub rest : List Waiter
+    rest = without_lock_picked start (is_recursive r.sort) (2 * l) (queue_at w (2 * l))
+
+    pub picked_goes : ((u : ℕ) → member u picks ≡ true → IsTakenFrom w t l Main (place_at w u)) → AllAre t (λ u. taken_at (next_place (place_at w u) (TakenBy t)) l) picks
+        → ((b : Bool) → (station p2).carries ≡ Some b → (b ≡ false) × ((u : ℕ) × (member u picks ≡ true))) → ((u : ℕ) → member u picks ≡ true → (station p2).carries ≡ Some false) → AllNeeded r (acts t (Case (TakePicked start) ∷ [])) (lock_by w l r)
+        → doing_on p2 l ≡ (after_acts r (acts t (Case (TakePicked start) ∷ [])) (lock_by w l r)).doing t → Goes w (put (state_after_take w t (2 * l) (whom.TheVariants.Picked start (is_recursive r.sort))) t p2) l (acts t (Case (TakePicked start) ∷ []))
+    picked_goes sleeps wants some full needed own_is = take_goes w t l steady own there p2 of fits many Main picks rest
+        (record { counts = λ u. picked_counts u (2 * l) (lock_picker start (is_recursive r.sort)) (queue_at w (2 * l)) under; sleeps = sleeps; wants = wants }) out free bare r rules none none2 v refl refl refl threads places
+        (get_or-set_same w.queues (2 * l) rest [] some_line) (λ key ne. get_or-set_other w.queues (2 * l) key rest [] ne) inside stands unheld some full
+        (Case (TakePicked start)) (tt, tt) ((λ h. h), tt) needed
+        (λ i. record (lock_by w l r).lock { queue = left_tied r.sort start (2 * l) (queue_at w (2 * l)) under i; taken = locks.taking t (picks_tied r.sort start (2 * l) (queue_at w (2 * l)) under i) (λ u. taken_at (place_at w u) l) })
+        refl refl (noted r (lock_by w l r) (site_by w t l steady own there r rules p2 of fits)) own_is
+      where
+        v : State
+        v = put (state_after_take w t (2 * l) (whom.TheVariants.Picked start (is_recursive r.sort))) t p2
+
+        threads : length v.places ≡ length w.places
+        threads = length-set (places_told (TakenBy t) (threads_of picks) w.places) t p2 ∙ told_count (TakenBy t) (threads_of picks) w.places
+
+        places : place_at v ≡ putting (told_by (TakenBy t) picks (place_at w)) t p2
+        places = put_places (state_after_take w t (2 * l) (whom.TheVariants.Picked start (is_recursive r.sort))) t p2 (past (length (places_told (TakenBy t) (threads_of picks) w.places)) (told_count (TakenBy t) (threads_of picks) w.places))
+            ∙ ap (λ (f : ℕ → Place). putting f t p2) (told_places (TakenBy t) picks w.places)
+
+  -- the writer aside
+  module _ (x : Waiter) (first : queue_at w (2 * l + 1) ≡ x ∷ []) (writes : x.want ≡ Exclusive) (some_line : 2 * l + 1 < length w.queues) where
+    pub aside_goes : IsTakenFrom w t l Second (place_at w x.thread) → taken_at (next_place (place_at w x.thread) (TakenBy t)) l ≡ Some (record { by = t; want = x.want }) → (station p2).carries ≡ Some false → AllNeeded r (acts t (Case (TakeAside x.thread) ∷ [])) (lock_by w l r)
+        → doing_on p2 l ≡ (after_acts r (acts t (Case (TakeAside x.thread) ∷ [])) (lock_by w l r)).doing t → Goes w (put (state_after_reply (record w { queues = queues_without_first w.queues (2 * l + 1) }) x.thread (TakenBy t)) t p2) l (acts t (Case (TakeAside x.thread) ∷ []))
+    aside_goes sleeps wants carries needed own_is = take_goes w t l steady own there p2 of fits many Second (x ∷ []) []
+        (record { counts = λ u. let a : times u (queue_at w (2 * l + 1)) ≡ times u (x ∷ []) = ap (times u) first in omega arith; sleeps = λ u h. one_sleeps u (x.thread == u) refl h; wants = (wants, tt) }) out free bare r rules none none2 v refl refl refl threads places
+        (get_or-set_same w.queues (2 * l + 1) (drop 1 (queue_at w (2 * l + 1))) [] some_line ∙ ap (drop 1) first) (λ key ne. get_or-set_other w.queues (2 * l + 1) key (drop 1 (queue_at w (2 * l + 1))) [] ne) inside stands unheld
+        (λ b e. let f : Some false ≡ Some b = sym carries ∙ e in let g : false ≡ b = cc in (sym g, (x.thread, same_one))) (λ u h. carries)
+        (Case (TakeAside x.thread)) (tt, tt) ((λ h. h), tt) needed
+        (λ i. record (lock_by w l r).lock { aside = None; taken = putting (λ u. taken_at (place_at w u) l) x.thread (Some (record { by = t; want = writes i })) })
+        refl refl (noted r (lock_by w l r) (site_by w t l steady own there r rules p2 of fits)) own_is
+      where
+        v : State
+        v = put (state_after_reply (record w { queues = queues_without_first w.queues (2 * l + 1) }) x.thread (TakenBy t)) t p2
+
+        same_one : member x.thread (x ∷ []) ≡ true
+        same_one = grind (arith, nat_tests)
+
+        one_sleeps : (u : ℕ) (b : Bool) → (x.thread == u) ≡ b → member u (x ∷ []) ≡ true → IsTakenFrom w t l Second (place_at w u)
+        one_sleeps u b e h = let f : x.thread ≡ u = grind (arith, nat_tests) in subst (λ j. IsTakenFrom w t l Second (place_at w j)) f sleeps
+
+        threads : length v.places ≡ length w.places
+        threads = length-set (places_told (TakenBy t) (threads_of (x ∷ [])) w.places) t p2 ∙ told_count (TakenBy t) (threads_of (x ∷ [])) w.places
+
+        places : place_at v ≡ putting (told_by (TakenBy t) (x ∷ []) (place_at w)) t p2
+        places = put_places (state_after_reply (record w { queues = queues_without_first w.queues (2 * l + 1) }) x.thread (TakenBy t)) t p2 (past (length (places_told (TakenBy t) (threads_of (x ∷ [])) w.places)) (told_count (TakenBy t) (threads_of (x ∷ [])) w.places))
+            ∙ ap (λ (f : ℕ → Place). putting f t p2) (told_places (TakenBy t) (x ∷ []) w.places)
