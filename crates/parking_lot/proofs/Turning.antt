@@ -27,13 +27,9 @@ use Rattle.parking_lot_core.specs.declared.sections.Section.{Section}
 use Rattle.parking_lot_core.specs.declared.tokens.SectionRecord.{SectionRecord}
 use Rattle.parking_lot_core.specs.declared.tokens.Token.{Token}
 use Rattle.parking_lot.specs.Fitting.{AreWordsFor}
-use Rattle.parking_lot.specs.Paths.{Tells, closure_of, step, word, hands, parks, other, is_wordless, is_valueless}
+use Rattle.parking_lot.specs.Paths.{Tells, Told, closure_of, step, word, hands, parks, other, is_wordless, is_valueless}
 use Rattle.parking_lot.specs.Stages.{Stage, Became, Stepped, Adds, stage, stage_of, inside_of}
 use Rattle.parking_lot.specs.declared.acting.Sleeper.{Sleeper}
-
--- these steps were added, and bring the reply
-abbrev pub Told : (ℕ → ℕ) → Place → Reply → List WordStep → List WordStep → Type 0
-Told at p reply before behind = (then : List WordStep) × (behind ≡ before ++ then) × Tells at p then reply
 
 wordless : (at : ℕ → ℕ) (p : Place) (a : Act) (reply : Reply) (before behind : List WordStep) → act_of p ≡ a → is_wordless a ≡ true → is_valueless reply ≡ true → behind ≡ before → Told at p reply before behind
 wordless at p a reply before behind is quiet valueless e = ([], e ∙ sym (append-nil before), other p reply (ap is_wordless is ∙ quiet) valueless)

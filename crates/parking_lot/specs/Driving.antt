@@ -16,11 +16,13 @@ use Rattle.parking_lot_core.specs.declared.tokens.Token.{Token}
 
 -- a thread of the lot, and a mutex of it whose keys are numbers
 abbrev pub MeetAt : ParkingLot → Token → Word → Type 0
-MeetAt lot token word = IsTokenOf lot token × IsWordOf lot.words word × (word.kind ≡ kinds.TheVariants.Mutex) × (word.number < 9223372036854775808)
+MeetAt lot token word = IsTokenOf lot token × IsWordOf lot.words word
+    × (word.kind ≡ kinds.TheVariants.Mutex) × (word.number < 9223372036854775808)
 
 -- a guard of a mutex: the right of who owns it alone
 abbrev pub IsGuardOf : ParkingLot → Word → RawGuard → Type 0
-IsGuardOf lot word guard = IsRightOf lot.words guard.right × (guard.right.word ≡ word) × (guard.right.owner ≡ Exclusive)
+IsGuardOf lot word guard = IsRightOf lot.words guard.right
+    × (guard.right.word ≡ word) × (guard.right.owner ≡ Exclusive)
 
 -- that a guard is a mutex's has one proof at most
 pub IsGuardOf-prop : (lot : ParkingLot) (word : Word) (guard : RawGuard) → IsProp (IsGuardOf lot word guard)

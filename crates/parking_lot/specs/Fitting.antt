@@ -63,7 +63,8 @@ module _ (up : Type 0) where
   -- what a run came to: the end of its call, or a closure, which is outside all sections
   abbrev pub IsStopped : List Ownership → Aim → Stop → Stage → Type 0
   IsStopped base aim (Ended answer) st = IsOver base aim answer st
-  IsStopped base aim (Paused place state) st = Fits base place st × (aim_of place ≡ aim) × (act_of place ≡ act.TheVariants.Closure state)
+  IsStopped base aim (Paused place state) st = Fits base place st
+      × (aim_of place ≡ aim) × (act_of place ≡ act.TheVariants.Closure state)
 
   abbrev pub ReachedBy : List Ownership → Aim → Place → Option Answer → Stage → Type 0
   ReachedBy base aim p None st = Fits base p st × (aim_of p ≡ aim)
@@ -80,7 +81,9 @@ module _ (up : Type 0) where
 
   -- each place's act is one that the thread may take, and each reply leads to a place that fits
   abbrev pub PlacesLead : Type 0
-  PlacesLead = (kinds : ℕ → WordKind) (at : ℕ → ℕ) (base : List Ownership) (p : Place) (st : Stage) → AreWordsFor p kinds at → Fits base p st →
+  PlacesLead = (kinds : ℕ → WordKind) (at : ℕ → ℕ) (base : List Ownership) (p : Place) (st : Stage)
+      → AreWordsFor p kinds at → Fits base p st →
       Needs kinds at st (act_of p)
       × Spins kinds at base p st
-      × ((reply : Reply) (new : Stage) → Became up kinds at (sleeper_at p) st (act_of p) reply new → Reached base p reply new)
+      × ((reply : Reply) (new : Stage) → Became up kinds at (sleeper_at p) st (act_of p) reply new
+      → Reached base p reply new)

@@ -67,7 +67,8 @@ Took n first rightless owns st = (st.owns ≡ owns)
 
 -- or has taken some thread, or none; that one has no right yet
 abbrev pub HasTook : ℕ → Bool → List Ownership → Stage → Type 0
-HasTook n any owns st = (first : Option Waiter) × (any ≡ is_there first) × Took n first (threads_of (listed first)) owns st
+HasTook n any owns st = (first : Option Waiter) × (any ≡ is_there first)
+    × Took n first (threads_of (listed first)) owns st
 
 -- the section that was left last is one of this key, where the first of the queue was taken
 abbrev pub TookAt : ℕ → Option SectionRecord → Type 0
@@ -86,7 +87,8 @@ abbrev pub FitsHandOff : ℕ → List Ownership → HandOffAt → Stage → Type
 FitsHandOff n base hand_off.TheVariants.Enter st = (has (held n) base ≡ true) × Outside base st
 FitsHandOff n base hand_off.TheVariants.Take st = (has (held n) base ≡ true) × Within n base st
 FitsHandOff n base (hand_off.TheVariants.Store any none_left) st = (has (held n) base ≡ true) × HasTook n any base st
-FitsHandOff n base (hand_off.TheVariants.Leave any) st = (first : Option Waiter) × (any ≡ is_there first) × Took n first [] (without (held n) base) st
+FitsHandOff n base (hand_off.TheVariants.Leave any) st = (first : Option Waiter) × (any ≡ is_there first)
+    × Took n first [] (without (held n) base) st
 
 -- `up` says that the time of the call is up
 module _ (up : Type 0) where
@@ -121,4 +123,5 @@ module _ (up : Type 0) where
       ((answer ≡ entered e) × Outside (held n ∷ beside n e base) st)
       ⊎ ((answer ≡ answers.TheVariants.No) × GaveUp e × Outside (beside n e base) st)
   IsMutexOver n base releases answer st = (answer ≡ answers.TheVariants.Ok) × Outside base st × TookAt n st.last
-  IsMutexOver n base hands_over answer st = (answer ≡ answers.TheVariants.Ok) × Outside (without (held n) base) st × TookAt n st.last
+  IsMutexOver n base hands_over answer st = (answer ≡ answers.TheVariants.Ok)
+      × Outside (without (held n) base) st × TookAt n st.last

@@ -164,10 +164,12 @@ Needs kinds at st (act.TheVariants.HandOver lock op) =
     MayStep (kinds lock) (at lock) op st.owns × IsUngiven st.inside
     × HandsEach (kinds lock) (at lock) op st.owns (wanted_in st.inside)
 Needs kinds at st (act.TheVariants.Enter keys) = AreKeys keys × (st.inside ≡ None)
-Needs kinds at st (act.TheVariants.Park lock key check _) = MayStep (kinds lock) (at lock) Load st.owns × HasKey key st.inside
+Needs kinds at st (act.TheVariants.Park lock key check _) =
+    MayStep (kinds lock) (at lock) Load st.owns × HasKey key st.inside
 Needs kinds at st (act.TheVariants.Stand key _) = HasKey key st.inside
 Needs kinds at st (act.TheVariants.Take key whom) = HasKey key st.inside × IsFresh st.inside
-Needs kinds at st (act.TheVariants.Requeue from to how) = HasKey from st.inside × HasKey to st.inside × (from ≢ to) × IsFresh st.inside
+Needs kinds at st (act.TheVariants.Requeue from to how) =
+    HasKey from st.inside × HasKey to st.inside × (from ≢ to) × IsFresh st.inside
 Needs kinds at st (act.TheVariants.Remove key) = HasKey key st.inside
 Needs kinds at st (act.TheVariants.Leave keys wakes) = MayLeave (note_of wakes) st.inside
 Needs kinds at st act.TheVariants.Sleep = st.inside ≡ None
@@ -185,21 +187,25 @@ owns_when_handed kind at op seen wants owns =
     without_all at (owners_given kind (apply op seen) wants) (owns_after_step kind at op seen owns)
 
 abbrev pub handed : WordKind → ℕ → Op → ℕ → Stage → Stage
-handed kind at op seen st = stage (owns_when_handed kind at op seen (wanted_in st.inside) st.owns) (all_given st.inside) None
+handed kind at op seen st =
+    stage (owns_when_handed kind at op seen (wanted_in st.inside) st.owns) (all_given st.inside) None
 
 -- what a section that is left leaves behind
 abbrev pub IsLeft : Option Inside → Option SectionRecord → Type 0
 IsLeft None last = ⊥
-IsLeft (Some inside) last = (number : ℕ) × (last ≡ Some (record { key = first_key inside.keys; did = inside.did; number = number }))
+IsLeft (Some inside) last = (number : ℕ)
+    × (last ≡ Some (record { key = first_key inside.keys; did = inside.did; number = number }))
 
 -- whom a take took, by its reply
 abbrev pub TookBy : ℕ → Whom → Reply → Option Inside → Option Inside → Type 0
 TookBy key whom.TheVariants.First (Took any none_left) old new =
     (first : Option Waiter) × (any ≡ is_there first) × (new ≡ took_as (TakeFirst key) (listed first) old)
 TookBy key whom.TheVariants.All (Took any none_left) old new =
-    (waiters : List Waiter) × (any ≡ not (length waiters == 0)) × (new ≡ took_as (did.TheVariants.TakeAll key) waiters old)
+    (waiters : List Waiter) × (any ≡ not (length waiters == 0))
+    × (new ≡ took_as (did.TheVariants.TakeAll key) waiters old)
 TookBy key (whom.TheVariants.Picked start recursive) (Picked sharers successor none_left) old new =
-    (waiters : List Waiter) × (sharers ≡ sharers_in (wants_of waiters)) × (successor ≡ successor_in (wants_of waiters))
+    (waiters : List Waiter) × (sharers ≡ sharers_in (wants_of waiters))
+    × (successor ≡ successor_in (wants_of waiters))
     × (new ≡ took_as (did.TheVariants.TakePicked key start recursive) waiters old)
 TookBy key _ _ old new = ⊥
 
@@ -227,7 +233,8 @@ Stepped kind at op seen st new = CodesWith kind at seen st.owns × (new ≡ step
 
 -- what an act made of the stage, by its reply
 abbrev pub Became : Type 0 → (ℕ → WordKind) → (ℕ → ℕ) → Sleeper → Stage → Act → Reply → Stage → Type 0
-Became up kinds at sleeper st (act.TheVariants.Word lock op) (Value seen) new = Stepped (kinds lock) (at lock) op seen st new
+Became up kinds at sleeper st (act.TheVariants.Word lock op) (Value seen) new =
+    Stepped (kinds lock) (at lock) op seen st new
 Became up kinds at sleeper st (act.TheVariants.HandOver lock op) (Value seen) new =
     CodesWith (kinds lock) (at lock) seen st.owns × (new ≡ handed (kinds lock) (at lock) op seen st)
 Became up kinds at sleeper st (act.TheVariants.Enter keys) Done new = new ≡ stage st.owns (entered_now keys) st.last
@@ -237,11 +244,13 @@ Became up kinds at sleeper st (act.TheVariants.Stand key _) Done new = new ≡ s
 Became up kinds at sleeper st (act.TheVariants.Take key whom) reply new =
     TookBy key whom reply st.inside new.inside × (new.owns ≡ st.owns) × (new.last ≡ st.last)
 Became up kinds at sleeper st (act.TheVariants.Requeue from to how) (Requeued number none_left) new =
-    (first : Option Waiter) × (length (listed first) ≤ number) × (new ≡ stage st.owns (took_as (did.TheVariants.Requeue from to how) (listed first) st.inside) st.last)
+    (first : Option Waiter) × (length (listed first) ≤ number)
+    × (new ≡ stage st.owns (took_as (did.TheVariants.Requeue from to how) (listed first) st.inside) st.last)
 Became up kinds at sleeper st (act.TheVariants.Remove key) (Removed none_left) new = new ≡ st
 Became up kinds at sleeper st (act.TheVariants.Leave keys wakes) Done new =
     (new.owns ≡ st.owns) × (new.inside ≡ None) × IsLeft st.inside new.last
-Became up kinds at sleeper st act.TheVariants.Sleep reply new = Awoke up (kinds sleeper.lock) (at sleeper.lock) sleeper st reply new
+Became up kinds at sleeper st act.TheVariants.Sleep reply new =
+    Awoke up (kinds sleeper.lock) (at sleeper.lock) sleeper st reply new
 Became up kinds at sleeper st act.TheVariants.Accept Done new = new ≡ st
 Became up kinds at sleeper st (act.TheVariants.Closure state) (Closed succeeded) new = new ≡ st
 Became up kinds at sleeper st _ _ new = ⊥

@@ -11,6 +11,7 @@ ghost use Rattle.lot_words.specs.Steps.{MayStep, CodesWith, after_step};
 ghost use Rattle.parking_lot_core.specs.Keys.{AreKeys};
 ghost use Rattle.parking_lot_core.specs.Tokens.{IsTokenOf, Stays, view_of, last_of};
 ghost use Rattle.parking_lot.specs.Paths.{closure_of, step};
+ghost use Rattle.parking_lot.specs.Telling.{AreWaiting, HasStepped, MayFind, MayTake, MayTakeAt, StandsLast, index_of, is_empty_at, owns_of, steps_of};
 ghost use Rattle.parking_lot.specs.Words.{AreWordsOf, word_in, kind_in, at_in};
 ghost use Rattle.parking_lot.specs.Stages.{Adds, Awoke, AwokeLate, HandsEach, HasKey, IsFresh, IsUngiven, MayLeave, IsIn, IsLeft, TookBy, handed, note_of, inside_of, stage_of, waiting_of, wanted_in, entered_now, Needs, Became};
 
@@ -40,11 +41,13 @@ fn park(
     want: Want,
 ) -> bool
     requires own { IsTokenOf lot.now token.old × IsWordOf lot.now.words word × IsIn lot.now section.old }
-    requires needs { MayStep word.kind (word_index word.number word.kind) Load (view_of token.old).owns × HasKey key (inside_of section.old) }
+    requires needs { MayTake word Load token.old × HasKey key (inside_of section.old) }
     ensures own { Stays lot.now token.old token.new × (last_of token.new ≡ None) }
     ensures same { IsIn lot.now section.new × (inside_of section.new ≡ inside_of section.old) }
-    ensures stepped { (seen : ℕ) × (result ≡ holds check seen) × CodesWith word.kind (word_index word.number word.kind) seen (view_of token.old).owns × (view_of token.new ≡ after_step word.kind (word_index word.number word.kind) Load seen (view_of token.old)) }
-    ensures stands { MatchBool result (lines (waiting_of section.new) ≡ lines (without token.old.number (waiting_of section.old) ++ waiter key token.old.number want ∷ [])) (waiting_of section.new ≡ waiting_of section.old) }
+    ensures stepped { (seen : ℕ) × (result ≡ holds check seen) × MayFind word seen token.old
+        × HasStepped word Load seen token.old token.new }
+    ensures stands { MatchBool result (StandsLast key token.old.number want section.old section.new)
+        (waiting_of section.new ≡ waiting_of section.old) }
 {
     match section {
         Some(inside) => {
@@ -62,7 +65,7 @@ fn park(
 fn stand(lot: &ParkingLot, token: &Token, section: &mut Option<Section>, key: Key, want: Want)
     requires { IsTokenOf lot.now token.now × IsIn lot.now section.old × HasKey key (inside_of section.old) }
     ensures same { IsIn lot.now section.new × (inside_of section.new ≡ inside_of section.old) }
-    ensures stands { lines (waiting_of section.new) ≡ lines (without token.now.number (waiting_of section.old) ++ waiter key token.now.number want ∷ []) }
+    ensures stands { StandsLast key token.now.number want section.old section.new }
 {
     match section {
         Some(inside) => inside.append(key, token.number(), want),
@@ -80,14 +83,14 @@ fn hand_over<R: Wait>(
     op: Op,
 ) -> u64
     requires own { IsTokenOf lot.now token.old × IsWordOf lot.now.words word × IsIn lot.now section.old }
-    requires may { MayStep word.kind (word_index word.number word.kind) op (view_of token.old).owns }
+    requires may { MayTake word op token.old }
     requires each { IsUngiven (inside_of section.old)
-        × HandsEach word.kind (word_index word.number word.kind) op (view_of token.old).owns (wanted_in (inside_of section.old)) }
+        × HandsEach word.kind (index_of word) op (owns_of token.old) (wanted_in (inside_of section.old)) }
     ensures own { Stays lot.now token.old token.new × IsIn lot.now section.new }
-    ensures coded { CodesWith word.kind (word_index word.number word.kind) result (view_of token.old).owns }
+    ensures coded { MayFind word result token.old }
     ensures handed { stage_of token.new section.new
-        ≡ handed word.kind (word_index word.number word.kind) op result (stage_of token.old section.old) }
-    ensures adds { (view_of token.new).steps ≡ (view_of token.old).steps ++ step (word_index word.number word.kind) op result }
+        ≡ handed word.kind (index_of word) op result (stage_of token.old section.old) }
+    ensures adds { steps_of token.new ≡ steps_of token.old ++ step (index_of word) op result }
 {
     match section {
         Some(inside) => {
@@ -103,7 +106,8 @@ fn hand_over<R: Wait>(
 fn remove(_lot: &ParkingLot, section: &mut Option<Section>, key: Key, thread: usize) -> bool
     requires { IsIn _lot.now section.old × HasKey key (inside_of section.old) }
     ensures same { IsIn _lot.now section.new × (inside_of section.new ≡ inside_of section.old) }
-    ensures left { (lines (waiting_of section.new) ≡ lines (without thread (waiting_of section.old))) × (result ≡ (length (line key (waiting_of section.new)) == 0)) }
+    ensures left { AreWaiting (without thread (waiting_of section.old)) section.new
+        × (result ≡ is_empty_at key section.new) }
 {
     match section {
         Some(inside) => {
@@ -151,7 +155,8 @@ fn leave<R: Wait>(
 )
     requires { IsTokenOf lot.now token.old × IsIn lot.now section.old × MayLeave note (inside_of section.old) }
     ensures own { Stays lot.now token.old token.new × (view_of token.new ≡ view_of token.old) }
-    ensures left { (inside_of section.new ≡ None) × IsIn lot.now section.new × IsLeft (inside_of section.old) (last_of token.new) }
+    ensures left { (inside_of section.new ≡ None) × IsIn lot.now section.new
+        × IsLeft (inside_of section.old) (last_of token.new) }
 {
     match section.take() {
         Some(inside) => inside.leave(rt, token, note),
@@ -160,8 +165,9 @@ fn leave<R: Wait>(
 }
 
 fn take(lot: &ParkingLot, section: &mut Option<Section>, key: Key, whom: Whom) -> Reply
-    requires { IsIn lot.now section.old × HasKey key (inside_of section.old) × IsFresh (inside_of section.old) }
-    ensures { IsIn lot.now section.new × TookBy key whom result (inside_of section.old) (inside_of section.new) }
+    requires { MayTakeAt lot.now key section.old }
+    ensures { IsIn lot.now section.new
+        × TookBy key whom result (inside_of section.old) (inside_of section.new) }
 {
     match whom {
         Whom::First => {
@@ -205,8 +211,9 @@ fn awake_late<'a, R: Wait>(
     requires own { IsTokenOf inside.lot.now token.old × (inside_of section.old ≡ None) }
     requires late { inside_of (Some inside) ≡ entered_now (One key) }
     ensures own { Stays inside.entry.lot.now token.old token.new × IsIn inside.entry.lot.now section.new
-        × ((view_of token.new).steps ≡ (view_of token.old).steps) }
-    ensures awoke { AwokeLate key sleeper (stage_of token.old section.old) result (stage_of token.new section.new) }
+        × (steps_of token.new ≡ steps_of token.old) }
+    ensures awoke { AwokeLate key sleeper (stage_of token.old section.old) result
+        (stage_of token.new section.new) }
 {
     if sleeper.late == Some(key) {
         match section.replace(inside) {
@@ -236,8 +243,10 @@ fn sleep<'a, R: Wait, C: Clock>(
     section: &mut Option<Section<'a>>,
 ) -> Reply
     requires own { IsTokenOf lot.now token.old × IsWordOf lot.now.words word × (inside_of section.old ≡ None) }
-    ensures own { Stays lot.now token.old token.new × IsIn lot.now section.new × ((view_of token.new).steps ≡ (view_of token.old).steps) }
-    ensures awoke { Awoke (IsUp C.tells limit.entry) word.kind (word_index word.number word.kind) sleeper (stage_of token.old section.old) result (stage_of token.new section.new) }
+    ensures own { Stays lot.now token.old token.new × IsIn lot.now section.new
+        × (steps_of token.new ≡ steps_of token.old) }
+    ensures awoke { Awoke (IsUp C.tells limit.entry) word.kind (index_of word) sleeper
+        (stage_of token.old section.old) result (stage_of token.new section.new) }
 {
     let limit = sleeper.late.and(limit);
     match lot.sleep(rt, token, word, sleeper.want, limit) {
@@ -265,8 +274,9 @@ pub(crate) fn perform<'a, R: Wait, C: Clock>(
     requires needs { Needs (kind_in words) (at_in words) (stage_of token.old section.old) act }
     requires no_closure { closure_of act ≡ None }
     ensures own { Stays lot.now token.old token.new × IsIn lot.now section.new }
-    ensures became { Became (IsUp C.tells limit.entry) (kind_in words) (at_in words) sleeper (stage_of token.old section.old) act result (stage_of token.new section.new) }
-    ensures adds { Adds (at_in words) act result (view_of token.old).steps (view_of token.new).steps }
+    ensures became { Became (IsUp C.tells limit.entry) (kind_in words) (at_in words) sleeper
+        (stage_of token.old section.old) act result (stage_of token.new section.new) }
+    ensures adds { Adds (at_in words) act result (steps_of token.old) (steps_of token.new) }
 {
     match act {
         Act::Word { lock, op } => Reply::Value(lot.word(token, words.of(lock), op)),

@@ -11,13 +11,14 @@ ghost use Rattle.lot_words.specs.declared.owners.Ownership.{Ownership};
 ghost use Rattle.lot_words.specs.declared.views.WordStep.{WordStep};
 ghost use Rattle.lot_words.specs.declared.words.WordKind.TheVariants.{Mutex};
 ghost use Rattle.parking_lot_core.specs.Tokens.{IsTokenOf, Stays, view_of, last_of};
-ghost use Rattle.parking_lot.specs.Calls.{beginning, first_op, purpose_in, GoesOn};
+ghost use Rattle.parking_lot.specs.Calls.{beginning, purpose_in, GoesOn, WalksBehind};
 ghost use Rattle.parking_lot.specs.Driving.{MeetAt};
 ghost use Rattle.parking_lot.specs.Fitting.{PlacesLead, AreWordsFor, AreWordsAfter, Fits, IsStopped, Reached, answer_of, aim_of, sleeper_at};
 ghost use Rattle.parking_lot.specs.MutexFitting.{IsMutexOver};
-ghost use Rattle.parking_lot.specs.Paths.{closure_of, mutex_at, at_mutex, step, Runs, Tells, Walks};
+ghost use Rattle.parking_lot.specs.Paths.{closure_of, mutex_at, at_mutex, Runs, Told};
 ghost use Rattle.parking_lot.specs.Words.{AreWordsOf, kind_in, at_in};
 ghost use Rattle.parking_lot.specs.Stages.{IsIn, stage_of};
+ghost use Rattle.parking_lot.specs.Telling.{HasStepped, MayFind, MayTake, owns_of, steps_of};
 
 use crate::acting::{Sleeper, end, perform};
 use crate::words::Words;
@@ -104,10 +105,10 @@ fn pause(loads: u32) {
 // Loads the word in place of an act that leads to sleep, after a pause. Before a later load the thread lets others run.
 fn spin(lot: &ParkingLot, token: &mut Token, word: Word, loads: u32) -> u64
     requires own { IsTokenOf lot.now token.old × IsWordOf lot.now.words word }
-    requires may { MayStep word.kind (word_index word.number word.kind) Load (view_of token.old).owns }
+    requires may { MayTake word Load token.old }
     ensures own { Stays lot.now token.old token.new × (last_of token.new ≡ None) }
-    ensures stepped { view_of token.new ≡ after_step word.kind (word_index word.number word.kind) Load result (view_of token.old) }
-    ensures coded { CodesWith word.kind (word_index word.number word.kind) result (view_of token.old).owns }
+    ensures stepped { HasStepped word Load result token.old token.new }
+    ensures coded { MayFind word result token.old }
 {
     pause(loads);
     if loads >= PATIENT_LOADS {
@@ -151,11 +152,13 @@ fn turn<'a, R: Wait, C: Clock>(
 ) -> Reply
     requires own { IsTokenOf lot.now token.old × AreWordsOf lot.now words × IsIn lot.now section.old }
     requires words { AreWordsFor place (kind_in words) (at_in words) }
-    requires fits { (base : List Ownership) × Fits (IsUp C.tells limit) base place (stage_of token.old section.old) }
+    requires fits { (base : List Ownership)
+        × Fits (IsUp C.tells limit) base place (stage_of token.old section.old) }
     requires no_closure { closure_of (act_of place) ≡ None }
     ensures own { Stays lot.now token.old token.new × IsIn lot.now section.new }
-    ensures told { (then : List WordStep) × ((view_of token.new).steps ≡ (view_of token.old).steps ++ then) × Tells (at_in words) place then result }
-    ensures reached { (base : List Ownership) → Fits (IsUp C.tells limit.entry) base place (stage_of token.old section.old)
+    ensures told { Told (at_in words) place result (steps_of token.old) (steps_of token.new) }
+    ensures reached { (base : List Ownership)
+        → Fits (IsUp C.tells limit.entry) base place (stage_of token.old section.old)
         → Reached (IsUp C.tells limit.entry) base place result (stage_of token.new section.new) }
 {
     if let Some(lock) = place.spin_lock() {
@@ -192,8 +195,9 @@ pub(crate) fn run<R: Wait, C: Clock>(
     requires words { AreWordsFor start (kind_in words) (at_in words) }
     requires start { (base : List Ownership) × Fits (IsUp C.tells limit) base start (stage_of token.old None) }
     ensures own { Stays lot.now token.old token.new }
-    ensures path { Runs (at_in words) start (view_of token.old).steps (view_of token.new).steps result }
-    ensures stopped { (base : List Ownership) → Fits (IsUp C.tells limit.entry) base start (stage_of token.old None)
+    ensures path { Runs (at_in words) start (steps_of token.old) (steps_of token.new) result }
+    ensures stopped { (base : List Ownership)
+        → Fits (IsUp C.tells limit.entry) base start (stage_of token.old None)
         → IsStopped (IsUp C.tells limit.entry) base (aim_of start) result (stage_of token.new None) }
     ensures words { AreWordsAfter result (kind_in words) (at_in words) }
 {
@@ -241,8 +245,10 @@ pub(crate) fn resume<R: Wait, C: Clock>(
     requires goes_on { answer_of (next_act place (Closed succeeded)) ≡ None }
     requires fits { (base : List Ownership) × Fits (IsUp C.tells limit) base place (stage_of token.old None) }
     ensures own { Stays lot.now token.old token.new }
-    ensures path { Runs (at_in words) (next_place place (Closed succeeded)) (view_of token.old).steps (view_of token.new).steps result }
-    ensures stopped { (base : List Ownership) → Fits (IsUp C.tells limit.entry) base place (stage_of token.old None)
+    ensures path { Runs (at_in words) (next_place place (Closed succeeded))
+        (steps_of token.old) (steps_of token.new) result }
+    ensures stopped { (base : List Ownership)
+        → Fits (IsUp C.tells limit.entry) base place (stage_of token.old None)
         → IsStopped (IsUp C.tells limit.entry) base (aim_of place) result (stage_of token.new None) }
     ensures words { AreWordsAfter result (kind_in words) (at_in words) }
 {
@@ -276,10 +282,10 @@ pub(crate) fn behind<R: Wait, C: Clock>(
     requires own { MeetAt lot.now token.old word }
     requires goes_on { GoesOn word.number call seen (view_of token.old).owns }
     ensures own { Stays lot.now token.old token.new }
-    ensures path { (before : List WordStep) → (view_of token.old).steps ≡ before ++ step (mutex_at word.number) (first_op call) seen
-        → Walks (at_mutex word.number) (beginning word.number call) before (view_of token.new).steps result }
-    ensures rest { (more : List WordStep) × ((view_of token.new).steps ≡ (view_of token.old).steps ++ more) }
-    ensures over { IsMutexOver (IsUp C.tells limit.entry) word.number (view_of token.old).owns (purpose_in call) result (stage_of token.new None) }
+    ensures path { WalksBehind word.number call seen token.old token.new result }
+    ensures rest { (more : List WordStep) × (steps_of token.new ≡ steps_of token.old ++ more) }
+    ensures over { IsMutexOver (IsUp C.tells limit.entry) word.number (owns_of token.old)
+        (purpose_in call) result (stage_of token.new None) }
 {
     let start = place_behind(word, call, seen);
     match run(rt, lot, token, Words::alone(word), limit, start) {

@@ -2,9 +2,9 @@
 ghost use Rattle.std.specs.Prelude.{◌≡◌};
 ghost use Rattle.std.specs.Arc.{arc_value};
 ghost use Rattle.parking_lot_core.specs.Tokens.{IsTokenOf, view_of, last_of};
-ghost use Rattle.parking_lot.specs.Calls.{beginning, fairly, Sees, Releases};
+ghost use Rattle.parking_lot.specs.Calls.{fairly, HasWalked, Sees, Releases};
 ghost use Rattle.parking_lot.specs.Driving.{IsGuardOf, IsGuardOf-prop, IsOpenGuardOf, IsOpenGuardOf-prop, permit_in, StaysAs, StaysAs-on};
-ghost use Rattle.parking_lot.specs.Paths.{at_mutex, Walks};
+ghost use Rattle.parking_lot.specs.Telling.{steps_of};
 
 use crate::guards::{OpenGuard, RawGuard};
 use crate::raw_mutex::RawMutex;
@@ -68,11 +68,12 @@ impl lock_raw::RawMutex for RawFairMutex {
 
     ghost opened_once = { λ mutex opened. IsOpenGuardOf-prop (arc_value mutex.lot) mutex.word opened };
 
-    ghost walked = { λ mutex call answer old new. Walks (at_mutex mutex.word.number) (beginning mutex.word.number (fairly call)) (view_of old).steps (view_of new).steps answer };
+    ghost walked = { λ mutex call answer old new. HasWalked mutex.word.number (fairly call) answer old new };
 
-    ghost released = { λ mutex call old new. Releases mutex.word.number (fairly call) (view_of old).steps (view_of new).steps (last_of new) };
+    ghost released = { λ mutex call old new.
+        Releases mutex.word.number (fairly call) (steps_of old) (steps_of new) (last_of new) };
 
-    ghost looked = { λ mutex locked old new. Sees mutex.word.number locked (view_of old).steps (view_of new).steps };
+    ghost looked = { λ mutex locked old new. Sees mutex.word.number locked (steps_of old) (steps_of new) };
 
     fn new(lot: &Arc<ParkingLot>, token: &mut Token) -> Result<RawFairMutex, Fault> {
         let raw = <RawMutex as lock_raw::RawMutex>::new(lot, token)?;
