@@ -8,6 +8,7 @@ use Rattle.lot_base.specs.declared.notes.Note.TheVariants as note
 use Rattle.lot_base.specs.declared.ops.Op.{Op}
 use Rattle.lot_base.specs.declared.ops.Op.TheVariants as op
 use Rattle.lot_base.specs.declared.wants.Waiter.{Waiter}
+use Rattle.lot_base.specs.declared.wants.Want.TheVariants.{Exclusive}
 use Rattle.lot_base.specs.Words.{apply}
 use Rattle.lot_calls.specs.declared.kinds.Kind as kind
 use Rattle.lot_acts.specs.declared.owners.Owners.{Owners}
@@ -212,7 +213,7 @@ module _ (w : State) (t l : ℕ) (at : MutexPlace) (steady : IsSteady w) (is : p
   wake_keeps line b x p2 of woken none none2 e i k was is_p2 = wake_goes w t l steady own there p2 of (fits p2 of) x
       (λ u c held. let same_one : b ≡ c = not_both b c (ap (λ (y : Station). y.carries) was) u held in subst (λ y. IsWoken w t l y x (place_at w u)) same_one (woken u (subst (λ y. hand_at (place_at w u) l ≡ hand t y) (sym same_one) held)))
       (ap (λ (y : Station). y.hand) (station_is_at ∙ was)) (ap (λ (y : Station). y.carries) is_p2) (ap (λ (y : Station). y.hand) is_p2)
-      Main line (ap (λ (y : Station). y.inside) (station_is_at ∙ was)) (ap (λ (y : Station). y.stands) is_p2 ∙ sym (ap (λ (y : Station). y.stands) (station_is_at ∙ was))) (ap (λ (y : Station). y.inside) is_p2)
+      Main line (ap (λ (y : Station). y.inside) (station_is_at ∙ was)) (ap (λ (y : Station). y.stands) is_p2 ∙ sym (ap (λ (y : Station). y.stands) (station_is_at ∙ was))) (ap (λ (y : Station). y.waits) is_p2 ∙ sym (ap (λ (y : Station). y.waits) (station_is_at ∙ was))) (ap (λ (y : Station). y.inside) is_p2)
       mutex rules (hand_none none) none2 (Out ∷ []) tt (out_needed i k) (out_doing p2 none e)
 
 module _ (w : State) (t l : ℕ) (steady : IsSteady w) (there : t < length w.places) where
@@ -332,7 +333,7 @@ module _ (w : State) (t l : ℕ) (at : MutexPlace) (steady : IsSteady w) (is : p
         (word_l w t l at steady is there);
     stands = takes w after steady.stands (λ k. refl) l t x.thread apart (of_mutex w t l at steady is there) own_t of_x p2 px of of_px places rest x (λ key. refl)
         (λ key ne. get_or-set_other w.queues (2 * l) key (drop 1 (queue_at w (2 * l))) [] (λ h. ne h)) first (get_or-set_same w.queues (2 * l) (drop 1 (queue_at w (2 * l))) [] line ∙ ap (drop 1) first) refl
-        (ap (λ (y : Place). (station y).carries) is ∙ nobody) (ap (λ (y : Place). (station y).hand) is ∙ free) (rw asleep refl) (s ∙ sym (ap (λ y. record (station y) { carries = Some false }) is)) (rw asleep refl);
+        (ap (λ (y : Place). (station y).carries) is ∙ nobody) (ap (λ (y : Place). (station y).hand) is ∙ free) (Some Exclusive) (rw asleep refl) (s ∙ sym (ap (λ y. record (station y) { carries = Some false }) is)) (rw asleep refl);
   }
     where
       px : Place

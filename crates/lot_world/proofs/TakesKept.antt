@@ -3,6 +3,7 @@ use Rattle.std.proofs.Common.{ℕ, Bool, true, false, Option, Some, None, if◌t
 use Rattle.std.proofs.lemmas.Bool.{cases_eq, eqb-true}
 use Rattle.std.proofs.lemmas.Bool.Decides.{nat_tests}
 use Rattle.lot_base.specs.declared.wants.Waiter.{Waiter}
+use Rattle.lot_base.specs.declared.wants.Want.{Want}
 use Rattle.lot_base.specs.Lines.{times, threads_of}
 use Rattle.lot_steps.specs.declared.places.Place.{Place}
 use Rattle.lot_steps.specs.declared.places.Place.TheVariants.{Idle}
@@ -19,11 +20,11 @@ use Rattle.lot_machine.specs.Machine.{State, unlocked, shares_at, place_at, sect
 use Rattle.lot_world.specs.Refinement.{taken_at}
 use Rattle.lot_world.specs.MutexDeeds.{acts}
 use Rattle.lot_world.specs.Stations.{Station, Hand, hand, station, station_at, nowhere, doing_on}
-use Rattle.lot_world.specs.SitesOf.{AllNeeded, TakesOne, Hands, IsSteady, Follows, Goes, Stands, CallsMutex, Lines, Sections, SameNumbers, after_acts, rules_at, key_of, stood_in, carried_at, hand_at}
+use Rattle.lot_world.specs.SitesOf.{AllNeeded, TakesOne, Hands, IsSteady, Follows, Goes, Stands, CallsMutex, Lines, Waits, AreWaiting, Sections, SameNumbers, after_acts, rules_at, key_of, stood_in, carried_at, hand_at}
 use Rattle.lot_world.proofs.Glue.{Parts, parts_at, base_at, lock_in, seen_in, same, differ, put_here, put_other, set_puts, past_all, IsOf, doing_elsewhere, taken_elsewhere, station_here, station_elsewhere, nothing_at}
 use Rattle.lot_world.proofs.OneStep.{AreSingle, others_same}
 use Rattle.lot_world.proofs.ActsKept.{AlikeAt, Moves, NoHandOff, ordinary_by, with_line, stood_other, follows_by, lock_by, word_by_lines}
-use Rattle.lot_world.proofs.StandsKept.{same_line, other_key, other_line, sections_same, hands_taken, calls_in}
+use Rattle.lot_world.proofs.StandsKept.{same_line, other_key, other_line, sections_same, waiting_same, hands_taken, calls_in}
 use Rattle.lot_world.proofs.StandsMoved.{stands_then, hands_in}
 
 -- ---------------------------------------------------------------- lists of waiters
@@ -90,16 +91,19 @@ taking_is t (x ∷ xs) was v u h = taking_is t xs now v u h.1 ∙ either (member
 -- where a thread goes that sleeps in a line and is taken by t
 pub record IsTakenFrom (w : State) (t l : ℕ) (m : Line) (p : Place) : Type 0 where
   pub calls : IsOf l p
-  pub was : station p ≡ record nowhere { stands = Some m }
+  pub wanted : Option Want
+  pub was : station p ≡ record nowhere { stands = Some m; waits = wanted }
   pub free : station (next_place p (TakenBy t)) ≡ record nowhere { hand = hand t false }
   pub calls_then : IsOf l (next_place p (TakenBy t))
   pub doing : doing_on (next_place p (TakenBy t)) l ≡ doing_on p l
+  pub held : (x : Want) → wanted ≡ Some x → taken_at (next_place p (TakenBy t)) l ≡ Some (record { by = t; want = x })
   pub fits : CallsMutex w (next_place p (TakenBy t))
 
 -- who is taken of the line, and who is left
 pub record Splits (w : State) (t l : ℕ) (m : Line) (taken left : List Waiter) : Type 0 where
   pub counts : (u : ℕ) → times u taken + times u left ≡ times u (queue_at w (key_of l m))
   pub sleeps : (u : ℕ) → member u taken ≡ true → IsTakenFrom w t l m (place_at w u)
+  pub lefts : AreWaiting (place_at w) l m left
   pub wants : AllAre t (λ u. taken_at (next_place (place_at w u) (TakenBy t)) l) taken
 
 at_most_one : (o : Option Line) (m : Line) → stood_in o m ≤ 1
@@ -147,14 +151,14 @@ module _ (w : State) (t l : ℕ) (steady : IsSteady w) (own : IsOf l (place_at w
       either ne false h = subst (P u) (sym (told_off u h)) (off u ne h)
 
   -- a part of a station that neither a line nor a hand is a part of
-  part_now : {A : Type 0} (g : Station → A) → g (station p2) ≡ g (station (place_at w t)) → g (record nowhere { hand = hand t false }) ≡ g (record nowhere { stands = Some m }) → (u k : ℕ) → g (station_at (places_now u) k) ≡ g (station_at (place_at w u) k)
+  part_now : {A : Type 0} (g : Station → A) → g (station p2) ≡ g (station (place_at w t)) → ((x : Option Want) → g (record nowhere { hand = hand t false }) ≡ g (record nowhere { stands = Some m; waits = x })) → (u k : ℕ) → g (station_at (places_now u) k) ≡ g (station_at (place_at w u) k)
   part_now g e same_part u k = by_thread (λ u p. g (station_at p k) ≡ g (station_at (place_at w u) k))
       (elim (cases_eq k l) [
         | inl f ↦ rw f (ap g (station_here l p2 of) ∙ e ∙ sym (ap g (station_here l (place_at w t) own)))
         | inr ne ↦ ap g (station_elsewhere l k p2 of ne ∙ sym (station_elsewhere l k (place_at w t) own ne))
       ])
       (λ u nu h. let s = splits.sleeps u h in elim (cases_eq k l) [
-        | inl f ↦ rw f (ap g (station_here l (next_place (place_at w u) (TakenBy t)) s.calls_then ∙ s.free) ∙ same_part ∙ sym (ap g (station_here l (place_at w u) s.calls ∙ s.was)))
+        | inl f ↦ rw f (ap g (station_here l (next_place (place_at w u) (TakenBy t)) s.calls_then ∙ s.free) ∙ same_part s.wanted ∙ sym (ap g (station_here l (place_at w u) s.calls ∙ s.was)))
         | inr ne ↦ ap g (station_elsewhere l k (next_place (place_at w u) (TakenBy t)) s.calls_then ne ∙ sym (station_elsewhere l k (place_at w u) s.calls ne))
       ])
       (λ u nu h. refl) u
@@ -233,6 +237,38 @@ module _ (w : State) (t l : ℕ) (steady : IsSteady w) (own : IsOf l (place_at w
             | inl g ↦ rw (g, here) (let a : times u taken + times u left ≡ stood_in (station_at (place_at w u) l).stands m = stood u in let b : 1 ≤ times u taken = member_times u taken h in let c : stood_in (station_at (place_at w u) l).stands m ≤ 1 = at_most_one (station_at (place_at w u) l).stands m in omega arith)
             | inr ng ↦ let s = splits.sleeps u h in ap (times u) (others (key_of l n) (other_line l m n ng)) ∙ steady.stands.lines u l n ∙ ap (λ (y : Station). stood_in y.stands n) (station_here l (place_at w u) s.calls ∙ s.was) ∙ stood_other m n ng
           ])
+
+  -- and wait as before
+  waits_now : (queue : ℕ → List Waiter) → queue (key_of l m) ≡ left → ((key : ℕ) → key ≢ key_of l m → queue key ≡ queue_at w key) → Waits places_now queue
+  waits_now queue here others k n = elim (cases_eq k l) [
+    | inl f ↦ rw f (elim (same_line n m) [
+      | inl g ↦ rw (g, here) (waiting_same (place_at w) places_now l m left splits.lefts (λ u g. left_as u g))
+      | inr ng ↦ waiting_same (place_at w) places_now l n (queue (key_of l n)) (subst (AreWaiting (place_at w) l n) (sym (others (key_of l n) (other_line l m n ng))) (steady.stands.waits l n))
+          (λ u g. other_as u n ng (subst (λ (q : List Waiter). 1 ≤ times u q) (others (key_of l n) (other_line l m n ng)) g))
+    ])
+    | inr ne ↦ waiting_same (place_at w) places_now k n (queue (key_of k n)) (subst (AreWaiting (place_at w) k n) (sym (others (key_of k n) (other_key l k m n ne))) (steady.stands.waits k n)) (λ u g. else_as u ne)
+  ]
+    where
+      nobody_out : (n : Line) → times t (queue_at w (key_of l n)) ≡ 0
+      nobody_out n = steady.stands.lines t l n ∙ ap (λ (y : Station). stood_in y.stands n) (station_here l (place_at w t) own) ∙ ap (λ o. stood_in o n) out
+
+      left_as : (u : ℕ) → 1 ≤ times u left → (station_at (places_now u) l).waits ≡ (station_at (place_at w u) l).waits
+      left_as u g = by_thread (λ u p. 1 ≤ times u left → (station_at p l).waits ≡ (station_at (place_at w u) l).waits)
+          (λ g. absurd (let a : times t taken + times t left ≡ times t (queue_at w (key_of l m)) = splits.counts t in let b : times t (queue_at w (key_of l m)) ≡ 0 = nobody_out m in omega arith))
+          (λ u nu h g. absurd (let a : times u taken + times u left ≡ stood_in (station_at (place_at w u) l).stands m = stood u in let b : 1 ≤ times u taken = member_times u taken h in let c : stood_in (station_at (place_at w u) l).stands m ≤ 1 = at_most_one (station_at (place_at w u) l).stands m in omega arith))
+          (λ u nu h g. refl) u g
+
+      other_as : (u : ℕ) (n : Line) → n ≢ m → 1 ≤ times u (queue_at w (key_of l n)) → (station_at (places_now u) l).waits ≡ (station_at (place_at w u) l).waits
+      other_as u n ng g = by_thread (λ u p. 1 ≤ times u (queue_at w (key_of l n)) → (station_at p l).waits ≡ (station_at (place_at w u) l).waits)
+          (λ g. absurd (let b : times t (queue_at w (key_of l n)) ≡ 0 = nobody_out n in omega arith))
+          (λ u nu h g. absurd (let s = splits.sleeps u h in let a : times u (queue_at w (key_of l n)) ≡ 0 = steady.stands.lines u l n ∙ ap (λ (y : Station). stood_in y.stands n) (station_here l (place_at w u) s.calls ∙ s.was) ∙ stood_other m n ng in omega arith))
+          (λ u nu h g. refl) u g
+
+      else_as : (u : ℕ) → k ≢ l → (station_at (places_now u) k).waits ≡ (station_at (place_at w u) k).waits
+      else_as u ne = by_thread (λ u p. (station_at p k).waits ≡ (station_at (place_at w u) k).waits)
+          (ap (λ (y : Station). y.waits) (station_elsewhere l k p2 of ne ∙ sym (station_elsewhere l k (place_at w t) own ne)))
+          (λ u nu h. let s = splits.sleeps u h in ap (λ (y : Station). y.waits) (station_elsewhere l k (next_place (place_at w u) (TakenBy t)) s.calls_then ne ∙ sym (station_elsewhere l k (place_at w u) s.calls ne)))
+          (λ u nu h. refl) u
 
   -- the lock, by those whom t has in hand then
   module _ (r : Rules) (rules : rules_at w l ≡ r) (none : taken_at (place_at w t) l ≡ None) (none2 : taken_at p2 l ≡ None) where
@@ -320,8 +356,9 @@ module _ (w : State) (t l : ℕ) (steady : IsSteady w) (own : IsOf l (place_at w
       take_goes inside stands unheld some full d single plain needed lock parked aside filled own_is = record {
         follows = follows_by w v l (with_line (parts_at w l) m left) places_now moves r rules (acts t (d ∷ [])) (λ h. ordinary_by (length w.places) t (d ∷ []) there plain) (take_site d single lock parked aside filled own_is) needed (word_now m refl);
         stands = stands_then v places_now places
-            (subst (λ (f : ℕ → Option ℕ). Sections places_now f) (sym (λ i key. get_or (es i) key None)) (sections_same (place_at w) places_now (section_at w) steady.stands.sections (part_now (λ y. y.inside) inside refl)))
+            (subst (λ (f : ℕ → Option ℕ). Sections places_now f) (sym (λ i key. get_or (es i) key None)) (sections_same (place_at w) places_now (section_at w) steady.stands.sections (part_now (λ y. y.inside) inside (λ x. refl))))
             (lines_now (queue_at v) stands here others)
+            (waits_now (queue_at v) here others)
             (hands_in w v places_now moves.kinds (hands_now unheld some full))
             (λ u. calls_in w v (places_now u) moves.kinds (calls_now u));
       }

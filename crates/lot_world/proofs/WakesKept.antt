@@ -20,7 +20,7 @@ use Rattle.lot_world.specs.Stations.{Station, Hand, hand, station, station_at, n
 use Rattle.lot_world.specs.SitesOf.{AllNeeded, AreOrdinary, TakesOne, Hands, IsSteady, Follows, Goes, Stands, CallsMutex, after_acts, rules_at, key_of, carried_at, hand_at}
 use Rattle.lot_world.proofs.Glue.{Parts, parts_at, lock_in, seen_in, same, differ, put_places, put_here, put_other, IsOf, next_of, doing_elsewhere, taken_elsewhere, station_here, station_elsewhere, nothing_at, LetGo, stays, untaken, IsHeldBy, held_taker, held_where}
 use Rattle.lot_world.proofs.ActsKept.{AlikeAt, Moves, follows_by, lock_by, word_by_lines}
-use Rattle.lot_world.proofs.StandsKept.{left, lines_same, hands_freed, calls_in}
+use Rattle.lot_world.proofs.StandsKept.{left, lines_same, waits_same, hands_freed, calls_in}
 use Rattle.lot_world.proofs.StandsMoved.{stands_then, hands_in}
 
 -- out of a section, and where the thread keeps a right of its own, the end of its call
@@ -181,7 +181,7 @@ module _ (w : State) (t l : ℕ) (steady : IsSteady w) (own : IsOf l (place_at w
         either true h = let held = held_here u h in subst (λ (y : Place). CallsMutex w y) (sym (told_on u h)) (woken u held.handed held.hand).fits
 
     -- out of a section of the lock
-    module _ (m : Line) (line : key_of l m < length w.sections) (within : (station (place_at w t)).inside ≡ Some m) (stood : (station p2).stands ≡ (station (place_at w t)).stands) (out : (station p2).inside ≡ None) where
+    module _ (m : Line) (line : key_of l m < length w.sections) (within : (station (place_at w t)).inside ≡ Some m) (stood : (station p2).stands ≡ (station (place_at w t)).stands) (waited : (station p2).waits ≡ (station (place_at w t)).waits) (out : (station p2).inside ≡ None) where
       abbrev pub v : State
       v = put (state_after_telling (state_with_sections w (One (key_of l m)) None) t (Woken x)) t p2
 
@@ -195,13 +195,13 @@ module _ (w : State) (t l : ℕ) (steady : IsSteady w) (own : IsOf l (place_at w
         | inr nu ↦ ap (λ y. g (station_at y k)) (put_other told t p2 u nu) ∙ part_told g part u k
       ]
 
-      same_stood : (u k : ℕ) → (station_at (places_then u) k).stands ≡ (station_at (place_at w u) k).stands
-      same_stood u k = elim (cases_eq u t) [
-        | inl e ↦ elim (cases_eq k l) [
-          | inl f ↦ rw (e, f, put_here told t p2) (ap (λ (y : Station). y.stands) (station_here l p2 of) ∙ stood ∙ sym (ap (λ (y : Station). y.stands) (station_here l (place_at w t) own)))
-          | inr ne ↦ same_parts (λ y. y.stands) (λ h. refl) u k (λ g f. ne f)
+      all_parts : {A : Type 0} (g : Station → A) → ((h : Bool) → g (record nowhere { hand = hand t h }) ≡ g nowhere) → g (station p2) ≡ g (station (place_at w t)) → (u k : ℕ) → g (station_at (places_then u) k) ≡ g (station_at (place_at w u) k)
+      all_parts g part e u k = elim (cases_eq u t) [
+        | inl f ↦ elim (cases_eq k l) [
+          | inl h ↦ rw (f, h, put_here told t p2) (ap g (station_here l p2 of) ∙ e ∙ sym (ap g (station_here l (place_at w t) own)))
+          | inr ne ↦ same_parts g part u k (λ i h. ne h)
         ]
-        | inr nu ↦ same_parts (λ y. y.stands) (λ h. refl) u k (λ g f. nu g)
+        | inr nu ↦ same_parts g part u k (λ i h. nu i)
       ]
 
       pub wake_goes : (r : Rules) → rules_at w l ≡ r → taken_at (place_at w t) l ≡ None → taken_at p2 l ≡ None → (ds : List Deed) → AreLeaving ds → AllNeeded r (acts t ds) (lock_by w l r) → doing_on p2 l ≡ (after_acts r (acts t ds) (lock_by w l r)).doing t → Goes w v l (acts t ds)
@@ -220,7 +220,8 @@ module _ (w : State) (t l : ℕ) (steady : IsSteady w) (own : IsOf l (place_at w
         stands = stands_then v places_then places
             (left (place_at w) places_then (section_at w) (section_at v) steady.stands.sections t l m (same_parts (λ y. y.inside) (λ h. refl)) (λ key ne. get_or-set_other w.sections (key_of l m) key None None ne)
             (ap (λ (y : Station). y.inside) (station_here l (place_at w t) own) ∙ within) (ap (λ y. (station_at y l).inside) (put_here told t p2) ∙ ap (λ (y : Station). y.inside) (station_here l p2 of) ∙ out) (get_or-set_same w.sections (key_of l m) None None line))
-            (lines_same (place_at w) places_then (queue_at w) (queue_at v) steady.stands.lines same_stood (λ key. refl))
+            (lines_same (place_at w) places_then (queue_at w) (queue_at v) steady.stands.lines (all_parts (λ y. y.stands) (λ h. refl) stood) (λ key. refl))
+            (waits_same (place_at w) places_then (queue_at w) (queue_at v) steady.stands.waits (all_parts (λ y. y.waits) (λ h. refl) waited) (λ key. refl))
             (hands_in w v places_then (λ k. refl) hands_then)
             (λ u. calls_in w v (places_then u) (λ k. refl) (calls_then u));
       }
