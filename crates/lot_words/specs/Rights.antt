@@ -5,7 +5,7 @@ use Rattle.lot_words.specs.Views.{owning, owning_with}
 use Rattle.lot_words.specs.Steps.{has}
 use Rattle.lot_words.specs.Plays.{piece}
 use Rattle.lot_words.specs.declared.owners.Owner.{Owner}
-use Rattle.lot_words.specs.declared.owners.Owner.TheVariants.{Exclusive, Pending, Upgrading, Upgradable, Shared, Runner, Witness}
+use Rattle.lot_words.specs.declared.owners.Owner.TheVariants.{Exclusive, Opened, Pending, Upgrading, Upgradable, Shared, Runner, Witness}
 use Rattle.lot_words.specs.declared.owners.Ownership.{Ownership}
 use Rattle.lot_words.specs.declared.views.View.{View}
 use Rattle.lot_words.specs.declared.words.Word.{Word}
@@ -24,6 +24,7 @@ owner_for wants.TheVariants.CallOnce = Runner
 -- what an owner wanted. Who waits for the last readers wants to own alone
 abbrev pub want_of : Owner → wants.Want
 want_of Exclusive = wants.TheVariants.Exclusive
+want_of Opened = wants.TheVariants.Exclusive
 want_of Pending = wants.TheVariants.Exclusive
 want_of Upgrading = wants.TheVariants.Exclusive
 want_of Upgradable = wants.TheVariants.Upgradable

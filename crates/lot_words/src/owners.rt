@@ -9,6 +9,8 @@ use lot_base::Want;
 pub enum Owner {
     /// A mutex or a reader-writer lock, alone.
     Exclusive,
+    /// A mutex, alone, whose value is open: its permit is out.
+    Opened,
     /// A reader-writer lock, alone once its last readers have left.
     Pending,
     /// The same, of who upgrades: it has its upgradable ownership again where it gives up.
@@ -61,7 +63,9 @@ impl Owner {
         ensures { result ≡ want_of self }
     {
         match self {
-            Owner::Exclusive | Owner::Pending | Owner::Upgrading => Want::Exclusive,
+            Owner::Exclusive | Owner::Opened | Owner::Pending | Owner::Upgrading => {
+                Want::Exclusive
+            }
             Owner::Upgradable => Want::Upgradable,
             Owner::Shared => Want::Shared,
             Owner::Runner => Want::CallOnce,

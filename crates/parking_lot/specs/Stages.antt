@@ -215,7 +215,8 @@ abbrev pub AwokeLate : ℕ → Sleeper → Stage → Reply → Stage → Type 0
 AwokeLate key sleeper st Late new = (sleeper.late ≡ Some key) × (new ≡ stage st.owns (entered_now (One key)) st.last)
 AwokeLate key sleeper st (MovedTo to) new =
     (key ≡ to) × (sleeper.moved ≡ Some to) × (new.owns ≡ st.owns) × (new.inside ≡ None)
-AwokeLate key sleeper st (Woken Normal) new = (new.owns ≡ st.owns) × (new.inside ≡ None)
+AwokeLate key sleeper st (Woken Normal) new =
+    (sleeper.late ≢ Some key) × (sleeper.moved ≢ Some key) × (new.owns ≡ st.owns) × (new.inside ≡ None)
 AwokeLate key sleeper st _ new = ⊥
 
 -- what a sleep made of the stage, by its end

@@ -12,7 +12,7 @@ ghost use Rattle.lot_words.specs.declared.words.WordKind.TheVariants.{Mutex};
 ghost use Rattle.parking_lot_core.specs.Tokens.{IsTokenOf, Stays, view_of, last_of};
 ghost use Rattle.lot_words.specs.declared.views.WordStep.{WordStep};
 ghost use Rattle.parking_lot.specs.Calls.{purpose_in, GoesOn, HasWalked, Sees, Releases, WalksBehind};
-ghost use Rattle.parking_lot.specs.Driving.{IsGuardOf, IsGuardOf-prop, MeetAt, StaysAs, StaysAs-on};
+ghost use Rattle.parking_lot.specs.Driving.{IsGuardOf, IsGuardOf-prop, IsOpenGuardOf, IsOpenGuardOf-prop, permit_in, MeetAt, StaysAs, StaysAs-on};
 ghost use Rattle.parking_lot.specs.MutexFitting.{IsMutexOver, held};
 ghost use Rattle.parking_lot.specs.Paths.{mutex_at, at_mutex, Walks};
 ghost use Rattle.parking_lot.specs.Paths.{step as seen_step};
@@ -20,12 +20,12 @@ ghost use Rattle.parking_lot.specs.Stages.{stage_of};
 ghost use Rattle.parking_lot.specs.Telling.{owns_of, steps_of};
 
 use crate::driver::{NO_LIMIT, behind, step};
-use crate::guards::RawGuard;
+use crate::guards::{OpenGuard, RawGuard};
 use lot_base::main_key;
 use lot_calls::{Answer, MutexCall};
 use lot_mutex::{LOCKED, PARKED, is_locked, is_parked};
 use parking_lot_core::{
-    Clock, Fault, Key, Op, ParkingLot, Token, Want, Word, WordKind, to_deadline,
+    Clock, Fault, Key, Op, ParkingLot, Permit, Token, Want, Word, WordKind, to_deadline,
 };
 use std::sync::{Arc, Wait};
 use std::time::Duration;
@@ -137,6 +137,8 @@ impl lock_raw::RawMutex for RawMutex {
 
     type Guard = RawGuard;
 
+    type Opened = OpenGuard;
+
     ghost lot_of = { λ mutex. arc_value mutex.lot };
 
     ghost is_token_of = { λ lot token. IsTokenOf lot token };
@@ -148,6 +150,12 @@ impl lock_raw::RawMutex for RawMutex {
     ghost is_guard_of = { λ mutex guard. IsGuardOf (arc_value mutex.lot) mutex.word guard };
 
     ghost guard_once = { λ mutex guard. IsGuardOf-prop (arc_value mutex.lot) mutex.word guard };
+
+    ghost permit_of = { λ mutex. permit_in (arc_value mutex.lot) mutex.word };
+
+    ghost is_opened_of = { λ mutex opened. IsOpenGuardOf (arc_value mutex.lot) mutex.word opened };
+
+    ghost opened_once = { λ mutex opened. IsOpenGuardOf-prop (arc_value mutex.lot) mutex.word opened };
 
     ghost walked = { λ mutex call answer old new. HasWalked mutex.word.number call answer old new };
 
@@ -209,6 +217,21 @@ impl lock_raw::RawMutex for RawMutex {
     #[inline]
     fn is_locked(&self, token: &mut Token) -> bool {
         is_locked(step(&self.lot, token, self.word, Op::Load))
+    }
+
+    #[inline]
+    fn open_value(&self, guard: RawGuard) -> (OpenGuard, Permit) {
+        let RawGuard { right } = guard;
+        let (held, permit) = self.lot.open_right(right);
+        (OpenGuard { held }, permit)
+    }
+
+    #[inline]
+    fn close_value(&self, opened: OpenGuard, permit: Permit) -> RawGuard {
+        let OpenGuard { held } = opened;
+        RawGuard {
+            right: self.lot.close_right(held, permit),
+        }
     }
 
     // A step of who owns the mutex twice would find a word that says so, and there is none.
