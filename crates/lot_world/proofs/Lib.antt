@@ -18,6 +18,7 @@ pub mod Counts
 pub mod SitesPromise
 pub mod AtPlaces
 pub mod ExclusiveOwners
+pub mod CallEvents
 pub mod LockEvents
 pub mod MutexEvents
 pub mod Possible
