@@ -19,6 +19,7 @@ pub mod SitesPromise
 pub mod AtPlaces
 pub mod ExclusiveOwners
 pub mod CallEvents
+pub mod MutexCalls
 pub mod LockEvents
 pub mod MutexEvents
 pub mod Possible
