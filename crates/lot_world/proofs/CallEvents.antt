@@ -83,7 +83,7 @@ module _ (r : Rules) where
   deeds_then t [] claims s h = claims_keep claims s h
   deeds_then t (d ∷ ds) claims s h = deeds_then t ds claims (after_deed r d s t) h
 
-  needed_then : (t : ℕ) (ds : List Deed) (claims : List Act) (s : Site) → AllNeeded r (acts t ds ++ claims) s → deeds.AllNeeded r ds s t
+  pub needed_then : (t : ℕ) (ds : List Deed) (claims : List Act) (s : Site) → AllNeeded r (acts t ds ++ claims) s → deeds.AllNeeded r ds s t
   needed_then t [] claims s n = tt
   needed_then t (d ∷ ds) claims s n = (n.0, needed_then t ds claims (after_deed r d s t) n.1)
 
@@ -140,7 +140,7 @@ module _ (w v : State) (t l : ℕ) (c : Option LockCase) (h : Happens w v t l (e
   pub rights_led : (u k : ℕ) → rights v u k ≡ rights_where l (after_event (rules_at w l) (event_by l c) (lock_state w l) t) u (rights w u) k
   rights_led u k = put_is (rights w u) l _ k (rights v u k) (λ e. rw e (ap (λ s. rights_of s u) h.led)) (λ ne. ap (λ s. rights_of s u) (h.elsewhere k ne))
 
-  abbrev IsNoHandOff : Option LockCase → Type 0
+  abbrev pub IsNoHandOff : Option LockCase → Type 0
   IsNoHandOff None = Unit {0}
   IsNoHandOff (Some case) = (x : Want) (y : Option Queued) → case ≢ HandOff x y
 

@@ -426,17 +426,17 @@ successor_in t k (p ∷ ps) (suc u) held_by only = ap (λ o. successor_or k o (s
     ∙ successor_in t (suc k) ps u held_by (λ x ne. only (suc x) (λ e. ne (omega arith))) ∙ ap (λ n. Some (successor_is n)) (let e : suc k + u ≡ k + suc u = omega arith in e)
 
 -- who is in a hand by the place is so by the taker
-held_taker : (p : Place) (t l : ℕ) (b : Bool) → hand_at p l ≡ hand t b → is_thread t (taker p) ≡ true
+pub held_taker : (p : Place) (t l : ℕ) (b : Bool) → hand_at p l ≡ hand t b → is_thread t (taker p) ≡ true
 held_taker p t l false h = let k = is_taken p t l h in rw k.is (same t)
 held_taker p t l true h = let k = is_handed p t l h in rw k.is (same t)
 
 -- and at some lock, if by the taker
-record IsHeldBy (p : Place) (t : ℕ) : Type 0 where
+pub record IsHeldBy (p : Place) (t : ℕ) : Type 0 where
   pub lock : ℕ
   pub handed : Bool
   pub hand : hand_at p lock ≡ hand t handed
 
-held_where : (p : Place) (t : ℕ) → is_thread t (taker p) ≡ true → IsHeldBy p t
+pub held_where : (p : Place) (t : ℕ) → is_thread t (taker p) ≡ true → IsHeldBy p t
 held_where (Mutex k (Lock e retries (lock.Taken by))) t h = record { lock = k; handed = false; hand = ap (λ (x : Station). x.hand) (station_here k (Mutex k (Lock e retries (lock.Taken by))) refl) ∙ ap (λ x. hand x false) (eqb-true by t h) }
 held_where (Mutex k (Lock e retries (lock.Handed by))) t h = record { lock = k; handed = true; hand = ap (λ (x : Station). x.hand) (station_here k (Mutex k (Lock e retries (lock.Handed by))) refl) ∙ ap (λ x. hand x true) (eqb-true by t h) }
 held_where p t h = absurd cc

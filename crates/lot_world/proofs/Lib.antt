@@ -21,6 +21,7 @@ pub mod ExclusiveOwners
 pub mod CallEvents
 pub mod MutexCalls
 pub mod LockEvents
+pub mod OtherCalls
 pub mod MutexEvents
 pub mod Possible
 pub mod LockSteps

@@ -135,17 +135,17 @@ module _ (l t : ℕ) (s : LockState) where
   abbrev by_case : LockCase → MutexPlace → (ℕ → Rights) → CallState
   by_case case at rights = going_on (AtLock l case) (call_by l (mutex_row at) rights)
 
-  first : (e : Entry) (again b : Bool) → (b ≡ true → s.exclusive ≡ None) → Tells (Lock e again First) (if b then enters else []) (in_lock e again (if b then next.End (entered e) else next.At Load))
+  pub first : (e : Entry) (again b : Bool) → (b ≡ true → s.exclusive ≡ None) → Tells (Lock e again First) (if b then enters else []) (in_lock e again (if b then next.End (entered e) else next.At Load))
   first e again true free = record {
     follows = record { one = tt; may = (enters_by e, tt); comes = λ v rights ruled now is has. agreed e v (by_case (Enter Exclusive) (Lock e again First) rights) rights refl (rw now refl) (gains v rights _ now is has (entered_alone s t (free refl))) };
     rests = tt;
   }
   first e again false free = quiet (Lock e again First) (Lock e again Load) [] tt refl (λ rights. refl) (inl refl)
 
-  loads : (e : Entry) (again : Bool) (seen : ℕ) → Tells (Lock e again Load) [] (next.At (Lock e again (Decide seen)))
+  pub loads : (e : Entry) (again : Bool) (seen : ℕ) → Tells (Lock e again Load) [] (next.At (Lock e again (Decide seen)))
   loads e again seen = quiet (Lock e again Load) (Lock e again (Decide seen)) [] tt refl (λ rights. refl) (inl (decides l seen))
 
-  exchanges : (e : Entry) (again : Bool) (was seen : ℕ) (a b : Bool) → (a ≡ true → b ≡ false → s.exclusive ≡ None)
+  pub exchanges : (e : Entry) (again : Bool) (was seen : ℕ) (a b : Bool) → (a ≡ true → b ≡ false → s.exclusive ≡ None)
       → Tells (Lock e again (Decide was)) (if not a then [] else if b then Mark Main ∷ [] else enters) (in_lock e again (if not a then next.At (Decide seen) else if b then next.At (Decide 3) else next.End (entered e)))
   exchanges e again was seen false b free = quiet (Lock e again (Decide was)) (Lock e again (Decide seen)) [] tt refl (λ rights. refl) (inl (decides l seen))
   exchanges e again was seen true true free = quiet (Lock e again (Decide was)) (Lock e again (Decide 3)) (Mark Main ∷ []) tt refl (λ rights. refl) (inl (decides l 3))
@@ -162,41 +162,45 @@ module _ (l t : ℕ) (s : LockState) where
   unparked_goes_on true = refl
   unparked_goes_on false = refl
 
-  checks : (e : Entry) (again b : Bool) → Tells (Lock e again Check) (if b then Case (Park Exclusive) ∷ [] else []) (next.At (Lock e (again && not b) (Leave b)))
+  pub checks : (e : Entry) (again b : Bool) → Tells (Lock e again Check) (if b then Case (Park Exclusive) ∷ [] else []) (next.At (Lock e (again && not b) (Leave b)))
   checks e again true = keeps (Lock e again Check) (Lock e (again && not true) (Leave true)) (Case (Park Exclusive) ∷ []) tt (parks_by e, tt) refl (λ rights i. record (call_by l (mutex_row (Lock e again Check)) rights) { retries = parked_ends again i }) (inl refl)
   checks e again false = quiet (Lock e again Check) (Lock e (again && not false) (Leave false)) [] tt refl (λ rights i. record (call_by l (mutex_row (Lock e again Check)) rights) { retries = unparked_goes_on again i }) (inl refl)
 
-  leaves_line : (e : Entry) (again b : Bool) → Tells (Lock e again (Leave b)) (Out ∷ []) (in_lock e again (if b then next.At Asleep else next.At Load))
+  pub leaves_line : (e : Entry) (again b : Bool) → Tells (Lock e again (Leave b)) (Out ∷ []) (in_lock e again (if b then next.At Asleep else next.At Load))
   leaves_line e again true = quiet (Lock e again (Leave true)) (Lock e again Asleep) (Out ∷ []) tt refl (λ rights. refl) (inr (refl, refl))
   leaves_line e again false = quiet (Lock e again (Leave false)) (Lock e again Load) (Out ∷ []) tt refl (λ rights. refl) (inl refl)
 
-  removes : (e : Entry) (again b : Bool) → is_timed e ≡ true → Tells (Lock e again Remove) (Case locks.Late ∷ []) (in_lock e again (if b then next.At Clear else next.At GiveUp))
+  pub removes : (e : Entry) (again b : Bool) → is_timed e ≡ true → Tells (Lock e again Remove) (Case locks.Late ∷ []) (in_lock e again (if b then next.At Clear else next.At GiveUp))
   removes e again true timed = keeps (Lock e again Remove) (Lock e again Clear) (Case locks.Late ∷ []) tt (late_by e timed, refl) refl (λ rights. refl) (inl refl)
   removes e again false timed = keeps (Lock e again Remove) (Lock e again GiveUp) (Case locks.Late ∷ []) tt (late_by e timed, refl) refl (λ rights. refl) (inl refl)
 
   -- it has given up, and owns what it owned
-  gives_up : (e : Entry) (again : Bool) → is_timed e ≡ true → Tells (Lock e again GiveUp) (Out ∷ []) (next.End answer.No)
+  pub gives_up : (e : Entry) (again : Bool) → is_timed e ≡ true → Tells (Lock e again GiveUp) (Out ∷ []) (next.End answer.No)
   gives_up entries.LockTimed again timed = record { follows = record { one = tt; may = tt; comes = λ v rights ruled now is has. (refl, stays v rights s now is has refl) }; rests = tt }
   gives_up entries.Lock again timed = absurd cc
   gives_up entries.Bump again timed = absurd cc
 
   -- it was handed the lock, and owns it
-  accepts : (e : Entry) (again : Bool) → s.exclusive ≡ Some t → Tells (Lock e again Accept) (End ∷ []) (next.End (entered e))
+  pub accepts : (e : Entry) (again : Bool) → s.exclusive ≡ Some t → Tells (Lock e again Accept) (End ∷ []) (next.End (entered e))
   accepts entries.Lock again own = record { follows = record { one = tt; may = tt; comes = λ v rights ruled now is has. (rw now own, had v rights s now is has own refl) }; rests = tt }
   accepts entries.LockTimed again own = record { follows = record { one = tt; may = tt; comes = λ v rights ruled now is has. (rw now own, had v rights s now is has own refl) }; rests = tt }
   accepts entries.Bump again own = record { follows = record { one = tt; may = tt; comes = λ v rights ruled now is has. (rw now own, stays v rights s now is has refl) }; rests = tt }
 
-  tries : (b : Bool) → (b ≡ false → s.exclusive ≡ None) → (b ≡ true → s.exclusive ≢ None) → Tells TryLock (if b then End ∷ [] else enters) (if b then next.End answer.No else next.End answer.Yes)
+  pub tries : (b : Bool) → (b ≡ false → s.exclusive ≡ None) → (b ≡ true → s.exclusive ≢ None) → Tells TryLock (if b then End ∷ [] else enters) (if b then next.End answer.No else next.End answer.Yes)
   tries false free owned = record { follows = record { one = tt; may = ((refl, refl), tt); comes = λ v rights ruled now is has. (rw now refl, gains v rights _ now is has (entered_alone s t (free refl))) }; rests = tt }
   tries true free owned = record {
-    follows = record { one = tt; may = tt; comes = λ v rights ruled now is has.
-        ((λ of_mutex. rw (ruled, now) (tt, λ none. owned refl none)), stays v rights s now is has refl) };
+    follows = record {
+      one = tt;
+      may = tt;
+      comes = λ v rights ruled now is has.
+          ((λ of_mutex. rw (ruled, now) (tt, λ none. owned refl none)), stays v rights s now is has refl);
+    };
     rests = tt;
   }
 
   -- ---------------------------------------------------------------- releases
 
-  subtracts : (b : Bool) → s.exclusive ≡ Some t → Tells (Unlock unlock.Subtract) (Case (GivesBack Exclusive) ∷ (if b then [] else End ∷ [])) (in_unlock (if b then next.At unlock.Enter else next.End answer.Ok))
+  pub subtracts : (b : Bool) → s.exclusive ≡ Some t → Tells (Unlock unlock.Subtract) (Case (GivesBack Exclusive) ∷ (if b then [] else End ∷ [])) (in_unlock (if b then next.At unlock.Enter else next.End answer.Ok))
   subtracts true own = record {
     follows = record { one = tt; may = ((refl, refl), tt); comes = λ rights is. ap (λ f. record (by_case (GivesBack Exclusive) (Unlock unlock.Subtract) rights) { former = f }) (lost (after_case mutex (GivesBack Exclusive) s t) (left s t Exclusive own) rights is) };
     rests = inl refl;
@@ -204,33 +208,33 @@ module _ (l t : ℕ) (s : LockState) where
   subtracts false own = record { follows = record { one = tt; may = ((refl, refl), tt); comes = λ v rights ruled now is has. loses v rights _ now is has (left s t Exclusive own) }; rests = tt }
 
   -- it takes the first of the queue, or finds nobody
-  takes_one : (o : Option ℕ) (any b : Bool) → Tells (Unlock unlock.Take) (takes o) (in_unlock (if b then next.At (unlock.Clear any) else next.At (unlock.Leave any)))
+  pub takes_one : (o : Option ℕ) (any b : Bool) → Tells (Unlock unlock.Take) (takes o) (in_unlock (if b then next.At (unlock.Clear any) else next.At (unlock.Leave any)))
   takes_one None any true = quiet (Unlock unlock.Take) (Unlock (unlock.Clear any)) (takes None) tt refl (λ rights. refl) (inl refl)
   takes_one None any false = quiet (Unlock unlock.Take) (Unlock (unlock.Leave any)) (takes None) tt refl (λ rights. refl) (inl refl)
   takes_one (Some u) any true = keeps (Unlock unlock.Take) (Unlock (unlock.Clear any)) (takes (Some u)) tt ((refl, tt), tt) refl (λ rights. refl) (inl refl)
   takes_one (Some u) any false = keeps (Unlock unlock.Take) (Unlock (unlock.Leave any)) (takes (Some u)) tt ((refl, tt), tt) refl (λ rights. refl) (inl refl)
 
   -- it wakes whom it has taken
-  wakes_taken : (any : Bool) → Tells (Unlock (unlock.Leave any)) (Out ∷ []) (next.End answer.Ok)
+  pub wakes_taken : (any : Bool) → Tells (Unlock (unlock.Leave any)) (Out ∷ []) (next.End answer.Ok)
   wakes_taken true = record { follows = record { one = tt; may = ((refl, inl refl), tt); comes = λ v rights ruled now is has k. ap (λ f. one_more_at l Exclusive f k) (λ i x. stays v rights _ now is has refl x i) }; rests = tt }
   wakes_taken false = record { follows = record { one = tt; may = tt; comes = λ v rights ruled now is has k. ap (λ f. one_more_at l Exclusive f k) (λ i x. stays v rights _ now is has refl x i) }; rests = tt }
 
   -- ---------------------------------------------------------------- fair releases
 
-  unlocks_fairly : (b : Bool) → (b ≡ true → s.exclusive ≡ Some t) → Tells UnlockFair (if b then Case (GivesBack Exclusive) ∷ End ∷ [] else []) (looked false (not b))
+  pub unlocks_fairly : (b : Bool) → (b ≡ true → s.exclusive ≡ Some t) → Tells UnlockFair (if b then Case (GivesBack Exclusive) ∷ End ∷ [] else []) (looked false (not b))
   unlocks_fairly true own = record { follows = record { one = tt; may = ((refl, refl), tt); comes = λ v rights ruled now is has. loses v rights _ now is has (left s t Exclusive (own refl)) }; rests = tt }
   unlocks_fairly false own = quiet UnlockFair (HandOff false hand_off.Enter) [] tt refl (λ rights. refl) (inl refl)
 
-  bumps : (b : Bool) → s.exclusive ≡ Some t → Tells Bump (if b then [] else End ∷ []) (looked true b)
+  pub bumps : (b : Bool) → s.exclusive ≡ Some t → Tells Bump (if b then [] else End ∷ []) (looked true b)
   bumps true own = quiet Bump (HandOff true hand_off.Enter) [] tt refl (λ rights. refl) (inl refl)
   bumps false own = record { follows = record { one = tt; may = tt; comes = λ v rights ruled now is has. (rw now own, stays v rights s now is has refl) }; rests = tt }
 
-  takes_fairly : (bumping : Bool) (o : Option ℕ) (any b : Bool) → Tells (HandOff bumping hand_off.Take) (takes o) (next.At (HandOff bumping (hand_off.Store any b)))
+  pub takes_fairly : (bumping : Bool) (o : Option ℕ) (any b : Bool) → Tells (HandOff bumping hand_off.Take) (takes o) (next.At (HandOff bumping (hand_off.Store any b)))
   takes_fairly bumping None any b = quiet (HandOff bumping hand_off.Take) (HandOff bumping (hand_off.Store any b)) (takes None) tt refl (λ rights. refl) (inl (stores_so l any b))
   takes_fairly bumping (Some u) any b = keeps (HandOff bumping hand_off.Take) (HandOff bumping (hand_off.Store any b)) (takes (Some u)) tt (takes_by bumping (queued u), tt) refl (λ rights. refl) (inl (stores_so l any b))
 
   -- it gives its right to its heir, which isn't itself
-  stores : (bumping any none_left : Bool) (to : Option ℕ) → with_right Exclusive (rights_of (locks.handed t Exclusive (heir to) s) t) ≡ rights_of s t → Tells (HandOff bumping (hand_off.Store any none_left)) (hands_over to none_left) (next.At (HandOff bumping (hand_off.Leave any)))
+  pub stores : (bumping any none_left : Bool) (to : Option ℕ) → with_right Exclusive (rights_of (locks.handed t Exclusive (heir to) s) t) ≡ rights_of s t → Tells (HandOff bumping (hand_off.Store any none_left)) (hands_over to none_left) (next.At (HandOff bumping (hand_off.Leave any)))
   stores bumping any none_left to gave = record { follows = record { one = one to none_left; may = may to; comes = comes to gave }; rests = inl (leaves_so any) }
     where
       one : (o : Option ℕ) (b : Bool) → AreOneCase (hands_over o b)
@@ -252,8 +256,14 @@ module _ (l t : ℕ) (s : LockState) where
       comes (Some u) e rights is = ap (λ f. record (by_case (HandsOff Exclusive (heir (Some u))) (HandOff bumping (hand_off.Store any none_left)) rights) { former = f }) (lost (locks.handed t Exclusive (heir (Some u)) s) e rights is)
 
   -- it leaves, and a bump enters again
-  leaves_fairly : (bumping to : Bool) → Tells (HandOff bumping (hand_off.Leave to)) (Out ∷ []) (in_hand_off bumping (next.End answer.Ok))
+  pub leaves_fairly : (bumping to : Bool) → Tells (HandOff bumping (hand_off.Leave to)) (Out ∷ []) (in_hand_off bumping (next.End answer.Ok))
   leaves_fairly true true = quiet (HandOff true (hand_off.Leave true)) (Lock entries.Bump false First) (Out ∷ []) tt refl (λ rights. refl) (inl refl)
   leaves_fairly true false = quiet (HandOff true (hand_off.Leave false)) (Lock entries.Bump false First) (Out ∷ []) tt refl (λ rights. refl) (inl refl)
   leaves_fairly false true = record { follows = record { one = tt; may = tt; comes = λ v rights ruled now is has k. ap (λ f. one_more_at l Exclusive f k) (λ i x. stays v rights _ now is has refl x i) }; rests = tt }
   leaves_fairly false false = record { follows = record { one = tt; may = tt; comes = λ v rights ruled now is has k. ap (λ f. one_more_at l Exclusive f k) (λ i x. stays v rights _ now is has refl x i) }; rests = tt }
+
+  -- ---------------------------------------------------------------- steps that only lead elsewhere
+
+  -- into a section, or a bit cleared
+  pub goes_to : (at at2 : MutexPlace) (d : Deed) → AreOneCase (d ∷ []) → case_of (mutex_row at).carries (d ∷ []) ≡ None → ((rights : ℕ → Rights) → call_by l (mutex_row at2) rights ≡ call_by l (mutex_row at) rights) → Rests l (next.At at2) → Tells at (d ∷ []) (next.At at2)
+  goes_to at at2 d one none same rests = quiet at at2 (d ∷ []) one none same rests
