@@ -4,37 +4,30 @@ ghost use Rattle.lock_api.specs.Guards.{lock_of};
 ghost use Rattle.lot_calls.specs.declared.calls.MutexCall.TheVariants.{Unlock, UnlockFair, Bump};
 ghost use Rattle.lot_calls.specs.declared.outcomes.Answer.TheVariants as answers;
 
+use crate::guarded::Guarded;
 use crate::mutex::Mutex;
-use crate::shows::{Shows, ShowsMut};
 use crate::taken::Taken;
 use lock_raw::{RawMutex, RawMutexFair};
-use std::ops::{Deref, DerefMut};
-use std::sync;
 use std::sync::Wait;
-
-/// A value that may be used. The raw lock is taken, and under it the inner lock of the value is open.
-pub struct Guarded<K, V> {
-    taken: K,
-    value: V,
-}
+use value_place::Open;
 
 /// The mutex is taken for as long as its guard is not spent. A guard has the raw guard, of this very mutex; it can't be
 /// dropped, and `unlock` or `unlock_fair` is its end.
-pub type MutexGuard<'a, R, T> = Guarded<Taken<'a, R, T>, sync::MutexGuard<'a, T>>;
+pub type MutexGuard<'a, R, T> = Guarded<Taken<'a, R, T>, Open<'a, T>>;
 
-impl<'a, R: RawMutex, T> Guarded<Taken<'a, R, T>, sync::MutexGuard<'a, T>> {
-    // The guard of who has the raw guard, and has opened the inner lock.
+impl<'a, R: RawMutex, T> Guarded<Taken<'a, R, T>, Open<'a, T>> {
+    // The guard of who has taken the mutex, and has opened its value.
     #[inline]
     pub(crate) fn new(
         mutex: &'a Mutex<R, T>,
-        guard: R::Guard,
-        value: sync::MutexGuard<'a, T>,
+        opened: R::Opened,
+        value: Open<'a, T>,
     ) -> MutexGuard<'a, R, T>
-        requires { R.is_guard_of mutex.now guard }
+        requires { R.is_opened_of mutex.now opened × (value.id ≡ R.permit_of mutex.now) }
         ensures { lock_of result ≡ mutex.now }
     {
         Guarded {
-            taken: Taken::new(mutex, guard),
+            taken: Taken::new(mutex, opened),
             value,
         }
     }
@@ -71,7 +64,7 @@ impl<'a, R: RawMutex, T> Guarded<Taken<'a, R, T>, sync::MutexGuard<'a, T>> {
     }
 }
 
-impl<'a, R: RawMutexFair, T> Guarded<Taken<'a, R, T>, sync::MutexGuard<'a, T>> {
+impl<'a, R: RawMutexFair, T> Guarded<Taken<'a, R, T>, Open<'a, T>> {
     /// Hands the mutex to the first who waits for it. Where nobody waits, gives it up.
     #[inline]
     pub fn unlock_fair<W: Wait>(self, rt: &W, token: &mut R::Token)
@@ -94,32 +87,6 @@ impl<'a, R: RawMutexFair, T> Guarded<Taken<'a, R, T>, sync::MutexGuard<'a, T>> {
     {
         let (mutex, guard) = self.close();
         let guard = mutex.raw().bump(rt, token, guard);
-        mutex.open(rt, guard)
-    }
-}
-
-impl<K, V: Shows> Deref for Guarded<K, V> {
-    type Target = V::Value;
-
-    ghost deref_gives = { λ guard value. value ≡ V.shown guard.value };
-
-    #[inline]
-    fn deref(&self) -> &V::Value {
-        self.value.show()
-    }
-}
-
-impl<K, V: ShowsMut> DerefMut for Guarded<K, V> {
-    ghost use Rattle.std.specs.Borrow.{Lends, sem};
-    ghost use Rattle.lock_api.specs.contracts.guards.Guarded.{the_row};
-
-    ghost deref_mut_gives = { λ guard value. value ≡ V.shown guard.value };
-
-    #[inline]
-    fn deref_mut(&mut self) -> &mut V::Value
-        ensures* writes_back { sem 𝓛 (Lends (the_row K.row V.row) V.Value.row self.entry result (λ value. record self.old { value = V.written self.old.value value })) }
-        ensures shows { result.now ≡ V.shown self.old.value }
-    {
-        self.value.show_mut()
+        mutex.open(guard)
     }
 }

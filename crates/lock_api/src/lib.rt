@@ -1,6 +1,7 @@
 //! Locks that keep a value, over any raw lock.
 #![tactic(auto)]
 
+pub mod guarded;
 pub mod guards;
 pub mod mutex;
 pub mod shows;

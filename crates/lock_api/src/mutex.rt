@@ -13,9 +13,9 @@ use crate::guards::MutexGuard;
 use lock_raw::{RawMutex, RawMutexTimed};
 use lot_base::{Clock, Fault};
 use std::marker::Model;
-use std::sync;
 use std::sync::{Arc, Wait};
 use std::time::Duration;
+use value_place::{NamesPermit, Place};
 
 fn run_on<T, U, F: FnOnce(&mut T) -> U>(value: &mut T, f: F) -> U
     requires { F.IsAlwaysCallable f }
@@ -24,15 +24,28 @@ fn run_on<T, U, F: FnOnce(&mut T) -> U>(value: &mut T, f: F) -> U
     f(value)
 }
 
-/// A value that one thread at a time may use. The inner lock is opened only under the raw guard, so nobody ever waits for it.
+// What says which permit opens a mutex's value.
 #[derive(Drop)]
-pub struct Mutex<R, T> {
+struct Names<'a, R> {
+    raw: &'a R,
+}
+
+impl<R: RawMutex> NamesPermit for Names<'_, R> {
+    ghost permit = { λ names. R.permit_of names.raw.now };
+}
+
+/// A value that one thread at a time may use. It stands in a plain place, which is opened by the permit of the raw mutex's owner.
+#[derive(Drop)]
+pub struct Mutex<R: RawMutex, T> {
     raw: R,
-    value: sync::Mutex<T>,
+    place: Place<T>,
+    ghost named: { place ≡ R.permit_of raw },
 }
 
 // In a clause a mutex is its raw one: the value changes behind a shared reference, so none tells it.
-impl<R, T> Model for Mutex<R, T> {
+impl<R: RawMutex, T> Model for Mutex<R, T> {
+    ghost use Rattle.std.specs.Prelude.{◌≡◌};
+
     ghost Value = { R };
 
     ghost view = { λ mutex. mutex.raw };
@@ -51,10 +64,10 @@ impl<R: RawMutex, T> Mutex<R, T> {
         ensures made { MatchResult result (λ mutex. R.lot_of mutex ≡ arc_value lot.now) (λ refused. (refused.1 ≡ value) × ((refused.0 ≡ Fault.NoMemory) ⊎ (refused.0 ≡ Fault.LotFull))) }
     {
         match R::new(lot, token) {
-            Ok(raw) => Ok(Mutex {
-                raw,
-                value: sync::Mutex::new(value),
-            }),
+            Ok(raw) => {
+                let place = Place::new(value, &Names { raw: &raw });
+                Ok(Mutex { raw, place })
+            }
             Err(fault) => Err((fault, value)),
         }
     }
@@ -68,28 +81,29 @@ impl<R: RawMutex, T> Mutex<R, T> {
         ensures path { R.walked self.now Lock answers.Ok token.old token.new }
     {
         let raw = self.raw.lock(rt, token);
-        self.open(rt, raw)
+        self.open(raw)
     }
 
     // The guard of who has the raw one.
     #[inline]
-    pub(crate) fn open<W: Wait>(&self, rt: &W, raw: R::Guard) -> MutexGuard<'_, R, T>
+    pub(crate) fn open(&self, raw: R::Guard) -> MutexGuard<'_, R, T>
         requires { R.is_guard_of self.now raw }
         ensures { lock_of result ≡ self.now }
     {
-        MutexGuard::new(self, raw, self.value.lock(rt))
+        let (opened, permit) = self.raw.open_value(raw);
+        MutexGuard::new(self, opened, self.place.open(permit))
     }
 
     /// Takes the mutex where nobody has it.
     #[inline]
-    pub fn try_lock<W: Wait>(&self, rt: &W, token: &mut R::Token) -> Option<MutexGuard<'_, R, T>>
+    pub fn try_lock(&self, token: &mut R::Token) -> Option<MutexGuard<'_, R, T>>
         requires { R.is_token_of (R.lot_of self.now) token.old }
         ensures token { R.is_token_of (R.lot_of self.now) token.new × R.stays token.old token.new }
         ensures guard { IfSome result (λ guard. lock_of guard ≡ self.now) }
         ensures path { R.walked self.now TryLock (answer_by result) token.old token.new }
     {
         let raw = self.raw.try_lock(token)?;
-        Some(self.open(rt, raw))
+        Some(self.open(raw))
     }
 
     /// Whether somebody has the mutex.
@@ -129,7 +143,7 @@ impl<R: RawMutex, T> Mutex<R, T> {
         ensures token { R.is_token_of (R.lot_of self.now) token.new × R.stays token.old token.new }
         ensures ran { MatchOption result (R.walked self.now TryLock answers.No token.old token.new) (λ answer. (found : T) × (left : T) × FnOnceReturnsAtMut F.FnOnce f found answer left) }
     {
-        let mut guard = self.try_lock(rt, token)?;
+        let mut guard = self.try_lock(token)?;
         let answer = run_on(&mut *guard, f);
         guard.unlock(rt, token);
         Some(answer)
@@ -155,7 +169,7 @@ impl<R: RawMutexTimed, T> Mutex<R, T> {
         ensures late { IfNone result (HasElapsed (C.tells clock.now) (as_nanos timeout)) }
     {
         let raw = self.raw.try_lock_for(rt, token, clock, timeout)?;
-        Some(self.open(rt, raw))
+        Some(self.open(raw))
     }
 
     /// Waits until nobody has the mutex, and takes it. None only where the clock, in nanoseconds, had come to the deadline.
@@ -174,11 +188,11 @@ impl<R: RawMutexTimed, T> Mutex<R, T> {
         ensures late { IfNone result (HasPassed (C.tells clock.now) deadline) }
     {
         let raw = self.raw.try_lock_until(rt, token, clock, deadline)?;
-        Some(self.open(rt, raw))
+        Some(self.open(raw))
     }
 }
 
-impl<R, T> Mutex<R, T> {
+impl<R: RawMutex, T> Mutex<R, T> {
     /// The raw mutex.
     #[inline]
     pub fn raw(&self) -> &R
@@ -190,15 +204,15 @@ impl<R, T> Mutex<R, T> {
     /// The value, of a mutex that nobody else can use meanwhile. It takes no step.
     #[inline]
     pub fn get_mut(&mut self) -> &mut T {
-        self.value.get_mut()
+        self.place.get_mut()
     }
 }
 
-impl<R: Drop, T> Mutex<R, T> {
+impl<R: RawMutex + Drop, T> Mutex<R, T> {
     /// The value of a mutex that nobody has. It takes no step.
     #[inline]
     pub fn into_inner(self) -> T {
-        let Mutex { raw: _, value } = self;
-        value.into_inner()
+        let Mutex { raw: _, place } = self;
+        place.into_inner()
     }
 }

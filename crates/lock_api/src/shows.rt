@@ -1,17 +1,28 @@
-//! What an open inner lock shows, as guards see it.
+//! What an open value shows, and what the lock that is taken keeps for it, as guards see them.
 ghost use Rattle.std.specs.Prelude.{◌≡◌, refl};
 ghost use Rattle.std.specs.Borrow.{Lends, sem};
-ghost use Rattle.std.specs.Sync.Mutex.{mutex_guard_value, mutex_guard_with_value};
+ghost use Rattle.value_place.specs.PermitIds.{PermitId};
+ghost use Rattle.value_place.specs.Written.{with_value};
 
 use std::ops::{Deref, DerefMut};
-use std::sync;
+use value_place::Open;
 
-/// An inner lock that is open, and shows a value.
+/// A lock that is taken, and has a permit out.
+pub trait Keeps {
+    ghost permit: { Self → PermitId };
+}
+
+/// A value that is open by a permit, and can be read.
 pub trait Shows {
     type Value;
 
+    // By which permit.
+    ghost opened_by: { Self → PermitId };
     // What it shows.
     ghost shown: { Self → Self.Value };
+    // The same, once this was written, and it is open by the same permit then.
+    ghost written: { Self → Self.Value → Self };
+    ghost stays_open: { (place : Self) (value : Self.Value) → opened_by (written place value) ≡ opened_by place };
 
     fn show(&self) -> &Self::Value
         ensures { result.now ≡ shown self.now };
@@ -19,21 +30,24 @@ pub trait Shows {
 
 /// One that may be written through.
 pub trait ShowsMut: Shows {
-    // The same inner lock, once this was written.
-    ghost written: { Self → Self.Value → Self };
-
     fn show_mut(&mut self) -> &mut Self::Value
-        ensures* writes_back { sem 𝓛 (Lends Self.row Self.Value.row self.entry result (written self.old)) }
+        ensures* writes_back { sem 𝓛 (Lends Self.row Self.Value.row self.entry result (Self.written self.old)) }
         ensures shows { result.now ≡ Self.shown self.old };
 
     // What was written is shown.
-    ghost shows_written: { (inner : Self) (value : Self.Value) → Self.shown (written inner value) ≡ value };
+    ghost shows_written: { (place : Self) (value : Self.Value) → Self.Shows.shown (Self.Shows.written place value) ≡ value };
 }
 
-impl<T> Shows for sync::MutexGuard<'_, T> {
+impl<T> Shows for Open<'_, T> {
     type Value = T;
 
-    ghost shown = { mutex_guard_value };
+    ghost opened_by = { λ place. place.id };
+
+    ghost shown = { λ place. place.value };
+
+    ghost written = { with_value };
+
+    ghost stays_open = { λ _ _. refl };
 
     #[inline]
     fn show(&self) -> &T {
@@ -41,9 +55,7 @@ impl<T> Shows for sync::MutexGuard<'_, T> {
     }
 }
 
-impl<T> ShowsMut for sync::MutexGuard<'_, T> {
-    ghost written = { mutex_guard_with_value };
-
+impl<T> ShowsMut for Open<'_, T> {
     ghost shows_written = { λ _ _. refl };
 
     #[inline]

@@ -10,10 +10,12 @@ ghost use Rattle.lot_calls.specs.declared.calls.MutexCall.TheVariants.{Lock, Loc
 ghost use Rattle.lot_calls.specs.declared.outcomes.Answer.{Answer};
 ghost use Rattle.lot_calls.specs.declared.outcomes.Answer.TheVariants as answers;
 ghost use Rattle.lock_raw.specs.Answers.{answer_by};
+ghost use Rattle.value_place.specs.PermitIds.{PermitId};
 
 use lot_base::{Clock, Fault};
 use std::sync::{Arc, Wait};
 use std::time::Duration;
+use value_place::Permit;
 
 /// A mutex without a value. Who has taken it has its guard, and spends it to give the mutex up.
 pub trait RawMutex {
@@ -23,6 +25,8 @@ pub trait RawMutex {
     type Token;
     /// The ownership of a mutex. It borrows nothing.
     type Guard;
+    /// The ownership of a mutex whose value is open.
+    type Opened;
 
     // The lot of a mutex.
     ghost lot_of: { Self → Self.Lot };
@@ -36,6 +40,11 @@ pub trait RawMutex {
     ghost is_guard_of: { Self → Self.Guard → Type 0 };
     // That a guard is of a mutex has one proof at most, so a struct may keep it as a ghost field.
     ghost guard_once: { (mutex : Self) (guard : Self.Guard) → IsProp (is_guard_of mutex guard) };
+    // Which permit opens the value that a mutex guards.
+    ghost permit_of: { Self → PermitId };
+    // An open guard is of this mutex, and that has one proof at most too.
+    ghost is_opened_of: { Self → Self.Opened → Type 0 };
+    ghost opened_once: { (mutex : Self) (opened : Self.Opened) → IsProp (is_opened_of mutex opened) };
     // Between the two states of a thread, it took the steps of this call of the mutex, to this answer.
     ghost walked: { Self → MutexCall → Answer → Self.Token → Self.Token → Type 0 };
     // Between them it gave the mutex up by this call, and took the first who waits where it saw a waiter.
@@ -80,6 +89,16 @@ pub trait RawMutex {
         requires { is_token_of (lot_of self.now) token.old }
         ensures token { is_token_of (lot_of self.now) token.new × stays token.old token.new }
         ensures seen { looked self.now result token.old token.new };
+
+    /// Takes out the permit of the value that the mutex guards. It is no step.
+    fn open_value(&self, guard: Self::Guard) -> (Self::Opened, Permit)
+        requires { is_guard_of self.now guard }
+        ensures { is_opened_of self.now result.0 × (result.1.id ≡ permit_of self.now) };
+
+    /// Lays it back.
+    fn close_value(&self, opened: Self::Opened, permit: Permit) -> Self::Guard
+        requires { is_opened_of self.now opened × (permit.id ≡ permit_of self.now) }
+        ensures { is_guard_of self.now result };
 
     /// Two guards of one mutex exclude each other: nobody ever has both, so this can't be called.
     fn has_two_guards(&self, token: &mut Self::Token, one: Self::Guard, other: Self::Guard) -> !

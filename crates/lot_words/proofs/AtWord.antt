@@ -1,10 +1,11 @@
 -- A step on a word of a lot, as the lot's table wants it.
-use Rattle.std.proofs.Common.{◌≡◌, ℕ, ◌<◌, arith, sym, subst}
+use Rattle.std.proofs.Common.{◌≡◌, ℕ, ◌<◌, List, [], ◌∷◌, ◌∙◌, ap, arith, sym, subst}
 use mathlib.Core.Option.{none}
-use Rattle.atomic_table.specs.Table.{Allows, step}
+use Rattle.atomic_table.specs.Table.{Allows, Me, step, rest}
 use Rattle.atomic_table.specs.declared.shared.Seat.{Seat}
 use Rattle.lot_words.specs.Indices.{word_index}
 use Rattle.lot_words.specs.Rule.{LotRule}
+use Rattle.value_place.specs.declared.slot.PermitSlot.{PermitSlot}
 use Rattle.lot_words.specs.Steps.{MayStep}
 use Rattle.lot_words.specs.Plays.{TakesStep, saw_set}
 use Rattle.lot_words.specs.Lots.{IsSeatOf, IsWordOf}
@@ -15,22 +16,62 @@ use Rattle.lot_base.specs.Words.{apply}
 use Rattle.lot_base.specs.declared.ops.Op.{Op}
 use Rattle.lot_base.specs.declared.ops.Op.TheVariants.{Or}
 use Rattle.lot_words.proofs.Keeps.{steps_at_word, sees_set}
+use Rattle.lot_words.proofs.PermitSteps.{opens_allowed, closes_allowed}
+use Rattle.lot_words.specs.Permits.{slot_at}
+use Rattle.lot_words.specs.Plays.{piece, opens, closes}
+use Rattle.lot_words.specs.Views.{owning}
+use Rattle.lot_words.specs.declared.owners.Owner.TheVariants.{Exclusive, Opened}
+use Rattle.lot_words.specs.declared.words.WordKind.{WordKind}
+use Rattle.lot_words.specs.declared.words.WordKind.TheVariants.{Mutex}
 use Rattle.lot_words.proofs.Indices.{rank_lt}
 
 -- by the index that was computed and the operation that was matched
-pub table_allows : {S : Type 0} (lot : LotWords) (seat : Seat S View) (word : Word) {at : ℕ} {op op' : Op} → IsSeatOf lot seat × IsWordOf lot word → MayStep word.kind (word_index word.number word.kind) op seat.me.0.owns
+pub table_allows : (lot : LotWords) (seat : Seat PermitSlot View) (word : Word) {at : ℕ} {op op' : Op} → IsSeatOf lot seat × IsWordOf lot word → MayStep word.kind (word_index word.number word.kind) op seat.me.0.owns
     → at ≡ word_index word.number word.kind → op ≡ op'
-    → IsSeatOf lot seat × (at < lot.table.shared.table_id.words) × Allows (LotRule lot.table.shared.key) lot.table.shared.table_id.slots seat.id seat.me at (apply op') (TakesStep at op' seat.me)
+    → IsSeatOf lot seat × (at < lot.table.shared.table_id.words) × Allows (LotRule lot.table.shared.key.0 lot.table.shared.key.1.family) lot.table.shared.table_id.slots seat.id seat.me at (apply op') (TakesStep at op' seat.me)
 table_allows lot seat word {at} {op} {op'} own may there same = let sized = lot.sized in
-    (own.0, omega (arith, rank_lt word.kind, sized.0, sized.1, own.1.1), steps_at_word lot.table.shared.key lot.table.shared.table_id.slots seat.id seat.me word.number word.kind at op op' same there (omega (arith, sized.1, own.1.1)) may)
+    (own.0, omega (arith, rank_lt word.kind, sized.0, sized.1, own.1.1), steps_at_word lot.table.shared.key.0 lot.table.shared.key.1.family lot.table.shared.table_id.slots seat.id seat.me word.number word.kind at op op' same there (omega (arith, sized.1, own.1.1)) may)
 
 -- a load in place of an or
-pub table_allows_load : {S : Type 0} (lot : LotWords) (seat : Seat S View) (word : Word) (bits : ℕ) {at : ℕ} → IsSeatOf lot seat × IsWordOf lot word → MayStep word.kind (word_index word.number word.kind) (Or bits) seat.me.0.owns
+pub table_allows_load : (lot : LotWords) (seat : Seat PermitSlot View) (word : Word) (bits : ℕ) {at : ℕ} → IsSeatOf lot seat × IsWordOf lot word → MayStep word.kind (word_index word.number word.kind) (Or bits) seat.me.0.owns
     → at ≡ word_index word.number word.kind
-    → IsSeatOf lot seat × (at < lot.table.shared.table_id.words) × Allows (LotRule lot.table.shared.key) lot.table.shared.table_id.slots seat.id seat.me at (λ n. n) (saw_set bits (step lot.table.shared.table_id.slots at 0 0 none) seat.me)
-table_allows_load {S} lot seat word bits {at} own may there = let sized = lot.sized in (
+    → IsSeatOf lot seat × (at < lot.table.shared.table_id.words) × Allows (LotRule lot.table.shared.key.0 lot.table.shared.key.1.family) lot.table.shared.table_id.slots seat.id seat.me at (λ n. n) (saw_set bits (step lot.table.shared.table_id.slots at 0 0 none) seat.me)
+table_allows_load lot seat word bits {at} own may there = let sized = lot.sized in (
   own.0,
   omega (arith, rank_lt word.kind, sized.0, sized.1, own.1.1),
-  subst (λ (i : ℕ). Allows (LotRule lot.table.shared.key) lot.table.shared.table_id.slots seat.id seat.me i (λ n. n) (saw_set bits (step lot.table.shared.table_id.slots i 0 0 none) seat.me)) (sym there)
-      (sees_set lot.table.shared.key lot.table.shared.table_id.slots seat.id seat.me word.number word.kind bits (omega (arith, sized.1, own.1.1)) may),
+  subst (λ (i : ℕ). Allows (LotRule lot.table.shared.key.0 lot.table.shared.key.1.family) lot.table.shared.table_id.slots seat.id seat.me i (λ n. n) (saw_set bits (step lot.table.shared.table_id.slots i 0 0 none) seat.me)) (sym there)
+      (sees_set lot.table.shared.key.0 lot.table.shared.key.1.family lot.table.shared.table_id.slots seat.id seat.me word.number word.kind bits (omega (arith, sized.1, own.1.1)) may),
 )
+
+-- the index of a mutex
+abbrev pub at_mutex : Word → ℕ
+at_mutex word = word_index word.number Mutex
+
+mutex_index : (word : Word) (at : ℕ) → word.kind ≡ Mutex → at ≡ word_index word.number word.kind → at ≡ at_mutex word
+mutex_index word at is there = there ∙ ap (λ (k : WordKind). word_index word.number k) is
+
+-- a load with which the owner of a mutex takes its permit out
+pub table_opens : (lot : LotWords) (seat : Seat PermitSlot View) (word : Word) (family at : ℕ) → family ≡ lot.table.shared.key.1.family → IsSeatOf lot seat × IsWordOf lot word → word.kind ≡ Mutex
+    → seat.me.0 ≡ piece (owning (word_index word.number word.kind) Exclusive) → at ≡ word_index word.number word.kind
+    → IsSeatOf lot seat × (at < lot.table.shared.table_id.words) × Allows (LotRule lot.table.shared.key.0 lot.table.shared.key.1.family) lot.table.shared.table_id.slots seat.id seat.me at (λ n. n) (opens family (step lot.table.shared.table_id.slots at 0 0 none) seat.me)
+table_opens lot seat word family at same own is owns there = let sized = lot.sized in (
+  own.0,
+  omega (arith, rank_lt word.kind, sized.0, sized.1, own.1.1),
+  subst (λ (f : ℕ). Allows (LotRule lot.table.shared.key.0 lot.table.shared.key.1.family) lot.table.shared.table_id.slots seat.id seat.me at (λ n. n) (opens f (step lot.table.shared.table_id.slots at 0 0 none) seat.me)) (sym same)
+      (subst (λ (i : ℕ). Allows (LotRule lot.table.shared.key.0 lot.table.shared.key.1.family) lot.table.shared.table_id.slots seat.id seat.me i (λ n. n) (opens lot.table.shared.key.1.family (step lot.table.shared.table_id.slots i 0 0 none) seat.me)) (sym (mutex_index word at is there))
+      (opens_allowed lot.table.shared.key.0 lot.table.shared.key.1.family lot.table.shared.table_id.slots seat.id seat.me word.number (omega (arith, sized.1, own.1.1)) (owns ∙ ap (λ (k : WordKind). piece (owning (word_index word.number k) Exclusive)) is))),
+)
+
+-- and one with which it lays it back
+pub table_closes : (lot : LotWords) (seat : Seat PermitSlot View) (word : Word) (at : ℕ) → IsSeatOf lot seat × IsWordOf lot word → word.kind ≡ Mutex
+    → seat.me ≡ (piece (owning (word_index word.number word.kind) Opened), (word_index word.number word.kind, slot_at lot.table.shared.key.1.family (word_index word.number word.kind)) ∷ []) → at ≡ word_index word.number word.kind
+    → IsSeatOf lot seat × (at < lot.table.shared.table_id.words) × Allows (LotRule lot.table.shared.key.0 lot.table.shared.key.1.family) lot.table.shared.table_id.slots seat.id seat.me at (λ n. n) (closes (step lot.table.shared.table_id.slots at 0 0 none) seat.me)
+table_closes lot seat word at own is held there = let sized = lot.sized in
+    let family : ℕ = lot.table.shared.key.1.family in
+    let me : seat.me ≡ (piece (owning (at_mutex word) Opened), (at_mutex word, slot_at family (at_mutex word)) ∷ []) = held ∙ ap (λ (k : WordKind). (piece (owning (word_index word.number k) Opened), (word_index word.number k, slot_at family (word_index word.number k)) ∷ [])) is in (
+      own.0,
+      omega (arith, rank_lt word.kind, sized.0, sized.1, own.1.1),
+      subst (λ (i : ℕ). Allows (LotRule lot.table.shared.key.0 family) lot.table.shared.table_id.slots seat.id seat.me i (λ n. n) (closes (step lot.table.shared.table_id.slots i 0 0 none) seat.me)) (sym (mutex_index word at is there))
+          (closes_allowed lot.table.shared.key.0 family lot.table.shared.table_id.slots seat.id seat.me word.number (omega (arith, sized.1, own.1.1)) (ap (λ (m : Me PermitSlot View). m.0) me)
+          (ap (λ (m : Me PermitSlot View). m.1) me ∙ ap (λ (m : Me PermitSlot View). (at_mutex word, slot_at family (at_mutex word)) ∷ rest m.1) (sym me))),
+    )

@@ -1,5 +1,5 @@
 -- Each step keeps the rule.
-use Rattle.std.proofs.Common.{◌≡◌, ℕ, ◌+◌, ◌<◌, ◌≤◌, eqb, cond, ◌≢◌, ◌⊎◌, true, List, [], ◌∷◌, ◌++◌, inl, inr, length, get_or, set, sym, refl, ap, ◌∙◌, subst, ⊎_elim, arith, length-set, get_or-set_same, get_or-set_other, eq-eqb, ne_eqb, zero, suc, bit_or}
+use Rattle.std.proofs.Common.{◌≡◌, ℕ, ◌+◌, ◌<◌, ◌≤◌, eqb, cond, ◌≢◌, ◌⊎◌, Bool, true, false, ◌%◌, List, [], ◌∷◌, ◌++◌, inl, inr, length, get_or, set, sym, refl, ap, ◌∙◌, subst, ⊎_elim, arith, length-set, get_or-set_same, get_or-set_other, eq-eqb, ne_eqb, zero, suc, bit_or}
 use mathlib.Core.Logic.{dite}
 use mathlib.Core.Option.{some, none, some-injective}
 use Rattle.std.proofs.lemmas.List.{set-get_or}
@@ -10,12 +10,13 @@ use Rattle.atomic_table.specs.Table.{State, Me, step, Act, keeps, Valid, carried
 use Rattle.atomic_table.proofs.Lists.{at_set, at_snoc}
 use Rattle.lot_words.specs.Indices.{word_index, counter, mutex_of_count}
 use Rattle.lot_words.specs.Views.{view, blank, total, total_below, owned, owning, owning_with, named, counted, steps_at, drew}
-use Rattle.lot_words.specs.Codes.{Owners, Codes, Shows, IsCountCode, everyone, exclusive}
+use Rattle.lot_words.specs.Codes.{Owners, Codes, Shows, IsCountCode, everyone, exclusive, opened}
 use Rattle.lot_words.specs.Rule.{LotRule}
+use Rattle.value_place.specs.declared.slot.PermitSlot.{PermitSlot}
 use Rattle.lot_base.specs.Words.{apply}
 use Rattle.lot_base.specs.declared.ops.Op.{Op}
 use Rattle.lot_base.specs.declared.ops.Op.TheVariants.{Load, Or, Exchange}
-use Rattle.lot_words.specs.Steps.{has, without, HasAll, trade, CountAgrees, MayTie, MayStep, owns_after_step, listed, after_step}
+use Rattle.lot_words.specs.Steps.{has, without, HasAll, trade, trading, CountAgrees, MayTie, MayStep, owns_after_step, listed, after_step}
 use Rattle.lot_words.specs.Plays.{TakesStepOf, TakesStep, saw_set, looks, draws, numbered, left_over, piece, takes_in}
 use Rattle.lot_words.specs.declared.owners.Ownership.{Ownership}
 use Rattle.lot_words.specs.declared.views.WordStep.{WordStep}
@@ -39,16 +40,17 @@ Tied Condvar number n views = Shows (λ mutex. 0 < total (steps_at (word_index m
 Tied Count number n views = IsCountCode n × (n ≡ total (λ (v : View). counted (mutex_of_count (word_index number Count)) v.owns) views)
 Tied _ number n views = Unit {0}
 
-module _ {S : Type 0} (words : ℕ) (s : State S View) (o : LotRule words s) where
+module _ (words family : ℕ) (s : State PermitSlot View) (o : LotRule words family s) where
   -- the law of all steps on words: what is owned of this word changes, and its code with that
   pub turned : (number : ℕ) (kind : WordKind) (j m : ℕ) (v w : View) → get_elem? s.views j ≡ some v → number < words
       → ((r : ℕ) → r ≢ word_index number kind → (weight : Owner → ℕ) → owned r weight w.owns ≡ owned r weight v.owns)
       → ((after : Owners) → ((weight : Owner → ℕ) → after weight + owned (word_index number kind) weight v.owns ≡ named (word_index number kind) weight s.views + owned (word_index number kind) weight w.owns) → Codes kind m after)
       → Tied kind number m (set s.views j w)
       → ((r : ℕ) → (kind ≡ Count → r ≢ mutex_of_count (word_index number kind)) → counted r w.owns ≡ counted r v.owns)
+      → (kind ≡ Mutex → owned (word_index number kind) opened w.owns ≡ owned (word_index number kind) opened v.owns)
       → w.drawn ≡ v.drawn → w.saw ≡ v.saw → 0 < steps_at (word_index number kind) w → ((r : ℕ) → steps_at r v ≤ steps_at r w)
-      → LotRule words (record { words = set s.words (word_index number kind) m; homes = s.homes; views = set s.views j w })
-  turned number kind j m v w me below others codes tied same-counts same-drawn same-saw stepped more =
+      → LotRule words family (record { words = set s.words (word_index number kind) m; homes = s.homes; views = set s.views j w })
+  turned number kind j m v w me below others codes tied same-counts same-open same-drawn same-saw stepped more =
       let i : ℕ = word_index number kind in let size = o.size in let enough = o.enough in
       let near : i < length s.words = omega (arith, rank_lt kind) in
       let vs = set s.views j w in
@@ -87,6 +89,11 @@ module _ {S : Type 0} (words : ℕ) (s : State S View) (o : LotRule words s) whe
         drawn = λ weight. omega (arith, total-set (drew weight) s.views j v w me, o.drawn weight, ap (λ d. drew weight (record { steps = []; owns = []; drawn = d; saw = 0 })) same-drawn, ap (total_below weight) count-here);
         enough = omega (arith, count-here);
         saw = λ q u e. ⊎_elim (λ t. let old = o.saw j v me in omega (arith, ap (λ (y : View). y.saw) t.1)) (λ t. let old = o.saw q u t.1 in omega arith) (at_set s.views j q w u e);
+        homes = o.homes ∙ sym (length-set s.words i m);
+        permits = λ number' below' none. o.permits number' below' (dite (ℕ_discrete (word_index number' Mutex) i)
+            (λ e. let same : owned i opened w.owns ≡ owned i opened v.owns = same-open (sym (index-kind number' number Mutex kind e)) in
+            subst (λ (r : ℕ). named r opened s.views ≡ 0) (sym e) (let gone : named i opened vs ≡ 0 = subst (λ (r : ℕ). named r opened vs ≡ 0) e none in omega (arith, sum i opened)))
+            (λ ne. omega (arith, sum (word_index number' Mutex) opened, others (word_index number' Mutex) ne opened)));
       }
 
   -- the views change, and what they name together does not
@@ -94,7 +101,7 @@ module _ {S : Type 0} (words : ℕ) (s : State S View) (o : LotRule words s) whe
       → ((r : ℕ) → total (λ (u : View). counted r u.owns) vs ≡ total (λ (u : View). counted r u.owns) s.views)
       → ((r : ℕ) → total (steps_at r) vs ≡ total (steps_at r) s.views) → ((weight : ℕ → ℕ) → total (drew weight) vs ≡ total (drew weight) s.views)
       → ((q : ℕ) (u : View) → get_elem? vs q ≡ some u → u.saw ≤ get_or s.words counter 0)
-      → LotRule words (record { words = s.words; homes = s.homes; views = vs })
+      → LotRule words family (record { words = s.words; homes = s.homes; views = vs })
   reseated vs same-named same-counts same-steps same-drawn saw = record {
     size = o.size;
     coded = λ number' kind' below. subst (Codes kind' (get_or s.words (word_index number' kind') 0)) (λ k weight. sym (same-named (word_index number' kind') weight) k) (o.coded number' kind' below);
@@ -105,6 +112,8 @@ module _ {S : Type 0} (words : ℕ) (s : State S View) (o : LotRule words s) whe
     drawn = λ weight. same-drawn weight ∙ o.drawn weight;
     enough = o.enough;
     saw = saw;
+    homes = o.homes;
+    permits = λ number' below none. o.permits number' below (sym (same-named (word_index number' Mutex) opened) ∙ none);
   }
 
 -- a weight of views stays as a seat's view is cut in two
@@ -112,8 +121,8 @@ cut : (f : View → ℕ) (views : List View) (j : ℕ) (v w u : View) → get_el
 cut f views j v w u me parts = omega (arith, total-append f (set views j w) (u ∷ []), total-set f views j v w me)
 
 -- one seat more, which knows nothing
-pub seats_another : {S : Type 0} (words id : ℕ) (v : View) → Splits {S = S} (LotRule words) id v v blank
-seats_another words id v s o me = reseated words s o (set s.views id v ++ blank ∷ [])
+pub seats_another : (words family id : ℕ) (v : View) → Splits (LotRule words family) id v v blank
+seats_another words family id v s o me = reseated words family s o (set s.views id v ++ blank ∷ [])
     (λ r weight. cut (λ (u : View). owned r weight u.owns) s.views id v v blank me (omega arith))
     (λ r. cut (λ (u : View). counted r u.owns) s.views id v v blank me (omega arith))
     (λ r. cut (steps_at r) s.views id v v blank me (omega arith))
@@ -148,7 +157,7 @@ number_case : {P : Type 0} (number : ℕ) → (number ≡ 0 → P) → ((before 
 number_case zero z p = z refl
 number_case (suc n) z p = p n (omega arith)
 
-module _ {S : Type 0} (words : ℕ) (s : State S View) (o : LotRule words s) where
+module _ (words family : ℕ) (s : State PermitSlot View) (o : LotRule words family s) where
   -- a mutex that somebody owns is a word of the lot, has one owner, and somebody has stepped on it
   owned_mutex : (mutex : ℕ) → 0 < named (word_index mutex Mutex) exclusive s.views → (mutex < words) × (named (word_index mutex Mutex) everyone s.views ≡ 1) × (0 < total (steps_at (word_index mutex Mutex)) s.views)
   owned_mutex mutex one = let there = o.owned (word_index mutex Mutex) exclusive one in let there₁ = there.1 in let size = o.size in
@@ -205,37 +214,49 @@ module _ {S : Type 0} (words : ℕ) (s : State S View) (o : LotRule words s) whe
   tied_after number RwLock op id v at below tie more = tt
   tied_after number Once op id v at below tie more = tt
 
+-- no step takes a permit out, or lays it back
+nobody_opens : (kind : WordKind) → kind ≡ Mutex → (at : ℕ) (op : Op) (found : ℕ) (owns : List Ownership)
+    → (total opened (trade kind at op found owns).gives ≡ 0) × (total opened (trade kind at op found owns).gets ≡ 0)
+nobody_opens kind is at op found owns = subst (λ (k : WordKind). (total opened (trade k at op found owns).gives ≡ 0) × (total opened (trade k at op found owns).gets ≡ 0)) (sym is)
+    (by_tests (eqb (found % 2) (apply op found % 2)) (eqb (found % 2) 0))
+  where
+    by_tests : (a b : Bool) → let t = cond a (trading [] []) (cond b (trading [] (Exclusive ∷ [])) (trading (Exclusive ∷ []) [])) in (total opened t.gives ≡ 0) × (total opened t.gets ≡ 0)
+    by_tests true b = (refl, refl)
+    by_tests false true = (refl, refl)
+    by_tests false false = (refl, refl)
+
 -- the law of all steps on words: one that the seat may take keeps the rule
-pub steps : {S : Type 0} (words slots id : ℕ) (me : Me S View) (number : ℕ) (kind : WordKind) (op : Op) → number < words → MayStep kind (word_index number kind) op me.0.owns
-    → Allows (LotRule words) slots id me (word_index number kind) (apply op) (TakesStep (word_index number kind) op me)
-steps {S} words slots id me number kind op below may s o wide at fits =
+pub steps : (words family slots id : ℕ) (me : Me PermitSlot View) (number : ℕ) (kind : WordKind) (op : Op) → number < words → MayStep kind (word_index number kind) op me.0.owns
+    → Allows (LotRule words family) slots id me (word_index number kind) (apply op) (TakesStep (word_index number kind) op me)
+steps words family slots id me number kind op below may s o wide at fits =
     let i : ℕ = word_index number kind in let n : ℕ = get_or s.words i 0 in let m : ℕ = apply op n in
     let mine : (weight : Owner → ℕ) → owned i weight me.0.owns ≤ named i weight s.views = λ weight. term_le (λ (u : View). owned i weight u.owns) s.views id me.0 at in
     let code = o.coded number kind below in
-    let agrees = agreed words s o number kind id me.0 at below in
+    let agrees = agreed words family s o number kind id me.0 at below in
     let ok = may n (λ weight. named i weight s.views) fits code mine agrees in
     let so = stepped_so kind i op n me.0.owns ok.0 ok.2 in let w = after_step kind i op n me.0 in
     let more : (r : ℕ) → steps_at r me.0 ≤ steps_at r w = λ r. omega (arith, steps_more me.0 i n r op) in
-    let then = λ (k : WordKind). (w : View) × (a : Act S) × Valid s.homes me.1 a × LotRule words (stepped s i m id me.1 w a) × TakesStepOf k i op me n (w, carried_after me.1 a) in
+    let then = λ (k : WordKind). (w : View) × (a : Act PermitSlot) × Valid s.homes me.1 a × LotRule words family (stepped s i m id me.1 w a) × TakesStepOf k i op me n (w, carried_after me.1 a) in
     subst then (sym (word_kind_at-index number kind)) (
       w,
       keeps,
       tt,
-      turned words s o number kind id m me.0 w at below
+      turned words family s o number kind id m me.0 w at below
           so.elsewhere
           (λ after same. ok.1 after (λ weight. omega (arith, same weight, so.here weight)))
-          (tied_after words s o number kind op id me.0 at below ok.2 more)
+          (tied_after words family s o number kind op id me.0 at below ok.2 more)
           so.counts
+          (λ is. let here = so.here opened in let none = nobody_opens kind is i op n me.0.owns in omega arith)
           refl refl (omega (arith, steps_more me.0 i n i op, cond_same i i 1 refl)) more,
       (refl, ((λ weight. named i weight s.views), code, mine, agrees)),
     )
 
 -- the same, by the index that was computed and the operation that was matched
-pub steps_at_word : {S : Type 0} (words slots id : ℕ) (me : Me S View) (number : ℕ) (kind : WordKind) (at : ℕ) (op op' : Op) → op ≡ op' → at ≡ word_index number kind → number < words → MayStep kind (word_index number kind) op me.0.owns
-    → Allows (LotRule words) slots id me at (apply op') (TakesStep at op' me)
-steps_at_word words slots id me number kind at op op' same there below may =
+pub steps_at_word : (words family slots id : ℕ) (me : Me PermitSlot View) (number : ℕ) (kind : WordKind) (at : ℕ) (op op' : Op) → op ≡ op' → at ≡ word_index number kind → number < words → MayStep kind (word_index number kind) op me.0.owns
+    → Allows (LotRule words family) slots id me at (apply op') (TakesStep at op' me)
+steps_at_word words family slots id me number kind at op op' same there below may =
     let may' : MayStep kind (word_index number kind) op' me.0.owns = subst (λ (x : Op). MayStep kind (word_index number kind) x me.0.owns) same may in
-    subst (λ (i : ℕ). Allows (LotRule words) slots id me i (apply op') (TakesStep i op' me)) (sym there) (steps words slots id me number kind op' below may')
+    subst (λ (i : ℕ). Allows (LotRule words family) slots id me i (apply op') (TakesStep i op' me)) (sym there) (steps words family slots id me number kind op' below may')
 
 set_elem : {A : Type 0} (xs : List A) (j : ℕ) (x : A) → get_elem? xs j ≡ some x → set xs j x ≡ xs
 set_elem [] j x e = refl
@@ -243,25 +264,25 @@ set_elem (y ∷ ys) zero x e = ap (λ z. z ∷ ys) (sym (some-injective y x e))
 set_elem (y ∷ ys) (suc j) x e = ap (λ zs. y ∷ zs) (set_elem ys j x e)
 
 -- a load that finds bits set is an or with these, and any other is no step
-pub sees_set : {S : Type 0} (words slots id : ℕ) (me : Me S View) (number : ℕ) (kind : WordKind) (bits : ℕ) → number < words → MayStep kind (word_index number kind) (Or bits) me.0.owns
-    → Allows (LotRule words) slots id me (word_index number kind) (λ n. n) (saw_set bits (step slots (word_index number kind) 0 0 none) me)
-sees_set {S} words slots id me number kind bits below may s o wide at fits =
+pub sees_set : (words family slots id : ℕ) (me : Me PermitSlot View) (number : ℕ) (kind : WordKind) (bits : ℕ) → number < words → MayStep kind (word_index number kind) (Or bits) me.0.owns
+    → Allows (LotRule words family) slots id me (word_index number kind) (λ n. n) (saw_set bits (step slots (word_index number kind) 0 0 none) me)
+sees_set words family slots id me number kind bits below may s o wide at fits =
     let i : ℕ = word_index number kind in let n : ℕ = get_or s.words i 0 in
     dite (ℕ_discrete (bit_or n bits) n)
-    (λ e. let t = steps words slots id me number kind (Or bits) below may s o wide at fits in
-    (t.0, t.1, t.2, subst (λ (m : ℕ). LotRule words (stepped s i m id me.1 t.0 t.1)) e t.3, ((λ _. t.4), λ ne. absurd (ne e))))
+    (λ e. let t = steps words family slots id me number kind (Or bits) below may s o wide at fits in
+    (t.0, t.1, t.2, subst (λ (m : ℕ). LotRule words family (stepped s i m id me.1 t.0 t.1)) e t.3, ((λ _. t.4), λ ne. absurd (ne e))))
     (λ ne. (
       me.0,
       keeps,
       tt,
-      subst (λ (xs : List ℕ). LotRule words (record { words = xs; homes = s.homes; views = set s.views id me.0 })) (sym (set-get_or s.words i 0))
-          (subst (λ (vs : List View). LotRule words (record { words = s.words; homes = s.homes; views = vs })) (sym (set_elem s.views id me.0 at)) o),
+      subst (λ (xs : List ℕ). LotRule words family (record { words = xs; homes = s.homes; views = set s.views id me.0 })) (sym (set-get_or s.words i 0))
+          (subst (λ (vs : List View). LotRule words family (record { words = s.words; homes = s.homes; views = vs })) (sym (set_elem s.views id me.0 at)) o),
       ((λ e. absurd (ne e)), λ _. refl),
     ))
 
 -- one ownership goes to a seat of its own
-pub splits_off : {S : Type 0} (words id : ℕ) (v : View) (x : Ownership) → has x v.owns ≡ true → Splits {S = S} (LotRule words) id v (left_over x v) (piece x)
-splits_off words id v x there s o me = reseated words s o (set s.views id (left_over x v) ++ piece x ∷ [])
+pub splits_off : (words family id : ℕ) (v : View) (x : Ownership) → has x v.owns ≡ true → Splits (LotRule words family) id v (left_over x v) (piece x)
+splits_off words family id v x there s o me = reseated words family s o (set s.views id (left_over x v) ++ piece x ∷ [])
     (λ r weight. cut (λ (u : View). owned r weight u.owns) s.views id v (left_over x v) (piece x) me (omega (arith, total-without (λ (y : Ownership). cond (eqb y.at r) (weight y.owner) 0) x v.owns there)))
     (λ r. cut (λ (u : View). counted r u.owns) s.views id v (left_over x v) (piece x) me (omega (arith, total-without (λ (y : Ownership). cond (eqb y.at r) y.count 0) x v.owns there)))
     (λ r. cut (steps_at r) s.views id v (left_over x v) (piece x) me (omega arith))
@@ -273,9 +294,9 @@ paste : (f : View → ℕ) (views : List View) (j k : ℕ) (v w b z : View) → 
 paste f views j k v w b z me them parts = omega (arith, total-set f (set views j b) k w z them, total-set f views j v b me)
 
 -- an ownership comes back
-pub takes_back : {S : Type 0} (words id : ℕ) (v : View) (other : ℕ) (x : Ownership) → Joins {S = S} (LotRule words) id v other (piece x) (takes_in v (piece x)) blank
-takes_back words id v other x s o me apart them = let b = takes_in v (piece x) in
-    reseated words s o (set (set s.views id b) other blank)
+pub takes_back : (words family id : ℕ) (v : View) (other : ℕ) (x : Ownership) → Joins (LotRule words family) id v other (piece x) (takes_in v (piece x)) blank
+takes_back words family id v other x s o me apart them = let b = takes_in v (piece x) in
+    reseated words family s o (set (set s.views id b) other blank)
     (λ r weight. paste (λ (u : View). owned r weight u.owns) s.views id other v (piece x) b blank me them (omega arith))
     (λ r. paste (λ (u : View). counted r u.owns) s.views id other v (piece x) b blank me them (omega arith))
     (λ r. paste (steps_at r) s.views id other v (piece x) b blank me them (omega arith))
@@ -283,15 +304,15 @@ takes_back words id v other x s o me apart them = let b = takes_in v (piece x) i
     (λ q u e. ⊎_elim (λ t. omega (arith, ap (λ (y : View). y.saw) t.1)) (λ t. ⊎_elim (λ t₂. let old = o.saw id v me in omega (arith, ap (λ (y : View). y.saw) t₂.1)) (λ t₂. o.saw q u t₂.1) (at_set s.views id q b u t.1)) (at_set (set s.views id b) other q blank u e))
 
 -- the same, by the view that a right has
-pub takes_back_from : {S : Type 0} (words id : ℕ) (v : View) (other : ℕ) (x : Ownership) (w : View) → w ≡ piece x → Joins {S = S} (LotRule words) id v other w (takes_in v w) blank
-takes_back_from {S} words id v other x w is = subst (λ (u : View). Joins {S = S} (LotRule words) id v other u (takes_in v u) blank) (sym is) (takes_back words id v other x)
+pub takes_back_from : (words family id : ℕ) (v : View) (other : ℕ) (x : Ownership) (w : View) → w ≡ piece x → Joins (LotRule words family) id v other w (takes_in v w) blank
+takes_back_from words family id v other x w is = subst (λ (u : View). Joins (LotRule words family) id v other u (takes_in v u) blank) (sym is) (takes_back words family id v other x)
 
 -- the law of steps on the counter, which only adds to it
-count_turned : {S : Type 0} (words : ℕ) (s : State S View) (o : LotRule words s) (j m : ℕ) (v w : View) → get_elem? s.views j ≡ some v → get_or s.words counter 0 ≤ m → m ≤ words
+count_turned : (words family : ℕ) (s : State PermitSlot View) (o : LotRule words family s) (j m : ℕ) (v w : View) → get_elem? s.views j ≡ some v → get_or s.words counter 0 ≤ m → m ≤ words
     → w.owns ≡ v.owns → w.saw ≤ m → ((r : ℕ) → 0 < r → steps_at r w ≡ steps_at r v)
     → ((weight : ℕ → ℕ) → drew weight w + total_below weight (get_or s.words counter 0) ≡ drew weight v + total_below weight m)
-    → LotRule words (record { words = set s.words counter m; homes = s.homes; views = set s.views j w })
-count_turned words s o j m v w me up fits same-owns saw same-steps same-drawn =
+    → LotRule words family (record { words = set s.words counter m; homes = s.homes; views = set s.views j w })
+count_turned words family s o j m v w me up fits same-owns saw same-steps same-drawn =
     let size = o.size in let vs = set s.views j w in
     let here : get_or (set s.words counter m) counter 0 ≡ m = get_or-set_same s.words counter m 0 (omega arith) in
     let there : (r : ℕ) → 0 < r → get_or (set s.words counter m) r 0 ≡ get_or s.words r 0 = λ r h. get_or-set_other s.words counter r m 0 (λ e. omega arith) in
@@ -310,15 +331,17 @@ count_turned words s o j m v w me up fits same-owns saw same-steps same-drawn =
       drawn = λ weight. omega (arith, total-set (drew weight) s.views j v w me, o.drawn weight, same-drawn weight, ap (total_below weight) here);
       enough = omega arith;
       saw = λ q u e. ⊎_elim (λ t. omega (arith, ap (λ (y : View). y.saw) t.1)) (λ t. let old = o.saw q u t.1 in omega arith) (at_set s.views j q w u e);
+      homes = o.homes ∙ sym (length-set s.words counter m);
+      permits = λ number' below none. o.permits number' below (same-named (word_index number' Mutex) opened ∙ none);
     }
 
 at_counter : (v : View) (op : Op) (found r : ℕ) → 0 < r → total (λ (step : WordStep). cond (eqb step.at r) 1 0) (listed v counter op found) ≡ steps_at r v
 at_counter v op found r above = omega (arith, steps_more v counter found r op, cond_other counter r 1 (λ e. omega arith))
 
 -- a look at the counter
-pub look : {S : Type 0} (words slots id : ℕ) (me : Me S View) → Allows (LotRule words) slots id me counter (λ n. n) (looks (step slots counter 0 0 none) me)
-look words slots id me s o wide at fits = let n : ℕ = get_or s.words counter 0 in let w = view (listed me.0 counter Load n) me.0.owns me.0.drawn n in
-    (w, keeps, tt, count_turned words s o id n me.0 w at (omega arith) o.enough refl (omega arith) (λ r h. at_counter me.0 Load n r h) (λ weight. refl), refl)
+pub look : (words family slots id : ℕ) (me : Me PermitSlot View) → Allows (LotRule words family) slots id me counter (λ n. n) (looks (step slots counter 0 0 none) me)
+look words family slots id me s o wide at fits = let n : ℕ = get_or s.words counter 0 in let w = view (listed me.0 counter Load n) me.0.owns me.0.drawn n in
+    (w, keeps, tt, count_turned words family s o id n me.0 w at (omega arith) o.enough refl (omega arith) (λ r h. at_counter me.0 Load n r h) (λ weight. refl), refl)
 
 -- the numbers that are drawn together
 total_below-numbered : (weight : ℕ → ℕ) (n : ℕ) (kinds : List WordKind) → total (λ (word : Drawn). weight word.number) (numbered n kinds) + total_below weight n ≡ total_below weight (n + length kinds)
@@ -326,18 +349,18 @@ total_below-numbered weight n [] = let e : n ≡ n + 0 = omega arith in omega (a
 total_below-numbered weight n (kind ∷ kinds) = omega (arith, total_below-suc weight n, total_below-numbered weight (n + 1) kinds, ap (total_below weight) (let e : n + 1 + length kinds ≡ n + suc (length kinds) = omega arith in e))
 
 -- a draw, where the seat has seen the counter
-pub draw : {S : Type 0} (words slots id : ℕ) (me : Me S View) (kinds : List WordKind) (seen : ℕ) → me.0.saw ≡ seen → seen + length kinds ≤ words
-    → Allows (LotRule words) slots id me counter (λ n. either (eqb n seen) (seen + length kinds) n) (draws kinds (step slots counter seen (seen + length kinds) none) me)
-draw {S} words slots id me kinds seen saw room s o wide at fits =
+pub draw : (words family slots id : ℕ) (me : Me PermitSlot View) (kinds : List WordKind) (seen : ℕ) → me.0.saw ≡ seen → seen + length kinds ≤ words
+    → Allows (LotRule words family) slots id me counter (λ n. either (eqb n seen) (seen + length kinds) n) (draws kinds (step slots counter seen (seen + length kinds) none) me)
+draw words family slots id me kinds seen saw room s o wide at fits =
     let n : ℕ = get_or s.words counter 0 in let new : ℕ = seen + length kinds in let op = Exchange seen new in
-    let Goal : ℕ → Type 0 = λ (y : ℕ). (w : View) × (a : Act S) × Valid s.homes me.1 a × LotRule words (stepped s counter y id me.1 w a) × draws kinds (step slots counter seen new none) me n (w, carried_after me.1 a) in
+    let Goal : ℕ → Type 0 = λ (y : ℕ). (w : View) × (a : Act PermitSlot) × Valid s.homes me.1 a × LotRule words family (stepped s counter y id me.1 w a) × draws kinds (step slots counter seen new none) me n (w, carried_after me.1 a) in
     dite (ℕ_discrete n seen)
     (λ e. let w = view (listed me.0 counter op n) me.0.owns (numbered n kinds ++ me.0.drawn) new in
     subst (λ b. Goal (either b new n)) (sym (eq-eqb n seen e)) (
       w,
       keeps,
       tt,
-      count_turned words s o id new me.0 w at (omega arith) room refl (omega arith) (λ r h. at_counter me.0 op n r h)
+      count_turned words family s o id new me.0 w at (omega arith) room refl (omega arith) (λ r h. at_counter me.0 op n r h)
           (λ weight. omega (arith, total-append (λ (word : Drawn). weight word.number) (numbered n kinds) me.0.drawn, total_below-numbered weight n kinds, ap (λ (k : ℕ). total_below weight (k + length kinds)) e)),
       ((λ _. refl), λ ne. absurd (ne e)),
     ))
@@ -346,12 +369,12 @@ draw {S} words slots id me kinds seen saw room s o wide at fits =
       w,
       keeps,
       tt,
-      count_turned words s o id n me.0 w at (omega arith) o.enough refl (omega arith) (λ r h. at_counter me.0 op n r h) (λ weight. refl),
+      count_turned words family s o id n me.0 w at (omega arith) o.enough refl (omega arith) (λ r h. at_counter me.0 op n r h) (λ weight. refl),
       ((λ e. absurd (ne e)), λ _. (omega (arith, o.saw id me.0 at), refl)),
     ))
 
 -- the same, by the count of words that was computed
-pub draw_so_many : {S : Type 0} (words slots id : ℕ) (me : Me S View) (kinds : List WordKind) (seen needed : ℕ) → length kinds ≡ needed → me.0.saw ≡ seen → seen + needed ≤ words
-    → Allows (LotRule words) slots id me counter (λ n. either (eqb n seen) (seen + needed) n) (draws kinds (step slots counter seen (seen + needed) none) me)
-draw_so_many words slots id me kinds seen needed e saw room = let Goal : ℕ → Type 0 = λ (k : ℕ). seen + k ≤ words → Allows (LotRule words) slots id me counter (λ n. either (eqb n seen) (seen + k) n) (draws kinds (step slots counter seen (seen + k) none) me) in
-    subst Goal e (draw words slots id me kinds seen saw) room
+pub draw_so_many : (words family slots id : ℕ) (me : Me PermitSlot View) (kinds : List WordKind) (seen needed : ℕ) → length kinds ≡ needed → me.0.saw ≡ seen → seen + needed ≤ words
+    → Allows (LotRule words family) slots id me counter (λ n. either (eqb n seen) (seen + needed) n) (draws kinds (step slots counter seen (seen + needed) none) me)
+draw_so_many words family slots id me kinds seen needed e saw room = let Goal : ℕ → Type 0 = λ (k : ℕ). seen + k ≤ words → Allows (LotRule words family) slots id me counter (λ n. either (eqb n seen) (seen + k) n) (draws kinds (step slots counter seen (seen + k) none) me) in
+    subst Goal e (draw words family slots id me kinds seen saw) room

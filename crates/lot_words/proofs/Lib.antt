@@ -4,6 +4,7 @@ mod Indices
 pub mod Trades
 mod Counts
 pub mod Keeps
+pub mod PermitSteps
 pub mod MutexSteps
 pub mod RwLockSteps
 pub mod RwLockKinds

@@ -21,19 +21,19 @@ below_once n (suc c) h = dite (ℕ_discrete c n)
     (λ e. omega (arith, below_none n c (omega arith), cond_same c n 1 e))
     (λ ne. omega (arith, below_once n c (omega arith), cond_other c n 1 ne))
 
-pub drawn_once : {S : Type 0} → DrawnOnce S
-drawn_once words s rule number = let all = rule.drawn (λ k. cond (eqb k number) 1 0) in let enough = rule.enough in
+pub drawn_once : DrawnOnce
+drawn_once words family s rule number = let all = rule.drawn (λ k. cond (eqb k number) 1 0) in let enough = rule.enough in
     ((λ below. (omega (arith, below_once number _ below), omega arith)), λ above. omega (arith, below_none number _ above))
 
-pub never_falls : {S : Type 0} → NeverFalls S
-never_falls words s rule = rule.saw
+pub never_falls : NeverFalls
+never_falls words family s rule = rule.saw
 
-pub untouched_is_0 : {S : Type 0} → UntouchedIs0 S
-untouched_is_0 words s rule = rule.untouched
+pub untouched_is_0 : UntouchedIs0
+untouched_is_0 words family s rule = rule.untouched
 
-pub shown_was_stepped : {S : Type 0} → ShownWasStepped S
-shown_was_stepped words s rule = rule.shows
+pub shown_was_stepped : ShownWasStepped
+shown_was_stepped words family s rule = rule.shows
 
-pub counts_an_owner : {S : Type 0} → CountsAnOwner S
-counts_an_owner words s rule number below = let here = rule.counts (number + 1) below in let same = here.1 in let there : mutex_of_count (word_index (number + 1) Count) ≡ word_index number Mutex = omega arith in
+pub counts_an_owner : CountsAnOwner
+counts_an_owner words family s rule number below = let here = rule.counts (number + 1) below in let same = here.1 in let there : mutex_of_count (word_index (number + 1) Count) ≡ word_index number Mutex = omega arith in
     (here.0, λ none. omega (arith, ap (λ (r : ℕ). total (λ (v : View). counted r v.owns) s.views) there, no_counts (word_index number Mutex) s.views none))

@@ -6,12 +6,12 @@ use Rattle.std.proofs.lemmas.Bool.{eqb-true, false≢true}
 use Rattle.lot_words.specs.Views.{total, owned, owning, owning_with, counted}
 use Rattle.lot_words.specs.Steps.{Trade, owner_rank, is_this, has, without, HasAll, without_all, owns_after, says_instead}
 use Rattle.lot_words.specs.declared.owners.Owner.{Owner}
-use Rattle.lot_words.specs.declared.owners.Owner.TheVariants.{Exclusive, Pending, Upgrading, Upgradable, Shared, Runner, Witness}
+use Rattle.lot_words.specs.declared.owners.Owner.TheVariants.{Exclusive, Opened, Pending, Upgrading, Upgradable, Shared, Runner, Witness}
 use Rattle.lot_words.specs.declared.owners.Ownership.{Ownership}
 use Rattle.lot_words.proofs.Totals.{total-append, total-map, total-same, total-none, cond_same, cond_other}
 
 owner_of : ℕ → Owner
-owner_of r = cond (eqb r 0) Exclusive (cond (eqb r 1) Pending (cond (eqb r 2) Upgradable (cond (eqb r 3) Shared (cond (eqb r 4) Runner (cond (eqb r 5) Witness Upgrading)))))
+owner_of r = cond (eqb r 0) Exclusive (cond (eqb r 1) Pending (cond (eqb r 2) Upgradable (cond (eqb r 3) Shared (cond (eqb r 4) Runner (cond (eqb r 5) Witness (cond (eqb r 6) Upgrading Opened))))))
 
 owner_of-rank : (o : Owner) → owner_of (owner_rank o) ≡ o
 unfolding owner_of
@@ -22,6 +22,7 @@ owner_of-rank Shared = refl
 owner_of-rank Runner = refl
 owner_of-rank Witness = refl
 owner_of-rank Upgrading = refl
+owner_of-rank Opened = refl
 
 both : (a b : Bool) → (a && b) ≡ true → (a ≡ true) × (b ≡ true)
 both true b e = (refl, e)

@@ -1,6 +1,7 @@
 pub mod Indices
 pub mod Views
 pub mod Codes
+pub mod Permits
 pub mod Rule
 pub mod Steps
 pub mod Plays

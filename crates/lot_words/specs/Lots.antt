@@ -4,10 +4,18 @@ use Rattle.lot_words.specs.declared.table.LotWords.{LotWords}
 use Rattle.lot_words.specs.declared.words.Word.{Word}
 use Rattle.atomic_table.specs.declared.shared.Seat.{Seat}
 use Rattle.lot_words.specs.declared.views.View.{View}
+use Rattle.lot_words.specs.Indices.{word_index}
+use Rattle.lot_words.specs.Permits.{permit_at}
+use Rattle.value_place.specs.PermitIds.{PermitId}
+use Rattle.value_place.specs.declared.slot.PermitSlot.{PermitSlot}
 
-abbrev pub IsSeatOf : {S : Type 0} → LotWords → Seat S View → Type 0
+abbrev pub IsSeatOf : LotWords → Seat PermitSlot View → Type 0
 IsSeatOf lot seat = seat.table_id ≡ lot.table.shared.table_id
 
 -- of the lot that drew it, by its tag
 abbrev pub IsWordOf : LotWords → Word → Type 0
 IsWordOf lot word = (word.tag ≡ lot.tag) × (word.number < lot.count)
+
+-- the permit of the value that a mutex guards
+abbrev pub permit_of : LotWords → Word → PermitId
+permit_of lot word = permit_at lot.table.shared.key.1.family (word_index word.number word.kind)

@@ -1,10 +1,13 @@
 -- What each step tells who takes it: of the step, the seat before, the value found and the seat after.
 use Rattle.std.specs.Prelude.{◌≡◌, ◌≢◌, bit_or, ℕ, ◌+◌, ◌<◌, List, [], ◌∷◌, ◌++◌}
-use Rattle.atomic_table.specs.Table.{Me, Step}
+use Rattle.atomic_table.specs.Table.{Me, Step, rest}
 use Rattle.lot_base.specs.declared.ops.Op.{Op}
 use Rattle.lot_base.specs.declared.ops.Op.TheVariants.{Load, Store, Swap, Add, Sub, Or, And, Exchange}
 use Rattle.lot_words.specs.Indices.{counter, word_kind_at}
-use Rattle.lot_words.specs.Views.{view}
+use Rattle.lot_words.specs.Views.{view, owning}
+use Rattle.lot_words.specs.Permits.{slot_at}
+use Rattle.lot_words.specs.declared.owners.Owner.TheVariants.{Exclusive, Opened}
+use Rattle.value_place.specs.declared.slot.PermitSlot.{PermitSlot}
 use Rattle.lot_words.specs.Steps.{CodesWith, listed, after_step, without}
 use Rattle.lot_words.specs.declared.owners.Ownership.{Ownership}
 use Rattle.lot_words.specs.declared.views.Drawn.{Drawn}
@@ -81,3 +84,11 @@ piece x = view [] (x ∷ []) [] 0
 -- a view takes in what another owns
 abbrev pub takes_in : View → View → View
 takes_in v w = view v.steps (w.owns ++ v.owns) v.drawn v.saw
+
+-- who owns a mutex, and nothing else, takes its permit out, or lays it back
+abbrev pub opens : ℕ → Play PermitSlot
+opens family st me found after =
+    after ≡ (piece (owning st.word Opened), (st.word, slot_at family st.word) ∷ me.1)
+
+abbrev pub closes : Play PermitSlot
+closes st me found after = after ≡ (piece (owning st.word Exclusive), rest me.1)

@@ -1,11 +1,11 @@
 -- What a right names.
-use Rattle.std.specs.Prelude.{◌≡◌, ◌⊎◌, ℕ, true}
+use Rattle.std.specs.Prelude.{◌≡◌, ◌⊎◌, ◌/◌, ◌==◌, ℕ, List, cond, map, true}
 use Rattle.lot_words.specs.Indices.{word_index}
 use Rattle.lot_words.specs.Views.{owning, owning_with}
 use Rattle.lot_words.specs.Steps.{has}
 use Rattle.lot_words.specs.Plays.{piece}
 use Rattle.lot_words.specs.declared.owners.Owner.{Owner}
-use Rattle.lot_words.specs.declared.owners.Owner.TheVariants.{Exclusive, Pending, Upgrading, Upgradable, Shared, Runner, Witness}
+use Rattle.lot_words.specs.declared.owners.Owner.TheVariants.{Exclusive, Opened, Pending, Upgrading, Upgradable, Shared, Runner, Witness}
 use Rattle.lot_words.specs.declared.owners.Ownership.{Ownership}
 use Rattle.lot_words.specs.declared.views.View.{View}
 use Rattle.lot_words.specs.declared.words.Word.{Word}
@@ -24,6 +24,7 @@ owner_for wants.TheVariants.CallOnce = Runner
 -- what an owner wanted. Who waits for the last readers wants to own alone
 abbrev pub want_of : Owner → wants.Want
 want_of Exclusive = wants.TheVariants.Exclusive
+want_of Opened = wants.TheVariants.Exclusive
 want_of Pending = wants.TheVariants.Exclusive
 want_of Upgrading = wants.TheVariants.Exclusive
 want_of Upgradable = wants.TheVariants.Upgradable
@@ -35,6 +36,18 @@ want_of Witness = wants.TheVariants.Wait
 abbrev pub MayHand : WordKind → wants.Want → Owner → Type 0
 MayHand RwLock wants.TheVariants.Exclusive owner = (owner ≡ Exclusive) ⊎ (owner ≡ Pending)
 MayHand _ want owner = owner ≡ owner_for want
+
+-- how who is handed a lock owns it, whose word is left at this value: a mutex alone, and a reader-writer lock by what it wants,
+-- where a writer waits for the readers that are left
+abbrev pub owner_given : WordKind → ℕ → wants.Want → Owner
+owner_given Mutex left want = Exclusive
+owner_given RwLock left wants.TheVariants.Shared = Shared
+owner_given RwLock left wants.TheVariants.Upgradable = Upgradable
+owner_given RwLock left _ = cond (left / 16 == 0) Exclusive Pending
+owner_given _ left want = owner_for want
+
+abbrev pub owners_given : WordKind → ℕ → List wants.Want → List Owner
+owners_given kind left wants = map (owner_given kind left) wants
 
 abbrev pub named_by : Word → Owner → Ownership
 named_by word owner = owning (word_index word.number word.kind) owner

@@ -5,14 +5,16 @@ use lib.ListN.{get_elem?}
 use Rattle.atomic_table.specs.Table.{State}
 use Rattle.lot_words.specs.Indices.{counter, word_index, table_size, mutex_of_count}
 use Rattle.lot_words.specs.Views.{total, total_below, named, counted, steps_at, drew}
-use Rattle.lot_words.specs.Codes.{Codes, Shows, IsCountCode}
+use Rattle.lot_words.specs.Codes.{Codes, Shows, IsCountCode, opened}
+use Rattle.lot_words.specs.Permits.{slot_at}
+use Rattle.value_place.specs.declared.slot.PermitSlot.{PermitSlot}
 use Rattle.lot_words.specs.declared.owners.Owner.{Owner}
 use Rattle.lot_words.specs.declared.views.View.{View}
 use Rattle.lot_words.specs.declared.words.WordKind.{WordKind}
 use Rattle.lot_words.specs.declared.words.WordKind.TheVariants.{Mutex, Condvar, Count}
 
--- of a lot of so many words
-pub record LotRule {S : Type 0} (words : ℕ) (s : State S View) : Type 0 where
+-- of a lot of so many words, whose permits come from one source
+pub record LotRule (words family : ℕ) (s : State PermitSlot View) : Type 0 where
   pub size : length s.words ≡ table_size words
   -- each lock word is the code of the owners that all views together name
   pub coded : (number : ℕ) (kind : WordKind) → number < words
@@ -34,3 +36,7 @@ pub record LotRule {S : Type 0} (words : ℕ) (s : State S View) : Type 0 where
   pub enough : slice_index s.words counter ≤ words
   -- the counter never falls
   pub saw : (seat : ℕ) (v : View) → get_elem? s.views seat ≡ some v → v.saw ≤ slice_index s.words counter
+  -- each word has a slot, and that of a mutex holds its permit, but while its value is open
+  pub homes : length s.homes ≡ length s.words
+  pub permits : (number : ℕ) → number < words → named (word_index number Mutex) opened s.views ≡ 0
+      → get_elem? s.homes (word_index number Mutex) ≡ some (some (slot_at family (word_index number Mutex)))

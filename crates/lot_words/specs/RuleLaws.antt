@@ -7,6 +7,7 @@ use Rattle.lot_words.specs.Indices.{counter, word_index}
 use Rattle.lot_words.specs.Views.{total, drew, steps_at, named}
 use Rattle.lot_words.specs.Codes.{everyone, IsCountCode, Shows}
 use Rattle.lot_words.specs.Rule.{LotRule}
+use Rattle.value_place.specs.declared.slot.PermitSlot.{PermitSlot}
 use Rattle.lot_words.specs.declared.views.View.{View}
 use Rattle.lot_words.specs.declared.words.WordKind.TheVariants.{Mutex, Condvar, Count}
 
@@ -15,28 +16,28 @@ abbrev pub times_drawn : ℕ → List View → ℕ
 times_drawn number views = total (drew (λ k. cond (k == number) 1 0)) views
 
 -- the numbers below the counter were drawn, each once, and each is a word of the lot. No other number was drawn
-abbrev pub DrawnOnce : Type 0 → Type 0
-DrawnOnce S = (words : ℕ) (s : State S View) → LotRule words s → (number : ℕ) →
+abbrev pub DrawnOnce : Type 0
+DrawnOnce = (words family : ℕ) (s : State PermitSlot View) → LotRule words family s → (number : ℕ) →
     (number < slice_index s.words counter → (times_drawn number s.views ≡ 1) × (number < words))
     × (slice_index s.words counter ≤ number → times_drawn number s.views ≡ 0)
 
 -- the counter never falls below what a view saw of it
-abbrev pub NeverFalls : Type 0 → Type 0
-NeverFalls S = (words : ℕ) (s : State S View) → LotRule words s → (seat : ℕ) (v : View)
+abbrev pub NeverFalls : Type 0
+NeverFalls = (words family : ℕ) (s : State PermitSlot View) → LotRule words family s → (seat : ℕ) (v : View)
     → get_elem? s.views seat ≡ some v → v.saw ≤ slice_index s.words counter
 
 -- a word on which nobody stepped is 0, drawn or not
-abbrev pub UntouchedIs0 : Type 0 → Type 0
-UntouchedIs0 S = (words : ℕ) (s : State S View) → LotRule words s → (at : ℕ) → 0 < at → at < length s.words
+abbrev pub UntouchedIs0 : Type 0
+UntouchedIs0 = (words family : ℕ) (s : State PermitSlot View) → LotRule words family s → (at : ℕ) → 0 < at → at < length s.words
     → total (steps_at at) s.views ≡ 0 → slice_index s.words at ≡ 0
 
 -- a condition variable shows no mutex, or one on which somebody stepped
-abbrev pub ShownWasStepped : Type 0 → Type 0
-ShownWasStepped S = (words : ℕ) (s : State S View) → LotRule words s → (number : ℕ) → number < words →
+abbrev pub ShownWasStepped : Type 0
+ShownWasStepped = (words family : ℕ) (s : State PermitSlot View) → LotRule words family s → (number : ℕ) → number < words →
     Shows (λ mutex. 0 < total (steps_at (word_index mutex Mutex)) s.views) (slice_index s.words (word_index number Condvar))
 
 -- a count word is 0, or a thread with how often it locked the mutex before, and 0 where nobody owns that
-abbrev pub CountsAnOwner : Type 0 → Type 0
-CountsAnOwner S = (words : ℕ) (s : State S View) → LotRule words s → (number : ℕ) → number + 1 < words →
+abbrev pub CountsAnOwner : Type 0
+CountsAnOwner = (words family : ℕ) (s : State PermitSlot View) → LotRule words family s → (number : ℕ) → number + 1 < words →
     IsCountCode (slice_index s.words (word_index (number + 1) Count))
     × (named (word_index number Mutex) everyone s.views ≡ 0 → slice_index s.words (word_index (number + 1) Count) ≡ 0)

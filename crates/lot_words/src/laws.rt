@@ -38,26 +38,26 @@ pub fn count_may_step()
 {}
 
 /// The numbers below the counter were drawn, each once, and each is a word of the lot. No other number was drawn.
-pub fn numbers_are_drawn_once<S>()
-    ensures { DrawnOnce S }
+pub fn numbers_are_drawn_once()
+    ensures { DrawnOnce }
 {}
 
 /// The counter of drawn words never falls below what a thread saw of it.
-pub fn counter_never_falls<S>()
-    ensures { NeverFalls S }
+pub fn counter_never_falls()
+    ensures { NeverFalls }
 {}
 
 /// A word on which nobody stepped is 0, drawn or not.
-pub fn untouched_word_is_0<S>()
-    ensures { UntouchedIs0 S }
+pub fn untouched_word_is_0()
+    ensures { UntouchedIs0 }
 {}
 
 /// A condition variable shows no mutex, or one on which somebody stepped.
-pub fn shown_mutex_was_stepped_on<S>()
-    ensures { ShownWasStepped S }
+pub fn shown_mutex_was_stepped_on()
+    ensures { ShownWasStepped }
 {}
 
 /// A count word is 0, or a thread with how often it locked the mutex before. It is 0 where nobody owns that mutex.
-pub fn count_is_of_an_owner<S>()
-    ensures { CountsAnOwner S }
+pub fn count_is_of_an_owner()
+    ensures { CountsAnOwner }
 {}

@@ -4,6 +4,7 @@
 pub mod draws;
 pub mod laws;
 pub mod owners;
+pub mod permits;
 pub mod plays;
 pub mod rights;
 pub mod table;
@@ -11,6 +12,7 @@ pub mod views;
 pub mod words;
 
 pub use owners::{Owner, Ownership};
+pub use permits::OpenRight;
 pub use rights::Right;
 pub use table::{LotWords, Seat};
 pub use views::{Drawn, View, WordStep};

@@ -9,6 +9,8 @@ use lot_base::Want;
 pub enum Owner {
     /// A mutex or a reader-writer lock, alone.
     Exclusive,
+    /// A mutex, alone, whose value is open: its permit is out.
+    Opened,
     /// A reader-writer lock, alone once its last readers have left.
     Pending,
     /// The same, of who upgrades: it has its upgradable ownership again where it gives up.
@@ -24,7 +26,7 @@ pub enum Owner {
 }
 
 impl Owner {
-    ghost use Rattle.lot_words.specs.Rights.{MayHand, owner_for, want_of};
+    ghost use Rattle.lot_words.specs.Rights.{MayHand, owner_for, owner_given, want_of};
 
     /// How who has what was wanted owns the word.
     #[inline]
@@ -40,13 +42,30 @@ impl Owner {
         }
     }
 
+    /// How who is handed a lock owns it, whose word is left at this value: a mutex alone, and a reader-writer lock by what it
+    /// wants, where a writer waits for the readers that are left.
+    pub fn given(kind: WordKind, left: u64, want: Want) -> Owner
+        ensures { result ≡ owner_given kind left want }
+    {
+        match (kind, want) {
+            (WordKind::Mutex, _) => Owner::Exclusive,
+            (WordKind::RwLock, Want::Shared) => Owner::Shared,
+            (WordKind::RwLock, Want::Upgradable) => Owner::Upgradable,
+            (WordKind::RwLock, _) if left / 16 == 0 => Owner::Exclusive,
+            (WordKind::RwLock, _) => Owner::Pending,
+            _ => Owner::of_want(want),
+        }
+    }
+
     /// What such an owner wanted.
     #[inline]
     pub fn want(self) -> Want
         ensures { result ≡ want_of self }
     {
         match self {
-            Owner::Exclusive | Owner::Pending | Owner::Upgrading => Want::Exclusive,
+            Owner::Exclusive | Owner::Opened | Owner::Pending | Owner::Upgrading => {
+                Want::Exclusive
+            }
             Owner::Upgradable => Want::Upgradable,
             Owner::Shared => Want::Shared,
             Owner::Runner => Want::CallOnce,

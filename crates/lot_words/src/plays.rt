@@ -2,7 +2,7 @@
 ghost use Rattle.std.specs.Prelude.{ℕ, [], List};
 ghost use Rattle.lot_words.specs.Rule.{LotRule};
 ghost use Rattle.lot_words.specs.Views.{blank};
-ghost use Rattle.lot_words.specs.Plays.{loads, stores, swaps, adds, subs, ors, saw_set, ands, exchanges, looks, draws, left_over, piece, takes_in};
+ghost use Rattle.lot_words.specs.Plays.{loads, stores, swaps, adds, subs, ors, saw_set, ands, exchanges, looks, draws, left_over, piece, takes_in, opens, closes};
 ghost use Rattle.lot_words.specs.declared.owners.Ownership.{Ownership};
 ghost use Rattle.lot_words.specs.declared.owners.Owner.TheVariants.{Exclusive};
 ghost use Rattle.lot_words.specs.declared.words.WordKind.{WordKind};
@@ -10,11 +10,13 @@ ghost use Rattle.lot_words.specs.declared.words.WordKind.{WordKind};
 use crate::views::View;
 use atomic_table::{Join, Play, Split, TableRule};
 use std::marker::{Brand, PhantomData};
+use value_place::{PermitSlot, Permits};
 
 pub struct OwnershipRule;
 
-impl<S> TableRule<S, View, usize> for OwnershipRule {
-    ghost holds = { LotRule };
+// It goes by how many words there are, and by where the permits of values come from.
+impl TableRule<PermitSlot, View, (usize, Permits)> for OwnershipRule {
+    ghost holds = { λ key. LotRule key.0 key.1.family };
 
     ghost first = { λ _. blank };
 }
@@ -144,4 +146,29 @@ impl Split<View> for SeatsAnother {
     ghost left = { λ v. v };
 
     ghost right = { λ _. blank };
+}
+
+/// Where permits come from, picked at each call.
+pub trait Family {
+    ghost family: { ℕ };
+}
+
+impl Family for Brand {
+    ghost family = { 0 };
+}
+
+/// A permit is taken out of the slot beside its mutex.
+pub struct Opens<F: Family> {
+    family: PhantomData<F>,
+}
+
+impl<F: Family> Play<PermitSlot, View> for Opens<F> {
+    ghost then = { opens F.family };
+}
+
+/// It is laid back.
+pub struct Closes;
+
+impl Play<PermitSlot, View> for Closes {
+    ghost then = { closes };
 }

@@ -1,6 +1,7 @@
 //! Ownerships that are split off a seat.
 ghost use Rattle.std.specs.Prelude.{◌≡◌, ◌↔◌, IsTrue, [], true};
 ghost use Rattle.lot_words.specs.Rights.{named_by, piece_of, want_of};
+ghost use Rattle.lot_words.specs.declared.owners.Owner.TheVariants.{Exclusive};
 
 use crate::owners::Owner;
 use crate::plays::{Piece, SplitsOff, TakesIn};
@@ -21,6 +22,31 @@ pub struct Right {
 
 impl Right {
     ghost use Rattle.lot_words.specs.RightsOf.{IsFor};
+
+    // What a mutex is owned by.
+    #[inline]
+    pub(crate) fn into_seat(self) -> (Seat, Word)
+        ensures { (result.0 ≡ self.seat) × (result.1 ≡ self.word) }
+    {
+        let Right {
+            seat,
+            word,
+            owner: _,
+        } = self;
+        (seat, word)
+    }
+
+    #[inline]
+    pub(crate) fn of_seat(seat: Seat, word: Word) -> Right
+        requires { seat.me ≡ (piece_of word Exclusive, []) }
+        ensures { (result.seat ≡ seat) × (result.word ≡ word) × (result.owner ≡ Exclusive) }
+    {
+        Right {
+            seat,
+            word,
+            owner: Owner::Exclusive,
+        }
+    }
 
     #[inline]
     pub fn word(&self) -> Word

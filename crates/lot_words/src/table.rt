@@ -8,37 +8,25 @@ use crate::plays::{
 };
 use crate::views::View;
 use crate::words::Word;
-use atomic_table::{Badge, Table};
+use atomic_table::Table;
 use lot_base::Op;
 use std::alloc::{AllocError, Global};
-use std::marker::{Brand, Model};
+use std::marker::Brand;
 use std::sync::atomic::AtomicU32;
 use std::sync::atomic::Ordering::SeqCst;
-
-/// What may lie beside a word: nothing as yet.
-pub struct Permit {
-    pub ghost number: { ℕ },
-}
-
-impl Model for Permit {
-    ghost use Rattle.std.specs.Borrow.{ftrue};
-
-    ghost also_owns = { λ _. ftrue };
-}
-
-pub type Slot = Option<Badge<Permit>>;
+use value_place::{PermitSlot, Permits};
 
 /// What a thread steps with. It takes no memory, and its view is what the thread has done and owns.
-pub type Seat = atomic_table::Seat<Slot, View>;
+pub type Seat = atomic_table::Seat<PermitSlot, View>;
 
 /// The words of a lot, and the counter of those that were drawn.
 #[derive(Drop)]
 pub struct LotWords {
-    pub(crate) table: Table<Slot, View, usize, OwnershipRule, Global>,
+    pub(crate) table: Table<PermitSlot, View, (usize, Permits), OwnershipRule, Global>,
     pub(crate) count: usize,
     // What its words carry.
     pub(crate) tag: u32,
-    ghost sized: { (table.shared.table_id.words ≡ table_size count) × (table.shared.key ≡ count) × (count ≤ most_words) },
+    ghost sized: { (table.shared.table_id.words ≡ table_size count) × (table.shared.key.0 ≡ count) × (count ≤ most_words) },
 }
 
 // Of what an atomic holds nothing is known, so nobody can show that two lots have one tag.
@@ -57,10 +45,18 @@ impl LotWords {
         requires { (0 < count) × (count ≤ most_words) }
         ensures { IfOk result (λ made. (made.0.count ≡ count) × IsSeatOf made.0 made.1 × (made.1.me ≡ (blank, []))) }
     {
-        let zeros = Vec::from_elem(alloc, 0u64, 8 * (count + 1))?;
-        let (table, seat) = Table::vacant(alloc, zeros.as_slice(), count, &count)?;
+        let size = 8 * (count + 1);
+        let zeros = Vec::from_elem(alloc, 0u64, size)?;
+        let mut permits = Permits::new();
+        let mut slots = Vec::new(alloc);
+        while slots.len() < size {
+            slots.push(permits.draw().into_slot())?;
+        }
         let tag = new_tag();
-        Ok((LotWords { table, count, tag }, seat))
+        match Table::new(alloc, zeros.as_slice(), slots, &(count, permits)) {
+            Ok((table, seat)) => Ok((LotWords { table, count, tag }, seat)),
+            Err(_) => Err(AllocError),
+        }
     }
 
     /// A seat for one more thread.

@@ -27,12 +27,12 @@ use Rattle.lot_world.specs.Refinement.{lock_state, taken_at}
 use Rattle.lot_world.specs.MutexDeeds.{acts}
 use Rattle.lot_world.specs.MutexDeeds as deeds
 use Rattle.lot_world.specs.Stations.{Station, station, station_at, nowhere, doing_on}
-use Rattle.lot_world.specs.SitesOf.{AllNeeded, HasRoom, AreOrdinary, SameNumbers, IsSteady, Follows, Goes, Stands, CallsMutex, after_acts, site_of, rules_at, key_of, stood_in, carried_at}
+use Rattle.lot_world.specs.SitesOf.{AllNeeded, HasRoom, AreOrdinary, SameNumbers, IsSteady, Follows, Goes, Stands, CallsMutex, Waits, AreWaiting, after_acts, site_of, rules_at, key_of, stood_in, carried_at}
 use Rattle.lot_world.proofs.Counts.{without_absent}
 use Rattle.lot_world.proofs.Glue.{Parts, base_at, parts_at, lock_in, seen_in, same, differ, put_places, put_here, put_other, IsOf, doing_elsewhere, taken_elsewhere, inside_is, station_here, station_elsewhere, LetGo, lets_nobody}
 use Rattle.lot_world.proofs.KindsKept.{operated_kinds}
 use Rattle.lot_world.proofs.OneStep.{Steps, steps_by, same_word, noted, full_then, fills_by, acts_keep, acts_limited, same_filled, queued_behind, queued_without}
-use Rattle.lot_world.proofs.StandsKept.{other_key, other_line, same_line}
+use Rattle.lot_world.proofs.StandsKept.{other_key, other_line, same_line, part_else, waiting_same, waiting_behind, waiting_without}
 use Rattle.lot_world.proofs.StandsMoved.{still, goes_in, goes_out, line_changes}
 
 -- what another lock sees of each place
@@ -169,11 +169,11 @@ module _ (w : State) (l t n : ℕ) (threads : n ≡ length w.places) (there : l 
 
 -- ---------------------------------------------------------------- lines
 
-stood_one : (n : Line) → stood_in (Some n) n ≡ 1
+pub stood_one : (n : Line) → stood_in (Some n) n ≡ 1
 stood_one Main = refl
 stood_one Second = refl
 
-stood_other : (n o : Line) → o ≢ n → stood_in (Some n) o ≡ 0
+pub stood_other : (n o : Line) → o ≢ n → stood_in (Some n) o ≡ 0
 stood_other Main Main ne = absurd (ne refl)
 stood_other Main Second ne = refl
 stood_other Second Main ne = refl
@@ -351,12 +351,22 @@ module _ (w : State) (t l : ℕ) (steady : IsSteady w) (own : IsOf l (place_at w
             (word_by_lines (queue_at w (2 * l)) q (putting (place_at w) t p2))
 
     line_goes : (ds : List Deed) → (has_readers r.sort ≡ true → NoHandOff ds) → Steps r l (parts_at w l) (with_line (parts_at w l) m q) (place_at w) t p2 ds → ((u : ℕ) → u ≢ t → times u q ≡ times u (queue_at w (key_of l m))) → ((n : Line) → times t (queue_at v (key_of l n)) ≡ stood_in (station p2).stands n)
-        → (to : Option Line) → station p2 ≡ record (station (place_at w t)) { stands = to } → Goes w v l (acts t ds)
-    line_goes ds plain steps counts own_count to e = record {
+        → (to : Option Line) (wanted : Option Want) → station p2 ≡ record (station (place_at w t)) { stands = to; waits = wanted } → ((n : Line) → n ≢ m → stood_in to n ≡ 0) → AreWaiting (putting (place_at w) t p2) l m q → Goes w v l (acts t ds)
+    line_goes ds plain steps counts own_count to wanted e to_here lined = record {
       follows = line_follows ds plain steps;
       stands = line_changes w v steady.stands (λ k i. (get_or (el i) k (unlocked kind.TheVariants.Mutex)).kind) l t own p2 of fits (places_put v ep) m (λ key. ap (λ (xs : List (Option ℕ)). get_or xs key None) es) elsewhere
-          (λ u ne. ap (times u) here ∙ counts u ne) own_count (ap (λ (x : Station). x.inside) e) (ap (λ (x : Station). x.carries) e) (ap (λ (x : Station). x.hand) e);
+          (λ u ne. ap (times u) here ∙ counts u ne) own_count waits_now (ap (λ (x : Station). x.inside) e) (ap (λ (x : Station). x.carries) e) (ap (λ (x : Station). x.hand) e);
     }
+      where
+        waits_now : Waits (putting (place_at w) t p2) (queue_at v)
+        waits_now k n = elim (cases_eq k l) [
+          | inl f ↦ rw f (elim (same_line n m) [
+            | inl g ↦ rw (g, here) lined
+            | inr ng ↦ waiting_same (place_at w) (putting (place_at w) t p2) l n (queue_at v (key_of l n)) (subst (AreWaiting (place_at w) l n) (sym (elsewhere (key_of l n) (other_line l m n ng))) (steady.stands.waits l n))
+                (λ u g. part_else (λ y. y.waits) l (place_at w) t p2 own of u l (λ h i. let a : times t (queue_at v (key_of l n)) ≡ 0 = own_count n ∙ ap (λ (y : Station). stood_in y.stands n) e ∙ to_here n ng in let b : 1 ≤ times t (queue_at v (key_of l n)) = subst (λ j. 1 ≤ times j (queue_at v (key_of l n))) h g in omega arith))
+          ])
+          | inr ne ↦ waiting_same (place_at w) (putting (place_at w) t p2) k n (queue_at v (key_of k n)) (subst (AreWaiting (place_at w) k n) (sym (elsewhere (key_of k n) (other_key l k m n ne))) (steady.stands.waits k n)) (λ u g. part_else (λ y. y.waits) l (place_at w) t p2 own of u k (λ h i. ne i))
+        ]
 
   -- how often it stands in a line
   stood : (k : ℕ) (n : Line) → times t (queue_at w (key_of k n)) ≡ stood_in (station_at (place_at w t) k).stands n
@@ -386,12 +396,17 @@ module _ (w : State) (t l : ℕ) (steady : IsSteady w) (own : IsOf l (place_at w
     | inr odd ↦ let k : 2 * (key / 2) + 1 ≡ key = omega arith in subst P k (each (key / 2) Second)
   ]
 
+  -- the others in a line, where it isn't
+  others_wait : (m : Line) → (1 ≤ times t (queue_at w (key_of l m)) → ⊥) → AreWaiting (putting (place_at w) t p2) l m (queue_at w (key_of l m))
+  others_wait m out = waiting_same (place_at w) (putting (place_at w) t p2) l m (queue_at w (key_of l m)) (steady.stands.waits l m) (λ u g. part_else (λ y. y.waits) l (place_at w) t p2 own of u l (λ h i. out (subst (λ j. 1 ≤ times j (queue_at w (key_of l m))) h g)))
+
   -- it stands behind the last of a line
   pub park_goes : (m : Line) (x : Want) (ds : List Deed) → (has_readers r.sort ≡ true → NoHandOff ds) → key_of l m < length w.queues → (station (place_at w t)).stands ≡ None → Steps r l (parts_at w l) (with_line (parts_at w l) m (queue_at w (key_of l m) ++ waiter (key_of l m) t x ∷ [])) (place_at w) t p2 ds
-      → station p2 ≡ record (station (place_at w t)) { stands = Some m } → Goes w (put (record w { queues = queues_with_last w.queues (key_of l m) t x }) t p2) l (acts t ds)
+      → station p2 ≡ record (station (place_at w t)) { stands = Some m; waits = Some x } → Goes w (put (record w { queues = queues_with_last w.queues (key_of l m) t x }) t p2) l (acts t ds)
   park_goes m x ds plain line nowhere steps e = line_goes m v behind refl refl refl refl line_now others ds plain steps
       (λ u ne. let a : ◌≡◌ {A = ℕ} (if t == u then 1 else 0) 0 = ap (λ (b : Bool). if b then 1 else 0) (differ t u (λ h. ne (sym h))) in let b : times u behind ≡ times u (queue_at w (key_of l m)) + (if t == u then 1 else 0) = times_append u (key_of l m) t x (queue_at w (key_of l m)) in omega arith)
-      (λ n. own_count n (same_line n m) ∙ ap (λ (y : Station). stood_in y.stands n) (sym e)) (Some m) e
+      (λ n. own_count n (same_line n m) ∙ ap (λ (y : Station). stood_in y.stands n) (sym e)) (Some m) (Some x) e (stood_other m)
+      (waiting_behind (putting (place_at w) t p2) l m (queue_at w (key_of l m)) (waiter (key_of l m) t x) (others_wait m (λ g. let a : times t (queue_at w (key_of l m)) ≡ 0 = absent nowhere l m in omega arith)) (refl, ap (λ (y : Place). (station_at y l).waits) (put_here (place_at w) t p2) ∙ ap (λ (y : Station). y.waits) (station_here l p2 of ∙ e)))
     where
       v : State
       v = put (record w { queues = queues_with_last w.queues (key_of l m) t x }) t p2
@@ -414,10 +429,14 @@ module _ (w : State) (t l : ℕ) (steady : IsSteady w) (own : IsOf l (place_at w
 
   -- it leaves the line in which it stands
   pub remove_goes : (m : Line) (ds : List Deed) → (has_readers r.sort ≡ true → NoHandOff ds) → (station (place_at w t)).stands ≡ Some m → Steps r l (parts_at w l) (with_line (parts_at w l) m (without t (queue_at w (key_of l m)))) (place_at w) t p2 ds
-      → station p2 ≡ record (station (place_at w t)) { stands = None } → Goes w (put (record w { queues = queues_without w.queues t }) t p2) l (acts t ds)
+      → station p2 ≡ record (station (place_at w t)) { stands = None; waits = None } → Goes w (put (record w { queues = queues_without w.queues t }) t p2) l (acts t ds)
   remove_goes m ds plain stands steps e = line_goes m v (without t (queue_at w (key_of l m))) refl refl refl refl (get_or-map (without t) w.queues (key_of l m) []) others ds plain steps
-      (λ u ne. times_without u t (queue_at w (key_of l m)) ne) (λ n. own_count n (same_line n m) ∙ ap (λ (y : Station). stood_in y.stands n) (sym e)) None e
+      (λ u ne. times_without u t (queue_at w (key_of l m)) ne) (λ n. own_count n (same_line n m) ∙ ap (λ (y : Station). stood_in y.stands n) (sym e)) None None e (λ n ne. refl) lined
     where
+      lined : AreWaiting (putting (place_at w) t p2) l m (without t (queue_at w (key_of l m)))
+      lined = waiting_same (place_at w) (putting (place_at w) t p2) l m (without t (queue_at w (key_of l m))) (waiting_without (place_at w) l m t (queue_at w (key_of l m)) (steady.stands.waits l m))
+          (λ u g. part_else (λ y. y.waits) l (place_at w) t p2 own of u l (λ h i. let a : times t (without t (queue_at w (key_of l m))) ≡ 0 = times_gone t (queue_at w (key_of l m)) in let b : 1 ≤ times t (without t (queue_at w (key_of l m))) = subst (λ j. 1 ≤ times j (without t (queue_at w (key_of l m)))) h g in omega arith))
+
       v : State
       v = put (record w { queues = queues_without w.queues t }) t p2
 

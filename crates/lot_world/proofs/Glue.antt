@@ -22,7 +22,7 @@ use Rattle.lot_acts.specs.declared.acts.Next.{Next}
 use Rattle.lot_acts.specs.declared.acts.Next as next
 use Rattle.lot_mutex.specs.MutexSteps.{mutex_next}
 use Rattle.lot_base.specs.declared.wants.Want.{Want}
-use Rattle.lot_acts.specs.Profiles.{Hand, Of, taken_from}
+use Rattle.lot_acts.specs.Profiles.{Hand, Of, hand_owner, taken_from}
 use Rattle.lot_steps.specs.Steps.{next_place, taker, mutex_goes, lock_of, profile}
 use Rattle.lot_base.specs.declared.notes.Note.{Note}
 use Rattle.abstract_locks.specs.Locks.{LockState, Taken, Queued, Rules, TakeFirst, keep_from, let_go, shares_handed, sharing_from, putting}
@@ -425,21 +425,38 @@ successor_in t k (p ∷ ps) zero held_by only = ap (λ o. successor_or k o (succ
 successor_in t k (p ∷ ps) (suc u) held_by only = ap (λ o. successor_or k o (successor_from t (suc k) ps)) (wants_none t p (only 0 (λ e. omega arith)))
     ∙ successor_in t (suc k) ps u held_by (λ x ne. only (suc x) (λ e. ne (omega arith))) ∙ ap (λ n. Some (successor_is n)) (let e : suc k + u ≡ k + suc u = omega arith in e)
 
+-- who took it, by its row
+taker_is : (p : Place) → taker p ≡ hand_owner (profile p).hand
+taker_is Idle = refl
+taker_is (Mutex k at) = refl
+
 -- who is in a hand by the place is so by the taker
 pub held_taker : (p : Place) (t l : ℕ) (b : Bool) → hand_at p l ≡ hand t b → is_thread t (taker p) ≡ true
-held_taker p t l false h = let k = is_taken p t l h in rw k.is (same t)
-held_taker p t l true h = let k = is_handed p t l h in rw k.is (same t)
+held_taker p t l b h = ap (is_thread t) (taker_is p) ∙ either (calls p l) h
+  where
+    either : (c : Bool) → (if c then station p else nowhere).hand ≡ hand t b → is_thread t (hand_owner (profile p).hand) ≡ true
+    either true g = ap (λ x. is_thread t (hand_owner x)) g ∙ same t
+    either false g = absurd cc
 
 -- and at some lock, if by the taker
 pub record IsHeldBy (p : Place) (t : ℕ) : Type 0 where
   pub lock : ℕ
   pub handed : Bool
   pub hand : hand_at p lock ≡ hand t handed
+  pub of : IsOf lock p
 
 pub held_where : (p : Place) (t : ℕ) → is_thread t (taker p) ≡ true → IsHeldBy p t
-held_where (Mutex k (Lock e retries (lock.Taken by))) t h = record { lock = k; handed = false; hand = ap (λ (x : Station). x.hand) (station_here k (Mutex k (Lock e retries (lock.Taken by))) refl) ∙ ap (λ x. hand x false) (eqb-true by t h) }
-held_where (Mutex k (Lock e retries (lock.Handed by))) t h = record { lock = k; handed = true; hand = ap (λ (x : Station). x.hand) (station_here k (Mutex k (Lock e retries (lock.Handed by))) refl) ∙ ap (λ x. hand x true) (eqb-true by t h) }
-held_where p t h = absurd cc
+held_where p t h = by_hand (profile p).hand (lock_of p) refl refl (sym (ap (is_thread t) (taker_is p)) ∙ h)
+  where
+    by_hand : (x : Option Hand) (o : Option ℕ) → (profile p).hand ≡ x → lock_of p ≡ o → is_thread t (hand_owner x) ≡ true → IsHeldBy p t
+    by_hand None o e f g = absurd cc
+    by_hand (Some (Of u b)) None e f g = absurd (let none : (profile p).hand ≡ None = ap (λ y. (profile y).hand) (calls_none p f) in let k : ◌≡◌ {A = Option Hand} None (Some (Of u b)) = sym none ∙ e in cc)
+    by_hand (Some (Of u b)) (Some k) e f g = record {
+      lock = k;
+      handed = b;
+      hand = ap (λ (x : Station). x.hand) (station_here k p (rw f refl)) ∙ e ∙ ap (λ x. hand x b) (eqb-true u t g);
+      of = rw f refl;
+    }
 
 -- of those who call one lock, one at most is in the hand of t
 only_held : {one : ℕ → Type 0} (p : ℕ → Place) → Hands one p → (t l u : ℕ) (b : Bool) → one l → IsOf l (p t) → hand_at (p u) l ≡ hand t b → (x : ℕ) → x ≢ u → is_thread t (taker (p x)) ≡ false
@@ -466,28 +483,6 @@ successor_one w t l u b hands single of held_at unshared o =
     ∙ ap (λ (n : ℕ). if n == 0 then with_exclusive o (Some u) else pending_for u o) (ap sum (none_given t w.places (shares_at w l)) ∙ unshared)
 
 -- ---------------------------------------------------------------- a release wakes whom it has taken
-
-module _ (one : ℕ → Type 0) (places : ℕ → Place) (hands : Hands one places) (t l v : ℕ) (p2 : Place) (single : one l) where
-  -- t leaves for p2, and wakes v
-  abbrev pub woken_by : Note → ℕ → Place
-  woken_by x = putting (putting places v (next_place (places v) (Woken x))) t p2
-
-  -- everybody but the one in hand stays
-  lets_but_one : (x : Note) → ((u : ℕ) → u ≢ v → Untaken t (taken_at (places u) l)) → LetGo t l (places v) (next_place (places v) (Woken x)) → (u : ℕ) → u ≢ t → LetGo t l (places u) (woken_by x u)
-  lets_but_one x only one u ne = rw (put_other (putting places v (next_place (places v) (Woken x))) t p2 u ne) (elim (cases_eq u v) [
-    | inl e ↦ rw (e, put_here places v (next_place (places v) (Woken x))) one
-    | inr nv ↦ rw (put_other places v (next_place (places v) (Woken x)) u nv) (stays t l (places u) (only u nv))
-  ])
-
-  pub lets_taken : hand_at (places v) l ≡ hand t false → (u : ℕ) → u ≢ t → LetGo t l (places u) (woken_by note.Normal u)
-  lets_taken holds = lets_but_one note.Normal
-      (λ u ne. untaken (places u) t l (λ h. ne (hands.alone t l v u false false single holds h)))
-      (let k : IsTakenAt (places v) t l = is_taken (places v) t l holds in rw k.is (tries t l k.entry k.retries))
-
-  pub lets_handed : hand_at (places v) l ≡ hand t true → (u : ℕ) → u ≢ t → LetGo t l (places u) (woken_by note.HandOff u)
-  lets_handed holds = lets_but_one note.HandOff
-      (λ u ne. untaken (places u) t l (λ h. let a : carried_at (places t) l ≡ Some false = hands.taken t u l false h in let b : carried_at (places t) l ≡ Some true = hands.taken t v l true holds in absurd cc))
-      (let k : IsHandedAt (places v) t l = is_handed (places v) t l holds in rw k.is (accepts t l t k.entry k.retries))
 
 -- who has nobody in hand leaves alone
 pub lets_nobody : {one : ℕ → Type 0} (places : ℕ → Place) (hands : Hands one places) (t l : ℕ) (p2 : Place) → carried_at (places t) l ≡ None → (u : ℕ) → u ≢ t → LetGo t l (places u) (putting places t p2 u)

@@ -9,6 +9,9 @@ pub mod MutexSections
 pub mod StandsKept
 pub mod StandsMoved
 pub mod ActsKept
+pub mod WakesKept
+pub mod TakesKept
+pub mod PicksKept
 pub mod SitesKept
 pub mod SectionsKept
 pub mod GoneKept

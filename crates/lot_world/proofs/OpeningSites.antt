@@ -142,6 +142,7 @@ module _ (kinds : List Kind) (threads : ℕ) where
     stands = record {
       sections = λ t l m. rw (stands_nowhere t l, none_at (2 * length kinds) (key_of l m)) (λ h. absurd cc, λ h. absurd cc);
       lines = λ t l m. rw (stands_nowhere t l, empty_at (2 * length kinds) (key_of l m)) refl;
+      waits = λ l m. rw (empty_at (2 * length kinds) (key_of l m)) tt;
       hands = record {
         carried = λ t l b h. absurd (let a : carried_at (place_at first t) l ≡ None = ap (λ s. s.carries) (stands_nowhere t l) in cc);
         alone = λ t l u v b c o h. absurd (let a : hand_at (place_at first u) l ≡ None = ap (λ s. s.hand) (stands_nowhere u l) in cc);

@@ -8,6 +8,7 @@ use Rattle.lot_base.specs.declared.notes.Note.TheVariants as note
 use Rattle.lot_base.specs.declared.ops.Op.{Op}
 use Rattle.lot_base.specs.declared.ops.Op.TheVariants as op
 use Rattle.lot_base.specs.declared.wants.Waiter.{Waiter}
+use Rattle.lot_base.specs.declared.wants.Want.TheVariants.{Exclusive}
 use Rattle.lot_base.specs.Words.{apply}
 use Rattle.lot_calls.specs.declared.kinds.Kind as kind
 use Rattle.lot_acts.specs.declared.owners.Owners.{Owners}
@@ -28,10 +29,11 @@ use Rattle.lot_mutex.specs.MutexSteps.{mutex_owners, hand_off_word}
 use Rattle.lot_acts.specs.Owners.{with_exclusive}
 use Rattle.lot_steps.specs.Steps.{next_place}
 use Rattle.abstract_locks.specs.Locks.{Rules, TakeFirst, putting}
-use Rattle.abstract_locks.specs.Sites.{Doing, Site, IsSite, Deed, Main, Second, In, Out, Case, idle, leaves, found, is_empty, has_readers, after_deed}
+use Rattle.abstract_locks.specs.Sites.{Doing, Site, IsSite, Deed, Main, Second, In, Out, Case, idle, leaves, wakened, found, is_empty, has_readers, after_deed}
 use Rattle.abstract_locks.specs.Codes.{code, fills}
 use Rattle.abstract_locks.specs.Purposes.{rules_of}
 pub use Rattle.lot_world.proofs.OneStep.{acts_keep}
+use Rattle.lot_world.proofs.WakesKept.{IsWoken, wake_goes}
 pub use Rattle.lot_world.proofs.ActsKept.{AlikeAt, alike_put, lock_by, follows_by, goes_steady, operated, word_goes, place_goes, enter_goes, leave_goes, nobody_inside}
 use Rattle.std.specs.Prelude.{sum}
 use Rattle.lot_machine.specs.Machine.{State, shares_handed_over, unlocked, place_at, word_at, owners_at, shares_at, filled_at, kind_at, queue_at, put, state_after_operation, state_with_sections, section_at, queues_without_first, state_after_reply, state_after_telling, state_after_hand_over, state_after_act, reply_to}
@@ -41,12 +43,12 @@ use Rattle.lot_world.specs.MutexDeeds.{mutex_doing, mutex_deeds, mutex_station, 
 use Rattle.lot_world.specs.Stations.{Station, hand, nowhere, station, doing_on}
 use Rattle.lot_world.specs.MutexDeeds as deeds
 use Rattle.lot_world.specs.SitesOf.{SameNumbers, TakesOne, site_of, rules_at, AllNeeded, IsSteady, Follows, Goes, CallsMutex, carried_at, hand_at, after_acts}
-use Rattle.lot_world.proofs.Glue.{base_at, seen_by, seen_in, seen, site_seen, goes_from, put_places, put_here, put_other, IsOf, next_of, doing_elsewhere, taken_elsewhere, inside_is, own_stance, LetGo, leaving, taking, told_one, successor_one, none_given, lets_taken, lets_handed, lets_nobody, IsTakenAt, is_taken, IsHandedAt, is_handed, untaken, handing, hands_acts}
+use Rattle.lot_world.proofs.Glue.{base_at, seen_by, seen_in, seen, site_seen, goes_from, put_places, put_here, put_other, IsOf, next_of, doing_elsewhere, taken_elsewhere, inside_is, own_stance, LetGo, leaving, taking, told_one, successor_one, none_given, tries, accepts, lets_nobody, IsTakenAt, is_taken, IsHandedAt, is_handed, untaken, handing, hands_acts}
 use Rattle.lot_world.proofs.MutexTable.{mutex, parts, IsCode, OnWord, MutexSteps, same_filled, own_doing, goes_in as goes_into}
 use Rattle.lot_world.proofs.KindsKept.{operated_kinds, operated_filled, given_kinds, given_filled, given_shares}
 use Rattle.lot_world.specs.SitesOf.{is_mutex}
 use Rattle.lot_world.proofs.StandsKept.{calls_of}
-use Rattle.lot_world.proofs.StandsMoved.{mutex_rules, takes_one, still, goes_in, goes_out, lets_go, hands_lock, takes}
+use Rattle.lot_world.proofs.StandsMoved.{mutex_rules, takes_one, still, goes_in, goes_out, hands_lock, takes}
 use Rattle.lot_world.proofs.MutexSections.{hands_needed, take_needed, first_wants}
 
 -- g is f, but for x at i
@@ -188,35 +190,31 @@ module _ (w : State) (t l : ℕ) (at : MutexPlace) (steady : IsSteady w) (is : p
       })
       (s ∙ sym (ap (λ (x : Station). record x { inside = None }) station_is_at))
 
-  -- out of its own, and v, which it has in hand, is told
-  pub wake_keeps : 2 * l < length w.sections → (v : ℕ) (handed : Bool) (x : Note) (p2 : Place) → IsOf l p2 → IsOf l (place_at w v) → taken_at (Mutex l at) l ≡ None → taken_at p2 l ≡ None → doing_on p2 l ≡ leaves (mutex_doing at) → (mutex_doing at).inside ≡ Some Main → (mutex_doing at).wakes ≡ None
-      → ((u : ℕ) → u ≢ t → LetGo t l (place_at w u) (putting (putting (place_at w) v (next_place (place_at w v) (Woken x))) t p2 u)) → v ≢ t
-      → mutex_station at ≡ record nowhere { inside = Some Main; carries = Some handed } → station (place_at w v) ≡ record nowhere { hand = hand t handed } → station p2 ≡ nowhere → station (next_place (place_at w v) (Woken x)) ≡ nowhere
-      → Goes w (put (state_after_reply (state_with_sections w (One (2 * l)) None) v (Woken x)) t p2) l (acts t (Out ∷ []))
-  wake_keeps line v handed x p2 of of_v none none2 e i k lets apart was was_v is_p2 is_pv = record {
-    follows = follow w after l rules (putting (putting (place_at w) v pv) t p2) (word_at w l) (owners_at w l) (queue_at w (2 * l)) places (record { threads = length-set (set w.places v pv) t p2 ∙ length-set w.places v pv; locks = refl; shares = refl })
-        (same_bases w after refl refl (length-set (set w.places v pv) t p2 ∙ length-set w.places v pv))
-        (unchanged (word_at w) l) (unchanged (owners_at w) l) (unchanged (λ j. queue_at w (2 * j)) l) (λ j. refl) (λ j. refl)
-        (λ j ne u. alike_both l j (place_at w) v pv t p2 of_v of_pv own of apart ne u)
-        (acts t (Out ∷ []))
-        (leaving mutex l (base_at w l) (word_at w l) (owners_at w l) (queue_at w (2 * l)) (queue_at w (2 * l + 1)) (place_at w) _ t (ap (λ y. taken_at y l) is ∙ none) (ap (λ y. taken_at y l) (put_here (putting (place_at w) v pv) t p2) ∙ none2)
-        (ap (λ y. doing_on y l) (put_here (putting (place_at w) v pv) t p2) ∙ e ∙ sym (ap leaves (own_doing l (place_at w t) at is))) lets)
-        (out_needed i k)
-        word_l;
-    stands = lets_go w after steady.stands (λ j. refl) l t v apart of_mutex own of_v p2 pv of of_pv places handed (section_set line None).other (section_set line None).here (λ key. refl) (station_is_at ∙ was) was_v is_p2 is_pv;
-  }
-    where
-      pv : Place
-      pv = next_place (place_at w v) (Woken x)
+  -- what it does then
+  out_doing : (p2 : Place) → taken_at (Mutex l at) l ≡ None → doing_on p2 l ≡ leaves (mutex_doing at) → doing_on p2 l ≡ (after_acts mutex (acts t (Out ∷ [])) (mutex_at w l)).doing t
+  out_doing p2 none e = e ∙ sym (ap leaves (own_doing l (place_at w t) at is)) ∙ sym (ap (λ x. wakened t x (putting (λ y. doing_on (place_at w y) l) t (leaves (doing_on (place_at w t) l)) t)) (hand_none none) ∙ put_here (λ y. doing_on (place_at w y) l) t (leaves (doing_on (place_at w t) l)))
 
-      of_pv : IsOf l pv
-      of_pv = next_of l (place_at w v) (Woken x) of_v
+  -- whom it had taken tries again, and whom it handed the lock has it
+  woken_taken : (u : ℕ) → hand_at (place_at w u) l ≡ hand t false → IsWoken w t l false note.Normal (place_at w u)
+  woken_taken u held = let k : IsTakenAt (place_at w u) t l = is_taken (place_at w u) t l held in
+      record { lets = rw k.is (tries t l k.entry k.retries); was = rw k.is refl; free = rw k.is refl; fits = rw k.is of_mutex }
 
-      after : State
-      after = put (state_after_reply (state_with_sections w (One (2 * l)) None) v (Woken x)) t p2
+  woken_handed : (u : ℕ) → hand_at (place_at w u) l ≡ hand t true → IsWoken w t l true note.HandOff (place_at w u)
+  woken_handed u held = let k : IsHandedAt (place_at w u) t l = is_handed (place_at w u) t l held in
+      record { lets = rw k.is (accepts t l t k.entry k.retries); was = rw k.is refl; free = rw k.is refl; fits = rw k.is of_mutex }
 
-      places : place_at after ≡ putting (putting (place_at w) v pv) t p2
-      places = put_places (state_after_reply (state_with_sections w (One (2 * l)) None) v (Woken x)) t p2 (λ h. past p2 (let a : length (set w.places v pv) ≡ length w.places = length-set w.places v pv in omega arith)) ∙ ap (λ (f : ℕ → Place). putting f t p2) (goes_from w v (Woken x))
+  -- who has taken somebody has handed nobody the lock, and the other way round
+  not_both : (b c : Bool) → (mutex_station at).carries ≡ Some b → (u : ℕ) → hand_at (place_at w u) l ≡ hand t c → b ≡ c
+  not_both b c carries u held = let a : carried_at (place_at w t) l ≡ Some c = steady.stands.hands.taken t u l c held in let d : carried_at (place_at w t) l ≡ Some b = ap (λ (y : Station). y.carries) (own_stance l (place_at w t) at is) ∙ carries in let e : Some b ≡ Some c = sym d ∙ a in cc
+
+  -- out of its own, and whom it has in hand is told
+  pub wake_keeps : 2 * l < length w.sections → (b : Bool) (x : Note) (p2 : Place) → IsOf l p2 → ((u : ℕ) → hand_at (place_at w u) l ≡ hand t b → IsWoken w t l b x (place_at w u)) → taken_at (Mutex l at) l ≡ None → taken_at p2 l ≡ None → doing_on p2 l ≡ leaves (mutex_doing at) → (mutex_doing at).inside ≡ Some Main → (mutex_doing at).wakes ≡ None
+      → mutex_station at ≡ record nowhere { inside = Some Main; carries = Some b } → station p2 ≡ nowhere → Goes w (put (state_after_telling (state_with_sections w (One (2 * l)) None) t (Woken x)) t p2) l (acts t (Out ∷ []))
+  wake_keeps line b x p2 of woken none none2 e i k was is_p2 = wake_goes w t l steady own there p2 of (fits p2 of) x
+      (λ u c held. let same_one : b ≡ c = not_both b c (ap (λ (y : Station). y.carries) was) u held in subst (λ y. IsWoken w t l y x (place_at w u)) same_one (woken u (subst (λ y. hand_at (place_at w u) l ≡ hand t y) (sym same_one) held)))
+      (ap (λ (y : Station). y.hand) (station_is_at ∙ was)) (ap (λ (y : Station). y.carries) is_p2) (ap (λ (y : Station). y.hand) is_p2)
+      Main line (ap (λ (y : Station). y.inside) (station_is_at ∙ was)) (ap (λ (y : Station). y.stands) is_p2 ∙ sym (ap (λ (y : Station). y.stands) (station_is_at ∙ was))) (ap (λ (y : Station). y.waits) is_p2 ∙ sym (ap (λ (y : Station). y.waits) (station_is_at ∙ was))) (ap (λ (y : Station). y.inside) is_p2)
+      mutex rules (hand_none none) none2 (Out ∷ []) tt (out_needed i k) (out_doing p2 none e)
 
 module _ (w : State) (t l : ℕ) (steady : IsSteady w) (there : t < length w.places) where
   -- whom it has in hand
@@ -230,43 +228,11 @@ module _ (w : State) (t l : ℕ) (steady : IsSteady w) (there : t < length w.pla
 
   -- a release leaves, and wakes the one that it took
   pub release_wakes : 2 * l < length w.sections → place_at w t ≡ Mutex l (Unlock (unlock.Leave true)) → Goes w (go_by w t (Mutex l (Unlock (unlock.Leave true))) (act.TheVariants.Leave (One (2 * l)) (wakes.TheVariants.All note.Normal))) l (acts t (Out ∷ []))
-  release_wakes line is = subst (λ (z : State). Goes w (put z t Idle) l (acts t (Out ∷ []))) (sym (told_it at is false refl (Woken note.Normal)))
-      (wake_keeps w t l at steady is there line v false note.Normal Idle tt (rw there_v.is refl) refl refl refl refl refl (lets_taken (TakesOne w) (place_at w) steady.stands.hands t l v Idle (single w t l at steady is there) held) apart refl (rw there_v.is refl) refl (rw there_v.is refl))
-    where
-      at : MutexPlace
-      at = Unlock (unlock.Leave true)
-
-      v : ℕ
-      v = (one_held at is false refl).0
-
-      held : hand_at (place_at w v) l ≡ hand t false
-      held = (one_held at is false refl).1
-
-      there_v : IsTakenAt (place_at w v) t l
-      there_v = is_taken (place_at w v) t l held
-
-      apart : v ≢ t
-      apart e = let a : Mutex l (Unlock (unlock.Leave true)) ≡ Mutex l (Lock there_v.entry there_v.retries (lock.Taken t)) = sym is ∙ ap (place_at w) (sym e) ∙ there_v.is in cc
+  release_wakes line is = wake_keeps w t l (Unlock (unlock.Leave true)) steady is there line false note.Normal Idle tt (woken_taken w t l (Unlock (unlock.Leave true)) steady is there) refl refl refl refl refl refl refl
 
   -- a fair one leaves, and tells the one that it handed the lock
   pub tells : 2 * l < length w.sections → (bumps : Bool) (is : place_at w t ≡ Mutex l (HandOff bumps (hand_off.Leave true))) (p2 : Place) → IsOf l p2 → taken_at p2 l ≡ None → doing_on p2 l ≡ idle → station p2 ≡ nowhere → Goes w (put (state_after_telling (state_with_sections w (One (2 * l)) None) t (Woken note.HandOff)) t p2) l (acts t (Out ∷ []))
-  tells line bumps is p2 of none e s = subst (λ (z : State). Goes w (put z t p2) l (acts t (Out ∷ []))) (sym (told_it at is true refl (Woken note.HandOff)))
-      (wake_keeps w t l at steady is there line v true note.HandOff p2 of (rw there_v.is refl) refl none e refl refl (lets_handed (TakesOne w) (place_at w) steady.stands.hands t l v p2 (single w t l at steady is there) held) apart refl (rw there_v.is refl) s (rw there_v.is refl))
-    where
-      at : MutexPlace
-      at = HandOff bumps (hand_off.Leave true)
-
-      v : ℕ
-      v = (one_held at is true refl).0
-
-      held : hand_at (place_at w v) l ≡ hand t true
-      held = (one_held at is true refl).1
-
-      there_v : IsHandedAt (place_at w v) t l
-      there_v = is_handed (place_at w v) t l held
-
-      apart : v ≢ t
-      apart e = let a : Mutex l (HandOff bumps (hand_off.Leave true)) ≡ Mutex l (Lock there_v.entry there_v.retries (lock.Handed t)) = sym is ∙ ap (place_at w) (sym e) ∙ there_v.is in cc
+  tells line bumps is p2 of none e s = wake_keeps w t l (HandOff bumps (hand_off.Leave true)) steady is there line true note.HandOff p2 of (woken_handed w t l (HandOff bumps (hand_off.Leave true)) steady is there) refl none e refl refl refl s
 
   -- the store that hands the lock over
   pub hands_over : l < length w.locks → (bumps none_left : Bool) (u : ℕ) → place_at w t ≡ Mutex l (HandOff bumps (hand_off.Store true none_left)) → hand_at (place_at w u) l ≡ hand t false → Goes w (go_by w t (Mutex l (HandOff bumps (hand_off.Store true none_left))) (act.TheVariants.HandOver l (op.Store (hand_off_word true none_left)))) l (acts t (deeds.hands_over (Some u) none_left) ++ deeds.claims_of (Some u))
@@ -367,7 +333,7 @@ module _ (w : State) (t l : ℕ) (at : MutexPlace) (steady : IsSteady w) (is : p
         (word_l w t l at steady is there);
     stands = takes w after steady.stands (λ k. refl) l t x.thread apart (of_mutex w t l at steady is there) own_t of_x p2 px of of_px places rest x (λ key. refl)
         (λ key ne. get_or-set_other w.queues (2 * l) key (drop 1 (queue_at w (2 * l))) [] (λ h. ne h)) first (get_or-set_same w.queues (2 * l) (drop 1 (queue_at w (2 * l))) [] line ∙ ap (drop 1) first) refl
-        (ap (λ (y : Place). (station y).carries) is ∙ nobody) (ap (λ (y : Place). (station y).hand) is ∙ free) (rw asleep refl) (s ∙ sym (ap (λ y. record (station y) { carries = Some false }) is)) (rw asleep refl);
+        (ap (λ (y : Place). (station y).carries) is ∙ nobody) (ap (λ (y : Place). (station y).hand) is ∙ free) (Some Exclusive) (rw asleep refl) (s ∙ sym (ap (λ y. record (station y) { carries = Some false }) is)) (rw asleep refl);
   }
     where
       px : Place

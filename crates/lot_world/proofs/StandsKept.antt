@@ -1,8 +1,8 @@
 -- How the sections, the lines and the hands of the machine are kept, by the stations of threads. No place is named.
-use Rattle.std.proofs.Common.{ℕ, Bool, true, false, Option, Some, None, if◌then◌else◌, ◌==◌, ◌&&◌, ◌≡◌, ◌≢◌, ◌+◌, ◌*◌, ◌≤◌, ◌↔◌, ◌⊎◌, List, inl, inr, refl, sym, ◌∙◌, ap, subst, arith}
+use Rattle.std.proofs.Common.{ℕ, Bool, true, false, Option, Some, None, if◌then◌else◌, ◌==◌, ◌&&◌, ◌≡◌, ◌≢◌, ◌+◌, ◌*◌, ◌≤◌, ◌↔◌, ◌⊎◌, List, [], ◌∷◌, ◌++◌, cond, not, inl, inr, refl, sym, ◌∙◌, ap, subst, arith}
 use Rattle.std.proofs.lemmas.Bool.{cases_eq, eqb-true}
 use Rattle.lot_base.specs.declared.wants.Waiter.{Waiter}
-use Rattle.lot_base.specs.Lines.{times}
+use Rattle.lot_base.specs.Lines.{times, without}
 use Rattle.lot_steps.specs.declared.places.Place.{Place}
 use Rattle.lot_steps.specs.declared.places.Place.TheVariants.{Idle, Mutex}
 use Rattle.abstract_locks.specs.Locks.{putting}
@@ -10,7 +10,7 @@ use Rattle.abstract_locks.specs.Sites.{Line, Main, Second}
 use Rattle.lot_machine.specs.Machine.{State, kind_at}
 use Rattle.lot_world.specs.SitesOf.{is_mutex}
 use Rattle.lot_world.specs.Stations.{Hand, Station, hand, nowhere, station, station_at}
-use Rattle.lot_world.specs.SitesOf.{Sections, Lines, Hands, CallsMutex, key_of, stood_in, carried_at, hand_at}
+use Rattle.lot_world.specs.SitesOf.{Sections, Lines, Waits, AreWaiting, Hands, CallsMutex, key_of, stood_in, carried_at, hand_at}
 use Rattle.lot_world.proofs.Glue.{IsOf, nothing_at, put_here, put_other, same, station_is, station_here, station_elsewhere}
 
 both : (a b : Bool) → (a && b) ≡ true → (a ≡ true) × (b ≡ true)
@@ -141,6 +141,32 @@ line_moved p q queue after s t l m others elsewhere counts own u k n = elim (cas
     at_line : u ≢ t → ((n ≡ m) ⊎ (n ≢ m)) → times u (after (key_of l n)) ≡ stood_in (station_at (q u) l).stands n
     at_line ne (inl e) = ap (λ x. times u (after (key_of l x))) e ∙ counts u ne ∙ ap (λ x. times u (queue (key_of l x))) (sym e) ∙ s u l n ∙ ap (λ x. stood_in x n) (sym (others u l (λ f g. ne f)))
     at_line ne (inr nn) = ap (times u) (elsewhere (key_of l n) (other_line l m n nn)) ∙ s u l n ∙ ap (λ x. stood_in x n) (sym (others u l (λ f g. ne f)))
+
+-- who stands there waits for the same
+pub waiting_same : (p q : ℕ → Place) (l : ℕ) (m : Line) (xs : List Waiter) → AreWaiting p l m xs → ((u : ℕ) → 1 ≤ times u xs → (station_at (q u) l).waits ≡ (station_at (p u) l).waits) → AreWaiting q l m xs
+waiting_same p q l m [] h e = tt
+waiting_same p q l m (x ∷ xs) h e = ((h.0.0, e x.thread here ∙ h.0.1), waiting_same p q l m xs h.1 (λ u g. e u (more u g)))
+  where
+    here : 1 ≤ times x.thread (x ∷ xs)
+    here = let c : ◌≡◌ {A = ℕ} (if x.thread == x.thread then 1 else 0) 1 = ap (λ (b : Bool). if b then 1 else 0) (same x.thread) in omega arith
+
+    more : (u : ℕ) → 1 ≤ times u xs → 1 ≤ times u (x ∷ xs)
+    more u g = omega arith
+
+pub waiting_behind : (q : ℕ → Place) (l : ℕ) (m : Line) (xs : List Waiter) (x : Waiter) → AreWaiting q l m xs → (x.key ≡ key_of l m) × ((station_at (q x.thread) l).waits ≡ Some x.want) → AreWaiting q l m (xs ++ x ∷ [])
+waiting_behind q l m [] x h k = (k, tt)
+waiting_behind q l m (y ∷ xs) x h k = (h.0, waiting_behind q l m xs x h.1 k)
+
+pub waiting_without : (q : ℕ → Place) (l : ℕ) (m : Line) (t : ℕ) (xs : List Waiter) → AreWaiting q l m xs → AreWaiting q l m (without t xs)
+waiting_without q l m t [] h = tt
+waiting_without q l m t (y ∷ xs) h = either (not (y.thread == t)) (waiting_without q l m t xs h.1)
+  where
+    either : (b : Bool) → AreWaiting q l m (without t xs) → AreWaiting q l m (cond b (y ∷ without t xs) (without t xs))
+    either true k = (h.0, k)
+    either false k = k
+
+pub waits_same : (p q : ℕ → Place) (queue after : ℕ → List Waiter) → Waits p queue → ((u k : ℕ) → (station_at (q u) k).waits ≡ (station_at (p u) k).waits) → ((key : ℕ) → after key ≡ queue key) → Waits q after
+waits_same p q queue after h e lines l m = waiting_same p q l m (after (key_of l m)) (subst (AreWaiting p l m) (sym (lines (key_of l m))) (h l m)) (λ u g. e u l)
 
 -- ---------------------------------------------------------------- hands
 

@@ -72,6 +72,15 @@ Sections places section = (t l : ℕ) (m : Line) → (station_at (places t) l).i
 abbrev pub Lines : (ℕ → Place) → (ℕ → List Waiter) → Type 0
 Lines places queue = (t l : ℕ) (m : Line) → times t (queue (key_of l m)) ≡ stood_in (station_at (places t) l).stands m
 
+-- each who stands in the line does so under its key, and wants what its place says
+abbrev pub AreWaiting : (ℕ → Place) → ℕ → Line → List Waiter → Type 0
+AreWaiting places l m [] = Unit {0}
+AreWaiting places l m (x ∷ q) =
+    ((x.key ≡ key_of l m) × ((station_at (places x.thread) l).waits ≡ Some x.want)) × AreWaiting places l m q
+
+abbrev pub Waits : (ℕ → Place) → (ℕ → List Waiter) → Type 0
+Waits places queue = (l : ℕ) (m : Line) → AreWaiting places l m (queue (key_of l m))
+
 abbrev pub carried_at : Place → ℕ → Option Bool
 carried_at p l = (station_at p l).carries
 
@@ -104,6 +113,7 @@ CallsMutex w (OfMutex l at) = is_mutex (kind_at w l) ≡ true
 pub record Stands (w : State) : Type 0 where
   pub sections : Sections (place_at w) (section_at w)
   pub lines : Lines (place_at w) (queue_at w)
+  pub waits : Waits (place_at w) (queue_at w)
   pub hands : Hands (TakesOne w) (place_at w)
   pub calls : (t : ℕ) → CallsMutex w (place_at w t)
 

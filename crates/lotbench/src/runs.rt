@@ -109,7 +109,7 @@ fn guard_by_tries<'a, M: RawLock, R: Wait>(
     ensures guard { lock_of result ≡ mutex.now }
 {
     for _ in rt.forever() {
-        if let Some(guard) = mutex.try_lock(rt, token) {
+        if let Some(guard) = mutex.try_lock(token) {
             return guard;
         }
     }

@@ -26,7 +26,10 @@ use Rattle.lot_words.specs.declared.words.Word.{Word}
 use Rattle.lot_words.specs.declared.words.WordKind as kinds
 use Rattle.parking_lot_core.specs.declared.tokens.SectionRecord.{SectionRecord}
 use Rattle.parking_lot.specs.Calls.{beginning, first_op, purpose_in, saw_waiter, GoesOn, Releases, TookIfParked}
-use Rattle.parking_lot.specs.Fitting.{of_mutex, aim_of, AreWordsFor, Fits, IsOver}
+use Rattle.parking_lot.specs.Fitting.{of_mutex, aim_of, AreWordsFor, Fits, IsOver, IsStopped}
+use Rattle.parking_lot.specs.declared.driver.Stop.TheVariants.{Paused}
+use Rattle.parking_lot.proofs.Ending.{never_paused}
+use Rattle.lot_calls.specs.declared.outcomes.OnceState.{OnceState}
 use Rattle.parking_lot.specs.MutexFitting.{enters, IsMutexOver, Outside, TookAt, held, beside}
 use Rattle.parking_lot.specs.Paths.{mutex_at, mutexes, at_mutex, step, Walks}
 use Rattle.parking_lot.specs.Stages.{Stage, stage}
@@ -118,6 +121,9 @@ module _ (n : ℕ) where
 
   pub over_behind : (up : Type 0) (c : MutexCall) (seen : ℕ) (owns : List Ownership) (answer : Answer) (new : Stage) → GoesOn n c seen owns → IsOver up owns (aim_of (next_place (beginning n c) (Value seen))) answer new → IsMutexOver up n owns (purpose_in c) answer new
   over_behind up c seen owns answer new g over = subst (λ aim. IsOver up owns aim answer new) (ap aim_of (goes_to c seen owns g) ∙ same_aim c) over
+
+  pub never_pauses : (up : Type 0) (c : MutexCall) (seen : ℕ) (owns : List Ownership) (place : Place) (state : OnceState) (new : Stage) → GoesOn n c seen owns → IsStopped up owns (aim_of (next_place (beginning n c) (Value seen))) (Paused place state) new → ⊥
+  never_pauses up c seen owns place state new g stopped = never_paused up owns n (purpose_in c) place state new (subst (λ aim. IsStopped up owns aim (Paused place state) new) (ap aim_of (goes_to c seen owns g) ∙ same_aim c) stopped)
 
   pub path_behind : (c : MutexCall) (seen : ℕ) (old mid new : List WordStep) (answer : Answer) → Walks (at_mutex n) (next_place (beginning n c) (Value seen)) mid new answer → mid ≡ old ++ step (mutex_at n) (first_op c) seen → Walks (at_mutex n) (beginning n c) old new answer
   path_behind c seen old mid new answer rest saw = goes_on (at_mutex n) (beginning n c) n (first_op c) seen old mid new answer (begins_with c) saw rest

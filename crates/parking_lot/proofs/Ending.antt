@@ -1,17 +1,43 @@
 -- The end of a call.
-use Rattle.std.proofs.Common.{ℕ, ◌≡◌, List, Option, None, Some, inl, inr, refl}
+use Rattle.std.proofs.Common.{ℕ, ◌≡◌, true, false, List, Option, None, Some, inl, inr, refl, subst}
 use Rattle.lot_calls.specs.declared.outcomes.Answer.{Answer}
+use Rattle.lot_calls.specs.declared.outcomes.OnceState.{OnceState}
+use Rattle.lot_steps.specs.Steps.{act_of}
+use Rattle.lot_steps.specs.declared.places.Place.{Place}
+use Rattle.lot_steps.specs.declared.places.Place.TheVariants.{Idle, Mutex}
+use Rattle.lot_mutex.specs.MutexSteps.{mutex_act, decided}
+use Rattle.lot_mutex.specs.declared.places.MutexPlace.{MutexPlace}
+use Rattle.lot_mutex.specs.declared.places.MutexPlace.TheVariants as at_mutex_place
+use Rattle.lot_mutex.specs.declared.hand_off.HandOffAt as hand_off
+use Rattle.lot_mutex.specs.declared.lock.LockAt as lock
+use Rattle.lot_mutex.specs.declared.unlock.UnlockAt as unlock
+use Rattle.lot_words.proofs.MutexSteps.{each_code}
 use Rattle.lot_acts.specs.declared.acts.Act.{Act}
 use Rattle.lot_acts.specs.declared.acts.Act as act
 use Rattle.lot_words.specs.declared.owners.Ownership.{Ownership}
+use Rattle.lot_words.specs.declared.words.WordKind.{WordKind}
 use Rattle.parking_lot_core.specs.declared.tokens.SectionRecord.{SectionRecord}
-use Rattle.parking_lot.specs.Fitting.{Aim, nothing, of_mutex, answer_of, IsOver}
-use Rattle.parking_lot.specs.MutexFitting.{Purpose, enters, releases, hands_over, IsMutexOver}
-use Rattle.parking_lot.specs.Stages.{Inside, stage}
+use Rattle.parking_lot.specs.Fitting.{Aim, nothing, of_mutex, aim_of, answer_of, Fits, IsOver, IsStopped}
+use Rattle.parking_lot.specs.MutexFitting.{Purpose, enters, releases, hands_over, FitsMutex, IsMutexOver}
+use Rattle.parking_lot.specs.Paths.{closure_of}
+use Rattle.parking_lot.specs.Stages.{Inside, Stage, Needs, stage}
+use Rattle.parking_lot.specs.declared.driver.Stop.TheVariants.{Paused}
 
 pub end_of : (a : Act) (answer : Answer) → answer_of a ≡ Some answer → a ≡ act.TheVariants.End answer
 end_of (act.TheVariants.End x) answer e = cc
 end_of a answer e = absurd cc
+
+-- what a closure needs
+closure_act : (a : Act) (state : OnceState) → closure_of a ≡ Some state → a ≡ act.TheVariants.Closure state
+closure_act (act.TheVariants.Closure s) state e = cc
+closure_act a state e = absurd cc
+
+-- who comes to a closure is outside all sections, and stops there
+pub closes_outside : (kinds : ℕ → WordKind) (at : ℕ → ℕ) (st : Stage) (a : Act) (state : OnceState) → closure_of a ≡ Some state → Needs kinds at st a → st.inside ≡ None
+closes_outside kinds at st a state e needs = subst (Needs kinds at st) (closure_act a state e) needs
+
+pub closed : (up : Type 0) (base owns : List Ownership) (aim : Aim) (p : Place) (state : OnceState) (inside : Option Inside) (last : Option SectionRecord) → closure_of (act_of p) ≡ Some state → inside ≡ None → Fits up base p (stage owns inside last) → aim_of p ≡ aim → IsStopped up base aim (Paused p state) (stage owns None last)
+closed up base owns aim p state inside last e none fits same = (subst (λ (i : Option Inside). Fits up base p (stage owns i last)) none fits, same, closure_act (act_of p) state e)
 
 module _ (up : Type 0) (base owns : List Ownership) where
   mutex_ended : (n : ℕ) (purpose : Purpose) (answer : Answer) (inside : Option Inside) (last : Option SectionRecord) → IsMutexOver up n base purpose answer (stage owns inside last) → IsMutexOver up n base purpose answer (stage owns None last)
@@ -34,3 +60,31 @@ module _ (up : Type 0) (base owns : List Ownership) where
   pub outside : (aim : Aim) (answer : Answer) (inside : Option Inside) (last : Option SectionRecord) → IsOver up base aim answer (stage owns inside last) → inside ≡ None
   outside nothing answer inside last h = absurd h
   outside (of_mutex n purpose) answer inside last h = mutex_outside n purpose answer inside last h
+
+-- no call of a mutex runs a closure
+no_closure : (n : ℕ) (state : OnceState) (up : Type 0) (base : List Ownership) (at : MutexPlace) (st : Stage) → FitsMutex up n base at st → mutex_act n at ≡ act.TheVariants.Closure state → ⊥
+no_closure n state up base (at_mutex_place.Lock e retries lock.TheVariants.First) st f is = cc
+no_closure n state up base (at_mutex_place.Lock e retries lock.TheVariants.Load) st f is = cc
+no_closure n state up base (at_mutex_place.Lock e retries (lock.TheVariants.Decide seen)) st f is =
+    each_code (λ s. decided n s ≡ act.TheVariants.Closure state → ⊥) (λ is. cc) (λ is. cc) (λ is. cc) (λ is. cc) seen f.0 is
+no_closure n state up base (at_mutex_place.Lock e retries lock.TheVariants.Check) st f is = cc
+no_closure n state up base (at_mutex_place.Lock e retries (lock.TheVariants.Leave parked)) st f is = cc
+no_closure n state up base (at_mutex_place.Lock e retries lock.TheVariants.Asleep) st f is = cc
+no_closure n state up base (at_mutex_place.Lock e retries lock.TheVariants.Accept) st f is = cc
+no_closure n state up base (at_mutex_place.Lock e retries lock.TheVariants.Remove) st f is = cc
+no_closure n state up base (at_mutex_place.Lock e retries lock.TheVariants.Clear) st f is = cc
+no_closure n state up base (at_mutex_place.Lock e retries lock.TheVariants.GiveUp) st f is = cc
+no_closure n state up base (at_mutex_place.Unlock unlock.TheVariants.Enter) st f is = cc
+no_closure n state up base (at_mutex_place.Unlock unlock.TheVariants.Take) st f is = cc
+no_closure n state up base (at_mutex_place.Unlock (unlock.TheVariants.Clear any)) st f is = cc
+no_closure n state up base (at_mutex_place.Unlock (unlock.TheVariants.Leave any)) st f is = cc
+no_closure n state up base (at_mutex_place.HandOff bumps hand_off.TheVariants.Enter) st f is = cc
+no_closure n state up base (at_mutex_place.HandOff bumps hand_off.TheVariants.Take) st f is = cc
+no_closure n state up base (at_mutex_place.HandOff bumps (hand_off.TheVariants.Store true none_left)) st f is = cc
+no_closure n state up base (at_mutex_place.HandOff bumps (hand_off.TheVariants.Store false none_left)) st f is = cc
+no_closure n state up base (at_mutex_place.HandOff bumps (hand_off.TheVariants.Leave any)) st f is = cc
+no_closure n state up base at st f is = absurd f
+
+pub never_paused : (up : Type 0) (base : List Ownership) (n : ℕ) (purpose : Purpose) (p : Place) (state : OnceState) (st : Stage) → IsStopped up base (of_mutex n purpose) (Paused p state) st → ⊥
+never_paused up base n purpose Idle state st s = s.0
+never_paused up base n purpose (Mutex l at) state st s = no_closure l state up base at st s.0 s.2

@@ -6,11 +6,13 @@ use Rattle.lot_base.specs.declared.notes.Note.TheVariants.{Normal, HandOff}
 use Rattle.lot_base.specs.declared.ops.Op.{Op}
 use Rattle.lot_base.specs.declared.ops.Op.TheVariants.{Load, And, Exchange}
 use Rattle.lot_mutex.specs.MutexSteps.{mutex_act, lock_act, unlock_act, decided}
-use Rattle.lot_steps.specs.Steps.{late_key}
+use Rattle.lot_calls.specs.declared.outcomes.Answer.{Answer}
+use Rattle.lot_calls.specs.declared.outcomes.OnceState.{OnceState}
+use Rattle.lot_steps.specs.Steps.{act_of, late_key, next_act, next_place}
 use Rattle.lot_acts.specs.declared.acts.Act.{Act}
 use Rattle.lot_acts.specs.declared.acts.Act as act
 use Rattle.lot_acts.specs.declared.acts.Reply.{Reply}
-use Rattle.lot_acts.specs.declared.acts.Reply.TheVariants.{Done, Value, Spun, Parked, Took, Removed, Late, Woken}
+use Rattle.lot_acts.specs.declared.acts.Reply.TheVariants.{Done, Value, Spun, Parked, Took, Removed, MovedTo, Late, Woken, Closed}
 use Rattle.lot_mutex.specs.declared.places.MutexPlace.{MutexPlace}
 use Rattle.lot_mutex.specs.declared.places.MutexPlace.TheVariants as at_mutex_place
 use Rattle.lot_mutex.specs.declared.lock.Entry.{Entry}
@@ -28,7 +30,7 @@ use Rattle.lot_words.specs.declared.words.WordKind.{WordKind}
 use Rattle.lot_words.specs.declared.words.WordKind as kinds
 use Rattle.lot_words.proofs.MutexSteps.{mutex_steps, each_code}
 use Rattle.parking_lot_core.specs.declared.tokens.Did.TheVariants.{TakeFirst}
-use Rattle.parking_lot.specs.Fitting.{PlacesLead, Spins, Reached, sleeper_at}
+use Rattle.parking_lot.specs.Fitting.{AreWordsFor, Fits, PlacesLead, Spins, Reached, ReachedBy, aim_of, answer_of, sleeper_at}
 use Rattle.parking_lot.specs.MutexFitting.{GaveUp, FitsLock, FitsUnlock, FitsMutex, Within, Outside, beside, held}
 use Rattle.parking_lot.specs.Paths.{mutex_at, mutexes, at_mutex}
 use Rattle.parking_lot.specs.declared.acting.Sleeper.{Sleeper}
@@ -144,6 +146,9 @@ module _ (up : Type 0) (n : ℕ) (base : List Ownership) (st : Stage) where
           (λ x. ((f.0, stays rest _ _ x refl refl f.1), refl)) (λ x. ((f.0, stays rest _ _ x refl refl f.1), refl))
           (λ x. ((f.0, stays rest _ _ x refl refl f.1), refl)) (λ x. ((f.0, stays rest _ _ x refl refl f.1), refl))
 
+      nobody_moves : {key : ℕ} → None ≡ Some key → ⊥
+      nobody_moves e = cc
+
       checks : Within n rest st → (seen : ℕ) → seen < 4 → new ≡ stepped kinds.TheVariants.Mutex (mutex_at n) Load seen st → Within n rest new
       checks f = each_code (λ s. new ≡ stepped kinds.TheVariants.Mutex (mutex_at n) Load s st → Within n rest new)
           (λ x. stays rest _ _ x refl refl f) (λ x. stays rest _ _ x refl refl f) (λ x. stays rest _ _ x refl refl f) (λ x. stays rest _ _ x refl refl f)
@@ -166,9 +171,10 @@ module _ (up : Type 0) (n : ℕ) (base : List Ownership) (st : Stage) where
       lock_leads lock.TheVariants.Check f (Parked parked) b = let w = checks f b.0 b.2.0.1.0 b.2.1 in (w, refl)
       lock_leads (lock.TheVariants.Leave true) f Done b = ((b.0 ∙ f.0, b.1), refl)
       lock_leads (lock.TheVariants.Leave false) f Done b = ((b.0 ∙ f.0, b.1), refl)
-      lock_leads lock.TheVariants.Asleep f (Woken Normal) b = ((b.0 ∙ f.0, b.1 ∙ f.1), refl)
+      lock_leads lock.TheVariants.Asleep f (Woken Normal) b = ((b.0 ∙ f.0, b.1), refl)
       lock_leads lock.TheVariants.Asleep f (Woken HandOff) b = (has_it f _ (b.2 ∙ ap (λ (o : Owner). stage (owning (mutex_at n) o ∷ st.owns) st.inside st.last) b.1) refl refl, refl)
-      lock_leads lock.TheVariants.Asleep f Late b = (gives_up e rest f b.0 b.1 b.2 b.3, refl)
+      lock_leads lock.TheVariants.Asleep f Late b = (gives_up e rest f b.0 b.1.0 b.2 b.1.1, refl)
+      lock_leads lock.TheVariants.Asleep f (MovedTo key) b = absurd (nobody_moves b.0.1)
       lock_leads lock.TheVariants.Remove f (Removed true) b = ((f.0, stays rest _ _ b refl refl f.1), refl)
       lock_leads lock.TheVariants.Remove f (Removed false) b = ((f.0, stays rest _ _ b refl refl f.1), refl)
       lock_leads lock.TheVariants.Clear f (Value seen) b = clears f seen b.0.1.0 b.1
@@ -221,3 +227,9 @@ places_lead up kinds at base (Mutex n p) st words f =
   where
     both : kinds ≡ mutexes → at ≡ at_mutex n → ◌≡◌ {A = (ℕ → WordKind) × (ℕ → ℕ)} (kinds, at) (mutexes, at_mutex n)
     both a b = ap (λ (k : ℕ → WordKind). (k, at)) a ∙ ap (λ (w : ℕ → ℕ). (mutexes, w)) b
+
+-- behind its closure a call goes on
+pub goes_behind : (up : Type 0) (kinds : ℕ → WordKind) (at : ℕ → ℕ) (base : List Ownership) (p : Place) (st : Stage) (succeeded : Bool) → AreWordsFor p kinds at → (state : OnceState) → act_of p ≡ act.TheVariants.Closure state → answer_of (next_act p (Closed succeeded)) ≡ None → Fits up base p st
+    → Fits up base (next_place p (Closed succeeded)) st × (aim_of (next_place p (Closed succeeded)) ≡ aim_of p)
+goes_behind up kinds at base p st succeeded words state is none fits = subst (λ (o : Option Answer). ReachedBy up base (aim_of p) (next_place p (Closed succeeded)) o st) none
+    ((places_lead up kinds at base p st words fits).2 (Closed succeeded) st (subst (λ (a : Act). Became up kinds at (sleeper_at p) st a (Closed succeeded) st) (sym is) refl))

@@ -1,7 +1,8 @@
 -- One turn of the driver: the steps that it added bring the reply, and that leads on.
-use Rattle.std.proofs.Common.{ℕ, ◌≡◌, Bool, true, List, [], ◌++◌, Option, None, refl, sym, ap, ◌∙◌, subst}
+use Rattle.std.proofs.Common.{ℕ, ◌≡◌, Bool, true, List, [], ◌++◌, Option, Some, None, refl, sym, ap, ◌∙◌, subst}
 use Rattle.std.proofs.lemmas.List.{append-nil}
 use Rattle.lot_base.specs.declared.ops.Op.{Op}
+use Rattle.lot_calls.specs.declared.outcomes.OnceState.{OnceState}
 use Rattle.lot_base.specs.declared.ops.Op.TheVariants.{Load}
 use Rattle.lot_mutex.specs.MutexSteps.{mutex_next}
 use Rattle.lot_steps.specs.Steps.{act_of, next_place, mutex_goes, HasKeys}
@@ -12,7 +13,7 @@ use Rattle.lot_acts.specs.declared.acts.Act.{Act}
 use Rattle.lot_acts.specs.declared.acts.Act as act
 use Rattle.lot_acts.specs.declared.acts.Whom as whom
 use Rattle.lot_acts.specs.declared.acts.Reply.{Reply}
-use Rattle.lot_acts.specs.declared.acts.Reply.TheVariants.{Done, Value, Parked, Took, Picked, Requeued, Removed, Late, Woken}
+use Rattle.lot_acts.specs.declared.acts.Reply.TheVariants.{Done, Value, Parked, Took, Picked, Requeued, Removed, MovedTo, Late, Woken, Closed}
 use Rattle.lot_steps.specs.declared.places.Place.{Place}
 use Rattle.lot_steps.specs.declared.places.Place.TheVariants.{Idle, Mutex}
 use Rattle.lot_words.specs.Indices.{word_index}
@@ -26,34 +27,35 @@ use Rattle.parking_lot_core.specs.declared.sections.Section.{Section}
 use Rattle.parking_lot_core.specs.declared.tokens.SectionRecord.{SectionRecord}
 use Rattle.parking_lot_core.specs.declared.tokens.Token.{Token}
 use Rattle.parking_lot.specs.Fitting.{AreWordsFor}
-use Rattle.parking_lot.specs.Paths.{Tells, step, word, hands, parks, other, is_wordless, is_valueless}
+use Rattle.parking_lot.specs.Paths.{Tells, Told, closure_of, step, word, hands, parks, other, is_wordless, is_valueless}
 use Rattle.parking_lot.specs.Stages.{Stage, Became, Stepped, Adds, stage, stage_of, inside_of}
 use Rattle.parking_lot.specs.declared.acting.Sleeper.{Sleeper}
-
--- these steps were added, and bring the reply
-abbrev pub Told : (ℕ → ℕ) → Place → Reply → List WordStep → List WordStep → Type 0
-Told at p reply before behind = (then : List WordStep) × (behind ≡ before ++ then) × Tells at p then reply
 
 wordless : (at : ℕ → ℕ) (p : Place) (a : Act) (reply : Reply) (before behind : List WordStep) → act_of p ≡ a → is_wordless a ≡ true → is_valueless reply ≡ true → behind ≡ before → Told at p reply before behind
 wordless at p a reply before behind is quiet valueless e = ([], e ∙ sym (append-nil before), other p reply (ap is_wordless is ∙ quiet) valueless)
 
-pub told : (up : Type 0) (at : ℕ → ℕ) (kinds : ℕ → WordKind) (sleeper : Sleeper) (p : Place) (a : Act) → act_of p ≡ a → (st new : Stage) (reply : Reply) (before behind : List WordStep) → Became up kinds at sleeper st a reply new → Adds at a reply before behind → Told at p reply before behind
-told up at kinds sleeper p (act.TheVariants.Word l op) is st new (Value seen) before behind b e = (step (at l) op seen, e, word p l op seen is)
-told up at kinds sleeper p (act.TheVariants.HandOver l op) is st new (Value seen) before behind b e = (step (at l) op seen, e, hands p l op seen is)
-told up at kinds sleeper p (act.TheVariants.Park l key check want) is st new (Parked parked) before behind b e = (step (at l) Load e.0, e.2, subst (λ (x : Bool). Tells at p (step (at l) Load e.0) (Parked x)) (sym e.1) (parks p l key check want e.0 is))
-told up at kinds sleeper p (act.TheVariants.Enter keys) is st new Done before behind b e = wordless at p (act.TheVariants.Enter keys) Done before behind is refl refl e
-told up at kinds sleeper p (act.TheVariants.Stand key want) is st new Done before behind b e = wordless at p (act.TheVariants.Stand key want) Done before behind is refl refl e
-told up at kinds sleeper p (act.TheVariants.Take key whom.TheVariants.First) is st new (Took any left) before behind b e = wordless at p (act.TheVariants.Take key whom.TheVariants.First) (Took any left) before behind is refl refl e
-told up at kinds sleeper p (act.TheVariants.Take key whom.TheVariants.All) is st new (Took any left) before behind b e = wordless at p (act.TheVariants.Take key whom.TheVariants.All) (Took any left) before behind is refl refl e
-told up at kinds sleeper p (act.TheVariants.Take key (whom.TheVariants.Picked start recursive)) is st new (Picked sharers successor left) before behind b e = wordless at p (act.TheVariants.Take key (whom.TheVariants.Picked start recursive)) (Picked sharers successor left) before behind is refl refl e
-told up at kinds sleeper p (act.TheVariants.Take key who) is st new reply before behind b e = absurd b.0
-told up at kinds sleeper p (act.TheVariants.Requeue from to how) is st new (Requeued number left) before behind b e = wordless at p (act.TheVariants.Requeue from to how) (Requeued number left) before behind is refl refl e
-told up at kinds sleeper p (act.TheVariants.Remove key) is st new (Removed left) before behind b e = wordless at p (act.TheVariants.Remove key) (Removed left) before behind is refl refl e
-told up at kinds sleeper p (act.TheVariants.Leave keys wakes) is st new Done before behind b e = wordless at p (act.TheVariants.Leave keys wakes) Done before behind is refl refl e
-told up at kinds sleeper p act.TheVariants.Sleep is st new (Woken note) before behind b e = wordless at p act.TheVariants.Sleep (Woken note) before behind is refl refl e
-told up at kinds sleeper p act.TheVariants.Sleep is st new Late before behind b e = wordless at p act.TheVariants.Sleep Late before behind is refl refl e
-told up at kinds sleeper p act.TheVariants.Accept is st new Done before behind b e = wordless at p act.TheVariants.Accept Done before behind is refl refl e
-told up at kinds sleeper p a is st new reply before behind b e = absurd b
+some_closure : {state : OnceState} → Some state ≡ None → ⊥
+some_closure e = cc
+
+pub told : (up : Type 0) (at : ℕ → ℕ) (kinds : ℕ → WordKind) (sleeper : Sleeper) (p : Place) (a : Act) → act_of p ≡ a → closure_of a ≡ None → (st new : Stage) (reply : Reply) (before behind : List WordStep) → Became up kinds at sleeper st a reply new → Adds at a reply before behind → Told at p reply before behind
+told up at kinds sleeper p (act.TheVariants.Word l op) is runs st new (Value seen) before behind b e = (step (at l) op seen, e, word p l op seen is)
+told up at kinds sleeper p (act.TheVariants.HandOver l op) is runs st new (Value seen) before behind b e = (step (at l) op seen, e, hands p l op seen is)
+told up at kinds sleeper p (act.TheVariants.Park l key check want) is runs st new (Parked parked) before behind b e = (step (at l) Load e.0, e.2, subst (λ (x : Bool). Tells at p (step (at l) Load e.0) (Parked x)) (sym e.1) (parks p l key check want e.0 is))
+told up at kinds sleeper p (act.TheVariants.Enter keys) is runs st new Done before behind b e = wordless at p (act.TheVariants.Enter keys) Done before behind is refl refl e
+told up at kinds sleeper p (act.TheVariants.Stand key want) is runs st new Done before behind b e = wordless at p (act.TheVariants.Stand key want) Done before behind is refl refl e
+told up at kinds sleeper p (act.TheVariants.Take key whom.TheVariants.First) is runs st new (Took any left) before behind b e = wordless at p (act.TheVariants.Take key whom.TheVariants.First) (Took any left) before behind is refl refl e
+told up at kinds sleeper p (act.TheVariants.Take key whom.TheVariants.All) is runs st new (Took any left) before behind b e = wordless at p (act.TheVariants.Take key whom.TheVariants.All) (Took any left) before behind is refl refl e
+told up at kinds sleeper p (act.TheVariants.Take key (whom.TheVariants.Picked start recursive)) is runs st new (Picked sharers successor left) before behind b e = wordless at p (act.TheVariants.Take key (whom.TheVariants.Picked start recursive)) (Picked sharers successor left) before behind is refl refl e
+told up at kinds sleeper p (act.TheVariants.Take key who) is runs st new reply before behind b e = absurd b.0
+told up at kinds sleeper p (act.TheVariants.Requeue from to how) is runs st new (Requeued number left) before behind b e = wordless at p (act.TheVariants.Requeue from to how) (Requeued number left) before behind is refl refl e
+told up at kinds sleeper p (act.TheVariants.Remove key) is runs st new (Removed left) before behind b e = wordless at p (act.TheVariants.Remove key) (Removed left) before behind is refl refl e
+told up at kinds sleeper p (act.TheVariants.Leave keys wakes) is runs st new Done before behind b e = wordless at p (act.TheVariants.Leave keys wakes) Done before behind is refl refl e
+told up at kinds sleeper p act.TheVariants.Sleep is runs st new (Woken note) before behind b e = wordless at p act.TheVariants.Sleep (Woken note) before behind is refl refl e
+told up at kinds sleeper p act.TheVariants.Sleep is runs st new Late before behind b e = wordless at p act.TheVariants.Sleep Late before behind is refl refl e
+told up at kinds sleeper p act.TheVariants.Sleep is runs st new (MovedTo key) before behind b e = wordless at p act.TheVariants.Sleep (MovedTo key) before behind is refl refl e
+told up at kinds sleeper p act.TheVariants.Accept is runs st new Done before behind b e = wordless at p act.TheVariants.Accept Done before behind is refl refl e
+told up at kinds sleeper p (act.TheVariants.Closure state) is runs st new reply before behind b e = absurd (some_closure runs)
+told up at kinds sleeper p a is runs st new reply before behind b e = absurd b
 
 -- the words of a call serve it to its end
 pub words_on : (p : Place) (reply : Reply) (kinds : ℕ → WordKind) (at : ℕ → ℕ) → AreWordsFor p kinds at → AreWordsFor (next_place p reply) kinds at

@@ -13,7 +13,10 @@ use Rattle.lot_words.specs.declared.owners.Ownership.{Ownership}
 use Rattle.lot_words.specs.declared.views.WordStep.{WordStep}
 use Rattle.parking_lot_core.specs.declared.tokens.SectionRecord.{SectionRecord}
 use Rattle.parking_lot.specs.MutexFitting.{Purpose, enters, releases, hands_over, TookAt, held}
-use Rattle.parking_lot.specs.Paths.{step, mutex_at}
+use Rattle.lot_calls.specs.declared.outcomes.Answer.{Answer}
+use Rattle.parking_lot_core.specs.Tokens.{view_of}
+use Rattle.parking_lot_core.specs.declared.tokens.Token.{Token}
+use Rattle.parking_lot.specs.Paths.{step, mutex_at, at_mutex, Walks}
 
 -- where a call of a mutex begins
 abbrev pub beginning : ℕ → MutexCall → Place
@@ -57,7 +60,8 @@ saw_waiter _ seen = is_parked seen
 
 -- a release took a waiter by what its first operation saw
 abbrev pub Releases : ℕ → MutexCall → List WordStep → List WordStep → Option SectionRecord → Type 0
-Releases n c old new last = (seen : ℕ) × (more : List WordStep) × (new ≡ (old ++ step (mutex_at n) (first_op c) seen) ++ more) × TookIfParked n (saw_waiter c seen) more last
+Releases n c old new last = (seen : ℕ) × (more : List WordStep)
+    × (new ≡ (old ++ step (mutex_at n) (first_op c) seen) ++ more) × TookIfParked n (saw_waiter c seen) more last
 
 -- the word was loaded once, and told that the mutex is locked or not
 abbrev pub Sees : ℕ → Bool → List WordStep → List WordStep → Type 0
@@ -67,3 +71,13 @@ Sees n locked old new = (seen : ℕ) × (new ≡ old ++ step (mutex_at n) Load s
 abbrev pub fairly : MutexCall → MutexCall
 fairly call.Unlock = call.UnlockFair
 fairly c = c
+
+-- the steps of a call lead from its beginning to the answer
+abbrev pub HasWalked : ℕ → MutexCall → Answer → Token → Token → Type 0
+HasWalked n c answer old new = Walks (at_mutex n) (beginning n c) (view_of old).steps (view_of new).steps answer
+
+-- and so they do with the first, which was taken before and saw this
+abbrev pub WalksBehind : ℕ → MutexCall → ℕ → Token → Token → Answer → Type 0
+WalksBehind n c seen old new answer = (before : List WordStep)
+    → (view_of old).steps ≡ before ++ step (mutex_at n) (first_op c) seen
+    → Walks (at_mutex n) (beginning n c) before (view_of new).steps answer

@@ -2,27 +2,42 @@
 use Rattle.std.specs.Prelude.{◌≡◌, ◌<◌}
 use Rattle.std.proofs.Props.{props}
 use Rattle.std.proofs.Common.{◌∙◌}
-use Rattle.lot_words.specs.Lots.{IsWordOf}
-use Rattle.lot_words.specs.RightsOf.{IsRightOf}
+use Rattle.lot_words.specs.Lots.{IsWordOf, permit_of}
+use Rattle.lot_words.specs.RightsOf.{IsRightOf, IsOpenOf}
 use Rattle.lot_words.specs.declared.owners.Owner.TheVariants.{Exclusive}
 use Rattle.lot_words.specs.declared.words.Word.{Word}
 use Rattle.lot_words.specs.declared.words.WordKind as kinds
+use Rattle.parking_lot.specs.declared.guards.OpenGuard.{OpenGuard}
 use Rattle.parking_lot.specs.declared.guards.RawGuard.{RawGuard}
+use Rattle.value_place.specs.PermitIds.{PermitId}
 use Rattle.parking_lot_core.specs.Tokens.{IsTokenOf, view_of}
 use Rattle.parking_lot_core.specs.declared.lot.ParkingLot.{ParkingLot}
 use Rattle.parking_lot_core.specs.declared.tokens.Token.{Token}
 
 -- a thread of the lot, and a mutex of it whose keys are numbers
 abbrev pub MeetAt : ParkingLot → Token → Word → Type 0
-MeetAt lot token word = IsTokenOf lot token × IsWordOf lot.words word × (word.kind ≡ kinds.TheVariants.Mutex) × (word.number < 9223372036854775808)
+MeetAt lot token word = IsTokenOf lot token × IsWordOf lot.words word
+    × (word.kind ≡ kinds.TheVariants.Mutex) × (word.number < 9223372036854775808)
 
 -- a guard of a mutex: the right of who owns it alone
 abbrev pub IsGuardOf : ParkingLot → Word → RawGuard → Type 0
-IsGuardOf lot word guard = IsRightOf lot.words guard.right × (guard.right.word ≡ word) × (guard.right.owner ≡ Exclusive)
+IsGuardOf lot word guard = IsRightOf lot.words guard.right
+    × (guard.right.word ≡ word) × (guard.right.owner ≡ Exclusive)
 
 -- that a guard is a mutex's has one proof at most
 pub IsGuardOf-prop : (lot : ParkingLot) (word : Word) (guard : RawGuard) → IsProp (IsGuardOf lot word guard)
 IsGuardOf-prop lot word guard = Prim.hlevel props
+
+-- the same of a mutex whose value is open
+abbrev pub IsOpenGuardOf : ParkingLot → Word → OpenGuard → Type 0
+IsOpenGuardOf lot word guard = IsOpenOf lot.words guard.held × (guard.held.word ≡ word)
+
+pub IsOpenGuardOf-prop : (lot : ParkingLot) (word : Word) (guard : OpenGuard) → IsProp (IsOpenGuardOf lot word guard)
+IsOpenGuardOf-prop lot word guard = Prim.hlevel props
+
+-- the permit of the value that a mutex guards
+abbrev pub permit_in : ParkingLot → Word → PermitId
+permit_in lot word = permit_of lot.words word
 
 -- it is the same thread, and owns what it did
 abbrev pub StaysAs : Token → Token → Type 0

@@ -17,6 +17,8 @@ use Rattle.parking_lot.specs.MutexFitting.{Purpose, purpose_at, FitsMutex, IsMut
 use Rattle.parking_lot.specs.Paths.{mutexes, at_mutex}
 use Rattle.parking_lot.specs.Stages.{Stage, Needs, Became, Stepped}
 use Rattle.parking_lot.specs.declared.acting.Sleeper.{Sleeper}
+use Rattle.parking_lot.specs.declared.driver.Stop.{Stop}
+use Rattle.parking_lot.specs.declared.driver.Stop.TheVariants.{Ended, Paused}
 
 abbrev pub answer_of : Act → Option Answer
 answer_of (act.TheVariants.End answer) = Some answer
@@ -31,15 +33,20 @@ abbrev pub aim_of : Place → Aim
 aim_of Idle = nothing
 aim_of (Mutex l at) = of_mutex l (purpose_at at)
 
--- for what a thread sleeps in a call, and the key under which it may be late
+-- for what a thread sleeps in a call, and the keys under which it may be late. Nobody is moved from the queue of a mutex
 abbrev pub sleeper_at : Place → Sleeper
-sleeper_at Idle = record { lock = 0; want = Exclusive; late = None }
-sleeper_at (Mutex l at) = record { lock = l; want = Exclusive; late = late_key (Mutex l at) }
+sleeper_at Idle = record { lock = 0; want = Exclusive; late = None; moved = None }
+sleeper_at (Mutex l at) = record { lock = l; want = Exclusive; late = late_key (Mutex l at); moved = None }
 
 -- the keys of the call's lock are numbers, and its words are of the kinds that the call steps on
 abbrev pub AreWordsFor : Place → (ℕ → WordKind) → (ℕ → ℕ) → Type 0
 AreWordsFor Idle kinds at = Unit {0}
 AreWordsFor (Mutex l place) kinds at = HasKeys (Mutex l place) × (kinds ≡ mutexes) × (at ≡ at_mutex l)
+
+-- and behind its closure they are so still
+abbrev pub AreWordsAfter : Stop → (ℕ → WordKind) → (ℕ → ℕ) → Type 0
+AreWordsAfter (Ended answer) kinds at = Unit {0}
+AreWordsAfter (Paused place state) kinds at = AreWordsFor place kinds at
 
 -- `up` says that the time of the call is up
 module _ (up : Type 0) where
@@ -52,6 +59,12 @@ module _ (up : Type 0) where
   abbrev pub IsOver : List Ownership → Aim → Answer → Stage → Type 0
   IsOver base nothing answer st = ⊥
   IsOver base (of_mutex l purpose) answer st = IsMutexOver up l base purpose answer st
+
+  -- what a run came to: the end of its call, or a closure, which is outside all sections
+  abbrev pub IsStopped : List Ownership → Aim → Stop → Stage → Type 0
+  IsStopped base aim (Ended answer) st = IsOver base aim answer st
+  IsStopped base aim (Paused place state) st = Fits base place st
+      × (aim_of place ≡ aim) × (act_of place ≡ act.TheVariants.Closure state)
 
   abbrev pub ReachedBy : List Ownership → Aim → Place → Option Answer → Stage → Type 0
   ReachedBy base aim p None st = Fits base p st × (aim_of p ≡ aim)
@@ -68,7 +81,9 @@ module _ (up : Type 0) where
 
   -- each place's act is one that the thread may take, and each reply leads to a place that fits
   abbrev pub PlacesLead : Type 0
-  PlacesLead = (kinds : ℕ → WordKind) (at : ℕ → ℕ) (base : List Ownership) (p : Place) (st : Stage) → AreWordsFor p kinds at → Fits base p st →
+  PlacesLead = (kinds : ℕ → WordKind) (at : ℕ → ℕ) (base : List Ownership) (p : Place) (st : Stage)
+      → AreWordsFor p kinds at → Fits base p st →
       Needs kinds at st (act_of p)
       × Spins kinds at base p st
-      × ((reply : Reply) (new : Stage) → Became up kinds at (sleeper_at p) st (act_of p) reply new → Reached base p reply new)
+      × ((reply : Reply) (new : Stage) → Became up kinds at (sleeper_at p) st (act_of p) reply new
+      → Reached base p reply new)

@@ -3,6 +3,7 @@ pub mod Takes
 pub mod Paths
 pub mod Driving
 pub mod Stages
+pub mod Telling
 pub mod MutexFitting
 pub mod Fitting
 pub mod Calls

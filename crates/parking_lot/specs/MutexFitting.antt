@@ -1,6 +1,8 @@
 -- What a thread of a mutex's call has at each place, and at its end.
 use Rattle.std.specs.Prelude.{ℕ, ◌≡◌, ◌<◌, ◌*◌, ◌⊎◌, Bool, true, false, List, [], ◌∷◌, Option, Some, None}
+use Rattle.lot_base.specs.Lines.{threads_of}
 use Rattle.lot_base.specs.declared.keys.Keys.TheVariants.{One}
+use Rattle.lot_base.specs.declared.wants.Waiter.{Waiter}
 use Rattle.lot_calls.specs.declared.outcomes.Answer.{Answer}
 use Rattle.lot_calls.specs.declared.outcomes.Answer as answers
 use Rattle.lot_mutex.specs.MutexSteps.{is_timed, entered}
@@ -21,7 +23,7 @@ use Rattle.lot_words.specs.declared.owners.Ownership.{Ownership}
 use Rattle.parking_lot_core.specs.declared.tokens.Did.TheVariants.{TakeFirst}
 use Rattle.parking_lot_core.specs.declared.tokens.SectionRecord.{SectionRecord}
 use Rattle.parking_lot.specs.Paths.{mutex_at}
-use Rattle.parking_lot.specs.Stages.{Stage, entered_now, is_there, listed}
+use Rattle.parking_lot.specs.Stages.{Stage, entered_now, having_taken, is_there, listed}
 
 -- what a call of a mutex is for: to enter, to end a release that has given the lock up, or to hand it over
 pub data Purpose : Type 0 where
@@ -59,12 +61,14 @@ abbrev pub Within : ℕ → List Ownership → Stage → Type 0
 Within n owns st = (st.owns ≡ owns) × (st.inside ≡ entered_now (One (2 * n)))
 
 -- or has taken the first of the queue, if any; these have no right yet
-abbrev pub Took : ℕ → Option ℕ → List ℕ → List Ownership → Stage → Type 0
-Took n first rightless owns st = (st.owns ≡ owns) × (st.inside ≡ Some (record { keys = One (2 * n); did = TakeFirst (2 * n); taken = listed first; rightless = rightless }))
+abbrev pub Took : ℕ → Option Waiter → List ℕ → List Ownership → Stage → Type 0
+Took n first rightless owns st = (st.owns ≡ owns)
+    × (st.inside ≡ Some (having_taken (One (2 * n)) (TakeFirst (2 * n)) (listed first) rightless))
 
 -- or has taken some thread, or none; that one has no right yet
 abbrev pub HasTook : ℕ → Bool → List Ownership → Stage → Type 0
-HasTook n any owns st = (first : Option ℕ) × (any ≡ is_there first) × Took n first (listed first) owns st
+HasTook n any owns st = (first : Option Waiter) × (any ≡ is_there first)
+    × Took n first (threads_of (listed first)) owns st
 
 -- the section that was left last is one of this key, where the first of the queue was taken
 abbrev pub TookAt : ℕ → Option SectionRecord → Type 0
@@ -83,7 +87,8 @@ abbrev pub FitsHandOff : ℕ → List Ownership → HandOffAt → Stage → Type
 FitsHandOff n base hand_off.TheVariants.Enter st = (has (held n) base ≡ true) × Outside base st
 FitsHandOff n base hand_off.TheVariants.Take st = (has (held n) base ≡ true) × Within n base st
 FitsHandOff n base (hand_off.TheVariants.Store any none_left) st = (has (held n) base ≡ true) × HasTook n any base st
-FitsHandOff n base (hand_off.TheVariants.Leave any) st = (first : Option ℕ) × (any ≡ is_there first) × Took n first [] (without (held n) base) st
+FitsHandOff n base (hand_off.TheVariants.Leave any) st = (first : Option Waiter) × (any ≡ is_there first)
+    × Took n first [] (without (held n) base) st
 
 -- `up` says that the time of the call is up
 module _ (up : Type 0) where
@@ -118,4 +123,5 @@ module _ (up : Type 0) where
       ((answer ≡ entered e) × Outside (held n ∷ beside n e base) st)
       ⊎ ((answer ≡ answers.TheVariants.No) × GaveUp e × Outside (beside n e base) st)
   IsMutexOver n base releases answer st = (answer ≡ answers.TheVariants.Ok) × Outside base st × TookAt n st.last
-  IsMutexOver n base hands_over answer st = (answer ≡ answers.TheVariants.Ok) × Outside (without (held n) base) st × TookAt n st.last
+  IsMutexOver n base hands_over answer st = (answer ≡ answers.TheVariants.Ok)
+      × Outside (without (held n) base) st × TookAt n st.last

@@ -1,5 +1,5 @@
 -- The word steps of a call are a path of its transitions.
-use Rattle.std.specs.Prelude.{ℕ, ◌≡◌, Bool, true, false, Some, List, [], ◌∷◌, ◌++◌}
+use Rattle.std.specs.Prelude.{ℕ, ◌≡◌, Bool, true, false, Option, Some, None, List, [], ◌∷◌, ◌++◌}
 use Rattle.lot_base.specs.declared.ops.Op.{Op}
 use Rattle.lot_base.specs.declared.ops.Op.TheVariants.{Load}
 use Rattle.lot_base.specs.declared.wants.Want.{Want}
@@ -14,7 +14,10 @@ use Rattle.lot_acts.specs.declared.acts.Check.{Check}
 use Rattle.lot_acts.specs.declared.acts.Reply.{Reply}
 use Rattle.lot_acts.specs.declared.acts.Reply.TheVariants.{Value, Spun, Parked}
 use Rattle.lot_calls.specs.declared.outcomes.Answer.{Answer}
+use Rattle.lot_calls.specs.declared.outcomes.OnceState.{OnceState}
 use Rattle.lot_steps.specs.declared.places.Place.{Place}
+use Rattle.parking_lot.specs.declared.driver.Stop.{Stop}
+use Rattle.parking_lot.specs.declared.driver.Stop.TheVariants.{Ended, Paused}
 
 -- where the word of a mutex stands
 abbrev pub mutex_at : ℕ → ℕ
@@ -30,6 +33,11 @@ at_mutex number lock = mutex_at number
 -- one step on the word at a place, and what it saw
 abbrev pub step : ℕ → Op → ℕ → List WordStep
 step at op seen = record { at = at; op = op; seen = seen } ∷ []
+
+-- the state with which the closure of a call runs
+abbrev pub closure_of : Act → Option OnceState
+closure_of (act.TheVariants.Closure state) = Some state
+closure_of _ = None
 
 -- acts that touch no word
 abbrev pub is_wordless : Act → Bool
@@ -52,17 +60,26 @@ is_valueless _ = true
 
 -- at a place these steps on words bring the reply, by where the word of each lock stands
 pub data Tells (at : ℕ → ℕ) : Place → List WordStep → Reply → Type 0 where
-  word : (p : Place) (lock : ℕ) (op : Op) (seen : ℕ) → act_of p ≡ act.TheVariants.Word lock op → Tells at p (step (at lock) op seen) (Value seen)
-  hands : (p : Place) (lock : ℕ) (op : Op) (seen : ℕ) → act_of p ≡ act.TheVariants.HandOver lock op → Tells at p (step (at lock) op seen) (Value seen)
-  parks : (p : Place) (lock key : ℕ) (check : Check) (want : Want) (seen : ℕ) → act_of p ≡ act.TheVariants.Park lock key check want → Tells at p (step (at lock) Load seen) (Parked (holds check seen))
+  word : (p : Place) (lock : ℕ) (op : Op) (seen : ℕ) → act_of p ≡ act.TheVariants.Word lock op
+      → Tells at p (step (at lock) op seen) (Value seen)
+  hands : (p : Place) (lock : ℕ) (op : Op) (seen : ℕ) → act_of p ≡ act.TheVariants.HandOver lock op
+      → Tells at p (step (at lock) op seen) (Value seen)
+  parks : (p : Place) (lock key : ℕ) (check : Check) (want : Want) (seen : ℕ)
+      → act_of p ≡ act.TheVariants.Park lock key check want → Tells at p (step (at lock) Load seen) (Parked (holds check seen))
   -- the word is loaded in place of an act that leads to sleep
   spins : (p : Place) (lock seen : ℕ) → spin_lock p ≡ Some lock → Tells at p (step (at lock) Load seen) (Spun seen)
-  other : (p : Place) (reply : Reply) → is_wordless (act_of p) ≡ true → is_valueless reply ≡ true → Tells at p [] reply
+  other : (p : Place) (reply : Reply) → is_wordless (act_of p) ≡ true → is_valueless reply ≡ true
+      → Tells at p [] reply
+
+-- these steps were added, and bring the reply
+abbrev pub Told : (ℕ → ℕ) → Place → Reply → List WordStep → List WordStep → Type 0
+Told at p reply before behind = (then : List WordStep) × (behind ≡ before ++ then) × Tells at p then reply
 
 -- these steps lead from one place to another
 pub data Path (at : ℕ → ℕ) : Place → List WordStep → Place → Type 0 where
   here : (p : Place) → Path at p [] p
-  on : (p q : Place) (xs ys : List WordStep) (reply : Reply) → Path at p xs q → Tells at q ys reply → Path at p (xs ++ ys) (next_place q reply)
+  on : (p q : Place) (xs ys : List WordStep) (reply : Reply) → Path at p xs q → Tells at q ys reply
+      → Path at p (xs ++ ys) (next_place q reply)
 
 -- the last reply of a call, which ends it by an answer
 pub record Ending (at : ℕ → ℕ) (p : Place) (steps : List WordStep) (answer : Answer) : Type 0 where
@@ -78,3 +95,8 @@ pub record Ending (at : ℕ → ℕ) (p : Place) (steps : List WordStep) (answer
 -- the steps that were added to a list lead from a place to the end of its call
 abbrev pub Walks : (ℕ → ℕ) → Place → List WordStep → List WordStep → Answer → Type 0
 Walks at p old new answer = (more : List WordStep) × (new ≡ old ++ more) × Ending at p more answer
+
+-- and so do the steps of a run, which ends the call or comes to its closure
+abbrev pub Runs : (ℕ → ℕ) → Place → List WordStep → List WordStep → Stop → Type 0
+Runs at p old new (Ended answer) = Walks at p old new answer
+Runs at p old new (Paused place state) = (more : List WordStep) × (new ≡ old ++ more) × Path at p more place

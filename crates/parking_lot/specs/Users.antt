@@ -1,7 +1,7 @@
 -- What the clauses of users cite.
 use Rattle.std.specs.Arc.{arc_value}
 use Rattle.parking_lot_core.specs.declared.lot.ParkingLot.{ParkingLot}
-pub use Rattle.lock_api.specs.Guards.{lock_of}
+pub use Rattle.lock_api.specs.Guards.{lock_of, value_of}
 use Rattle.lot_words.specs.declared.words.Word.{Word}
 use Rattle.parking_lot.specs.declared.raw_mutex.RawMutex.{RawMutex}
 pub use Rattle.parking_lot_core.specs.Tokens.{IsTicketOf, IsTokenOf, view_of, last_of}

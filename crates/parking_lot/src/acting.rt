@@ -1,8 +1,8 @@
 //! What a thread does in one act of any call, whatever the lock is.
-ghost use Rattle.std.specs.Prelude.{◌≡◌, ◌++◌, ◌∷◌, ◌==◌, ℕ, [], true, None, length, MatchBool};
+ghost use Rattle.std.specs.Prelude.{◌≡◌, ◌++◌, ◌∷◌, ◌==◌, ℕ, [], None, Some, length, MatchBool};
 ghost use Rattle.lot_base.specs.Clocks.{IsUp};
 ghost use Rattle.lot_base.specs.Lines.{waiter, line, lines, without};
-ghost use Rattle.lot_base.specs.declared.notes.Note.TheVariants.{HandOff};
+ghost use Rattle.lot_base.specs.declared.keys.Keys.TheVariants.{One};
 ghost use Rattle.lot_base.specs.declared.ops.Op.TheVariants.{Load};
 ghost use Rattle.lot_acts.specs.Acts.{holds};
 ghost use Rattle.lot_words.specs.Lots.{IsWordOf};
@@ -10,9 +10,10 @@ ghost use Rattle.lot_words.specs.Indices.{word_index};
 ghost use Rattle.lot_words.specs.Steps.{MayStep, CodesWith, after_step};
 ghost use Rattle.parking_lot_core.specs.Keys.{AreKeys};
 ghost use Rattle.parking_lot_core.specs.Tokens.{IsTokenOf, Stays, view_of, last_of};
-ghost use Rattle.parking_lot.specs.Paths.{step};
+ghost use Rattle.parking_lot.specs.Paths.{closure_of, step};
+ghost use Rattle.parking_lot.specs.Telling.{AreWaiting, HasStepped, MayFind, MayTake, MayTakeAt, StandsLast, index_of, is_empty_at, owns_of, steps_of};
 ghost use Rattle.parking_lot.specs.Words.{AreWordsOf, word_in, kind_in, at_in};
-ghost use Rattle.parking_lot.specs.Stages.{Adds, Awoke, HasKey, HasOneTaken, IsFresh, MayLeave, KeepsIt, IsIn, IsLeft, TookBy, handed, note_of, inside_of, stage_of, waiting_of, entered_now, Needs, Became};
+ghost use Rattle.parking_lot.specs.Stages.{Adds, Awoke, AwokeLate, HandsEach, HasKey, IsFresh, IsUngiven, MayLeave, IsIn, IsLeft, TookBy, handed, note_of, inside_of, stage_of, waiting_of, wanted_in, entered_now, Needs, Became};
 
 use crate::taking::{requeue, take_all, take_first, take_picked, tell_wants};
 use crate::words::Words;
@@ -40,11 +41,13 @@ fn park(
     want: Want,
 ) -> bool
     requires own { IsTokenOf lot.now token.old × IsWordOf lot.now.words word × IsIn lot.now section.old }
-    requires needs { MayStep word.kind (word_index word.number word.kind) Load (view_of token.old).owns × HasKey key (inside_of section.old) }
+    requires needs { MayTake word Load token.old × HasKey key (inside_of section.old) }
     ensures own { Stays lot.now token.old token.new × (last_of token.new ≡ None) }
     ensures same { IsIn lot.now section.new × (inside_of section.new ≡ inside_of section.old) }
-    ensures stepped { (seen : ℕ) × (result ≡ holds check seen) × CodesWith word.kind (word_index word.number word.kind) seen (view_of token.old).owns × (view_of token.new ≡ after_step word.kind (word_index word.number word.kind) Load seen (view_of token.old)) }
-    ensures stands { MatchBool result (lines (waiting_of section.new) ≡ lines (without token.old.number (waiting_of section.old) ++ waiter key token.old.number want ∷ [])) (waiting_of section.new ≡ waiting_of section.old) }
+    ensures stepped { (seen : ℕ) × (result ≡ holds check seen) × MayFind word seen token.old
+        × HasStepped word Load seen token.old token.new }
+    ensures stands { MatchBool result (StandsLast key token.old.number want section.old section.new)
+        (waiting_of section.new ≡ waiting_of section.old) }
 {
     match section {
         Some(inside) => {
@@ -62,7 +65,7 @@ fn park(
 fn stand(lot: &ParkingLot, token: &Token, section: &mut Option<Section>, key: Key, want: Want)
     requires { IsTokenOf lot.now token.now × IsIn lot.now section.old × HasKey key (inside_of section.old) }
     ensures same { IsIn lot.now section.new × (inside_of section.new ≡ inside_of section.old) }
-    ensures stands { lines (waiting_of section.new) ≡ lines (without token.now.number (waiting_of section.old) ++ waiter key token.now.number want ∷ []) }
+    ensures stands { StandsLast key token.now.number want section.old section.new }
 {
     match section {
         Some(inside) => inside.append(key, token.number(), want),
@@ -70,7 +73,7 @@ fn stand(lot: &ParkingLot, token: &Token, section: &mut Option<Section>, key: Ke
     }
 }
 
-// One step on the word, with which the lock goes to the thread that was taken. The right to it is laid in that thread's record.
+// One step on the word, with which the lock goes to those who were taken. The right that each of them wants is laid in its record.
 fn hand_over<R: Wait>(
     rt: &R,
     lot: &ParkingLot,
@@ -80,16 +83,19 @@ fn hand_over<R: Wait>(
     op: Op,
 ) -> u64
     requires own { IsTokenOf lot.now token.old × IsWordOf lot.now.words word × IsIn lot.now section.old }
-    requires needs { MayStep word.kind (word_index word.number word.kind) op (view_of token.old).owns × KeepsIt word.kind (word_index word.number word.kind) op (view_of token.old).owns }
-    requires taken { HasOneTaken (inside_of section.old) }
+    requires may { MayTake word op token.old }
+    requires each { IsUngiven (inside_of section.old)
+        × HandsEach word.kind (index_of word) op (owns_of token.old) (wanted_in (inside_of section.old)) }
     ensures own { Stays lot.now token.old token.new × IsIn lot.now section.new }
-    ensures became { CodesWith word.kind (word_index word.number word.kind) result (view_of token.old).owns × (stage_of token.new section.new ≡ handed word.kind (word_index word.number word.kind) op result (stage_of token.old section.old)) }
-    ensures adds { (view_of token.new).steps ≡ (view_of token.old).steps ++ step (word_index word.number word.kind) op result }
+    ensures coded { MayFind word result token.old }
+    ensures handed { stage_of token.new section.new
+        ≡ handed word.kind (index_of word) op result (stage_of token.old section.old) }
+    ensures adds { steps_of token.new ≡ steps_of token.old ++ step (index_of word) op result }
 {
     match section {
         Some(inside) => {
             let seen = lot.word(token, word, op);
-            inside.give_next(rt, lot.split_right(token, word, Want::Exclusive));
+            inside.give_each(rt, token, word, op.apply(seen));
             seen
         }
         None => unreachable!(),
@@ -100,7 +106,8 @@ fn hand_over<R: Wait>(
 fn remove(_lot: &ParkingLot, section: &mut Option<Section>, key: Key, thread: usize) -> bool
     requires { IsIn _lot.now section.old × HasKey key (inside_of section.old) }
     ensures same { IsIn _lot.now section.new × (inside_of section.new ≡ inside_of section.old) }
-    ensures left { (lines (waiting_of section.new) ≡ lines (without thread (waiting_of section.old))) × (result ≡ (length (line key (waiting_of section.new)) == 0)) }
+    ensures left { AreWaiting (without thread (waiting_of section.old)) section.new
+        × (result ≡ is_empty_at key section.new) }
 {
     match section {
         Some(inside) => {
@@ -148,7 +155,8 @@ fn leave<R: Wait>(
 )
     requires { IsTokenOf lot.now token.old × IsIn lot.now section.old × MayLeave note (inside_of section.old) }
     ensures own { Stays lot.now token.old token.new × (view_of token.new ≡ view_of token.old) }
-    ensures left { (inside_of section.new ≡ None) × IsIn lot.now section.new × IsLeft (inside_of section.old) (last_of token.new) }
+    ensures left { (inside_of section.new ≡ None) × IsIn lot.now section.new
+        × IsLeft (inside_of section.old) (last_of token.new) }
 {
     match section.take() {
         Some(inside) => inside.leave(rt, token, note),
@@ -157,16 +165,14 @@ fn leave<R: Wait>(
 }
 
 fn take(lot: &ParkingLot, section: &mut Option<Section>, key: Key, whom: Whom) -> Reply
-    requires { IsIn lot.now section.old × HasKey key (inside_of section.old) × IsFresh (inside_of section.old) }
-    ensures { IsIn lot.now section.new × TookBy key whom result (inside_of section.old) (inside_of section.new) }
+    requires { MayTakeAt lot.now key section.old }
+    ensures { IsIn lot.now section.new
+        × TookBy key whom result (inside_of section.old) (inside_of section.new) }
 {
     match whom {
         Whom::First => {
-            let (first, none_left) = take_first(lot, section, key);
-            Reply::Took {
-                any: first.is_some(),
-                none_left,
-            }
+            let (any, none_left) = take_first(lot, section, key);
+            Reply::Took { any, none_left }
         }
         Whom::All => {
             let (any, none_left) = take_all(lot, section, key);
@@ -184,12 +190,46 @@ fn take(lot: &ParkingLot, section: &mut Option<Section>, key: Key, whom: Whom) -
     }
 }
 
-/// What a thread waits for where it sleeps, and the key under which it may be late.
+/// What a thread waits for where it sleeps, the key under which it may be late, and the key to which it may be moved meanwhile.
 #[derive(Clone, Copy)]
 pub(crate) struct Sleeper {
     pub lock: usize,
     pub want: Want,
     pub late: Option<Key>,
+    pub moved: Option<Key>,
+}
+
+// The time of a sleeper is up, and it is inside the section of the key where it stands.
+fn awake_late<'a, R: Wait>(
+    rt: &R,
+    token: &mut Token,
+    sleeper: Sleeper,
+    section: &mut Option<Section<'a>>,
+    mut inside: Section<'a>,
+    key: Key,
+) -> Reply
+    requires own { IsTokenOf inside.lot.now token.old × (inside_of section.old ≡ None) }
+    requires late { inside_of (Some inside) ≡ entered_now (One key) }
+    ensures own { Stays inside.entry.lot.now token.old token.new × IsIn inside.entry.lot.now section.new
+        × (steps_of token.new ≡ steps_of token.old) }
+    ensures awoke { AwokeLate key sleeper (stage_of token.old section.old) result
+        (stage_of token.new section.new) }
+{
+    if sleeper.late == Some(key) {
+        match section.replace(inside) {
+            None => return Reply::Late,
+            Some(_) => unreachable!(),
+        }
+    }
+    if sleeper.moved == Some(key) {
+        // It may be late there too, and is so at once.
+        inside.leave(rt, token, Note::Normal);
+        return Reply::MovedTo(key);
+    }
+    // Somebody moved the thread to a queue where it does not wait. It leaves that, and tries again.
+    inside.remove(token.number());
+    inside.leave(rt, token, Note::Normal);
+    Reply::Woken(Note::Normal)
 }
 
 // Sleeps until another thread has taken this one, or its time is up. What was handed over is the token's then.
@@ -203,28 +243,19 @@ fn sleep<'a, R: Wait, C: Clock>(
     section: &mut Option<Section<'a>>,
 ) -> Reply
     requires own { IsTokenOf lot.now token.old × IsWordOf lot.now.words word × (inside_of section.old ≡ None) }
-    ensures own { Stays lot.now token.old token.new × IsIn lot.now section.new × ((view_of token.new).steps ≡ (view_of token.old).steps) }
-    ensures awoke { Awoke (IsUp C.tells limit.entry) word.kind (word_index word.number word.kind) sleeper (stage_of token.old section.old) result (stage_of token.new section.new) }
+    ensures own { Stays lot.now token.old token.new × IsIn lot.now section.new
+        × (steps_of token.new ≡ steps_of token.old) }
+    ensures awoke { Awoke (IsUp C.tells limit.entry) word.kind (index_of word) sleeper
+        (stage_of token.old section.old) result (stage_of token.new section.new) }
 {
-    let late = sleeper.late;
-    match lot.sleep(rt, token, word, sleeper.want, late.and(limit)) {
+    let limit = sleeper.late.and(limit);
+    match lot.sleep(rt, token, word, sleeper.want, limit) {
         Slept::Woken => Reply::Woken(Note::Normal),
         Slept::Handed(right) => {
             lot.join_right(token, right);
             Reply::Woken(Note::HandOff)
         }
-        Slept::Late(inside, key) if late == Some(key) => {
-            match section.replace(inside) {
-                None => Reply::Late,
-                Some(_) => unreachable!(),
-            }
-        }
-        // Somebody moved the thread to another queue. It leaves that, and tries again.
-        Slept::Late(mut inside, _) => {
-            inside.remove(token.number());
-            inside.leave(rt, token, Note::Normal);
-            Reply::Woken(Note::Normal)
-        }
+        Slept::Late(inside, key) => awake_late(rt, token, sleeper, section, inside, key),
     }
 }
 
@@ -241,9 +272,11 @@ pub(crate) fn perform<'a, R: Wait, C: Clock>(
 ) -> Reply
     requires own { IsTokenOf lot.now token.old × AreWordsOf lot.now words × IsIn lot.now section.old }
     requires needs { Needs (kind_in words) (at_in words) (stage_of token.old section.old) act }
+    requires no_closure { closure_of act ≡ None }
     ensures own { Stays lot.now token.old token.new × IsIn lot.now section.new }
-    ensures became { Became (IsUp C.tells limit.entry) (kind_in words) (at_in words) sleeper (stage_of token.old section.old) act result (stage_of token.new section.new) }
-    ensures adds { Adds (at_in words) act result (view_of token.old).steps (view_of token.new).steps }
+    ensures became { Became (IsUp C.tells limit.entry) (kind_in words) (at_in words) sleeper
+        (stage_of token.old section.old) act result (stage_of token.new section.new) }
+    ensures adds { Adds (at_in words) act result (steps_of token.old) (steps_of token.new) }
 {
     match act {
         Act::Word { lock, op } => Reply::Value(lot.word(token, words.of(lock), op)),

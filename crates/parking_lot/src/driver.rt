@@ -2,8 +2,8 @@
 ghost use Rattle.std.specs.Prelude.{◌≡◌, ◌++◌, ℕ, List, None};
 ghost use Rattle.lot_base.specs.Clocks.{IsUp};
 ghost use Rattle.lot_base.specs.declared.ops.Op.TheVariants.{Load};
-ghost use Rattle.lot_steps.specs.Steps.{next_place, HasKeys};
-ghost use Rattle.lot_acts.specs.declared.acts.Reply.TheVariants.{Value};
+ghost use Rattle.lot_steps.specs.Steps.{act_of, next_act, next_place, HasKeys};
+ghost use Rattle.lot_acts.specs.declared.acts.Reply.TheVariants.{Value, Closed};
 ghost use Rattle.lot_words.specs.Lots.{IsWordOf};
 ghost use Rattle.lot_words.specs.Indices.{word_index};
 ghost use Rattle.lot_words.specs.Steps.{MayStep, CodesWith, after_step};
@@ -11,17 +11,18 @@ ghost use Rattle.lot_words.specs.declared.owners.Ownership.{Ownership};
 ghost use Rattle.lot_words.specs.declared.views.WordStep.{WordStep};
 ghost use Rattle.lot_words.specs.declared.words.WordKind.TheVariants.{Mutex};
 ghost use Rattle.parking_lot_core.specs.Tokens.{IsTokenOf, Stays, view_of, last_of};
-ghost use Rattle.parking_lot.specs.Calls.{beginning, first_op, purpose_in, GoesOn};
+ghost use Rattle.parking_lot.specs.Calls.{beginning, purpose_in, GoesOn, WalksBehind};
 ghost use Rattle.parking_lot.specs.Driving.{MeetAt};
-ghost use Rattle.parking_lot.specs.Fitting.{PlacesLead, AreWordsFor, Fits, IsOver, Reached, answer_of, aim_of, sleeper_at};
+ghost use Rattle.parking_lot.specs.Fitting.{PlacesLead, AreWordsFor, AreWordsAfter, Fits, IsStopped, Reached, answer_of, aim_of, sleeper_at};
 ghost use Rattle.parking_lot.specs.MutexFitting.{IsMutexOver};
-ghost use Rattle.parking_lot.specs.Paths.{mutex_at, at_mutex, step, Tells, Walks};
+ghost use Rattle.parking_lot.specs.Paths.{closure_of, mutex_at, at_mutex, Runs, Told};
 ghost use Rattle.parking_lot.specs.Words.{AreWordsOf, kind_in, at_in};
 ghost use Rattle.parking_lot.specs.Stages.{IsIn, stage_of};
+ghost use Rattle.parking_lot.specs.Telling.{HasStepped, MayFind, MayTake, owns_of, steps_of};
 
 use crate::acting::{Sleeper, end, perform};
 use crate::words::Words;
-use lot_calls::{Answer, MutexCall};
+use lot_calls::{Answer, MutexCall, OnceState};
 use lot_steps::{Act, MutexPlace, Place, Reply, advance};
 use parking_lot_core::{Clock, Op, ParkingLot, Section, Token, Want, Word};
 use std::hint::spin_loop;
@@ -55,6 +56,23 @@ impl Clock for NoClock {
 /// The deadline of who waits without a limit.
 pub(crate) const NO_LIMIT: Option<(&'static NoClock, u64)> = None;
 
+/// What a run of a call comes to.
+pub(crate) enum Stop {
+    /// The call is over.
+    Ended(Answer),
+    /// The closure of the call is to run, with this state. The call goes on behind the place.
+    Paused { place: Place, state: OnceState },
+}
+
+fn closure_of(act: Act) -> Option<OnceState>
+    ensures { result ≡ closure_of act }
+{
+    match act {
+        Act::Closure(state) => Some(state),
+        _ => None,
+    }
+}
+
 fn answer_of(act: Act) -> Option<Answer>
     ensures { result ≡ answer_of act }
 {
@@ -87,10 +105,10 @@ fn pause(loads: u32) {
 // Loads the word in place of an act that leads to sleep, after a pause. Before a later load the thread lets others run.
 fn spin(lot: &ParkingLot, token: &mut Token, word: Word, loads: u32) -> u64
     requires own { IsTokenOf lot.now token.old × IsWordOf lot.now.words word }
-    requires may { MayStep word.kind (word_index word.number word.kind) Load (view_of token.old).owns }
+    requires may { MayTake word Load token.old }
     ensures own { Stays lot.now token.old token.new × (last_of token.new ≡ None) }
-    ensures stepped { view_of token.new ≡ after_step word.kind (word_index word.number word.kind) Load result (view_of token.old) }
-    ensures coded { CodesWith word.kind (word_index word.number word.kind) result (view_of token.old).owns }
+    ensures stepped { HasStepped word Load result token.old token.new }
+    ensures coded { MayFind word result token.old }
 {
     pause(loads);
     if loads >= PATIENT_LOADS {
@@ -117,6 +135,7 @@ fn sleeper(place: Place) -> Sleeper
         lock,
         want: Want::Exclusive,
         late: place.late_key(),
+        moved: None,
     }
 }
 
@@ -133,10 +152,13 @@ fn turn<'a, R: Wait, C: Clock>(
 ) -> Reply
     requires own { IsTokenOf lot.now token.old × AreWordsOf lot.now words × IsIn lot.now section.old }
     requires words { AreWordsFor place (kind_in words) (at_in words) }
-    requires fits { (base : List Ownership) × Fits (IsUp C.tells limit) base place (stage_of token.old section.old) }
+    requires fits { (base : List Ownership)
+        × Fits (IsUp C.tells limit) base place (stage_of token.old section.old) }
+    requires no_closure { closure_of (act_of place) ≡ None }
     ensures own { Stays lot.now token.old token.new × IsIn lot.now section.new }
-    ensures told { (then : List WordStep) × ((view_of token.new).steps ≡ (view_of token.old).steps ++ then) × Tells (at_in words) place then result }
-    ensures reached { (base : List Ownership) → Fits (IsUp C.tells limit.entry) base place (stage_of token.old section.old)
+    ensures told { Told (at_in words) place result (steps_of token.old) (steps_of token.new) }
+    ensures reached { (base : List Ownership)
+        → Fits (IsUp C.tells limit.entry) base place (stage_of token.old section.old)
         → Reached (IsUp C.tells limit.entry) base place result (stage_of token.new section.new) }
 {
     if let Some(lock) = place.spin_lock() {
@@ -158,7 +180,7 @@ fn turn<'a, R: Wait, C: Clock>(
     )
 }
 
-/// Runs a call from a place to its answer, up to a deadline where the call is timed.
+/// Runs a call from a place to its answer or its closure, up to a deadline where the call is timed.
 #[cold]
 #[inline(never)]
 pub(crate) fn run<R: Wait, C: Clock>(
@@ -168,18 +190,25 @@ pub(crate) fn run<R: Wait, C: Clock>(
     words: Words,
     limit: Option<(&C, u64)>,
     start: Place,
-) -> Answer
+) -> Stop
     requires own { IsTokenOf lot.now token.old × AreWordsOf lot.now words }
     requires words { AreWordsFor start (kind_in words) (at_in words) }
-    requires start { Fits (IsUp C.tells limit) (view_of token.old).owns start (stage_of token.old None) }
+    requires start { (base : List Ownership) × Fits (IsUp C.tells limit) base start (stage_of token.old None) }
     ensures own { Stays lot.now token.old token.new }
-    ensures path { Walks (at_in words) start (view_of token.old).steps (view_of token.new).steps result }
-    ensures over { IsOver (IsUp C.tells limit.entry) (view_of token.old).owns (aim_of start) result (stage_of token.new None) }
+    ensures path { Runs (at_in words) start (steps_of token.old) (steps_of token.new) result }
+    ensures stopped { (base : List Ownership)
+        → Fits (IsUp C.tells limit.entry) base start (stage_of token.old None)
+        → IsStopped (IsUp C.tells limit.entry) base (aim_of start) result (stage_of token.new None) }
+    ensures words { AreWordsAfter result (kind_in words) (at_in words) }
 {
     let mut place = start;
     let mut section = None;
     let mut loads = 0;
     for _ in rt.forever() {
+        if let Some(state) = closure_of(place.act()) {
+            end(section);
+            return Stop::Paused { place, state };
+        }
         let reply = turn(
             rt,
             lot,
@@ -193,11 +222,38 @@ pub(crate) fn run<R: Wait, C: Clock>(
         let (next, act) = advance(place, reply);
         if let Some(answer) = answer_of(act) {
             end(section);
-            return answer;
+            return Stop::Ended(answer);
         }
         place = next;
     }
     unreachable!()
+}
+
+/// Goes on behind the closure of a call, by whether that succeeded.
+pub(crate) fn resume<R: Wait, C: Clock>(
+    rt: &R,
+    lot: &ParkingLot,
+    token: &mut Token,
+    words: Words,
+    limit: Option<(&C, u64)>,
+    place: Place,
+    succeeded: bool,
+) -> Stop
+    requires own { IsTokenOf lot.now token.old × AreWordsOf lot.now words }
+    requires words { AreWordsFor place (kind_in words) (at_in words) }
+    requires closure { (state : OnceState) × (act_of place ≡ Act.Closure state) }
+    requires goes_on { answer_of (next_act place (Closed succeeded)) ≡ None }
+    requires fits { (base : List Ownership) × Fits (IsUp C.tells limit) base place (stage_of token.old None) }
+    ensures own { Stays lot.now token.old token.new }
+    ensures path { Runs (at_in words) (next_place place (Closed succeeded))
+        (steps_of token.old) (steps_of token.new) result }
+    ensures stopped { (base : List Ownership)
+        → Fits (IsUp C.tells limit.entry) base place (stage_of token.old None)
+        → IsStopped (IsUp C.tells limit.entry) base (aim_of place) result (stage_of token.new None) }
+    ensures words { AreWordsAfter result (kind_in words) (at_in words) }
+{
+    let behind = place.after(Reply::Closed { succeeded });
+    run(rt, lot, token, words, limit, behind)
 }
 
 // Where a call goes on whose first step saw this.
@@ -226,11 +282,15 @@ pub(crate) fn behind<R: Wait, C: Clock>(
     requires own { MeetAt lot.now token.old word }
     requires goes_on { GoesOn word.number call seen (view_of token.old).owns }
     ensures own { Stays lot.now token.old token.new }
-    ensures path { (before : List WordStep) → (view_of token.old).steps ≡ before ++ step (mutex_at word.number) (first_op call) seen
-        → Walks (at_mutex word.number) (beginning word.number call) before (view_of token.new).steps result }
-    ensures rest { (more : List WordStep) × ((view_of token.new).steps ≡ (view_of token.old).steps ++ more) }
-    ensures over { IsMutexOver (IsUp C.tells limit.entry) word.number (view_of token.old).owns (purpose_in call) result (stage_of token.new None) }
+    ensures path { WalksBehind word.number call seen token.old token.new result }
+    ensures rest { (more : List WordStep) × (steps_of token.new ≡ steps_of token.old ++ more) }
+    ensures over { IsMutexOver (IsUp C.tells limit.entry) word.number (owns_of token.old)
+        (purpose_in call) result (stage_of token.new None) }
 {
     let start = place_behind(word, call, seen);
-    run(rt, lot, token, Words::alone(word), limit, start)
+    match run(rt, lot, token, Words::alone(word), limit, start) {
+        Stop::Ended(answer) => answer,
+        // No call of a mutex runs a closure.
+        Stop::Paused { .. } => unreachable!(),
+    }
 }

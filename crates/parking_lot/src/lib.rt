@@ -9,7 +9,7 @@ pub mod raw_mutex;
 mod taking;
 mod words;
 
-pub use guards::RawGuard;
+pub use guards::{OpenGuard, RawGuard};
 pub use lock_api;
 pub use lock_raw;
 pub use lot_base::{ListQueues, Queues};

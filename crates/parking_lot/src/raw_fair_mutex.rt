@@ -2,14 +2,14 @@
 ghost use Rattle.std.specs.Prelude.{◌≡◌};
 ghost use Rattle.std.specs.Arc.{arc_value};
 ghost use Rattle.parking_lot_core.specs.Tokens.{IsTokenOf, view_of, last_of};
-ghost use Rattle.parking_lot.specs.Calls.{beginning, fairly, Sees, Releases};
-ghost use Rattle.parking_lot.specs.Driving.{IsGuardOf, IsGuardOf-prop, StaysAs, StaysAs-on};
-ghost use Rattle.parking_lot.specs.Paths.{at_mutex, Walks};
+ghost use Rattle.parking_lot.specs.Calls.{fairly, HasWalked, Sees, Releases};
+ghost use Rattle.parking_lot.specs.Driving.{IsGuardOf, IsGuardOf-prop, IsOpenGuardOf, IsOpenGuardOf-prop, permit_in, StaysAs, StaysAs-on};
+ghost use Rattle.parking_lot.specs.Telling.{steps_of};
 
-use crate::guards::RawGuard;
+use crate::guards::{OpenGuard, RawGuard};
 use crate::raw_mutex::RawMutex;
 use lock_raw::{RawMutexFair, RawMutexTimed};
-use parking_lot_core::{Clock, Fault, Key, ParkingLot, Token};
+use parking_lot_core::{Clock, Fault, Key, ParkingLot, Permit, Token};
 use std::marker::Model;
 use std::sync::{Arc, Wait};
 use std::time::Duration;
@@ -48,6 +48,8 @@ impl lock_raw::RawMutex for RawFairMutex {
 
     type Guard = RawGuard;
 
+    type Opened = OpenGuard;
+
     ghost lot_of = { λ mutex. arc_value mutex.lot };
 
     ghost is_token_of = { λ lot token. IsTokenOf lot token };
@@ -60,11 +62,18 @@ impl lock_raw::RawMutex for RawFairMutex {
 
     ghost guard_once = { λ mutex guard. IsGuardOf-prop (arc_value mutex.lot) mutex.word guard };
 
-    ghost walked = { λ mutex call answer old new. Walks (at_mutex mutex.word.number) (beginning mutex.word.number (fairly call)) (view_of old).steps (view_of new).steps answer };
+    ghost permit_of = { λ mutex. permit_in (arc_value mutex.lot) mutex.word };
 
-    ghost released = { λ mutex call old new. Releases mutex.word.number (fairly call) (view_of old).steps (view_of new).steps (last_of new) };
+    ghost is_opened_of = { λ mutex opened. IsOpenGuardOf (arc_value mutex.lot) mutex.word opened };
 
-    ghost looked = { λ mutex locked old new. Sees mutex.word.number locked (view_of old).steps (view_of new).steps };
+    ghost opened_once = { λ mutex opened. IsOpenGuardOf-prop (arc_value mutex.lot) mutex.word opened };
+
+    ghost walked = { λ mutex call answer old new. HasWalked mutex.word.number (fairly call) answer old new };
+
+    ghost released = { λ mutex call old new.
+        Releases mutex.word.number (fairly call) (steps_of old) (steps_of new) (last_of new) };
+
+    ghost looked = { λ mutex locked old new. Sees mutex.word.number locked (steps_of old) (steps_of new) };
 
     fn new(lot: &Arc<ParkingLot>, token: &mut Token) -> Result<RawFairMutex, Fault> {
         let raw = <RawMutex as lock_raw::RawMutex>::new(lot, token)?;
@@ -89,6 +98,16 @@ impl lock_raw::RawMutex for RawFairMutex {
     #[inline]
     fn is_locked(&self, token: &mut Token) -> bool {
         lock_raw::RawMutex::is_locked(&self.raw, token)
+    }
+
+    #[inline]
+    fn open_value(&self, guard: RawGuard) -> (OpenGuard, Permit) {
+        lock_raw::RawMutex::open_value(&self.raw, guard)
+    }
+
+    #[inline]
+    fn close_value(&self, opened: OpenGuard, permit: Permit) -> RawGuard {
+        lock_raw::RawMutex::close_value(&self.raw, opened, permit)
     }
 
     fn has_two_guards(&self, token: &mut Token, one: RawGuard, other: RawGuard) -> ! {

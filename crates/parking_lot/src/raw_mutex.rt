@@ -11,20 +11,21 @@ ghost use Rattle.lot_words.specs.Steps.{has};
 ghost use Rattle.lot_words.specs.declared.words.WordKind.TheVariants.{Mutex};
 ghost use Rattle.parking_lot_core.specs.Tokens.{IsTokenOf, Stays, view_of, last_of};
 ghost use Rattle.lot_words.specs.declared.views.WordStep.{WordStep};
-ghost use Rattle.parking_lot.specs.Calls.{beginning, first_op, purpose_in, GoesOn, Sees, Releases};
-ghost use Rattle.parking_lot.specs.Driving.{IsGuardOf, IsGuardOf-prop, MeetAt, StaysAs, StaysAs-on};
+ghost use Rattle.parking_lot.specs.Calls.{purpose_in, GoesOn, HasWalked, Sees, Releases, WalksBehind};
+ghost use Rattle.parking_lot.specs.Driving.{IsGuardOf, IsGuardOf-prop, IsOpenGuardOf, IsOpenGuardOf-prop, permit_in, MeetAt, StaysAs, StaysAs-on};
 ghost use Rattle.parking_lot.specs.MutexFitting.{IsMutexOver, held};
 ghost use Rattle.parking_lot.specs.Paths.{mutex_at, at_mutex, Walks};
 ghost use Rattle.parking_lot.specs.Paths.{step as seen_step};
 ghost use Rattle.parking_lot.specs.Stages.{stage_of};
+ghost use Rattle.parking_lot.specs.Telling.{owns_of, steps_of};
 
 use crate::driver::{NO_LIMIT, behind, step};
-use crate::guards::RawGuard;
+use crate::guards::{OpenGuard, RawGuard};
 use lot_base::main_key;
 use lot_calls::{Answer, MutexCall};
 use lot_mutex::{LOCKED, PARKED, is_locked, is_parked};
 use parking_lot_core::{
-    Clock, Fault, Key, Op, ParkingLot, Token, Want, Word, WordKind, to_deadline,
+    Clock, Fault, Key, Op, ParkingLot, Permit, Token, Want, Word, WordKind, to_deadline,
 };
 use std::sync::{Arc, Wait};
 use std::time::Duration;
@@ -93,10 +94,10 @@ impl RawMutex {
         requires own { MeetAt (lot_of self.now) token.old (word_of self.now) }
         requires goes_on { GoesOn (word_of self.now).number call seen (view_of token.old).owns }
         ensures own { Stays (lot_of self.now) token.old token.new }
-        ensures path { (before : List WordStep) → (view_of token.old).steps ≡ before ++ seen_step (mutex_at (word_of self.now).number) (first_op call) seen
-            → Walks (at_mutex (word_of self.now).number) (beginning (word_of self.now).number call) before (view_of token.new).steps result }
-        ensures rest { (more : List WordStep) × ((view_of token.new).steps ≡ (view_of token.old).steps ++ more) }
-        ensures over { IsMutexOver ⊥ (word_of self.now).number (view_of token.old).owns (purpose_in call) result (stage_of token.new None) }
+        ensures path { WalksBehind (word_of self.now).number call seen token.old token.new result }
+        ensures rest { (more : List WordStep) × (steps_of token.new ≡ steps_of token.old ++ more) }
+        ensures over { IsMutexOver ⊥ (word_of self.now).number (owns_of token.old) (purpose_in call) result
+            (stage_of token.new None) }
     {
         behind(rt, &self.lot, token, self.word, NO_LIMIT, call, seen)
     }
@@ -111,7 +112,7 @@ impl RawMutex {
         requires { IsTokenOf (lot_of self.now) token.old }
         ensures token { IsTokenOf (lot_of self.now) token.new × StaysAs token.old token.new }
         ensures guard { IfSome result (IsGuardOf (lot_of self.now) (word_of self.now)) }
-        ensures path { Walks (at_mutex (word_of self.now).number) (beginning (word_of self.now).number LockTimed) (view_of token.old).steps (view_of token.new).steps (answer_by result) }
+        ensures path { HasWalked (word_of self.now).number LockTimed (answer_by result) token.old token.new }
         ensures late { IfNone result (IsUp C.tells limit.entry) }
     {
         let lot: &ParkingLot = &self.lot;
@@ -136,6 +137,8 @@ impl lock_raw::RawMutex for RawMutex {
 
     type Guard = RawGuard;
 
+    type Opened = OpenGuard;
+
     ghost lot_of = { λ mutex. arc_value mutex.lot };
 
     ghost is_token_of = { λ lot token. IsTokenOf lot token };
@@ -148,18 +151,29 @@ impl lock_raw::RawMutex for RawMutex {
 
     ghost guard_once = { λ mutex guard. IsGuardOf-prop (arc_value mutex.lot) mutex.word guard };
 
-    ghost walked = { λ mutex call answer old new. Walks (at_mutex mutex.word.number) (beginning mutex.word.number call) (view_of old).steps (view_of new).steps answer };
+    ghost permit_of = { λ mutex. permit_in (arc_value mutex.lot) mutex.word };
 
-    ghost released = { λ mutex call old new. Releases mutex.word.number call (view_of old).steps (view_of new).steps (last_of new) };
+    ghost is_opened_of = { λ mutex opened. IsOpenGuardOf (arc_value mutex.lot) mutex.word opened };
 
-    ghost looked = { λ mutex locked old new. Sees mutex.word.number locked (view_of old).steps (view_of new).steps };
+    ghost opened_once = { λ mutex opened. IsOpenGuardOf-prop (arc_value mutex.lot) mutex.word opened };
+
+    ghost walked = { λ mutex call answer old new. HasWalked mutex.word.number call answer old new };
+
+    ghost released = { λ mutex call old new.
+        Releases mutex.word.number call (steps_of old) (steps_of new) (last_of new) };
+
+    ghost looked = { λ mutex locked old new. Sees mutex.word.number locked (steps_of old) (steps_of new) };
 
     fn new(lot: &Arc<ParkingLot>, token: &mut Token) -> Result<RawMutex, Fault>
         requires { IsTokenOf (arc_value lot.now) token.old }
         ensures token { IsTokenOf (arc_value lot.now) token.new × StaysAs token.old token.new }
-        ensures made { MatchResult result (λ mutex. lot_at mutex ≡ arc_value lot.now) (λ fault. (fault ≡ Fault.NoMemory) ⊎ (fault ≡ Fault.LotFull)) }
-        ensures drawn { MatchResult result (λ mutex. IsDrawn (arc_value lot.now).words.count (Mutex ∷ []) (word_of mutex).number (view_of token.old) (view_of token.new))
-            (λ fault. ((fault ≡ Fault.NoMemory) × (token.new ≡ token.old)) ⊎ ((fault ≡ Fault.LotFull) × IsDrawRefused (arc_value lot.now).words.count 1 (view_of token.old) (view_of token.new))) }
+        ensures made { MatchResult result (λ mutex. lot_at mutex ≡ arc_value lot.now)
+            (λ fault. (fault ≡ Fault.NoMemory) ⊎ (fault ≡ Fault.LotFull)) }
+        ensures drawn { MatchResult result
+            (λ mutex. IsDrawn (arc_value lot.now).words.count (Mutex ∷ []) (word_of mutex).number (view_of token.old)
+            (view_of token.new))
+            (λ fault. ((fault ≡ Fault.NoMemory) × (token.new ≡ token.old)) ⊎ ((fault ≡ Fault.LotFull)
+            × IsDrawRefused (arc_value lot.now).words.count 1 (view_of token.old) (view_of token.new))) }
     {
         let Ok(lot) = Arc::try_clone(lot) else {
             return Err(Fault::NoMemory);
@@ -203,6 +217,21 @@ impl lock_raw::RawMutex for RawMutex {
     #[inline]
     fn is_locked(&self, token: &mut Token) -> bool {
         is_locked(step(&self.lot, token, self.word, Op::Load))
+    }
+
+    #[inline]
+    fn open_value(&self, guard: RawGuard) -> (OpenGuard, Permit) {
+        let RawGuard { right } = guard;
+        let (held, permit) = self.lot.open_right(right);
+        (OpenGuard { held }, permit)
+    }
+
+    #[inline]
+    fn close_value(&self, opened: OpenGuard, permit: Permit) -> RawGuard {
+        let OpenGuard { held } = opened;
+        RawGuard {
+            right: self.lot.close_right(held, permit),
+        }
     }
 
     // A step of who owns the mutex twice would find a word that says so, and there is none.

@@ -1,4 +1,5 @@
 pub mod Tokens
 pub mod Keys
+pub mod Giving
 pub mod Sections
 pub mod Sleeps

@@ -1,7 +1,7 @@
 //! Sections, in which one thread at a time changes the queues of its keys.
 //!
 //! All sections stand behind one lock as yet: a thread that is inside one and enters another waits for itself.
-ghost use Rattle.std.specs.Prelude.{◌≡◌, ◌≢◌, ◌<◌, ◌≤◌, ◌+◌, ◌++◌, ◌∷◌, ◌==◌, not, [], Some, Contains, MatchOption, length, slice_index, take};
+ghost use Rattle.std.specs.Prelude.{◌≡◌, ◌≢◌, ◌<◌, ◌≤◌, ◌+◌, ◌++◌, ◌∷◌, ◌==◌, not, [], Some, Contains, MatchOption, length, slice_index, take, true};
 ghost use Rattle.std.specs.List.{filter};
 ghost use Rattle.std.specs.Sync.Mutex.{mutex_guard_value};
 ghost use Rattle.lot_base.specs.Lines.{waiter, line, lines, without, without_first, without_key, first_of, threads_of, key_of};
@@ -15,7 +15,7 @@ use crate::lot::ParkingLot;
 use crate::tokens::{Did, SectionRecord, Token};
 use lot_base::{Key, Keys, Note, Requeue, Want};
 use lot_queues::Queueing;
-use lot_words::Right;
+use lot_words::{Owner, Right, Word};
 use std::sync::atomic::Ordering::SeqCst;
 use std::sync::{MutexGuard, Wait};
 
@@ -35,6 +35,7 @@ pub struct Section<'a> {
         × ((mutex_guard_value queueing).rightless.items ≡ []) × ((mutex_guard_value queueing).wants.items ≡ [])
         × (moved ≡ 0) },
     ghost few: { moved ≤ (mutex_guard_value queueing).seats },
+    ghost each_wants: { length (mutex_guard_value queueing).wants.items ≡ length (mutex_guard_value queueing).taken.items },
 }
 
 // What a lock keeps is known by its type alone, so a fact about its lot is tested. The test never fails.
@@ -133,7 +134,13 @@ impl ParkingLot {
 impl<'a> Section<'a> {
     ghost use Rattle.parking_lot_core.specs.Tokens.{IsTokenOf, Stays, last_of};
     ghost use Rattle.parking_lot_core.specs.Sections.{waiting_in, taken_in, wants_in, rightless_in, moved_in, StaysIn, TookAs, MayNote};
+    ghost use Rattle.parking_lot_core.specs.Tokens.{view_of};
+    ghost use Rattle.parking_lot_core.specs.Giving.{owner_at, HasEach, less_each};
+    ghost use Rattle.lot_words.specs.Lots.{IsWordOf};
+    ghost use Rattle.lot_words.specs.Plays.{left_over};
+    ghost use Rattle.lot_words.specs.Rights.{named_by};
     ghost use Rattle.lot_words.specs.RightsOf.{IsRightOf};
+    ghost use Rattle.lot_words.specs.Steps.{has};
 
     /// Puts a thread behind the last under a key. One that stands somewhere leaves that place first.
     pub fn append(&mut self, key: Key, thread: usize, want: Want)
@@ -294,6 +301,47 @@ impl<'a> Section<'a> {
     {
         self.lot.lay(rt, thread, right);
         self.queueing.note_right(thread);
+    }
+
+    /// Gives the thread at a place among those whom the section took its right to a lock, by what it wants and by the value at
+    /// which the word of the lock is left. The right is split off the token.
+    pub fn give_wanted<R: Wait>(
+        &mut self,
+        rt: &R,
+        token: &mut Token,
+        word: Word,
+        left: u64,
+        place: usize,
+    )
+        requires own { IsTokenOf self.old.lot.now token.old × IsWordOf self.old.lot.now.words word }
+        requires place { place < length (taken_in self.old) }
+        requires named { has (named_by word (owner_at word left (wants_in self.old) place)) (view_of token.old).owns ≡ true }
+        ensures own { Stays self.old.lot.now token.old token.new × (last_of token.new ≡ last_of token.old) }
+        ensures left { view_of token.new
+            ≡ left_over (named_by word (owner_at word left (wants_in self.old) place)) (view_of token.old) }
+        ensures rightless { rightless_in self.new ≡ filter (λ x. not (x == slice_index (taken_in self.old) place)) (rightless_in self.old) }
+        ensures same { StaysIn self.old self.new × TookAs self.old self.new × (waiting_in self.new ≡ waiting_in self.old) }
+    {
+        let owner = Owner::given(word.kind(), left, self.queueing.wants()[place]);
+        let right = self.lot.split_owner(token, word, owner);
+        let thread = self.queueing.taken()[place];
+        self.lay(rt, thread, right);
+    }
+
+    /// Gives each whom the section took its right to a lock, by what it wants and by the value at which the word of the lock is
+    /// left. The rights are split off the token.
+    pub fn give_each<R: Wait>(&mut self, rt: &R, token: &mut Token, word: Word, left: u64)
+        requires own { IsTokenOf self.old.lot.now token.old × IsWordOf self.old.lot.now.words word }
+        requires named { HasEach word left (wants_in self.old) (view_of token.old).owns }
+        requires ungiven { rightless_in self.old ≡ taken_in self.old }
+        ensures own { Stays self.old.lot.now token.old token.new × (last_of token.new ≡ last_of token.old) }
+        ensures left { view_of token.new ≡ less_each word left (wants_in self.old) (view_of token.old) }
+        ensures given { rightless_in self.new ≡ [] }
+        ensures same { StaysIn self.old self.new × TookAs self.old self.new × (waiting_in self.new ≡ waiting_in self.old) }
+    {
+        for place in 0..self.queueing.taken().len() {
+            self.give_wanted(rt, token, word, left, place);
+        }
     }
 
     // Leaves a section in which nothing was done.

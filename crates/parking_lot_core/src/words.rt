@@ -4,10 +4,10 @@ ghost use Rattle.lot_words.specs.Indices.{word_index};
 ghost use Rattle.lot_words.specs.Codes.{IsCountCode};
 ghost use Rattle.lot_words.specs.Steps.{MayStep, CodesWith, after_step, has};
 ghost use Rattle.lot_words.specs.Draws.{IsDrawn, IsDrawRefused};
-ghost use Rattle.lot_words.specs.Lots.{IsWordOf};
+ghost use Rattle.lot_words.specs.Lots.{IsWordOf, permit_of};
 ghost use Rattle.lot_words.specs.Plays.{left_over, takes_in};
 ghost use Rattle.lot_words.specs.Rights.{named_by, owner_for, piece_of, OwnsWith};
-ghost use Rattle.lot_words.specs.RightsOf.{IsRightOf};
+ghost use Rattle.lot_words.specs.RightsOf.{IsRightOf, IsOpenOf};
 ghost use Rattle.lot_words.specs.declared.owners.Owner.TheVariants.{Exclusive};
 ghost use Rattle.lot_words.specs.declared.words.WordKind.TheVariants.{Mutex, Condvar, Count};
 ghost use Rattle.lot_base.specs.declared.ops.Op.TheVariants.{Add, Exchange};
@@ -17,7 +17,8 @@ use crate::lot::ParkingLot;
 use crate::tokens::Token;
 use lot_base::{Fault, Op, Want};
 use lot_words::laws::{condvar_may_step, count_may_step};
-use lot_words::{Owner, Right, Word, WordKind};
+use lot_words::{OpenRight, Owner, Right, Word, WordKind};
+use value_place::Permit;
 
 impl ParkingLot {
     /// One step on a word, sequentially consistent. It answers the value before.
@@ -133,5 +134,24 @@ impl ParkingLot {
         ensures joined { view_of token.new ≡ takes_in (view_of token.old) (piece_of right.word right.owner) }
     {
         self.words.join_right(&mut token.seat, right);
+    }
+
+    /// Takes out the permit of the value that a mutex guards, for who owns the mutex. It loads the word, which is no step of a call.
+    #[inline]
+    pub fn open_right(&self, right: Right) -> (OpenRight, Permit)
+        requires { IsRightOf self.now.words right × (right.word.kind ≡ Mutex) × (right.owner ≡ Exclusive) }
+        ensures right { IsOpenOf self.now.words result.0 × (result.0.word ≡ right.word) }
+        ensures permit { result.1.id ≡ permit_of self.now.words right.word }
+    {
+        self.words.open_right(right)
+    }
+
+    /// Lays it back. It loads the word, which is no step of a call.
+    #[inline]
+    pub fn close_right(&self, held: OpenRight, permit: Permit) -> Right
+        requires { IsOpenOf self.now.words held × (permit.id ≡ permit_of self.now.words held.word) }
+        ensures { IsRightOf self.now.words result × (result.word ≡ held.word) × (result.owner ≡ Exclusive) }
+    {
+        self.words.close_right(held, permit)
     }
 }

@@ -47,7 +47,7 @@ fn gets<R: Wait>(rt: &R, mutex: &Mutex<u8>, token: &mut Token) -> bool
     requires { IsTokenOf (lot_of mutex.now) token.old }
     ensures { IsTokenOf (lot_of mutex.now) token.new }
 {
-    match mutex.try_lock(rt, token) {
+    match mutex.try_lock(token) {
         Some(guard) => {
             guard.unlock(rt, token);
             true

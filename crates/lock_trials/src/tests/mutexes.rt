@@ -1,13 +1,13 @@
 //! Mutexes with a value.
 ghost use Rattle.std.specs.Prelude.{◌≡◌, All, IfOk};
 ghost use Rattle.std.specs.Arc.{arc_value};
-ghost use Rattle.std.specs.Sync.Mutex.{mutex_guard_value};
 ghost use Rattle.parking_lot_core.specs.Tokens.{IsTicketOf, IsTokenOf};
-ghost use Rattle.parking_lot.specs.Users.{lock_of, lot_of};
+ghost use Rattle.parking_lot.specs.Users.{lock_of, lot_of, value_of};
 
 use super::{lone, mutex_alone};
 use parking_lot::{Fault, Mutex, MutexGuard, ParkingLot, Ticket, Token, lock_api, lock_raw};
 use std::alloc::{AllocError, Global};
+use std::mem;
 use std::sync::atomic::AtomicUsize;
 use std::sync::atomic::Ordering::SeqCst;
 use std::sync::{Arc, Wait};
@@ -19,7 +19,7 @@ const TIMES: u64 = 1000;
 // Writes through a guard, which stays that of its mutex.
 fn cleared<'a>(mut guard: MutexGuard<'a, u8>) -> MutexGuard<'a, u8>
     ensures lock { lock_of result ≡ lock_of guard.entry }
-    ensures value { mutex_guard_value result.value ≡ 0 }
+    ensures value { value_of result ≡ 0 }
 {
     *guard = 0;
     guard
@@ -85,7 +85,7 @@ fn tries<R: Wait>(rt: &R, mutex: &Mutex<u8>, token: &mut Token) -> Option<[(bool
     requires { IsTokenOf (lot_of mutex.now) token.old }
 {
     let before = look(rt, mutex, token);
-    let guard = mutex.try_lock(rt, token)?;
+    let guard = mutex.try_lock(token)?;
     let under = look(rt, mutex, token);
     guard.unlock(rt, token);
     Some([before, under, look(rt, mutex, token)])
@@ -96,7 +96,7 @@ fn look<R: Wait>(rt: &R, mutex: &Mutex<u8>, token: &mut Token) -> (bool, bool)
     ensures { IsTokenOf (lot_of mutex.now) token.new }
 {
     let locked = mutex.is_locked(token);
-    match mutex.try_lock(rt, token) {
+    match mutex.try_lock(token) {
         Some(guard) => {
             guard.unlock(rt, token);
             (locked, true)
@@ -146,6 +146,47 @@ fn drops_of(alloc: Global, drops: &AtomicUsize) -> Result<(usize, usize), Fault>
 fn the_value_is_dropped_once(rt: HostRuntime) -> Result<(), Fail> {
     let drops = AtomicUsize::new(0);
     assert_eq!(rt; drops_of(rt.alloc(), &drops)?, (0, 1));
+    Ok(())
+}
+
+// How often the value had been dropped before its mutex was, and after.
+fn drops_with_mutex(alloc: Global, drops: &AtomicUsize) -> Result<(usize, usize), Fault> {
+    let (mutex, _token) = mutex_alone(alloc, Counts(drops))?;
+    let before = drops.load(SeqCst);
+    drop(mutex);
+    Ok((before, drops.load(SeqCst)))
+}
+
+#[test]
+fn the_value_is_dropped_with_its_mutex(rt: HostRuntime) -> Result<(), Fail> {
+    let drops = AtomicUsize::new(0);
+    assert_eq!(rt; drops_with_mutex(rt.alloc(), &drops)?, (0, 1));
+    Ok(())
+}
+
+// Puts another value in place of the one that a mutex has, under its guard: how often a value had been dropped then.
+fn drops_by_writing<'d, R: Wait>(
+    rt: &R,
+    mutex: &Mutex<Counts<'d>>,
+    token: &mut Token,
+    drops: &'d AtomicUsize,
+) -> usize
+    requires { IsTokenOf (lot_of mutex.now) token.old }
+{
+    let mut guard = mutex.lock(rt, token);
+    drop(mem::replace(&mut *guard, Counts(drops)));
+    let dropped = drops.load(SeqCst);
+    guard.unlock(rt, token);
+    dropped
+}
+
+#[test]
+fn a_value_that_is_replaced_is_dropped_once(rt: HostRuntime) -> Result<(), Fail> {
+    let drops = AtomicUsize::new(0);
+    let (mutex, mut token) = mutex_alone(rt.alloc(), Counts(&drops))?;
+    assert_eq!(rt; drops_by_writing(&rt, &mutex, &mut token, &drops), 1);
+    drop(mutex);
+    assert_eq!(rt; drops.load(SeqCst), 2);
     Ok(())
 }
 

@@ -1,10 +1,10 @@
 ghost use Rattle.std.specs.Prelude.{◌≡◌};
 
+use lot_base::{Keys, Note};
 use lot_steps::{
     Act, Answer, Call, Entry, HandOffAt, Kind, LockAt, MutexCall, MutexPlace, Op, Outcome, Owners,
     Place, Reply, UnlockAt, Wakes, advance, has_right,
 };
-use lot_base::{Keys, Note};
 
 fn call(call: MutexCall) -> Call
     ensures { result ≡ Call.Mutex 3 call }

@@ -2,4 +2,4 @@ use Rattle.lot_words.proofs.RuleLaws.{never_falls}
 use Rattle.lot_words.proofs.laws.counter_never_falls.Goals as goal
 
 pub returns : goal.returns
-returns g c = never_falls
+returns c = never_falls

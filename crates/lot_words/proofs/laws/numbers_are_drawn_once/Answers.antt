@@ -2,4 +2,4 @@ use Rattle.lot_words.proofs.RuleLaws.{drawn_once}
 use Rattle.lot_words.proofs.laws.numbers_are_drawn_once.Goals as goal
 
 pub returns : goal.returns
-returns g c = drawn_once
+returns c = drawn_once

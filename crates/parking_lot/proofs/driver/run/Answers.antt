@@ -1,48 +1,70 @@
-use Rattle.std.proofs.Common.{◌≡◌, ◌∙◌, None, Some, Option, sym, refl, ap, subst, rules}
+use Rattle.std.proofs.Common.{◌≡◌, ◌∙◌, None, Some, Option, List, sym, refl, ap, subst, rules}
 use Rattle.lot_base.specs.Clocks.{IsUp}
 use Rattle.lot_calls.specs.declared.outcomes.Answer.{Answer}
-use Rattle.lot_steps.specs.Steps.{next_place, next_act}
+use Rattle.lot_steps.specs.Steps.{act_of, next_place, next_act}
 use Rattle.lot_steps.specs.declared.places.Place.{Place}
+use Rattle.lot_words.specs.declared.owners.Ownership.{Ownership}
 use Rattle.parking_lot_core.specs.Tokens.{view_of, last_of}
 use Rattle.parking_lot.specs.Fitting.{Aim, Fits, ReachedBy, IsOver, AreWordsFor, answer_of, aim_of}
+use Rattle.parking_lot.specs.Paths.{closure_of}
 use Rattle.parking_lot.specs.Stages.{stage_of, inside_of}
 use Rattle.parking_lot.specs.Words.{kind_in, at_in}
-use Rattle.parking_lot.proofs.Ending.{end_of, ended, outside}
+use Rattle.parking_lot.proofs.Ending.{closed, closes_outside, end_of, ended, outside}
+use Rattle.parking_lot.proofs.Leading.{places_lead}
 use Rattle.parking_lot.proofs.Paths.{comes_here, comes_on, comes_to_end}
 use Rattle.parking_lot.proofs.Turning.{words_on}
 use Rattle.parking_lot.proofs.driver.run.Goals as goal
 
 pub loop-init : goal.loop-init
-loop-init g c = (tt, tt, (c.requires.own.0, refl), tt, comes_here (at_in c.args.words) c.args.start (view_of c.args.token.now).steps, c.requires.words, c.requires.start, refl)
+loop-init g c = record {
+  turns = (tt, tt);
+  own = search rules;
+  path = comes_here (at_in c.args.words) c.args.start (view_of c.args.token.now).steps;
+  words = c.requires.words;
+  fits = λ base fits. fits;
+  aim = refl;
+}
 
 pub loop-preserved : goal.loop-preserved
-loop-preserved g c = let base = (view_of c.args.token.now).owns in let p = c.loop.place in let t = c.turn-reply in let reply = t.result in let new = t.new.token in
+loop-preserved g c = let p = c.loop.place in let t = c.turn-reply in let reply = t.result in let new = t.new.token in
     let before = c.loop.invariant in let next = c.advance-next.ensures.place in
     let none : answer_of (next_act c.loop.place c.turn-reply.result) ≡ None = search rules in
-    let reached = subst (λ (o : Option Answer). ReachedBy (IsUp g.C.Clock.tells c.args.limit) (view_of c.args.token.now).owns (aim_of c.loop.place) (next_place c.loop.place c.turn-reply.result) o (stage_of c.turn-reply.new.token c.turn-reply.new.section)) none (t.ensures.reached base before.6) in (
-      tt,
-      tt,
-      (t.ensures.own.0.0, t.ensures.own.0.1 ∙ before.2.1),
-      t.ensures.own.1,
-      comes_on (at_in c.args.words) c.args.start p c.advance-next.result.0 (view_of c.args.token.now).steps (view_of c.loop.token).steps (view_of new).steps reply t.ensures.told.0 before.4 t.ensures.told.1 t.ensures.told.2 next,
-      subst (λ (q : Place). AreWordsFor q (kind_in c.args.words) (at_in c.args.words)) (sym next) (words_on p reply (kind_in c.args.words) (at_in c.args.words) before.5),
-      subst (λ (q : Place). Fits (IsUp g.C.Clock.tells c.args.limit) (view_of c.args.token.now).owns q (stage_of c.turn-reply.new.token c.turn-reply.new.section)) (sym next) reached.0,
-      ap aim_of next ∙ reached.1 ∙ before.7,
-    )
+    let reached : (base : List Ownership) → Fits (IsUp g.C.Clock.tells c.args.limit) base c.args.start (stage_of c.args.token.now None) → ReachedBy (IsUp g.C.Clock.tells c.args.limit) base (aim_of c.loop.place) (next_place c.loop.place c.turn-reply.result) None (stage_of c.turn-reply.new.token c.turn-reply.new.section)
+    = λ (base : List Ownership) fits. subst (λ (o : Option Answer). ReachedBy (IsUp g.C.Clock.tells c.args.limit) base (aim_of c.loop.place) (next_place c.loop.place c.turn-reply.result) o (stage_of c.turn-reply.new.token c.turn-reply.new.section)) none (t.ensures.reached base (before.fits base fits)) in record {
+      turns = (tt, tt);
+      own = ((t.ensures.own.0.0, t.ensures.own.0.1 ∙ before.own.0.1), t.ensures.own.1);
+      path = comes_on (at_in c.args.words) c.args.start p c.advance-next.result.0 (view_of c.args.token.now).steps (view_of c.loop.token).steps (view_of new).steps reply t.ensures.told.0 before.path t.ensures.told.1 t.ensures.told.2 next;
+      words = subst (λ (q : Place). AreWordsFor q (kind_in c.args.words) (at_in c.args.words)) (sym next) (words_on p reply (kind_in c.args.words) (at_in c.args.words) before.words);
+      fits = λ (base : List Ownership) fits. subst (λ (q : Place). Fits (IsUp g.C.Clock.tells c.args.limit) base q (stage_of c.turn-reply.new.token c.turn-reply.new.section)) (sym next) (reached base fits).0;
+      aim = ap aim_of next ∙ (reached c.requires.start.0 c.requires.start.1).1 ∙ before.aim;
+    }
 
 pub returns-in-Some-answer_of-clause-path : goal.returns-in-Some-answer_of-clause-path
 returns-in-Some-answer_of-clause-path g c = let p = c.loop.place in let t = c.turn-reply in let new = t.new.token in let answer = c.in-Some-answer_of.answer in
     let is : answer_of (next_act c.loop.place c.turn-reply.result) ≡ Some c.in-Some-answer_of.answer = search rules in
-    comes_to_end (at_in c.args.words) c.args.start p (view_of c.args.token.now).steps (view_of c.loop.token).steps (view_of new).steps t.result t.ensures.told.0 answer c.loop.invariant.4 t.ensures.told.1 t.ensures.told.2 (end_of (next_act p t.result) answer is)
+    comes_to_end (at_in c.args.words) c.args.start p (view_of c.args.token.now).steps (view_of c.loop.token).steps (view_of new).steps t.result t.ensures.told.0 answer c.loop.invariant.path t.ensures.told.1 t.ensures.told.2 (end_of (next_act p t.result) answer is)
 
-pub returns-in-Some-answer_of-clause-over : goal.returns-in-Some-answer_of-clause-over
-returns-in-Some-answer_of-clause-over g c = let base = (view_of c.args.token.now).owns in let p = c.loop.place in let t = c.turn-reply in let new = t.new.token in let before = c.loop.invariant in let answer = c.in-Some-answer_of.answer in
+pub returns-in-Some-answer_of-clause-stopped : goal.returns-in-Some-answer_of-clause-stopped
+returns-in-Some-answer_of-clause-stopped g c = let p = c.loop.place in let t = c.turn-reply in let new = t.new.token in let before = c.loop.invariant in let answer = c.in-Some-answer_of.answer in
     let is : answer_of (next_act c.loop.place c.turn-reply.result) ≡ Some c.in-Some-answer_of.answer = search rules in
-    let over = subst (λ (o : Option Answer). ReachedBy (IsUp g.C.Clock.tells c.args.limit) (view_of c.args.token.now).owns (aim_of c.loop.place) (next_place c.loop.place c.turn-reply.result) o (stage_of c.turn-reply.new.token c.turn-reply.new.section)) is (t.ensures.reached base before.6) in
-    subst (λ (aim : Aim). IsOver (IsUp g.C.Clock.tells c.args.limit) (view_of c.args.token.now).owns aim c.in-Some-answer_of.answer (stage_of c.turn-reply.new.token None)) before.7 (ended (IsUp g.C.Clock.tells c.args.limit) base (view_of new).owns (aim_of p) answer (inside_of t.new.section) (last_of new) over)
+    λ (base : List Ownership) fits. let over = subst (λ (o : Option Answer). ReachedBy (IsUp g.C.Clock.tells c.args.limit) base (aim_of c.loop.place) (next_place c.loop.place c.turn-reply.result) o (stage_of c.turn-reply.new.token c.turn-reply.new.section)) is (t.ensures.reached base (before.fits base fits)) in
+    subst (λ (aim : Aim). IsOver (IsUp g.C.Clock.tells c.args.limit) base aim c.in-Some-answer_of.answer (stage_of c.turn-reply.new.token None)) before.aim (ended (IsUp g.C.Clock.tells c.args.limit) base (view_of new).owns (aim_of p) answer (inside_of t.new.section) (last_of new) over)
+
+pub end-requires-in-Some-answer_of : goal.end-requires-in-Some-answer_of
+end-requires-in-Some-answer_of g c = let start = c.requires.start in let p = c.loop.place in let t = c.turn-reply in let new = t.new.token in let answer = c.in-Some-answer_of.answer in
+    let is : answer_of (next_act c.loop.place c.turn-reply.result) ≡ Some c.in-Some-answer_of.answer = search rules in
+    let over = subst (λ (o : Option Answer). ReachedBy (IsUp g.C.Clock.tells c.args.limit) c.requires.start.0 (aim_of c.loop.place) (next_place c.loop.place c.turn-reply.result) o (stage_of c.turn-reply.new.token c.turn-reply.new.section)) is (t.ensures.reached start.0 (c.loop.invariant.fits start.0 start.1)) in
+    outside (IsUp g.C.Clock.tells c.args.limit) start.0 (view_of new).owns (aim_of p) answer (inside_of t.new.section) (last_of new) over
 
 pub end-requires : goal.end-requires
-end-requires g c = let base = (view_of c.args.token.now).owns in let p = c.loop.place in let t = c.turn-reply in let new = t.new.token in let answer = c.in-Some-answer_of.answer in
-    let is : answer_of (next_act c.loop.place c.turn-reply.result) ≡ Some c.in-Some-answer_of.answer = search rules in
-    let over = subst (λ (o : Option Answer). ReachedBy (IsUp g.C.Clock.tells c.args.limit) (view_of c.args.token.now).owns (aim_of c.loop.place) (next_place c.loop.place c.turn-reply.result) o (stage_of c.turn-reply.new.token c.turn-reply.new.section)) is (t.ensures.reached base c.loop.invariant.6) in
-    outside (IsUp g.C.Clock.tells c.args.limit) base (view_of new).owns (aim_of p) answer (inside_of t.new.section) (last_of new) over
+end-requires g c = let start = c.requires.start in let p = c.loop.place in let words = c.args.words in let st = stage_of c.loop.token c.loop.section in
+    let is : closure_of (act_of c.loop.place) ≡ Some c.in-Some-closure_of.state = search rules in
+    closes_outside (kind_in words) (at_in words) st (act_of p) c.in-Some-closure_of.state is
+    (places_lead (IsUp g.C.Clock.tells c.args.limit) (kind_in words) (at_in words) start.0 p st c.loop.invariant.words (c.loop.invariant.fits start.0 start.1)).0
+
+pub returns-in-Some-closure_of-clause-stopped : goal.returns-in-Some-closure_of-clause-stopped
+returns-in-Some-closure_of-clause-stopped g c = let p = c.loop.place in let words = c.args.words in let before = c.loop.invariant in let token = c.loop.token in let st = stage_of c.loop.token c.loop.section in
+    let is : closure_of (act_of c.loop.place) ≡ Some c.in-Some-closure_of.state = search rules in
+    λ (base : List Ownership) fits. let needs = (places_lead (IsUp g.C.Clock.tells c.args.limit) (kind_in words) (at_in words) base p st before.words (before.fits base fits)).0 in
+    closed (IsUp g.C.Clock.tells c.args.limit) base (view_of token).owns (aim_of c.args.start) p c.in-Some-closure_of.state (inside_of c.loop.section) (last_of token) is
+    (closes_outside (kind_in words) (at_in words) st (act_of p) c.in-Some-closure_of.state is needs) (before.fits base fits) before.aim

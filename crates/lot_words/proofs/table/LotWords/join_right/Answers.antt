@@ -5,4 +5,4 @@ use Rattle.lot_words.proofs.table.LotWords.join_right.Goals as goal
 
 pub join_seat-requires : goal.join_seat-requires
 join_seat-requires c = let sized = c.args.self.now.sized in let sized₀ = sized.0 in let right = c.args.right in
-    (c.requires.0, c.requires.1.0, ap (λ m. m.1) right.names, omega arith, takes_back_from c.args.self.now.table.shared.key c.args.seat.now.id c.args.seat.now.me.0 right.seat.id (named_by right.word right.owner) right.seat.me.0 (ap (λ m. m.0) right.names))
+    (c.requires.0, c.requires.1.0, ap (λ m. m.1) right.names, omega arith, takes_back_from c.args.self.now.table.shared.key.0 c.args.self.now.table.shared.key.1.family c.args.seat.now.id c.args.seat.now.me.0 right.seat.id (named_by right.word right.owner) right.seat.me.0 (ap (λ m. m.0) right.names))

@@ -1,0 +1,86 @@
+//! The permits of the values that mutexes guard: each lies beside the word of its mutex, and who owns that takes it out.
+ghost use Rattle.std.specs.Prelude.{◌≡◌, [], ◌∷◌};
+ghost use Rattle.lot_words.specs.Indices.{word_index};
+ghost use Rattle.lot_words.specs.Permits.{bare, slot_at};
+ghost use Rattle.lot_words.specs.Plays.{piece};
+ghost use Rattle.lot_words.specs.Rights.{piece_of};
+ghost use Rattle.lot_words.specs.Views.{owning};
+ghost use Rattle.lot_words.specs.declared.owners.Owner.TheVariants.{Exclusive, Opened};
+ghost use Rattle.lot_words.specs.declared.words.WordKind.TheVariants.{Mutex};
+
+use crate::owners::Owner;
+use crate::plays::{Closes, Family, Opens};
+use crate::rights::Right;
+use crate::table::{LotWords, Seat};
+use crate::words::Word;
+use std::marker::Brand;
+use value_place::{Permit, PermitSlot};
+
+/// The right to a mutex whose permit is out. It has to be closed, or the word stays owned.
+pub struct OpenRight {
+    seat: Seat,
+    word: Word,
+    ghost mutex: { word.kind ≡ Mutex },
+    ghost names: { seat.me ≡ (piece_of word Opened, (word_index word.number word.kind, bare) ∷ []) },
+}
+
+impl OpenRight {
+    #[inline]
+    pub fn word(&self) -> Word
+        ensures { result ≡ self.now.word }
+    {
+        self.word
+    }
+
+    /// Lets the right go without a step. Its word stays owned for good.
+    pub fn forget(self) {
+        let OpenRight { seat, word: _ } = self;
+        drop(seat);
+    }
+}
+
+impl LotWords {
+    ghost use Rattle.lot_words.specs.Lots.{IsSeatOf, IsWordOf, permit_of};
+    ghost use Rattle.lot_words.specs.RightsOf.{IsRightOf, IsOpenOf};
+
+    // The seat is that of a right.
+    #[inline]
+    fn take_permit<F: Family>(&self, seat: &mut Seat, word: Word) -> Permit
+        requires own { (F.family ≡ self.now.table.shared.key.1.family) × IsSeatOf self.now seat.old × IsWordOf self.now word }
+        requires owner { (word.kind ≡ Mutex) × (seat.old.me ≡ (piece_of word Exclusive, [])) }
+        ensures own { IsSeatOf self.now seat.new }
+        ensures opened { seat.new.me ≡ (piece_of word Opened, (word_index word.number word.kind, bare) ∷ []) }
+        ensures permit { result.id ≡ permit_of self.now word }
+    {
+        let at = word.index();
+        let words = &self.table.shared;
+        words.load::<Opens<F>>(seat, at);
+        words.exchange(seat, at, PermitSlot::empty()).into_permit()
+    }
+
+    /// Takes the permit out of the value that a mutex guards, for who owns the mutex. It loads the word, which is no step of a call.
+    #[inline]
+    pub fn open_right(&self, right: Right) -> (OpenRight, Permit)
+        requires { IsRightOf self.now right × (right.word.kind ≡ Mutex) × (right.owner ≡ Exclusive) }
+        ensures right { IsOpenOf self.now result.0 × (result.0.word ≡ right.word) }
+        ensures permit { result.1.id ≡ permit_of self.now right.word }
+    {
+        let (mut seat, word) = right.into_seat();
+        let permit = self.take_permit::<Brand>(&mut seat, word);
+        (OpenRight { seat, word }, permit)
+    }
+
+    /// Lays the permit back. It loads the word, which is no step of a call.
+    #[inline]
+    pub fn close_right(&self, held: OpenRight, permit: Permit) -> Right
+        requires { IsOpenOf self.now held × (permit.id ≡ permit_of self.now held.word) }
+        ensures { IsRightOf self.now result × (result.word ≡ held.word) × (result.owner ≡ Exclusive) }
+    {
+        let OpenRight { mut seat, word } = held;
+        let at = word.index();
+        let words = &self.table.shared;
+        drop(words.exchange(&mut seat, at, permit.into_slot()));
+        words.load::<Closes>(&mut seat, at);
+        Right::of_seat(seat, word)
+    }
+}
