@@ -1,12 +1,12 @@
 -- What each case of a lock makes of a thread's rights.
-use Rattle.std.proofs.Common.{ℕ, Bool, true, false, Option, Some, None, ◌≡◌, ◌≢◌, ◌≤◌, ◌<◌, ◌+◌, ◌-◌, ◌==◌, if◌then◌else◌, refl, sym, ap, ◌∙◌, get_or-set_same, get_or-set_other, arith}
+use Rattle.std.proofs.Common.{ℕ, Bool, true, false, Option, Some, None, ◌≡◌, ◌≢◌, ◌<◌, ◌+◌, ◌-◌, ◌==◌, if◌then◌else◌, refl, sym, ap, ◌∙◌, get_or-set_same, get_or-set_other, arith}
 use Rattle.std.proofs.lemmas.Bool.{eqb-true}
 use Rattle.std.proofs.lemmas.Bool.Decides.{nat_tests}
 use Rattle.std.proofs.lemmas.List.{get_or_past}
 use Rattle.std.specs.Prelude.{length, slice_index, slice_set}
 use Rattle.lot_base.specs.declared.wants.Want.{Want}
 use Rattle.lot_base.specs.declared.wants.Want.TheVariants.{Exclusive, Upgradable, Shared}
-use Rattle.abstract_locks.specs.Locks.{LockState, Rules, Rights, LockCase, Enter, Pend, Settle, Leave, Convert, Park, Aside, TakeFirst, TakeAside, TakePicked, Wake, HandOff, Late, Rollback, Needs, after_case, IsLockState, Knows, Owns, IsFree, MayConvert, Queued, putting, rights_of, with_right, without_right, with_owner, without_owner, pending_for, readers}
+use Rattle.abstract_locks.specs.Locks.{LockState, Rules, Rights, LockCase, Enter, Pend, Settle, Leave, Convert, Park, Aside, TakeFirst, TakeAside, TakePicked, Wake, HandOff, Late, Rollback, Needs, after_case, IsLockState, Owns, MayConvert, Queued, putting, rights_of, with_right, without_right, with_owner, without_owner, pending_for, readers}
 
 abbrev pub rights_by : ℕ → ℕ → ℕ → ℕ → Rights
 rights_by e p u s = record { exclusive = e; pending = p; upgradable = u; shared = s }

@@ -1,28 +1,17 @@
 -- What a thread owns in a call of a reader-writer lock: what it found, by what it owns now.
-use Rattle.std.proofs.Common.{ℕ, Bool, true, false, Option, Some, None, List, [], ◌∷◌, if◌then◌else◌, ◌==◌, ◌&&◌, not, ◌≡◌, ◌≢◌, ◌⊎◌, ◌≤◌, ◌<◌, ◌+◌, inl, inr, refl, sym, ap, ◌∙◌, subst, arith, length, nat_le}
-use Rattle.std.proofs.lemmas.Bool.{eqb-true}
-use Rattle.std.proofs.lemmas.Bool.Decides.{nat_tests}
-use Rattle.lot_base.specs.declared.keys.Line.TheVariants.{Main, Second}
+use Rattle.std.proofs.Common.{ℕ, Bool, true, false, if◌then◌else◌, ◌≡◌, refl, sym, subst}
 use Rattle.lot_base.specs.declared.wants.Want.{Want}
-use Rattle.lot_base.specs.declared.wants.Want.TheVariants.{Exclusive, Upgradable, Shared}
-use Rattle.lot_calls.specs.declared.calls.Access.{Access}
-use Rattle.lot_calls.specs.declared.calls.Access.TheVariants as access
+use Rattle.lot_base.specs.declared.wants.Want.TheVariants.{Upgradable}
 use Rattle.lot_calls.specs.declared.calls.Patience.{Patience}
 use Rattle.lot_calls.specs.declared.calls.Patience.TheVariants.{Patient, Timed, Try}
-use Rattle.lot_calls.specs.declared.outcomes.Answer.{Answer}
-use Rattle.lot_calls.specs.declared.outcomes.Answer.TheVariants.{Ok, No, Yes, ReadersFull}
-use Rattle.lot_acts.specs.declared.acts.Next.TheVariants as next
-use Rattle.lot_acts.specs.Calls.{call_by, rights_where, CallFollows, IsNextCall, IsTrueAnswer}
-use Rattle.lot_rwlock.specs.declared.places.Admission.{Admission}
-use Rattle.lot_rwlock.specs.declared.places.RwLockPlace.{RwLockPlace}
+use Rattle.lot_acts.specs.Calls.{rights_where}
 use Rattle.lot_rwlock.specs.declared.purposes.RwLockPurpose.{RwLockPurpose}
 use Rattle.lot_rwlock.specs.declared.purposes.RwLockPurpose.TheVariants as purpose
 use Rattle.lot_rwlock.specs.declared.places.RwLockAt.{RwLockAt}
-use Rattle.lot_rwlock.specs.declared.places.RwLockAt.TheVariants as at
 use Rattle.lot_rwlock.specs.RwLockSteps.{wanted, from_of, to_of, entered}
 use Rattle.lot_rwlock.specs.RwLockProfiles.{is_pending, is_waking, without_pending, before}
-use Rattle.abstract_locks.specs.Locks.{LockState, Rules, Rights, Owns, rights_of, with_right, without_right, putting}
-use Rattle.abstract_locks.specs.Runs.{LocksState, CallState, Event, AnswerHolds, EntersAnswer, ConvertsAnswer, rights_in, one_more_at, one_less_at, IsFull, MayRefuse, rules_at as locks_rules}
+use Rattle.abstract_locks.specs.Locks.{LockState, Rules, Rights, Owns, rights_of, with_right, without_right}
+use Rattle.abstract_locks.specs.Runs.{LocksState, CallState, EntersAnswer, ConvertsAnswer, rights_in, one_more_at, one_less_at, rules_at as locks_rules}
 use Rattle.abstract_locks.proofs.Rights.{AreAt, unchanged, changed, agree, less_pending}
 
 -- what a call found at its lock, by what its thread owns there now

@@ -4,22 +4,21 @@ use Rattle.std.proofs.Common.{ℕ, Bool, true, false, Option, Some, None, if◌t
 use Rattle.std.proofs.lemmas.Bool.{cases_eq, eqb-true}
 use Rattle.std.proofs.lemmas.Bool.Decides.{nat_tests}
 use Rattle.lot_base.specs.declared.wants.Want.{Want}
-use Rattle.lot_calls.specs.declared.outcomes.Answer.{Answer}
 use Rattle.lot_calls.specs.declared.outcomes.Outcome.{Outcome}
 use Rattle.lot_calls.specs.declared.outcomes.Outcome as outcome
 use Rattle.lot_acts.specs.declared.acts.Next.{Next}
 use Rattle.lot_acts.specs.declared.acts.Next.TheVariants as next
 use Rattle.lot_acts.specs.Profiles.{Profile}
-use Rattle.lot_acts.specs.Calls.{call_by, MayCome, ComesTo, CallFollows, rights_where}
+use Rattle.lot_acts.specs.Calls.{call_by, MayCome, ComesTo, rights_where}
 use Rattle.lot_steps.specs.Steps.{lock_of, profile}
 use Rattle.lot_steps.specs.declared.places.Place.{Place}
 use Rattle.lot_steps.specs.declared.places.Place.TheVariants.{Idle}
 use Rattle.abstract_locks.specs.Purposes.{Purpose, IsMadeOf, rules_of}
 use Rattle.abstract_locks.specs.Locks as locks
-use Rattle.abstract_locks.specs.Locks.{LockState, Rules, Rights, LockCase, HandOff, HasTakenNobody, Queued, Needs, after_case, putting, rights_of, standing}
-use Rattle.abstract_locks.specs.Runs.{LocksState, IsTimely, rules_at as locks_rules, CallState, Event, Nothing, AtLock, MayHappen, Agrees, AnswerHolds, GoesOn, locks_after, going_on, woken, unless_ended}
+use Rattle.abstract_locks.specs.Locks.{LockState, Rules, Rights, LockCase, HandOff, HasTakenNobody, Queued, Needs, putting, rights_of, standing}
+use Rattle.abstract_locks.specs.Runs.{LocksState, IsTimely, rules_at as locks_rules, CallState, Event, AtLock, MayHappen, Agrees, AnswerHolds, GoesOn, locks_after, going_on, woken, unless_ended}
 use Rattle.abstract_locks.specs.Sites.{Site, Deed, Begin, after_deed}
-use Rattle.abstract_locks.specs.Deeds.{AreOneCase, case_of, event_by, event_of, EventNeeds, after_event}
+use Rattle.abstract_locks.specs.Deeds.{AreOneCase, event_by, event_of, EventNeeds, after_event}
 use Rattle.abstract_locks.specs.Deeds as deeds
 use Rattle.abstract_locks.proofs.Deeds.{deeds_lead, deeds_need}
 use Rattle.abstract_locks.proofs.Rights.{others_keep}

@@ -1,17 +1,13 @@
 -- What becomes of the calls of those whom a thread has in hand: they try again, or were handed the lock.
-use Rattle.std.proofs.Common.{ℕ, Bool, true, false, Option, Some, None, if◌then◌else◌, ◌==◌, ◌≡◌, ◌≢◌, ◌+◌, ◌-◌, ◌⊎◌, inl, inr, List, [], ◌∷◌, refl, sym, ◌∙◌, ap, arith}
+use Rattle.std.proofs.Common.{ℕ, Bool, true, false, Option, Some, None, if◌then◌else◌, ◌==◌, ◌≡◌, ◌≢◌, ◌+◌, ◌-◌, ◌⊎◌, inl, inr, List, refl, sym, ◌∙◌, ap, arith}
 use Rattle.std.specs.Prelude.{slice_index, sum}
 use Rattle.std.proofs.lemmas.Bool.{cases_eq, eqb-true}
 use Rattle.std.proofs.lemmas.Bool.Decides.{nat_tests}
 use Rattle.lot_base.specs.declared.notes.Note.TheVariants.{Normal}
 use Rattle.lot_base.specs.declared.wants.Want.{Want}
 use Rattle.lot_base.specs.declared.wants.Want.TheVariants.{Exclusive, Shared}
-use Rattle.lot_calls.specs.declared.outcomes.Answer.{Answer}
-use Rattle.lot_calls.specs.declared.outcomes.Outcome.{Outcome}
-use Rattle.lot_calls.specs.declared.outcomes.Outcome as outcome
 use Rattle.lot_acts.specs.declared.acts.Reply.{Reply}
 use Rattle.lot_acts.specs.declared.acts.Reply.TheVariants.{TakenBy, HandedBy, Woken}
-use Rattle.lot_mutex.specs.declared.places.MutexPlace.{MutexPlace}
 use Rattle.lot_mutex.specs.declared.places.MutexPlace.TheVariants.{Lock, TryLock, Unlock, UnlockFair, Bump, HandOff}
 use Rattle.lot_mutex.specs.declared.lock.LockAt.TheVariants.{First, Taken}
 use Rattle.lot_mutex.specs.declared.unlock.UnlockAt.TheVariants as unlock
@@ -19,19 +15,17 @@ use Rattle.lot_mutex.specs.declared.hand_off.HandOffAt.TheVariants as hand_off
 use Rattle.lot_steps.specs.Steps.{next_place}
 use Rattle.lot_steps.specs.declared.places.Place.{Place}
 use Rattle.lot_steps.specs.declared.places.Place.TheVariants.{Idle, Mutex}
-use Rattle.abstract_locks.specs.Locks.{LockState, Queued, Taken as LockTaken, Rules, Rights, LockCase, Enter, Leave, Wake, HandOff as HandsOff, HasTakenNobody, IsTaken, IsLockState, Knows, Needs, keep_from, let_go, rights_of, with_right, without_right, is_thread, putting}
+use Rattle.abstract_locks.specs.Locks.{LockState, Queued, Taken as LockTaken, Rights, Enter, Wake, HandOff as HandsOff, IsTaken, IsLockState, Knows, Needs, rights_of, with_right, without_right, is_thread, putting}
 use Rattle.abstract_locks.specs.Locks as locks
-use Rattle.abstract_locks.specs.Runs.{LocksState, CallState, Event, IsTimely, is_taken_by, woken, Nothing, AtLock, MayHappen, Agrees, AnswerHolds, GoesOn, locks_after, going_on, unless_ended, one_more_at, one_less_at, rules_at as locks_rules}
+use Rattle.abstract_locks.specs.Runs.{is_taken_by, woken, AtLock, one_more_at, one_less_at}
 use Rattle.abstract_locks.specs.Sites.{Site, IsSite}
-use Rattle.abstract_locks.specs.Purposes.{Purpose, IsMadeOf}
 use Rattle.abstract_locks.proofs.LockKeeps.{sharing_same}
 use Rattle.lot_machine.specs.Machine.{State, place_at}
-use Rattle.lot_world.specs.Refinement.{owner_at, lock_state, taken_at, is_bump, before_entry, mutex_profile, mutex_call_state, call_state, locks_of}
-use Rattle.lot_world.specs.MutexDeeds.{Act, acts, queued}
-use Rattle.lot_world.specs.SitesOf.{IsSteady, Goes, rules_at, after_acts, site_of}
+use Rattle.lot_world.specs.Refinement.{owner_at, lock_state, taken_at, is_bump, before_entry, mutex_call_state, call_state}
+use Rattle.lot_world.specs.MutexDeeds.{queued}
+use Rattle.lot_world.specs.SitesOf.{rules_at}
 use Rattle.lot_world.proofs.Glue.{IsTakenAt, heir, put_same, same}
 use Rattle.lot_world.proofs.MutexTable.{mutex}
-use Rattle.lot_world.proofs.SitesKept.{goes_steady}
 use Rattle.lot_world.proofs.CallEvents.{put_is, rights, rights_led, Happens, Others, OthersFollow}
 
 -- ---------------------------------------------------------------- rights

@@ -1,17 +1,13 @@
 -- Each place of a mutex: what its step makes of its call, by the row of the next place. The case is the one of its deeds.
-use Rattle.std.proofs.Common.{ℕ, Bool, true, false, Option, Some, None, if◌then◌else◌, ◌==◌, ◌&&◌, not, ◌≡◌, ◌≢◌, ◌⊎◌, ◌+◌, ◌*◌, inl, inr, List, [], ◌∷◌, refl, sym, ◌∙◌, ap, subst}
+use Rattle.std.proofs.Common.{ℕ, Bool, true, false, Option, Some, None, if◌then◌else◌, ◌==◌, ◌&&◌, not, ◌≡◌, ◌≢◌, ◌⊎◌, ◌+◌, ◌*◌, inl, inr, List, [], ◌∷◌, refl, sym, ◌∙◌, ap}
 use Rattle.lot_base.specs.declared.keys.Keys.TheVariants.{One}
 use Rattle.lot_base.specs.declared.ops.Op as op
-use Rattle.lot_base.specs.declared.wants.Want.{Want}
 use Rattle.lot_base.specs.declared.wants.Want.TheVariants.{Exclusive}
-use Rattle.lot_calls.specs.declared.outcomes.Answer.{Answer}
 use Rattle.lot_calls.specs.declared.outcomes.Answer.TheVariants as answer
 use Rattle.lot_calls.specs.declared.outcomes.Outcome.TheVariants as outcome
 use Rattle.lot_acts.specs.declared.acts.Act as act
 use Rattle.lot_acts.specs.declared.acts.Next.{Next}
 use Rattle.lot_acts.specs.declared.acts.Next.TheVariants as next
-use Rattle.lot_acts.specs.declared.acts.Reply.{Reply}
-use Rattle.lot_acts.specs.declared.acts.Reply.TheVariants.{Done, Value, Parked, Took, Removed}
 use Rattle.lot_acts.specs.Acts.{outcome_of}
 use Rattle.lot_acts.specs.Profiles.{Profile}
 use Rattle.lot_acts.specs.Calls.{call_by, CallFollows, IsNextCall, MayCome, event_at, rights_where}
@@ -22,15 +18,15 @@ use Rattle.lot_mutex.specs.declared.lock.Entry.TheVariants as entries
 use Rattle.lot_mutex.specs.declared.lock.LockAt.TheVariants.{First, Load, Decide, Check, Leave, Asleep, Accept, Remove, Clear, GiveUp}
 use Rattle.lot_mutex.specs.declared.unlock.UnlockAt.TheVariants as unlock
 use Rattle.lot_mutex.specs.declared.hand_off.HandOffAt.TheVariants as hand_off
-use Rattle.lot_mutex.specs.MutexSteps.{is_locked, is_parked, is_timed, entered, looked, in_lock, in_unlock, in_hand_off, lock_act, hand_off_act, mutex_act, mutex_next}
-use Rattle.abstract_locks.specs.Locks.{LockState, LockCase, Rules, Rights, Queued, Enter, Leave as GivesBack, Park, TakeFirst, Wake, HandOff as HandsOff, IsLockState, IsSuccessor, IsTaken, Owns, after_case, rights_of, with_right, without_right}
+use Rattle.lot_mutex.specs.MutexSteps.{is_locked, is_timed, entered, looked, in_lock, in_unlock, in_hand_off, lock_act, hand_off_act, mutex_act}
+use Rattle.abstract_locks.specs.Locks.{LockState, LockCase, Rights, Queued, Enter, Leave as GivesBack, Park, TakeFirst, HandOff as HandsOff, Owns, after_case, rights_of, with_right, without_right}
 use Rattle.abstract_locks.specs.Locks as locks
 use Rattle.abstract_locks.specs.Purposes.{IsMadeOf}
-use Rattle.abstract_locks.specs.Runs.{LocksState, CallState, AtLock, going_on, AnswerHolds, rights_in, one_more_at, one_less_at, rules_at as locks_rules}
-use Rattle.abstract_locks.specs.Sites.{Site, Deed, Main, End, Out, In, Mark, Case}
-use Rattle.abstract_locks.specs.Deeds.{AllNeeded, AreOneCase, case_of, event_by, after_event}
-use Rattle.abstract_locks.proofs.Rights.{AreAt, unchanged, changed, agree, entered_alone, left, regained}
-use Rattle.lot_world.specs.MutexDeeds.{mutex_row, mutex_station, mutex_deeds, enters, takes, hands_over, queued}
+use Rattle.abstract_locks.specs.Runs.{LocksState, CallState, AtLock, going_on, AnswerHolds, rights_in, one_more_at, one_less_at}
+use Rattle.abstract_locks.specs.Sites.{Deed, Main, End, Out, Mark, Case}
+use Rattle.abstract_locks.specs.Deeds.{AreOneCase, case_of, after_event}
+use Rattle.abstract_locks.proofs.Rights.{unchanged, changed, agree, entered_alone, left, regained}
+use Rattle.lot_world.specs.MutexDeeds.{mutex_row, mutex_station, enters, takes, hands_over, queued}
 use Rattle.lot_world.specs.Refinement.{is_bump, entry_purpose, release_purpose, before_release}
 use Rattle.lot_world.proofs.Glue.{mutex, heir}
 

@@ -1,24 +1,23 @@
 -- Whatever a thread in a call of a mutex is told of its step, the step makes of its call what its next row says.
-use Rattle.std.proofs.Common.{ℕ, Bool, true, false, Option, Some, None, if◌then◌else◌, ◌==◌, ◌&&◌, not, ◌≡◌, ◌≢◌, ◌+◌, inl, inr, List, [], ◌∷◌, ◌++◌, refl, sym, ◌∙◌, ap, subst}
+use Rattle.std.proofs.Common.{ℕ, Bool, true, false, Option, Some, None, if◌then◌else◌, ◌==◌, not, ◌≡◌, ◌≢◌, ◌+◌, inl, inr, List, [], ◌∷◌, ◌++◌, refl, ◌∙◌, ap}
 use Rattle.lot_base.specs.declared.wants.Want.TheVariants.{Exclusive}
 use Rattle.lot_acts.specs.declared.acts.Reply.{Reply}
 use Rattle.lot_acts.specs.declared.acts.Reply.TheVariants.{Done, Value, Parked, Took, Removed}
 use Rattle.lot_mutex.specs.declared.places.MutexPlace.{MutexPlace}
 use Rattle.lot_mutex.specs.declared.places.MutexPlace.TheVariants.{Lock, TryLock, Unlock, UnlockFair, Bump, HandOff}
-use Rattle.lot_mutex.specs.declared.lock.Entry.{Entry}
-use Rattle.lot_mutex.specs.declared.lock.LockAt.TheVariants.{First, Load, Decide, Check, Leave, Asleep, Taken, Handed, Accept, Remove, Clear, GiveUp}
+use Rattle.lot_mutex.specs.declared.lock.LockAt.TheVariants.{First, Load, Decide, Check, Leave, Accept, Remove, Clear, GiveUp}
 use Rattle.lot_mutex.specs.declared.unlock.UnlockAt.TheVariants as unlock
 use Rattle.lot_mutex.specs.declared.hand_off.HandOffAt.TheVariants as hand_off
 use Rattle.lot_mutex.specs.MutexSteps.{is_locked, is_parked, is_timed, mutex_next}
 use Rattle.abstract_locks.specs.Locks.{Needs, HandOff as HandsOff}
-use Rattle.abstract_locks.specs.Sites.{Site, IsSite, Deed, Doing, Has, Main, In, Out, End, Case, Mark, Clear as Clears}
+use Rattle.abstract_locks.specs.Sites.{Site, IsSite, Doing, Has, Main, In, End, Mark, Clear as Clears}
 use Rattle.abstract_locks.specs.Deeds.{AllNeeded}
 use Rattle.lot_world.specs.MutexPromises.{IsMutexWord}
 use Rattle.lot_world.specs.MutexDeeds.{Act, acts, deeds, claims_of, mutex_doing, mutex_deeds, enters, hands_over}
 use Rattle.lot_world.proofs.Glue.{mutex, heir}
 use Rattle.lot_world.proofs.CallEvents.{AreClaims}
 use Rattle.lot_world.proofs.LockEvents.{gives_right}
-use Rattle.lot_world.proofs.MutexCalls.{Tells, decides, first, loads, exchanges, checks, leaves_line, removes, gives_up, accepts, tries, subtracts, takes_one, wakes_taken, unlocks_fairly, bumps, takes_fairly, stores, leaves_fairly, goes_to}
+use Rattle.lot_world.proofs.MutexCalls.{Tells, first, loads, exchanges, checks, leaves_line, removes, gives_up, accepts, tries, subtracts, takes_one, wakes_taken, unlocks_fairly, bumps, takes_fairly, stores, leaves_fairly, goes_to}
 
 -- the word tells whether the mutex is owned
 pub free_word : (v : ℕ) (o : Option ℕ) → IsMutexWord v o → is_locked v ≡ false → o ≡ None

@@ -1,11 +1,10 @@
 -- What an act of one thread makes of the calls of the others: nothing, but where it wakes those in its hand or hands them the lock.
-use Rattle.std.proofs.Common.{ℕ, zero, suc, Bool, true, false, Option, Some, None, if◌then◌else◌, ◌==◌, ◌≡◌, ◌≢◌, inl, inr, List, [], ◌∷◌, length, nat_lt, map, get_or, set, refl, sym, ◌∙◌, ap, subst, get_or-set_other}
+use Rattle.std.proofs.Common.{ℕ, Bool, true, false, Option, Some, None, if◌then◌else◌, ◌≡◌, ◌≢◌, inl, inr, List, [], ◌∷◌, get_or, set, refl, sym, ◌∙◌, ap, subst, get_or-set_other}
 use Rattle.std.proofs.Math.ListN.{get_or-map}
-use Rattle.std.proofs.lemmas.Bool.{cases_eq, eqb-true}
+use Rattle.std.proofs.lemmas.Bool.{cases_eq}
 use Rattle.lot_base.specs.declared.keys.Keys.{Keys}
 use Rattle.lot_base.specs.declared.keys.Keys.TheVariants.{One, Two}
 use Rattle.lot_base.specs.declared.notes.Note.TheVariants as note
-use Rattle.lot_base.specs.declared.wants.Want.{Want}
 use Rattle.lot_base.specs.declared.wants.Waiter.{Waiter}
 use Rattle.lot_base.specs.Lines.{threads_of}
 use Rattle.lot_base.specs.Picks.{lock_picked}
@@ -15,20 +14,18 @@ use Rattle.lot_acts.specs.declared.acts.Whom.{Whom}
 use Rattle.lot_acts.specs.declared.acts.Whom.TheVariants as whom
 use Rattle.lot_acts.specs.declared.acts.Wakes.TheVariants as wakes
 use Rattle.lot_acts.specs.declared.acts.Reply.{Reply}
-use Rattle.lot_acts.specs.declared.acts.Reply.TheVariants.{TakenBy, HandedBy, Woken}
+use Rattle.lot_acts.specs.declared.acts.Reply.TheVariants.{TakenBy, Woken}
 use Rattle.lot_acts.specs.Owners.{is_thread}
-use Rattle.lot_acts.specs.Profiles.{Hand, Of, hand, hand_owner, taken_from}
-use Rattle.lot_steps.specs.Steps.{lock_of, next_place, profile, taker}
+use Rattle.lot_acts.specs.Profiles.{hand}
+use Rattle.lot_steps.specs.Steps.{lock_of, next_place, taker}
 use Rattle.lot_steps.specs.declared.places.Place.{Place}
-use Rattle.lot_steps.specs.declared.places.Place.TheVariants.{Idle, Mutex}
-use Rattle.lot_mutex.specs.declared.places.MutexPlace.TheVariants.{Lock}
+use Rattle.lot_steps.specs.declared.places.Place.TheVariants.{Idle}
 use Rattle.lot_mutex.specs.declared.lock.LockAt.TheVariants.{First}
-use Rattle.abstract_locks.specs.Locks.{Rights, LockCase, Taken, Wake, HandOff}
-use Rattle.abstract_locks.specs.Locks as locks
-use Rattle.abstract_locks.specs.Runs.{CallState, Event, Nothing, AtLock, is_taken_by, woken}
+use Rattle.abstract_locks.specs.Locks.{Rights, LockCase, Wake, HandOff}
+use Rattle.abstract_locks.specs.Runs.{AtLock, is_taken_by}
 use Rattle.abstract_locks.specs.Deeds.{event_by}
-use Rattle.lot_machine.specs.Machine.{State, queue_at, place_at, put, state_after_act, state_after_operation, state_after_hand_over, state_after_telling, state_after_reply, state_after_taking, state_with_sections, queues_without_first, places_told, place_after_telling}
-use Rattle.lot_world.specs.Refinement.{call_state, taken_at, locks_of}
+use Rattle.lot_machine.specs.Machine.{State, queue_at, place_at, put, state_after_act, state_after_telling, state_after_taking, state_with_sections, places_told, place_after_telling}
+use Rattle.lot_world.specs.Refinement.{call_state, taken_at}
 use Rattle.lot_world.specs.Stations.{Station}
 use Rattle.lot_world.specs.SitesOf.{IsSteady, carried_at, hand_at}
 use Rattle.lot_world.proofs.AtPlaces.{unless_held}
