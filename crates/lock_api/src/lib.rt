@@ -4,6 +4,7 @@
 pub mod guarded;
 pub mod guards;
 pub mod mutex;
+pub mod reaches;
 pub mod shows;
 pub mod taken;
 

@@ -38,7 +38,7 @@ impl<R: RawMutex> NamesPermit for Names<'_, R> {
 #[derive(Drop)]
 pub struct Mutex<R: RawMutex, T> {
     raw: R,
-    place: Place<T>,
+    pub(crate) place: Place<T>,
     ghost named: { place ≡ R.permit_of raw },
 }
 
@@ -199,12 +199,6 @@ impl<R: RawMutex, T> Mutex<R, T> {
         ensures { result.now ≡ self.now }
     {
         &self.raw
-    }
-
-    /// The value, of a mutex that nobody else can use meanwhile. It takes no step.
-    #[inline]
-    pub fn get_mut(&mut self) -> &mut T {
-        self.place.get_mut()
     }
 }
 

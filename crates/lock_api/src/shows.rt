@@ -22,6 +22,7 @@ pub trait Shows {
     ghost shown: { Self → Self.Value };
     // The same, once this was written, and it is open by the same permit then.
     ghost written: { Self → Self.Value → Self };
+
     ghost stays_open: { (place : Self) (value : Self.Value) → opened_by (written place value) ≡ opened_by place };
 
     fn show(&self) -> &Self::Value

@@ -44,6 +44,7 @@ pub trait RawMutex {
     ghost permit_of: { Self → PermitId };
     // An open guard is of this mutex, and that has one proof at most too.
     ghost is_opened_of: { Self → Self.Opened → Type 0 };
+
     ghost opened_once: { (mutex : Self) (opened : Self.Opened) → IsProp (is_opened_of mutex opened) };
     // Between the two states of a thread, it took the steps of this call of the mutex, to this answer.
     ghost walked: { Self → MutexCall → Answer → Self.Token → Self.Token → Type 0 };

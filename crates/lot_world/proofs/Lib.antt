@@ -9,6 +9,7 @@ pub mod MutexSections
 pub mod StandsKept
 pub mod StandsMoved
 pub mod ActsKept
+pub mod LawsKept
 pub mod WakesKept
 pub mod TakesKept
 pub mod PicksKept
