@@ -1,7 +1,7 @@
 -- The deeds of a step are one case of the abstract lock at most: they need what it needs, and lead where it leads.
-use Rattle.std.proofs.Common.{ℕ, Bool, true, false, Option, Some, None, if◌then◌else◌, ◌==◌, ◌≡◌, ◌≢◌, List, [], ◌∷◌, refl, ◌∙◌, ap}
+use Rattle.std.proofs.Common.{ℕ, Bool, true, false, Option, Some, None, if◌then◌else◌, ◌==◌, ◌≡◌, ◌≢◌, List, [], ◌∷◌, refl, ◌∙◌}
 use Rattle.std.proofs.lemmas.Bool.{eqb-true}
-use Rattle.abstract_locks.specs.Locks.{LockState, Taken, Rules, Wake, HasTakenNobody, keep_from, let_go}
+use Rattle.abstract_locks.specs.Locks.{LockState, Taken, Rules, HasTakenNobody, keep_from, let_go}
 use Rattle.abstract_locks.specs.Sites.{Site, Main, Second, Deed, Begin, End, In, Out, Mark, Clear, FindNobody, MarkOwned, Bring, MarkBrought, Case, after_deed}
 use Rattle.abstract_locks.specs.Runs.{Nothing}
 use Rattle.abstract_locks.specs.Deeds.{after_all, AllNeeded, KeepLock, AreOneCase, event_of, EventNeeds, after_event}

@@ -1,11 +1,12 @@
 -- What each case of a lock makes of a thread's rights.
-use Rattle.std.proofs.Common.{ℕ, Bool, true, false, Option, Some, None, ◌≡◌, ◌≢◌, ◌≤◌, ◌<◌, ◌+◌, ◌-◌, ◌==◌, refl, get_or-set_same, get_or-set_other, arith}
+use Rattle.std.proofs.Common.{ℕ, Bool, true, false, Option, Some, None, ◌≡◌, ◌≢◌, ◌<◌, ◌+◌, ◌-◌, ◌==◌, if◌then◌else◌, refl, sym, ap, ◌∙◌, get_or-set_same, get_or-set_other, arith}
+use Rattle.std.proofs.lemmas.Bool.{eqb-true}
 use Rattle.std.proofs.lemmas.Bool.Decides.{nat_tests}
 use Rattle.std.proofs.lemmas.List.{get_or_past}
 use Rattle.std.specs.Prelude.{length, slice_index, slice_set}
 use Rattle.lot_base.specs.declared.wants.Want.{Want}
 use Rattle.lot_base.specs.declared.wants.Want.TheVariants.{Exclusive, Upgradable, Shared}
-use Rattle.abstract_locks.specs.Locks.{LockState, Rules, Rights, LockCase, Enter, Pend, Settle, Leave, Convert, Park, Aside, TakeFirst, TakeAside, TakePicked, Wake, HandOff, Late, Rollback, Needs, after_case, IsLockState, Knows, Owns, IsFree, MayConvert, Queued, rights_of, with_right, without_right, with_owner, without_owner, pending_for, readers}
+use Rattle.abstract_locks.specs.Locks.{LockState, Rules, Rights, LockCase, Enter, Pend, Settle, Leave, Convert, Park, Aside, TakeFirst, TakeAside, TakePicked, Wake, HandOff, Late, Rollback, Needs, after_case, IsLockState, Owns, MayConvert, Queued, putting, rights_of, with_right, without_right, with_owner, without_owner, pending_for, readers}
 
 abbrev pub rights_by : ℕ → ℕ → ℕ → ℕ → Rights
 rights_by e p u s = record { exclusive = e; pending = p; upgradable = u; shared = s }
@@ -120,3 +121,33 @@ module _ (r : Rules) (s : LockState) (t u : ℕ) (state : IsLockState r s) (ne :
   others_keep (HandOff x y) not_hand n = absurd (not_hand x y refl)
   others_keep Late not_hand n = refl
   others_keep Rollback not_hand n = grind (arith, nat_tests)
+
+-- ---------------------------------------------------------------- rights of each lock, where one lock's are told
+
+-- they are these at the lock l, and elsewhere those
+abbrev pub AreAt : (ℕ → Rights) → (ℕ → Rights) → ℕ → Rights → Type 0
+AreAt rights g l y = (k : ℕ) → g k ≡ putting rights l y k
+
+same : (l : ℕ) → (l == l) ≡ true
+same l = grind (arith, nat_tests)
+
+module _ (rights : ℕ → Rights) (l : ℕ) where
+  pub unchanged : (y : Rights) → rights l ≡ y → AreAt rights rights l y
+  unchanged y e k = either (k == l) refl
+    where
+      either : (b : Bool) → (k == l) ≡ b → rights k ≡ (if b then y else rights k)
+      either true f = rw (eqb-true k l f) e
+      either false f = refl
+
+  pub changed : (h : Rights → Rights) (g : ℕ → Rights) (y : Rights) → AreAt rights g l y → AreAt rights (putting g l (h (g l))) l (h y)
+  changed h g y e k = either (k == l) (e k)
+    where
+      here : g l ≡ y
+      here = e l ∙ ap (λ b. if b then y else rights l) (same l)
+
+      either : (b : Bool) → g k ≡ (if b then y else rights k) → (if b then h (g l) else g k) ≡ (if b then h y else rights k)
+      either true f = ap h here
+      either false f = f
+
+  pub agree : (g h : ℕ → Rights) (y z : Rights) → AreAt rights g l y → AreAt rights h l z → y ≡ z → (k : ℕ) → g k ≡ h k
+  agree g h y z a b e k = a k ∙ ap (λ x. putting rights l x k) e ∙ sym (b k)

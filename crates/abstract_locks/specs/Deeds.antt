@@ -1,6 +1,6 @@
 -- Deeds of one thread, one after another, and the one case of the abstract lock that they are.
-use Rattle.std.specs.Prelude.{ℕ, Bool, false, Option, Some, List, [], ◌∷◌}
-use Rattle.abstract_locks.specs.Locks.{LockState, Rules, Wake, Needs, after_case}
+use Rattle.std.specs.Prelude.{ℕ, Bool, false, Option, Some, None, List, [], ◌∷◌}
+use Rattle.abstract_locks.specs.Locks.{LockState, LockCase, Rules, Wake, Needs, after_case}
 use Rattle.abstract_locks.specs.Sites.{Site, Deed, Out, Bring, Case, Needed, after_deed}
 use Rattle.abstract_locks.specs.Runs.{Event, Nothing, AtLock}
 
@@ -30,12 +30,19 @@ AreOneCase (Out ∷ ds) = KeepLock ds
 AreOneCase (Bring taken moved ∷ ds) = ⊥
 AreOneCase (d ∷ ds) = AreOneCase ds
 
--- That case at the lock l. Who leaves a section wakes whom it has in hand, if anybody, where it hasn't handed the lock over: hand says.
+-- That case. Who leaves a section wakes whom it has in hand, if anybody, where it hasn't handed the lock over: hand says.
+abbrev pub case_of : Option Bool → List Deed → Option LockCase
+case_of hand [] = None
+case_of hand (Case case ∷ ds) = Some case
+case_of (Some false) (Out ∷ ds) = Some Wake
+case_of hand (d ∷ ds) = case_of hand ds
+
+abbrev pub event_by : ℕ → Option LockCase → Event
+event_by l None = Nothing
+event_by l (Some case) = AtLock l case
+
 abbrev pub event_of : ℕ → Option Bool → List Deed → Event
-event_of l hand [] = Nothing
-event_of l hand (Case case ∷ ds) = AtLock l case
-event_of l (Some false) (Out ∷ ds) = AtLock l Wake
-event_of l hand (d ∷ ds) = event_of l hand ds
+event_of l hand ds = event_by l (case_of hand ds)
 
 -- what an event needs of its lock, and where it leads it
 abbrev pub EventNeeds : Rules → Event → LockState → ℕ → Type 0

@@ -1,5 +1,5 @@
 -- A call of a reader-writer lock goes on where it may stand, and what befalls a thread asleep makes of its call what its row says.
-use Rattle.std.proofs.Common.{ℕ, Bool, true, false, Option, Some, None, if◌then◌else◌, ◌==◌, ◌&&◌, not, ◌≡◌, ◌≢◌, refl, sym, ap, ◌∙◌, subst, nat_le}
+use Rattle.std.proofs.Common.{ℕ, Bool, true, false, Some, None, if◌then◌else◌, ◌==◌, ◌&&◌, not, ◌≡◌, ◌≢◌, refl, sym, subst, nat_le}
 use Rattle.lot_base.specs.declared.keys.Line.{Line}
 use Rattle.lot_base.specs.declared.keys.Line.TheVariants.{Main, Second}
 use Rattle.lot_base.specs.declared.notes.Note.TheVariants as note
@@ -11,7 +11,6 @@ use Rattle.lot_calls.specs.declared.calls.Patience.{Patience}
 use Rattle.lot_calls.specs.declared.calls.Patience.TheVariants.{Patient, Timed, Try}
 use Rattle.lot_calls.specs.declared.outcomes.Answer.{Answer}
 use Rattle.lot_calls.specs.declared.outcomes.Answer.TheVariants.{No, ReadersFull}
-use Rattle.lot_acts.specs.declared.acts.Next.{Next}
 use Rattle.lot_acts.specs.declared.acts.Next.TheVariants as next
 use Rattle.lot_acts.specs.declared.acts.Reply.{Reply}
 use Rattle.lot_acts.specs.declared.acts.Reply.TheVariants as reply
@@ -27,8 +26,8 @@ use Rattle.lot_rwlock.specs.declared.park.ParkAt.{ParkAt}
 use Rattle.lot_rwlock.specs.declared.park.ParkAt.TheVariants as parking
 use Rattle.lot_rwlock.specs.declared.release.WakeAt.{WakeAt}
 use Rattle.lot_rwlock.specs.declared.release.WakeAt.TheVariants as waking
-use Rattle.lot_rwlock.specs.RwLockSteps.{entered, goes, counted, wanted, to_of, patience_of, waits, decision_blocked, decision, decided, is_counted, plus, stays, missed, looked_by, looked, came_in, exchanged_next, wakes, wakes_or_ends, park_next, wake_next, rwlock_next}
-use Rattle.lot_rwlock.specs.RwLockCalls.{MayWait, HasDeadline, ParksBy, EntersAt, SharesAt, WritesAt, ReleasesAt, DowngradesAt, UpgradesAt, StandsAt, MayStandNext, MayBeTold, RwLockCallsStand, CallBecomes, SleepersHear, RwLockSleepersHear}
+use Rattle.lot_rwlock.specs.RwLockSteps.{entered, goes, counted, wanted, patience_of, waits, decision_blocked, decision, decided, is_counted, plus, stays, missed, looked_by, looked, came_in, exchanged_next, wakes, wakes_or_ends, park_next, wake_next, rwlock_next}
+use Rattle.lot_rwlock.specs.RwLockCalls.{MayWait, HasDeadline, ParksBy, EntersAt, SharesAt, WritesAt, ReleasesAt, DowngradesAt, UpgradesAt, StandsAt, MayStandNext, MayBeTold, RwLockCallsStand, CallBecomes, RwLockSleepersHear}
 use Rattle.lot_acts.specs.Calls.{call_by}
 use Rattle.lot_acts.specs.Profiles.{hand}
 use Rattle.lot_rwlock.specs.RwLockProfiles.{rwlock_profile, hand_at, late_line_at}

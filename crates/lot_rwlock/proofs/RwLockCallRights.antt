@@ -1,59 +1,18 @@
 -- What a thread owns in a call of a reader-writer lock: what it found, by what it owns now.
-use Rattle.std.proofs.Common.{ℕ, Bool, true, false, Option, Some, None, List, [], ◌∷◌, if◌then◌else◌, ◌==◌, ◌&&◌, not, ◌≡◌, ◌≢◌, ◌⊎◌, ◌≤◌, ◌<◌, ◌+◌, inl, inr, refl, sym, ap, ◌∙◌, subst, arith, length, nat_le}
-use Rattle.std.proofs.lemmas.Bool.{eqb-true}
-use Rattle.std.proofs.lemmas.Bool.Decides.{nat_tests}
-use Rattle.lot_base.specs.declared.keys.Line.TheVariants.{Main, Second}
+use Rattle.std.proofs.Common.{ℕ, Bool, true, false, if◌then◌else◌, ◌≡◌, refl, sym, subst}
 use Rattle.lot_base.specs.declared.wants.Want.{Want}
-use Rattle.lot_base.specs.declared.wants.Want.TheVariants.{Exclusive, Upgradable, Shared}
-use Rattle.lot_calls.specs.declared.calls.Access.{Access}
-use Rattle.lot_calls.specs.declared.calls.Access.TheVariants as access
+use Rattle.lot_base.specs.declared.wants.Want.TheVariants.{Upgradable}
 use Rattle.lot_calls.specs.declared.calls.Patience.{Patience}
 use Rattle.lot_calls.specs.declared.calls.Patience.TheVariants.{Patient, Timed, Try}
-use Rattle.lot_calls.specs.declared.outcomes.Answer.{Answer}
-use Rattle.lot_calls.specs.declared.outcomes.Answer.TheVariants.{Ok, No, Yes, ReadersFull}
-use Rattle.lot_acts.specs.declared.acts.Next.TheVariants as next
-use Rattle.lot_acts.specs.Calls.{call_by, rights_where, CallFollows, IsNextCall, IsTrueAnswer}
-use Rattle.lot_rwlock.specs.declared.places.Admission.{Admission}
-use Rattle.lot_rwlock.specs.declared.places.RwLockPlace.{RwLockPlace}
+use Rattle.lot_acts.specs.Calls.{rights_where}
 use Rattle.lot_rwlock.specs.declared.purposes.RwLockPurpose.{RwLockPurpose}
 use Rattle.lot_rwlock.specs.declared.purposes.RwLockPurpose.TheVariants as purpose
 use Rattle.lot_rwlock.specs.declared.places.RwLockAt.{RwLockAt}
-use Rattle.lot_rwlock.specs.declared.places.RwLockAt.TheVariants as at
 use Rattle.lot_rwlock.specs.RwLockSteps.{wanted, from_of, to_of, entered}
 use Rattle.lot_rwlock.specs.RwLockProfiles.{is_pending, is_waking, without_pending, before}
-use Rattle.abstract_locks.specs.Locks.{LockState, Rules, Rights, Owns, rights_of, with_right, without_right, putting}
-use Rattle.abstract_locks.specs.Runs.{LocksState, CallState, Event, AnswerHolds, EntersAnswer, ConvertsAnswer, rights_in, one_more_at, one_less_at, IsFull, MayRefuse, rules_at as locks_rules}
-use Rattle.abstract_locks.proofs.Rights.{less_pending}
-
--- ---------------------------------------------------------------- rights of each lock, where one lock's are told
-
--- they are these at the lock l, and elsewhere those
-abbrev pub AreAt : (ℕ → Rights) → (ℕ → Rights) → ℕ → Rights → Type 0
-AreAt rights g l y = (k : ℕ) → g k ≡ putting rights l y k
-
-same : (l : ℕ) → (l == l) ≡ true
-same l = grind (arith, nat_tests)
-
-module _ (rights : ℕ → Rights) (l : ℕ) where
-  unchanged : (y : Rights) → rights l ≡ y → AreAt rights rights l y
-  unchanged y e k = either (k == l) refl
-    where
-      either : (b : Bool) → (k == l) ≡ b → rights k ≡ (if b then y else rights k)
-      either true f = rw (eqb-true k l f) e
-      either false f = refl
-
-  changed : (h : Rights → Rights) (g : ℕ → Rights) (y : Rights) → AreAt rights g l y → AreAt rights (putting g l (h (g l))) l (h y)
-  changed h g y e k = either (k == l) (e k)
-    where
-      here : g l ≡ y
-      here = e l ∙ ap (λ b. if b then y else rights l) (same l)
-
-      either : (b : Bool) → g k ≡ (if b then y else rights k) → (if b then h (g l) else g k) ≡ (if b then h y else rights k)
-      either true f = ap h here
-      either false f = f
-
-  agree : (g h : ℕ → Rights) (y z : Rights) → AreAt rights g l y → AreAt rights h l z → y ≡ z → (k : ℕ) → g k ≡ h k
-  agree g h y z a b e k = a k ∙ ap (λ x. putting rights l x k) e ∙ sym (b k)
+use Rattle.abstract_locks.specs.Locks.{LockState, Rules, Rights, Owns, rights_of, with_right, without_right}
+use Rattle.abstract_locks.specs.Runs.{LocksState, CallState, EntersAnswer, ConvertsAnswer, rights_in, one_more_at, one_less_at, rules_at as locks_rules}
+use Rattle.abstract_locks.proofs.Rights.{AreAt, unchanged, changed, agree, less_pending}
 
 -- what a call found at its lock, by what its thread owns there now
 abbrev pub found : RwLockPurpose → RwLockAt → Rights → Rights

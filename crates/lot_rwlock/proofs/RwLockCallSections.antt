@@ -1,9 +1,7 @@
 -- Each step of a reader-writer lock into a section, in it and out of it makes of its call what its row says.
-use Rattle.std.proofs.Common.{ℕ, Bool, true, false, Option, Some, None, List, [], ◌∷◌, if◌then◌else◌, ◌==◌, ◌&&◌, not, ◌≡◌, ◌≢◌, ◌≤◌, ◌<◌, ◌⊎◌, inl, inr, refl, sym, ap, ◌∙◌, subst, length}
-use Rattle.lot_base.specs.declared.keys.Line.{Line}
+use Rattle.std.proofs.Common.{ℕ, Bool, true, false, Option, Some, None, List, if◌then◌else◌, ◌==◌, ◌&&◌, not, ◌≡◌, ◌≢◌, ◌<◌, inl, inr, refl, sym, ap, ◌∙◌, subst, length}
 use Rattle.lot_base.specs.declared.keys.Line.TheVariants.{Main, Second}
 use Rattle.lot_base.specs.declared.ops.Op.TheVariants.{Load}
-use Rattle.lot_base.specs.declared.wants.Want.{Want}
 use Rattle.lot_base.specs.declared.wants.Want.TheVariants.{Exclusive, Upgradable, Shared}
 use Rattle.lot_calls.specs.declared.calls.Access.{Access}
 use Rattle.lot_calls.specs.declared.calls.Access.TheVariants as access
@@ -11,12 +9,11 @@ use Rattle.lot_calls.specs.declared.calls.Downgrade.{Downgrade}
 use Rattle.lot_calls.specs.declared.calls.Downgrade.TheVariants as downgrade
 use Rattle.lot_calls.specs.declared.calls.Patience.{Patience}
 use Rattle.lot_calls.specs.declared.calls.Patience.TheVariants.{Patient, Timed, Try}
-use Rattle.lot_calls.specs.declared.outcomes.Answer.TheVariants.{Ok, No}
+use Rattle.lot_calls.specs.declared.outcomes.Answer.TheVariants.{No}
 use Rattle.lot_acts.specs.declared.acts.Next.{Next}
-use Rattle.lot_acts.specs.declared.acts.Next.TheVariants as next
 use Rattle.lot_acts.specs.declared.acts.Reply.{Reply}
 use Rattle.lot_acts.specs.declared.acts.Reply.TheVariants as reply
-use Rattle.lot_acts.specs.Calls.{call_by, rights_where, CallFollows}
+use Rattle.lot_acts.specs.Calls.{call_by, CallFollows}
 use Rattle.lot_rwlock.specs.declared.places.Admission.{Admission}
 use Rattle.lot_rwlock.specs.declared.places.RwLockPlace.{RwLockPlace}
 use Rattle.lot_rwlock.specs.declared.purposes.RwLockPurpose.{RwLockPurpose}
@@ -28,16 +25,16 @@ use Rattle.lot_rwlock.specs.declared.park.ParkAt.{ParkAt}
 use Rattle.lot_rwlock.specs.declared.park.ParkAt.TheVariants as parking
 use Rattle.lot_rwlock.specs.declared.release.WakeAt.{WakeAt}
 use Rattle.lot_rwlock.specs.declared.release.WakeAt.TheVariants as waking
-use Rattle.lot_rwlock.specs.RwLockSteps.{wanted, from_of, to_of, start_of, patience_of, decided, any_picked, looked, counted, park_next, wake_next, rwlock_next}
-use Rattle.lot_rwlock.specs.RwLockDeeds.{Admits, IsFreshTry, IsAt, AtFits, MayHear, MayHearParking, MayHearWaking, rwlock_deeds, park_deeds, wake_deeds, rwlock_doing}
-use Rattle.lot_rwlock.specs.RwLockProfiles.{rwlock_profile, before}
+use Rattle.lot_rwlock.specs.RwLockSteps.{wanted, from_of, to_of, start_of, patience_of, any_picked, park_next, wake_next, rwlock_next}
+use Rattle.lot_rwlock.specs.RwLockDeeds.{Admits, IsFreshTry, MayHear, MayHearParking, MayHearWaking, rwlock_deeds, park_deeds, wake_deeds, rwlock_doing}
+use Rattle.lot_rwlock.specs.RwLockProfiles.{rwlock_profile}
 use Rattle.lot_rwlock.specs.RwLockCalls.{MayWait, HasDeadline, ParksBy, EntersAt, SharesAt, WritesAt, ReleasesAt, DowngradesAt, UpgradesAt, StandsAt, KeepsRight, IsNotLate, next_row, CallFollowsBy, RwLockSectionsTell}
 use Rattle.lot_rwlock.proofs.RwLockCalls.{looks, settles, settles_up}
 use Rattle.lot_rwlock.proofs.RwLockCallRights.{recalls, goes, keeps, loses, replaces}
-use Rattle.abstract_locks.specs.Locks.{LockState, LockCase, Rules, Rights, Park, Aside, TakeAside, TakePicked, Wake, Late, Owns, after_case, standing, rights_of, with_right, without_right}
+use Rattle.abstract_locks.specs.Locks.{LockCase, Rules, Rights, Park, Aside, TakeAside, TakePicked, Wake, Late, Owns, after_case, rights_of, with_right, without_right}
 use Rattle.abstract_locks.specs.Codes.{code, count_in}
-use Rattle.abstract_locks.specs.Runs.{LocksState, CallState, AtLock, going_on, EntersAnswer, ConvertsAnswer, rights_in}
-use Rattle.abstract_locks.specs.Sites.{Site, IsSite, Deed, Case, Has, Doing}
+use Rattle.abstract_locks.specs.Runs.{CallState, AtLock, going_on, EntersAnswer, ConvertsAnswer}
+use Rattle.abstract_locks.specs.Sites.{Site, IsSite, Deed, Case}
 use Rattle.abstract_locks.proofs.Rights.{regained}
 
 module _ (r : Rules) (a : Admission) (s : Site) (t l : ℕ) (admits : Admits r a) (h : IsSite r s) (there : t < length s.lock.shared) where

@@ -6,7 +6,6 @@ use Rattle.std.proofs.lemmas.Bool.Decides.{nat_tests}
 use Rattle.lot_base.specs.declared.keys.Line.{Line}
 use Rattle.lot_base.specs.declared.keys.Line.TheVariants.{Main, Second}
 use Rattle.lot_base.specs.declared.ops.Op.{Op}
-use Rattle.lot_base.specs.declared.wants.Want.{Want}
 use Rattle.lot_base.specs.declared.wants.Want.TheVariants.{Exclusive, Upgradable, Shared}
 use Rattle.lot_calls.specs.declared.calls.Access.{Access}
 use Rattle.lot_calls.specs.declared.calls.Access.TheVariants as access
@@ -15,7 +14,7 @@ use Rattle.lot_calls.specs.declared.calls.Downgrade.TheVariants as downgrade
 use Rattle.lot_calls.specs.declared.calls.Patience.{Patience}
 use Rattle.lot_calls.specs.declared.calls.Patience.TheVariants.{Patient, Timed, Try}
 use Rattle.lot_calls.specs.declared.outcomes.Answer.{Answer}
-use Rattle.lot_calls.specs.declared.outcomes.Answer.TheVariants.{Ok, No, Yes, ReadersFull}
+use Rattle.lot_calls.specs.declared.outcomes.Answer.TheVariants.{No, Yes, ReadersFull}
 use Rattle.lot_acts.specs.declared.acts.Act.TheVariants as act
 use Rattle.lot_acts.specs.declared.acts.Next.{Next}
 use Rattle.lot_acts.specs.declared.acts.Next.TheVariants as next
@@ -32,14 +31,14 @@ use Rattle.lot_rwlock.specs.declared.enter.Decision.TheVariants as decisions
 use Rattle.lot_rwlock.specs.declared.park.ParkAt.TheVariants as parking
 use Rattle.lot_rwlock.specs.declared.release.WakeAt.TheVariants as waking
 use Rattle.lot_rwlock.specs.RwLockSteps.{patience_of, rwlock_act, rwlock_next, wanted, from_of, to_of, entered, is_counted, waits, decision_blocked, decision, decided, missed, looked_by, looked, came_in, exchanged_next, counted, stays, goes as goes_to, plus, wakes, wakes_or_ends}
-use Rattle.lot_rwlock.specs.RwLockDeeds.{rwlock_deeds, AtPending, AtTry, AtUpgrade, AtFits, Admits, IsFreshTry, IsAt, missed_deeds, looked_deeds, enters_deeds, came_in_deeds, exchanged_deeds, counted_deeds, does_and_wakes, sees_waiter, pends, rwlock_doing}
+use Rattle.lot_rwlock.specs.RwLockDeeds.{rwlock_deeds, AtPending, AtTry, AtUpgrade, AtFits, Admits, IsFreshTry, missed_deeds, looked_deeds, enters_deeds, exchanged_deeds, counted_deeds, does_and_wakes, rwlock_doing}
 use Rattle.lot_rwlock.specs.RwLockProfiles.{rwlock_profile, before}
 use Rattle.lot_rwlock.specs.RwLockCalls.{MayWait, HasDeadline, EntersAt, WritesAt, SharesAt, ReleasesAt, DowngradesAt, UpgradesAt, StandsAt, RwLockStepsTell, next_row, CallFollowsBy}
 use Rattle.lot_rwlock.proofs.RwLockFit.{knows_all, may_enter}
-use Rattle.lot_rwlock.proofs.RwLockCallRights.{found, recalls, goes, keeps, loses, replaces, enters, raises}
-use Rattle.abstract_locks.specs.Locks.{LockState, Pending, Mutex, Rules, Rights, LockCase, after_case, falling_back, Enter, Pend, Settle, Leave, Convert, Rollback, Knows, MayEnter, Owns, MayConvert, NoWriter, IsFree, is_recursive, count, readers, standing, rights_of, with_right, without_right, with_owner, without_owner, pending_for}
+use Rattle.lot_rwlock.proofs.RwLockCallRights.{recalls, goes, keeps, loses, replaces, enters, raises}
+use Rattle.abstract_locks.specs.Locks.{LockState, Pending, Mutex, Rules, Rights, LockCase, after_case, falling_back, Enter, Settle, Leave, Convert, Rollback, Owns, MayConvert, NoWriter, IsFree, is_recursive, count, readers, standing, rights_of, with_right, without_right, with_owner, without_owner, pending_for}
 use Rattle.abstract_locks.specs.Codes.{code, TellsTrue, count_in, has_parked, has_aside, is_blocked}
-use Rattle.abstract_locks.specs.Runs.{LocksState, CallState, AtLock, going_on, AnswerHolds, EntersAnswer, ConvertsAnswer, MayRefuse, IsFull, rights_in, rules_at as locks_rules}
+use Rattle.abstract_locks.specs.Runs.{LocksState, CallState, AtLock, going_on, EntersAnswer, ConvertsAnswer, MayRefuse, IsFull, rights_in, rules_at as locks_rules}
 use Rattle.abstract_locks.specs.Sites.{Doing, has_readers, Site, IsSite, Deed, Case, End, Mark, Clear, Has, Pends}
 use Rattle.abstract_locks.proofs.CodeLaws.{words_tell_true}
 use Rattle.abstract_locks.proofs.Rights.{less_pending, entered_alone, entered_upgradable, entered_shared, pended, settled, left, lowered, replaced, raised, raising, fell, rolled}

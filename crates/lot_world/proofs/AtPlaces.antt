@@ -108,7 +108,7 @@ module _ (w : State) (steady : IsSteady w) where
     same_without l = get_or-map (without t) w.queues (2 * l) [] ∙ without_absent t (queue_at w (2 * l)) (absent l)
 
   module _ (t l : ℕ) (at : MutexPlace) (is : place_at w t ≡ Mutex l at) where
-    own_doing : doing_on (place_at w t) l ≡ mutex_doing at
+    pub own_doing : doing_on (place_at w t) l ≡ mutex_doing at
     own_doing = ap (λ p. doing_on p l) is ∙ doing_here l (Mutex l at) refl
 
     pub holds_section : (mutex_doing at).inside ≡ Some Main → section_at w (2 * l) ≡ Some t

@@ -54,7 +54,7 @@ use Rattle.abstract_locks.specs.Purposes.{rules_of}
 use Rattle.lot_world.proofs.SitesKept.{unshared_at, single_at}
 use Rattle.lot_acts.specs.declared.owners.Owners.{Owners}
 use Rattle.lot_acts.specs.Owners.{with_exclusive}
-use Rattle.lot_world.proofs.LockEvents.{rights}
+use Rattle.lot_world.proofs.CallEvents.{rights}
 use Rattle.lot_world.proofs.LockSteps.{after_step}
 use Rattle.abstract_locks.proofs.Runs.{needs_of}
 

@@ -22,7 +22,10 @@ pub mod Counts
 pub mod SitesPromise
 pub mod AtPlaces
 pub mod ExclusiveOwners
+pub mod CallEvents
+pub mod MutexCalls
 pub mod LockEvents
+pub mod OtherCalls
 pub mod MutexEvents
 pub mod Possible
 pub mod LockSteps

@@ -1,17 +1,14 @@
 -- Each turn of a thread is a step of the abstract locks.
-use Rattle.std.proofs.Common.{ℕ, Bool, true, false, Option, Some, None, if◌then◌else◌, ◌==◌, ◌&&◌, not, ◌≡◌, ◌≢◌, ◌+◌, ◌*◌, ◌<◌, ◌↔◌, inl, inr, List, [], ◌∷◌, length, get_or, drop, refl, sym, ◌∙◌, ap, subst, get_or-set_other, get_or-set_same, length-set, nat_lt}
+use Rattle.std.proofs.Common.{◌≤◌, ◌++◌, arith, ℕ, Bool, true, false, Option, Some, None, if◌then◌else◌, ◌==◌, ◌&&◌, not, ◌≡◌, ◌≢◌, ◌+◌, ◌*◌, ◌<◌, ◌↔◌, inl, inr, List, [], ◌∷◌, length, get_or, refl, sym, ◌∙◌, ap, subst, get_or-set_other, get_or-set_same, length-set, nat_lt}
 use Rattle.std.proofs.lemmas.Bool.{cases_eq, eqb-true, ltb-true, lt-ltb}
 use Rattle.lot_base.specs.declared.keys.Keys.TheVariants.{One}
-use Rattle.lot_base.specs.declared.ops.Op.{Op}
 use Rattle.lot_base.specs.declared.ops.Op as op
-use Rattle.lot_base.specs.declared.wants.Waiter.{Waiter}
 use Rattle.lot_base.specs.declared.wants.Want.TheVariants.{Exclusive}
-use Rattle.lot_base.specs.Lines.{without, first_of}
 use Rattle.lot_calls.specs.declared.kinds.Kind.{Kind}
 use Rattle.lot_calls.specs.declared.kinds.Kind as kind
 use Rattle.lot_acts.specs.declared.acts.Act.{Act}
 use Rattle.lot_acts.specs.declared.acts.Act as act
-use Rattle.lot_acts.specs.declared.acts.Reply.TheVariants.{Done, Value, Spun, Parked, Took, Removed, TakenBy, HandedBy, Woken}
+use Rattle.lot_acts.specs.declared.acts.Reply.TheVariants.{Value, Spun, Parked, HandedBy, Woken}
 use Rattle.lot_acts.specs.declared.acts.Reply.TheVariants as reply
 use Rattle.lot_calls.specs.declared.calls.Call.{Call}
 use Rattle.lot_calls.specs.declared.calls.Call as call
@@ -22,9 +19,7 @@ use Rattle.lot_calls.specs.declared.calls.MutexCall.{MutexCall}
 use Rattle.lot_calls.specs.declared.calls.MutexCall as mutex_call
 use Rattle.lot_calls.specs.Calls.{lock_in}
 use Rattle.lot_calls.specs.Kinds.{has_call, is_fair}
-use Rattle.lot_calls.specs.declared.outcomes.Outcome.{Outcome}
 use Rattle.lot_calls.specs.declared.outcomes.Outcome as outcome
-use Rattle.lot_mutex.specs.declared.places.TheConstants.{NOT_PARKED}
 use Rattle.lot_mutex.specs.declared.lock.Entry.{Entry}
 use Rattle.lot_mutex.specs.declared.lock.Entry.TheVariants as entries
 use Rattle.lot_base.specs.declared.notes.Note.TheVariants as note
@@ -40,179 +35,231 @@ use Rattle.lot_steps.specs.declared.places.Place.TheVariants.{Idle, Mutex}
 use Rattle.lot_acts.specs.Acts.{outcome_of}
 use Rattle.lot_mutex.specs.MutexSteps.{mutex_first, mutex_right, is_locked, is_parked, lock_act, unlock_act, hand_off_word, hand_off_act}
 use Rattle.lot_acts.specs.Owners.{is_thread}
-use Rattle.lot_steps.specs.Steps.{act_of, next_place, next_act, spin_lock, late_key, is_idle, has_right, first_place}
-use Rattle.lot_machine.specs.Machine.{State, place_at, word_at, owners_at, kind_at, queue_at, section_at, put, state_after_act, go_reply, state_after_operation, state_after_hand_over, state_after_telling, queues_with_last, queues_without, queues_without_first, state_after_taking, state_after_reply, state_with_sections, reply_to, can_do, is_there, state_after_spin_on, state_after_late_on, is_free_under, state_after_begin, can_begin, is_open_to, can_turn, state_after_turn, turn_outcome, is_possible, after, step_outcome}
+use Rattle.lot_steps.specs.Steps.{act_of, next_place, next_act, mutex_goes, mutex_does, spin_lock, late_key, is_idle, has_right, first_place}
+use Rattle.lot_machine.specs.Machine.{State, place_at, word_at, owners_at, kind_at, section_at, put, state_after_act, go_reply, state_after_operation, state_after_hand_over, state_with_sections, reply_to, can_do, is_there, state_after_spin_on, state_after_late_on, is_free_under, state_after_begin, can_begin, is_open_to, can_turn, state_after_turn, turn_outcome, is_possible, after, step_outcome}
 use Rattle.lot_machine.specs.Fits.{IsShaped, SameSize, PlaceFits, GivesUpTimed}
 use Rattle.lot_machine.proofs.Shape.{after_size, both, performed_counts}
 use Rattle.lot_world.proofs.Possible.{may_go, go_possible, may_be_late, late_possible, told_gone, told_step, begins_awake, turner_there, gone_sections, spun_sections, late_sections, spun_awake, late_awake}
 use Rattle.lot_world.proofs.Closures.{no_closure, nothing_closes}
-use Rattle.lot_world.specs.SitesOf.{IsSteady, Goes, CallsMutex, is_mutex, rules_at, carried_at, hand_at}
-use Rattle.abstract_locks.specs.Sites.{Main, In, Clear as Clears}
-use Rattle.abstract_locks.specs.Locks.{putting, Rights, rights_of}
-use Rattle.abstract_locks.specs.Runs.{LocksState, CallState, GoesOn, Stays, Does, SectionChanges, MayBegin, MayTurn, HasRight, Turned, IsStep, purpose_at, new_call, is_taken_by, Nothing}
+use Rattle.lot_world.specs.SitesOf.{site_of, IsSteady, Goes, CallsMutex, is_mutex, rules_at, carried_at}
+use Rattle.abstract_locks.specs.Sites.{IsSite, Deed, Main, Mark, End, Case}
+use Rattle.abstract_locks.specs.Locks.{LockCase, Wake, Leave as GivesBack, HandOff as HandsOff, Rights, rights_of, standing}
+use Rattle.abstract_locks.specs.Runs.{LocksState, CallState, GoesOn, Stays, Does, SectionChanges, MayBegin, MayTurn, HasRight, Turned, IsStep, purpose_at, new_call, Nothing}
 use Rattle.abstract_locks.specs.Purposes.{purpose_of, mutex_purpose}
-use Rattle.lot_world.specs.MutexDeeds.{mutex_station, deeds}
+use Rattle.lot_world.specs.MutexDeeds.{mutex_row, mutex_station, mutex_deeds, lock_deeds, enters, hands_over, acts}
+use Rattle.lot_world.specs.MutexDeeds as of_mutex
+use Rattle.lot_acts.specs.Calls.{ComesTo}
+use Rattle.abstract_locks.specs.Deeds.{AllNeeded, case_of, event_by, after_event}
 use Rattle.lot_world.specs.Stations.{hand}
 use Rattle.lot_world.specs.Refinement.{owner_at, lock_state, taken_at, call_state, locks_of, sleeps}
 use Rattle.lot_world.proofs.KindsKept.{after_kinds, calls_mutex}
 use Rattle.std.specs.Prelude.{replicate}
 use Rattle.lot_acts.specs.declared.acts.Reply.{Reply}
 use Rattle.lot_mutex.specs.declared.places.MutexPlace.{MutexPlace}
-use Rattle.lot_mutex.specs.MutexSteps.{mutex_act}
-use Rattle.lot_world.proofs.Glue.{IsTakenAt, IsHandedAt, is_taken, is_handed, told_one, same, own_stance, goes_from, put_here, put_other, put_of, put_same}
+use Rattle.lot_mutex.specs.MutexSteps.{mutex_act, mutex_next}
+use Rattle.lot_acts.specs.declared.acts.Next.{Next}
+use Rattle.lot_acts.specs.declared.acts.Next.TheVariants as next
+use Rattle.lot_acts.specs.declared.acts.Whom.TheVariants as whoms
+use Rattle.lot_world.proofs.Glue.{heir, own_stance, same}
 use Rattle.lot_world.proofs.MutexTable.{mutex}
-use Rattle.lot_world.proofs.StandsMoved.{mutex_rules, takes_one as one_in_hand}
-use Rattle.lot_world.proofs.SitesKept.{go_by, one_held, told_it}
+use Rattle.lot_world.proofs.StandsMoved.{mutex_rules}
+use Rattle.lot_world.proofs.SitesKept.{go_by}
 use Rattle.lot_world.proofs.GoneKept.{gone_goes}
 use Rattle.lot_world.proofs.TurnsKept.{idle_is}
-use Rattle.lot_world.proofs.AtPlaces.{unless_held}
-use Rattle.lot_world.proofs.LockEvents.{put_is, rights, taken_call, Others, Gone, Befalls}
-use Rattle.lot_world.proofs.MutexEvents.{goes_on, first, loads, exchanges, checks, leaves_line, removes, gives_up, accepts, tries, subtracts, takes_one, wakes_taken, unlocks_fairly, bumps, takes_fairly, stores, leaves_fairly}
-
--- ---------------------------------------------------------------- where the other threads go
-
-module _ (w : State) (t : ℕ) where
-  -- nowhere
-  others_stay : (b : State) (p2 : Place) → b.places ≡ w.places → Others w (put b t p2) t Nothing
-  others_stay b p2 places u ne r = ap (λ p. call_state p r) (get_or-set_other b.places t u p2 Idle ne ∙ ap (λ (xs : List Place). get_or xs u Idle) places)
-
-  module _ (b : State) (x : ℕ) (reply : Reply) (p2 : Place) (places : b.places ≡ w.places) where
-    -- but one of them, whom something befalls
-    one_goes : (u : ℕ) → u ≢ t → place_at (put (state_after_reply b x reply) t p2) u ≡ putting (place_at w) x (next_place (place_at w x) reply) u
-    one_goes u ne = get_or-set_other (state_after_reply b x reply).places t u p2 Idle ne ∙ ap (λ f. f u) (goes_from b x reply) ∙ ap (λ (xs : List Place). putting (λ k. get_or xs k Idle) x (next_place (get_or xs x Idle) reply) u) places
-
-    others_go_on : ((r : ℕ → Rights) → call_state (next_place (place_at w x) reply) r ≡ call_state (place_at w x) r) → Others w (put (state_after_reply b x reply) t p2) t Nothing
-    others_go_on same_call u ne r = ap (λ p. call_state p r) (one_goes u ne) ∙ put_of (λ p. call_state p r) (place_at w) x (next_place (place_at w x) reply) u
-        ∙ put_same (λ k. call_state (place_at w k) r) x (call_state (next_place (place_at w x) reply) r) (sym (same_call r)) u
-
-    -- the one that t has in hand
-    befalls_one : (l : ℕ) → is_taken_by t (taken_at (place_at w x) l) ≡ true → ((u : ℕ) → u ≢ x → is_taken_by t (taken_at (place_at w u) l) ≡ false) → Befalls w (put (state_after_reply b x reply) t p2) t l reply
-    befalls_one l taken only u ne = one_goes u ne ∙ elim (cases_eq u x) [
-      | inl e ↦ rw (e, put_here (place_at w) x (next_place (place_at w x) reply), taken) refl
-      | inr nx ↦ rw (put_other (place_at w) x (next_place (place_at w x) reply) u nx, only u nx) refl
-    ]
-
-  befalls_nobody : (b : State) (p2 : Place) (l : ℕ) (reply : Reply) → b.places ≡ w.places → ((u : ℕ) → is_taken_by t (taken_at (place_at w u) l) ≡ false) → Befalls w (put b t p2) t l reply
-  befalls_nobody b p2 l reply places none u ne = get_or-set_other b.places t u p2 Idle ne ∙ ap (λ (xs : List Place). get_or xs u Idle) places ∙ sym (ap (λ c. if c then next_place (place_at w u) reply else place_at w u) (none u))
-
-  others_took : (queues : List (List Waiter)) (o : Option ℕ) (p2 : Place) → Others w (put (state_after_taking (record w { queues = queues }) t o) t p2) t Nothing
-  others_took queues None p2 = others_stay (record w { queues = queues }) p2 refl
-  others_took queues (Some x) p2 = others_go_on (record w { queues = queues }) x (TakenBy t) p2 refl (taken_call (place_at w x) t)
+use Rattle.lot_world.proofs.AtPlaces.{coded, in_no_hand, own_doing, stands_by}
+use Rattle.lot_world.proofs.CallEvents.{put_is, rights, Others, OthersFollow, Happens, LeadsTo, IsNoHandOff, happens, needed_then, others_follow, goes_by}
+use Rattle.lot_world.proofs.LockEvents.{Befalls, wakes_others, hands_others}
+use Rattle.lot_world.proofs.OtherCalls.{IsLonely, IsCalm, lonely, takes, calm, befalls, befalls_nobody, tells_handed}
+use Rattle.lot_world.proofs.MutexCalls.{Tells, Rests, row_of}
+use Rattle.lot_world.proofs.MutexEvents.{Hears, owned_word, mutex_tells, claims_at, deeds_are, are_claims}
 
 -- ---------------------------------------------------------------- a thread goes on
 
 module _ (w : State) (t : ℕ) (shape : IsShaped w) (steady : IsSteady w) (there : t < length w.places) where
   module _ (l : ℕ) (lt : l < length w.locks) (rules : rules_at w l ≡ mutex) where
-    -- where a thread has gone by an act, and what its lock has been through
-    gone_by : (at : MutexPlace) (a : Act) → place_at w t ≡ Mutex l at → (whom : Option ℕ) → Goes w (go_by w t (Mutex l at) a) l (deeds t at whom (reply_to w t a)) → Gone w (go_by w t (Mutex l at) a) t l at (next_place (Mutex l at) (reply_to w t a)) (deeds t at whom (reply_to w t a))
-    gone_by at a is whom goes = record {
-      from = is;
-      to = get_or-set_same (state_after_act w t (Mutex l at) a).places t _ Idle (rw ((performed_counts w t (Mutex l at) a).0) there);
-      before = steady;
-      goes = goes;
-    }
+    -- what it is told of its step
+    decided_hears : (e : Entry) (again : Bool) (x : ℕ) (a b : Bool) → Hears (site_of w l) t (Lock e again (Decide x)) (reply_to w t (if not a then act.TheVariants.Word l (op.TheVariants.Exchange x (x + 1)) else if b then act.TheVariants.Word l (op.TheVariants.Exchange 1 3) else act.TheVariants.Enter (One (2 * l))))
+    decided_hears e again x false b = tt
+    decided_hears e again x true true = tt
+    decided_hears e again x true false = tt
 
-    -- whom its act takes, or hands the lock
-    abbrev whom_at : (at : MutexPlace) → place_at w t ≡ Mutex l at → can_do w (mutex_act l at) ≡ true → Option ℕ
-    whom_at at is can = (gone_goes w t steady shape there l at is lt can).0
+    lock_hears : (e : Entry) (again : Bool) (a : LockAt) → can_do w (lock_act l a) ≡ true → GivesUpTimed (Lock e again a) → Hears (site_of w l) t (Lock e again a) (reply_to w t (lock_act l a))
+    lock_hears e again First can timed = tt
+    lock_hears e again Load can timed = tt
+    lock_hears e again (Decide x) can timed = decided_hears e again x (is_locked x) (x == 1)
+    lock_hears e again Check can timed = tt
+    lock_hears e again (Leave b) can timed = tt
+    lock_hears e again Asleep can timed = absurd cc
+    lock_hears e again (Taken by) can timed = absurd cc
+    lock_hears e again (Handed by) can timed = absurd cc
+    lock_hears e again Accept can timed = tt
+    lock_hears e again Remove can timed = timed
+    lock_hears e again Clear can timed = tt
+    lock_hears e again GiveUp can timed = timed
 
-    gone_at : (at : MutexPlace) (is : place_at w t ≡ Mutex l at) (can : can_do w (mutex_act l at) ≡ true) → Gone w (go_by w t (Mutex l at) (mutex_act l at)) t l at (next_place (Mutex l at) (reply_to w t (mutex_act l at))) (deeds t at (whom_at at is can) (reply_to w t (mutex_act l at)))
-    gone_at at is can = gone_by at (mutex_act l at) is (whom_at at is can) (gone_goes w t steady shape there l at is lt can).1
+    hears : (at : MutexPlace) → place_at w t ≡ Mutex l at → can_do w (mutex_act l at) ≡ true → GivesUpTimed at → Hears (site_of w l) t at (reply_to w t (mutex_act l at))
+    hears (Lock e again a) is can timed = lock_hears e again a can timed
+    hears TryLock is can timed = λ locked free. owned_word (word_at w l) (owner_at w l) (coded w steady l rules) locked free
+    hears (Unlock unlock.Subtract) is can timed = tt
+    hears (Unlock unlock.Enter) is can timed = tt
+    hears (Unlock unlock.Take) is can timed = tt
+    hears (Unlock (unlock.Clear any)) is can timed = tt
+    hears (Unlock (unlock.Leave true)) is can timed = tt
+    hears (Unlock (unlock.Leave false)) is can timed = tt
+    hears UnlockFair is can timed = tt
+    hears Bump is can timed = tt
+    hears (HandOff bumping hand_off.Enter) is can timed = tt
+    hears (HandOff bumping hand_off.Take) is can timed = tt
+    hears (HandOff bumping (hand_off.Store true b)) is can timed = ap (λ p. taken_at p l) is
+    hears (HandOff bumping (hand_off.Store false b)) is can timed = ap (λ p. taken_at p l) is
+    hears (HandOff bumping (hand_off.Leave true)) is can timed = tt
+    hears (HandOff bumping (hand_off.Leave false)) is can timed = tt
 
-    -- what a thread does about the word that it saw, by its two tests
+    module _ (at : MutexPlace) (is : place_at w t ≡ Mutex l at) (can : can_do w (mutex_act l at) ≡ true) (timed : GivesUpTimed at) where
+      abbrev told : Reply
+      told = reply_to w t (mutex_act l at)
+
+      -- whom its act takes, or hands the lock
+      abbrev whom : Option ℕ
+      whom = (gone_goes w t steady shape there l at is lt can).0
+
+      abbrev behind : State
+      behind = go_by w t (Mutex l at) (mutex_act l at)
+
+      goes : Goes w behind l (acts t (mutex_deeds at whom told) ++ claims_at at whom told)
+      goes = subst (Goes w behind l) (deeds_are t at whom told) (gone_goes w t steady shape there l at is lt can).1
+
+      tells : Tells l t (lock_state w l) at (mutex_deeds at whom told) (mutex_next at told)
+      tells = mutex_tells (site_of w l) t l (subst (λ r. IsSite r (site_of w l)) rules (steady.sites.site l)) at whom told (own_doing w steady t l at is)
+          (subst (λ r. AllNeeded r (mutex_deeds at whom told) (site_of w l) t) rules (needed_then (rules_at w l) t (mutex_deeds at whom told) (claims_at at whom told) (site_of w l) goes.follows.needed)) (hears at is can timed)
+
+      -- whom it has in hand, by its place
+      carries : carried_at (place_at w t) l ≡ (mutex_row at).carries
+      carries = ap (λ x. x.carries) (own_stance l (place_at w t) at is)
+
+      abbrev happened : Option LockCase
+      happened = case_of (mutex_row at).carries (mutex_deeds at whom told)
+
+      happens_so : Happens w behind t l (event_by l happened)
+      happens_so = happens w behind t l (mutex_row at).carries (mutex_deeds at whom told) (claims_at at whom told) steady goes (are_claims at whom told) tells.follows.one (λ none. in_no_hand w steady t l (λ h. none (sym carries ∙ h)))
+
+      -- where it is then
+      leads : LeadsTo behind t l (row_of (mutex_next at told)) (outcome_of (mutex_does l (mutex_next at told)))
+      leads = by_next (mutex_next at told) (get_or-set_same (state_after_act w t (Mutex l at) (mutex_act l at)).places t _ Idle (rw (performed_counts w t (Mutex l at) (mutex_act l at)).0 there)) tells.rests
+        where
+          by_next : (n : Next MutexPlace) → place_at behind t ≡ mutex_goes l n → Rests l n → LeadsTo behind t l (row_of n) (outcome_of (mutex_does l n))
+          by_next (next.At at2) e rests = (
+            rw e refl,
+            rw e refl,
+            elim rests [
+              | inl step ↦ inl step
+              | inr sleeps ↦ inr (sleeps.0, standing_then at2 e sleeps.1)
+            ],
+          )
+            where
+              standing_then : (at2 : MutexPlace) → place_at behind t ≡ Mutex l at2 → (mutex_station at2).stands ≡ Some Main → 1 ≤ standing t (lock_state behind l)
+              standing_then at2 e stands = rw (stands_by behind happens_so.after t l, own_stance l (place_at behind t) at2 e, stands) (omega arith)
+          by_next (next.End a) e rests = (e, refl)
+
+      goes_if : OthersFollow w behind t (event_by l happened) → GoesOn (locks_of w) t (outcome_of (next_act (Mutex l at) told)) (locks_of behind)
+      goes_if others = goes_by w behind t l happened happens_so (Mutex l at) is refl tells.follows.may (row_of (mutex_next at told)) _
+          (subst (λ r. ComesTo r l (mutex_row at) (event_by l happened) (lock_state w l) (after_event r (event_by l happened) (lock_state w l) t) t (row_of (mutex_next at told))) (sym rules) tells.follows.comes)
+          leads others
+
+      -- nobody else's call changes
+      calmly : IsCalm happened → Others w behind t Nothing → GoesOn (locks_of w) t (outcome_of (next_act (Mutex l at) told)) (locks_of behind)
+      calmly still others = goes_if (others_follow w behind t l happened happens_so (no_hand_off happened still) (calm w t (next_place (Mutex l at) told) behind l happened still others))
+        where
+          no_hand_off : (c : Option LockCase) → IsCalm c → IsNoHandOff w behind t l happened happens_so c
+          no_hand_off None h = tt
+          no_hand_off (Some (HandsOff x y)) h = absurd h
+          no_hand_off (Some case) h = λ x y e. cc
+
+      -- it hands the lock over
+      gives : (to : Option ℕ) → happened ≡ Some (HandsOff Exclusive (heir to)) → Befalls w behind t l (HandedBy t) → taken_at (place_at w t) l ≡ None → GoesOn (locks_of w) t (outcome_of (next_act (Mutex l at) told)) (locks_of behind)
+      gives to case befalls awake = goes_if (subst (λ c. OthersFollow w behind t (event_by l c)) (sym case) (hands_others w behind t l to (subst (λ c. Happens w behind t l (event_by l c)) case happens_so) rules awake befalls))
+
+    -- whichever way it decides, the case is one that leaves the others in peace
+    if_calm : (hand : Option Bool) (b : Bool) (xs ys : List Deed) → IsCalm (case_of hand xs) → IsCalm (case_of hand ys) → IsCalm (case_of hand (if b then xs else ys))
+    if_calm hand true xs ys h k = h
+    if_calm hand false xs ys h k = k
+
     abbrev decided_by : ℕ → Bool → Bool → Act
-    decided_by s a b = if not a then act.TheVariants.Word l (op.TheVariants.Exchange s (s + 1)) else if b then act.TheVariants.Word l (op.TheVariants.Exchange 1 3) else act.TheVariants.Enter (One (2 * l))
+    decided_by x a b = if not a then act.TheVariants.Word l (op.TheVariants.Exchange x (x + 1)) else if b then act.TheVariants.Word l (op.TheVariants.Exchange 1 3) else act.TheVariants.Enter (One (2 * l))
 
-    decided_goes : (e : Entry) (again : Bool) (s : ℕ) (a b : Bool) → Gone w (go_by w t (Mutex l (Lock e again (Decide s))) (decided_by s a b)) t l (Lock e again (Decide s)) (next_place (Mutex l (Lock e again (Decide s))) (reply_to w t (decided_by s a b))) (deeds t (Lock e again (Decide s)) None (reply_to w t (decided_by s a b)))
-        → GoesOn (locks_of w) t (outcome_of (next_act (Mutex l (Lock e again (Decide s))) (reply_to w t (decided_by s a b)))) (locks_of (go_by w t (Mutex l (Lock e again (Decide s))) (decided_by s a b)))
-    decided_goes e again s false b gone = exchanges w _ t l rules e again s (word_at w l) (word_at w l == s) (is_locked (word_at w l)) gone (others_stay w t (state_after_operation w t (Mutex l (Lock e again (Decide s))) l (op.TheVariants.Exchange s (s + 1))) _ refl)
-    decided_goes e again s true true gone = exchanges w _ t l rules e again s (word_at w l) (word_at w l == s) (is_locked (word_at w l)) gone (others_stay w t (state_after_operation w t (Mutex l (Lock e again (Decide s))) l (op.TheVariants.Exchange 1 3)) _ refl)
-    decided_goes e again s true false gone = goes_on w _ t l rules (Lock e again (Decide s)) (Lock e again Check) (In Main ∷ []) gone refl (others_stay w t (state_with_sections w (One (2 * l)) (Some t)) _ refl) (λ r. refl)
+    lonely_decided : (x : ℕ) (a b : Bool) → IsLonely (decided_by x a b)
+    lonely_decided x false b = tt
+    lonely_decided x true true = tt
+    lonely_decided x true false = tt
 
-    parked_places : (b : Bool) (queues : List (List Waiter)) → (if b then record w { queues = queues } else w).places ≡ w.places
-    parked_places true queues = refl
-    parked_places false queues = refl
+    calm_word : (x v : ℕ) → IsCalm (case_of None (lock_deeds (Decide x) (Value v)))
+    calm_word x v = if_calm None (not (v == x)) [] (if is_locked v then Mark Main ∷ [] else enters) tt (if_calm None (is_locked v) (Mark Main ∷ []) enters tt tt)
 
-    -- a step on the word, or into a section or out of it
-    on_word : (at : MutexPlace) (f : Op) → Others w (go_by w t (Mutex l at) (act.TheVariants.Word l f)) t Nothing
-    on_word at f = others_stay w t (state_after_operation w t (Mutex l at) l f) _ refl
+    calm_decided : (x : ℕ) (a b : Bool) → IsCalm (case_of None (lock_deeds (Decide x) (reply_to w t (decided_by x a b))))
+    calm_decided x false b = calm_word x (word_at w l)
+    calm_decided x true true = calm_word x (word_at w l)
+    calm_decided x true false = tt
 
-    on_section : (who : Option ℕ) (p2 : Place) → Others w (put (state_with_sections w (One (2 * l)) who) t p2) t Nothing
-    on_section who p2 = others_stay w t (state_with_sections w (One (2 * l)) who) p2 refl
+    calm_parked : (b : Bool) → IsCalm (case_of None (lock_deeds Check (Parked b)))
+    calm_parked true = tt
+    calm_parked false = tt
 
-    lock_goes : (e : Entry) (again : Bool) (a : LockAt) → place_at w t ≡ Mutex l (Lock e again a) → can_do w (lock_act l a) ≡ true → GivesUpTimed (Lock e again a)
+    calm_takes : (o : Option ℕ) → IsCalm (case_of None (of_mutex.takes o))
+    calm_takes None = tt
+    calm_takes (Some u) = tt
+
+    -- nobody else goes anywhere, or whoever is taken goes on in its call
+    alone : (at : MutexPlace) (is : place_at w t ≡ Mutex l at) (can : can_do w (mutex_act l at) ≡ true) (timed : GivesUpTimed at) → IsLonely (mutex_act l at) → IsCalm (happened at is can timed)
+        → GoesOn (locks_of w) t (outcome_of (next_act (Mutex l at) (reply_to w t (mutex_act l at)))) (locks_of (go_by w t (Mutex l at) (mutex_act l at)))
+    alone at is can timed by_itself still = calmly at is can timed still (lonely w t (next_place (Mutex l at) (reply_to w t (mutex_act l at))) (Mutex l at) (mutex_act l at) by_itself)
+
+    lock_goes : (e : Entry) (again : Bool) (a : LockAt) (is : place_at w t ≡ Mutex l (Lock e again a)) (can : can_do w (lock_act l a) ≡ true) → GivesUpTimed (Lock e again a)
         → GoesOn (locks_of w) t (outcome_of (next_act (Mutex l (Lock e again a)) (reply_to w t (lock_act l a)))) (locks_of (go_by w t (Mutex l (Lock e again a)) (lock_act l a)))
-    lock_goes e again First is can timed = first w _ t l rules e again (word_at w l == 0) (gone_at (Lock e again First) is can) (on_word (Lock e again First) (op.TheVariants.Exchange 0 1))
-    lock_goes e again Load is can timed = loads w _ t l rules e again (word_at w l) (gone_at (Lock e again Load) is can) (on_word (Lock e again Load) op.TheVariants.Load)
-    lock_goes e again (Decide x) is can timed = decided_goes e again x (is_locked x) (x == 1) (gone_at (Lock e again (Decide x)) is can)
-    lock_goes e again Check is can timed = checks w _ t l rules e again (word_at w l == 3) (gone_at (Lock e again Check) is can) (others_stay w t (if word_at w l == 3 then record w { queues = queues_with_last w.queues (2 * l) t Exclusive } else w) _ (parked_places (word_at w l == 3) _))
-    lock_goes e again (Leave b) is can timed = leaves_line w _ t l rules e again b (gone_at (Lock e again (Leave b)) is can) (on_section None _)
+    lock_goes e again First is can timed = alone (Lock e again First) is can timed tt (if_calm None (word_at w l == 0) enters [] tt tt)
+    lock_goes e again Load is can timed = alone (Lock e again Load) is can timed tt tt
+    lock_goes e again (Decide x) is can timed = alone (Lock e again (Decide x)) is can timed (lonely_decided x (is_locked x) (x == 1)) (calm_decided x (is_locked x) (x == 1))
+    lock_goes e again Check is can timed = alone (Lock e again Check) is can timed tt (calm_parked (word_at w l == 3))
+    lock_goes e again (Leave b) is can timed = alone (Lock e again (Leave b)) is can timed tt tt
     lock_goes e again Asleep is can timed = absurd cc
     lock_goes e again (Taken by) is can timed = absurd cc
     lock_goes e again (Handed by) is can timed = absurd cc
-    lock_goes e again Accept is can timed = accepts w _ t l rules e again (gone_at (Lock e again Accept) is can) (others_stay w t w _ refl)
-    lock_goes e again Remove is can timed = removes w _ t l rules e again (length (without t (queue_at w (2 * l))) == 0) timed (gone_at (Lock e again Remove) is can) (others_stay w t (record w { queues = queues_without w.queues t }) _ refl)
-    lock_goes e again Clear is can timed = goes_on w _ t l rules (Lock e again Clear) (Lock e again GiveUp) (Clears Main ∷ []) (gone_at (Lock e again Clear) is can) refl (on_word (Lock e again Clear) (op.TheVariants.And NOT_PARKED)) (λ r. refl)
-    lock_goes e again GiveUp is can timed = gives_up w _ t l rules e again timed (gone_at (Lock e again GiveUp) is can) (on_section None _)
+    lock_goes e again Accept is can timed = alone (Lock e again Accept) is can timed tt tt
+    lock_goes e again Remove is can timed = alone (Lock e again Remove) is can timed tt tt
+    lock_goes e again Clear is can timed = alone (Lock e again Clear) is can timed tt tt
+    lock_goes e again GiveUp is can timed = alone (Lock e again GiveUp) is can timed tt tt
 
-    carries : (at : MutexPlace) → place_at w t ≡ Mutex l at → carried_at (place_at w t) l ≡ (mutex_station at).carries
-    carries at is = ap (λ x. x.carries) (own_stance l (place_at w t) at is)
-
-    -- whom it has in hand
-    hand_is : (x : ℕ) → hand_at (place_at w x) l ≡ hand t false → is_taken_by t (taken_at (place_at w x) l) ≡ true
-    hand_is x held = let k : IsTakenAt (place_at w x) t l = is_taken (place_at w x) t l held in rw (k.is, same l) (same t)
-
-    no_other : (x u : ℕ) → hand_at (place_at w x) l ≡ hand t false → u ≢ x → is_taken_by t (taken_at (place_at w u) l) ≡ false
-    no_other x u held ne = unless_held w steady t l u (λ h. ne (steady.stands.hands.alone t l x u false false (one_in_hand w l rules) held h))
-
-    nobody_held : (at : MutexPlace) → place_at w t ≡ Mutex l at → (mutex_station at).carries ≡ None → (u : ℕ) → is_taken_by t (taken_at (place_at w u) l) ≡ false
-    nobody_held at is none u = unless_held w steady t l u (λ h. let e : ◌≡◌ {A = Option Bool} None (Some false) = sym (carries at is ∙ none) ∙ steady.stands.hands.taken t u l false h in cc)
-
-    unlock_goes : (a : UnlockAt) → place_at w t ≡ Mutex l (Unlock a) → can_do w (unlock_act l a) ≡ true
+    unlock_goes : (a : UnlockAt) (is : place_at w t ≡ Mutex l (Unlock a)) (can : can_do w (unlock_act l a) ≡ true)
         → GoesOn (locks_of w) t (outcome_of (next_act (Mutex l (Unlock a)) (reply_to w t (unlock_act l a)))) (locks_of (go_by w t (Mutex l (Unlock a)) (unlock_act l a)))
-    unlock_goes unlock.Subtract is can = subtracts w _ t l rules (is_parked (word_at w l)) (gone_at (Unlock unlock.Subtract) is can) (on_word (Unlock unlock.Subtract) (op.TheVariants.Sub 1))
-    unlock_goes unlock.Enter is can = goes_on w _ t l rules (Unlock unlock.Enter) (Unlock unlock.Take) (In Main ∷ []) (gone_at (Unlock unlock.Enter) is can) refl (on_section (Some t) _) (λ r. refl)
-    unlock_goes unlock.Take is can = takes_one w _ t l rules (whom_at (Unlock unlock.Take) is can) (is_there (first_of (queue_at w (2 * l)))) (length (drop 1 (queue_at w (2 * l))) == 0) (gone_at (Unlock unlock.Take) is can) (others_took w t (queues_without_first w.queues (2 * l)) (first_of (queue_at w (2 * l))) _)
-    unlock_goes (unlock.Clear any) is can = goes_on w _ t l rules (Unlock (unlock.Clear any)) (Unlock (unlock.Leave any)) (Clears Main ∷ []) (gone_at (Unlock (unlock.Clear any)) is can) refl (on_word (Unlock (unlock.Clear any)) (op.TheVariants.And NOT_PARKED)) (λ r. refl)
-    unlock_goes (unlock.Leave false) is can = wakes_taken w _ t l rules false (gone_at (Unlock (unlock.Leave false)) is can)
-        (befalls_nobody w t (state_with_sections w (One (2 * l)) None) Idle l (Woken note.Normal) refl (nobody_held (Unlock (unlock.Leave false)) is refl))
-    unlock_goes (unlock.Leave true) is can = let one = one_held w t l steady there (Unlock (unlock.Leave true)) is false refl in
-        wakes_taken w _ t l rules true (gone_at (Unlock (unlock.Leave true)) is can)
-        (subst (λ (z : State). Befalls w (put z t Idle) t l (Woken note.Normal)) (sym (told_it w t l steady there (Unlock (unlock.Leave true)) is false refl (Woken note.Normal)))
-        (befalls_one w t (state_with_sections w (One (2 * l)) None) one.0 (Woken note.Normal) Idle refl l (hand_is one.0 one.1) (λ u ne. no_other one.0 u one.1 ne)))
+    unlock_goes unlock.Subtract is can = alone (Unlock unlock.Subtract) is can tt tt tt
+    unlock_goes unlock.Enter is can = alone (Unlock unlock.Enter) is can tt tt tt
+    unlock_goes unlock.Take is can = calmly (Unlock unlock.Take) is can tt (calm_takes (whom (Unlock unlock.Take) is can tt)) (takes w t _ (Mutex l (Unlock unlock.Take)) (2 * l) whoms.First)
+    unlock_goes (unlock.Clear any) is can = alone (Unlock (unlock.Clear any)) is can tt tt tt
+    unlock_goes (unlock.Leave false) is can = alone (Unlock (unlock.Leave false)) is can tt tt tt
+    unlock_goes (unlock.Leave true) is can = goes_if (Unlock (unlock.Leave true)) is can tt (others_follow w (behind (Unlock (unlock.Leave true)) is can tt) t l (Some Wake) (happens_so (Unlock (unlock.Leave true)) is can tt) (λ x y e. cc)
+        (wakes_others w (behind (Unlock (unlock.Leave true)) is can tt) t l (befalls w t l steady (rw is refl) Idle (state_with_sections w (One (2 * l)) None) (Woken note.Normal) refl (carries (Unlock (unlock.Leave true)) is can tt))))
 
-    -- whoever was handed the lock is told
-    told_handed : (bumping : Bool) (p2 : Place) → place_at w t ≡ Mutex l (HandOff bumping (hand_off.Leave true)) → Others w (put (state_after_telling (state_with_sections w (One (2 * l)) None) t (Woken note.HandOff)) t p2) t Nothing
-    told_handed bumping p2 is = let one = one_held w t l steady there (HandOff bumping (hand_off.Leave true)) is true refl in
-        subst (λ (z : State). Others w (put z t p2) t Nothing) (sym (told_it w t l steady there (HandOff bumping (hand_off.Leave true)) is true refl (Woken note.HandOff)))
-        (others_go_on w t (state_with_sections w (One (2 * l)) None) one.0 (Woken note.HandOff) p2 refl (λ r. let k : IsHandedAt (place_at w one.0) t l = is_handed (place_at w one.0) t l one.1 in rw k.is refl))
+    hands_case : (bumping any b : Bool) (o : Option ℕ) → case_of (mutex_row (HandOff bumping (hand_off.Store any b))).carries (hands_over o b) ≡ Some (HandsOff Exclusive (heir o))
+    hands_case bumping any b None = refl
+    hands_case bumping any b (Some u) = refl
 
-    -- it hands the lock to the one in its hand
-    gives_it : (bumping none_left : Bool) (p2 : Place) (f : Op) → place_at w t ≡ Mutex l (HandOff bumping (hand_off.Store true none_left))
-        → Befalls w (put (state_after_telling (state_after_hand_over w t (Mutex l (HandOff bumping (hand_off.Store true none_left))) l f) t (HandedBy t)) t p2) t l (HandedBy t)
-    gives_it bumping none_left p2 f is = let one = one_held w t l steady there (HandOff bumping (hand_off.Store true none_left)) is false refl in
-        let before = state_after_hand_over w t (Mutex l (HandOff bumping (hand_off.Store true none_left))) l f in
-        subst (λ (z : State). Befalls w (put z t p2) t l (HandedBy t)) (sym (told_one before t l one.0 false (HandedBy t) steady.stands.hands (one_in_hand w l rules) (rw is refl) one.1))
-        (befalls_one w t before one.0 (HandedBy t) p2 refl l (hand_is one.0 one.1) (λ u ne. no_other one.0 u one.1 ne))
-
-    hand_off_goes : (bumping : Bool) (a : HandOffAt) → place_at w t ≡ Mutex l (HandOff bumping a) → can_do w (hand_off_act l a) ≡ true
+    hand_off_goes : (bumping : Bool) (a : HandOffAt) (is : place_at w t ≡ Mutex l (HandOff bumping a)) (can : can_do w (hand_off_act l a) ≡ true)
         → GoesOn (locks_of w) t (outcome_of (next_act (Mutex l (HandOff bumping a)) (reply_to w t (hand_off_act l a)))) (locks_of (go_by w t (Mutex l (HandOff bumping a)) (hand_off_act l a)))
-    hand_off_goes bumping hand_off.Enter is can = goes_on w _ t l rules (HandOff bumping hand_off.Enter) (HandOff bumping hand_off.Take) (In Main ∷ []) (gone_at (HandOff bumping hand_off.Enter) is can) refl (on_section (Some t) _) (λ r. refl)
-    hand_off_goes bumping hand_off.Take is can = takes_fairly w _ t l rules bumping (whom_at (HandOff bumping hand_off.Take) is can) (is_there (first_of (queue_at w (2 * l)))) (length (drop 1 (queue_at w (2 * l))) == 0) (gone_at (HandOff bumping hand_off.Take) is can) (others_took w t (queues_without_first w.queues (2 * l)) (first_of (queue_at w (2 * l))) _)
-    hand_off_goes bumping (hand_off.Store false none_left) is can = stores w _ t l rules bumping false none_left (whom_at (HandOff bumping (hand_off.Store false none_left)) is can) (word_at w l) (gone_at (HandOff bumping (hand_off.Store false none_left)) is can)
-        (befalls_nobody w t (state_after_operation w t (Mutex l (HandOff bumping (hand_off.Store false none_left))) l (op.TheVariants.Store 0)) _ l (HandedBy t) refl (nobody_held (HandOff bumping (hand_off.Store false none_left)) is refl))
-    hand_off_goes bumping (hand_off.Store true none_left) is can = stores w _ t l rules bumping true none_left (whom_at (HandOff bumping (hand_off.Store true none_left)) is can) (word_at w l) (gone_at (HandOff bumping (hand_off.Store true none_left)) is can)
-        (gives_it bumping none_left _ (op.TheVariants.Store (hand_off_word true none_left)) is)
-    hand_off_goes bumping (hand_off.Leave false) is can = leaves_fairly w _ t l rules bumping false (gone_at (HandOff bumping (hand_off.Leave false)) is can) (on_section None _)
-    hand_off_goes bumping (hand_off.Leave true) is can = leaves_fairly w _ t l rules bumping true (gone_at (HandOff bumping (hand_off.Leave true)) is can) (told_handed bumping _ is)
+    hand_off_goes bumping hand_off.Enter is can = alone (HandOff bumping hand_off.Enter) is can tt tt tt
+    hand_off_goes bumping hand_off.Take is can = calmly (HandOff bumping hand_off.Take) is can tt (calm_takes (whom (HandOff bumping hand_off.Take) is can tt)) (takes w t _ (Mutex l (HandOff bumping hand_off.Take)) (2 * l) whoms.First)
+    hand_off_goes bumping (hand_off.Store false b) is can = gives (HandOff bumping (hand_off.Store false b)) is can tt (whom (HandOff bumping (hand_off.Store false b)) is can tt) (hands_case bumping false b (whom (HandOff bumping (hand_off.Store false b)) is can tt))
+        (befalls_nobody w t l steady (rw is refl) _ (state_after_operation w t (Mutex l (HandOff bumping (hand_off.Store false b))) l (op.TheVariants.Store 0)) (HandedBy t) refl (carries (HandOff bumping (hand_off.Store false b)) is can tt)) (ap (λ p. taken_at p l) is)
+    hand_off_goes bumping (hand_off.Store true b) is can = gives (HandOff bumping (hand_off.Store true b)) is can tt (whom (HandOff bumping (hand_off.Store true b)) is can tt) (hands_case bumping true b (whom (HandOff bumping (hand_off.Store true b)) is can tt))
+        (befalls w t l steady (rw is refl) _ (state_after_hand_over w t (Mutex l (HandOff bumping (hand_off.Store true b))) l (op.TheVariants.Store (hand_off_word true b))) (HandedBy t) refl (carries (HandOff bumping (hand_off.Store true b)) is can tt)) (ap (λ p. taken_at p l) is)
+    hand_off_goes bumping (hand_off.Leave false) is can = alone (HandOff bumping (hand_off.Leave false)) is can tt tt tt
+    hand_off_goes bumping (hand_off.Leave true) is can = calmly (HandOff bumping (hand_off.Leave true)) is can tt tt (tells_handed w t l steady (rw is refl) _ (state_with_sections w (One (2 * l)) None) refl (carries (HandOff bumping (hand_off.Leave true)) is can tt))
 
-    mutex_goes_on : (at : MutexPlace) → place_at w t ≡ Mutex l at → can_do w (mutex_act l at) ≡ true → GivesUpTimed at
+    mutex_goes_on : (at : MutexPlace) (is : place_at w t ≡ Mutex l at) (can : can_do w (mutex_act l at) ≡ true) → GivesUpTimed at
         → GoesOn (locks_of w) t (outcome_of (next_act (Mutex l at) (reply_to w t (mutex_act l at)))) (locks_of (go_by w t (Mutex l at) (mutex_act l at)))
     mutex_goes_on (Lock e again a) is can timed = lock_goes e again a is can timed
-    mutex_goes_on TryLock is can timed = tries w _ t l rules (is_locked (word_at w l)) refl (gone_at TryLock is can) (on_word TryLock (op.TheVariants.Or 1))
+    mutex_goes_on TryLock is can timed = alone TryLock is can tt tt (if_calm None (is_locked (word_at w l)) (End ∷ []) enters tt tt)
     mutex_goes_on (Unlock a) is can timed = unlock_goes a is can
-    mutex_goes_on UnlockFair is can timed = unlocks_fairly w _ t l rules (word_at w l == 1) (gone_at UnlockFair is can) (on_word UnlockFair (op.TheVariants.Exchange 1 0))
-    mutex_goes_on Bump is can timed = bumps w _ t l rules (is_parked (word_at w l)) (gone_at Bump is can) (on_word Bump op.TheVariants.Load)
+    mutex_goes_on UnlockFair is can timed = alone UnlockFair is can tt tt (if_calm None (word_at w l == 1) (Case (GivesBack Exclusive) ∷ End ∷ []) [] tt tt)
+    mutex_goes_on Bump is can timed = alone Bump is can tt tt (if_calm None (is_parked (word_at w l)) [] (End ∷ []) tt tt)
     mutex_goes_on (HandOff bumping a) is can timed = hand_off_goes bumping a is can
 
   go_goes : (p : Place) → place_at w t ≡ p → PlaceFits (length w.locks) p → CallsMutex w p → can_do w (act_of p) ≡ true → GoesOn (locks_of w) t (outcome_of (next_act p (reply_to w t (act_of p)))) (locks_of (go_by w t p (act_of p)))

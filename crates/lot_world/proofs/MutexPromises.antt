@@ -18,7 +18,7 @@ use Rattle.lot_world.specs.Promises.{WakesWaiters, IsKept, IsLookedAfter, IsOpen
 use Rattle.lot_world.specs.MutexPromises.{HasDebtor, IsMutexKept, MutexesAreKept}
 use Rattle.lot_world.proofs.MutexTable.{mutex}
 use Rattle.lot_world.proofs.StandsMoved.{mutex_rules}
-use Rattle.lot_world.proofs.LockEvents.{rights}
+use Rattle.lot_world.proofs.CallEvents.{rights}
 use Rattle.lot_world.proofs.SitesPromise.{codes_by, sets_nothing}
 
 -- whoever wakes the waiters of a mutex releases it

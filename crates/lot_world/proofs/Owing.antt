@@ -65,7 +65,7 @@ use Rattle.lot_machine.proofs.Shape.{both, performed_counts}
 use Rattle.lot_world.proofs.TurnsKept.{idle_is}
 use Rattle.lot_world.proofs.Glue.{same}
 use Rattle.lot_world.proofs.AtPlaces.{coded_for, owns}
-use Rattle.lot_world.proofs.LockEvents.{rights as rights_at}
+use Rattle.lot_world.proofs.CallEvents.{rights as rights_at}
 
 -- ---------------------------------------------------------------- what befalls another thread
 

@@ -50,7 +50,7 @@ use Rattle.lot_world.proofs.Glue.{nothing_at, same}
 use Rattle.lot_world.proofs.GoneKept.{none_is}
 use Rattle.lot_world.proofs.Closures.{no_closure}
 use Rattle.lot_world.proofs.AtPlaces.{queued_by, not_first_aside, holds_section}
-use Rattle.lot_world.proofs.LockEvents.{rights}
+use Rattle.lot_world.proofs.CallEvents.{rights}
 use Rattle.abstract_locks.specs.Locks.{Rights}
 use Rattle.abstract_locks.specs.Locks as locks
 use Rattle.abstract_locks.specs.Runs.{AreFree, MayGo, MayBeLate, MayTurn, IsTimed, StandsFreely, SectionChanges}

@@ -53,7 +53,8 @@ use Rattle.lot_world.specs.Refinement.{lock_state, locks_of, owner_at, taken_at}
 use Rattle.lot_world.specs.Solo.{Rests, IsUnderWay, HasItsWay, EntersAlone, BumpsAlone, EndsAlone, successor}
 use Rattle.lot_world.proofs.MutexTable.{mutex, queued_behind}
 use Rattle.lot_world.proofs.StandsMoved.{mutex_rules}
-use Rattle.lot_world.proofs.MutexEvents.{free_word, owned_word, decides}
+use Rattle.lot_world.proofs.MutexEvents.{free_word, owned_word}
+use Rattle.lot_world.proofs.MutexCalls.{decides}
 use Rattle.lot_world.proofs.LockSteps.{purpose_is}
 use Rattle.lot_world.proofs.Counts.{first_times}
 use Rattle.lot_world.proofs.Glue.{nothing_at, IsTakenAt, put_here, station_here, own_stance, successor_one, same}

@@ -8,6 +8,7 @@ use Rattle.lot_acts.specs.declared.owners.Fallback.{Fallback}
 use Rattle.lot_acts.specs.declared.owners.Fallback as fallback
 use Rattle.lot_steps.specs.declared.places.Place.{Place}
 use Rattle.lot_acts.specs.Profiles.{Profile, bringing_nobody, taken_from}
+pub use Rattle.lot_acts.specs.Calls.{call_by}
 use Rattle.lot_mutex.specs.declared.places.MutexPlace.{MutexPlace}
 use Rattle.abstract_locks.specs.Picks.{queued_of}
 use Rattle.lot_acts.specs.declared.acts.Act.{Act}
@@ -54,17 +55,6 @@ abbrev pub owner_at : State → ℕ → Option ℕ
 owner_at w l = (owners_at w l).exclusive
 
 -- ---------------------------------------------------------------- one call
-
--- by the row of its place
-abbrev pub call_by : ℕ → Profile → (ℕ → Rights) → CallState
-call_by l row rights = record {
-  purpose = Some (row.purpose l);
-  former = row.former l rights;
-  gave_up = if row.gave_up then Some l else None;
-  retries = if row.retries then Some l else None;
-  released = row.released;
-  late = row.late;
-}
 
 abbrev pub mutex_call_state : ℕ → MutexPlace → (ℕ → Rights) → CallState
 mutex_call_state l at rights = call_by l (bringing_nobody (mutex_profile at)) rights
