@@ -1,6 +1,6 @@
 -- An act that enters a section is of a line of the lock that the thread calls, and one that leaves a section or touches a queue is of the line
 -- whose section the thread is in, as its place says.
-use Rattle.std.proofs.Common.{ℕ, zero, suc, Bool, true, false, Option, Some, None, if◌then◌else◌, ◌==◌, not, ◌≡◌, ◌≢◌, ◌⊎◌, ◌+◌, ◌*◌, ◌<◌, inl, inr, List, [], map, length, get_or, refl, sym, ◌∙◌, ap, subst, arith}
+use Rattle.std.proofs.Common.{ℕ, zero, suc, Bool, true, false, Some, None, if◌then◌else◌, ◌==◌, not, ◌≡◌, ◌≢◌, ◌⊎◌, ◌+◌, ◌*◌, ◌<◌, inl, inr, [], map, length, get_or, refl, sym, ◌∙◌, ap, subst, arith}
 use Rattle.std.proofs.lemmas.Bool.{cases_eq}
 use Rattle.std.proofs.Math.ListN.{get_or-map}
 use Rattle.lot_base.specs.declared.keys.Keys.TheVariants.{One, Two}
@@ -14,12 +14,13 @@ use Rattle.lot_mutex.specs.declared.lock.LockAt.TheVariants as lock
 use Rattle.lot_mutex.specs.declared.unlock.UnlockAt.TheVariants as unlock
 use Rattle.lot_mutex.specs.declared.hand_off.HandOffAt.TheVariants as hand_off
 use Rattle.lot_mutex.specs.MutexSteps.{is_locked, mutex_act}
-use Rattle.lot_steps.specs.Steps.{act_of, lock_of}
+use Rattle.lot_mutex.specs.MutexProfiles.{mutex_can_be_late}
+use Rattle.lot_steps.specs.Steps.{act_of, late_key, lock_of}
 use Rattle.lot_steps.specs.declared.places.Place.{Place}
 use Rattle.lot_steps.specs.declared.places.Place.TheVariants.{Idle, Mutex}
 use Rattle.abstract_locks.specs.Sites.{Line, Main, Second}
 use Rattle.lot_machine.specs.Machine.{State, place_at, section_at, queue_at}
-use Rattle.lot_machine.specs.Fits.{IsShaped}
+use Rattle.lot_machine.specs.Fits.{IsShaped, PlaceFits}
 use Rattle.lot_world.specs.MutexDeeds.{mutex_station}
 use Rattle.lot_world.specs.Stations.{Station, station, station_at}
 use Rattle.lot_world.specs.SitesOf.{IsSteady, key_of, stood_in}
@@ -79,6 +80,20 @@ mutex_lines l Bump = tt
 pub line_act : (p : Place) (l : ℕ) → lock_of p ≡ Some l → IsLineAct l (station p) (act_of p)
 line_act Idle l h = absurd cc
 line_act (Mutex k at) l h = let e : k ≡ l = cc in subst (λ j. IsLineAct j (mutex_station at) (mutex_act k at)) e (mutex_lines k at)
+
+-- a thread that may be late sleeps in a line of its lock
+pub late_line : (p : Place) (key : ℕ) → late_key p ≡ Some key → (l : ℕ) × (lock_of p ≡ Some l) × IsOfLine l key
+late_line Idle key h = absurd cc
+late_line (Mutex l at) key h = either (mutex_can_be_late at) h
+  where
+    either : (b : Bool) → (if b then Some (2 * l) else None) ≡ Some key → (k : ℕ) × (Some l ≡ Some k) × IsOfLine k key
+    either true e = (l, refl, (Main, cc))
+    either false e = absurd cc
+
+-- the lock that it calls is there
+pub calls_there : (n : ℕ) (p : Place) (l : ℕ) → lock_of p ≡ Some l → PlaceFits n p → l < n
+calls_there n Idle l e fits = absurd cc
+calls_there n (Mutex k at) l e fits = let f : k ≡ l = cc in subst (λ j. j < n) f fits.0
 
 -- ---------------------------------------------------------------- the sections and queues that it touches
 
