@@ -18,7 +18,7 @@ use Rattle.lot_steps.specs.Steps.{owners_after, shares_after}
 use Rattle.abstract_locks.specs.Locks.{Rules, Taken, putting, keep_from}
 use Rattle.abstract_locks.specs.Locks as locks
 use Rattle.abstract_locks.specs.Picks.{queued_of}
-use Rattle.abstract_locks.specs.Sites.{Doing, Site, IsSite, Deed, Line, Main, Second, End, In, Out, FindNobody, Case, has_readers, idle, wakened, leaves, is_full, after_deed}
+use Rattle.abstract_locks.specs.Sites.{Doing, Site, IsSite, Deed, Line, Main, Second, In, FindNobody, Case, has_readers, after_deed}
 use Rattle.abstract_locks.specs.Codes.{code, fills, HasLimit, IsHandOff}
 use Rattle.abstract_locks.specs.Purposes.{rules_of}
 use Rattle.lot_machine.specs.declared.locks.Lock.{Lock}
@@ -27,11 +27,11 @@ use Rattle.lot_world.specs.Refinement.{lock_state, taken_at}
 use Rattle.lot_world.specs.MutexDeeds.{acts}
 use Rattle.lot_world.specs.MutexDeeds as deeds
 use Rattle.lot_world.specs.Stations.{Station, station, station_at, nowhere, doing_on}
-use Rattle.lot_world.specs.SitesOf.{AllNeeded, HasRoom, AreOrdinary, SameNumbers, IsSteady, Follows, Goes, Stands, CallsMutex, Waits, AreWaiting, after_acts, site_of, rules_at, key_of, stood_in, carried_at}
+use Rattle.lot_world.specs.SitesOf.{AllNeeded, HasRoom, AreOrdinary, SameNumbers, IsSteady, Follows, Goes, CallsMutex, Waits, AreWaiting, after_acts, site_of, rules_at, key_of, stood_in}
 use Rattle.lot_world.proofs.Counts.{without_absent}
-use Rattle.lot_world.proofs.Glue.{Parts, base_at, parts_at, lock_in, seen_in, same, differ, put_places, put_here, put_other, IsOf, doing_elsewhere, taken_elsewhere, inside_is, station_here, station_elsewhere, LetGo, lets_nobody}
+use Rattle.lot_world.proofs.Glue.{Parts, base_at, parts_at, lock_in, seen_in, same, differ, put_places, put_here, put_other, IsOf, doing_elsewhere, taken_elsewhere, inside_is, station_here, station_elsewhere}
 use Rattle.lot_world.proofs.KindsKept.{operated_kinds}
-use Rattle.lot_world.proofs.OneStep.{Steps, steps_by, same_word, noted, full_then, fills_by, acts_keep, acts_limited, same_filled, queued_behind, queued_without}
+use Rattle.lot_world.proofs.OneStep.{Steps, steps_by, same_word, noted, acts_keep, acts_limited, same_filled, queued_behind}
 use Rattle.lot_world.proofs.StandsKept.{other_key, other_line, same_line, part_else, waiting_same, waiting_behind, waiting_without}
 use Rattle.lot_world.proofs.StandsMoved.{still, goes_in, goes_out, line_changes}
 

@@ -24,7 +24,6 @@ use Rattle.lot_mutex.specs.MutexSteps.{mutex_next}
 use Rattle.lot_base.specs.declared.wants.Want.{Want}
 use Rattle.lot_acts.specs.Profiles.{Hand, Of, hand_owner, taken_from}
 use Rattle.lot_steps.specs.Steps.{next_place, taker, mutex_goes, lock_of, profile}
-use Rattle.lot_base.specs.declared.notes.Note.{Note}
 use Rattle.abstract_locks.specs.Locks.{LockState, Taken, Queued, Rules, TakeFirst, keep_from, let_go, shares_handed, sharing_from, putting}
 use Rattle.std.specs.Prelude.{sum, ◌&&◌, ◌||◌}
 use Rattle.lot_acts.specs.Owners.{is_thread, with_exclusive}
@@ -33,7 +32,7 @@ use Rattle.abstract_locks.specs.Sites.{Doing, Has, Site, Main, Begin, Out, Mark,
 use Rattle.lot_machine.specs.Machine.{State, place_at, word_at, owners_at, shares_at, filled_at, queue_at, place_after_telling, state_after_telling, held, shares_in_hand, with_share, shares_given, wants_more_in_hand, successor_or, successor_from, pending_for, owners_of_successor, shares_handed_over, owners_handed_over, state_after_reply, put}
 use Rattle.lot_machine.specs.declared.hands.Successor.{Successor}
 use Rattle.lot_world.specs.Refinement.{lock_seen, taken_at}
-use Rattle.lot_world.specs.MutexDeeds.{Act, mutex_doing, mutex_station, queued}
+use Rattle.lot_world.specs.MutexDeeds.{Act, mutex_station, queued}
 use Rattle.lot_world.specs.Stations.{Station, hand, station, station_at, nowhere, is_lock, calls, doing_on}
 use Rattle.lot_world.specs.SitesOf.{site_of, rules_at, after_acts, carried_at, hand_at, Hands}
 

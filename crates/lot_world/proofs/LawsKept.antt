@@ -1,11 +1,11 @@
 -- A step on the word of a lock that is shared, by what the laws of its sort conclude of it: that its deeds may be done, what its thread does then, the owners
 -- and the word behind it.
-use Rattle.std.proofs.Common.{ℕ, Bool, true, false, ◌||◌, ◌≡◌, ◌<◌, List, [], ◌∷◌, length, refl, sym, ◌∙◌, ap, subst, arith}
+use Rattle.std.proofs.Common.{ℕ, true, ◌||◌, ◌≡◌, ◌<◌, List, [], ◌∷◌, length, refl, sym, ◌∙◌, ap}
 use Rattle.lot_base.specs.declared.ops.Op.{Op}
 use Rattle.lot_base.specs.Words.{apply}
 use Rattle.lot_steps.specs.declared.places.Place.{Place}
-use Rattle.abstract_locks.specs.Locks.{Rules, Sort, Mutex, Normal, Recursive, Semaphore, putting}
-use Rattle.abstract_locks.specs.Sites.{Site, IsSite, Deed, has_readers, is_full, after_deed}
+use Rattle.abstract_locks.specs.Locks.{Rules, Sort, Mutex, Normal, Recursive, Semaphore}
+use Rattle.abstract_locks.specs.Sites.{Site, IsSite, Deed, has_readers, after_deed}
 use Rattle.abstract_locks.specs.Codes.{code, fills, parked_in, aside_in, has_parked, has_aside, TellsTrue}
 use Rattle.abstract_locks.specs.Deeds as laws
 use Rattle.abstract_locks.proofs.CodeLaws.{words_tell_true}
@@ -14,7 +14,7 @@ use Rattle.lot_world.specs.Refinement.{taken_at}
 use Rattle.lot_world.specs.MutexDeeds.{acts}
 use Rattle.lot_world.specs.Stations.{station, doing_on}
 use Rattle.lot_world.specs.SitesOf.{AllNeeded, IsSteady, Goes, CallsMutex, after_acts, rules_at}
-use Rattle.lot_world.proofs.Glue.{parts_at, lock_in, seen_in, IsOf}
+use Rattle.lot_world.proofs.Glue.{parts_at, lock_in, IsOf}
 use Rattle.lot_world.proofs.OneStep.{AreSingle, HasOneCase, Steps, steps_by, acts_keep, full_then, fills_by}
 use Rattle.lot_world.proofs.ActsKept.{NoHandOff, lock_by, operated, site_by, word_goes}
 

@@ -1,6 +1,6 @@
 -- The entries of a mutex that touch the word: each does to the lock what its deeds say, they are allowed, and the word is the lock's.
-use Rattle.std.proofs.Common.{ℕ, Bool, true, false, Option, Some, None, if◌then◌else◌, ◌==◌, ◌≡◌, ◌≢◌, ◌+◌, ◌*◌, ◌≤◌, List, [], ◌∷◌, ◌++◌, inl, inr, map, ◌⊎◌, ◌↔◌, cond, not, refl, sym, ◌∙◌, ap, subst, arith}
-use Rattle.std.proofs.lemmas.Bool.{cases_eq, eqb-true}
+use Rattle.std.proofs.Common.{ℕ, Bool, true, false, Option, Some, None, if◌then◌else◌, ◌==◌, ◌≡◌, ◌≢◌, ◌+◌, ◌*◌, ◌≤◌, List, [], ◌∷◌, ◌++◌, inl, inr, map, ◌⊎◌, ◌↔◌, refl, sym, ◌∙◌, ap, subst, arith}
+use Rattle.std.proofs.lemmas.Bool.{eqb-true}
 use Rattle.lot_base.specs.declared.wants.Waiter.{Waiter}
 use Rattle.lot_base.specs.declared.wants.Want.{Want}
 use Rattle.lot_base.specs.declared.wants.Want.TheVariants.{Exclusive, Shared}
@@ -24,15 +24,13 @@ use Rattle.lot_acts.specs.Owners.{with_exclusive}
 use Rattle.lot_steps.specs.Steps.{next_place}
 use Rattle.abstract_locks.specs.Locks.{LockState, Taken, Queued, Rules, IsTaken, keep_from, one_if_some, is_thread, putting}
 use Rattle.abstract_locks.specs.Locks as locks
-use Rattle.abstract_locks.specs.Sites.{Doing, Has, Site, IsSite, Deed, Main, Begin, End, In, Out, Mark, Clear, FindNobody, MarkOwned, Bring, MarkBrought, Case, idle, found, is_empty, seen_main, counts_some, has_readers, after_deed}
+use Rattle.abstract_locks.specs.Sites.{Doing, Has, Site, IsSite, Deed, Main, End, In, Mark, Clear, FindNobody, Case, idle, found, is_empty, seen_main, counts_some}
 use Rattle.abstract_locks.specs.Codes as codes
-use Rattle.std.proofs.Math.Bool.{or-false}
 use Rattle.lot_world.specs.Refinement.{lock_seen, taken_at}
 use Rattle.abstract_locks.specs.Picks.{queued_of}
 use Rattle.lot_world.specs.MutexDeeds.{owner, mutex_doing, mutex_deeds, mutex_station, acts}
-use Rattle.lot_world.specs.Stations.{Station, hand, nowhere, station, doing_on}
-use Rattle.lot_world.specs.MutexDeeds as deeds
-use Rattle.lot_world.specs.SitesOf.{AllNeeded, after_acts}
+use Rattle.lot_world.specs.Stations.{Station, nowhere, station, doing_on}
+use Rattle.lot_world.specs.SitesOf.{after_acts}
 pub use Rattle.lot_world.proofs.Glue.{mutex}
 use Rattle.lot_world.proofs.Glue.{Base, Parts, seen, same, own_stance, handed_is, Untaken, untaken}
 pub use Rattle.lot_world.proofs.OneStep.{AreSingle, others_same, same_filled, meets, Steps, queued_behind, queued_without, queued_times}

@@ -1,5 +1,5 @@
 -- What a step of one thread does to the site of the lock that it calls, for locks of any rules and places of any sort.
-use Rattle.std.proofs.Common.{ℕ, Bool, true, false, Option, Some, None, if◌then◌else◌, ◌==◌, ◌&&◌, ◌||◌, ◌≡◌, ◌≢◌, ◌+◌, ◌*◌, ◌≤◌, ◌<◌, length, length-set, List, [], ◌∷◌, ◌++◌, inl, inr, map, cond, not, refl, sym, ◌∙◌, ap, subst, arith}
+use Rattle.std.proofs.Common.{ℕ, Bool, true, false, Option, Some, None, if◌then◌else◌, ◌==◌, ◌||◌, ◌≡◌, ◌≢◌, ◌+◌, ◌*◌, ◌≤◌, ◌<◌, length, length-set, List, [], ◌∷◌, ◌++◌, inl, inr, map, cond, not, refl, sym, ◌∙◌, ap, arith}
 use Rattle.std.specs.Prelude.{sum}
 use Rattle.std.proofs.lemmas.Bool.{cases_eq}
 use Rattle.std.proofs.Math.Bool.{or-false}
@@ -11,7 +11,7 @@ use Rattle.lot_steps.specs.declared.places.Place.{Place}
 use Rattle.abstract_locks.specs.Locks.{LockState, LockCase, Pending, Rules, Sort, Mutex, Normal, Recursive, Semaphore, putting, readers}
 use Rattle.abstract_locks.specs.Locks as locks
 use Rattle.abstract_locks.specs.Picks.{queued_of}
-use Rattle.abstract_locks.specs.Sites.{Site, IsSite, Deed, Line, Main, Second, Begin, End, In, Out, Mark, Clear, FindNobody, MarkOwned, Bring, MarkBrought, Case, has_readers, is_full, after_deed, Needed}
+use Rattle.abstract_locks.specs.Sites.{Site, IsSite, Deed, Main, Begin, End, In, Out, Mark, Clear, FindNobody, MarkOwned, Bring, MarkBrought, Case, has_readers, is_full, after_deed, Needed}
 use Rattle.abstract_locks.specs.Codes.{bit, packed, code, word_by, parked_in, aside_in, fills, HasLimit, IsHandOff}
 use Rattle.abstract_locks.proofs.CodeLaws.{words_tell_true}
 use Rattle.abstract_locks.proofs.Limits.{limit_kept}

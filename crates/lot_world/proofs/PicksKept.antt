@@ -1,5 +1,5 @@
 -- A thread takes those who are picked of the main queue of a reader-writer lock, or the writer aside: what the machine does is the case of the lock.
-use Rattle.std.proofs.Common.{ℕ, Bool, true, false, Option, Some, None, if◌then◌else◌, ◌==◌, ◌||◌, ◌≡◌, ◌≢◌, ◌+◌, ◌*◌, ◌≤◌, ◌<◌, List, [], ◌∷◌, length, get_or, set, map, drop, refl, sym, ◌∙◌, ap, subst, arith, length-set, get_or-set_same, get_or-set_other}
+use Rattle.std.proofs.Common.{ℕ, Bool, true, false, Option, Some, None, if◌then◌else◌, ◌==◌, ◌||◌, ◌≡◌, ◌+◌, ◌*◌, ◌≤◌, ◌<◌, List, [], ◌∷◌, length, map, drop, refl, sym, ◌∙◌, ap, subst, arith, length-set, get_or-set_same, get_or-set_other}
 use Rattle.std.proofs.lemmas.Bool.Decides.{nat_tests}
 use Rattle.lot_base.specs.declared.lock_picker.LockPicker.{LockPicker}
 use Rattle.lot_base.specs.declared.picks.Pick.{Pick}
@@ -25,10 +25,10 @@ use Rattle.lot_world.specs.Refinement.{taken_at}
 use Rattle.lot_world.specs.MutexDeeds.{acts}
 use Rattle.lot_world.specs.Stations.{Station, station, doing_on}
 use Rattle.lot_world.specs.SitesOf.{AllNeeded, AreWaiting, TakesOne, IsSteady, Goes, CallsMutex, after_acts, rules_at, key_of}
-use Rattle.lot_world.proofs.Glue.{parts_at, seen_in, lock_in, put_places, same, station_here, IsOf}
+use Rattle.lot_world.proofs.Glue.{put_places, same, station_here, IsOf}
 use Rattle.lot_world.proofs.OneStep.{noted}
 use Rattle.lot_world.proofs.ActsKept.{lock_by, site_by}
-use Rattle.lot_world.proofs.TakesKept.{member, told_by, told_places, AllAre, IsTakenFrom, Splits, take_goes}
+use Rattle.lot_world.proofs.TakesKept.{member, told_by, told_places, AllAre, IsTakenFrom, take_goes}
 
 -- all stand under one key
 abbrev pub AllUnder : ℕ → List Waiter → Type 0

@@ -1,29 +1,23 @@
 -- Parking, giving up, entering and taking nobody keep every lock of the world a site.
-use Rattle.std.proofs.Common.{ℕ, Bool, true, false, Option, Some, None, if◌then◌else◌, ◌==◌, ◌≡◌, ◌≢◌, ◌+◌, ◌*◌, ◌/◌, ◌%◌, ◌≤◌, ◌<◌, ◌⊎◌, List, [], ◌∷◌, ◌++◌, length, get_or, set, map, drop, inl, inr, refl, sym, ◌∙◌, ap, subst, arith, length-set, get_or-set_same, get_or-set_other}
-use Rattle.std.proofs.lemmas.Bool.{cases_eq}
-use Rattle.std.proofs.Math.ListN.{get_or-map}
-use Rattle.std.proofs.lemmas.List.{length-map}
-use Rattle.lot_base.specs.declared.wants.Waiter.{Waiter}
+use Rattle.std.proofs.Common.{ℕ, true, false, Option, Some, None, ◌≡◌, ◌≢◌, ◌+◌, ◌*◌, ◌<◌, ◌⊎◌, [], ◌∷◌, length, map, refl, sym, ◌∙◌, ap, arith}
 use Rattle.lot_base.specs.declared.wants.Want.TheVariants.{Exclusive}
-use Rattle.lot_base.proofs.Counts.{times_append, times_without, times_gone}
-use Rattle.lot_base.specs.Lines.{waiter, without, first_of, times}
+use Rattle.lot_base.specs.Lines.{without, first_of, times}
 use Rattle.lot_steps.specs.declared.places.Place.{Place}
-use Rattle.lot_steps.specs.declared.places.Place.TheVariants.{Idle, Mutex}
+use Rattle.lot_steps.specs.declared.places.Place.TheVariants.{Mutex}
 use Rattle.lot_mutex.specs.declared.places.MutexPlace.{MutexPlace}
 use Rattle.lot_mutex.specs.MutexSteps.{is_parked}
 use Rattle.abstract_locks.specs.Locks.{Rules, putting, is_thread}
 use Rattle.abstract_locks.specs.Locks as locks
-use Rattle.abstract_locks.specs.Sites.{IsSite, Deed, Line, Main, Second, Case, FindNobody, found, is_empty}
+use Rattle.abstract_locks.specs.Sites.{IsSite, Line, Main, Case, FindNobody, found, is_empty}
 use Rattle.lot_machine.specs.Machine.{State, place_at, word_at, owners_at, queue_at, put, queues_with_last, queues_without, queues_without_first}
 use Rattle.lot_world.specs.Refinement.{lock_state, taken_at}
 use Rattle.abstract_locks.specs.Picks.{queued_of}
 use Rattle.lot_world.specs.MutexDeeds.{mutex_doing, mutex_station, acts}
-use Rattle.lot_world.specs.Stations.{Station, station, station_at, doing_on}
-use Rattle.lot_world.specs.SitesOf.{Follows, Goes, Stands, CallsMutex, IsSteady, key_of, stood_in}
-use Rattle.lot_world.proofs.Counts.{without_absent}
-use Rattle.lot_world.proofs.Glue.{base_at, same, differ, put_places, IsOf, own_stance, station_elsewhere}
-use Rattle.lot_world.proofs.MutexTable.{mutex, MutexSteps, own_doing, parks, removes, finds_nobody}
-use Rattle.lot_world.proofs.SitesKept.{mutex_at, same_bases, word_l, Changed, unchanged, changed_main, follow, alike_put, of_mutex, rules, site_l, own}
+use Rattle.lot_world.specs.Stations.{Station, station, doing_on}
+use Rattle.lot_world.specs.SitesOf.{Goes, CallsMutex, IsSteady, key_of, stood_in}
+use Rattle.lot_world.proofs.Glue.{base_at, IsOf, own_stance}
+use Rattle.lot_world.proofs.MutexTable.{mutex, own_doing, parks, removes, finds_nobody}
+use Rattle.lot_world.proofs.SitesKept.{mutex_at, of_mutex, rules, site_l, own}
 use Rattle.lot_world.proofs.StandsKept.{calls_of}
 use Rattle.lot_world.proofs.ActsKept.{park_goes, remove_goes, nobody_goes}
 

@@ -1,7 +1,6 @@
 -- Each act of a thread keeps every lock of the world a site, whose word says so.
 use Rattle.std.proofs.Math.Bool.{or-false}
-use Rattle.std.proofs.Common.{ℕ, Bool, true, false, Option, Some, None, if◌then◌else◌, ◌||◌, ◌≡◌, ◌≢◌, ◌+◌, ◌*◌, ◌≤◌, ◌<◌, List, [], ◌∷◌, ◌++◌, length, replicate, get_or, set, map, drop, inl, inr, refl, sym, ◌∙◌, ap, subst, arith, length-set, get_or-set_same, get_or-set_other}
-use Rattle.std.proofs.lemmas.Bool.{cases_eq}
+use Rattle.std.proofs.Common.{ℕ, Bool, true, false, Option, Some, None, if◌then◌else◌, ◌||◌, ◌≡◌, ◌≢◌, ◌+◌, ◌*◌, ◌≤◌, ◌<◌, List, [], ◌∷◌, ◌++◌, length, replicate, get_or, set, map, drop, refl, sym, ◌∙◌, ap, subst, arith, length-set, get_or-set_same, get_or-set_other}
 use Rattle.lot_base.specs.declared.keys.Keys.TheVariants.{One}
 use Rattle.lot_base.specs.declared.notes.Note.{Note}
 use Rattle.lot_base.specs.declared.notes.Note.TheVariants as note
@@ -28,27 +27,26 @@ use Rattle.lot_acts.specs.declared.acts.Reply.TheVariants.{Value, Woken, TakenBy
 use Rattle.lot_mutex.specs.MutexSteps.{mutex_owners, hand_off_word}
 use Rattle.lot_acts.specs.Owners.{with_exclusive}
 use Rattle.lot_steps.specs.Steps.{next_place}
-use Rattle.abstract_locks.specs.Locks.{Rules, TakeFirst, putting}
-use Rattle.abstract_locks.specs.Sites.{Doing, Site, IsSite, Deed, Main, Second, In, Out, Case, idle, leaves, wakened, found, is_empty, has_readers, after_deed}
+use Rattle.abstract_locks.specs.Locks.{TakeFirst, putting}
+use Rattle.abstract_locks.specs.Sites.{Doing, Site, IsSite, Deed, Main, Second, In, Out, Case, idle, leaves, wakened, found, is_empty, has_readers}
 use Rattle.abstract_locks.specs.Codes.{code, fills}
-use Rattle.abstract_locks.specs.Purposes.{rules_of}
 pub use Rattle.lot_world.proofs.OneStep.{acts_keep}
 use Rattle.lot_world.proofs.WakesKept.{IsWoken, wake_goes}
 pub use Rattle.lot_world.proofs.ActsKept.{AlikeAt, alike_put, lock_by, follows_by, goes_steady, operated, word_goes, place_goes, enter_goes, leave_goes, nobody_inside}
 use Rattle.std.specs.Prelude.{sum}
-use Rattle.lot_machine.specs.Machine.{State, shares_handed_over, unlocked, place_at, word_at, owners_at, shares_at, filled_at, kind_at, queue_at, put, state_after_operation, state_with_sections, section_at, queues_without_first, state_after_reply, state_after_telling, state_after_hand_over, state_after_act, reply_to}
+use Rattle.lot_machine.specs.Machine.{State, shares_handed_over, unlocked, place_at, word_at, owners_at, shares_at, filled_at, kind_at, queue_at, put, state_with_sections, section_at, queues_without_first, state_after_reply, state_after_telling, state_after_hand_over, state_after_act, reply_to}
 use Rattle.lot_world.specs.Refinement.{taken_at}
 use Rattle.abstract_locks.specs.Picks.{queued_of}
 use Rattle.lot_world.specs.MutexDeeds.{mutex_doing, mutex_deeds, mutex_station, acts, owner, queued}
 use Rattle.lot_world.specs.Stations.{Station, hand, nowhere, station, doing_on}
 use Rattle.lot_world.specs.MutexDeeds as deeds
-use Rattle.lot_world.specs.SitesOf.{SameNumbers, TakesOne, site_of, rules_at, AllNeeded, IsSteady, Follows, Goes, CallsMutex, carried_at, hand_at, after_acts}
-use Rattle.lot_world.proofs.Glue.{base_at, seen_by, seen_in, seen, site_seen, goes_from, put_places, put_here, put_other, IsOf, next_of, doing_elsewhere, taken_elsewhere, inside_is, own_stance, LetGo, leaving, taking, told_one, successor_one, none_given, tries, accepts, lets_nobody, IsTakenAt, is_taken, IsHandedAt, is_handed, untaken, handing, hands_acts}
-use Rattle.lot_world.proofs.MutexTable.{mutex, parts, IsCode, OnWord, MutexSteps, same_filled, own_doing, goes_in as goes_into}
-use Rattle.lot_world.proofs.KindsKept.{operated_kinds, operated_filled, given_kinds, given_filled, given_shares}
+use Rattle.lot_world.specs.SitesOf.{SameNumbers, TakesOne, rules_at, AllNeeded, IsSteady, Follows, Goes, CallsMutex, carried_at, hand_at, after_acts}
+use Rattle.lot_world.proofs.Glue.{base_at, seen_in, seen, goes_from, put_places, put_here, put_other, IsOf, next_of, own_stance, leaving, taking, told_one, successor_one, none_given, tries, accepts, lets_nobody, IsTakenAt, is_taken, IsHandedAt, is_handed, untaken, handing, hands_acts}
+use Rattle.lot_world.proofs.MutexTable.{mutex, parts, IsCode, OnWord, MutexSteps, own_doing, goes_in as goes_into}
+use Rattle.lot_world.proofs.KindsKept.{given_kinds, given_filled, given_shares}
 use Rattle.lot_world.specs.SitesOf.{is_mutex}
 use Rattle.lot_world.proofs.StandsKept.{calls_of}
-use Rattle.lot_world.proofs.StandsMoved.{mutex_rules, takes_one, still, goes_in, goes_out, hands_lock, takes}
+use Rattle.lot_world.proofs.StandsMoved.{mutex_rules, takes_one, hands_lock, takes}
 use Rattle.lot_world.proofs.MutexSections.{hands_needed, take_needed, first_wants}
 
 -- g is f, but for x at i

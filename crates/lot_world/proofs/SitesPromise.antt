@@ -26,11 +26,8 @@ use Rattle.abstract_locks.specs.Locks.{Queued, times, standing, one_if_some}
 use Rattle.abstract_locks.specs.Locks as locks
 use Rattle.abstract_locks.specs.Sites.{Has, Main, Second, IsSite, IsDebtor, counts_some, has_readers, idle}
 use Rattle.lot_machine.specs.Machine.{State, place_at, word_at, owners_at, shares_at, kind_at, queue_at}
-use Rattle.abstract_locks.specs.Purposes.{rules_of}
 use Rattle.abstract_locks.specs.Codes.{bit, code, parked_in}
 use Rattle.std.specs.Prelude.{sum}
-use Rattle.lot_calls.specs.declared.kinds.Kind.{Kind}
-use Rattle.lot_calls.specs.declared.kinds.Kind as kind
 use Rattle.lot_world.specs.Refinement.{lock_state, taken_at}
 use Rattle.lot_world.specs.Promises.{WaitsFor, want_of, IsDebtorOf, IsLookedAfter, IsOpenNow}
 use Rattle.lot_world.specs.MutexPromises.{IsMutexWord}

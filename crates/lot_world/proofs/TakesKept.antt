@@ -1,6 +1,6 @@
 -- A thread takes waiters of a line of a reader-writer lock, as many as it is to: every lock is a site again.
-use Rattle.std.proofs.Common.{ℕ, Bool, true, false, Option, Some, None, if◌then◌else◌, ◌==◌, ◌&&◌, ◌||◌, ◌≡◌, ◌≢◌, ◌+◌, ◌*◌, ◌≤◌, ◌<◌, ◌⊎◌, replicate, List, [], ◌∷◌, length, get_or, set, map, inl, inr, refl, sym, ◌∙◌, ap, subst, arith, length-set}
-use Rattle.std.proofs.lemmas.Bool.{cases_eq, eqb-true}
+use Rattle.std.proofs.Common.{ℕ, Bool, true, false, Option, Some, None, if◌then◌else◌, ◌==◌, ◌&&◌, ◌||◌, ◌≡◌, ◌≢◌, ◌+◌, ◌*◌, ◌≤◌, ◌<◌, ◌⊎◌, replicate, List, [], ◌∷◌, length, get_or, set, map, inl, inr, refl, sym, ◌∙◌, ap, subst, arith}
+use Rattle.std.proofs.lemmas.Bool.{cases_eq}
 use Rattle.std.proofs.lemmas.Bool.Decides.{nat_tests}
 use Rattle.lot_base.specs.declared.wants.Waiter.{Waiter}
 use Rattle.lot_base.specs.declared.wants.Want.{Want}
@@ -13,15 +13,15 @@ use Rattle.lot_steps.specs.Steps.{next_place}
 use Rattle.abstract_locks.specs.Locks.{Rules, Taken, putting}
 use Rattle.abstract_locks.specs.Locks as locks
 use Rattle.abstract_locks.specs.Picks.{queued_of}
-use Rattle.abstract_locks.specs.Sites.{Site, IsSite, Deed, Line, Main, Second}
-use Rattle.abstract_locks.specs.Codes.{code, parked_in, aside_in}
+use Rattle.abstract_locks.specs.Sites.{Site, Deed, Line, Main, Second}
+use Rattle.abstract_locks.specs.Codes.{code}
 use Rattle.lot_calls.specs.declared.kinds.Kind as kind
-use Rattle.lot_machine.specs.Machine.{State, unlocked, shares_at, place_at, section_at, queue_at, filled_at, word_at, kind_at, places_told}
+use Rattle.lot_machine.specs.Machine.{State, unlocked, shares_at, place_at, section_at, queue_at, kind_at, places_told}
 use Rattle.lot_world.specs.Refinement.{taken_at}
 use Rattle.lot_world.specs.MutexDeeds.{acts}
-use Rattle.lot_world.specs.Stations.{Station, Hand, hand, station, station_at, nowhere, doing_on}
-use Rattle.lot_world.specs.SitesOf.{AllNeeded, TakesOne, Hands, IsSteady, Follows, Goes, Stands, CallsMutex, Lines, Waits, AreWaiting, Sections, SameNumbers, after_acts, rules_at, key_of, stood_in, carried_at, hand_at}
-use Rattle.lot_world.proofs.Glue.{Parts, parts_at, base_at, lock_in, seen_in, same, differ, put_here, put_other, set_puts, past_all, IsOf, doing_elsewhere, taken_elsewhere, station_here, station_elsewhere, nothing_at}
+use Rattle.lot_world.specs.Stations.{Station, hand, station, station_at, nowhere, doing_on}
+use Rattle.lot_world.specs.SitesOf.{AllNeeded, TakesOne, Hands, IsSteady, Goes, CallsMutex, Lines, Waits, AreWaiting, Sections, after_acts, rules_at, key_of, stood_in, carried_at, hand_at}
+use Rattle.lot_world.proofs.Glue.{parts_at, base_at, lock_in, seen_in, same, differ, put_here, put_other, set_puts, past_all, IsOf, doing_elsewhere, taken_elsewhere, station_here, station_elsewhere, nothing_at}
 use Rattle.lot_world.proofs.OneStep.{AreSingle, others_same}
 use Rattle.lot_world.proofs.ActsKept.{AlikeAt, Moves, NoHandOff, ordinary_by, with_line, stood_other, follows_by, lock_by, word_by_lines}
 use Rattle.lot_world.proofs.StandsKept.{same_line, other_key, other_line, sections_same, waiting_same, hands_taken, calls_in}

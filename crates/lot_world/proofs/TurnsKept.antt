@@ -1,5 +1,5 @@
 -- Each turn of a thread keeps every lock a site, and every thread in the line, the section and the hand that its place says.
-use Rattle.std.proofs.Common.{ℕ, Bool, true, false, Option, Some, None, if◌then◌else◌, ◌==◌, ◌≡◌, ◌+◌, ◌*◌, ◌<◌, [], ◌∷◌, length, length-set, nat_lt, refl, sym, ◌∙◌, ap, arith}
+use Rattle.std.proofs.Common.{ℕ, Bool, true, false, Option, Some, None, if◌then◌else◌, ◌==◌, ◌≡◌, ◌<◌, [], ◌∷◌, length, nat_lt, refl, sym, ◌∙◌, ap}
 use Rattle.std.proofs.lemmas.Bool.{eqb-true, ltb-true}
 use Rattle.lot_base.specs.declared.wants.Want.TheVariants.{Exclusive}
 use Rattle.lot_calls.specs.declared.calls.Call.{Call}
@@ -21,21 +21,19 @@ use Rattle.lot_mutex.specs.declared.places.MutexPlace.TheVariants.{Lock, TryLock
 use Rattle.lot_mutex.specs.MutexSteps.{mutex_first, mutex_right}
 use Rattle.lot_acts.specs.Owners.{is_thread}
 use Rattle.lot_steps.specs.Steps.{is_idle, spin_lock, late_key}
-use Rattle.abstract_locks.specs.Locks.{putting}
 use Rattle.abstract_locks.specs.Sites.{Claim, Has, Begin, HasClaim, idle}
-use Rattle.lot_machine.specs.Machine.{State, place_at, word_at, owners_at, kind_at, queue_at, put, state_after_begin, can_begin, is_open_to, state_after_spin_on, state_after_late_on, is_free_under, state_after_turn, can_turn, is_possible, after}
+use Rattle.lot_machine.specs.Machine.{State, place_at, word_at, owners_at, kind_at, put, state_after_begin, can_begin, is_open_to, state_after_spin_on, state_after_late_on, is_free_under, state_after_turn, can_turn, is_possible, after}
 use Rattle.lot_machine.specs.Fits.{IsShaped, PlaceFits}
 use Rattle.lot_world.specs.Refinement.{lock_state, taken_at}
 use Rattle.lot_world.specs.SitesOf.{is_mutex}
 use Rattle.lot_world.specs.MutexDeeds.{mutex_doing, mutex_station, acts, begins}
 use Rattle.lot_world.specs.Stations.{nowhere, station}
 use Rattle.lot_world.specs.SitesOf.{IsSteady, Goes}
-use Rattle.abstract_locks.specs.Codes.{code}
 use Rattle.lot_machine.proofs.Shape.{both}
 use Rattle.lot_world.proofs.KindsKept.{calls_mutex}
-use Rattle.lot_world.proofs.Glue.{base_at, parts_at, put_places, same}
+use Rattle.lot_world.proofs.Glue.{parts_at, same}
 use Rattle.lot_world.proofs.MutexTable.{mutex, own_doing, meets, others_same}
-use Rattle.lot_world.proofs.StandsMoved.{mutex_rules, still}
+use Rattle.lot_world.proofs.StandsMoved.{mutex_rules}
 use Rattle.lot_world.proofs.SitesKept.{mutex_at, goes_steady, place_goes}
 use Rattle.lot_world.proofs.Closures.{nothing_closes}
 use Rattle.lot_world.proofs.GoneKept.{looked, enters, gone_kept}

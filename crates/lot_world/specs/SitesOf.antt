@@ -1,5 +1,5 @@
 -- The locks of a world, with what each thread does about each.
-use Rattle.std.specs.Prelude.{ℕ, Bool, true, false, Option, Some, None, ◌≡◌, ◌≢◌, ◌<◌, ◌≤◌, ◌+◌, ◌-◌, ◌*◌, ◌^◌, ◌↔◌, List, [], ◌∷◌, length}
+use Rattle.std.specs.Prelude.{ℕ, Bool, true, false, Option, Some, ◌≡◌, ◌≢◌, ◌<◌, ◌≤◌, ◌+◌, ◌-◌, ◌*◌, ◌^◌, ◌↔◌, List, [], ◌∷◌, length}
 use Rattle.lot_base.specs.declared.wants.Waiter.{Waiter}
 use Rattle.lot_base.specs.Lines.{times}
 use Rattle.lot_steps.specs.declared.places.Place.{Place}
