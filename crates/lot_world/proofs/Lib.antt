@@ -22,6 +22,7 @@ pub mod Counts
 pub mod SitesPromise
 pub mod AtPlaces
 pub mod ExclusiveOwners
+pub mod LineActs
 pub mod CallEvents
 pub mod MutexCalls
 pub mod LockEvents

@@ -450,7 +450,7 @@ module _ (w : State) (t : ℕ) (shape : IsShaped w) (steady : IsSteady w) (there
   turned_sections (turn.TheVariants.Begin c) can key = inl refl
   turned_sections turn.TheVariants.Go can key = gone_sections w t shape steady can key
   turned_sections turn.TheVariants.Spin can key = inl (spun_sections w t (spin_lock (place_at w t)) key)
-  turned_sections turn.TheVariants.Late can key = late_sections w t shape (place_at w t) refl (shape.places t) can key
+  turned_sections turn.TheVariants.Late can key = late_sections w t shape (place_at w t) (shape.places t) can key
   turned_sections turn.TheVariants.Ok can key = absurd (nothing_closes w t true can)
   turned_sections turn.TheVariants.Err can key = absurd (nothing_closes w t false can)
 

@@ -1,11 +1,9 @@
 -- A step changes one word at most, or queues whose sections its thread is in.
-use Rattle.std.proofs.Common.{ℕ, zero, suc, Bool, true, false, Option, Some, None, if◌then◌else◌, ◌==◌, not, ◌≡◌, ◌≢◌, ◌+◌, ◌*◌, ◌⊎◌, inl, inr, List, [], ◌∷◌, ◌++◌, get_or, set, map, drop, refl, ◌∙◌, ap, arith, get_or-set_other}
+use Rattle.std.proofs.Common.{subst, sym, ℕ, Bool, true, false, Option, Some, None, if◌then◌else◌, ◌≡◌, ◌+◌, ◌⊎◌, inl, inr, List, [], ◌∷◌, ◌++◌, get_or, set, map, drop, refl, ◌∙◌, ap, get_or-set_other}
 use Rattle.std.proofs.lemmas.Bool.{cases_eq}
-use Rattle.std.proofs.Math.ListN.{get_or-map}
 use Rattle.lot_base.specs.declared.keys.Keys.{Keys}
 use Rattle.lot_base.specs.declared.keys.Keys.TheVariants.{One, Two}
 use Rattle.lot_base.specs.declared.ops.Op as op
-use Rattle.lot_base.specs.declared.wants.Want.TheVariants.{Exclusive}
 use Rattle.lot_base.specs.Lines.{waiter, without, first_of}
 use Rattle.lot_calls.specs.declared.kinds.Kind as kind
 use Rattle.lot_acts.specs.declared.acts.Act.{Act}
@@ -13,46 +11,30 @@ use Rattle.lot_acts.specs.declared.acts.Act as act
 use Rattle.lot_acts.specs.declared.acts.Wakes.{Wakes}
 use Rattle.lot_acts.specs.declared.acts.Wakes as wakes
 use Rattle.lot_acts.specs.declared.acts.Reply.TheVariants.{HandedBy, Spun, Late}
-use Rattle.lot_base.specs.declared.notes.Note.TheVariants as note
-use Rattle.lot_mutex.specs.declared.places.TheConstants.{NOT_PARKED}
 use Rattle.lot_calls.specs.declared.calls.Turn.{Turn}
 use Rattle.lot_calls.specs.declared.calls.Turn as turn
 use Rattle.lot_calls.specs.declared.calls.Step.{Step}
-use Rattle.lot_mutex.specs.declared.lock.Entry.{Entry}
-use Rattle.lot_mutex.specs.declared.places.MutexPlace.TheVariants.{Lock, TryLock, Unlock, UnlockFair, Bump, HandOff}
-use Rattle.lot_mutex.specs.declared.lock.LockAt.{LockAt}
-use Rattle.lot_mutex.specs.declared.lock.LockAt.TheVariants.{First, Load, Decide, Check, Leave, Asleep, Taken, Handed, Accept, Remove, Clear, GiveUp}
-use Rattle.lot_mutex.specs.declared.unlock.UnlockAt.{UnlockAt}
-use Rattle.lot_mutex.specs.declared.unlock.UnlockAt.TheVariants as unlock
-use Rattle.lot_mutex.specs.declared.hand_off.HandOffAt.{HandOffAt}
-use Rattle.lot_mutex.specs.declared.hand_off.HandOffAt.TheVariants as hand_off
+use Rattle.lot_mutex.specs.declared.lock.LockAt.TheVariants.{First, Leave, Accept, Remove}
 use Rattle.lot_steps.specs.declared.places.Place.{Place}
-use Rattle.lot_steps.specs.declared.places.Place.TheVariants.{Idle, Mutex}
-use Rattle.lot_mutex.specs.MutexSteps.{is_locked, lock_act, unlock_act, hand_off_word, hand_off_act}
+use Rattle.lot_steps.specs.declared.places.Place.TheVariants.{Mutex}
 use Rattle.lot_calls.specs.Calls.{lock_in}
-use Rattle.lot_steps.specs.Steps.{act_of, next_place, first_place, spin_lock, late_key}
-use Rattle.lot_machine.specs.Machine.{State, can_turn, unlocked, place_at, word_at, queue_at, section_at, put, state_after_operation, state_with_sections, queues_with_last, queues_without, queues_without_first, state_after_taking, state_after_wake, state_after_act, state_after_spin_on, state_after_late_on, go_reply, state_after_turn, is_possible, after, kind_at, state_after_hand_over, state_after_telling}
+use Rattle.lot_steps.specs.Steps.{act_of, lock_of, next_place, first_place, spin_lock, late_key}
+use Rattle.lot_machine.specs.Machine.{State, state_after_take, can_turn, unlocked, place_at, word_at, queue_at, section_at, put, state_after_operation, state_with_sections, queues_with_last, queues_without_first, state_after_taking, state_after_wake, state_after_act, state_after_spin_on, state_after_late_on, go_reply, state_after_turn, is_possible, after, kind_at, state_after_hand_over, state_after_telling}
 use Rattle.lot_world.proofs.Closures.{nothing_closes}
 use Rattle.lot_machine.proofs.Shape.{both}
 use Rattle.std.specs.Prelude.{nat_lt, length}
-use Rattle.abstract_locks.specs.Sites.{Main}
-use Rattle.lot_mutex.specs.declared.places.MutexPlace.{MutexPlace}
-use Rattle.lot_world.specs.MutexDeeds.{mutex_doing}
-use Rattle.lot_world.specs.Stations.{station_at}
-use Rattle.lot_world.specs.SitesOf.{IsSteady, stood_in}
-use Rattle.lot_world.proofs.Glue.{station_elsewhere}
-use Rattle.lot_world.proofs.AtPlaces.{absent_aside, holds_section}
-use Rattle.lot_world.proofs.Counts.{without_absent}
+use Rattle.lot_world.specs.Stations.{station}
+use Rattle.lot_world.specs.SitesOf.{IsSteady}
+use Rattle.lot_world.proofs.Glue.{calls_none}
+use Rattle.lot_world.proofs.LineActs.{IsLineAct, line_act, holds_line, removed_at}
+use Rattle.lot_base.specs.declared.wants.Want.{Want}
+use Rattle.lot_base.specs.declared.wants.Waiter.{Waiter}
+use Rattle.lot_base.specs.Picks.{without_lock_picked}
+use Rattle.lot_acts.specs.declared.acts.Whom.{Whom}
+use Rattle.lot_acts.specs.declared.acts.Whom.TheVariants as whom
+use Rattle.lot_acts.specs.Acts.{holds}
 use Rattle.lot_world.specs.Refinement.{ChangesOneThing}
 use Rattle.lot_world.specs.WorldRuns.{IsUntouched, TouchesOnlyByGoing}
-
--- each key is a main one or one of waiters aside
-parity : (n : ℕ) → ((k : ℕ) × (n ≡ 2 * k)) ⊎ ((k : ℕ) × (n ≡ 2 * k + 1))
-parity zero = inl (0, refl)
-parity (suc n) = elim (parity n) [
-  | inl h ↦ inr (h.0, let e : n ≡ 2 * h.0 = h.1 in omega arith)
-  | inr h ↦ inl (h.0 + 1, let e : n ≡ 2 * h.0 + 1 = h.1 in omega arith)
-]
 
 -- words and queues are as they were
 abbrev Same : State → State → Type 0
@@ -92,87 +74,51 @@ module _ (w : State) (t : ℕ) (steady : IsSteady w) where
   left_one : (keys : Keys) (x : Wakes) → ChangesOneThing w t (state_after_wake (state_with_sections w keys None) t x)
   left_one keys x = same_one w (state_after_wake (state_with_sections w keys None) t x) t (left_same w t keys x)
 
-  -- where a thread leaves the queues in which it stands, others are as they were
-  removed_at : (l : ℕ) (at : MutexPlace) → place_at w t ≡ Mutex l at → section_at w (2 * l) ≡ Some t → (key : ℕ) → (get_or (map (without t) w.queues) key [] ≡ queue_at w key) ⊎ (section_at w key ≡ Some t)
-  removed_at l at is held key = elim (parity key) [
-    | inl h ↦ elim (cases_eq h.0 l) [
-      | inl e ↦ inr (rw (h.1, e) held)
-      | inr ne ↦ inl (rw h.1 (get_or-map (without t) w.queues (2 * h.0) [] ∙ without_absent t (queue_at w (2 * h.0)) (steady.stands.lines t h.0 Main ∙ elsewhere h.0 ne)))
-    ]
-    | inr h ↦ inl (rw h.1 (get_or-map (without t) w.queues (2 * h.0 + 1) [] ∙ without_absent t (queue_at w (2 * h.0 + 1)) (absent_aside w steady t h.0)))
-  ]
-    where
-      elsewhere : (k : ℕ) → k ≢ l → stood_in (station_at (place_at w t) k).stands Main ≡ 0
-      elsewhere k ne = ap (λ x. stood_in x.stands Main) (station_elsewhere l k (place_at w t) (rw is refl) ne)
-
   -- a queue is set whose section the thread is in
-  set_at : (l : ℕ) (queues : List (List _)) (q : List _) → section_at w (2 * l) ≡ Some t → ((key : ℕ) → (get_or queues key [] ≡ queue_at w key) ⊎ (section_at w key ≡ Some t))
-      → (key : ℕ) → (get_or (set queues (2 * l) q) key [] ≡ queue_at w key) ⊎ (section_at w key ≡ Some t)
-  set_at l queues q held others key = elim (cases_eq key (2 * l)) [
+  set_at : (key : ℕ) (queues : List (List Waiter)) (q : List Waiter) → section_at w key ≡ Some t → ((k : ℕ) → (get_or queues k [] ≡ queue_at w k) ⊎ (section_at w k ≡ Some t))
+      → (k : ℕ) → (get_or (set queues key q) k [] ≡ queue_at w k) ⊎ (section_at w k ≡ Some t)
+  set_at key queues q held others k = elim (cases_eq k key) [
     | inl e ↦ inr (rw e held)
-    | inr ne ↦ elim (others key) [
-      | inl h ↦ inl (get_or-set_other queues (2 * l) key q [] ne ∙ h)
+    | inr ne ↦ elim (others k) [
+      | inl h ↦ inl (get_or-set_other queues key k q [] ne ∙ h)
       | inr h ↦ inr h
     ]
   ]
 
-  inside : (l : ℕ) (at : MutexPlace) → place_at w t ≡ Mutex l at → (mutex_doing at).inside ≡ Some Main → section_at w (2 * l) ≡ Some t
-  inside l at is h = holds_section w steady t l at is h
+  park_one : (key : ℕ) (x : Want) → section_at w key ≡ Some t → ((k : ℕ) → (get_or (map (without t) w.queues) k [] ≡ queue_at w k) ⊎ (section_at w k ≡ Some t)) → (b : Bool) → ChangesOneThing w t (if b then record w { queues = queues_with_last w.queues key t x } else w)
+  park_one key x held others false = stays
+  park_one key x held others true = inr ((λ k. refl), set_at key (map (without t) w.queues) (get_or (map (without t) w.queues) key [] ++ waiter key t x ∷ []) held others)
 
-  check_one : (l : ℕ) (entry : Entry) (retries : Bool) → place_at w t ≡ Mutex l (Lock entry retries Check) → (b : Bool) → ChangesOneThing w t (if b then record w { queues = queues_with_last w.queues (2 * l) t Exclusive } else w)
-  check_one l entry retries is false = stays
-  check_one l entry retries is true = inr ((λ k. refl), set_at l (map (without t) w.queues) (get_or (map (without t) w.queues) (2 * l) [] ++ waiter (2 * l) t Exclusive ∷ []) (inside l (Lock entry retries Check) is refl) (removed_at l (Lock entry retries Check) is (inside l (Lock entry retries Check) is refl)))
+  take_first : (key : ℕ) → section_at w key ≡ Some t → (o : Option ℕ) → ChangesOneThing w t (state_after_taking (record w { queues = queues_without_first w.queues key }) t o)
+  take_first key held None = inr ((λ k. refl), set_at key w.queues (drop 1 (queue_at w key)) held (λ k. inl refl))
+  take_first key held (Some u) = inr ((λ k. refl), set_at key w.queues (drop 1 (queue_at w key)) held (λ k. inl refl))
 
-  take_one : (l : ℕ) → section_at w (2 * l) ≡ Some t → (o : Option ℕ) → ChangesOneThing w t (state_after_taking (record w { queues = queues_without_first w.queues (2 * l) }) t o)
-  take_one l held None = inr ((λ k. refl), set_at l w.queues (drop 1 (queue_at w (2 * l))) held (λ key. inl refl))
-  take_one l held (Some u) = inr ((λ k. refl), set_at l w.queues (drop 1 (queue_at w (2 * l))) held (λ key. inl refl))
+  take_one : (key : ℕ) → section_at w key ≡ Some t → (x : Whom) → ChangesOneThing w t (state_after_take w t key x)
+  take_one key held whom.First = take_first key held (first_of (queue_at w key))
+  take_one key held (whom.Picked start recursive) = inr ((λ k. refl), set_at key w.queues (without_lock_picked start recursive key (queue_at w key)) held (λ k. inl refl))
+  take_one key held whom.All = inr ((λ k. refl), set_at key w.queues [] held (λ k. inl refl))
 
-  remove_one : (l : ℕ) (entry : Entry) (retries : Bool) → place_at w t ≡ Mutex l (Lock entry retries Remove) → ChangesOneThing w t (record w { queues = queues_without w.queues t })
-  remove_one l entry retries is = inr ((λ k. refl), removed_at l (Lock entry retries Remove) is (inside l (Lock entry retries Remove) is refl))
+  -- whatever its act is, by the line that it touches
+  module _ (l : ℕ) (own : lock_of (place_at w t) ≡ Some l) where
+    act_one : (p : Place) (a : Act) → IsLineAct l (station (place_at w t)) a → ChangesOneThing w t (state_after_act w t p a)
+    act_one p (act.TheVariants.Word k f) h = word_one p k f
+    act_one p (act.TheVariants.HandOver k f) h = given_one p k f
+    act_one p (act.TheVariants.Enter keys) h = filled_one keys (Some t)
+    act_one p (act.TheVariants.Park k key check x) h = park_one key x (holds_line w t l steady own key h.0) (removed_at w t l steady own h.0.0 h.0.1 h.1) (holds check (word_at w k))
+    act_one p (act.TheVariants.Stand key x) h = park_one key x (holds_line w t l steady own key h.0) (removed_at w t l steady own h.0.0 h.0.1 h.1) true
+    act_one p (act.TheVariants.Take key x) h = take_one key (holds_line w t l steady own key h) x
+    act_one p (act.TheVariants.Requeue from to how) h = absurd h
+    act_one p (act.TheVariants.Remove key) h = inr ((λ k. refl), removed_at w t l steady own h.0.0 h.0.1 h.1)
+    act_one p (act.TheVariants.Leave keys x) h = left_one keys x
+    act_one p act.TheVariants.Rest h = stays
+    act_one p act.TheVariants.Sleep h = stays
+    act_one p act.TheVariants.Accept h = stays
+    act_one p (act.TheVariants.Closure state) h = stays
+    act_one p (act.TheVariants.End answer) h = stays
 
-  decided_one : (l : ℕ) (entry : Entry) (retries : Bool) (s : ℕ) (a b : Bool) → ChangesOneThing w t (state_after_act w t (Mutex l (Lock entry retries (Decide s))) (if not a then act.TheVariants.Word l (op.TheVariants.Exchange s (s + 1)) else if b then act.TheVariants.Word l (op.TheVariants.Exchange 1 3) else act.TheVariants.Enter (One (2 * l))))
-  decided_one l entry retries s false b = word_one (Mutex l (Lock entry retries (Decide s))) l (op.TheVariants.Exchange s (s + 1))
-  decided_one l entry retries s true true = word_one (Mutex l (Lock entry retries (Decide s))) l (op.TheVariants.Exchange 1 3)
-  decided_one l entry retries s true false = filled_one (One (2 * l)) (Some t)
-
-  lock_one : (l : ℕ) (entry : Entry) (retries : Bool) (a : LockAt) → place_at w t ≡ Mutex l (Lock entry retries a) → ChangesOneThing w t (state_after_act w t (Mutex l (Lock entry retries a)) (lock_act l a))
-  lock_one l entry retries First is = word_one (Mutex l (Lock entry retries First)) l (op.TheVariants.Exchange 0 1)
-  lock_one l entry retries Load is = word_one (Mutex l (Lock entry retries Load)) l op.TheVariants.Load
-  lock_one l entry retries (Decide s) is = decided_one l entry retries s (is_locked s) (s == 1)
-  lock_one l entry retries Check is = check_one l entry retries is (word_at w l == 3)
-  lock_one l entry retries (Leave b) is = left_one (One (2 * l)) wakes.TheVariants.Nobody
-  lock_one l entry retries Asleep is = stays
-  lock_one l entry retries (Taken by) is = stays
-  lock_one l entry retries (Handed by) is = stays
-  lock_one l entry retries Accept is = stays
-  lock_one l entry retries Remove is = remove_one l entry retries is
-  lock_one l entry retries Clear is = word_one (Mutex l (Lock entry retries Clear)) l (op.TheVariants.And NOT_PARKED)
-  lock_one l entry retries GiveUp is = left_one (One (2 * l)) wakes.TheVariants.Nobody
-
-  unlock_one : (l : ℕ) (a : UnlockAt) → place_at w t ≡ Mutex l (Unlock a) → ChangesOneThing w t (state_after_act w t (Mutex l (Unlock a)) (unlock_act l a))
-  unlock_one l unlock.Subtract is = word_one (Mutex l (Unlock unlock.Subtract)) l (op.TheVariants.Sub 1)
-  unlock_one l unlock.Enter is = filled_one (One (2 * l)) (Some t)
-  unlock_one l unlock.Take is = take_one l (inside l (Unlock unlock.Take) is refl) (first_of (queue_at w (2 * l)))
-  unlock_one l (unlock.Clear any) is = word_one (Mutex l (Unlock (unlock.Clear any))) l (op.TheVariants.And NOT_PARKED)
-  unlock_one l (unlock.Leave false) is = left_one (One (2 * l)) wakes.TheVariants.Nobody
-  unlock_one l (unlock.Leave true) is = left_one (One (2 * l)) (wakes.TheVariants.All note.Normal)
-
-  hand_off_one : (l : ℕ) (bumps : Bool) (a : HandOffAt) → place_at w t ≡ Mutex l (HandOff bumps a) → ChangesOneThing w t (state_after_act w t (Mutex l (HandOff bumps a)) (hand_off_act l a))
-  hand_off_one l bumps hand_off.Enter is = filled_one (One (2 * l)) (Some t)
-  hand_off_one l bumps hand_off.Take is = take_one l (inside l (HandOff bumps hand_off.Take) is refl) (first_of (queue_at w (2 * l)))
-  hand_off_one l bumps (hand_off.Store false none_left) is = word_one (Mutex l (HandOff bumps (hand_off.Store false none_left))) l (op.TheVariants.Store 0)
-  hand_off_one l bumps (hand_off.Store true none_left) is = given_one (Mutex l (HandOff bumps (hand_off.Store true none_left))) l (op.TheVariants.Store (hand_off_word true none_left))
-  hand_off_one l bumps (hand_off.Leave false) is = left_one (One (2 * l)) wakes.TheVariants.Nobody
-  hand_off_one l bumps (hand_off.Leave true) is = left_one (One (2 * l)) (wakes.TheVariants.All note.HandOff)
-
-  act_one : (p : Place) → place_at w t ≡ p → ChangesOneThing w t (state_after_act w t p (act_of p))
-  act_one Idle is = stays
-  act_one (Mutex l (Lock entry retries a)) is = lock_one l entry retries a is
-  act_one (Mutex l TryLock) is = word_one (Mutex l TryLock) l (op.TheVariants.Or 1)
-  act_one (Mutex l (Unlock a)) is = unlock_one l a is
-  act_one (Mutex l UnlockFair) is = word_one (Mutex l UnlockFair) l (op.TheVariants.Exchange 1 0)
-  act_one (Mutex l Bump) is = word_one (Mutex l Bump) l op.TheVariants.Load
-  act_one (Mutex l (HandOff bumps a)) is = hand_off_one l bumps a is
+  gone_one : (o : Option ℕ) → lock_of (place_at w t) ≡ o → ChangesOneThing w t (state_after_act w t (place_at w t) (act_of (place_at w t)))
+  gone_one (Some l) own = act_one l own (place_at w t) (act_of (place_at w t)) (line_act (place_at w t) l own)
+  gone_one None none = subst (λ p. ChangesOneThing w t (state_after_act w t p (act_of p))) (sym (calls_none (place_at w t) none)) stays
 
   spin_one : (o : Option ℕ) → ChangesOneThing w t (state_after_spin_on w t o)
   spin_one None = stays
@@ -184,7 +130,7 @@ module _ (w : State) (t : ℕ) (steady : IsSteady w) where
 
   turned_one : (x : Turn) → can_turn w t x ≡ true → ChangesOneThing w t (state_after_turn w t x)
   turned_one (turn.TheVariants.Begin c) can = put_one w w t t (first_place (kind_at w (lock_in c)) c) stays
-  turned_one turn.TheVariants.Go can = put_one w (state_after_act w t (place_at w t) (act_of (place_at w t))) t t (next_place (place_at w t) (go_reply w t)) (act_one (place_at w t) refl)
+  turned_one turn.TheVariants.Go can = put_one w (state_after_act w t (place_at w t) (act_of (place_at w t))) t t (next_place (place_at w t) (go_reply w t)) (gone_one (lock_of (place_at w t)) refl)
   turned_one turn.TheVariants.Spin can = spin_one (spin_lock (place_at w t))
   turned_one turn.TheVariants.Late can = late_one (late_key (place_at w t))
   turned_one turn.TheVariants.Ok can = absurd (nothing_closes w t true can)

@@ -1,5 +1,5 @@
 -- A turn is possible exactly where the abstract locks and the call say so, and a thread is told that it sleeps where it does.
-use Rattle.std.proofs.Common.{ℕ, Bool, true, false, Option, Some, None, if◌then◌else◌, ◌==◌, ◌&&◌, not, ◌≡◌, ◌≢◌, ◌+◌, ◌*◌, ◌≤◌, ◌<◌, ◌↔◌, ◌⊎◌, inl, inr, List, length, is_none, refl, sym, ◌∙◌, ap, arith, get_or-set_other, get_or-set_same}
+use Rattle.std.proofs.Common.{subst, ℕ, Bool, true, false, Option, Some, None, if◌then◌else◌, ◌==◌, ◌&&◌, not, ◌≡◌, ◌≢◌, ◌+◌, ◌*◌, ◌≤◌, ◌<◌, ◌↔◌, ◌⊎◌, inl, inr, List, length, is_none, refl, sym, ◌∙◌, ap, arith, get_or-set_other, get_or-set_same}
 use Rattle.std.proofs.lemmas.Bool.{cases_eq, cases_lt}
 use Rattle.std.proofs.lemmas.List.{get_or_past}
 use Rattle.lot_base.specs.declared.keys.Keys.{Keys}
@@ -15,10 +15,9 @@ use Rattle.lot_calls.specs.declared.calls.MutexCall.{MutexCall}
 use Rattle.lot_calls.specs.declared.calls.MutexCall as mutex_call
 use Rattle.lot_calls.specs.declared.kinds.Kind.{Kind}
 use Rattle.lot_calls.specs.Kinds.{is_fair}
-use Rattle.lot_calls.specs.declared.outcomes.Outcome.{Outcome}
 use Rattle.lot_calls.specs.declared.outcomes.Outcome as outcome
 use Rattle.lot_acts.specs.declared.acts.Act.{Act}
-use Rattle.lot_acts.specs.declared.acts.Act.TheVariants.{Rest, Word, HandOver, Enter, Park, Take, Remove, Sleep, Closure, End, Accept}
+use Rattle.lot_acts.specs.declared.acts.Act.TheVariants.{Rest, Word, Enter, Park, Take, Sleep, Closure, End}
 use Rattle.lot_acts.specs.declared.acts.Act.TheVariants as act
 use Rattle.lot_acts.specs.declared.acts.Reply.{Reply}
 use Rattle.lot_acts.specs.declared.acts.Reply.TheVariants.{Spun, Late}
@@ -34,22 +33,22 @@ use Rattle.lot_steps.specs.declared.places.Place.{Place}
 use Rattle.lot_steps.specs.declared.places.Place.TheVariants.{Idle, Mutex}
 use Rattle.lot_acts.specs.declared.acts.Wakes.{Wakes}
 use Rattle.lot_acts.specs.declared.acts.Wakes as wakes
+use Rattle.lot_acts.specs.declared.acts.Whom.{Whom}
 use Rattle.lot_acts.specs.declared.acts.Whom as whom
 use Rattle.lot_acts.specs.Acts.{outcome_of, holds}
 use Rattle.lot_mutex.specs.MutexSteps.{is_locked, lock_act, mutex_act, mutex_first, mutex_next}
-use Rattle.lot_steps.specs.Steps.{act_of, next_place, next_act, mutex_goes, mutex_does, late_key, first_place, spin_lock}
-use Rattle.lot_machine.specs.Machine.{State, place_at, queue_at, section_at, is_there, can_do, can_go, is_free_under, word_at, state_with_sections, queues_without_first, state_after_taking, state_after_wake, state_after_act, state_after_go, state_after_spin_on, state_after_late_on}
+use Rattle.lot_steps.specs.Steps.{act_of, lock_of, next_place, next_act, mutex_goes, mutex_does, late_key, first_place, spin_lock}
+use Rattle.lot_machine.specs.Machine.{State, state_after_take, place_at, queue_at, section_at, is_there, can_do, can_go, is_free_under, word_at, state_with_sections, queues_without_first, state_after_taking, state_after_wake, state_after_act, state_after_go, state_after_spin_on, state_after_late_on}
 use Rattle.lot_machine.specs.Fits.{IsShaped, PlaceFits}
-use Rattle.lot_machine.proofs.Shape.{main_key_there}
 use Rattle.abstract_locks.specs.Sites.{Main}
-use Rattle.lot_world.specs.MutexDeeds.{mutex_doing}
 use Rattle.lot_world.specs.Stations.{station, station_at}
 use Rattle.lot_world.specs.SitesOf.{IsSteady, stood_in}
 use Rattle.lot_world.specs.Refinement.{lock_state, locks_of, call_state, sleeps, runs_closure, keys_entered}
-use Rattle.lot_world.proofs.Glue.{nothing_at, same}
+use Rattle.lot_world.proofs.Glue.{nothing_at, same, calls_none}
+use Rattle.lot_world.proofs.LineActs.{IsOfLine, IsLineAct, line_act, holds_line, key_there, late_line, calls_there}
 use Rattle.lot_world.proofs.GoneKept.{none_is}
 use Rattle.lot_world.proofs.Closures.{no_closure}
-use Rattle.lot_world.proofs.AtPlaces.{queued_by, not_first_aside, holds_section}
+use Rattle.lot_world.proofs.AtPlaces.{queued_by, not_first_aside}
 use Rattle.lot_world.proofs.CallEvents.{rights}
 use Rattle.abstract_locks.specs.Locks.{Rights}
 use Rattle.abstract_locks.specs.Locks as locks
@@ -246,48 +245,11 @@ turner_there w t x may = elim (cases_lt t (length w.places)) [
 
 -- ---------------------------------------------------------------- sections
 
--- an act enters or leaves the main section of one lock alone, and leaves it only from inside
-abbrev pub OnMain : State → ℕ → ℕ → Act → Type 0
-OnMain w t l (Enter (One key)) = key ≡ 2 * l
-OnMain w t l (Enter (Two first second)) = ⊥
-OnMain w t l (act.Leave (One key) x) = (key ≡ 2 * l) × (section_at w (2 * l) ≡ Some t)
-OnMain w t l (act.Leave (Two first second) x) = ⊥
-OnMain w t l a = Unit {0}
-
-decides_main : (w : State) (t l s : ℕ) (a b : Bool) → OnMain w t l (if not a then Word l (op.TheVariants.Exchange s (s + 1)) else if b then Word l (op.TheVariants.Exchange 1 3) else Enter (One (2 * l)))
-decides_main w t l s false b = tt
-decides_main w t l s true true = tt
-decides_main w t l s true false = refl
-
-module _ (w : State) (t : ℕ) (steady : IsSteady w) where
-  held : (at : MutexPlace) (l : ℕ) → place_at w t ≡ Mutex l at → (mutex_doing at).inside ≡ Some Main → (2 * l ≡ 2 * l) × (section_at w (2 * l) ≡ Some t)
-  held at l is within = (refl, holds_section w steady t l at is within)
-
-  pub on_main : (l : ℕ) (at : MutexPlace) → place_at w t ≡ Mutex l at → OnMain w t l (mutex_act l at)
-  on_main l (Lock e r lock.First) is = tt
-  on_main l (Lock e r (lock.Decide s)) is = decides_main w t l s (is_locked s) (s == 1)
-  on_main l (Lock e r (lock.Leave b)) is = held _ l is refl
-  on_main l (Lock e r lock.GiveUp) is = held _ l is refl
-  on_main l (Lock e r a) is = tt
-  on_main l TryLock is = tt
-  on_main l (Unlock unlock.Subtract) is = tt
-  on_main l (Unlock unlock.Enter) is = refl
-  on_main l (Unlock unlock.Take) is = tt
-  on_main l (Unlock (unlock.Clear any)) is = tt
-  on_main l (Unlock (unlock.Leave any)) is = held _ l is refl
-  on_main l UnlockFair is = tt
-  on_main l Bump is = tt
-  on_main l (HandOff b hand_off.Enter) is = refl
-  on_main l (HandOff b hand_off.Take) is = tt
-  on_main l (HandOff b (hand_off.Store false n)) is = tt
-  on_main l (HandOff b (hand_off.Store true n)) is = tt
-  on_main l (HandOff b (hand_off.Leave any)) is = held _ l is refl
-
 module _ (w : State) (t : ℕ) where
-  filled_changes : (l : ℕ) (who : Option ℕ) → 2 * l < length w.sections → SectionChanges (section_at w (2 * l)) t who → (key : ℕ) → SectionChanges (section_at w key) t (section_at (state_with_sections w (One (2 * l)) who) key)
-  filled_changes l who lt changes key = elim (cases_eq key (2 * l)) [
-    | inl e ↦ rw (e, get_or-set_same w.sections (2 * l) who None lt) changes
-    | inr ne ↦ inl (get_or-set_other w.sections (2 * l) key who None ne)
+  filled_changes : (k : ℕ) (who : Option ℕ) → k < length w.sections → SectionChanges (section_at w k) t who → (key : ℕ) → SectionChanges (section_at w key) t (section_at (state_with_sections w (One k) who) key)
+  filled_changes k who lt changes key = elim (cases_eq key k) [
+    | inl e ↦ rw (e, get_or-set_same w.sections k who None lt) changes
+    | inr ne ↦ inl (get_or-set_other w.sections k key who None ne)
   ]
 
   parked_sections : (b : Bool) (queues : List (List Waiter)) (key : ℕ) → section_at (if b then record w { queues = queues } else w) key ≡ section_at w key
@@ -302,22 +264,33 @@ module _ (w : State) (t : ℕ) where
   left_sections keys wakes.TheVariants.Nobody key = refl
   left_sections keys (wakes.TheVariants.All note) key = refl
 
-  act_sections : (p : Place) (l : ℕ) → 2 * l < length w.sections → (a : Act) → can_do w a ≡ true → OnMain w t l a → (key : ℕ) → SectionChanges (section_at w key) t (section_at (state_after_act w t p a) key)
-  act_sections p l lt (Enter (One k)) can main key = rw main (filled_changes l (Some t) lt (inr (inl (none_is (section_at w (2 * l)) (rw main at can), refl))) key)
-  act_sections p l lt (Enter (Two first second)) can main key = absurd main
-  act_sections p l lt (act.Leave (One k) x) can main key = rw (left_sections (One k) x key, main.0) (filled_changes l None lt (inr (inr (main.1, refl))) key)
-  act_sections p l lt (act.Leave (Two first second) x) can main key = absurd main
-  act_sections p l lt (Park k key_there check x) can main key = inl (parked_sections (holds check (word_at w k)) _ key)
-  act_sections p l lt (Take k whom.TheVariants.First) can main key = inl (took_sections (queues_without_first w.queues k) (first_of (queue_at w k)) key)
-  act_sections p l lt Rest can main key = inl refl
-  act_sections p l lt a can main key = inl refl
+  took_all : (key : ℕ) (x : Whom) (k : ℕ) → section_at (state_after_take w t key x) k ≡ section_at w k
+  took_all key whom.TheVariants.First k = took_sections (queues_without_first w.queues key) (first_of (queue_at w key)) k
+  took_all key (whom.TheVariants.Picked start recursive) k = refl
+  took_all key whom.TheVariants.All k = refl
+
+  module _ (shape : IsShaped w) (steady : IsSteady w) (l : ℕ) (own : lock_of (place_at w t) ≡ Some l) (lt : l < length w.locks) where
+    there_is : (key : ℕ) → IsOfLine l key → key < length w.sections
+    there_is key h = subst (λ k. k < length w.sections) (sym h.1) (key_there w l h.0 shape lt)
+
+    -- it enters or leaves the section of one line alone, and leaves it only from inside
+    act_sections : (p : Place) (a : Act) → can_do w a ≡ true → IsLineAct l (station (place_at w t)) a → (key : ℕ) → SectionChanges (section_at w key) t (section_at (state_after_act w t p a) key)
+    act_sections p (Enter (One k)) can h key = filled_changes k (Some t) (there_is k h) (inr (inl (none_is (section_at w k) can, refl))) key
+    act_sections p (Enter (Two first second)) can h key = absurd h
+    act_sections p (act.Leave (One k) x) can h key = rw (left_sections (One k) x key) (filled_changes k None (there_is k (h.0, h.2)) (inr (inr (holds_line w t l steady own k h, refl))) key)
+    act_sections p (act.Leave (Two first second) x) can h key = absurd h
+    act_sections p (Park k key_there check x) can h key = inl (parked_sections (holds check (word_at w k)) _ key)
+    act_sections p (Take k x) can h key = inl (took_all k x key)
+    act_sections p (act.Requeue from to how) can h key = absurd h
+    act_sections p Rest can h key = inl refl
+    act_sections p a can h key = inl refl
 
 pub gone_sections : (w : State) (t : ℕ) → IsShaped w → IsSteady w → can_go w t ≡ true → (key : ℕ) → SectionChanges (section_at w key) t (section_at (state_after_go w t) key)
-gone_sections w t shape steady can = by_place (place_at w t) refl (shape.places t) can
+gone_sections w t shape steady can = by_lock (lock_of (place_at w t)) refl
   where
-    by_place : (p : Place) → place_at w t ≡ p → PlaceFits (length w.locks) p → can_do w (act_of p) ≡ true → (key : ℕ) → SectionChanges (section_at w key) t (section_at (state_after_act w t p (act_of p)) key)
-    by_place Idle is fits can key = absurd cc
-    by_place (Mutex l at) is fits can key = act_sections w t (Mutex l at) l (main_key_there w l shape fits.0) (mutex_act l at) can (on_main w t steady l at is) key
+    by_lock : (o : Option ℕ) → lock_of (place_at w t) ≡ o → (key : ℕ) → SectionChanges (section_at w key) t (section_at (state_after_act w t (place_at w t) (act_of (place_at w t))) key)
+    by_lock (Some l) own key = act_sections w t shape steady l own (calls_there (length w.locks) (place_at w t) l own (shape.places t)) (place_at w t) (act_of (place_at w t)) can (line_act (place_at w t) l own) key
+    by_lock None none key = absurd (let e : can_do w (act_of (place_at w t)) ≡ false = ap (λ p. can_do w (act_of p)) (calls_none (place_at w t) none) in cc)
 
 pub spun_sections : (w : State) (t : ℕ) (o : Option ℕ) (key : ℕ) → section_at (state_after_spin_on w t o) key ≡ section_at w key
 spun_sections w t None key = refl
@@ -355,15 +328,11 @@ module _ (w : State) (t : ℕ) (there : t < length w.places) where
   late_awake (Mutex l (HandOff b a)) is can = absurd cc
 
 module _ (w : State) (t : ℕ) (shape : IsShaped w) where
-  pub late_sections : (p : Place) → place_at w t ≡ p → PlaceFits (length w.locks) p → is_free_under w (late_key p) ≡ true → (key : ℕ) → SectionChanges (section_at w key) t (section_at (state_after_late_on w t (late_key p)) key)
-  late_sections (Mutex l (Lock entries.LockTimed r lock.Asleep)) is fits can key = filled_changes w t l (Some t) (main_key_there w l shape fits.0) (inr (inl (none_is (section_at w (2 * l)) can, refl))) key
-  late_sections Idle is fits can key = absurd cc
-  late_sections (Mutex l (Lock entries.Lock r lock.Asleep)) is fits can key = absurd cc
-  late_sections (Mutex l (Lock entries.Bump r lock.Asleep)) is fits can key = absurd cc
-  late_sections (Mutex l (Lock e r lock.First)) is fits can key = absurd cc
-  late_sections (Mutex l (Lock e r a)) is fits can key = absurd cc
-  late_sections (Mutex l TryLock) is fits can key = absurd cc
-  late_sections (Mutex l (Unlock a)) is fits can key = absurd cc
-  late_sections (Mutex l UnlockFair) is fits can key = absurd cc
-  late_sections (Mutex l Bump) is fits can key = absurd cc
-  late_sections (Mutex l (HandOff b a)) is fits can key = absurd cc
+  -- who is late enters the section of the line in which it sleeps
+  pub late_sections : (p : Place) → PlaceFits (length w.locks) p → is_free_under w (late_key p) ≡ true → (key : ℕ) → SectionChanges (section_at w key) t (section_at (state_after_late_on w t (late_key p)) key)
+  late_sections p fits can = by_key (late_key p) refl can
+    where
+      by_key : (o : Option ℕ) → late_key p ≡ o → is_free_under w o ≡ true → (key : ℕ) → SectionChanges (section_at w key) t (section_at (state_after_late_on w t o) key)
+      by_key None e can key = absurd cc
+      by_key (Some k) e can key = let of = late_line p k e in
+          filled_changes w t k (Some t) (subst (λ j. j < length w.sections) (sym of.2.1) (key_there w of.0 of.2.0 shape (calls_there (length w.locks) p of.0 of.1 fits))) (inr (inl (none_is (section_at w k) can, refl))) key

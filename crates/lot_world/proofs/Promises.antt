@@ -39,7 +39,6 @@ use Rattle.lot_world.proofs.TurnsKept.{after_steady}
 use Rattle.lot_world.proofs.SitesPromise.{looked_after, parked, rules_waited}
 use Rattle.lot_world.proofs.Glue.{same, nothing_at, own_stance, station_elsewhere, taken_elsewhere}
 use Rattle.lot_world.proofs.AtPlaces.{not_first_aside, stands_by, owns}
-use Rattle.lot_world.proofs.Possible.{OnMain, on_main}
 use Rattle.abstract_locks.specs.Codes.{parked_in}
 use Rattle.lot_machine.proofs.Opening.{idle_at, none_at, empty_at, nobody_owns, opening_shares}
 use Rattle.std.proofs.lemmas.Bool.{cases_eq, eqb-true}
@@ -234,9 +233,33 @@ never_within_second : (p : Place) (l : ℕ) → (station_at p l).inside ≡ Some
 never_within_second Idle l h = cc
 never_within_second (Mutex own at) l h = never_inside_second at (part_here (λ x. x.inside) Second own l at refl h).1
 
-never_enters_second : (w : State) → IsSteady w → (t : ℕ) (p : Place) → place_at w t ≡ p → (l : ℕ) → act_of p ≡ act.TheVariants.Enter (One (2 * l + 1)) → ⊥
-never_enters_second w steady t Idle is l h = cc
-never_enters_second w steady t (Mutex own at) is l h = let main : 2 * l + 1 ≡ 2 * own = subst (λ a. OnMain w t own a) h (on_main w t steady own at is) in omega arith
+decides_main : (l s key : ℕ) (a b : Bool) → (if not a then act.TheVariants.Word l (op.TheVariants.Exchange s (s + 1)) else if b then act.TheVariants.Word l (op.TheVariants.Exchange 1 3) else act.TheVariants.Enter (One (2 * l))) ≡ act.TheVariants.Enter (One key) → key ≡ 2 * l
+decides_main l s key false b h = absurd cc
+decides_main l s key true true h = absurd cc
+decides_main l s key true false h = cc
+
+stores_main : (l key : ℕ) (any none_left : Bool) → hand_off_act l (hand_off.Store any none_left) ≡ act.TheVariants.Enter (One key) → key ≡ 2 * l
+stores_main l key true none_left h = absurd cc
+stores_main l key false none_left h = absurd cc
+
+enters_main : (l key : ℕ) (at : MutexPlace) → mutex_act l at ≡ act.TheVariants.Enter (One key) → key ≡ 2 * l
+enters_main l key (Lock entry retries (Decide seen)) h = decides_main l seen key (is_locked seen) (seen == 1) h
+enters_main l key (Lock entry retries First) h = absurd cc
+enters_main l key (Lock entry retries at) h = absurd cc
+enters_main l key (Unlock unlock.Enter) h = cc
+enters_main l key (Unlock unlock.Take) h = absurd cc
+enters_main l key (Unlock at) h = absurd cc
+enters_main l key (HandOff bumps hand_off.Enter) h = cc
+enters_main l key (HandOff bumps hand_off.Take) h = absurd cc
+enters_main l key (HandOff bumps (hand_off.Store any none_left)) h = stores_main l key any none_left h
+enters_main l key (HandOff bumps (hand_off.Leave any)) h = absurd cc
+enters_main l key TryLock h = absurd cc
+enters_main l key UnlockFair h = absurd cc
+enters_main l key Bump h = absurd cc
+
+never_enters_second : (p : Place) (l : ℕ) → act_of p ≡ act.TheVariants.Enter (One (2 * l + 1)) → ⊥
+never_enters_second Idle l h = cc
+never_enters_second (Mutex own at) l h = let main : 2 * l + 1 ≡ 2 * own = enters_main own (2 * l + 1) at h in omega arith
 
 module _ (w : State) (steady : IsSteady w) where
   -- what a thread owns of each lock
@@ -296,7 +319,7 @@ module _ (w : State) (steady : IsSteady w) where
     (λ h. absurd h),
     λ h. elim h [
       | inl i ↦ never_within_second (place_at w t) l ((steady.stands.sections t l Second).1 i)
-      | inr g ↦ never_enters_second w steady t (place_at w t) refl l g.0
+      | inr g ↦ never_enters_second (place_at w t) l g.0
     ],
   )
 
