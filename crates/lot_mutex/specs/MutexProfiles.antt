@@ -13,11 +13,11 @@ use Rattle.lot_mutex.specs.declared.unlock.UnlockAt.TheVariants as unlock
 use Rattle.lot_mutex.specs.declared.hand_off.HandOffAt.{HandOffAt}
 use Rattle.lot_mutex.specs.declared.hand_off.HandOffAt.TheVariants as hand_off
 use Rattle.lot_mutex.specs.MutexSteps.{is_timed}
-use Rattle.lot_acts.specs.Profiles.{Hand, hand, hand_owner, in_hand, Profile, blank}
+use Rattle.lot_acts.specs.Profiles.{hand, hand_owner, in_hand, Profile, blank}
 use Rattle.abstract_locks.specs.Locks.{Rights}
 use Rattle.abstract_locks.specs.Runs.{one_more_at, one_less_at}
-use Rattle.abstract_locks.specs.Purposes.{Purpose, Enters, Releases, Bumps, Patient, Timed, Try}
-use Rattle.abstract_locks.specs.Sites.{Doing, Has, Line, Main, idle, found}
+use Rattle.abstract_locks.specs.Purposes.{Purpose, Enters, Releases, Bumps, Patient, Timed}
+use Rattle.abstract_locks.specs.Sites.{Doing, Has, Main, idle, found}
 
 -- ---------------------------------------------------------------- what a thread does about the lock
 

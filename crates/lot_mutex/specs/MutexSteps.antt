@@ -1,5 +1,5 @@
 -- The steps of a mutex: what a thread does at each place, and where each reply leads it.
-use Rattle.std.specs.Prelude.{ℕ, Bool, true, false, Option, Some, None, if◌then◌else◌, ◌==◌, not, ◌&&◌, ◌+◌, ◌*◌, ◌/◌, ◌%◌}
+use Rattle.std.specs.Prelude.{ℕ, Bool, true, false, Some, None, if◌then◌else◌, ◌==◌, not, ◌&&◌, ◌+◌, ◌*◌, ◌/◌, ◌%◌}
 use Rattle.lot_base.specs.declared.keys.Keys.TheVariants.{One}
 use Rattle.lot_base.specs.declared.notes.Note as note
 use Rattle.lot_base.specs.declared.wants.Want.TheVariants.{Exclusive}

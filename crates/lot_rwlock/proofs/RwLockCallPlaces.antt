@@ -3,7 +3,7 @@ use Rattle.std.proofs.Common.{ℕ, Bool, true, false, Some, None, if◌then◌el
 use Rattle.lot_base.specs.declared.keys.Line.{Line}
 use Rattle.lot_base.specs.declared.keys.Line.TheVariants.{Main, Second}
 use Rattle.lot_base.specs.declared.notes.Note.TheVariants as note
-use Rattle.lot_base.specs.declared.wants.Want.TheVariants.{Exclusive, Shared, Upgradable}
+use Rattle.lot_base.specs.declared.wants.Want.TheVariants.{Exclusive}
 use Rattle.lot_calls.specs.declared.calls.Access.{Access}
 use Rattle.lot_calls.specs.declared.calls.Downgrade.{Downgrade}
 use Rattle.lot_calls.specs.declared.calls.Access.TheVariants as access
@@ -26,7 +26,7 @@ use Rattle.lot_rwlock.specs.declared.park.ParkAt.{ParkAt}
 use Rattle.lot_rwlock.specs.declared.park.ParkAt.TheVariants as parking
 use Rattle.lot_rwlock.specs.declared.release.WakeAt.{WakeAt}
 use Rattle.lot_rwlock.specs.declared.release.WakeAt.TheVariants as waking
-use Rattle.lot_rwlock.specs.RwLockSteps.{entered, goes, counted, wanted, patience_of, waits, decision_blocked, decision, decided, is_counted, plus, stays, missed, looked_by, looked, came_in, exchanged_next, wakes, wakes_or_ends, park_next, wake_next, rwlock_next}
+use Rattle.lot_rwlock.specs.RwLockSteps.{entered, goes, counted, wanted, patience_of, decision_blocked, decision, decided, is_counted, plus, stays, missed, looked_by, looked, came_in, exchanged_next, wakes, wakes_or_ends, park_next, wake_next, rwlock_next}
 use Rattle.lot_rwlock.specs.RwLockCalls.{MayWait, HasDeadline, ParksBy, EntersAt, SharesAt, WritesAt, ReleasesAt, DowngradesAt, UpgradesAt, StandsAt, MayStandNext, MayBeTold, RwLockCallsStand, CallBecomes, RwLockSleepersHear}
 use Rattle.lot_acts.specs.Calls.{call_by}
 use Rattle.lot_acts.specs.Profiles.{hand}

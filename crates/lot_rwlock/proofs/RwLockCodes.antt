@@ -1,5 +1,5 @@
 -- Each step on the word of a reader-writer lock leads to the word of the lock behind it.
-use Rattle.std.proofs.Common.{ℕ, Bool, true, false, Option, Some, None, List, [], ◌∷◌, if◌then◌else◌, ◌==◌, ◌&&◌, ◌||◌, ◌≡◌, ◌⊎◌, ◌+◌, ◌*◌, ◌-◌, ◌/◌, ◌%◌, ◌^◌, ◌≤◌, ◌<◌, not, inl, inr, subst, refl, ap, ◌∙◌, sym, length, arith, bit_and, nat_le}
+use Rattle.std.proofs.Common.{ℕ, Bool, true, false, Some, None, List, [], ◌∷◌, if◌then◌else◌, ◌==◌, ◌&&◌, ◌||◌, ◌≡◌, ◌+◌, ◌*◌, ◌-◌, ◌%◌, ◌^◌, ◌≤◌, ◌<◌, not, refl, ap, ◌∙◌, sym, length, arith, nat_le}
 use Rattle.std.proofs.lemmas.Bool.{eqb-true}
 use Rattle.std.proofs.lemmas.Bool.Decides.{nat_tests}
 use Rattle.lot_base.specs.Words.{apply}
@@ -16,7 +16,6 @@ use Rattle.lot_calls.specs.declared.calls.Downgrade.{Downgrade}
 use Rattle.lot_calls.specs.declared.calls.Downgrade.TheVariants as downgrade
 use Rattle.lot_calls.specs.declared.calls.Patience.{Patience}
 use Rattle.lot_calls.specs.declared.calls.Patience.TheVariants.{Patient, Timed, Try}
-use Rattle.lot_calls.specs.declared.outcomes.Answer.{Answer}
 use Rattle.lot_calls.specs.declared.outcomes.Answer.TheVariants.{No, ReadersFull}
 use Rattle.abstract_locks.specs.Locks.{Rules, LockCase, Enter, Pend, Settle, Leave, Convert, Rollback, Owns}
 use Rattle.abstract_locks.specs.Sites.{Has, Pends, Site, IsSite, Deed, End, Mark, Clear, Case, Needed, after_deed, has_readers}
@@ -35,8 +34,8 @@ use Rattle.lot_rwlock.specs.declared.enter.Decision.{Decision}
 use Rattle.lot_rwlock.specs.declared.enter.Decision.TheVariants as decisions
 use Rattle.lot_rwlock.specs.declared.park.ParkAt.TheVariants as parking
 use Rattle.lot_rwlock.specs.declared.release.WakeAt.TheVariants as waking
-use Rattle.lot_rwlock.specs.RwLockSteps.{wanted, from_of, to_of, give_op, token, patience_of, is_counted, waits, decision_blocked, decision, decided, decided_act, count_act, rwlock_act, plus, unparked}
-use Rattle.lot_rwlock.specs.RwLockDeeds.{at_rest, enters_deeds, rwlock_doing, missed_deeds, looked_deeds, came_in_deeds, exchanged_deeds, counted_deeds, does_and_wakes, sees_waiter, rwlock_deeds, AllNeeded, after_all, Admits, AtFits, AtTry, AtPending, AtUpgrade, IsAt, RwLockStepsCode}
+use Rattle.lot_rwlock.specs.RwLockSteps.{wanted, from_of, to_of, give_op, token, is_counted, waits, decision_blocked, decision, decided_act, rwlock_act, plus, unparked}
+use Rattle.lot_rwlock.specs.RwLockDeeds.{at_rest, enters_deeds, rwlock_doing, missed_deeds, looked_deeds, exchanged_deeds, counted_deeds, does_and_wakes, sees_waiter, rwlock_deeds, AllNeeded, after_all, Admits, AtFits, AtTry, AtPending, AtUpgrade, RwLockStepsCode}
 use Rattle.lot_rwlock.proofs.RwLockFit.{rwlock_steps_follow}
 
 subtracts : (v by c : ℕ) → v < 2 ^ 64 → by ≤ v → c + by ≡ v → (v + (2 ^ 64 - by)) % 2 ^ 64 ≡ c

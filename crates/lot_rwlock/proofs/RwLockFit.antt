@@ -1,5 +1,5 @@
 -- Each step on the word of a reader-writer lock does to the lock what its deeds say.
-use Rattle.std.proofs.Common.{ℕ, Bool, true, false, Option, Some, None, List, [], ◌∷◌, if◌then◌else◌, ◌==◌, ◌&&◌, ◌≡◌, ◌≢◌, ◌⊎◌, not, ◌+◌, ◌≤◌, inl, inr, subst, refl, ap, ◌∙◌, sym, arith, nat_le}
+use Rattle.std.proofs.Common.{ℕ, Bool, true, false, Option, Some, None, [], ◌∷◌, if◌then◌else◌, ◌==◌, ◌&&◌, ◌≡◌, ◌≢◌, ◌⊎◌, not, ◌≤◌, inl, inr, subst, refl, ap, ◌∙◌, sym, arith, nat_le}
 use Rattle.std.proofs.lemmas.Bool.Decides.{nat_tests}
 use Rattle.std.proofs.lemmas.Bool.{eqb-true}
 use Rattle.lot_base.specs.declared.keys.Line.{Line}
@@ -14,13 +14,12 @@ use Rattle.lot_calls.specs.declared.calls.Downgrade.TheVariants as downgrade
 use Rattle.lot_calls.specs.declared.calls.Patience.{Patience}
 use Rattle.lot_calls.specs.declared.calls.Patience.TheVariants.{Patient, Timed, Try}
 use Rattle.lot_calls.specs.declared.outcomes.Answer.{Answer}
-use Rattle.lot_calls.specs.declared.outcomes.Answer.TheVariants.{Ok, No, ReadersFull}
+use Rattle.lot_calls.specs.declared.outcomes.Answer.TheVariants.{No, ReadersFull}
 use Rattle.lot_acts.specs.declared.acts.Next.TheVariants as next
-use Rattle.abstract_locks.specs.Locks.{Rules, Enter, Pend, Settle, Leave, Convert, Rollback, Knows, MayEnter, HasRoom, Owns, is_recursive, readers, converted, without_owner, standing, putting, count}
-use Rattle.abstract_locks.specs.Sites.{Claim, Has, Pends, Doing, idle, Site, IsSite, Deed, End, Mark, Clear, Case, has_readers, upgraded}
+use Rattle.abstract_locks.specs.Locks.{Rules, Enter, Pend, Settle, Leave, Convert, Rollback, Knows, MayEnter, HasRoom, Owns, readers, standing, putting, count}
+use Rattle.abstract_locks.specs.Sites.{Claim, Has, Pends, Doing, idle, Site, IsSite, End, Mark, Clear, Case, has_readers}
 use Rattle.abstract_locks.specs.Codes.{code, TellsTrue, count_in, has_parked, has_aside, is_blocked}
 use Rattle.abstract_locks.proofs.CodeLaws.{words_tell_true}
-use Rattle.lot_acts.specs.declared.acts.Act.{Act}
 use Rattle.lot_acts.specs.declared.acts.Act.TheVariants as act
 use Rattle.lot_acts.specs.declared.acts.Reply.TheVariants as reply
 use Rattle.lot_rwlock.specs.declared.places.Admission.{Admission}
@@ -33,8 +32,8 @@ use Rattle.lot_rwlock.specs.declared.enter.Decision.{Decision}
 use Rattle.lot_rwlock.specs.declared.enter.Decision.TheVariants as decisions
 use Rattle.lot_rwlock.specs.declared.park.ParkAt.TheVariants as parking
 use Rattle.lot_rwlock.specs.declared.release.WakeAt.TheVariants as waking
-use Rattle.lot_rwlock.specs.RwLockSteps.{wanted, from_of, to_of, decided_for, released, gave_way_by, wakes_or_ends, access_of, patience_of, want_at, patience_at, is_counted, waits, decision_blocked, decision, decided, decided_act, count_act, act_at, rwlock_act, missed, first_next, looked_by, looked, came_in_for, came_in, exchanged_next, counted, rolled_back, stays, goes as goes_to, plus, wakes, entered, next_at, rwlock_next}
-use Rattle.lot_rwlock.specs.RwLockDeeds.{at_rest, finding, pends, kept_claim, enters_deeds, gives_deeds, again_of, rwlock_doing, doing_next, missed_deeds, looked_deeds, came_in_deeds, exchanged_deeds, counted_deeds, does_and_wakes, sees_waiter, deeds_at, rwlock_deeds, AllNeeded, after_all, Admits, IsFreshTry, AtFits, AtTry, AtPending, AtUpgrade, IsAt, Follows, RwLockStepsFollow}
+use Rattle.lot_rwlock.specs.RwLockSteps.{wanted, from_of, to_of, wakes_or_ends, patience_of, is_counted, waits, decision_blocked, decision, decided, decided_act, rwlock_act, missed, looked_by, looked, came_in_for, came_in, exchanged_next, counted, stays, goes as goes_to, plus, wakes, entered, rwlock_next}
+use Rattle.lot_rwlock.specs.RwLockDeeds.{at_rest, kept_claim, enters_deeds, rwlock_doing, doing_next, missed_deeds, looked_deeds, exchanged_deeds, counted_deeds, does_and_wakes, rwlock_deeds, Admits, IsFreshTry, AtFits, AtTry, AtPending, AtUpgrade, Follows, RwLockStepsFollow}
 
 pub put_same : {A : Type 0} (f : ℕ → A) (t : ℕ) (x : A) → putting f t x t ≡ x
 put_same f t x = grind (arith, nat_tests)

@@ -1,7 +1,6 @@
 -- Each step on the word of a reader-writer lock changes its owners as its deeds say.
-use Rattle.std.proofs.Common.{ℕ, Bool, true, false, Option, Some, None, List, [], ◌∷◌, if◌then◌else◌, ◌==◌, ◌&&◌, not, ◌≡◌, refl, ap, ◌∙◌, sym, arith}
+use Rattle.std.proofs.Common.{ℕ, Bool, true, false, Some, None, List, [], ◌∷◌, if◌then◌else◌, ◌==◌, not, ◌≡◌, refl, ap, ◌∙◌, arith}
 use Rattle.lot_base.specs.declared.ops.Op.{Op}
-use Rattle.lot_base.specs.declared.wants.Want.{Want}
 use Rattle.lot_base.specs.declared.wants.Want.TheVariants.{Exclusive, Upgradable, Shared}
 use Rattle.lot_calls.specs.declared.calls.Access.{Access}
 use Rattle.lot_calls.specs.declared.calls.Access.TheVariants as access
@@ -15,14 +14,12 @@ use Rattle.lot_calls.specs.declared.calls.Patience.{Patience}
 use Rattle.lot_calls.specs.declared.calls.Patience.TheVariants.{Patient, Timed, Try}
 use Rattle.abstract_locks.specs.Locks.{LockState, Rules, Pending, Settle, Leave, Convert, Rollback, Owns, readers, falling_back}
 use Rattle.abstract_locks.specs.Locks as locks
-use Rattle.abstract_locks.specs.Sites.{Has, Pends, Site, IsSite, Deed, End, Mark, Case, after_deed}
+use Rattle.abstract_locks.specs.Sites.{Has, Pends, Site, IsSite, Deed, End, Mark, Case}
 use Rattle.abstract_locks.specs.Codes.{code, TellsTrue, count_in, has_parked}
-use Rattle.lot_base.specs.declared.keys.Line.{Line}
 use Rattle.lot_base.specs.declared.keys.Line.TheVariants.{Main, Second}
 use Rattle.lot_acts.specs.declared.acts.Act.TheVariants as act
 use Rattle.lot_acts.specs.declared.acts.Reply.TheVariants as reply
 use Rattle.lot_rwlock.specs.declared.places.Admission.{Admission}
-use Rattle.lot_rwlock.specs.declared.changes.Change.{Change}
 use Rattle.lot_rwlock.specs.declared.changes.Change.TheVariants as changes
 use Rattle.lot_rwlock.specs.declared.places.RwLockPlace.{RwLockPlace}
 use Rattle.lot_rwlock.specs.declared.purposes.RwLockPurpose.{RwLockPurpose}
@@ -33,8 +30,8 @@ use Rattle.lot_rwlock.specs.declared.enter.Decision.{Decision}
 use Rattle.lot_rwlock.specs.declared.enter.Decision.TheVariants as decisions
 use Rattle.lot_rwlock.specs.declared.park.ParkAt.TheVariants as parking
 use Rattle.lot_rwlock.specs.declared.release.WakeAt.TheVariants as waking
-use Rattle.lot_rwlock.specs.RwLockSteps.{wanted, from_of, to_of, decision, decided_act, rwlock_act, enters_by, came_change, settles, change}
-use Rattle.lot_rwlock.specs.RwLockDeeds.{Admits, AtTry, AtPending, AtUpgrade, rwlock_doing, missed_deeds, looked_deeds, enters_deeds, exchanged_deeds, counted_deeds, does_and_wakes, sees_waiter, rwlock_deeds, after_all, AtFits, IsAt, lock_by, RwLockOwnersFollow}
+use Rattle.lot_rwlock.specs.RwLockSteps.{wanted, from_of, to_of, decision, decided_act, rwlock_act, enters_by, came_change, change}
+use Rattle.lot_rwlock.specs.RwLockDeeds.{Admits, AtTry, AtPending, AtUpgrade, rwlock_doing, missed_deeds, looked_deeds, enters_deeds, exchanged_deeds, does_and_wakes, sees_waiter, rwlock_deeds, after_all, AtFits, lock_by, RwLockOwnersFollow}
 
 module _ (r : Rules) (a : Admission) (s : Site) (t l : ℕ) (f : Op) (h : IsSite r s) where
   abbrev v : ℕ

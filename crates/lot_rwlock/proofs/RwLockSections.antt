@@ -1,5 +1,5 @@
 -- Each step of a reader-writer call into, in and out of a section does to the lock what its deeds say.
-use Rattle.std.proofs.Common.{ℕ, Bool, true, false, Option, Some, None, List, [], ◌∷◌, if◌then◌else◌, ◌==◌, ◌&&◌, ◌≡◌, ◌≢◌, ◌≤◌, not, refl, ap, ◌∙◌, sym, subst, arith}
+use Rattle.std.proofs.Common.{ℕ, Bool, true, false, Option, Some, None, [], ◌∷◌, if◌then◌else◌, ◌==◌, ◌&&◌, ◌≡◌, ◌≢◌, ◌≤◌, not, refl, ap, ◌∙◌, sym, arith}
 use Rattle.std.proofs.lemmas.Bool.Decides.{nat_tests}
 use Rattle.lot_base.specs.declared.keys.Line.{Line}
 use Rattle.lot_base.specs.declared.keys.Line.TheVariants.{Main, Second}
@@ -11,8 +11,8 @@ use Rattle.lot_calls.specs.declared.calls.Downgrade.{Downgrade}
 use Rattle.lot_calls.specs.declared.calls.Downgrade.TheVariants as downgrade
 use Rattle.lot_calls.specs.declared.calls.Patience.{Patience}
 use Rattle.lot_calls.specs.declared.calls.Patience.TheVariants.{Patient, Timed, Try}
-use Rattle.abstract_locks.specs.Locks.{Rules, Taken, Park, Aside, TakeAside, TakePicked, Late, Knows, HasTakenNobody, is_recursive, standing, times, unpicked, without, putting}
-use Rattle.abstract_locks.specs.Sites.{Claim, Has, Pends, KeepsOwned, Doing, idle, is_main, is_empty, Site, IsSite, Deed, End, In, Out, FindNobody, Case, after_deed, has_readers, leaves, wakened, counts_some}
+use Rattle.abstract_locks.specs.Locks.{Rules, Taken, Park, Aside, TakePicked, Late, Knows, HasTakenNobody, is_recursive, standing, times, unpicked, without, putting}
+use Rattle.abstract_locks.specs.Sites.{Has, Pends, KeepsOwned, Doing, idle, is_empty, Site, IsSite, End, In, Out, Case, after_deed, has_readers, leaves, wakened, counts_some}
 use Rattle.abstract_locks.specs.Codes.{code, TellsTrue, has_parked, has_aside, count_in, is_blocked}
 use Rattle.abstract_locks.proofs.CodeLaws.{words_tell_true}
 use Rattle.lot_base.specs.declared.ops.Op.TheVariants.{Load}
@@ -30,8 +30,8 @@ use Rattle.lot_rwlock.specs.declared.park.ParkAt.{ParkAt}
 use Rattle.lot_rwlock.specs.declared.park.ParkAt.TheVariants as parking
 use Rattle.lot_rwlock.specs.declared.release.WakeAt.{WakeAt}
 use Rattle.lot_rwlock.specs.declared.release.WakeAt.TheVariants as waking
-use Rattle.lot_rwlock.specs.RwLockSteps.{wanted, to_of, access_of, start_of, patience_of, want_at, decision, clears, parks_at, park_next, wake_next, rwlock_next, took, any_picked}
-use Rattle.lot_rwlock.specs.RwLockDeeds.{MayKeep, kept_claim, again_of, leaves_with, AtTry, AtPending, AtUpgrade, at_rest, within, finding, pends, parking_doing, waking_doing, rwlock_doing, doing_next, IsAt, IsFreshTry, AtFits, Admits, IsFree, StandsAlone, MayTake, MayHear, MayHearParking, MayHearWaking, takes, park_deeds, wake_deeds, Follows, FollowsBy, RwLockSectionsFollow}
+use Rattle.lot_rwlock.specs.RwLockSteps.{wanted, to_of, access_of, start_of, patience_of, decision, park_next, wake_next, took, any_picked}
+use Rattle.lot_rwlock.specs.RwLockDeeds.{MayKeep, kept_claim, again_of, leaves_with, AtTry, AtPending, AtUpgrade, within, finding, pends, parking_doing, waking_doing, rwlock_doing, doing_next, IsFreshTry, AtFits, Admits, IsFree, MayHear, MayHearParking, MayHearWaking, takes, park_deeds, wake_deeds, Follows, FollowsBy, RwLockSectionsFollow}
 use Rattle.lot_rwlock.proofs.RwLockFit.{put_same, knows_all, retrying, looks, counts, upgrade_counts}
 
 module _ (r : Rules) (s : Site) (t : ℕ) (rw_sort : has_readers r.sort ≡ true) (h : IsSite r s) (tells : TellsTrue r s) where

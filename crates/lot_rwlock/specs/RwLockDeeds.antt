@@ -6,11 +6,9 @@ use Rattle.lot_base.specs.declared.ops.Op.{Op}
 use Rattle.lot_base.specs.declared.wants.Want.{Want}
 use Rattle.lot_base.specs.declared.wants.Want.TheVariants.{Exclusive, Upgradable, Shared}
 use Rattle.lot_base.specs.Words.{apply}
-use Rattle.lot_calls.specs.declared.calls.Access.{Access}
 use Rattle.lot_calls.specs.declared.calls.Access.TheVariants as access
 use Rattle.lot_calls.specs.declared.calls.Patience.{Patience}
-use Rattle.lot_calls.specs.declared.calls.Patience.TheVariants.{Patient, Timed, Try}
-use Rattle.lot_acts.specs.declared.acts.Act.{Act}
+use Rattle.lot_calls.specs.declared.calls.Patience.TheVariants.{Try}
 use Rattle.lot_acts.specs.declared.acts.Act.TheVariants as act
 use Rattle.lot_acts.specs.declared.acts.Next.{Next}
 use Rattle.lot_acts.specs.declared.acts.Next.TheVariants as next
@@ -33,7 +31,7 @@ use Rattle.lot_rwlock.specs.declared.release.WakeAt.TheVariants as waking
 use Rattle.lot_rwlock.specs.RwLockSteps.{wanted, from_of, to_of, access_of, start_of, want_at, patience_at, decided, park_check, rwlock_act, rwlock_next, change}
 use Rattle.lot_acts.specs.Acts.{holds}
 use Rattle.abstract_locks.specs.Locks.{LockState, Rules, with_owner, without_owner, pending_for, Enter, Pend, Settle, Leave, Convert, Park, Aside, TakeAside, TakePicked, Late, Rollback, is_recursive, keeps_more, standing, times, without, unpicked}
-use Rattle.abstract_locks.specs.Sites.{Claim, Has, Pends, Doing, idle, is_main, is_empty, Site, IsSite, Needed, after_deed, has_readers, Deed, End, In, Out, Mark, Clear, FindNobody, Case}
+use Rattle.abstract_locks.specs.Sites.{Claim, Has, Pends, Doing, idle, is_main, is_empty, Site, IsSite, has_readers, Deed, End, In, Out, Mark, Clear, FindNobody, Case}
 pub use Rattle.abstract_locks.specs.Deeds.{after_all, AllNeeded}
 use Rattle.abstract_locks.specs.Codes.{code, HasLimit, count_in, has_aside, has_parked}
 

@@ -15,7 +15,7 @@ use Rattle.lot_calls.specs.declared.calls.Access as access
 use Rattle.lot_calls.specs.declared.calls.Downgrade.{Downgrade}
 use Rattle.lot_calls.specs.declared.calls.Downgrade.TheVariants as downgrade
 use Rattle.lot_calls.specs.declared.calls.Patience.{Patience}
-use Rattle.lot_calls.specs.declared.calls.Patience.TheVariants.{Patient, Timed, Try}
+use Rattle.lot_calls.specs.declared.calls.Patience.TheVariants.{Patient, Try}
 use Rattle.lot_calls.specs.declared.outcomes.Answer.{Answer}
 use Rattle.lot_calls.specs.declared.outcomes.Answer as answer
 use Rattle.abstract_locks.specs.Codes.{count_in, has_aside, has_parked, is_blocked}

@@ -16,7 +16,7 @@ use Rattle.value_place.specs.declared.slot.PermitSlot.{PermitSlot}
 use Rattle.lot_base.specs.Words.{apply}
 use Rattle.lot_base.specs.declared.ops.Op.{Op}
 use Rattle.lot_base.specs.declared.ops.Op.TheVariants.{Load, Or, Exchange}
-use Rattle.lot_words.specs.Steps.{has, without, HasAll, trade, trading, CountAgrees, MayTie, MayStep, owns_after_step, listed, after_step}
+use Rattle.lot_words.specs.Steps.{has, HasAll, trade, trading, CountAgrees, MayTie, MayStep, owns_after_step, listed, after_step}
 use Rattle.lot_words.specs.Plays.{TakesStepOf, TakesStep, saw_set, looks, draws, numbered, left_over, piece, takes_in}
 use Rattle.lot_words.specs.declared.owners.Ownership.{Ownership}
 use Rattle.lot_words.specs.declared.views.WordStep.{WordStep}
@@ -27,7 +27,7 @@ use Rattle.lot_words.specs.declared.views.View.{View}
 use Rattle.lot_words.specs.declared.views.Drawn.{Drawn}
 use Rattle.lot_words.specs.declared.words.WordKind.{WordKind}
 use Rattle.lot_words.specs.declared.words.WordKind.TheVariants.{Mutex, RwLock, Condvar, Once, Count}
-use Rattle.lot_words.proofs.Counts.{counted-where, no_counts}
+use Rattle.lot_words.proofs.Counts.{counted-where}
 use Rattle.lot_words.proofs.Totals.{total-append, total-set, term_le, total_below-suc, cond_same, cond_other}
 use Rattle.lot_words.proofs.Indices.{rank_lt, word_kind_at-index, index-number, index-kind}
 

@@ -1,5 +1,5 @@
 -- Permits go out of their slots, and back.
-use Rattle.std.proofs.Common.{◌≡◌, ℕ, zero, suc, ◌+◌, ◌<◌, ◌≤◌, ◌≢◌, ⊎_elim, inl, inr, eqb, cond, List, [], ◌∷◌, ◌++◌, length, get_or, set, map, sym, refl, ap, ◌∙◌, subst, arith, length-set}
+use Rattle.std.proofs.Common.{◌≡◌, ℕ, zero, suc, ◌+◌, ◌<◌, ◌≤◌, ◌≢◌, ⊎_elim, inl, inr, List, [], ◌∷◌, ◌++◌, length, get_or, set, map, sym, refl, ap, ◌∙◌, subst, arith, length-set}
 use mathlib.Core.Logic.{dite}
 use mathlib.Core.Option.{Option, some, none, some-injective, some-ne-none}
 use Rattle.std.proofs.lemmas.List.{set-get_or}
@@ -8,7 +8,7 @@ use lib.ListN.{get_elem?, replicate, length-replicate, get_or-replicate}
 use Rattle.atomic_table.specs.Table.{State, Me, step, takes, gives, rest, put_back, Allows, opening}
 use Rattle.atomic_table.proofs.Lists.{at_set}
 use Rattle.lot_words.specs.Indices.{word_index, counter, mutex_of_count, table_size}
-use Rattle.lot_words.specs.Views.{view, blank, total, total_below, owned, owning, named, counted, steps_at, drew}
+use Rattle.lot_words.specs.Views.{blank, total, total_below, owned, owning, named, counted, steps_at, drew}
 use Rattle.lot_words.specs.Codes.{Codes, Shows, IsMutexCode, everyone, exclusive, opened}
 use Rattle.lot_words.specs.Permits.{slot_at, laid}
 use Rattle.lot_words.specs.Plays.{piece, opens, closes}

@@ -1,5 +1,5 @@
 -- The kinds of step on words that are tied to the word of a mutex.
-use Rattle.std.proofs.Common.{◌≡◌, ◌≢◌, ◌⊎◌, inl, inr, ℕ, ◌+◌, ◌-◌, ◌^◌, ◌%◌, ◌<◌, List, true, cond, sym, refl, ap, subst, arith, eq-eqb, ne_eqb}
+use Rattle.std.proofs.Common.{◌≡◌, inl, inr, ℕ, ◌+◌, ◌^◌, ◌<◌, List, true, cond, sym, refl, ap, subst, arith, eq-eqb, ne_eqb}
 use mathlib.Core.Logic.{dite}
 use native.Mathlib.Decide.{ℕ_discrete}
 use Rattle.lot_base.specs.Words.{apply}
@@ -7,7 +7,7 @@ use Rattle.lot_base.specs.declared.ops.Op.{Op}
 use Rattle.lot_base.specs.declared.ops.Op.TheVariants.{Load, Store, Add, Sub, Exchange}
 use Rattle.lot_words.specs.Indices.{word_index, mutex_of_count}
 use Rattle.lot_words.specs.Views.{owning_with}
-use Rattle.lot_words.specs.Codes.{IsCountCode, Shows}
+use Rattle.lot_words.specs.Codes.{IsCountCode}
 use Rattle.lot_words.specs.Steps.{has, MayTie, MayStep}
 use Rattle.lot_words.specs.Laws.{CondvarMaySteps, CountMaySteps}
 use Rattle.lot_words.specs.declared.owners.Ownership.{Ownership}

@@ -1,4 +1,4 @@
-use Rattle.std.proofs.Common.{◌≡◌, ℕ, List, ◌∷◌, [], ◌∙◌, ap, sym}
+use Rattle.std.proofs.Common.{◌≡◌, ℕ, ◌∷◌, [], ◌∙◌, ap, sym}
 use Rattle.atomic_table.specs.Table.{Me, rest}
 use Rattle.value_place.specs.PermitIds.{PermitId}
 use Rattle.value_place.specs.declared.slot.PermitSlot.{PermitSlot}

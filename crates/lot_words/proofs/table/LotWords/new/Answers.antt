@@ -1,4 +1,4 @@
-use Rattle.std.proofs.Common.{◌≡◌, ℕ, ◌+◌, ◌*◌, List, [], length, sym, ap, ◌∙◌, subst, arith}
+use Rattle.std.proofs.Common.{◌≡◌, ℕ, ◌+◌, ◌*◌, List, length, sym, ap, ◌∙◌, subst, arith}
 use lib.ListN.{replicate}
 use Rattle.atomic_table.specs.Table.{opening}
 use Rattle.value_place.specs.declared.slot.PermitSlot.{PermitSlot}

@@ -1,4 +1,4 @@
-use Rattle.std.proofs.Common.{◌≡◌, ◌≤◌, ◌<◌, ◌∙◌, List, ℕ, [], drop, length, filter, rules, arith, sym, ap, refl, subst}
+use Rattle.std.proofs.Common.{◌≡◌, ◌≤◌, ◌<◌, ◌∙◌, List, ℕ, [], length, rules, arith, sym, ap, refl, subst}
 use Rattle.parking_lot_core.specs.Sections.{taken_in, wants_in, rightless_in}
 use Rattle.parking_lot_core.specs.Tokens.{view_of}
 use Rattle.parking_lot_core.proofs.Giving.{less, none_left, less_given, has_next, has_rest, same_rest, all_split}
