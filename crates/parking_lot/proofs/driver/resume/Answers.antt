@@ -1,8 +1,8 @@
-use Rattle.std.proofs.Common.{◌≡◌, ◌∙◌, None, List, sym, ap, subst}
+use Rattle.std.proofs.Common.{◌∙◌, None, List, sym, ap, subst}
 use Rattle.lot_base.specs.Clocks.{IsUp}
 use Rattle.lot_steps.specs.declared.places.Place.{Place}
 use Rattle.lot_words.specs.declared.owners.Ownership.{Ownership}
-use Rattle.parking_lot.specs.Fitting.{Aim, AreWordsFor, Fits, IsStopped, aim_of}
+use Rattle.parking_lot.specs.Fitting.{Aim, Fits, IsStopped, aim_of}
 use Rattle.parking_lot.specs.Stages.{stage_of}
 use Rattle.parking_lot.specs.Words.{kind_in, at_in}
 use Rattle.parking_lot.proofs.Leading.{goes_behind}
