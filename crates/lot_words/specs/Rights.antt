@@ -40,7 +40,7 @@ MayHand _ want owner = owner ≡ owner_for want
 -- how who is handed a lock owns it, whose word is left at this value: a mutex alone, and a reader-writer lock by what it wants,
 -- where a writer waits for the readers that are left
 abbrev pub owner_given : WordKind → ℕ → wants.Want → Owner
-owner_given Mutex left want = Exclusive
+owner_given Mutex left _ = Exclusive
 owner_given RwLock left wants.TheVariants.Shared = Shared
 owner_given RwLock left wants.TheVariants.Upgradable = Upgradable
 owner_given RwLock left _ = cond (left / 16 == 0) Exclusive Pending
