@@ -1,10 +1,10 @@
 -- The steps of every call.
-use Rattle.std.specs.Prelude.{ℕ, Bool, true, false, Option, Some, None, if◌then◌else◌, ◌==◌, ◌&&◌, ◌*◌, ◌^◌, ◌<◌}
+use Rattle.std.specs.Prelude.{ℕ, Bool, true, false, Option, Some, None, if◌then◌else◌, ◌==◌, ◌&&◌, not, is_none, ◌*◌, ◌^◌, ◌<◌}
 use Rattle.lot_calls.specs.declared.kinds.Kind.{Kind}
 use Rattle.lot_calls.specs.declared.calls.Call.{Call}
 use Rattle.lot_calls.specs.declared.calls.Call as call
 use Rattle.lot_steps.specs.declared.places.Place.{Place}
-use Rattle.lot_steps.specs.declared.places.Place.TheVariants.{Idle, Mutex}
+use Rattle.lot_steps.specs.declared.places.Place.TheVariants.{Idle, Mutex, RwLock}
 use Rattle.lot_mutex.specs.declared.places.MutexPlace.{MutexPlace}
 use Rattle.lot_acts.specs.declared.acts.Act.{Act}
 use Rattle.lot_acts.specs.declared.acts.Act as act
@@ -14,96 +14,132 @@ use Rattle.lot_acts.specs.declared.acts.Next.TheVariants.{At, End}
 use Rattle.lot_acts.specs.declared.owners.Owners.{Owners}
 use Rattle.lot_calls.specs.Kinds.{is_fair}
 use Rattle.lot_mutex.specs.MutexSteps.{mutex_first, mutex_right, mutex_act, mutex_next, mutex_owners}
+use Rattle.lot_base.specs.declared.keys.Line.{Line}
+use Rattle.lot_base.specs.Keys.{key_of}
 use Rattle.lot_base.specs.declared.wants.Want.{Want}
 use Rattle.lot_acts.specs.Profiles.{Profile, blank, bringing_nobody}
+use Rattle.lot_rwlock.specs.declared.places.Admission.{Admission}
+use Rattle.lot_rwlock.specs.declared.places.RwLockPlace.{RwLockPlace}
+use Rattle.lot_rwlock.specs.RwLockBegins.{admission_of, rwlock_first, rwlock_right}
+use Rattle.lot_rwlock.specs.RwLockSteps.{rwlock_act, rwlock_next, rwlock_owners, rwlock_shares}
+use Rattle.lot_rwlock.specs.RwLockProfiles.{rwlock_profile, rwlock_taker, rwlock_wants, rwlock_can_spin, rwlock_late_line, rwlock_owes}
 use Rattle.lot_mutex.specs.MutexProfiles.{mutex_profile, mutex_taker, mutex_wants, mutex_can_spin, mutex_can_be_late, mutex_owes, mutex_retries}
 
 -- where a call of a lock of a kind begins
 abbrev pub first_place : Kind → Call → Place
 first_place kind (call.TheVariants.Mutex lock c) = Mutex lock (mutex_first (is_fair kind) c)
+first_place kind (call.TheVariants.RwLock lock c) = RwLock lock (admission_of kind) (rwlock_first c)
 
 -- whether a thread has the right that a call needs
-abbrev pub has_right : Call → ℕ → Owners → Bool
-has_right (call.TheVariants.Mutex lock c) t owners = mutex_right c t owners
+abbrev pub has_right : Call → ℕ → Owners → ℕ → Bool
+has_right (call.TheVariants.Mutex lock c) t owners shares = mutex_right c t owners
+has_right (call.TheVariants.RwLock lock c) t owners shares = rwlock_right c t owners shares
 
 abbrev pub is_idle : Place → Bool
 is_idle Idle = true
 is_idle (Mutex lock at) = false
+is_idle (RwLock lock a at) = false
 
 -- the lock that a thread calls
 abbrev pub lock_of : Place → Option ℕ
 lock_of Idle = None
 lock_of (Mutex lock at) = Some lock
+lock_of (RwLock lock a at) = Some lock
 
 -- what a place says of its thread
 abbrev pub profile : Place → Profile
 profile Idle = blank
 profile (Mutex lock at) = bringing_nobody (mutex_profile at)
+profile (RwLock lock a at) = rwlock_profile a at
 
 -- the keys of the lock that a thread calls are numbers
 abbrev pub HasKeys : Place → Type 0
 HasKeys Idle = Unit {0}
 HasKeys (Mutex lock at) = lock < 2 ^ 63
+HasKeys (RwLock lock a at) = lock < 2 ^ 63
 
 -- what a thread does next
 abbrev pub act_of : Place → Act
 act_of Idle = act.TheVariants.Rest
 act_of (Mutex lock at) = mutex_act lock at
+act_of (RwLock lock a at) = rwlock_act lock a at
 
 abbrev pub mutex_goes : ℕ → Next MutexPlace → Place
 mutex_goes lock (At at) = Mutex lock at
 mutex_goes lock (End answer) = Idle
 
+abbrev pub rwlock_goes : ℕ → Admission → Next RwLockPlace → Place
+rwlock_goes lock a (At at) = RwLock lock a at
+rwlock_goes lock a (End answer) = Idle
+
 -- where the reply to its act leads a thread
 abbrev pub next_place : Place → Reply → Place
 next_place Idle reply = Idle
 next_place (Mutex lock at) reply = mutex_goes lock (mutex_next at reply)
+next_place (RwLock lock a at) reply = rwlock_goes lock a (rwlock_next a at reply)
 
 abbrev pub mutex_does : ℕ → Next MutexPlace → Act
 mutex_does lock (At at) = mutex_act lock at
 mutex_does lock (End answer) = act.TheVariants.End answer
 
+abbrev pub rwlock_does : ℕ → Admission → Next RwLockPlace → Act
+rwlock_does lock a (At at) = rwlock_act lock a at
+rwlock_does lock a (End answer) = act.TheVariants.End answer
+
 -- and what it does then
 abbrev pub next_act : Place → Reply → Act
 next_act Idle reply = act.TheVariants.Rest
 next_act (Mutex lock at) reply = mutex_does lock (mutex_next at reply)
+next_act (RwLock lock a at) reply = rwlock_does lock a (rwlock_next a at reply)
 
 -- who owns the lock after an operation on its word that saw this value
 abbrev pub owners_after : Place → ℕ → ℕ → Owners → Owners
 owners_after Idle t seen owners = owners
 owners_after (Mutex lock at) t seen owners = mutex_owners at t seen owners
+owners_after (RwLock lock a at) t seen owners = rwlock_owners a at t seen owners
 
 -- how many shared rights the thread has then, where their number changes; nobody shares a mutex
 abbrev pub shares_after : Place → ℕ → ℕ → Option ℕ
 shares_after Idle seen shares = None
 shares_after (Mutex lock at) seen shares = None
+shares_after (RwLock lock a at) seen shares = rwlock_shares a at seen shares
 
 -- what a thread wants, where it waits
 abbrev pub wants : Place → Option Want
 wants Idle = None
 wants (Mutex lock at) = mutex_wants at
+wants (RwLock lock a at) = rwlock_wants at
 
 -- the thread that took this one from its queue, and has not left its section yet
 abbrev pub taker : Place → Option ℕ
 taker Idle = None
 taker (Mutex lock at) = mutex_taker at
+taker (RwLock lock a at) = rwlock_taker at
 
 -- the lock whose word may be loaded again in place of the act
 abbrev pub spin_lock : Place → Option ℕ
 spin_lock Idle = None
 spin_lock (Mutex lock at) = if mutex_can_spin at then Some lock else None
+spin_lock (RwLock lock a at) = if rwlock_can_spin a at then Some lock else None
+
+abbrev pub key_in : ℕ → Option Line → Option ℕ
+key_in lock None = None
+key_in lock (Some m) = Some (key_of lock m)
 
 -- the key under which a thread sleeps in a call that may give up
 abbrev pub late_key : Place → Option ℕ
 late_key Idle = None
 late_key (Mutex lock at) = if mutex_can_be_late at then Some (2 * lock) else None
+late_key (RwLock lock a at) = key_in lock (rwlock_late_line at)
 
 -- a thread owes a wake on a lock
 abbrev pub owes_on : Place → ℕ → Bool
 owes_on Idle lock = false
 owes_on (Mutex own at) lock = mutex_owes at && (own == lock)
+owes_on (RwLock own a at) lock = not (is_none (rwlock_owes at)) && (own == lock)
 
 -- a thread was woken and tries again on a lock
 abbrev pub retries_on : Place → ℕ → Bool
 retries_on Idle lock = false
 retries_on (Mutex own at) lock = mutex_retries at && (own == lock)
+retries_on (RwLock own a at) lock = at.retries && (own == lock)
