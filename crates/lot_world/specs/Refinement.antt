@@ -1,5 +1,5 @@
 -- The abstract locks that a world's words, places and queues stand for.
-use Rattle.std.specs.Prelude.{ℕ, Bool, true, false, Option, Some, None, if◌then◌else◌, ◌+◌, ◌*◌, ◌≡◌, ◌≢◌, ◌⊎◌, length}
+use Rattle.std.specs.Prelude.{ℕ, Bool, true, false, Option, Some, None, ◌+◌, ◌*◌, ◌≡◌, ◌≢◌, ◌⊎◌, length}
 use Rattle.lot_steps.specs.declared.places.Place.{Place}
 use Rattle.lot_acts.specs.Profiles.{Profile, bringing_nobody, taken_from}
 pub use Rattle.lot_acts.specs.Calls.{call_by}
