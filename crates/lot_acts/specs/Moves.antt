@@ -4,6 +4,7 @@ use Rattle.std.specs.Prelude.{ℕ, Bool, true, false, Option, Some, None, ◌≡
 use Rattle.lot_base.specs.declared.keys.Keys.TheVariants.{One}
 use Rattle.lot_base.specs.declared.notes.Note.TheVariants.{Normal}
 use Rattle.lot_base.specs.declared.wants.Want.{Want}
+use Rattle.lot_base.specs.declared.wants.Want.TheVariants.{Exclusive}
 use Rattle.lot_base.specs.Keys.{key_of}
 use Rattle.lot_acts.specs.declared.acts.Act.{Act}
 use Rattle.lot_acts.specs.declared.acts.Act.TheVariants as act
@@ -18,7 +19,7 @@ use Rattle.lot_acts.specs.Acts.{holds, wakes_taken, any_picked}
 use Rattle.lot_acts.specs.Profiles.{Profile, blank, hand, in_hand}
 use Rattle.lot_acts.specs.Stations.{Station, station_by, nowhere}
 use Rattle.abstract_locks.specs.Locks.{Rules, Aside, HandOff, Late as GivesUp, Park, TakeAside, TakePicked, standing, times, unpicked, without}
-use Rattle.abstract_locks.specs.Sites.{Site, Deed, Line, Main, Second, End, In, Out, Mark, Clear, FindNobody, Case, is_empty}
+use Rattle.abstract_locks.specs.Sites.{Site, Pends, Deed, Line, Main, Second, End, In, Out, Mark, Clear, FindNobody, Case, is_empty}
 use Rattle.abstract_locks.specs.Codes.{code}
 
 -- the row of the next place, or of none
@@ -180,7 +181,8 @@ pub record IsHeld (x : Move) (u : ℕ) : Type 0 where
   pub woken : station_then x (Woken Normal) ≡ nowhere
   pub doing : (x.next (Woken Normal)).doing ≡ record x.row.doing { retries = Some want }
 
--- who stands in a line sleeps there or is inside its section, and who is in a hand is so to be woken
+-- who stands in a line sleeps there or is inside its section, only a pending writer stands aside, and who is in a hand is so to be woken
 pub record Waits (x : Move) : Type 0 where
+  pub aside : x.row.stands ≡ Some Second → (x.row.wants ≡ Some Exclusive) × ((falls_back : Bool) × (x.row.doing.claims ≡ Some (Pends falls_back)))
   pub stands : (m : Line) → x.row.stands ≡ Some m → ((station_of x).inside ≡ Some m) ⊎ Sleeps x m
   pub held : (u : ℕ) (handed : Bool) → x.row.hand ≡ hand u handed → (handed ≡ false) × IsHeld x u

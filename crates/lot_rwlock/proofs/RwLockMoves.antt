@@ -19,7 +19,7 @@ use Rattle.lot_acts.specs.Moves.{Move, Stays, GoesIn, Moves, Sleeps, IsHeld, Wai
 use Rattle.lot_acts.specs.Acts.{any_picked}
 use Rattle.lot_acts.specs.Profiles.{hand, in_hand}
 use Rattle.lot_acts.specs.Stations.{Station, station_by, nowhere}
-use Rattle.abstract_locks.specs.Sites.{Case, End, Mark}
+use Rattle.abstract_locks.specs.Sites.{Pends, Case, End, Mark}
 use Rattle.abstract_locks.specs.Locks.{Enter, Settle, Leave, Convert, Rollback}
 use Rattle.abstract_locks.specs.Codes.{count_in, has_aside, has_parked}
 use Rattle.lot_rwlock.specs.declared.places.Admission.{Admission}
@@ -35,7 +35,7 @@ use Rattle.lot_rwlock.specs.declared.park.ParkAt.TheVariants as parking
 use Rattle.lot_rwlock.specs.declared.release.WakeAt.{WakeAt}
 use Rattle.lot_rwlock.specs.declared.release.WakeAt.TheVariants as waking
 use Rattle.lot_rwlock.specs.RwLockSteps.{wanted, from_of, to_of, access_of, patience_of, start_of, exchange, decided, decided_for, decided_act, looked_by, looked, missed, stays, goes, came_in, exchanged_next, parks_at, wakes, released, gave_way_by, took, entered, plus, rwlock_act}
-use Rattle.lot_rwlock.specs.RwLockDeeds.{at_rest, claimed, missed_deeds, looked_deeds, enters_deeds, exchanged_deeds, does_and_wakes, gives_deeds, sees_waiter, takes, leaves_with}
+use Rattle.lot_rwlock.specs.RwLockDeeds.{at_rest, claimed, falls_back, missed_deeds, looked_deeds, enters_deeds, exchanged_deeds, does_and_wakes, gives_deeds, sees_waiter, takes, leaves_with}
 use Rattle.lot_rwlock.specs.RwLockProfiles.{rwlock_profile, late_line_at, wants_for}
 use Rattle.lot_rwlock.specs.RwLockCalls.{StandsAt, next_row}
 use Rattle.lot_rwlock.specs.RwLockMoves.{rwlock_move, rwlock_hears, RwLockActsMove, RwLockSleepersMove, RwLockLateMove}
@@ -460,6 +460,11 @@ module _ (a : Admission) where
   StandsWell q again to =
       (m : Line) → (rwlock_profile a (place q again to)).stands ≡ Some m → ((station_of (move q again to)).inside ≡ Some m) ⊎ Sleeps (move q again to) m
 
+  abbrev AsideWell : RwLockPurpose → Bool → RwLockAt → Type 0
+  AsideWell q again to =
+      (rwlock_profile a (place q again to)).stands ≡ Some Second
+      → ((rwlock_profile a (place q again to)).wants ≡ Some Exclusive) × ((b : Bool) × ((rwlock_profile a (place q again to)).doing.claims ≡ Some (Pends b)))
+
   abbrev HeldWell : RwLockPurpose → Bool → RwLockAt → Type 0
   HeldWell q again to =
       (u : ℕ) (handed : Bool) → (rwlock_profile a (place q again to)).hand ≡ hand u handed → (handed ≡ false) × IsHeld (move q again to) u
@@ -530,6 +535,27 @@ module _ (a : Admission) where
     )
     parks_held none to u handed e = absurd cc
 
+    -- who waits in the main line isn't aside
+    parks_aside : (to : ParkAt) → AsideWell q again (at.Park to)
+    parks_aside (parking.Leave true) e = absurd cc
+    parks_aside (parking.Leave false) e = absurd cc
+    parks_aside parking.Asleep e = absurd cc
+    parks_aside parking.Remove e = absurd cc
+    parks_aside to e = absurd cc
+
+    asides_aside : wants_for q ≡ Some Exclusive → (to : ParkAt) → AsideWell q again (at.Aside to)
+    asides_aside writes (parking.Leave true) e = (writes, (falls_back q, refl))
+    asides_aside writes (parking.Leave false) e = absurd cc
+    asides_aside writes parking.Asleep e = (writes, (falls_back q, refl))
+    asides_aside writes parking.Remove e = (writes, (falls_back q, refl))
+    asides_aside writes to e = absurd cc
+
+  -- only who is to write waits aside
+  asides_write : (x : Access) (how : Patience) (again : Bool) (to : ParkAt) → StandsAt (purpose.Enter x how) again (at.Aside to) → wants_for (purpose.Enter x how) ≡ Some Exclusive
+  asides_write access.Exclusive how again to fits = refl
+  asides_write access.Shared how again to fits = absurd fits
+  asides_write access.Upgradable how again to fits = absurd fits
+
   -- an upgrade waits aside alone
   never_parks : (how : Patience) (again : Bool) (to : ParkAt) → StandsAt (purpose.Upgrade how) again (at.Park to) → ⊥
   never_parks Try again to fits = fits
@@ -545,15 +571,15 @@ module _ (a : Admission) where
   never_released access.Exclusive again to Second fits = fits
 
   waits_all : (q : RwLockPurpose) (again : Bool) (to : RwLockAt) → StandsAt q again to → Waits (move q again to)
-  waits_all (purpose.Enter x how) again (at.Park to) fits = record { stands = parks_stand (purpose.Enter x how) again refl to; held = parks_held (purpose.Enter x how) again refl refl to }
+  waits_all (purpose.Enter x how) again (at.Park to) fits = record { aside = parks_aside (purpose.Enter x how) again refl to; stands = parks_stand (purpose.Enter x how) again refl to; held = parks_held (purpose.Enter x how) again refl refl to }
   waits_all (purpose.Upgrade how) again (at.Park to) fits = absurd (never_parks how again to fits)
   waits_all (purpose.Release x) again (at.Park to) fits = absurd (never_released x again to Main fits)
   waits_all (purpose.Downgrade d) again (at.Park to) fits = absurd fits
-  waits_all (purpose.Enter x how) again (at.Aside to) fits = record { stands = asides_stand (purpose.Enter x how) again refl to; held = asides_held (purpose.Enter x how) again refl to }
-  waits_all (purpose.Upgrade how) again (at.Aside to) fits = record { stands = asides_stand (purpose.Upgrade how) again refl to; held = asides_held (purpose.Upgrade how) again refl to }
+  waits_all (purpose.Enter x how) again (at.Aside to) fits = record { aside = asides_aside (purpose.Enter x how) again refl (asides_write x how again to fits) to; stands = asides_stand (purpose.Enter x how) again refl to; held = asides_held (purpose.Enter x how) again refl to }
+  waits_all (purpose.Upgrade how) again (at.Aside to) fits = record { aside = asides_aside (purpose.Upgrade how) again refl refl to; stands = asides_stand (purpose.Upgrade how) again refl to; held = asides_held (purpose.Upgrade how) again refl to }
   waits_all (purpose.Release x) again (at.Aside to) fits = absurd (never_released x again to Second fits)
   waits_all (purpose.Downgrade d) again (at.Aside to) fits = absurd fits
-  waits_all q again to fits = record { stands = λ m e. absurd cc; held = λ u handed e. absurd cc }
+  waits_all q again to fits = record { aside = λ e. absurd cc; stands = λ m e. absurd cc; held = λ u handed e. absurd cc }
 
   -- whose time is up goes into the section of its line
   parks_late : (q : RwLockPurpose) (again : Bool) (how : Patience) (to : ParkAt) (m : Line) → late_line_at how (at.Park to) ≡ Some m → GoesIn (move q again (at.Park to)) (rwlock_hears a (place q again (at.Park to))) m reply.Late

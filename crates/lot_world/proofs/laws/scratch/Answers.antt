@@ -1,0 +1,6 @@
+use Rattle.std.proofs.Common.{refl}
+use Rattle.lot_world.proofs.MovesKept as it
+use Rattle.lot_world.proofs.laws.scratch.Goals as goal
+
+pub returns : goal.returns
+returns c = refl
