@@ -2,12 +2,13 @@
 use Rattle.std.proofs.Common.{ℕ, true, false, Bool, Option, Some, None, if◌then◌else◌, ◌≡◌, ◌≢◌, ◌+◌, ◌*◌, ◌<◌, List, [], ◌∷◌, ◌++◌, length, get_or, map, refl, sym, ◌∙◌, ap, arith, length-set, get_or-set_same, get_or-set_other}
 use Rattle.std.proofs.lemmas.Bool.{lt-ltb}
 use Rattle.std.proofs.lemmas.List.{length-map}
+use Rattle.std.proofs.Math.ListN.{get_or-map}
 use Rattle.lot_base.specs.declared.keys.Keys.TheVariants.{One}
 use Rattle.lot_base.specs.declared.ops.Op.{Op}
 use Rattle.lot_base.specs.declared.wants.Waiter.{Waiter}
 use Rattle.lot_base.specs.declared.wants.Want.{Want}
 use Rattle.lot_base.specs.Words.{apply}
-use Rattle.lot_base.specs.Lines.{waiter}
+use Rattle.lot_base.specs.Lines.{waiter, without, times}
 use Rattle.lot_calls.specs.declared.kinds.Kind.TheVariants as kind
 use Rattle.lot_calls.specs.declared.outcomes.Outcome.{Outcome}
 use Rattle.lot_calls.specs.declared.outcomes.Outcome.TheVariants as outcome
@@ -27,7 +28,10 @@ use Rattle.abstract_locks.specs.Sites.{Line, Main, Second}
 use Rattle.lot_machine.specs.Machine.{State, unlocked, place_at, word_at, section_at, queue_at, put, state_after_operation, state_with_sections, queues_with_last, state_after_act, state_after_take, state_after_wake, state_after_go, go_outcome, reply_to, can_do, is_possible, after, step_outcome, go_of}
 use Rattle.lot_machine.specs.Fits.{IsShaped, SameSize}
 use Rattle.lot_machine.proofs.Shape.{after_shaped, after_size, main_key_there, main_line_there, performed_counts}
-use Rattle.lot_world.specs.SitesOf.{IsSteady, key_of}
+use Rattle.lot_world.specs.SitesOf.{IsSteady, key_of, stood_in}
+use Rattle.lot_world.specs.Stations.{station}
+use Rattle.lot_world.proofs.Glue.{nothing_at}
+use Rattle.lot_world.proofs.Counts.{without_absent}
 use Rattle.lot_world.proofs.TurnsKept.{after_steady}
 
 -- how a thread stands that steps alone: its place at the lock, the word, and who waits there; nobody else is inside a section of the lock
@@ -126,3 +130,17 @@ module _ (w : State) (t l : ℕ) (p : Place) (v : ℕ) (q : Line → List Waiter
   pub take_comes : (key : ℕ) (whom : Whom) → act_of p ≡ act.Take key whom → word_at (state_after_take w t key whom) l ≡ word_at w l → ((k : ℕ) → section_at (state_after_take w t key whom) k ≡ section_at w k)
       → Comes w t l (next_place p (reply_to w t (act.Take key whom))) (outcome_of (next_act p (reply_to w t (act.Take key whom)))) v (λ m. queue_at (state_after_take w t key whom) (key_of l m))
   take_comes key whom is word sections = comes (state_after_take w t key whom) (reply_to w t (act.Take key whom)) v _ (rw is refl) (ap (state_after_act w t p) is) (ap (reply_to w t) is) (word ∙ f.word) (λ m. refl) (λ m u e. f.way m u (sym (sections (key_of l m)) ∙ e))
+
+  -- a thread that stands in no line is the last of one where it parks
+  line_there : (m : Line) → key_of l m < length w.queues
+  line_there m = let n : length w.queues ≡ length w.sections = f.shape.queues in let k : key_of l m < length w.sections = key_there w l m f.shape f.lock in omega arith
+
+  unmoved : (station p).stands ≡ None → (m : Line) → get_or (map (without t) w.queues) (key_of l m) [] ≡ q m
+  unmoved nowhere m = get_or-map (without t) w.queues (key_of l m) [] ∙ without_absent t (queue_at w (key_of l m)) absent ∙ f.queue m
+    where
+      absent : times t (queue_at w (key_of l m)) ≡ 0
+      absent = f.steady.stands.lines t l m ∙ ap (λ x. stood_in x m) (nothing_at (place_at w t) l (λ x. x.stands) refl (ap (λ x. (station x).stands) f.place ∙ nowhere))
+
+  pub parks_last : (station p).stands ≡ None → (m : Line) (x : Want) → queue_at (record w { queues = queues_with_last w.queues (key_of l m) t x }) (key_of l m) ≡ q m ++ waiter (key_of l m) t x ∷ []
+  parks_last nowhere m x = get_or-set_same (map (without t) w.queues) (key_of l m) _ [] (rw (length-map w.queues (without t)) (line_there m))
+      ∙ ap (λ xs. xs ++ waiter (key_of l m) t x ∷ []) (unmoved nowhere m)

@@ -1,5 +1,5 @@
 -- A call of a reader-writer lock whose thread steps alone: from each place, where it ends or falls asleep.
-use Rattle.std.proofs.Common.{ℕ, Bool, true, false, Option, Some, None, if◌then◌else◌, ◌==◌, ◌&&◌, ◌||◌, not, ◌≡◌, ◌≢◌, ◌+◌, ◌*◌, ◌/◌, ◌%◌, ◌≤◌, ◌<◌, ◌^◌, inl, inr, List, refl, sym, ◌∙◌, ap, subst, arith}
+use Rattle.std.proofs.Common.{ℕ, Bool, true, false, Option, Some, None, if◌then◌else◌, ◌==◌, ◌&&◌, ◌||◌, not, ◌≡◌, ◌≢◌, ◌+◌, ◌*◌, ◌/◌, ◌%◌, ◌≤◌, ◌<◌, ◌^◌, inl, inr, List, [], ◌∷◌, ◌++◌, refl, sym, ◌∙◌, ap, subst, arith}
 use Rattle.std.proofs.lemmas.Bool.{cases_eq, eqb-true}
 use Rattle.std.proofs.lemmas.Bool.Decides.{nat_tests}
 use Rattle.lot_base.specs.declared.keys.Keys.TheVariants.{One}
@@ -22,7 +22,9 @@ use Rattle.lot_acts.specs.declared.acts.Next.{Next}
 use Rattle.lot_acts.specs.declared.acts.Next.TheVariants.{At, End}
 use Rattle.lot_acts.specs.declared.acts.Reply.{Reply}
 use Rattle.lot_acts.specs.declared.acts.Reply.TheVariants.{Done, Value, Parked, Took, Picked, Removed}
+use Rattle.lot_acts.specs.declared.acts.Wakes.TheVariants as wakes
 use Rattle.lot_acts.specs.Acts.{outcome_of, wakes_taken}
+use Rattle.lot_base.specs.Lines.{waiter}
 use Rattle.lot_rwlock.specs.declared.places.Admission.{Admission}
 use Rattle.lot_rwlock.specs.declared.places.RwLockPlace.{RwLockPlace}
 use Rattle.lot_rwlock.specs.declared.purposes.RwLockPurpose.{RwLockPurpose}
@@ -47,7 +49,7 @@ use Rattle.lot_world.specs.Solo.{Rests}
 use Rattle.lot_world.proofs.Glue.{same}
 use Rattle.lot_world.proofs.SoloActs.{Leads, leads_rest, leads_step}
 use Rattle.lot_world.proofs.Solo.{leads_more, leads_so}
-use Rattle.lot_world.proofs.LineSolo.{StepsAlone, Comes, word_comes, enter_comes, leave_comes, park_comes, remove_comes, take_comes}
+use Rattle.lot_world.proofs.LineSolo.{StepsAlone, Comes, word_comes, enter_comes, leave_comes, park_comes, parks_last, remove_comes, take_comes}
 
 -- ---------------------------------------------------------------- what a thread reads in the word that it has marked
 
@@ -118,3 +120,27 @@ module _ (t l : ℕ) (a : Admission) where
 
     goes : (k v : ℕ) (q : Line → List Waiter) (p2 : RwLockPlace) (n : Next RwLockPlace) → n ≡ At p2 → outcome_of (rwlock_act l a p2) ≡ outcome.Step → Comes w t l (rwlock_goes l a n) (outcome_of (rwlock_does l a n)) v q → (Alone (after w (go_of t)) p2 v q → Leads k (after w (go_of t)) t P) → Leads (k + 1) w t P
     goes k v q p2 n is more c h = leads_step w t P k (c.0 ∙ ap (λ x. outcome_of (rwlock_does l a x)) is ∙ more) (h (subst (λ x. StepsAlone (after w (go_of t)) t l (rwlock_goes l a x) v q) is c.1))
+
+  -- ---------------------------------------------------------------- into a line
+
+  -- it sleeps, as the last of the line
+  abbrev Sleeps : Line → RwLockPlace → (Line → List Waiter) → State → Outcome → Type 0
+  Sleeps m p q v x = (x ≡ outcome.Sleep) × (queue_at v (key_of l m) ≡ q m ++ waiter (key_of l m) t (want_at p) ∷ [])
+
+  abbrev again : RwLockPlace → RwLockAt → Bool → RwLockPlace
+  again p to retries = record { purpose = p.purpose; retries = retries; at = to }
+
+  parks_sleeps : (m : Line) (p : RwLockPlace) (retries : Bool) (v : ℕ) (w : State) (q q2 : Line → List Waiter) → q2 m ≡ q m ++ waiter (key_of l m) t (want_at p) ∷ [] → Alone w (again p (parks_at m (parking.Leave true)) retries) v q2 → Leads 1 w t (Sleeps m p q)
+  parks_sleeps Main p retries v w q q2 last f = let c = leave_comes w t l _ v q2 f Main wakes.Nobody refl in sleeps w (Sleeps Main p q) v q2 (again p (at.Park parking.Asleep) retries) _ refl refl c (refl, c.1.queue Main ∙ last)
+  parks_sleeps Second p retries v w q q2 last f = let c = leave_comes w t l _ v q2 f Second wakes.Nobody refl in sleeps w (Sleeps Second p q) v q2 (again p (at.Aside parking.Asleep) retries) _ refl refl c (refl, c.1.queue Second ∙ last)
+
+  -- its way is barred, or readers are left
+  check_sleeps : (p : RwLockPlace) (v : ℕ) (w : State) (q : Line → List Waiter) → bars a.recursive (want_at p) v ≡ true → Alone w (to p (at.Park parking.Check)) v q → Leads 2 w t (Sleeps Main p q)
+  check_sleeps p v w q barred f = let c = park_comes w t l _ v q f (2 * l) (park_check a (want_at p) Main) (want_at p) true refl barred in
+      goes w (Sleeps Main p q) 1 v _ (again p (at.Park (parking.Leave true)) (p.retries && not true)) _ refl refl c
+      (λ g. parks_sleeps Main p (p.retries && not true) v _ q _ (parks_last w t l _ v q f refl Main (want_at p)) g)
+
+  aside_sleeps : (p : RwLockPlace) (v : ℕ) (w : State) (q : Line → List Waiter) → leaves_readers v ≡ true → Alone w (to p (at.Aside parking.Check)) v q → Leads 2 w t (Sleeps Second p q)
+  aside_sleeps p v w q left f = let c = park_comes w t l _ v q f (2 * l + 1) (park_check a (want_at p) Second) (want_at p) true refl left in
+      goes w (Sleeps Second p q) 1 v _ (again p (at.Aside (parking.Leave true)) (p.retries && not true)) _ refl refl c
+      (λ g. parks_sleeps Second p (p.retries && not true) v _ q _ (parks_last w t l _ v q f refl Second (want_at p)) g)
