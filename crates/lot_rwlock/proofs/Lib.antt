@@ -6,3 +6,4 @@ pub mod RwLockCallRights
 pub mod RwLockCalls
 pub mod RwLockCallSections
 pub mod RwLockCallPlaces
+pub mod RwLockMoves
