@@ -37,6 +37,8 @@ pub mod MutexPromises
 pub mod Fair
 pub mod SoloActs
 pub mod Solo
+pub mod LineSolo
+pub mod RwLockSolo
 pub mod Owing
 pub mod WorldRuns
 pub mod RowLaws

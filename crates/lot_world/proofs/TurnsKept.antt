@@ -11,7 +11,7 @@ use Rattle.lot_calls.specs.declared.calls.Turn.{Turn}
 use Rattle.lot_calls.specs.declared.calls.Turn as turn
 use Rattle.lot_calls.specs.Kinds.{has_call, is_fair}
 use Rattle.lot_steps.specs.declared.places.Place.{Place}
-use Rattle.lot_steps.specs.declared.places.Place.TheVariants.{Idle, Mutex}
+use Rattle.lot_steps.specs.declared.places.Place.TheVariants.{Idle, Mutex, RwLock}
 use Rattle.lot_mutex.specs.declared.lock.Entry.{Entry}
 use Rattle.lot_mutex.specs.declared.lock.Entry.TheVariants as entries
 use Rattle.lot_mutex.specs.declared.lock.LockAt.{LockAt}
@@ -25,7 +25,10 @@ use Rattle.abstract_locks.specs.Sites.{Claim, Has, Begin, HasClaim, idle}
 use Rattle.lot_machine.specs.Machine.{State, place_at, word_at, owners_at, kind_at, put, state_after_begin, can_begin, is_open_to, state_after_spin_on, state_after_late_on, is_free_under, state_after_turn, can_turn, is_possible, after}
 use Rattle.lot_machine.specs.Fits.{IsShaped, PlaceFits}
 use Rattle.lot_world.specs.Refinement.{lock_state, taken_at}
-use Rattle.lot_world.specs.SitesOf.{is_mutex}
+use Rattle.lot_world.specs.SitesOf.{CallsMutex, is_mutex}
+use Rattle.lot_calls.specs.declared.calls.RwLockCall.{RwLockCall}
+use Rattle.lot_calls.specs.declared.kinds.Kind.{Kind}
+use Rattle.lot_calls.specs.declared.kinds.Kind.TheVariants as kinds
 use Rattle.lot_world.specs.MutexDeeds.{mutex_doing, mutex_station, acts, begins}
 use Rattle.lot_world.specs.Stations.{nowhere, station}
 use Rattle.lot_world.specs.SitesOf.{IsSteady, Goes}
@@ -38,9 +41,16 @@ use Rattle.lot_world.proofs.SitesKept.{mutex_at, goes_steady, place_goes}
 use Rattle.lot_world.proofs.Closures.{nothing_closes}
 use Rattle.lot_world.proofs.GoneKept.{looked, enters, gone_kept}
 
+none_yet : (k : Kind) (l : ℕ) (c : RwLockCall) → has_call k (calling.TheVariants.RwLock l c) ≡ true → ⊥
+none_yet kinds.Mutex l c h = absurd cc
+none_yet kinds.Fair l c h = absurd cc
+none_yet (kinds.RwLock limit) l c h = absurd cc
+none_yet k l c h = absurd cc
+
 pub idle_is : (p : Place) → is_idle p ≡ true → p ≡ Idle
 idle_is Idle h = refl
 idle_is (Mutex l at) h = absurd cc
+idle_is (RwLock l a at) h = absurd cc
 
 module _ (w : State) (t : ℕ) (steady : IsSteady w) (shape : IsShaped w) (there : t < length w.places) where
   -- it begins, with the claim that the call needs
@@ -72,6 +82,12 @@ module _ (w : State) (t : ℕ) (steady : IsSteady w) (shape : IsShaped w) (there
       let right = both (has_call (kind_at w l) (calling.TheVariants.Mutex l c)) _ open_to.1 in
       goes_steady w _ l _ steady (calls_begin l (is_fair (kind_at w l)) c (calls_mutex (kind_at w l) (calling.TheVariants.Mutex l c) right.0) (idle_is (place_at w t) parts.0) right.1)
 
+  begun_kept (calling.TheVariants.RwLock l c) can =
+      let parts = both (is_idle (place_at w t)) (is_open_to w t (calling.TheVariants.RwLock l c)) can in
+      let open_to = both (nat_lt l (length w.locks)) _ parts.1 in
+      let right = both (has_call (kind_at w l) (calling.TheVariants.RwLock l c)) _ open_to.1 in
+      absurd (none_yet (kind_at w l) l c right.0)
+
   -- it loads the word again
   spins : (l : ℕ) (e : Entry) (r : Bool) (x : ℕ) → place_at w t ≡ Mutex l (Lock e r (lock.Decide x)) → (b : Bool) → IsSteady (state_after_spin_on w t (if b then Some l else None))
   spins l e r x is false = steady
@@ -82,6 +98,7 @@ module _ (w : State) (t : ℕ) (steady : IsSteady w) (shape : IsShaped w) (there
   spun_kept (Mutex l (Lock e r lock.First)) is = steady
   spun_kept (Mutex l (Lock e r a)) is = steady
   spun_kept (Mutex l at) is = steady
+  spun_kept (RwLock l a at) is = absurd (let c : CallsMutex w (RwLock l a at) = rw is at (steady.stands.calls t) in c.2)
   spun_kept Idle is = steady
 
   -- its time is up, and it goes into the section of its line
@@ -102,6 +119,7 @@ module _ (w : State) (t : ℕ) (steady : IsSteady w) (shape : IsShaped w) (there
   late_kept (Mutex l UnlockFair) is fits can = absurd cc
   late_kept (Mutex l Bump) is fits can = absurd cc
   late_kept (Mutex l (HandOff bumps a)) is fits can = absurd cc
+  late_kept (RwLock l a at) is fits can = absurd (let c : CallsMutex w (RwLock l a at) = rw is at (steady.stands.calls t) in c.2)
   late_kept Idle is fits can = absurd cc
 
   turned_kept : (x : Turn) → can_turn w t x ≡ true → IsSteady (state_after_turn w t x)
