@@ -41,6 +41,7 @@ use Rattle.lot_world.specs.SitesOf.{CallsMutex, IsSteady, Goes, rules_at, stood_
 use Rattle.lot_machine.proofs.Shape.{main_line_there, main_key_there}
 use Rattle.lot_world.proofs.Glue.{base_at, same, differ, IsOf, own_stance, inside_is, doing_of, doing_here}
 use Rattle.lot_world.proofs.MutexTable.{mutex, Fits, own_doing, ends, looks, at_first, at_load, at_decide_free, at_decide_one, at_clear, at_release_clear, at_try, at_subtract, at_unlock_fair, at_bump, at_store_none}
+use Rattle.lot_world.proofs.OneStep.{empty_line}
 use Rattle.lot_world.proofs.SitesKept.{go_by, goes_steady, rules, site_l, word_l, word_keeps, place_keeps, enter_keeps, leave_keeps, one_held, release_wakes, tells, hands_over, take_keeps}
 use Rattle.lot_world.proofs.StandsKept.{in_main}
 use Rattle.lot_world.proofs.SectionsKept.{park_keeps, remove_keeps, nobody_keeps}
@@ -52,10 +53,6 @@ none_is (Some y) h = absurd cc
 owned_3 : (e : Option ℕ) → 3 ≡ one_if_some e + 2 * 1 → e ≢ None
 owned_3 None h e = omega arith
 owned_3 (Some x) h e = cc
-
-empty_line : (xs : List Waiter) → is_empty (map queued_of xs) ≡ (length xs == 0)
-empty_line [] = refl
-empty_line (x ∷ xs) = sym (differ (length (x ∷ xs)) 0 (λ e. omega arith))
 
 -- a thread that stands in a line, by its place: asleep, or inside the section
 pub record IsAsleep (p : Place) (l : ℕ) : Type 0 where

@@ -13,6 +13,7 @@ pub mod LawsKept
 pub mod WakesKept
 pub mod TakesKept
 pub mod PicksKept
+pub mod AnyPicked
 pub mod MovesKept
 pub mod SitesKept
 pub mod SectionsKept

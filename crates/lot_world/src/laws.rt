@@ -1,5 +1,5 @@
 //! One run, worked out step by step, and what no world comes to.
-ghost use Rattle.std.specs.Prelude.{◌≡◌};
+ghost use Rattle.std.specs.Prelude.{ℕ, ◌≡◌};
 ghost use Rattle.lot_world.specs.Laws.{FairUnlockHandsOver, NoWaiterIsForgotten, NobodyIsPassedOver};
 ghost use Rattle.lot_world.specs.MutexPromises.{MutexesAreKept};
 
@@ -26,5 +26,5 @@ pub fn mutexes_are_kept()
 
 /// Scratch.
 pub fn scratch()
-    ensures { 0 ≡ 0 }
+    ensures { ◌≡◌ {A = ℕ} 0 0 }
 {}

@@ -3,4 +3,4 @@ use Rattle.lot_world.proofs.MovesKept as it
 use Rattle.lot_world.proofs.laws.scratch.Goals as goal
 
 pub returns : goal.returns
-returns c = refl
+returns c = refl 
