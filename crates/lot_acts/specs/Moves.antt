@@ -94,8 +94,9 @@ takes_aside (Some u) = Case (TakeAside u)
 
 -- ---------------------------------------------------------------- acts
 
--- it stays where it is, in nobody's hand
+-- it stays where it is, in no line and in nobody's hand
 pub record Stays (x : Move) : Type 0 where
+  pub out : (station_of x).stands ≡ None
   pub free : (station_of x).hand ≡ None
   pub deeds : (seen : ℕ) → AreOfWord (x.deeds None (Value seen))
   pub goes : (seen : ℕ) → station_then x (Value seen) ≡ station_of x
@@ -150,18 +151,18 @@ pub record GoesOut (x : Move) (hears : Hears) (m : Line) (wakes : Wakes) : Type 
   pub goes : station_then x Done ≡ record (station_of x) { inside = None; carries = None }
   pub may : (r : Rules) (s : Site) (t : ℕ) → s.lock.taken t ≡ None → hears r s t None Done
 
--- at a lock, by the act
-abbrev pub Moves : ℕ → Move → Hears → Act → Type 0
-Moves l x hears (act.Word k op) = (k ≡ l) × Stays x
-Moves l x hears (act.Enter keys) = (m : Line) × (keys ≡ One (key_of l m)) × GoesIn x hears m Done
-Moves l x hears (act.Park k key check want) = (m : Line) × (k ≡ l) × (key ≡ key_of l m) × Parks x hears m check want
-Moves l x hears (act.Take key (whom.TheVariants.Picked start recursive)) = (key ≡ key_of l Main) × Picks x hears start
-Moves l x hears (act.Take key whom.TheVariants.First) = (key ≡ key_of l Second) × TakesAside x hears
-Moves l x hears (act.Remove key) = (m : Line) × (key ≡ key_of l m) × LeavesLine x hears m
-Moves l x hears (act.Leave keys wakes) = (m : Line) × (keys ≡ One (key_of l m)) × GoesOut x hears m wakes
-Moves l x hears act.Sleep = Unit {0}
-Moves l x hears (act.End answer) = Unit {0}
-Moves l x hears act = ⊥
+-- at a lock, which is recursive or not, by the act
+abbrev pub Moves : ℕ → Bool → Move → Hears → Act → Type 0
+Moves l recursive x hears (act.Word k op) = (k ≡ l) × Stays x
+Moves l recursive x hears (act.Enter keys) = (m : Line) × (keys ≡ One (key_of l m)) × GoesIn x hears m Done
+Moves l recursive x hears (act.Park k key check want) = (m : Line) × (k ≡ l) × (key ≡ key_of l m) × Parks x hears m check want
+Moves l recursive x hears (act.Take key (whom.TheVariants.Picked start b)) = (key ≡ key_of l Main) × (b ≡ recursive) × Picks x hears start
+Moves l recursive x hears (act.Take key whom.TheVariants.First) = (key ≡ key_of l Second) × TakesAside x hears
+Moves l recursive x hears (act.Remove key) = (m : Line) × (key ≡ key_of l m) × LeavesLine x hears m
+Moves l recursive x hears (act.Leave keys wakes) = (m : Line) × (keys ≡ One (key_of l m)) × GoesOut x hears m wakes
+Moves l recursive x hears act.Sleep = Unit {0}
+Moves l recursive x hears (act.End answer) = Unit {0}
+Moves l recursive x hears act = ⊥
 
 -- ---------------------------------------------------------------- what befalls a thread asleep
 

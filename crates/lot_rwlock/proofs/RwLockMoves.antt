@@ -45,7 +45,7 @@ module _ (l : ℕ) (a : Admission) where
   of q again to = record { purpose = q; retries = again; at = to }
 
   abbrev MovesAt : RwLockPlace → Type 0
-  MovesAt p = Moves l (rwlock_move a p) (rwlock_hears a p) (rwlock_act l a p)
+  MovesAt p = Moves l a.recursive (rwlock_move a p) (rwlock_hears a p) (rwlock_act l a p)
 
   abbrev station_next : Next RwLockPlace → Station
   station_next n = station_by (row_of (next_row a n))
@@ -176,22 +176,24 @@ module _ (l : ℕ) (a : Admission) where
   module _ (q : RwLockPurpose) (again : Bool) where
     decides_word : (was : ℕ) → Stays (rwlock_move a (of q again (at.Decide was)))
     decides_word was = record {
+      out = refl;
       free = refl;
       deeds = λ seen. exchanged_word q (decided_for a q was) (decided_for a q seen) (seen == was);
       goes = λ seen. exchanged_rest q again was seen (decided_for a q was);
     }
 
-    decides : (was : ℕ) (d : Decision) → decided_for a q was ≡ d → Moves l (rwlock_move a (of q again (at.Decide was))) (rwlock_hears a (of q again (at.Decide was))) (decided_act l q was d)
+    decides : (was : ℕ) (d : Decision) → decided_for a q was ≡ d → Moves l a.recursive (rwlock_move a (of q again (at.Decide was))) (rwlock_hears a (of q again (at.Decide was))) (decided_act l q was d)
     decides was decisions.Take e = (refl, decides_word was)
     decides was decisions.Mark e = (refl, decides_word was)
     decides was decisions.Park e = (Main, refl, record { out = refl; free = refl; deeds = refl; goes = refl; may = λ r s t free. (e, free) })
     decides was (decisions.Refuse answer) e = tt
 
-    counts : (was : ℕ) (b : Bool) → has_aside was ≡ b → Moves l (rwlock_move a (of q again (at.Count was))) (rwlock_hears a (of q again (at.Count was))) (if b then act.Enter (One (2 * l + 1)) else exchange l was (plus was 2))
+    counts : (was : ℕ) (b : Bool) → has_aside was ≡ b → Moves l a.recursive (rwlock_move a (of q again (at.Count was))) (rwlock_hears a (of q again (at.Count was))) (if b then act.Enter (One (2 * l + 1)) else exchange l was (plus was 2))
     counts was true e = (Second, refl, record { out = refl; free = refl; deeds = refl; goes = refl; may = λ r s t free. free })
     counts was false e = (
       refl,
       record {
+        out = refl;
         free = refl;
         deeds = λ seen. counts_word (seen == was) (count_in seen == 0);
         goes = λ seen. counts_rest (of q again (at.Count was)) (plus was 2) seen (seen == was) (count_in seen == 0) (entered (patience_of q));
@@ -214,6 +216,7 @@ module _ (l : ℕ) (a : Admission) where
     wakes_move m waking.Enter = (m, refl, record { out = refl; free = refl; deeds = refl; goes = refl; may = λ r s t free. free })
     wakes_move Main waking.Take = (
       refl,
+      refl,
       record {
         was = refl;
         deeds = λ n y none_left. refl;
@@ -230,7 +233,7 @@ module _ (l : ℕ) (a : Admission) where
         may = λ r s t any none_left. refl;
       },
     )
-    wakes_move m (waking.Clear any) = (refl, record { free = refl; deeds = λ seen. tt; goes = λ seen. refl })
+    wakes_move m (waking.Clear any) = (refl, record { out = refl; free = refl; deeds = λ seen. tt; goes = λ seen. refl })
     wakes_move m (waking.Leave any) = (
       m,
       refl,
@@ -314,7 +317,7 @@ module _ (l : ℕ) (a : Admission) where
           left : (b : Bool) → station_by (rwlock_profile a (of q again (at.Park (if b then parking.Clear else parking.GiveUp)))) ≡ inside_of Main
           left true = refl
           left false = refl
-      parks_move parking.Clear = (refl, record { free = refl; deeds = λ seen. tt; goes = λ seen. refl })
+      parks_move parking.Clear = (refl, record { out = refl; free = refl; deeds = λ seen. tt; goes = λ seen. refl })
       parks_move parking.GiveUp = (
         Main,
         refl,
@@ -385,7 +388,7 @@ module _ (l : ℕ) (a : Admission) where
           may = λ r s t none_left alone. alone;
         },
       )
-      asides_move parking.Clear = (refl, record { free = refl; deeds = λ seen. tt; goes = λ seen. refl })
+      asides_move parking.Clear = (refl, record { out = refl; free = refl; deeds = λ seen. tt; goes = λ seen. refl })
       asides_move parking.GiveUp = (
         Second,
         refl,
@@ -404,7 +407,7 @@ module _ (l : ℕ) (a : Admission) where
   -- ---------------------------------------------------------------- every place
 
   first_move : (q : RwLockPurpose) (again : Bool) → MovesAt (of q again at.First)
-  first_move q again = (refl, record { free = refl; deeds = λ seen. word (seen == 0); goes = λ seen. rest (seen == 0) })
+  first_move q again = (refl, record { out = refl; free = refl; deeds = λ seen. word (seen == 0); goes = λ seen. rest (seen == 0) })
     where
       word : (b : Bool) → AreOfWord (if b then Case (Enter Exclusive) ∷ End ∷ [] else missed_deeds (patience_of q))
       word true = tt
@@ -433,14 +436,14 @@ module _ (l : ℕ) (a : Admission) where
 
   moves_all : (q : RwLockPurpose) (again : Bool) (to : RwLockAt) → StandsAt q again to → MovesAt (of q again to)
   moves_all q again at.First fits = first_move q again
-  moves_all q again at.Load fits = (refl, record { free = refl; deeds = λ seen. looks_deeds (decided_for a q seen); goes = λ seen. looks_rest (of q again at.Load) seen (decided_for a q seen) })
+  moves_all q again at.Load fits = (refl, record { out = refl; free = refl; deeds = λ seen. looks_deeds (decided_for a q seen); goes = λ seen. looks_rest (of q again at.Load) seen (decided_for a q seen) })
   moves_all q again (at.Decide was) fits = decides q again was (decided_for a q was) refl
   moves_all q again (at.Park to) fits = parks_only q again to fits
-  moves_all q again at.Look fits = (refl, record { free = refl; deeds = λ seen. settles_word (count_in seen == 0); goes = λ seen. settles_rest (of q again at.Look) seen (count_in seen == 0) (entered (patience_of q)) })
+  moves_all q again at.Look fits = (refl, record { out = refl; free = refl; deeds = λ seen. settles_word (count_in seen == 0); goes = λ seen. settles_rest (of q again at.Look) seen (count_in seen == 0) (entered (patience_of q)) })
   moves_all q again (at.Count was) fits = counts q again was (has_aside was) refl
   moves_all q again (at.Aside to) fits = asides_only q again to fits
-  moves_all q again at.RollBack fits = (refl, record { free = refl; deeds = λ seen. rolls_word (has_parked seen); goes = λ seen. wakes_rest (of q again at.RollBack) Main (has_parked seen) No })
-  moves_all q again at.GiveWay fits = (refl, record { free = refl; deeds = λ seen. gives_word q seen; goes = λ seen. gave_rest (of q again at.GiveWay) seen q })
+  moves_all q again at.RollBack fits = (refl, record { out = refl; free = refl; deeds = λ seen. rolls_word (has_parked seen); goes = λ seen. wakes_rest (of q again at.RollBack) Main (has_parked seen) No })
+  moves_all q again at.GiveWay fits = (refl, record { out = refl; free = refl; deeds = λ seen. gives_word q seen; goes = λ seen. gave_rest (of q again at.GiveWay) seen q })
   moves_all q again (at.Wake m to) fits = wakes_move q again m to
 
 pub rwlock_acts_move : RwLockActsMove

@@ -132,7 +132,7 @@ fresh_waits Patient w again = tt
 fresh_waits Timed w again = tt
 fresh_waits Try w again = absurd w
 
-unwoken_fresh : (how : Patience) → IsFreshTry how false
+pub unwoken_fresh : (how : Patience) → IsFreshTry how false
 unwoken_fresh Patient = tt
 unwoken_fresh Timed = tt
 unwoken_fresh Try = refl

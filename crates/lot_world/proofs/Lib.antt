@@ -16,6 +16,7 @@ pub mod PicksKept
 pub mod AnyPicked
 pub mod MovesKept
 pub mod SitesKept
+pub mod RwLockKept
 pub mod SectionsKept
 pub mod GoneKept
 pub mod TurnsKept

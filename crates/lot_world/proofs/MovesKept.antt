@@ -84,7 +84,7 @@ leaving_plain (Out ∷ End ∷ []) h = tt
 leaving_plain ds h = absurd h
 
 -- who is in nobody's hand isn't taken
-free_of : (q : Place) (l : ℕ) → (station q).hand ≡ None → taken_at q l ≡ None
+pub free_of : (q : Place) (l : ℕ) → (station q).hand ≡ None → taken_at q l ≡ None
 free_of q l none = ap (λ (h : Option Hand). taken_from h (profile q).wants (calls q l)) none
 
 -- one writer is pending
@@ -479,9 +479,9 @@ module _ (w : State) (t l : ℕ) (steady : IsSteady w) (there : t < length w.pla
 
       -- ---------------------------------------------------------------- the writer aside
 
-      module _ (many : TakesOne w l → ⊥) (line : key_of l Second < length w.queues) (g : TakesAside x hears) (followed : (told : Reply) → hears r here t here.lock.aside told → IsFollowed here.lock.aside told (next_place (place_at w t) told)) where
+      module _ (many : TakesOne w l → ⊥) (line : key_of l Second < length w.queues) (g : TakesAside x hears) (followed : (any none_left : Bool) → hears r here t here.lock.aside (Took any none_left) → IsFollowed here.lock.aside (Took any none_left) (next_place (place_at w t) (Took any none_left))) where
         followed_by : (o : Option ℕ) (any none_left : Bool) → first_of (queue_at w (2 * l + 1)) ≡ o → IsFollowed o (Took any none_left) (next_place (place_at w t) (Took any none_left))
-        followed_by o any none_left e = subst (λ o. IsFollowed o (Took any none_left) (next_place (place_at w t) (Took any none_left))) e (followed (Took any none_left) (g.may r here t any none_left))
+        followed_by o any none_left e = subst (λ o. IsFollowed o (Took any none_left) (next_place (place_at w t) (Took any none_left))) e (followed any none_left (g.may r here t any none_left))
 
         hand_then : (o : Option ℕ) (any none_left : Bool) → first_of (queue_at w (2 * l + 1)) ≡ o → taken_at (next_place (place_at w t) (Took any none_left)) l ≡ None
         hand_then o any none_left e = free_of (next_place (place_at w t) (Took any none_left)) l (ap (λ (y : Station). y.hand) (there_is o (Took any none_left) (next_place (place_at w t) (Took any none_left)) (followed_by o any none_left e) ∙ g.goes any none_left))
@@ -527,7 +527,7 @@ module _ (w : State) (t l : ℕ) (steady : IsSteady w) (there : t < length w.pla
 
       -- ---------------------------------------------------------------- those who are picked
 
-      module _ (many : TakesOne w l → ⊥) (line : key_of l Main < length w.queues) (start : Option Want) (g : Picks x hears start) (followed : (told : Reply) → hears r here t None told → IsFollowed None told (next_place (place_at w t) told)) where
+      module _ (many : TakesOne w l → ⊥) (line : key_of l Main < length w.queues) (start : Option Want) (g : Picks x hears start) (followed : (n : ℕ) (y : Option Want) (none_left : Bool) → hears r here t None (Picked n y none_left) → IsFollowed None (Picked n y none_left) (next_place (place_at w t) (Picked n y none_left))) where
         abbrev chosen : List Waiter
         chosen = lock_picked start (is_recursive r.sort) (queue_at w (2 * l))
 
@@ -593,7 +593,7 @@ module _ (w : State) (t l : ℕ) (steady : IsSteady w) (there : t < length w.pla
             at_u = place_then u ∙ ap (λ (c : Bool). if c then p2 else place_at w u) h
 
         picks_follow : IsFollowed None told_picked then_at
-        picks_follow = followed told_picked (g.may r here t (sharers t taken_state.places) (want_of_successor (successor_from t 0 taken_state.places)) (length others == 0) (sym (empty_line others) ∙ ap is_empty (left_tied r.sort start (2 * l) (queue_at w (2 * l)) under)))
+        picks_follow = followed (sharers t taken_state.places) (want_of_successor (successor_from t 0 taken_state.places)) (length others == 0) (g.may r here t (sharers t taken_state.places) (want_of_successor (successor_from t 0 taken_state.places)) (length others == 0) (sym (empty_line others) ∙ ap is_empty (left_tied r.sort start (2 * l) (queue_at w (2 * l)) under)))
 
         goes_then : station then_at ≡ record (inside_of Main) { carries = in_hand any false }
         goes_then = there_is None told_picked then_at picks_follow ∙ g.goes (sharers t taken_state.places) (want_of_successor (successor_from t 0 taken_state.places)) (length others == 0)
