@@ -1,4 +1,4 @@
--- A thread in a call of a mutex goes on: every lock is a site again.
+-- A thread goes on: every lock is a site again. Here a call of a mutex.
 use Rattle.std.proofs.Common.{ℕ, Bool, true, false, Option, Some, None, if◌then◌else◌, ◌==◌, ◌&&◌, not, ◌≡◌, ◌≢◌, ◌+◌, ◌*◌, ◌<◌, ◌⊎◌, List, [], ◌∷◌, length, map, drop, is_none, inl, inr, refl, sym, ◌∙◌, ap, subst, arith}
 use Rattle.std.proofs.lemmas.Bool.{eqb-true}
 use Rattle.lot_base.specs.declared.keys.Keys.TheVariants.{One}
@@ -44,6 +44,7 @@ use Rattle.lot_world.proofs.MutexTable.{mutex, Fits, own_doing, ends, looks, at_
 use Rattle.lot_world.proofs.OneStep.{empty_line}
 use Rattle.lot_world.proofs.SitesKept.{go_by, goes_steady, rules, site_l, word_l, word_keeps, place_keeps, enter_keeps, leave_keeps, one_held, release_wakes, tells, hands_over, take_keeps}
 use Rattle.lot_world.proofs.StandsKept.{in_main}
+use Rattle.lot_world.proofs.RwLockKept.{rwlock_goes_on}
 use Rattle.lot_world.proofs.SectionsKept.{park_keeps, remove_keeps, nobody_keeps}
 
 pub none_is : (x : Option ℕ) → is_none x ≡ true → x ≡ None
@@ -250,4 +251,4 @@ module _ (w : State) (t : ℕ) (steady : IsSteady w) (shape : IsShaped w) (there
   pub gone_kept : (p : Place) → place_at w t ≡ p → PlaceFits (length w.locks) p → can_do w (act_of p) ≡ true → IsSteady (go_by w t p (act_of p))
   gone_kept Idle is fits can = absurd cc
   gone_kept (Mutex l at) is fits can = goes_steady w _ l _ steady (gone_goes l at is fits.0 can).1
-  gone_kept (RwLock l a at) is fits can = absurd (let c : CallsMutex w (RwLock l a at) = rw is at (steady.stands.calls t) in c.2)
+  gone_kept (RwLock l a p) is fits can = goes_steady w _ l _ steady (rwlock_goes_on w t l a p steady shape there fits is can).1

@@ -20,7 +20,7 @@ use Rattle.lot_mutex.specs.declared.places.MutexPlace.{MutexPlace}
 use Rattle.lot_mutex.specs.declared.places.MutexPlace.TheVariants.{Lock, TryLock, Unlock, UnlockFair, Bump, HandOff}
 use Rattle.lot_mutex.specs.MutexSteps.{mutex_first, mutex_right}
 use Rattle.lot_acts.specs.Owners.{is_thread}
-use Rattle.lot_steps.specs.Steps.{is_idle, spin_lock, late_key}
+use Rattle.lot_steps.specs.Steps.{is_idle, spin_lock, late_key, key_in}
 use Rattle.abstract_locks.specs.Sites.{Claim, Has, Begin, HasClaim, idle}
 use Rattle.lot_machine.specs.Machine.{State, place_at, word_at, owners_at, kind_at, put, state_after_begin, can_begin, is_open_to, state_after_spin_on, state_after_late_on, is_free_under, state_after_turn, can_turn, is_possible, after}
 use Rattle.lot_machine.specs.Fits.{IsShaped, PlaceFits}
@@ -39,6 +39,11 @@ use Rattle.lot_world.proofs.MutexTable.{mutex, own_doing, meets, others_same}
 use Rattle.lot_world.proofs.StandsMoved.{mutex_rules}
 use Rattle.lot_world.proofs.SitesKept.{mutex_at, goes_steady, place_goes}
 use Rattle.lot_world.proofs.Closures.{nothing_closes}
+use Rattle.lot_world.proofs.RwLockKept.{rwlock_goes_late}
+use Rattle.lot_rwlock.specs.declared.places.Admission.{Admission}
+use Rattle.lot_rwlock.specs.declared.places.RwLockPlace.{RwLockPlace}
+use Rattle.lot_rwlock.specs.RwLockProfiles.{rwlock_late_line}
+use Rattle.lot_base.specs.declared.keys.Line.{Line}
 use Rattle.lot_world.proofs.GoneKept.{looked, enters, gone_kept}
 
 none_yet : (k : Kind) (l : ℕ) (c : RwLockCall) → has_call k (calling.TheVariants.RwLock l c) ≡ true → ⊥
@@ -112,6 +117,10 @@ module _ (w : State) (t : ℕ) (steady : IsSteady w) (shape : IsShaped w) (there
   lock_late l e r lock.First is lt can = absurd cc
   lock_late l e r a is lt can = absurd cc
 
+  rwlock_late : (l : ℕ) (a : Admission) (p : RwLockPlace) → place_at w t ≡ RwLock l a p → l < length w.locks → (m : Option Line) → rwlock_late_line p ≡ m → is_free_under w (key_in l m) ≡ true → IsSteady (state_after_late_on w t (key_in l m))
+  rwlock_late l a p is lt None e can = absurd cc
+  rwlock_late l a p is lt (Some m) e can = goes_steady w _ l _ steady (rwlock_goes_late w t l a p steady shape there lt is m e can)
+
   late_kept : (p : Place) → place_at w t ≡ p → PlaceFits (length w.locks) p → is_free_under w (late_key p) ≡ true → IsSteady (state_after_late_on w t (late_key p))
   late_kept (Mutex l (Lock e r a)) is fits can = lock_late l e r a is fits.0 can
   late_kept (Mutex l TryLock) is fits can = absurd cc
@@ -119,7 +128,7 @@ module _ (w : State) (t : ℕ) (steady : IsSteady w) (shape : IsShaped w) (there
   late_kept (Mutex l UnlockFair) is fits can = absurd cc
   late_kept (Mutex l Bump) is fits can = absurd cc
   late_kept (Mutex l (HandOff bumps a)) is fits can = absurd cc
-  late_kept (RwLock l a at) is fits can = absurd (let c : CallsMutex w (RwLock l a at) = rw is at (steady.stands.calls t) in c.2)
+  late_kept (RwLock l a p) is fits can = rwlock_late l a p is fits (rwlock_late_line p) refl can
   late_kept Idle is fits can = absurd cc
 
   turned_kept : (x : Turn) → can_turn w t x ≡ true → IsSteady (state_after_turn w t x)
