@@ -35,9 +35,9 @@ pub mod Promises
 pub mod MutexPromises
 pub mod Fair
 pub mod SoloActs
-pub mod Solo
 pub mod LineSolo
 pub mod RwLockSolo
+pub mod Solo
 pub mod Owing
 pub mod WorldRuns
 pub mod RowLaws

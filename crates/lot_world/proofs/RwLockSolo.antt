@@ -1,5 +1,5 @@
 -- A call of a reader-writer lock whose thread steps alone: from each place, where it ends or falls asleep.
-use Rattle.std.proofs.Common.{ℕ, Bool, true, false, Option, Some, None, if◌then◌else◌, ◌==◌, ◌&&◌, ◌||◌, not, ◌≡◌, ◌≢◌, ◌+◌, ◌*◌, ◌/◌, ◌%◌, ◌≤◌, ◌<◌, ◌^◌, inl, inr, List, [], ◌∷◌, ◌++◌, refl, sym, ◌∙◌, ap, subst, arith}
+use Rattle.std.proofs.Common.{ℕ, Bool, true, false, Option, Some, None, if◌then◌else◌, ◌==◌, ◌&&◌, ◌||◌, not, ◌≡◌, ◌≢◌, ◌+◌, ◌*◌, ◌/◌, ◌%◌, ◌≤◌, ◌<◌, ◌^◌, nat_le, inl, inr, List, [], ◌∷◌, ◌++◌, refl, sym, ◌∙◌, ap, subst, arith}
 use Rattle.std.proofs.lemmas.Bool.{cases_eq, eqb-true}
 use Rattle.std.proofs.lemmas.Bool.Decides.{nat_tests}
 use Rattle.lot_base.specs.declared.keys.Keys.TheVariants.{One}
@@ -23,7 +23,7 @@ use Rattle.lot_acts.specs.declared.acts.Next.TheVariants.{At, End}
 use Rattle.lot_acts.specs.declared.acts.Reply.{Reply}
 use Rattle.lot_acts.specs.declared.acts.Reply.TheVariants.{Done, Value, Parked, Took, Picked, Removed}
 use Rattle.lot_acts.specs.declared.acts.Wakes.TheVariants as wakes
-use Rattle.lot_acts.specs.Acts.{outcome_of, wakes_taken}
+use Rattle.lot_acts.specs.Acts.{any_picked, outcome_of, wakes_taken}
 use Rattle.lot_base.specs.Lines.{waiter}
 use Rattle.lot_rwlock.specs.declared.places.Admission.{Admission}
 use Rattle.lot_rwlock.specs.declared.places.RwLockPlace.{RwLockPlace}
@@ -37,7 +37,7 @@ use Rattle.lot_rwlock.specs.declared.park.ParkAt.{ParkAt}
 use Rattle.lot_rwlock.specs.declared.park.ParkAt.TheVariants as parking
 use Rattle.lot_rwlock.specs.declared.release.WakeAt.{WakeAt}
 use Rattle.lot_rwlock.specs.declared.release.WakeAt.TheVariants as waking
-use Rattle.lot_rwlock.specs.RwLockSteps.{wanted, access_of, patience_of, want_at, start_of, ends_with, entered, decided, decision_blocked, waits, exchange, plus, word_taken, rwlock_act, rwlock_next, park_check, unparked, whom, counted, looked, came_in, first_next, gave_way, rolled_back, wakes_or_ends, parks_at, looks_again, gave_up, took, clears, any_picked, rollback_op, give_op, released}
+use Rattle.lot_rwlock.specs.RwLockSteps.{wanted, access_of, patience_of, want_at, start_of, ends_with, entered, is_counted, decision, decided, decided_for, decided_act, exchanged_next, decision_blocked, waits, exchange, plus, word_taken, rwlock_act, rwlock_next, park_check, unparked, whom, counted, looked, looked_by, came_in, first_next, gave_way, rolled_back, wakes_or_ends, parks_at, looks_again, gave_up, missed, took, clears, rollback_op, give_op, released}
 use Rattle.abstract_locks.specs.Codes.{count_in, has_aside, has_parked, is_blocked, bars, leaves_readers}
 use Rattle.abstract_locks.specs.Sites.{Line, Main, Second}
 use Rattle.lot_steps.specs.declared.places.Place.{Place}
@@ -47,9 +47,8 @@ use Rattle.lot_machine.specs.Machine.{State, place_at, word_at, section_at, queu
 use Rattle.lot_world.specs.SitesOf.{key_of}
 use Rattle.lot_world.specs.Solo.{Rests}
 use Rattle.lot_world.proofs.Glue.{same}
-use Rattle.lot_world.proofs.SoloActs.{Leads, leads_rest, leads_step}
-use Rattle.lot_world.proofs.Solo.{leads_more, leads_so}
-use Rattle.lot_world.proofs.LineSolo.{StepsAlone, Comes, word_comes, enter_comes, leave_comes, park_comes, parks_last, remove_comes, take_comes}
+use Rattle.lot_world.proofs.SoloActs.{Leads, leads_rest, leads_step, leads_more, leads_so}
+use Rattle.lot_world.proofs.LineSolo.{StepsAlone, Comes, word_comes, enter_comes, leave_comes, park_comes, parks_last, remove_comes, take_comes, finds_free}
 
 -- ---------------------------------------------------------------- what a thread reads in the word that it has marked
 
@@ -64,16 +63,16 @@ marked v small clear = record { parked = grind (arith, nat_tests, fits); blocked
     even = grind (arith, nat_tests)
 
     fits : plus v 1 ≡ v + 1
-    fits = omega arith
+    fits = omega (arith, even)
 
     count : count_in (plus v 1) ≡ count_in v
-    count = rw fits (omega arith)
+    count = rw fits (omega (arith, even))
 
     writer : plus v 1 / 8 % 2 ≡ v / 8 % 2
-    writer = rw fits (omega arith)
+    writer = rw fits (omega (arith, even))
 
     upgradable : plus v 1 / 4 % 2 ≡ v / 4 % 2
-    upgradable = rw fits (omega arith)
+    upgradable = rw fits (omega (arith, even))
 
     blocked : (recursive : Bool) (x : Want) → is_blocked recursive x (plus v 1) ≡ is_blocked recursive x v
     blocked recursive Shared = λ i. (writer i == 1) && (not recursive || (count i == 0))
@@ -87,13 +86,13 @@ record IsMarkedAside (v : ℕ) : Type 0 where
   pub count : count_in (plus v 2) ≡ count_in v
 
 marked_aside : (v : ℕ) → v < 2 ^ 64 → has_aside v ≡ false → IsMarkedAside v
-marked_aside v small clear = record { aside = grind (arith, nat_tests, fits); count = rw fits (omega arith) }
+marked_aside v small clear = record { aside = grind (arith, nat_tests, fits); count = rw fits (omega (arith, even)) }
   where
     even : v / 2 % 2 ≡ 0
     even = grind (arith, nat_tests)
 
     fits : plus v 2 ≡ v + 2
-    fits = omega arith
+    fits = omega (arith, even)
 
 -- ---------------------------------------------------------------- runs of a thread alone
 
@@ -101,9 +100,6 @@ abbrev Resting : State → Outcome → Type 0
 Resting v x = Rests x
 
 module _ (t l : ℕ) (a : Admission) where
-  abbrev At : RwLockPlace → Place
-  At p = RwLock l a p
-
   abbrev Alone : State → RwLockPlace → ℕ → (Line → List Waiter) → Type 0
   Alone w p v q = StepsAlone w t l (RwLock l a p) v q
 
@@ -144,3 +140,275 @@ module _ (t l : ℕ) (a : Admission) where
   aside_sleeps p v w q left f = let c = park_comes w t l _ v q f (2 * l + 1) (park_check a (want_at p) Second) (want_at p) true refl left in
       goes w (Sleeps Second p q) 1 v _ (again p (at.Aside (parking.Leave true)) (p.retries && not true)) _ refl refl c
       (λ g. parks_sleeps Second p (p.retries && not true) v _ q _ (parks_last w t l _ v q f refl Second (want_at p)) g)
+
+  -- ---------------------------------------------------------------- who waits
+
+  -- the decision of who waits, by the parked bit that it saw
+  abbrev waiting : Bool → Decision
+  waiting parked = if parked then decisions.Park else decisions.Mark
+
+  record IsBarred (x : Want) (v : ℕ) (parked : Bool) : Type 0 where
+    pub blocked : is_blocked a.recursive x v ≡ true
+    pub bit : has_parked v ≡ parked
+
+  waits_by : (b parked : Bool) → waits b ≡ waiting parked → b ≡ parked
+  waits_by true true h = refl
+  waits_by true false h = absurd cc
+  waits_by false true h = absurd cc
+  waits_by false false h = refl
+
+  blocked_by : (how : Patience) (v : ℕ) (parked : Bool) → decision_blocked how v ≡ waiting parked → has_parked v ≡ parked
+  blocked_by Try v true h = absurd cc
+  blocked_by Try v false h = absurd cc
+  blocked_by Patient v parked h = waits_by (has_parked v) parked h
+  blocked_by Timed v parked h = waits_by (has_parked v) parked h
+
+  refuses_not : (c parked : Bool) → (if c then decisions.Refuse answer.ReadersFull else decisions.Take) ≡ waiting parked → ⊥
+  refuses_not true true h = absurd cc
+  refuses_not true false h = absurd cc
+  refuses_not false true h = absurd cc
+  refuses_not false false h = absurd cc
+
+  barred_by : (x : Want) (how : Patience) (v : ℕ) (parked : Bool) → decision a x how v ≡ waiting parked → IsBarred x v parked
+  barred_by x how v parked h = either (is_blocked a.recursive x v) refl h
+    where
+      either : (b : Bool) → is_blocked a.recursive x v ≡ b → (if b then decision_blocked how v else if is_counted x && nat_le a.limit (count_in v) then decisions.Refuse answer.ReadersFull else decisions.Take) ≡ waiting parked → IsBarred x v parked
+      either true e g = record { blocked = e; bit = blocked_by how v parked g }
+      either false e g = absurd (refuses_not (is_counted x && nat_le a.limit (count_in v)) parked g)
+
+  tries_not : (b parked : Bool) → (if b then decisions.Take else decisions.Refuse answer.No) ≡ waiting parked → ⊥
+  tries_not true true h = absurd cc
+  tries_not true false h = absurd cc
+  tries_not false true h = absurd cc
+  tries_not false false h = absurd cc
+
+  barred : (p : RwLockPlace) (v : ℕ) (parked : Bool) → decided a p v ≡ waiting parked → IsBarred (want_at p) v parked
+  barred p v parked h = by_purpose p.purpose h
+    where
+      by_purpose : (q : RwLockPurpose) → decided_for a q v ≡ waiting parked → IsBarred (wanted (access_of q)) v parked
+      by_purpose (purpose.Upgrade how) g = absurd (tries_not (count_in v == 1) parked g)
+      by_purpose (purpose.Enter x how) g = barred_by (wanted x) how v parked g
+      by_purpose (purpose.Release x) g = barred_by (wanted x) Patient v parked g
+      by_purpose (purpose.Downgrade d) g = barred_by (wanted (access_of (purpose.Downgrade d))) Patient v parked g
+
+  -- who waits still waits when the bit is set
+  still_waits : (p : RwLockPlace) (v : ℕ) → v < 2 ^ 64 → decided a p v ≡ decisions.Mark → decided a p (plus v 1) ≡ decisions.Park
+  still_waits p v small h = by_purpose p.purpose h
+    where
+      mark : (x : Want) → IsBarred x v false → IsMarked v
+      mark x b = marked v small b.bit
+
+      parks : (x : Want) (how : Patience) → decision a x how v ≡ decisions.Mark → decision a x how (plus v 1) ≡ decisions.Park
+      parks x how g = let b = barred_by x how v false g in let m = marked v small b.bit in by_how how (sym (ap (λ c. if c then decision_blocked how v else if is_counted x && nat_le a.limit (count_in v) then decisions.Refuse answer.ReadersFull else decisions.Take) b.blocked) ∙ g)
+          ∙ refl
+        where
+          by_how : (y : Patience) → decision_blocked y v ≡ decisions.Mark → decision a x y (plus v 1) ≡ decisions.Park
+          by_how Try e = absurd cc
+          by_how Patient e = let b = barred_by x how v false g in let m = marked v small b.bit in rw (m.blocked a.recursive x, b.blocked, m.parked) refl
+          by_how Timed e = let b = barred_by x how v false g in let m = marked v small b.bit in rw (m.blocked a.recursive x, b.blocked, m.parked) refl
+
+      by_purpose : (q : RwLockPurpose) → decided_for a q v ≡ decisions.Mark → decided_for a q (plus v 1) ≡ decisions.Park
+      by_purpose (purpose.Upgrade how) g = absurd (tries_not (count_in v == 1) false g)
+      by_purpose (purpose.Enter x how) g = parks (wanted x) how g
+      by_purpose (purpose.Release x) g = parks (wanted x) Patient g
+      by_purpose (purpose.Downgrade d) g = parks (wanted (access_of (purpose.Downgrade d))) Patient g
+
+  -- ---------------------------------------------------------------- by the word as it is
+
+  abbrev decides : RwLockPlace → ℕ → RwLockPlace
+  decides p v = again p (at.Decide v) p.retries
+
+  parks_leads : (p : RwLockPlace) (v : ℕ) (w : State) (q : Line → List Waiter) → decided a p v ≡ decisions.Park → Alone w (decides p v) v q → Leads 3 w t (Sleeps Main p q)
+  parks_leads p v w q e f = let b = barred p v true e in
+      let c = enter_comes w t l _ v q f Main (ap (λ d. decided_act l p.purpose v d) e) (finds_free w t l _ v q f refl Main) in
+      goes w (Sleeps Main p q) 2 v q (again p (at.Park parking.Check) p.retries) _ refl refl c (λ g. check_sleeps p v _ q (rw (b.bit, b.blocked) refl) g)
+
+  marks_leads : (p : RwLockPlace) (v : ℕ) (w : State) (q : Line → List Waiter) → v < 2 ^ 64 → decided a p v ≡ decisions.Mark → Alone w (decides p v) v q → Leads 4 w t (Sleeps Main p q)
+  marks_leads p v w q small e f = let c = word_comes w t l _ v q f (op.Exchange v (plus v 1)) (ap (λ d. decided_act l p.purpose v d) e) in
+      let behind : decided a p (plus v 1) ≡ decisions.Park = still_waits p v small e in
+      goes w (Sleeps Main p q) 3 _ q (decides p (plus v 1)) _ (ap (exchanged_next a (decides p v) v v) e ∙ ap (λ (b : Bool). if b then At (decides p (plus v 1)) else looked a (decides p v) v) (same v))
+      (ap (λ d. outcome_of (decided_act l p.purpose (plus v 1) d)) behind) c (λ g. parks_leads p (plus v 1) _ q behind (subst (λ y. Alone (after w (go_of t)) (decides p (plus v 1)) y q) (ap (λ (b : Bool). if b then plus v 1 else v) (same v)) g))
+
+  -- ---------------------------------------------------------------- a pending writer
+
+  count_aside : (p : RwLockPlace) (v : ℕ) (w : State) (q : Line → List Waiter) → has_aside v ≡ true → (count_in v == 0) ≡ false → Alone w (to p (at.Count v)) v q → Leads 3 w t (Sleeps Second p q)
+  count_aside p v w q bit left f = let c = enter_comes w t l _ v q f Second (ap (λ (b : Bool). if b then act.Enter (One (2 * l + 1)) else exchange l v (plus v 2)) bit) (finds_free w t l _ v q f refl Second) in
+      goes w (Sleeps Second p q) 2 v q (again p (at.Aside parking.Check) p.retries) _ refl refl c (λ g. aside_sleeps p v _ q (rw (bit, left) refl) g)
+
+  count_marks : (p : RwLockPlace) (v : ℕ) (w : State) (q : Line → List Waiter) → v < 2 ^ 64 → has_aside v ≡ false → (count_in v == 0) ≡ false → Alone w (to p (at.Count v)) v q → Leads 4 w t (Sleeps Second p q)
+  count_marks p v w q small bit left f = let c = word_comes w t l _ v q f (op.Exchange v (plus v 2)) (ap (λ (b : Bool). if b then act.Enter (One (2 * l + 1)) else exchange l v (plus v 2)) bit) in
+      let m = marked_aside v small bit in
+      goes w (Sleeps Second p q) 3 _ q (again p (at.Count (plus v 2)) p.retries) _ (ap (λ (b : Bool). if b then At (again p (at.Count (plus v 2)) p.retries) else counted (to p (at.Count v)) v) (same v))
+      (ap (λ (b : Bool). outcome_of (if b then act.Enter (One (2 * l + 1)) else exchange l (plus v 2) (plus (plus v 2) 2))) m.aside) c
+      (λ g. count_aside p (plus v 2) _ q m.aside (ap (λ n. n == 0) m.count ∙ left) (subst (λ y. Alone (after w (go_of t)) (again p (at.Count (plus v 2)) p.retries) y q) (ap (λ (b : Bool). if b then plus v 2 else v) (same v)) g))
+
+  count_leads : (p : RwLockPlace) (v : ℕ) (w : State) (q : Line → List Waiter) → v < 2 ^ 64 → (count_in v == 0) ≡ false → Alone w (to p (at.Count v)) v q → Leads 4 w t (Sleeps Second p q)
+  count_leads p v w q small left f = either (has_aside v) refl
+    where
+      either : (b : Bool) → has_aside v ≡ b → Leads 4 w t (Sleeps Second p q)
+      either true e = leads_more 3 4 w t (Sleeps Second p q) (omega arith) (count_aside p v w q e left f)
+      either false e = count_marks p v w q small e left f
+
+  counts_step : (v : ℕ) (b : Bool) → outcome_of (if b then act.Enter (One (2 * l + 1)) else exchange l v (plus v 2)) ≡ outcome.Step
+  counts_step v true = refl
+  counts_step v false = refl
+
+  -- it owns where nobody shares, and else it sleeps aside
+  abbrev Settles : Bool → RwLockPlace → (Line → List Waiter) → State → Outcome → Type 0
+  Settles true p q v x = x ≡ outcome.End (entered (patience_of p.purpose))
+  Settles false p q v x = Sleeps Second p q v x
+
+  look_leads : (p : RwLockPlace) (v : ℕ) (w : State) (q : Line → List Waiter) → v < 2 ^ 64 → Alone w (to p at.Look) v q → Leads 5 w t (Settles (count_in v == 0) p q)
+  look_leads p v w q small f = either (count_in v == 0) refl (word_comes w t l _ v q f op.Load refl)
+    where
+      counting : Bool → Next RwLockPlace
+      counting b = if b then End (entered (patience_of p.purpose)) else At (again p (at.Count v) p.retries)
+
+      either : (b : Bool) → (count_in v == 0) ≡ b → Comes w t l (rwlock_goes l a (counting b)) (outcome_of (rwlock_does l a (counting b))) v q → Leads 5 w t (Settles b p q)
+      either true e c = leads_more 1 5 w t (Settles true p q) (omega arith) (ends w (Settles true p q) v q (entered (patience_of p.purpose)) (counting true) refl c refl)
+      either false e c = goes w (Settles false p q) 4 v q (again p (at.Count v) p.retries) (counting false) refl (counts_step v (has_aside v)) c (λ g. count_leads p v _ q small e g)
+
+  -- ---------------------------------------------------------------- from a look
+
+  -- who takes a right has it, and a writer looks for readers then
+  abbrev Takes : RwLockPurpose → Bool → ℕ → (Line → List Waiter) → State → Outcome → Type 0
+  Takes (purpose.Enter access.Exclusive how) retries v q s x = Settles (count_in (plus v 8) == 0) (record { purpose = purpose.Enter access.Exclusive how; retries = retries; at = at.Look }) q s x
+  Takes r retries v q s x = x ≡ outcome.End (entered (patience_of r))
+
+  abbrev place_for : RwLockPurpose → Bool → RwLockAt → RwLockPlace
+  place_for r retries at = record { purpose = r; retries = retries; at = at }
+
+  below : (n : ℕ) → n % 2 ^ 64 < 2 ^ 64
+  below n = omega arith
+
+  won : (v x : ℕ) → apply (op.Exchange v x) v ≡ x
+  won v x = ap (λ (b : Bool). if b then x else v) (same v)
+
+  takes_leads : (r : RwLockPurpose) (retries : Bool) (v : ℕ) (w : State) (q : Line → List Waiter) → decided_for a r v ≡ decisions.Take → Alone w (place_for r retries (at.Decide v)) v q → Leads 6 w t (Takes r retries v q)
+  takes_leads r retries v w q e f = by_purpose r e (word_comes w t l _ v q f (op.Exchange v (word_taken r v)) (ap (λ d. decided_act l r v d) e))
+    where
+      is_next : (r : RwLockPurpose) → decided_for a r v ≡ decisions.Take → rwlock_next a (place_for r retries (at.Decide v)) (Value v) ≡ came_in (place_for r retries (at.Decide v))
+      is_next r e = ap (exchanged_next a (place_for r retries (at.Decide v)) v v) e ∙ ap (λ (b : Bool). if b then came_in (place_for r retries (at.Decide v)) else looked a (place_for r retries (at.Decide v)) v) (same v)
+
+      finished : (r : RwLockPurpose) → decided_for a r v ≡ decisions.Take → came_in (place_for r retries (at.Decide v)) ≡ End (entered (patience_of r))
+          → Comes w t l (rwlock_goes l a (rwlock_next a (place_for r retries (at.Decide v)) (Value v))) (outcome_of (rwlock_does l a (rwlock_next a (place_for r retries (at.Decide v)) (Value v)))) (apply (op.Exchange v (word_taken r v)) v) q
+          → Leads 6 w t (λ s x. x ≡ outcome.End (entered (patience_of r)))
+      finished r e ended c = leads_more 1 6 w t (λ s x. x ≡ outcome.End (entered (patience_of r))) (omega arith) (ends w (λ s x. x ≡ outcome.End (entered (patience_of r))) _ q (entered (patience_of r)) _ (is_next r e ∙ ended) c refl)
+
+      by_purpose : (r : RwLockPurpose) → decided_for a r v ≡ decisions.Take → Comes w t l (rwlock_goes l a (rwlock_next a (place_for r retries (at.Decide v)) (Value v))) (outcome_of (rwlock_does l a (rwlock_next a (place_for r retries (at.Decide v)) (Value v)))) (apply (op.Exchange v (word_taken r v)) v) q → Leads 6 w t (Takes r retries v q)
+      by_purpose (purpose.Enter access.Exclusive how) e c = goes w (Takes (purpose.Enter access.Exclusive how) retries v q) 5 _ q (place_for (purpose.Enter access.Exclusive how) false at.Look) _ (is_next (purpose.Enter access.Exclusive how) e) refl c
+          (λ g. settled (look_leads (place_for (purpose.Enter access.Exclusive how) false at.Look) (plus v 8) _ q (below (v + 8)) (subst (λ y. Alone (after w (go_of t)) (place_for (purpose.Enter access.Exclusive how) false at.Look) y q) (won v (plus v 8)) g)))
+        where
+          settled : Leads 5 (after w (go_of t)) t (Settles (count_in (plus v 8) == 0) (place_for (purpose.Enter access.Exclusive how) false at.Look) q) → Leads 5 (after w (go_of t)) t (Takes (purpose.Enter access.Exclusive how) retries v q)
+          settled h = leads_so 5 (after w (go_of t)) t (Settles (count_in (plus v 8) == 0) (place_for (purpose.Enter access.Exclusive how) false at.Look) q) (Takes (purpose.Enter access.Exclusive how) retries v q) (so (count_in (plus v 8) == 0)) h
+            where
+              so : (b : Bool) (s : State) (x : Outcome) → Settles b (place_for (purpose.Enter access.Exclusive how) false at.Look) q s x → Settles b (place_for (purpose.Enter access.Exclusive how) retries at.Look) q s x
+              so true s x g = g
+              so false s x g = g
+      by_purpose (purpose.Enter access.Shared how) e c = finished (purpose.Enter access.Shared how) e refl c
+      by_purpose (purpose.Enter access.Upgradable how) e c = finished (purpose.Enter access.Upgradable how) e refl c
+      by_purpose (purpose.Release x) e c = finished (purpose.Release x) e refl c
+      by_purpose (purpose.Downgrade d) e c = finished (purpose.Downgrade d) e refl c
+      by_purpose (purpose.Upgrade how) e c = finished (purpose.Upgrade how) e refl c
+
+  -- by its decision about the word as it is
+  abbrev Decides : Decision → RwLockPlace → ℕ → (Line → List Waiter) → State → Outcome → Type 0
+  Decides (decisions.Refuse answer) p v q s x = x ≡ outcome.End answer
+  Decides decisions.Take p v q s x = Takes p.purpose p.retries v q s x
+  Decides decision p v q s x = Sleeps Main p q s x
+
+  abbrev IsAnswered : Decision → Type 0
+  IsAnswered (decisions.Refuse answer) = ⊥
+  IsAnswered d = Unit {0}
+
+  fresh_leads : (p : RwLockPlace) (v : ℕ) (w : State) (q : Line → List Waiter) → v < 2 ^ 64 → (d : Decision) → IsAnswered d → decided a p v ≡ d → Alone w (decides p v) v q → Leads 6 w t (Decides d p v q)
+  fresh_leads p v w q small decisions.Take h e f = takes_leads p.purpose p.retries v w q e f
+  fresh_leads p v w q small decisions.Mark h e f = leads_more 4 6 w t (Sleeps Main p q) (omega arith) (marks_leads p v w q small e f)
+  fresh_leads p v w q small decisions.Park h e f = leads_more 3 6 w t (Sleeps Main p q) (omega arith) (parks_leads p v w q e f)
+  fresh_leads p v w q small (decisions.Refuse answer) h e f = absurd h
+
+  -- it has looked at the word as it is
+  looked_leads : (p : RwLockPlace) (v : ℕ) (w : State) (q : Line → List Waiter) (n : Next RwLockPlace) → v < 2 ^ 64 → n ≡ looked a p v → Comes w t l (rwlock_goes l a n) (outcome_of (rwlock_does l a n)) v q → Leads 7 w t (Decides (decided a p v) p v q)
+  looked_leads p v w q n small is c = by_decision (decided a p v) refl is
+    where
+      by_decision : (d : Decision) → decided a p v ≡ d → n ≡ looked_by p v d → Leads 7 w t (Decides d p v q)
+      by_decision (decisions.Refuse answer) e g = leads_more 1 7 w t (Decides (decisions.Refuse answer) p v q) (omega arith) (ends w (Decides (decisions.Refuse answer) p v q) v q answer n g c refl)
+      by_decision decisions.Take e g = goes w (Decides decisions.Take p v q) 6 v q (decides p v) n g (ap (λ d. outcome_of (decided_act l p.purpose v d)) e) c (λ f. fresh_leads p v _ q small decisions.Take tt e f)
+      by_decision decisions.Mark e g = goes w (Decides decisions.Mark p v q) 6 v q (decides p v) n g (ap (λ d. outcome_of (decided_act l p.purpose v d)) e) c (λ f. fresh_leads p v _ q small decisions.Mark tt e f)
+      by_decision decisions.Park e g = goes w (Decides decisions.Park p v q) 6 v q (decides p v) n g (ap (λ d. outcome_of (decided_act l p.purpose v d)) e) c (λ f. fresh_leads p v _ q small decisions.Park tt e f)
+
+  load_leads : (p : RwLockPlace) (v : ℕ) (w : State) (q : Line → List Waiter) → v < 2 ^ 64 → Alone w (to p at.Load) v q → Leads 7 w t (Decides (decided a p v) p v q)
+  load_leads p v w q small f = looked_leads p v w q _ small refl (word_comes w t l _ v q f op.Load refl)
+
+  -- a writer tries an unlocked word first
+  abbrev Tries : Bool → Patience → RwLockPlace → ℕ → (Line → List Waiter) → State → Outcome → Type 0
+  Tries true how p v q s x = x ≡ outcome.End (entered how)
+  Tries false Try p v q s x = x ≡ outcome.End answer.No
+  Tries false how p v q s x = Decides (decided a p v) p v q s x
+
+  first_leads : (p : RwLockPlace) (v : ℕ) (w : State) (q : Line → List Waiter) → v < 2 ^ 64 → Alone w (to p at.First) v q → Leads 8 w t (Tries (v == 0) (patience_of p.purpose) p v q)
+  first_leads p v w q small f = either (v == 0) (patience_of p.purpose) (word_comes w t l _ v q f (op.Exchange 0 8) refl) refl refl
+    where
+      ended : (P : State → Outcome → Type 0) (x : ℕ) (answer : Answer) → Comes w t l Idle (outcome.End answer) x q → P (after w (go_of t)) (outcome.End answer) → Leads 8 w t P
+      ended P x answer c h = leads_more 1 8 w t P (omega arith) (leads_rest w t P (outcome.End answer) c.0 tt h)
+
+      looks : (how : Patience) → (v == 0) ≡ false → Comes w t l (RwLock l a (to p at.Load)) outcome.Step (if v == 0 then 8 else v) q → Leads 8 w t (Decides (decided a p v) p v q)
+      looks how e c = leads_step w t (Decides (decided a p v) p v q) 7 c.0 (load_leads p v _ q small (subst (λ y. Alone (after w (go_of t)) (to p at.Load) y q) (ap (λ (b : Bool). if b then 8 else v) e) c.1))
+
+      either : (b : Bool) (how : Patience) → Comes w t l (rwlock_goes l a (if b then End (entered how) else missed p how)) (outcome_of (rwlock_does l a (if b then End (entered how) else missed p how))) (if v == 0 then 8 else v) q → (v == 0) ≡ b → patience_of p.purpose ≡ how → Leads 8 w t (Tries b how p v q)
+      either true how c e g = ended (Tries true how p v q) _ (entered how) c refl
+      either false Try c e g = ended (Tries false Try p v q) _ answer.No c refl
+      either false Patient c e g = looks Patient e c
+      either false Timed c e g = looks Timed e c
+
+  -- ---------------------------------------------------------------- from any place
+
+  sleeps_so : (m : Line) (p : RwLockPlace) (q : Line → List Waiter) (s : State) (x : Outcome) → Sleeps m p q s x → Rests x
+  sleeps_so m p q s x h = rw (h.0) tt
+
+  settles_so : (b : Bool) (p : RwLockPlace) (q : Line → List Waiter) (s : State) (x : Outcome) → Settles b p q s x → Rests x
+  settles_so true p q s x h = rw h tt
+  settles_so false p q s x h = sleeps_so Second p q s x h
+
+  takes_so : (r : RwLockPurpose) (retries : Bool) (v : ℕ) (q : Line → List Waiter) (s : State) (x : Outcome) → Takes r retries v q s x → Rests x
+  takes_so (purpose.Enter access.Exclusive how) retries v q s x h = settles_so (count_in (plus v 8) == 0) _ q s x h
+  takes_so (purpose.Enter access.Shared how) retries v q s x h = rw h tt
+  takes_so (purpose.Enter access.Upgradable how) retries v q s x h = rw h tt
+  takes_so (purpose.Release y) retries v q s x h = rw h tt
+  takes_so (purpose.Downgrade d) retries v q s x h = rw h tt
+  takes_so (purpose.Upgrade how) retries v q s x h = rw h tt
+
+  decides_so : (d : Decision) (p : RwLockPlace) (v : ℕ) (q : Line → List Waiter) (s : State) (x : Outcome) → Decides d p v q s x → Rests x
+  decides_so (decisions.Refuse answer) p v q s x h = rw h tt
+  decides_so decisions.Take p v q s x h = takes_so p.purpose p.retries v q s x h
+  decides_so decisions.Mark p v q s x h = sleeps_so Main p q s x h
+  decides_so decisions.Park p v q s x h = sleeps_so Main p q s x h
+
+  tries_so : (b : Bool) (how : Patience) (p : RwLockPlace) (v : ℕ) (q : Line → List Waiter) (s : State) (x : Outcome) → Tries b how p v q s x → Rests x
+  tries_so true how p v q s x h = rw h tt
+  tries_so false Try p v q s x h = rw h tt
+  tries_so false Patient p v q s x h = decides_so (decided a p v) p v q s x h
+  tries_so false Timed p v q s x h = decides_so (decided a p v) p v q s x h
+
+  looked_rests : (p : RwLockPlace) (v : ℕ) (w : State) (q : Line → List Waiter) (n : Next RwLockPlace) → v < 2 ^ 64 → n ≡ looked a p v → Comes w t l (rwlock_goes l a n) (outcome_of (rwlock_does l a n)) v q → Leads 7 w t Resting
+  looked_rests p v w q n small is c = leads_so 7 w t (Decides (decided a p v) p v q) Resting (decides_so (decided a p v) p v q) (looked_leads p v w q n small is c)
+
+  load_rests : (p : RwLockPlace) (v : ℕ) (w : State) (q : Line → List Waiter) → v < 2 ^ 64 → Alone w (to p at.Load) v q → Leads 7 w t Resting
+  load_rests p v w q small f = leads_so 7 w t (Decides (decided a p v) p v q) Resting (decides_so (decided a p v) p v q) (load_leads p v w q small f)
+
+  look_rests : (p : RwLockPlace) (v : ℕ) (w : State) (q : Line → List Waiter) → v < 2 ^ 64 → Alone w (to p at.Look) v q → Leads 5 w t Resting
+  look_rests p v w q small f = leads_so 5 w t (Settles (count_in v == 0) p q) Resting (settles_so (count_in v == 0) p q) (look_leads p v w q small f)
+
+  -- on its way to wake others
+  wakes_leave : (p : RwLockPlace) (m : Line) (any : Bool) (v : ℕ) (w : State) (q : Line → List Waiter) → Alone w (to p (at.Wake m (waking.Leave any))) v q → Leads 1 w t Resting
+  wakes_leave p m any v w q f = ends w Resting v q (ends_with p.purpose) _ refl (leave_comes w t l _ v q f m _ refl) tt
+
+  wakes_clear : (p : RwLockPlace) (m : Line) (any : Bool) (v : ℕ) (w : State) (q : Line → List Waiter) → Alone w (to p (at.Wake m (waking.Clear any))) v q → Leads 2 w t Resting
+  wakes_clear p m any v w q f = goes w Resting 1 _ q (again p (at.Wake m (waking.Leave any)) p.retries) _ refl refl (word_comes w t l _ v q f (unparked m) refl) (λ g. wakes_leave p m any _ _ q g)
+
+  took_rests : (p : RwLockPlace) (m : Line) (any none_left : Bool) (v : ℕ) (w : State) (q : Line → List Waiter) → Comes w t l (RwLock l a (again p (at.Wake m (took m any none_left)) p.retries)) (outcome_of (rwlock_act l a (again p (at.Wake m (took m any none_left)) p.retries))) v q → Leads 3 w t Resting
+  took_rests p m any none_left v w q c = either (clears m none_left) c
+    where
+      either : (b : Bool) → Comes w t l (RwLock l a (again p (at.Wake m (if b then waking.Clear any else waking.Leave any)) p.retries)) (outcome_of (rwlock_act l a (again p (at.Wake m (if b then waking.Clear any else waking.Leave any)) p.retries))) v q → Leads 3 w t Resting
+      either true c = leads_step w t Resting 2 c.0 (wakes_clear p m any v _ q c.1)
+      either false c = leads_more 2 3 w t Resting (omega arith) (leads_step w t Resting 1 c.0 (wakes_leave p m any v _ q c.1))

@@ -67,13 +67,7 @@ use Rattle.lot_acts.specs.declared.owners.Owners.{Owners}
 use Rattle.lot_acts.specs.Owners.{with_exclusive}
 use Rattle.lot_world.proofs.GoneKept.{gone_goes}
 use Rattle.lot_world.proofs.AtPlaces.{coded as words_coded, coded_for, absent, owns}
-use Rattle.lot_world.proofs.SoloActs.{Leads, leads_rest, leads_step, Facing, Faces, word_faces, enter_faces, leave_faces, wake_faces, hand_faces, accept_faces, park_faces, unparked_faces, remove_faces, take_faces, act_led}
-
-leads_more : (k m : ℕ) (w : State) (t : ℕ) (P : State → Outcome → Type 0) → k ≤ m → Leads k w t P → Leads m w t P
-leads_more k m w t P le h n last bound = h n last (omega arith)
-
-leads_so : (k : ℕ) (w : State) (t : ℕ) (P Q : State → Outcome → Type 0) → ((v : State) (x : Outcome) → P v x → Q v x) → Leads k w t P → Leads k w t Q
-leads_so k w t P Q so h n last bound = so _ _ (h n last bound)
+use Rattle.lot_world.proofs.SoloActs.{Leads, leads_rest, leads_step, leads_more, leads_so, Facing, Faces, word_faces, enter_faces, leave_faces, wake_faces, hand_faces, accept_faces, park_faces, unparked_faces, remove_faces, take_faces, act_led}
 
 -- ---------------------------------------------------------------- lock
 
