@@ -1,5 +1,5 @@
 -- A call of a reader-writer lock whose thread steps alone: from each place, where it ends or falls asleep.
-use Rattle.std.proofs.Common.{ℕ, Bool, true, false, Option, Some, None, if◌then◌else◌, ◌==◌, ◌&&◌, ◌||◌, not, ◌≡◌, ◌≢◌, ◌+◌, ◌*◌, ◌/◌, ◌%◌, ◌≤◌, ◌<◌, ◌^◌, nat_le, inl, inr, List, [], ◌∷◌, ◌++◌, refl, sym, ◌∙◌, ap, subst, arith}
+use Rattle.std.proofs.Common.{ℕ, Bool, true, false, Option, Some, None, if◌then◌else◌, ◌==◌, ◌&&◌, ◌||◌, not, ◌≡◌, ◌≢◌, ◌+◌, ◌*◌, ◌/◌, ◌%◌, ◌≤◌, ◌<◌, ◌^◌, nat_le, length, drop, inl, inr, List, [], ◌∷◌, ◌++◌, refl, sym, ◌∙◌, ap, subst, arith}
 use Rattle.std.proofs.lemmas.Bool.{cases_eq, eqb-true}
 use Rattle.std.proofs.lemmas.Bool.Decides.{nat_tests}
 use Rattle.lot_base.specs.declared.keys.Keys.TheVariants.{One}
@@ -23,8 +23,9 @@ use Rattle.lot_acts.specs.declared.acts.Next.TheVariants.{At, End}
 use Rattle.lot_acts.specs.declared.acts.Reply.{Reply}
 use Rattle.lot_acts.specs.declared.acts.Reply.TheVariants.{Done, Value, Parked, Took, Picked, Removed}
 use Rattle.lot_acts.specs.declared.acts.Wakes.TheVariants as wakes
-use Rattle.lot_acts.specs.Acts.{any_picked, outcome_of, wakes_taken}
-use Rattle.lot_base.specs.Lines.{waiter}
+use Rattle.lot_acts.specs.Acts.{holds, outcome_of}
+use Rattle.lot_acts.specs.declared.acts.Whom.TheVariants as whoms
+use Rattle.lot_base.specs.Lines.{waiter, first_of}
 use Rattle.lot_rwlock.specs.declared.places.Admission.{Admission}
 use Rattle.lot_rwlock.specs.declared.places.RwLockPlace.{RwLockPlace}
 use Rattle.lot_rwlock.specs.declared.purposes.RwLockPurpose.{RwLockPurpose}
@@ -43,7 +44,7 @@ use Rattle.abstract_locks.specs.Sites.{Line, Main, Second}
 use Rattle.lot_steps.specs.declared.places.Place.{Place}
 use Rattle.lot_steps.specs.declared.places.Place.TheVariants.{Idle, RwLock}
 use Rattle.lot_steps.specs.Steps.{act_of, next_place, next_act, rwlock_goes, rwlock_does}
-use Rattle.lot_machine.specs.Machine.{State, place_at, word_at, section_at, queue_at, queues_with_last, after, step_outcome, go_of, solo, reply_to}
+use Rattle.lot_machine.specs.Machine.{State, place_at, word_at, section_at, queue_at, queues_with_last, queues_without_first, state_after_taking, after, step_outcome, go_of, solo, reply_to}
 use Rattle.lot_world.specs.SitesOf.{key_of}
 use Rattle.lot_world.specs.Solo.{Rests}
 use Rattle.lot_world.proofs.Glue.{same}
@@ -412,3 +413,164 @@ module _ (t l : ℕ) (a : Admission) where
       either : (b : Bool) → Comes w t l (RwLock l a (again p (at.Wake m (if b then waking.Clear any else waking.Leave any)) p.retries)) (outcome_of (rwlock_act l a (again p (at.Wake m (if b then waking.Clear any else waking.Leave any)) p.retries))) v q → Leads 3 w t Resting
       either true c = leads_step w t Resting 2 c.0 (wakes_clear p m any v _ q c.1)
       either false c = leads_more 2 3 w t Resting (omega arith) (leads_step w t Resting 1 c.0 (wakes_leave p m any v _ q c.1))
+
+  taken_word : (b : State) (x : Option ℕ) → word_at (state_after_taking b t x) l ≡ word_at b l
+  taken_word b None = refl
+  taken_word b (Some u) = refl
+
+  taken_sections : (b : State) (x : Option ℕ) (k : ℕ) → section_at (state_after_taking b t x) k ≡ section_at b k
+  taken_sections b None k = refl
+  taken_sections b (Some u) k = refl
+
+  wakes_take : (p : RwLockPlace) (m : Line) (v : ℕ) (w : State) (q : Line → List Waiter) → Alone w (to p (at.Wake m waking.Take)) v q → Leads 4 w t Resting
+  wakes_take p Main v w q f = leads_more 3 4 w t Resting (omega arith) (took_rests p Main _ _ v w _ (take_comes w t l _ v q f (2 * l) (whom a (start_of p.purpose) Main) refl refl (λ k. refl)))
+  wakes_take p Second v w q f = leads_more 3 4 w t Resting (omega arith) (took_rests p Second _ (length (drop 1 (queue_at w (2 * l + 1))) == 0) v w _ (take_comes w t l _ v q f (2 * l + 1) whoms.First refl
+      (taken_word (record w { queues = queues_without_first w.queues (2 * l + 1) }) (first_of (queue_at w (2 * l + 1)))) (taken_sections (record w { queues = queues_without_first w.queues (2 * l + 1) }) (first_of (queue_at w (2 * l + 1))))))
+
+  wakes_enter : (p : RwLockPlace) (m : Line) (v : ℕ) (w : State) (q : Line → List Waiter) → Alone w (to p (at.Wake m waking.Enter)) v q → Leads 5 w t Resting
+  wakes_enter p m v w q f = goes w Resting 4 v q (again p (at.Wake m waking.Take) p.retries) _ refl refl (enter_comes w t l _ v q f m refl (finds_free w t l _ v q f refl m)) (λ g. wakes_take p m v _ q g)
+
+  wakes_rests : (p : RwLockPlace) (m : Line) (x : WakeAt) (v : ℕ) (w : State) (q : Line → List Waiter) → Alone w (to p (at.Wake m x)) v q → Leads 5 w t Resting
+  wakes_rests p m waking.Enter v w q f = wakes_enter p m v w q f
+  wakes_rests p m waking.Take v w q f = leads_more 4 5 w t Resting (omega arith) (wakes_take p m v w q f)
+  wakes_rests p m (waking.Clear any) v w q f = leads_more 2 5 w t Resting (omega arith) (wakes_clear p m any v w q f)
+  wakes_rests p m (waking.Leave any) v w q f = leads_more 1 5 w t Resting (omega arith) (wakes_leave p m any v w q f)
+
+  -- it gives its right up, and wakes those that it saw
+  gave_rests : (p : RwLockPlace) (m : Line) (b : Bool) (answer : Answer) (v : ℕ) (w : State) (q : Line → List Waiter) → Comes w t l (rwlock_goes l a (if b then At (again p (at.Wake m waking.Enter) p.retries) else End answer)) (outcome_of (rwlock_does l a (if b then At (again p (at.Wake m waking.Enter) p.retries) else End answer))) v q → Leads 6 w t Resting
+  gave_rests p m true answer v w q c = leads_step w t Resting 5 c.0 (wakes_enter p m v _ q c.1)
+  gave_rests p m false answer v w q c = leads_more 1 6 w t Resting (omega arith) (leads_rest w t Resting (outcome.End answer) c.0 tt tt)
+
+  rollback_rests : (p : RwLockPlace) (v : ℕ) (w : State) (q : Line → List Waiter) → Alone w (to p at.RollBack) v q → Leads 6 w t Resting
+  rollback_rests p v w q f = gave_rests p Main (has_parked v) answer.No _ w q (word_comes w t l _ v q f (rollback_op p.purpose) refl)
+
+  give_way_rests : (r : RwLockPurpose) (retries : Bool) (v : ℕ) (w : State) (q : Line → List Waiter) → Alone w (place_for r retries at.GiveWay) v q → apply (give_op r) v < 2 ^ 64 → Leads 6 w t Resting
+  give_way_rests r retries v w q f small = by_purpose r (word_comes w t l _ v q f (give_op r) refl) small
+    where
+      by_purpose : (r : RwLockPurpose) → Comes w t l (rwlock_goes l a (gave_way (place_for r retries at.GiveWay) v)) (outcome_of (rwlock_does l a (gave_way (place_for r retries at.GiveWay) v))) (apply (give_op r) v) q → apply (give_op r) v < 2 ^ 64 → Leads 6 w t Resting
+      by_purpose (purpose.Enter access.Shared how) c small = gave_rests (place_for (purpose.Enter access.Shared how) retries at.GiveWay) Second (has_aside v && (count_in v == 1)) answer.Ok _ w q c
+      by_purpose (purpose.Enter access.Upgradable how) c small = gave_rests (place_for (purpose.Enter access.Upgradable how) retries at.GiveWay) Main (has_parked v) answer.Ok _ w q c
+      by_purpose (purpose.Enter access.Exclusive how) c small = gave_rests (place_for (purpose.Enter access.Exclusive how) retries at.GiveWay) Main (has_parked v) answer.Ok _ w q c
+      by_purpose (purpose.Release access.Shared) c small = gave_rests (place_for (purpose.Release access.Shared) retries at.GiveWay) Second (has_aside v && (count_in v == 1)) answer.Ok _ w q c
+      by_purpose (purpose.Release access.Upgradable) c small = gave_rests (place_for (purpose.Release access.Upgradable) retries at.GiveWay) Main (has_parked v) answer.Ok _ w q c
+      by_purpose (purpose.Release access.Exclusive) c small = gave_rests (place_for (purpose.Release access.Exclusive) retries at.GiveWay) Main (has_parked v) answer.Ok _ w q c
+      by_purpose (purpose.Downgrade d) c small = gave_rests (place_for (purpose.Downgrade d) retries at.GiveWay) Main (has_parked v) answer.Ok _ w q c
+      by_purpose (purpose.Upgrade how) c small = by_count (count_in v == 1) c
+        where
+          by_count : (b : Bool) → Comes w t l (rwlock_goes l a (if b then End (entered how) else At (place_for (purpose.Upgrade how) false at.Look))) (outcome_of (rwlock_does l a (if b then End (entered how) else At (place_for (purpose.Upgrade how) false at.Look)))) (apply (give_op (purpose.Upgrade how)) v) q → Leads 6 w t Resting
+          by_count true c = leads_more 1 6 w t Resting (omega arith) (leads_rest w t Resting (outcome.End (entered how)) c.0 tt tt)
+          by_count false c = leads_step w t Resting 5 c.0 (look_rests (place_for (purpose.Upgrade how) false at.Look) _ _ q small c.1)
+
+  -- its time is up
+  gives_up_rests : (m : Line) (p : RwLockPlace) (v : ℕ) (w : State) (q : Line → List Waiter) → Alone w (to p (parks_at m parking.GiveUp)) v q → Leads 7 w t Resting
+  gives_up_rests Main p v w q f = leads_more 1 7 w t Resting (omega arith) (ends w Resting v q answer.No _ refl (leave_comes w t l _ v q f Main wakes.Nobody refl) tt)
+  gives_up_rests Second p v w q f = goes w Resting 6 v q (again p at.RollBack p.retries) _ refl refl (leave_comes w t l _ v q f Second wakes.Nobody refl) (λ g. rollback_rests p v _ q g)
+
+  clear_rests : (m : Line) (p : RwLockPlace) (v : ℕ) (w : State) (q : Line → List Waiter) → Alone w (to p (parks_at m parking.Clear)) v q → Leads 8 w t Resting
+  clear_rests Main p v w q f = goes w Resting 7 _ q (again p (at.Park parking.GiveUp) p.retries) _ refl refl (word_comes w t l _ v q f (unparked Main) refl) (λ g. gives_up_rests Main p _ _ q g)
+  clear_rests Second p v w q f = goes w Resting 7 _ q (again p (at.Aside parking.GiveUp) p.retries) _ refl refl (word_comes w t l _ v q f (unparked Second) refl) (λ g. gives_up_rests Second p _ _ q g)
+
+  remove_rests : (m : Line) (p : RwLockPlace) (v : ℕ) (w : State) (q : Line → List Waiter) → Alone w (to p (parks_at m parking.Remove)) v q → Leads 9 w t Resting
+  remove_rests Main p v w q f = either _ (remove_comes w t l _ v q f (2 * l) refl)
+    where
+      either : (b : Bool) {q2 : Line → List Waiter} → Comes w t l (RwLock l a (again p (at.Park (if b then parking.Clear else parking.GiveUp)) p.retries)) (outcome_of (rwlock_act l a (again p (at.Park (if b then parking.Clear else parking.GiveUp)) p.retries))) v q2 → Leads 9 w t Resting
+      either true {q2} c = leads_step w t Resting 8 c.0 (clear_rests Main p v _ q2 c.1)
+      either false {q2} c = leads_more 8 9 w t Resting (omega arith) (leads_step w t Resting 7 c.0 (gives_up_rests Main p v _ q2 c.1))
+  remove_rests Second p v w q f = let c = remove_comes w t l _ v q f (2 * l + 1) refl in leads_step w t Resting 8 c.0 (clear_rests Second p v _ _ c.1)
+
+  -- it stands in the line, or looks again
+  leave_rests : (m : Line) (p : RwLockPlace) (b : Bool) (v : ℕ) (w : State) (q : Line → List Waiter) → v < 2 ^ 64 → Alone w (to p (parks_at m (parking.Leave b))) v q → Leads 8 w t Resting
+  leave_rests Main p true v w q small f = leads_more 1 8 w t Resting (omega arith) (sleeps w Resting v q (again p (at.Park parking.Asleep) p.retries) _ refl refl (leave_comes w t l _ v q f Main wakes.Nobody refl) tt)
+  leave_rests Second p true v w q small f = leads_more 1 8 w t Resting (omega arith) (sleeps w Resting v q (again p (at.Aside parking.Asleep) p.retries) _ refl refl (leave_comes w t l _ v q f Second wakes.Nobody refl) tt)
+  leave_rests Main p false v w q small f = goes w Resting 7 v q (again p at.Load p.retries) _ refl refl (leave_comes w t l _ v q f Main wakes.Nobody refl) (λ g. load_rests p v _ q small g)
+  leave_rests Second p false v w q small f = leads_more 6 8 w t Resting (omega arith) (goes w Resting 5 v q (again p at.Look p.retries) _ refl refl (leave_comes w t l _ v q f Second wakes.Nobody refl) (λ g. look_rests p v _ q small g))
+
+  check_rests : (m : Line) (p : RwLockPlace) (v : ℕ) (w : State) (q : Line → List Waiter) → v < 2 ^ 64 → Alone w (to p (parks_at m parking.Check)) v q → Leads 9 w t Resting
+  check_rests Main p v w q small f = goes w Resting 8 v _ (again p (at.Park (parking.Leave _)) _) _ refl refl (park_comes w t l _ v q f (2 * l) (park_check a (want_at p) Main) (want_at p) (holds (park_check a (want_at p) Main) v) refl refl)
+      (λ g. leave_rests Main (again p at.Load _) (holds (park_check a (want_at p) Main) v) v _ _ small g)
+  check_rests Second p v w q small f = goes w Resting 8 v _ (again p (at.Aside (parking.Leave _)) _) _ refl refl (park_comes w t l _ v q f (2 * l + 1) (park_check a (want_at p) Second) (want_at p) (holds (park_check a (want_at p) Second) v) refl refl)
+      (λ g. leave_rests Second (again p at.Look _) (holds (park_check a (want_at p) Second) v) v _ _ small g)
+
+  -- on its way into a line, or out of it, but asleep
+  abbrev IsUp : ParkAt → Type 0
+  IsUp parking.Asleep = ⊥
+  IsUp (parking.Taken by) = ⊥
+  IsUp x = Unit {0}
+
+  parks_rests : (m : Line) (p : RwLockPlace) (x : ParkAt) (v : ℕ) (w : State) (q : Line → List Waiter) → IsUp x → v < 2 ^ 64 → Alone w (to p (parks_at m x)) v q → Leads 9 w t Resting
+  parks_rests m p parking.Check v w q up small f = check_rests m p v w q small f
+  parks_rests m p (parking.Leave b) v w q up small f = leads_more 8 9 w t Resting (omega arith) (leave_rests m p b v w q small f)
+  parks_rests m p parking.Asleep v w q up small f = absurd up
+  parks_rests m p (parking.Taken by) v w q up small f = absurd up
+  parks_rests m p parking.Remove v w q up small f = remove_rests m p v w q f
+  parks_rests m p parking.Clear v w q up small f = leads_more 8 9 w t Resting (omega arith) (clear_rests m p v w q f)
+  parks_rests m p parking.GiveUp v w q up small f = leads_more 7 9 w t Resting (omega arith) (gives_up_rests m p v w q f)
+
+  -- it decides by a value that the word has no longer, or still
+  stale_next : (p : RwLockPlace) (x v : ℕ) (d : Decision) → (v == x) ≡ false → (d ≡ decisions.Park → ⊥) → exchanged_next a (decides p x) x v d ≡ looked a (decides p x) v
+  stale_next p x v decisions.Take e h = ap (λ (b : Bool). if b then came_in (decides p x) else looked a (decides p x) v) e
+  stale_next p x v decisions.Mark e h = ap (λ (b : Bool). if b then At (decides p (plus x 1)) else looked a (decides p x) v) e
+  stale_next p x v decisions.Park e h = refl
+  stale_next p x v (decisions.Refuse answer) e h = refl
+
+  stale_rests : (p : RwLockPlace) (x v y : ℕ) (w : State) (q : Line → List Waiter) (d : Decision) → v < 2 ^ 64 → (v == x) ≡ false → (d ≡ decisions.Park → ⊥) → decided a p x ≡ d → rwlock_act l a (decides p x) ≡ act.Word l (op.Exchange x y) → Alone w (decides p x) v q → Leads 9 w t Resting
+  stale_rests p x v y w q d small e h is does f = leads_more 7 9 w t Resting (omega arith) (looked_rests (decides p x) v w q _ small (ap (exchanged_next a (decides p x) x v) is ∙ stale_next p x v d e h)
+      (subst (λ z. Comes w t l (rwlock_goes l a (rwlock_next a (decides p x) (Value v))) (outcome_of (rwlock_does l a (rwlock_next a (decides p x) (Value v)))) z q) (ap (λ (b : Bool). if b then y else v) e) (word_comes w t l _ v q f (op.Exchange x y) does)))
+
+  decide_rests : (p : RwLockPlace) (x v : ℕ) (w : State) (q : Line → List Waiter) (d : Decision) → IsAnswered d → decided a p x ≡ d → v < 2 ^ 64 → Alone w (decides p x) v q → Leads 10 w t Resting
+  decide_rests p x v w q d h e small f = either (v == x) refl
+    where
+      is_stale : (d : Decision) → IsAnswered d → decided a p x ≡ d → (v == x) ≡ false → Leads 10 w t Resting
+      is_stale decisions.Take h e ne = leads_more 9 10 w t Resting (omega arith) (stale_rests p x v (word_taken p.purpose x) w q decisions.Take small ne (λ g. cc) e (ap (decided_act l p.purpose x) e) f)
+      is_stale decisions.Mark h e ne = leads_more 9 10 w t Resting (omega arith) (stale_rests p x v (plus x 1) w q decisions.Mark small ne (λ g. cc) e (ap (decided_act l p.purpose x) e) f)
+      is_stale decisions.Park h e ne = goes w Resting 9 v q (again p (at.Park parking.Check) p.retries) _ refl refl (enter_comes w t l _ v q f Main (ap (decided_act l p.purpose x) e) (finds_free w t l _ v q f refl Main)) (λ g. check_rests Main p v _ q small g)
+      is_stale (decisions.Refuse answer) h e ne = absurd h
+
+      either : (b : Bool) → (v == x) ≡ b → Leads 10 w t Resting
+      either true g = let same_word : v ≡ x = eqb-true v x g in
+          leads_more 6 10 w t Resting (omega arith) (leads_so 6 w t (Decides d p v q) Resting (decides_so d p v q) (fresh_leads p v w q small d h (rw same_word e) (subst (λ y. Alone w (decides p y) v q) (sym same_word) f)))
+      either false g = is_stale d h e g
+
+  count_rests : (p : RwLockPlace) (x v : ℕ) (w : State) (q : Line → List Waiter) → v < 2 ^ 64 → Alone w (to p (at.Count x)) v q → Leads 11 w t Resting
+  count_rests p x v w q small f = either (has_aside x) refl
+    where
+      aside_rests : (x v : ℕ) (w : State) → v < 2 ^ 64 → has_aside x ≡ true → Alone w (again p (at.Count x) p.retries) v q → Leads 10 w t Resting
+      aside_rests x v w small e f = goes w Resting 9 v q (again p (at.Aside parking.Check) p.retries) _ refl refl (enter_comes w t l _ v q f Second (ap (λ (b : Bool). if b then act.Enter (One (2 * l + 1)) else exchange l x (plus x 2)) e) (finds_free w t l _ v q f refl Second)) (λ g. check_rests Second p v _ q small g)
+
+      counted_rests : (b : Bool) → (count_in v == 0) ≡ b → Comes w t l (rwlock_goes l a (if b then End (entered (patience_of p.purpose)) else At (again p (at.Count v) p.retries))) (outcome_of (rwlock_does l a (if b then End (entered (patience_of p.purpose)) else At (again p (at.Count v) p.retries)))) v q → Leads 11 w t Resting
+      counted_rests true e c = leads_more 1 11 w t Resting (omega arith) (leads_rest w t Resting (outcome.End (entered (patience_of p.purpose))) c.0 tt tt)
+      counted_rests false e c = leads_more 5 11 w t Resting (omega arith) (leads_step w t Resting 4 (c.0 ∙ counts_step v (has_aside v)) (leads_so 4 _ t (Sleeps Second p q) Resting (sleeps_so Second p q) (count_leads p v _ q small e c.1)))
+
+      marked_next : Bool → Next RwLockPlace
+      marked_next b = if b then At (again p (at.Count (plus x 2)) p.retries) else counted (to p (at.Count x)) v
+
+      by_word : (b : Bool) → (v == x) ≡ b → has_aside x ≡ false → Comes w t l (rwlock_goes l a (marked_next b)) (outcome_of (rwlock_does l a (marked_next b))) (if v == x then plus x 2 else v) q → Leads 11 w t Resting
+      by_word false ne e c = counted_rests (count_in v == 0) refl (subst (λ z. Comes w t l (rwlock_goes l a (marked_next false)) (outcome_of (rwlock_does l a (marked_next false))) z q) (ap (λ (b : Bool). if b then plus x 2 else v) ne) c)
+      by_word true g e c = let same_word : v ≡ x = eqb-true v x g in let m = marked_aside x (subst (λ y. y < 2 ^ 64) same_word small) e in
+          leads_step w t Resting 10 (c.0 ∙ counts_step (plus x 2) (has_aside (plus x 2))) (aside_rests (plus x 2) (plus x 2) _ (below (x + 2)) m.aside (subst (λ y. Alone (after w (go_of t)) (again p (at.Count (plus x 2)) p.retries) y q) (ap (λ (b : Bool). if b then plus x 2 else v) g) c.1))
+
+      either : (b : Bool) → has_aside x ≡ b → Leads 11 w t Resting
+      either true e = leads_more 10 11 w t Resting (omega arith) (aside_rests x v w small e f)
+      either false e = by_word (v == x) refl e (word_comes w t l _ v q f (op.Exchange x (plus x 2)) (ap (λ (b : Bool). if b then act.Enter (One (2 * l + 1)) else exchange l x (plus x 2)) e))
+
+  -- awake, and with something to do
+  abbrev IsReady : RwLockPlace → RwLockAt → Type 0
+  IsReady p (at.Decide seen) = IsAnswered (decided a p seen)
+  IsReady p (at.Park x) = IsUp x
+  IsReady p (at.Aside x) = IsUp x
+  IsReady p x = Unit {0}
+
+  pub rwlock_rests : (p : RwLockPlace) (v : ℕ) (w : State) (q : Line → List Waiter) → v < 2 ^ 64 → IsReady p p.at → apply (give_op p.purpose) v < 2 ^ 64 → Alone w p v q → Leads 11 w t Resting
+  rwlock_rests p v w q small ready gives f = by_at p.at ready f
+    where
+      by_at : (x : RwLockAt) → IsReady p x → Alone w (to p x) v q → Leads 11 w t Resting
+      by_at at.First ready f = leads_more 8 11 w t Resting (omega arith) (leads_so 8 w t (Tries (v == 0) (patience_of p.purpose) p v q) Resting (tries_so (v == 0) (patience_of p.purpose) p v q) (first_leads p v w q small f))
+      by_at at.Load ready f = leads_more 7 11 w t Resting (omega arith) (load_rests p v w q small f)
+      by_at (at.Decide x) ready f = leads_more 10 11 w t Resting (omega arith) (decide_rests p x v w q (decided a p x) ready refl small f)
+      by_at (at.Park x) ready f = leads_more 9 11 w t Resting (omega arith) (parks_rests Main p x v w q ready small f)
+      by_at at.Look ready f = leads_more 5 11 w t Resting (omega arith) (look_rests p v w q small f)
+      by_at (at.Count x) ready f = count_rests p x v w q small f
+      by_at (at.Aside x) ready f = leads_more 9 11 w t Resting (omega arith) (parks_rests Second p x v w q ready small f)
+      by_at at.RollBack ready f = leads_more 6 11 w t Resting (omega arith) (rollback_rests p v w q f)
+      by_at at.GiveWay ready f = leads_more 6 11 w t Resting (omega arith) (give_way_rests p.purpose p.retries v w q f gives)
+      by_at (at.Wake m x) ready f = leads_more 5 11 w t Resting (omega arith) (wakes_rests p m x v w q f)
