@@ -302,7 +302,7 @@ module _ (r : Rules) (a : Admission) (s : Site) (t l : ℕ) (admits : Admits r a
   tries_tell again to whom told fits hears = absurd fits
 
 pub rwlock_sections_tell : RwLockSectionsTell
-rwlock_sections_tell r a s t l p whom told calling hears now = by_purpose p.purpose p.retries p.at calling.stands calling.keeps calling.at.fresh calling.at.doing hears
+rwlock_sections_tell r a s t l p whom told calling hears now = by_purpose p.purpose p.retries p.at calling.stands.place calling.keeps calling.at.fresh calling.at.doing hears
   where
     admits : Admits r a
     admits = calling.at.admits

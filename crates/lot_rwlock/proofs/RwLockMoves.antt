@@ -444,7 +444,7 @@ module _ (l : ℕ) (a : Admission) where
   moves_all q again (at.Wake m to) fits = wakes_move q again m to
 
 pub rwlock_acts_move : RwLockActsMove
-rwlock_acts_move l a p stands = moves_all l a p.purpose p.retries p.at stands
+rwlock_acts_move l a p stands = moves_all l a p.purpose p.retries p.at stands.place
 
 -- ---------------------------------------------------------------- threads asleep
 
@@ -576,7 +576,7 @@ module _ (a : Admission) where
   late_all q again to m e = absurd cc
 
 pub rwlock_sleepers_move : RwLockSleepersMove
-rwlock_sleepers_move a p fits = waits_all a p.purpose p.retries p.at fits
+rwlock_sleepers_move a p stands = waits_all a p.purpose p.retries p.at stands.place
 
 pub rwlock_late_moves : RwLockLateMove
 rwlock_late_moves a p m e = late_all a p.purpose p.retries p.at m e
