@@ -1,5 +1,5 @@
 -- A call of a reader-writer lock whose thread steps alone: from each place, where it ends or falls asleep.
-use Rattle.std.proofs.Common.{ℕ, Bool, true, false, Option, Some, None, if◌then◌else◌, ◌==◌, ◌&&◌, ◌||◌, not, ◌≡◌, ◌≢◌, ◌+◌, ◌*◌, ◌/◌, ◌%◌, ◌≤◌, ◌<◌, ◌^◌, nat_le, length, drop, inl, inr, List, [], ◌∷◌, ◌++◌, refl, sym, ◌∙◌, ap, subst, arith}
+use Rattle.std.proofs.Common.{ℕ, Bool, true, false, Option, Some, None, if◌then◌else◌, ◌==◌, ◌&&◌, ◌||◌, not, ◌≡◌, ◌≢◌, ◌+◌,  ◌-◌, ◌*◌, ◌/◌, ◌%◌, ◌≤◌, ◌<◌, ◌^◌, nat_le, length, drop, inl, inr, List, [], ◌∷◌, ◌++◌, refl, sym, ◌∙◌, ap, subst, arith}
 use Rattle.std.proofs.lemmas.Bool.{cases_eq, eqb-true}
 use Rattle.std.proofs.lemmas.Bool.Decides.{nat_tests}
 use Rattle.lot_base.specs.declared.keys.Keys.TheVariants.{One}
@@ -38,62 +38,21 @@ use Rattle.lot_rwlock.specs.declared.park.ParkAt.{ParkAt}
 use Rattle.lot_rwlock.specs.declared.park.ParkAt.TheVariants as parking
 use Rattle.lot_rwlock.specs.declared.release.WakeAt.{WakeAt}
 use Rattle.lot_rwlock.specs.declared.release.WakeAt.TheVariants as waking
-use Rattle.lot_rwlock.specs.RwLockSteps.{wanted, access_of, patience_of, want_at, start_of, ends_with, entered, is_counted, decision, decided, decided_for, decided_act, exchanged_next, decision_blocked, waits, exchange, plus, word_taken, rwlock_act, rwlock_next, park_check, unparked, whom, counted, looked, looked_by, came_in, first_next, gave_way, rolled_back, wakes_or_ends, parks_at, looks_again, gave_up, missed, took, clears, rollback_op, give_op, released}
-use Rattle.abstract_locks.specs.Codes.{count_in, has_aside, has_parked, is_blocked, bars, leaves_readers}
-use Rattle.abstract_locks.specs.Sites.{Line, Main, Second}
+use Rattle.lot_rwlock.specs.RwLockSteps.{act_at, park_act, wanted, access_of, patience_of, want_at, start_of, ends_with, entered, is_counted, decision, decided, decided_for, decided_act, exchanged_next, decision_blocked, waits, exchange, plus, word_taken, rwlock_act, rwlock_next, park_check, unparked, whom, counted, looked, looked_by, came_in, first_next, gave_way, rolled_back, wakes_or_ends, parks_at, looks_again, gave_up, missed, took, clears, rollback_op, give_op, released}
+use Rattle.abstract_locks.specs.Codes.{bit, code, code_of, rw_code, writers, count_in, has_aside, has_parked, is_blocked, bars, leaves_readers}
+use Rattle.abstract_locks.specs.Sites.{Site, IsSite, has_readers, Line, Main, Second}
 use Rattle.lot_steps.specs.declared.places.Place.{Place}
 use Rattle.lot_steps.specs.declared.places.Place.TheVariants.{Idle, RwLock}
 use Rattle.lot_steps.specs.Steps.{act_of, next_place, next_act, rwlock_goes, rwlock_does}
 use Rattle.lot_machine.specs.Machine.{State, place_at, word_at, section_at, queue_at, queues_with_last, queues_without_first, state_after_taking, after, step_outcome, go_of, solo, reply_to}
-use Rattle.lot_world.specs.SitesOf.{key_of}
+use Rattle.lot_rwlock.specs.RwLockCalls.{GoesOn, MayStand, IsDecided}
+use Rattle.lot_rwlock.proofs.RwLockStands.{decides_to_park, aside_set}
+use Rattle.lot_world.specs.SitesOf.{IsSteady, key_of, rules_at, site_of}
+use Rattle.abstract_locks.specs.Locks.{Rules, Sort, Mutex, Normal, Recursive, Semaphore, count, one_if_some}
 use Rattle.lot_world.specs.Solo.{Rests}
 use Rattle.lot_world.proofs.Glue.{same}
 use Rattle.lot_world.proofs.SoloActs.{Leads, leads_rest, leads_step, leads_more, leads_so}
 use Rattle.lot_world.proofs.LineSolo.{StepsAlone, Comes, word_comes, enter_comes, leave_comes, park_comes, parks_last, remove_comes, take_comes, finds_free}
-
--- ---------------------------------------------------------------- what a thread reads in the word that it has marked
-
-record IsMarked (v : ℕ) : Type 0 where
-  pub parked : has_parked (plus v 1) ≡ true
-  pub blocked : (recursive : Bool) (x : Want) → is_blocked recursive x (plus v 1) ≡ is_blocked recursive x v
-
-marked : (v : ℕ) → v < 2 ^ 64 → has_parked v ≡ false → IsMarked v
-marked v small clear = record { parked = grind (arith, nat_tests, fits); blocked = blocked }
-  where
-    even : v % 2 ≡ 0
-    even = grind (arith, nat_tests)
-
-    fits : plus v 1 ≡ v + 1
-    fits = omega (arith, even)
-
-    count : count_in (plus v 1) ≡ count_in v
-    count = rw fits (omega (arith, even))
-
-    writer : plus v 1 / 8 % 2 ≡ v / 8 % 2
-    writer = rw fits (omega (arith, even))
-
-    upgradable : plus v 1 / 4 % 2 ≡ v / 4 % 2
-    upgradable = rw fits (omega (arith, even))
-
-    blocked : (recursive : Bool) (x : Want) → is_blocked recursive x (plus v 1) ≡ is_blocked recursive x v
-    blocked recursive Shared = λ i. (writer i == 1) && (not recursive || (count i == 0))
-    blocked recursive Upgradable = λ i. (writer i == 1) || (upgradable i == 1)
-    blocked recursive Exclusive = λ i. (writer i == 1) || (upgradable i == 1)
-    blocked recursive Wait = λ i. (writer i == 1) || (upgradable i == 1)
-    blocked recursive CallOnce = λ i. (writer i == 1) || (upgradable i == 1)
-
-record IsMarkedAside (v : ℕ) : Type 0 where
-  pub aside : has_aside (plus v 2) ≡ true
-  pub count : count_in (plus v 2) ≡ count_in v
-
-marked_aside : (v : ℕ) → v < 2 ^ 64 → has_aside v ≡ false → IsMarkedAside v
-marked_aside v small clear = record { aside = grind (arith, nat_tests, fits); count = rw fits (omega (arith, even)) }
-  where
-    even : v / 2 % 2 ≡ 0
-    even = grind (arith, nat_tests)
-
-    fits : plus v 2 ≡ v + 2
-    fits = omega (arith, even)
 
 -- ---------------------------------------------------------------- runs of a thread alone
 
@@ -192,28 +151,6 @@ module _ (t l : ℕ) (a : Admission) where
       by_purpose (purpose.Release x) g = barred_by (wanted x) Patient v parked g
       by_purpose (purpose.Downgrade d) g = barred_by (wanted (access_of (purpose.Downgrade d))) Patient v parked g
 
-  -- who waits still waits when the bit is set
-  still_waits : (p : RwLockPlace) (v : ℕ) → v < 2 ^ 64 → decided a p v ≡ decisions.Mark → decided a p (plus v 1) ≡ decisions.Park
-  still_waits p v small h = by_purpose p.purpose h
-    where
-      mark : (x : Want) → IsBarred x v false → IsMarked v
-      mark x b = marked v small b.bit
-
-      parks : (x : Want) (how : Patience) → decision a x how v ≡ decisions.Mark → decision a x how (plus v 1) ≡ decisions.Park
-      parks x how g = let b = barred_by x how v false g in let m = marked v small b.bit in by_how how (sym (ap (λ c. if c then decision_blocked how v else if is_counted x && nat_le a.limit (count_in v) then decisions.Refuse answer.ReadersFull else decisions.Take) b.blocked) ∙ g)
-          ∙ refl
-        where
-          by_how : (y : Patience) → decision_blocked y v ≡ decisions.Mark → decision a x y (plus v 1) ≡ decisions.Park
-          by_how Try e = absurd cc
-          by_how Patient e = let b = barred_by x how v false g in let m = marked v small b.bit in rw (m.blocked a.recursive x, b.blocked, m.parked) refl
-          by_how Timed e = let b = barred_by x how v false g in let m = marked v small b.bit in rw (m.blocked a.recursive x, b.blocked, m.parked) refl
-
-      by_purpose : (q : RwLockPurpose) → decided_for a q v ≡ decisions.Mark → decided_for a q (plus v 1) ≡ decisions.Park
-      by_purpose (purpose.Upgrade how) g = absurd (tries_not (count_in v == 1) false g)
-      by_purpose (purpose.Enter x how) g = parks (wanted x) how g
-      by_purpose (purpose.Release x) g = parks (wanted x) Patient g
-      by_purpose (purpose.Downgrade d) g = parks (wanted (access_of (purpose.Downgrade d))) Patient g
-
   -- ---------------------------------------------------------------- by the word as it is
 
   abbrev decides : RwLockPlace → ℕ → RwLockPlace
@@ -226,7 +163,7 @@ module _ (t l : ℕ) (a : Admission) where
 
   marks_leads : (p : RwLockPlace) (v : ℕ) (w : State) (q : Line → List Waiter) → v < 2 ^ 64 → decided a p v ≡ decisions.Mark → Alone w (decides p v) v q → Leads 4 w t (Sleeps Main p q)
   marks_leads p v w q small e f = let c = word_comes w t l _ v q f (op.Exchange v (plus v 1)) (ap (λ d. decided_act l p.purpose v d) e) in
-      let behind : decided a p (plus v 1) ≡ decisions.Park = still_waits p v small e in
+      let behind : decided a p (plus v 1) ≡ decisions.Park = decides_to_park a p.purpose v small e in
       goes w (Sleeps Main p q) 3 _ q (decides p (plus v 1)) _ (ap (exchanged_next a (decides p v) v v) e ∙ ap (λ (b : Bool). if b then At (decides p (plus v 1)) else looked a (decides p v) v) (same v))
       (ap (λ d. outcome_of (decided_act l p.purpose (plus v 1) d)) behind) c (λ g. parks_leads p (plus v 1) _ q behind (subst (λ y. Alone (after w (go_of t)) (decides p (plus v 1)) y q) (ap (λ (b : Bool). if b then plus v 1 else v) (same v)) g))
 
@@ -238,10 +175,10 @@ module _ (t l : ℕ) (a : Admission) where
 
   count_marks : (p : RwLockPlace) (v : ℕ) (w : State) (q : Line → List Waiter) → v < 2 ^ 64 → has_aside v ≡ false → (count_in v == 0) ≡ false → Alone w (to p (at.Count v)) v q → Leads 4 w t (Sleeps Second p q)
   count_marks p v w q small bit left f = let c = word_comes w t l _ v q f (op.Exchange v (plus v 2)) (ap (λ (b : Bool). if b then act.Enter (One (2 * l + 1)) else exchange l v (plus v 2)) bit) in
-      let m = marked_aside v small bit in
+      let m = aside_set v small bit in
       goes w (Sleeps Second p q) 3 _ q (again p (at.Count (plus v 2)) p.retries) _ (ap (λ (b : Bool). if b then At (again p (at.Count (plus v 2)) p.retries) else counted (to p (at.Count v)) v) (same v))
-      (ap (λ (b : Bool). outcome_of (if b then act.Enter (One (2 * l + 1)) else exchange l (plus v 2) (plus (plus v 2) 2))) m.aside) c
-      (λ g. count_aside p (plus v 2) _ q m.aside (ap (λ n. n == 0) m.count ∙ left) (subst (λ y. Alone (after w (go_of t)) (again p (at.Count (plus v 2)) p.retries) y q) (ap (λ (b : Bool). if b then plus v 2 else v) (same v)) g))
+      (ap (λ (b : Bool). outcome_of (if b then act.Enter (One (2 * l + 1)) else exchange l (plus v 2) (plus (plus v 2) 2))) m.0) c
+      (λ g. count_aside p (plus v 2) _ q m.0 (ap (λ n. n == 0) m.1 ∙ left) (subst (λ y. Alone (after w (go_of t)) (again p (at.Count (plus v 2)) p.retries) y q) (ap (λ (b : Bool). if b then plus v 2 else v) (same v)) g))
 
   count_leads : (p : RwLockPlace) (v : ℕ) (w : State) (q : Line → List Waiter) → v < 2 ^ 64 → (count_in v == 0) ≡ false → Alone w (to p (at.Count v)) v q → Leads 4 w t (Sleeps Second p q)
   count_leads p v w q small left f = either (has_aside v) refl
@@ -318,11 +255,7 @@ module _ (t l : ℕ) (a : Admission) where
   Decides decisions.Take p v q s x = Takes p.purpose p.retries v q s x
   Decides decision p v q s x = Sleeps Main p q s x
 
-  abbrev IsAnswered : Decision → Type 0
-  IsAnswered (decisions.Refuse answer) = ⊥
-  IsAnswered d = Unit {0}
-
-  fresh_leads : (p : RwLockPlace) (v : ℕ) (w : State) (q : Line → List Waiter) → v < 2 ^ 64 → (d : Decision) → IsAnswered d → decided a p v ≡ d → Alone w (decides p v) v q → Leads 6 w t (Decides d p v q)
+  fresh_leads : (p : RwLockPlace) (v : ℕ) (w : State) (q : Line → List Waiter) → v < 2 ^ 64 → (d : Decision) → GoesOn d → decided a p v ≡ d → Alone w (decides p v) v q → Leads 6 w t (Decides d p v q)
   fresh_leads p v w q small decisions.Take h e f = takes_leads p.purpose p.retries v w q e f
   fresh_leads p v w q small decisions.Mark h e f = leads_more 4 6 w t (Sleeps Main p q) (omega arith) (marks_leads p v w q small e f)
   fresh_leads p v w q small decisions.Park h e f = leads_more 3 6 w t (Sleeps Main p q) (omega arith) (parks_leads p v w q e f)
@@ -444,22 +377,22 @@ module _ (t l : ℕ) (a : Admission) where
   rollback_rests : (p : RwLockPlace) (v : ℕ) (w : State) (q : Line → List Waiter) → Alone w (to p at.RollBack) v q → Leads 6 w t Resting
   rollback_rests p v w q f = gave_rests p Main (has_parked v) answer.No _ w q (word_comes w t l _ v q f (rollback_op p.purpose) refl)
 
-  give_way_rests : (r : RwLockPurpose) (retries : Bool) (v : ℕ) (w : State) (q : Line → List Waiter) → Alone w (place_for r retries at.GiveWay) v q → apply (give_op r) v < 2 ^ 64 → Leads 6 w t Resting
-  give_way_rests r retries v w q f small = by_purpose r (word_comes w t l _ v q f (give_op r) refl) small
+  give_way_rests : (r : RwLockPurpose) (retries : Bool) (v : ℕ) (w : State) (q : Line → List Waiter) → Alone w (place_for r retries at.GiveWay) v q → Leads 6 w t Resting
+  give_way_rests r retries v w q f = by_purpose r (word_comes w t l _ v q f (give_op r) refl)
     where
-      by_purpose : (r : RwLockPurpose) → Comes w t l (rwlock_goes l a (gave_way (place_for r retries at.GiveWay) v)) (outcome_of (rwlock_does l a (gave_way (place_for r retries at.GiveWay) v))) (apply (give_op r) v) q → apply (give_op r) v < 2 ^ 64 → Leads 6 w t Resting
-      by_purpose (purpose.Enter access.Shared how) c small = gave_rests (place_for (purpose.Enter access.Shared how) retries at.GiveWay) Second (has_aside v && (count_in v == 1)) answer.Ok _ w q c
-      by_purpose (purpose.Enter access.Upgradable how) c small = gave_rests (place_for (purpose.Enter access.Upgradable how) retries at.GiveWay) Main (has_parked v) answer.Ok _ w q c
-      by_purpose (purpose.Enter access.Exclusive how) c small = gave_rests (place_for (purpose.Enter access.Exclusive how) retries at.GiveWay) Main (has_parked v) answer.Ok _ w q c
-      by_purpose (purpose.Release access.Shared) c small = gave_rests (place_for (purpose.Release access.Shared) retries at.GiveWay) Second (has_aside v && (count_in v == 1)) answer.Ok _ w q c
-      by_purpose (purpose.Release access.Upgradable) c small = gave_rests (place_for (purpose.Release access.Upgradable) retries at.GiveWay) Main (has_parked v) answer.Ok _ w q c
-      by_purpose (purpose.Release access.Exclusive) c small = gave_rests (place_for (purpose.Release access.Exclusive) retries at.GiveWay) Main (has_parked v) answer.Ok _ w q c
-      by_purpose (purpose.Downgrade d) c small = gave_rests (place_for (purpose.Downgrade d) retries at.GiveWay) Main (has_parked v) answer.Ok _ w q c
-      by_purpose (purpose.Upgrade how) c small = by_count (count_in v == 1) c
+      by_purpose : (r : RwLockPurpose) → Comes w t l (rwlock_goes l a (gave_way (place_for r retries at.GiveWay) v)) (outcome_of (rwlock_does l a (gave_way (place_for r retries at.GiveWay) v))) (apply (give_op r) v) q → Leads 6 w t Resting
+      by_purpose (purpose.Enter access.Shared how) c = gave_rests (place_for (purpose.Enter access.Shared how) retries at.GiveWay) Second (has_aside v && (count_in v == 1)) answer.Ok _ w q c
+      by_purpose (purpose.Enter access.Upgradable how) c = gave_rests (place_for (purpose.Enter access.Upgradable how) retries at.GiveWay) Main (has_parked v) answer.Ok _ w q c
+      by_purpose (purpose.Enter access.Exclusive how) c = gave_rests (place_for (purpose.Enter access.Exclusive how) retries at.GiveWay) Main (has_parked v) answer.Ok _ w q c
+      by_purpose (purpose.Release access.Shared) c = gave_rests (place_for (purpose.Release access.Shared) retries at.GiveWay) Second (has_aside v && (count_in v == 1)) answer.Ok _ w q c
+      by_purpose (purpose.Release access.Upgradable) c = gave_rests (place_for (purpose.Release access.Upgradable) retries at.GiveWay) Main (has_parked v) answer.Ok _ w q c
+      by_purpose (purpose.Release access.Exclusive) c = gave_rests (place_for (purpose.Release access.Exclusive) retries at.GiveWay) Main (has_parked v) answer.Ok _ w q c
+      by_purpose (purpose.Downgrade d) c = gave_rests (place_for (purpose.Downgrade d) retries at.GiveWay) Main (has_parked v) answer.Ok _ w q c
+      by_purpose (purpose.Upgrade how) c = by_count (count_in v == 1) c
         where
           by_count : (b : Bool) → Comes w t l (rwlock_goes l a (if b then End (entered how) else At (place_for (purpose.Upgrade how) false at.Look))) (outcome_of (rwlock_does l a (if b then End (entered how) else At (place_for (purpose.Upgrade how) false at.Look)))) (apply (give_op (purpose.Upgrade how)) v) q → Leads 6 w t Resting
           by_count true c = leads_more 1 6 w t Resting (omega arith) (leads_rest w t Resting (outcome.End (entered how)) c.0 tt tt)
-          by_count false c = leads_step w t Resting 5 c.0 (look_rests (place_for (purpose.Upgrade how) false at.Look) _ _ q small c.1)
+          by_count false c = leads_step w t Resting 5 c.0 (look_rests (place_for (purpose.Upgrade how) false at.Look) _ _ q (below _) c.1)
 
   -- its time is up
   gives_up_rests : (m : Line) (p : RwLockPlace) (v : ℕ) (w : State) (q : Line → List Waiter) → Alone w (to p (parks_at m parking.GiveUp)) v q → Leads 7 w t Resting
@@ -517,10 +450,10 @@ module _ (t l : ℕ) (a : Admission) where
   stale_rests p x v y w q d small e h is does f = leads_more 7 9 w t Resting (omega arith) (looked_rests (decides p x) v w q _ small (ap (exchanged_next a (decides p x) x v) is ∙ stale_next p x v d e h)
       (subst (λ z. Comes w t l (rwlock_goes l a (rwlock_next a (decides p x) (Value v))) (outcome_of (rwlock_does l a (rwlock_next a (decides p x) (Value v)))) z q) (ap (λ (b : Bool). if b then y else v) e) (word_comes w t l _ v q f (op.Exchange x y) does)))
 
-  decide_rests : (p : RwLockPlace) (x v : ℕ) (w : State) (q : Line → List Waiter) (d : Decision) → IsAnswered d → decided a p x ≡ d → v < 2 ^ 64 → Alone w (decides p x) v q → Leads 10 w t Resting
+  decide_rests : (p : RwLockPlace) (x v : ℕ) (w : State) (q : Line → List Waiter) (d : Decision) → GoesOn d → decided a p x ≡ d → v < 2 ^ 64 → Alone w (decides p x) v q → Leads 10 w t Resting
   decide_rests p x v w q d h e small f = either (v == x) refl
     where
-      is_stale : (d : Decision) → IsAnswered d → decided a p x ≡ d → (v == x) ≡ false → Leads 10 w t Resting
+      is_stale : (d : Decision) → GoesOn d → decided a p x ≡ d → (v == x) ≡ false → Leads 10 w t Resting
       is_stale decisions.Take h e ne = leads_more 9 10 w t Resting (omega arith) (stale_rests p x v (word_taken p.purpose x) w q decisions.Take small ne (λ g. cc) e (ap (decided_act l p.purpose x) e) f)
       is_stale decisions.Mark h e ne = leads_more 9 10 w t Resting (omega arith) (stale_rests p x v (plus x 1) w q decisions.Mark small ne (λ g. cc) e (ap (decided_act l p.purpose x) e) f)
       is_stale decisions.Park h e ne = goes w Resting 9 v q (again p (at.Park parking.Check) p.retries) _ refl refl (enter_comes w t l _ v q f Main (ap (decided_act l p.purpose x) e) (finds_free w t l _ v q f refl Main)) (λ g. check_rests Main p v _ q small g)
@@ -546,8 +479,8 @@ module _ (t l : ℕ) (a : Admission) where
 
       by_word : (b : Bool) → (v == x) ≡ b → has_aside x ≡ false → Comes w t l (rwlock_goes l a (marked_next b)) (outcome_of (rwlock_does l a (marked_next b))) (if v == x then plus x 2 else v) q → Leads 11 w t Resting
       by_word false ne e c = counted_rests (count_in v == 0) refl (subst (λ z. Comes w t l (rwlock_goes l a (marked_next false)) (outcome_of (rwlock_does l a (marked_next false))) z q) (ap (λ (b : Bool). if b then plus x 2 else v) ne) c)
-      by_word true g e c = let same_word : v ≡ x = eqb-true v x g in let m = marked_aside x (subst (λ y. y < 2 ^ 64) same_word small) e in
-          leads_step w t Resting 10 (c.0 ∙ counts_step (plus x 2) (has_aside (plus x 2))) (aside_rests (plus x 2) (plus x 2) _ (below (x + 2)) m.aside (subst (λ y. Alone (after w (go_of t)) (again p (at.Count (plus x 2)) p.retries) y q) (ap (λ (b : Bool). if b then plus x 2 else v) g) c.1))
+      by_word true g e c = let same_word : v ≡ x = eqb-true v x g in let m = aside_set x (subst (λ y. y < 2 ^ 64) same_word small) e in
+          leads_step w t Resting 10 (c.0 ∙ counts_step (plus x 2) (has_aside (plus x 2))) (aside_rests (plus x 2) (plus x 2) _ (below (x + 2)) m.0 (subst (λ y. Alone (after w (go_of t)) (again p (at.Count (plus x 2)) p.retries) y q) (ap (λ (b : Bool). if b then plus x 2 else v) g) c.1))
 
       either : (b : Bool) → has_aside x ≡ b → Leads 11 w t Resting
       either true e = leads_more 10 11 w t Resting (omega arith) (aside_rests x v w small e f)
@@ -555,13 +488,13 @@ module _ (t l : ℕ) (a : Admission) where
 
   -- awake, and with something to do
   abbrev IsReady : RwLockPlace → RwLockAt → Type 0
-  IsReady p (at.Decide seen) = IsAnswered (decided a p seen)
+  IsReady p (at.Decide seen) = GoesOn (decided a p seen)
   IsReady p (at.Park x) = IsUp x
   IsReady p (at.Aside x) = IsUp x
   IsReady p x = Unit {0}
 
-  pub rwlock_rests : (p : RwLockPlace) (v : ℕ) (w : State) (q : Line → List Waiter) → v < 2 ^ 64 → IsReady p p.at → apply (give_op p.purpose) v < 2 ^ 64 → Alone w p v q → Leads 11 w t Resting
-  rwlock_rests p v w q small ready gives f = by_at p.at ready f
+  pub rwlock_rests : (p : RwLockPlace) (v : ℕ) (w : State) (q : Line → List Waiter) → v < 2 ^ 64 → IsReady p p.at → Alone w p v q → Leads 11 w t Resting
+  rwlock_rests p v w q small ready f = by_at p.at ready f
     where
       by_at : (x : RwLockAt) → IsReady p x → Alone w (to p x) v q → Leads 11 w t Resting
       by_at at.First ready f = leads_more 8 11 w t Resting (omega arith) (leads_so 8 w t (Tries (v == 0) (patience_of p.purpose) p v q) Resting (tries_so (v == 0) (patience_of p.purpose) p v q) (first_leads p v w q small f))
@@ -572,5 +505,55 @@ module _ (t l : ℕ) (a : Admission) where
       by_at (at.Count x) ready f = count_rests p x v w q small f
       by_at (at.Aside x) ready f = leads_more 9 11 w t Resting (omega arith) (parks_rests Second p x v w q ready small f)
       by_at at.RollBack ready f = leads_more 6 11 w t Resting (omega arith) (rollback_rests p v w q f)
-      by_at at.GiveWay ready f = leads_more 6 11 w t Resting (omega arith) (give_way_rests p.purpose p.retries v w q f gives)
+      by_at at.GiveWay ready f = leads_more 6 11 w t Resting (omega arith) (give_way_rests p.purpose p.retries v w q f)
       by_at (at.Wake m x) ready f = leads_more 5 11 w t Resting (omega arith) (wakes_rests p m x v w q f)
+
+-- ---------------------------------------------------------------- words of 64 bits
+
+few_bits : (b : Bool) → bit b ≤ 1
+few_bits true = omega arith
+few_bits false = omega arith
+
+code_small : (r : Rules) (s : Site) → has_readers r.sort ≡ true → IsSite r s → r.limit < 2 ^ 60 - 1 → count s.lock ≤ r.limit + 1 → code r s < 2 ^ 64
+code_small r s readers site few top = by_sort r.sort readers
+  where
+    few_writers : writers s.lock ≤ 1
+    few_writers = grind (arith, site.state.exclusive_alone)
+
+    packed_small : rw_code s < 2 ^ 64
+    packed_small = let a = few_writers in let b = few_bits s.parked in let c = few_bits s.aside_parked in let d : one_if_some s.lock.upgradable ≤ 1 = grind arith in omega arith
+
+    by_sort : (sort : Sort) → has_readers sort ≡ true → code_of sort r.limit s < 2 ^ 64
+    by_sort Normal h = packed_small
+    by_sort Recursive h = packed_small
+    by_sort Mutex h = absurd cc
+    by_sort Semaphore h = absurd cc
+
+pub word_small : (w : State) (l : ℕ) → IsSteady w → has_readers (rules_at w l).sort ≡ true → word_at w l < 2 ^ 64
+word_small w l steady readers = let limits = steady.sites.limits l readers in
+    subst (λ n. n < 2 ^ 64) (sym (steady.sites.word l)) (code_small (rules_at w l) (site_of w l) readers (steady.sites.site l) limits.0.1 limits.1.top)
+
+-- a thread that isn't asleep has something to do
+pub is_ready : (t l : ℕ) (a : Admission) (p : RwLockPlace) → MayStand a p → act_of (RwLock l a p) ≢ act.Sleep → IsReady t l a p p.at
+is_ready t l a p stands up = by_at p.at stands.decided up
+  where
+    by_parking : (m : Line) (x : ParkAt) → park_act l a (want_at p) m x ≢ act.Sleep → IsUp t l a x
+    by_parking m parking.Asleep up = absurd (up refl)
+    by_parking m (parking.Taken by) up = absurd (up refl)
+    by_parking m parking.Check up = tt
+    by_parking m (parking.Leave b) up = tt
+    by_parking m parking.Remove up = tt
+    by_parking m parking.Clear up = tt
+    by_parking m parking.GiveUp up = tt
+
+    by_at : (x : RwLockAt) → IsDecided a p.purpose x → act_at l a p x ≢ act.Sleep → IsReady t l a p x
+    by_at at.First h up = tt
+    by_at at.Load h up = tt
+    by_at (at.Decide seen) h up = h
+    by_at (at.Park x) h up = by_parking Main x up
+    by_at at.Look h up = tt
+    by_at (at.Count seen) h up = tt
+    by_at (at.Aside x) h up = by_parking Second x up
+    by_at at.RollBack h up = tt
+    by_at at.GiveWay h up = tt
+    by_at (at.Wake m x) h up = tt

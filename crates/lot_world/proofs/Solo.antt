@@ -31,7 +31,7 @@ use Rattle.lot_mutex.specs.declared.unlock.UnlockAt.TheVariants as unlock
 use Rattle.lot_mutex.specs.declared.hand_off.HandOffAt.{HandOffAt}
 use Rattle.lot_mutex.specs.declared.hand_off.HandOffAt.TheVariants as hand_off
 use Rattle.lot_steps.specs.declared.places.Place.{Place}
-use Rattle.lot_steps.specs.declared.places.Place.TheVariants.{Idle, Mutex}
+use Rattle.lot_steps.specs.declared.places.Place.TheVariants.{Idle, Mutex, RwLock}
 use Rattle.lot_acts.specs.Acts.{outcome_of}
 use Rattle.lot_mutex.specs.MutexSteps.{mutex_first, is_locked, is_parked, entered, looked, hand_off_word, in_unlock}
 use Rattle.lot_calls.specs.Kinds.{is_fair}
@@ -40,17 +40,17 @@ use Rattle.lot_steps.specs.Steps.{act_of, next_place, next_act, mutex_goes, mute
 use Rattle.lot_machine.specs.Machine.{State, place_at, word_at, kind_at, queue_at, section_at, go_of, after, solo, owners_handed_over, is_there}
 use Rattle.lot_machine.specs.Fits.{IsShaped, PlaceFits}
 use Rattle.lot_world.specs.MutexPromises.{IsMutexWord}
-use Rattle.abstract_locks.specs.Sites.{Main, Site}
+use Rattle.abstract_locks.specs.Sites.{Line, Main, Second, Site}
 use Rattle.lot_world.specs.MutexDeeds.{acts, takes, queued}
 use Rattle.lot_world.specs.Stations.{station, station_at, Station, hand}
-use Rattle.lot_world.specs.SitesOf.{IsSteady, CallsMutex, is_mutex, Goes, hand_at}
+use Rattle.lot_world.specs.SitesOf.{IsSteady, key_of, CallsMutex, is_mutex, Goes, hand_at}
 use Rattle.lot_world.proofs.ExclusiveOwners.{by_code, owner_after}
 use Rattle.abstract_locks.specs.Locks.{Rules, MayEnter, IsBlocked, first_thread}
-use Rattle.abstract_locks.specs.Purposes.{Releases, Bumps, Patience, Patient, Timed, Try, mutex_purpose}
+use Rattle.abstract_locks.specs.Purposes.{rules_of, Releases, Bumps, Patience, Patient, Timed, Try, mutex_purpose}
 use Rattle.abstract_locks.specs.Runs.{rules_at, purpose_at}
 use Rattle.abstract_locks.specs.Picks.{queued_of}
 use Rattle.lot_world.specs.Refinement.{lock_state, locks_of, owner_at, taken_at}
-use Rattle.lot_world.specs.Solo.{Rests, IsUnderWay, HasItsWay, EntersAlone, BumpsAlone, EndsAlone, successor}
+use Rattle.lot_world.specs.Solo.{HasLine, Rests, IsUnderWay, HasItsWay, EntersAlone, BumpsAlone, EndsAlone, successor}
 use Rattle.lot_world.proofs.MutexTable.{mutex, queued_behind}
 use Rattle.lot_world.proofs.StandsMoved.{mutex_rules}
 use Rattle.lot_world.proofs.MutexEvents.{free_word, owned_word}
@@ -66,6 +66,8 @@ use Rattle.lot_world.proofs.SitesKept.{go_by, unshared_at, single_at}
 use Rattle.lot_acts.specs.declared.owners.Owners.{Owners}
 use Rattle.lot_acts.specs.Owners.{with_exclusive}
 use Rattle.lot_world.proofs.GoneKept.{gone_goes}
+use Rattle.lot_world.proofs.RwLockSolo.{rwlock_rests, word_small, is_ready}
+use Rattle.lot_rwlock.specs.RwLockBegins.{admission_of, rwlock_first}
 use Rattle.lot_world.proofs.AtPlaces.{coded as words_coded, coded_for, absent, owns}
 use Rattle.lot_world.proofs.SoloActs.{Leads, leads_rest, leads_step, leads_more, leads_so, Facing, Faces, word_faces, enter_faces, leave_faces, wake_faces, hand_faces, accept_faces, park_faces, unparked_faces, remove_faces, take_faces, act_led}
 
@@ -391,7 +393,7 @@ module _ (w : State) (t : ℕ) (shape : IsShaped w) (steady : IsSteady w) (there
   -- outside its section it finds it free
   free : (l : ℕ) (p : Place) → place_at w t ≡ p → lock_of p ≡ Some l → (station p).inside ≡ None → (x : Option ℕ) → section_at w (2 * l) ≡ x → x ≡ None
   free l p is own outside None e = refl
-  free l p is own outside (Some u) e = let mine : u ≡ t = way l u (ap lock_of is ∙ own) e in
+  free l p is own outside (Some u) e = let mine : u ≡ t = way l u Main (ap lock_of is ∙ own) tt e in
       let within : (station_at (place_at w t) l).inside ≡ Some Main = (steady.stands.sections t l Main).1 (e ∙ ap Some mine) in
       let out : (station_at (place_at w t) l).inside ≡ None = nothing_at (place_at w t) l (λ y. y.inside) refl (ap (λ y. (station y).inside) is ∙ outside) in absurd cc
 
@@ -408,6 +410,24 @@ module _ (w : State) (t : ℕ) (shape : IsShaped w) (steady : IsSteady w) (there
   place_rests (Mutex l UnlockFair) is fits busy up = fair_rests t l 11 false (first_of (queue_at w (2 * l))) (drop 1 (queue_at w (2 * l))) w (omega arith) (unlock_fair_leads t l (queue_at w (2 * l)) (word_at w l) (owner_at w l) w (at_first l (Mutex l UnlockFair) is refl refl fits.0))
   place_rests (Mutex l Bump) is fits busy up = fair_rests t l 11 true (first_of (queue_at w (2 * l))) (drop 1 (queue_at w (2 * l))) w (omega arith) (bump_leads t l (queue_at w (2 * l)) (word_at w l) (owner_at w l) w (at_first l (Mutex l Bump) is refl refl fits.0))
   place_rests (Mutex l (HandOff bumps a)) is fits busy up = hand_off_rests t l bumps a (word_at w l) (owner_at w l) (section_at w (2 * l)) (queue_at w (2 * l)) w (facing l (Mutex l (HandOff bumps a)) is fits.0) (λ outside. free l (Mutex l (HandOff bumps a)) is refl outside (section_at w (2 * l)) refl)
+
+  place_rests (RwLock l a p) is fits busy up = leads_more 11 12 w t (λ v x. Rests x) (omega arith) (rwlock_rests t l a p (word_at w l) w (λ m. queue_at w (key_of l m)) (word_small w l steady admits.0.0) (is_ready t l a p admits.1 up) (record {
+    shape = shape;
+    steady = steady;
+    thread = there;
+    lock = fits;
+    place = is;
+    word = refl;
+    queue = λ m. refl;
+    way = λ m u e. way l u m (ap lock_of is) (line m) e;
+  }))
+    where
+      admits : CallsMutex w (RwLock l a p)
+      admits = subst (CallsMutex w) is (steady.stands.calls t)
+
+      line : (m : Line) → HasLine (rules_of (kind_at w l)).sort m
+      line Main = tt
+      line Second = admits.0.0
 
   -- a call under way ends or sleeps
   pub solo_rests : IsUnderWay w t → (n : ℕ) (last : Outcome) → 12 ≤ n → Rests (solo n w t last).outcome
@@ -505,6 +525,7 @@ stands_there (x ∷ xs) (suc t) busy = let ih : t < length xs = stands_there xs 
 
 first_busy : (k : Kind) (c : Call) (p : Place) → p ≡ first_place k c → p ≢ Idle
 first_busy k (call.TheVariants.Mutex l c) p is idle = let e : Mutex l (mutex_first (is_fair k) c) ≡ Idle = sym is ∙ idle in cc
+first_busy k (call.TheVariants.RwLock l c) p is idle = let e : RwLock l (admission_of k) (rwlock_first c) ≡ Idle = sym is ∙ idle in cc
 
 module _ (w : State) (t : ℕ) (shape : IsShaped w) (steady : IsSteady w) where
   pub rests_alone : IsUnderWay w t → HasItsWay w t → Rests (solo 64 w t outcome.TheVariants.NotNow).outcome

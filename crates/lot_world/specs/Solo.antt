@@ -1,5 +1,5 @@
 -- What comes of a call whose thread steps alone.
-use Rattle.std.specs.Prelude.{ℕ, Bool, if◌then◌else◌, List, Option, Some, None, ◌≡◌, ◌≢◌, ◌*◌, ◌≤◌, ◌++◌, ◌∷◌, [], length, replicate}
+use Rattle.std.specs.Prelude.{ℕ, Bool, true, if◌then◌else◌, List, Option, Some, None, ◌≡◌, ◌≢◌, ◌*◌, ◌≤◌, ◌++◌, ◌∷◌, [], length, replicate}
 use Rattle.lot_base.specs.declared.wants.Want.{Want}
 use Rattle.lot_base.specs.declared.wants.Want.TheVariants.{Exclusive}
 use Rattle.lot_acts.specs.declared.acts.Act.TheVariants.{Sleep}
@@ -9,19 +9,26 @@ use Rattle.lot_calls.specs.declared.outcomes.Outcome.{Outcome}
 use Rattle.lot_calls.specs.declared.outcomes.Outcome as outcome
 use Rattle.lot_steps.specs.declared.places.Place.TheVariants.{Idle}
 use Rattle.lot_steps.specs.Steps.{act_of, lock_of}
-use Rattle.lot_machine.specs.Machine.{State, place_at, section_at, go_of}
-use Rattle.abstract_locks.specs.Locks.{Mutex, LockState, first_thread, Queued, MayEnter, IsBlocked, Owns}
-use Rattle.abstract_locks.specs.Purposes.{Purpose, Enters, Releases, Bumps, Patience, Patient, Try}
+use Rattle.lot_machine.specs.Machine.{State, place_at, kind_at, section_at, go_of}
+use Rattle.abstract_locks.specs.Locks.{Sort, Mutex, LockState, first_thread, Queued, MayEnter, IsBlocked, Owns}
+use Rattle.abstract_locks.specs.Sites.{Line, Main, Second, has_readers}
+use Rattle.abstract_locks.specs.Purposes.{rules_of, Purpose, Enters, Releases, Bumps, Patience, Patient, Try}
 use Rattle.abstract_locks.specs.Runs.{LocksState, rules_at}
+use Rattle.lot_world.specs.SitesOf.{key_of}
 use Rattle.lot_world.specs.WorldRuns.{IsWorldRun}
 
 -- the thread is in a call, and isn't asleep
 abbrev pub IsUnderWay : State → ℕ → Type 0
 IsUnderWay w t = (place_at w t ≢ Idle) × (act_of (place_at w t) ≢ Sleep)
 
--- nobody else is inside the section that its call enters
+-- a lock that is shared has a second line
+abbrev pub HasLine : Sort → Line → Type 0
+HasLine sort Main = Unit {0}
+HasLine sort Second = has_readers sort ≡ true
+
+-- nobody else is inside a section that its call may enter
 abbrev pub HasItsWay : State → ℕ → Type 0
-HasItsWay w t = (l u : ℕ) → lock_of (place_at w t) ≡ Some l → section_at w (2 * l) ≡ Some u → u ≡ t
+HasItsWay w t = (l u : ℕ) (m : Line) → lock_of (place_at w t) ≡ Some l → HasLine (rules_of (kind_at w l)).sort m → section_at w (key_of l m) ≡ Some u → u ≡ t
 
 -- the call has ended, sleeps or is in its closure
 abbrev pub Rests : Outcome → Type 0
