@@ -11,6 +11,7 @@ use Rattle.lot_base.specs.declared.wants.Want.TheVariants.{Exclusive, Upgradable
 use Rattle.lot_base.specs.Words.{apply}
 use Rattle.lot_calls.specs.declared.calls.Access.{Access}
 use Rattle.lot_calls.specs.declared.calls.Access.TheVariants as access
+use Rattle.lot_calls.specs.declared.calls.Downgrade.{Downgrade}
 use Rattle.lot_calls.specs.declared.calls.Patience.{Patience}
 use Rattle.lot_calls.specs.declared.calls.Patience.TheVariants.{Patient, Timed, Try}
 use Rattle.lot_calls.specs.declared.outcomes.Answer.{Answer}
@@ -45,7 +46,7 @@ use Rattle.lot_steps.specs.declared.places.Place.{Place}
 use Rattle.lot_steps.specs.declared.places.Place.TheVariants.{Idle, RwLock}
 use Rattle.lot_steps.specs.Steps.{act_of, next_place, next_act, rwlock_goes, rwlock_does}
 use Rattle.lot_machine.specs.Machine.{State, place_at, word_at, section_at, queue_at, queues_with_last, queues_without_first, state_after_taking, after, step_outcome, go_of, solo, reply_to}
-use Rattle.lot_rwlock.specs.RwLockCalls.{GoesOn, MayStand, IsDecided}
+use Rattle.lot_rwlock.specs.RwLockCalls.{GoesOn, MayStand, StandsAt, IsDecided}
 use Rattle.lot_rwlock.proofs.RwLockStands.{decides_to_park, aside_set}
 use Rattle.lot_world.specs.SitesOf.{IsSteady, key_of, rules_at, site_of}
 use Rattle.abstract_locks.specs.Locks.{Rules, Sort, Mutex, Normal, Recursive, Semaphore, count, one_if_some}
@@ -333,19 +334,22 @@ module _ (t l : ℕ) (a : Admission) where
   look_rests : (p : RwLockPlace) (v : ℕ) (w : State) (q : Line → List Waiter) → v < 2 ^ 64 → Alone w (to p at.Look) v q → Leads 5 w t Resting
   look_rests p v w q small f = leads_so 5 w t (Settles (count_in v == 0) p q) Resting (settles_so (count_in v == 0) p q) (look_leads p v w q small f)
 
-  -- on its way to wake others
-  wakes_leave : (p : RwLockPlace) (m : Line) (any : Bool) (v : ℕ) (w : State) (q : Line → List Waiter) → Alone w (to p (at.Wake m (waking.Leave any))) v q → Leads 1 w t Resting
-  wakes_leave p m any v w q f = ends w Resting v q (ends_with p.purpose) _ refl (leave_comes w t l _ v q f m _ refl) tt
+  -- on its way to wake others, and then it ends
+  abbrev Ends : RwLockPurpose → State → Outcome → Type 0
+  Ends r s x = x ≡ outcome.End (ends_with r)
 
-  wakes_clear : (p : RwLockPlace) (m : Line) (any : Bool) (v : ℕ) (w : State) (q : Line → List Waiter) → Alone w (to p (at.Wake m (waking.Clear any))) v q → Leads 2 w t Resting
-  wakes_clear p m any v w q f = goes w Resting 1 _ q (again p (at.Wake m (waking.Leave any)) p.retries) _ refl refl (word_comes w t l _ v q f (unparked m) refl) (λ g. wakes_leave p m any _ _ q g)
+  wakes_leave : (p : RwLockPlace) (m : Line) (any : Bool) (v : ℕ) (w : State) (q : Line → List Waiter) → Alone w (to p (at.Wake m (waking.Leave any))) v q → Leads 1 w t (Ends p.purpose)
+  wakes_leave p m any v w q f = ends w (Ends p.purpose) v q (ends_with p.purpose) _ refl (leave_comes w t l _ v q f m _ refl) refl
 
-  took_rests : (p : RwLockPlace) (m : Line) (any none_left : Bool) (v : ℕ) (w : State) (q : Line → List Waiter) → Comes w t l (RwLock l a (again p (at.Wake m (took m any none_left)) p.retries)) (outcome_of (rwlock_act l a (again p (at.Wake m (took m any none_left)) p.retries))) v q → Leads 3 w t Resting
-  took_rests p m any none_left v w q c = either (clears m none_left) c
+  wakes_clear : (p : RwLockPlace) (m : Line) (any : Bool) (v : ℕ) (w : State) (q : Line → List Waiter) → Alone w (to p (at.Wake m (waking.Clear any))) v q → Leads 2 w t (Ends p.purpose)
+  wakes_clear p m any v w q f = goes w (Ends p.purpose) 1 _ q (again p (at.Wake m (waking.Leave any)) p.retries) _ refl refl (word_comes w t l _ v q f (unparked m) refl) (λ g. wakes_leave p m any _ _ q g)
+
+  took_ends : (p : RwLockPlace) (m : Line) (any none_left : Bool) (v : ℕ) (w : State) (q : Line → List Waiter) → Comes w t l (RwLock l a (again p (at.Wake m (took m any none_left)) p.retries)) (outcome_of (rwlock_act l a (again p (at.Wake m (took m any none_left)) p.retries))) v q → Leads 3 w t (Ends p.purpose)
+  took_ends p m any none_left v w q c = either (clears m none_left) c
     where
-      either : (b : Bool) → Comes w t l (RwLock l a (again p (at.Wake m (if b then waking.Clear any else waking.Leave any)) p.retries)) (outcome_of (rwlock_act l a (again p (at.Wake m (if b then waking.Clear any else waking.Leave any)) p.retries))) v q → Leads 3 w t Resting
-      either true c = leads_step w t Resting 2 c.0 (wakes_clear p m any v _ q c.1)
-      either false c = leads_more 2 3 w t Resting (omega arith) (leads_step w t Resting 1 c.0 (wakes_leave p m any v _ q c.1))
+      either : (b : Bool) → Comes w t l (RwLock l a (again p (at.Wake m (if b then waking.Clear any else waking.Leave any)) p.retries)) (outcome_of (rwlock_act l a (again p (at.Wake m (if b then waking.Clear any else waking.Leave any)) p.retries))) v q → Leads 3 w t (Ends p.purpose)
+      either true c = leads_step w t (Ends p.purpose) 2 c.0 (wakes_clear p m any v _ q c.1)
+      either false c = leads_more 2 3 w t (Ends p.purpose) (omega arith) (leads_step w t (Ends p.purpose) 1 c.0 (wakes_leave p m any v _ q c.1))
 
   taken_word : (b : State) (x : Option ℕ) → word_at (state_after_taking b t x) l ≡ word_at b l
   taken_word b None = refl
@@ -355,61 +359,98 @@ module _ (t l : ℕ) (a : Admission) where
   taken_sections b None k = refl
   taken_sections b (Some u) k = refl
 
-  wakes_take : (p : RwLockPlace) (m : Line) (v : ℕ) (w : State) (q : Line → List Waiter) → Alone w (to p (at.Wake m waking.Take)) v q → Leads 4 w t Resting
-  wakes_take p Main v w q f = leads_more 3 4 w t Resting (omega arith) (took_rests p Main _ _ v w _ (take_comes w t l _ v q f (2 * l) (whom a (start_of p.purpose) Main) refl refl (λ k. refl)))
-  wakes_take p Second v w q f = leads_more 3 4 w t Resting (omega arith) (took_rests p Second _ (length (drop 1 (queue_at w (2 * l + 1))) == 0) v w _ (take_comes w t l _ v q f (2 * l + 1) whoms.First refl
+  wakes_take : (p : RwLockPlace) (m : Line) (v : ℕ) (w : State) (q : Line → List Waiter) → Alone w (to p (at.Wake m waking.Take)) v q → Leads 4 w t (Ends p.purpose)
+  wakes_take p Main v w q f = leads_more 3 4 w t (Ends p.purpose) (omega arith) (took_ends p Main _ _ v w _ (take_comes w t l _ v q f (2 * l) (whom a (start_of p.purpose) Main) refl refl (λ k. refl)))
+  wakes_take p Second v w q f = leads_more 3 4 w t (Ends p.purpose) (omega arith) (took_ends p Second _ (length (drop 1 (queue_at w (2 * l + 1))) == 0) v w _ (take_comes w t l _ v q f (2 * l + 1) whoms.First refl
       (taken_word (record w { queues = queues_without_first w.queues (2 * l + 1) }) (first_of (queue_at w (2 * l + 1)))) (taken_sections (record w { queues = queues_without_first w.queues (2 * l + 1) }) (first_of (queue_at w (2 * l + 1))))))
 
-  wakes_enter : (p : RwLockPlace) (m : Line) (v : ℕ) (w : State) (q : Line → List Waiter) → Alone w (to p (at.Wake m waking.Enter)) v q → Leads 5 w t Resting
-  wakes_enter p m v w q f = goes w Resting 4 v q (again p (at.Wake m waking.Take) p.retries) _ refl refl (enter_comes w t l _ v q f m refl (finds_free w t l _ v q f refl m)) (λ g. wakes_take p m v _ q g)
+  wakes_enter : (p : RwLockPlace) (m : Line) (v : ℕ) (w : State) (q : Line → List Waiter) → Alone w (to p (at.Wake m waking.Enter)) v q → Leads 5 w t (Ends p.purpose)
+  wakes_enter p m v w q f = goes w (Ends p.purpose) 4 v q (again p (at.Wake m waking.Take) p.retries) _ refl refl (enter_comes w t l _ v q f m refl (finds_free w t l _ v q f refl m)) (λ g. wakes_take p m v _ q g)
 
-  wakes_rests : (p : RwLockPlace) (m : Line) (x : WakeAt) (v : ℕ) (w : State) (q : Line → List Waiter) → Alone w (to p (at.Wake m x)) v q → Leads 5 w t Resting
-  wakes_rests p m waking.Enter v w q f = wakes_enter p m v w q f
-  wakes_rests p m waking.Take v w q f = leads_more 4 5 w t Resting (omega arith) (wakes_take p m v w q f)
-  wakes_rests p m (waking.Clear any) v w q f = leads_more 2 5 w t Resting (omega arith) (wakes_clear p m any v w q f)
-  wakes_rests p m (waking.Leave any) v w q f = leads_more 1 5 w t Resting (omega arith) (wakes_leave p m any v w q f)
+  wakes_end : (p : RwLockPlace) (m : Line) (x : WakeAt) (v : ℕ) (w : State) (q : Line → List Waiter) → Alone w (to p (at.Wake m x)) v q → Leads 5 w t (Ends p.purpose)
+  wakes_end p m waking.Enter v w q f = wakes_enter p m v w q f
+  wakes_end p m waking.Take v w q f = leads_more 4 5 w t (Ends p.purpose) (omega arith) (wakes_take p m v w q f)
+  wakes_end p m (waking.Clear any) v w q f = leads_more 2 5 w t (Ends p.purpose) (omega arith) (wakes_clear p m any v w q f)
+  wakes_end p m (waking.Leave any) v w q f = leads_more 1 5 w t (Ends p.purpose) (omega arith) (wakes_leave p m any v w q f)
 
   -- it gives its right up, and wakes those that it saw
-  gave_rests : (p : RwLockPlace) (m : Line) (b : Bool) (answer : Answer) (v : ℕ) (w : State) (q : Line → List Waiter) → Comes w t l (rwlock_goes l a (if b then At (again p (at.Wake m waking.Enter) p.retries) else End answer)) (outcome_of (rwlock_does l a (if b then At (again p (at.Wake m waking.Enter) p.retries) else End answer))) v q → Leads 6 w t Resting
-  gave_rests p m true answer v w q c = leads_step w t Resting 5 c.0 (wakes_enter p m v _ q c.1)
-  gave_rests p m false answer v w q c = leads_more 1 6 w t Resting (omega arith) (leads_rest w t Resting (outcome.End answer) c.0 tt tt)
+  gave_ends : (p : RwLockPlace) (m : Line) (b : Bool) (answer : Answer) (v : ℕ) (w : State) (q : Line → List Waiter) → answer ≡ ends_with p.purpose
+      → Comes w t l (rwlock_goes l a (if b then At (again p (at.Wake m waking.Enter) p.retries) else End answer)) (outcome_of (rwlock_does l a (if b then At (again p (at.Wake m waking.Enter) p.retries) else End answer))) v q → Leads 6 w t (Ends p.purpose)
+  gave_ends p m true answer v w q is c = leads_step w t (Ends p.purpose) 5 c.0 (wakes_enter p m v _ q c.1)
+  gave_ends p m false answer v w q is c = leads_more 1 6 w t (Ends p.purpose) (omega arith) (leads_rest w t (Ends p.purpose) (outcome.End answer) c.0 tt (ap outcome.End is))
 
-  rollback_rests : (p : RwLockPlace) (v : ℕ) (w : State) (q : Line → List Waiter) → Alone w (to p at.RollBack) v q → Leads 6 w t Resting
-  rollback_rests p v w q f = gave_rests p Main (has_parked v) answer.No _ w q (word_comes w t l _ v q f (rollback_op p.purpose) refl)
+  -- a pending writer gives up
+  abbrev IsWaiting : RwLockPurpose → Type 0
+  IsWaiting (purpose.Enter x how) = Unit {0}
+  IsWaiting (purpose.Upgrade how) = Unit {0}
+  IsWaiting r = ⊥
 
-  give_way_rests : (r : RwLockPurpose) (retries : Bool) (v : ℕ) (w : State) (q : Line → List Waiter) → Alone w (place_for r retries at.GiveWay) v q → Leads 6 w t Resting
-  give_way_rests r retries v w q f = by_purpose r (word_comes w t l _ v q f (give_op r) refl)
+  rollback_ends : (p : RwLockPlace) (v : ℕ) (w : State) (q : Line → List Waiter) → IsWaiting p.purpose → Alone w (to p at.RollBack) v q → Leads 6 w t (Ends p.purpose)
+  rollback_ends p v w q waits f = gave_ends p Main (has_parked v) answer.No _ w q (answers p.purpose waits) (word_comes w t l _ v q f (rollback_op p.purpose) refl)
     where
-      by_purpose : (r : RwLockPurpose) → Comes w t l (rwlock_goes l a (gave_way (place_for r retries at.GiveWay) v)) (outcome_of (rwlock_does l a (gave_way (place_for r retries at.GiveWay) v))) (apply (give_op r) v) q → Leads 6 w t Resting
-      by_purpose (purpose.Enter access.Shared how) c = gave_rests (place_for (purpose.Enter access.Shared how) retries at.GiveWay) Second (has_aside v && (count_in v == 1)) answer.Ok _ w q c
-      by_purpose (purpose.Enter access.Upgradable how) c = gave_rests (place_for (purpose.Enter access.Upgradable how) retries at.GiveWay) Main (has_parked v) answer.Ok _ w q c
-      by_purpose (purpose.Enter access.Exclusive how) c = gave_rests (place_for (purpose.Enter access.Exclusive how) retries at.GiveWay) Main (has_parked v) answer.Ok _ w q c
-      by_purpose (purpose.Release access.Shared) c = gave_rests (place_for (purpose.Release access.Shared) retries at.GiveWay) Second (has_aside v && (count_in v == 1)) answer.Ok _ w q c
-      by_purpose (purpose.Release access.Upgradable) c = gave_rests (place_for (purpose.Release access.Upgradable) retries at.GiveWay) Main (has_parked v) answer.Ok _ w q c
-      by_purpose (purpose.Release access.Exclusive) c = gave_rests (place_for (purpose.Release access.Exclusive) retries at.GiveWay) Main (has_parked v) answer.Ok _ w q c
-      by_purpose (purpose.Downgrade d) c = gave_rests (place_for (purpose.Downgrade d) retries at.GiveWay) Main (has_parked v) answer.Ok _ w q c
-      by_purpose (purpose.Upgrade how) c = by_count (count_in v == 1) c
-        where
-          by_count : (b : Bool) → Comes w t l (rwlock_goes l a (if b then End (entered how) else At (place_for (purpose.Upgrade how) false at.Look))) (outcome_of (rwlock_does l a (if b then End (entered how) else At (place_for (purpose.Upgrade how) false at.Look)))) (apply (give_op (purpose.Upgrade how)) v) q → Leads 6 w t Resting
-          by_count true c = leads_more 1 6 w t Resting (omega arith) (leads_rest w t Resting (outcome.End (entered how)) c.0 tt tt)
-          by_count false c = leads_step w t Resting 5 c.0 (look_rests (place_for (purpose.Upgrade how) false at.Look) _ _ q (below _) c.1)
+      answers : (r : RwLockPurpose) → IsWaiting r → answer.No ≡ ends_with r
+      answers (purpose.Enter x how) h = refl
+      answers (purpose.Upgrade how) h = refl
+      answers (purpose.Release x) h = absurd h
+      answers (purpose.Downgrade d) h = absurd h
+
+  ends_so : (r : RwLockPurpose) (s : State) (x : Outcome) → Ends r s x → Rests x
+  ends_so r s x h = rw h tt
+
+  release_ends : (x : Access) (retries : Bool) (v : ℕ) (w : State) (q : Line → List Waiter) → Alone w (place_for (purpose.Release x) retries at.GiveWay) v q → Leads 6 w t (Ends (purpose.Release x))
+  release_ends x retries v w q f = by_access x (word_comes w t l _ v q f (give_op (purpose.Release x)) refl)
+    where
+      by_access : (x : Access) → Comes w t l (rwlock_goes l a (gave_way (place_for (purpose.Release x) retries at.GiveWay) v)) (outcome_of (rwlock_does l a (gave_way (place_for (purpose.Release x) retries at.GiveWay) v))) (apply (give_op (purpose.Release x)) v) q → Leads 6 w t (Ends (purpose.Release x))
+      by_access access.Shared c = gave_ends (place_for (purpose.Release access.Shared) retries at.GiveWay) Second (has_aside v && (count_in v == 1)) answer.Ok _ w q refl c
+      by_access access.Upgradable c = gave_ends (place_for (purpose.Release access.Upgradable) retries at.GiveWay) Main (has_parked v) answer.Ok _ w q refl c
+      by_access access.Exclusive c = gave_ends (place_for (purpose.Release access.Exclusive) retries at.GiveWay) Main (has_parked v) answer.Ok _ w q refl c
+
+  downgrade_ends : (d : Downgrade) (retries : Bool) (v : ℕ) (w : State) (q : Line → List Waiter) → Alone w (place_for (purpose.Downgrade d) retries at.GiveWay) v q → Leads 6 w t (Ends (purpose.Downgrade d))
+  downgrade_ends d retries v w q f = gave_ends (place_for (purpose.Downgrade d) retries at.GiveWay) Main (has_parked v) answer.Ok _ w q refl (word_comes w t l _ v q f (give_op (purpose.Downgrade d)) refl)
+
+  -- an upgrade owns where it was the only one, and else it looks for readers
+  abbrev Upgrades : Bool → Patience → Bool → ℕ → (Line → List Waiter) → State → Outcome → Type 0
+  Upgrades true how retries v q s x = x ≡ outcome.End (entered how)
+  Upgrades false how retries v q s x = Settles (count_in (apply (op.Sub 12) v) == 0) (place_for (purpose.Upgrade how) false at.Look) q s x
+
+  upgrade_leads : (how : Patience) (retries : Bool) (v : ℕ) (w : State) (q : Line → List Waiter) → Alone w (place_for (purpose.Upgrade how) retries at.GiveWay) v q → Leads 6 w t (Upgrades (count_in v == 1) how retries v q)
+  upgrade_leads how retries v w q f = by_count (count_in v == 1) (word_comes w t l _ v q f (op.Sub 12) refl)
+    where
+      by_count : (b : Bool) → Comes w t l (rwlock_goes l a (if b then End (entered how) else At (place_for (purpose.Upgrade how) false at.Look))) (outcome_of (rwlock_does l a (if b then End (entered how) else At (place_for (purpose.Upgrade how) false at.Look)))) (apply (op.Sub 12) v) q → Leads 6 w t (Upgrades b how retries v q)
+      by_count true c = leads_more 1 6 w t (Upgrades true how retries v q) (omega arith) (leads_rest w t (Upgrades true how retries v q) (outcome.End (entered how)) c.0 tt refl)
+      by_count false c = leads_step w t (Upgrades false how retries v q) 5 c.0 (look_leads (place_for (purpose.Upgrade how) false at.Look) (apply (op.Sub 12) v) _ q (below _) c.1)
+
+  upgrades_so : (b : Bool) (how : Patience) (retries : Bool) (v : ℕ) (q : Line → List Waiter) (s : State) (x : Outcome) → Upgrades b how retries v q s x → Rests x
+  upgrades_so true how retries v q s x h = rw h tt
+  upgrades_so false how retries v q s x h = settles_so (count_in (apply (op.Sub 12) v) == 0) _ q s x h
+
+  -- a call that gives its right up
+  abbrev IsGiving : RwLockPurpose → Type 0
+  IsGiving (purpose.Enter x how) = ⊥
+  IsGiving r = Unit {0}
+
+  give_way_rests : (r : RwLockPurpose) (retries : Bool) (v : ℕ) (w : State) (q : Line → List Waiter) → IsGiving r → Alone w (place_for r retries at.GiveWay) v q → Leads 6 w t Resting
+  give_way_rests (purpose.Enter x how) retries v w q gives f = absurd gives
+  give_way_rests (purpose.Release x) retries v w q gives f = leads_so 6 w t (Ends (purpose.Release x)) Resting (ends_so (purpose.Release x)) (release_ends x retries v w q f)
+  give_way_rests (purpose.Downgrade d) retries v w q gives f = leads_so 6 w t (Ends (purpose.Downgrade d)) Resting (ends_so (purpose.Downgrade d)) (downgrade_ends d retries v w q f)
+  give_way_rests (purpose.Upgrade how) retries v w q gives f = leads_so 6 w t (Upgrades (count_in v == 1) how retries v q) Resting (upgrades_so (count_in v == 1) how retries v q) (upgrade_leads how retries v w q f)
 
   -- its time is up
-  gives_up_rests : (m : Line) (p : RwLockPlace) (v : ℕ) (w : State) (q : Line → List Waiter) → Alone w (to p (parks_at m parking.GiveUp)) v q → Leads 7 w t Resting
-  gives_up_rests Main p v w q f = leads_more 1 7 w t Resting (omega arith) (ends w Resting v q answer.No _ refl (leave_comes w t l _ v q f Main wakes.Nobody refl) tt)
-  gives_up_rests Second p v w q f = goes w Resting 6 v q (again p at.RollBack p.retries) _ refl refl (leave_comes w t l _ v q f Second wakes.Nobody refl) (λ g. rollback_rests p v _ q g)
+  gives_up_rests : (m : Line) (p : RwLockPlace) (v : ℕ) (w : State) (q : Line → List Waiter) → IsWaiting p.purpose → Alone w (to p (parks_at m parking.GiveUp)) v q → Leads 7 w t Resting
+  gives_up_rests Main p v w q waits f = leads_more 1 7 w t Resting (omega arith) (ends w Resting v q answer.No _ refl (leave_comes w t l _ v q f Main wakes.Nobody refl) tt)
+  gives_up_rests Second p v w q waits f = goes w Resting 6 v q (again p at.RollBack p.retries) _ refl refl (leave_comes w t l _ v q f Second wakes.Nobody refl) (λ g. leads_so 6 _ t (Ends p.purpose) Resting (ends_so p.purpose) (rollback_ends p v _ q waits g))
 
-  clear_rests : (m : Line) (p : RwLockPlace) (v : ℕ) (w : State) (q : Line → List Waiter) → Alone w (to p (parks_at m parking.Clear)) v q → Leads 8 w t Resting
-  clear_rests Main p v w q f = goes w Resting 7 _ q (again p (at.Park parking.GiveUp) p.retries) _ refl refl (word_comes w t l _ v q f (unparked Main) refl) (λ g. gives_up_rests Main p _ _ q g)
-  clear_rests Second p v w q f = goes w Resting 7 _ q (again p (at.Aside parking.GiveUp) p.retries) _ refl refl (word_comes w t l _ v q f (unparked Second) refl) (λ g. gives_up_rests Second p _ _ q g)
+  clear_rests : (m : Line) (p : RwLockPlace) (v : ℕ) (w : State) (q : Line → List Waiter) → IsWaiting p.purpose → Alone w (to p (parks_at m parking.Clear)) v q → Leads 8 w t Resting
+  clear_rests Main p v w q waits f = goes w Resting 7 _ q (again p (at.Park parking.GiveUp) p.retries) _ refl refl (word_comes w t l _ v q f (unparked Main) refl) (λ g. gives_up_rests Main p _ _ q waits g)
+  clear_rests Second p v w q waits f = goes w Resting 7 _ q (again p (at.Aside parking.GiveUp) p.retries) _ refl refl (word_comes w t l _ v q f (unparked Second) refl) (λ g. gives_up_rests Second p _ _ q waits g)
 
-  remove_rests : (m : Line) (p : RwLockPlace) (v : ℕ) (w : State) (q : Line → List Waiter) → Alone w (to p (parks_at m parking.Remove)) v q → Leads 9 w t Resting
-  remove_rests Main p v w q f = either _ (remove_comes w t l _ v q f (2 * l) refl)
+  remove_rests : (m : Line) (p : RwLockPlace) (v : ℕ) (w : State) (q : Line → List Waiter) → IsWaiting p.purpose → Alone w (to p (parks_at m parking.Remove)) v q → Leads 9 w t Resting
+  remove_rests Main p v w q waits f = either _ (remove_comes w t l _ v q f (2 * l) refl)
     where
       either : (b : Bool) {q2 : Line → List Waiter} → Comes w t l (RwLock l a (again p (at.Park (if b then parking.Clear else parking.GiveUp)) p.retries)) (outcome_of (rwlock_act l a (again p (at.Park (if b then parking.Clear else parking.GiveUp)) p.retries))) v q2 → Leads 9 w t Resting
-      either true {q2} c = leads_step w t Resting 8 c.0 (clear_rests Main p v _ q2 c.1)
-      either false {q2} c = leads_more 8 9 w t Resting (omega arith) (leads_step w t Resting 7 c.0 (gives_up_rests Main p v _ q2 c.1))
-  remove_rests Second p v w q f = let c = remove_comes w t l _ v q f (2 * l + 1) refl in leads_step w t Resting 8 c.0 (clear_rests Second p v _ _ c.1)
+      either true {q2} c = leads_step w t Resting 8 c.0 (clear_rests Main p v _ q2 waits c.1)
+      either false {q2} c = leads_more 8 9 w t Resting (omega arith) (leads_step w t Resting 7 c.0 (gives_up_rests Main p v _ q2 waits c.1))
+  remove_rests Second p v w q waits f = let c = remove_comes w t l _ v q f (2 * l + 1) refl in leads_step w t Resting 8 c.0 (clear_rests Second p v _ _ waits c.1)
 
   -- it stands in the line, or looks again
   leave_rests : (m : Line) (p : RwLockPlace) (b : Bool) (v : ℕ) (w : State) (q : Line → List Waiter) → v < 2 ^ 64 → Alone w (to p (parks_at m (parking.Leave b))) v q → Leads 8 w t Resting
@@ -430,14 +471,14 @@ module _ (t l : ℕ) (a : Admission) where
   IsUp (parking.Taken by) = ⊥
   IsUp x = Unit {0}
 
-  parks_rests : (m : Line) (p : RwLockPlace) (x : ParkAt) (v : ℕ) (w : State) (q : Line → List Waiter) → IsUp x → v < 2 ^ 64 → Alone w (to p (parks_at m x)) v q → Leads 9 w t Resting
-  parks_rests m p parking.Check v w q up small f = check_rests m p v w q small f
-  parks_rests m p (parking.Leave b) v w q up small f = leads_more 8 9 w t Resting (omega arith) (leave_rests m p b v w q small f)
-  parks_rests m p parking.Asleep v w q up small f = absurd up
-  parks_rests m p (parking.Taken by) v w q up small f = absurd up
-  parks_rests m p parking.Remove v w q up small f = remove_rests m p v w q f
-  parks_rests m p parking.Clear v w q up small f = leads_more 8 9 w t Resting (omega arith) (clear_rests m p v w q f)
-  parks_rests m p parking.GiveUp v w q up small f = leads_more 7 9 w t Resting (omega arith) (gives_up_rests m p v w q f)
+  parks_rests : (m : Line) (p : RwLockPlace) (x : ParkAt) (v : ℕ) (w : State) (q : Line → List Waiter) → IsWaiting p.purpose → IsUp x → v < 2 ^ 64 → Alone w (to p (parks_at m x)) v q → Leads 9 w t Resting
+  parks_rests m p parking.Check v w q waits up small f = check_rests m p v w q small f
+  parks_rests m p (parking.Leave b) v w q waits up small f = leads_more 8 9 w t Resting (omega arith) (leave_rests m p b v w q small f)
+  parks_rests m p parking.Asleep v w q waits up small f = absurd up
+  parks_rests m p (parking.Taken by) v w q waits up small f = absurd up
+  parks_rests m p parking.Remove v w q waits up small f = remove_rests m p v w q waits f
+  parks_rests m p parking.Clear v w q waits up small f = leads_more 8 9 w t Resting (omega arith) (clear_rests m p v w q waits f)
+  parks_rests m p parking.GiveUp v w q waits up small f = leads_more 7 9 w t Resting (omega arith) (gives_up_rests m p v w q waits f)
 
   -- it decides by a value that the word has no longer, or still
   stale_next : (p : RwLockPlace) (x v : ℕ) (d : Decision) → (v == x) ≡ false → (d ≡ decisions.Park → ⊥) → exchanged_next a (decides p x) x v d ≡ looked a (decides p x) v
@@ -489,8 +530,10 @@ module _ (t l : ℕ) (a : Admission) where
   -- awake, and with something to do
   abbrev IsReady : RwLockPlace → RwLockAt → Type 0
   IsReady p (at.Decide seen) = GoesOn (decided a p seen)
-  IsReady p (at.Park x) = IsUp x
-  IsReady p (at.Aside x) = IsUp x
+  IsReady p (at.Park x) = IsUp x × IsWaiting p.purpose
+  IsReady p (at.Aside x) = IsUp x × IsWaiting p.purpose
+  IsReady p at.RollBack = IsWaiting p.purpose
+  IsReady p at.GiveWay = IsGiving p.purpose
   IsReady p x = Unit {0}
 
   pub rwlock_rests : (p : RwLockPlace) (v : ℕ) (w : State) (q : Line → List Waiter) → v < 2 ^ 64 → IsReady p p.at → Alone w p v q → Leads 11 w t Resting
@@ -500,13 +543,13 @@ module _ (t l : ℕ) (a : Admission) where
       by_at at.First ready f = leads_more 8 11 w t Resting (omega arith) (leads_so 8 w t (Tries (v == 0) (patience_of p.purpose) p v q) Resting (tries_so (v == 0) (patience_of p.purpose) p v q) (first_leads p v w q small f))
       by_at at.Load ready f = leads_more 7 11 w t Resting (omega arith) (load_rests p v w q small f)
       by_at (at.Decide x) ready f = leads_more 10 11 w t Resting (omega arith) (decide_rests p x v w q (decided a p x) ready refl small f)
-      by_at (at.Park x) ready f = leads_more 9 11 w t Resting (omega arith) (parks_rests Main p x v w q ready small f)
+      by_at (at.Park x) ready f = leads_more 9 11 w t Resting (omega arith) (parks_rests Main p x v w q ready.1 ready.0 small f)
       by_at at.Look ready f = leads_more 5 11 w t Resting (omega arith) (look_rests p v w q small f)
       by_at (at.Count x) ready f = count_rests p x v w q small f
-      by_at (at.Aside x) ready f = leads_more 9 11 w t Resting (omega arith) (parks_rests Second p x v w q ready small f)
-      by_at at.RollBack ready f = leads_more 6 11 w t Resting (omega arith) (rollback_rests p v w q f)
-      by_at at.GiveWay ready f = leads_more 6 11 w t Resting (omega arith) (give_way_rests p.purpose p.retries v w q f)
-      by_at (at.Wake m x) ready f = leads_more 5 11 w t Resting (omega arith) (wakes_rests p m x v w q f)
+      by_at (at.Aside x) ready f = leads_more 9 11 w t Resting (omega arith) (parks_rests Second p x v w q ready.1 ready.0 small f)
+      by_at at.RollBack ready f = leads_more 6 11 w t Resting (omega arith) (leads_so 6 w t (Ends p.purpose) Resting (ends_so p.purpose) (rollback_ends p v w q ready f))
+      by_at at.GiveWay ready f = leads_more 6 11 w t Resting (omega arith) (give_way_rests p.purpose p.retries v w q ready f)
+      by_at (at.Wake m x) ready f = leads_more 5 11 w t Resting (omega arith) (leads_so 5 w t (Ends p.purpose) Resting (ends_so p.purpose) (wakes_end p m x v w q f))
 
 -- ---------------------------------------------------------------- words of 64 bits
 
@@ -535,25 +578,53 @@ word_small w l steady readers = let limits = steady.sites.limits l readers in
 
 -- a thread that isn't asleep has something to do
 pub is_ready : (t l : ℕ) (a : Admission) (p : RwLockPlace) → MayStand a p → act_of (RwLock l a p) ≢ act.Sleep → IsReady t l a p p.at
-is_ready t l a p stands up = by_at p.at stands.decided up
+is_ready t l a p stands up = by_at p.purpose p.at stands.place stands.decided up
   where
-    by_parking : (m : Line) (x : ParkAt) → park_act l a (want_at p) m x ≢ act.Sleep → IsUp t l a x
-    by_parking m parking.Asleep up = absurd (up refl)
-    by_parking m (parking.Taken by) up = absurd (up refl)
-    by_parking m parking.Check up = tt
-    by_parking m (parking.Leave b) up = tt
-    by_parking m parking.Remove up = tt
-    by_parking m parking.Clear up = tt
-    by_parking m parking.GiveUp up = tt
+    by_parking : (q : RwLockPurpose) (m : Line) (x : ParkAt) → park_act l a (wanted (access_of q)) m x ≢ act.Sleep → IsUp t l a x
+    by_parking q m parking.Asleep up = absurd (up refl)
+    by_parking q m (parking.Taken by) up = absurd (up refl)
+    by_parking q m parking.Check up = tt
+    by_parking q m (parking.Leave b) up = tt
+    by_parking q m parking.Remove up = tt
+    by_parking q m parking.Clear up = tt
+    by_parking q m parking.GiveUp up = tt
 
-    by_at : (x : RwLockAt) → IsDecided a p.purpose x → act_at l a p x ≢ act.Sleep → IsReady t l a p x
-    by_at at.First h up = tt
-    by_at at.Load h up = tt
-    by_at (at.Decide seen) h up = h
-    by_at (at.Park x) h up = by_parking Main x up
-    by_at at.Look h up = tt
-    by_at (at.Count seen) h up = tt
-    by_at (at.Aside x) h up = by_parking Second x up
-    by_at at.RollBack h up = tt
-    by_at at.GiveWay h up = tt
-    by_at (at.Wake m x) h up = tt
+    waits : (m : Line) (x : ParkAt) (q : RwLockPurpose) → StandsAt q p.retries (parks_at m x) → IsWaiting t l a q
+    waits m x (purpose.Enter y how) h = tt
+    waits m x (purpose.Upgrade how) h = tt
+    waits Main x (purpose.Release access.Shared) h = absurd h
+    waits Second x (purpose.Release access.Shared) h = absurd h
+    waits Main x (purpose.Release access.Upgradable) h = absurd h
+    waits Second x (purpose.Release access.Upgradable) h = absurd h
+    waits Main x (purpose.Release access.Exclusive) h = absurd h
+    waits Second x (purpose.Release access.Exclusive) h = absurd h
+    waits Main x (purpose.Downgrade d) h = absurd h
+    waits Second x (purpose.Downgrade d) h = absurd h
+
+    rolls_back : (q : RwLockPurpose) → StandsAt q p.retries at.RollBack → IsWaiting t l a q
+    rolls_back (purpose.Enter y how) h = tt
+    rolls_back (purpose.Upgrade how) h = tt
+    rolls_back (purpose.Release access.Shared) h = absurd h
+    rolls_back (purpose.Release access.Upgradable) h = absurd h
+    rolls_back (purpose.Release access.Exclusive) h = absurd h
+    rolls_back (purpose.Downgrade d) h = absurd h
+
+    gives : (q : RwLockPurpose) → StandsAt q p.retries at.GiveWay → IsGiving t l a q
+    gives (purpose.Enter access.Shared how) h = absurd h
+    gives (purpose.Enter access.Upgradable how) h = absurd h
+    gives (purpose.Enter access.Exclusive how) h = absurd h
+    gives (purpose.Upgrade how) h = tt
+    gives (purpose.Release x) h = tt
+    gives (purpose.Downgrade d) h = tt
+
+    by_at : (q : RwLockPurpose) (x : RwLockAt) → StandsAt q p.retries x → IsDecided a q x → act_at l a (record { purpose = q; retries = p.retries; at = x }) x ≢ act.Sleep → IsReady t l a (record { purpose = q; retries = p.retries; at = x }) x
+    by_at q at.First s h up = tt
+    by_at q at.Load s h up = tt
+    by_at q (at.Decide seen) s h up = h
+    by_at q (at.Park x) s h up = (by_parking q Main x up, waits Main x q s)
+    by_at q at.Look s h up = tt
+    by_at q (at.Count seen) s h up = tt
+    by_at q (at.Aside x) s h up = (by_parking q Second x up, waits Second x q s)
+    by_at q at.RollBack s h up = rolls_back q s
+    by_at q at.GiveWay s h up = gives q s
+    by_at q (at.Wake m x) s h up = tt
