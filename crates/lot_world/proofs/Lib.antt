@@ -35,8 +35,10 @@ pub mod Promises
 pub mod MutexPromises
 pub mod Fair
 pub mod SoloActs
+pub mod SoloAnswers
 pub mod LineSolo
 pub mod RwLockSolo
+pub mod RwLockEnds
 pub mod Solo
 pub mod Owing
 pub mod WorldRuns

@@ -81,7 +81,7 @@ module _ (t l : ℕ) (a : Admission) where
   -- ---------------------------------------------------------------- into a line
 
   -- it sleeps, as the last of the line
-  abbrev Sleeps : Line → RwLockPlace → (Line → List Waiter) → State → Outcome → Type 0
+  abbrev pub Sleeps : Line → RwLockPlace → (Line → List Waiter) → State → Outcome → Type 0
   Sleeps m p q v x = (x ≡ outcome.Sleep) × (queue_at v (key_of l m) ≡ q m ++ waiter (key_of l m) t (want_at p) ∷ [])
 
   abbrev again : RwLockPlace → RwLockAt → Bool → RwLockPlace
@@ -193,7 +193,7 @@ module _ (t l : ℕ) (a : Admission) where
   counts_step v false = refl
 
   -- it owns where nobody shares, and else it sleeps aside
-  abbrev Settles : Bool → RwLockPlace → (Line → List Waiter) → State → Outcome → Type 0
+  abbrev pub Settles : Bool → RwLockPlace → (Line → List Waiter) → State → Outcome → Type 0
   Settles true p q v x = x ≡ outcome.End (entered (patience_of p.purpose))
   Settles false p q v x = Sleeps Second p q v x
 
@@ -210,11 +210,11 @@ module _ (t l : ℕ) (a : Admission) where
   -- ---------------------------------------------------------------- from a look
 
   -- who takes a right has it, and a writer looks for readers then
-  abbrev Takes : RwLockPurpose → Bool → ℕ → (Line → List Waiter) → State → Outcome → Type 0
+  abbrev pub Takes : RwLockPurpose → Bool → ℕ → (Line → List Waiter) → State → Outcome → Type 0
   Takes (purpose.Enter access.Exclusive how) retries v q s x = Settles (count_in (plus v 8) == 0) (record { purpose = purpose.Enter access.Exclusive how; retries = retries; at = at.Look }) q s x
   Takes r retries v q s x = x ≡ outcome.End (entered (patience_of r))
 
-  abbrev place_for : RwLockPurpose → Bool → RwLockAt → RwLockPlace
+  abbrev pub place_for : RwLockPurpose → Bool → RwLockAt → RwLockPlace
   place_for r retries at = record { purpose = r; retries = retries; at = at }
 
   below : (n : ℕ) → n % 2 ^ 64 < 2 ^ 64
@@ -251,7 +251,7 @@ module _ (t l : ℕ) (a : Admission) where
       by_purpose (purpose.Upgrade how) e c = finished (purpose.Upgrade how) e refl c
 
   -- by its decision about the word as it is
-  abbrev Decides : Decision → RwLockPlace → ℕ → (Line → List Waiter) → State → Outcome → Type 0
+  abbrev pub Decides : Decision → RwLockPlace → ℕ → (Line → List Waiter) → State → Outcome → Type 0
   Decides (decisions.Refuse answer) p v q s x = x ≡ outcome.End answer
   Decides decisions.Take p v q s x = Takes p.purpose p.retries v q s x
   Decides decision p v q s x = Sleeps Main p q s x
@@ -272,16 +272,16 @@ module _ (t l : ℕ) (a : Admission) where
       by_decision decisions.Mark e g = goes w (Decides decisions.Mark p v q) 6 v q (decides p v) n g (ap (λ d. outcome_of (decided_act l p.purpose v d)) e) c (λ f. fresh_leads p v _ q small decisions.Mark tt e f)
       by_decision decisions.Park e g = goes w (Decides decisions.Park p v q) 6 v q (decides p v) n g (ap (λ d. outcome_of (decided_act l p.purpose v d)) e) c (λ f. fresh_leads p v _ q small decisions.Park tt e f)
 
-  load_leads : (p : RwLockPlace) (v : ℕ) (w : State) (q : Line → List Waiter) → v < 2 ^ 64 → Alone w (to p at.Load) v q → Leads 7 w t (Decides (decided a p v) p v q)
+  pub load_leads : (p : RwLockPlace) (v : ℕ) (w : State) (q : Line → List Waiter) → v < 2 ^ 64 → Alone w (to p at.Load) v q → Leads 7 w t (Decides (decided a p v) p v q)
   load_leads p v w q small f = looked_leads p v w q _ small refl (word_comes w t l _ v q f op.Load refl)
 
   -- a writer tries an unlocked word first
-  abbrev Tries : Bool → Patience → RwLockPlace → ℕ → (Line → List Waiter) → State → Outcome → Type 0
+  abbrev pub Tries : Bool → Patience → RwLockPlace → ℕ → (Line → List Waiter) → State → Outcome → Type 0
   Tries true how p v q s x = x ≡ outcome.End (entered how)
   Tries false Try p v q s x = x ≡ outcome.End answer.No
   Tries false how p v q s x = Decides (decided a p v) p v q s x
 
-  first_leads : (p : RwLockPlace) (v : ℕ) (w : State) (q : Line → List Waiter) → v < 2 ^ 64 → Alone w (to p at.First) v q → Leads 8 w t (Tries (v == 0) (patience_of p.purpose) p v q)
+  pub first_leads : (p : RwLockPlace) (v : ℕ) (w : State) (q : Line → List Waiter) → v < 2 ^ 64 → Alone w (to p at.First) v q → Leads 8 w t (Tries (v == 0) (patience_of p.purpose) p v q)
   first_leads p v w q small f = either (v == 0) (patience_of p.purpose) (word_comes w t l _ v q f (op.Exchange 0 8) refl) refl refl
     where
       ended : (P : State → Outcome → Type 0) (x : ℕ) (answer : Answer) → Comes w t l Idle (outcome.End answer) x q → P (after w (go_of t)) (outcome.End answer) → Leads 8 w t P
@@ -335,7 +335,7 @@ module _ (t l : ℕ) (a : Admission) where
   look_rests p v w q small f = leads_so 5 w t (Settles (count_in v == 0) p q) Resting (settles_so (count_in v == 0) p q) (look_leads p v w q small f)
 
   -- on its way to wake others, and then it ends
-  abbrev Ends : RwLockPurpose → State → Outcome → Type 0
+  abbrev pub Ends : RwLockPurpose → State → Outcome → Type 0
   Ends r s x = x ≡ outcome.End (ends_with r)
 
   wakes_leave : (p : RwLockPlace) (m : Line) (any : Bool) (v : ℕ) (w : State) (q : Line → List Waiter) → Alone w (to p (at.Wake m (waking.Leave any))) v q → Leads 1 w t (Ends p.purpose)
@@ -397,7 +397,7 @@ module _ (t l : ℕ) (a : Admission) where
   ends_so : (r : RwLockPurpose) (s : State) (x : Outcome) → Ends r s x → Rests x
   ends_so r s x h = rw h tt
 
-  release_ends : (x : Access) (retries : Bool) (v : ℕ) (w : State) (q : Line → List Waiter) → Alone w (place_for (purpose.Release x) retries at.GiveWay) v q → Leads 6 w t (Ends (purpose.Release x))
+  pub release_ends : (x : Access) (retries : Bool) (v : ℕ) (w : State) (q : Line → List Waiter) → Alone w (place_for (purpose.Release x) retries at.GiveWay) v q → Leads 6 w t (Ends (purpose.Release x))
   release_ends x retries v w q f = by_access x (word_comes w t l _ v q f (give_op (purpose.Release x)) refl)
     where
       by_access : (x : Access) → Comes w t l (rwlock_goes l a (gave_way (place_for (purpose.Release x) retries at.GiveWay) v)) (outcome_of (rwlock_does l a (gave_way (place_for (purpose.Release x) retries at.GiveWay) v))) (apply (give_op (purpose.Release x)) v) q → Leads 6 w t (Ends (purpose.Release x))
@@ -405,15 +405,15 @@ module _ (t l : ℕ) (a : Admission) where
       by_access access.Upgradable c = gave_ends (place_for (purpose.Release access.Upgradable) retries at.GiveWay) Main (has_parked v) answer.Ok _ w q refl c
       by_access access.Exclusive c = gave_ends (place_for (purpose.Release access.Exclusive) retries at.GiveWay) Main (has_parked v) answer.Ok _ w q refl c
 
-  downgrade_ends : (d : Downgrade) (retries : Bool) (v : ℕ) (w : State) (q : Line → List Waiter) → Alone w (place_for (purpose.Downgrade d) retries at.GiveWay) v q → Leads 6 w t (Ends (purpose.Downgrade d))
+  pub downgrade_ends : (d : Downgrade) (retries : Bool) (v : ℕ) (w : State) (q : Line → List Waiter) → Alone w (place_for (purpose.Downgrade d) retries at.GiveWay) v q → Leads 6 w t (Ends (purpose.Downgrade d))
   downgrade_ends d retries v w q f = gave_ends (place_for (purpose.Downgrade d) retries at.GiveWay) Main (has_parked v) answer.Ok _ w q refl (word_comes w t l _ v q f (give_op (purpose.Downgrade d)) refl)
 
   -- an upgrade owns where it was the only one, and else it looks for readers
-  abbrev Upgrades : Bool → Patience → Bool → ℕ → (Line → List Waiter) → State → Outcome → Type 0
+  abbrev pub Upgrades : Bool → Patience → Bool → ℕ → (Line → List Waiter) → State → Outcome → Type 0
   Upgrades true how retries v q s x = x ≡ outcome.End (entered how)
   Upgrades false how retries v q s x = Settles (count_in (apply (op.Sub 12) v) == 0) (place_for (purpose.Upgrade how) false at.Look) q s x
 
-  upgrade_leads : (how : Patience) (retries : Bool) (v : ℕ) (w : State) (q : Line → List Waiter) → Alone w (place_for (purpose.Upgrade how) retries at.GiveWay) v q → Leads 6 w t (Upgrades (count_in v == 1) how retries v q)
+  pub upgrade_leads : (how : Patience) (retries : Bool) (v : ℕ) (w : State) (q : Line → List Waiter) → Alone w (place_for (purpose.Upgrade how) retries at.GiveWay) v q → Leads 6 w t (Upgrades (count_in v == 1) how retries v q)
   upgrade_leads how retries v w q f = by_count (count_in v == 1) (word_comes w t l _ v q f (op.Sub 12) refl)
     where
       by_count : (b : Bool) → Comes w t l (rwlock_goes l a (if b then End (entered how) else At (place_for (purpose.Upgrade how) false at.Look))) (outcome_of (rwlock_does l a (if b then End (entered how) else At (place_for (purpose.Upgrade how) false at.Look)))) (apply (op.Sub 12) v) q → Leads 6 w t (Upgrades b how retries v q)
