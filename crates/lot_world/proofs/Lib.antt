@@ -38,9 +38,11 @@ pub mod Promises
 pub mod MutexPromises
 pub mod Fair
 pub mod SoloActs
-pub mod Solo
+pub mod SoloAnswers
 pub mod LineSolo
 pub mod RwLockSolo
+pub mod RwLockEnds
+pub mod Solo
 pub mod Owing
 pub mod WorldRuns
 pub mod RowLaws

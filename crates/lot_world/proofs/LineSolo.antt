@@ -29,7 +29,7 @@ use Rattle.lot_machine.specs.Machine.{State, unlocked, place_at, word_at, sectio
 use Rattle.lot_machine.specs.Fits.{IsShaped, SameSize}
 use Rattle.lot_machine.proofs.Shape.{after_shaped, after_size, main_key_there, main_line_there, performed_counts}
 use Rattle.lot_world.specs.SitesOf.{IsSteady, key_of, stood_in}
-use Rattle.lot_world.specs.Stations.{station}
+use Rattle.lot_world.specs.Stations.{station, station_at}
 use Rattle.lot_world.proofs.Glue.{nothing_at}
 use Rattle.lot_world.proofs.Counts.{without_absent}
 use Rattle.lot_world.proofs.TurnsKept.{after_steady}
@@ -144,3 +144,13 @@ module _ (w : State) (t l : ℕ) (p : Place) (v : ℕ) (q : Line → List Waiter
   pub parks_last : (station p).stands ≡ None → (m : Line) (x : Want) → queue_at (record w { queues = queues_with_last w.queues (key_of l m) t x }) (key_of l m) ≡ q m ++ waiter (key_of l m) t x ∷ []
   parks_last nowhere m x = get_or-set_same (map (without t) w.queues) (key_of l m) _ [] (rw (length-map w.queues (without t)) (line_there m))
       ∙ ap (λ xs. xs ++ waiter (key_of l m) t x ∷ []) (unmoved nowhere m)
+
+  -- outside of its section it finds it free
+  pub finds_free : (station p).inside ≡ None → (m : Line) → section_at w (key_of l m) ≡ None
+  finds_free outside m = by_who (section_at w (key_of l m)) refl
+    where
+      by_who : (who : Option ℕ) → section_at w (key_of l m) ≡ who → section_at w (key_of l m) ≡ None
+      by_who None e = e
+      by_who (Some u) e = absurd (let mine : u ≡ t = f.way m u e in
+          let within : (station_at (place_at w t) l).inside ≡ Some m = (f.steady.stands.sections t l m).1 (e ∙ ap Some mine) in
+          let out : (station_at (place_at w t) l).inside ≡ None = nothing_at (place_at w t) l (λ x. x.inside) refl (ap (λ x. (station x).inside) f.place ∙ outside) in cc)
