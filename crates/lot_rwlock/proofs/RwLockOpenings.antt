@@ -1,17 +1,14 @@
 -- What a call of a reader-writer lock begins with.
-use Rattle.std.proofs.Common.{ℕ, Bool, true, false, Option, Some, None, not, ◌==◌, ◌≡◌, ◌≤◌, List, refl, ap, arith}
+use Rattle.std.proofs.Common.{ℕ, true, Option, Some, None, not, ◌==◌, ◌≡◌, ◌≤◌, refl, ap, arith}
 use Rattle.std.proofs.lemmas.Bool.{eqb-true}
 use Rattle.std.proofs.lemmas.Bool.Decides.{nat_tests}
 use Rattle.lot_base.specs.declared.wants.Want.TheVariants.{Exclusive, Upgradable, Shared}
 use Rattle.lot_calls.specs.declared.calls.Access.TheVariants as access
 use Rattle.lot_calls.specs.declared.calls.Downgrade.TheVariants as downgrade
-use Rattle.lot_calls.specs.declared.calls.Patience.{Patience}
 use Rattle.lot_calls.specs.declared.calls.Patience.TheVariants.{Patient, Timed, Try}
 use Rattle.lot_calls.specs.declared.calls.RwLockCall.TheVariants.{Enter, Release, Downgrade, Upgrade}
 use Rattle.lot_acts.specs.Owners.{is_thread}
 use Rattle.abstract_locks.specs.Sites.{Has}
-use Rattle.lot_rwlock.specs.declared.places.Admission.{Admission}
-use Rattle.lot_rwlock.specs.RwLockDeeds.{IsFreshTry}
 use Rattle.lot_rwlock.specs.RwLockOpenings.{RwLockCallsOpen}
 use Rattle.lot_rwlock.proofs.RwLockStands.{unwoken_fresh}
 

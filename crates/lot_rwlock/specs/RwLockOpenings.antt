@@ -1,5 +1,5 @@
 -- What a call of a reader-writer lock begins with: where it may stand, nowhere in the machine, and with the right that it needs.
-use Rattle.std.specs.Prelude.{ℕ, Bool, true, false, Option, ◌≡◌, List, slice_index}
+use Rattle.std.specs.Prelude.{ℕ, true, false, Option, ◌≡◌, List, slice_index}
 use Rattle.lot_base.specs.declared.wants.Waiter.{Waiter}
 use Rattle.lot_calls.specs.declared.calls.RwLockCall.{RwLockCall}
 use Rattle.lot_acts.specs.declared.owners.Owners.{Owners}

@@ -392,14 +392,14 @@ module _ (w : State) (t l : ℕ) (steady : IsSteady w) (there : t < length w.pla
     alone_aside : (y : Waiter) (rest : List Waiter) → queue_at w (2 * l + 1) ≡ y ∷ rest → rest ≡ []
     alone_aside y [] e = refl
     alone_aside y (z ∷ rest) e = absurd (
-      let first : 1 ≤ times y.thread (queue_at w (2 * l + 1)) = rw e (let c : ◌≡◌ {A = ℕ} (if y.thread == y.thread then 1 else 0) 1 = ap (λ (b : Bool). if b then 1 else 0) (same y.thread) in omega arith) in
-      let second : 1 ≤ times z.thread (queue_at w (2 * l + 1)) = rw e (let c : ◌≡◌ {A = ℕ} (if z.thread == z.thread then 1 else 0) 1 = ap (λ (b : Bool). if b then 1 else 0) (same z.thread) in omega arith) in
-      let it : z.thread ≡ y.thread = pending_one here.lock.pending z.thread y.thread (pending_aside z.thread second) (pending_aside y.thread first) in
-      let twice : 2 ≤ times y.thread (y ∷ z ∷ rest) = let c : ◌≡◌ {A = ℕ} (if y.thread == y.thread then 1 else 0) 1 = ap (λ (b : Bool). if b then 1 else 0) (same y.thread) in let d : ◌≡◌ {A = ℕ} (if z.thread == y.thread then 1 else 0) 1 = ap (λ (b : Bool). if b then 1 else 0) (ap (λ j. j == y.thread) it ∙ same y.thread) in omega arith in
-      let once : times y.thread (queue_at w (2 * l + 1)) ≤ 1 = let all : times y.thread (queue_at w (2 * l + 1)) ≡ stood_in (station_at (place_at w y.thread) l).stands Second = steady.stands.lines y.thread l Second in at_most (station_at (place_at w y.thread) l).stands all in
-      let both : times y.thread (y ∷ z ∷ rest) ≤ 1 = subst (λ q. times y.thread q ≤ 1) e once in
-      omega arith
-    )
+        let first : 1 ≤ times y.thread (queue_at w (2 * l + 1)) = rw e (let c : ◌≡◌ {A = ℕ} (if y.thread == y.thread then 1 else 0) 1 = ap (λ (b : Bool). if b then 1 else 0) (same y.thread) in omega arith) in
+        let second : 1 ≤ times z.thread (queue_at w (2 * l + 1)) = rw e (let c : ◌≡◌ {A = ℕ} (if z.thread == z.thread then 1 else 0) 1 = ap (λ (b : Bool). if b then 1 else 0) (same z.thread) in omega arith) in
+        let it : z.thread ≡ y.thread = pending_one here.lock.pending z.thread y.thread (pending_aside z.thread second) (pending_aside y.thread first) in
+        let twice : 2 ≤ times y.thread (y ∷ z ∷ rest) = let c : ◌≡◌ {A = ℕ} (if y.thread == y.thread then 1 else 0) 1 = ap (λ (b : Bool). if b then 1 else 0) (same y.thread) in let d : ◌≡◌ {A = ℕ} (if z.thread == y.thread then 1 else 0) 1 = ap (λ (b : Bool). if b then 1 else 0) (ap (λ j. j == y.thread) it ∙ same y.thread) in omega arith in
+        let once : times y.thread (queue_at w (2 * l + 1)) ≤ 1 = let all : times y.thread (queue_at w (2 * l + 1)) ≡ stood_in (station_at (place_at w y.thread) l).stands Second = steady.stands.lines y.thread l Second in at_most (station_at (place_at w y.thread) l).stands all in
+        let both : times y.thread (y ∷ z ∷ rest) ≤ 1 = subst (λ q. times y.thread q ≤ 1) e once in
+        omega arith
+        )
       where
         at_most : (o : Option Line) → times y.thread (queue_at w (2 * l + 1)) ≡ stood_in o Second → times y.thread (queue_at w (2 * l + 1)) ≤ 1
         at_most (Some Second) h = omega arith

@@ -352,10 +352,10 @@ admits_by (kinds.Recursive limit) h = (refl, refl, refl)
 admits_by k h = absurd cc
 
 module _ (w : State) (t l : ℕ) (c : RwLockCall) (steady : IsSteady w) (there : t < length w.places) (idle_now : place_at w t ≡ Idle) (readers : has_readers (rules_at w l).sort ≡ true) (right : rwlock_right c t (owners_at w l) (share_at w l t) ≡ true) (yet : NotYet) where
-  abbrev first : Place
+  abbrev pub first : Place
   first = RwLock l (admission_of (kind_at w l)) (rwlock_first c)
 
-  opens : Opens (admission_of (kind_at w l)) c
+  pub opens : Opens (admission_of (kind_at w l)) c
   opens = rwlock_calls_open (admission_of (kind_at w l)) c
 
   free_now : taken_at (place_at w t) l ≡ None

@@ -411,7 +411,6 @@ module _ (w : State) (t : ℕ) (shape : IsShaped w) (steady : IsSteady w) (there
   place_rests (Mutex l UnlockFair) is fits busy up = fair_rests t l 11 false (first_of (queue_at w (2 * l))) (drop 1 (queue_at w (2 * l))) w (omega arith) (unlock_fair_leads t l (queue_at w (2 * l)) (word_at w l) (owner_at w l) w (at_first l (Mutex l UnlockFair) is refl refl fits.0))
   place_rests (Mutex l Bump) is fits busy up = fair_rests t l 11 true (first_of (queue_at w (2 * l))) (drop 1 (queue_at w (2 * l))) w (omega arith) (bump_leads t l (queue_at w (2 * l)) (word_at w l) (owner_at w l) w (at_first l (Mutex l Bump) is refl refl fits.0))
   place_rests (Mutex l (HandOff bumps a)) is fits busy up = hand_off_rests t l bumps a (word_at w l) (owner_at w l) (section_at w (2 * l)) (queue_at w (2 * l)) w (facing l (Mutex l (HandOff bumps a)) is fits.0) (λ outside. free l (Mutex l (HandOff bumps a)) is refl outside (section_at w (2 * l)) refl)
-
   place_rests (RwLock l a p) is fits busy up = leads_more 11 12 w t (λ v x. Rests x) (omega arith) (rwlock_rests t l a p (word_at w l) w (λ m. queue_at w (key_of l m)) (word_small w l steady admits.0.0) (is_ready t l a p admits.1 up) (record {
     shape = shape;
     steady = steady;
@@ -523,7 +522,6 @@ module _ (w : State) (t : ℕ) (shape : IsShaped w) (steady : IsSteady w) (there
 
       fits : PlaceFits (length w.locks) (Mutex l (mutex_first (is_fair (kind_at w l)) c))
       fits = subst (PlaceFits (length w.locks)) is (shape.places t)
-
   solo_ends (call.TheVariants.RwLock l c) is n last le = none_yet (kind_at w l)
     where
       none_yet : (k : Kind) → EndsAlone w t (purpose_of k (call.TheVariants.RwLock l c)) (solo n w t last).outcome (solo n w t last).state

@@ -86,7 +86,6 @@ module _ (w : State) (t : ℕ) (steady : IsSteady w) (shape : IsShaped w) (there
       let open_to = both (nat_lt l (length w.locks)) _ parts.1 in
       let right = both (has_call (kind_at w l) (calling.TheVariants.Mutex l c)) _ open_to.1 in
       goes_steady w _ l _ steady (calls_begin l (is_fair (kind_at w l)) c (calls_mutex (kind_at w l) (calling.TheVariants.Mutex l c) right.0) (idle_is (place_at w t) parts.0) right.1)
-
   begun_kept (calling.TheVariants.RwLock l c) can =
       let parts = both (is_idle (place_at w t)) (is_open_to w t (calling.TheVariants.RwLock l c)) can in
       let open_to = both (nat_lt l (length w.locks)) _ parts.1 in

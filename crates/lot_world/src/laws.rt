@@ -1,5 +1,4 @@
 //! One run, worked out step by step, and what no world comes to.
-ghost use Rattle.std.specs.Prelude.{ℕ, ◌≡◌};
 ghost use Rattle.lot_world.specs.Laws.{FairUnlockHandsOver, NoWaiterIsForgotten, NobodyIsPassedOver};
 ghost use Rattle.lot_world.specs.MutexPromises.{MutexesAreKept};
 
@@ -22,9 +21,4 @@ pub fn nobody_is_passed_over()
 /// waits while nobody owns it has a thread that owes its wake or tries again.
 pub fn mutexes_are_kept()
     ensures { MutexesAreKept }
-{}
-
-/// Scratch.
-pub fn scratch()
-    ensures { ◌≡◌ {A = ℕ} 0 0 }
 {}
