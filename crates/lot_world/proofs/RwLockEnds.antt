@@ -1,5 +1,6 @@
 -- What each call of a reader-writer lock comes to whose thread steps alone from its beginning.
-use Rattle.std.proofs.Common.{ℕ, Bool, true, false, Option, Some, None, if◌then◌else◌, ◌==◌, ◌&&◌, ◌≡◌, ◌≢◌, ◌+◌, ◌-◌, ◌*◌, ◌/◌, ◌%◌, ◌≤◌, ◌<◌, ◌^◌, nat_le, inl, inr, List, [], ◌∷◌, ◌++◌, map, length, replicate, refl, sym, ◌∙◌, ap, subst, arith}
+use Rattle.std.proofs.Common.{ℕ, Bool, true, false, Option, Some, None, if◌then◌else◌, ◌==◌, ◌&&◌, ◌||◌, ◌≡◌, ◌≢◌, ◌+◌, ◌-◌, ◌*◌, ◌/◌, ◌%◌, ◌≤◌, ◌<◌, ◌^◌, nat_le, inl, inr, List, [], ◌∷◌, ◌++◌, map, length, replicate, refl, sym, ◌∙◌, ap, subst, arith}
+use Rattle.std.proofs.lemmas.Bool.{eqb-true}
 use Rattle.std.proofs.lemmas.Bool.Decides.{nat_tests}
 use Rattle.lot_base.specs.declared.wants.Waiter.{Waiter}
 use Rattle.lot_base.specs.declared.wants.Want.{Want}
@@ -21,15 +22,22 @@ use Rattle.lot_rwlock.specs.declared.places.RwLockAt.{RwLockAt}
 use Rattle.lot_rwlock.specs.declared.places.RwLockAt.TheVariants as at
 use Rattle.lot_rwlock.specs.declared.enter.Decision.{Decision}
 use Rattle.lot_rwlock.specs.declared.enter.Decision.TheVariants as decisions
-use Rattle.lot_rwlock.specs.RwLockSteps.{wanted, decision, decided, decision_blocked, entered, plus, is_counted}
-use Rattle.lot_rwlock.specs.RwLockProfiles.{purpose_by}
-use Rattle.lot_rwlock.specs.RwLockDeeds.{Admits}
-use Rattle.abstract_locks.specs.Locks.{LockState, Rules, Knows, IsFree, IsBlocked, MayEnter, Owns, is_recursive, count, readers, rights_of}
+use Rattle.lot_rwlock.specs.RwLockSteps.{wanted, to_of, decision, decided, decision_blocked, entered, plus, is_counted}
+use Rattle.lot_calls.specs.declared.calls.Downgrade.{Downgrade}
+use Rattle.lot_calls.specs.declared.calls.Downgrade.TheVariants as downgrade
+use Rattle.lot_rwlock.specs.RwLockProfiles.{before, purpose_by}
+use Rattle.lot_base.specs.declared.ops.Op.TheVariants as op
+use Rattle.lot_base.specs.Words.{apply}
+use Rattle.lot_calls.specs.declared.calls.RwLockCall.{RwLockCall}
+use Rattle.lot_calls.specs.declared.calls.RwLockCall.TheVariants as call
+use Rattle.lot_rwlock.specs.RwLockBegins.{rwlock_first}
+use Rattle.lot_rwlock.specs.RwLockDeeds.{Admits, doing_at, rwlock_doing}
+use Rattle.abstract_locks.specs.Locks.{LockState, Pending, Rights, with_right, is_thread, Sort, Mutex, Normal, Recursive, Semaphore, Rules, Knows, NoWriter, IsFreeAt, IsSomePending, one_if_some, IsFree, IsBlocked, MayEnter, Owns, is_recursive, count, readers, rights_of}
 use Rattle.abstract_locks.specs.Codes.{code, count_in, has_parked, is_blocked, TellsTrue}
 use Rattle.abstract_locks.specs.Picks.{queued_of}
-use Rattle.abstract_locks.specs.Purposes.{Purpose, Enters, Releases, Converts}
-use Rattle.abstract_locks.specs.Runs.{IsFull, AnswerHolds, CallState}
-use Rattle.abstract_locks.specs.Sites.{Site, Line, Main, Second, has_readers}
+use Rattle.abstract_locks.specs.Purposes.{Enters, Releases, Converts, rwlock_purpose}
+use Rattle.abstract_locks.specs.Runs.{IsFull, AnswerHolds, CallState, one_more_at}
+use Rattle.abstract_locks.specs.Sites.{Has, idle, Site, Line, Main, Second, has_readers}
 use Rattle.abstract_locks.proofs.CodeLaws.{words_tell_true}
 use Rattle.lot_steps.specs.declared.places.Place.{Place}
 use Rattle.lot_steps.specs.declared.places.Place.TheVariants.{RwLock}
@@ -37,7 +45,9 @@ use Rattle.lot_machine.specs.Machine.{State, go_of, place_at, word_at, queue_at,
 use Rattle.lot_machine.specs.Fits.{IsShaped}
 use Rattle.lot_world.specs.Refinement.{lock_state, locks_of, call_at, call_state}
 use Rattle.lot_world.specs.SitesOf.{IsSteady, key_of, rules_at, site_of}
-use Rattle.lot_world.specs.Solo.{EntersAlone, EndsAlone, ReleasesAlone, ConvertsAlone, MayEnterAtOnce, WaitsAlone, SleepsAside, IsSoloRun, entered_answer}
+use Rattle.lot_world.specs.Stations.{doing_on}
+use Rattle.lot_world.specs.Solo.{EntersAlone, EndsAlone, ReleasesAlone, ConvertsAlone, MayEnterAtOnce, WaitsAlone, WaitsForReaders, SleepsAside, IsSoloRun, entered_answer}
+use Rattle.lot_world.proofs.Glue.{put_here, same}
 use Rattle.lot_world.proofs.MutexTable.{queued_behind}
 use Rattle.lot_world.proofs.LineSolo.{StepsAlone}
 use Rattle.lot_world.proofs.SoloActs.{Leads}
@@ -109,7 +119,7 @@ module _ (w : State) (l : ℕ) (a : Admission) (steady : IsSteady w) (admits : A
 
 -- ---------------------------------------------------------------- a call from its beginning
 
-module _ (w : State) (t l : ℕ) (a : Admission) (steady : IsSteady w) (admits : Admits (rules_at w l) a) (f : (p : RwLockPlace) → place_at w t ≡ RwLock l a p → StepsAlone w t l (RwLock l a p) (word_at w l) (λ m. queue_at w (key_of l m))) (v2 : State) (x : Outcome) (run : IsSoloRun w t x v2) where
+module _ (w : State) (t l : ℕ) (a : Admission) (steady : IsSteady w) (admits : Admits (rules_at w l) a) (v2 : State) (x : Outcome) (run : IsSoloRun w t x v2) where
   small : word_at w l < 2 ^ 64
   small = word_small w l steady admits.0
 
@@ -173,3 +183,240 @@ module _ (w : State) (t l : ℕ) (a : Admission) (steady : IsSteady w) (admits :
       takes_one access.Shared ne h = h
       takes_one access.Upgradable ne h = h
       takes_one access.Exclusive ne h = absurd (ne refl)
+
+  -- a pending writer sleeps in the second line, alone
+  sleeps_aside : (y : Want) → (lock_state w l).aside ≡ None → queue_at v2 (2 * l + 1) ≡ queue_at w (2 * l + 1) ++ waiter (2 * l + 1) t y ∷ [] → (lock_state v2 l).aside ≡ Some t
+  sleeps_aside y none e = ap first_of e ∙ first (queue_at w (2 * l + 1)) none
+    where
+      first : (q : List Waiter) → first_of q ≡ None → first_of (q ++ waiter (2 * l + 1) t y ∷ []) ≡ Some t
+      first [] h = refl
+      first (z ∷ q) h = absurd cc
+
+  -- nobody is pending, so nobody waits aside
+  nobody_aside : (lock_state w l).pending ≡ None → (lock_state w l).aside ≡ None
+  nobody_aside none = by_aside (lock_state w l).aside refl
+    where
+      by_aside : (o : Option ℕ) → (lock_state w l).aside ≡ o → (lock_state w l).aside ≡ None
+      by_aside None e = e
+      by_aside (Some u) e = absurd (let p : IsSomePending (lock_state w l).pending u = (steady.sites.site l).state.aside_pending u e in let q : IsSomePending None u = subst (λ o. IsSomePending o u) none p in q)
+
+  no_writer : (sort : Sort) (limit : ℕ) → has_readers sort ≡ true → IsFreeAt sort limit (lock_state w l) Exclusive → NoWriter (lock_state w l)
+  no_writer Normal limit h free = free
+  no_writer Recursive limit h free = free
+  no_writer Mutex limit h free = absurd cc
+  no_writer Semaphore limit h free = absurd cc
+
+  no_upgradable : NoWriter (lock_state w l) → count (lock_state w l) ≡ readers (lock_state w l)
+  no_upgradable none = ap (λ (o : Option ℕ). readers (lock_state w l) + one_if_some o) none.2 ∙ (omega arith)
+
+  -- a writer that has set its bit counts the readers that there were
+  as_many : is_blocked a.recursive Exclusive (word_at w l) ≡ false → count_in (plus (word_at w l) 8) ≡ count_in (word_at w l)
+  as_many free = let e : (word_at w l / 8 % 2 == 1) ≡ false = unset (word_at w l / 8 % 2 == 1) (word_at w l / 4 % 2 == 1) free in let few = small in grind (arith, nat_tests)
+    where
+      unset : (x y : Bool) → (x || y) ≡ false → x ≡ false
+      unset true y h = absurd cc
+      unset false y h = refl
+
+  abbrev writer : Patience → RwLockPlace
+  writer how = looking (purpose.Enter access.Exclusive how) at.First
+
+  -- a writer that finds a word that isn't clear
+  module _ (how : Patience) (h : Decides t l a (decision a Exclusive how (word_at w l)) (writer how) (word_at w l) queues v2 x) where
+    settles : MayEnter (rules_at w l) (lock_state w l) Exclusive → Settles t l a (count_in (plus (word_at w l) 8) == 0) (looking (purpose.Enter access.Exclusive how) at.Look) queues v2 x
+    settles may = subst (λ d. Decides t l a d (writer how) (word_at w l) queues v2 x) (takes w l a steady admits access.Exclusive how may) h
+
+    nobody_writes : MayEnter (rules_at w l) (lock_state w l) Exclusive → NoWriter (lock_state w l)
+    nobody_writes may = no_writer (rules_at w l).sort (rules_at w l).limit admits.0 may.0.1
+
+    counts : MayEnter (rules_at w l) (lock_state w l) Exclusive → count_in (plus (word_at w l) 8) ≡ readers (lock_state w l)
+    counts may = as_many (free_is w l a steady admits Exclusive may.0) ∙ counted w l a steady admits ∙ no_upgradable (nobody_writes may)
+
+    settles_alone : MayEnter (rules_at w l) (lock_state w l) Exclusive → readers (lock_state w l) ≡ 0 → x ≡ outcome.End (entered how)
+    settles_alone may none = subst (λ (b : Bool). Settles t l a b (looking (purpose.Enter access.Exclusive how) at.Look) queues v2 x) (ap (λ n. n == 0) (counts may ∙ none)) (settles may)
+
+    settles_aside : MayEnter (rules_at w l) (lock_state w l) Exclusive → 1 ≤ readers (lock_state w l) → (x ≡ outcome.Sleep) × ((lock_state v2 l).aside ≡ Some t)
+    settles_aside may some = let g : Sleeps t l a Second (writer how) queues v2 x = subst (λ (b : Bool). Settles t l a b (looking (purpose.Enter access.Exclusive how) at.Look) queues v2 x) left (settles may) in
+        (g.0, sleeps_aside Exclusive (nobody_aside (nobody_writes may).1) g.1)
+      where
+        left : (count_in (plus (word_at w l) 8) == 0) ≡ false
+        left = ap (λ n. n == 0) (counts may) ∙ grind (arith, nat_tests)
+
+  -- a word that is clear has no reader and no writer
+  clear_reads : (word_at w l == 0) ≡ true → readers (lock_state w l) ≡ 0
+  clear_reads e = let z : word_at w l ≡ 0 = eqb-true (word_at w l) 0 e in let c : 0 ≡ count (lock_state w l) = sym (ap count_in z) ∙ counted w l a steady admits in omega arith
+
+  clear_free : (word_at w l == 0) ≡ true → IsBlocked (rules_at w l) (lock_state w l) Exclusive → ⊥
+  clear_free e b = let z : word_at w l ≡ 0 = eqb-true (word_at w l) 0 e in let f : false ≡ true = sym (ap (is_blocked a.recursive Exclusive) z) ∙ blocked_is w l a steady admits Exclusive b in cc
+
+  -- who is to own alone tries a clear word first
+  writes_alone : (how : Patience) → place_at w t ≡ RwLock l a (writer how) → Tries t l a (word_at w l == 0) how (writer how) (word_at w l) queues v2 x → EntersAlone (word_at w l ≡ 0) (locks_of w) t l Exclusive how x (locks_of v2)
+  writes_alone how is h = by_word (word_at w l == 0) refl how is h
+    where
+      clear_alone : (how : Patience) → (word_at w l == 0) ≡ true → place_at w t ≡ RwLock l a (writer how) → x ≡ outcome.End (entered how) → (1 ≤ readers (lock_state w l) → SleepsAside how t x (lock_state v2 l)) → EntersAlone (word_at w l ≡ 0) (locks_of w) t l Exclusive how x (locks_of v2)
+      clear_alone how e is h aside = record {
+        owns = λ may. enters_owns access.Exclusive how at.First is h;
+        pends = λ f may some. aside some;
+        full = λ full. absurd (full.0 refl);
+        barred = λ b. absurd (clear_free e b);
+      }
+
+      none_reads : {A : Type 0} → (word_at w l == 0) ≡ true → 1 ≤ readers (lock_state w l) → A
+      none_reads e some = absurd (let none = clear_reads e in omega arith)
+
+      by_word : (b : Bool) → (word_at w l == 0) ≡ b → (how : Patience) → place_at w t ≡ RwLock l a (writer how) → Tries t l a b how (writer how) (word_at w l) queues v2 x → EntersAlone (word_at w l ≡ 0) (locks_of w) t l Exclusive how x (locks_of v2)
+      by_word true e how is h = clear_alone how e is h (λ some. none_reads e some)
+      by_word false e Try is h = record {
+        owns = λ may. absurd (let f : (0 == 0) ≡ false = rw (may.1 admits.0) at e in cc);
+        pends = λ f may some. tt;
+        full = λ full. absurd (full.0 refl);
+        barred = λ b. h;
+      }
+      by_word false e Patient is h = record {
+        owns = λ may. enters_owns access.Exclusive Patient at.First is (settles_alone Patient h may.0 (may.1 admits.0));
+        pends = λ f may some. settles_aside Patient h may some;
+        full = λ full. absurd (full.0 refl);
+        barred = λ b. barred_by access.Exclusive Patient at.First (subst (λ d. Decides t l a d (writer Patient) (word_at w l) queues v2 x) (waits w l a steady admits access.Exclusive Patient b) h);
+      }
+      by_word false e Timed is h = record {
+        owns = λ may. enters_owns access.Exclusive Timed at.First is (settles_alone Timed h may.0 (may.1 admits.0));
+        pends = λ f may some. settles_aside Timed h may some;
+        full = λ full. absurd (full.0 refl);
+        barred = λ b. barred_by access.Exclusive Timed at.First (subst (λ d. Decides t l a d (writer Timed) (word_at w l) queues v2 x) (waits w l a steady admits access.Exclusive Timed b) h);
+      }
+
+  -- ---------------------------------------------------------------- a right given up, or turned into another
+
+  -- what the thread had of the lock as its call began
+  began : (q : RwLockPurpose) (at : RwLockAt) → place_at w t ≡ RwLock l a (looking q at) → ((rights : ℕ → Rights) → before q at l rights ≡ rights) → (call_at w t).former ≡ (λ k. rights_of (lock_state w k) t)
+  began q at is same_rights = ap (λ p. (call_state p (λ k. rights_of (lock_state w k) t)).former) is ∙ same_rights (λ k. rights_of (lock_state w k) t)
+
+  is_owner : (o : Option ℕ) → 1 ≤ is_thread t o → o ≡ Some t
+  is_owner None h = absurd (omega arith)
+  is_owner (Some u) h = either (u == t) refl h
+    where
+      either : (b : Bool) → (u == t) ≡ b → 1 ≤ (if b then 1 else 0) → Some u ≡ Some t
+      either true e h = ap Some (eqb-true u t e)
+      either false e h = absurd (omega arith)
+
+  owner_is : (o : Option ℕ) → o ≡ Some t → is_thread t o ≡ 1
+  owner_is o e = ap (is_thread t) e ∙ ap (λ (b : Bool). if b then 1 else 0) (same t)
+
+  at_most : (o : Option ℕ) → is_thread t o ≤ 1
+  at_most None = omega arith
+  at_most (Some u) = either (u == t)
+    where
+      either : (b : Bool) → (if b then 1 else 0) ≤ 1
+      either true = omega arith
+      either false = omega arith
+
+  lost_one : (y : Access) → place_at w t ≡ RwLock l a (looking (purpose.Release y) at.GiveWay) → x ≡ outcome.End answer.Ok → with_right (wanted y) (rights_of (lock_state v2 l) t) ≡ rights_of (lock_state w l) t
+  lost_one y is told = let h = holds (purpose.Release y) at.GiveWay is answer.Ok told in
+      sym (put_here (λ k. rights_of (lock_state v2 k) t) l (with_right (wanted y) (rights_of (lock_state v2 l) t))) ∙ h.holds l ∙ ap (λ f. f l) (h.former_is ∙ began (purpose.Release y) at.GiveWay is (λ rights. refl))
+
+  releases_alone : (y : Access) → place_at w t ≡ RwLock l a (looking (purpose.Release y) at.GiveWay) → x ≡ outcome.End answer.Ok → ReleasesAlone (locks_of w) t l (wanted y) false x (locks_of v2)
+  releases_alone access.Shared is told = (told, lost_one access.Shared is told)
+  releases_alone access.Upgradable is told = (told, lost_one access.Upgradable is told)
+  releases_alone access.Exclusive is told = (told, gone, λ mutex. absurd (let f : has_readers Mutex ≡ true = sym (ap has_readers mutex) ∙ admits.0 in cc))
+    where
+      gone : (lock_state v2 l).exclusive ≡ Some t → ⊥
+      gone own = let e : is_thread t (lock_state v2 l).exclusive + 1 ≡ is_thread t (lock_state w l).exclusive = ap (λ (z : Rights). z.exclusive) (lost_one access.Exclusive is told) in
+          let one = owner_is (lock_state v2 l).exclusive own in let most = at_most (lock_state w l).exclusive in omega arith
+
+  -- what a conversion has made of its thread's rights
+  replaced : (q : RwLockPurpose) (at : RwLockAt) (y z : Want) (how : Patience) (answer : Answer) → place_at w t ≡ RwLock l a (looking q at) → purpose_by q l ≡ Converts l y z how → ((rights : ℕ → Rights) → before q at l rights ≡ rights)
+      → x ≡ outcome.End answer → ((c : CallState) → AnswerHolds (Some (Converts l y z how)) (locks_of v2) t c answer → (k : ℕ) → one_more_at l y (λ j. rights_of (lock_state v2 j) t) k ≡ one_more_at l z c.former k)
+      → with_right y (rights_of (lock_state v2 l) t) ≡ with_right z (rights_of (lock_state w l) t)
+  replaced q at y z how answer is of same_rights told says = let h = holds q at is answer told in
+      sym (put_here (λ k. rights_of (lock_state v2 k) t) l (with_right y (rights_of (lock_state v2 l) t)))
+      ∙ says h.call (subst (λ p. AnswerHolds (Some p) (locks_of v2) t h.call answer) of h.holds) l
+      ∙ (λ i. one_more_at l z ((h.former_is ∙ began q at is same_rights) i) l) ∙ put_here (λ k. rights_of (lock_state w k) t) l (with_right z (rights_of (lock_state w l) t))
+
+  downgrades_alone : (d : Downgrade) → place_at w t ≡ RwLock l a (looking (purpose.Downgrade d) at.GiveWay) → x ≡ outcome.End answer.Ok → ConvertsAlone (lock_state w l) t (wanted (to_of d)) Patient x (lock_state v2 l)
+  downgrades_alone downgrade.ToShared is told = (told, let e = ap (λ (z : Rights). z.shared) (replaced (purpose.Downgrade downgrade.ToShared) at.GiveWay Exclusive Shared Patient answer.Ok is refl (λ rights. refl) told (λ c h. h)) in omega (arith, e))
+  downgrades_alone downgrade.ToUpgradable is told = (told, is_owner (lock_state v2 l).upgradable (let e = ap (λ (z : Rights). z.upgradable) (replaced (purpose.Downgrade downgrade.ToUpgradable) at.GiveWay Exclusive Upgradable Patient answer.Ok is refl (λ rights. refl) told (λ c h. h)) in omega (arith, e)))
+  downgrades_alone downgrade.UpgradableToShared is told = (told, let e = ap (λ (z : Rights). z.shared) (replaced (purpose.Downgrade downgrade.UpgradableToShared) at.GiveWay Upgradable Shared Patient answer.Ok is refl (λ rights. refl) told (λ c h. h)) in omega (arith, e))
+
+  -- an upgrade has the upgradable right as it begins
+  upgrades_from : (how : Patience) (at : RwLockAt) → place_at w t ≡ RwLock l a (looking (purpose.Upgrade how) at) → (doing_at None (purpose.Upgrade how) at).claims ≡ Some (Has Upgradable) → (lock_state w l).upgradable ≡ Some t
+  upgrades_from how at is claims = (steady.sites.site l).held t (Has Upgradable) (ap (λ p. (doing_on p l).claims) is ∙ ap (λ (b : Bool). (if b then rwlock_doing (looking (purpose.Upgrade how) at) else idle).claims) (same l) ∙ claims)
+
+  readers_and_one : (lock_state w l).upgradable ≡ Some t → count_in (word_at w l) ≡ readers (lock_state w l) + 1
+  readers_and_one own = counted w l a steady admits ∙ ap (λ (o : Option ℕ). readers (lock_state w l) + one_if_some o) own
+
+  upgrade_owns : (how : Patience) (at : RwLockAt) → place_at w t ≡ RwLock l a (looking (purpose.Upgrade how) at) → ((rights : ℕ → Rights) → before (purpose.Upgrade how) at l rights ≡ rights) → x ≡ outcome.End (entered how) → (x ≡ outcome.End (entered_answer how)) × ((lock_state v2 l).exclusive ≡ Some t)
+  upgrade_owns how at is same_rights e = (told, is_owner (lock_state v2 l).exclusive (let g = ap (λ (z : Rights). z.exclusive) (replaced (purpose.Upgrade how) at Upgradable Exclusive how (entered_answer how) is refl same_rights told (says how)) in omega (arith, g)))
+    where
+      told : x ≡ outcome.End (entered_answer how)
+      told = e ∙ ap outcome.End (same_answer how)
+
+      says : (how : Patience) (c : CallState) → AnswerHolds (Some (Converts l Upgradable Exclusive how)) (locks_of v2) t c (entered_answer how) → (k : ℕ) → one_more_at l Upgradable (λ j. rights_of (lock_state v2 j) t) k ≡ one_more_at l Exclusive c.former k
+      says Patient c h = h
+      says Timed c h = h
+      says Try c h = h
+
+  is_one : (lock_state w l).upgradable ≡ Some t → readers (lock_state w l) ≡ 0 → (count_in (word_at w l) == 1) ≡ true
+  is_one own none = ap (λ n. n == 1) (readers_and_one own ∙ ap (λ n. n + 1) none)
+
+  is_not_one : (lock_state w l).upgradable ≡ Some t → 1 ≤ readers (lock_state w l) → (count_in (word_at w l) == 1) ≡ false
+  is_not_one own some = ap (λ n. n == 1) (readers_and_one own) ∙ grind (arith, nat_tests)
+
+  tries_upgrade : place_at w t ≡ RwLock l a (looking (purpose.Upgrade Try) at.Load) → Decides t l a (decided a (looking (purpose.Upgrade Try) at.Load) (word_at w l)) (looking (purpose.Upgrade Try) at.Load) (word_at w l) queues v2 x → ConvertsAlone (lock_state w l) t Exclusive Try x (lock_state v2 l)
+  tries_upgrade is h = (λ none. upgrade_owns Try at.Load is (λ rights. refl) (by_count true (is_one own none)), λ some. by_count false (is_not_one own some))
+    where
+      own : (lock_state w l).upgradable ≡ Some t
+      own = upgrades_from Try at.Load is refl
+
+      by_count : (b : Bool) → (count_in (word_at w l) == 1) ≡ b → Decides t l a (if b then decisions.Take else decisions.Refuse answer.No) (looking (purpose.Upgrade Try) at.Load) (word_at w l) queues v2 x
+      by_count b e = subst (λ (b : Bool). Decides t l a (if b then decisions.Take else decisions.Refuse answer.No) (looking (purpose.Upgrade Try) at.Load) (word_at w l) queues v2 x) e h
+
+  upgrades_alone : (how : Patience) → how ≢ Try → place_at w t ≡ RwLock l a (looking (purpose.Upgrade how) at.GiveWay) → Upgrades t l a (count_in (word_at w l) == 1) how false (word_at w l) queues v2 x → ConvertsAlone (lock_state w l) t Exclusive how x (lock_state v2 l)
+  upgrades_alone how waits is h = (λ none. upgrade_owns how at.GiveWay is (λ rights. refl) (by_count true (is_one own none)), λ some. by_how how waits (aside some))
+    where
+      own : (lock_state w l).upgradable ≡ Some t
+      own = upgrades_from how at.GiveWay is refl
+
+      by_count : (b : Bool) → (count_in (word_at w l) == 1) ≡ b → Upgrades t l a b how false (word_at w l) queues v2 x
+      by_count b e = subst (λ (b : Bool). Upgrades t l a b how false (word_at w l) queues v2 x) e h
+
+      nobody_pending : (lock_state w l).pending ≡ None
+      nobody_pending = by_pending (lock_state w l).pending refl
+        where
+          by_pending : (o : Option Pending) → (lock_state w l).pending ≡ o → (lock_state w l).pending ≡ None
+          by_pending None e = e
+          by_pending (Some p) e = absurd (let none = (steady.sites.site l).state.pending_alone p e in let g : ◌≡◌ {A = Option ℕ} (Some t) None = sym own ∙ none in cc)
+
+      left : 1 ≤ readers (lock_state w l) → (count_in (apply (op.Sub 12) (word_at w l)) == 0) ≡ false
+      left some = let e = readers_and_one own in let few = small in grind (arith, nat_tests)
+
+      aside : 1 ≤ readers (lock_state w l) → (x ≡ outcome.Sleep) × ((lock_state v2 l).aside ≡ Some t)
+      aside some = let g : Sleeps t l a Second (looking (purpose.Upgrade how) at.Look) queues v2 x = subst (λ (b : Bool). Settles t l a b (looking (purpose.Upgrade how) at.Look) queues v2 x) (left some) (by_count false (is_not_one own some)) in
+          (g.0, sleeps_aside Exclusive (nobody_aside nobody_pending) g.1)
+
+      by_how : (y : Patience) → y ≢ Try → (x ≡ outcome.Sleep) × ((lock_state v2 l).aside ≡ Some t) → WaitsForReaders y t x (lock_state v2 l)
+      by_how Try ne h = absurd (ne refl)
+      by_how Patient ne h = h
+      by_how Timed ne h = h
+
+-- each call, from its beginning
+pub rwlock_alone : (w : State) (t l : ℕ) (a : Admission) (c : RwLockCall) (n : ℕ) (last : Outcome) → 11 ≤ n → IsSteady w → Admits (rules_at w l) a → place_at w t ≡ RwLock l a (rwlock_first c) → StepsAlone w t l (RwLock l a (rwlock_first c)) (word_at w l) (λ m. queue_at w (key_of l m))
+    → IsSoloRun w t (solo n w t last).outcome (solo n w t last).state → EndsAlone w t (Some (rwlock_purpose l c)) (solo n w t last).outcome (solo n w t last).state
+rwlock_alone w t l a c n last le steady admits is f run = by_call c is f
+  where
+    small : word_at w l < 2 ^ 64
+    small = word_small w l steady admits.0
+
+    v2 : State
+    v2 = (solo n w t last).state
+
+    x : Outcome
+    x = (solo n w t last).outcome
+
+    by_call : (c : RwLockCall) → place_at w t ≡ RwLock l a (rwlock_first c) → StepsAlone w t l (RwLock l a (rwlock_first c)) (word_at w l) (λ m. queue_at w (key_of l m)) → EndsAlone w t (Some (rwlock_purpose l c)) x v2
+    by_call (call.Enter access.Exclusive how) is f = writes_alone w t l a steady admits v2 x run how is (first_leads t l a _ (word_at w l) w (λ m. queue_at w (key_of l m)) small f n last (omega arith))
+    by_call (call.Enter access.Shared how) is f = shares_alone w t l a steady admits v2 x run access.Shared how (λ h. cc) is (load_leads t l a _ (word_at w l) w (λ m. queue_at w (key_of l m)) small f n last (omega arith))
+    by_call (call.Enter access.Upgradable how) is f = shares_alone w t l a steady admits v2 x run access.Upgradable how (λ h. cc) is (load_leads t l a _ (word_at w l) w (λ m. queue_at w (key_of l m)) small f n last (omega arith))
+    by_call (call.Release y) is f = releases_alone w t l a steady admits v2 x run y is (release_ends t l a y false (word_at w l) w (λ m. queue_at w (key_of l m)) f n last (omega arith))
+    by_call (call.Downgrade d) is f = downgrades_alone w t l a steady admits v2 x run d is (downgrade_ends t l a d false (word_at w l) w (λ m. queue_at w (key_of l m)) f n last (omega arith))
+    by_call (call.Upgrade Try) is f = tries_upgrade w t l a steady admits v2 x run is (load_leads t l a _ (word_at w l) w (λ m. queue_at w (key_of l m)) small f n last (omega arith))
+    by_call (call.Upgrade Patient) is f = upgrades_alone w t l a steady admits v2 x run Patient (λ h. cc) is (upgrade_leads t l a Patient false (word_at w l) w (λ m. queue_at w (key_of l m)) f n last (omega arith))
+    by_call (call.Upgrade Timed) is f = upgrades_alone w t l a steady admits v2 x run Timed (λ h. cc) is (upgrade_leads t l a Timed false (word_at w l) w (λ m. queue_at w (key_of l m)) f n last (omega arith))
