@@ -5,7 +5,15 @@ use Rattle.std.specs.Str.{bytes_eq}
 use Rattle.lot_calls.specs.declared.kinds.Kind.{Kind}
 use Rattle.lot_calls.specs.declared.kinds.Kind as kind
 use Rattle.lot_calls.specs.declared.calls.MutexCall.{MutexCall}
-use Rattle.lot_calls.specs.declared.calls.MutexCall as call
+use Rattle.lot_calls.specs.declared.calls.MutexCall as mutex
+use Rattle.lot_calls.specs.declared.calls.RwLockCall.{RwLockCall}
+use Rattle.lot_calls.specs.declared.calls.RwLockCall.TheVariants.{Enter, Release, Downgrade, Upgrade}
+use Rattle.lot_calls.specs.declared.calls.Access.TheVariants.{Shared, Upgradable, Exclusive}
+use Rattle.lot_calls.specs.declared.calls.Downgrade.TheVariants.{ToShared, ToUpgradable, UpgradableToShared}
+use Rattle.lot_calls.specs.declared.calls.Patience.TheVariants.{Patient, Timed, Try}
+use Rattle.lot_calls.specs.declared.kinds.TheConstants.{MOST_READERS}
+use Rattle.lot_text.specs.declared.grammar.NamedCall.{NamedCall}
+use Rattle.lot_text.specs.declared.grammar.NamedCall as call
 use Rattle.lot_text.specs.declared.grammar.Command.{Command}
 use Rattle.lot_text.specs.declared.grammar.Command as command
 use Rattle.lot_text.specs.declared.grammar.NamedTurn.{NamedTurn}
@@ -28,21 +36,67 @@ has_form word = (nat_lt 0 (length word) && nat_le (length word) 19) && ((length 
 abbrev pub number_of : List ℕ → Option ℕ
 number_of word = if has_form word then digits_after 0 word else None
 
+-- a reader-writer lock with a limit
+abbrev pub limited_kind_of : List ℕ → Option ℕ → Option Kind
+limited_kind_of word None = None
+limited_kind_of word (Some limit) =
+    if bytes_eq word (codes "rwlock") then Some (kind.TheVariants.RwLock limit)
+    else (if bytes_eq word (codes "recursive") then Some (kind.TheVariants.Recursive limit)
+    else None)
+
+-- without one, readers may be as many as fit into a word
 abbrev pub kind_of : List ℕ → Option Kind
 kind_of word =
     if bytes_eq word (codes "mutex") then Some kind.TheVariants.Mutex
     else (if bytes_eq word (codes "fair") then Some kind.TheVariants.Fair
-    else None)
+    else limited_kind_of word (Some MOST_READERS))
 
-abbrev pub call_of : List ℕ → Option MutexCall
-call_of word =
-    if bytes_eq word (codes "lock") then Some call.TheVariants.Lock
-    else (if bytes_eq word (codes "unlock") then Some call.TheVariants.Unlock
-    else (if bytes_eq word (codes "try_lock") then Some call.TheVariants.TryLock
-    else (if bytes_eq word (codes "lock_timed") then Some call.TheVariants.LockTimed
-    else (if bytes_eq word (codes "unlock_fair") then Some call.TheVariants.UnlockFair
-    else (if bytes_eq word (codes "bump") then Some call.TheVariants.Bump
+abbrev pub mutex_call_of : List ℕ → Option MutexCall
+mutex_call_of word =
+    if bytes_eq word (codes "lock") then Some mutex.TheVariants.Lock
+    else (if bytes_eq word (codes "unlock") then Some mutex.TheVariants.Unlock
+    else (if bytes_eq word (codes "try_lock") then Some mutex.TheVariants.TryLock
+    else (if bytes_eq word (codes "lock_timed") then Some mutex.TheVariants.LockTimed
+    else (if bytes_eq word (codes "unlock_fair") then Some mutex.TheVariants.UnlockFair
+    else (if bytes_eq word (codes "bump") then Some mutex.TheVariants.Bump
     else None)))))
+
+-- a call that waits for a right to a reader-writer lock
+abbrev pub entering_call_of : List ℕ → Option RwLockCall
+entering_call_of word =
+    if bytes_eq word (codes "read") then Some (Enter Shared Patient)
+    else (if bytes_eq word (codes "read_timed") then Some (Enter Shared Timed)
+    else (if bytes_eq word (codes "try_read") then Some (Enter Shared Try)
+    else (if bytes_eq word (codes "upgradable") then Some (Enter Upgradable Patient)
+    else (if bytes_eq word (codes "upgradable_timed") then Some (Enter Upgradable Timed)
+    else (if bytes_eq word (codes "try_upgradable") then Some (Enter Upgradable Try)
+    else (if bytes_eq word (codes "write") then Some (Enter Exclusive Patient)
+    else (if bytes_eq word (codes "write_timed") then Some (Enter Exclusive Timed)
+    else (if bytes_eq word (codes "try_write") then Some (Enter Exclusive Try)
+    else None))))))))
+
+-- and one that gives its right up, or turns it into another
+abbrev pub other_call_of : List ℕ → Option RwLockCall
+other_call_of word =
+    if bytes_eq word (codes "unlock_shared") then Some (Release Shared)
+    else (if bytes_eq word (codes "unlock_upgradable") then Some (Release Upgradable)
+    else (if bytes_eq word (codes "unlock_exclusive") then Some (Release Exclusive)
+    else (if bytes_eq word (codes "downgrade") then Some (Downgrade ToShared)
+    else (if bytes_eq word (codes "downgrade_to_upgradable") then Some (Downgrade ToUpgradable)
+    else (if bytes_eq word (codes "downgrade_upgradable") then Some (Downgrade UpgradableToShared)
+    else (if bytes_eq word (codes "upgrade") then Some (Upgrade Patient)
+    else (if bytes_eq word (codes "upgrade_timed") then Some (Upgrade Timed)
+    else (if bytes_eq word (codes "try_upgrade") then Some (Upgrade Try)
+    else None))))))))
+
+-- the first of them that is there
+abbrev pub first_call : Option MutexCall → Option RwLockCall → Option RwLockCall → Option NamedCall
+first_call (Some c) enters other = Some (call.TheVariants.Mutex c)
+first_call None (Some c) other = Some (call.TheVariants.RwLock c)
+first_call None None other = option_map call.TheVariants.RwLock other
+
+abbrev pub call_of : List ℕ → Option NamedCall
+call_of word = first_call (mutex_call_of word) (entering_call_of word) (other_call_of word)
 
 -- a turn that calls no lock
 abbrev pub turn_of : List ℕ → Option NamedTurn
@@ -54,7 +108,7 @@ turn_of word =
     else None)))
 
 -- a turn that calls a lock
-abbrev pub calling_turn_of : List ℕ → MutexCall → List ℕ → Option NamedTurn
+abbrev pub calling_turn_of : List ℕ → NamedCall → List ℕ → Option NamedTurn
 calling_turn_of word call name =
     if bytes_eq word (codes "begin") then Some (turn.TheVariants.Begin call name)
     else (if bytes_eq word (codes "do") then Some (turn.TheVariants.Do call name)
@@ -69,7 +123,13 @@ abbrev pub lock_command : Option (List ℕ) → Option Kind → Option Command
 lock_command None kind = None
 lock_command (Some name) kind = option_map (command.TheVariants.Lock name) kind
 
--- the words of a line with a meaning: `show`, `threads N`, `T TURN`, `lock NAME KIND`, `T begin CALL NAME`, `T do CALL NAME`
+-- a thread's number, `begin` or `do`, a call and the name of a lock
+abbrev pub calling_command_of : List ℕ → List ℕ → List ℕ → List ℕ → Option Command
+calling_command_of a b c d =
+    turn_command (number_of a) (option_and_then (λ call. option_and_then (calling_turn_of b call) (name_of d)) (call_of c))
+
+-- the words of a line with a meaning: `show`, `threads N`, `T TURN`, `lock NAME KIND`, `lock NAME KIND LIMIT`, `T begin CALL NAME`,
+-- `T do CALL NAME`
 abbrev pub command_of : List (List ℕ) → Option Command
 command_of (a ∷ []) = if bytes_eq a (codes "show") then Some command.TheVariants.Show else None
 command_of (a ∷ b ∷ []) =
@@ -77,7 +137,8 @@ command_of (a ∷ b ∷ []) =
     else turn_command (number_of a) (turn_of b)
 command_of (a ∷ b ∷ c ∷ []) = if bytes_eq a (codes "lock") then lock_command (name_of b) (kind_of c) else None
 command_of (a ∷ b ∷ c ∷ d ∷ []) =
-    turn_command (number_of a) (option_and_then (λ call. option_and_then (calling_turn_of b call) (name_of d)) (call_of c))
+    if bytes_eq a (codes "lock") then lock_command (name_of b) (limited_kind_of c (number_of d))
+    else calling_command_of a b c d
 command_of _ = None
 
 abbrev pub meaning : List ℕ → Option Command

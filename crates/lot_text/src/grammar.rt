@@ -1,9 +1,11 @@
 //! What a line means.
 ghost use Rattle.std.specs.Prelude.{ℕ, List, Some, decimal, ◌^◌, ◌≡◌, ◌≢◌, ◌<◌, ◌≤◌, [], ◌∷◌, length, take, slice_index, All, MatchOption};
-ghost use Rattle.lot_text.specs.Grammar.{words_of, number_of, digits_after, kind_of, call_of, turn_of, calling_turn_of, command_of, meaning};
+ghost use Rattle.lot_text.specs.Names.{name_of};
+ghost use Rattle.lot_text.specs.Grammar.{words_of, number_of, digits_after, kind_of, limited_kind_of, mutex_call_of, entering_call_of, other_call_of, call_of, turn_of, calling_turn_of, lock_command, turn_command, calling_command_of, command_of, meaning};
 
 use crate::names::Name;
-use lot_calls::{Kind, MutexCall};
+use lot_calls::kinds::MOST_READERS;
+use lot_calls::{Access, Downgrade, Kind, MutexCall, Patience, RwLockCall};
 
 /// The most digits of a number. All such numbers fit.
 const MOST_DIGITS: usize = 19;
@@ -21,11 +23,18 @@ pub enum Command {
     Show,
 }
 
+/// A call of a lock of some sort.
+#[derive(Clone, Copy, Debug, PartialEq, Eq)]
+pub enum NamedCall {
+    Mutex(MutexCall),
+    RwLock(RwLockCall),
+}
+
 /// What a thread does, of locks by their names.
 #[derive(Clone, Copy, Debug, PartialEq, Eq)]
 pub enum NamedTurn {
     /// It begins a call.
-    Begin { call: MutexCall, name: Name },
+    Begin { call: NamedCall, name: Name },
     /// It does the next act of its call.
     Go,
     /// It loads a word again in place of an act that leads to sleep.
@@ -35,7 +44,7 @@ pub enum NamedTurn {
     /// It goes on alone.
     Solo,
     /// It begins a call, and goes on alone.
-    Do { call: MutexCall, name: Name },
+    Do { call: NamedCall, name: Name },
 }
 
 /// What a line says, where it has one of the forms.
@@ -117,10 +126,29 @@ fn command_of_three(first: &[u8], second: &[u8], third: &[u8]) -> Option<Command
 fn command_of_four(first: &[u8], second: &[u8], third: &[u8], fourth: &[u8]) -> Option<Command>
     ensures { result ≡ command_of (first.now ∷ second.now ∷ third.now ∷ fourth.now ∷ []) }
 {
-    let thread = number(first)?;
-    let call = call(third)?;
-    let name = Name::from_word(fourth)?;
-    let turn = calling_turn(second, call, name)?;
+    if first == b"lock".as_slice() {
+        return limited_lock(second, third, fourth);
+    }
+    calling_command(first, second, third, fourth)
+}
+
+/// A lock with a reader limit.
+fn limited_lock(name: &[u8], kind: &[u8], limit: &[u8]) -> Option<Command>
+    ensures { result ≡ lock_command (name_of name.now) (limited_kind_of kind.now (number_of limit.now)) }
+{
+    let name = Name::from_word(name)?;
+    let kind = limited_kind(kind, number(limit)?)?;
+    Some(Command::Lock { name, kind })
+}
+
+/// A turn that calls a lock.
+fn calling_command(thread: &[u8], turn: &[u8], call: &[u8], name: &[u8]) -> Option<Command>
+    ensures { result ≡ calling_command_of thread.now turn.now call.now name.now }
+{
+    let thread = number(thread)?;
+    let call = self::call(call)?;
+    let name = Name::from_word(name)?;
+    let turn = calling_turn(turn, call, name)?;
     Some(Command::Turn { thread, turn })
 }
 
@@ -142,7 +170,7 @@ fn turn(word: &[u8]) -> Option<NamedTurn>
 }
 
 /// The turn that a word names, which calls a lock.
-fn calling_turn(word: &[u8], call: MutexCall, name: Name) -> Option<NamedTurn>
+fn calling_turn(word: &[u8], call: NamedCall, name: Name) -> Option<NamedTurn>
     ensures { result ≡ calling_turn_of word.now call name }
 {
     if word == b"begin".as_slice() {
@@ -154,7 +182,7 @@ fn calling_turn(word: &[u8], call: MutexCall, name: Name) -> Option<NamedTurn>
     }
 }
 
-/// The kind of lock that a word names.
+/// The kind of lock that a word names. Readers without a limit may be as many as fit into a word.
 fn kind(word: &[u8]) -> Option<Kind>
     ensures { result ≡ kind_of word.now }
 {
@@ -163,13 +191,40 @@ fn kind(word: &[u8]) -> Option<Kind>
     } else if word == b"fair".as_slice() {
         Some(Kind::Fair)
     } else {
+        limited_kind(word, MOST_READERS as usize)
+    }
+}
+
+/// The kind of reader-writer lock that a word names, with this limit.
+fn limited_kind(word: &[u8], limit: usize) -> Option<Kind>
+    ensures { result ≡ limited_kind_of word.now (Some limit) }
+{
+    let limit = limit as u64;
+    if word == b"rwlock".as_slice() {
+        Some(Kind::RwLock { limit })
+    } else if word == b"recursive".as_slice() {
+        Some(Kind::Recursive { limit })
+    } else {
         None
     }
 }
 
 /// The call that a word names.
-fn call(word: &[u8]) -> Option<MutexCall>
+fn call(word: &[u8]) -> Option<NamedCall>
     ensures { result ≡ call_of word.now }
+{
+    if let Some(call) = mutex_call(word) {
+        return Some(NamedCall::Mutex(call));
+    }
+    if let Some(call) = entering_call(word) {
+        return Some(NamedCall::RwLock(call));
+    }
+    other_call(word).map(NamedCall::RwLock)
+}
+
+/// The call of a mutex that a word names.
+fn mutex_call(word: &[u8]) -> Option<MutexCall>
+    ensures { result ≡ mutex_call_of word.now }
 {
     if word == b"lock".as_slice() {
         Some(MutexCall::Lock)
@@ -183,6 +238,66 @@ fn call(word: &[u8]) -> Option<MutexCall>
         Some(MutexCall::UnlockFair)
     } else if word == b"bump".as_slice() {
         Some(MutexCall::Bump)
+    } else {
+        None
+    }
+}
+
+fn enters(access: Access, patience: Patience) -> Option<RwLockCall>
+    ensures { result ≡ Some (RwLockCall.Enter access patience) }
+{
+    Some(RwLockCall::Enter { access, patience })
+}
+
+/// The call that a word names, which waits for a right to a reader-writer lock.
+fn entering_call(word: &[u8]) -> Option<RwLockCall>
+    ensures { result ≡ entering_call_of word.now }
+{
+    if word == b"read".as_slice() {
+        enters(Access::Shared, Patience::Patient)
+    } else if word == b"read_timed".as_slice() {
+        enters(Access::Shared, Patience::Timed)
+    } else if word == b"try_read".as_slice() {
+        enters(Access::Shared, Patience::Try)
+    } else if word == b"upgradable".as_slice() {
+        enters(Access::Upgradable, Patience::Patient)
+    } else if word == b"upgradable_timed".as_slice() {
+        enters(Access::Upgradable, Patience::Timed)
+    } else if word == b"try_upgradable".as_slice() {
+        enters(Access::Upgradable, Patience::Try)
+    } else if word == b"write".as_slice() {
+        enters(Access::Exclusive, Patience::Patient)
+    } else if word == b"write_timed".as_slice() {
+        enters(Access::Exclusive, Patience::Timed)
+    } else if word == b"try_write".as_slice() {
+        enters(Access::Exclusive, Patience::Try)
+    } else {
+        None
+    }
+}
+
+/// The call that a word names, which gives a right to a reader-writer lock up or turns it into another.
+fn other_call(word: &[u8]) -> Option<RwLockCall>
+    ensures { result ≡ other_call_of word.now }
+{
+    if word == b"unlock_shared".as_slice() {
+        Some(RwLockCall::Release(Access::Shared))
+    } else if word == b"unlock_upgradable".as_slice() {
+        Some(RwLockCall::Release(Access::Upgradable))
+    } else if word == b"unlock_exclusive".as_slice() {
+        Some(RwLockCall::Release(Access::Exclusive))
+    } else if word == b"downgrade".as_slice() {
+        Some(RwLockCall::Downgrade(Downgrade::ToShared))
+    } else if word == b"downgrade_to_upgradable".as_slice() {
+        Some(RwLockCall::Downgrade(Downgrade::ToUpgradable))
+    } else if word == b"downgrade_upgradable".as_slice() {
+        Some(RwLockCall::Downgrade(Downgrade::UpgradableToShared))
+    } else if word == b"upgrade".as_slice() {
+        Some(RwLockCall::Upgrade(Patience::Patient))
+    } else if word == b"upgrade_timed".as_slice() {
+        Some(RwLockCall::Upgrade(Patience::Timed))
+    } else if word == b"try_upgrade".as_slice() {
+        Some(RwLockCall::Upgrade(Patience::Try))
     } else {
         None
     }

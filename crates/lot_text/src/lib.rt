@@ -10,7 +10,7 @@ pub mod output;
 mod tests;
 
 pub use answers::{print_malformed, print_no_memory, print_turn};
-pub use grammar::{Command, NamedTurn, meaning, numbers_are_decimal};
+pub use grammar::{Command, NamedCall, NamedTurn, meaning, numbers_are_decimal};
 pub use input::{LINE_LEN, Reading, read_line};
 pub use names::{Name, lock_named};
 pub use output::{Page, send_all};

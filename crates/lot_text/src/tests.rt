@@ -1,12 +1,12 @@
 //! Which lines have a meaning and which have none, how lines are read, and how outcomes are printed.
 
 use crate::answers::print_turn;
-use crate::grammar::{Command, NamedTurn, meaning};
+use crate::grammar::{Command, NamedCall, NamedTurn, meaning};
 use crate::input::{LINE_LEN, Reading, read_line};
 use crate::names::Name;
 use crate::output::Page;
 use arrayvec::ArrayVec;
-use lot_calls::{Answer, Kind, MutexCall, OnceState, Outcome};
+use lot_calls::{Access, Answer, Downgrade, Kind, MutexCall, OnceState, Outcome, Patience, RwLockCall};
 
 /// Outcomes, as they are printed.
 const OUTCOMES: [(Outcome, &str); 18] = [
@@ -37,7 +37,7 @@ const OUTCOMES: [(Outcome, &str); 18] = [
 ];
 
 /// Lines without a meaning.
-const MALFORMED: [&str; 60] = [
+const MALFORMED: [&str; 65] = [
     // Blanks.
     "",
     " ",
@@ -70,7 +70,12 @@ const MALFORMED: [&str; 60] = [
     "lock",
     "lock m",
     "lock m mutex 1",
-    "lock m rwlock",
+    "lock m rwlock ",
+    "lock m rwlock x",
+    "lock m rwlock 01",
+    "lock m rwlock 1 1",
+    "lock m fair 1",
+    "lock m once",
     "lock m Mutex",
     "lock M mutex",
     "lock 1m mutex",
@@ -95,7 +100,7 @@ const MALFORMED: [&str; 60] = [
     "0 begin m",
     "0 begin lock",
     "0 begin lock M",
-    "0 begin read m",
+    "0 begin bump_shared m",
     "0 start lock m",
     "0 do lock",
     "0 do lock m m",
@@ -130,6 +135,41 @@ const CALLS: [(&str, &str, MutexCall); 4] = [
     ("1023 begin unlock m", "1023 do unlock m", MutexCall::Unlock),
 ];
 
+const fn enters(access: Access, patience: Patience) -> RwLockCall {
+    RwLockCall::Enter { access, patience }
+}
+
+/// Calls of a reader-writer lock, by their names.
+const RWLOCK_CALLS: [(&str, RwLockCall); 18] = [
+    ("read", enters(Access::Shared, Patience::Patient)),
+    ("read_timed", enters(Access::Shared, Patience::Timed)),
+    ("try_read", enters(Access::Shared, Patience::Try)),
+    ("upgradable", enters(Access::Upgradable, Patience::Patient)),
+    (
+        "upgradable_timed",
+        enters(Access::Upgradable, Patience::Timed),
+    ),
+    ("try_upgradable", enters(Access::Upgradable, Patience::Try)),
+    ("write", enters(Access::Exclusive, Patience::Patient)),
+    ("write_timed", enters(Access::Exclusive, Patience::Timed)),
+    ("try_write", enters(Access::Exclusive, Patience::Try)),
+    ("unlock_shared", RwLockCall::Release(Access::Shared)),
+    ("unlock_upgradable", RwLockCall::Release(Access::Upgradable)),
+    ("unlock_exclusive", RwLockCall::Release(Access::Exclusive)),
+    ("downgrade", RwLockCall::Downgrade(Downgrade::ToShared)),
+    (
+        "downgrade_to_upgradable",
+        RwLockCall::Downgrade(Downgrade::ToUpgradable),
+    ),
+    (
+        "downgrade_upgradable",
+        RwLockCall::Downgrade(Downgrade::UpgradableToShared),
+    ),
+    ("upgrade", RwLockCall::Upgrade(Patience::Patient)),
+    ("upgrade_timed", RwLockCall::Upgrade(Patience::Timed)),
+    ("try_upgrade", RwLockCall::Upgrade(Patience::Try)),
+];
+
 #[test]
 fn malformed_lines_mean_nothing(rt: HostRuntime) {
     for line in MALFORMED {
@@ -161,6 +201,7 @@ fn each_form_has_its_meaning(rt: HostRuntime) {
     }
     for (begin, alone, call) in CALLS {
         let thread = 1023;
+        let call = NamedCall::Mutex(call);
         let begun = m.map(|name| Command::Turn {
             thread,
             turn: NamedTurn::Begin { call, name },
@@ -171,6 +212,43 @@ fn each_form_has_its_meaning(rt: HostRuntime) {
             turn: NamedTurn::Do { call, name },
         });
         assert_eq!(rt; meaning(alone.as_bytes()), done);
+    }
+}
+
+#[test]
+fn reader_writer_lines_have_their_meaning(rt: HostRuntime) {
+    let m = Name::from_word(b"m");
+    for (line, kind) in [
+        (
+            "lock m rwlock ",
+    "lock m rwlock x",
+    "lock m rwlock 01",
+    "lock m rwlock 1 1",
+    "lock m fair 1",
+    "lock m once",
+            Kind::RwLock {
+                limit: 1152921504606846974,
+            },
+        ),
+        ("lock m rwlock 0", Kind::RwLock { limit: 0 }),
+        ("lock m recursive 7", Kind::Recursive { limit: 7 }),
+    ] {
+        let lock = m.map(|name| Command::Lock { name, kind });
+        assert_eq!(rt; meaning(line.as_bytes()), lock, "for {line}");
+    }
+    for (word, call) in RWLOCK_CALLS {
+        let mut line = ArrayVec::<u8, LINE_LEN>::new();
+        assert!(rt; line.try_extend_from_slice(b"3 begin ").is_ok());
+        assert!(rt; line.try_extend_from_slice(word.as_bytes()).is_ok());
+        assert!(rt; line.try_extend_from_slice(b" m").is_ok());
+        let begun = m.map(|name| Command::Turn {
+            thread: 3,
+            turn: NamedTurn::Begin {
+                call: NamedCall::RwLock(call),
+                name,
+            },
+        });
+        assert_eq!(rt; meaning(line.as_slice()), begun, "for {word}");
     }
 }
 

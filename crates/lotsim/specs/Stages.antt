@@ -1,7 +1,8 @@
 -- What the lines of a schedule do, one after another.
 use Rattle.std.specs.Prelude.{ℕ, Bool, ◌&&◌, nat_le, nat_lt, is_none, List, [], ◌∷◌, ◌++◌, length, if◌then◌else◌, Option, None, Some, option_map, option_and_then}
 use Rattle.lot_calls.specs.declared.kinds.Kind.{Kind}
-use Rattle.lot_calls.specs.declared.calls.MutexCall.{MutexCall}
+use Rattle.lot_text.specs.declared.grammar.NamedCall.{NamedCall}
+use Rattle.lot_text.specs.declared.grammar.NamedCall.TheVariants as calling
 use Rattle.lot_calls.specs.declared.calls.Call.{Call}
 use Rattle.lot_calls.specs.declared.calls.Call as calls
 use Rattle.lot_calls.specs.declared.calls.Turn.{Turn}
@@ -32,8 +33,12 @@ pub data Stage : Type 0 where
 -- ---------------------------------------------------------------- turns
 
 -- the call of the lock that has the name
-abbrev pub call_named : List (List ℕ) → MutexCall → List ℕ → Option Call
-call_named names call name = option_map (λ lock. calls.TheVariants.Mutex lock call) (lock_named names name)
+abbrev pub call_at : NamedCall → ℕ → Call
+call_at (calling.Mutex call) lock = calls.TheVariants.Mutex lock call
+call_at (calling.RwLock call) lock = calls.TheVariants.RwLock lock call
+
+abbrev pub call_named : List (List ℕ) → NamedCall → List ℕ → Option Call
+call_named names call name = option_map (call_at call) (lock_named names name)
 
 abbrev pub action_of : List (List ℕ) → NamedTurn → Option Action
 action_of names (named.TheVariants.Begin call name) =

@@ -3,8 +3,8 @@ ghost use Rattle.std.specs.Prelude.{◌≡◌, length};
 ghost use Rattle.lotsim.specs.Stages.{call_named, action_of, done_by};
 
 use lot_base::ListQueues;
-use lot_text::{Name, NamedTurn, lock_named};
-use lot_world::{Call, MutexCall, Outcome, Step, Turn, World};
+use lot_text::{Name, NamedCall, NamedTurn, lock_named};
+use lot_world::{Call, Outcome, Step, Turn, World};
 
 /// What a thread does, of locks by their numbers.
 #[derive(Clone, Copy, Debug, PartialEq, Eq)]
@@ -34,11 +34,14 @@ pub fn action_of(names: &[Name], turn: NamedTurn) -> Option<Action>
     }
 }
 
-fn call_named(names: &[Name], call: MutexCall, name: Name) -> Option<Call>
+fn call_named(names: &[Name], call: NamedCall, name: Name) -> Option<Call>
     ensures { result ≡ call_named names.now call name }
 {
     let lock = lock_named(names, name)?;
-    Some(Call::Mutex { lock, call })
+    Some(match call {
+        NamedCall::Mutex(call) => Call::Mutex { lock, call },
+        NamedCall::RwLock(call) => Call::RwLock { lock, call },
+    })
 }
 
 /// Does it, and answers the last outcome.
