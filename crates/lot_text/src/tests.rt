@@ -6,7 +6,9 @@ use crate::input::{LINE_LEN, Reading, read_line};
 use crate::names::Name;
 use crate::output::Page;
 use arrayvec::ArrayVec;
-use lot_calls::{Access, Answer, Downgrade, Kind, MutexCall, OnceState, Outcome, Patience, RwLockCall};
+use lot_calls::{
+    Access, Answer, Downgrade, Kind, MutexCall, OnceState, Outcome, Patience, RwLockCall,
+};
 
 /// Outcomes, as they are printed.
 const OUTCOMES: [(Outcome, &str); 18] = [
@@ -135,39 +137,101 @@ const CALLS: [(&str, &str, MutexCall); 4] = [
     ("1023 begin unlock m", "1023 do unlock m", MutexCall::Unlock),
 ];
 
-const fn enters(access: Access, patience: Patience) -> RwLockCall {
-    RwLockCall::Enter { access, patience }
-}
-
 /// Calls of a reader-writer lock, by their names.
 const RWLOCK_CALLS: [(&str, RwLockCall); 18] = [
-    ("read", enters(Access::Shared, Patience::Patient)),
-    ("read_timed", enters(Access::Shared, Patience::Timed)),
-    ("try_read", enters(Access::Shared, Patience::Try)),
-    ("upgradable", enters(Access::Upgradable, Patience::Patient)),
     (
-        "upgradable_timed",
-        enters(Access::Upgradable, Patience::Timed),
+        "3 begin read m",
+        RwLockCall::Enter {
+            access: Access::Shared,
+            patience: Patience::Patient,
+        },
     ),
-    ("try_upgradable", enters(Access::Upgradable, Patience::Try)),
-    ("write", enters(Access::Exclusive, Patience::Patient)),
-    ("write_timed", enters(Access::Exclusive, Patience::Timed)),
-    ("try_write", enters(Access::Exclusive, Patience::Try)),
-    ("unlock_shared", RwLockCall::Release(Access::Shared)),
-    ("unlock_upgradable", RwLockCall::Release(Access::Upgradable)),
-    ("unlock_exclusive", RwLockCall::Release(Access::Exclusive)),
-    ("downgrade", RwLockCall::Downgrade(Downgrade::ToShared)),
     (
-        "downgrade_to_upgradable",
+        "3 begin read_timed m",
+        RwLockCall::Enter {
+            access: Access::Shared,
+            patience: Patience::Timed,
+        },
+    ),
+    (
+        "3 begin try_read m",
+        RwLockCall::Enter {
+            access: Access::Shared,
+            patience: Patience::Try,
+        },
+    ),
+    (
+        "3 begin upgradable m",
+        RwLockCall::Enter {
+            access: Access::Upgradable,
+            patience: Patience::Patient,
+        },
+    ),
+    (
+        "3 begin upgradable_timed m",
+        RwLockCall::Enter {
+            access: Access::Upgradable,
+            patience: Patience::Timed,
+        },
+    ),
+    (
+        "3 begin try_upgradable m",
+        RwLockCall::Enter {
+            access: Access::Upgradable,
+            patience: Patience::Try,
+        },
+    ),
+    (
+        "3 begin write m",
+        RwLockCall::Enter {
+            access: Access::Exclusive,
+            patience: Patience::Patient,
+        },
+    ),
+    (
+        "3 begin write_timed m",
+        RwLockCall::Enter {
+            access: Access::Exclusive,
+            patience: Patience::Timed,
+        },
+    ),
+    (
+        "3 begin try_write m",
+        RwLockCall::Enter {
+            access: Access::Exclusive,
+            patience: Patience::Try,
+        },
+    ),
+    (
+        "3 begin unlock_shared m",
+        RwLockCall::Release(Access::Shared),
+    ),
+    (
+        "3 begin unlock_upgradable m",
+        RwLockCall::Release(Access::Upgradable),
+    ),
+    (
+        "3 begin unlock_exclusive m",
+        RwLockCall::Release(Access::Exclusive),
+    ),
+    (
+        "3 begin downgrade m",
+        RwLockCall::Downgrade(Downgrade::ToShared),
+    ),
+    (
+        "3 begin downgrade_to_upgradable m",
         RwLockCall::Downgrade(Downgrade::ToUpgradable),
     ),
     (
-        "downgrade_upgradable",
+        "3 begin downgrade_upgradable m",
         RwLockCall::Downgrade(Downgrade::UpgradableToShared),
     ),
-    ("upgrade", RwLockCall::Upgrade(Patience::Patient)),
-    ("upgrade_timed", RwLockCall::Upgrade(Patience::Timed)),
-    ("try_upgrade", RwLockCall::Upgrade(Patience::Try)),
+    ("3 begin upgrade m", RwLockCall::Upgrade(Patience::Patient)),
+    (
+        "3 begin upgrade_timed m",
+        RwLockCall::Upgrade(Patience::Timed),
+    ),
+    ("3 begin try_upgrade m", RwLockCall::Upgrade(Patience::Try)),
 ];
 
 #[test]
@@ -216,39 +280,40 @@ fn each_form_has_its_meaning(rt: HostRuntime) {
 }
 
 #[test]
-fn reader_writer_lines_have_their_meaning(rt: HostRuntime) {
+fn limits_belong_to_reader_writer_locks(rt: HostRuntime) {
     let m = Name::from_word(b"m");
-    for (line, kind) in [
-        (
-            "lock m rwlock ",
-    "lock m rwlock x",
-    "lock m rwlock 01",
-    "lock m rwlock 1 1",
-    "lock m fair 1",
-    "lock m once",
-            Kind::RwLock {
-                limit: 1152921504606846974,
-            },
-        ),
-        ("lock m rwlock 0", Kind::RwLock { limit: 0 }),
-        ("lock m recursive 7", Kind::Recursive { limit: 7 }),
-    ] {
-        let lock = m.map(|name| Command::Lock { name, kind });
-        assert_eq!(rt; meaning(line.as_bytes()), lock, "for {line}");
-    }
-    for (word, call) in RWLOCK_CALLS {
-        let mut line = ArrayVec::<u8, LINE_LEN>::new();
-        assert!(rt; line.try_extend_from_slice(b"3 begin ").is_ok());
-        assert!(rt; line.try_extend_from_slice(word.as_bytes()).is_ok());
-        assert!(rt; line.try_extend_from_slice(b" m").is_ok());
+    assert!(rt; m.is_some());
+    let greatest = m.map(|name| Command::Lock {
+        name,
+        kind: Kind::RwLock {
+            limit: 1152921504606846974,
+        },
+    });
+    assert_eq!(rt; meaning(b"lock m rwlock"), greatest);
+    let limited = m.map(|name| Command::Lock {
+        name,
+        kind: Kind::RwLock { limit: 0 },
+    });
+    assert_eq!(rt; meaning(b"lock m rwlock 0"), limited);
+    let recursive = m.map(|name| Command::Lock {
+        name,
+        kind: Kind::Recursive { limit: 7 },
+    });
+    assert_eq!(rt; meaning(b"lock m recursive 7"), recursive);
+}
+
+#[test]
+fn reader_writer_calls_have_their_meaning(rt: HostRuntime) {
+    let m = Name::from_word(b"m");
+    assert!(rt; m.is_some());
+    for (line, call) in RWLOCK_CALLS {
+        let thread = 3;
+        let call = NamedCall::RwLock(call);
         let begun = m.map(|name| Command::Turn {
-            thread: 3,
-            turn: NamedTurn::Begin {
-                call: NamedCall::RwLock(call),
-                name,
-            },
+            thread,
+            turn: NamedTurn::Begin { call, name },
         });
-        assert_eq!(rt; meaning(line.as_slice()), begun, "for {word}");
+        assert_eq!(rt; meaning(line.as_bytes()), begun);
     }
 }
 
