@@ -1,5 +1,5 @@
 -- Each act of a mutex's call is one that the thread may take, and leads to a place that fits.
-use Rattle.std.proofs.Common.{ℕ, ◌≡◌, ◌<◌, ◌*◌, Bool, true, false, List, ◌∷◌, Option, Some, None, inl, inr, sym, refl, ap, ◌∙◌, subst, arith}
+use Rattle.std.proofs.Common.{ℕ, ◌≡◌, ◌<◌, ◌*◌, Bool, true, false, List, ◌∷◌, Option, Some, None, if◌then◌else◌, inl, inr, sym, refl, ap, ◌∙◌, subst, arith}
 use Rattle.lot_base.specs.declared.keys.Keys.{Keys}
 use Rattle.lot_base.specs.declared.keys.Keys.TheVariants.{One}
 use Rattle.lot_base.specs.declared.notes.Note.TheVariants.{Normal, HandOff}
@@ -8,7 +8,7 @@ use Rattle.lot_base.specs.declared.ops.Op.TheVariants.{Load, And, Exchange}
 use Rattle.lot_mutex.specs.MutexSteps.{mutex_act, mutex_looking, lock_act, unlock_act, decided}
 use Rattle.lot_calls.specs.declared.outcomes.Answer.{Answer}
 use Rattle.lot_calls.specs.declared.outcomes.OnceState.{OnceState}
-use Rattle.lot_steps.specs.Steps.{act_of, late_key, looking, in_mutex, next_act, next_place}
+use Rattle.lot_steps.specs.Steps.{act_of, late_key, in_mutex, next_act, next_place}
 use Rattle.lot_acts.specs.declared.acts.Act.{Act}
 use Rattle.lot_acts.specs.declared.acts.Act as act
 use Rattle.lot_acts.specs.declared.acts.Reply.{Reply}

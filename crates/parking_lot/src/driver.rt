@@ -207,15 +207,7 @@ pub(crate) fn run<R: Wait, C: Clock>(
             end(section);
             return Stop::Paused { place, state };
         }
-        let reply = turn(
-            rt,
-            lot,
-            token,
-            words,
-            limit,
-            &mut section,
-            place,
-        );
+        let reply = turn(rt, lot, token, words, limit, &mut section, place);
         let (next, act) = advance(place, reply);
         if let Some(answer) = answer_of(act) {
             end(section);

@@ -34,7 +34,7 @@ loop-preserved g c = let p = c.loop.place in let t = c.turn-reply in let reply =
     let words_then = subst (λ (q : Place). AreWordsFor q (kind_in c.args.words) (at_in c.args.words)) (sym next) (words_on p reply (kind_in c.args.words) (at_in c.args.words) before.words) in
     let goes_from : (base : List Ownership) → Fits (IsUp g.C.Clock.tells c.args.limit) base c.args.start (stage_of c.args.token.now None) → Fits (IsUp g.C.Clock.tells c.args.limit) base c.go_from-place.result (stage_of c.turn-reply.new.token c.turn-reply.new.section) × (aim_of c.go_from-place.result ≡ aim_of c.advance-next.result.0)
     = λ (base : List Ownership) fits. fits_from (IsUp g.C.Clock.tells c.args.limit) (kind_in c.args.words) (at_in c.args.words) base c.advance-next.result.0 c.go_from-place.result (stage_of new t.new.section) from words_then
-        (subst (λ (q : Place). Fits (IsUp g.C.Clock.tells c.args.limit) base q (stage_of c.turn-reply.new.token c.turn-reply.new.section)) (sym next) (reached base fits).0) in record {
+    (subst (λ (q : Place). Fits (IsUp g.C.Clock.tells c.args.limit) base q (stage_of c.turn-reply.new.token c.turn-reply.new.section)) (sym next) (reached base fits).0) in record {
       turns = (tt, tt);
       own = ((t.ensures.own.0.0, t.ensures.own.0.1 ∙ before.own.0.1), t.ensures.own.1);
       path = comes_from (at_in c.args.words) c.args.start c.advance-next.result.0 c.go_from-place.result (view_of c.args.token.now).steps (view_of new).steps (comes_on (at_in c.args.words) c.args.start p c.advance-next.result.0 (view_of c.args.token.now).steps (view_of c.loop.token).steps (view_of new).steps reply t.ensures.told.0 before.path t.ensures.told.1 t.ensures.told.2 next) from;

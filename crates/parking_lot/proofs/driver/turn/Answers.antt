@@ -1,19 +1,15 @@
-use Rattle.std.proofs.Common.{◌∙◌, ◌++◌, List, sym, refl, ap, subst}
+use Rattle.std.proofs.Common.{List, sym, refl, subst}
 use Rattle.lot_base.specs.Clocks.{IsUp}
-use Rattle.lot_base.specs.declared.ops.Op.TheVariants.{Load}
 use Rattle.lot_steps.specs.Steps.{act_of}
 use Rattle.lot_acts.specs.declared.acts.Act.{Act}
-use Rattle.lot_words.specs.Indices.{word_index}
 use Rattle.lot_words.specs.declared.owners.Ownership.{Ownership}
-use Rattle.lot_words.specs.declared.views.View.{View}
-use Rattle.lot_words.specs.declared.words.Word.{Word}
 use Rattle.parking_lot_core.specs.Tokens.{view_of}
 use Rattle.parking_lot.specs.Fitting.{sleeper_at}
-use Rattle.parking_lot.specs.Stages.{Needs, Became, Stepped, Adds, stage_of}
+use Rattle.parking_lot.specs.Stages.{Needs, Became, Adds, stage_of}
 use Rattle.parking_lot.specs.Words.{kind_in, at_in}
 use Rattle.parking_lot.specs.declared.acting.Sleeper.{Sleeper}
 use Rattle.parking_lot.proofs.Leading.{places_lead}
-use Rattle.parking_lot.proofs.Turning.{told, by_stage}
+use Rattle.parking_lot.proofs.Turning.{told}
 use Rattle.parking_lot.proofs.driver.turn.Goals as goal
 
 pub perform-requires-clause-needs : goal.perform-requires-clause-needs
