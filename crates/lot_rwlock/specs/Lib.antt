@@ -3,3 +3,4 @@ pub mod RwLockDeeds
 pub mod RwLockProfiles
 pub mod RwLockCalls
 pub mod RwLockBegins
+pub mod RwLockMoves

@@ -1,5 +1,5 @@
 -- The steps of a reader-writer lock: what a thread does at each place, and where each reply leads it.
-use Rattle.std.specs.Prelude.{ℕ, Bool, true, false, Option, Some, None, if◌then◌else◌, ◌==◌, ◌&&◌, ◌||◌, not, ◌+◌, ◌-◌, ◌*◌, nat_le}
+use Rattle.std.specs.Prelude.{ℕ, Bool, true, false, Option, Some, None, if◌then◌else◌, ◌==◌, ◌&&◌, not, ◌+◌, ◌-◌, ◌*◌, nat_le}
 use Rattle.lot_base.specs.declared.keys.Keys.TheVariants.{One}
 use Rattle.lot_base.specs.declared.keys.Line.{Line}
 use Rattle.lot_base.specs.declared.keys.Line.TheVariants.{Main, Second}
@@ -12,7 +12,6 @@ use Rattle.lot_base.specs.Keys.{key_of}
 use Rattle.lot_base.specs.Words.{apply}
 use Rattle.lot_calls.specs.declared.calls.Access.{Access}
 use Rattle.lot_calls.specs.declared.calls.Access as access
-use Rattle.lot_calls.specs.declared.calls.Downgrade.{Downgrade}
 use Rattle.lot_calls.specs.declared.calls.Downgrade.TheVariants as downgrade
 use Rattle.lot_calls.specs.declared.calls.Patience.{Patience}
 use Rattle.lot_calls.specs.declared.calls.Patience.TheVariants.{Patient, Try}
@@ -20,7 +19,7 @@ use Rattle.lot_calls.specs.declared.outcomes.Answer.{Answer}
 use Rattle.lot_calls.specs.declared.outcomes.Answer as answer
 pub use Rattle.abstract_locks.specs.Purposes.{wanted, from_of, to_of}
 use Rattle.abstract_locks.specs.Codes.{count_in, has_aside, has_parked, is_blocked}
-use Rattle.lot_acts.specs.Acts.{wakes_taken}
+use Rattle.lot_acts.specs.Acts.{wakes_taken, any_picked}
 use Rattle.lot_acts.specs.declared.acts.Act.{Act}
 use Rattle.lot_acts.specs.declared.acts.Act as act
 use Rattle.lot_acts.specs.declared.acts.Check.{Check}
@@ -28,7 +27,7 @@ use Rattle.lot_acts.specs.declared.acts.Check as check
 use Rattle.lot_acts.specs.declared.acts.Next.{Next}
 use Rattle.lot_acts.specs.declared.acts.Next.TheVariants.{At, End}
 use Rattle.lot_acts.specs.declared.acts.Reply.{Reply}
-use Rattle.lot_acts.specs.declared.acts.Reply.TheVariants.{Done, Value, Spun, Parked, Took, Picked, Removed, TakenBy, Late, Woken}
+use Rattle.lot_acts.specs.declared.acts.Reply.TheVariants.{Done, Value, Parked, Took, Picked, Removed, TakenBy, Late, Woken}
 use Rattle.lot_acts.specs.declared.acts.Wakes as wake_notes
 use Rattle.lot_acts.specs.declared.acts.Whom.{Whom}
 use Rattle.lot_acts.specs.declared.acts.Whom as whom_taken
@@ -261,7 +260,6 @@ exchanged_next a p expected seen decision = looked a p seen
 
 abbrev pub decided_next : Admission → RwLockPlace → ℕ → Reply → Next RwLockPlace
 decided_next a p expected (Value seen) = exchanged_next a p expected seen (decided a p expected)
-decided_next a p expected (Spun seen) = looked a p seen
 decided_next a p expected Done = stays p (at.Park parking.Check)
 decided_next a p expected reply = stays p (at.Decide expected)
 
@@ -273,7 +271,6 @@ counted p seen =
 abbrev pub count_next : RwLockPlace → ℕ → Reply → Next RwLockPlace
 count_next p expected (Value seen) =
     if seen == expected then stays p (at.Count (plus expected 2)) else counted p seen
-count_next p expected (Spun seen) = counted p seen
 count_next p expected Done = stays p (at.Aside parking.Check)
 count_next p expected reply = stays p (at.Count expected)
 
@@ -337,13 +334,6 @@ park_next p m to reply = stays p (parks_at m to)
 
 abbrev pub took : Line → Bool → Bool → WakeAt
 took m any none_left = if clears m none_left then waking.Clear any else waking.Leave any
-
-abbrev pub is_there : Option Want → Bool
-is_there None = false
-is_there (Some x) = true
-
-abbrev pub any_picked : ℕ → Option Want → Bool
-any_picked sharers successor = not (sharers == 0) || is_there successor
 
 abbrev pub wake_next : RwLockPlace → Line → WakeAt → Reply → Next RwLockPlace
 wake_next p m waking.Enter Done = stays p (at.Wake m waking.Take)

@@ -115,7 +115,7 @@ NotYet = ⊥
 abbrev pub CallsMutex : State → Place → Type 0
 CallsMutex w Idle = Unit {0}
 CallsMutex w (OfMutex l at) = is_mutex (kind_at w l) ≡ true
-CallsMutex w (OfRwLock l a at) = Admits (rules_at w l) a × MayStand at × NotYet
+CallsMutex w (OfRwLock l a at) = Admits (rules_at w l) a × MayStand a at × NotYet
 
 pub record Stands (w : State) : Type 0 where
   pub sections : Sections (place_at w) (section_at w)
