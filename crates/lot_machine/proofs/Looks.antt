@@ -1,5 +1,5 @@
 -- From where a thread looks at the word once more: in the same call, with the same row, and about to load.
-use Rattle.std.proofs.Common.{ℕ, Bool, true, false, Some, None, if◌then◌else◌, ◌≡◌, refl, sym, subst}
+use Rattle.std.proofs.Common.{ℕ, Bool, true, false, Option, Some, None, if◌then◌else◌, ◌≡◌, refl, sym, subst}
 use Rattle.lot_base.specs.declared.ops.Op.TheVariants.{Load}
 use Rattle.lot_acts.specs.declared.acts.Act.TheVariants.{Word}
 use Rattle.lot_mutex.specs.declared.lock.Entry.{Entry}
@@ -30,21 +30,6 @@ pub record IsLook (p q : Place) : Type 0 where
 some_is : (p q : Place) → Some p ≡ Some q → p ≡ q
 some_is p q e = cc
 
-pub look : (p q : Place) → looking p ≡ Some q → IsLook p q
-look Idle q is = absurd cc
-look (RwLock l a at) q is = rwlock_look l a at q is
-look (Mutex l at) q is = mutex_look at is
-  where
-    by_mark : (b : Bool) (at at2 : MutexPlace) → IsLook (Mutex l at) (Mutex l at2) → in_mutex l (if b then Some at2 else None) ≡ Some q → IsLook (Mutex l at) q
-    by_mark true at at2 h is = subst (IsLook (Mutex l at)) (some_is (Mutex l at2) q is) h
-    by_mark false at at2 h is = absurd cc
-
-    mutex_look : (at : MutexPlace) → in_mutex l (mutex_looking at) ≡ Some q → IsLook (Mutex l at) q
-    mutex_look (Lock e again (lock.Decide seen)) is =
-        by_mark _ (Lock e again (lock.Decide seen)) (Lock e again lock.Load) (record { lock = l; before = refl; now = refl; loads = refl; row = refl; fits = λ locks h. (h.0, tt) }) is
-    mutex_look (Lock e again to) is = absurd cc
-    mutex_look at is = absurd cc
-
 -- a look of a reader-writer call
 rwlock_look : (l : ℕ) (a : Admission) (p : RwLockPlace) (q : Place) → in_rwlock l a (rwlock_looking a p) ≡ Some q → IsLook (RwLock l a p) q
 rwlock_look l a p q is = by_place (rwlock_looking a p) refl is
@@ -62,6 +47,21 @@ rwlock_look l a p q is = by_place (rwlock_looking a p) refl is
     by_place None e is = absurd cc
     by_place (Some p2) e is = subst (IsLook (RwLock l a p)) (some_is (RwLock l a p2) q is)
         (record { lock = l; before = refl; now = refl; loads = loads p.at p2 e; row = (rwlock_looks_stand a p p2 e).0; fits = λ locks h. h })
+
+pub look : (p q : Place) → looking p ≡ Some q → IsLook p q
+look Idle q is = absurd cc
+look (RwLock l a at) q is = rwlock_look l a at q is
+look (Mutex l at) q is = mutex_look at is
+  where
+    by_mark : (b : Bool) (at at2 : MutexPlace) → IsLook (Mutex l at) (Mutex l at2) → in_mutex l (if b then Some at2 else None) ≡ Some q → IsLook (Mutex l at) q
+    by_mark true at at2 h is = subst (IsLook (Mutex l at)) (some_is (Mutex l at2) q is) h
+    by_mark false at at2 h is = absurd cc
+
+    mutex_look : (at : MutexPlace) → in_mutex l (mutex_looking at) ≡ Some q → IsLook (Mutex l at) q
+    mutex_look (Lock e again (lock.Decide seen)) is =
+        by_mark _ (Lock e again (lock.Decide seen)) (Lock e again lock.Load) (record { lock = l; before = refl; now = refl; loads = refl; row = refl; fits = λ locks h. (h.0, tt) }) is
+    mutex_look (Lock e again to) is = absurd cc
+    mutex_look at is = absurd cc
 
 -- who looks at a mutex's word enters it
 pub mutex_looks : (l : ℕ) (at : MutexPlace) (q : Place) → looking (Mutex l at) ≡ Some q → (e : Entry) × (again : Bool) × (q ≡ Mutex l (Lock e again lock.Load))
