@@ -4,3 +4,4 @@ pub mod RwLockProfiles
 pub mod RwLockCalls
 pub mod RwLockBegins
 pub mod RwLockMoves
+pub mod RwLockOpenings

@@ -12,5 +12,6 @@ pub mod purposes;
 pub mod release;
 
 pub use begin::rwlock_right;
+pub use changes::Change;
 pub use places::{Admission, RwLockAt, RwLockPlace};
 pub use purposes::RwLockPurpose;
