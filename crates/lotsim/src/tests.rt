@@ -1,12 +1,14 @@
 //! Inputs through `start`: what they answer, and what a broken device leaves.
 mod devices;
 mod rows;
+mod rwlock_rows;
 
 use crate::start::start;
 use devices::{Pieces, Short};
 use lot_base::ListQueues;
 use lot_world::{Answer, Call, Kind, MutexCall, Outcome, Step, Turn, World};
 use rows::{MALFORMED, ROWS, TWO_TRIES};
+use rwlock_rows::RWLOCK_ROWS;
 use std::alloc::{AllocError, Global};
 use std::io::BufRead;
 use std::test::Fail;
@@ -29,6 +31,15 @@ fn answers_inputs(rt: HostRuntime) {
         let (text, ended) = replayed(rt.alloc(), input);
         assert_eq!(rt; text.as_slice(), want);
         assert_eq!(rt; ended, status);
+    }
+}
+
+#[test]
+fn answers_inputs_of_reader_writer_locks(rt: HostRuntime) {
+    for (input, want) in RWLOCK_ROWS {
+        let (text, ended) = replayed(rt.alloc(), input);
+        assert_eq!(rt; text.as_slice(), want);
+        assert_eq!(rt; ended, 0);
     }
 }
 

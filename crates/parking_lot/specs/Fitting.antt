@@ -7,7 +7,7 @@ use Rattle.lot_acts.specs.declared.acts.Act.{Act}
 use Rattle.lot_acts.specs.declared.acts.Act as act
 use Rattle.lot_acts.specs.declared.acts.Reply.{Reply}
 use Rattle.lot_steps.specs.declared.places.Place.{Place}
-use Rattle.lot_steps.specs.declared.places.Place.TheVariants.{Idle, Mutex}
+use Rattle.lot_steps.specs.declared.places.Place.TheVariants.{Idle, Mutex, RwLock}
 use Rattle.lot_words.specs.declared.owners.Ownership.{Ownership}
 use Rattle.lot_words.specs.declared.words.WordKind.{WordKind}
 use Rattle.parking_lot.specs.MutexFitting.{Purpose, purpose_at, FitsMutex, IsMutexOver}
@@ -29,16 +29,20 @@ pub data Aim : Type 0 where
 abbrev pub aim_of : Place → Aim
 aim_of Idle = nothing
 aim_of (Mutex l at) = of_mutex l (purpose_at at)
+aim_of (RwLock l a at) = nothing
 
 -- for what a thread sleeps in a call, and the keys under which it may be late. Nobody is moved from the queue of a mutex
 abbrev pub sleeper_at : Place → Sleeper
 sleeper_at Idle = record { lock = 0; want = Exclusive; late = None; moved = None }
 sleeper_at (Mutex l at) = record { lock = l; want = Exclusive; late = late_key (Mutex l at); moved = None }
+sleeper_at (RwLock l a at) =
+    record { lock = l; want = option_or (rwlock_wants at) Exclusive; late = late_key (RwLock l a at); moved = None }
 
--- the keys of the call's lock are numbers, and its words are of the kinds that the call steps on
+-- the keys of the call's lock are numbers, and its words are of the kinds that the call steps on; no words serve a reader-writer call
 abbrev pub AreWordsFor : Place → (ℕ → WordKind) → (ℕ → ℕ) → Type 0
 AreWordsFor Idle kinds at = Unit {0}
 AreWordsFor (Mutex l place) kinds at = HasKeys (Mutex l place) × (kinds ≡ mutexes) × (at ≡ at_mutex l)
+AreWordsFor (RwLock l a place) kinds at = ⊥
 
 -- and behind its closure they are so still
 abbrev pub AreWordsAfter : Stop → (ℕ → WordKind) → (ℕ → ℕ) → Type 0
@@ -47,10 +51,11 @@ AreWordsAfter (Paused place state) kinds at = AreWordsFor place kinds at
 
 -- `up` says that the time of the call is up
 module _ (up : Type 0) where
-  -- what a thread has at a place, which owned so much as it began to run
+  -- what a thread has at a place, which owned so much as it began to run; no call of a reader-writer lock is run by threads
   abbrev pub Fits : List Ownership → Place → Stage → Type 0
   Fits base Idle st = ⊥
   Fits base (Mutex l at) st = FitsMutex up l base at st
+  Fits base (RwLock l a at) st = ⊥
 
   -- what an answer says at the end of a call
   abbrev pub IsOver : List Ownership → Aim → Answer → Stage → Type 0

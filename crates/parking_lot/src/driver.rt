@@ -133,13 +133,14 @@ fn sleeper(place: Place) -> Sleeper
     requires { HasKeys place }
     ensures { result ≡ sleeper_at place }
 {
-    let lock = match place {
-        Place::Idle => 0,
-        Place::Mutex { lock, .. } => lock,
+    let (lock, want) = match place {
+        Place::Idle => (0, Want::Exclusive),
+        Place::Mutex { lock, .. } => (lock, Want::Exclusive),
+        Place::RwLock { lock, at, .. } => (lock, at.wants().unwrap_or(Want::Exclusive)),
     };
     Sleeper {
         lock,
-        want: Want::Exclusive,
+        want,
         late: place.late_key(),
         moved: None,
     }

@@ -434,13 +434,19 @@ show",
 ];
 
 /// Inputs that end at a malformed line, with the text that they lead to.
-pub const MALFORMED: [(&str, &str); 22] = [
+pub const MALFORMED: [(&str, &str); 25] = [
     // The form of a line.
     ("\n", "line 1 malformed\n"),
     ("threads 1\n\nlock m mutex\n", "line 2 malformed\n"),
     ("threads 1\r\n", "line 1 malformed\n"),
     ("threads 1\nlock \u{e9} mutex\n", "line 2 malformed\n"),
-    ("threads 1\nlock m rwlock\n", "line 2 malformed\n"),
+    ("threads 1\nlock m once\n", "line 2 malformed\n"),
+    ("threads 2\nlock m rwlock 1\n", "line 2 malformed\n"),
+    ("threads 1\nlock m fair 1\n", "line 2 malformed\n"),
+    (
+        "threads 1\nlock m rwlock 1152921504606846975\n",
+        "line 2 malformed\n",
+    ),
     ("threads 1\n12345678901234567890 go\n", "line 2 malformed\n"),
     ("threads 1\nlock m mutex\n0 lately\n", "line 3 malformed\n"),
     ("threads 1\nlock m mutex\nshow m\n", "line 3 malformed\n"),
@@ -474,7 +480,7 @@ pub const MALFORMED: [(&str, &str); 22] = [
         "line 3 malformed\n",
     ),
     (
-        "threads 1\nlock m mutex\n0 begin read m\n",
+        "threads 1\nlock m mutex\n0 begin bump_shared m\n",
         "line 3 malformed\n",
     ),
     // A line before.
