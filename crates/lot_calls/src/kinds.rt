@@ -38,7 +38,14 @@ impl Kind {
     pub fn has_call(self, call: Call) -> bool
         ensures { result ≡ has_call self call }
     {
-        matches!((self, call), (Kind::Mutex | Kind::Fair, Call::Mutex { .. }))
+        matches!(
+            (self, call),
+            (Kind::Mutex | Kind::Fair, Call::Mutex { .. })
+                | (
+                    Kind::RwLock { .. } | Kind::Recursive { .. },
+                    Call::RwLock { .. },
+                )
+        )
     }
 
     /// Whether it is a mutex whose `unlock` hands the lock over.

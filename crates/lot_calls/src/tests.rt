@@ -37,3 +37,25 @@ fn both_mutexes_have_the_calls_of_a_mutex(rt: HostRuntime) {
         assert!(rt; !Kind::Once.has_call(call));
     }
 }
+
+#[test]
+fn both_reader_writer_locks_have_their_calls(rt: HostRuntime) {
+    for name in [
+        RwLockCall::Enter {
+            access: Access::Shared,
+            patience: Patience::Try,
+        },
+        RwLockCall::Release(Access::Upgradable),
+        RwLockCall::Downgrade(Downgrade::ToShared),
+        RwLockCall::Upgrade(Patience::Timed),
+    ] {
+        let call = Call::RwLock {
+            lock: 3,
+            call: name,
+        };
+        assert_eq!(rt; call.lock(), 3);
+        assert!(rt; Kind::RwLock { limit: 1 }.has_call(call));
+        assert!(rt; Kind::Recursive { limit: 1 }.has_call(call));
+        assert!(rt; !Kind::Mutex.has_call(call) && !Kind::Condvar.has_call(call));
+    }
+}
