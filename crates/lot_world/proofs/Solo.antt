@@ -47,7 +47,7 @@ use Rattle.lot_world.specs.Stations.{station, station_at, Station, hand}
 use Rattle.lot_world.specs.SitesOf.{IsSteady, key_of, CallsMutex, is_mutex, Goes, hand_at}
 use Rattle.lot_world.proofs.ExclusiveOwners.{by_code, owner_after}
 use Rattle.abstract_locks.specs.Locks.{readers, Rules, MayEnter, IsBlocked, first_thread}
-use Rattle.abstract_locks.specs.Purposes.{rules_of, purpose_of, Releases, Bumps, Patience, Patient, Timed, Try, mutex_purpose}
+use Rattle.abstract_locks.specs.Purposes.{rules_of, purpose_of, rwlock_purpose, Releases, Bumps, Patience, Patient, Timed, Try, mutex_purpose}
 use Rattle.abstract_locks.specs.Runs.{IsFull, rules_at, purpose_at}
 use Rattle.abstract_locks.specs.Picks.{queued_of}
 use Rattle.lot_world.specs.Refinement.{lock_state, locks_of, owner_at, taken_at}
@@ -67,7 +67,13 @@ use Rattle.lot_world.proofs.SitesKept.{go_by, mutex_unshared, unshared_at, singl
 use Rattle.lot_acts.specs.declared.owners.Owners.{Owners}
 use Rattle.lot_acts.specs.Owners.{with_exclusive}
 use Rattle.lot_world.proofs.GoneKept.{gone_goes}
+use Rattle.lot_calls.specs.declared.calls.RwLockCall.{RwLockCall}
+use Rattle.lot_rwlock.specs.declared.places.Admission.{Admission}
+use Rattle.lot_rwlock.specs.declared.places.RwLockPlace.{RwLockPlace}
+use Rattle.lot_world.proofs.LineSolo.{StepsAlone}
 use Rattle.lot_world.proofs.RwLockSolo.{rwlock_rests, word_small, is_ready}
+use Rattle.lot_world.proofs.RwLockEnds.{rwlock_alone}
+use Rattle.lot_world.proofs.WorldRuns.{holds_of, solo_runs}
 use Rattle.lot_rwlock.specs.RwLockBegins.{admission_of, rwlock_first}
 use Rattle.lot_world.proofs.AtPlaces.{coded as words_coded, coded_for, absent, owns}
 use Rattle.lot_world.proofs.SoloActs.{Leads, leads_rest, leads_step, leads_more, leads_so, Facing, Faces, word_faces, enter_faces, leave_faces, wake_faces, hand_faces, accept_faces, park_faces, unparked_faces, remove_faces, take_faces, act_led}
@@ -401,6 +407,26 @@ module _ (w : State) (t : ℕ) (shape : IsShaped w) (steady : IsSteady w) (there
   at_first : (l : ℕ) (p : Place) → place_at w t ≡ p → lock_of p ≡ Some l → (station p).inside ≡ None → l < length w.locks → Facing w t l p (word_at w l) (owner_at w l) None (queue_at w (2 * l))
   at_first l p is own outside lt = subst (λ s. Facing w t l p (word_at w l) (owner_at w l) s (queue_at w (2 * l))) (free l p is own outside (section_at w (2 * l)) refl) (facing l p is lt)
 
+  -- at a place of a reader-writer lock
+  admitted : (l : ℕ) (a : Admission) (p : RwLockPlace) → place_at w t ≡ RwLock l a p → CallsMutex w (RwLock l a p)
+  admitted l a p is = subst (CallsMutex w) is (steady.stands.calls t)
+
+  steps_alone : (l : ℕ) (a : Admission) (p : RwLockPlace) → place_at w t ≡ RwLock l a p → l < length w.locks → StepsAlone w t l (RwLock l a p) (word_at w l) (λ m. queue_at w (key_of l m))
+  steps_alone l a p is lt = record {
+    shape = shape;
+    steady = steady;
+    thread = there;
+    lock = lt;
+    place = is;
+    word = refl;
+    queue = λ m. refl;
+    way = λ m u e. way l u m (ap lock_of is) (line m) e;
+  }
+    where
+      line : (m : Line) → HasLine (rules_of (kind_at w l)).sort m
+      line Main = tt
+      line Second = (admitted l a p is).0.0
+
   place_rests : (p : Place) → place_at w t ≡ p → PlaceFits (length w.locks) p → p ≢ Idle → act_of p ≢ act.TheVariants.Sleep → Leads 12 w t (λ v x. Rests x)
   place_rests Idle is fits busy up = absurd (busy refl)
   place_rests (Mutex l (Lock entry retries a)) is fits busy up = leads_more 8 12 w t (λ v x. Rests x) (omega arith) (lock_rests t l entry retries a (word_at w l) (owner_at w l) (section_at w (2 * l)) (queue_at w (2 * l)) w (facing l (Mutex l (Lock entry retries a)) is fits.0) (λ outside. free l (Mutex l (Lock entry retries a)) is refl outside (section_at w (2 * l)) refl) up)
@@ -411,23 +437,7 @@ module _ (w : State) (t : ℕ) (shape : IsShaped w) (steady : IsSteady w) (there
   place_rests (Mutex l UnlockFair) is fits busy up = fair_rests t l 11 false (first_of (queue_at w (2 * l))) (drop 1 (queue_at w (2 * l))) w (omega arith) (unlock_fair_leads t l (queue_at w (2 * l)) (word_at w l) (owner_at w l) w (at_first l (Mutex l UnlockFair) is refl refl fits.0))
   place_rests (Mutex l Bump) is fits busy up = fair_rests t l 11 true (first_of (queue_at w (2 * l))) (drop 1 (queue_at w (2 * l))) w (omega arith) (bump_leads t l (queue_at w (2 * l)) (word_at w l) (owner_at w l) w (at_first l (Mutex l Bump) is refl refl fits.0))
   place_rests (Mutex l (HandOff bumps a)) is fits busy up = hand_off_rests t l bumps a (word_at w l) (owner_at w l) (section_at w (2 * l)) (queue_at w (2 * l)) w (facing l (Mutex l (HandOff bumps a)) is fits.0) (λ outside. free l (Mutex l (HandOff bumps a)) is refl outside (section_at w (2 * l)) refl)
-  place_rests (RwLock l a p) is fits busy up = leads_more 11 12 w t (λ v x. Rests x) (omega arith) (rwlock_rests t l a p (word_at w l) w (λ m. queue_at w (key_of l m)) (word_small w l steady admits.0.0) (is_ready t l a p admits.1 up) (record {
-    shape = shape;
-    steady = steady;
-    thread = there;
-    lock = fits;
-    place = is;
-    word = refl;
-    queue = λ m. refl;
-    way = λ m u e. way l u m (ap lock_of is) (line m) e;
-  }))
-    where
-      admits : CallsMutex w (RwLock l a p)
-      admits = subst (CallsMutex w) is (steady.stands.calls t)
-
-      line : (m : Line) → HasLine (rules_of (kind_at w l)).sort m
-      line Main = tt
-      line Second = admits.0.0
+  place_rests (RwLock l a p) is fits busy up = leads_more 11 12 w t (λ v x. Rests x) (omega arith) (rwlock_rests t l a p (word_at w l) w (λ m. queue_at w (key_of l m)) (word_small w l steady (admitted l a p is).0.0) (is_ready t l a p (admitted l a p is).1 up) (steps_alone l a p is fits))
 
   -- a call under way ends or sleeps
   pub solo_rests : IsUnderWay w t → (n : ℕ) (last : Outcome) → 12 ≤ n → Rests (solo n w t last).outcome
@@ -512,9 +522,9 @@ module _ (w : State) (t : ℕ) (shape : IsShaped w) (steady : IsSteady w) (there
       (bump_leads t l (queue_at w (2 * l)) (word_at w l) (owner_at w l) w (at_first l _ is refl refl lt) n last (omega arith))
 
   -- a call that begins, stepped alone
-  pub solo_ends : (c : Call) → place_at w t ≡ first_place (kind_at w (lock_in c)) c → (n : ℕ) (last : Outcome) → 12 ≤ n
-      → EndsAlone w t (purpose_at (locks_of w) c) (solo n w t last).outcome (solo n w t last).state
-  solo_ends (call.TheVariants.Mutex l c) is n last le = subst (λ o. EndsAlone w t o (solo n w t last).outcome (solo n w t last).state) (sym (purpose_is (kind_at w l) l c calls))
+  pub mutex_ends : (l : ℕ) (c : MutexCall) → place_at w t ≡ Mutex l (mutex_first (is_fair (kind_at w l)) c) → (n : ℕ) (last : Outcome) → 12 ≤ n
+      → EndsAlone w t (purpose_at (locks_of w) (call.TheVariants.Mutex l c)) (solo n w t last).outcome (solo n w t last).state
+  mutex_ends l c is n last le = subst (λ o. EndsAlone w t o (solo n w t last).outcome (solo n w t last).state) (sym (purpose_is (kind_at w l) l c calls))
       (call_alone l (is_fair (kind_at w l)) c is fits.0 calls n last le)
     where
       calls : CallsMutex w (Mutex l (mutex_first (is_fair (kind_at w l)) c))
@@ -522,12 +532,22 @@ module _ (w : State) (t : ℕ) (shape : IsShaped w) (steady : IsSteady w) (there
 
       fits : PlaceFits (length w.locks) (Mutex l (mutex_first (is_fair (kind_at w l)) c))
       fits = subst (PlaceFits (length w.locks)) is (shape.places t)
-  solo_ends (call.TheVariants.RwLock l c) is n last le = none_yet (kind_at w l)
+  pub rwlock_ends : (l : ℕ) (c : RwLockCall) → place_at w t ≡ RwLock l (admission_of (kind_at w l)) (rwlock_first c)
+      → EndsAlone w t (purpose_at (locks_of w) (call.TheVariants.RwLock l c)) (solo 64 w t outcome.TheVariants.NotNow).outcome (solo 64 w t outcome.TheVariants.NotNow).state
+  rwlock_ends l c is = by_kind (kind_at w l)
     where
-      none_yet : (k : Kind) → EndsAlone w t (purpose_of k (call.TheVariants.RwLock l c)) (solo n w t last).outcome (solo n w t last).state
-      none_yet kinds.Mutex = tt
-      none_yet kinds.Fair = tt
-      none_yet k = tt
+      fits : l < length w.locks
+      fits = subst (PlaceFits (length w.locks)) is (shape.places t)
+
+      ends : EndsAlone w t (Some (rwlock_purpose l c)) (solo 64 w t outcome.TheVariants.NotNow).outcome (solo 64 w t outcome.TheVariants.NotNow).state
+      ends = rwlock_alone w t l (admission_of (kind_at w l)) c 64 outcome.TheVariants.NotNow (omega arith) steady (admitted l (admission_of (kind_at w l)) (rwlock_first c) is).0 is (steps_alone l (admission_of (kind_at w l)) (rwlock_first c) is fits) (solo_runs w t (holds_of w shape steady))
+
+      by_kind : (k : Kind) → EndsAlone w t (purpose_of k (call.TheVariants.RwLock l c)) (solo 64 w t outcome.TheVariants.NotNow).outcome (solo 64 w t outcome.TheVariants.NotNow).state
+      by_kind kinds.Mutex = tt
+      by_kind kinds.Fair = tt
+      by_kind (kinds.RwLock limit) = ends
+      by_kind (kinds.Recursive limit) = ends
+      by_kind k = tt
 
 -- ---------------------------------------------------------------- as the world is told them
 
@@ -546,4 +566,5 @@ module _ (w : State) (t : ℕ) (shape : IsShaped w) (steady : IsSteady w) where
 
   pub ends_alone : (c : Call) → place_at w t ≡ first_place (kind_at w (lock_in c)) c → HasItsWay w t
       → EndsAlone w t (purpose_at (locks_of w) c) (solo 64 w t outcome.TheVariants.NotNow).outcome (solo 64 w t outcome.TheVariants.NotNow).state
-  ends_alone c is way = solo_ends w t shape steady (stands_there w.places t (first_busy (kind_at w (lock_in c)) c (place_at w t) is)) way c is 64 outcome.TheVariants.NotNow (omega arith)
+  ends_alone (call.TheVariants.Mutex l c) is way = mutex_ends w t shape steady (stands_there w.places t (first_busy (kind_at w l) (call.TheVariants.Mutex l c) (place_at w t) is)) way l c is 64 outcome.TheVariants.NotNow (omega arith)
+  ends_alone (call.TheVariants.RwLock l c) is way = rwlock_ends w t shape steady (stands_there w.places t (first_busy (kind_at w l) (call.TheVariants.RwLock l c) (place_at w t) is)) way l c is
