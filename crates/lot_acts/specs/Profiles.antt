@@ -35,8 +35,6 @@ pub record Profile : Type 0 where
   -- it is shown to owe a wake, and to try again
   pub owes : Bool
   pub retries : Bool
-  -- it may load the word again in place of its act
-  pub spins : Bool
   -- its call has a deadline, and it sleeps, so that it may give up
   pub timed : Bool
   pub may_be_late : Bool
@@ -59,7 +57,6 @@ blank = record {
   wants = None;
   owes = false;
   retries = false;
-  spins = false;
   timed = false;
   may_be_late = false;
   late = false;

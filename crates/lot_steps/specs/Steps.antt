@@ -13,7 +13,7 @@ use Rattle.lot_acts.specs.declared.acts.Next.{Next}
 use Rattle.lot_acts.specs.declared.acts.Next.TheVariants.{At, End}
 use Rattle.lot_acts.specs.declared.owners.Owners.{Owners}
 use Rattle.lot_calls.specs.Kinds.{is_fair}
-use Rattle.lot_mutex.specs.MutexSteps.{mutex_first, mutex_right, mutex_act, mutex_next, mutex_owners}
+use Rattle.lot_mutex.specs.MutexSteps.{mutex_first, mutex_right, mutex_act, mutex_next, mutex_owners, mutex_looking}
 use Rattle.lot_base.specs.declared.keys.Line.{Line}
 use Rattle.lot_base.specs.Keys.{key_of}
 use Rattle.lot_base.specs.declared.wants.Want.{Want}
@@ -22,8 +22,8 @@ use Rattle.lot_rwlock.specs.declared.places.Admission.{Admission}
 use Rattle.lot_rwlock.specs.declared.places.RwLockPlace.{RwLockPlace}
 use Rattle.lot_rwlock.specs.RwLockBegins.{admission_of, rwlock_first, rwlock_right}
 use Rattle.lot_rwlock.specs.RwLockSteps.{rwlock_act, rwlock_next, rwlock_owners, rwlock_shares}
-use Rattle.lot_rwlock.specs.RwLockProfiles.{rwlock_profile, rwlock_taker, rwlock_wants, rwlock_can_spin, rwlock_late_line, rwlock_owes}
-use Rattle.lot_mutex.specs.MutexProfiles.{mutex_profile, mutex_taker, mutex_wants, mutex_can_spin, mutex_can_be_late, mutex_owes, mutex_retries}
+use Rattle.lot_rwlock.specs.RwLockProfiles.{rwlock_profile, rwlock_taker, rwlock_wants, rwlock_looking, rwlock_late_line, rwlock_owes}
+use Rattle.lot_mutex.specs.MutexProfiles.{mutex_profile, mutex_taker, mutex_wants, mutex_can_be_late, mutex_owes, mutex_retries}
 
 -- where a call of a lock of a kind begins
 abbrev pub first_place : Kind → Call → Place
@@ -116,11 +116,19 @@ taker Idle = None
 taker (Mutex lock at) = mutex_taker at
 taker (RwLock lock a at) = rwlock_taker at
 
--- the lock whose word may be loaded again in place of the act
-abbrev pub spin_lock : Place → Option ℕ
-spin_lock Idle = None
-spin_lock (Mutex lock at) = if mutex_can_spin at then Some lock else None
-spin_lock (RwLock lock a at) = if rwlock_can_spin a at then Some lock else None
+abbrev pub in_mutex : ℕ → Option MutexPlace → Option Place
+in_mutex lock None = None
+in_mutex lock (Some at) = Some (Mutex lock at)
+
+abbrev pub in_rwlock : ℕ → Admission → Option RwLockPlace → Option Place
+in_rwlock lock a None = None
+in_rwlock lock a (Some at) = Some (RwLock lock a at)
+
+-- from where a thread looks at the word once more, in place of an act that leads to sleep
+abbrev pub looking : Place → Option Place
+looking Idle = None
+looking (Mutex lock at) = in_mutex lock (mutex_looking at)
+looking (RwLock lock a at) = in_rwlock lock a (rwlock_looking a at)
 
 abbrev pub key_in : ℕ → Option Line → Option ℕ
 key_in lock None = None

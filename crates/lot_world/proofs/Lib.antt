@@ -19,6 +19,7 @@ pub mod SitesKept
 pub mod RwLockKept
 pub mod SectionsKept
 pub mod GoneKept
+pub mod Looking
 pub mod TurnsKept
 pub mod OpeningSites
 pub mod Counts

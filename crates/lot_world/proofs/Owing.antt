@@ -1,5 +1,5 @@
 -- Who owes a wake does so since it saw waiters, or since it entered the section.
-use Rattle.std.proofs.Common.{◌∷◌, [], ℕ, Bool, true, false, Option, Some, None, if◌then◌else◌, ◌==◌, ◌&&◌, not, ◌≡◌, ◌≢◌, ◌*◌, ◌<◌, ◌⊎◌, ◌↔◌, inl, inr, List, length, drop, set, get_or, refl, sym, ◌∙◌, ap, subst, get_or-set_other, get_or-set_same, nat_lt, map}
+use Rattle.std.proofs.Common.{◌∷◌, [], ℕ, Bool, true, false, Option, Some, None, if◌then◌else◌, ◌==◌, ◌&&◌, not, ◌≡◌, ◌≢◌, ◌*◌, ◌<◌, ◌⊎◌, ◌↔◌, inl, inr, List, length, drop, set, get_or, refl, sym, ◌∙◌, ap, subst, get_or-set_other, get_or-set_same, nat_lt, map, is_some, length-set}
 use Rattle.std.proofs.Math.ListN.{get_or-map}
 use Rattle.std.proofs.lemmas.Bool.{cases_eq, cases_lt, eqb-true, ltb-true}
 use Rattle.std.proofs.lemmas.List.{set_past}
@@ -23,7 +23,7 @@ use Rattle.lot_acts.specs.declared.acts.Act.TheVariants as act
 use Rattle.lot_acts.specs.declared.acts.Wakes.{Wakes}
 use Rattle.lot_acts.specs.declared.acts.Wakes as wakes
 use Rattle.lot_acts.specs.declared.acts.Reply.{Reply}
-use Rattle.lot_acts.specs.declared.acts.Reply.TheVariants.{TakenBy, MovedTo, HandedBy, Woken, Spun, Late}
+use Rattle.lot_acts.specs.declared.acts.Reply.TheVariants.{TakenBy, MovedTo, HandedBy, Woken, Late}
 use Rattle.lot_mutex.specs.declared.places.MutexPlace.{MutexPlace}
 use Rattle.lot_mutex.specs.declared.places.MutexPlace.TheVariants.{Lock, TryLock, Unlock, UnlockFair, Bump, HandOff}
 use Rattle.lot_mutex.specs.declared.lock.LockAt.{LockAt}
@@ -46,8 +46,8 @@ use Rattle.lot_acts.specs.Owners.{is_thread}
 use Rattle.lot_calls.specs.declared.kinds.Kind.{Kind}
 use Rattle.lot_calls.specs.Kinds.{is_fair}
 use Rattle.lot_calls.specs.Calls.{lock_in}
-use Rattle.lot_steps.specs.Steps.{act_of, owes_on, next_act, next_place, mutex_goes, mutex_does, first_place, is_idle, spin_lock, late_key, taker}
-use Rattle.lot_machine.specs.Machine.{State, places_told, listed, moved_threads, closed_place, state_after_going, place_at, word_at, queues_without_first, state_after_taking, state_after_wake, state_with_sections, queue_at, state_after_act, state_after_go, go_reply, go_outcome, is_there, is_free_under, is_open_to, can_begin, state_after_begin, can_turn, turn_outcome, kind_at, reply_to, put, state_after_spin_on, state_after_late_on, state_after_turn, is_possible, after, step_outcome, place_after_telling}
+use Rattle.lot_steps.specs.Steps.{act_of, owes_on, next_act, next_place, mutex_goes, mutex_does, first_place, is_idle, looking, late_key, taker}
+use Rattle.lot_machine.specs.Machine.{State, places_told, listed, moved_threads, closed_place, state_after_going, place_at, word_at, queues_without_first, state_after_taking, state_after_wake, state_with_sections, queue_at, state_after_act, state_after_go, go_reply, go_outcome, is_there, is_free_under, is_open_to, can_begin, state_after_begin, can_turn, turn_outcome, kind_at, reply_to, put, state_after_look, look_outcome, state_after_late_on, state_after_turn, is_possible, after, step_outcome, place_after_telling}
 use Rattle.lot_base.specs.Lines.{threads_of}
 use Rattle.lot_base.specs.Picks.{lock_picked}
 use Rattle.lot_base.specs.Requeues.{taken_by}
@@ -61,8 +61,10 @@ use Rattle.abstract_locks.specs.Sites.{Main}
 use Rattle.lot_world.specs.MutexPromises.{IsMutexWord}
 use Rattle.lot_world.specs.Promises.{IsKept, GoesToWake}
 use Rattle.lot_world.specs.SitesOf.{IsSteady}
-use Rattle.lot_machine.proofs.Shape.{both, performed_counts}
+use Rattle.lot_machine.proofs.Shape.{both, looking_shaped, performed_counts}
+use Rattle.lot_world.proofs.Looking.{looking_steady, calls_same}
 use Rattle.lot_world.proofs.TurnsKept.{idle_is}
+use Rattle.abstract_locks.specs.Runs.{CallState}
 use Rattle.lot_world.proofs.Glue.{same}
 use Rattle.lot_world.proofs.AtPlaces.{coded_for, owns}
 use Rattle.lot_world.proofs.CallEvents.{rights as rights_at}
@@ -196,10 +198,6 @@ module _ (w : State) (k u : ℕ) where
 put_owes : (b : State) (t u k : ℕ) (p : Place) → u ≢ t → owes_on (place_at (put b t p) u) k ≡ owes_on (place_at b u) k
 put_owes b t u k p ne = ap (λ q. owes_on q k) (get_or-set_other b.places t u p Idle ne)
 
-spun_owes : (w : State) (t u k : ℕ) (o : Option ℕ) → u ≢ t → owes_on (place_at (state_after_spin_on w t o) u) k ≡ owes_on (place_at w u) k
-spun_owes w t u k None ne = refl
-spun_owes w t u k (Some l) ne = put_owes w t u k _ ne
-
 late_owes : (w : State) (t u k : ℕ) (o : Option ℕ) → u ≢ t → owes_on (place_at (state_after_late_on w t o) u) k ≡ owes_on (place_at w u) k
 late_owes w t u k None ne = refl
 late_owes w t u k (Some key) ne = put_owes (state_with_sections w (One key) (Some t)) t u k _ ne
@@ -207,10 +205,14 @@ late_owes w t u k (Some key) ne = put_owes (state_with_sections w (One key) (Som
 went_owes : (w : State) (t u k : ℕ) (p : Place) → u ≢ t → owes_on (place_at (state_after_going w t p) u) k ≡ owes_on (place_at w u) k
 went_owes w t u k p ne = put_owes (state_after_act w t p (act_of p)) t u k _ ne ∙ performed_owes w k u t p (act_of p)
 
+spun_owes : (w : State) (t u k : ℕ) (o : Option Place) → u ≢ t → owes_on (place_at (state_after_look w t o) u) k ≡ owes_on (place_at w u) k
+spun_owes w t u k None ne = refl
+spun_owes w t u k (Some q) ne = went_owes (put w t q) t u k (place_at (put w t q) t) ne ∙ put_owes w t u k q ne
+
 turned_owes : (w : State) (t u k : ℕ) (x : Turn) → u ≢ t → owes_on (place_at (state_after_turn w t x) u) k ≡ owes_on (place_at w u) k
 turned_owes w t u k (turn.TheVariants.Begin c) ne = put_owes w t u k _ ne
 turned_owes w t u k turn.TheVariants.Go ne = went_owes w t u k (place_at w t) ne
-turned_owes w t u k turn.TheVariants.Spin ne = spun_owes w t u k (spin_lock (place_at w t)) ne
+turned_owes w t u k turn.TheVariants.Spin ne = spun_owes w t u k (looking (place_at w t)) ne
 turned_owes w t u k turn.TheVariants.Late ne = late_owes w t u k (late_key (place_at w t)) ne
 turned_owes w t u k turn.TheVariants.Ok ne = went_owes w t u k (closed_place w t true) ne
 turned_owes w t u k turn.TheVariants.Err ne = went_owes w t u k (closed_place w t false) ne
@@ -387,21 +389,6 @@ module _ (w : State) (t : ℕ) (there : t < length w.places) where
       → Owes v t l ↔ (IsInside v t l ⊎ SeesWaiters w t l o)
   enters_on v l k m e f r s a b o is later kept = quietly w v t there l o kept (λ g. no_waker v t l m f s b later g.1) (λ x. no_waker w t l k e r a is x.0)
 
-  spun_owing : (p : Place) → place_at w t ≡ p → is_there (spin_lock p) ≡ true → (l : ℕ) (o : Outcome) → IsKept (state_after_spin_on w t (spin_lock p)) → Owes (state_after_spin_on w t (spin_lock p)) t l ↔ (IsInside (state_after_spin_on w t (spin_lock p)) t l ⊎ SeesWaiters w t l o)
-  spun_owing Idle is can = absurd cc
-  spun_owing (Mutex k (Lock e r (lock.Decide x))) is can = either (x == 1) can
-    where
-      either : (b : Bool) → is_there (if b then Some k else None) ≡ true → (l : ℕ) (o : Outcome) → IsKept (state_after_spin_on w t (if b then Some k else None)) → Owes (state_after_spin_on w t (if b then Some k else None)) t l ↔ (IsInside (state_after_spin_on w t (if b then Some k else None)) t l ⊎ SeesWaiters w t l o)
-      either true can l o kept = enters_on _ l k k e e r r (lock.Decide x) (lock.Decide (word_at w k)) o is (rw (get_or-set_same w.places t (next_place (place_at w t) (Spun (word_at w k))) Idle there, is) refl) kept
-      either false can l o kept = absurd cc
-  spun_owing (Mutex k (Lock e r lock.First)) is can = absurd cc
-  spun_owing (Mutex k (Lock e r a)) is can = absurd cc
-  spun_owing (Mutex k TryLock) is can = absurd cc
-  spun_owing (Mutex k (Unlock a)) is can = absurd cc
-  spun_owing (Mutex k UnlockFair) is can = absurd cc
-  spun_owing (Mutex k Bump) is can = absurd cc
-  spun_owing (Mutex k (HandOff b a)) is can = absurd cc
-
   late_owing : (p : Place) → place_at w t ≡ p → is_free_under w (late_key p) ≡ true → (l : ℕ) (o : Outcome) → IsKept (state_after_late_on w t (late_key p)) → Owes (state_after_late_on w t (late_key p)) t l ↔ (IsInside (state_after_late_on w t (late_key p)) t l ⊎ SeesWaiters w t l o)
   late_owing (Mutex k (Lock entries.LockTimed r lock.Asleep)) is can l o kept = enters_on _ l k k entries.LockTimed entries.LockTimed r r lock.Asleep lock.Remove o is (rw (get_or-set_same w.places t (next_place (place_at w t) Late) Idle there, is) refl) kept
   late_owing Idle is can l o kept = absurd cc
@@ -422,10 +409,18 @@ module _ (w : State) (t : ℕ) (there : t < length w.places) where
       let none : IsReleasing (call_state Idle (rights_at w t)).purpose (call_state Idle (rights_at w t)).released l = subst (λ p. IsReleasing (call_state p (rights_at w t)).purpose (call_state p (rights_at w t)).released l) idle x.0 in none)
 
 module _ (w : State) (t : ℕ) (shape : IsShaped w) (steady : IsSteady w) (there : t < length w.places) where
+  -- it looks at the word once more, and is in its call as before
+  spun_owing : (o : Option Place) → looking (place_at w t) ≡ o → is_some o ≡ true → (l : ℕ) → IsKept (state_after_look w t o)
+      → Owes (state_after_look w t o) t l ↔ (IsInside (state_after_look w t o) t l ⊎ SeesWaiters w t l (look_outcome w t o))
+  spun_owing None is can l kept = absurd cc
+  spun_owing (Some q) is can l kept = subst (λ (c : CallState). Owes (state_after_go (put w t q) t) t l ↔ (IsInside (state_after_go (put w t q) t) t l
+      ⊎ (IsReleasing c.purpose c.released l × (is_parked (word_at w l) ≡ true) × (go_outcome (put w t q) t ≡ outcome.TheVariants.Step)))) (calls_same w t there q is t)
+      (go_owes (put w t q) t (looking_shaped w t q shape is) (looking_steady w t there q is steady) (rw (length-set w.places t q) there) l kept)
+
   turned_owing : (x : Turn) → can_turn w t x ≡ true → (l : ℕ) → IsKept (state_after_turn w t x) → Owes (state_after_turn w t x) t l ↔ (IsInside (state_after_turn w t x) t l ⊎ SeesWaiters w t l (turn_outcome w t x))
   turned_owing (turn.TheVariants.Begin c) can l kept = begun_owing w t there c can l outcome.TheVariants.Step kept
   turned_owing turn.TheVariants.Go can l kept = go_owes w t shape steady there l kept
-  turned_owing turn.TheVariants.Spin can l kept = spun_owing w t there (place_at w t) refl can l outcome.TheVariants.Step kept
+  turned_owing turn.TheVariants.Spin can l kept = spun_owing (looking (place_at w t)) refl can l kept
   turned_owing turn.TheVariants.Late can l kept = late_owing w t there (place_at w t) refl can l outcome.TheVariants.Step kept
   turned_owing turn.TheVariants.Ok can l kept = absurd (nothing_closes w t true can)
   turned_owing turn.TheVariants.Err can l kept = absurd (nothing_closes w t false can)
