@@ -1,5 +1,5 @@
 -- The steps of every call.
-use Rattle.std.specs.Prelude.{ℕ, Bool, true, false, Option, Some, None, if◌then◌else◌, ◌==◌, ◌&&◌, ◌*◌, ◌^◌, ◌<◌}
+use Rattle.std.specs.Prelude.{ℕ, Bool, true, false, Option, Some, None, if◌then◌else◌, ◌==◌, ◌&&◌, ◌^◌, ◌<◌}
 use Rattle.lot_calls.specs.declared.kinds.Kind.{Kind}
 use Rattle.lot_calls.specs.declared.calls.Call.{Call}
 use Rattle.lot_calls.specs.declared.calls.Call as call
@@ -14,9 +14,11 @@ use Rattle.lot_acts.specs.declared.acts.Next.TheVariants.{At, End}
 use Rattle.lot_acts.specs.declared.owners.Owners.{Owners}
 use Rattle.lot_calls.specs.Kinds.{is_fair}
 use Rattle.lot_mutex.specs.MutexSteps.{mutex_first, mutex_right, mutex_act, mutex_next, mutex_owners}
+use Rattle.lot_base.specs.declared.keys.Line.{Line}
 use Rattle.lot_base.specs.declared.wants.Want.{Want}
+use Rattle.lot_base.specs.Keys.{key_of}
 use Rattle.lot_acts.specs.Profiles.{Profile, blank, bringing_nobody}
-use Rattle.lot_mutex.specs.MutexProfiles.{mutex_profile, mutex_taker, mutex_wants, mutex_can_spin, mutex_can_be_late, mutex_owes, mutex_retries}
+use Rattle.lot_mutex.specs.MutexProfiles.{mutex_profile, mutex_taker, mutex_wants, mutex_can_spin}
 
 -- where a call of a lock of a kind begins
 abbrev pub first_place : Kind → Call → Place
@@ -34,6 +36,15 @@ is_idle (Mutex lock at) = false
 abbrev pub lock_of : Place → Option ℕ
 lock_of Idle = None
 lock_of (Mutex lock at) = Some lock
+
+-- whether it is the lock
+abbrev pub is_lock : ℕ → Option ℕ → Bool
+is_lock lock None = false
+is_lock lock (Some own) = own == lock
+
+-- whether a thread calls the lock
+abbrev pub calls : Place → ℕ → Bool
+calls p lock = is_lock lock (lock_of p)
 
 -- what a place says of its thread
 abbrev pub profile : Place → Profile
@@ -93,17 +104,27 @@ abbrev pub spin_lock : Place → Option ℕ
 spin_lock Idle = None
 spin_lock (Mutex lock at) = if mutex_can_spin at then Some lock else None
 
+-- the key of a line of the lock that a thread calls
+abbrev pub key_in : Option ℕ → Option Line → Option ℕ
+key_in (Some lock) (Some m) = Some (key_of lock m)
+key_in lock m = None
+
 -- the key under which a thread sleeps in a call that may give up
 abbrev pub late_key : Place → Option ℕ
-late_key Idle = None
-late_key (Mutex lock at) = if mutex_can_be_late at then Some (2 * lock) else None
+late_key p = key_in (lock_of p) (profile p).late_line
+
+-- the line on which a thread owes a wake on a lock
+abbrev pub line_owed : Place → ℕ → Option Line
+line_owed p lock = if calls p lock then (profile p).owes else None
+
+abbrev pub is_line : Option Line → Bool
+is_line None = false
+is_line (Some m) = true
 
 -- a thread owes a wake on a lock
 abbrev pub owes_on : Place → ℕ → Bool
-owes_on Idle lock = false
-owes_on (Mutex own at) lock = mutex_owes at && (own == lock)
+owes_on p lock = is_line (line_owed p lock)
 
 -- a thread was woken and tries again on a lock
 abbrev pub retries_on : Place → ℕ → Bool
-retries_on Idle lock = false
-retries_on (Mutex own at) lock = mutex_retries at && (own == lock)
+retries_on p lock = (profile p).retries && calls p lock

@@ -3,7 +3,7 @@ ghost use Rattle.std.specs.Prelude.{◌≡◌};
 ghost use Rattle.lot_steps.specs.Steps.{HasKeys, first_place, has_right, act_of, next_place, next_act, owners_after, shares_after, taker, wants, spin_lock, late_key, owes_on, retries_on, is_idle};
 
 use lot_acts::{Act, Next, Owners, Reply};
-use lot_base::{Key, Want, main_key};
+use lot_base::{Key, Want};
 use lot_calls::{Call, Kind};
 use lot_mutex::{MutexPlace, mutex_right};
 
@@ -117,8 +117,11 @@ impl Place {
         ensures { result ≡ late_key self }
     {
         match self {
-            Place::Mutex { lock, at } if at.can_be_late() => Some(main_key(lock)),
-            _ => None,
+            Place::Idle => None,
+            Place::Mutex { lock, at } => match at.late_line() {
+                Some(line) => Some(line.key(lock)),
+                None => None,
+            },
         }
     }
 
@@ -129,7 +132,7 @@ impl Place {
     {
         match self {
             Place::Idle => false,
-            Place::Mutex { lock: own, at } => own == lock && at.owes(),
+            Place::Mutex { lock: own, at } => own == lock && at.owes().is_some(),
         }
     }
 

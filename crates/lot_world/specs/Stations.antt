@@ -2,19 +2,10 @@
 use Rattle.std.specs.Prelude.{ℕ, Bool, false, Option, Some, None, if◌then◌else◌, ◌==◌}
 use Rattle.lot_base.specs.declared.wants.Want.{Want}
 use Rattle.lot_steps.specs.declared.places.Place.{Place}
-use Rattle.lot_steps.specs.Steps.{lock_of, profile}
+use Rattle.lot_steps.specs.Steps.{calls, profile}
 pub use Rattle.lot_acts.specs.Profiles.{Hand, Of, hand, hand_owner, in_hand}
 use Rattle.lot_acts.specs.Profiles.{Profile, blank}
 use Rattle.abstract_locks.specs.Sites.{Doing, Line, idle}
-
--- whether it is the lock l
-abbrev pub is_lock : ℕ → Option ℕ → Bool
-is_lock l None = false
-is_lock l (Some k) = k == l
-
--- whether a thread at the place calls the lock l
-abbrev pub calls : Place → ℕ → Bool
-calls p l = is_lock l (lock_of p)
 
 -- what it does about the lock l
 abbrev pub doing_on : Place → ℕ → Doing
