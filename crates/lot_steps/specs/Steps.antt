@@ -17,8 +17,8 @@ use Rattle.lot_mutex.specs.MutexSteps.{mutex_first, mutex_right, mutex_act, mute
 use Rattle.lot_base.specs.declared.keys.Line.{Line}
 use Rattle.lot_base.specs.declared.wants.Want.{Want}
 use Rattle.lot_base.specs.Keys.{key_of}
-use Rattle.lot_acts.specs.Profiles.{Profile, blank, bringing_nobody}
-use Rattle.lot_mutex.specs.MutexProfiles.{mutex_profile, mutex_taker, mutex_wants, mutex_can_spin}
+use Rattle.lot_acts.specs.Profiles.{Profile, blank, bringing_nobody, hand_owner}
+use Rattle.lot_mutex.specs.MutexProfiles.{mutex_profile, mutex_can_spin}
 
 -- where a call of a lock of a kind begins
 abbrev pub first_place : Kind → Call → Place
@@ -91,13 +91,11 @@ shares_after (Mutex lock at) seen shares = None
 
 -- what a thread wants, where it waits
 abbrev pub wants : Place → Option Want
-wants Idle = None
-wants (Mutex lock at) = mutex_wants at
+wants p = (profile p).wants
 
 -- the thread that took this one from its queue, and has not left its section yet
 abbrev pub taker : Place → Option ℕ
-taker Idle = None
-taker (Mutex lock at) = mutex_taker at
+taker p = hand_owner (profile p).hand
 
 -- the lock whose word may be loaded again in place of the act
 abbrev pub spin_lock : Place → Option ℕ

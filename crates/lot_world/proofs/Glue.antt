@@ -223,7 +223,7 @@ pub is_handed : (p : Place) (t l : ℕ) → hand_at p l ≡ hand t true → IsHa
 is_handed p t l h = in_hand p t l true h
 
 -- who calls another lock is in nobody's hand here
-taken_out : (h : Option Hand) (x : Option Want) → taken_from h x false ≡ None
+pub taken_out : (h : Option Hand) (x : Option Want) → taken_from h x false ≡ None
 taken_out None x = refl
 taken_out (Some (Of u true)) x = refl
 taken_out (Some (Of u false)) None = refl

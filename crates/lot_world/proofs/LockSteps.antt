@@ -66,7 +66,8 @@ use Rattle.lot_world.proofs.StandsMoved.{mutex_rules}
 use Rattle.lot_world.proofs.SitesKept.{go_by}
 use Rattle.lot_world.proofs.GoneKept.{gone_goes}
 use Rattle.lot_world.proofs.TurnsKept.{idle_is}
-use Rattle.lot_world.proofs.AtPlaces.{coded, in_no_hand, own_doing, stands_by}
+use Rattle.lot_world.proofs.AtPlaces.{coded, in_no_hand, own_doing}
+use Rattle.lot_world.proofs.PlacePromises.{standing_by}
 use Rattle.lot_world.proofs.CallEvents.{put_is, rights, Others, OthersFollow, Happens, LeadsTo, IsNoHandOff, happens, needed_then, others_follow, goes_by}
 use Rattle.lot_world.proofs.LockEvents.{Befalls, wakes_others, hands_others}
 use Rattle.lot_world.proofs.OtherCalls.{IsLonely, IsCalm, lonely, takes, calm, befalls, befalls_nobody, tells_handed}
@@ -158,7 +159,7 @@ module _ (w : State) (t : ℕ) (shape : IsShaped w) (steady : IsSteady w) (there
           )
             where
               standing_then : (at2 : MutexPlace) → place_at behind t ≡ Mutex l at2 → (mutex_station at2).stands ≡ Some Main → 1 ≤ standing t (lock_state behind l)
-              standing_then at2 e stands = rw (stands_by behind happens_so.after t l, own_stance l (place_at behind t) at2 e, stands) (omega arith)
+              standing_then at2 e stands = rw (standing_by behind t happens_so.after l, own_stance l (place_at behind t) at2 e, stands) (omega arith)
           by_next (next.End a) e rests = (e, refl)
 
       goes_if : OthersFollow w behind t (event_by l happened) → GoesOn (locks_of w) t (outcome_of (next_act (Mutex l at) told)) (locks_of behind)
@@ -434,7 +435,7 @@ module _ (w : State) (t : ℕ) (shape : IsShaped w) (steady : IsSteady w) (there
 module _ (w : State) (t : ℕ) (steady : IsSteady w) where
   possible : (x : Turn) → MayTurn (locks_of w) t x → can_turn w t x ≡ true
   possible (turn.TheVariants.Begin c) may = begin_possible w t c may
-  possible turn.TheVariants.Go may = go_possible w t may
+  possible turn.TheVariants.Go may = go_possible w t steady may
   possible turn.TheVariants.Spin may = may
   possible turn.TheVariants.Late may = late_possible w t steady may
   possible turn.TheVariants.Ok may = absurd (no_closure w t may)
@@ -462,7 +463,7 @@ module _ (w : State) (t : ℕ) (shape : IsShaped w) (steady : IsSteady w) (there
   turned_told turn.TheVariants.Go can = rw (put_sleeps (state_after_act w t (place_at w t) (act_of (place_at w t))) (next_place (place_at w t) (go_reply w t)) (performed_counts w t (place_at w t) (act_of (place_at w t))).0)
       (told_gone (place_at w t) (go_reply w t))
   turned_told turn.TheVariants.Spin can = told_step _ (spun_awake w t there (place_at w t) refl can)
-  turned_told turn.TheVariants.Late can = told_step _ (late_awake w t there (place_at w t) refl can)
+  turned_told turn.TheVariants.Late can = told_step _ (late_awake w t there (late_key (place_at w t)) refl can)
   turned_told turn.TheVariants.Ok can = absurd (nothing_closes w t true can)
   turned_told turn.TheVariants.Err can = absurd (nothing_closes w t false can)
 

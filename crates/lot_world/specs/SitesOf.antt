@@ -1,6 +1,7 @@
 -- The locks of a world, with what each thread does about each.
 use Rattle.std.specs.Prelude.{ℕ, Bool, true, false, Option, Some, ◌≡◌, ◌≢◌, ◌<◌, ◌≤◌, ◌+◌, ◌-◌, ◌*◌, ◌^◌, ◌↔◌, List, [], ◌∷◌, length}
 use Rattle.lot_base.specs.declared.wants.Waiter.{Waiter}
+pub use Rattle.lot_base.specs.Keys.{key_of}
 use Rattle.lot_base.specs.Lines.{times}
 use Rattle.lot_steps.specs.declared.places.Place.{Place}
 use Rattle.lot_steps.specs.declared.places.Place.TheVariants.{Idle, Mutex as OfMutex}
@@ -52,11 +53,6 @@ pub record AreSites (w : State) : Type 0 where
       → HasRoom (rules_at w l) × HasLimit (rules_at w l) (lock_state w l)
 
 -- ---------------------------------------------------------------- what the machine keeps beside its locks' being sites
-
--- the key of a line of the lock l
-abbrev pub key_of : ℕ → Line → ℕ
-key_of l Main = 2 * l
-key_of l Second = 2 * l + 1
 
 -- how often a thread stands in a line
 abbrev pub stood_in : Option Line → Line → ℕ
