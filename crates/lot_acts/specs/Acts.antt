@@ -1,6 +1,7 @@
 -- What a thread does in one step, and what it is told.
-use Rattle.std.specs.Prelude.{ℕ, Bool, false, if◌then◌else◌, ◌==◌}
+use Rattle.std.specs.Prelude.{ℕ, Bool, true, false, Option, Some, None, if◌then◌else◌, ◌==◌, ◌||◌, not}
 use Rattle.lot_base.specs.declared.notes.Note.{Note}
+use Rattle.lot_base.specs.declared.wants.Want.{Want}
 use Rattle.lot_acts.specs.declared.acts.Act.{Act}
 use Rattle.lot_acts.specs.declared.acts.Act.TheVariants.{Sleep, Closure, End}
 use Rattle.lot_acts.specs.declared.acts.Check.{Check}
@@ -26,6 +27,14 @@ holds (Unfinished forced) word = still_waits (waits_for_end forced) word
 -- whoever was taken is woken
 abbrev pub wakes_taken : Bool → Note → Wakes
 wakes_taken any note = if any then wakes.TheVariants.All note else wakes.TheVariants.Nobody
+
+abbrev pub is_there : Option Want → Bool
+is_there None = false
+is_there (Some x) = true
+
+-- whether anybody was picked: some who share, or the one who wants more
+abbrev pub any_picked : ℕ → Option Want → Bool
+any_picked sharers successor = not (sharers == 0) || is_there successor
 
 -- what a thread is told that is about to do this
 abbrev pub outcome_of : Act → Outcome

@@ -6,3 +6,5 @@ pub mod RwLockCallRights
 pub mod RwLockCalls
 pub mod RwLockCallSections
 pub mod RwLockCallPlaces
+pub mod RwLockStands
+pub mod RwLockMoves

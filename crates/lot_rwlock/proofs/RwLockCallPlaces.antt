@@ -11,6 +11,7 @@ use Rattle.lot_calls.specs.declared.calls.Patience.{Patience}
 use Rattle.lot_calls.specs.declared.calls.Patience.TheVariants.{Patient, Timed, Try}
 use Rattle.lot_calls.specs.declared.outcomes.Answer.{Answer}
 use Rattle.lot_calls.specs.declared.outcomes.Answer.TheVariants.{No, ReadersFull}
+use Rattle.lot_acts.specs.declared.acts.Next.{Next}
 use Rattle.lot_acts.specs.declared.acts.Next.TheVariants as next
 use Rattle.lot_acts.specs.declared.acts.Reply.{Reply}
 use Rattle.lot_acts.specs.declared.acts.Reply.TheVariants as reply
@@ -27,13 +28,18 @@ use Rattle.lot_rwlock.specs.declared.park.ParkAt.TheVariants as parking
 use Rattle.lot_rwlock.specs.declared.release.WakeAt.{WakeAt}
 use Rattle.lot_rwlock.specs.declared.release.WakeAt.TheVariants as waking
 use Rattle.lot_rwlock.specs.RwLockSteps.{entered, goes, counted, wanted, patience_of, decision_blocked, decision, decided, is_counted, plus, stays, missed, looked_by, looked, came_in, exchanged_next, wakes, wakes_or_ends, park_next, wake_next, rwlock_next}
-use Rattle.lot_rwlock.specs.RwLockCalls.{MayWait, HasDeadline, ParksBy, EntersAt, SharesAt, WritesAt, ReleasesAt, DowngradesAt, UpgradesAt, StandsAt, MayStandNext, MayBeTold, RwLockCallsStand, CallBecomes, RwLockSleepersHear}
+use Rattle.lot_rwlock.specs.RwLockCalls.{MayWait, HasDeadline, ParksBy, EntersAt, SharesAt, WritesAt, ReleasesAt, DowngradesAt, UpgradesAt, StandsAt, MayBeTold, CallBecomes, RwLockSleepersHear}
 use Rattle.lot_acts.specs.Calls.{call_by}
 use Rattle.lot_acts.specs.Profiles.{hand}
 use Rattle.lot_rwlock.specs.RwLockProfiles.{rwlock_profile, hand_at, late_line_at}
 use Rattle.abstract_locks.specs.Locks.{Rights}
 use Rattle.abstract_locks.specs.Runs.{CallState}
 use Rattle.abstract_locks.specs.Codes.{count_in, has_parked, has_aside, is_blocked}
+
+-- by what its call is for
+abbrev pub StandsNext : Next RwLockPlace → Type 0
+StandsNext (next.At p) = StandsAt p.purpose p.retries p.at
+StandsNext (next.End answer) = Unit {0}
 
 module _ (a : Admission) where
   abbrev of : RwLockPurpose → Bool → RwLockAt → RwLockPlace
@@ -58,33 +64,33 @@ module _ (a : Admission) where
     abbrev enterer : RwLockAt → RwLockPlace
     enterer to = of (purpose.Enter x how) again to
 
-    looks : (to : RwLockAt) → ((seen : ℕ) → EntersAt x how (at.Decide seen)) → (seen : ℕ) (d : Decision) → MayStandNext (looked_by (enterer to) seen d)
+    looks : (to : RwLockAt) → ((seen : ℕ) → EntersAt x how (at.Decide seen)) → (seen : ℕ) (d : Decision) → StandsNext (looked_by (enterer to) seen d)
     looks to fits seen (decisions.Refuse ans) = tt
     looks to fits seen decisions.Take = fits seen
     looks to fits seen decisions.Mark = fits seen
     looks to fits seen decisions.Park = fits seen
 
-    came : (y : Access) (to : RwLockAt) → (y ≡ access.Exclusive → MayWait how) → MayStandNext (came_in (of (purpose.Enter y how) again to))
+    came : (y : Access) (to : RwLockAt) → (y ≡ access.Exclusive → MayWait how) → StandsNext (came_in (of (purpose.Enter y how) again to))
     came access.Exclusive to fits = fits refl
     came access.Shared to fits = tt
     came access.Upgradable to fits = tt
 
-    exchanges : (was seen : ℕ) → ((seen : ℕ) → EntersAt x how (at.Decide seen)) → (x ≡ access.Exclusive → MayWait how) → (d : Decision) → MayStandNext (exchanged_next a (enterer (at.Decide was)) was seen d)
+    exchanges : (was seen : ℕ) → ((seen : ℕ) → EntersAt x how (at.Decide seen)) → (x ≡ access.Exclusive → MayWait how) → (d : Decision) → StandsNext (exchanged_next a (enterer (at.Decide was)) was seen d)
     exchanges was seen fits writes decisions.Take = either (seen == was)
       where
-        either : (b : Bool) → MayStandNext (if b then came_in (enterer (at.Decide was)) else looked a (enterer (at.Decide was)) seen)
+        either : (b : Bool) → StandsNext (if b then came_in (enterer (at.Decide was)) else looked a (enterer (at.Decide was)) seen)
         either true = came x (at.Decide was) writes
         either false = looks (at.Decide was) fits seen (decided a (enterer (at.Decide was)) seen)
     exchanges was seen fits writes decisions.Mark = either (seen == was)
       where
-        either : (b : Bool) → MayStandNext (if b then stays (enterer (at.Decide was)) (at.Decide (plus was 1)) else looked a (enterer (at.Decide was)) seen)
+        either : (b : Bool) → StandsNext (if b then stays (enterer (at.Decide was)) (at.Decide (plus was 1)) else looked a (enterer (at.Decide was)) seen)
         either true = fits (plus was 1)
         either false = looks (at.Decide was) fits seen (decided a (enterer (at.Decide was)) seen)
     exchanges was seen fits writes decisions.Park = looks (at.Decide was) fits seen (decided a (enterer (at.Decide was)) seen)
     exchanges was seen fits writes (decisions.Refuse ans) = looks (at.Decide was) fits seen (decided a (enterer (at.Decide was)) seen)
 
     -- on its way into the main queue, and out of it
-    parks : ((to : ParkAt) → ParksBy how to → EntersAt x how (at.Park to)) → (MayWait how → EntersAt x how at.Load) → (to : ParkAt) (told : Reply) → ParksBy how to → MayBeTold a (enterer (at.Park to)) (at.Park to) told → MayStandNext (park_next (enterer (at.Park to)) Main to told)
+    parks : ((to : ParkAt) → ParksBy how to → EntersAt x how (at.Park to)) → (MayWait how → EntersAt x how at.Load) → (to : ParkAt) (told : Reply) → ParksBy how to → MayBeTold a (enterer (at.Park to)) (at.Park to) told → StandsNext (park_next (enterer (at.Park to)) Main to told)
     parks fits loads parking.Check (reply.Parked b) by may = fits (parking.Leave b) by
     parks fits loads (parking.Leave true) reply.Done by may = fits parking.Asleep by
     parks fits loads (parking.Leave false) reply.Done by may = loads by
@@ -101,7 +107,7 @@ module _ (a : Admission) where
   -- a writer, on its way aside and out of there
   module _ (q : RwLockPurpose) (again : Bool) (how : Patience) (is : patience_of q ≡ how) where
     asides : ((again : Bool) (to : ParkAt) → ParksBy how to → StandsAt q again (at.Aside to)) → ((again : Bool) → MayWait how → StandsAt q again at.Look) → (HasDeadline how → StandsAt q again at.RollBack)
-        → (to : ParkAt) (told : Reply) → ParksBy how to → MayBeTold a (of q again (at.Aside to)) (at.Aside to) told → MayStandNext (park_next (of q again (at.Aside to)) Second to told)
+        → (to : ParkAt) (told : Reply) → ParksBy how to → MayBeTold a (of q again (at.Aside to)) (at.Aside to) told → StandsNext (park_next (of q again (at.Aside to)) Second to told)
     asides fits looks rolls parking.Check (reply.Parked b) by may = fits (again && not b) (parking.Leave b) by
     asides fits looks rolls (parking.Leave true) reply.Done by may = fits again parking.Asleep by
     asides fits looks rolls (parking.Leave false) reply.Done by may = looks again by
@@ -115,7 +121,7 @@ module _ (a : Admission) where
     asides fits looks rolls to told by may = fits again to by
 
     -- whoever wakes others goes on doing so
-    wakes_on : (m : Line) → ((to : WakeAt) → StandsAt q again (at.Wake m to)) → (to : WakeAt) (told : Reply) → MayStandNext (wake_next (of q again (at.Wake m to)) m to told)
+    wakes_on : (m : Line) → ((to : WakeAt) → StandsAt q again (at.Wake m to)) → (to : WakeAt) (told : Reply) → StandsNext (wake_next (of q again (at.Wake m to)) m to told)
     wakes_on m fits waking.Enter reply.Done = fits waking.Take
     wakes_on m fits waking.Take (reply.Took any none_left) = fits _
     wakes_on m fits waking.Take (reply.Picked n y none_left) = fits _
@@ -123,21 +129,21 @@ module _ (a : Admission) where
     wakes_on m fits (waking.Leave any) reply.Done = tt
     wakes_on m fits to told = fits to
 
-  counts_on : (q : RwLockPurpose) (again : Bool) (to : RwLockAt) (seen : ℕ) → ((seen : ℕ) → StandsAt q again (at.Count seen)) → (b : Bool) → (ans : Answer) → MayStandNext (if b then next.End ans else stays (of q again to) (at.Count seen))
+  counts_on : (q : RwLockPurpose) (again : Bool) (to : RwLockAt) (seen : ℕ) → ((seen : ℕ) → StandsAt q again (at.Count seen)) → (b : Bool) → (ans : Answer) → StandsNext (if b then next.End ans else stays (of q again to) (at.Count seen))
   counts_on q again to seen fits true ans = tt
   counts_on q again to seen fits false ans = fits seen
 
-  first_on : (how : Patience) (again : Bool) (b : Bool) (ans : Answer) → MayStandNext (if b then next.End ans else missed (of (purpose.Enter access.Exclusive how) again at.First) how)
+  first_on : (how : Patience) (again : Bool) (b : Bool) (ans : Answer) → StandsNext (if b then next.End ans else missed (of (purpose.Enter access.Exclusive how) again at.First) how)
   first_on how again true ans = tt
   first_on Patient again false ans = tt
   first_on Timed again false ans = tt
   first_on Try again false ans = tt
 
-  rolls_on : (q : RwLockPurpose) (again : Bool) → StandsAt q again (at.Wake Main waking.Enter) → (b : Bool) → MayStandNext (if b then stays (of q again at.RollBack) (wakes Main) else next.End No)
+  rolls_on : (q : RwLockPurpose) (again : Bool) → StandsAt q again (at.Wake Main waking.Enter) → (b : Bool) → StandsNext (if b then stays (of q again at.RollBack) (wakes Main) else next.End No)
   rolls_on q again fits true = fits
   rolls_on q again fits false = tt
 
-  writes_stand : (how : Patience) (again : Bool) (to : RwLockAt) (told : Reply) → WritesAt how to → MayBeTold a (of (purpose.Enter access.Exclusive how) again to) to told → MayStandNext (rwlock_next a (of (purpose.Enter access.Exclusive how) again to) told)
+  writes_stand : (how : Patience) (again : Bool) (to : RwLockAt) (told : Reply) → WritesAt how to → MayBeTold a (of (purpose.Enter access.Exclusive how) again to) to told → StandsNext (rwlock_next a (of (purpose.Enter access.Exclusive how) again to) told)
   writes_stand how again at.First (reply.Value seen) fits may = first_on how again (seen == 0) _
   writes_stand how again at.Load (reply.Value seen) fits may = looks access.Exclusive how again at.Load (λ n. fits) seen (decision a Exclusive how seen)
   writes_stand how again (at.Decide was) (reply.Value seen) fits may = exchanges access.Exclusive how again was seen (λ n. fits) (λ e. fits) (decision a Exclusive how was)
@@ -147,7 +153,7 @@ module _ (a : Admission) where
   writes_stand how again at.Look (reply.Value seen) fits may = counts_on (purpose.Enter access.Exclusive how) again at.Look seen (λ n. fits) (count_in seen == 0) _
   writes_stand how again (at.Count was) (reply.Value seen) fits may = either (seen == was)
     where
-      either : (b : Bool) → MayStandNext (if b then stays (of (purpose.Enter access.Exclusive how) again (at.Count was)) (at.Count (plus was 2)) else counted (of (purpose.Enter access.Exclusive how) again (at.Count was)) seen)
+      either : (b : Bool) → StandsNext (if b then stays (of (purpose.Enter access.Exclusive how) again (at.Count was)) (at.Count (plus was 2)) else counted (of (purpose.Enter access.Exclusive how) again (at.Count was)) seen)
       either true = fits
       either false = counts_on (purpose.Enter access.Exclusive how) again (at.Count was) seen (λ n. fits) (count_in seen == 0) _
   writes_stand how again (at.Count was) (reply.Spun seen) fits may = counts_on (purpose.Enter access.Exclusive how) again (at.Count was) seen (λ n. fits) (count_in seen == 0) _
@@ -159,7 +165,7 @@ module _ (a : Admission) where
   writes_stand how again at.GiveWay told fits may = absurd fits
   writes_stand how again to told fits may = fits
 
-  shares_stand : (x : Access) (how : Patience) (again : Bool) (to : RwLockAt) (told : Reply) → ((to : RwLockAt) → SharesAt how to → EntersAt x how to) → (x ≢ access.Exclusive) → SharesAt how to → MayBeTold a (enterer x how again to) to told → MayStandNext (rwlock_next a (enterer x how again to) told)
+  shares_stand : (x : Access) (how : Patience) (again : Bool) (to : RwLockAt) (told : Reply) → ((to : RwLockAt) → SharesAt how to → EntersAt x how to) → (x ≢ access.Exclusive) → SharesAt how to → MayBeTold a (enterer x how again to) to told → StandsNext (rwlock_next a (enterer x how again to) told)
   shares_stand x how again at.Load (reply.Value seen) fit more fits may = looks x how again at.Load (λ n. fit (at.Decide n) tt) seen (decision a (wanted x) how seen)
   shares_stand x how again (at.Decide was) (reply.Value seen) fit more fits may = exchanges x how again was seen (λ n. fit (at.Decide n) tt) (λ e. absurd (more e)) (decision a (wanted x) how was)
   shares_stand x how again (at.Decide was) (reply.Spun seen) fit more fits may = looks x how again (at.Decide was) (λ n. fit (at.Decide n) tt) seen (decision a (wanted x) how seen)
@@ -171,11 +177,11 @@ module _ (a : Admission) where
 
   -- ---------------------------------------------------------------- the other calls
 
-  wakes_or : (q : RwLockPurpose) (again : Bool) (m : Line) → StandsAt q again (at.Wake m waking.Enter) → (b : Bool) → MayStandNext (wakes_or_ends (of q again at.GiveWay) m b)
+  wakes_or : (q : RwLockPurpose) (again : Bool) (m : Line) → StandsAt q again (at.Wake m waking.Enter) → (b : Bool) → StandsNext (wakes_or_ends (of q again at.GiveWay) m b)
   wakes_or q again m fits true = fits
   wakes_or q again m fits false = tt
 
-  releases_stand : (x : Access) (again : Bool) (to : RwLockAt) (told : Reply) → ReleasesAt x to → MayStandNext (rwlock_next a (of (purpose.Release x) again to) told)
+  releases_stand : (x : Access) (again : Bool) (to : RwLockAt) (told : Reply) → ReleasesAt x to → StandsNext (rwlock_next a (of (purpose.Release x) again to) told)
   releases_stand access.Shared again at.GiveWay (reply.Value seen) fits = wakes_or (purpose.Release access.Shared) again Second tt (has_aside seen && (count_in seen == 1))
   releases_stand access.Upgradable again at.GiveWay (reply.Value seen) fits = wakes_or (purpose.Release access.Upgradable) again Main tt (has_parked seen)
   releases_stand access.Exclusive again at.GiveWay (reply.Value seen) fits = wakes_or (purpose.Release access.Exclusive) again Main tt (has_parked seen)
@@ -187,7 +193,7 @@ module _ (a : Admission) where
   releases_stand access.Upgradable again to told fits = absurd fits
   releases_stand access.Exclusive again to told fits = absurd fits
 
-  downgrades_stand : (d : Downgrade) (again : Bool) (to : RwLockAt) (told : Reply) → DowngradesAt to → MayStandNext (rwlock_next a (of (purpose.Downgrade d) again to) told)
+  downgrades_stand : (d : Downgrade) (again : Bool) (to : RwLockAt) (told : Reply) → DowngradesAt to → StandsNext (rwlock_next a (of (purpose.Downgrade d) again to) told)
   downgrades_stand d again at.GiveWay (reply.Value seen) fits = wakes_or (purpose.Downgrade d) again Main tt (has_parked seen)
   downgrades_stand d again at.GiveWay told fits = fits
   downgrades_stand d again (at.Wake Main to) told fits = wakes_on (purpose.Downgrade d) again Patient refl Main (λ to. tt) to told
@@ -195,10 +201,10 @@ module _ (a : Admission) where
   downgrades_stand d again to told fits = absurd fits
 
   -- an upgrade that waits
-  patient_stands : (again : Bool) (to : RwLockAt) (told : Reply) → UpgradesAt Patient again to → MayBeTold a (of (purpose.Upgrade Patient) again to) to told → MayStandNext (rwlock_next a (of (purpose.Upgrade Patient) again to) told)
+  patient_stands : (again : Bool) (to : RwLockAt) (told : Reply) → UpgradesAt Patient again to → MayBeTold a (of (purpose.Upgrade Patient) again to) to told → StandsNext (rwlock_next a (of (purpose.Upgrade Patient) again to) told)
   patient_stands again at.GiveWay (reply.Value seen) fits may = either (count_in seen == 1)
     where
-      either : (b : Bool) → MayStandNext (if b then next.End (entered Patient) else goes (of (purpose.Upgrade Patient) again at.GiveWay) at.Look false)
+      either : (b : Bool) → StandsNext (if b then next.End (entered Patient) else goes (of (purpose.Upgrade Patient) again at.GiveWay) at.Look false)
       either true = tt
       either false = tt
   patient_stands again at.GiveWay told fits may = fits
@@ -206,7 +212,7 @@ module _ (a : Admission) where
   patient_stands again at.Look told fits may = tt
   patient_stands again (at.Count was) (reply.Value seen) fits may = either (seen == was)
     where
-      either : (b : Bool) → MayStandNext (if b then stays (of (purpose.Upgrade Patient) again (at.Count was)) (at.Count (plus was 2)) else counted (of (purpose.Upgrade Patient) again (at.Count was)) seen)
+      either : (b : Bool) → StandsNext (if b then stays (of (purpose.Upgrade Patient) again (at.Count was)) (at.Count (plus was 2)) else counted (of (purpose.Upgrade Patient) again (at.Count was)) seen)
       either true = tt
       either false = counts_on (purpose.Upgrade Patient) again (at.Count was) seen (λ n. tt) (count_in seen == 0) (entered Patient)
   patient_stands again (at.Count was) (reply.Spun seen) fits may = counts_on (purpose.Upgrade Patient) again (at.Count was) seen (λ n. tt) (count_in seen == 0) (entered Patient)
@@ -217,10 +223,10 @@ module _ (a : Admission) where
   patient_stands again (at.Wake Second to) told fits may = absurd fits
   patient_stands again to told fits may = absurd fits
 
-  timed_stands : (again : Bool) (to : RwLockAt) (told : Reply) → UpgradesAt Timed again to → MayBeTold a (of (purpose.Upgrade Timed) again to) to told → MayStandNext (rwlock_next a (of (purpose.Upgrade Timed) again to) told)
+  timed_stands : (again : Bool) (to : RwLockAt) (told : Reply) → UpgradesAt Timed again to → MayBeTold a (of (purpose.Upgrade Timed) again to) to told → StandsNext (rwlock_next a (of (purpose.Upgrade Timed) again to) told)
   timed_stands again at.GiveWay (reply.Value seen) fits may = either (count_in seen == 1)
     where
-      either : (b : Bool) → MayStandNext (if b then next.End (entered Timed) else goes (of (purpose.Upgrade Timed) again at.GiveWay) at.Look false)
+      either : (b : Bool) → StandsNext (if b then next.End (entered Timed) else goes (of (purpose.Upgrade Timed) again at.GiveWay) at.Look false)
       either true = tt
       either false = tt
   timed_stands again at.GiveWay told fits may = fits
@@ -228,7 +234,7 @@ module _ (a : Admission) where
   timed_stands again at.Look told fits may = tt
   timed_stands again (at.Count was) (reply.Value seen) fits may = either (seen == was)
     where
-      either : (b : Bool) → MayStandNext (if b then stays (of (purpose.Upgrade Timed) again (at.Count was)) (at.Count (plus was 2)) else counted (of (purpose.Upgrade Timed) again (at.Count was)) seen)
+      either : (b : Bool) → StandsNext (if b then stays (of (purpose.Upgrade Timed) again (at.Count was)) (at.Count (plus was 2)) else counted (of (purpose.Upgrade Timed) again (at.Count was)) seen)
       either true = tt
       either false = counts_on (purpose.Upgrade Timed) again (at.Count was) seen (λ n. tt) (count_in seen == 0) (entered Timed)
   timed_stands again (at.Count was) (reply.Spun seen) fits may = counts_on (purpose.Upgrade Timed) again (at.Count was) seen (λ n. tt) (count_in seen == 0) (entered Timed)
@@ -242,7 +248,7 @@ module _ (a : Admission) where
   timed_stands again to told fits may = absurd fits
 
   -- and one that tries
-  looks_up : (again : Bool) (to : RwLockAt) (seen : ℕ) (b : Bool) → MayStandNext (looked_by (of (purpose.Upgrade Try) again to) seen (if b then decisions.Take else decisions.Refuse No))
+  looks_up : (again : Bool) (to : RwLockAt) (seen : ℕ) (b : Bool) → StandsNext (looked_by (of (purpose.Upgrade Try) again to) seen (if b then decisions.Take else decisions.Refuse No))
   looks_up again to seen true = tt
   looks_up again to seen false = tt
 
@@ -250,16 +256,16 @@ module _ (a : Admission) where
   never_parks true e = cc
   never_parks false e = cc
 
-  tries_stand : (again : Bool) (to : RwLockAt) (told : Reply) → UpgradesAt Try again to → MayBeTold a (of (purpose.Upgrade Try) again to) to told → MayStandNext (rwlock_next a (of (purpose.Upgrade Try) again to) told)
+  tries_stand : (again : Bool) (to : RwLockAt) (told : Reply) → UpgradesAt Try again to → MayBeTold a (of (purpose.Upgrade Try) again to) to told → StandsNext (rwlock_next a (of (purpose.Upgrade Try) again to) told)
   tries_stand again at.Load (reply.Value seen) fits may = looks_up again at.Load seen (count_in seen == 1)
   tries_stand again at.Load told fits may = tt
   tries_stand again (at.Decide was) (reply.Value seen) fits may = by_sight (count_in was == 1)
     where
-      won : (b : Bool) → MayStandNext (if b then next.End (entered Try) else looked a (of (purpose.Upgrade Try) again (at.Decide was)) seen)
+      won : (b : Bool) → StandsNext (if b then next.End (entered Try) else looked a (of (purpose.Upgrade Try) again (at.Decide was)) seen)
       won true = tt
       won false = looks_up again (at.Decide was) seen (count_in seen == 1)
 
-      by_sight : (b : Bool) → MayStandNext (exchanged_next a (of (purpose.Upgrade Try) again (at.Decide was)) was seen (if b then decisions.Take else decisions.Refuse No))
+      by_sight : (b : Bool) → StandsNext (exchanged_next a (of (purpose.Upgrade Try) again (at.Decide was)) was seen (if b then decisions.Take else decisions.Refuse No))
       by_sight true = won (seen == was)
       by_sight false = looks_up again (at.Decide was) seen (count_in seen == 1)
   tries_stand again (at.Decide was) (reply.Spun seen) fits may = looks_up again (at.Decide was) seen (count_in seen == 1)
@@ -268,10 +274,10 @@ module _ (a : Admission) where
   tries_stand again to told fits may = absurd fits
 
 -- wherever it stands
-pub rwlock_calls_stand : RwLockCallsStand
-rwlock_calls_stand a p told stands may = by_purpose p.purpose p.retries p.at stands may
+pub stands_on : (a : Admission) (p : RwLockPlace) (told : Reply) → StandsAt p.purpose p.retries p.at → MayBeTold a p p.at told → StandsNext (rwlock_next a p told)
+stands_on a p told stands may = by_purpose p.purpose p.retries p.at stands may
   where
-    by_purpose : (q : RwLockPurpose) (again : Bool) (to : RwLockAt) → StandsAt q again to → MayBeTold a (of a q again to) to told → MayStandNext (rwlock_next a (of a q again to) told)
+    by_purpose : (q : RwLockPurpose) (again : Bool) (to : RwLockAt) → StandsAt q again to → MayBeTold a (of a q again to) to told → StandsNext (rwlock_next a (of a q again to) told)
     by_purpose (purpose.Enter access.Exclusive how) again to fits may = writes_stand a how again to told fits may
     by_purpose (purpose.Enter access.Shared how) again to fits may = shares_stand a access.Shared how again to told (λ to h. h) (λ e. cc) fits may
     by_purpose (purpose.Enter access.Upgradable how) again to fits may = shares_stand a access.Upgradable how again to told (λ to h. h) (λ e. cc) fits may
@@ -373,5 +379,5 @@ pub rwlock_sleepers_hear : RwLockSleepersHear
 rwlock_sleepers_hear a l p stands = record {
   taken = λ u. becomes a l p (of a p.purpose p.retries (taken_to a l u p.at)) (reply.TakenBy u) (λ c. c) (takes a l p.purpose p.retries p.at u) (taken_same a l p.purpose p.retries p.at u);
   woken = λ u h. wakes_up a l p.purpose p.retries p.at u h;
-  late = λ may. is_late_then a l p.purpose p.retries p.at stands may;
+  late = λ may. is_late_then a l p.purpose p.retries p.at stands.place may;
 }

@@ -14,6 +14,7 @@ use Rattle.lot_acts.specs.declared.acts.Next.{Next}
 use Rattle.lot_acts.specs.declared.acts.Reply.{Reply}
 use Rattle.lot_acts.specs.declared.acts.Reply.TheVariants as reply
 use Rattle.lot_acts.specs.Calls.{call_by, CallFollows}
+use Rattle.lot_acts.specs.Acts.{any_picked}
 use Rattle.lot_rwlock.specs.declared.places.Admission.{Admission}
 use Rattle.lot_rwlock.specs.declared.places.RwLockPlace.{RwLockPlace}
 use Rattle.lot_rwlock.specs.declared.purposes.RwLockPurpose.{RwLockPurpose}
@@ -25,7 +26,7 @@ use Rattle.lot_rwlock.specs.declared.park.ParkAt.{ParkAt}
 use Rattle.lot_rwlock.specs.declared.park.ParkAt.TheVariants as parking
 use Rattle.lot_rwlock.specs.declared.release.WakeAt.{WakeAt}
 use Rattle.lot_rwlock.specs.declared.release.WakeAt.TheVariants as waking
-use Rattle.lot_rwlock.specs.RwLockSteps.{wanted, from_of, to_of, start_of, patience_of, any_picked, park_next, wake_next, rwlock_next}
+use Rattle.lot_rwlock.specs.RwLockSteps.{wanted, from_of, to_of, start_of, patience_of, park_next, wake_next, rwlock_next}
 use Rattle.lot_rwlock.specs.RwLockDeeds.{Admits, IsFreshTry, MayHear, MayHearParking, MayHearWaking, rwlock_deeds, park_deeds, wake_deeds, rwlock_doing}
 use Rattle.lot_rwlock.specs.RwLockProfiles.{rwlock_profile}
 use Rattle.lot_rwlock.specs.RwLockCalls.{MayWait, HasDeadline, ParksBy, EntersAt, SharesAt, WritesAt, ReleasesAt, DowngradesAt, UpgradesAt, StandsAt, KeepsRight, IsNotLate, next_row, CallFollowsBy, RwLockSectionsTell}
@@ -301,7 +302,7 @@ module _ (r : Rules) (a : Admission) (s : Site) (t l : ℕ) (admits : Admits r a
   tries_tell again to whom told fits hears = absurd fits
 
 pub rwlock_sections_tell : RwLockSectionsTell
-rwlock_sections_tell r a s t l p whom told calling hears now = by_purpose p.purpose p.retries p.at calling.stands calling.keeps calling.at.fresh calling.at.doing hears
+rwlock_sections_tell r a s t l p whom told calling hears now = by_purpose p.purpose p.retries p.at calling.stands.place calling.keeps calling.at.fresh calling.at.doing hears
   where
     admits : Admits r a
     admits = calling.at.admits

@@ -477,7 +477,7 @@ module _ (r : Rules) (a : Admission) (s : Site) (t l : ℕ) (op : Op) (admits : 
 -- ---------------------------------------------------------------- every place
 
 pub rwlock_steps_tell : RwLockStepsTell
-rwlock_steps_tell r a s t l p op calling nowhere e = by_purpose p.purpose p.retries p.at calling.stands calling.at.place calling.at.fresh calling.at.doing e
+rwlock_steps_tell r a s t l p op calling nowhere e = by_purpose p.purpose p.retries p.at calling.stands.place calling.at.place calling.at.fresh calling.at.doing e
   where
     admits : Admits r a
     admits = calling.at.admits

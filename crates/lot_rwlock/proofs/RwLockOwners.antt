@@ -1,6 +1,10 @@
 -- Each step on the word of a reader-writer lock changes its owners as its deeds say.
-use Rattle.std.proofs.Common.{ℕ, Bool, true, false, Some, None, List, [], ◌∷◌, if◌then◌else◌, ◌==◌, not, ◌≡◌, refl, ap, ◌∙◌, arith}
+use Rattle.std.specs.Prelude.{slice_index, slice_set, sum}
+use Rattle.std.proofs.Common.{ℕ, Bool, true, false, Option, Some, None, List, [], ◌∷◌, if◌then◌else◌, ◌==◌, not, inl, inr, length, ◌≡◌, ◌+◌, ◌^◌, ◌<◌, ◌≤◌, refl, sym, ap, ◌∙◌, arith}
 use Rattle.lot_base.specs.declared.ops.Op.{Op}
+use Rattle.lot_base.specs.declared.wants.Waiter.{Waiter}
+use Rattle.lot_acts.specs.declared.owners.Owners.{Owners}
+use Rattle.lot_acts.specs.Owners.{lock_seen, shares_then}
 use Rattle.lot_base.specs.declared.wants.Want.TheVariants.{Exclusive, Upgradable, Shared}
 use Rattle.lot_calls.specs.declared.calls.Access.{Access}
 use Rattle.lot_calls.specs.declared.calls.Access.TheVariants as access
@@ -8,11 +12,13 @@ use Rattle.lot_calls.specs.declared.calls.Downgrade.{Downgrade}
 use Rattle.lot_calls.specs.declared.calls.Downgrade.TheVariants as downgrade
 use Rattle.lot_calls.specs.declared.outcomes.Answer.TheVariants.{No}
 use Rattle.abstract_locks.proofs.CodeLaws.{words_tell_true}
-use Rattle.std.proofs.lemmas.Bool.{eqb-true}
+use Rattle.std.proofs.lemmas.Bool.{cases_lt, eqb-true}
+use Rattle.std.proofs.lemmas.List.{get_or_past}
+use Rattle.std.proofs.lemmas.List.Sums.{sum_by-set}
 use Rattle.std.proofs.lemmas.Bool.Decides.{nat_tests}
 use Rattle.lot_calls.specs.declared.calls.Patience.{Patience}
 use Rattle.lot_calls.specs.declared.calls.Patience.TheVariants.{Patient, Timed, Try}
-use Rattle.abstract_locks.specs.Locks.{LockState, Rules, Pending, Settle, Leave, Convert, Rollback, Owns, readers, falling_back}
+use Rattle.abstract_locks.specs.Locks.{LockState, Rules, Taken, Pending, with_owner, without_owner, pending_for, Settle, Leave, Convert, Rollback, Owns, readers, falling_back}
 use Rattle.abstract_locks.specs.Locks as locks
 use Rattle.abstract_locks.specs.Sites.{Has, Pends, Site, IsSite, Deed, End, Mark, Case}
 use Rattle.abstract_locks.specs.Codes.{code, TellsTrue, count_in, has_parked}
@@ -20,6 +26,7 @@ use Rattle.lot_base.specs.declared.keys.Line.TheVariants.{Main, Second}
 use Rattle.lot_acts.specs.declared.acts.Act.TheVariants as act
 use Rattle.lot_acts.specs.declared.acts.Reply.TheVariants as reply
 use Rattle.lot_rwlock.specs.declared.places.Admission.{Admission}
+use Rattle.lot_rwlock.specs.declared.changes.Change.{Change}
 use Rattle.lot_rwlock.specs.declared.changes.Change.TheVariants as changes
 use Rattle.lot_rwlock.specs.declared.places.RwLockPlace.{RwLockPlace}
 use Rattle.lot_rwlock.specs.declared.purposes.RwLockPurpose.{RwLockPurpose}
@@ -30,8 +37,56 @@ use Rattle.lot_rwlock.specs.declared.enter.Decision.{Decision}
 use Rattle.lot_rwlock.specs.declared.enter.Decision.TheVariants as decisions
 use Rattle.lot_rwlock.specs.declared.park.ParkAt.TheVariants as parking
 use Rattle.lot_rwlock.specs.declared.release.WakeAt.TheVariants as waking
-use Rattle.lot_rwlock.specs.RwLockSteps.{wanted, from_of, to_of, decision, decided_act, rwlock_act, enters_by, came_change, change}
-use Rattle.lot_rwlock.specs.RwLockDeeds.{Admits, AtTry, AtPending, AtUpgrade, rwlock_doing, missed_deeds, looked_deeds, enters_deeds, exchanged_deeds, does_and_wakes, sees_waiter, rwlock_deeds, after_all, AtFits, lock_by, RwLockOwnersFollow}
+use Rattle.lot_rwlock.specs.RwLockSteps.{wanted, from_of, to_of, decision, decided_act, rwlock_act, enters_by, came_change, change, owners_by, shares_by, plus}
+use Rattle.lot_rwlock.specs.RwLockDeeds.{Admits, AtTry, AtPending, AtUpgrade, rwlock_doing, missed_deeds, looked_deeds, enters_deeds, exchanged_deeds, does_and_wakes, sees_waiter, rwlock_deeds, after_all, AtFits, IsAt, RwLockOwnersFollow}
+
+-- the lock behind what an operation does to its owners
+abbrev lock_after : Change → ℕ → LockState → LockState
+lock_after changes.Nothing t s = s
+lock_after (changes.Enter x) t s = with_owner t (wanted x) s
+lock_after changes.Pend t s = pending_for t false s
+lock_after changes.Settle t s = with_owner t Exclusive (record s { pending = None })
+lock_after (changes.Leave x) t s = without_owner t (wanted x) s
+lock_after (changes.Downgrade d) t s = with_owner t (wanted (to_of d)) (without_owner t (wanted (from_of d)) s)
+lock_after (changes.Upgrade true) t s = with_owner t Exclusive (without_owner t Upgradable s)
+lock_after (changes.Upgrade false) t s = pending_for t true (without_owner t Upgradable s)
+lock_after (changes.RollBack false) t s = record s { pending = None }
+lock_after (changes.RollBack true) t s = with_owner t Upgradable (record s { pending = None })
+
+-- it is read off the owners and the numbers of shares
+module _ (shared : List ℕ) (o : Owners) (main second : List Waiter) (taken : ℕ → Option Taken) (t : ℕ) where
+  abbrev IsSeen : Change → Type 0
+  IsSeen c =
+      lock_seen (shares_then shared t (shares_by c (slice_index shared t))) (owners_by c t o) main second taken
+      ≡ lock_after c t (lock_seen shared o main second taken)
+
+  one_more : slice_index shared t + 1 < 2 ^ 64 → (λ (n : ℕ). slice_set shared t n) (plus (slice_index shared t) 1) ≡ slice_set shared t (slice_index shared t + 1)
+  one_more few = ap (λ n. slice_set shared t n) (let e : plus (slice_index shared t) 1 ≡ slice_index shared t + 1 = omega arith in e)
+
+  seen : (c : Change) → slice_index shared t + 1 < 2 ^ 64 → IsSeen c
+  seen changes.Nothing few = refl
+  seen (changes.Enter access.Shared) few = λ i. lock_seen (one_more few i) o main second taken
+  seen (changes.Enter access.Upgradable) few = refl
+  seen (changes.Enter access.Exclusive) few = refl
+  seen changes.Pend few = refl
+  seen changes.Settle few = refl
+  seen (changes.Leave access.Shared) few = refl
+  seen (changes.Leave access.Upgradable) few = refl
+  seen (changes.Leave access.Exclusive) few = refl
+  seen (changes.Downgrade downgrade.ToShared) few = λ i. lock_seen (one_more few i) (owners_by (changes.Downgrade downgrade.ToShared) t o) main second taken
+  seen (changes.Downgrade downgrade.ToUpgradable) few = refl
+  seen (changes.Downgrade downgrade.UpgradableToShared) few = λ i. lock_seen (one_more few i) (owners_by (changes.Downgrade downgrade.UpgradableToShared) t o) main second taken
+  seen (changes.Upgrade true) few = refl
+  seen (changes.Upgrade false) few = refl
+  seen (changes.RollBack true) few = refl
+  seen (changes.RollBack false) few = refl
+
+-- nobody has more shares than all together
+share_of : (shared : List ℕ) (t : ℕ) → slice_index shared t ≤ sum shared
+share_of shared t = elim (cases_lt t (length shared)) [
+  | inl lt ↦ let e = sum_by-set (λ (n : ℕ). n) shared t 0 0 lt in omega arith
+  | inr past ↦ let e = get_or_past shared t 0 past in omega arith
+]
 
 module _ (r : Rules) (a : Admission) (s : Site) (t l : ℕ) (f : Op) (h : IsSite r s) where
   abbrev v : ℕ
@@ -52,12 +107,12 @@ module _ (r : Rules) (a : Admission) (s : Site) (t l : ℕ) (f : Op) (h : IsSite
   missed_same Patient = refl
   missed_same Timed = refl
 
-  came : (x : Access) → behind (enters_deeds (wanted x)) ≡ lock_by (enters_by x) t s.lock
+  came : (x : Access) → behind (enters_deeds (wanted x)) ≡ lock_after (enters_by x) t s.lock
   came access.Exclusive = refl
   came access.Upgradable = refl
   came access.Shared = refl
 
-  exchanged : (x : Access) (how : Patience) (d now : Decision) (b : Bool) → behind (exchanged_deeds (purpose.Enter x how) d b now) ≡ lock_by (if b then came_change (purpose.Enter x how) d else changes.Nothing) t s.lock
+  exchanged : (x : Access) (how : Patience) (d now : Decision) (b : Bool) → behind (exchanged_deeds (purpose.Enter x how) d b now) ≡ lock_after (if b then came_change (purpose.Enter x how) d else changes.Nothing) t s.lock
   exchanged x how decisions.Take now true = came x
   exchanged x how decisions.Mark now true = refl
   exchanged x how decisions.Park now true = looks_same now
@@ -67,15 +122,15 @@ module _ (r : Rules) (a : Admission) (s : Site) (t l : ℕ) (f : Op) (h : IsSite
   exchanged x how decisions.Park now false = looks_same now
   exchanged x how (decisions.Refuse answer) now false = looks_same now
 
-  first : (how : Patience) (b : Bool) → behind (if b then Case (locks.Enter Exclusive) ∷ End ∷ [] else missed_deeds how) ≡ lock_by (if b then changes.Enter access.Exclusive else changes.Nothing) t s.lock
+  first : (how : Patience) (b : Bool) → behind (if b then Case (locks.Enter Exclusive) ∷ End ∷ [] else missed_deeds how) ≡ lock_after (if b then changes.Enter access.Exclusive else changes.Nothing) t s.lock
   first how true = refl
   first how false = missed_same how
 
-  settled : (b : Bool) → behind (if b then Case Settle ∷ End ∷ [] else []) ≡ lock_by (if b then changes.Settle else changes.Nothing) t s.lock
+  settled : (b : Bool) → behind (if b then Case Settle ∷ End ∷ [] else []) ≡ lock_after (if b then changes.Settle else changes.Nothing) t s.lock
   settled true = refl
   settled false = refl
 
-  counts : (b c : Bool) → behind (if b then Mark Second ∷ [] else if c then Case Settle ∷ End ∷ [] else []) ≡ lock_by (if b then changes.Nothing else if c then changes.Settle else changes.Nothing) t s.lock
+  counts : (b c : Bool) → behind (if b then Mark Second ∷ [] else if c then Case Settle ∷ End ∷ [] else []) ≡ lock_after (if b then changes.Nothing else if c then changes.Settle else changes.Nothing) t s.lock
   counts true c = refl
   counts false c = settled c
 
@@ -85,22 +140,22 @@ module _ (r : Rules) (a : Admission) (s : Site) (t l : ℕ) (f : Op) (h : IsSite
   does false c = refl
 
   -- a writer that entered falls back to nothing, and one that upgrades to its right
-  rolled : (b : Bool) → s.lock.pending ≡ Some (record { thread = t; falls_back = false }) → behind (does_and_wakes b (Case Rollback)) ≡ lock_by (changes.RollBack false) t s.lock
+  rolled : (b : Bool) → s.lock.pending ≡ Some (record { thread = t; falls_back = false }) → behind (does_and_wakes b (Case Rollback)) ≡ lock_after (changes.RollBack false) t s.lock
   rolled b e = does b Rollback ∙ rw e refl
 
-  fell : (b : Bool) → s.lock.pending ≡ Some (record { thread = t; falls_back = true }) → behind (does_and_wakes b (Case Rollback)) ≡ lock_by (changes.RollBack true) t s.lock
+  fell : (b : Bool) → s.lock.pending ≡ Some (record { thread = t; falls_back = true }) → behind (does_and_wakes b (Case Rollback)) ≡ lock_after (changes.RollBack true) t s.lock
   fell b e = does b Rollback ∙ rw e refl
 
-  left : (x : Access) (b : Bool) → behind (does_and_wakes b (Case (Leave (wanted x)))) ≡ lock_by (changes.Leave x) t s.lock
+  left : (x : Access) (b : Bool) → behind (does_and_wakes b (Case (Leave (wanted x)))) ≡ lock_after (changes.Leave x) t s.lock
   left x b = does b (Leave (wanted x))
 
-  downgraded : (d : Downgrade) (b : Bool) → behind (does_and_wakes b (Case (Convert (wanted (from_of d)) (wanted (to_of d))))) ≡ lock_by (changes.Downgrade d) t s.lock
+  downgraded : (d : Downgrade) (b : Bool) → behind (does_and_wakes b (Case (Convert (wanted (from_of d)) (wanted (to_of d))))) ≡ lock_after (changes.Downgrade d) t s.lock
   downgraded downgrade.ToShared b = does b (Convert Exclusive Shared)
   downgraded downgrade.ToUpgradable b = does b (Convert Exclusive Upgradable)
   downgraded downgrade.UpgradableToShared b = does b (Convert Upgradable Shared)
 
   -- an upgrade owns where it sees one reader, itself
-  upgraded : (b c : Bool) → (readers s.lock == 0) ≡ c → behind (does_and_wakes b (Case (Convert Upgradable Exclusive))) ≡ lock_by (changes.Upgrade c) t s.lock
+  upgraded : (b c : Bool) → (readers s.lock == 0) ≡ c → behind (does_and_wakes b (Case (Convert Upgradable Exclusive))) ≡ lock_after (changes.Upgrade c) t s.lock
   upgraded b true e = does b (Convert Upgradable Exclusive) ∙ rw e refl
   upgraded b false e = does b (Convert Upgradable Exclusive) ∙ rw e refl
 
@@ -117,7 +172,7 @@ module _ (r : Rules) (a : Admission) (s : Site) (t l : ℕ) (f : Op) (h : IsSite
 
       -- the owners behind a step at a place
       abbrev Owned : RwLockPlace → Type 0
-      Owned p = behind (rwlock_deeds a p None (reply.Value v)) ≡ lock_by (change a p v) t s.lock
+      Owned p = behind (rwlock_deeds a p None (reply.Value v)) ≡ lock_after (change a p v) t s.lock
 
       enters_owners : (x : Access) (how : Patience) (to : RwLockAt) → AtFits (purpose.Enter x how) to → s.doing t ≡ rwlock_doing (of (purpose.Enter x how) to) → rwlock_act l a (of (purpose.Enter x how) to) ≡ act.Word l f → Owned (of (purpose.Enter x how) to)
       enters_owners x how at.First fits is e = first how (v == 0)
@@ -162,7 +217,7 @@ module _ (r : Rules) (a : Admission) (s : Site) (t l : ℕ) (f : Op) (h : IsSite
       looks_up false = refl
 
       takes_up : (how : Patience) (expected : ℕ) (b : Bool) → (count_in expected == 1) ≡ b → decided_act l (purpose.Upgrade how) expected (if b then decisions.Take else decisions.Refuse No) ≡ act.Word l f → (c : Bool) → (v == expected) ≡ c → Owns s.lock t Upgradable
-          → behind (exchanged_deeds (purpose.Upgrade how) (if b then decisions.Take else decisions.Refuse No) c (if count_in v == 1 then decisions.Take else decisions.Refuse No)) ≡ lock_by (if c then came_change (purpose.Upgrade how) (if b then decisions.Take else decisions.Refuse No) else changes.Nothing) t s.lock
+          → behind (exchanged_deeds (purpose.Upgrade how) (if b then decisions.Take else decisions.Refuse No) c (if count_in v == 1 then decisions.Take else decisions.Refuse No)) ≡ lock_after (if c then came_change (purpose.Upgrade how) (if b then decisions.Take else decisions.Refuse No) else changes.Nothing) t s.lock
       takes_up how expected true one e true ec own = upgraded false true (alone own true (ap (λ n. count_in n == 1) (eqb-true v expected ec) ∙ one))
       takes_up how expected true one e false ec own = looks_up (count_in v == 1)
       takes_up how expected false one e c ec own = absurd cc
@@ -174,10 +229,11 @@ module _ (r : Rules) (a : Admission) (s : Site) (t l : ℕ) (f : Op) (h : IsSite
 
 abbrev IsOwned : Rules → Admission → Site → ℕ → RwLockPlace → Type 0
 IsOwned r a s t p =
-    (after_all r (rwlock_deeds a p None (reply.Value (code r s))) s t).lock ≡ lock_by (change a p (code r s)) t s.lock
+    (after_all r (rwlock_deeds a p None (reply.Value (code r s))) s t).lock ≡ lock_after (change a p (code r s)) t s.lock
 
-pub rwlock_owners_follow : RwLockOwnersFollow
-rwlock_owners_follow r a s t l p f at e = by_purpose p.purpose p.retries p.at at.place at.doing e
+-- each step on the word changes the lock as its deeds say
+owned_all : (r : Rules) (a : Admission) (s : Site) (t l : ℕ) (p : RwLockPlace) (f : Op) → IsAt r a s t p → rwlock_act l a p ≡ act.Word l f → IsOwned r a s t p
+owned_all r a s t l p f at e = by_purpose p.purpose p.retries p.at at.place at.doing e
   where
     by_patience : (how : Patience) (again : Bool) (to : RwLockAt) → AtUpgrade how to → s.doing t ≡ rwlock_doing (record { purpose = purpose.Upgrade how; retries = again; at = to })
         → rwlock_act l a (record { purpose = purpose.Upgrade how; retries = again; at = to }) ≡ act.Word l f → IsOwned r a s t (record { purpose = purpose.Upgrade how; retries = again; at = to })
@@ -191,3 +247,14 @@ rwlock_owners_follow r a s t l p f at e = by_purpose p.purpose p.retries p.at at
     by_purpose (purpose.Release x) again to fits is g = releases_owners r a s t l f at.site at.admits again x to fits g
     by_purpose (purpose.Downgrade d) again to fits is g = downgrades_owners r a s t l f at.site at.admits again d to fits g
     by_purpose (purpose.Upgrade how) again to fits is g = by_patience how again to fits is g
+
+pub rwlock_owners_follow : RwLockOwnersFollow
+rwlock_owners_follow r a s t l p f shared o main second taken at e room limit is =
+    seen shared o main second taken t (change a p (code r s)) few ∙ ap (lock_after (change a p (code r s)) t) (sym is) ∙ sym (owned_all r a s t l p f at e)
+  where
+    few : slice_index shared t + 1 < 2 ^ 64
+    few = let all : readers s.lock ≡ sum shared = ap readers is in
+        let one : slice_index shared t ≤ sum shared = share_of shared t in
+        let top : locks.count s.lock ≤ r.limit + 1 = limit.top in
+        let same : r.limit ≡ a.limit = at.admits.2 in
+        omega arith

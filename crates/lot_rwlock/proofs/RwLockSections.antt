@@ -18,6 +18,8 @@ use Rattle.abstract_locks.proofs.CodeLaws.{words_tell_true}
 use Rattle.lot_base.specs.declared.ops.Op.TheVariants.{Load}
 use Rattle.lot_acts.specs.declared.acts.Reply.{Reply}
 use Rattle.lot_acts.specs.declared.acts.Reply.TheVariants as reply
+use Rattle.lot_acts.specs.Acts.{any_picked}
+use Rattle.lot_acts.specs.Moves.{IsFree}
 use Rattle.lot_rwlock.specs.declared.places.Admission.{Admission}
 use Rattle.lot_rwlock.specs.declared.places.RwLockPlace.{RwLockPlace}
 use Rattle.lot_rwlock.specs.declared.purposes.RwLockPurpose.{RwLockPurpose}
@@ -30,8 +32,8 @@ use Rattle.lot_rwlock.specs.declared.park.ParkAt.{ParkAt}
 use Rattle.lot_rwlock.specs.declared.park.ParkAt.TheVariants as parking
 use Rattle.lot_rwlock.specs.declared.release.WakeAt.{WakeAt}
 use Rattle.lot_rwlock.specs.declared.release.WakeAt.TheVariants as waking
-use Rattle.lot_rwlock.specs.RwLockSteps.{wanted, to_of, access_of, start_of, patience_of, decision, park_next, wake_next, took, any_picked}
-use Rattle.lot_rwlock.specs.RwLockDeeds.{MayKeep, kept_claim, again_of, leaves_with, AtTry, AtPending, AtUpgrade, within, finding, pends, parking_doing, waking_doing, rwlock_doing, doing_next, IsFreshTry, AtFits, Admits, IsFree, MayHear, MayHearParking, MayHearWaking, takes, park_deeds, wake_deeds, Follows, FollowsBy, RwLockSectionsFollow}
+use Rattle.lot_rwlock.specs.RwLockSteps.{wanted, to_of, access_of, start_of, patience_of, decision, park_next, wake_next, took}
+use Rattle.lot_rwlock.specs.RwLockDeeds.{MayKeep, kept_claim, again_of, leaves_with, AtTry, AtPending, AtUpgrade, within, finding, pends, parking_doing, waking_doing, rwlock_doing, doing_next, IsFreshTry, AtFits, Admits, MayHear, MayHearParking, MayHearWaking, takes, park_deeds, wake_deeds, Follows, FollowsBy, RwLockSectionsFollow}
 use Rattle.lot_rwlock.proofs.RwLockFit.{put_same, knows_all, retrying, looks, counts, upgrade_counts}
 
 module _ (r : Rules) (s : Site) (t : ℕ) (rw_sort : has_readers r.sort ≡ true) (h : IsSite r s) (tells : TellsTrue r s) where

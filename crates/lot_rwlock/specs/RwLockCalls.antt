@@ -1,6 +1,6 @@
 -- What each step of a reader-writer lock makes of its call: the row of the next place is what the step's case makes of the call, the call
 -- is made of that case, and its answer is true.
-use Rattle.std.specs.Prelude.{ℕ, Bool, true, false, Option, Some, None, ◌≡◌, ◌≢◌, ◌<◌, length}
+use Rattle.std.specs.Prelude.{ℕ, Bool, true, false, Option, Some, None, ◌≡◌, ◌≢◌, ◌<◌, ◌^◌, length}
 use Rattle.lot_base.specs.declared.keys.Line.TheVariants.{Main, Second}
 use Rattle.lot_base.specs.declared.notes.Note.TheVariants.{Normal}
 use Rattle.lot_base.specs.declared.ops.Op.{Op}
@@ -21,11 +21,12 @@ use Rattle.lot_rwlock.specs.declared.purposes.RwLockPurpose.{RwLockPurpose}
 use Rattle.lot_rwlock.specs.declared.purposes.RwLockPurpose.TheVariants as purpose
 use Rattle.lot_rwlock.specs.declared.places.RwLockAt.{RwLockAt}
 use Rattle.lot_rwlock.specs.declared.places.RwLockAt.TheVariants as at
+use Rattle.lot_rwlock.specs.declared.enter.Decision.{Decision}
 use Rattle.lot_rwlock.specs.declared.enter.Decision.TheVariants as decisions
 use Rattle.lot_rwlock.specs.declared.park.ParkAt.{ParkAt}
 use Rattle.lot_rwlock.specs.declared.park.ParkAt.TheVariants as parking
-use Rattle.lot_rwlock.specs.RwLockSteps.{wanted, to_of, patience_of, decided, rwlock_act, rwlock_next}
-use Rattle.lot_rwlock.specs.RwLockDeeds.{IsAt, MayHear, rwlock_deeds}
+use Rattle.lot_rwlock.specs.RwLockSteps.{wanted, to_of, patience_of, decided_for, decided, rwlock_act, rwlock_next}
+use Rattle.lot_rwlock.specs.RwLockDeeds.{IsAt, IsFreshTry, MayHear, rwlock_deeds}
 use Rattle.lot_rwlock.specs.RwLockProfiles.{rwlock_profile, hand_at, late_line_at}
 use Rattle.abstract_locks.specs.Locks.{LockState, Rules, Rights, Owns, standing}
 use Rattle.abstract_locks.specs.Codes.{code}
@@ -102,23 +103,36 @@ StandsAt (purpose.Release x) again to = ReleasesAt x to
 StandsAt (purpose.Downgrade d) again to = DowngradesAt to
 StandsAt (purpose.Upgrade how) again to = UpgradesAt how again to
 
-abbrev pub MayStand : RwLockPlace → Type 0
-MayStand p = StandsAt p.purpose p.retries p.at
+-- what it decides by the value that it saw is not to refuse: then its call has ended
+abbrev pub GoesOn : Decision → Type 0
+GoesOn (decisions.Refuse answer) = ⊥
+GoesOn decision = Unit {0}
 
-abbrev pub MayStandNext : Next RwLockPlace → Type 0
-MayStandNext (next.At p) = MayStand p
-MayStandNext (next.End answer) = Unit {0}
+abbrev pub IsDecided : Admission → RwLockPurpose → RwLockAt → Type 0
+IsDecided a q (at.Decide seen) = GoesOn (decided_for a q seen)
+IsDecided a q to = Unit {0}
 
--- nobody enters the section of a queue but who decided to wait, and nobody is told that its time is up but who has a deadline
+pub record MayStand (a : Admission) (p : RwLockPlace) : Type 0 where
+  pub place : StandsAt p.purpose p.retries p.at
+  pub fresh : IsFreshTry (patience_of p.purpose) p.retries
+  pub decided : IsDecided a p.purpose p.at
+
+abbrev pub MayStandNext : Admission → Next RwLockPlace → Type 0
+MayStandNext a (next.At p) = MayStand a p
+MayStandNext a (next.End answer) = Unit {0}
+
+-- nobody enters the section of a queue but who decided to wait, nobody is told that its time is up but who has a deadline, and a word has 64 bits
 abbrev pub MayBeTold : Admission → RwLockPlace → RwLockAt → Reply → Type 0
 MayBeTold a p (at.Decide seen) reply.Done = decided a p seen ≡ decisions.Park
+MayBeTold a p to (reply.Value seen) = seen < 2 ^ 64
 MayBeTold a p to reply.Late = HasDeadline (patience_of p.purpose)
 MayBeTold a p to told = Unit {0}
 
 -- a call that stands where it may goes on where it may
 abbrev pub RwLockCallsStand : Type 0
 RwLockCallsStand =
-    (a : Admission) (p : RwLockPlace) (told : Reply) → MayStand p → MayBeTold a p p.at told → MayStandNext (rwlock_next a p told)
+    (a : Admission) (p : RwLockPlace) (told : Reply) → MayStand a p → MayBeTold a p p.at told
+    → MayStandNext a (rwlock_next a p told)
 
 -- ---------------------------------------------------------------- the laws
 
@@ -138,7 +152,7 @@ KeepsRight s t q to = Unit {0}
 -- a thread that is there stands at a place of a call of the lock
 pub record IsCalling (r : Rules) (a : Admission) (s : Site) (t : ℕ) (p : RwLockPlace) : Type 0 where
   pub at : IsAt r a s t p
-  pub stands : MayStand p
+  pub stands : MayStand a p
   pub keeps : KeepsRight s.lock t p.purpose p.at
   pub there : t < length s.lock.shared
 
@@ -173,4 +187,4 @@ pub record SleepersHear (a : Admission) (l : ℕ) (p : RwLockPlace) : Type 0 whe
   pub late : late_line_at (patience_of p.purpose) p.at ≢ None → CallBecomes a l p reply.Late (λ c. record c { late = true })
 
 abbrev pub RwLockSleepersHear : Type 0
-RwLockSleepersHear = (a : Admission) (l : ℕ) (p : RwLockPlace) → MayStand p → SleepersHear a l p
+RwLockSleepersHear = (a : Admission) (l : ℕ) (p : RwLockPlace) → MayStand a p → SleepersHear a l p

@@ -1,10 +1,11 @@
 -- The steps of a reader-writer lock, told by what a thread does about the abstract lock: what each place is, and the deeds of each step.
-use Rattle.std.specs.Prelude.{ℕ, Bool, true, false, Option, Some, None, if◌then◌else◌, ◌==◌, ◌&&◌, not, ◌≡◌, ◌≢◌, ◌<◌, ◌≤◌, ◌-◌, ◌^◌, List, [], ◌∷◌, length}
+use Rattle.std.specs.Prelude.{ℕ, Bool, true, false, Option, Some, None, if◌then◌else◌, ◌==◌, ◌&&◌, not, ◌≡◌, ◌<◌, ◌-◌, ◌^◌, List, [], ◌∷◌, length, slice_index}
 use Rattle.lot_base.specs.declared.keys.Line.{Line}
 use Rattle.lot_base.specs.declared.keys.Line.TheVariants.{Main, Second}
 use Rattle.lot_base.specs.declared.ops.Op.{Op}
 use Rattle.lot_base.specs.declared.wants.Want.{Want}
 use Rattle.lot_base.specs.declared.wants.Want.TheVariants.{Exclusive, Upgradable, Shared}
+use Rattle.lot_base.specs.declared.wants.Waiter.{Waiter}
 use Rattle.lot_base.specs.Words.{apply}
 use Rattle.lot_calls.specs.declared.calls.Access.TheVariants as access
 use Rattle.lot_calls.specs.declared.calls.Patience.{Patience}
@@ -15,8 +16,6 @@ use Rattle.lot_acts.specs.declared.acts.Next.TheVariants as next
 use Rattle.lot_acts.specs.declared.acts.Reply.{Reply}
 use Rattle.lot_acts.specs.declared.acts.Reply.TheVariants as reply
 use Rattle.lot_rwlock.specs.declared.places.Admission.{Admission}
-use Rattle.lot_rwlock.specs.declared.changes.Change.{Change}
-use Rattle.lot_rwlock.specs.declared.changes.Change.TheVariants as changes
 use Rattle.lot_rwlock.specs.declared.places.RwLockPlace.{RwLockPlace}
 use Rattle.lot_rwlock.specs.declared.purposes.RwLockPurpose.{RwLockPurpose}
 use Rattle.lot_rwlock.specs.declared.purposes.RwLockPurpose.TheVariants as purpose
@@ -28,10 +27,13 @@ use Rattle.lot_rwlock.specs.declared.park.ParkAt.{ParkAt}
 use Rattle.lot_rwlock.specs.declared.park.ParkAt.TheVariants as parking
 use Rattle.lot_rwlock.specs.declared.release.WakeAt.{WakeAt}
 use Rattle.lot_rwlock.specs.declared.release.WakeAt.TheVariants as waking
-use Rattle.lot_rwlock.specs.RwLockSteps.{wanted, from_of, to_of, access_of, start_of, want_at, patience_at, decided, park_check, rwlock_act, rwlock_next, change}
+use Rattle.lot_rwlock.specs.RwLockSteps.{wanted, from_of, to_of, access_of, start_of, want_at, patience_at, decided, park_check, rwlock_act, rwlock_next, rwlock_owners, rwlock_shares}
 use Rattle.lot_acts.specs.Acts.{holds}
-use Rattle.abstract_locks.specs.Locks.{LockState, Rules, with_owner, without_owner, pending_for, Enter, Pend, Settle, Leave, Convert, Park, Aside, TakeAside, TakePicked, Late, Rollback, is_recursive, keeps_more, standing, times, without, unpicked}
-use Rattle.abstract_locks.specs.Sites.{Claim, Has, Pends, Doing, idle, is_main, is_empty, Site, IsSite, has_readers, Deed, End, In, Out, Mark, Clear, FindNobody, Case}
+use Rattle.lot_acts.specs.declared.owners.Owners.{Owners}
+use Rattle.lot_acts.specs.Owners.{lock_seen, shares_then}
+use Rattle.lot_acts.specs.Moves.{IsFree, StandsAlone, MayTake}
+use Rattle.abstract_locks.specs.Locks.{Rules, Taken, Enter, Pend, Settle, Leave, Convert, Park, Aside, TakeAside, TakePicked, Late, Rollback, is_recursive, keeps_more, standing}
+use Rattle.abstract_locks.specs.Sites.{Claim, Has, Pends, Doing, idle, is_main, Site, IsSite, has_readers, Deed, End, In, Out, Mark, Clear, FindNobody, Case}
 pub use Rattle.abstract_locks.specs.Deeds.{after_all, AllNeeded}
 use Rattle.abstract_locks.specs.Codes.{code, HasLimit, count_in, has_aside, has_parked}
 
@@ -302,15 +304,6 @@ RwLockStepsCode =
 
 -- ---------------------------------------------------------------- steps in and out of sections
 
--- nobody is inside a section
-abbrev pub IsFree : Site → Line → Type 0
-IsFree s m = (u : ℕ) → (s.doing u).inside ≢ Some m
-
--- it stands in a line, and whether nobody else does
-abbrev pub StandsAlone : Site → ℕ → Line → Bool → Type 0
-StandsAlone s t Main alone = (1 ≤ times t s.lock.queue) × (alone ≡ is_empty (without t s.lock.queue))
-StandsAlone s t Second alone = s.lock.aside ≡ Some t
-
 -- what a thread may be told on its way into a queue, and out of it
 abbrev pub MayHearParking : Rules → Site → ℕ → Line → Bool → ParkAt → Reply → Type 0
 MayHearParking r s t m finds parking.Check (reply.Parked b) = (b ≡ finds) × (standing t s.lock ≡ 0)
@@ -319,11 +312,6 @@ MayHearParking r s t m finds parking.Asleep reply.Late = IsFree s m
 MayHearParking r s t m finds parking.Remove (reply.Removed none_left) = StandsAlone s t m none_left
 MayHearParking r s t m finds parking.GiveUp reply.Done = s.lock.taken t ≡ None
 MayHearParking r s t m finds to told = ⊥
-
--- who is taken of the second queue, and whether somebody is left in the main one
-abbrev pub MayTake : Rules → Site → Option Want → Line → Option ℕ → Bool → Type 0
-MayTake r s start Main whom none_left = none_left ≡ is_empty (unpicked r.sort start s.lock.queue)
-MayTake r s start Second whom none_left = whom ≡ s.lock.aside
 
 abbrev pub MayHearWaking : Rules → Site → ℕ → Option Want → Line → WakeAt → Option ℕ → Reply → Type 0
 MayHearWaking r s t start m waking.Enter whom reply.Done = IsFree s m
@@ -355,22 +343,11 @@ RwLockSectionsFollow =
 
 -- ---------------------------------------------------------------- owners
 
--- the lock behind what an operation does to its owners
-abbrev pub lock_by : Change → ℕ → LockState → LockState
-lock_by changes.Nothing t s = s
-lock_by (changes.Enter x) t s = with_owner t (wanted x) s
-lock_by changes.Pend t s = pending_for t false s
-lock_by changes.Settle t s = with_owner t Exclusive (record s { pending = None })
-lock_by (changes.Leave x) t s = without_owner t (wanted x) s
-lock_by (changes.Downgrade d) t s = with_owner t (wanted (to_of d)) (without_owner t (wanted (from_of d)) s)
-lock_by (changes.Upgrade true) t s = with_owner t Exclusive (without_owner t Upgradable s)
-lock_by (changes.Upgrade false) t s = pending_for t true (without_owner t Upgradable s)
-lock_by (changes.RollBack false) t s = record s { pending = None }
-lock_by (changes.RollBack true) t s = with_owner t Upgradable (record s { pending = None })
-
--- each step on the word changes owners as its deeds say
+-- each step on the word leaves the owners and shares of the lock behind its deeds; a number of shares wraps, as a word does, and none comes near
 abbrev pub RwLockOwnersFollow : Type 0
 RwLockOwnersFollow =
-    (r : Rules) (a : Admission) (s : Site) (t l : ℕ) (p : RwLockPlace) (op : Op) → IsAt r a s t p
-    → rwlock_act l a p ≡ act.Word l op
-    → (after_all r (rwlock_deeds a p None (reply.Value (code r s))) s t).lock ≡ lock_by (change a p (code r s)) t s.lock
+    (r : Rules) (a : Admission) (s : Site) (t l : ℕ) (p : RwLockPlace) (op : Op) (shared : List ℕ) (o : Owners) (main second : List Waiter) (taken : ℕ → Option Taken)
+    → IsAt r a s t p → rwlock_act l a p ≡ act.Word l op → a.limit < 2 ^ 60 - 1 → HasLimit r s.lock
+    → s.lock ≡ lock_seen shared o main second taken
+    → lock_seen (shares_then shared t (rwlock_shares a p (code r s) (slice_index shared t))) (rwlock_owners a p t (code r s) o) main second taken
+    ≡ (after_all r (rwlock_deeds a p None (reply.Value (code r s))) s t).lock

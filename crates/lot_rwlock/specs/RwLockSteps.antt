@@ -1,5 +1,5 @@
 -- The steps of a reader-writer lock: what a thread does at each place, and where each reply leads it.
-use Rattle.std.specs.Prelude.{ℕ, Bool, true, false, Option, Some, None, if◌then◌else◌, ◌==◌, ◌&&◌, ◌||◌, not, ◌+◌, ◌-◌, ◌*◌, nat_le}
+use Rattle.std.specs.Prelude.{ℕ, Bool, true, false, Option, Some, None, if◌then◌else◌, ◌==◌, ◌&&◌, not, ◌+◌, ◌-◌, ◌*◌, nat_le}
 use Rattle.lot_base.specs.declared.keys.Keys.TheVariants.{One}
 use Rattle.lot_base.specs.declared.keys.Line.{Line}
 use Rattle.lot_base.specs.declared.keys.Line.TheVariants.{Main, Second}
@@ -19,7 +19,7 @@ use Rattle.lot_calls.specs.declared.calls.Patience.TheVariants.{Patient, Try}
 use Rattle.lot_calls.specs.declared.outcomes.Answer.{Answer}
 use Rattle.lot_calls.specs.declared.outcomes.Answer as answer
 use Rattle.abstract_locks.specs.Codes.{count_in, has_aside, has_parked, is_blocked}
-use Rattle.lot_acts.specs.Acts.{wakes_taken}
+use Rattle.lot_acts.specs.Acts.{wakes_taken, any_picked}
 use Rattle.lot_acts.specs.declared.acts.Act.{Act}
 use Rattle.lot_acts.specs.declared.acts.Act as act
 use Rattle.lot_acts.specs.declared.acts.Check.{Check}
@@ -350,13 +350,6 @@ park_next p m to reply = stays p (parks_at m to)
 
 abbrev pub took : Line → Bool → Bool → WakeAt
 took m any none_left = if clears m none_left then waking.Clear any else waking.Leave any
-
-abbrev pub is_there : Option Want → Bool
-is_there None = false
-is_there (Some x) = true
-
-abbrev pub any_picked : ℕ → Option Want → Bool
-any_picked sharers successor = not (sharers == 0) || is_there successor
 
 abbrev pub wake_next : RwLockPlace → Line → WakeAt → Reply → Next RwLockPlace
 wake_next p m waking.Enter Done = stays p (at.Wake m waking.Take)

@@ -1,5 +1,6 @@
 //! What the steps of a lock do to it.
 ghost use Rattle.lot_rwlock.specs.RwLockCalls.{RwLockCallsStand, RwLockSectionsTell, RwLockSleepersHear, RwLockStepsTell};
+ghost use Rattle.lot_rwlock.specs.RwLockMoves.{RwLockActsMove, RwLockLateMove, RwLockSleepersMove};
 ghost use Rattle.lot_rwlock.specs.RwLockDeeds.{RwLockOwnersFollow, RwLockSectionsFollow, RwLockStepsCode, RwLockStepsFollow};
 
 /// Each step on the word of a reader-writer lock may do to the lock what its deeds say, and its next place says what the thread does then.
@@ -42,4 +43,19 @@ pub fn rwlock_calls_stand()
 /// What befalls a thread asleep makes of its call what its row says.
 pub fn rwlock_sleepers_hear()
     ensures { RwLockSleepersHear }
+{}
+
+/// Each step takes its thread into the sections and lines of the lock, out of them, and into hands as its act says.
+pub fn rwlock_acts_move()
+    ensures { RwLockActsMove }
+{}
+
+/// Who stands in a line sleeps there or is inside its section; who is taken is in a hand, and who is woken in none.
+pub fn rwlock_sleepers_move()
+    ensures { RwLockSleepersMove }
+{}
+
+/// And whose time is up goes into the section of its line.
+pub fn rwlock_late_moves()
+    ensures { RwLockLateMove }
 {}

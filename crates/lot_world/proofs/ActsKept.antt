@@ -14,6 +14,7 @@ use Rattle.lot_base.proofs.Counts.{times_append, times_without, times_gone}
 use Rattle.lot_calls.specs.declared.kinds.Kind as kind
 use Rattle.lot_steps.specs.declared.places.Place.{Place}
 use Rattle.lot_steps.specs.declared.places.Place.TheVariants.{Idle}
+use Rattle.lot_acts.specs.Owners.{shares_then}
 use Rattle.lot_steps.specs.Steps.{owners_after, shares_after}
 use Rattle.abstract_locks.specs.Locks.{Rules, Taken, putting, keep_from}
 use Rattle.abstract_locks.specs.Locks as locks
@@ -136,10 +137,6 @@ goes_steady w v l ds steady g = record {
     )
 
 -- ---------------------------------------------------------------- what an operation on the word makes of the lock
-
-abbrev pub shares_then : List ℕ → ℕ → Option ℕ → List ℕ
-shares_then shares t None = shares
-shares_then shares t (Some n) = set shares t n
 
 abbrev pub operated : State → ℕ → Place → ℕ → Op → Parts
 operated w t p l f = record {

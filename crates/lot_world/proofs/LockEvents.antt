@@ -17,7 +17,7 @@ use Rattle.lot_steps.specs.declared.places.Place.{Place}
 use Rattle.lot_steps.specs.declared.places.Place.TheVariants.{Idle, Mutex}
 use Rattle.abstract_locks.specs.Locks.{LockState, Queued, Taken as LockTaken, Rights, Enter, Wake, HandOff as HandsOff, IsTaken, IsLockState, Knows, Needs, rights_of, with_right, without_right, is_thread, putting}
 use Rattle.abstract_locks.specs.Locks as locks
-use Rattle.abstract_locks.specs.Runs.{is_taken_by, woken, AtLock, one_more_at, one_less_at}
+use Rattle.abstract_locks.specs.Runs.{is_taken_by, AtLock, one_more_at, one_less_at}
 use Rattle.abstract_locks.specs.Sites.{Site, IsSite}
 use Rattle.abstract_locks.proofs.LockKeeps.{sharing_same}
 use Rattle.lot_machine.specs.Machine.{State, place_at}

@@ -1,5 +1,5 @@
 -- Whatever a thread in a call of a mutex is told of its step, the step makes of its call what its next row says.
-use Rattle.std.proofs.Common.{ℕ, Bool, true, false, Option, Some, None, if◌then◌else◌, ◌==◌, not, ◌≡◌, ◌≢◌, ◌+◌, inl, inr, List, [], ◌∷◌, ◌++◌, refl, ◌∙◌, ap}
+use Rattle.std.proofs.Common.{ℕ, Bool, true, false, Option, Some, None, if◌then◌else◌, ◌==◌, not, ◌≡◌, ◌≢◌, inl, inr, List, [], ◌∷◌, ◌++◌, refl, ◌∙◌, ap}
 use Rattle.lot_base.specs.declared.wants.Want.TheVariants.{Exclusive}
 use Rattle.lot_acts.specs.declared.acts.Reply.{Reply}
 use Rattle.lot_acts.specs.declared.acts.Reply.TheVariants.{Done, Value, Parked, Took, Removed}

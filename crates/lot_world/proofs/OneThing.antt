@@ -1,5 +1,5 @@
 -- A step changes one word at most, or queues whose sections its thread is in.
-use Rattle.std.proofs.Common.{subst, sym, ℕ, Bool, true, false, Option, Some, None, if◌then◌else◌, ◌≡◌, ◌+◌, ◌⊎◌, inl, inr, List, [], ◌∷◌, ◌++◌, get_or, set, map, drop, refl, ◌∙◌, ap, get_or-set_other}
+use Rattle.std.proofs.Common.{subst, sym, ℕ, Bool, true, false, Option, Some, None, if◌then◌else◌, ◌≡◌, ◌⊎◌, inl, inr, List, [], ◌∷◌, ◌++◌, get_or, set, map, drop, refl, ◌∙◌, ap, get_or-set_other}
 use Rattle.std.proofs.lemmas.Bool.{cases_eq}
 use Rattle.lot_base.specs.declared.keys.Keys.{Keys}
 use Rattle.lot_base.specs.declared.keys.Keys.TheVariants.{One, Two}
@@ -14,9 +14,7 @@ use Rattle.lot_acts.specs.declared.acts.Reply.TheVariants.{HandedBy, Spun, Late}
 use Rattle.lot_calls.specs.declared.calls.Turn.{Turn}
 use Rattle.lot_calls.specs.declared.calls.Turn as turn
 use Rattle.lot_calls.specs.declared.calls.Step.{Step}
-use Rattle.lot_mutex.specs.declared.lock.LockAt.TheVariants.{First, Leave, Accept, Remove}
 use Rattle.lot_steps.specs.declared.places.Place.{Place}
-use Rattle.lot_steps.specs.declared.places.Place.TheVariants.{Mutex}
 use Rattle.lot_calls.specs.Calls.{lock_in}
 use Rattle.lot_steps.specs.Steps.{act_of, lock_of, next_place, first_place, spin_lock, late_key}
 use Rattle.lot_machine.specs.Machine.{State, state_after_take, can_turn, unlocked, place_at, word_at, queue_at, section_at, put, state_after_operation, state_with_sections, queues_with_last, queues_without_first, state_after_taking, state_after_wake, state_after_act, state_after_spin_on, state_after_late_on, go_reply, state_after_turn, is_possible, after, kind_at, state_after_hand_over, state_after_telling}

@@ -20,7 +20,6 @@ use Rattle.lot_acts.specs.Profiles.{hand}
 use Rattle.lot_steps.specs.Steps.{lock_of, next_place, taker}
 use Rattle.lot_steps.specs.declared.places.Place.{Place}
 use Rattle.lot_steps.specs.declared.places.Place.TheVariants.{Idle}
-use Rattle.lot_mutex.specs.declared.lock.LockAt.TheVariants.{First}
 use Rattle.abstract_locks.specs.Locks.{Rights, LockCase, Wake, HandOff}
 use Rattle.abstract_locks.specs.Runs.{AtLock, is_taken_by}
 use Rattle.abstract_locks.specs.Deeds.{event_by}

@@ -1,16 +1,10 @@
 -- The abstract locks that a world's words, places and queues stand for.
-use Rattle.std.specs.Prelude.{ℕ, Bool, true, false, Option, Some, None, if◌then◌else◌, ◌+◌, ◌*◌, ◌≡◌, ◌≢◌, ◌⊎◌, List, map, length}
-use Rattle.lot_base.specs.declared.wants.Waiter.{Waiter}
-use Rattle.lot_base.specs.Lines.{first_of}
-use Rattle.lot_acts.specs.declared.owners.Owners.{Owners}
-use Rattle.lot_acts.specs.declared.owners.Pending as owners
-use Rattle.lot_acts.specs.declared.owners.Fallback.{Fallback}
-use Rattle.lot_acts.specs.declared.owners.Fallback as fallback
+use Rattle.std.specs.Prelude.{ℕ, Bool, true, false, Option, Some, None, ◌+◌, ◌*◌, ◌≡◌, ◌≢◌, ◌⊎◌, length}
 use Rattle.lot_steps.specs.declared.places.Place.{Place}
 use Rattle.lot_acts.specs.Profiles.{Profile, bringing_nobody, taken_from}
 pub use Rattle.lot_acts.specs.Calls.{call_by}
+pub use Rattle.lot_acts.specs.Owners.{lock_seen}
 use Rattle.lot_mutex.specs.declared.places.MutexPlace.{MutexPlace}
-use Rattle.abstract_locks.specs.Picks.{queued_of}
 use Rattle.lot_acts.specs.declared.acts.Act.{Act}
 use Rattle.lot_acts.specs.declared.acts.Act.TheVariants.{Enter, Sleep}
 use Rattle.lot_base.specs.declared.keys.Keys.{Keys}
@@ -18,34 +12,15 @@ use Rattle.lot_steps.specs.Steps.{act_of, spin_lock, lock_of, calls, profile}
 pub use Rattle.lot_mutex.specs.MutexProfiles.{mutex_profile, is_bump, entry_purpose, release_purpose, before_entry, before_release}
 pub use Rattle.lot_machine.specs.Machine.{runs_closure}
 use Rattle.lot_machine.specs.Machine.{State, place_at, word_at, owners_at, shares_at, kind_at, queue_at, section_at, is_there}
-use Rattle.abstract_locks.specs.Locks.{LockState, Queued, Taken, Pending, Rights}
+use Rattle.abstract_locks.specs.Locks.{LockState, Taken, Rights}
 use Rattle.abstract_locks.specs.Runs.{LocksState, CallState, Stance, no_call}
 use Rattle.abstract_locks.specs.Locks as locks
 
 -- ---------------------------------------------------------------- one lock
 
-abbrev pub is_upgradable : Fallback → Bool
-is_upgradable fallback.TheVariants.Nothing = false
-is_upgradable fallback.TheVariants.Upgradable = true
-
-abbrev pub pending_owner : Option owners.Pending → Option Pending
-pending_owner None = None
-pending_owner (Some p) = Some (record { thread = p.thread; falls_back = is_upgradable p.fallback })
-
 -- by whom the thread at a place was taken from the queue of a lock
 abbrev pub taken_at : Place → ℕ → Option Taken
 taken_at p l = taken_from (profile p).hand (profile p).wants (calls p l)
-
-abbrev pub lock_seen : List ℕ → Owners → List Waiter → List Waiter → (ℕ → Option Taken) → LockState
-lock_seen shared o main second taken = record {
-  exclusive = o.exclusive;
-  pending = pending_owner o.pending;
-  upgradable = o.upgradable;
-  shared = shared;
-  queue = map queued_of main;
-  aside = first_of second;
-  taken = taken;
-}
 
 abbrev pub lock_state : State → ℕ → LockState
 lock_state w l = lock_seen (shares_at w l) (owners_at w l) (queue_at w (2 * l)) (queue_at w (2 * l + 1)) (λ u. taken_at (place_at w u) l)

@@ -1,4 +1,4 @@
-use Rattle.lot_rwlock.proofs.RwLockCallPlaces.{rwlock_calls_stand}
+use Rattle.lot_rwlock.proofs.RwLockStands.{rwlock_calls_stand}
 use Rattle.lot_rwlock.proofs.laws.rwlock_calls_stand.Goals as goal
 
 pub returns : goal.returns
