@@ -1,5 +1,5 @@
 -- What holds between steps, of a thread at a place: the section that it is inside, the lines in which it stands, and what it owns.
-use Rattle.std.proofs.Common.{ℕ, Bool, true, false, Option, Some, None, if◌then◌else◌, ◌==◌, ◌≡◌, ◌≢◌, ◌+◌, ◌*◌, ◌≤◌, ◌<◌, List, [], length, get_or, map, refl, sym, ◌∙◌, ap, arith, inl, inr}
+use Rattle.std.proofs.Common.{ℕ, Bool, true, false, Option, Some, None, if◌then◌else◌, ◌==◌, ◌≡◌, ◌*◌, ◌≤◌, ◌<◌, List, [], length, get_or, map, refl, sym, ◌∙◌, ap, arith, inl, inr}
 use Rattle.std.proofs.lemmas.Bool.{cases_lt}
 use Rattle.std.proofs.lemmas.List.{get_or_past}
 use Rattle.std.proofs.Math.ListN.{get_or-map}
@@ -8,23 +8,21 @@ use Rattle.lot_base.specs.Lines.{without, times}
 use Rattle.lot_steps.specs.declared.places.Place.{Place}
 use Rattle.lot_steps.specs.declared.places.Place.TheVariants.{Idle, Mutex}
 use Rattle.lot_mutex.specs.declared.places.MutexPlace.{MutexPlace}
-use Rattle.lot_mutex.specs.declared.places.MutexPlace.TheVariants.{Lock}
-use Rattle.lot_mutex.specs.declared.lock.LockAt.TheVariants as lock
 use Rattle.abstract_locks.specs.Locks.{Taken, HasTakenNobody, keep_from, one_if_some, standing}
 use Rattle.abstract_locks.specs.Locks as locks
 use Rattle.abstract_locks.specs.Runs.{is_taken_by}
-use Rattle.abstract_locks.specs.Sites.{Line, Main, Second, Has}
+use Rattle.abstract_locks.specs.Sites.{Line, Main, Has}
 use Rattle.lot_machine.specs.Machine.{State, place_at, word_at, owners_at, kind_at, section_at, queue_at}
 use Rattle.lot_world.specs.Refinement.{lock_state, taken_at}
 use Rattle.lot_world.specs.MutexPromises.{IsMutexWord}
 use Rattle.lot_world.specs.MutexDeeds.{mutex_doing, mutex_station}
-use Rattle.lot_world.specs.Stations.{hand, nowhere, station, station_at, doing_on}
+use Rattle.lot_world.specs.Stations.{hand, station, station_at, doing_on}
 use Rattle.lot_world.specs.SitesOf.{IsSteady, CallsMutex, rules_at, carried_at, hand_at, stood_in}
-use Rattle.lot_world.proofs.Counts.{without_absent, first_times}
+use Rattle.lot_world.proofs.Counts.{without_absent}
 use Rattle.lot_world.proofs.Glue.{same, doing_here, nothing_at, own_stance, untaken}
 use Rattle.lot_world.proofs.MutexTable.{mutex, queued_times}
 use Rattle.lot_world.proofs.StandsMoved.{mutex_rules}
-use Rattle.lot_world.proofs.SitesPromise.{coded_at, first_out}
+use Rattle.lot_world.proofs.SitesPromise.{coded_at}
 
 -- whoever stands in a line is there
 pub stood : (places : List Place) (u l : ℕ) (m : Line) → 1 ≤ stood_in (station_at (get_or places u Idle) l).stands m → u < length places

@@ -1,9 +1,8 @@
 -- What is promised of every state, and of every step, says of a mutex what its users know it by.
-use Rattle.std.proofs.Common.{ℕ, Bool, true, false, Option, Some, None, if◌then◌else◌, ◌≡◌, ◌≢◌, ◌⊎◌, ◌↔◌, inl, inr, refl, sym, ◌∙◌, ap, subst}
+use Rattle.std.proofs.Common.{ℕ, Bool, true, false, Option, Some, None, ◌≡◌, ◌⊎◌, ◌↔◌, inl, inr, refl, sym, ◌∙◌, ap, subst}
 use Rattle.lot_base.specs.declared.wants.Want.{Want}
 use Rattle.lot_base.specs.declared.wants.Want.TheVariants.{Exclusive, Upgradable, Shared}
 use Rattle.lot_calls.specs.declared.outcomes.Outcome.{Outcome}
-use Rattle.lot_calls.specs.declared.outcomes.Outcome.TheVariants as told
 use Rattle.lot_mutex.specs.MutexSteps.{is_parked}
 use Rattle.lot_steps.specs.Steps.{is_line, line_owed}
 use Rattle.abstract_locks.specs.Locks as locks
@@ -15,7 +14,7 @@ use Rattle.lot_machine.specs.Machine.{State, place_at, word_at, kind_at}
 use Rattle.lot_world.specs.Refinement.{owner_at, lock_state, call_at}
 use Rattle.lot_world.specs.SitesOf.{is_mutex, rules_at}
 use Rattle.lot_world.specs.Owing.{Owes, IsInside, ReleasesLock, LetsOthersIn, SeesWaiters, OwesSince, line_let_in, tells_of, sort_at}
-use Rattle.lot_world.specs.Promises.{GoesToWake, KnowsRights, WakesWaiters, IsKept, IsLookedAfter, IsOpenNow}
+use Rattle.lot_world.specs.Promises.{KnowsRights, WakesWaiters, IsKept, IsLookedAfter, IsOpenNow}
 use Rattle.lot_world.specs.MutexPromises.{HasDebtor, IsShownToOwe, GoesToRelease, SeesParkedBit, IsMutexKept, MutexesAreKept, OwesMutexSince, MutexesOwe}
 use Rattle.lot_world.proofs.MutexTable.{mutex}
 use Rattle.lot_world.proofs.StandsMoved.{mutex_rules}

@@ -1,5 +1,5 @@
 -- Each place of a mutex says of its thread what is promised of it.
-use Rattle.std.proofs.Common.{ℕ, Bool, true, false, Option, Some, None, if◌then◌else◌, ◌==◌, not, ◌≡◌, ◌≢◌, ◌+◌, ◌*◌, ◌⊎◌, inl, inr, refl, sym, ◌∙◌, subst, arith}
+use Rattle.std.proofs.Common.{ℕ, Bool, true, false, Some, None, if◌then◌else◌, ◌==◌, not, ◌≡◌, ◌≢◌, ◌+◌, ◌*◌, ◌⊎◌, inl, inr, refl, sym, ◌∙◌, subst, arith}
 use Rattle.lot_base.specs.declared.keys.Keys.TheVariants.{One}
 use Rattle.lot_base.specs.declared.ops.Op as op
 use Rattle.lot_base.specs.declared.wants.Want.TheVariants.{Exclusive}
@@ -17,16 +17,16 @@ use Rattle.lot_mutex.specs.declared.unlock.UnlockAt.{UnlockAt}
 use Rattle.lot_mutex.specs.declared.unlock.UnlockAt.TheVariants as unlock
 use Rattle.lot_mutex.specs.declared.hand_off.HandOffAt.{HandOffAt}
 use Rattle.lot_mutex.specs.declared.hand_off.HandOffAt.TheVariants as hand_off
-use Rattle.lot_mutex.specs.MutexSteps.{is_locked, is_timed, lock_act, unlock_act, hand_off_act, mutex_act}
+use Rattle.lot_mutex.specs.MutexSteps.{is_locked, is_timed, unlock_act, hand_off_act, mutex_act}
 use Rattle.lot_mutex.specs.MutexProfiles.{lock_row, entry_purpose}
 use Rattle.abstract_locks.specs.Locks as locks
 use Rattle.abstract_locks.specs.Purposes.{MayWait}
 use Rattle.abstract_locks.specs.Runs.{IsTimed}
-use Rattle.abstract_locks.specs.Sites.{Line, Main, Second, Has, Pends, IsDebtor, counts_some, idle}
+use Rattle.abstract_locks.specs.Sites.{Line, Main, Second, Has, IsDebtor, counts_some, idle}
 use Rattle.lot_world.specs.MutexDeeds.{mutex_row}
 use Rattle.lot_world.specs.SitesOf.{key_of}
 use Rattle.lot_world.specs.Promises.{KnowsRights, want_of}
-use Rattle.lot_world.proofs.RowPromises.{is_acting, lock_for, IsWaiting, WasHanded, LetsIn, RowOwes, IsDebtorIn, HasDebt, RowLooksAfter, RowIsLate, RowPromises}
+use Rattle.lot_world.proofs.RowPromises.{is_acting, lock_for, IsWaiting, WasHanded, LetsIn, IsDebtorIn, HasDebt, RowLooksAfter, RowIsLate, RowPromises}
 
 -- ---------------------------------------------------------------- waiting
 

@@ -1,29 +1,28 @@
 -- What is promised of a thread at any place of a call, by its row, and what that says of the state.
-use Rattle.std.proofs.Common.{ℕ, Bool, true, false, Option, Some, None, if◌then◌else◌, ◌≡◌, ◌≢◌, ◌*◌, ◌+◌, ◌≤◌, ◌⊎◌, ◌↔◌, List, inl, inr, refl, sym, ◌∙◌, ap, subst, arith}
+use Rattle.std.proofs.Common.{ℕ, Bool, true, false, Option, Some, None, if◌then◌else◌, ◌≡◌, ◌≢◌, ◌*◌, ◌+◌, ◌≤◌, ◌⊎◌, ◌↔◌, inl, inr, refl, sym, ◌∙◌, ap, subst, arith}
 use Rattle.lot_base.specs.declared.keys.Keys.TheVariants.{One}
 use Rattle.lot_base.specs.Lines.{first_of}
 use Rattle.lot_base.specs.Lines as Lines
-use Rattle.lot_acts.specs.declared.acts.Act.{Act}
 use Rattle.lot_acts.specs.declared.acts.Act.TheVariants.{Enter, Rest}
-use Rattle.lot_acts.specs.Profiles.{Profile, hand_owner, taken_from}
+use Rattle.lot_acts.specs.Profiles.{taken_from}
 use Rattle.lot_steps.specs.declared.places.Place.{Place}
 use Rattle.lot_steps.specs.declared.places.Place.TheVariants.{Idle, Mutex}
-use Rattle.lot_steps.specs.Steps.{act_of, lock_of, is_lock, calls, profile, line_owed, taker}
+use Rattle.lot_steps.specs.Steps.{act_of, lock_of, is_lock, calls, profile, line_owed}
 use Rattle.abstract_locks.specs.Locks.{Sort, Rights, Taken, Pending, IsSomePending, one_if_some, is_thread, standing}
 use Rattle.abstract_locks.specs.Locks as locks
 use Rattle.abstract_locks.specs.Runs.{CallState}
 use Rattle.abstract_locks.specs.Purposes.{IsReleasing}
 use Rattle.std.proofs.lemmas.Bool.{cases_eq}
 use Rattle.abstract_locks.specs.Sites.{Doing, Line, Main, Second, Pends, idle, has_readers}
-use Rattle.lot_machine.specs.Machine.{State, place_at, kind_at, section_at, queue_at}
-use Rattle.lot_world.specs.Refinement.{lock_state, call_on, call_at, call_state, taken_at}
+use Rattle.lot_machine.specs.Machine.{State, place_at, kind_at, queue_at}
+use Rattle.lot_world.specs.Refinement.{lock_state, call_on, call_at, taken_at}
 use Rattle.lot_world.specs.Stations.{Station, nowhere, station, station_at, doing_on}
-use Rattle.lot_world.specs.SitesOf.{IsSteady, CallsMutex, rules_at, key_of, stood_in}
-use Rattle.lot_world.specs.Owing.{Owes, IsInside, HasGivenUp, LetsOthersIn, IsDowngrade, sort_at}
+use Rattle.lot_world.specs.SitesOf.{IsSteady, CallsMutex, key_of, stood_in}
+use Rattle.lot_world.specs.Owing.{Owes, IsInside, LetsOthersIn, IsDowngrade, sort_at}
 use Rattle.lot_world.specs.Promises.{GoesToWake}
 use Rattle.lot_world.proofs.Counts.{none_first}
 use Rattle.lot_world.proofs.Glue.{same, differ, taken_out, calls_none, inside_is}
-use Rattle.lot_world.proofs.MutexTable.{mutex, queued_times}
+use Rattle.lot_world.proofs.MutexTable.{queued_times}
 use Rattle.lot_world.proofs.StandsMoved.{mutex_rules}
 use Rattle.lot_world.proofs.LineActs.{IsOfLine, IsLineAct, line_act}
 use Rattle.lot_world.proofs.MutexRows.{mutex_promises}
@@ -38,7 +37,7 @@ calls_one p l = by_lock (lock_of p)
   where
     by_lock : (o : Option ℕ) → (o ≡ Some l) ⊎ (is_lock l o ≡ false)
     by_lock None = inr refl
-    by_lock (Some k) = elim (cases_eq k l) [ | inl e ↦ inl (ap Some e) | inr ne ↦ inr (differ k l ne) ]
+    by_lock (Some k) = elim (cases_eq k l) [ inl e ↦ inl (ap Some e) | inr ne ↦ inr (differ k l ne) ]
 
 called : (p : Place) (l : ℕ) → lock_of p ≡ Some l → calls p l ≡ true
 called p l own = ap (is_lock l) own ∙ same l
@@ -78,7 +77,7 @@ doing_calls p l busy = elim (calls_one p l) [
 ]
 
 pub station_calls : (p : Place) (l : ℕ) → (station_at p l ≡ nowhere → ⊥) → lock_of p ≡ Some l
-station_calls p l busy = elim (calls_one p l) [ | inl own ↦ own | inr other ↦ absurd (busy (station_other p l other)) ]
+station_calls p l busy = elim (calls_one p l) [ inl own ↦ own | inr other ↦ absurd (busy (station_other p l other)) ]
 
 -- a key is of one lock
 key_one : (l k : ℕ) (m n : Line) → key_of l m ≡ key_of k n → l ≡ k
@@ -106,7 +105,7 @@ module _ (w : State) (t : ℕ) (steady : IsSteady w) where
           let admitted : CallsMutex w (Mutex k at) = rw is at (steady.stands.calls t) in
           let sort : locks.Mutex ≡ sort_at w k = sym (ap (λ r. r.sort) (mutex_rules (kind_at w k) admitted)) in
           subst (λ j. RowPromises (sort_at w j) j (profile (Mutex k at)) (act_of (Mutex k at))) here
-              (subst (λ s. RowPromises s k (profile (Mutex k at)) (act_of (Mutex k at))) sort (mutex_promises k at))
+          (subst (λ s. RowPromises s k (profile (Mutex k at)) (act_of (Mutex k at))) sort (mutex_promises k at))
 
   -- ---------------------------------------------------------------- where it stands
 
@@ -128,7 +127,7 @@ module _ (w : State) (t : ℕ) (steady : IsSteady w) where
             let one : Lines.times t (queue_at w (2 * l + 1)) ≡ 1 = steady.stands.lines t l Second ∙ ap (λ x. stood_in x Second) stands in
             let zero_times : Lines.times t (queue_at w (2 * l + 1)) ≡ 0 = ap (Lines.times t) (none_first (queue_at w (2 * l + 1)) none) in
             omega arith
-        )
+            )
         by_first (Some u) some =
             let of = (steady.sites.site l).state.aside_pending u some in
             ap Some (sym (subst (λ o. IsSomePending o u) pending.1 of))
@@ -170,7 +169,7 @@ module _ (w : State) (t : ℕ) (steady : IsSteady w) where
             let b : taken_at (place_at w t) l ≡ None = taken_own (place_at w t) l own ∙ f in
             let n : standing t (lock_state w l) ≡ 0 = standing_by ∙ (λ i. stood_in (a i) Main + stood_in (a i) Second + one_if_some (b i)) in
             omega arith
-        )
+            )
 
     -- and whoever waits stands about the lock that it calls
     pub waiting_stands : lock_of (place_at w t) ≡ Some l → IsWaiting (profile (place_at w t)) → 1 ≤ standing t (lock_state w l)
@@ -228,10 +227,13 @@ module _ (w : State) (t : ℕ) (steady : IsSteady w) where
     pub lets_out : LetsIn (sort_at w l) l (profile (place_at w t)) → LetsOthersIn w t l
     lets_out h = subst (LetsBy w t l) (sym call_own) (elim h [
       | inl releases ↦ inl releases
-      | inr shared ↦ inr (shared.0, elim shared.1 [
-        | inl less ↦ inl less
-        | inr left ↦ inr (ap (λ b. if b then Some l else None) left.0, λ m i. let e : ◌≡◌ {A = Option Line} None (Some m) = sym left.1 ∙ (inside_own m).1 i in cc)
-      ])
+      | inr shared ↦ inr (
+        shared.0,
+        elim shared.1 [
+          | inl less ↦ inl less
+          | inr left ↦ inr (ap (λ b. if b then Some l else None) left.0, λ m i. let e : ◌≡◌ {A = Option Line} None (Some m) = sym left.1 ∙ (inside_own m).1 i in cc)
+        ],
+      )
     ])
 
   -- who owes a wake on a line is inside its section, or lets others in and is on its way into it

@@ -1,13 +1,12 @@
 -- What holds between steps, as callers are told it.
-use Rattle.std.proofs.Common.{ℕ, Bool, true, false, Option, Some, None, if◌then◌else◌, ◌==◌, ◌&&◌, ◌≡◌, ◌≢◌, ◌+◌, ◌*◌, ◌≤◌, ◌⊎◌, inl, inr, List, length, refl, ◌∙◌, ap, subst, arith, ◌↔◌, sym}
+use Rattle.std.proofs.Common.{ℕ, Bool, true, false, Option, Some, None, if◌then◌else◌, ◌==◌, ◌&&◌, ◌≡◌, ◌≢◌, ◌+◌, ◌*◌, ◌≤◌, inl, inr, List, length, refl, ◌∙◌, ap, subst, arith, ◌↔◌, sym}
 use Rattle.lot_base.specs.declared.wants.Want.TheVariants.{Exclusive}
 use Rattle.lot_acts.specs.declared.acts.Act.TheVariants.{Rest, Sleep}
-use Rattle.lot_acts.specs.Profiles.{Profile, Of, hand, hand_owner}
+use Rattle.lot_acts.specs.Profiles.{Profile, hand, hand_owner}
 use Rattle.lot_calls.specs.declared.kinds.Kind.{Kind}
 use Rattle.lot_calls.specs.declared.kinds.Kind as kinds
 use Rattle.lot_calls.specs.declared.calls.Step.{Step}
-use Rattle.lot_steps.specs.declared.places.Place.{Place}
-use Rattle.lot_steps.specs.Steps.{act_of, is_lock, lock_of, profile, taker, retries_on}
+use Rattle.lot_steps.specs.Steps.{act_of, is_lock, lock_of, profile, retries_on}
 use Rattle.lot_machine.specs.Machine.{State, opening, place_at, after, kind_at, filled_at}
 use Rattle.lot_machine.specs.Fits.{IsShaped}
 use Rattle.lot_world.specs.Stations.{Station, station_at, doing_on}
@@ -22,7 +21,7 @@ use Rattle.lot_world.specs.Owing.{Owes, sort_at}
 use Rattle.lot_world.specs.Promises.{IsKept, KnowsRights, WaitsFor, WakesWaiters, IsDebtorOf, IsLookedAfter, IsOpenNow, WasNeverFull, IsHandedOver, want_of}
 use Rattle.lot_world.proofs.TurnsKept.{after_steady}
 use Rattle.lot_world.proofs.SitesPromise.{not_empty}
-use Rattle.lot_world.proofs.RowPromises.{IsDebtorIn, HasDebt, IsWaiting, WasHanded, RowLooksAfter}
+use Rattle.lot_world.proofs.RowPromises.{IsDebtorIn, HasDebt, WasHanded, RowLooksAfter}
 use Rattle.lot_world.proofs.PlacePromises.{row_promises, station_own, doing_own, owed_own, owes_own, doing_calls, station_calls, stands_waiting, waiting_stands, call_own, inside_own, owing_is}
 use Rattle.lot_world.proofs.Glue.{same, calls_none}
 use Rattle.lot_machine.proofs.Opening.{idle_at, none_at, empty_at, nobody_owns, opening_shares}

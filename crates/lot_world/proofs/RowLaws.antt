@@ -1,5 +1,5 @@
 -- One run of the world, and what its definitions refuse.
-use Rattle.std.proofs.Common.{ℕ, zero, suc, true, false, Some, None, ◌≡◌, inl, inr, [], ◌∷◌, refl, sym, ◌∙◌, arith, Option}
+use Rattle.std.proofs.Common.{ℕ, zero, suc, true, Some, None, ◌≡◌, inl, inr, [], ◌∷◌, refl, sym, ◌∙◌, arith, Option}
 use Rattle.lot_calls.specs.declared.kinds.Kind.TheVariants as kind
 use Rattle.lot_machine.specs.Machine.{after_all}
 use Rattle.abstract_locks.specs.Sites.{Line, Main}

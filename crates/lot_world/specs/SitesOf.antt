@@ -1,5 +1,5 @@
 -- The locks of a world, with what each thread does about each.
-use Rattle.std.specs.Prelude.{ℕ, Bool, true, false, Option, Some, ◌≡◌, ◌≢◌, ◌<◌, ◌≤◌, ◌+◌, ◌-◌, ◌*◌, ◌^◌, ◌↔◌, List, [], ◌∷◌, length}
+use Rattle.std.specs.Prelude.{ℕ, Bool, true, false, Option, Some, ◌≡◌, ◌≢◌, ◌<◌, ◌≤◌, ◌-◌, ◌^◌, ◌↔◌, List, [], ◌∷◌, length}
 use Rattle.lot_base.specs.declared.wants.Waiter.{Waiter}
 pub use Rattle.lot_base.specs.Keys.{key_of}
 use Rattle.lot_base.specs.Lines.{times}

@@ -1,5 +1,5 @@
 -- What a place says of its thread at a lock: what the thread does about it, and where the machine has the thread.
-use Rattle.std.specs.Prelude.{ℕ, Bool, false, Option, Some, None, if◌then◌else◌, ◌==◌}
+use Rattle.std.specs.Prelude.{ℕ, if◌then◌else◌}
 use Rattle.lot_steps.specs.declared.places.Place.{Place}
 use Rattle.lot_steps.specs.Steps.{calls, profile}
 pub use Rattle.lot_acts.specs.Profiles.{Hand, Of, hand, hand_owner, in_hand}
