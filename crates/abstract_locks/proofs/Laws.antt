@@ -1,15 +1,13 @@
 -- Steps that no world of the abstract locks takes: each is refused by the definitions.
-use Rattle.std.proofs.Common.{ℕ, Bool, true, false, Option, Some, None, ◌≡◌, ◌≢◌, inl, inr, refl, sym, ap, ◌∙◌, subst}
+use Rattle.std.proofs.Common.{ℕ, true, Option, Some, None, ◌≡◌, inl, inr, refl, sym, ap, ◌∙◌, subst}
 use Rattle.lot_base.specs.declared.wants.Want.{Want}
 use Rattle.lot_base.specs.declared.wants.Want.TheVariants.{Exclusive}
-use Rattle.lot_calls.specs.declared.calls.Call.{Call}
 use Rattle.lot_calls.specs.declared.calls.Turn.{Turn}
 use Rattle.lot_calls.specs.declared.calls.Turn as turn
-use Rattle.lot_calls.specs.declared.calls.Step.{Step}
 use Rattle.lot_calls.specs.declared.outcomes.Answer.{Answer}
 use Rattle.lot_calls.specs.declared.outcomes.Answer as answer
 use Rattle.lot_calls.specs.declared.outcomes.Outcome as outcome
-use Rattle.abstract_locks.specs.Locks.{LockCase, Enter, Pend, Settle, Leave, Convert, Park, Aside, TakeFirst, TakeAside, TakePicked, Wake, HandOff, Late, Rollback, Rights, Rules, LockState, Needs, IsFree, is_thread}
+use Rattle.abstract_locks.specs.Locks.{Enter, Pend, Settle, Leave, Park, Aside, TakePicked, Wake, Late, Rollback, Rights, Rules, LockState, Needs, IsFree, is_thread}
 use Rattle.abstract_locks.specs.Purposes.{Purpose, Releases, IsMadeOf, Timed, Try}
 use Rattle.abstract_locks.proofs.Runs.{needs_of}
 use Rattle.abstract_locks.specs.Runs.{LocksState, Event, Nothing, AtLock, MayDo, MayHappen, Does, Agrees, going_on, locks_after, rights_in, rules_at, no_rights}
@@ -18,7 +16,7 @@ use Rattle.abstract_locks.specs.Laws.{PossibleTurnsAreTaken, CallsTakeSteps, Fai
 -- what is done is told, and never as a refusal
 told_done : (w v : LocksState) (t : ℕ) (x : Turn) → Does w t x outcome.TheVariants.NotNow v → ⊥
 told_done w v t (turn.TheVariants.Begin c) d = let told = d.told in cc
-told_done w v t turn.TheVariants.Spin d = let told = d.told in cc
+told_done w v t turn.TheVariants.Spin d = d.goes.agrees
 told_done w v t turn.TheVariants.Late d = let told = d.told in cc
 told_done w v t turn.TheVariants.Go d = d.agrees
 told_done w v t turn.TheVariants.Ok d = d.agrees

@@ -1,5 +1,5 @@
 -- Steps that no world of the abstract locks takes.
-use Rattle.std.specs.Prelude.{ℕ, Bool, false, true, Option, Some, None, ◌≡◌}
+use Rattle.std.specs.Prelude.{ℕ, false, true, Some, None, ◌≡◌}
 use Rattle.lot_base.specs.declared.wants.Want.{Want}
 use Rattle.lot_base.specs.declared.wants.Want.TheVariants.{Exclusive}
 use Rattle.lot_calls.specs.declared.kinds.Kind.TheVariants as kind
@@ -9,9 +9,9 @@ use Rattle.lot_calls.specs.declared.calls.Step.{Step}
 use Rattle.lot_calls.specs.declared.outcomes.Answer.{Answer}
 use Rattle.lot_calls.specs.declared.outcomes.Answer as answer
 use Rattle.lot_calls.specs.declared.outcomes.Outcome as outcome
-use Rattle.abstract_locks.specs.Locks.{Wake, Enter, LockCase, IsFree, opening_lock}
-use Rattle.abstract_locks.specs.Purposes.{Purpose, Enters, Releases, Try}
-use Rattle.abstract_locks.specs.Runs.{LocksState, Stance, AtLock, MayHappen, MayTurn, IsStep, new_call, no_rights, rules_at}
+use Rattle.abstract_locks.specs.Locks.{Wake, Enter, IsFree, opening_lock}
+use Rattle.abstract_locks.specs.Purposes.{Enters, Releases, Try}
+use Rattle.abstract_locks.specs.Runs.{LocksState, AtLock, MayHappen, MayTurn, IsStep, new_call, no_rights, rules_at}
 
 -- a turn that is possible isn't refused
 abbrev pub PossibleTurnsAreTaken : Type 0

@@ -34,6 +34,13 @@ purpose_of kind.TheVariants.Mutex (call.TheVariants.Mutex l c) = Some (mutex_pur
 purpose_of kind.TheVariants.Fair (call.TheVariants.Mutex l c) = Some (mutex_purpose true l c)
 purpose_of k c = None
 
+-- the lock of which a call is
+abbrev pub lock_for : Purpose → ℕ
+lock_for (Enters l x how) = l
+lock_for (Releases l x fair) = l
+lock_for (Converts l x y how) = l
+lock_for (Bumps l x) = l
+
 -- a call that may sleep until it has the lock
 abbrev pub MayWait : Option Purpose → ℕ → Type 0
 MayWait (Some (Enters l x how)) k = (l ≡ k) × (how ≢ Try)

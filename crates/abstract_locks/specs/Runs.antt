@@ -1,6 +1,6 @@
 -- A run of the abstract locks: each step is one case of one lock, or changes nothing, each answer is true, and a step is refused
 -- exactly where it isn't possible.
-use Rattle.std.specs.Prelude.{ℕ, suc, Option, Some, None, ◌<◌, ◌≤◌, ◌≡◌, ◌≢◌, ◌⊎◌, List, [], ◌∷◌, Bool, true, false, if◌then◌else◌, ◌==◌, ◌*◌, ◌+◌, ◌↔◌}
+use Rattle.std.specs.Prelude.{ℕ, Option, Some, None, ◌<◌, ◌≤◌, ◌≡◌, ◌≢◌, ◌⊎◌, List, [], ◌∷◌, Bool, true, false, if◌then◌else◌, ◌==◌, ◌*◌, ◌+◌, ◌↔◌}
 use Rattle.lot_base.specs.declared.keys.Keys.{Keys}
 use Rattle.lot_base.specs.declared.keys.Keys as keys
 use Rattle.lot_base.specs.declared.wants.Want.{Want}
@@ -16,7 +16,7 @@ use Rattle.lot_calls.specs.declared.outcomes.Outcome.{Outcome}
 use Rattle.lot_calls.specs.declared.outcomes.Outcome as outcome
 use Rattle.lot_calls.specs.Calls.{lock_in}
 use Rattle.abstract_locks.specs.Locks.{LockState, Taken, LockCase, Enter, Pend, Settle, Leave, Park, Aside, Wake, HandOff, Late, Rules, Rights, Mutex, Needs, after_case, rights_of, with_right, without_right, Owns, IsFree, IsBlocked, count, readers, putting, standing, HasTakenNobody, IsLockState, opening_lock, times}
-use Rattle.abstract_locks.specs.Purposes.{Purpose, Enters, Releases, Converts, Bumps, Patience, Patient, Timed, Try, purpose_of, rules_of, IsMadeOf}
+use Rattle.abstract_locks.specs.Purposes.{Purpose, Enters, Releases, Converts, Bumps, Patience, Patient, Timed, Try, lock_for, purpose_of, rules_of, IsMadeOf}
 
 -- what is remembered of a call: what its answer needs of earlier steps, and whether it tries again
 pub record CallState : Type 0 where
@@ -298,10 +298,19 @@ pub record GoesOn (w : LocksState) (t : ℕ) (o : Outcome) (v : LocksState) : Ty
   pub calls : (u : ℕ) → v.calls u ≡ calls_after w t event o u
   pub agrees : Agrees t (going_on event (w.calls t)) o v
 
+abbrev pub IsOfMutex : LocksState → Option Purpose → Type 0
+IsOfMutex w None = ⊥
+IsOfMutex w (Some purpose) = (rules_at w (lock_for purpose)).sort ≡ Mutex
+
+-- a thread looks at the word once more, and its call goes on by what it sees; that of a mutex only decides anew
+pub record Looks (w : LocksState) (t : ℕ) (o : Outcome) (v : LocksState) : Type 0 where
+  pub goes : GoesOn w t o v
+  pub stays : IsOfMutex w (w.calls t).purpose → Stays w t (w.calls t) o v
+
 -- what a turn does: a call begins, goes on, looks once more, or is late
 abbrev pub Does : LocksState → ℕ → Turn → Outcome → LocksState → Type 0
 Does w t (turn.TheVariants.Begin c) o v = Stays w t (new_call (purpose_at w c) (rights_in w t)) o v
-Does w t turn.TheVariants.Spin o v = Stays w t (w.calls t) o v
+Does w t turn.TheVariants.Spin o v = Looks w t o v
 Does w t turn.TheVariants.Late o v = Stays w t (record (w.calls t) { late = true }) o v
 Does w t x o v = GoesOn w t o v
 

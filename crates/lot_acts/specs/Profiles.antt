@@ -38,8 +38,6 @@ pub record Profile : Type 0 where
   -- on which line it is shown to owe a wake, and whether to try again
   pub owes : Option Line
   pub retries : Bool
-  -- it may load the word again in place of its act
-  pub spins : Bool
   -- its call has a deadline, and it sleeps in this line, so that it may give up
   pub timed : Bool
   pub late_line : Option Line
@@ -62,7 +60,6 @@ blank = record {
   wants = None;
   owes = None;
   retries = false;
-  spins = false;
   timed = false;
   late_line = None;
   late = false;

@@ -102,8 +102,6 @@ pub enum Reply {
     Done,
     /// The value of the word before the operation.
     Value(u64),
-    /// The value of the word, which was loaded in place of the act.
-    Spun(u64),
     /// Whether the thread stands in the queue now.
     Parked(bool),
     /// Whether any was taken, and whether none is left in the queue.

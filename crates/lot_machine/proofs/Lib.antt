@@ -1,4 +1,5 @@
 pub mod QueueLemmas
 pub mod ShareLemmas
 pub mod Opening
+pub mod Looks
 pub mod Shape

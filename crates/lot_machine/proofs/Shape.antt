@@ -17,7 +17,7 @@ use Rattle.lot_acts.specs.declared.acts.Check.{Check}
 use Rattle.lot_acts.specs.declared.acts.Wakes.{Wakes}
 use Rattle.lot_acts.specs.declared.acts.Wakes as wakes
 use Rattle.lot_acts.specs.declared.acts.Reply.{Reply}
-use Rattle.lot_acts.specs.declared.acts.Reply.TheVariants.{Done, Value, Spun, Parked, Removed, Took, TakenBy, MovedTo, HandedBy, Late, Woken, Closed}
+use Rattle.lot_acts.specs.declared.acts.Reply.TheVariants.{Done, Value, Parked, Removed, Took, TakenBy, MovedTo, HandedBy, Late, Woken, Closed}
 use Rattle.lot_acts.specs.declared.acts.Next.{Next}
 use Rattle.lot_acts.specs.declared.acts.Next as next
 use Rattle.lot_calls.specs.declared.outcomes.Answer as answer
@@ -58,12 +58,13 @@ use Rattle.lot_acts.specs.Owners.{is_thread}
 use Rattle.lot_calls.specs.Calls.{lock_in}
 use Rattle.lot_acts.specs.Profiles.{in_line}
 use Rattle.abstract_locks.specs.Sites.{Main}
-use Rattle.lot_steps.specs.Steps.{is_idle, first_place, taker, act_of, next_place, mutex_goes, spin_lock, key_in, late_key}
-use Rattle.lot_machine.specs.Machine.{State, unlocked, opening, kind_at, word_at, place_at, queue_at, put, state_after_operation, state_with_sections, queues_with_last, queues_without_first, queues_without, state_after_park, state_after_reply, place_after_telling, state_after_telling, state_after_hand_over, state_after_taking, state_after_wake, state_after_act, state_after_takes, state_after_take_first, state_after_requeue, queues_requeued, left_behind, moved_under, moved_threads, listed, places_told, state_after_going, going_outcome, closed_place, can_do, state_after_go, reply_to, state_after_begin, can_begin, is_open_to, state_after_spin, state_after_spin_on, state_after_late, state_after_late_on, state_after_turn, can_turn, is_possible, after}
+use Rattle.lot_steps.specs.Steps.{is_idle, first_place, taker, act_of, next_place, mutex_goes, looking, key_in, late_key}
+use Rattle.lot_machine.specs.Machine.{State, unlocked, opening, kind_at, word_at, place_at, queue_at, put, state_after_operation, state_with_sections, queues_with_last, queues_without_first, queues_without, state_after_park, state_after_reply, place_after_telling, state_after_telling, state_after_hand_over, state_after_taking, state_after_wake, state_after_act, state_after_takes, state_after_take_first, state_after_requeue, queues_requeued, left_behind, moved_under, moved_threads, listed, places_told, state_after_going, going_outcome, closed_place, can_do, state_after_go, reply_to, state_after_begin, can_begin, is_open_to, state_after_spin, state_after_look, state_after_late, state_after_late_on, state_after_turn, can_turn, is_possible, after}
 use Rattle.lot_base.specs.declared.notes.Note as note
 use Rattle.lot_mutex.specs.declared.lock.LockAt as lock
 use Rattle.lot_acts.specs.declared.acts.Whom as whom
 use Rattle.lot_machine.specs.Fits.{GivesUpTimed, PlaceFits, AllBelow, IsShaped, SameSize}
+use Rattle.lot_machine.proofs.Looks.{look}
 
 -- what holds of all elements holds of them after one is set
 pub set_all : {A : Type 0} (P : A → Type 0) (xs : List A) (i : ℕ) (y d : A) → P y → ((j : ℕ) → P (get_or xs j d)) → (j : ℕ) → P (get_or (set xs i y) j d)
@@ -483,12 +484,16 @@ begun_shaped w t c s can =
     let there = both (nat_lt (lock_in c) (length w.locks)) _ open_to.1 in
     put_shaped w t (first_place (kind_at w (lock_in c)) c) s (call_fits (length w.locks) (kind_at w (lock_in c)) c (ltb-true (lock_in c) (length w.locks) there.0))
 
-spun_shaped : (w : State) (t : ℕ) → IsShaped w → IsShaped (state_after_spin w t)
-spun_shaped w t s = by_lock (spin_lock (place_at w t))
+-- a thread stands where it looks
+pub looking_shaped : (w : State) (t : ℕ) (q : Place) → IsShaped w → looking (place_at w t) ≡ Some q → IsShaped (put w t q)
+looking_shaped w t q s is = put_shaped w t q s ((look (place_at w t) q is).fits (length w.locks) (s.places t))
+
+spun_shaped : (w : State) (t : ℕ) → IsShaped w → t < length w.places → IsShaped (state_after_spin w t)
+spun_shaped w t s lt = by_place (looking (place_at w t)) refl
   where
-    by_lock : (o : Option ℕ) → IsShaped (state_after_spin_on w t o)
-    by_lock None = s
-    by_lock (Some l) = befallen_shaped w t (Spun (word_at w l)) s tt
+    by_place : (o : Option Place) → looking (place_at w t) ≡ o → IsShaped (state_after_look w t o)
+    by_place None is = s
+    by_place (Some q) is = gone_shaped (put w t q) t (looking_shaped w t q s is) (rw (length-set w.places t q) lt)
 
 lated_shaped : (w : State) (t : ℕ) → IsShaped w → IsShaped (state_after_late w t)
 lated_shaped w t s = by_place (place_at w t) refl
@@ -513,7 +518,7 @@ lated_shaped w t s = by_place (place_at w t) refl
 turned_shaped : (w : State) (t : ℕ) (x : Turn) → IsShaped w → t < length w.places → can_turn w t x ≡ true → IsShaped (state_after_turn w t x)
 turned_shaped w t (turn.TheVariants.Begin c) s lt can = begun_shaped w t c s can
 turned_shaped w t turn.TheVariants.Go s lt can = gone_shaped w t s lt
-turned_shaped w t turn.TheVariants.Spin s lt can = spun_shaped w t s
+turned_shaped w t turn.TheVariants.Spin s lt can = spun_shaped w t s lt
 turned_shaped w t turn.TheVariants.Late s lt can = lated_shaped w t s
 turned_shaped w t turn.TheVariants.Ok s lt can = went_shaped w t (closed_place w t true) s lt (closed_fits w t true s)
 turned_shaped w t turn.TheVariants.Err s lt can = went_shaped w t (closed_place w t false) s lt (closed_fits w t false s)
@@ -549,6 +554,9 @@ opening_shaped kinds threads few = record {
 
 -- ---------------------------------------------------------------- sizes
 
+pub size_more : (w v u : State) → SameSize w v → SameSize v u → SameSize w u
+size_more w v u p q = record { threads = q.threads ∙ p.threads; locks = q.locks ∙ p.locks }
+
 went_size : (w : State) (t : ℕ) (p : Place) → SameSize w (state_after_going w t p)
 went_size w t p =
     let counts = performed_counts w t p (act_of p) in
@@ -559,11 +567,11 @@ turned_size w t (turn.TheVariants.Begin c) = record { threads = length-set w.pla
 turned_size w t turn.TheVariants.Go = went_size w t (place_at w t)
 turned_size w t turn.TheVariants.Ok = went_size w t (closed_place w t true)
 turned_size w t turn.TheVariants.Err = went_size w t (closed_place w t false)
-turned_size w t turn.TheVariants.Spin = by_lock (spin_lock (place_at w t))
+turned_size w t turn.TheVariants.Spin = by_place (looking (place_at w t))
   where
-    by_lock : (o : Option ℕ) → SameSize w (state_after_spin_on w t o)
-    by_lock None = record { threads = refl; locks = refl }
-    by_lock (Some l) = record { threads = length-set w.places t _; locks = refl }
+    by_place : (o : Option Place) → SameSize w (state_after_look w t o)
+    by_place None = record { threads = refl; locks = refl }
+    by_place (Some q) = size_more w (put w t q) (state_after_look w t (Some q)) (record { threads = length-set w.places t q; locks = refl }) (went_size (put w t q) t (place_at (put w t q) t))
 turned_size w t turn.TheVariants.Late = by_key (late_key (place_at w t))
   where
     by_key : (o : Option ℕ) → SameSize w (state_after_late_on w t o)
@@ -577,6 +585,3 @@ after_size w step = either (is_possible w step)
     either : (b : Bool) → SameSize w (if b then state_after_turn w step.thread step.turn else w)
     either true = turned_size w step.thread step.turn
     either false = record { threads = refl; locks = refl }
-
-pub size_more : (w v u : State) → SameSize w v → SameSize v u → SameSize w u
-size_more w v u p q = record { threads = q.threads ∙ p.threads; locks = q.locks ∙ p.locks }

@@ -1,5 +1,5 @@
 -- The machine of the world: its state, and where each step leads.
-use Rattle.std.specs.Prelude.{ℕ, zero, suc, Bool, true, false, Option, Some, None, if◌then◌else◌, ◌==◌, ◌*◌, ◌+◌, ◌%◌, ◌^◌, sum, ◌&&◌, ◌||◌, not, List, [], ◌∷◌, ◌++◌, map, length, take, drop, replicate, nat_lt, is_none, slice_set, slice_index_or}
+use Rattle.std.specs.Prelude.{ℕ, zero, suc, Bool, true, false, Option, Some, None, if◌then◌else◌, ◌==◌, ◌*◌, ◌+◌, ◌%◌, ◌^◌, sum, ◌&&◌, ◌||◌, not, List, [], ◌∷◌, ◌++◌, map, length, take, drop, replicate, nat_lt, is_some, is_none, slice_set, slice_index_or}
 use Rattle.lot_base.specs.declared.keys.Keys.{Keys}
 use Rattle.lot_base.specs.declared.keys.Keys as keys
 use Rattle.lot_base.specs.declared.ops.Op.{Op}
@@ -26,7 +26,7 @@ use Rattle.lot_acts.specs.declared.acts.Check.{Check}
 use Rattle.lot_acts.specs.declared.acts.Wakes.{Wakes}
 use Rattle.lot_acts.specs.declared.acts.Wakes as wakes
 use Rattle.lot_acts.specs.declared.acts.Reply.{Reply}
-use Rattle.lot_acts.specs.declared.acts.Reply.TheVariants.{Done, Value, Spun, Parked, Took, Picked, Requeued, Removed, TakenBy, MovedTo, HandedBy, Late, Woken, Closed}
+use Rattle.lot_acts.specs.declared.acts.Reply.TheVariants.{Done, Value, Parked, Took, Picked, Requeued, Removed, TakenBy, MovedTo, HandedBy, Late, Woken, Closed}
 use Rattle.lot_acts.specs.declared.acts.Whom.{Whom}
 use Rattle.lot_acts.specs.declared.acts.Whom as whom
 use Rattle.lot_calls.specs.declared.calls.Call.{Call}
@@ -39,7 +39,7 @@ use Rattle.lot_calls.specs.Kinds.{has_call}
 use Rattle.lot_acts.specs.Acts.{holds, outcome_of}
 use Rattle.lot_acts.specs.Owners.{is_thread, with_exclusive}
 use Rattle.lot_calls.specs.Calls.{lock_in}
-use Rattle.lot_steps.specs.Steps.{first_place, has_right, is_idle, act_of, next_place, next_act, owners_after, shares_after, taker, wants, spin_lock, late_key}
+use Rattle.lot_steps.specs.Steps.{first_place, has_right, is_idle, act_of, next_place, next_act, owners_after, shares_after, taker, wants, looking, late_key}
 use Rattle.abstract_locks.specs.Codes.{fills}
 use Rattle.abstract_locks.specs.Locks.{Taken, wants_shared}
 use Rattle.abstract_locks.specs.Purposes.{rules_of}
@@ -416,15 +416,24 @@ can_begin w t call = is_idle (place_at w t) && is_open_to w t call
 abbrev pub state_after_begin : State → ℕ → Call → State
 state_after_begin w t call = put w t (first_place (kind_at w (lock_in call)) call)
 
+-- a thread may look at the word once more in place of its act
 abbrev pub can_spin : State → ℕ → Bool
-can_spin w t = is_there (spin_lock (place_at w t))
+can_spin w t = is_some (looking (place_at w t))
 
-abbrev pub state_after_spin_on : State → ℕ → Option ℕ → State
-state_after_spin_on w t None = w
-state_after_spin_on w t (Some l) = put w t (next_place (place_at w t) (Spun (word_at w l)))
+-- it goes on from where it looks
+abbrev pub state_after_look : State → ℕ → Option Place → State
+state_after_look w t None = w
+state_after_look w t (Some p) = state_after_go (put w t p) t
+
+abbrev pub look_outcome : State → ℕ → Option Place → Outcome
+look_outcome w t None = outcome.TheVariants.NotNow
+look_outcome w t (Some p) = go_outcome (put w t p) t
 
 abbrev pub state_after_spin : State → ℕ → State
-state_after_spin w t = state_after_spin_on w t (spin_lock (place_at w t))
+state_after_spin w t = state_after_look w t (looking (place_at w t))
+
+abbrev pub spin_outcome : State → ℕ → Outcome
+spin_outcome w t = look_outcome w t (looking (place_at w t))
 
 abbrev pub is_free_under : State → Option ℕ → Bool
 is_free_under w None = false
@@ -464,6 +473,7 @@ state_after_turn w t turn.TheVariants.Err = state_after_close w t false
 
 abbrev pub turn_outcome : State → ℕ → Turn → Outcome
 turn_outcome w t turn.TheVariants.Go = go_outcome w t
+turn_outcome w t turn.TheVariants.Spin = spin_outcome w t
 turn_outcome w t turn.TheVariants.Ok = close_outcome w t true
 turn_outcome w t turn.TheVariants.Err = close_outcome w t false
 turn_outcome w t _ = outcome.TheVariants.Step

@@ -60,7 +60,7 @@ was_handed at = false
 abbrev pub lock_row : Bool → Bool → LockAt → Profile
 lock_row timed retries lock.First = record blank { doing = again retries idle }
 lock_row timed retries lock.Load = record blank { doing = again retries idle }
-lock_row timed retries (lock.Decide seen) = record blank { doing = again retries idle; spins = seen == 1 }
+lock_row timed retries (lock.Decide seen) = record blank { doing = again retries idle }
 lock_row timed retries lock.Check = record blank { doing = again retries inside; owes = Some Main }
 lock_row timed retries (lock.Leave parked) = record blank { doing = again (if parked then false else retries) inside; stands = if parked then Some Main else None; owes = Some Main }
 lock_row timed retries lock.Asleep = record blank { stands = Some Main; late_line = in_line timed Main }
@@ -135,10 +135,6 @@ mutex_taker at = hand_owner (mutex_profile at).hand
 -- what it wants, where it waits
 abbrev pub mutex_wants : MutexPlace → Option Want
 mutex_wants at = (mutex_profile at).wants
-
--- whether the word may be loaded again in place of the act: where the act would set the parked bit
-abbrev pub mutex_can_spin : MutexPlace → Bool
-mutex_can_spin at = (mutex_profile at).spins
 
 -- the line in which the thread sleeps in a call that may give up
 abbrev pub mutex_late_line : MutexPlace → Option Line

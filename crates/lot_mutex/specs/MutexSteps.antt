@@ -1,5 +1,5 @@
 -- The steps of a mutex: what a thread does at each place, and where each reply leads it.
-use Rattle.std.specs.Prelude.{ℕ, Bool, true, false, Some, None, if◌then◌else◌, ◌==◌, not, ◌&&◌, ◌+◌, ◌*◌, ◌/◌, ◌%◌}
+use Rattle.std.specs.Prelude.{ℕ, Bool, true, false, Option, Some, None, if◌then◌else◌, ◌==◌, not, ◌&&◌, ◌+◌, ◌*◌, ◌/◌, ◌%◌}
 use Rattle.lot_base.specs.declared.keys.Keys.TheVariants.{One}
 use Rattle.lot_base.specs.declared.notes.Note as note
 use Rattle.lot_base.specs.declared.wants.Want.TheVariants.{Exclusive}
@@ -23,7 +23,7 @@ use Rattle.lot_acts.specs.declared.acts.Check.TheVariants.{WordIs}
 use Rattle.lot_acts.specs.declared.acts.Wakes as wakes
 use Rattle.lot_acts.specs.declared.acts.Whom as whom
 use Rattle.lot_acts.specs.declared.acts.Reply.{Reply}
-use Rattle.lot_acts.specs.declared.acts.Reply.TheVariants.{Done, Value, Spun, Parked, Took, Removed, TakenBy, HandedBy, Late, Woken}
+use Rattle.lot_acts.specs.declared.acts.Reply.TheVariants.{Done, Value, Parked, Took, Removed, TakenBy, HandedBy, Late, Woken}
 use Rattle.lot_acts.specs.declared.acts.Next.{Next}
 use Rattle.lot_acts.specs.declared.acts.Next.TheVariants.{At, End}
 use Rattle.lot_calls.specs.declared.outcomes.Answer.{Answer}
@@ -131,7 +131,6 @@ next_lock e (lock.TheVariants.Decide expected) (Value seen) =
     if not (seen == expected) then At (lock.TheVariants.Decide seen)
     else if is_locked seen then At (lock.TheVariants.Decide 3)
     else End (entered e)
-next_lock e (lock.TheVariants.Decide expected) (Spun seen) = At (lock.TheVariants.Decide seen)
 next_lock e (lock.TheVariants.Decide expected) Done = At lock.TheVariants.Check
 next_lock e lock.TheVariants.Check (Parked parked) = At (lock.TheVariants.Leave parked)
 next_lock e (lock.TheVariants.Leave parked) Done = if parked then At lock.TheVariants.Asleep else At lock.TheVariants.Load
@@ -206,6 +205,11 @@ mutex_next (Unlock at) reply = in_unlock (next_unlock at reply)
 mutex_next UnlockFair reply = unlock_fair_next reply
 mutex_next Bump reply = bump_next reply
 mutex_next (HandOff bumps at) reply = in_hand_off bumps (next_hand_off at reply)
+
+-- from where a thread looks at the word once more, in place of the act that would set the parked bit
+abbrev pub mutex_looking : MutexPlace → Option MutexPlace
+mutex_looking (Lock e retries (lock.TheVariants.Decide seen)) = if seen == 1 then Some (Lock e retries lock.TheVariants.Load) else None
+mutex_looking at = None
 
 -- ---------------------------------------------------------------- who owns
 

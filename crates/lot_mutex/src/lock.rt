@@ -5,7 +5,7 @@
 //! | `First` | exchanges 0 for `LOCKED` | owns it, or `Load` |
 //! | `Load` | loads | `Decide` |
 //! | `Decide(v)`, unlocked | exchanges `v` for `v + LOCKED` | owns it, or `Decide` again |
-//! | `Decide(1)` | exchanges 1 for 3, or loads again as it spins | `Decide` |
+//! | `Decide(1)` | exchanges 1 for 3, or goes on from `Load` as it spins | `Decide` |
 //! | `Decide(3)` | enters the section of the queue | `Check` |
 //! | `Check` | stands behind the last of the queue, if the word is still 3 | `Leave` |
 //! | `Leave` | leaves the section | `Asleep`, or `Load` where it doesn't stand in the queue |
@@ -112,7 +112,6 @@ pub(super) fn next_lock(entry: Entry, at: LockAt, reply: Reply) -> Next<LockAt>
                 Next::End(entry.entered())
             }
         }
-        (LockAt::Decide(_), Reply::Spun(seen)) => Next::At(LockAt::Decide(seen)),
         (LockAt::Decide(_), Reply::Done) => Next::At(LockAt::Check),
         (LockAt::Check, Reply::Parked(parked)) => Next::At(LockAt::Leave { parked }),
         (LockAt::Leave { parked }, Reply::Done) => if parked {

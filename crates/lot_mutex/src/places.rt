@@ -7,8 +7,8 @@
 //! | 2, `PARKED` | unlocked; somebody may stand in the queue |
 //! | 3 | owned; somebody may stand in the queue |
 ghost use Rattle.std.specs.Prelude.{◌≡◌, ◌<◌, ◌^◌};
-ghost use Rattle.lot_mutex.specs.MutexProfiles.{mutex_taker, mutex_wants, mutex_can_spin, mutex_late_line, mutex_owes, mutex_retries};
-ghost use Rattle.lot_mutex.specs.MutexSteps.{is_locked, is_parked, mutex_first, mutex_right, mutex_act, mutex_next, mutex_owners};
+ghost use Rattle.lot_mutex.specs.MutexProfiles.{mutex_taker, mutex_wants, mutex_late_line, mutex_owes, mutex_retries};
+ghost use Rattle.lot_mutex.specs.MutexSteps.{is_locked, is_parked, mutex_first, mutex_right, mutex_act, mutex_next, mutex_looking, mutex_owners};
 
 use crate::hand_off::{HandOffAt, hand_off_act, looked, next_hand_off};
 use crate::lock::{Entry, LockAt, lock_act, lock_owners, next_lock, still_retries};
@@ -205,16 +205,21 @@ impl MutexPlace {
         }
     }
 
-    /// Whether the thread may load the word again in place of its act.
-    pub fn can_spin(self) -> bool
-        ensures { result ≡ mutex_can_spin self }
+    /// From where the thread looks at the word once more, in place of an act that leads to sleep.
+    pub fn looking(self) -> Option<MutexPlace>
+        ensures { result ≡ mutex_looking self }
     {
         match self {
             MutexPlace::Lock {
-                at: LockAt::Decide(seen),
-                ..
-            } => seen == LOCKED,
-            _ => false,
+                entry,
+                retries,
+                at: LockAt::Decide(LOCKED),
+            } => Some(MutexPlace::Lock {
+                entry,
+                retries,
+                at: LockAt::Load,
+            }),
+            _ => None,
         }
     }
 

@@ -28,10 +28,10 @@ use Rattle.lot_rwlock.specs.declared.park.ParkAt.TheVariants as parking
 use Rattle.lot_rwlock.specs.declared.release.WakeAt.{WakeAt}
 use Rattle.lot_rwlock.specs.declared.release.WakeAt.TheVariants as waking
 use Rattle.lot_rwlock.specs.RwLockSteps.{entered, goes, counted, wanted, patience_of, decision_blocked, decision, decided, is_counted, plus, stays, missed, looked_by, looked, came_in, exchanged_next, wakes, wakes_or_ends, park_next, wake_next, rwlock_next}
-use Rattle.lot_rwlock.specs.RwLockCalls.{MayWait, HasDeadline, ParksBy, EntersAt, SharesAt, WritesAt, ReleasesAt, DowngradesAt, UpgradesAt, StandsAt, MayBeTold, CallBecomes, RwLockSleepersHear}
+use Rattle.lot_rwlock.specs.RwLockCalls.{MayWait, HasDeadline, ParksBy, EntersAt, SharesAt, WritesAt, ReleasesAt, DowngradesAt, UpgradesAt, StandsAt, MayBeTold, MayStand, RwLockLooksStand, CallBecomes, RwLockSleepersHear}
 use Rattle.lot_acts.specs.Calls.{call_by}
 use Rattle.lot_acts.specs.Profiles.{hand}
-use Rattle.lot_rwlock.specs.RwLockProfiles.{rwlock_profile, hand_at, late_line_at}
+use Rattle.lot_rwlock.specs.RwLockProfiles.{rwlock_profile, looking_at, gone_to, hand_at, late_line_at}
 use Rattle.abstract_locks.specs.Locks.{Rights}
 use Rattle.abstract_locks.specs.Runs.{CallState}
 use Rattle.abstract_locks.specs.Codes.{count_in, has_parked, has_aside, is_blocked}
@@ -147,7 +147,6 @@ module _ (a : Admission) where
   writes_stand how again at.First (reply.Value seen) fits may = first_on how again (seen == 0) _
   writes_stand how again at.Load (reply.Value seen) fits may = looks access.Exclusive how again at.Load (λ n. fits) seen (decision a Exclusive how seen)
   writes_stand how again (at.Decide was) (reply.Value seen) fits may = exchanges access.Exclusive how again was seen (λ n. fits) (λ e. fits) (decision a Exclusive how was)
-  writes_stand how again (at.Decide was) (reply.Spun seen) fits may = looks access.Exclusive how again (at.Decide was) (λ n. fits) seen (decision a Exclusive how seen)
   writes_stand how again (at.Decide was) reply.Done fits may = fits
   writes_stand how again (at.Park to) told fits may = parks access.Exclusive how again (λ to by. by) (λ w. w) to told fits may
   writes_stand how again at.Look (reply.Value seen) fits may = counts_on (purpose.Enter access.Exclusive how) again at.Look seen (λ n. fits) (count_in seen == 0) _
@@ -156,7 +155,6 @@ module _ (a : Admission) where
       either : (b : Bool) → StandsNext (if b then stays (of (purpose.Enter access.Exclusive how) again (at.Count was)) (at.Count (plus was 2)) else counted (of (purpose.Enter access.Exclusive how) again (at.Count was)) seen)
       either true = fits
       either false = counts_on (purpose.Enter access.Exclusive how) again (at.Count was) seen (λ n. fits) (count_in seen == 0) _
-  writes_stand how again (at.Count was) (reply.Spun seen) fits may = counts_on (purpose.Enter access.Exclusive how) again (at.Count was) seen (λ n. fits) (count_in seen == 0) _
   writes_stand how again (at.Count was) reply.Done fits may = fits
   writes_stand how again (at.Aside to) told fits may = asides (purpose.Enter access.Exclusive how) again how refl (λ again to by. by) (λ again w. w) (λ d. d) to told fits may
   writes_stand how again at.RollBack (reply.Value seen) fits may = rolls_on (purpose.Enter access.Exclusive how) again fits (has_parked seen)
@@ -168,7 +166,6 @@ module _ (a : Admission) where
   shares_stand : (x : Access) (how : Patience) (again : Bool) (to : RwLockAt) (told : Reply) → ((to : RwLockAt) → SharesAt how to → EntersAt x how to) → (x ≢ access.Exclusive) → SharesAt how to → MayBeTold a (enterer x how again to) to told → StandsNext (rwlock_next a (enterer x how again to) told)
   shares_stand x how again at.Load (reply.Value seen) fit more fits may = looks x how again at.Load (λ n. fit (at.Decide n) tt) seen (decision a (wanted x) how seen)
   shares_stand x how again (at.Decide was) (reply.Value seen) fit more fits may = exchanges x how again was seen (λ n. fit (at.Decide n) tt) (λ e. absurd (more e)) (decision a (wanted x) how was)
-  shares_stand x how again (at.Decide was) (reply.Spun seen) fit more fits may = looks x how again (at.Decide was) (λ n. fit (at.Decide n) tt) seen (decision a (wanted x) how seen)
   shares_stand x how again (at.Decide was) reply.Done fit more fits may = fit (at.Park parking.Check) (waits_by how was (is_blocked a.recursive (wanted x) was) (is_counted (wanted x) && nat_le a.limit (count_in was)) may)
   shares_stand x how again (at.Park to) told fit more fits may = parks x how again (λ to by. fit (at.Park to) by) (λ w. fit at.Load tt) to told fits may
   shares_stand x how again at.Load told fit more fits may = fit at.Load tt
@@ -215,7 +212,6 @@ module _ (a : Admission) where
       either : (b : Bool) → StandsNext (if b then stays (of (purpose.Upgrade Patient) again (at.Count was)) (at.Count (plus was 2)) else counted (of (purpose.Upgrade Patient) again (at.Count was)) seen)
       either true = tt
       either false = counts_on (purpose.Upgrade Patient) again (at.Count was) seen (λ n. tt) (count_in seen == 0) (entered Patient)
-  patient_stands again (at.Count was) (reply.Spun seen) fits may = counts_on (purpose.Upgrade Patient) again (at.Count was) seen (λ n. tt) (count_in seen == 0) (entered Patient)
   patient_stands again (at.Count was) reply.Done fits may = tt
   patient_stands again (at.Count was) told fits may = tt
   patient_stands again (at.Aside to) told fits may = asides (purpose.Upgrade Patient) again Patient refl (λ again to by. by) (λ again w. tt) (λ d. absurd d) to told fits may
@@ -237,7 +233,6 @@ module _ (a : Admission) where
       either : (b : Bool) → StandsNext (if b then stays (of (purpose.Upgrade Timed) again (at.Count was)) (at.Count (plus was 2)) else counted (of (purpose.Upgrade Timed) again (at.Count was)) seen)
       either true = tt
       either false = counts_on (purpose.Upgrade Timed) again (at.Count was) seen (λ n. tt) (count_in seen == 0) (entered Timed)
-  timed_stands again (at.Count was) (reply.Spun seen) fits may = counts_on (purpose.Upgrade Timed) again (at.Count was) seen (λ n. tt) (count_in seen == 0) (entered Timed)
   timed_stands again (at.Count was) reply.Done fits may = tt
   timed_stands again (at.Count was) told fits may = tt
   timed_stands again (at.Aside to) told fits may = asides (purpose.Upgrade Timed) again Timed refl (λ again to by. by) (λ again w. tt) (λ d. d) to told fits may
@@ -268,7 +263,6 @@ module _ (a : Admission) where
       by_sight : (b : Bool) → StandsNext (exchanged_next a (of (purpose.Upgrade Try) again (at.Decide was)) was seen (if b then decisions.Take else decisions.Refuse No))
       by_sight true = won (seen == was)
       by_sight false = looks_up again (at.Decide was) seen (count_in seen == 1)
-  tries_stand again (at.Decide was) (reply.Spun seen) fits may = looks_up again (at.Decide was) seen (count_in seen == 1)
   tries_stand again (at.Decide was) reply.Done fits may = absurd (never_parks (count_in was == 1) may)
   tries_stand again (at.Decide was) told fits may = tt
   tries_stand again to told fits may = absurd fits
@@ -286,6 +280,56 @@ stands_on a p told stands may = by_purpose p.purpose p.retries p.at stands may
     by_purpose (purpose.Upgrade Patient) again to fits may = patient_stands a again to told fits may
     by_purpose (purpose.Upgrade Timed) again to fits may = timed_stands a again to told fits may
     by_purpose (purpose.Upgrade Try) again to fits may = tries_stand a again to told fits may
+
+-- ---------------------------------------------------------------- looks
+
+module _ (a : Admission) where
+  same_rows : (q : RwLockPurpose) (again : Bool) (seen : ℕ)
+      → (rwlock_profile a (of a q again at.Load) ≡ rwlock_profile a (of a q again (at.Decide seen)))
+      × (rwlock_profile a (of a q again at.Look) ≡ rwlock_profile a (of a q again (at.Count seen)))
+  same_rows (purpose.Enter x how) again seen = (refl, refl)
+  same_rows (purpose.Release x) again seen = (refl, refl)
+  same_rows (purpose.Downgrade d) again seen = (refl, refl)
+  same_rows (purpose.Upgrade how) again seen = (refl, refl)
+
+  loads_stand : (q : RwLockPurpose) (again : Bool) (seen : ℕ) → StandsAt q again (at.Decide seen) → StandsAt q again at.Load
+  loads_stand (purpose.Enter access.Exclusive how) again seen fits = fits
+  loads_stand (purpose.Enter access.Shared how) again seen fits = tt
+  loads_stand (purpose.Enter access.Upgradable how) again seen fits = tt
+  loads_stand (purpose.Release access.Shared) again seen fits = fits
+  loads_stand (purpose.Release x) again seen fits = fits
+  loads_stand (purpose.Downgrade d) again seen fits = fits
+  loads_stand (purpose.Upgrade Try) again seen fits = tt
+  loads_stand (purpose.Upgrade how) again seen fits = fits
+
+  counts_stand : (q : RwLockPurpose) (again : Bool) (seen : ℕ) → StandsAt q again (at.Count seen) → StandsAt q again at.Look
+  counts_stand (purpose.Enter access.Exclusive how) again seen fits = fits
+  counts_stand (purpose.Enter access.Shared how) again seen fits = fits
+  counts_stand (purpose.Enter access.Upgradable how) again seen fits = fits
+  counts_stand (purpose.Release access.Shared) again seen fits = fits
+  counts_stand (purpose.Release x) again seen fits = fits
+  counts_stand (purpose.Downgrade d) again seen fits = fits
+  counts_stand (purpose.Upgrade Patient) again seen fits = tt
+  counts_stand (purpose.Upgrade Timed) again seen fits = tt
+  counts_stand (purpose.Upgrade Try) again seen fits = fits
+
+  abbrev IsLook : RwLockPlace → RwLockPlace → Type 0
+  IsLook p q = (rwlock_profile a q ≡ rwlock_profile a p) × (MayStand a p → MayStand a q)
+
+  some_is : (p q : RwLockPlace) → Some p ≡ Some q → p ≡ q
+  some_is p q e = cc
+
+  by_mark : (b : Bool) (p q : RwLockPlace) → IsLook p (record p { at = at.Load }) → gone_to p (if b then Some at.Load else None) ≡ Some q → IsLook p q
+  by_mark true p q look is = subst (IsLook p) (some_is (record p { at = at.Load }) q is) look
+  by_mark false p q look is = absurd cc
+
+  looks_from : (how : RwLockPurpose) (again : Bool) (to : RwLockAt) (q : RwLockPlace) → gone_to (of a how again to) (looking_at a (of a how again to) to) ≡ Some q → IsLook (of a how again to) q
+  looks_from how again (at.Decide seen) q is = by_mark _ (of a how again (at.Decide seen)) q ((same_rows how again seen).0, λ h. record { place = loads_stand how again seen h.place; fresh = h.fresh; decided = tt }) is
+  looks_from how again (at.Count seen) q is = subst (IsLook (of a how again (at.Count seen))) (some_is (of a how again at.Look) q is) ((same_rows how again seen).1, λ h. record { place = counts_stand how again seen h.place; fresh = h.fresh; decided = tt })
+  looks_from how again to q is = absurd cc
+
+pub rwlock_looks_stand : RwLockLooksStand
+rwlock_looks_stand a p q is = looks_from a p.purpose p.retries p.at q is
 
 -- ---------------------------------------------------------------- threads asleep
 

@@ -1,7 +1,6 @@
 -- Each step of a reader-writer lock into a section, in it and out of it makes of its call what its row says.
-use Rattle.std.proofs.Common.{ℕ, Bool, true, false, Option, Some, None, List, if◌then◌else◌, ◌==◌, ◌&&◌, not, ◌≡◌, ◌≢◌, ◌<◌, inl, inr, refl, sym, ap, ◌∙◌, subst, length}
+use Rattle.std.proofs.Common.{ℕ, Bool, true, false, Option, Some, None, List, if◌then◌else◌, ◌&&◌, not, ◌≡◌, ◌≢◌, ◌<◌, inl, inr, refl, sym, ap, ◌∙◌, subst, length}
 use Rattle.lot_base.specs.declared.keys.Line.TheVariants.{Main, Second}
-use Rattle.lot_base.specs.declared.ops.Op.TheVariants.{Load}
 use Rattle.lot_base.specs.declared.wants.Want.TheVariants.{Exclusive, Upgradable, Shared}
 use Rattle.lot_calls.specs.declared.calls.Access.{Access}
 use Rattle.lot_calls.specs.declared.calls.Access.TheVariants as access
@@ -21,7 +20,6 @@ use Rattle.lot_rwlock.specs.declared.purposes.RwLockPurpose.{RwLockPurpose}
 use Rattle.lot_rwlock.specs.declared.purposes.RwLockPurpose.TheVariants as purpose
 use Rattle.lot_rwlock.specs.declared.places.RwLockAt.{RwLockAt}
 use Rattle.lot_rwlock.specs.declared.places.RwLockAt.TheVariants as at
-use Rattle.lot_rwlock.specs.declared.enter.Decision.TheVariants as decisions
 use Rattle.lot_rwlock.specs.declared.park.ParkAt.{ParkAt}
 use Rattle.lot_rwlock.specs.declared.park.ParkAt.TheVariants as parking
 use Rattle.lot_rwlock.specs.declared.release.WakeAt.{WakeAt}
@@ -30,10 +28,8 @@ use Rattle.lot_rwlock.specs.RwLockSteps.{wanted, from_of, to_of, start_of, patie
 use Rattle.lot_rwlock.specs.RwLockDeeds.{Admits, IsFreshTry, MayHear, MayHearParking, MayHearWaking, rwlock_deeds, park_deeds, wake_deeds, rwlock_doing}
 use Rattle.lot_rwlock.specs.RwLockProfiles.{rwlock_profile}
 use Rattle.lot_rwlock.specs.RwLockCalls.{MayWait, HasDeadline, ParksBy, EntersAt, SharesAt, WritesAt, ReleasesAt, DowngradesAt, UpgradesAt, StandsAt, KeepsRight, IsNotLate, next_row, CallFollowsBy, RwLockSectionsTell}
-use Rattle.lot_rwlock.proofs.RwLockCalls.{looks, settles, settles_up}
 use Rattle.lot_rwlock.proofs.RwLockCallRights.{recalls, goes, keeps, loses, replaces}
 use Rattle.abstract_locks.specs.Locks.{LockCase, Rules, Rights, Park, Aside, TakeAside, TakePicked, Wake, Late, Owns, after_case, rights_of, with_right, without_right}
-use Rattle.abstract_locks.specs.Codes.{code, count_in}
 use Rattle.abstract_locks.specs.Runs.{CallState, AtLock, going_on, EntersAnswer, ConvertsAnswer}
 use Rattle.abstract_locks.specs.Sites.{Site, IsSite, Deed, Case}
 use Rattle.abstract_locks.proofs.Rights.{regained}
@@ -232,9 +228,7 @@ module _ (r : Rules) (a : Admission) (s : Site) (t l : ℕ) (admits : Admits r a
 
   writes_tell : (how : Patience) (again : Bool) (to : RwLockAt) (whom : Option ℕ) (told : Reply) → WritesAt how to → IsFreshTry how again → s.doing t ≡ rwlock_doing (writer how again to) → IsNotLate told → MayHear r a s t (writer how again to) to whom told → TellsBy (writer how again to) whom told
   writes_tell how again (at.Decide seen) whom reply.Done fits fresh doing now hears = record { one = tt; may = tt; comes = λ rights e. recalls _ _ (goes l t s.lock s.lock (purpose.Enter access.Exclusive how) (at.Decide seen) (at.Park parking.Check) rights e refl) }
-  writes_tell how again (at.Decide seen) whom (reply.Spun v) fits fresh doing now hears = rw hears.1 (looks r a s t l Load admits h hears.2 there access.Exclusive how again fresh (at.Decide seen) tt fits)
   writes_tell how again (at.Count seen) whom reply.Done fits fresh doing now hears = record { one = tt; may = tt; comes = λ rights e. recalls _ _ (goes l t s.lock s.lock (purpose.Enter access.Exclusive how) (at.Count seen) (at.Aside parking.Check) rights e refl) }
-  writes_tell how again (at.Count seen) whom (reply.Spun v) fits fresh doing now hears = rw hears.0 (settles r a s t l Load admits h hears.1 there how again (at.Count seen) tt doing (count_in (code r s) == 0))
   writes_tell how again (at.Park to) whom told fits fresh doing now hears = parks_tell access.Exclusive how again to told _ fits now hears
   writes_tell how again (at.Aside to) whom told fits fresh doing now hears = aside_tells how again to told _ fits now hears
   writes_tell how again (at.Wake Main to) whom told fits fresh doing now hears = wakes_late access.Exclusive how again to whom told fits hears
@@ -243,7 +237,6 @@ module _ (r : Rules) (a : Admission) (s : Site) (t l : ℕ) (admits : Admits r a
 
   shares_tell : (x : Access) (how : Patience) (again : Bool) (to : RwLockAt) (whom : Option ℕ) (told : Reply) → SharesAt how to → EntersAt x how at.Load → IsFreshTry how again → IsNotLate told → MayHear r a s t (enterer x how again to) to whom told → TellsBy (enterer x how again to) whom told
   shares_tell x how again (at.Decide seen) whom reply.Done fits looking fresh now hears = record { one = tt; may = tt; comes = λ rights e. recalls _ _ (goes l t s.lock s.lock (purpose.Enter x how) (at.Decide seen) (at.Park parking.Check) rights e refl) }
-  shares_tell x how again (at.Decide seen) whom (reply.Spun v) fits looking fresh now hears = rw hears.1 (looks r a s t l Load admits h hears.2 there x how again fresh (at.Decide seen) tt looking)
   shares_tell x how again (at.Decide seen) whom told fits looking fresh now hears = absurd hears
   shares_tell x how again (at.Park to) whom told fits looking fresh now hears = parks_tell x how again to told _ fits now hears
   shares_tell x how again at.Load whom told fits looking fresh now hears = absurd hears
@@ -270,7 +263,6 @@ module _ (r : Rules) (a : Admission) (s : Site) (t l : ℕ) (admits : Admits r a
 
   upgrades_tell : (how : Patience) (again : Bool) (to : RwLockAt) (whom : Option ℕ) (told : Reply) → how ≢ Try → UpgradesAt how again to → s.doing t ≡ rwlock_doing (raiser how again to) → IsNotLate told → MayHear r a s t (raiser how again to) to whom told → TellsBy (raiser how again to) whom told
   upgrades_tell how again (at.Count seen) whom reply.Done more fits doing now hears = record { one = tt; may = tt; comes = λ rights e. recalls _ _ (goes l t s.lock s.lock (purpose.Upgrade how) (at.Count seen) (at.Aside parking.Check) rights e refl) }
-  upgrades_tell how again (at.Count seen) whom (reply.Spun v) more fits doing now hears = rw hears.0 (settles_up r a s t l Load admits h hears.1 there how again (at.Count seen) tt doing (count_in (code r s) == 0))
   upgrades_tell Patient again (at.Count seen) whom told more fits doing now hears = absurd hears
   upgrades_tell Patient again (at.Aside to) whom told more fits doing now hears = aside_up Patient again to told _ fits now hears
   upgrades_tell Patient again at.GiveWay whom told more fits doing now hears = absurd hears
@@ -289,14 +281,9 @@ module _ (r : Rules) (a : Admission) (s : Site) (t l : ℕ) (admits : Admits r a
   upgrades_tell Timed again to whom told more fits doing now hears = absurd fits
   upgrades_tell Try again to whom told more fits doing now hears = absurd (more refl)
 
-  -- a try to upgrade looks again, and enters no section
-  takes_or_refuses : (b : Bool) → (if b then decisions.Take else decisions.Refuse No) ≡ decisions.Mark → ⊥
-  takes_or_refuses true e = cc
-  takes_or_refuses false e = cc
-
+  -- a try to upgrade enters no section
   tries_tell : (again : Bool) (to : RwLockAt) (whom : Option ℕ) (told : Reply) → UpgradesAt Try again to → MayHear r a s t (raiser Try again to) to whom told → TellsBy (raiser Try again to) whom told
   tries_tell again (at.Decide seen) whom reply.Done fits hears = record { one = tt; may = tt; comes = λ rights e. recalls _ _ (goes l t s.lock s.lock (purpose.Upgrade Try) (at.Decide seen) (at.Park parking.Check) rights e refl) }
-  tries_tell again (at.Decide seen) whom (reply.Spun v) fits hears = absurd (takes_or_refuses (count_in seen == 1) hears.0)
   tries_tell again (at.Decide seen) whom told fits hears = absurd hears
   tries_tell again at.Load whom told fits hears = absurd hears
   tries_tell again to whom told fits hears = absurd fits

@@ -15,7 +15,6 @@ use Rattle.abstract_locks.specs.Locks.{Rules, Taken, Park, Aside, TakePicked, La
 use Rattle.abstract_locks.specs.Sites.{Has, Pends, KeepsOwned, Doing, idle, is_empty, Site, IsSite, End, In, Out, Case, after_deed, has_readers, leaves, wakened, counts_some}
 use Rattle.abstract_locks.specs.Codes.{code, TellsTrue, has_parked, has_aside, count_in, is_blocked}
 use Rattle.abstract_locks.proofs.CodeLaws.{words_tell_true}
-use Rattle.lot_base.specs.declared.ops.Op.TheVariants.{Load}
 use Rattle.lot_acts.specs.declared.acts.Reply.{Reply}
 use Rattle.lot_acts.specs.declared.acts.Reply.TheVariants as reply
 use Rattle.lot_acts.specs.Acts.{any_picked}
@@ -32,9 +31,9 @@ use Rattle.lot_rwlock.specs.declared.park.ParkAt.{ParkAt}
 use Rattle.lot_rwlock.specs.declared.park.ParkAt.TheVariants as parking
 use Rattle.lot_rwlock.specs.declared.release.WakeAt.{WakeAt}
 use Rattle.lot_rwlock.specs.declared.release.WakeAt.TheVariants as waking
-use Rattle.lot_rwlock.specs.RwLockSteps.{wanted, to_of, access_of, start_of, patience_of, decision, park_next, wake_next, took}
+use Rattle.lot_rwlock.specs.RwLockSteps.{wanted, to_of, access_of, start_of, patience_of, park_next, wake_next, took}
 use Rattle.lot_rwlock.specs.RwLockDeeds.{MayKeep, kept_claim, again_of, leaves_with, AtTry, AtPending, AtUpgrade, within, finding, pends, parking_doing, waking_doing, rwlock_doing, doing_next, IsFreshTry, AtFits, Admits, MayHear, MayHearParking, MayHearWaking, takes, park_deeds, wake_deeds, Follows, FollowsBy, RwLockSectionsFollow}
-use Rattle.lot_rwlock.proofs.RwLockFit.{put_same, knows_all, retrying, looks, counts, upgrade_counts}
+use Rattle.lot_rwlock.proofs.RwLockFit.{put_same, knows_all, retrying}
 
 module _ (r : Rules) (s : Site) (t : ℕ) (rw_sort : has_readers r.sort ≡ true) (h : IsSite r s) (tells : TellsTrue r s) where
   -- into a section that is free
@@ -166,9 +165,7 @@ module _ (r : Rules) (a : Admission) (s : Site) (t : ℕ) (admits : Admits r a) 
 
     enters_fit : (to : RwLockAt) (whom : Option ℕ) (told : Reply) → MayHear r a s t (place to) to whom told → s.doing t ≡ rwlock_doing (place to) → FollowsBy r a s t (place to) whom told
     enters_fit (at.Decide seen) whom reply.Done may is = goes_in r s t admits.0 h tells Main _ may.1 is refl refl
-    enters_fit (at.Decide seen) whom (reply.Spun v) may is = rw may.1 (looks r a s t 0 Load admits h may.2 x how again fresh (at.Decide seen) is (decision a (wanted x) how (code r s)) refl)
     enters_fit (at.Count seen) whom reply.Done may is = goes_in r s t admits.0 h tells Second _ may is refl refl
-    enters_fit (at.Count seen) whom (reply.Spun v) may is = rw may.0 (counts r a s t 0 Load admits h may.1 x how again fresh (at.Count seen) is (count_in (code r s) == 0) refl)
     enters_fit (at.Park to) whom told may is = parks_fit to told may is
     enters_fit (at.Aside to) whom told may is = aside_fit (purpose.Enter x how) false again refl to told may is
     enters_fit (at.Wake m to) whom told may is = wakes_fit (place (at.Wake m to)) None tt refl m (λ e. refl) to whom told may is
@@ -197,7 +194,6 @@ module _ (r : Rules) (a : Admission) (s : Site) (t : ℕ) (admits : Admits r a) 
   pending_fit : (how : Patience) (again : Bool) → IsFreshTry how again → (to : RwLockAt) (whom : Option ℕ) (told : Reply) → AtPending to → MayHear r a s t (of (purpose.Upgrade how) again to) to whom told
       → s.doing t ≡ rwlock_doing (of (purpose.Upgrade how) again to) → FollowsBy r a s t (of (purpose.Upgrade how) again to) whom told
   pending_fit how again fresh (at.Count seen) whom reply.Done fits may is = goes_in r s t admits.0 h tells Second _ may is refl refl
-  pending_fit how again fresh (at.Count seen) whom (reply.Spun v) fits may is = rw may.0 (upgrade_counts r a s t 0 Load admits h may.1 again how fresh (at.Count seen) is (count_in (code r s) == 0) refl)
   pending_fit how again fresh (at.Aside to) whom told fits may is = aside_fit (purpose.Upgrade how) true again refl to told may is
   pending_fit how again fresh (at.Wake Main to) whom told fits may is = wakes_fit (of (purpose.Upgrade how) again (at.Wake Main to)) (Some Upgradable) tt refl Main (λ e. absurd cc) to whom told may is
   pending_fit how again fresh at.GiveWay whom told fits may is = absurd may
@@ -206,19 +202,14 @@ module _ (r : Rules) (a : Admission) (s : Site) (t : ℕ) (admits : Admits r a) 
   pending_fit how again fresh (at.Count seen) whom told fits may is = absurd may
   pending_fit how again fresh to whom told fits may is = absurd fits
 
-  -- a try spins nowhere, and enters no section
+  -- a try enters no section
   takes_or_refuses : (b : Bool) → (if b then decisions.Take else decisions.Refuse No) ≡ decisions.Park → ⊥
   takes_or_refuses true e = cc
   takes_or_refuses false e = cc
 
-  never_marks : (b : Bool) → (if b then decisions.Take else decisions.Refuse No) ≡ decisions.Mark → ⊥
-  never_marks true e = cc
-  never_marks false e = cc
-
   try_fit : (again : Bool) (to : RwLockAt) (whom : Option ℕ) (told : Reply) → AtTry to → MayHear r a s t (of (purpose.Upgrade Try) again to) to whom told
       → FollowsBy r a s t (of (purpose.Upgrade Try) again to) whom told
   try_fit again (at.Decide seen) whom reply.Done fits may = absurd (takes_or_refuses (count_in seen == 1) may.0)
-  try_fit again (at.Decide seen) whom (reply.Spun v) fits may = absurd (never_marks (count_in seen == 1) may.0)
   try_fit again (at.Decide seen) whom told fits may = absurd may
   try_fit again at.Load whom told fits may = absurd may
   try_fit again to whom told fits may = absurd fits

@@ -276,14 +276,12 @@ module _ (a : Admission) where
   keeps_all q again at.Load (reply.Value seen) fits fresh on may = looks q again fresh at.Load seen (decided_for a q seen) refl
   keeps_all q again at.Load told fits fresh on may = (fresh, tt)
   keeps_all q again (at.Decide was) (reply.Value seen) fits fresh on may = exchanges q again fresh was seen may (decided_for a q was) refl
-  keeps_all q again (at.Decide was) (reply.Spun seen) fits fresh on may = looks q again fresh (at.Decide was) seen (decided_for a q seen) refl
   keeps_all q again (at.Decide was) reply.Done fits fresh on may = (fresh, tt)
   keeps_all q again (at.Decide was) told fits fresh on may = (fresh, on)
   keeps_all q again (at.Park to) told fits fresh on may = parks q again (fresh_waits (patience_of q) (lines_wait q again Main to fits)) to told
   keeps_all q again at.Look (reply.Value seen) fits fresh on may = counts q again fresh at.Look seen (count_in seen == 0) (entered (patience_of q))
   keeps_all q again at.Look told fits fresh on may = (fresh, tt)
   keeps_all q again (at.Count was) (reply.Value seen) fits fresh on may = counts_again q again fresh was seen (seen == was)
-  keeps_all q again (at.Count was) (reply.Spun seen) fits fresh on may = counts q again fresh (at.Count was) seen (count_in seen == 0) (entered (patience_of q))
   keeps_all q again (at.Count was) reply.Done fits fresh on may = (fresh, tt)
   keeps_all q again (at.Count was) told fits fresh on may = (fresh, tt)
   keeps_all q again (at.Aside to) told fits fresh on may = asides q again (fresh_waits (patience_of q) (lines_wait q again Second to fits)) to told

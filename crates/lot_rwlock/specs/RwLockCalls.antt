@@ -25,9 +25,9 @@ use Rattle.lot_rwlock.specs.declared.enter.Decision.{Decision}
 use Rattle.lot_rwlock.specs.declared.enter.Decision.TheVariants as decisions
 use Rattle.lot_rwlock.specs.declared.park.ParkAt.{ParkAt}
 use Rattle.lot_rwlock.specs.declared.park.ParkAt.TheVariants as parking
-use Rattle.lot_rwlock.specs.RwLockSteps.{wanted, to_of, patience_of, decided_for, decided, rwlock_act, rwlock_next}
-use Rattle.lot_rwlock.specs.RwLockDeeds.{IsAt, IsFreshTry, MayHear, rwlock_deeds}
-use Rattle.lot_rwlock.specs.RwLockProfiles.{rwlock_profile, hand_at, late_line_at}
+use Rattle.lot_rwlock.specs.RwLockSteps.{wanted, to_of, patience_of, decided, rwlock_act, rwlock_next, decided_for}
+use Rattle.lot_rwlock.specs.RwLockDeeds.{IsAt, MayHear, rwlock_deeds, IsFreshTry}
+use Rattle.lot_rwlock.specs.RwLockProfiles.{rwlock_profile, rwlock_looking, hand_at, late_line_at}
 use Rattle.abstract_locks.specs.Locks.{LockState, Rules, Rights, Owns, standing}
 use Rattle.abstract_locks.specs.Codes.{code}
 use Rattle.abstract_locks.specs.Runs.{CallState}
@@ -134,6 +134,12 @@ RwLockCallsStand =
     (a : Admission) (p : RwLockPlace) (told : Reply) → MayStand a p → MayBeTold a p p.at told
     → MayStandNext a (rwlock_next a p told)
 
+-- where a thread looks once more, its row is as it was, and its call stands where it may
+abbrev pub RwLockLooksStand : Type 0
+RwLockLooksStand =
+    (a : Admission) (p q : RwLockPlace) → rwlock_looking a p ≡ Some q
+    → (rwlock_profile a q ≡ rwlock_profile a p) × (MayStand a p → MayStand a q)
+
 -- ---------------------------------------------------------------- the laws
 
 abbrev pub next_row : Admission → Next RwLockPlace → Next Profile
@@ -167,7 +173,7 @@ RwLockStepsTell =
     → standing t s.lock ≡ 0 → rwlock_act l a p ≡ act.Word l op
     → CallFollowsBy r a s t l p None (reply.Value (code r s))
 
--- and each into a section, in it, and out of it, and each load in place of an act
+-- and each into a section, in it, and out of it
 abbrev pub RwLockSectionsTell : Type 0
 RwLockSectionsTell =
     (r : Rules) (a : Admission) (s : Site) (t l : ℕ) (p : RwLockPlace) (whom : Option ℕ) (told : Reply)

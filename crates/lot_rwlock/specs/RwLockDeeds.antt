@@ -208,13 +208,11 @@ deeds_at a p at.First whom (reply.Value seen) =
 deeds_at a p at.Load whom (reply.Value seen) = looked_deeds (decided a p seen)
 deeds_at a p (at.Decide expected) whom (reply.Value seen) =
     exchanged_deeds p.purpose (decided a p expected) (seen == expected) (decided a p seen)
-deeds_at a p (at.Decide expected) whom (reply.Spun seen) = looked_deeds (decided a p seen)
 deeds_at a p (at.Decide expected) whom reply.Done = In Main ∷ []
 deeds_at a p (at.Park to) whom told = park_deeds (Case (Park (want_at p))) Main to told
 deeds_at a p at.Look whom (reply.Value seen) = counted_deeds seen
 deeds_at a p (at.Count expected) whom (reply.Value seen) =
     if seen == expected then Mark Second ∷ [] else counted_deeds seen
-deeds_at a p (at.Count expected) whom (reply.Spun seen) = counted_deeds seen
 deeds_at a p (at.Count expected) whom reply.Done = In Second ∷ []
 deeds_at a p (at.Aside to) whom told = park_deeds (Case Aside) Second to told
 deeds_at a p at.RollBack whom (reply.Value seen) = does_and_wakes (has_parked seen) (Case Rollback)
@@ -321,13 +319,10 @@ MayHearWaking r s t start m waking.Take whom (reply.Picked n x none_left) =
 MayHearWaking r s t start m (waking.Leave any) whom reply.Done = s.lock.taken t ≡ None
 MayHearWaking r s t start m to whom told = ⊥
 
--- what a thread may be told of its steps in and out of sections, and as it spins or is late
+-- what a thread may be told of its steps in and out of sections, and as it is late
 abbrev pub MayHear : Rules → Admission → Site → ℕ → RwLockPlace → RwLockAt → Option ℕ → Reply → Type 0
 MayHear r a s t p (at.Decide seen) whom reply.Done = (decided a p seen ≡ decisions.Park) × IsFree s Main
-MayHear r a s t p (at.Decide seen) whom (reply.Spun v) =
-    (decided a p seen ≡ decisions.Mark) × (v ≡ code r s) × (standing t s.lock ≡ 0)
 MayHear r a s t p (at.Count seen) whom reply.Done = IsFree s Second
-MayHear r a s t p (at.Count seen) whom (reply.Spun v) = (v ≡ code r s) × (standing t s.lock ≡ 0)
 MayHear r a s t p (at.Park to) whom told =
     MayHearParking r s t Main (holds (park_check a (want_at p) Main) (code r s)) to told
 MayHear r a s t p (at.Aside to) whom told =

@@ -91,11 +91,11 @@ abbrev pub is_mark : Decision → Bool
 is_mark decisions.Mark = true
 is_mark decision = false
 
--- where the act leads to sleep, and nobody sleeps yet
-abbrev pub spins_at : Admission → RwLockPlace → RwLockAt → Bool
-spins_at a p (at.Decide seen) = is_mark (decided a p seen) && not (has_aside seen)
-spins_at a p (at.Count seen) = true
-spins_at a p to = false
+-- where it looks at the word once more: where its act would set a bit before it sleeps, or it is pending
+abbrev pub looking_at : Admission → RwLockPlace → RwLockAt → Option RwLockAt
+looking_at a p (at.Decide seen) = if is_mark (decided a p seen) && not (has_aside seen) then Some at.Load else None
+looking_at a p (at.Count seen) = Some at.Look
+looking_at a p to = None
 
 abbrev pub is_timed : Patience → Bool
 is_timed Timed = true
@@ -169,7 +169,6 @@ rwlock_profile a p = record {
   wants = wants_for p.purpose;
   owes = owes_at p.at;
   retries = p.retries;
-  spins = spins_at a p p.at;
   timed = is_timed (patience_of p.purpose);
   late_line = late_line_at (patience_of p.purpose) p.at;
   late = late_at is_late p.purpose p.at;
@@ -187,8 +186,13 @@ rwlock_taker p = hand_owner (hand_at p.at)
 abbrev pub rwlock_wants : RwLockPlace → Option Want
 rwlock_wants p = wants_for p.purpose
 
-abbrev pub rwlock_can_spin : Admission → RwLockPlace → Bool
-rwlock_can_spin a p = spins_at a p p.at
+abbrev pub gone_to : RwLockPlace → Option RwLockAt → Option RwLockPlace
+gone_to p None = None
+gone_to p (Some to) = Some (record p { at = to })
+
+-- from where it looks at the word once more, in place of an act that leads to sleep
+abbrev pub rwlock_looking : Admission → RwLockPlace → Option RwLockPlace
+rwlock_looking a p = gone_to p (looking_at a p p.at)
 
 abbrev pub rwlock_late_line : RwLockPlace → Option Line
 rwlock_late_line p = late_line_at (patience_of p.purpose) p.at

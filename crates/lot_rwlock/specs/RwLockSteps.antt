@@ -27,7 +27,7 @@ use Rattle.lot_acts.specs.declared.acts.Check as check
 use Rattle.lot_acts.specs.declared.acts.Next.{Next}
 use Rattle.lot_acts.specs.declared.acts.Next.TheVariants.{At, End}
 use Rattle.lot_acts.specs.declared.acts.Reply.{Reply}
-use Rattle.lot_acts.specs.declared.acts.Reply.TheVariants.{Done, Value, Spun, Parked, Took, Picked, Removed, TakenBy, Late, Woken}
+use Rattle.lot_acts.specs.declared.acts.Reply.TheVariants.{Done, Value, Parked, Took, Picked, Removed, TakenBy, Late, Woken}
 use Rattle.lot_acts.specs.declared.acts.Wakes as wake_notes
 use Rattle.lot_acts.specs.declared.acts.Whom.{Whom}
 use Rattle.lot_acts.specs.declared.acts.Whom as whom_taken
@@ -274,7 +274,6 @@ exchanged_next a p expected seen decision = looked a p seen
 
 abbrev pub decided_next : Admission → RwLockPlace → ℕ → Reply → Next RwLockPlace
 decided_next a p expected (Value seen) = exchanged_next a p expected seen (decided a p expected)
-decided_next a p expected (Spun seen) = looked a p seen
 decided_next a p expected Done = stays p (at.Park parking.Check)
 decided_next a p expected reply = stays p (at.Decide expected)
 
@@ -286,7 +285,6 @@ counted p seen =
 abbrev pub count_next : RwLockPlace → ℕ → Reply → Next RwLockPlace
 count_next p expected (Value seen) =
     if seen == expected then stays p (at.Count (plus expected 2)) else counted p seen
-count_next p expected (Spun seen) = counted p seen
 count_next p expected Done = stays p (at.Aside parking.Check)
 count_next p expected reply = stays p (at.Count expected)
 

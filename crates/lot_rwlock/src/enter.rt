@@ -5,7 +5,7 @@
 //! | `First` (of a writer) | exchanges 0 for `WRITER` | owns, or `Load`; a try ends |
 //! | `Load` | loads | decides |
 //! | `Decide(v)`, not blocked | exchanges `v` for `v` and its right | owns, and a writer is pending: `Look`; or decides again |
-//! | `Decide(v)`, blocked, without `PARKED` | exchanges `v` for `v + PARKED`, or loads again as it spins | decides |
+//! | `Decide(v)`, blocked, without `PARKED` | exchanges `v` for `v + PARKED`, or goes on from `Load` as it spins | decides |
 //! | `Decide(v)`, blocked, with `PARKED` | enters the main section | `Park` |
 //!
 //! A try to upgrade decides the same way: it takes where nobody else shares, and else ends with `No`. A try that is blocked ends with `No`. Whoever counts, and isn't blocked, ends with `ReadersFull` where the count is at the limit.
@@ -155,7 +155,6 @@ pub(super) fn next_decided(
             let decision = admission.decided(place.purpose, expected);
             exchanged(place, admission, expected, seen, decision)
         }
-        Reply::Spun(seen) => looked(place, admission, seen),
         Reply::Done => place.goes(RwLockAt::Park(ParkAt::Check), place.retries),
         _ => place.goes(RwLockAt::Decide(expected), place.retries),
     }

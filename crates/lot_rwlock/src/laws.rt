@@ -1,5 +1,5 @@
 //! What the steps of a lock do to it.
-ghost use Rattle.lot_rwlock.specs.RwLockCalls.{RwLockCallsStand, RwLockSectionsTell, RwLockSleepersHear, RwLockStepsTell};
+ghost use Rattle.lot_rwlock.specs.RwLockCalls.{RwLockCallsStand, RwLockLooksStand, RwLockSectionsTell, RwLockSleepersHear, RwLockStepsTell};
 ghost use Rattle.lot_rwlock.specs.RwLockMoves.{RwLockActsMove, RwLockLateMove, RwLockSleepersMove};
 ghost use Rattle.lot_rwlock.specs.RwLockDeeds.{RwLockOwnersFollow, RwLockSectionsFollow, RwLockStepsCode, RwLockStepsFollow};
 
@@ -18,7 +18,7 @@ pub fn rwlock_owners_follow()
     ensures { RwLockOwnersFollow }
 {}
 
-/// Each step into a section, in it, and out of it may do to the lock what its deeds say too, as may a load in place of an act, and
+/// Each step into a section, in it, and out of it may do to the lock what its deeds say too, as may
 /// the step of a thread whose time is up.
 pub fn rwlock_sections_follow()
     ensures { RwLockSectionsFollow }
@@ -30,7 +30,7 @@ pub fn rwlock_steps_tell()
     ensures { RwLockStepsTell }
 {}
 
-/// And so does each step into a section, in it, and out of it, and each load in place of an act.
+/// And so does each step into a section, in it, and out of it.
 pub fn rwlock_sections_tell()
     ensures { RwLockSectionsTell }
 {}
@@ -38,6 +38,11 @@ pub fn rwlock_sections_tell()
 /// A call that stands where its patience and its right allow goes on where they do.
 pub fn rwlock_calls_stand()
     ensures { RwLockCallsStand }
+{}
+
+/// Where a thread looks at the word once more, its row is the same, and its call stands where it may.
+pub fn rwlock_looks_stand()
+    ensures { RwLockLooksStand }
 {}
 
 /// What befalls a thread asleep makes of its call what its row says.

@@ -3,8 +3,8 @@
 //! | place | does | then |
 //! |---|---|---|
 //! | `Look` | loads | owns where nobody shares, else `Count` |
-//! | `Count(v)`, without `WRITER_PARKED` | exchanges `v` for `v + WRITER_PARKED`, or loads again as it spins | `Count`, or owns |
-//! | `Count(v)`, with `WRITER_PARKED` | enters the second section, or loads again as it spins | `Aside`, or as `Look` |
+//! | `Count(v)`, without `WRITER_PARKED` | exchanges `v` for `v + WRITER_PARKED`, or goes on from `Look` as it spins | `Count`, or owns |
+//! | `Count(v)`, with `WRITER_PARKED` | enters the second section, or goes on from `Look` as it spins | `Aside` |
 //! | `RollBack` | subtracts `WRITER`; an upgrade has the upgradable right again | ends with `No`, or wakes those in the main queue first |
 ghost use Rattle.std.specs.Prelude.{◌≡◌, ◌<◌, ◌^◌};
 ghost use Rattle.lot_rwlock.specs.RwLockSteps.{count_act, counted, count_next, rolled_back};
@@ -51,7 +51,7 @@ pub(super) fn next_count(place: RwLockPlace, expected: u64, reply: Reply) -> Nex
                 place.retries,
             )
         }
-        Reply::Value(seen) | Reply::Spun(seen) => counted(place, seen),
+        Reply::Value(seen) => counted(place, seen),
         Reply::Done => place.goes(RwLockAt::Aside(ParkAt::Check), place.retries),
         _ => place.goes(RwLockAt::Count(expected), place.retries),
     }

@@ -2,7 +2,7 @@
 ghost use Rattle.std.specs.Prelude.{◌≡◌, ◌<◌, ◌^◌};
 ghost use Rattle.abstract_locks.specs.Codes as codes;
 ghost use Rattle.lot_rwlock.specs.RwLockSteps.{wanted, goes, rwlock_act, rwlock_next};
-ghost use Rattle.lot_rwlock.specs.RwLockProfiles.{rwlock_taker, rwlock_wants, rwlock_can_spin, rwlock_late_line, rwlock_owes};
+ghost use Rattle.lot_rwlock.specs.RwLockProfiles.{rwlock_taker, rwlock_wants, rwlock_looking, rwlock_late_line, rwlock_owes};
 
 use crate::enter::{Decision, decided_act, looked, next_decided, next_first};
 use crate::park::{ParkAt, next_park, park_act};
@@ -171,17 +171,19 @@ impl RwLockPlace {
         }
     }
 
-    /// Whether the thread may load the word again in place of its act: where that leads to sleep, and nobody sleeps yet.
-    pub fn can_spin(self, admission: Admission) -> bool
-        ensures { result ≡ rwlock_can_spin admission self }
+    /// From where the thread looks at the word once more, in place of an act that leads to sleep.
+    pub fn looking(self, admission: Admission) -> Option<RwLockPlace>
+        ensures { result ≡ rwlock_looking admission self }
     {
-        match self.at {
-            RwLockAt::Decide(seen) => {
-                admission.decided(self.purpose, seen) == Decision::Mark && !has_aside(seen)
+        let at = match self.at {
+            RwLockAt::Decide(seen)
+                if admission.decided(self.purpose, seen) == Decision::Mark && !has_aside(seen) => {
+                RwLockAt::Load
             }
-            RwLockAt::Count(_) => true,
-            _ => false,
-        }
+            RwLockAt::Count(_) => RwLockAt::Look,
+            _ => return None,
+        };
+        Some(RwLockPlace { at, ..self })
     }
 
     /// The queue in which the thread sleeps, where it may give up.

@@ -13,12 +13,12 @@ use Rattle.lot_acts.specs.declared.acts.Next.{Next}
 use Rattle.lot_acts.specs.declared.acts.Next.TheVariants.{At, End}
 use Rattle.lot_acts.specs.declared.owners.Owners.{Owners}
 use Rattle.lot_calls.specs.Kinds.{is_fair}
-use Rattle.lot_mutex.specs.MutexSteps.{mutex_first, mutex_right, mutex_act, mutex_next, mutex_owners}
+use Rattle.lot_mutex.specs.MutexSteps.{mutex_first, mutex_right, mutex_act, mutex_next, mutex_looking, mutex_owners}
 use Rattle.lot_base.specs.declared.keys.Line.{Line}
 use Rattle.lot_base.specs.declared.wants.Want.{Want}
 use Rattle.lot_base.specs.Keys.{key_of}
 use Rattle.lot_acts.specs.Profiles.{Profile, blank, bringing_nobody, hand_owner}
-use Rattle.lot_mutex.specs.MutexProfiles.{mutex_profile, mutex_can_spin}
+use Rattle.lot_mutex.specs.MutexProfiles.{mutex_profile}
 
 -- where a call of a lock of a kind begins
 abbrev pub first_place : Kind → Call → Place
@@ -97,10 +97,14 @@ wants p = (profile p).wants
 abbrev pub taker : Place → Option ℕ
 taker p = hand_owner (profile p).hand
 
--- the lock whose word may be loaded again in place of the act
-abbrev pub spin_lock : Place → Option ℕ
-spin_lock Idle = None
-spin_lock (Mutex lock at) = if mutex_can_spin at then Some lock else None
+abbrev pub in_mutex : ℕ → Option MutexPlace → Option Place
+in_mutex lock None = None
+in_mutex lock (Some at) = Some (Mutex lock at)
+
+-- from where a thread looks at the word once more, in place of an act that leads to sleep
+abbrev pub looking : Place → Option Place
+looking Idle = None
+looking (Mutex lock at) = in_mutex lock (mutex_looking at)
 
 -- the key of a line of the lock that a thread calls
 abbrev pub key_in : Option ℕ → Option Line → Option ℕ

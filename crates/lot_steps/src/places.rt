@@ -1,6 +1,6 @@
 //! Where a thread stands, and where each step leads it.
 ghost use Rattle.std.specs.Prelude.{◌≡◌};
-ghost use Rattle.lot_steps.specs.Steps.{HasKeys, first_place, has_right, act_of, next_place, next_act, owners_after, shares_after, taker, wants, spin_lock, late_key, owes_on, retries_on, is_idle};
+ghost use Rattle.lot_steps.specs.Steps.{HasKeys, first_place, has_right, act_of, next_place, next_act, owners_after, shares_after, taker, wants, looking, late_key, owes_on, retries_on, is_idle};
 
 use lot_acts::{Act, Next, Owners, Reply};
 use lot_base::{Key, Want};
@@ -101,13 +101,16 @@ impl Place {
         }
     }
 
-    /// The lock whose word the thread may load again in place of its act, which leads to sleep.
-    pub fn spin_lock(self) -> Option<usize>
-        ensures { result ≡ spin_lock self }
+    /// From where the thread looks at the word once more, in place of an act that leads to sleep.
+    pub fn looking(self) -> Option<Place>
+        ensures { result ≡ looking self }
     {
         match self {
-            Place::Mutex { lock, at } if at.can_spin() => Some(lock),
-            _ => None,
+            Place::Idle => None,
+            Place::Mutex { lock, at } => {
+                let at = at.looking()?;
+                Some(Place::Mutex { lock, at })
+            }
         }
     }
 

@@ -1,5 +1,5 @@
 -- Steps of a thread alone, one after another.
-use Rattle.std.proofs.Common.{◌≡◌, ◌≢◌, ℕ, zero, suc, ◌+◌, ◌-◌, ◌<◌, Bool, true, false, if◌then◌else◌, refl, ap, sym, ◌∙◌, arith}
+use Rattle.std.proofs.Common.{◌≡◌, ◌≢◌, ℕ, zero, suc, ◌+◌, ◌-◌, ◌<◌, Bool, true, false, Option, Some, None, is_some, nat_lt, length, if◌then◌else◌, refl, ap, sym, ◌∙◌, arith}
 use Rattle.lot_acts.specs.declared.acts.Act.{Act}
 use Rattle.lot_acts.specs.declared.acts.Act.TheVariants.{Sleep, Closure, End}
 use Rattle.lot_calls.specs.declared.calls.Step.{Step}
@@ -8,8 +8,10 @@ use Rattle.lot_calls.specs.declared.calls.Turn as turn
 use Rattle.lot_calls.specs.declared.outcomes.Outcome.{Outcome}
 use Rattle.lot_calls.specs.declared.outcomes.Outcome as outcome
 use Rattle.lot_acts.specs.Acts.{outcome_of}
-use Rattle.lot_steps.specs.Steps.{act_of, next_act}
-use Rattle.lot_machine.specs.Machine.{State, Alone, alone_after, solo, after, step_outcome, is_possible, state_after_turn, turn_outcome, go_of, go_reply, reply_to, closed_place, place_at}
+use Rattle.lot_steps.specs.Steps.{act_of, next_act, looking}
+use Rattle.lot_machine.specs.Machine.{State, Alone, alone_after, solo, after, step_outcome, is_possible, state_after_turn, turn_outcome, go_of, reply_to, closed_place, place_at, put, can_turn, going_outcome, look_outcome}
+use Rattle.lot_steps.specs.declared.places.Place.{Place}
+use Rattle.lot_machine.proofs.Shape.{both}
 
 -- a step that was possible doesn't answer that it wasn't
 outcome_possible : (act : Act) → outcome_of act ≢ outcome.TheVariants.NotNow
@@ -18,19 +20,27 @@ outcome_possible Sleep h = cc
 outcome_possible (Closure state) h = cc
 outcome_possible act h = cc
 
-turn_possible : (w : State) (t : ℕ) (x : Turn) → turn_outcome w t x ≢ outcome.TheVariants.NotNow
-turn_possible w t turn.TheVariants.Go h = outcome_possible (next_act (place_at w t) (go_reply w t)) h
-turn_possible w t turn.TheVariants.Ok h = outcome_possible (next_act (closed_place w t true) (reply_to w t (act_of (closed_place w t true)))) h
-turn_possible w t turn.TheVariants.Err h = outcome_possible (next_act (closed_place w t false) (reply_to w t (act_of (closed_place w t false)))) h
-turn_possible w t x h = cc
+going_possible : (w : State) (t : ℕ) (p : Place) → going_outcome w t p ≢ outcome.TheVariants.NotNow
+going_possible w t p h = outcome_possible (next_act p (reply_to w t (act_of p))) h
+
+turn_possible : (w : State) (t : ℕ) (x : Turn) → can_turn w t x ≡ true → turn_outcome w t x ≢ outcome.TheVariants.NotNow
+turn_possible w t turn.TheVariants.Go can h = going_possible w t (place_at w t) h
+turn_possible w t turn.TheVariants.Spin can h = by_look (looking (place_at w t)) can h
+  where
+    by_look : (o : Option Place) → is_some o ≡ true → look_outcome w t o ≢ outcome.TheVariants.NotNow
+    by_look None can h = absurd cc
+    by_look (Some q) can h = going_possible (put w t q) t (place_at (put w t q) t) h
+turn_possible w t turn.TheVariants.Ok can h = going_possible w t (closed_place w t true) h
+turn_possible w t turn.TheVariants.Err can h = going_possible w t (closed_place w t false) h
+turn_possible w t x can h = cc
 
 -- a step that wasn't possible has changed nothing
 pub after_stuck : (w : State) (s : Step) → step_outcome w s ≡ outcome.TheVariants.NotNow → after w s ≡ w
-after_stuck w s h = either (is_possible w s) h
+after_stuck w s h = either (is_possible w s) refl h
   where
-    either : (b : Bool) → (if b then turn_outcome w s.thread s.turn else outcome.TheVariants.NotNow) ≡ outcome.TheVariants.NotNow → (if b then state_after_turn w s.thread s.turn else w) ≡ w
-    either false e = refl
-    either true e = absurd (turn_possible w s.thread s.turn e)
+    either : (b : Bool) → is_possible w s ≡ b → (if b then turn_outcome w s.thread s.turn else outcome.TheVariants.NotNow) ≡ outcome.TheVariants.NotNow → (if b then state_after_turn w s.thread s.turn else w) ≡ w
+    either false can e = refl
+    either true can e = absurd (turn_possible w s.thread s.turn (both (nat_lt s.thread (length w.places)) (can_turn w s.thread s.turn) can).1 e)
 
 pub solo_end : (n : ℕ) (w : State) (t : ℕ) (last : Outcome) → n ≡ 0 → solo n w t last ≡ record { state = w; outcome = last }
 unfolding solo

@@ -1,6 +1,6 @@
 -- Each step of the world is fair.
 use Rattle.std.proofs.Common.{ℕ, Bool, true, false, Option, Some, None, if◌then◌else◌, ◌==◌, ◌&&◌, not, ◌≡◌, ◌≢◌, ◌+◌, ◌*◌, ◌<◌, ◌⊎◌, inl, inr, [], length, refl, sym, ◌∙◌, ap, subst, arith, get_or-set_same}
-use Rattle.std.proofs.lemmas.Bool.{cases_eq, eqb-true}
+use Rattle.std.proofs.lemmas.Bool.{cases_eq, eqb-true, ltb-true}
 use Rattle.std.proofs.lemmas.Bool.Decides.{nat_tests}
 use Rattle.lot_base.specs.declared.keys.Keys.TheVariants.{One}
 use Rattle.lot_base.specs.declared.ops.Op.{Op}
@@ -26,8 +26,8 @@ use Rattle.lot_mutex.specs.declared.hand_off.HandOffAt.TheVariants as hand_off
 use Rattle.lot_steps.specs.declared.places.Place.{Place}
 use Rattle.lot_steps.specs.declared.places.Place.TheVariants.{Idle, Mutex}
 use Rattle.lot_mutex.specs.MutexSteps.{is_locked, is_parked, lock_act, hand_off_act}
-use Rattle.lot_steps.specs.Steps.{act_of, spin_lock, late_key}
-use Rattle.lot_machine.specs.Machine.{State, unlocked, place_at, word_at, owners_at, kind_at, queue_at, state_after_operation, queues_with_last, queues_without_first, state_after_act, state_after_taking, state_after_spin_on, state_after_late_on, state_after_turn, can_turn, is_possible, after, step_outcome}
+use Rattle.lot_steps.specs.Steps.{act_of, looking, late_key}
+use Rattle.lot_machine.specs.Machine.{State, unlocked, place_at, word_at, owners_at, kind_at, queue_at, state_after_operation, queues_with_last, queues_without_first, state_after_act, state_after_taking, state_after_look, state_after_go, put, state_after_late_on, state_after_turn, can_turn, is_possible, after, step_outcome}
 use Rattle.lot_machine.specs.Fits.{IsShaped, PlaceFits}
 use Rattle.lot_world.specs.MutexPromises.{IsMutexWord}
 use Rattle.lot_world.specs.MutexDeeds.{mutex_station}
@@ -35,7 +35,8 @@ use Rattle.lot_world.specs.SitesOf.{IsSteady, CallsMutex, is_mutex}
 use Rattle.abstract_locks.specs.Sites.{Main}
 use Rattle.lot_world.proofs.MutexTable.{own_doing}
 use Rattle.lot_world.proofs.Closures.{nothing_closes}
-use Rattle.lot_machine.proofs.Shape.{both}
+use Rattle.lot_machine.proofs.Shape.{both, looking_shaped}
+use Rattle.lot_world.proofs.Looking.{looking_steady, locks_same, calls_same}
 use Rattle.std.specs.Prelude.{nat_lt}
 use Rattle.abstract_locks.specs.Locks.{LockState, Queued, Rules, Rights, Taken, LockCase, Enter, Pend, Settle, Leave, Convert, Park, Aside, TakeFirst, TakeAside, TakePicked, Wake, HandOff as HandsLockOff, Late, Rollback, Needs, Owns, IsTaken, HasTakenNobody, IsLockState, Knows, keep_from, first_thread, rights_of}
 use Rattle.abstract_locks.specs.Locks as locks
@@ -122,7 +123,7 @@ module _ (P : LockState → LockState → Type 0) (w v : LocksState) (a l : ℕ)
   does_so : (x : Turn) (o : Outcome) → Does w a x o v → P (w.locks l) (v.locks l)
   does_so (turn.TheVariants.Begin c) o d = stays_so _ o d
   does_so turn.TheVariants.Go o d = goes_so o d
-  does_so turn.TheVariants.Spin o d = stays_so _ o d
+  does_so turn.TheVariants.Spin o d = goes_so o d.goes
   does_so turn.TheVariants.Late o d = stays_so _ o d
   does_so turn.TheVariants.Ok o d = goes_so o d
   does_so turn.TheVariants.Err o d = goes_so o d
@@ -134,9 +135,12 @@ module _ (P : LockState → LockState → Type 0) (w v : LocksState) (a l : ℕ)
 -- ---------------------------------------------------------------- what a fair release does by its own step
 
 -- what the mutex has come to
+abbrev ComesFrom : LockState → (word : ℕ) → ℕ → ℕ → State → Type 0
+ComesFrom s word t l v = (owner_at v l ≡ Some t) ⊎ (((u : ℕ) × IsTaken s t u Exclusive × (owner_at v l ≡ Some u))
+    ⊎ ((owner_at v l ≡ None) × HasTakenNobody s t × ((is_parked word ≡ false) ⊎ (s.queue ≡ []))))
+
 abbrev ComesTo : State → ℕ → ℕ → State → Type 0
-ComesTo w t l v = (owner_at v l ≡ Some t) ⊎ (((u : ℕ) × IsTaken (lock_state w l) t u Exclusive × (owner_at v l ≡ Some u))
-    ⊎ ((owner_at v l ≡ None) × HasTakenNobody (lock_state w l) t × ((is_parked (word_at w l) ≡ false) ⊎ ((lock_state w l).queue ≡ []))))
+ComesTo w t l v = ComesFrom (lock_state w l) (word_at w l) t l v
 
 module _ (w : State) (t l : ℕ) (shape : IsShaped w) (steady : IsSteady w) (own : owner_at w l ≡ Some t) where
   operated_owner : (p : Place) (f : Op) → l < length w.locks → owner_at (state_after_operation w t p l f) l ≡ owner_after p t (word_at w l) (Some t)
@@ -220,27 +224,33 @@ module _ (w : State) (t l : ℕ) (shape : IsShaped w) (steady : IsSteady w) (own
   go_gives (Mutex k (HandOff true a)) is fits h = rw h (hand_off_gives (here k h fits.0) true a (is ∙ ap (λ n. Mutex n (HandOff true a)) h))
   go_gives (Mutex k (HandOff false a)) is fits h = rw h.0 (hand_off_gives (here k h.0 fits.0) false a (is ∙ ap (λ n. Mutex n (HandOff false a)) h.0))
 
-  spin_gives : (o : Option ℕ) → ComesTo w t l (state_after_spin_on w t o)
-  spin_gives None = inl own
-  spin_gives (Some k) = inl own
-
   late_gives : (o : Option ℕ) → ComesTo w t l (state_after_late_on w t o)
   late_gives None = inl own
   late_gives (Some key) = inl own
 
-  turned_gives : IsFairRelease (call_state (place_at w t) (rights w t)).purpose l → (x : Turn) → can_turn w t x ≡ true → ComesTo w t l (state_after_turn w t x)
-  turned_gives h (turn.TheVariants.Begin c) can = inl own
-  turned_gives h turn.TheVariants.Go can = go_gives (place_at w t) refl (shape.places t) h
-  turned_gives h turn.TheVariants.Spin can = spin_gives (spin_lock (place_at w t))
-  turned_gives h turn.TheVariants.Late can = late_gives (late_key (place_at w t))
-  turned_gives h turn.TheVariants.Ok can = absurd (nothing_closes w t true can)
-  turned_gives h turn.TheVariants.Err can = absurd (nothing_closes w t false can)
+module _ (w : State) (t l : ℕ) (shape : IsShaped w) (steady : IsSteady w) (own : owner_at w l ≡ Some t) where
+  -- it looks at the word once more, and goes on from there
+  spin_gives : t < length w.places → IsFairRelease (call_state (place_at w t) (rights w t)).purpose l → (o : Option Place) → looking (place_at w t) ≡ o → ComesTo w t l (state_after_look w t o)
+  spin_gives there h None is = inl own
+  spin_gives there h (Some q) is = let shaped = looking_shaped w t q shape is in
+      subst (λ s. ComesFrom s (word_at w l) t l (state_after_go (put w t q) t)) (locks_same w t there q is l)
+      (go_gives (put w t q) t l shaped (looking_steady w t there q is steady) own (place_at (put w t q) t) refl (shaped.places t)
+      (subst (λ (c : CallState). IsFairRelease c.purpose l) (sym (calls_same w t there q is t)) h))
+
+  turned_gives : t < length w.places → IsFairRelease (call_state (place_at w t) (rights w t)).purpose l → (x : Turn) → can_turn w t x ≡ true → ComesTo w t l (state_after_turn w t x)
+  turned_gives there h (turn.TheVariants.Begin c) can = inl own
+  turned_gives there h turn.TheVariants.Go can = go_gives w t l shape steady own (place_at w t) refl (shape.places t) h
+  turned_gives there h turn.TheVariants.Spin can = spin_gives there h (looking (place_at w t)) refl
+  turned_gives there h turn.TheVariants.Late can = late_gives w t l shape steady own (late_key (place_at w t))
+  turned_gives there h turn.TheVariants.Ok can = absurd (nothing_closes w t true can)
+  turned_gives there h turn.TheVariants.Err can = absurd (nothing_closes w t false can)
 
   after_gives : IsFairRelease (call_state (place_at w t) (rights w t)).purpose l → (s : Step) → s.thread ≡ t → ComesTo w t l (after w s)
   after_gives h s e = either (is_possible w s) refl
     where
       either : (b : Bool) → is_possible w s ≡ b → ComesTo w t l (if b then state_after_turn w s.thread s.turn else w)
-      either true can = rw e (turned_gives h s.turn (rw e at (both (nat_lt s.thread (length w.places)) (can_turn w s.thread s.turn) can).1))
+      either true can = let parts = both (nat_lt s.thread (length w.places)) (can_turn w s.thread s.turn) can in
+          rw e (turned_gives (rw e at (ltb-true s.thread (length w.places) parts.0)) h s.turn (rw e at parts.1))
       either false can = inl own
 
 -- ---------------------------------------------------------------- steps

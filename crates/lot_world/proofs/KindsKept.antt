@@ -20,8 +20,8 @@ use Rattle.lot_steps.specs.declared.places.Place.{Place}
 use Rattle.lot_acts.specs.declared.acts.Whom as whom
 use Rattle.lot_acts.specs.Acts.{holds}
 use Rattle.lot_calls.specs.Kinds.{has_call}
-use Rattle.lot_steps.specs.Steps.{act_of, spin_lock, late_key}
-use Rattle.lot_machine.specs.Machine.{State, shares_handed_over, unlocked, place_at, word_at, shares_at, filled_at, kind_at, queue_at, state_after_operation, state_after_hand_over, state_with_sections, queues_with_last, queues_without_first, state_after_park, state_after_taking, state_after_wake, state_after_act, state_after_spin_on, state_after_late_on, state_after_turn, closed_place, is_possible, after}
+use Rattle.lot_steps.specs.Steps.{act_of, looking, late_key}
+use Rattle.lot_machine.specs.Machine.{State, shares_handed_over, unlocked, place_at, word_at, shares_at, filled_at, kind_at, queue_at, state_after_operation, state_after_hand_over, state_with_sections, queues_with_last, queues_without_first, state_after_park, state_after_taking, state_after_wake, state_after_act, state_after_look, put, state_after_late_on, state_after_turn, closed_place, is_possible, after}
 use Rattle.lot_base.specs.Words.{apply}
 use Rattle.abstract_locks.specs.Locks as locks
 use Rattle.abstract_locks.specs.Codes.{fills}
@@ -91,14 +91,14 @@ late_kinds : (w : State) (t : ℕ) (o : Option ℕ) (k : ℕ) → kind_at (state
 late_kinds w t None k = refl
 late_kinds w t (Some key) k = refl
 
-spun_kinds : (w : State) (t : ℕ) (o : Option ℕ) (k : ℕ) → kind_at (state_after_spin_on w t o) k ≡ kind_at w k
+spun_kinds : (w : State) (t : ℕ) (o : Option Place) (k : ℕ) → kind_at (state_after_look w t o) k ≡ kind_at w k
 spun_kinds w t None k = refl
-spun_kinds w t (Some l) k = refl
+spun_kinds w t (Some q) k = performed_kinds (put w t q) t (place_at (put w t q) t) (act_of (place_at (put w t q) t)) k
 
 turned_kinds : (w : State) (t : ℕ) (x : Turn) (k : ℕ) → kind_at (state_after_turn w t x) k ≡ kind_at w k
 turned_kinds w t (turn.TheVariants.Begin c) k = refl
 turned_kinds w t turn.TheVariants.Go k = performed_kinds w t (place_at w t) (act_of (place_at w t)) k
-turned_kinds w t turn.TheVariants.Spin k = spun_kinds w t (spin_lock (place_at w t)) k
+turned_kinds w t turn.TheVariants.Spin k = spun_kinds w t (looking (place_at w t)) k
 turned_kinds w t turn.TheVariants.Late k = late_kinds w t (late_key (place_at w t)) k
 turned_kinds w t turn.TheVariants.Ok k = performed_kinds w t (closed_place w t true) (act_of (closed_place w t true)) k
 turned_kinds w t turn.TheVariants.Err k = performed_kinds w t (closed_place w t false) (act_of (closed_place w t false)) k

@@ -16,6 +16,7 @@ pub mod PicksKept
 pub mod SitesKept
 pub mod SectionsKept
 pub mod GoneKept
+pub mod Looking
 pub mod TurnsKept
 pub mod OpeningSites
 pub mod Counts

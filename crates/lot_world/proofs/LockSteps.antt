@@ -1,5 +1,5 @@
 -- Each turn of a thread is a step of the abstract locks.
-use Rattle.std.proofs.Common.{◌≤◌, ◌++◌, arith, ℕ, Bool, true, false, Option, Some, None, if◌then◌else◌, ◌==◌, ◌&&◌, not, ◌≡◌, ◌≢◌, ◌+◌, ◌*◌, ◌<◌, ◌↔◌, inl, inr, List, [], ◌∷◌, length, get_or, refl, sym, ◌∙◌, ap, subst, get_or-set_other, get_or-set_same, length-set, nat_lt}
+use Rattle.std.proofs.Common.{◌≤◌, ◌++◌, arith, ℕ, Bool, true, false, Option, Some, None, if◌then◌else◌, ◌==◌, ◌&&◌, not, ◌≡◌, ◌≢◌, ◌+◌, ◌*◌, ◌<◌, ◌↔◌, inl, inr, List, [], ◌∷◌, length, get_or, refl, sym, ◌∙◌, ap, subst, get_or-set_other, get_or-set_same, length-set, nat_lt, is_some}
 use Rattle.std.proofs.lemmas.Bool.{cases_eq, eqb-true, ltb-true, lt-ltb}
 use Rattle.lot_base.specs.declared.keys.Keys.TheVariants.{One}
 use Rattle.lot_base.specs.declared.ops.Op as op
@@ -8,7 +8,7 @@ use Rattle.lot_calls.specs.declared.kinds.Kind.{Kind}
 use Rattle.lot_calls.specs.declared.kinds.Kind as kind
 use Rattle.lot_acts.specs.declared.acts.Act.{Act}
 use Rattle.lot_acts.specs.declared.acts.Act as act
-use Rattle.lot_acts.specs.declared.acts.Reply.TheVariants.{Value, Spun, Parked, HandedBy, Woken}
+use Rattle.lot_acts.specs.declared.acts.Reply.TheVariants.{Value, Parked, HandedBy, Woken}
 use Rattle.lot_acts.specs.declared.acts.Reply.TheVariants as reply
 use Rattle.lot_calls.specs.declared.calls.Call.{Call}
 use Rattle.lot_calls.specs.declared.calls.Call as call
@@ -35,16 +35,18 @@ use Rattle.lot_steps.specs.declared.places.Place.TheVariants.{Idle, Mutex}
 use Rattle.lot_acts.specs.Acts.{outcome_of}
 use Rattle.lot_mutex.specs.MutexSteps.{mutex_first, mutex_right, is_locked, is_parked, lock_act, unlock_act, hand_off_word, hand_off_act}
 use Rattle.lot_acts.specs.Owners.{is_thread}
-use Rattle.lot_steps.specs.Steps.{act_of, next_place, next_act, mutex_goes, mutex_does, spin_lock, late_key, is_idle, has_right, first_place}
-use Rattle.lot_machine.specs.Machine.{State, place_at, word_at, owners_at, kind_at, section_at, put, state_after_act, go_reply, state_after_operation, state_after_hand_over, state_with_sections, reply_to, can_do, is_there, state_after_spin_on, state_after_late_on, is_free_under, state_after_begin, can_begin, is_open_to, can_turn, state_after_turn, turn_outcome, is_possible, after, step_outcome}
+use Rattle.lot_steps.specs.Steps.{act_of, next_place, next_act, mutex_goes, mutex_does, looking, late_key, is_idle, has_right, first_place}
+use Rattle.lot_machine.specs.Machine.{State, place_at, word_at, owners_at, kind_at, section_at, put, state_after_act, go_reply, state_after_operation, state_after_hand_over, state_with_sections, reply_to, can_do, state_after_look, look_outcome, state_after_go, state_after_going, go_outcome, going_outcome, state_after_late_on, is_free_under, state_after_begin, can_begin, is_open_to, can_turn, state_after_turn, turn_outcome, is_possible, after, step_outcome}
 use Rattle.lot_machine.specs.Fits.{IsShaped, SameSize, PlaceFits, GivesUpTimed}
-use Rattle.lot_machine.proofs.Shape.{after_size, both, performed_counts}
-use Rattle.lot_world.proofs.Possible.{may_go, go_possible, may_be_late, late_possible, told_gone, told_step, begins_awake, turner_there, gone_sections, spun_sections, late_sections, spun_awake, late_awake}
+use Rattle.lot_machine.proofs.Shape.{looking_shaped, after_size, both, performed_counts}
+use Rattle.lot_world.proofs.Possible.{may_go, go_possible, may_be_late, late_possible, told_gone, told_step, begins_awake, turner_there, gone_sections, late_sections, late_awake}
+use Rattle.lot_machine.proofs.Looks.{mutex_looks}
+use Rattle.lot_world.proofs.Looking.{here, looks_now, looking_steady, goes_as_before, stays_as_before}
 use Rattle.lot_world.proofs.Closures.{no_closure, nothing_closes}
 use Rattle.lot_world.specs.SitesOf.{site_of, IsSteady, Goes, CallsMutex, is_mutex, rules_at, carried_at}
 use Rattle.abstract_locks.specs.Sites.{IsSite, Deed, Main, Mark, End, Case}
 use Rattle.abstract_locks.specs.Locks.{LockCase, Wake, Leave as GivesBack, HandOff as HandsOff, Rights, rights_of, standing}
-use Rattle.abstract_locks.specs.Runs.{LocksState, CallState, GoesOn, Stays, Does, SectionChanges, MayBegin, MayTurn, HasRight, Turned, IsStep, purpose_at, new_call, Nothing}
+use Rattle.abstract_locks.specs.Runs.{LocksState, CallState, GoesOn, Stays, Looks, IsOfMutex, Does, SectionChanges, MayBegin, MayTurn, HasRight, Turned, IsStep, purpose_at, new_call, Nothing}
 use Rattle.abstract_locks.specs.Purposes.{purpose_of, mutex_purpose}
 use Rattle.lot_world.specs.MutexDeeds.{mutex_row, mutex_station, mutex_deeds, lock_deeds, enters, hands_over, acts}
 use Rattle.lot_world.specs.MutexDeeds as of_mutex
@@ -263,6 +265,37 @@ module _ (w : State) (t : ℕ) (shape : IsShaped w) (steady : IsSteady w) (there
     mutex_goes_on Bump is can timed = alone Bump is can tt tt (if_calm None (is_parked (word_at w l)) [] (End ∷ []) tt tt)
     mutex_goes_on (HandOff bumping a) is can timed = hand_off_goes bumping a is can
 
+    -- a mutex's word is looked at, and the thread only decides anew
+    decides_on : (x : ℕ) (a b : Bool) → outcome_of (decided_by x a b) ≡ outcome.TheVariants.Step
+    decides_on x false b = refl
+    decides_on x true true = refl
+    decides_on x true false = refl
+
+    load_stays : (e : Entry) (again : Bool) → place_at w t ≡ Mutex l (Lock e again Load)
+        → Stays (locks_of w) t (call_state (place_at w t) (rights w t)) (going_outcome w t (Mutex l (Lock e again Load))) (locks_of (state_after_going w t (Mutex l (Lock e again Load))))
+    load_stays e again is = record {
+      told = decides_on (word_at w l) (is_locked (word_at w l)) (word_at w l == 1);
+      locks = locks_stay;
+      calls = λ u. put_is (λ x. call_state (place_at w x) (rights w x)) t (call_state (place_at w t) (rights w t)) u _
+          (λ e. rw e (λ i. place_then i (rights_stay t i)))
+          (λ ne. λ i. call_state (get_or-set_other w.places t u (next_place (Mutex l (Lock e again Load)) (Value (word_at w l))) Idle ne i) (rights_stay u i));
+    }
+      where
+        decided : State
+        decided = behind (Lock e again Load) is refl tt
+
+        locks_stay : (k : ℕ) → lock_state decided k ≡ lock_state w k
+        locks_stay k = let h : Happens w decided t l Nothing = happens_so (Lock e again Load) is refl tt in elim (cases_eq k l) [
+          | inl e ↦ rw e h.led
+          | inr ne ↦ h.elsewhere k ne
+        ]
+
+        rights_stay : (u : ℕ) → rights decided u ≡ rights w u
+        rights_stay u = λ i k. rights_of (locks_stay k i) u
+
+        place_then : call_state (place_at decided t) ≡ call_state (place_at w t)
+        place_then = ap call_state (get_or-set_same w.places t (next_place (Mutex l (Lock e again Load)) (Value (word_at w l))) Idle there) ∙ ap call_state (sym is)
+
   go_goes : (p : Place) → place_at w t ≡ p → PlaceFits (length w.locks) p → CallsMutex w p → can_do w (act_of p) ≡ true → GoesOn (locks_of w) t (outcome_of (next_act p (reply_to w t (act_of p)))) (locks_of (go_by w t p (act_of p)))
   go_goes Idle is fits calls can = absurd cc
   go_goes (Mutex l at) is fits calls can = mutex_goes_on l fits.0 (mutex_rules (kind_at w l) calls) at is can fits.1
@@ -288,22 +321,6 @@ module _ (w : State) (t : ℕ) (shape : IsShaped w) (steady : IsSteady w) (there
       same_locks : (k : ℕ) → lock_state (put (record w { sections = s }) t p2) k ≡ lock_state w k
       same_locks k = λ i. record (lock_state w k) { shared = get_or w.shares k (replicate (length-set w.places t p2 i) 0); taken = λ u. taken_same u k i }
 
-  spin_goes : (p : Place) → place_at w t ≡ p → is_there (spin_lock p) ≡ true → Stays (locks_of w) t (call_state p (rights w t)) outcome.TheVariants.Step (locks_of (state_after_spin_on w t (spin_lock p)))
-  spin_goes Idle is can = absurd cc
-  spin_goes (Mutex l (Lock entry retries (Decide x))) is can = either (x == 1) can
-    where
-      either : (b : Bool) → is_there (if b then Some l else None) ≡ true
-          → Stays (locks_of w) t (call_state (Mutex l (Lock entry retries (Decide x))) (rights w t)) outcome.TheVariants.Step (locks_of (state_after_spin_on w t (if b then Some l else None)))
-      either true can = placed w.sections (Mutex l (Lock entry retries (Decide x))) (next_place (place_at w t) (Spun (word_at w l))) is (rw is (λ k. refl)) _ (rw is (λ r e. rw e refl))
-      either false can = absurd cc
-  spin_goes (Mutex l (Lock entry retries First)) is can = absurd cc
-  spin_goes (Mutex l (Lock entry retries a)) is can = absurd cc
-  spin_goes (Mutex l TryLock) is can = absurd cc
-  spin_goes (Mutex l (Unlock a)) is can = absurd cc
-  spin_goes (Mutex l UnlockFair) is can = absurd cc
-  spin_goes (Mutex l Bump) is can = absurd cc
-  spin_goes (Mutex l (HandOff bumps a)) is can = absurd cc
-
   late_goes : (p : Place) → place_at w t ≡ p → is_free_under w (late_key p) ≡ true
       → Stays (locks_of w) t (record (call_state p (rights w t)) { late = true }) outcome.TheVariants.Step (locks_of (state_after_late_on w t (late_key p)))
   late_goes Idle is can = absurd cc
@@ -317,6 +334,42 @@ module _ (w : State) (t : ℕ) (shape : IsShaped w) (steady : IsSteady w) (there
   late_goes (Mutex l UnlockFair) is can = absurd cc
   late_goes (Mutex l Bump) is can = absurd cc
   late_goes (Mutex l (HandOff bumps a)) is can = absurd cc
+
+-- ---------------------------------------------------------------- a look at the word once more
+
+-- its call goes on by what it sees there
+module _ (w : State) (t : ℕ) (shape : IsShaped w) (steady : IsSteady w) (there : t < length w.places) (q : Place) (is : looking (place_at w t) ≡ Some q) where
+  abbrev moved : State
+  moved = put w t q
+
+  shaped_moved : IsShaped moved
+  shaped_moved = looking_shaped w t q shape is
+
+  steady_moved : IsSteady moved
+  steady_moved = looking_steady w t there q is steady
+
+  there_moved : t < length moved.places
+  there_moved = rw (length-set w.places t q) there
+
+  look_stays : (p : Place) → place_at w t ≡ p → IsOfMutex (locks_of w) (call_state p (rights w t)).purpose → Stays (locks_of w) t ((locks_of w).calls t) (go_outcome moved t) (locks_of (state_after_go moved t))
+  look_stays Idle e of = absurd of
+  look_stays (Mutex l at) e of = let loads = mutex_looks l at q (ap looking (sym e) ∙ is) in
+      let now : place_at moved t ≡ Mutex l (Lock loads.0 loads.1 Load) = here w t there q is ∙ loads.2 in
+      stays_as_before w t there q is _ (locks_of (state_after_go moved t)) (subst (λ p. Stays (locks_of moved) t ((locks_of moved).calls t) (going_outcome moved t p) (locks_of (state_after_going moved t p))) (sym now)
+      (load_stays moved t shaped_moved steady_moved there_moved l (fits_moved now).0 (mutex_rules (kind_at w l) (calls_moved now)) loads.0 loads.1 now))
+    where
+      fits_moved : {x : MutexPlace} → place_at moved t ≡ Mutex l x → PlaceFits (length moved.locks) (Mutex l x)
+      fits_moved now = subst (PlaceFits (length moved.locks)) now (shaped_moved.places t)
+
+      calls_moved : {x : MutexPlace} → place_at moved t ≡ Mutex l x → CallsMutex moved (Mutex l x)
+      calls_moved now = subst (CallsMutex moved) now (steady_moved.stands.calls t)
+
+  looks : Looks (locks_of w) t (go_outcome moved t) (locks_of (state_after_go moved t))
+  looks = record {
+    goes = goes_as_before w t there q is _ (locks_of (state_after_go moved t))
+        (go_goes moved t shaped_moved steady_moved there_moved (place_at moved t) refl (shaped_moved.places t) (steady_moved.stands.calls t) (looks_now w t there q is));
+    stays = λ of. look_stays (place_at w t) refl of;
+  }
 
 -- ---------------------------------------------------------------- a call begins
 
@@ -426,7 +479,11 @@ module _ (w : State) (t : ℕ) (shape : IsShaped w) (steady : IsSteady w) (there
   turned_does : (x : Turn) → can_turn w t x ≡ true → MayTurn (locks_of w) t x × Does (locks_of w) t x (turn_outcome w t x) (locks_of (state_after_turn w t x))
   turned_does (turn.TheVariants.Begin c) can = begin_goes w t c shape steady there can
   turned_does turn.TheVariants.Go can = (may_go w t can, go_goes w t shape steady there (place_at w t) refl (shape.places t) (steady.stands.calls t) can)
-  turned_does turn.TheVariants.Spin can = (can, spin_goes w t shape steady there (place_at w t) refl can)
+  turned_does turn.TheVariants.Spin can = (can, by_look (looking (place_at w t)) refl can)
+    where
+      by_look : (o : Option Place) → looking (place_at w t) ≡ o → is_some o ≡ true → Looks (locks_of w) t (look_outcome w t o) (locks_of (state_after_look w t o))
+      by_look None is can = absurd cc
+      by_look (Some q) is can = looks w t shape steady there q is
   turned_does turn.TheVariants.Late can = (may_be_late w t steady can, late_goes w t shape steady there (place_at w t) refl can)
   turned_does turn.TheVariants.Ok can = absurd (nothing_closes w t true can)
   turned_does turn.TheVariants.Err can = absurd (nothing_closes w t false can)
@@ -446,23 +503,35 @@ module _ (w : State) (t : ℕ) (steady : IsSteady w) where
       let can : can_turn w t x ≡ true = possible x may in let e : true ≡ false = rw (there, can) at cannot in cc
 
 -- sections, and what the thread is told
+module _ (w : State) (t : ℕ) (there : t < length w.places) where
+  put_sleeps : (b : State) (p : Place) → length b.places ≡ length w.places → sleeps (act_of (place_at (put b t p) t)) ≡ sleeps (act_of p)
+  put_sleeps b p size = ap (λ q. sleeps (act_of q)) (get_or-set_same b.places t p Idle (rw size there))
+
+  told_going : (go_outcome w t ≡ outcome.TheVariants.Sleep) ↔ (sleeps (act_of (place_at (state_after_go w t) t)) ≡ true)
+  told_going = rw (put_sleeps (state_after_act w t (place_at w t) (act_of (place_at w t))) (next_place (place_at w t) (go_reply w t)) (performed_counts w t (place_at w t) (act_of (place_at w t))).0)
+      (told_gone (place_at w t) (go_reply w t))
+
 module _ (w : State) (t : ℕ) (shape : IsShaped w) (steady : IsSteady w) (there : t < length w.places) where
   turned_sections : (x : Turn) → can_turn w t x ≡ true → (key : ℕ) → SectionChanges (section_at w key) t (section_at (state_after_turn w t x) key)
   turned_sections (turn.TheVariants.Begin c) can key = inl refl
   turned_sections turn.TheVariants.Go can key = gone_sections w t shape steady can key
-  turned_sections turn.TheVariants.Spin can key = inl (spun_sections w t (spin_lock (place_at w t)) key)
+  turned_sections turn.TheVariants.Spin can key = by_look (looking (place_at w t)) refl
+    where
+      by_look : (o : Option Place) → looking (place_at w t) ≡ o → SectionChanges (section_at w key) t (section_at (state_after_look w t o) key)
+      by_look None is = inl refl
+      by_look (Some q) is = gone_sections (put w t q) t (shaped_moved w t shape steady there q is) (steady_moved w t shape steady there q is) (looks_now w t there q is) key
   turned_sections turn.TheVariants.Late can key = late_sections w t shape (place_at w t) (shape.places t) can key
   turned_sections turn.TheVariants.Ok can key = absurd (nothing_closes w t true can)
   turned_sections turn.TheVariants.Err can key = absurd (nothing_closes w t false can)
 
-  put_sleeps : (b : State) (p : Place) → length b.places ≡ length w.places → sleeps (act_of (place_at (put b t p) t)) ≡ sleeps (act_of p)
-  put_sleeps b p size = ap (λ q. sleeps (act_of q)) (get_or-set_same b.places t p Idle (rw size there))
-
   turned_told : (x : Turn) → can_turn w t x ≡ true → (turn_outcome w t x ≡ outcome.TheVariants.Sleep) ↔ (sleeps (act_of (place_at (state_after_turn w t x) t)) ≡ true)
-  turned_told (turn.TheVariants.Begin c) can = told_step _ (put_sleeps w (first_place (kind_at w (lock_in c)) c) refl ∙ begins_awake (kind_at w (lock_in c)) c)
-  turned_told turn.TheVariants.Go can = rw (put_sleeps (state_after_act w t (place_at w t) (act_of (place_at w t))) (next_place (place_at w t) (go_reply w t)) (performed_counts w t (place_at w t) (act_of (place_at w t))).0)
-      (told_gone (place_at w t) (go_reply w t))
-  turned_told turn.TheVariants.Spin can = told_step _ (spun_awake w t there (place_at w t) refl can)
+  turned_told (turn.TheVariants.Begin c) can = told_step _ (put_sleeps w t there w (first_place (kind_at w (lock_in c)) c) refl ∙ begins_awake (kind_at w (lock_in c)) c)
+  turned_told turn.TheVariants.Go can = told_going w t there
+  turned_told turn.TheVariants.Spin can = by_look (looking (place_at w t)) refl can
+    where
+      by_look : (o : Option Place) → looking (place_at w t) ≡ o → is_some o ≡ true → (look_outcome w t o ≡ outcome.TheVariants.Sleep) ↔ (sleeps (act_of (place_at (state_after_look w t o) t)) ≡ true)
+      by_look None is can = absurd cc
+      by_look (Some q) is can = told_going (put w t q) t (there_moved w t shape steady there q is)
   turned_told turn.TheVariants.Late can = told_step _ (late_awake w t there (late_key (place_at w t)) refl can)
   turned_told turn.TheVariants.Ok can = absurd (nothing_closes w t true can)
   turned_told turn.TheVariants.Err can = absurd (nothing_closes w t false can)

@@ -230,11 +230,6 @@ tells l (Unlock (unlock.Leave false)) h = absurd cc
 tells l (Unlock at) h = absurd cc
 tells l at h = absurd cc
 
--- who looks once more enters the mutex
-spins : (l : ℕ) (at : MutexPlace) → (mutex_row at).spins ≡ true → LetsIn locks.Mutex l (mutex_row at) → ⊥
-spins l (Lock e r at) h lets = shut l e r at lets
-spins l at h lets = absurd cc
-
 -- ---------------------------------------------------------------- being late
 
 late : (l : ℕ) (at : MutexPlace) (m : Line) → (mutex_row at).late_line ≡ Some m → RowIsLate locks.Mutex l (mutex_row at) (mutex_act l at) m
@@ -272,6 +267,5 @@ mutex_promises l at = record {
   asleep = asleep l at;
   tells = tells l at;
   late = late l at;
-  spins = spins l at;
   may_be_late = may_be_late l at;
 }

@@ -1,6 +1,6 @@
 -- A step changes one word at most, or queues whose sections its thread is in.
-use Rattle.std.proofs.Common.{subst, sym, ℕ, Bool, true, false, Option, Some, None, if◌then◌else◌, ◌≡◌, ◌⊎◌, inl, inr, List, [], ◌∷◌, ◌++◌, get_or, set, map, drop, refl, ◌∙◌, ap, get_or-set_other}
-use Rattle.std.proofs.lemmas.Bool.{cases_eq}
+use Rattle.std.proofs.Common.{subst, sym, ℕ, Bool, true, false, Option, Some, None, if◌then◌else◌, ◌≡◌, ◌<◌, ◌⊎◌, inl, inr, List, [], ◌∷◌, ◌++◌, get_or, set, map, drop, refl, ◌∙◌, ap, get_or-set_other}
+use Rattle.std.proofs.lemmas.Bool.{cases_eq, ltb-true}
 use Rattle.lot_base.specs.declared.keys.Keys.{Keys}
 use Rattle.lot_base.specs.declared.keys.Keys.TheVariants.{One, Two}
 use Rattle.lot_base.specs.declared.ops.Op as op
@@ -10,14 +10,15 @@ use Rattle.lot_acts.specs.declared.acts.Act.{Act}
 use Rattle.lot_acts.specs.declared.acts.Act as act
 use Rattle.lot_acts.specs.declared.acts.Wakes.{Wakes}
 use Rattle.lot_acts.specs.declared.acts.Wakes as wakes
-use Rattle.lot_acts.specs.declared.acts.Reply.TheVariants.{HandedBy, Spun, Late}
+use Rattle.lot_acts.specs.declared.acts.Reply.TheVariants.{HandedBy, Late}
 use Rattle.lot_calls.specs.declared.calls.Turn.{Turn}
 use Rattle.lot_calls.specs.declared.calls.Turn as turn
 use Rattle.lot_calls.specs.declared.calls.Step.{Step}
 use Rattle.lot_steps.specs.declared.places.Place.{Place}
 use Rattle.lot_calls.specs.Calls.{lock_in}
-use Rattle.lot_steps.specs.Steps.{act_of, lock_of, next_place, first_place, spin_lock, late_key}
-use Rattle.lot_machine.specs.Machine.{State, state_after_take, can_turn, unlocked, place_at, word_at, queue_at, section_at, put, state_after_operation, state_with_sections, queues_with_last, queues_without_first, state_after_taking, state_after_wake, state_after_act, state_after_spin_on, state_after_late_on, go_reply, state_after_turn, is_possible, after, kind_at, state_after_hand_over, state_after_telling}
+use Rattle.lot_steps.specs.Steps.{act_of, lock_of, next_place, first_place, looking, late_key}
+use Rattle.lot_machine.specs.Machine.{State, state_after_take, can_turn, unlocked, place_at, word_at, queue_at, section_at, put, state_after_operation, state_with_sections, queues_with_last, queues_without_first, state_after_taking, state_after_wake, state_after_act, state_after_look, state_after_late_on, go_reply, state_after_turn, is_possible, after, kind_at, state_after_hand_over, state_after_telling}
+use Rattle.lot_world.proofs.Looking.{looks_untouched}
 use Rattle.lot_world.proofs.Closures.{nothing_closes}
 use Rattle.lot_machine.proofs.Shape.{both}
 use Rattle.std.specs.Prelude.{nat_lt, length}
@@ -33,6 +34,11 @@ use Rattle.lot_acts.specs.declared.acts.Whom.TheVariants as whom
 use Rattle.lot_acts.specs.Acts.{holds}
 use Rattle.lot_world.specs.Refinement.{ChangesOneThing}
 use Rattle.lot_world.specs.WorldRuns.{IsUntouched, TouchesOnlyByGoing}
+
+-- who looks at the word once more changes none
+spun_touches : (w : State) (t : ℕ) → t < length w.places → (o : Option Place) → looking (place_at w t) ≡ o → IsUntouched w (state_after_look w t o)
+spun_touches w t there None is = (λ l. refl, λ key. refl)
+spun_touches w t there (Some q) is = looks_untouched w t there q is
 
 -- words and queues are as they were
 abbrev Same : State → State → Type 0
@@ -56,7 +62,7 @@ put_one : (w v : State) (t u : ℕ) (p : Place) → ChangesOneThing w t v → Ch
 put_one w v t u p (inl h) = inl h
 put_one w v t u p (inr h) = inr h
 
-module _ (w : State) (t : ℕ) (steady : IsSteady w) where
+module _ (w : State) (t : ℕ) (steady : IsSteady w) (there : t < length w.places) where
   word_one : (p : Place) (l : ℕ) (f : op.Op) → ChangesOneThing w t (state_after_operation w t p l f)
   word_one p l f = inl (l, (λ k ne. ap (λ x. x.word) (get_or-set_other w.locks l k _ (unlocked kind.TheVariants.Mutex) ne)), λ key. refl)
 
@@ -118,9 +124,8 @@ module _ (w : State) (t : ℕ) (steady : IsSteady w) where
   gone_one (Some l) own = act_one l own (place_at w t) (act_of (place_at w t)) (line_act (place_at w t) l own)
   gone_one None none = subst (λ p. ChangesOneThing w t (state_after_act w t p (act_of p))) (sym (calls_none (place_at w t) none)) stays
 
-  spin_one : (o : Option ℕ) → ChangesOneThing w t (state_after_spin_on w t o)
-  spin_one None = stays
-  spin_one (Some l) = put_one w w t t (next_place (place_at w t) (Spun (word_at w l))) stays
+  spin_one : (o : Option Place) → looking (place_at w t) ≡ o → ChangesOneThing w t (state_after_look w t o)
+  spin_one o is = same_one w (state_after_look w t o) t (spun_touches w t there o is)
 
   late_one : (o : Option ℕ) → ChangesOneThing w t (state_after_late_on w t o)
   late_one None = stays
@@ -129,7 +134,7 @@ module _ (w : State) (t : ℕ) (steady : IsSteady w) where
   turned_one : (x : Turn) → can_turn w t x ≡ true → ChangesOneThing w t (state_after_turn w t x)
   turned_one (turn.TheVariants.Begin c) can = put_one w w t t (first_place (kind_at w (lock_in c)) c) stays
   turned_one turn.TheVariants.Go can = put_one w (state_after_act w t (place_at w t) (act_of (place_at w t))) t t (next_place (place_at w t) (go_reply w t)) (gone_one (lock_of (place_at w t)) refl)
-  turned_one turn.TheVariants.Spin can = spin_one (spin_lock (place_at w t))
+  turned_one turn.TheVariants.Spin can = spin_one (looking (place_at w t)) refl
   turned_one turn.TheVariants.Late can = late_one (late_key (place_at w t))
   turned_one turn.TheVariants.Ok can = absurd (nothing_closes w t true can)
   turned_one turn.TheVariants.Err can = absurd (nothing_closes w t false can)
@@ -138,24 +143,21 @@ pub one_thing : (w : State) (s : Step) → IsSteady w → ChangesOneThing w s.th
 one_thing w s steady = either (is_possible w s) refl
   where
     either : (b : Bool) → is_possible w s ≡ b → ChangesOneThing w s.thread (if b then state_after_turn w s.thread s.turn else w)
-    either true can = turned_one w s.thread steady s.turn (both (nat_lt s.thread (length w.places)) (can_turn w s.thread s.turn) can).1
+    either true can = let parts = both (nat_lt s.thread (length w.places)) (can_turn w s.thread s.turn) can in
+        turned_one w s.thread steady (ltb-true s.thread (length w.places) parts.0) s.turn parts.1
     either false can = same_one w w s.thread (λ k. refl, λ key. refl)
 
 -- ---------------------------------------------------------------- turns that touch nothing
-
-spun_touches : (w : State) (t : ℕ) (o : Option ℕ) → IsUntouched w (state_after_spin_on w t o)
-spun_touches w t None = (λ l. refl, λ key. refl)
-spun_touches w t (Some l) = (λ l. refl, λ key. refl)
 
 late_touches : (w : State) (t : ℕ) (o : Option ℕ) → IsUntouched w (state_after_late_on w t o)
 late_touches w t None = (λ l. refl, λ key. refl)
 late_touches w t (Some key) = (λ l. refl, λ key. refl)
 
-turned_touches : (w : State) (t : ℕ) (x : Turn) → TouchesOnlyByGoing w x (state_after_turn w t x)
-turned_touches w t (turn.TheVariants.Begin c) = (λ l. refl, λ key. refl)
-turned_touches w t turn.TheVariants.Spin = spun_touches w t (spin_lock (place_at w t))
-turned_touches w t turn.TheVariants.Late = late_touches w t (late_key (place_at w t))
-turned_touches w t x = tt
+turned_touches : (w : State) (t : ℕ) (x : Turn) → t < length w.places → TouchesOnlyByGoing w x (state_after_turn w t x)
+turned_touches w t (turn.TheVariants.Begin c) there = (λ l. refl, λ key. refl)
+turned_touches w t turn.TheVariants.Spin there = spun_touches w t there (looking (place_at w t)) refl
+turned_touches w t turn.TheVariants.Late there = late_touches w t (late_key (place_at w t))
+turned_touches w t x there = tt
 
 untouched : (w : State) (x : Turn) → TouchesOnlyByGoing w x w
 untouched w (turn.TheVariants.Begin c) = (λ l. refl, λ key. refl)
@@ -164,8 +166,8 @@ untouched w turn.TheVariants.Late = (λ l. refl, λ key. refl)
 untouched w x = tt
 
 pub touches : (w : State) (s : Step) → TouchesOnlyByGoing w s.turn (after w s)
-touches w s = either (is_possible w s)
+touches w s = either (is_possible w s) refl
   where
-    either : (b : Bool) → TouchesOnlyByGoing w s.turn (if b then state_after_turn w s.thread s.turn else w)
-    either true = turned_touches w s.thread s.turn
-    either false = untouched w s.turn
+    either : (b : Bool) → is_possible w s ≡ b → TouchesOnlyByGoing w s.turn (if b then state_after_turn w s.thread s.turn else w)
+    either true can = turned_touches w s.thread s.turn (ltb-true s.thread (length w.places) (both (nat_lt s.thread (length w.places)) (can_turn w s.thread s.turn) can).0)
+    either false cannot = untouched w s.turn

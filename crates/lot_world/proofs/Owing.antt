@@ -1,5 +1,5 @@
 -- Who owes a wake does so since it saw waiters, or since it entered the section.
-use Rattle.std.proofs.Common.{◌∷◌, [], ℕ, Bool, true, false, Option, Some, None, if◌then◌else◌, ◌==◌, ◌≡◌, ◌≢◌, ◌<◌, ◌⊎◌, ◌↔◌, inl, inr, List, length, set, get_or, refl, sym, ◌∙◌, ap, subst, get_or-set_other, get_or-set_same, nat_lt, map}
+use Rattle.std.proofs.Common.{◌∷◌, [], ℕ, Bool, true, false, Option, Some, None, if◌then◌else◌, ◌==◌, ◌≡◌, ◌≢◌, ◌<◌, ◌⊎◌, ◌↔◌, inl, inr, List, length, set, get_or, refl, sym, ◌∙◌, ap, subst, get_or-set_other, get_or-set_same, nat_lt, map, is_some, length-set}
 use Rattle.std.proofs.Math.ListN.{get_or-map}
 use Rattle.std.proofs.lemmas.Bool.{cases_eq, cases_lt, ltb-true}
 use Rattle.std.proofs.lemmas.List.{set_past}
@@ -18,7 +18,7 @@ use Rattle.lot_acts.specs.declared.acts.Act.TheVariants as act
 use Rattle.lot_acts.specs.declared.acts.Wakes.{Wakes}
 use Rattle.lot_acts.specs.declared.acts.Wakes as wakes
 use Rattle.lot_acts.specs.declared.acts.Reply.{Reply}
-use Rattle.lot_acts.specs.declared.acts.Reply.TheVariants.{TakenBy, MovedTo, HandedBy, Woken, Spun, Late}
+use Rattle.lot_acts.specs.declared.acts.Reply.TheVariants.{TakenBy, MovedTo, HandedBy, Woken, Late}
 use Rattle.lot_mutex.specs.declared.places.MutexPlace.TheVariants.{Lock, TryLock, Unlock, UnlockFair, Bump, HandOff}
 use Rattle.lot_mutex.specs.declared.lock.LockAt.TheVariants as lock
 use Rattle.lot_steps.specs.declared.places.Place.{Place}
@@ -27,21 +27,22 @@ use Rattle.lot_acts.specs.Acts.{holds}
 use Rattle.lot_acts.specs.declared.acts.Whom as whom
 use Rattle.lot_acts.specs.Owners.{is_thread}
 use Rattle.lot_calls.specs.Calls.{lock_in}
-use Rattle.lot_steps.specs.Steps.{act_of, next_place, first_place, is_idle, spin_lock, late_key, taker, lock_of, line_owed, profile}
-use Rattle.lot_machine.specs.Machine.{State, places_told, listed, moved_threads, closed_place, state_after_going, place_at, word_at, queues_without_first, state_after_taking, state_after_wake, state_with_sections, queue_at, state_after_act, state_after_go, go_reply, go_outcome, is_there, is_free_under, is_open_to, can_begin, state_after_begin, can_turn, turn_outcome, kind_at, put, state_after_spin_on, state_after_late_on, state_after_turn, is_possible, after, step_outcome, place_after_telling}
+use Rattle.lot_steps.specs.Steps.{act_of, next_place, first_place, is_idle, looking, late_key, taker, lock_of, line_owed, profile}
+use Rattle.lot_machine.specs.Machine.{State, places_told, listed, moved_threads, closed_place, state_after_going, place_at, word_at, queues_without_first, state_after_taking, state_after_wake, state_with_sections, queue_at, state_after_act, state_after_go, go_reply, go_outcome, is_there, is_free_under, is_open_to, can_begin, state_after_begin, can_turn, turn_outcome, kind_at, reply_to, put, state_after_look, look_outcome, state_after_late_on, state_after_turn, is_possible, after, step_outcome, place_after_telling}
 use Rattle.lot_base.specs.Lines.{threads_of}
 use Rattle.lot_base.specs.Picks.{lock_picked}
 use Rattle.lot_base.specs.Requeues.{taken_by}
 use Rattle.lot_world.proofs.Closures.{nothing_closes}
 use Rattle.lot_world.specs.Refinement.{call_on}
 use Rattle.abstract_locks.specs.Locks.{Rights}
-use Rattle.lot_world.specs.Owing.{Owes, IsInside, SeesWaiters, OwesSince, LetsOthersIn, line_let_in, sort_at}
+use Rattle.lot_world.specs.Owing.{Owes, IsInside, SeesWaiters, OwesSince, LetsOthersIn, line_let_in, sort_at, tells_of}
 use Rattle.lot_machine.specs.Fits.{IsShaped}
 use Rattle.abstract_locks.specs.Sites.{Line}
 use Rattle.lot_world.specs.SitesOf.{IsSteady}
-use Rattle.lot_machine.proofs.Shape.{both, performed_counts}
+use Rattle.lot_machine.proofs.Shape.{both, looking_shaped, performed_counts}
 use Rattle.lot_world.proofs.TurnsKept.{idle_is, after_steady}
 use Rattle.lot_world.proofs.Glue.{IsLock, next_of, calls_none}
+use Rattle.lot_world.proofs.Looking.{looking_steady, calls_same}
 use Rattle.lot_world.proofs.CallEvents.{rights as rights_at}
 use Rattle.lot_acts.specs.Profiles.{Profile}
 use Rattle.lot_acts.specs.Calls.{call_by}
@@ -118,10 +119,6 @@ module _ (w : State) (k u : ℕ) where
 put_owes : (b : State) (t u k : ℕ) (p : Place) → u ≢ t → line_owed (place_at (put b t p) u) k ≡ line_owed (place_at b u) k
 put_owes b t u k p ne = ap (λ q. line_owed q k) (get_or-set_other b.places t u p Idle ne)
 
-spun_owes : (w : State) (t u k : ℕ) (o : Option ℕ) → u ≢ t → line_owed (place_at (state_after_spin_on w t o) u) k ≡ line_owed (place_at w u) k
-spun_owes w t u k None ne = refl
-spun_owes w t u k (Some l) ne = put_owes w t u k _ ne
-
 late_owes : (w : State) (t u k : ℕ) (o : Option ℕ) → u ≢ t → line_owed (place_at (state_after_late_on w t o) u) k ≡ line_owed (place_at w u) k
 late_owes w t u k None ne = refl
 late_owes w t u k (Some key) ne = put_owes (state_with_sections w (One key) (Some t)) t u k _ ne
@@ -129,10 +126,14 @@ late_owes w t u k (Some key) ne = put_owes (state_with_sections w (One key) (Som
 went_owes : (w : State) (t u k : ℕ) (p : Place) → u ≢ t → line_owed (place_at (state_after_going w t p) u) k ≡ line_owed (place_at w u) k
 went_owes w t u k p ne = put_owes (state_after_act w t p (act_of p)) t u k _ ne ∙ performed_owes w k u t p (act_of p)
 
+spun_owes : (w : State) (t u k : ℕ) (o : Option Place) → u ≢ t → line_owed (place_at (state_after_look w t o) u) k ≡ line_owed (place_at w u) k
+spun_owes w t u k None ne = refl
+spun_owes w t u k (Some q) ne = went_owes (put w t q) t u k (place_at (put w t q) t) ne ∙ put_owes w t u k q ne
+
 turned_owes : (w : State) (t u k : ℕ) (x : Turn) → u ≢ t → line_owed (place_at (state_after_turn w t x) u) k ≡ line_owed (place_at w u) k
 turned_owes w t u k (turn.TheVariants.Begin c) ne = put_owes w t u k _ ne
 turned_owes w t u k turn.TheVariants.Go ne = went_owes w t u k (place_at w t) ne
-turned_owes w t u k turn.TheVariants.Spin ne = spun_owes w t u k (spin_lock (place_at w t)) ne
+turned_owes w t u k turn.TheVariants.Spin ne = spun_owes w t u k (looking (place_at w t)) ne
 turned_owes w t u k turn.TheVariants.Late ne = late_owes w t u k (late_key (place_at w t)) ne
 turned_owes w t u k turn.TheVariants.Ok ne = went_owes w t u k (closed_place w t true) ne
 turned_owes w t u k turn.TheVariants.Err ne = went_owes w t u k (closed_place w t false) ne
@@ -145,6 +146,11 @@ others_owe w s u k ne = either (is_possible w s)
     either false = refl
 
 -- ---------------------------------------------------------------- the thread of the step
+
+-- it sees waiters, by its call
+abbrev SeesBy : State → ℕ → ℕ → Line → Outcome → CallState → Type 0
+SeesBy w t l m o c =
+    LetsBy w t l c × (line_let_in (sort_at w l) c.purpose ≡ m) × (tells_of (sort_at w l) m (word_at w l) ≡ true) × (o ≡ outcome.TheVariants.Step)
 
 -- a thread that is in no call lets nobody in
 idle_shut : (w : State) (t l : ℕ) → lock_of (place_at w t) ≡ None → LetsOthersIn w t l → ⊥
@@ -229,10 +235,11 @@ module _ (w v : State) (t : ℕ) (steady : IsSteady w) (behind : IsSteady v) whe
     λ h. elim h [ inl i ↦ inside_then q at_q l m o i | inr s ↦ absurd (shut l s.0) ],
   )
 
-module _ (w : State) (t : ℕ) (shape : IsShaped w) (steady : IsSteady w) (there : t < length w.places) where
+module _ (w : State) (t : ℕ) (there : t < length w.places) where
   go_place : place_at (state_after_go w t) t ≡ next_place (place_at w t) (go_reply w t)
   go_place = get_or-set_same (state_after_act w t (place_at w t) (act_of (place_at w t))).places t _ Idle (rw ((performed_counts w t (place_at w t) (act_of (place_at w t))).0) there)
 
+module _ (w : State) (t : ℕ) (shape : IsShaped w) (steady : IsSteady w) (there : t < length w.places) where
   begun_owing : (c : Call) → can_begin w t c ≡ true → IsSteady (state_after_begin w t c) → (l : ℕ) (m : Line) (o : Outcome) → Owes (state_after_begin w t c) t l m ↔ (IsInside (state_after_begin w t c) t l m ⊎ SeesWaiters w t l m o)
   begun_owing c can behind = quiet_owes w (state_after_begin w t c) t steady behind (first_place (kind_at w (lock_in c)) c) (get_or-set_same w.places t (first_place (kind_at w (lock_in c)) c) Idle there)
       (λ m h. absurd (let e : ◌≡◌ {A = Option Line} None (Some m) = sym (first_owes (kind_at w (lock_in c)) c) ∙ h in cc))
@@ -249,27 +256,17 @@ module _ (w : State) (t : ℕ) (shape : IsShaped w) (steady : IsSteady w) (there
       (λ m h. after.inside ∙ sym after.owes ∙ h)
       (λ l lets. let own = lets_own w t l steady lets in ((row_promises w t steady l own).late n of.2.1).shut (lets_in w t steady l own lets))
 
-  spun_owing : (p : Place) → place_at w t ≡ p → is_there (spin_lock p) ≡ true → IsSteady (state_after_spin_on w t (spin_lock p)) → (l : ℕ) (m : Line) (o : Outcome) → Owes (state_after_spin_on w t (spin_lock p)) t l m ↔ (IsInside (state_after_spin_on w t (spin_lock p)) t l m ⊎ SeesWaiters w t l m o)
-  spun_owing Idle is can = absurd cc
-  spun_owing (Mutex k (Lock e r (lock.Decide x))) is can = either (x == 1) refl can
-    where
-      either : (b : Bool) → (x == 1) ≡ b → is_there (if b then Some k else None) ≡ true → IsSteady (state_after_spin_on w t (if b then Some k else None)) → (l : ℕ) (m : Line) (o : Outcome) → Owes (state_after_spin_on w t (if b then Some k else None)) t l m ↔ (IsInside (state_after_spin_on w t (if b then Some k else None)) t l m ⊎ SeesWaiters w t l m o)
-      either true one can behind = quiet_owes w (state_after_spin_on w t (Some k)) t steady behind (next_place (place_at w t) (Spun (word_at w k))) (get_or-set_same w.places t (next_place (place_at w t) (Spun (word_at w k))) Idle there)
-          (λ m h. absurd (let f : ◌≡◌ {A = Option Line} None (Some m) = rw is at h in cc))
-          (λ l lets. let own = lets_own w t l steady lets in (row_promises w t steady l own).spins (ap (λ p. (profile p).spins) is ∙ one) (lets_in w t steady l own lets))
-      either false one can behind = absurd cc
-  spun_owing (Mutex k (Lock e r lock.First)) is can = absurd cc
-  spun_owing (Mutex k (Lock e r a)) is can = absurd cc
-  spun_owing (Mutex k TryLock) is can = absurd cc
-  spun_owing (Mutex k (Unlock a)) is can = absurd cc
-  spun_owing (Mutex k UnlockFair) is can = absurd cc
-  spun_owing (Mutex k Bump) is can = absurd cc
-  spun_owing (Mutex k (HandOff b a)) is can = absurd cc
+  -- it looks at the word once more, and is in its call as before
+  spun_owing : (o : Option Place) → looking (place_at w t) ≡ o → is_some o ≡ true → IsSteady (state_after_look w t o) → (l : ℕ) (m : Line)
+      → Owes (state_after_look w t o) t l m ↔ (IsInside (state_after_look w t o) t l m ⊎ SeesWaiters w t l m (look_outcome w t o))
+  spun_owing None is can behind l m = absurd cc
+  spun_owing (Some q) is can behind l m = subst (λ (c : CallState). Owes (state_after_go (put w t q) t) t l m ↔ (IsInside (state_after_go (put w t q) t) t l m ⊎ SeesBy w t l m (go_outcome (put w t q) t) c)) (calls_same w t there q is t)
+      (go_owes (put w t q) (state_after_go (put w t q) t) t (looking_steady w t there q is steady) behind (go_place (put w t q) t (rw (length-set w.places t q) there)) l m)
 
   turned_owing : (x : Turn) → can_turn w t x ≡ true → IsSteady (state_after_turn w t x) → (l : ℕ) (m : Line) → Owes (state_after_turn w t x) t l m ↔ (IsInside (state_after_turn w t x) t l m ⊎ SeesWaiters w t l m (turn_outcome w t x))
   turned_owing (turn.TheVariants.Begin c) can behind l m = begun_owing c can behind l m outcome.TheVariants.Step
-  turned_owing turn.TheVariants.Go can behind l m = go_owes w (state_after_go w t) t steady behind go_place l m
-  turned_owing turn.TheVariants.Spin can behind l m = spun_owing (place_at w t) refl can behind l m outcome.TheVariants.Step
+  turned_owing turn.TheVariants.Go can behind l m = go_owes w (state_after_go w t) t steady behind (go_place w t there) l m
+  turned_owing turn.TheVariants.Spin can behind l m = spun_owing (looking (place_at w t)) refl can behind l m
   turned_owing turn.TheVariants.Late can behind l m = late_owing (late_key (place_at w t)) refl can behind l m outcome.TheVariants.Step
   turned_owing turn.TheVariants.Ok can behind l m = absurd (nothing_closes w t true can)
   turned_owing turn.TheVariants.Err can behind l m = absurd (nothing_closes w t false can)

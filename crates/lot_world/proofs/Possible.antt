@@ -1,5 +1,5 @@
 -- A turn is possible exactly where the abstract locks and the call say so, and a thread is told that it sleeps where it does.
-use Rattle.std.proofs.Common.{subst, ℕ, Bool, true, false, Option, Some, None, if◌then◌else◌, ◌==◌, ◌&&◌, ◌≡◌, ◌≢◌, ◌+◌, ◌*◌, ◌≤◌, ◌<◌, ◌↔◌, ◌⊎◌, inl, inr, List, length, is_none, refl, sym, ◌∙◌, ap, arith, get_or-set_other, get_or-set_same}
+use Rattle.std.proofs.Common.{is_some, subst, ℕ, Bool, true, false, Option, Some, None, if◌then◌else◌, ◌==◌, ◌&&◌, ◌≡◌, ◌≢◌, ◌+◌, ◌*◌, ◌≤◌, ◌<◌, ◌↔◌, ◌⊎◌, inl, inr, List, length, is_none, refl, sym, ◌∙◌, ap, arith, get_or-set_other, get_or-set_same}
 use Rattle.std.proofs.lemmas.Bool.{cases_eq, cases_lt}
 use Rattle.std.proofs.lemmas.List.{get_or_past}
 use Rattle.lot_base.specs.declared.keys.Keys.{Keys}
@@ -19,7 +19,7 @@ use Rattle.lot_acts.specs.declared.acts.Act.{Act}
 use Rattle.lot_acts.specs.declared.acts.Act.TheVariants.{Rest, Word, Enter, Park, Take, Sleep, Closure, End}
 use Rattle.lot_acts.specs.declared.acts.Act.TheVariants as act
 use Rattle.lot_acts.specs.declared.acts.Reply.{Reply}
-use Rattle.lot_acts.specs.declared.acts.Reply.TheVariants.{Spun, Late}
+use Rattle.lot_acts.specs.declared.acts.Reply.TheVariants.{Late}
 use Rattle.lot_acts.specs.declared.acts.Next.{Next}
 use Rattle.lot_acts.specs.declared.acts.Next.TheVariants as next
 use Rattle.lot_mutex.specs.declared.places.MutexPlace.{MutexPlace}
@@ -32,9 +32,9 @@ use Rattle.lot_acts.specs.declared.acts.Wakes as wakes
 use Rattle.lot_acts.specs.declared.acts.Whom.{Whom}
 use Rattle.lot_acts.specs.declared.acts.Whom as whom
 use Rattle.lot_acts.specs.Acts.{outcome_of, holds}
-use Rattle.lot_mutex.specs.MutexSteps.{is_locked, lock_act, mutex_act, mutex_first, mutex_next}
-use Rattle.lot_steps.specs.Steps.{act_of, lock_of, next_place, next_act, mutex_goes, mutex_does, late_key, first_place, spin_lock, key_in, profile}
-use Rattle.lot_machine.specs.Machine.{State, state_after_take, place_at, queue_at, section_at, is_there, can_do, can_go, is_free_under, word_at, state_with_sections, queues_without_first, state_after_taking, state_after_wake, state_after_act, state_after_go, state_after_spin_on, state_after_late_on}
+use Rattle.lot_mutex.specs.MutexSteps.{mutex_act, mutex_first, mutex_next}
+use Rattle.lot_steps.specs.Steps.{act_of, lock_of, next_place, next_act, mutex_goes, mutex_does, late_key, first_place, looking, key_in, profile}
+use Rattle.lot_machine.specs.Machine.{State, state_after_take, place_at, queue_at, section_at, can_do, can_go, is_free_under, word_at, state_with_sections, queues_without_first, state_after_taking, state_after_wake, state_after_act, state_after_go, state_after_late_on}
 use Rattle.lot_machine.specs.Fits.{IsShaped, PlaceFits}
 use Rattle.abstract_locks.specs.Sites.{Main, Line, Second}
 use Rattle.lot_world.specs.Stations.{station, station_at, Station}
@@ -189,10 +189,6 @@ begins_awake k (call.TheVariants.Mutex l c) = either (is_fair k) c
     either fair mutex_call.TheVariants.UnlockFair = refl
     either fair mutex_call.TheVariants.Bump = refl
 
--- and so does who looks at the word once more
-pub looks_awake : (l s : ℕ) → sleeps (lock_act l (lock.Decide s)) ≡ false
-looks_awake l s = awake_is (lock_act l (lock.Decide s)) (decided_awake l s (is_locked s) (s == 1))
-
 -- ---------------------------------------------------------------- nobody past the last thread
 
 pub nobody_turns : (w : State) (t : ℕ) (x : Turn) → place_at w t ≡ Idle → t < length w.places ⊎ (MayTurn (locks_of w) t x → ⊥)
@@ -201,7 +197,7 @@ nobody_turns w t (turn.TheVariants.Begin c) idle = elim (cases_lt t (length w.pl
   | inr ge ↦ inr (λ may. let lt : t < length w.places = may.thread in omega arith)
 ]
 nobody_turns w t turn.TheVariants.Go idle = inr (λ may. may.called (ap (λ p. (call_state p (rights w t)).purpose) idle))
-nobody_turns w t turn.TheVariants.Spin idle = inr (λ may. let e : false ≡ true = sym (ap (λ p. is_there (spin_lock p)) idle) ∙ may in cc)
+nobody_turns w t turn.TheVariants.Spin idle = inr (λ may. let e : false ≡ true = sym (ap (λ p. is_some (looking p)) idle) ∙ may in cc)
 nobody_turns w t turn.TheVariants.Late idle = inr (λ may. let e : false ≡ true = sym (ap (λ p. sleeps (act_of p)) idle) ∙ may.asleep in cc)
 nobody_turns w t turn.TheVariants.Ok idle = inr (λ may. no_closure w t may)
 nobody_turns w t turn.TheVariants.Err idle = inr (λ may. no_closure w t may)
@@ -262,28 +258,9 @@ gone_sections w t shape steady can = by_lock (lock_of (place_at w t)) refl
     by_lock (Some l) own key = act_sections w t shape steady l own (calls_there (length w.locks) (place_at w t) l own (shape.places t)) (place_at w t) (act_of (place_at w t)) can (line_act (place_at w t) l own) key
     by_lock None none key = absurd (let e : can_do w (act_of (place_at w t)) ≡ false = ap (λ p. can_do w (act_of p)) (calls_none (place_at w t) none) in cc)
 
-pub spun_sections : (w : State) (t : ℕ) (o : Option ℕ) (key : ℕ) → section_at (state_after_spin_on w t o) key ≡ section_at w key
-spun_sections w t None key = refl
-spun_sections w t (Some l) key = refl
-
 -- ---------------------------------------------------------------- the other turns
 
 module _ (w : State) (t : ℕ) (there : t < length w.places) where
-  pub spun_awake : (p : Place) → place_at w t ≡ p → is_there (spin_lock p) ≡ true → sleeps (act_of (place_at (state_after_spin_on w t (spin_lock p)) t)) ≡ false
-  spun_awake Idle is can = absurd cc
-  spun_awake (Mutex l (Lock e r (lock.Decide x))) is can = either (x == 1) can
-    where
-      either : (b : Bool) → is_there (if b then Some l else None) ≡ true → sleeps (act_of (place_at (state_after_spin_on w t (if b then Some l else None)) t)) ≡ false
-      either true can = rw (get_or-set_same w.places t (next_place (place_at w t) (Spun (word_at w l))) Idle there, is) (looks_awake l (word_at w l))
-      either false can = absurd cc
-  spun_awake (Mutex l (Lock e r lock.First)) is can = absurd cc
-  spun_awake (Mutex l (Lock e r a)) is can = absurd cc
-  spun_awake (Mutex l TryLock) is can = absurd cc
-  spun_awake (Mutex l (Unlock a)) is can = absurd cc
-  spun_awake (Mutex l UnlockFair) is can = absurd cc
-  spun_awake (Mutex l Bump) is can = absurd cc
-  spun_awake (Mutex l (HandOff b a)) is can = absurd cc
-
   pub late_awake : (o : Option ℕ) → late_key (place_at w t) ≡ o → is_free_under w o ≡ true → sleeps (act_of (place_at (state_after_late_on w t o) t)) ≡ false
   late_awake None e can = absurd cc
   late_awake (Some key) e can =

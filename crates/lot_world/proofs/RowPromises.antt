@@ -114,8 +114,6 @@ pub record RowPromises (sort : Sort) (l : ℕ) (row : Profile) (a : Act) : Type 
   -- who has handed the lock over leaves its section next, and tells so
   pub tells : row.carries ≡ Some true → (a ≡ Leave (One (2 * l)) (wakes.TheVariants.All note.HandOff)) × (row.doing.inside ≡ Some Main)
   pub late : (m : Line) → row.late_line ≡ Some m → RowIsLate sort l row a m
-  -- who looks once more before it sleeps lets nobody in
-  pub spins : row.spins ≡ true → LetsIn sort l row → ⊥
   pub may_be_late : (m : Line) → row.stands ≡ Some m → a ≡ Sleep → IsTimed (Some (row.purpose l)) l → row.late_line ≡ Some m
 
 -- ---------------------------------------------------------------- a step

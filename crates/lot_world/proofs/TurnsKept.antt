@@ -1,5 +1,5 @@
 -- Each turn of a thread keeps every lock a site, and every thread in the line, the section and the hand that its place says.
-use Rattle.std.proofs.Common.{ℕ, Bool, true, false, Option, Some, None, if◌then◌else◌, ◌==◌, ◌≡◌, ◌<◌, [], ◌∷◌, length, nat_lt, refl, sym, ◌∙◌, ap}
+use Rattle.std.proofs.Common.{ℕ, Bool, true, false, Option, Some, None, if◌then◌else◌, ◌≡◌, ◌<◌, [], ◌∷◌, length, length-set, nat_lt, refl, sym, ◌∙◌, ap}
 use Rattle.std.proofs.lemmas.Bool.{eqb-true, ltb-true}
 use Rattle.lot_base.specs.declared.wants.Want.TheVariants.{Exclusive}
 use Rattle.lot_calls.specs.declared.calls.Call.{Call}
@@ -20,23 +20,24 @@ use Rattle.lot_mutex.specs.declared.places.MutexPlace.{MutexPlace}
 use Rattle.lot_mutex.specs.declared.places.MutexPlace.TheVariants.{Lock, TryLock, Unlock, UnlockFair, Bump, HandOff}
 use Rattle.lot_mutex.specs.MutexSteps.{mutex_first, mutex_right}
 use Rattle.lot_acts.specs.Owners.{is_thread}
-use Rattle.lot_steps.specs.Steps.{is_idle, spin_lock, late_key}
+use Rattle.lot_steps.specs.Steps.{is_idle, looking, late_key}
 use Rattle.abstract_locks.specs.Sites.{Claim, Has, Begin, HasClaim, idle}
-use Rattle.lot_machine.specs.Machine.{State, place_at, word_at, owners_at, kind_at, put, state_after_begin, can_begin, is_open_to, state_after_spin_on, state_after_late_on, is_free_under, state_after_turn, can_turn, is_possible, after}
+use Rattle.lot_machine.specs.Machine.{State, place_at, owners_at, kind_at, put, state_after_begin, can_begin, is_open_to, state_after_look, state_after_late_on, is_free_under, state_after_turn, can_turn, is_possible, after}
 use Rattle.lot_machine.specs.Fits.{IsShaped, PlaceFits}
 use Rattle.lot_world.specs.Refinement.{lock_state, taken_at}
 use Rattle.lot_world.specs.SitesOf.{is_mutex}
 use Rattle.lot_world.specs.MutexDeeds.{mutex_doing, mutex_station, acts, begins}
 use Rattle.lot_world.specs.Stations.{nowhere, station}
 use Rattle.lot_world.specs.SitesOf.{IsSteady, Goes}
-use Rattle.lot_machine.proofs.Shape.{both}
+use Rattle.lot_machine.proofs.Shape.{both, looking_shaped}
 use Rattle.lot_world.proofs.KindsKept.{calls_mutex}
 use Rattle.lot_world.proofs.Glue.{parts_at, same}
 use Rattle.lot_world.proofs.MutexTable.{mutex, own_doing, meets, others_same}
 use Rattle.lot_world.proofs.StandsMoved.{mutex_rules}
 use Rattle.lot_world.proofs.SitesKept.{mutex_at, goes_steady, place_goes}
+use Rattle.lot_world.proofs.Looking.{looking_steady, looks_now}
 use Rattle.lot_world.proofs.Closures.{nothing_closes}
-use Rattle.lot_world.proofs.GoneKept.{looked, enters, gone_kept}
+use Rattle.lot_world.proofs.GoneKept.{enters, gone_kept}
 
 pub idle_is : (p : Place) → is_idle p ≡ true → p ≡ Idle
 idle_is Idle h = refl
@@ -72,17 +73,11 @@ module _ (w : State) (t : ℕ) (steady : IsSteady w) (shape : IsShaped w) (there
       let right = both (has_call (kind_at w l) (calling.TheVariants.Mutex l c)) _ open_to.1 in
       goes_steady w _ l _ steady (calls_begin l (is_fair (kind_at w l)) c (calls_mutex (kind_at w l) (calling.TheVariants.Mutex l c) right.0) (idle_is (place_at w t) parts.0) right.1)
 
-  -- it loads the word again
-  spins : (l : ℕ) (e : Entry) (r : Bool) (x : ℕ) → place_at w t ≡ Mutex l (Lock e r (lock.Decide x)) → (b : Bool) → IsSteady (state_after_spin_on w t (if b then Some l else None))
-  spins l e r x is false = steady
-  spins l e r x is true = rw is (goes_steady w _ l [] steady (looked w t steady shape there l (Lock e r (lock.Decide x)) (Lock e r (lock.Decide (word_at w l))) is refl refl refl refl))
-
-  spun_kept : (p : Place) → place_at w t ≡ p → IsSteady (state_after_spin_on w t (spin_lock p))
-  spun_kept (Mutex l (Lock e r (lock.Decide x))) is = spins l e r x is (x == 1)
-  spun_kept (Mutex l (Lock e r lock.First)) is = steady
-  spun_kept (Mutex l (Lock e r a)) is = steady
-  spun_kept (Mutex l at) is = steady
-  spun_kept Idle is = steady
+  -- it looks at the word once more
+  spun_kept : (o : Option Place) → looking (place_at w t) ≡ o → IsSteady (state_after_look w t o)
+  spun_kept None is = steady
+  spun_kept (Some q) is = let shaped = looking_shaped w t q shape is in
+      gone_kept (put w t q) t (looking_steady w t there q is steady) shaped (rw (length-set w.places t q) there) (place_at (put w t q) t) refl (shaped.places t) (looks_now w t there q is)
 
   -- its time is up, and it goes into the section of its line
   asleep_late : (l : ℕ) (e : Entry) (r : Bool) → place_at w t ≡ Mutex l (Lock e r lock.Asleep) → l < length w.locks → is_free_under w (late_key (Mutex l (Lock e r lock.Asleep))) ≡ true → IsSteady (state_after_late_on w t (late_key (Mutex l (Lock e r lock.Asleep))))
@@ -107,7 +102,7 @@ module _ (w : State) (t : ℕ) (steady : IsSteady w) (shape : IsShaped w) (there
   turned_kept : (x : Turn) → can_turn w t x ≡ true → IsSteady (state_after_turn w t x)
   turned_kept (turn.TheVariants.Begin c) can = begun_kept c can
   turned_kept turn.TheVariants.Go can = gone_kept w t steady shape there (place_at w t) refl (shape.places t) can
-  turned_kept turn.TheVariants.Spin can = spun_kept (place_at w t) refl
+  turned_kept turn.TheVariants.Spin can = spun_kept (looking (place_at w t)) refl
   turned_kept turn.TheVariants.Late can = late_kept (place_at w t) refl (shape.places t) can
   turned_kept turn.TheVariants.Ok can = absurd (nothing_closes w t true can)
   turned_kept turn.TheVariants.Err can = absurd (nothing_closes w t false can)

@@ -1,5 +1,5 @@
 -- The abstract locks that a world's words, places and queues stand for.
-use Rattle.std.specs.Prelude.{ℕ, Bool, true, false, Option, Some, None, ◌+◌, ◌*◌, ◌≡◌, ◌≢◌, ◌⊎◌, length}
+use Rattle.std.specs.Prelude.{ℕ, Bool, true, false, Option, Some, None, ◌+◌, ◌*◌, ◌≡◌, ◌≢◌, ◌⊎◌, length, is_some}
 use Rattle.lot_steps.specs.declared.places.Place.{Place}
 use Rattle.lot_acts.specs.Profiles.{Profile, bringing_nobody, taken_from}
 pub use Rattle.lot_acts.specs.Calls.{call_by}
@@ -8,11 +8,11 @@ use Rattle.lot_mutex.specs.declared.places.MutexPlace.{MutexPlace}
 use Rattle.lot_acts.specs.declared.acts.Act.{Act}
 use Rattle.lot_acts.specs.declared.acts.Act.TheVariants.{Enter, Sleep}
 use Rattle.lot_base.specs.declared.keys.Keys.{Keys}
-use Rattle.lot_steps.specs.Steps.{act_of, spin_lock, lock_of, calls, profile}
+use Rattle.lot_steps.specs.Steps.{act_of, looking, lock_of, calls, profile}
 pub use Rattle.lot_mutex.specs.MutexProfiles.{mutex_profile, is_bump, entry_purpose, release_purpose, before_entry, before_release}
 pub use Rattle.lot_machine.specs.Machine.{runs_closure}
-use Rattle.lot_machine.specs.Machine.{State, place_at, word_at, owners_at, shares_at, kind_at, queue_at, section_at, is_there}
-use Rattle.abstract_locks.specs.Locks.{LockState, Taken, Rights}
+use Rattle.lot_machine.specs.Machine.{State, place_at, word_at, owners_at, shares_at, kind_at, queue_at, section_at}
+use Rattle.abstract_locks.specs.Locks.{LockState, Queued, Taken, Pending, Rights}
 use Rattle.abstract_locks.specs.Runs.{LocksState, CallState, Stance, no_call}
 use Rattle.abstract_locks.specs.Locks as locks
 
@@ -43,13 +43,13 @@ abbrev pub keys_entered : Act → Option Keys
 keys_entered (Enter keys) = Some keys
 keys_entered a = None
 
-abbrev pub stance_by : Act → Option ℕ → Stance
-stance_by a spins_on =
-    record { asleep = sleeps a; in_closure = runs_closure a; enters = keys_entered a; may_spin = is_there spins_on }
+abbrev pub stance_by : Act → Option Place → Stance
+stance_by a looks_from =
+    record { asleep = sleeps a; in_closure = runs_closure a; enters = keys_entered a; may_spin = is_some looks_from }
 
 -- by what it does next
 abbrev pub stance_of : Place → Stance
-stance_of p = stance_by (act_of p) (spin_lock p)
+stance_of p = stance_by (act_of p) (looking p)
 
 -- ---------------------------------------------------------------- calls
 

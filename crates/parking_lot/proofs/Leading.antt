@@ -1,18 +1,18 @@
 -- Each act of a mutex's call is one that the thread may take, and leads to a place that fits.
-use Rattle.std.proofs.Common.{ℕ, ◌≡◌, ◌<◌, ◌*◌, Bool, true, false, List, ◌∷◌, Option, Some, None, inl, inr, sym, refl, ap, ◌∙◌, subst, arith}
+use Rattle.std.proofs.Common.{ℕ, ◌≡◌, ◌<◌, ◌*◌, Bool, true, false, List, ◌∷◌, Option, Some, None, if◌then◌else◌, inl, inr, sym, refl, ap, ◌∙◌, subst, arith}
 use Rattle.lot_base.specs.declared.keys.Keys.{Keys}
 use Rattle.lot_base.specs.declared.keys.Keys.TheVariants.{One}
 use Rattle.lot_base.specs.declared.notes.Note.TheVariants.{Normal, HandOff}
 use Rattle.lot_base.specs.declared.ops.Op.{Op}
 use Rattle.lot_base.specs.declared.ops.Op.TheVariants.{Load, And, Exchange}
-use Rattle.lot_mutex.specs.MutexSteps.{mutex_act, lock_act, unlock_act, decided}
+use Rattle.lot_mutex.specs.MutexSteps.{mutex_act, mutex_looking, lock_act, unlock_act, decided}
 use Rattle.lot_calls.specs.declared.outcomes.Answer.{Answer}
 use Rattle.lot_calls.specs.declared.outcomes.OnceState.{OnceState}
-use Rattle.lot_steps.specs.Steps.{act_of, late_key, next_act, next_place}
+use Rattle.lot_steps.specs.Steps.{act_of, late_key, in_mutex, next_act, next_place}
 use Rattle.lot_acts.specs.declared.acts.Act.{Act}
 use Rattle.lot_acts.specs.declared.acts.Act as act
 use Rattle.lot_acts.specs.declared.acts.Reply.{Reply}
-use Rattle.lot_acts.specs.declared.acts.Reply.TheVariants.{Done, Value, Spun, Parked, Took, Removed, MovedTo, Late, Woken, Closed}
+use Rattle.lot_acts.specs.declared.acts.Reply.TheVariants.{Done, Value, Parked, Took, Removed, MovedTo, Late, Woken, Closed}
 use Rattle.lot_mutex.specs.declared.places.MutexPlace.{MutexPlace}
 use Rattle.lot_mutex.specs.declared.places.MutexPlace.TheVariants as at_mutex_place
 use Rattle.lot_mutex.specs.declared.lock.Entry.{Entry}
@@ -30,9 +30,9 @@ use Rattle.lot_words.specs.declared.words.WordKind.{WordKind}
 use Rattle.lot_words.specs.declared.words.WordKind as kinds
 use Rattle.lot_words.proofs.MutexSteps.{mutex_steps, each_code}
 use Rattle.parking_lot_core.specs.declared.tokens.Did.TheVariants.{TakeFirst}
-use Rattle.parking_lot.specs.Fitting.{AreWordsFor, Fits, PlacesLead, Spins, Reached, ReachedBy, aim_of, answer_of, sleeper_at}
+use Rattle.parking_lot.specs.Fitting.{AreWordsFor, Fits, PlacesLead, Looks, Reached, ReachedBy, aim_of, answer_of, sleeper_at}
 use Rattle.parking_lot.specs.MutexFitting.{GaveUp, FitsLock, FitsUnlock, FitsMutex, Within, Outside, beside, held}
-use Rattle.parking_lot.specs.Paths.{mutex_at, mutexes, at_mutex}
+use Rattle.parking_lot.specs.Paths.{GoesFrom, mutex_at, mutexes, at_mutex}
 use Rattle.parking_lot.specs.declared.acting.Sleeper.{Sleeper}
 use Rattle.parking_lot.specs.Stages.{Stage, Inside, Needs, Became, HasKey, IsFresh, MayLeave, IsLeft, took_as, listed, entered_now, stage, stepped}
 use Rattle.parking_lot.proofs.HandingOver.{hand_off_needs, hand_off_leads}
@@ -202,31 +202,44 @@ module _ (up : Type 0) (n : ℕ) (base : List Ownership) (st : Stage) where
     leads (at_mutex_place.HandOff bumps at) f = hand_off_leads n base st up new bumps at f
     leads at f = absurd f
 
-    -- a load in place of the act that would set the parked bit
-    spins_on : (e : Entry) (retries : Bool) (expected : ℕ) → Outside (beside n e base) st → (seen : ℕ) → seen < 4 → new ≡ stepped kinds.TheVariants.Mutex (mutex_at n) Load seen st → Reached up base (Mutex n (at_mutex_place.Lock e retries (lock.TheVariants.Decide expected))) (Spun seen) new
-    spins_on e retries expected f = each_code (λ s. new ≡ stepped kinds.TheVariants.Mutex (mutex_at n) Load s st → Reached up base (Mutex n (at_mutex_place.Lock e retries (lock.TheVariants.Decide expected))) (Spun s) new)
-        (λ x. ((omega arith, stays (beside n e base) None _ x refl refl f), refl)) (λ x. ((omega arith, stays (beside n e base) None _ x refl refl f), refl))
-        (λ x. ((omega arith, stays (beside n e base) None _ x refl refl f), refl)) (λ x. ((omega arith, stays (beside n e base) None _ x refl refl f), refl))
-
-  spins : (at : MutexPlace) → FitsMutex up n base at st → Spins up mutexes (at_mutex n) base (Mutex n at) st
-  spins (at_mutex_place.Lock e retries (lock.TheVariants.Decide expected)) f l is = ((mutex_steps (mutex_at n) st.owns).load, λ seen new b. spins_on new e retries expected f.1 seen b.0.1.0 b.1)
-  spins at f l is = absurd cc
+  -- where it looks at the word once more, it has what it had
+  looks : (at : MutexPlace) → FitsMutex up n base at st → Looks up base (Mutex n at) st
+  looks (at_mutex_place.Lock e retries (lock.TheVariants.Decide expected)) f q is = by_mark _ is
+    where
+      by_mark : (b : Bool) → in_mutex n (if b then Some (at_mutex_place.Lock e retries lock.TheVariants.Load) else None) ≡ Some q → Fits up base q st × (aim_of q ≡ aim_of (Mutex n (at_mutex_place.Lock e retries (lock.TheVariants.Decide expected))))
+      by_mark true is = let there : Mutex n (at_mutex_place.Lock e retries lock.TheVariants.Load) ≡ q = cc in subst (λ r. Fits up base r st × (aim_of r ≡ aim_of (Mutex n (at_mutex_place.Lock e retries (lock.TheVariants.Decide expected))))) there (f.1, refl)
+      by_mark false is = absurd cc
+  looks at f q is = absurd cc
 
 -- the words of a call of a mutex are that one alone
 mutex_place_leads : (up : Type 0) (n : ℕ) (base : List Ownership) (at : MutexPlace) (st : Stage) → FitsMutex up n base at st →
-    Needs mutexes (at_mutex n) st (mutex_act n at) × Spins up mutexes (at_mutex n) base (Mutex n at) st
+    Needs mutexes (at_mutex n) st (mutex_act n at) × Looks up base (Mutex n at) st
     × ((reply : Reply) (new : Stage) → Became up mutexes (at_mutex n) (sleeper_at (Mutex n at)) st (mutex_act n at) reply new → Reached up base (Mutex n at) reply new)
-mutex_place_leads up n base at st f = (needs up n base st at f, spins up n base st at f, λ reply new. leads up n base st new at f reply)
+mutex_place_leads up n base at st f = (needs up n base st at f, looks up n base st at f, λ reply new. leads up n base st new at f reply)
 
 pub places_lead : (up : Type 0) → PlacesLead up
 places_lead up kinds at base Idle st words f = absurd f
 places_lead up kinds at base (Mutex n p) st words f =
-    subst (λ (k : (ℕ → WordKind) × (ℕ → ℕ)). Needs k.0 k.1 st (mutex_act n p) × Spins up k.0 k.1 base (Mutex n p) st
+    subst (λ (k : (ℕ → WordKind) × (ℕ → ℕ)). Needs k.0 k.1 st (mutex_act n p) × Looks up base (Mutex n p) st
     × ((reply : Reply) (new : Stage) → Became up k.0 k.1 (sleeper_at (Mutex n p)) st (mutex_act n p) reply new → Reached up base (Mutex n p) reply new))
     (sym (both words.1 words.2)) (mutex_place_leads up n base p st f)
   where
     both : kinds ≡ mutexes → at ≡ at_mutex n → ◌≡◌ {A = (ℕ → WordKind) × (ℕ → ℕ)} (kinds, at) (mutexes, at_mutex n)
     both a b = ap (λ (k : ℕ → WordKind). (k, at)) a ∙ ap (λ (w : ℕ → ℕ). (mutexes, w)) b
+
+-- where a call goes on from, it has what it had
+pub fits_from : (up : Type 0) (kinds : ℕ → WordKind) (at : ℕ → ℕ) (base : List Ownership) (p q : Place) (st : Stage) → GoesFrom p q → AreWordsFor p kinds at → Fits up base p st → Fits up base q st × (aim_of q ≡ aim_of p)
+fits_from up kinds at base p q st (inl same) words fits = subst (λ r. Fits up base r st × (aim_of r ≡ aim_of p)) (sym same) (fits, refl)
+fits_from up kinds at base p q st (inr is) words fits = (places_lead up kinds at base p st words fits).1 q is
+
+pub words_from : (kinds : ℕ → WordKind) (at : ℕ → ℕ) (p q : Place) → GoesFrom p q → AreWordsFor p kinds at → AreWordsFor q kinds at
+words_from kinds at p q (inl same) words = subst (λ r. AreWordsFor r kinds at) (sym same) words
+words_from kinds at Idle q (inr is) words = absurd cc
+words_from kinds at (Mutex l p) q (inr is) words = by_place (mutex_looking p) is
+  where
+    by_place : (o : Option MutexPlace) → in_mutex l o ≡ Some q → AreWordsFor q kinds at
+    by_place None e = absurd cc
+    by_place (Some p2) e = let there : Mutex l p2 ≡ q = cc in subst (λ r. AreWordsFor r kinds at) there words
 
 -- behind its closure a call goes on
 pub goes_behind : (up : Type 0) (kinds : ℕ → WordKind) (at : ℕ → ℕ) (base : List Ownership) (p : Place) (st : Stage) (succeeded : Bool) → AreWordsFor p kinds at → (state : OnceState) → act_of p ≡ act.TheVariants.Closure state → answer_of (next_act p (Closed succeeded)) ≡ None → Fits up base p st

@@ -1,5 +1,5 @@
 -- Paths that go on.
-use Rattle.std.proofs.Common.{ℕ, ◌≡◌, List, [], ◌++◌, sym, refl, ap, ◌∙◌, subst}
+use Rattle.std.proofs.Common.{ℕ, ◌≡◌, List, [], ◌++◌, inl, inr, sym, refl, ap, ◌∙◌, subst}
 use Rattle.std.proofs.lemmas.List.{append_assoc, append-nil}
 use Rattle.lot_words.specs.declared.views.WordStep.{WordStep}
 use Rattle.lot_base.specs.declared.ops.Op.{Op}
@@ -9,7 +9,7 @@ use Rattle.lot_acts.specs.declared.acts.Act as act
 use Rattle.lot_acts.specs.declared.acts.Reply.{Reply}
 use Rattle.lot_calls.specs.declared.outcomes.Answer.{Answer}
 use Rattle.lot_steps.specs.declared.places.Place.{Place}
-use Rattle.parking_lot.specs.Paths.{Tells, Path, here, on, Walks, step, word}
+use Rattle.parking_lot.specs.Paths.{Tells, Path, GoesFrom, here, on, looks, Walks, step, word}
 
 -- a path so far, of the steps that were added to a list
 abbrev pub Comes : (ℕ → ℕ) → Place → List WordStep → List WordStep → Place → Type 0
@@ -18,6 +18,11 @@ Comes at p old new q = (more : List WordStep) × (new ≡ old ++ more) × Path a
 -- nothing was done
 pub comes_here : (at : ℕ → ℕ) (p : Place) (old : List WordStep) → Comes at p old old p
 comes_here at p old = ([], sym (append-nil old), here p)
+
+-- a look in place of the act
+pub comes_from : (at : ℕ → ℕ) (p q r : Place) (old new : List WordStep) → Comes at p old new q → GoesFrom q r → Comes at p old new r
+comes_from at p q r old new c (inl same) = subst (Comes at p old new) (sym same) c
+comes_from at p q r old new c (inr is) = (c.0, c.1, looks p q r c.0 c.2 is)
 
 -- one reply more
 pub comes_on : (at : ℕ → ℕ) (p q r : Place) (old mid new : List WordStep) (reply : Reply) (then : List WordStep) → Comes at p old mid q → new ≡ mid ++ then → Tells at q then reply → r ≡ next_place q reply → Comes at p old new r
@@ -33,6 +38,7 @@ comes_to_end at p q old mid new reply then answer c e tells ends = (
 
 joined : (at : ℕ → ℕ) (p q r : Place) (xs ys : List WordStep) → Path at p xs q → Path at q ys r → Path at p (xs ++ ys) r
 joined at p q _ xs _ u (here _) = subst (λ (l : List WordStep). Path at p l q) (sym (append-nil xs)) u
+joined at p q r xs ys u (looks _ m _ _ v is) = looks p m r (xs ++ ys) (joined at p q m xs ys u v) is
 joined at p q _ xs _ u (on _ r ys zs reply v tells) = subst (λ (l : List WordStep). Path at p l (next_place r reply)) (append_assoc xs ys zs) (on p r (xs ++ ys) zs reply (joined at p q r xs ys u v) tells)
 
 -- a path, and then the rest of the call

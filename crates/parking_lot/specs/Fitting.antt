@@ -1,21 +1,18 @@
 -- What a thread has at each place of its call, and at its end. Each sort of lock says so in a file of its own.
 use Rattle.std.specs.Prelude.{ℕ, ◌≡◌, List, Option, Some, None}
-use Rattle.lot_base.specs.declared.ops.Op.TheVariants.{Load}
 use Rattle.lot_base.specs.declared.wants.Want.TheVariants.{Exclusive}
 use Rattle.lot_calls.specs.declared.outcomes.Answer.{Answer}
-use Rattle.lot_steps.specs.Steps.{act_of, late_key, next_place, next_act, spin_lock, HasKeys}
+use Rattle.lot_steps.specs.Steps.{act_of, late_key, next_place, next_act, looking, HasKeys}
 use Rattle.lot_acts.specs.declared.acts.Act.{Act}
 use Rattle.lot_acts.specs.declared.acts.Act as act
 use Rattle.lot_acts.specs.declared.acts.Reply.{Reply}
-use Rattle.lot_acts.specs.declared.acts.Reply.TheVariants.{Spun}
 use Rattle.lot_steps.specs.declared.places.Place.{Place}
 use Rattle.lot_steps.specs.declared.places.Place.TheVariants.{Idle, Mutex}
-use Rattle.lot_words.specs.Steps.{MayStep}
 use Rattle.lot_words.specs.declared.owners.Ownership.{Ownership}
 use Rattle.lot_words.specs.declared.words.WordKind.{WordKind}
 use Rattle.parking_lot.specs.MutexFitting.{Purpose, purpose_at, FitsMutex, IsMutexOver}
 use Rattle.parking_lot.specs.Paths.{mutexes, at_mutex}
-use Rattle.parking_lot.specs.Stages.{Stage, Needs, Became, Stepped}
+use Rattle.parking_lot.specs.Stages.{Stage, Needs, Became}
 use Rattle.parking_lot.specs.declared.acting.Sleeper.{Sleeper}
 use Rattle.parking_lot.specs.declared.driver.Stop.{Stop}
 use Rattle.parking_lot.specs.declared.driver.Stop.TheVariants.{Ended, Paused}
@@ -74,16 +71,15 @@ module _ (up : Type 0) where
   abbrev pub Reached : List Ownership → Place → Reply → Stage → Type 0
   Reached base p reply st = ReachedBy base (aim_of p) (next_place p reply) (answer_of (next_act p reply)) st
 
-  -- where the word of a lock may be loaded in place of the act, that leads on too
-  abbrev pub Spins : (ℕ → WordKind) → (ℕ → ℕ) → List Ownership → Place → Stage → Type 0
-  Spins kinds at base p st = (lock : ℕ) → spin_lock p ≡ Some lock → MayStep (kinds lock) (at lock) Load st.owns
-      × ((seen : ℕ) (new : Stage) → Stepped (kinds lock) (at lock) Load seen st new → Reached base p (Spun seen) new)
+  -- from where it looks at the word once more, it goes on too
+  abbrev pub Looks : List Ownership → Place → Stage → Type 0
+  Looks base p st = (q : Place) → looking p ≡ Some q → Fits base q st × (aim_of q ≡ aim_of p)
 
   -- each place's act is one that the thread may take, and each reply leads to a place that fits
   abbrev pub PlacesLead : Type 0
   PlacesLead = (kinds : ℕ → WordKind) (at : ℕ → ℕ) (base : List Ownership) (p : Place) (st : Stage)
       → AreWordsFor p kinds at → Fits base p st →
       Needs kinds at st (act_of p)
-      × Spins kinds at base p st
+      × Looks base p st
       × ((reply : Reply) (new : Stage) → Became up kinds at (sleeper_at p) st (act_of p) reply new
       → Reached base p reply new)

@@ -1,5 +1,5 @@
 -- The word steps of a call are a path of its transitions.
-use Rattle.std.specs.Prelude.{ℕ, ◌≡◌, Bool, true, false, Option, Some, None, List, [], ◌∷◌, ◌++◌}
+use Rattle.std.specs.Prelude.{ℕ, ◌≡◌, Bool, true, false, Option, Some, None, List, [], ◌∷◌, ◌++◌, ◌⊎◌}
 use Rattle.lot_base.specs.declared.ops.Op.{Op}
 use Rattle.lot_base.specs.declared.ops.Op.TheVariants.{Load}
 use Rattle.lot_base.specs.declared.wants.Want.{Want}
@@ -7,12 +7,12 @@ use Rattle.lot_words.specs.Indices.{word_index}
 use Rattle.lot_words.specs.declared.views.WordStep.{WordStep}
 use Rattle.lot_words.specs.declared.words.WordKind as kinds
 use Rattle.lot_acts.specs.Acts.{holds}
-use Rattle.lot_steps.specs.Steps.{act_of, next_place, next_act, spin_lock}
+use Rattle.lot_steps.specs.Steps.{act_of, next_place, next_act, looking}
 use Rattle.lot_acts.specs.declared.acts.Act.{Act}
 use Rattle.lot_acts.specs.declared.acts.Act as act
 use Rattle.lot_acts.specs.declared.acts.Check.{Check}
 use Rattle.lot_acts.specs.declared.acts.Reply.{Reply}
-use Rattle.lot_acts.specs.declared.acts.Reply.TheVariants.{Value, Spun, Parked}
+use Rattle.lot_acts.specs.declared.acts.Reply.TheVariants.{Value, Parked}
 use Rattle.lot_calls.specs.declared.outcomes.Answer.{Answer}
 use Rattle.lot_calls.specs.declared.outcomes.OnceState.{OnceState}
 use Rattle.lot_steps.specs.declared.places.Place.{Place}
@@ -54,7 +54,6 @@ is_wordless _ = false
 -- replies that tell nothing of a word's value
 abbrev pub is_valueless : Reply → Bool
 is_valueless (Value seen) = false
-is_valueless (Spun seen) = false
 is_valueless (Parked parked) = false
 is_valueless _ = true
 
@@ -66,8 +65,6 @@ pub data Tells (at : ℕ → ℕ) : Place → List WordStep → Reply → Type 0
       → Tells at p (step (at lock) op seen) (Value seen)
   parks : (p : Place) (lock key : ℕ) (check : Check) (want : Want) (seen : ℕ)
       → act_of p ≡ act.TheVariants.Park lock key check want → Tells at p (step (at lock) Load seen) (Parked (holds check seen))
-  -- the word is loaded in place of an act that leads to sleep
-  spins : (p : Place) (lock seen : ℕ) → spin_lock p ≡ Some lock → Tells at p (step (at lock) Load seen) (Spun seen)
   other : (p : Place) (reply : Reply) → is_wordless (act_of p) ≡ true → is_valueless reply ≡ true
       → Tells at p [] reply
 
@@ -80,6 +77,12 @@ pub data Path (at : ℕ → ℕ) : Place → List WordStep → Place → Type 0 
   here : (p : Place) → Path at p [] p
   on : (p q : Place) (xs ys : List WordStep) (reply : Reply) → Path at p xs q → Tells at q ys reply
       → Path at p (xs ++ ys) (next_place q reply)
+  -- it looks at the word once more in place of an act that leads to sleep
+  looks : (p q r : Place) (xs : List WordStep) → Path at p xs q → looking q ≡ Some r → Path at p xs r
+
+-- where a thread goes on from: where it stands, or from where it looks
+abbrev pub GoesFrom : Place → Place → Type 0
+GoesFrom p q = (q ≡ p) ⊎ (looking p ≡ Some q)
 
 -- the last reply of a call, which ends it by an answer
 pub record Ending (at : ℕ → ℕ) (p : Place) (steps : List WordStep) (answer : Answer) : Type 0 where

@@ -15,7 +15,7 @@ ghost use Rattle.parking_lot.specs.Calls.{beginning, purpose_in, GoesOn, WalksBe
 ghost use Rattle.parking_lot.specs.Driving.{MeetAt};
 ghost use Rattle.parking_lot.specs.Fitting.{PlacesLead, AreWordsFor, AreWordsAfter, Fits, IsStopped, Reached, answer_of, aim_of, sleeper_at};
 ghost use Rattle.parking_lot.specs.MutexFitting.{IsMutexOver};
-ghost use Rattle.parking_lot.specs.Paths.{closure_of, mutex_at, at_mutex, Runs, Told};
+ghost use Rattle.parking_lot.specs.Paths.{closure_of, mutex_at, at_mutex, GoesFrom, Runs, Told};
 ghost use Rattle.parking_lot.specs.Words.{AreWordsOf, kind_in, at_in};
 ghost use Rattle.parking_lot.specs.Stages.{IsIn, stage_of};
 ghost use Rattle.parking_lot.specs.Telling.{HasStepped, MayFind, MayTake, owns_of, steps_of};
@@ -102,19 +102,25 @@ fn pause(loads: u32) {
     }
 }
 
-// Loads the word in place of an act that leads to sleep, after a pause. Before a later load the thread lets others run.
-fn spin(lot: &ParkingLot, token: &mut Token, word: Word, loads: u32) -> u64
-    requires own { IsTokenOf lot.now token.old × IsWordOf lot.now.words word }
-    requires may { MayTake word Load token.old }
-    ensures own { Stays lot.now token.old token.new × (last_of token.new ≡ None) }
-    ensures stepped { HasStepped word Load result token.old token.new }
-    ensures coded { MayFind word result token.old }
+// Where a call goes on. In place of an act that leads to sleep it looks at the word once more, after a pause, some times
+// over. Before a later look the thread lets others run.
+fn go_from(place: Place, loads: &mut u32) -> Place
+    ensures { GoesFrom place result }
 {
-    pause(loads);
-    if loads >= PATIENT_LOADS {
-        yield_now();
+    if *loads >= MOST_LOADS {
+        return place;
     }
-    lot.word(token, word, Op::Load)
+    match place.looking() {
+        Some(looking) => {
+            pause(*loads);
+            if *loads >= PATIENT_LOADS {
+                yield_now();
+            }
+            *loads += 1;
+            looking
+        }
+        None => place,
+    }
 }
 
 /// All calls keep what fits at their places.
@@ -139,7 +145,7 @@ fn sleeper(place: Place) -> Sleeper
     }
 }
 
-// One turn of a call: the act of its place, or a load in place of it. Whatever fitted there leads on to what fits.
+// One turn of a call: the act of its place. Whatever fitted there leads on to what fits.
 fn turn<'a, R: Wait, C: Clock>(
     rt: &R,
     lot: &'a ParkingLot,
@@ -148,7 +154,6 @@ fn turn<'a, R: Wait, C: Clock>(
     limit: Option<(&C, u64)>,
     section: &mut Option<Section<'a>>,
     place: Place,
-    loads: &mut u32,
 ) -> Reply
     requires own { IsTokenOf lot.now token.old × AreWordsOf lot.now words × IsIn lot.now section.old }
     requires words { AreWordsFor place (kind_in words) (at_in words) }
@@ -161,13 +166,6 @@ fn turn<'a, R: Wait, C: Clock>(
         → Fits (IsUp C.tells limit.entry) base place (stage_of token.old section.old)
         → Reached (IsUp C.tells limit.entry) base place result (stage_of token.new section.new) }
 {
-    if let Some(lock) = place.spin_lock() {
-        if *loads < MOST_LOADS {
-            let seen = spin(lot, token, words.of(lock), *loads);
-            *loads += 1;
-            return Reply::Spun(seen);
-        }
-    }
     perform(
         rt,
         lot,
@@ -209,22 +207,13 @@ pub(crate) fn run<R: Wait, C: Clock>(
             end(section);
             return Stop::Paused { place, state };
         }
-        let reply = turn(
-            rt,
-            lot,
-            token,
-            words,
-            limit,
-            &mut section,
-            place,
-            &mut loads,
-        );
+        let reply = turn(rt, lot, token, words, limit, &mut section, place);
         let (next, act) = advance(place, reply);
         if let Some(answer) = answer_of(act) {
             end(section);
             return Stop::Ended(answer);
         }
-        place = next;
+        place = go_from(next, &mut loads);
     }
     unreachable!()
 }

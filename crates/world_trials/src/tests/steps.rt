@@ -75,8 +75,8 @@ fn a_woken_thread_retries(rt: HostRuntime) {
         }
     );
     let saw = woken.after(Reply::Value(1));
-    assert_eq!(rt; saw.spin_lock(), Some(3));
-    assert_eq!(rt; saw.after(Reply::Spun(3)).spin_lock(), None);
+    assert_eq!(rt; saw.looking(), Some(woken));
+    assert_eq!(rt; woken.after(Reply::Value(3)).looking(), None);
 }
 
 #[test]

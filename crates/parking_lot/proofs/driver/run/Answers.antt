@@ -10,8 +10,8 @@ use Rattle.parking_lot.specs.Paths.{closure_of}
 use Rattle.parking_lot.specs.Stages.{stage_of, inside_of}
 use Rattle.parking_lot.specs.Words.{kind_in, at_in}
 use Rattle.parking_lot.proofs.Ending.{closed, closes_outside, end_of, ended, outside}
-use Rattle.parking_lot.proofs.Leading.{places_lead}
-use Rattle.parking_lot.proofs.Paths.{comes_here, comes_on, comes_to_end}
+use Rattle.parking_lot.proofs.Leading.{places_lead, fits_from, words_from}
+use Rattle.parking_lot.proofs.Paths.{comes_here, comes_on, comes_from, comes_to_end}
 use Rattle.parking_lot.proofs.Turning.{words_on}
 use Rattle.parking_lot.proofs.driver.run.Goals as goal
 
@@ -27,16 +27,20 @@ loop-init g c = record {
 
 pub loop-preserved : goal.loop-preserved
 loop-preserved g c = let p = c.loop.place in let t = c.turn-reply in let reply = t.result in let new = t.new.token in
-    let before = c.loop.invariant in let next = c.advance-next.ensures.place in
+    let before = c.loop.invariant in let next = c.advance-next.ensures.place in let from = c.go_from-place.ensures in
     let none : answer_of (next_act c.loop.place c.turn-reply.result) ≡ None = search rules in
     let reached : (base : List Ownership) → Fits (IsUp g.C.Clock.tells c.args.limit) base c.args.start (stage_of c.args.token.now None) → ReachedBy (IsUp g.C.Clock.tells c.args.limit) base (aim_of c.loop.place) (next_place c.loop.place c.turn-reply.result) None (stage_of c.turn-reply.new.token c.turn-reply.new.section)
-    = λ (base : List Ownership) fits. subst (λ (o : Option Answer). ReachedBy (IsUp g.C.Clock.tells c.args.limit) base (aim_of c.loop.place) (next_place c.loop.place c.turn-reply.result) o (stage_of c.turn-reply.new.token c.turn-reply.new.section)) none (t.ensures.reached base (before.fits base fits)) in record {
+    = λ (base : List Ownership) fits. subst (λ (o : Option Answer). ReachedBy (IsUp g.C.Clock.tells c.args.limit) base (aim_of c.loop.place) (next_place c.loop.place c.turn-reply.result) o (stage_of c.turn-reply.new.token c.turn-reply.new.section)) none (t.ensures.reached base (before.fits base fits)) in
+    let words_then = subst (λ (q : Place). AreWordsFor q (kind_in c.args.words) (at_in c.args.words)) (sym next) (words_on p reply (kind_in c.args.words) (at_in c.args.words) before.words) in
+    let goes_from : (base : List Ownership) → Fits (IsUp g.C.Clock.tells c.args.limit) base c.args.start (stage_of c.args.token.now None) → Fits (IsUp g.C.Clock.tells c.args.limit) base c.go_from-place.result (stage_of c.turn-reply.new.token c.turn-reply.new.section) × (aim_of c.go_from-place.result ≡ aim_of c.advance-next.result.0)
+    = λ (base : List Ownership) fits. fits_from (IsUp g.C.Clock.tells c.args.limit) (kind_in c.args.words) (at_in c.args.words) base c.advance-next.result.0 c.go_from-place.result (stage_of new t.new.section) from words_then
+    (subst (λ (q : Place). Fits (IsUp g.C.Clock.tells c.args.limit) base q (stage_of c.turn-reply.new.token c.turn-reply.new.section)) (sym next) (reached base fits).0) in record {
       turns = (tt, tt);
       own = ((t.ensures.own.0.0, t.ensures.own.0.1 ∙ before.own.0.1), t.ensures.own.1);
-      path = comes_on (at_in c.args.words) c.args.start p c.advance-next.result.0 (view_of c.args.token.now).steps (view_of c.loop.token).steps (view_of new).steps reply t.ensures.told.0 before.path t.ensures.told.1 t.ensures.told.2 next;
-      words = subst (λ (q : Place). AreWordsFor q (kind_in c.args.words) (at_in c.args.words)) (sym next) (words_on p reply (kind_in c.args.words) (at_in c.args.words) before.words);
-      fits = λ (base : List Ownership) fits. subst (λ (q : Place). Fits (IsUp g.C.Clock.tells c.args.limit) base q (stage_of c.turn-reply.new.token c.turn-reply.new.section)) (sym next) (reached base fits).0;
-      aim = ap aim_of next ∙ (reached c.requires.start.0 c.requires.start.1).1 ∙ before.aim;
+      path = comes_from (at_in c.args.words) c.args.start c.advance-next.result.0 c.go_from-place.result (view_of c.args.token.now).steps (view_of new).steps (comes_on (at_in c.args.words) c.args.start p c.advance-next.result.0 (view_of c.args.token.now).steps (view_of c.loop.token).steps (view_of new).steps reply t.ensures.told.0 before.path t.ensures.told.1 t.ensures.told.2 next) from;
+      words = words_from (kind_in c.args.words) (at_in c.args.words) c.advance-next.result.0 c.go_from-place.result from words_then;
+      fits = λ (base : List Ownership) fits. (goes_from base fits).0;
+      aim = (goes_from c.requires.start.0 c.requires.start.1).1 ∙ ap aim_of next ∙ (reached c.requires.start.0 c.requires.start.1).1 ∙ before.aim;
     }
 
 pub returns-in-Some-answer_of-clause-path : goal.returns-in-Some-answer_of-clause-path

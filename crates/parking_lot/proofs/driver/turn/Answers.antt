@@ -1,20 +1,15 @@
-use Rattle.std.proofs.Common.{◌∙◌, ◌++◌, List, sym, refl, ap, subst}
+use Rattle.std.proofs.Common.{List, sym, refl, subst}
 use Rattle.lot_base.specs.Clocks.{IsUp}
-use Rattle.lot_base.specs.declared.ops.Op.TheVariants.{Load}
 use Rattle.lot_steps.specs.Steps.{act_of}
 use Rattle.lot_acts.specs.declared.acts.Act.{Act}
-use Rattle.lot_words.specs.Indices.{word_index}
 use Rattle.lot_words.specs.declared.owners.Ownership.{Ownership}
-use Rattle.lot_words.specs.declared.views.View.{View}
-use Rattle.lot_words.specs.declared.words.Word.{Word}
 use Rattle.parking_lot_core.specs.Tokens.{view_of}
 use Rattle.parking_lot.specs.Fitting.{sleeper_at}
-use Rattle.parking_lot.specs.Paths.{step, spins}
-use Rattle.parking_lot.specs.Stages.{Needs, Became, Stepped, Adds, stage_of}
+use Rattle.parking_lot.specs.Stages.{Needs, Became, Adds, stage_of}
 use Rattle.parking_lot.specs.Words.{kind_in, at_in}
 use Rattle.parking_lot.specs.declared.acting.Sleeper.{Sleeper}
 use Rattle.parking_lot.proofs.Leading.{places_lead}
-use Rattle.parking_lot.proofs.Turning.{told, by_stage}
+use Rattle.parking_lot.proofs.Turning.{told}
 use Rattle.parking_lot.proofs.driver.turn.Goals as goal
 
 pub perform-requires-clause-needs : goal.perform-requires-clause-needs
@@ -33,16 +28,3 @@ returns-clause-reached g c = let words = c.args.words in let st = stage_of c.arg
     let slept = subst (λ (s : Sleeper). Became (IsUp g.C.Clock.tells c.args.limit) (kind_in c.args.words) (at_in c.args.words) s (stage_of c.args.token.now c.args.section.now) c.act.result c.perform.result (stage_of c.perform.new.token c.perform.new.section)) c.sleeper.ensures c.perform.ensures.became in
     let became = subst (λ (a : Act). Became (IsUp g.C.Clock.tells c.args.limit) (kind_in c.args.words) (at_in c.args.words) (sleeper_at c.args.place) (stage_of c.args.token.now c.args.section.now) a c.perform.result (stage_of c.perform.new.token c.perform.new.section)) c.act.ensures slept in
     λ (base : List Ownership) fits. (places_lead (IsUp g.C.Clock.tells c.args.limit) (kind_in words) (at_in words) base c.args.place st c.requires.words fits).2 c.perform.result (stage_of c.perform.new.token c.perform.new.section) became
-
-pub returns-then-loads-lt-MOST_LOADS-clause-told : goal.returns-then-loads-lt-MOST_LOADS-clause-told
-returns-then-loads-lt-MOST_LOADS-clause-told g c = let old = (view_of c.args.token.now).steps in let seen = c.spin-seen.result in (
-  step (at_in c.args.words c.in-Some.lock) Load c.spin-seen.result,
-  ap (λ (v : View). v.steps) c.spin-seen.ensures.stepped ∙ ap (λ (w : Word). (view_of c.args.token.now).steps ++ step (word_index w.number w.kind) Load c.spin-seen.result) c.of.ensures,
-  spins c.args.place c.in-Some.lock c.spin-seen.result (sym c.spin_lock.ensures ∙ c.in-Some.is),
-)
-
-pub returns-then-loads-lt-MOST_LOADS-clause-reached : goal.returns-then-loads-lt-MOST_LOADS-clause-reached
-returns-then-loads-lt-MOST_LOADS-clause-reached g c = let words = c.args.words in let st = stage_of c.args.token.now c.args.section.now in let new = c.spin-seen.new.token in
-    let stepped = by_stage c.of.result Load c.spin-seen.result c.args.token.now c.args.section.now new c.spin-seen.ensures.stepped c.spin-seen.ensures.own.1 c.spin-seen.ensures.coded in
-    let found = subst (λ (w : Word). Stepped w.kind (word_index w.number w.kind) Load c.spin-seen.result (stage_of c.args.token.now c.args.section.now) (stage_of c.spin-seen.new.token c.args.section.now)) c.of.ensures stepped in
-    λ (base : List Ownership) fits. ((places_lead (IsUp g.C.Clock.tells c.args.limit) (kind_in words) (at_in words) base c.args.place st c.requires.words fits).1 c.in-Some.lock (sym c.spin_lock.ensures ∙ c.in-Some.is)).1 c.spin-seen.result (stage_of new c.args.section.now) found

@@ -1,0 +1,48 @@
+-- From where a thread looks at the word once more: in the same call, with the same row, and about to load.
+use Rattle.std.proofs.Common.{ℕ, Bool, true, false, Some, None, if◌then◌else◌, ◌≡◌, refl, sym, subst}
+use Rattle.lot_base.specs.declared.ops.Op.TheVariants.{Load}
+use Rattle.lot_acts.specs.declared.acts.Act.TheVariants.{Word}
+use Rattle.lot_mutex.specs.declared.lock.Entry.{Entry}
+use Rattle.lot_mutex.specs.declared.places.MutexPlace.{MutexPlace}
+use Rattle.lot_mutex.specs.declared.places.MutexPlace.TheVariants.{Lock}
+use Rattle.lot_mutex.specs.declared.lock.LockAt.TheVariants as lock
+use Rattle.lot_mutex.specs.MutexSteps.{mutex_looking}
+use Rattle.lot_steps.specs.declared.places.Place.{Place}
+use Rattle.lot_steps.specs.declared.places.Place.TheVariants.{Idle, Mutex}
+use Rattle.lot_steps.specs.Steps.{act_of, lock_of, looking, in_mutex, profile}
+use Rattle.lot_machine.specs.Fits.{PlaceFits}
+
+pub record IsLook (p q : Place) : Type 0 where
+  pub lock : ℕ
+  pub before : lock_of p ≡ Some lock
+  pub now : lock_of q ≡ Some lock
+  pub loads : act_of q ≡ Word lock Load
+  pub row : profile q ≡ profile p
+  pub fits : (locks : ℕ) → PlaceFits locks p → PlaceFits locks q
+
+some_is : (p q : Place) → Some p ≡ Some q → p ≡ q
+some_is p q e = cc
+
+pub look : (p q : Place) → looking p ≡ Some q → IsLook p q
+look Idle q is = absurd cc
+look (Mutex l at) q is = mutex_look at is
+  where
+    by_mark : (b : Bool) (at at2 : MutexPlace) → IsLook (Mutex l at) (Mutex l at2) → in_mutex l (if b then Some at2 else None) ≡ Some q → IsLook (Mutex l at) q
+    by_mark true at at2 h is = subst (IsLook (Mutex l at)) (some_is (Mutex l at2) q is) h
+    by_mark false at at2 h is = absurd cc
+
+    mutex_look : (at : MutexPlace) → in_mutex l (mutex_looking at) ≡ Some q → IsLook (Mutex l at) q
+    mutex_look (Lock e again (lock.Decide seen)) is =
+        by_mark _ (Lock e again (lock.Decide seen)) (Lock e again lock.Load) (record { lock = l; before = refl; now = refl; loads = refl; row = refl; fits = λ locks h. (h.0, tt) }) is
+    mutex_look (Lock e again to) is = absurd cc
+    mutex_look at is = absurd cc
+
+-- who looks at a mutex's word enters it
+pub mutex_looks : (l : ℕ) (at : MutexPlace) (q : Place) → looking (Mutex l at) ≡ Some q → (e : Entry) × (again : Bool) × (q ≡ Mutex l (Lock e again lock.Load))
+mutex_looks l (Lock e again (lock.Decide seen)) q is = by_mark _ is
+  where
+    by_mark : (b : Bool) → in_mutex l (if b then Some (Lock e again lock.Load) else None) ≡ Some q → (e : Entry) × (again : Bool) × (q ≡ Mutex l (Lock e again lock.Load))
+    by_mark true is = (e, again, sym (some_is (Mutex l (Lock e again lock.Load)) q is))
+    by_mark false is = absurd cc
+mutex_looks l (Lock e again to) q is = absurd cc
+mutex_looks l at q is = absurd cc
