@@ -1,5 +1,5 @@
 -- Who owes a wake does so since it saw waiters, or since it entered the section.
-use Rattle.std.proofs.Common.{◌∷◌, [], ℕ, Bool, true, false, Option, Some, None, if◌then◌else◌, ◌==◌, ◌≡◌, ◌≢◌, ◌<◌, ◌⊎◌, ◌↔◌, inl, inr, List, length, set, get_or, refl, sym, ◌∙◌, ap, subst, get_or-set_other, get_or-set_same, nat_lt, map, is_some, length-set}
+use Rattle.std.proofs.Common.{◌∷◌, [], ℕ, Bool, true, false, Option, Some, None, if◌then◌else◌, ◌≡◌, ◌≢◌, ◌<◌, ◌⊎◌, ◌↔◌, inl, inr, List, length, set, get_or, refl, sym, ◌∙◌, ap, subst, get_or-set_other, get_or-set_same, nat_lt, map, is_some, length-set}
 use Rattle.std.proofs.Math.ListN.{get_or-map}
 use Rattle.std.proofs.lemmas.Bool.{cases_eq, cases_lt, ltb-true}
 use Rattle.std.proofs.lemmas.List.{set_past}
@@ -19,16 +19,14 @@ use Rattle.lot_acts.specs.declared.acts.Wakes.{Wakes}
 use Rattle.lot_acts.specs.declared.acts.Wakes as wakes
 use Rattle.lot_acts.specs.declared.acts.Reply.{Reply}
 use Rattle.lot_acts.specs.declared.acts.Reply.TheVariants.{TakenBy, MovedTo, HandedBy, Woken, Late}
-use Rattle.lot_mutex.specs.declared.places.MutexPlace.TheVariants.{Lock, TryLock, Unlock, UnlockFair, Bump, HandOff}
-use Rattle.lot_mutex.specs.declared.lock.LockAt.TheVariants as lock
 use Rattle.lot_steps.specs.declared.places.Place.{Place}
-use Rattle.lot_steps.specs.declared.places.Place.TheVariants.{Idle, Mutex}
+use Rattle.lot_steps.specs.declared.places.Place.TheVariants.{Idle}
 use Rattle.lot_acts.specs.Acts.{holds}
 use Rattle.lot_acts.specs.declared.acts.Whom as whom
 use Rattle.lot_acts.specs.Owners.{is_thread}
 use Rattle.lot_calls.specs.Calls.{lock_in}
 use Rattle.lot_steps.specs.Steps.{act_of, next_place, first_place, is_idle, looking, late_key, taker, lock_of, line_owed, profile}
-use Rattle.lot_machine.specs.Machine.{State, places_told, listed, moved_threads, closed_place, state_after_going, place_at, word_at, queues_without_first, state_after_taking, state_after_wake, state_with_sections, queue_at, state_after_act, state_after_go, go_reply, go_outcome, is_there, is_free_under, is_open_to, can_begin, state_after_begin, can_turn, turn_outcome, kind_at, reply_to, put, state_after_look, look_outcome, state_after_late_on, state_after_turn, is_possible, after, step_outcome, place_after_telling}
+use Rattle.lot_machine.specs.Machine.{State, places_told, listed, moved_threads, closed_place, state_after_going, place_at, word_at, queues_without_first, state_after_taking, state_after_wake, state_with_sections, queue_at, state_after_act, state_after_go, go_reply, go_outcome, is_free_under, is_open_to, can_begin, state_after_begin, can_turn, turn_outcome, kind_at, put, state_after_look, look_outcome, state_after_late_on, state_after_turn, is_possible, after, step_outcome, place_after_telling}
 use Rattle.lot_base.specs.Lines.{threads_of}
 use Rattle.lot_base.specs.Picks.{lock_picked}
 use Rattle.lot_base.specs.Requeues.{taken_by}
@@ -39,7 +37,7 @@ use Rattle.lot_world.specs.Owing.{Owes, IsInside, SeesWaiters, OwesSince, LetsOt
 use Rattle.lot_machine.specs.Fits.{IsShaped}
 use Rattle.abstract_locks.specs.Sites.{Line}
 use Rattle.lot_world.specs.SitesOf.{IsSteady}
-use Rattle.lot_machine.proofs.Shape.{both, looking_shaped, performed_counts}
+use Rattle.lot_machine.proofs.Shape.{both, performed_counts}
 use Rattle.lot_world.proofs.TurnsKept.{idle_is, after_steady}
 use Rattle.lot_world.proofs.Glue.{IsLock, next_of, calls_none}
 use Rattle.lot_world.proofs.Looking.{looking_steady, calls_same}
