@@ -10,6 +10,12 @@ use Rattle.lot_calls.specs.declared.calls.MutexCall.{MutexCall}
 pub use Rattle.lot_calls.specs.declared.calls.Patience.{Patience}
 pub use Rattle.lot_calls.specs.declared.calls.Patience.TheVariants.{Patient, Timed, Try}
 use Rattle.lot_calls.specs.declared.calls.MutexCall as mutex_call
+use Rattle.lot_calls.specs.declared.calls.Access.{Access}
+use Rattle.lot_calls.specs.declared.calls.Access.TheVariants as access
+use Rattle.lot_calls.specs.declared.calls.Downgrade.{Downgrade}
+use Rattle.lot_calls.specs.declared.calls.Downgrade.TheVariants as downgrade
+use Rattle.lot_calls.specs.declared.calls.RwLockCall.{RwLockCall}
+use Rattle.lot_calls.specs.declared.calls.RwLockCall.TheVariants as rwlock_call
 use Rattle.abstract_locks.specs.Locks.{Rules, Mutex, Normal, Recursive, LockCase, Enter, Pend, Settle, Leave, Convert, Park, Aside, TakeFirst, TakeAside, TakePicked, Wake, HandOff, Late, Rollback}
 
 -- what a call of a lock is for
@@ -27,6 +33,27 @@ mutex_purpose fair l mutex_call.TheVariants.TryLock = Enters l Exclusive Try
 mutex_purpose fair l mutex_call.TheVariants.Unlock = Releases l Exclusive fair
 mutex_purpose fair l mutex_call.TheVariants.UnlockFair = Releases l Exclusive true
 mutex_purpose fair l mutex_call.TheVariants.Bump = Bumps l Exclusive
+
+-- what a thread wants that is to have a right
+abbrev pub wanted : Access → Want
+wanted access.Shared = Shared
+wanted access.Upgradable = Upgradable
+wanted access.Exclusive = Exclusive
+
+-- the greater right of a downgrade, and the lesser one
+abbrev pub from_of : Downgrade → Access
+from_of downgrade.UpgradableToShared = access.Upgradable
+from_of d = access.Exclusive
+
+abbrev pub to_of : Downgrade → Access
+to_of downgrade.ToUpgradable = access.Upgradable
+to_of d = access.Shared
+
+abbrev pub rwlock_purpose : ℕ → RwLockCall → Purpose
+rwlock_purpose l (rwlock_call.Enter x how) = Enters l (wanted x) how
+rwlock_purpose l (rwlock_call.Release x) = Releases l (wanted x) false
+rwlock_purpose l (rwlock_call.Downgrade d) = Converts l (wanted (from_of d)) (wanted (to_of d)) Patient
+rwlock_purpose l (rwlock_call.Upgrade how) = Converts l Upgradable Exclusive how
 
 -- what a call of a lock of this kind is for; nothing where the kind lacks the call
 abbrev pub purpose_of : Kind → Call → Option Purpose

@@ -4,6 +4,7 @@ use Rattle.std.specs.Prelude.{ℕ, Bool, true, false, Option, Some, None, ◌≡
 use Rattle.lot_base.specs.declared.keys.Keys.TheVariants.{One}
 use Rattle.lot_base.specs.declared.notes.Note.TheVariants.{Normal}
 use Rattle.lot_base.specs.declared.wants.Want.{Want}
+use Rattle.lot_base.specs.declared.wants.Want.TheVariants.{Exclusive}
 use Rattle.lot_base.specs.Keys.{key_of}
 use Rattle.lot_acts.specs.declared.acts.Act.{Act}
 use Rattle.lot_acts.specs.declared.acts.Act.TheVariants as act
@@ -18,7 +19,7 @@ use Rattle.lot_acts.specs.Acts.{holds, wakes_taken, any_picked}
 use Rattle.lot_acts.specs.Profiles.{Profile, blank, hand, in_hand}
 use Rattle.lot_acts.specs.Stations.{Station, station_by, nowhere}
 use Rattle.abstract_locks.specs.Locks.{Rules, Aside, HandOff, Late as GivesUp, Park, TakeAside, TakePicked, standing, times, unpicked, without}
-use Rattle.abstract_locks.specs.Sites.{Site, Deed, Line, Main, Second, End, In, Out, Mark, Clear, FindNobody, Case, is_empty}
+use Rattle.abstract_locks.specs.Sites.{Site, Pends, Deed, Line, Main, Second, End, In, Out, Mark, Clear, FindNobody, Case, is_empty}
 use Rattle.abstract_locks.specs.Codes.{code}
 
 -- the row of the next place, or of none
@@ -93,8 +94,9 @@ takes_aside (Some u) = Case (TakeAside u)
 
 -- ---------------------------------------------------------------- acts
 
--- it stays where it is, in nobody's hand
+-- it stays where it is, in no line and in nobody's hand
 pub record Stays (x : Move) : Type 0 where
+  pub out : (station_of x).stands ≡ None
   pub free : (station_of x).hand ≡ None
   pub deeds : (seen : ℕ) → AreOfWord (x.deeds None (Value seen))
   pub goes : (seen : ℕ) → station_then x (Value seen) ≡ station_of x
@@ -149,18 +151,18 @@ pub record GoesOut (x : Move) (hears : Hears) (m : Line) (wakes : Wakes) : Type 
   pub goes : station_then x Done ≡ record (station_of x) { inside = None; carries = None }
   pub may : (r : Rules) (s : Site) (t : ℕ) → s.lock.taken t ≡ None → hears r s t None Done
 
--- at a lock, by the act
-abbrev pub Moves : ℕ → Move → Hears → Act → Type 0
-Moves l x hears (act.Word k op) = (k ≡ l) × Stays x
-Moves l x hears (act.Enter keys) = (m : Line) × (keys ≡ One (key_of l m)) × GoesIn x hears m Done
-Moves l x hears (act.Park k key check want) = (m : Line) × (k ≡ l) × (key ≡ key_of l m) × Parks x hears m check want
-Moves l x hears (act.Take key (whom.TheVariants.Picked start recursive)) = (key ≡ key_of l Main) × Picks x hears start
-Moves l x hears (act.Take key whom.TheVariants.First) = (key ≡ key_of l Second) × TakesAside x hears
-Moves l x hears (act.Remove key) = (m : Line) × (key ≡ key_of l m) × LeavesLine x hears m
-Moves l x hears (act.Leave keys wakes) = (m : Line) × (keys ≡ One (key_of l m)) × GoesOut x hears m wakes
-Moves l x hears act.Sleep = Unit {0}
-Moves l x hears (act.End answer) = Unit {0}
-Moves l x hears act = ⊥
+-- at a lock, which is recursive or not, by the act
+abbrev pub Moves : ℕ → Bool → Move → Hears → Act → Type 0
+Moves l recursive x hears (act.Word k op) = (k ≡ l) × Stays x
+Moves l recursive x hears (act.Enter keys) = (m : Line) × (keys ≡ One (key_of l m)) × GoesIn x hears m Done
+Moves l recursive x hears (act.Park k key check want) = (m : Line) × (k ≡ l) × (key ≡ key_of l m) × Parks x hears m check want
+Moves l recursive x hears (act.Take key (whom.TheVariants.Picked start b)) = (key ≡ key_of l Main) × (b ≡ recursive) × Picks x hears start
+Moves l recursive x hears (act.Take key whom.TheVariants.First) = (key ≡ key_of l Second) × TakesAside x hears
+Moves l recursive x hears (act.Remove key) = (m : Line) × (key ≡ key_of l m) × LeavesLine x hears m
+Moves l recursive x hears (act.Leave keys wakes) = (m : Line) × (keys ≡ One (key_of l m)) × GoesOut x hears m wakes
+Moves l recursive x hears act.Sleep = Unit {0}
+Moves l recursive x hears (act.End answer) = Unit {0}
+Moves l recursive x hears act = ⊥
 
 -- ---------------------------------------------------------------- what befalls a thread asleep
 
@@ -180,7 +182,8 @@ pub record IsHeld (x : Move) (u : ℕ) : Type 0 where
   pub woken : station_then x (Woken Normal) ≡ nowhere
   pub doing : (x.next (Woken Normal)).doing ≡ record x.row.doing { retries = Some want }
 
--- who stands in a line sleeps there or is inside its section, and who is in a hand is so to be woken
+-- who stands in a line sleeps there or is inside its section, only a pending writer stands aside, and who is in a hand is so to be woken
 pub record Waits (x : Move) : Type 0 where
+  pub aside : x.row.stands ≡ Some Second → (x.row.wants ≡ Some Exclusive) × ((falls_back : Bool) × (x.row.doing.claims ≡ Some (Pends falls_back)))
   pub stands : (m : Line) → x.row.stands ≡ Some m → ((station_of x).inside ≡ Some m) ⊎ Sleeps x m
   pub held : (u : ℕ) (handed : Bool) → x.row.hand ≡ hand u handed → (handed ≡ false) × IsHeld x u

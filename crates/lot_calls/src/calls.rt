@@ -20,6 +20,7 @@ pub enum MutexCall {
 #[derive(Clone, Copy, Debug, PartialEq, Eq)]
 pub enum Call {
     Mutex { lock: usize, call: MutexCall },
+    RwLock { lock: usize, call: RwLockCall },
 }
 
 /// A right to a reader-writer lock.
@@ -52,6 +53,19 @@ pub enum Patience {
     Try,
 }
 
+/// The calls of a reader-writer lock.
+#[derive(Clone, Copy, Debug, PartialEq, Eq)]
+pub enum RwLockCall {
+    /// Waits for a right.
+    Enter { access: Access, patience: Patience },
+    /// Needs the right that it gives up.
+    Release(Access),
+    /// Needs the greater right, and has the lesser one behind it.
+    Downgrade(Downgrade),
+    /// Turns the upgradable right, which it needs, into the exclusive one.
+    Upgrade(Patience),
+}
+
 /// What a thread is to do.
 #[derive(Clone, Copy, Debug, PartialEq, Eq)]
 pub enum Turn {
@@ -82,7 +96,7 @@ impl Call {
         ensures { result ≡ lock_in self }
     {
         match self {
-            Call::Mutex { lock, .. } => lock,
+            Call::Mutex { lock, .. } | Call::RwLock { lock, .. } => lock,
         }
     }
 }

@@ -1,5 +1,5 @@
 -- From where a thread looks at the word once more: in the same call, with the same row, and about to load.
-use Rattle.std.proofs.Common.{ℕ, Bool, true, false, Some, None, if◌then◌else◌, ◌≡◌, refl, sym, subst}
+use Rattle.std.proofs.Common.{ℕ, Bool, true, false, Option, Some, None, if◌then◌else◌, ◌≡◌, refl, sym, subst}
 use Rattle.lot_base.specs.declared.ops.Op.TheVariants.{Load}
 use Rattle.lot_acts.specs.declared.acts.Act.TheVariants.{Word}
 use Rattle.lot_mutex.specs.declared.lock.Entry.{Entry}
@@ -7,9 +7,16 @@ use Rattle.lot_mutex.specs.declared.places.MutexPlace.{MutexPlace}
 use Rattle.lot_mutex.specs.declared.places.MutexPlace.TheVariants.{Lock}
 use Rattle.lot_mutex.specs.declared.lock.LockAt.TheVariants as lock
 use Rattle.lot_mutex.specs.MutexSteps.{mutex_looking}
+use Rattle.lot_rwlock.specs.declared.places.Admission.{Admission}
+use Rattle.lot_rwlock.specs.declared.places.RwLockPlace.{RwLockPlace}
+use Rattle.lot_rwlock.specs.declared.places.RwLockAt.{RwLockAt}
+use Rattle.lot_rwlock.specs.declared.places.RwLockAt.TheVariants as at
+use Rattle.lot_rwlock.specs.RwLockSteps.{rwlock_act}
+use Rattle.lot_rwlock.specs.RwLockProfiles.{rwlock_looking, looking_at, gone_to}
+use Rattle.lot_rwlock.proofs.RwLockCallPlaces.{rwlock_looks_stand}
 use Rattle.lot_steps.specs.declared.places.Place.{Place}
-use Rattle.lot_steps.specs.declared.places.Place.TheVariants.{Idle, Mutex}
-use Rattle.lot_steps.specs.Steps.{act_of, lock_of, looking, in_mutex, profile}
+use Rattle.lot_steps.specs.declared.places.Place.TheVariants.{Idle, Mutex, RwLock}
+use Rattle.lot_steps.specs.Steps.{act_of, lock_of, looking, in_mutex, in_rwlock, profile}
 use Rattle.lot_machine.specs.Fits.{PlaceFits}
 
 pub record IsLook (p q : Place) : Type 0 where
@@ -23,8 +30,27 @@ pub record IsLook (p q : Place) : Type 0 where
 some_is : (p q : Place) → Some p ≡ Some q → p ≡ q
 some_is p q e = cc
 
+-- a look of a reader-writer call
+rwlock_look : (l : ℕ) (a : Admission) (p : RwLockPlace) (q : Place) → in_rwlock l a (rwlock_looking a p) ≡ Some q → IsLook (RwLock l a p) q
+rwlock_look l a p q is = by_place (rwlock_looking a p) refl is
+  where
+    loads : (to : RwLockAt) (p2 : RwLockPlace) → gone_to p (looking_at a p to) ≡ Some p2 → rwlock_act l a p2 ≡ Word l Load
+    loads (at.Decide seen) p2 e = by_mark _ e
+      where
+        by_mark : (b : Bool) → gone_to p (if b then Some at.Load else None) ≡ Some p2 → rwlock_act l a p2 ≡ Word l Load
+        by_mark true e = let there : record p { at = at.Load } ≡ p2 = cc in subst (λ x. rwlock_act l a x ≡ Word l Load) there refl
+        by_mark false e = absurd cc
+    loads (at.Count seen) p2 e = let there : record p { at = at.Look } ≡ p2 = cc in subst (λ x. rwlock_act l a x ≡ Word l Load) there refl
+    loads to p2 e = absurd cc
+
+    by_place : (o : Option RwLockPlace) → rwlock_looking a p ≡ o → in_rwlock l a o ≡ Some q → IsLook (RwLock l a p) q
+    by_place None e is = absurd cc
+    by_place (Some p2) e is = subst (IsLook (RwLock l a p)) (some_is (RwLock l a p2) q is)
+        (record { lock = l; before = refl; now = refl; loads = loads p.at p2 e; row = (rwlock_looks_stand a p p2 e).0; fits = λ locks h. h })
+
 pub look : (p q : Place) → looking p ≡ Some q → IsLook p q
 look Idle q is = absurd cc
+look (RwLock l a at) q is = rwlock_look l a at q is
 look (Mutex l at) q is = mutex_look at is
   where
     by_mark : (b : Bool) (at at2 : MutexPlace) → IsLook (Mutex l at) (Mutex l at2) → in_mutex l (if b then Some at2 else None) ≡ Some q → IsLook (Mutex l at) q

@@ -408,7 +408,7 @@ close_outcome w t succeeded = going_outcome w t (closed_place w t succeeded)
 
 -- the lock is there, has the call, and the thread has the right that the call needs
 abbrev pub is_open_to : State → ℕ → Call → Bool
-is_open_to w t call = nat_lt (lock_in call) (length w.locks) && (has_call (kind_at w (lock_in call)) call && has_right call t (owners_at w (lock_in call)))
+is_open_to w t call = nat_lt (lock_in call) (length w.locks) && (has_call (kind_at w (lock_in call)) call && has_right call t (owners_at w (lock_in call)) (share_at w (lock_in call) t))
 
 abbrev pub can_begin : State → ℕ → Call → Bool
 can_begin w t call = is_idle (place_at w t) && is_open_to w t call

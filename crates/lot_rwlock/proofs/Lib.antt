@@ -8,3 +8,4 @@ pub mod RwLockCallSections
 pub mod RwLockCallPlaces
 pub mod RwLockStands
 pub mod RwLockMoves
+pub mod RwLockOpenings

@@ -130,10 +130,10 @@ module _ (r : Rules) (s : Site) (t : ℕ) (rw_sort : has_readers r.sort ≡ true
 
 -- ---------------------------------------------------------------- sums that don't wrap
 
-fits_even : (v : ℕ) → v < 2 ^ 64 → has_parked v ≡ false → (v + 1) % 2 ^ 64 ≡ v + 1
+pub fits_even : (v : ℕ) → v < 2 ^ 64 → has_parked v ≡ false → (v + 1) % 2 ^ 64 ≡ v + 1
 fits_even v lt e = grind (arith, nat_tests)
 
-fits_aside : (v : ℕ) → v < 2 ^ 64 → has_aside v ≡ false → (v + 2) % 2 ^ 64 ≡ v + 2
+pub fits_aside : (v : ℕ) → v < 2 ^ 64 → has_aside v ≡ false → (v + 2) % 2 ^ 64 ≡ v + 2
 fits_aside v lt e = grind (arith, nat_tests)
 
 fits_writer : (v : ℕ) → v < 2 ^ 64 → (has_writer v || has_upgradable v) ≡ false → (v + 8) % 2 ^ 64 ≡ v + 8
@@ -158,7 +158,7 @@ marks_unset : (b : Bool) → waits b ≡ decisions.Mark → b ≡ false
 marks_unset true e = absurd cc
 marks_unset false e = refl
 
-blocked_unset : (how : Patience) (v : ℕ) → decision_blocked how v ≡ decisions.Mark → has_parked v ≡ false
+pub blocked_unset : (how : Patience) (v : ℕ) → decision_blocked how v ≡ decisions.Mark → has_parked v ≡ false
 blocked_unset Try v e = absurd cc
 blocked_unset Patient v e = marks_unset (has_parked v) e
 blocked_unset Timed v e = marks_unset (has_parked v) e

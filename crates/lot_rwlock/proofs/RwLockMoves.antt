@@ -19,7 +19,7 @@ use Rattle.lot_acts.specs.Moves.{Move, Stays, GoesIn, Moves, Sleeps, IsHeld, Wai
 use Rattle.lot_acts.specs.Acts.{any_picked}
 use Rattle.lot_acts.specs.Profiles.{hand, in_hand}
 use Rattle.lot_acts.specs.Stations.{Station, station_by, nowhere}
-use Rattle.abstract_locks.specs.Sites.{Case, End, Mark}
+use Rattle.abstract_locks.specs.Sites.{Pends, Case, End, Mark}
 use Rattle.abstract_locks.specs.Locks.{Enter, Settle, Leave, Convert, Rollback}
 use Rattle.abstract_locks.specs.Codes.{count_in, has_aside, has_parked}
 use Rattle.lot_rwlock.specs.declared.places.Admission.{Admission}
@@ -35,7 +35,7 @@ use Rattle.lot_rwlock.specs.declared.park.ParkAt.TheVariants as parking
 use Rattle.lot_rwlock.specs.declared.release.WakeAt.{WakeAt}
 use Rattle.lot_rwlock.specs.declared.release.WakeAt.TheVariants as waking
 use Rattle.lot_rwlock.specs.RwLockSteps.{wanted, from_of, to_of, access_of, patience_of, start_of, exchange, decided, decided_for, decided_act, looked_by, looked, missed, stays, goes, came_in, exchanged_next, parks_at, wakes, released, gave_way_by, took, entered, plus, rwlock_act}
-use Rattle.lot_rwlock.specs.RwLockDeeds.{at_rest, claimed, missed_deeds, looked_deeds, enters_deeds, exchanged_deeds, does_and_wakes, gives_deeds, sees_waiter, takes, leaves_with}
+use Rattle.lot_rwlock.specs.RwLockDeeds.{at_rest, claimed, falls_back, missed_deeds, looked_deeds, enters_deeds, exchanged_deeds, does_and_wakes, gives_deeds, sees_waiter, takes, leaves_with}
 use Rattle.lot_rwlock.specs.RwLockProfiles.{rwlock_profile, late_line_at, wants_for}
 use Rattle.lot_rwlock.specs.RwLockCalls.{StandsAt, next_row}
 use Rattle.lot_rwlock.specs.RwLockMoves.{rwlock_move, rwlock_hears, RwLockActsMove, RwLockSleepersMove, RwLockLateMove}
@@ -45,7 +45,7 @@ module _ (l : ℕ) (a : Admission) where
   of q again to = record { purpose = q; retries = again; at = to }
 
   abbrev MovesAt : RwLockPlace → Type 0
-  MovesAt p = Moves l (rwlock_move a p) (rwlock_hears a p) (rwlock_act l a p)
+  MovesAt p = Moves l a.recursive (rwlock_move a p) (rwlock_hears a p) (rwlock_act l a p)
 
   abbrev station_next : Next RwLockPlace → Station
   station_next n = station_by (row_of (next_row a n))
@@ -176,22 +176,24 @@ module _ (l : ℕ) (a : Admission) where
   module _ (q : RwLockPurpose) (again : Bool) where
     decides_word : (was : ℕ) → Stays (rwlock_move a (of q again (at.Decide was)))
     decides_word was = record {
+      out = refl;
       free = refl;
       deeds = λ seen. exchanged_word q (decided_for a q was) (decided_for a q seen) (seen == was);
       goes = λ seen. exchanged_rest q again was seen (decided_for a q was);
     }
 
-    decides : (was : ℕ) (d : Decision) → decided_for a q was ≡ d → Moves l (rwlock_move a (of q again (at.Decide was))) (rwlock_hears a (of q again (at.Decide was))) (decided_act l q was d)
+    decides : (was : ℕ) (d : Decision) → decided_for a q was ≡ d → Moves l a.recursive (rwlock_move a (of q again (at.Decide was))) (rwlock_hears a (of q again (at.Decide was))) (decided_act l q was d)
     decides was decisions.Take e = (refl, decides_word was)
     decides was decisions.Mark e = (refl, decides_word was)
     decides was decisions.Park e = (Main, refl, record { out = refl; free = refl; deeds = refl; goes = refl; may = λ r s t free. (e, free) })
     decides was (decisions.Refuse answer) e = tt
 
-    counts : (was : ℕ) (b : Bool) → has_aside was ≡ b → Moves l (rwlock_move a (of q again (at.Count was))) (rwlock_hears a (of q again (at.Count was))) (if b then act.Enter (One (2 * l + 1)) else exchange l was (plus was 2))
+    counts : (was : ℕ) (b : Bool) → has_aside was ≡ b → Moves l a.recursive (rwlock_move a (of q again (at.Count was))) (rwlock_hears a (of q again (at.Count was))) (if b then act.Enter (One (2 * l + 1)) else exchange l was (plus was 2))
     counts was true e = (Second, refl, record { out = refl; free = refl; deeds = refl; goes = refl; may = λ r s t free. free })
     counts was false e = (
       refl,
       record {
+        out = refl;
         free = refl;
         deeds = λ seen. counts_word (seen == was) (count_in seen == 0);
         goes = λ seen. counts_rest (of q again (at.Count was)) (plus was 2) seen (seen == was) (count_in seen == 0) (entered (patience_of q));
@@ -214,6 +216,7 @@ module _ (l : ℕ) (a : Admission) where
     wakes_move m waking.Enter = (m, refl, record { out = refl; free = refl; deeds = refl; goes = refl; may = λ r s t free. free })
     wakes_move Main waking.Take = (
       refl,
+      refl,
       record {
         was = refl;
         deeds = λ n y none_left. refl;
@@ -230,7 +233,7 @@ module _ (l : ℕ) (a : Admission) where
         may = λ r s t any none_left. refl;
       },
     )
-    wakes_move m (waking.Clear any) = (refl, record { free = refl; deeds = λ seen. tt; goes = λ seen. refl })
+    wakes_move m (waking.Clear any) = (refl, record { out = refl; free = refl; deeds = λ seen. tt; goes = λ seen. refl })
     wakes_move m (waking.Leave any) = (
       m,
       refl,
@@ -314,7 +317,7 @@ module _ (l : ℕ) (a : Admission) where
           left : (b : Bool) → station_by (rwlock_profile a (of q again (at.Park (if b then parking.Clear else parking.GiveUp)))) ≡ inside_of Main
           left true = refl
           left false = refl
-      parks_move parking.Clear = (refl, record { free = refl; deeds = λ seen. tt; goes = λ seen. refl })
+      parks_move parking.Clear = (refl, record { out = refl; free = refl; deeds = λ seen. tt; goes = λ seen. refl })
       parks_move parking.GiveUp = (
         Main,
         refl,
@@ -385,7 +388,7 @@ module _ (l : ℕ) (a : Admission) where
           may = λ r s t none_left alone. alone;
         },
       )
-      asides_move parking.Clear = (refl, record { free = refl; deeds = λ seen. tt; goes = λ seen. refl })
+      asides_move parking.Clear = (refl, record { out = refl; free = refl; deeds = λ seen. tt; goes = λ seen. refl })
       asides_move parking.GiveUp = (
         Second,
         refl,
@@ -404,7 +407,7 @@ module _ (l : ℕ) (a : Admission) where
   -- ---------------------------------------------------------------- every place
 
   first_move : (q : RwLockPurpose) (again : Bool) → MovesAt (of q again at.First)
-  first_move q again = (refl, record { free = refl; deeds = λ seen. word (seen == 0); goes = λ seen. rest (seen == 0) })
+  first_move q again = (refl, record { out = refl; free = refl; deeds = λ seen. word (seen == 0); goes = λ seen. rest (seen == 0) })
     where
       word : (b : Bool) → AreOfWord (if b then Case (Enter Exclusive) ∷ End ∷ [] else missed_deeds (patience_of q))
       word true = tt
@@ -433,14 +436,14 @@ module _ (l : ℕ) (a : Admission) where
 
   moves_all : (q : RwLockPurpose) (again : Bool) (to : RwLockAt) → StandsAt q again to → MovesAt (of q again to)
   moves_all q again at.First fits = first_move q again
-  moves_all q again at.Load fits = (refl, record { free = refl; deeds = λ seen. looks_deeds (decided_for a q seen); goes = λ seen. looks_rest (of q again at.Load) seen (decided_for a q seen) })
+  moves_all q again at.Load fits = (refl, record { out = refl; free = refl; deeds = λ seen. looks_deeds (decided_for a q seen); goes = λ seen. looks_rest (of q again at.Load) seen (decided_for a q seen) })
   moves_all q again (at.Decide was) fits = decides q again was (decided_for a q was) refl
   moves_all q again (at.Park to) fits = parks_only q again to fits
-  moves_all q again at.Look fits = (refl, record { free = refl; deeds = λ seen. settles_word (count_in seen == 0); goes = λ seen. settles_rest (of q again at.Look) seen (count_in seen == 0) (entered (patience_of q)) })
+  moves_all q again at.Look fits = (refl, record { out = refl; free = refl; deeds = λ seen. settles_word (count_in seen == 0); goes = λ seen. settles_rest (of q again at.Look) seen (count_in seen == 0) (entered (patience_of q)) })
   moves_all q again (at.Count was) fits = counts q again was (has_aside was) refl
   moves_all q again (at.Aside to) fits = asides_only q again to fits
-  moves_all q again at.RollBack fits = (refl, record { free = refl; deeds = λ seen. rolls_word (has_parked seen); goes = λ seen. wakes_rest (of q again at.RollBack) Main (has_parked seen) No })
-  moves_all q again at.GiveWay fits = (refl, record { free = refl; deeds = λ seen. gives_word q seen; goes = λ seen. gave_rest (of q again at.GiveWay) seen q })
+  moves_all q again at.RollBack fits = (refl, record { out = refl; free = refl; deeds = λ seen. rolls_word (has_parked seen); goes = λ seen. wakes_rest (of q again at.RollBack) Main (has_parked seen) No })
+  moves_all q again at.GiveWay fits = (refl, record { out = refl; free = refl; deeds = λ seen. gives_word q seen; goes = λ seen. gave_rest (of q again at.GiveWay) seen q })
   moves_all q again (at.Wake m to) fits = wakes_move q again m to
 
 pub rwlock_acts_move : RwLockActsMove
@@ -459,6 +462,11 @@ module _ (a : Admission) where
   abbrev StandsWell : RwLockPurpose → Bool → RwLockAt → Type 0
   StandsWell q again to =
       (m : Line) → (rwlock_profile a (place q again to)).stands ≡ Some m → ((station_of (move q again to)).inside ≡ Some m) ⊎ Sleeps (move q again to) m
+
+  abbrev AsideWell : RwLockPurpose → Bool → RwLockAt → Type 0
+  AsideWell q again to =
+      (rwlock_profile a (place q again to)).stands ≡ Some Second
+      → ((rwlock_profile a (place q again to)).wants ≡ Some Exclusive) × ((b : Bool) × ((rwlock_profile a (place q again to)).doing.claims ≡ Some (Pends b)))
 
   abbrev HeldWell : RwLockPurpose → Bool → RwLockAt → Type 0
   HeldWell q again to =
@@ -530,6 +538,27 @@ module _ (a : Admission) where
     )
     parks_held none to u handed e = absurd cc
 
+    -- who waits in the main line isn't aside
+    parks_aside : (to : ParkAt) → AsideWell q again (at.Park to)
+    parks_aside (parking.Leave true) e = absurd cc
+    parks_aside (parking.Leave false) e = absurd cc
+    parks_aside parking.Asleep e = absurd cc
+    parks_aside parking.Remove e = absurd cc
+    parks_aside to e = absurd cc
+
+    asides_aside : wants_for q ≡ Some Exclusive → (to : ParkAt) → AsideWell q again (at.Aside to)
+    asides_aside writes (parking.Leave true) e = (writes, (falls_back q, refl))
+    asides_aside writes (parking.Leave false) e = absurd cc
+    asides_aside writes parking.Asleep e = (writes, (falls_back q, refl))
+    asides_aside writes parking.Remove e = (writes, (falls_back q, refl))
+    asides_aside writes to e = absurd cc
+
+  -- only who is to write waits aside
+  asides_write : (x : Access) (how : Patience) (again : Bool) (to : ParkAt) → StandsAt (purpose.Enter x how) again (at.Aside to) → wants_for (purpose.Enter x how) ≡ Some Exclusive
+  asides_write access.Exclusive how again to fits = refl
+  asides_write access.Shared how again to fits = absurd fits
+  asides_write access.Upgradable how again to fits = absurd fits
+
   -- an upgrade waits aside alone
   never_parks : (how : Patience) (again : Bool) (to : ParkAt) → StandsAt (purpose.Upgrade how) again (at.Park to) → ⊥
   never_parks Try again to fits = fits
@@ -545,15 +574,15 @@ module _ (a : Admission) where
   never_released access.Exclusive again to Second fits = fits
 
   waits_all : (q : RwLockPurpose) (again : Bool) (to : RwLockAt) → StandsAt q again to → Waits (move q again to)
-  waits_all (purpose.Enter x how) again (at.Park to) fits = record { stands = parks_stand (purpose.Enter x how) again refl to; held = parks_held (purpose.Enter x how) again refl refl to }
+  waits_all (purpose.Enter x how) again (at.Park to) fits = record { aside = parks_aside (purpose.Enter x how) again refl to; stands = parks_stand (purpose.Enter x how) again refl to; held = parks_held (purpose.Enter x how) again refl refl to }
   waits_all (purpose.Upgrade how) again (at.Park to) fits = absurd (never_parks how again to fits)
   waits_all (purpose.Release x) again (at.Park to) fits = absurd (never_released x again to Main fits)
   waits_all (purpose.Downgrade d) again (at.Park to) fits = absurd fits
-  waits_all (purpose.Enter x how) again (at.Aside to) fits = record { stands = asides_stand (purpose.Enter x how) again refl to; held = asides_held (purpose.Enter x how) again refl to }
-  waits_all (purpose.Upgrade how) again (at.Aside to) fits = record { stands = asides_stand (purpose.Upgrade how) again refl to; held = asides_held (purpose.Upgrade how) again refl to }
+  waits_all (purpose.Enter x how) again (at.Aside to) fits = record { aside = asides_aside (purpose.Enter x how) again refl (asides_write x how again to fits) to; stands = asides_stand (purpose.Enter x how) again refl to; held = asides_held (purpose.Enter x how) again refl to }
+  waits_all (purpose.Upgrade how) again (at.Aside to) fits = record { aside = asides_aside (purpose.Upgrade how) again refl refl to; stands = asides_stand (purpose.Upgrade how) again refl to; held = asides_held (purpose.Upgrade how) again refl to }
   waits_all (purpose.Release x) again (at.Aside to) fits = absurd (never_released x again to Second fits)
   waits_all (purpose.Downgrade d) again (at.Aside to) fits = absurd fits
-  waits_all q again to fits = record { stands = λ m e. absurd cc; held = λ u handed e. absurd cc }
+  waits_all q again to fits = record { aside = λ e. absurd cc; stands = λ m e. absurd cc; held = λ u handed e. absurd cc }
 
   -- whose time is up goes into the section of its line
   parks_late : (q : RwLockPurpose) (again : Bool) (how : Patience) (to : ParkAt) (m : Line) → late_line_at how (at.Park to) ≡ Some m → GoesIn (move q again (at.Park to)) (rwlock_hears a (place q again (at.Park to))) m reply.Late

@@ -35,16 +35,14 @@ use Rattle.lot_rwlock.specs.RwLockDeeds.{Admits, AtFits, AtUpgrade, IsAt, IsFres
 use Rattle.abstract_locks.specs.Locks.{Rules}
 use Rattle.abstract_locks.specs.Sites.{Site, IsSite}
 use Rattle.lot_rwlock.specs.RwLockCalls.{MayWait, HasDeadline, ParksBy, StandsAt, UpgradesAt, GoesOn, IsDecided, MayStand, MayBeTold, MayStandNext, RwLockCallsStand}
+use Rattle.lot_rwlock.proofs.RwLockCodes.{blocked_unset, fits_even, fits_aside}
 use Rattle.lot_rwlock.proofs.RwLockCallPlaces.{StandsNext, stands_on}
 
 -- ---------------------------------------------------------------- words
 
--- a parked bit that is set in an even word changes nothing else
-even_next : (v : ℕ) → v < 2 ^ 64 → has_parked v ≡ false → plus v 1 ≡ v + 1
-even_next v few even = let e : v % 2 ≡ 0 = grind (arith, nat_tests) in omega arith
-
+-- a parked bit that is set in an even word keeps out whom it kept out
 blocked_same : (b : Bool) (x : Want) (v : ℕ) → v < 2 ^ 64 → has_parked v ≡ false → is_blocked b x (plus v 1) ≡ is_blocked b x v
-blocked_same b x v few even = ap (is_blocked b x) (even_next v few even) ∙ by_want x
+blocked_same b x v few even = ap (is_blocked b x) (fits_even v few even) ∙ by_want x
   where
     zero_end : v % 2 ≡ 0
     zero_end = grind (arith, nat_tests)
@@ -77,17 +75,8 @@ module _ (a : Admission) where
   is_even : (x : Want) (how : Patience) (word : ℕ) → decision a x how word ≡ decisions.Mark → has_parked word ≡ false
   is_even x how word e = by_tests (is_blocked a.recursive x word) (is_counted x && nat_le a.limit (count_in word)) e
     where
-      by_bit : (b : Bool) → waits b ≡ decisions.Mark → b ≡ false
-      by_bit true f = absurd cc
-      by_bit false f = refl
-
-      by_how : (y : Patience) → decision_blocked y word ≡ decisions.Mark → has_parked word ≡ false
-      by_how Try f = absurd cc
-      by_how Patient f = by_bit (has_parked word) f
-      by_how Timed f = by_bit (has_parked word) f
-
       by_tests : (b c : Bool) → (if b then decision_blocked how word else if c then decisions.Refuse ReadersFull else decisions.Take) ≡ decisions.Mark → has_parked word ≡ false
-      by_tests true c f = by_how how f
+      by_tests true c f = blocked_unset how word f
       by_tests false true f = absurd cc
       by_tests false false f = absurd cc
 
@@ -96,7 +85,7 @@ module _ (a : Admission) where
       ap (λ b. if b then decision_blocked how (plus word 1) else if is_counted x && nat_le a.limit (count_in (plus word 1)) then decisions.Refuse ReadersFull else decisions.Take) (blocked_same a.recursive x word few (is_even x how word e) ∙ found.0) ∙ by_how how found.1
     where
       odd : has_parked (plus word 1) ≡ true
-      odd = let next : plus word 1 ≡ word + 1 = even_next word few (is_even x how word e) in let even : has_parked word ≡ false = is_even x how word e in grind (arith, nat_tests)
+      odd = let next : plus word 1 ≡ word + 1 = fits_even word few (is_even x how word e) in let even : has_parked word ≡ false = is_even x how word e in grind (arith, nat_tests)
 
       by_how : (y : Patience) → MayWait y → decision_blocked y (plus word 1) ≡ decisions.Park
       by_how Patient w = ap waits odd
@@ -116,13 +105,10 @@ module _ (a : Admission) where
 
 -- a writer that sets the bit of the second line finds it set, and as many readers
 pub aside_set : (word : ℕ) → word < 2 ^ 64 → has_aside word ≡ false → (has_aside (plus word 2) ≡ true) × (count_in (plus word 2) ≡ count_in word)
-aside_set word few unset = (grind (arith, nat_tests), let z : word / 2 % 2 ≡ 0 = zero in let p : plus word 2 ≡ word + 2 = wraps_not in omega arith)
+aside_set word few unset = (grind (arith, nat_tests), let more : plus word 2 ≡ word + 2 = fits_aside word few unset in let unset_bit : word / 2 % 2 ≡ 0 = zero in omega arith)
   where
     zero : word / 2 % 2 ≡ 0
     zero = grind (arith, nat_tests)
-
-    wraps_not : plus word 2 ≡ word + 2
-    wraps_not = let z = zero in omega arith
 
 -- ---------------------------------------------------------------- patience
 
@@ -132,7 +118,7 @@ fresh_waits Patient w again = tt
 fresh_waits Timed w again = tt
 fresh_waits Try w again = absurd w
 
-unwoken_fresh : (how : Patience) → IsFreshTry how false
+pub unwoken_fresh : (how : Patience) → IsFreshTry how false
 unwoken_fresh Patient = tt
 unwoken_fresh Timed = tt
 unwoken_fresh Try = refl

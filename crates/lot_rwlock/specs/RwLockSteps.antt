@@ -12,12 +12,12 @@ use Rattle.lot_base.specs.Keys.{key_of}
 use Rattle.lot_base.specs.Words.{apply}
 use Rattle.lot_calls.specs.declared.calls.Access.{Access}
 use Rattle.lot_calls.specs.declared.calls.Access as access
-use Rattle.lot_calls.specs.declared.calls.Downgrade.{Downgrade}
 use Rattle.lot_calls.specs.declared.calls.Downgrade.TheVariants as downgrade
 use Rattle.lot_calls.specs.declared.calls.Patience.{Patience}
 use Rattle.lot_calls.specs.declared.calls.Patience.TheVariants.{Patient, Try}
 use Rattle.lot_calls.specs.declared.outcomes.Answer.{Answer}
 use Rattle.lot_calls.specs.declared.outcomes.Answer as answer
+pub use Rattle.abstract_locks.specs.Purposes.{wanted, from_of, to_of}
 use Rattle.abstract_locks.specs.Codes.{count_in, has_aside, has_parked, is_blocked}
 use Rattle.lot_acts.specs.Acts.{wakes_taken, any_picked}
 use Rattle.lot_acts.specs.declared.acts.Act.{Act}
@@ -53,11 +53,6 @@ use Rattle.lot_rwlock.specs.declared.places.TheConstants.{NOT_PARKED, NOT_WRITER
 
 -- ---------------------------------------------------------------- rights
 
-abbrev pub wanted : Access → Want
-wanted access.TheVariants.Shared = want.TheVariants.Shared
-wanted access.TheVariants.Upgradable = want.TheVariants.Upgradable
-wanted access.TheVariants.Exclusive = want.TheVariants.Exclusive
-
 -- what a right adds to the word
 abbrev pub token : Want → ℕ
 token want.TheVariants.Shared = 16
@@ -70,15 +65,6 @@ is_counted want.TheVariants.Exclusive = false
 is_counted x = true
 
 -- ---------------------------------------------------------------- calls
-
--- the greater right of a downgrade, and the lesser one
-abbrev pub from_of : Downgrade → Access
-from_of downgrade.UpgradableToShared = access.TheVariants.Upgradable
-from_of d = access.TheVariants.Exclusive
-
-abbrev pub to_of : Downgrade → Access
-to_of downgrade.ToUpgradable = access.TheVariants.Upgradable
-to_of d = access.TheVariants.Shared
 
 -- the right that a call waits for, or gives up
 abbrev pub access_of : RwLockPurpose → Access

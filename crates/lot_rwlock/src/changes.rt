@@ -11,7 +11,7 @@ use lot_calls::{Access, Downgrade};
 
 /// What an operation does to the owners.
 #[derive(Clone, Copy, Debug, PartialEq, Eq)]
-enum Change {
+pub enum Change {
     Nothing,
     Enter(Access),
     Pend,

@@ -1,6 +1,7 @@
 //! What the steps of a lock do to it.
 ghost use Rattle.lot_rwlock.specs.RwLockCalls.{RwLockCallsStand, RwLockLooksStand, RwLockSectionsTell, RwLockSleepersHear, RwLockStepsTell};
 ghost use Rattle.lot_rwlock.specs.RwLockMoves.{RwLockActsMove, RwLockLateMove, RwLockSleepersMove};
+ghost use Rattle.lot_rwlock.specs.RwLockOpenings.{RwLockCallsOpen};
 ghost use Rattle.lot_rwlock.specs.RwLockDeeds.{RwLockOwnersFollow, RwLockSectionsFollow, RwLockStepsCode, RwLockStepsFollow};
 
 /// Each step on the word of a reader-writer lock may do to the lock what its deeds say, and its next place says what the thread does then.
@@ -63,4 +64,9 @@ pub fn rwlock_sleepers_move()
 /// And whose time is up goes into the section of its line.
 pub fn rwlock_late_moves()
     ensures { RwLockLateMove }
+{}
+
+/// A call begins where it may stand, nowhere in the sections and lines of the lock, and claims a right that its thread has.
+pub fn rwlock_calls_open()
+    ensures { RwLockCallsOpen }
 {}

@@ -1,6 +1,7 @@
 //! The steps of every call of a reader-writer lock.
 #![tactic(auto)]
 
+pub mod begin;
 pub mod changes;
 pub mod enter;
 pub mod laws;
@@ -10,5 +11,7 @@ pub mod places;
 pub mod purposes;
 pub mod release;
 
+pub use begin::rwlock_right;
+pub use changes::Change;
 pub use places::{Admission, RwLockAt, RwLockPlace};
 pub use purposes::RwLockPurpose;

@@ -6,12 +6,21 @@ use lot_acts::{Act, Next, Owners, Reply};
 use lot_base::{Key, Want};
 use lot_calls::{Call, Kind};
 use lot_mutex::{MutexPlace, mutex_right};
+use lot_rwlock::{Admission, RwLockPlace, rwlock_right};
 
 /// Where a thread stands: in no call, or in a call of a lock, with all that the call remembers.
 #[derive(Clone, Copy, Debug, PartialEq, Eq)]
 pub enum Place {
     Idle,
-    Mutex { lock: usize, at: MutexPlace },
+    Mutex {
+        lock: usize,
+        at: MutexPlace,
+    },
+    RwLock {
+        lock: usize,
+        admission: Admission,
+        at: RwLockPlace,
+    },
 }
 
 impl Place {
@@ -24,16 +33,18 @@ impl Place {
                 lock,
                 at: MutexPlace::first(call, kind.is_fair()),
             },
+            Call::RwLock { lock, call } => Place::RwLock {
+                lock,
+                admission: Admission::of(kind),
+                at: RwLockPlace::first(call),
+            },
         }
     }
 
     pub fn is_idle(self) -> bool
         ensures { result ≡ is_idle self }
     {
-        match self {
-            Place::Idle => true,
-            Place::Mutex { .. } => false,
-        }
+        matches!(self, Place::Idle)
     }
 
     /// What the thread does next.
@@ -44,6 +55,11 @@ impl Place {
         match self {
             Place::Idle => Act::Rest,
             Place::Mutex { lock, at } => at.act(lock),
+            Place::RwLock {
+                lock,
+                admission,
+                at,
+            } => at.act(lock, admission),
         }
     }
 
@@ -57,6 +73,18 @@ impl Place {
                 Next::At(at) => Place::Mutex { lock, at },
                 Next::End(_) => Place::Idle,
             },
+            Place::RwLock {
+                lock,
+                admission,
+                at,
+            } => match at.next(admission, reply) {
+                Next::At(at) => Place::RwLock {
+                    lock,
+                    admission,
+                    at,
+                },
+                Next::End(_) => Place::Idle,
+            },
         }
     }
 
@@ -68,16 +96,20 @@ impl Place {
         match self {
             Place::Idle => owners,
             Place::Mutex { at, .. } => at.owners_after(thread, seen, owners),
+            Place::RwLock { admission, at, .. } => {
+                at.owners_after(admission, thread, seen, owners)
+            }
         }
     }
 
     /// How many shared rights of the lock the thread has after its operation on the word, which saw this value.
     /// None where their number stays.
-    pub fn shares_after(self, _seen: u64, _shares: usize) -> Option<usize>
-        ensures { result ≡ shares_after self _seen _shares }
+    pub fn shares_after(self, seen: u64, shares: usize) -> Option<usize>
+        ensures { result ≡ shares_after self seen shares }
     {
         match self {
             Place::Idle | Place::Mutex { .. } => None,
+            Place::RwLock { admission, at, .. } => at.shares_after(admission, seen, shares),
         }
     }
 
@@ -88,6 +120,7 @@ impl Place {
         match self {
             Place::Idle => None,
             Place::Mutex { at, .. } => at.wants(),
+            Place::RwLock { at, .. } => at.wants(),
         }
     }
 
@@ -98,6 +131,7 @@ impl Place {
         match self {
             Place::Idle => None,
             Place::Mutex { at, .. } => at.taker(),
+            Place::RwLock { at, .. } => at.taker(),
         }
     }
 
@@ -110,6 +144,18 @@ impl Place {
             Place::Mutex { lock, at } => {
                 let at = at.looking()?;
                 Some(Place::Mutex { lock, at })
+            }
+            Place::RwLock {
+                lock,
+                admission,
+                at,
+            } => {
+                let at = at.looking(admission)?;
+                Some(Place::RwLock {
+                    lock,
+                    admission,
+                    at,
+                })
             }
         }
     }
@@ -125,6 +171,10 @@ impl Place {
                 Some(line) => Some(line.key(lock)),
                 None => None,
             },
+            Place::RwLock { lock, at, .. } => match at.late_line() {
+                Some(line) => Some(line.key(lock)),
+                None => None,
+            },
         }
     }
 
@@ -136,6 +186,7 @@ impl Place {
         match self {
             Place::Idle => false,
             Place::Mutex { lock: own, at } => own == lock && at.owes().is_some(),
+            Place::RwLock { lock: own, at, .. } => own == lock && at.owes().is_some(),
         }
     }
 
@@ -147,16 +198,18 @@ impl Place {
         match self {
             Place::Idle => false,
             Place::Mutex { lock: own, at } => own == lock && at.retries(),
+            Place::RwLock { lock: own, at, .. } => own == lock && at.retries,
         }
     }
 }
 
-/// Whether a thread has the right that a call needs, of a lock with these owners.
-pub fn has_right(call: Call, thread: usize, owners: Owners) -> bool
-    ensures { result ≡ has_right call thread owners }
+/// Whether a thread has the right that a call needs, of a lock with these owners, which it shares so many times.
+pub fn has_right(call: Call, thread: usize, owners: Owners, shares: usize) -> bool
+    ensures { result ≡ has_right call thread owners shares }
 {
     match call {
         Call::Mutex { call, .. } => mutex_right(call, thread, owners),
+        Call::RwLock { call, .. } => rwlock_right(call, thread, owners, shares),
     }
 }
 
@@ -170,6 +223,21 @@ pub fn advance(place: Place, reply: Reply) -> (Place, Act)
         Place::Idle => (Place::Idle, Act::Rest),
         Place::Mutex { lock, at } => match at.next(reply) {
             Next::At(at) => (Place::Mutex { lock, at }, at.act(lock)),
+            Next::End(answer) => (Place::Idle, Act::End(answer)),
+        },
+        Place::RwLock {
+            lock,
+            admission,
+            at,
+        } => match at.next(admission, reply) {
+            Next::At(at) => {
+                let next = Place::RwLock {
+                    lock,
+                    admission,
+                    at,
+                };
+                (next, at.act(lock, admission))
+            }
             Next::End(answer) => (Place::Idle, Act::End(answer)),
         },
     }

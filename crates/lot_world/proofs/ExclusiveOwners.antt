@@ -8,10 +8,15 @@ use Rattle.lot_mutex.specs.declared.unlock.UnlockAt.{UnlockAt}
 use Rattle.lot_mutex.specs.declared.unlock.UnlockAt.TheVariants as unlock
 use Rattle.lot_mutex.specs.declared.hand_off.HandOffAt.TheVariants as hand_off
 use Rattle.lot_steps.specs.declared.places.Place.{Place}
-use Rattle.lot_steps.specs.declared.places.Place.TheVariants.{Idle, Mutex}
+use Rattle.lot_steps.specs.declared.places.Place.TheVariants.{Idle, Mutex, RwLock}
 use Rattle.lot_mutex.specs.MutexSteps.{is_locked}
 use Rattle.lot_acts.specs.Owners.{with_exclusive}
 use Rattle.lot_steps.specs.Steps.{owners_after}
+use Rattle.lot_calls.specs.declared.calls.Access.TheVariants as access
+use Rattle.lot_calls.specs.declared.calls.Downgrade.TheVariants as downgrade
+use Rattle.lot_rwlock.specs.declared.changes.Change.{Change}
+use Rattle.lot_rwlock.specs.declared.changes.Change.TheVariants as changes
+use Rattle.lot_rwlock.specs.RwLockSteps.{change, owners_by}
 use Rattle.lot_world.specs.MutexPromises.{IsMutexWord}
 
 abbrev pub lock_owner : LockAt → ℕ → ℕ → Option ℕ → Option ℕ
@@ -23,6 +28,33 @@ abbrev pub unlock_owner : UnlockAt → Option ℕ → Option ℕ
 unlock_owner unlock.Subtract o = None
 unlock_owner at o = o
 
+abbrev exclusive_by : Change → ℕ → Option ℕ → Option ℕ
+exclusive_by (changes.Enter access.Exclusive) t o = Some t
+exclusive_by changes.Settle t o = Some t
+exclusive_by (changes.Leave access.Exclusive) t o = None
+exclusive_by (changes.Downgrade downgrade.ToShared) t o = None
+exclusive_by (changes.Downgrade downgrade.ToUpgradable) t o = None
+exclusive_by (changes.Upgrade true) t o = Some t
+exclusive_by change t o = o
+
+exclusive_is : (c : Change) (t : ℕ) (r : Owners) → (owners_by c t r).exclusive ≡ exclusive_by c t r.exclusive
+exclusive_is changes.Nothing t r = refl
+exclusive_is (changes.Enter access.Shared) t r = refl
+exclusive_is (changes.Enter access.Upgradable) t r = refl
+exclusive_is (changes.Enter access.Exclusive) t r = refl
+exclusive_is changes.Pend t r = refl
+exclusive_is changes.Settle t r = refl
+exclusive_is (changes.Leave access.Shared) t r = refl
+exclusive_is (changes.Leave access.Upgradable) t r = refl
+exclusive_is (changes.Leave access.Exclusive) t r = refl
+exclusive_is (changes.Downgrade downgrade.ToShared) t r = refl
+exclusive_is (changes.Downgrade downgrade.ToUpgradable) t r = refl
+exclusive_is (changes.Downgrade downgrade.UpgradableToShared) t r = refl
+exclusive_is (changes.Upgrade true) t r = refl
+exclusive_is (changes.Upgrade false) t r = refl
+exclusive_is (changes.RollBack true) t r = refl
+exclusive_is (changes.RollBack false) t r = refl
+
 -- the exclusive owner after a step on the word that saw v, but for one whom it hands the lock
 abbrev pub owner_after : Place → ℕ → ℕ → Option ℕ → Option ℕ
 owner_after Idle t v o = o
@@ -33,9 +65,11 @@ owner_after (Mutex l UnlockFair) t v o = if v == 1 then None else o
 owner_after (Mutex l Bump) t v o = o
 owner_after (Mutex l (HandOff bumps (hand_off.Store any none_left))) t v o = None
 owner_after (Mutex l (HandOff bumps at)) t v o = o
+owner_after (RwLock l a p) t v o = exclusive_by (change a p v) t o
 
 pub exclusive-owners : (p : Place) (t v : ℕ) (r : Owners) → (owners_after p t v r).exclusive ≡ owner_after p t v r.exclusive
 exclusive-owners Idle t v r = refl
+exclusive-owners (RwLock l a p) t v r = exclusive_is (change a p v) t r
 exclusive-owners (Mutex l (Lock entry retries First)) t v r = either (v == 0)
   where
     either : (b : Bool) → (if b then with_exclusive r (Some t) else r).exclusive ≡ (if b then Some t else r.exclusive)

@@ -7,7 +7,7 @@ use Rattle.lot_base.specs.declared.wants.Want.TheVariants.{Exclusive}
 use Rattle.lot_base.specs.declared.notes.Note.TheVariants as note
 use Rattle.lot_acts.specs.declared.owners.Owners.{Owners}
 use Rattle.lot_steps.specs.declared.places.Place.{Place}
-use Rattle.lot_steps.specs.declared.places.Place.TheVariants.{Idle, Mutex}
+use Rattle.lot_steps.specs.declared.places.Place.TheVariants.{Idle, Mutex, RwLock}
 use Rattle.lot_mutex.specs.declared.lock.Entry.{Entry}
 use Rattle.lot_mutex.specs.declared.places.MutexPlace.{MutexPlace}
 use Rattle.lot_mutex.specs.declared.places.MutexPlace.TheVariants.{Lock, TryLock, Unlock, UnlockFair, Bump, HandOff}
@@ -19,11 +19,13 @@ use Rattle.abstract_locks.specs.Codes.{parked_in, aside_in}
 use Rattle.std.proofs.Math.Bool.{or-false, and-false}
 use Rattle.lot_mutex.specs.MutexSteps.{is_parked}
 use Rattle.lot_acts.specs.declared.acts.Next.{Next}
+use Rattle.lot_rwlock.specs.declared.places.RwLockPlace.{RwLockPlace}
+use Rattle.lot_rwlock.specs.RwLockSteps.{rwlock_next}
 use Rattle.lot_acts.specs.declared.acts.Next as next
 use Rattle.lot_mutex.specs.MutexSteps.{mutex_next}
 use Rattle.lot_base.specs.declared.wants.Want.{Want}
 use Rattle.lot_acts.specs.Profiles.{Hand, Of, hand_owner, taken_from}
-use Rattle.lot_steps.specs.Steps.{next_place, taker, mutex_goes, is_lock, lock_of, calls, profile}
+use Rattle.lot_steps.specs.Steps.{next_place, taker, mutex_goes, rwlock_goes, is_lock, lock_of, calls, profile}
 use Rattle.abstract_locks.specs.Locks.{LockState, Taken, Queued, Rules, TakeFirst, keep_from, let_go, shares_handed, sharing_from, putting}
 use Rattle.std.specs.Prelude.{sum, ◌&&◌, ◌||◌}
 use Rattle.lot_acts.specs.Owners.{is_thread, with_exclusive}
@@ -297,11 +299,17 @@ goes_on l k (next.TheVariants.End answer) e = tt
 pub next_of : (l : ℕ) (p : Place) (reply : Reply) → IsOf l p → IsOf l (next_place p reply)
 next_of l Idle reply h = tt
 next_of l (Mutex k at) reply h = goes_on l k (mutex_next at reply) h
+next_of l (RwLock k a at) reply h = by_next (rwlock_next a at reply)
+  where
+    by_next : (n : Next RwLockPlace) → IsOf l (rwlock_goes k a n)
+    by_next (next.TheVariants.At at) = h
+    by_next (next.TheVariants.End answer) = tt
 
 -- who calls no lock is idle
 pub calls_none : (p : Place) → lock_of p ≡ None → p ≡ Idle
 calls_none Idle e = refl
 calls_none (Mutex k at) e = absurd cc
+calls_none (RwLock k a at) e = absurd cc
 
 calls_other : (l k : ℕ) (o : Option ℕ) → IsLock l o → k ≢ l → is_lock k o ≡ false
 calls_other l k None h ne = refl
@@ -428,6 +436,7 @@ successor_in t k (p ∷ ps) (suc u) held_by only = ap (λ o. successor_or k o (s
 taker_is : (p : Place) → taker p ≡ hand_owner (profile p).hand
 taker_is Idle = refl
 taker_is (Mutex k at) = refl
+taker_is (RwLock k a at) = refl
 
 -- who is in a hand by the place is so by the taker
 pub held_taker : (p : Place) (t l : ℕ) (b : Bool) → hand_at p l ≡ hand t b → is_thread t (taker p) ≡ true

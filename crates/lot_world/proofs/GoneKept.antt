@@ -1,4 +1,4 @@
--- A thread in a call of a mutex goes on: every lock is a site again.
+-- A thread goes on: every lock is a site again. Here a call of a mutex.
 use Rattle.std.proofs.Common.{ℕ, Bool, true, false, Option, Some, None, if◌then◌else◌, ◌==◌, ◌&&◌, not, ◌≡◌, ◌≢◌, ◌+◌, ◌*◌, ◌<◌, ◌⊎◌, List, [], ◌∷◌, length, map, drop, is_none, inl, inr, refl, sym, ◌∙◌, ap, subst, arith}
 use Rattle.std.proofs.lemmas.Bool.{eqb-true}
 use Rattle.lot_base.specs.declared.keys.Keys.TheVariants.{One}
@@ -8,7 +8,7 @@ use Rattle.lot_base.specs.declared.wants.Waiter.{Waiter}
 use Rattle.lot_base.specs.declared.wants.Want.TheVariants.{Exclusive}
 use Rattle.lot_base.specs.Lines.{without, first_of, times}
 use Rattle.lot_steps.specs.declared.places.Place.{Place}
-use Rattle.lot_steps.specs.declared.places.Place.TheVariants.{Idle, Mutex}
+use Rattle.lot_steps.specs.declared.places.Place.TheVariants.{Idle, Mutex, RwLock}
 use Rattle.lot_mutex.specs.declared.lock.Entry.{Entry}
 use Rattle.lot_mutex.specs.declared.lock.Entry.TheVariants as entries
 use Rattle.lot_mutex.specs.declared.places.MutexPlace.{MutexPlace}
@@ -30,19 +30,21 @@ use Rattle.lot_mutex.specs.MutexSteps.{is_locked, is_parked, lock_act, unlock_ac
 use Rattle.lot_steps.specs.Steps.{next_place, act_of}
 use Rattle.abstract_locks.specs.Locks.{one_if_some, TakeFirst}
 use Rattle.abstract_locks.specs.Codes.{bit}
-use Rattle.abstract_locks.specs.Sites.{Main, Second, End, is_empty, found, leaves, In, Out, Case, FindNobody}
+use Rattle.abstract_locks.specs.Sites.{Main, Second, End, has_readers, is_empty, found, leaves, In, Out, Case, FindNobody}
 use Rattle.lot_machine.specs.Machine.{State, place_at, word_at, owners_at, queue_at, section_at, can_do, put, state_with_sections, queues_with_last, queues_without, queues_without_first, state_after_reply, state_after_taking, is_there, reply_to}
 use Rattle.lot_machine.specs.Fits.{IsShaped, PlaceFits}
 use Rattle.lot_world.specs.Refinement.{taken_at}
 use Rattle.abstract_locks.specs.Picks.{queued_of}
 use Rattle.lot_world.specs.MutexDeeds.{mutex_doing, mutex_station, acts, deeds, mutex_deeds, queued}
 use Rattle.lot_world.specs.Stations.{Station, nowhere, station, station_at}
-use Rattle.lot_world.specs.SitesOf.{IsSteady, Goes, stood_in}
+use Rattle.lot_world.specs.SitesOf.{CallsMutex, IsSteady, Goes, rules_at, stood_in}
 use Rattle.lot_machine.proofs.Shape.{main_line_there, main_key_there}
 use Rattle.lot_world.proofs.Glue.{base_at, same, differ, IsOf, own_stance, inside_is, doing_of, doing_here}
-use Rattle.lot_world.proofs.MutexTable.{Fits, own_doing, ends, looks, at_first, at_load, at_decide_free, at_decide_one, at_clear, at_release_clear, at_try, at_subtract, at_unlock_fair, at_bump, at_store_none}
-use Rattle.lot_world.proofs.SitesKept.{go_by, goes_steady, site_l, word_l, word_keeps, place_keeps, enter_keeps, leave_keeps, one_held, release_wakes, tells, hands_over, take_keeps}
+use Rattle.lot_world.proofs.MutexTable.{mutex, Fits, own_doing, ends, looks, at_first, at_load, at_decide_free, at_decide_one, at_clear, at_release_clear, at_try, at_subtract, at_unlock_fair, at_bump, at_store_none}
+use Rattle.lot_world.proofs.OneStep.{empty_line}
+use Rattle.lot_world.proofs.SitesKept.{go_by, goes_steady, rules, site_l, word_l, word_keeps, place_keeps, enter_keeps, leave_keeps, one_held, release_wakes, tells, hands_over, take_keeps}
 use Rattle.lot_world.proofs.StandsKept.{in_main}
+use Rattle.lot_world.proofs.RwLockKept.{rwlock_goes_on}
 use Rattle.lot_world.proofs.SectionsKept.{park_keeps, remove_keeps, nobody_keeps}
 
 pub none_is : (x : Option ℕ) → is_none x ≡ true → x ≡ None
@@ -52,10 +54,6 @@ none_is (Some y) h = absurd cc
 owned_3 : (e : Option ℕ) → 3 ≡ one_if_some e + 2 * 1 → e ≢ None
 owned_3 None h e = omega arith
 owned_3 (Some x) h e = cc
-
-empty_line : (xs : List Waiter) → is_empty (map queued_of xs) ≡ (length xs == 0)
-empty_line [] = refl
-empty_line (x ∷ xs) = sym (differ (length (x ∷ xs)) 0 (λ e. omega arith))
 
 -- a thread that stands in a line, by its place: asleep, or inside the section
 pub record IsAsleep (p : Place) (l : ℕ) : Type 0 where
@@ -69,9 +67,14 @@ asleep_at k l (Lock e b lock.Asleep) f g = inr (record { entry = e; retries = b;
 asleep_at k l (Lock e b lock.Remove) f g = inl refl
 asleep_at k l at f g = absurd cc
 
-pub asleep : (p : Place) (l : ℕ) → (station_at p l).stands ≡ Some Main → ((station_at p l).inside ≡ Some Main) ⊎ IsAsleep p l
-asleep Idle l h = absurd cc
-asleep (Mutex k at) l h = either (k == l) refl h
+pub asleep : (w : State) (p : Place) (l : ℕ) → rules_at w l ≡ mutex → CallsMutex w p → (station_at p l).stands ≡ Some Main → ((station_at p l).inside ≡ Some Main) ⊎ IsAsleep p l
+asleep w Idle l r c h = absurd cc
+asleep w (RwLock k a at) l r c h = either (k == l) refl h
+  where
+    either : (b : Bool) → (k == l) ≡ b → (if b then station (RwLock k a at) else nowhere).stands ≡ Some Main → ((if b then station (RwLock k a at) else nowhere).inside ≡ Some Main) ⊎ IsAsleep (RwLock k a at) l
+    either true e g = absurd (let own : k ≡ l = eqb-true k l e in let shared : has_readers (rules_at w k).sort ≡ true = c.0.0 in let f : has_readers mutex.sort ≡ true = rw (own, r) at shared in cc)
+    either false e g = absurd cc
+asleep w (Mutex k at) l r c h = either (k == l) refl h
   where
     either : (b : Bool) → (k == l) ≡ b → (if b then mutex_station at else nowhere).stands ≡ Some Main → ((if b then mutex_station at else nowhere).inside ≡ Some Main) ⊎ IsAsleep (Mutex k at) l
     either true e g = asleep_at k l at (eqb-true k l e) g
@@ -180,7 +183,7 @@ module _ (w : State) (t : ℕ) (steady : IsSteady w) (shape : IsShaped w) (there
   takes l at is lt none s c v empty to = by_line (queue_at w (2 * l)) refl
     where
       some : (x : Waiter) (rest : List Waiter) → queue_at w (2 * l) ≡ x ∷ rest → Goes w (put (state_after_reply (record w { queues = queues_without_first w.queues (2 * l) }) x.thread (TakenBy t)) t (next_place (Mutex l at) (Took true (length rest == 0)))) l (deeds t at (Some x.thread) (Took true (length rest == 0)))
-      some x rest e = elim (asleep (place_at w x.thread) l stands_there) [
+      some x rest e = elim (asleep w (place_at w x.thread) l (rules w t l at steady is there) (steady.stands.calls x.thread) stands_there) [
         | inl within ↦ absurd (apart ((site_l w t l at steady is there).alone x.thread t Main (inside_is (place_at w x.thread) l ∙ within) (inside_is (place_at w t) l ∙ ap (λ (y : Station). y.inside) here)))
         | inr a ↦ rw ((to x.thread (length rest == 0)).does) (take_keeps w t l at steady is there (line l lt) x rest e a.entry a.retries a.is apart (next_place (Mutex l at) (Took true (length rest == 0))) (to x.thread (length rest == 0)).of none (to x.thread (length rest == 0)).none
             (ap (λ (y : Station). y.carries) s) (ap (λ (y : Station). y.hand) s) (ap (λ (y : Station). y.inside) s) c v
@@ -248,3 +251,4 @@ module _ (w : State) (t : ℕ) (steady : IsSteady w) (shape : IsShaped w) (there
   pub gone_kept : (p : Place) → place_at w t ≡ p → PlaceFits (length w.locks) p → can_do w (act_of p) ≡ true → IsSteady (go_by w t p (act_of p))
   gone_kept Idle is fits can = absurd cc
   gone_kept (Mutex l at) is fits can = goes_steady w _ l _ steady (gone_goes l at is fits.0 can).1
+  gone_kept (RwLock l a p) is fits can = goes_steady w _ l _ steady (rwlock_goes_on w t l a p steady shape there fits is can).1

@@ -13,7 +13,10 @@ pub mod LawsKept
 pub mod WakesKept
 pub mod TakesKept
 pub mod PicksKept
+pub mod AnyPicked
+pub mod MovesKept
 pub mod SitesKept
+pub mod RwLockKept
 pub mod SectionsKept
 pub mod GoneKept
 pub mod Looking
@@ -23,6 +26,7 @@ pub mod Counts
 pub mod SitesPromise
 pub mod RowPromises
 pub mod MutexRows
+pub mod RwLockRows
 pub mod PlacePromises
 pub mod AtPlaces
 pub mod ExclusiveOwners
@@ -41,6 +45,10 @@ pub mod Promises
 pub mod MutexPromises
 pub mod Fair
 pub mod SoloActs
+pub mod SoloAnswers
+pub mod LineSolo
+pub mod RwLockSolo
+pub mod RwLockEnds
 pub mod Solo
 pub mod Owing
 pub mod WorldRuns

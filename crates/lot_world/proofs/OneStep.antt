@@ -11,7 +11,7 @@ use Rattle.lot_steps.specs.declared.places.Place.{Place}
 use Rattle.abstract_locks.specs.Locks.{LockState, LockCase, Pending, Rules, Sort, Mutex, Normal, Recursive, Semaphore, putting, readers}
 use Rattle.abstract_locks.specs.Locks as locks
 use Rattle.abstract_locks.specs.Picks.{queued_of}
-use Rattle.abstract_locks.specs.Sites.{Site, IsSite, Deed, Main, Begin, End, In, Out, Mark, Clear, FindNobody, MarkOwned, Bring, MarkBrought, Case, has_readers, is_full, after_deed, Needed}
+use Rattle.abstract_locks.specs.Sites.{Site, IsSite, Deed, Main, Begin, End, In, Out, Mark, Clear, FindNobody, MarkOwned, Bring, MarkBrought, Case, has_readers, is_empty, is_full, after_deed, Needed}
 use Rattle.abstract_locks.specs.Codes.{bit, packed, code, word_by, parked_in, aside_in, fills, HasLimit, IsHandOff}
 use Rattle.abstract_locks.proofs.CodeLaws.{words_tell_true}
 use Rattle.abstract_locks.proofs.Limits.{limit_kept}
@@ -21,7 +21,7 @@ use Rattle.lot_world.specs.MutexDeeds.{acts}
 use Rattle.lot_world.specs.MutexDeeds as deeds
 use Rattle.lot_world.specs.Stations.{doing_on}
 use Rattle.lot_world.specs.SitesOf.{AllNeeded, AreOrdinary, IsOrdinary, after_acts}
-use Rattle.lot_world.proofs.Glue.{Parts, lock_in, seen_in, put_here, put_other, put_of, put_same}
+use Rattle.lot_world.proofs.Glue.{Parts, differ, lock_in, seen_in, put_here, put_other, put_of, put_same}
 
 -- ---------------------------------------------------------------- deeds of one thread
 
@@ -264,3 +264,7 @@ queued_without t (y ∷ q) = either (not (y.thread == t)) (queued_without t q)
 pub queued_times : (t : ℕ) (q : List Waiter) → locks.times t (map queued_of q) ≡ times t q
 queued_times t [] = refl
 queued_times t (y ∷ q) = ap (λ k. (if y.thread == t then 1 else 0) + k) (queued_times t q)
+
+pub empty_line : (xs : List Waiter) → is_empty (map queued_of xs) ≡ (length xs == 0)
+empty_line [] = refl
+empty_line (x ∷ xs) = sym (differ (length (x ∷ xs)) 0 (λ e. omega arith))

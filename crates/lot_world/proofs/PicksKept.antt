@@ -43,12 +43,12 @@ under_left : (key : ℕ) (picker : LockPicker) (xs : List Waiter) → AllUnder k
 under_left key picker [] h = tt
 under_left key picker (x ∷ xs) h = grind (arith, nat_tests, under_left key (next_picker picker x.want) xs h.1)
 
-picked_counts : (u key : ℕ) (picker : LockPicker) (xs : List Waiter) → AllUnder key xs → times u (picked lock_answer next_picker picker xs) + times u (without_picked lock_answer next_picker picker key xs) ≡ times u xs
+pub picked_counts : (u key : ℕ) (picker : LockPicker) (xs : List Waiter) → AllUnder key xs → times u (picked lock_answer next_picker picker xs) + times u (without_picked lock_answer next_picker picker key xs) ≡ times u xs
 picked_counts u key picker [] h = refl
 picked_counts u key picker (x ∷ xs) h = grind (arith, nat_tests, picked_counts u key (next_picker picker x.want) xs h.1)
 
 -- who stands in a line does so under its key
-under_of : (p : ℕ → Place) (l : ℕ) (m : Line) (xs : List Waiter) → AreWaiting p l m xs → AllUnder (key_of l m) xs
+pub under_of : (p : ℕ → Place) (l : ℕ) (m : Line) (xs : List Waiter) → AreWaiting p l m xs → AllUnder (key_of l m) xs
 under_of p l m [] h = tt
 under_of p l m (x ∷ xs) h = (h.0.0, under_of p l m xs h.1)
 

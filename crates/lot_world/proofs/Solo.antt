@@ -18,6 +18,7 @@ use Rattle.lot_calls.specs.declared.calls.Call as call
 use Rattle.lot_calls.specs.declared.calls.MutexCall.{MutexCall}
 use Rattle.lot_calls.specs.declared.calls.MutexCall as mutex_call
 use Rattle.lot_calls.specs.declared.kinds.Kind.{Kind}
+use Rattle.lot_calls.specs.declared.kinds.Kind.TheVariants as kinds
 use Rattle.lot_calls.specs.declared.outcomes.Outcome.{Outcome}
 use Rattle.lot_calls.specs.declared.outcomes.Outcome as outcome
 use Rattle.lot_mutex.specs.declared.places.TheConstants.{NOT_PARKED}
@@ -31,7 +32,7 @@ use Rattle.lot_mutex.specs.declared.unlock.UnlockAt.TheVariants as unlock
 use Rattle.lot_mutex.specs.declared.hand_off.HandOffAt.{HandOffAt}
 use Rattle.lot_mutex.specs.declared.hand_off.HandOffAt.TheVariants as hand_off
 use Rattle.lot_steps.specs.declared.places.Place.{Place}
-use Rattle.lot_steps.specs.declared.places.Place.TheVariants.{Idle, Mutex}
+use Rattle.lot_steps.specs.declared.places.Place.TheVariants.{Idle, Mutex, RwLock}
 use Rattle.lot_acts.specs.Acts.{outcome_of}
 use Rattle.lot_mutex.specs.MutexSteps.{mutex_first, is_locked, is_parked, entered, looked, hand_off_word, in_unlock}
 use Rattle.lot_calls.specs.Kinds.{is_fair}
@@ -40,17 +41,17 @@ use Rattle.lot_steps.specs.Steps.{act_of, next_place, next_act, mutex_goes, mute
 use Rattle.lot_machine.specs.Machine.{State, place_at, word_at, kind_at, queue_at, section_at, go_of, after, solo, owners_handed_over, is_there}
 use Rattle.lot_machine.specs.Fits.{IsShaped, PlaceFits}
 use Rattle.lot_world.specs.MutexPromises.{IsMutexWord}
-use Rattle.abstract_locks.specs.Sites.{Main, Site}
+use Rattle.abstract_locks.specs.Sites.{Line, Main, Second, Site}
 use Rattle.lot_world.specs.MutexDeeds.{acts, takes, queued}
 use Rattle.lot_world.specs.Stations.{station, station_at, Station, hand}
-use Rattle.lot_world.specs.SitesOf.{IsSteady, CallsMutex, is_mutex, Goes, hand_at}
+use Rattle.lot_world.specs.SitesOf.{IsSteady, key_of, CallsMutex, is_mutex, Goes, hand_at}
 use Rattle.lot_world.proofs.ExclusiveOwners.{by_code, owner_after}
-use Rattle.abstract_locks.specs.Locks.{Rules, MayEnter, IsBlocked, first_thread}
-use Rattle.abstract_locks.specs.Purposes.{Releases, Bumps, Patience, Patient, Timed, Try, mutex_purpose}
-use Rattle.abstract_locks.specs.Runs.{rules_at, purpose_at}
+use Rattle.abstract_locks.specs.Locks.{readers, Rules, MayEnter, IsBlocked, first_thread}
+use Rattle.abstract_locks.specs.Purposes.{rules_of, purpose_of, Releases, Bumps, Patience, Patient, Timed, Try, mutex_purpose}
+use Rattle.abstract_locks.specs.Runs.{IsFull, rules_at, purpose_at}
 use Rattle.abstract_locks.specs.Picks.{queued_of}
 use Rattle.lot_world.specs.Refinement.{lock_state, locks_of, owner_at, taken_at}
-use Rattle.lot_world.specs.Solo.{Rests, IsUnderWay, HasItsWay, EntersAlone, BumpsAlone, EndsAlone, successor}
+use Rattle.lot_world.specs.Solo.{HasLine, Rests, IsUnderWay, HasItsWay, EntersAlone, BumpsAlone, EndsAlone, successor}
 use Rattle.lot_world.proofs.MutexTable.{mutex, queued_behind}
 use Rattle.lot_world.proofs.StandsMoved.{mutex_rules}
 use Rattle.lot_world.proofs.MutexEvents.{free_word, owned_word}
@@ -62,18 +63,14 @@ use Rattle.lot_world.proofs.SitesPromise.{parked_at}
 use Rattle.lot_mutex.specs.declared.places.MutexPlace.{MutexPlace}
 use Rattle.lot_acts.specs.declared.acts.Whom as whoms
 use Rattle.lot_world.proofs.LockEvents.{taken_place}
-use Rattle.lot_world.proofs.SitesKept.{go_by, unshared_at, single_at}
+use Rattle.lot_world.proofs.SitesKept.{go_by, mutex_unshared, unshared_at, single_at}
 use Rattle.lot_acts.specs.declared.owners.Owners.{Owners}
 use Rattle.lot_acts.specs.Owners.{with_exclusive}
 use Rattle.lot_world.proofs.GoneKept.{gone_goes}
+use Rattle.lot_world.proofs.RwLockSolo.{rwlock_rests, word_small, is_ready}
+use Rattle.lot_rwlock.specs.RwLockBegins.{admission_of, rwlock_first}
 use Rattle.lot_world.proofs.AtPlaces.{coded as words_coded, coded_for, rules_for, absent, owns}
-use Rattle.lot_world.proofs.SoloActs.{Leads, leads_rest, leads_step, Facing, Faces, word_faces, enter_faces, leave_faces, wake_faces, hand_faces, accept_faces, park_faces, unparked_faces, remove_faces, take_faces, act_led}
-
-leads_more : (k m : ℕ) (w : State) (t : ℕ) (P : State → Outcome → Type 0) → k ≤ m → Leads k w t P → Leads m w t P
-leads_more k m w t P le h n last bound = h n last (omega arith)
-
-leads_so : (k : ℕ) (w : State) (t : ℕ) (P Q : State → Outcome → Type 0) → ((v : State) (x : Outcome) → P v x → Q v x) → Leads k w t P → Leads k w t Q
-leads_so k w t P Q so h n last bound = so _ _ (h n last bound)
+use Rattle.lot_world.proofs.SoloActs.{Leads, leads_rest, leads_step, leads_more, leads_so, Facing, Faces, word_faces, enter_faces, leave_faces, wake_faces, hand_faces, accept_faces, park_faces, unparked_faces, remove_faces, take_faces, act_led}
 
 -- ---------------------------------------------------------------- lock
 
@@ -397,7 +394,7 @@ module _ (w : State) (t : ℕ) (shape : IsShaped w) (steady : IsSteady w) (there
   -- outside its section it finds it free
   free : (l : ℕ) (p : Place) → place_at w t ≡ p → lock_of p ≡ Some l → (station p).inside ≡ None → (x : Option ℕ) → section_at w (2 * l) ≡ x → x ≡ None
   free l p is own outside None e = refl
-  free l p is own outside (Some u) e = let mine : u ≡ t = way l u (ap lock_of is ∙ own) e in
+  free l p is own outside (Some u) e = let mine : u ≡ t = way l u Main (ap lock_of is ∙ own) tt e in
       let within : (station_at (place_at w t) l).inside ≡ Some Main = (steady.stands.sections t l Main).1 (e ∙ ap Some mine) in
       let out : (station_at (place_at w t) l).inside ≡ None = nothing_at (place_at w t) l (λ y. y.inside) refl (ap (λ y. (station y).inside) is ∙ outside) in absurd cc
 
@@ -414,6 +411,23 @@ module _ (w : State) (t : ℕ) (shape : IsShaped w) (steady : IsSteady w) (there
   place_rests (Mutex l UnlockFair) is fits busy up = fair_rests t l 11 false (first_of (queue_at w (2 * l))) (drop 1 (queue_at w (2 * l))) w (omega arith) (unlock_fair_leads t l (queue_at w (2 * l)) (word_at w l) (owner_at w l) w (at_first l (Mutex l UnlockFair) is refl refl fits.0))
   place_rests (Mutex l Bump) is fits busy up = fair_rests t l 11 true (first_of (queue_at w (2 * l))) (drop 1 (queue_at w (2 * l))) w (omega arith) (bump_leads t l (queue_at w (2 * l)) (word_at w l) (owner_at w l) w (at_first l (Mutex l Bump) is refl refl fits.0))
   place_rests (Mutex l (HandOff bumps a)) is fits busy up = hand_off_rests t l bumps a (word_at w l) (owner_at w l) (section_at w (2 * l)) (queue_at w (2 * l)) w (facing l (Mutex l (HandOff bumps a)) is fits.0) (λ outside. free l (Mutex l (HandOff bumps a)) is refl outside (section_at w (2 * l)) refl)
+  place_rests (RwLock l a p) is fits busy up = leads_more 11 12 w t (λ v x. Rests x) (omega arith) (rwlock_rests t l a p (word_at w l) w (λ m. queue_at w (key_of l m)) (word_small w l steady admits.0.0) (is_ready t l a p admits.1 up) (record {
+    shape = shape;
+    steady = steady;
+    thread = there;
+    lock = fits;
+    place = is;
+    word = refl;
+    queue = λ m. refl;
+    way = λ m u e. way l u m (ap lock_of is) (line m) e;
+  }))
+    where
+      admits : CallsMutex w (RwLock l a p)
+      admits = subst (CallsMutex w) is (steady.stands.calls t)
+
+      line : (m : Line) → HasLine (rules_of (kind_at w l)).sort m
+      line Main = tt
+      line Second = admits.0.0
 
   -- a call under way ends or sleeps
   pub solo_rests : IsUnderWay w t → (n : ℕ) (last : Outcome) → 12 ≤ n → Rests (solo n w t last).outcome
@@ -431,39 +445,46 @@ module _ (w : State) (t : ℕ) (shape : IsShaped w) (steady : IsSteady w) (there
     blocked_owned : IsBlocked (rules_at (locks_of w) l) (lock_state w l) Exclusive → owner_at w l ≡ None → ⊥
     blocked_owned b = let m : IsBlocked mutex (lock_state w l) Exclusive = subst (λ (r : Rules). IsBlocked r (lock_state w l) Exclusive) rules b in m.1
 
+    -- nobody shares a mutex
+    unshared : {A : Type 0} → Exclusive ≡ Exclusive → MayEnter (rules_at (locks_of w) l) (lock_state w l) Exclusive → 1 ≤ readers (lock_state w l) → A
+    unshared e may some = absurd (let none : readers (lock_state w l) ≡ 0 = mutex_unshared w l steady rules in omega arith)
+
+    unfilled : {A : Type 0} → IsFull (locks_of w) l Exclusive → A
+    unfilled h = absurd (h.0 refl)
+
     -- what a call that waits has come to
     abbrev patience_of : Entry → Patience
     patience_of entries.LockTimed = Timed
     patience_of entry = Patient
 
-    lock_alone : (entry : Entry) (o : Option ℕ) → owner_at w l ≡ o → LockEnds t l entry o (queue_at w (2 * l)) v x → EntersAlone (locks_of w) t l Exclusive (patience_of entry) x (locks_of v)
-    lock_alone entries.LockTimed None e h = ((λ may. h), λ b. absurd (blocked_owned b e))
-    lock_alone entries.Lock None e h = ((λ may. h), λ b. absurd (blocked_owned b e))
-    lock_alone entries.Bump None e h = ((λ may. h), λ b. absurd (blocked_owned b e))
-    lock_alone entries.LockTimed (Some u) e h = ((λ may. absurd (let g : Some u ≡ None = sym e ∙ may_own may in cc)), λ b. (h.0, ap (map queued_of) h.2 ∙ queued_behind (2 * l) t Exclusive (queue_at w (2 * l))))
-    lock_alone entries.Lock (Some u) e h = ((λ may. absurd (let g : Some u ≡ None = sym e ∙ may_own may in cc)), λ b. (h.0, ap (map queued_of) h.2 ∙ queued_behind (2 * l) t Exclusive (queue_at w (2 * l))))
-    lock_alone entries.Bump (Some u) e h = ((λ may. absurd (let g : Some u ≡ None = sym e ∙ may_own may in cc)), λ b. (h.0, ap (map queued_of) h.2 ∙ queued_behind (2 * l) t Exclusive (queue_at w (2 * l))))
+    lock_alone : (entry : Entry) (o : Option ℕ) → owner_at w l ≡ o → LockEnds t l entry o (queue_at w (2 * l)) v x → EntersAlone (word_at w l ≡ 0) (locks_of w) t l Exclusive (patience_of entry) x (locks_of v)
+    lock_alone entries.LockTimed None e h = record { owns = λ may. h; pends = unshared; full = unfilled; barred = λ b. absurd (blocked_owned b e) }
+    lock_alone entries.Lock None e h = record { owns = λ may. h; pends = unshared; full = unfilled; barred = λ b. absurd (blocked_owned b e) }
+    lock_alone entries.Bump None e h = record { owns = λ may. h; pends = unshared; full = unfilled; barred = λ b. absurd (blocked_owned b e) }
+    lock_alone entries.LockTimed (Some u) e h = record { owns = λ may. absurd (let g : Some u ≡ None = sym e ∙ may_own may.0 in cc); pends = unshared; full = unfilled; barred = λ b. (h.0, ap (map queued_of) h.2 ∙ queued_behind (2 * l) t Exclusive (queue_at w (2 * l))) }
+    lock_alone entries.Lock (Some u) e h = record { owns = λ may. absurd (let g : Some u ≡ None = sym e ∙ may_own may.0 in cc); pends = unshared; full = unfilled; barred = λ b. (h.0, ap (map queued_of) h.2 ∙ queued_behind (2 * l) t Exclusive (queue_at w (2 * l))) }
+    lock_alone entries.Bump (Some u) e h = record { owns = λ may. absurd (let g : Some u ≡ None = sym e ∙ may_own may.0 in cc); pends = unshared; full = unfilled; barred = λ b. (h.0, ap (map queued_of) h.2 ∙ queued_behind (2 * l) t Exclusive (queue_at w (2 * l))) }
 
     try_alone : (b : Bool) → is_locked (word_at w l) ≡ b → (x ≡ (if b then outcome.TheVariants.End answer.TheVariants.No else outcome.TheVariants.End answer.TheVariants.Yes)) × (owner_at v l ≡ (if b then owner_at w l else Some t))
-        → EntersAlone (locks_of w) t l Exclusive Try x (locks_of v)
-    try_alone true e h = ((λ may. absurd (owned_word (word_at w l) (owner_at w l) (words_coded w steady l rules) e (may_own may))), λ b. h.0)
-    try_alone false e h = ((λ may. h), λ b. absurd (blocked_owned b (free_word (word_at w l) (owner_at w l) (words_coded w steady l rules) e)))
+        → EntersAlone (word_at w l ≡ 0) (locks_of w) t l Exclusive Try x (locks_of v)
+    try_alone true e h = record { owns = λ may. absurd (owned_word (word_at w l) (owner_at w l) (words_coded w steady l rules) e (may_own may.0)); pends = unshared; full = unfilled; barred = λ b. h.0 }
+    try_alone false e h = record { owns = λ may. h; pends = unshared; full = unfilled; barred = λ b. absurd (blocked_owned b (free_word (word_at w l) (owner_at w l) (words_coded w steady l rules) e)) }
 
-    unlock_alone : UnlockEnds l None v x → EndsAlone (locks_of w) t (Some (Releases l Exclusive false)) x (locks_of v)
+    unlock_alone : UnlockEnds l None v x → EndsAlone w t (Some (Releases l Exclusive false)) x v
     unlock_alone h = (h.0, (λ own. let g : None ≡ Some t = sym h.1 ∙ own in cc), λ mutex. h.1)
 
     succeeds : (q : List Waiter) → first_of q ≡ successor true (map queued_of q)
     succeeds [] = refl
     succeeds (y ∷ q) = refl
 
-    unlock_fair_alone : (station (place_at w t)).stands ≡ None → UnlockEnds l (first_of (queue_at w (2 * l))) v x → EndsAlone (locks_of w) t (Some (Releases l Exclusive true)) x (locks_of v)
+    unlock_fair_alone : (station (place_at w t)).stands ≡ None → UnlockEnds l (first_of (queue_at w (2 * l))) v x → EndsAlone w t (Some (Releases l Exclusive true)) x v
     unlock_fair_alone awake h = (h.0, other, λ mutex. h.1 ∙ succeeds (queue_at w (2 * l)))
       where
         other : owner_at v l ≡ Some t → ⊥
         other own = let first : first_of (queue_at w (2 * l)) ≡ Some t = sym h.1 ∙ own in
             let stood : 1 ≤ times t (queue_at w (2 * l)) = first_times t (queue_at w (2 * l)) first in let none : times t (queue_at w (2 * l)) ≡ 0 = absent w steady t awake l in omega arith
 
-    bump_alone : LockEnds t l entries.Bump (first_of (queue_at w (2 * l))) (drop 1 (queue_at w (2 * l))) v x → EndsAlone (locks_of w) t (Some (Bumps l Exclusive)) x (locks_of v)
+    bump_alone : LockEnds t l entries.Bump (first_of (queue_at w (2 * l))) (drop 1 (queue_at w (2 * l))) v x → EndsAlone w t (Some (Bumps l Exclusive)) x v
     bump_alone h of_mutex = by_queue (queue_at w (2 * l)) h
       where
         by_queue : (q : List Waiter) → LockEnds t l entries.Bump (first_of q) (drop 1 q) v x → BumpsAlone t l (map queued_of q) x (lock_state v l)
@@ -471,12 +492,12 @@ module _ (w : State) (t : ℕ) (shape : IsShaped w) (steady : IsSteady w) (there
         by_queue (y ∷ q) g = (g.0, g.1, ap (map queued_of) g.2 ∙ queued_behind (2 * l) t Exclusive q)
 
   fairly : (l : ℕ) → place_at w t ≡ Mutex l UnlockFair → l < length w.locks → is_mutex (kind_at w l) ≡ true → (n : ℕ) (last : Outcome) → 12 ≤ n
-      → EndsAlone (locks_of w) t (Some (Releases l Exclusive true)) (solo n w t last).outcome (locks_of (solo n w t last).state)
+      → EndsAlone w t (Some (Releases l Exclusive true)) (solo n w t last).outcome (solo n w t last).state
   fairly l is lt kind n last le = unlock_fair_alone l kind (solo n w t last).state (solo n w t last).outcome (ap (λ p. (station p).stands) is)
       (unlock_fair_leads t l (queue_at w (2 * l)) (word_at w l) (owner_at w l) w (at_first l _ is refl refl lt) n last (omega arith))
 
   call_alone : (l : ℕ) (fair : Bool) (c : MutexCall) → place_at w t ≡ Mutex l (mutex_first fair c) → l < length w.locks → is_mutex (kind_at w l) ≡ true → (n : ℕ) (last : Outcome) → 12 ≤ n
-      → EndsAlone (locks_of w) t (Some (mutex_purpose fair l c)) (solo n w t last).outcome (locks_of (solo n w t last).state)
+      → EndsAlone w t (Some (mutex_purpose fair l c)) (solo n w t last).outcome (solo n w t last).state
   call_alone l fair mutex_call.TheVariants.Lock is lt kind n last le = lock_alone l kind (solo n w t last).state (solo n w t last).outcome entries.Lock (owner_at w l) refl
       (first_leads t l entries.Lock (queue_at w (2 * l)) false (word_at w l) (owner_at w l) (coded_for w steady t l _ is) w (at_first l _ is refl refl lt) n last (omega arith))
   call_alone l fair mutex_call.TheVariants.LockTimed is lt kind n last le = lock_alone l kind (solo n w t last).state (solo n w t last).outcome entries.LockTimed (owner_at w l) refl
@@ -492,8 +513,8 @@ module _ (w : State) (t : ℕ) (shape : IsShaped w) (steady : IsSteady w) (there
 
   -- a call that begins, stepped alone
   pub solo_ends : (c : Call) → place_at w t ≡ first_place (kind_at w (lock_in c)) c → (n : ℕ) (last : Outcome) → 12 ≤ n
-      → EndsAlone (locks_of w) t (purpose_at (locks_of w) c) (solo n w t last).outcome (locks_of (solo n w t last).state)
-  solo_ends (call.TheVariants.Mutex l c) is n last le = subst (λ o. EndsAlone (locks_of w) t o (solo n w t last).outcome (locks_of (solo n w t last).state)) (sym (purpose_is (kind_at w l) l c calls))
+      → EndsAlone w t (purpose_at (locks_of w) c) (solo n w t last).outcome (solo n w t last).state
+  solo_ends (call.TheVariants.Mutex l c) is n last le = subst (λ o. EndsAlone w t o (solo n w t last).outcome (solo n w t last).state) (sym (purpose_is (kind_at w l) l c calls))
       (call_alone l (is_fair (kind_at w l)) c is fits.0 calls n last le)
     where
       calls : CallsMutex w (Mutex l (mutex_first (is_fair (kind_at w l)) c))
@@ -501,6 +522,12 @@ module _ (w : State) (t : ℕ) (shape : IsShaped w) (steady : IsSteady w) (there
 
       fits : PlaceFits (length w.locks) (Mutex l (mutex_first (is_fair (kind_at w l)) c))
       fits = subst (PlaceFits (length w.locks)) is (shape.places t)
+  solo_ends (call.TheVariants.RwLock l c) is n last le = none_yet (kind_at w l)
+    where
+      none_yet : (k : Kind) → EndsAlone w t (purpose_of k (call.TheVariants.RwLock l c)) (solo n w t last).outcome (solo n w t last).state
+      none_yet kinds.Mutex = tt
+      none_yet kinds.Fair = tt
+      none_yet k = tt
 
 -- ---------------------------------------------------------------- as the world is told them
 
@@ -511,11 +538,12 @@ stands_there (x ∷ xs) (suc t) busy = let ih : t < length xs = stands_there xs 
 
 first_busy : (k : Kind) (c : Call) (p : Place) → p ≡ first_place k c → p ≢ Idle
 first_busy k (call.TheVariants.Mutex l c) p is idle = let e : Mutex l (mutex_first (is_fair k) c) ≡ Idle = sym is ∙ idle in cc
+first_busy k (call.TheVariants.RwLock l c) p is idle = let e : RwLock l (admission_of k) (rwlock_first c) ≡ Idle = sym is ∙ idle in cc
 
 module _ (w : State) (t : ℕ) (shape : IsShaped w) (steady : IsSteady w) where
   pub rests_alone : IsUnderWay w t → HasItsWay w t → Rests (solo 64 w t outcome.TheVariants.NotNow).outcome
   rests_alone up way = solo_rests w t shape steady (stands_there w.places t up.0) way up 64 outcome.TheVariants.NotNow (omega arith)
 
   pub ends_alone : (c : Call) → place_at w t ≡ first_place (kind_at w (lock_in c)) c → HasItsWay w t
-      → EndsAlone (locks_of w) t (purpose_at (locks_of w) c) (solo 64 w t outcome.TheVariants.NotNow).outcome (locks_of (solo 64 w t outcome.TheVariants.NotNow).state)
+      → EndsAlone w t (purpose_at (locks_of w) c) (solo 64 w t outcome.TheVariants.NotNow).outcome (solo 64 w t outcome.TheVariants.NotNow).state
   ends_alone c is way = solo_ends w t shape steady (stands_there w.places t (first_busy (kind_at w (lock_in c)) c (place_at w t) is)) way c is 64 outcome.TheVariants.NotNow (omega arith)

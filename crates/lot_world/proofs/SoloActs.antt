@@ -56,6 +56,12 @@ module _ (w : State) (t : ℕ) (P : State → Outcome → Type 0) where
   leads_step k told more zero last le = absurd (omega arith)
   leads_step k told more (suc n) last le = rw told (more n outcome.TheVariants.Step (omega arith))
 
+pub leads_more : (k m : ℕ) (w : State) (t : ℕ) (P : State → Outcome → Type 0) → k ≤ m → Leads k w t P → Leads m w t P
+leads_more k m w t P le h n last bound = h n last (omega arith)
+
+pub leads_so : (k : ℕ) (w : State) (t : ℕ) (P Q : State → Outcome → Type 0) → ((v : State) (x : Outcome) → P v x → Q v x) → Leads k w t P → Leads k w t Q
+leads_so k w t P Q so h n last bound = so _ _ (h n last bound)
+
 -- ---------------------------------------------------------------- acts
 
 -- where a thread stands in a call of a lock, the lock's word and owner, who is inside its section, and its queue

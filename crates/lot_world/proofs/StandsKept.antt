@@ -4,8 +4,10 @@ use Rattle.std.proofs.lemmas.Bool.{cases_eq, eqb-true}
 use Rattle.lot_base.specs.declared.wants.Waiter.{Waiter}
 use Rattle.lot_base.specs.Lines.{times, without}
 use Rattle.lot_steps.specs.declared.places.Place.{Place}
-use Rattle.lot_steps.specs.declared.places.Place.TheVariants.{Idle, Mutex}
+use Rattle.lot_steps.specs.declared.places.Place.TheVariants.{Idle, Mutex, RwLock}
 use Rattle.abstract_locks.specs.Locks.{putting}
+use Rattle.abstract_locks.specs.Purposes.{rules_of}
+use Rattle.lot_rwlock.specs.RwLockDeeds.{Admits}
 use Rattle.abstract_locks.specs.Sites.{Line, Main, Second}
 use Rattle.lot_machine.specs.Machine.{State, kind_at}
 use Rattle.lot_world.specs.SitesOf.{is_mutex}
@@ -414,3 +416,4 @@ calls_of w l (Mutex k at) h m = rw h m
 pub calls_in : (w v : State) (p : Place) → ((k : ℕ) → kind_at v k ≡ kind_at w k) → CallsMutex w p → CallsMutex v p
 calls_in w v Idle e h = tt
 calls_in w v (Mutex l at) e h = ap is_mutex (e l) ∙ h
+calls_in w v (RwLock l a at) e h = (subst (λ k. Admits (rules_of k) a) (sym (e l)) h.0, h.1, h.2)

@@ -106,7 +106,7 @@ pub record Splits (w : State) (t l : ℕ) (m : Line) (taken left : List Waiter) 
   pub lefts : AreWaiting (place_at w) l m left
   pub wants : AllAre t (λ u. taken_at (next_place (place_at w u) (TakenBy t)) l) taken
 
-at_most_one : (o : Option Line) (m : Line) → stood_in o m ≤ 1
+pub at_most_one : (o : Option Line) (m : Line) → stood_in o m ≤ 1
 at_most_one None m = omega arith
 at_most_one (Some Main) Main = omega arith
 at_most_one (Some Main) Second = omega arith

@@ -11,7 +11,7 @@ use Rattle.lot_calls.specs.declared.calls.Turn.{Turn}
 use Rattle.lot_calls.specs.declared.calls.Turn as turn
 use Rattle.lot_calls.specs.Kinds.{has_call, is_fair}
 use Rattle.lot_steps.specs.declared.places.Place.{Place}
-use Rattle.lot_steps.specs.declared.places.Place.TheVariants.{Idle, Mutex}
+use Rattle.lot_steps.specs.declared.places.Place.TheVariants.{Idle, Mutex, RwLock}
 use Rattle.lot_mutex.specs.declared.lock.Entry.{Entry}
 use Rattle.lot_mutex.specs.declared.lock.Entry.TheVariants as entries
 use Rattle.lot_mutex.specs.declared.lock.LockAt.{LockAt}
@@ -20,12 +20,15 @@ use Rattle.lot_mutex.specs.declared.places.MutexPlace.{MutexPlace}
 use Rattle.lot_mutex.specs.declared.places.MutexPlace.TheVariants.{Lock, TryLock, Unlock, UnlockFair, Bump, HandOff}
 use Rattle.lot_mutex.specs.MutexSteps.{mutex_first, mutex_right}
 use Rattle.lot_acts.specs.Owners.{is_thread}
-use Rattle.lot_steps.specs.Steps.{is_idle, looking, late_key}
+use Rattle.lot_steps.specs.Steps.{is_idle, looking, late_key, key_in}
 use Rattle.abstract_locks.specs.Sites.{Claim, Has, Begin, HasClaim, idle}
 use Rattle.lot_machine.specs.Machine.{State, place_at, owners_at, kind_at, put, state_after_begin, can_begin, is_open_to, state_after_look, state_after_late_on, is_free_under, state_after_turn, can_turn, is_possible, after}
 use Rattle.lot_machine.specs.Fits.{IsShaped, PlaceFits}
 use Rattle.lot_world.specs.Refinement.{lock_state, taken_at}
-use Rattle.lot_world.specs.SitesOf.{is_mutex}
+use Rattle.lot_world.specs.SitesOf.{CallsMutex, is_mutex}
+use Rattle.lot_calls.specs.declared.calls.RwLockCall.{RwLockCall}
+use Rattle.lot_calls.specs.declared.kinds.Kind.{Kind}
+use Rattle.lot_calls.specs.declared.kinds.Kind.TheVariants as kinds
 use Rattle.lot_world.specs.MutexDeeds.{mutex_doing, mutex_station, acts, begins}
 use Rattle.lot_world.specs.Stations.{nowhere, station}
 use Rattle.lot_world.specs.SitesOf.{IsSteady, Goes}
@@ -38,10 +41,22 @@ use Rattle.lot_world.proofs.SitesKept.{mutex_at, goes_steady, place_goes}
 use Rattle.lot_world.proofs.Looking.{looking_steady, looks_now}
 use Rattle.lot_world.proofs.Closures.{nothing_closes}
 use Rattle.lot_world.proofs.GoneKept.{enters, gone_kept}
+use Rattle.lot_world.proofs.RwLockKept.{rwlock_goes_late}
+use Rattle.lot_rwlock.specs.declared.places.Admission.{Admission}
+use Rattle.lot_rwlock.specs.declared.places.RwLockPlace.{RwLockPlace}
+use Rattle.lot_rwlock.specs.RwLockProfiles.{rwlock_late_line}
+use Rattle.lot_base.specs.declared.keys.Line.{Line}
+
+none_yet : (k : Kind) (l : ℕ) (c : RwLockCall) → has_call k (calling.TheVariants.RwLock l c) ≡ true → ⊥
+none_yet kinds.Mutex l c h = absurd cc
+none_yet kinds.Fair l c h = absurd cc
+none_yet (kinds.RwLock limit) l c h = absurd cc
+none_yet k l c h = absurd cc
 
 pub idle_is : (p : Place) → is_idle p ≡ true → p ≡ Idle
 idle_is Idle h = refl
 idle_is (Mutex l at) h = absurd cc
+idle_is (RwLock l a at) h = absurd cc
 
 module _ (w : State) (t : ℕ) (steady : IsSteady w) (shape : IsShaped w) (there : t < length w.places) where
   -- it begins, with the claim that the call needs
@@ -72,6 +87,11 @@ module _ (w : State) (t : ℕ) (steady : IsSteady w) (shape : IsShaped w) (there
       let open_to = both (nat_lt l (length w.locks)) _ parts.1 in
       let right = both (has_call (kind_at w l) (calling.TheVariants.Mutex l c)) _ open_to.1 in
       goes_steady w _ l _ steady (calls_begin l (is_fair (kind_at w l)) c (calls_mutex (kind_at w l) (calling.TheVariants.Mutex l c) right.0) (idle_is (place_at w t) parts.0) right.1)
+  begun_kept (calling.TheVariants.RwLock l c) can =
+      let parts = both (is_idle (place_at w t)) (is_open_to w t (calling.TheVariants.RwLock l c)) can in
+      let open_to = both (nat_lt l (length w.locks)) _ parts.1 in
+      let right = both (has_call (kind_at w l) (calling.TheVariants.RwLock l c)) _ open_to.1 in
+      absurd (none_yet (kind_at w l) l c right.0)
 
   -- it looks at the word once more
   spun_kept : (o : Option Place) → looking (place_at w t) ≡ o → IsSteady (state_after_look w t o)
@@ -90,6 +110,10 @@ module _ (w : State) (t : ℕ) (steady : IsSteady w) (shape : IsShaped w) (there
   lock_late l e r lock.First is lt can = absurd cc
   lock_late l e r a is lt can = absurd cc
 
+  rwlock_late : (l : ℕ) (a : Admission) (p : RwLockPlace) → place_at w t ≡ RwLock l a p → l < length w.locks → (m : Option Line) → rwlock_late_line p ≡ m → is_free_under w (key_in l m) ≡ true → IsSteady (state_after_late_on w t (key_in l m))
+  rwlock_late l a p is lt None e can = absurd cc
+  rwlock_late l a p is lt (Some m) e can = goes_steady w _ l _ steady (rwlock_goes_late w t l a p steady shape there lt is m e can)
+
   late_kept : (p : Place) → place_at w t ≡ p → PlaceFits (length w.locks) p → is_free_under w (late_key p) ≡ true → IsSteady (state_after_late_on w t (late_key p))
   late_kept (Mutex l (Lock e r a)) is fits can = lock_late l e r a is fits.0 can
   late_kept (Mutex l TryLock) is fits can = absurd cc
@@ -97,6 +121,7 @@ module _ (w : State) (t : ℕ) (steady : IsSteady w) (shape : IsShaped w) (there
   late_kept (Mutex l UnlockFair) is fits can = absurd cc
   late_kept (Mutex l Bump) is fits can = absurd cc
   late_kept (Mutex l (HandOff bumps a)) is fits can = absurd cc
+  late_kept (RwLock l a p) is fits can = rwlock_late l a p is fits (rwlock_late_line p) refl can
   late_kept Idle is fits can = absurd cc
 
   turned_kept : (x : Turn) → can_turn w t x ≡ true → IsSteady (state_after_turn w t x)

@@ -4,7 +4,7 @@ use Rattle.lot_base.specs.declared.wants.Waiter.{Waiter}
 pub use Rattle.lot_base.specs.Keys.{key_of}
 use Rattle.lot_base.specs.Lines.{times}
 use Rattle.lot_steps.specs.declared.places.Place.{Place}
-use Rattle.lot_steps.specs.declared.places.Place.TheVariants.{Idle, Mutex as OfMutex}
+use Rattle.lot_steps.specs.declared.places.Place.TheVariants.{Idle, Mutex as OfMutex, RwLock as OfRwLock}
 use Rattle.lot_base.specs.declared.wants.Want.TheVariants.{Upgradable}
 use Rattle.abstract_locks.specs.Locks.{Rules, Knows}
 use Rattle.abstract_locks.specs.Sites.{Line, Main, Second, Site, IsSite, Deed, Case, has_readers, after_deed, Needed}
@@ -14,6 +14,8 @@ use Rattle.lot_machine.specs.Machine.{State, place_at, word_at, shares_at, fille
 use Rattle.lot_world.specs.Refinement.{lock_state}
 use Rattle.lot_calls.specs.declared.kinds.Kind.{Kind}
 use Rattle.lot_calls.specs.declared.kinds.Kind as kind
+use Rattle.lot_rwlock.specs.RwLockDeeds.{Admits}
+use Rattle.lot_rwlock.specs.RwLockCalls.{MayStand}
 use Rattle.lot_world.specs.MutexDeeds.{Act}
 use Rattle.lot_world.specs.Stations.{Hand, hand, station_at, doing_on}
 
@@ -101,10 +103,15 @@ is_mutex kind.TheVariants.Mutex = true
 is_mutex kind.TheVariants.Fair = true
 is_mutex k = false
 
+-- no call of a reader-writer lock is built
+abbrev pub NotYet : Type 0
+NotYet = ⊥
+
 -- a call of a mutex is of a lock of such a kind
 abbrev pub CallsMutex : State → Place → Type 0
 CallsMutex w Idle = Unit {0}
 CallsMutex w (OfMutex l at) = is_mutex (kind_at w l) ≡ true
+CallsMutex w (OfRwLock l a at) = Admits (rules_at w l) a × MayStand a at × NotYet
 
 pub record Stands (w : State) : Type 0 where
   pub sections : Sections (place_at w) (section_at w)

@@ -1,5 +1,5 @@
 -- What comes of a call whose thread steps alone.
-use Rattle.std.specs.Prelude.{ℕ, Bool, if◌then◌else◌, List, Option, Some, None, ◌≡◌, ◌≢◌, ◌*◌, ◌≤◌, ◌++◌, ◌∷◌, [], length, replicate}
+use Rattle.std.specs.Prelude.{ℕ, Bool, true, if◌then◌else◌, List, Option, Some, None, ◌≡◌, ◌≢◌, ◌*◌, ◌≤◌, ◌++◌, ◌∷◌, [], length, replicate}
 use Rattle.lot_base.specs.declared.wants.Want.{Want}
 use Rattle.lot_base.specs.declared.wants.Want.TheVariants.{Exclusive}
 use Rattle.lot_acts.specs.declared.acts.Act.TheVariants.{Sleep}
@@ -9,19 +9,27 @@ use Rattle.lot_calls.specs.declared.outcomes.Outcome.{Outcome}
 use Rattle.lot_calls.specs.declared.outcomes.Outcome as outcome
 use Rattle.lot_steps.specs.declared.places.Place.TheVariants.{Idle}
 use Rattle.lot_steps.specs.Steps.{act_of, lock_of}
-use Rattle.lot_machine.specs.Machine.{State, place_at, section_at, go_of}
-use Rattle.abstract_locks.specs.Locks.{Mutex, LockState, first_thread, Queued, MayEnter, IsBlocked, Owns}
-use Rattle.abstract_locks.specs.Purposes.{Purpose, Enters, Releases, Bumps, Patience, Patient, Try}
-use Rattle.abstract_locks.specs.Runs.{LocksState, rules_at}
+use Rattle.lot_machine.specs.Machine.{State, place_at, word_at, kind_at, section_at, go_of}
+use Rattle.abstract_locks.specs.Locks.{Sort, Mutex, Rules, LockState, first_thread, Queued, MayEnter, IsBlocked, Owns, readers, with_right}
+use Rattle.abstract_locks.specs.Sites.{Line, Main, Second, has_readers}
+use Rattle.abstract_locks.specs.Purposes.{rules_of, Purpose, Enters, Releases, Converts, Bumps, Patience, Patient, Try}
+use Rattle.abstract_locks.specs.Runs.{LocksState, IsFull, rules_at, rights_in}
+use Rattle.lot_world.specs.SitesOf.{key_of}
+use Rattle.lot_world.specs.Refinement.{locks_of}
 use Rattle.lot_world.specs.WorldRuns.{IsWorldRun}
 
 -- the thread is in a call, and isn't asleep
 abbrev pub IsUnderWay : State → ℕ → Type 0
 IsUnderWay w t = (place_at w t ≢ Idle) × (act_of (place_at w t) ≢ Sleep)
 
--- nobody else is inside the section that its call enters
+-- a lock that is shared has a second line
+abbrev pub HasLine : Sort → Line → Type 0
+HasLine sort Main = Unit {0}
+HasLine sort Second = has_readers sort ≡ true
+
+-- nobody else is inside a section that its call may enter
 abbrev pub HasItsWay : State → ℕ → Type 0
-HasItsWay w t = (l u : ℕ) → lock_of (place_at w t) ≡ Some l → section_at w (2 * l) ≡ Some u → u ≡ t
+HasItsWay w t = (l u : ℕ) (m : Line) → lock_of (place_at w t) ≡ Some l → HasLine (rules_of (kind_at w l)).sort m → section_at w (key_of l m) ≡ Some u → u ≡ t
 
 -- the call has ended, sleeps or is in its closure
 abbrev pub Rests : Outcome → Type 0
@@ -35,27 +43,62 @@ abbrev pub entered_answer : Patience → Answer
 entered_answer Patient = answer.TheVariants.Ok
 entered_answer how = answer.TheVariants.Yes
 
--- a call that waits enters where it may, and else is the last of the queue, asleep
-abbrev pub EntersAlone : LocksState → ℕ → ℕ → Want → Patience → Outcome → LocksState → Type 0
-EntersAlone w t l x Try o v =
-    (MayEnter (rules_at w l) (w.locks l) x
-    → (o ≡ outcome.TheVariants.End answer.TheVariants.Yes) × Owns (v.locks l) t x)
-    × (IsBlocked (rules_at w l) (w.locks l) x → o ≡ outcome.TheVariants.End answer.TheVariants.No)
-EntersAlone w t l x how o v =
-    (MayEnter (rules_at w l) (w.locks l) x → (o ≡ outcome.TheVariants.End (entered_answer how)) × Owns (v.locks l) t x)
-    × (IsBlocked (rules_at w l) (w.locks l) x
-    → (o ≡ outcome.TheVariants.Sleep) × ((v.locks l).queue ≡ (w.locks l).queue ++ (record { thread = t; want = x }) ∷ []))
+-- it may have its right at once: nobody shares where it is to own alone; and a writer's try at a lock that is shared finds a word that is
+-- clear, since a parked bit may stand where a waiter was and is gone
+abbrev pub MayEnterAtOnce : Type 0 → Rules → LockState → Want → Patience → Type 0
+MayEnterAtOnce clear r s Exclusive Try = MayEnter r s Exclusive × (has_readers r.sort ≡ true → clear)
+MayEnterAtOnce clear r s Exclusive how = MayEnter r s Exclusive × (has_readers r.sort ≡ true → readers s ≡ 0)
+MayEnterAtOnce clear r s x how = MayEnter r s x
+
+-- the thread is the last of the queue, asleep
+abbrev pub SleepsLast : LockState → ℕ → Want → Outcome → LockState → Type 0
+SleepsLast s t x o s2 = (o ≡ outcome.TheVariants.Sleep) × (s2.queue ≡ s.queue ++ (record { thread = t; want = x }) ∷ [])
+
+-- it sleeps aside of the queue, where a pending writer waits for readers; a try doesn't wait
+abbrev pub SleepsAside : Patience → ℕ → Outcome → LockState → Type 0
+SleepsAside Try t o s2 = Unit {0}
+SleepsAside how t o s2 = (o ≡ outcome.TheVariants.Sleep) × (s2.aside ≡ Some t)
+
+-- where its way is barred a try ends, and any other call waits
+abbrev pub WaitsAlone : Patience → LockState → ℕ → Want → Outcome → LockState → Type 0
+WaitsAlone Try s t x o s2 = o ≡ outcome.TheVariants.End answer.TheVariants.No
+WaitsAlone how s t x o s2 = SleepsLast s t x o s2
+
+-- what a call comes to that waits for a right; clear says that no bit of the word is set
+pub record EntersAlone (clear : Type 0) (w : LocksState) (t l : ℕ) (x : Want) (how : Patience) (o : Outcome) (v : LocksState) : Type 0 where
+  pub owns : MayEnterAtOnce clear (rules_at w l) (w.locks l) x how
+      → (o ≡ outcome.TheVariants.End (entered_answer how)) × Owns (v.locks l) t x
+  pub pends : x ≡ Exclusive → MayEnter (rules_at w l) (w.locks l) x → 1 ≤ readers (w.locks l) → SleepsAside how t o (v.locks l)
+  pub full : IsFull w l x → o ≡ outcome.TheVariants.End answer.TheVariants.ReadersFull
+  pub barred : IsBlocked (rules_at w l) (w.locks l) x → WaitsAlone how (w.locks l) t x o (v.locks l)
+
+-- a right turned into a lesser one
+abbrev pub DowngradesAlone : ℕ → Want → Outcome → LockState → Type 0
+DowngradesAlone t y o s2 = (o ≡ outcome.TheVariants.End answer.TheVariants.Ok) × Owns s2 t y
+
+-- beside readers an upgrade waits for them, and a try ends
+abbrev pub WaitsForReaders : Patience → ℕ → Outcome → LockState → Type 0
+WaitsForReaders Try t o s2 = o ≡ outcome.TheVariants.End answer.TheVariants.No
+WaitsForReaders how t o s2 = SleepsAside how t o s2
+
+-- what a call comes to that turns its right into another
+abbrev pub ConvertsAlone : LockState → ℕ → Want → Patience → Outcome → LockState → Type 0
+ConvertsAlone s t Exclusive how o s2 =
+    (readers s ≡ 0 → (o ≡ outcome.TheVariants.End (entered_answer how)) × Owns s2 t Exclusive)
+    × (1 ≤ readers s → WaitsForReaders how t o s2)
+ConvertsAlone s t y how o s2 = DowngradesAlone t y o s2
 
 -- a fair release leaves the lock to the first waiter, and any other to nobody
 abbrev pub successor : Bool → List Queued → Option ℕ
 successor fair q = if fair then first_thread q else None
 
--- a release ends without its right
+-- a release ends without its right, and who shares has one right less
 abbrev pub ReleasesAlone : LocksState → ℕ → ℕ → Want → Bool → Outcome → LocksState → Type 0
 ReleasesAlone w t l Exclusive fair o v =
     (o ≡ outcome.TheVariants.End answer.TheVariants.Ok) × (Owns (v.locks l) t Exclusive → ⊥)
     × ((rules_at w l).sort ≡ Mutex → (v.locks l).exclusive ≡ successor fair (w.locks l).queue)
-ReleasesAlone w t l x fair o v = (o ≡ outcome.TheVariants.End answer.TheVariants.Ok) × (Owns (v.locks l) t x → ⊥)
+ReleasesAlone w t l x fair o v =
+    (o ≡ outcome.TheVariants.End answer.TheVariants.Ok) × (with_right x (rights_in v t l) ≡ rights_in w t l)
 
 -- a bump of a mutex hands it to the first waiter and then is as a call that enters, asleep as the last of the queue; where nobody
 -- waits it ends with the mutex
@@ -65,12 +108,17 @@ BumpsAlone t l (x ∷ q) o s =
     (o ≡ outcome.TheVariants.Sleep) × (s.exclusive ≡ Some x.thread)
     × (s.queue ≡ q ++ (record { thread = t; want = Exclusive }) ∷ [])
 
-abbrev pub EndsAlone : LocksState → ℕ → Option Purpose → Outcome → LocksState → Type 0
-EndsAlone w t (Some (Enters l x how)) o v = EntersAlone w t l x how o v
-EndsAlone w t (Some (Releases l x fair)) o v = ReleasesAlone w t l x fair o v
-EndsAlone w t (Some (Bumps l Exclusive)) o v =
+abbrev pub EndsBy : (ℕ → ℕ) → LocksState → ℕ → Option Purpose → Outcome → LocksState → Type 0
+EndsBy words w t (Some (Enters l x how)) o v = EntersAlone (words l ≡ 0) w t l x how o v
+EndsBy words w t (Some (Releases l x fair)) o v = ReleasesAlone w t l x fair o v
+EndsBy words w t (Some (Converts l x y how)) o v = ConvertsAlone (w.locks l) t y how o (v.locks l)
+EndsBy words w t (Some (Bumps l Exclusive)) o v =
     (rules_at w l).sort ≡ Mutex → BumpsAlone t l (w.locks l).queue o (v.locks l)
-EndsAlone w t purpose o v = Unit {0}
+EndsBy words w t purpose o v = Unit {0}
+
+-- what a call comes to, by what it is for
+abbrev pub EndsAlone : State → ℕ → Option Purpose → Outcome → State → Type 0
+EndsAlone w t purpose o v = EndsBy (word_at w) (locks_of w) t purpose o (locks_of v)
 
 -- the last of what was told, and NotNow where nothing was
 abbrev pub last_told : List Outcome → Outcome

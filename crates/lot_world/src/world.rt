@@ -104,9 +104,10 @@ impl<Q: Queues + Drop> World<Q> {
         // A call under way ends or sleeps, where nobody else is inside the section that it enters.
         ensures rests { IsUnderWay self.old thread → HasItsWay self.old thread → Rests result }
 
-        // And from its beginning: it enters where it may, else sleeps as the last of the queue; a try ends; a release ends without its right.
+        // And from its beginning: it enters where it may, else sleeps as the last of the queue, or aside where it waits for readers;
+        // a try ends; a release ends without its right, and a downgrade with the lesser one.
         ensures ends { (call : Call) → place_at self.old thread ≡ first_place (kind_at self.old (lock_in call)) call → HasItsWay self.old thread
-            → EndsAlone (locks_of self.old) thread (purpose_at (locks_of self.old) call) result (locks_of self.new) }
+            → EndsAlone self.old thread (purpose_at (locks_of self.old) call) result self.new }
         ensures same_size { SameSize self.old self.new }
     {
         // The proof reads the world's invariant here.

@@ -1,0 +1,372 @@
+-- A thread in a call of a reader-writer lock goes on: every lock is a site again.
+use Rattle.std.proofs.Common.{ℕ, Bool, true, false, Option, Some, None, if◌then◌else◌, ◌==◌, ◌≡◌, ◌≢◌, ◌+◌, ◌*◌, ◌-◌, ◌^◌, ◌≤◌, ◌<◌, List, [], ◌∷◌, length, is_none, refl, sym, ◌∙◌, ap, subst, arith}
+use Rattle.std.proofs.lemmas.Bool.{eqb-true}
+use Rattle.lot_base.specs.declared.keys.Keys.{Keys}
+use Rattle.lot_base.specs.declared.keys.Keys.TheVariants.{One}
+use Rattle.lot_base.specs.declared.notes.Note.TheVariants.{Normal}
+use Rattle.lot_base.specs.declared.ops.Op.{Op}
+use Rattle.lot_base.specs.Words.{apply}
+use Rattle.lot_base.specs.declared.wants.Want.{Want}
+use Rattle.lot_acts.specs.declared.acts.Check.{Check}
+use Rattle.lot_calls.specs.declared.calls.Access.TheVariants as access
+use Rattle.lot_calls.specs.declared.calls.RwLockCall.{RwLockCall}
+use Rattle.lot_calls.specs.declared.kinds.Kind.{Kind}
+use Rattle.lot_calls.specs.declared.kinds.Kind.TheVariants as kinds
+use Rattle.lot_calls.specs.declared.calls.Patience.{Patience}
+use Rattle.lot_calls.specs.declared.calls.Patience.TheVariants as patience
+use Rattle.lot_acts.specs.declared.acts.Act.{Act}
+use Rattle.lot_acts.specs.declared.acts.Act.TheVariants as act
+use Rattle.lot_acts.specs.declared.acts.Next.{Next}
+use Rattle.lot_acts.specs.declared.acts.Next.TheVariants as next
+use Rattle.lot_acts.specs.declared.acts.Reply.{Reply}
+use Rattle.lot_acts.specs.declared.acts.Reply.TheVariants.{Done, Value, Parked, Took, Picked, Removed, Late, TakenBy, Woken}
+use Rattle.lot_acts.specs.declared.acts.Wakes.{Wakes}
+use Rattle.lot_acts.specs.declared.acts.Whom as whom
+use Rattle.lot_acts.specs.Moves.{Stays, GoesIn, GoesOut, Parks, Picks, TakesAside, LeavesLine, Moves, row_of}
+use Rattle.lot_acts.specs.Profiles.{Profile}
+use Rattle.lot_acts.specs.Stations.{Station}
+use Rattle.lot_acts.specs.Owners.{lock_seen, shares_then}
+use Rattle.lot_rwlock.specs.declared.places.Admission.{Admission}
+use Rattle.lot_rwlock.specs.declared.places.RwLockPlace.{RwLockPlace}
+use Rattle.lot_rwlock.specs.declared.places.RwLockAt.{RwLockAt}
+use Rattle.lot_rwlock.specs.declared.places.RwLockAt.TheVariants as at
+use Rattle.lot_rwlock.specs.declared.park.ParkAt.{ParkAt}
+use Rattle.lot_rwlock.specs.declared.park.ParkAt.TheVariants as parking
+use Rattle.lot_rwlock.specs.declared.release.WakeAt.{WakeAt}
+use Rattle.lot_rwlock.specs.declared.release.WakeAt.TheVariants as waking
+use Rattle.lot_rwlock.specs.RwLockSteps.{patience_of, rwlock_act, rwlock_next, rwlock_owners, rwlock_shares}
+use Rattle.lot_rwlock.specs.RwLockDeeds.{Admits, IsAt, MayHear, doing_next, rwlock_deeds, rwlock_doing}
+use Rattle.lot_rwlock.specs.RwLockProfiles.{rwlock_profile, rwlock_late_line, late_line_at}
+use Rattle.lot_rwlock.specs.RwLockCalls.{HasDeadline, MayStand, MayBeTold, MayStandNext, next_row}
+use Rattle.lot_rwlock.specs.RwLockMoves.{rwlock_move, rwlock_hears}
+use Rattle.lot_rwlock.specs.RwLockBegins.{admission_of, rwlock_first, rwlock_right}
+use Rattle.lot_rwlock.specs.RwLockOpenings.{Opens}
+use Rattle.lot_rwlock.proofs.RwLockOpenings.{rwlock_calls_open}
+use Rattle.lot_rwlock.proofs.RwLockStands.{is_at, rwlock_calls_stand}
+use Rattle.lot_rwlock.proofs.RwLockFit.{knows_all, rwlock_steps_follow}
+use Rattle.lot_rwlock.proofs.RwLockCodes.{rwlock_steps_code}
+use Rattle.lot_rwlock.proofs.RwLockOwners.{rwlock_owners_follow}
+use Rattle.lot_rwlock.proofs.RwLockSections.{rwlock_sections_follow}
+use Rattle.lot_rwlock.proofs.RwLockMoves.{rwlock_acts_move, rwlock_sleepers_move, rwlock_late_moves}
+use Rattle.lot_steps.specs.declared.places.Place.{Place}
+use Rattle.lot_steps.specs.declared.places.Place.TheVariants.{Idle, Mutex, RwLock}
+use Rattle.lot_steps.specs.Steps.{next_place, profile, wants, rwlock_goes}
+use Rattle.abstract_locks.specs.Locks.{Rules, Sort, Normal, Recursive, Semaphore, count, one_if_some, standing}
+use Rattle.abstract_locks.specs.Locks as locks
+use Rattle.abstract_locks.specs.Sites.{Site, IsSite, Line, Main, Second, Begin, has_readers}
+use Rattle.abstract_locks.specs.Codes.{HasLimit, bit, code, code_of, packed, writers}
+use Rattle.abstract_locks.specs.Deeds as laws
+use Rattle.abstract_locks.specs.Purposes.{rules_of}
+use Rattle.lot_machine.specs.Machine.{State, place_at, word_at, kind_at, owners_at, shares_at, share_at, queue_at, section_at, can_do, are_free, is_free, put, state_after_act, state_after_late_under, reply_to}
+use Rattle.lot_machine.specs.Fits.{IsShaped}
+use Rattle.lot_machine.proofs.Shape.{main_key_there}
+use Rattle.lot_world.specs.Refinement.{lock_state, taken_at}
+use Rattle.lot_world.specs.MutexDeeds.{acts}
+use Rattle.lot_world.specs.Stations.{calls, station, doing_on}
+use Rattle.lot_world.specs.SitesOf.{IsSteady, Goes, CallsMutex, TakesOne, HasRoom, NotYet, is_mutex, rules_at, key_of}
+use Rattle.lot_world.proofs.Glue.{IsOf, next_of, parts_at, put_here, doing_here}
+use Rattle.lot_world.proofs.StandsMoved.{mutex_rules}
+use Rattle.lot_world.proofs.ActsKept.{lock_by, place_goes}
+use Rattle.lot_world.proofs.OneStep.{steps_by}
+use Rattle.lot_world.proofs.SitesKept.{go_by}
+use Rattle.lot_world.proofs.MovesKept.{free_of, IsFollowed, IsSleeper, stays, goes_in, goes_out, parks_or_turns, leaves_line, takes_whom_aside, takes_chosen, wakes_one, nowhere_here}
+
+-- ---------------------------------------------------------------- rows
+
+-- where a place leads, its row does
+pub next_is : (l : ℕ) (a : Admission) (n : Next RwLockPlace) → profile (rwlock_goes l a n) ≡ row_of (next_row a n)
+next_is l a (next.At p) = refl
+next_is l a (next.End answer) = refl
+
+doing_is : (a : Admission) (n : Next RwLockPlace) → doing_next n ≡ (row_of (next_row a n)).doing
+doing_is a (next.At p) = refl
+doing_is a (next.End answer) = refl
+
+-- ---------------------------------------------------------------- what a thread may be told
+
+-- but of its entering, of the word, or of its time
+abbrev IsOther : Reply → Type 0
+IsOther Done = ⊥
+IsOther (Value seen) = ⊥
+IsOther Late = ⊥
+IsOther told = Unit {0}
+
+module _ (a : Admission) (p : RwLockPlace) where
+  told_other : (to : RwLockAt) (told : Reply) → IsOther told → MayBeTold a p to told
+  told_other (at.Decide seen) Done h = absurd h
+  told_other (at.Decide seen) (Value v) h = absurd h
+  told_other (at.Decide seen) Late h = absurd h
+  told_other (at.Decide seen) told h = tt
+  told_other to Done h = absurd h
+  told_other to (Value v) h = absurd h
+  told_other to Late h = absurd h
+  told_other to told h = tt
+
+  told_value : (to : RwLockAt) (v : ℕ) → v < 2 ^ 64 → MayBeTold a p to (Value v)
+  told_value (at.Decide seen) v h = h
+  told_value to v h = h
+
+  told_late : (to : RwLockAt) (how : Patience) → patience_of p.purpose ≡ how → (m : Line) → late_line_at how to ≡ Some m → MayBeTold a p to Late
+  told_late (at.Park parking.Asleep) patience.Timed e m h = subst HasDeadline (sym e) tt
+  told_late (at.Aside parking.Asleep) patience.Timed e m h = subst HasDeadline (sym e) tt
+  told_late (at.Park parking.Asleep) patience.Patient e m h = absurd cc
+  told_late (at.Aside parking.Asleep) patience.Patient e m h = absurd cc
+  told_late (at.Park parking.Asleep) patience.Try e m h = absurd cc
+  told_late (at.Aside parking.Asleep) patience.Try e m h = absurd cc
+  told_late (at.Park to) how e m h = absurd cc
+  told_late (at.Aside to) how e m h = absurd cc
+  told_late to how e m h = absurd cc
+
+  told_done : (r : Rules) (s : Site) (t : ℕ) (to : RwLockAt) (whom : Option ℕ) → MayHear r a s t p to whom Done → MayBeTold a p to Done
+  told_done r s t (at.Decide seen) whom h = h.0
+  told_done r s t to whom h = tt
+
+-- ---------------------------------------------------------------- words
+
+-- the word of a lock with room has 64 bits
+word_few : (r : Rules) (s : Site) → has_readers r.sort ≡ true → IsSite r s → r.limit < 2 ^ 60 - 1 → HasLimit r s.lock → code r s < 2 ^ 64
+word_few r s readers site room limit = by_sort r.sort refl readers
+  where
+    one : s.lock.exclusive ≡ None → writers s.lock ≤ 1
+    one e = let x : one_if_some s.lock.exclusive ≡ 0 = ap one_if_some e in let y : one_if_some s.lock.pending ≤ 1 = at_most s.lock.pending in omega arith
+      where
+        at_most : {A : Type 0} (o : Option A) → one_if_some o ≤ 1
+        at_most None = omega arith
+        at_most (Some x) = omega arith
+
+    few_writers : (o : Option ℕ) → s.lock.exclusive ≡ o → writers s.lock ≤ 1
+    few_writers None e = one e
+    few_writers (Some u) e = let x : one_if_some s.lock.exclusive ≡ 1 = ap one_if_some e in let y : one_if_some s.lock.pending ≡ 0 = ap one_if_some (site.state.exclusive_alone u e).0 in omega arith
+
+    few_upgradable : (o : Option ℕ) → one_if_some o ≤ 1
+    few_upgradable None = omega arith
+    few_upgradable (Some x) = omega arith
+
+    bit_few : (b : Bool) → bit b ≤ 1
+    bit_few true = omega arith
+    bit_few false = omega arith
+
+    small : packed (count s.lock) (writers s.lock) (one_if_some s.lock.upgradable) (bit s.aside_parked) (bit s.parked) < 2 ^ 64
+    small = let c : count s.lock ≤ r.limit + 1 = limit.top in
+        let x : writers s.lock ≤ 1 = few_writers s.lock.exclusive refl in
+        let u : one_if_some s.lock.upgradable ≤ 1 = few_upgradable s.lock.upgradable in
+        let b : bit s.aside_parked ≤ 1 = bit_few s.aside_parked in
+        let d : bit s.parked ≤ 1 = bit_few s.parked in
+        omega arith
+
+    by_sort : (sort : Sort) → r.sort ≡ sort → has_readers sort ≡ true → code_of r.sort r.limit s < 2 ^ 64
+    by_sort Normal e h = subst (λ sort. code_of sort r.limit s < 2 ^ 64) (sym e) small
+    by_sort Recursive e h = subst (λ sort. code_of sort r.limit s < 2 ^ 64) (sym e) small
+    by_sort locks.Mutex e h = absurd cc
+    by_sort Semaphore e h = absurd cc
+
+-- ---------------------------------------------------------------- one thread
+
+module _ (w : State) (t l : ℕ) (a : Admission) (p : RwLockPlace) (steady : IsSteady w) (shape : IsShaped w) (there : t < length w.places) (lt : l < length w.locks) (is : place_at w t ≡ RwLock l a p) where
+  fits_now : CallsMutex w (RwLock l a p)
+  fits_now = subst (CallsMutex w) is (steady.stands.calls t)
+
+  admits : Admits (rules_at w l) a
+  admits = fits_now.0
+
+  stands : MayStand a p
+  stands = fits_now.1
+
+  own : IsOf l (place_at w t)
+  own = rw is refl
+
+  same_row : profile (place_at w t) ≡ rwlock_profile a p
+  same_row = ap profile is
+
+  abbrev here : Site
+  here = lock_by w l (rules_at w l)
+
+  site : IsSite (rules_at w l) here
+  site = steady.sites.site l
+
+  doing_now : here.doing t ≡ rwlock_doing p
+  doing_now = doing_here l (place_at w t) own ∙ ap (λ (y : Profile). y.doing) same_row
+
+  at_now : IsAt (rules_at w l) a here t p
+  at_now = is_at (rules_at w l) a here t p admits site doing_now stands
+
+  -- what its laws conclude
+  abbrev Followed : Option ℕ → Reply → Type 0
+  Followed whom told = IsFollowed w t l steady there own (rules_at w l) refl admits.0 (rwlock_move a p) same_row whom told (next_place (place_at w t) told)
+
+  followed_by : (whom : Option ℕ) (told : Reply) → laws.AllNeeded (rules_at w l) (rwlock_deeds a p whom told) here t → (laws.after_all (rules_at w l) (rwlock_deeds a p whom told) here t).doing t ≡ doing_next (rwlock_next a p told) → MayBeTold a p p.at told → Followed whom told
+  followed_by whom told needed does may = record {
+    of = next_of l (place_at w t) told own;
+    fits = subst (λ q. CallsMutex w (next_place q told)) (sym is) (by_next (rwlock_next a p told) (rwlock_calls_stand a p told stands may));
+    row = ap (λ q. profile (next_place q told)) is ∙ next_is l a (rwlock_next a p told);
+    needed = needed;
+    doing = does ∙ doing_is a (rwlock_next a p told);
+  }
+    where
+      by_next : (n : Next RwLockPlace) → MayStandNext a n → CallsMutex w (rwlock_goes l a n)
+      by_next (next.At q) h = (admits, h, fits_now.2)
+      by_next (next.End answer) h = tt
+
+  followed : (whom : Option ℕ) (told : Reply) → MayHear (rules_at w l) a here t p p.at whom told → MayBeTold a p p.at told → Followed whom told
+  followed whom told hears may = let f = rwlock_sections_follow (rules_at w l) a here t p whom told at_now hears in followed_by whom told f.needed f.doing may
+
+  -- ---------------------------------------------------------------- who else calls the lock
+
+  asleep : (u : ℕ) → calls (place_at w u) l ≡ true → IsSleeper w t l steady there own (rules_at w l) refl admits.0 (rwlock_move a p) same_row u
+  asleep u h = by_place (place_at w u) refl h
+    where
+      by_place : (q : Place) → place_at w u ≡ q → calls q l ≡ true → IsSleeper w t l steady there own (rules_at w l) refl admits.0 (rwlock_move a p) same_row u
+      by_place Idle e g = absurd cc
+      by_place (Mutex k m) e g = absurd (let same_lock : k ≡ l = eqb-true k l g in let of_mutex : is_mutex (kind_at w k) ≡ true = subst (CallsMutex w) e (steady.stands.calls u) in
+          let none : has_readers (rules_at w k).sort ≡ false = ap (λ (r : Rules). has_readers r.sort) (mutex_rules (kind_at w k) of_mutex) in let some : has_readers (rules_at w l).sort ≡ true = admits.0 in let both : true ≡ false = sym some ∙ ap (λ j. has_readers (rules_at w j).sort) (sym same_lock) ∙ none in cc)
+      by_place (RwLock k b q) e g = record {
+        move = rwlock_move b q;
+        row = ap profile e;
+        waits = rwlock_sleepers_move b q fits_u.1;
+        taken = ap (λ y. profile (next_place y (TakenBy t))) e ∙ next_is k b (rwlock_next b q (TakenBy t));
+        wants_then = ap (λ y. wants (next_place y (TakenBy t))) e ∙ wants_next (rwlock_next b q (TakenBy t));
+        woken = ap (λ y. profile (next_place y (Woken Normal))) e ∙ next_is k b (rwlock_next b q (Woken Normal));
+        taken_fits = subst (λ y. CallsMutex w (next_place y (TakenBy t))) (sym e) (by_next (rwlock_next b q (TakenBy t)) (rwlock_calls_stand b q (TakenBy t) fits_u.1 (told_other b q q.at (TakenBy t) tt)));
+        woken_fits = subst (λ y. CallsMutex w (next_place y (Woken Normal))) (sym e) (by_next (rwlock_next b q (Woken Normal)) (rwlock_calls_stand b q (Woken Normal) fits_u.1 (told_other b q q.at (Woken Normal) tt)));
+      }
+        where
+          fits_u : CallsMutex w (RwLock k b q)
+          fits_u = subst (CallsMutex w) e (steady.stands.calls u)
+
+          by_next : (n : Next RwLockPlace) → MayStandNext b n → CallsMutex w (rwlock_goes k b n)
+          by_next (next.At y) h = (fits_u.0, h, fits_u.2)
+          by_next (next.End answer) h = tt
+
+          wants_next : (n : Next RwLockPlace) → wants (rwlock_goes k b n) ≡ (row_of (next_row b n)).wants
+          wants_next (next.At y) = refl
+          wants_next (next.End answer) = refl
+
+  -- ---------------------------------------------------------------- each act
+
+  abbrev GoesBy : Act → Type 0
+  GoesBy y = (whom : Option ℕ) × Goes w (go_by w t (RwLock l a p) y) l (acts t (rwlock_deeds a p whom (reply_to w t y)))
+
+  many : TakesOne w l → ⊥
+  many one = one (knows_all (rules_at w l) admits.0 access.Upgradable)
+
+  section_there : (m : Line) → key_of l m < length w.sections
+  section_there Main = main_key_there w l shape lt
+  section_there Second = let e : length w.sections ≡ 2 * length w.locks = shape.sections in omega arith
+
+  line_there : (m : Line) → key_of l m < length w.queues
+  line_there m = let e : length w.queues ≡ length w.sections = shape.queues in let h : key_of l m < length w.sections = section_there m in omega arith
+
+  word_is : word_at w l ≡ code (rules_at w l) here
+  word_is = steady.sites.word l
+
+  -- one operation on the word
+  on_word : (op : Op) → rwlock_act l a p ≡ act.Word l op → Stays (rwlock_move a p) → Goes w (put (state_after_act w t (RwLock l a p) (act.Word l op)) t (next_place (place_at w t) (Value (word_at w l)))) l (acts t (rwlock_deeds a p None (Value (word_at w l))))
+  on_word op e g = stays w t l steady there own (rules_at w l) refl admits.0 (rwlock_move a p) same_row (RwLock l a p) (next_place (place_at w t) (Value (word_at w l))) op lt g on.0 on.1 on.2
+    where
+      nowhere : standing t here.lock ≡ 0
+      nowhere = nowhere_here w t l steady there own (rules_at w l) refl admits.0 (rwlock_move a p) same_row g.out g.free
+
+      limits : HasRoom (rules_at w l) × HasLimit (rules_at w l) here.lock
+      limits = steady.sites.limits l admits.0
+
+      room : a.limit < 2 ^ 60 - 1
+      room = subst (λ n. n < 2 ^ 60 - 1) admits.2 limits.0.1
+
+      few : code (rules_at w l) here < 2 ^ 64
+      few = word_few (rules_at w l) here admits.0 site limits.0.1 limits.1
+
+      at_word : ℕ → Type 0
+      at_word v = Followed None (Value v)
+          × (lock_seen (shares_then (shares_at w l) t (rwlock_shares a p v (share_at w l t))) (rwlock_owners a p t v (owners_at w l)) (queue_at w (2 * l)) (queue_at w (2 * l + 1)) (λ u. taken_at (place_at w u) l) ≡ (laws.after_all (rules_at w l) (rwlock_deeds a p None (Value v)) here t).lock)
+          × (apply op v ≡ code (rules_at w l) (laws.after_all (rules_at w l) (rwlock_deeds a p None (Value v)) here t))
+
+      on : at_word (word_at w l)
+      on = subst at_word (sym word_is) (let f = rwlock_steps_follow (rules_at w l) a here t l p op at_now nowhere e in (
+        followed_by None (Value (code (rules_at w l) here)) f.needed f.doing (told_value a p p.at (code (rules_at w l) here) few),
+        rwlock_owners_follow (rules_at w l) a here t l p op (shares_at w l) (owners_at w l) (queue_at w (2 * l)) (queue_at w (2 * l + 1)) (λ u. taken_at (place_at w u) l) at_now e room limits.1 refl,
+        rwlock_steps_code (rules_at w l) a here t l p op at_now nowhere e (subst (λ n. t < n) (sym (steady.numbers.threads l)) there) few room limits.1,
+      ))
+
+  abbrev GoesFrom : Place → Act → Option ℕ → Type 0
+  GoesFrom q y whom = Goes w (put (state_after_act w t (RwLock l a p) y) t (next_place q (reply_to w t y))) l (acts t (rwlock_deeds a p whom (reply_to w t y)))
+
+  none_is : (o : Option ℕ) → is_none o ≡ true → o ≡ None
+  none_is None h = refl
+  none_is (Some u) h = absurd cc
+
+  into : (m : Line) (keys : Keys) → keys ≡ One (key_of l m) → are_free w keys ≡ true → GoesIn (rwlock_move a p) (rwlock_hears a p) m Done → GoesFrom (place_at w t) (act.Enter keys) None
+  into m keys e free g = subst (λ k. GoesFrom (place_at w t) (act.Enter k) None) (sym e)
+      (goes_in w t l steady there own (rules_at w l) refl admits.0 (rwlock_move a p) same_row (rwlock_hears a p) m Done (next_place (place_at w t) Done) (section_there m)
+      (none_is (section_at w (key_of l m)) (subst (λ k. are_free w k ≡ true) e free)) g (λ h. followed None Done h (told_done a p (rules_at w l) here t p.at None h)))
+
+  out_of : (m : Line) (keys : Keys) (wakes : Wakes) → keys ≡ One (key_of l m) → GoesOut (rwlock_move a p) (rwlock_hears a p) m wakes → GoesFrom (place_at w t) (act.Leave keys wakes) None
+  out_of m keys wakes e g = subst (λ k. GoesFrom (place_at w t) (act.Leave k wakes) None) (sym e)
+      (goes_out w t l steady there own (rules_at w l) refl admits.0 (rwlock_move a p) same_row (rwlock_hears a p) m wakes (next_place (place_at w t) Done) (section_there m) g (λ h. followed None Done h (told_done a p (rules_at w l) here t p.at None h))
+      (wakes_one w t l steady there own (rules_at w l) refl admits.0 (rwlock_move a p) same_row asleep))
+
+  parked : (m : Line) (k key : ℕ) (check : Check) (want : Want) → k ≡ l → key ≡ key_of l m → Parks (rwlock_move a p) (rwlock_hears a p) m check want → GoesFrom (place_at w t) (act.Park k key check want) None
+  parked m k key check want ke e g = subst (λ j. GoesFrom (place_at w t) (act.Park j key check want) None) (sym ke) (subst (λ j. GoesFrom (place_at w t) (act.Park l j check want) None) (sym e)
+      (parks_or_turns w t l steady there own (rules_at w l) refl admits.0 (rwlock_move a p) same_row (rwlock_hears a p) m check want (line_there m) g (λ b h. followed None (Parked b) h (told_other a p p.at (Parked b) tt))))
+
+  left : (m : Line) (key : ℕ) → key ≡ key_of l m → LeavesLine (rwlock_move a p) (rwlock_hears a p) m → GoesFrom (place_at w t) (act.Remove key) None
+  left m key e g = subst (λ j. GoesFrom (place_at w t) (act.Remove j) None) (sym e)
+      (leaves_line w t l steady there own (rules_at w l) refl admits.0 (rwlock_move a p) same_row asleep (rwlock_hears a p) m g (λ b h. followed None (Removed b) h (told_other a p p.at (Removed b) tt)))
+
+  picked : (key : ℕ) (start : Option Want) (b : Bool) → key ≡ key_of l Main → b ≡ a.recursive → Picks (rwlock_move a p) (rwlock_hears a p) start → GoesFrom (place_at w t) (act.Take key (whom.TheVariants.Picked start b)) None
+  picked key start b e same_rule g = subst (λ j. GoesFrom (place_at w t) (act.Take j (whom.TheVariants.Picked start b)) None) (sym e) (subst (λ c. GoesFrom (place_at w t) (act.Take (key_of l Main) (whom.TheVariants.Picked start c)) None) (admits.1 ∙ sym same_rule)
+      (takes_chosen w t l steady there own (rules_at w l) refl admits.0 (rwlock_move a p) same_row asleep (rwlock_hears a p) many (line_there Main) start g (λ n y none_left h. followed None (Picked n y none_left) h (told_other a p p.at (Picked n y none_left) tt))))
+
+  took : (key : ℕ) → key ≡ key_of l Second → TakesAside (rwlock_move a p) (rwlock_hears a p) → GoesFrom (place_at w t) (act.Take key whom.TheVariants.First) here.lock.aside
+  took key e g = subst (λ j. GoesFrom (place_at w t) (act.Take j whom.TheVariants.First) here.lock.aside) (sym e)
+      (takes_whom_aside w t l steady there own (rules_at w l) refl admits.0 (rwlock_move a p) same_row asleep (rwlock_hears a p) many (line_there Second) g (λ any none_left h. followed here.lock.aside (Took any none_left) h (told_other a p p.at (Took any none_left) tt)))
+
+  by_act : (y : Act) → rwlock_act l a p ≡ y → Moves l a.recursive (rwlock_move a p) (rwlock_hears a p) y → can_do w y ≡ true → (whom : Option ℕ) × GoesFrom (place_at w t) y whom
+  by_act (act.Word k op) e g can = (None, subst (λ j. GoesFrom (place_at w t) (act.Word j op) None) (sym g.0) (on_word op (e ∙ ap (λ j. act.Word j op) g.0) g.1))
+  by_act (act.Enter keys) e g can = (None, into g.0 keys g.1 can g.2)
+  by_act (act.Park k key check want) e g can = (None, parked g.0 k key check want g.1 g.2 g.3)
+  by_act (act.Take key (whom.TheVariants.Picked start b)) e g can = (None, picked key start b g.0 g.1 g.2)
+  by_act (act.Take key whom.TheVariants.First) e g can = (here.lock.aside, took key g.0 g.1)
+  by_act (act.Take key whom.TheVariants.All) e g can = absurd g
+  by_act (act.Remove key) e g can = (None, left g.0 key g.1 g.2)
+  by_act (act.Leave keys wakes) e g can = (None, out_of g.0 keys wakes g.1 g.2)
+  by_act act.Sleep e g can = absurd cc
+  by_act (act.End answer) e g can = absurd cc
+  by_act y e g can = absurd g
+
+  -- wherever it stands, its deeds are what the place and the reply say
+  pub rwlock_goes_on : can_do w (rwlock_act l a p) ≡ true → GoesBy (rwlock_act l a p)
+  rwlock_goes_on can = let g = by_act (rwlock_act l a p) refl (rwlock_acts_move l a p stands) can in (g.0, subst (λ q. GoesFrom q (rwlock_act l a p) g.0) is g.1)
+
+  -- ---------------------------------------------------------------- its time is up
+
+  pub rwlock_goes_late : (m : Line) → rwlock_late_line p ≡ Some m → is_free w (key_of l m) ≡ true → Goes w (state_after_late_under w t (key_of l m)) l (acts t (rwlock_deeds a p None Late))
+  rwlock_goes_late m e free = goes_in w t l steady there own (rules_at w l) refl admits.0 (rwlock_move a p) same_row (rwlock_hears a p) m Late (next_place (place_at w t) Late) (section_there m)
+      (none_is (section_at w (key_of l m)) free) (rwlock_late_moves a p m e) (λ h. followed None Late h (told_late a p p.at (patience_of p.purpose) refl m e))
+
+-- ---------------------------------------------------------------- a call begins
+
+-- a lock of such a kind lets in whom the call says
+admits_by : (k : Kind) → has_readers (rules_of k).sort ≡ true → Admits (rules_of k) (admission_of k)
+admits_by (kinds.RwLock limit) h = (refl, refl, refl)
+admits_by (kinds.Recursive limit) h = (refl, refl, refl)
+admits_by k h = absurd cc
+
+module _ (w : State) (t l : ℕ) (c : RwLockCall) (steady : IsSteady w) (there : t < length w.places) (idle_now : place_at w t ≡ Idle) (readers : has_readers (rules_at w l).sort ≡ true) (right : rwlock_right c t (owners_at w l) (share_at w l t) ≡ true) (yet : NotYet) where
+  abbrev pub first : Place
+  first = RwLock l (admission_of (kind_at w l)) (rwlock_first c)
+
+  pub opens : Opens (admission_of (kind_at w l)) c
+  opens = rwlock_calls_open (admission_of (kind_at w l)) c
+
+  free_now : taken_at (place_at w t) l ≡ None
+  free_now = ap (λ q. taken_at q l) idle_now
+
+  -- with what it claims
+  pub rwlock_begins : Goes w (put w t first) l (acts t (Begin opens.opening.claims ∷ []))
+  rwlock_begins = place_goes w t l steady (rw idle_now tt) there (rules_at w l) refl first refl (admits_by (kind_at w l) readers, opens.stands, yet) (Begin opens.opening.claims ∷ []) (λ h. tt)
+      (steps_by (rules_at w l) l (parts_at w l) (parts_at w l) (place_at w) t first (Begin opens.opening.claims ∷ [])
+      (opens.has t (shares_at w l) (owners_at w l) (queue_at w (2 * l)) (queue_at w (2 * l + 1)) (λ u. taken_at (place_at w u) l) right, tt) (tt, tt)
+      (free_now ∙ sym (free_of first l (ap (λ (y : Station). y.hand) opens.opening.station)))
+      refl refl refl refl
+      (doing_here l first refl ∙ opens.opening.doing ∙ sym (put_here (λ u. doing_on (place_at w u) l) t (record (doing_on (place_at w t) l) { claims = opens.opening.claims }) ∙ ap (λ q. record (doing_on q l) { claims = opens.opening.claims }) idle_now)))
+      (opens.opening.station ∙ sym (ap station idle_now))
