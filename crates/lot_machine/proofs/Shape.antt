@@ -63,6 +63,8 @@ use Rattle.lot_calls.specs.Kinds.{is_fair}
 use Rattle.lot_mutex.specs.MutexSteps.{is_locked, is_parked, is_timed, entered, mutex_next, mutex_first, next_unlock, next_hand_off, looked, unlock_fair_next, bump_next, try_next, in_lock, in_unlock, in_hand_off}
 use Rattle.lot_acts.specs.Owners.{is_thread}
 use Rattle.lot_calls.specs.Calls.{lock_in}
+use Rattle.lot_acts.specs.Profiles.{in_line}
+use Rattle.abstract_locks.specs.Sites.{Main}
 use Rattle.lot_steps.specs.Steps.{is_idle, lock_of, first_place, taker, act_of, next_place, mutex_goes, rwlock_goes, looking, late_key, key_in}
 use Rattle.lot_machine.specs.Machine.{State, unlocked, opening, kind_at, word_at, place_at, queue_at, put, state_after_operation, state_with_sections, queues_with_last, queues_without_first, queues_without, state_after_park, state_after_reply, place_after_telling, state_after_telling, state_after_hand_over, state_after_taking, state_after_wake, state_after_act, state_after_takes, state_after_take_first, state_after_requeue, queues_requeued, left_behind, moved_under, moved_threads, listed, places_told, state_after_going, going_outcome, closed_place, can_do, state_after_go, reply_to, state_after_begin, can_begin, is_open_to, state_after_spin, state_after_late, state_after_late_on, state_after_turn, can_turn, is_possible, after, state_after_look, look_outcome, spin_outcome, can_spin, can_go, go_outcome}
 use Rattle.lot_base.specs.declared.notes.Note as note
@@ -531,7 +533,7 @@ spun_shaped w t s lt = by_place (looking (place_at w t)) refl
 lated_shaped : (w : State) (t : ℕ) → IsShaped w → IsShaped (state_after_late w t)
 lated_shaped w t s = by_place (place_at w t) refl
   where
-    asleep : (l : ℕ) (entry : Entry) (retries : Bool) → place_at w t ≡ Mutex l (Lock entry retries lock.TheVariants.Asleep) → (b : Bool) → is_timed entry ≡ b → IsShaped (state_after_late_on w t (if b then Some (2 * l) else None))
+    asleep : (l : ℕ) (entry : Entry) (retries : Bool) → place_at w t ≡ Mutex l (Lock entry retries lock.TheVariants.Asleep) → (b : Bool) → is_timed entry ≡ b → IsShaped (state_after_late_on w t (key_in (Some l) (in_line b Main)))
     asleep l entry retries e true timed = befallen_shaped (state_with_sections w (One (2 * l)) (Some t)) t Late (filled_shaped w (One (2 * l)) (Some t) s) (rw e timed)
     asleep l entry retries e false timed = s
 
@@ -549,7 +551,7 @@ lated_shaped w t s = by_place (place_at w t) refl
     by_place (Mutex l (HandOff bumps at)) e = s
     by_place (RwLock l a at) e = by_line (rwlock_late_line at)
       where
-        by_line : (m : Option Line) → IsShaped (state_after_late_on w t (key_in l m))
+        by_line : (m : Option Line) → IsShaped (state_after_late_on w t (key_in (Some l) m))
         by_line None = s
         by_line (Some m) = befallen_shaped (state_with_sections w (One (key_of l m)) (Some t)) t Late (filled_shaped w (One (key_of l m)) (Some t) s) (rw e tt)
 
