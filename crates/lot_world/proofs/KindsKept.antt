@@ -12,7 +12,9 @@ use Rattle.lot_acts.specs.declared.acts.Act.TheVariants.{Word, HandOver, Enter, 
 use Rattle.lot_acts.specs.declared.acts.Check.{Check}
 use Rattle.lot_acts.specs.declared.acts.Wakes.{Wakes}
 use Rattle.lot_acts.specs.declared.acts.Wakes as wakes
-use Rattle.lot_calls.specs.declared.calls.Call.{Call}
+use Rattle.lot_calls.specs.declared.calls.Call as call
+use Rattle.lot_calls.specs.declared.calls.MutexCall.{MutexCall}
+use Rattle.lot_calls.specs.declared.calls.RwLockCall.{RwLockCall}
 use Rattle.lot_calls.specs.declared.calls.Turn.{Turn}
 use Rattle.lot_calls.specs.declared.calls.Turn as turn
 use Rattle.lot_calls.specs.declared.calls.Step.{Step}
@@ -110,7 +112,13 @@ after_kinds w s k = either (is_possible w s)
     either true = turned_kinds w s.thread s.turn k
     either false = refl
 
-pub calls_mutex : (k : Kind) (c : Call) → has_call k c ≡ true → is_mutex k ≡ true
-calls_mutex kind.TheVariants.Mutex c h = refl
-calls_mutex kind.TheVariants.Fair c h = refl
-calls_mutex k c h = absurd cc
+-- only mutexes have a call of a mutex, and only reader-writer locks one of theirs
+pub calls_mutex : (k : Kind) (l : ℕ) (c : MutexCall) → has_call k (call.TheVariants.Mutex l c) ≡ true → is_mutex k ≡ true
+calls_mutex kind.TheVariants.Mutex l c h = refl
+calls_mutex kind.TheVariants.Fair l c h = refl
+calls_mutex k l c h = absurd cc
+
+pub calls_readers : (k : Kind) (l : ℕ) (c : RwLockCall) → has_call k (call.TheVariants.RwLock l c) ≡ true → has_readers (rules_of k).sort ≡ true
+calls_readers (kind.TheVariants.RwLock limit) l c h = refl
+calls_readers (kind.TheVariants.Recursive limit) l c h = refl
+calls_readers k l c h = absurd cc

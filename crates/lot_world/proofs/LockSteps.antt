@@ -453,7 +453,7 @@ begin_goes w t (call.TheVariants.Mutex l c) shape steady there can = (
     held = both (has_call (kind_at w l) (call.TheVariants.Mutex l c)) (mutex_right c t (owners_at w l)) open_to.1
 
     is_kind : is_mutex (kind_at w l) ≡ true
-    is_kind = calls_mutex (kind_at w l) (call.TheVariants.Mutex l c) held.0
+    is_kind = calls_mutex (kind_at w l) l c held.0
 
 -- a call that may begin can
 begin_refused : (w : State) (t : ℕ) (c : Call) → can_begin w t c ≡ false → MayBegin (locks_of w) t c → ⊥
@@ -462,7 +462,7 @@ begin_refused w t (call.TheVariants.Mutex l c) cannot may = let idle : is_idle (
   where
     either : (b : Bool) → has_call (kind_at w l) (call.TheVariants.Mutex l c) ≡ b → is_idle (place_at w t) ≡ true → nat_lt l (length w.locks) ≡ true → ⊥
     either false e idle there = no_purpose (locks_of w) t (kind_at w l) (call.TheVariants.Mutex l c) e may.right
-    either true e idle there = let is_kind : is_mutex (kind_at w l) ≡ true = calls_mutex (kind_at w l) (call.TheVariants.Mutex l c) e in
+    either true e idle there = let is_kind : is_mutex (kind_at w l) ≡ true = calls_mutex (kind_at w l) l c e in
         let right : HasRight (locks_of w) t (Some (mutex_purpose (is_fair (kind_at w l)) l c)) = subst (HasRight (locks_of w) t) (purpose_is (kind_at w l) l c is_kind) may.right in
         let held : mutex_right c t (owners_at w l) ≡ true = right_needed w t l (is_fair (kind_at w l)) c right in cc
 

@@ -33,7 +33,7 @@ use Rattle.lot_world.specs.MutexDeeds.{mutex_doing, mutex_station, acts, begins}
 use Rattle.lot_world.specs.Stations.{nowhere, station}
 use Rattle.lot_world.specs.SitesOf.{IsSteady, Goes}
 use Rattle.lot_machine.proofs.Shape.{both, looking_shaped}
-use Rattle.lot_world.proofs.KindsKept.{calls_mutex}
+use Rattle.lot_world.proofs.KindsKept.{calls_mutex, calls_readers}
 use Rattle.lot_world.proofs.Glue.{parts_at, same}
 use Rattle.lot_world.proofs.MutexTable.{mutex, own_doing, meets, others_same}
 use Rattle.lot_world.proofs.StandsMoved.{mutex_rules}
@@ -41,17 +41,11 @@ use Rattle.lot_world.proofs.SitesKept.{mutex_at, goes_steady, place_goes}
 use Rattle.lot_world.proofs.Looking.{looking_steady, looks_now}
 use Rattle.lot_world.proofs.Closures.{nothing_closes}
 use Rattle.lot_world.proofs.GoneKept.{enters, gone_kept}
-use Rattle.lot_world.proofs.RwLockKept.{rwlock_goes_late}
+use Rattle.lot_world.proofs.RwLockKept.{rwlock_begins, rwlock_goes_late}
 use Rattle.lot_rwlock.specs.declared.places.Admission.{Admission}
 use Rattle.lot_rwlock.specs.declared.places.RwLockPlace.{RwLockPlace}
 use Rattle.lot_rwlock.specs.RwLockProfiles.{rwlock_late_line}
 use Rattle.lot_base.specs.declared.keys.Line.{Line}
-
-none_yet : (k : Kind) (l : ℕ) (c : RwLockCall) → has_call k (calling.TheVariants.RwLock l c) ≡ true → ⊥
-none_yet kinds.Mutex l c h = absurd cc
-none_yet kinds.Fair l c h = absurd cc
-none_yet (kinds.RwLock limit) l c h = absurd cc
-none_yet k l c h = absurd cc
 
 pub idle_is : (p : Place) → is_idle p ≡ true → p ≡ Idle
 idle_is Idle h = refl
@@ -86,12 +80,12 @@ module _ (w : State) (t : ℕ) (steady : IsSteady w) (shape : IsShaped w) (there
       let parts = both (is_idle (place_at w t)) (is_open_to w t (calling.TheVariants.Mutex l c)) can in
       let open_to = both (nat_lt l (length w.locks)) _ parts.1 in
       let right = both (has_call (kind_at w l) (calling.TheVariants.Mutex l c)) _ open_to.1 in
-      goes_steady w _ l _ steady (calls_begin l (is_fair (kind_at w l)) c (calls_mutex (kind_at w l) (calling.TheVariants.Mutex l c) right.0) (idle_is (place_at w t) parts.0) right.1)
+      goes_steady w _ l _ steady (calls_begin l (is_fair (kind_at w l)) c (calls_mutex (kind_at w l) l c right.0) (idle_is (place_at w t) parts.0) right.1)
   begun_kept (calling.TheVariants.RwLock l c) can =
       let parts = both (is_idle (place_at w t)) (is_open_to w t (calling.TheVariants.RwLock l c)) can in
       let open_to = both (nat_lt l (length w.locks)) _ parts.1 in
       let right = both (has_call (kind_at w l) (calling.TheVariants.RwLock l c)) _ open_to.1 in
-      absurd (none_yet (kind_at w l) l c right.0)
+      goes_steady w _ l _ steady (rwlock_begins w t l c steady there (idle_is (place_at w t) parts.0) (calls_readers (kind_at w l) l c right.0) right.1)
 
   -- it looks at the word once more
   spun_kept : (o : Option Place) → looking (place_at w t) ≡ o → IsSteady (state_after_look w t o)
