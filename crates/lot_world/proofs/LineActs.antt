@@ -129,7 +129,7 @@ rwlock_lines l a p (at.Wake m (waking.Leave any)) is = (m, ap (λ x. (doing_at (
 
 pub line_act : (p : Place) (l : ℕ) → lock_of p ≡ Some l → IsLineAct l (station p) (act_of p)
 line_act Idle l h = absurd cc
-line_act (RwLock k a p) l h = let e : k ≡ l = cc in subst (λ j. IsLineAct j (station_by (rwlock_profile a p)) (rwlock_act j a p)) e (rwlock_lines k a p p.at refl)
+line_act (RwLock k a p) l h = let e : k ≡ l = cc in subst (λ j. IsLineAct j (station (RwLock k a p)) (act_of (RwLock k a p))) e (rwlock_lines k a p p.at refl)
 line_act (Mutex k at) l h = let e : k ≡ l = cc in subst (λ j. IsLineAct j (mutex_station at) (mutex_act k at)) e (mutex_lines k at)
 
 -- a thread that may be late sleeps in a line of its lock

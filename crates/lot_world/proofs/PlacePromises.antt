@@ -17,7 +17,7 @@ use Rattle.abstract_locks.specs.Sites.{Doing, Line, Main, Second, Pends, idle, h
 use Rattle.lot_machine.specs.Machine.{State, place_at, kind_at, queue_at}
 use Rattle.lot_world.specs.Refinement.{lock_state, call_on, call_at, taken_at}
 use Rattle.lot_world.specs.Stations.{Station, nowhere, station, station_at, doing_on}
-use Rattle.lot_world.specs.SitesOf.{IsSteady, CallsMutex, key_of, stood_in}
+use Rattle.lot_world.specs.SitesOf.{IsSteady, CallsMutex, key_of, stood_in, rules_at}
 use Rattle.lot_world.specs.Owing.{Owes, IsInside, LetsOthersIn, IsDowngrade, sort_at}
 use Rattle.lot_world.specs.Promises.{GoesToWake}
 use Rattle.lot_world.proofs.Counts.{none_first}

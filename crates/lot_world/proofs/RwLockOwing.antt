@@ -362,7 +362,7 @@ module _ (w : State) (t l : ℕ) (a : Admission) (admits : Admits (rules_at w l)
   wakes_next : (q : RwLockPurpose) (again : Bool) (m : Line) (to : WakeAt) → StandsAt q again (at.Wake m to)
       → OwesNext (rules_at w l) a l (word_at w l) (of q again (at.Wake m to)) (wake_next (of q again (at.Wake m to)) m to (reply_to w t (act_at l a (of q again (at.Wake m to)) (at.Wake m to))))
   wakes_next q again m waking.Enter stands = goes_on (rules_at w l) admits.0 a l (word_at w l) q again m waking.Enter waking.Take stands refl
-  wakes_next q again Main waking.Take stands = either _
+  wakes_next q again Main waking.Take stands = either _ _
     where
       either : (b : Bool) (any : Bool) → OwesNext (rules_at w l) a l (word_at w l) (of q again (at.Wake Main waking.Take)) (next.At (of q again (at.Wake Main (if b then waking.Clear any else waking.Leave any))))
       either true any = goes_on (rules_at w l) admits.0 a l (word_at w l) q again Main waking.Take (waking.Clear any) stands refl
