@@ -13,6 +13,8 @@ use Rattle.lot_acts.specs.declared.acts.Check.{Check}
 use Rattle.lot_acts.specs.declared.acts.Wakes.{Wakes}
 use Rattle.lot_acts.specs.declared.acts.Wakes as wakes
 use Rattle.lot_calls.specs.declared.calls.Call as call
+use Rattle.abstract_locks.specs.Sites.{has_readers}
+use Rattle.abstract_locks.specs.Purposes.{rules_of}
 use Rattle.lot_calls.specs.declared.calls.MutexCall.{MutexCall}
 use Rattle.lot_calls.specs.declared.calls.RwLockCall.{RwLockCall}
 use Rattle.lot_calls.specs.declared.calls.Turn.{Turn}
