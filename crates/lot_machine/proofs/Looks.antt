@@ -1,5 +1,5 @@
 -- From where a thread looks at the word once more: in the same call, with the same row, and about to load.
-use Rattle.std.proofs.Common.{ℕ, Bool, true, false, Option, Some, None, if◌then◌else◌, ◌≡◌, ◌<◌, length, List, [], ◌∷◌, zero, suc, arith, get_or, get_or-set_same, refl, sym, ◌∙◌, ap, subst}
+use Rattle.std.proofs.Common.{ℕ, Bool, true, false, Option, Some, None, if◌then◌else◌, ◌≡◌, refl, sym, subst}
 use Rattle.lot_base.specs.declared.ops.Op.TheVariants.{Load}
 use Rattle.lot_acts.specs.declared.acts.Act.TheVariants.{Word}
 use Rattle.lot_mutex.specs.declared.lock.Entry.{Entry}
@@ -17,10 +17,7 @@ use Rattle.lot_rwlock.proofs.RwLockCallPlaces.{rwlock_looks_stand}
 use Rattle.lot_steps.specs.declared.places.Place.{Place}
 use Rattle.lot_steps.specs.declared.places.Place.TheVariants.{Idle, Mutex, RwLock}
 use Rattle.lot_steps.specs.Steps.{act_of, lock_of, looking, in_mutex, in_rwlock, profile}
-use Rattle.lot_calls.specs.declared.outcomes.Outcome.{Outcome}
-use Rattle.lot_calls.specs.declared.outcomes.Outcome as outcome
-use Rattle.lot_machine.specs.Machine.{State, place_at, put, can_do, can_go, state_after_go, go_outcome, can_spin, state_after_spin, spin_outcome}
-use Rattle.lot_machine.specs.Fits.{ActFits, PlaceFits}
+use Rattle.lot_machine.specs.Fits.{PlaceFits}
 
 pub record IsLook (p q : Place) : Type 0 where
   pub lock : ℕ
@@ -29,7 +26,6 @@ pub record IsLook (p q : Place) : Type 0 where
   pub loads : act_of q ≡ Word lock Load
   pub row : profile q ≡ profile p
   pub fits : (locks : ℕ) → PlaceFits locks p → PlaceFits locks q
-  pub there : (locks : ℕ) → PlaceFits locks p → lock < locks
 
 some_is : (p q : Place) → Some p ≡ Some q → p ≡ q
 some_is p q e = cc
@@ -50,7 +46,7 @@ rwlock_look l a p q is = by_place (rwlock_looking a p) refl is
     by_place : (o : Option RwLockPlace) → rwlock_looking a p ≡ o → in_rwlock l a o ≡ Some q → IsLook (RwLock l a p) q
     by_place None e is = absurd cc
     by_place (Some p2) e is = subst (IsLook (RwLock l a p)) (some_is (RwLock l a p2) q is)
-        (record { lock = l; before = refl; now = refl; loads = loads p.at p2 e; row = (rwlock_looks_stand a p p2 e).0; fits = λ locks h. h; there = λ locks h. h })
+        (record { lock = l; before = refl; now = refl; loads = loads p.at p2 e; row = (rwlock_looks_stand a p p2 e).0; fits = λ locks h. h })
 
 pub look : (p q : Place) → looking p ≡ Some q → IsLook p q
 look Idle q is = absurd cc
@@ -63,7 +59,7 @@ look (Mutex l at) q is = mutex_look at is
 
     mutex_look : (at : MutexPlace) → in_mutex l (mutex_looking at) ≡ Some q → IsLook (Mutex l at) q
     mutex_look (Lock e again (lock.Decide seen)) is =
-        by_mark _ (Lock e again (lock.Decide seen)) (Lock e again lock.Load) (record { lock = l; before = refl; now = refl; loads = refl; row = refl; fits = λ locks h. (h.0, tt); there = λ locks h. h.0 }) is
+        by_mark _ (Lock e again (lock.Decide seen)) (Lock e again lock.Load) (record { lock = l; before = refl; now = refl; loads = refl; row = refl; fits = λ locks h. (h.0, tt) }) is
     mutex_look (Lock e again to) is = absurd cc
     mutex_look at is = absurd cc
 
@@ -76,26 +72,3 @@ mutex_looks l (Lock e again (lock.Decide seen)) q is = by_mark _ is
     by_mark false is = absurd cc
 mutex_looks l (Lock e again to) q is = absurd cc
 mutex_looks l at q is = absurd cc
-
--- what stands somewhere in a list, whatever stands past its end
-pub stands_at : (ps : List Place) (t : ℕ) (p d : Place) → t < length ps → p ≡ get_or ps t p → get_or ps t d ≡ p
-stands_at [] t p d there e = absurd (omega arith)
-stands_at (x ∷ ps) zero p d there e = sym e
-stands_at (x ∷ ps) (suc t) p d there e = stands_at ps t p d (omega arith) e
-
--- a thread that stands where it looks may load the word of its lock
-module _ (w : State) (t : ℕ) (q : Place) (there : t < length w.places) (is : looking (place_at w t) ≡ Some q) where
-  act_is : act_of (place_at (put w t q) t) ≡ Word (look (place_at w t) q is).lock Load
-  act_is = ap act_of (get_or-set_same w.places t q Idle there) ∙ (look (place_at w t) q is).loads
-
-  pub look_fits : PlaceFits (length w.locks) (place_at w t) → ActFits (put w t q) (act_of (place_at (put w t q) t))
-  look_fits fits = subst (ActFits (put w t q)) (sym act_is) ((look (place_at w t) q is).there (length w.locks) fits)
-
-  can_look : can_go (put w t q) t ≡ true
-  can_look = ap (can_do (put w t q)) act_is
-
-  pub look_led : (v : State) → v ≡ (if can_go (put w t q) t then state_after_go (put w t q) t else put w t q) → v ≡ (if can_spin w t then state_after_spin w t else w)
-  look_led v e = rw is (e ∙ ap (λ b. if b then state_after_go (put w t q) t else put w t q) can_look)
-
-  pub look_told : (o : Outcome) → o ≡ (if can_go (put w t q) t then go_outcome (put w t q) t else outcome.TheVariants.NotNow) → o ≡ (if can_spin w t then spin_outcome w t else outcome.TheVariants.NotNow)
-  look_told o e = rw is (e ∙ ap (λ b. if b then go_outcome (put w t q) t else outcome.TheVariants.NotNow) can_look)

@@ -27,7 +27,7 @@ use Rattle.lot_acts.specs.declared.acts.Next as next
 use Rattle.lot_mutex.specs.MutexSteps.{mutex_next}
 use Rattle.lot_base.specs.declared.wants.Want.{Want}
 use Rattle.lot_acts.specs.Profiles.{Hand, Of, hand_owner, taken_from}
-use Rattle.lot_steps.specs.Steps.{next_place, taker, mutex_goes, rwlock_goes, lock_of, profile, wants}
+use Rattle.lot_steps.specs.Steps.{next_place, taker, mutex_goes, rwlock_goes, lock_of, profile, wants, is_lock, calls}
 use Rattle.abstract_locks.specs.Locks.{LockState, Taken, Queued, Rules, TakeFirst, keep_from, let_go, shares_handed, sharing_from, putting}
 use Rattle.std.specs.Prelude.{sum, ◌&&◌, ◌||◌}
 use Rattle.lot_acts.specs.Owners.{is_thread, with_exclusive}
@@ -37,7 +37,7 @@ use Rattle.lot_machine.specs.Machine.{State, place_at, word_at, owners_at, share
 use Rattle.lot_machine.specs.declared.hands.Successor.{Successor}
 use Rattle.lot_world.specs.Refinement.{lock_seen, taken_at}
 use Rattle.lot_world.specs.MutexDeeds.{Act, mutex_station, queued}
-use Rattle.lot_world.specs.Stations.{Station, hand, station, station_at, nowhere, is_lock, calls, doing_on}
+use Rattle.lot_world.specs.Stations.{Station, hand, station, station_at, nowhere, doing_on}
 use Rattle.lot_world.specs.SitesOf.{site_of, rules_at, after_acts, carried_at, hand_at, Hands, CallsMutex}
 
 -- ---------------------------------------------------------------- lists with one element set, as functions
@@ -240,7 +240,7 @@ pub is_handed : (p : Place) (t l : ℕ) → IsMutexCall l p → hand_at p l ≡ 
 is_handed p t l of h = in_hand p t l true of h
 
 -- who calls another lock is in nobody's hand here
-taken_out : (h : Option Hand) (x : Option Want) → taken_from h x false ≡ None
+pub taken_out : (h : Option Hand) (x : Option Want) → taken_from h x false ≡ None
 taken_out None x = refl
 taken_out (Some (Of u true)) x = refl
 taken_out (Some (Of u false)) None = refl

@@ -1,6 +1,6 @@
 -- An act that enters a section is of a line of the lock that the thread calls, and one that leaves a section or touches a queue is of the line
 -- whose section the thread is in, as its place says.
-use Rattle.std.proofs.Common.{ℕ, zero, suc, Bool, true, false, Some, None, if◌then◌else◌, ◌==◌, not, ◌≡◌, ◌≢◌, ◌⊎◌, ◌+◌, ◌*◌, ◌<◌, inl, inr, [], map, length, get_or, refl, sym, ◌∙◌, ap, subst, arith}
+use Rattle.std.proofs.Common.{ℕ, zero, suc, Bool, Option, true, false, Some, None, if◌then◌else◌, ◌==◌, not, ◌≡◌, ◌≢◌, ◌⊎◌, ◌+◌, ◌*◌, ◌<◌, inl, inr, [], map, length, get_or, refl, sym, ◌∙◌, ap, subst, arith}
 use Rattle.std.proofs.lemmas.Bool.{cases_eq}
 use Rattle.std.proofs.Math.ListN.{get_or-map}
 use Rattle.lot_base.specs.declared.keys.Keys.TheVariants.{One, Two}
@@ -14,8 +14,7 @@ use Rattle.lot_mutex.specs.declared.lock.LockAt.TheVariants as lock
 use Rattle.lot_mutex.specs.declared.unlock.UnlockAt.TheVariants as unlock
 use Rattle.lot_mutex.specs.declared.hand_off.HandOffAt.TheVariants as hand_off
 use Rattle.lot_mutex.specs.MutexSteps.{is_locked, mutex_act}
-use Rattle.lot_mutex.specs.MutexProfiles.{mutex_can_be_late}
-use Rattle.lot_steps.specs.Steps.{act_of, late_key, lock_of}
+use Rattle.lot_steps.specs.Steps.{act_of, key_in, late_key, lock_of, profile}
 use Rattle.lot_steps.specs.declared.places.Place.{Place}
 use Rattle.lot_steps.specs.declared.places.Place.TheVariants.{Idle, Mutex}
 use Rattle.abstract_locks.specs.Sites.{Line, Main, Second}
@@ -82,13 +81,14 @@ line_act Idle l h = absurd cc
 line_act (Mutex k at) l h = let e : k ≡ l = cc in subst (λ j. IsLineAct j (mutex_station at) (mutex_act k at)) e (mutex_lines k at)
 
 -- a thread that may be late sleeps in a line of its lock
-pub late_line : (p : Place) (key : ℕ) → late_key p ≡ Some key → (l : ℕ) × (lock_of p ≡ Some l) × IsOfLine l key
-late_line Idle key h = absurd cc
-late_line (Mutex l at) key h = either (mutex_can_be_late at) h
+pub late_line : (p : Place) (key : ℕ) → late_key p ≡ Some key → (l : ℕ) × (lock_of p ≡ Some l) × ((m : Line) × ((profile p).late_line ≡ Some m) × (key ≡ key_of l m))
+late_line p key h = by_lock (lock_of p) (profile p).late_line h
   where
-    either : (b : Bool) → (if b then Some (2 * l) else None) ≡ Some key → (k : ℕ) × (Some l ≡ Some k) × IsOfLine k key
-    either true e = (l, refl, (Main, cc))
-    either false e = absurd cc
+    by_lock : (o : Option ℕ) (x : Option Line) → key_in o x ≡ Some key → (l : ℕ) × (o ≡ Some l) × ((m : Line) × (x ≡ Some m) × (key ≡ key_of l m))
+    by_lock (Some l) (Some m) e = (l, refl, (m, refl, cc))
+    by_lock (Some l) None e = absurd cc
+    by_lock None (Some m) e = absurd cc
+    by_lock None None e = absurd cc
 
 -- the lock that it calls is there
 pub calls_there : (n : ℕ) (p : Place) (l : ℕ) → lock_of p ≡ Some l → PlaceFits n p → l < n

@@ -1,6 +1,5 @@
 -- What becomes of the calls of those whom a thread has in hand: they try again, or were handed the lock.
 use Rattle.std.proofs.Common.{ℕ, Bool, true, false, Option, Some, None, if◌then◌else◌, ◌==◌, ◌≡◌, ◌≢◌, ◌+◌, ◌-◌, ◌⊎◌, inl, inr, List, refl, sym, ◌∙◌, ap, arith}
-use Rattle.lot_world.specs.Stations.{calls}
 use Rattle.lot_rwlock.proofs.RwLockCallPlaces.{taken_goes, woken_goes}
 use Rattle.lot_rwlock.specs.RwLockProfiles.{rwlock_profile}
 use Rattle.lot_acts.specs.Profiles.{Hand, Of, hand, taken_from}
@@ -17,7 +16,7 @@ use Rattle.lot_mutex.specs.declared.places.MutexPlace.TheVariants.{Lock, TryLock
 use Rattle.lot_mutex.specs.declared.lock.LockAt.TheVariants.{First, Taken}
 use Rattle.lot_mutex.specs.declared.unlock.UnlockAt.TheVariants as unlock
 use Rattle.lot_mutex.specs.declared.hand_off.HandOffAt.TheVariants as hand_off
-use Rattle.lot_steps.specs.Steps.{next_place, profile, rwlock_goes}
+use Rattle.lot_steps.specs.Steps.{next_place, profile, rwlock_goes, calls}
 use Rattle.lot_steps.specs.declared.places.Place.{Place}
 use Rattle.lot_steps.specs.declared.places.Place.TheVariants.{Idle, Mutex, RwLock}
 use Rattle.abstract_locks.specs.Locks.{LockState, Queued, Taken as LockTaken, Rights, Enter, Wake, HandOff as HandsOff, IsTaken, IsLockState, Knows, Needs, rights_of, with_right, without_right, is_thread, putting}

@@ -76,7 +76,8 @@ use Rattle.lot_world.proofs.StandsMoved.{mutex_rules}
 use Rattle.lot_world.proofs.SitesKept.{go_by}
 use Rattle.lot_world.proofs.GoneKept.{gone_goes}
 use Rattle.lot_world.proofs.TurnsKept.{idle_is, none_yet}
-use Rattle.lot_world.proofs.AtPlaces.{coded, in_no_hand, own_doing, stands_by}
+use Rattle.lot_world.proofs.AtPlaces.{coded, in_no_hand, own_doing}
+use Rattle.lot_world.proofs.PlacePromises.{standing_by}
 use Rattle.lot_world.proofs.CallEvents.{put_is, rights, Others, OthersFollow, Happens, LeadsTo, IsNoHandOff, happens, needed_then, others_follow, goes_by}
 use Rattle.lot_world.proofs.LockEvents.{Befalls, wakes_others, hands_others}
 use Rattle.lot_world.proofs.OtherCalls.{IsLonely, IsCalm, lonely, takes, calm, befalls, befalls_nobody, tells_handed}
@@ -168,7 +169,7 @@ module _ (w : State) (t : ℕ) (shape : IsShaped w) (steady : IsSteady w) (there
           )
             where
               standing_then : (at2 : MutexPlace) → place_at behind t ≡ Mutex l at2 → (mutex_station at2).stands ≡ Some Main → 1 ≤ standing t (lock_state behind l)
-              standing_then at2 e stands = rw (stands_by behind happens_so.after t l, own_stance l (place_at behind t) at2 e, stands) (omega arith)
+              standing_then at2 e stands = rw (standing_by behind t happens_so.after l, own_stance l (place_at behind t) at2 e, stands) (omega arith)
           by_next (next.End a) e rests = (e, refl)
 
       goes_if : OthersFollow w behind t (event_by l happened) → GoesOn (locks_of w) t (outcome_of (next_act (Mutex l at) told)) (locks_of behind)
@@ -526,7 +527,7 @@ module _ (w : State) (t : ℕ) (shape : IsShaped w) (steady : IsSteady w) (there
 module _ (w : State) (t : ℕ) (steady : IsSteady w) where
   possible : (x : Turn) → MayTurn (locks_of w) t x → can_turn w t x ≡ true
   possible (turn.TheVariants.Begin c) may = begin_possible w t c may
-  possible turn.TheVariants.Go may = go_possible w t may
+  possible turn.TheVariants.Go may = go_possible w t steady may
   possible turn.TheVariants.Spin may = may
   possible turn.TheVariants.Late may = late_possible w t steady may
   possible turn.TheVariants.Ok may = absurd (no_closure w t may)
@@ -566,7 +567,7 @@ module _ (w : State) (t : ℕ) (shape : IsShaped w) (steady : IsSteady w) (there
       by_look : (o : Option Place) → looking (place_at w t) ≡ o → is_some o ≡ true → (look_outcome w t o ≡ outcome.TheVariants.Sleep) ↔ (sleeps (act_of (place_at (state_after_look w t o) t)) ≡ true)
       by_look None is can = absurd cc
       by_look (Some q) is can = told_going (put w t q) t (there_moved w t shape steady there q is)
-  turned_told turn.TheVariants.Late can = told_step _ (late_awake w t there (place_at w t) refl can)
+  turned_told turn.TheVariants.Late can = told_step _ (late_awake w t there (late_key (place_at w t)) refl can)
   turned_told turn.TheVariants.Ok can = absurd (nothing_closes w t true can)
   turned_told turn.TheVariants.Err can = absurd (nothing_closes w t false can)
 

@@ -15,7 +15,7 @@ use Rattle.lot_acts.specs.Profiles.{taken_from}
 use Rattle.lot_mutex.specs.declared.places.MutexPlace.{MutexPlace}
 use Rattle.lot_steps.specs.declared.places.Place.{Place}
 use Rattle.lot_steps.specs.declared.places.Place.TheVariants.{Idle, Mutex, RwLock}
-use Rattle.lot_steps.specs.Steps.{act_of, looking, lock_of, profile, in_mutex}
+use Rattle.lot_steps.specs.Steps.{act_of, looking, lock_of, profile, in_mutex, is_lock}
 use Rattle.lot_mutex.specs.MutexSteps.{mutex_looking}
 use Rattle.lot_machine.specs.Machine.{State, unlocked, place_at, put, can_go, state_after_act, state_after_go}
 use Rattle.lot_machine.proofs.Looks.{IsLook, look}
@@ -23,7 +23,7 @@ use Rattle.abstract_locks.specs.Locks.{Rights, rights_of}
 use Rattle.abstract_locks.specs.Runs.{LocksState, GoesOn, Stays}
 use Rattle.abstract_locks.specs.Sites.{idle}
 use Rattle.lot_world.specs.Refinement.{lock_state, locks_of, call_on, stance_of}
-use Rattle.lot_world.specs.Stations.{is_lock, station_by}
+use Rattle.lot_world.specs.Stations.{station_by}
 use Rattle.lot_world.specs.WorldRuns.{IsUntouched}
 use Rattle.lot_world.specs.SitesOf.{IsSteady, CallsMutex, rules_at}
 use Rattle.lot_world.proofs.Glue.{IsLock, parts_at}

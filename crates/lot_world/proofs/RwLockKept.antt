@@ -50,7 +50,7 @@ use Rattle.lot_rwlock.proofs.RwLockSections.{rwlock_sections_follow}
 use Rattle.lot_rwlock.proofs.RwLockMoves.{rwlock_acts_move, rwlock_sleepers_move, rwlock_late_moves}
 use Rattle.lot_steps.specs.declared.places.Place.{Place}
 use Rattle.lot_steps.specs.declared.places.Place.TheVariants.{Idle, Mutex, RwLock}
-use Rattle.lot_steps.specs.Steps.{next_place, profile, wants, rwlock_goes}
+use Rattle.lot_steps.specs.Steps.{next_place, profile, wants, rwlock_goes, calls}
 use Rattle.abstract_locks.specs.Locks.{Rules, Sort, Normal, Recursive, Semaphore, count, one_if_some, standing}
 use Rattle.abstract_locks.specs.Locks as locks
 use Rattle.abstract_locks.specs.Sites.{Site, IsSite, Line, Main, Second, Begin, has_readers}
@@ -62,7 +62,7 @@ use Rattle.lot_machine.specs.Fits.{IsShaped}
 use Rattle.lot_machine.proofs.Shape.{main_key_there}
 use Rattle.lot_world.specs.Refinement.{lock_state, taken_at}
 use Rattle.lot_world.specs.MutexDeeds.{acts}
-use Rattle.lot_world.specs.Stations.{calls, station, doing_on}
+use Rattle.lot_world.specs.Stations.{station, doing_on}
 use Rattle.lot_world.specs.SitesOf.{IsSteady, Goes, CallsMutex, TakesOne, HasRoom, NotYet, is_mutex, rules_at, key_of}
 use Rattle.lot_world.proofs.Glue.{IsOf, next_of, parts_at, put_here, doing_here}
 use Rattle.lot_world.proofs.StandsMoved.{mutex_rules}

@@ -1,27 +1,19 @@
-use Rattle.std.proofs.Common.{◌≡◌, ◌∙◌, Some, ◌<◌, length, sym, ap}
+use Rattle.std.proofs.Common.{◌≡◌, ◌<◌, Some, length, get_or, sym, ap, ◌∙◌, subst}
+use Rattle.std.proofs.lemmas.List.{get_or_default}
 use Rattle.lot_steps.specs.declared.places.Place.TheVariants.{Idle}
 use Rattle.lot_steps.specs.Steps.{looking}
-use Rattle.lot_machine.specs.Machine.{State, place_at}
-use Rattle.lot_machine.proofs.Looks.{stands_at, look_fits, look_led, look_told}
+use Rattle.lot_machine.specs.Machine.{State}
+use Rattle.lot_machine.proofs.Shape.{spun, spun_told}
 use Rattle.lot_machine.proofs.machine.Machine.spin.Goals as goal
-
-pub go-requires-clause-fits : goal.go-requires-clause-fits
-go-requires-clause-fits g c =
-    let there : c.args.thread < length c.self.inside.places.items = rw (ap (λ (v : State). length v.places) c.self.view_is) c.requires.1 in
-    let at : place_at c.args.self.now c.args.thread ≡ c.index.result.now = rw (← c.self.view_is) (stands_at c.self.inside.places.items c.args.thread c.index.result.now Idle there c.index.ensures) in
-    let is : looking (place_at c.args.self.now c.args.thread) ≡ Some c.in-Some.place = ap looking at ∙ sym c.looking.ensures ∙ c.in-Some.is in
-    rw (← c.self.view_is) at (look_fits c.args.self.now c.args.thread c.in-Some.place c.requires.1 is (c.requires.0.places c.args.thread))
 
 pub returns-in-Some-clause-state : goal.returns-in-Some-clause-state
 returns-in-Some-clause-state g c =
-    let there : c.args.thread < length c.self.inside.places.items = rw (ap (λ (v : State). length v.places) c.self.view_is) c.requires.1 in
-    let at : place_at c.args.self.now c.args.thread ≡ c.index.result.now = rw (← c.self.view_is) (stands_at c.self.inside.places.items c.args.thread c.index.result.now Idle there c.index.ensures) in
-    let is : looking (place_at c.args.self.now c.args.thread) ≡ Some c.in-Some.place = ap looking at ∙ sym c.looking.ensures ∙ c.in-Some.is in
-    look_led c.args.self.now c.args.thread c.in-Some.place c.requires.1 is c.go.new.self (rw (← c.self.view_is) c.go.ensures.state)
+    let there : c.args.thread < length c.self.inside.places.items = subst (λ (w : State). c.args.thread < length w.places) (sym c.self.view_is) c.requires.1 in
+    let is : looking (get_or c.self.inside.places.items c.args.thread Idle) ≡ Some c.in-Some.place = ap looking (get_or_default c.self.inside.places.items c.args.thread Idle c.index.result.now there ∙ sym c.index.ensures) ∙ sym c.in-Some.ensures in
+    rw (← c.self.view_is) (spun _ _ c.args.thread c.in-Some.place there is c.go.ensures.state)
 
 pub returns-in-Some-clause-outcome : goal.returns-in-Some-clause-outcome
 returns-in-Some-clause-outcome g c =
-    let there : c.args.thread < length c.self.inside.places.items = rw (ap (λ (v : State). length v.places) c.self.view_is) c.requires.1 in
-    let at : place_at c.args.self.now c.args.thread ≡ c.index.result.now = rw (← c.self.view_is) (stands_at c.self.inside.places.items c.args.thread c.index.result.now Idle there c.index.ensures) in
-    let is : looking (place_at c.args.self.now c.args.thread) ≡ Some c.in-Some.place = ap looking at ∙ sym c.looking.ensures ∙ c.in-Some.is in
-    look_told c.args.self.now c.args.thread c.in-Some.place c.requires.1 is c.go.result (rw (← c.self.view_is) c.go.ensures.outcome)
+    let there : c.args.thread < length c.self.inside.places.items = subst (λ (w : State). c.args.thread < length w.places) (sym c.self.view_is) c.requires.1 in
+    let is : looking (get_or c.self.inside.places.items c.args.thread Idle) ≡ Some c.in-Some.place = ap looking (get_or_default c.self.inside.places.items c.args.thread Idle c.index.result.now there ∙ sym c.index.ensures) ∙ sym c.in-Some.ensures in
+    spun_told c.self.view_is c.args.thread c.in-Some.place c.go.result there is c.go.ensures.outcome
