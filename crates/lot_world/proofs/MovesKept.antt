@@ -263,7 +263,6 @@ module _ (w : State) (t l : ℕ) (steady : IsSteady w) (there : t < length w.pla
     pub row : profile (place_at w u) ≡ move.row
     pub waits : Waits move
     pub taken : profile (next_place (place_at w u) (TakenBy t)) ≡ move.next (TakenBy t)
-    pub wants_then : wants (next_place (place_at w u) (TakenBy t)) ≡ (move.next (TakenBy t)).wants
     pub woken : profile (next_place (place_at w u) (Woken Normal)) ≡ move.next (Woken Normal)
     pub taken_fits : CallsMutex w (next_place (place_at w u) (TakenBy t))
     pub woken_fits : CallsMutex w (next_place (place_at w u) (Woken Normal))
@@ -581,7 +580,7 @@ module _ (w : State) (t l : ℕ) (steady : IsSteady w) (there : t < length w.pla
         some_picked : (u : ℕ) → member u chosen ≡ true → any ≡ true
         some_picked u h = held_any t 0 taken_state.places u z.sleeps.want
             (ap (λ q. is_thread t (taker q)) at_u ∙ held_taker p2 t l false (ap (λ (y : Station). y.hand) (station_here l p2 (sleeps_chosen u h).calls_then ∙ (sleeps_chosen u h).free)))
-            (ap wants at_u ∙ z.sleeper.wants_then ∙ z.sleeps.wants t)
+            (ap wants at_u ∙ ap (λ (y : Profile). y.wants) z.sleeper.taken ∙ z.sleeps.wants t)
           where
             z : IsAsleepIn Main u
             z = asleep_in Main u g.was (chosen_stands u h)
