@@ -1,10 +1,19 @@
 -- Each turn of a thread is a step of the abstract locks.
 use Rattle.std.proofs.Common.{◌≤◌, ◌++◌, arith, ℕ, Bool, true, false, Option, Some, None, if◌then◌else◌, ◌==◌, ◌&&◌, not, ◌≡◌, ◌≢◌, ◌+◌, ◌*◌, ◌<◌, ◌↔◌, inl, inr, List, [], ◌∷◌, length, get_or, refl, sym, ◌∙◌, ap, subst, get_or-set_other, get_or-set_same, length-set, nat_lt, is_some}
+use Rattle.lot_acts.specs.Profiles.{taken_from}
+use Rattle.lot_rwlock.specs.declared.places.RwLockAt.TheVariants as at
+use Rattle.lot_rwlock.specs.declared.park.ParkAt.TheVariants as parking
+use Rattle.lot_rwlock.proofs.RwLockCallPlaces.{rwlock_sleepers_hear}
+use Rattle.lot_base.specs.Keys.{key_of}
+use Rattle.lot_base.specs.declared.keys.Line.{Line}
+use Rattle.lot_rwlock.specs.declared.places.RwLockAt.{RwLockAt}
+use Rattle.lot_rwlock.specs.RwLockSteps.{rwlock_next, next_at, patience_of}
+use Rattle.lot_rwlock.specs.RwLockCalls.{MayStand}
 use Rattle.lot_rwlock.specs.declared.places.Admission.{Admission}
 use Rattle.lot_rwlock.specs.declared.places.RwLockPlace.{RwLockPlace}
 use Rattle.lot_rwlock.specs.declared.purposes.RwLockPurpose.{RwLockPurpose}
 use Rattle.lot_rwlock.specs.declared.purposes.RwLockPurpose.TheVariants as purposes
-use Rattle.lot_rwlock.specs.RwLockProfiles.{purpose_by}
+use Rattle.lot_rwlock.specs.RwLockProfiles.{purpose_by, rwlock_late_line, late_line_at, hand_at as rwlock_hand, wants_for}
 use Rattle.lot_rwlock.specs.RwLockDeeds.{Admits}
 use Rattle.abstract_locks.specs.Sites.{has_readers}
 use Rattle.abstract_locks.specs.Locks.{Mutex as Mutual}
@@ -43,7 +52,7 @@ use Rattle.lot_steps.specs.declared.places.Place.TheVariants.{Idle, Mutex, RwLoc
 use Rattle.lot_acts.specs.Acts.{outcome_of}
 use Rattle.lot_mutex.specs.MutexSteps.{mutex_first, mutex_right, is_locked, is_parked, lock_act, unlock_act, hand_off_word, hand_off_act}
 use Rattle.lot_acts.specs.Owners.{is_thread}
-use Rattle.lot_steps.specs.Steps.{act_of, next_place, next_act, mutex_goes, mutex_does, looking, late_key, is_idle, has_right, first_place}
+use Rattle.lot_steps.specs.Steps.{act_of, next_place, next_act, mutex_goes, mutex_does, looking, late_key, is_idle, has_right, first_place, rwlock_goes, key_in, calls}
 use Rattle.lot_machine.specs.Machine.{State, place_at, word_at, owners_at, kind_at, section_at, put, state_after_act, go_reply, state_after_operation, state_after_hand_over, state_with_sections, reply_to, can_do, state_after_look, look_outcome, state_after_go, state_after_going, go_outcome, going_outcome, state_after_late_on, is_free_under, state_after_begin, can_begin, is_open_to, can_turn, state_after_turn, turn_outcome, is_possible, after, step_outcome, share_at}
 use Rattle.lot_machine.specs.Fits.{IsShaped, SameSize, PlaceFits, GivesUpTimed}
 use Rattle.lot_machine.proofs.Shape.{looking_shaped, after_size, both, performed_counts}
@@ -83,6 +92,21 @@ use Rattle.lot_world.proofs.LockEvents.{Befalls, wakes_others, hands_others}
 use Rattle.lot_world.proofs.OtherCalls.{IsLonely, IsCalm, lonely, takes, calm, befalls, befalls_nobody, tells_handed}
 use Rattle.lot_world.proofs.MutexCalls.{Tells, Rests, row_of}
 use Rattle.lot_world.proofs.MutexEvents.{Hears, owned_word, mutex_tells, claims_at, deeds_are, are_claims}
+
+-- ---------------------------------------------------------------- a reader-writer call whose time is up
+
+-- it sleeps in a line, and stands there still
+late_place : (a : Admission) (p : RwLockPlace) (m : Line) → rwlock_late_line p ≡ Some m
+    → (p2 : RwLockPlace) × (rwlock_next a p reply.Late ≡ next.At p2) × (rwlock_hand p.at ≡ None) × (rwlock_hand p2.at ≡ None)
+late_place a p m h = by_place p.at refl h
+  where
+    by_place : (to : RwLockAt) → p.at ≡ to → late_line_at (patience_of p.purpose) to ≡ Some m
+        → (p2 : RwLockPlace) × (rwlock_next a p reply.Late ≡ next.At p2) × (rwlock_hand p.at ≡ None) × (rwlock_hand p2.at ≡ None)
+    by_place (at.Park parking.Asleep) e h = (record p { at = at.Park parking.Remove }, ap (λ x. next_at a p x reply.Late) e, ap rwlock_hand e, refl)
+    by_place (at.Aside parking.Asleep) e h = (record p { at = at.Aside parking.Remove }, ap (λ x. next_at a p x reply.Late) e, ap rwlock_hand e, refl)
+    by_place (at.Park to) e h = absurd cc
+    by_place (at.Aside to) e h = absurd cc
+    by_place to e h = absurd cc
 
 -- ---------------------------------------------------------------- a thread goes on
 
@@ -333,7 +357,23 @@ module _ (w : State) (t : ℕ) (shape : IsShaped w) (steady : IsSteady w) (there
   late_goes : (p : Place) → place_at w t ≡ p → is_free_under w (late_key p) ≡ true
       → Stays (locks_of w) t (record (call_state p (rights w t)) { late = true }) outcome.TheVariants.Step (locks_of (state_after_late_on w t (late_key p)))
   late_goes Idle is can = absurd cc
-  late_goes (RwLock l a at) is can = absurd (let calls : CallsMutex w (RwLock l a at) = subst (CallsMutex w) is (steady.stands.calls t) in calls.2)
+  late_goes (RwLock l a p) is can = by_line (rwlock_late_line p) refl can
+    where
+      stands : MayStand a p
+      stands = let calls : CallsMutex w (RwLock l a p) = subst (CallsMutex w) is (steady.stands.calls t) in calls.1
+
+      in_no_hand_at : (x : RwLockPlace) → rwlock_hand x.at ≡ None → (k : ℕ) → taken_at (RwLock l a x) k ≡ None
+      in_no_hand_at x e k = ap (λ h. taken_from h (wants_for x.purpose) (calls (RwLock l a x) k)) e
+
+      by_line : (m : Option Line) → rwlock_late_line p ≡ m → is_free_under w (key_in (Some l) m) ≡ true
+          → Stays (locks_of w) t (record (call_state (RwLock l a p) (rights w t)) { late = true }) outcome.TheVariants.Step (locks_of (state_after_late_on w t (key_in (Some l) m)))
+      by_line None e can = absurd cc
+      by_line (Some m) e can = let z = late_place a p m e in
+          placed (state_with_sections w (One (key_of l m)) (Some t)).sections (RwLock l a p) (next_place (place_at w t) reply.Late) is
+          (λ k. ap (λ y. taken_at (next_place y reply.Late) k) is ∙ ap (λ n. taken_at (rwlock_goes l a n) k) z.1 ∙ in_no_hand_at z.0 z.3 k ∙ sym (in_no_hand_at p z.2 k)) _
+          (λ r same_rights. ap (λ y. call_state (next_place y reply.Late) r) is ∙ ap (λ n. call_state (rwlock_goes l a n) r) z.1
+          ∙ (rwlock_sleepers_hear a l p stands).late (λ none. let f : ◌≡◌ {A = Option Line} None (Some m) = sym none ∙ e in cc) z.0 r z.1
+          ∙ ap (λ x. record (call_state (RwLock l a p) x) { late = true }) same_rights)
   late_goes (Mutex l (Lock entries.LockTimed retries Asleep)) is can = placed (state_with_sections w (One (2 * l)) (Some t)).sections (Mutex l (Lock entries.LockTimed retries Asleep)) (next_place (place_at w t) reply.Late) is (rw is (λ k. refl)) _ (rw is (λ r e. rw e refl))
   late_goes (Mutex l (Lock entries.Lock retries Asleep)) is can = absurd cc
   late_goes (Mutex l (Lock entries.Bump retries Asleep)) is can = absurd cc
