@@ -24,7 +24,7 @@ use Rattle.lot_mutex.specs.declared.places.TheConstants.{NOT_PARKED}
 use Rattle.lot_mutex.specs.declared.hand_off.HandOffAt.{HandOffAt}
 use Rattle.lot_mutex.specs.declared.hand_off.HandOffAt.TheVariants as hand_off
 use Rattle.lot_steps.specs.declared.places.Place.{Place}
-use Rattle.lot_steps.specs.declared.places.Place.TheVariants.{Idle, Mutex}
+use Rattle.lot_steps.specs.declared.places.Place.TheVariants.{Idle, Mutex, RwLock}
 use Rattle.lot_mutex.specs.MutexSteps.{is_locked, is_parked, lock_act, hand_off_act}
 use Rattle.lot_steps.specs.Steps.{act_of, looking, late_key}
 use Rattle.lot_machine.specs.Machine.{State, unlocked, place_at, word_at, owners_at, kind_at, queue_at, state_after_operation, queues_with_last, queues_without_first, state_after_act, state_after_taking, state_after_look, state_after_go, put, state_after_late_on, state_after_turn, can_turn, is_possible, after, step_outcome}
@@ -58,6 +58,19 @@ use Rattle.lot_acts.specs.Owners.{with_exclusive}
 use Rattle.lot_world.proofs.CallEvents.{rights}
 use Rattle.lot_world.proofs.LockSteps.{after_step}
 use Rattle.abstract_locks.proofs.Runs.{needs_of}
+use Rattle.lot_rwlock.specs.declared.purposes.RwLockPurpose.{RwLockPurpose}
+use Rattle.lot_rwlock.specs.declared.purposes.RwLockPurpose.TheVariants as purpose
+use Rattle.lot_calls.specs.declared.calls.Access.TheVariants as access
+use Rattle.lot_rwlock.specs.RwLockProfiles.{purpose_by}
+
+-- no call of a reader-writer lock releases fairly
+never_fair : (k l : ℕ) (q : RwLockPurpose) → IsFairRelease (Some (purpose_by q k)) l → ⊥
+never_fair k l (purpose.Enter x how) h = h
+never_fair k l (purpose.Release access.Exclusive) h = let e : false ≡ true = h.1 in cc
+never_fair k l (purpose.Release access.Shared) h = h
+never_fair k l (purpose.Release access.Upgradable) h = h
+never_fair k l (purpose.Downgrade d) h = h
+never_fair k l (purpose.Upgrade how) h = h
 
 -- ---------------------------------------------------------------- what others do to an owner
 
@@ -214,6 +227,7 @@ module _ (w : State) (t l : ℕ) (shape : IsShaped w) (steady : IsSteady w) (own
   -- whatever the act, and wherever the thread goes then
   go_gives : (p : Place) → place_at w t ≡ p → PlaceFits (length w.locks) p → IsFairRelease (call_state p (rights w t)).purpose l → ComesTo w t l (state_after_act w t p (act_of p))
   go_gives Idle is fits h = absurd h
+  go_gives (RwLock k a p) is fits h = absurd (never_fair k l p.purpose h)
   go_gives (Mutex k (Lock entries.Lock retries a)) is fits h = absurd h
   go_gives (Mutex k (Lock entries.LockTimed retries a)) is fits h = absurd h
   go_gives (Mutex k (Lock entries.Bump retries a)) is fits h = rw h (lock_keeps (here k h fits.0) retries a)
@@ -261,6 +275,7 @@ locked_by v o u c e = by_code (λ v o. o ≡ Some u → is_locked v ≡ true) (�
 -- the lock that is released fairly is a mutex
 fair_mutex : (w : State) (p : Place) (l : ℕ) (r : ℕ → Rights) → CallsMutex w p → IsFairRelease (call_state p r).purpose l → is_mutex (kind_at w l) ≡ true
 fair_mutex w Idle l r fits h = absurd h
+fair_mutex w (RwLock k a p) l r fits h = absurd (never_fair k l p.purpose h)
 fair_mutex w (Mutex k (Lock entries.Lock retries a)) l r fits h = absurd h
 fair_mutex w (Mutex k (Lock entries.LockTimed retries a)) l r fits h = absurd h
 fair_mutex w (Mutex k (Lock entries.Bump retries a)) l r fits h = rw (← h) fits

@@ -37,6 +37,7 @@ pub mod LockEvents
 pub mod OtherCalls
 pub mod MutexEvents
 pub mod MutexOwing
+pub mod RwLockOwing
 pub mod PlaceSteps
 pub mod Possible
 pub mod LockSteps

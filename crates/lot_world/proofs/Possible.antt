@@ -24,14 +24,14 @@ use Rattle.lot_acts.specs.declared.acts.Next.{Next}
 use Rattle.lot_acts.specs.declared.acts.Next.TheVariants as next
 use Rattle.lot_mutex.specs.declared.places.MutexPlace.{MutexPlace}
 use Rattle.lot_steps.specs.declared.places.Place.{Place}
-use Rattle.lot_steps.specs.declared.places.Place.TheVariants.{Idle, Mutex}
+use Rattle.lot_steps.specs.declared.places.Place.TheVariants.{Idle, Mutex, RwLock}
 use Rattle.lot_acts.specs.declared.acts.Wakes.{Wakes}
 use Rattle.lot_acts.specs.declared.acts.Wakes as wakes
 use Rattle.lot_acts.specs.declared.acts.Whom.{Whom}
 use Rattle.lot_acts.specs.declared.acts.Whom as whom
 use Rattle.lot_acts.specs.Acts.{outcome_of, holds}
 use Rattle.lot_mutex.specs.MutexSteps.{mutex_act, mutex_first, mutex_next}
-use Rattle.lot_steps.specs.Steps.{act_of, lock_of, next_place, next_act, mutex_goes, mutex_does, late_key, first_place, looking, key_in, profile}
+use Rattle.lot_steps.specs.Steps.{act_of, lock_of, next_place, next_act, mutex_goes, mutex_does, late_key, first_place, looking, key_in, profile, rwlock_does, rwlock_goes}
 use Rattle.lot_machine.specs.Machine.{State, state_after_take, place_at, queue_at, section_at, can_do, can_go, is_free_under, word_at, state_with_sections, queues_without_first, state_after_taking, state_after_wake, state_after_act, state_after_go, state_after_late_on}
 use Rattle.lot_machine.specs.Fits.{IsShaped, PlaceFits}
 use Rattle.abstract_locks.specs.Sites.{Main, Line, Second}
@@ -52,6 +52,13 @@ use Rattle.lot_world.proofs.PlacePromises.{row_promises, station_own, station_ca
 use Rattle.lot_world.proofs.StandsKept.{in_main}
 use Rattle.lot_world.proofs.Counts.{first_times}
 use Rattle.lot_world.proofs.PlaceSteps.{late_next}
+use Rattle.lot_rwlock.specs.declared.places.RwLockPlace.{RwLockPlace}
+use Rattle.lot_calls.specs.declared.calls.RwLockCall.TheVariants as rwlock_call
+use Rattle.lot_calls.specs.declared.calls.Access.TheVariants as access
+use Rattle.lot_rwlock.specs.RwLockSteps.{rwlock_act, rwlock_next}
+use Rattle.lot_rwlock.specs.RwLockBegins.{admission_of, rwlock_first}
+use Rattle.lot_calls.specs.declared.calls.RwLockCall.{RwLockCall}
+use Rattle.lot_calls.specs.declared.calls.Patience.TheVariants.{Try}
 
 -- ---------------------------------------------------------------- going on
 
@@ -168,6 +175,11 @@ told_next l (next.End answer) = ((λ h. cc), λ h. cc)
 pub told_gone : (p : Place) (r : Reply) → (outcome_of (next_act p r) ≡ outcome.TheVariants.Sleep) ↔ (sleeps (act_of (next_place p r)) ≡ true)
 told_gone Idle r = ((λ h. cc), λ h. cc)
 told_gone (Mutex l at) r = told_next l (mutex_next at r)
+told_gone (RwLock l a p) r = by_next (rwlock_next a p r)
+  where
+    by_next : (n : Next RwLockPlace) → (outcome_of (rwlock_does l a n) ≡ outcome.TheVariants.Sleep) ↔ (sleeps (act_of (rwlock_goes l a n)) ≡ true)
+    by_next (next.At q) = told_act (rwlock_act l a q)
+    by_next (next.End answer) = ((λ h. cc), λ h. cc)
 
 pub told_step : (b : Bool) → b ≡ false → (outcome.TheVariants.Step ≡ outcome.TheVariants.Sleep) ↔ (b ≡ true)
 told_step true h = absurd cc
@@ -175,6 +187,16 @@ told_step false h = ((λ e. cc), λ e. cc)
 
 -- a call begins awake
 pub begins_awake : (k : Kind) (c : Call) → sleeps (act_of (first_place k c)) ≡ false
+begins_awake k (call.TheVariants.RwLock l c) = by_call c
+  where
+    by_call : (c : RwLockCall) → sleeps (rwlock_act l (admission_of k) (rwlock_first c)) ≡ false
+    by_call (rwlock_call.Enter access.Exclusive how) = refl
+    by_call (rwlock_call.Enter access.Shared how) = refl
+    by_call (rwlock_call.Enter access.Upgradable how) = refl
+    by_call (rwlock_call.Release x) = refl
+    by_call (rwlock_call.Downgrade d) = refl
+    by_call (rwlock_call.Upgrade Try) = refl
+    by_call (rwlock_call.Upgrade how) = refl
 begins_awake k (call.TheVariants.Mutex l c) = either (is_fair k) c
   where
     either : (fair : Bool) (c : MutexCall) → sleeps (act_of (Mutex l (mutex_first fair c))) ≡ false

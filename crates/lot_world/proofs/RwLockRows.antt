@@ -71,7 +71,7 @@ rwlock_known l (purpose.Downgrade downgrade.UpgradableToShared) sort_of e = (kno
 rwlock_known l (purpose.Upgrade how) sort_of e = (knows (sort_of l) e access.Upgradable, knows (sort_of l) e access.Exclusive)
 
 -- a downgrade is to a lesser right
-lesser : (d : Downgrade) → wanted (to_of d) ≢ Exclusive
+pub lesser : (d : Downgrade) → wanted (to_of d) ≢ Exclusive
 lesser downgrade.ToShared e = cc
 lesser downgrade.ToUpgradable e = cc
 lesser downgrade.UpgradableToShared e = cc
@@ -264,7 +264,7 @@ timed_is (purpose.Upgrade how) l h = ap is_timed h.1
 timed_is (purpose.Release x) l h = absurd h
 timed_is (purpose.Downgrade d) l h = absurd (let e = h.1 in cc)
 
-some_line : (n m : Line) → Some n ≡ Some m → n ≡ m
+pub some_line : (n m : Line) → Some n ≡ Some m → n ≡ m
 some_line n m e = cc
 
 -- ---------------------------------------------------------------- owing

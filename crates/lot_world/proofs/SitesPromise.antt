@@ -1,5 +1,5 @@
 -- What its lock's being a site says of the word of a mutex, and of who waits for it.
-use Rattle.std.proofs.Common.{ℕ, Bool, true, false, Option, if◌then◌else◌, ◌==◌, ◌≡◌, ◌≢◌, ◌+◌, ◌*◌, ◌≤◌, List, [], ◌∷◌, inl, inr, refl, sym, ◌∙◌, subst, arith}
+use Rattle.std.proofs.Common.{ℕ, Bool, true, false, Option, if◌then◌else◌, ◌==◌, ◌≡◌, ◌≢◌, ◌+◌, ◌*◌, ◌≤◌, List, [], ◌∷◌, inl, inr, refl, sym, ◌∙◌, subst, arith, None}
 use Rattle.std.proofs.lemmas.Bool.Decides.{nat_tests}
 use Rattle.std.specs.Prelude.{sum}
 use Rattle.lot_base.specs.declared.wants.Want.TheVariants.{Shared}
@@ -7,10 +7,10 @@ use Rattle.lot_base.specs.declared.wants.Waiter.{Waiter}
 use Rattle.lot_base.specs.Lines as Lines
 use Rattle.lot_mutex.specs.MutexSteps.{is_parked}
 use Rattle.lot_steps.specs.declared.places.Place.{Place}
-use Rattle.lot_steps.specs.declared.places.Place.TheVariants.{Idle, Mutex}
+use Rattle.lot_steps.specs.declared.places.Place.TheVariants.{Idle, Mutex, RwLock}
 use Rattle.abstract_locks.specs.Locks.{Queued, times, one_if_some}
 use Rattle.abstract_locks.specs.Locks as locks
-use Rattle.abstract_locks.specs.Sites.{idle}
+use Rattle.abstract_locks.specs.Sites.{idle, Line, Main, Second, Claim}
 use Rattle.abstract_locks.specs.Codes.{bit, code, parked_in}
 use Rattle.lot_machine.specs.Machine.{State, place_at, word_at, owners_at, shares_at, queue_at}
 use Rattle.lot_world.specs.Refinement.{lock_state}
@@ -21,6 +21,14 @@ use Rattle.lot_world.specs.Stations.{doing_on}
 use Rattle.lot_world.specs.SitesOf.{IsSteady, rules_at}
 use Rattle.lot_world.proofs.MutexTable.{mutex, queued_times}
 use Rattle.lot_world.proofs.SitesKept.{lock_by}
+use Rattle.lot_base.specs.declared.wants.Want.{Want}
+use Rattle.lot_rwlock.specs.declared.purposes.RwLockPurpose.{RwLockPurpose}
+use Rattle.lot_rwlock.specs.declared.places.RwLockAt.{RwLockAt}
+use Rattle.lot_rwlock.specs.declared.park.ParkAt.{ParkAt}
+use Rattle.lot_rwlock.specs.declared.places.RwLockAt.TheVariants as at
+use Rattle.lot_rwlock.specs.declared.park.ParkAt.TheVariants as parking
+use Rattle.lot_rwlock.specs.declared.release.WakeAt.TheVariants as waking
+use Rattle.lot_rwlock.specs.RwLockDeeds.{parking_doing, doing_at, again_of, rwlock_doing, pends}
 
 pub codes_by : (e : Option ℕ) (b : Bool) (w : ℕ) → w ≡ one_if_some e + 2 * bit b → IsMutexWord w e
 codes_by e true w h = inr h
@@ -38,6 +46,21 @@ pub not_empty : (t : ℕ) (q : List Queued) → 1 ≤ times t q → q ≢ []
 not_empty t [] h e = omega arith
 not_empty t (x ∷ q) h e = cc
 
+park_unset : (m : Line) (again : Option Want) (claims : Option Claim) (to : ParkAt) → (parking_doing m again claims to).sets ≡ false
+park_unset m again claims (parking.Leave true) = refl
+park_unset m again claims (parking.Leave false) = refl
+park_unset m again claims parking.Check = refl
+park_unset m again claims to = refl
+
+rwlock_unset : (again : Option Want) (q : RwLockPurpose) (to : RwLockAt) → (doing_at again q to).sets ≡ false
+rwlock_unset again q (at.Park to) = park_unset Main again None to
+rwlock_unset again q (at.Aside to) = park_unset Second again (pends q) to
+rwlock_unset again q (at.Wake m waking.Enter) = refl
+rwlock_unset again q (at.Wake m waking.Take) = refl
+rwlock_unset again q (at.Wake m (waking.Clear any)) = refl
+rwlock_unset again q (at.Wake m (waking.Leave any)) = refl
+rwlock_unset again q to = refl
+
 -- no call that is built brings waiters
 pub sets_nothing : (p : Place) (l : ℕ) → (doing_on p l).sets ≡ false
 sets_nothing Idle l = refl
@@ -45,6 +68,11 @@ sets_nothing (Mutex k at) l = either (k == l)
   where
     either : (b : Bool) → (if b then mutex_doing at else idle).sets ≡ false
     either true = refl
+    either false = refl
+sets_nothing (RwLock k a p) l = either (k == l)
+  where
+    either : (b : Bool) → (if b then rwlock_doing p else idle).sets ≡ false
+    either true = rwlock_unset (again_of p) p.purpose p.at
     either false = refl
 
 pub first_out : (t : ℕ) (q : List Waiter) → Lines.times t q ≡ 0 → locks.is_thread t (Lines.first_of q) ≡ 0
