@@ -63,7 +63,7 @@ use Rattle.lot_machine.proofs.Shape.{main_key_there}
 use Rattle.lot_world.specs.Refinement.{lock_state, taken_at}
 use Rattle.lot_world.specs.MutexDeeds.{acts}
 use Rattle.lot_world.specs.Stations.{station, doing_on}
-use Rattle.lot_world.specs.SitesOf.{IsSteady, Goes, CallsMutex, TakesOne, HasRoom, NotYet, is_mutex, rules_at, key_of}
+use Rattle.lot_world.specs.SitesOf.{IsSteady, Goes, CallsMutex, TakesOne, HasRoom, is_mutex, rules_at, key_of}
 use Rattle.lot_world.proofs.Glue.{IsOf, next_of, parts_at, put_here, doing_here}
 use Rattle.lot_world.proofs.StandsMoved.{mutex_rules}
 use Rattle.lot_world.proofs.ActsKept.{lock_by, place_goes}
@@ -346,7 +346,7 @@ admits_by (kinds.RwLock limit) h = (refl, refl, refl)
 admits_by (kinds.Recursive limit) h = (refl, refl, refl)
 admits_by k h = absurd cc
 
-module _ (w : State) (t l : ℕ) (c : RwLockCall) (steady : IsSteady w) (there : t < length w.places) (idle_now : place_at w t ≡ Idle) (readers : has_readers (rules_at w l).sort ≡ true) (right : rwlock_right c t (owners_at w l) (share_at w l t) ≡ true) (yet : NotYet) where
+module _ (w : State) (t l : ℕ) (c : RwLockCall) (steady : IsSteady w) (there : t < length w.places) (idle_now : place_at w t ≡ Idle) (readers : has_readers (rules_at w l).sort ≡ true) (right : rwlock_right c t (owners_at w l) (share_at w l t) ≡ true) where
   abbrev pub first : Place
   first = RwLock l (admission_of (kind_at w l)) (rwlock_first c)
 
@@ -358,7 +358,7 @@ module _ (w : State) (t l : ℕ) (c : RwLockCall) (steady : IsSteady w) (there :
 
   -- with what it claims
   pub rwlock_begins : Goes w (put w t first) l (acts t (Begin opens.opening.claims ∷ []))
-  rwlock_begins = place_goes w t l steady (rw idle_now tt) there (rules_at w l) refl first refl (admits_by (kind_at w l) readers, opens.stands, yet) (Begin opens.opening.claims ∷ []) (λ h. tt)
+  rwlock_begins = place_goes w t l steady (rw idle_now tt) there (rules_at w l) refl first refl (admits_by (kind_at w l) readers, opens.stands) (Begin opens.opening.claims ∷ []) (λ h. tt)
       (steps_by (rules_at w l) l (parts_at w l) (parts_at w l) (place_at w) t first (Begin opens.opening.claims ∷ [])
       (opens.has t (shares_at w l) (owners_at w l) (queue_at w (2 * l)) (queue_at w (2 * l + 1)) (λ u. taken_at (place_at w u) l) right, tt) (tt, tt)
       (free_now ∙ sym (free_of first l (ap (λ (y : Station). y.hand) opens.opening.station)))

@@ -103,15 +103,11 @@ is_mutex kind.TheVariants.Mutex = true
 is_mutex kind.TheVariants.Fair = true
 is_mutex k = false
 
--- no call of a reader-writer lock is built
-abbrev pub NotYet : Type 0
-NotYet = ⊥
-
--- a call of a mutex is of a lock of such a kind
+-- a call is of a lock of such a kind, and stands where it may
 abbrev pub CallsMutex : State → Place → Type 0
 CallsMutex w Idle = Unit {0}
 CallsMutex w (OfMutex l at) = is_mutex (kind_at w l) ≡ true
-CallsMutex w (OfRwLock l a at) = Admits (rules_at w l) a × MayStand a at × NotYet
+CallsMutex w (OfRwLock l a at) = Admits (rules_at w l) a × MayStand a at
 
 pub record Stands (w : State) : Type 0 where
   pub sections : Sections (place_at w) (section_at w)
