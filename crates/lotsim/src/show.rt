@@ -46,7 +46,7 @@ fn show_lock<W: Write>(
 }
 
 /// Prints who owns a lock, each with a letter for its sort.
-fn print_owners<W: Write>(page: &mut Page, writer: &mut W, owners: OwnersOf)
+fn print_owners<W: Write>(page: &mut Page, writer: &mut W, owners: OwnersOf<'_>)
     ensures { Puts (W.contents writer.old) (W.contents writer.new) page.old page.new (owners_text owners) }
 {
     let mut mark = b" own=".as_slice();
