@@ -3,7 +3,10 @@ mod sizes;
 mod steps;
 
 use lot_base::{ListQueues, Waiter, Want};
-use lot_world::{Answer, Call, Debt, Kind, MutexCall, Outcome, Owner, Place, Step, Turn, World};
+use lot_steps::Owners;
+use lot_world::{
+    Answer, Call, Debt, Kind, MutexCall, Outcome, Owner, OwnersOf, Place, Step, Turn, World,
+};
 use std::alloc::AllocError;
 use std::test::Fail;
 
@@ -71,6 +74,24 @@ fn a_waiter_is_woken_by_the_release(rt: HostRuntime) -> Result<(), Fail> {
     assert_eq!(rt; world.solo(1), Outcome::End(Answer::Ok));
     assert_eq!(rt; world.word(0), 1);
     assert!(rt; world.debt(0).next().is_none());
+    Ok(())
+}
+
+#[test]
+fn who_shares_is_listed_behind_the_owners(rt: HostRuntime) -> Result<(), Fail> {
+    let owners = Owners {
+        upgradable: Some(2),
+        ..Owners::NOBODY
+    };
+    let shares = [1, 2, 0];
+    let listed: Vec<(Owner, usize)> = OwnersOf::new(owners, shares.as_slice()).collect(rt.alloc())?;
+    let wanted = [
+        (Owner::Upgradable, 2),
+        (Owner::Shared, 0),
+        (Owner::Shared, 1),
+        (Owner::Shared, 1),
+    ];
+    assert_eq!(rt; listed.as_slice(), wanted.as_slice());
     Ok(())
 }
 
