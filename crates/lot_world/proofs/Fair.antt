@@ -51,7 +51,7 @@ use Rattle.lot_world.proofs.MutexTable.{mutex}
 use Rattle.lot_world.proofs.StandsMoved.{mutex_rules}
 use Rattle.lot_world.proofs.KindsKept.{after_kinds}
 use Rattle.abstract_locks.specs.Purposes.{rules_of}
-use Rattle.lot_world.proofs.SitesKept.{unshared_at, single_at}
+use Rattle.lot_world.proofs.SitesKept.{unshared_at, single_at, alone_at, mutexes_at}
 use Rattle.lot_acts.specs.declared.owners.Owners.{Owners}
 use Rattle.lot_acts.specs.Owners.{with_exclusive}
 use Rattle.lot_world.proofs.CallEvents.{rights}
@@ -211,8 +211,8 @@ module _ (w : State) (t l : ℕ) (shape : IsShaped w) (steady : IsSteady w) (own
     ))
     hand_off_gives bumps (hand_off.Store true none_left) is = let one = steady.stands.hands.carried t l false (ap (λ x. x.carries) (own_stance l (place_at w t) _ is)) in inr (inl (
       one.0,
-      by_taken one.0 (is_taken (place_at w one.0) t l one.1),
-      ap (λ x. x.owners.exclusive) (get_or-set_same w.locks l _ (unlocked kind.TheVariants.Mutex) lt) ∙ ap (λ (o : Owners). o.exclusive) (successor_one w t l one.0 false steady.stands.hands (single_at w t l (HandOff bumps (hand_off.Store true none_left)) steady is) (rw is refl) one.1 (unshared_at w t l (HandOff bumps (hand_off.Store true none_left)) steady is) (with_exclusive (owners_at w l) None)),
+      by_taken one.0 (is_taken (place_at w one.0) t l (mutexes_at w t l (HandOff bumps (hand_off.Store true none_left)) steady is one.0) one.1),
+      ap (λ x. x.owners.exclusive) (get_or-set_same w.locks l _ (unlocked kind.TheVariants.Mutex) lt) ∙ ap (λ (o : Owners). o.exclusive) (successor_one w t l one.0 false steady.stands.hands (single_at w t l (HandOff bumps (hand_off.Store true none_left)) steady is) (rw is refl) one.1 (alone_at w t l (HandOff bumps (hand_off.Store true none_left)) steady is) (unshared_at w t l (HandOff bumps (hand_off.Store true none_left)) steady is) (with_exclusive (owners_at w l) None)),
     ))
       where
         by_taken : (u : ℕ) → IsTakenAt (place_at w u) t l → IsTaken (lock_state w l) t u Exclusive

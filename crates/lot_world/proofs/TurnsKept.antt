@@ -47,7 +47,7 @@ use Rattle.lot_rwlock.specs.declared.places.RwLockPlace.{RwLockPlace}
 use Rattle.lot_rwlock.specs.RwLockProfiles.{rwlock_late_line}
 use Rattle.lot_base.specs.declared.keys.Line.{Line}
 
-none_yet : (k : Kind) (l : ℕ) (c : RwLockCall) → has_call k (calling.TheVariants.RwLock l c) ≡ true → ⊥
+pub none_yet : (k : Kind) (l : ℕ) (c : RwLockCall) → has_call k (calling.TheVariants.RwLock l c) ≡ true → ⊥
 none_yet kinds.Mutex l c h = absurd cc
 none_yet kinds.Fair l c h = absurd cc
 none_yet (kinds.RwLock limit) l c h = absurd cc
