@@ -18,6 +18,9 @@ abbrev pub hand_owner : Option Hand → Option ℕ
 hand_owner None = None
 hand_owner (Some (Of u handed)) = Some u
 
+abbrev pub in_line : Bool → Line → Option Line
+in_line b m = if b then Some m else None
+
 abbrev pub in_hand : Bool → Bool → Option Bool
 in_hand any handed = if any then Some handed else None
 
@@ -32,12 +35,12 @@ pub record Profile : Type 0 where
   pub hand : Option Hand
   -- what it wants, where it waits
   pub wants : Option Want
-  -- it is shown to owe a wake, and to try again
-  pub owes : Bool
+  -- on which line it is shown to owe a wake, and whether to try again
+  pub owes : Option Line
   pub retries : Bool
-  -- its call has a deadline, and it sleeps, so that it may give up
+  -- its call has a deadline, and it sleeps in this line, so that it may give up
   pub timed : Bool
-  pub may_be_late : Bool
+  pub late_line : Option Line
   -- its time was up, and it has left the line
   pub late : Bool
   pub gave_up : Bool
@@ -55,10 +58,10 @@ blank = record {
   carries = None;
   hand = None;
   wants = None;
-  owes = false;
+  owes = None;
   retries = false;
   timed = false;
-  may_be_late = false;
+  late_line = None;
   late = false;
   gave_up = false;
   purpose = λ l. Enters l Exclusive Try;

@@ -1,5 +1,6 @@
 -- Each step keeps the shape of a state: its numbers go on naming threads, locks and keys that are there.
-use Rattle.std.proofs.Common.{ℕ, zero, suc, Bool, true, false, cond, Option, Some, None, if◌then◌else◌, ◌==◌, ◌&&◌, not, nat_lt, ◌≡◌, ◌*◌, ◌≤◌, ◌<◌, List, [], ◌∷◌, ◌++◌, length, get_or, set, map, drop, refl, ◌∙◌, length-set, replicate, arith}
+use Rattle.std.proofs.Common.{ℕ, zero, suc, Bool, true, false, cond, Option, Some, None, if◌then◌else◌, ◌==◌, ◌&&◌, not, nat_lt, ◌≡◌, ◌*◌, ◌≤◌, ◌<◌, List, [], ◌∷◌, ◌++◌, length, get_or, set, map, drop, refl, ◌∙◌, length-set, get_or-set_same, replicate, sym, ap, subst, arith}
+use Rattle.std.specs.Prelude.{is_some}
 use Rattle.std.proofs.lemmas.List.{length-replicate}
 use Rattle.std.proofs.lemmas.Bool.{ltb-true}
 use Rattle.std.proofs.lemmas.List.{length-map}
@@ -62,12 +63,14 @@ use Rattle.lot_calls.specs.Kinds.{is_fair}
 use Rattle.lot_mutex.specs.MutexSteps.{is_locked, is_parked, is_timed, entered, mutex_next, mutex_first, next_unlock, next_hand_off, looked, unlock_fair_next, bump_next, try_next, in_lock, in_unlock, in_hand_off}
 use Rattle.lot_acts.specs.Owners.{is_thread}
 use Rattle.lot_calls.specs.Calls.{lock_in}
-use Rattle.lot_steps.specs.Steps.{is_idle, first_place, taker, act_of, next_place, mutex_goes, rwlock_goes, looking, late_key, key_in}
-use Rattle.lot_machine.specs.Machine.{State, unlocked, opening, kind_at, word_at, place_at, queue_at, put, state_after_operation, state_with_sections, queues_with_last, queues_without_first, queues_without, state_after_park, state_after_reply, place_after_telling, state_after_telling, state_after_hand_over, state_after_taking, state_after_wake, state_after_act, state_after_takes, state_after_take_first, state_after_requeue, queues_requeued, left_behind, moved_under, moved_threads, listed, places_told, state_after_going, going_outcome, closed_place, can_do, state_after_go, reply_to, state_after_begin, can_begin, is_open_to, state_after_spin, state_after_late, state_after_late_on, state_after_turn, can_turn, is_possible, after, state_after_look}
+use Rattle.lot_acts.specs.Profiles.{in_line}
+use Rattle.abstract_locks.specs.Sites.{Main}
+use Rattle.lot_steps.specs.Steps.{is_idle, lock_of, first_place, taker, act_of, next_place, mutex_goes, rwlock_goes, looking, late_key, key_in}
+use Rattle.lot_machine.specs.Machine.{State, unlocked, opening, kind_at, word_at, place_at, queue_at, put, state_after_operation, state_with_sections, queues_with_last, queues_without_first, queues_without, state_after_park, state_after_reply, place_after_telling, state_after_telling, state_after_hand_over, state_after_taking, state_after_wake, state_after_act, state_after_takes, state_after_take_first, state_after_requeue, queues_requeued, left_behind, moved_under, moved_threads, listed, places_told, state_after_going, going_outcome, closed_place, can_do, state_after_go, reply_to, state_after_begin, can_begin, is_open_to, state_after_spin, state_after_late, state_after_late_on, state_after_turn, can_turn, is_possible, after, state_after_look, look_outcome, spin_outcome, can_spin, can_go, go_outcome}
 use Rattle.lot_base.specs.declared.notes.Note as note
 use Rattle.lot_mutex.specs.declared.lock.LockAt as lock
 use Rattle.lot_acts.specs.declared.acts.Whom as whom
-use Rattle.lot_machine.specs.Fits.{GivesUpTimed, PlaceFits, AllBelow, IsShaped, SameSize}
+use Rattle.lot_machine.specs.Fits.{ActFits, GivesUpTimed, PlaceFits, AllBelow, IsShaped, SameSize}
 use Rattle.lot_machine.proofs.Looks.{look}
 
 -- what holds of all elements holds of them after one is set
@@ -498,6 +501,28 @@ begun_shaped w t c s can =
 pub looking_shaped : (w : State) (t : ℕ) (q : Place) → IsShaped w → looking (place_at w t) ≡ Some q → IsShaped (put w t q)
 looking_shaped w t q s is = put_shaped w t q s ((look (place_at w t) q is).fits (length w.locks) (s.places t))
 
+-- a call is of a lock that is there
+place_lock : (locks l : ℕ) (p : Place) → PlaceFits locks p → lock_of p ≡ Some l → l < locks
+place_lock locks l Idle h e = absurd cc
+place_lock locks l (Mutex k at) h e = let same : k ≡ l = cc in subst (λ j. j < locks) same h.0
+place_lock locks l (RwLock k a at) h e = let same : k ≡ l = cc in subst (λ j. j < locks) same h
+
+-- and loads there
+pub looks_fit : (w : State) (t : ℕ) (q : Place) → IsShaped w → t < length w.places → looking (place_at w t) ≡ Some q → ActFits (put w t q) (act_of (place_at (put w t q) t))
+looks_fit w t q s lt is = let k = look (place_at w t) q is in
+    subst (λ p. ActFits (put w t q) (act_of p)) (sym (get_or-set_same w.places t q Idle lt)) (subst (ActFits (put w t q)) (sym k.loads) (place_lock (length w.locks) k.lock (place_at w t) (s.places t) k.before))
+
+looks_go : (w : State) (t : ℕ) (q : Place) → t < length w.places → looking (place_at w t) ≡ Some q → can_go (put w t q) t ≡ true
+looks_go w t q lt is = ap (λ p. can_do (put w t q) (act_of p)) (get_or-set_same w.places t q Idle lt) ∙ ap (can_do (put w t q)) (look (place_at w t) q is).loads
+
+pub spun : (w v : State) (t : ℕ) (q : Place) → t < length w.places → looking (place_at w t) ≡ Some q → v ≡ (if can_go (put w t q) t then state_after_go (put w t q) t else put w t q) → v ≡ (if can_spin w t then state_after_spin w t else w)
+spun w v t q lt is e = e ∙ ap (λ b. if b then state_after_go (put w t q) t else put w t q) (looks_go w t q lt is) ∙ sym (ap (λ o. if is_some o then state_after_look w t o else w) is)
+
+-- and is told so, of a state that is the same
+pub spun_told : {v w : State} → v ≡ w → (t : ℕ) (q : Place) (told : Outcome) → t < length v.places → looking (place_at v t) ≡ Some q → told ≡ (if can_go (put v t q) t then go_outcome (put v t q) t else outcome.TheVariants.NotNow) → told ≡ (if can_spin w t then spin_outcome w t else outcome.TheVariants.NotNow)
+spun_told {v} same t q told lt is e = subst (λ (w : State). told ≡ (if can_spin w t then spin_outcome w t else outcome.TheVariants.NotNow)) same
+    (e ∙ ap (λ b. if b then go_outcome (put v t q) t else outcome.TheVariants.NotNow) (looks_go v t q lt is) ∙ sym (ap (λ o. if is_some o then look_outcome v t o else outcome.TheVariants.NotNow) is))
+
 spun_shaped : (w : State) (t : ℕ) → IsShaped w → t < length w.places → IsShaped (state_after_spin w t)
 spun_shaped w t s lt = by_place (looking (place_at w t)) refl
   where
@@ -508,7 +533,7 @@ spun_shaped w t s lt = by_place (looking (place_at w t)) refl
 lated_shaped : (w : State) (t : ℕ) → IsShaped w → IsShaped (state_after_late w t)
 lated_shaped w t s = by_place (place_at w t) refl
   where
-    asleep : (l : ℕ) (entry : Entry) (retries : Bool) → place_at w t ≡ Mutex l (Lock entry retries lock.TheVariants.Asleep) → (b : Bool) → is_timed entry ≡ b → IsShaped (state_after_late_on w t (if b then Some (2 * l) else None))
+    asleep : (l : ℕ) (entry : Entry) (retries : Bool) → place_at w t ≡ Mutex l (Lock entry retries lock.TheVariants.Asleep) → (b : Bool) → is_timed entry ≡ b → IsShaped (state_after_late_on w t (key_in (Some l) (in_line b Main)))
     asleep l entry retries e true timed = befallen_shaped (state_with_sections w (One (2 * l)) (Some t)) t Late (filled_shaped w (One (2 * l)) (Some t) s) (rw e timed)
     asleep l entry retries e false timed = s
 
@@ -526,7 +551,7 @@ lated_shaped w t s = by_place (place_at w t) refl
     by_place (Mutex l (HandOff bumps at)) e = s
     by_place (RwLock l a at) e = by_line (rwlock_late_line at)
       where
-        by_line : (m : Option Line) → IsShaped (state_after_late_on w t (key_in l m))
+        by_line : (m : Option Line) → IsShaped (state_after_late_on w t (key_in (Some l) m))
         by_line None = s
         by_line (Some m) = befallen_shaped (state_with_sections w (One (key_of l m)) (Some t)) t Late (filled_shaped w (One (key_of l m)) (Some t) s) (rw e tt)
 

@@ -13,11 +13,11 @@ use Rattle.lot_mutex.specs.declared.unlock.UnlockAt.TheVariants as unlock
 use Rattle.lot_mutex.specs.declared.hand_off.HandOffAt.{HandOffAt}
 use Rattle.lot_mutex.specs.declared.hand_off.HandOffAt.TheVariants as hand_off
 use Rattle.lot_mutex.specs.MutexSteps.{is_timed}
-use Rattle.lot_acts.specs.Profiles.{hand, hand_owner, in_hand, Profile, blank}
+use Rattle.lot_acts.specs.Profiles.{hand, hand_owner, in_hand, in_line, Profile, blank}
 use Rattle.abstract_locks.specs.Locks.{Rights}
 use Rattle.abstract_locks.specs.Runs.{one_more_at, one_less_at}
 use Rattle.abstract_locks.specs.Purposes.{Purpose, Enters, Releases, Bumps, Patient, Timed}
-use Rattle.abstract_locks.specs.Sites.{Doing, Has, Main, idle, found}
+use Rattle.abstract_locks.specs.Sites.{Doing, Line, Has, Main, idle, found}
 
 -- ---------------------------------------------------------------- what a thread does about the lock
 
@@ -61,15 +61,15 @@ abbrev pub lock_row : Bool → Bool → LockAt → Profile
 lock_row timed retries lock.First = record blank { doing = again retries idle }
 lock_row timed retries lock.Load = record blank { doing = again retries idle }
 lock_row timed retries (lock.Decide seen) = record blank { doing = again retries idle }
-lock_row timed retries lock.Check = record blank { doing = again retries inside; owes = true }
-lock_row timed retries (lock.Leave parked) = record blank { doing = again (if parked then false else retries) inside; stands = if parked then Some Main else None; owes = true }
-lock_row timed retries lock.Asleep = record blank { stands = Some Main; may_be_late = timed }
+lock_row timed retries lock.Check = record blank { doing = again retries inside; owes = Some Main }
+lock_row timed retries (lock.Leave parked) = record blank { doing = again (if parked then false else retries) inside; stands = if parked then Some Main else None; owes = Some Main }
+lock_row timed retries lock.Asleep = record blank { stands = Some Main; late_line = in_line timed Main }
 lock_row timed retries (lock.Taken by) = record blank { hand = hand by false }
 lock_row timed retries (lock.Handed by) = record blank { doing = owner; hand = hand by true }
 lock_row timed retries lock.Accept = record blank { doing = owner }
-lock_row timed retries lock.Remove = record blank { doing = inside; stands = Some Main; owes = true; late = true }
-lock_row timed retries lock.Clear = record blank { doing = record inside { empty = Some Main }; owes = true; late = true; gave_up = true }
-lock_row timed retries lock.GiveUp = record blank { doing = inside; owes = true; late = true; gave_up = true }
+lock_row timed retries lock.Remove = record blank { doing = inside; stands = Some Main; owes = Some Main; late = true }
+lock_row timed retries lock.Clear = record blank { doing = record inside { empty = Some Main }; owes = Some Main; late = true; gave_up = true }
+lock_row timed retries lock.GiveUp = record blank { doing = inside; owes = Some Main; late = true; gave_up = true }
 
 -- ---------------------------------------------------------------- calls that release
 
@@ -79,10 +79,10 @@ release_purpose l bumps = if bumps then Bumps l Exclusive else Releases l Exclus
 
 abbrev pub unlock_row : UnlockAt → Profile
 unlock_row unlock.Subtract = record blank { doing = owner }
-unlock_row unlock.Enter = record blank { doing = record idle { wakes = Some Main }; owes = true; released = true }
-unlock_row unlock.Take = record blank { doing = record inside { wakes = Some Main }; owes = true; released = true }
-unlock_row (unlock.Clear any) = record blank { doing = record carrying { empty = Some Main }; carries = in_hand any false; owes = true; released = true }
-unlock_row (unlock.Leave any) = record blank { doing = carrying; carries = in_hand any false; owes = true; released = true }
+unlock_row unlock.Enter = record blank { doing = record idle { wakes = Some Main }; owes = Some Main; released = true }
+unlock_row unlock.Take = record blank { doing = record inside { wakes = Some Main }; owes = Some Main; released = true }
+unlock_row (unlock.Clear any) = record blank { doing = record carrying { empty = Some Main }; carries = in_hand any false; owes = Some Main; released = true }
+unlock_row (unlock.Leave any) = record blank { doing = carrying; carries = in_hand any false; owes = Some Main; released = true }
 
 -- whether nobody is left behind a take
 abbrev pub seen_empty : Bool → Bool → Bool
@@ -126,7 +126,7 @@ mutex_profile TryLock = blank
 mutex_profile (Unlock at) = leaving (λ l. Releases l Exclusive false) (unlock_row at)
 mutex_profile UnlockFair = leaving (λ l. release_purpose l false) (record blank { doing = owner })
 mutex_profile Bump = leaving (λ l. release_purpose l true) (record blank { doing = owner })
-mutex_profile (HandOff bumps at) = leaving (λ l. release_purpose l bumps) (record (hand_off_row at) { owes = true })
+mutex_profile (HandOff bumps at) = leaving (λ l. release_purpose l bumps) (record (hand_off_row at) { owes = Some Main })
 
 -- the thread that took this one and has not left its section yet
 abbrev pub mutex_taker : MutexPlace → Option ℕ
@@ -136,12 +136,12 @@ mutex_taker at = hand_owner (mutex_profile at).hand
 abbrev pub mutex_wants : MutexPlace → Option Want
 mutex_wants at = (mutex_profile at).wants
 
--- whether the thread sleeps in the queue of a call that may give up
-abbrev pub mutex_can_be_late : MutexPlace → Bool
-mutex_can_be_late at = (mutex_profile at).may_be_late
+-- the line in which the thread sleeps in a call that may give up
+abbrev pub mutex_late_line : MutexPlace → Option Line
+mutex_late_line at = (mutex_profile at).late_line
 
 -- from the step that saw waiters, or from entering the section, until the section is left
-abbrev pub mutex_owes : MutexPlace → Bool
+abbrev pub mutex_owes : MutexPlace → Option Line
 mutex_owes at = (mutex_profile at).owes
 
 abbrev pub mutex_retries : MutexPlace → Bool

@@ -7,14 +7,14 @@
 //! | 2, `PARKED` | unlocked; somebody may stand in the queue |
 //! | 3 | owned; somebody may stand in the queue |
 ghost use Rattle.std.specs.Prelude.{◌≡◌, ◌<◌, ◌^◌};
-ghost use Rattle.lot_mutex.specs.MutexProfiles.{mutex_taker, mutex_wants, mutex_can_be_late, mutex_owes, mutex_retries};
+ghost use Rattle.lot_mutex.specs.MutexProfiles.{mutex_taker, mutex_wants, mutex_late_line, mutex_owes, mutex_retries};
 ghost use Rattle.lot_mutex.specs.MutexSteps.{is_locked, is_parked, mutex_first, mutex_right, mutex_act, mutex_next, mutex_looking, mutex_owners};
 
 use crate::hand_off::{HandOffAt, hand_off_act, looked, next_hand_off};
 use crate::lock::{Entry, LockAt, lock_act, lock_owners, next_lock, still_retries};
 use crate::unlock::{UnlockAt, next_unlock, unlock_act};
 use lot_acts::{Act, Next, Owners, Reply};
-use lot_base::{Op, Want};
+use lot_base::{Line, Op, Want};
 use lot_calls::{Answer, MutexCall};
 
 pub const LOCKED: u64 = 1;
@@ -223,33 +223,33 @@ impl MutexPlace {
         }
     }
 
-    /// Whether the thread sleeps in the main queue and may give up.
-    pub fn can_be_late(self) -> bool
-        ensures { result ≡ mutex_can_be_late self }
+    /// The queue in which the thread sleeps, where it may give up.
+    pub fn late_line(self) -> Option<Line>
+        ensures { result ≡ mutex_late_line self }
     {
         match self {
             MutexPlace::Lock {
                 entry,
                 at: LockAt::Asleep,
                 ..
-            } => entry.is_timed(),
-            _ => false,
+            } if entry.is_timed() => Some(Line::Main),
+            _ => None,
         }
     }
 
-    /// Whether the thread owes a wake on the main queue.
-    pub fn owes(self) -> bool
+    /// The queue on which the thread owes a wake.
+    pub fn owes(self) -> Option<Line>
         ensures { result ≡ mutex_owes self }
     {
         match self {
             MutexPlace::Lock { at, .. } => match at {
-                LockAt::Check | LockAt::Leave { .. } => true,
-                LockAt::Remove | LockAt::Clear | LockAt::GiveUp => true,
-                _ => false,
+                LockAt::Check | LockAt::Leave { .. } => Some(Line::Main),
+                LockAt::Remove | LockAt::Clear | LockAt::GiveUp => Some(Line::Main),
+                _ => None,
             },
-            MutexPlace::Unlock(UnlockAt::Subtract) => false,
-            MutexPlace::Unlock(_) | MutexPlace::HandOff { .. } => true,
-            MutexPlace::TryLock | MutexPlace::UnlockFair | MutexPlace::Bump => false,
+            MutexPlace::Unlock(UnlockAt::Subtract) => None,
+            MutexPlace::Unlock(_) | MutexPlace::HandOff { .. } => Some(Line::Main),
+            MutexPlace::TryLock | MutexPlace::UnlockFair | MutexPlace::Bump => None,
         }
     }
 

@@ -20,7 +20,7 @@ use Rattle.lot_rwlock.specs.declared.release.WakeAt.{WakeAt}
 use Rattle.lot_rwlock.specs.declared.release.WakeAt.TheVariants as waking
 use Rattle.lot_rwlock.specs.RwLockSteps.{wanted, from_of, to_of, patience_of, decided}
 use Rattle.lot_rwlock.specs.RwLockDeeds.{rwlock_doing}
-use Rattle.lot_acts.specs.Profiles.{Hand, Profile, hand, hand_owner, in_hand}
+use Rattle.lot_acts.specs.Profiles.{Hand, Profile, hand, hand_owner, in_hand, in_line}
 use Rattle.abstract_locks.specs.Codes.{has_aside}
 use Rattle.abstract_locks.specs.Locks.{Rights, putting}
 use Rattle.abstract_locks.specs.Runs.{one_more_at, one_less_at}
@@ -79,9 +79,6 @@ carries_waking to = None
 abbrev pub carries_at : RwLockAt → Option Bool
 carries_at (at.Wake m to) = carries_waking to
 carries_at to = None
-
-abbrev pub in_line : Bool → Line → Option Line
-in_line b m = if b then Some m else None
 
 -- the queue on which it owes a wake: from the step that saw waiters, or from entering the section, until the section is left
 abbrev pub owes_at : RwLockAt → Option Line
@@ -163,10 +160,6 @@ before (purposes.Downgrade d) to l rights =
 before (purposes.Upgrade how) to l rights =
     if is_pending to then one_more_at l Upgradable (without_pending l rights) else rights
 
-abbrev pub is_some : Option Line → Bool
-is_some None = false
-is_some (Some m) = true
-
 abbrev pub rwlock_profile : Admission → RwLockPlace → Profile
 rwlock_profile a p = record {
   doing = rwlock_doing p;
@@ -174,10 +167,10 @@ rwlock_profile a p = record {
   carries = carries_at p.at;
   hand = hand_at p.at;
   wants = wants_for p.purpose;
-  owes = is_some (owes_at p.at);
+  owes = owes_at p.at;
   retries = p.retries;
   timed = is_timed (patience_of p.purpose);
-  may_be_late = is_some (late_line_at (patience_of p.purpose) p.at);
+  late_line = late_line_at (patience_of p.purpose) p.at;
   late = late_at is_late p.purpose p.at;
   gave_up = late_at has_given_up p.purpose p.at;
   purpose = purpose_by p.purpose;

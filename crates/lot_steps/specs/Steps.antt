@@ -1,5 +1,5 @@
 -- The steps of every call.
-use Rattle.std.specs.Prelude.{ℕ, Bool, true, false, Option, Some, None, if◌then◌else◌, ◌==◌, ◌&&◌, not, is_none, ◌*◌, ◌^◌, ◌<◌}
+use Rattle.std.specs.Prelude.{ℕ, Bool, true, false, Option, Some, None, if◌then◌else◌, ◌==◌, ◌&&◌, ◌^◌, ◌<◌}
 use Rattle.lot_calls.specs.declared.kinds.Kind.{Kind}
 use Rattle.lot_calls.specs.declared.calls.Call.{Call}
 use Rattle.lot_calls.specs.declared.calls.Call as call
@@ -13,17 +13,17 @@ use Rattle.lot_acts.specs.declared.acts.Next.{Next}
 use Rattle.lot_acts.specs.declared.acts.Next.TheVariants.{At, End}
 use Rattle.lot_acts.specs.declared.owners.Owners.{Owners}
 use Rattle.lot_calls.specs.Kinds.{is_fair}
-use Rattle.lot_mutex.specs.MutexSteps.{mutex_first, mutex_right, mutex_act, mutex_next, mutex_owners, mutex_looking}
+use Rattle.lot_mutex.specs.MutexSteps.{mutex_first, mutex_right, mutex_act, mutex_next, mutex_looking, mutex_owners}
 use Rattle.lot_base.specs.declared.keys.Line.{Line}
-use Rattle.lot_base.specs.Keys.{key_of}
 use Rattle.lot_base.specs.declared.wants.Want.{Want}
-use Rattle.lot_acts.specs.Profiles.{Profile, blank, bringing_nobody}
+use Rattle.lot_base.specs.Keys.{key_of}
+use Rattle.lot_acts.specs.Profiles.{Profile, blank, bringing_nobody, hand_owner}
 use Rattle.lot_rwlock.specs.declared.places.Admission.{Admission}
 use Rattle.lot_rwlock.specs.declared.places.RwLockPlace.{RwLockPlace}
 use Rattle.lot_rwlock.specs.RwLockBegins.{admission_of, rwlock_first, rwlock_right}
 use Rattle.lot_rwlock.specs.RwLockSteps.{rwlock_act, rwlock_next, rwlock_owners, rwlock_shares}
-use Rattle.lot_rwlock.specs.RwLockProfiles.{rwlock_profile, rwlock_taker, rwlock_wants, rwlock_looking, rwlock_late_line, rwlock_owes}
-use Rattle.lot_mutex.specs.MutexProfiles.{mutex_profile, mutex_taker, mutex_wants, mutex_can_be_late, mutex_owes, mutex_retries}
+use Rattle.lot_rwlock.specs.RwLockProfiles.{rwlock_profile, rwlock_looking}
+use Rattle.lot_mutex.specs.MutexProfiles.{mutex_profile}
 
 -- where a call of a lock of a kind begins
 abbrev pub first_place : Kind → Call → Place
@@ -45,6 +45,15 @@ abbrev pub lock_of : Place → Option ℕ
 lock_of Idle = None
 lock_of (Mutex lock at) = Some lock
 lock_of (RwLock lock a at) = Some lock
+
+-- whether it is the lock
+abbrev pub is_lock : ℕ → Option ℕ → Bool
+is_lock lock None = false
+is_lock lock (Some own) = own == lock
+
+-- whether a thread calls the lock
+abbrev pub calls : Place → ℕ → Bool
+calls p lock = is_lock lock (lock_of p)
 
 -- what a place says of its thread
 abbrev pub profile : Place → Profile
@@ -106,15 +115,11 @@ shares_after (RwLock lock a at) seen shares = rwlock_shares a at seen shares
 
 -- what a thread wants, where it waits
 abbrev pub wants : Place → Option Want
-wants Idle = None
-wants (Mutex lock at) = mutex_wants at
-wants (RwLock lock a at) = rwlock_wants at
+wants p = (profile p).wants
 
 -- the thread that took this one from its queue, and has not left its section yet
 abbrev pub taker : Place → Option ℕ
-taker Idle = None
-taker (Mutex lock at) = mutex_taker at
-taker (RwLock lock a at) = rwlock_taker at
+taker p = hand_owner (profile p).hand
 
 abbrev pub in_mutex : ℕ → Option MutexPlace → Option Place
 in_mutex lock None = None
@@ -130,24 +135,27 @@ looking Idle = None
 looking (Mutex lock at) = in_mutex lock (mutex_looking at)
 looking (RwLock lock a at) = in_rwlock lock a (rwlock_looking a at)
 
-abbrev pub key_in : ℕ → Option Line → Option ℕ
-key_in lock None = None
-key_in lock (Some m) = Some (key_of lock m)
+-- the key of a line of the lock that a thread calls
+abbrev pub key_in : Option ℕ → Option Line → Option ℕ
+key_in (Some lock) (Some m) = Some (key_of lock m)
+key_in lock m = None
 
 -- the key under which a thread sleeps in a call that may give up
 abbrev pub late_key : Place → Option ℕ
-late_key Idle = None
-late_key (Mutex lock at) = if mutex_can_be_late at then Some (2 * lock) else None
-late_key (RwLock lock a at) = key_in lock (rwlock_late_line at)
+late_key p = key_in (lock_of p) (profile p).late_line
+
+-- the line on which a thread owes a wake on a lock
+abbrev pub line_owed : Place → ℕ → Option Line
+line_owed p lock = if calls p lock then (profile p).owes else None
+
+abbrev pub is_line : Option Line → Bool
+is_line None = false
+is_line (Some m) = true
 
 -- a thread owes a wake on a lock
 abbrev pub owes_on : Place → ℕ → Bool
-owes_on Idle lock = false
-owes_on (Mutex own at) lock = mutex_owes at && (own == lock)
-owes_on (RwLock own a at) lock = not (is_none (rwlock_owes at)) && (own == lock)
+owes_on p lock = is_line (line_owed p lock)
 
 -- a thread was woken and tries again on a lock
 abbrev pub retries_on : Place → ℕ → Bool
-retries_on Idle lock = false
-retries_on (Mutex own at) lock = mutex_retries at && (own == lock)
-retries_on (RwLock own a at) lock = at.retries && (own == lock)
+retries_on p lock = (profile p).retries && calls p lock

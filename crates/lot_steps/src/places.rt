@@ -3,7 +3,7 @@ ghost use Rattle.std.specs.Prelude.{◌≡◌};
 ghost use Rattle.lot_steps.specs.Steps.{HasKeys, first_place, has_right, act_of, next_place, next_act, owners_after, shares_after, taker, wants, looking, late_key, owes_on, retries_on, is_idle};
 
 use lot_acts::{Act, Next, Owners, Reply};
-use lot_base::{Key, Want, main_key};
+use lot_base::{Key, Want};
 use lot_calls::{Call, Kind};
 use lot_mutex::{MutexPlace, mutex_right};
 use lot_rwlock::{Admission, RwLockPlace, rwlock_right};
@@ -166,9 +166,15 @@ impl Place {
         ensures { result ≡ late_key self }
     {
         match self {
-            Place::Mutex { lock, at } if at.can_be_late() => Some(main_key(lock)),
-            Place::RwLock { lock, at, .. } => at.late_line().map(|line| line.key(lock)),
-            _ => None,
+            Place::Idle => None,
+            Place::Mutex { lock, at } => match at.late_line() {
+                Some(line) => Some(line.key(lock)),
+                None => None,
+            },
+            Place::RwLock { lock, at, .. } => match at.late_line() {
+                Some(line) => Some(line.key(lock)),
+                None => None,
+            },
         }
     }
 
@@ -179,7 +185,7 @@ impl Place {
     {
         match self {
             Place::Idle => false,
-            Place::Mutex { lock: own, at } => own == lock && at.owes(),
+            Place::Mutex { lock: own, at } => own == lock && at.owes().is_some(),
             Place::RwLock { lock: own, at, .. } => own == lock && at.owes().is_some(),
         }
     }

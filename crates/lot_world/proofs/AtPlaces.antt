@@ -1,5 +1,5 @@
 -- What holds between steps, of a thread at a place: the section that it is inside, the lines in which it stands, and what it owns.
-use Rattle.std.proofs.Common.{ℕ, Bool, true, false, Option, Some, None, if◌then◌else◌, ◌==◌, ◌≡◌, ◌≢◌, ◌+◌, ◌*◌, ◌≤◌, ◌<◌, List, [], length, get_or, map, refl, sym, ◌∙◌, ap, arith, inl, inr}
+use Rattle.std.proofs.Common.{ℕ, Bool, true, false, Option, Some, None, if◌then◌else◌, ◌==◌, ◌≡◌, ◌*◌, ◌≤◌, ◌<◌, List, [], length, get_or, map, refl, sym, ◌∙◌, ap, arith, inl, inr}
 use Rattle.std.proofs.lemmas.Bool.{cases_lt}
 use Rattle.std.proofs.lemmas.List.{get_or_past}
 use Rattle.std.proofs.Math.ListN.{get_or-map}
@@ -8,45 +8,21 @@ use Rattle.lot_base.specs.Lines.{without, times}
 use Rattle.lot_steps.specs.declared.places.Place.{Place}
 use Rattle.lot_steps.specs.declared.places.Place.TheVariants.{Idle, Mutex}
 use Rattle.lot_mutex.specs.declared.places.MutexPlace.{MutexPlace}
-use Rattle.lot_mutex.specs.declared.places.MutexPlace.TheVariants.{Lock}
-use Rattle.lot_mutex.specs.declared.lock.LockAt.TheVariants as lock
 use Rattle.abstract_locks.specs.Locks.{Taken, HasTakenNobody, keep_from, one_if_some, standing}
 use Rattle.abstract_locks.specs.Locks as locks
 use Rattle.abstract_locks.specs.Runs.{is_taken_by}
-use Rattle.abstract_locks.specs.Sites.{Line, Main, Second, Has}
-use Rattle.lot_machine.specs.Machine.{State, place_at, word_at, owners_at, kind_at, section_at, queue_at}
+use Rattle.abstract_locks.specs.Sites.{Line, Main, Has}
+use Rattle.lot_machine.specs.Machine.{State, place_at, word_at, owners_at, kind_at, queue_at}
 use Rattle.lot_world.specs.Refinement.{lock_state, taken_at}
 use Rattle.lot_world.specs.MutexPromises.{IsMutexWord}
-use Rattle.lot_world.specs.MutexDeeds.{mutex_doing, mutex_station}
-use Rattle.lot_world.specs.Stations.{hand, nowhere, station, station_at, doing_on}
+use Rattle.lot_world.specs.MutexDeeds.{mutex_doing}
+use Rattle.lot_world.specs.Stations.{hand, station, station_at, doing_on}
 use Rattle.lot_world.specs.SitesOf.{IsSteady, CallsMutex, rules_at, carried_at, hand_at, stood_in}
-use Rattle.lot_world.proofs.Counts.{without_absent, first_times}
-use Rattle.lot_world.proofs.Glue.{same, doing_here, nothing_at, own_stance, untaken}
+use Rattle.lot_world.proofs.Counts.{without_absent}
+use Rattle.lot_world.proofs.Glue.{same, doing_here, nothing_at, untaken}
 use Rattle.lot_world.proofs.MutexTable.{mutex, queued_times}
 use Rattle.lot_world.proofs.StandsMoved.{mutex_rules}
-use Rattle.lot_world.proofs.SitesPromise.{coded_at, first_out}
-
--- no call of a mutex waits aside
-never_aside : (at : MutexPlace) → (mutex_station at).stands ≢ Some Second
-never_aside (Lock e r (lock.Leave true)) h = cc
-never_aside (Lock e r (lock.Leave false)) h = cc
-never_aside (Lock e r lock.Asleep) h = cc
-never_aside (Lock e r lock.Remove) h = cc
-never_aside (Lock e r at) h = cc
-never_aside at h = cc
-
-not_aside : (p : Place) (l : ℕ) → stood_in (station_at p l).stands Second ≡ 0
-not_aside Idle l = refl
-not_aside (Mutex k at) l = either (k == l)
-  where
-    out : (o : Option Line) → o ≢ Some Second → stood_in o Second ≡ 0
-    out None n = refl
-    out (Some Main) n = refl
-    out (Some Second) n = absurd (n refl)
-
-    either : (b : Bool) → stood_in (if b then mutex_station at else nowhere).stands Second ≡ 0
-    either true = out (mutex_station at).stands (never_aside at)
-    either false = refl
+use Rattle.lot_world.proofs.SitesPromise.{coded_at}
 
 -- whoever stands in a line is there
 pub stood : (places : List Place) (u l : ℕ) (m : Line) → 1 ≤ stood_in (station_at (get_or places u Idle) l).stands m → u < length places
@@ -60,9 +36,12 @@ module _ (w : State) (steady : IsSteady w) where
   pub coded : (l : ℕ) → rules_at w l ≡ mutex → IsMutexWord (word_at w l) (owners_at w l).exclusive
   coded = coded_at w steady
 
-  -- of a lock that a thread calls
+  -- a lock that a thread calls as a mutex is one
+  pub rules_for : (t l : ℕ) (at : MutexPlace) → place_at w t ≡ Mutex l at → rules_at w l ≡ mutex
+  rules_for t l at is = mutex_rules (kind_at w l) (let c : CallsMutex w (Mutex l at) = rw is at (steady.stands.calls t) in c)
+
   pub coded_for : (t l : ℕ) (at : MutexPlace) → place_at w t ≡ Mutex l at → IsMutexWord (word_at w l) (owners_at w l).exclusive
-  coded_for t l at is = coded l (mutex_rules (kind_at w l) (let c : CallsMutex w (Mutex l at) = rw is at (steady.stands.calls t) in c))
+  coded_for t l at is = coded l (rules_for t l at is)
 
   -- who has nobody in hand by its place
   pub taken_nobody : (t l : ℕ) → (doing_on (place_at w t) l).carries ≡ false → HasTakenNobody (lock_state w l) t
@@ -86,18 +65,9 @@ module _ (w : State) (steady : IsSteady w) where
         let mine : is_taken_by t (taken_at (place_at w u) l) ≡ true = ap (is_taken_by t) h ∙ same t in cc
 
   module _ (t l : ℕ) where
-    pub absent_aside : times t (queue_at w (2 * l + 1)) ≡ 0
-    absent_aside = steady.stands.lines t l Second ∙ not_aside (place_at w t) l
-
-    pub not_first_aside : (lock_state w l).aside ≡ Some t → ⊥
-    not_first_aside h = let one : 1 ≤ times t (queue_at w (2 * l + 1)) = first_times t (queue_at w (2 * l + 1)) h in let none : times t (queue_at w (2 * l + 1)) ≡ 0 = absent_aside in omega arith
-
-    -- how often it stands in the queue, and anywhere about the lock
+    -- how often it stands in the queue
     pub queued_by : locks.times t (lock_state w l).queue ≡ stood_in (station_at (place_at w t) l).stands Main
     queued_by = queued_times t (queue_at w (2 * l)) ∙ steady.stands.lines t l Main
-
-    pub stands_by : standing t (lock_state w l) ≡ stood_in (station_at (place_at w t) l).stands Main + one_if_some (taken_at (place_at w t) l)
-    stands_by = rw (queued_by, first_out t (queue_at w (2 * l + 1)) absent_aside) (omega arith)
 
   -- who stands in no line leaves none
   module _ (t : ℕ) (nowhere_now : (station (place_at w t)).stands ≡ None) where
@@ -111,14 +81,5 @@ module _ (w : State) (steady : IsSteady w) where
     pub own_doing : doing_on (place_at w t) l ≡ mutex_doing at
     own_doing = ap (λ p. doing_on p l) is ∙ doing_here l (Mutex l at) refl
 
-    pub holds_section : (mutex_doing at).inside ≡ Some Main → section_at w (2 * l) ≡ Some t
-    holds_section h = (steady.stands.sections t l Main).0 (ap (λ x. x.inside) (own_stance l (place_at w t) at is) ∙ h)
-
     pub owns : (mutex_doing at).claims ≡ Some (Has Exclusive) → (owners_at w l).exclusive ≡ Some t
     owns h = (steady.sites.site l).held t (Has Exclusive) (ap (λ x. x.claims) own_doing ∙ h)
-
-    pub has_nobody : (mutex_doing at).carries ≡ false → HasTakenNobody (lock_state w l) t
-    has_nobody h = taken_nobody t l (ap (λ x. x.carries) own_doing ∙ h)
-
-    pub times_here : times t (queue_at w (2 * l)) ≡ stood_in (mutex_station at).stands Main
-    times_here = steady.stands.lines t l Main ∙ ap (λ x. stood_in x.stands Main) (own_stance l (place_at w t) at is)

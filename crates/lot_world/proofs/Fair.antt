@@ -9,7 +9,6 @@ use Rattle.lot_base.specs.declared.wants.Want.{Want}
 use Rattle.lot_base.specs.declared.wants.Want.TheVariants.{Exclusive}
 use Rattle.lot_base.specs.Lines.{first_of}
 use Rattle.lot_calls.specs.declared.kinds.Kind as kind
-use Rattle.lot_acts.specs.declared.acts.Act.{Act}
 use Rattle.lot_acts.specs.declared.acts.Act as act
 use Rattle.lot_calls.specs.declared.calls.Turn.{Turn}
 use Rattle.lot_calls.specs.declared.calls.Turn as turn
@@ -24,7 +23,7 @@ use Rattle.lot_mutex.specs.declared.places.TheConstants.{NOT_PARKED}
 use Rattle.lot_mutex.specs.declared.hand_off.HandOffAt.{HandOffAt}
 use Rattle.lot_mutex.specs.declared.hand_off.HandOffAt.TheVariants as hand_off
 use Rattle.lot_steps.specs.declared.places.Place.{Place}
-use Rattle.lot_steps.specs.declared.places.Place.TheVariants.{Idle, Mutex}
+use Rattle.lot_steps.specs.declared.places.Place.TheVariants.{Idle, Mutex, RwLock}
 use Rattle.lot_mutex.specs.MutexSteps.{is_locked, is_parked, lock_act, hand_off_act}
 use Rattle.lot_steps.specs.Steps.{act_of, looking, late_key}
 use Rattle.lot_machine.specs.Machine.{State, unlocked, place_at, word_at, owners_at, kind_at, queue_at, state_after_operation, queues_with_last, queues_without_first, state_after_act, state_after_taking, state_after_look, state_after_go, put, state_after_late_on, state_after_turn, can_turn, is_possible, after, step_outcome}
@@ -38,7 +37,7 @@ use Rattle.lot_world.proofs.Closures.{nothing_closes}
 use Rattle.lot_machine.proofs.Shape.{both, looking_shaped}
 use Rattle.lot_world.proofs.Looking.{looking_steady, locks_same, calls_same}
 use Rattle.std.specs.Prelude.{nat_lt}
-use Rattle.abstract_locks.specs.Locks.{LockState, Queued, Rules, Rights, Taken, LockCase, Enter, Pend, Settle, Leave, Convert, Park, Aside, TakeFirst, TakeAside, TakePicked, Wake, HandOff as HandsLockOff, Late, Rollback, Needs, Owns, IsTaken, HasTakenNobody, IsLockState, Knows, keep_from, first_thread, rights_of}
+use Rattle.abstract_locks.specs.Locks.{LockState, Rules, Rights, Taken, LockCase, Enter, Pend, Settle, Leave, Convert, Park, Aside, TakeFirst, TakeAside, TakePicked, Wake, HandOff as HandsLockOff, Late, Rollback, Needs, IsTaken, HasTakenNobody, IsLockState, keep_from, first_thread}
 use Rattle.abstract_locks.specs.Locks as locks
 use Rattle.abstract_locks.specs.Runs.{LocksState, CallState, Event, Nothing, AtLock, AreLockStates, GoesOn, Stays, Does, MayHappen, IsStep, Turned, rules_at, locks_after}
 use Rattle.lot_world.specs.Refinement.{lock_state, locks_of, call_state, owner_at}
@@ -52,12 +51,25 @@ use Rattle.lot_world.proofs.MutexTable.{mutex}
 use Rattle.lot_world.proofs.StandsMoved.{mutex_rules}
 use Rattle.lot_world.proofs.KindsKept.{after_kinds}
 use Rattle.abstract_locks.specs.Purposes.{rules_of}
-use Rattle.lot_world.proofs.SitesKept.{unshared_at, single_at}
+use Rattle.lot_world.proofs.SitesKept.{unshared_at, single_at, alone_at, mutexes_at}
 use Rattle.lot_acts.specs.declared.owners.Owners.{Owners}
 use Rattle.lot_acts.specs.Owners.{with_exclusive}
 use Rattle.lot_world.proofs.CallEvents.{rights}
 use Rattle.lot_world.proofs.LockSteps.{after_step}
 use Rattle.abstract_locks.proofs.Runs.{needs_of}
+use Rattle.lot_rwlock.specs.declared.purposes.RwLockPurpose.{RwLockPurpose}
+use Rattle.lot_rwlock.specs.declared.purposes.RwLockPurpose.TheVariants as purpose
+use Rattle.lot_calls.specs.declared.calls.Access.TheVariants as access
+use Rattle.lot_rwlock.specs.RwLockProfiles.{purpose_by}
+
+-- no call of a reader-writer lock releases fairly
+never_fair : (k l : ℕ) (q : RwLockPurpose) → IsFairRelease (Some (purpose_by q k)) l → ⊥
+never_fair k l (purpose.Enter x how) h = h
+never_fair k l (purpose.Release access.Exclusive) h = let e : false ≡ true = h.1 in cc
+never_fair k l (purpose.Release access.Shared) h = h
+never_fair k l (purpose.Release access.Upgradable) h = h
+never_fair k l (purpose.Downgrade d) h = h
+never_fair k l (purpose.Upgrade how) h = h
 
 -- ---------------------------------------------------------------- what others do to an owner
 
@@ -199,8 +211,8 @@ module _ (w : State) (t l : ℕ) (shape : IsShaped w) (steady : IsSteady w) (own
     ))
     hand_off_gives bumps (hand_off.Store true none_left) is = let one = steady.stands.hands.carried t l false (ap (λ x. x.carries) (own_stance l (place_at w t) _ is)) in inr (inl (
       one.0,
-      by_taken one.0 (is_taken (place_at w one.0) t l one.1),
-      ap (λ x. x.owners.exclusive) (get_or-set_same w.locks l _ (unlocked kind.TheVariants.Mutex) lt) ∙ ap (λ (o : Owners). o.exclusive) (successor_one w t l one.0 false steady.stands.hands (single_at w t l (HandOff bumps (hand_off.Store true none_left)) steady is) (rw is refl) one.1 (unshared_at w t l (HandOff bumps (hand_off.Store true none_left)) steady is) (with_exclusive (owners_at w l) None)),
+      by_taken one.0 (is_taken (place_at w one.0) t l (mutexes_at w t l (HandOff bumps (hand_off.Store true none_left)) steady is one.0) one.1),
+      ap (λ x. x.owners.exclusive) (get_or-set_same w.locks l _ (unlocked kind.TheVariants.Mutex) lt) ∙ ap (λ (o : Owners). o.exclusive) (successor_one w t l one.0 false steady.stands.hands (single_at w t l (HandOff bumps (hand_off.Store true none_left)) steady is) (rw is refl) one.1 (alone_at w t l (HandOff bumps (hand_off.Store true none_left)) steady is) (unshared_at w t l (HandOff bumps (hand_off.Store true none_left)) steady is) (with_exclusive (owners_at w l) None)),
     ))
       where
         by_taken : (u : ℕ) → IsTakenAt (place_at w u) t l → IsTaken (lock_state w l) t u Exclusive
@@ -214,6 +226,7 @@ module _ (w : State) (t l : ℕ) (shape : IsShaped w) (steady : IsSteady w) (own
   -- whatever the act, and wherever the thread goes then
   go_gives : (p : Place) → place_at w t ≡ p → PlaceFits (length w.locks) p → IsFairRelease (call_state p (rights w t)).purpose l → ComesTo w t l (state_after_act w t p (act_of p))
   go_gives Idle is fits h = absurd h
+  go_gives (RwLock k a p) is fits h = absurd (never_fair k l p.purpose h)
   go_gives (Mutex k (Lock entries.Lock retries a)) is fits h = absurd h
   go_gives (Mutex k (Lock entries.LockTimed retries a)) is fits h = absurd h
   go_gives (Mutex k (Lock entries.Bump retries a)) is fits h = rw h (lock_keeps (here k h fits.0) retries a)
@@ -261,6 +274,7 @@ locked_by v o u c e = by_code (λ v o. o ≡ Some u → is_locked v ≡ true) (�
 -- the lock that is released fairly is a mutex
 fair_mutex : (w : State) (p : Place) (l : ℕ) (r : ℕ → Rights) → CallsMutex w p → IsFairRelease (call_state p r).purpose l → is_mutex (kind_at w l) ≡ true
 fair_mutex w Idle l r fits h = absurd h
+fair_mutex w (RwLock k a p) l r fits h = absurd (never_fair k l p.purpose h)
 fair_mutex w (Mutex k (Lock entries.Lock retries a)) l r fits h = absurd h
 fair_mutex w (Mutex k (Lock entries.LockTimed retries a)) l r fits h = absurd h
 fair_mutex w (Mutex k (Lock entries.Bump retries a)) l r fits h = rw (← h) fits

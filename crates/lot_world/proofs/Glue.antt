@@ -1,5 +1,7 @@
 -- The state of a world by its parts, as total functions, and what each act does to a lock and to what the threads do about it.
-use Rattle.std.proofs.Common.{ℕ, zero, suc, Bool, true, false, Option, Some, None, if◌then◌else◌, ◌==◌, ◌||◌, ◌≡◌, ◌≢◌, ◌+◌, ◌*◌, ◌≤◌, List, [], ◌∷◌, map, length, get_or, set, inl, inr, refl, sym, ◌∙◌, ap, subst, arith, length-set, get_or-set_same, get_or-set_other}
+use Rattle.std.proofs.Common.{ℕ, zero, suc, Bool, true, false, Option, Some, None, if◌then◌else◌, ◌==◌, ◌||◌, ◌≡◌, ◌≢◌, ◌+◌, ◌*◌, ◌≤◌, List, [], ◌∷◌, map, length, get_or, set, inl, inr, refl, sym, ◌∙◌, ap, subst, arith, length-set, get_or-set_same, get_or-set_other, not}
+use Rattle.abstract_locks.proofs.LockKeeps.{sharing_same}
+use Rattle.abstract_locks.specs.Locks.{IsLockState, wants_shared}
 use Rattle.std.proofs.lemmas.Bool.{cases_eq, cases_lt, eqb-true}
 use Rattle.std.proofs.lemmas.Bool.Decides.{nat_tests}
 use Rattle.lot_base.specs.declared.wants.Waiter.{Waiter}
@@ -25,18 +27,18 @@ use Rattle.lot_acts.specs.declared.acts.Next as next
 use Rattle.lot_mutex.specs.MutexSteps.{mutex_next}
 use Rattle.lot_base.specs.declared.wants.Want.{Want}
 use Rattle.lot_acts.specs.Profiles.{Hand, Of, hand_owner, taken_from}
-use Rattle.lot_steps.specs.Steps.{next_place, taker, mutex_goes, rwlock_goes, lock_of, profile}
+use Rattle.lot_steps.specs.Steps.{next_place, taker, mutex_goes, rwlock_goes, lock_of, profile, wants, is_lock, calls}
 use Rattle.abstract_locks.specs.Locks.{LockState, Taken, Queued, Rules, TakeFirst, keep_from, let_go, shares_handed, sharing_from, putting}
 use Rattle.std.specs.Prelude.{sum, ◌&&◌, ◌||◌}
 use Rattle.lot_acts.specs.Owners.{is_thread, with_exclusive}
 use Rattle.abstract_locks.specs.Locks as locks
-use Rattle.abstract_locks.specs.Sites.{Doing, Has, Site, Main, Begin, Out, Mark, Clear, Case, idle, leaves, wakened, taking_main, is_full, after_deed}
-use Rattle.lot_machine.specs.Machine.{State, place_at, word_at, owners_at, shares_at, filled_at, queue_at, place_after_telling, state_after_telling, held, shares_in_hand, with_share, shares_given, wants_more_in_hand, successor_or, successor_from, pending_for, owners_of_successor, shares_handed_over, owners_handed_over, state_after_reply, put}
+use Rattle.abstract_locks.specs.Sites.{Doing, Has, Site, Main, Begin, Out, Mark, Clear, Case, idle, leaves, wakened, taking_main, is_full, after_deed, has_readers}
+use Rattle.lot_machine.specs.Machine.{State, place_at, word_at, owners_at, shares_at, filled_at, queue_at, place_after_telling, state_after_telling, held, shares_in_hand, with_share, shares_given, wants_more_in_hand, successor_or, successor_from, pending_for, owners_of_successor, shares_handed_over, owners_handed_over, state_after_reply, put, held_by}
 use Rattle.lot_machine.specs.declared.hands.Successor.{Successor}
 use Rattle.lot_world.specs.Refinement.{lock_seen, taken_at}
 use Rattle.lot_world.specs.MutexDeeds.{Act, mutex_station, queued}
-use Rattle.lot_world.specs.Stations.{Station, hand, station, station_at, nowhere, is_lock, calls, doing_on}
-use Rattle.lot_world.specs.SitesOf.{site_of, rules_at, after_acts, carried_at, hand_at, Hands}
+use Rattle.lot_world.specs.Stations.{Station, hand, station, station_at, nowhere, doing_on}
+use Rattle.lot_world.specs.SitesOf.{site_of, rules_at, after_acts, carried_at, hand_at, Hands, CallsMutex}
 
 -- ---------------------------------------------------------------- lists with one element set, as functions
 
@@ -203,29 +205,42 @@ abbrev pub IsInHand : Place → ℕ → Bool → ℕ → Type 0
 IsInHand p t false l = IsTakenAt p t l
 IsInHand p t true l = IsHandedAt p t l
 
-pub in_hand : (p : Place) (t l : ℕ) (b : Bool) → hand_at p l ≡ hand t b → IsInHand p t b l
-in_hand (Mutex k (Lock e retries (lock.Taken by))) t l b h = either (k == l) refl b h
+-- who calls the lock l calls a mutex
+abbrev pub IsMutexCall : ℕ → Place → Type 0
+IsMutexCall l (RwLock k a at) = k ≢ l
+IsMutexCall l p = Unit {0}
+
+pub mutex_calls : (w : State) (l : ℕ) (p : Place) → CallsMutex w p → rules_at w l ≡ mutex → IsMutexCall l p
+mutex_calls w l (RwLock k a at) calls rules = λ here.
+    let readers : has_readers (rules_at w k).sort ≡ true = calls.0.0 in
+    let none : has_readers (rules_at w k).sort ≡ false = ap (λ n. has_readers (rules_at w n).sort) here ∙ ap (λ (r : Rules). has_readers r.sort) rules in cc
+mutex_calls w l (Mutex k at) calls rules = tt
+mutex_calls w l Idle calls rules = tt
+
+pub in_hand : (p : Place) (t l : ℕ) (b : Bool) → IsMutexCall l p → hand_at p l ≡ hand t b → IsInHand p t b l
+in_hand (RwLock k a at) t l b other h = absurd (let none : hand_at (RwLock k a at) l ≡ None = ap (λ c. (if c then station (RwLock k a at) else nowhere).hand) (differ k l other) in cc)
+in_hand (Mutex k (Lock e retries (lock.Taken by))) t l b of h = either (k == l) refl b h
   where
     either : (c : Bool) → (k == l) ≡ c → (b : Bool) → (if c then mutex_station (Lock e retries (lock.Taken by)) else nowhere).hand ≡ hand t b → IsInHand (Mutex k (Lock e retries (lock.Taken by))) t b l
     either true f false g = let own : k ≡ l = eqb-true k l f in let whose : by ≡ t = cc in record { entry = e; retries = retries; is = rw (own, whose) refl }
     either true f true g = absurd cc
     either false f b g = absurd cc
-in_hand (Mutex k (Lock e retries (lock.Handed by))) t l b h = either (k == l) refl b h
+in_hand (Mutex k (Lock e retries (lock.Handed by))) t l b of h = either (k == l) refl b h
   where
     either : (c : Bool) → (k == l) ≡ c → (b : Bool) → (if c then mutex_station (Lock e retries (lock.Handed by)) else nowhere).hand ≡ hand t b → IsInHand (Mutex k (Lock e retries (lock.Handed by))) t b l
     either true f true g = let own : k ≡ l = eqb-true k l f in let whose : by ≡ t = cc in record { entry = e; retries = retries; is = rw (own, whose) refl }
     either true f false g = absurd cc
     either false f b g = absurd cc
-in_hand p t l b h = absurd (let none : hand_at p l ≡ None = nothing_at p l (λ x. x.hand) refl refl in cc)
+in_hand p t l b of h = absurd (let none : hand_at p l ≡ None = nothing_at p l (λ x. x.hand) refl refl in cc)
 
-pub is_taken : (p : Place) (t l : ℕ) → hand_at p l ≡ hand t false → IsTakenAt p t l
-is_taken p t l h = in_hand p t l false h
+pub is_taken : (p : Place) (t l : ℕ) → IsMutexCall l p → hand_at p l ≡ hand t false → IsTakenAt p t l
+is_taken p t l of h = in_hand p t l false of h
 
-pub is_handed : (p : Place) (t l : ℕ) → hand_at p l ≡ hand t true → IsHandedAt p t l
-is_handed p t l h = in_hand p t l true h
+pub is_handed : (p : Place) (t l : ℕ) → IsMutexCall l p → hand_at p l ≡ hand t true → IsHandedAt p t l
+is_handed p t l of h = in_hand p t l true of h
 
 -- who calls another lock is in nobody's hand here
-taken_out : (h : Option Hand) (x : Option Want) → taken_from h x false ≡ None
+pub taken_out : (h : Option Hand) (x : Option Want) → taken_from h x false ≡ None
 taken_out None x = refl
 taken_out (Some (Of u true)) x = refl
 taken_out (Some (Of u false)) None = refl
@@ -305,6 +320,21 @@ next_of l (RwLock k a at) reply h = by_next (rwlock_next a at reply)
     by_next (next.TheVariants.At at) = h
     by_next (next.TheVariants.End answer) = tt
 
+-- a place of a call of the mutex l, or of none
+abbrev pub IsMutexOf : ℕ → Place → Type 0
+IsMutexOf l Idle = Unit {0}
+IsMutexOf l (Mutex k at) = k ≡ l
+IsMutexOf l (RwLock k a at) = ⊥
+
+pub own_of : (l : ℕ) (p : Place) → IsMutexOf l p → IsOf l p
+own_of l Idle of = tt
+own_of l (Mutex k at) of = of
+own_of l (RwLock k a at) of = absurd of
+
+pub next_mutex : (l k : ℕ) (n : Next MutexPlace) → k ≡ l → IsMutexOf l (mutex_goes k n)
+next_mutex l k (next.TheVariants.At at) e = e
+next_mutex l k (next.TheVariants.End answer) e = tt
+
 -- who calls no lock is idle
 pub calls_none : (p : Place) → lock_of p ≡ None → p ≡ Idle
 calls_none Idle e = refl
@@ -379,58 +409,52 @@ told_in t reply [] u held only = absurd cc
 told_in t reply (p ∷ ps) zero held only = λ i. ap (λ b. if b then next_place p reply else p) held i ∷ told_out t reply ps (λ x. only (suc x) (λ e. omega arith)) i
 told_in t reply (p ∷ ps) (suc u) held only = λ i. ap (λ b. if b then next_place p reply else p) (only 0 (λ e. omega arith)) i ∷ told_in t reply ps u held (λ x ne. only (suc x) (λ e. ne (omega arith))) i
 
--- nobody who is in a hand at a mutex wants to share
-no_sharer : (t : ℕ) (p : Place) → shares_in_hand t (held p) ≡ false
-no_sharer t Idle = refl
-no_sharer t (Mutex k (Lock e r (lock.Taken by))) = and-false (by == t)
-no_sharer t (Mutex k (Lock e r (lock.Handed by))) = and-false (by == t)
-no_sharer t (Mutex k (Lock e r lock.First)) = refl
-no_sharer t (Mutex k (Lock e r a)) = refl
-no_sharer t (Mutex k TryLock) = refl
-no_sharer t (Mutex k (Unlock a)) = refl
-no_sharer t (Mutex k UnlockFair) = refl
-no_sharer t (Mutex k Bump) = refl
-no_sharer t (Mutex k (HandOff b a)) = refl
+-- whom t has in hand wants to own alone
+abbrev pub WantsAlone : ℕ → Place → Type 0
+WantsAlone t p = is_thread t (taker p) ≡ true → wants p ≡ Some Exclusive
 
--- so nobody gets a share
-pub none_given : (t : ℕ) (ps : List Place) (ns : List ℕ) → shares_given t ps ns ≡ ns
-none_given t [] ns = refl
-none_given t (p ∷ ps) [] = refl
-none_given t (p ∷ ps) (n ∷ ns) = λ i. ap (λ b. with_share b n) (no_sharer t p) i ∷ none_given t ps ns i
+-- so it does not want to share
+no_sharer : (t : ℕ) (p : Place) → WantsAlone t p → shares_in_hand t (held p) ≡ false
+no_sharer t p alone = by_hand (taker p) (wants p) alone
+  where
+    by_hand : (o : Option ℕ) (x : Option Want) → (is_thread t o ≡ true → x ≡ Some Exclusive) → shares_in_hand t (held_by o x) ≡ false
+    by_hand None x own = refl
+    by_hand (Some u) None own = refl
+    by_hand (Some u) (Some x) own = either (u == t) own
+      where
+        either : (b : Bool) → (b ≡ true → Some x ≡ Some Exclusive) → (b && wants_shared x) ≡ false
+        either true e = let alone_so : x ≡ Exclusive = (let f : Some x ≡ Some Exclusive = e refl in cc) in rw alone_so refl
+        either false e = refl
 
--- whoever is in a hand there wants to own alone
-wants_all : (t : ℕ) (p : Place) → is_thread t (taker p) ≡ true → wants_more_in_hand t (held p) ≡ Some Exclusive
-wants_all t (Mutex k (Lock e r (lock.Taken by))) h = ap (λ b. if b && true then Some Exclusive else None) h
-wants_all t (Mutex k (Lock e r (lock.Handed by))) h = ap (λ b. if b && true then Some Exclusive else None) h
-wants_all t Idle h = absurd cc
-wants_all t (Mutex k (Lock e r lock.First)) h = absurd cc
-wants_all t (Mutex k (Lock e r a)) h = absurd cc
-wants_all t (Mutex k TryLock) h = absurd cc
-wants_all t (Mutex k (Unlock a)) h = absurd cc
-wants_all t (Mutex k UnlockFair) h = absurd cc
-wants_all t (Mutex k Bump) h = absurd cc
-wants_all t (Mutex k (HandOff b a)) h = absurd cc
+-- nobody gets a share
+pub none_given : (t : ℕ) (ps : List Place) (ns : List ℕ) → ((u : ℕ) → WantsAlone t (get_or ps u Idle)) → shares_given t ps ns ≡ ns
+none_given t [] ns alone = refl
+none_given t (p ∷ ps) [] alone = refl
+none_given t (p ∷ ps) (n ∷ ns) alone = λ i. ap (λ b. with_share b n) (no_sharer t p (alone 0)) i ∷ none_given t ps ns (λ u. alone (suc u)) i
+
+wants_all : (t : ℕ) (p : Place) → WantsAlone t p → is_thread t (taker p) ≡ true → wants_more_in_hand t (held p) ≡ Some Exclusive
+wants_all t p alone h = by_hand (taker p) (wants p) h (alone h)
+  where
+    by_hand : (o : Option ℕ) (x : Option Want) → is_thread t o ≡ true → x ≡ Some Exclusive → wants_more_in_hand t (held_by o x) ≡ Some Exclusive
+    by_hand None x own e = absurd cc
+    by_hand (Some u) x own e = rw e (ap (λ b. if b && true then Some Exclusive else None) own)
 
 wants_none : (t : ℕ) (p : Place) → is_thread t (taker p) ≡ false → wants_more_in_hand t (held p) ≡ None
-wants_none t (Mutex k (Lock e r (lock.Taken by))) h = ap (λ b. if b && true then Some Exclusive else None) h
-wants_none t (Mutex k (Lock e r (lock.Handed by))) h = ap (λ b. if b && true then Some Exclusive else None) h
-wants_none t Idle h = refl
-wants_none t (Mutex k (Lock e r lock.First)) h = refl
-wants_none t (Mutex k (Lock e r a)) h = refl
-wants_none t (Mutex k TryLock) h = refl
-wants_none t (Mutex k (Unlock a)) h = refl
-wants_none t (Mutex k UnlockFair) h = refl
-wants_none t (Mutex k Bump) h = refl
-wants_none t (Mutex k (HandOff b a)) h = refl
+wants_none t p h = by_hand (taker p) (wants p) h
+  where
+    by_hand : (o : Option ℕ) (x : Option Want) → is_thread t o ≡ false → wants_more_in_hand t (held_by o x) ≡ None
+    by_hand None x other = refl
+    by_hand (Some u) None other = refl
+    by_hand (Some u) (Some x) other = ap (λ b. if b && not (wants_shared x) then Some x else None) other
 
 abbrev successor_is : ℕ → Successor
 successor_is u = record { thread = u; want = Exclusive }
 
-successor_in : (t k : ℕ) (ps : List Place) (u : ℕ) → is_thread t (taker (get_or ps u Idle)) ≡ true → ((x : ℕ) → x ≢ u → is_thread t (taker (get_or ps x Idle)) ≡ false) → successor_from t k ps ≡ Some (successor_is (k + u))
-successor_in t k [] u held_by only = absurd cc
-successor_in t k (p ∷ ps) zero held_by only = ap (λ o. successor_or k o (successor_from t (suc k) ps)) (wants_all t p held_by) ∙ ap (λ n. Some (successor_is n)) (let e : k ≡ k + 0 = omega arith in e)
-successor_in t k (p ∷ ps) (suc u) held_by only = ap (λ o. successor_or k o (successor_from t (suc k) ps)) (wants_none t p (only 0 (λ e. omega arith)))
-    ∙ successor_in t (suc k) ps u held_by (λ x ne. only (suc x) (λ e. ne (omega arith))) ∙ ap (λ n. Some (successor_is n)) (let e : suc k + u ≡ k + suc u = omega arith in e)
+successor_in : (t k : ℕ) (ps : List Place) (u : ℕ) → WantsAlone t (get_or ps u Idle) → is_thread t (taker (get_or ps u Idle)) ≡ true → ((x : ℕ) → x ≢ u → is_thread t (taker (get_or ps x Idle)) ≡ false) → successor_from t k ps ≡ Some (successor_is (k + u))
+successor_in t k [] u alone held_by only = absurd cc
+successor_in t k (p ∷ ps) zero alone held_by only = ap (λ o. successor_or k o (successor_from t (suc k) ps)) (wants_all t p alone held_by) ∙ ap (λ n. Some (successor_is n)) (let e : k ≡ k + 0 = omega arith in e)
+successor_in t k (p ∷ ps) (suc u) alone held_by only = ap (λ o. successor_or k o (successor_from t (suc k) ps)) (wants_none t p (only 0 (λ e. omega arith)))
+    ∙ successor_in t (suc k) ps u alone held_by (λ x ne. only (suc x) (λ e. ne (omega arith))) ∙ ap (λ n. Some (successor_is n)) (let e : suc k + u ≡ k + suc u = omega arith in e)
 
 -- who took it, by its row
 taker_is : (p : Place) → taker p ≡ hand_owner (profile p).hand
@@ -480,15 +504,26 @@ only_held p hands t l u b single of held x ne = either (is_thread t (taker (p x)
     either false e = refl
     either true e = absurd (second (held_where (p x) t e))
 
+-- of those who call a mutex, each in the hand of t wants to own alone
+pub held_alone : {one : ℕ → Type 0} (p : ℕ → Place) → Hands one p → (t l : ℕ) → IsOf l (p t) → ((u : ℕ) → IsMutexCall l (p u)) → (u : ℕ) → WantsAlone t (p u)
+held_alone p hands t l of mutexes u h = let x = held_where (p u) t h in elim (cases_eq x.lock l) [
+  | inl e ↦ by_hand x.handed (in_hand (p u) t l x.handed (mutexes u) (subst (λ k. hand_at (p u) k ≡ hand t x.handed) e x.hand))
+  | inr ne ↦ absurd (let a : carried_at (p t) x.lock ≡ Some x.handed = hands.taken t u x.lock x.handed x.hand in let c : carried_at (p t) x.lock ≡ None = ap (λ (y : Station). y.carries) (station_elsewhere l x.lock (p t) of ne) in cc)
+]
+  where
+    by_hand : (b : Bool) → IsInHand (p u) t b l → wants (p u) ≡ Some Exclusive
+    by_hand true k = ap wants k.is
+    by_hand false k = ap wants k.is
+
 -- so all whom t has in hand are that one
 pub told_one : {one : ℕ → Type 0} (w : State) (t l u : ℕ) (b : Bool) (reply : Reply) → Hands one (place_at w) → one l → IsOf l (place_at w t) → hand_at (place_at w u) l ≡ hand t b → state_after_telling w t reply ≡ state_after_reply w u reply
 told_one w t l u b reply hands single of held = λ i. record w { places = told_in t reply w.places u (held_taker (place_at w u) t l b held) (only_held (place_at w) hands t l u b single of held) i }
 
 -- and it owns when t hands the lock over
-pub successor_one : {one : ℕ → Type 0} (w : State) (t l u : ℕ) (b : Bool) → Hands one (place_at w) → one l → IsOf l (place_at w t) → hand_at (place_at w u) l ≡ hand t b → sum (shares_at w l) ≡ 0 → (o : Owners) → owners_handed_over w t l o ≡ with_exclusive o (Some u)
-successor_one w t l u b hands single of held_at unshared o =
-    ap (λ s. owners_of_successor (sum (shares_handed_over w t l)) s o) (successor_in t 0 w.places u (held_taker (place_at w u) t l b held_at) (only_held (place_at w) hands t l u b single of held_at) ∙ ap (λ n. Some (successor_is n)) (let e : 0 + u ≡ u = omega arith in e))
-    ∙ ap (λ (n : ℕ). if n == 0 then with_exclusive o (Some u) else pending_for u o) (ap sum (none_given t w.places (shares_at w l)) ∙ unshared)
+pub successor_one : {one : ℕ → Type 0} (w : State) (t l u : ℕ) (b : Bool) → Hands one (place_at w) → one l → IsOf l (place_at w t) → hand_at (place_at w u) l ≡ hand t b → ((x : ℕ) → WantsAlone t (place_at w x)) → sum (shares_at w l) ≡ 0 → (o : Owners) → owners_handed_over w t l o ≡ with_exclusive o (Some u)
+successor_one w t l u b hands single of held_at alone unshared o =
+    ap (λ s. owners_of_successor (sum (shares_handed_over w t l)) s o) (successor_in t 0 w.places u (alone u) (held_taker (place_at w u) t l b held_at) (only_held (place_at w) hands t l u b single of held_at) ∙ ap (λ n. Some (successor_is n)) (let e : 0 + u ≡ u = omega arith in e))
+    ∙ ap (λ (n : ℕ). if n == 0 then with_exclusive o (Some u) else pending_for u o) (ap sum (none_given t w.places (shares_at w l) alone) ∙ unshared)
 
 -- ---------------------------------------------------------------- a release wakes whom it has taken
 
@@ -530,40 +565,21 @@ module _ (r : Rules) (l : ℕ) (n : Base) (word : ℕ) (o : Owners) (s rest : Li
 
 -- ---------------------------------------------------------------- a lock is handed over
 
-no_share : (t l : ℕ) (p : Place) → shares_handed t (taken_at p l) ≡ 0
-no_share t l (Mutex k (Lock e retries (lock.Taken by))) = either (k == l) (by == t)
-  where
-    unwanted : (c : Bool) → ◌≡◌ {A = ℕ} (if c && false then 1 else 0) 0
-    unwanted true = refl
-    unwanted false = refl
-
-    either : (b c : Bool) → shares_handed t (if b then Some (record { by = by; want = Exclusive }) else None) ≡ 0
-    either true c = unwanted (by == t)
-    either false c = refl
-no_share t l p = refl
-
-pub none_share : (t : ℕ) (taken : ℕ → Option Taken) → ((x : ℕ) → shares_handed t (taken x) ≡ 0) → (i : ℕ) (shared : List ℕ) → sharing_from t taken i shared ≡ shared
-none_share t taken none i [] = refl
-none_share t taken none i (k ∷ shared) = λ j. same_number j ∷ none_share t taken none (i + 1) shared j
-  where
-    same_number : k + shares_handed t (taken i) ≡ k
-    same_number = let none_here : shares_handed t (taken i) ≡ 0 = none i in omega arith
-
 -- to whom the lock goes, if to anybody
 abbrev pub heir : Option ℕ → Option Queued
 heir None = None
 heir (Some u) = Some (queued u)
 
 -- the lock goes from t to those in hand
-pub handed_is : (t : ℕ) (n : Base) (o : Owners) (m s : List Waiter) (p : ℕ → Place) (l : ℕ) (to : Option ℕ) → sum n.shared ≡ 0
+pub handed_is : (t : ℕ) (n : Base) (o : Owners) (m s : List Waiter) (p : ℕ → Place) (l : ℕ) (to : Option ℕ) → IsLockState mutex (lock_seen n.shared o m s (λ u. taken_at (p u) l))
     → locks.handed t Exclusive (heir to) (lock_seen n.shared o m s (λ u. taken_at (p u) l)) ≡ lock_seen n.shared (with_exclusive o to) m s (let_go t (λ u. taken_at (p u) l))
-handed_is t n o m s p l to unshared = (λ i. locks.with_successor (heir to) (record (lock_seen n.shared (with_exclusive o None) m s (let_go t (λ u. taken_at (p u) l))) { shared = none_share t (λ u. taken_at (p u) l) (λ x. no_share t l (p x)) 0 n.shared i })) ∙ by_heir to
+handed_is t n o m s p l to state = (λ i. locks.with_successor (heir to) (record (lock_seen n.shared (with_exclusive o None) m s (let_go t (λ u. taken_at (p u) l))) { shared = sharing_same mutex (lock_seen n.shared o m s (λ u. taken_at (p u) l)) t 0 n.shared state (λ h. h) i })) ∙ by_heir to
   where
     by_heir : (to : Option ℕ) → locks.with_successor (heir to) (lock_seen n.shared (with_exclusive o None) m s (let_go t (λ u. taken_at (p u) l))) ≡ lock_seen n.shared (with_exclusive o to) m s (let_go t (λ u. taken_at (p u) l))
     by_heir None = refl
-    by_heir (Some u) = ap (λ (k : ℕ). if k == 0 then lock_seen n.shared (with_exclusive o (Some u)) m s (let_go t (λ x. taken_at (p x) l)) else locks.pending_for u false (lock_seen n.shared (with_exclusive o None) m s (let_go t (λ x. taken_at (p x) l)))) unshared
+    by_heir (Some u) = ap (λ (k : ℕ). if k == 0 then lock_seen n.shared (with_exclusive o (Some u)) m s (let_go t (λ x. taken_at (p x) l)) else locks.pending_for u false (lock_seen n.shared (with_exclusive o None) m s (let_go t (λ x. taken_at (p x) l)))) (state.unshared (λ h. h))
 
-module _ (r : Rules) (l : ℕ) (n : Base) (word : ℕ) (o : Owners) (m s : List Waiter) (p : ℕ → Place) (one : ℕ → Type 0) (hands : Hands one p) (single : one l) (t u : ℕ) (bumps none_left : Bool) (sort : r.sort ≡ locks.Mutex) (unshared : sum n.shared ≡ 0)
+module _ (r : Rules) (l : ℕ) (n : Base) (word : ℕ) (o : Owners) (m s : List Waiter) (p : ℕ → Place) (one : ℕ → Type 0) (hands : Hands one p) (single : one l) (mutexes : (x : ℕ) → IsMutexCall l (p x)) (t u : ℕ) (bumps none_left : Bool) (sort : r.sort ≡ locks.Mutex) (state : IsLockState mutex (lock_seen n.shared o m s (λ x. taken_at (p x) l)))
     (store : p t ≡ Mutex l (HandOff bumps (hand_off.Store true none_left))) (held : hand_at (p u) l ≡ hand t false) where
   abbrev at_store : Site
   at_store = seen l n word o m s p
@@ -572,7 +588,7 @@ module _ (r : Rules) (l : ℕ) (n : Base) (word : ℕ) (o : Owners) (m s : List 
   handed_places = putting (putting p u (next_place (p u) (HandedBy t))) t (Mutex l (HandOff bumps (hand_off.Leave true)))
 
   pub taken_there : IsTakenAt (p u) t l
-  taken_there = is_taken (p u) t l held
+  taken_there = is_taken (p u) t l (mutexes u) held
 
   apart : u ≢ t
   apart e = let a : Mutex l (HandOff bumps (hand_off.Store true none_left)) ≡ Mutex l (Lock taken_there.entry taken_there.retries (lock.Taken t)) = sym store ∙ ap p (sym e) ∙ taken_there.is in cc
@@ -609,7 +625,7 @@ module _ (r : Rules) (l : ℕ) (n : Base) (word : ℕ) (o : Owners) (m s : List 
   -- the store does what its deeds do
   pub handing : (b : Bool) → none_left ≡ b → seen l n (if b then 1 else 3) (with_exclusive o (Some u)) m s handed_places ≡ after_acts r (hands_acts b) at_store
   handing b f = λ i. record at_store {
-    lock = (let_go_lock ∙ sym (handed_is t n o m s p l (Some u) unshared) ∙ same_lock b) i;
+    lock = (let_go_lock ∙ sym (handed_is t n o m s p l (Some u) state) ∙ same_lock b) i;
     parked = bit b i;
     aside_parked = no_aside b i;
     filled = unfilled b i;

@@ -39,7 +39,7 @@ use Rattle.lot_world.specs.MutexDeeds.{mutex_doing, mutex_station, acts, deeds, 
 use Rattle.lot_world.specs.Stations.{Station, nowhere, station, station_at}
 use Rattle.lot_world.specs.SitesOf.{CallsMutex, IsSteady, Goes, rules_at, stood_in}
 use Rattle.lot_machine.proofs.Shape.{main_line_there, main_key_there}
-use Rattle.lot_world.proofs.Glue.{base_at, same, differ, IsOf, own_stance, inside_is, doing_of, doing_here}
+use Rattle.lot_world.proofs.Glue.{base_at, same, differ, IsOf, own_stance, inside_is, doing_of, doing_here, IsMutexOf, own_of}
 use Rattle.lot_world.proofs.MutexTable.{mutex, Fits, own_doing, ends, looks, at_first, at_load, at_decide_free, at_decide_one, at_clear, at_release_clear, at_try, at_subtract, at_unlock_fair, at_bump, at_store_none}
 use Rattle.lot_world.proofs.OneStep.{empty_line}
 use Rattle.lot_world.proofs.SitesKept.{go_by, goes_steady, rules, site_l, word_l, word_keeps, place_keeps, enter_keeps, leave_keeps, one_held, release_wakes, tells, hands_over, take_keeps}
@@ -143,9 +143,9 @@ module _ (w : State) (t : ℕ) (steady : IsSteady w) (shape : IsShaped w) (there
       either false f = remove_keeps w t l (Lock e r lock.Remove) steady is there (line l lt) (Mutex l (Lock e r lock.GiveUp)) refl refl refl refl refl refl (own_doing l (Mutex l (Lock e r lock.GiveUp)) (Lock e r lock.GiveUp) refl ∙ rw f refl) refl
 
   -- it leaves its section with nobody in hand
-  goes_away : (l : ℕ) (at : MutexPlace) (p2 : Place) → place_at w t ≡ Mutex l at → l < length w.locks → IsOf l p2 → taken_at (Mutex l at) l ≡ None → taken_at p2 l ≡ None → doing_of p2 ≡ leaves (mutex_doing at) → (mutex_doing at).inside ≡ Some Main → (mutex_doing at).wakes ≡ None → (mutex_station at).carries ≡ None
+  goes_away : (l : ℕ) (at : MutexPlace) (p2 : Place) → place_at w t ≡ Mutex l at → l < length w.locks → IsMutexOf l p2 → taken_at (Mutex l at) l ≡ None → taken_at p2 l ≡ None → doing_of p2 ≡ leaves (mutex_doing at) → (mutex_doing at).inside ≡ Some Main → (mutex_doing at).wakes ≡ None → (mutex_station at).carries ≡ None
       → station p2 ≡ record (mutex_station at) { inside = None } → Goes w (put (state_with_sections w (One (2 * l)) None) t p2) l (acts t (Out ∷ []))
-  goes_away l at p2 is lt of none none2 d i k c s = leave_keeps w t l at steady is there (key l lt) p2 of none none2 (doing_here l p2 of ∙ d) i k c s
+  goes_away l at p2 is lt of none none2 d i k c s = leave_keeps w t l at steady is there (key l lt) p2 of none none2 (doing_here l p2 (own_of l p2 of) ∙ d) i k c s
 
   leaves_kept : (l : ℕ) (e : Entry) (r b : Bool) → place_at w t ≡ Mutex l (Lock e r (lock.Leave b)) → l < length w.locks → GoesWith l (Lock e r (lock.Leave b)) None (act.TheVariants.Leave (One (2 * l)) wakes.TheVariants.Nobody)
   leaves_kept l e r true is lt = goes_away l (Lock e r (lock.Leave true)) (Mutex l (Lock e r lock.Asleep)) is lt refl refl refl refl refl refl refl refl
@@ -170,7 +170,7 @@ module _ (w : State) (t : ℕ) (steady : IsSteady w) (shape : IsShaped w) (there
 
   -- where a take of u leads
   record TakesTo (l : ℕ) (at : MutexPlace) (u : ℕ) (b : Bool) : Type 0 where
-    pub of : IsOf l (next_place (Mutex l at) (Took true b))
+    pub of : IsMutexOf l (next_place (Mutex l at) (Took true b))
     pub none : taken_at (next_place (Mutex l at) (Took true b)) l ≡ None
     pub doing : doing_of (next_place (Mutex l at) (Took true b)) ≡ record (mutex_doing at) { wakes = None; carries = true; covers = true; empty = found Main b }
     pub does : deeds t at (Some u) (Took true b) ≡ acts t (Case (TakeFirst (queued u)) ∷ [])
@@ -187,7 +187,7 @@ module _ (w : State) (t : ℕ) (steady : IsSteady w) (shape : IsShaped w) (there
         | inl within ↦ absurd (apart ((site_l w t l at steady is there).alone x.thread t Main (inside_is (place_at w x.thread) l ∙ within) (inside_is (place_at w t) l ∙ ap (λ (y : Station). y.inside) here)))
         | inr a ↦ rw ((to x.thread (length rest == 0)).does) (take_keeps w t l at steady is there (line l lt) x rest e a.entry a.retries a.is apart (next_place (Mutex l at) (Took true (length rest == 0))) (to x.thread (length rest == 0)).of none (to x.thread (length rest == 0)).none
             (ap (λ (y : Station). y.carries) s) (ap (λ (y : Station). y.hand) s) (ap (λ (y : Station). y.inside) s) c v
-            (doing_here l (next_place (Mutex l at) (Took true (length rest == 0))) (to x.thread (length rest == 0)).of ∙ (to x.thread (length rest == 0)).doing ∙ ap (λ b. record (mutex_doing at) { wakes = None; carries = true; covers = true; empty = found Main b }) (sym (empty_line rest)))
+            (doing_here l (next_place (Mutex l at) (Took true (length rest == 0))) (own_of l (next_place (Mutex l at) (Took true (length rest == 0))) (to x.thread (length rest == 0)).of) ∙ (to x.thread (length rest == 0)).doing ∙ ap (λ b. record (mutex_doing at) { wakes = None; carries = true; covers = true; empty = found Main b }) (sym (empty_line rest)))
             (to x.thread (length rest == 0)).stands)
       ]
         where

@@ -24,6 +24,10 @@ pub mod TurnsKept
 pub mod OpeningSites
 pub mod Counts
 pub mod SitesPromise
+pub mod RowPromises
+pub mod MutexRows
+pub mod RwLockRows
+pub mod PlacePromises
 pub mod AtPlaces
 pub mod ExclusiveOwners
 pub mod LineActs
@@ -32,6 +36,9 @@ pub mod MutexCalls
 pub mod LockEvents
 pub mod OtherCalls
 pub mod MutexEvents
+pub mod MutexOwing
+pub mod RwLockOwing
+pub mod PlaceSteps
 pub mod Possible
 pub mod LockSteps
 pub mod OneThing

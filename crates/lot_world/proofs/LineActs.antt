@@ -1,6 +1,6 @@
 -- An act that enters a section is of a line of the lock that the thread calls, and one that leaves a section or touches a queue is of the line
 -- whose section the thread is in, as its place says.
-use Rattle.std.proofs.Common.{ℕ, zero, suc, Bool, true, false, Some, None, if◌then◌else◌, ◌==◌, not, ◌≡◌, ◌≢◌, ◌⊎◌, ◌+◌, ◌*◌, ◌<◌, inl, inr, [], map, length, get_or, refl, sym, ◌∙◌, ap, subst, arith}
+use Rattle.std.proofs.Common.{ℕ, zero, suc, Bool, Option, true, false, Some, None, if◌then◌else◌, ◌==◌, not, ◌≡◌, ◌≢◌, ◌⊎◌, ◌+◌, ◌*◌, ◌<◌, inl, inr, [], map, length, get_or, refl, sym, ◌∙◌, ap, subst, arith}
 use Rattle.std.proofs.lemmas.Bool.{cases_eq}
 use Rattle.std.proofs.Math.ListN.{get_or-map}
 use Rattle.lot_base.specs.declared.keys.Keys.TheVariants.{One, Two}
@@ -14,18 +14,30 @@ use Rattle.lot_mutex.specs.declared.lock.LockAt.TheVariants as lock
 use Rattle.lot_mutex.specs.declared.unlock.UnlockAt.TheVariants as unlock
 use Rattle.lot_mutex.specs.declared.hand_off.HandOffAt.TheVariants as hand_off
 use Rattle.lot_mutex.specs.MutexSteps.{is_locked, mutex_act}
-use Rattle.lot_mutex.specs.MutexProfiles.{mutex_can_be_late}
-use Rattle.lot_steps.specs.Steps.{act_of, late_key, lock_of}
+use Rattle.lot_steps.specs.Steps.{act_of, key_in, late_key, lock_of, profile}
 use Rattle.lot_steps.specs.declared.places.Place.{Place}
-use Rattle.lot_steps.specs.declared.places.Place.TheVariants.{Idle, Mutex}
+use Rattle.lot_steps.specs.declared.places.Place.TheVariants.{Idle, Mutex, RwLock}
 use Rattle.abstract_locks.specs.Sites.{Line, Main, Second}
 use Rattle.lot_machine.specs.Machine.{State, place_at, section_at, queue_at}
 use Rattle.lot_machine.specs.Fits.{IsShaped, PlaceFits}
 use Rattle.lot_world.specs.MutexDeeds.{mutex_station}
-use Rattle.lot_world.specs.Stations.{Station, station, station_at}
+use Rattle.lot_world.specs.Stations.{Station, station, station_at, station_by}
 use Rattle.lot_world.specs.SitesOf.{IsSteady, key_of, stood_in}
 use Rattle.lot_world.proofs.Counts.{without_absent}
 use Rattle.lot_world.proofs.Glue.{IsLock, IsOf, station_here, station_elsewhere}
+use Rattle.lot_rwlock.specs.declared.places.Admission.{Admission}
+use Rattle.lot_rwlock.specs.declared.places.RwLockPlace.{RwLockPlace}
+use Rattle.lot_rwlock.specs.declared.places.RwLockAt.{RwLockAt}
+use Rattle.lot_rwlock.specs.declared.park.ParkAt.{ParkAt}
+use Rattle.lot_rwlock.specs.declared.enter.Decision.{Decision}
+use Rattle.lot_rwlock.specs.declared.places.RwLockAt.TheVariants as at
+use Rattle.lot_rwlock.specs.declared.park.ParkAt.TheVariants as parking
+use Rattle.lot_rwlock.specs.declared.release.WakeAt.TheVariants as waking
+use Rattle.lot_rwlock.specs.declared.enter.Decision.TheVariants as decisions
+use Rattle.lot_rwlock.specs.RwLockSteps.{decided, decided_act, exchange, plus, act_at, park_act, parks_at, want_at}
+use Rattle.lot_rwlock.specs.RwLockProfiles.{rwlock_profile, stands_at}
+use Rattle.lot_rwlock.specs.RwLockDeeds.{doing_at, again_of}
+use Rattle.abstract_locks.specs.Codes.{has_aside}
 
 -- the key of a line of the lock, and of the one whose section the thread is in
 abbrev pub IsOfLine : ℕ → ℕ → Type 0
@@ -77,22 +89,63 @@ mutex_lines l TryLock = tt
 mutex_lines l UnlockFair = tt
 mutex_lines l Bump = tt
 
+park_lines : (l : ℕ) (a : Admission) (p : RwLockPlace) (m : Line) (to : ParkAt) → p.at ≡ parks_at m to → IsLineAct l (station_by (rwlock_profile a p)) (park_act l a (want_at p) m to)
+park_lines l a p Main parking.Check is = ((Main, ap (λ x. (doing_at (again_of p) p.purpose x).inside) is, refl), inl (ap stands_at is))
+park_lines l a p Second parking.Check is = ((Second, ap (λ x. (doing_at (again_of p) p.purpose x).inside) is, refl), inl (ap stands_at is))
+park_lines l a p Main (parking.Leave true) is = (Main, ap (λ x. (doing_at (again_of p) p.purpose x).inside) is, refl)
+park_lines l a p Main (parking.Leave false) is = (Main, ap (λ x. (doing_at (again_of p) p.purpose x).inside) is, refl)
+park_lines l a p Second (parking.Leave true) is = (Second, ap (λ x. (doing_at (again_of p) p.purpose x).inside) is, refl)
+park_lines l a p Second (parking.Leave false) is = (Second, ap (λ x. (doing_at (again_of p) p.purpose x).inside) is, refl)
+park_lines l a p Main parking.Remove is = ((Main, ap (λ x. (doing_at (again_of p) p.purpose x).inside) is, refl), inr (ap stands_at is ∙ sym (ap (λ x. (doing_at (again_of p) p.purpose x).inside) is)))
+park_lines l a p Second parking.Remove is = ((Second, ap (λ x. (doing_at (again_of p) p.purpose x).inside) is, refl), inr (ap stands_at is ∙ sym (ap (λ x. (doing_at (again_of p) p.purpose x).inside) is)))
+park_lines l a p Main parking.GiveUp is = (Main, ap (λ x. (doing_at (again_of p) p.purpose x).inside) is, refl)
+park_lines l a p Second parking.GiveUp is = (Second, ap (λ x. (doing_at (again_of p) p.purpose x).inside) is, refl)
+park_lines l a p m to is = tt
+
+rwlock_lines : (l : ℕ) (a : Admission) (p : RwLockPlace) (to : RwLockAt) → p.at ≡ to → IsLineAct l (station_by (rwlock_profile a p)) (act_at l a p to)
+rwlock_lines l a p at.First is = tt
+rwlock_lines l a p at.Load is = tt
+rwlock_lines l a p at.Look is = tt
+rwlock_lines l a p at.RollBack is = tt
+rwlock_lines l a p at.GiveWay is = tt
+rwlock_lines l a p (at.Decide seen) is = by_decision (decided a p seen)
+  where
+    by_decision : (d : Decision) → IsLineAct l (station_by (rwlock_profile a p)) (decided_act l p.purpose seen d)
+    by_decision decisions.Take = tt
+    by_decision decisions.Mark = tt
+    by_decision decisions.Park = (Main, refl)
+    by_decision (decisions.Refuse x) = tt
+rwlock_lines l a p (at.Count seen) is = either (has_aside seen)
+  where
+    either : (b : Bool) → IsLineAct l (station_by (rwlock_profile a p)) (if b then act.Enter (One (2 * l + 1)) else exchange l seen (plus seen 2))
+    either true = (Second, refl)
+    either false = tt
+rwlock_lines l a p (at.Park to) is = park_lines l a p Main to is
+rwlock_lines l a p (at.Aside to) is = park_lines l a p Second to is
+rwlock_lines l a p (at.Wake m waking.Enter) is = (m, refl)
+rwlock_lines l a p (at.Wake m waking.Take) is = (m, ap (λ x. (doing_at (again_of p) p.purpose x).inside) is, refl)
+rwlock_lines l a p (at.Wake m (waking.Clear any)) is = tt
+rwlock_lines l a p (at.Wake m (waking.Leave any)) is = (m, ap (λ x. (doing_at (again_of p) p.purpose x).inside) is, refl)
+
 pub line_act : (p : Place) (l : ℕ) → lock_of p ≡ Some l → IsLineAct l (station p) (act_of p)
 line_act Idle l h = absurd cc
+line_act (RwLock k a p) l h = let e : k ≡ l = cc in subst (λ j. IsLineAct j (station (RwLock k a p)) (act_of (RwLock k a p))) e (rwlock_lines k a p p.at refl)
 line_act (Mutex k at) l h = let e : k ≡ l = cc in subst (λ j. IsLineAct j (mutex_station at) (mutex_act k at)) e (mutex_lines k at)
 
 -- a thread that may be late sleeps in a line of its lock
-pub late_line : (p : Place) (key : ℕ) → late_key p ≡ Some key → (l : ℕ) × (lock_of p ≡ Some l) × IsOfLine l key
-late_line Idle key h = absurd cc
-late_line (Mutex l at) key h = either (mutex_can_be_late at) h
+pub late_line : (p : Place) (key : ℕ) → late_key p ≡ Some key → (l : ℕ) × (lock_of p ≡ Some l) × ((m : Line) × ((profile p).late_line ≡ Some m) × (key ≡ key_of l m))
+late_line p key h = by_lock (lock_of p) (profile p).late_line h
   where
-    either : (b : Bool) → (if b then Some (2 * l) else None) ≡ Some key → (k : ℕ) × (Some l ≡ Some k) × IsOfLine k key
-    either true e = (l, refl, (Main, cc))
-    either false e = absurd cc
+    by_lock : (o : Option ℕ) (x : Option Line) → key_in o x ≡ Some key → (l : ℕ) × (o ≡ Some l) × ((m : Line) × (x ≡ Some m) × (key ≡ key_of l m))
+    by_lock (Some l) (Some m) e = (l, refl, (m, refl, cc))
+    by_lock (Some l) None e = absurd cc
+    by_lock None (Some m) e = absurd cc
+    by_lock None None e = absurd cc
 
 -- the lock that it calls is there
 pub calls_there : (n : ℕ) (p : Place) (l : ℕ) → lock_of p ≡ Some l → PlaceFits n p → l < n
 calls_there n Idle l e fits = absurd cc
+calls_there n (RwLock k a p) l e fits = let f : k ≡ l = cc in subst (λ j. j < n) f fits
 calls_there n (Mutex k at) l e fits = let f : k ≡ l = cc in subst (λ j. j < n) f fits.0
 
 -- ---------------------------------------------------------------- the sections and queues that it touches

@@ -1,5 +1,9 @@
 -- What becomes of the calls of those whom a thread has in hand: they try again, or were handed the lock.
 use Rattle.std.proofs.Common.{ℕ, Bool, true, false, Option, Some, None, if◌then◌else◌, ◌==◌, ◌≡◌, ◌≢◌, ◌+◌, ◌-◌, ◌⊎◌, inl, inr, List, refl, sym, ◌∙◌, ap, arith}
+use Rattle.lot_rwlock.proofs.RwLockCallPlaces.{taken_goes, woken_goes}
+use Rattle.lot_rwlock.specs.RwLockProfiles.{rwlock_profile}
+use Rattle.lot_acts.specs.Profiles.{Hand, Of, hand, taken_from}
+use Rattle.lot_base.specs.declared.wants.Want.{Want}
 use Rattle.std.specs.Prelude.{slice_index, sum}
 use Rattle.std.proofs.lemmas.Bool.{cases_eq, eqb-true}
 use Rattle.std.proofs.lemmas.Bool.Decides.{nat_tests}
@@ -12,19 +16,19 @@ use Rattle.lot_mutex.specs.declared.places.MutexPlace.TheVariants.{Lock, TryLock
 use Rattle.lot_mutex.specs.declared.lock.LockAt.TheVariants.{First, Taken}
 use Rattle.lot_mutex.specs.declared.unlock.UnlockAt.TheVariants as unlock
 use Rattle.lot_mutex.specs.declared.hand_off.HandOffAt.TheVariants as hand_off
-use Rattle.lot_steps.specs.Steps.{next_place}
+use Rattle.lot_steps.specs.Steps.{next_place, profile, rwlock_goes, calls}
 use Rattle.lot_steps.specs.declared.places.Place.{Place}
-use Rattle.lot_steps.specs.declared.places.Place.TheVariants.{Idle, Mutex}
+use Rattle.lot_steps.specs.declared.places.Place.TheVariants.{Idle, Mutex, RwLock}
 use Rattle.abstract_locks.specs.Locks.{LockState, Queued, Taken as LockTaken, Rights, Enter, Wake, HandOff as HandsOff, IsTaken, IsLockState, Knows, Needs, rights_of, with_right, without_right, is_thread, putting}
 use Rattle.abstract_locks.specs.Locks as locks
 use Rattle.abstract_locks.specs.Runs.{is_taken_by, AtLock, one_more_at, one_less_at}
 use Rattle.abstract_locks.specs.Sites.{Site, IsSite}
 use Rattle.abstract_locks.proofs.LockKeeps.{sharing_same}
 use Rattle.lot_machine.specs.Machine.{State, place_at}
-use Rattle.lot_world.specs.Refinement.{owner_at, lock_state, taken_at, is_bump, before_entry, mutex_call_state, call_state}
+use Rattle.lot_world.specs.Refinement.{owner_at, lock_state, taken_at, is_bump, before_entry, mutex_call_state, call_state, call_by}
 use Rattle.lot_world.specs.MutexDeeds.{queued}
 use Rattle.lot_world.specs.SitesOf.{rules_at}
-use Rattle.lot_world.proofs.Glue.{IsTakenAt, heir, put_same, same}
+use Rattle.lot_world.proofs.Glue.{IsTakenAt, heir, put_same, same, IsMutexCall, mutex_calls, taken_elsewhere}
 use Rattle.lot_world.proofs.MutexTable.{mutex}
 use Rattle.lot_world.proofs.CallEvents.{put_is, rights, rights_led, Happens, Others, OthersFollow}
 
@@ -89,16 +93,17 @@ module _ (s : LockState) (t : ℕ) where
 abbrev pub Befalls : State → State → ℕ → ℕ → Reply → Type 0
 Befalls w v t l reply = (u : ℕ) → u ≢ t → place_at v u ≡ (if is_taken_by t (taken_at (place_at w u) l) then next_place (place_at w u) reply else place_at w u)
 
-pub taken_place : (p : Place) (t l : ℕ) → is_taken_by t (taken_at p l) ≡ true → IsTakenAt p t l
-taken_place (Mutex k (Lock entry retries (Taken by))) t l h = either (k == l) refl h
+pub taken_place : (p : Place) (t l : ℕ) → IsMutexCall l p → is_taken_by t (taken_at p l) ≡ true → IsTakenAt p t l
+taken_place (RwLock k a at) t l other h = absurd (let none : taken_at (RwLock k a at) l ≡ None = taken_elsewhere k l (RwLock k a at) refl (λ e. other (sym e)) in let f : is_taken_by t (taken_at (RwLock k a at) l) ≡ false = ap (is_taken_by t) none in cc)
+taken_place (Mutex k (Lock entry retries (Taken by))) t l of h = either (k == l) refl h
   where
     either : (b : Bool) → (k == l) ≡ b → is_taken_by t (if b then Some (record { by = by; want = Exclusive }) else None) ≡ true → IsTakenAt (Mutex k (Lock entry retries (Taken by))) t l
     either true e g = record { entry = entry; retries = retries; is = rw (eqb-true k l e, eqb-true by t g) refl }
     either false e g = absurd cc
-taken_place (Mutex k (Lock entry retries First)) t l h = absurd cc
-taken_place (Mutex k (Lock entry retries at)) t l h = absurd cc
-taken_place (Mutex k at) t l h = absurd cc
-taken_place Idle t l h = absurd cc
+taken_place (Mutex k (Lock entry retries First)) t l of h = absurd cc
+taken_place (Mutex k (Lock entry retries at)) t l of h = absurd cc
+taken_place (Mutex k at) t l of h = absurd cc
+taken_place Idle t l of h = absurd cc
 
 pub untaken_by : (s : LockState) (t u : ℕ) → ((x : Want) → IsTaken s t u x → ⊥) → is_taken_by t (s.taken u) ≡ false
 untaken_by s t u none = by_hand (s.taken u) none
@@ -111,13 +116,31 @@ untaken_by s t u none = by_hand (s.taken u) none
         either false e = refl
         either true e = absurd (other h.want (let f : h.by ≡ t = eqb-true h.by t e in λ i. Some (record { by = f i; want = h.want })))
 
+-- who is taken at a lock calls it, and is in the hand of t
+taken_hand : (p : Place) (t l : ℕ) → is_taken_by t (taken_at p l) ≡ true → ((profile p).hand ≡ hand t false) × (calls p l ≡ true)
+taken_hand p t l h = by_row (profile p).hand (profile p).wants (calls p l) h
+  where
+    by_row : (o : Option Hand) (x : Option Want) (b : Bool) → is_taken_by t (taken_from o x b) ≡ true → (o ≡ hand t false) × (b ≡ true)
+    by_row None x b g = absurd cc
+    by_row (Some (Of u true)) x b g = absurd cc
+    by_row (Some (Of u false)) None b g = absurd cc
+    by_row (Some (Of u false)) (Some x) true g = (ap (λ y. hand y false) (eqb-true u t g), refl)
+    by_row (Some (Of u false)) (Some x) false g = absurd cc
+
 -- whoever is woken tries the lock again
-pub woken_call : (p : Place) (t l : ℕ) → IsTakenAt p t l → (r : ℕ → Rights) → call_state (next_place p (Woken Normal)) r ≡ record (call_state p r) { retries = Some l }
-woken_call p t l k r = rw k.is refl
+pub woken_call : (p : Place) (t l : ℕ) → is_taken_by t (taken_at p l) ≡ true → (r : ℕ → Rights) → call_state (next_place p (Woken Normal)) r ≡ record (call_state p r) { retries = Some l }
+woken_call Idle t l h r = absurd cc
+woken_call (Mutex k at) t l h r = by_place (Mutex k at) (taken_place (Mutex k at) t l tt h)
+  where
+    by_place : (p : Place) → IsTakenAt p t l → call_state (next_place p (Woken Normal)) r ≡ record (call_state p r) { retries = Some l }
+    by_place p there = rw there.is refl
+woken_call (RwLock k a at) t l h r = let held = taken_hand (RwLock k a at) t l h in let here : k ≡ l = eqb-true k l held.1 in let goes = woken_goes a k at t held.0 in
+    ap (λ n. call_state (rwlock_goes k a n) r) goes.1 ∙ goes.2 r ∙ ap (λ n. record (call_by k (rwlock_profile a at) r) { retries = Some n }) here
 
 -- a call goes on as it is where a thread is taken
 pub taken_call : (p : Place) (by : ℕ) (r : ℕ → Rights) → call_state (next_place p (TakenBy by)) r ≡ call_state p r
 taken_call Idle by r = refl
+taken_call (RwLock k a at) by r = let goes = taken_goes a k at by in ap (λ n. call_state (rwlock_goes k a n) r) goes.1 ∙ goes.2 r
 taken_call (Mutex k (Lock entry retries First)) by r = refl
 taken_call (Mutex k (Lock entry retries at)) by r = refl
 taken_call (Mutex k TryLock) by r = refl
@@ -133,7 +156,7 @@ module _ (w v : State) (t l : ℕ) where
   wakes_others befalls u ne r = ap (λ p. call_state p r) (befalls u ne) ∙ either (is_taken_by t (taken_at (place_at w u) l)) refl
     where
       either : (b : Bool) → is_taken_by t (taken_at (place_at w u) l) ≡ b → call_state (if b then next_place (place_at w u) (Woken Normal) else place_at w u) r ≡ (if b then record (call_state (place_at w u) r) { retries = Some l } else call_state (place_at w u) r)
-      either true e = woken_call (place_at w u) t l (taken_place (place_at w u) t l e) r
+      either true e = woken_call (place_at w u) t l e r
       either false e = refl
 
 -- ---------------------------------------------------------------- it hands its right over
@@ -192,7 +215,7 @@ module _ (w v : State) (t l : ℕ) (to : Option ℕ) (h : Happens w v t l (AtLoc
 
       either : ((to ≡ Some u) ⊎ (to ≢ Some u)) → call_state (if is_taken_by t (taken_at (place_at w u) l) then next_place (place_at w u) (HandedBy t) else place_at w u) (rights v u)
           ≡ (if is_taken_by t (taken_at (place_at w u) l) then record (call_state (place_at w u) (rights w u)) { retries = None } else call_state (place_at w u) (rights w u))
-      either (inl e) = let taken : is_taken_by t (taken_at (place_at w u) l) ≡ true = rw (heir_of u e) (same t) in rw taken (handed_call u e (place_at w u) (taken_place (place_at w u) t l taken))
+      either (inl e) = let taken : is_taken_by t (taken_at (place_at w u) l) ≡ true = rw (heir_of u e) (same t) in rw taken (handed_call u e (place_at w u) (taken_place (place_at w u) t l (mutex_calls w l (place_at w u) (h.before.stands.calls u) rules) taken))
       either (inr other) = rw (no_heir u other) (ap (call_state (place_at w u)) (λ i k. (led_to u (rights w u l) (neither (lock_state w l) t state to h.needs.0 apart u ne other) k ∙ put_same (rights w u) l (rights w u l) refl k) i))
 
 -- who has an heir that isn't itself gives its right up

@@ -1,5 +1,22 @@
 -- Each turn of a thread is a step of the abstract locks.
 use Rattle.std.proofs.Common.{◌≤◌, ◌++◌, arith, ℕ, Bool, true, false, Option, Some, None, if◌then◌else◌, ◌==◌, ◌&&◌, not, ◌≡◌, ◌≢◌, ◌+◌, ◌*◌, ◌<◌, ◌↔◌, inl, inr, List, [], ◌∷◌, length, get_or, refl, sym, ◌∙◌, ap, subst, get_or-set_other, get_or-set_same, length-set, nat_lt, is_some}
+use Rattle.lot_acts.specs.Profiles.{taken_from}
+use Rattle.lot_rwlock.specs.declared.places.RwLockAt.TheVariants as at
+use Rattle.lot_rwlock.specs.declared.park.ParkAt.TheVariants as parking
+use Rattle.lot_rwlock.proofs.RwLockCallPlaces.{rwlock_sleepers_hear}
+use Rattle.lot_base.specs.Keys.{key_of}
+use Rattle.lot_base.specs.declared.keys.Line.{Line}
+use Rattle.lot_rwlock.specs.declared.places.RwLockAt.{RwLockAt}
+use Rattle.lot_rwlock.specs.RwLockSteps.{rwlock_next, next_at, patience_of}
+use Rattle.lot_rwlock.specs.RwLockCalls.{MayStand}
+use Rattle.lot_rwlock.specs.declared.places.Admission.{Admission}
+use Rattle.lot_rwlock.specs.declared.places.RwLockPlace.{RwLockPlace}
+use Rattle.lot_rwlock.specs.declared.purposes.RwLockPurpose.{RwLockPurpose}
+use Rattle.lot_rwlock.specs.declared.purposes.RwLockPurpose.TheVariants as purposes
+use Rattle.lot_rwlock.specs.RwLockProfiles.{purpose_by, rwlock_late_line, late_line_at, hand_at as rwlock_hand, wants_for}
+use Rattle.lot_rwlock.specs.RwLockDeeds.{Admits}
+use Rattle.abstract_locks.specs.Sites.{has_readers}
+use Rattle.abstract_locks.specs.Locks.{Mutex as Mutual}
 use Rattle.std.proofs.lemmas.Bool.{cases_eq, eqb-true, ltb-true, lt-ltb}
 use Rattle.lot_base.specs.declared.keys.Keys.TheVariants.{One}
 use Rattle.lot_base.specs.declared.ops.Op as op
@@ -31,12 +48,12 @@ use Rattle.lot_mutex.specs.declared.unlock.UnlockAt.TheVariants as unlock
 use Rattle.lot_mutex.specs.declared.hand_off.HandOffAt.{HandOffAt}
 use Rattle.lot_mutex.specs.declared.hand_off.HandOffAt.TheVariants as hand_off
 use Rattle.lot_steps.specs.declared.places.Place.{Place}
-use Rattle.lot_steps.specs.declared.places.Place.TheVariants.{Idle, Mutex}
+use Rattle.lot_steps.specs.declared.places.Place.TheVariants.{Idle, Mutex, RwLock}
 use Rattle.lot_acts.specs.Acts.{outcome_of}
 use Rattle.lot_mutex.specs.MutexSteps.{mutex_first, mutex_right, is_locked, is_parked, lock_act, unlock_act, hand_off_word, hand_off_act}
 use Rattle.lot_acts.specs.Owners.{is_thread}
-use Rattle.lot_steps.specs.Steps.{act_of, next_place, next_act, mutex_goes, mutex_does, looking, late_key, is_idle, has_right, first_place}
-use Rattle.lot_machine.specs.Machine.{State, place_at, word_at, owners_at, kind_at, section_at, put, state_after_act, go_reply, state_after_operation, state_after_hand_over, state_with_sections, reply_to, can_do, state_after_look, look_outcome, state_after_go, state_after_going, go_outcome, going_outcome, state_after_late_on, is_free_under, state_after_begin, can_begin, is_open_to, can_turn, state_after_turn, turn_outcome, is_possible, after, step_outcome}
+use Rattle.lot_steps.specs.Steps.{act_of, next_place, next_act, mutex_goes, mutex_does, looking, late_key, is_idle, has_right, first_place, rwlock_goes, key_in, calls}
+use Rattle.lot_machine.specs.Machine.{State, place_at, word_at, owners_at, kind_at, section_at, put, state_after_act, go_reply, state_after_operation, state_after_hand_over, state_with_sections, reply_to, can_do, state_after_look, look_outcome, state_after_go, state_after_going, go_outcome, going_outcome, state_after_late_on, is_free_under, state_after_begin, can_begin, is_open_to, can_turn, state_after_turn, turn_outcome, is_possible, after, step_outcome, share_at}
 use Rattle.lot_machine.specs.Fits.{IsShaped, SameSize, PlaceFits, GivesUpTimed}
 use Rattle.lot_machine.proofs.Shape.{looking_shaped, after_size, both, performed_counts}
 use Rattle.lot_world.proofs.Possible.{may_go, go_possible, may_be_late, late_possible, told_gone, told_step, begins_awake, turner_there, gone_sections, late_sections, late_awake}
@@ -67,13 +84,29 @@ use Rattle.lot_world.proofs.MutexTable.{mutex}
 use Rattle.lot_world.proofs.StandsMoved.{mutex_rules}
 use Rattle.lot_world.proofs.SitesKept.{go_by}
 use Rattle.lot_world.proofs.GoneKept.{gone_goes}
-use Rattle.lot_world.proofs.TurnsKept.{idle_is}
-use Rattle.lot_world.proofs.AtPlaces.{coded, in_no_hand, own_doing, stands_by}
+use Rattle.lot_world.proofs.TurnsKept.{idle_is, none_yet}
+use Rattle.lot_world.proofs.AtPlaces.{coded, in_no_hand, own_doing}
+use Rattle.lot_world.proofs.PlacePromises.{standing_by}
 use Rattle.lot_world.proofs.CallEvents.{put_is, rights, Others, OthersFollow, Happens, LeadsTo, IsNoHandOff, happens, needed_then, others_follow, goes_by}
 use Rattle.lot_world.proofs.LockEvents.{Befalls, wakes_others, hands_others}
 use Rattle.lot_world.proofs.OtherCalls.{IsLonely, IsCalm, lonely, takes, calm, befalls, befalls_nobody, tells_handed}
 use Rattle.lot_world.proofs.MutexCalls.{Tells, Rests, row_of}
 use Rattle.lot_world.proofs.MutexEvents.{Hears, owned_word, mutex_tells, claims_at, deeds_are, are_claims}
+
+-- ---------------------------------------------------------------- a reader-writer call whose time is up
+
+-- it sleeps in a line, and stands there still
+late_place : (a : Admission) (p : RwLockPlace) (m : Line) → rwlock_late_line p ≡ Some m
+    → (p2 : RwLockPlace) × (rwlock_next a p reply.Late ≡ next.At p2) × (rwlock_hand p.at ≡ None) × (rwlock_hand p2.at ≡ None)
+late_place a p m h = by_place p.at refl h
+  where
+    by_place : (to : RwLockAt) → p.at ≡ to → late_line_at (patience_of p.purpose) to ≡ Some m
+        → (p2 : RwLockPlace) × (rwlock_next a p reply.Late ≡ next.At p2) × (rwlock_hand p.at ≡ None) × (rwlock_hand p2.at ≡ None)
+    by_place (at.Park parking.Asleep) e h = (record p { at = at.Park parking.Remove }, ap (λ x. next_at a p x reply.Late) e, ap rwlock_hand e, refl)
+    by_place (at.Aside parking.Asleep) e h = (record p { at = at.Aside parking.Remove }, ap (λ x. next_at a p x reply.Late) e, ap rwlock_hand e, refl)
+    by_place (at.Park to) e h = absurd cc
+    by_place (at.Aside to) e h = absurd cc
+    by_place to e h = absurd cc
 
 -- ---------------------------------------------------------------- a thread goes on
 
@@ -160,7 +193,7 @@ module _ (w : State) (t : ℕ) (shape : IsShaped w) (steady : IsSteady w) (there
           )
             where
               standing_then : (at2 : MutexPlace) → place_at behind t ≡ Mutex l at2 → (mutex_station at2).stands ≡ Some Main → 1 ≤ standing t (lock_state behind l)
-              standing_then at2 e stands = rw (stands_by behind happens_so.after t l, own_stance l (place_at behind t) at2 e, stands) (omega arith)
+              standing_then at2 e stands = rw (standing_by behind t happens_so.after l, own_stance l (place_at behind t) at2 e, stands) (omega arith)
           by_next (next.End a) e rests = (e, refl)
 
       goes_if : OthersFollow w behind t (event_by l happened) → GoesOn (locks_of w) t (outcome_of (next_act (Mutex l at) told)) (locks_of behind)
@@ -297,6 +330,7 @@ module _ (w : State) (t : ℕ) (shape : IsShaped w) (steady : IsSteady w) (there
 
   go_goes : (p : Place) → place_at w t ≡ p → PlaceFits (length w.locks) p → CallsMutex w p → can_do w (act_of p) ≡ true → GoesOn (locks_of w) t (outcome_of (next_act p (reply_to w t (act_of p)))) (locks_of (go_by w t p (act_of p)))
   go_goes Idle is fits calls can = absurd cc
+  go_goes (RwLock l a at) is fits calls can = absurd calls.2
   go_goes (Mutex l at) is fits calls can = mutex_goes_on l fits.0 (mutex_rules (kind_at w l) calls) at is can fits.1
 
   -- ---------------------------------------------------------------- turns by which the place alone changes
@@ -323,6 +357,23 @@ module _ (w : State) (t : ℕ) (shape : IsShaped w) (steady : IsSteady w) (there
   late_goes : (p : Place) → place_at w t ≡ p → is_free_under w (late_key p) ≡ true
       → Stays (locks_of w) t (record (call_state p (rights w t)) { late = true }) outcome.TheVariants.Step (locks_of (state_after_late_on w t (late_key p)))
   late_goes Idle is can = absurd cc
+  late_goes (RwLock l a p) is can = by_line (rwlock_late_line p) refl can
+    where
+      stands : MayStand a p
+      stands = let calls : CallsMutex w (RwLock l a p) = subst (CallsMutex w) is (steady.stands.calls t) in calls.1
+
+      in_no_hand_at : (x : RwLockPlace) → rwlock_hand x.at ≡ None → (k : ℕ) → taken_at (RwLock l a x) k ≡ None
+      in_no_hand_at x e k = ap (λ h. taken_from h (wants_for x.purpose) (calls (RwLock l a x) k)) e
+
+      by_line : (m : Option Line) → rwlock_late_line p ≡ m → is_free_under w (key_in (Some l) m) ≡ true
+          → Stays (locks_of w) t (record (call_state (RwLock l a p) (rights w t)) { late = true }) outcome.TheVariants.Step (locks_of (state_after_late_on w t (key_in (Some l) m)))
+      by_line None e can = absurd cc
+      by_line (Some m) e can = let z = late_place a p m e in
+          placed (state_with_sections w (One (key_of l m)) (Some t)).sections (RwLock l a p) (next_place (place_at w t) reply.Late) is
+          (λ k. ap (λ y. taken_at (next_place y reply.Late) k) is ∙ ap (λ n. taken_at (rwlock_goes l a n) k) z.1 ∙ in_no_hand_at z.0 z.3 k ∙ sym (in_no_hand_at p z.2 k)) _
+          (λ r same_rights. ap (λ y. call_state (next_place y reply.Late) r) is ∙ ap (λ n. call_state (rwlock_goes l a n) r) z.1
+          ∙ (rwlock_sleepers_hear a l p stands).late (λ none. let f : ◌≡◌ {A = Option Line} None (Some m) = sym none ∙ e in cc) z.0 r z.1
+          ∙ ap (λ x. record (call_state (RwLock l a p) x) { late = true }) same_rights)
   late_goes (Mutex l (Lock entries.LockTimed retries Asleep)) is can = placed (state_with_sections w (One (2 * l)) (Some t)).sections (Mutex l (Lock entries.LockTimed retries Asleep)) (next_place (place_at w t) reply.Late) is (rw is (λ k. refl)) _ (rw is (λ r e. rw e refl))
   late_goes (Mutex l (Lock entries.Lock retries Asleep)) is can = absurd cc
   late_goes (Mutex l (Lock entries.Bump retries Asleep)) is can = absurd cc
@@ -335,6 +386,19 @@ module _ (w : State) (t : ℕ) (shape : IsShaped w) (steady : IsSteady w) (there
   late_goes (Mutex l (HandOff bumps a)) is can = absurd cc
 
 -- ---------------------------------------------------------------- a look at the word once more
+
+-- a call of a reader-writer lock is of no mutex
+not_mutex : (w : State) (l : ℕ) (a : Admission) (at : RwLockPlace) → Admits (rules_at w l) a → (r : ℕ → Rights) → IsOfMutex (locks_of w) (call_state (RwLock l a at) r).purpose → ⊥
+not_mutex w l a at admits r of = by_purpose at.purpose of
+  where
+    readers : (rules_at w l).sort ≡ Mutual → ⊥
+    readers e = let f : has_readers (rules_at w l).sort ≡ false = ap has_readers e in let g : has_readers (rules_at w l).sort ≡ true = admits.0 in cc
+
+    by_purpose : (q : RwLockPurpose) → IsOfMutex (locks_of w) (Some (purpose_by q l)) → ⊥
+    by_purpose (purposes.Enter x how) e = readers e
+    by_purpose (purposes.Release x) e = readers e
+    by_purpose (purposes.Downgrade d) e = readers e
+    by_purpose (purposes.Upgrade how) e = readers e
 
 -- its call goes on by what it sees there
 module _ (w : State) (t : ℕ) (shape : IsShaped w) (steady : IsSteady w) (there : t < length w.places) (q : Place) (is : looking (place_at w t) ≡ Some q) where
@@ -352,6 +416,7 @@ module _ (w : State) (t : ℕ) (shape : IsShaped w) (steady : IsSteady w) (there
 
   look_stays : (p : Place) → place_at w t ≡ p → IsOfMutex (locks_of w) (call_state p (rights w t)).purpose → Stays (locks_of w) t ((locks_of w).calls t) (go_outcome moved t) (locks_of (state_after_go moved t))
   look_stays Idle e of = absurd of
+  look_stays (RwLock l a at) e of = absurd (let calls : CallsMutex w (RwLock l a at) = subst (CallsMutex w) e (steady.stands.calls t) in not_mutex w l a at calls.0 (rights w t) of)
   look_stays (Mutex l at) e of = let loads = mutex_looks l at q (ap looking (sym e) ∙ is) in
       let now : place_at moved t ≡ Mutex l (Lock loads.0 loads.1 Load) = here w t there q is ∙ loads.2 in
       stays_as_before w t there q is _ (locks_of (state_after_go moved t)) (subst (λ p. Stays (locks_of moved) t ((locks_of moved).calls t) (going_outcome moved t p) (locks_of (state_after_going moved t p))) (sym now)
@@ -385,6 +450,7 @@ no_purpose w t k c h r = r
 
 no_call_idle : (p : Place) (r : ℕ → Rights) → (call_state p r).purpose ≡ None → is_idle p ≡ true
 no_call_idle Idle r h = refl
+no_call_idle (RwLock l a at) r h = absurd cc
 no_call_idle (Mutex l (Lock entry retries a)) r h = absurd cc
 no_call_idle (Mutex l TryLock) r h = absurd cc
 no_call_idle (Mutex l (Unlock a)) r h = absurd cc
@@ -436,6 +502,9 @@ module _ (w : State) (t l : ℕ) where
 
 begin_goes : (w : State) (t : ℕ) (c : Call) → IsShaped w → IsSteady w → t < length w.places → can_begin w t c ≡ true
     → MayBegin (locks_of w) t c × Stays (locks_of w) t (new_call (purpose_at (locks_of w) c) (rights w t)) outcome.TheVariants.Step (locks_of (state_after_begin w t c))
+begin_goes w t (call.TheVariants.RwLock l c) shape steady there can =
+    let open_to = both (nat_lt l (length w.locks)) _ (both (is_idle (place_at w t)) (is_open_to w t (call.TheVariants.RwLock l c)) can).1 in
+    absurd (none_yet (kind_at w l) l c (both (has_call (kind_at w l) (call.TheVariants.RwLock l c)) _ open_to.1).0)
 begin_goes w t (call.TheVariants.Mutex l c) shape steady there can = (
   record { thread = there; idle = rw idle refl; lock = ltb-true l (length w.locks) open_to.0; right = rw (purpose_is (kind_at w l) l c is_kind) (right_held w t l (is_fair (kind_at w l)) c held.1) },
   placed w t shape steady there w.sections Idle (Mutex l (mutex_first (is_fair (kind_at w l)) c)) idle (untaken_first w t l (is_fair (kind_at w l)) c) _
@@ -445,7 +514,7 @@ begin_goes w t (call.TheVariants.Mutex l c) shape steady there can = (
     idle : place_at w t ≡ Idle
     idle = idle_is (place_at w t) (both (is_idle (place_at w t)) (is_open_to w t (call.TheVariants.Mutex l c)) can).0
 
-    open_to : (nat_lt l (length w.locks) ≡ true) × ((has_call (kind_at w l) (call.TheVariants.Mutex l c) && has_right (call.TheVariants.Mutex l c) t (owners_at w l)) ≡ true)
+    open_to : (nat_lt l (length w.locks) ≡ true) × ((has_call (kind_at w l) (call.TheVariants.Mutex l c) && has_right (call.TheVariants.Mutex l c) t (owners_at w l) (share_at w l t)) ≡ true)
     open_to = both (nat_lt l (length w.locks)) _ (both (is_idle (place_at w t)) (is_open_to w t (call.TheVariants.Mutex l c)) can).1
 
     held : (has_call (kind_at w l) (call.TheVariants.Mutex l c) ≡ true) × (mutex_right c t (owners_at w l) ≡ true)
@@ -456,6 +525,13 @@ begin_goes w t (call.TheVariants.Mutex l c) shape steady there can = (
 
 -- a call that may begin can
 begin_refused : (w : State) (t : ℕ) (c : Call) → can_begin w t c ≡ false → MayBegin (locks_of w) t c → ⊥
+begin_refused w t (call.TheVariants.RwLock l c) cannot may = none (kind_at w l) may.right
+  where
+    none : (k : Kind) → HasRight (locks_of w) t (purpose_of k (call.TheVariants.RwLock l c)) → ⊥
+    none kind.TheVariants.Mutex h = h
+    none kind.TheVariants.Fair h = h
+    none (kind.TheVariants.RwLock limit) h = h
+    none k h = h
 begin_refused w t (call.TheVariants.Mutex l c) cannot may = let idle : is_idle (place_at w t) ≡ true = no_call_idle (place_at w t) (rights w t) may.idle in
     let there : nat_lt l (length w.locks) ≡ true = lt-ltb l (length w.locks) may.lock in either (has_call (kind_at w l) (call.TheVariants.Mutex l c)) refl idle there
   where
@@ -491,7 +567,7 @@ module _ (w : State) (t : ℕ) (shape : IsShaped w) (steady : IsSteady w) (there
 module _ (w : State) (t : ℕ) (steady : IsSteady w) where
   possible : (x : Turn) → MayTurn (locks_of w) t x → can_turn w t x ≡ true
   possible (turn.TheVariants.Begin c) may = begin_possible w t c may
-  possible turn.TheVariants.Go may = go_possible w t may
+  possible turn.TheVariants.Go may = go_possible w t steady may
   possible turn.TheVariants.Spin may = may
   possible turn.TheVariants.Late may = late_possible w t steady may
   possible turn.TheVariants.Ok may = absurd (no_closure w t may)
@@ -531,7 +607,7 @@ module _ (w : State) (t : ℕ) (shape : IsShaped w) (steady : IsSteady w) (there
       by_look : (o : Option Place) → looking (place_at w t) ≡ o → is_some o ≡ true → (look_outcome w t o ≡ outcome.TheVariants.Sleep) ↔ (sleeps (act_of (place_at (state_after_look w t o) t)) ≡ true)
       by_look None is can = absurd cc
       by_look (Some q) is can = told_going (put w t q) t (there_moved w t shape steady there q is)
-  turned_told turn.TheVariants.Late can = told_step _ (late_awake w t there (place_at w t) refl can)
+  turned_told turn.TheVariants.Late can = told_step _ (late_awake w t there (late_key (place_at w t)) refl can)
   turned_told turn.TheVariants.Ok can = absurd (nothing_closes w t true can)
   turned_told turn.TheVariants.Err can = absurd (nothing_closes w t false can)
 

@@ -1,5 +1,10 @@
 -- A thread that looks at the word once more goes on from another place of its call. Standing there changes nothing that locks and calls see.
 use Rattle.std.proofs.Common.{ℕ, zero, suc, List, set, true, Option, Some, None, if◌then◌else◌, ◌≡◌, ◌<◌, inl, inr, [], ◌∷◌, length, replicate, refl, sym, ◌∙◌, ap, subst, get_or-set_other, get_or-set_same, length-set, get_or}
+use Rattle.lot_rwlock.specs.declared.places.Admission.{Admission}
+use Rattle.lot_rwlock.specs.declared.places.RwLockPlace.{RwLockPlace}
+use Rattle.lot_rwlock.specs.RwLockProfiles.{rwlock_looking}
+use Rattle.lot_rwlock.proofs.RwLockCallPlaces.{rwlock_looks_stand}
+use Rattle.lot_steps.specs.Steps.{in_rwlock}
 use Rattle.std.proofs.lemmas.Bool.{cases_eq}
 use Rattle.lot_base.specs.declared.ops.Op.TheVariants.{Load}
 use Rattle.lot_calls.specs.declared.kinds.Kind as kind
@@ -9,8 +14,8 @@ use Rattle.lot_calls.specs.declared.outcomes.Outcome.{Outcome}
 use Rattle.lot_acts.specs.Profiles.{taken_from}
 use Rattle.lot_mutex.specs.declared.places.MutexPlace.{MutexPlace}
 use Rattle.lot_steps.specs.declared.places.Place.{Place}
-use Rattle.lot_steps.specs.declared.places.Place.TheVariants.{Idle, Mutex}
-use Rattle.lot_steps.specs.Steps.{act_of, looking, lock_of, profile, in_mutex}
+use Rattle.lot_steps.specs.declared.places.Place.TheVariants.{Idle, Mutex, RwLock}
+use Rattle.lot_steps.specs.Steps.{act_of, looking, lock_of, profile, in_mutex, is_lock}
 use Rattle.lot_mutex.specs.MutexSteps.{mutex_looking}
 use Rattle.lot_machine.specs.Machine.{State, unlocked, place_at, put, can_go, state_after_act, state_after_go}
 use Rattle.lot_machine.proofs.Looks.{IsLook, look}
@@ -18,7 +23,7 @@ use Rattle.abstract_locks.specs.Locks.{Rights, rights_of}
 use Rattle.abstract_locks.specs.Runs.{LocksState, GoesOn, Stays}
 use Rattle.abstract_locks.specs.Sites.{idle}
 use Rattle.lot_world.specs.Refinement.{lock_state, locks_of, call_on, stance_of}
-use Rattle.lot_world.specs.Stations.{is_lock, station_by}
+use Rattle.lot_world.specs.Stations.{station_by}
 use Rattle.lot_world.specs.WorldRuns.{IsUntouched}
 use Rattle.lot_world.specs.SitesOf.{IsSteady, CallsMutex, rules_at}
 use Rattle.lot_world.proofs.Glue.{IsLock, parts_at}
@@ -44,6 +49,11 @@ of_lock l o e = rw e refl
 -- it is in the same call, of a lock of its sort
 calls_on : (w : State) (p q : Place) → looking p ≡ Some q → CallsMutex w p → CallsMutex w q
 calls_on w Idle q is calls = absurd cc
+calls_on w (RwLock l a at) q is calls = by_place (rwlock_looking a at) refl is
+  where
+    by_place : (o : Option RwLockPlace) → rwlock_looking a at ≡ o → in_rwlock l a o ≡ Some q → CallsMutex w q
+    by_place None e is = absurd cc
+    by_place (Some at2) e is = let there : RwLock l a at2 ≡ q = cc in subst (CallsMutex w) there (calls.0, (rwlock_looks_stand a at at2 e).1 calls.1, calls.2)
 calls_on w (Mutex l at) q is calls = by_place (mutex_looking at) is
   where
     by_place : (o : Option MutexPlace) → in_mutex l o ≡ Some q → CallsMutex w q

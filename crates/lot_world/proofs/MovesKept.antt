@@ -20,7 +20,7 @@ use Rattle.lot_acts.specs.Moves.{Move, Hears, Stays, GoesIn, Parks, Picks, Takes
 use Rattle.lot_acts.specs.Profiles.{Profile, Hand, Of, hand, in_hand, taken_from}
 use Rattle.lot_acts.specs.Stations.{Station, station_by, nowhere, waits_for}
 use Rattle.lot_steps.specs.declared.places.Place.{Place}
-use Rattle.lot_steps.specs.Steps.{next_place, profile, wants, taker, lock_of}
+use Rattle.lot_steps.specs.Steps.{next_place, profile, wants, taker, lock_of, is_lock, calls}
 use Rattle.lot_steps.specs.declared.places.Place.TheVariants.{Idle}
 use Rattle.lot_base.specs.Picks.{lock_picker, lock_picked, without_lock_picked}
 use Rattle.lot_acts.specs.Owners.{is_thread}
@@ -33,7 +33,7 @@ use Rattle.abstract_locks.specs.Deeds as laws
 use Rattle.lot_machine.specs.Machine.{State, place_at, word_at, queue_at, section_at, put, state_with_sections, state_after_operation, state_after_telling, state_after_leave, state_after_park, queues_with_last, queues_without, queues_without_first, is_there, state_after_reply, state_after_taking, state_after_take_first, state_after_take, reply_to_take, sharers, successor_from, want_of_successor}
 use Rattle.lot_world.specs.Refinement.{taken_at}
 use Rattle.lot_world.specs.MutexDeeds.{acts}
-use Rattle.lot_world.specs.Stations.{is_lock, calls, station, station_at, doing_on}
+use Rattle.lot_world.specs.Stations.{station, station_at, doing_on}
 use Rattle.lot_world.specs.SitesOf.{AllNeeded, AreOrdinary, AreWaiting, IsSteady, Goes, CallsMutex, TakesOne, after_acts, rules_at, key_of, stood_in, carried_at, hand_at}
 use Rattle.lot_world.proofs.Counts.{without_absent, first_times, none_first}
 use Rattle.lot_world.proofs.Glue.{IsOf, IsLock, IsHeldBy, held_where, held_taker, nothing_at, calls_none, next_of, inside_is, LetGo, parts_at, lock_in, same, differ, put_here, doing_here, station_here, untaken, lets_nobody}
@@ -263,7 +263,6 @@ module _ (w : State) (t l : ℕ) (steady : IsSteady w) (there : t < length w.pla
     pub row : profile (place_at w u) ≡ move.row
     pub waits : Waits move
     pub taken : profile (next_place (place_at w u) (TakenBy t)) ≡ move.next (TakenBy t)
-    pub wants_then : wants (next_place (place_at w u) (TakenBy t)) ≡ (move.next (TakenBy t)).wants
     pub woken : profile (next_place (place_at w u) (Woken Normal)) ≡ move.next (Woken Normal)
     pub taken_fits : CallsMutex w (next_place (place_at w u) (TakenBy t))
     pub woken_fits : CallsMutex w (next_place (place_at w u) (Woken Normal))
@@ -581,7 +580,7 @@ module _ (w : State) (t l : ℕ) (steady : IsSteady w) (there : t < length w.pla
         some_picked : (u : ℕ) → member u chosen ≡ true → any ≡ true
         some_picked u h = held_any t 0 taken_state.places u z.sleeps.want
             (ap (λ q. is_thread t (taker q)) at_u ∙ held_taker p2 t l false (ap (λ (y : Station). y.hand) (station_here l p2 (sleeps_chosen u h).calls_then ∙ (sleeps_chosen u h).free)))
-            (ap wants at_u ∙ z.sleeper.wants_then ∙ z.sleeps.wants t)
+            (ap wants at_u ∙ ap (λ (y : Profile). y.wants) z.sleeper.taken ∙ z.sleeps.wants t)
           where
             z : IsAsleepIn Main u
             z = asleep_in Main u g.was (chosen_stands u h)

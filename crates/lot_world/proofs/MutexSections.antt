@@ -17,7 +17,7 @@ use Rattle.abstract_locks.specs.Picks.{queued_of}
 use Rattle.lot_world.specs.MutexDeeds.{mutex_doing, acts, queued}
 use Rattle.lot_world.specs.Stations.{hand, doing_on}
 use Rattle.lot_world.specs.SitesOf.{AllNeeded}
-use Rattle.lot_world.proofs.Glue.{Base, seen, same, IsTakenAt, Untaken, untaken, hands_acts, handed_is, taken_there}
+use Rattle.lot_world.proofs.Glue.{Base, seen, same, IsTakenAt, Untaken, untaken, hands_acts, handed_is, taken_there, IsMutexCall}
 use Rattle.lot_world.specs.SitesOf.{hand_at, Hands}
 use Rattle.lot_world.proofs.MutexTable.{mutex, own_doing}
 
@@ -48,12 +48,12 @@ abbrev want_of : Option Queued → Want
 want_of None = Exclusive
 want_of (Some q) = q.want
 
-module _ (l : ℕ) (n : Base) (w : ℕ) (o : Owners) (m s : List Waiter) (p : ℕ → Place) (one : ℕ → Type 0) (hands : Hands one p) (single : one l) (t u : ℕ) (bumps none_left : Bool) (store : p t ≡ Mutex l (HandOff bumps (hand_off.Store true none_left))) (held : hand_at (p u) l ≡ hand t false) (site : IsSite mutex (seen l n w o m s p)) where
+module _ (l : ℕ) (n : Base) (w : ℕ) (o : Owners) (m s : List Waiter) (p : ℕ → Place) (one : ℕ → Type 0) (hands : Hands one p) (single : one l) (mutexes : (x : ℕ) → IsMutexCall l (p x)) (t u : ℕ) (bumps none_left : Bool) (store : p t ≡ Mutex l (HandOff bumps (hand_off.Store true none_left))) (held : hand_at (p u) l ≡ hand t false) (site : IsSite mutex (seen l n w o m s p)) where
   d_is : doing_on (p t) l ≡ mutex_doing (HandOff bumps (hand_off.Store true none_left))
   d_is = own_doing l (p t) (HandOff bumps (hand_off.Store true none_left)) store
 
   hand_is : IsTakenAt (p u) t l
-  hand_is = taken_there mutex l n w o m s p one hands single t u bumps none_left refl (site.state.unshared (λ h. h)) store held
+  hand_is = taken_there mutex l n w o m s p one hands single mutexes t u bumps none_left refl site.state store held
 
   -- only the one in hand is in hand
   only_one : (y : ℕ) (x : Want) → IsTaken (seen l n w o m s p).lock t y x → (y ≡ u) × (x ≡ Exclusive)
@@ -73,12 +73,12 @@ module _ (l : ℕ) (n : Base) (w : ℕ) (o : Owners) (m s : List Waiter) (p : �
     λ h. let a = only_one y x h.0 in λ j. Some (record { thread = sym a.0 j; want = sym a.1 j }),
   )
 
-  pub hands_needed : (b : Bool) → none_left ≡ b → AllNeeded mutex (hands_acts mutex l n w o m s p one hands single t u bumps none_left refl (site.state.unshared (λ h. h)) store held b) (seen l n w o m s p)
+  pub hands_needed : (b : Bool) → none_left ≡ b → AllNeeded mutex (hands_acts mutex l n w o m s p one hands single mutexes t u bumps none_left refl site.state store held b) (seen l n w o m s p)
   hands_needed true f = (
     ((site.held t (Has Exclusive) (ap (λ (x : Doing). x.claims) d_is), (λ h. cc), successor, tt), (rw d_is refl, rw d_is refl, rw d_is refl, rw d_is refl)),
-    (rw (same t, d_is, f) refl, (ap (λ (x : LockState). x.exclusive) (handed_is t n o m s p l (Some u) (site.state.unshared (λ h. h))), tt)),
+    (rw (same t, d_is, f) refl, (ap (λ (x : LockState). x.exclusive) (handed_is t n o m s p l (Some u) site.state), tt)),
   )
   hands_needed false f = (
     ((site.held t (Has Exclusive) (ap (λ (x : Doing). x.claims) d_is), (λ h. cc), successor, tt), (rw d_is refl, rw d_is refl, rw d_is refl, rw d_is refl)),
-    (tt, (ap (λ (x : LockState). x.exclusive) (handed_is t n o m s p l (Some u) (site.state.unshared (λ h. h))), tt)),
+    (tt, (ap (λ (x : LockState). x.exclusive) (handed_is t n o m s p l (Some u) site.state), tt)),
   )

@@ -116,7 +116,7 @@ module _ (l : ℕ) (n : Base) (w w2 : ℕ) (o : Owners) (m s : List Waiter) (p :
 
   pub hands_nobody : is_parked w2 ≡ false → ((u : ℕ) → Untaken t (taken_at (p u) l)) → d.claims ≡ Some (Has Exclusive) → d.covers ≡ true → d.retries ≡ None → d.wakes ≡ None → d.inside ≡ Some Main → d.empty ≡ Some Main → doing_on p2 l ≡ record d { covers = false; claims = None; empty = None; brings = false; sets = false } → MutexSteps l n w w2 o (with_exclusive o None) m m s p t p2 (Case (locks.HandOff Exclusive None) ∷ Clear Main ∷ [])
   hands_nobody bit none c v r k i e own = record {
-    site = meet (with_exclusive o None) m (Case (locks.HandOff Exclusive None) ∷ Clear Main ∷ []) (tt, (tt, tt)) (sym (λ j. lock_seen n.shared (with_exclusive o None) m s (λ u. none u j)) ∙ sym (handed_is t n o m s p l None (site.state.unshared (λ h. h)))) bit refl (own ∙ rw (same t, is) refl);
+    site = meet (with_exclusive o None) m (Case (locks.HandOff Exclusive None) ∷ Clear Main ∷ []) (tt, (tt, tt)) (sym (λ j. lock_seen n.shared (with_exclusive o None) m s (λ u. none u j)) ∙ sym (handed_is t n o m s p l None site.state)) bit refl (own ∙ rw (same t, is) refl);
     needed = (((site.held t (Has Exclusive) (ap (λ (x : Doing). x.claims) is ∙ c), (λ h. cc), heirless, tt), (rw is i, rw is v, rw is r, rw is k)), (rw (same t, is) e, tt));
   }
     where

@@ -1,5 +1,19 @@
 -- What an act of one thread makes of the calls of the others: nothing, but where it wakes those in its hand or hands them the lock.
-use Rattle.std.proofs.Common.{ℕ, Bool, true, false, Option, Some, None, if◌then◌else◌, ◌≡◌, ◌≢◌, inl, inr, List, [], ◌∷◌, get_or, set, refl, sym, ◌∙◌, ap, subst, get_or-set_other}
+use Rattle.std.proofs.Common.{ℕ, Bool, true, false, Option, Some, None, if◌then◌else◌, ◌≡◌, ◌≢◌, inl, inr, List, [], ◌∷◌, get_or, set, refl, sym, ◌∙◌, ap, subst, get_or-set_other, ◌==◌}
+use Rattle.lot_base.specs.declared.wants.Want.TheVariants.{Exclusive}
+use Rattle.lot_base.specs.declared.wants.Want.{Want}
+use Rattle.lot_rwlock.specs.declared.places.Admission.{Admission}
+use Rattle.lot_rwlock.specs.declared.places.RwLockPlace.{RwLockPlace}
+use Rattle.lot_rwlock.specs.declared.places.RwLockAt.{RwLockAt}
+use Rattle.lot_rwlock.specs.declared.places.RwLockAt.TheVariants as at
+use Rattle.lot_rwlock.specs.declared.park.ParkAt.TheVariants as parking
+use Rattle.lot_rwlock.specs.declared.purposes.RwLockPurpose.{RwLockPurpose}
+use Rattle.lot_rwlock.specs.declared.purposes.RwLockPurpose.TheVariants as purpose
+use Rattle.lot_calls.specs.declared.calls.Access.TheVariants as access
+use Rattle.lot_rwlock.specs.RwLockProfiles.{hand_at as rwlock_hand, wants_for}
+use Rattle.lot_rwlock.specs.RwLockCalls.{StandsAt}
+use Rattle.abstract_locks.specs.Purposes.{wanted}
+use Rattle.lot_acts.specs.Profiles.{taken_from}
 use Rattle.std.proofs.Math.ListN.{get_or-map}
 use Rattle.std.proofs.lemmas.Bool.{cases_eq}
 use Rattle.lot_base.specs.declared.keys.Keys.{Keys}
@@ -19,14 +33,14 @@ use Rattle.lot_acts.specs.Owners.{is_thread}
 use Rattle.lot_acts.specs.Profiles.{hand}
 use Rattle.lot_steps.specs.Steps.{lock_of, next_place, taker}
 use Rattle.lot_steps.specs.declared.places.Place.{Place}
-use Rattle.lot_steps.specs.declared.places.Place.TheVariants.{Idle}
+use Rattle.lot_steps.specs.declared.places.Place.TheVariants.{Idle, RwLock, Mutex}
 use Rattle.abstract_locks.specs.Locks.{Rights, LockCase, Wake, HandOff}
 use Rattle.abstract_locks.specs.Runs.{AtLock, is_taken_by}
 use Rattle.abstract_locks.specs.Deeds.{event_by}
 use Rattle.lot_machine.specs.Machine.{State, queue_at, place_at, put, state_after_act, state_after_telling, state_after_taking, state_with_sections, places_told, place_after_telling}
 use Rattle.lot_world.specs.Refinement.{call_state, taken_at}
-use Rattle.lot_world.specs.Stations.{Station}
-use Rattle.lot_world.specs.SitesOf.{IsSteady, carried_at, hand_at}
+use Rattle.lot_world.specs.Stations.{Station, hand, station, nowhere}
+use Rattle.lot_world.specs.SitesOf.{IsSteady, carried_at, hand_at, CallsMutex}
 use Rattle.lot_world.proofs.AtPlaces.{unless_held}
 use Rattle.lot_world.proofs.Glue.{IsLock, IsOf, IsTakenAt, IsHandedAt, is_taken, is_handed, held_where, held_taker, station_elsewhere, same, put_of, put_same, set_puts, past_all}
 use Rattle.lot_world.proofs.CallEvents.{Others}
@@ -116,6 +130,53 @@ module _ (w : State) (t : ℕ) (p2 : Place) where
 
 -- ---------------------------------------------------------------- those in its hand are told
 
+-- who is in a hand waits for something
+waits_so : (a : Admission) (q : RwLockPurpose) (again : Bool) (to : RwLockAt) (t : ℕ) → StandsAt q again to → rwlock_hand to ≡ hand t false → (x : Want) × (wants_for q ≡ Some x)
+waits_so a (purpose.Enter x how) again to t stands h = (wanted x, refl)
+waits_so a (purpose.Upgrade how) again to t stands h = (Exclusive, refl)
+waits_so a (purpose.Downgrade d) again (at.Park to) t stands h = absurd stands
+waits_so a (purpose.Downgrade d) again (at.Aside to) t stands h = absurd stands
+waits_so a (purpose.Downgrade d) again to t stands h = absurd cc
+waits_so a (purpose.Release access.Shared) again (at.Park to) t stands h = absurd stands
+waits_so a (purpose.Release access.Shared) again (at.Aside to) t stands h = absurd stands
+waits_so a (purpose.Release x) again (at.Park to) t stands h = absurd stands
+waits_so a (purpose.Release x) again (at.Aside to) t stands h = absurd stands
+waits_so a (purpose.Release x) again to t stands h = absurd cc
+
+-- so it is taken there by the one in whose hand it is
+taken_by_hand : (w : State) (p : Place) (t l : ℕ) → CallsMutex w p → hand_at p l ≡ hand t false → is_taken_by t (taken_at p l) ≡ true
+taken_by_hand w Idle t l calls h = absurd (let none : hand_at Idle l ≡ None = refl in cc)
+taken_by_hand w (Mutex k at) t l calls h = by_place (Mutex k at) (is_taken (Mutex k at) t l tt h)
+  where
+    by_place : (p : Place) → IsTakenAt p t l → is_taken_by t (taken_at p l) ≡ true
+    by_place p there = rw (there.is, same l) (same t)
+taken_by_hand w (RwLock k a p) t l calls h = either (k == l) h
+  where
+    either : (b : Bool) → (if b then station (RwLock k a p) else nowhere).hand ≡ hand t false → is_taken_by t (taken_from (rwlock_hand p.at) (wants_for p.purpose) b) ≡ true
+    either true g = let x = waits_so a p.purpose p.retries p.at t calls.1.place g in
+        ap (is_taken_by t) (λ i. taken_from (g i) (x.1 i) true) ∙ same t
+    either false g = absurd cc
+
+-- who was handed the lock goes on as it was
+handed_goes : (p : Place) (t l : ℕ) → hand_at p l ≡ hand t true → (r : ℕ → Rights) → call_state (next_place p (Woken note.HandOff)) r ≡ call_state p r
+handed_goes Idle t l h r = refl
+handed_goes (Mutex k at) t l h r = by_place (Mutex k at) (is_handed (Mutex k at) t l tt h)
+  where
+    by_place : (p : Place) → IsHandedAt p t l → call_state (next_place p (Woken note.HandOff)) r ≡ call_state p r
+    by_place p there = rw there.is refl
+handed_goes (RwLock k a p) t l h r = absurd (either (k == l) h)
+  where
+    never : (to : RwLockAt) → rwlock_hand to ≡ hand t true → ⊥
+    never (at.Park (parking.Taken by)) g = cc
+    never (at.Aside (parking.Taken by)) g = cc
+    never (at.Park to) g = cc
+    never (at.Aside to) g = cc
+    never to g = cc
+
+    either : (b : Bool) → (if b then station (RwLock k a p) else nowhere).hand ≡ hand t true → ⊥
+    either true g = never p.at g
+    either false g = cc
+
 module _ (w : State) (t l : ℕ) (steady : IsSteady w) (own : lock_of (place_at w t) ≡ Some l) (p2 : Place) where
   is_of : IsOf l (place_at w t)
   is_of = subst (λ o. IsLock l o) (sym own) refl
@@ -136,7 +197,7 @@ module _ (w : State) (t l : ℕ) (steady : IsSteady w) (own : lock_of (place_at 
   befalls b reply places carries u ne = told_at b reply places u ne ∙ ap (λ c. if c then next_place (place_at w u) reply else place_at w u) (same_test (is_thread t (taker (place_at w u))) refl)
     where
       same_test : (c : Bool) → is_thread t (taker (place_at w u)) ≡ c → is_thread t (taker (place_at w u)) ≡ is_taken_by t (taken_at (place_at w u) l)
-      same_test true e = let k : IsTakenAt (place_at w u) t l = is_taken (place_at w u) t l (in_hand_here false carries u e) in e ∙ sym (rw (k.is, same l) (same t))
+      same_test true e = e ∙ sym (taken_by_hand w (place_at w u) t l (steady.stands.calls u) (in_hand_here false carries u e))
       same_test false e = e ∙ sym (unless_held w steady t l u (λ h. let f : is_thread t (taker (place_at w u)) ≡ true = held_taker (place_at w u) t l false h in cc))
 
   -- nobody has been
@@ -149,5 +210,5 @@ module _ (w : State) (t l : ℕ) (steady : IsSteady w) (own : lock_of (place_at 
   tells_handed b places carries u ne r = ap (λ p. call_state p r) (told_at b (Woken note.HandOff) places u ne) ∙ either (is_thread t (taker (place_at w u))) refl
     where
       either : (c : Bool) → is_thread t (taker (place_at w u)) ≡ c → call_state (if c then next_place (place_at w u) (Woken note.HandOff) else place_at w u) r ≡ call_state (place_at w u) r
-      either true e = let k : IsHandedAt (place_at w u) t l = is_handed (place_at w u) t l (in_hand_here true carries u e) in rw k.is refl
+      either true e = handed_goes (place_at w u) t l (in_hand_here true carries u e) r
       either false e = refl

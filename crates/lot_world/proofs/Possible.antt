@@ -1,10 +1,9 @@
 -- A turn is possible exactly where the abstract locks and the call say so, and a thread is told that it sleeps where it does.
-use Rattle.std.proofs.Common.{is_some, subst, ℕ, Bool, true, false, Option, Some, None, if◌then◌else◌, ◌==◌, ◌&&◌, not, ◌≡◌, ◌≢◌, ◌+◌, ◌*◌, ◌≤◌, ◌<◌, ◌↔◌, ◌⊎◌, inl, inr, List, length, is_none, refl, sym, ◌∙◌, ap, arith, get_or-set_other, get_or-set_same}
+use Rattle.std.proofs.Common.{is_some, subst, ℕ, Bool, true, false, Option, Some, None, if◌then◌else◌, ◌&&◌, ◌≡◌, ◌≢◌, ◌+◌, ◌*◌, ◌≤◌, ◌<◌, ◌↔◌, ◌⊎◌, inl, inr, List, length, is_none, refl, sym, ◌∙◌, ap, arith, get_or-set_other, get_or-set_same}
 use Rattle.std.proofs.lemmas.Bool.{cases_eq, cases_lt}
 use Rattle.std.proofs.lemmas.List.{get_or_past}
 use Rattle.lot_base.specs.declared.keys.Keys.{Keys}
 use Rattle.lot_base.specs.declared.keys.Keys.TheVariants.{One, Two}
-use Rattle.lot_base.specs.declared.ops.Op as op
 use Rattle.lot_base.specs.Lines.{first_of}
 use Rattle.lot_base.specs.declared.wants.Waiter.{Waiter}
 use Rattle.lot_calls.specs.declared.calls.Turn.{Turn}
@@ -17,69 +16,55 @@ use Rattle.lot_calls.specs.declared.kinds.Kind.{Kind}
 use Rattle.lot_calls.specs.Kinds.{is_fair}
 use Rattle.lot_calls.specs.declared.outcomes.Outcome as outcome
 use Rattle.lot_acts.specs.declared.acts.Act.{Act}
-use Rattle.lot_acts.specs.declared.acts.Act.TheVariants.{Rest, Word, Enter, Park, Take, Sleep, Closure, End}
+use Rattle.lot_acts.specs.declared.acts.Act.TheVariants.{Rest, Enter, Park, Take, Sleep, Closure, End}
 use Rattle.lot_acts.specs.declared.acts.Act.TheVariants as act
 use Rattle.lot_acts.specs.declared.acts.Reply.{Reply}
 use Rattle.lot_acts.specs.declared.acts.Reply.TheVariants.{Late}
 use Rattle.lot_acts.specs.declared.acts.Next.{Next}
 use Rattle.lot_acts.specs.declared.acts.Next.TheVariants as next
 use Rattle.lot_mutex.specs.declared.places.MutexPlace.{MutexPlace}
-use Rattle.lot_mutex.specs.declared.places.MutexPlace.TheVariants.{Lock, TryLock, Unlock, UnlockFair, Bump, HandOff}
-use Rattle.lot_mutex.specs.declared.lock.Entry.TheVariants as entries
-use Rattle.lot_mutex.specs.declared.lock.LockAt.TheVariants as lock
-use Rattle.lot_mutex.specs.declared.unlock.UnlockAt.TheVariants as unlock
-use Rattle.lot_mutex.specs.declared.hand_off.HandOffAt.TheVariants as hand_off
 use Rattle.lot_steps.specs.declared.places.Place.{Place}
-use Rattle.lot_steps.specs.declared.places.Place.TheVariants.{Idle, Mutex}
+use Rattle.lot_steps.specs.declared.places.Place.TheVariants.{Idle, Mutex, RwLock}
 use Rattle.lot_acts.specs.declared.acts.Wakes.{Wakes}
 use Rattle.lot_acts.specs.declared.acts.Wakes as wakes
 use Rattle.lot_acts.specs.declared.acts.Whom.{Whom}
 use Rattle.lot_acts.specs.declared.acts.Whom as whom
 use Rattle.lot_acts.specs.Acts.{outcome_of, holds}
-use Rattle.lot_mutex.specs.MutexSteps.{is_locked, mutex_act, mutex_first, mutex_next}
-use Rattle.lot_steps.specs.Steps.{act_of, lock_of, next_place, next_act, mutex_goes, mutex_does, late_key, first_place, looking}
+use Rattle.lot_mutex.specs.MutexSteps.{mutex_act, mutex_first, mutex_next}
+use Rattle.lot_steps.specs.Steps.{act_of, lock_of, next_place, next_act, mutex_goes, mutex_does, late_key, first_place, looking, key_in, profile, rwlock_does, rwlock_goes}
 use Rattle.lot_machine.specs.Machine.{State, state_after_take, place_at, queue_at, section_at, can_do, can_go, is_free_under, word_at, state_with_sections, queues_without_first, state_after_taking, state_after_wake, state_after_act, state_after_go, state_after_late_on}
 use Rattle.lot_machine.specs.Fits.{IsShaped, PlaceFits}
-use Rattle.abstract_locks.specs.Sites.{Main}
-use Rattle.lot_world.specs.Stations.{station, station_at}
-use Rattle.lot_world.specs.SitesOf.{IsSteady, stood_in}
-use Rattle.lot_world.specs.Refinement.{lock_state, locks_of, call_state, sleeps, runs_closure, keys_entered}
-use Rattle.lot_world.proofs.Glue.{nothing_at, same, calls_none}
+use Rattle.abstract_locks.specs.Sites.{Main, Line, Second}
+use Rattle.lot_world.specs.Stations.{station, station_at, Station}
+use Rattle.lot_world.specs.SitesOf.{IsSteady, stood_in, key_of}
+use Rattle.lot_world.specs.Refinement.{lock_state, locks_of, call_state, sleeps, runs_closure, keys_entered, call_on}
+use Rattle.lot_world.proofs.Glue.{calls_none}
 use Rattle.lot_world.proofs.LineActs.{IsOfLine, IsLineAct, line_act, holds_line, key_there, late_line, calls_there}
 use Rattle.lot_world.proofs.GoneKept.{none_is}
 use Rattle.lot_world.proofs.Closures.{no_closure}
-use Rattle.lot_world.proofs.AtPlaces.{queued_by, not_first_aside}
+use Rattle.lot_world.proofs.AtPlaces.{queued_by}
 use Rattle.lot_world.proofs.CallEvents.{rights}
 use Rattle.abstract_locks.specs.Locks.{Rights}
 use Rattle.abstract_locks.specs.Locks as locks
-use Rattle.abstract_locks.specs.Runs.{AreFree, MayGo, MayBeLate, MayTurn, IsTimed, StandsFreely, SectionChanges}
+use Rattle.abstract_locks.specs.Runs.{AreFree, MayGo, MayBeLate, MayTurn, IsTimed, StandsFreely, SectionChanges, CallState}
+use Rattle.lot_world.proofs.RowPromises.{is_acting}
+use Rattle.lot_world.proofs.PlacePromises.{row_promises, station_own, station_calls, call_own, in_second}
+use Rattle.lot_world.proofs.StandsKept.{in_main}
+use Rattle.lot_world.proofs.Counts.{first_times}
+use Rattle.lot_world.proofs.PlaceSteps.{late_next}
+use Rattle.lot_rwlock.specs.declared.places.RwLockPlace.{RwLockPlace}
+use Rattle.lot_calls.specs.declared.calls.RwLockCall.TheVariants as rwlock_call
+use Rattle.lot_calls.specs.declared.calls.Access.TheVariants as access
+use Rattle.lot_rwlock.specs.RwLockSteps.{rwlock_act, rwlock_next}
+use Rattle.lot_rwlock.specs.RwLockBegins.{admission_of, rwlock_first}
+use Rattle.lot_calls.specs.declared.calls.RwLockCall.{RwLockCall}
+use Rattle.lot_calls.specs.declared.calls.Patience.TheVariants.{Try}
 
 -- ---------------------------------------------------------------- going on
 
--- an act that a thread in a call does
-abbrev is_acting : Act → Bool
-is_acting Rest = false
-is_acting (End answer) = false
-is_acting a = true
-
--- what a lock's exchange or section comes to
-decides_acting : (l s : ℕ) (a b : Bool) → is_acting (if not a then Word l (op.TheVariants.Exchange s (s + 1)) else if b then Word l (op.TheVariants.Exchange 1 3) else Enter (One (2 * l))) ≡ true
-decides_acting l s false b = refl
-decides_acting l s true true = refl
-decides_acting l s true false = refl
-
-mutex_acting : (l : ℕ) (at : MutexPlace) → is_acting (mutex_act l at) ≡ true
-mutex_acting l (Lock e r lock.First) = refl
-mutex_acting l (Lock e r (lock.Decide s)) = decides_acting l s (is_locked s) (s == 1)
-mutex_acting l (Lock e r a) = refl
-mutex_acting l TryLock = refl
-mutex_acting l (Unlock unlock.Subtract) = refl
-mutex_acting l (Unlock a) = refl
-mutex_acting l UnlockFair = refl
-mutex_acting l Bump = refl
-mutex_acting l (HandOff b (hand_off.Store false n)) = refl
-mutex_acting l (HandOff b (hand_off.Store true n)) = refl
-mutex_acting l (HandOff b a) = refl
+awake_is : (a : Act) → a ≢ Sleep → sleeps a ≡ false
+awake_is Sleep h = absurd (h refl)
+awake_is a h = refl
 
 module _ (w : State) where
   -- what can be done is done by a thread that is awake, outside its closure, and before sections that are free
@@ -106,83 +91,72 @@ module _ (w : State) where
   can_if (Enter (Two first second)) acting awake outside free = rw (free.0, free.1) refl
   can_if a acting awake outside free = refl
 
+-- who can do something is in a call, and whoever is in a call has something to do
 called_of : (w : State) (p : Place) (r : ℕ → Rights) → can_do w (act_of p) ≡ true → (call_state p r).purpose ≢ None
-called_of w Idle r can = absurd cc
-called_of w (Mutex l at) r can = λ h. cc
+called_of w p r can = by_lock (lock_of p) refl
+  where
+    by_lock : (o : Option ℕ) → lock_of p ≡ o → (call_on o (profile p) r).purpose ≢ None
+    by_lock (Some l) e = λ h. cc
+    by_lock None e = absurd (let f : can_do w Rest ≡ true = ap (λ q. can_do w (act_of q)) (sym (calls_none p e)) ∙ can in cc)
 
-acting_of : (p : Place) (r : ℕ → Rights) → (call_state p r).purpose ≢ None → is_acting (act_of p) ≡ true
-acting_of Idle r called = absurd (called refl)
-acting_of (Mutex l at) r called = mutex_acting l at
+acting_of : (w : State) (t : ℕ) → IsSteady w → (call_state (place_at w t) (rights w t)).purpose ≢ None → is_acting (act_of (place_at w t)) ≡ true
+acting_of w t steady called = by_lock (lock_of (place_at w t)) refl called
+  where
+    by_lock : (o : Option ℕ) → lock_of (place_at w t) ≡ o → (call_on o (profile (place_at w t)) (rights w t)).purpose ≢ None → is_acting (act_of (place_at w t)) ≡ true
+    by_lock (Some l) e called = (row_promises w t steady l e).acts
+    by_lock None e called = absurd (called refl)
 
 pub may_go : (w : State) (t : ℕ) → can_go w t ≡ true → MayGo (locks_of w) t
 may_go w t can = let is = can_is w (act_of (place_at w t)) can in
     record { called = called_of w (place_at w t) (rights w t) can; awake = is.0; outside = is.1; free = is.2 }
 
-pub go_possible : (w : State) (t : ℕ) → MayGo (locks_of w) t → can_go w t ≡ true
-go_possible w t may = can_if w (act_of (place_at w t)) (acting_of (place_at w t) (rights w t) may.called) may.awake may.outside may.free
+pub go_possible : (w : State) (t : ℕ) → IsSteady w → MayGo (locks_of w) t → can_go w t ≡ true
+go_possible w t steady may = can_if w (act_of (place_at w t)) (acting_of w t steady may.called) may.awake may.outside may.free
 
 -- ---------------------------------------------------------------- being late
 
-decides_awake : (l s : ℕ) (a b : Bool) → sleeps (if not a then Word l (op.TheVariants.Exchange s (s + 1)) else if b then Word l (op.TheVariants.Exchange 1 3) else Enter (One (2 * l))) ≡ false
-decides_awake l s false b = refl
-decides_awake l s true true = refl
-decides_awake l s true false = refl
+sleeps_is : (a : Act) → sleeps a ≡ true → a ≡ Sleep
+sleeps_is Sleep h = refl
+sleeps_is a h = absurd cc
 
 module _ (w : State) (t : ℕ) (steady : IsSteady w) where
-  -- how often the thread stands in the queue of a lock, by its place
-  stands_by : (p : Place) → place_at w t ≡ p → (l : ℕ) → locks.times t (lock_state w l).queue ≡ stood_in (station_at p l).stands Main
-  stands_by p is l = queued_by w steady t l ∙ ap (λ x. stood_in (station_at x l).stands Main) is
+  -- a thread in whose line the section is free may be late there
+  stands_freely : (l : ℕ) (m : Line) → (station_at (place_at w t) l).stands ≡ Some m → section_at w (key_of l m) ≡ None → StandsFreely (locks_of w) t l
+  stands_freely l Main stands free = inl (let n : locks.times t (lock_state w l).queue ≡ 1 = queued_by w steady t l ∙ ap (λ x. stood_in x Main) stands in omega arith, free)
+  stands_freely l Second stands free = inr (in_second w t steady l stands, free)
 
-  late_there : (p : Place) → place_at w t ≡ p → is_free_under w (late_key p) ≡ true → MayBeLate (locks_of w) t
-  late_there (Mutex l (Lock entries.LockTimed r lock.Asleep)) is can = record {
-    lock = l;
-    timed = rw is (refl, refl);
-    asleep = rw is refl;
-    stands = inl (rw (stands_by (Mutex l (Lock entries.LockTimed r lock.Asleep)) is l, same l) (omega arith), none_is (section_at w (2 * l)) can);
-  }
-  late_there Idle is can = absurd cc
-  late_there (Mutex l (Lock entries.Lock r lock.Asleep)) is can = absurd cc
-  late_there (Mutex l (Lock entries.Bump r lock.Asleep)) is can = absurd cc
-  late_there (Mutex l (Lock e r lock.First)) is can = absurd cc
-  late_there (Mutex l (Lock e r a)) is can = absurd cc
-  late_there (Mutex l TryLock) is can = absurd cc
-  late_there (Mutex l (Unlock a)) is can = absurd cc
-  late_there (Mutex l UnlockFair) is can = absurd cc
-  late_there (Mutex l Bump) is can = absurd cc
-  late_there (Mutex l (HandOff b a)) is can = absurd cc
+  stands_free : (l : ℕ) → StandsFreely (locks_of w) t l → (m : Line) × ((station_at (place_at w t) l).stands ≡ Some m) × (is_none (section_at w (key_of l m)) ≡ true)
+  stands_free l (inl h) = (Main, in_main (station_at (place_at w t) l).stands (subst (λ n. 1 ≤ n) (queued_by w steady t l) h.0), ap is_none h.1)
+  stands_free l (inr h) = (Second, in_line (station_at (place_at w t) l).stands (subst (λ n. 1 ≤ n) (steady.stands.lines t l Second) (first_times t (queue_at w (2 * l + 1)) h.0)), ap is_none h.1)
+    where
+      in_line : (o : Option Line) → 1 ≤ stood_in o Second → o ≡ Some Second
+      in_line (Some Second) h = refl
+      in_line (Some Main) h = absurd (omega arith)
+      in_line None h = absurd (omega arith)
+
+  late_there : (o : Option ℕ) → late_key (place_at w t) ≡ o → is_free_under w o ≡ true → MayBeLate (locks_of w) t
+  late_there None e can = absurd cc
+  late_there (Some key) e can =
+      let of = late_line (place_at w t) key e in
+      let row = (row_promises w t steady of.0 of.1).late of.2.0 of.2.1 in
+      record {
+        lock = of.0;
+        timed = subst (λ (c : CallState). IsTimed c.purpose of.0) (sym (call_own w t steady of.0 of.1)) row.timed;
+        asleep = ap sleeps row.asleep;
+        stands = stands_freely of.0 of.2.0 (ap (λ (x : Station). x.stands) (station_own (place_at w t) of.0 of.1) ∙ row.stands) (none_is (section_at w (key_of of.0 of.2.0)) (subst (λ k. is_none (section_at w k) ≡ true) of.2.2 can));
+      }
 
   pub may_be_late : is_free_under w (late_key (place_at w t)) ≡ true → MayBeLate (locks_of w) t
-  may_be_late can = late_there (place_at w t) refl can
-
-  free_there : (l k : ℕ) → k ≡ l → StandsFreely (locks_of w) t l → is_none (section_at w (2 * k)) ≡ true
-  free_there l k e (inl h) = rw (e, h.1) refl
-  free_there l k e (inr h) = absurd (not_first_aside w steady t l h.0)
-
-  nowhere : (p : Place) → place_at w t ≡ p → (station p).stands ≡ None → (l : ℕ) → StandsFreely (locks_of w) t l → ⊥
-  nowhere p is none l (inl h) = let zero_times : locks.times t (lock_state w l).queue ≡ 0 = stands_by p is l ∙ ap (λ x. stood_in x Main) (nothing_at p l (λ x. x.stands) refl none) in let one : 1 ≤ locks.times t (lock_state w l).queue = h.0 in omega arith
-  nowhere p is none l (inr h) = not_first_aside w steady t l h.0
-
-  late_by : (p : Place) → place_at w t ≡ p → (r : ℕ → Rights) (l : ℕ) → IsTimed (call_state p r).purpose l → sleeps (act_of p) ≡ true → StandsFreely (locks_of w) t l → is_free_under w (late_key p) ≡ true
-  late_by Idle is r l timed asleep stands = absurd timed
-  late_by (Mutex k (Lock entries.LockTimed again lock.Asleep)) is r l timed asleep stands = free_there l k timed.0 stands
-  late_by (Mutex k (Lock entries.Lock again lock.Asleep)) is r l timed asleep stands = absurd (let h = timed.1 in cc)
-  late_by (Mutex k (Lock entries.Bump again lock.Asleep)) is r l timed asleep stands = absurd timed
-  late_by (Mutex k (Lock e again (lock.Taken by))) is r l timed asleep stands = absurd (nowhere _ is refl l stands)
-  late_by (Mutex k (Lock e again (lock.Handed by))) is r l timed asleep stands = absurd (nowhere _ is refl l stands)
-  late_by (Mutex k (Lock e again (lock.Decide s))) is r l timed asleep stands = absurd (let h : false ≡ true = sym (decides_awake k s (is_locked s) (s == 1)) ∙ asleep in cc)
-  late_by (Mutex k (Lock e again lock.First)) is r l timed asleep stands = absurd cc
-  late_by (Mutex k (Lock e again a)) is r l timed asleep stands = absurd cc
-  late_by (Mutex k TryLock) is r l timed asleep stands = absurd cc
-  late_by (Mutex k (Unlock unlock.Subtract)) is r l timed asleep stands = absurd cc
-  late_by (Mutex k (Unlock a)) is r l timed asleep stands = absurd cc
-  late_by (Mutex k UnlockFair) is r l timed asleep stands = absurd cc
-  late_by (Mutex k Bump) is r l timed asleep stands = absurd cc
-  late_by (Mutex k (HandOff b (hand_off.Store false n))) is r l timed asleep stands = absurd cc
-  late_by (Mutex k (HandOff b (hand_off.Store true n))) is r l timed asleep stands = absurd cc
-  late_by (Mutex k (HandOff b a)) is r l timed asleep stands = absurd cc
+  may_be_late can = late_there (late_key (place_at w t)) refl can
 
   pub late_possible : MayBeLate (locks_of w) t → is_free_under w (late_key (place_at w t)) ≡ true
-  late_possible may = late_by (place_at w t) refl (rights w t) may.lock may.timed may.asleep may.stands
+  late_possible may =
+      let stood = stands_free may.lock may.stands in
+      let own = station_calls (place_at w t) may.lock (λ out. let e : ◌≡◌ {A = Option Line} None (Some stood.0) = sym (ap (λ (x : Station). x.stands) out) ∙ stood.1 in cc) in
+      let stands : (profile (place_at w t)).stands ≡ Some stood.0 = sym (ap (λ (x : Station). x.stands) (station_own (place_at w t) may.lock own)) ∙ stood.1 in
+      let timed : IsTimed (Some ((profile (place_at w t)).purpose may.lock)) may.lock = subst (λ (c : CallState). IsTimed c.purpose may.lock) (call_own w t steady may.lock own) may.timed in
+      let row : (profile (place_at w t)).late_line ≡ Some stood.0 = (row_promises w t steady may.lock own).may_be_late stood.0 stands (sleeps_is (act_of (place_at w t)) may.asleep) timed in
+      ap (is_free_under w) (λ i. key_in (own i) (row i)) ∙ stood.2
 
 -- ---------------------------------------------------------------- what a thread is told
 
@@ -201,6 +175,11 @@ told_next l (next.End answer) = ((λ h. cc), λ h. cc)
 pub told_gone : (p : Place) (r : Reply) → (outcome_of (next_act p r) ≡ outcome.TheVariants.Sleep) ↔ (sleeps (act_of (next_place p r)) ≡ true)
 told_gone Idle r = ((λ h. cc), λ h. cc)
 told_gone (Mutex l at) r = told_next l (mutex_next at r)
+told_gone (RwLock l a p) r = by_next (rwlock_next a p r)
+  where
+    by_next : (n : Next RwLockPlace) → (outcome_of (rwlock_does l a n) ≡ outcome.TheVariants.Sleep) ↔ (sleeps (act_of (rwlock_goes l a n)) ≡ true)
+    by_next (next.At q) = told_act (rwlock_act l a q)
+    by_next (next.End answer) = ((λ h. cc), λ h. cc)
 
 pub told_step : (b : Bool) → b ≡ false → (outcome.TheVariants.Step ≡ outcome.TheVariants.Sleep) ↔ (b ≡ true)
 told_step true h = absurd cc
@@ -208,6 +187,16 @@ told_step false h = ((λ e. cc), λ e. cc)
 
 -- a call begins awake
 pub begins_awake : (k : Kind) (c : Call) → sleeps (act_of (first_place k c)) ≡ false
+begins_awake k (call.TheVariants.RwLock l c) = by_call c
+  where
+    by_call : (c : RwLockCall) → sleeps (rwlock_act l (admission_of k) (rwlock_first c)) ≡ false
+    by_call (rwlock_call.Enter access.Exclusive how) = refl
+    by_call (rwlock_call.Enter access.Shared how) = refl
+    by_call (rwlock_call.Enter access.Upgradable how) = refl
+    by_call (rwlock_call.Release x) = refl
+    by_call (rwlock_call.Downgrade d) = refl
+    by_call (rwlock_call.Upgrade Try) = refl
+    by_call (rwlock_call.Upgrade how) = refl
 begins_awake k (call.TheVariants.Mutex l c) = either (is_fair k) c
   where
     either : (fair : Bool) (c : MutexCall) → sleeps (act_of (Mutex l (mutex_first fair c))) ≡ false
@@ -291,18 +280,11 @@ gone_sections w t shape steady can = by_lock (lock_of (place_at w t)) refl
 -- ---------------------------------------------------------------- the other turns
 
 module _ (w : State) (t : ℕ) (there : t < length w.places) where
-  pub late_awake : (p : Place) → place_at w t ≡ p → is_free_under w (late_key p) ≡ true → sleeps (act_of (place_at (state_after_late_on w t (late_key p)) t)) ≡ false
-  late_awake (Mutex l (Lock entries.LockTimed r lock.Asleep)) is can = rw (get_or-set_same w.places t (next_place (place_at w t) Late) Idle there, is) refl
-  late_awake Idle is can = absurd cc
-  late_awake (Mutex l (Lock entries.Lock r lock.Asleep)) is can = absurd cc
-  late_awake (Mutex l (Lock entries.Bump r lock.Asleep)) is can = absurd cc
-  late_awake (Mutex l (Lock e r lock.First)) is can = absurd cc
-  late_awake (Mutex l (Lock e r a)) is can = absurd cc
-  late_awake (Mutex l TryLock) is can = absurd cc
-  late_awake (Mutex l (Unlock a)) is can = absurd cc
-  late_awake (Mutex l UnlockFair) is can = absurd cc
-  late_awake (Mutex l Bump) is can = absurd cc
-  late_awake (Mutex l (HandOff b a)) is can = absurd cc
+  pub late_awake : (o : Option ℕ) → late_key (place_at w t) ≡ o → is_free_under w o ≡ true → sleeps (act_of (place_at (state_after_late_on w t o) t)) ≡ false
+  late_awake None e can = absurd cc
+  late_awake (Some key) e can =
+      let of = late_line (place_at w t) key e in
+      ap (λ p. sleeps (act_of p)) (get_or-set_same w.places t (next_place (place_at w t) Late) Idle there) ∙ awake_is (act_of (next_place (place_at w t) Late)) (late_next (place_at w t) of.2.0 of.2.1).awake
 
 module _ (w : State) (t : ℕ) (shape : IsShaped w) where
   -- who is late enters the section of the line in which it sleeps
@@ -312,4 +294,4 @@ module _ (w : State) (t : ℕ) (shape : IsShaped w) where
       by_key : (o : Option ℕ) → late_key p ≡ o → is_free_under w o ≡ true → (key : ℕ) → SectionChanges (section_at w key) t (section_at (state_after_late_on w t o) key)
       by_key None e can key = absurd cc
       by_key (Some k) e can key = let of = late_line p k e in
-          filled_changes w t k (Some t) (subst (λ j. j < length w.sections) (sym of.2.1) (key_there w of.0 of.2.0 shape (calls_there (length w.locks) p of.0 of.1 fits))) (inr (inl (none_is (section_at w k) can, refl))) key
+          filled_changes w t k (Some t) (subst (λ j. j < length w.sections) (sym of.2.2) (key_there w of.0 of.2.0 shape (calls_there (length w.locks) p of.0 of.1 fits))) (inr (inl (none_is (section_at w k) can, refl))) key

@@ -1,8 +1,8 @@
 -- One run of the world, and what its definitions refuse.
-use Rattle.std.proofs.Common.{ℕ, zero, suc, true, false, Some, None, ◌≡◌, inl, inr, [], ◌∷◌, refl, sym, ◌∙◌, arith}
+use Rattle.std.proofs.Common.{ℕ, zero, suc, true, Some, None, ◌≡◌, inl, inr, [], ◌∷◌, refl, sym, ◌∙◌, arith, Option}
 use Rattle.lot_calls.specs.declared.kinds.Kind.TheVariants as kind
 use Rattle.lot_machine.specs.Machine.{after_all}
-use Rattle.abstract_locks.specs.Sites.{Main}
+use Rattle.abstract_locks.specs.Sites.{Line, Main}
 use Rattle.lot_world.specs.Promises.{IsLookedAfter}
 use Rattle.lot_world.specs.Laws.{FairUnlockHandsOver, NoWaiterIsForgotten, NobodyIsPassedOver, three, row, row_told, forgotten}
 use Rattle.lot_machine.proofs.Shape.{opening_shaped}
@@ -25,15 +25,15 @@ hands_over = record {
 -- nobody owes or retries
 nobody_looks : (u : ℕ) (h : IsLookedAfter forgotten 0 Main) → h.debtor ≡ u → ⊥
 nobody_looks zero h e = elim h.debt [
-  | inl owes ↦ let f : false ≡ true = rw e at owes.0 in cc
+  | inl owes ↦ let f : ◌≡◌ {A = Option Line} None (Some Main) = rw e at owes.0 in cc
   | inr retries ↦ let f : None ≡ Some 0 = rw e at retries.0 in cc
 ]
 nobody_looks (suc zero) h e = elim h.debt [
-  | inl owes ↦ let f : false ≡ true = rw e at owes.0 in cc
+  | inl owes ↦ let f : ◌≡◌ {A = Option Line} None (Some Main) = rw e at owes.0 in cc
   | inr retries ↦ let f : None ≡ Some 0 = rw e at retries.0 in cc
 ]
 nobody_looks (suc (suc u)) h e = elim h.debt [
-  | inl owes ↦ let f : false ≡ true = rw e at owes.0 in cc
+  | inl owes ↦ let f : ◌≡◌ {A = Option Line} None (Some Main) = rw e at owes.0 in cc
   | inr retries ↦ let f : None ≡ Some 0 = rw e at retries.0 in cc
 ]
 

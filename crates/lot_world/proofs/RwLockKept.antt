@@ -50,7 +50,7 @@ use Rattle.lot_rwlock.proofs.RwLockSections.{rwlock_sections_follow}
 use Rattle.lot_rwlock.proofs.RwLockMoves.{rwlock_acts_move, rwlock_sleepers_move, rwlock_late_moves}
 use Rattle.lot_steps.specs.declared.places.Place.{Place}
 use Rattle.lot_steps.specs.declared.places.Place.TheVariants.{Idle, Mutex, RwLock}
-use Rattle.lot_steps.specs.Steps.{next_place, profile, wants, rwlock_goes}
+use Rattle.lot_steps.specs.Steps.{next_place, profile, calls, rwlock_goes}
 use Rattle.abstract_locks.specs.Locks.{Rules, Sort, Normal, Recursive, Semaphore, count, one_if_some, standing}
 use Rattle.abstract_locks.specs.Locks as locks
 use Rattle.abstract_locks.specs.Sites.{Site, IsSite, Line, Main, Second, Begin, has_readers}
@@ -62,7 +62,7 @@ use Rattle.lot_machine.specs.Fits.{IsShaped}
 use Rattle.lot_machine.proofs.Shape.{main_key_there}
 use Rattle.lot_world.specs.Refinement.{lock_state, taken_at}
 use Rattle.lot_world.specs.MutexDeeds.{acts}
-use Rattle.lot_world.specs.Stations.{calls, station, doing_on}
+use Rattle.lot_world.specs.Stations.{station, doing_on}
 use Rattle.lot_world.specs.SitesOf.{IsSteady, Goes, CallsMutex, TakesOne, HasRoom, NotYet, is_mutex, rules_at, key_of}
 use Rattle.lot_world.proofs.Glue.{IsOf, next_of, parts_at, put_here, doing_here}
 use Rattle.lot_world.proofs.StandsMoved.{mutex_rules}
@@ -224,7 +224,6 @@ module _ (w : State) (t l : ℕ) (a : Admission) (p : RwLockPlace) (steady : IsS
         row = ap profile e;
         waits = rwlock_sleepers_move b q fits_u.1;
         taken = ap (λ y. profile (next_place y (TakenBy t))) e ∙ next_is k b (rwlock_next b q (TakenBy t));
-        wants_then = ap (λ y. wants (next_place y (TakenBy t))) e ∙ wants_next (rwlock_next b q (TakenBy t));
         woken = ap (λ y. profile (next_place y (Woken Normal))) e ∙ next_is k b (rwlock_next b q (Woken Normal));
         taken_fits = subst (λ y. CallsMutex w (next_place y (TakenBy t))) (sym e) (by_next (rwlock_next b q (TakenBy t)) (rwlock_calls_stand b q (TakenBy t) fits_u.1 (told_other b q q.at (TakenBy t) tt)));
         woken_fits = subst (λ y. CallsMutex w (next_place y (Woken Normal))) (sym e) (by_next (rwlock_next b q (Woken Normal)) (rwlock_calls_stand b q (Woken Normal) fits_u.1 (told_other b q q.at (Woken Normal) tt)));
@@ -236,10 +235,6 @@ module _ (w : State) (t l : ℕ) (a : Admission) (p : RwLockPlace) (steady : IsS
           by_next : (n : Next RwLockPlace) → MayStandNext b n → CallsMutex w (rwlock_goes k b n)
           by_next (next.At y) h = (fits_u.0, h, fits_u.2)
           by_next (next.End answer) h = tt
-
-          wants_next : (n : Next RwLockPlace) → wants (rwlock_goes k b n) ≡ (row_of (next_row b n)).wants
-          wants_next (next.At y) = refl
-          wants_next (next.End answer) = refl
 
   -- ---------------------------------------------------------------- each act
 

@@ -24,10 +24,10 @@ use Rattle.lot_acts.specs.declared.acts.Act as act
 use Rattle.lot_acts.specs.declared.acts.Wakes as wakes
 use Rattle.lot_acts.specs.declared.acts.Reply.{Reply}
 use Rattle.lot_acts.specs.declared.acts.Reply.TheVariants.{Value, Woken, TakenBy, HandedBy}
-use Rattle.lot_mutex.specs.MutexSteps.{mutex_owners, hand_off_word}
+use Rattle.lot_mutex.specs.MutexSteps.{mutex_owners, hand_off_word, mutex_next}
 use Rattle.lot_acts.specs.Owners.{with_exclusive}
 use Rattle.lot_steps.specs.Steps.{next_place}
-use Rattle.abstract_locks.specs.Locks.{TakeFirst, putting}
+use Rattle.abstract_locks.specs.Locks.{TakeFirst, putting, IsLockState}
 use Rattle.abstract_locks.specs.Sites.{Doing, Site, IsSite, Deed, Main, Second, In, Out, Case, idle, leaves, wakened, found, is_empty, has_readers}
 use Rattle.abstract_locks.specs.Codes.{code, fills}
 pub use Rattle.lot_world.proofs.OneStep.{acts_keep}
@@ -35,13 +35,13 @@ use Rattle.lot_world.proofs.WakesKept.{IsWoken, wake_goes}
 pub use Rattle.lot_world.proofs.ActsKept.{AlikeAt, alike_put, lock_by, follows_by, goes_steady, operated, word_goes, place_goes, enter_goes, leave_goes, nobody_inside}
 use Rattle.std.specs.Prelude.{sum}
 use Rattle.lot_machine.specs.Machine.{State, shares_handed_over, unlocked, place_at, word_at, owners_at, shares_at, filled_at, kind_at, queue_at, put, state_with_sections, section_at, queues_without_first, state_after_reply, state_after_telling, state_after_hand_over, state_after_act, reply_to}
-use Rattle.lot_world.specs.Refinement.{taken_at}
+use Rattle.lot_world.specs.Refinement.{taken_at, lock_state}
 use Rattle.abstract_locks.specs.Picks.{queued_of}
 use Rattle.lot_world.specs.MutexDeeds.{mutex_doing, mutex_deeds, mutex_station, acts, owner, queued}
 use Rattle.lot_world.specs.Stations.{Station, hand, nowhere, station, doing_on}
 use Rattle.lot_world.specs.MutexDeeds as deeds
 use Rattle.lot_world.specs.SitesOf.{SameNumbers, TakesOne, rules_at, AllNeeded, IsSteady, Follows, Goes, CallsMutex, carried_at, hand_at, after_acts}
-use Rattle.lot_world.proofs.Glue.{base_at, seen_in, seen, goes_from, put_places, put_here, put_other, IsOf, next_of, own_stance, leaving, taking, told_one, successor_one, none_given, tries, accepts, lets_nobody, IsTakenAt, is_taken, IsHandedAt, is_handed, untaken, handing, hands_acts}
+use Rattle.lot_world.proofs.Glue.{base_at, seen_in, seen, goes_from, put_places, put_here, put_other, IsOf, next_of, own_stance, leaving, taking, told_one, successor_one, none_given, tries, accepts, lets_nobody, IsTakenAt, is_taken, IsHandedAt, is_handed, untaken, handing, hands_acts, IsMutexCall, WantsAlone, mutex_calls, held_alone, IsMutexOf, own_of, next_mutex}
 use Rattle.lot_world.proofs.MutexTable.{mutex, parts, IsCode, OnWord, MutexSteps, own_doing, goes_in as goes_into}
 use Rattle.lot_world.proofs.KindsKept.{given_kinds, given_filled, given_shares}
 use Rattle.lot_world.specs.SitesOf.{is_mutex}
@@ -100,6 +100,14 @@ unshared_at w t l at steady is = mutex_unshared w l steady (mutex_rules (kind_at
 pub single_at : (w : State) (t l : ℕ) (at : MutexPlace) → IsSteady w → place_at w t ≡ Mutex l at → TakesOne w l
 single_at w t l at steady is = takes_one w l (mutex_rules (kind_at w l) (let c : CallsMutex w (Mutex l at) = rw is at (steady.stands.calls t) in c))
 
+-- who calls it calls a mutex
+pub mutexes_at : (w : State) (t l : ℕ) (at : MutexPlace) → IsSteady w → place_at w t ≡ Mutex l at → (u : ℕ) → IsMutexCall l (place_at w u)
+mutexes_at w t l at steady is u = mutex_calls w l (place_at w u) (steady.stands.calls u) (mutex_rules (kind_at w l) (let c : CallsMutex w (Mutex l at) = rw is at (steady.stands.calls t) in c))
+
+-- so whom it has in hand wants to own alone
+pub alone_at : (w : State) (t l : ℕ) (at : MutexPlace) → IsSteady w → place_at w t ≡ Mutex l at → (u : ℕ) → WantsAlone t (place_at w u)
+alone_at w t l at steady is = held_alone (place_at w) steady.stands.hands t l (rw is refl) (mutexes_at w t l at steady is)
+
 -- ---------------------------------------------------------------- what the acts change
 
 -- what the act of a thread leads to
@@ -134,7 +142,7 @@ module _ (w : State) (t l : ℕ) (at : MutexPlace) (steady : IsSteady w) (is : p
   plain : has_readers mutex.sort ≡ true → ⊥
   plain h = cc
 
-  fits : (p2 : Place) → IsOf l p2 → CallsMutex w p2
+  fits : (p2 : Place) → IsMutexOf l p2 → CallsMutex w p2
   fits p2 of = calls_of w l p2 of of_mutex
 
   hand_none : taken_at (Mutex l at) l ≡ None → taken_at (place_at w t) l ≡ None
@@ -142,14 +150,14 @@ module _ (w : State) (t l : ℕ) (at : MutexPlace) (steady : IsSteady w) (is : p
 
   -- a step on the word
   pub word_keeps : l < length w.locks → (f : Op) → OnWord l (base_at w l) (word_at w l) (owners_at w l) (queue_at w (2 * l)) (queue_at w (2 * l + 1)) (place_at w) t at f → Goes w (go_by w t (Mutex l at) (act.TheVariants.Word l f)) l (acts t (mutex_deeds at None (Value (word_at w l))))
-  word_keeps lt f on = word_goes w t l steady own there mutex rules p2 of (fits p2 of) (Mutex l at) lt (rw steady.numbers.locks lt) f (mutex_deeds at None (Value (word_at w l))) (λ h. absurd (plain h))
+  word_keeps lt f on = word_goes w t l steady own there mutex rules p2 (own_of l p2 of) (fits p2 of) (Mutex l at) lt (rw steady.numbers.locks lt) f (mutex_deeds at None (Value (word_at w l))) (λ h. absurd (plain h))
       (record { site = (λ i. seen_in mutex l (same_parts i) (putting (place_at w) t p2)) ∙ on.steps.site; needed = on.steps.needed }) on.code (on.same ∙ sym station_is_at)
     where
       p2 : Place
       p2 = next_place (Mutex l at) (Value (word_at w l))
 
-      of : IsOf l p2
-      of = next_of l (Mutex l at) (Value (word_at w l)) refl
+      of : IsMutexOf l p2
+      of = next_mutex l l (mutex_next at (Value (word_at w l))) refl
 
       -- no mutex is ever full
       same_parts : operated w t (Mutex l at) l f ≡ parts (base_at w l) (apply f (word_at w l)) (mutex_owners at t (word_at w l) (owners_at w l)) (queue_at w (2 * l)) (queue_at w (2 * l + 1))
@@ -158,28 +166,28 @@ module _ (w : State) (t l : ℕ) (at : MutexPlace) (steady : IsSteady w) (is : p
       }
 
   -- a place that changes alone
-  pub place_keeps : (p2 : Place) (ds : List Deed) → IsOf l p2
+  pub place_keeps : (p2 : Place) (ds : List Deed) → IsMutexOf l p2
       → MutexSteps l (base_at w l) (word_at w l) (word_at w l) (owners_at w l) (owners_at w l) (queue_at w (2 * l)) (queue_at w (2 * l)) (queue_at w (2 * l + 1)) (place_at w) t p2 ds → station p2 ≡ mutex_station at → Goes w (put w t p2) l (acts t ds)
-  place_keeps p2 ds of steps e = place_goes w t l steady own there mutex rules p2 of (fits p2 of) ds (λ h. absurd (plain h)) steps (e ∙ sym station_is_at)
+  place_keeps p2 ds of steps e = place_goes w t l steady own there mutex rules p2 (own_of l p2 of) (fits p2 of) ds (λ h. absurd (plain h)) steps (e ∙ sym station_is_at)
 
   section_set : 2 * l < length w.sections → (who : Option ℕ) → Changed (section_at w) (section_at (state_with_sections w (One (2 * l)) who)) (2 * l) who
   section_set line who = changed_set (λ x. x) w.sections (2 * l) who None line
 
   -- into a section that is free
-  pub enter_keeps : 2 * l < length w.sections → (p2 : Place) → IsOf l p2 → taken_at (Mutex l at) l ≡ None → taken_at p2 l ≡ None → section_at w (2 * l) ≡ None → (mutex_doing at).inside ≡ None → (mutex_doing at).empty ≡ None → doing_on p2 l ≡ record (mutex_doing at) { inside = Some Main }
+  pub enter_keeps : 2 * l < length w.sections → (p2 : Place) → IsMutexOf l p2 → taken_at (Mutex l at) l ≡ None → taken_at p2 l ≡ None → section_at w (2 * l) ≡ None → (mutex_doing at).inside ≡ None → (mutex_doing at).empty ≡ None → doing_on p2 l ≡ record (mutex_doing at) { inside = Some Main }
       → station p2 ≡ record (mutex_station at) { inside = Some Main } → Goes w (put (state_with_sections w (One (2 * l)) (Some t)) t p2) l (acts t (In Main ∷ []))
-  enter_keeps line p2 of none none2 free i e own_is s = enter_goes w t l steady own there mutex rules p2 of (fits p2 of) Main line free (ap (λ (x : Station). x.inside) station_is_at ∙ i)
+  enter_keeps line p2 of none none2 free i e own_is s = enter_goes w t l steady own there mutex rules p2 (own_of l p2 of) (fits p2 of) Main line free (ap (λ (x : Station). x.inside) station_is_at ∙ i)
       (goes_into l (base_at w l) (word_at w l) (word_at w l) (owners_at w l) (queue_at w (2 * l)) (queue_at w (2 * l + 1)) (place_at w) t p2 site_l (mutex_doing at) (own_doing l (place_at w t) at is) (hand_none none) none2 refl
-      (nobody_inside w t l steady own there mutex rules p2 of (fits p2 of) Main free) i e own_is)
+      (nobody_inside w t l steady own there mutex rules p2 (own_of l p2 of) (fits p2 of) Main free) i e own_is)
       (s ∙ sym (ap (λ (x : Station). record x { inside = Some Main }) station_is_at))
 
   pub out_needed : (mutex_doing at).inside ≡ Some Main → (mutex_doing at).wakes ≡ None → AllNeeded mutex (acts t (Out ∷ [])) (mutex_at w l)
   out_needed i k = ((rw (own_doing l (place_at w t) at is) ((λ h. let g : None ≡ Some Main = sym h ∙ i in cc), k, refl)), tt)
 
   -- out of its own, where nobody is in its hand
-  pub leave_keeps : 2 * l < length w.sections → (p2 : Place) → IsOf l p2 → taken_at (Mutex l at) l ≡ None → taken_at p2 l ≡ None → doing_on p2 l ≡ leaves (mutex_doing at) → (mutex_doing at).inside ≡ Some Main → (mutex_doing at).wakes ≡ None → (mutex_station at).carries ≡ None
+  pub leave_keeps : 2 * l < length w.sections → (p2 : Place) → IsMutexOf l p2 → taken_at (Mutex l at) l ≡ None → taken_at p2 l ≡ None → doing_on p2 l ≡ leaves (mutex_doing at) → (mutex_doing at).inside ≡ Some Main → (mutex_doing at).wakes ≡ None → (mutex_station at).carries ≡ None
       → station p2 ≡ record (mutex_station at) { inside = None } → Goes w (put (state_with_sections w (One (2 * l)) None) t p2) l (acts t (Out ∷ []))
-  leave_keeps line p2 of none none2 e i k nobody s = leave_goes w t l steady own there mutex rules p2 of (fits p2 of) Main line (ap (λ (x : Station). x.inside) station_is_at ∙ i) (Out ∷ []) (λ h. tt)
+  leave_keeps line p2 of none none2 e i k nobody s = leave_goes w t l steady own there mutex rules p2 (own_of l p2 of) (fits p2 of) Main line (ap (λ (x : Station). x.inside) station_is_at ∙ i) (Out ∷ []) (λ h. tt)
       (record {
         site = leaving mutex l (base_at w l) (word_at w l) (owners_at w l) (queue_at w (2 * l)) (queue_at w (2 * l + 1)) (place_at w) _ t (hand_none none) (ap (λ y. taken_at y l) (put_here (place_at w) t p2) ∙ none2)
             (ap (λ y. doing_on y l) (put_here (place_at w) t p2) ∙ e ∙ sym (ap leaves (own_doing l (place_at w t) at is)))
@@ -194,11 +202,11 @@ module _ (w : State) (t l : ℕ) (at : MutexPlace) (steady : IsSteady w) (is : p
 
   -- whom it had taken tries again, and whom it handed the lock has it
   woken_taken : (u : ℕ) → hand_at (place_at w u) l ≡ hand t false → IsWoken w t l false note.Normal (place_at w u)
-  woken_taken u held = let k : IsTakenAt (place_at w u) t l = is_taken (place_at w u) t l held in
+  woken_taken u held = let k : IsTakenAt (place_at w u) t l = is_taken (place_at w u) t l (mutexes_at w t l at steady is u) held in
       record { lets = rw k.is (tries t l k.entry k.retries); was = rw k.is refl; free = rw k.is refl; fits = rw k.is of_mutex }
 
   woken_handed : (u : ℕ) → hand_at (place_at w u) l ≡ hand t true → IsWoken w t l true note.HandOff (place_at w u)
-  woken_handed u held = let k : IsHandedAt (place_at w u) t l = is_handed (place_at w u) t l held in
+  woken_handed u held = let k : IsHandedAt (place_at w u) t l = is_handed (place_at w u) t l (mutexes_at w t l at steady is u) held in
       record { lets = rw k.is (accepts t l t k.entry k.retries); was = rw k.is refl; free = rw k.is refl; fits = rw k.is of_mutex }
 
   -- who has taken somebody has handed nobody the lock, and the other way round
@@ -206,9 +214,9 @@ module _ (w : State) (t l : ℕ) (at : MutexPlace) (steady : IsSteady w) (is : p
   not_both b c carries u held = let a : carried_at (place_at w t) l ≡ Some c = steady.stands.hands.taken t u l c held in let d : carried_at (place_at w t) l ≡ Some b = ap (λ (y : Station). y.carries) (own_stance l (place_at w t) at is) ∙ carries in let e : Some b ≡ Some c = sym d ∙ a in cc
 
   -- out of its own, and whom it has in hand is told
-  pub wake_keeps : 2 * l < length w.sections → (b : Bool) (x : Note) (p2 : Place) → IsOf l p2 → ((u : ℕ) → hand_at (place_at w u) l ≡ hand t b → IsWoken w t l b x (place_at w u)) → taken_at (Mutex l at) l ≡ None → taken_at p2 l ≡ None → doing_on p2 l ≡ leaves (mutex_doing at) → (mutex_doing at).inside ≡ Some Main → (mutex_doing at).wakes ≡ None
+  pub wake_keeps : 2 * l < length w.sections → (b : Bool) (x : Note) (p2 : Place) → IsMutexOf l p2 → ((u : ℕ) → hand_at (place_at w u) l ≡ hand t b → IsWoken w t l b x (place_at w u)) → taken_at (Mutex l at) l ≡ None → taken_at p2 l ≡ None → doing_on p2 l ≡ leaves (mutex_doing at) → (mutex_doing at).inside ≡ Some Main → (mutex_doing at).wakes ≡ None
       → mutex_station at ≡ record nowhere { inside = Some Main; carries = Some b } → station p2 ≡ nowhere → Goes w (put (state_after_telling (state_with_sections w (One (2 * l)) None) t (Woken x)) t p2) l (acts t (Out ∷ []))
-  wake_keeps line b x p2 of woken none none2 e i k was is_p2 = wake_goes w t l steady own there p2 of (fits p2 of) x
+  wake_keeps line b x p2 of woken none none2 e i k was is_p2 = wake_goes w t l steady own there p2 (own_of l p2 of) (fits p2 of) x
       (λ u c held. let same_one : b ≡ c = not_both b c (ap (λ (y : Station). y.carries) was) u held in subst (λ y. IsWoken w t l y x (place_at w u)) same_one (woken u (subst (λ y. hand_at (place_at w u) l ≡ hand t y) (sym same_one) held)))
       (ap (λ (y : Station). y.hand) (station_is_at ∙ was)) (ap (λ (y : Station). y.carries) is_p2) (ap (λ (y : Station). y.hand) is_p2)
       Main line (ap (λ (y : Station). y.inside) (station_is_at ∙ was)) (ap (λ (y : Station). y.stands) is_p2 ∙ sym (ap (λ (y : Station). y.stands) (station_is_at ∙ was))) (ap (λ (y : Station). y.waits) is_p2 ∙ sym (ap (λ (y : Station). y.waits) (station_is_at ∙ was))) (ap (λ (y : Station). y.inside) is_p2)
@@ -229,7 +237,7 @@ module _ (w : State) (t l : ℕ) (steady : IsSteady w) (there : t < length w.pla
   release_wakes line is = wake_keeps w t l (Unlock (unlock.Leave true)) steady is there line false note.Normal Idle tt (woken_taken w t l (Unlock (unlock.Leave true)) steady is there) refl refl refl refl refl refl refl
 
   -- a fair one leaves, and tells the one that it handed the lock
-  pub tells : 2 * l < length w.sections → (bumps : Bool) (is : place_at w t ≡ Mutex l (HandOff bumps (hand_off.Leave true))) (p2 : Place) → IsOf l p2 → taken_at p2 l ≡ None → doing_on p2 l ≡ idle → station p2 ≡ nowhere → Goes w (put (state_after_telling (state_with_sections w (One (2 * l)) None) t (Woken note.HandOff)) t p2) l (acts t (Out ∷ []))
+  pub tells : 2 * l < length w.sections → (bumps : Bool) (is : place_at w t ≡ Mutex l (HandOff bumps (hand_off.Leave true))) (p2 : Place) → IsMutexOf l p2 → taken_at p2 l ≡ None → doing_on p2 l ≡ idle → station p2 ≡ nowhere → Goes w (put (state_after_telling (state_with_sections w (One (2 * l)) None) t (Woken note.HandOff)) t p2) l (acts t (Out ∷ []))
   tells line bumps is p2 of none e s = wake_keeps w t l (HandOff bumps (hand_off.Leave true)) steady is there line true note.HandOff p2 of (woken_handed w t l (HandOff bumps (hand_off.Leave true)) steady is there) refl none e refl refl refl s
 
   -- the store that hands the lock over
@@ -237,15 +245,15 @@ module _ (w : State) (t l : ℕ) (steady : IsSteady w) (there : t < length w.pla
   hands_over lt bumps none_left u is held = subst (λ (z : State). Goes w (put z t p2) l (acts t (deeds.hands_over (Some u) none_left) ++ deeds.claims_of (Some u))) (sym told) (record {
     follows = follow w after l (rules w t l at steady is there) (putting (putting (place_at w) u pu) t p2) (if none_left then 1 else 3) (with_exclusive (owners_at w l) (Some u)) (queue_at w (2 * l)) places
         (record { threads = length-set (set w.places u pu) t p2 ∙ length-set w.places u pu; locks = length-set w.locks l _; shares = length-set w.shares l (shares_handed_over w t l) })
-        (λ k i. record { shared = ((λ j. get_or (set w.shares l (shares_handed_over w t l)) k (replicate ((length-set (set w.places u pu) t p2 ∙ length-set w.places u pu) j) 0)) ∙ given_shares w t l (none_given t w.places (shares_at w l)) k) i; filled = given_filled w t (Mutex l at) l (op.Store (hand_off_word true none_left)) (rules w t l at steady is there) k i })
+        (λ k i. record { shared = ((λ j. get_or (set w.shares l (shares_handed_over w t l)) k (replicate ((length-set (set w.places u pu) t p2 ∙ length-set w.places u pu) j) 0)) ∙ given_shares w t l (none_given t w.places (shares_at w l) (alone_at w t l at steady is)) k) i; filled = given_filled w t (Mutex l at) l (op.Store (hand_off_word true none_left)) (rules w t l at steady is there) k i })
         (changed_set (λ x. x.word) w.locks l _ (unlocked kind.TheVariants.Mutex) lt) owners_given
         (unchanged (λ k. queue_at w (2 * k)) l) (λ k. refl) same_kinds
         (λ k ne x. alike_both l k (place_at w) u pu t p2 of_u of_pu own_t refl apart ne x)
-        (hands_acts mutex l (base_at w l) (word_at w l) (owners_at w l) (queue_at w (2 * l)) (queue_at w (2 * l + 1)) (place_at w) (TakesOne w) steady.stands.hands (single w t l at steady is there) t u bumps none_left refl unshared is held none_left)
-        (handing mutex l (base_at w l) (word_at w l) (owners_at w l) (queue_at w (2 * l)) (queue_at w (2 * l + 1)) (place_at w) (TakesOne w) steady.stands.hands (single w t l at steady is there) t u bumps none_left refl unshared is held none_left refl)
-        (hands_needed l (base_at w l) (word_at w l) (owners_at w l) (queue_at w (2 * l)) (queue_at w (2 * l + 1)) (place_at w) (TakesOne w) steady.stands.hands (single w t l at steady is there) t u bumps none_left is held (site_l w t l at steady is there) none_left refl)
+        (hands_acts mutex l (base_at w l) (word_at w l) (owners_at w l) (queue_at w (2 * l)) (queue_at w (2 * l + 1)) (place_at w) (TakesOne w) steady.stands.hands (single w t l at steady is there) (mutexes_at w t l at steady is) t u bumps none_left refl state is held none_left)
+        (handing mutex l (base_at w l) (word_at w l) (owners_at w l) (queue_at w (2 * l)) (queue_at w (2 * l + 1)) (place_at w) (TakesOne w) steady.stands.hands (single w t l at steady is there) (mutexes_at w t l at steady is) t u bumps none_left refl state is held none_left refl)
+        (hands_needed l (base_at w l) (word_at w l) (owners_at w l) (queue_at w (2 * l)) (queue_at w (2 * l + 1)) (place_at w) (TakesOne w) steady.stands.hands (single w t l at steady is there) (mutexes_at w t l at steady is) t u bumps none_left is held (site_l w t l at steady is there) none_left refl)
         (coded none_left);
-    stands = hands_lock w after steady.stands same_kinds l t u apart (of_mutex w t l at steady is there) own_t of_u p2 pu refl of_pu places (λ key. refl) (λ key. refl) (ap station is) (rw there_u.is refl) refl (rw there_u.is refl);
+    stands = hands_lock w after steady.stands same_kinds l t u apart (of_mutex w t l at steady is there) own_t of_u p2 pu refl of_pu (of_mutex w t l at steady is there) (rw there_u.is (of_mutex w t l at steady is there)) places (λ key. refl) (λ key. refl) (ap station is) (rw there_u.is refl) refl (rw there_u.is refl);
   })
     where
       at : MutexPlace
@@ -258,7 +266,7 @@ module _ (w : State) (t l : ℕ) (steady : IsSteady w) (there : t < length w.pla
       pu = next_place (place_at w u) (HandedBy t)
 
       there_u : IsTakenAt (place_at w u) t l
-      there_u = is_taken (place_at w u) t l held
+      there_u = is_taken (place_at w u) t l (mutexes_at w t l at steady is u) held
 
       own_t : IsOf l (place_at w t)
       own_t = rw is refl
@@ -283,7 +291,7 @@ module _ (w : State) (t l : ℕ) (steady : IsSteady w) (there : t < length w.pla
 
       owners_given : Changed (owners_at w) (owners_at after) l (with_exclusive (owners_at w l) (Some u))
       owners_given = record {
-        here = ap (λ x. x.owners) (get_or-set_same w.locks l _ (unlocked kind.TheVariants.Mutex) lt) ∙ successor_one w t l u false steady.stands.hands (single w t l at steady is there) own_t held (unshared_at w t l at steady is) (with_exclusive (owners_at w l) None);
+        here = ap (λ x. x.owners) (get_or-set_same w.locks l _ (unlocked kind.TheVariants.Mutex) lt) ∙ successor_one w t l u false steady.stands.hands (single w t l at steady is there) own_t held (alone_at w t l at steady is) (unshared_at w t l at steady is) (with_exclusive (owners_at w l) None);
         other = λ k ne. ap (λ x. x.owners) (get_or-set_other w.locks l k _ (unlocked kind.TheVariants.Mutex) ne);
       }
 
@@ -291,8 +299,8 @@ module _ (w : State) (t l : ℕ) (steady : IsSteady w) (there : t < length w.pla
       places = put_places (state_after_reply before u (HandedBy t)) t p2 (λ h. absurd (let a : length (set w.places u pu) ≡ length w.places = length-set w.places u pu in omega arith))
           ∙ ap (λ (f : ℕ → Place). putting f t p2) (goes_from w u (HandedBy t))
 
-      unshared : sum (shares_at w l) ≡ 0
-      unshared = mutex_unshared w l steady (rules w t l at steady is there)
+      state : IsLockState mutex (lock_state w l)
+      state = (site_l w t l at steady is there).state
 
       coded : (b : Bool) → IsCode (if b then 1 else 3) (Some u)
       coded true = refl
@@ -312,7 +320,7 @@ module _ (w : State) (t l : ℕ) (at : MutexPlace) (steady : IsSteady w) (is : p
   site_first : IsSite mutex (seen l (base_at w l) (word_at w l) (owners_at w l) (x ∷ rest) (queue_at w (2 * l + 1)) (place_at w))
   site_first = subst (λ (q : List Waiter). IsSite mutex (seen l (base_at w l) (word_at w l) (owners_at w l) q (queue_at w (2 * l + 1)) (place_at w))) first (site_l w t l at steady is there)
 
-  pub take_keeps : (p2 : Place) → IsOf l p2 → taken_at (Mutex l at) l ≡ None → taken_at p2 l ≡ None → (mutex_station at).carries ≡ None → (mutex_station at).hand ≡ None → (mutex_doing at).inside ≡ Some Main → (mutex_doing at).carries ≡ false → (mutex_doing at).wakes ≢ Some Second
+  pub take_keeps : (p2 : Place) → IsMutexOf l p2 → taken_at (Mutex l at) l ≡ None → taken_at p2 l ≡ None → (mutex_station at).carries ≡ None → (mutex_station at).hand ≡ None → (mutex_doing at).inside ≡ Some Main → (mutex_doing at).carries ≡ false → (mutex_doing at).wakes ≢ Some Second
       → doing_on p2 l ≡ record (mutex_doing at) { wakes = None; carries = true; covers = true; empty = found Main (is_empty (map queued_of rest)) }
       → station p2 ≡ record (mutex_station at) { carries = Some false }
       → Goes w (put (state_after_reply (record w { queues = queues_without_first w.queues (2 * l) }) x.thread (TakenBy t)) t p2) l (acts t (Case (TakeFirst (queued x.thread)) ∷ []))
@@ -322,14 +330,14 @@ module _ (w : State) (t l : ℕ) (at : MutexPlace) (steady : IsSteady w) (is : p
         (unchanged (word_at w) l) (unchanged (owners_at w) l)
         (subst (λ (y : List Waiter). Changed (λ k. queue_at w (2 * k)) (λ k. get_or (queues_without_first w.queues (2 * l)) (2 * k) []) l y) (ap (drop 1) first) (changed_main w.queues l (drop 1 (queue_at w (2 * l))) [] line))
         (λ k. get_or-set_other w.queues (2 * l) (2 * k + 1) (drop 1 (queue_at w (2 * l))) [] (λ h. omega arith)) (λ k. refl)
-        (λ k ne y. alike_both l k (place_at w) x.thread px t p2 of_x of_px own_t of apart ne y)
+        (λ k ne y. alike_both l k (place_at w) x.thread px t p2 of_x of_px own_t (own_of l p2 of) apart ne y)
         (acts t (Case (TakeFirst (queued x.thread)) ∷ []))
         (taking mutex l (base_at w l) (word_at w l) (owners_at w l) (queue_at w (2 * l + 1)) rest x (place_at w) t entry retries refl asleep (first_wants l (base_at w l) (word_at w l) (owners_at w l) (queue_at w (2 * l + 1)) rest x (place_at w) t site_first) apart p2
         (ap (λ y. taken_at y l) is ∙ none) none2 (e ∙ sym (ap (λ (d : Doing). record d { wakes = None; carries = true; covers = true; empty = found Main (is_empty (map queued_of rest)) }) (own_doing l (place_at w t) at is)))
         ∙ same_lines)
         needed
         (word_l w t l at steady is there);
-    stands = takes w after steady.stands (λ k. refl) l t x.thread apart (of_mutex w t l at steady is there) own_t of_x p2 px of of_px places rest x (λ key. refl)
+    stands = takes w after steady.stands (λ k. refl) l t x.thread apart (of_mutex w t l at steady is there) own_t of_x p2 px (own_of l p2 of) of_px (fits w t l at steady is there p2 of) (rw asleep (of_mutex w t l at steady is there)) places rest x (λ key. refl)
         (λ key ne. get_or-set_other w.queues (2 * l) key (drop 1 (queue_at w (2 * l))) [] (λ h. ne h)) first (get_or-set_same w.queues (2 * l) (drop 1 (queue_at w (2 * l))) [] line ∙ ap (drop 1) first) refl
         (ap (λ (y : Place). (station y).carries) is ∙ nobody) (ap (λ (y : Place). (station y).hand) is ∙ free) (Some Exclusive) (rw asleep refl) (s ∙ sym (ap (λ y. record (station y) { carries = Some false }) is)) (rw asleep refl);
   }

@@ -58,18 +58,18 @@ use Rattle.lot_world.proofs.MutexEvents.{free_word, owned_word}
 use Rattle.lot_world.proofs.MutexCalls.{decides}
 use Rattle.lot_world.proofs.LockSteps.{purpose_is}
 use Rattle.lot_world.proofs.Counts.{first_times}
-use Rattle.lot_world.proofs.Glue.{nothing_at, IsTakenAt, put_here, station_here, own_stance, successor_one, same}
+use Rattle.lot_world.proofs.Glue.{nothing_at, IsTakenAt, put_here, station_here, own_stance, successor_one, same, mutex_calls}
 use Rattle.lot_world.proofs.SitesPromise.{parked_at}
 use Rattle.lot_mutex.specs.declared.places.MutexPlace.{MutexPlace}
 use Rattle.lot_acts.specs.declared.acts.Whom as whoms
 use Rattle.lot_world.proofs.LockEvents.{taken_place}
-use Rattle.lot_world.proofs.SitesKept.{go_by, mutex_unshared, unshared_at, single_at}
+use Rattle.lot_world.proofs.SitesKept.{go_by, mutex_unshared, unshared_at, single_at, alone_at}
 use Rattle.lot_acts.specs.declared.owners.Owners.{Owners}
 use Rattle.lot_acts.specs.Owners.{with_exclusive}
 use Rattle.lot_world.proofs.GoneKept.{gone_goes}
 use Rattle.lot_world.proofs.RwLockSolo.{rwlock_rests, word_small, is_ready}
 use Rattle.lot_rwlock.specs.RwLockBegins.{admission_of, rwlock_first}
-use Rattle.lot_world.proofs.AtPlaces.{coded as words_coded, coded_for, absent, owns}
+use Rattle.lot_world.proofs.AtPlaces.{coded as words_coded, coded_for, rules_for, absent, owns}
 use Rattle.lot_world.proofs.SoloActs.{Leads, leads_rest, leads_step, leads_more, leads_so, Facing, Faces, word_faces, enter_faces, leave_faces, wake_faces, hand_faces, accept_faces, park_faces, unparked_faces, remove_faces, take_faces, act_led}
 
 -- ---------------------------------------------------------------- lock
@@ -266,11 +266,11 @@ unparked_below (suc zero) h = refl
 unparked_below (suc (suc v)) h = absurd (omega arith)
 
 -- where the parked bit is clear nobody waits
-none_waits : (t l : ℕ) (p : Place) (v : ℕ) (o s : Option ℕ) (q : List Waiter) (w : State) → Facing w t l p v o s q → v < 2 → q ≡ []
-none_waits t l p v o s [] w f below = refl
-none_waits t l p v o s (x ∷ q) w f below = absurd (
+none_waits : (t l : ℕ) (at : MutexPlace) (v : ℕ) (o s : Option ℕ) (q : List Waiter) (w : State) → Facing w t l (Mutex l at) v o s q → v < 2 → q ≡ []
+none_waits t l at v o s [] w f below = refl
+none_waits t l at v o s (x ∷ q) w f below = absurd (
     let first : first_of (queue_at w (2 * l)) ≡ Some x.thread = ap first_of f.queue in
-    let parked : is_parked v ≡ true = subst (λ n. is_parked n ≡ true) f.word (parked_at w f.steady x.thread l (first_times x.thread (queue_at w (2 * l)) first)) in
+    let parked : is_parked v ≡ true = subst (λ n. is_parked n ≡ true) f.word (parked_at w f.steady x.thread l (rules_for w f.steady t l at f.place) (first_times x.thread (queue_at w (2 * l)) first)) in
     let clear : is_parked v ≡ false = unparked_below v below in cc
     )
 
@@ -312,10 +312,10 @@ module _ (t l : ℕ) where
         let who : Some u ≡ Some x.thread = ap first_thread first in
         let same_one : u ≡ x.thread = cc in
         let hand : taken_at (place_at taken_then u) l ≡ Some (record { by = t; want = Exclusive }) = ap (λ (z : Site). z.lock.taken u) goes.follows.site ∙ put_here (λ k. taken_at (place_at w k) l) u (Some (record { by = t; want = Exclusive })) in
-        taken_place (place_at taken_then x.thread) t l (rw (← same_one, hand) (same t))
+        taken_place (place_at taken_then x.thread) t l (mutex_calls taken_then l (place_at taken_then x.thread) (goes.stands.calls x.thread) (ap rules_of (goes.follows.kinds l) ∙ mutex_rules (kind_at w l) (let c : CallsMutex w (Mutex l taking) = rw f.place at (f.steady.stands.calls t) in c))) (rw (← same_one, hand) (same t))
 
     heir_first : (o : Owners) → owners_handed_over (after w (go_of t)) t l o ≡ with_exclusive o (Some x.thread)
-    heir_first = successor_one (after w (go_of t)) t l x.thread false steady_then.stands.hands (single_at (after w (go_of t)) t l (HandOff bumps (hand_off.Store true (length rest == 0))) steady_then here.place) (rw here.place refl) (subst (λ (z : State). hand_at (place_at z x.thread) l ≡ hand t false) (sym led) held) (unshared_at (after w (go_of t)) t l (HandOff bumps (hand_off.Store true (length rest == 0))) steady_then here.place)
+    heir_first = successor_one (after w (go_of t)) t l x.thread false steady_then.stands.hands (single_at (after w (go_of t)) t l (HandOff bumps (hand_off.Store true (length rest == 0))) steady_then here.place) (rw here.place refl) (subst (λ (z : State). hand_at (place_at z x.thread) l ≡ hand t false) (sym led) held) (alone_at (after w (go_of t)) t l (HandOff bumps (hand_off.Store true (length rest == 0))) steady_then here.place) (unshared_at (after w (go_of t)) t l (HandOff bumps (hand_off.Store true (length rest == 0))) steady_then here.place)
       where
         led : after w (go_of t) ≡ taken_then
         led = act_led w t l (Mutex l taking) v o s (x ∷ rest) f refl
@@ -349,7 +349,7 @@ module _ (t l : ℕ) where
   unlock_fair_leads q v o w f = either (v == 1) refl (word_faces w t l (Mutex l UnlockFair) v o None q f (op.TheVariants.Exchange 1 0) refl)
     where
       either : (b : Bool) → (v == 1) ≡ b → Faces w t l (mutex_goes l (looked false (not b))) (outcome_of (mutex_does l (looked false (not b)))) (if b then 0 else v) (if b then None else o) None q → Leads 11 w t (FairEnds false t l (first_of q) (drop 1 q))
-      either true e h = let one : v ≡ 1 = eqb-true v 1 e in let none : first_of q ≡ None = ap first_of (none_waits t l (Mutex l UnlockFair) v o None q w f (omega arith)) in
+      either true e h = let one : v ≡ 1 = eqb-true v 1 e in let none : first_of q ≡ None = ap first_of (none_waits t l UnlockFair v o None q w f (omega arith)) in
           leads_more 1 11 w t (UnlockEnds l (first_of q)) (omega arith) (leads_rest w t (UnlockEnds l (first_of q)) (outcome.TheVariants.End answer.TheVariants.Ok) h.0 tt (refl, h.1.owner ∙ sym none))
       either false e h = leads_step w t (UnlockEnds l (first_of q)) 10 h.0 (fair_enter_leads false q v o _ h.1)
 
@@ -361,7 +361,7 @@ module _ (t l : ℕ) where
 
       either : (b : Bool) → is_parked v ≡ b → Faces w t l (mutex_goes l (looked true b)) (outcome_of (mutex_does l (looked true b))) v o None q → Leads 11 w t (FairEnds true t l (first_of q) (drop 1 q))
       either true e h = leads_step w t (FairEnds true t l (first_of q) (drop 1 q)) 10 h.0 (fair_enter_leads true q v o _ h.1)
-      either false e h = let empty : q ≡ [] = none_waits t l (Mutex l Bump) v o None q w f (unparked v o (coded t l entries.Bump q w _ v o None f) e) in
+      either false e h = let empty : q ≡ [] = none_waits t l Bump v o None q w f (unparked v o (coded t l entries.Bump q w _ v o None f) e) in
           leads_more 1 11 w t (FairEnds true t l (first_of q) (drop 1 q)) (omega arith)
           (leads_rest w t (FairEnds true t l (first_of q) (drop 1 q)) (outcome.TheVariants.End answer.TheVariants.Ok) h.0 tt (rw empty (refl, h.1.owner ∙ owned)))
 
@@ -378,7 +378,7 @@ module _ (t l : ℕ) where
   hand_off_rests bumps (hand_off.Store false none_left) v o s q w f way = fair_rests 8 bumps None q w (omega arith) (store_leads bumps none_left None q v o s w f (λ u e. absurd cc))
   hand_off_rests bumps (hand_off.Store true none_left) v o s q w f way =
       let one : (u : ℕ) × (hand_at (place_at w u) l ≡ hand t false) = f.steady.stands.hands.carried t l false (ap (λ (x : Station). x.carries) (own_stance l (place_at w t) (HandOff bumps (hand_off.Store true none_left)) f.place)) in
-      fair_rests 8 bumps (Some one.0) q w (omega arith) (store_leads bumps none_left (Some one.0) q v o s w f (λ u e o2. successor_one w t l one.0 false f.steady.stands.hands (single_at w t l (HandOff bumps (hand_off.Store true none_left)) f.steady f.place) (rw f.place refl) one.1 (unshared_at w t l (HandOff bumps (hand_off.Store true none_left)) f.steady f.place) o2 ∙ ap (λ (z : Option ℕ). with_exclusive o2 z) e))
+      fair_rests 8 bumps (Some one.0) q w (omega arith) (store_leads bumps none_left (Some one.0) q v o s w f (λ u e o2. successor_one w t l one.0 false f.steady.stands.hands (single_at w t l (HandOff bumps (hand_off.Store true none_left)) f.steady f.place) (rw f.place refl) one.1 (alone_at w t l (HandOff bumps (hand_off.Store true none_left)) f.steady f.place) (unshared_at w t l (HandOff bumps (hand_off.Store true none_left)) f.steady f.place) o2 ∙ ap (λ (z : Option ℕ). with_exclusive o2 z) e))
   hand_off_rests bumps (hand_off.Leave any) v o s q w f way = fair_rests 7 bumps o q w (omega arith) (told_leads bumps any q v o s w f)
 
 -- ---------------------------------------------------------------- the laws

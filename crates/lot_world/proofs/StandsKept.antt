@@ -13,7 +13,7 @@ use Rattle.lot_machine.specs.Machine.{State, kind_at}
 use Rattle.lot_world.specs.SitesOf.{is_mutex}
 use Rattle.lot_world.specs.Stations.{Hand, Station, hand, nowhere, station, station_at}
 use Rattle.lot_world.specs.SitesOf.{Sections, Lines, Waits, AreWaiting, Hands, CallsMutex, key_of, stood_in, carried_at, hand_at}
-use Rattle.lot_world.proofs.Glue.{IsOf, nothing_at, put_here, put_other, same, station_is, station_here, station_elsewhere}
+use Rattle.lot_world.proofs.Glue.{IsOf, nothing_at, put_here, put_other, same, station_is, station_here, station_elsewhere, IsMutexOf}
 
 both : (a b : Bool) → (a && b) ≡ true → (a ≡ true) × (b ≡ true)
 both true b h = (refl, h)
@@ -409,9 +409,10 @@ module _ (one : ℕ → Type 0) (p q : ℕ → Place) (hands : Hands one p) (t l
 
 -- ---------------------------------------------------------------- calls
 
-pub calls_of : (w : State) (l : ℕ) (p : Place) → IsOf l p → is_mutex (kind_at w l) ≡ true → CallsMutex w p
+pub calls_of : (w : State) (l : ℕ) (p : Place) → IsMutexOf l p → is_mutex (kind_at w l) ≡ true → CallsMutex w p
 calls_of w l Idle h m = tt
 calls_of w l (Mutex k at) h m = rw h m
+calls_of w l (RwLock k a at) h m = absurd h
 
 pub calls_in : (w v : State) (p : Place) → ((k : ℕ) → kind_at v k ≡ kind_at w k) → CallsMutex w p → CallsMutex v p
 calls_in w v Idle e h = tt

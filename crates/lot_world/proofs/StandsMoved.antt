@@ -122,7 +122,7 @@ module _ (w v : State) (stands : Stands w) (kinds : (k : ℕ) → kind_at v k �
 
 -- ---------------------------------------------------------------- two threads go elsewhere
 
-module _ (w v : State) (stands : Stands w) (kinds : (k : ℕ) → kind_at v k ≡ kind_at w k) (l t x : ℕ) (apart : x ≢ t) (of_mutex : is_mutex (kind_at w l) ≡ true) (own : IsOf l (place_at w t)) (own_x : IsOf l (place_at w x)) (p2 px : Place) (of : IsOf l p2) (of_x : IsOf l px)
+module _ (w v : State) (stands : Stands w) (kinds : (k : ℕ) → kind_at v k ≡ kind_at w k) (l t x : ℕ) (apart : x ≢ t) (of_mutex : is_mutex (kind_at w l) ≡ true) (own : IsOf l (place_at w t)) (own_x : IsOf l (place_at w x)) (p2 px : Place) (of : IsOf l p2) (of_x : IsOf l px) (fits : CallsMutex w p2) (fits_x : CallsMutex w px)
     (places : place_at v ≡ putting (putting (place_at w) x px) t p2) where
   abbrev halfway : ℕ → Place
   halfway = putting (place_at w) x px
@@ -167,7 +167,7 @@ module _ (w v : State) (stands : Stands w) (kinds : (k : ℕ) → kind_at v k �
       (linked_hands (Some false) (Some true)
       (record { of_t = own; of_v = own_x; carries = ap (λ (y : Station). y.carries) was; free = ap (λ (y : Station). y.hand) was; hand = ap (λ (y : Station). y.hand) was_x; bare = ap (λ (y : Station). y.carries) was_x })
       (ap (λ (y : Station). y.carries) is) (ap (λ (y : Station). y.hand) is) (ap (λ (y : Station). y.hand) is_x) (ap (λ (y : Station). y.carries) is_x))
-      (calls_two w v stands kinds x px t p2 (calls_of w l px of_x of_mutex) (calls_of w l p2 of of_mutex))
+      (calls_two w v stands kinds x px t p2 fits_x fits)
 
   -- t takes x, the first of the main line
   pub takes : (rest : List Waiter) (first : Waiter) → ((key : ℕ) → section_at v key ≡ section_at w key) → ((key : ℕ) → key ≢ 2 * l → queue_at v key ≡ queue_at w key) → queue_at w (2 * l) ≡ first ∷ rest → queue_at v (2 * l) ≡ rest → first.thread ≡ x
@@ -184,7 +184,7 @@ module _ (w v : State) (stands : Stands w) (kinds : (k : ℕ) → kind_at v k �
       (linked_hands None (Some false)
       (record { of_t = own; of_v = own_x; carries = bare; free = free; hand = ap (λ (y : Station). y.hand) was_x; bare = ap (λ (y : Station). y.carries) was_x })
       (ap (λ (y : Station). y.carries) is) (ap (λ (y : Station). y.hand) is ∙ free) (ap (λ (y : Station). y.hand) is_x) (ap (λ (y : Station). y.carries) is_x))
-      (calls_two w v stands kinds x px t p2 (calls_of w l px of_x of_mutex) (calls_of w l p2 of of_mutex))
+      (calls_two w v stands kinds x px t p2 fits_x fits)
     where
       -- who is left waits as before
       waits_then : Waits both_now (queue_at v)

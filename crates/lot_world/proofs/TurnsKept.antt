@@ -47,7 +47,7 @@ use Rattle.lot_rwlock.specs.declared.places.RwLockPlace.{RwLockPlace}
 use Rattle.lot_rwlock.specs.RwLockProfiles.{rwlock_late_line}
 use Rattle.lot_base.specs.declared.keys.Line.{Line}
 
-none_yet : (k : Kind) (l : ℕ) (c : RwLockCall) → has_call k (calling.TheVariants.RwLock l c) ≡ true → ⊥
+pub none_yet : (k : Kind) (l : ℕ) (c : RwLockCall) → has_call k (calling.TheVariants.RwLock l c) ≡ true → ⊥
 none_yet kinds.Mutex l c h = absurd cc
 none_yet kinds.Fair l c h = absurd cc
 none_yet (kinds.RwLock limit) l c h = absurd cc
@@ -110,7 +110,7 @@ module _ (w : State) (t : ℕ) (steady : IsSteady w) (shape : IsShaped w) (there
   lock_late l e r lock.First is lt can = absurd cc
   lock_late l e r a is lt can = absurd cc
 
-  rwlock_late : (l : ℕ) (a : Admission) (p : RwLockPlace) → place_at w t ≡ RwLock l a p → l < length w.locks → (m : Option Line) → rwlock_late_line p ≡ m → is_free_under w (key_in l m) ≡ true → IsSteady (state_after_late_on w t (key_in l m))
+  rwlock_late : (l : ℕ) (a : Admission) (p : RwLockPlace) → place_at w t ≡ RwLock l a p → l < length w.locks → (m : Option Line) → rwlock_late_line p ≡ m → is_free_under w (key_in (Some l) m) ≡ true → IsSteady (state_after_late_on w t (key_in (Some l) m))
   rwlock_late l a p is lt None e can = absurd cc
   rwlock_late l a p is lt (Some m) e can = goes_steady w _ l _ steady (rwlock_goes_late w t l a p steady shape there lt is m e can)
 

@@ -37,7 +37,7 @@ world_step w s h = record {
   refines = after_step w s h.shaped h.steady;
   one_thing = one_thing w s h.steady;
   touches = touches w s;
-  owing = owes_since w s h.shaped h.steady (kept_after w s h.shaped h.steady);
+  owing = owes_since w s h.shaped h.steady;
   fair = is_fair w s h.shaped h.steady;
   kept = kept_after w s h.shaped h.steady;
 }

@@ -9,7 +9,7 @@ use Rattle.lot_acts.specs.declared.acts.Wakes as wakes
 use Rattle.lot_base.specs.declared.notes.Note.TheVariants.{HandOff}
 use Rattle.lot_steps.specs.Steps.{act_of, taker, retries_on}
 use Rattle.lot_machine.specs.Machine.{State, place_at, word_at, filled_at, section_at}
-use Rattle.abstract_locks.specs.Locks.{LockState, Sort, Semaphore, Rules, times, standing, readers, Owns}
+use Rattle.abstract_locks.specs.Locks.{LockState, Sort, Semaphore, Rules, Knows, times, standing, readers, Owns}
 use Rattle.abstract_locks.specs.Codes.{word_by, parked_in, aside_in}
 use Rattle.abstract_locks.specs.Runs.{AreLockStates}
 use Rattle.abstract_locks.specs.Sites.{Line, Main, Second, IsOpen, counts_some, has_readers}
@@ -17,10 +17,7 @@ use Rattle.abstract_locks.specs.Purposes.{Purpose, Enters, Releases, Converts, B
 use Rattle.lot_world.specs.Refinement.{lock_state, locks_of, call_at}
 use Rattle.lot_world.specs.Stations.{doing_on}
 use Rattle.lot_world.specs.SitesOf.{rules_at, key_of}
-use Rattle.lot_world.specs.Owing.{Owes, ReleasesLock}
-
-abbrev pub sort_at : State → ℕ → Sort
-sort_at w l = (rules_at w l).sort
+use Rattle.lot_world.specs.Owing.{Owes, IsInside, LetsOthersIn, sort_at}
 
 -- a thread stands in the queue of a lock
 abbrev pub WaitsFor : State → ℕ → ℕ → Type 0
@@ -45,23 +42,26 @@ IsAboutToMark w t l = (doing_on (place_at w t) l).sets ≡ true
 
 -- ---------------------------------------------------------------- debts
 
--- a thread is shown to owe a wake on a line; no call that owes one on a second line is built
-abbrev pub OwesOn : State → ℕ → ℕ → Line → Type 0
-OwesOn w t l Main = Owes w t l
-OwesOn w t l Second = ⊥
-
--- a call that releases, and enters the section of the line next
+-- a call that lets others in, and enters the section of the line next
 abbrev pub GoesToWake : State → ℕ → ℕ → Line → Type 0
-GoesToWake w t l m = (act_of (place_at w t) ≡ Enter (One (key_of l m))) × ReleasesLock w t l
+GoesToWake w t l m = (act_of (place_at w t) ≡ Enter (One (key_of l m))) × LetsOthersIn w t l
 
 -- a call that wakes whom it takes of the main line: a release that hands nothing over, a conversion that lets others in, or a writer
 -- beside readers that has given up
 abbrev pub WakesWaiters : Sort → Option Purpose → Option ℕ → ℕ → Type 0
 WakesWaiters sort (Some (Releases k x fair)) gave_up l = (k ≡ l) × ((fair ≡ false) ⊎ (x ≡ Upgradable))
-WakesWaiters sort (Some (Converts k x y how)) gave_up l = (k ≡ l) × ((y ≢ Exclusive) ⊎ (gave_up ≡ Some l))
+WakesWaiters sort (Some (Converts k x y how)) gave_up l = (k ≡ l) × ((y ≢ Exclusive) ⊎ ((gave_up ≡ Some l) × (has_readers sort ≡ true)))
 WakesWaiters sort (Some (Enters k x how)) gave_up l = (k ≡ l) × (gave_up ≡ Some l) × (has_readers sort ≡ true)
 WakesWaiters sort (Some (Bumps k x)) gave_up l = (k ≡ l) × (x ≢ Exclusive)
 WakesWaiters sort None gave_up l = ⊥
+
+-- a call is for rights that its lock knows
+abbrev pub KnowsRights : (ℕ → Sort) → Option Purpose → Type 0
+KnowsRights sort (Some (Enters l x how)) = Knows (sort l) x
+KnowsRights sort (Some (Releases l x fair)) = Knows (sort l) x
+KnowsRights sort (Some (Converts l x y how)) = Knows (sort l) x × Knows (sort l) y
+KnowsRights sort (Some (Bumps l x)) = Knows (sort l) x
+KnowsRights sort None = Unit {0}
 
 -- what a call is to own in the end
 abbrev pub want_of : Option Purpose → Option Want
@@ -74,9 +74,9 @@ want_of purpose = None
 -- turn on (of a mutex anything, of a reader-writer lock more than to share)
 abbrev pub IsDebtorOf : State → ℕ → ℕ → Line → Type 0
 IsDebtorOf w t l Main =
-    (Owes w t l × WakesWaiters (sort_at w l) (call_at w t).purpose (call_at w t).gave_up l)
+    (Owes w t l Main × WakesWaiters (sort_at w l) (call_at w t).purpose (call_at w t).gave_up l)
     ⊎ (((call_at w t).retries ≡ Some l) × (counts_some (sort_at w l) (want_of (call_at w t).purpose) ≡ true))
-IsDebtorOf w t l Second = OwesOn w t l Second
+IsDebtorOf w t l Second = Owes w t l Second
 
 -- some thread, which is awake, stands in no queue and isn't taken, is such a debtor
 pub record IsLookedAfter (w : State) (l : ℕ) (m : Line) : Type 0 where
@@ -120,10 +120,14 @@ pub record IsKept (w : State) : Type 0 where
   pub one_place : (t l k : ℕ) → 1 ≤ standing t (lock_state w l) → 1 ≤ standing t (lock_state w k) → l ≡ k
   -- in a call that waits for it
   pub waiting : (t l : ℕ) → 1 ≤ standing t (lock_state w l) → MayWait (call_at w t).purpose l
+  -- and each call is for rights that its lock knows
+  pub known : (t : ℕ) → KnowsRights (sort_at w) (call_at w t).purpose
   pub coded : (l : ℕ) → IsCoded w l
   pub nobody_forgotten : NobodyForgotten w
-  -- who is shown to owe a wake on a line is inside its section, or a release on its way into it
-  pub owing : (t l : ℕ) (m : Line) → OwesOn w t l m ↔ ((section_at w (key_of l m) ≡ Some t) ⊎ GoesToWake w t l m)
+  -- who is shown to owe a wake on a line is inside its section, or lets others in and is on its way into it
+  pub owing : (t l : ℕ) (m : Line) → Owes w t l m ↔ (IsInside w t l m ⊎ GoesToWake w t l m)
+  -- and only a lock that is shared has a second line
+  pub second_line : (t l : ℕ) → Owes w t l Second → has_readers (sort_at w l) ≡ true
   -- who is shown to try a lock again was woken on it, and has got neither the lock nor a place in a queue since
   pub retrying : (t l : ℕ) → retries_on (place_at w t) l ≡ true ↔ (call_at w t).retries ≡ Some l
   -- who is asleep but stands nowhere was handed the lock that it waited for, by a thread that is inside the section and wakes it

@@ -8,8 +8,7 @@ use Rattle.lot_mutex.specs.declared.places.MutexPlace.{MutexPlace}
 use Rattle.lot_acts.specs.declared.acts.Act.{Act}
 use Rattle.lot_acts.specs.declared.acts.Act.TheVariants.{Enter, Sleep}
 use Rattle.lot_base.specs.declared.keys.Keys.{Keys}
-use Rattle.lot_steps.specs.Steps.{act_of, looking, lock_of, profile}
-use Rattle.lot_world.specs.Stations.{calls}
+use Rattle.lot_steps.specs.Steps.{act_of, looking, lock_of, calls, profile}
 pub use Rattle.lot_mutex.specs.MutexProfiles.{mutex_profile, is_bump, entry_purpose, release_purpose, before_entry, before_release}
 pub use Rattle.lot_machine.specs.Machine.{runs_closure}
 use Rattle.lot_machine.specs.Machine.{State, place_at, word_at, owners_at, shares_at, kind_at, queue_at, section_at}

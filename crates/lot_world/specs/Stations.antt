@@ -1,19 +1,10 @@
 -- What a place says of its thread at a lock: what the thread does about it, and where the machine has the thread.
-use Rattle.std.specs.Prelude.{ℕ, Bool, false, Option, Some, None, if◌then◌else◌, ◌==◌}
+use Rattle.std.specs.Prelude.{ℕ, if◌then◌else◌}
 use Rattle.lot_steps.specs.declared.places.Place.{Place}
-use Rattle.lot_steps.specs.Steps.{lock_of, profile}
+use Rattle.lot_steps.specs.Steps.{calls, profile}
 pub use Rattle.lot_acts.specs.Profiles.{Hand, Of, hand, hand_owner, in_hand}
 pub use Rattle.lot_acts.specs.Stations.{Station, station_by, nowhere}
 use Rattle.abstract_locks.specs.Sites.{Doing, idle}
-
--- whether it is the lock l
-abbrev pub is_lock : ℕ → Option ℕ → Bool
-is_lock l None = false
-is_lock l (Some k) = k == l
-
--- whether a thread at the place calls the lock l
-abbrev pub calls : Place → ℕ → Bool
-calls p l = is_lock l (lock_of p)
 
 -- what it does about the lock l
 abbrev pub doing_on : Place → ℕ → Doing

@@ -1,6 +1,6 @@
 //! One run, worked out step by step, and what no world comes to.
 ghost use Rattle.lot_world.specs.Laws.{FairUnlockHandsOver, NoWaiterIsForgotten, NobodyIsPassedOver};
-ghost use Rattle.lot_world.specs.MutexPromises.{MutexesAreKept};
+ghost use Rattle.lot_world.specs.MutexPromises.{MutexesAreKept, MutexesOwe};
 
 /// Thread 0 locks a mutex, threads 1 and 2 wait for it, and thread 0 unlocks it fairly: thread 1 owns it, and thread 2 waits.
 pub fn a_fair_unlock_hands_over()
@@ -21,4 +21,10 @@ pub fn nobody_is_passed_over()
 /// waits while nobody owns it has a thread that owes its wake or tries again.
 pub fn mutexes_are_kept()
     ensures { MutexesAreKept }
+{}
+
+/// What is promised of every step says of a mutex: a thread owes a wake since its call, which releases the mutex, saw the parked bit, or
+/// since it entered the section, until it leaves it.
+pub fn mutexes_owe()
+    ensures { MutexesOwe }
 {}

@@ -42,4 +42,4 @@ returns-clause-touches g c = rw (c.turn.ensures.state, ← c.self.view_is) (touc
 pub returns-clause-owing : goal.returns-clause-owing
 returns-clause-owing g c =
     let before = holds_of c.self.inside.machine c.self.invariant.0 c.self.invariant.1 in
-    rw (c.turn.ensures.outcome, c.turn.ensures.state, ← c.self.view_is) (owes_since c.self.inside.machine c.args.step before.shaped before.steady (kept_after c.self.inside.machine c.args.step before.shaped before.steady))
+    rw (c.turn.ensures.outcome, c.turn.ensures.state, ← c.self.view_is) (owes_since c.self.inside.machine c.args.step before.shaped before.steady)
