@@ -1,7 +1,7 @@
 -- What the views of a lock show, in the order of a printed line.
-use Rattle.std.specs.Prelude.{ℕ, Bool, Option, Some, None, if◌then◌else◌, ◌+◌, ◌*◌, List, [], ◌∷◌, ◌++◌, ◌≡◌, All}
+use Rattle.std.specs.Prelude.{ℕ, Bool, Option, Some, None, if◌then◌else◌, ◌+◌, ◌*◌, List, [], ◌∷◌, ◌++◌, replicate, ◌≡◌, All}
 use Rattle.lot_acts.specs.declared.owners.Owner.{Owner}
-use Rattle.lot_acts.specs.declared.owners.Owner.TheVariants.{Exclusive, Pending, Upgradable, Running}
+use Rattle.lot_acts.specs.declared.owners.Owner.TheVariants.{Exclusive, Pending, Upgradable, Running, Shared}
 use Rattle.lot_acts.specs.declared.owners.Owners.{Owners}
 use Rattle.lot_acts.specs.declared.owners.Pending as pending
 use Rattle.lot_steps.specs.declared.places.Place.{Place}
@@ -9,7 +9,7 @@ use Rattle.lot_steps.specs.Steps.{owes_on, retries_on}
 use Rattle.lot_base.specs.declared.wants.Waiter.{Waiter}
 use Rattle.lot_machine.specs.declared.views.Debt.{Debt}
 use Rattle.lot_machine.specs.declared.views.Debt.TheVariants.{Owes, Retries}
-use Rattle.lot_machine.specs.Machine.{State, owners_at, queue_at}
+use Rattle.lot_machine.specs.Machine.{State, owners_at, shares_at, queue_at}
 
 abbrev pub owner_of : Owner → Option ℕ → List (Owner × ℕ)
 owner_of sort None = []
@@ -25,8 +25,14 @@ owners_listed o =
     owner_of Exclusive o.exclusive
     ++ (pending_of o.pending ++ (owner_of Upgradable o.upgradable ++ owner_of Running o.running))
 
+-- who shares a lock, once for each right, by the numbers of rights of threads from this one on
+abbrev pub sharers_listed : ℕ → List ℕ → List (Owner × ℕ)
+sharers_listed t [] = []
+sharers_listed t (n ∷ ns) = replicate n (Shared, t) ++ sharers_listed (t + 1) ns
+
+-- the owners, then those who share
 abbrev pub owners_of : State → ℕ → List (Owner × ℕ)
-owners_of w l = owners_listed (owners_at w l)
+owners_of w l = owners_listed (owners_at w l) ++ sharers_listed 0 (shares_at w l)
 
 -- each of the waiters stands under the key
 abbrev pub StandUnder : ℕ → List Waiter → Type 0

@@ -1,7 +1,7 @@
 //! What a world shows of a lock: named iterators in the order of a printed line, without memory.
-ghost use Rattle.std.specs.Prelude.{◌≡◌, ◌<◌, ◌^◌, ◌+◌, ◌*◌, ◌++◌, ◌∷◌, [], MatchOption, IfSome, length, drop};
+ghost use Rattle.std.specs.Prelude.{◌≡◌, ◌<◌, ◌^◌, ◌+◌, ◌*◌, ◌++◌, ◌∷◌, [], MatchOption, IfSome, length, drop, replicate, slice_index_or};
 ghost use Rattle.std.specs.Iterator.{YieldsFirst, item_count};
-ghost use Rattle.lot_machine.specs.Views.{owners_listed, has_debt, debtors};
+ghost use Rattle.lot_machine.specs.Views.{owners_listed, sharers_listed, has_debt, debtors};
 
 use lot_base::{Queues, Waiter, main_key, second_key};
 use lot_steps::{Owner, Owners, Pending, Place};
@@ -16,31 +16,56 @@ pub enum Debt {
     Retries,
 }
 
-/// The owners of a lock, each with its sort.
+/// The owners of a lock, each with its sort, then those who share it by their numbers, once for each right.
 #[derive(Drop)]
-pub struct OwnersOf {
+pub struct OwnersOf<'a> {
     left: Owners,
+    shares: &'a [usize],
+    sharer: usize,
+    rights: usize,
+    behind: usize,
 }
 
-impl Model for OwnersOf {
-    ghost use Rattle.std.specs.Prelude.{List, ℕ};
+impl<'a> Model for OwnersOf<'a> {
+    ghost use Rattle.std.specs.Prelude.{List, ℕ, ◌++◌, drop, replicate};
     ghost use Rattle.lot_acts.specs.declared.owners.Owner.{Owner};
-    ghost use Rattle.lot_machine.specs.Views.{owners_listed};
+    ghost use Rattle.lot_acts.specs.declared.owners.Owner.TheVariants.{Shared};
+    ghost use Rattle.lot_machine.specs.Views.{owners_listed, sharers_listed};
 
     ghost Value = { List (Owner × ℕ) };
 
-    ghost view = { λ o. owners_listed o.left };
+    ghost view = { λ o. owners_listed o.left ++ (replicate o.rights (Shared, o.sharer) ++ sharers_listed o.behind (drop o.behind o.shares.now)) };
 }
 
-impl OwnersOf {
-    pub fn new(owners: Owners) -> OwnersOf
-        ensures { result ≡ owners_listed owners }
+impl<'a> OwnersOf<'a> {
+    pub fn new(owners: Owners, shares: &'a [usize]) -> OwnersOf<'a>
+        ensures { result ≡ owners_listed owners ++ sharers_listed 0 shares.now }
     {
-        OwnersOf { left: owners }
+        OwnersOf {
+            left: owners,
+            shares,
+            sharer: 0,
+            rights: 0,
+            behind: 0,
+        }
     }
 }
 
-impl Iterator for OwnersOf {
+/// The first thread from one on that shares a lock, by each thread's number of rights.
+fn find_sharer(shares: &[usize], from: usize) -> Option<usize>
+    ensures within { IfSome result (λ thread. (thread < length shares.now) × (0 < slice_index_or shares.now thread 0)) }
+    ensures found { MatchOption result (sharers_listed from (drop from shares.now) ≡ [])
+        (λ thread. sharers_listed from (drop from shares.now) ≡ replicate (slice_index_or shares.now thread 0) (Owner.Shared, thread) ++ sharers_listed (thread + 1) (drop (thread + 1) shares.now)) }
+{
+    for thread in from..shares.len() {
+        if shares[thread] != 0 {
+            return Some(thread);
+        }
+    }
+    None
+}
+
+impl Iterator for OwnersOf<'_> {
     type Item = (Owner, usize);
 
     ghost next_gives = { YieldsFirst (λ owners. owners) };
@@ -64,7 +89,19 @@ impl Iterator for OwnersOf {
             self.left.running = None;
             return Some((Owner::Running, thread));
         }
-        None
+        if self.rights != 0 {
+            self.rights -= 1;
+            return Some((Owner::Shared, self.sharer));
+        }
+        match find_sharer(self.shares, self.behind) {
+            Some(thread) => {
+                self.sharer = thread;
+                self.rights = self.shares[thread] - 1;
+                self.behind = thread + 1;
+                Some((Owner::Shared, thread))
+            }
+            None => None,
+        }
     }
 }
 

@@ -208,12 +208,12 @@ impl<Q: Queues + Drop> World<Q> {
         self.machine.place(thread)
     }
 
-    /// Who owns a lock: the exclusive, pending, upgradable and running owner.
-    pub fn owners(&self, lock: usize) -> OwnersOf
+    /// Who owns a lock: the exclusive, pending, upgradable and running owner, then who shares it, once for each right.
+    pub fn owners(&self, lock: usize) -> OwnersOf<'_>
         requires { lock < length self.now.locks }
         ensures { result ≡ owners_of self.now lock }
     {
-        OwnersOf::new(self.machine.owners(lock))
+        self.machine.owners(lock)
     }
 
     /// Who waits on a lock: its main queue from the front, then who waits aside.

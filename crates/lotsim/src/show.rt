@@ -46,8 +46,8 @@ fn show_lock<W: Write>(
 }
 
 /// Prints who owns a lock, each with a letter for its sort.
-fn print_owners<W: Write>(page: &mut Page, writer: &mut W, owners: OwnersOf)
-    ensures { Puts (W.contents writer.old) (W.contents writer.new) page.old page.new (owners_text owners) }
+fn print_owners<W: Write>(page: &mut Page, writer: &mut W, owners: OwnersOf<'_>)
+    ensures { Puts (W.contents writer.old) (W.contents writer.new) page.old page.new (owners_text owners.entry) }
 {
     let mut mark = b" own=".as_slice();
     for (owner, thread) in owners {
