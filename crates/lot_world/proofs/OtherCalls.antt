@@ -43,7 +43,7 @@ use Rattle.lot_world.specs.Stations.{Station, hand, station, nowhere}
 use Rattle.lot_world.specs.SitesOf.{IsSteady, carried_at, hand_at, CallsMutex}
 use Rattle.lot_world.proofs.AtPlaces.{unless_held}
 use Rattle.lot_world.proofs.Glue.{IsLock, IsOf, IsTakenAt, IsHandedAt, is_taken, is_handed, held_where, held_taker, station_elsewhere, same, put_of, put_same, set_puts, past_all}
-use Rattle.lot_world.proofs.CallEvents.{Others}
+use Rattle.lot_world.proofs.CallEvents.{Happens, IsNoHandOff, Others}
 use Rattle.lot_world.proofs.LockEvents.{Befalls, taken_call, wakes_others}
 
 -- ---------------------------------------------------------------- nobody else goes anywhere
@@ -68,6 +68,18 @@ WakesOwn hand (act.Leave keys (wakes.All x)) c = (hand ≡ Some false) × ((x �
 WakesOwn hand (act.Requeue from to how) c = ⊥
 WakesOwn hand (act.HandOver lock op) c = ⊥
 WakesOwn hand a c = IsCalm c
+
+module _ (w v : State) (t l : ℕ) (c : Option LockCase) (h : Happens w v t l (event_by l c)) where
+  pub no_hand_off : (d : Option LockCase) → IsCalm d → IsNoHandOff w v t l c h d
+  no_hand_off None still = tt
+  no_hand_off (Some (HandOff x successor)) still = absurd still
+  no_hand_off (Some case) still = λ x successor e. cc
+
+  pub hands_nothing : (hand : Option Bool) (a : Act) (d : Option LockCase) → WakesOwn hand a d → IsNoHandOff w v t l c h d
+  hands_nothing hand (act.Leave keys (wakes.All x)) d own = subst (IsNoHandOff w v t l c h) (sym own.1.1) (λ y successor e. cc)
+  hands_nothing hand (act.Requeue from to how) d own = absurd own
+  hands_nothing hand (act.HandOver lock op) d own = absurd own
+  hands_nothing hand a d own = no_hand_off d own
 
 sections_stay : (w : State) (keys : Keys) (who : Option ℕ) → (state_with_sections w keys who).places ≡ w.places
 sections_stay w (One key) who = refl
