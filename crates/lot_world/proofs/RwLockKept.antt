@@ -239,7 +239,7 @@ module _ (w : State) (t l : ℕ) (a : Admission) (p : RwLockPlace) (steady : IsS
   doing_now = doing_here l (place_at w t) own ∙ ap (λ (y : Profile). y.doing) same_row
 
   at_now : IsAt (rules_at w l) a here t p
-  at_now = is_at (rules_at w l) a here t p admits site doing_now stands
+  at_now = is_at (rules_at w l) a here t p admits site doing_now stands (rw (steady.numbers.threads l) there)
 
   -- what its laws conclude
   abbrev Followed : Option ℕ → Reply → Type 0
