@@ -123,6 +123,13 @@ site_seen v r l n word o m s places er en ew eo em es ep = λ i. seen_by (er i) 
 pub same : (k : ℕ) → (k == k) ≡ true
 same k = grind (arith, nat_tests)
 
+pub thread_is : (t : ℕ) (o : Option ℕ) → is_thread t o ≡ true → o ≡ Some t
+thread_is t None h = absurd cc
+thread_is t (Some u) h = ap Some (eqb-true u t h)
+
+pub is_owner : (t : ℕ) (o : Option ℕ) → o ≡ Some t → is_thread t o ≡ true
+is_owner t o e = rw (e, same t) refl
+
 pub differ : (j k : ℕ) → j ≢ k → (j == k) ≡ false
 differ j k ne = grind (arith, nat_tests)
 

@@ -251,4 +251,4 @@ module _ (w : State) (t : ℕ) (steady : IsSteady w) (shape : IsShaped w) (there
   pub gone_kept : (p : Place) → place_at w t ≡ p → PlaceFits (length w.locks) p → can_do w (act_of p) ≡ true → IsSteady (go_by w t p (act_of p))
   gone_kept Idle is fits can = absurd cc
   gone_kept (Mutex l at) is fits can = goes_steady w _ l _ steady (gone_goes l at is fits.0 can).1
-  gone_kept (RwLock l a p) is fits can = goes_steady w _ l _ steady (rwlock_goes_on w t l a p steady shape there fits is can).1
+  gone_kept (RwLock l a p) is fits can = goes_steady w _ l _ steady (rwlock_goes_on w t l a p steady shape there fits is can).goes

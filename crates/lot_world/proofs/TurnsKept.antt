@@ -34,7 +34,7 @@ use Rattle.lot_world.specs.Stations.{nowhere, station}
 use Rattle.lot_world.specs.SitesOf.{IsSteady, Goes}
 use Rattle.lot_machine.proofs.Shape.{both, looking_shaped}
 use Rattle.lot_world.proofs.KindsKept.{calls_mutex, calls_readers}
-use Rattle.lot_world.proofs.Glue.{parts_at, same}
+use Rattle.lot_world.proofs.Glue.{parts_at, same, thread_is}
 use Rattle.lot_world.proofs.MutexTable.{mutex, own_doing, meets, others_same}
 use Rattle.lot_world.proofs.StandsMoved.{mutex_rules}
 use Rattle.lot_world.proofs.SitesKept.{mutex_at, goes_steady, place_goes}
@@ -61,19 +61,15 @@ module _ (w : State) (t : ℕ) (steady : IsSteady w) (shape : IsShaped w) (there
     needed = (has, tt);
   }) (s ∙ sym (ap station is))
 
-  owns : (o : Option ℕ) → is_thread t o ≡ true → o ≡ Some t
-  owns None h = absurd cc
-  owns (Some u) h = ap Some (eqb-true u t h)
-
   -- each call of a mutex
   calls_begin : (l : ℕ) (fair : Bool) (c : MutexCall) → is_mutex (kind_at w l) ≡ true → place_at w t ≡ Idle → mutex_right c t (owners_at w l) ≡ true → Goes w (put w t (Mutex l (mutex_first fair c))) l (acts t (begins (mutex_first fair c) ∷ []))
   calls_begin l fair call.Lock of is right = begin_kept l _ None of is refl refl tt refl
   calls_begin l fair call.LockTimed of is right = begin_kept l _ None of is refl refl tt refl
   calls_begin l fair call.TryLock of is right = begin_kept l _ None of is refl refl tt refl
-  calls_begin l true call.Unlock of is right = begin_kept l _ (Some (Has Exclusive)) of is refl refl (owns (owners_at w l).exclusive right) refl
-  calls_begin l false call.Unlock of is right = begin_kept l _ (Some (Has Exclusive)) of is refl refl (owns (owners_at w l).exclusive right) refl
-  calls_begin l fair call.UnlockFair of is right = begin_kept l _ (Some (Has Exclusive)) of is refl refl (owns (owners_at w l).exclusive right) refl
-  calls_begin l fair call.Bump of is right = begin_kept l _ (Some (Has Exclusive)) of is refl refl (owns (owners_at w l).exclusive right) refl
+  calls_begin l true call.Unlock of is right = begin_kept l _ (Some (Has Exclusive)) of is refl refl (thread_is t (owners_at w l).exclusive right) refl
+  calls_begin l false call.Unlock of is right = begin_kept l _ (Some (Has Exclusive)) of is refl refl (thread_is t (owners_at w l).exclusive right) refl
+  calls_begin l fair call.UnlockFair of is right = begin_kept l _ (Some (Has Exclusive)) of is refl refl (thread_is t (owners_at w l).exclusive right) refl
+  calls_begin l fair call.Bump of is right = begin_kept l _ (Some (Has Exclusive)) of is refl refl (thread_is t (owners_at w l).exclusive right) refl
 
   begun_kept : (c : Call) → can_begin w t c ≡ true → IsSteady (state_after_begin w t c)
   begun_kept (calling.TheVariants.Mutex l c) can =
