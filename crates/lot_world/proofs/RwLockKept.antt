@@ -38,7 +38,7 @@ use Rattle.lot_rwlock.specs.declared.release.WakeAt.TheVariants as waking
 use Rattle.lot_rwlock.specs.RwLockSteps.{patience_of, rwlock_act, rwlock_next, rwlock_owners, rwlock_shares}
 use Rattle.lot_rwlock.specs.RwLockDeeds.{Admits, IsAt, MayHear, doing_next, rwlock_deeds, rwlock_doing}
 use Rattle.lot_rwlock.specs.RwLockProfiles.{rwlock_profile, rwlock_late_line, late_line_at, carries_at}
-use Rattle.lot_rwlock.specs.RwLockCalls.{HasDeadline, MayStand, MayBeTold, MayStandNext, IsCalling, IsNotLate, KeepsRight, CallFollowsBy, next_row}
+use Rattle.lot_rwlock.specs.RwLockCalls.{HasDeadline, MayStand, MayBeTold, MayStandNext, IsCalling, IsNotLate, CallFollowsBy, next_row}
 use Rattle.lot_rwlock.specs.RwLockMoves.{rwlock_move, rwlock_hears}
 use Rattle.lot_rwlock.specs.RwLockBegins.{admission_of, rwlock_first, rwlock_right}
 use Rattle.lot_rwlock.specs.RwLockOpenings.{Opens}
@@ -163,10 +163,6 @@ word_few r s readers site room limit = by_sort r.sort refl readers
     by_sort Recursive e h = subst (λ sort. code_of sort r.limit s < 2 ^ 64) (sym e) small
     by_sort locks.Mutex e h = absurd cc
     by_sort Semaphore e h = absurd cc
-
--- who wakes others behind a downgrade owns what it got by it
-keeps_right : (r : Rules) (a : Admission) (s : Site) (t : ℕ) (p : RwLockPlace) → IsSite r s → s.doing t ≡ rwlock_doing p → MayStand a p → KeepsRight s.lock t p.purpose p.at
-keeps_right r a s t p site doing stands = ?
 
 -- ---------------------------------------------------------------- deeds that leave the others as they are
 
@@ -298,12 +294,7 @@ module _ (w : State) (t l : ℕ) (a : Admission) (p : RwLockPlace) (steady : IsS
 
   -- a thread that is there
   calling : IsCalling (rules_at w l) a here t p
-  calling = record {
-    at = at_now;
-    stands = stands;
-    keeps = keeps_right (rules_at w l) a here t p site doing_now stands;
-    there = subst (λ n. t < n) (sym (steady.numbers.threads l)) there;
-  }
+  calling = record { at = at_now; stands = stands }
 
   tells_by : (whom : Option ℕ) (told : Reply) → IsNotLate told → MayHear (rules_at w l) a here t p p.at whom told → CallFollowsBy (rules_at w l) a here t l p whom told
   tells_by whom told now hears = rwlock_sections_tell (rules_at w l) a here t l p whom told calling hears now
