@@ -17,7 +17,7 @@ use Rattle.lot_rwlock.specs.RwLockProfiles.{purpose_by, rwlock_late_line, late_l
 use Rattle.lot_rwlock.specs.RwLockDeeds.{Admits}
 use Rattle.abstract_locks.specs.Sites.{has_readers}
 use Rattle.abstract_locks.specs.Locks.{Mutex as Mutual}
-use Rattle.std.proofs.lemmas.Bool.{cases_eq, eqb-true, ltb-true, lt-ltb}
+use Rattle.std.proofs.lemmas.Bool.{cases_eq, ltb-true, lt-ltb}
 use Rattle.lot_base.specs.declared.keys.Keys.TheVariants.{One}
 use Rattle.lot_base.specs.declared.ops.Op as op
 use Rattle.lot_base.specs.declared.wants.Want.TheVariants.{Exclusive}
@@ -51,7 +51,6 @@ use Rattle.lot_steps.specs.declared.places.Place.{Place}
 use Rattle.lot_steps.specs.declared.places.Place.TheVariants.{Idle, Mutex, RwLock}
 use Rattle.lot_acts.specs.Acts.{outcome_of}
 use Rattle.lot_mutex.specs.MutexSteps.{mutex_first, mutex_right, is_locked, is_parked, lock_act, unlock_act, hand_off_word, hand_off_act}
-use Rattle.lot_acts.specs.Owners.{is_thread}
 use Rattle.lot_steps.specs.Steps.{act_of, next_place, next_act, mutex_goes, mutex_does, looking, late_key, is_idle, has_right, first_place, rwlock_goes, key_in, calls}
 use Rattle.lot_machine.specs.Machine.{State, place_at, word_at, owners_at, kind_at, section_at, put, state_after_act, go_reply, state_after_operation, state_after_hand_over, state_with_sections, reply_to, can_do, state_after_look, look_outcome, state_after_go, state_after_going, go_outcome, going_outcome, state_after_late_on, is_free_under, state_after_begin, can_begin, is_open_to, can_turn, state_after_turn, turn_outcome, is_possible, after, step_outcome, share_at}
 use Rattle.lot_machine.specs.Fits.{IsShaped, SameSize, PlaceFits, GivesUpTimed}
@@ -89,7 +88,7 @@ use Rattle.lot_world.proofs.GoneKept.{gone_goes}
 use Rattle.lot_world.proofs.TurnsKept.{idle_is}
 use Rattle.lot_world.proofs.AtPlaces.{coded, in_no_hand, own_doing}
 use Rattle.lot_world.proofs.PlacePromises.{standing_by}
-use Rattle.lot_world.proofs.CallEvents.{put_is, rights, Others, OthersFollow, Happens, LeadsTo, IsNoHandOff, happens, needed_then, others_follow, goes_by}
+use Rattle.lot_world.proofs.CallEvents.{put_is, rights, Others, OthersFollow, Happens, LeadsTo, happens, needed_then, others_follow, goes_by}
 use Rattle.lot_world.proofs.LockEvents.{Befalls, wakes_others, hands_others}
 use Rattle.lot_world.proofs.OtherCalls.{IsLonely, IsCalm, lonely, takes, calm, befalls, befalls_nobody, no_hand_off, tells_handed}
 use Rattle.lot_world.proofs.MutexCalls.{Tells, Rests, row_of}

@@ -1,14 +1,14 @@
 -- A thread goes on where its act takes it, at a lock that is shared: every lock is a site again. No place is named: the row of a place says where
 -- the act takes its thread, and the laws of its sort of lock that its deeds may be done.
-use Rattle.std.proofs.Common.{ℕ, Bool, true, false, Option, Some, None, if◌then◌else◌, ◌==◌, ◌≡◌, ◌≢◌, ◌+◌, ◌*◌, ◌≤◌, ◌<◌, ◌⊎◌, List, [], ◌∷◌, ◌++◌, length, map, drop, get_or, cond, not, inl, inr, refl, sym, ◌∙◌, ap, subst, arith}
-use Rattle.std.proofs.lemmas.Bool.{cases_eq, eqb-true}
+use Rattle.std.proofs.Common.{ℕ, Bool, true, false, Option, Some, None, if◌then◌else◌, ◌==◌, ◌≡◌, ◌≢◌, ◌+◌, ◌*◌, ◌≤◌, ◌<◌, List, [], ◌∷◌, length, map, drop, get_or, cond, not, inl, inr, refl, sym, ◌∙◌, ap, subst, arith}
+use Rattle.std.proofs.lemmas.Bool.{eqb-true}
 use Rattle.lot_base.specs.declared.keys.Keys.TheVariants.{One}
 use Rattle.lot_base.specs.declared.notes.Note.TheVariants.{Normal}
 use Rattle.lot_base.specs.declared.ops.Op.{Op}
 use Rattle.lot_base.specs.declared.wants.Waiter.{Waiter}
 use Rattle.lot_base.specs.declared.wants.Want.{Want}
 use Rattle.lot_base.specs.declared.wants.Want.TheVariants.{Exclusive}
-use Rattle.lot_base.specs.Lines.{without, first_of, times, waiter}
+use Rattle.lot_base.specs.Lines.{without, first_of, times}
 use Rattle.lot_base.specs.Words.{apply}
 use Rattle.lot_acts.specs.declared.acts.Check.{Check}
 use Rattle.lot_acts.specs.declared.acts.Reply.{Reply}
@@ -16,7 +16,7 @@ use Rattle.lot_acts.specs.declared.acts.Wakes.{Wakes}
 use Rattle.lot_acts.specs.declared.acts.Reply.TheVariants.{Done, Value, Parked, Took, Picked, Removed, TakenBy, Woken}
 use Rattle.lot_acts.specs.declared.acts.Whom as whom
 use Rattle.lot_acts.specs.Acts.{holds, wakes_taken}
-use Rattle.lot_acts.specs.Moves.{Move, Hears, Stays, GoesIn, Parks, Picks, TakesAside, LeavesLine, GoesOut, Sleeps, IsHeld, Waits, AreOfWord, AreLeaving, parks_in, takes_aside, inside_of, station_of, station_then}
+use Rattle.lot_acts.specs.Moves.{Move, Hears, Stays, GoesIn, Parks, Picks, TakesAside, LeavesLine, GoesOut, Sleeps, IsHeld, Waits, AreOfWord, AreLeaving, parks_in, inside_of, station_of, station_then}
 use Rattle.lot_acts.specs.Profiles.{Profile, Hand, Of, hand, in_hand, taken_from}
 use Rattle.lot_acts.specs.Stations.{Station, station_by, nowhere, waits_for}
 use Rattle.lot_steps.specs.declared.places.Place.{Place}
@@ -27,16 +27,16 @@ use Rattle.lot_acts.specs.Owners.{is_thread}
 use Rattle.abstract_locks.specs.Locks.{Rules, Pending, IsSomePending, LockCase, Park, Aside, TakeAside, TakePicked, Wake, is_recursive, HandOff, keep_from, one_if_some, putting, standing}
 use Rattle.abstract_locks.specs.Locks as locks
 use Rattle.abstract_locks.specs.Picks.{queued_of}
-use Rattle.abstract_locks.specs.Sites.{Doing, Pends, wakened, is_empty, Site, IsSite, Deed, Line, Main, Second, End, In, Out, Mark, Clear, FindNobody, Case, has_readers, idle, leaves}
-use Rattle.abstract_locks.specs.Codes.{code, IsHandOff}
+use Rattle.abstract_locks.specs.Sites.{Doing, Pends, wakened, is_empty, Site, IsSite, Deed, Line, Main, Second, End, In, Out, Mark, Clear, FindNobody, Case, has_readers, idle}
+use Rattle.abstract_locks.specs.Codes.{code}
 use Rattle.abstract_locks.specs.Deeds as laws
 use Rattle.lot_machine.specs.Machine.{State, place_at, word_at, queue_at, section_at, put, state_with_sections, state_after_operation, state_after_telling, state_after_leave, state_after_park, queues_with_last, queues_without, queues_without_first, is_there, state_after_reply, state_after_taking, state_after_take_first, state_after_take, reply_to_take, sharers, successor_from, want_of_successor}
 use Rattle.lot_world.specs.Refinement.{taken_at}
 use Rattle.lot_world.specs.MutexDeeds.{acts}
 use Rattle.lot_world.specs.Stations.{station, station_at, doing_on}
-use Rattle.lot_world.specs.SitesOf.{AllNeeded, AreOrdinary, AreWaiting, IsSteady, Goes, CallsMutex, TakesOne, after_acts, rules_at, key_of, stood_in, carried_at, hand_at}
+use Rattle.lot_world.specs.SitesOf.{AllNeeded, AreWaiting, IsSteady, Goes, CallsMutex, TakesOne, after_acts, rules_at, key_of, stood_in, carried_at, hand_at}
 use Rattle.lot_world.proofs.Counts.{without_absent, first_times, none_first}
-use Rattle.lot_world.proofs.Glue.{IsOf, IsLock, IsHeldBy, held_where, held_taker, nothing_at, calls_none, next_of, inside_is, LetGo, parts_at, lock_in, same, differ, put_here, doing_here, station_here, untaken, lets_nobody}
+use Rattle.lot_world.proofs.Glue.{IsOf, IsLock, IsHeldBy, held_where, held_taker, nothing_at, calls_none, next_of, inside_is, parts_at, lock_in, same, put_here, doing_here, station_here, lets_nobody}
 use Rattle.lot_world.proofs.OneStep.{AreSingle, HasOneCase, steps_by, empty_line, queued_times, queued_without}
 use Rattle.lot_world.proofs.ActsKept.{NoHandOff, lock_by, operated, site_by, with_line, place_goes, enter_goes, leave_goes, nobody_inside, park_goes, parks, asides, lates, remove_goes, nobody_goes, finds_none}
 use Rattle.lot_world.proofs.LawsKept.{after_same, needed_same, lawful_goes}

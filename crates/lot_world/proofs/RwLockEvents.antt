@@ -1,5 +1,5 @@
 -- Each step of a thread in a call of a reader-writer lock is a step of the abstract locks, and a call begins where it has its right.
-use Rattle.std.proofs.Common.{ℕ, Bool, true, false, Option, Some, None, if◌then◌else◌, ◌==◌, not, ◌≡◌, ◌≢◌, ◌≤◌, ◌<◌, ◌⊎◌, inl, inr, List, [], ◌∷◌, ◌++◌, length, get_or-set_same, refl, sym, ◌∙◌, ap, subst, arith, append-nil}
+use Rattle.std.proofs.Common.{ℕ, true, false, Option, Some, None, if◌then◌else◌, ◌==◌, not, ◌≡◌, ◌≤◌, ◌<◌, ◌⊎◌, inl, inr, List, [], length, get_or-set_same, refl, sym, ◌∙◌, ap, subst, arith, append-nil}
 use Rattle.std.proofs.lemmas.Bool.Decides.{nat_tests}
 use Rattle.lot_calls.specs.declared.calls.Access.{Access}
 use Rattle.lot_calls.specs.declared.calls.Access.TheVariants as access
@@ -14,23 +14,21 @@ use Rattle.lot_acts.specs.declared.acts.Act.TheVariants as act
 use Rattle.lot_acts.specs.declared.acts.Next.{Next}
 use Rattle.lot_acts.specs.declared.acts.Next.TheVariants as next
 use Rattle.lot_acts.specs.declared.acts.Reply.{Reply}
-use Rattle.lot_acts.specs.declared.acts.Wakes.TheVariants as wakes
 use Rattle.lot_acts.specs.Acts.{outcome_of}
 use Rattle.lot_acts.specs.Moves.{Moves}
 use Rattle.lot_acts.specs.Profiles.{Hand, Profile, taken_from}
 use Rattle.lot_acts.specs.Stations.{Station}
 use Rattle.lot_rwlock.specs.declared.places.Admission.{Admission}
 use Rattle.lot_rwlock.specs.declared.places.RwLockPlace.{RwLockPlace}
-use Rattle.lot_rwlock.specs.RwLockBegins.{admission_of, has_access, rwlock_first, rwlock_right}
-use Rattle.lot_rwlock.specs.RwLockCalls.{MayStand, next_row}
-use Rattle.lot_rwlock.specs.RwLockDeeds.{Admits, rwlock_deeds}
+use Rattle.lot_rwlock.specs.RwLockBegins.{has_access, rwlock_first, rwlock_right}
+use Rattle.lot_rwlock.specs.RwLockCalls.{next_row}
+use Rattle.lot_rwlock.specs.RwLockDeeds.{rwlock_deeds}
 use Rattle.lot_rwlock.specs.RwLockMoves.{rwlock_move, rwlock_hears}
 use Rattle.lot_rwlock.specs.RwLockOpenings.{Opens}
 use Rattle.lot_rwlock.specs.RwLockProfiles.{rwlock_profile, carries_at}
 use Rattle.lot_rwlock.specs.RwLockSteps.{from_of, rwlock_act, rwlock_next, wanted}
 use Rattle.lot_rwlock.proofs.RwLockMoves.{rwlock_acts_move, rwlock_sleepers_move}
 use Rattle.lot_rwlock.proofs.RwLockOpenings.{rwlock_calls_open}
-use Rattle.lot_steps.specs.declared.places.Place.{Place}
 use Rattle.lot_steps.specs.declared.places.Place.TheVariants.{Idle, RwLock}
 use Rattle.lot_steps.specs.Steps.{calls, lock_of, next_act, next_place, profile, rwlock_does, rwlock_goes}
 use Rattle.abstract_locks.specs.Deeds.{case_of, event_by}
@@ -46,7 +44,7 @@ use Rattle.lot_world.specs.Refinement.{call_state, lock_state, locks_of, taken_a
 use Rattle.lot_world.specs.SitesOf.{CallsMutex, Goes, IsSteady, carried_at, rules_at}
 use Rattle.lot_world.specs.Stations.{station}
 use Rattle.lot_world.proofs.AtPlaces.{in_no_hand}
-use Rattle.lot_world.proofs.CallEvents.{Happens, IsNoHandOff, LeadsTo, OthersFollow, goes_by, happens, others_follow}
+use Rattle.lot_world.proofs.CallEvents.{Happens, LeadsTo, OthersFollow, goes_by, happens, others_follow}
 use Rattle.lot_world.proofs.Glue.{is_owner, thread_is}
 use Rattle.lot_world.proofs.OtherCalls.{WakesOwn, hands_nothing, wakes_own}
 use Rattle.lot_world.proofs.PlacePromises.{station_own, waiting_stands}

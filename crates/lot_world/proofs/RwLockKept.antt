@@ -1,5 +1,5 @@
 -- A thread in a call of a reader-writer lock goes on: every lock is a site again.
-use Rattle.std.proofs.Common.{ℕ, Bool, true, false, Option, Some, None, if◌then◌else◌, ◌==◌, ◌≡◌, ◌≢◌, ◌+◌, ◌*◌, ◌-◌, ◌^◌, ◌≤◌, ◌<◌, List, [], ◌∷◌, length, is_none, refl, sym, ◌∙◌, ap, subst, arith}
+use Rattle.std.proofs.Common.{ℕ, Bool, true, false, Option, Some, None, ◌≡◌, ◌+◌, ◌*◌, ◌-◌, ◌^◌, ◌≤◌, ◌<◌, List, [], ◌∷◌, length, is_none, refl, sym, ◌∙◌, ap, subst, arith}
 use Rattle.std.proofs.lemmas.Bool.{eqb-true}
 use Rattle.lot_base.specs.declared.keys.Keys.{Keys}
 use Rattle.lot_base.specs.declared.keys.Keys.TheVariants.{One}
@@ -31,14 +31,11 @@ use Rattle.lot_rwlock.specs.declared.places.Admission.{Admission}
 use Rattle.lot_rwlock.specs.declared.places.RwLockPlace.{RwLockPlace}
 use Rattle.lot_rwlock.specs.declared.places.RwLockAt.{RwLockAt}
 use Rattle.lot_rwlock.specs.declared.places.RwLockAt.TheVariants as at
-use Rattle.lot_rwlock.specs.declared.park.ParkAt.{ParkAt}
 use Rattle.lot_rwlock.specs.declared.park.ParkAt.TheVariants as parking
-use Rattle.lot_rwlock.specs.declared.release.WakeAt.{WakeAt}
-use Rattle.lot_rwlock.specs.declared.release.WakeAt.TheVariants as waking
 use Rattle.lot_rwlock.specs.RwLockSteps.{patience_of, rwlock_act, rwlock_next, rwlock_owners, rwlock_shares}
 use Rattle.lot_rwlock.specs.RwLockDeeds.{Admits, IsAt, MayHear, doing_next, rwlock_deeds, rwlock_doing}
 use Rattle.lot_rwlock.specs.RwLockProfiles.{rwlock_profile, rwlock_late_line, late_line_at, carries_at}
-use Rattle.lot_rwlock.specs.RwLockCalls.{HasDeadline, MayStand, MayBeTold, MayStandNext, IsCalling, IsNotLate, KeepsRight, CallFollowsBy, next_row}
+use Rattle.lot_rwlock.specs.RwLockCalls.{HasDeadline, MayStand, MayBeTold, MayStandNext, IsCalling, IsNotLate, CallFollowsBy, next_row}
 use Rattle.lot_rwlock.specs.RwLockMoves.{rwlock_move, rwlock_hears}
 use Rattle.lot_rwlock.specs.RwLockBegins.{admission_of, rwlock_first, rwlock_right}
 use Rattle.lot_rwlock.specs.RwLockOpenings.{Opens}
@@ -64,7 +61,7 @@ use Rattle.abstract_locks.specs.Purposes.{rules_of}
 use Rattle.lot_machine.specs.Machine.{State, place_at, word_at, kind_at, owners_at, shares_at, share_at, queue_at, section_at, can_do, are_free, is_free, put, state_after_act, state_after_late_under, reply_to}
 use Rattle.lot_machine.specs.Fits.{IsShaped}
 use Rattle.lot_machine.proofs.Shape.{main_key_there}
-use Rattle.lot_world.specs.Refinement.{lock_state, taken_at}
+use Rattle.lot_world.specs.Refinement.{taken_at}
 use Rattle.lot_world.specs.MutexDeeds.{acts}
 use Rattle.lot_world.specs.Stations.{station, doing_on}
 use Rattle.lot_world.specs.SitesOf.{IsSteady, Goes, CallsMutex, TakesOne, HasRoom, is_mutex, rules_at, key_of}
@@ -163,10 +160,6 @@ word_few r s readers site room limit = by_sort r.sort refl readers
     by_sort Recursive e h = subst (λ sort. code_of sort r.limit s < 2 ^ 64) (sym e) small
     by_sort locks.Mutex e h = absurd cc
     by_sort Semaphore e h = absurd cc
-
--- who wakes others behind a downgrade owns what it got by it
-keeps_right : (r : Rules) (a : Admission) (s : Site) (t : ℕ) (p : RwLockPlace) → IsSite r s → s.doing t ≡ rwlock_doing p → MayStand a p → KeepsRight s.lock t p.purpose p.at
-keeps_right r a s t p site doing stands = ?
 
 -- ---------------------------------------------------------------- deeds that leave the others as they are
 
@@ -298,12 +291,7 @@ module _ (w : State) (t l : ℕ) (a : Admission) (p : RwLockPlace) (steady : IsS
 
   -- a thread that is there
   calling : IsCalling (rules_at w l) a here t p
-  calling = record {
-    at = at_now;
-    stands = stands;
-    keeps = keeps_right (rules_at w l) a here t p site doing_now stands;
-    there = subst (λ n. t < n) (sym (steady.numbers.threads l)) there;
-  }
+  calling = record { at = at_now; stands = stands }
 
   tells_by : (whom : Option ℕ) (told : Reply) → IsNotLate told → MayHear (rules_at w l) a here t p p.at whom told → CallFollowsBy (rules_at w l) a here t l p whom told
   tells_by whom told now hears = rwlock_sections_tell (rules_at w l) a here t l p whom told calling hears now
