@@ -1,5 +1,5 @@
 -- Each deed keeps what holds of a lock of the lot between steps.
-use Rattle.std.proofs.Common.{ℕ, Bool, true, false, Option, Some, None, if◌then◌else◌, ◌==◌, ◌≡◌, ◌≢◌, ◌≤◌, ◌+◌, ◌⊎◌, inl, inr, List, [], ◌∷◌, ◌++◌, refl, sym, ap, ◌∙◌, arith, get_or-set_other}
+use Rattle.std.proofs.Common.{ℕ, Bool, true, false, Option, Some, None, if◌then◌else◌, ◌==◌, ◌≡◌, ◌≢◌, ◌≤◌, ◌<◌, subst, ◌+◌, ◌⊎◌, inl, inr, List, [], ◌∷◌, ◌++◌, refl, sym, ap, ◌∙◌, arith, get_or-set_same, get_or-set_other}
 use Rattle.std.proofs.Math.Seq.{take-nil, drop-nil}
 use Rattle.std.specs.Prelude.{not, drop, ◌-◌, ◌||◌, slice_index, slice_set, sum, length}
 use Rattle.std.proofs.lemmas.Bool.{cases_lt}
@@ -28,6 +28,10 @@ more_share xs t = elim (cases_lt t (length xs)) [
   | inl lt ↦ let e = sum_by-set (λ (n : ℕ). n) xs t (slice_index xs t + 1) 0 lt in omega arith
   | inr past ↦ rw (set_past xs t (slice_index xs t + 1) past) (omega arith)
 ]
+
+-- whoever is there has a share that it is given
+share_own : (xs : List ℕ) (t : ℕ) → t < length xs → 1 ≤ slice_index (slice_set xs t (slice_index xs t + 1)) t
+share_own xs t there = let e : slice_index (slice_set xs t (slice_index xs t + 1)) t ≡ slice_index xs t + 1 = get_or-set_same xs t (slice_index xs t + 1) 0 there in omega arith
 
 pub fewer_share : (xs : List ℕ) (t : ℕ) → 1 ≤ slice_index xs t → sum (slice_set xs t (slice_index xs t - 1)) + 1 ≡ sum xs
 fewer_share xs t h = elim (cases_lt t (length xs)) [
@@ -360,7 +364,7 @@ module _ (r : Rules) (s : Site) (t : ℕ) (h : IsSite r s) where
   way_debt : (claims : Option Claim) → (s.lock.queue ≢ []) ⊎ ((s.doing t).brings ≡ true) → IsDebtor r.sort (gives_way s (s.doing t) claims) ⊎ ((s.lock.queue ≢ []) × (s.parked ≡ false) × ((s.doing t).sets ≡ false))
   way_debt claims one = grind (arith, h.brought t, h.setting t)
 
-  shared_local : (n : Needed r (Case (Convert Exclusive Shared)) s t) → Local r s (done r (Convert Exclusive Shared) s t (locks.with_owner t Shared (locks.without_owner t Exclusive s.lock))) t (s.doing t) (gives_way s (s.doing t) None)
+  shared_local : (n : Needed r (Case (Convert Exclusive Shared)) s t) → Local r s (done r (Convert Exclusive Shared) s t (locks.with_owner t Shared (locks.without_owner t Exclusive s.lock))) t (s.doing t) (gives_way s (s.doing t) (Some (Has Shared)))
   shared_local n = record {
     state = state (Convert Exclusive Shared) n;
     parked = λ e. grind arith;
@@ -374,13 +378,13 @@ module _ (r : Rules) (s : Site) (t : ℕ) (h : IsSite r s) where
     covered = h.covered t;
     brought = h.brought t;
     setting = h.setting t;
-    held = λ c e. absurd cc;
+    held = λ c e. let claim : Has Shared ≡ c = cc in subst (Holds (locks.with_owner t Shared (locks.without_owner t Exclusive s.lock)) t) claim (share_own s.lock.shared t n.1.2);
     unwoken = λ e. h.unwoken t e;
     others_hold = λ u c ne e. grind (arith, share_other);
     others_stand = λ u ne e. inl e;
     others_carry = λ x u ne e. e;
     taken_by = λ x a e. grind (arith, h.carried x);
-    main = λ e free room. elim (way_debt None e) [ inl k ↦ inl k | inr k ↦ inr (inr k) ];
+    main = λ e free room. elim (way_debt (Some (Has Shared)) e) [ inl k ↦ inl k | inr k ↦ inr (inr k) ];
     main_brought = λ e apart free room. inl (grind (arith, h.covered t));
     second = λ e none. grind (arith, more_share s.lock.shared t);
   }
@@ -490,7 +494,7 @@ module _ (r : Rules) (s : Site) (t : ℕ) (h : IsSite r s) where
   act_keeps Rollback n = acts Rollback (rolls_by n s.lock.pending refl (state Rollback n))
   act_keeps (Convert Exclusive Shared) n = acts (Convert Exclusive Shared) (shared_local n)
   act_keeps (Convert Exclusive Upgradable) n = acts (Convert Exclusive Upgradable) (grind (arith, nat_tests, state (Convert Exclusive Upgradable) n, h.emptied t, h.covered t, h.unwoken t, h.brought t, h.setting t))
-  act_keeps (Convert Upgradable Shared) n = acts (Convert Upgradable Shared) (grind (arith, nat_tests, state (Convert Upgradable Shared) n, h.emptied t, h.covered t, h.unwoken t, h.brought t, h.setting t, share_other, more_share s.lock.shared t))
+  act_keeps (Convert Upgradable Shared) n = acts (Convert Upgradable Shared) (grind (arith, nat_tests, state (Convert Upgradable Shared) n, h.emptied t, h.covered t, h.unwoken t, h.brought t, h.setting t, share_other, share_own s.lock.shared t, more_share s.lock.shared t))
   act_keeps (Convert Upgradable Exclusive) n = acts (Convert Upgradable Exclusive) (upgrades n (readers s.lock == 0) refl (state (Convert Upgradable Exclusive) n))
   act_keeps (Convert x y) n = absurd (grind arith)
   act_keeps (HandOff x successor) n = acts (HandOff x successor) (hands_local x successor n)

@@ -1,5 +1,5 @@
 -- A lock of the lot: its abstract state, its parked bits, and what each thread does about it. No word, no place and no loop.
-use Rattle.std.specs.Prelude.{ℕ, Bool, true, false, Option, Some, None, if◌then◌else◌, ◌==◌, ◌&&◌, ◌||◌, not, ◌≤◌, ◌≡◌, ◌≢◌, ◌⊎◌, List, [], ◌∷◌, ◌++◌, nat_le, is_none}
+use Rattle.std.specs.Prelude.{ℕ, Bool, true, false, Option, Some, None, if◌then◌else◌, ◌==◌, ◌&&◌, ◌||◌, not, ◌≤◌, ◌≡◌, ◌≢◌, ◌⊎◌, length, ◌<◌, List, [], ◌∷◌, ◌++◌, nat_le, is_none}
 pub use Rattle.lot_base.specs.declared.keys.Line.{Line}
 pub use Rattle.lot_base.specs.declared.keys.Line.TheVariants.{Main, Second}
 use Rattle.lot_base.specs.declared.wants.Want.{Want}
@@ -213,8 +213,7 @@ case_doing sort s now Settle d = record d { retries = None; claims = None }
 case_doing sort s now (Leave Shared) d = shares_less sort s d
 case_doing sort s now (Leave x) d = gives_way s d None
 case_doing sort s now (Convert x Exclusive) d = record d { claims = upgraded now }
-case_doing sort s now (Convert x Upgradable) d = gives_way s d (Some (Has Upgradable))
-case_doing sort s now (Convert x y) d = gives_way s d None
+case_doing sort s now (Convert x y) d = gives_way s d (Some (Has y))
 case_doing sort s now (Park x) d = record d { retries = None; empty = None }
 case_doing sort s now Aside d = record d { retries = None; empty = None }
 case_doing sort s now (TakeFirst x) d = taking_main true now d
@@ -310,7 +309,7 @@ CaseFits r s t (Enter x) d = (d.retries ≡ None) ⊎ (d.retries ≡ Some x)
 CaseFits r s t Pend d = Unit {0}
 CaseFits r s t Settle d = Unit {0}
 CaseFits r s t (Leave x) d = d.wakes ≡ None
-CaseFits r s t (Convert x y) d = (d.wakes ≡ None) × (d.carries ≡ false)
+CaseFits r s t (Convert x y) d = (d.wakes ≡ None) × (d.carries ≡ false) × (t < length s.lock.shared)
 CaseFits r s t (Park x) d = (d.inside ≡ Some Main) × (s.parked ≡ true) × (d.wakes ≡ None) × (d.covers ≡ false)
 CaseFits r s t Aside d = (d.inside ≡ Some Second) × (s.aside_parked ≡ true) × (d.wakes ≡ None)
 CaseFits r s t (TakeFirst x) d = (d.inside ≡ Some Main) × (d.carries ≡ false) × (d.wakes ≢ Some Second)

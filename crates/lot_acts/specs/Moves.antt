@@ -18,7 +18,7 @@ use Rattle.lot_acts.specs.declared.acts.Whom as whom
 use Rattle.lot_acts.specs.Acts.{holds, wakes_taken, any_picked}
 use Rattle.lot_acts.specs.Profiles.{Profile, blank, hand, in_hand}
 use Rattle.lot_acts.specs.Stations.{Station, station_by, nowhere}
-use Rattle.abstract_locks.specs.Locks.{Rules, Aside, HandOff, Late as GivesUp, Park, TakeAside, TakePicked, standing, times, unpicked, without}
+use Rattle.abstract_locks.specs.Locks.{Rules, Aside, HandOff, Late as GivesUp, Park, TakeAside, TakePicked, Wake, standing, times, unpicked, without}
 use Rattle.abstract_locks.specs.Sites.{Site, Pends, Deed, Line, Main, Second, End, In, Out, Mark, Clear, FindNobody, Case, is_empty}
 use Rattle.abstract_locks.specs.Codes.{code}
 
@@ -65,12 +65,13 @@ MayTake r s start Second whom none_left = whom ≡ s.lock.aside
 
 -- ---------------------------------------------------------------- deeds
 
--- of a step on the word
+-- of a step on the word: nobody is woken by it, or handed the lock
 abbrev pub AreOfWord : List Deed → Type 0
 AreOfWord [] = Unit {0}
 AreOfWord (End ∷ []) = Unit {0}
 AreOfWord (Mark m ∷ []) = Unit {0}
 AreOfWord (Clear m ∷ []) = Unit {0}
+AreOfWord (Case Wake ∷ ds) = ⊥
 AreOfWord (Case (HandOff right successor) ∷ ds) = ⊥
 AreOfWord (Case case ∷ []) = Unit {0}
 AreOfWord (Case case ∷ End ∷ []) = Unit {0}

@@ -27,12 +27,17 @@ use Rattle.lot_rwlock.specs.declared.release.WakeAt.TheVariants as waking
 use Rattle.lot_rwlock.specs.RwLockSteps.{wanted, from_of, to_of, start_of, patience_of, park_next, wake_next, rwlock_next}
 use Rattle.lot_rwlock.specs.RwLockDeeds.{Admits, IsFreshTry, MayHear, MayHearParking, MayHearWaking, rwlock_deeds, park_deeds, wake_deeds, rwlock_doing}
 use Rattle.lot_rwlock.specs.RwLockProfiles.{rwlock_profile}
-use Rattle.lot_rwlock.specs.RwLockCalls.{MayWait, HasDeadline, ParksBy, EntersAt, SharesAt, WritesAt, ReleasesAt, DowngradesAt, UpgradesAt, StandsAt, KeepsRight, IsNotLate, next_row, CallFollowsBy, RwLockSectionsTell}
+use Rattle.lot_rwlock.specs.RwLockCalls.{MayWait, HasDeadline, ParksBy, EntersAt, SharesAt, WritesAt, ReleasesAt, DowngradesAt, UpgradesAt, StandsAt, IsNotLate, next_row, CallFollowsBy, RwLockSectionsTell}
 use Rattle.lot_rwlock.proofs.RwLockCallRights.{recalls, goes, keeps, loses, replaces}
-use Rattle.abstract_locks.specs.Locks.{LockCase, Rules, Rights, Park, Aside, TakeAside, TakePicked, Wake, Late, Owns, after_case, rights_of, with_right, without_right}
+use Rattle.abstract_locks.specs.Locks.{LockCase, LockState, Rules, Rights, Park, Aside, TakeAside, TakePicked, Wake, Late, Owns, after_case, rights_of, with_right, without_right}
 use Rattle.abstract_locks.specs.Runs.{CallState, AtLock, going_on, EntersAnswer, ConvertsAnswer}
-use Rattle.abstract_locks.specs.Sites.{Site, IsSite, Deed, Case}
+use Rattle.abstract_locks.specs.Sites.{Doing, Has, Site, IsSite, Deed, Case}
 use Rattle.abstract_locks.proofs.Rights.{regained}
+
+-- who wakes others behind a downgrade owns what it got by it
+abbrev KeepsRight : LockState → ℕ → RwLockPurpose → RwLockAt → Type 0
+KeepsRight s t (purpose.Downgrade d) (at.Wake m to) = Owns s t (wanted (to_of d))
+KeepsRight s t q to = Unit {0}
 
 module _ (r : Rules) (a : Admission) (s : Site) (t l : ℕ) (admits : Admits r a) (h : IsSite r s) (there : t < length s.lock.shared) where
   abbrev of : RwLockPurpose → Bool → RwLockAt → RwLockPlace
@@ -288,21 +293,29 @@ module _ (r : Rules) (a : Admission) (s : Site) (t l : ℕ) (admits : Admits r a
   tries_tell again at.Load whom told fits hears = absurd hears
   tries_tell again to whom told fits hears = absurd fits
 
+keeps_right : {r : Rules} {s : Site} {t : ℕ} → IsSite r s → (q : RwLockPurpose) (again : Bool) (to : RwLockAt) → s.doing t ≡ rwlock_doing (record { purpose = q; retries = again; at = to }) → KeepsRight s.lock t q to
+keeps_right {s = s} {t} site (purpose.Downgrade d) again (at.Wake m waking.Enter) is = site.held t (Has (wanted (to_of d))) (ap (λ (x : Doing). x.claims) is)
+keeps_right {s = s} {t} site (purpose.Downgrade d) again (at.Wake m waking.Take) is = site.held t (Has (wanted (to_of d))) (ap (λ (x : Doing). x.claims) is)
+keeps_right {s = s} {t} site (purpose.Downgrade d) again (at.Wake m (waking.Clear any)) is = site.held t (Has (wanted (to_of d))) (ap (λ (x : Doing). x.claims) is)
+keeps_right {s = s} {t} site (purpose.Downgrade d) again (at.Wake m (waking.Leave any)) is = site.held t (Has (wanted (to_of d))) (ap (λ (x : Doing). x.claims) is)
+keeps_right site (purpose.Downgrade d) again to is = tt
+keeps_right site q again to is = tt
+
 pub rwlock_sections_tell : RwLockSectionsTell
-rwlock_sections_tell r a s t l p whom told calling hears now = by_purpose p.purpose p.retries p.at calling.stands.place calling.keeps calling.at.fresh calling.at.doing hears
+rwlock_sections_tell r a s t l p whom told calling hears now = by_purpose p.purpose p.retries p.at calling.stands.place (keeps_right calling.at.site p.purpose p.retries p.at calling.at.doing) calling.at.fresh calling.at.doing hears
   where
     admits : Admits r a
     admits = calling.at.admits
 
     by_patience : (how : Patience) (again : Bool) (to : RwLockAt) → UpgradesAt how again to → s.doing t ≡ rwlock_doing (record { purpose = purpose.Upgrade how; retries = again; at = to })
         → MayHear r a s t (record { purpose = purpose.Upgrade how; retries = again; at = to }) to whom told → CallFollowsBy r a s t l (record { purpose = purpose.Upgrade how; retries = again; at = to }) whom told
-    by_patience Try again to stands doing hears = tries_tell r a s t l admits calling.at.site calling.there again to whom told stands hears
-    by_patience Patient again to stands doing hears = upgrades_tell r a s t l admits calling.at.site calling.there Patient again to whom told (λ e. cc) stands doing now hears
-    by_patience Timed again to stands doing hears = upgrades_tell r a s t l admits calling.at.site calling.there Timed again to whom told (λ e. cc) stands doing now hears
+    by_patience Try again to stands doing hears = tries_tell r a s t l admits calling.at.site calling.at.there again to whom told stands hears
+    by_patience Patient again to stands doing hears = upgrades_tell r a s t l admits calling.at.site calling.at.there Patient again to whom told (λ e. cc) stands doing now hears
+    by_patience Timed again to stands doing hears = upgrades_tell r a s t l admits calling.at.site calling.at.there Timed again to whom told (λ e. cc) stands doing now hears
 
     by_purpose : (q : RwLockPurpose) (again : Bool) (to : RwLockAt) → StandsAt q again to → KeepsRight s.lock t q to → IsFreshTry (patience_of q) again → s.doing t ≡ rwlock_doing (record { purpose = q; retries = again; at = to })
         → MayHear r a s t (record { purpose = q; retries = again; at = to }) to whom told → CallFollowsBy r a s t l (record { purpose = q; retries = again; at = to }) whom told
-    by_purpose (purpose.Enter x how) again to stands own fresh doing hears = enters_tell r a s t l admits calling.at.site calling.there x how again to whom told stands fresh doing now hears
-    by_purpose (purpose.Release x) again to stands own fresh doing hears = releases_tell r a s t l admits calling.at.site calling.there x again to whom told stands hears
-    by_purpose (purpose.Downgrade d) again to stands own fresh doing hears = downgrades_tell r a s t l admits calling.at.site calling.there d again to whom told stands own hears
+    by_purpose (purpose.Enter x how) again to stands own fresh doing hears = enters_tell r a s t l admits calling.at.site calling.at.there x how again to whom told stands fresh doing now hears
+    by_purpose (purpose.Release x) again to stands own fresh doing hears = releases_tell r a s t l admits calling.at.site calling.at.there x again to whom told stands hears
+    by_purpose (purpose.Downgrade d) again to stands own fresh doing hears = downgrades_tell r a s t l admits calling.at.site calling.at.there d again to whom told stands own hears
     by_purpose (purpose.Upgrade how) again to stands own fresh doing hears = by_patience how again to stands doing hears

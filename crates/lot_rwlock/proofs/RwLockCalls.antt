@@ -165,7 +165,7 @@ module _ (r : Rules) (a : Admission) (s : Site) (t l : ℕ) (op : Op) (admits : 
 
     takes : (was : ℕ) → EntersAt x how at.Load → decision a (wanted x) how was ≡ decisions.Take → (b : Bool) → (v == was) ≡ b
         → Tells (place (at.Decide was)) (exchanged_deeds (purpose.Enter x how) decisions.Take b (decided a (place (at.Decide was)) v)) (if b then came_in (place (at.Decide was)) else looked a (place (at.Decide was)) v)
-    takes was fits d true e = came x was fits (may_enter r a s t l op admits h nowhere x how again fresh (rw (eqb-true v was e) d)).0
+    takes was fits d true e = came x was fits (may_enter r a s t l op admits h nowhere there x how again fresh (rw (eqb-true v was e) d)).0
     takes was fits d false e = looks (at.Decide was) tt fits
 
     marks : (was : ℕ) → EntersAt x how at.Load → (b : Bool)
@@ -484,13 +484,13 @@ rwlock_steps_tell r a s t l p op calling nowhere e = by_purpose p.purpose p.retr
 
     by_patience : (how : Patience) (again : Bool) (to : RwLockAt) → UpgradesAt how again to → AtUpgrade how to → s.doing t ≡ rwlock_doing (record { purpose = purpose.Upgrade how; retries = again; at = to })
         → rwlock_act l a (record { purpose = purpose.Upgrade how; retries = again; at = to }) ≡ act.Word l op → CallFollowsBy r a s t l (record { purpose = purpose.Upgrade how; retries = again; at = to }) None (reply.Value (code r s))
-    by_patience Try again to stands fits doing e = tries_up r a s t l op admits calling.at.site nowhere calling.there again to fits doing
-    by_patience Patient again to stands fits doing e = waits_up r a s t l op admits calling.at.site nowhere calling.there Patient again to fits stands doing e (λ f. cc)
-    by_patience Timed again to stands fits doing e = waits_up r a s t l op admits calling.at.site nowhere calling.there Timed again to fits stands doing e (λ f. cc)
+    by_patience Try again to stands fits doing e = tries_up r a s t l op admits calling.at.site nowhere calling.at.there again to fits doing
+    by_patience Patient again to stands fits doing e = waits_up r a s t l op admits calling.at.site nowhere calling.at.there Patient again to fits stands doing e (λ f. cc)
+    by_patience Timed again to stands fits doing e = waits_up r a s t l op admits calling.at.site nowhere calling.at.there Timed again to fits stands doing e (λ f. cc)
 
     by_purpose : (q : RwLockPurpose) (again : Bool) (to : RwLockAt) → StandsAt q again to → AtFits q to → IsFreshTry (patience_of q) again → s.doing t ≡ rwlock_doing (record { purpose = q; retries = again; at = to })
         → rwlock_act l a (record { purpose = q; retries = again; at = to }) ≡ act.Word l op → CallFollowsBy r a s t l (record { purpose = q; retries = again; at = to }) None (reply.Value (code r s))
-    by_purpose (purpose.Enter x how) again to stands fits fresh doing e = enters_tell r a s t l op admits calling.at.site nowhere calling.there x how again to stands fresh doing e
-    by_purpose (purpose.Release x) again to stands fits fresh doing e = releases_tell r a s t l op admits calling.at.site nowhere calling.there x again to stands doing e
-    by_purpose (purpose.Downgrade d) again to stands fits fresh doing e = downgrades_tell r a s t l op admits calling.at.site nowhere calling.there d again to stands doing e
+    by_purpose (purpose.Enter x how) again to stands fits fresh doing e = enters_tell r a s t l op admits calling.at.site nowhere calling.at.there x how again to stands fresh doing e
+    by_purpose (purpose.Release x) again to stands fits fresh doing e = releases_tell r a s t l op admits calling.at.site nowhere calling.at.there x again to stands doing e
+    by_purpose (purpose.Downgrade d) again to stands fits fresh doing e = downgrades_tell r a s t l op admits calling.at.site nowhere calling.at.there d again to stands doing e
     by_purpose (purpose.Upgrade how) again to stands fits fresh doing e = by_patience how again to stands fits doing e

@@ -1,5 +1,5 @@
 -- Each step on the word of a reader-writer lock does to the lock what its deeds say.
-use Rattle.std.proofs.Common.{ℕ, Bool, true, false, Option, Some, None, [], ◌∷◌, if◌then◌else◌, ◌==◌, ◌&&◌, ◌≡◌, ◌≢◌, ◌⊎◌, not, ◌≤◌, inl, inr, subst, refl, ap, ◌∙◌, sym, arith, nat_le}
+use Rattle.std.proofs.Common.{ℕ, Bool, true, false, Option, Some, None, [], ◌∷◌, if◌then◌else◌, ◌==◌, ◌&&◌, ◌≡◌, ◌≢◌, ◌⊎◌, not, ◌≤◌, ◌<◌, length, inl, inr, subst, refl, ap, ◌∙◌, sym, arith, nat_le}
 use Rattle.std.proofs.lemmas.Bool.Decides.{nat_tests}
 use Rattle.std.proofs.lemmas.Bool.{eqb-true}
 use Rattle.lot_base.specs.declared.keys.Line.{Line}
@@ -115,20 +115,20 @@ module _ (r : Rules) (s : Site) (t : ℕ) (rw_sort : has_readers r.sort ≡ true
       by_bit false is ea own alone = record { needed = grind (arith, nat_tests); doing = grind (arith, nat_tests) }
 
   -- a greater right becomes a lesser one, which is kept
-  downgrades : (d : Downgrade) (a : Bool) → s.doing t ≡ at_rest None (Some (Has (wanted (from_of d)))) → s.parked ≡ a → Knows r.sort (wanted (to_of d))
+  downgrades : t < length s.lock.shared → (d : Downgrade) (a : Bool) → s.doing t ≡ at_rest None (Some (Has (wanted (from_of d)))) → s.parked ≡ a → Knows r.sort (wanted (to_of d))
       → Follows r s t (does_and_wakes a (Case (Convert (wanted (from_of d)) (wanted (to_of d))))) (if a then record idle { wakes = Some Main; claims = kept_claim (Some (wanted (to_of d))) } else idle)
-  downgrades downgrade.ToShared true is ea knows = let own = h.held t (Has Exclusive) (grind arith) in record { needed = grind (arith, nat_tests); doing = grind (arith, nat_tests) }
-  downgrades downgrade.ToShared false is ea knows = let own = h.held t (Has Exclusive) (grind arith) in record { needed = grind (arith, nat_tests); doing = grind (arith, nat_tests) }
-  downgrades downgrade.ToUpgradable true is ea knows = let own = h.held t (Has Exclusive) (grind arith) in record { needed = grind (arith, nat_tests); doing = grind (arith, nat_tests) }
-  downgrades downgrade.ToUpgradable false is ea knows = let own = h.held t (Has Exclusive) (grind arith) in record { needed = grind (arith, nat_tests); doing = grind (arith, nat_tests) }
-  downgrades downgrade.UpgradableToShared true is ea knows = let own = h.held t (Has Upgradable) (grind arith) in record { needed = grind (arith, nat_tests); doing = grind (arith, nat_tests) }
-  downgrades downgrade.UpgradableToShared false is ea knows = let own = h.held t (Has Upgradable) (grind arith) in record { needed = grind (arith, nat_tests); doing = grind (arith, nat_tests) }
+  downgrades there downgrade.ToShared true is ea knows = let own = h.held t (Has Exclusive) (grind arith) in record { needed = grind (arith, nat_tests); doing = grind (arith, nat_tests) }
+  downgrades there downgrade.ToShared false is ea knows = let own = h.held t (Has Exclusive) (grind arith) in record { needed = grind (arith, nat_tests); doing = grind (arith, nat_tests) }
+  downgrades there downgrade.ToUpgradable true is ea knows = let own = h.held t (Has Exclusive) (grind arith) in record { needed = grind (arith, nat_tests); doing = grind (arith, nat_tests) }
+  downgrades there downgrade.ToUpgradable false is ea knows = let own = h.held t (Has Exclusive) (grind arith) in record { needed = grind (arith, nat_tests); doing = grind (arith, nat_tests) }
+  downgrades there downgrade.UpgradableToShared true is ea knows = let own = h.held t (Has Upgradable) (grind arith) in record { needed = grind (arith, nat_tests); doing = grind (arith, nat_tests) }
+  downgrades there downgrade.UpgradableToShared false is ea knows = let own = h.held t (Has Upgradable) (grind arith) in record { needed = grind (arith, nat_tests); doing = grind (arith, nat_tests) }
 
   -- an upgrade owns where nobody shares beside it, and is pending where somebody does
-  upgrades : (b : Bool) → s.doing t ≡ at_rest None (Some (Has Upgradable)) → (count_in (code r s) == 1) ≡ b → Knows r.sort Exclusive
+  upgrades : t < length s.lock.shared → (b : Bool) → s.doing t ≡ at_rest None (Some (Has Upgradable)) → (count_in (code r s) == 1) ≡ b → Knows r.sort Exclusive
       → Follows r s t (does_and_wakes (not b) (Case (Convert Upgradable Exclusive))) (if b then idle else at_rest None (Some (Pends true)))
-  upgrades true is eb knows = let own = h.held t (Has Upgradable) (grind arith) in record { needed = grind (arith, nat_tests, tells.count); doing = grind (arith, nat_tests, tells.count) }
-  upgrades false is eb knows =
+  upgrades there true is eb knows = let own = h.held t (Has Upgradable) (grind arith) in record { needed = grind (arith, nat_tests, tells.count); doing = grind (arith, nat_tests, tells.count) }
+  upgrades there false is eb knows =
       let own = h.held t (Has Upgradable) (grind arith) in
       let some : (readers s.lock == 0) ≡ false = grind (arith, nat_tests, tells.count) in
       record { needed = grind (arith, nat_tests, tells.count); doing = put_same s.doing t _ ∙ rw (is, some) (rw some refl) }
@@ -154,7 +154,7 @@ tries false x = inl refl
 
 -- ---------------------------------------------------------------- all places
 
-module _ (r : Rules) (a : Admission) (s : Site) (t l : ℕ) (op : Op) (admits : Admits r a) (h : IsSite r s) (nowhere : standing t s.lock ≡ 0) where
+module _ (r : Rules) (a : Admission) (s : Site) (t l : ℕ) (op : Op) (admits : Admits r a) (h : IsSite r s) (nowhere : standing t s.lock ≡ 0) (there : t < length s.lock.shared) where
   tells : TellsTrue r s
   tells = words_tell_true r s admits.0 h
 
@@ -314,8 +314,8 @@ module _ (r : Rules) (a : Admission) (s : Site) (t l : ℕ) (op : Op) (admits : 
 
     downgraded : (d : Downgrade) (b : Bool) → s.parked ≡ b → s.doing t ≡ at_rest None (Some (Has (wanted (from_of d))))
         → Follows r s t (does_and_wakes b (Case (Convert (wanted (from_of d)) (wanted (to_of d))))) (doing_next (wakes_or_ends (of (purpose.Downgrade d) at.GiveWay) Main b))
-    downgraded d true e is = downgrades r s t admits.0 h tells d true is e (knows_all r admits.0 (to_of d))
-    downgraded d false e is = downgrades r s t admits.0 h tells d false is e (knows_all r admits.0 (to_of d))
+    downgraded d true e is = downgrades r s t admits.0 h tells there d true is e (knows_all r admits.0 (to_of d))
+    downgraded d false e is = downgrades r s t admits.0 h tells there d false is e (knows_all r admits.0 (to_of d))
 
     downgrades_fit : (d : Downgrade) (to : RwLockAt) → AtFits (purpose.Downgrade d) to → s.doing t ≡ rwlock_doing (of (purpose.Downgrade d) to) → rwlock_act l a (of (purpose.Downgrade d) to) ≡ act.Word l op → FollowsAt (of (purpose.Downgrade d) to)
     downgrades_fit d at.GiveWay fits is e = rw tells.parked (downgraded d s.parked refl is)
@@ -333,8 +333,8 @@ module _ (r : Rules) (a : Admission) (s : Site) (t l : ℕ) (op : Op) (admits : 
 
       upgraded_now : (b : Bool) → (count_in v == 1) ≡ b → s.doing t ≡ at_rest None (Some (Has Upgradable))
           → Follows r s t (does_and_wakes (not b) (Case (Convert Upgradable Exclusive))) (doing_next (if b then next.End (entered how) else goes_to (upgrade at.GiveWay) at.Look false))
-      upgraded_now true e is = upgrades r s t admits.0 h tells true is e (knows_all r admits.0 access.Exclusive)
-      upgraded_now false e is = upgrades r s t admits.0 h tells false is e (knows_all r admits.0 access.Exclusive)
+      upgraded_now true e is = upgrades r s t admits.0 h tells there true is e (knows_all r admits.0 access.Exclusive)
+      upgraded_now false e is = upgrades r s t admits.0 h tells there false is e (knows_all r admits.0 access.Exclusive)
 
       pub upgrade_counts : (to : RwLockAt) → s.doing t ≡ at_rest upgrading (Some (Pends true)) → (b : Bool) → (count_in v == 0) ≡ b
           → Follows r s t (if b then Case Settle ∷ End ∷ [] else []) (doing_next (if b then next.End (entered how) else stays (upgrade to) (at.Count v)))
@@ -370,7 +370,7 @@ module _ (r : Rules) (a : Admission) (s : Site) (t l : ℕ) (op : Op) (admits : 
 
       takes_up : (to : RwLockAt) (expected : ℕ) → again ≡ false → s.doing t ≡ at_rest upgrading (Some (Has Upgradable)) → (count_in expected == 1) ≡ true → (b : Bool) → (v == expected) ≡ b
           → Follows r s t (exchanged_deeds (purpose.Upgrade how) decisions.Take b (decided a (upgrade to) v)) (doing_next (if b then came_in (upgrade to) else looked a (upgrade to) v))
-      takes_up to expected new is one true e = upgrades r s t admits.0 h tells true (is ∙ ap (λ (b : Bool). at_rest (retrying b Exclusive) (Some (Has Upgradable))) new) (ap (λ n. count_in n == 1) (eqb-true v expected e) ∙ one) (knows_all r admits.0 access.Exclusive)
+      takes_up to expected new is one true e = upgrades r s t admits.0 h tells there true (is ∙ ap (λ (b : Bool). at_rest (retrying b Exclusive) (Some (Has Upgradable))) new) (ap (λ n. count_in n == 1) (eqb-true v expected e) ∙ one) (knows_all r admits.0 access.Exclusive)
       takes_up to expected new is one false e = looks_up to new is (count_in v == 1)
 
       decides_up : (expected : ℕ) → again ≡ false → s.doing t ≡ at_rest upgrading (Some (Has Upgradable)) → (b : Bool) → (count_in expected == 1) ≡ b
@@ -390,14 +390,14 @@ rwlock_steps_follow r a s t l p op at nowhere e = by_purpose p.purpose p.retries
     by_patience : (how : Patience) (again : Bool) (to : RwLockAt) → IsFreshTry how again → AtUpgrade how to → s.doing t ≡ rwlock_doing (record { purpose = purpose.Upgrade how; retries = again; at = to })
         → rwlock_act l a (record { purpose = purpose.Upgrade how; retries = again; at = to }) ≡ act.Word l op
         → Follows r s t (rwlock_deeds a (record { purpose = purpose.Upgrade how; retries = again; at = to }) None (reply.Value (code r s))) (doing_next (rwlock_next a (record { purpose = purpose.Upgrade how; retries = again; at = to }) (reply.Value (code r s))))
-    by_patience Try again to fresh fits is f = try_fit r a s t l op at.admits at.site nowhere again Try fresh to fresh fits is f
-    by_patience Patient again to fresh fits is f = pending_fit r a s t l op at.admits at.site nowhere again Patient fresh to fits is f
-    by_patience Timed again to fresh fits is f = pending_fit r a s t l op at.admits at.site nowhere again Timed fresh to fits is f
+    by_patience Try again to fresh fits is f = try_fit r a s t l op at.admits at.site nowhere at.there again Try fresh to fresh fits is f
+    by_patience Patient again to fresh fits is f = pending_fit r a s t l op at.admits at.site nowhere at.there again Patient fresh to fits is f
+    by_patience Timed again to fresh fits is f = pending_fit r a s t l op at.admits at.site nowhere at.there again Timed fresh to fits is f
 
     by_purpose : (q : RwLockPurpose) (again : Bool) (to : RwLockAt) → IsFreshTry (patience_of q) again → AtFits q to → s.doing t ≡ rwlock_doing (record { purpose = q; retries = again; at = to })
         → rwlock_act l a (record { purpose = q; retries = again; at = to }) ≡ act.Word l op
         → Follows r s t (rwlock_deeds a (record { purpose = q; retries = again; at = to }) None (reply.Value (code r s))) (doing_next (rwlock_next a (record { purpose = q; retries = again; at = to }) (reply.Value (code r s))))
-    by_purpose (purpose.Enter x how) again to fresh fits is f = enters_fit r a s t l op at.admits at.site nowhere x how again fresh to fits is f
-    by_purpose (purpose.Release x) again to fresh fits is f = releases_fit r a s t l op at.admits at.site nowhere again x to fits is f
-    by_purpose (purpose.Downgrade d) again to fresh fits is f = downgrades_fit r a s t l op at.admits at.site nowhere again d to fits is f
+    by_purpose (purpose.Enter x how) again to fresh fits is f = enters_fit r a s t l op at.admits at.site nowhere at.there x how again fresh to fits is f
+    by_purpose (purpose.Release x) again to fresh fits is f = releases_fit r a s t l op at.admits at.site nowhere at.there again x to fits is f
+    by_purpose (purpose.Downgrade d) again to fresh fits is f = downgrades_fit r a s t l op at.admits at.site nowhere at.there again d to fits is f
     by_purpose (purpose.Upgrade how) again to fresh fits is f = by_patience how again to fresh fits is f

@@ -1,5 +1,5 @@
 -- A call of a reader-writer lock goes on where it may stand: a try isn't woken, and nobody comes to decide who has to be refused.
-use Rattle.std.proofs.Common.{ℕ, Bool, true, false, if◌then◌else◌, ◌==◌, ◌&&◌, not, ◌≡◌, ◌+◌, ◌/◌, ◌%◌, ◌^◌, ◌<◌, refl, sym, ap, ◌∙◌, subst, arith, nat_le, ◌||◌}
+use Rattle.std.proofs.Common.{length, ℕ, Bool, true, false, if◌then◌else◌, ◌==◌, ◌&&◌, not, ◌≡◌, ◌+◌, ◌/◌, ◌%◌, ◌^◌, ◌<◌, refl, sym, ap, ◌∙◌, subst, arith, nat_le, ◌||◌}
 use Rattle.std.proofs.lemmas.Bool.{eqb-true}
 use Rattle.std.proofs.lemmas.Bool.Decides.{nat_tests}
 use Rattle.lot_base.specs.declared.keys.Line.{Line}
@@ -321,5 +321,5 @@ place_fits (purpose.Downgrade d) again to fits = fits
 place_fits (purpose.Upgrade how) again to fits = upgrade_fits how again to fits
 
 -- so it is there, by what the lock is and what the thread does
-pub is_at : (r : Rules) (a : Admission) (s : Site) (t : ℕ) (p : RwLockPlace) → Admits r a → IsSite r s → s.doing t ≡ rwlock_doing p → MayStand a p → IsAt r a s t p
-is_at r a s t p admits site doing stands = record { admits = admits; site = site; doing = doing; fresh = stands.fresh; place = place_fits p.purpose p.retries p.at stands.place }
+pub is_at : (r : Rules) (a : Admission) (s : Site) (t : ℕ) (p : RwLockPlace) → Admits r a → IsSite r s → s.doing t ≡ rwlock_doing p → MayStand a p → t < length s.lock.shared → IsAt r a s t p
+is_at r a s t p admits site doing stands there = record { there = there; admits = admits; site = site; doing = doing; fresh = stands.fresh; place = place_fits p.purpose p.retries p.at stands.place }

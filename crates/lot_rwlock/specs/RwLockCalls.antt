@@ -150,17 +150,10 @@ abbrev pub CallFollowsBy : Rules → Admission → Site → ℕ → ℕ → RwLo
 CallFollowsBy r a s t l p whom told =
     CallFollows r s.lock t l (rwlock_profile a p) (rwlock_deeds a p whom told) (next_row a (rwlock_next a p told))
 
--- who wakes others behind a downgrade owns what it got by it
-abbrev pub KeepsRight : LockState → ℕ → RwLockPurpose → RwLockAt → Type 0
-KeepsRight s t (purpose.Downgrade d) (at.Wake m to) = Owns s t (wanted (to_of d))
-KeepsRight s t q to = Unit {0}
-
--- a thread that is there stands at a place of a call of the lock
+-- a thread that is there stands at a place of a call of the lock, where it may
 pub record IsCalling (r : Rules) (a : Admission) (s : Site) (t : ℕ) (p : RwLockPlace) : Type 0 where
   pub at : IsAt r a s t p
   pub stands : MayStand a p
-  pub keeps : KeepsRight s.lock t p.purpose p.at
-  pub there : t < length s.lock.shared
 
 abbrev pub IsNotLate : Reply → Type 0
 IsNotLate reply.Late = ⊥

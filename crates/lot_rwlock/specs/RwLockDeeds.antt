@@ -59,10 +59,10 @@ parking_doing m again claims parking.Remove = within m None claims
 parking_doing m again claims parking.Clear = finding m claims
 parking_doing m again claims parking.GiveUp = within m None claims
 
--- what a thread keeps while it wakes others, beside a shared right
+-- what a thread keeps while it wakes others
 abbrev pub kept_claim : Option Want → Option Claim
-kept_claim (Some Upgradable) = Some (Has Upgradable)
-kept_claim start = None
+kept_claim None = None
+kept_claim (Some x) = Some (Has x)
 
 -- a right that a waking thread may keep
 abbrev pub MayKeep : Option Want → Type 0
@@ -267,13 +267,14 @@ AtFits (purpose.Downgrade d) (at.Wake Main to) = Unit {0}
 AtFits (purpose.Downgrade d) to = ⊥
 AtFits (purpose.Upgrade how) to = AtUpgrade how to
 
--- a thread that stands at a place
+-- a thread that is there stands at a place
 pub record IsAt (r : Rules) (a : Admission) (s : Site) (t : ℕ) (p : RwLockPlace) : Type 0 where
   pub admits : Admits r a
   pub site : IsSite r s
   pub doing : s.doing t ≡ rwlock_doing p
   pub fresh : IsFreshTry (patience_at p) p.retries
   pub place : AtFits p.purpose p.at
+  pub there : t < length s.lock.shared
 
 -- the deeds may be done, and the thread does then what this says
 pub record Follows (r : Rules) (s : Site) (t : ℕ) (ds : List Deed) (d : Doing) : Type 0 where

@@ -12,14 +12,14 @@ use Rattle.abstract_locks.specs.Locks.{Taken, HasTakenNobody, keep_from, one_if_
 use Rattle.abstract_locks.specs.Locks as locks
 use Rattle.abstract_locks.specs.Runs.{is_taken_by}
 use Rattle.abstract_locks.specs.Sites.{Line, Main, Has}
-use Rattle.lot_machine.specs.Machine.{State, place_at, word_at, owners_at, kind_at, section_at, queue_at}
+use Rattle.lot_machine.specs.Machine.{State, place_at, word_at, owners_at, kind_at, queue_at}
 use Rattle.lot_world.specs.Refinement.{lock_state, taken_at}
 use Rattle.lot_world.specs.MutexPromises.{IsMutexWord}
-use Rattle.lot_world.specs.MutexDeeds.{mutex_doing, mutex_station}
+use Rattle.lot_world.specs.MutexDeeds.{mutex_doing}
 use Rattle.lot_world.specs.Stations.{hand, station, station_at, doing_on}
 use Rattle.lot_world.specs.SitesOf.{IsSteady, CallsMutex, rules_at, carried_at, hand_at, stood_in}
 use Rattle.lot_world.proofs.Counts.{without_absent}
-use Rattle.lot_world.proofs.Glue.{same, doing_here, nothing_at, own_stance, untaken}
+use Rattle.lot_world.proofs.Glue.{same, doing_here, nothing_at, untaken}
 use Rattle.lot_world.proofs.MutexTable.{mutex, queued_times}
 use Rattle.lot_world.proofs.StandsMoved.{mutex_rules}
 use Rattle.lot_world.proofs.SitesPromise.{coded_at}
@@ -81,14 +81,5 @@ module _ (w : State) (steady : IsSteady w) where
     pub own_doing : doing_on (place_at w t) l ≡ mutex_doing at
     own_doing = ap (λ p. doing_on p l) is ∙ doing_here l (Mutex l at) refl
 
-    pub holds_section : (mutex_doing at).inside ≡ Some Main → section_at w (2 * l) ≡ Some t
-    holds_section h = (steady.stands.sections t l Main).0 (ap (λ x. x.inside) (own_stance l (place_at w t) at is) ∙ h)
-
     pub owns : (mutex_doing at).claims ≡ Some (Has Exclusive) → (owners_at w l).exclusive ≡ Some t
     owns h = (steady.sites.site l).held t (Has Exclusive) (ap (λ x. x.claims) own_doing ∙ h)
-
-    pub has_nobody : (mutex_doing at).carries ≡ false → HasTakenNobody (lock_state w l) t
-    has_nobody h = taken_nobody t l (ap (λ x. x.carries) own_doing ∙ h)
-
-    pub times_here : times t (queue_at w (2 * l)) ≡ stood_in (mutex_station at).stands Main
-    times_here = steady.stands.lines t l Main ∙ ap (λ x. stood_in x.stands Main) (own_stance l (place_at w t) at is)

@@ -9,7 +9,6 @@ use Rattle.lot_base.specs.declared.wants.Want.{Want}
 use Rattle.lot_base.specs.declared.wants.Want.TheVariants.{Exclusive}
 use Rattle.lot_base.specs.Lines.{first_of}
 use Rattle.lot_calls.specs.declared.kinds.Kind as kind
-use Rattle.lot_acts.specs.declared.acts.Act.{Act}
 use Rattle.lot_acts.specs.declared.acts.Act as act
 use Rattle.lot_calls.specs.declared.calls.Turn.{Turn}
 use Rattle.lot_calls.specs.declared.calls.Turn as turn
@@ -38,7 +37,7 @@ use Rattle.lot_world.proofs.Closures.{nothing_closes}
 use Rattle.lot_machine.proofs.Shape.{both, looking_shaped}
 use Rattle.lot_world.proofs.Looking.{looking_steady, locks_same, calls_same}
 use Rattle.std.specs.Prelude.{nat_lt}
-use Rattle.abstract_locks.specs.Locks.{LockState, Queued, Rules, Rights, Taken, LockCase, Enter, Pend, Settle, Leave, Convert, Park, Aside, TakeFirst, TakeAside, TakePicked, Wake, HandOff as HandsLockOff, Late, Rollback, Needs, Owns, IsTaken, HasTakenNobody, IsLockState, Knows, keep_from, first_thread, rights_of}
+use Rattle.abstract_locks.specs.Locks.{LockState, Rules, Rights, Taken, LockCase, Enter, Pend, Settle, Leave, Convert, Park, Aside, TakeFirst, TakeAside, TakePicked, Wake, HandOff as HandsLockOff, Late, Rollback, Needs, IsTaken, HasTakenNobody, IsLockState, keep_from, first_thread}
 use Rattle.abstract_locks.specs.Locks as locks
 use Rattle.abstract_locks.specs.Runs.{LocksState, CallState, Event, Nothing, AtLock, AreLockStates, GoesOn, Stays, Does, MayHappen, IsStep, Turned, rules_at, locks_after}
 use Rattle.lot_world.specs.Refinement.{lock_state, locks_of, call_state, owner_at}

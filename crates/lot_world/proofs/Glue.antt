@@ -12,13 +12,13 @@ use Rattle.lot_steps.specs.declared.places.Place.{Place}
 use Rattle.lot_steps.specs.declared.places.Place.TheVariants.{Idle, Mutex, RwLock}
 use Rattle.lot_mutex.specs.declared.lock.Entry.{Entry}
 use Rattle.lot_mutex.specs.declared.places.MutexPlace.{MutexPlace}
-use Rattle.lot_mutex.specs.declared.places.MutexPlace.TheVariants.{Lock, TryLock, Unlock, UnlockFair, Bump, HandOff}
+use Rattle.lot_mutex.specs.declared.places.MutexPlace.TheVariants.{Lock, HandOff}
 use Rattle.lot_mutex.specs.declared.lock.LockAt.TheVariants as lock
 use Rattle.lot_mutex.specs.declared.hand_off.HandOffAt.TheVariants as hand_off
 use Rattle.lot_acts.specs.declared.acts.Reply.{Reply}
 use Rattle.lot_acts.specs.declared.acts.Reply.TheVariants.{Woken, TakenBy, HandedBy}
 use Rattle.abstract_locks.specs.Codes.{parked_in, aside_in}
-use Rattle.std.proofs.Math.Bool.{or-false, and-false}
+use Rattle.std.proofs.Math.Bool.{or-false}
 use Rattle.lot_mutex.specs.MutexSteps.{is_parked}
 use Rattle.lot_acts.specs.declared.acts.Next.{Next}
 use Rattle.lot_rwlock.specs.declared.places.RwLockPlace.{RwLockPlace}
@@ -122,6 +122,13 @@ site_seen v r l n word o m s places er en ew eo em es ep = λ i. seen_by (er i) 
 
 pub same : (k : ℕ) → (k == k) ≡ true
 same k = grind (arith, nat_tests)
+
+pub thread_is : (t : ℕ) (o : Option ℕ) → is_thread t o ≡ true → o ≡ Some t
+thread_is t None h = absurd cc
+thread_is t (Some u) h = ap Some (eqb-true u t h)
+
+pub is_owner : (t : ℕ) (o : Option ℕ) → o ≡ Some t → is_thread t o ≡ true
+is_owner t o e = rw (e, same t) refl
 
 pub differ : (j k : ℕ) → j ≢ k → (j == k) ≡ false
 differ j k ne = grind (arith, nat_tests)

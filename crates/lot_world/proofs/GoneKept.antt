@@ -39,7 +39,7 @@ use Rattle.lot_world.specs.MutexDeeds.{mutex_doing, mutex_station, acts, deeds, 
 use Rattle.lot_world.specs.Stations.{Station, nowhere, station, station_at}
 use Rattle.lot_world.specs.SitesOf.{CallsMutex, IsSteady, Goes, rules_at, stood_in}
 use Rattle.lot_machine.proofs.Shape.{main_line_there, main_key_there}
-use Rattle.lot_world.proofs.Glue.{base_at, same, differ, IsOf, own_stance, inside_is, doing_of, doing_here, IsMutexOf, own_of}
+use Rattle.lot_world.proofs.Glue.{base_at, same, own_stance, inside_is, doing_of, doing_here, IsMutexOf, own_of}
 use Rattle.lot_world.proofs.MutexTable.{mutex, Fits, own_doing, ends, looks, at_first, at_load, at_decide_free, at_decide_one, at_clear, at_release_clear, at_try, at_subtract, at_unlock_fair, at_bump, at_store_none}
 use Rattle.lot_world.proofs.OneStep.{empty_line}
 use Rattle.lot_world.proofs.SitesKept.{go_by, goes_steady, rules, site_l, word_l, word_keeps, place_keeps, enter_keeps, leave_keeps, one_held, release_wakes, tells, hands_over, take_keeps}
@@ -251,4 +251,4 @@ module _ (w : State) (t : ℕ) (steady : IsSteady w) (shape : IsShaped w) (there
   pub gone_kept : (p : Place) → place_at w t ≡ p → PlaceFits (length w.locks) p → can_do w (act_of p) ≡ true → IsSteady (go_by w t p (act_of p))
   gone_kept Idle is fits can = absurd cc
   gone_kept (Mutex l at) is fits can = goes_steady w _ l _ steady (gone_goes l at is fits.0 can).1
-  gone_kept (RwLock l a p) is fits can = goes_steady w _ l _ steady (rwlock_goes_on w t l a p steady shape there fits is can).1
+  gone_kept (RwLock l a p) is fits can = goes_steady w _ l _ steady (rwlock_goes_on w t l a p steady shape there fits is can).goes

@@ -40,6 +40,7 @@ pub mod MutexOwing
 pub mod RwLockOwing
 pub mod PlaceSteps
 pub mod Possible
+pub mod RwLockEvents
 pub mod LockSteps
 pub mod OneThing
 pub mod Promises

@@ -34,7 +34,7 @@ use Rattle.lot_rwlock.specs.declared.places.RwLockAt.TheVariants as at
 use Rattle.lot_rwlock.specs.declared.park.ParkAt.TheVariants as parking
 use Rattle.lot_rwlock.specs.declared.release.WakeAt.TheVariants as waking
 use Rattle.lot_rwlock.specs.declared.enter.Decision.TheVariants as decisions
-use Rattle.lot_rwlock.specs.RwLockSteps.{decided, decided_act, exchange, plus, act_at, park_act, parks_at, want_at, rwlock_act}
+use Rattle.lot_rwlock.specs.RwLockSteps.{decided, decided_act, exchange, plus, act_at, park_act, parks_at, want_at}
 use Rattle.lot_rwlock.specs.RwLockProfiles.{rwlock_profile, stands_at}
 use Rattle.lot_rwlock.specs.RwLockDeeds.{doing_at, again_of}
 use Rattle.abstract_locks.specs.Codes.{has_aside}

@@ -1,5 +1,5 @@
 -- A thread that steps alone at a lock of two lines: what each of its acts leads to.
-use Rattle.std.proofs.Common.{ℕ, true, false, Bool, Option, Some, None, if◌then◌else◌, ◌≡◌, ◌≢◌, ◌+◌, ◌*◌, ◌<◌, List, [], ◌∷◌, ◌++◌, length, get_or, map, refl, sym, ◌∙◌, ap, arith, length-set, get_or-set_same, get_or-set_other}
+use Rattle.std.proofs.Common.{ℕ, true, false, Bool, Option, Some, None, if◌then◌else◌, ◌≡◌, ◌+◌, ◌*◌, ◌<◌, List, [], ◌∷◌, ◌++◌, length, get_or, map, refl, sym, ◌∙◌, ap, arith, get_or-set_same, get_or-set_other}
 use Rattle.std.proofs.lemmas.Bool.{lt-ltb}
 use Rattle.std.proofs.lemmas.List.{length-map}
 use Rattle.std.proofs.Math.ListN.{get_or-map}
@@ -12,7 +12,6 @@ use Rattle.lot_base.specs.Lines.{waiter, without, times}
 use Rattle.lot_calls.specs.declared.kinds.Kind.TheVariants as kind
 use Rattle.lot_calls.specs.declared.outcomes.Outcome.{Outcome}
 use Rattle.lot_calls.specs.declared.outcomes.Outcome.TheVariants as outcome
-use Rattle.lot_acts.specs.declared.acts.Act.{Act}
 use Rattle.lot_acts.specs.declared.acts.Act.TheVariants as act
 use Rattle.lot_acts.specs.declared.acts.Check.{Check}
 use Rattle.lot_acts.specs.declared.acts.Reply.{Reply}
@@ -27,7 +26,7 @@ use Rattle.lot_steps.specs.Steps.{act_of, next_place, next_act}
 use Rattle.abstract_locks.specs.Sites.{Line, Main, Second}
 use Rattle.lot_machine.specs.Machine.{State, unlocked, place_at, word_at, section_at, queue_at, put, state_after_operation, state_with_sections, queues_with_last, state_after_act, state_after_take, state_after_wake, state_after_go, go_outcome, reply_to, can_do, is_possible, after, step_outcome, go_of}
 use Rattle.lot_machine.specs.Fits.{IsShaped, SameSize}
-use Rattle.lot_machine.proofs.Shape.{after_shaped, after_size, main_key_there, main_line_there, performed_counts}
+use Rattle.lot_machine.proofs.Shape.{after_shaped, after_size, main_key_there, performed_counts}
 use Rattle.lot_world.specs.SitesOf.{IsSteady, key_of, stood_in}
 use Rattle.lot_world.specs.Stations.{station, station_at}
 use Rattle.lot_world.proofs.Glue.{nothing_at}

@@ -17,7 +17,7 @@ use Rattle.lot_rwlock.specs.RwLockProfiles.{purpose_by, rwlock_late_line, late_l
 use Rattle.lot_rwlock.specs.RwLockDeeds.{Admits}
 use Rattle.abstract_locks.specs.Sites.{has_readers}
 use Rattle.abstract_locks.specs.Locks.{Mutex as Mutual}
-use Rattle.std.proofs.lemmas.Bool.{cases_eq, eqb-true, ltb-true, lt-ltb}
+use Rattle.std.proofs.lemmas.Bool.{cases_eq, ltb-true, lt-ltb}
 use Rattle.lot_base.specs.declared.keys.Keys.TheVariants.{One}
 use Rattle.lot_base.specs.declared.ops.Op as op
 use Rattle.lot_base.specs.declared.wants.Want.TheVariants.{Exclusive}
@@ -51,7 +51,6 @@ use Rattle.lot_steps.specs.declared.places.Place.{Place}
 use Rattle.lot_steps.specs.declared.places.Place.TheVariants.{Idle, Mutex, RwLock}
 use Rattle.lot_acts.specs.Acts.{outcome_of}
 use Rattle.lot_mutex.specs.MutexSteps.{mutex_first, mutex_right, is_locked, is_parked, lock_act, unlock_act, hand_off_word, hand_off_act}
-use Rattle.lot_acts.specs.Owners.{is_thread}
 use Rattle.lot_steps.specs.Steps.{act_of, next_place, next_act, mutex_goes, mutex_does, looking, late_key, is_idle, has_right, first_place, rwlock_goes, key_in, calls}
 use Rattle.lot_machine.specs.Machine.{State, place_at, word_at, owners_at, kind_at, section_at, put, state_after_act, go_reply, state_after_operation, state_after_hand_over, state_with_sections, reply_to, can_do, state_after_look, look_outcome, state_after_go, state_after_going, go_outcome, going_outcome, state_after_late_on, is_free_under, state_after_begin, can_begin, is_open_to, can_turn, state_after_turn, turn_outcome, is_possible, after, step_outcome, share_at}
 use Rattle.lot_machine.specs.Fits.{IsShaped, SameSize, PlaceFits, GivesUpTimed}
@@ -64,14 +63,16 @@ use Rattle.lot_world.specs.SitesOf.{site_of, IsSteady, Goes, CallsMutex, is_mute
 use Rattle.abstract_locks.specs.Sites.{IsSite, Deed, Main, Mark, End, Case}
 use Rattle.abstract_locks.specs.Locks.{LockCase, Wake, Leave as GivesBack, HandOff as HandsOff, Rights, rights_of, standing}
 use Rattle.abstract_locks.specs.Runs.{LocksState, CallState, GoesOn, Stays, Looks, IsOfMutex, Does, SectionChanges, MayBegin, MayTurn, HasRight, Turned, IsStep, purpose_at, new_call, Nothing}
-use Rattle.abstract_locks.specs.Purposes.{purpose_of, mutex_purpose}
+use Rattle.abstract_locks.specs.Purposes.{purpose_of, mutex_purpose, rwlock_purpose}
 use Rattle.lot_world.specs.MutexDeeds.{mutex_row, mutex_station, mutex_deeds, lock_deeds, enters, hands_over, acts}
 use Rattle.lot_world.specs.MutexDeeds as of_mutex
 use Rattle.lot_acts.specs.Calls.{ComesTo}
 use Rattle.abstract_locks.specs.Deeds.{AllNeeded, case_of, event_by, after_event}
 use Rattle.lot_world.specs.Stations.{hand}
 use Rattle.lot_world.specs.Refinement.{owner_at, lock_state, taken_at, call_state, locks_of, sleeps}
-use Rattle.lot_world.proofs.KindsKept.{after_kinds, calls_mutex}
+use Rattle.lot_world.proofs.KindsKept.{after_kinds, calls_mutex, calls_readers}
+use Rattle.lot_world.proofs.RwLockEvents.{rwlock_begins_with, rwlock_purpose_is, rwlock_right_held, rwlock_right_needed, rwlock_step, rwlock_untaken_first}
+use Rattle.lot_rwlock.specs.RwLockBegins.{admission_of, rwlock_first, rwlock_right}
 use Rattle.std.specs.Prelude.{replicate}
 use Rattle.lot_acts.specs.declared.acts.Reply.{Reply}
 use Rattle.lot_mutex.specs.declared.places.MutexPlace.{MutexPlace}
@@ -79,17 +80,17 @@ use Rattle.lot_mutex.specs.MutexSteps.{mutex_act, mutex_next}
 use Rattle.lot_acts.specs.declared.acts.Next.{Next}
 use Rattle.lot_acts.specs.declared.acts.Next.TheVariants as next
 use Rattle.lot_acts.specs.declared.acts.Whom.TheVariants as whoms
-use Rattle.lot_world.proofs.Glue.{heir, own_stance, same}
+use Rattle.lot_world.proofs.Glue.{heir, is_owner, own_stance, thread_is}
 use Rattle.lot_world.proofs.MutexTable.{mutex}
 use Rattle.lot_world.proofs.StandsMoved.{mutex_rules}
 use Rattle.lot_world.proofs.SitesKept.{go_by}
 use Rattle.lot_world.proofs.GoneKept.{gone_goes}
-use Rattle.lot_world.proofs.TurnsKept.{idle_is, none_yet}
+use Rattle.lot_world.proofs.TurnsKept.{idle_is}
 use Rattle.lot_world.proofs.AtPlaces.{coded, in_no_hand, own_doing}
 use Rattle.lot_world.proofs.PlacePromises.{standing_by}
-use Rattle.lot_world.proofs.CallEvents.{put_is, rights, Others, OthersFollow, Happens, LeadsTo, IsNoHandOff, happens, needed_then, others_follow, goes_by}
+use Rattle.lot_world.proofs.CallEvents.{put_is, rights, Others, OthersFollow, Happens, LeadsTo, happens, needed_then, others_follow, goes_by}
 use Rattle.lot_world.proofs.LockEvents.{Befalls, wakes_others, hands_others}
-use Rattle.lot_world.proofs.OtherCalls.{IsLonely, IsCalm, lonely, takes, calm, befalls, befalls_nobody, tells_handed}
+use Rattle.lot_world.proofs.OtherCalls.{IsLonely, IsCalm, lonely, takes, calm, befalls, befalls_nobody, no_hand_off, tells_handed}
 use Rattle.lot_world.proofs.MutexCalls.{Tells, Rests, row_of}
 use Rattle.lot_world.proofs.MutexEvents.{Hears, owned_word, mutex_tells, claims_at, deeds_are, are_claims}
 
@@ -203,12 +204,7 @@ module _ (w : State) (t : ℕ) (shape : IsShaped w) (steady : IsSteady w) (there
 
       -- nobody else's call changes
       calmly : IsCalm happened → Others w behind t Nothing → GoesOn (locks_of w) t (outcome_of (next_act (Mutex l at) told)) (locks_of behind)
-      calmly still others = goes_if (others_follow w behind t l happened happens_so (no_hand_off happened still) (calm w t (next_place (Mutex l at) told) behind l happened still others))
-        where
-          no_hand_off : (c : Option LockCase) → IsCalm c → IsNoHandOff w behind t l happened happens_so c
-          no_hand_off None h = tt
-          no_hand_off (Some (HandsOff x y)) h = absurd h
-          no_hand_off (Some case) h = λ x y e. cc
+      calmly still others = goes_if (others_follow w behind t l happened happens_so (no_hand_off w behind t l happened happens_so happened still) (calm w t (next_place (Mutex l at) told) behind l happened still others))
 
       -- it hands the lock over
       gives : (to : Option ℕ) → happened ≡ Some (HandsOff Exclusive (heir to)) → Befalls w behind t l (HandedBy t) → taken_at (place_at w t) l ≡ None → GoesOn (locks_of w) t (outcome_of (next_act (Mutex l at) told)) (locks_of behind)
@@ -329,9 +325,9 @@ module _ (w : State) (t : ℕ) (shape : IsShaped w) (steady : IsSteady w) (there
         place_then = ap call_state (get_or-set_same w.places t (next_place (Mutex l (Lock e again Load)) (Value (word_at w l))) Idle there) ∙ ap call_state (sym is)
 
   go_goes : (p : Place) → place_at w t ≡ p → PlaceFits (length w.locks) p → CallsMutex w p → can_do w (act_of p) ≡ true → GoesOn (locks_of w) t (outcome_of (next_act p (reply_to w t (act_of p)))) (locks_of (go_by w t p (act_of p)))
-  go_goes Idle is fits calls can = absurd cc
-  go_goes (RwLock l a at) is fits calls can = absurd calls.2
-  go_goes (Mutex l at) is fits calls can = mutex_goes_on l fits.0 (mutex_rules (kind_at w l) calls) at is can fits.1
+  go_goes Idle is fits of can = absurd cc
+  go_goes (RwLock l a p) is fits of can = rwlock_step w t l a p steady shape there fits is can
+  go_goes (Mutex l at) is fits of can = mutex_goes_on l fits.0 (mutex_rules (kind_at w l) of) at is can fits.1
 
   -- ---------------------------------------------------------------- turns by which the place alone changes
 
@@ -446,6 +442,8 @@ purpose_is k l c h = absurd cc
 no_purpose : (w : LocksState) (t : ℕ) (k : Kind) (c : Call) → has_call k c ≡ false → HasRight w t (purpose_of k c) → ⊥
 no_purpose w t kind.TheVariants.Mutex (call.TheVariants.Mutex l c) h r = absurd cc
 no_purpose w t kind.TheVariants.Fair (call.TheVariants.Mutex l c) h r = absurd cc
+no_purpose w t (kind.TheVariants.RwLock limit) (call.TheVariants.RwLock l c) h r = absurd cc
+no_purpose w t (kind.TheVariants.Recursive limit) (call.TheVariants.RwLock l c) h r = absurd cc
 no_purpose w t k c h r = r
 
 no_call_idle : (p : Place) (r : ℕ → Rights) → (call_state p r).purpose ≡ None → is_idle p ≡ true
@@ -459,28 +457,21 @@ no_call_idle (Mutex l Bump) r h = absurd cc
 no_call_idle (Mutex l (HandOff bumps a)) r h = absurd cc
 
 module _ (w : State) (t l : ℕ) where
-  thread_is : (o : Option ℕ) → is_thread t o ≡ true → o ≡ Some t
-  thread_is None h = absurd cc
-  thread_is (Some u) h = ap Some (eqb-true u t h)
-
-  is_owner : (o : Option ℕ) → o ≡ Some t → is_thread t o ≡ true
-  is_owner o e = rw (e, same t) refl
-
   right_held : (fair : Bool) (c : MutexCall) → mutex_right c t (owners_at w l) ≡ true → HasRight (locks_of w) t (Some (mutex_purpose fair l c))
   right_held fair mutex_call.TheVariants.Lock h = tt
   right_held fair mutex_call.TheVariants.LockTimed h = tt
   right_held fair mutex_call.TheVariants.TryLock h = tt
-  right_held fair mutex_call.TheVariants.Unlock h = thread_is (owner_at w l) h
-  right_held fair mutex_call.TheVariants.UnlockFair h = thread_is (owner_at w l) h
-  right_held fair mutex_call.TheVariants.Bump h = thread_is (owner_at w l) h
+  right_held fair mutex_call.TheVariants.Unlock h = thread_is t (owner_at w l) h
+  right_held fair mutex_call.TheVariants.UnlockFair h = thread_is t (owner_at w l) h
+  right_held fair mutex_call.TheVariants.Bump h = thread_is t (owner_at w l) h
 
   right_needed : (fair : Bool) (c : MutexCall) → HasRight (locks_of w) t (Some (mutex_purpose fair l c)) → mutex_right c t (owners_at w l) ≡ true
   right_needed fair mutex_call.TheVariants.Lock h = refl
   right_needed fair mutex_call.TheVariants.LockTimed h = refl
   right_needed fair mutex_call.TheVariants.TryLock h = refl
-  right_needed fair mutex_call.TheVariants.Unlock h = is_owner (owner_at w l) h
-  right_needed fair mutex_call.TheVariants.UnlockFair h = is_owner (owner_at w l) h
-  right_needed fair mutex_call.TheVariants.Bump h = is_owner (owner_at w l) h
+  right_needed fair mutex_call.TheVariants.Unlock h = is_owner t (owner_at w l) h
+  right_needed fair mutex_call.TheVariants.UnlockFair h = is_owner t (owner_at w l) h
+  right_needed fair mutex_call.TheVariants.Bump h = is_owner t (owner_at w l) h
 
   begins_with : (fair : Bool) (c : MutexCall) (r : ℕ → Rights) → call_state (Mutex l (mutex_first fair c)) r ≡ new_call (Some (mutex_purpose fair l c)) r
   begins_with fair mutex_call.TheVariants.Lock r = refl
@@ -502,9 +493,23 @@ module _ (w : State) (t l : ℕ) where
 
 begin_goes : (w : State) (t : ℕ) (c : Call) → IsShaped w → IsSteady w → t < length w.places → can_begin w t c ≡ true
     → MayBegin (locks_of w) t c × Stays (locks_of w) t (new_call (purpose_at (locks_of w) c) (rights w t)) outcome.TheVariants.Step (locks_of (state_after_begin w t c))
-begin_goes w t (call.TheVariants.RwLock l c) shape steady there can =
-    let open_to = both (nat_lt l (length w.locks)) _ (both (is_idle (place_at w t)) (is_open_to w t (call.TheVariants.RwLock l c)) can).1 in
-    absurd (none_yet (kind_at w l) l c (both (has_call (kind_at w l) (call.TheVariants.RwLock l c)) _ open_to.1).0)
+begin_goes w t (call.TheVariants.RwLock l c) shape steady there can = (
+  record { thread = there; idle = rw idle refl; lock = ltb-true l (length w.locks) open_to.0; right = rw (rwlock_purpose_is (kind_at w l) l c is_kind) (rwlock_right_held w t l c held.1) },
+  placed w t shape steady there w.sections Idle (RwLock l (admission_of (kind_at w l)) (rwlock_first c)) idle (rwlock_untaken_first l (admission_of (kind_at w l)) c) _
+      (λ r e. rwlock_begins_with l (admission_of (kind_at w l)) c r ∙ (λ i. new_call (sym (rwlock_purpose_is (kind_at w l) l c is_kind) i) (e i))),
+)
+  where
+    idle : place_at w t ≡ Idle
+    idle = idle_is (place_at w t) (both (is_idle (place_at w t)) (is_open_to w t (call.TheVariants.RwLock l c)) can).0
+
+    open_to : (nat_lt l (length w.locks) ≡ true) × ((has_call (kind_at w l) (call.TheVariants.RwLock l c) && has_right (call.TheVariants.RwLock l c) t (owners_at w l) (share_at w l t)) ≡ true)
+    open_to = both (nat_lt l (length w.locks)) _ (both (is_idle (place_at w t)) (is_open_to w t (call.TheVariants.RwLock l c)) can).1
+
+    held : (has_call (kind_at w l) (call.TheVariants.RwLock l c) ≡ true) × (rwlock_right c t (owners_at w l) (share_at w l t) ≡ true)
+    held = both (has_call (kind_at w l) (call.TheVariants.RwLock l c)) (rwlock_right c t (owners_at w l) (share_at w l t)) open_to.1
+
+    is_kind : has_readers (rules_at w l).sort ≡ true
+    is_kind = calls_readers (kind_at w l) l c held.0
 begin_goes w t (call.TheVariants.Mutex l c) shape steady there can = (
   record { thread = there; idle = rw idle refl; lock = ltb-true l (length w.locks) open_to.0; right = rw (purpose_is (kind_at w l) l c is_kind) (right_held w t l (is_fair (kind_at w l)) c held.1) },
   placed w t shape steady there w.sections Idle (Mutex l (mutex_first (is_fair (kind_at w l)) c)) idle (untaken_first w t l (is_fair (kind_at w l)) c) _
@@ -525,13 +530,13 @@ begin_goes w t (call.TheVariants.Mutex l c) shape steady there can = (
 
 -- a call that may begin can
 begin_refused : (w : State) (t : ℕ) (c : Call) → can_begin w t c ≡ false → MayBegin (locks_of w) t c → ⊥
-begin_refused w t (call.TheVariants.RwLock l c) cannot may = none (kind_at w l) may.right
+begin_refused w t (call.TheVariants.RwLock l c) cannot may = let idle : is_idle (place_at w t) ≡ true = no_call_idle (place_at w t) (rights w t) may.idle in
+    let there : nat_lt l (length w.locks) ≡ true = lt-ltb l (length w.locks) may.lock in either (has_call (kind_at w l) (call.TheVariants.RwLock l c)) refl idle there
   where
-    none : (k : Kind) → HasRight (locks_of w) t (purpose_of k (call.TheVariants.RwLock l c)) → ⊥
-    none kind.TheVariants.Mutex h = h
-    none kind.TheVariants.Fair h = h
-    none (kind.TheVariants.RwLock limit) h = h
-    none k h = h
+    either : (b : Bool) → has_call (kind_at w l) (call.TheVariants.RwLock l c) ≡ b → is_idle (place_at w t) ≡ true → nat_lt l (length w.locks) ≡ true → ⊥
+    either false e idle there = no_purpose (locks_of w) t (kind_at w l) (call.TheVariants.RwLock l c) e may.right
+    either true e idle there = let right : HasRight (locks_of w) t (Some (rwlock_purpose l c)) = subst (HasRight (locks_of w) t) (rwlock_purpose_is (kind_at w l) l c (calls_readers (kind_at w l) l c e)) may.right in
+        let held : rwlock_right c t (owners_at w l) (share_at w l t) ≡ true = rwlock_right_needed w t l c right in cc
 begin_refused w t (call.TheVariants.Mutex l c) cannot may = let idle : is_idle (place_at w t) ≡ true = no_call_idle (place_at w t) (rights w t) may.idle in
     let there : nat_lt l (length w.locks) ≡ true = lt-ltb l (length w.locks) may.lock in either (has_call (kind_at w l) (call.TheVariants.Mutex l c)) refl idle there
   where

@@ -1,6 +1,5 @@
 -- A thread that looks at the word once more goes on from another place of its call. Standing there changes nothing that locks and calls see.
 use Rattle.std.proofs.Common.{ℕ, zero, suc, List, set, true, Option, Some, None, if◌then◌else◌, ◌≡◌, ◌<◌, inl, inr, [], ◌∷◌, length, replicate, refl, sym, ◌∙◌, ap, subst, get_or-set_other, get_or-set_same, length-set, get_or}
-use Rattle.lot_rwlock.specs.declared.places.Admission.{Admission}
 use Rattle.lot_rwlock.specs.declared.places.RwLockPlace.{RwLockPlace}
 use Rattle.lot_rwlock.specs.RwLockProfiles.{rwlock_looking}
 use Rattle.lot_rwlock.proofs.RwLockCallPlaces.{rwlock_looks_stand}
@@ -53,7 +52,7 @@ calls_on w (RwLock l a at) q is calls = by_place (rwlock_looking a at) refl is
   where
     by_place : (o : Option RwLockPlace) → rwlock_looking a at ≡ o → in_rwlock l a o ≡ Some q → CallsMutex w q
     by_place None e is = absurd cc
-    by_place (Some at2) e is = let there : RwLock l a at2 ≡ q = cc in subst (CallsMutex w) there (calls.0, (rwlock_looks_stand a at at2 e).1 calls.1, calls.2)
+    by_place (Some at2) e is = let there : RwLock l a at2 ≡ q = cc in subst (CallsMutex w) there (calls.0, (rwlock_looks_stand a at at2 e).1 calls.1)
 calls_on w (Mutex l at) q is calls = by_place (mutex_looking at) is
   where
     by_place : (o : Option MutexPlace) → in_mutex l o ≡ Some q → CallsMutex w q

@@ -1,14 +1,14 @@
 -- A thread goes on where its act takes it, at a lock that is shared: every lock is a site again. No place is named: the row of a place says where
 -- the act takes its thread, and the laws of its sort of lock that its deeds may be done.
-use Rattle.std.proofs.Common.{ℕ, Bool, true, false, Option, Some, None, if◌then◌else◌, ◌==◌, ◌≡◌, ◌≢◌, ◌+◌, ◌*◌, ◌≤◌, ◌<◌, ◌⊎◌, List, [], ◌∷◌, ◌++◌, length, map, drop, get_or, cond, not, inl, inr, refl, sym, ◌∙◌, ap, subst, arith}
-use Rattle.std.proofs.lemmas.Bool.{cases_eq, eqb-true}
+use Rattle.std.proofs.Common.{ℕ, Bool, true, false, Option, Some, None, if◌then◌else◌, ◌==◌, ◌≡◌, ◌≢◌, ◌+◌, ◌*◌, ◌≤◌, ◌<◌, List, [], ◌∷◌, length, map, drop, get_or, cond, not, inl, inr, refl, sym, ◌∙◌, ap, subst, arith}
+use Rattle.std.proofs.lemmas.Bool.{eqb-true}
 use Rattle.lot_base.specs.declared.keys.Keys.TheVariants.{One}
 use Rattle.lot_base.specs.declared.notes.Note.TheVariants.{Normal}
 use Rattle.lot_base.specs.declared.ops.Op.{Op}
 use Rattle.lot_base.specs.declared.wants.Waiter.{Waiter}
 use Rattle.lot_base.specs.declared.wants.Want.{Want}
 use Rattle.lot_base.specs.declared.wants.Want.TheVariants.{Exclusive}
-use Rattle.lot_base.specs.Lines.{without, first_of, times, waiter}
+use Rattle.lot_base.specs.Lines.{without, first_of, times}
 use Rattle.lot_base.specs.Words.{apply}
 use Rattle.lot_acts.specs.declared.acts.Check.{Check}
 use Rattle.lot_acts.specs.declared.acts.Reply.{Reply}
@@ -16,7 +16,7 @@ use Rattle.lot_acts.specs.declared.acts.Wakes.{Wakes}
 use Rattle.lot_acts.specs.declared.acts.Reply.TheVariants.{Done, Value, Parked, Took, Picked, Removed, TakenBy, Woken}
 use Rattle.lot_acts.specs.declared.acts.Whom as whom
 use Rattle.lot_acts.specs.Acts.{holds, wakes_taken}
-use Rattle.lot_acts.specs.Moves.{Move, Hears, Stays, GoesIn, Parks, Picks, TakesAside, LeavesLine, GoesOut, Sleeps, IsHeld, Waits, AreOfWord, AreLeaving, parks_in, takes_aside, inside_of, station_of, station_then}
+use Rattle.lot_acts.specs.Moves.{Move, Hears, Stays, GoesIn, Parks, Picks, TakesAside, LeavesLine, GoesOut, Sleeps, IsHeld, Waits, AreOfWord, AreLeaving, parks_in, inside_of, station_of, station_then}
 use Rattle.lot_acts.specs.Profiles.{Profile, Hand, Of, hand, in_hand, taken_from}
 use Rattle.lot_acts.specs.Stations.{Station, station_by, nowhere, waits_for}
 use Rattle.lot_steps.specs.declared.places.Place.{Place}
@@ -24,19 +24,19 @@ use Rattle.lot_steps.specs.Steps.{next_place, profile, wants, taker, lock_of, is
 use Rattle.lot_steps.specs.declared.places.Place.TheVariants.{Idle}
 use Rattle.lot_base.specs.Picks.{lock_picker, lock_picked, without_lock_picked}
 use Rattle.lot_acts.specs.Owners.{is_thread}
-use Rattle.abstract_locks.specs.Locks.{Rules, Pending, IsSomePending, LockCase, Park, Aside, TakeAside, TakePicked, is_recursive, HandOff, keep_from, one_if_some, putting, standing}
+use Rattle.abstract_locks.specs.Locks.{Rules, Pending, IsSomePending, LockCase, Park, Aside, TakeAside, TakePicked, Wake, is_recursive, HandOff, keep_from, one_if_some, putting, standing}
 use Rattle.abstract_locks.specs.Locks as locks
 use Rattle.abstract_locks.specs.Picks.{queued_of}
-use Rattle.abstract_locks.specs.Sites.{Doing, Pends, wakened, is_empty, Site, IsSite, Deed, Line, Main, Second, End, In, Out, Mark, Clear, FindNobody, Case, has_readers, idle, leaves}
-use Rattle.abstract_locks.specs.Codes.{code, IsHandOff}
+use Rattle.abstract_locks.specs.Sites.{Doing, Pends, wakened, is_empty, Site, IsSite, Deed, Line, Main, Second, End, In, Out, Mark, Clear, FindNobody, Case, has_readers, idle}
+use Rattle.abstract_locks.specs.Codes.{code}
 use Rattle.abstract_locks.specs.Deeds as laws
 use Rattle.lot_machine.specs.Machine.{State, place_at, word_at, queue_at, section_at, put, state_with_sections, state_after_operation, state_after_telling, state_after_leave, state_after_park, queues_with_last, queues_without, queues_without_first, is_there, state_after_reply, state_after_taking, state_after_take_first, state_after_take, reply_to_take, sharers, successor_from, want_of_successor}
 use Rattle.lot_world.specs.Refinement.{taken_at}
 use Rattle.lot_world.specs.MutexDeeds.{acts}
 use Rattle.lot_world.specs.Stations.{station, station_at, doing_on}
-use Rattle.lot_world.specs.SitesOf.{AllNeeded, AreOrdinary, AreWaiting, IsSteady, Goes, CallsMutex, TakesOne, after_acts, rules_at, key_of, stood_in, carried_at, hand_at}
+use Rattle.lot_world.specs.SitesOf.{AllNeeded, AreWaiting, IsSteady, Goes, CallsMutex, TakesOne, after_acts, rules_at, key_of, stood_in, carried_at, hand_at}
 use Rattle.lot_world.proofs.Counts.{without_absent, first_times, none_first}
-use Rattle.lot_world.proofs.Glue.{IsOf, IsLock, IsHeldBy, held_where, held_taker, nothing_at, calls_none, next_of, inside_is, LetGo, parts_at, lock_in, same, differ, put_here, doing_here, station_here, untaken, lets_nobody}
+use Rattle.lot_world.proofs.Glue.{IsOf, IsLock, IsHeldBy, held_where, held_taker, nothing_at, calls_none, next_of, inside_is, parts_at, lock_in, same, put_here, doing_here, station_here, lets_nobody}
 use Rattle.lot_world.proofs.OneStep.{AreSingle, HasOneCase, steps_by, empty_line, queued_times, queued_without}
 use Rattle.lot_world.proofs.ActsKept.{NoHandOff, lock_by, operated, site_by, with_line, place_goes, enter_goes, leave_goes, nobody_inside, park_goes, parks, asides, lates, remove_goes, nobody_goes, finds_none}
 use Rattle.lot_world.proofs.LawsKept.{after_same, needed_same, lawful_goes}
@@ -53,6 +53,7 @@ single_of [] h = tt
 single_of (End ∷ []) h = (tt, tt)
 single_of (Mark m ∷ []) h = (tt, tt)
 single_of (Clear m ∷ []) h = (tt, tt)
+single_of (Case Wake ∷ ds) h = absurd h
 single_of (Case (HandOff right successor) ∷ ds) h = absurd h
 single_of (Case case ∷ []) h = (tt, tt)
 single_of (Case case ∷ End ∷ []) h = (tt, (tt, tt))
@@ -63,6 +64,7 @@ one_of [] h = tt
 one_of (End ∷ []) h = tt
 one_of (Mark m ∷ []) h = tt
 one_of (Clear m ∷ []) h = tt
+one_of (Case Wake ∷ ds) h = absurd h
 one_of (Case (HandOff right successor) ∷ ds) h = absurd h
 one_of (Case case ∷ []) h = tt
 one_of (Case case ∷ End ∷ []) h = (tt, tt)
@@ -73,6 +75,7 @@ plain_of [] h = tt
 plain_of (End ∷ []) h = tt
 plain_of (Mark m ∷ []) h = tt
 plain_of (Clear m ∷ []) h = tt
+plain_of (Case Wake ∷ ds) h = absurd h
 plain_of (Case (HandOff right successor) ∷ ds) h = absurd h
 plain_of (Case case ∷ []) h = ((λ k. k), tt)
 plain_of (Case case ∷ End ∷ []) h = ((λ k. k), tt)
@@ -154,10 +157,14 @@ module _ (w : State) (t l : ℕ) (steady : IsSteady w) (there : t < length w.pla
         refl refl refl refl (own_by None told p2 f (In m ∷ []) g.deeds))
         (there_is None told p2 f ∙ g.goes ∙ sym (ap (λ (y : Station). record y { inside = Some m }) station_is)))
 
+    -- what it is told there
+    pub entered_hears : (told : Reply) → section_at w (key_of l m) ≡ None → GoesIn x hears m told → hears r here t None told
+    entered_hears told free g = g.may r here t (free_line free)
+
     -- into a section that is free
     pub goes_in : (told : Reply) (p2 : Place) → key_of l m < length w.sections → section_at w (key_of l m) ≡ None → GoesIn x hears m told → (hears r here t None told → IsFollowed None told p2)
         → Goes w (put (state_with_sections w (One (key_of l m)) (Some t)) t p2) l (acts t (x.deeds None told))
-    goes_in told p2 line free g followed = goes_in_by told p2 line free g (followed (g.may r here t (free_line free)))
+    goes_in told p2 line free g followed = goes_in_by told p2 line free g (followed (entered_hears told free g))
 
     -- out of its own, where it has nobody in hand
     goes_out_alone : (p2 : Place) → key_of l m < length w.sections → (g : AreLeaving (x.deeds None Done)) → (station_of x).inside ≡ Some m → (station_of x).carries ≡ None → (station_of x).hand ≡ None → station_then x Done ≡ record (station_of x) { inside = None; carries = None } → IsFollowed None Done p2
@@ -183,6 +190,9 @@ module _ (w : State) (t l : ℕ) (steady : IsSteady w) (there : t < length w.pla
         r rules (free_of (place_at w t) l (ap (λ (y : Station). y.hand) station_is ∙ free)) (free_of p2 l (ap (λ (y : Station). y.hand) (there_is None Done p2 f ∙ out) ∙ free))
         (x.deeds None Done) leaving (needed_by None Done p2 f (x.deeds None Done) refl) (own_by None Done p2 f (x.deeds None Done) refl)
 
+    pub left_hears : (wakes : Wakes) → GoesOut x hears m wakes → hears r here t None Done
+    left_hears wakes g = g.may r here t (free_of (place_at w t) l (ap (λ (y : Station). y.hand) station_is ∙ g.free))
+
     -- by whether it has anybody
     pub goes_out : (wakes : Wakes) (p2 : Place) → key_of l m < length w.sections → GoesOut x hears m wakes → (hears r here t None Done → IsFollowed None Done p2)
         → ((u : ℕ) (b : Bool) → hand_at (place_at w u) l ≡ hand t b → IsWoken w t l b Normal (place_at w u))
@@ -190,7 +200,7 @@ module _ (w : State) (t l : ℕ) (steady : IsSteady w) (there : t < length w.pla
     goes_out wakes p2 line g followed woken = subst (λ y. Goes w (put (state_after_leave w t (One (key_of l m)) y) t p2) l (acts t (x.deeds None Done))) (sym g.notes) (either g.any g.carries)
       where
         f : IsFollowed None Done p2
-        f = followed (g.may r here t (free_of (place_at w t) l (ap (λ (y : Station). y.hand) station_is ∙ g.free)))
+        f = followed (left_hears wakes g)
 
         either : (b : Bool) → (station_of x).carries ≡ in_hand b false → Goes w (put (state_after_leave w t (One (key_of l m)) (wakes_taken b Normal)) t p2) l (acts t (x.deeds None Done))
         either false e = goes_out_alone p2 line g.deeds g.inside e g.free g.goes f
@@ -238,13 +248,16 @@ module _ (w : State) (t l : ℕ) (steady : IsSteady w) (there : t < length w.pla
             by_aside None e = e
             by_aside (Some u) e = absurd (let it : u ≡ t = pending_one here.lock.pending u t (site.state.aside_pending u e) needed.0.0.0 in let none : locks.is_thread t (first_of (queue_at w (2 * l + 1))) ≡ 0 = let all : standing t here.lock ≡ 0 = needed.0.0.2 in omega arith in let one : locks.is_thread t (first_of (queue_at w (2 * l + 1))) ≡ 1 = ap (locks.is_thread t) e ∙ ap (λ b. if b then 1 else 0) (ap (λ v. v == t) it ∙ same t) in omega arith)
 
+    pub parked_hears : (check : Check) (want : Want) → Parks x hears m check want → (b : Bool) → holds check (word_at w l) ≡ b → hears r here t None (Parked b)
+    parked_hears check _ g b e = g.may r here t b (sym e ∙ ap (holds check) word_is) (nowhere_here (ap (λ (y : Station). y.stands) g.was) (ap (λ (y : Station). y.hand) g.was))
+
     -- where the test holds
     pub parks_or_turns : (check : Check) (want : Want) → key_of l m < length w.queues → Parks x hears m check want → ((b : Bool) → hears r here t None (Parked b) → IsFollowed None (Parked b) (next_place (place_at w t) (Parked b)))
         → Goes w (put (state_after_park w t l (key_of l m) check want) t (next_place (place_at w t) (Parked (holds check (word_at w l))))) l (acts t (x.deeds None (Parked (holds check (word_at w l)))))
     parks_or_turns check want line g followed = either (holds check (word_at w l)) refl
       where
         f : (b : Bool) → holds check (word_at w l) ≡ b → IsFollowed None (Parked b) (next_place (place_at w t) (Parked b))
-        f b e = followed b (g.may r here t b (sym e ∙ ap (holds check) word_is) (nowhere_here (ap (λ (y : Station). y.stands) g.was) (ap (λ (y : Station). y.hand) g.was)))
+        f b e = followed b (parked_hears check want g b e)
 
         either : (b : Bool) → holds check (word_at w l) ≡ b → Goes w (put (if b then record w { queues = queues_with_last w.queues (key_of l m) t want } else w) t (next_place (place_at w t) (Parked b))) l (acts t (x.deeds None (Parked b)))
         either true e = parks_by m refl want (next_place (place_at w t) (Parked true)) line g.was g.parks g.parked (f true e)
@@ -454,20 +467,28 @@ module _ (w : State) (t l : ℕ) (steady : IsSteady w) (there : t < length w.pla
           m (without t (queue_at w (key_of l m))) mains seconds (needed_by None (Removed b) p2 f (Case locks.Late ∷ []) (g.deeds b)) (own_by None (Removed b) p2 f (Case locks.Late ∷ []) (g.deeds b)))
           (there_is None (Removed b) p2 f ∙ g.goes b ∙ sym (ap (λ (y : Station). record y { stands = None; waits = None }) (station_is ∙ g.was))))
 
-      pub leaves_line : (m : Line) → LeavesLine x hears m → ((b : Bool) → hears r here t None (Removed b) → IsFollowed None (Removed b) (next_place (place_at w t) (Removed b)))
-          → Goes w (put (record w { queues = queues_without w.queues t }) t (next_place (place_at w t) (Removed (length (without t (queue_at w (key_of l m))) == 0)))) l (acts t (x.deeds None (Removed (length (without t (queue_at w (key_of l m))) == 0))))
-      leaves_line Main g followed = leaves_by Main (length (without t (queue_at w (2 * l))) == 0) (next_place (place_at w t) (Removed (length (without t (queue_at w (2 * l))) == 0))) g (queued_without t (queue_at w (2 * l))) (sym (aside_kept (first_of (queue_at w (2 * l + 1))) (first_out (queue_at w (2 * l + 1)) (stood_once Main Second (ap (λ (y : Station). y.stands) g.was)))))
-          (followed (length (without t (queue_at w (2 * l))) == 0) (g.may r here t (length (without t (queue_at w (2 * l))) == 0) (stands, sym (ap is_empty (sym (queued_without t (queue_at w (2 * l)))) ∙ empty_line (without t (queue_at w (2 * l)))))))
+      -- t stands in the second line alone
+      one_aside : (station_of x).stands ≡ Some Second → (y : Waiter) × ((queue_at w (2 * l + 1) ≡ y ∷ []) × (y.thread ≡ t))
+      one_aside stands = only_one (let a : times t (queue_at w (2 * l + 1)) ≡ 1 = stood_once Second Second stands in omega arith)
+
+      pub removed_hears : (m : Line) → LeavesLine x hears m → hears r here t None (Removed (length (without t (queue_at w (key_of l m))) == 0))
+      removed_hears Main g = g.may r here t (length (without t (queue_at w (2 * l))) == 0) (stands, sym (ap is_empty (sym (queued_without t (queue_at w (2 * l)))) ∙ empty_line (without t (queue_at w (2 * l)))))
         where
           stands : 1 ≤ locks.times t (map queued_of (queue_at w (2 * l)))
           stands = let a : locks.times t (map queued_of (queue_at w (2 * l))) ≡ 1 = queued_times t (queue_at w (2 * l)) ∙ stood_once Main Main (ap (λ (y : Station). y.stands) g.was) in omega arith
+      removed_hears Second g = let one = one_aside (ap (λ (y : Station). y.stands) g.was) in g.may r here t (length (without t (queue_at w (2 * l + 1))) == 0) (ap first_of one.1.0 ∙ ap Some one.1.1)
+
+      pub leaves_line : (m : Line) → LeavesLine x hears m → ((b : Bool) → hears r here t None (Removed b) → IsFollowed None (Removed b) (next_place (place_at w t) (Removed b)))
+          → Goes w (put (record w { queues = queues_without w.queues t }) t (next_place (place_at w t) (Removed (length (without t (queue_at w (key_of l m))) == 0)))) l (acts t (x.deeds None (Removed (length (without t (queue_at w (key_of l m))) == 0))))
+      leaves_line Main g followed = leaves_by Main (length (without t (queue_at w (2 * l))) == 0) (next_place (place_at w t) (Removed (length (without t (queue_at w (2 * l))) == 0))) g (queued_without t (queue_at w (2 * l))) (sym (aside_kept (first_of (queue_at w (2 * l + 1))) (first_out (queue_at w (2 * l + 1)) (stood_once Main Second (ap (λ (y : Station). y.stands) g.was)))))
+          (followed (length (without t (queue_at w (2 * l))) == 0) (removed_hears Main g))
       leaves_line Second g followed = leaves_by Second (length (without t (queue_at w (2 * l + 1))) == 0) (next_place (place_at w t) (Removed (length (without t (queue_at w (2 * l + 1))) == 0))) g
           (ap (map queued_of) (sym (without_absent t (queue_at w (2 * l)) (stood_once Second Main (ap (λ (y : Station). y.stands) g.was)))) ∙ queued_without t (queue_at w (2 * l)))
           seconds
-          (followed (length (without t (queue_at w (2 * l + 1))) == 0) (g.may r here t (length (without t (queue_at w (2 * l + 1))) == 0) (ap first_of one.1.0 ∙ ap Some one.1.1)))
+          (followed (length (without t (queue_at w (2 * l + 1))) == 0) (removed_hears Second g))
         where
           one : (y : Waiter) × ((queue_at w (2 * l + 1) ≡ y ∷ []) × (y.thread ≡ t))
-          one = only_one (let a : times t (queue_at w (2 * l + 1)) ≡ 1 = stood_once Second Second (ap (λ (y : Station). y.stands) g.was) in omega arith)
+          one = one_aside (ap (λ (y : Station). y.stands) g.was)
 
           seconds : first_of (without t (queue_at w (2 * l + 1))) ≡ locks.aside_without t (first_of (queue_at w (2 * l + 1)))
           seconds = ap (λ q. first_of (without t q)) one.1.0 ∙ by_test (one.0.thread == t) (ap (λ u. u == t) one.1.1 ∙ same t) ∙ sym (ap (λ q. locks.aside_without t (first_of q)) one.1.0)
@@ -591,14 +612,17 @@ module _ (w : State) (t l : ℕ) (steady : IsSteady w) (there : t < length w.pla
             at_u : get_or taken_state.places u Idle ≡ p2
             at_u = place_then u ∙ ap (λ (c : Bool). if c then p2 else place_at w u) h
 
+        pub picked_hears : hears r here t None told_picked
+        picked_hears = g.may r here t (sharers t taken_state.places) (want_of_successor (successor_from t 0 taken_state.places)) (length others == 0) (sym (empty_line others) ∙ ap is_empty (left_tied r.sort start (2 * l) (queue_at w (2 * l)) under))
+
         picks_follow : IsFollowed None told_picked then_at
-        picks_follow = followed (sharers t taken_state.places) (want_of_successor (successor_from t 0 taken_state.places)) (length others == 0) (g.may r here t (sharers t taken_state.places) (want_of_successor (successor_from t 0 taken_state.places)) (length others == 0) (sym (empty_line others) ∙ ap is_empty (left_tied r.sort start (2 * l) (queue_at w (2 * l)) under)))
+        picks_follow = followed (sharers t taken_state.places) (want_of_successor (successor_from t 0 taken_state.places)) (length others == 0) picked_hears
 
         goes_then : station then_at ≡ record (inside_of Main) { carries = in_hand any false }
         goes_then = there_is None told_picked then_at picks_follow ∙ g.goes (sharers t taken_state.places) (want_of_successor (successor_from t 0 taken_state.places)) (length others == 0)
 
-        same_deeds : x.deeds None told_picked ≡ Case (TakePicked start) ∷ []
-        same_deeds = g.deeds (sharers t taken_state.places) (want_of_successor (successor_from t 0 taken_state.places)) (length others == 0)
+        pub picked_deeds : x.deeds None told_picked ≡ Case (TakePicked start) ∷ []
+        picked_deeds = g.deeds (sharers t taken_state.places) (want_of_successor (successor_from t 0 taken_state.places)) (length others == 0)
 
         carries_then : (b : Bool) → (station then_at).carries ≡ Some b → (b ≡ false) × ((u : ℕ) × (member u chosen ≡ true))
         carries_then b h = by_any any refl (sym (ap (λ (y : Station). y.carries) goes_then) ∙ h)
@@ -608,9 +632,9 @@ module _ (w : State) (t l : ℕ) (steady : IsSteady w) (there : t < length w.pla
             by_any false e f = absurd cc
 
         pub takes_chosen : Goes w (put taken_state t then_at) l (acts t (x.deeds None told_picked))
-        takes_chosen = subst (λ ds. Goes w (put taken_state t then_at) l (acts t ds)) (sym same_deeds)
+        takes_chosen = subst (λ ds. Goes w (put taken_state t then_at) l (acts t ds)) (sym picked_deeds)
             (picked_goes w t l steady own there then_at picks_follow.of picks_follow.fits many (ap (λ (y : Station). y.stands) (station_is ∙ g.was)) (ap (λ (y : Station). y.hand) (station_is ∙ g.was)) (ap (λ (y : Station). y.carries) (station_is ∙ g.was)) r rules
             (free_of (place_at w t) l (ap (λ (y : Station). y.hand) (station_is ∙ g.was))) (free_of then_at l (ap (λ (y : Station). y.hand) goes_then))
             (ap (λ (y : Station). y.inside) goes_then ∙ sym (ap (λ (y : Station). y.inside) (station_is ∙ g.was))) (ap (λ (y : Station). y.stands) goes_then) (ap (λ (y : Station). y.hand) goes_then)
             start line sleeps_chosen carries_then (λ u h. ap (λ (y : Station). y.carries) goes_then ∙ ap (λ b. in_hand b false) (some_picked u h))
-            (needed_by None told_picked then_at picks_follow (Case (TakePicked start) ∷ []) same_deeds) (own_by None told_picked then_at picks_follow (Case (TakePicked start) ∷ []) same_deeds))
+            (needed_by None told_picked then_at picks_follow (Case (TakePicked start) ∷ []) picked_deeds) (own_by None told_picked then_at picks_follow (Case (TakePicked start) ∷ []) picked_deeds))

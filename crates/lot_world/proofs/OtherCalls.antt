@@ -3,7 +3,6 @@ use Rattle.std.proofs.Common.{ℕ, Bool, true, false, Option, Some, None, if◌t
 use Rattle.lot_base.specs.declared.wants.Want.TheVariants.{Exclusive}
 use Rattle.lot_base.specs.declared.wants.Want.{Want}
 use Rattle.lot_rwlock.specs.declared.places.Admission.{Admission}
-use Rattle.lot_rwlock.specs.declared.places.RwLockPlace.{RwLockPlace}
 use Rattle.lot_rwlock.specs.declared.places.RwLockAt.{RwLockAt}
 use Rattle.lot_rwlock.specs.declared.places.RwLockAt.TheVariants as at
 use Rattle.lot_rwlock.specs.declared.park.ParkAt.TheVariants as parking
@@ -43,8 +42,8 @@ use Rattle.lot_world.specs.Stations.{Station, hand, station, nowhere}
 use Rattle.lot_world.specs.SitesOf.{IsSteady, carried_at, hand_at, CallsMutex}
 use Rattle.lot_world.proofs.AtPlaces.{unless_held}
 use Rattle.lot_world.proofs.Glue.{IsLock, IsOf, IsTakenAt, IsHandedAt, is_taken, is_handed, held_where, held_taker, station_elsewhere, same, put_of, put_same, set_puts, past_all}
-use Rattle.lot_world.proofs.CallEvents.{Others}
-use Rattle.lot_world.proofs.LockEvents.{Befalls, taken_call}
+use Rattle.lot_world.proofs.CallEvents.{Happens, IsNoHandOff, Others}
+use Rattle.lot_world.proofs.LockEvents.{Befalls, taken_call, wakes_others}
 
 -- ---------------------------------------------------------------- nobody else goes anywhere
 
@@ -61,6 +60,25 @@ abbrev pub IsCalm : Option LockCase → Type 0
 IsCalm (Some Wake) = ⊥
 IsCalm (Some (HandOff x successor)) = ⊥
 IsCalm c = Unit {0}
+
+-- by its case an act wakes nobody but those in its hand, and hands nothing over
+abbrev pub WakesOwn : Option Bool → Act → Option LockCase → Type 0
+WakesOwn hand (act.Leave keys (wakes.All x)) c = (hand ≡ Some false) × ((x ≡ note.Normal) × (c ≡ Some Wake))
+WakesOwn hand (act.Requeue from to how) c = ⊥
+WakesOwn hand (act.HandOver lock op) c = ⊥
+WakesOwn hand a c = IsCalm c
+
+module _ (w v : State) (t l : ℕ) (c : Option LockCase) (h : Happens w v t l (event_by l c)) where
+  pub no_hand_off : (d : Option LockCase) → IsCalm d → IsNoHandOff w v t l c h d
+  no_hand_off None still = tt
+  no_hand_off (Some (HandOff x successor)) still = absurd still
+  no_hand_off (Some case) still = λ x successor e. cc
+
+  pub hands_nothing : (hand : Option Bool) (a : Act) (d : Option LockCase) → WakesOwn hand a d → IsNoHandOff w v t l c h d
+  hands_nothing hand (act.Leave keys (wakes.All x)) d own = subst (IsNoHandOff w v t l c h) (sym own.1.1) (λ y successor e. cc)
+  hands_nothing hand (act.Requeue from to how) d own = absurd own
+  hands_nothing hand (act.HandOver lock op) d own = absurd own
+  hands_nothing hand a d own = no_hand_off d own
 
 sections_stay : (w : State) (keys : Keys) (who : Option ℕ) → (state_with_sections w keys who).places ≡ w.places
 sections_stay w (One key) who = refl
@@ -212,3 +230,12 @@ module _ (w : State) (t l : ℕ) (steady : IsSteady w) (own : lock_of (place_at 
       either : (c : Bool) → is_thread t (taker (place_at w u)) ≡ c → call_state (if c then next_place (place_at w u) (Woken note.HandOff) else place_at w u) r ≡ call_state (place_at w u) r
       either true e = handed_goes (place_at w u) t l (in_hand_here true carries u e) r
       either false e = refl
+
+  -- so the calls of the others are what its case makes of them
+  pub wakes_own : (p : Place) (a : Act) (c : Option LockCase) → WakesOwn (carried_at (place_at w t) l) a c → Others w (put (state_after_act w t p a) t p2) t (event_by l c)
+  wakes_own p (act.Leave keys (wakes.All x)) c h = subst (λ y. Others w (put (state_after_telling (state_with_sections w keys None) t (Woken x)) t p2) t (event_by l y)) (sym h.1.1)
+      (wakes_others w (put (state_after_telling (state_with_sections w keys None) t (Woken x)) t p2) t l (subst (λ y. Befalls w (put (state_after_telling (state_with_sections w keys None) t (Woken y)) t p2) t l (Woken note.Normal)) (sym h.1.0) (befalls (state_with_sections w keys None) (Woken note.Normal) (sections_stay w keys None) h.0)))
+  wakes_own p (act.Requeue from to how) c h = absurd h
+  wakes_own p (act.HandOver lock op) c h = absurd h
+  wakes_own p (act.Take key x) c h = calm w t p2 (put (state_after_act w t p (act.Take key x)) t p2) l c h (takes w t p2 p key x)
+  wakes_own p a c h = calm w t p2 (put (state_after_act w t p a) t p2) l c h (lonely w t p2 p a tt)

@@ -8,7 +8,7 @@ use Rattle.lot_acts.specs.Profiles.{taken_from}
 use Rattle.lot_steps.specs.declared.places.Place.{Place}
 use Rattle.lot_steps.specs.declared.places.Place.TheVariants.{Idle, Mutex, RwLock}
 use Rattle.lot_steps.specs.Steps.{act_of, lock_of, is_lock, calls, profile, line_owed}
-use Rattle.abstract_locks.specs.Locks.{Sort, Rights, Taken, Pending, IsSomePending, one_if_some, is_thread, standing}
+use Rattle.abstract_locks.specs.Locks.{Taken, IsSomePending, one_if_some, is_thread, standing}
 use Rattle.abstract_locks.specs.Locks as locks
 use Rattle.abstract_locks.specs.Runs.{CallState}
 use Rattle.abstract_locks.specs.Purposes.{IsReleasing}

@@ -13,7 +13,6 @@ use Rattle.lot_calls.specs.Kinds.{is_fair}
 use Rattle.lot_steps.specs.Steps.{act_of, next_act, next_place, first_place, lock_of, line_owed, profile}
 use Rattle.lot_machine.specs.Machine.{State, place_at, word_at, go_reply, go_outcome, kind_at, reply_to}
 use Rattle.abstract_locks.specs.Locks as locks
-use Rattle.abstract_locks.specs.Locks.{Rights}
 use Rattle.lot_world.specs.Owing.{sort_at}
 use Rattle.abstract_locks.specs.Sites.{Line}
 use Rattle.lot_world.specs.SitesOf.{IsSteady, CallsMutex}

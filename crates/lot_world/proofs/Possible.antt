@@ -16,7 +16,7 @@ use Rattle.lot_calls.specs.declared.kinds.Kind.{Kind}
 use Rattle.lot_calls.specs.Kinds.{is_fair}
 use Rattle.lot_calls.specs.declared.outcomes.Outcome as outcome
 use Rattle.lot_acts.specs.declared.acts.Act.{Act}
-use Rattle.lot_acts.specs.declared.acts.Act.TheVariants.{Rest, Word, Enter, Park, Take, Sleep, Closure, End}
+use Rattle.lot_acts.specs.declared.acts.Act.TheVariants.{Rest, Enter, Park, Take, Sleep, Closure, End}
 use Rattle.lot_acts.specs.declared.acts.Act.TheVariants as act
 use Rattle.lot_acts.specs.declared.acts.Reply.{Reply}
 use Rattle.lot_acts.specs.declared.acts.Reply.TheVariants.{Late}

@@ -1,5 +1,5 @@
 -- What each call of a reader-writer lock comes to whose thread steps alone from its beginning.
-use Rattle.std.proofs.Common.{ℕ, Bool, true, false, Option, Some, None, if◌then◌else◌, ◌==◌, ◌&&◌, ◌||◌, ◌≡◌, ◌≢◌, ◌+◌, ◌-◌, ◌*◌, ◌/◌, ◌%◌, ◌≤◌, ◌<◌, ◌^◌, nat_le, inl, inr, List, [], ◌∷◌, ◌++◌, map, length, replicate, refl, sym, ◌∙◌, ap, subst, arith}
+use Rattle.std.proofs.Common.{ℕ, Bool, true, false, Option, Some, None, if◌then◌else◌, ◌==◌, ◌&&◌, ◌||◌, ◌≡◌, ◌≢◌, ◌+◌, ◌*◌, ◌/◌, ◌%◌, ◌≤◌, ◌<◌, ◌^◌, nat_le, List, [], ◌∷◌, ◌++◌, map, length, replicate, refl, sym, ◌∙◌, ap, subst, arith}
 use Rattle.std.proofs.lemmas.Bool.{eqb-true}
 use Rattle.std.proofs.lemmas.Bool.Decides.{nat_tests}
 use Rattle.lot_base.specs.declared.wants.Waiter.{Waiter}
@@ -32,17 +32,15 @@ use Rattle.lot_calls.specs.declared.calls.RwLockCall.{RwLockCall}
 use Rattle.lot_calls.specs.declared.calls.RwLockCall.TheVariants as call
 use Rattle.lot_rwlock.specs.RwLockBegins.{rwlock_first}
 use Rattle.lot_rwlock.specs.RwLockDeeds.{Admits, doing_at, rwlock_doing}
-use Rattle.abstract_locks.specs.Locks.{LockState, Pending, Rights, with_right, is_thread, Sort, Mutex, Normal, Recursive, Semaphore, Rules, Knows, NoWriter, IsFreeAt, IsSomePending, one_if_some, IsFree, IsBlocked, MayEnter, Owns, is_recursive, count, readers, rights_of}
+use Rattle.abstract_locks.specs.Locks.{LockState, Pending, Rights, with_right, is_thread, Sort, Mutex, Normal, Recursive, Semaphore, Rules, NoWriter, IsFreeAt, IsSomePending, one_if_some, IsFree, IsBlocked, MayEnter, Owns, is_recursive, count, readers, rights_of}
 use Rattle.abstract_locks.specs.Codes.{code, count_in, has_parked, is_blocked, TellsTrue}
 use Rattle.abstract_locks.specs.Picks.{queued_of}
-use Rattle.abstract_locks.specs.Purposes.{Enters, Releases, Converts, rwlock_purpose}
+use Rattle.abstract_locks.specs.Purposes.{Enters, Converts, rwlock_purpose}
 use Rattle.abstract_locks.specs.Runs.{IsFull, AnswerHolds, CallState, one_more_at}
-use Rattle.abstract_locks.specs.Sites.{Has, idle, Site, Line, Main, Second, has_readers}
+use Rattle.abstract_locks.specs.Sites.{Has, idle, Line, Second, has_readers}
 use Rattle.abstract_locks.proofs.CodeLaws.{words_tell_true}
-use Rattle.lot_steps.specs.declared.places.Place.{Place}
 use Rattle.lot_steps.specs.declared.places.Place.TheVariants.{RwLock}
 use Rattle.lot_machine.specs.Machine.{State, go_of, place_at, word_at, queue_at, solo}
-use Rattle.lot_machine.specs.Fits.{IsShaped}
 use Rattle.lot_world.specs.Refinement.{lock_state, locks_of, call_at, call_state}
 use Rattle.lot_world.specs.SitesOf.{IsSteady, key_of, rules_at, site_of}
 use Rattle.lot_world.specs.Stations.{doing_on}
@@ -50,10 +48,9 @@ use Rattle.lot_world.specs.Solo.{EntersAlone, EndsAlone, ReleasesAlone, Converts
 use Rattle.lot_world.proofs.Glue.{put_here, same}
 use Rattle.lot_world.proofs.MutexTable.{queued_behind}
 use Rattle.lot_world.proofs.LineSolo.{StepsAlone}
-use Rattle.lot_world.proofs.SoloActs.{Leads}
 use Rattle.lot_world.proofs.SoloAnswers.{HasAnswered, answered}
 use Rattle.lot_world.proofs.WorldRuns.{run_refines}
-use Rattle.lot_world.proofs.RwLockSolo.{Decides, Takes, Settles, Sleeps, Tries, Ends, Upgrades, place_for, load_leads, first_leads, release_ends, downgrade_ends, upgrade_leads, word_small}
+use Rattle.lot_world.proofs.RwLockSolo.{Decides, Takes, Settles, Sleeps, Tries, Upgrades, place_for, load_leads, first_leads, release_ends, downgrade_ends, upgrade_leads, word_small}
 
 same_answer : (how : Patience) → entered how ≡ entered_answer how
 same_answer Patient = refl

@@ -1,5 +1,5 @@
 -- A thread in a call of a reader-writer lock goes on: every lock is a site again.
-use Rattle.std.proofs.Common.{ℕ, Bool, true, false, Option, Some, None, if◌then◌else◌, ◌==◌, ◌≡◌, ◌≢◌, ◌+◌, ◌*◌, ◌-◌, ◌^◌, ◌≤◌, ◌<◌, List, [], ◌∷◌, length, is_none, refl, sym, ◌∙◌, ap, subst, arith}
+use Rattle.std.proofs.Common.{ℕ, Bool, true, false, Option, Some, None, ◌≡◌, ◌+◌, ◌*◌, ◌-◌, ◌^◌, ◌≤◌, ◌<◌, List, [], ◌∷◌, length, is_none, refl, sym, ◌∙◌, ap, subst, arith}
 use Rattle.std.proofs.lemmas.Bool.{eqb-true}
 use Rattle.lot_base.specs.declared.keys.Keys.{Keys}
 use Rattle.lot_base.specs.declared.keys.Keys.TheVariants.{One}
@@ -22,27 +22,27 @@ use Rattle.lot_acts.specs.declared.acts.Reply.{Reply}
 use Rattle.lot_acts.specs.declared.acts.Reply.TheVariants.{Done, Value, Parked, Took, Picked, Removed, Late, TakenBy, Woken}
 use Rattle.lot_acts.specs.declared.acts.Wakes.{Wakes}
 use Rattle.lot_acts.specs.declared.acts.Whom as whom
-use Rattle.lot_acts.specs.Moves.{Stays, GoesIn, GoesOut, Parks, Picks, TakesAside, LeavesLine, Moves, row_of}
-use Rattle.lot_acts.specs.Profiles.{Profile}
+use Rattle.lot_acts.specs.Acts.{holds, wakes_taken}
+use Rattle.lot_acts.specs.Moves.{Stays, GoesIn, GoesOut, Parks, Picks, TakesAside, LeavesLine, Moves, AreOfWord, AreLeaving, parks_in, takes_aside, row_of}
+use Rattle.lot_acts.specs.Profiles.{Profile, in_hand}
 use Rattle.lot_acts.specs.Stations.{Station}
 use Rattle.lot_acts.specs.Owners.{lock_seen, shares_then}
 use Rattle.lot_rwlock.specs.declared.places.Admission.{Admission}
 use Rattle.lot_rwlock.specs.declared.places.RwLockPlace.{RwLockPlace}
 use Rattle.lot_rwlock.specs.declared.places.RwLockAt.{RwLockAt}
 use Rattle.lot_rwlock.specs.declared.places.RwLockAt.TheVariants as at
-use Rattle.lot_rwlock.specs.declared.park.ParkAt.{ParkAt}
 use Rattle.lot_rwlock.specs.declared.park.ParkAt.TheVariants as parking
-use Rattle.lot_rwlock.specs.declared.release.WakeAt.{WakeAt}
-use Rattle.lot_rwlock.specs.declared.release.WakeAt.TheVariants as waking
 use Rattle.lot_rwlock.specs.RwLockSteps.{patience_of, rwlock_act, rwlock_next, rwlock_owners, rwlock_shares}
 use Rattle.lot_rwlock.specs.RwLockDeeds.{Admits, IsAt, MayHear, doing_next, rwlock_deeds, rwlock_doing}
-use Rattle.lot_rwlock.specs.RwLockProfiles.{rwlock_profile, rwlock_late_line, late_line_at}
-use Rattle.lot_rwlock.specs.RwLockCalls.{HasDeadline, MayStand, MayBeTold, MayStandNext, next_row}
+use Rattle.lot_rwlock.specs.RwLockProfiles.{rwlock_profile, rwlock_late_line, late_line_at, carries_at}
+use Rattle.lot_rwlock.specs.RwLockCalls.{HasDeadline, MayStand, MayBeTold, MayStandNext, IsCalling, IsNotLate, CallFollowsBy, next_row}
 use Rattle.lot_rwlock.specs.RwLockMoves.{rwlock_move, rwlock_hears}
 use Rattle.lot_rwlock.specs.RwLockBegins.{admission_of, rwlock_first, rwlock_right}
 use Rattle.lot_rwlock.specs.RwLockOpenings.{Opens}
 use Rattle.lot_rwlock.proofs.RwLockOpenings.{rwlock_calls_open}
 use Rattle.lot_rwlock.proofs.RwLockStands.{is_at, rwlock_calls_stand}
+use Rattle.lot_rwlock.proofs.RwLockCalls.{rwlock_steps_tell}
+use Rattle.lot_rwlock.proofs.RwLockCallSections.{rwlock_sections_tell}
 use Rattle.lot_rwlock.proofs.RwLockFit.{knows_all, rwlock_steps_follow}
 use Rattle.lot_rwlock.proofs.RwLockCodes.{rwlock_steps_code}
 use Rattle.lot_rwlock.proofs.RwLockOwners.{rwlock_owners_follow}
@@ -53,14 +53,15 @@ use Rattle.lot_steps.specs.declared.places.Place.TheVariants.{Idle, Mutex, RwLoc
 use Rattle.lot_steps.specs.Steps.{next_place, profile, calls, rwlock_goes}
 use Rattle.abstract_locks.specs.Locks.{Rules, Sort, Normal, Recursive, Semaphore, count, one_if_some, standing}
 use Rattle.abstract_locks.specs.Locks as locks
-use Rattle.abstract_locks.specs.Sites.{Site, IsSite, Line, Main, Second, Begin, has_readers}
+use Rattle.abstract_locks.specs.Sites.{Site, IsSite, Deed, Line, Main, Second, Begin, Case, Clear, End, In, Mark, Out, has_readers}
 use Rattle.abstract_locks.specs.Codes.{HasLimit, bit, code, code_of, packed, writers}
+use Rattle.abstract_locks.specs.Deeds.{case_of}
 use Rattle.abstract_locks.specs.Deeds as laws
 use Rattle.abstract_locks.specs.Purposes.{rules_of}
 use Rattle.lot_machine.specs.Machine.{State, place_at, word_at, kind_at, owners_at, shares_at, share_at, queue_at, section_at, can_do, are_free, is_free, put, state_after_act, state_after_late_under, reply_to}
 use Rattle.lot_machine.specs.Fits.{IsShaped}
 use Rattle.lot_machine.proofs.Shape.{main_key_there}
-use Rattle.lot_world.specs.Refinement.{lock_state, taken_at}
+use Rattle.lot_world.specs.Refinement.{taken_at}
 use Rattle.lot_world.specs.MutexDeeds.{acts}
 use Rattle.lot_world.specs.Stations.{station, doing_on}
 use Rattle.lot_world.specs.SitesOf.{IsSteady, Goes, CallsMutex, TakesOne, HasRoom, is_mutex, rules_at, key_of}
@@ -68,8 +69,8 @@ use Rattle.lot_world.proofs.Glue.{IsOf, next_of, parts_at, put_here, doing_here}
 use Rattle.lot_world.proofs.StandsMoved.{mutex_rules}
 use Rattle.lot_world.proofs.ActsKept.{lock_by, place_goes}
 use Rattle.lot_world.proofs.OneStep.{steps_by}
-use Rattle.lot_world.proofs.SitesKept.{go_by}
-use Rattle.lot_world.proofs.MovesKept.{free_of, IsFollowed, IsSleeper, stays, goes_in, goes_out, parks_or_turns, leaves_line, takes_whom_aside, takes_chosen, wakes_one, nowhere_here}
+use Rattle.lot_world.proofs.OtherCalls.{IsCalm, WakesOwn}
+use Rattle.lot_world.proofs.MovesKept.{entered_hears, left_hears, parked_hears, removed_hears, picked_hears, picked_deeds, free_of, IsFollowed, IsSleeper, stays, goes_in, goes_out, parks_or_turns, leaves_line, takes_whom_aside, takes_chosen, wakes_one, nowhere_here}
 
 -- ---------------------------------------------------------------- rows
 
@@ -160,6 +161,49 @@ word_few r s readers site room limit = by_sort r.sort refl readers
     by_sort locks.Mutex e h = absurd cc
     by_sort Semaphore e h = absurd cc
 
+-- ---------------------------------------------------------------- deeds that leave the others as they are
+
+abbrev AreCalm : List Deed → Type 0
+AreCalm [] = Unit {0}
+AreCalm (Case case ∷ ds) = IsCalm (Some case)
+AreCalm (Out ∷ ds) = ⊥
+AreCalm (d ∷ ds) = AreCalm ds
+
+calm_case : (hand : Option Bool) (ds : List Deed) → AreCalm ds → IsCalm (case_of hand ds)
+calm_case hand [] h = tt
+calm_case hand (Case case ∷ ds) h = h
+calm_case hand (Out ∷ ds) h = absurd h
+calm_case hand (d ∷ ds) h = calm_case hand ds h
+
+word_calm : (ds : List Deed) → AreOfWord ds → AreCalm ds
+word_calm [] h = tt
+word_calm (End ∷ []) h = tt
+word_calm (Mark m ∷ []) h = tt
+word_calm (Clear m ∷ []) h = tt
+word_calm (Case locks.Wake ∷ ds) h = absurd h
+word_calm (Case (locks.HandOff right successor) ∷ ds) h = absurd h
+word_calm (Case case ∷ ds) h = tt
+word_calm ds h = absurd h
+
+in_line_calm : (m : Line) (x : Want) → AreCalm (parks_in m x ∷ [])
+in_line_calm Main x = tt
+in_line_calm Second x = tt
+
+aside_calm : (o : Option ℕ) → AreCalm (takes_aside o ∷ [])
+aside_calm None = tt
+aside_calm (Some u) = tt
+
+-- who leaves a section wakes those in its hand, if anybody
+left_calm : (ds : List Deed) → AreLeaving ds → IsCalm (case_of None ds)
+left_calm (Out ∷ []) h = tt
+left_calm (Out ∷ End ∷ []) h = tt
+left_calm ds h = absurd h
+
+left_wakes : (ds : List Deed) → AreLeaving ds → case_of (Some false) ds ≡ Some locks.Wake
+left_wakes (Out ∷ []) h = refl
+left_wakes (Out ∷ End ∷ []) h = refl
+left_wakes ds h = absurd h
+
 -- ---------------------------------------------------------------- one thread
 
 module _ (w : State) (t l : ℕ) (a : Admission) (p : RwLockPlace) (steady : IsSteady w) (shape : IsShaped w) (there : t < length w.places) (lt : l < length w.locks) (is : place_at w t ≡ RwLock l a p) where
@@ -188,7 +232,7 @@ module _ (w : State) (t l : ℕ) (a : Admission) (p : RwLockPlace) (steady : IsS
   doing_now = doing_here l (place_at w t) own ∙ ap (λ (y : Profile). y.doing) same_row
 
   at_now : IsAt (rules_at w l) a here t p
-  at_now = is_at (rules_at w l) a here t p admits site doing_now stands
+  at_now = is_at (rules_at w l) a here t p admits site doing_now stands (rw (steady.numbers.threads l) there)
 
   -- what its laws conclude
   abbrev Followed : Option ℕ → Reply → Type 0
@@ -204,7 +248,7 @@ module _ (w : State) (t l : ℕ) (a : Admission) (p : RwLockPlace) (steady : IsS
   }
     where
       by_next : (n : Next RwLockPlace) → MayStandNext a n → CallsMutex w (rwlock_goes l a n)
-      by_next (next.At q) h = (admits, h, fits_now.2)
+      by_next (next.At q) h = (admits, h)
       by_next (next.End answer) h = tt
 
   followed : (whom : Option ℕ) (told : Reply) → MayHear (rules_at w l) a here t p p.at whom told → MayBeTold a p p.at told → Followed whom told
@@ -233,13 +277,27 @@ module _ (w : State) (t l : ℕ) (a : Admission) (p : RwLockPlace) (steady : IsS
           fits_u = subst (CallsMutex w) e (steady.stands.calls u)
 
           by_next : (n : Next RwLockPlace) → MayStandNext b n → CallsMutex w (rwlock_goes k b n)
-          by_next (next.At y) h = (fits_u.0, h, fits_u.2)
+          by_next (next.At y) h = (fits_u.0, h)
           by_next (next.End answer) h = tt
 
   -- ---------------------------------------------------------------- each act
 
-  abbrev GoesBy : Act → Type 0
-  GoesBy y = (whom : Option ℕ) × Goes w (go_by w t (RwLock l a p) y) l (acts t (rwlock_deeds a p whom (reply_to w t y)))
+  -- its deeds as it goes on from a place, what they make of its call, and of those of the others
+  pub record GoesFrom (q : Place) (y : Act) : Type 0 where
+    pub whom : Option ℕ
+    pub goes : Goes w (put (state_after_act w t (RwLock l a p) y) t (next_place q (reply_to w t y))) l (acts t (rwlock_deeds a p whom (reply_to w t y)))
+    pub tells : CallFollowsBy (rules_at w l) a here t l p whom (reply_to w t y)
+    pub others : WakesOwn (carries_at p.at) y (case_of (carries_at p.at) (rwlock_deeds a p whom (reply_to w t y)))
+
+  -- a thread that is there
+  calling : IsCalling (rules_at w l) a here t p
+  calling = record { at = at_now; stands = stands }
+
+  tells_by : (whom : Option ℕ) (told : Reply) → IsNotLate told → MayHear (rules_at w l) a here t p p.at whom told → CallFollowsBy (rules_at w l) a here t l p whom told
+  tells_by whom told now hears = rwlock_sections_tell (rules_at w l) a here t l p whom told calling hears now
+
+  calm_by : (ds : List Deed) {x : List Deed} → x ≡ ds → AreCalm ds → IsCalm (case_of (carries_at p.at) x)
+  calm_by ds e h = subst (λ (x : List Deed). IsCalm (case_of (carries_at p.at) x)) (sym e) (calm_case (carries_at p.at) ds h)
 
   many : TakesOne w l → ⊥
   many one = one (knows_all (rules_at w l) admits.0 access.Upgradable)
@@ -255,8 +313,13 @@ module _ (w : State) (t l : ℕ) (a : Admission) (p : RwLockPlace) (steady : IsS
   word_is = steady.sites.word l
 
   -- one operation on the word
-  on_word : (op : Op) → rwlock_act l a p ≡ act.Word l op → Stays (rwlock_move a p) → Goes w (put (state_after_act w t (RwLock l a p) (act.Word l op)) t (next_place (place_at w t) (Value (word_at w l)))) l (acts t (rwlock_deeds a p None (Value (word_at w l))))
-  on_word op e g = stays w t l steady there own (rules_at w l) refl admits.0 (rwlock_move a p) same_row (RwLock l a p) (next_place (place_at w t) (Value (word_at w l))) op lt g on.0 on.1 on.2
+  on_word : (op : Op) → rwlock_act l a p ≡ act.Word l op → Stays (rwlock_move a p) → GoesFrom (place_at w t) (act.Word l op)
+  on_word op e g = record {
+    whom = None;
+    goes = stays w t l steady there own (rules_at w l) refl admits.0 (rwlock_move a p) same_row (RwLock l a p) (next_place (place_at w t) (Value (word_at w l))) op lt g on.0 on.1 on.2;
+    tells = subst (λ v. CallFollowsBy (rules_at w l) a here t l p None (Value v)) (sym word_is) (rwlock_steps_tell (rules_at w l) a here t l p op calling nowhere e);
+    others = calm_by (rwlock_deeds a p None (Value (word_at w l))) refl (word_calm (rwlock_deeds a p None (Value (word_at w l))) (g.deeds (word_at w l)));
+  }
     where
       nowhere : standing t here.lock ≡ 0
       nowhere = nowhere_here w t l steady there own (rules_at w l) refl admits.0 (rwlock_move a p) same_row g.out g.free
@@ -282,55 +345,88 @@ module _ (w : State) (t l : ℕ) (a : Admission) (p : RwLockPlace) (steady : IsS
         rwlock_steps_code (rules_at w l) a here t l p op at_now nowhere e (subst (λ n. t < n) (sym (steady.numbers.threads l)) there) few room limits.1,
       ))
 
-  abbrev GoesFrom : Place → Act → Option ℕ → Type 0
-  GoesFrom q y whom = Goes w (put (state_after_act w t (RwLock l a p) y) t (next_place q (reply_to w t y))) l (acts t (rwlock_deeds a p whom (reply_to w t y)))
-
   none_is : (o : Option ℕ) → is_none o ≡ true → o ≡ None
   none_is None h = refl
   none_is (Some u) h = absurd cc
 
-  into : (m : Line) (keys : Keys) → keys ≡ One (key_of l m) → are_free w keys ≡ true → GoesIn (rwlock_move a p) (rwlock_hears a p) m Done → GoesFrom (place_at w t) (act.Enter keys) None
-  into m keys e free g = subst (λ k. GoesFrom (place_at w t) (act.Enter k) None) (sym e)
-      (goes_in w t l steady there own (rules_at w l) refl admits.0 (rwlock_move a p) same_row (rwlock_hears a p) m Done (next_place (place_at w t) Done) (section_there m)
-      (none_is (section_at w (key_of l m)) (subst (λ k. are_free w k ≡ true) e free)) g (λ h. followed None Done h (told_done a p (rules_at w l) here t p.at None h)))
+  into : (m : Line) (keys : Keys) → keys ≡ One (key_of l m) → are_free w keys ≡ true → GoesIn (rwlock_move a p) (rwlock_hears a p) m Done → GoesFrom (place_at w t) (act.Enter keys)
+  into m keys e free g = subst (λ k. GoesFrom (place_at w t) (act.Enter k)) (sym e) (record {
+    whom = None;
+    goes = goes_in w t l steady there own (rules_at w l) refl admits.0 (rwlock_move a p) same_row (rwlock_hears a p) m Done (next_place (place_at w t) Done) (section_there m) is_free_now g (λ h. followed None Done h (told_done a p (rules_at w l) here t p.at None h));
+    tells = tells_by None Done tt (entered_hears w t l steady there own (rules_at w l) refl admits.0 (rwlock_move a p) same_row (rwlock_hears a p) m Done is_free_now g);
+    others = calm_by (In m ∷ []) g.deeds tt;
+  })
+    where
+      is_free_now : section_at w (key_of l m) ≡ None
+      is_free_now = none_is (section_at w (key_of l m)) (subst (λ k. are_free w k ≡ true) e free)
 
-  out_of : (m : Line) (keys : Keys) (wakes : Wakes) → keys ≡ One (key_of l m) → GoesOut (rwlock_move a p) (rwlock_hears a p) m wakes → GoesFrom (place_at w t) (act.Leave keys wakes) None
-  out_of m keys wakes e g = subst (λ k. GoesFrom (place_at w t) (act.Leave k wakes) None) (sym e)
-      (goes_out w t l steady there own (rules_at w l) refl admits.0 (rwlock_move a p) same_row (rwlock_hears a p) m wakes (next_place (place_at w t) Done) (section_there m) g (λ h. followed None Done h (told_done a p (rules_at w l) here t p.at None h))
-      (wakes_one w t l steady there own (rules_at w l) refl admits.0 (rwlock_move a p) same_row asleep))
+  out_of : (m : Line) (keys : Keys) (wakes : Wakes) → keys ≡ One (key_of l m) → GoesOut (rwlock_move a p) (rwlock_hears a p) m wakes → GoesFrom (place_at w t) (act.Leave keys wakes)
+  out_of m keys wakes e g = subst (λ k. GoesFrom (place_at w t) (act.Leave k wakes)) (sym e) (record {
+    whom = None;
+    goes = goes_out w t l steady there own (rules_at w l) refl admits.0 (rwlock_move a p) same_row (rwlock_hears a p) m wakes (next_place (place_at w t) Done) (section_there m) g (λ h. followed None Done h (told_done a p (rules_at w l) here t p.at None h)) (wakes_one w t l steady there own (rules_at w l) refl admits.0 (rwlock_move a p) same_row asleep);
+    tells = tells_by None Done tt (left_hears w t l steady there own (rules_at w l) refl admits.0 (rwlock_move a p) same_row (rwlock_hears a p) m wakes g);
+    others = subst (λ x. WakesOwn (carries_at p.at) (act.Leave (One (key_of l m)) x) (case_of (carries_at p.at) (rwlock_deeds a p None Done))) (sym g.notes) (wakes_any (carries_at p.at) g.any g.carries (rwlock_deeds a p None Done) g.deeds);
+  })
+    where
+      wakes_any : (hand : Option Bool) (any : Bool) → hand ≡ in_hand any false → (ds : List Deed) → AreLeaving ds → WakesOwn hand (act.Leave (One (key_of l m)) (wakes_taken any Normal)) (case_of hand ds)
+      wakes_any hand false f ds h = subst (λ x. IsCalm (case_of x ds)) (sym f) (left_calm ds h)
+      wakes_any hand true f ds h = (f, (refl, ap (λ x. case_of x ds) f ∙ left_wakes ds h))
 
-  parked : (m : Line) (k key : ℕ) (check : Check) (want : Want) → k ≡ l → key ≡ key_of l m → Parks (rwlock_move a p) (rwlock_hears a p) m check want → GoesFrom (place_at w t) (act.Park k key check want) None
-  parked m k key check want ke e g = subst (λ j. GoesFrom (place_at w t) (act.Park j key check want) None) (sym ke) (subst (λ j. GoesFrom (place_at w t) (act.Park l j check want) None) (sym e)
-      (parks_or_turns w t l steady there own (rules_at w l) refl admits.0 (rwlock_move a p) same_row (rwlock_hears a p) m check want (line_there m) g (λ b h. followed None (Parked b) h (told_other a p p.at (Parked b) tt))))
+  parked : (m : Line) (k key : ℕ) (check : Check) (want : Want) → k ≡ l → key ≡ key_of l m → Parks (rwlock_move a p) (rwlock_hears a p) m check want → GoesFrom (place_at w t) (act.Park k key check want)
+  parked m k key check x ke e g = subst (λ j. GoesFrom (place_at w t) (act.Park j key check x)) (sym ke) (subst (λ j. GoesFrom (place_at w t) (act.Park l j check x)) (sym e) (record {
+    whom = None;
+    goes = parks_or_turns w t l steady there own (rules_at w l) refl admits.0 (rwlock_move a p) same_row (rwlock_hears a p) m check x (line_there m) g (λ b h. followed None (Parked b) h (told_other a p p.at (Parked b) tt));
+    tells = tells_by None (Parked (holds check (word_at w l))) tt (parked_hears w t l steady there own (rules_at w l) refl admits.0 (rwlock_move a p) same_row (rwlock_hears a p) m check x g (holds check (word_at w l)) refl);
+    others = parks_calm (holds check (word_at w l));
+  }))
+    where
+      parks_calm : (b : Bool) → IsCalm (case_of (carries_at p.at) (rwlock_deeds a p None (Parked b)))
+      parks_calm true = calm_by (parks_in m x ∷ []) g.parks (in_line_calm m x)
+      parks_calm false = calm_by [] g.turns tt
 
-  left : (m : Line) (key : ℕ) → key ≡ key_of l m → LeavesLine (rwlock_move a p) (rwlock_hears a p) m → GoesFrom (place_at w t) (act.Remove key) None
-  left m key e g = subst (λ j. GoesFrom (place_at w t) (act.Remove j) None) (sym e)
-      (leaves_line w t l steady there own (rules_at w l) refl admits.0 (rwlock_move a p) same_row asleep (rwlock_hears a p) m g (λ b h. followed None (Removed b) h (told_other a p p.at (Removed b) tt)))
+  left : (m : Line) (key : ℕ) → key ≡ key_of l m → LeavesLine (rwlock_move a p) (rwlock_hears a p) m → GoesFrom (place_at w t) (act.Remove key)
+  left m key e g = subst (λ j. GoesFrom (place_at w t) (act.Remove j)) (sym e) (record {
+    whom = None;
+    goes = leaves_line w t l steady there own (rules_at w l) refl admits.0 (rwlock_move a p) same_row asleep (rwlock_hears a p) m g (λ b h. followed None (Removed b) h (told_other a p p.at (Removed b) tt));
+    tells = tells_by None (reply_to w t (act.Remove (key_of l m))) tt (removed_hears w t l steady there own (rules_at w l) refl admits.0 (rwlock_move a p) same_row asleep (rwlock_hears a p) m g);
+    others = calm_by (Case locks.Late ∷ []) (g.deeds _) tt;
+  })
 
-  picked : (key : ℕ) (start : Option Want) (b : Bool) → key ≡ key_of l Main → b ≡ a.recursive → Picks (rwlock_move a p) (rwlock_hears a p) start → GoesFrom (place_at w t) (act.Take key (whom.TheVariants.Picked start b)) None
-  picked key start b e same_rule g = subst (λ j. GoesFrom (place_at w t) (act.Take j (whom.TheVariants.Picked start b)) None) (sym e) (subst (λ c. GoesFrom (place_at w t) (act.Take (key_of l Main) (whom.TheVariants.Picked start c)) None) (admits.1 ∙ sym same_rule)
-      (takes_chosen w t l steady there own (rules_at w l) refl admits.0 (rwlock_move a p) same_row asleep (rwlock_hears a p) many (line_there Main) start g (λ n y none_left h. followed None (Picked n y none_left) h (told_other a p p.at (Picked n y none_left) tt))))
+  picked : (key : ℕ) (start : Option Want) (b : Bool) → key ≡ key_of l Main → b ≡ a.recursive → Picks (rwlock_move a p) (rwlock_hears a p) start → GoesFrom (place_at w t) (act.Take key (whom.TheVariants.Picked start b))
+  picked key start b e same_rule g = subst (λ j. GoesFrom (place_at w t) (act.Take j (whom.TheVariants.Picked start b))) (sym e) (subst (λ c. GoesFrom (place_at w t) (act.Take (key_of l Main) (whom.TheVariants.Picked start c))) (admits.1 ∙ sym same_rule) (record {
+    whom = None;
+    goes = takes_chosen w t l steady there own (rules_at w l) refl admits.0 (rwlock_move a p) same_row asleep (rwlock_hears a p) many (line_there Main) start g follows;
+    tells = tells_by None _ tt (picked_hears w t l steady there own (rules_at w l) refl admits.0 (rwlock_move a p) same_row asleep (rwlock_hears a p) many (line_there Main) start g follows);
+    others = calm_by (Case (locks.TakePicked start) ∷ []) (picked_deeds w t l steady there own (rules_at w l) refl admits.0 (rwlock_move a p) same_row asleep (rwlock_hears a p) many (line_there Main) start g follows) tt;
+  }))
+    where
+      follows : (n : ℕ) (y : Option Want) (none_left : Bool) → rwlock_hears a p (rules_at w l) here t None (Picked n y none_left) → Followed None (Picked n y none_left)
+      follows n y none_left h = followed None (Picked n y none_left) h (told_other a p p.at (Picked n y none_left) tt)
 
-  took : (key : ℕ) → key ≡ key_of l Second → TakesAside (rwlock_move a p) (rwlock_hears a p) → GoesFrom (place_at w t) (act.Take key whom.TheVariants.First) here.lock.aside
-  took key e g = subst (λ j. GoesFrom (place_at w t) (act.Take j whom.TheVariants.First) here.lock.aside) (sym e)
-      (takes_whom_aside w t l steady there own (rules_at w l) refl admits.0 (rwlock_move a p) same_row asleep (rwlock_hears a p) many (line_there Second) g (λ any none_left h. followed here.lock.aside (Took any none_left) h (told_other a p p.at (Took any none_left) tt)))
+  took : (key : ℕ) → key ≡ key_of l Second → TakesAside (rwlock_move a p) (rwlock_hears a p) → GoesFrom (place_at w t) (act.Take key whom.TheVariants.First)
+  took key e g = subst (λ j. GoesFrom (place_at w t) (act.Take j whom.TheVariants.First)) (sym e) (record {
+    whom = here.lock.aside;
+    goes = takes_whom_aside w t l steady there own (rules_at w l) refl admits.0 (rwlock_move a p) same_row asleep (rwlock_hears a p) many (line_there Second) g (λ any none_left h. followed here.lock.aside (Took any none_left) h (told_other a p p.at (Took any none_left) tt));
+    tells = tells_by here.lock.aside (reply_to w t (act.Take (key_of l Second) whom.TheVariants.First)) tt (g.may (rules_at w l) here t _ _);
+    others = calm_by (takes_aside here.lock.aside ∷ []) (g.deeds here.lock.aside _ _) (aside_calm here.lock.aside);
+  })
 
-  by_act : (y : Act) → rwlock_act l a p ≡ y → Moves l a.recursive (rwlock_move a p) (rwlock_hears a p) y → can_do w y ≡ true → (whom : Option ℕ) × GoesFrom (place_at w t) y whom
-  by_act (act.Word k op) e g can = (None, subst (λ j. GoesFrom (place_at w t) (act.Word j op) None) (sym g.0) (on_word op (e ∙ ap (λ j. act.Word j op) g.0) g.1))
-  by_act (act.Enter keys) e g can = (None, into g.0 keys g.1 can g.2)
-  by_act (act.Park k key check want) e g can = (None, parked g.0 k key check want g.1 g.2 g.3)
-  by_act (act.Take key (whom.TheVariants.Picked start b)) e g can = (None, picked key start b g.0 g.1 g.2)
-  by_act (act.Take key whom.TheVariants.First) e g can = (here.lock.aside, took key g.0 g.1)
+  by_act : (y : Act) → rwlock_act l a p ≡ y → Moves l a.recursive (rwlock_move a p) (rwlock_hears a p) y → can_do w y ≡ true → GoesFrom (place_at w t) y
+  by_act (act.Word k op) e g can = subst (λ j. GoesFrom (place_at w t) (act.Word j op)) (sym g.0) (on_word op (e ∙ ap (λ j. act.Word j op) g.0) g.1)
+  by_act (act.Enter keys) e g can = into g.0 keys g.1 can g.2
+  by_act (act.Park k key check want) e g can = parked g.0 k key check want g.1 g.2 g.3
+  by_act (act.Take key (whom.TheVariants.Picked start b)) e g can = picked key start b g.0 g.1 g.2
+  by_act (act.Take key whom.TheVariants.First) e g can = took key g.0 g.1
   by_act (act.Take key whom.TheVariants.All) e g can = absurd g
-  by_act (act.Remove key) e g can = (None, left g.0 key g.1 g.2)
-  by_act (act.Leave keys wakes) e g can = (None, out_of g.0 keys wakes g.1 g.2)
+  by_act (act.Remove key) e g can = left g.0 key g.1 g.2
+  by_act (act.Leave keys wakes) e g can = out_of g.0 keys wakes g.1 g.2
   by_act act.Sleep e g can = absurd cc
   by_act (act.End answer) e g can = absurd cc
   by_act y e g can = absurd g
 
   -- wherever it stands, its deeds are what the place and the reply say
-  pub rwlock_goes_on : can_do w (rwlock_act l a p) ≡ true → GoesBy (rwlock_act l a p)
-  rwlock_goes_on can = let g = by_act (rwlock_act l a p) refl (rwlock_acts_move l a p stands) can in (g.0, subst (λ q. GoesFrom q (rwlock_act l a p) g.0) is g.1)
+  pub rwlock_goes_on : can_do w (rwlock_act l a p) ≡ true → GoesFrom (RwLock l a p) (rwlock_act l a p)
+  rwlock_goes_on can = subst (λ q. GoesFrom q (rwlock_act l a p)) is (by_act (rwlock_act l a p) refl (rwlock_acts_move l a p stands) can)
 
   -- ---------------------------------------------------------------- its time is up
 

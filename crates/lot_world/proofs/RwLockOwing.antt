@@ -1,27 +1,23 @@
 -- How a call of a reader-writer lock comes to owe a wake: by the word that it sees, and by entering a section. Whatever befalls a thread
 -- changes nothing of that.
-use Rattle.std.proofs.Common.{ℕ, Bool, true, false, Option, Some, None, if◌then◌else◌, ◌==◌, ◌&&◌, not, ◌≡◌, ◌≢◌, ◌*◌, ◌+◌, ◌⊎◌, inl, inr, refl, sym, ◌∙◌, ap, subst}
+use Rattle.std.proofs.Common.{ℕ, Bool, true, false, Some, None, if◌then◌else◌, ◌==◌, ◌&&◌, ◌≡◌, inl, inr, refl, sym, ◌∙◌, ap, subst}
 use Rattle.lot_base.specs.declared.keys.Line.{Line}
 use Rattle.lot_base.specs.declared.keys.Line.TheVariants.{Main, Second}
 use Rattle.lot_base.specs.declared.notes.Note.{Note}
 use Rattle.lot_base.specs.declared.notes.Note.TheVariants as note
-use Rattle.lot_calls.specs.declared.calls.Access.{Access}
 use Rattle.lot_calls.specs.declared.calls.Access.TheVariants as access
 use Rattle.lot_calls.specs.declared.calls.Patience.{Patience}
 use Rattle.lot_calls.specs.declared.calls.Patience.TheVariants.{Patient, Timed, Try}
 use Rattle.lot_calls.specs.declared.calls.RwLockCall.{RwLockCall}
 use Rattle.lot_calls.specs.declared.calls.RwLockCall.TheVariants as rwlock_call
-use Rattle.lot_calls.specs.declared.outcomes.Outcome.{Outcome}
-use Rattle.lot_calls.specs.declared.outcomes.Outcome as outcome
 use Rattle.lot_calls.specs.declared.outcomes.Answer.{Answer}
 use Rattle.lot_calls.specs.declared.outcomes.Answer as answer
-use Rattle.lot_acts.specs.declared.acts.Act.TheVariants.{Sleep}
 use Rattle.lot_acts.specs.declared.acts.Next.{Next}
 use Rattle.lot_acts.specs.declared.acts.Next.TheVariants as next
 use Rattle.lot_acts.specs.declared.acts.Reply.{Reply}
 use Rattle.lot_acts.specs.declared.acts.Reply.TheVariants as reply
 use Rattle.lot_acts.specs.Acts.{outcome_of}
-use Rattle.lot_acts.specs.Profiles.{Profile, blank, in_line}
+use Rattle.lot_acts.specs.Profiles.{in_line}
 use Rattle.lot_rwlock.specs.declared.places.Admission.{Admission}
 use Rattle.lot_rwlock.specs.declared.places.RwLockPlace.{RwLockPlace}
 use Rattle.lot_rwlock.specs.declared.places.RwLockAt.{RwLockAt}
@@ -34,7 +30,7 @@ use Rattle.lot_rwlock.specs.declared.park.ParkAt.{ParkAt}
 use Rattle.lot_rwlock.specs.declared.park.ParkAt.TheVariants as parking
 use Rattle.lot_rwlock.specs.declared.release.WakeAt.{WakeAt}
 use Rattle.lot_rwlock.specs.declared.release.WakeAt.TheVariants as waking
-use Rattle.lot_rwlock.specs.RwLockSteps.{plus, decided, patience_of, patience_at, entered, looked, looked_by, missed, first_next, came_in, came_in_for, exchanged_next, decided_next, counted, count_next, rolled_back, released, gave_way_by, wakes_or_ends, park_next, parks_at, looks_again, clears, gave_up, took, wake_next, next_at, rwlock_act, rwlock_next, act_at}
+use Rattle.lot_rwlock.specs.RwLockSteps.{plus, decided, patience_of, patience_at, entered, looked, looked_by, missed, came_in, came_in_for, exchanged_next, counted, rolled_back, gave_way_by, park_next, parks_at, looks_again, clears, wake_next, next_at, rwlock_act, rwlock_next, act_at}
 use Rattle.lot_rwlock.specs.RwLockDeeds.{Admits, rwlock_doing, pends}
 use Rattle.lot_rwlock.specs.RwLockCalls.{StandsAt, MayStand}
 use Rattle.lot_rwlock.specs.RwLockBegins.{rwlock_first}
@@ -43,14 +39,13 @@ use Rattle.abstract_locks.specs.Codes.{count_in, has_aside, has_parked, parked_i
 use Rattle.abstract_locks.specs.Locks.{Rules, Sort}
 use Rattle.abstract_locks.specs.Locks as sorts
 use Rattle.abstract_locks.specs.Sites.{has_readers}
-use Rattle.lot_steps.specs.declared.places.Place.{Place}
-use Rattle.lot_steps.specs.declared.places.Place.TheVariants.{Idle, RwLock}
+use Rattle.lot_steps.specs.declared.places.Place.TheVariants.{RwLock}
 use Rattle.lot_steps.specs.Steps.{rwlock_goes, rwlock_does, next_place, line_owed, profile}
 use Rattle.lot_machine.specs.Machine.{State, word_at, reply_to}
 use Rattle.lot_world.specs.SitesOf.{rules_at}
-use Rattle.lot_world.specs.Owing.{line_let_in, tells_of, sort_at}
-use Rattle.lot_world.proofs.RowPromises.{LetsIn, RowSees, RowOwesNext, IsLateNext, Befalls}
-use Rattle.lot_world.proofs.RwLockRows.{of, row_of, IsBefore, lesser, shut, shut_before, lets_waking, parking_inside, some_line}
+use Rattle.lot_world.specs.Owing.{line_let_in, tells_of}
+use Rattle.lot_world.proofs.RowPromises.{LetsIn, RowOwesNext, IsLateNext, Befalls}
+use Rattle.lot_world.proofs.RwLockRows.{of, row_of, IsBefore, lesser, shut, shut_before, parking_inside, some_line}
 
 -- ---------------------------------------------------------------- what befalls another thread
 

@@ -1,9 +1,8 @@
 -- Each place of a reader-writer lock says of its thread what is promised of it.
-use Rattle.std.proofs.Common.{ℕ, Bool, true, false, Option, Some, None, if◌then◌else◌, ◌&&◌, not, ◌≡◌, ◌≢◌, ◌+◌, ◌*◌, ◌⊎◌, inl, inr, refl, sym, ◌∙◌, ap, subst, arith}
+use Rattle.std.proofs.Common.{ℕ, Bool, true, false, Option, Some, None, if◌then◌else◌, ◌≡◌, ◌≢◌, ◌+◌, ◌*◌, ◌⊎◌, inl, inr, refl, sym, ◌∙◌, ap, arith}
 use Rattle.lot_base.specs.declared.keys.Keys.TheVariants.{One}
 use Rattle.lot_base.specs.declared.keys.Line.{Line}
 use Rattle.lot_base.specs.declared.keys.Line.TheVariants.{Main, Second}
-use Rattle.lot_base.specs.declared.notes.Note.TheVariants as note
 use Rattle.lot_base.specs.declared.wants.Want.{Want}
 use Rattle.lot_base.specs.declared.wants.Want.TheVariants.{Exclusive}
 use Rattle.lot_base.specs.Keys.{key_of}
@@ -13,10 +12,8 @@ use Rattle.lot_calls.specs.declared.calls.Downgrade.{Downgrade}
 use Rattle.lot_calls.specs.declared.calls.Downgrade.TheVariants as downgrade
 use Rattle.lot_calls.specs.declared.calls.Patience.{Patience}
 use Rattle.lot_calls.specs.declared.calls.Patience.TheVariants.{Patient, Timed, Try}
-use Rattle.lot_acts.specs.declared.acts.Act.{Act}
 use Rattle.lot_acts.specs.declared.acts.Act.TheVariants as act
 use Rattle.lot_acts.specs.declared.acts.Act.TheVariants.{Sleep}
-use Rattle.lot_acts.specs.declared.acts.Wakes as wakes
 use Rattle.lot_rwlock.specs.declared.places.Admission.{Admission}
 use Rattle.lot_rwlock.specs.declared.places.RwLockPlace.{RwLockPlace}
 use Rattle.lot_rwlock.specs.declared.places.RwLockAt.{RwLockAt}
@@ -29,7 +26,7 @@ use Rattle.lot_rwlock.specs.declared.park.ParkAt.{ParkAt}
 use Rattle.lot_rwlock.specs.declared.park.ParkAt.TheVariants as parking
 use Rattle.lot_rwlock.specs.declared.release.WakeAt.{WakeAt}
 use Rattle.lot_rwlock.specs.declared.release.WakeAt.TheVariants as waking
-use Rattle.lot_rwlock.specs.RwLockSteps.{wanted, to_of, start_of, access_of, patience_of, want_at, decided, decided_act, count_act, park_act, wake_act, act_at, rwlock_act, exchange, plus}
+use Rattle.lot_rwlock.specs.RwLockSteps.{wanted, to_of, start_of, patience_of, want_at, decided, decided_act, park_act, act_at, rwlock_act, exchange, plus}
 use Rattle.lot_rwlock.specs.RwLockDeeds.{Admits, parking_doing, waking_doing, doing_at, again_of, rwlock_doing, falls_back, pends, claimed}
 use Rattle.lot_rwlock.specs.RwLockCalls.{ParksBy, StandsAt, GoesOn, IsDecided, MayStand}
 use Rattle.lot_rwlock.specs.RwLockProfiles.{rwlock_profile, is_inside, is_timed, owes_at, stands_at, hand_at, carries_at, late_line_at, late_at, has_given_up, purpose_by, wants_for}
@@ -37,12 +34,11 @@ use Rattle.lot_acts.specs.Profiles.{Profile, hand, in_line, taken_from}
 use Rattle.abstract_locks.specs.Codes.{has_aside}
 use Rattle.abstract_locks.specs.Locks.{Rules, Sort, Knows}
 use Rattle.abstract_locks.specs.Locks as sorts
-use Rattle.abstract_locks.specs.Purposes.{MayWait, IsReleasing}
+use Rattle.abstract_locks.specs.Purposes.{MayWait}
 use Rattle.abstract_locks.specs.Runs.{IsTimed}
-use Rattle.abstract_locks.specs.Sites.{Has, Pends, Claim, IsDebtor, counts_some, has_readers, idle}
-use Rattle.lot_world.specs.Owing.{line_let_in, IsDowngrade}
-use Rattle.lot_world.specs.Promises.{KnowsRights, WakesWaiters, want_of}
-use Rattle.lot_world.proofs.RowPromises.{is_acting, lock_for, IsWaiting, WasHanded, LetsIn, RowOwes, IsDebtorIn, HasDebt, RowLooksAfter, RowIsLate, RowPromises}
+use Rattle.abstract_locks.specs.Sites.{Pends, Claim, counts_some, has_readers, idle}
+use Rattle.lot_world.specs.Promises.{KnowsRights}
+use Rattle.lot_world.proofs.RowPromises.{is_acting, lock_for, LetsIn, IsDebtorIn, HasDebt, RowLooksAfter, RowIsLate, RowPromises}
 
 -- ---------------------------------------------------------------- the call
 

@@ -1,13 +1,10 @@
 -- A call of a reader-writer lock whose thread steps alone: from each place, where it ends or falls asleep.
-use Rattle.std.proofs.Common.{ℕ, Bool, true, false, Option, Some, None, if◌then◌else◌, ◌==◌, ◌&&◌, ◌||◌, not, ◌≡◌, ◌≢◌, ◌+◌, ◌-◌, ◌*◌, ◌/◌, ◌%◌, ◌≤◌, ◌<◌, ◌^◌, nat_le, length, drop, inl, inr, List, [], ◌∷◌, ◌++◌, refl, sym, ◌∙◌, ap, subst, arith}
-use Rattle.std.proofs.lemmas.Bool.{cases_eq, eqb-true}
-use Rattle.std.proofs.lemmas.Bool.Decides.{nat_tests}
+use Rattle.std.proofs.Common.{ℕ, Bool, true, false, Option, Some, None, if◌then◌else◌, ◌==◌, ◌&&◌, not, ◌≡◌, ◌≢◌, ◌+◌, ◌-◌, ◌*◌, ◌%◌, ◌≤◌, ◌<◌, ◌^◌, nat_le, length, drop, List, [], ◌∷◌, ◌++◌, refl, sym, ◌∙◌, ap, subst, arith}
+use Rattle.std.proofs.lemmas.Bool.{eqb-true}
 use Rattle.lot_base.specs.declared.keys.Keys.TheVariants.{One}
-use Rattle.lot_base.specs.declared.ops.Op.{Op}
 use Rattle.lot_base.specs.declared.ops.Op.TheVariants as op
 use Rattle.lot_base.specs.declared.wants.Waiter.{Waiter}
 use Rattle.lot_base.specs.declared.wants.Want.{Want}
-use Rattle.lot_base.specs.declared.wants.Want.TheVariants.{Exclusive, Upgradable, Shared, Wait, CallOnce}
 use Rattle.lot_base.specs.Words.{apply}
 use Rattle.lot_calls.specs.declared.calls.Access.{Access}
 use Rattle.lot_calls.specs.declared.calls.Access.TheVariants as access
@@ -21,8 +18,7 @@ use Rattle.lot_calls.specs.declared.outcomes.Outcome.TheVariants as outcome
 use Rattle.lot_acts.specs.declared.acts.Act.TheVariants as act
 use Rattle.lot_acts.specs.declared.acts.Next.{Next}
 use Rattle.lot_acts.specs.declared.acts.Next.TheVariants.{At, End}
-use Rattle.lot_acts.specs.declared.acts.Reply.{Reply}
-use Rattle.lot_acts.specs.declared.acts.Reply.TheVariants.{Done, Value, Parked, Took, Picked, Removed}
+use Rattle.lot_acts.specs.declared.acts.Reply.TheVariants.{Value}
 use Rattle.lot_acts.specs.declared.acts.Wakes.TheVariants as wakes
 use Rattle.lot_acts.specs.Acts.{holds, outcome_of}
 use Rattle.lot_acts.specs.declared.acts.Whom.TheVariants as whoms
@@ -39,13 +35,12 @@ use Rattle.lot_rwlock.specs.declared.park.ParkAt.{ParkAt}
 use Rattle.lot_rwlock.specs.declared.park.ParkAt.TheVariants as parking
 use Rattle.lot_rwlock.specs.declared.release.WakeAt.{WakeAt}
 use Rattle.lot_rwlock.specs.declared.release.WakeAt.TheVariants as waking
-use Rattle.lot_rwlock.specs.RwLockSteps.{act_at, park_act, wanted, access_of, patience_of, want_at, start_of, ends_with, entered, is_counted, decision, decided, decided_for, decided_act, exchanged_next, decision_blocked, waits, exchange, plus, word_taken, rwlock_act, rwlock_next, park_check, unparked, whom, counted, looked, looked_by, came_in, first_next, gave_way, rolled_back, wakes_or_ends, parks_at, looks_again, gave_up, missed, took, clears, rollback_op, give_op, released}
+use Rattle.lot_rwlock.specs.RwLockSteps.{act_at, park_act, wanted, access_of, patience_of, want_at, start_of, ends_with, entered, is_counted, decision, decided, decided_for, decided_act, exchanged_next, decision_blocked, waits, exchange, plus, word_taken, rwlock_act, rwlock_next, park_check, unparked, whom, counted, looked, looked_by, came_in, gave_way, parks_at, missed, took, clears, rollback_op, give_op}
 use Rattle.abstract_locks.specs.Codes.{bit, code, code_of, rw_code, writers, count_in, has_aside, has_parked, is_blocked, bars, leaves_readers}
 use Rattle.abstract_locks.specs.Sites.{Site, IsSite, has_readers, Line, Main, Second}
-use Rattle.lot_steps.specs.declared.places.Place.{Place}
 use Rattle.lot_steps.specs.declared.places.Place.TheVariants.{Idle, RwLock}
-use Rattle.lot_steps.specs.Steps.{act_of, next_place, next_act, rwlock_goes, rwlock_does}
-use Rattle.lot_machine.specs.Machine.{State, place_at, word_at, section_at, queue_at, queues_with_last, queues_without_first, state_after_taking, after, step_outcome, go_of, solo, reply_to}
+use Rattle.lot_steps.specs.Steps.{act_of, rwlock_goes, rwlock_does}
+use Rattle.lot_machine.specs.Machine.{State, word_at, section_at, queue_at, queues_without_first, state_after_taking, after, go_of}
 use Rattle.lot_rwlock.specs.RwLockCalls.{GoesOn, MayStand, StandsAt, IsDecided}
 use Rattle.lot_rwlock.proofs.RwLockStands.{decides_to_park, aside_set}
 use Rattle.lot_world.specs.SitesOf.{IsSteady, key_of, rules_at, site_of}

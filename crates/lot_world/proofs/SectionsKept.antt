@@ -15,7 +15,7 @@ use Rattle.abstract_locks.specs.Picks.{queued_of}
 use Rattle.lot_world.specs.MutexDeeds.{mutex_doing, mutex_station, acts}
 use Rattle.lot_world.specs.Stations.{Station, station, doing_on}
 use Rattle.lot_world.specs.SitesOf.{Goes, CallsMutex, IsSteady, key_of, stood_in}
-use Rattle.lot_world.proofs.Glue.{base_at, IsOf, own_stance, IsMutexOf, own_of}
+use Rattle.lot_world.proofs.Glue.{base_at, own_stance, IsMutexOf, own_of}
 use Rattle.lot_world.proofs.MutexTable.{mutex, own_doing, parks, removes, finds_nobody}
 use Rattle.lot_world.proofs.SitesKept.{mutex_at, of_mutex, rules, site_l, own}
 use Rattle.lot_world.proofs.StandsKept.{calls_of}

@@ -1,8 +1,6 @@
 -- What its lock's being a site says of the word of a mutex, and of who waits for it.
 use Rattle.std.proofs.Common.{ℕ, Bool, true, false, Option, if◌then◌else◌, ◌==◌, ◌≡◌, ◌≢◌, ◌+◌, ◌*◌, ◌≤◌, List, [], ◌∷◌, inl, inr, refl, sym, ◌∙◌, subst, arith, None}
 use Rattle.std.proofs.lemmas.Bool.Decides.{nat_tests}
-use Rattle.std.specs.Prelude.{sum}
-use Rattle.lot_base.specs.declared.wants.Want.TheVariants.{Shared}
 use Rattle.lot_base.specs.declared.wants.Waiter.{Waiter}
 use Rattle.lot_base.specs.Lines as Lines
 use Rattle.lot_mutex.specs.MutexSteps.{is_parked}
@@ -12,7 +10,7 @@ use Rattle.abstract_locks.specs.Locks.{Queued, times, one_if_some}
 use Rattle.abstract_locks.specs.Locks as locks
 use Rattle.abstract_locks.specs.Sites.{idle, Line, Main, Second, Claim}
 use Rattle.abstract_locks.specs.Codes.{bit, code, parked_in}
-use Rattle.lot_machine.specs.Machine.{State, place_at, word_at, owners_at, shares_at, queue_at}
+use Rattle.lot_machine.specs.Machine.{State, place_at, word_at, owners_at, queue_at}
 use Rattle.lot_world.specs.Refinement.{lock_state}
 use Rattle.lot_world.specs.Promises.{WaitsFor}
 use Rattle.lot_world.specs.MutexPromises.{IsMutexWord}
@@ -33,10 +31,6 @@ use Rattle.lot_rwlock.specs.RwLockDeeds.{parking_doing, doing_at, again_of, rwlo
 pub codes_by : (e : Option ℕ) (b : Bool) (w : ℕ) → w ≡ one_if_some e + 2 * bit b → IsMutexWord w e
 codes_by e true w h = inr h
 codes_by e false w h = inl (omega arith)
-
--- nobody shares a mutex
-pub unshared_of : (w : State) → IsSteady w → (l : ℕ) → rules_at w l ≡ mutex → sum (shares_at w l) ≡ 0
-unshared_of w s l rules = (s.sites.site l).state.unshared (λ h. subst (λ r. locks.Knows r.sort Shared) rules h)
 
 -- the word of a mutex says whether there is an owner
 pub coded_at : (w : State) → IsSteady w → (l : ℕ) → rules_at w l ≡ mutex → IsMutexWord (word_at w l) (owners_at w l).exclusive

@@ -532,6 +532,7 @@ module _ (w : State) (t : ℕ) (shape : IsShaped w) (steady : IsSteady w) (there
 
       fits : PlaceFits (length w.locks) (Mutex l (mutex_first (is_fair (kind_at w l)) c))
       fits = subst (PlaceFits (length w.locks)) is (shape.places t)
+
   pub rwlock_ends : (l : ℕ) (c : RwLockCall) → place_at w t ≡ RwLock l (admission_of (kind_at w l)) (rwlock_first c)
       → EndsAlone w t (purpose_at (locks_of w) (call.TheVariants.RwLock l c)) (solo 64 w t outcome.TheVariants.NotNow).outcome (solo 64 w t outcome.TheVariants.NotNow).state
   rwlock_ends l c is = by_kind (kind_at w l)

@@ -1,13 +1,12 @@
 -- What the answer says of a call whose thread has stepped alone to its end.
-use Rattle.std.proofs.Common.{ℕ, Bool, Option, Some, None, if◌then◌else◌, ◌≡◌, ◌≢◌, inl, inr, List, [], ◌∷◌, length, replicate, refl, sym, ◌∙◌, ap, subst}
+use Rattle.std.proofs.Common.{ℕ, Bool, Option, if◌then◌else◌, ◌≡◌, ◌≢◌, inl, inr, List, [], ◌∷◌, length, replicate, refl, sym, ◌∙◌, ap, subst}
 use Rattle.lot_calls.specs.declared.outcomes.Answer.{Answer}
 use Rattle.lot_calls.specs.declared.outcomes.Outcome.{Outcome}
 use Rattle.lot_calls.specs.declared.outcomes.Outcome.TheVariants as outcome
-use Rattle.abstract_locks.specs.Locks.{Rights, LockCase, Enter, Pend, Settle, Leave, Park, Aside, HandOff, Late}
+use Rattle.abstract_locks.specs.Locks.{Rights, Enter, Pend, Settle, Leave, Park, Aside, HandOff, Late}
 use Rattle.abstract_locks.specs.Purposes.{Purpose}
 use Rattle.abstract_locks.specs.Runs.{LocksState, CallState, Event, Nothing, AtLock, IsStep, IsRun, GoesOn, AnswerHolds, going_on, woken}
-use Rattle.lot_machine.specs.Machine.{State, go_of}
-use Rattle.lot_world.specs.Refinement.{locks_of}
+use Rattle.lot_machine.specs.Machine.{go_of}
 use Rattle.lot_world.specs.Solo.{GoesOnUntil, last_told}
 use Rattle.lot_world.proofs.Glue.{same}
 

@@ -17,7 +17,7 @@ use Rattle.lot_world.specs.Stations.{Station, hand, nowhere, station, station_at
 use Rattle.lot_world.specs.SitesOf.{Stands, Sections, Lines, Waits, AreWaiting, Hands, TakesOne, CallsMutex, rules_at, key_of, stood_in}
 use Rattle.lot_world.proofs.Glue.{IsOf, same, differ, put_here, put_other, station_here}
 use Rattle.lot_world.proofs.MutexTable.{mutex}
-use Rattle.lot_world.proofs.StandsKept.{part_put, part_else, sections_same, entered, left, lines_same, line_moved, hands_same, waiting_same, waits_same, same_line, other_line, other_key, link, AreLinked, hands_pair, calls_of, calls_in}
+use Rattle.lot_world.proofs.StandsKept.{part_put, part_else, sections_same, entered, left, lines_same, line_moved, hands_same, waiting_same, waits_same, same_line, other_line, other_key, link, AreLinked, hands_pair, calls_in}
 
 pub mutex_rules : (k : Kind) → is_mutex k ≡ true → rules_of k ≡ mutex
 mutex_rules kind.TheVariants.Mutex h = refl

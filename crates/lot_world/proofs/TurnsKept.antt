@@ -1,6 +1,6 @@
 -- Each turn of a thread keeps every lock a site, and every thread in the line, the section and the hand that its place says.
 use Rattle.std.proofs.Common.{ℕ, Bool, true, false, Option, Some, None, if◌then◌else◌, ◌≡◌, ◌<◌, [], ◌∷◌, length, length-set, nat_lt, refl, sym, ◌∙◌, ap}
-use Rattle.std.proofs.lemmas.Bool.{eqb-true, ltb-true}
+use Rattle.std.proofs.lemmas.Bool.{ltb-true}
 use Rattle.lot_base.specs.declared.wants.Want.TheVariants.{Exclusive}
 use Rattle.lot_calls.specs.declared.calls.Call.{Call}
 use Rattle.lot_calls.specs.declared.calls.Call as calling
@@ -19,22 +19,18 @@ use Rattle.lot_mutex.specs.declared.lock.LockAt.TheVariants as lock
 use Rattle.lot_mutex.specs.declared.places.MutexPlace.{MutexPlace}
 use Rattle.lot_mutex.specs.declared.places.MutexPlace.TheVariants.{Lock, TryLock, Unlock, UnlockFair, Bump, HandOff}
 use Rattle.lot_mutex.specs.MutexSteps.{mutex_first, mutex_right}
-use Rattle.lot_acts.specs.Owners.{is_thread}
 use Rattle.lot_steps.specs.Steps.{is_idle, looking, late_key, key_in}
 use Rattle.abstract_locks.specs.Sites.{Claim, Has, Begin, HasClaim, idle}
 use Rattle.lot_machine.specs.Machine.{State, place_at, owners_at, kind_at, put, state_after_begin, can_begin, is_open_to, state_after_look, state_after_late_on, is_free_under, state_after_turn, can_turn, is_possible, after}
 use Rattle.lot_machine.specs.Fits.{IsShaped, PlaceFits}
 use Rattle.lot_world.specs.Refinement.{lock_state, taken_at}
-use Rattle.lot_world.specs.SitesOf.{CallsMutex, is_mutex}
-use Rattle.lot_calls.specs.declared.calls.RwLockCall.{RwLockCall}
-use Rattle.lot_calls.specs.declared.kinds.Kind.{Kind}
-use Rattle.lot_calls.specs.declared.kinds.Kind.TheVariants as kinds
+use Rattle.lot_world.specs.SitesOf.{is_mutex}
 use Rattle.lot_world.specs.MutexDeeds.{mutex_doing, mutex_station, acts, begins}
 use Rattle.lot_world.specs.Stations.{nowhere, station}
 use Rattle.lot_world.specs.SitesOf.{IsSteady, Goes}
 use Rattle.lot_machine.proofs.Shape.{both, looking_shaped}
 use Rattle.lot_world.proofs.KindsKept.{calls_mutex, calls_readers}
-use Rattle.lot_world.proofs.Glue.{parts_at, same}
+use Rattle.lot_world.proofs.Glue.{parts_at, same, thread_is}
 use Rattle.lot_world.proofs.MutexTable.{mutex, own_doing, meets, others_same}
 use Rattle.lot_world.proofs.StandsMoved.{mutex_rules}
 use Rattle.lot_world.proofs.SitesKept.{mutex_at, goes_steady, place_goes}
@@ -61,19 +57,15 @@ module _ (w : State) (t : ℕ) (steady : IsSteady w) (shape : IsShaped w) (there
     needed = (has, tt);
   }) (s ∙ sym (ap station is))
 
-  owns : (o : Option ℕ) → is_thread t o ≡ true → o ≡ Some t
-  owns None h = absurd cc
-  owns (Some u) h = ap Some (eqb-true u t h)
-
   -- each call of a mutex
   calls_begin : (l : ℕ) (fair : Bool) (c : MutexCall) → is_mutex (kind_at w l) ≡ true → place_at w t ≡ Idle → mutex_right c t (owners_at w l) ≡ true → Goes w (put w t (Mutex l (mutex_first fair c))) l (acts t (begins (mutex_first fair c) ∷ []))
   calls_begin l fair call.Lock of is right = begin_kept l _ None of is refl refl tt refl
   calls_begin l fair call.LockTimed of is right = begin_kept l _ None of is refl refl tt refl
   calls_begin l fair call.TryLock of is right = begin_kept l _ None of is refl refl tt refl
-  calls_begin l true call.Unlock of is right = begin_kept l _ (Some (Has Exclusive)) of is refl refl (owns (owners_at w l).exclusive right) refl
-  calls_begin l false call.Unlock of is right = begin_kept l _ (Some (Has Exclusive)) of is refl refl (owns (owners_at w l).exclusive right) refl
-  calls_begin l fair call.UnlockFair of is right = begin_kept l _ (Some (Has Exclusive)) of is refl refl (owns (owners_at w l).exclusive right) refl
-  calls_begin l fair call.Bump of is right = begin_kept l _ (Some (Has Exclusive)) of is refl refl (owns (owners_at w l).exclusive right) refl
+  calls_begin l true call.Unlock of is right = begin_kept l _ (Some (Has Exclusive)) of is refl refl (thread_is t (owners_at w l).exclusive right) refl
+  calls_begin l false call.Unlock of is right = begin_kept l _ (Some (Has Exclusive)) of is refl refl (thread_is t (owners_at w l).exclusive right) refl
+  calls_begin l fair call.UnlockFair of is right = begin_kept l _ (Some (Has Exclusive)) of is refl refl (thread_is t (owners_at w l).exclusive right) refl
+  calls_begin l fair call.Bump of is right = begin_kept l _ (Some (Has Exclusive)) of is refl refl (thread_is t (owners_at w l).exclusive right) refl
 
   begun_kept : (c : Call) → can_begin w t c ≡ true → IsSteady (state_after_begin w t c)
   begun_kept (calling.TheVariants.Mutex l c) can =

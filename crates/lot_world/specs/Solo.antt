@@ -1,5 +1,5 @@
 -- What comes of a call whose thread steps alone.
-use Rattle.std.specs.Prelude.{ℕ, Bool, true, if◌then◌else◌, List, Option, Some, None, ◌≡◌, ◌≢◌, ◌*◌, ◌≤◌, ◌++◌, ◌∷◌, [], length, replicate}
+use Rattle.std.specs.Prelude.{ℕ, Bool, true, if◌then◌else◌, List, Option, Some, None, ◌≡◌, ◌≢◌, ◌≤◌, ◌++◌, ◌∷◌, [], length, replicate}
 use Rattle.lot_base.specs.declared.wants.Want.{Want}
 use Rattle.lot_base.specs.declared.wants.Want.TheVariants.{Exclusive}
 use Rattle.lot_acts.specs.declared.acts.Act.TheVariants.{Sleep}

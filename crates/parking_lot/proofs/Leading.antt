@@ -22,7 +22,7 @@ use Rattle.lot_mutex.specs.declared.lock.LockAt as lock
 use Rattle.lot_mutex.specs.declared.unlock.UnlockAt.{UnlockAt}
 use Rattle.lot_mutex.specs.declared.unlock.UnlockAt as unlock
 use Rattle.lot_steps.specs.declared.places.Place.{Place}
-use Rattle.lot_steps.specs.declared.places.Place.TheVariants.{Idle, Mutex}
+use Rattle.lot_steps.specs.declared.places.Place.TheVariants.{Idle, Mutex, RwLock}
 use Rattle.lot_words.specs.Views.{owning}
 use Rattle.lot_words.specs.declared.owners.Owner.{Owner}
 use Rattle.lot_words.specs.declared.owners.Ownership.{Ownership}
@@ -219,6 +219,7 @@ mutex_place_leads up n base at st f = (needs up n base st at f, looks up n base 
 
 pub places_lead : (up : Type 0) → PlacesLead up
 places_lead up kinds at base Idle st words f = absurd f
+places_lead up kinds at base (RwLock n a p) st words f = absurd f
 places_lead up kinds at base (Mutex n p) st words f =
     subst (λ (k : (ℕ → WordKind) × (ℕ → ℕ)). Needs k.0 k.1 st (mutex_act n p) × Looks up base (Mutex n p) st
     × ((reply : Reply) (new : Stage) → Became up k.0 k.1 (sleeper_at (Mutex n p)) st (mutex_act n p) reply new → Reached up base (Mutex n p) reply new))
@@ -235,6 +236,7 @@ fits_from up kinds at base p q st (inr is) words fits = (places_lead up kinds at
 pub words_from : (kinds : ℕ → WordKind) (at : ℕ → ℕ) (p q : Place) → GoesFrom p q → AreWordsFor p kinds at → AreWordsFor q kinds at
 words_from kinds at p q (inl same) words = subst (λ r. AreWordsFor r kinds at) (sym same) words
 words_from kinds at Idle q (inr is) words = absurd cc
+words_from kinds at (RwLock l a p) q (inr is) words = absurd words
 words_from kinds at (Mutex l p) q (inr is) words = by_place (mutex_looking p) is
   where
     by_place : (o : Option MutexPlace) → in_mutex l o ≡ Some q → AreWordsFor q kinds at

@@ -15,7 +15,7 @@ use Rattle.lot_acts.specs.declared.acts.Whom as whom
 use Rattle.lot_acts.specs.declared.acts.Reply.{Reply}
 use Rattle.lot_acts.specs.declared.acts.Reply.TheVariants.{Done, Value, Parked, Took, Picked, Requeued, Removed, MovedTo, Late, Woken}
 use Rattle.lot_steps.specs.declared.places.Place.{Place}
-use Rattle.lot_steps.specs.declared.places.Place.TheVariants.{Idle, Mutex}
+use Rattle.lot_steps.specs.declared.places.Place.TheVariants.{Idle, Mutex, RwLock}
 use Rattle.lot_words.specs.Indices.{word_index}
 use Rattle.lot_words.specs.Steps.{CodesWith, after_step, owns_after_step}
 use Rattle.lot_words.specs.declared.views.View.{View}
@@ -60,6 +60,7 @@ told up at kinds sleeper p a is runs st new reply before behind b e = absurd b
 -- the words of a call serve it to its end
 pub words_on : (p : Place) (reply : Reply) (kinds : ℕ → WordKind) (at : ℕ → ℕ) → AreWordsFor p kinds at → AreWordsFor (next_place p reply) kinds at
 words_on Idle reply kinds at w = tt
+words_on (RwLock l a place) reply kinds at w = absurd w
 words_on (Mutex l place) reply kinds at w = by_next (mutex_next place reply)
   where
     by_next : (goes : Next MutexPlace) → AreWordsFor (mutex_goes l goes) kinds at
@@ -69,6 +70,7 @@ words_on (Mutex l place) reply kinds at w = by_next (mutex_next place reply)
 pub has_keys : (p : Place) (kinds : ℕ → WordKind) (at : ℕ → ℕ) → AreWordsFor p kinds at → HasKeys p
 has_keys (Mutex l at) kinds places w = w.0
 has_keys Idle kinds at w = tt
+has_keys (RwLock l a place) kinds at w = absurd w
 
 -- a step on a word, as the stage has it
 pub by_stage : (w : Word) (op : Op) (seen : ℕ) (old : Token) (section : Option Section) (new : Token) → view_of new ≡ after_step w.kind (word_index w.number w.kind) op seen (view_of old) → last_of new ≡ None → CodesWith w.kind (word_index w.number w.kind) seen (view_of old).owns

@@ -1,5 +1,6 @@
 -- What a thread has at each place of its call, and at its end. Each sort of lock says so in a file of its own.
-use Rattle.std.specs.Prelude.{ℕ, ◌≡◌, List, Option, Some, None}
+use Rattle.std.specs.Prelude.{ℕ, ◌≡◌, List, Option, Some, None, unwrap_or}
+use Rattle.lot_rwlock.specs.RwLockProfiles.{rwlock_wants}
 use Rattle.lot_base.specs.declared.wants.Want.TheVariants.{Exclusive}
 use Rattle.lot_calls.specs.declared.outcomes.Answer.{Answer}
 use Rattle.lot_steps.specs.Steps.{act_of, late_key, next_place, next_act, looking, HasKeys}
@@ -36,7 +37,7 @@ abbrev pub sleeper_at : Place → Sleeper
 sleeper_at Idle = record { lock = 0; want = Exclusive; late = None; moved = None }
 sleeper_at (Mutex l at) = record { lock = l; want = Exclusive; late = late_key (Mutex l at); moved = None }
 sleeper_at (RwLock l a at) =
-    record { lock = l; want = option_or (rwlock_wants at) Exclusive; late = late_key (RwLock l a at); moved = None }
+    record { lock = l; want = unwrap_or (rwlock_wants at) Exclusive; late = late_key (RwLock l a at); moved = None }
 
 -- the keys of the call's lock are numbers, and its words are of the kinds that the call steps on; no words serve a reader-writer call
 abbrev pub AreWordsFor : Place → (ℕ → WordKind) → (ℕ → ℕ) → Type 0
