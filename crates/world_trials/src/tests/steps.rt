@@ -22,8 +22,8 @@ fn a_call_says_what_it_needs(rt: HostRuntime) {
         (MutexCall::UnlockFair, true, false),
         (MutexCall::Bump, true, false),
     ] {
-        assert_eq!(rt; has_right(call(name), 1, owned), owner_may);
-        assert_eq!(rt; has_right(call(name), 0, owned), other_may);
+        assert_eq!(rt; has_right(call(name), 1, owned, 0), owner_may);
+        assert_eq!(rt; has_right(call(name), 0, owned, 0), other_may);
     }
 }
 
