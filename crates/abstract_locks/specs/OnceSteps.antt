@@ -147,9 +147,9 @@ abbrev pub all_deeds : List OnceDeed → OnceSite → ℕ → OnceSite
 all_deeds [] s t = s
 all_deeds (d ∷ ds) s t = all_deeds ds (once_leads d s t) t
 
-abbrev pub AllNeeded : List OnceDeed → OnceSite → ℕ → Type 0
-AllNeeded [] s t = Unit {0}
-AllNeeded (d ∷ ds) s t = OnceNeeded d s t × AllNeeded ds (once_leads d s t) t
+abbrev pub OnceDeedsNeeded : List OnceDeed → OnceSite → ℕ → Type 0
+OnceDeedsNeeded [] s t = Unit {0}
+OnceDeedsNeeded (d ∷ ds) s t = OnceNeeded d s t × OnceDeedsNeeded ds (once_leads d s t) t
 
 -- a place in the list ends the retry, and so does a run
 abbrev pub keeps_retry : At → Bool
@@ -162,7 +162,7 @@ doing_then p (Goes at) = doing_of (record p { retries = p.retries && keeps_retry
 doing_then p (EndsWith answer) = idle
 
 pub record OnceFollows (s : OnceSite) (t : ℕ) (p : OncePlace) (m : Move) : Type 0 where
-  pub needed : AllNeeded m.deeds s t
+  pub needed : OnceDeedsNeeded m.deeds s t
   pub doing : (all_deeds m.deeds s t).doing t ≡ doing_then p m.next
 
 -- what the machine knows: who sleeps or removes itself stands in the list, and nobody else stands; the section entered is

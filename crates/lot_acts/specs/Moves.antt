@@ -96,7 +96,7 @@ takes_aside (Some u) = Case (TakeAside u)
 -- ---------------------------------------------------------------- acts
 
 -- it stays where it is, in no line and in nobody's hand
-pub record Stays (x : Move) : Type 0 where
+pub record StaysPut (x : Move) : Type 0 where
   pub out : (station_of x).stands ≡ None
   pub free : (station_of x).hand ≡ None
   pub deeds : (seen : ℕ) → AreOfWord (x.deeds None (Value seen))
@@ -154,7 +154,7 @@ pub record GoesOut (x : Move) (hears : Hears) (m : Line) (wakes : Wakes) : Type 
 
 -- at a lock, which is recursive or not, by the act
 abbrev pub Moves : ℕ → Bool → Move → Hears → Act → Type 0
-Moves l recursive x hears (act.Word k op) = (k ≡ l) × Stays x
+Moves l recursive x hears (act.Word k op) = (k ≡ l) × StaysPut x
 Moves l recursive x hears (act.Enter keys) = (m : Line) × (keys ≡ One (key_of l m)) × GoesIn x hears m Done
 Moves l recursive x hears (act.Park k key check want) = (m : Line) × (k ≡ l) × (key ≡ key_of l m) × Parks x hears m check want
 Moves l recursive x hears (act.Take key (whom.TheVariants.Picked start b)) = (key ≡ key_of l Main) × (b ≡ recursive) × Picks x hears start

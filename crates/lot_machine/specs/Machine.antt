@@ -492,9 +492,9 @@ abbrev pub step_outcome : State → Step → Outcome
 step_outcome w s = if is_possible w s then turn_outcome w s.thread s.turn else outcome.TheVariants.NotNow
 
 -- the state after steps one after another, and what they answer
-abbrev pub after_all : State → List Step → State
-after_all w [] = w
-after_all w (s ∷ ss) = after_all (after w s) ss
+abbrev pub after_steps : State → List Step → State
+after_steps w [] = w
+after_steps w (s ∷ ss) = after_steps (after w s) ss
 
 abbrev pub step_outcomes : State → List Step → List Outcome
 step_outcomes w [] = []

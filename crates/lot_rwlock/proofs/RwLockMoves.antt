@@ -15,7 +15,7 @@ use Rattle.lot_acts.specs.declared.acts.Act.TheVariants as act
 use Rattle.lot_acts.specs.declared.acts.Next.{Next}
 use Rattle.lot_acts.specs.declared.acts.Next.TheVariants as next
 use Rattle.lot_acts.specs.declared.acts.Reply.TheVariants as reply
-use Rattle.lot_acts.specs.Moves.{Move, Stays, GoesIn, Moves, Sleeps, IsHeld, Waits, AreOfWord, station_of, AreLeaving, takes_aside, inside_of, row_of}
+use Rattle.lot_acts.specs.Moves.{Move, StaysPut, GoesIn, Moves, Sleeps, IsHeld, Waits, AreOfWord, station_of, AreLeaving, takes_aside, inside_of, row_of}
 use Rattle.lot_acts.specs.Acts.{any_picked}
 use Rattle.lot_acts.specs.Profiles.{hand, in_hand}
 use Rattle.lot_acts.specs.Stations.{Station, station_by, nowhere}
@@ -174,7 +174,7 @@ module _ (l : ℕ) (a : Admission) where
   -- ---------------------------------------------------------------- sections
 
   module _ (q : RwLockPurpose) (again : Bool) where
-    decides_word : (was : ℕ) → Stays (rwlock_move a (of q again (at.Decide was)))
+    decides_word : (was : ℕ) → StaysPut (rwlock_move a (of q again (at.Decide was)))
     decides_word was = record {
       out = refl;
       free = refl;

@@ -34,7 +34,7 @@ use Rattle.lot_rwlock.specs.RwLockSteps.{wanted, access_of, patience_of, is_coun
 use Rattle.lot_rwlock.specs.RwLockDeeds.{Admits, AtFits, AtUpgrade, IsAt, IsFreshTry, rwlock_doing}
 use Rattle.abstract_locks.specs.Locks.{Rules}
 use Rattle.abstract_locks.specs.Sites.{Site, IsSite}
-use Rattle.lot_rwlock.specs.RwLockCalls.{MayWait, HasDeadline, ParksBy, StandsAt, UpgradesAt, GoesOn, IsDecided, MayStand, MayBeTold, MayStandNext, RwLockCallsStand}
+use Rattle.lot_rwlock.specs.RwLockCalls.{MayWait, HasDeadline, ParksBy, StandsAt, UpgradesAt, IsNoRefusal, IsDecided, MayStand, MayBeTold, MayStandNext, RwLockCallsStand}
 use Rattle.lot_rwlock.proofs.RwLockCodes.{blocked_unset, fits_even, fits_aside}
 use Rattle.lot_rwlock.proofs.RwLockCallPlaces.{StandsNext, stands_on}
 
@@ -162,9 +162,9 @@ module _ (a : Admission) where
   module _ (q : RwLockPurpose) (again : Bool) (fresh : IsFreshTry (patience_of q) again) where
     looks : (to : RwLockAt) (seen : ℕ) (d : Decision) → decided_for a q seen ≡ d → Keeps (looked_by (of q again to) seen d)
     looks to seen (decisions.Refuse answer) e = tt
-    looks to seen decisions.Take e = (fresh, subst GoesOn (sym e) tt)
-    looks to seen decisions.Mark e = (fresh, subst GoesOn (sym e) tt)
-    looks to seen decisions.Park e = (fresh, subst GoesOn (sym e) tt)
+    looks to seen decisions.Take e = (fresh, subst IsNoRefusal (sym e) tt)
+    looks to seen decisions.Mark e = (fresh, subst IsNoRefusal (sym e) tt)
+    looks to seen decisions.Park e = (fresh, subst IsNoRefusal (sym e) tt)
 
     exchanges : (was seen : ℕ) → seen < 2 ^ 64 → (d : Decision) → decided_for a q was ≡ d → Keeps (exchanged_next a (of q again (at.Decide was)) was seen d)
     exchanges was seen few decisions.Take e = either (seen == was)
@@ -183,7 +183,7 @@ module _ (a : Admission) where
     exchanges was seen few decisions.Mark e = either (seen == was) refl
       where
         either : (b : Bool) → (seen == was) ≡ b → Keeps (if b then stays (of q again (at.Decide was)) (at.Decide (plus was 1)) else looked a (of q again (at.Decide was)) seen)
-        either true f = (fresh, subst GoesOn (sym (decides_to_park a q was (subst (λ n. n < 2 ^ 64) (eqb-true seen was f) few) e)) tt)
+        either true f = (fresh, subst IsNoRefusal (sym (decides_to_park a q was (subst (λ n. n < 2 ^ 64) (eqb-true seen was f) few) e)) tt)
         either false f = looks (at.Decide was) seen (decided_for a q seen) refl
     exchanges was seen few decisions.Park e = looks (at.Decide was) seen (decided_for a q seen) refl
     exchanges was seen few (decisions.Refuse answer) e = looks (at.Decide was) seen (decided_for a q seen) refl

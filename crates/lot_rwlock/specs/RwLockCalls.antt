@@ -104,12 +104,12 @@ StandsAt (purpose.Downgrade d) again to = DowngradesAt to
 StandsAt (purpose.Upgrade how) again to = UpgradesAt how again to
 
 -- what it decides by the value that it saw is not to refuse: then its call has ended
-abbrev pub GoesOn : Decision → Type 0
-GoesOn (decisions.Refuse answer) = ⊥
-GoesOn decision = Unit {0}
+abbrev pub IsNoRefusal : Decision → Type 0
+IsNoRefusal (decisions.Refuse answer) = ⊥
+IsNoRefusal decision = Unit {0}
 
 abbrev pub IsDecided : Admission → RwLockPurpose → RwLockAt → Type 0
-IsDecided a q (at.Decide seen) = GoesOn (decided_for a q seen)
+IsDecided a q (at.Decide seen) = IsNoRefusal (decided_for a q seen)
 IsDecided a q to = Unit {0}
 
 pub record MayStand (a : Admission) (p : RwLockPlace) : Type 0 where

@@ -5,7 +5,7 @@ mod several;
 mod single;
 mod threads;
 
-ghost use Rattle.parking_lot_core.specs.Tokens.{IsTokenOf, Stays};
+ghost use Rattle.parking_lot_core.specs.Tokens.{IsTokenOf, IsSameThread};
 
 use parking_lot_core::{Key, Keys, Note, ParkingLot, Token, Want};
 use std::sync::Wait;
@@ -13,7 +13,7 @@ use std::sync::Wait;
 // The thread stands behind the last under a key.
 fn line_up<R: Wait>(rt: &R, lot: &ParkingLot, token: &mut Token, key: Key)
     requires { IsTokenOf lot.now token.old }
-    ensures { Stays lot.now token.old token.new }
+    ensures { IsSameThread lot.now token.old token.new }
 {
     let mut section = lot.enter(rt, token, Keys::One(key));
     section.append(key, token.number(), Want::Exclusive);

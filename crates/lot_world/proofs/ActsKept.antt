@@ -28,7 +28,7 @@ use Rattle.lot_world.specs.Refinement.{lock_state, taken_at}
 use Rattle.lot_world.specs.MutexDeeds.{acts}
 use Rattle.lot_world.specs.MutexDeeds as deeds
 use Rattle.lot_world.specs.Stations.{Station, station, station_at, nowhere, doing_on}
-use Rattle.lot_world.specs.SitesOf.{AllNeeded, HasRoom, AreOrdinary, SameNumbers, IsSteady, Follows, Goes, CallsMutex, Waits, AreWaiting, after_acts, site_of, rules_at, key_of, stood_in}
+use Rattle.lot_world.specs.SitesOf.{ActsNeeded, HasRoom, AreOrdinary, SameNumbers, IsSteady, Follows, Goes, FitsItsLock, Waits, AreWaiting, after_acts, site_of, rules_in, key_of, stood_in}
 use Rattle.lot_world.proofs.Counts.{without_absent}
 use Rattle.lot_world.proofs.Glue.{Parts, base_at, parts_at, lock_in, seen_in, same, differ, put_places, put_here, put_other, IsOf, doing_elsewhere, taken_elsewhere, inside_is, station_here, station_elsewhere}
 use Rattle.lot_world.proofs.KindsKept.{operated_kinds}
@@ -71,7 +71,7 @@ ordinary_by n t [] lt h = tt
 ordinary_by n t (Case case ∷ ds) lt h = ((lt, h.0), ordinary_by n t ds lt h.1)
 ordinary_by n t (d ∷ ds) lt h = (tt, ordinary_by n t ds lt h)
 
-module _ (w v : State) (l : ℕ) (b : Parts) (q : ℕ → Place) (moves : Moves w v l b q) (r : Rules) (rules : rules_at w l ≡ r) where
+module _ (w v : State) (l : ℕ) (b : Parts) (q : ℕ → Place) (moves : Moves w v l b q) (r : Rules) (rules : rules_in w l ≡ r) where
   site_here : site_of v l ≡ seen_in r l b q
   site_here = λ i. seen_in ((ap rules_of (moves.kinds l) ∙ rules) i) l (moves.here i) (moves.places i)
 
@@ -80,10 +80,10 @@ module _ (w v : State) (l : ℕ) (b : Parts) (q : ℕ → Place) (moves : Moves 
       ∙ (λ i. record (site_of w k) { lock = record (site_of w k).lock { taken = λ u. (moves.alike k ne u).0 i }; doing = λ u. (moves.alike k ne u).1 i })
 
   -- what one lock has been through
-  pub follows_by : (ds : List deeds.Act) → (has_readers r.sort ≡ true → AreOrdinary (length w.places) ds) → seen_in r l b q ≡ after_acts r ds (lock_by w l r) → AllNeeded r ds (lock_by w l r) → b.word ≡ code r (seen_in r l b q) → Follows w v l ds
+  pub follows_by : (ds : List deeds.Act) → (has_readers r.sort ≡ true → AreOrdinary (length w.places) ds) → seen_in r l b q ≡ after_acts r ds (lock_by w l r) → ActsNeeded r ds (lock_by w l r) → b.word ≡ code r (seen_in r l b q) → Follows w v l ds
   follows_by ds ordinary led needed coded = record {
     site = site_here ∙ led ∙ sym (λ i. after_acts (rules i) ds (lock_by w l (rules i)));
-    needed = subst (λ x. AllNeeded x ds (lock_by w l x)) (sym rules) needed;
+    needed = subst (λ x. ActsNeeded x ds (lock_by w l x)) (sym rules) needed;
     word = ap (λ (a : Parts). a.word) moves.here ∙ coded ∙ sym (λ i. code (rules i) (site_here i));
     others = λ k ne. (site_there k ne, ap (λ (a : Parts). a.word) (moves.others k ne));
     kinds = moves.kinds;
@@ -100,20 +100,20 @@ pub goes_steady : (w v : State) (l : ℕ) (ds : List deeds.Act) → IsSteady w �
 goes_steady w v l ds steady g = record {
   sites = record {
     site = λ k. subst (λ x. IsSite (rules_of x) (site_of v k)) (sym (g.follows.kinds k)) (elim (cases_eq k l) [
-      | inl e ↦ rw e (subst (λ s. IsSite (rules_at w l) s) (sym g.follows.site) (acts_keep (rules_at w l) ds (site_of w l) (steady.sites.site l) g.follows.needed))
-      | inr ne ↦ subst (λ s. IsSite (rules_at w k) s) (sym (g.follows.others k ne).0) (steady.sites.site k)
+      | inl e ↦ rw e (subst (λ s. IsSite (rules_in w l) s) (sym g.follows.site) (acts_keep (rules_in w l) ds (site_of w l) (steady.sites.site l) g.follows.needed))
+      | inr ne ↦ subst (λ s. IsSite (rules_in w k) s) (sym (g.follows.others k ne).0) (steady.sites.site k)
     ]);
     word = λ k. elim (cases_eq k l) [
       | inl e ↦ rw e (g.follows.word ∙ (λ i. code (rules_of (sym (g.follows.kinds l) i)) (site_of v l)))
       | inr ne ↦ (g.follows.others k ne).1 ∙ steady.sites.word k ∙ sym (λ i. code (rules_of (g.follows.kinds k i)) ((g.follows.others k ne).0 i))
     ];
-    unfilled = λ k h. let of_w : has_readers (rules_at w k).sort ≡ false = was_sort k false h in elim (cases_eq k l) [
+    unfilled = λ k h. let of_w : has_readers (rules_in w k).sort ≡ false = was_sort k false h in elim (cases_eq k l) [
       | inl e ↦ rw e (unfilled_here (rw e at of_w))
       | inr ne ↦ ap (λ (s : Site). s.filled) (g.follows.others k ne).0 ∙ steady.sites.unfilled k of_w
     ];
-    limits = λ k h. subst (λ x. HasRoom (rules_of x) × HasLimit (rules_of x) (lock_state v k)) (sym (g.follows.kinds k)) (let of_w : has_readers (rules_at w k).sort ≡ true = was_sort k true h in elim (cases_eq k l) [
+    limits = λ k h. subst (λ x. HasRoom (rules_of x) × HasLimit (rules_of x) (lock_state v k)) (sym (g.follows.kinds k)) (let of_w : has_readers (rules_in w k).sort ≡ true = was_sort k true h in elim (cases_eq k l) [
       | inl e ↦ rw e (limited_here (rw e at of_w))
-      | inr ne ↦ ((steady.sites.limits k of_w).0, subst (λ (s : Site). HasLimit (rules_at w k) s.lock) (sym (g.follows.others k ne).0) (steady.sites.limits k of_w).1)
+      | inr ne ↦ ((steady.sites.limits k of_w).0, subst (λ (s : Site). HasLimit (rules_in w k) s.lock) (sym (g.follows.others k ne).0) (steady.sites.limits k of_w).1)
     ]);
   };
   stands = g.stands;
@@ -123,24 +123,24 @@ goes_steady w v l ds steady g = record {
   };
 }
   where
-    was_sort : (k : ℕ) (b : Bool) → has_readers (rules_at v k).sort ≡ b → has_readers (rules_at w k).sort ≡ b
+    was_sort : (k : ℕ) (b : Bool) → has_readers (rules_in v k).sort ≡ b → has_readers (rules_in w k).sort ≡ b
     was_sort k b h = sym (ap (λ x. has_readers (rules_of x).sort) (g.follows.kinds k)) ∙ h
 
-    unfilled_here : has_readers (rules_at w l).sort ≡ false → filled_at v l ≡ false
-    unfilled_here h = ap (λ (s : Site). s.filled) g.follows.site ∙ same_filled (rules_at w l) ds (site_of w l) h ∙ steady.sites.unfilled l h
+    unfilled_here : has_readers (rules_in w l).sort ≡ false → filled_at v l ≡ false
+    unfilled_here h = ap (λ (s : Site). s.filled) g.follows.site ∙ same_filled (rules_in w l) ds (site_of w l) h ∙ steady.sites.unfilled l h
 
-    limited_here : has_readers (rules_at w l).sort ≡ true → HasRoom (rules_at w l) × HasLimit (rules_at w l) (lock_state v l)
+    limited_here : has_readers (rules_in w l).sort ≡ true → HasRoom (rules_in w l) × HasLimit (rules_in w l) (lock_state v l)
     limited_here h = let before = steady.sites.limits l h in (
       before.0,
-      subst (λ (s : Site). HasLimit (rules_at w l) s.lock) (sym g.follows.site)
-          (acts_limited (rules_at w l) ds (site_of w l) (length w.places) h before.0.0 (steady.numbers.threads l) (g.follows.ordinary h) (steady.sites.site l) g.follows.needed before.1),
+      subst (λ (s : Site). HasLimit (rules_in w l) s.lock) (sym g.follows.site)
+          (acts_limited (rules_in w l) ds (site_of w l) (length w.places) h before.0.0 (steady.numbers.threads l) (g.follows.ordinary h) (steady.sites.site l) g.follows.needed before.1),
     )
 
 -- ---------------------------------------------------------------- what an operation on the word makes of the lock
 
 abbrev pub operated : State → ℕ → Place → ℕ → Op → Parts
 operated w t p l f = record {
-  base = record { shared = shares_then (shares_at w l) t (shares_after p (word_at w l) (share_at w l t)); filled = filled_at w l || fills (rules_at w l) (apply f (word_at w l)) };
+  base = record { shared = shares_then (shares_at w l) t (shares_after p (word_at w l) (share_at w l t)); filled = filled_at w l || fills (rules_in w l) (apply f (word_at w l)) };
   word = apply f (word_at w l);
   owners = owners_after p t (word_at w l) (owners_at w l);
   main = queue_at w (2 * l);
@@ -183,20 +183,20 @@ with_line a Second q = record a { second = q }
 
 module _ (r : Rules) (l : ℕ) (a : Parts) (p : ℕ → Place) (t : ℕ) (p2 : Place) (site : IsSite r (seen_in r l a p)) (hand : taken_at (p t) l ≡ taken_at p2 l) where
   -- it stands behind the last of the main line
-  pub parks : (key : ℕ) (x : Want) → AllNeeded r (acts t (Case (locks.Park x) ∷ [])) (seen_in r l a p) → doing_on p2 l ≡ record (doing_on (p t) l) { retries = None; empty = None }
+  pub parks : (key : ℕ) (x : Want) → ActsNeeded r (acts t (Case (locks.Park x) ∷ [])) (seen_in r l a p) → doing_on p2 l ≡ record (doing_on (p t) l) { retries = None; empty = None }
       → Steps r l a (with_line a Main (a.main ++ waiter key t x ∷ [])) p t p2 (Case (locks.Park x) ∷ [])
   parks key x needed own = steps_by r l a (with_line a Main (a.main ++ waiter key t x ∷ [])) p t p2 (Case (locks.Park x) ∷ []) needed (tt, tt) hand
       (λ i. record (lock_in a (λ u. taken_at (p u) l)) { queue = queued_behind key t x a.main i }) refl refl (noted r (seen_in r l a p) site) (own ∙ sym (put_here (λ u. doing_on (p u) l) t _))
 
   -- it stands aside, alone
-  pub asides : (key : ℕ) (x : Want) → a.second ≡ [] → AllNeeded r (acts t (Case locks.Aside ∷ [])) (seen_in r l a p) → doing_on p2 l ≡ record (doing_on (p t) l) { retries = None; empty = None }
+  pub asides : (key : ℕ) (x : Want) → a.second ≡ [] → ActsNeeded r (acts t (Case locks.Aside ∷ [])) (seen_in r l a p) → doing_on p2 l ≡ record (doing_on (p t) l) { retries = None; empty = None }
       → Steps r l a (with_line a Second (a.second ++ waiter key t x ∷ [])) p t p2 (Case locks.Aside ∷ [])
   asides key x nobody needed own = steps_by r l a (with_line a Second (a.second ++ waiter key t x ∷ [])) p t p2 (Case locks.Aside ∷ []) needed (tt, tt) hand
       (ap (λ (q : List Waiter). lock_in (with_line a Second (q ++ waiter key t x ∷ [])) (λ u. taken_at (p u) l)) nobody) refl refl (noted r (seen_in r l a p) site) (own ∙ sym (put_here (λ u. doing_on (p u) l) t _))
 
   -- its time is up, and it leaves the line in which it stands
   pub lates : (m : Line) (q : List Waiter) → map queued_of (with_line a m q).main ≡ locks.without t (map queued_of a.main) → first_of (with_line a m q).second ≡ locks.aside_without t (first_of a.second)
-      → AllNeeded r (acts t (Case locks.Late ∷ [])) (seen_in r l a p) → doing_on p2 l ≡ (after_deed r (Case locks.Late) (seen_in r l a p) t).doing t → Steps r l a (with_line a m q) p t p2 (Case locks.Late ∷ [])
+      → ActsNeeded r (acts t (Case locks.Late ∷ [])) (seen_in r l a p) → doing_on p2 l ≡ (after_deed r (Case locks.Late) (seen_in r l a p) t).doing t → Steps r l a (with_line a m q) p t p2 (Case locks.Late ∷ [])
   lates Main q mains seconds needed own = steps_by r l a (with_line a Main q) p t p2 (Case locks.Late ∷ []) needed (tt, tt) hand
       (λ i. record (lock_in a (λ u. taken_at (p u) l)) { queue = mains i; aside = seconds i }) refl refl (noted r (seen_in r l a p) site) own
   lates Second q mains seconds needed own = steps_by r l a (with_line a Second q) p t p2 (Case locks.Late ∷ []) needed (tt, tt) hand
@@ -204,7 +204,7 @@ module _ (r : Rules) (l : ℕ) (a : Parts) (p : ℕ → Place) (t : ℕ) (p2 : P
 
 -- ---------------------------------------------------------------- one thread goes elsewhere
 
-module _ (w : State) (t l : ℕ) (steady : IsSteady w) (own : IsOf l (place_at w t)) (there : t < length w.places) (r : Rules) (rules : rules_at w l ≡ r) (p2 : Place) (of : IsOf l p2) (fits : CallsMutex w p2) where
+module _ (w : State) (t l : ℕ) (steady : IsSteady w) (own : IsOf l (place_at w t)) (there : t < length w.places) (r : Rules) (rules : rules_in w l ≡ r) (p2 : Place) (of : IsOf l p2) (fits : FitsItsLock w p2) where
   past : length w.places ≤ t → p2 ≡ Idle
   past h = absurd (omega arith)
 
@@ -250,7 +250,7 @@ module _ (w : State) (t l : ℕ) (steady : IsSteady w) (own : IsOf l (place_at w
         kind = kind_at w l;
         word = apply f (word_at w l);
         owners = owners_after p t (word_at w l) (owners_at w l);
-        filled = filled_at w l || fills (rules_at w l) (apply f (word_at w l));
+        filled = filled_at w l || fills (rules_in w l) (apply f (word_at w l));
       }
 
       moves : Moves w v l (operated w t p l f) (putting (place_at w) t p2)
@@ -301,10 +301,10 @@ module _ (w : State) (t l : ℕ) (steady : IsSteady w) (own : IsOf l (place_at w
 
   -- it does one deed that leaves the lock and its bits as they are
   module _ (hand : taken_at (place_at w t) l ≡ taken_at p2 l) where
-    pub goes_into : (m : Line) → AllNeeded r (acts t (In m ∷ [])) (lock_by w l r) → doing_on p2 l ≡ record (doing_on (place_at w t) l) { inside = Some m } → Steps r l (parts_at w l) (parts_at w l) (place_at w) t p2 (In m ∷ [])
+    pub goes_into : (m : Line) → ActsNeeded r (acts t (In m ∷ [])) (lock_by w l r) → doing_on p2 l ≡ record (doing_on (place_at w t) l) { inside = Some m } → Steps r l (parts_at w l) (parts_at w l) (place_at w) t p2 (In m ∷ [])
     goes_into m needed e = steps_by r l (parts_at w l) (parts_at w l) (place_at w) t p2 (In m ∷ []) needed (tt, tt) hand refl refl refl refl (e ∙ sym (put_here (λ u. doing_on (place_at w u) l) t _))
 
-    pub finds_none : (m : Line) (d : Doing) → AllNeeded r (acts t (FindNobody m ∷ [])) (lock_by w l r) → doing_on p2 l ≡ (after_deed r (FindNobody m) (lock_by w l r) t).doing t → Steps r l (parts_at w l) (parts_at w l) (place_at w) t p2 (FindNobody m ∷ [])
+    pub finds_none : (m : Line) (d : Doing) → ActsNeeded r (acts t (FindNobody m ∷ [])) (lock_by w l r) → doing_on p2 l ≡ (after_deed r (FindNobody m) (lock_by w l r) t).doing t → Steps r l (parts_at w l) (parts_at w l) (place_at w) t p2 (FindNobody m ∷ [])
     finds_none m d needed e = steps_by r l (parts_at w l) (parts_at w l) (place_at w) t p2 (FindNobody m ∷ []) needed (tt, tt) hand refl refl refl refl e
 
   -- into a section that is free

@@ -17,7 +17,7 @@ use Rattle.lot_world.specs.Refinement.{lock_state, taken_at}
 use Rattle.lot_world.specs.MutexPromises.{IsMutexWord}
 use Rattle.lot_world.specs.MutexDeeds.{mutex_doing}
 use Rattle.lot_world.specs.Stations.{hand, station, station_at, doing_on}
-use Rattle.lot_world.specs.SitesOf.{IsSteady, CallsMutex, rules_at, carried_at, hand_at, stood_in}
+use Rattle.lot_world.specs.SitesOf.{IsSteady, FitsItsLock, rules_in, carried_at, hand_at, stood_in}
 use Rattle.lot_world.proofs.Counts.{without_absent}
 use Rattle.lot_world.proofs.Glue.{same, doing_here, nothing_at, untaken}
 use Rattle.lot_world.proofs.MutexTable.{mutex, queued_times}
@@ -33,12 +33,12 @@ stood places u l m h = elim (cases_lt u (length places)) [
 
 module _ (w : State) (steady : IsSteady w) where
   -- the word says whether the mutex is owned
-  pub coded : (l : ℕ) → rules_at w l ≡ mutex → IsMutexWord (word_at w l) (owners_at w l).exclusive
+  pub coded : (l : ℕ) → rules_in w l ≡ mutex → IsMutexWord (word_at w l) (owners_at w l).exclusive
   coded = coded_at w steady
 
   -- a lock that a thread calls as a mutex is one
-  pub rules_for : (t l : ℕ) (at : MutexPlace) → place_at w t ≡ Mutex l at → rules_at w l ≡ mutex
-  rules_for t l at is = mutex_rules (kind_at w l) (let c : CallsMutex w (Mutex l at) = rw is at (steady.stands.calls t) in c)
+  pub rules_for : (t l : ℕ) (at : MutexPlace) → place_at w t ≡ Mutex l at → rules_in w l ≡ mutex
+  rules_for t l at is = mutex_rules (kind_at w l) (let c : FitsItsLock w (Mutex l at) = rw is at (steady.stands.calls t) in c)
 
   pub coded_for : (t l : ℕ) (at : MutexPlace) → place_at w t ≡ Mutex l at → IsMutexWord (word_at w l) (owners_at w l).exclusive
   coded_for t l at is = coded l (rules_for t l at is)

@@ -16,7 +16,7 @@ use Rattle.lot_steps.specs.declared.places.Place.TheVariants.{Idle}
 use Rattle.abstract_locks.specs.Purposes.{Purpose, IsMadeOf, rules_of}
 use Rattle.abstract_locks.specs.Locks as locks
 use Rattle.abstract_locks.specs.Locks.{LockState, Rules, Rights, LockCase, HandOff, HasTakenNobody, Queued, Needs, putting, rights_of, standing}
-use Rattle.abstract_locks.specs.Runs.{LocksState, IsTimely, rules_at as locks_rules, CallState, Event, AtLock, MayHappen, Agrees, AnswerHolds, GoesOn, locks_after, going_on, woken, unless_ended}
+use Rattle.abstract_locks.specs.Runs.{LocksState, IsTimely, rules_in as locks_rules, CallState, Event, AtLock, MayHappen, Agrees, AnswerHolds, GoesOn, locks_after, going_on, woken, unless_ended}
 use Rattle.abstract_locks.specs.Sites.{Site, Deed, Begin, after_deed}
 use Rattle.abstract_locks.specs.Deeds.{AreOneCase, event_by, event_of, EventNeeds, after_event}
 use Rattle.abstract_locks.specs.Deeds as deeds
@@ -25,7 +25,7 @@ use Rattle.abstract_locks.proofs.Rights.{others_keep}
 use Rattle.lot_machine.specs.Machine.{State, place_at, kind_at}
 use Rattle.lot_world.specs.Refinement.{lock_state, call_on, call_state, locks_of}
 use Rattle.lot_world.specs.MutexDeeds.{Act, acts}
-use Rattle.lot_world.specs.SitesOf.{IsSteady, Goes, AllNeeded, rules_at, after_acts, site_of}
+use Rattle.lot_world.specs.SitesOf.{IsSteady, Goes, ActsNeeded, rules_in, after_acts, site_of}
 use Rattle.lot_world.proofs.ActsKept.{goes_steady}
 use Rattle.lot_world.proofs.AtPlaces.{taken_nobody}
 
@@ -53,8 +53,8 @@ rights w t l = rights_of (lock_state w l) t
 
 -- one lock goes through an event of t that it allows, and the others are as they were
 pub record Happens (w v : State) (t l : ℕ) (e : Event) : Type 0 where
-  pub led : lock_state v l ≡ after_event (rules_at w l) e (lock_state w l) t
-  pub needs : EventNeeds (rules_at w l) e (lock_state w l) t
+  pub led : lock_state v l ≡ after_event (rules_in w l) e (lock_state w l) t
+  pub needs : EventNeeds (rules_in w l) e (lock_state w l) t
   pub elsewhere : (k : ℕ) → k ≢ l → lock_state v k ≡ lock_state w k
   pub kinds : (k : ℕ) → kind_at v k ≡ kind_at w k
   pub before : IsSteady w
@@ -82,15 +82,15 @@ module _ (r : Rules) where
   deeds_then t [] claims s h = claims_keep claims s h
   deeds_then t (d ∷ ds) claims s h = deeds_then t ds claims (after_deed r d s t) h
 
-  pub needed_then : (t : ℕ) (ds : List Deed) (claims : List Act) (s : Site) → AllNeeded r (acts t ds ++ claims) s → deeds.AllNeeded r ds s t
+  pub needed_then : (t : ℕ) (ds : List Deed) (claims : List Act) (s : Site) → ActsNeeded r (acts t ds ++ claims) s → deeds.ActsNeeded r ds s t
   needed_then t [] claims s n = tt
   needed_then t (d ∷ ds) claims s n = (n.0, needed_then t ds claims (after_deed r d s t) n.1)
 
 -- the event of deeds that a lock has been through
 pub happens : (w v : State) (t l : ℕ) (hand : Option Bool) (ds : List Deed) (claims : List Act) → IsSteady w → Goes w v l (acts t ds ++ claims) → AreClaims claims → AreOneCase ds → (hand ≢ Some false → HasTakenNobody (lock_state w l) t) → Happens w v t l (event_of l hand ds)
 happens w v t l hand ds claims steady goes begin one free = record {
-  led = ap (λ (s : Site). s.lock) goes.follows.site ∙ deeds_then (rules_at w l) t ds claims (site_of w l) begin ∙ deeds_lead (rules_at w l) t l hand ds (site_of w l) free one;
-  needs = deeds_need (rules_at w l) t l hand ds (site_of w l) (needed_then (rules_at w l) t ds claims (site_of w l) goes.follows.needed) one;
+  led = ap (λ (s : Site). s.lock) goes.follows.site ∙ deeds_then (rules_in w l) t ds claims (site_of w l) begin ∙ deeds_lead (rules_in w l) t l hand ds (site_of w l) free one;
+  needs = deeds_need (rules_in w l) t l hand ds (site_of w l) (needed_then (rules_in w l) t ds claims (site_of w l) goes.follows.needed) one;
   elsewhere = λ k ne. ap (λ (s : Site). s.lock) (goes.follows.others k ne).0;
   kinds = goes.follows.kinds;
   before = steady;
@@ -136,7 +136,7 @@ may_do w t l case purpose c is e made needs timely = rw (is, e) (rw is made, nee
 
 module _ (w v : State) (t l : ℕ) (c : Option LockCase) (h : Happens w v t l (event_by l c)) where
   -- what a thread owns then
-  pub rights_led : (u k : ℕ) → rights v u k ≡ rights_where l (after_event (rules_at w l) (event_by l c) (lock_state w l) t) u (rights w u) k
+  pub rights_led : (u k : ℕ) → rights v u k ≡ rights_where l (after_event (rules_in w l) (event_by l c) (lock_state w l) t) u (rights w u) k
   rights_led u k = put_is (rights w u) l _ k (rights v u k) (λ e. rw e (ap (λ s. rights_of s u) h.led)) (λ ne. ap (λ s. rights_of s u) (h.elsewhere k ne))
 
   abbrev pub IsNoHandOff : Option LockCase → Type 0
@@ -150,9 +150,9 @@ module _ (w v : State) (t l : ℕ) (c : Option LockCase) (h : Happens w v t l (e
     | inr nk ↦ ap (λ s. rights_of s u) (h.elsewhere k nk)
   ]
     where
-      stays : (c : Option LockCase) → IsNoHandOff c → EventNeeds (rules_at w l) (event_by l c) (lock_state w l) t → rights_of (after_event (rules_at w l) (event_by l c) (lock_state w l) t) u ≡ rights w u l
+      stays : (c : Option LockCase) → IsNoHandOff c → EventNeeds (rules_in w l) (event_by l c) (lock_state w l) t → rights_of (after_event (rules_in w l) (event_by l c) (lock_state w l) t) u ≡ rights w u l
       stays None plain needs = refl
-      stays (Some case) plain needs = others_keep (rules_at w l) (lock_state w l) t u (h.before.sites.site l).state ne case plain needs
+      stays (Some case) plain needs = others_keep (rules_in w l) (lock_state w l) t u (h.before.sites.site l).state ne case plain needs
 
   pub others_follow : IsNoHandOff c → Others w v t (event_by l c) → OthersFollow w v t (event_by l c)
   others_follow plain others u ne = ap (call_state (place_at v u)) (λ i k. rights_stay plain u ne k i) ∙ others u ne (rights w u)
@@ -170,7 +170,7 @@ module _ (w v : State) (t l : ℕ) (c : Option LockCase) (h : Happens w v t l (e
     call_then = call_by l (profile p) (rights w t)
 
     abbrev behind : LockState
-    behind = after_event (rules_at w l) (event_by l c) (lock_state w l) t
+    behind = after_event (rules_in w l) (event_by l c) (lock_state w l) t
 
     called_by : (r : ℕ → Rights) → call_state (place_at w t) r ≡ call_by l (profile p) r
     called_by r = ap (λ q. call_state q r) is ∙ ap (λ o. call_on o (profile p) r) of
@@ -178,13 +178,13 @@ module _ (w v : State) (t l : ℕ) (c : Option LockCase) (h : Happens w v t l (e
     may_happen : MayCome l (profile p) (event_by l c) → MayHappen (locks_of w) t (event_by l c)
     may_happen may = by_case c may h.needs
       where
-        by_case : (c : Option LockCase) → MayCome l (profile p) (event_by l c) → EventNeeds (rules_at w l) (event_by l c) (lock_state w l) t → MayHappen (locks_of w) t (event_by l c)
+        by_case : (c : Option LockCase) → MayCome l (profile p) (event_by l c) → EventNeeds (rules_in w l) (event_by l c) (lock_state w l) t → MayHappen (locks_of w) t (event_by l c)
         by_case None may needs = tt
         by_case (Some case) may needs = may_do (locks_of w) t l case ((profile p).purpose l) call_then (called_by (rights w t)) refl may.0 needs may.1
 
     -- the event of the step is that of its deeds
     pub goes_by : MayCome l (profile p) (event_by l c) → (n : Next Profile) (o : Outcome)
-        → ComesTo (rules_at w l) l (profile p) (event_by l c) (lock_state w l) (after_event (rules_at w l) (event_by l c) (lock_state w l) t) t n
+        → ComesTo (rules_in w l) l (profile p) (event_by l c) (lock_state w l) (after_event (rules_in w l) (event_by l c) (lock_state w l) t) t n
         → LeadsTo v t l n o → OthersFollow w v t (event_by l c) → GoesOn (locks_of w) t o (locks_of v)
     goes_by may n o comes leads others = record {
       called = rw (called_by (rights w t)) (λ e. cc);
@@ -197,10 +197,10 @@ module _ (w v : State) (t l : ℕ) (c : Option LockCase) (h : Happens w v t l (e
       agrees = rw (called_by (rights w t)) (agrees n comes leads);
     }
       where
-        rules_then : rules_at v l ≡ rules_at w l
+        rules_then : rules_in v l ≡ rules_in w l
         rules_then = ap rules_of (h.kinds l)
 
-        own : (n : Next Profile) → ComesTo (rules_at w l) l (profile p) (event_by l c) (lock_state w l) behind t n → LeadsTo v t l n o
+        own : (n : Next Profile) → ComesTo (rules_in w l) l (profile p) (event_by l c) (lock_state w l) behind t n → LeadsTo v t l n o
             → call_state (place_at v t) (rights v t) ≡ unless_ended o (going_on (event_by l c) call_then)
         own (next.At row) comes leads = ap (λ x. call_on x (profile (place_at v t)) (rights v t)) leads.0 ∙ ap (λ x. call_by l x (rights v t)) leads.1
             ∙ ap (call_by l row) (λ i k. rights_led t k i) ∙ comes (rights w t) refl ∙ goes_on leads.2
@@ -210,7 +210,7 @@ module _ (w v : State) (t l : ℕ) (c : Option LockCase) (h : Happens w v t l (e
             goes_on (inr e) = rw e.0 refl
         own (next.End a) comes leads = rw (leads.0, leads.1) refl
 
-        agrees : (n : Next Profile) → ComesTo (rules_at w l) l (profile p) (event_by l c) (lock_state w l) behind t n → LeadsTo v t l n o → Agrees t (going_on (event_by l c) call_then) o (locks_of v)
+        agrees : (n : Next Profile) → ComesTo (rules_in w l) l (profile p) (event_by l c) (lock_state w l) behind t n → LeadsTo v t l n o → Agrees t (going_on (event_by l c) call_then) o (locks_of v)
         agrees (next.At row) comes leads = elim leads.2 [
           | inl e ↦ rw e tt
           | inr e ↦ rw e.0 (l, e.1)

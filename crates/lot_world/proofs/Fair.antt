@@ -30,7 +30,7 @@ use Rattle.lot_machine.specs.Machine.{State, unlocked, place_at, word_at, owners
 use Rattle.lot_machine.specs.Fits.{IsShaped, PlaceFits}
 use Rattle.lot_world.specs.MutexPromises.{IsMutexWord}
 use Rattle.lot_world.specs.MutexDeeds.{mutex_station}
-use Rattle.lot_world.specs.SitesOf.{IsSteady, CallsMutex, is_mutex}
+use Rattle.lot_world.specs.SitesOf.{IsSteady, FitsItsLock, is_mutex}
 use Rattle.abstract_locks.specs.Sites.{Main}
 use Rattle.lot_world.proofs.MutexTable.{own_doing}
 use Rattle.lot_world.proofs.Closures.{nothing_closes}
@@ -272,7 +272,7 @@ locked_by : (v : ℕ) (o : Option ℕ) (u : ℕ) → IsMutexWord v o → o ≡ S
 locked_by v o u c e = by_code (λ v o. o ≡ Some u → is_locked v ≡ true) (λ g. absurd cc) (λ g. absurd cc) (λ x g. refl) (λ x g. refl) v o c e
 
 -- the lock that is released fairly is a mutex
-fair_mutex : (w : State) (p : Place) (l : ℕ) (r : ℕ → Rights) → CallsMutex w p → IsFairRelease (call_state p r).purpose l → is_mutex (kind_at w l) ≡ true
+fair_mutex : (w : State) (p : Place) (l : ℕ) (r : ℕ → Rights) → FitsItsLock w p → IsFairRelease (call_state p r).purpose l → is_mutex (kind_at w l) ≡ true
 fair_mutex w Idle l r fits h = absurd h
 fair_mutex w (RwLock k a p) l r fits h = absurd (never_fair k l p.purpose h)
 fair_mutex w (Mutex k (Lock entries.Lock retries a)) l r fits h = absurd h

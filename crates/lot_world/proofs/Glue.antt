@@ -38,7 +38,7 @@ use Rattle.lot_machine.specs.declared.hands.Successor.{Successor}
 use Rattle.lot_world.specs.Refinement.{lock_seen, taken_at}
 use Rattle.lot_world.specs.MutexDeeds.{Act, mutex_station, queued}
 use Rattle.lot_world.specs.Stations.{Station, hand, station, station_at, nowhere, doing_on}
-use Rattle.lot_world.specs.SitesOf.{site_of, rules_at, after_acts, carried_at, hand_at, Hands, CallsMutex}
+use Rattle.lot_world.specs.SitesOf.{site_of, rules_in, after_acts, carried_at, hand_at, Hands, FitsItsLock}
 
 -- ---------------------------------------------------------------- lists with one element set, as functions
 
@@ -116,7 +116,7 @@ seen_by r l n word o main second places = seen_in r l (record { base = n; word =
 abbrev pub seen : (l : ℕ) → Base → (word : ℕ) → Owners → (main second : List Waiter) → (ℕ → Place) → Site
 seen l n word o main second places = seen_by mutex l n word o main second places
 
-pub site_seen : (v : State) (r : Rules) (l : ℕ) (n : Base) (word : ℕ) (o : Owners) (m s : List Waiter) (places : ℕ → Place) → rules_at v l ≡ r → base_at v l ≡ n → word_at v l ≡ word → owners_at v l ≡ o → queue_at v (2 * l) ≡ m → queue_at v (2 * l + 1) ≡ s
+pub site_seen : (v : State) (r : Rules) (l : ℕ) (n : Base) (word : ℕ) (o : Owners) (m s : List Waiter) (places : ℕ → Place) → rules_in v l ≡ r → base_at v l ≡ n → word_at v l ≡ word → owners_at v l ≡ o → queue_at v (2 * l) ≡ m → queue_at v (2 * l + 1) ≡ s
     → place_at v ≡ places → site_of v l ≡ seen_by r l n word o m s places
 site_seen v r l n word o m s places er en ew eo em es ep = λ i. seen_by (er i) l (en i) (ew i) (eo i) (em i) (es i) (ep i)
 
@@ -217,10 +217,10 @@ abbrev pub IsMutexCall : ℕ → Place → Type 0
 IsMutexCall l (RwLock k a at) = k ≢ l
 IsMutexCall l p = Unit {0}
 
-pub mutex_calls : (w : State) (l : ℕ) (p : Place) → CallsMutex w p → rules_at w l ≡ mutex → IsMutexCall l p
+pub mutex_calls : (w : State) (l : ℕ) (p : Place) → FitsItsLock w p → rules_in w l ≡ mutex → IsMutexCall l p
 mutex_calls w l (RwLock k a at) calls rules = λ here.
-    let readers : has_readers (rules_at w k).sort ≡ true = calls.0.0 in
-    let none : has_readers (rules_at w k).sort ≡ false = ap (λ n. has_readers (rules_at w n).sort) here ∙ ap (λ (r : Rules). has_readers r.sort) rules in cc
+    let readers : has_readers (rules_in w k).sort ≡ true = calls.0.0 in
+    let none : has_readers (rules_in w k).sort ≡ false = ap (λ n. has_readers (rules_in w n).sort) here ∙ ap (λ (r : Rules). has_readers r.sort) rules in cc
 mutex_calls w l (Mutex k at) calls rules = tt
 mutex_calls w l Idle calls rules = tt
 

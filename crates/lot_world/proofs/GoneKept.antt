@@ -37,7 +37,7 @@ use Rattle.lot_world.specs.Refinement.{taken_at}
 use Rattle.abstract_locks.specs.Picks.{queued_of}
 use Rattle.lot_world.specs.MutexDeeds.{mutex_doing, mutex_station, acts, deeds, mutex_deeds, queued}
 use Rattle.lot_world.specs.Stations.{Station, nowhere, station, station_at}
-use Rattle.lot_world.specs.SitesOf.{CallsMutex, IsSteady, Goes, rules_at, stood_in}
+use Rattle.lot_world.specs.SitesOf.{FitsItsLock, IsSteady, Goes, rules_in, stood_in}
 use Rattle.lot_machine.proofs.Shape.{main_line_there, main_key_there}
 use Rattle.lot_world.proofs.Glue.{base_at, same, own_stance, inside_is, doing_of, doing_here, IsMutexOf, own_of}
 use Rattle.lot_world.proofs.MutexTable.{mutex, Fits, own_doing, ends, looks, at_first, at_load, at_decide_free, at_decide_one, at_clear, at_release_clear, at_try, at_subtract, at_unlock_fair, at_bump, at_store_none}
@@ -67,12 +67,12 @@ asleep_at k l (Lock e b lock.Asleep) f g = inr (record { entry = e; retries = b;
 asleep_at k l (Lock e b lock.Remove) f g = inl refl
 asleep_at k l at f g = absurd cc
 
-pub asleep : (w : State) (p : Place) (l : ℕ) → rules_at w l ≡ mutex → CallsMutex w p → (station_at p l).stands ≡ Some Main → ((station_at p l).inside ≡ Some Main) ⊎ IsAsleep p l
+pub asleep : (w : State) (p : Place) (l : ℕ) → rules_in w l ≡ mutex → FitsItsLock w p → (station_at p l).stands ≡ Some Main → ((station_at p l).inside ≡ Some Main) ⊎ IsAsleep p l
 asleep w Idle l r c h = absurd cc
 asleep w (RwLock k a at) l r c h = either (k == l) refl h
   where
     either : (b : Bool) → (k == l) ≡ b → (if b then station (RwLock k a at) else nowhere).stands ≡ Some Main → ((if b then station (RwLock k a at) else nowhere).inside ≡ Some Main) ⊎ IsAsleep (RwLock k a at) l
-    either true e g = absurd (let own : k ≡ l = eqb-true k l e in let shared : has_readers (rules_at w k).sort ≡ true = c.0.0 in let f : has_readers mutex.sort ≡ true = rw (own, r) at shared in cc)
+    either true e g = absurd (let own : k ≡ l = eqb-true k l e in let shared : has_readers (rules_in w k).sort ≡ true = c.0.0 in let f : has_readers mutex.sort ≡ true = rw (own, r) at shared in cc)
     either false e g = absurd cc
 asleep w (Mutex k at) l r c h = either (k == l) refl h
   where

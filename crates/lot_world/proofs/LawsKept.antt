@@ -13,7 +13,7 @@ use Rattle.lot_machine.specs.Machine.{State, place_at, word_at, filled_at, put, 
 use Rattle.lot_world.specs.Refinement.{taken_at}
 use Rattle.lot_world.specs.MutexDeeds.{acts}
 use Rattle.lot_world.specs.Stations.{station, doing_on}
-use Rattle.lot_world.specs.SitesOf.{AllNeeded, IsSteady, Goes, CallsMutex, after_acts, rules_at}
+use Rattle.lot_world.specs.SitesOf.{ActsNeeded, IsSteady, Goes, FitsItsLock, after_acts, rules_in}
 use Rattle.lot_world.proofs.Glue.{parts_at, lock_in, IsOf}
 use Rattle.lot_world.proofs.OneStep.{AreSingle, HasOneCase, Steps, steps_by, acts_keep, full_then, fills_by}
 use Rattle.lot_world.proofs.ActsKept.{NoHandOff, lock_by, operated, site_by, word_goes}
@@ -23,7 +23,7 @@ pub after_same : (r : Rules) (ds : List Deed) (s : Site) (t : ℕ) → after_act
 after_same r [] s t = refl
 after_same r (d ∷ ds) s t = after_same r ds (after_deed r d s t) t
 
-pub needed_same : (r : Rules) (ds : List Deed) (s : Site) (t : ℕ) → laws.AllNeeded r ds s t → AllNeeded r (acts t ds) s
+pub needed_same : (r : Rules) (ds : List Deed) (s : Site) (t : ℕ) → laws.ActsNeeded r ds s t → ActsNeeded r (acts t ds) s
 needed_same r [] s t h = tt
 needed_same r (d ∷ ds) s t h = (h.0, needed_same r ds (after_deed r d s t) t h.1)
 
@@ -39,20 +39,20 @@ aside_read Recursive v h = refl
 aside_read Mutex v h = absurd cc
 aside_read Semaphore v h = absurd cc
 
-module _ (w : State) (t l : ℕ) (steady : IsSteady w) (own : IsOf l (place_at w t)) (there : t < length w.places) (r : Rules) (rules : rules_at w l ≡ r) (p2 : Place) (of : IsOf l p2) (fits : CallsMutex w p2) (readers : has_readers r.sort ≡ true) (p : Place) (f : Op) (ds : List Deed) where
+module _ (w : State) (t l : ℕ) (steady : IsSteady w) (own : IsOf l (place_at w t)) (there : t < length w.places) (r : Rules) (rules : rules_in w l ≡ r) (p2 : Place) (of : IsOf l p2) (fits : FitsItsLock w p2) (readers : has_readers r.sort ≡ true) (p : Place) (f : Op) (ds : List Deed) where
   -- the site behind the deeds
   abbrev behind : Site
   behind = after_acts r (acts t ds) (lock_by w l r)
 
   -- what the laws conclude
   pub record IsLawful : Type 0 where
-    pub needed : laws.AllNeeded r ds (lock_by w l r) t
+    pub needed : laws.ActsNeeded r ds (lock_by w l r) t
     pub doing : (laws.after_all r ds (lock_by w l r) t).doing t ≡ doing_on p2 l
     pub owners : lock_in (operated w t p l f) (λ u. taken_at (place_at w u) l) ≡ (laws.after_all r ds (lock_by w l r) t).lock
     pub word : apply f (word_at w l) ≡ code r (laws.after_all r ds (lock_by w l r) t)
 
   module _ (law : IsLawful) (single : AreSingle ds) (one : HasOneCase ds) where
-    needed : AllNeeded r (acts t ds) (lock_by w l r)
+    needed : ActsNeeded r (acts t ds) (lock_by w l r)
     needed = needed_same r ds (lock_by w l r) t law.needed
 
     site_behind : IsSite r behind

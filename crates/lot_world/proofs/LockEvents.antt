@@ -27,7 +27,7 @@ use Rattle.abstract_locks.proofs.LockKeeps.{sharing_same}
 use Rattle.lot_machine.specs.Machine.{State, place_at}
 use Rattle.lot_world.specs.Refinement.{owner_at, lock_state, taken_at, is_bump, before_entry, mutex_call_state, call_state, call_by}
 use Rattle.lot_world.specs.MutexDeeds.{queued}
-use Rattle.lot_world.specs.SitesOf.{rules_at}
+use Rattle.lot_world.specs.SitesOf.{rules_in}
 use Rattle.lot_world.proofs.Glue.{IsTakenAt, heir, put_same, same, IsMutexCall, mutex_calls, taken_elsewhere}
 use Rattle.lot_world.proofs.MutexTable.{mutex}
 use Rattle.lot_world.proofs.CallEvents.{put_is, rights, rights_led, Happens, Others, OthersFollow}
@@ -161,9 +161,9 @@ module _ (w v : State) (t l : ℕ) where
 
 -- ---------------------------------------------------------------- it hands its right over
 
-module _ (w v : State) (t l : ℕ) (to : Option ℕ) (h : Happens w v t l (AtLock l (HandsOff Exclusive (heir to)))) (rules : rules_at w l ≡ mutex) (awake : taken_at (place_at w t) l ≡ None) where
+module _ (w v : State) (t l : ℕ) (to : Option ℕ) (h : Happens w v t l (AtLock l (HandsOff Exclusive (heir to)))) (rules : rules_in w l ≡ mutex) (awake : taken_at (place_at w t) l ≡ None) where
   state : IsLockState mutex (lock_state w l)
-  state = let s : IsLockState (rules_at w l) (lock_state w l) = (h.before.sites.site l).state in rw rules at s
+  state = let s : IsLockState (rules_in w l) (lock_state w l) = (h.before.sites.site l).state in rw rules at s
 
   heir_of : (u : ℕ) → to ≡ Some u → IsTaken (lock_state w l) t u Exclusive
   heir_of u e = ((h.needs.2 u Exclusive).0 (ap heir e)).0

@@ -59,7 +59,7 @@ use Rattle.lot_world.proofs.Possible.{may_go, go_possible, may_be_late, late_pos
 use Rattle.lot_machine.proofs.Looks.{mutex_looks}
 use Rattle.lot_world.proofs.Looking.{here, looks_now, looking_steady, goes_as_before, stays_as_before}
 use Rattle.lot_world.proofs.Closures.{no_closure, nothing_closes}
-use Rattle.lot_world.specs.SitesOf.{site_of, IsSteady, Goes, CallsMutex, is_mutex, rules_at, carried_at}
+use Rattle.lot_world.specs.SitesOf.{site_of, IsSteady, Goes, FitsItsLock, is_mutex, rules_in, carried_at}
 use Rattle.abstract_locks.specs.Sites.{IsSite, Deed, Main, Mark, End, Case}
 use Rattle.abstract_locks.specs.Locks.{LockCase, Wake, Leave as GivesBack, HandOff as HandsOff, Rights, rights_of, standing}
 use Rattle.abstract_locks.specs.Runs.{LocksState, CallState, GoesOn, Stays, Looks, IsOfMutex, Does, SectionChanges, MayBegin, MayTurn, HasRight, Turned, IsStep, purpose_at, new_call, Nothing}
@@ -112,7 +112,7 @@ late_place a p m h = by_place p.at refl h
 -- ---------------------------------------------------------------- a thread goes on
 
 module _ (w : State) (t : ℕ) (shape : IsShaped w) (steady : IsSteady w) (there : t < length w.places) where
-  module _ (l : ℕ) (lt : l < length w.locks) (rules : rules_at w l ≡ mutex) where
+  module _ (l : ℕ) (lt : l < length w.locks) (rules : rules_in w l ≡ mutex) where
     -- what it is told of its step
     decided_hears : (e : Entry) (again : Bool) (x : ℕ) (a b : Bool) → Hears (site_of w l) t (Lock e again (Decide x)) (reply_to w t (if not a then act.TheVariants.Word l (op.TheVariants.Exchange x (x + 1)) else if b then act.TheVariants.Word l (op.TheVariants.Exchange 1 3) else act.TheVariants.Enter (One (2 * l))))
     decided_hears e again x false b = tt
@@ -167,7 +167,7 @@ module _ (w : State) (t : ℕ) (shape : IsShaped w) (steady : IsSteady w) (there
 
       tells : Tells l t (lock_state w l) at (mutex_deeds at whom told) (mutex_next at told)
       tells = mutex_tells (site_of w l) t l (subst (λ r. IsSite r (site_of w l)) rules (steady.sites.site l)) at whom told (own_doing w steady t l at is)
-          (subst (λ r. AllNeeded r (mutex_deeds at whom told) (site_of w l) t) rules (needed_then (rules_at w l) t (mutex_deeds at whom told) (claims_at at whom told) (site_of w l) goes.follows.needed)) (hears at is can timed)
+          (subst (λ r. AllNeeded r (mutex_deeds at whom told) (site_of w l) t) rules (needed_then (rules_in w l) t (mutex_deeds at whom told) (claims_at at whom told) (site_of w l) goes.follows.needed)) (hears at is can timed)
 
       -- whom it has in hand, by its place
       carries : carried_at (place_at w t) l ≡ (mutex_row at).carries
@@ -324,7 +324,7 @@ module _ (w : State) (t : ℕ) (shape : IsShaped w) (steady : IsSteady w) (there
         place_then : call_state (place_at decided t) ≡ call_state (place_at w t)
         place_then = ap call_state (get_or-set_same w.places t (next_place (Mutex l (Lock e again Load)) (Value (word_at w l))) Idle there) ∙ ap call_state (sym is)
 
-  go_goes : (p : Place) → place_at w t ≡ p → PlaceFits (length w.locks) p → CallsMutex w p → can_do w (act_of p) ≡ true → GoesOn (locks_of w) t (outcome_of (next_act p (reply_to w t (act_of p)))) (locks_of (go_by w t p (act_of p)))
+  go_goes : (p : Place) → place_at w t ≡ p → PlaceFits (length w.locks) p → FitsItsLock w p → can_do w (act_of p) ≡ true → GoesOn (locks_of w) t (outcome_of (next_act p (reply_to w t (act_of p)))) (locks_of (go_by w t p (act_of p)))
   go_goes Idle is fits of can = absurd cc
   go_goes (RwLock l a p) is fits of can = rwlock_step w t l a p steady shape there fits is can
   go_goes (Mutex l at) is fits of can = mutex_goes_on l fits.0 (mutex_rules (kind_at w l) of) at is can fits.1
@@ -356,7 +356,7 @@ module _ (w : State) (t : ℕ) (shape : IsShaped w) (steady : IsSteady w) (there
   late_goes (RwLock l a p) is can = by_line (rwlock_late_line p) refl can
     where
       stands : MayStand a p
-      stands = let calls : CallsMutex w (RwLock l a p) = subst (CallsMutex w) is (steady.stands.calls t) in calls.1
+      stands = let calls : FitsItsLock w (RwLock l a p) = subst (FitsItsLock w) is (steady.stands.calls t) in calls.1
 
       in_no_hand_at : (x : RwLockPlace) → rwlock_hand x.at ≡ None → (k : ℕ) → taken_at (RwLock l a x) k ≡ None
       in_no_hand_at x e k = ap (λ h. taken_from h (wants_for x.purpose) (calls (RwLock l a x) k)) e
@@ -384,11 +384,11 @@ module _ (w : State) (t : ℕ) (shape : IsShaped w) (steady : IsSteady w) (there
 -- ---------------------------------------------------------------- a look at the word once more
 
 -- a call of a reader-writer lock is of no mutex
-not_mutex : (w : State) (l : ℕ) (a : Admission) (at : RwLockPlace) → Admits (rules_at w l) a → (r : ℕ → Rights) → IsOfMutex (locks_of w) (call_state (RwLock l a at) r).purpose → ⊥
+not_mutex : (w : State) (l : ℕ) (a : Admission) (at : RwLockPlace) → Admits (rules_in w l) a → (r : ℕ → Rights) → IsOfMutex (locks_of w) (call_state (RwLock l a at) r).purpose → ⊥
 not_mutex w l a at admits r of = by_purpose at.purpose of
   where
-    readers : (rules_at w l).sort ≡ Mutual → ⊥
-    readers e = let f : has_readers (rules_at w l).sort ≡ false = ap has_readers e in let g : has_readers (rules_at w l).sort ≡ true = admits.0 in cc
+    readers : (rules_in w l).sort ≡ Mutual → ⊥
+    readers e = let f : has_readers (rules_in w l).sort ≡ false = ap has_readers e in let g : has_readers (rules_in w l).sort ≡ true = admits.0 in cc
 
     by_purpose : (q : RwLockPurpose) → IsOfMutex (locks_of w) (Some (purpose_by q l)) → ⊥
     by_purpose (purposes.Enter x how) e = readers e
@@ -412,7 +412,7 @@ module _ (w : State) (t : ℕ) (shape : IsShaped w) (steady : IsSteady w) (there
 
   look_stays : (p : Place) → place_at w t ≡ p → IsOfMutex (locks_of w) (call_state p (rights w t)).purpose → Stays (locks_of w) t ((locks_of w).calls t) (go_outcome moved t) (locks_of (state_after_go moved t))
   look_stays Idle e of = absurd of
-  look_stays (RwLock l a at) e of = absurd (let calls : CallsMutex w (RwLock l a at) = subst (CallsMutex w) e (steady.stands.calls t) in not_mutex w l a at calls.0 (rights w t) of)
+  look_stays (RwLock l a at) e of = absurd (let calls : FitsItsLock w (RwLock l a at) = subst (FitsItsLock w) e (steady.stands.calls t) in not_mutex w l a at calls.0 (rights w t) of)
   look_stays (Mutex l at) e of = let loads = mutex_looks l at q (ap looking (sym e) ∙ is) in
       let now : place_at moved t ≡ Mutex l (Lock loads.0 loads.1 Load) = here w t there q is ∙ loads.2 in
       stays_as_before w t there q is _ (locks_of (state_after_go moved t)) (subst (λ p. Stays (locks_of moved) t ((locks_of moved).calls t) (going_outcome moved t p) (locks_of (state_after_going moved t p))) (sym now)
@@ -421,8 +421,8 @@ module _ (w : State) (t : ℕ) (shape : IsShaped w) (steady : IsSteady w) (there
       fits_moved : {x : MutexPlace} → place_at moved t ≡ Mutex l x → PlaceFits (length moved.locks) (Mutex l x)
       fits_moved now = subst (PlaceFits (length moved.locks)) now (shaped_moved.places t)
 
-      calls_moved : {x : MutexPlace} → place_at moved t ≡ Mutex l x → CallsMutex moved (Mutex l x)
-      calls_moved now = subst (CallsMutex moved) now (steady_moved.stands.calls t)
+      calls_moved : {x : MutexPlace} → place_at moved t ≡ Mutex l x → FitsItsLock moved (Mutex l x)
+      calls_moved now = subst (FitsItsLock moved) now (steady_moved.stands.calls t)
 
   looks : Looks (locks_of w) t (go_outcome moved t) (locks_of (state_after_go moved t))
   looks = record {
@@ -508,7 +508,7 @@ begin_goes w t (call.TheVariants.RwLock l c) shape steady there can = (
     held : (has_call (kind_at w l) (call.TheVariants.RwLock l c) ≡ true) × (rwlock_right c t (owners_at w l) (share_at w l t) ≡ true)
     held = both (has_call (kind_at w l) (call.TheVariants.RwLock l c)) (rwlock_right c t (owners_at w l) (share_at w l t)) open_to.1
 
-    is_kind : has_readers (rules_at w l).sort ≡ true
+    is_kind : has_readers (rules_in w l).sort ≡ true
     is_kind = calls_readers (kind_at w l) l c held.0
 begin_goes w t (call.TheVariants.Mutex l c) shape steady there can = (
   record { thread = there; idle = rw idle refl; lock = ltb-true l (length w.locks) open_to.0; right = rw (purpose_is (kind_at w l) l c is_kind) (right_held w t l (is_fair (kind_at w l)) c held.1) },

@@ -24,7 +24,7 @@ use Rattle.abstract_locks.specs.Sites.{idle}
 use Rattle.lot_world.specs.Refinement.{lock_state, locks_of, call_on, stance_of}
 use Rattle.lot_world.specs.Stations.{station_by}
 use Rattle.lot_world.specs.WorldRuns.{IsUntouched}
-use Rattle.lot_world.specs.SitesOf.{IsSteady, CallsMutex, rules_at}
+use Rattle.lot_world.specs.SitesOf.{IsSteady, FitsItsLock, rules_in}
 use Rattle.lot_world.proofs.Glue.{IsLock, parts_at}
 use Rattle.lot_world.proofs.OneStep.{steps_by}
 use Rattle.lot_world.proofs.ActsKept.{goes_steady, place_goes}
@@ -46,18 +46,18 @@ of_lock : (l : ℕ) (o : Option ℕ) → o ≡ Some l → IsLock l o
 of_lock l o e = rw e refl
 
 -- it is in the same call, of a lock of its sort
-calls_on : (w : State) (p q : Place) → looking p ≡ Some q → CallsMutex w p → CallsMutex w q
+calls_on : (w : State) (p q : Place) → looking p ≡ Some q → FitsItsLock w p → FitsItsLock w q
 calls_on w Idle q is calls = absurd cc
 calls_on w (RwLock l a at) q is calls = by_place (rwlock_looking a at) refl is
   where
-    by_place : (o : Option RwLockPlace) → rwlock_looking a at ≡ o → in_rwlock l a o ≡ Some q → CallsMutex w q
+    by_place : (o : Option RwLockPlace) → rwlock_looking a at ≡ o → in_rwlock l a o ≡ Some q → FitsItsLock w q
     by_place None e is = absurd cc
-    by_place (Some at2) e is = let there : RwLock l a at2 ≡ q = cc in subst (CallsMutex w) there (calls.0, (rwlock_looks_stand a at at2 e).1 calls.1)
+    by_place (Some at2) e is = let there : RwLock l a at2 ≡ q = cc in subst (FitsItsLock w) there (calls.0, (rwlock_looks_stand a at at2 e).1 calls.1)
 calls_on w (Mutex l at) q is calls = by_place (mutex_looking at) is
   where
-    by_place : (o : Option MutexPlace) → in_mutex l o ≡ Some q → CallsMutex w q
+    by_place : (o : Option MutexPlace) → in_mutex l o ≡ Some q → FitsItsLock w q
     by_place None e = absurd cc
-    by_place (Some at2) e = let there : Mutex l at2 ≡ q = cc in subst (CallsMutex w) there calls
+    by_place (Some at2) e = let there : Mutex l at2 ≡ q = cc in subst (FitsItsLock w) there calls
 
 module _ (w : State) (t : ℕ) (there : t < length w.places) (q : Place) (is : looking (place_at w t) ≡ Some q) where
   abbrev moved : State
@@ -126,8 +126,8 @@ module _ (w : State) (t : ℕ) (there : t < length w.places) (q : Place) (is : l
 
   pub looking_steady : IsSteady w → IsSteady moved
   looking_steady steady = goes_steady w moved it.lock [] steady
-      (place_goes w t it.lock steady (of_lock it.lock (lock_of (place_at w t)) it.before) there (rules_at w it.lock) refl q (of_lock it.lock (lock_of q) it.now) (calls_on w (place_at w t) q is (steady.stands.calls t)) [] (λ h. tt)
-      (steps_by (rules_at w it.lock) it.lock (parts_at w it.lock) (parts_at w it.lock) (place_at w) t q [] tt tt
+      (place_goes w t it.lock steady (of_lock it.lock (lock_of (place_at w t)) it.before) there (rules_in w it.lock) refl q (of_lock it.lock (lock_of q) it.now) (calls_on w (place_at w t) q is (steady.stands.calls t)) [] (λ h. tt)
+      (steps_by (rules_in w it.lock) it.lock (parts_at w it.lock) (parts_at w it.lock) (place_at w) t q [] tt tt
       (λ i. taken_from (sym it.row i).hand (sym it.row i).wants (is_lock it.lock (sym lock_stays i))) refl refl refl refl (λ i. if is_lock it.lock (lock_stays i) then (it.row i).doing else idle))
       (λ i. station_by (it.row i)))
     where

@@ -16,7 +16,7 @@ use Rattle.lot_acts.specs.declared.acts.Wakes.{Wakes}
 use Rattle.lot_acts.specs.declared.acts.Reply.TheVariants.{Done, Value, Parked, Took, Picked, Removed, TakenBy, Woken}
 use Rattle.lot_acts.specs.declared.acts.Whom as whom
 use Rattle.lot_acts.specs.Acts.{holds, wakes_taken}
-use Rattle.lot_acts.specs.Moves.{Move, Hears, Stays, GoesIn, Parks, Picks, TakesAside, LeavesLine, GoesOut, Sleeps, IsHeld, Waits, AreOfWord, AreLeaving, parks_in, inside_of, station_of, station_then}
+use Rattle.lot_acts.specs.Moves.{Move, Hears, StaysPut, GoesIn, Parks, Picks, TakesAside, LeavesLine, GoesOut, Sleeps, IsHeld, Waits, AreOfWord, AreLeaving, parks_in, inside_of, station_of, station_then}
 use Rattle.lot_acts.specs.Profiles.{Profile, Hand, Of, hand, in_hand, taken_from}
 use Rattle.lot_acts.specs.Stations.{Station, station_by, nowhere, waits_for}
 use Rattle.lot_steps.specs.declared.places.Place.{Place}
@@ -34,7 +34,7 @@ use Rattle.lot_machine.specs.Machine.{State, place_at, word_at, queue_at, sectio
 use Rattle.lot_world.specs.Refinement.{taken_at}
 use Rattle.lot_world.specs.MutexDeeds.{acts}
 use Rattle.lot_world.specs.Stations.{station, station_at, doing_on}
-use Rattle.lot_world.specs.SitesOf.{AllNeeded, AreWaiting, IsSteady, Goes, CallsMutex, TakesOne, after_acts, rules_at, key_of, stood_in, carried_at, hand_at}
+use Rattle.lot_world.specs.SitesOf.{ActsNeeded, AreWaiting, IsSteady, Goes, FitsItsLock, TakesOne, after_acts, rules_in, key_of, stood_in, carried_at, hand_at}
 use Rattle.lot_world.proofs.Counts.{without_absent, first_times, none_first}
 use Rattle.lot_world.proofs.Glue.{IsOf, IsLock, IsHeldBy, held_where, held_taker, nothing_at, calls_none, next_of, inside_is, parts_at, lock_in, same, put_here, doing_here, station_here, lets_nobody}
 use Rattle.lot_world.proofs.OneStep.{AreSingle, HasOneCase, steps_by, empty_line, queued_times, queued_without}
@@ -95,16 +95,16 @@ pending_one : (p : Option Pending) (t u : ℕ) → IsSomePending p t → IsSomeP
 pending_one None t u h g = absurd h
 pending_one (Some p) t u h g = sym h ∙ g
 
-module _ (w : State) (t l : ℕ) (steady : IsSteady w) (there : t < length w.places) (own : IsOf l (place_at w t)) (r : Rules) (rules : rules_at w l ≡ r) (readers : has_readers r.sort ≡ true) (x : Move) (same_row : profile (place_at w t) ≡ x.row) where
+module _ (w : State) (t l : ℕ) (steady : IsSteady w) (there : t < length w.places) (own : IsOf l (place_at w t)) (r : Rules) (rules : rules_in w l ≡ r) (readers : has_readers r.sort ≡ true) (x : Move) (same_row : profile (place_at w t) ≡ x.row) where
   abbrev pub here : Site
   here = lock_by w l r
 
   -- what the laws conclude of what it is told
   pub record IsFollowed (whom : Option ℕ) (told : Reply) (p2 : Place) : Type 0 where
     pub of : IsOf l p2
-    pub fits : CallsMutex w p2
+    pub fits : FitsItsLock w p2
     pub row : profile p2 ≡ x.next told
-    pub needed : laws.AllNeeded r (x.deeds whom told) here t
+    pub needed : laws.ActsNeeded r (x.deeds whom told) here t
     pub doing : (laws.after_all r (x.deeds whom told) here t).doing t ≡ (x.next told).doing
 
   station_is : station (place_at w t) ≡ station_of x
@@ -124,15 +124,15 @@ module _ (w : State) (t l : ℕ) (steady : IsSteady w) (there : t < length w.pla
     own_then = doing_here l p2 f.of ∙ ap (λ (y : Profile). y.doing) f.row ∙ sym f.doing
 
     -- by the names of its deeds
-    needed_by : (ds : List Deed) → x.deeds whom told ≡ ds → AllNeeded r (acts t ds) here
-    needed_by ds e = subst (λ ds. AllNeeded r (acts t ds) here) e (needed_same r (x.deeds whom told) here t f.needed)
+    needed_by : (ds : List Deed) → x.deeds whom told ≡ ds → ActsNeeded r (acts t ds) here
+    needed_by ds e = subst (λ ds. ActsNeeded r (acts t ds) here) e (needed_same r (x.deeds whom told) here t f.needed)
 
     own_by : (ds : List Deed) → x.deeds whom told ≡ ds → doing_on p2 l ≡ (after_acts r (acts t ds) here).doing t
     own_by ds e = own_then ∙ ap (λ ds. (laws.after_all r ds here t).doing t) e ∙ sym (ap (λ (s : Site). s.doing t) (after_same r ds here t))
 
   -- ---------------------------------------------------------------- the word
 
-  pub stays : (p p2 : Place) (op : Op) → l < length w.locks → Stays x → IsFollowed None (Value (word_at w l)) p2
+  pub stays : (p p2 : Place) (op : Op) → l < length w.locks → StaysPut x → IsFollowed None (Value (word_at w l)) p2
       → lock_in (operated w t p l op) (λ u. taken_at (place_at w u) l) ≡ (laws.after_all r (x.deeds None (Value (word_at w l))) here t).lock
       → apply op (word_at w l) ≡ code r (laws.after_all r (x.deeds None (Value (word_at w l))) here t)
       → Goes w (put (state_after_operation w t p l op) t p2) l (acts t (x.deeds None (Value (word_at w l))))
@@ -241,7 +241,7 @@ module _ (w : State) (t l : ℕ) (steady : IsSteady w) (there : t < length w.pla
         (there_is None (Parked true) p2 f ∙ parked ∙ sym (ap (λ (y : Station). record y { stands = Some Second; waits = Some want }) (station_is ∙ was))))
       where
         -- a pending writer that stands nowhere leaves nobody aside
-        nobody_aside : AllNeeded r (acts t (Case Aside ∷ [])) here → first_of (queue_at w (2 * l + 1)) ≡ None
+        nobody_aside : ActsNeeded r (acts t (Case Aside ∷ [])) here → first_of (queue_at w (2 * l + 1)) ≡ None
         nobody_aside needed = by_aside (first_of (queue_at w (2 * l + 1))) refl
           where
             by_aside : (o : Option ℕ) → first_of (queue_at w (2 * l + 1)) ≡ o → first_of (queue_at w (2 * l + 1)) ≡ None
@@ -277,8 +277,8 @@ module _ (w : State) (t l : ℕ) (steady : IsSteady w) (there : t < length w.pla
     pub waits : Waits move
     pub taken : profile (next_place (place_at w u) (TakenBy t)) ≡ move.next (TakenBy t)
     pub woken : profile (next_place (place_at w u) (Woken Normal)) ≡ move.next (Woken Normal)
-    pub taken_fits : CallsMutex w (next_place (place_at w u) (TakenBy t))
-    pub woken_fits : CallsMutex w (next_place (place_at w u) (Woken Normal))
+    pub taken_fits : FitsItsLock w (next_place (place_at w u) (TakenBy t))
+    pub woken_fits : FitsItsLock w (next_place (place_at w u) (Woken Normal))
 
   -- who has a part in the lock calls it
   by_calls : {A : Type 0} (p : Place) (g : Station → Option A) (y : A) → g nowhere ≡ None → g (station_at p l) ≡ Some y → (calls p l ≡ true) × (g (station p) ≡ Some y)

@@ -12,7 +12,7 @@ use Rattle.abstract_locks.specs.Sites.{Line, Main, Second, has_readers}
 use Rattle.abstract_locks.specs.Purposes.{Purpose, Enters, Releases, Converts, Bumps}
 use Rattle.lot_machine.specs.Machine.{State, place_at, word_at, kind_at}
 use Rattle.lot_world.specs.Refinement.{owner_at, lock_state, call_at}
-use Rattle.lot_world.specs.SitesOf.{is_mutex, rules_at}
+use Rattle.lot_world.specs.SitesOf.{is_mutex, rules_in}
 use Rattle.lot_world.specs.Owing.{Owes, IsInside, ReleasesLock, LetsOthersIn, SeesWaiters, OwesSince, line_let_in, tells_of, sort_at}
 use Rattle.lot_world.specs.Promises.{KnowsRights, WakesWaiters, IsKept, IsLookedAfter, IsOpenNow}
 use Rattle.lot_world.specs.MutexPromises.{HasDebtor, IsShownToOwe, GoesToRelease, SeesParkedBit, IsMutexKept, MutexesAreKept, OwesMutexSince, MutexesOwe}
@@ -48,7 +48,7 @@ lets_in_main (Some (Releases l x fair)) = refl
 lets_in_main q = refl
 
 module _ (w : State) (l : ℕ) (of_mutex : is_mutex (kind_at w l) ≡ true) where
-  rules : rules_at w l ≡ mutex
+  rules : rules_in w l ≡ mutex
   rules = mutex_rules (kind_at w l) of_mutex
 
   sort : sort_at w l ≡ locks.Mutex

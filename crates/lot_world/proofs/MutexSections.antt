@@ -16,7 +16,7 @@ use Rattle.lot_world.specs.Refinement.{lock_seen, taken_at}
 use Rattle.abstract_locks.specs.Picks.{queued_of}
 use Rattle.lot_world.specs.MutexDeeds.{mutex_doing, acts, queued}
 use Rattle.lot_world.specs.Stations.{hand, doing_on}
-use Rattle.lot_world.specs.SitesOf.{AllNeeded}
+use Rattle.lot_world.specs.SitesOf.{ActsNeeded}
 use Rattle.lot_world.proofs.Glue.{Base, seen, same, IsTakenAt, Untaken, untaken, hands_acts, handed_is, taken_there, IsMutexCall}
 use Rattle.lot_world.specs.SitesOf.{hand_at, Hands}
 use Rattle.lot_world.proofs.MutexTable.{mutex, own_doing}
@@ -34,7 +34,7 @@ module _ (l : ℕ) (n : Base) (w : ℕ) (o : Owners) (s rest : List Waiter) (x :
   pub first_wants : x.want ≡ Exclusive
   first_wants = exclusive_wanted x.want site.state.known_queue.0
 
-  pub take_needed : (d : Doing) → doing_on (p t) l ≡ d → ((u : ℕ) → Untaken t (taken_at (p u) l)) → d.inside ≡ Some Main → d.carries ≡ false → d.wakes ≢ Some Second → AllNeeded mutex (acts t (Case (TakeFirst (queued x.thread)) ∷ [])) (seen l n w o (x ∷ rest) s p)
+  pub take_needed : (d : Doing) → doing_on (p t) l ≡ d → ((u : ℕ) → Untaken t (taken_at (p u) l)) → d.inside ≡ Some Main → d.carries ≡ false → d.wakes ≢ Some Second → ActsNeeded mutex (acts t (Case (TakeFirst (queued x.thread)) ∷ [])) (seen l n w o (x ∷ rest) s p)
   take_needed d is none i c v = (
     (((map queued_of rest, λ j. (record { thread = x.thread; want = first_wants j }) ∷ map queued_of rest), taken_nobody l p t n o (x ∷ rest) s none, λ h. h), (rw is i, rw is c, rw is v)),
     tt,
@@ -73,7 +73,7 @@ module _ (l : ℕ) (n : Base) (w : ℕ) (o : Owners) (m s : List Waiter) (p : �
     λ h. let a = only_one y x h.0 in λ j. Some (record { thread = sym a.0 j; want = sym a.1 j }),
   )
 
-  pub hands_needed : (b : Bool) → none_left ≡ b → AllNeeded mutex (hands_acts mutex l n w o m s p one hands single mutexes t u bumps none_left refl site.state store held b) (seen l n w o m s p)
+  pub hands_needed : (b : Bool) → none_left ≡ b → ActsNeeded mutex (hands_acts mutex l n w o m s p one hands single mutexes t u bumps none_left refl site.state store held b) (seen l n w o m s p)
   hands_needed true f = (
     ((site.held t (Has Exclusive) (ap (λ (x : Doing). x.claims) d_is), (λ h. cc), successor, tt), (rw d_is refl, rw d_is refl, rw d_is refl, rw d_is refl)),
     (rw (same t, d_is, f) refl, (ap (λ (x : LockState). x.exclusive) (handed_is t n o m s p l (Some u) site.state), tt)),

@@ -20,7 +20,7 @@ use Rattle.lot_world.specs.Refinement.{taken_at}
 use Rattle.lot_world.specs.MutexDeeds.{acts}
 use Rattle.lot_world.specs.MutexDeeds as deeds
 use Rattle.lot_world.specs.Stations.{doing_on}
-use Rattle.lot_world.specs.SitesOf.{AllNeeded, AreOrdinary, IsOrdinary, after_acts}
+use Rattle.lot_world.specs.SitesOf.{ActsNeeded, AreOrdinary, IsOrdinary, after_acts}
 use Rattle.lot_world.proofs.Glue.{Parts, differ, lock_in, seen_in, put_here, put_other, put_of, put_same}
 
 -- ---------------------------------------------------------------- deeds of one thread
@@ -53,7 +53,7 @@ others_same r [] s t u h ne = refl
 others_same r (d ∷ ds) s t u h ne = others_same r ds (after_deed r d s t) t u h.1 ne ∙ others_same_by r d s t u h.0 ne
 
 -- deeds one after another keep a site
-pub acts_keep : (r : Rules) (ds : List deeds.Act) (s : Site) → IsSite r s → AllNeeded r ds s → IsSite r (after_acts r ds s)
+pub acts_keep : (r : Rules) (ds : List deeds.Act) (s : Site) → IsSite r s → ActsNeeded r ds s → IsSite r (after_acts r ds s)
 acts_keep r [] s h n = h
 acts_keep r (a ∷ more) s h n = acts_keep r more (after_deed r a.deed s a.by) (deed_keeps r a.deed s a.by h n.0) n.1
 
@@ -196,7 +196,7 @@ deed_limited r (Clear Main) s t n readers some e o site needed h = record { coun
 deed_limited r (Clear m) s t n readers some e o site needed h = record { count = refl; limit = h }
 deed_limited r d s t n readers some e o site needed h = record { count = refl; limit = record { top = h.top; normal = h.normal; falls = h.falls; falls_normal = h.falls_normal } }
 
-pub acts_limited : (r : Rules) (ds : List deeds.Act) (s : Site) (n : ℕ) → has_readers r.sort ≡ true → 1 ≤ r.limit → length s.lock.shared ≡ n → AreOrdinary n ds → IsSite r s → AllNeeded r ds s → HasLimit r s.lock → HasLimit r (after_acts r ds s).lock
+pub acts_limited : (r : Rules) (ds : List deeds.Act) (s : Site) (n : ℕ) → has_readers r.sort ≡ true → 1 ≤ r.limit → length s.lock.shared ≡ n → AreOrdinary n ds → IsSite r s → ActsNeeded r ds s → HasLimit r s.lock → HasLimit r (after_acts r ds s).lock
 acts_limited r [] s n readers some e o site needed h = h
 acts_limited r (a ∷ more) s n readers some e o site needed h =
     let k = deed_limited r a.deed s a.by n readers some e o.0 site needed.0 h in
@@ -236,10 +236,10 @@ meets r l b p t p2 v hand lock parked aside full own others = λ i. record {
 -- it goes from where it stands to p2, by deeds that are allowed, and the lock has these parts then
 pub record Steps (r : Rules) (l : ℕ) (a b : Parts) (p : ℕ → Place) (t : ℕ) (p2 : Place) (ds : List Deed) : Type 0 where
   pub site : seen_in r l b (putting p t p2) ≡ after_acts r (acts t ds) (seen_in r l a p)
-  pub needed : AllNeeded r (acts t ds) (seen_in r l a p)
+  pub needed : ActsNeeded r (acts t ds) (seen_in r l a p)
 
 -- where the laws of its sort say so: what each deed makes of the lock, of its bits, and of what the thread does
-pub steps_by : (r : Rules) (l : ℕ) (a b : Parts) (p : ℕ → Place) (t : ℕ) (p2 : Place) (ds : List Deed) → AllNeeded r (acts t ds) (seen_in r l a p) → AreSingle ds → taken_at (p t) l ≡ taken_at p2 l
+pub steps_by : (r : Rules) (l : ℕ) (a b : Parts) (p : ℕ → Place) (t : ℕ) (p2 : Place) (ds : List Deed) → ActsNeeded r (acts t ds) (seen_in r l a p) → AreSingle ds → taken_at (p t) l ≡ taken_at p2 l
     → lock_in b (λ u. taken_at (p u) l) ≡ (after_acts r (acts t ds) (seen_in r l a p)).lock → parked_in r.sort b.word ≡ (after_acts r (acts t ds) (seen_in r l a p)).parked → aside_in r.sort b.word ≡ (after_acts r (acts t ds) (seen_in r l a p)).aside_parked
     → b.base.filled ≡ (after_acts r (acts t ds) (seen_in r l a p)).filled → doing_on p2 l ≡ (after_acts r (acts t ds) (seen_in r l a p)).doing t → Steps r l a b p t p2 ds
 steps_by r l a b p t p2 ds needed single hand lock parked aside full own = record {

@@ -15,7 +15,7 @@ use Rattle.abstract_locks.specs.Sites.{Site, IsSite, opening_site, is_full, has_
 use Rattle.abstract_locks.proofs.LockKeeps.{opening_is_state}
 use Rattle.lot_machine.specs.Machine.{State, opening, unlocked, place_at, kind_at}
 use Rattle.lot_world.specs.Stations.{nowhere, station_at}
-use Rattle.lot_world.specs.SitesOf.{IsSteady, HasRoom, site_of, rules_at, key_of, carried_at, hand_at}
+use Rattle.lot_world.specs.SitesOf.{IsSteady, HasRoom, site_of, rules_in, key_of, carried_at, hand_at}
 use Rattle.lot_world.proofs.Glue.{past_all, seen_by}
 use Rattle.lot_machine.proofs.Opening.{idle_at, none_at, empty_at, nobody_owns, no_readers, opening_shares}
 use Rattle.lot_machine.proofs.Shape.{both}
@@ -119,7 +119,7 @@ module _ (kinds : List Kind) (threads : ℕ) where
   ])
 
   opening_seen : (l : ℕ) → site_of first l ≡ opening_site (length first.places)
-  opening_seen l = (λ i. seen_by (rules_at first l) l (record { shared = opening_shares kinds threads l i; filled = unfilled_0 kinds l i }) (word_0 kinds l i) (nobody_owns kinds l i) (empty_at (2 * length kinds) (2 * l) i) (empty_at (2 * length kinds) (2 * l + 1) i) (λ u. idle_at threads u i)) ∙ no_bits (rules_at first l).sort (length first.places)
+  opening_seen l = (λ i. seen_by (rules_in first l) l (record { shared = opening_shares kinds threads l i; filled = unfilled_0 kinds l i }) (word_0 kinds l i) (nobody_owns kinds l i) (empty_at (2 * length kinds) (2 * l) i) (empty_at (2 * length kinds) (2 * l + 1) i) (λ u. idle_at threads u i)) ∙ no_bits (rules_in first l).sort (length first.places)
 
   stands_nowhere : (t l : ℕ) → station_at (place_at first t) l ≡ nowhere
   stands_nowhere t l = ap (λ p. station_at p l) (idle_at threads t)
@@ -130,10 +130,10 @@ module _ (kinds : List Kind) (threads : ℕ) where
   pub opening_steady : 1 ≤ threads → All (λ k. fits k threads ≡ true) kinds → IsSteady first
   opening_steady some fit = record {
     sites = record {
-      site = λ l. rw (opening_seen l) (rw size (opening_is_site (rules_at first l) threads (room (kind_at first l) threads some (kinds_fit fit l))));
-      word = λ l. word_0 kinds l ∙ sym (ap (code (rules_at first l)) (opening_seen l) ∙ zero_code (kind_at first l) (length first.places));
+      site = λ l. rw (opening_seen l) (rw size (opening_is_site (rules_in first l) threads (room (kind_at first l) threads some (kinds_fit fit l))));
+      word = λ l. word_0 kinds l ∙ sym (ap (code (rules_in first l)) (opening_seen l) ∙ zero_code (kind_at first l) (length first.places));
       unfilled = λ l h. unfilled_0 kinds l;
-      limits = λ l h. (roomy (kind_at first l) threads some (kinds_fit fit l) h, rw (ap (λ (s : Site). s.lock) (opening_seen l)) (rw size (opening_limit (rules_at first l) threads)));
+      limits = λ l h. (roomy (kind_at first l) threads some (kinds_fit fit l) h, rw (ap (λ (s : Site). s.lock) (opening_seen l)) (rw size (opening_limit (rules_in first l) threads)));
     };
     numbers = record {
       locks = length-replicate (length kinds) (replicate threads 0) ∙ sym (length-map kinds unlocked);

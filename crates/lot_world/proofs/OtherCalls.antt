@@ -39,7 +39,7 @@ use Rattle.abstract_locks.specs.Deeds.{event_by}
 use Rattle.lot_machine.specs.Machine.{State, queue_at, place_at, put, state_after_act, state_after_telling, state_after_taking, state_with_sections, places_told, place_after_telling}
 use Rattle.lot_world.specs.Refinement.{call_state, taken_at}
 use Rattle.lot_world.specs.Stations.{Station, hand, station, nowhere}
-use Rattle.lot_world.specs.SitesOf.{IsSteady, carried_at, hand_at, CallsMutex}
+use Rattle.lot_world.specs.SitesOf.{IsSteady, carried_at, hand_at, FitsItsLock}
 use Rattle.lot_world.proofs.AtPlaces.{unless_held}
 use Rattle.lot_world.proofs.Glue.{IsLock, IsOf, IsTakenAt, IsHandedAt, is_taken, is_handed, held_where, held_taker, station_elsewhere, same, put_of, put_same, set_puts, past_all}
 use Rattle.lot_world.proofs.CallEvents.{Happens, IsNoHandOff, Others}
@@ -162,7 +162,7 @@ waits_so a (purpose.Release x) again (at.Aside to) t stands h = absurd stands
 waits_so a (purpose.Release x) again to t stands h = absurd cc
 
 -- so it is taken there by the one in whose hand it is
-taken_by_hand : (w : State) (p : Place) (t l : ℕ) → CallsMutex w p → hand_at p l ≡ hand t false → is_taken_by t (taken_at p l) ≡ true
+taken_by_hand : (w : State) (p : Place) (t l : ℕ) → FitsItsLock w p → hand_at p l ≡ hand t false → is_taken_by t (taken_at p l) ≡ true
 taken_by_hand w Idle t l calls h = absurd (let none : hand_at Idle l ≡ None = refl in cc)
 taken_by_hand w (Mutex k at) t l calls h = by_place (Mutex k at) (is_taken (Mutex k at) t l tt h)
   where

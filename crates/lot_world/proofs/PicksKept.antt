@@ -24,7 +24,7 @@ use Rattle.lot_machine.proofs.QueueLemmas.{told_count}
 use Rattle.lot_world.specs.Refinement.{taken_at}
 use Rattle.lot_world.specs.MutexDeeds.{acts}
 use Rattle.lot_world.specs.Stations.{Station, station, doing_on}
-use Rattle.lot_world.specs.SitesOf.{AllNeeded, AreWaiting, TakesOne, IsSteady, Goes, CallsMutex, after_acts, rules_at, key_of}
+use Rattle.lot_world.specs.SitesOf.{ActsNeeded, AreWaiting, TakesOne, IsSteady, Goes, FitsItsLock, after_acts, rules_in, key_of}
 use Rattle.lot_world.proofs.Glue.{put_places, same, station_here, IsOf}
 use Rattle.lot_world.proofs.OneStep.{noted}
 use Rattle.lot_world.proofs.ActsKept.{lock_by, site_by}
@@ -107,8 +107,8 @@ module _ (sort : Sort) (start : Option Want) (key : ℕ) (q : List Waiter) (unde
   pub left_tied : map queued_of (without_lock_picked start (is_recursive sort) key q) ≡ locks.unpicked sort start (map queued_of q)
   left_tied = ap (map queued_of) (sym (line_all key _ (under_left key (lock_picker start (is_recursive sort)) q under))) ∙ (pickers_pick sort start key q).left ∙ ap (λ y. locks.unpicked sort start (map queued_of y)) (line_all key q under)
 
-module _ (w : State) (t l : ℕ) (steady : IsSteady w) (own : IsOf l (place_at w t)) (there : t < length w.places) (p2 : Place) (of : IsOf l p2) (fits : CallsMutex w p2) (many : TakesOne w l → ⊥)
-    (out : (station (place_at w t)).stands ≡ None) (free : (station (place_at w t)).hand ≡ None) (bare : (station (place_at w t)).carries ≡ None) (r : Rules) (rules : rules_at w l ≡ r) (none : taken_at (place_at w t) l ≡ None) (none2 : taken_at p2 l ≡ None)
+module _ (w : State) (t l : ℕ) (steady : IsSteady w) (own : IsOf l (place_at w t)) (there : t < length w.places) (p2 : Place) (of : IsOf l p2) (fits : FitsItsLock w p2) (many : TakesOne w l → ⊥)
+    (out : (station (place_at w t)).stands ≡ None) (free : (station (place_at w t)).hand ≡ None) (bare : (station (place_at w t)).carries ≡ None) (r : Rules) (rules : rules_in w l ≡ r) (none : taken_at (place_at w t) l ≡ None) (none2 : taken_at p2 l ≡ None)
     (inside : (station p2).inside ≡ (station (place_at w t)).inside) (stands : (station p2).stands ≡ None) (unheld : (station p2).hand ≡ None) where
   past : (n : ℕ) → n ≡ length w.places → n ≤ t → p2 ≡ Idle
   past n e h = absurd (omega arith)
@@ -125,7 +125,7 @@ module _ (w : State) (t l : ℕ) (steady : IsSteady w) (own : IsOf l (place_at w
     under = under_of (place_at w) l Main (queue_at w (2 * l)) (steady.stands.waits l Main)
 
     pub picked_goes : ((u : ℕ) → member u picks ≡ true → IsTakenFrom w t l Main (place_at w u))
-        → ((b : Bool) → (station p2).carries ≡ Some b → (b ≡ false) × ((u : ℕ) × (member u picks ≡ true))) → ((u : ℕ) → member u picks ≡ true → (station p2).carries ≡ Some false) → AllNeeded r (acts t (Case (TakePicked start) ∷ [])) (lock_by w l r)
+        → ((b : Bool) → (station p2).carries ≡ Some b → (b ≡ false) × ((u : ℕ) × (member u picks ≡ true))) → ((u : ℕ) → member u picks ≡ true → (station p2).carries ≡ Some false) → ActsNeeded r (acts t (Case (TakePicked start) ∷ [])) (lock_by w l r)
         → doing_on p2 l ≡ (after_acts r (acts t (Case (TakePicked start) ∷ [])) (lock_by w l r)).doing t → Goes w (put (state_after_take w t (2 * l) (whom.TheVariants.Picked start (is_recursive r.sort))) t p2) l (acts t (Case (TakePicked start) ∷ []))
     picked_goes sleeps some full needed own_is = take_goes w t l steady own there p2 of fits many Main picks rest
         (record { counts = λ u. picked_counts u (2 * l) (lock_picker start (is_recursive r.sort)) (queue_at w (2 * l)) under; sleeps = sleeps; lefts = waiting_left (place_at w) l Main (lock_picker start (is_recursive r.sort)) (queue_at w (2 * l)) (steady.stands.waits l Main); wants = wants_held w t l Main picks (waiting_picked (place_at w) l Main (lock_picker start (is_recursive r.sort)) (queue_at w (2 * l)) (steady.stands.waits l Main)) sleeps }) out free bare r rules none none2 v refl refl refl threads places
@@ -146,7 +146,7 @@ module _ (w : State) (t l : ℕ) (steady : IsSteady w) (own : IsOf l (place_at w
 
   -- the writer aside
   module _ (x : Waiter) (first : queue_at w (2 * l + 1) ≡ x ∷ []) (writes : x.want ≡ Exclusive) (some_line : 2 * l + 1 < length w.queues) where
-    pub aside_goes : IsTakenFrom w t l Second (place_at w x.thread) → (station p2).carries ≡ Some false → AllNeeded r (acts t (Case (TakeAside x.thread) ∷ [])) (lock_by w l r)
+    pub aside_goes : IsTakenFrom w t l Second (place_at w x.thread) → (station p2).carries ≡ Some false → ActsNeeded r (acts t (Case (TakeAside x.thread) ∷ [])) (lock_by w l r)
         → doing_on p2 l ≡ (after_acts r (acts t (Case (TakeAside x.thread) ∷ [])) (lock_by w l r)).doing t → Goes w (put (state_after_reply (record w { queues = queues_without_first w.queues (2 * l + 1) }) x.thread (TakenBy t)) t p2) l (acts t (Case (TakeAside x.thread) ∷ []))
     aside_goes sleeps carries needed own_is = take_goes w t l steady own there p2 of fits many Second (x ∷ []) []
         (record { counts = λ u. let a : times u (queue_at w (2 * l + 1)) ≡ times u (x ∷ []) = ap (times u) first in omega arith; sleeps = λ u h. one_sleeps u (x.thread == u) refl h; lefts = tt; wants = wants_held w t l Second (x ∷ []) (subst (AreWaiting (place_at w) l Second) first (steady.stands.waits l Second)) (λ u h. one_sleeps u (x.thread == u) refl h) }) out free bare r rules none none2 v refl refl refl threads places

@@ -17,7 +17,7 @@ use Rattle.abstract_locks.specs.Sites.{Doing, Line, Main, Second, Pends, idle, h
 use Rattle.lot_machine.specs.Machine.{State, place_at, kind_at, queue_at}
 use Rattle.lot_world.specs.Refinement.{lock_state, call_on, call_at, taken_at}
 use Rattle.lot_world.specs.Stations.{Station, nowhere, station, station_at, doing_on}
-use Rattle.lot_world.specs.SitesOf.{IsSteady, CallsMutex, key_of, stood_in, rules_at}
+use Rattle.lot_world.specs.SitesOf.{IsSteady, FitsItsLock, key_of, stood_in, rules_in}
 use Rattle.lot_world.specs.Owing.{Owes, IsInside, LetsOthersIn, IsDowngrade, sort_at}
 use Rattle.lot_world.specs.Promises.{GoesToWake}
 use Rattle.lot_world.proofs.Counts.{none_first}
@@ -103,14 +103,14 @@ module _ (w : State) (t : ℕ) (steady : IsSteady w) where
       by_place Idle is own = absurd cc
       by_place (Mutex k at) is own =
           let here : k ≡ l = cc in
-          let admitted : CallsMutex w (Mutex k at) = rw is at (steady.stands.calls t) in
+          let admitted : FitsItsLock w (Mutex k at) = rw is at (steady.stands.calls t) in
           let sort : locks.Mutex ≡ sort_at w k = sym (ap (λ r. r.sort) (mutex_rules (kind_at w k) admitted)) in
           subst (λ j. RowPromises (sort_at w j) j (profile (Mutex k at)) (act_of (Mutex k at))) here
           (subst (λ s. RowPromises s k (profile (Mutex k at)) (act_of (Mutex k at))) sort (mutex_promises k at))
       by_place (RwLock k a at) is own =
           let here : k ≡ l = cc in
-          let admitted : CallsMutex w (RwLock k a at) = rw is at (steady.stands.calls t) in
-          subst (λ j. RowPromises (sort_at w j) j (profile (RwLock k a at)) (act_of (RwLock k a at))) here (rwlock_promises (rules_at w k) a k at admitted.0 admitted.1)
+          let admitted : FitsItsLock w (RwLock k a at) = rw is at (steady.stands.calls t) in
+          subst (λ j. RowPromises (sort_at w j) j (profile (RwLock k a at)) (act_of (RwLock k a at))) here (rwlock_promises (rules_in w k) a k at admitted.0 admitted.1)
 
   -- ---------------------------------------------------------------- where it stands
 

@@ -15,7 +15,7 @@ use Rattle.lot_machine.specs.Machine.{State, place_at, word_at, go_reply, go_out
 use Rattle.abstract_locks.specs.Locks as locks
 use Rattle.lot_world.specs.Owing.{sort_at}
 use Rattle.abstract_locks.specs.Sites.{Line}
-use Rattle.lot_world.specs.SitesOf.{IsSteady, CallsMutex}
+use Rattle.lot_world.specs.SitesOf.{IsSteady, FitsItsLock}
 use Rattle.lot_world.proofs.RowPromises.{Befalls, RowOwesNext, IsLateNext}
 use Rattle.lot_world.proofs.MutexOwing.{mutex_befallen, mutex_owes_next, mutex_first_owes, mutex_late}
 use Rattle.lot_world.proofs.StandsMoved.{mutex_rules}
@@ -40,13 +40,13 @@ owes_next w t l steady own = by_place (place_at w t) refl own
     by_place Idle is own = absurd cc
     by_place (Mutex k at) is own =
         let here : k ≡ l = cc in
-        let admitted : CallsMutex w (Mutex k at) = rw is at (steady.stands.calls t) in
+        let admitted : FitsItsLock w (Mutex k at) = rw is at (steady.stands.calls t) in
         let sort : locks.Mutex ≡ sort_at w k = sym (ap (λ r. r.sort) (mutex_rules (kind_at w k) admitted)) in
         subst (λ j. RowOwesNext (sort_at w j) j (word_at w j) (profile (Mutex k at)) (outcome_of (next_act (Mutex k at) (reply_to w t (mutex_act k at)))) (profile (next_place (Mutex k at) (reply_to w t (mutex_act k at))))) here
         (subst (λ s. RowOwesNext s k (word_at w k) (profile (Mutex k at)) (outcome_of (next_act (Mutex k at) (reply_to w t (mutex_act k at)))) (profile (next_place (Mutex k at) (reply_to w t (mutex_act k at))))) sort (mutex_owes_next w t steady k at is))
     by_place (RwLock k a at) is own =
         let here : k ≡ l = cc in
-        let admitted : CallsMutex w (RwLock k a at) = rw is at (steady.stands.calls t) in
+        let admitted : FitsItsLock w (RwLock k a at) = rw is at (steady.stands.calls t) in
         subst (λ j. RowOwesNext (sort_at w j) j (word_at w j) (profile (RwLock k a at)) (outcome_of (next_act (RwLock k a at) (reply_to w t (rwlock_act k a at)))) (profile (next_place (RwLock k a at) (reply_to w t (rwlock_act k a at))))) here
         (rwlock_owes_next w t k a admitted.0 at admitted.1)
 

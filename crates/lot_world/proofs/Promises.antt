@@ -10,7 +10,7 @@ use Rattle.lot_steps.specs.Steps.{act_of, is_lock, lock_of, profile, retries_on}
 use Rattle.lot_machine.specs.Machine.{State, opening, place_at, after, kind_at, filled_at}
 use Rattle.lot_machine.specs.Fits.{IsShaped}
 use Rattle.lot_world.specs.Stations.{Station, station_at, doing_on}
-use Rattle.lot_world.specs.SitesOf.{IsSteady, rules_at}
+use Rattle.lot_world.specs.SitesOf.{IsSteady, rules_in}
 use Rattle.abstract_locks.specs.Runs.{CallState, IsOpening}
 use Rattle.abstract_locks.specs.Locks.{LockState, Sort, Rights, Taken, opening_lock, IsSomePending, rights_of, readers, standing}
 use Rattle.abstract_locks.specs.Locks as sorts
@@ -120,7 +120,7 @@ module _ (w : State) (steady : IsSteady w) where
       by_sort true e = full e
       by_sort false e = steady.sites.unfilled l e
 
-  main : (t l : ℕ) → WaitsFor w t l → IsOpenNow (rules_at w l) (lock_state w l) → WasNeverFull w l → IsLookedAfter w l Main
+  main : (t l : ℕ) → WaitsFor w t l → IsOpenNow (rules_in w l) (lock_state w l) → WasNeverFull w l → IsLookedAfter w l Main
   main t l waiting open_now full =
       let now : IsOpen (sort_at w l) (lock_state w l) = elim open_now [ inl is ↦ is | inr other ↦ absurd (unbuilt (kind_at w l) other.0) ] in
       let free = open_unowned (sort_at w l) (lock_state w l) now in

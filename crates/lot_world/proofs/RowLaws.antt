@@ -1,7 +1,7 @@
 -- One run of the world, and what its definitions refuse.
 use Rattle.std.proofs.Common.{ℕ, zero, suc, true, Some, None, ◌≡◌, inl, inr, [], ◌∷◌, refl, sym, ◌∙◌, arith, Option}
 use Rattle.lot_calls.specs.declared.kinds.Kind.TheVariants as kind
-use Rattle.lot_machine.specs.Machine.{after_all}
+use Rattle.lot_machine.specs.Machine.{after_steps}
 use Rattle.abstract_locks.specs.Sites.{Line, Main}
 use Rattle.lot_world.specs.Promises.{IsLookedAfter}
 use Rattle.lot_world.specs.Laws.{FairUnlockHandsOver, NoWaiterIsForgotten, NobodyIsPassedOver, three, row, row_told, forgotten}
@@ -16,7 +16,7 @@ three_hold = holds_of three (opening_shaped (kind.Mutex ∷ []) 3 (omega arith))
 
 pub hands_over : FairUnlockHandsOver
 hands_over = record {
-  run = run_refines three (after_all three row) row row_told (world_run three row three_hold);
+  run = run_refines three (after_steps three row) row row_told (world_run three row three_hold);
   owner = refl;
   queue = refl;
   word = refl;

@@ -42,7 +42,7 @@ use Rattle.abstract_locks.proofs.CodeLaws.{words_tell_true}
 use Rattle.lot_steps.specs.declared.places.Place.TheVariants.{RwLock}
 use Rattle.lot_machine.specs.Machine.{State, go_of, place_at, word_at, queue_at, solo}
 use Rattle.lot_world.specs.Refinement.{lock_state, locks_of, call_at, call_state}
-use Rattle.lot_world.specs.SitesOf.{IsSteady, key_of, rules_at, site_of}
+use Rattle.lot_world.specs.SitesOf.{IsSteady, key_of, rules_in, site_of}
 use Rattle.lot_world.specs.Stations.{doing_on}
 use Rattle.lot_world.specs.Solo.{EntersAlone, EndsAlone, ReleasesAlone, ConvertsAlone, MayEnterAtOnce, WaitsAlone, WaitsForReaders, SleepsAside, IsSoloRun, entered_answer}
 use Rattle.lot_world.proofs.Glue.{put_here, same}
@@ -59,9 +59,9 @@ same_answer Try = refl
 
 -- ---------------------------------------------------------------- what a thread decides, by the lock as it is
 
-module _ (w : State) (l : ℕ) (a : Admission) (steady : IsSteady w) (admits : Admits (rules_at w l) a) where
+module _ (w : State) (l : ℕ) (a : Admission) (steady : IsSteady w) (admits : Admits (rules_in w l) a) where
   abbrev r : Rules
-  r = rules_at w l
+  r = rules_in w l
 
   abbrev s : LockState
   s = lock_state w l
@@ -116,7 +116,7 @@ module _ (w : State) (l : ℕ) (a : Admission) (steady : IsSteady w) (admits : A
 
 -- ---------------------------------------------------------------- a call from its beginning
 
-module _ (w : State) (t l : ℕ) (a : Admission) (steady : IsSteady w) (admits : Admits (rules_at w l) a) (v2 : State) (x : Outcome) (run : IsSoloRun w t x v2) where
+module _ (w : State) (t l : ℕ) (a : Admission) (steady : IsSteady w) (admits : Admits (rules_in w l) a) (v2 : State) (x : Outcome) (run : IsSoloRun w t x v2) where
   small : word_at w l < 2 ^ 64
   small = word_small w l steady admits.0
 
@@ -171,7 +171,7 @@ module _ (w : State) (t l : ℕ) (a : Admission) (steady : IsSteady w) (admits :
     barred = λ b. barred_by y how at.Load (subst (λ d. Decides t l a d (looking (purpose.Enter y how) at.Load) (word_at w l) queues v2 x) (waits w l a steady admits y how b) h);
   }
     where
-      may_enter : (y : Access) → wanted y ≢ Exclusive → MayEnterAtOnce (word_at w l ≡ 0) (rules_at w l) (lock_state w l) (wanted y) how → MayEnter (rules_at w l) (lock_state w l) (wanted y)
+      may_enter : (y : Access) → wanted y ≢ Exclusive → MayEnterAtOnce (word_at w l ≡ 0) (rules_in w l) (lock_state w l) (wanted y) how → MayEnter (rules_in w l) (lock_state w l) (wanted y)
       may_enter access.Shared ne may = may
       may_enter access.Upgradable ne may = may
       may_enter access.Exclusive ne may = absurd (ne refl)
@@ -219,19 +219,19 @@ module _ (w : State) (t l : ℕ) (a : Admission) (steady : IsSteady w) (admits :
 
   -- a writer that finds a word that isn't clear
   module _ (how : Patience) (h : Decides t l a (decision a Exclusive how (word_at w l)) (writer how) (word_at w l) queues v2 x) where
-    settles : MayEnter (rules_at w l) (lock_state w l) Exclusive → Settles t l a (count_in (plus (word_at w l) 8) == 0) (looking (purpose.Enter access.Exclusive how) at.Look) queues v2 x
+    settles : MayEnter (rules_in w l) (lock_state w l) Exclusive → Settles t l a (count_in (plus (word_at w l) 8) == 0) (looking (purpose.Enter access.Exclusive how) at.Look) queues v2 x
     settles may = subst (λ d. Decides t l a d (writer how) (word_at w l) queues v2 x) (takes w l a steady admits access.Exclusive how may) h
 
-    nobody_writes : MayEnter (rules_at w l) (lock_state w l) Exclusive → NoWriter (lock_state w l)
-    nobody_writes may = no_writer (rules_at w l).sort (rules_at w l).limit admits.0 may.0.1
+    nobody_writes : MayEnter (rules_in w l) (lock_state w l) Exclusive → NoWriter (lock_state w l)
+    nobody_writes may = no_writer (rules_in w l).sort (rules_in w l).limit admits.0 may.0.1
 
-    counts : MayEnter (rules_at w l) (lock_state w l) Exclusive → count_in (plus (word_at w l) 8) ≡ readers (lock_state w l)
+    counts : MayEnter (rules_in w l) (lock_state w l) Exclusive → count_in (plus (word_at w l) 8) ≡ readers (lock_state w l)
     counts may = as_many (free_is w l a steady admits Exclusive may.0) ∙ counted w l a steady admits ∙ no_upgradable (nobody_writes may)
 
-    settles_alone : MayEnter (rules_at w l) (lock_state w l) Exclusive → readers (lock_state w l) ≡ 0 → x ≡ outcome.End (entered how)
+    settles_alone : MayEnter (rules_in w l) (lock_state w l) Exclusive → readers (lock_state w l) ≡ 0 → x ≡ outcome.End (entered how)
     settles_alone may none = subst (λ (b : Bool). Settles t l a b (looking (purpose.Enter access.Exclusive how) at.Look) queues v2 x) (ap (λ n. n == 0) (counts may ∙ none)) (settles may)
 
-    settles_aside : MayEnter (rules_at w l) (lock_state w l) Exclusive → 1 ≤ readers (lock_state w l) → (x ≡ outcome.Sleep) × ((lock_state v2 l).aside ≡ Some t)
+    settles_aside : MayEnter (rules_in w l) (lock_state w l) Exclusive → 1 ≤ readers (lock_state w l) → (x ≡ outcome.Sleep) × ((lock_state v2 l).aside ≡ Some t)
     settles_aside may some = let g : Sleeps t l a Second (writer how) queues v2 x = subst (λ (b : Bool). Settles t l a b (looking (purpose.Enter access.Exclusive how) at.Look) queues v2 x) left (settles may) in
         (g.0, sleeps_aside Exclusive (nobody_aside (nobody_writes may).1) g.1)
       where
@@ -242,7 +242,7 @@ module _ (w : State) (t l : ℕ) (a : Admission) (steady : IsSteady w) (admits :
   clear_reads : (word_at w l == 0) ≡ true → readers (lock_state w l) ≡ 0
   clear_reads e = let z : word_at w l ≡ 0 = eqb-true (word_at w l) 0 e in let c : 0 ≡ count (lock_state w l) = sym (ap count_in z) ∙ counted w l a steady admits in omega arith
 
-  clear_free : (word_at w l == 0) ≡ true → IsBlocked (rules_at w l) (lock_state w l) Exclusive → ⊥
+  clear_free : (word_at w l == 0) ≡ true → IsBlocked (rules_in w l) (lock_state w l) Exclusive → ⊥
   clear_free e b = let z : word_at w l ≡ 0 = eqb-true (word_at w l) 0 e in let f : false ≡ true = sym (ap (is_blocked a.recursive Exclusive) z) ∙ blocked_is w l a steady admits Exclusive b in cc
 
   -- who is to own alone tries a clear word first
@@ -395,7 +395,7 @@ module _ (w : State) (t l : ℕ) (a : Admission) (steady : IsSteady w) (admits :
       by_how Timed ne h = h
 
 -- each call, from its beginning
-pub rwlock_alone : (w : State) (t l : ℕ) (a : Admission) (c : RwLockCall) (n : ℕ) (last : Outcome) → 11 ≤ n → IsSteady w → Admits (rules_at w l) a → place_at w t ≡ RwLock l a (rwlock_first c) → StepsAlone w t l (RwLock l a (rwlock_first c)) (word_at w l) (λ m. queue_at w (key_of l m))
+pub rwlock_alone : (w : State) (t l : ℕ) (a : Admission) (c : RwLockCall) (n : ℕ) (last : Outcome) → 11 ≤ n → IsSteady w → Admits (rules_in w l) a → place_at w t ≡ RwLock l a (rwlock_first c) → StepsAlone w t l (RwLock l a (rwlock_first c)) (word_at w l) (λ m. queue_at w (key_of l m))
     → IsSoloRun w t (solo n w t last).outcome (solo n w t last).state → EndsAlone w t (Some (rwlock_purpose l c)) (solo n w t last).outcome (solo n w t last).state
 rwlock_alone w t l a c n last le steady admits is f run = by_call c is f
   where

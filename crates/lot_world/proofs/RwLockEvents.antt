@@ -41,7 +41,7 @@ use Rattle.lot_machine.specs.Fits.{IsShaped}
 use Rattle.lot_machine.proofs.Shape.{performed_counts}
 use Rattle.lot_world.specs.MutexDeeds.{acts}
 use Rattle.lot_world.specs.Refinement.{call_state, lock_state, locks_of, taken_at}
-use Rattle.lot_world.specs.SitesOf.{CallsMutex, Goes, IsSteady, carried_at, rules_at}
+use Rattle.lot_world.specs.SitesOf.{FitsItsLock, Goes, IsSteady, carried_at, rules_in}
 use Rattle.lot_world.specs.Stations.{station}
 use Rattle.lot_world.proofs.AtPlaces.{in_no_hand}
 use Rattle.lot_world.proofs.CallEvents.{Happens, LeadsTo, OthersFollow, goes_by, happens, others_follow}
@@ -85,11 +85,11 @@ module _ (w : State) (t l : ℕ) (a : Admission) (p : RwLockPlace) (steady : IsS
   rests : (q : RwLockPlace) → place_at behind t ≡ RwLock l a q → (outcome_of (rwlock_act l a q) ≡ outcome.Step) ⊎ ((outcome_of (rwlock_act l a q) ≡ outcome.Sleep) × (1 ≤ standing t (lock_state behind l)))
   rests q e = by_act (rwlock_act l a q) (rwlock_acts_move l a q fits.1) promises.acts promises.asleep
     where
-      fits : CallsMutex behind (RwLock l a q)
-      fits = subst (CallsMutex behind) e (happens_so.after.stands.calls t)
+      fits : FitsItsLock behind (RwLock l a q)
+      fits = subst (FitsItsLock behind) e (happens_so.after.stands.calls t)
 
-      promises : RowPromises (rules_at behind l).sort l (rwlock_profile a q) (rwlock_act l a q)
-      promises = rwlock_promises (rules_at behind l) a l q fits.0 fits.1
+      promises : RowPromises (rules_in behind l).sort l (rwlock_profile a q) (rwlock_act l a q)
+      promises = rwlock_promises (rules_in behind l) a l q fits.0 fits.1
 
       waits : IsWaiting (rwlock_profile a q) ⊎ WasHanded (rwlock_profile a q) → IsWaiting (rwlock_profile a q)
       waits (inl h) = h

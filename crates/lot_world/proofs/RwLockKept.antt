@@ -23,7 +23,7 @@ use Rattle.lot_acts.specs.declared.acts.Reply.TheVariants.{Done, Value, Parked, 
 use Rattle.lot_acts.specs.declared.acts.Wakes.{Wakes}
 use Rattle.lot_acts.specs.declared.acts.Whom as whom
 use Rattle.lot_acts.specs.Acts.{holds, wakes_taken}
-use Rattle.lot_acts.specs.Moves.{Stays, GoesIn, GoesOut, Parks, Picks, TakesAside, LeavesLine, Moves, AreOfWord, AreLeaving, parks_in, takes_aside, row_of}
+use Rattle.lot_acts.specs.Moves.{StaysPut, GoesIn, GoesOut, Parks, Picks, TakesAside, LeavesLine, Moves, AreOfWord, AreLeaving, parks_in, takes_aside, row_of}
 use Rattle.lot_acts.specs.Profiles.{Profile, in_hand}
 use Rattle.lot_acts.specs.Stations.{Station}
 use Rattle.lot_acts.specs.Owners.{lock_seen, shares_then}
@@ -64,7 +64,7 @@ use Rattle.lot_machine.proofs.Shape.{main_key_there}
 use Rattle.lot_world.specs.Refinement.{taken_at}
 use Rattle.lot_world.specs.MutexDeeds.{acts}
 use Rattle.lot_world.specs.Stations.{station, doing_on}
-use Rattle.lot_world.specs.SitesOf.{IsSteady, Goes, CallsMutex, TakesOne, HasRoom, is_mutex, rules_at, key_of}
+use Rattle.lot_world.specs.SitesOf.{IsSteady, Goes, FitsItsLock, TakesOne, HasRoom, is_mutex, rules_in, key_of}
 use Rattle.lot_world.proofs.Glue.{IsOf, next_of, parts_at, put_here, doing_here}
 use Rattle.lot_world.proofs.StandsMoved.{mutex_rules}
 use Rattle.lot_world.proofs.ActsKept.{lock_by, place_goes}
@@ -207,10 +207,10 @@ left_wakes ds h = absurd h
 -- ---------------------------------------------------------------- one thread
 
 module _ (w : State) (t l : ℕ) (a : Admission) (p : RwLockPlace) (steady : IsSteady w) (shape : IsShaped w) (there : t < length w.places) (lt : l < length w.locks) (is : place_at w t ≡ RwLock l a p) where
-  fits_now : CallsMutex w (RwLock l a p)
-  fits_now = subst (CallsMutex w) is (steady.stands.calls t)
+  fits_now : FitsItsLock w (RwLock l a p)
+  fits_now = subst (FitsItsLock w) is (steady.stands.calls t)
 
-  admits : Admits (rules_at w l) a
+  admits : Admits (rules_in w l) a
   admits = fits_now.0
 
   stands : MayStand a p
@@ -223,60 +223,60 @@ module _ (w : State) (t l : ℕ) (a : Admission) (p : RwLockPlace) (steady : IsS
   same_row = ap profile is
 
   abbrev here : Site
-  here = lock_by w l (rules_at w l)
+  here = lock_by w l (rules_in w l)
 
-  site : IsSite (rules_at w l) here
+  site : IsSite (rules_in w l) here
   site = steady.sites.site l
 
   doing_now : here.doing t ≡ rwlock_doing p
   doing_now = doing_here l (place_at w t) own ∙ ap (λ (y : Profile). y.doing) same_row
 
-  at_now : IsAt (rules_at w l) a here t p
-  at_now = is_at (rules_at w l) a here t p admits site doing_now stands (rw (steady.numbers.threads l) there)
+  at_now : IsAt (rules_in w l) a here t p
+  at_now = is_at (rules_in w l) a here t p admits site doing_now stands (rw (steady.numbers.threads l) there)
 
   -- what its laws conclude
   abbrev Followed : Option ℕ → Reply → Type 0
-  Followed whom told = IsFollowed w t l steady there own (rules_at w l) refl admits.0 (rwlock_move a p) same_row whom told (next_place (place_at w t) told)
+  Followed whom told = IsFollowed w t l steady there own (rules_in w l) refl admits.0 (rwlock_move a p) same_row whom told (next_place (place_at w t) told)
 
-  followed_by : (whom : Option ℕ) (told : Reply) → laws.AllNeeded (rules_at w l) (rwlock_deeds a p whom told) here t → (laws.after_all (rules_at w l) (rwlock_deeds a p whom told) here t).doing t ≡ doing_next (rwlock_next a p told) → MayBeTold a p p.at told → Followed whom told
+  followed_by : (whom : Option ℕ) (told : Reply) → laws.AllNeeded (rules_in w l) (rwlock_deeds a p whom told) here t → (laws.after_all (rules_in w l) (rwlock_deeds a p whom told) here t).doing t ≡ doing_next (rwlock_next a p told) → MayBeTold a p p.at told → Followed whom told
   followed_by whom told needed does may = record {
     of = next_of l (place_at w t) told own;
-    fits = subst (λ q. CallsMutex w (next_place q told)) (sym is) (by_next (rwlock_next a p told) (rwlock_calls_stand a p told stands may));
+    fits = subst (λ q. FitsItsLock w (next_place q told)) (sym is) (by_next (rwlock_next a p told) (rwlock_calls_stand a p told stands may));
     row = ap (λ q. profile (next_place q told)) is ∙ next_is l a (rwlock_next a p told);
     needed = needed;
     doing = does ∙ doing_is a (rwlock_next a p told);
   }
     where
-      by_next : (n : Next RwLockPlace) → MayStandNext a n → CallsMutex w (rwlock_goes l a n)
+      by_next : (n : Next RwLockPlace) → MayStandNext a n → FitsItsLock w (rwlock_goes l a n)
       by_next (next.At q) h = (admits, h)
       by_next (next.End answer) h = tt
 
-  followed : (whom : Option ℕ) (told : Reply) → MayHear (rules_at w l) a here t p p.at whom told → MayBeTold a p p.at told → Followed whom told
-  followed whom told hears may = let f = rwlock_sections_follow (rules_at w l) a here t p whom told at_now hears in followed_by whom told f.needed f.doing may
+  followed : (whom : Option ℕ) (told : Reply) → MayHear (rules_in w l) a here t p p.at whom told → MayBeTold a p p.at told → Followed whom told
+  followed whom told hears may = let f = rwlock_sections_follow (rules_in w l) a here t p whom told at_now hears in followed_by whom told f.needed f.doing may
 
   -- ---------------------------------------------------------------- who else calls the lock
 
-  asleep : (u : ℕ) → calls (place_at w u) l ≡ true → IsSleeper w t l steady there own (rules_at w l) refl admits.0 (rwlock_move a p) same_row u
+  asleep : (u : ℕ) → calls (place_at w u) l ≡ true → IsSleeper w t l steady there own (rules_in w l) refl admits.0 (rwlock_move a p) same_row u
   asleep u h = by_place (place_at w u) refl h
     where
-      by_place : (q : Place) → place_at w u ≡ q → calls q l ≡ true → IsSleeper w t l steady there own (rules_at w l) refl admits.0 (rwlock_move a p) same_row u
+      by_place : (q : Place) → place_at w u ≡ q → calls q l ≡ true → IsSleeper w t l steady there own (rules_in w l) refl admits.0 (rwlock_move a p) same_row u
       by_place Idle e g = absurd cc
-      by_place (Mutex k m) e g = absurd (let same_lock : k ≡ l = eqb-true k l g in let of_mutex : is_mutex (kind_at w k) ≡ true = subst (CallsMutex w) e (steady.stands.calls u) in
-          let none : has_readers (rules_at w k).sort ≡ false = ap (λ (r : Rules). has_readers r.sort) (mutex_rules (kind_at w k) of_mutex) in let some : has_readers (rules_at w l).sort ≡ true = admits.0 in let both : true ≡ false = sym some ∙ ap (λ j. has_readers (rules_at w j).sort) (sym same_lock) ∙ none in cc)
+      by_place (Mutex k m) e g = absurd (let same_lock : k ≡ l = eqb-true k l g in let of_mutex : is_mutex (kind_at w k) ≡ true = subst (FitsItsLock w) e (steady.stands.calls u) in
+          let none : has_readers (rules_in w k).sort ≡ false = ap (λ (r : Rules). has_readers r.sort) (mutex_rules (kind_at w k) of_mutex) in let some : has_readers (rules_in w l).sort ≡ true = admits.0 in let both : true ≡ false = sym some ∙ ap (λ j. has_readers (rules_in w j).sort) (sym same_lock) ∙ none in cc)
       by_place (RwLock k b q) e g = record {
         move = rwlock_move b q;
         row = ap profile e;
         waits = rwlock_sleepers_move b q fits_u.1;
         taken = ap (λ y. profile (next_place y (TakenBy t))) e ∙ next_is k b (rwlock_next b q (TakenBy t));
         woken = ap (λ y. profile (next_place y (Woken Normal))) e ∙ next_is k b (rwlock_next b q (Woken Normal));
-        taken_fits = subst (λ y. CallsMutex w (next_place y (TakenBy t))) (sym e) (by_next (rwlock_next b q (TakenBy t)) (rwlock_calls_stand b q (TakenBy t) fits_u.1 (told_other b q q.at (TakenBy t) tt)));
-        woken_fits = subst (λ y. CallsMutex w (next_place y (Woken Normal))) (sym e) (by_next (rwlock_next b q (Woken Normal)) (rwlock_calls_stand b q (Woken Normal) fits_u.1 (told_other b q q.at (Woken Normal) tt)));
+        taken_fits = subst (λ y. FitsItsLock w (next_place y (TakenBy t))) (sym e) (by_next (rwlock_next b q (TakenBy t)) (rwlock_calls_stand b q (TakenBy t) fits_u.1 (told_other b q q.at (TakenBy t) tt)));
+        woken_fits = subst (λ y. FitsItsLock w (next_place y (Woken Normal))) (sym e) (by_next (rwlock_next b q (Woken Normal)) (rwlock_calls_stand b q (Woken Normal) fits_u.1 (told_other b q q.at (Woken Normal) tt)));
       }
         where
-          fits_u : CallsMutex w (RwLock k b q)
-          fits_u = subst (CallsMutex w) e (steady.stands.calls u)
+          fits_u : FitsItsLock w (RwLock k b q)
+          fits_u = subst (FitsItsLock w) e (steady.stands.calls u)
 
-          by_next : (n : Next RwLockPlace) → MayStandNext b n → CallsMutex w (rwlock_goes k b n)
+          by_next : (n : Next RwLockPlace) → MayStandNext b n → FitsItsLock w (rwlock_goes k b n)
           by_next (next.At y) h = (fits_u.0, h)
           by_next (next.End answer) h = tt
 
@@ -286,21 +286,21 @@ module _ (w : State) (t l : ℕ) (a : Admission) (p : RwLockPlace) (steady : IsS
   pub record GoesFrom (q : Place) (y : Act) : Type 0 where
     pub whom : Option ℕ
     pub goes : Goes w (put (state_after_act w t (RwLock l a p) y) t (next_place q (reply_to w t y))) l (acts t (rwlock_deeds a p whom (reply_to w t y)))
-    pub tells : CallFollowsBy (rules_at w l) a here t l p whom (reply_to w t y)
+    pub tells : CallFollowsBy (rules_in w l) a here t l p whom (reply_to w t y)
     pub others : WakesOwn (carries_at p.at) y (case_of (carries_at p.at) (rwlock_deeds a p whom (reply_to w t y)))
 
   -- a thread that is there
-  calling : IsCalling (rules_at w l) a here t p
+  calling : IsCalling (rules_in w l) a here t p
   calling = record { at = at_now; stands = stands }
 
-  tells_by : (whom : Option ℕ) (told : Reply) → IsNotLate told → MayHear (rules_at w l) a here t p p.at whom told → CallFollowsBy (rules_at w l) a here t l p whom told
-  tells_by whom told now hears = rwlock_sections_tell (rules_at w l) a here t l p whom told calling hears now
+  tells_by : (whom : Option ℕ) (told : Reply) → IsNotLate told → MayHear (rules_in w l) a here t p p.at whom told → CallFollowsBy (rules_in w l) a here t l p whom told
+  tells_by whom told now hears = rwlock_sections_tell (rules_in w l) a here t l p whom told calling hears now
 
   calm_by : (ds : List Deed) {x : List Deed} → x ≡ ds → AreCalm ds → IsCalm (case_of (carries_at p.at) x)
   calm_by ds e h = subst (λ (x : List Deed). IsCalm (case_of (carries_at p.at) x)) (sym e) (calm_case (carries_at p.at) ds h)
 
   many : TakesOne w l → ⊥
-  many one = one (knows_all (rules_at w l) admits.0 access.Upgradable)
+  many one = one (knows_all (rules_in w l) admits.0 access.Upgradable)
 
   section_there : (m : Line) → key_of l m < length w.sections
   section_there Main = main_key_there w l shape lt
@@ -309,40 +309,40 @@ module _ (w : State) (t l : ℕ) (a : Admission) (p : RwLockPlace) (steady : IsS
   line_there : (m : Line) → key_of l m < length w.queues
   line_there m = let e : length w.queues ≡ length w.sections = shape.queues in let h : key_of l m < length w.sections = section_there m in omega arith
 
-  word_is : word_at w l ≡ code (rules_at w l) here
+  word_is : word_at w l ≡ code (rules_in w l) here
   word_is = steady.sites.word l
 
   -- one operation on the word
-  on_word : (op : Op) → rwlock_act l a p ≡ act.Word l op → Stays (rwlock_move a p) → GoesFrom (place_at w t) (act.Word l op)
+  on_word : (op : Op) → rwlock_act l a p ≡ act.Word l op → StaysPut (rwlock_move a p) → GoesFrom (place_at w t) (act.Word l op)
   on_word op e g = record {
     whom = None;
-    goes = stays w t l steady there own (rules_at w l) refl admits.0 (rwlock_move a p) same_row (RwLock l a p) (next_place (place_at w t) (Value (word_at w l))) op lt g on.0 on.1 on.2;
-    tells = subst (λ v. CallFollowsBy (rules_at w l) a here t l p None (Value v)) (sym word_is) (rwlock_steps_tell (rules_at w l) a here t l p op calling nowhere e);
+    goes = stays w t l steady there own (rules_in w l) refl admits.0 (rwlock_move a p) same_row (RwLock l a p) (next_place (place_at w t) (Value (word_at w l))) op lt g on.0 on.1 on.2;
+    tells = subst (λ v. CallFollowsBy (rules_in w l) a here t l p None (Value v)) (sym word_is) (rwlock_steps_tell (rules_in w l) a here t l p op calling nowhere e);
     others = calm_by (rwlock_deeds a p None (Value (word_at w l))) refl (word_calm (rwlock_deeds a p None (Value (word_at w l))) (g.deeds (word_at w l)));
   }
     where
       nowhere : standing t here.lock ≡ 0
-      nowhere = nowhere_here w t l steady there own (rules_at w l) refl admits.0 (rwlock_move a p) same_row g.out g.free
+      nowhere = nowhere_here w t l steady there own (rules_in w l) refl admits.0 (rwlock_move a p) same_row g.out g.free
 
-      limits : HasRoom (rules_at w l) × HasLimit (rules_at w l) here.lock
+      limits : HasRoom (rules_in w l) × HasLimit (rules_in w l) here.lock
       limits = steady.sites.limits l admits.0
 
       room : a.limit < 2 ^ 60 - 1
       room = subst (λ n. n < 2 ^ 60 - 1) admits.2 limits.0.1
 
-      few : code (rules_at w l) here < 2 ^ 64
-      few = word_few (rules_at w l) here admits.0 site limits.0.1 limits.1
+      few : code (rules_in w l) here < 2 ^ 64
+      few = word_few (rules_in w l) here admits.0 site limits.0.1 limits.1
 
       at_word : ℕ → Type 0
       at_word v = Followed None (Value v)
-          × (lock_seen (shares_then (shares_at w l) t (rwlock_shares a p v (share_at w l t))) (rwlock_owners a p t v (owners_at w l)) (queue_at w (2 * l)) (queue_at w (2 * l + 1)) (λ u. taken_at (place_at w u) l) ≡ (laws.after_all (rules_at w l) (rwlock_deeds a p None (Value v)) here t).lock)
-          × (apply op v ≡ code (rules_at w l) (laws.after_all (rules_at w l) (rwlock_deeds a p None (Value v)) here t))
+          × (lock_seen (shares_then (shares_at w l) t (rwlock_shares a p v (share_at w l t))) (rwlock_owners a p t v (owners_at w l)) (queue_at w (2 * l)) (queue_at w (2 * l + 1)) (λ u. taken_at (place_at w u) l) ≡ (laws.after_all (rules_in w l) (rwlock_deeds a p None (Value v)) here t).lock)
+          × (apply op v ≡ code (rules_in w l) (laws.after_all (rules_in w l) (rwlock_deeds a p None (Value v)) here t))
 
       on : at_word (word_at w l)
-      on = subst at_word (sym word_is) (let f = rwlock_steps_follow (rules_at w l) a here t l p op at_now nowhere e in (
-        followed_by None (Value (code (rules_at w l) here)) f.needed f.doing (told_value a p p.at (code (rules_at w l) here) few),
-        rwlock_owners_follow (rules_at w l) a here t l p op (shares_at w l) (owners_at w l) (queue_at w (2 * l)) (queue_at w (2 * l + 1)) (λ u. taken_at (place_at w u) l) at_now e room limits.1 refl,
-        rwlock_steps_code (rules_at w l) a here t l p op at_now nowhere e (subst (λ n. t < n) (sym (steady.numbers.threads l)) there) few room limits.1,
+      on = subst at_word (sym word_is) (let f = rwlock_steps_follow (rules_in w l) a here t l p op at_now nowhere e in (
+        followed_by None (Value (code (rules_in w l) here)) f.needed f.doing (told_value a p p.at (code (rules_in w l) here) few),
+        rwlock_owners_follow (rules_in w l) a here t l p op (shares_at w l) (owners_at w l) (queue_at w (2 * l)) (queue_at w (2 * l + 1)) (λ u. taken_at (place_at w u) l) at_now e room limits.1 refl,
+        rwlock_steps_code (rules_in w l) a here t l p op at_now nowhere e (subst (λ n. t < n) (sym (steady.numbers.threads l)) there) few room limits.1,
       ))
 
   none_is : (o : Option ℕ) → is_none o ≡ true → o ≡ None
@@ -352,8 +352,8 @@ module _ (w : State) (t l : ℕ) (a : Admission) (p : RwLockPlace) (steady : IsS
   into : (m : Line) (keys : Keys) → keys ≡ One (key_of l m) → are_free w keys ≡ true → GoesIn (rwlock_move a p) (rwlock_hears a p) m Done → GoesFrom (place_at w t) (act.Enter keys)
   into m keys e free g = subst (λ k. GoesFrom (place_at w t) (act.Enter k)) (sym e) (record {
     whom = None;
-    goes = goes_in w t l steady there own (rules_at w l) refl admits.0 (rwlock_move a p) same_row (rwlock_hears a p) m Done (next_place (place_at w t) Done) (section_there m) is_free_now g (λ h. followed None Done h (told_done a p (rules_at w l) here t p.at None h));
-    tells = tells_by None Done tt (entered_hears w t l steady there own (rules_at w l) refl admits.0 (rwlock_move a p) same_row (rwlock_hears a p) m Done is_free_now g);
+    goes = goes_in w t l steady there own (rules_in w l) refl admits.0 (rwlock_move a p) same_row (rwlock_hears a p) m Done (next_place (place_at w t) Done) (section_there m) is_free_now g (λ h. followed None Done h (told_done a p (rules_in w l) here t p.at None h));
+    tells = tells_by None Done tt (entered_hears w t l steady there own (rules_in w l) refl admits.0 (rwlock_move a p) same_row (rwlock_hears a p) m Done is_free_now g);
     others = calm_by (In m ∷ []) g.deeds tt;
   })
     where
@@ -363,8 +363,8 @@ module _ (w : State) (t l : ℕ) (a : Admission) (p : RwLockPlace) (steady : IsS
   out_of : (m : Line) (keys : Keys) (wakes : Wakes) → keys ≡ One (key_of l m) → GoesOut (rwlock_move a p) (rwlock_hears a p) m wakes → GoesFrom (place_at w t) (act.Leave keys wakes)
   out_of m keys wakes e g = subst (λ k. GoesFrom (place_at w t) (act.Leave k wakes)) (sym e) (record {
     whom = None;
-    goes = goes_out w t l steady there own (rules_at w l) refl admits.0 (rwlock_move a p) same_row (rwlock_hears a p) m wakes (next_place (place_at w t) Done) (section_there m) g (λ h. followed None Done h (told_done a p (rules_at w l) here t p.at None h)) (wakes_one w t l steady there own (rules_at w l) refl admits.0 (rwlock_move a p) same_row asleep);
-    tells = tells_by None Done tt (left_hears w t l steady there own (rules_at w l) refl admits.0 (rwlock_move a p) same_row (rwlock_hears a p) m wakes g);
+    goes = goes_out w t l steady there own (rules_in w l) refl admits.0 (rwlock_move a p) same_row (rwlock_hears a p) m wakes (next_place (place_at w t) Done) (section_there m) g (λ h. followed None Done h (told_done a p (rules_in w l) here t p.at None h)) (wakes_one w t l steady there own (rules_in w l) refl admits.0 (rwlock_move a p) same_row asleep);
+    tells = tells_by None Done tt (left_hears w t l steady there own (rules_in w l) refl admits.0 (rwlock_move a p) same_row (rwlock_hears a p) m wakes g);
     others = subst (λ x. WakesOwn (carries_at p.at) (act.Leave (One (key_of l m)) x) (case_of (carries_at p.at) (rwlock_deeds a p None Done))) (sym g.notes) (wakes_any (carries_at p.at) g.any g.carries (rwlock_deeds a p None Done) g.deeds);
   })
     where
@@ -375,8 +375,8 @@ module _ (w : State) (t l : ℕ) (a : Admission) (p : RwLockPlace) (steady : IsS
   parked : (m : Line) (k key : ℕ) (check : Check) (want : Want) → k ≡ l → key ≡ key_of l m → Parks (rwlock_move a p) (rwlock_hears a p) m check want → GoesFrom (place_at w t) (act.Park k key check want)
   parked m k key check x ke e g = subst (λ j. GoesFrom (place_at w t) (act.Park j key check x)) (sym ke) (subst (λ j. GoesFrom (place_at w t) (act.Park l j check x)) (sym e) (record {
     whom = None;
-    goes = parks_or_turns w t l steady there own (rules_at w l) refl admits.0 (rwlock_move a p) same_row (rwlock_hears a p) m check x (line_there m) g (λ b h. followed None (Parked b) h (told_other a p p.at (Parked b) tt));
-    tells = tells_by None (Parked (holds check (word_at w l))) tt (parked_hears w t l steady there own (rules_at w l) refl admits.0 (rwlock_move a p) same_row (rwlock_hears a p) m check x g (holds check (word_at w l)) refl);
+    goes = parks_or_turns w t l steady there own (rules_in w l) refl admits.0 (rwlock_move a p) same_row (rwlock_hears a p) m check x (line_there m) g (λ b h. followed None (Parked b) h (told_other a p p.at (Parked b) tt));
+    tells = tells_by None (Parked (holds check (word_at w l))) tt (parked_hears w t l steady there own (rules_in w l) refl admits.0 (rwlock_move a p) same_row (rwlock_hears a p) m check x g (holds check (word_at w l)) refl);
     others = parks_calm (holds check (word_at w l));
   }))
     where
@@ -387,27 +387,27 @@ module _ (w : State) (t l : ℕ) (a : Admission) (p : RwLockPlace) (steady : IsS
   left : (m : Line) (key : ℕ) → key ≡ key_of l m → LeavesLine (rwlock_move a p) (rwlock_hears a p) m → GoesFrom (place_at w t) (act.Remove key)
   left m key e g = subst (λ j. GoesFrom (place_at w t) (act.Remove j)) (sym e) (record {
     whom = None;
-    goes = leaves_line w t l steady there own (rules_at w l) refl admits.0 (rwlock_move a p) same_row asleep (rwlock_hears a p) m g (λ b h. followed None (Removed b) h (told_other a p p.at (Removed b) tt));
-    tells = tells_by None (reply_to w t (act.Remove (key_of l m))) tt (removed_hears w t l steady there own (rules_at w l) refl admits.0 (rwlock_move a p) same_row asleep (rwlock_hears a p) m g);
+    goes = leaves_line w t l steady there own (rules_in w l) refl admits.0 (rwlock_move a p) same_row asleep (rwlock_hears a p) m g (λ b h. followed None (Removed b) h (told_other a p p.at (Removed b) tt));
+    tells = tells_by None (reply_to w t (act.Remove (key_of l m))) tt (removed_hears w t l steady there own (rules_in w l) refl admits.0 (rwlock_move a p) same_row asleep (rwlock_hears a p) m g);
     others = calm_by (Case locks.Late ∷ []) (g.deeds _) tt;
   })
 
   picked : (key : ℕ) (start : Option Want) (b : Bool) → key ≡ key_of l Main → b ≡ a.recursive → Picks (rwlock_move a p) (rwlock_hears a p) start → GoesFrom (place_at w t) (act.Take key (whom.TheVariants.Picked start b))
   picked key start b e same_rule g = subst (λ j. GoesFrom (place_at w t) (act.Take j (whom.TheVariants.Picked start b))) (sym e) (subst (λ c. GoesFrom (place_at w t) (act.Take (key_of l Main) (whom.TheVariants.Picked start c))) (admits.1 ∙ sym same_rule) (record {
     whom = None;
-    goes = takes_chosen w t l steady there own (rules_at w l) refl admits.0 (rwlock_move a p) same_row asleep (rwlock_hears a p) many (line_there Main) start g follows;
-    tells = tells_by None _ tt (picked_hears w t l steady there own (rules_at w l) refl admits.0 (rwlock_move a p) same_row asleep (rwlock_hears a p) many (line_there Main) start g follows);
-    others = calm_by (Case (locks.TakePicked start) ∷ []) (picked_deeds w t l steady there own (rules_at w l) refl admits.0 (rwlock_move a p) same_row asleep (rwlock_hears a p) many (line_there Main) start g follows) tt;
+    goes = takes_chosen w t l steady there own (rules_in w l) refl admits.0 (rwlock_move a p) same_row asleep (rwlock_hears a p) many (line_there Main) start g follows;
+    tells = tells_by None _ tt (picked_hears w t l steady there own (rules_in w l) refl admits.0 (rwlock_move a p) same_row asleep (rwlock_hears a p) many (line_there Main) start g follows);
+    others = calm_by (Case (locks.TakePicked start) ∷ []) (picked_deeds w t l steady there own (rules_in w l) refl admits.0 (rwlock_move a p) same_row asleep (rwlock_hears a p) many (line_there Main) start g follows) tt;
   }))
     where
-      follows : (n : ℕ) (y : Option Want) (none_left : Bool) → rwlock_hears a p (rules_at w l) here t None (Picked n y none_left) → Followed None (Picked n y none_left)
+      follows : (n : ℕ) (y : Option Want) (none_left : Bool) → rwlock_hears a p (rules_in w l) here t None (Picked n y none_left) → Followed None (Picked n y none_left)
       follows n y none_left h = followed None (Picked n y none_left) h (told_other a p p.at (Picked n y none_left) tt)
 
   took : (key : ℕ) → key ≡ key_of l Second → TakesAside (rwlock_move a p) (rwlock_hears a p) → GoesFrom (place_at w t) (act.Take key whom.TheVariants.First)
   took key e g = subst (λ j. GoesFrom (place_at w t) (act.Take j whom.TheVariants.First)) (sym e) (record {
     whom = here.lock.aside;
-    goes = takes_whom_aside w t l steady there own (rules_at w l) refl admits.0 (rwlock_move a p) same_row asleep (rwlock_hears a p) many (line_there Second) g (λ any none_left h. followed here.lock.aside (Took any none_left) h (told_other a p p.at (Took any none_left) tt));
-    tells = tells_by here.lock.aside (reply_to w t (act.Take (key_of l Second) whom.TheVariants.First)) tt (g.may (rules_at w l) here t _ _);
+    goes = takes_whom_aside w t l steady there own (rules_in w l) refl admits.0 (rwlock_move a p) same_row asleep (rwlock_hears a p) many (line_there Second) g (λ any none_left h. followed here.lock.aside (Took any none_left) h (told_other a p p.at (Took any none_left) tt));
+    tells = tells_by here.lock.aside (reply_to w t (act.Take (key_of l Second) whom.TheVariants.First)) tt (g.may (rules_in w l) here t _ _);
     others = calm_by (takes_aside here.lock.aside ∷ []) (g.deeds here.lock.aside _ _) (aside_calm here.lock.aside);
   })
 
@@ -431,7 +431,7 @@ module _ (w : State) (t l : ℕ) (a : Admission) (p : RwLockPlace) (steady : IsS
   -- ---------------------------------------------------------------- its time is up
 
   pub rwlock_goes_late : (m : Line) → rwlock_late_line p ≡ Some m → is_free w (key_of l m) ≡ true → Goes w (state_after_late_under w t (key_of l m)) l (acts t (rwlock_deeds a p None Late))
-  rwlock_goes_late m e free = goes_in w t l steady there own (rules_at w l) refl admits.0 (rwlock_move a p) same_row (rwlock_hears a p) m Late (next_place (place_at w t) Late) (section_there m)
+  rwlock_goes_late m e free = goes_in w t l steady there own (rules_in w l) refl admits.0 (rwlock_move a p) same_row (rwlock_hears a p) m Late (next_place (place_at w t) Late) (section_there m)
       (none_is (section_at w (key_of l m)) free) (rwlock_late_moves a p m e) (λ h. followed None Late h (told_late a p p.at (patience_of p.purpose) refl m e))
 
 -- ---------------------------------------------------------------- a call begins
@@ -442,7 +442,7 @@ admits_by (kinds.RwLock limit) h = (refl, refl, refl)
 admits_by (kinds.Recursive limit) h = (refl, refl, refl)
 admits_by k h = absurd cc
 
-module _ (w : State) (t l : ℕ) (c : RwLockCall) (steady : IsSteady w) (there : t < length w.places) (idle_now : place_at w t ≡ Idle) (readers : has_readers (rules_at w l).sort ≡ true) (right : rwlock_right c t (owners_at w l) (share_at w l t) ≡ true) where
+module _ (w : State) (t l : ℕ) (c : RwLockCall) (steady : IsSteady w) (there : t < length w.places) (idle_now : place_at w t ≡ Idle) (readers : has_readers (rules_in w l).sort ≡ true) (right : rwlock_right c t (owners_at w l) (share_at w l t) ≡ true) where
   abbrev pub first : Place
   first = RwLock l (admission_of (kind_at w l)) (rwlock_first c)
 
@@ -454,8 +454,8 @@ module _ (w : State) (t l : ℕ) (c : RwLockCall) (steady : IsSteady w) (there :
 
   -- with what it claims
   pub rwlock_begins : Goes w (put w t first) l (acts t (Begin opens.opening.claims ∷ []))
-  rwlock_begins = place_goes w t l steady (rw idle_now tt) there (rules_at w l) refl first refl (admits_by (kind_at w l) readers, opens.stands) (Begin opens.opening.claims ∷ []) (λ h. tt)
-      (steps_by (rules_at w l) l (parts_at w l) (parts_at w l) (place_at w) t first (Begin opens.opening.claims ∷ [])
+  rwlock_begins = place_goes w t l steady (rw idle_now tt) there (rules_in w l) refl first refl (admits_by (kind_at w l) readers, opens.stands) (Begin opens.opening.claims ∷ []) (λ h. tt)
+      (steps_by (rules_in w l) l (parts_at w l) (parts_at w l) (place_at w) t first (Begin opens.opening.claims ∷ [])
       (opens.has t (shares_at w l) (owners_at w l) (queue_at w (2 * l)) (queue_at w (2 * l + 1)) (λ u. taken_at (place_at w u) l) right, tt) (tt, tt)
       (free_now ∙ sym (free_of first l (ap (λ (y : Station). y.hand) opens.opening.station)))
       refl refl refl refl

@@ -42,7 +42,7 @@ use Rattle.abstract_locks.specs.Sites.{has_readers}
 use Rattle.lot_steps.specs.declared.places.Place.TheVariants.{RwLock}
 use Rattle.lot_steps.specs.Steps.{rwlock_goes, rwlock_does, next_place, line_owed, profile}
 use Rattle.lot_machine.specs.Machine.{State, word_at, reply_to}
-use Rattle.lot_world.specs.SitesOf.{rules_at}
+use Rattle.lot_world.specs.SitesOf.{rules_in}
 use Rattle.lot_world.specs.Owing.{line_let_in, tells_of}
 use Rattle.lot_world.proofs.RowPromises.{LetsIn, RowOwesNext, IsLateNext, Befalls}
 use Rattle.lot_world.proofs.RwLockRows.{of, row_of, IsBefore, lesser, shut, shut_before, parking_inside, some_line}
@@ -353,27 +353,27 @@ module _ (r : Rules) (readers : has_readers r.sort ≡ true) (a : Admission) (l 
     sees = λ n s step. ap Some (sym (line_wake q again m to stands) ∙ s.1);
   }
 
-module _ (w : State) (t l : ℕ) (a : Admission) (admits : Admits (rules_at w l) a) where
+module _ (w : State) (t l : ℕ) (a : Admission) (admits : Admits (rules_in w l) a) where
   wakes_next : (q : RwLockPurpose) (again : Bool) (m : Line) (to : WakeAt) → StandsAt q again (at.Wake m to)
-      → OwesNext (rules_at w l) a l (word_at w l) (of q again (at.Wake m to)) (wake_next (of q again (at.Wake m to)) m to (reply_to w t (act_at l a (of q again (at.Wake m to)) (at.Wake m to))))
-  wakes_next q again m waking.Enter stands = goes_on (rules_at w l) admits.0 a l (word_at w l) q again m waking.Enter waking.Take stands refl
+      → OwesNext (rules_in w l) a l (word_at w l) (of q again (at.Wake m to)) (wake_next (of q again (at.Wake m to)) m to (reply_to w t (act_at l a (of q again (at.Wake m to)) (at.Wake m to))))
+  wakes_next q again m waking.Enter stands = goes_on (rules_in w l) admits.0 a l (word_at w l) q again m waking.Enter waking.Take stands refl
   wakes_next q again Main waking.Take stands = either _ _
     where
-      either : (b : Bool) (any : Bool) → OwesNext (rules_at w l) a l (word_at w l) (of q again (at.Wake Main waking.Take)) (next.At (of q again (at.Wake Main (if b then waking.Clear any else waking.Leave any))))
-      either true any = goes_on (rules_at w l) admits.0 a l (word_at w l) q again Main waking.Take (waking.Clear any) stands refl
-      either false any = goes_on (rules_at w l) admits.0 a l (word_at w l) q again Main waking.Take (waking.Leave any) stands refl
-  wakes_next q again Second waking.Take stands = goes_on (rules_at w l) admits.0 a l (word_at w l) q again Second waking.Take (waking.Clear _) stands refl
-  wakes_next q again m (waking.Clear any) stands = goes_on (rules_at w l) admits.0 a l (word_at w l) q again m (waking.Clear any) (waking.Leave any) stands refl
-  wakes_next q again m (waking.Leave any) stands = ended (rules_at w l) admits.0 a l (word_at w l) (of q again (at.Wake m (waking.Leave any))) _
+      either : (b : Bool) (any : Bool) → OwesNext (rules_in w l) a l (word_at w l) (of q again (at.Wake Main waking.Take)) (next.At (of q again (at.Wake Main (if b then waking.Clear any else waking.Leave any))))
+      either true any = goes_on (rules_in w l) admits.0 a l (word_at w l) q again Main waking.Take (waking.Clear any) stands refl
+      either false any = goes_on (rules_in w l) admits.0 a l (word_at w l) q again Main waking.Take (waking.Leave any) stands refl
+  wakes_next q again Second waking.Take stands = goes_on (rules_in w l) admits.0 a l (word_at w l) q again Second waking.Take (waking.Clear _) stands refl
+  wakes_next q again m (waking.Clear any) stands = goes_on (rules_in w l) admits.0 a l (word_at w l) q again m (waking.Clear any) (waking.Leave any) stands refl
+  wakes_next q again m (waking.Leave any) stands = ended (rules_in w l) admits.0 a l (word_at w l) (of q again (at.Wake m (waking.Leave any))) _
 
   by_parts : (q : RwLockPurpose) (again : Bool) (to : RwLockAt) → StandsAt q again to
-      → OwesNext (rules_at w l) a l (word_at w l) (of q again to) (next_at a (of q again to) to (reply_to w t (act_at l a (of q again to) to)))
-  by_parts q again at.RollBack stands = rolls_back (rules_at w l) admits.0 a l (word_at w l) q again stands
-  by_parts q again at.GiveWay stands = gives_way (rules_at w l) admits.0 a l (word_at w l) q again stands
+      → OwesNext (rules_in w l) a l (word_at w l) (of q again to) (next_at a (of q again to) to (reply_to w t (act_at l a (of q again to) to)))
+  by_parts q again at.RollBack stands = rolls_back (rules_in w l) admits.0 a l (word_at w l) q again stands
+  by_parts q again at.GiveWay stands = gives_way (rules_in w l) admits.0 a l (word_at w l) q again stands
   by_parts q again (at.Wake m to) stands = wakes_next q again m to stands
-  by_parts q again to stands = quiet (rules_at w l) admits.0 a l (word_at w l) q again to stands tt (reply_to w t (act_at l a (of q again to) to))
+  by_parts q again to stands = quiet (rules_in w l) admits.0 a l (word_at w l) q again to stands tt (reply_to w t (act_at l a (of q again to) to))
 
-  pub rwlock_owes_next : (p : RwLockPlace) → MayStand a p → OwesNext (rules_at w l) a l (word_at w l) p (rwlock_next a p (reply_to w t (rwlock_act l a p)))
+  pub rwlock_owes_next : (p : RwLockPlace) → MayStand a p → OwesNext (rules_in w l) a l (word_at w l) p (rwlock_next a p (reply_to w t (rwlock_act l a p)))
   rwlock_owes_next p stands = by_parts p.purpose p.retries p.at stands.place
 
 -- ---------------------------------------------------------------- the other turns

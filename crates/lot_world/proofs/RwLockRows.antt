@@ -28,7 +28,7 @@ use Rattle.lot_rwlock.specs.declared.release.WakeAt.{WakeAt}
 use Rattle.lot_rwlock.specs.declared.release.WakeAt.TheVariants as waking
 use Rattle.lot_rwlock.specs.RwLockSteps.{wanted, to_of, start_of, patience_of, want_at, decided, decided_act, park_act, act_at, rwlock_act, exchange, plus}
 use Rattle.lot_rwlock.specs.RwLockDeeds.{Admits, parking_doing, waking_doing, doing_at, again_of, rwlock_doing, falls_back, pends, claimed}
-use Rattle.lot_rwlock.specs.RwLockCalls.{ParksBy, StandsAt, GoesOn, IsDecided, MayStand}
+use Rattle.lot_rwlock.specs.RwLockCalls.{ParksBy, StandsAt, IsNoRefusal, IsDecided, MayStand}
 use Rattle.lot_rwlock.specs.RwLockProfiles.{rwlock_profile, is_inside, is_timed, owes_at, stands_at, hand_at, carries_at, late_line_at, late_at, has_given_up, purpose_by, wants_for}
 use Rattle.lot_acts.specs.Profiles.{Profile, hand, in_line, taken_from}
 use Rattle.abstract_locks.specs.Codes.{has_aside}
@@ -103,7 +103,7 @@ before_waits (purpose.Downgrade d) again to stands before = stands
 
 -- ---------------------------------------------------------------- acts
 
-decided_acts : (l : ℕ) (q : RwLockPurpose) (seen : ℕ) (d : Decision) → GoesOn d → is_acting (decided_act l q seen d) ≡ true
+decided_acts : (l : ℕ) (q : RwLockPurpose) (seen : ℕ) (d : Decision) → IsNoRefusal d → is_acting (decided_act l q seen d) ≡ true
 decided_acts l q seen decisions.Take h = refl
 decided_acts l q seen decisions.Mark h = refl
 decided_acts l q seen decisions.Park h = refl

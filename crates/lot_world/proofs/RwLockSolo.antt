@@ -41,9 +41,9 @@ use Rattle.abstract_locks.specs.Sites.{Site, IsSite, has_readers, Line, Main, Se
 use Rattle.lot_steps.specs.declared.places.Place.TheVariants.{Idle, RwLock}
 use Rattle.lot_steps.specs.Steps.{act_of, rwlock_goes, rwlock_does}
 use Rattle.lot_machine.specs.Machine.{State, word_at, section_at, queue_at, queues_without_first, state_after_taking, after, go_of}
-use Rattle.lot_rwlock.specs.RwLockCalls.{GoesOn, MayStand, StandsAt, IsDecided}
+use Rattle.lot_rwlock.specs.RwLockCalls.{IsNoRefusal, MayStand, StandsAt, IsDecided}
 use Rattle.lot_rwlock.proofs.RwLockStands.{decides_to_park, aside_set}
-use Rattle.lot_world.specs.SitesOf.{IsSteady, key_of, rules_at, site_of}
+use Rattle.lot_world.specs.SitesOf.{IsSteady, key_of, rules_in, site_of}
 use Rattle.abstract_locks.specs.Locks.{Rules, Sort, Mutex, Normal, Recursive, Semaphore, count, one_if_some}
 use Rattle.lot_world.specs.Solo.{Rests}
 use Rattle.lot_world.proofs.Glue.{same}
@@ -251,7 +251,7 @@ module _ (t l : ℕ) (a : Admission) where
   Decides decisions.Take p v q s x = Takes p.purpose p.retries v q s x
   Decides decision p v q s x = Sleeps Main p q s x
 
-  fresh_leads : (p : RwLockPlace) (v : ℕ) (w : State) (q : Line → List Waiter) → v < 2 ^ 64 → (d : Decision) → GoesOn d → decided a p v ≡ d → Alone w (decides p v) v q → Leads 6 w t (Decides d p v q)
+  fresh_leads : (p : RwLockPlace) (v : ℕ) (w : State) (q : Line → List Waiter) → v < 2 ^ 64 → (d : Decision) → IsNoRefusal d → decided a p v ≡ d → Alone w (decides p v) v q → Leads 6 w t (Decides d p v q)
   fresh_leads p v w q small decisions.Take h e f = takes_leads p.purpose p.retries v w q e f
   fresh_leads p v w q small decisions.Mark h e f = leads_more 4 6 w t (Sleeps Main p q) (omega arith) (marks_leads p v w q small e f)
   fresh_leads p v w q small decisions.Park h e f = leads_more 3 6 w t (Sleeps Main p q) (omega arith) (parks_leads p v w q e f)
@@ -486,10 +486,10 @@ module _ (t l : ℕ) (a : Admission) where
   stale_rests p x v y w q d small e h is does f = leads_more 7 9 w t Resting (omega arith) (looked_rests (decides p x) v w q _ small (ap (exchanged_next a (decides p x) x v) is ∙ stale_next p x v d e h)
       (subst (λ z. Comes w t l (rwlock_goes l a (rwlock_next a (decides p x) (Value v))) (outcome_of (rwlock_does l a (rwlock_next a (decides p x) (Value v)))) z q) (ap (λ (b : Bool). if b then y else v) e) (word_comes w t l _ v q f (op.Exchange x y) does)))
 
-  decide_rests : (p : RwLockPlace) (x v : ℕ) (w : State) (q : Line → List Waiter) (d : Decision) → GoesOn d → decided a p x ≡ d → v < 2 ^ 64 → Alone w (decides p x) v q → Leads 10 w t Resting
+  decide_rests : (p : RwLockPlace) (x v : ℕ) (w : State) (q : Line → List Waiter) (d : Decision) → IsNoRefusal d → decided a p x ≡ d → v < 2 ^ 64 → Alone w (decides p x) v q → Leads 10 w t Resting
   decide_rests p x v w q d h e small f = either (v == x) refl
     where
-      is_stale : (d : Decision) → GoesOn d → decided a p x ≡ d → (v == x) ≡ false → Leads 10 w t Resting
+      is_stale : (d : Decision) → IsNoRefusal d → decided a p x ≡ d → (v == x) ≡ false → Leads 10 w t Resting
       is_stale decisions.Take h e ne = leads_more 9 10 w t Resting (omega arith) (stale_rests p x v (word_taken p.purpose x) w q decisions.Take small ne (λ g. cc) e (ap (decided_act l p.purpose x) e) f)
       is_stale decisions.Mark h e ne = leads_more 9 10 w t Resting (omega arith) (stale_rests p x v (plus x 1) w q decisions.Mark small ne (λ g. cc) e (ap (decided_act l p.purpose x) e) f)
       is_stale decisions.Park h e ne = goes w Resting 9 v q (again p (at.Park parking.Check) p.retries) _ refl refl (enter_comes w t l _ v q f Main (ap (decided_act l p.purpose x) e) (finds_free w t l _ v q f refl Main)) (λ g. check_rests Main p v _ q small g)
@@ -524,7 +524,7 @@ module _ (t l : ℕ) (a : Admission) where
 
   -- awake, and with something to do
   abbrev IsReady : RwLockPlace → RwLockAt → Type 0
-  IsReady p (at.Decide seen) = GoesOn (decided a p seen)
+  IsReady p (at.Decide seen) = IsNoRefusal (decided a p seen)
   IsReady p (at.Park x) = IsUp x × IsWaiting p.purpose
   IsReady p (at.Aside x) = IsUp x × IsWaiting p.purpose
   IsReady p at.RollBack = IsWaiting p.purpose
@@ -567,9 +567,9 @@ code_small r s readers site few top = by_sort r.sort readers
     by_sort Mutex h = absurd cc
     by_sort Semaphore h = absurd cc
 
-pub word_small : (w : State) (l : ℕ) → IsSteady w → has_readers (rules_at w l).sort ≡ true → word_at w l < 2 ^ 64
+pub word_small : (w : State) (l : ℕ) → IsSteady w → has_readers (rules_in w l).sort ≡ true → word_at w l < 2 ^ 64
 word_small w l steady readers = let limits = steady.sites.limits l readers in
-    subst (λ n. n < 2 ^ 64) (sym (steady.sites.word l)) (code_small (rules_at w l) (site_of w l) readers (steady.sites.site l) limits.0.1 limits.1.top)
+    subst (λ n. n < 2 ^ 64) (sym (steady.sites.word l)) (code_small (rules_in w l) (site_of w l) readers (steady.sites.site l) limits.0.1 limits.1.top)
 
 -- a thread that isn't asleep has something to do
 pub is_ready : (t l : ℕ) (a : Admission) (p : RwLockPlace) → MayStand a p → act_of (RwLock l a p) ≢ act.Sleep → IsReady t l a p p.at

@@ -14,7 +14,7 @@ use Rattle.lot_world.specs.Refinement.{lock_state, taken_at}
 use Rattle.abstract_locks.specs.Picks.{queued_of}
 use Rattle.lot_world.specs.MutexDeeds.{mutex_doing, mutex_station, acts}
 use Rattle.lot_world.specs.Stations.{Station, station, doing_on}
-use Rattle.lot_world.specs.SitesOf.{Goes, CallsMutex, IsSteady, key_of, stood_in}
+use Rattle.lot_world.specs.SitesOf.{Goes, FitsItsLock, IsSteady, key_of, stood_in}
 use Rattle.lot_world.proofs.Glue.{base_at, own_stance, IsMutexOf, own_of}
 use Rattle.lot_world.proofs.MutexTable.{mutex, own_doing, parks, removes, finds_nobody}
 use Rattle.lot_world.proofs.SitesKept.{mutex_at, of_mutex, rules, site_l, own}
@@ -33,7 +33,7 @@ module _ (w : State) (t l : ℕ) (at : MutexPlace) (steady : IsSteady w) (is : p
       none None h = refl
       none (Some u) h = absurd (h u refl)
 
-  fits : (p2 : Place) → IsMutexOf l p2 → CallsMutex w p2
+  fits : (p2 : Place) → IsMutexOf l p2 → FitsItsLock w p2
   fits p2 of = calls_of w l p2 of (of_mutex w t l at steady is there)
 
   hand_none : taken_at (Mutex l at) l ≡ None → taken_at (place_at w t) l ≡ None

@@ -40,7 +40,7 @@ use Rattle.abstract_locks.specs.Picks.{queued_of}
 use Rattle.lot_world.specs.MutexDeeds.{mutex_doing, mutex_deeds, mutex_station, acts, owner, queued}
 use Rattle.lot_world.specs.Stations.{Station, hand, nowhere, station, doing_on}
 use Rattle.lot_world.specs.MutexDeeds as deeds
-use Rattle.lot_world.specs.SitesOf.{SameNumbers, TakesOne, rules_at, AllNeeded, IsSteady, Follows, Goes, CallsMutex, carried_at, hand_at, after_acts}
+use Rattle.lot_world.specs.SitesOf.{SameNumbers, TakesOne, rules_in, ActsNeeded, IsSteady, Follows, Goes, FitsItsLock, carried_at, hand_at, after_acts}
 use Rattle.lot_world.proofs.Glue.{base_at, seen_in, seen, goes_from, put_places, put_here, put_other, IsOf, next_of, own_stance, leaving, taking, told_one, successor_one, none_given, tries, accepts, lets_nobody, IsTakenAt, is_taken, IsHandedAt, is_handed, untaken, handing, hands_acts, IsMutexCall, WantsAlone, mutex_calls, held_alone, IsMutexOf, own_of, next_mutex}
 use Rattle.lot_world.proofs.MutexTable.{mutex, parts, IsCode, OnWord, MutexSteps, own_doing, goes_in as goes_into}
 use Rattle.lot_world.proofs.KindsKept.{given_kinds, given_filled, given_shares}
@@ -72,12 +72,12 @@ mutex_at w l = lock_by w l mutex
 pub same_bases : (w v : State) → v.locks ≡ w.locks → v.shares ≡ w.shares → length v.places ≡ length w.places → (k : ℕ) → base_at v k ≡ base_at w k
 same_bases w v locks shares threads k = λ i. record { shared = get_or (shares i) k (replicate (threads i) 0); filled = (get_or (locks i) k (unlocked kind.TheVariants.Mutex)).filled }
 
-module _ (w v : State) (l : ℕ) (rules : rules_at w l ≡ mutex) (q : ℕ → Place) (word : ℕ) (o : Owners) (m : List Waiter)
+module _ (w v : State) (l : ℕ) (rules : rules_in w l ≡ mutex) (q : ℕ → Place) (word : ℕ) (o : Owners) (m : List Waiter)
     (places : place_at v ≡ q) (numbers : SameNumbers w v) (bases : (k : ℕ) → base_at v k ≡ base_at w k) (words : Changed (word_at w) (word_at v) l word) (owners : Changed (owners_at w) (owners_at v) l o)
     (mains : Changed (λ k. queue_at w (2 * k)) (λ k. queue_at v (2 * k)) l m) (seconds : (k : ℕ) → queue_at v (2 * k + 1) ≡ queue_at w (2 * k + 1)) (kinds : (k : ℕ) → kind_at v k ≡ kind_at w k)
     (elsewhere : (k : ℕ) → k ≢ l → (u : ℕ) → AlikeAt k (place_at w u) (q u)) where
   -- what one mutex has been through
-  pub follow : (ds : List deeds.Act) → seen l (base_at w l) word o m (queue_at w (2 * l + 1)) q ≡ after_acts mutex ds (mutex_at w l) → AllNeeded mutex ds (mutex_at w l) → IsCode word o.exclusive → Follows w v l ds
+  pub follow : (ds : List deeds.Act) → seen l (base_at w l) word o m (queue_at w (2 * l + 1)) q ≡ after_acts mutex ds (mutex_at w l) → ActsNeeded mutex ds (mutex_at w l) → IsCode word o.exclusive → Follows w v l ds
   follow ds led needed coded = follows_by w v l _ q (record {
     here = λ i. record { base = bases l i; word = words.here i; owners = owners.here i; main = mains.here i; second = seconds l i };
     others = λ k ne i. record { base = bases k i; word = words.other k ne i; owners = owners.other k ne i; main = mains.other k ne i; second = seconds k i };
@@ -89,20 +89,20 @@ module _ (w v : State) (l : ℕ) (rules : rules_at w l ≡ mutex) (q : ℕ → P
   }) mutex rules ds (λ h. absurd cc) led needed coded
 
 -- nobody shares a mutex
-pub mutex_unshared : (w : State) (l : ℕ) → IsSteady w → rules_at w l ≡ mutex → sum (shares_at w l) ≡ 0
+pub mutex_unshared : (w : State) (l : ℕ) → IsSteady w → rules_in w l ≡ mutex → sum (shares_at w l) ≡ 0
 mutex_unshared w l steady rules = (subst (λ r. IsSite r (lock_by w l r)) rules (steady.sites.site l)).state.unshared (λ h. h)
 
 -- so it is where a thread calls one
 pub unshared_at : (w : State) (t l : ℕ) (at : MutexPlace) → IsSteady w → place_at w t ≡ Mutex l at → sum (shares_at w l) ≡ 0
-unshared_at w t l at steady is = mutex_unshared w l steady (mutex_rules (kind_at w l) (let c : CallsMutex w (Mutex l at) = rw is at (steady.stands.calls t) in c))
+unshared_at w t l at steady is = mutex_unshared w l steady (mutex_rules (kind_at w l) (let c : FitsItsLock w (Mutex l at) = rw is at (steady.stands.calls t) in c))
 
 -- and it is taken from one by one
 pub single_at : (w : State) (t l : ℕ) (at : MutexPlace) → IsSteady w → place_at w t ≡ Mutex l at → TakesOne w l
-single_at w t l at steady is = takes_one w l (mutex_rules (kind_at w l) (let c : CallsMutex w (Mutex l at) = rw is at (steady.stands.calls t) in c))
+single_at w t l at steady is = takes_one w l (mutex_rules (kind_at w l) (let c : FitsItsLock w (Mutex l at) = rw is at (steady.stands.calls t) in c))
 
 -- who calls it calls a mutex
 pub mutexes_at : (w : State) (t l : ℕ) (at : MutexPlace) → IsSteady w → place_at w t ≡ Mutex l at → (u : ℕ) → IsMutexCall l (place_at w u)
-mutexes_at w t l at steady is u = mutex_calls w l (place_at w u) (steady.stands.calls u) (mutex_rules (kind_at w l) (let c : CallsMutex w (Mutex l at) = rw is at (steady.stands.calls t) in c))
+mutexes_at w t l at steady is u = mutex_calls w l (place_at w u) (steady.stands.calls u) (mutex_rules (kind_at w l) (let c : FitsItsLock w (Mutex l at) = rw is at (steady.stands.calls t) in c))
 
 -- so whom it has in hand wants to own alone
 pub alone_at : (w : State) (t l : ℕ) (at : MutexPlace) → IsSteady w → place_at w t ≡ Mutex l at → (u : ℕ) → WantsAlone t (place_at w u)
@@ -116,9 +116,9 @@ go_by w t p a = put (state_after_act w t p a) t (next_place p (reply_to w t a))
 
 module _ (w : State) (t l : ℕ) (at : MutexPlace) (steady : IsSteady w) (is : place_at w t ≡ Mutex l at) (there : t < length w.places) where
   pub of_mutex : is_mutex (kind_at w l) ≡ true
-  of_mutex = let c : CallsMutex w (Mutex l at) = rw is at (steady.stands.calls t) in c
+  of_mutex = let c : FitsItsLock w (Mutex l at) = rw is at (steady.stands.calls t) in c
 
-  pub rules : rules_at w l ≡ mutex
+  pub rules : rules_in w l ≡ mutex
   rules = mutex_rules (kind_at w l) of_mutex
 
   pub single : TakesOne w l
@@ -142,7 +142,7 @@ module _ (w : State) (t l : ℕ) (at : MutexPlace) (steady : IsSteady w) (is : p
   plain : has_readers mutex.sort ≡ true → ⊥
   plain h = cc
 
-  fits : (p2 : Place) → IsMutexOf l p2 → CallsMutex w p2
+  fits : (p2 : Place) → IsMutexOf l p2 → FitsItsLock w p2
   fits p2 of = calls_of w l p2 of of_mutex
 
   hand_none : taken_at (Mutex l at) l ≡ None → taken_at (place_at w t) l ≡ None
@@ -181,7 +181,7 @@ module _ (w : State) (t l : ℕ) (at : MutexPlace) (steady : IsSteady w) (is : p
       (nobody_inside w t l steady own there mutex rules p2 (own_of l p2 of) (fits p2 of) Main free) i e own_is)
       (s ∙ sym (ap (λ (x : Station). record x { inside = Some Main }) station_is_at))
 
-  pub out_needed : (mutex_doing at).inside ≡ Some Main → (mutex_doing at).wakes ≡ None → AllNeeded mutex (acts t (Out ∷ [])) (mutex_at w l)
+  pub out_needed : (mutex_doing at).inside ≡ Some Main → (mutex_doing at).wakes ≡ None → ActsNeeded mutex (acts t (Out ∷ [])) (mutex_at w l)
   out_needed i k = ((rw (own_doing l (place_at w t) at is) ((λ h. let g : None ≡ Some Main = sym h ∙ i in cc), k, refl)), tt)
 
   -- out of its own, where nobody is in its hand
@@ -365,7 +365,7 @@ module _ (w : State) (t l : ℕ) (at : MutexPlace) (steady : IsSteady w) (is : p
       same_lines : after_acts mutex (acts t (Case (TakeFirst (queued x.thread)) ∷ [])) (seen l (base_at w l) (word_at w l) (owners_at w l) (x ∷ rest) (queue_at w (2 * l + 1)) (place_at w)) ≡ after_acts mutex (acts t (Case (TakeFirst (queued x.thread)) ∷ [])) (mutex_at w l)
       same_lines = ap (λ q. after_acts mutex (acts t (Case (TakeFirst (queued x.thread)) ∷ [])) (seen l (base_at w l) (word_at w l) (owners_at w l) q (queue_at w (2 * l + 1)) (place_at w))) (sym first)
 
-      needed : AllNeeded mutex (acts t (Case (TakeFirst (queued x.thread)) ∷ [])) (mutex_at w l)
-      needed = subst (λ (q : List Waiter). AllNeeded mutex (acts t (Case (TakeFirst (queued x.thread)) ∷ [])) (seen l (base_at w l) (word_at w l) (owners_at w l) q (queue_at w (2 * l + 1)) (place_at w))) (sym first)
+      needed : ActsNeeded mutex (acts t (Case (TakeFirst (queued x.thread)) ∷ [])) (mutex_at w l)
+      needed = subst (λ (q : List Waiter). ActsNeeded mutex (acts t (Case (TakeFirst (queued x.thread)) ∷ [])) (seen l (base_at w l) (word_at w l) (owners_at w l) q (queue_at w (2 * l + 1)) (place_at w))) (sym first)
           (take_needed l (base_at w l) (word_at w l) (owners_at w l) (queue_at w (2 * l + 1)) rest x (place_at w) t site_first (mutex_doing at) (own_doing l (place_at w t) at is)
           (λ u. untaken (place_at w u) t l (λ h. let a : carried_at (place_at w t) l ≡ Some false = steady.stands.hands.taken t u l false h in let b : carried_at (place_at w t) l ≡ None = ap (λ (y : Station). y.carries) (own_stance l (place_at w t) at is) ∙ nobody in cc)) i c v)

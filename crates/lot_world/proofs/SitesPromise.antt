@@ -16,7 +16,7 @@ use Rattle.lot_world.specs.Promises.{WaitsFor}
 use Rattle.lot_world.specs.MutexPromises.{IsMutexWord}
 use Rattle.lot_world.specs.MutexDeeds.{mutex_doing}
 use Rattle.lot_world.specs.Stations.{doing_on}
-use Rattle.lot_world.specs.SitesOf.{IsSteady, rules_at}
+use Rattle.lot_world.specs.SitesOf.{IsSteady, rules_in}
 use Rattle.lot_world.proofs.MutexTable.{mutex, queued_times}
 use Rattle.lot_world.proofs.SitesKept.{lock_by}
 use Rattle.lot_base.specs.declared.wants.Want.{Want}
@@ -33,7 +33,7 @@ codes_by e true w h = inr h
 codes_by e false w h = inl (omega arith)
 
 -- the word of a mutex says whether there is an owner
-pub coded_at : (w : State) → IsSteady w → (l : ℕ) → rules_at w l ≡ mutex → IsMutexWord (word_at w l) (owners_at w l).exclusive
+pub coded_at : (w : State) → IsSteady w → (l : ℕ) → rules_in w l ≡ mutex → IsMutexWord (word_at w l) (owners_at w l).exclusive
 coded_at w s l rules = codes_by (owners_at w l).exclusive (is_parked (word_at w l)) (word_at w l) (s.sites.word l ∙ (λ i. code (rules i) (lock_by w l (rules i))))
 
 pub not_empty : (t : ℕ) (q : List Queued) → 1 ≤ times t q → q ≢ []
@@ -74,7 +74,7 @@ first_out t [] h = refl
 first_out t (x ∷ q) h = grind (arith, nat_tests)
 
 -- a waiter of a mutex implies its parked bit
-module _ (w : State) (s : IsSteady w) (t l : ℕ) (rules : rules_at w l ≡ mutex) where
+module _ (w : State) (s : IsSteady w) (t l : ℕ) (rules : rules_in w l ≡ mutex) where
   parked : WaitsFor w t l → is_parked (word_at w l) ≡ true
   parked h = elim ((s.sites.site l).parked (not_empty t (lock_state w l).queue h)) [
     | inl g ↦ subst (λ r. parked_in r.sort (word_at w l) ≡ true) rules g

@@ -44,7 +44,7 @@ use Rattle.lot_world.specs.MutexPromises.{IsMutexWord}
 use Rattle.abstract_locks.specs.Sites.{Line, Main, Second, Site}
 use Rattle.lot_world.specs.MutexDeeds.{acts, takes, queued}
 use Rattle.lot_world.specs.Stations.{station, station_at, Station, hand}
-use Rattle.lot_world.specs.SitesOf.{IsSteady, key_of, CallsMutex, is_mutex, Goes, hand_at}
+use Rattle.lot_world.specs.SitesOf.{IsSteady, key_of, FitsItsLock, is_mutex, Goes, hand_at}
 use Rattle.lot_world.proofs.ExclusiveOwners.{by_code, owner_after}
 use Rattle.abstract_locks.specs.Locks.{readers, Rules, MayEnter, IsBlocked, first_thread}
 use Rattle.abstract_locks.specs.Purposes.{rules_of, purpose_of, rwlock_purpose, Releases, Bumps, Patience, Patient, Timed, Try, mutex_purpose}
@@ -318,7 +318,7 @@ module _ (t l : ℕ) where
         let who : Some u ≡ Some x.thread = ap first_thread first in
         let same_one : u ≡ x.thread = cc in
         let hand : taken_at (place_at taken_then u) l ≡ Some (record { by = t; want = Exclusive }) = ap (λ (z : Site). z.lock.taken u) goes.follows.site ∙ put_here (λ k. taken_at (place_at w k) l) u (Some (record { by = t; want = Exclusive })) in
-        taken_place (place_at taken_then x.thread) t l (mutex_calls taken_then l (place_at taken_then x.thread) (goes.stands.calls x.thread) (ap rules_of (goes.follows.kinds l) ∙ mutex_rules (kind_at w l) (let c : CallsMutex w (Mutex l taking) = rw f.place at (f.steady.stands.calls t) in c))) (rw (← same_one, hand) (same t))
+        taken_place (place_at taken_then x.thread) t l (mutex_calls taken_then l (place_at taken_then x.thread) (goes.stands.calls x.thread) (ap rules_of (goes.follows.kinds l) ∙ mutex_rules (kind_at w l) (let c : FitsItsLock w (Mutex l taking) = rw f.place at (f.steady.stands.calls t) in c))) (rw (← same_one, hand) (same t))
 
     heir_first : (o : Owners) → owners_handed_over (after w (go_of t)) t l o ≡ with_exclusive o (Some x.thread)
     heir_first = successor_one (after w (go_of t)) t l x.thread false steady_then.stands.hands (single_at (after w (go_of t)) t l (HandOff bumps (hand_off.Store true (length rest == 0))) steady_then here.place) (rw here.place refl) (subst (λ (z : State). hand_at (place_at z x.thread) l ≡ hand t false) (sym led) held) (alone_at (after w (go_of t)) t l (HandOff bumps (hand_off.Store true (length rest == 0))) steady_then here.place) (unshared_at (after w (go_of t)) t l (HandOff bumps (hand_off.Store true (length rest == 0))) steady_then here.place)
@@ -408,8 +408,8 @@ module _ (w : State) (t : ℕ) (shape : IsShaped w) (steady : IsSteady w) (there
   at_first l p is own outside lt = subst (λ s. Facing w t l p (word_at w l) (owner_at w l) s (queue_at w (2 * l))) (free l p is own outside (section_at w (2 * l)) refl) (facing l p is lt)
 
   -- at a place of a reader-writer lock
-  admitted : (l : ℕ) (a : Admission) (p : RwLockPlace) → place_at w t ≡ RwLock l a p → CallsMutex w (RwLock l a p)
-  admitted l a p is = subst (CallsMutex w) is (steady.stands.calls t)
+  admitted : (l : ℕ) (a : Admission) (p : RwLockPlace) → place_at w t ≡ RwLock l a p → FitsItsLock w (RwLock l a p)
+  admitted l a p is = subst (FitsItsLock w) is (steady.stands.calls t)
 
   steps_alone : (l : ℕ) (a : Admission) (p : RwLockPlace) → place_at w t ≡ RwLock l a p → l < length w.locks → StepsAlone w t l (RwLock l a p) (word_at w l) (λ m. queue_at w (key_of l m))
   steps_alone l a p is lt = record {
@@ -527,8 +527,8 @@ module _ (w : State) (t : ℕ) (shape : IsShaped w) (steady : IsSteady w) (there
   mutex_ends l c is n last le = subst (λ o. EndsAlone w t o (solo n w t last).outcome (solo n w t last).state) (sym (purpose_is (kind_at w l) l c calls))
       (call_alone l (is_fair (kind_at w l)) c is fits.0 calls n last le)
     where
-      calls : CallsMutex w (Mutex l (mutex_first (is_fair (kind_at w l)) c))
-      calls = subst (CallsMutex w) is (steady.stands.calls t)
+      calls : FitsItsLock w (Mutex l (mutex_first (is_fair (kind_at w l)) c))
+      calls = subst (FitsItsLock w) is (steady.stands.calls t)
 
       fits : PlaceFits (length w.locks) (Mutex l (mutex_first (is_fair (kind_at w l)) c))
       fits = subst (PlaceFits (length w.locks)) is (shape.places t)

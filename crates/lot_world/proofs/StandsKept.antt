@@ -12,7 +12,7 @@ use Rattle.abstract_locks.specs.Sites.{Line, Main, Second}
 use Rattle.lot_machine.specs.Machine.{State, kind_at}
 use Rattle.lot_world.specs.SitesOf.{is_mutex}
 use Rattle.lot_world.specs.Stations.{Hand, Station, hand, nowhere, station, station_at}
-use Rattle.lot_world.specs.SitesOf.{Sections, Lines, Waits, AreWaiting, Hands, CallsMutex, key_of, stood_in, carried_at, hand_at}
+use Rattle.lot_world.specs.SitesOf.{Sections, Lines, Waits, AreWaiting, Hands, FitsItsLock, key_of, stood_in, carried_at, hand_at}
 use Rattle.lot_world.proofs.Glue.{IsOf, nothing_at, put_here, put_other, same, station_is, station_here, station_elsewhere, IsMutexOf}
 
 both : (a b : Bool) → (a && b) ≡ true → (a ≡ true) × (b ≡ true)
@@ -409,12 +409,12 @@ module _ (one : ℕ → Type 0) (p q : ℕ → Place) (hands : Hands one p) (t l
 
 -- ---------------------------------------------------------------- calls
 
-pub calls_of : (w : State) (l : ℕ) (p : Place) → IsMutexOf l p → is_mutex (kind_at w l) ≡ true → CallsMutex w p
+pub calls_of : (w : State) (l : ℕ) (p : Place) → IsMutexOf l p → is_mutex (kind_at w l) ≡ true → FitsItsLock w p
 calls_of w l Idle h m = tt
 calls_of w l (Mutex k at) h m = rw h m
 calls_of w l (RwLock k a at) h m = absurd h
 
-pub calls_in : (w v : State) (p : Place) → ((k : ℕ) → kind_at v k ≡ kind_at w k) → CallsMutex w p → CallsMutex v p
+pub calls_in : (w v : State) (p : Place) → ((k : ℕ) → kind_at v k ≡ kind_at w k) → FitsItsLock w p → FitsItsLock v p
 calls_in w v Idle e h = tt
 calls_in w v (Mutex l at) e h = ap is_mutex (e l) ∙ h
 calls_in w v (RwLock l a at) e h = (subst (λ k. Admits (rules_of k) a) (sym (e l)) h.0, h.1)

@@ -14,7 +14,7 @@ use Rattle.abstract_locks.specs.Sites.{Line, Main, Second}
 use Rattle.lot_machine.specs.Machine.{State, place_at, kind_at, section_at, queue_at}
 use Rattle.lot_world.specs.SitesOf.{is_mutex}
 use Rattle.lot_world.specs.Stations.{Station, hand, nowhere, station, station_at}
-use Rattle.lot_world.specs.SitesOf.{Stands, Sections, Lines, Waits, AreWaiting, Hands, TakesOne, CallsMutex, rules_at, key_of, stood_in}
+use Rattle.lot_world.specs.SitesOf.{Stands, Sections, Lines, Waits, AreWaiting, Hands, TakesOne, FitsItsLock, rules_in, key_of, stood_in}
 use Rattle.lot_world.proofs.Glue.{IsOf, same, differ, put_here, put_other, station_here}
 use Rattle.lot_world.proofs.MutexTable.{mutex}
 use Rattle.lot_world.proofs.StandsKept.{part_put, part_else, sections_same, entered, left, lines_same, line_moved, hands_same, waiting_same, waits_same, same_line, other_line, other_key, link, AreLinked, hands_pair, calls_in}
@@ -25,7 +25,7 @@ mutex_rules kind.TheVariants.Fair h = refl
 mutex_rules k h = absurd cc
 
 -- a thread has one waiter of a mutex in hand
-pub takes_one : (w : State) (l : ℕ) → rules_at w l ≡ mutex → TakesOne w l
+pub takes_one : (w : State) (l : ℕ) → rules_in w l ≡ mutex → TakesOne w l
 takes_one w l rules k = let none : Knows mutex.sort Upgradable = subst (λ (r : Rules). Knows r.sort Upgradable) rules k in none
 
 -- locks of the same kinds take as many
@@ -37,30 +37,30 @@ hands_in w v p kinds h = record {
 }
 
 -- a state by how its threads stand
-pub stands_then : (v : State) (q : ℕ → Place) → place_at v ≡ q → Sections q (section_at v) → Lines q (queue_at v) → Waits q (queue_at v) → Hands (TakesOne v) q → ((u : ℕ) → CallsMutex v (q u)) → Stands v
+pub stands_then : (v : State) (q : ℕ → Place) → place_at v ≡ q → Sections q (section_at v) → Lines q (queue_at v) → Waits q (queue_at v) → Hands (TakesOne v) q → ((u : ℕ) → FitsItsLock v (q u)) → Stands v
 stands_then v q e s n a h c = record {
   sections = subst (λ (f : ℕ → Place). Sections f (section_at v)) (sym e) s;
   lines = subst (λ (f : ℕ → Place). Lines f (queue_at v)) (sym e) n;
   waits = subst (λ (f : ℕ → Place). Waits f (queue_at v)) (sym e) a;
   hands = subst (λ (f : ℕ → Place). Hands (TakesOne v) f) (sym e) h;
-  calls = λ u. subst (λ (f : ℕ → Place). CallsMutex v (f u)) (sym e) (c u);
+  calls = λ u. subst (λ (f : ℕ → Place). FitsItsLock v (f u)) (sym e) (c u);
 }
 
-pub calls_put : (v : State) (p : ℕ → Place) (t : ℕ) (p2 : Place) → ((u : ℕ) → CallsMutex v (p u)) → CallsMutex v p2 → (u : ℕ) → CallsMutex v (putting p t p2 u)
+pub calls_put : (v : State) (p : ℕ → Place) (t : ℕ) (p2 : Place) → ((u : ℕ) → FitsItsLock v (p u)) → FitsItsLock v p2 → (u : ℕ) → FitsItsLock v (putting p t p2 u)
 calls_put v p t p2 c c2 u = elim (cases_eq u t) [
   | inl e ↦ rw (e, put_here p t p2) c2
   | inr ne ↦ rw (put_other p t p2 u ne) (c u)
 ]
 
 module _ (w v : State) (stands : Stands w) (kinds : (k : ℕ) → kind_at v k ≡ kind_at w k) where
-  pub calls_one : (t : ℕ) (p2 : Place) → CallsMutex w p2 → (u : ℕ) → CallsMutex v (putting (place_at w) t p2 u)
+  pub calls_one : (t : ℕ) (p2 : Place) → FitsItsLock w p2 → (u : ℕ) → FitsItsLock v (putting (place_at w) t p2 u)
   calls_one t p2 fits = calls_put v (place_at w) t p2 (λ u. calls_in w v (place_at w u) kinds (stands.calls u)) (calls_in w v p2 kinds fits)
 
-  pub calls_two : (x : ℕ) (px : Place) (t : ℕ) (p2 : Place) → CallsMutex w px → CallsMutex w p2 → (u : ℕ) → CallsMutex v (putting (putting (place_at w) x px) t p2 u)
+  pub calls_two : (x : ℕ) (px : Place) (t : ℕ) (p2 : Place) → FitsItsLock w px → FitsItsLock w p2 → (u : ℕ) → FitsItsLock v (putting (putting (place_at w) x px) t p2 u)
   calls_two x px t p2 fits_x fits = calls_put v (putting (place_at w) x px) t p2 (calls_one x px fits_x) (calls_in w v p2 kinds fits)
 
 -- one thread goes elsewhere
-module _ (w v : State) (stands : Stands w) (kinds : (k : ℕ) → kind_at v k ≡ kind_at w k) (l t : ℕ) (own : IsOf l (place_at w t)) (p2 : Place) (of : IsOf l p2) (fits : CallsMutex w p2) (places : place_at v ≡ putting (place_at w) t p2) where
+module _ (w v : State) (stands : Stands w) (kinds : (k : ℕ) → kind_at v k ≡ kind_at w k) (l t : ℕ) (own : IsOf l (place_at w t)) (p2 : Place) (of : IsOf l p2) (fits : FitsItsLock w p2) (places : place_at v ≡ putting (place_at w) t p2) where
   abbrev pub now : ℕ → Place
   now = putting (place_at w) t p2
 
@@ -122,7 +122,7 @@ module _ (w v : State) (stands : Stands w) (kinds : (k : ℕ) → kind_at v k �
 
 -- ---------------------------------------------------------------- two threads go elsewhere
 
-module _ (w v : State) (stands : Stands w) (kinds : (k : ℕ) → kind_at v k ≡ kind_at w k) (l t x : ℕ) (apart : x ≢ t) (of_mutex : is_mutex (kind_at w l) ≡ true) (own : IsOf l (place_at w t)) (own_x : IsOf l (place_at w x)) (p2 px : Place) (of : IsOf l p2) (of_x : IsOf l px) (fits : CallsMutex w p2) (fits_x : CallsMutex w px)
+module _ (w v : State) (stands : Stands w) (kinds : (k : ℕ) → kind_at v k ≡ kind_at w k) (l t x : ℕ) (apart : x ≢ t) (of_mutex : is_mutex (kind_at w l) ≡ true) (own : IsOf l (place_at w t)) (own_x : IsOf l (place_at w x)) (p2 px : Place) (of : IsOf l p2) (of_x : IsOf l px) (fits : FitsItsLock w p2) (fits_x : FitsItsLock w px)
     (places : place_at v ≡ putting (putting (place_at w) x px) t p2) where
   abbrev halfway : ℕ → Place
   halfway = putting (place_at w) x px

@@ -20,7 +20,7 @@ use Rattle.lot_machine.specs.Machine.{State, unlocked, shares_at, place_at, sect
 use Rattle.lot_world.specs.Refinement.{taken_at}
 use Rattle.lot_world.specs.MutexDeeds.{acts}
 use Rattle.lot_world.specs.Stations.{Station, hand, station, station_at, nowhere, doing_on}
-use Rattle.lot_world.specs.SitesOf.{AllNeeded, TakesOne, Hands, IsSteady, Goes, CallsMutex, Lines, Waits, AreWaiting, Sections, after_acts, rules_at, key_of, stood_in, carried_at, hand_at}
+use Rattle.lot_world.specs.SitesOf.{ActsNeeded, TakesOne, Hands, IsSteady, Goes, FitsItsLock, Lines, Waits, AreWaiting, Sections, after_acts, rules_in, key_of, stood_in, carried_at, hand_at}
 use Rattle.lot_world.proofs.Glue.{parts_at, base_at, lock_in, seen_in, same, differ, put_here, put_other, set_puts, past_all, IsOf, doing_elsewhere, taken_elsewhere, station_here, station_elsewhere, nothing_at}
 use Rattle.lot_world.proofs.OneStep.{AreSingle, others_same}
 use Rattle.lot_world.proofs.ActsKept.{AlikeAt, Moves, NoHandOff, ordinary_by, with_line, stood_other, follows_by, lock_by, word_by_lines}
@@ -97,7 +97,7 @@ pub record IsTakenFrom (w : State) (t l : ℕ) (m : Line) (p : Place) : Type 0 w
   pub calls_then : IsOf l (next_place p (TakenBy t))
   pub doing : doing_on (next_place p (TakenBy t)) l ≡ doing_on p l
   pub held : (x : Want) → wanted ≡ Some x → taken_at (next_place p (TakenBy t)) l ≡ Some (record { by = t; want = x })
-  pub fits : CallsMutex w (next_place p (TakenBy t))
+  pub fits : FitsItsLock w (next_place p (TakenBy t))
 
 -- who is taken of the line, and who is left
 pub record Splits (w : State) (t l : ℕ) (m : Line) (taken left : List Waiter) : Type 0 where
@@ -113,7 +113,7 @@ at_most_one (Some Main) Second = omega arith
 at_most_one (Some Second) Main = omega arith
 at_most_one (Some Second) Second = omega arith
 
-module _ (w : State) (t l : ℕ) (steady : IsSteady w) (own : IsOf l (place_at w t)) (there : t < length w.places) (p2 : Place) (of : IsOf l p2) (fits : CallsMutex w p2) (many : TakesOne w l → ⊥)
+module _ (w : State) (t l : ℕ) (steady : IsSteady w) (own : IsOf l (place_at w t)) (there : t < length w.places) (p2 : Place) (of : IsOf l p2) (fits : FitsItsLock w p2) (many : TakesOne w l → ⊥)
     (m : Line) (taken left : List Waiter) (splits : Splits w t l m taken left) (out : (station (place_at w t)).stands ≡ None) (free : (station (place_at w t)).hand ≡ None) (bare : (station (place_at w t)).carries ≡ None) where
   abbrev has : ℕ → Bool
   has u = member u taken
@@ -200,8 +200,8 @@ module _ (w : State) (t l : ℕ) (steady : IsSteady w) (own : IsOf l (place_at w
         (ap (λ (y : Station). y.carries) (station_here l (place_at w t) own) ∙ bare)
         (λ u h. let s = splits.sleeps u h in ap (λ (y : Station). y.hand) (station_here l (place_at w u) s.calls ∙ s.was)) some full
 
-  calls_now : (u : ℕ) → CallsMutex w (places_now u)
-  calls_now = by_thread (λ u p. CallsMutex w p) fits (λ u nu h. (splits.sleeps u h).fits) (λ u nu h. steady.stands.calls u)
+  calls_now : (u : ℕ) → FitsItsLock w (places_now u)
+  calls_now = by_thread (λ u p. FitsItsLock w p) fits (λ u nu h. (splits.sleeps u h).fits) (λ u nu h. steady.stands.calls u)
 
   -- those who are left stand in the line
   lines_now : (queue : ℕ → List Waiter) → (station p2).stands ≡ None → queue (key_of l m) ≡ left → ((key : ℕ) → key ≢ key_of l m → queue key ≡ queue_at w key) → Lines places_now queue
@@ -271,7 +271,7 @@ module _ (w : State) (t l : ℕ) (steady : IsSteady w) (own : IsOf l (place_at w
           (λ u nu h. refl) u
 
   -- the lock, by those whom t has in hand then
-  module _ (r : Rules) (rules : rules_at w l ≡ r) (none : taken_at (place_at w t) l ≡ None) (none2 : taken_at p2 l ≡ None) where
+  module _ (r : Rules) (rules : rules_in w l ≡ r) (none : taken_at (place_at w t) l ≡ None) (none2 : taken_at p2 l ≡ None) where
     abbrev pub lock_taken : Site
     lock_taken = record (seen_in r l (with_line (parts_at w l) m left) (place_at w)) {
       lock = lock_in (with_line (parts_at w l) m left) (locks.taking t (map queued_of taken) (λ u. taken_at (place_at w u) l));
@@ -351,7 +351,7 @@ module _ (w : State) (t l : ℕ) (steady : IsSteady w) (own : IsOf l (place_at w
       word_now Second e = word_by_lines w t l steady own there r rules p2 of fits (queue_at w (2 * l)) left places_now
 
       pub take_goes : (station p2).inside ≡ (station (place_at w t)).inside → (station p2).stands ≡ None → (station p2).hand ≡ None → ((b : Bool) → (station p2).carries ≡ Some b → (b ≡ false) × ((u : ℕ) × (has u ≡ true))) → ((u : ℕ) → has u ≡ true → (station p2).carries ≡ Some false)
-          → (d : Deed) → AreSingle (d ∷ []) → NoHandOff (d ∷ []) → AllNeeded r (acts t (d ∷ [])) (lock_by w l r) → lock_taken.lock ≡ (after_acts r (acts t (d ∷ [])) (lock_by w l r)).lock → lock_taken.parked ≡ (after_acts r (acts t (d ∷ [])) (lock_by w l r)).parked
+          → (d : Deed) → AreSingle (d ∷ []) → NoHandOff (d ∷ []) → ActsNeeded r (acts t (d ∷ [])) (lock_by w l r) → lock_taken.lock ≡ (after_acts r (acts t (d ∷ [])) (lock_by w l r)).lock → lock_taken.parked ≡ (after_acts r (acts t (d ∷ [])) (lock_by w l r)).parked
           → lock_taken.aside_parked ≡ (after_acts r (acts t (d ∷ [])) (lock_by w l r)).aside_parked → lock_taken.filled ≡ (after_acts r (acts t (d ∷ [])) (lock_by w l r)).filled → doing_on p2 l ≡ (after_acts r (acts t (d ∷ [])) (lock_by w l r)).doing t → Goes w v l (acts t (d ∷ []))
       take_goes inside stands unheld some full d single plain needed lock parked aside filled own_is = record {
         follows = follows_by w v l (with_line (parts_at w l) m left) places_now moves r rules (acts t (d ∷ [])) (λ h. ordinary_by (length w.places) t (d ∷ []) there plain) (take_site d single lock parked aside filled own_is) needed (word_now m refl);

@@ -16,7 +16,7 @@ use Rattle.lot_machine.specs.Machine.{State, place_at, filled_at, section_at, qu
 use Rattle.lot_world.specs.Refinement.{taken_at}
 use Rattle.lot_world.specs.MutexDeeds.{acts}
 use Rattle.lot_world.specs.Stations.{Station, Hand, hand, station, station_at, nowhere, doing_on}
-use Rattle.lot_world.specs.SitesOf.{AllNeeded, AreOrdinary, TakesOne, Hands, IsSteady, Goes, CallsMutex, after_acts, rules_at, key_of, carried_at, hand_at}
+use Rattle.lot_world.specs.SitesOf.{ActsNeeded, AreOrdinary, TakesOne, Hands, IsSteady, Goes, FitsItsLock, after_acts, rules_in, key_of, carried_at, hand_at}
 use Rattle.lot_world.proofs.Glue.{Parts, parts_at, lock_in, seen_in, same, differ, put_places, put_here, put_other, IsOf, next_of, doing_elsewhere, taken_elsewhere, station_here, station_elsewhere, nothing_at, LetGo, stays, untaken, IsHeldBy, held_taker, held_where}
 use Rattle.lot_world.proofs.ActsKept.{AlikeAt, follows_by, lock_by, word_by_lines}
 use Rattle.lot_world.proofs.StandsKept.{left, lines_same, waits_same, hands_freed, calls_in}
@@ -61,9 +61,9 @@ pub record IsWoken (w : State) (t l : ℕ) (handed : Bool) (x : Note) (p : Place
   pub lets : LetGo t l p (next_place p (Woken x))
   pub was : station p ≡ record nowhere { hand = hand t handed }
   pub free : station (next_place p (Woken x)) ≡ nowhere
-  pub fits : CallsMutex w (next_place p (Woken x))
+  pub fits : FitsItsLock w (next_place p (Woken x))
 
-module _ (w : State) (t l : ℕ) (steady : IsSteady w) (own : IsOf l (place_at w t)) (there : t < length w.places) (p2 : Place) (of : IsOf l p2) (fits : CallsMutex w p2) (x : Note)
+module _ (w : State) (t l : ℕ) (steady : IsSteady w) (own : IsOf l (place_at w t)) (there : t < length w.places) (p2 : Place) (of : IsOf l p2) (fits : FitsItsLock w p2) (x : Note)
     (woken : (u : ℕ) (b : Bool) → hand_at (place_at w u) l ≡ hand t b → IsWoken w t l b x (place_at w u)) (free : (station (place_at w t)).hand ≡ None) where
   -- who is told
   abbrev has : ℕ → Bool
@@ -169,15 +169,15 @@ module _ (w : State) (t l : ℕ) (steady : IsSteady w) (own : IsOf l (place_at w
     hands_then : Hands (TakesOne w) places_then
     hands_then = hands_freed (TakesOne w) (place_at w) places_then steady.stands.hands t l has in_hand carries (λ u h. let held = held_here u h in (held.handed, held.hand)) (λ u b h. held_taker (place_at w u) t l b h)
 
-    calls_then : (u : ℕ) → CallsMutex w (places_then u)
+    calls_then : (u : ℕ) → FitsItsLock w (places_then u)
     calls_then u = elim (cases_eq u t) [
       | inl e ↦ rw (e, put_here told t p2) fits
-      | inr nu ↦ subst (λ (y : Place). CallsMutex w y) (sym (put_other told t p2 u nu)) (either (has u) refl)
+      | inr nu ↦ subst (λ (y : Place). FitsItsLock w y) (sym (put_other told t p2 u nu)) (either (has u) refl)
     ]
       where
-        either : (b : Bool) → has u ≡ b → CallsMutex w (told u)
-        either false h = subst (λ (y : Place). CallsMutex w y) (sym (told_off u h)) (steady.stands.calls u)
-        either true h = let held = held_here u h in subst (λ (y : Place). CallsMutex w y) (sym (told_on u h)) (woken u held.handed held.hand).fits
+        either : (b : Bool) → has u ≡ b → FitsItsLock w (told u)
+        either false h = subst (λ (y : Place). FitsItsLock w y) (sym (told_off u h)) (steady.stands.calls u)
+        either true h = let held = held_here u h in subst (λ (y : Place). FitsItsLock w y) (sym (told_on u h)) (woken u held.handed held.hand).fits
 
     -- out of a section of the lock
     module _ (m : Line) (line : key_of l m < length w.sections) (within : (station (place_at w t)).inside ≡ Some m) (stood : (station p2).stands ≡ (station (place_at w t)).stands) (waited : (station p2).waits ≡ (station (place_at w t)).waits) (out : (station p2).inside ≡ None) where
@@ -203,7 +203,7 @@ module _ (w : State) (t l : ℕ) (steady : IsSteady w) (own : IsOf l (place_at w
         | inr nu ↦ same_parts g part u k (λ i h. nu i)
       ]
 
-      pub wake_goes : (r : Rules) → rules_at w l ≡ r → taken_at (place_at w t) l ≡ None → taken_at p2 l ≡ None → (ds : List Deed) → AreLeaving ds → AllNeeded r (acts t ds) (lock_by w l r) → doing_on p2 l ≡ (after_acts r (acts t ds) (lock_by w l r)).doing t → Goes w v l (acts t ds)
+      pub wake_goes : (r : Rules) → rules_in w l ≡ r → taken_at (place_at w t) l ≡ None → taken_at p2 l ≡ None → (ds : List Deed) → AreLeaving ds → ActsNeeded r (acts t ds) (lock_by w l r) → doing_on p2 l ≡ (after_acts r (acts t ds) (lock_by w l r)).doing t → Goes w v l (acts t ds)
       wake_goes r rules none none2 ds leaving needed e = record {
         follows = follows_by w v l (parts_at w l) places_then (record {
           here = λ i. record (parts_at w l) { base = record { shared = get_or w.shares l (replicate (threads i) 0); filled = filled_at w l } };

@@ -4,7 +4,7 @@ use Rattle.lot_calls.specs.declared.calls.Step.{Step}
 use Rattle.lot_calls.specs.declared.outcomes.Outcome.{Outcome}
 use Rattle.lot_calls.specs.declared.outcomes.Outcome as outcome
 use Rattle.abstract_locks.specs.Runs.{IsRun}
-use Rattle.lot_machine.specs.Machine.{State, after, step_outcome, after_all, step_outcomes, alone_after, go_of, solo}
+use Rattle.lot_machine.specs.Machine.{State, after, step_outcome, after_steps, step_outcomes, alone_after, go_of, solo}
 use Rattle.lot_machine.specs.Fits.{IsShaped}
 use Rattle.lot_world.specs.Refinement.{locks_of}
 use Rattle.lot_world.specs.WorldRuns.{IsWorldStep, IsWorldRun, Tells}
@@ -42,7 +42,7 @@ world_step w s h = record {
   kept = kept_after w s h.shaped h.steady;
 }
 
-pub world_run : (w : State) (ss : List Step) → Holds w → IsWorldRun w ss (step_outcomes w ss) (after_all w ss)
+pub world_run : (w : State) (ss : List Step) → Holds w → IsWorldRun w ss (step_outcomes w ss) (after_steps w ss)
 world_run w [] h = refl
 world_run w (s ∷ ss) h = (after w s, world_step w s h, world_run (after w s) ss (holds_after w s h))
 
@@ -55,7 +55,7 @@ run_refines w v (s ∷ ss) (o ∷ os) h = (locks_of h.0, h.1.refines, run_refine
 
 -- ---------------------------------------------------------------- what was told stands behind what was there
 
-module _ (w v : State) (ss : List Step) (before now : List Outcome) (h : Holds w) (led : v ≡ after_all w ss) (answers : now ≡ before ++ step_outcomes w ss) where
+module _ (w v : State) (ss : List Step) (before now : List Outcome) (h : Holds w) (led : v ≡ after_steps w ss) (answers : now ≡ before ++ step_outcomes w ss) where
   pub tells_run : Tells before now (λ told. IsWorldRun w ss told v)
   tells_run = (step_outcomes w ss, answers, subst (IsWorldRun w ss (step_outcomes w ss)) (sym led) (world_run w ss h))
 

@@ -17,7 +17,7 @@ use Rattle.lot_mutex.specs.declared.lock.Entry.TheVariants as entry
 use Rattle.lot_mutex.specs.declared.lock.LockAt.TheVariants.{Asleep, Taken}
 use Rattle.lot_mutex.specs.declared.hand_off.HandOffAt.TheVariants.{Store}
 use Rattle.lot_steps.specs.declared.places.Place.TheVariants.{Idle, Mutex}
-use Rattle.lot_machine.specs.Machine.{State, opening, unlocked, nobody, after_all, word_at}
+use Rattle.lot_machine.specs.Machine.{State, opening, unlocked, nobody, after_steps, word_at}
 use Rattle.lot_world.specs.Refinement.{lock_state, locks_of}
 use Rattle.lot_world.specs.Fair.{IsFair}
 use Rattle.lot_world.specs.Promises.{IsKept}
@@ -54,10 +54,10 @@ row_told = told.Step ∷ told.End answer.Ok
 
 -- it is a run of the abstract locks, and in the end thread 1 owns the mutex and thread 2 waits
 pub record FairUnlockHandsOver : Type 0 where
-  pub run : IsRun (locks_of three) row row_told (locks_of (after_all three row))
-  pub owner : (lock_state (after_all three row) 0).exclusive ≡ Some 1
-  pub queue : (lock_state (after_all three row) 0).queue ≡ record { thread = 2; want = Exclusive } ∷ []
-  pub word : word_at (after_all three row) 0 ≡ 3
+  pub run : IsRun (locks_of three) row row_told (locks_of (after_steps three row))
+  pub owner : (lock_state (after_steps three row) 0).exclusive ≡ Some 1
+  pub queue : (lock_state (after_steps three row) 0).queue ≡ record { thread = 2; want = Exclusive } ∷ []
+  pub word : word_at (after_steps three row) 0 ≡ 3
 
 -- thread 1 waits for a mutex that nobody owns, and nobody is in another call
 abbrev pub forgotten : State

@@ -6,14 +6,14 @@ use Rattle.lot_calls.specs.declared.outcomes.Outcome.TheVariants as told
 use Rattle.lot_steps.specs.Steps.{line_owed}
 use Rattle.lot_machine.specs.Machine.{State, place_at, word_at, section_at}
 use Rattle.lot_world.specs.Refinement.{call_at}
-use Rattle.lot_world.specs.SitesOf.{rules_at, key_of}
+use Rattle.lot_world.specs.SitesOf.{rules_in, key_of}
 use Rattle.abstract_locks.specs.Codes.{parked_in, aside_in, count_in}
 use Rattle.abstract_locks.specs.Locks.{Sort}
 use Rattle.abstract_locks.specs.Sites.{Line, Main, Second, has_readers}
 use Rattle.abstract_locks.specs.Purposes.{Purpose, Releases, Converts, IsReleasing}
 
 abbrev pub sort_at : State → ℕ → Sort
-sort_at w l = (rules_at w l).sort
+sort_at w l = (rules_in w l).sort
 
 -- a thread is shown to owe a wake on a line of a lock
 abbrev pub Owes : State → ℕ → ℕ → Line → Type 0

@@ -16,7 +16,7 @@ use Rattle.abstract_locks.specs.Sites.{Line, Main, Second, IsOpen, counts_some, 
 use Rattle.abstract_locks.specs.Purposes.{Purpose, Enters, Releases, Converts, Bumps, MayWait}
 use Rattle.lot_world.specs.Refinement.{lock_state, locks_of, call_at}
 use Rattle.lot_world.specs.Stations.{doing_on}
-use Rattle.lot_world.specs.SitesOf.{rules_at, key_of}
+use Rattle.lot_world.specs.SitesOf.{rules_in, key_of}
 use Rattle.lot_world.specs.Owing.{Owes, IsInside, LetsOthersIn, sort_at}
 
 -- a thread stands in the queue of a lock
@@ -34,7 +34,7 @@ has_aside_bit w l = aside_in (sort_at w l) (word_at w l)
 -- the word is the one of the lock's owners, beside its parked bits
 abbrev pub IsCoded : State → ℕ → Type 0
 IsCoded w l =
-    word_at w l ≡ word_by (sort_at w l) (rules_at w l).limit (lock_state w l) (has_aside_bit w l) (has_parked_bit w l)
+    word_at w l ≡ word_by (sort_at w l) (rules_in w l).limit (lock_state w l) (has_aside_bit w l) (has_parked_bit w l)
 
 -- the thread has brought waiters of a condition variable to the lock, and is about to set its parked bit; no such call is built
 abbrev pub IsAboutToMark : State → ℕ → ℕ → Type 0
@@ -95,7 +95,7 @@ WasNeverFull w l = has_readers (sort_at w l) ≡ true → filled_at w l ≡ fals
 
 pub record NobodyForgotten (w : State) : Type 0 where
   -- whoever waits for a lock whose way nobody bars is looked after
-  pub main : (t l : ℕ) → WaitsFor w t l → IsOpenNow (rules_at w l) (lock_state w l) → WasNeverFull w l
+  pub main : (t l : ℕ) → WaitsFor w t l → IsOpenNow (rules_in w l) (lock_state w l) → WasNeverFull w l
       → IsLookedAfter w l Main
   -- and so is a writer aside of whom nobody shares any more
   pub second : (l : ℕ) → (lock_state w l).aside ≢ None → readers (lock_state w l) ≡ 0 → IsLookedAfter w l Second

@@ -19,14 +19,14 @@ use Rattle.lot_rwlock.specs.RwLockCalls.{MayStand}
 use Rattle.lot_world.specs.MutexDeeds.{Act}
 use Rattle.lot_world.specs.Stations.{Hand, hand, station_at, doing_on}
 
-abbrev pub rules_at : State → ℕ → Rules
-rules_at w l = rules_of (kind_at w l)
+abbrev pub rules_in : State → ℕ → Rules
+rules_in w l = rules_of (kind_at w l)
 
 abbrev pub site_of : State → ℕ → Site
 site_of w l = record {
   lock = lock_state w l;
-  parked = parked_in (rules_at w l).sort (word_at w l);
-  aside_parked = aside_in (rules_at w l).sort (word_at w l);
+  parked = parked_in (rules_in w l).sort (word_at w l);
+  aside_parked = aside_in (rules_in w l).sort (word_at w l);
   filled = filled_at w l;
   doing = λ u. doing_on (place_at w u) l;
 }
@@ -36,9 +36,9 @@ after_acts r [] s = s
 after_acts r (a ∷ more) s = after_acts r more (after_deed r a.deed s a.by)
 
 -- each deed may be done where it is
-abbrev pub AllNeeded : Rules → List Act → Site → Type 0
-AllNeeded r [] s = Unit {0}
-AllNeeded r (a ∷ more) s = Needed r a.deed s a.by × AllNeeded r more (after_deed r a.deed s a.by)
+abbrev pub ActsNeeded : Rules → List Act → Site → Type 0
+ActsNeeded r [] s = Unit {0}
+ActsNeeded r (a ∷ more) s = Needed r a.deed s a.by × ActsNeeded r more (after_deed r a.deed s a.by)
 
 -- a number of readers that a word can count
 abbrev pub HasRoom : Rules → Type 0
@@ -46,13 +46,13 @@ HasRoom r = (1 ≤ r.limit) × (r.limit < 2 ^ 60 - 1)
 
 -- each lock is a site, and its word says so
 pub record AreSites (w : State) : Type 0 where
-  pub site : (l : ℕ) → IsSite (rules_at w l) (site_of w l)
-  pub word : (l : ℕ) → word_at w l ≡ code (rules_at w l) (site_of w l)
+  pub site : (l : ℕ) → IsSite (rules_in w l) (site_of w l)
+  pub word : (l : ℕ) → word_at w l ≡ code (rules_in w l) (site_of w l)
   -- a lock that nobody shares is never filled
-  pub unfilled : (l : ℕ) → has_readers (rules_at w l).sort ≡ false → filled_at w l ≡ false
+  pub unfilled : (l : ℕ) → has_readers (rules_in w l).sort ≡ false → filled_at w l ≡ false
   -- as many readers as the limit lets in, or one more
-  pub limits : (l : ℕ) → has_readers (rules_at w l).sort ≡ true
-      → HasRoom (rules_at w l) × HasLimit (rules_at w l) (lock_state w l)
+  pub limits : (l : ℕ) → has_readers (rules_in w l).sort ≡ true
+      → HasRoom (rules_in w l) × HasLimit (rules_in w l) (lock_state w l)
 
 -- ---------------------------------------------------------------- what the machine keeps beside its locks' being sites
 
@@ -96,25 +96,25 @@ pub record Hands (one : ℕ → Type 0) (p : ℕ → Place) : Type 0 where
 
 -- only the waiters of a reader-writer lock are taken many at a time
 abbrev pub TakesOne : State → ℕ → Type 0
-TakesOne w l = Knows (rules_at w l).sort Upgradable → ⊥
+TakesOne w l = Knows (rules_in w l).sort Upgradable → ⊥
 
 abbrev pub is_mutex : Kind → Bool
 is_mutex kind.TheVariants.Mutex = true
 is_mutex kind.TheVariants.Fair = true
 is_mutex k = false
 
--- a call is of a lock of such a kind, and stands where it may
-abbrev pub CallsMutex : State → Place → Type 0
-CallsMutex w Idle = Unit {0}
-CallsMutex w (OfMutex l at) = is_mutex (kind_at w l) ≡ true
-CallsMutex w (OfRwLock l a at) = Admits (rules_at w l) a × MayStand a at
+-- a call is of a lock of its sort, and stands where it may
+abbrev pub FitsItsLock : State → Place → Type 0
+FitsItsLock w Idle = Unit {0}
+FitsItsLock w (OfMutex l at) = is_mutex (kind_at w l) ≡ true
+FitsItsLock w (OfRwLock l a at) = Admits (rules_in w l) a × MayStand a at
 
 pub record Stands (w : State) : Type 0 where
   pub sections : Sections (place_at w) (section_at w)
   pub lines : Lines (place_at w) (queue_at w)
   pub waits : Waits (place_at w) (queue_at w)
   pub hands : Hands (TakesOne w) (place_at w)
-  pub calls : (t : ℕ) → CallsMutex w (place_at w t)
+  pub calls : (t : ℕ) → FitsItsLock w (place_at w t)
 
 -- each thread has a number of shared rights of each lock
 pub record HasNumbers (w : State) : Type 0 where
@@ -144,15 +144,15 @@ pub record SameNumbers (w v : State) : Type 0 where
 
 -- one lock has been through deeds that are allowed, its word says so, and the others are as they were
 pub record Follows (w v : State) (l : ℕ) (ds : List Act) : Type 0 where
-  pub site : site_of v l ≡ after_acts (rules_at w l) ds (site_of w l)
-  pub needed : AllNeeded (rules_at w l) ds (site_of w l)
-  pub word : word_at v l ≡ code (rules_at w l) (site_of v l)
+  pub site : site_of v l ≡ after_acts (rules_in w l) ds (site_of w l)
+  pub needed : ActsNeeded (rules_in w l) ds (site_of w l)
+  pub word : word_at v l ≡ code (rules_in w l) (site_of v l)
   pub others : (k : ℕ) → k ≢ l → (site_of v k ≡ site_of w k) × (word_at v k ≡ word_at w k)
   pub kinds : (k : ℕ) → kind_at v k ≡ kind_at w k
   pub numbers : SameNumbers w v
   pub sharers : (k : ℕ) → length (shares_at v k) ≡ length (shares_at w k)
   -- no call that hands over a lock that is shared is built
-  pub ordinary : has_readers (rules_at w l).sort ≡ true → AreOrdinary (length w.places) ds
+  pub ordinary : has_readers (rules_in w l).sort ≡ true → AreOrdinary (length w.places) ds
 
 -- and each thread stands where its place says
 pub record Goes (w v : State) (l : ℕ) (ds : List Act) : Type 0 where

@@ -3,7 +3,7 @@ ghost use Rattle.std.specs.Prelude.{◌≡◌, ◌<◌, ◌≤◌, ◌++◌, ◌
 ghost use Rattle.lot_calls.specs.Kinds.{fits};
 ghost use Rattle.lot_calls.specs.Calls.{lock_in};
 ghost use Rattle.lot_steps.specs.Steps.{first_place};
-ghost use Rattle.lot_machine.specs.Machine.{opening, place_at, word_at, kind_at, queue_at, after, step_outcome, after_all, step_outcomes, solo};
+ghost use Rattle.lot_machine.specs.Machine.{opening, place_at, word_at, kind_at, queue_at, after, step_outcome, after_steps, step_outcomes, solo};
 ghost use Rattle.lot_machine.specs.Fits.{SameSize};
 ghost use Rattle.abstract_locks.specs.Runs.{IsOpening, IsStep, IsRun, purpose_at};
 ghost use Rattle.lot_world.specs.Refinement.{locks_of, ChangesOneThing};
@@ -153,10 +153,10 @@ impl<Q: Queues + Drop> World<Q> {
             (λ told. IsRun (locks_of self.old) (take stopped.taken steps.now) told (locks_of self.new))) }
         ensures stopped_run { IfErr result (λ stopped. Tells outcomes.old.items outcomes.new.items
             (λ told. IsWorldRun self.old (take stopped.taken steps.now) told self.new)) }
-        ensures state { OnOk result (self.new ≡ after_all self.old steps.now) }
+        ensures state { OnOk result (self.new ≡ after_steps self.old steps.now) }
         ensures outcomes { OnOk result (outcomes.new.items ≡ outcomes.old.items ++ step_outcomes self.old steps.now) }
         ensures taken { IfErr result (λ stopped. stopped.taken < length steps.now) }
-        ensures stopped { IfErr result (λ stopped. self.new ≡ after_all self.old (take stopped.taken steps.now)) }
+        ensures stopped { IfErr result (λ stopped. self.new ≡ after_steps self.old (take stopped.taken steps.now)) }
         ensures stopped_outcomes { IfErr result (λ stopped. outcomes.new.items ≡ outcomes.old.items ++ step_outcomes self.old (take stopped.taken steps.now)) }
     {
         // The proof reads the world's invariant here.

@@ -25,7 +25,7 @@ use Rattle.lot_words.specs.declared.views.WordStep.{WordStep}
 use Rattle.lot_words.specs.declared.words.Word.{Word}
 use Rattle.lot_words.specs.declared.words.WordKind as kinds
 use Rattle.parking_lot_core.specs.declared.tokens.SectionRecord.{SectionRecord}
-use Rattle.parking_lot.specs.Calls.{beginning, first_op, purpose_in, saw_waiter, GoesOn, Releases, TookIfParked}
+use Rattle.parking_lot.specs.Calls.{beginning, first_op, purpose_in, saw_waiter, IsUnfinished, Releases, TookIfParked}
 use Rattle.parking_lot.specs.Fitting.{of_mutex, aim_of, AreWordsFor, Fits, IsOver, IsStopped}
 use Rattle.parking_lot.specs.declared.driver.Stop.TheVariants.{Paused}
 use Rattle.parking_lot.proofs.Ending.{never_paused}
@@ -60,7 +60,7 @@ success call.LockTimed = Yes
 success _ = Ok
 
 module _ (n : ℕ) where
-  goes_to : (c : MutexCall) (seen : ℕ) (owns : List Ownership) → GoesOn n c seen owns → next_place (beginning n c) (Value seen) ≡ Mutex n (rest c)
+  goes_to : (c : MutexCall) (seen : ℕ) (owns : List Ownership) → IsUnfinished n c seen owns → next_place (beginning n c) (Value seen) ≡ Mutex n (rest c)
   goes_to call.Lock seen owns g = rw (ne_eqb seen 0 (λ z. omega arith)) refl
   goes_to call.LockTimed seen owns g = rw (ne_eqb seen 0 (λ z. omega arith)) refl
   goes_to call.TryLock seen owns g = absurd g
@@ -68,7 +68,7 @@ module _ (n : ℕ) where
   goes_to call.UnlockFair seen owns g = ap (λ (b : Bool). mutex_goes n (looked false (not b))) (ne_eqb seen 1 g.0)
   goes_to call.Bump seen owns g = ap (λ (b : Bool). mutex_goes n (looked true b)) g.0
 
-  fits_there : (up : Type 0) (c : MutexCall) (seen : ℕ) (owns : List Ownership) (last : Option SectionRecord) → GoesOn n c seen owns → Fits up owns (Mutex n (rest c)) (stage owns None last)
+  fits_there : (up : Type 0) (c : MutexCall) (seen : ℕ) (owns : List Ownership) (last : Option SectionRecord) → IsUnfinished n c seen owns → Fits up owns (Mutex n (rest c)) (stage owns None last)
   fits_there up call.Lock seen owns last g = (refl, refl)
   fits_there up call.LockTimed seen owns last g = (refl, refl)
   fits_there up call.TryLock seen owns last g = absurd g
@@ -116,13 +116,13 @@ module _ (n : ℕ) where
   pub releases_behind : (c : MutexCall) (seen : ℕ) (old mid new : List WordStep) (last : Option SectionRecord) → saw_waiter c seen ≡ true → mid ≡ old ++ step (mutex_at n) (first_op c) seen → (more : List WordStep) × (new ≡ mid ++ more) → TookAt n last → Releases n c old new last
   releases_behind c seen old mid new last waits saw rest took = (seen, rest.0, rest.1 ∙ ap (λ (l : List WordStep). l ++ rest.0) saw, subst (λ (b : Bool). TookIfParked n b rest.0 last) (sym waits) took)
 
-  pub fits_behind : (up : Type 0) (c : MutexCall) (seen : ℕ) (owns : List Ownership) (last : Option SectionRecord) → GoesOn n c seen owns → Fits up owns (next_place (beginning n c) (Value seen)) (stage owns None last)
+  pub fits_behind : (up : Type 0) (c : MutexCall) (seen : ℕ) (owns : List Ownership) (last : Option SectionRecord) → IsUnfinished n c seen owns → Fits up owns (next_place (beginning n c) (Value seen)) (stage owns None last)
   fits_behind up c seen owns last g = subst (λ (p : Place). Fits up owns p (stage owns None last)) (sym (goes_to c seen owns g)) (fits_there up c seen owns last g)
 
-  pub over_behind : (up : Type 0) (c : MutexCall) (seen : ℕ) (owns : List Ownership) (answer : Answer) (new : Stage) → GoesOn n c seen owns → IsOver up owns (aim_of (next_place (beginning n c) (Value seen))) answer new → IsMutexOver up n owns (purpose_in c) answer new
+  pub over_behind : (up : Type 0) (c : MutexCall) (seen : ℕ) (owns : List Ownership) (answer : Answer) (new : Stage) → IsUnfinished n c seen owns → IsOver up owns (aim_of (next_place (beginning n c) (Value seen))) answer new → IsMutexOver up n owns (purpose_in c) answer new
   over_behind up c seen owns answer new g over = subst (λ aim. IsOver up owns aim answer new) (ap aim_of (goes_to c seen owns g) ∙ same_aim c) over
 
-  pub never_pauses : (up : Type 0) (c : MutexCall) (seen : ℕ) (owns : List Ownership) (place : Place) (state : OnceState) (new : Stage) → GoesOn n c seen owns → IsStopped up owns (aim_of (next_place (beginning n c) (Value seen))) (Paused place state) new → ⊥
+  pub never_pauses : (up : Type 0) (c : MutexCall) (seen : ℕ) (owns : List Ownership) (place : Place) (state : OnceState) (new : Stage) → IsUnfinished n c seen owns → IsStopped up owns (aim_of (next_place (beginning n c) (Value seen))) (Paused place state) new → ⊥
   never_pauses up c seen owns place state new g stopped = never_paused up owns n (purpose_in c) place state new (subst (λ aim. IsStopped up owns aim (Paused place state) new) (ap aim_of (goes_to c seen owns g) ∙ same_aim c) stopped)
 
   pub path_behind : (c : MutexCall) (seen : ℕ) (old mid new : List WordStep) (answer : Answer) → Walks (at_mutex n) (next_place (beginning n c) (Value seen)) mid new answer → mid ≡ old ++ step (mutex_at n) (first_op c) seen → Walks (at_mutex n) (beginning n c) old new answer

@@ -20,7 +20,7 @@ use Rattle.parking_lot_core.specs.declared.tokens.SectionRecord.{SectionRecord}
 use Rattle.parking_lot.specs.Fitting.{Aim, nothing, of_mutex, aim_of, answer_of, Fits, IsOver, IsStopped}
 use Rattle.parking_lot.specs.MutexFitting.{Purpose, enters, releases, hands_over, FitsMutex, IsMutexOver}
 use Rattle.parking_lot.specs.Paths.{closure_of}
-use Rattle.parking_lot.specs.Stages.{Inside, Stage, Needs, stage}
+use Rattle.parking_lot.specs.Stages.{Inside, Stage, ActNeeds, stage}
 use Rattle.parking_lot.specs.declared.driver.Stop.TheVariants.{Paused}
 
 pub end_of : (a : Act) (answer : Answer) → answer_of a ≡ Some answer → a ≡ act.TheVariants.End answer
@@ -33,8 +33,8 @@ closure_act (act.TheVariants.Closure s) state e = cc
 closure_act a state e = absurd cc
 
 -- who comes to a closure is outside all sections, and stops there
-pub closes_outside : (kinds : ℕ → WordKind) (at : ℕ → ℕ) (st : Stage) (a : Act) (state : OnceState) → closure_of a ≡ Some state → Needs kinds at st a → st.inside ≡ None
-closes_outside kinds at st a state e needs = subst (Needs kinds at st) (closure_act a state e) needs
+pub closes_outside : (kinds : ℕ → WordKind) (at : ℕ → ℕ) (st : Stage) (a : Act) (state : OnceState) → closure_of a ≡ Some state → ActNeeds kinds at st a → st.inside ≡ None
+closes_outside kinds at st a state e needs = subst (ActNeeds kinds at st) (closure_act a state e) needs
 
 pub closed : (up : Type 0) (base owns : List Ownership) (aim : Aim) (p : Place) (state : OnceState) (inside : Option Inside) (last : Option SectionRecord) → closure_of (act_of p) ≡ Some state → inside ≡ None → Fits up base p (stage owns inside last) → aim_of p ≡ aim → IsStopped up base aim (Paused p state) (stage owns None last)
 closed up base owns aim p state inside last e none fits same = (subst (λ (i : Option Inside). Fits up base p (stage owns i last)) none fits, same, closure_act (act_of p) state e)

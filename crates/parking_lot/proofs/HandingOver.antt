@@ -25,7 +25,7 @@ use Rattle.parking_lot_core.specs.declared.tokens.Did.TheVariants.{TakeFirst}
 use Rattle.parking_lot.specs.Fitting.{Reached, sleeper_at}
 use Rattle.parking_lot.specs.MutexFitting.{FitsHandOff, held}
 use Rattle.parking_lot.specs.Paths.{mutex_at, mutexes, at_mutex}
-use Rattle.parking_lot.specs.Stages.{Stage, Inside, Needs, Became, HasKey, HandsEach, IsFresh, IsUngiven, MayLeave, IsLeft, is_there, listed, having_taken, took_as, all_given, wanted_in}
+use Rattle.parking_lot.specs.Stages.{Stage, Inside, ActNeeds, Became, HasKey, HandsEach, IsFresh, IsUngiven, MayLeave, IsLeft, is_there, listed, having_taken, took_as, all_given, wanted_in}
 
 -- an owner finds the word locked
 pub finds_locked : (n seen : ℕ) (owns : List Ownership) → has (held n) owns ≡ true → CodesWith kinds.TheVariants.Mutex (mutex_at n) seen owns → seen % 2 ≡ 1
@@ -51,7 +51,7 @@ module _ (n : ℕ) (base : List Ownership) (st : Stage) where
   there_now : has (held n) base ≡ true → st.owns ≡ base → has (held n) st.owns ≡ true
   there_now there same = subst (λ (o : List Ownership). has (held n) o ≡ true) (sym same) there
 
-  pub hand_off_needs : (at : HandOffAt) → FitsHandOff n base at st → Needs mutexes (at_mutex n) st (hand_off_act n at)
+  pub hand_off_needs : (at : HandOffAt) → FitsHandOff n base at st → ActNeeds mutexes (at_mutex n) st (hand_off_act n at)
   hand_off_needs at.Enter f = (tt, f.1.1)
   hand_off_needs at.Take f = (subst (HasKey (2 * n)) (sym f.1.1) refl, subst IsFresh (sym f.1.1) refl)
   hand_off_needs (at.Store false none_left) f = (mutex_steps (mutex_at n) st.owns).hand_over 0 (omega arith) (there_now f.0 f.1.2.0)

@@ -34,7 +34,7 @@ use Rattle.parking_lot.specs.Fitting.{AreWordsFor, Fits, PlacesLead, Looks, Reac
 use Rattle.parking_lot.specs.MutexFitting.{GaveUp, FitsLock, FitsUnlock, FitsMutex, Within, Outside, beside, held}
 use Rattle.parking_lot.specs.Paths.{GoesFrom, mutex_at, mutexes, at_mutex}
 use Rattle.parking_lot.specs.declared.acting.Sleeper.{Sleeper}
-use Rattle.parking_lot.specs.Stages.{Stage, Inside, Needs, Became, HasKey, IsFresh, MayLeave, IsLeft, took_as, listed, entered_now, stage, stepped}
+use Rattle.parking_lot.specs.Stages.{Stage, Inside, ActNeeds, Became, HasKey, IsFresh, MayLeave, IsLeft, took_as, listed, entered_now, stage, stepped}
 use Rattle.parking_lot.proofs.HandingOver.{hand_off_needs, hand_off_leads}
 
 -- a reply to an operation on the word, which saw one of the four codes
@@ -44,7 +44,7 @@ word_reply up n st new P sleeper l op h reply b = absurd b
 
 module _ (up : Type 0) (n : ℕ) (base : List Ownership) (st : Stage) where
   abbrev Can : Act → Type 0
-  Can = Needs mutexes (at_mutex n) st
+  Can = ActNeeds mutexes (at_mutex n) st
 
   decide_needs : (seen : ℕ) (owns : List Ownership) → seen < 4 → Outside owns st → Can (decided n seen)
   decide_needs seen owns = each_code (λ s. Outside owns st → Can (decided n s))
@@ -213,7 +213,7 @@ module _ (up : Type 0) (n : ℕ) (base : List Ownership) (st : Stage) where
 
 -- the words of a call of a mutex are that one alone
 mutex_place_leads : (up : Type 0) (n : ℕ) (base : List Ownership) (at : MutexPlace) (st : Stage) → FitsMutex up n base at st →
-    Needs mutexes (at_mutex n) st (mutex_act n at) × Looks up base (Mutex n at) st
+    ActNeeds mutexes (at_mutex n) st (mutex_act n at) × Looks up base (Mutex n at) st
     × ((reply : Reply) (new : Stage) → Became up mutexes (at_mutex n) (sleeper_at (Mutex n at)) st (mutex_act n at) reply new → Reached up base (Mutex n at) reply new)
 mutex_place_leads up n base at st f = (needs up n base st at f, looks up n base st at f, λ reply new. leads up n base st new at f reply)
 
@@ -221,7 +221,7 @@ pub places_lead : (up : Type 0) → PlacesLead up
 places_lead up kinds at base Idle st words f = absurd f
 places_lead up kinds at base (RwLock n a p) st words f = absurd f
 places_lead up kinds at base (Mutex n p) st words f =
-    subst (λ (k : (ℕ → WordKind) × (ℕ → ℕ)). Needs k.0 k.1 st (mutex_act n p) × Looks up base (Mutex n p) st
+    subst (λ (k : (ℕ → WordKind) × (ℕ → ℕ)). ActNeeds k.0 k.1 st (mutex_act n p) × Looks up base (Mutex n p) st
     × ((reply : Reply) (new : Stage) → Became up k.0 k.1 (sleeper_at (Mutex n p)) st (mutex_act n p) reply new → Reached up base (Mutex n p) reply new))
     (sym (both words.1 words.2)) (mutex_place_leads up n base p st f)
   where

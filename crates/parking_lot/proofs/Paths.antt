@@ -9,7 +9,7 @@ use Rattle.lot_acts.specs.declared.acts.Act as act
 use Rattle.lot_acts.specs.declared.acts.Reply.{Reply}
 use Rattle.lot_calls.specs.declared.outcomes.Answer.{Answer}
 use Rattle.lot_steps.specs.declared.places.Place.{Place}
-use Rattle.parking_lot.specs.Paths.{Tells, Path, GoesFrom, here, on, looks, Walks, step, word}
+use Rattle.parking_lot.specs.Paths.{Brings, Path, GoesFrom, here, on, looks, Walks, step, word}
 
 -- a path so far, of the steps that were added to a list
 abbrev pub Comes : (ℕ → ℕ) → Place → List WordStep → List WordStep → Place → Type 0
@@ -25,11 +25,11 @@ comes_from at p q r old new c (inl same) = subst (Comes at p old new) (sym same)
 comes_from at p q r old new c (inr is) = (c.0, c.1, looks p q r c.0 c.2 is)
 
 -- one reply more
-pub comes_on : (at : ℕ → ℕ) (p q r : Place) (old mid new : List WordStep) (reply : Reply) (then : List WordStep) → Comes at p old mid q → new ≡ mid ++ then → Tells at q then reply → r ≡ next_place q reply → Comes at p old new r
+pub comes_on : (at : ℕ → ℕ) (p q r : Place) (old mid new : List WordStep) (reply : Reply) (then : List WordStep) → Comes at p old mid q → new ≡ mid ++ then → Brings at q then reply → r ≡ next_place q reply → Comes at p old new r
 comes_on at p q r old mid new reply then c e tells is = (c.0 ++ then, e ∙ ap (λ (l : List WordStep). l ++ then) c.1 ∙ append_assoc old c.0 then, subst (Path at p (c.0 ++ then)) (sym is) (on p q c.0 then reply c.2 tells))
 
 -- the last reply
-pub comes_to_end : (at : ℕ → ℕ) (p q : Place) (old mid new : List WordStep) (reply : Reply) (then : List WordStep) (answer : Answer) → Comes at p old mid q → new ≡ mid ++ then → Tells at q then reply → next_act q reply ≡ act.TheVariants.End answer → Walks at p old new answer
+pub comes_to_end : (at : ℕ → ℕ) (p q : Place) (old mid new : List WordStep) (reply : Reply) (then : List WordStep) (answer : Answer) → Comes at p old mid q → new ≡ mid ++ then → Brings at q then reply → next_act q reply ≡ act.TheVariants.End answer → Walks at p old new answer
 comes_to_end at p q old mid new reply then answer c e tells ends = (
   c.0 ++ then,
   e ∙ ap (λ (l : List WordStep). l ++ then) c.1 ∙ append_assoc old c.0 then,

@@ -27,7 +27,7 @@ use Rattle.parking_lot_core.specs.declared.sections.Section.{Section}
 use Rattle.parking_lot_core.specs.declared.tokens.SectionRecord.{SectionRecord}
 use Rattle.parking_lot_core.specs.declared.tokens.Token.{Token}
 use Rattle.parking_lot.specs.Fitting.{AreWordsFor}
-use Rattle.parking_lot.specs.Paths.{Tells, Told, closure_of, step, word, hands, parks, other, is_wordless, is_valueless}
+use Rattle.parking_lot.specs.Paths.{Brings, Told, closure_of, step, word, hands, parks, other, is_wordless, is_valueless}
 use Rattle.parking_lot.specs.Stages.{Stage, Became, Stepped, Adds, stage, stage_of, inside_of}
 use Rattle.parking_lot.specs.declared.acting.Sleeper.{Sleeper}
 
@@ -40,7 +40,7 @@ some_closure e = cc
 pub told : (up : Type 0) (at : ℕ → ℕ) (kinds : ℕ → WordKind) (sleeper : Sleeper) (p : Place) (a : Act) → act_of p ≡ a → closure_of a ≡ None → (st new : Stage) (reply : Reply) (before behind : List WordStep) → Became up kinds at sleeper st a reply new → Adds at a reply before behind → Told at p reply before behind
 told up at kinds sleeper p (act.TheVariants.Word l op) is runs st new (Value seen) before behind b e = (step (at l) op seen, e, word p l op seen is)
 told up at kinds sleeper p (act.TheVariants.HandOver l op) is runs st new (Value seen) before behind b e = (step (at l) op seen, e, hands p l op seen is)
-told up at kinds sleeper p (act.TheVariants.Park l key check want) is runs st new (Parked parked) before behind b e = (step (at l) Load e.0, e.2, subst (λ (x : Bool). Tells at p (step (at l) Load e.0) (Parked x)) (sym e.1) (parks p l key check want e.0 is))
+told up at kinds sleeper p (act.TheVariants.Park l key check want) is runs st new (Parked parked) before behind b e = (step (at l) Load e.0, e.2, subst (λ (x : Bool). Brings at p (step (at l) Load e.0) (Parked x)) (sym e.1) (parks p l key check want e.0 is))
 told up at kinds sleeper p (act.TheVariants.Enter keys) is runs st new Done before behind b e = wordless at p (act.TheVariants.Enter keys) Done before behind is refl refl e
 told up at kinds sleeper p (act.TheVariants.Stand key want) is runs st new Done before behind b e = wordless at p (act.TheVariants.Stand key want) Done before behind is refl refl e
 told up at kinds sleeper p (act.TheVariants.Take key whom.TheVariants.First) is runs st new (Took any left) before behind b e = wordless at p (act.TheVariants.Take key whom.TheVariants.First) (Took any left) before behind is refl refl e

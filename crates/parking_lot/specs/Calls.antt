@@ -40,13 +40,13 @@ purpose_in call.Bump = enters entry.TheVariants.Bump
 purpose_in _ = releases
 
 -- it goes on behind the value that its first operation saw; who is to hand the mutex over owns it
-abbrev pub GoesOn : ℕ → MutexCall → ℕ → List Ownership → Type 0
-GoesOn n call.Lock seen owns = 0 < seen
-GoesOn n call.LockTimed seen owns = 0 < seen
-GoesOn n call.TryLock seen owns = ⊥
-GoesOn n call.Unlock seen owns = is_parked seen ≡ true
-GoesOn n call.UnlockFair seen owns = (seen ≢ 1) × (has (held n) owns ≡ true)
-GoesOn n call.Bump seen owns = (is_parked seen ≡ true) × (has (held n) owns ≡ true)
+abbrev pub IsUnfinished : ℕ → MutexCall → ℕ → List Ownership → Type 0
+IsUnfinished n call.Lock seen owns = 0 < seen
+IsUnfinished n call.LockTimed seen owns = 0 < seen
+IsUnfinished n call.TryLock seen owns = ⊥
+IsUnfinished n call.Unlock seen owns = is_parked seen ≡ true
+IsUnfinished n call.UnlockFair seen owns = (seen ≢ 1) × (has (held n) owns ≡ true)
+IsUnfinished n call.Bump seen owns = (is_parked seen ≡ true) × (has (held n) owns ≡ true)
 
 -- who saw a waiter left the section in which it took the first of the queue; who saw none took no further step
 abbrev pub TookIfParked : ℕ → Bool → List WordStep → Option SectionRecord → Type 0

@@ -13,7 +13,7 @@ use Rattle.lot_words.specs.declared.owners.Ownership.{Ownership}
 use Rattle.lot_words.specs.declared.words.WordKind.{WordKind}
 use Rattle.parking_lot.specs.MutexFitting.{Purpose, purpose_at, FitsMutex, IsMutexOver}
 use Rattle.parking_lot.specs.Paths.{mutexes, at_mutex}
-use Rattle.parking_lot.specs.Stages.{Stage, Needs, Became}
+use Rattle.parking_lot.specs.Stages.{Stage, ActNeeds, Became}
 use Rattle.parking_lot.specs.declared.acting.Sleeper.{Sleeper}
 use Rattle.parking_lot.specs.declared.driver.Stop.{Stop}
 use Rattle.parking_lot.specs.declared.driver.Stop.TheVariants.{Ended, Paused}
@@ -85,7 +85,7 @@ module _ (up : Type 0) where
   abbrev pub PlacesLead : Type 0
   PlacesLead = (kinds : ℕ → WordKind) (at : ℕ → ℕ) (base : List Ownership) (p : Place) (st : Stage)
       → AreWordsFor p kinds at → Fits base p st →
-      Needs kinds at st (act_of p)
+      ActNeeds kinds at st (act_of p)
       × Looks base p st
       × ((reply : Reply) (new : Stage) → Became up kinds at (sleeper_at p) st (act_of p) reply new
       → Reached base p reply new)

@@ -58,24 +58,24 @@ is_valueless (Parked parked) = false
 is_valueless _ = true
 
 -- at a place these steps on words bring the reply, by where the word of each lock stands
-pub data Tells (at : ℕ → ℕ) : Place → List WordStep → Reply → Type 0 where
+pub data Brings (at : ℕ → ℕ) : Place → List WordStep → Reply → Type 0 where
   word : (p : Place) (lock : ℕ) (op : Op) (seen : ℕ) → act_of p ≡ act.TheVariants.Word lock op
-      → Tells at p (step (at lock) op seen) (Value seen)
+      → Brings at p (step (at lock) op seen) (Value seen)
   hands : (p : Place) (lock : ℕ) (op : Op) (seen : ℕ) → act_of p ≡ act.TheVariants.HandOver lock op
-      → Tells at p (step (at lock) op seen) (Value seen)
+      → Brings at p (step (at lock) op seen) (Value seen)
   parks : (p : Place) (lock key : ℕ) (check : Check) (want : Want) (seen : ℕ)
-      → act_of p ≡ act.TheVariants.Park lock key check want → Tells at p (step (at lock) Load seen) (Parked (holds check seen))
+      → act_of p ≡ act.TheVariants.Park lock key check want → Brings at p (step (at lock) Load seen) (Parked (holds check seen))
   other : (p : Place) (reply : Reply) → is_wordless (act_of p) ≡ true → is_valueless reply ≡ true
-      → Tells at p [] reply
+      → Brings at p [] reply
 
 -- these steps were added, and bring the reply
 abbrev pub Told : (ℕ → ℕ) → Place → Reply → List WordStep → List WordStep → Type 0
-Told at p reply before behind = (then : List WordStep) × (behind ≡ before ++ then) × Tells at p then reply
+Told at p reply before behind = (then : List WordStep) × (behind ≡ before ++ then) × Brings at p then reply
 
 -- these steps lead from one place to another
 pub data Path (at : ℕ → ℕ) : Place → List WordStep → Place → Type 0 where
   here : (p : Place) → Path at p [] p
-  on : (p q : Place) (xs ys : List WordStep) (reply : Reply) → Path at p xs q → Tells at q ys reply
+  on : (p q : Place) (xs ys : List WordStep) (reply : Reply) → Path at p xs q → Brings at q ys reply
       → Path at p (xs ++ ys) (next_place q reply)
   -- it looks at the word once more in place of an act that leads to sleep
   looks : (p q r : Place) (xs : List WordStep) → Path at p xs q → looking q ≡ Some r → Path at p xs r
@@ -91,7 +91,7 @@ pub record Ending (at : ℕ → ℕ) (p : Place) (steps : List WordStep) (answer
   pub then : List WordStep
   pub reply : Reply
   pub path : Path at p before last
-  pub tells : Tells at last then reply
+  pub tells : Brings at last then reply
   pub all : steps ≡ before ++ then
   pub ends : next_act last reply ≡ act.TheVariants.End answer
 

@@ -158,24 +158,24 @@ HandsEach kind at op owns wants = (seen : ℕ) → CodesWith kind at seen owns
     → HasAll at (owners_given kind (apply op seen) wants) (owns_after_step kind at op seen owns)
 
 -- what an act needs of the stage, by the kind of each lock's word and where it stands
-abbrev pub Needs : (ℕ → WordKind) → (ℕ → ℕ) → Stage → Act → Type 0
-Needs kinds at st (act.TheVariants.Word lock op) = MayStep (kinds lock) (at lock) op st.owns
-Needs kinds at st (act.TheVariants.HandOver lock op) =
+abbrev pub ActNeeds : (ℕ → WordKind) → (ℕ → ℕ) → Stage → Act → Type 0
+ActNeeds kinds at st (act.TheVariants.Word lock op) = MayStep (kinds lock) (at lock) op st.owns
+ActNeeds kinds at st (act.TheVariants.HandOver lock op) =
     MayStep (kinds lock) (at lock) op st.owns × IsUngiven st.inside
     × HandsEach (kinds lock) (at lock) op st.owns (wanted_in st.inside)
-Needs kinds at st (act.TheVariants.Enter keys) = AreKeys keys × (st.inside ≡ None)
-Needs kinds at st (act.TheVariants.Park lock key check _) =
+ActNeeds kinds at st (act.TheVariants.Enter keys) = AreKeys keys × (st.inside ≡ None)
+ActNeeds kinds at st (act.TheVariants.Park lock key check _) =
     MayStep (kinds lock) (at lock) Load st.owns × HasKey key st.inside
-Needs kinds at st (act.TheVariants.Stand key _) = HasKey key st.inside
-Needs kinds at st (act.TheVariants.Take key whom) = HasKey key st.inside × IsFresh st.inside
-Needs kinds at st (act.TheVariants.Requeue from to how) =
+ActNeeds kinds at st (act.TheVariants.Stand key _) = HasKey key st.inside
+ActNeeds kinds at st (act.TheVariants.Take key whom) = HasKey key st.inside × IsFresh st.inside
+ActNeeds kinds at st (act.TheVariants.Requeue from to how) =
     HasKey from st.inside × HasKey to st.inside × (from ≢ to) × IsFresh st.inside
-Needs kinds at st (act.TheVariants.Remove key) = HasKey key st.inside
-Needs kinds at st (act.TheVariants.Leave keys wakes) = MayLeave (note_of wakes) st.inside
-Needs kinds at st act.TheVariants.Sleep = st.inside ≡ None
-Needs kinds at st act.TheVariants.Accept = Unit {0}
-Needs kinds at st (act.TheVariants.Closure state) = st.inside ≡ None
-Needs kinds at st _ = ⊥
+ActNeeds kinds at st (act.TheVariants.Remove key) = HasKey key st.inside
+ActNeeds kinds at st (act.TheVariants.Leave keys wakes) = MayLeave (note_of wakes) st.inside
+ActNeeds kinds at st act.TheVariants.Sleep = st.inside ≡ None
+ActNeeds kinds at st act.TheVariants.Accept = Unit {0}
+ActNeeds kinds at st (act.TheVariants.Closure state) = st.inside ≡ None
+ActNeeds kinds at st _ = ⊥
 
 -- after a step on a word
 abbrev pub stepped : WordKind → ℕ → Op → ℕ → Stage → Stage

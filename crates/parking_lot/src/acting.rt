@@ -9,11 +9,11 @@ ghost use Rattle.lot_words.specs.Lots.{IsWordOf};
 ghost use Rattle.lot_words.specs.Indices.{word_index};
 ghost use Rattle.lot_words.specs.Steps.{MayStep, CodesWith, after_step};
 ghost use Rattle.parking_lot_core.specs.Keys.{AreKeys};
-ghost use Rattle.parking_lot_core.specs.Tokens.{IsTokenOf, Stays, view_of, last_of};
+ghost use Rattle.parking_lot_core.specs.Tokens.{IsTokenOf, IsSameThread, view_of, last_of};
 ghost use Rattle.parking_lot.specs.Paths.{closure_of, step};
 ghost use Rattle.parking_lot.specs.Telling.{AreWaiting, HasStepped, MayFind, MayTake, MayTakeAt, StandsLast, index_of, is_empty_at, owns_of, steps_of};
 ghost use Rattle.parking_lot.specs.Words.{AreWordsOf, word_in, kind_in, at_in};
-ghost use Rattle.parking_lot.specs.Stages.{Adds, Awoke, AwokeLate, HandsEach, HasKey, IsFresh, IsUngiven, MayLeave, IsIn, IsLeft, TookBy, handed, note_of, inside_of, stage_of, waiting_of, wanted_in, entered_now, Needs, Became};
+ghost use Rattle.parking_lot.specs.Stages.{Adds, Awoke, AwokeLate, HandsEach, HasKey, IsFresh, IsUngiven, MayLeave, IsIn, IsLeft, TookBy, handed, note_of, inside_of, stage_of, waiting_of, wanted_in, entered_now, ActNeeds, Became};
 
 use crate::taking::{requeue, take_all, take_first, take_picked, tell_wants};
 use crate::words::Words;
@@ -42,7 +42,7 @@ fn park(
 ) -> bool
     requires own { IsTokenOf lot.now token.old × IsWordOf lot.now.words word × IsIn lot.now section.old }
     requires needs { MayTake word Load token.old × HasKey key (inside_of section.old) }
-    ensures own { Stays lot.now token.old token.new × (last_of token.new ≡ None) }
+    ensures own { IsSameThread lot.now token.old token.new × (last_of token.new ≡ None) }
     ensures same { IsIn lot.now section.new × (inside_of section.new ≡ inside_of section.old) }
     ensures stepped { (seen : ℕ) × (result ≡ holds check seen) × MayFind word seen token.old
         × HasStepped word Load seen token.old token.new }
@@ -86,7 +86,7 @@ fn hand_over<R: Wait>(
     requires may { MayTake word op token.old }
     requires each { IsUngiven (inside_of section.old)
         × HandsEach word.kind (index_of word) op (owns_of token.old) (wanted_in (inside_of section.old)) }
-    ensures own { Stays lot.now token.old token.new × IsIn lot.now section.new }
+    ensures own { IsSameThread lot.now token.old token.new × IsIn lot.now section.new }
     ensures coded { MayFind word result token.old }
     ensures handed { stage_of token.new section.new
         ≡ handed word.kind (index_of word) op result (stage_of token.old section.old) }
@@ -154,7 +154,7 @@ fn leave<R: Wait>(
     note: Note,
 )
     requires { IsTokenOf lot.now token.old × IsIn lot.now section.old × MayLeave note (inside_of section.old) }
-    ensures own { Stays lot.now token.old token.new × (view_of token.new ≡ view_of token.old) }
+    ensures own { IsSameThread lot.now token.old token.new × (view_of token.new ≡ view_of token.old) }
     ensures left { (inside_of section.new ≡ None) × IsIn lot.now section.new
         × IsLeft (inside_of section.old) (last_of token.new) }
 {
@@ -210,7 +210,7 @@ fn awake_late<'a, R: Wait>(
 ) -> Reply
     requires own { IsTokenOf inside.lot.now token.old × (inside_of section.old ≡ None) }
     requires late { inside_of (Some inside) ≡ entered_now (One key) }
-    ensures own { Stays inside.entry.lot.now token.old token.new × IsIn inside.entry.lot.now section.new
+    ensures own { IsSameThread inside.entry.lot.now token.old token.new × IsIn inside.entry.lot.now section.new
         × (steps_of token.new ≡ steps_of token.old) }
     ensures awoke { AwokeLate key sleeper (stage_of token.old section.old) result
         (stage_of token.new section.new) }
@@ -243,7 +243,7 @@ fn sleep<'a, R: Wait, C: Clock>(
     section: &mut Option<Section<'a>>,
 ) -> Reply
     requires own { IsTokenOf lot.now token.old × IsWordOf lot.now.words word × (inside_of section.old ≡ None) }
-    ensures own { Stays lot.now token.old token.new × IsIn lot.now section.new
+    ensures own { IsSameThread lot.now token.old token.new × IsIn lot.now section.new
         × (steps_of token.new ≡ steps_of token.old) }
     ensures awoke { Awoke (IsUp C.tells limit.entry) word.kind (index_of word) sleeper
         (stage_of token.old section.old) result (stage_of token.new section.new) }
@@ -271,9 +271,9 @@ pub(crate) fn perform<'a, R: Wait, C: Clock>(
     act: Act,
 ) -> Reply
     requires own { IsTokenOf lot.now token.old × AreWordsOf lot.now words × IsIn lot.now section.old }
-    requires needs { Needs (kind_in words) (at_in words) (stage_of token.old section.old) act }
+    requires needs { ActNeeds (kind_in words) (at_in words) (stage_of token.old section.old) act }
     requires no_closure { closure_of act ≡ None }
-    ensures own { Stays lot.now token.old token.new × IsIn lot.now section.new }
+    ensures own { IsSameThread lot.now token.old token.new × IsIn lot.now section.new }
     ensures became { Became (IsUp C.tells limit.entry) (kind_in words) (at_in words) sleeper
         (stage_of token.old section.old) act result (stage_of token.new section.new) }
     ensures adds { Adds (at_in words) act result (steps_of token.old) (steps_of token.new) }

@@ -10,8 +10,8 @@ ghost use Rattle.lot_words.specs.Steps.{MayStep, CodesWith, after_step};
 ghost use Rattle.lot_words.specs.declared.owners.Ownership.{Ownership};
 ghost use Rattle.lot_words.specs.declared.views.WordStep.{WordStep};
 ghost use Rattle.lot_words.specs.declared.words.WordKind.TheVariants.{Mutex};
-ghost use Rattle.parking_lot_core.specs.Tokens.{IsTokenOf, Stays, view_of, last_of};
-ghost use Rattle.parking_lot.specs.Calls.{beginning, purpose_in, GoesOn, WalksBehind};
+ghost use Rattle.parking_lot_core.specs.Tokens.{IsTokenOf, IsSameThread, view_of, last_of};
+ghost use Rattle.parking_lot.specs.Calls.{beginning, purpose_in, IsUnfinished, WalksBehind};
 ghost use Rattle.parking_lot.specs.Driving.{MeetAt};
 ghost use Rattle.parking_lot.specs.Fitting.{PlacesLead, AreWordsFor, AreWordsAfter, Fits, IsStopped, Reached, answer_of, aim_of, sleeper_at};
 ghost use Rattle.parking_lot.specs.MutexFitting.{IsMutexOver};
@@ -87,7 +87,7 @@ fn answer_of(act: Act) -> Option<Answer>
 pub(crate) fn step(lot: &ParkingLot, token: &mut Token, word: Word, op: Op) -> u64
     requires own { MeetAt lot.now token.old word }
     requires may { MayStep Mutex (mutex_at word.number) op (view_of token.old).owns }
-    ensures own { Stays lot.now token.old token.new × (last_of token.new ≡ None) }
+    ensures own { IsSameThread lot.now token.old token.new × (last_of token.new ≡ None) }
     ensures stepped { view_of token.new ≡ after_step Mutex (mutex_at word.number) op result (view_of token.old) }
     ensures coded { CodesWith Mutex (mutex_at word.number) result (view_of token.old).owns }
 {
@@ -161,7 +161,7 @@ fn turn<'a, R: Wait, C: Clock>(
     requires fits { (base : List Ownership)
         × Fits (IsUp C.tells limit) base place (stage_of token.old section.old) }
     requires no_closure { closure_of (act_of place) ≡ None }
-    ensures own { Stays lot.now token.old token.new × IsIn lot.now section.new }
+    ensures own { IsSameThread lot.now token.old token.new × IsIn lot.now section.new }
     ensures told { Told (at_in words) place result (steps_of token.old) (steps_of token.new) }
     ensures reached { (base : List Ownership)
         → Fits (IsUp C.tells limit.entry) base place (stage_of token.old section.old)
@@ -193,7 +193,7 @@ pub(crate) fn run<R: Wait, C: Clock>(
     requires own { IsTokenOf lot.now token.old × AreWordsOf lot.now words }
     requires words { AreWordsFor start (kind_in words) (at_in words) }
     requires start { (base : List Ownership) × Fits (IsUp C.tells limit) base start (stage_of token.old None) }
-    ensures own { Stays lot.now token.old token.new }
+    ensures own { IsSameThread lot.now token.old token.new }
     ensures path { Runs (at_in words) start (steps_of token.old) (steps_of token.new) result }
     ensures stopped { (base : List Ownership)
         → Fits (IsUp C.tells limit.entry) base start (stage_of token.old None)
@@ -234,7 +234,7 @@ pub(crate) fn resume<R: Wait, C: Clock>(
     requires closure { (state : OnceState) × (act_of place ≡ Act.Closure state) }
     requires goes_on { answer_of (next_act place (Closed succeeded)) ≡ None }
     requires fits { (base : List Ownership) × Fits (IsUp C.tells limit) base place (stage_of token.old None) }
-    ensures own { Stays lot.now token.old token.new }
+    ensures own { IsSameThread lot.now token.old token.new }
     ensures path { Runs (at_in words) (next_place place (Closed succeeded))
         (steps_of token.old) (steps_of token.new) result }
     ensures stopped { (base : List Ownership)
@@ -270,8 +270,8 @@ pub(crate) fn behind<R: Wait, C: Clock>(
     seen: u64,
 ) -> Answer
     requires own { MeetAt lot.now token.old word }
-    requires goes_on { GoesOn word.number call seen (view_of token.old).owns }
-    ensures own { Stays lot.now token.old token.new }
+    requires goes_on { IsUnfinished word.number call seen (view_of token.old).owns }
+    ensures own { IsSameThread lot.now token.old token.new }
     ensures path { WalksBehind word.number call seen token.old token.new result }
     ensures rest { (more : List WordStep) × (steps_of token.new ≡ steps_of token.old ++ more) }
     ensures over { IsMutexOver (IsUp C.tells limit.entry) word.number (owns_of token.old)

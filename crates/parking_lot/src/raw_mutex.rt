@@ -9,9 +9,9 @@ ghost use Rattle.lot_words.specs.Lots.{IsWordOf};
 ghost use Rattle.lot_words.specs.Plays.{piece, left_over, takes_in};
 ghost use Rattle.lot_words.specs.Steps.{has};
 ghost use Rattle.lot_words.specs.declared.words.WordKind.TheVariants.{Mutex};
-ghost use Rattle.parking_lot_core.specs.Tokens.{IsTokenOf, Stays, view_of, last_of};
+ghost use Rattle.parking_lot_core.specs.Tokens.{IsTokenOf, IsSameThread, view_of, last_of};
 ghost use Rattle.lot_words.specs.declared.views.WordStep.{WordStep};
-ghost use Rattle.parking_lot.specs.Calls.{purpose_in, GoesOn, HasWalked, Sees, Releases, WalksBehind};
+ghost use Rattle.parking_lot.specs.Calls.{purpose_in, IsUnfinished, HasWalked, Sees, Releases, WalksBehind};
 ghost use Rattle.parking_lot.specs.Driving.{IsGuardOf, IsGuardOf-prop, IsOpenGuardOf, IsOpenGuardOf-prop, permit_in, MeetAt, StaysAs, StaysAs-on};
 ghost use Rattle.parking_lot.specs.MutexFitting.{IsMutexOver, held};
 ghost use Rattle.parking_lot.specs.Paths.{mutex_at, at_mutex, Walks};
@@ -66,7 +66,7 @@ impl RawMutex {
         requires lot { lot.now ≡ lot_of self.now }
         requires own { IsTokenOf (lot_of self.now) token.old }
         requires held { has (held (word_of self.now).number) (view_of token.old).owns ≡ true }
-        ensures own { Stays (lot_of self.now) token.old token.new × (last_of token.new ≡ last_of token.old) }
+        ensures own { IsSameThread (lot_of self.now) token.old token.new × (last_of token.new ≡ last_of token.old) }
         ensures left { view_of token.new ≡ left_over (held (word_of self.now).number) (view_of token.old) }
         ensures guard { IsGuardOf (lot_of self.now) (word_of self.now) result }
     {
@@ -80,7 +80,7 @@ impl RawMutex {
     fn join(&self, lot: &ParkingLot, token: &mut Token, guard: RawGuard)
         requires lot { lot.now ≡ lot_of self.now }
         requires own { IsTokenOf (lot_of self.now) token.old × IsGuardOf (lot_of self.now) (word_of self.now) guard }
-        ensures own { Stays (lot_of self.now) token.old token.new × (last_of token.new ≡ last_of token.old) }
+        ensures own { IsSameThread (lot_of self.now) token.old token.new × (last_of token.new ≡ last_of token.old) }
         ensures joined { view_of token.new ≡ takes_in (view_of token.old) (piece (held (word_of self.now).number)) }
     {
         let RawGuard { right } = guard;
@@ -92,8 +92,8 @@ impl RawMutex {
     #[inline(never)]
     fn go_on<R: Wait>(&self, rt: &R, token: &mut Token, call: MutexCall, seen: u64) -> Answer
         requires own { MeetAt (lot_of self.now) token.old (word_of self.now) }
-        requires goes_on { GoesOn (word_of self.now).number call seen (view_of token.old).owns }
-        ensures own { Stays (lot_of self.now) token.old token.new }
+        requires goes_on { IsUnfinished (word_of self.now).number call seen (view_of token.old).owns }
+        ensures own { IsSameThread (lot_of self.now) token.old token.new }
         ensures path { WalksBehind (word_of self.now).number call seen token.old token.new result }
         ensures rest { (more : List WordStep) × (steps_of token.new ≡ steps_of token.old ++ more) }
         ensures over { IsMutexOver ⊥ (word_of self.now).number (owns_of token.old) (purpose_in call) result

@@ -24,8 +24,8 @@ abbrev pub last_of : Token → Option SectionRecord
 last_of token = if token.is_recorded then Some token.record else None
 
 -- it is the same thread of the same lot
-abbrev pub Stays : ParkingLot → Token → Token → Type 0
-Stays lot old new = IsTokenOf lot new × (new.number ≡ old.number)
+abbrev pub IsSameThread : ParkingLot → Token → Token → Type 0
+IsSameThread lot old new = IsTokenOf lot new × (new.number ≡ old.number)
 
 abbrev pub number_of : Ticket → ℕ
 number_of ticket = ticket.number

@@ -55,7 +55,7 @@ fn first_of_keys(keys: Keys) -> Key
 
 impl ParkingLot {
     ghost use Rattle.parking_lot_core.specs.Sections.{IsUntouched};
-    ghost use Rattle.parking_lot_core.specs.Tokens.{IsTokenOf, Stays};
+    ghost use Rattle.parking_lot_core.specs.Tokens.{IsTokenOf, IsSameThread};
 
     // The queues, with nobody taken.
     pub(crate) fn locked<'a, R: Wait>(&'a self, rt: &R, keys: Keys) -> Section<'a>
@@ -132,7 +132,7 @@ impl ParkingLot {
 }
 
 impl<'a> Section<'a> {
-    ghost use Rattle.parking_lot_core.specs.Tokens.{IsTokenOf, Stays, last_of};
+    ghost use Rattle.parking_lot_core.specs.Tokens.{IsTokenOf, IsSameThread, last_of};
     ghost use Rattle.parking_lot_core.specs.Sections.{waiting_in, taken_in, wants_in, rightless_in, moved_in, StaysIn, TookAs, MayNote};
     ghost use Rattle.parking_lot_core.specs.Tokens.{view_of};
     ghost use Rattle.parking_lot_core.specs.Giving.{owner_at, HasEach, less_each};
@@ -316,7 +316,7 @@ impl<'a> Section<'a> {
         requires own { IsTokenOf self.old.lot.now token.old × IsWordOf self.old.lot.now.words word }
         requires place { place < length (taken_in self.old) }
         requires named { has (named_by word (owner_at word left (wants_in self.old) place)) (view_of token.old).owns ≡ true }
-        ensures own { Stays self.old.lot.now token.old token.new × (last_of token.new ≡ last_of token.old) }
+        ensures own { IsSameThread self.old.lot.now token.old token.new × (last_of token.new ≡ last_of token.old) }
         ensures left { view_of token.new
             ≡ left_over (named_by word (owner_at word left (wants_in self.old) place)) (view_of token.old) }
         ensures rightless { rightless_in self.new ≡ filter (λ x. not (x == slice_index (taken_in self.old) place)) (rightless_in self.old) }
@@ -334,7 +334,7 @@ impl<'a> Section<'a> {
         requires own { IsTokenOf self.old.lot.now token.old × IsWordOf self.old.lot.now.words word }
         requires named { HasEach word left (wants_in self.old) (view_of token.old).owns }
         requires ungiven { rightless_in self.old ≡ taken_in self.old }
-        ensures own { Stays self.old.lot.now token.old token.new × (last_of token.new ≡ last_of token.old) }
+        ensures own { IsSameThread self.old.lot.now token.old token.new × (last_of token.new ≡ last_of token.old) }
         ensures left { view_of token.new ≡ less_each word left (wants_in self.old) (view_of token.old) }
         ensures given { rightless_in self.new ≡ [] }
         ensures same { StaysIn self.old self.new × TookAs self.old self.new × (waiting_in self.new ≡ waiting_in self.old) }
@@ -362,7 +362,7 @@ impl<'a> Section<'a> {
     pub fn leave<R: Wait>(self, rt: &R, token: &mut Token, note: Note)
         requires own { IsTokenOf self.lot.now token.old }
         requires note { MayNote note (taken_in self) (rightless_in self) }
-        ensures own { Stays self.entry.lot.now token.old token.new × (token.new.seat ≡ token.old.seat) }
+        ensures own { IsSameThread self.entry.lot.now token.old token.new × (token.new.seat ≡ token.old.seat) }
         ensures recorded { last_of token.new
             ≡ Some (record {
               key = first_key self.entry.keys;

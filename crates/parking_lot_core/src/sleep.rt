@@ -20,7 +20,7 @@ pub enum Slept<'a> {
 }
 
 impl ParkingLot {
-    ghost use Rattle.parking_lot_core.specs.Tokens.{IsTokenOf, Stays};
+    ghost use Rattle.parking_lot_core.specs.Tokens.{IsTokenOf, IsSameThread};
     ghost use Rattle.parking_lot_core.specs.Sleeps.{IsWoken, IsLate, IsSlept, WasLate};
 
     // What the thread was told, if anything. The right is looked at only once there is a note: whoever gives a right

@@ -11,7 +11,7 @@ ghost use Rattle.lot_words.specs.RightsOf.{IsRightOf, IsOpenOf};
 ghost use Rattle.lot_words.specs.declared.owners.Owner.TheVariants.{Exclusive};
 ghost use Rattle.lot_words.specs.declared.words.WordKind.TheVariants.{Mutex, Condvar, Count};
 ghost use Rattle.lot_base.specs.declared.ops.Op.TheVariants.{Add, Exchange};
-ghost use Rattle.parking_lot_core.specs.Tokens.{IsTokenOf, Stays, view_of, last_of};
+ghost use Rattle.parking_lot_core.specs.Tokens.{IsTokenOf, IsSameThread, view_of, last_of};
 
 use crate::lot::ParkingLot;
 use crate::tokens::Token;
@@ -26,7 +26,7 @@ impl ParkingLot {
     pub fn word(&self, token: &mut Token, word: Word, op: Op) -> u64
         requires own { IsTokenOf self.now token.old × IsWordOf self.now.words word }
         requires may { MayStep word.kind (word_index word.number word.kind) op (view_of token.old).owns }
-        ensures own { Stays self.now token.old token.new × (last_of token.new ≡ None) }
+        ensures own { IsSameThread self.now token.old token.new × (last_of token.new ≡ None) }
         ensures stepped { view_of token.new
             ≡ after_step word.kind (word_index word.number word.kind) op result (view_of token.old) }
         ensures coded { CodesWith word.kind (word_index word.number word.kind) result (view_of token.old).owns }
@@ -41,7 +41,7 @@ impl ParkingLot {
         requires own { IsTokenOf self.now token.old × IsWordOf self.now.words condvar × IsWordOf self.now.words mutex }
         requires kinds { (condvar.kind ≡ Condvar) × (mutex.kind ≡ Mutex) }
         requires owned { has (named_by mutex Exclusive) (view_of token.old).owns ≡ true }
-        ensures own { Stays self.now token.old token.new × (last_of token.new ≡ None) }
+        ensures own { IsSameThread self.now token.old token.new × (last_of token.new ≡ None) }
         ensures stepped { view_of token.new
             ≡ after_step Condvar (word_index condvar.number Condvar) (Exchange 0 (mutex.number + 1)) result (view_of token.old) }
     {
@@ -55,7 +55,7 @@ impl ParkingLot {
         requires own { IsTokenOf self.now token.old × IsWordOf self.now.words count }
         requires pair { (count.kind ≡ Count) × (count.number ≡ mutex.number + 1) }
         requires owned { (said : ℕ) × OwnsWith mutex said (view_of token.old) × IsCountCode (said + 1) }
-        ensures own { Stays self.now token.old token.new × (last_of token.new ≡ None) }
+        ensures own { IsSameThread self.now token.old token.new × (last_of token.new ≡ None) }
         ensures said { OwnsWith mutex result (view_of token.old) }
         ensures says { OwnsWith mutex (result + 1) (view_of token.new) }
         ensures stepped { view_of token.new
@@ -73,7 +73,7 @@ impl ParkingLot {
     /// `LotFull`, only where a step saw no word left. Nothing is drawn then.
     pub fn new_word(&self, token: &mut Token, kind: WordKind) -> Result<Word, Fault>
         requires { IsTokenOf self.now token.old }
-        ensures own { Stays self.now token.old token.new × ((view_of token.new).owns ≡ (view_of token.old).owns) }
+        ensures own { IsSameThread self.now token.old token.new × ((view_of token.new).owns ≡ (view_of token.old).owns) }
         ensures word { IfOk result (λ word. IsWordOf self.now.words word × (word.kind ≡ kind)) }
         ensures drawn { MatchResult result
             (λ word. IsDrawn self.now.words.count (kind ∷ []) word.number (view_of token.old) (view_of token.new))
@@ -90,7 +90,7 @@ impl ParkingLot {
     /// `LotFull`, only where a step saw fewer than two words left. Nothing is drawn then.
     pub fn new_pair(&self, token: &mut Token) -> Result<(Word, Word), Fault>
         requires { IsTokenOf self.now token.old }
-        ensures own { Stays self.now token.old token.new × ((view_of token.new).owns ≡ (view_of token.old).owns) }
+        ensures own { IsSameThread self.now token.old token.new × ((view_of token.new).owns ≡ (view_of token.old).owns) }
         ensures words { IfOk result (λ pair. IsWordOf self.now.words pair.0 × (pair.0.kind ≡ Mutex)
             × IsWordOf self.now.words pair.1 × (pair.1.kind ≡ Count) × (pair.1.number ≡ pair.0.number + 1)) }
         ensures drawn { MatchResult result
@@ -107,7 +107,7 @@ impl ParkingLot {
     pub fn split_right(&self, token: &mut Token, word: Word, want: Want) -> Right
         requires own { IsTokenOf self.now token.old × IsWordOf self.now.words word }
         requires named { has (named_by word (owner_for want)) (view_of token.old).owns ≡ true }
-        ensures own { Stays self.now token.old token.new × (last_of token.new ≡ last_of token.old) }
+        ensures own { IsSameThread self.now token.old token.new × (last_of token.new ≡ last_of token.old) }
         ensures left { view_of token.new ≡ left_over (named_by word (owner_for want)) (view_of token.old) }
         ensures right { IsRightOf self.now.words result × (result.word ≡ word) × (result.owner ≡ owner_for want) }
     {
@@ -119,7 +119,7 @@ impl ParkingLot {
     pub fn split_owner(&self, token: &mut Token, word: Word, owner: Owner) -> Right
         requires own { IsTokenOf self.now token.old × IsWordOf self.now.words word }
         requires named { has (named_by word owner) (view_of token.old).owns ≡ true }
-        ensures own { Stays self.now token.old token.new × (last_of token.new ≡ last_of token.old) }
+        ensures own { IsSameThread self.now token.old token.new × (last_of token.new ≡ last_of token.old) }
         ensures left { view_of token.new ≡ left_over (named_by word owner) (view_of token.old) }
         ensures right { IsRightOf self.now.words result × (result.word ≡ word) × (result.owner ≡ owner) }
     {
@@ -130,7 +130,7 @@ impl ParkingLot {
     #[inline]
     pub fn join_right(&self, token: &mut Token, right: Right)
         requires { IsTokenOf self.now token.old × IsRightOf self.now.words right }
-        ensures own { Stays self.now token.old token.new × (last_of token.new ≡ last_of token.old) }
+        ensures own { IsSameThread self.now token.old token.new × (last_of token.new ≡ last_of token.old) }
         ensures joined { view_of token.new ≡ takes_in (view_of token.old) (piece_of right.word right.owner) }
     {
         self.words.join_right(&mut token.seat, right);

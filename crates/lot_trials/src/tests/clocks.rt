@@ -1,5 +1,5 @@
 //! Clocks, and sleepers whose time is up.
-ghost use Rattle.parking_lot_core.specs.Tokens.{IsTokenOf, Stays};
+ghost use Rattle.parking_lot_core.specs.Tokens.{IsTokenOf, IsSameThread};
 
 use super::line_up;
 use super::single::one_mutex;
@@ -19,7 +19,7 @@ fn sleep_until<R: Wait>(
     limit: (&TickClock, u64),
 ) -> Option<(Key, Option<Key>)>
     requires { IsTokenOf lot.now token.old }
-    ensures { Stays lot.now token.old token.new }
+    ensures { IsSameThread lot.now token.old token.new }
 {
     match lot.sleep(rt, token, word, Want::Exclusive, Some(limit)) {
         Slept::Late(mut section, key) => {

@@ -4,14 +4,14 @@ ghost use Rattle.lot_words.specs.Lots.{IsWordOf};
 ghost use Rattle.lot_words.specs.RightsOf.{IsRightOf};
 ghost use Rattle.lot_words.specs.declared.words.WordKind.TheVariants.{Mutex};
 ghost use Rattle.lot_words.specs.declared.owners.Owner.TheVariants.{Exclusive};
-ghost use Rattle.parking_lot_core.specs.Tokens.{IsTokenOf, Stays, view_of};
+ghost use Rattle.parking_lot_core.specs.Tokens.{IsTokenOf, IsSameThread, view_of};
 
 use parking_lot_core::{Op, ParkingLot, Right, Token, Want, Word};
 
 /// The right of a mutex that nobody has.
 pub fn try_lock(lot: &ParkingLot, token: &mut Token, word: Word) -> Option<Right>
     requires { IsTokenOf lot.now token.old × IsWordOf lot.now.words word × (word.kind ≡ Mutex) }
-    ensures own { Stays lot.now token.old token.new × ((view_of token.new).owns ≡ (view_of token.old).owns) }
+    ensures own { IsSameThread lot.now token.old token.new × ((view_of token.new).owns ≡ (view_of token.old).owns) }
     ensures right { IfSome result (λ right. IsRightOf lot.now.words right × (right.word ≡ word) × (right.owner ≡ Exclusive)) }
 {
     let found = lot.word(token, word, Op::Or(1));
@@ -25,7 +25,7 @@ pub fn try_lock(lot: &ParkingLot, token: &mut Token, word: Word) -> Option<Right
 pub fn unlock(lot: &ParkingLot, token: &mut Token, right: Right) -> u64
     requires { IsTokenOf lot.now token.old × IsRightOf lot.now.words right × (right.word.kind ≡ Mutex)
         × (right.owner ≡ Exclusive) }
-    ensures { Stays lot.now token.old token.new × ((view_of token.new).owns ≡ (view_of token.old).owns) }
+    ensures { IsSameThread lot.now token.old token.new × ((view_of token.new).owns ≡ (view_of token.old).owns) }
 {
     let word = right.word();
     lot.join_right(token, right);

@@ -3,7 +3,7 @@ ghost use Rattle.std.specs.Prelude.{◌≡◌, ◌<◌, [], All, IfOk, IfSome};
 ghost use Rattle.std.specs.Arc.{arc_value};
 ghost use Rattle.lot_words.specs.RightsOf.{IsRightOf};
 ghost use Rattle.parking_lot_core.specs.Sections.{StaysIn, rightless_in};
-ghost use Rattle.parking_lot_core.specs.Tokens.{IsNewTicketOf, IsTicketOf, IsTokenOf, Stays};
+ghost use Rattle.parking_lot_core.specs.Tokens.{IsNewTicketOf, IsTicketOf, IsTokenOf, IsSameThread};
 
 use super::mutexes::try_lock;
 use parking_lot_core::{
@@ -20,7 +20,7 @@ const KEY: Key = 0;
 // The right of a mutex that is drawn for it. The mutex is pushed to those that were given.
 fn some_right(lot: &ParkingLot, token: &mut Token, given: &mut Vec<Word>) -> Option<Right>
     requires { IsTokenOf lot.now token.old }
-    ensures own { Stays lot.now token.old token.new }
+    ensures own { IsSameThread lot.now token.old token.new }
     ensures right { IfSome result (IsRightOf lot.now.words) }
 {
     let Ok(word) = lot.new_word(token, WordKind::Mutex) else {
@@ -40,7 +40,7 @@ fn give_each<R: Wait>(
     given: &mut Vec<Word>,
 )
     requires { IsTokenOf lot.now token.old × (section.old.lot.now ≡ lot.now) }
-    ensures own { Stays lot.now token.old token.new }
+    ensures own { IsSameThread lot.now token.old token.new }
     ensures given { StaysIn section.old section.new × (rightless_in section.new ≡ []) }
 {
     for _ in rt.forever() {
@@ -70,7 +70,7 @@ fn take_three<R: Wait>(
     way: Way,
 ) -> Vec<Word>
     requires { IsTokenOf lot.now token.old × (lot.now.records.count ≡ 4) }
-    ensures { Stays lot.now token.old token.new }
+    ensures { IsSameThread lot.now token.old token.new }
 {
     let mut given = Vec::new(alloc);
     let mut section = lot.enter(rt, token, Keys::One(KEY));

@@ -4,7 +4,7 @@ ghost use Rattle.std.specs.Arc.{arc_value};
 ghost use Rattle.lot_base.specs.declared.keys.Keys.TheVariants.{Two};
 ghost use Rattle.lot_words.specs.Lots.{IsWordOf};
 ghost use Rattle.lot_words.specs.declared.words.WordKind.TheVariants.{Mutex};
-ghost use Rattle.parking_lot_core.specs.Tokens.{IsTokenOf, Stays};
+ghost use Rattle.parking_lot_core.specs.Tokens.{IsTokenOf, IsSameThread};
 
 use super::mutexes::{try_lock, unlock};
 use lot_words::laws::mutex_may_step;
@@ -173,7 +173,7 @@ type Drawn = Result<(usize, WordKind), Fault>;
 
 fn draw(lot: &ParkingLot, token: &mut Token, kind: WordKind) -> Drawn
     requires { IsTokenOf lot.now token.old }
-    ensures { Stays lot.now token.old token.new }
+    ensures { IsSameThread lot.now token.old token.new }
 {
     let word = lot.new_word(token, kind)?;
     Ok((word.number(), word.kind()))
@@ -181,7 +181,7 @@ fn draw(lot: &ParkingLot, token: &mut Token, kind: WordKind) -> Drawn
 
 fn draw_pair(lot: &ParkingLot, token: &mut Token) -> [Drawn; 2]
     requires { IsTokenOf lot.now token.old }
-    ensures { Stays lot.now token.old token.new }
+    ensures { IsSameThread lot.now token.old token.new }
 {
     match lot.new_pair(token) {
         Ok((mutex, count)) => [
@@ -195,7 +195,7 @@ fn draw_pair(lot: &ParkingLot, token: &mut Token) -> [Drawn; 2]
 // All but one of a lot of five words.
 fn draw_four(lot: &ParkingLot, token: &mut Token) -> [Drawn; 4]
     requires { IsTokenOf lot.now token.old }
-    ensures { Stays lot.now token.old token.new }
+    ensures { IsSameThread lot.now token.old token.new }
 {
     let lock = draw(lot, token, WordKind::RwLock);
     let waiters = draw(lot, token, WordKind::Condvar);
@@ -245,7 +245,7 @@ fn line_up_twice<R: Wait>(
     token: &mut Token,
 ) -> ([Standing; 2], usize, bool)
     requires { IsTokenOf lot.now token.old × (lot.now.records.count ≡ 1) }
-    ensures { Stays lot.now token.old token.new }
+    ensures { IsSameThread lot.now token.old token.new }
 {
     let mut section = lot.enter(rt, token, Keys::Two(6, 7));
     section.append(6, 0, Want::Exclusive);
@@ -277,7 +277,7 @@ fn a_section_takes_in_order(rt: HostRuntime) -> Result<(), Fail> {
 // Three line up, and those are taken who are picked: whether they are the first two, with their wants, and how many stay.
 fn pick_of_three<R: Wait>(rt: &R, lot: &ParkingLot, token: &mut Token) -> (bool, bool, usize)
     requires { IsTokenOf lot.now token.old × (lot.now.records.count ≡ 3) }
-    ensures { Stays lot.now token.old token.new }
+    ensures { IsSameThread lot.now token.old token.new }
 {
     let mut section = lot.enter(rt, token, Keys::One(6));
     section.append(6, 2, Want::Shared);
@@ -317,7 +317,7 @@ fn requeue_three<R: Wait>(
     op: Requeue,
 ) -> ((Option<usize>, usize), Option<usize>, [usize; 2])
     requires { IsTokenOf lot.now token.old × (lot.now.records.count ≡ 3) }
-    ensures { Stays lot.now token.old token.new }
+    ensures { IsSameThread lot.now token.old token.new }
 {
     let mut section = lot.enter(rt, token, Keys::Two(6, 1));
     section.append(6, 2, Want::Wait);
@@ -356,7 +356,7 @@ fn a_section_requeues(rt: HostRuntime) -> Result<(), Fail> {
 
 fn take_nobody<R: Wait>(rt: &R, lot: &ParkingLot, token: &mut Token) -> Option<usize>
     requires { IsTokenOf lot.now token.old }
-    ensures { Stays lot.now token.old token.new }
+    ensures { IsSameThread lot.now token.old token.new }
 {
     let mut section = lot.enter(rt, token, Keys::One(0));
     let taken = section.take_first(0);

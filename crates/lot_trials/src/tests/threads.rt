@@ -5,7 +5,7 @@ ghost use Rattle.lot_words.specs.Lots.{IsWordOf};
 ghost use Rattle.lot_words.specs.RightsOf.{IsRightOf};
 ghost use Rattle.lot_words.specs.declared.words.WordKind.TheVariants.{Mutex};
 ghost use Rattle.lot_words.specs.declared.owners.Owner.TheVariants.{Exclusive};
-ghost use Rattle.parking_lot_core.specs.Tokens.{IsTicketOf, IsTokenOf, Stays};
+ghost use Rattle.parking_lot_core.specs.Tokens.{IsTicketOf, IsTokenOf, IsSameThread};
 
 use super::line_up;
 use super::mutexes::{try_lock, unlock};
@@ -38,7 +38,7 @@ fn delay(turns: usize) {
 
 fn stands<R: Wait>(rt: &R, lot: &ParkingLot, token: &mut Token) -> bool
     requires { IsTokenOf lot.now token.old }
-    ensures { Stays lot.now token.old token.new }
+    ensures { IsSameThread lot.now token.old token.new }
 {
     let section = lot.enter(rt, token, Keys::One(KEY));
     let key = section.key_of(token.number());
@@ -49,7 +49,7 @@ fn stands<R: Wait>(rt: &R, lot: &ParkingLot, token: &mut Token) -> bool
 // Gives a right to the first in the line, once somebody stands there.
 fn hand_over<R: Wait>(rt: &R, lot: &ParkingLot, token: &mut Token, right: Right, turns: usize)
     requires { IsTokenOf lot.now token.old × IsRightOf lot.now.words right }
-    ensures { Stays lot.now token.old token.new }
+    ensures { IsSameThread lot.now token.old token.new }
 {
     for _ in rt.forever() {
         let mut section = lot.enter(rt, token, Keys::One(KEY));
@@ -68,7 +68,7 @@ fn hand_over<R: Wait>(rt: &R, lot: &ParkingLot, token: &mut Token, right: Right,
 // The right that somebody hands over.
 fn receive<R: Wait>(rt: &R, lot: &ParkingLot, token: &mut Token, word: Word) -> Option<Right>
     requires { IsTokenOf lot.now token.old × (word.kind ≡ Mutex) }
-    ensures own { Stays lot.now token.old token.new }
+    ensures own { IsSameThread lot.now token.old token.new }
     ensures right { IfSome result (λ right. IsRightOf lot.now.words right × (right.word ≡ word) × (right.owner ≡ Exclusive)) }
 {
     line_up(rt, lot, token, KEY);
@@ -170,7 +170,7 @@ fn wake_early<R: Wait>(rt: &R, lot: &ParkingLot, ticket: Ticket, word: Word)
 
 fn take_one<R: Wait>(rt: &R, lot: &ParkingLot, token: &mut Token)
     requires { IsTokenOf lot.now token.old }
-    ensures { Stays lot.now token.old token.new }
+    ensures { IsSameThread lot.now token.old token.new }
 {
     for _ in rt.forever() {
         let mut section = lot.enter(rt, token, Keys::One(KEY));
@@ -185,7 +185,7 @@ fn take_one<R: Wait>(rt: &R, lot: &ParkingLot, token: &mut Token)
 
 fn lock<R: Wait>(rt: &R, lot: &ParkingLot, token: &mut Token, word: Word) -> Right
     requires { IsTokenOf lot.now token.old × IsWordOf lot.now.words word × (word.kind ≡ Mutex) }
-    ensures own { Stays lot.now token.old token.new }
+    ensures own { IsSameThread lot.now token.old token.new }
     ensures right { IsRightOf lot.now.words result × (result.word ≡ word) × (result.owner ≡ Exclusive) }
 {
     for _ in rt.forever() {

@@ -5,7 +5,7 @@ use Rattle.lot_acts.specs.declared.acts.Act.{Act}
 use Rattle.lot_words.specs.declared.owners.Ownership.{Ownership}
 use Rattle.parking_lot_core.specs.Tokens.{view_of}
 use Rattle.parking_lot.specs.Fitting.{sleeper_at}
-use Rattle.parking_lot.specs.Stages.{Needs, Became, Adds, stage_of}
+use Rattle.parking_lot.specs.Stages.{ActNeeds, Became, Adds, stage_of}
 use Rattle.parking_lot.specs.Words.{kind_in, at_in}
 use Rattle.parking_lot.specs.declared.acting.Sleeper.{Sleeper}
 use Rattle.parking_lot.proofs.Leading.{places_lead}
@@ -14,7 +14,7 @@ use Rattle.parking_lot.proofs.driver.turn.Goals as goal
 
 pub perform-requires-clause-needs : goal.perform-requires-clause-needs
 perform-requires-clause-needs g c = let words = c.args.words in let st = stage_of c.args.token.now c.args.section.now in let fits = c.requires.fits in
-    subst (Needs (kind_in c.args.words) (at_in c.args.words) (stage_of c.args.token.now c.args.section.now)) (sym c.act.ensures)
+    subst (ActNeeds (kind_in c.args.words) (at_in c.args.words) (stage_of c.args.token.now c.args.section.now)) (sym c.act.ensures)
     (places_lead (IsUp g.C.Clock.tells c.args.limit) (kind_in words) (at_in words) fits.0 c.args.place st c.requires.words fits.1).0
 
 pub returns-clause-told : goal.returns-clause-told

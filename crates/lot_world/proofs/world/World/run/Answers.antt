@@ -4,7 +4,7 @@ use Rattle.lot_machine.proofs.Shape.{size_more}
 use Rattle.lot_world.proofs.Runs.{run_state, run_outcomes}
 use Rattle.std.proofs.lemmas.List.{take_all}
 use Rattle.std.proofs.Common.{◌≡◌, ap, ◌∙◌, ◌++◌, arith}
-use Rattle.lot_machine.specs.Machine.{after_all, step_outcomes}
+use Rattle.lot_machine.specs.Machine.{after_steps, step_outcomes}
 use Rattle.lot_world.proofs.Promises.{kept}
 use Rattle.lot_world.proofs.WorldRuns.{holds_of, Holds, tells_run, tells_refines}
 use Rattle.lot_world.proofs.world.World.run.Goals as goal
@@ -47,7 +47,7 @@ returns-clause-refines g c =
     let holds : Holds c.args.self.now = rw (← c.self.view_is) before in
     let all : take c.loop-taken.taken c.args.steps.now ≡ c.args.steps.now = take_all c.loop-taken.taken c.args.steps.now (omega arith) in
     tells_refines c.args.self.now c.loop-taken.self c.args.steps.now c.args.outcomes.now.items c.loop-taken.outcomes.items holds
-    (c.loop-taken.invariant.state ∙ ap (after_all c.args.self.now) all) (c.loop-taken.invariant.outcomes ∙ ap (λ ss. c.args.outcomes.now.items ++ step_outcomes c.args.self.now ss) all)
+    (c.loop-taken.invariant.state ∙ ap (after_steps c.args.self.now) all) (c.loop-taken.invariant.outcomes ∙ ap (λ ss. c.args.outcomes.now.items ++ step_outcomes c.args.self.now ss) all)
 
 pub returns-clause-run : goal.returns-clause-run
 returns-clause-run g c =
@@ -55,4 +55,4 @@ returns-clause-run g c =
     let holds : Holds c.args.self.now = rw (← c.self.view_is) before in
     let all : take c.loop-taken.taken c.args.steps.now ≡ c.args.steps.now = take_all c.loop-taken.taken c.args.steps.now (omega arith) in
     tells_run c.args.self.now c.loop-taken.self c.args.steps.now c.args.outcomes.now.items c.loop-taken.outcomes.items holds
-    (c.loop-taken.invariant.state ∙ ap (after_all c.args.self.now) all) (c.loop-taken.invariant.outcomes ∙ ap (λ ss. c.args.outcomes.now.items ++ step_outcomes c.args.self.now ss) all)
+    (c.loop-taken.invariant.state ∙ ap (after_steps c.args.self.now) all) (c.loop-taken.invariant.outcomes ∙ ap (λ ss. c.args.outcomes.now.items ++ step_outcomes c.args.self.now ss) all)
