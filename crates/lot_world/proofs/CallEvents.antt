@@ -16,7 +16,7 @@ use Rattle.lot_steps.specs.declared.places.Place.TheVariants.{Idle}
 use Rattle.abstract_locks.specs.Purposes.{Purpose, IsMadeOf, rules_of}
 use Rattle.abstract_locks.specs.Locks as locks
 use Rattle.abstract_locks.specs.Locks.{LockState, Rules, Rights, LockCase, HandOff, HasTakenNobody, Queued, Needs, putting, rights_of, standing}
-use Rattle.abstract_locks.specs.Runs.{LocksState, IsTimely, rules_in as locks_rules, CallState, Event, AtLock, MayHappen, Agrees, AnswerHolds, GoesOn, locks_after, going_on, woken, unless_ended}
+use Rattle.abstract_locks.specs.Runs.{LocksState, IsTimely, rules_at as locks_rules, CallState, Event, AtLock, MayHappen, Agrees, AnswerHolds, GoesOn, locks_after, going_on, woken, unless_ended}
 use Rattle.abstract_locks.specs.Sites.{Site, Deed, Begin, after_deed}
 use Rattle.abstract_locks.specs.Deeds.{AreOneCase, event_by, event_of, EventNeeds, after_event}
 use Rattle.abstract_locks.specs.Deeds as deeds
@@ -82,7 +82,7 @@ module _ (r : Rules) where
   deeds_then t [] claims s h = claims_keep claims s h
   deeds_then t (d ∷ ds) claims s h = deeds_then t ds claims (after_deed r d s t) h
 
-  pub needed_then : (t : ℕ) (ds : List Deed) (claims : List Act) (s : Site) → ActsNeeded r (acts t ds ++ claims) s → deeds.ActsNeeded r ds s t
+  pub needed_then : (t : ℕ) (ds : List Deed) (claims : List Act) (s : Site) → ActsNeeded r (acts t ds ++ claims) s → deeds.AllNeeded r ds s t
   needed_then t [] claims s n = tt
   needed_then t (d ∷ ds) claims s n = (n.0, needed_then t ds claims (after_deed r d s t) n.1)
 

@@ -23,7 +23,7 @@ pub after_same : (r : Rules) (ds : List Deed) (s : Site) (t : ℕ) → after_act
 after_same r [] s t = refl
 after_same r (d ∷ ds) s t = after_same r ds (after_deed r d s t) t
 
-pub needed_same : (r : Rules) (ds : List Deed) (s : Site) (t : ℕ) → laws.ActsNeeded r ds s t → ActsNeeded r (acts t ds) s
+pub needed_same : (r : Rules) (ds : List Deed) (s : Site) (t : ℕ) → laws.AllNeeded r ds s t → ActsNeeded r (acts t ds) s
 needed_same r [] s t h = tt
 needed_same r (d ∷ ds) s t h = (h.0, needed_same r ds (after_deed r d s t) t h.1)
 
@@ -46,7 +46,7 @@ module _ (w : State) (t l : ℕ) (steady : IsSteady w) (own : IsOf l (place_at w
 
   -- what the laws conclude
   pub record IsLawful : Type 0 where
-    pub needed : laws.ActsNeeded r ds (lock_by w l r) t
+    pub needed : laws.AllNeeded r ds (lock_by w l r) t
     pub doing : (laws.after_all r ds (lock_by w l r) t).doing t ≡ doing_on p2 l
     pub owners : lock_in (operated w t p l f) (λ u. taken_at (place_at w u) l) ≡ (laws.after_all r ds (lock_by w l r) t).lock
     pub word : apply f (word_at w l) ≡ code r (laws.after_all r ds (lock_by w l r) t)

@@ -104,7 +104,7 @@ module _ (w : State) (t l : ℕ) (steady : IsSteady w) (there : t < length w.pla
     pub of : IsOf l p2
     pub fits : FitsItsLock w p2
     pub row : profile p2 ≡ x.next told
-    pub needed : laws.ActsNeeded r (x.deeds whom told) here t
+    pub needed : laws.AllNeeded r (x.deeds whom told) here t
     pub doing : (laws.after_all r (x.deeds whom told) here t).doing t ≡ (x.next told).doing
 
   station_is : station (place_at w t) ≡ station_of x
