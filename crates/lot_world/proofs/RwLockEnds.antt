@@ -167,6 +167,7 @@ module _ (w : State) (t l : ℕ) (a : Admission) (steady : IsSteady w) (admits :
   shares_alone y how shared is h = record {
     owns = λ may. enters_owns y how at.Load is (takes_one y shared (subst (λ d. Decides t l a d (looking (purpose.Enter y how) at.Load) (word_at w l) queues v2 x) (takes w l a steady admits y how (may_enter y shared may)) h));
     pends = λ e may some. absurd (shared e);
+    refused = λ sort e. absurd (shared e);
     full = λ full. subst (λ d. Decides t l a d (looking (purpose.Enter y how) at.Load) (word_at w l) queues v2 x) (refuses w l a steady admits y how full) h;
     barred = λ b. barred_by y how at.Load (subst (λ d. Decides t l a d (looking (purpose.Enter y how) at.Load) (word_at w l) queues v2 x) (waits w l a steady admits y how b) h);
   }
@@ -253,6 +254,7 @@ module _ (w : State) (t l : ℕ) (a : Admission) (steady : IsSteady w) (admits :
       clear_alone how e is h aside = record {
         owns = λ may. enters_owns access.Exclusive how at.First is h;
         pends = λ f may some. aside some;
+        refused = λ sort f try unclear. absurd (unclear (eqb-true (word_at w l) 0 e));
         full = λ full. absurd (full.0 refl);
         barred = λ b. absurd (clear_free e b);
       }
@@ -265,18 +267,21 @@ module _ (w : State) (t l : ℕ) (a : Admission) (steady : IsSteady w) (admits :
       by_word false e Try is h = record {
         owns = λ may. absurd (let f : (0 == 0) ≡ false = rw (may.1 admits.0) at e in cc);
         pends = λ f may some. h;
+        refused = λ sort f try unclear. h;
         full = λ full. absurd (full.0 refl);
         barred = λ b. h;
       }
       by_word false e Patient is h = record {
         owns = λ may. enters_owns access.Exclusive Patient at.First is (settles_alone Patient h may.0 (may.1 admits.0));
         pends = λ f may some. settles_aside Patient h may some;
+        refused = λ sort f try. absurd cc;
         full = λ full. absurd (full.0 refl);
         barred = λ b. barred_by access.Exclusive Patient at.First (subst (λ d. Decides t l a d (writer Patient) (word_at w l) queues v2 x) (waits w l a steady admits access.Exclusive Patient b) h);
       }
       by_word false e Timed is h = record {
         owns = λ may. enters_owns access.Exclusive Timed at.First is (settles_alone Timed h may.0 (may.1 admits.0));
         pends = λ f may some. settles_aside Timed h may some;
+        refused = λ sort f try. absurd cc;
         full = λ full. absurd (full.0 refl);
         barred = λ b. barred_by access.Exclusive Timed at.First (subst (λ d. Decides t l a d (writer Timed) (word_at w l) queues v2 x) (waits w l a steady admits access.Exclusive Timed b) h);
       }
