@@ -1,15 +1,20 @@
 -- A whole reader-writer call: its first step, and the rest of it.
-use Rattle.std.proofs.Common.{ℕ, List, [], ◌++◌, Some, None, ◌≡◌, ◌-◌, ◌^◌, ◌<◌, refl, ap, ◌∙◌, sym, subst}
+use Rattle.std.proofs.Common.{ℕ, List, [], ◌++◌, Some, None, ◌≡◌, ◌⊎◌, ◌-◌, ◌^◌, ◌<◌, inl, inr, refl, ap, ◌∙◌, sym, subst}
 use Rattle.std.proofs.lemmas.List.{append-nil}
 use Rattle.lot_base.specs.declared.ops.Op.{Op}
 use Rattle.lot_calls.specs.declared.calls.RwLockCall.{RwLockCall}
 use Rattle.lot_calls.specs.declared.calls.RwLockCall.TheVariants as call
 use Rattle.lot_calls.specs.declared.outcomes.Answer.{Answer}
+use Rattle.lot_calls.specs.declared.outcomes.Answer.TheVariants as answers
+use Rattle.lot_calls.specs.declared.calls.Access.{Access}
+use Rattle.lot_calls.specs.declared.calls.Access.TheVariants as access
+use Rattle.lot_calls.specs.declared.calls.Patience.{Patience}
+use Rattle.lot_calls.specs.declared.calls.Patience.TheVariants.{Patient, Timed, Try}
 use Rattle.lot_acts.specs.declared.acts.Next.{Next}
 use Rattle.lot_acts.specs.declared.acts.Next.TheVariants.{At, End}
 use Rattle.lot_acts.specs.declared.acts.Reply.TheVariants.{Value}
 use Rattle.lot_rwlock.specs.RwLockBegins.{purpose_for, rwlock_first}
-use Rattle.lot_rwlock.specs.RwLockSteps.{rwlock_next}
+use Rattle.lot_rwlock.specs.RwLockSteps.{entered, rwlock_next, wanted}
 use Rattle.lot_rwlock.specs.declared.places.Admission.{Admission}
 use Rattle.lot_rwlock.specs.declared.places.RwLockPlace.{RwLockPlace}
 use Rattle.lot_rwlock.specs.declared.purposes.RwLockPurpose.{RwLockPurpose}
@@ -28,7 +33,7 @@ use Rattle.parking_lot_core.specs.declared.tokens.Token.{Token}
 use Rattle.parking_lot.specs.Fitting.{AreWordsFor, Fits, aim_of, answer_of, of_rwlock}
 use Rattle.parking_lot.specs.Paths.{Walks, at_rwlock, rwlock_at, rwlocks, step}
 use Rattle.parking_lot.specs.RwLockCalls.{AnswersCall, BeginsWith, TookUnlessEnded, Wakes, WakesBy, first_op, rwlock_begin}
-use Rattle.parking_lot.specs.RwLockFitting.{IsRwLockOver, TookWoken}
+use Rattle.parking_lot.specs.RwLockFitting.{Answers, IsBeside, IsRwLockOver, MayGiveUp, OwnsRight, TookWoken}
 use Rattle.parking_lot.specs.Stages.{Stage, Stepped, stage_of}
 use Rattle.parking_lot.specs.Words.{alone, at_in, kind_in}
 use Rattle.parking_lot.proofs.Ending.{end_of}
@@ -129,3 +134,41 @@ path_ended l a c seen answer old new saw some = ends_at_once (at_rwlock l) (rwlo
 
 pub path_later : (l : ℕ) (a : Admission) (c : RwLockCall) (seen : ℕ) (answer : Answer) (old mid new : List WordStep) → mid ≡ old ++ step (rwlock_at l) (first_op c) seen → Walks (at_rwlock l) (next_place (rwlock_begin l a c) (Value seen)) mid new answer → Walks (at_rwlock l) (rwlock_begin l a c) old new answer
 path_later l a c seen answer old mid new saw rest = goes_on (at_rwlock l) (rwlock_begin l a c) l (first_op c) seen old mid new answer (begins_with l a c) saw rest
+
+-- whoever enters begins with what it owns
+pub begins_entering : (l : ℕ) (x : Access) (how : Patience) (owns : List Ownership) → BeginsWith l (call.Enter x how) owns owns
+begins_entering l access.Shared how owns = λ settled. refl
+begins_entering l access.Upgradable how owns = λ settled. refl
+begins_entering l access.Exclusive how owns = λ settled. refl
+
+no_entry : (how : Patience) → entered how ≡ answers.No → ⊥
+no_entry Patient e = cc
+no_entry Timed e = cc
+no_entry Try e = cc
+
+full_entry : (how : Patience) (answer : Answer) → answer ≡ entered how → (answer ≡ answers.Ok → ⊥) → (answer ≡ answers.Yes → ⊥) → ⊥
+full_entry Patient answer e o y = o e
+full_entry Timed answer e o y = y e
+full_entry Try answer e o y = y e
+
+module _ (up : Type 0) (l : ℕ) (base : List Ownership) (a : Admission) (x : Access) (how : Patience) (answer : Answer) (st : Stage) (h : Answers up l base a (purpose.Enter x how) answer st) where
+  pub entered_right : (answer ≡ answers.Ok) ⊎ (answer ≡ answers.Yes) → (answer ≡ entered how) × OwnsRight l (wanted x) base st.owns
+  entered_right which = elim h [
+    | inl got ↦ got
+    | inr (inl none) ↦ let n = none.0 in elim which [ inl o ↦ absurd cc | inr y ↦ absurd cc ]
+    | inr (inr full) ↦ let n = full.0 in elim which [ inl o ↦ absurd cc | inr y ↦ absurd cc ]
+  ]
+
+  pub gave_up_may : answer ≡ answers.No → MayGiveUp up how × IsBeside l base st.owns
+  gave_up_may is = elim h [
+    | inl got ↦ absurd (no_entry how (sym got.0 ∙ is))
+    | inr (inl none) ↦ (none.1, none.2)
+    | inr (inr full) ↦ let n = full.0 in absurd cc
+  ]
+
+  pub found_full : (answer ≡ answers.Ok → ⊥) → (answer ≡ answers.Yes → ⊥) → (answer ≡ answers.No → ⊥) → (answer ≡ answers.ReadersFull) × IsBeside l base st.owns
+  found_full o y n = elim h [
+    | inl got ↦ absurd (full_entry how answer got.0 o y)
+    | inr (inl none) ↦ absurd (n none.0)
+    | inr (inr full) ↦ (full.0, full.1)
+  ]

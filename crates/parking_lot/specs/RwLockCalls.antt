@@ -1,17 +1,20 @@
 -- What a call of a reader-writer lock on real threads did.
-use Rattle.std.specs.Prelude.{ℕ, ◌≡◌, ◌<◌, ◌^◌, ◌-◌, ◌++◌, List, [], Option, None}
+use Rattle.std.specs.Prelude.{ℕ, ◌≡◌, ◌<◌, ◌^◌, ◌-◌, ◌++◌, List, [], Option, Some, None, Ok, Err}
+use Rattle.std.specs.declared.result.Result.{Result}
 use Rattle.lot_base.specs.declared.ops.Op.{Op}
 use Rattle.lot_base.specs.declared.ops.Op.TheVariants.{Load, Exchange}
 use Rattle.lot_calls.specs.declared.calls.RwLockCall.{RwLockCall}
 use Rattle.lot_calls.specs.declared.calls.RwLockCall.TheVariants as calls
 use Rattle.lot_calls.specs.declared.outcomes.Answer.{Answer}
-use Rattle.lot_calls.specs.declared.outcomes.Answer.TheVariants.{Ok}
+use Rattle.lot_calls.specs.declared.calls.Patience.{Patience}
+use Rattle.lot_calls.specs.declared.outcomes.Answer.TheVariants.{No, ReadersFull}
+use Rattle.lot_calls.specs.declared.outcomes.Answer.TheVariants as answers
 use Rattle.lot_acts.specs.declared.acts.Next.{Next}
 use Rattle.lot_acts.specs.declared.acts.Next.TheVariants.{At, End}
 use Rattle.lot_acts.specs.declared.acts.Reply.TheVariants.{Value}
 use Rattle.lot_rwlock.specs.RwLockBegins.{purpose_for, first_at, rwlock_first}
 use Rattle.lot_rwlock.specs.RwLockDeeds.{rwlock_doing}
-use Rattle.lot_rwlock.specs.RwLockSteps.{wanted, to_of, give_op, rwlock_next}
+use Rattle.lot_rwlock.specs.RwLockSteps.{wanted, to_of, entered, give_op, rwlock_next}
 use Rattle.lot_rwlock.specs.declared.places.Admission.{Admission}
 use Rattle.lot_rwlock.specs.declared.places.RwLockAt.{RwLockAt}
 use Rattle.lot_rwlock.specs.declared.places.RwLockAt.TheVariants as at
@@ -55,8 +58,8 @@ BeginsWith l c base owns = OwnsBeside l (rwlock_doing (rwlock_first c)).claims b
 
 -- what an answer says of the rights at the end of a call, whether its first step ended it or not
 abbrev pub AnswersCall : Type 0 → ℕ → List Ownership → Admission → RwLockPurpose → Answer → Stage → Type 0
-AnswersCall up l base a (purpose.Release x) answer st = (answer ≡ Ok) × IsBeside l base st.owns
-AnswersCall up l base a (purpose.Downgrade d) answer st = (answer ≡ Ok) × OwnsRight l (wanted (to_of d)) base st.owns
+AnswersCall up l base a (purpose.Release x) answer st = (answer ≡ answers.Ok) × IsBeside l base st.owns
+AnswersCall up l base a (purpose.Downgrade d) answer st = (answer ≡ answers.Ok) × OwnsRight l (wanted (to_of d)) base st.owns
 AnswersCall up l base a q answer st = Answers up l base a q answer st
 
 -- the steps of a call lead from its beginning to the answer
@@ -94,3 +97,9 @@ IsRwLockRight lot word owner right = IsRightOf lot.words right × (right.word �
 -- it is the same thread, and owns what it did, where it waited for no last readers of the lock
 abbrev pub StaysBeside : ℕ → Token → Token → Type 0
 StaysBeside l old new = (new.number ≡ old.number) × IsBeside l (view_of old).owns (view_of new).owns
+
+-- what a call that enters answers, by what it gives
+abbrev pub entry_answer : {A E : Type 0} → Patience → Result (Option A) E → Answer
+entry_answer how (Ok (Some right)) = entered how
+entry_answer how (Ok None) = No
+entry_answer how (Err fault) = ReadersFull
