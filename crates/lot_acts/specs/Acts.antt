@@ -1,6 +1,8 @@
 -- What a thread does in one step, and what it is told.
 use Rattle.std.specs.Prelude.{ℕ, Bool, true, false, Option, Some, None, if◌then◌else◌, ◌==◌, ◌||◌, not}
 use Rattle.lot_base.specs.declared.notes.Note.{Note}
+use Rattle.lot_base.specs.declared.ops.Op.{Op}
+use Rattle.lot_base.specs.declared.ops.Op.TheVariants.{Exchange}
 use Rattle.lot_base.specs.declared.wants.Want.{Want}
 use Rattle.lot_acts.specs.declared.acts.Act.{Act}
 use Rattle.lot_acts.specs.declared.acts.Act.TheVariants.{Sleep, Closure, End}
@@ -35,6 +37,11 @@ is_there (Some x) = true
 -- whether anybody was picked: some who share, or the one who wants more
 abbrev pub any_picked : ℕ → Option Want → Bool
 any_picked sharers successor = not (sharers == 0) || is_there successor
+
+-- whether an operation that is to hand a lock over does so, by the value that it finds: an exchange may fail
+abbrev pub takes_effect : Op → ℕ → Bool
+takes_effect (Exchange from to) seen = seen == from
+takes_effect op seen = true
 
 -- what a thread is told that is about to do this
 abbrev pub outcome_of : Act → Outcome

@@ -1,6 +1,6 @@
 //! What a thread does in one step, and what it is told.
 ghost use Rattle.std.specs.Prelude.{◌≡◌};
-ghost use Rattle.lot_acts.specs.Acts.{wakes_taken, holds, outcome_of};
+ghost use Rattle.lot_acts.specs.Acts.{wakes_taken, holds, takes_effect, outcome_of};
 
 use crate::bits::{count_in, has_aside, has_parked, is_blocked, is_done, is_marked, is_poisoned};
 use lot_base::{Key, Keys, Note, Op, Requeue, Want};
@@ -129,8 +129,11 @@ pub enum Reply {
     TakenBy(usize),
     /// Another thread moved this one to the queue of this key.
     MovedTo(Key),
-    /// The thread that took this one has handed it the lock.
-    HandedBy(usize),
+    /// The thread that took this one has handed it the lock, and whether nobody shares the lock now.
+    HandedBy {
+        by: usize,
+        alone: bool,
+    },
     /// Its time is up, and it has entered the section of the queue where it stands.
     Late,
     /// The wake note is there.
@@ -171,6 +174,16 @@ impl Check {
                 is_marked(word) && !is_done(word) && (forced || !is_poisoned(word))
             }
         }
+    }
+}
+
+/// Whether an operation that is to hand a lock over does so, by the value that it finds: an exchange may fail.
+pub fn takes_effect(op: Op, seen: u64) -> bool
+    ensures { result ≡ takes_effect op seen }
+{
+    match op {
+        Op::Exchange { from, .. } => seen == from,
+        _ => true,
     }
 }
 

@@ -5,6 +5,6 @@ pub mod acts;
 pub mod bits;
 pub mod owners;
 
-pub use acts::{Act, Check, Next, Reply, Wakes, Whom};
+pub use acts::{Act, Check, Next, Reply, Wakes, Whom, takes_effect};
 pub use lot_base::Op;
 pub use owners::{Fallback, Owner, Owners, Pending};

@@ -138,7 +138,7 @@ next_lock e lock.TheVariants.Asleep (TakenBy by) = At (lock.TheVariants.Taken by
 next_lock e lock.TheVariants.Asleep (Woken note.TheVariants.Normal) = At lock.TheVariants.Load
 next_lock e lock.TheVariants.Asleep (Woken note.TheVariants.HandOff) = At lock.TheVariants.Accept
 next_lock e (lock.TheVariants.Taken by) (Woken note.TheVariants.Normal) = At lock.TheVariants.Load
-next_lock e (lock.TheVariants.Taken by) (HandedBy t) = At (lock.TheVariants.Handed t)
+next_lock e (lock.TheVariants.Taken by) (HandedBy t alone) = At (lock.TheVariants.Handed t)
 next_lock e (lock.TheVariants.Handed by) (Woken note.TheVariants.HandOff) = At lock.TheVariants.Accept
 next_lock e lock.TheVariants.Accept Done = End (entered e)
 next_lock e lock.TheVariants.Asleep Late = At lock.TheVariants.Remove
@@ -151,7 +151,7 @@ next_lock e at _ = At at
 abbrev pub still_retries : Bool → Reply → Bool
 still_retries retries (Woken note.TheVariants.Normal) = true
 still_retries retries (Parked parked) = retries && not parked
-still_retries retries (HandedBy t) = false
+still_retries retries (HandedBy t alone) = false
 still_retries retries _ = retries
 
 abbrev pub next_unlock : UnlockAt → Reply → Next UnlockAt

@@ -124,7 +124,7 @@ pub(super) fn next_lock(entry: Entry, at: LockAt, reply: Reply) -> Next<LockAt>
         (LockAt::Asleep, Reply::Woken(Note::Normal)) => Next::At(LockAt::Load),
         (LockAt::Asleep, Reply::Woken(Note::HandOff)) => Next::At(LockAt::Accept),
         (LockAt::Taken { .. }, Reply::Woken(Note::Normal)) => Next::At(LockAt::Load),
-        (LockAt::Taken { .. }, Reply::HandedBy(by)) => Next::At(LockAt::Handed { by }),
+        (LockAt::Taken { .. }, Reply::HandedBy { by, .. }) => Next::At(LockAt::Handed { by }),
         (LockAt::Handed { .. }, Reply::Woken(Note::HandOff)) => Next::At(LockAt::Accept),
         (LockAt::Accept, Reply::Done) => Next::End(entry.entered()),
         (LockAt::Asleep, Reply::Late) => Next::At(LockAt::Remove),
@@ -146,7 +146,7 @@ pub(super) fn still_retries(retries: bool, reply: Reply) -> bool
     match reply {
         Reply::Woken(Note::Normal) => true,
         Reply::Parked(parked) => retries && !parked,
-        Reply::HandedBy(_) => false,
+        Reply::HandedBy { .. } => false,
         _ => retries,
     }
 }
