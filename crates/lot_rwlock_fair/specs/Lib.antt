@@ -1,0 +1,4 @@
+pub mod FairSteps
+pub mod FairBegins
+pub mod FairDeeds
+pub mod FairProfiles
