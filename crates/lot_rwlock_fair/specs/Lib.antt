@@ -2,3 +2,5 @@ pub mod FairSteps
 pub mod FairBegins
 pub mod FairDeeds
 pub mod FairProfiles
+pub mod FairCalls
+pub mod FairLaws

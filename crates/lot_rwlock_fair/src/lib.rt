@@ -4,6 +4,7 @@
 pub mod begin;
 pub mod hand_over;
 pub mod handed;
+pub mod laws;
 pub mod places;
 
 pub use begin::FairCall;

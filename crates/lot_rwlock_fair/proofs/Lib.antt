@@ -1,0 +1,3 @@
+pub mod FairFit
+pub mod HandOvers
+pub mod HandOverFit
