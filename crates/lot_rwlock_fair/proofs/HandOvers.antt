@@ -92,8 +92,8 @@ module _ (r : Rules) (s : Site) (t : ℕ) (h : IsSite r s) where
   exclusive_gone claims = let alone = h.state.exclusive_alone t (h.held t (Has Exclusive) claims) in (record { exclusive = refl; pending = alone.0; upgradable = alone.1 }, alone.2)
 
   -- and an upgradable one none but those who share
-  pub upgradable_gone : (s.doing t).claims ≡ Some (Has Upgradable) → HasNoWriter (sharing_handed t (without_owner t Upgradable s.lock)) × (count s.lock ≡ readers s.lock + 1)
-  upgradable_gone claims = (record { exclusive = no_writer s.lock.exclusive refl; pending = no_pending s.lock.pending refl; upgradable = refl }, rw own refl)
+  pub upgradable_gone : (s.doing t).claims ≡ Some (Has Upgradable) → HasNoWriter (sharing_handed t (without_owner t Upgradable s.lock)) × (count s.lock ≡ readers s.lock + 1) × (rw_code s ≡ 16 * readers s.lock + 20 + (2 * bit s.aside_parked + bit s.parked))
+  upgradable_gone claims = (record { exclusive = no_writer s.lock.exclusive refl; pending = no_pending s.lock.pending refl; upgradable = refl }, rw own refl, rw (no_writer s.lock.exclusive refl, no_pending s.lock.pending refl, own) (omega arith))
     where
       own : s.lock.upgradable ≡ Some t
       own = h.held t (Has Upgradable) claims
@@ -124,3 +124,9 @@ token_small None = omega arith
 token_small (Some Shared) = omega arith
 token_small (Some Upgradable) = omega arith
 token_small (Some x) = omega arith
+
+pub token_top : (y : Option Want) → token_of y ≤ 20
+token_top None = omega arith
+token_top (Some Shared) = omega arith
+token_top (Some Upgradable) = omega arith
+token_top (Some x) = omega arith
