@@ -84,7 +84,7 @@ module _ (r : Rules) (a : Admission) (s : Site) (t l : ℕ) (op : Op) (rw_sort :
       let low = low_is r s h in
       let is = coded s in let is_left = coded (after_deed r (Case (Leave Upgradable)) s t) in
       rw (coded (after_deed r (settles_bit k.none_left) (after_deed r (Case (Leave Upgradable)) s t) t))
-          (left_words v 20 (bit s.parked) (rw_code (after_deed r (Case (Leave Upgradable)) s t)) _ (if k.none_left then 0 else 1) small (omega arith) refl (omega arith) (omega arith) bits)
+      (left_words v 20 (bit s.parked) (rw_code (after_deed r (Case (Leave Upgradable)) s t)) _ (if k.none_left then 0 else 1) small (omega arith) refl (omega arith) (omega arith) bits)
 
   exchanged : (k : Taken) (expected : ℕ) → (room : Bool) → (won : Bool) → (v == expected) ≡ won
       → (if room then act.HandOver l (operation.Exchange expected (with_taken access.Upgradable k expected)) else act.Word l (operation.Exchange expected (parked_as k.none_left (without access.Upgradable expected)))) ≡ act.Word l op

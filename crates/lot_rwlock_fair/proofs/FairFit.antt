@@ -155,7 +155,7 @@ module _ (r : Rules) (a : Admission) (s : Site) (t l : ℕ) (op : Op) (admits : 
   exchanged : (b : Bool) (k : Taken) (expected : ℕ) → s.doing t ≡ holding Upgradable k → (room : Bool) → has_room a.limit k expected ≡ room → (won : Bool) → (v == expected) ≡ won
       → exchange_as room k expected ≡ act.Word l op
       → Follows r s t (exchanged_deeds Upgradable k None won room)
-        (call_doing_next (if won then next.At (HandOver access.Upgradable b (handing.Leave (any_taken k) (has_room a.limit k v))) else next.At (HandOver access.Upgradable b (handing.Exchange k v))))
+      (call_doing_next (if won then next.At (HandOver access.Upgradable b (handing.Leave (any_taken k) (has_room a.limit k v))) else next.At (HandOver access.Upgradable b (handing.Exchange k v))))
   exchanged b k expected is true er won ew e = absurd cc
   exchanged b k expected is false er false ew e = rests r s t admits.0 h tells _ is
   exchanged b k expected is false er true ew e =

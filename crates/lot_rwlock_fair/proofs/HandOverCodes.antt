@@ -100,12 +100,12 @@ module _ (r : Rules) (s : Site) (t : ℕ) (whom : Option ℕ) (rw_sort : has_rea
   exchanged_word is small room few =
       let gone = upgradable_gone r s t h (ap (λ (d : Doing). d.claims) is) in
       let sum_is : 16 * count (now Upgradable) + (8 * writers (now Upgradable) + 4 * one_if_some (now Upgradable).upgradable) ≡ 16 * readers s.lock + (16 * k.sharers + token_of k.successor) =
-          adds _ gone.0 k.successor whom more hand.named ∙ ap (λ n. 16 * n + token_of k.successor) hand.sharers ∙ (let e : 16 * (readers s.lock + k.sharers) + token_of k.successor ≡ 16 * readers s.lock + (16 * k.sharers + token_of k.successor) = omega arith in e) in
+      adds _ gone.0 k.successor whom more hand.named ∙ ap (λ n. 16 * n + token_of k.successor) hand.sharers ∙ (let e : 16 * (readers s.lock + k.sharers) + token_of k.successor ≡ 16 * readers s.lock + (16 * k.sharers + token_of k.successor) = omega arith in e) in
       let bits = settles r (after_hand Upgradable) t k.none_left in
       let others : count_in (code r s) - 1 ≡ readers s.lock = (let c = tells.count in let one = gone.1 in omega arith) in
       let enough = few_in_hand r.limit (readers s.lock) (subst (λ n. n + counted k ≤ r.limit) others room) few in
       rw (coded (after_deed r (settles_bit k.none_left) (after_hand Upgradable) t), tokens_are k enough.0)
-          (sums (code r s) (readers s.lock) (16 * k.sharers + token_of k.successor) (bit s.aside_parked) (bit s.parked) _ (if k.none_left then 0 else 1) (bit (after_hand Upgradable).parked) (rw_code (after_hand Upgradable)) (coded s ∙ gone.2) (one_bit s.aside_parked) (one_bit s.parked) small (let e = token_even k.successor in omega arith) (omega (arith, enough.1)) (now_code ∙ ap (λ n. n + (2 * bit s.aside_parked + bit (after_hand Upgradable).parked)) sum_is) bits)
+      (sums (code r s) (readers s.lock) (16 * k.sharers + token_of k.successor) (bit s.aside_parked) (bit s.parked) _ (if k.none_left then 0 else 1) (bit (after_hand Upgradable).parked) (rw_code (after_hand Upgradable)) (coded s ∙ gone.2) (one_bit s.aside_parked) (one_bit s.parked) small (let e = token_even k.successor in omega arith) (omega (arith, enough.1)) (now_code ∙ ap (λ n. n + (2 * bit s.aside_parked + bit (after_hand Upgradable).parked)) sum_is) bits)
 
   -- the limit
   pub exclusive_limit : s.doing t ≡ holding Exclusive k → k.sharers < r.limit → HasLimit r (now Exclusive)

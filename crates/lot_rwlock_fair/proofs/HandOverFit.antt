@@ -66,7 +66,7 @@ module _ (r : Rules) (a : Admission) (s : Site) (t l : ℕ) (op : Op) (whom : Op
     exchanged : (b : Bool) (expected : ℕ) → s.doing t ≡ holding Upgradable k → (room : Bool) → has_room a.limit k expected ≡ room → (won : Bool) → (v == expected) ≡ won
         → (if room then act.HandOver l (operation.Exchange expected (with_taken access.Upgradable k expected)) else act.Word l (operation.Exchange expected (parked_as k.none_left (without access.Upgradable expected)))) ≡ act.HandOver l op
         → Follows r s t (exchanged_deeds Upgradable k whom won room)
-          (call_doing_next (if won then next.At (HandOver access.Upgradable b (handing.Leave (any_taken k) (has_room a.limit k v))) else next.At (HandOver access.Upgradable b (handing.Exchange k v))))
+        (call_doing_next (if won then next.At (HandOver access.Upgradable b (handing.Leave (any_taken k) (has_room a.limit k v))) else next.At (HandOver access.Upgradable b (handing.Exchange k v))))
     exchanged b expected is false er won ew e = absurd cc
     exchanged b expected is true er false ew e = record { needed = tt; doing = is }
     exchanged b expected is true er true ew e =

@@ -199,10 +199,7 @@ pub(super) fn hand_over_act(
         }
         HandOverAt::Leave { any, handed } => Act::Leave {
             keys: Keys::One(key),
-            wakes: Wakes::taken(
-                any,
-                if handed { Note::HandOff } else { Note::Normal },
-            ),
+            wakes: Wakes::taken(any, if handed { Note::HandOff } else { Note::Normal }),
         },
     }
 }
@@ -286,7 +283,13 @@ pub(super) fn hand_over_next(
             handed: true,
         }),
         (HandOverAt::Look(taken), Reply::Value(seen)) => goes(HandOverAt::Exchange { taken, seen }),
-        (HandOverAt::Exchange { taken, seen: expected }, Reply::Value(seen)) if seen == expected => {
+        (
+            HandOverAt::Exchange {
+                taken,
+                seen: expected,
+            },
+            Reply::Value(seen),
+        ) if seen == expected => {
             goes(HandOverAt::Leave {
                 any: taken.any(),
                 handed: taken.has_room(admission.limit, seen),
