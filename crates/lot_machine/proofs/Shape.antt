@@ -46,7 +46,7 @@ use Rattle.lot_mutex.specs.declared.unlock.UnlockAt.{UnlockAt}
 use Rattle.lot_mutex.specs.declared.unlock.UnlockAt as unlock
 use Rattle.lot_mutex.specs.declared.hand_off.HandOffAt.{HandOffAt}
 use Rattle.lot_mutex.specs.declared.hand_off.HandOffAt.TheVariants as hand_off
-use Rattle.lot_acts.specs.Acts.{holds, outcome_of}
+use Rattle.lot_acts.specs.Acts.{takes_effect, holds, outcome_of}
 use Rattle.lot_calls.specs.declared.outcomes.Outcome.{Outcome}
 use Rattle.lot_calls.specs.declared.outcomes.Outcome as outcome
 use Rattle.lot_steps.specs.Steps.{next_act}
@@ -66,7 +66,7 @@ use Rattle.lot_calls.specs.Calls.{lock_in}
 use Rattle.lot_acts.specs.Profiles.{in_line}
 use Rattle.abstract_locks.specs.Sites.{Main}
 use Rattle.lot_steps.specs.Steps.{is_idle, lock_of, first_place, taker, act_of, next_place, mutex_goes, rwlock_goes, looking, late_key, key_in}
-use Rattle.lot_machine.specs.Machine.{State, unlocked, opening, kind_at, word_at, place_at, queue_at, put, state_after_operation, state_with_sections, queues_with_last, queues_without_first, queues_without, state_after_park, state_after_reply, place_after_telling, state_after_telling, state_after_hand_over, state_after_taking, state_after_wake, state_after_act, state_after_takes, state_after_take_first, state_after_requeue, queues_requeued, left_behind, moved_under, moved_threads, listed, places_told, state_after_going, going_outcome, closed_place, can_do, state_after_go, reply_to, state_after_begin, can_begin, is_open_to, state_after_spin, state_after_late, state_after_late_on, state_after_turn, can_turn, is_possible, after, state_after_look, look_outcome, spin_outcome, can_spin, can_go, go_outcome}
+use Rattle.lot_machine.specs.Machine.{state_after_hand_over_by, hand_over_told, State, unlocked, opening, kind_at, word_at, place_at, queue_at, put, state_after_operation, state_with_sections, queues_with_last, queues_without_first, queues_without, state_after_park, state_after_reply, place_after_telling, state_after_telling, state_after_hand_over, state_after_taking, state_after_wake, state_after_act, state_after_takes, state_after_take_first, state_after_requeue, queues_requeued, left_behind, moved_under, moved_threads, listed, places_told, state_after_going, going_outcome, closed_place, can_do, state_after_go, reply_to, state_after_begin, can_begin, is_open_to, state_after_spin, state_after_late, state_after_late_on, state_after_turn, can_turn, is_possible, after, state_after_look, look_outcome, spin_outcome, can_spin, can_go, go_outcome}
 use Rattle.lot_base.specs.declared.notes.Note as note
 use Rattle.lot_mutex.specs.declared.lock.LockAt as lock
 use Rattle.lot_acts.specs.declared.acts.Whom as whom
@@ -183,7 +183,7 @@ lock_fits l entry retries lock.TheVariants.Remove (Removed true) h late = h
 lock_fits l entry retries lock.TheVariants.Remove (Removed false) h late = h
 lock_fits l entry retries lock.TheVariants.Clear (Value seen) h late = h
 lock_fits l entry retries (lock.TheVariants.Taken by) (Woken note.TheVariants.Normal) h late = tt
-lock_fits l entry retries (lock.TheVariants.Taken by) (HandedBy t) h late = tt
+lock_fits l entry retries (lock.TheVariants.Taken by) (HandedBy t alone) h late = tt
 lock_fits l entry retries (lock.TheVariants.Handed by) (Woken note.TheVariants.HandOff) h late = tt
 lock_fits l entry retries lock.TheVariants.Accept Done h late = tt
 lock_fits l entry retries lock.TheVariants.GiveUp Done h late = tt
@@ -381,7 +381,7 @@ IsTimely Late = ⊥
 IsTimely reply = Unit {0}
 
 timely_fits : (p : Place) (reply : Reply) → IsTimely reply → ReplyFits p reply
-timely_fits p (HandedBy t) h = tt
+timely_fits p (HandedBy t alone) h = tt
 timely_fits p (Woken x) h = tt
 timely_fits p Late h = absurd h
 timely_fits p reply h = tt
@@ -405,7 +405,11 @@ awakened_shaped w t (wakes.TheVariants.All note) s = told_shaped w t (Woken note
 
 performed_shaped : (w : State) (t : ℕ) (p : Place) (act : Act) → IsShaped w → t < length w.places → IsShaped (state_after_act w t p act)
 performed_shaped w t p (Word l f) s lt = operated_shaped w t p l f s
-performed_shaped w t p (HandOver l f) s lt = told_shaped (state_after_hand_over w t p l f) t (HandedBy t) tt (given_shaped w t p l f s)
+performed_shaped w t p (HandOver l f) s lt = either (takes_effect f (word_at w l))
+  where
+    either : (b : Bool) → IsShaped (state_after_hand_over_by b w t p l f)
+    either true = told_shaped (state_after_hand_over w t p l f) t (hand_over_told w t l) tt (given_shaped w t p l f s)
+    either false = operated_shaped w t p l f s
 performed_shaped w t p (Enter keys) s lt = filled_shaped w keys (Some t) s
 performed_shaped w t p (Park l key check wanted) s lt = parked_shaped w t l key check wanted s lt
 performed_shaped w t p (Stand key wanted) s lt = stood_shaped w t key wanted s lt
@@ -424,7 +428,11 @@ filled_counts w (Two first second) who = (refl, refl)
 
 pub performed_counts : (w : State) (t : ℕ) (p : Place) (act : Act) → (length (state_after_act w t p act).places ≡ length w.places) × (length (state_after_act w t p act).locks ≡ length w.locks)
 performed_counts w t p (Word l f) = (refl, length-set w.locks l _)
-performed_counts w t p (HandOver l f) = (length-map w.places (place_after_telling t (HandedBy t)), length-set w.locks l _)
+performed_counts w t p (HandOver l f) = either (takes_effect f (word_at w l))
+  where
+    either : (b : Bool) → (length (state_after_hand_over_by b w t p l f).places ≡ length w.places) × (length (state_after_hand_over_by b w t p l f).locks ≡ length w.locks)
+    either true = (length-map w.places (place_after_telling t (hand_over_told w t l)), length-set w.locks l _)
+    either false = (refl, length-set w.locks l _)
 performed_counts w t p (Enter keys) = filled_counts w keys (Some t)
 performed_counts w t p (Park l key check wanted) = either (holds check (word_at w l))
   where

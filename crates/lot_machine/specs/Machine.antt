@@ -36,7 +36,7 @@ use Rattle.lot_calls.specs.declared.calls.Step.{Step}
 use Rattle.lot_calls.specs.declared.outcomes.Outcome.{Outcome}
 use Rattle.lot_calls.specs.declared.outcomes.Outcome as outcome
 use Rattle.lot_calls.specs.Kinds.{has_call}
-use Rattle.lot_acts.specs.Acts.{holds, outcome_of}
+use Rattle.lot_acts.specs.Acts.{holds, takes_effect, outcome_of}
 use Rattle.lot_acts.specs.Owners.{is_thread, with_exclusive}
 use Rattle.lot_calls.specs.Calls.{lock_in}
 use Rattle.lot_steps.specs.Steps.{first_place, has_right, is_idle, act_of, next_place, next_act, owners_after, shares_after, taker, wants, looking, late_key}
@@ -253,6 +253,10 @@ owners_of_successor readers (Some s) owners = elim s.want [
 abbrev pub shares_handed_over : State → ℕ → ℕ → List ℕ
 shares_handed_over w t l = shares_given t w.places (shares_at w l)
 
+-- and whether nobody does
+abbrev pub unshared_then : State → ℕ → ℕ → Bool
+unshared_then w t l = sum (shares_handed_over w t l) == 0
+
 -- and who else owns it, beside those who keep it
 abbrev pub owners_handed_over : State → ℕ → ℕ → Owners → Owners
 owners_handed_over w t l keeps = owners_of_successor (sum (shares_handed_over w t l)) (successor_from t 0 w.places) keeps
@@ -264,6 +268,15 @@ state_after_hand_over w t p l op =
     record (with_word w l (apply op (word_at w l)) (owners_handed_over w t l keeps)) {
       shares = slice_set w.shares l (shares_handed_over w t l);
     }
+
+-- those in hand are told so, and whether nobody shares the lock then
+abbrev pub hand_over_told : State → ℕ → ℕ → Reply
+hand_over_told w t l = HandedBy t (unshared_then w t l)
+
+-- where the operation fails, nobody is handed anything
+abbrev pub state_after_hand_over_by : Bool → State → ℕ → Place → ℕ → Op → State
+state_after_hand_over_by true w t p l op = state_after_telling (state_after_hand_over w t p l op) t (hand_over_told w t l)
+state_after_hand_over_by false w t p l op = state_after_operation w t p l op
 
 abbrev pub state_after_taking : State → ℕ → Option ℕ → State
 state_after_taking w t None = w
@@ -335,7 +348,7 @@ can_do w act = true
 -- what it does
 abbrev pub state_after_act : State → ℕ → Place → Act → State
 state_after_act w t p (Word l op) = state_after_operation w t p l op
-state_after_act w t p (HandOver l op) = state_after_telling (state_after_hand_over w t p l op) t (HandedBy t)
+state_after_act w t p (HandOver l op) = state_after_hand_over_by (takes_effect op (word_at w l)) w t p l op
 state_after_act w t p (Enter keys) = state_with_sections w keys (Some t)
 state_after_act w t p (Park l key check wanted) = state_after_park w t l key check wanted
 state_after_act w t p (Stand key want) = record w { queues = queues_with_last w.queues key t want }

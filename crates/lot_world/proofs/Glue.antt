@@ -586,13 +586,13 @@ handed_is t n o m s p l to state = (λ i. locks.with_successor (heir to) (record
     by_heir None = refl
     by_heir (Some u) = ap (λ (k : ℕ). if k == 0 then lock_seen n.shared (with_exclusive o (Some u)) m s (let_go t (λ x. taken_at (p x) l)) else locks.pending_for u false (lock_seen n.shared (with_exclusive o None) m s (let_go t (λ x. taken_at (p x) l)))) (state.unshared (λ h. h))
 
-module _ (r : Rules) (l : ℕ) (n : Base) (word : ℕ) (o : Owners) (m s : List Waiter) (p : ℕ → Place) (one : ℕ → Type 0) (hands : Hands one p) (single : one l) (mutexes : (x : ℕ) → IsMutexCall l (p x)) (t u : ℕ) (bumps none_left : Bool) (sort : r.sort ≡ locks.Mutex) (state : IsLockState mutex (lock_seen n.shared o m s (λ x. taken_at (p x) l)))
+module _ (r : Rules) (l : ℕ) (n : Base) (word : ℕ) (o : Owners) (m s : List Waiter) (p : ℕ → Place) (one : ℕ → Type 0) (hands : Hands one p) (single : one l) (mutexes : (x : ℕ) → IsMutexCall l (p x)) (t u : ℕ) (alone bumps none_left : Bool) (sort : r.sort ≡ locks.Mutex) (state : IsLockState mutex (lock_seen n.shared o m s (λ x. taken_at (p x) l)))
     (store : p t ≡ Mutex l (HandOff bumps (hand_off.Store true none_left))) (held : hand_at (p u) l ≡ hand t false) where
   abbrev at_store : Site
   at_store = seen l n word o m s p
 
   abbrev pub handed_places : ℕ → Place
-  handed_places = putting (putting p u (next_place (p u) (HandedBy t))) t (Mutex l (HandOff bumps (hand_off.Leave true)))
+  handed_places = putting (putting p u (next_place (p u) (HandedBy t alone))) t (Mutex l (HandOff bumps (hand_off.Leave true)))
 
   pub taken_there : IsTakenAt (p u) t l
   taken_there = is_taken (p u) t l (mutexes u) held
@@ -602,10 +602,10 @@ module _ (r : Rules) (l : ℕ) (n : Base) (word : ℕ) (o : Owners) (m s : List 
 
   let_go_now : (x : ℕ) → taken_at (handed_places x) l ≡ keep_from t (taken_at (p x) l)
   let_go_now x = elim (cases_eq x t) [
-    | inl e ↦ rw (e, put_here (putting p u (next_place (p u) (HandedBy t))) t (Mutex l (HandOff bumps (hand_off.Leave true))), store) refl
-    | inr nt ↦ rw (put_other (putting p u (next_place (p u) (HandedBy t))) t (Mutex l (HandOff bumps (hand_off.Leave true))) x nt) (elim (cases_eq x u) [
-      | inl e ↦ rw (e, put_here p u (next_place (p u) (HandedBy t)), taken_there.is, same l, same t) refl
-      | inr nu ↦ rw (put_other p u (next_place (p u) (HandedBy t)) x nu) (sym (untaken (p x) t l (λ h. nu (hands.alone t l u x false false single held h))))
+    | inl e ↦ rw (e, put_here (putting p u (next_place (p u) (HandedBy t alone))) t (Mutex l (HandOff bumps (hand_off.Leave true))), store) refl
+    | inr nt ↦ rw (put_other (putting p u (next_place (p u) (HandedBy t alone))) t (Mutex l (HandOff bumps (hand_off.Leave true))) x nt) (elim (cases_eq x u) [
+      | inl e ↦ rw (e, put_here p u (next_place (p u) (HandedBy t alone)), taken_there.is, same l, same t) refl
+      | inr nu ↦ rw (put_other p u (next_place (p u) (HandedBy t alone)) x nu) (sym (untaken (p x) t l (λ h. nu (hands.alone t l u x false false single held h))))
     ])
   ]
 
@@ -615,17 +615,17 @@ module _ (r : Rules) (l : ℕ) (n : Base) (word : ℕ) (o : Owners) (m s : List 
   doing_then : (b : Bool) → none_left ≡ b → (x : ℕ)
       → doing_on (handed_places x) l ≡ (after_acts r (hands_acts b) at_store).doing x
   doing_then true f x = elim (cases_eq x t) [
-    | inl e ↦ rw (e, put_here (putting p u (next_place (p u) (HandedBy t))) t (Mutex l (HandOff bumps (hand_off.Leave true))), differ t u (λ g. apart (sym g)), same t, store, same l) refl
-    | inr nt ↦ rw (put_other (putting p u (next_place (p u) (HandedBy t))) t (Mutex l (HandOff bumps (hand_off.Leave true))) x nt) (elim (cases_eq x u) [
-      | inl e ↦ rw (e, put_here p u (next_place (p u) (HandedBy t)), same u, differ u t apart, taken_there.is, same l) refl
-      | inr nu ↦ rw (put_other p u (next_place (p u) (HandedBy t)) x nu, differ x u nu, differ x t nt) refl
+    | inl e ↦ rw (e, put_here (putting p u (next_place (p u) (HandedBy t alone))) t (Mutex l (HandOff bumps (hand_off.Leave true))), differ t u (λ g. apart (sym g)), same t, store, same l) refl
+    | inr nt ↦ rw (put_other (putting p u (next_place (p u) (HandedBy t alone))) t (Mutex l (HandOff bumps (hand_off.Leave true))) x nt) (elim (cases_eq x u) [
+      | inl e ↦ rw (e, put_here p u (next_place (p u) (HandedBy t alone)), same u, differ u t apart, taken_there.is, same l) refl
+      | inr nu ↦ rw (put_other p u (next_place (p u) (HandedBy t alone)) x nu, differ x u nu, differ x t nt) refl
     ])
   ]
   doing_then false f x = elim (cases_eq x t) [
-    | inl e ↦ rw (e, put_here (putting p u (next_place (p u) (HandedBy t))) t (Mutex l (HandOff bumps (hand_off.Leave true))), differ t u (λ g. apart (sym g)), same t, store, same l, f) refl
-    | inr nt ↦ rw (put_other (putting p u (next_place (p u) (HandedBy t))) t (Mutex l (HandOff bumps (hand_off.Leave true))) x nt) (elim (cases_eq x u) [
-      | inl e ↦ rw (e, put_here p u (next_place (p u) (HandedBy t)), same u, differ u t apart, taken_there.is, same l) refl
-      | inr nu ↦ rw (put_other p u (next_place (p u) (HandedBy t)) x nu, differ x u nu, differ x t nt) refl
+    | inl e ↦ rw (e, put_here (putting p u (next_place (p u) (HandedBy t alone))) t (Mutex l (HandOff bumps (hand_off.Leave true))), differ t u (λ g. apart (sym g)), same t, store, same l, f) refl
+    | inr nt ↦ rw (put_other (putting p u (next_place (p u) (HandedBy t alone))) t (Mutex l (HandOff bumps (hand_off.Leave true))) x nt) (elim (cases_eq x u) [
+      | inl e ↦ rw (e, put_here p u (next_place (p u) (HandedBy t alone)), same u, differ u t apart, taken_there.is, same l) refl
+      | inr nu ↦ rw (put_other p u (next_place (p u) (HandedBy t alone)) x nu, differ x u nu, differ x t nt) refl
     ])
   ]
 

@@ -22,10 +22,10 @@ use Rattle.lot_calls.specs.declared.calls.Turn as turn
 use Rattle.lot_calls.specs.declared.calls.Step.{Step}
 use Rattle.lot_steps.specs.declared.places.Place.{Place}
 use Rattle.lot_acts.specs.declared.acts.Whom as whom
-use Rattle.lot_acts.specs.Acts.{holds}
+use Rattle.lot_acts.specs.Acts.{takes_effect, holds}
 use Rattle.lot_calls.specs.Kinds.{has_call}
 use Rattle.lot_steps.specs.Steps.{act_of, looking, late_key}
-use Rattle.lot_machine.specs.Machine.{State, shares_handed_over, unlocked, place_at, word_at, shares_at, filled_at, kind_at, queue_at, state_after_operation, state_after_hand_over, state_with_sections, queues_with_last, queues_without_first, state_after_park, state_after_taking, state_after_wake, state_after_act, state_after_look, put, state_after_late_on, state_after_turn, closed_place, is_possible, after}
+use Rattle.lot_machine.specs.Machine.{state_after_hand_over_by, State, shares_handed_over, unlocked, place_at, word_at, shares_at, filled_at, kind_at, queue_at, state_after_operation, state_after_hand_over, state_with_sections, queues_with_last, queues_without_first, state_after_park, state_after_taking, state_after_wake, state_after_act, state_after_look, put, state_after_late_on, state_after_turn, closed_place, is_possible, after}
 use Rattle.lot_base.specs.Words.{apply}
 use Rattle.abstract_locks.specs.Locks as locks
 use Rattle.abstract_locks.specs.Codes.{fills}
@@ -83,7 +83,11 @@ parked_kinds w t l key check wanted k = either (holds check (word_at w l))
 
 performed_kinds : (w : State) (t : ℕ) (p : Place) (act : Act) (k : ℕ) → kind_at (state_after_act w t p act) k ≡ kind_at w k
 performed_kinds w t p (Word l f) k = operated_kinds w t p l f k
-performed_kinds w t p (HandOver l f) k = given_kinds w t p l f k
+performed_kinds w t p (HandOver l f) k = either (takes_effect f (word_at w l))
+  where
+    either : (b : Bool) → kind_at (state_after_hand_over_by b w t p l f) k ≡ kind_at w k
+    either true = given_kinds w t p l f k
+    either false = operated_kinds w t p l f k
 performed_kinds w t p (Enter keys) k = filled_kinds w keys (Some t) k
 performed_kinds w t p (Park l key check wanted) k = parked_kinds w t l key check wanted k
 performed_kinds w t p (Take key whom.TheVariants.First) k = taken_kinds (record w { queues = queues_without_first w.queues key }) t (first_of (queue_at w key)) k

@@ -203,19 +203,19 @@ module _ (w v : State) (t l : ℕ) (to : Option ℕ) (h : Happens w v t l (AtLoc
     former_same true = λ i k. has k i
     former_same false = λ i k. had k i
 
-    handed_call : (p : Place) → IsTakenAt p t l → call_state (next_place p (HandedBy t)) (rights v u) ≡ record (call_state p (rights w u)) { retries = None }
-    handed_call p k = rw k.is (λ i. record (mutex_call_state l (Lock k.entry k.retries (Taken t)) (rights w u)) { former = former_same (is_bump k.entry) i; retries = None })
+    handed_call : (p : Place) (alone : Bool) → IsTakenAt p t l → call_state (next_place p (HandedBy t alone)) (rights v u) ≡ record (call_state p (rights w u)) { retries = None }
+    handed_call p alone k = rw k.is (λ i. record (mutex_call_state l (Lock k.entry k.retries (Taken t)) (rights w u)) { former = former_same (is_bump k.entry) i; retries = None })
 
-  pub hands_others : Befalls w v t l (HandedBy t) → OthersFollow w v t (AtLock l (HandsOff Exclusive (heir to)))
-  hands_others befalls u ne = ap (λ p. call_state p (rights v u)) (befalls u ne) ∙ either (cases_to to)
+  pub hands_others : (alone : Bool) → Befalls w v t l (HandedBy t alone) → OthersFollow w v t (AtLock l (HandsOff Exclusive (heir to)))
+  hands_others alone befalls u ne = ap (λ p. call_state p (rights v u)) (befalls u ne) ∙ either (cases_to to)
     where
       cases_to : (o : Option ℕ) → (o ≡ Some u) ⊎ (o ≢ Some u)
       cases_to None = inr (λ e. cc)
       cases_to (Some x) = elim (cases_eq x u) [ inl e ↦ inl (ap Some e) | inr ne ↦ inr (λ e. ne cc) ]
 
-      either : ((to ≡ Some u) ⊎ (to ≢ Some u)) → call_state (if is_taken_by t (taken_at (place_at w u) l) then next_place (place_at w u) (HandedBy t) else place_at w u) (rights v u)
+      either : ((to ≡ Some u) ⊎ (to ≢ Some u)) → call_state (if is_taken_by t (taken_at (place_at w u) l) then next_place (place_at w u) (HandedBy t alone) else place_at w u) (rights v u)
           ≡ (if is_taken_by t (taken_at (place_at w u) l) then record (call_state (place_at w u) (rights w u)) { retries = None } else call_state (place_at w u) (rights w u))
-      either (inl e) = let taken : is_taken_by t (taken_at (place_at w u) l) ≡ true = rw (heir_of u e) (same t) in rw taken (handed_call u e (place_at w u) (taken_place (place_at w u) t l (mutex_calls w l (place_at w u) (h.before.stands.calls u) rules) taken))
+      either (inl e) = let taken : is_taken_by t (taken_at (place_at w u) l) ≡ true = rw (heir_of u e) (same t) in rw taken (handed_call u e (place_at w u) alone (taken_place (place_at w u) t l (mutex_calls w l (place_at w u) (h.before.stands.calls u) rules) taken))
       either (inr other) = rw (no_heir u other) (ap (call_state (place_at w u)) (λ i k. (led_to u (rights w u l) (neither (lock_state w l) t state to h.needs.0 apart u ne other) k ∙ put_same (rights w u) l (rights w u l) refl k) i))
 
 -- who has an heir that isn't itself gives its right up

@@ -52,7 +52,7 @@ use Rattle.lot_steps.specs.declared.places.Place.TheVariants.{Idle, Mutex, RwLoc
 use Rattle.lot_acts.specs.Acts.{outcome_of}
 use Rattle.lot_mutex.specs.MutexSteps.{mutex_first, mutex_right, is_locked, is_parked, lock_act, unlock_act, hand_off_word, hand_off_act}
 use Rattle.lot_steps.specs.Steps.{act_of, next_place, next_act, mutex_goes, mutex_does, looking, late_key, is_idle, has_right, first_place, rwlock_goes, key_in, calls}
-use Rattle.lot_machine.specs.Machine.{State, place_at, word_at, owners_at, kind_at, section_at, put, state_after_act, go_reply, state_after_operation, state_after_hand_over, state_with_sections, reply_to, can_do, state_after_look, look_outcome, state_after_go, state_after_going, go_outcome, going_outcome, state_after_late_on, is_free_under, state_after_begin, can_begin, is_open_to, can_turn, state_after_turn, turn_outcome, is_possible, after, step_outcome, share_at}
+use Rattle.lot_machine.specs.Machine.{unshared_then, hand_over_told, State, place_at, word_at, owners_at, kind_at, section_at, put, state_after_act, go_reply, state_after_operation, state_after_hand_over, state_with_sections, reply_to, can_do, state_after_look, look_outcome, state_after_go, state_after_going, go_outcome, going_outcome, state_after_late_on, is_free_under, state_after_begin, can_begin, is_open_to, can_turn, state_after_turn, turn_outcome, is_possible, after, step_outcome, share_at}
 use Rattle.lot_machine.specs.Fits.{IsShaped, SameSize, PlaceFits, GivesUpTimed}
 use Rattle.lot_machine.proofs.Shape.{looking_shaped, after_size, both, performed_counts}
 use Rattle.lot_world.proofs.Possible.{may_go, go_possible, may_be_late, late_possible, told_gone, told_step, begins_awake, turner_there, gone_sections, late_sections, late_awake}
@@ -207,8 +207,8 @@ module _ (w : State) (t : ℕ) (shape : IsShaped w) (steady : IsSteady w) (there
       calmly still others = goes_if (others_follow w behind t l happened happens_so (no_hand_off w behind t l happened happens_so happened still) (calm w t (next_place (Mutex l at) told) behind l happened still others))
 
       -- it hands the lock over
-      gives : (to : Option ℕ) → happened ≡ Some (HandsOff Exclusive (heir to)) → Befalls w behind t l (HandedBy t) → taken_at (place_at w t) l ≡ None → GoesOn (locks_of w) t (outcome_of (next_act (Mutex l at) told)) (locks_of behind)
-      gives to case befalls awake = goes_if (subst (λ c. OthersFollow w behind t (event_by l c)) (sym case) (hands_others w behind t l to (subst (λ c. Happens w behind t l (event_by l c)) case happens_so) rules awake befalls))
+      gives : (to : Option ℕ) → happened ≡ Some (HandsOff Exclusive (heir to)) → (left_alone : Bool) → Befalls w behind t l (HandedBy t left_alone) → taken_at (place_at w t) l ≡ None → GoesOn (locks_of w) t (outcome_of (next_act (Mutex l at) told)) (locks_of behind)
+      gives to case left_alone befalls awake = goes_if (subst (λ c. OthersFollow w behind t (event_by l c)) (sym case) (hands_others w behind t l to (subst (λ c. Happens w behind t l (event_by l c)) case happens_so) rules awake left_alone befalls))
 
     -- whichever way it decides, the case is one that leaves the others in peace
     if_calm : (hand : Option Bool) (b : Bool) (xs ys : List Deed) → IsCalm (case_of hand xs) → IsCalm (case_of hand ys) → IsCalm (case_of hand (if b then xs else ys))
@@ -277,10 +277,10 @@ module _ (w : State) (t : ℕ) (shape : IsShaped w) (steady : IsSteady w) (there
         → GoesOn (locks_of w) t (outcome_of (next_act (Mutex l (HandOff bumping a)) (reply_to w t (hand_off_act l a)))) (locks_of (go_by w t (Mutex l (HandOff bumping a)) (hand_off_act l a)))
     hand_off_goes bumping hand_off.Enter is can = alone (HandOff bumping hand_off.Enter) is can tt tt tt
     hand_off_goes bumping hand_off.Take is can = calmly (HandOff bumping hand_off.Take) is can tt (calm_takes (whom (HandOff bumping hand_off.Take) is can tt)) (takes w t _ (Mutex l (HandOff bumping hand_off.Take)) (2 * l) whoms.First)
-    hand_off_goes bumping (hand_off.Store false b) is can = gives (HandOff bumping (hand_off.Store false b)) is can tt (whom (HandOff bumping (hand_off.Store false b)) is can tt) (hands_case bumping false b (whom (HandOff bumping (hand_off.Store false b)) is can tt))
-        (befalls_nobody w t l steady (rw is refl) _ (state_after_operation w t (Mutex l (HandOff bumping (hand_off.Store false b))) l (op.TheVariants.Store 0)) (HandedBy t) refl (carries (HandOff bumping (hand_off.Store false b)) is can tt)) (ap (λ p. taken_at p l) is)
-    hand_off_goes bumping (hand_off.Store true b) is can = gives (HandOff bumping (hand_off.Store true b)) is can tt (whom (HandOff bumping (hand_off.Store true b)) is can tt) (hands_case bumping true b (whom (HandOff bumping (hand_off.Store true b)) is can tt))
-        (befalls w t l steady (rw is refl) _ (state_after_hand_over w t (Mutex l (HandOff bumping (hand_off.Store true b))) l (op.TheVariants.Store (hand_off_word true b))) (HandedBy t) refl (carries (HandOff bumping (hand_off.Store true b)) is can tt)) (ap (λ p. taken_at p l) is)
+    hand_off_goes bumping (hand_off.Store false b) is can = gives (HandOff bumping (hand_off.Store false b)) is can tt (whom (HandOff bumping (hand_off.Store false b)) is can tt) (hands_case bumping false b (whom (HandOff bumping (hand_off.Store false b)) is can tt)) true
+        (befalls_nobody w t l steady (rw is refl) _ (state_after_operation w t (Mutex l (HandOff bumping (hand_off.Store false b))) l (op.TheVariants.Store 0)) (HandedBy t true) refl (carries (HandOff bumping (hand_off.Store false b)) is can tt)) (ap (λ p. taken_at p l) is)
+    hand_off_goes bumping (hand_off.Store true b) is can = gives (HandOff bumping (hand_off.Store true b)) is can tt (whom (HandOff bumping (hand_off.Store true b)) is can tt) (hands_case bumping true b (whom (HandOff bumping (hand_off.Store true b)) is can tt)) (unshared_then w t l)
+        (befalls w t l steady (rw is refl) _ (state_after_hand_over w t (Mutex l (HandOff bumping (hand_off.Store true b))) l (op.TheVariants.Store (hand_off_word true b))) (hand_over_told w t l) refl (carries (HandOff bumping (hand_off.Store true b)) is can tt)) (ap (λ p. taken_at p l) is)
     hand_off_goes bumping (hand_off.Leave false) is can = alone (HandOff bumping (hand_off.Leave false)) is can tt tt tt
     hand_off_goes bumping (hand_off.Leave true) is can = calmly (HandOff bumping (hand_off.Leave true)) is can tt tt (tells_handed w t l steady (rw is refl) _ (state_with_sections w (One (2 * l)) None) refl (carries (HandOff bumping (hand_off.Leave true)) is can tt))
 

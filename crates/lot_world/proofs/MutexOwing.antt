@@ -72,17 +72,17 @@ befalls_moved l Bump key k = refl
 befalls_moved l (HandOff b hand_off.Enter) key k = refl
 befalls_moved l (HandOff b a) key k = refl
 
-befalls_handed : (l : ℕ) (at : MutexPlace) (t k : ℕ) → line_owed (next_place (Mutex l at) (HandedBy t)) k ≡ line_owed (Mutex l at) k
-befalls_handed l (Lock e r (lock.Taken by)) t k = refl
-befalls_handed l (Lock e r lock.First) t k = refl
-befalls_handed l (Lock e r a) t k = refl
-befalls_handed l TryLock t k = refl
-befalls_handed l (Unlock unlock.Subtract) t k = refl
-befalls_handed l (Unlock a) t k = refl
-befalls_handed l UnlockFair t k = refl
-befalls_handed l Bump t k = refl
-befalls_handed l (HandOff b hand_off.Enter) t k = refl
-befalls_handed l (HandOff b a) t k = refl
+befalls_handed : (l : ℕ) (at : MutexPlace) (t : ℕ) (alone : Bool) (k : ℕ) → line_owed (next_place (Mutex l at) (HandedBy t alone)) k ≡ line_owed (Mutex l at) k
+befalls_handed l (Lock e r (lock.Taken by)) t alone k = refl
+befalls_handed l (Lock e r lock.First) t alone k = refl
+befalls_handed l (Lock e r a) t alone k = refl
+befalls_handed l TryLock t alone k = refl
+befalls_handed l (Unlock unlock.Subtract) t alone k = refl
+befalls_handed l (Unlock a) t alone k = refl
+befalls_handed l UnlockFair t alone k = refl
+befalls_handed l Bump t alone k = refl
+befalls_handed l (HandOff b hand_off.Enter) t alone k = refl
+befalls_handed l (HandOff b a) t alone k = refl
 
 befalls_woken : (l : ℕ) (at : MutexPlace) (n : Note) (k : ℕ) → line_owed (next_place (Mutex l at) (Woken n)) k ≡ line_owed (Mutex l at) k
 befalls_woken l (Lock e r lock.Asleep) note.Normal k = refl
@@ -105,7 +105,7 @@ befalls_woken l (HandOff b a) n k = refl
 pub mutex_befallen : (l : ℕ) (at : MutexPlace) (r : Reply) → Befalls r → (k : ℕ) → line_owed (next_place (Mutex l at) r) k ≡ line_owed (Mutex l at) k
 mutex_befallen l at (TakenBy t) b k = befalls_taken l at t k
 mutex_befallen l at (MovedTo key) b k = befalls_moved l at key k
-mutex_befallen l at (HandedBy t) b k = befalls_handed l at t k
+mutex_befallen l at (HandedBy t alone) b k = befalls_handed l at t alone k
 mutex_befallen l at (Woken n) b k = befalls_woken l at n k
 mutex_befallen l at r b k = absurd b
 

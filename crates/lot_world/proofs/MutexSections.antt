@@ -48,12 +48,12 @@ abbrev want_of : Option Queued → Want
 want_of None = Exclusive
 want_of (Some q) = q.want
 
-module _ (l : ℕ) (n : Base) (w : ℕ) (o : Owners) (m s : List Waiter) (p : ℕ → Place) (one : ℕ → Type 0) (hands : Hands one p) (single : one l) (mutexes : (x : ℕ) → IsMutexCall l (p x)) (t u : ℕ) (bumps none_left : Bool) (store : p t ≡ Mutex l (HandOff bumps (hand_off.Store true none_left))) (held : hand_at (p u) l ≡ hand t false) (site : IsSite mutex (seen l n w o m s p)) where
+module _ (l : ℕ) (n : Base) (w : ℕ) (o : Owners) (m s : List Waiter) (p : ℕ → Place) (one : ℕ → Type 0) (hands : Hands one p) (single : one l) (mutexes : (x : ℕ) → IsMutexCall l (p x)) (t u : ℕ) (alone bumps none_left : Bool) (store : p t ≡ Mutex l (HandOff bumps (hand_off.Store true none_left))) (held : hand_at (p u) l ≡ hand t false) (site : IsSite mutex (seen l n w o m s p)) where
   d_is : doing_on (p t) l ≡ mutex_doing (HandOff bumps (hand_off.Store true none_left))
   d_is = own_doing l (p t) (HandOff bumps (hand_off.Store true none_left)) store
 
   hand_is : IsTakenAt (p u) t l
-  hand_is = taken_there mutex l n w o m s p one hands single mutexes t u bumps none_left refl site.state store held
+  hand_is = taken_there mutex l n w o m s p one hands single mutexes t u alone bumps none_left refl site.state store held
 
   -- only the one in hand is in hand
   only_one : (y : ℕ) (x : Want) → IsTaken (seen l n w o m s p).lock t y x → (y ≡ u) × (x ≡ Exclusive)
@@ -73,7 +73,7 @@ module _ (l : ℕ) (n : Base) (w : ℕ) (o : Owners) (m s : List Waiter) (p : �
     λ h. let a = only_one y x h.0 in λ j. Some (record { thread = sym a.0 j; want = sym a.1 j }),
   )
 
-  pub hands_needed : (b : Bool) → none_left ≡ b → ActsNeeded mutex (hands_acts mutex l n w o m s p one hands single mutexes t u bumps none_left refl site.state store held b) (seen l n w o m s p)
+  pub hands_needed : (b : Bool) → none_left ≡ b → ActsNeeded mutex (hands_acts mutex l n w o m s p one hands single mutexes t u alone bumps none_left refl site.state store held b) (seen l n w o m s p)
   hands_needed true f = (
     ((site.held t (Has Exclusive) (ap (λ (x : Doing). x.claims) d_is), (λ h. cc), successor, tt), (rw d_is refl, rw d_is refl, rw d_is refl, rw d_is refl)),
     (rw (same t, d_is, f) refl, (ap (λ (x : LockState). x.exclusive) (handed_is t n o m s p l (Some u) site.state), tt)),

@@ -17,7 +17,7 @@ use Rattle.lot_calls.specs.declared.calls.Step.{Step}
 use Rattle.lot_steps.specs.declared.places.Place.{Place}
 use Rattle.lot_calls.specs.Calls.{lock_in}
 use Rattle.lot_steps.specs.Steps.{act_of, lock_of, next_place, first_place, looking, late_key}
-use Rattle.lot_machine.specs.Machine.{State, state_after_take, can_turn, unlocked, place_at, word_at, queue_at, section_at, put, state_after_operation, state_with_sections, queues_with_last, queues_without_first, state_after_taking, state_after_wake, state_after_act, state_after_look, state_after_late_on, go_reply, state_after_turn, is_possible, after, kind_at, state_after_hand_over, state_after_telling}
+use Rattle.lot_machine.specs.Machine.{state_after_hand_over_by, hand_over_told, State, state_after_take, can_turn, unlocked, place_at, word_at, queue_at, section_at, put, state_after_operation, state_with_sections, queues_with_last, queues_without_first, state_after_taking, state_after_wake, state_after_act, state_after_look, state_after_late_on, go_reply, state_after_turn, is_possible, after, kind_at, state_after_hand_over, state_after_telling}
 use Rattle.lot_world.proofs.Looking.{looks_untouched}
 use Rattle.lot_world.proofs.Closures.{nothing_closes}
 use Rattle.lot_machine.proofs.Shape.{both}
@@ -31,7 +31,7 @@ use Rattle.lot_base.specs.declared.wants.Waiter.{Waiter}
 use Rattle.lot_base.specs.Picks.{without_lock_picked}
 use Rattle.lot_acts.specs.declared.acts.Whom.{Whom}
 use Rattle.lot_acts.specs.declared.acts.Whom.TheVariants as whom
-use Rattle.lot_acts.specs.Acts.{holds}
+use Rattle.lot_acts.specs.Acts.{takes_effect, holds}
 use Rattle.lot_world.specs.Refinement.{ChangesOneThing}
 use Rattle.lot_world.specs.WorldRuns.{IsUntouched, TouchesOnlyByGoing}
 
@@ -66,8 +66,9 @@ module _ (w : State) (t : ℕ) (steady : IsSteady w) (there : t < length w.place
   word_one : (p : Place) (l : ℕ) (f : op.Op) → ChangesOneThing w t (state_after_operation w t p l f)
   word_one p l f = inl (l, (λ k ne. ap (λ x. x.word) (get_or-set_other w.locks l k _ (unlocked kind.TheVariants.Mutex) ne)), λ key. refl)
 
-  given_one : (p : Place) (l : ℕ) (f : op.Op) → ChangesOneThing w t (state_after_telling (state_after_hand_over w t p l f) t (HandedBy t))
-  given_one p l f = inl (l, (λ k ne. ap (λ x. x.word) (get_or-set_other w.locks l k _ (unlocked kind.TheVariants.Mutex) ne)), λ key. refl)
+  given_one : (p : Place) (l : ℕ) (f : op.Op) (b : Bool) → ChangesOneThing w t (state_after_hand_over_by b w t p l f)
+  given_one p l f false = word_one p l f
+  given_one p l f true = inl (l, (λ k ne. ap (λ x. x.word) (get_or-set_other w.locks l k _ (unlocked kind.TheVariants.Mutex) ne)), λ key. refl)
 
   stays : ChangesOneThing w t w
   stays = same_one w w t (λ l. refl, λ key. refl)
@@ -106,7 +107,7 @@ module _ (w : State) (t : ℕ) (steady : IsSteady w) (there : t < length w.place
   module _ (l : ℕ) (own : lock_of (place_at w t) ≡ Some l) where
     act_one : (p : Place) (a : Act) → IsLineAct l (station (place_at w t)) a → ChangesOneThing w t (state_after_act w t p a)
     act_one p (act.TheVariants.Word k f) h = word_one p k f
-    act_one p (act.TheVariants.HandOver k f) h = given_one p k f
+    act_one p (act.TheVariants.HandOver k f) h = given_one p k f (takes_effect f (word_at w k))
     act_one p (act.TheVariants.Enter keys) h = filled_one keys (Some t)
     act_one p (act.TheVariants.Park k key check x) h = park_one key x (holds_line w t l steady own key h.0) (removed_at w t l steady own h.0.0 h.0.1 h.1) (holds check (word_at w k))
     act_one p (act.TheVariants.Stand key x) h = park_one key x (holds_line w t l steady own key h.0) (removed_at w t l steady own h.0.0 h.0.1 h.1) true

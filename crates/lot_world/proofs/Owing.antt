@@ -21,12 +21,12 @@ use Rattle.lot_acts.specs.declared.acts.Reply.{Reply}
 use Rattle.lot_acts.specs.declared.acts.Reply.TheVariants.{TakenBy, MovedTo, HandedBy, Woken, Late}
 use Rattle.lot_steps.specs.declared.places.Place.{Place}
 use Rattle.lot_steps.specs.declared.places.Place.TheVariants.{Idle}
-use Rattle.lot_acts.specs.Acts.{holds}
+use Rattle.lot_acts.specs.Acts.{takes_effect, holds}
 use Rattle.lot_acts.specs.declared.acts.Whom as whom
 use Rattle.lot_acts.specs.Owners.{is_thread}
 use Rattle.lot_calls.specs.Calls.{lock_in}
 use Rattle.lot_steps.specs.Steps.{act_of, next_place, first_place, is_idle, looking, late_key, taker, lock_of, line_owed, profile}
-use Rattle.lot_machine.specs.Machine.{State, places_told, listed, moved_threads, closed_place, state_after_going, place_at, word_at, queues_without_first, state_after_taking, state_after_wake, state_with_sections, queue_at, state_after_act, state_after_go, go_reply, go_outcome, is_free_under, is_open_to, can_begin, state_after_begin, can_turn, turn_outcome, kind_at, put, state_after_look, look_outcome, state_after_late_on, state_after_turn, is_possible, after, step_outcome, place_after_telling}
+use Rattle.lot_machine.specs.Machine.{state_after_hand_over_by, hand_over_told, State, places_told, listed, moved_threads, closed_place, state_after_going, place_at, word_at, queues_without_first, state_after_taking, state_after_wake, state_with_sections, queue_at, state_after_act, state_after_go, go_reply, go_outcome, is_free_under, is_open_to, can_begin, state_after_begin, can_turn, turn_outcome, kind_at, put, state_after_look, look_outcome, state_after_late_on, state_after_turn, is_possible, after, step_outcome, place_after_telling}
 use Rattle.lot_base.specs.Lines.{threads_of}
 use Rattle.lot_base.specs.Picks.{lock_picked}
 use Rattle.lot_base.specs.Requeues.{taken_by}
@@ -101,7 +101,11 @@ module _ (w : State) (k u : ℕ) where
 
   performed_owes : (t : ℕ) (p : Place) (a : Act) → line_owed (place_at (state_after_act w t p a) u) k ≡ line_owed (place_at w u) k
   performed_owes t p (Word l f) = refl
-  performed_owes t p (HandOver l f) = told_same t (HandedBy t) (λ p. owes_befallen p (HandedBy t) tt k)
+  performed_owes t p (HandOver l f) = either (takes_effect f (word_at w l))
+    where
+      either : (b : Bool) → line_owed (place_at (state_after_hand_over_by b w t p l f) u) k ≡ line_owed (place_at w u) k
+      either true = told_same t (hand_over_told w t l) (λ p. owes_befallen p (hand_over_told w t l) tt k)
+      either false = refl
   performed_owes t p (Enter keys) = filled_owes keys (Some t)
   performed_owes t p (Park l key check x) = parked_owes (holds check (word_at w l)) _
   performed_owes t p (Take key whom.TheVariants.First) = took_owes t (queues_without_first w.queues key) (first_of (queue_at w key))

@@ -29,10 +29,11 @@ use Rattle.lot_acts.specs.declared.acts.Wakes.{Wakes}
 use Rattle.lot_acts.specs.declared.acts.Wakes as wakes
 use Rattle.lot_acts.specs.declared.acts.Whom.{Whom}
 use Rattle.lot_acts.specs.declared.acts.Whom as whom
-use Rattle.lot_acts.specs.Acts.{outcome_of, holds}
+use Rattle.lot_acts.specs.Acts.{takes_effect, outcome_of, holds}
 use Rattle.lot_mutex.specs.MutexSteps.{mutex_act, mutex_first, mutex_next}
 use Rattle.lot_steps.specs.Steps.{act_of, lock_of, next_place, next_act, mutex_goes, mutex_does, late_key, first_place, looking, key_in, profile, rwlock_does, rwlock_goes}
-use Rattle.lot_machine.specs.Machine.{State, state_after_take, place_at, queue_at, section_at, can_do, can_go, is_free_under, word_at, state_with_sections, queues_without_first, state_after_taking, state_after_wake, state_after_act, state_after_go, state_after_late_on}
+use Rattle.lot_base.specs.declared.ops.Op.{Op}
+use Rattle.lot_machine.specs.Machine.{state_after_hand_over_by, State, state_after_take, place_at, queue_at, section_at, can_do, can_go, is_free_under, word_at, state_with_sections, queues_without_first, state_after_taking, state_after_wake, state_after_act, state_after_go, state_after_late_on}
 use Rattle.lot_machine.specs.Fits.{IsShaped, PlaceFits}
 use Rattle.abstract_locks.specs.Sites.{Main, Line, Second}
 use Rattle.lot_world.specs.Stations.{station, station_at, Station}
@@ -249,6 +250,10 @@ module _ (w : State) (t : ℕ) where
   left_sections keys wakes.TheVariants.Nobody key = refl
   left_sections keys (wakes.TheVariants.All note) key = refl
 
+  given_sections : (p : Place) (k : ℕ) (op : Op) (b : Bool) (key : ℕ) → section_at (state_after_hand_over_by b w t p k op) key ≡ section_at w key
+  given_sections p k op true key = refl
+  given_sections p k op false key = refl
+
   took_all : (key : ℕ) (x : Whom) (k : ℕ) → section_at (state_after_take w t key x) k ≡ section_at w k
   took_all key whom.TheVariants.First k = took_sections (queues_without_first w.queues key) (first_of (queue_at w key)) k
   took_all key (whom.TheVariants.Picked start recursive) k = refl
@@ -267,6 +272,7 @@ module _ (w : State) (t : ℕ) where
     act_sections p (Park k key_there check x) can h key = inl (parked_sections (holds check (word_at w k)) _ key)
     act_sections p (Take k x) can h key = inl (took_all k x key)
     act_sections p (act.Requeue from to how) can h key = absurd h
+    act_sections p (act.HandOver k op) can h key = inl (given_sections p k op (takes_effect op (word_at w k)) key)
     act_sections p Rest can h key = inl refl
     act_sections p a can h key = inl refl
 

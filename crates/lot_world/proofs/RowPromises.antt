@@ -138,6 +138,6 @@ pub record IsLateNext (q : Place) (m : Line) : Type 0 where
 abbrev pub Befalls : Reply → Type 0
 Befalls (TakenBy t) = Unit {0}
 Befalls (MovedTo key) = Unit {0}
-Befalls (HandedBy t) = Unit {0}
+Befalls (HandedBy t alone) = Unit {0}
 Befalls (Woken n) = Unit {0}
 Befalls r = ⊥

@@ -63,11 +63,11 @@ module _ (l : ℕ) (a : Admission) (k : ℕ) where
   park_moved p Main to u = refl
   park_moved p Second to u = refl
 
-  park_handed : (p : RwLockPlace) (m : Line) (to : ParkAt) (u : ℕ) → line_owed (rwlock_goes l a (park_next p m to (reply.HandedBy u))) k ≡ (if l == k then owes_at (parks_at m to) else None)
-  park_handed p Main parking.Asleep u = refl
-  park_handed p Second parking.Asleep u = refl
-  park_handed p Main to u = refl
-  park_handed p Second to u = refl
+  park_handed : (p : RwLockPlace) (m : Line) (to : ParkAt) (u : ℕ) (alone : Bool) → line_owed (rwlock_goes l a (park_next p m to (reply.HandedBy u alone))) k ≡ (if l == k then owes_at (parks_at m to) else None)
+  park_handed p Main parking.Asleep u alone = refl
+  park_handed p Second parking.Asleep u alone = refl
+  park_handed p Main to u alone = refl
+  park_handed p Second to u alone = refl
 
   park_woken : (p : RwLockPlace) (m : Line) (to : ParkAt) (n : Note) → line_owed (rwlock_goes l a (park_next p m to (reply.Woken n))) k ≡ (if l == k then owes_at (parks_at m to) else None)
   park_woken p Main parking.Asleep note.Normal = refl
@@ -84,7 +84,7 @@ module _ (l : ℕ) (a : Admission) (k : ℕ) where
   befalls_parking : (p : RwLockPlace) (m : Line) (to : ParkAt) (r : Reply) → Befalls r → line_owed (rwlock_goes l a (park_next p m to r)) k ≡ (if l == k then owes_at (parks_at m to) else None)
   befalls_parking p m to (reply.TakenBy u) b = park_taken p m to u
   befalls_parking p m to (reply.MovedTo key) b = park_moved p m to key
-  befalls_parking p m to (reply.HandedBy u) b = park_handed p m to u
+  befalls_parking p m to (reply.HandedBy u alone) b = park_handed p m to u alone
   befalls_parking p m to (reply.Woken n) b = park_woken p m to n
   befalls_parking p m to r b = absurd b
 
@@ -103,9 +103,9 @@ module _ (l : ℕ) (a : Admission) (k : ℕ) where
       by_place waking.Take = refl
       by_place (waking.Clear any) = refl
       by_place (waking.Leave any) = refl
-  befalls_waking p m to (reply.HandedBy u) b = by_place to
+  befalls_waking p m to (reply.HandedBy u alone) b = by_place to
     where
-      by_place : (to : WakeAt) → line_owed (rwlock_goes l a (wake_next p m to (reply.HandedBy u))) k ≡ (if l == k then Some m else None)
+      by_place : (to : WakeAt) → line_owed (rwlock_goes l a (wake_next p m to (reply.HandedBy u alone))) k ≡ (if l == k then Some m else None)
       by_place waking.Enter = refl
       by_place waking.Take = refl
       by_place (waking.Clear any) = refl
@@ -142,12 +142,12 @@ module _ (l : ℕ) (a : Admission) (k : ℕ) where
       by_place (at.Decide seen) = refl
       by_place (at.Count seen) = refl
       by_place to = refl
-  befalls_at p to (reply.HandedBy u) b = by_place to
+  befalls_at p to (reply.HandedBy u alone) b = by_place to
     where
-      by_place : (to : RwLockAt) → line_owed (rwlock_goes l a (next_at a p to (reply.HandedBy u))) k ≡ (if l == k then owes_at to else None)
-      by_place (at.Park to) = befalls_parking p Main to (reply.HandedBy u) tt
-      by_place (at.Aside to) = befalls_parking p Second to (reply.HandedBy u) tt
-      by_place (at.Wake m to) = befalls_waking p m to (reply.HandedBy u) tt
+      by_place : (to : RwLockAt) → line_owed (rwlock_goes l a (next_at a p to (reply.HandedBy u alone))) k ≡ (if l == k then owes_at to else None)
+      by_place (at.Park to) = befalls_parking p Main to (reply.HandedBy u alone) tt
+      by_place (at.Aside to) = befalls_parking p Second to (reply.HandedBy u alone) tt
+      by_place (at.Wake m to) = befalls_waking p m to (reply.HandedBy u alone) tt
       by_place (at.Decide seen) = refl
       by_place (at.Count seen) = refl
       by_place to = refl

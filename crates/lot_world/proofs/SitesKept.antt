@@ -34,7 +34,7 @@ pub use Rattle.lot_world.proofs.OneStep.{acts_keep}
 use Rattle.lot_world.proofs.WakesKept.{IsWoken, wake_goes}
 pub use Rattle.lot_world.proofs.ActsKept.{AlikeAt, alike_put, lock_by, follows_by, goes_steady, operated, word_goes, place_goes, enter_goes, leave_goes, nobody_inside}
 use Rattle.std.specs.Prelude.{sum}
-use Rattle.lot_machine.specs.Machine.{State, shares_handed_over, unlocked, place_at, word_at, owners_at, shares_at, filled_at, kind_at, queue_at, put, state_with_sections, section_at, queues_without_first, state_after_reply, state_after_telling, state_after_hand_over, state_after_act, reply_to}
+use Rattle.lot_machine.specs.Machine.{unshared_then, State, hand_over_told, shares_handed_over, unlocked, place_at, word_at, owners_at, shares_at, filled_at, kind_at, queue_at, put, state_with_sections, section_at, queues_without_first, state_after_reply, state_after_telling, state_after_hand_over, state_after_act, reply_to}
 use Rattle.lot_world.specs.Refinement.{taken_at, lock_state}
 use Rattle.abstract_locks.specs.Picks.{queued_of}
 use Rattle.lot_world.specs.MutexDeeds.{mutex_doing, mutex_deeds, mutex_station, acts, owner, queued}
@@ -249,9 +249,9 @@ module _ (w : State) (t l : ℕ) (steady : IsSteady w) (there : t < length w.pla
         (changed_set (λ x. x.word) w.locks l _ (unlocked kind.TheVariants.Mutex) lt) owners_given
         (unchanged (λ k. queue_at w (2 * k)) l) (λ k. refl) same_kinds
         (λ k ne x. alike_both l k (place_at w) u pu t p2 of_u of_pu own_t refl apart ne x)
-        (hands_acts mutex l (base_at w l) (word_at w l) (owners_at w l) (queue_at w (2 * l)) (queue_at w (2 * l + 1)) (place_at w) (TakesOne w) steady.stands.hands (single w t l at steady is there) (mutexes_at w t l at steady is) t u bumps none_left refl state is held none_left)
-        (handing mutex l (base_at w l) (word_at w l) (owners_at w l) (queue_at w (2 * l)) (queue_at w (2 * l + 1)) (place_at w) (TakesOne w) steady.stands.hands (single w t l at steady is there) (mutexes_at w t l at steady is) t u bumps none_left refl state is held none_left refl)
-        (hands_needed l (base_at w l) (word_at w l) (owners_at w l) (queue_at w (2 * l)) (queue_at w (2 * l + 1)) (place_at w) (TakesOne w) steady.stands.hands (single w t l at steady is there) (mutexes_at w t l at steady is) t u bumps none_left is held (site_l w t l at steady is there) none_left refl)
+        (hands_acts mutex l (base_at w l) (word_at w l) (owners_at w l) (queue_at w (2 * l)) (queue_at w (2 * l + 1)) (place_at w) (TakesOne w) steady.stands.hands (single w t l at steady is there) (mutexes_at w t l at steady is) t u (unshared_then w t l) bumps none_left refl state is held none_left)
+        (handing mutex l (base_at w l) (word_at w l) (owners_at w l) (queue_at w (2 * l)) (queue_at w (2 * l + 1)) (place_at w) (TakesOne w) steady.stands.hands (single w t l at steady is there) (mutexes_at w t l at steady is) t u (unshared_then w t l) bumps none_left refl state is held none_left refl)
+        (hands_needed l (base_at w l) (word_at w l) (owners_at w l) (queue_at w (2 * l)) (queue_at w (2 * l + 1)) (place_at w) (TakesOne w) steady.stands.hands (single w t l at steady is there) (mutexes_at w t l at steady is) t u (unshared_then w t l) bumps none_left is held (site_l w t l at steady is there) none_left refl)
         (coded none_left);
     stands = hands_lock w after steady.stands same_kinds l t u apart (of_mutex w t l at steady is there) own_t of_u p2 pu refl of_pu (of_mutex w t l at steady is there) (rw there_u.is (of_mutex w t l at steady is there)) places (λ key. refl) (λ key. refl) (ap station is) (rw there_u.is refl) refl (rw there_u.is refl);
   })
@@ -263,7 +263,7 @@ module _ (w : State) (t l : ℕ) (steady : IsSteady w) (there : t < length w.pla
       p2 = Mutex l (HandOff bumps (hand_off.Leave true))
 
       pu : Place
-      pu = next_place (place_at w u) (HandedBy t)
+      pu = next_place (place_at w u) (hand_over_told w t l)
 
       there_u : IsTakenAt (place_at w u) t l
       there_u = is_taken (place_at w u) t l (mutexes_at w t l at steady is u) held
@@ -275,7 +275,7 @@ module _ (w : State) (t l : ℕ) (steady : IsSteady w) (there : t < length w.pla
       of_u = rw there_u.is refl
 
       of_pu : IsOf l pu
-      of_pu = next_of l (place_at w u) (HandedBy t) of_u
+      of_pu = next_of l (place_at w u) (hand_over_told w t l) of_u
 
       apart : u ≢ t
       apart e = let a : Mutex l (HandOff bumps (hand_off.Store true none_left)) ≡ Mutex l (Lock there_u.entry there_u.retries (lock.Taken t)) = sym is ∙ ap (place_at w) (sym e) ∙ there_u.is in cc
@@ -284,10 +284,10 @@ module _ (w : State) (t l : ℕ) (steady : IsSteady w) (there : t < length w.pla
       before = state_after_hand_over w t (Mutex l at) l (op.Store (hand_off_word true none_left))
 
       after : State
-      after = put (state_after_reply before u (HandedBy t)) t p2
+      after = put (state_after_reply before u (hand_over_told w t l)) t p2
 
-      told : state_after_telling before t (HandedBy t) ≡ state_after_reply before u (HandedBy t)
-      told = told_one before t l u false (HandedBy t) steady.stands.hands (single w t l at steady is there) own_t held
+      told : state_after_telling before t (hand_over_told w t l) ≡ state_after_reply before u (hand_over_told w t l)
+      told = told_one before t l u false (hand_over_told w t l) steady.stands.hands (single w t l at steady is there) own_t held
 
       owners_given : Changed (owners_at w) (owners_at after) l (with_exclusive (owners_at w l) (Some u))
       owners_given = record {
@@ -296,8 +296,8 @@ module _ (w : State) (t l : ℕ) (steady : IsSteady w) (there : t < length w.pla
       }
 
       places : place_at after ≡ putting (putting (place_at w) u pu) t p2
-      places = put_places (state_after_reply before u (HandedBy t)) t p2 (λ h. absurd (let a : length (set w.places u pu) ≡ length w.places = length-set w.places u pu in omega arith))
-          ∙ ap (λ (f : ℕ → Place). putting f t p2) (goes_from w u (HandedBy t))
+      places = put_places (state_after_reply before u (hand_over_told w t l)) t p2 (λ h. absurd (let a : length (set w.places u pu) ≡ length w.places = length-set w.places u pu in omega arith))
+          ∙ ap (λ (f : ℕ → Place). putting f t p2) (goes_from w u (hand_over_told w t l))
 
       state : IsLockState mutex (lock_state w l)
       state = (site_l w t l at steady is there).state

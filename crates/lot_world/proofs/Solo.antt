@@ -299,7 +299,7 @@ module _ (t l : ℕ) where
       → ((u : ℕ) → to ≡ Some u → (o : Owners) → owners_handed_over w t l o ≡ with_exclusive o (Some u)) → Leads 8 w t (FairEnds bumps t l to q)
   store_leads bumps none_left None q v o s w f heir = let h = word_faces w t l (Mutex l (HandOff bumps (hand_off.Store false none_left))) v o s q f (op.TheVariants.Store 0) refl in
       leads_step w t (FairEnds bumps t l None q) 7 h.0 (told_leads bumps false q 0 None s _ h.1)
-  store_leads bumps none_left (Some u) q v o s w f heir = let h = hand_faces w t l (Mutex l (HandOff bumps (hand_off.Store true none_left))) v o s q f (op.TheVariants.Store (hand_off_word true none_left)) u refl (heir u refl) in
+  store_leads bumps none_left (Some u) q v o s w f heir = let h = hand_faces w t l (Mutex l (HandOff bumps (hand_off.Store true none_left))) v o s q f (op.TheVariants.Store (hand_off_word true none_left)) u refl refl (heir u refl) in
       leads_step w t (FairEnds bumps t l (Some u) q) 7 h.0 (told_leads bumps true q (hand_off_word true none_left) (Some u) s _ h.1)
 
   -- the first of the queue is in its hand then

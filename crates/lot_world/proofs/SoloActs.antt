@@ -22,9 +22,9 @@ use Rattle.lot_calls.specs.declared.outcomes.Outcome as outcome
 use Rattle.lot_steps.specs.declared.places.Place.{Place}
 use Rattle.lot_steps.specs.declared.places.Place.TheVariants.{Idle}
 use Rattle.lot_acts.specs.declared.acts.Whom as whoms
-use Rattle.lot_acts.specs.Acts.{outcome_of}
+use Rattle.lot_acts.specs.Acts.{takes_effect, outcome_of}
 use Rattle.lot_steps.specs.Steps.{act_of, next_place, next_act}
-use Rattle.lot_machine.specs.Machine.{State, unlocked, place_at, word_at, owners_at, section_at, queue_at, put, state_after_operation, state_with_sections, queues_with_last, queues_without, queues_without_first, state_after_taking, state_after_reply, state_after_act, reply_to, can_do, state_after_go, go_of, is_possible, after, step_outcome, go_outcome, solo, place_after_telling, state_after_telling, state_after_hand_over, owners_handed_over, is_there}
+use Rattle.lot_machine.specs.Machine.{state_after_hand_over_by, hand_over_told, State, unlocked, place_at, word_at, owners_at, section_at, queue_at, put, state_after_operation, state_with_sections, queues_with_last, queues_without, queues_without_first, state_after_taking, state_after_reply, state_after_act, reply_to, can_do, state_after_go, go_of, is_possible, after, step_outcome, go_outcome, solo, place_after_telling, state_after_telling, state_after_hand_over, owners_handed_over, is_there}
 use Rattle.lot_machine.specs.Fits.{IsShaped, SameSize}
 use Rattle.lot_world.specs.Refinement.{owner_at}
 use Rattle.lot_world.specs.Stations.{station}
@@ -129,10 +129,10 @@ module _ (w : State) (t l : ℕ) (p : Place) (v : ℕ) (o s : Option ℕ) (q : L
       heard : reply_to w t (act_of p) ≡ Value v
       heard = ap (reply_to w t) is ∙ ap Value f.word
 
-  pub hand_faces : (x : Op) (u : ℕ) → act_of p ≡ act.TheVariants.HandOver l x → ((o : Owners) → owners_handed_over w t l o ≡ with_exclusive o (Some u)) → Faces w t l (next_place p (Value v)) (outcome_of (next_act p (Value v))) (apply x v) (Some u) s q
-  hand_faces x u is heir = (
+  pub hand_faces : (x : Op) (u : ℕ) → takes_effect x (word_at w l) ≡ true → act_of p ≡ act.TheVariants.HandOver l x → ((o : Owners) → owners_handed_over w t l o ≡ with_exclusive o (Some u)) → Faces w t l (next_place p (Value v)) (outcome_of (next_act p (Value v))) (apply x v) (Some u) s q
+  hand_faces x u takes is heir = (
     told can ∙ ap (λ r. outcome_of (next_act p r)) heard,
-    faces (state_after_telling (state_after_hand_over w t p l x) t (HandedBy t)) (next_place p (Value v)) (apply x v) (Some u) s q can (ap (state_after_act w t p) is) (length-map w.places (place_after_telling t (HandedBy t))) (ap (next_place p) heard)
+    faces (state_after_telling (state_after_hand_over w t p l x) t (hand_over_told w t l)) (next_place p (Value v)) (apply x v) (Some u) s q can (ap (state_after_act w t p) is ∙ ap (λ b. state_after_hand_over_by b w t p l x) takes) (length-map w.places (place_after_telling t (hand_over_told w t l))) (ap (next_place p) heard)
         (ap (λ y. y.word) (get_or-set_same w.locks l _ (unlocked kind.TheVariants.Mutex) f.lock) ∙ ap (apply x) f.word)
         (ap (λ y. y.owners.exclusive) (get_or-set_same w.locks l _ (unlocked kind.TheVariants.Mutex) f.lock) ∙ ap (λ (o : Owners). o.exclusive) (heir (owners_after p t (word_at w l) (owners_at w l)))) f.section f.queue,
   )

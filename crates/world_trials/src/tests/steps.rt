@@ -150,7 +150,7 @@ fn a_thread_accepts_what_it_was_handed(rt: HostRuntime) {
             at: LockAt::Taken { by: 1 },
         },
     };
-    let handed = taken.after(Reply::HandedBy(1));
+    let handed = taken.after(Reply::HandedBy { by: 1, alone: true });
     assert_eq!(rt; handed.act(), Act::Sleep);
     let woken = handed.after(Reply::Woken(Note::HandOff));
     assert_eq!(rt; woken.act(), Act::Accept);
