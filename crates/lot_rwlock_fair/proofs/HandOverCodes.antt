@@ -30,7 +30,7 @@ use Rattle.lot_rwlock_fair.proofs.HandOvers.{WantsMore, wants_more, adds, counts
 use Rattle.lot_rwlock_fair.proofs.HandOverFit.{fits}
 
 -- the bit is no part of the lock
-settled_lock : (r : Rules) (s : Site) (t : ℕ) (none_left : Bool) → (after_deed r (settles_bit none_left) s t).lock ≡ s.lock
+pub settled_lock : (r : Rules) (s : Site) (t : ℕ) (none_left : Bool) → (after_deed r (settles_bit none_left) s t).lock ≡ s.lock
 settled_lock r s t true = refl
 settled_lock r s t false = refl
 

@@ -4,3 +4,6 @@ pub mod HandOverFit
 pub mod HandOverCodes
 pub mod FairCodes
 pub mod FairSections
+pub mod FairStands
+pub mod FairOpenings
+pub mod HandOversGive

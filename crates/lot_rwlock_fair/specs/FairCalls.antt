@@ -18,7 +18,7 @@ use Rattle.lot_rwlock.specs.declared.places.Admission.{Admission}
 use Rattle.lot_rwlock.specs.declared.purposes.RwLockPurpose.{RwLockPurpose}
 use Rattle.lot_rwlock.specs.declared.purposes.RwLockPurpose.TheVariants as purpose
 use Rattle.lot_rwlock.specs.RwLockDeeds.{Admits, MayHear}
-use Rattle.lot_rwlock.specs.RwLockCalls.{MayStand, MayWait}
+use Rattle.lot_rwlock.specs.RwLockCalls.{MayStand, MayWait, MayBeTold}
 use Rattle.lot_rwlock_fair.specs.declared.places.RwLockCallPlace.{RwLockCallPlace}
 use Rattle.lot_rwlock_fair.specs.declared.places.RwLockCallPlace.TheVariants.{Plain, Glance, HandOver, Bump, Handed}
 use Rattle.lot_rwlock_fair.specs.declared.hand_over.Taken.{Taken}
@@ -107,3 +107,10 @@ CallMayHear r a s t (Bump p) whom told = MayHear r a s t p p.at whom told
 CallMayHear r a s t (Glance x) whom told = ⊥
 CallMayHear r a s t (HandOver x b to) whom told = MayHearHanding r s t to whom told
 CallMayHear r a s t (Handed x how b to) whom told = MayHearHanded x to told
+
+-- ---------------------------------------------------------------- what it may hear of any step
+
+abbrev pub CallMayBeTold : Admission → RwLockCallPlace → Reply → Type 0
+CallMayBeTold a (Plain p) told = MayBeTold a p p.at told
+CallMayBeTold a (Bump p) told = MayBeTold a p p.at told
+CallMayBeTold a c told = Unit {0}

@@ -1,22 +1,31 @@
 -- What the steps of fair releases and bumps do to the lock, and what they make of their calls.
-use Rattle.std.specs.Prelude.{ℕ, Bool, Option, Some, None, ◌≡◌, ◌≤◌, ◌<◌, ◌-◌, ◌^◌, ◌==◌, List, length}
+use Rattle.std.specs.Prelude.{ℕ, true, Option, Some, None, ◌≡◌, ◌<◌, ◌-◌, ◌^◌, ◌==◌, List, length, slice_index}
 use Rattle.lot_base.specs.declared.ops.Op.{Op}
 use Rattle.lot_base.specs.declared.wants.Want.{Want}
 use Rattle.lot_base.specs.Words.{apply}
 use Rattle.lot_acts.specs.declared.acts.Act.TheVariants as act
 use Rattle.lot_acts.specs.declared.acts.Reply.{Reply}
 use Rattle.lot_acts.specs.declared.acts.Reply.TheVariants as reply
-use Rattle.abstract_locks.specs.Locks.{LockState, Rules, IsTaken, readers, standing}
+use Rattle.lot_base.specs.declared.wants.Waiter.{Waiter}
+use Rattle.lot_acts.specs.declared.owners.Owners.{Owners}
+use Rattle.lot_acts.specs.Owners.{lock_seen}
+use Rattle.lot_acts.specs.Acts.{takes_effect}
+use Rattle.abstract_locks.specs.Locks.{LockState, Rules, IsTaken, Taken as TakenBy, readers, standing}
 use Rattle.abstract_locks.specs.Sites.{Site, HasClaim}
 use Rattle.abstract_locks.specs.Codes.{code, HasLimit}
 use Rattle.abstract_locks.specs.Deeds.{after_all}
 use Rattle.lot_rwlock.specs.declared.places.Admission.{Admission}
+use Rattle.lot_rwlock.specs.RwLockBegins.{has_access}
 use Rattle.lot_rwlock.specs.RwLockDeeds.{Follows}
+use Rattle.lot_rwlock.specs.RwLockOpenings.{IsOpening}
+use Rattle.lot_rwlock_fair.specs.declared.begin.FairCall.{FairCall}
+use Rattle.lot_rwlock_fair.specs.FairBegins.{fair_first, fair_purpose, right_of}
+use Rattle.lot_rwlock_fair.specs.FairProfiles.{call_profile}
 use Rattle.lot_rwlock_fair.specs.declared.places.RwLockCallPlace.{RwLockCallPlace}
 use Rattle.lot_rwlock_fair.specs.declared.hand_over.Taken.{Taken}
 use Rattle.lot_rwlock_fair.specs.FairSteps.{call_act, call_next, gives_up}
 use Rattle.lot_rwlock_fair.specs.FairDeeds.{call_deeds, call_doing_next, handed_claim}
-use Rattle.lot_rwlock_fair.specs.FairCalls.{IsInCall, CallMayHear, HasInHand, in_hand_of}
+use Rattle.lot_rwlock_fair.specs.FairCalls.{CallStands, CallStandsNext, CallMayBeTold, IsInCall, CallMayHear, HasInHand, in_hand_of}
 
 abbrev pub CallFollowsBy : Rules → Admission → Site → ℕ → RwLockCallPlace → Option ℕ → Reply → Type 0
 CallFollowsBy r a s t c whom told = Follows r s t (call_deeds a c whom told) (call_doing_next (call_next a c told))
@@ -70,9 +79,41 @@ HandOversKeepLimit =
     → call_act l a c ≡ act.HandOver l op → hands.taken.sharers < a.limit → HasLimit r s.lock
     → HasLimit r (behind_call r a s t c whom (reply.Value (code r s))).lock
 
+-- the lock behind it
+abbrev pub lock_behind : Rules → Admission → Site → ℕ → RwLockCallPlace → Option ℕ → LockState
+lock_behind r a s t c whom = (behind_call r a s t c whom (reply.Value (code r s))).lock
+
 -- ---------------------------------------------------------------- steps into a section, in it, and out of it
 
 abbrev pub FairSectionsFollow : Type 0
 FairSectionsFollow =
     (r : Rules) (a : Admission) (s : Site) (t : ℕ) (c : RwLockCallPlace) (whom : Option ℕ) (told : Reply)
     → IsInCall r a s t c → CallMayHear r a s t c whom told → CallFollowsBy r a s t c whom told
+
+-- ---------------------------------------------------------------- whoever was handed the lock
+
+-- where the lock was handed over, each in hand has what its place says from then on
+abbrev pub HandOversGive : Type 0
+HandOversGive =
+    (r : Rules) (a : Admission) (s : Site) (t l u : ℕ) (c : RwLockCallPlace) (op : Op) (whom : Option ℕ) (x : Want) → HandsOver r a s t c whom
+    → call_act l a c ≡ act.HandOver l op → takes_effect op (code r s) ≡ true → IsTaken s.lock t u x → u < length s.lock.shared
+    → HasClaim (lock_behind r a s t c whom) u (Some (handed_claim x (readers (lock_behind r a s t c whom) == 0)))
+
+-- ---------------------------------------------------------------- calls
+
+-- a call that stands where it may goes on where it may
+abbrev pub FairCallsStand : Type 0
+FairCallsStand =
+    (a : Admission) (c : RwLockCallPlace) (told : Reply) → CallStands a c → CallMayBeTold a c told → CallStandsNext a (call_next a c told)
+
+-- what a call begins with: where it may stand, nowhere in the machine, and with the right that it needs
+pub record FairOpens (a : Admission) (c : FairCall) : Type 0 where
+  pub stands : CallStands a (fair_first c)
+  pub purpose : (l : ℕ) → (call_profile a (fair_first c)).purpose l ≡ fair_purpose l c
+  pub opening : IsOpening (call_profile a (fair_first c))
+  -- whoever has the right has what it claims
+  pub has : (t : ℕ) (shared : List ℕ) (o : Owners) (main second : List Waiter) (taken : ℕ → Option TakenBy)
+      → has_access (right_of c) t o (slice_index shared t) ≡ true → HasClaim (lock_seen shared o main second taken) t opening.claims
+
+abbrev pub FairCallsOpen : Type 0
+FairCallsOpen = (a : Admission) (c : FairCall) → FairOpens a c

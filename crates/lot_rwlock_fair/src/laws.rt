@@ -1,5 +1,5 @@
 //! What the steps of fair releases and bumps do to the lock.
-ghost use Rattle.lot_rwlock_fair.specs.FairLaws.{FairSectionsFollow, FairStepsCode, FairStepsFollow, HandOversCode, HandOversFollow, HandOversKeepLimit};
+ghost use Rattle.lot_rwlock_fair.specs.FairLaws.{FairCallsOpen, FairCallsStand, FairSectionsFollow, HandOversGive, FairStepsCode, FairStepsFollow, HandOversCode, HandOversFollow, HandOversKeepLimit};
 
 /// Each step on the word may do to the lock what its deeds say, and its next place says what the thread does then.
 pub fn fair_steps_follow()
@@ -29,4 +29,19 @@ pub fn hand_overs_keep_limit()
 /// Each step into a section, in it, and out of it may do to the lock what its deeds say.
 pub fn fair_sections_follow()
     ensures { FairSectionsFollow }
+{}
+
+/// Whoever the lock is handed to has what its place says from then on.
+pub fn hand_overs_give()
+    ensures { HandOversGive }
+{}
+
+/// A call that stands where it may goes on where it may.
+pub fn fair_calls_stand()
+    ensures { FairCallsStand }
+{}
+
+/// A call begins where it may stand, nowhere in the sections and lines of the lock, and claims a right that its thread has.
+pub fn fair_calls_open()
+    ensures { FairCallsOpen }
 {}
