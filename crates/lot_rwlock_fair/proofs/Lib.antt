@@ -7,3 +7,5 @@ pub mod FairSections
 pub mod FairStands
 pub mod FairOpenings
 pub mod HandOversGive
+pub mod FairRights
+pub mod FairTells

@@ -37,17 +37,18 @@ IsOfBump (purpose.Enter x Patient) = Unit {0}
 IsOfBump (purpose.Release access.Shared) = Unit {0}
 IsOfBump q = ⊥
 
--- an exclusive owner knows the word but for those who wait, and an upgradable one looks; who sees nobody wait enters no section
+-- an exclusive owner knows the word but for those who wait, and hands over whatever it takes; an upgradable one looks; who sees nobody wait enters no section
 abbrev pub HandsOverAt : Access → HandOverAt → Type 0
 HandsOverAt access.Shared to = ⊥
 HandsOverAt x (handing.Free seen) = has_parked seen ≡ false
 HandsOverAt access.Exclusive handing.Load = ⊥
 HandsOverAt access.Exclusive (handing.Look k) = ⊥
 HandsOverAt access.Exclusive (handing.Exchange k seen) = ⊥
+HandsOverAt access.Exclusive (handing.Leave any false) = ⊥
 HandsOverAt access.Upgradable (handing.Store k) = ⊥
 HandsOverAt x to = Unit {0}
 
--- only a writer that owns alone loads as it accepts
+-- a bump waits for ever
 abbrev pub WaitsFor : Bool → Patience → Type 0
 WaitsFor true how = how ≡ Patient
 WaitsFor false how = MayWait how

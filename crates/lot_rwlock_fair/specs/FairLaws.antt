@@ -4,6 +4,10 @@ use Rattle.lot_base.specs.declared.ops.Op.{Op}
 use Rattle.lot_base.specs.declared.wants.Want.{Want}
 use Rattle.lot_base.specs.Words.{apply}
 use Rattle.lot_acts.specs.declared.acts.Act.TheVariants as act
+use Rattle.lot_acts.specs.declared.acts.Next.{Next}
+use Rattle.lot_acts.specs.declared.acts.Next.TheVariants as next
+use Rattle.lot_acts.specs.Profiles.{Profile}
+use Rattle.lot_acts.specs.Calls.{CallFollows}
 use Rattle.lot_acts.specs.declared.acts.Reply.{Reply}
 use Rattle.lot_acts.specs.declared.acts.Reply.TheVariants as reply
 use Rattle.lot_base.specs.declared.wants.Waiter.{Waiter}
@@ -18,6 +22,7 @@ use Rattle.lot_rwlock.specs.declared.places.Admission.{Admission}
 use Rattle.lot_rwlock.specs.RwLockBegins.{has_access}
 use Rattle.lot_rwlock.specs.RwLockDeeds.{Follows}
 use Rattle.lot_rwlock.specs.RwLockOpenings.{IsOpening}
+use Rattle.lot_rwlock.specs.RwLockCalls.{IsNotLate}
 use Rattle.lot_rwlock_fair.specs.declared.begin.FairCall.{FairCall}
 use Rattle.lot_rwlock_fair.specs.FairBegins.{fair_first, fair_purpose, right_of}
 use Rattle.lot_rwlock_fair.specs.FairProfiles.{call_profile}
@@ -54,6 +59,8 @@ FairStepsCode =
 -- the thread is there, and has in hand whom its place says
 pub record HandsOver (r : Rules) (a : Admission) (s : Site) (t : ℕ) (c : RwLockCallPlace) (whom : Option ℕ) : Type 0 where
   pub call : IsInCall r a s t c
+  -- nobody has taken it
+  pub free : s.lock.taken t ≡ None
   pub taken : Taken
   pub is : in_hand_of c ≡ Some taken
   pub in_hand : HasInHand s.lock t taken whom
@@ -117,3 +124,32 @@ pub record FairOpens (a : Admission) (c : FairCall) : Type 0 where
 
 abbrev pub FairCallsOpen : Type 0
 FairCallsOpen = (a : Admission) (c : FairCall) → FairOpens a c
+
+-- ---------------------------------------------------------------- what a step makes of a call
+
+abbrev pub next_rows : Admission → Next RwLockCallPlace → Next Profile
+next_rows a (next.At c) = next.At (call_profile a c)
+next_rows a (next.End answer) = next.End answer
+
+-- the row of the next place is what the step's case makes of the call, the call is made of that case, and its answer is true
+abbrev pub CallTells : Rules → Admission → Site → ℕ → ℕ → RwLockCallPlace → Option ℕ → Reply → Type 0
+CallTells r a s t l c whom told =
+    CallFollows r s.lock t l (call_profile a c) (call_deeds a c whom told) (next_rows a (call_next a c told))
+
+-- each step on the word
+abbrev pub FairStepsTell : Type 0
+FairStepsTell =
+    (r : Rules) (a : Admission) (s : Site) (t l : ℕ) (c : RwLockCallPlace) (op : Op) → IsInCall r a s t c
+    → standing t s.lock ≡ 0 → call_act l a c ≡ act.Word l op → CallTells r a s t l c None (reply.Value (code r s))
+
+-- the step that hands over
+abbrev pub HandOversTell : Type 0
+HandOversTell =
+    (r : Rules) (a : Admission) (s : Site) (t l : ℕ) (c : RwLockCallPlace) (op : Op) (whom : Option ℕ) → HandsOver r a s t c whom
+    → call_act l a c ≡ act.HandOver l op → CallTells r a s t l c whom (reply.Value (code r s))
+
+-- and each into a section, in it, and out of it
+abbrev pub FairSectionsTell : Type 0
+FairSectionsTell =
+    (r : Rules) (a : Admission) (s : Site) (t l : ℕ) (c : RwLockCallPlace) (whom : Option ℕ) (told : Reply)
+    → IsInCall r a s t c → CallMayHear r a s t c whom told → IsNotLate told → CallTells r a s t l c whom told

@@ -1,5 +1,5 @@
 //! What the steps of fair releases and bumps do to the lock.
-ghost use Rattle.lot_rwlock_fair.specs.FairLaws.{FairCallsOpen, FairCallsStand, FairSectionsFollow, HandOversGive, FairStepsCode, FairStepsFollow, HandOversCode, HandOversFollow, HandOversKeepLimit};
+ghost use Rattle.lot_rwlock_fair.specs.FairLaws.{FairCallsOpen, FairCallsStand, FairSectionsFollow, HandOversGive, FairStepsCode, FairStepsFollow, HandOversCode, HandOversFollow, HandOversKeepLimit, HandOversTell};
 
 /// Each step on the word may do to the lock what its deeds say, and its next place says what the thread does then.
 pub fn fair_steps_follow()
@@ -44,4 +44,9 @@ pub fn fair_calls_stand()
 /// A call begins where it may stand, nowhere in the sections and lines of the lock, and claims a right that its thread has.
 pub fn fair_calls_open()
     ensures { FairCallsOpen }
+{}
+
+/// The step that hands the lock over makes of its call what its next row says, and the call is made of that case.
+pub fn hand_overs_tell()
+    ensures { HandOversTell }
 {}
