@@ -27,7 +27,7 @@ use Rattle.lot_rwlock.specs.declared.park.ParkAt.TheVariants as parking
 use Rattle.lot_rwlock.specs.declared.release.WakeAt.{WakeAt}
 use Rattle.lot_rwlock.specs.declared.release.WakeAt.TheVariants as waking
 use Rattle.lot_rwlock.specs.RwLockSteps.{patience_of, plus, stays, wakes, missed, decided, looked_by, looked, goes, came_in, came_in_for, exchanged_next, counted, wakes_or_ends, released, gave_way_by, park_next, wake_next, next_at, rwlock_next, entered}
-use Rattle.lot_rwlock.specs.RwLockCalls.{MayWait, StandsAt, MayStand, MayStandNext}
+use Rattle.lot_rwlock.specs.RwLockCalls.{MayWait, ReleasesAt, StandsAt, MayStand, MayStandNext}
 use Rattle.lot_rwlock.proofs.RwLockStands.{rwlock_calls_stand, unwoken_fresh}
 use Rattle.lot_rwlock_fair.specs.declared.places.RwLockCallPlace.{RwLockCallPlace}
 use Rattle.lot_rwlock_fair.specs.declared.places.RwLockCallPlace.TheVariants.{Plain, Glance, HandOver, Bump, Handed}
@@ -167,11 +167,17 @@ module _ (a : Admission) where
   GivenStands None = Unit {0}
   GivenStands (Some c) = CallStands a c
 
-  waits_as : (b : Bool) (x : Access) (how : Patience) → MayWait how → (b ≡ true → IsOfBump (purpose.Enter x how)) → WaitsFor b how
+  waits_as : (b : Bool) (x : Access) (how : Patience) → MayWait how → (b ≡ true → IsOfBump (purpose.Enter x how) false) → WaitsFor b how
   waits_as true x Patient waits of = refl
   waits_as true x Timed waits of = absurd (of refl)
   waits_as true x Try waits of = absurd waits
   waits_as false x how waits of = waits
+
+  -- which call enters is no matter of whether it was woken
+  patient : (x : Access) (how : Patience) (again : Bool) → IsOfBump (purpose.Enter x how) again → IsOfBump (purpose.Enter x how) false
+  patient x Patient again of = tt
+  patient x Timed again of = absurd of
+  patient x Try again of = absurd of
 
   -- who is handed the lock waited for it
   waited : (x : Access) (how : Patience) (again : Bool) (to : ParkAt) → IsAsleep to → StandsAt (purpose.Enter x how) again (at.Park to) → MayWait how
@@ -196,15 +202,15 @@ module _ (a : Admission) where
   waking_stands access.Exclusive how b true waits is = is
   waking_stands access.Exclusive how b false waits is = looks_stand b how waits is
 
-  handed_stands : (b : Bool) (q : RwLockPurpose) (again : Bool) (to : RwLockAt) (by : ℕ) (alone : Bool) → StandsAt q again to → (b ≡ true → IsOfBump q) → GivenStands (handed_by b q to by alone)
-  handed_stands b (purpose.Enter x how) again (at.Park (parking.Taken u)) by alone stands of = waits_as b x how (waited x how again (parking.Taken u) tt stands) of
+  handed_stands : (b : Bool) (q : RwLockPurpose) (again : Bool) (to : RwLockAt) (by : ℕ) (alone : Bool) → StandsAt q again to → (b ≡ true → IsOfBump q again) → GivenStands (handed_by b q to by alone)
+  handed_stands b (purpose.Enter x how) again (at.Park (parking.Taken u)) by alone stands of = waits_as b x how (waited x how again (parking.Taken u) tt stands) (λ e. patient x how again (of e))
   handed_stands b q again to by alone stands of = tt
 
-  woken_stands : (b : Bool) (q : RwLockPurpose) (again : Bool) (to : RwLockAt) → StandsAt q again to → (b ≡ true → IsOfBump q) → GivenStands (woken_with b q to)
-  woken_stands b (purpose.Enter x how) again (at.Park parking.Asleep) stands of = let waits = waited x how again parking.Asleep tt stands in waking_stands x how b false waits (waits_as b x how waits of)
+  woken_stands : (b : Bool) (q : RwLockPurpose) (again : Bool) (to : RwLockAt) → StandsAt q again to → (b ≡ true → IsOfBump q again) → GivenStands (woken_with b q to)
+  woken_stands b (purpose.Enter x how) again (at.Park parking.Asleep) stands of = let waits = waited x how again parking.Asleep tt stands in waking_stands x how b false waits (waits_as b x how waits (λ e. patient x how again (of e)))
   woken_stands b q again to stands of = tt
 
-  given_stands : (b : Bool) (p : RwLockPlace) (told : Reply) → MayStand a p → (b ≡ true → IsOfBump p.purpose) → GivenStands (given b p told)
+  given_stands : (b : Bool) (p : RwLockPlace) (told : Reply) → MayStand a p → (b ≡ true → IsOfBump p.purpose p.retries) → GivenStands (given b p told)
   given_stands b p (reply.HandedBy by alone) stands of = handed_stands b p.purpose p.retries p.at by alone stands.place of
   given_stands b p (reply.Woken note.HandOff) stands of = woken_stands b p.purpose p.retries p.at stands.place of
   given_stands b p told stands of = tt
@@ -222,15 +228,51 @@ module _ (a : Admission) where
   again_stands access.Upgradable = (record { place = tt; fresh = tt; decided = tt }, tt)
   again_stands access.Exclusive = (record { place = tt; fresh = tt; decided = tt }, tt)
 
-  bump_stands : (q : RwLockPurpose) (n : Next RwLockPlace) → IsOfBump q → StaysFor q n → MayStandNext a n → CallStandsNext a (bump_next q n)
-  bump_stands q (next.At p) of e stands = (stands, subst IsOfBump (sym e) of)
-  bump_stands (purpose.Release x) (next.End answer) of e stands = again_stands x
-  bump_stands (purpose.Enter x how) (next.End answer) of e stands = tt
-  bump_stands (purpose.Downgrade d) (next.End answer) of e stands = tt
-  bump_stands (purpose.Upgrade how) (next.End answer) of e stands = tt
+  abbrev BumpNext : Next RwLockPlace → Type 0
+  BumpNext (next.At p) = IsOfBump p.purpose p.retries
+  BumpNext (next.End answer) = Unit {0}
+
+  abbrev leaver : RwLockAt → RwLockPlace
+  leaver to = record { purpose = purpose.Release access.Shared; retries = false; at = to }
+
+  gives_way_on : (b : Bool) → BumpNext (wakes_or_ends (leaver at.GiveWay) Second b)
+  gives_way_on true = refl
+  gives_way_on false = tt
+
+  wakes_on : (to : WakeAt) (told : Reply) → BumpNext (wake_next (leaver (at.Wake Second to)) Second to told)
+  wakes_on waking.Enter reply.Done = refl
+  wakes_on waking.Take (reply.Took any none_left) = refl
+  wakes_on waking.Take (reply.Picked n y none_left) = refl
+  wakes_on (waking.Clear any) (reply.Value seen) = refl
+  wakes_on (waking.Leave any) reply.Done = tt
+  wakes_on to told = refl
+
+  releases_on : (to : RwLockAt) (told : Reply) → ReleasesAt access.Shared to → BumpNext (rwlock_next a (leaver to) told)
+  releases_on at.GiveWay (reply.Value seen) stands = gives_way_on (has_aside seen && (count_in seen == 1))
+  releases_on at.GiveWay told stands = refl
+  releases_on (at.Wake Second to) told stands = wakes_on to told
+  releases_on to told stands = absurd stands
+
+  enters_on : (x : Access) (n : Next RwLockPlace) → StaysFor (purpose.Enter x Patient) n → BumpNext n
+  enters_on x (next.At p) e = subst (λ q. IsOfBump q p.retries) (sym e) tt
+  enters_on x (next.End answer) e = tt
+
+  -- a bump stays one
+  stays_bump : (q : RwLockPurpose) (again : Bool) (to : RwLockAt) (told : Reply) → StandsAt q again to → IsOfBump q again → BumpNext (rwlock_next a (record { purpose = q; retries = again; at = to }) told)
+  stays_bump (purpose.Enter x Patient) again to told stands of = enters_on x _ (stays_for a (record { purpose = purpose.Enter x Patient; retries = again; at = to }) told)
+  stays_bump (purpose.Release access.Shared) false to told stands of = releases_on to told stands
+  stays_bump (purpose.Release access.Shared) true to told stands of = absurd (let e : true ≡ false = of in cc)
+  stays_bump q again to told stands of = absurd of
+
+  bump_stands : (q : RwLockPurpose) (n : Next RwLockPlace) → BumpNext n → MayStandNext a n → CallStandsNext a (bump_next q n)
+  bump_stands q (next.At p) of stands = (stands, of)
+  bump_stands (purpose.Release x) (next.End answer) of stands = again_stands x
+  bump_stands (purpose.Enter x how) (next.End answer) of stands = tt
+  bump_stands (purpose.Downgrade d) (next.End answer) of stands = tt
+  bump_stands (purpose.Upgrade how) (next.End answer) of stands = tt
 
   glances_stand : (x : Access) (seen : ℕ) (b : Bool) → CallStandsNext a (if b then next.At (gives_up_at x) else next.End Ok)
-  glances_stand access.Shared seen true = (record { place = tt; fresh = tt; decided = tt }, tt)
+  glances_stand access.Shared seen true = (record { place = tt; fresh = tt; decided = tt }, refl)
   glances_stand access.Upgradable seen true = tt
   glances_stand access.Exclusive seen true = tt
   glances_stand x seen false = tt
@@ -287,7 +329,7 @@ module _ (a : Admission) where
 
 pub fair_calls_stand : FairCallsStand
 fair_calls_stand a (Plain p) told stands may = unless_stands a (given false p told) _ (given_stands a false p told stands (λ e. absurd cc)) (plain_stands a _ (rwlock_calls_stand a p told stands may))
-fair_calls_stand a (Bump p) told stands may = unless_stands a (given true p told) _ (given_stands a true p told stands.0 (λ e. stands.1)) (bump_stands a p.purpose _ stands.1 (stays_for a p told) (rwlock_calls_stand a p told stands.0 may))
+fair_calls_stand a (Bump p) told stands may = unless_stands a (given true p told) _ (given_stands a true p told stands.0 (λ e. stands.1)) (bump_stands a p.purpose _ (stays_bump a p.purpose p.retries p.at told stands.0.place stands.1) (rwlock_calls_stand a p told stands.0 may))
 fair_calls_stand a (Glance x) (reply.Value seen) stands may = glances_stand a x seen (gives_way a x seen)
 fair_calls_stand a (Glance x) told stands may = tt
 fair_calls_stand a (HandOver x b to) told stands may = hand_over_stands a x b to told stands

@@ -56,7 +56,7 @@ module _ (r : Rules) (a : Admission) (s : Site) (t l : ℕ) where
 
   -- ---------------------------------------------------------------- a look of a bump
 
-  glance_tells : (x : Access) → Owns s.lock t (wanted x) → (goes_on : Bool) → Tells (Glance x) (glance_deeds goes_on) (if goes_on then next.At (gives_up_at x) else next.End Ok)
+  pub glance_tells : (x : Access) → Owns s.lock t (wanted x) → (goes_on : Bool) → Tells (Glance x) (glance_deeds goes_on) (if goes_on then next.At (gives_up_at x) else next.End Ok)
   glance_tells x own false = record { one = tt; may = tt; comes = λ v rights ruled now e has. (subst (λ z. Owns z t (wanted x)) (sym now) own, keeps l t s.lock s.lock (wanted x) false v rights e has refl) }
   glance_tells access.Shared own true = record { one = tt; may = tt; comes = λ rights e. recalls _ _ (goes l t s.lock s.lock Shared false false rights e refl) }
   glance_tells access.Upgradable own true = record { one = tt; may = tt; comes = λ rights e. recalls _ _ (goes l t s.lock s.lock Upgradable false false rights e refl) }

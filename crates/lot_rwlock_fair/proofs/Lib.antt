@@ -9,3 +9,4 @@ pub mod FairOpenings
 pub mod HandOversGive
 pub mod FairRights
 pub mod FairTells
+pub mod FairCallTells

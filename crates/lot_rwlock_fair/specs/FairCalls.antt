@@ -31,11 +31,11 @@ use Rattle.lot_rwlock_fair.specs.FairProfiles.{in_hand_at}
 
 -- ---------------------------------------------------------------- where a call may stand
 
--- a bump releases a shared right, or enters and waits for ever
-abbrev pub IsOfBump : RwLockPurpose → Type 0
-IsOfBump (purpose.Enter x Patient) = Unit {0}
-IsOfBump (purpose.Release access.Shared) = Unit {0}
-IsOfBump q = ⊥
+-- a bump releases a shared right, and was not woken yet, or enters and waits for ever
+abbrev pub IsOfBump : RwLockPurpose → Bool → Type 0
+IsOfBump (purpose.Enter x Patient) retries = Unit {0}
+IsOfBump (purpose.Release access.Shared) retries = retries ≡ false
+IsOfBump q retries = ⊥
 
 -- an exclusive owner knows the word but for those who wait, and hands over whatever it takes; an upgradable one looks; who sees nobody wait enters no section
 abbrev pub HandsOverAt : Access → HandOverAt → Type 0
@@ -55,7 +55,7 @@ WaitsFor false how = MayWait how
 
 abbrev pub CallStands : Admission → RwLockCallPlace → Type 0
 CallStands a (Plain p) = MayStand a p
-CallStands a (Bump p) = MayStand a p × IsOfBump p.purpose
+CallStands a (Bump p) = MayStand a p × IsOfBump p.purpose p.retries
 CallStands a (Glance x) = Unit {0}
 CallStands a (HandOver x b to) = HandsOverAt x to
 CallStands a (Handed x how b to) = WaitsFor b how

@@ -1,5 +1,5 @@
 //! What the steps of fair releases and bumps do to the lock.
-ghost use Rattle.lot_rwlock_fair.specs.FairLaws.{FairCallsOpen, FairCallsStand, FairSectionsFollow, HandOversGive, FairStepsCode, FairStepsFollow, HandOversCode, HandOversFollow, HandOversKeepLimit, HandOversTell};
+ghost use Rattle.lot_rwlock_fair.specs.FairLaws.{FairCallsOpen, FairCallsStand, FairSectionsFollow, FairSectionsTell, FairStepsTell, HandOversGive, FairStepsCode, FairStepsFollow, HandOversCode, HandOversFollow, HandOversKeepLimit, HandOversTell};
 
 /// Each step on the word may do to the lock what its deeds say, and its next place says what the thread does then.
 pub fn fair_steps_follow()
@@ -49,4 +49,14 @@ pub fn fair_calls_open()
 /// The step that hands the lock over makes of its call what its next row says, and the call is made of that case.
 pub fn hand_overs_tell()
     ensures { HandOversTell }
+{}
+
+/// And so does each other step on the word, and its answer is true.
+pub fn fair_steps_tell()
+    ensures { FairStepsTell }
+{}
+
+/// And each step into a section, in it, and out of it.
+pub fn fair_sections_tell()
+    ensures { FairSectionsTell }
 {}
