@@ -1,6 +1,6 @@
 -- Each step of a call that may hand the lock over makes of it what its row says, and its answer is true.
-use Rattle.std.proofs.Common.{ℕ, Bool, true, false, Option, Some, None, List, [], ◌∷◌, if◌then◌else◌, ◌==◌, ◌&&◌, ◌≡◌, ◌≢◌, ◌⊎◌, ◌<◌, inl, inr, refl, sym, ap, subst, ◌∙◌, length}
-use Rattle.lot_base.specs.declared.keys.Line.TheVariants.{Main, Second}
+use Rattle.std.proofs.Common.{ℕ, Bool, true, false, Option, Some, None, List, [], ◌∷◌, if◌then◌else◌, ◌==◌, ◌&&◌, ◌≡◌, ◌<◌, inl, inr, refl, sym, ap, subst, ◌∙◌, length}
+use Rattle.lot_base.specs.declared.keys.Line.TheVariants.{Second}
 use Rattle.lot_base.specs.declared.ops.Op.{Op}
 use Rattle.lot_base.specs.declared.wants.Want.{Want}
 use Rattle.lot_base.specs.declared.wants.Want.TheVariants.{Shared}
@@ -15,16 +15,15 @@ use Rattle.lot_acts.specs.declared.acts.Next.{Next}
 use Rattle.lot_acts.specs.declared.acts.Next.TheVariants as next
 use Rattle.lot_acts.specs.declared.acts.Reply.{Reply}
 use Rattle.lot_acts.specs.declared.acts.Reply.TheVariants as reply
-use Rattle.lot_acts.specs.Acts.{any_picked}
 use Rattle.lot_acts.specs.Profiles.{Profile}
 use Rattle.lot_acts.specs.Calls.{CallFollows, MayCome, ComesTo, call_by, rights_where, event_at}
 use Rattle.abstract_locks.specs.Locks.{LockState, Rules, Rights, Leave, TakeAside, Late, Wake, Owns, after_case, rights_of, with_right, without_right, without_owner, standing}
 use Rattle.abstract_locks.specs.Purposes.{Enters, Bumps, IsMadeOf}
-use Rattle.abstract_locks.specs.Runs.{LocksState, CallState, Event, Nothing, AtLock, AnswerHolds, going_on, EntersAnswer, BumpsAnswer, rights_in, one_more_at, one_less_at, rules_at as locks_rules}
+use Rattle.abstract_locks.specs.Runs.{LocksState, CallState, Event, Nothing, AtLock, AnswerHolds, going_on, EntersAnswer, BumpsAnswer, rights_in, one_more_at, one_less_at}
 use Rattle.abstract_locks.specs.Sites.{Has, Doing, Site, IsSite, Deed, Case, Clear, End}
 use Rattle.abstract_locks.specs.Deeds.{after_event}
 use Rattle.abstract_locks.specs.Codes.{code, count_in, has_aside}
-use Rattle.abstract_locks.proofs.Rights.{AreAt, unchanged, changed, agree, left, regained}
+use Rattle.abstract_locks.proofs.Rights.{unchanged, changed, agree, left, regained}
 use Rattle.lot_rwlock.specs.declared.places.Admission.{Admission}
 use Rattle.lot_rwlock.specs.declared.places.RwLockPlace.{RwLockPlace}
 use Rattle.lot_rwlock.specs.declared.places.RwLockAt.{RwLockAt}
@@ -34,22 +33,21 @@ use Rattle.lot_rwlock.specs.declared.purposes.RwLockPurpose.TheVariants as purpo
 use Rattle.lot_rwlock.specs.declared.release.WakeAt.{WakeAt}
 use Rattle.lot_rwlock.specs.declared.release.WakeAt.TheVariants as waking
 use Rattle.lot_rwlock.specs.RwLockSteps.{wanted, entered, rwlock_act, rwlock_next, wake_next, wakes_or_ends}
-use Rattle.lot_rwlock.specs.RwLockDeeds.{Admits, MayHear, MayHearWaking, rwlock_doing, rwlock_deeds, does_and_wakes, sees_waiter, wake_deeds}
+use Rattle.lot_rwlock.specs.RwLockDeeds.{Admits, MayHear, MayHearWaking, rwlock_doing, rwlock_deeds, does_and_wakes, wake_deeds}
 use Rattle.lot_rwlock.specs.RwLockProfiles.{rwlock_profile}
 use Rattle.lot_rwlock.specs.RwLockCalls.{MayStand, IsCalling, IsNotLate, next_row}
 use Rattle.lot_rwlock.proofs.RwLockCalls.{rwlock_steps_tell}
 use Rattle.lot_rwlock.proofs.RwLockCallSections.{rwlock_sections_tell}
 use Rattle.lot_rwlock.proofs.RwLockStands.{is_at}
-use Rattle.lot_rwlock_fair.specs.declared.places.RwLockCallPlace.{RwLockCallPlace}
 use Rattle.lot_rwlock_fair.specs.declared.places.RwLockCallPlace.TheVariants.{Plain, Glance, HandOver, Bump, Handed}
 use Rattle.lot_rwlock_fair.specs.declared.hand_over.HandOverAt.{HandOverAt}
 use Rattle.lot_rwlock_fair.specs.declared.hand_over.HandOverAt.TheVariants as handing
 use Rattle.lot_rwlock_fair.specs.declared.handed.HandedAt.{HandedAt}
 use Rattle.lot_rwlock_fair.specs.declared.handed.HandedAt.TheVariants as handed
 use Rattle.lot_rwlock_fair.specs.FairSteps.{plain_next, bump_next, gives_way, call_act, hand_over_act}
-use Rattle.lot_rwlock_fair.specs.FairDeeds.{call_doing, call_deeds}
+use Rattle.lot_rwlock_fair.specs.FairDeeds.{call_doing}
 use Rattle.lot_rwlock_fair.specs.FairProfiles.{bumping, call_profile, has_given}
-use Rattle.lot_rwlock_fair.specs.FairCalls.{IsOfBump, WaitsFor, IsInCall, MayHearHanded}
+use Rattle.lot_rwlock_fair.specs.FairCalls.{IsOfBump, WaitsFor, MayHearHanded}
 use Rattle.lot_rwlock_fair.specs.FairLaws.{next_rows, CallTells, FairStepsTell, FairSectionsTell}
 use Rattle.lot_rwlock_fair.proofs.FairSections.{not_given}
 use Rattle.lot_rwlock_fair.proofs.FairStands.{StaysFor, stays_for}
@@ -157,7 +155,7 @@ module _ (r : Rules) (a : Admission) (s : Site) (t l : ℕ) where
       → rwlock_act l a (of q again to) ≡ act.Word l op → CallTells r a s t l (Bump (of q again to)) None (reply.Value (code r s))
   bump_words op (purpose.Enter x Patient) again to admits h is stands bump there nowhere e =
       rw (entering_rows a x _ (stays_for a (of (purpose.Enter x Patient) again to) (reply.Value (code r s))))
-          (bumps_again r s.lock t l x (rwlock_profile a (of (purpose.Enter x Patient) again to)) _ refl _ (rwlock_steps_tell r a s t l (of (purpose.Enter x Patient) again to) op (calling (of (purpose.Enter x Patient) again to) admits h is stands there) nowhere e))
+      (bumps_again r s.lock t l x (rwlock_profile a (of (purpose.Enter x Patient) again to)) _ refl _ (rwlock_steps_tell r a s t l (of (purpose.Enter x Patient) again to) op (calling (of (purpose.Enter x Patient) again to) admits h is stands there) nowhere e))
   bump_words op (purpose.Release access.Shared) false at.GiveWay admits h is stands bump there nowhere e = gives_tells (has_aside (code r s) && (count_in (code r s) == 1)) (h.held t (Has Shared) (ap (λ (d : Doing). d.claims) is))
   bump_words op (purpose.Release access.Shared) false (at.Wake Second (waking.Clear any)) admits h is stands bump there nowhere e = clears_tell any
   bump_words op (purpose.Release access.Shared) false (at.Wake Second to) admits h is stands bump there nowhere e = absurd cc
@@ -170,7 +168,7 @@ module _ (r : Rules) (a : Admission) (s : Site) (t l : ℕ) where
       → CallFollows r s.lock t l (call_profile a (Bump (of q again to))) (rwlock_deeds a (of q again to) whom told) (next_rows a (bump_next q (rwlock_next a (of q again to) told)))
   bump_sections (purpose.Enter x Patient) again to whom told admits h is stands bump there hears now =
       rw (entering_rows a x _ (stays_for a (of (purpose.Enter x Patient) again to) told))
-          (bumps_again r s.lock t l x (rwlock_profile a (of (purpose.Enter x Patient) again to)) _ refl _ (rwlock_sections_tell r a s t l (of (purpose.Enter x Patient) again to) whom told (calling (of (purpose.Enter x Patient) again to) admits h is stands there) hears now))
+      (bumps_again r s.lock t l x (rwlock_profile a (of (purpose.Enter x Patient) again to)) _ refl _ (rwlock_sections_tell r a s t l (of (purpose.Enter x Patient) again to) whom told (calling (of (purpose.Enter x Patient) again to) admits h is stands there) hears now))
   bump_sections (purpose.Release access.Shared) false (at.Wake Second to) whom told admits h is stands bump there hears now = wakes_tell to whom told hears
   bump_sections (purpose.Release access.Shared) false at.GiveWay whom told admits h is stands bump there hears now = absurd hears
   bump_sections (purpose.Release access.Shared) false to whom told admits h is stands bump there hears now = absurd stands.place

@@ -1,5 +1,5 @@
 -- Each step on the word of a fair release or of a bump leads to the word of the lock behind it.
-use Rattle.std.proofs.Common.{ℕ, Bool, true, false, Option, Some, None, [], ◌∷◌, if◌then◌else◌, ◌==◌, ◌≡◌, ◌⊎◌, ◌+◌, ◌-◌, ◌*◌, ◌%◌, ◌^◌, ◌≤◌, ◌<◌, inl, inr, refl, ap, sym, ◌∙◌, length, arith}
+use Rattle.std.proofs.Common.{ℕ, Bool, true, false, None, if◌then◌else◌, ◌==◌, ◌≡◌, ◌⊎◌, ◌+◌, ◌-◌, ◌%◌, ◌^◌, ◌≤◌, ◌<◌, inl, inr, refl, ap, sym, ◌∙◌, length, arith}
 use Rattle.std.proofs.lemmas.Bool.{eqb-true}
 use Rattle.lot_base.specs.declared.ops.Op.{Op}
 use Rattle.lot_base.specs.declared.ops.Op.TheVariants as operation
@@ -7,17 +7,16 @@ use Rattle.lot_base.specs.declared.wants.Want.TheVariants.{Exclusive, Upgradable
 use Rattle.lot_base.specs.Words.{apply}
 use Rattle.lot_calls.specs.declared.calls.Access.{Access}
 use Rattle.lot_calls.specs.declared.calls.Access.TheVariants as access
-use Rattle.lot_calls.specs.declared.calls.Patience.{Patience}
 use Rattle.lot_acts.specs.declared.acts.Act.TheVariants as act
 use Rattle.lot_acts.specs.declared.acts.Reply.TheVariants as reply
-use Rattle.abstract_locks.specs.Locks.{Rules, Leave, standing}
-use Rattle.abstract_locks.specs.Sites.{Has, Doing, Site, IsSite, End, Case, Needed, has_readers, after_deed}
-use Rattle.abstract_locks.specs.Codes.{code, rw_code, TellsTrue, HasLimit, bit}
+use Rattle.abstract_locks.specs.Locks.{Rules, Leave}
+use Rattle.abstract_locks.specs.Sites.{Site, IsSite, End, Case, has_readers, after_deed}
+use Rattle.abstract_locks.specs.Codes.{code, rw_code, bit}
 use Rattle.abstract_locks.specs.Deeds.{after_all, AllNeeded}
-use Rattle.abstract_locks.proofs.CodeLaws.{follows, rw_is, low_is, words_tell_true}
+use Rattle.abstract_locks.proofs.CodeLaws.{follows, rw_is, low_is}
 use Rattle.lot_rwlock.specs.declared.places.Admission.{Admission}
 use Rattle.lot_rwlock.specs.RwLockSteps.{wanted, token}
-use Rattle.lot_rwlock.specs.RwLockDeeds.{Admits, does_and_wakes}
+use Rattle.lot_rwlock.specs.RwLockDeeds.{does_and_wakes}
 use Rattle.lot_rwlock.proofs.RwLockCodes.{rwlock_steps_code}
 use Rattle.lot_rwlock.proofs.RwLockStands.{is_at}
 use Rattle.lot_rwlock_fair.specs.declared.places.RwLockCallPlace.{RwLockCallPlace}
@@ -27,7 +26,7 @@ use Rattle.lot_rwlock_fair.specs.declared.hand_over.HandOverAt.{HandOverAt}
 use Rattle.lot_rwlock_fair.specs.declared.hand_over.HandOverAt.TheVariants as handing
 use Rattle.lot_rwlock_fair.specs.declared.handed.HandedAt.TheVariants as given
 use Rattle.lot_rwlock_fair.specs.FairSteps.{has_room, parked_as, without, with_taken, gives_way, hand_over_act}
-use Rattle.lot_rwlock_fair.specs.FairDeeds.{holding, settles_bit, leaves_over, exchanged_deeds, freed_deeds, glance_deeds, call_doing, call_deeds}
+use Rattle.lot_rwlock_fair.specs.FairDeeds.{settles_bit, leaves_over, exchanged_deeds, freed_deeds, glance_deeds, call_deeds}
 use Rattle.lot_rwlock_fair.specs.FairCalls.{HandsOverAt}
 use Rattle.lot_rwlock_fair.specs.FairLaws.{behind_call, FairStepsCode}
 use Rattle.lot_rwlock_fair.proofs.FairFit.{fair_steps_follow}

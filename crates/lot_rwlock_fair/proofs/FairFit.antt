@@ -1,12 +1,12 @@
 -- Each step on the word of a fair release, of a bump, or of one that was handed the lock does to it what its deeds say.
-use Rattle.std.proofs.Common.{ℕ, Bool, true, false, Option, Some, None, List, [], ◌∷◌, if◌then◌else◌, ◌==◌, ◌≡◌, ◌≢◌, ◌⊎◌, ◌≤◌, ◌<◌, ◌-◌, not, inl, inr, refl, ap, sym, subst, ◌∙◌, length, arith, nat_le}
+use Rattle.std.proofs.Common.{ℕ, Bool, true, false, Option, Some, None, [], ◌∷◌, if◌then◌else◌, ◌==◌, ◌≡◌, ◌⊎◌, ◌<◌, inl, inr, refl, ap, sym, ◌∙◌, length, arith}
 use Rattle.std.proofs.lemmas.Bool.{eqb-true}
 use Rattle.std.proofs.lemmas.Bool.Decides.{nat_tests}
 use Rattle.lot_base.specs.declared.keys.Line.TheVariants.{Main}
 use Rattle.lot_base.specs.declared.ops.Op.{Op}
 use Rattle.lot_base.specs.declared.ops.Op.TheVariants as operation
 use Rattle.lot_base.specs.declared.wants.Want.{Want}
-use Rattle.lot_base.specs.declared.wants.Want.TheVariants.{Exclusive, Upgradable, Shared}
+use Rattle.lot_base.specs.declared.wants.Want.TheVariants.{Exclusive, Upgradable}
 use Rattle.lot_calls.specs.declared.calls.Access.{Access}
 use Rattle.lot_calls.specs.declared.calls.Access.TheVariants as access
 use Rattle.lot_calls.specs.declared.calls.Patience.{Patience}
@@ -16,10 +16,9 @@ use Rattle.lot_acts.specs.declared.acts.Act.TheVariants as act
 use Rattle.lot_acts.specs.declared.acts.Next.{Next}
 use Rattle.lot_acts.specs.declared.acts.Next.TheVariants as next
 use Rattle.lot_acts.specs.declared.acts.Reply.TheVariants as reply
-use Rattle.abstract_locks.specs.Locks.{Rules, Queued, Leave, HandOff, Needs, Owns, IsSuccessor, HandOffFits, handed, count, readers, standing, putting}
-use Rattle.abstract_locks.specs.Sites.{Claim, Has, Doing, idle, found, Site, IsSite, Deed, End, Mark, Clear, Case, has_readers, after_deed}
-use Rattle.abstract_locks.specs.Codes.{code, TellsTrue, count_in, has_parked}
-use Rattle.abstract_locks.specs.Deeds.{after_all}
+use Rattle.abstract_locks.specs.Locks.{Rules, Leave, standing}
+use Rattle.abstract_locks.specs.Sites.{Claim, Has, Doing, idle, found, Site, IsSite, End, Case, has_readers}
+use Rattle.abstract_locks.specs.Codes.{code, TellsTrue, has_parked}
 use Rattle.abstract_locks.proofs.CodeLaws.{words_tell_true}
 use Rattle.lot_rwlock.specs.declared.places.Admission.{Admission}
 use Rattle.lot_rwlock.specs.declared.places.RwLockPlace.{RwLockPlace}
@@ -28,7 +27,7 @@ use Rattle.lot_rwlock.specs.declared.purposes.RwLockPurpose.TheVariants as purpo
 use Rattle.lot_rwlock.specs.RwLockSteps.{wanted, rwlock_act, rwlock_next}
 use Rattle.lot_rwlock.specs.RwLockDeeds.{at_rest, does_and_wakes, doing_next, Admits, Follows}
 use Rattle.lot_rwlock.specs.RwLockCalls.{MayStand}
-use Rattle.lot_rwlock.proofs.RwLockFit.{put_same, rwlock_steps_follow}
+use Rattle.lot_rwlock.proofs.RwLockFit.{rwlock_steps_follow}
 use Rattle.lot_rwlock.proofs.RwLockStands.{is_at}
 use Rattle.lot_rwlock_fair.specs.declared.places.RwLockCallPlace.{RwLockCallPlace}
 use Rattle.lot_rwlock_fair.specs.declared.places.RwLockCallPlace.TheVariants.{Plain, Glance, HandOver, Bump, Handed}
@@ -37,9 +36,9 @@ use Rattle.lot_rwlock_fair.specs.declared.hand_over.HandOverAt.{HandOverAt}
 use Rattle.lot_rwlock_fair.specs.declared.hand_over.HandOverAt.TheVariants as handing
 use Rattle.lot_rwlock_fair.specs.declared.handed.HandedAt.{HandedAt}
 use Rattle.lot_rwlock_fair.specs.declared.handed.HandedAt.TheVariants as given
-use Rattle.lot_rwlock_fair.specs.FairSteps.{any_taken, has_room, with_taken, parked_as, without, exchange_act, looked, released, bump_next, plain_next, enters_again, gives_way, gives_up_at, freed_next, hand_over_act, hand_over_next, handed_act, call_act}
-use Rattle.lot_rwlock_fair.specs.FairDeeds.{holding, hand_over_doing, settles_bit, hands_over, leaves_over, successor_of, exchanged_deeds, freed_deeds, glance_deeds, hand_over_deeds, call_deeds, call_doing, call_doing_next}
-use Rattle.lot_rwlock_fair.specs.FairCalls.{HandsOverAt, IsInCall, HasInHand}
+use Rattle.lot_rwlock_fair.specs.FairSteps.{any_taken, has_room, with_taken, parked_as, without, looked, released, bump_next, plain_next, enters_again, gives_way, gives_up_at, freed_next, hand_over_act, handed_act}
+use Rattle.lot_rwlock_fair.specs.FairDeeds.{holding, hand_over_doing, settles_bit, exchanged_deeds, freed_deeds, glance_deeds, call_deeds, call_doing, call_doing_next}
+use Rattle.lot_rwlock_fair.specs.FairCalls.{HandsOverAt}
 use Rattle.lot_rwlock_fair.specs.FairLaws.{FairStepsFollow, CallFollowsBy}
 
 -- ---------------------------------------------------------------- what a thread does at the next place

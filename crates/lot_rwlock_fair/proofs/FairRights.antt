@@ -1,12 +1,11 @@
 -- What a thread owns in a fair release, in a bump, and as it was handed the lock: what its call found, by what it owns now.
-use Rattle.std.proofs.Common.{ℕ, Bool, true, false, Option, Some, None, List, [], ◌∷◌, if◌then◌else◌, ◌==◌, ◌≡◌, ◌≢◌, ◌⊎◌, ◌+◌, ◌-◌, ◌≤◌, ◌<◌, inl, inr, refl, sym, ap, subst, ◌∙◌, length, arith}
+use Rattle.std.proofs.Common.{ℕ, Bool, true, false, Option, Some, None, List, [], ◌∷◌, if◌then◌else◌, ◌==◌, ◌≡◌, ◌≢◌, ◌+◌, refl, sym, ap, subst, ◌∙◌, arith}
 use Rattle.std.specs.Prelude.{zero, suc, slice_index}
-use Rattle.std.proofs.lemmas.Bool.{eqb-true}
 use Rattle.std.proofs.lemmas.Bool.Decides.{nat_tests}
 use Rattle.lot_base.specs.declared.wants.Want.{Want}
 use Rattle.lot_base.specs.declared.wants.Want.TheVariants.{Exclusive, Upgradable, Shared}
 use Rattle.lot_acts.specs.Calls.{rights_where}
-use Rattle.abstract_locks.specs.Locks.{LockState, Rules, Rights, Taken as TakenBy, Queued, Owns, IsLockState, IsSuccessor, IsTaken, rights_of, with_right, without_right, without_owner, sharing_from, shares_handed, sharing_handed, handed, with_successor, succeeding, with_owner, pending_for, readers, is_thread, is_pending}
+use Rattle.abstract_locks.specs.Locks.{LockState, Rules, Rights, Taken as TakenBy, Owns, IsSuccessor, IsTaken, rights_of, with_right, without_owner, sharing_from, shares_handed, sharing_handed, handed, with_successor, succeeding, with_owner, pending_for, readers}
 use Rattle.abstract_locks.specs.Runs.{LocksState, rights_in, one_more_at}
 use Rattle.abstract_locks.proofs.Rights.{AreAt, unchanged, changed, agree, rights_by, left}
 use Rattle.lot_rwlock_fair.specs.declared.hand_over.Taken.{Taken}

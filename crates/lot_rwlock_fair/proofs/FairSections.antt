@@ -1,5 +1,5 @@
 -- Each step of a fair release or of a bump into, in and out of a section does to the lock what its deeds say.
-use Rattle.std.proofs.Common.{ℕ, Bool, true, false, Option, Some, None, [], ◌∷◌, if◌then◌else◌, ◌≡◌, ◌≢◌, not, refl, ap, sym, ◌∙◌, length, ◌<◌, arith}
+use Rattle.std.proofs.Common.{ℕ, Bool, true, false, Option, Some, None, [], ◌∷◌, ◌≡◌, ◌≢◌, refl, ap, sym, ◌∙◌, length, ◌<◌, arith}
 use Rattle.std.proofs.lemmas.Bool.Decides.{nat_tests}
 use Rattle.lot_base.specs.declared.keys.Line.{Line}
 use Rattle.lot_base.specs.declared.keys.Line.TheVariants.{Main, Second}
@@ -8,12 +8,11 @@ use Rattle.lot_base.specs.declared.wants.Want.TheVariants.{Upgradable}
 use Rattle.lot_calls.specs.declared.calls.Access.{Access}
 use Rattle.lot_calls.specs.declared.calls.Access.TheVariants as access
 use Rattle.lot_calls.specs.declared.calls.Patience.{Patience}
-use Rattle.lot_acts.specs.declared.acts.Next.{Next}
 use Rattle.lot_acts.specs.declared.acts.Reply.{Reply}
 use Rattle.lot_acts.specs.declared.acts.Reply.TheVariants as reply
 use Rattle.lot_acts.specs.Moves.{IsFree}
 use Rattle.abstract_locks.specs.Locks.{Rules, Taken as TakenBy, TakePicked, Knows, HasTakenNobody, unpicked, putting}
-use Rattle.abstract_locks.specs.Sites.{Has, Doing, idle, found, is_empty, Site, IsSite, End, In, Out, Case, after_deed, has_readers, leaves, wakened}
+use Rattle.abstract_locks.specs.Sites.{Has, Doing, idle, is_empty, Site, IsSite, End, In, Out, Case, leaves, wakened}
 use Rattle.lot_rwlock.specs.declared.places.Admission.{Admission}
 use Rattle.lot_rwlock.specs.declared.places.RwLockPlace.{RwLockPlace}
 use Rattle.lot_rwlock.specs.declared.places.RwLockAt.{RwLockAt}
@@ -28,16 +27,15 @@ use Rattle.lot_rwlock.specs.RwLockCalls.{MayStand}
 use Rattle.lot_rwlock.proofs.RwLockFit.{put_same, knows_all}
 use Rattle.lot_rwlock.proofs.RwLockSections.{rwlock_sections_follow}
 use Rattle.lot_rwlock.proofs.RwLockStands.{is_at}
-use Rattle.lot_rwlock_fair.specs.declared.places.RwLockCallPlace.{RwLockCallPlace}
 use Rattle.lot_rwlock_fair.specs.declared.places.RwLockCallPlace.TheVariants.{Plain, Glance, HandOver, Bump, Handed}
 use Rattle.lot_rwlock_fair.specs.declared.hand_over.HandOverAt.{HandOverAt}
 use Rattle.lot_rwlock_fair.specs.declared.hand_over.HandOverAt.TheVariants as handing
 use Rattle.lot_rwlock_fair.specs.declared.handed.HandedAt.{HandedAt}
 use Rattle.lot_rwlock_fair.specs.declared.handed.HandedAt.TheVariants as handed
 use Rattle.lot_rwlock_fair.specs.declared.hand_over.Taken.{Taken}
-use Rattle.lot_rwlock_fair.specs.FairSteps.{given, plain_next, bump_next, released, took, call_next}
-use Rattle.lot_rwlock_fair.specs.FairDeeds.{holding, hand_over_doing, call_deeds, call_doing, call_doing_next}
-use Rattle.lot_rwlock_fair.specs.FairCalls.{IsInCall, MayHearHanding, MayHearHanded, CallMayHear}
+use Rattle.lot_rwlock_fair.specs.FairSteps.{given, took}
+use Rattle.lot_rwlock_fair.specs.FairDeeds.{holding, hand_over_doing, call_doing}
+use Rattle.lot_rwlock_fair.specs.FairCalls.{MayHearHanding, MayHearHanded}
 use Rattle.lot_rwlock_fair.specs.FairLaws.{CallFollowsBy, FairSectionsFollow}
 use Rattle.lot_rwlock_fair.proofs.FairFit.{plain_doing, bump_doing, released_doing}
 

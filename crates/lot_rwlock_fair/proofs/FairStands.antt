@@ -1,5 +1,5 @@
 -- A call that hands the lock over, bumps, or was handed the lock goes on where it may stand.
-use Rattle.std.proofs.Common.{ℕ, Bool, true, false, Option, Some, None, if◌then◌else◌, ◌==◌, ◌&&◌, not, ◌≡◌, refl, sym, ap, subst, ◌∙◌}
+use Rattle.std.proofs.Common.{ℕ, Bool, true, false, Option, Some, None, if◌then◌else◌, ◌==◌, ◌&&◌, ◌≡◌, refl, sym, subst}
 use Rattle.lot_base.specs.declared.keys.Line.{Line}
 use Rattle.lot_base.specs.declared.keys.Line.TheVariants.{Main, Second}
 use Rattle.lot_base.specs.declared.notes.Note.TheVariants as note
@@ -36,7 +36,7 @@ use Rattle.lot_rwlock_fair.specs.declared.hand_over.HandOverAt.{HandOverAt}
 use Rattle.lot_rwlock_fair.specs.declared.hand_over.HandOverAt.TheVariants as handing
 use Rattle.lot_rwlock_fair.specs.declared.handed.HandedAt.{HandedAt}
 use Rattle.lot_rwlock_fair.specs.declared.handed.HandedAt.TheVariants as handed
-use Rattle.lot_rwlock_fair.specs.FairSteps.{any_taken, has_room, entering, enters_again, given, handed_by, woken_with, handed_woken, handed_next, looked as looked_at, freed_next, took, hand_over_next, gives_way, gives_up_at, glances, plain_next, bump_next, unless_given, released as released_next}
+use Rattle.lot_rwlock_fair.specs.FairSteps.{any_taken, has_room, entering, enters_again, given, handed_by, woken_with, handed_woken, handed_next, looked as looked_at, freed_next, hand_over_next, gives_way, gives_up_at, plain_next, bump_next, unless_given, released as released_next}
 use Rattle.lot_rwlock_fair.specs.FairCalls.{IsOfBump, HandsOverAt, WaitsFor, CallStands, CallStandsNext}
 use Rattle.lot_rwlock_fair.specs.FairLaws.{FairCallsStand}
 

@@ -1,5 +1,5 @@
 -- Each step of a fair release or of a bump makes of its call what its row says, and its answer is true.
-use Rattle.std.proofs.Common.{ℕ, Bool, true, false, Option, Some, None, List, [], ◌∷◌, if◌then◌else◌, ◌==◌, ◌≡◌, ◌≢◌, ◌⊎◌, ◌<◌, inl, inr, refl, sym, ap, subst, ◌∙◌, length, arith}
+use Rattle.std.proofs.Common.{ℕ, Bool, true, false, Option, Some, None, List, [], ◌∷◌, if◌then◌else◌, ◌==◌, ◌≡◌, ◌≢◌, inl, inr, refl, sym, ap, subst, ◌∙◌}
 use Rattle.std.proofs.lemmas.Bool.{eqb-true}
 use Rattle.lot_base.specs.declared.keys.Line.TheVariants.{Main}
 use Rattle.lot_base.specs.declared.ops.Op.{Op}
@@ -8,39 +8,35 @@ use Rattle.lot_base.specs.declared.wants.Want.{Want}
 use Rattle.lot_base.specs.declared.wants.Want.TheVariants.{Exclusive, Upgradable, Shared}
 use Rattle.lot_calls.specs.declared.calls.Access.{Access}
 use Rattle.lot_calls.specs.declared.calls.Access.TheVariants as access
-use Rattle.lot_calls.specs.declared.calls.Patience.{Patience}
-use Rattle.lot_calls.specs.declared.calls.Patience.TheVariants.{Patient, Timed, Try}
-use Rattle.lot_calls.specs.declared.outcomes.Answer.{Answer}
 use Rattle.lot_calls.specs.declared.outcomes.Answer.TheVariants.{Ok}
 use Rattle.lot_acts.specs.declared.acts.Act.TheVariants as act
 use Rattle.lot_acts.specs.declared.acts.Next.{Next}
 use Rattle.lot_acts.specs.declared.acts.Next.TheVariants as next
 use Rattle.lot_acts.specs.declared.acts.Reply.{Reply}
 use Rattle.lot_acts.specs.declared.acts.Reply.TheVariants as reply
-use Rattle.lot_acts.specs.Profiles.{Profile}
-use Rattle.lot_acts.specs.Calls.{CallFollows, MayCome, ComesTo, IsNextCall, IsTrueAnswer, call_by, rights_where}
-use Rattle.abstract_locks.specs.Locks.{LockState, Rules, Rights, LockCase, Leave, TakePicked, HandOff, Wake, Owns, after_case, handed, rights_of, with_right, without_right, without_owner, standing}
-use Rattle.abstract_locks.specs.Purposes.{Purpose, Enters, Releases, Bumps, IsMadeOf, EntersBy, ReleasesBy, is_fair_bump}
-use Rattle.abstract_locks.specs.Runs.{LocksState, CallState, Event, Nothing, AtLock, going_on, EntersAnswer, BumpsAnswer, rights_in, one_more_at, one_less_at, rules_at as locks_rules}
-use Rattle.abstract_locks.specs.Sites.{Has, Doing, Site, IsSite, Deed, Case, End, In, Out}
-use Rattle.abstract_locks.specs.Codes.{code, TellsTrue, has_parked}
+use Rattle.lot_acts.specs.Calls.{CallFollows}
+use Rattle.abstract_locks.specs.Locks.{Rules, Rights, LockCase, Leave, TakePicked, HandOff, Wake, Owns, after_case, handed, rights_of, with_right, without_owner}
+use Rattle.abstract_locks.specs.Purposes.{IsMadeOf, ReleasesBy, is_fair_bump}
+use Rattle.abstract_locks.specs.Runs.{CallState}
+use Rattle.abstract_locks.specs.Sites.{Has, Doing, Site, IsSite, Deed, Case, In, Out}
+use Rattle.abstract_locks.specs.Codes.{code, has_parked}
 use Rattle.abstract_locks.specs.Deeds.{KeepLock}
 use Rattle.abstract_locks.proofs.Rights.{left}
 use Rattle.lot_rwlock.specs.declared.places.Admission.{Admission}
-use Rattle.lot_rwlock.specs.RwLockSteps.{wanted, entered}
+use Rattle.lot_rwlock.specs.RwLockSteps.{wanted}
 use Rattle.lot_rwlock.specs.RwLockDeeds.{Admits, does_and_wakes}
 use Rattle.lot_rwlock_fair.specs.declared.places.RwLockCallPlace.{RwLockCallPlace}
-use Rattle.lot_rwlock_fair.specs.declared.places.RwLockCallPlace.TheVariants.{Plain, Glance, HandOver, Bump, Handed}
+use Rattle.lot_rwlock_fair.specs.declared.places.RwLockCallPlace.TheVariants.{Glance, HandOver}
 use Rattle.lot_rwlock_fair.specs.declared.hand_over.Taken.{Taken}
 use Rattle.lot_rwlock_fair.specs.declared.hand_over.HandOverAt.{HandOverAt}
 use Rattle.lot_rwlock_fair.specs.declared.hand_over.HandOverAt.TheVariants as handing
-use Rattle.lot_rwlock_fair.specs.FairSteps.{any_taken, has_room, with_taken, parked_as, without, enters_again, released, looked, took, freed_next, gives_way, gives_up_at, hand_over_act, call_act}
+use Rattle.lot_rwlock_fair.specs.FairSteps.{any_taken, has_room, with_taken, parked_as, without, released, looked, took, freed_next, gives_up_at, hand_over_act, call_act}
 use Rattle.lot_rwlock_fair.specs.FairDeeds.{holding, freed_deeds, exchanged_deeds, hands_over, leaves_over, settles_bit, successor_of, glance_deeds, call_doing}
 use Rattle.lot_rwlock_fair.specs.FairProfiles.{call_profile, release_purpose, has_given}
 use Rattle.lot_rwlock_fair.specs.FairCalls.{HandsOverAt, IsInCall, HasInHand, MayHearHanding, in_hand_of}
-use Rattle.lot_rwlock_fair.specs.FairLaws.{next_rows, CallTells, HandsOver, HandOversTell}
-use Rattle.lot_rwlock_fair.proofs.HandOvers.{WantsMore, wants_more, HasNoWriter, exclusive_gone, upgradable_gone}
-use Rattle.lot_rwlock_fair.proofs.FairRights.{found, goes, keeps, loses, gave}
+use Rattle.lot_rwlock_fair.specs.FairLaws.{next_rows, CallTells, HandOversTell}
+use Rattle.lot_rwlock_fair.proofs.HandOvers.{WantsMore, wants_more, exclusive_gone, upgradable_gone}
+use Rattle.lot_rwlock_fair.proofs.FairRights.{goes, keeps, loses, gave}
 
 -- a call that remembers other rights, which are the same
 pub recalls : (c : CallState) (f : ℕ → Rights) → ((k : ℕ) → f k ≡ c.former k) → record c { former = f } ≡ c
@@ -161,7 +157,7 @@ module _ (r : Rules) (a : Admission) (s : Site) (t l : ℕ) where
   exchanged_tells : (op : Op) (b : Bool) (k : Taken) (expected : ℕ) → Owns s.lock t Upgradable → (room : Bool) → has_room a.limit k expected ≡ room → (won : Bool) → (code r s == expected) ≡ won
       → (if room then act.HandOver l (operation.Exchange expected (with_taken access.Upgradable k expected)) else act.Word l (operation.Exchange expected (parked_as k.none_left (without access.Upgradable expected)))) ≡ act.Word l op
       → Tells (HandOver access.Upgradable b (handing.Exchange k expected)) (exchanged_deeds Upgradable k None won room)
-        (if won then next.At (HandOver access.Upgradable b (handing.Leave (any_taken k) (has_room a.limit k (code r s)))) else next.At (HandOver access.Upgradable b (handing.Exchange k (code r s))))
+      (if won then next.At (HandOver access.Upgradable b (handing.Leave (any_taken k) (has_room a.limit k (code r s)))) else next.At (HandOver access.Upgradable b (handing.Exchange k (code r s))))
   exchanged_tells op b k expected own true er won ew e = absurd cc
   exchanged_tells op b k expected own false er false ew e = rests access.Upgradable b (handing.Exchange k expected) (handing.Exchange k (code r s)) refl refl
   exchanged_tells op b k expected own false er true ew e =
@@ -211,7 +207,7 @@ module _ (r : Rules) (a : Admission) (s : Site) (t l : ℕ) (op : Op) (whom : Op
   exchanged : (b : Bool) (expected : ℕ) → s.doing t ≡ holding Upgradable j → (room : Bool) → has_room a.limit j expected ≡ room → (won : Bool) → (code r s == expected) ≡ won
       → (if room then act.HandOver l (operation.Exchange expected (with_taken access.Upgradable j expected)) else act.Word l (operation.Exchange expected (parked_as j.none_left (without access.Upgradable expected)))) ≡ act.HandOver l op
       → Tells r a s t l (HandOver access.Upgradable b (handing.Exchange j expected)) (exchanged_deeds Upgradable j whom won room)
-        (if won then next.At (HandOver access.Upgradable b (handing.Leave (any_taken j) (has_room a.limit j (code r s)))) else next.At (HandOver access.Upgradable b (handing.Exchange j (code r s))))
+      (if won then next.At (HandOver access.Upgradable b (handing.Leave (any_taken j) (has_room a.limit j (code r s)))) else next.At (HandOver access.Upgradable b (handing.Exchange j (code r s))))
   exchanged b expected is false er won ew e = absurd cc
   exchanged b expected is true er false ew e = rests r a s t l access.Upgradable b (handing.Exchange j expected) (handing.Exchange j (code r s)) refl refl
   exchanged b expected is true er true ew e =

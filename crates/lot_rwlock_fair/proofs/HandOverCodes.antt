@@ -1,5 +1,5 @@
 -- The step that hands a lock over leaves its word as the lock behind it has it, and keeps its limit.
-use Rattle.std.proofs.Common.{ℕ, Bool, true, false, Option, Some, None, [], ◌∷◌, if◌then◌else◌, ◌==◌, ◌≡◌, ◌≢◌, ◌+◌, ◌-◌, ◌*◌, ◌%◌, ◌^◌, ◌≤◌, ◌<◌, refl, ap, sym, subst, ◌∙◌, arith, nat_le}
+use Rattle.std.proofs.Common.{ℕ, Bool, true, false, Option, Some, if◌then◌else◌, ◌==◌, ◌≡◌, ◌+◌, ◌-◌, ◌*◌, ◌%◌, ◌^◌, ◌≤◌, ◌<◌, refl, ap, sym, subst, ◌∙◌, arith}
 use Rattle.std.proofs.lemmas.Bool.{eqb-true}
 use Rattle.std.proofs.lemmas.Bool.Decides.{nat_tests}
 use Rattle.lot_base.specs.declared.ops.Op.{Op}
@@ -10,22 +10,21 @@ use Rattle.lot_base.specs.Words.{apply}
 use Rattle.lot_calls.specs.declared.calls.Access.TheVariants as access
 use Rattle.lot_acts.specs.declared.acts.Act.TheVariants as act
 use Rattle.lot_acts.specs.declared.acts.Reply.TheVariants as reply
-use Rattle.abstract_locks.specs.Locks.{LockState, Rules, HandOff, Pending, Normal, count, readers, one_if_some, handed}
-use Rattle.abstract_locks.specs.Sites.{Has, Doing, Site, IsSite, Case, has_readers, after_deed}
+use Rattle.abstract_locks.specs.Locks.{LockState, Rules, HandOff, count, readers, one_if_some, handed}
+use Rattle.abstract_locks.specs.Sites.{Doing, Site, IsSite, Case, has_readers, after_deed}
 use Rattle.abstract_locks.specs.Codes.{code, rw_code, TellsTrue, HasLimit, writers, count_in, bit}
 use Rattle.abstract_locks.specs.Deeds.{after_all}
-use Rattle.abstract_locks.proofs.CodeLaws.{rw_is, low_is, words_tell_true}
+use Rattle.abstract_locks.proofs.CodeLaws.{rw_is, words_tell_true}
 use Rattle.lot_rwlock.specs.declared.places.Admission.{Admission}
-use Rattle.lot_rwlock.specs.RwLockSteps.{plus}
 use Rattle.lot_rwlock.specs.RwLockDeeds.{Admits}
 use Rattle.lot_rwlock_fair.specs.declared.places.RwLockCallPlace.{RwLockCallPlace}
 use Rattle.lot_rwlock_fair.specs.declared.places.RwLockCallPlace.TheVariants.{HandOver}
 use Rattle.lot_rwlock_fair.specs.declared.hand_over.Taken.{Taken}
 use Rattle.lot_rwlock_fair.specs.declared.hand_over.HandOverAt.TheVariants as handing
 use Rattle.lot_rwlock_fair.specs.FairSteps.{tokens, token_of, counted, is_upgradable, has_room, parked_as, without, with_taken, call_act}
-use Rattle.lot_rwlock_fair.specs.FairDeeds.{holding, hands_over, settles_bit, successor_of, exchanged_deeds}
+use Rattle.lot_rwlock_fair.specs.FairDeeds.{holding, settles_bit, successor_of, exchanged_deeds}
 use Rattle.lot_rwlock_fair.specs.FairCalls.{IsInCall, HasInHand, in_hand_of}
-use Rattle.lot_rwlock_fair.specs.FairLaws.{behind_call, HandsOver, HandOversCode, HandOversKeepLimit}
+use Rattle.lot_rwlock_fair.specs.FairLaws.{behind_call, HandOversCode, HandOversKeepLimit}
 use Rattle.lot_rwlock_fair.proofs.HandOvers.{WantsMore, wants_more, adds, counts, lasting, exclusive_gone, upgradable_gone, settles, token_even, token_small, token_top}
 use Rattle.lot_rwlock_fair.proofs.HandOverFit.{fits}
 

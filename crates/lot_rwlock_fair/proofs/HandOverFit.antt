@@ -1,36 +1,31 @@
 -- The step that hands a lock over: it does to the lock what its deeds say, and leaves its word and its limit.
-use Rattle.std.proofs.Common.{ℕ, Bool, true, false, Option, Some, None, [], ◌∷◌, if◌then◌else◌, ◌==◌, ◌≡◌, ◌≢◌, ◌⊎◌, ◌+◌, ◌-◌, ◌*◌, ◌%◌, ◌^◌, ◌≤◌, ◌<◌, not, inl, inr, refl, ap, sym, subst, ◌∙◌, length, arith, nat_le}
+use Rattle.std.proofs.Common.{ℕ, Bool, true, false, Option, Some, [], ◌∷◌, if◌then◌else◌, ◌==◌, ◌≡◌, ◌⊎◌, ◌+◌, ◌-◌, ◌≤◌, inl, inr, refl, ap, sym, subst, ◌∙◌, arith}
 use Rattle.std.proofs.lemmas.Bool.{eqb-true}
 use Rattle.std.proofs.lemmas.Bool.Decides.{nat_tests}
 use Rattle.lot_base.specs.declared.keys.Line.TheVariants.{Main}
 use Rattle.lot_base.specs.declared.ops.Op.{Op}
 use Rattle.lot_base.specs.declared.ops.Op.TheVariants as operation
 use Rattle.lot_base.specs.declared.wants.Want.{Want}
-use Rattle.lot_base.specs.declared.wants.Want.TheVariants.{Exclusive, Upgradable, Shared}
-use Rattle.lot_base.specs.Words.{apply}
-use Rattle.lot_calls.specs.declared.calls.Access.{Access}
+use Rattle.lot_base.specs.declared.wants.Want.TheVariants.{Exclusive, Upgradable}
 use Rattle.lot_calls.specs.declared.calls.Access.TheVariants as access
 use Rattle.lot_acts.specs.declared.acts.Act.TheVariants as act
 use Rattle.lot_acts.specs.declared.acts.Next.TheVariants as next
 use Rattle.lot_acts.specs.declared.acts.Reply.TheVariants as reply
-use Rattle.abstract_locks.specs.Locks.{LockState, Rules, HandOff, HandOffFits, IsSuccessor, Pending, Normal, count, readers, handed}
-use Rattle.abstract_locks.specs.Sites.{Has, Doing, idle, found, Site, IsSite, Deed, Clear, Mark, Case, has_readers, after_deed, Needed}
-use Rattle.abstract_locks.specs.Codes.{code, rw_code, TellsTrue, HasLimit, count_in, bit}
-use Rattle.abstract_locks.specs.Deeds.{after_all}
-use Rattle.abstract_locks.proofs.CodeLaws.{rw_is, low_is, words_tell_true}
+use Rattle.abstract_locks.specs.Locks.{Rules, HandOff, HandOffFits, handed}
+use Rattle.abstract_locks.specs.Sites.{Has, Doing, idle, found, Site, IsSite, Case, has_readers}
+use Rattle.abstract_locks.specs.Codes.{code, TellsTrue, count_in}
+use Rattle.abstract_locks.proofs.CodeLaws.{words_tell_true}
 use Rattle.lot_rwlock.specs.declared.places.Admission.{Admission}
-use Rattle.lot_rwlock.specs.RwLockSteps.{wanted, plus}
 use Rattle.lot_rwlock.specs.RwLockDeeds.{Admits, Follows}
 use Rattle.lot_rwlock_fair.specs.declared.places.RwLockCallPlace.{RwLockCallPlace}
-use Rattle.lot_rwlock_fair.specs.declared.places.RwLockCallPlace.TheVariants.{Plain, Glance, HandOver, Bump, Handed}
+use Rattle.lot_rwlock_fair.specs.declared.places.RwLockCallPlace.TheVariants.{HandOver}
 use Rattle.lot_rwlock_fair.specs.declared.hand_over.Taken.{Taken}
-use Rattle.lot_rwlock_fair.specs.declared.hand_over.HandOverAt.{HandOverAt}
 use Rattle.lot_rwlock_fair.specs.declared.hand_over.HandOverAt.TheVariants as handing
-use Rattle.lot_rwlock_fair.specs.FairSteps.{any_taken, tokens, token_of, counted, is_upgradable, has_room, parked_as, without, with_taken, hand_over_act, call_act}
-use Rattle.lot_rwlock_fair.specs.FairDeeds.{holding, hands_over, settles_bit, successor_of, exchanged_deeds, call_deeds, call_doing, call_doing_next}
-use Rattle.lot_rwlock_fair.specs.FairCalls.{HandsOverAt, IsInCall, IsNamed, HasInHand, in_hand_of}
-use Rattle.lot_rwlock_fair.specs.FairLaws.{CallFollowsBy, HandsOver, HandOversFollow}
-use Rattle.lot_rwlock_fair.proofs.HandOvers.{WantsMore, wants_more, HasNoWriter, adds, counts, lasting, exclusive_gone, upgradable_gone, settles, token_even, token_small}
+use Rattle.lot_rwlock_fair.specs.FairSteps.{any_taken, counted, has_room, parked_as, without, with_taken, call_act}
+use Rattle.lot_rwlock_fair.specs.FairDeeds.{holding, settles_bit, successor_of, exchanged_deeds, call_doing_next}
+use Rattle.lot_rwlock_fair.specs.FairCalls.{IsInCall, HasInHand, in_hand_of}
+use Rattle.lot_rwlock_fair.specs.FairLaws.{CallFollowsBy, HandOversFollow}
+use Rattle.lot_rwlock_fair.proofs.HandOvers.{WantsMore, wants_more, counts, upgradable_gone}
 
 module _ (r : Rules) (s : Site) (t : ℕ) (rw_sort : has_readers r.sort ≡ true) (h : IsSite r s) where
   -- a hand-over is allowed where the limit holds behind it

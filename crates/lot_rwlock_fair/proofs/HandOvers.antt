@@ -1,12 +1,10 @@
 -- What a lock is behind a hand-over, and what its word is.
-use Rattle.std.proofs.Common.{ℕ, Bool, true, false, Option, Some, None, if◌then◌else◌, ◌==◌, ◌≡◌, ◌≢◌, ◌⊎◌, ◌+◌, ◌-◌, ◌*◌, ◌/◌, ◌%◌, ◌^◌, ◌≤◌, ◌<◌, not, inl, inr, refl, ap, sym, subst, ◌∙◌, length, arith}
-use Rattle.std.proofs.lemmas.Bool.Decides.{nat_tests}
-use Rattle.lot_base.specs.declared.keys.Line.TheVariants.{Main}
+use Rattle.std.proofs.Common.{ℕ, Bool, true, false, Option, Some, None, if◌then◌else◌, ◌==◌, ◌≡◌, ◌≢◌, ◌+◌, ◌*◌, ◌%◌, ◌≤◌, refl, sym, ◌∙◌, arith}
 use Rattle.lot_base.specs.declared.wants.Want.{Want}
 use Rattle.lot_base.specs.declared.wants.Want.TheVariants.{Exclusive, Upgradable, Shared}
-use Rattle.abstract_locks.specs.Locks.{LockState, Rules, Queued, Taken as TakenBy, Pending, IsSuccessor, IsTaken, Knows, count, readers, one_if_some, without_owner, sharing_handed, with_successor, with_owner, pending_for, handed}
+use Rattle.abstract_locks.specs.Locks.{LockState, Rules, Pending, IsSuccessor, Knows, count, readers, one_if_some, without_owner, sharing_handed, with_successor, with_owner, pending_for}
 use Rattle.abstract_locks.specs.Sites.{Site, IsSite, Has, has_readers, after_deed}
-use Rattle.abstract_locks.specs.Codes.{writers, bit, rw_code, HasLimit}
+use Rattle.abstract_locks.specs.Codes.{writers, bit, rw_code}
 use Rattle.lot_rwlock_fair.specs.declared.hand_over.Taken.{Taken}
 use Rattle.lot_rwlock_fair.specs.FairSteps.{token_of, is_upgradable}
 use Rattle.lot_rwlock_fair.specs.FairDeeds.{successor_of, settles_bit}

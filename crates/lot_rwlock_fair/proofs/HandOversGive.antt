@@ -1,5 +1,5 @@
 -- Behind a hand-over each in hand has what its place says.
-use Rattle.std.proofs.Common.{ℕ, Bool, true, false, Option, Some, None, if◌then◌else◌, ◌==◌, ◌≡◌, ◌≢◌, ◌⊎◌, ◌≤◌, ◌<◌, inl, inr, refl, ap, sym, subst, ◌∙◌, length, arith}
+use Rattle.std.proofs.Common.{ℕ, Bool, true, false, Option, Some, None, if◌then◌else◌, ◌==◌, ◌≡◌, ◌≢◌, ◌⊎◌, ◌<◌, inl, inr, refl, ap, sym, subst, ◌∙◌, length, arith}
 use Rattle.lot_base.specs.declared.ops.Op.{Op}
 use Rattle.lot_base.specs.declared.ops.Op.TheVariants as operation
 use Rattle.lot_base.specs.declared.wants.Want.{Want}
@@ -11,15 +11,15 @@ use Rattle.abstract_locks.specs.Locks.{LockState, Rules, Queued, IsSuccessor, Is
 use Rattle.abstract_locks.specs.Sites.{Site, IsSite, HasClaim, has_readers}
 use Rattle.abstract_locks.specs.Codes.{code}
 use Rattle.abstract_locks.specs.Deeds.{after_all}
-use Rattle.abstract_locks.proofs.Hands.{shares_handed_on, has_exclusive_handed, pends_handed}
+use Rattle.abstract_locks.proofs.Hands.{shares_handed_on}
 use Rattle.lot_rwlock_fair.specs.declared.places.RwLockCallPlace.{RwLockCallPlace}
 use Rattle.lot_rwlock_fair.specs.declared.places.RwLockCallPlace.TheVariants.{HandOver}
 use Rattle.lot_rwlock_fair.specs.declared.hand_over.Taken.{Taken}
 use Rattle.lot_rwlock_fair.specs.declared.hand_over.HandOverAt.TheVariants as handing
 use Rattle.lot_rwlock_fair.specs.FairSteps.{has_room, parked_as, without, with_taken, call_act}
-use Rattle.lot_rwlock_fair.specs.FairDeeds.{handed_claim, hands_over, exchanged_deeds, successor_of}
-use Rattle.lot_rwlock_fair.specs.FairCalls.{IsInCall, HasInHand, in_hand_of}
-use Rattle.lot_rwlock_fair.specs.FairLaws.{lock_behind, HandsOver, HandOversGive}
+use Rattle.lot_rwlock_fair.specs.FairDeeds.{handed_claim, exchanged_deeds, successor_of}
+use Rattle.lot_rwlock_fair.specs.FairCalls.{IsInCall, in_hand_of}
+use Rattle.lot_rwlock_fair.specs.FairLaws.{lock_behind, HandOversGive}
 use Rattle.lot_rwlock_fair.proofs.HandOverCodes.{settled_lock}
 
 module _ (r : Rules) (s : Site) (t u : ℕ) (rw_sort : has_readers r.sort ≡ true) (h : IsSite r s) (right : Want) (successor : Option Queued) (is : IsSuccessor s.lock t successor) (more : right ≢ Shared) where

@@ -20,7 +20,7 @@ use Rattle.lot_rwlock_fair.specs.declared.hand_over.HandOverAt.{HandOverAt}
 use Rattle.lot_rwlock_fair.specs.declared.hand_over.HandOverAt.TheVariants as handing
 use Rattle.lot_rwlock_fair.specs.declared.handed.HandedAt.{HandedAt}
 use Rattle.lot_rwlock_fair.specs.declared.handed.HandedAt.TheVariants as handed
-use Rattle.lot_rwlock_fair.specs.FairSteps.{has_room, gives_way, call_next}
+use Rattle.lot_rwlock_fair.specs.FairSteps.{has_room, gives_way}
 
 -- ---------------------------------------------------------------- what a thread does, by its place
 

@@ -28,7 +28,7 @@ use Rattle.lot_rwlock_fair.specs.FairBegins.{fair_first, fair_purpose, right_of}
 use Rattle.lot_rwlock_fair.specs.FairProfiles.{call_profile}
 use Rattle.lot_rwlock_fair.specs.declared.places.RwLockCallPlace.{RwLockCallPlace}
 use Rattle.lot_rwlock_fair.specs.declared.hand_over.Taken.{Taken}
-use Rattle.lot_rwlock_fair.specs.FairSteps.{call_act, call_next, gives_up}
+use Rattle.lot_rwlock_fair.specs.FairSteps.{call_act, call_next}
 use Rattle.lot_rwlock_fair.specs.FairDeeds.{call_deeds, call_doing_next, handed_claim}
 use Rattle.lot_rwlock_fair.specs.FairCalls.{CallStands, CallStandsNext, CallMayBeTold, IsInCall, CallMayHear, HasInHand, in_hand_of}
 

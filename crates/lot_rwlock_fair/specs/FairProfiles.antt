@@ -3,7 +3,6 @@ use Rattle.std.specs.Prelude.{ℕ, Bool, true, false, Option, Some, None, if◌t
 use Rattle.lot_base.specs.declared.keys.Line.{Line}
 use Rattle.lot_base.specs.declared.keys.Line.TheVariants.{Main}
 use Rattle.lot_base.specs.declared.wants.Want.{Want}
-use Rattle.lot_calls.specs.declared.calls.Access.{Access}
 use Rattle.lot_calls.specs.declared.calls.Patience.{Patience}
 use Rattle.abstract_locks.specs.Locks.{Rights}
 use Rattle.abstract_locks.specs.Purposes.{Purpose, Enters, Releases, Bumps}
