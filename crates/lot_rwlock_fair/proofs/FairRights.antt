@@ -55,7 +55,7 @@ shares_same t u i taken [] e = refl
 shares_same t zero i taken (n ∷ ns) e = let z : shares_handed t (taken i) ≡ 0 = (let f : taken i ≡ None = subst (λ k. taken k ≡ None) (omega arith) e in ap (shares_handed t) f) in omega arith
 shares_same t (suc u) i taken (n ∷ ns) e = shares_same t u (i + 1) taken ns (subst (λ k. taken k ≡ None) (omega arith) e)
 
-rights_are : (a b c d e f g h : ℕ) → a ≡ e → b ≡ f → c ≡ g → d ≡ h → rights_by a b c d ≡ rights_by e f g h
+pub rights_are : (a b c d e f g h : ℕ) → a ≡ e → b ≡ f → c ≡ g → d ≡ h → rights_by a b c d ≡ rights_by e f g h
 rights_are a b c d e f g h p q r s = λ i. rights_by (p i) (q i) (r i) (s i)
 
 module _ (s : LockState) (t : ℕ) (free : s.taken t ≡ None) where

@@ -10,3 +10,4 @@ pub mod HandOversGive
 pub mod FairRights
 pub mod FairTells
 pub mod FairCallTells
+pub mod FairSleepers

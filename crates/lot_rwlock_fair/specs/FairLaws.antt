@@ -1,21 +1,23 @@
 -- What the steps of fair releases and bumps do to the lock, and what they make of their calls.
-use Rattle.std.specs.Prelude.{ℕ, true, Option, Some, None, ◌≡◌, ◌<◌, ◌-◌, ◌^◌, ◌==◌, List, length, slice_index}
+use Rattle.std.specs.Prelude.{ℕ, Bool, true, false, Option, Some, None, ◌≡◌, ◌≢◌, ◌<◌, ◌+◌, ◌-◌, ◌^◌, ◌==◌, List, length, slice_index}
 use Rattle.lot_base.specs.declared.ops.Op.{Op}
 use Rattle.lot_base.specs.declared.wants.Want.{Want}
 use Rattle.lot_base.specs.Words.{apply}
 use Rattle.lot_acts.specs.declared.acts.Act.TheVariants as act
 use Rattle.lot_acts.specs.declared.acts.Next.{Next}
 use Rattle.lot_acts.specs.declared.acts.Next.TheVariants as next
-use Rattle.lot_acts.specs.Profiles.{Profile}
-use Rattle.lot_acts.specs.Calls.{CallFollows}
+use Rattle.lot_base.specs.declared.notes.Note.TheVariants as note
+use Rattle.lot_acts.specs.Profiles.{Profile, hand}
+use Rattle.lot_acts.specs.Calls.{CallFollows, call_by}
+use Rattle.abstract_locks.specs.Runs.{CallState, one_more_at}
 use Rattle.lot_acts.specs.declared.acts.Reply.{Reply}
 use Rattle.lot_acts.specs.declared.acts.Reply.TheVariants as reply
 use Rattle.lot_base.specs.declared.wants.Waiter.{Waiter}
 use Rattle.lot_acts.specs.declared.owners.Owners.{Owners}
 use Rattle.lot_acts.specs.Owners.{lock_seen}
 use Rattle.lot_acts.specs.Acts.{takes_effect}
-use Rattle.abstract_locks.specs.Locks.{LockState, Rules, IsTaken, Taken as TakenBy, readers, standing}
-use Rattle.abstract_locks.specs.Sites.{Site, HasClaim}
+use Rattle.abstract_locks.specs.Locks.{LockState, Rules, Rights, IsTaken, Taken as TakenBy, putting, readers, standing}
+use Rattle.abstract_locks.specs.Sites.{Site, Claim, Has, Pends, HasClaim}
 use Rattle.abstract_locks.specs.Codes.{code, HasLimit}
 use Rattle.abstract_locks.specs.Deeds.{after_all}
 use Rattle.lot_rwlock.specs.declared.places.Admission.{Admission}
@@ -25,7 +27,7 @@ use Rattle.lot_rwlock.specs.RwLockOpenings.{IsOpening}
 use Rattle.lot_rwlock.specs.RwLockCalls.{IsNotLate}
 use Rattle.lot_rwlock_fair.specs.declared.begin.FairCall.{FairCall}
 use Rattle.lot_rwlock_fair.specs.FairBegins.{fair_first, fair_purpose, right_of}
-use Rattle.lot_rwlock_fair.specs.FairProfiles.{call_profile}
+use Rattle.lot_rwlock_fair.specs.FairProfiles.{call_profile, call_looking}
 use Rattle.lot_rwlock_fair.specs.declared.places.RwLockCallPlace.{RwLockCallPlace}
 use Rattle.lot_rwlock_fair.specs.declared.hand_over.Taken.{Taken}
 use Rattle.lot_rwlock_fair.specs.FairSteps.{call_act, call_next}
@@ -153,3 +155,44 @@ abbrev pub FairSectionsTell : Type 0
 FairSectionsTell =
     (r : Rules) (a : Admission) (s : Site) (t l : ℕ) (c : RwLockCallPlace) (whom : Option ℕ) (told : Reply)
     → IsInCall r a s t c → CallMayHear r a s t c whom told → IsNotLate told → CallTells r a s t l c whom told
+
+-- ---------------------------------------------------------------- what befalls a thread asleep
+
+abbrev pub CallBecomes : Admission → ℕ → RwLockCallPlace → Reply → (CallState → CallState) → Type 0
+CallBecomes a l c told becomes =
+    (c2 : RwLockCallPlace) (rights : ℕ → Rights) → call_next a c told ≡ next.At c2
+    → call_by l (call_profile a c2) rights ≡ becomes (call_by l (call_profile a c) rights)
+
+-- with what it is handed: a right, or a pending one
+abbrev pub with_claim : Claim → ℕ → (ℕ → Rights) → ℕ → Rights
+with_claim (Has x) l rights = one_more_at l x rights
+with_claim (Pends falls_back) l rights = putting rights l (record (rights l) { pending = (rights l).pending + 1 })
+with_claim c l rights = rights
+
+-- it is handed what it wants, and tries no longer
+abbrev pub IsGiven : Admission → ℕ → RwLockCallPlace → ℕ → Bool → Type 0
+IsGiven a l c u alone =
+    (c2 : RwLockCallPlace) (rights : ℕ → Rights) (x : Want) → (call_profile a c).wants ≡ Some x
+    → call_next a c (reply.HandedBy u alone) ≡ next.At c2
+    → call_by l (call_profile a c2) (with_claim (handed_claim x alone) l rights)
+    ≡ record (call_by l (call_profile a c) rights) { retries = None }
+
+-- nothing, where it is taken, or woken that was handed the lock; it tries again, where it is woken that was taken; it is late, where its time is up;
+-- and it is handed the lock only of the main queue, where it has nothing of it yet
+pub record CallHears (a : Admission) (l : ℕ) (c : RwLockCallPlace) : Type 0 where
+  pub taken : (u : ℕ) → CallBecomes a l c (reply.TakenBy u) (λ x. x)
+  pub woken : (u : ℕ) → (call_profile a c).hand ≡ hand u false → CallBecomes a l c (reply.Woken note.Normal) (λ x. record x { retries = Some l })
+  pub late : (call_profile a c).late_line ≢ None → CallBecomes a l c reply.Late (λ x. record x { late = true })
+  pub given : (u : ℕ) (alone : Bool) → (call_profile a c).hand ≡ hand u false → (call_profile a c).doing.claims ≡ None → IsGiven a l c u alone
+  pub accepts : (u : ℕ) → (call_profile a c).hand ≡ hand u true → CallBecomes a l c (reply.Woken note.HandOff) (λ x. x)
+
+abbrev pub FairSleepersHear : Type 0
+FairSleepersHear = (a : Admission) (l : ℕ) (c : RwLockCallPlace) → CallStands a c → CallHears a l c
+
+-- ---------------------------------------------------------------- looks, and owners
+
+-- where a thread looks once more, its row is as it was, and its call stands where it may
+abbrev pub FairLooksStand : Type 0
+FairLooksStand =
+    (a : Admission) (c d : RwLockCallPlace) → call_looking a c ≡ Some d
+    → (call_profile a d ≡ call_profile a c) × (CallStands a c → CallStands a d)

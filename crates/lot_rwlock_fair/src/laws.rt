@@ -1,5 +1,5 @@
 //! What the steps of fair releases and bumps do to the lock.
-ghost use Rattle.lot_rwlock_fair.specs.FairLaws.{FairCallsOpen, FairCallsStand, FairSectionsFollow, FairSectionsTell, FairStepsTell, HandOversGive, FairStepsCode, FairStepsFollow, HandOversCode, HandOversFollow, HandOversKeepLimit, HandOversTell};
+ghost use Rattle.lot_rwlock_fair.specs.FairLaws.{FairCallsOpen, FairCallsStand, FairLooksStand, FairSectionsFollow, FairSectionsTell, FairSleepersHear, FairStepsTell, HandOversGive, FairStepsCode, FairStepsFollow, HandOversCode, HandOversFollow, HandOversKeepLimit, HandOversTell};
 
 /// Each step on the word may do to the lock what its deeds say, and its next place says what the thread does then.
 pub fn fair_steps_follow()
@@ -59,4 +59,14 @@ pub fn fair_steps_tell()
 /// And each step into a section, in it, and out of it.
 pub fn fair_sections_tell()
     ensures { FairSectionsTell }
+{}
+
+/// What befalls a thread asleep makes of its call what its row says; whoever is handed the lock has what it wants.
+pub fn fair_sleepers_hear()
+    ensures { FairSleepersHear }
+{}
+
+/// Where a thread looks at the word once more, its row is the same, and its call stands where it may.
+pub fn fair_looks_stand()
+    ensures { FairLooksStand }
 {}

@@ -6,6 +6,8 @@ pub mod hand_over;
 pub mod handed;
 pub mod laws;
 pub mod places;
+#[cfg(test)]
+mod tests;
 
 pub use begin::FairCall;
 pub use hand_over::{HandOverAt, Taken};
