@@ -10,6 +10,8 @@ pub mod StandsKept
 pub mod StandsMoved
 pub mod ActsKept
 pub mod LawsKept
+pub mod ToldKept
+pub mod HandsKept
 pub mod WakesKept
 pub mod TakesKept
 pub mod PicksKept
