@@ -12,6 +12,7 @@ pub mod ActsKept
 pub mod LawsKept
 pub mod ToldKept
 pub mod HandsKept
+pub mod HandRights
 pub mod WakesKept
 pub mod TakesKept
 pub mod PicksKept
