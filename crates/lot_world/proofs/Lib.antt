@@ -37,6 +37,7 @@ pub mod LineActs
 pub mod CallEvents
 pub mod MutexCalls
 pub mod LockEvents
+pub mod HandsEvents
 pub mod OtherCalls
 pub mod MutexEvents
 pub mod MutexOwing
