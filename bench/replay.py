@@ -14,21 +14,28 @@ import time
 
 PROGRAM = os.path.join(os.path.dirname(__file__), "..", "crates", "lotsim", "out", "lotsim")
 LINES = 1_000_000
-CALLS = ["lock", "lock", "try_lock", "unlock", "unlock"]
+CALLS = {
+    "mutex": ["lock", "lock", "try_lock", "unlock", "unlock"],
+    "rwlock": [
+        "read", "read", "try_read", "unlock_shared", "unlock_shared",
+        "write", "try_write", "unlock_exclusive", "unlock_exclusive", "downgrade",
+        "upgradable", "unlock_upgradable", "upgrade_timed",
+    ],
+}
 
 
-def schedule(threads, locks, lines, shows, seed):
+def schedule(kind, threads, locks, lines, shows, seed):
     """Random begins, steps and spins, with a `show` about once in `shows` lines."""
     rng = random.Random(seed)
     names = [f"m{lock}" for lock in range(locks)]
-    out = [f"threads {threads}"] + [f"lock {name} mutex" for name in names]
+    out = [f"threads {threads}"] + [f"lock {name} {kind}" for name in names]
     while len(out) < lines:
         thread = rng.randrange(threads)
         draw = rng.random()
         if draw < 1 / shows:
             out.append("show")
         elif draw < 0.25:
-            out.append(f"{thread} begin {rng.choice(CALLS)} {rng.choice(names)}")
+            out.append(f"{thread} begin {rng.choice(CALLS[kind])} {rng.choice(names)}")
         elif draw < 0.95:
             out.append(f"{thread} go")
         else:
@@ -36,10 +43,10 @@ def schedule(threads, locks, lines, shows, seed):
     return "\n".join(out) + "\n"
 
 
-def measure(name, threads, locks, shows):
-    text = schedule(threads, locks, LINES, shows, 1)
+def measure(name, kind, threads, locks, shows):
+    text = schedule(kind, threads, locks, LINES, shows, 1)
     if len(sys.argv) > 1:
-        with open(os.path.join(sys.argv[1], f"{threads}-{shows}.schedule"), "w") as kept:
+        with open(os.path.join(sys.argv[1], f"{kind}-{threads}-{shows}.schedule"), "w") as kept:
             kept.write(text)
     with tempfile.NamedTemporaryFile("w", suffix=".schedule") as file:
         file.write(text)
@@ -56,7 +63,8 @@ def measure(name, threads, locks, shows):
 
 
 if __name__ == "__main__":
-    measure("8 threads, 4 locks, a show in 1,000 lines", 8, 4, 1_000)
-    measure("1,024 threads, 256 locks, no show", 1024, 256, LINES * 100)
-    measure("1,024 threads, 256 locks, a show in 10,000 lines", 1024, 256, 10_000)
-    measure("1,024 threads, 256 locks, a show in 1,000 lines", 1024, 256, 1_000)
+    for kind in CALLS:
+        measure(f"{kind}: 8 threads, 4 locks, a show in 1,000 lines", kind, 8, 4, 1_000)
+        measure(f"{kind}: 1,024 threads, 256 locks, no show", kind, 1024, 256, LINES * 100)
+        measure(f"{kind}: 1,024 threads, 256 locks, a show in 10,000 lines", kind, 1024, 256, 10_000)
+        measure(f"{kind}: 1,024 threads, 256 locks, a show in 1,000 lines", kind, 1024, 256, 1_000)

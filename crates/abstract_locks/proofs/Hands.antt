@@ -124,7 +124,7 @@ is_handed t Shared successor s = succeeds t successor s _ (record { queue = refl
 is_handed t x successor s = succeeds t successor s _ (record { queue = refl; aside = refl; taken = λ u. refl })
 
 -- nobody shares less
-sharing_more : (t : ℕ) (taken : ℕ → Option Taken) (i u : ℕ) (ns : List ℕ) → slice_index ns u ≤ slice_index (sharing_from t taken i ns) u
+pub sharing_more : (t : ℕ) (taken : ℕ → Option Taken) (i u : ℕ) (ns : List ℕ) → slice_index ns u ≤ slice_index (sharing_from t taken i ns) u
 sharing_more t taken i u [] = grind arith
 sharing_more t taken i zero (n ∷ ns) = grind arith
 sharing_more t taken i (suc u) (n ∷ ns) = sharing_more t taken (i + 1) u ns

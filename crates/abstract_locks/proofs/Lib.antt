@@ -16,3 +16,4 @@ pub mod PermitKeeps
 pub mod OnceFit
 pub mod Deeds
 pub mod Rights
+pub mod UserLaws

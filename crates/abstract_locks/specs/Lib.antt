@@ -10,3 +10,4 @@ pub mod Condvars
 pub mod Permits
 pub mod OnceSteps
 pub mod Deeds
+pub mod UserLaws

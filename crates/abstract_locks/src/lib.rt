@@ -2,6 +2,7 @@
 #![tactic(auto)]
 
 ghost use Rattle.abstract_locks.specs.Laws.{CallsTakeSteps, FairReleasesHandOver, FreeMutexIsGot, OwnersExclude, PossibleTurnsAreTaken};
+ghost use Rattle.abstract_locks.specs.UserLaws.{DowngradesOwn, OfEachStep, ReadersStayOut, RereadersPass, UpgradesLetNobodyWrite};
 ghost use Rattle.abstract_locks.specs.Picks.{PickersPickAsTheLocksSay};
 ghost use Rattle.abstract_locks.specs.Sites.{EachDeedKeeps};
 ghost use Rattle.abstract_locks.specs.OnceSteps.{OnceStepsFollow, OnceWordFollows};
@@ -99,4 +100,24 @@ pub fn owners_exclude()
 /// A fair release wakes nobody to try again: it hands the lock over, or lets it go.
 pub fn fair_releases_hand_over()
     ensures { FairReleasesHandOver }
+{}
+
+/// While a writer is pending on a lock that isn't recursive, nobody begins to share it.
+pub fn readers_stay_out()
+    ensures { OfEachStep ReadersStayOut }
+{}
+
+/// Who shares a recursive lock isn't queued to share it once more.
+pub fn rereaders_pass()
+    ensures { OfEachStep RereadersPass }
+{}
+
+/// From the upgradable right to the exclusive one, an upgrade lets no other writer in.
+pub fn upgrades_let_nobody_write()
+    ensures { OfEachStep UpgradesLetNobodyWrite }
+{}
+
+/// A downgrade owns the lock throughout.
+pub fn downgrades_own()
+    ensures { OfEachStep DowngradesOwn }
 {}

@@ -1,5 +1,5 @@
 -- What holds between steps, as callers are told it.
-use Rattle.std.proofs.Common.{ℕ, Bool, true, false, Option, Some, None, if◌then◌else◌, ◌==◌, ◌&&◌, ◌≡◌, ◌≢◌, ◌+◌, ◌*◌, ◌≤◌, inl, inr, List, length, refl, ◌∙◌, ap, subst, arith, ◌↔◌, sym}
+use Rattle.std.proofs.Common.{ℕ, Bool, true, false, Option, Some, None, if◌then◌else◌, ◌==◌, ◌&&◌, ◌≡◌, ◌≢◌, ◌+◌, ◌*◌, ◌≤◌, ◌<◌, ◌⊎◌, inl, inr, List, length, refl, ◌∙◌, ap, subst, arith, ◌↔◌, sym}
 use Rattle.lot_base.specs.declared.wants.Want.TheVariants.{Exclusive}
 use Rattle.lot_acts.specs.declared.acts.Act.TheVariants.{Rest, Sleep}
 use Rattle.lot_acts.specs.Profiles.{Profile, hand, hand_owner}
@@ -12,13 +12,14 @@ use Rattle.lot_machine.specs.Fits.{IsShaped}
 use Rattle.lot_world.specs.Stations.{Station, station_at, doing_on}
 use Rattle.lot_world.specs.SitesOf.{IsSteady, rules_in}
 use Rattle.abstract_locks.specs.Runs.{CallState, IsOpening}
-use Rattle.abstract_locks.specs.Locks.{LockState, Sort, Rights, Taken, opening_lock, IsSomePending, rights_of, readers, standing}
+use Rattle.abstract_locks.specs.Locks.{LockState, Sort, Rights, Taken, opening_lock, Rules, IsSomePending, rights_of, readers, count, standing}
 use Rattle.abstract_locks.specs.Locks as sorts
 use Rattle.abstract_locks.specs.Sites.{Doing, Line, Main, Second, Has, IsOpen, counts_some, has_readers, idle}
+use Rattle.abstract_locks.specs.Codes.{HasLimit}
 use Rattle.abstract_locks.specs.Purposes.{Enters, Converts, Bumps, Purpose, MayWait, rules_of}
 use Rattle.lot_world.specs.Refinement.{locks_of, lock_state, lock_seen, taken_at, call_at, call_on, call_state, stance_of}
 use Rattle.lot_world.specs.Owing.{Owes, sort_at}
-use Rattle.lot_world.specs.Promises.{IsKept, KnowsRights, WaitsFor, WakesWaiters, IsDebtorOf, IsLookedAfter, IsOpenNow, WasNeverFull, IsHandedOver, want_of}
+use Rattle.lot_world.specs.Promises.{IsKept, KnowsRights, WaitsFor, WakesWaiters, IsDebtorOf, IsLookedAfter, IsOpenNow, WasNeverFull, IsHandedOver, IsWithinLimit, want_of}
 use Rattle.lot_world.proofs.TurnsKept.{after_steady}
 use Rattle.lot_world.proofs.SitesPromise.{not_empty}
 use Rattle.lot_world.proofs.RowPromises.{IsDebtorIn, HasDebt, WasHanded, RowLooksAfter}
@@ -67,6 +68,18 @@ idle_owes : (sort : Sort) (m : Line) → IsDebtorIn sort idle m → ⊥
 idle_owes sort Main d = elim d [ inl h ↦ cc | inr h ↦ elim h [ inl k ↦ cc | inr k ↦ cc ] ]
 idle_owes sort Second d = cc
 
+within : (r : Rules) (s : LockState) → has_readers r.sort ≡ true → HasLimit r s → IsWithinLimit r s
+within r s shared h = by_sort r.sort refl shared
+  where
+    by_sort : (sort : Sort) → r.sort ≡ sort → has_readers sort ≡ true → IsWithinLimit r s
+    by_sort sorts.Normal e f = inl (h.normal e)
+    by_sort sorts.Recursive e f = by_count (cases_lt r.limit (count s))
+      where
+        by_count : (r.limit < count s) ⊎ (count s ≤ r.limit) → IsWithinLimit r s
+        by_count (inl more) = let top = h.top in inr (e, omega arith)
+        by_count (inr few) = inl few
+    by_sort sort e f = absurd (grind arith)
+
 module _ (w : State) (steady : IsSteady w) where
   waits : (t l : ℕ) → 1 ≤ standing t (lock_state w l) → MayWait (call_at w t).purpose l
   waits t l h =
@@ -87,6 +100,9 @@ module _ (w : State) (steady : IsSteady w) where
   second_line t l h =
       let own = owes_own (place_at w t) l Second h in
       (row_promises w t steady l own).owing.second (sym (owed_own (place_at w t) l own) ∙ h)
+
+  limited : (l : ℕ) → has_readers (sort_at w l) ≡ true → IsWithinLimit (rules_in w l) (lock_state w l)
+  limited l shared = within (rules_in w l) (lock_state w l) shared (steady.sites.limits l shared).1
 
   -- ---------------------------------------------------------------- nobody is forgotten
 
@@ -175,6 +191,7 @@ module _ (w : State) (steady : IsSteady w) where
     waiting = waits;
     known = known;
     coded = λ l. steady.sites.word l;
+    limited = limited;
     nobody_forgotten = record { main = main; second = second };
     owing = λ t l m. owing_is w t steady l m;
     second_line = second_line;

@@ -44,7 +44,7 @@ use Rattle.lot_machine.specs.Machine.{State, go_of, place_at, word_at, queue_at,
 use Rattle.lot_world.specs.Refinement.{lock_state, locks_of, call_at, call_state}
 use Rattle.lot_world.specs.SitesOf.{IsSteady, key_of, rules_in, site_of}
 use Rattle.lot_world.specs.Stations.{doing_on}
-use Rattle.lot_world.specs.Solo.{EntersAlone, EndsAlone, ReleasesAlone, ConvertsAlone, MayEnterAtOnce, WaitsAlone, WaitsForReaders, SleepsAside, IsSoloRun, entered_answer}
+use Rattle.lot_world.specs.Solo.{EntersAlone, EndsAlone, ReleasesAlone, ConvertsAlone, MayEnterAtOnce, WaitsAlone, WaitsForReaders, IsSoloRun, entered_answer}
 use Rattle.lot_world.proofs.Glue.{put_here, same}
 use Rattle.lot_world.proofs.MutexTable.{queued_behind}
 use Rattle.lot_world.proofs.LineSolo.{StepsAlone}
@@ -167,6 +167,7 @@ module _ (w : State) (t l : ℕ) (a : Admission) (steady : IsSteady w) (admits :
   shares_alone y how shared is h = record {
     owns = λ may. enters_owns y how at.Load is (takes_one y shared (subst (λ d. Decides t l a d (looking (purpose.Enter y how) at.Load) (word_at w l) queues v2 x) (takes w l a steady admits y how (may_enter y shared may)) h));
     pends = λ e may some. absurd (shared e);
+    refused = λ sort e. absurd (shared e);
     full = λ full. subst (λ d. Decides t l a d (looking (purpose.Enter y how) at.Load) (word_at w l) queues v2 x) (refuses w l a steady admits y how full) h;
     barred = λ b. barred_by y how at.Load (subst (λ d. Decides t l a d (looking (purpose.Enter y how) at.Load) (word_at w l) queues v2 x) (waits w l a steady admits y how b) h);
   }
@@ -249,10 +250,11 @@ module _ (w : State) (t l : ℕ) (a : Admission) (steady : IsSteady w) (admits :
   writes_alone : (how : Patience) → place_at w t ≡ RwLock l a (writer how) → Tries t l a (word_at w l == 0) how (writer how) (word_at w l) queues v2 x → EntersAlone (word_at w l ≡ 0) (locks_of w) t l Exclusive how x (locks_of v2)
   writes_alone how is h = by_word (word_at w l == 0) refl how is h
     where
-      clear_alone : (how : Patience) → (word_at w l == 0) ≡ true → place_at w t ≡ RwLock l a (writer how) → x ≡ outcome.End (entered how) → (1 ≤ readers (lock_state w l) → SleepsAside how t x (lock_state v2 l)) → EntersAlone (word_at w l ≡ 0) (locks_of w) t l Exclusive how x (locks_of v2)
+      clear_alone : (how : Patience) → (word_at w l == 0) ≡ true → place_at w t ≡ RwLock l a (writer how) → x ≡ outcome.End (entered how) → (1 ≤ readers (lock_state w l) → WaitsForReaders how t x (lock_state v2 l)) → EntersAlone (word_at w l ≡ 0) (locks_of w) t l Exclusive how x (locks_of v2)
       clear_alone how e is h aside = record {
         owns = λ may. enters_owns access.Exclusive how at.First is h;
         pends = λ f may some. aside some;
+        refused = λ sort f try unclear. absurd (unclear (eqb-true (word_at w l) 0 e));
         full = λ full. absurd (full.0 refl);
         barred = λ b. absurd (clear_free e b);
       }
@@ -264,19 +266,22 @@ module _ (w : State) (t l : ℕ) (a : Admission) (steady : IsSteady w) (admits :
       by_word true e how is h = clear_alone how e is h (λ some. none_reads e some)
       by_word false e Try is h = record {
         owns = λ may. absurd (let f : (0 == 0) ≡ false = rw (may.1 admits.0) at e in cc);
-        pends = λ f may some. tt;
+        pends = λ f may some. h;
+        refused = λ sort f try unclear. h;
         full = λ full. absurd (full.0 refl);
         barred = λ b. h;
       }
       by_word false e Patient is h = record {
         owns = λ may. enters_owns access.Exclusive Patient at.First is (settles_alone Patient h may.0 (may.1 admits.0));
         pends = λ f may some. settles_aside Patient h may some;
+        refused = λ sort f try. absurd cc;
         full = λ full. absurd (full.0 refl);
         barred = λ b. barred_by access.Exclusive Patient at.First (subst (λ d. Decides t l a d (writer Patient) (word_at w l) queues v2 x) (waits w l a steady admits access.Exclusive Patient b) h);
       }
       by_word false e Timed is h = record {
         owns = λ may. enters_owns access.Exclusive Timed at.First is (settles_alone Timed h may.0 (may.1 admits.0));
         pends = λ f may some. settles_aside Timed h may some;
+        refused = λ sort f try. absurd cc;
         full = λ full. absurd (full.0 refl);
         barred = λ b. barred_by access.Exclusive Timed at.First (subst (λ d. Decides t l a d (writer Timed) (word_at w l) queues v2 x) (waits w l a steady admits access.Exclusive Timed b) h);
       }

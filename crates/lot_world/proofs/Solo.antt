@@ -41,7 +41,7 @@ use Rattle.lot_steps.specs.Steps.{act_of, next_place, next_act, mutex_goes, mute
 use Rattle.lot_machine.specs.Machine.{State, place_at, word_at, kind_at, queue_at, section_at, go_of, after, solo, owners_handed_over, is_there}
 use Rattle.lot_machine.specs.Fits.{IsShaped, PlaceFits}
 use Rattle.lot_world.specs.MutexPromises.{IsMutexWord}
-use Rattle.abstract_locks.specs.Sites.{Line, Main, Second, Site}
+use Rattle.abstract_locks.specs.Sites.{Line, Main, Second, Site, has_readers}
 use Rattle.lot_world.specs.MutexDeeds.{acts, takes, queued}
 use Rattle.lot_world.specs.Stations.{station, station_at, Station, hand}
 use Rattle.lot_world.specs.SitesOf.{IsSteady, key_of, FitsItsLock, is_mutex, Goes, hand_at}
@@ -459,6 +459,9 @@ module _ (w : State) (t : ℕ) (shape : IsShaped w) (steady : IsSteady w) (there
     unshared : {A : Type 0} → Exclusive ≡ Exclusive → MayEnter (rules_at (locks_of w) l) (lock_state w l) Exclusive → 1 ≤ readers (lock_state w l) → A
     unshared e may some = absurd (let none : readers (lock_state w l) ≡ 0 = mutex_unshared w l steady rules in omega arith)
 
+    no_sharers : {A : Type 0} → has_readers (rules_at (locks_of w) l).sort ≡ true → A
+    no_sharers shared = absurd (let f : has_readers mutex.sort ≡ true = subst (λ (r : Rules). has_readers r.sort ≡ true) rules shared in cc)
+
     unfilled : {A : Type 0} → IsFull (locks_of w) l Exclusive → A
     unfilled h = absurd (h.0 refl)
 
@@ -468,17 +471,17 @@ module _ (w : State) (t : ℕ) (shape : IsShaped w) (steady : IsSteady w) (there
     patience_of entry = Patient
 
     lock_alone : (entry : Entry) (o : Option ℕ) → owner_at w l ≡ o → LockEnds t l entry o (queue_at w (2 * l)) v x → EntersAlone (word_at w l ≡ 0) (locks_of w) t l Exclusive (patience_of entry) x (locks_of v)
-    lock_alone entries.LockTimed None e h = record { owns = λ may. h; pends = unshared; full = unfilled; barred = λ b. absurd (blocked_owned b e) }
-    lock_alone entries.Lock None e h = record { owns = λ may. h; pends = unshared; full = unfilled; barred = λ b. absurd (blocked_owned b e) }
-    lock_alone entries.Bump None e h = record { owns = λ may. h; pends = unshared; full = unfilled; barred = λ b. absurd (blocked_owned b e) }
-    lock_alone entries.LockTimed (Some u) e h = record { owns = λ may. absurd (let g : Some u ≡ None = sym e ∙ may_own may.0 in cc); pends = unshared; full = unfilled; barred = λ b. (h.0, ap (map queued_of) h.2 ∙ queued_behind (2 * l) t Exclusive (queue_at w (2 * l))) }
-    lock_alone entries.Lock (Some u) e h = record { owns = λ may. absurd (let g : Some u ≡ None = sym e ∙ may_own may.0 in cc); pends = unshared; full = unfilled; barred = λ b. (h.0, ap (map queued_of) h.2 ∙ queued_behind (2 * l) t Exclusive (queue_at w (2 * l))) }
-    lock_alone entries.Bump (Some u) e h = record { owns = λ may. absurd (let g : Some u ≡ None = sym e ∙ may_own may.0 in cc); pends = unshared; full = unfilled; barred = λ b. (h.0, ap (map queued_of) h.2 ∙ queued_behind (2 * l) t Exclusive (queue_at w (2 * l))) }
+    lock_alone entries.LockTimed None e h = record { owns = λ may. h; pends = unshared; refused = λ shared. no_sharers shared; full = unfilled; barred = λ b. absurd (blocked_owned b e) }
+    lock_alone entries.Lock None e h = record { owns = λ may. h; pends = unshared; refused = λ shared. no_sharers shared; full = unfilled; barred = λ b. absurd (blocked_owned b e) }
+    lock_alone entries.Bump None e h = record { owns = λ may. h; pends = unshared; refused = λ shared. no_sharers shared; full = unfilled; barred = λ b. absurd (blocked_owned b e) }
+    lock_alone entries.LockTimed (Some u) e h = record { owns = λ may. absurd (let g : Some u ≡ None = sym e ∙ may_own may.0 in cc); pends = unshared; refused = λ shared. no_sharers shared; full = unfilled; barred = λ b. (h.0, ap (map queued_of) h.2 ∙ queued_behind (2 * l) t Exclusive (queue_at w (2 * l))) }
+    lock_alone entries.Lock (Some u) e h = record { owns = λ may. absurd (let g : Some u ≡ None = sym e ∙ may_own may.0 in cc); pends = unshared; refused = λ shared. no_sharers shared; full = unfilled; barred = λ b. (h.0, ap (map queued_of) h.2 ∙ queued_behind (2 * l) t Exclusive (queue_at w (2 * l))) }
+    lock_alone entries.Bump (Some u) e h = record { owns = λ may. absurd (let g : Some u ≡ None = sym e ∙ may_own may.0 in cc); pends = unshared; refused = λ shared. no_sharers shared; full = unfilled; barred = λ b. (h.0, ap (map queued_of) h.2 ∙ queued_behind (2 * l) t Exclusive (queue_at w (2 * l))) }
 
     try_alone : (b : Bool) → is_locked (word_at w l) ≡ b → (x ≡ (if b then outcome.TheVariants.End answer.TheVariants.No else outcome.TheVariants.End answer.TheVariants.Yes)) × (owner_at v l ≡ (if b then owner_at w l else Some t))
         → EntersAlone (word_at w l ≡ 0) (locks_of w) t l Exclusive Try x (locks_of v)
-    try_alone true e h = record { owns = λ may. absurd (owned_word (word_at w l) (owner_at w l) (words_coded w steady l rules) e (may_own may.0)); pends = unshared; full = unfilled; barred = λ b. h.0 }
-    try_alone false e h = record { owns = λ may. h; pends = unshared; full = unfilled; barred = λ b. absurd (blocked_owned b (free_word (word_at w l) (owner_at w l) (words_coded w steady l rules) e)) }
+    try_alone true e h = record { owns = λ may. absurd (owned_word (word_at w l) (owner_at w l) (words_coded w steady l rules) e (may_own may.0)); pends = unshared; refused = λ shared. no_sharers shared; full = unfilled; barred = λ b. h.0 }
+    try_alone false e h = record { owns = λ may. h; pends = unshared; refused = λ shared. no_sharers shared; full = unfilled; barred = λ b. absurd (blocked_owned b (free_word (word_at w l) (owner_at w l) (words_coded w steady l rules) e)) }
 
     unlock_alone : UnlockEnds l None v x → EndsAlone w t (Some (Releases l Exclusive false)) x v
     unlock_alone h = (h.0, (λ own. let g : None ≡ Some t = sym h.1 ∙ own in cc), λ mutex. h.1)

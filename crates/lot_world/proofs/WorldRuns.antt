@@ -3,7 +3,8 @@ use Rattle.std.proofs.Common.{ℕ, zero, suc, ◌≡◌, ◌≤◌, List, [], �
 use Rattle.lot_calls.specs.declared.calls.Step.{Step}
 use Rattle.lot_calls.specs.declared.outcomes.Outcome.{Outcome}
 use Rattle.lot_calls.specs.declared.outcomes.Outcome as outcome
-use Rattle.abstract_locks.specs.Runs.{IsRun}
+use Rattle.abstract_locks.specs.Runs.{IsRun, LocksState}
+use Rattle.abstract_locks.specs.UserLaws.{OfEachStep}
 use Rattle.lot_machine.specs.Machine.{State, after, step_outcome, after_steps, step_outcomes, alone_after, go_of, solo}
 use Rattle.lot_machine.specs.Fits.{IsShaped}
 use Rattle.lot_world.specs.Refinement.{locks_of}
@@ -14,7 +15,7 @@ use Rattle.lot_world.proofs.Fair.{is_fair}
 use Rattle.lot_world.proofs.LockSteps.{after_step}
 use Rattle.lot_world.proofs.OneThing.{one_thing, touches}
 use Rattle.lot_world.specs.SitesOf.{IsSteady}
-use Rattle.lot_world.proofs.Promises.{kept_after}
+use Rattle.lot_world.proofs.Promises.{kept, kept_after}
 use Rattle.lot_machine.proofs.Shape.{after_shaped}
 use Rattle.lot_world.proofs.TurnsKept.{after_steady}
 
@@ -41,6 +42,10 @@ world_step w s h = record {
   fair = is_fair w s h.shaped h.steady;
   kept = kept_after w s h.shaped h.steady;
 }
+
+-- what holds of each step of the abstract locks holds of each step of the world
+pub of_step : {law : LocksState → LocksState → Type 0} → OfEachStep law → (w : State) (s : Step) → Holds w → law (locks_of w) (locks_of (after w s))
+of_step each w s h = each (locks_of w) (locks_of (after w s)) s (step_outcome w s) (kept w h.steady).state (after_step w s h.shaped h.steady)
 
 pub world_run : (w : State) (ss : List Step) → Holds w → IsWorldRun w ss (step_outcomes w ss) (after_steps w ss)
 world_run w [] h = refl

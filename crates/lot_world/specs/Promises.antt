@@ -1,6 +1,6 @@
 -- What is promised of every state, before and after each step, under every schedule. Each clause is told by the sort of lock, so that it
 -- stays as it is for sorts that have no call yet.
-use Rattle.std.specs.Prelude.{ℕ, Bool, false, true, None, Option, ◌≡◌, ◌≢◌, ◌<◌, ◌≤◌, ◌⊎◌, ◌↔◌, Some, ◌*◌}
+use Rattle.std.specs.Prelude.{ℕ, Bool, false, true, None, Option, ◌≡◌, ◌≢◌, ◌<◌, ◌≤◌, ◌⊎◌, ◌↔◌, Some, ◌*◌, ◌+◌}
 use Rattle.lot_base.specs.declared.keys.Keys.TheVariants.{One}
 use Rattle.lot_base.specs.declared.wants.Want.{Want}
 use Rattle.lot_base.specs.declared.wants.Want.TheVariants.{Exclusive, Upgradable}
@@ -9,7 +9,7 @@ use Rattle.lot_acts.specs.declared.acts.Wakes as wakes
 use Rattle.lot_base.specs.declared.notes.Note.TheVariants.{HandOff}
 use Rattle.lot_steps.specs.Steps.{act_of, taker, retries_on}
 use Rattle.lot_machine.specs.Machine.{State, place_at, word_at, filled_at, section_at}
-use Rattle.abstract_locks.specs.Locks.{LockState, Sort, Semaphore, Rules, Knows, times, standing, readers, Owns}
+use Rattle.abstract_locks.specs.Locks.{LockState, Sort, Recursive, Semaphore, Rules, Knows, times, standing, readers, count, Owns}
 use Rattle.abstract_locks.specs.Codes.{word_by, parked_in, aside_in}
 use Rattle.abstract_locks.specs.Runs.{AreLockStates}
 use Rattle.abstract_locks.specs.Sites.{Line, Main, Second, IsOpen, counts_some, has_readers}
@@ -113,6 +113,10 @@ pub record IsHandedOver (w : State) (t : ℕ) : Type 0 where
   pub in_hand : taker (place_at w t) ≡ Some by
   pub wakes : act_of (place_at w by) ≡ Leave (One (2 * lock)) (wakes.TheVariants.All HandOff)
 
+-- as many share as the limit allows; on a recursive lock one more, where an upgrade gave up beside a reader that came back
+abbrev pub IsWithinLimit : Rules → LockState → Type 0
+IsWithinLimit r s = (count s ≤ r.limit) ⊎ ((r.sort ≡ Recursive) × (count s ≡ r.limit + 1))
+
 pub record IsKept (w : State) : Type 0 where
   -- owners exclude each other, and a thread stands at most once in the queue of a lock, aside of it or taken from it
   pub state : AreLockStates (locks_of w)
@@ -123,6 +127,7 @@ pub record IsKept (w : State) : Type 0 where
   -- and each call is for rights that its lock knows
   pub known : (t : ℕ) → KnowsRights (sort_at w) (call_at w t).purpose
   pub coded : (l : ℕ) → IsCoded w l
+  pub limited : (l : ℕ) → has_readers (sort_at w l) ≡ true → IsWithinLimit (rules_in w l) (lock_state w l)
   pub nobody_forgotten : NobodyForgotten w
   -- who is shown to owe a wake on a line is inside its section, or lets others in and is on its way into it
   pub owing : (t l : ℕ) (m : Line) → Owes w t l m ↔ (IsInside w t l m ⊎ GoesToWake w t l m)

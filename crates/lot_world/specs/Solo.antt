@@ -54,10 +54,10 @@ MayEnterAtOnce clear r s x how = MayEnter r s x
 abbrev pub SleepsLast : LockState → ℕ → Want → Outcome → LockState → Type 0
 SleepsLast s t x o s2 = (o ≡ outcome.TheVariants.Sleep) × (s2.queue ≡ s.queue ++ (record { thread = t; want = x }) ∷ [])
 
--- it sleeps aside of the queue, where a pending writer waits for readers; a try doesn't wait
-abbrev pub SleepsAside : Patience → ℕ → Outcome → LockState → Type 0
-SleepsAside Try t o s2 = Unit {0}
-SleepsAside how t o s2 = (o ≡ outcome.TheVariants.Sleep) × (s2.aside ≡ Some t)
+-- beside readers a writer sleeps aside of the queue, where it waits for them, and a try ends
+abbrev pub WaitsForReaders : Patience → ℕ → Outcome → LockState → Type 0
+WaitsForReaders Try t o s2 = o ≡ outcome.TheVariants.End answer.TheVariants.No
+WaitsForReaders how t o s2 = (o ≡ outcome.TheVariants.Sleep) × (s2.aside ≡ Some t)
 
 -- where its way is barred a try ends, and any other call waits
 abbrev pub WaitsAlone : Patience → LockState → ℕ → Want → Outcome → LockState → Type 0
@@ -68,18 +68,15 @@ WaitsAlone how s t x o s2 = SleepsLast s t x o s2
 pub record EntersAlone (clear : Type 0) (w : LocksState) (t l : ℕ) (x : Want) (how : Patience) (o : Outcome) (v : LocksState) : Type 0 where
   pub owns : MayEnterAtOnce clear (rules_at w l) (w.locks l) x how
       → (o ≡ outcome.TheVariants.End (entered_answer how)) × Owns (v.locks l) t x
-  pub pends : x ≡ Exclusive → MayEnter (rules_at w l) (w.locks l) x → 1 ≤ readers (w.locks l) → SleepsAside how t o (v.locks l)
+  pub pends : x ≡ Exclusive → MayEnter (rules_at w l) (w.locks l) x → 1 ≤ readers (w.locks l) → WaitsForReaders how t o (v.locks l)
+  -- a writer's try at a lock that is shared fails wherever the word isn't clear
+  pub refused : has_readers (rules_at w l).sort ≡ true → x ≡ Exclusive → how ≡ Try → (clear → ⊥) → o ≡ outcome.TheVariants.End answer.TheVariants.No
   pub full : IsFull w l x → o ≡ outcome.TheVariants.End answer.TheVariants.ReadersFull
   pub barred : IsBlocked (rules_at w l) (w.locks l) x → WaitsAlone how (w.locks l) t x o (v.locks l)
 
 -- a right turned into a lesser one
 abbrev pub DowngradesAlone : ℕ → Want → Outcome → LockState → Type 0
 DowngradesAlone t y o s2 = (o ≡ outcome.TheVariants.End answer.TheVariants.Ok) × Owns s2 t y
-
--- beside readers an upgrade waits for them, and a try ends
-abbrev pub WaitsForReaders : Patience → ℕ → Outcome → LockState → Type 0
-WaitsForReaders Try t o s2 = o ≡ outcome.TheVariants.End answer.TheVariants.No
-WaitsForReaders how t o s2 = SleepsAside how t o s2
 
 -- what a call comes to that turns its right into another
 abbrev pub ConvertsAlone : LockState → ℕ → Want → Patience → Outcome → LockState → Type 0

@@ -6,6 +6,7 @@ ghost use Rattle.lot_steps.specs.Steps.{first_place};
 ghost use Rattle.lot_machine.specs.Machine.{opening, place_at, word_at, kind_at, queue_at, after, step_outcome, after_steps, step_outcomes, solo};
 ghost use Rattle.lot_machine.specs.Fits.{SameSize};
 ghost use Rattle.abstract_locks.specs.Runs.{IsOpening, IsStep, IsRun, purpose_at};
+ghost use Rattle.abstract_locks.specs.UserLaws.{ReadersStayOut, RereadersPass, UpgradesLetNobodyWrite, DowngradesOwn};
 ghost use Rattle.lot_world.specs.Refinement.{locks_of, ChangesOneThing};
 ghost use Rattle.lot_world.specs.Promises.{IsKept};
 ghost use Rattle.lot_world.specs.Fair.{IsFair};
@@ -83,8 +84,19 @@ impl<Q: Queues + Drop> World<Q> {
         // A fair release lets its mutex go only where nobody waits, and else the first waiter owns it in its place.
         ensures fair { IsFair self.old self.new }
 
-        // Words are coded, and whoever waits for a mutex without owner has a thread that owes its wake or tries again.
+        // Words are coded, counts keep to the limit, and whoever waits for a lock whose way nobody bars has a thread that owes its wake or
+        // tries again.
         ensures kept { IsKept self.new }
+
+        // While a writer is pending on a lock that isn't recursive, nobody begins to share it.
+        ensures readers_stay_out { ReadersStayOut (locks_of self.old) (locks_of self.new) }
+
+        // Who shares a recursive lock isn't queued to share it once more.
+        ensures rereaders_pass { RereadersPass (locks_of self.old) (locks_of self.new) }
+
+        // From the upgradable right to the exclusive one, an upgrade lets no other writer in, and a downgrade owns throughout.
+        ensures upgrades_let_nobody_write { UpgradesLetNobodyWrite (locks_of self.old) (locks_of self.new) }
+        ensures downgrades_own { DowngradesOwn (locks_of self.old) (locks_of self.new) }
 
         // A thread owes a wake since the step that saw waiters, or since it entered the section, until it leaves it.
         ensures owing { OwesSince self.old step.thread result self.new }

@@ -5,7 +5,8 @@ use Rattle.lot_world.proofs.OneThing.{one_thing, touches}
 use Rattle.lot_world.proofs.Promises.{kept_after}
 use Rattle.lot_world.proofs.Fair.{is_fair}
 use Rattle.lot_world.proofs.Owing.{owes_since}
-use Rattle.lot_world.proofs.WorldRuns.{holds_of}
+use Rattle.lot_world.proofs.WorldRuns.{holds_of, of_step}
+use Rattle.abstract_locks.proofs.UserLaws.{readers_stay_out, rereaders_pass, upgrades_hold, downgrades_hold}
 use Rattle.lot_world.proofs.world.World.step.Goals as goal
 
 pub invariant_of-self : goal.invariant_of-self
@@ -43,3 +44,23 @@ pub returns-clause-owing : goal.returns-clause-owing
 returns-clause-owing g c =
     let before = holds_of c.self.inside.machine c.self.invariant.0 c.self.invariant.1 in
     rw (c.turn.ensures.outcome, c.turn.ensures.state, ← c.self.view_is) (owes_since c.self.inside.machine c.args.step before.shaped before.steady)
+
+pub returns-clause-readers_stay_out : goal.returns-clause-readers_stay_out
+returns-clause-readers_stay_out g c =
+    let before = holds_of c.self.inside.machine c.self.invariant.0 c.self.invariant.1 in
+    rw (c.turn.ensures.state, ← c.self.view_is) (of_step readers_stay_out c.self.inside.machine c.args.step before)
+
+pub returns-clause-rereaders_pass : goal.returns-clause-rereaders_pass
+returns-clause-rereaders_pass g c =
+    let before = holds_of c.self.inside.machine c.self.invariant.0 c.self.invariant.1 in
+    rw (c.turn.ensures.state, ← c.self.view_is) (of_step rereaders_pass c.self.inside.machine c.args.step before)
+
+pub returns-clause-upgrades_let_nobody_write : goal.returns-clause-upgrades_let_nobody_write
+returns-clause-upgrades_let_nobody_write g c =
+    let before = holds_of c.self.inside.machine c.self.invariant.0 c.self.invariant.1 in
+    rw (c.turn.ensures.state, ← c.self.view_is) (of_step upgrades_hold c.self.inside.machine c.args.step before)
+
+pub returns-clause-downgrades_own : goal.returns-clause-downgrades_own
+returns-clause-downgrades_own g c =
+    let before = holds_of c.self.inside.machine c.self.invariant.0 c.self.invariant.1 in
+    rw (c.turn.ensures.state, ← c.self.view_is) (of_step downgrades_hold c.self.inside.machine c.args.step before)
