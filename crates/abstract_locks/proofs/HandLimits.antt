@@ -4,7 +4,7 @@ use Rattle.std.specs.Prelude.{sum}
 use Rattle.std.proofs.lemmas.List.Sums.{sum_by-cons}
 use Rattle.lot_base.specs.declared.wants.Want.{Want}
 use Rattle.lot_base.specs.declared.wants.Want.TheVariants.{Exclusive, Upgradable, Shared}
-use Rattle.abstract_locks.specs.Locks.{LockState, Queued, Taken, Pending, Rules, HandOff, Needs, IsLockState, IsSuccessor, Owns, count, readers, handed, sharing_from, sharing_handed, shares_handed, wants_shared, with_owner, with_successor, without_owner, pending_for, succeeding}
+use Rattle.abstract_locks.specs.Locks.{LockState, Queued, Taken, Pending, Rules, HandOff, Needs, IsLockState, IsSuccessor, count, readers, handed, sharing_from, sharing_handed, shares_handed, wants_shared, with_owner, with_successor, without_owner, pending_for, succeeding}
 use Rattle.abstract_locks.specs.Codes.{HasLimit}
 
 pub sum_cons : (x : ℕ) (xs : List ℕ) → sum (x ∷ xs) ≡ x + sum xs

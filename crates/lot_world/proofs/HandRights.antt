@@ -5,7 +5,7 @@ use Rattle.std.proofs.lemmas.Bool.{cases_lt, eqb-true}
 use Rattle.std.proofs.lemmas.Bool.Decides.{nat_tests}
 use Rattle.lot_base.specs.declared.wants.Want.{Want}
 use Rattle.lot_base.specs.declared.wants.Want.TheVariants.{Exclusive, Upgradable, Shared, Wait, CallOnce}
-use Rattle.abstract_locks.specs.Locks.{LockState, Pending, Queued, Taken, Rights, Rules, HandOff, IsLockState, IsTaken, Knows, Needs, Owns, handed, is_pending, is_thread, pending_for, readers, rights_of, shares_handed, sharing_from, sharing_handed, succeeding, wants_shared, with_owner, with_right, with_successor, without_owner}
+use Rattle.abstract_locks.specs.Locks.{LockState, Pending, Queued, Taken, Rights, Rules, HandOff, IsLockState, IsTaken, Needs, Owns, handed, is_pending, is_thread, pending_for, readers, rights_of, shares_handed, sharing_from, sharing_handed, succeeding, wants_shared, with_owner, with_right, with_successor, without_owner}
 
 -- one right more of what was wanted: a writer beside readers is pending
 abbrev pub given_right : Bool → Want → Rights → Rights
@@ -172,7 +172,7 @@ module _ (r : Rules) (s : LockState) (t : ℕ) (right : Want) (successor : Optio
   -- and the giver has one less
   pub giver_has : s.taken t ≡ None → with_right right (rights_of (handed t right successor s) t) ≡ rights_of s t
   giver_has awake = ap (with_right right) (succeeds_else t (λ q e f. let g : s.taken t ≡ Some (record { by = t; want = q.want }) = subst (λ k. IsTaken s t k q.want) (sym f) ((needs.2 q.thread q.want).0 e).0 in let h : ◌≡◌ {A = Option Taken} None (Some (record { by = t; want = q.want })) = sym awake ∙ g in cc)
-          ∙ all_have t ∙ ap only_shares (shares_same t s.taken t s.shared (ap (shares_handed t) awake))) ∙ by_right right needs.0 needs.1
+      ∙ all_have t ∙ ap only_shares (shares_same t s.taken t s.shared (ap (shares_handed t) awake))) ∙ by_right right needs.0 needs.1
     where
       by_right : (x : Want) → Owns s t x → x ≢ Shared → with_right x (only_shares (slice_index s.shared t)) ≡ rights_of s t
       by_right Exclusive own more = let alone = state.exclusive_alone t own in λ i. record { exclusive = (sym (own_one t) ∙ ap (is_thread t) (sym own)) i; pending = sym (nobody_pends t s.pending alone.0) i; upgradable = sym (nobody_is t s.upgradable alone.1) i; shared = slice_index s.shared t }

@@ -1,5 +1,5 @@
 -- A right is handed over to many at once: it is one case of the lock, and the calls of all who were handed it go on with what they wanted.
-use Rattle.std.proofs.Common.{ℕ, zero, suc, Bool, true, false, Option, Some, None, if◌then◌else◌, ◌==◌, ◌≡◌, ◌≢◌, ◌<◌, ◌≤◌, List, [], ◌∷◌, ◌++◌, length, inl, inr, refl, sym, ◌∙◌, ap, subst, arith}
+use Rattle.std.proofs.Common.{ℕ, zero, suc, Bool, true, false, Option, Some, None, if◌then◌else◌, ◌==◌, ◌≡◌, ◌<◌, List, [], ◌∷◌, ◌++◌, length, inl, inr, refl, sym, ◌∙◌, ap, arith}
 use Rattle.std.proofs.lemmas.Bool.{cases_lt, eqb-true}
 use Rattle.lot_base.specs.declared.wants.Want.{Want}
 use Rattle.lot_acts.specs.Moves.{claim_handed}
@@ -8,7 +8,7 @@ use Rattle.lot_acts.specs.declared.acts.Reply.TheVariants.{HandedBy}
 use Rattle.lot_steps.specs.declared.places.Place.{Place}
 use Rattle.lot_steps.specs.declared.places.Place.TheVariants.{Idle}
 use Rattle.lot_steps.specs.Steps.{next_place}
-use Rattle.abstract_locks.specs.Locks.{LockState, Queued, Rights, Taken, HandOff, IsTaken, handed, putting, readers, rights_of}
+use Rattle.abstract_locks.specs.Locks.{Queued, Rights, Taken, HandOff, IsTaken, handed, putting, readers, rights_of}
 use Rattle.abstract_locks.specs.Runs.{AtLock, is_taken_by}
 use Rattle.lot_machine.specs.Machine.{State, place_at}
 use Rattle.lot_world.specs.Refinement.{call_state, lock_state, taken_at}
@@ -62,7 +62,7 @@ module _ (w v : State) (t l : ℕ) (right : Want) (successor : Option Queued) (h
     where
       handed_call : (x : Want) → IsTaken (lock_state w l) t u x → call_state (next_place (place_at w u) (HandedBy t alone)) (rights v u) ≡ record (call_state (place_at w u) (rights w u)) { retries = None }
       handed_call x is = ap (call_state (next_place (place_at w u) (HandedBy t alone)))
-            (λ i k. led_to u _ (handed_have (rules_in w l) (lock_state w l) t right successor (h.before.sites.site l).state h.needs u x ne (in_world u x is) is ∙ ap (λ b. given_right b x (rights w u l)) (sym unshared)) k i)
+          (λ i k. led_to u _ (handed_have (rules_in w l) (lock_state w l) t right successor (h.before.sites.site l).state h.needs u x ne (in_world u x is) is ∙ ap (λ b. given_right b x (rights w u l)) (sym unshared)) k i)
           ∙ calls u x is (rights w u)
 
       other_call : ((x : Want) → IsTaken (lock_state w l) t u x → ⊥) → call_state (place_at w u) (rights v u) ≡ call_state (place_at w u) (rights w u)

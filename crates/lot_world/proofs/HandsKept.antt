@@ -1,6 +1,6 @@
 -- A thread hands its right over to all whom it has in hand, one or many, each by its want: every lock is a site again. No place is named: the laws of its
 -- sort of lock say that its deeds may be done, what it does then, and where those in its hand go.
-use Rattle.std.proofs.Common.{ℕ, zero, suc, Bool, true, false, Option, Some, None, if◌then◌else◌, ◌==◌, ◌&&◌, ◌||◌, ◌≡◌, ◌≢◌, ◌+◌, ◌-◌, ◌*◌, ◌%◌, ◌^◌, ◌≤◌, ◌<◌, ◌⊎◌, replicate, List, [], ◌∷◌, ◌++◌, length, get_or, set, map, not, inl, inr, refl, sym, ◌∙◌, ap, subst, arith, length-set, get_or-set_same, get_or-set_other}
+use Rattle.std.proofs.Common.{ℕ, zero, suc, Bool, true, false, Option, Some, None, if◌then◌else◌, ◌==◌, ◌&&◌, ◌||◌, ◌≡◌, ◌≢◌, ◌+◌, ◌-◌, ◌*◌, ◌%◌, ◌^◌, ◌≤◌, ◌<◌, ◌⊎◌, replicate, List, [], ◌∷◌, ◌++◌, length, get_or, set, map, inl, inr, refl, sym, ◌∙◌, ap, subst, arith, length-set, get_or-set_same, get_or-set_other}
 use Rattle.std.specs.Prelude.{sum}
 use Rattle.std.proofs.lemmas.Bool.{cases_eq, cases_lt, eqb-true}
 use Rattle.std.proofs.lemmas.Bool.Decides.{nat_tests}
@@ -13,7 +13,7 @@ use Rattle.lot_base.specs.Words.{apply}
 use Rattle.lot_calls.specs.declared.kinds.Kind as kind
 use Rattle.lot_acts.specs.declared.owners.Owners.{Owners}
 use Rattle.lot_acts.specs.declared.acts.Reply.TheVariants.{HandedBy}
-use Rattle.lot_acts.specs.Moves.{heir_of, claim_handed, bit_left}
+use Rattle.lot_acts.specs.Moves.{claim_handed, bit_left}
 use Rattle.lot_acts.specs.Owners.{is_thread, lock_seen, with_exclusive}
 use Rattle.lot_acts.specs.Profiles.{hand, Hand, Of, in_hand as in_hand_if, taken_from}
 use Rattle.lot_steps.specs.declared.places.Place.{Place}
@@ -21,7 +21,7 @@ use Rattle.lot_steps.specs.declared.places.Place.TheVariants.{Idle}
 use Rattle.lot_steps.specs.Steps.{calls, is_lock, lock_of, next_place, owners_after, profile, taker, wants}
 use Rattle.abstract_locks.specs.Locks.{LockState, Queued, Taken, Rules, Sort, Mutex, Normal, Recursive, Semaphore, HandOff, IsSuccessor, Knows, IsLockState, keep_from, let_go, putting, sharing_from, sharing_handed, shares_handed, succeeding, wants_shared, with_owner, with_successor, without_owner, handed, readers}
 use Rattle.abstract_locks.specs.Locks as locks
-use Rattle.abstract_locks.specs.Sites.{Doing, Site, IsSite, Deed, Has, Begin, Case, Clear, Main, Mark, Holds, has_readers, is_full, after_deed}
+use Rattle.abstract_locks.specs.Sites.{Doing, Site, IsSite, Deed, Has, Begin, Case, Holds, has_readers, is_full, after_deed}
 use Rattle.abstract_locks.specs.Codes.{code, code_of, fills, has_aside, has_parked, HasLimit, TellsTrue}
 use Rattle.abstract_locks.specs.Deeds as laws
 use Rattle.abstract_locks.proofs.CodeLaws.{words_tell_true}
@@ -36,7 +36,7 @@ use Rattle.lot_world.specs.MutexDeeds.{acts}
 use Rattle.lot_world.specs.MutexDeeds as deeds
 use Rattle.lot_world.specs.Stations.{Station, station, station_at, nowhere, doing_on}
 use Rattle.lot_world.specs.SitesOf.{ActsNeeded, HasRoom, IsSteady, Goes, Hands, TakesOne, FitsItsLock, after_acts, rules_in, carried_at, hand_at}
-use Rattle.lot_world.proofs.Glue.{Parts, parts_at, lock_in, seen_in, same, put_here, put_other, put_same, IsLock, IsOf, calls_none, next_of, doing_here, station_here, untaken, held_taker, thread_is, past_all}
+use Rattle.lot_world.proofs.Glue.{Parts, parts_at, lock_in, seen_in, same, put_here, put_other, put_same, IsLock, IsOf, calls_none, station_here, untaken, held_taker, thread_is, past_all}
 use Rattle.lot_world.proofs.KindsKept.{given_kinds}
 use Rattle.lot_world.proofs.OneStep.{AreQuiet, AreSingle, acts_keep, full_then, fills_by, others_same}
 use Rattle.lot_world.proofs.ActsKept.{Moves, lock_by, site_by, follows_by}

@@ -18,6 +18,8 @@ pub mod TakesKept
 pub mod PicksKept
 pub mod AnyPicked
 pub mod MovesKept
+pub mod HandsMoved
+pub mod InHand
 pub mod SitesKept
 pub mod RwLockKept
 pub mod SectionsKept

@@ -12,7 +12,7 @@ use Rattle.abstract_locks.specs.Locks.{putting}
 use Rattle.lot_machine.specs.Machine.{State, place_at, put, state_after_telling, place_after_telling}
 use Rattle.lot_world.specs.Stations.{Station, Hand, hand, station, station_at, nowhere}
 use Rattle.lot_world.specs.SitesOf.{IsSteady, FitsItsLock, carried_at, hand_at}
-use Rattle.lot_world.proofs.Glue.{same, differ, put_places, put_here, put_other, IsOf, next_of, doing_elsewhere, taken_elsewhere, station_here, station_elsewhere, nothing_at, untaken, IsHeldBy, held_taker, held_where}
+use Rattle.lot_world.proofs.Glue.{same, differ, put_places, put_here, put_other, IsOf, next_of, doing_elsewhere, taken_elsewhere, station_here, station_elsewhere, nothing_at, IsHeldBy, held_taker, held_where}
 use Rattle.lot_world.proofs.ActsKept.{AlikeAt}
 
 -- where a thread goes that t had in hand, and in whose hand it is then, if in anybody's

@@ -1,26 +1,23 @@
 -- A thread leaves its section and lets go whomever it has in hand, one or many: every lock is a site again.
-use Rattle.std.proofs.Common.{ℕ, Bool, true, false, Option, Some, None, if◌then◌else◌, ◌==◌, ◌&&◌, ◌≡◌, ◌≢◌, ◌+◌, ◌*◌, ◌<◌, ◌⊎◌, replicate, List, [], ◌∷◌, length, get_or, map, inl, inr, refl, sym, ◌∙◌, ap, subst, arith, length-set, get_or-set_same, get_or-set_other}
+use Rattle.std.proofs.Common.{ℕ, Bool, true, false, Some, None, if◌then◌else◌, ◌==◌, ◌&&◌, ◌≡◌, ◌≢◌, ◌+◌, ◌*◌, ◌<◌, replicate, List, [], ◌∷◌, length, get_or, map, inl, inr, refl, sym, ◌∙◌, ap, subst, length-set, get_or-set_same, get_or-set_other}
 use Rattle.std.proofs.lemmas.Bool.{cases_eq}
 use Rattle.std.proofs.lemmas.List.{length-map}
-use Rattle.std.proofs.Math.ListN.{get_or-map}
 use Rattle.lot_base.specs.declared.keys.Keys.TheVariants.{One}
 use Rattle.lot_base.specs.declared.notes.Note.{Note}
 use Rattle.lot_steps.specs.declared.places.Place.{Place}
-use Rattle.lot_steps.specs.declared.places.Place.TheVariants.{Idle}
 use Rattle.lot_acts.specs.declared.acts.Reply.TheVariants.{Woken}
-use Rattle.lot_acts.specs.Owners.{is_thread}
-use Rattle.lot_steps.specs.Steps.{next_place, taker}
+use Rattle.lot_steps.specs.Steps.{next_place}
 use Rattle.abstract_locks.specs.Locks.{Rules, putting, keep_from}
 use Rattle.abstract_locks.specs.Sites.{Deed, Line, End, Out, idle, wakened, leaves}
 use Rattle.lot_machine.specs.Machine.{State, place_at, filled_at, section_at, queue_at, put, state_with_sections, state_after_telling, place_after_telling}
 use Rattle.lot_world.specs.Refinement.{taken_at}
 use Rattle.lot_world.specs.MutexDeeds.{acts}
-use Rattle.lot_world.specs.Stations.{Station, Hand, hand, station, station_at, nowhere, doing_on}
+use Rattle.lot_world.specs.Stations.{Station, hand, station, station_at, nowhere, doing_on}
 use Rattle.lot_world.specs.SitesOf.{ActsNeeded, TakesOne, Hands, IsSteady, Goes, FitsItsLock, after_acts, rules_in, key_of, carried_at, hand_at}
-use Rattle.lot_world.proofs.Glue.{Parts, parts_at, lock_in, seen_in, same, differ, put_places, put_here, put_other, IsOf, next_of, doing_elsewhere, taken_elsewhere, station_here, station_elsewhere, nothing_at, LetGo, stays, untaken, IsHeldBy, held_taker, held_where}
+use Rattle.lot_world.proofs.Glue.{Parts, parts_at, lock_in, seen_in, put_here, put_other, IsOf, station_here, LetGo, stays, untaken, held_taker}
 use Rattle.lot_world.proofs.ActsKept.{limited, follows_by, lock_by, word_by_lines}
 use Rattle.lot_world.proofs.OneStep.{AreOrdinary}
-use Rattle.lot_world.proofs.ToldKept.{IsTold, HeldHere, has, told, places_then, held_here, told_on, told_off, not_held, in_hand, carries, alike, calls_then, same_parts, all_parts, places_are}
+use Rattle.lot_world.proofs.ToldKept.{IsTold, has, told, places_then, held_here, told_on, told_off, not_held, in_hand, carries, alike, calls_then, same_parts, all_parts, places_are}
 use Rattle.lot_world.proofs.StandsKept.{left, lines_same, waits_same, hands_freed, calls_in}
 use Rattle.lot_world.proofs.StandsMoved.{stands_then, hands_in}
 

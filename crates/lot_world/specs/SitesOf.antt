@@ -7,7 +7,7 @@ use Rattle.lot_steps.specs.declared.places.Place.{Place}
 use Rattle.lot_steps.specs.declared.places.Place.TheVariants.{Idle, Mutex as OfMutex, RwLock as OfRwLock}
 use Rattle.lot_base.specs.declared.wants.Want.TheVariants.{Upgradable}
 use Rattle.abstract_locks.specs.Locks.{Rules, Knows}
-use Rattle.abstract_locks.specs.Sites.{Line, Main, Second, Site, IsSite, Deed, Case, has_readers, after_deed, Needed}
+use Rattle.abstract_locks.specs.Sites.{Line, Main, Second, Site, IsSite, has_readers, after_deed, Needed}
 use Rattle.abstract_locks.specs.Codes.{code, parked_in, aside_in, HasLimit}
 use Rattle.abstract_locks.specs.Purposes.{rules_of}
 use Rattle.lot_machine.specs.Machine.{State, place_at, word_at, shares_at, filled_at, kind_at, queue_at, section_at}
