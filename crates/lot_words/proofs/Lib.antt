@@ -8,6 +8,7 @@ pub mod PermitSteps
 pub mod MutexSteps
 pub mod RwLockSteps
 pub mod RwLockKinds
+pub mod RwLockOwning
 pub mod OnceSteps
 pub mod TiedSteps
 mod Alone

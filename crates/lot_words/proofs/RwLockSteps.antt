@@ -16,7 +16,7 @@ is_false : (b : Bool) → (b ≡ true → ⊥) → b ≡ false
 is_false true h = absurd (h refl)
 is_false false h = refl
 
-either_way : (b : Bool) → (b ≡ true) ⊎ (b ≡ false)
+pub either_way : (b : Bool) → (b ≡ true) ⊎ (b ≡ false)
 either_way true = inl refl
 either_way false = inr refl
 
@@ -102,7 +102,7 @@ module _ (at : ℕ) (owns : List Ownership) (op : Op) (n m : ℕ) (owners : Owne
   pub there : (o : Owner) (weight : Owner → ℕ) → weight o ≡ 1 → has (owning at o) owns ≡ true → 0 < owners weight
   there o weight one h = omega (arith, mine weight, owned_some at o owns h weight (omega arith))
 
-  absent : (o : Owner) (weight : Owner → ℕ) → weight o ≡ 1 → owners weight ≡ 0 → has (owning at o) owns ≡ false
+  pub absent : (o : Owner) (weight : Owner → ℕ) → weight o ≡ 1 → owners weight ≡ 0 → has (owning at o) owns ≡ false
   absent o weight one none = is_false (has (owning at o) owns) (λ h. absurd (omega (arith, there o weight one h)))
 
   -- the word keeps its quarters: who waits for the last readers may settle

@@ -17,7 +17,12 @@ use Rattle.lot_acts.specs.declared.acts.Act as act
 use Rattle.lot_words.specs.declared.owners.Ownership.{Ownership}
 use Rattle.lot_words.specs.declared.words.WordKind.{WordKind}
 use Rattle.parking_lot_core.specs.declared.tokens.SectionRecord.{SectionRecord}
-use Rattle.parking_lot.specs.Fitting.{Aim, nothing, of_mutex, aim_of, answer_of, Fits, IsOver, IsStopped}
+use Rattle.lot_rwlock.specs.declared.places.Admission.{Admission}
+use Rattle.lot_rwlock.specs.declared.purposes.RwLockPurpose.{RwLockPurpose}
+use Rattle.lot_rwlock.specs.declared.purposes.RwLockPurpose.TheVariants as purposes
+use Rattle.parking_lot.specs.RwLockFitting.{Answers}
+use Rattle.parking_lot.proofs.RwLockLeading.{rwlock_no_closure}
+use Rattle.parking_lot.specs.Fitting.{Aim, nothing, of_mutex, of_rwlock, aim_of, answer_of, Fits, IsOver, IsStopped}
 use Rattle.parking_lot.specs.MutexFitting.{Purpose, enters, releases, hands_over, FitsMutex, IsMutexOver}
 use Rattle.parking_lot.specs.Paths.{closure_of}
 use Rattle.parking_lot.specs.Stages.{Inside, Stage, ActNeeds, stage}
@@ -52,14 +57,22 @@ module _ (up : Type 0) (base owns : List Ownership) where
   mutex_outside n releases answer inside last h = h.1.1
   mutex_outside n hands_over answer inside last h = h.1.1
 
+  rwlock_ended : (l : ℕ) (a : Admission) (purpose : RwLockPurpose) (answer : Answer) (inside : Option Inside) (last : Option SectionRecord) → Answers up l base a purpose answer (stage owns inside last) → Answers up l base a purpose answer (stage owns None last)
+  rwlock_ended l a (purposes.Enter x how) answer inside last h = h
+  rwlock_ended l a (purposes.Release x) answer inside last h = h
+  rwlock_ended l a (purposes.Downgrade d) answer inside last h = h
+  rwlock_ended l a (purposes.Upgrade how) answer inside last h = h
+
   -- where a call ended, its thread is outside all sections
   pub ended : (aim : Aim) (answer : Answer) (inside : Option Inside) (last : Option SectionRecord) → IsOver up base aim answer (stage owns inside last) → IsOver up base aim answer (stage owns None last)
   ended nothing answer inside last h = absurd h
   ended (of_mutex n purpose) answer inside last h = mutex_ended n purpose answer inside last h
+  ended (of_rwlock l a purpose) answer inside last h = (refl, rwlock_ended l a purpose answer inside last h.1)
 
   pub outside : (aim : Aim) (answer : Answer) (inside : Option Inside) (last : Option SectionRecord) → IsOver up base aim answer (stage owns inside last) → inside ≡ None
   outside nothing answer inside last h = absurd h
   outside (of_mutex n purpose) answer inside last h = mutex_outside n purpose answer inside last h
+  outside (of_rwlock l a purpose) answer inside last h = h.0
 
 -- no call of a mutex runs a closure
 no_closure : (n : ℕ) (state : OnceState) (up : Type 0) (base : List Ownership) (at : MutexPlace) (st : Stage) → FitsMutex up n base at st → mutex_act n at ≡ act.TheVariants.Closure state → ⊥
@@ -87,5 +100,5 @@ no_closure n state up base at st f is = absurd f
 
 pub never_paused : (up : Type 0) (base : List Ownership) (n : ℕ) (purpose : Purpose) (p : Place) (state : OnceState) (st : Stage) → IsStopped up base (of_mutex n purpose) (Paused p state) st → ⊥
 never_paused up base n purpose Idle state st s = s.0
-never_paused up base n purpose (RwLock l a at) state st s = s.0
+never_paused up base n purpose (RwLock l a at) state st s = rwlock_no_closure up l a base at st state s.0 s.2
 never_paused up base n purpose (Mutex l at) state st s = no_closure l state up base at st s.0 s.2

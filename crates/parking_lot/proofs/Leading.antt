@@ -8,7 +8,10 @@ use Rattle.lot_base.specs.declared.ops.Op.TheVariants.{Load, And, Exchange}
 use Rattle.lot_mutex.specs.MutexSteps.{mutex_act, mutex_looking, lock_act, unlock_act, decided}
 use Rattle.lot_calls.specs.declared.outcomes.Answer.{Answer}
 use Rattle.lot_calls.specs.declared.outcomes.OnceState.{OnceState}
-use Rattle.lot_steps.specs.Steps.{act_of, late_key, in_mutex, next_act, next_place}
+use Rattle.lot_rwlock.specs.RwLockProfiles.{rwlock_looking}
+use Rattle.lot_rwlock.specs.RwLockSteps.{rwlock_act}
+use Rattle.lot_rwlock.specs.declared.places.RwLockPlace.{RwLockPlace}
+use Rattle.lot_steps.specs.Steps.{act_of, late_key, in_mutex, in_rwlock, next_act, next_place}
 use Rattle.lot_acts.specs.declared.acts.Act.{Act}
 use Rattle.lot_acts.specs.declared.acts.Act as act
 use Rattle.lot_acts.specs.declared.acts.Reply.{Reply}
@@ -32,10 +35,11 @@ use Rattle.lot_words.proofs.MutexSteps.{mutex_steps, each_code}
 use Rattle.parking_lot_core.specs.declared.tokens.Did.TheVariants.{TakeFirst}
 use Rattle.parking_lot.specs.Fitting.{AreWordsFor, Fits, PlacesLead, Looks, Reached, ReachedBy, aim_of, answer_of, sleeper_at}
 use Rattle.parking_lot.specs.MutexFitting.{GaveUp, FitsLock, FitsUnlock, FitsMutex, Within, Outside, beside, held}
-use Rattle.parking_lot.specs.Paths.{GoesFrom, mutex_at, mutexes, at_mutex}
+use Rattle.parking_lot.specs.Paths.{GoesFrom, mutex_at, mutexes, at_mutex, rwlocks, at_rwlock}
 use Rattle.parking_lot.specs.declared.acting.Sleeper.{Sleeper}
 use Rattle.parking_lot.specs.Stages.{Stage, Inside, ActNeeds, Became, HasKey, IsFresh, MayLeave, IsLeft, took_as, listed, entered_now, stage, stepped}
 use Rattle.parking_lot.proofs.HandingOver.{hand_off_needs, hand_off_leads}
+use Rattle.parking_lot.proofs.RwLockLeading.{rwlock_place_leads}
 
 -- a reply to an operation on the word, which saw one of the four codes
 pub word_reply : (up : Type 0) (n : ℕ) (st new : Stage) (P : Reply → Type 0) (sleeper : Sleeper) (l : ℕ) (op : Op) → ((seen : ℕ) → seen < 4 → new ≡ stepped kinds.TheVariants.Mutex (mutex_at n) op seen st → P (Value seen)) → (reply : Reply) → Became up mutexes (at_mutex n) sleeper st (act.TheVariants.Word l op) reply new → P reply
@@ -217,16 +221,19 @@ mutex_place_leads : (up : Type 0) (n : ℕ) (base : List Ownership) (at : MutexP
     × ((reply : Reply) (new : Stage) → Became up mutexes (at_mutex n) (sleeper_at (Mutex n at)) st (mutex_act n at) reply new → Reached up base (Mutex n at) reply new)
 mutex_place_leads up n base at st f = (needs up n base st at f, looks up n base st at f, λ reply new. leads up n base st new at f reply)
 
+both_words : (kinds : ℕ → WordKind) (at : ℕ → ℕ) (kinds2 : ℕ → WordKind) (at2 : ℕ → ℕ) → kinds ≡ kinds2 → at ≡ at2 → ◌≡◌ {A = (ℕ → WordKind) × (ℕ → ℕ)} (kinds, at) (kinds2, at2)
+both_words kinds at kinds2 at2 a b = ap (λ (k : ℕ → WordKind). (k, at)) a ∙ ap (λ (w : ℕ → ℕ). (kinds2, w)) b
+
 pub places_lead : (up : Type 0) → PlacesLead up
 places_lead up kinds at base Idle st words f = absurd f
-places_lead up kinds at base (RwLock n a p) st words f = absurd f
+places_lead up kinds at base (RwLock n a p) st words f =
+    subst (λ (k : (ℕ → WordKind) × (ℕ → ℕ)). ActNeeds k.0 k.1 st (rwlock_act n a p) × Looks up base (RwLock n a p) st
+    × ((reply : Reply) (new : Stage) → Became up k.0 k.1 (sleeper_at (RwLock n a p)) st (rwlock_act n a p) reply new → Reached up base (RwLock n a p) reply new))
+    (sym (both_words kinds at rwlocks (at_rwlock n) words.1 words.2)) (rwlock_place_leads up n a base p st f)
 places_lead up kinds at base (Mutex n p) st words f =
     subst (λ (k : (ℕ → WordKind) × (ℕ → ℕ)). ActNeeds k.0 k.1 st (mutex_act n p) × Looks up base (Mutex n p) st
     × ((reply : Reply) (new : Stage) → Became up k.0 k.1 (sleeper_at (Mutex n p)) st (mutex_act n p) reply new → Reached up base (Mutex n p) reply new))
-    (sym (both words.1 words.2)) (mutex_place_leads up n base p st f)
-  where
-    both : kinds ≡ mutexes → at ≡ at_mutex n → ◌≡◌ {A = (ℕ → WordKind) × (ℕ → ℕ)} (kinds, at) (mutexes, at_mutex n)
-    both a b = ap (λ (k : ℕ → WordKind). (k, at)) a ∙ ap (λ (w : ℕ → ℕ). (mutexes, w)) b
+    (sym (both_words kinds at mutexes (at_mutex n) words.1 words.2)) (mutex_place_leads up n base p st f)
 
 -- where a call goes on from, it has what it had
 pub fits_from : (up : Type 0) (kinds : ℕ → WordKind) (at : ℕ → ℕ) (base : List Ownership) (p q : Place) (st : Stage) → GoesFrom p q → AreWordsFor p kinds at → Fits up base p st → Fits up base q st × (aim_of q ≡ aim_of p)
@@ -236,7 +243,11 @@ fits_from up kinds at base p q st (inr is) words fits = (places_lead up kinds at
 pub words_from : (kinds : ℕ → WordKind) (at : ℕ → ℕ) (p q : Place) → GoesFrom p q → AreWordsFor p kinds at → AreWordsFor q kinds at
 words_from kinds at p q (inl same) words = subst (λ r. AreWordsFor r kinds at) (sym same) words
 words_from kinds at Idle q (inr is) words = absurd cc
-words_from kinds at (RwLock l a p) q (inr is) words = absurd words
+words_from kinds at (RwLock l a p) q (inr is) words = by_place (rwlock_looking a p) is
+  where
+    by_place : (o : Option RwLockPlace) → in_rwlock l a o ≡ Some q → AreWordsFor q kinds at
+    by_place None e = absurd cc
+    by_place (Some p2) e = let there : RwLock l a p2 ≡ q = cc in subst (λ r. AreWordsFor r kinds at) there words
 words_from kinds at (Mutex l p) q (inr is) words = by_place (mutex_looking p) is
   where
     by_place : (o : Option MutexPlace) → in_mutex l o ≡ Some q → AreWordsFor q kinds at

@@ -1,6 +1,11 @@
 pub mod Paths
 pub mod Ending
 pub mod HandingOver
+pub mod RwLockDeciding
+pub mod RwLockNeeds
+pub mod RwLockKeeping
+pub mod RwLockLeads
+pub mod RwLockLeading
 pub mod Leading
 pub mod Turning
 pub mod Behind

@@ -5,7 +5,9 @@ use Rattle.lot_base.specs.declared.ops.Op.{Op}
 use Rattle.lot_calls.specs.declared.outcomes.OnceState.{OnceState}
 use Rattle.lot_base.specs.declared.ops.Op.TheVariants.{Load}
 use Rattle.lot_mutex.specs.MutexSteps.{mutex_next}
-use Rattle.lot_steps.specs.Steps.{act_of, next_place, mutex_goes, HasKeys}
+use Rattle.lot_rwlock.specs.RwLockSteps.{rwlock_next}
+use Rattle.lot_rwlock.specs.declared.places.RwLockPlace.{RwLockPlace}
+use Rattle.lot_steps.specs.Steps.{act_of, next_place, mutex_goes, rwlock_goes, HasKeys}
 use Rattle.lot_acts.specs.declared.acts.Next.{Next}
 use Rattle.lot_acts.specs.declared.acts.Next.TheVariants.{At, End}
 use Rattle.lot_mutex.specs.declared.places.MutexPlace.{MutexPlace}
@@ -60,7 +62,11 @@ told up at kinds sleeper p a is runs st new reply before behind b e = absurd b
 -- the words of a call serve it to its end
 pub words_on : (p : Place) (reply : Reply) (kinds : ℕ → WordKind) (at : ℕ → ℕ) → AreWordsFor p kinds at → AreWordsFor (next_place p reply) kinds at
 words_on Idle reply kinds at w = tt
-words_on (RwLock l a place) reply kinds at w = absurd w
+words_on (RwLock l a place) reply kinds at w = by_next (rwlock_next a place reply)
+  where
+    by_next : (goes : Next RwLockPlace) → AreWordsFor (rwlock_goes l a goes) kinds at
+    by_next (At next) = w
+    by_next (End answer) = tt
 words_on (Mutex l place) reply kinds at w = by_next (mutex_next place reply)
   where
     by_next : (goes : Next MutexPlace) → AreWordsFor (mutex_goes l goes) kinds at
@@ -70,7 +76,7 @@ words_on (Mutex l place) reply kinds at w = by_next (mutex_next place reply)
 pub has_keys : (p : Place) (kinds : ℕ → WordKind) (at : ℕ → ℕ) → AreWordsFor p kinds at → HasKeys p
 has_keys (Mutex l at) kinds places w = w.0
 has_keys Idle kinds at w = tt
-has_keys (RwLock l a place) kinds at w = absurd w
+has_keys (RwLock l a place) kinds at w = w.0
 
 -- a step on a word, as the stage has it
 pub by_stage : (w : Word) (op : Op) (seen : ℕ) (old : Token) (section : Option Section) (new : Token) → view_of new ≡ after_step w.kind (word_index w.number w.kind) op seen (view_of old) → last_of new ≡ None → CodesWith w.kind (word_index w.number w.kind) seen (view_of old).owns

@@ -1,5 +1,5 @@
 -- What a thread has at each place of its call, and at its end. Each sort of lock says so in a file of its own.
-use Rattle.std.specs.Prelude.{ℕ, ◌≡◌, List, Option, Some, None, unwrap_or}
+use Rattle.std.specs.Prelude.{ℕ, ◌≡◌, List, Option, Some, None, true, false, unwrap_or}
 use Rattle.lot_rwlock.specs.RwLockProfiles.{rwlock_wants}
 use Rattle.lot_base.specs.declared.wants.Want.TheVariants.{Exclusive}
 use Rattle.lot_calls.specs.declared.outcomes.Answer.{Answer}
@@ -11,8 +11,11 @@ use Rattle.lot_steps.specs.declared.places.Place.{Place}
 use Rattle.lot_steps.specs.declared.places.Place.TheVariants.{Idle, Mutex, RwLock}
 use Rattle.lot_words.specs.declared.owners.Ownership.{Ownership}
 use Rattle.lot_words.specs.declared.words.WordKind.{WordKind}
+use Rattle.lot_rwlock.specs.declared.places.Admission.{Admission}
+use Rattle.lot_rwlock.specs.declared.purposes.RwLockPurpose.{RwLockPurpose}
 use Rattle.parking_lot.specs.MutexFitting.{Purpose, purpose_at, FitsMutex, IsMutexOver}
-use Rattle.parking_lot.specs.Paths.{mutexes, at_mutex}
+use Rattle.parking_lot.specs.RwLockFitting.{FitsRwLock, IsRwLockOver}
+use Rattle.parking_lot.specs.Paths.{mutexes, at_mutex, rwlocks, at_rwlock}
 use Rattle.parking_lot.specs.Stages.{Stage, ActNeeds, Became}
 use Rattle.parking_lot.specs.declared.acting.Sleeper.{Sleeper}
 use Rattle.parking_lot.specs.declared.driver.Stop.{Stop}
@@ -26,24 +29,28 @@ answer_of _ = None
 pub data Aim : Type 0 where
   nothing : Aim
   of_mutex : ℕ → Purpose → Aim
+  of_rwlock : ℕ → Admission → RwLockPurpose → Aim
 
 abbrev pub aim_of : Place → Aim
 aim_of Idle = nothing
 aim_of (Mutex l at) = of_mutex l (purpose_at at)
-aim_of (RwLock l a at) = nothing
+aim_of (RwLock l a at) = of_rwlock l a at.purpose
 
--- for what a thread sleeps in a call, and the keys under which it may be late. Nobody is moved from the queue of a mutex
+-- for what a thread sleeps in a call, the keys under which it may be late, and whether it goes on where it is handed the lock.
+-- Nobody is moved from the queue of a lock
 abbrev pub sleeper_at : Place → Sleeper
-sleeper_at Idle = record { lock = 0; want = Exclusive; late = None; moved = None }
-sleeper_at (Mutex l at) = record { lock = l; want = Exclusive; late = late_key (Mutex l at); moved = None }
+sleeper_at Idle = record { lock = 0; want = Exclusive; late = None; moved = None; takes_over = false }
+sleeper_at (Mutex l at) =
+    record { lock = l; want = Exclusive; late = late_key (Mutex l at); moved = None; takes_over = true }
 sleeper_at (RwLock l a at) =
-    record { lock = l; want = unwrap_or (rwlock_wants at) Exclusive; late = late_key (RwLock l a at); moved = None }
+    record { lock = l; want = unwrap_or (rwlock_wants at) Exclusive; late = late_key (RwLock l a at); moved = None; takes_over = false }
 
--- the keys of the call's lock are numbers, and its words are of the kinds that the call steps on; no words serve a reader-writer call
+-- the keys of the call's lock are numbers, and its words are of the kinds that the call steps on
 abbrev pub AreWordsFor : Place → (ℕ → WordKind) → (ℕ → ℕ) → Type 0
 AreWordsFor Idle kinds at = Unit {0}
 AreWordsFor (Mutex l place) kinds at = HasKeys (Mutex l place) × (kinds ≡ mutexes) × (at ≡ at_mutex l)
-AreWordsFor (RwLock l a place) kinds at = ⊥
+AreWordsFor (RwLock l a place) kinds at =
+    HasKeys (RwLock l a place) × (kinds ≡ rwlocks) × (at ≡ at_rwlock l)
 
 -- and behind its closure they are so still
 abbrev pub AreWordsAfter : Stop → (ℕ → WordKind) → (ℕ → ℕ) → Type 0
@@ -52,16 +59,17 @@ AreWordsAfter (Paused place state) kinds at = AreWordsFor place kinds at
 
 -- `up` says that the time of the call is up
 module _ (up : Type 0) where
-  -- what a thread has at a place, which owned so much as it began to run; no call of a reader-writer lock is run by threads
+  -- what a thread has at a place, which owned so much as it began to run, or beside what a reader-writer place claims
   abbrev pub Fits : List Ownership → Place → Stage → Type 0
   Fits base Idle st = ⊥
   Fits base (Mutex l at) st = FitsMutex up l base at st
-  Fits base (RwLock l a at) st = ⊥
+  Fits base (RwLock l a at) st = FitsRwLock up l base a at st
 
   -- what an answer says at the end of a call
   abbrev pub IsOver : List Ownership → Aim → Answer → Stage → Type 0
   IsOver base nothing answer st = ⊥
   IsOver base (of_mutex l purpose) answer st = IsMutexOver up l base purpose answer st
+  IsOver base (of_rwlock l a purpose) answer st = IsRwLockOver up l base a purpose answer st
 
   -- what a run came to: the end of its call, or a closure, which is outside all sections
   abbrev pub IsStopped : List Ownership → Aim → Stop → Stage → Type 0

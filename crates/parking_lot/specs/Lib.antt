@@ -5,6 +5,7 @@ pub mod Driving
 pub mod Stages
 pub mod Telling
 pub mod MutexFitting
+pub mod RwLockFitting
 pub mod Fitting
 pub mod Calls
 pub mod Users

@@ -30,6 +30,16 @@ mutexes lock = kinds.TheVariants.Mutex
 abbrev pub at_mutex : ℕ → ℕ → ℕ
 at_mutex number lock = mutex_at number
 
+-- where the word of a reader-writer lock stands, on which alone its calls step
+abbrev pub rwlock_at : ℕ → ℕ
+rwlock_at number = word_index number kinds.TheVariants.RwLock
+
+abbrev pub rwlocks : ℕ → kinds.WordKind
+rwlocks lock = kinds.TheVariants.RwLock
+
+abbrev pub at_rwlock : ℕ → ℕ → ℕ
+at_rwlock number lock = rwlock_at number
+
 -- one step on the word at a place, and what it saw
 abbrev pub step : ℕ → Op → ℕ → List WordStep
 step at op seen = record { at = at; op = op; seen = seen } ∷ []

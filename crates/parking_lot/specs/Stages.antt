@@ -224,6 +224,7 @@ abbrev pub Awoke : Type 0 → WordKind → ℕ → Sleeper → Stage → Reply �
 Awoke up kind at sleeper st (Woken Normal) new = (new.owns ≡ st.owns) × (new.inside ≡ None)
 Awoke up kind at sleeper st (Woken HandOff) new =
     (owner : Owner) × MayHand kind sleeper.want owner × (new ≡ stage (owning at owner ∷ st.owns) st.inside st.last)
+    × (sleeper.takes_over ≡ true)
 Awoke up kind at sleeper st Late new = (key : ℕ) × AwokeLate key sleeper st Late new × up
 Awoke up kind at sleeper st (MovedTo to) new = AwokeLate to sleeper st (MovedTo to) new × up
 Awoke up kind at sleeper st _ new = ⊥

@@ -197,6 +197,8 @@ pub(crate) struct Sleeper {
     pub want: Want,
     pub late: Option<Key>,
     pub moved: Option<Key>,
+    /// Whether it goes on where it is handed the lock.
+    pub takes_over: bool,
 }
 
 // The time of a sleeper is up, and it is inside the section of the key where it stands.
@@ -251,9 +253,14 @@ fn sleep<'a, R: Wait, C: Clock>(
     let limit = sleeper.late.and(limit);
     match lot.sleep(rt, token, word, sleeper.want, limit) {
         Slept::Woken => Reply::Woken(Note::Normal),
-        Slept::Handed(right) => {
+        Slept::Handed(right) if sleeper.takes_over => {
             lot.join_right(token, right);
             Reply::Woken(Note::HandOff)
+        }
+        // Nobody hands a lock over to a thread that goes on otherwise.
+        Slept::Handed(right) => {
+            right.forget();
+            Reply::Woken(Note::Normal)
         }
         Slept::Late(inside, key) => awake_late(rt, token, sleeper, section, inside, key),
     }

@@ -133,16 +133,17 @@ fn sleeper(place: Place) -> Sleeper
     requires { HasKeys place }
     ensures { result ≡ sleeper_at place }
 {
-    let (lock, want) = match place {
-        Place::Idle => (0, Want::Exclusive),
-        Place::Mutex { lock, .. } => (lock, Want::Exclusive),
-        Place::RwLock { lock, at, .. } => (lock, at.wants().unwrap_or(Want::Exclusive)),
+    let (lock, want, takes_over) = match place {
+        Place::Idle => (0, Want::Exclusive, false),
+        Place::Mutex { lock, .. } => (lock, Want::Exclusive, true),
+        Place::RwLock { lock, at, .. } => (lock, at.wants().unwrap_or(Want::Exclusive), false),
     };
     Sleeper {
         lock,
         want,
         late: place.late_key(),
         moved: None,
+        takes_over,
     }
 }
 
