@@ -9,6 +9,7 @@ pub mod SiteKeeps
 pub mod Seen
 pub mod CodeLaws
 pub mod Limits
+pub mod HandLimits
 pub mod OnceKeeps
 pub mod CondvarKeeps
 pub mod PermitKeeps

@@ -1,10 +1,10 @@
 -- What users rely on holds of each step: of each case that a call is made of.
-use Rattle.std.proofs.Common.{ℕ, Bool, true, false, Option, Some, None, if◌then◌else◌, ◌==◌, ◌≡◌, ◌≢◌, ◌≤◌, ◌<◌, ◌+◌, ◌-◌, ◌⊎◌, inl, inr, List, [], ◌∷◌, ◌++◌, refl, sym, ap, ◌∙◌, subst, length, get_or-set_same, arith}
-use Rattle.std.proofs.lemmas.Bool.{eqb-true, cases_eq}
+use Rattle.std.proofs.Common.{ℕ, Bool, true, false, Option, Some, None, if◌then◌else◌, ◌==◌, ◌≡◌, ◌≢◌, ◌≤◌, ◌<◌, ◌+◌, ◌⊎◌, inl, inr, List, [], ◌∷◌, ◌++◌, refl, sym, ap, ◌∙◌, subst, length, get_or-set_same, arith}
+use Rattle.std.proofs.lemmas.Bool.{cases_eq}
 use Rattle.std.proofs.lemmas.Bool.Decides.{nat_tests}
 use Rattle.std.proofs.lemmas.List.{get_or_past, take-append-drop}
 use Rattle.std.proofs.lemmas.List.Sums.{get_or-le-sum_by}
-use Rattle.std.specs.Prelude.{not, filter, take, drop, slice_index, slice_set, sum}
+use Rattle.std.specs.Prelude.{not, filter, take, drop, slice_index}
 use Rattle.lot_base.specs.declared.wants.Want.{Want}
 use Rattle.lot_base.specs.declared.wants.Want.TheVariants.{Exclusive, Upgradable, Shared}
 use Rattle.lot_calls.specs.declared.calls.Turn.{Turn}
@@ -13,10 +13,9 @@ use Rattle.lot_calls.specs.declared.calls.Step.{Step}
 use Rattle.lot_calls.specs.declared.outcomes.Outcome.{Outcome}
 use Rattle.abstract_locks.specs.Locks.{LockState, LockCase, MayConvert, Enter, Pend, Settle, Leave, Convert, Park, Aside, TakeFirst, TakeAside, TakePicked, Wake, HandOff, Late, Rollback, Needs, IsLockState, Rules, Normal, Recursive, Queued, Pending, Rights, rights_of, Owns, readers, sharers, times, after_case, wants_shared}
 use Rattle.abstract_locks.specs.Locks as locks
-use Rattle.abstract_locks.specs.Purposes.{Purpose, Converts, ConvertsBy, Patience, IsMadeOf}
-use Rattle.abstract_locks.specs.Runs.{LocksState, Event, Nothing, AtLock, CallState, AreLockStates, GoesOn, Stays, Does, MayDo, MayHappen, Turned, IsStep, rules_at, locks_after}
+use Rattle.abstract_locks.specs.Purposes.{Purpose, Converts, ConvertsBy, Patience}
+use Rattle.abstract_locks.specs.Runs.{LocksState, Event, Nothing, AtLock, AreLockStates, GoesOn, Does, MayDo, MayHappen, Turned, IsStep, rules_at, locks_after}
 use Rattle.abstract_locks.specs.UserLaws.{ReadersStayOut, RereadersPass, UpgradesLetNobodyWrite, DowngradesOwn, OfEachStep, IsFirstWriter, waits_to_share}
-use Rattle.abstract_locks.proofs.LockKeeps.{times_append, times_filter, case_keeps}
 use Rattle.abstract_locks.proofs.SiteKeeps.{fewer_share}
 use Rattle.abstract_locks.proofs.Rights.{others_keep}
 use Rattle.abstract_locks.proofs.Hands.{sharing_more}

@@ -1,5 +1,5 @@
 -- What users of a reader-writer lock rely on, of each step of any thread.
-use Rattle.std.specs.Prelude.{ℕ, true, false, Some, None, ◌≡◌, ◌≢◌, ◌≤◌, ◌<◌, ◌⊎◌, length}
+use Rattle.std.specs.Prelude.{ℕ, true, Some, None, ◌≡◌, ◌≢◌, ◌≤◌, ◌<◌, ◌⊎◌, length}
 use Rattle.lot_base.specs.declared.wants.Want.{Want}
 use Rattle.lot_base.specs.declared.wants.Want.TheVariants.{Exclusive, Upgradable, Shared}
 use Rattle.lot_calls.specs.declared.calls.Step.{Step}

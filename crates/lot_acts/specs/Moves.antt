@@ -1,8 +1,9 @@
 -- Where a step takes its thread in the machine, by its act: into sections and lines, out of them, and into hands. For locks of every sort, by the
 -- row of a place, the rows that replies lead to, and the deeds.
-use Rattle.std.specs.Prelude.{ℕ, Bool, true, false, Option, Some, None, ◌≡◌, ◌≢◌, ◌≤◌, ◌⊎◌, List, [], ◌∷◌}
+use Rattle.std.specs.Prelude.{ℕ, Bool, true, false, Option, Some, None, if◌then◌else◌, ◌≡◌, ◌≢◌, ◌≤◌, ◌⊎◌, List, [], ◌∷◌}
 use Rattle.lot_base.specs.declared.keys.Keys.TheVariants.{One}
-use Rattle.lot_base.specs.declared.notes.Note.TheVariants.{Normal}
+use Rattle.lot_base.specs.declared.notes.Note.TheVariants.{Normal, HandOff as HandOffNote}
+use Rattle.lot_base.specs.declared.ops.Op.{Op}
 use Rattle.lot_base.specs.declared.wants.Want.{Want}
 use Rattle.lot_base.specs.declared.wants.Want.TheVariants.{Exclusive}
 use Rattle.lot_base.specs.Keys.{key_of}
@@ -12,14 +13,14 @@ use Rattle.lot_acts.specs.declared.acts.Check.{Check}
 use Rattle.lot_acts.specs.declared.acts.Next.{Next}
 use Rattle.lot_acts.specs.declared.acts.Next.TheVariants.{At, End as Ends}
 use Rattle.lot_acts.specs.declared.acts.Reply.{Reply}
-use Rattle.lot_acts.specs.declared.acts.Reply.TheVariants.{Done, Value, Parked, Took, Picked, Removed, TakenBy, Woken}
+use Rattle.lot_acts.specs.declared.acts.Reply.TheVariants.{Done, Value, Parked, Took, Picked, Removed, TakenBy, HandedBy, Woken}
 use Rattle.lot_acts.specs.declared.acts.Wakes.{Wakes}
 use Rattle.lot_acts.specs.declared.acts.Whom as whom
-use Rattle.lot_acts.specs.Acts.{holds, wakes_taken, any_picked}
+use Rattle.lot_acts.specs.Acts.{holds, takes_effect, wakes_taken, any_picked}
 use Rattle.lot_acts.specs.Profiles.{Profile, blank, hand, in_hand}
 use Rattle.lot_acts.specs.Stations.{Station, station_by, nowhere}
-use Rattle.abstract_locks.specs.Locks.{Rules, Aside, HandOff, Late as GivesUp, Park, TakeAside, TakePicked, Wake, standing, times, unpicked, without}
-use Rattle.abstract_locks.specs.Sites.{Site, Pends, Deed, Line, Main, Second, End, In, Out, Mark, Clear, FindNobody, Case, is_empty}
+use Rattle.abstract_locks.specs.Locks.{Rules, Queued, Aside, HandOff, Late as GivesUp, Park, TakeAside, TakePicked, Wake, standing, times, unpicked, without}
+use Rattle.abstract_locks.specs.Sites.{Site, Claim, Has, Pends, Deed, Line, Main, Second, End, In, Out, Mark, Clear, FindNobody, Case, is_empty}
 use Rattle.abstract_locks.specs.Codes.{code}
 
 -- the row of the next place, or of none
@@ -151,6 +152,49 @@ pub record GoesOut (x : Move) (hears : Hears) (m : Line) (wakes : Wakes) : Type 
   pub deeds : AreLeaving (x.deeds None Done)
   pub goes : station_then x Done ≡ record (station_of x) { inside = None; carries = None }
   pub may : (r : Rules) (s : Site) (t : ℕ) → s.lock.taken t ≡ None → hears r s t None Done
+
+-- ---------------------------------------------------------------- a right is handed over
+
+-- what a thread claims that was handed what it wanted: a writer beside readers is pending, with nothing to fall back to
+abbrev pub claim_handed : Bool → Want → Claim
+claim_handed false Exclusive = Pends false
+claim_handed alone x = Has x
+
+-- whom the right goes to that one alone can have, if to anybody, and what it wants
+abbrev pub heir_of : Option ℕ → Option Want → Option Queued
+heir_of (Some u) (Some x) = Some (record { thread = u; want = x })
+heir_of whom x = None
+
+-- the bit of the main line behind it, which stands where somebody is left
+abbrev pub bit_left : Bool → Deed
+bit_left none_left = if none_left then Clear Main else Mark Main
+
+-- it hands a right of its own over to all whom it has in hand, where its operation takes effect
+pub record HandsOver (x : Move) (op : Op) : Type 0 where
+  pub right : Want
+  -- what the one of them wants that wants more than to share
+  pub successor : Option Want
+  pub any : Bool
+  pub none_left : Bool
+  pub was : station_of x ≡ record (inside_of Main) { carries = in_hand any false }
+  pub deeds : (whom : Option ℕ) (seen : ℕ) → takes_effect op seen ≡ true
+      → x.deeds whom (Value seen) ≡ Case (HandOff right (heir_of whom successor)) ∷ bit_left none_left ∷ []
+  pub goes : (seen : ℕ) → takes_effect op seen ≡ true → station_then x (Value seen) ≡ record (inside_of Main) { carries = in_hand any true }
+  pub fails : (whom : Option ℕ) (seen : ℕ) → takes_effect op seen ≡ false → x.deeds whom (Value seen) ≡ []
+  pub stays : (seen : ℕ) → takes_effect op seen ≡ false → station_then x (Value seen) ≡ station_of x
+
+-- in the hand of a thread, it may be handed what it wants, which it claims then
+pub record IsGiven (x : Move) (u : ℕ) (want : Want) (alone : Bool) : Type 0 where
+  pub goes : station_then x (HandedBy u alone) ≡ record nowhere { hand = hand u true }
+  pub claims : (x.next (HandedBy u alone)).doing ≡ record x.row.doing { claims = Some (claim_handed alone want) }
+
+-- and is told so when that thread leaves the section
+pub record WasGiven (x : Move) (u : ℕ) : Type 0 where
+  pub was : station_of x ≡ record nowhere { hand = hand u true }
+  pub goes : station_then x (Woken HandOffNote) ≡ nowhere
+  pub doing : (x.next (Woken HandOffNote)).doing ≡ x.row.doing
+
+-- ---------------------------------------------------------------- all acts
 
 -- at a lock, which is recursive or not, by the act
 abbrev pub Moves : ℕ → Bool → Move → Hears → Act → Type 0

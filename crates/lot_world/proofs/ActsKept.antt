@@ -28,11 +28,11 @@ use Rattle.lot_world.specs.Refinement.{lock_state, taken_at}
 use Rattle.lot_world.specs.MutexDeeds.{acts}
 use Rattle.lot_world.specs.MutexDeeds as deeds
 use Rattle.lot_world.specs.Stations.{Station, station, station_at, nowhere, doing_on}
-use Rattle.lot_world.specs.SitesOf.{ActsNeeded, HasRoom, AreOrdinary, SameNumbers, IsSteady, Follows, Goes, FitsItsLock, Waits, AreWaiting, after_acts, site_of, rules_in, key_of, stood_in}
+use Rattle.lot_world.specs.SitesOf.{ActsNeeded, HasRoom, SameNumbers, IsSteady, Follows, Goes, FitsItsLock, Waits, AreWaiting, after_acts, site_of, rules_in, key_of, stood_in}
 use Rattle.lot_world.proofs.Counts.{without_absent}
 use Rattle.lot_world.proofs.Glue.{Parts, base_at, parts_at, lock_in, seen_in, same, differ, put_places, put_here, put_other, IsOf, doing_elsewhere, taken_elsewhere, inside_is, station_here, station_elsewhere}
 use Rattle.lot_world.proofs.KindsKept.{operated_kinds}
-use Rattle.lot_world.proofs.OneStep.{Steps, steps_by, same_word, noted, acts_keep, acts_limited, same_filled, queued_behind}
+use Rattle.lot_world.proofs.OneStep.{AreOrdinary, Steps, steps_by, same_word, noted, acts_keep, acts_limited, same_filled, queued_behind}
 use Rattle.lot_world.proofs.StandsKept.{other_key, other_line, same_line, part_else, waiting_same, waiting_behind, waiting_without}
 use Rattle.lot_world.proofs.StandsMoved.{still, goes_in, goes_out, line_changes}
 
@@ -80,8 +80,8 @@ module _ (w v : State) (l : ℕ) (b : Parts) (q : ℕ → Place) (moves : Moves 
       ∙ (λ i. record (site_of w k) { lock = record (site_of w k).lock { taken = λ u. (moves.alike k ne u).0 i }; doing = λ u. (moves.alike k ne u).1 i })
 
   -- what one lock has been through
-  pub follows_by : (ds : List deeds.Act) → (has_readers r.sort ≡ true → AreOrdinary (length w.places) ds) → seen_in r l b q ≡ after_acts r ds (lock_by w l r) → ActsNeeded r ds (lock_by w l r) → b.word ≡ code r (seen_in r l b q) → Follows w v l ds
-  follows_by ds ordinary led needed coded = record {
+  pub follows_by : (ds : List deeds.Act) → (has_readers r.sort ≡ true → HasLimit r (after_acts r ds (lock_by w l r)).lock) → seen_in r l b q ≡ after_acts r ds (lock_by w l r) → ActsNeeded r ds (lock_by w l r) → b.word ≡ code r (seen_in r l b q) → Follows w v l ds
+  follows_by ds limit led needed coded = record {
     site = site_here ∙ led ∙ sym (λ i. after_acts (rules i) ds (lock_by w l (rules i)));
     needed = subst (λ x. ActsNeeded x ds (lock_by w l x)) (sym rules) needed;
     word = ap (λ (a : Parts). a.word) moves.here ∙ coded ∙ sym (λ i. code (rules i) (site_here i));
@@ -92,8 +92,16 @@ module _ (w v : State) (l : ℕ) (b : Parts) (q : ℕ → Place) (moves : Moves 
       | inl e ↦ rw e (ap (λ (a : Parts). length a.base.shared) moves.here ∙ moves.sharers)
       | inr ne ↦ ap (λ (a : Parts). length a.base.shared) (moves.others k ne)
     ];
-    ordinary = λ readers. ordinary (ap (λ x. has_readers x.sort) (sym rules) ∙ readers);
+    limit = λ readers. subst (λ x. HasLimit x (lock_state v l)) (sym rules) (subst (λ (s : Site). HasLimit r s.lock) (sym (site_here ∙ led)) (limit (ap (λ x. has_readers x.sort) (sym rules) ∙ readers)));
   }
+
+-- a step that hands nothing over stays within the limit
+pub limited : (w : State) (l : ℕ) (steady : IsSteady w) (r : Rules) (rules : rules_in w l ≡ r) (ds : List deeds.Act) → (has_readers r.sort ≡ true → AreOrdinary (length w.places) ds) → ActsNeeded r ds (lock_by w l r) → has_readers r.sort ≡ true → HasLimit r (after_acts r ds (lock_by w l r)).lock
+limited w l steady r rules ds ordinary needed readers = by_rules r rules (ordinary readers) needed readers
+  where
+    by_rules : (x : Rules) → rules_in w l ≡ x → AreOrdinary (length w.places) ds → ActsNeeded x ds (lock_by w l x) → has_readers x.sort ≡ true → HasLimit x (after_acts x ds (lock_by w l x)).lock
+    by_rules x e plain n h = let before = steady.sites.limits l (ap (λ y. has_readers y.sort) e ∙ h) in
+        acts_limited x ds (lock_by w l x) (length w.places) h (subst (λ (y : Rules). 1 ≤ y.limit) e before.0.0) (steady.numbers.threads l) plain (subst (λ y. IsSite y (lock_by w l y)) e (steady.sites.site l)) n (subst (λ y. HasLimit y (lock_by w l y).lock) e before.1)
 
 -- keeps all
 pub goes_steady : (w v : State) (l : ℕ) (ds : List deeds.Act) → IsSteady w → Goes w v l ds → IsSteady v
@@ -111,9 +119,9 @@ goes_steady w v l ds steady g = record {
       | inl e ↦ rw e (unfilled_here (rw e at of_w))
       | inr ne ↦ ap (λ (s : Site). s.filled) (g.follows.others k ne).0 ∙ steady.sites.unfilled k of_w
     ];
-    limits = λ k h. subst (λ x. HasRoom (rules_of x) × HasLimit (rules_of x) (lock_state v k)) (sym (g.follows.kinds k)) (let of_w : has_readers (rules_in w k).sort ≡ true = was_sort k true h in elim (cases_eq k l) [
+    limits = λ k h. subst (λ x. HasRoom (length v.places) (rules_of x) × HasLimit (rules_of x) (lock_state v k)) (sym (g.follows.kinds k)) (let of_w : has_readers (rules_in w k).sort ≡ true = was_sort k true h in elim (cases_eq k l) [
       | inl e ↦ rw e (limited_here (rw e at of_w))
-      | inr ne ↦ ((steady.sites.limits k of_w).0, subst (λ (s : Site). HasLimit (rules_in w k) s.lock) (sym (g.follows.others k ne).0) (steady.sites.limits k of_w).1)
+      | inr ne ↦ (room_then k of_w, subst (λ (s : Site). HasLimit (rules_in w k) s.lock) (sym (g.follows.others k ne).0) (steady.sites.limits k of_w).1)
     ]);
   };
   stands = g.stands;
@@ -129,12 +137,11 @@ goes_steady w v l ds steady g = record {
     unfilled_here : has_readers (rules_in w l).sort ≡ false → filled_at v l ≡ false
     unfilled_here h = ap (λ (s : Site). s.filled) g.follows.site ∙ same_filled (rules_in w l) ds (site_of w l) h ∙ steady.sites.unfilled l h
 
-    limited_here : has_readers (rules_in w l).sort ≡ true → HasRoom (rules_in w l) × HasLimit (rules_in w l) (lock_state v l)
-    limited_here h = let before = steady.sites.limits l h in (
-      before.0,
-      subst (λ (s : Site). HasLimit (rules_in w l) s.lock) (sym g.follows.site)
-          (acts_limited (rules_in w l) ds (site_of w l) (length w.places) h before.0.0 (steady.numbers.threads l) (g.follows.ordinary h) (steady.sites.site l) g.follows.needed before.1),
-    )
+    room_then : (k : ℕ) → has_readers (rules_in w k).sort ≡ true → HasRoom (length v.places) (rules_in w k)
+    room_then k h = subst (λ n. HasRoom n (rules_in w k)) (sym g.follows.numbers.threads) (steady.sites.limits k h).0
+
+    limited_here : has_readers (rules_in w l).sort ≡ true → HasRoom (length v.places) (rules_in w l) × HasLimit (rules_in w l) (lock_state v l)
+    limited_here h = (room_then l h, g.follows.limit h)
 
 -- ---------------------------------------------------------------- what an operation on the word makes of the lock
 
@@ -238,7 +245,7 @@ module _ (w : State) (t l : ℕ) (steady : IsSteady w) (own : IsOf l (place_at w
   pub word_goes : (p : Place) → l < length w.locks → l < length w.shares → (f : Op) (ds : List Deed) → (has_readers r.sort ≡ true → NoHandOff ds) → Steps r l (parts_at w l) (operated w t p l f) (place_at w) t p2 ds
       → apply f (word_at w l) ≡ code r (seen_in r l (operated w t p l f) (putting (place_at w) t p2)) → station p2 ≡ station (place_at w t) → Goes w (put (state_after_operation w t p l f) t p2) l (acts t ds)
   word_goes p lt shared f ds plain steps coded e = record {
-    follows = follows_by w v l (operated w t p l f) (putting (place_at w) t p2) moves r rules (acts t ds) (λ h. ordinary_by (length w.places) t ds there (plain h)) steps.site steps.needed coded;
+    follows = follows_by w v l (operated w t p l f) (putting (place_at w) t p2) moves r rules (acts t ds) (limited w l steady r rules (acts t ds) (λ h. ordinary_by (length w.places) t ds there (plain h)) steps.needed) steps.site steps.needed coded;
     stands = still w v steady.stands (operated_kinds w t p l f) l t own p2 of fits (places_put v refl) (λ key. refl) (λ key. refl) e;
   }
     where
@@ -286,7 +293,7 @@ module _ (w : State) (t l : ℕ) (steady : IsSteady w) (own : IsOf l (place_at w
   place_follows : (v : State) (ds : List Deed) → (has_readers r.sort ≡ true → NoHandOff ds) → v.locks ≡ w.locks → v.shares ≡ w.shares → v.queues ≡ w.queues → v.places ≡ set w.places t p2 → Steps r l (parts_at w l) (parts_at w l) (place_at w) t p2 ds → Follows w v l (acts t ds)
   place_follows v ds plain el es eq ep steps = follows_by w v l (parts_at w l) (putting (place_at w) t p2)
       (lines_move v (queue_at w (2 * l)) (queue_at w (2 * l + 1)) el es ep (ap (λ (qs : List (List Waiter)). get_or qs (2 * l) []) eq) (ap (λ (qs : List (List Waiter)). get_or qs (2 * l + 1) []) eq) (λ k ne n. ap (λ (qs : List (List Waiter)). get_or qs (key_of k n) []) eq))
-      r rules (acts t ds) (λ h. ordinary_by (length w.places) t ds there (plain h)) steps.site steps.needed (word_by_lines (queue_at w (2 * l)) (queue_at w (2 * l + 1)) (putting (place_at w) t p2))
+      r rules (acts t ds) (limited w l steady r rules (acts t ds) (λ h. ordinary_by (length w.places) t ds there (plain h)) steps.needed) steps.site steps.needed (word_by_lines (queue_at w (2 * l)) (queue_at w (2 * l + 1)) (putting (place_at w) t p2))
 
   -- a place that changes alone
   pub place_goes : (ds : List Deed) → (has_readers r.sort ≡ true → NoHandOff ds) → Steps r l (parts_at w l) (parts_at w l) (place_at w) t p2 ds → station p2 ≡ station (place_at w t) → Goes w (put w t p2) l (acts t ds)
@@ -340,11 +347,11 @@ module _ (w : State) (t l : ℕ) (steady : IsSteady w) (own : IsOf l (place_at w
         by_line : (n : Line) → m ≡ n → Follows w v l (acts t ds)
         by_line Main e = follows_by w v l (with_line (parts_at w l) Main q) (putting (place_at w) t p2)
             (lines_move v q (queue_at w (2 * l + 1)) el eh ep (subst (λ n. queue_at v (key_of l n) ≡ q) e here) (elsewhere (2 * l + 1) (subst (λ n. 2 * l + 1 ≢ key_of l n) (sym e) (λ h. omega arith))) (λ k ne n. elsewhere (key_of k n) (other_key l k m n ne)))
-            r rules (acts t ds) (λ h. ordinary_by (length w.places) t ds there (plain h)) (subst (λ n. Steps r l (parts_at w l) (with_line (parts_at w l) n q) (place_at w) t p2 ds) e steps).site (subst (λ n. Steps r l (parts_at w l) (with_line (parts_at w l) n q) (place_at w) t p2 ds) e steps).needed
+            r rules (acts t ds) (limited w l steady r rules (acts t ds) (λ h. ordinary_by (length w.places) t ds there (plain h)) (subst (λ n. Steps r l (parts_at w l) (with_line (parts_at w l) n q) (place_at w) t p2 ds) e steps).needed) (subst (λ n. Steps r l (parts_at w l) (with_line (parts_at w l) n q) (place_at w) t p2 ds) e steps).site (subst (λ n. Steps r l (parts_at w l) (with_line (parts_at w l) n q) (place_at w) t p2 ds) e steps).needed
             (word_by_lines q (queue_at w (2 * l + 1)) (putting (place_at w) t p2))
         by_line Second e = follows_by w v l (with_line (parts_at w l) Second q) (putting (place_at w) t p2)
             (lines_move v (queue_at w (2 * l)) q el eh ep (elsewhere (2 * l) (subst (λ n. 2 * l ≢ key_of l n) (sym e) (λ h. omega arith))) (subst (λ n. queue_at v (key_of l n) ≡ q) e here) (λ k ne n. elsewhere (key_of k n) (other_key l k m n ne)))
-            r rules (acts t ds) (λ h. ordinary_by (length w.places) t ds there (plain h)) (subst (λ n. Steps r l (parts_at w l) (with_line (parts_at w l) n q) (place_at w) t p2 ds) e steps).site (subst (λ n. Steps r l (parts_at w l) (with_line (parts_at w l) n q) (place_at w) t p2 ds) e steps).needed
+            r rules (acts t ds) (limited w l steady r rules (acts t ds) (λ h. ordinary_by (length w.places) t ds there (plain h)) (subst (λ n. Steps r l (parts_at w l) (with_line (parts_at w l) n q) (place_at w) t p2 ds) e steps).needed) (subst (λ n. Steps r l (parts_at w l) (with_line (parts_at w l) n q) (place_at w) t p2 ds) e steps).site (subst (λ n. Steps r l (parts_at w l) (with_line (parts_at w l) n q) (place_at w) t p2 ds) e steps).needed
             (word_by_lines (queue_at w (2 * l)) q (putting (place_at w) t p2))
 
     line_goes : (ds : List Deed) → (has_readers r.sort ≡ true → NoHandOff ds) → Steps r l (parts_at w l) (with_line (parts_at w l) m q) (place_at w) t p2 ds → ((u : ℕ) → u ≢ t → times u q ≡ times u (queue_at w (key_of l m))) → ((n : Line) → times t (queue_at v (key_of l n)) ≡ stood_in (station p2).stands n)
@@ -456,7 +463,7 @@ module _ (w : State) (t l : ℕ) (steady : IsSteady w) (own : IsOf l (place_at w
   nobody_goes m ds plain line empty steps e = record {
     follows = follows_by w v l (parts_at w l) (putting (place_at w) t p2)
         (lines_move v (queue_at w (2 * l)) (queue_at w (2 * l + 1)) refl refl refl (same_queue (2 * l)) (same_queue (2 * l + 1)) (λ k ne n. same_queue (key_of k n)))
-        r rules (acts t ds) (λ h. ordinary_by (length w.places) t ds there (plain h)) steps.site steps.needed (word_by_lines (queue_at w (2 * l)) (queue_at w (2 * l + 1)) (putting (place_at w) t p2));
+        r rules (acts t ds) (limited w l steady r rules (acts t ds) (λ h. ordinary_by (length w.places) t ds there (plain h)) steps.needed) steps.site steps.needed (word_by_lines (queue_at w (2 * l)) (queue_at w (2 * l + 1)) (putting (place_at w) t p2));
     stands = still w v steady.stands (λ k. refl) l t own p2 of fits (places_put v refl) (λ key. refl) same_queue e;
   }
     where

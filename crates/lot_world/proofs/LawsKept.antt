@@ -27,13 +27,13 @@ pub needed_same : (r : Rules) (ds : List Deed) (s : Site) (t : ℕ) → laws.All
 needed_same r [] s t h = tt
 needed_same r (d ∷ ds) s t h = (h.0, needed_same r ds (after_deed r d s t) t h.1)
 
-parked_read : (sort : Sort) (v : ℕ) → has_readers sort ≡ true → parked_in sort v ≡ has_parked v
+pub parked_read : (sort : Sort) (v : ℕ) → has_readers sort ≡ true → parked_in sort v ≡ has_parked v
 parked_read Normal v h = refl
 parked_read Recursive v h = refl
 parked_read Mutex v h = absurd cc
 parked_read Semaphore v h = absurd cc
 
-aside_read : (sort : Sort) (v : ℕ) → has_readers sort ≡ true → aside_in sort v ≡ has_aside v
+pub aside_read : (sort : Sort) (v : ℕ) → has_readers sort ≡ true → aside_in sort v ≡ has_aside v
 aside_read Normal v h = refl
 aside_read Recursive v h = refl
 aside_read Mutex v h = absurd cc

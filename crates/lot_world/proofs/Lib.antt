@@ -10,11 +10,16 @@ pub mod StandsKept
 pub mod StandsMoved
 pub mod ActsKept
 pub mod LawsKept
+pub mod ToldKept
+pub mod HandsKept
+pub mod HandRights
 pub mod WakesKept
 pub mod TakesKept
 pub mod PicksKept
 pub mod AnyPicked
 pub mod MovesKept
+pub mod HandsMoved
+pub mod InHand
 pub mod SitesKept
 pub mod RwLockKept
 pub mod SectionsKept
@@ -34,6 +39,7 @@ pub mod LineActs
 pub mod CallEvents
 pub mod MutexCalls
 pub mod LockEvents
+pub mod HandsEvents
 pub mod OtherCalls
 pub mod MutexEvents
 pub mod MutexOwing

@@ -20,7 +20,7 @@ use Rattle.lot_world.specs.Refinement.{taken_at}
 use Rattle.lot_world.specs.MutexDeeds.{acts}
 use Rattle.lot_world.specs.MutexDeeds as deeds
 use Rattle.lot_world.specs.Stations.{doing_on}
-use Rattle.lot_world.specs.SitesOf.{ActsNeeded, AreOrdinary, IsOrdinary, after_acts}
+use Rattle.lot_world.specs.SitesOf.{ActsNeeded, after_acts}
 use Rattle.lot_world.proofs.Glue.{Parts, differ, lock_in, seen_in, put_here, put_other, put_of, put_same}
 
 -- ---------------------------------------------------------------- deeds of one thread
@@ -184,6 +184,15 @@ module _ (t : ℕ) where
 record KeepsLimit (r : Rules) (s v : LockState) : Type 0 where
   pub count : length v.shared ≡ length s.shared
   pub limit : HasLimit r v
+
+-- a thread that is there hands nothing over
+abbrev pub IsOrdinary : ℕ → ℕ → Deed → Type 0
+IsOrdinary threads t (Case case) = (t < threads) × (IsHandOff case → ⊥)
+IsOrdinary threads t deed = Unit {0}
+
+abbrev pub AreOrdinary : ℕ → List deeds.Act → Type 0
+AreOrdinary threads [] = Unit {0}
+AreOrdinary threads (a ∷ ds) = IsOrdinary threads a.by a.deed × AreOrdinary threads ds
 
 deed_limited : (r : Rules) (d : Deed) (s : Site) (t n : ℕ) → has_readers r.sort ≡ true → 1 ≤ r.limit → length s.lock.shared ≡ n → IsOrdinary n t d → IsSite r s → Needed r d s t → HasLimit r s.lock → KeepsLimit r s.lock (after_deed r d s t).lock
 deed_limited r (Case case) s t n readers some e o site needed h = record {

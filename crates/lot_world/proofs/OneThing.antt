@@ -10,14 +10,14 @@ use Rattle.lot_acts.specs.declared.acts.Act.{Act}
 use Rattle.lot_acts.specs.declared.acts.Act as act
 use Rattle.lot_acts.specs.declared.acts.Wakes.{Wakes}
 use Rattle.lot_acts.specs.declared.acts.Wakes as wakes
-use Rattle.lot_acts.specs.declared.acts.Reply.TheVariants.{HandedBy, Late}
+use Rattle.lot_acts.specs.declared.acts.Reply.TheVariants.{Late}
 use Rattle.lot_calls.specs.declared.calls.Turn.{Turn}
 use Rattle.lot_calls.specs.declared.calls.Turn as turn
 use Rattle.lot_calls.specs.declared.calls.Step.{Step}
 use Rattle.lot_steps.specs.declared.places.Place.{Place}
 use Rattle.lot_calls.specs.Calls.{lock_in}
 use Rattle.lot_steps.specs.Steps.{act_of, lock_of, next_place, first_place, looking, late_key}
-use Rattle.lot_machine.specs.Machine.{state_after_hand_over_by, hand_over_told, State, state_after_take, can_turn, unlocked, place_at, word_at, queue_at, section_at, put, state_after_operation, state_with_sections, queues_with_last, queues_without_first, state_after_taking, state_after_wake, state_after_act, state_after_look, state_after_late_on, go_reply, state_after_turn, is_possible, after, kind_at, state_after_hand_over, state_after_telling}
+use Rattle.lot_machine.specs.Machine.{state_after_hand_over_by, State, state_after_take, can_turn, unlocked, place_at, word_at, queue_at, section_at, put, state_after_operation, state_with_sections, queues_with_last, queues_without_first, state_after_taking, state_after_wake, state_after_act, state_after_look, state_after_late_on, go_reply, state_after_turn, is_possible, after, kind_at}
 use Rattle.lot_world.proofs.Looking.{looks_untouched}
 use Rattle.lot_world.proofs.Closures.{nothing_closes}
 use Rattle.lot_machine.proofs.Shape.{both}

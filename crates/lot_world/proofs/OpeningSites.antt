@@ -1,5 +1,5 @@
 -- In the opening state each lock is a site, and nobody stands anywhere.
-use Rattle.std.proofs.Common.{ℕ, zero, suc, true, false, None, ◌&&◌, ◌≡◌, ◌+◌, ◌-◌, ◌*◌, ◌^◌, ◌≤◌, ◌<◌, List, [], ◌∷◌, length, get_or, map, replicate, sum, nat_le, All, inl, inr, refl, sym, ◌∙◌, ap, arith}
+use Rattle.std.proofs.Common.{subst, ℕ, zero, suc, true, false, None, ◌&&◌, ◌≡◌, ◌+◌, ◌-◌, ◌*◌, ◌^◌, ◌≤◌, ◌<◌, List, [], ◌∷◌, length, get_or, map, replicate, sum, nat_le, All, inl, inr, refl, sym, ◌∙◌, ap, arith}
 use Rattle.std.proofs.lemmas.Bool.{cases_lt, leb-true}
 use Rattle.std.proofs.lemmas.List.{length-replicate, length-map}
 use Rattle.lot_calls.specs.declared.kinds.Kind.{Kind}
@@ -47,11 +47,11 @@ limit_leaves_room n limit some h full =
     let c : (sum (replicate n 0) + 0) ≡ 0 = rw (no_readers n) refl in
     omega arith
 
-limit_fits : (n limit : ℕ) → 1 ≤ n → (nat_le n limit && nat_le limit MOST_READERS) ≡ true → (1 ≤ limit) × (limit < 2 ^ 60 - 1)
+limit_fits : (n limit : ℕ) → 1 ≤ n → (nat_le n limit && nat_le limit MOST_READERS) ≡ true → (1 ≤ limit) × (limit < 2 ^ 60 - 1) × (n ≤ limit)
 limit_fits n limit some h =
     let a : n ≤ limit = leb-true n limit (both (nat_le n limit) (nat_le limit MOST_READERS) h).0 in
     let b : limit ≤ MOST_READERS = leb-true limit MOST_READERS (both (nat_le n limit) (nat_le limit MOST_READERS) h).1 in
-    (omega arith, omega arith)
+    (omega arith, omega arith, a)
 
 room : (k : Kind) (n : ℕ) → 1 ≤ n → fits k n ≡ true → is_full (rules_of k) (opening_lock n) ≡ true → ⊥
 room (kind.TheVariants.RwLock limit) n some h full = limit_leaves_room n limit some h full
@@ -76,7 +76,7 @@ unfilled_0 (x ∷ xs) zero = refl
 unfilled_0 (x ∷ xs) (suc l) = unfilled_0 xs l
 
 -- a number of readers that a word can count
-roomy : (k : Kind) (n : ℕ) → 1 ≤ n → fits k n ≡ true → has_readers (rules_of k).sort ≡ true → HasRoom (rules_of k)
+roomy : (k : Kind) (n : ℕ) → 1 ≤ n → fits k n ≡ true → has_readers (rules_of k).sort ≡ true → HasRoom n (rules_of k)
 roomy (kind.TheVariants.RwLock limit) n some h r = limit_fits n limit some h
 roomy (kind.TheVariants.Recursive limit) n some h r = limit_fits n limit some h
 roomy kind.TheVariants.Mutex n some h r = absurd cc
@@ -133,7 +133,7 @@ module _ (kinds : List Kind) (threads : ℕ) where
       site = λ l. rw (opening_seen l) (rw size (opening_is_site (rules_in first l) threads (room (kind_at first l) threads some (kinds_fit fit l))));
       word = λ l. word_0 kinds l ∙ sym (ap (code (rules_in first l)) (opening_seen l) ∙ zero_code (kind_at first l) (length first.places));
       unfilled = λ l h. unfilled_0 kinds l;
-      limits = λ l h. (roomy (kind_at first l) threads some (kinds_fit fit l) h, rw (ap (λ (s : Site). s.lock) (opening_seen l)) (rw size (opening_limit (rules_in first l) threads)));
+      limits = λ l h. (subst (λ n. HasRoom n (rules_in first l)) (sym size) (roomy (kind_at first l) threads some (kinds_fit fit l) h), rw (ap (λ (s : Site). s.lock) (opening_seen l)) (rw size (opening_limit (rules_in first l) threads)));
     };
     numbers = record {
       locks = length-replicate (length kinds) (replicate threads 0) ∙ sym (length-map kinds unlocked);

@@ -324,7 +324,7 @@ module _ (w : State) (t l : ℕ) (a : Admission) (p : RwLockPlace) (steady : IsS
       nowhere : standing t here.lock ≡ 0
       nowhere = nowhere_here w t l steady there own (rules_in w l) refl admits.0 (rwlock_move a p) same_row g.out g.free
 
-      limits : HasRoom (rules_in w l) × HasLimit (rules_in w l) here.lock
+      limits : HasRoom (length w.places) (rules_in w l) × HasLimit (rules_in w l) here.lock
       limits = steady.sites.limits l admits.0
 
       room : a.limit < 2 ^ 60 - 1

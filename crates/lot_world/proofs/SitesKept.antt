@@ -23,7 +23,7 @@ use Rattle.lot_acts.specs.declared.acts.Act.{Act}
 use Rattle.lot_acts.specs.declared.acts.Act as act
 use Rattle.lot_acts.specs.declared.acts.Wakes as wakes
 use Rattle.lot_acts.specs.declared.acts.Reply.{Reply}
-use Rattle.lot_acts.specs.declared.acts.Reply.TheVariants.{Value, Woken, TakenBy, HandedBy}
+use Rattle.lot_acts.specs.declared.acts.Reply.TheVariants.{Value, Woken, TakenBy}
 use Rattle.lot_mutex.specs.MutexSteps.{mutex_owners, hand_off_word, mutex_next}
 use Rattle.lot_acts.specs.Owners.{with_exclusive}
 use Rattle.lot_steps.specs.Steps.{next_place}

@@ -16,7 +16,7 @@ use Rattle.lot_acts.specs.declared.acts.Act as act
 use Rattle.lot_acts.specs.declared.acts.Check.TheVariants.{WordIs}
 use Rattle.lot_acts.specs.declared.acts.Wakes.{Wakes}
 use Rattle.lot_acts.specs.declared.acts.Wakes as wakes
-use Rattle.lot_acts.specs.declared.acts.Reply.TheVariants.{Done, Value, Parked, Took, Removed, TakenBy, HandedBy, Woken}
+use Rattle.lot_acts.specs.declared.acts.Reply.TheVariants.{Done, Value, Parked, Took, Removed, TakenBy, Woken}
 use Rattle.lot_calls.specs.declared.outcomes.Outcome.{Outcome}
 use Rattle.lot_calls.specs.declared.outcomes.Outcome as outcome
 use Rattle.lot_steps.specs.declared.places.Place.{Place}

@@ -407,6 +407,52 @@ module _ (one : ℕ → Type 0) (p q : ℕ → Place) (hands : Hands one p) (t l
       taken = taken_then_free;
     }
 
+  -- t has handed the lock over to whomever it has in hand
+  module _ (c : Option Bool) (in_hand : (u k : ℕ) → hand_at (q u) k ≡ (if meant u k then hand t true else hand_at (p u) k)) (carries : (i k : ℕ) → carried_at (q i) k ≡ (if taking i k then c else carried_at (p i) k))
+      (mine : (u : ℕ) → has u ≡ true → (b : Bool) × (hand_at (p u) l ≡ hand t b)) (all : (u : ℕ) (b : Bool) → hand_at (p u) l ≡ hand t b → has u ≡ true) (some : (b : Bool) → c ≡ Some b → (b ≡ true) × ((u : ℕ) × (has u ≡ true))) (full : (u : ℕ) → has u ≡ true → c ≡ Some true) where
+    -- who is in a hand behind it was so before
+    held_before : (i u k : ℕ) (b : Bool) → hand_at (q u) k ≡ hand i b → (d : Bool) × (hand_at (p u) k ≡ hand i d)
+    held_before i u k b h = by_meant (meant u k) refl (sym (in_hand u k) ∙ h)
+      where
+        by_meant : (x : Bool) → meant u k ≡ x → (if x then hand t true else hand_at (p u) k) ≡ hand i b → (d : Bool) × (hand_at (p u) k ≡ hand i d)
+        by_meant true e g = let at_l = meant_is u k e in let who : t ≡ i = cc in let m = mine u at_l.0 in (m.0, subst (λ j. hand_at (p u) j ≡ hand i m.0) (sym at_l.1) (subst (λ j. hand_at (p u) l ≡ hand j m.0) who m.1))
+        by_meant false e g = (b, g)
+
+    taken_then_given : (i u k : ℕ) (b : Bool) → hand_at (q u) k ≡ hand i b → carried_at (q i) k ≡ Some b
+    taken_then_given i u k b h = by_meant (meant u k) refl (sym (in_hand u k) ∙ h)
+      where
+        by_taking : (x : Bool) → taking i k ≡ x → meant u k ≡ false → hand_at (p u) k ≡ hand i b → carried_at (q i) k ≡ Some b
+        by_taking true e f g = absurd (let at_l = taking_is i k e in
+            let one_of : has u ≡ true = all u b (subst (λ j. hand_at (p u) l ≡ hand j b) at_l.0 (subst (λ j. hand_at (p u) j ≡ hand i b) at_l.1 g)) in
+            let yes : meant u k ≡ true = meant_here u k one_of at_l.1 in let no_more : true ≡ false = sym yes ∙ f in cc)
+        by_taking false e f g = carries i k ∙ ap (λ x. if x then c else carried_at (p i) k) e ∙ hands.taken i u k b g
+
+        by_meant : (x : Bool) → meant u k ≡ x → (if x then hand t true else hand_at (p u) k) ≡ hand i b → carried_at (q i) k ≡ Some b
+        by_meant true e g = let at_l = meant_is u k e in let who : t ≡ i = cc in let which : true ≡ b = cc in
+            carries i k ∙ ap (λ x. if x then c else carried_at (p i) k) (taking_here i k who at_l.1) ∙ full u at_l.0 ∙ ap Some which
+        by_meant false e g = by_taking (taking i k) refl e g
+
+    carried_then_given : (i k : ℕ) (b : Bool) → carried_at (q i) k ≡ Some b → (u : ℕ) × (hand_at (q u) k ≡ hand i b)
+    carried_then_given i k b h = by_taking (taking i k) refl (sym (carries i k) ∙ h)
+      where
+        stays_held : (u : ℕ) → taking i k ≡ false → hand_at (p u) k ≡ hand i b → (x : Bool) → meant u k ≡ x → (if x then hand t true else hand_at (p u) k) ≡ hand i b
+        stays_held u e held false f = held
+        stays_held u e held true f = absurd (let at_l = meant_is u k f in let m = mine u at_l.0 in
+            let both_hands : hand t m.0 ≡ hand i b = sym m.1 ∙ subst (λ j. hand_at (p u) j ≡ hand i b) at_l.1 held in let who : t ≡ i = cc in
+            let yes : taking i k ≡ true = taking_here i k who at_l.1 in let g : true ≡ false = sym yes ∙ e in cc)
+
+        by_taking : (x : Bool) → taking i k ≡ x → (if x then c else carried_at (p i) k) ≡ Some b → (u : ℕ) × (hand_at (q u) k ≡ hand i b)
+        by_taking true e g = let at_l = taking_is i k e in let s = some b g in
+            (s.1.0, in_hand s.1.0 k ∙ ap (λ x. if x then hand t true else hand_at (p s.1.0) k) (meant_here s.1.0 k s.1.1 at_l.1) ∙ (λ j. hand (sym at_l.0 j) (sym s.0 j)))
+        by_taking false e g = let u = hands.carried i k b g in (u.0, in_hand u.0 k ∙ stays_held u.0 e u.1 (meant u.0 k) refl)
+
+    pub hands_given : Hands one q
+    hands_given = record {
+      carried = carried_then_given;
+      alone = λ i k u j b d o h g. let x = held_before i u k b h in let y = held_before i j k d g in hands.alone i k u j x.0 y.0 o x.1 y.1;
+      taken = taken_then_given;
+    }
+
 -- ---------------------------------------------------------------- calls
 
 pub calls_of : (w : State) (l : ℕ) (p : Place) → IsMutexOf l p → is_mutex (kind_at w l) ≡ true → FitsItsLock w p

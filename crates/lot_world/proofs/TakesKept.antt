@@ -23,7 +23,7 @@ use Rattle.lot_world.specs.Stations.{Station, hand, station, station_at, nowhere
 use Rattle.lot_world.specs.SitesOf.{ActsNeeded, TakesOne, Hands, IsSteady, Goes, FitsItsLock, Lines, Waits, AreWaiting, Sections, after_acts, rules_in, key_of, stood_in, carried_at, hand_at}
 use Rattle.lot_world.proofs.Glue.{parts_at, base_at, lock_in, seen_in, same, differ, put_here, put_other, set_puts, past_all, IsOf, doing_elsewhere, taken_elsewhere, station_here, station_elsewhere, nothing_at}
 use Rattle.lot_world.proofs.OneStep.{AreSingle, others_same}
-use Rattle.lot_world.proofs.ActsKept.{AlikeAt, Moves, NoHandOff, ordinary_by, with_line, stood_other, follows_by, lock_by, word_by_lines}
+use Rattle.lot_world.proofs.ActsKept.{AlikeAt, Moves, NoHandOff, ordinary_by, limited, with_line, stood_other, follows_by, lock_by, word_by_lines}
 use Rattle.lot_world.proofs.StandsKept.{same_line, other_key, other_line, sections_same, waiting_same, hands_taken, calls_in}
 use Rattle.lot_world.proofs.StandsMoved.{stands_then, hands_in}
 
@@ -354,7 +354,7 @@ module _ (w : State) (t l : ℕ) (steady : IsSteady w) (own : IsOf l (place_at w
           → (d : Deed) → AreSingle (d ∷ []) → NoHandOff (d ∷ []) → ActsNeeded r (acts t (d ∷ [])) (lock_by w l r) → lock_taken.lock ≡ (after_acts r (acts t (d ∷ [])) (lock_by w l r)).lock → lock_taken.parked ≡ (after_acts r (acts t (d ∷ [])) (lock_by w l r)).parked
           → lock_taken.aside_parked ≡ (after_acts r (acts t (d ∷ [])) (lock_by w l r)).aside_parked → lock_taken.filled ≡ (after_acts r (acts t (d ∷ [])) (lock_by w l r)).filled → doing_on p2 l ≡ (after_acts r (acts t (d ∷ [])) (lock_by w l r)).doing t → Goes w v l (acts t (d ∷ []))
       take_goes inside stands unheld some full d single plain needed lock parked aside filled own_is = record {
-        follows = follows_by w v l (with_line (parts_at w l) m left) places_now moves r rules (acts t (d ∷ [])) (λ h. ordinary_by (length w.places) t (d ∷ []) there plain) (take_site d single lock parked aside filled own_is) needed (word_now m refl);
+        follows = follows_by w v l (with_line (parts_at w l) m left) places_now moves r rules (acts t (d ∷ [])) (limited w l steady r rules (acts t (d ∷ [])) (λ h. ordinary_by (length w.places) t (d ∷ []) there plain) needed) (take_site d single lock parked aside filled own_is) needed (word_now m refl);
         stands = stands_then v places_now places
             (subst (λ (f : ℕ → Option ℕ). Sections places_now f) (sym (λ i key. get_or (es i) key None)) (sections_same (place_at w) places_now (section_at w) steady.stands.sections (part_now (λ y. y.inside) inside (λ x. refl))))
             (lines_now (queue_at v) stands here others)

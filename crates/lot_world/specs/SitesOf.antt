@@ -7,8 +7,8 @@ use Rattle.lot_steps.specs.declared.places.Place.{Place}
 use Rattle.lot_steps.specs.declared.places.Place.TheVariants.{Idle, Mutex as OfMutex, RwLock as OfRwLock}
 use Rattle.lot_base.specs.declared.wants.Want.TheVariants.{Upgradable}
 use Rattle.abstract_locks.specs.Locks.{Rules, Knows}
-use Rattle.abstract_locks.specs.Sites.{Line, Main, Second, Site, IsSite, Deed, Case, has_readers, after_deed, Needed}
-use Rattle.abstract_locks.specs.Codes.{code, parked_in, aside_in, HasLimit, IsHandOff}
+use Rattle.abstract_locks.specs.Sites.{Line, Main, Second, Site, IsSite, has_readers, after_deed, Needed}
+use Rattle.abstract_locks.specs.Codes.{code, parked_in, aside_in, HasLimit}
 use Rattle.abstract_locks.specs.Purposes.{rules_of}
 use Rattle.lot_machine.specs.Machine.{State, place_at, word_at, shares_at, filled_at, kind_at, queue_at, section_at}
 use Rattle.lot_world.specs.Refinement.{lock_state}
@@ -40,9 +40,9 @@ abbrev pub ActsNeeded : Rules → List Act → Site → Type 0
 ActsNeeded r [] s = Unit {0}
 ActsNeeded r (a ∷ more) s = Needed r a.deed s a.by × ActsNeeded r more (after_deed r a.deed s a.by)
 
--- a number of readers that a word can count
-abbrev pub HasRoom : Rules → Type 0
-HasRoom r = (1 ≤ r.limit) × (r.limit < 2 ^ 60 - 1)
+-- a number of readers that a word can count, and that all threads may be
+abbrev pub HasRoom : ℕ → Rules → Type 0
+HasRoom threads r = (1 ≤ r.limit) × (r.limit < 2 ^ 60 - 1) × (threads ≤ r.limit)
 
 -- each lock is a site, and its word says so
 pub record AreSites (w : State) : Type 0 where
@@ -52,7 +52,7 @@ pub record AreSites (w : State) : Type 0 where
   pub unfilled : (l : ℕ) → has_readers (rules_in w l).sort ≡ false → filled_at w l ≡ false
   -- as many readers as the limit lets in, or one more
   pub limits : (l : ℕ) → has_readers (rules_in w l).sort ≡ true
-      → HasRoom (rules_in w l) × HasLimit (rules_in w l) (lock_state w l)
+      → HasRoom (length w.places) (rules_in w l) × HasLimit (rules_in w l) (lock_state w l)
 
 -- ---------------------------------------------------------------- what the machine keeps beside its locks' being sites
 
@@ -127,15 +127,6 @@ pub record IsSteady (w : State) : Type 0 where
   pub stands : Stands w
   pub numbers : HasNumbers w
 
--- a thread that is there hands nothing over
-abbrev pub IsOrdinary : ℕ → ℕ → Deed → Type 0
-IsOrdinary threads t (Case case) = (t < threads) × (IsHandOff case → ⊥)
-IsOrdinary threads t deed = Unit {0}
-
-abbrev pub AreOrdinary : ℕ → List Act → Type 0
-AreOrdinary threads [] = Unit {0}
-AreOrdinary threads (a ∷ ds) = IsOrdinary threads a.by a.deed × AreOrdinary threads ds
-
 -- a step changes no number of threads or locks
 pub record SameNumbers (w v : State) : Type 0 where
   pub threads : length v.places ≡ length w.places
@@ -151,8 +142,7 @@ pub record Follows (w v : State) (l : ℕ) (ds : List Act) : Type 0 where
   pub kinds : (k : ℕ) → kind_at v k ≡ kind_at w k
   pub numbers : SameNumbers w v
   pub sharers : (k : ℕ) → length (shares_at v k) ≡ length (shares_at w k)
-  -- no call that hands over a lock that is shared is built
-  pub ordinary : has_readers (rules_in w l).sort ≡ true → AreOrdinary (length w.places) ds
+  pub limit : has_readers (rules_in w l).sort ≡ true → HasLimit (rules_in w l) (lock_state v l)
 
 -- and each thread stands where its place says
 pub record Goes (w v : State) (l : ℕ) (ds : List Act) : Type 0 where
