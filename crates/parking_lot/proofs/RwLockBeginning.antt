@@ -124,13 +124,16 @@ module _ (up : Type 0) (l : ℕ) (a : Admission) (base : List Ownership) (st new
   gave_upgrade : (how : Patience) → OwnsBeside l (Some (Has wants.Upgradable)) base st.owns → Step (Sub 12) → ComesBegun up l base a (purpose.Upgrade how) (if count_in seen == 1 then End (entered how) else goes (record { purpose = purpose.Upgrade how; retries = false; at = at.GiveWay }) at.Look false) new
   gave_upgrade how c b = dite (ℕ_discrete (seen / 16) 1)
       (λ one. rw (eq-eqb (seen / 16) 1 one) (none_now (Sub 12) b, inl (refl, owns_now (Sub 12) (Some (Has wants.Exclusive)) b (owners.Exclusive, c.1, refl, c.3, upgraded_alone (rwlock_at l) seen st.owns b.0 c.1 (of_owner owners.Upgradable c.0 c.1 c.2 c.4) one))))
-      (λ more. rw (ne_eqb (seen / 16) 1 more) (record {
-        begun = tt;
-        seen = tt;
-        owns = owns_now (Sub 12) (Some (Pends true)) b (owners.Upgrading, c.1, inr refl, c.3, upgraded_beside (rwlock_at l) seen st.owns b.0 c.1 (of_owner owners.Upgradable c.0 c.1 c.2 c.4) more);
-        within = none_now (Sub 12) b;
-        late = λ e. never_late e;
-      }, refl))
+      (λ more. rw (ne_eqb (seen / 16) 1 more) (
+        record {
+          begun = tt;
+          seen = tt;
+          owns = owns_now (Sub 12) (Some (Pends true)) b (owners.Upgrading, c.1, inr refl, c.3, upgraded_beside (rwlock_at l) seen st.owns b.0 c.1 (of_owner owners.Upgradable c.0 c.1 c.2 c.4) more);
+          within = none_now (Sub 12) b;
+          late = λ e. never_late e;
+        },
+        refl,
+      ))
 
   module _ (room : a.limit < 2 ^ 60 - 1) where
     -- a call that enters, or tries to upgrade, begins at a place that fits

@@ -23,10 +23,12 @@ run_out-requires-clause-words g c = let next : c.advance-next.result.0 ≡ next_
 
 pub run_out-requires-clause-fits : goal.run_out-requires-clause-fits
 run_out-requires-clause-fits g c = let next : c.advance-next.result.0 ≡ next_place (rwlock_begin c.args.word.number c.args.admission c.args.call) (Value c.word-seen.result) = search rules in
-    let none : answer_of (next_act (rwlock_begin c.args.word.number c.args.admission c.args.call) (Value c.word-seen.result)) ≡ None = search rules in
-    (c.requires.right.0, subst (λ (p : Place). Fits (IsUp g.C.Clock.tells c.args.limit) c.requires.right.0 p (stage_of c.word-seen.new.token None)) (sym next)
-    (fits_on (IsUp g.C.Clock.tells c.args.limit) c.args.word.number c.args.admission c.requires.right.0 c.args.call (stage_of c.args.token.now None) (stage_of c.word-seen.new.token None) c.word-seen.result refl c.requires.own.4 c.requires.right.1
-    (started c.args.word c.requires.own.2 c.args.call c.first_op-op.result c.word-seen.result c.args.token.now c.word-seen.new.token c.first_op-op.ensures c.word-seen.ensures.stepped c.word-seen.ensures.own.1 c.word-seen.ensures.coded) none).0)
+    let none : answer_of (next_act (rwlock_begin c.args.word.number c.args.admission c.args.call) (Value c.word-seen.result)) ≡ None = search rules in (
+      c.requires.right.0,
+      subst (λ (p : Place). Fits (IsUp g.C.Clock.tells c.args.limit) c.requires.right.0 p (stage_of c.word-seen.new.token None)) (sym next)
+          (fits_on (IsUp g.C.Clock.tells c.args.limit) c.args.word.number c.args.admission c.requires.right.0 c.args.call (stage_of c.args.token.now None) (stage_of c.word-seen.new.token None) c.word-seen.result refl c.requires.own.4 c.requires.right.1
+          (started c.args.word c.requires.own.2 c.args.call c.first_op-op.result c.word-seen.result c.args.token.now c.word-seen.new.token c.first_op-op.ensures c.word-seen.ensures.stepped c.word-seen.ensures.own.1 c.word-seen.ensures.coded) none).0,
+    )
 
 pub returns-in-Some-clause-path : goal.returns-in-Some-clause-path
 returns-in-Some-clause-path g c = let some : answer_of (next_act (rwlock_begin c.args.word.number c.args.admission c.args.call) (Value c.word-seen.result)) ≡ Some c.in-Some.answer = search rules in

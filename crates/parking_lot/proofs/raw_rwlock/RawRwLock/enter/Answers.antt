@@ -1,4 +1,4 @@
-use Rattle.std.proofs.Common.{◌≡◌, ◌∙◌, ◌∷◌, List, None, true, ap, sym, subst, refl}
+use Rattle.std.proofs.Common.{rules, ◌≡◌, List, None, true, ap, sym, subst, refl}
 use Rattle.lot_base.specs.Clocks.{IsUp}
 use Rattle.lot_base.specs.declared.wants.Want.{Want}
 use Rattle.lot_calls.specs.declared.calls.RwLockCall.TheVariants.{Enter}

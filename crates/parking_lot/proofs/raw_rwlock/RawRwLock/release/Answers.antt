@@ -1,4 +1,4 @@
-use Rattle.std.proofs.Common.{◌≡◌, ◌∷◌, List, ap, ◌∙◌, subst, refl}
+use Rattle.std.proofs.Common.{◌∷◌, List, ap, ◌∙◌, subst, refl}
 use Rattle.lot_base.specs.declared.wants.Want.{Want}
 use Rattle.lot_calls.specs.declared.calls.RwLockCall.TheVariants.{Release}
 use Rattle.lot_calls.specs.declared.outcomes.Answer.{Answer}
@@ -11,7 +11,6 @@ use Rattle.parking_lot_core.specs.Tokens.{view_of}
 use Rattle.parking_lot.specs.Paths.{Walks, at_rwlock, rwlock_at}
 use Rattle.parking_lot.specs.RwLockCalls.{rwlock_begin}
 use Rattle.parking_lot.proofs.raw_rwlock.RawRwLock.release.Goals as goal
-
 
 pub call-requires-clause-right : goal.call-requires-clause-right
 call-requires-clause-right g c = let n = c.args.self.now.word.number in let owns = (view_of c.args.token.now).owns in
