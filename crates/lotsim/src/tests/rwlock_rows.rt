@@ -1,7 +1,7 @@
 //! Worked schedules of reader-writer locks, with the text that they lead to.
 
 /// Inputs, with the text that they lead to.
-pub const RWLOCK_ROWS: [(&[u8], &[u8]); 14] = [
+pub const RWLOCK_ROWS: [(&[u8], &[u8]); 15] = [
     // A writer beside a reader is pending, and keeps a further reader out.
     (
         b"threads 3
@@ -380,6 +380,39 @@ show
 1 end ok
 a 36 own=1u,0s
 b 0
+",
+    ),
+    // A pending writer spins before it sets its parked bit, and no more behind it.
+    (
+        b"threads 2
+lock r rwlock
+0 do read r
+1 begin write r
+1 go
+1 go
+1 go
+1 go
+1 spin
+1 go
+1 spin
+1 go
+1 go
+1 go
+show
+",
+        b"0 end ok
+1 step
+1 step
+1 step
+1 step
+1 step
+1 step
+1 step
+1 not now
+1 step
+1 step
+1 sleep
+r 26 own=1p,0s aside=1
 ",
     ),
 ];

@@ -1,0 +1,619 @@
+#!/usr/bin/env python3
+"""A second reading of the step tables, beside the program: random schedules of mutexes and reader-writer locks, answered here and by
+`lotsim replay`, have to agree.
+
+Build the proved program first: `rt run -- replay < stdin` in crates/lotsim. Then:
+python3 bench/second_reading.py crates/lotsim/out/lotsim SCHEDULES LINES [FIRST_SEED]
+"""
+import os, random, subprocess, sys, tempfile
+
+P, WP, U, W = 1, 2, 4, 8
+TOKEN = {"s": 16, "u": 20}
+DEFAULT = 2**60 - 2
+
+class Lock:
+    def __init__(self, number, name, kind, limit):
+        self.number, self.name, self.kind, self.limit = number, name, kind, limit
+        self.word = 0
+        self.main, self.second = [], []          # (thread, want)
+        self.inside = {"main": None, "second": None}
+        self.exclusive = self.pending = self.upgradable = None
+        self.shared = {}
+    def queue(self, line): return self.main if line == "main" else self.second
+    def readers(self): return sum(self.shared.values())
+
+class Thread:
+    def __init__(self, number):
+        self.number = number
+        self.clear()
+    def clear(self):
+        self.call = None        # (name, lock)
+        self.step = None        # what the next go does
+        self.enters = None      # (lock, line)
+        self.spin = None
+        self.asleep = False
+        self.note = None
+        self.timed = False
+        self.late = None
+        self.owes = None        # (lock, line)
+        self.retries = None
+        self.hand = []
+        self.woken = None       # what a go does with a note
+
+class World:
+    def __init__(self, threads, locks):
+        self.threads = [Thread(t) for t in range(threads)]
+        self.locks = [Lock(n, *lock) for n, lock in enumerate(locks)]
+
+    # ---------------------------------------------------------------- turns
+    def outcome(self, t):
+        if t.ended is not None: return "end " + t.ended
+        if t.asleep and t.note is None: return "sleep"
+        return "step"
+
+    def can_go(self, t):
+        if t.call is None: return False
+        if t.asleep and t.note is None: return False
+        if not t.asleep and t.enters is not None:
+            lock, line = t.enters
+            if lock.inside[line] is not None: return False
+        return True
+
+    def go(self, number):
+        if number >= len(self.threads): return "not now"
+        t = self.threads[number]
+        if not self.can_go(t): return "not now"
+        t.ended = None
+        if t.asleep:
+            note, t.note, t.asleep = t.note, None, False
+            woken = t.woken
+            woken(note)
+        else:
+            step = t.step
+            t.step, t.enters, t.spin = None, None, None
+            step()
+        return self.outcome(t)
+
+    def spin(self, number):
+        if number >= len(self.threads): return "not now"
+        t = self.threads[number]
+        if t.call is None or t.asleep or t.spin is None: return "not now"
+        t.ended = None
+        spin = t.spin
+        t.step, t.enters, t.spin = None, None, None
+        spin()
+        return self.outcome(t)
+
+    def is_late(self, t):
+        if t.call is None or not t.asleep or t.note is not None or not t.timed: return None
+        for lock in self.locks:
+            for line in ("main", "second"):
+                if any(u == t.number for u, _ in lock.queue(line)):
+                    return (lock, line) if lock.inside[line] is None else None
+        return None
+
+    def turn_late(self, number):
+        if number >= len(self.threads): return "not now"
+        t = self.threads[number]
+        at = self.is_late(t)
+        if at is None: return "not now"
+        lock, line = at
+        lock.inside[line] = t.number
+        t.owes = (lock, line)
+        t.asleep = False
+        t.ended = None
+        t.late()
+        return self.outcome(t)
+
+    def solo(self, number):
+        last = "not now"
+        for _ in range(64):
+            out = self.go(number)
+            if out == "not now": return last
+            last = out
+            if out != "step": return last
+        return last
+
+    def begin(self, number, name, lock_number):
+        if number >= len(self.threads): return "not now"
+        t, l = self.threads[number], self.locks[lock_number]
+        if t.call is not None: return "not now"
+        calls = MUTEX if l.kind in ("mutex", "fair") else RWLOCK
+        if name not in calls: return "not now"
+        need = RIGHT.get(name)
+        if need == "x" and l.exclusive != number: return "not now"
+        if need == "u" and l.upgradable != number: return "not now"
+        if need == "s" and l.shared.get(number, 0) == 0: return "not now"
+        t.call = (name, l)
+        t.ended = None
+        Call(self, t, l, name).begin()
+        return "step"
+
+    def show(self):
+        out = []
+        for l in self.locks:
+            own = []
+            if l.exclusive is not None: own.append(f"{l.exclusive}x")
+            if l.pending is not None: own.append(f"{l.pending[0]}p")
+            if l.upgradable is not None: own.append(f"{l.upgradable}u")
+            for t in sorted(l.shared): own += [f"{t}s"] * l.shared[t]
+            line = f"{l.name} {l.word}"
+            if own: line += " own=" + ",".join(own)
+            if l.main: line += " queue=" + ",".join(f"{t}{w}" for t, w in l.main)
+            if l.second: line += " aside=" + ",".join(f"{t}" for t, _ in l.second)
+            owe = [str(t.number) for t in self.threads if t.owes is not None and t.owes[0] is l]
+            if owe: line += " owe=" + ",".join(owe)
+            retry = [str(t.number) for t in self.threads if t.retries is l]
+            if retry: line += " retry=" + ",".join(retry)
+            out.append(line)
+        return out
+
+MUTEX = {"lock", "lock_timed", "try_lock", "unlock", "unlock_fair", "bump"}
+RWLOCK = {"read", "read_timed", "try_read", "upgradable", "upgradable_timed", "try_upgradable", "write", "write_timed", "try_write",
+          "unlock_shared", "unlock_exclusive", "unlock_upgradable", "downgrade", "downgrade_upgradable", "downgrade_to_upgradable",
+          "upgrade", "upgrade_timed", "try_upgrade"}
+RIGHT = {"unlock": "x", "unlock_fair": "x", "bump": "x", "unlock_shared": "s", "unlock_shared_fair": "s", "bump_shared": "s",
+         "unlock_exclusive": "x", "unlock_exclusive_fair": "x", "bump_exclusive": "x", "downgrade": "x", "downgrade_to_upgradable": "x",
+         "unlock_upgradable": "u", "unlock_upgradable_fair": "u", "bump_upgradable": "u", "downgrade_upgradable": "u",
+         "upgrade": "u", "upgrade_timed": "u", "try_upgrade": "u"}
+
+class Call:
+    """The steps of one call."""
+    def __init__(self, world, t, l, name):
+        self.world, self.t, self.l, self.name = world, t, l, name
+        self.recursive = l.kind == "recursive"
+
+    # ------------------------------------------------ tools
+    def then(self, step, enters=None, spin=None):
+        self.t.step, self.t.enters, self.t.spin = step, enters, spin
+    def end(self, answer):
+        t = self.t
+        hand = t.hand
+        assert not hand
+        t.clear()
+        t.ended = answer
+    def exchange(self, a, b):
+        if self.l.word == a:
+            self.l.word = b
+            return True
+        return False
+    def owned(self):
+        if self.t.retries is self.l: self.t.retries = None
+    def enter(self, line, then):
+        def step():
+            assert self.l.inside[line] is None
+            self.l.inside[line] = self.t.number
+            self.t.owes = (self.l, line)
+            then()
+        self.then(step, (self.l, line))
+    def leave(self, line, note, then):
+        def step():
+            self.l.inside[line] = None
+            self.t.owes = None
+            for u in self.t.hand: self.wake(u, note)
+            self.t.hand = []
+            then()
+        self.then(step)
+    def wake(self, u, note):
+        thread = self.world.threads[u]
+        thread.note = note
+        if note == "normal": thread.retries = self.l
+    def park(self, line, check, want, woken, gave_up):
+        """Enter the section, look, stand behind the last, leave, sleep."""
+        l, t = self.l, self.t
+        def look():
+            if check(l.word):
+                l.queue(line).append((t.number, want))
+                self.owned()
+                self.leave(line, "normal", asleep)
+            else:
+                self.leave(line, "normal", lambda: woken("normal"))
+        def asleep():
+            t.asleep, t.note, t.woken, t.late = True, None, wakes, late
+        def wakes(note):
+            # the go that finds the note does the first step of what follows
+            woken(note)
+            if note == "normal":
+                step = t.step
+                t.step, t.enters, t.spin = None, None, None
+                step()
+        def late():
+            # the late step has entered the section
+            def remove():
+                q = l.queue(line)
+                q[:] = [x for x in q if x[0] != t.number]
+                last = not q
+                if line == "second" or last:
+                    def clear():
+                        l.word &= ~(2 if line == "second" or l.kind in ("mutex", "fair") else P)
+                        self.leave(line, "normal", gave_up)
+                    self.then(clear)
+                else:
+                    self.leave(line, "normal", gave_up)
+            self.then(remove)
+        self.enter(line, lambda: self.then(look))
+
+    # ------------------------------------------------ begin
+    def begin(self):
+        n = self.name
+        self.t.timed = n.endswith("_timed")
+        if n in MUTEX: getattr(self, "m_" + n)()
+        elif n.startswith(("read", "upgradable")):
+            self.want = "s" if n.startswith("read") else "u"
+            self.enter_shared()
+        elif n in ("try_read", "try_upgradable"):
+            self.want = "s" if n == "try_read" else "u"
+            self.then(lambda: self.try_loop(self.l.word))
+        elif n in ("write", "write_timed"): self.begin_write()
+        elif n == "try_write":
+            def step():
+                if self.exchange(0, 8):
+                    self.l.exclusive = self.t.number
+                    self.end("yes")
+                else: self.end("no")
+            self.then(step)
+        else: getattr(self, "r_" + n)()
+
+    # ------------------------------------------------ mutexes
+    def m_lock(self):
+        def step():
+            if self.exchange(0, 1): self.m_own()
+            else: self.then(self.m_load)
+        self.then(step)
+    m_lock_timed = m_lock
+    def m_own(self):
+        self.owned()
+        self.l.exclusive = self.t.number
+        self.end("yes" if self.t.timed else "ok")
+    def m_load(self): self.m_loop(self.l.word)
+    def m_loop(self, s):
+        if s & 1 == 0:
+            def step():
+                if self.exchange(s, s + 1): self.m_own()
+                else: self.m_loop(self.l.word)
+            self.then(step)
+        elif s == 1:
+            def step():
+                if self.exchange(1, 3): self.m_park()
+                else: self.m_loop(self.l.word)
+            self.then(step, None, self.m_load)
+        else: self.m_park()
+    def m_park(self):
+        def woken(note):
+            if note == "normal": self.then(self.m_load)
+            else: self.m_handed()
+        self.park("main", lambda w: w == 3, "x", woken, lambda: self.end("no"))
+    def m_handed(self):
+        self.end("yes" if self.t.timed else "ok")
+    def m_try_lock(self):
+        def step():
+            before, self.l.word = self.l.word, self.l.word | 1
+            if before & 1 == 0:
+                self.l.exclusive = self.t.number
+                self.end("yes")
+            else: self.end("no")
+        self.then(step)
+    def m_unlock(self):
+        if self.l.kind == "fair": return self.m_unlock_fair()
+        def step():
+            seen = self.l.word
+            self.l.word -= 1
+            self.l.exclusive = None
+            if seen & 2 == 0: return self.end("ok")
+            self.t.owes = (self.l, "main")
+            self.enter("main", lambda: self.then(take))
+        def take():
+            q = self.l.main
+            if q: self.t.hand = [q.pop(0)[0]]
+            if not q:
+                def clear():
+                    self.l.word &= ~2
+                    self.leave("main", "normal", lambda: self.end("ok"))
+                self.then(clear)
+            else: self.leave("main", "normal", lambda: self.end("ok"))
+        self.then(step)
+    def m_unlock_fair(self, after=None):
+        after = after or (lambda: self.end("ok"))
+        def step():
+            if self.exchange(1, 0):
+                self.l.exclusive = None
+                return after()
+            self.t.owes = (self.l, "main")
+            self.m_hand(after)
+        self.then(step)
+    def m_hand(self, after):
+        def take():
+            q = self.l.main
+            if q: self.t.hand = [q.pop(0)[0]]
+            left = bool(q)
+            def store():
+                if self.t.hand:
+                    self.l.word = 3 if left else 1
+                    self.l.exclusive = self.t.hand[0]
+                    u = self.world.threads[self.t.hand[0]]
+                    if u.retries is self.l: u.retries = None
+                else:
+                    self.l.word = 0
+                    self.l.exclusive = None
+                self.leave("main", "hand-off", after)
+            self.then(store)
+        self.enter("main", lambda: self.then(take))
+    def m_bump(self):
+        def step():
+            if self.l.word & 2 == 0: return self.end("ok")
+            self.t.owes = (self.l, "main")
+            self.m_hand(self.m_lock)
+        self.then(step)
+
+    # ------------------------------------------------ reader-writer locks: entering
+    def blocked(self, want, s):
+        if want == "s":
+            return s & W != 0 and (not self.recursive or s // 16 == 0)
+        return s & (W | U) != 0
+    def share(self):
+        self.owned()
+        l, t = self.l, self.t.number
+        if self.want == "s": l.shared[t] = l.shared.get(t, 0) + 1
+        else: l.upgradable = t
+        self.end("yes" if self.t.timed or self.name.startswith("try") else "ok")
+    def enter_shared(self): self.then(self.load)
+    def load(self): self.loop(self.l.word)
+    def mark_or_park(self, s):
+        """Blocked by s."""
+        if s & P == 0:
+            def step():
+                if self.exchange(s, s + 1): self.park_main()
+                else: self.loop(self.l.word)
+            self.then(step, None, self.load if s & (P | WP) == 0 else None)
+        else: self.park_main()
+    def loop(self, s):
+        want = self.want
+        if self.blocked(want, s): return self.mark_or_park(s)
+        if want == "x":
+            def step():
+                if self.exchange(s, s + 8):
+                    self.owned()
+                    self.l.pending = (self.t.number, False)
+                    self.readers(0)
+                else: self.loop(self.l.word)
+            return self.then(step)
+        if s // 16 >= self.l.limit: return self.end("readers full")
+        def step():
+            if self.exchange(s, s + TOKEN[want]): self.share()
+            else: self.loop(self.l.word)
+        self.then(step)
+    def park_main(self):
+        want = self.want
+        def woken(note):
+            if note == "normal": self.then(self.load)
+            elif want == "x": 
+                self.readers(0)
+                step = self.t.step
+                self.t.step, self.t.enters, self.t.spin = None, None, None
+                step()
+            else: self.end("yes" if self.t.timed else "ok")
+        self.park("main", lambda w: w & P != 0 and self.blocked(want, w), want, woken, lambda: self.end("no"))
+    def try_loop(self, s):
+        if self.blocked(self.want, s): return self.end("no")
+        if s // 16 >= self.l.limit: return self.end("readers full")
+        def step():
+            if self.exchange(s, s + TOKEN[self.want]): self.share()
+            else: self.try_loop(self.l.word)
+        self.then(step)
+    def begin_write(self):
+        self.want = "x"
+        def step():
+            if self.exchange(0, 8):
+                self.l.exclusive = self.t.number
+                self.owned()
+                self.end("yes" if self.t.timed else "ok")
+            else: self.then(self.load)
+        self.then(step)
+
+    # ------------------------------------------------ a pending writer
+    def readers(self, prev):
+        self.prev = prev
+        self.then(lambda: self.count(self.l.word))
+    def count(self, s):
+        if s // 16 == 0:
+            self.owned()
+            self.l.pending, self.l.exclusive = None, self.t.number
+            return self.end("yes" if self.t.timed else "ok")
+        look = lambda: self.count(self.l.word)
+        if s & WP == 0:
+            def step():
+                if self.exchange(s, s + 2): self.park_aside(False)
+                else: self.count(self.l.word)
+            self.then(step, None, look)
+        else: self.park_aside(True)
+    def park_aside(self, may_spin):
+        def woken(note): self.then(lambda: self.count(self.l.word))
+        self.park("second", lambda w: w // 16 > 0 and w & WP != 0, "x", woken, self.roll_back)
+        if may_spin: self.t.spin = lambda: self.count(self.l.word)
+    def roll_back(self):
+        def step():
+            seen = self.l.word
+            self.l.word += self.prev - 8
+            self.l.pending = None
+            if self.prev == 20: self.l.upgradable = self.t.number
+            if seen & P == 0: return self.end("no")
+            self.t.owes = (self.l, "main")
+            self.wake_main("u" if self.prev == 20 else None, lambda: self.end("no"))
+        self.then(step)
+
+    # ------------------------------------------------ waking
+    def picked(self, start):
+        q = self.l.main
+        more = next((i for i, (_, w) in enumerate(q) if w in "xu"), None)
+        keeps = start in ("x", "u")
+        stop = len(q)
+        if more is not None and q[more][1] == "x" and not self.recursive and not keeps: stop = more + 1
+        taken = [i for i in range(stop) if q[i][1] == "s" or (i == more and not keeps)]
+        return taken
+    def take_picked(self, start):
+        q = self.l.main
+        taken = self.picked(start)
+        who = [q[i] for i in taken]
+        self.l.main[:] = [x for i, x in enumerate(q) if i not in taken]
+        self.t.hand = [u for u, _ in who]
+        return who
+    def wake_main(self, start, after):
+        def take():
+            self.take_picked(start)
+            if not self.l.main:
+                def clear():
+                    self.l.word &= ~P
+                    self.leave("main", "normal", after)
+                self.then(clear)
+            else: self.leave("main", "normal", after)
+        self.enter("main", lambda: self.then(take))
+
+    # ------------------------------------------------ leaving and converting
+    def r_unlock_shared(self):
+        def step():
+            seen = self.l.word
+            self.l.word -= 16
+            l, t = self.l, self.t.number
+            l.shared[t] -= 1
+            if l.shared[t] == 0: del l.shared[t]
+            if seen // 16 == 1 and seen & WP:
+                self.t.owes = (l, "second")
+                self.enter("second", lambda: self.then(take))
+            else: self.end("ok")
+        def take():
+            if self.l.second: self.t.hand = [self.l.second.pop(0)[0]]
+            def clear():
+                self.l.word &= ~WP
+                self.leave("second", "normal", lambda: self.end("ok"))
+            self.then(clear)
+        self.then(step)
+    def turn(self, change, own, start):
+        def step():
+            seen = self.l.word
+            self.l.word += change
+            own()
+            if seen & P == 0: return self.end("ok")
+            self.t.owes = (self.l, "main")
+            self.wake_main(start, lambda: self.end("ok"))
+        self.then(step)
+    def r_unlock_exclusive(self):
+        def own(): self.l.exclusive = None
+        self.turn(-8, own, None)
+    def r_unlock_upgradable(self):
+        def own(): self.l.upgradable = None
+        self.turn(-20, own, None)
+    def share_now(self):
+        t = self.t.number
+        self.l.shared[t] = self.l.shared.get(t, 0) + 1
+    def r_downgrade(self):
+        def own(): self.l.exclusive = None; self.share_now()
+        self.turn(8, own, "s")
+    def r_downgrade_upgradable(self):
+        def own(): self.l.upgradable = None; self.share_now()
+        self.turn(-4, own, "s")
+    def r_downgrade_to_upgradable(self):
+        def own(): self.l.exclusive = None; self.l.upgradable = self.t.number
+        self.turn(12, own, "u")
+    def r_upgrade(self):
+        def step():
+            seen = self.l.word
+            self.l.word -= 12
+            self.l.upgradable = None
+            if seen // 16 == 1:
+                self.l.exclusive = self.t.number
+                self.end("yes" if self.t.timed else "ok")
+            else:
+                self.l.pending = (self.t.number, True)
+                self.readers(20)
+        self.then(step)
+    r_upgrade_timed = r_upgrade
+    def r_try_upgrade(self):
+        def look(s):
+            if s // 16 != 1: return self.end("no")
+            def step():
+                if self.exchange(s, s - 12):
+                    self.l.upgradable, self.l.exclusive = None, self.t.number
+                    self.end("yes")
+                else: look(self.l.word)
+            self.then(step)
+        self.then(lambda: look(self.l.word))
+
+# ---------------------------------------------------------------- random schedules
+
+def run(seed, lines):
+    rng = random.Random(seed)
+    threads = rng.randrange(2, 7)
+    kinds = ["mutex", "fair", "rwlock", "recursive", "rwlock", "recursive"]
+    locks = []
+    text = [f"threads {threads}"]
+    for i in range(rng.randrange(1, 4)):
+        kind = rng.choice(kinds)
+        name = f"l{i}"
+        if kind in ("rwlock", "recursive") and rng.random() < 0.7:
+            limit = threads + rng.randrange(0, 3)
+            text.append(f"lock {name} {kind} {limit}")
+        else:
+            limit = DEFAULT
+            text.append(f"lock {name} {kind}")
+        locks.append((name, kind, limit))
+    w = World(threads, locks)
+    expected = []
+    calls = {"m": sorted(MUTEX), "r": sorted(RWLOCK)}
+    enters = {"m": ["lock", "lock_timed", "try_lock"], "r": [c for c in sorted(RWLOCK) if c not in RIGHT]}
+    for _ in range(lines):
+        t = rng.randrange(threads)
+        thread = w.threads[t]
+        i = rng.randrange(len(locks))
+        l = w.locks[i]
+        sort = "m" if l.kind in ("mutex", "fair") else "r"
+        x = rng.random()
+        if x < 0.08:
+            text.append("show"); expected += w.show(); continue
+        if thread.call is None:
+            # a call that it has the right for, mostly
+            good = [c for c in calls[sort] if c in RIGHT and ((RIGHT[c] == "x" and l.exclusive == t) or (RIGHT[c] == "u" and l.upgradable == t) or (RIGHT[c] == "s" and l.shared.get(t, 0)))]
+            c = rng.choice(good) if good and rng.random() < 0.75 else rng.choice(enters[sort]) if rng.random() < 0.9 else rng.choice(calls[sort])
+            # who owns doesn't wait for itself too often
+            if c in enters[sort] and good and rng.random() < 0.6 and not c.startswith("try") and not c.endswith("timed"): c = rng.choice(good)
+            if rng.random() < 0.15:
+                text.append(f"{t} do {c} {l.name}")
+                out = w.begin(t, c, i)
+                if out == "step": out = w.solo(t)
+                expected.append(f"{t} {out}")
+            else:
+                text.append(f"{t} begin {c} {l.name}")
+                expected.append(f"{t} {w.begin(t, c, i)}")
+            continue
+        y = rng.random()
+        if y < 0.06:
+            text.append(f"{t} late"); expected.append(f"{t} {w.turn_late(t)}")
+        elif y < 0.14:
+            text.append(f"{t} spin"); expected.append(f"{t} {w.spin(t)}")
+        elif y < 0.20:
+            text.append(f"{t} solo"); expected.append(f"{t} {w.solo(t)}")
+        elif y < 0.22:
+            c = rng.choice(calls[sort]); text.append(f"{t} begin {c} {l.name}"); expected.append(f"{t} {w.begin(t, c, i)}")
+        else:
+            text.append(f"{t} go"); expected.append(f"{t} {w.go(t)}")
+    text.append("show"); expected += w.show()
+    return text, expected
+
+def main():
+    program, seeds, lines = sys.argv[1], int(sys.argv[2]), int(sys.argv[3])
+    first = int(sys.argv[4]) if len(sys.argv) > 4 else 0
+    seen = {}
+    for seed in range(first, first + seeds):
+        text, expected = run(seed, lines)
+        out = subprocess.run([program, "replay"], input="\n".join(text) + "\n", capture_output=True, text=True).stdout.split("\n")[:-1]
+        for e in expected: seen[e.split(" ", 1)[1] if " own" not in e else "show"] = seen.get(e.split(" ", 1)[1] if " own" not in e else "show", 0) + 1
+        if out != expected:
+            k = next((k for k, (a, b) in enumerate(zip(out, expected)) if a != b), min(len(out), len(expected)))
+            print(f"seed {seed}: answer {k}: lotsim {out[k] if k < len(out) else None!r}, here {expected[k] if k < len(expected) else None!r}")
+            for name, lines in (("in", text), ("expected", expected)):
+                path = os.path.join(tempfile.gettempdir(), f"{seed}.{name}")
+                with open(path, "w") as file: file.write("\n".join(lines) + "\n")
+                print(path)
+            return 1
+    print("agree", {k: v for k, v in sorted(seen.items(), key=lambda kv: -kv[1])[:14]})
+    return 0
+sys.exit(main())
