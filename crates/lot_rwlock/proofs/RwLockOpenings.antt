@@ -12,11 +12,11 @@ use Rattle.abstract_locks.specs.Sites.{Has}
 use Rattle.lot_rwlock.specs.RwLockOpenings.{RwLockCallsOpen}
 use Rattle.lot_rwlock.proofs.RwLockStands.{unwoken_fresh}
 
-owner_is : (t : ℕ) (o : Option ℕ) → is_thread t o ≡ true → o ≡ Some t
+pub owner_is : (t : ℕ) (o : Option ℕ) → is_thread t o ≡ true → o ≡ Some t
 owner_is t None h = absurd cc
 owner_is t (Some u) h = ap Some (eqb-true u t h)
 
-some_shares : (n : ℕ) → not (n == 0) ≡ true → 1 ≤ n
+pub some_shares : (n : ℕ) → not (n == 0) ≡ true → 1 ≤ n
 some_shares n h = grind (arith, nat_tests)
 
 pub rwlock_calls_open : RwLockCallsOpen

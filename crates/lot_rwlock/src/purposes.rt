@@ -69,7 +69,7 @@ fn to(downgrade: Downgrade) -> Access
 }
 
 /// What a call answers with its right: one that waits for ever `Ok`, another `Yes`.
-pub(super) fn entered(patience: Patience) -> Answer
+pub fn entered(patience: Patience) -> Answer
     ensures { result ≡ entered patience }
 {
     match patience {

@@ -1,0 +1,13 @@
+pub mod FairFit
+pub mod HandOvers
+pub mod HandOverFit
+pub mod HandOverCodes
+pub mod FairCodes
+pub mod FairSections
+pub mod FairStands
+pub mod FairOpenings
+pub mod HandOversGive
+pub mod FairRights
+pub mod FairTells
+pub mod FairCallTells
+pub mod FairSleepers

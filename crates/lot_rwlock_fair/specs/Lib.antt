@@ -1,0 +1,6 @@
+pub mod FairSteps
+pub mod FairBegins
+pub mod FairDeeds
+pub mod FairProfiles
+pub mod FairCalls
+pub mod FairLaws

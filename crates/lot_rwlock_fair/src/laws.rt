@@ -1,0 +1,72 @@
+//! What the steps of fair releases and bumps do to the lock.
+ghost use Rattle.lot_rwlock_fair.specs.FairLaws.{FairCallsOpen, FairCallsStand, FairLooksStand, FairSectionsFollow, FairSectionsTell, FairSleepersHear, FairStepsTell, HandOversGive, FairStepsCode, FairStepsFollow, HandOversCode, HandOversFollow, HandOversKeepLimit, HandOversTell};
+
+/// Each step on the word may do to the lock what its deeds say, and its next place says what the thread does then.
+pub fn fair_steps_follow()
+    ensures { FairStepsFollow }
+{}
+
+/// And the word that it leaves is the word of the lock behind its deeds.
+pub fn fair_steps_code()
+    ensures { FairStepsCode }
+{}
+
+/// The step that hands the lock over to all whom the thread has in hand may do to the lock what its deeds say.
+pub fn hand_overs_follow()
+    ensures { HandOversFollow }
+{}
+
+/// And the word that it leaves is the word of the lock behind it.
+pub fn hand_overs_code()
+    ensures { HandOversCode }
+{}
+
+/// And the limit of the lock holds behind it.
+pub fn hand_overs_keep_limit()
+    ensures { HandOversKeepLimit }
+{}
+
+/// Each step into a section, in it, and out of it may do to the lock what its deeds say.
+pub fn fair_sections_follow()
+    ensures { FairSectionsFollow }
+{}
+
+/// Whoever the lock is handed to has what its place says from then on.
+pub fn hand_overs_give()
+    ensures { HandOversGive }
+{}
+
+/// A call that stands where it may goes on where it may.
+pub fn fair_calls_stand()
+    ensures { FairCallsStand }
+{}
+
+/// A call begins where it may stand, nowhere in the sections and lines of the lock, and claims a right that its thread has.
+pub fn fair_calls_open()
+    ensures { FairCallsOpen }
+{}
+
+/// The step that hands the lock over makes of its call what its next row says, and the call is made of that case.
+pub fn hand_overs_tell()
+    ensures { HandOversTell }
+{}
+
+/// And so does each other step on the word, and its answer is true.
+pub fn fair_steps_tell()
+    ensures { FairStepsTell }
+{}
+
+/// And each step into a section, in it, and out of it.
+pub fn fair_sections_tell()
+    ensures { FairSectionsTell }
+{}
+
+/// What befalls a thread asleep makes of its call what its row says; whoever is handed the lock has what it wants.
+pub fn fair_sleepers_hear()
+    ensures { FairSleepersHear }
+{}
+
+/// Where a thread looks at the word once more, its row is the same, and its call stands where it may.
+pub fn fair_looks_stand()
+    ensures { FairLooksStand }
+{}
