@@ -1,5 +1,5 @@
 #!/usr/bin/env python3
-"""Times `lotsim replay` on random schedules of a million lines.
+"""Times `lotsim replay` on random schedules of a million lines, in which every thread takes locks and releases them.
 
 Build the proved program first: `rt run -- replay < stdin` in crates/lotsim. Then: python3 bench/replay.py
 With an argument, the schedules are written into that folder too.
@@ -14,32 +14,37 @@ import time
 
 PROGRAM = os.path.join(os.path.dirname(__file__), "..", "crates", "lotsim", "out", "lotsim")
 LINES = 1_000_000
-CALLS = {
-    "mutex": ["lock", "lock", "try_lock", "unlock", "unlock"],
+# What a thread does over and over: it waits for a right with a deadline, gives up where it still sleeps, and releases.
+GETS = {
+    "mutex": [("lock_timed", "unlock")],
     "rwlock": [
-        "read", "read", "try_read", "unlock_shared", "unlock_shared",
-        "write", "try_write", "unlock_exclusive", "unlock_exclusive", "downgrade",
-        "upgradable", "unlock_upgradable", "upgrade_timed",
+        ("read_timed", "unlock_shared"), ("read_timed", "unlock_shared"), ("read_timed", "unlock_shared"),
+        ("write_timed", "unlock_exclusive"), ("upgradable_timed", "unlock_upgradable"), ("write_timed", "downgrade"),
     ],
 }
 
 
+def turns(kind, thread, locks, rng):
+    """The lines of one thread, without end. A spin stands in place of a step about once in twenty."""
+    while True:
+        lock = f"m{rng.randrange(locks)}"
+        enter, release = rng.choice(GETS[kind])
+        calls = [(f"begin {enter} {lock}", 4), ("late", 3), (f"begin {release} {lock}", 2)]
+        if release == "downgrade":
+            calls.append((f"begin unlock_shared {lock}", 2))
+        for call, steps in calls:
+            yield f"{thread} {call}"
+            for _ in range(steps):
+                yield f"{thread} spin" if rng.random() < 0.05 else f"{thread} go"
+
+
 def schedule(kind, threads, locks, lines, shows, seed):
-    """Random begins, steps and spins, with a `show` about once in `shows` lines."""
+    """Threads in turn by chance, with a `show` about once in `shows` lines."""
     rng = random.Random(seed)
-    names = [f"m{lock}" for lock in range(locks)]
-    out = [f"threads {threads}"] + [f"lock {name} {kind}" for name in names]
+    out = [f"threads {threads}"] + [f"lock m{lock} {kind}" for lock in range(locks)]
+    each = [turns(kind, thread, locks, rng) for thread in range(threads)]
     while len(out) < lines:
-        thread = rng.randrange(threads)
-        draw = rng.random()
-        if draw < 1 / shows:
-            out.append("show")
-        elif draw < 0.25:
-            out.append(f"{thread} begin {rng.choice(CALLS[kind])} {rng.choice(names)}")
-        elif draw < 0.95:
-            out.append(f"{thread} go")
-        else:
-            out.append(f"{thread} spin")
+        out.append("show" if rng.random() < 1 / shows else next(rng.choice(each)))
     return "\n".join(out) + "\n"
 
 

@@ -152,10 +152,11 @@ module _ (a : Admission) where
   writes_stand how again at.Look (reply.Value seen) fits may = counts_on (purpose.Enter access.Exclusive how) again at.Look seen (λ n. fits) (count_in seen == 0) _
   writes_stand how again (at.Count was) (reply.Value seen) fits may = either (seen == was)
     where
-      either : (b : Bool) → StandsNext (if b then stays (of (purpose.Enter access.Exclusive how) again (at.Count was)) (at.Count (plus was 2)) else counted (of (purpose.Enter access.Exclusive how) again (at.Count was)) seen)
+      either : (b : Bool) → StandsNext (if b then stays (of (purpose.Enter access.Exclusive how) again (at.Count was)) at.Marked else counted (of (purpose.Enter access.Exclusive how) again (at.Count was)) seen)
       either true = fits
       either false = counts_on (purpose.Enter access.Exclusive how) again (at.Count was) seen (λ n. fits) (count_in seen == 0) _
   writes_stand how again (at.Count was) reply.Done fits may = fits
+  writes_stand how again at.Marked reply.Done fits may = fits
   writes_stand how again (at.Aside to) told fits may = asides (purpose.Enter access.Exclusive how) again how refl (λ again to by. by) (λ again w. w) (λ d. d) to told fits may
   writes_stand how again at.RollBack (reply.Value seen) fits may = rolls_on (purpose.Enter access.Exclusive how) again fits (has_parked seen)
   writes_stand how again (at.Wake Main to) told fits may = wakes_on (purpose.Enter access.Exclusive how) again how refl Main (λ to. fits) to told
@@ -209,11 +210,13 @@ module _ (a : Admission) where
   patient_stands again at.Look told fits may = tt
   patient_stands again (at.Count was) (reply.Value seen) fits may = either (seen == was)
     where
-      either : (b : Bool) → StandsNext (if b then stays (of (purpose.Upgrade Patient) again (at.Count was)) (at.Count (plus was 2)) else counted (of (purpose.Upgrade Patient) again (at.Count was)) seen)
+      either : (b : Bool) → StandsNext (if b then stays (of (purpose.Upgrade Patient) again (at.Count was)) at.Marked else counted (of (purpose.Upgrade Patient) again (at.Count was)) seen)
       either true = tt
       either false = counts_on (purpose.Upgrade Patient) again (at.Count was) seen (λ n. tt) (count_in seen == 0) (entered Patient)
   patient_stands again (at.Count was) reply.Done fits may = tt
   patient_stands again (at.Count was) told fits may = tt
+  patient_stands again at.Marked reply.Done fits may = tt
+  patient_stands again at.Marked told fits may = tt
   patient_stands again (at.Aside to) told fits may = asides (purpose.Upgrade Patient) again Patient refl (λ again to by. by) (λ again w. tt) (λ d. absurd d) to told fits may
   patient_stands again (at.Wake Main to) told fits may = absurd fits
   patient_stands again (at.Wake Second to) told fits may = absurd fits
@@ -230,11 +233,13 @@ module _ (a : Admission) where
   timed_stands again at.Look told fits may = tt
   timed_stands again (at.Count was) (reply.Value seen) fits may = either (seen == was)
     where
-      either : (b : Bool) → StandsNext (if b then stays (of (purpose.Upgrade Timed) again (at.Count was)) (at.Count (plus was 2)) else counted (of (purpose.Upgrade Timed) again (at.Count was)) seen)
+      either : (b : Bool) → StandsNext (if b then stays (of (purpose.Upgrade Timed) again (at.Count was)) at.Marked else counted (of (purpose.Upgrade Timed) again (at.Count was)) seen)
       either true = tt
       either false = counts_on (purpose.Upgrade Timed) again (at.Count was) seen (λ n. tt) (count_in seen == 0) (entered Timed)
   timed_stands again (at.Count was) reply.Done fits may = tt
   timed_stands again (at.Count was) told fits may = tt
+  timed_stands again at.Marked reply.Done fits may = tt
+  timed_stands again at.Marked told fits may = tt
   timed_stands again (at.Aside to) told fits may = asides (purpose.Upgrade Timed) again Timed refl (λ again to by. by) (λ again w. tt) (λ d. d) to told fits may
   timed_stands again at.RollBack (reply.Value seen) fits may = rolls_on (purpose.Upgrade Timed) again tt (has_parked seen)
   timed_stands again at.RollBack told fits may = tt

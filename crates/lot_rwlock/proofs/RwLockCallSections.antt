@@ -234,6 +234,7 @@ module _ (r : Rules) (a : Admission) (s : Site) (t l : ℕ) (admits : Admits r a
   writes_tell : (how : Patience) (again : Bool) (to : RwLockAt) (whom : Option ℕ) (told : Reply) → WritesAt how to → IsFreshTry how again → s.doing t ≡ rwlock_doing (writer how again to) → IsNotLate told → MayHear r a s t (writer how again to) to whom told → TellsBy (writer how again to) whom told
   writes_tell how again (at.Decide seen) whom reply.Done fits fresh doing now hears = record { one = tt; may = tt; comes = λ rights e. recalls _ _ (goes l t s.lock s.lock (purpose.Enter access.Exclusive how) (at.Decide seen) (at.Park parking.Check) rights e refl) }
   writes_tell how again (at.Count seen) whom reply.Done fits fresh doing now hears = record { one = tt; may = tt; comes = λ rights e. recalls _ _ (goes l t s.lock s.lock (purpose.Enter access.Exclusive how) (at.Count seen) (at.Aside parking.Check) rights e refl) }
+  writes_tell how again at.Marked whom reply.Done fits fresh doing now hears = record { one = tt; may = tt; comes = λ rights e. recalls _ _ (goes l t s.lock s.lock (purpose.Enter access.Exclusive how) at.Marked (at.Aside parking.Check) rights e refl) }
   writes_tell how again (at.Park to) whom told fits fresh doing now hears = parks_tell access.Exclusive how again to told _ fits now hears
   writes_tell how again (at.Aside to) whom told fits fresh doing now hears = aside_tells how again to told _ fits now hears
   writes_tell how again (at.Wake Main to) whom told fits fresh doing now hears = wakes_late access.Exclusive how again to whom told fits hears
@@ -268,7 +269,9 @@ module _ (r : Rules) (a : Admission) (s : Site) (t l : ℕ) (admits : Admits r a
 
   upgrades_tell : (how : Patience) (again : Bool) (to : RwLockAt) (whom : Option ℕ) (told : Reply) → how ≢ Try → UpgradesAt how again to → s.doing t ≡ rwlock_doing (raiser how again to) → IsNotLate told → MayHear r a s t (raiser how again to) to whom told → TellsBy (raiser how again to) whom told
   upgrades_tell how again (at.Count seen) whom reply.Done more fits doing now hears = record { one = tt; may = tt; comes = λ rights e. recalls _ _ (goes l t s.lock s.lock (purpose.Upgrade how) (at.Count seen) (at.Aside parking.Check) rights e refl) }
+  upgrades_tell how again at.Marked whom reply.Done more fits doing now hears = record { one = tt; may = tt; comes = λ rights e. recalls _ _ (goes l t s.lock s.lock (purpose.Upgrade how) at.Marked (at.Aside parking.Check) rights e refl) }
   upgrades_tell Patient again (at.Count seen) whom told more fits doing now hears = absurd hears
+  upgrades_tell Patient again at.Marked whom told more fits doing now hears = absurd hears
   upgrades_tell Patient again (at.Aside to) whom told more fits doing now hears = aside_up Patient again to told _ fits now hears
   upgrades_tell Patient again at.GiveWay whom told more fits doing now hears = absurd hears
   upgrades_tell Patient again at.Look whom told more fits doing now hears = absurd hears
@@ -277,6 +280,7 @@ module _ (r : Rules) (a : Admission) (s : Site) (t l : ℕ) (admits : Admits r a
   upgrades_tell Patient again (at.Wake Second to) whom told more fits doing now hears = absurd fits
   upgrades_tell Patient again to whom told more fits doing now hears = absurd fits
   upgrades_tell Timed again (at.Count seen) whom told more fits doing now hears = absurd hears
+  upgrades_tell Timed again at.Marked whom told more fits doing now hears = absurd hears
   upgrades_tell Timed again (at.Aside to) whom told more fits doing now hears = aside_up Timed again to told _ fits now hears
   upgrades_tell Timed again (at.Wake Main to) whom told more fits doing now hears = wakes_fallen Timed again to whom told fits hears
   upgrades_tell Timed again at.GiveWay whom told more fits doing now hears = absurd hears

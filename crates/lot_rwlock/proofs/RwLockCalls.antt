@@ -215,8 +215,8 @@ module _ (r : Rules) (a : Admission) (s : Site) (t l : ℕ) (op : Op) (admits : 
     settles (at.Count was) is doing false = record { one = tt; may = tt; comes = λ rights e. recalls _ _ (goes l t s.lock s.lock (purpose.Enter access.Exclusive how) (at.Count was) (at.Count v) rights e refl) }
     settles to is doing b = absurd is
 
-    sets_aside : (was : ℕ) → s.doing t ≡ rwlock_doing (writer (at.Count was)) → (b : Bool) → Tells (writer (at.Count was)) (if b then Mark Second ∷ [] else counted_deeds v) (if b then stays (writer (at.Count was)) (at.Count (plus was 2)) else counted (writer (at.Count was)) v)
-    sets_aside was doing true = record { one = tt; may = tt; comes = λ rights e. recalls _ _ (goes l t s.lock s.lock (purpose.Enter access.Exclusive how) (at.Count was) (at.Count (plus was 2)) rights e refl) }
+    sets_aside : (was : ℕ) → s.doing t ≡ rwlock_doing (writer (at.Count was)) → (b : Bool) → Tells (writer (at.Count was)) (if b then Mark Second ∷ [] else counted_deeds v) (if b then stays (writer (at.Count was)) at.Marked else counted (writer (at.Count was)) v)
+    sets_aside was doing true = record { one = tt; may = tt; comes = λ rights e. recalls _ _ (goes l t s.lock s.lock (purpose.Enter access.Exclusive how) (at.Count was) at.Marked rights e refl) }
     sets_aside was doing false = settles (at.Count was) tt doing (count_in v == 0)
 
     -- it rolls back, and wakes others, or has given up
@@ -391,8 +391,8 @@ module _ (r : Rules) (a : Admission) (s : Site) (t l : ℕ) (op : Op) (admits : 
     settles_up (at.Count was) is doing false = record { one = tt; may = tt; comes = λ rights e. recalls _ _ (goes l t s.lock s.lock (purpose.Upgrade how) (at.Count was) (at.Count v) rights e refl) }
     settles_up to is doing b = absurd is
 
-    sets_aside_up : (was : ℕ) → s.doing t ≡ rwlock_doing (raiser (at.Count was)) → (b : Bool) → Tells (raiser (at.Count was)) (if b then Mark Second ∷ [] else counted_deeds v) (if b then stays (raiser (at.Count was)) (at.Count (plus was 2)) else counted (raiser (at.Count was)) v)
-    sets_aside_up was doing true = record { one = tt; may = tt; comes = λ rights e. recalls _ _ (goes l t s.lock s.lock (purpose.Upgrade how) (at.Count was) (at.Count (plus was 2)) rights e refl) }
+    sets_aside_up : (was : ℕ) → s.doing t ≡ rwlock_doing (raiser (at.Count was)) → (b : Bool) → Tells (raiser (at.Count was)) (if b then Mark Second ∷ [] else counted_deeds v) (if b then stays (raiser (at.Count was)) at.Marked else counted (raiser (at.Count was)) v)
+    sets_aside_up was doing true = record { one = tt; may = tt; comes = λ rights e. recalls _ _ (goes l t s.lock s.lock (purpose.Upgrade how) (at.Count was) at.Marked rights e refl) }
     sets_aside_up was doing false = settles_up (at.Count was) tt doing (count_in v == 0)
 
     falls : HasDeadline how → s.doing t ≡ rwlock_doing (raiser at.RollBack) → (b : Bool) → Tells (raiser at.RollBack) (does_and_wakes b (Case Rollback)) (if b then stays (raiser at.RollBack) (wakes Main) else next.End No)
@@ -431,6 +431,7 @@ module _ (r : Rules) (a : Admission) (s : Site) (t l : ℕ) (op : Op) (admits : 
         deadline Patient f = absurd f
         deadline Try f = absurd f
     waits_up (at.Wake Main (waking.Clear any)) pending fits doing e more = record { one = tt; may = tt; comes = λ rights e. recalls _ _ (goes l t s.lock s.lock (purpose.Upgrade how) (at.Wake Main (waking.Clear any)) (at.Wake Main (waking.Leave any)) rights e refl) }
+    waits_up at.Marked pending fits doing e more = absurd cc
     waits_up (at.Aside to) pending fits doing e more = absurd cc
     waits_up (at.Wake Main to) pending fits doing e more = absurd cc
     waits_up to pending fits doing e more = absurd pending

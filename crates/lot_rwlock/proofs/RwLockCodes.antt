@@ -310,6 +310,7 @@ module _ (r : Rules) (a : Admission) (s : Site) (t l : ℕ) (f : Op) (admits : A
           added 12 _ same (omega arith) (falls r s t admits.0 h tells there small (has_parked v) own n)
       pending_code (at.Wake Main (waking.Clear any)) fits is e n = let same : f ≡ unparked Main = cc in clears_fit Main same n
       pending_code (at.Aside to) fits is e n = absurd cc
+      pending_code at.Marked fits is e n = absurd cc
       pending_code (at.Wake Main to) fits is e n = absurd cc
       pending_code to fits is e n = absurd fits
 

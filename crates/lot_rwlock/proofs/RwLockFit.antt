@@ -248,7 +248,7 @@ module _ (r : Rules) (a : Admission) (s : Site) (t l : ℕ) (op : Op) (admits : 
     counts to is false e = goes r s t admits.0 h tells _ is
 
     sets_aside : (expected : ℕ) → s.doing t ≡ at_rest wants (Some (Pends false)) → (b : Bool)
-        → Follows r s t (if b then Mark Second ∷ [] else counted_deeds v) (doing_next (if b then stays (place (at.Count expected)) (at.Count (plus expected 2)) else counted (place (at.Count expected)) v))
+        → Follows r s t (if b then Mark Second ∷ [] else counted_deeds v) (doing_next (if b then stays (place (at.Count expected)) at.Marked else counted (place (at.Count expected)) v))
     sets_aside expected is true = marks r s t admits.0 h tells Second _ is
     sets_aside expected is false = counts (at.Count expected) is (count_in v == 0) refl
 
@@ -342,7 +342,7 @@ module _ (r : Rules) (a : Admission) (s : Site) (t l : ℕ) (op : Op) (admits : 
       upgrade_counts to is false e = goes r s t admits.0 h tells _ is
 
       upgrade_sets : (expected : ℕ) → s.doing t ≡ at_rest upgrading (Some (Pends true)) → (b : Bool)
-          → Follows r s t (if b then Mark Second ∷ [] else counted_deeds v) (doing_next (if b then stays (upgrade (at.Count expected)) (at.Count (plus expected 2)) else counted (upgrade (at.Count expected)) v))
+          → Follows r s t (if b then Mark Second ∷ [] else counted_deeds v) (doing_next (if b then stays (upgrade (at.Count expected)) at.Marked else counted (upgrade (at.Count expected)) v))
       upgrade_sets expected is true = marks r s t admits.0 h tells Second _ is
       upgrade_sets expected is false = upgrade_counts (at.Count expected) is (count_in v == 0) refl
 
@@ -355,6 +355,7 @@ module _ (r : Rules) (a : Admission) (s : Site) (t l : ℕ) (op : Op) (admits : 
       pending_fit at.GiveWay fits is e = upgraded_now (count_in v == 1) refl is
       pending_fit at.Look fits is e = upgrade_counts at.Look is (count_in v == 0) refl
       pending_fit (at.Count expected) fits is e = upgrade_sets expected is (v == expected)
+      pending_fit at.Marked fits is e = absurd cc
       pending_fit (at.Aside parking.Clear) fits is e = unmarks r s t admits.0 h tells Second _ is refl
       pending_fit at.RollBack fits is e = rw tells.parked (fell s.parked refl is)
       pending_fit (at.Wake Main (waking.Clear any)) fits is e = unmarks r s t admits.0 h tells Main _ is refl

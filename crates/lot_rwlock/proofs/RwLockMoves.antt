@@ -130,9 +130,9 @@ module _ (l : ℕ) (a : Admission) where
   counts_word true c = tt
   counts_word false c = settles_word c
 
-  counts_rest : (p : RwLockPlace) (was seen : ℕ) (b c : Bool) (ans : Answer) → station_next (if b then stays p (at.Count was) else if c then next.End ans else stays p (at.Count seen)) ≡ nowhere
-  counts_rest p was seen true c ans = refl
-  counts_rest p was seen false c ans = settles_rest p seen c ans
+  counts_rest : (p : RwLockPlace) (seen : ℕ) (b c : Bool) (ans : Answer) → station_next (if b then stays p at.Marked else if c then next.End ans else stays p (at.Count seen)) ≡ nowhere
+  counts_rest p seen true c ans = refl
+  counts_rest p seen false c ans = settles_rest p seen c ans
 
   wakes_rest : (p : RwLockPlace) (m : Line) (b : Bool) (ans : Answer) → station_next (if b then stays p (wakes m) else next.End ans) ≡ nowhere
   wakes_rest p m true ans = refl
@@ -196,7 +196,7 @@ module _ (l : ℕ) (a : Admission) where
         out = refl;
         free = refl;
         deeds = λ seen. counts_word (seen == was) (count_in seen == 0);
-        goes = λ seen. counts_rest (of q again (at.Count was)) (plus was 2) seen (seen == was) (count_in seen == 0) (entered (patience_of q));
+        goes = λ seen. counts_rest (of q again (at.Count was)) seen (seen == was) (count_in seen == 0) (entered (patience_of q));
       },
     )
 
@@ -441,6 +441,7 @@ module _ (l : ℕ) (a : Admission) where
   moves_all q again (at.Park to) fits = parks_only q again to fits
   moves_all q again at.Look fits = (refl, record { out = refl; free = refl; deeds = λ seen. settles_word (count_in seen == 0); goes = λ seen. settles_rest (of q again at.Look) seen (count_in seen == 0) (entered (patience_of q)) })
   moves_all q again (at.Count was) fits = counts q again was (has_aside was) refl
+  moves_all q again at.Marked fits = (Second, refl, record { out = refl; free = refl; deeds = refl; goes = refl; may = λ r s t free. free })
   moves_all q again (at.Aside to) fits = asides_only q again to fits
   moves_all q again at.RollBack fits = (refl, record { out = refl; free = refl; deeds = λ seen. rolls_word (has_parked seen); goes = λ seen. wakes_rest (of q again at.RollBack) Main (has_parked seen) No })
   moves_all q again at.GiveWay fits = (refl, record { out = refl; free = refl; deeds = λ seen. gives_word q seen; goes = λ seen. gave_rest (of q again at.GiveWay) seen q })

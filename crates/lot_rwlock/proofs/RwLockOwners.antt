@@ -209,6 +209,7 @@ module _ (r : Rules) (a : Admission) (s : Site) (t l : ℕ) (f : Op) (h : IsSite
       pending_owners how at.RollBack fits is e = fell _ (h.held t (Pends true) (grind (arith, is)))
       pending_owners how (at.Wake Main (waking.Clear any)) fits is e = refl
       pending_owners how (at.Aside to) fits is e = absurd cc
+      pending_owners how at.Marked fits is e = absurd cc
       pending_owners how (at.Wake Main to) fits is e = absurd cc
       pending_owners how to fits is e = absurd fits
 

@@ -166,6 +166,7 @@ module _ (r : Rules) (a : Admission) (s : Site) (t : ℕ) (admits : Admits r a) 
     enters_fit : (to : RwLockAt) (whom : Option ℕ) (told : Reply) → MayHear r a s t (place to) to whom told → s.doing t ≡ rwlock_doing (place to) → FollowsBy r a s t (place to) whom told
     enters_fit (at.Decide seen) whom reply.Done may is = goes_in r s t admits.0 h tells Main _ may.1 is refl refl
     enters_fit (at.Count seen) whom reply.Done may is = goes_in r s t admits.0 h tells Second _ may is refl refl
+    enters_fit at.Marked whom reply.Done may is = goes_in r s t admits.0 h tells Second _ may is refl refl
     enters_fit (at.Park to) whom told may is = parks_fit to told may is
     enters_fit (at.Aside to) whom told may is = aside_fit (purpose.Enter x how) false again refl to told may is
     enters_fit (at.Wake m to) whom told may is = wakes_fit (place (at.Wake m to)) None tt refl m (λ e. refl) to whom told may is
@@ -194,12 +195,14 @@ module _ (r : Rules) (a : Admission) (s : Site) (t : ℕ) (admits : Admits r a) 
   pending_fit : (how : Patience) (again : Bool) → IsFreshTry how again → (to : RwLockAt) (whom : Option ℕ) (told : Reply) → AtPending to → MayHear r a s t (of (purpose.Upgrade how) again to) to whom told
       → s.doing t ≡ rwlock_doing (of (purpose.Upgrade how) again to) → FollowsBy r a s t (of (purpose.Upgrade how) again to) whom told
   pending_fit how again fresh (at.Count seen) whom reply.Done fits may is = goes_in r s t admits.0 h tells Second _ may is refl refl
+  pending_fit how again fresh at.Marked whom reply.Done fits may is = goes_in r s t admits.0 h tells Second _ may is refl refl
   pending_fit how again fresh (at.Aside to) whom told fits may is = aside_fit (purpose.Upgrade how) true again refl to told may is
   pending_fit how again fresh (at.Wake Main to) whom told fits may is = wakes_fit (of (purpose.Upgrade how) again (at.Wake Main to)) (Some Upgradable) tt refl Main (λ e. absurd cc) to whom told may is
   pending_fit how again fresh at.GiveWay whom told fits may is = absurd may
   pending_fit how again fresh at.Look whom told fits may is = absurd may
   pending_fit how again fresh at.RollBack whom told fits may is = absurd may
   pending_fit how again fresh (at.Count seen) whom told fits may is = absurd may
+  pending_fit how again fresh at.Marked whom told fits may is = absurd may
   pending_fit how again fresh to whom told fits may is = absurd fits
 
   -- a try enters no section

@@ -202,7 +202,7 @@ module _ (a : Admission) where
     firsts false ans Patient = (fresh, tt)
     firsts false ans Timed = (fresh, tt)
 
-    counts_again : (was seen : ℕ) (b : Bool) → Keeps (if b then stays (of q again (at.Count was)) (at.Count (plus was 2)) else counted (of q again (at.Count was)) seen)
+    counts_again : (was seen : ℕ) (b : Bool) → Keeps (if b then stays (of q again (at.Count was)) at.Marked else counted (of q again (at.Count was)) seen)
     counts_again was seen true = (fresh, tt)
     counts_again was seen false = counts (at.Count was) seen (count_in seen == 0) (entered (patience_of q))
 
@@ -270,6 +270,8 @@ module _ (a : Admission) where
   keeps_all q again (at.Count was) (reply.Value seen) fits fresh on may = counts_again q again fresh was seen (seen == was)
   keeps_all q again (at.Count was) reply.Done fits fresh on may = (fresh, tt)
   keeps_all q again (at.Count was) told fits fresh on may = (fresh, tt)
+  keeps_all q again at.Marked reply.Done fits fresh on may = (fresh, tt)
+  keeps_all q again at.Marked told fits fresh on may = (fresh, tt)
   keeps_all q again (at.Aside to) told fits fresh on may = asides q again (fresh_waits (patience_of q) (lines_wait q again Second to fits)) to told
   keeps_all q again at.RollBack (reply.Value seen) fits fresh on may = wakes_or q again fresh at.RollBack Main (has_parked seen) No
   keeps_all q again at.RollBack told fits fresh on may = (fresh, tt)

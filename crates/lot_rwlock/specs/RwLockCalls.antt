@@ -79,6 +79,7 @@ UpgradesAt Try again to = ⊥
 UpgradesAt how again at.GiveWay = again ≡ false
 UpgradesAt how again at.Look = Unit {0}
 UpgradesAt how again (at.Count seen) = Unit {0}
+UpgradesAt how again at.Marked = Unit {0}
 UpgradesAt how again (at.Aside to) = ParksBy how to
 UpgradesAt how again at.RollBack = HasDeadline how
 UpgradesAt how again (at.Wake Main to) = HasDeadline how

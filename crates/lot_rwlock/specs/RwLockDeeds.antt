@@ -107,6 +107,7 @@ doing_at again q (at.Decide seen) = at_rest again (claimed q)
 doing_at again q (at.Park to) = parking_doing Main again None to
 doing_at again q at.Look = at_rest again (pends q)
 doing_at again q (at.Count seen) = at_rest again (pends q)
+doing_at again q at.Marked = at_rest again (pends q)
 doing_at again q (at.Aside to) = parking_doing Second again (pends q) to
 doing_at again q at.RollBack = at_rest None (pends q)
 doing_at again q at.GiveWay = at_rest None (Some (Has (held_of q)))
@@ -214,6 +215,7 @@ deeds_at a p at.Look whom (reply.Value seen) = counted_deeds seen
 deeds_at a p (at.Count expected) whom (reply.Value seen) =
     if seen == expected then Mark Second ∷ [] else counted_deeds seen
 deeds_at a p (at.Count expected) whom reply.Done = In Second ∷ []
+deeds_at a p at.Marked whom reply.Done = In Second ∷ []
 deeds_at a p (at.Aside to) whom told = park_deeds (Case Aside) Second to told
 deeds_at a p at.RollBack whom (reply.Value seen) = does_and_wakes (has_parked seen) (Case Rollback)
 deeds_at a p at.GiveWay whom (reply.Value seen) = gives_deeds p.purpose seen
@@ -245,6 +247,7 @@ abbrev pub AtPending : RwLockAt → Type 0
 AtPending at.GiveWay = Unit {0}
 AtPending at.Look = Unit {0}
 AtPending (at.Count seen) = Unit {0}
+AtPending at.Marked = Unit {0}
 AtPending (at.Aside to) = Unit {0}
 AtPending at.RollBack = Unit {0}
 AtPending (at.Wake Main to) = Unit {0}
@@ -324,6 +327,7 @@ MayHearWaking r s t start m to whom told = ⊥
 abbrev pub MayHear : Rules → Admission → Site → ℕ → RwLockPlace → RwLockAt → Option ℕ → Reply → Type 0
 MayHear r a s t p (at.Decide seen) whom reply.Done = (decided a p seen ≡ decisions.Park) × IsFree s Main
 MayHear r a s t p (at.Count seen) whom reply.Done = IsFree s Second
+MayHear r a s t p at.Marked whom reply.Done = IsFree s Second
 MayHear r a s t p (at.Park to) whom told =
     MayHearParking r s t Main (holds (park_check a (want_at p) Main) (code r s)) to told
 MayHear r a s t p (at.Aside to) whom told =

@@ -140,6 +140,7 @@ has_released q to = false
 abbrev pub is_pending : RwLockAt → Bool
 is_pending at.Look = true
 is_pending (at.Count seen) = true
+is_pending at.Marked = true
 is_pending (at.Aside to) = true
 is_pending at.RollBack = true
 is_pending to = false

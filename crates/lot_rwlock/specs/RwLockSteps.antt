@@ -215,6 +215,7 @@ act_at l a p (at.Decide seen) = decided_act l p.purpose seen (decided a p seen)
 act_at l a p (at.Park to) = park_act l a (want_at p) Main to
 act_at l a p at.Look = act.TheVariants.Word l op.TheVariants.Load
 act_at l a p (at.Count seen) = count_act l seen
+act_at l a p at.Marked = act.TheVariants.Enter (One (key_of l Second))
 act_at l a p (at.Aside to) = park_act l a (want_at p) Second to
 act_at l a p at.RollBack = act.TheVariants.Word l (rollback_op p.purpose)
 act_at l a p at.GiveWay = act.TheVariants.Word l (give_op p.purpose)
@@ -270,7 +271,7 @@ counted p seen =
 
 abbrev pub count_next : RwLockPlace → ℕ → Reply → Next RwLockPlace
 count_next p expected (Value seen) =
-    if seen == expected then stays p (at.Count (plus expected 2)) else counted p seen
+    if seen == expected then stays p at.Marked else counted p seen
 count_next p expected Done = stays p (at.Aside parking.Check)
 count_next p expected reply = stays p (at.Count expected)
 
@@ -351,6 +352,7 @@ next_at a p (at.Decide expected) reply = decided_next a p expected reply
 next_at a p (at.Park to) reply = park_next p Main to reply
 next_at a p at.Look (Value seen) = counted p seen
 next_at a p (at.Count expected) reply = count_next p expected reply
+next_at a p at.Marked Done = stays p (at.Aside parking.Check)
 next_at a p (at.Aside to) reply = park_next p Second to reply
 next_at a p at.RollBack (Value seen) = rolled_back p seen
 next_at a p at.GiveWay (Value seen) = gave_way p seen

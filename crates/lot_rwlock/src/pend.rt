@@ -3,8 +3,9 @@
 //! | place | does | then |
 //! |---|---|---|
 //! | `Look` | loads | owns where nobody shares, else `Count` |
-//! | `Count(v)`, without `WRITER_PARKED` | exchanges `v` for `v + WRITER_PARKED`, or goes on from `Look` as it spins | `Count`, or owns |
+//! | `Count(v)`, without `WRITER_PARKED` | exchanges `v` for `v + WRITER_PARKED`, or goes on from `Look` as it spins | `Marked`, or decides again, or owns |
 //! | `Count(v)`, with `WRITER_PARKED` | enters the second section, or goes on from `Look` as it spins | `Aside` |
+//! | `Marked` | enters the second section; it spins no more | `Aside` |
 //! | `RollBack` | subtracts `WRITER`; an upgrade has the upgradable right again | ends with `No`, or wakes those in the main queue first |
 ghost use Rattle.std.specs.Prelude.{◌≡◌, ◌<◌, ◌^◌};
 ghost use Rattle.lot_rwlock.specs.RwLockSteps.{count_act, counted, count_next, rolled_back};
@@ -45,12 +46,7 @@ pub(super) fn next_count(place: RwLockPlace, expected: u64, reply: Reply) -> Nex
     ensures { result ≡ count_next place expected reply }
 {
     match reply {
-        Reply::Value(seen) if seen == expected => {
-            place.goes(
-                RwLockAt::Count(expected.wrapping_add(WRITER_PARKED)),
-                place.retries,
-            )
-        }
+        Reply::Value(seen) if seen == expected => { place.goes(RwLockAt::Marked, place.retries) }
         Reply::Value(seen) => counted(place, seen),
         Reply::Done => place.goes(RwLockAt::Aside(ParkAt::Check), place.retries),
         _ => place.goes(RwLockAt::Count(expected), place.retries),

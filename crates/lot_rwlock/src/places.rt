@@ -2,6 +2,7 @@
 ghost use Rattle.std.specs.Prelude.{◌≡◌, ◌<◌, ◌^◌};
 ghost use Rattle.abstract_locks.specs.Codes as codes;
 ghost use Rattle.lot_rwlock.specs.RwLockSteps.{wanted, goes, rwlock_act, rwlock_next};
+ghost use Rattle.lot_base.specs.Keys.{key_of};
 ghost use Rattle.lot_rwlock.specs.RwLockProfiles.{rwlock_taker, rwlock_wants, rwlock_looking, rwlock_late_line, rwlock_owes};
 
 use crate::enter::{Decision, decided_act, looked, next_decided, next_first};
@@ -11,7 +12,7 @@ use crate::purposes::{RwLockPurpose, wanted};
 use crate::release::{WakeAt, gave_way, next_wake, wake_act};
 use lot_acts::bits::{has_aside, is_blocked};
 use lot_acts::{Act, Next, Reply};
-use lot_base::{Line, Op, Want};
+use lot_base::{Keys, Line, Op, Want};
 use lot_calls::{Access, Patience};
 
 pub const PARKED: u64 = 1;
@@ -54,6 +55,8 @@ pub enum RwLockAt {
     Look,
     /// A pending writer that saw readers, and decides by that value.
     Count(u64),
+    /// A pending writer that has set `WRITER_PARKED`, and sleeps unless the readers are gone.
+    Marked,
     /// A pending writer on its way into the second queue, or out of it.
     Aside(ParkAt),
     /// A pending writer that gives up.
@@ -115,6 +118,7 @@ impl RwLockPlace {
             }
             RwLockAt::Park(at) => park_act(lock, admission, access, Line::Main, at),
             RwLockAt::Count(seen) => count_act(lock, seen),
+            RwLockAt::Marked => Act::Enter(Keys::One(Line::Second.key(lock))),
             RwLockAt::Aside(at) => park_act(lock, admission, access, Line::Second, at),
             RwLockAt::RollBack => Act::Word {
                 lock,
@@ -139,6 +143,9 @@ impl RwLockPlace {
             (RwLockAt::Park(at), reply) => next_park(self, Line::Main, at, reply),
             (RwLockAt::Look, Reply::Value(seen)) => counted(self, seen),
             (RwLockAt::Count(expected), reply) => next_count(self, expected, reply),
+            (RwLockAt::Marked, Reply::Done) => {
+                self.goes(RwLockAt::Aside(ParkAt::Check), self.retries)
+            }
             (RwLockAt::Aside(at), reply) => next_park(self, Line::Second, at, reply),
             (RwLockAt::RollBack, Reply::Value(seen)) => rolled_back(self, seen),
             (RwLockAt::GiveWay, Reply::Value(seen)) => gave_way(self, seen),

@@ -66,6 +66,7 @@ rwlock_runs_none l a p (at.Decide s) = rwlock_decides_plainly l p.purpose s (dec
 rwlock_runs_none l a p (at.Park to) = parks_plainly l a (want_at p) Main to
 rwlock_runs_none l a p at.Look = refl
 rwlock_runs_none l a p (at.Count s) = counts_plainly l s (has_aside s)
+rwlock_runs_none l a p at.Marked = refl
 rwlock_runs_none l a p (at.Aside to) = parks_plainly l a (want_at p) Second to
 rwlock_runs_none l a p at.RollBack = refl
 rwlock_runs_none l a p at.GiveWay = refl

@@ -122,6 +122,7 @@ rwlock_lines l a p (at.Count seen) is = either (has_aside seen)
     either false = tt
 rwlock_lines l a p (at.Park to) is = park_lines l a p Main to is
 rwlock_lines l a p (at.Aside to) is = park_lines l a p Second to is
+rwlock_lines l a p at.Marked is = (Second, refl)
 rwlock_lines l a p (at.Wake m waking.Enter) is = (m, refl)
 rwlock_lines l a p (at.Wake m waking.Take) is = (m, ap (λ x. (doing_at (again_of p) p.purpose x).inside) is, refl)
 rwlock_lines l a p (at.Wake m (waking.Clear any)) is = tt

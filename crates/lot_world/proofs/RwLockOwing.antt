@@ -132,6 +132,7 @@ module _ (l : ℕ) (a : Admission) (k : ℕ) where
       by_place (at.Wake m to) = befalls_waking p m to (reply.TakenBy u) tt
       by_place (at.Decide seen) = refl
       by_place (at.Count seen) = refl
+      by_place at.Marked = refl
       by_place to = refl
   befalls_at p to (reply.MovedTo u) b = by_place to
     where
@@ -141,6 +142,7 @@ module _ (l : ℕ) (a : Admission) (k : ℕ) where
       by_place (at.Wake m to) = befalls_waking p m to (reply.MovedTo u) tt
       by_place (at.Decide seen) = refl
       by_place (at.Count seen) = refl
+      by_place at.Marked = refl
       by_place to = refl
   befalls_at p to (reply.HandedBy u alone) b = by_place to
     where
@@ -150,6 +152,7 @@ module _ (l : ℕ) (a : Admission) (k : ℕ) where
       by_place (at.Wake m to) = befalls_waking p m to (reply.HandedBy u alone) tt
       by_place (at.Decide seen) = refl
       by_place (at.Count seen) = refl
+      by_place at.Marked = refl
       by_place to = refl
   befalls_at p to (reply.Woken n) b = by_place to
     where
@@ -159,6 +162,7 @@ module _ (l : ℕ) (a : Admission) (k : ℕ) where
       by_place (at.Wake m to) = befalls_waking p m to (reply.Woken n) tt
       by_place (at.Decide seen) = refl
       by_place (at.Count seen) = refl
+      by_place at.Marked = refl
       by_place to = refl
   befalls_at p to r b = absurd b
 
@@ -258,9 +262,11 @@ before_quiet a p (at.Decide e) h told = tt
 before_quiet a p (at.Park to) h told = park_quiet p Main to told
 before_quiet a p at.Look h (reply.Value seen) = counted_quiet p seen
 before_quiet a p at.Look h told = tt
-before_quiet a p (at.Count e) h (reply.Value seen) = if_quiet (seen == e) (next.At (record { purpose = p.purpose; retries = p.retries; at = at.Count (plus e 2) })) (counted p seen) tt (counted_quiet p seen)
+before_quiet a p (at.Count e) h (reply.Value seen) = if_quiet (seen == e) (next.At (record { purpose = p.purpose; retries = p.retries; at = at.Marked })) (counted p seen) tt (counted_quiet p seen)
 before_quiet a p (at.Count e) h reply.Done = tt
 before_quiet a p (at.Count e) h told = tt
+before_quiet a p at.Marked h reply.Done = tt
+before_quiet a p at.Marked h told = tt
 before_quiet a p (at.Aside to) h told = park_quiet p Second to told
 before_quiet a p to h told = absurd h
 

@@ -125,6 +125,7 @@ acts_at l a p (at.Count seen) h = either (has_aside seen)
     either : (b : Bool) → is_acting (if b then act.Enter (One (2 * l + 1)) else exchange l seen (plus seen 2)) ≡ true
     either true = refl
     either false = refl
+acts_at l a p at.Marked h = refl
 acts_at l a p (at.Aside to) h = park_acts l a (want_at p) Second to
 acts_at l a p at.RollBack h = refl
 acts_at l a p at.GiveWay h = refl
@@ -169,6 +170,7 @@ awake_at l a p (at.Count seen) h e = either (has_aside seen) e
     either : (b : Bool) → (if b then act.Enter (One (2 * l + 1)) else exchange l seen (plus seen 2)) ≡ Sleep → ⊥
     either true e = cc
     either false e = cc
+awake_at l a p at.Marked h e = cc
 awake_at l a p (at.Aside to) h e = park_awake l a (want_at p) Second to h e
 awake_at l a p at.RollBack h e = cc
 awake_at l a p at.GiveWay h e = cc
@@ -393,6 +395,7 @@ module _ (r : Rules) (readers : has_readers r.sort ≡ true) (a : Admission) (l 
   debtor q again (at.Decide seen) stands m d = tries q again (at.Decide seen) (before_waits q again (at.Decide seen) stands tt) tt refl refl m (claimed q) d
   debtor q again at.Look stands m d = tries q again at.Look (before_waits q again at.Look stands tt) tt refl refl m (pends q) d
   debtor q again (at.Count seen) stands m d = tries q again (at.Count seen) (before_waits q again (at.Count seen) stands tt) tt refl refl m (pends q) d
+  debtor q again at.Marked stands m d = tries q again at.Marked (before_waits q again at.Marked stands tt) tt refl refl m (pends q) d
   debtor q again (at.Park parking.Check) stands m d = tries q again (at.Park parking.Check) (before_waits q again (at.Park parking.Check) stands tt) tt refl refl m None (bare m d)
     where
       bare : (m : Line) → IsDebtorIn r.sort (rwlock_doing (of q again (at.Park parking.Check))) m → IsDebtorIn r.sort (record idle { retries = again_of (of q again (at.Park parking.Check)); claims = None }) m

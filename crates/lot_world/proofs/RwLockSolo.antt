@@ -169,12 +169,16 @@ module _ (t l : ℕ) (a : Admission) where
   count_aside p v w q bit left f = let c = enter_comes w t l _ v q f Second (ap (λ (b : Bool). if b then act.Enter (One (2 * l + 1)) else exchange l v (plus v 2)) bit) (finds_free w t l _ v q f refl Second) in
       goes w (Sleeps Second p q) 2 v q (again p (at.Aside parking.Check) p.retries) _ refl refl c (λ g. aside_sleeps p v _ q (rw (bit, left) refl) g)
 
+  marked_aside : (p : RwLockPlace) (v : ℕ) (w : State) (q : Line → List Waiter) → has_aside v ≡ true → (count_in v == 0) ≡ false → Alone w (to p at.Marked) v q → Leads 3 w t (Sleeps Second p q)
+  marked_aside p v w q bit left f = let c = enter_comes w t l _ v q f Second refl (finds_free w t l _ v q f refl Second) in
+      goes w (Sleeps Second p q) 2 v q (again p (at.Aside parking.Check) p.retries) _ refl refl c (λ g. aside_sleeps p v _ q (rw (bit, left) refl) g)
+
   count_marks : (p : RwLockPlace) (v : ℕ) (w : State) (q : Line → List Waiter) → v < 2 ^ 64 → has_aside v ≡ false → (count_in v == 0) ≡ false → Alone w (to p (at.Count v)) v q → Leads 4 w t (Sleeps Second p q)
   count_marks p v w q small bit left f = let c = word_comes w t l _ v q f (op.Exchange v (plus v 2)) (ap (λ (b : Bool). if b then act.Enter (One (2 * l + 1)) else exchange l v (plus v 2)) bit) in
       let m = aside_set v small bit in
-      goes w (Sleeps Second p q) 3 _ q (again p (at.Count (plus v 2)) p.retries) _ (ap (λ (b : Bool). if b then At (again p (at.Count (plus v 2)) p.retries) else counted (to p (at.Count v)) v) (same v))
-      (ap (λ (b : Bool). outcome_of (if b then act.Enter (One (2 * l + 1)) else exchange l (plus v 2) (plus (plus v 2) 2))) m.0) c
-      (λ g. count_aside p (plus v 2) _ q m.0 (ap (λ n. n == 0) m.1 ∙ left) (subst (λ y. Alone (after w (go_of t)) (again p (at.Count (plus v 2)) p.retries) y q) (ap (λ (b : Bool). if b then plus v 2 else v) (same v)) g))
+      goes w (Sleeps Second p q) 3 _ q (again p at.Marked p.retries) _ (ap (λ (b : Bool). if b then At (again p at.Marked p.retries) else counted (to p (at.Count v)) v) (same v))
+      refl c
+      (λ g. marked_aside p (plus v 2) _ q m.0 (ap (λ n. n == 0) m.1 ∙ left) (subst (λ y. Alone (after w (go_of t)) (again p at.Marked p.retries) y q) (ap (λ (b : Bool). if b then plus v 2 else v) (same v)) g))
 
   count_leads : (p : RwLockPlace) (v : ℕ) (w : State) (q : Line → List Waiter) → v < 2 ^ 64 → (count_in v == 0) ≡ false → Alone w (to p (at.Count v)) v q → Leads 4 w t (Sleeps Second p q)
   count_leads p v w q small left f = either (has_aside v) refl
@@ -500,6 +504,9 @@ module _ (t l : ℕ) (a : Admission) where
           leads_more 6 10 w t Resting (omega arith) (leads_so 6 w t (Decides d p v q) Resting (decides_so d p v q) (fresh_leads p v w q small d h (rw same_word e) (subst (λ y. Alone w (decides p y) v q) (sym same_word) f)))
       either false g = is_stale d h e g
 
+  marked_rests : (p : RwLockPlace) (v : ℕ) (w : State) (q : Line → List Waiter) → v < 2 ^ 64 → Alone w (to p at.Marked) v q → Leads 10 w t Resting
+  marked_rests p v w q small f = goes w Resting 9 v q (again p (at.Aside parking.Check) p.retries) _ refl refl (enter_comes w t l _ v q f Second refl (finds_free w t l _ v q f refl Second)) (λ g. check_rests Second p v _ q small g)
+
   count_rests : (p : RwLockPlace) (x v : ℕ) (w : State) (q : Line → List Waiter) → v < 2 ^ 64 → Alone w (to p (at.Count x)) v q → Leads 11 w t Resting
   count_rests p x v w q small f = either (has_aside x) refl
     where
@@ -511,12 +518,12 @@ module _ (t l : ℕ) (a : Admission) where
       counted_rests false e c = leads_more 5 11 w t Resting (omega arith) (leads_step w t Resting 4 (c.0 ∙ counts_step v (has_aside v)) (leads_so 4 _ t (Sleeps Second p q) Resting (sleeps_so Second p q) (count_leads p v _ q small e c.1)))
 
       marked_next : Bool → Next RwLockPlace
-      marked_next b = if b then At (again p (at.Count (plus x 2)) p.retries) else counted (to p (at.Count x)) v
+      marked_next b = if b then At (again p at.Marked p.retries) else counted (to p (at.Count x)) v
 
       by_word : (b : Bool) → (v == x) ≡ b → has_aside x ≡ false → Comes w t l (rwlock_goes l a (marked_next b)) (outcome_of (rwlock_does l a (marked_next b))) (if v == x then plus x 2 else v) q → Leads 11 w t Resting
       by_word false ne e c = counted_rests (count_in v == 0) refl (subst (λ z. Comes w t l (rwlock_goes l a (marked_next false)) (outcome_of (rwlock_does l a (marked_next false))) z q) (ap (λ (b : Bool). if b then plus x 2 else v) ne) c)
-      by_word true g e c = let same_word : v ≡ x = eqb-true v x g in let m = aside_set x (subst (λ y. y < 2 ^ 64) same_word small) e in
-          leads_step w t Resting 10 (c.0 ∙ counts_step (plus x 2) (has_aside (plus x 2))) (aside_rests (plus x 2) (plus x 2) _ (below (x + 2)) m.0 (subst (λ y. Alone (after w (go_of t)) (again p (at.Count (plus x 2)) p.retries) y q) (ap (λ (b : Bool). if b then plus x 2 else v) g) c.1))
+      by_word true g e c = 
+          leads_step w t Resting 10 c.0 (marked_rests p (plus x 2) _ q (below (x + 2)) (subst (λ y. Alone (after w (go_of t)) (again p at.Marked p.retries) y q) (ap (λ (b : Bool). if b then plus x 2 else v) g) c.1))
 
       either : (b : Bool) → has_aside x ≡ b → Leads 11 w t Resting
       either true e = leads_more 10 11 w t Resting (omega arith) (aside_rests x v w small e f)
@@ -541,6 +548,7 @@ module _ (t l : ℕ) (a : Admission) where
       by_at (at.Park x) ready f = leads_more 9 11 w t Resting (omega arith) (parks_rests Main p x v w q ready.1 ready.0 small f)
       by_at at.Look ready f = leads_more 5 11 w t Resting (omega arith) (look_rests p v w q small f)
       by_at (at.Count x) ready f = count_rests p x v w q small f
+      by_at at.Marked ready f = leads_more 10 11 w t Resting (omega arith) (marked_rests p v w q small f)
       by_at (at.Aside x) ready f = leads_more 9 11 w t Resting (omega arith) (parks_rests Second p x v w q ready.1 ready.0 small f)
       by_at at.RollBack ready f = leads_more 6 11 w t Resting (omega arith) (leads_so 6 w t (Ends p.purpose) Resting (ends_so p.purpose) (rollback_ends p v w q ready f))
       by_at at.GiveWay ready f = leads_more 6 11 w t Resting (omega arith) (give_way_rests p.purpose p.retries v w q ready f)
@@ -619,6 +627,7 @@ is_ready t l a p stands up = by_at p.purpose p.at stands.place stands.decided up
     by_at q (at.Park x) s h up = (by_parking q Main x up, waits Main x q s)
     by_at q at.Look s h up = tt
     by_at q (at.Count seen) s h up = tt
+    by_at q at.Marked s h up = tt
     by_at q (at.Aside x) s h up = (by_parking q Second x up, waits Second x q s)
     by_at q at.RollBack s h up = rolls_back q s
     by_at q at.GiveWay s h up = gives q s

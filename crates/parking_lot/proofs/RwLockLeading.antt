@@ -81,6 +81,7 @@ module _ (l : ℕ) (a : Admission) where
   goes_at q again (at.Park to) n = parking_goes (of q again (at.Park to)) Main to
   goes_at q again at.Look n = (refl, refl)
   goes_at q again (at.Count seen) n = counting_goes seen (has_aside seen)
+  goes_at q again at.Marked n = (refl, refl)
   goes_at q again (at.Aside to) n = parking_goes (of q again (at.Aside to)) Second to
   goes_at q again at.RollBack n = (refl, refl)
   goes_at q again at.GiveWay n = (refl, refl)

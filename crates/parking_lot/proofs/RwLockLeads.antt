@@ -422,21 +422,23 @@ module _ (up : Type 0) (l : ℕ) (a : Admission) (base : List Ownership) (q : Rw
         by_purpose (purpose.Release access.Exclusive) stands = absurd stands
         by_purpose (purpose.Downgrade d) stands = absurd stands
 
+    -- into the second section
+    goes_aside : (to : RwLockAt) → OwnsBeside l (pends q) base st.owns → Became up rwlocks (at_rwlock l) (sleeper_at (place.RwLock l a (of to))) st (act.Enter (One (2 * l + 1))) Done new
+        → Reach (stays (of to) (at.Aside parking.Check))
+    goes_aside to owns b = (
+      record {
+        begun = tt;
+        seen = tt;
+        owns = subst (λ (x : List Ownership). OwnsBeside l (pends q) base x) (sym (ap (λ (s : Stage). s.owns) b)) owns;
+        within = ap (λ (s : Stage). s.inside) b;
+        late = not_late (at.Aside parking.Check) refl;
+      },
+      refl,
+    )
+
     counts_leads : (seen : ℕ) → Fits (at.Count seen) → (b : Bool) → has_aside seen ≡ b → (reply : Reply) → Became up rwlocks (at_rwlock l) (sleeper_at (place.RwLock l a (of (at.Count seen)))) st (if b then act.Enter (One (2 * l + 1)) else exchange l seen (plus seen 2)) reply new
         → Comes up l base a q (next_at a (of (at.Count seen)) (at.Count seen) reply) new × MayBeTold a (of (at.Count seen)) (at.Count seen) reply
-    counts_leads seen f true e Done b = (
-      (
-        record {
-          begun = tt;
-          seen = tt;
-          owns = subst (λ (x : List Ownership). OwnsBeside l (pends q) base x) (sym (ap (λ (s : Stage). s.owns) b)) f.owns;
-          within = ap (λ (s : Stage). s.inside) b;
-          late = not_late (at.Aside parking.Check) refl;
-        },
-        refl,
-      ),
-      tt,
-    )
+    counts_leads seen f true e Done b = (goes_aside (at.Count seen) f.owns b, tt)
     counts_leads seen f false e (Value other) b = (
       dite (ℕ_discrete other seen)
           (λ same. rw (eq-eqb other seen same) (marked (subst (Step (Exchange seen (plus seen 2))) same b)))
@@ -444,10 +446,10 @@ module _ (up : Type 0) (l : ℕ) (a : Admission) (base : List Ownership) (q : Rw
       small (Exchange seen (plus seen 2)) other b,
     )
       where
-        marked : Step (Exchange seen (plus seen 2)) seen → Reach (stays (of (at.Count seen)) (at.Count (plus seen 2)))
+        marked : Step (Exchange seen (plus seen 2)) seen → Reach (stays (of (at.Count seen)) at.Marked)
         marked b = let m = marks_aside seen f.seen e in
             let same : apply (Exchange seen (plus seen 2)) seen / 4 ≡ seen / 4 = subst (λ (k : ℕ). apply (Exchange seen k) seen / 4 ≡ seen / 4) (sym m.0) (keeping.marked_same seen 2 (omega (arith, m.1))) in
-            rests (at.Count (plus seen 2)) again (pends q) tt (omega arith) refl refl refl
+            rests at.Marked again (pends q) tt tt refl refl refl
             (claims_now (Exchange seen (plus seen 2)) seen (pends q) b (keeping.unlooked l base st.owns seen b.0 (Exchange seen (plus seen 2)) (pends q) same (keeping.marked_looks seen (plus seen 2)) f.owns)) (inside_now (Exchange seen (plus seen 2)) seen b ∙ f.within)
     counts_leads seen f true e reply b = absurd b
     counts_leads seen f false e reply b = absurd b
@@ -719,6 +721,8 @@ module _ (up : Type 0) (l : ℕ) (a : Admission) (base : List Ownership) (q : Rw
     leads_at (at.Park to) f reply b = main_leads to f reply b
     leads_at at.Look f (Value seen) b = (counted_comes at.Look Load seen f.stands.place f.owns f.within refl refl b, small Load seen b)
     leads_at (at.Count seen) f reply b = counts_leads seen f (has_aside seen) refl reply b
+    leads_at at.Marked f Done b = (goes_aside at.Marked f.owns b, tt)
+    leads_at at.Marked f reply b = absurd b
     leads_at (at.Aside to) f reply b = aside_leads to f reply b
     leads_at at.RollBack f (Value seen) b = (rolls_leads seen f b, small (rollback_op q) seen b)
     leads_at at.GiveWay f reply b = absurd f.begun

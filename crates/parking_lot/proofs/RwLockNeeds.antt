@@ -174,6 +174,7 @@ module _ (up : Type 0) (l : ℕ) (a : Admission) (base : List Ownership) (q : Rw
   rwlock_needs (at.Park to) f = parks_needs to f
   rwlock_needs at.Look f = (rwlock_steps (rwlock_at l) st.owns).load
   rwlock_needs (at.Count seen) f = counts_needs seen f (has_aside seen) refl
+  rwlock_needs at.Marked f = (tt, f.within)
   rwlock_needs (at.Aside to) f = aside_needs to f
   rwlock_needs at.RollBack f = rolls_needs f
   rwlock_needs at.GiveWay f = absurd f.begun
