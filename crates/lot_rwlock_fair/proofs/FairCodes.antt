@@ -19,6 +19,7 @@ use Rattle.lot_rwlock.specs.RwLockSteps.{wanted, token}
 use Rattle.lot_rwlock.specs.RwLockDeeds.{does_and_wakes}
 use Rattle.lot_rwlock.proofs.RwLockCodes.{rwlock_steps_code}
 use Rattle.lot_rwlock.proofs.RwLockStands.{is_at}
+use Rattle.lot_acts.specs.Moves.{bit_left}
 use Rattle.lot_rwlock_fair.specs.declared.places.RwLockCallPlace.{RwLockCallPlace}
 use Rattle.lot_rwlock_fair.specs.declared.places.RwLockCallPlace.TheVariants.{Plain, Glance, HandOver, Bump, Handed}
 use Rattle.lot_rwlock_fair.specs.declared.hand_over.Taken.{Taken}
@@ -26,7 +27,7 @@ use Rattle.lot_rwlock_fair.specs.declared.hand_over.HandOverAt.{HandOverAt}
 use Rattle.lot_rwlock_fair.specs.declared.hand_over.HandOverAt.TheVariants as handing
 use Rattle.lot_rwlock_fair.specs.declared.handed.HandedAt.TheVariants as given
 use Rattle.lot_rwlock_fair.specs.FairSteps.{has_room, parked_as, without, with_taken, gives_way, hand_over_act}
-use Rattle.lot_rwlock_fair.specs.FairDeeds.{settles_bit, leaves_over, exchanged_deeds, freed_deeds, glance_deeds, call_deeds}
+use Rattle.lot_rwlock_fair.specs.FairDeeds.{leaves_over, exchanged_deeds, freed_deeds, glance_deeds, call_deeds}
 use Rattle.lot_rwlock_fair.specs.FairCalls.{HandsOverAt}
 use Rattle.lot_rwlock_fair.specs.FairLaws.{behind_call, FairStepsCode}
 use Rattle.lot_rwlock_fair.proofs.FairFit.{fair_steps_follow}
@@ -82,7 +83,7 @@ module _ (r : Rules) (a : Admission) (s : Site) (t l : ℕ) (op : Op) (rw_sort :
       let bits = settles r (after_deed r (Case (Leave Upgradable)) s t) t k.none_left in
       let low = low_is r s h in
       let is = coded s in let is_left = coded (after_deed r (Case (Leave Upgradable)) s t) in
-      rw (coded (after_deed r (settles_bit k.none_left) (after_deed r (Case (Leave Upgradable)) s t) t))
+      rw (coded (after_deed r (bit_left k.none_left) (after_deed r (Case (Leave Upgradable)) s t) t))
       (left_words v 20 (bit s.parked) (rw_code (after_deed r (Case (Leave Upgradable)) s t)) _ (if k.none_left then 0 else 1) small (omega arith) refl (omega arith) (omega arith) bits)
 
   exchanged : (k : Taken) (expected : ℕ) → (room : Bool) → (won : Bool) → (v == expected) ≡ won

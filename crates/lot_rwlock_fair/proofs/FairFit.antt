@@ -29,6 +29,7 @@ use Rattle.lot_rwlock.specs.RwLockDeeds.{at_rest, does_and_wakes, doing_next, Ad
 use Rattle.lot_rwlock.specs.RwLockCalls.{MayStand}
 use Rattle.lot_rwlock.proofs.RwLockFit.{rwlock_steps_follow}
 use Rattle.lot_rwlock.proofs.RwLockStands.{is_at}
+use Rattle.lot_acts.specs.Moves.{bit_left}
 use Rattle.lot_rwlock_fair.specs.declared.places.RwLockCallPlace.{RwLockCallPlace}
 use Rattle.lot_rwlock_fair.specs.declared.places.RwLockCallPlace.TheVariants.{Plain, Glance, HandOver, Bump, Handed}
 use Rattle.lot_rwlock_fair.specs.declared.hand_over.Taken.{Taken}
@@ -37,7 +38,7 @@ use Rattle.lot_rwlock_fair.specs.declared.hand_over.HandOverAt.TheVariants as ha
 use Rattle.lot_rwlock_fair.specs.declared.handed.HandedAt.{HandedAt}
 use Rattle.lot_rwlock_fair.specs.declared.handed.HandedAt.TheVariants as given
 use Rattle.lot_rwlock_fair.specs.FairSteps.{any_taken, has_room, with_taken, parked_as, without, looked, released, bump_next, plain_next, enters_again, gives_way, gives_up_at, freed_next, hand_over_act, handed_act}
-use Rattle.lot_rwlock_fair.specs.FairDeeds.{holding, hand_over_doing, settles_bit, exchanged_deeds, freed_deeds, glance_deeds, call_deeds, call_doing, call_doing_next}
+use Rattle.lot_rwlock_fair.specs.FairDeeds.{holding, hand_over_doing, exchanged_deeds, freed_deeds, glance_deeds, call_deeds, call_doing, call_doing_next}
 use Rattle.lot_rwlock_fair.specs.FairCalls.{HandsOverAt}
 use Rattle.lot_rwlock_fair.specs.FairLaws.{FairStepsFollow, CallFollowsBy}
 
@@ -108,7 +109,7 @@ module _ (r : Rules) (s : Site) (t : ℕ) (rw_sort : has_readers r.sort ≡ true
 
   -- there is no room for those in hand: the right is given up inside the section, and they are to be woken
   leaves_them : (k : Taken) (none_left : Bool) → k.none_left ≡ none_left → s.doing t ≡ record idle { inside = Some Main; carries = true; covers = true; empty = found Main none_left; claims = Some (Has Upgradable) }
-      → Follows r s t (Case (Leave Upgradable) ∷ settles_bit none_left ∷ []) (record idle { inside = Some Main; carries = true; covers = true })
+      → Follows r s t (Case (Leave Upgradable) ∷ bit_left none_left ∷ []) (record idle { inside = Some Main; carries = true; covers = true })
   leaves_them k true e is = let own = h.held t (Has Upgradable) (grind arith) in record { needed = grind (arith, nat_tests); doing = grind (arith, nat_tests) }
   leaves_them k false e is = let own = h.held t (Has Upgradable) (grind arith) in record { needed = grind (arith, nat_tests); doing = grind (arith, nat_tests) }
 

@@ -8,9 +8,9 @@ use Rattle.lot_acts.specs.Calls.{rights_where}
 use Rattle.abstract_locks.specs.Locks.{LockState, Rules, Rights, Taken as TakenBy, Owns, IsSuccessor, IsTaken, rights_of, with_right, without_owner, sharing_from, shares_handed, sharing_handed, handed, with_successor, succeeding, with_owner, pending_for, readers}
 use Rattle.abstract_locks.specs.Runs.{LocksState, rights_in, one_more_at}
 use Rattle.abstract_locks.proofs.Rights.{AreAt, unchanged, changed, agree, rights_by, left}
+use Rattle.lot_acts.specs.Moves.{heir_of}
 use Rattle.lot_rwlock_fair.specs.declared.hand_over.Taken.{Taken}
 use Rattle.lot_rwlock_fair.specs.FairProfiles.{before_release}
-use Rattle.lot_rwlock_fair.specs.FairDeeds.{successor_of}
 use Rattle.lot_rwlock_fair.specs.FairCalls.{HasInHand}
 use Rattle.lot_rwlock_fair.proofs.HandOvers.{WantsMore, HasNoWriter}
 
@@ -84,11 +84,12 @@ module _ (base : LockState) (none : HasNoWriter base) (t u : ℕ) (other : u ≢
   succeeds_else y more = absurd more
 
 module _ (r : Rules) (s : LockState) (t : ℕ) (free : s.taken t ≡ None) (k : Taken) (whom : Option ℕ) (hand : HasInHand s t k whom) (wants : WantsMore k.successor) where
-  succeeds_by : (base : LockState) → HasNoWriter base → (y : Option Want) (w : Option ℕ) → WantsMore y → IsSuccessor s t (successor_of y w) → rights_of (with_successor (successor_of y w) base) t ≡ rights_of base t
-  succeeds_by base none None w more is = refl
+  succeeds_by : (base : LockState) → HasNoWriter base → (y : Option Want) (w : Option ℕ) → WantsMore y → IsSuccessor s t (heir_of w y) → rights_of (with_successor (heir_of w y) base) t ≡ rights_of base t
+  succeeds_by base none None None more is = refl
+  succeeds_by base none None (Some u) more is = refl
   succeeds_by base none (Some y) None more is = refl
   succeeds_by base none (Some y) (Some u) more is = succeeds_else base none t u (is_other s t free u y ((is u y).0 refl).0) y more
 
   -- the giver has its right no longer, and what else it had
-  pub gave : (x : Want) → x ≢ Shared → Owns s t x → HasNoWriter (sharing_handed t (without_owner t x s)) → with_right x (rights_of (handed t x (successor_of k.successor whom) s) t) ≡ rights_of s t
+  pub gave : (x : Want) → x ≢ Shared → Owns s t x → HasNoWriter (sharing_handed t (without_owner t x s)) → with_right x (rights_of (handed t x (heir_of whom k.successor) s) t) ≡ rights_of s t
   gave x more own none = ap (with_right x) (succeeds_by (sharing_handed t (without_owner t x s)) none k.successor whom wants hand.successor ∙ shared_out s t free x more) ∙ left s t x own

@@ -72,6 +72,9 @@ module _ (r : Rules) (a : Admission) (s : Site) (t : ℕ) where
   unheard p (at.Count seen) whom (reply.HandedBy by alone) is h = h
   unheard p (at.Count seen) whom (reply.Woken n) is h = h
   unheard p (at.Count seen) whom told is h = is
+  unheard p at.Marked whom (reply.HandedBy by alone) is h = h
+  unheard p at.Marked whom (reply.Woken n) is h = h
+  unheard p at.Marked whom told is h = is
   unheard p to whom told is h = h
 
   pub not_given : (b : Bool) (p : RwLockPlace) (whom : Option ℕ) (told : Reply) → MayHear r a s t p p.at whom told → given b p told ≡ None

@@ -33,6 +33,7 @@ use Rattle.lot_rwlock.specs.RwLockSteps.{wanted, rwlock_next}
 use Rattle.lot_rwlock.specs.RwLockProfiles.{rwlock_profile, rwlock_looking, looking_at, gone_to, hand_at}
 use Rattle.lot_rwlock.specs.RwLockCalls.{MayStand, StandsAt}
 use Rattle.lot_rwlock.proofs.RwLockCallPlaces.{rwlock_sleepers_hear, rwlock_looks_stand}
+use Rattle.lot_acts.specs.Moves.{claim_handed}
 use Rattle.lot_rwlock_fair.specs.declared.places.RwLockCallPlace.{RwLockCallPlace}
 use Rattle.lot_rwlock_fair.specs.declared.places.RwLockCallPlace.TheVariants.{Plain, Glance, HandOver, Bump, Handed}
 use Rattle.lot_rwlock_fair.specs.declared.hand_over.HandOverAt.{HandOverAt}
@@ -40,7 +41,6 @@ use Rattle.lot_rwlock_fair.specs.declared.hand_over.HandOverAt.TheVariants as ha
 use Rattle.lot_rwlock_fair.specs.declared.handed.HandedAt.{HandedAt}
 use Rattle.lot_rwlock_fair.specs.declared.handed.HandedAt.TheVariants as handed
 use Rattle.lot_rwlock_fair.specs.FairSteps.{plain_next, bump_next, handed_woken, call_next}
-use Rattle.lot_rwlock_fair.specs.FairDeeds.{handed_claim}
 use Rattle.lot_rwlock_fair.specs.FairProfiles.{call_profile, bumping, without_claim, in_call}
 use Rattle.lot_rwlock_fair.specs.FairCalls.{IsOfBump, CallStands}
 use Rattle.lot_rwlock_fair.specs.FairLaws.{CallBecomes, with_claim, IsGiven, CallHears, FairSleepersHear, FairLooksStand}
@@ -115,9 +115,9 @@ module _ (a : Admission) (l : ℕ) where
 
   plain_given : (q : RwLockPurpose) (again : Bool) (to : RwLockAt) (u : ℕ) (alone : Bool) → StandsAt q again to → hand_at to ≡ hand u false → (rwlock_profile a (of q again to)).doing.claims ≡ None → IsGiven a l (Plain (of q again to)) u alone
   plain_given (purpose.Enter x how) again (at.Park (parking.Taken v)) u alone stands h none = λ c2 rights y w e.
-      subst (λ c. call_by l (call_profile a c) (with_claim (handed_claim y alone) l rights) ≡ record (call_by l (call_profile a (Plain (of (purpose.Enter x how) again (at.Park (parking.Taken v))))) rights) { retries = None }) (let z : Handed x how false (handed.Asleep u alone) ≡ c2 = cc in z)
-      (subst (λ z. call_by l (call_profile a (Handed x how false (handed.Asleep u alone))) (with_claim (handed_claim z alone) l rights) ≡ record (call_by l (call_profile a (Plain (of (purpose.Enter x how) again (at.Park (parking.Taken v))))) rights) { retries = None }) (let z : wanted x ≡ y = cc in z)
-      (recalls _ _ (claim_back rights l (handed_claim (wanted x) alone))))
+      subst (λ c. call_by l (call_profile a c) (with_claim (claim_handed alone y) l rights) ≡ record (call_by l (call_profile a (Plain (of (purpose.Enter x how) again (at.Park (parking.Taken v))))) rights) { retries = None }) (let z : Handed x how false (handed.Asleep u alone) ≡ c2 = cc in z)
+      (subst (λ z. call_by l (call_profile a (Handed x how false (handed.Asleep u alone))) (with_claim (claim_handed alone z) l rights) ≡ record (call_by l (call_profile a (Plain (of (purpose.Enter x how) again (at.Park (parking.Taken v))))) rights) { retries = None }) (let z : wanted x ≡ y = cc in z)
+      (recalls _ _ (claim_back rights l (claim_handed alone (wanted x)))))
   plain_given (purpose.Enter x how) again (at.Aside (parking.Taken v)) u alone stands h none = absurd cc
   plain_given (purpose.Upgrade how) again (at.Aside (parking.Taken v)) u alone stands h none = absurd cc
   plain_given (purpose.Upgrade Patient) again (at.Park to) u alone stands h none = absurd stands
@@ -135,9 +135,9 @@ module _ (a : Admission) (l : ℕ) where
 
   bump_given : (q : RwLockPurpose) (again : Bool) (to : RwLockAt) (u : ℕ) (alone : Bool) → StandsAt q again to → IsOfBump q again → hand_at to ≡ hand u false → (rwlock_profile a (of q again to)).doing.claims ≡ None → IsGiven a l (Bump (of q again to)) u alone
   bump_given (purpose.Enter x Patient) again (at.Park (parking.Taken v)) u alone stands bump h none = λ c2 rights y w e.
-      subst (λ c. call_by l (call_profile a c) (with_claim (handed_claim y alone) l rights) ≡ record (call_by l (call_profile a (Bump (of (purpose.Enter x Patient) again (at.Park (parking.Taken v))))) rights) { retries = None }) (let z : Handed x Patient true (handed.Asleep u alone) ≡ c2 = cc in z)
-      (subst (λ z. call_by l (call_profile a (Handed x Patient true (handed.Asleep u alone))) (with_claim (handed_claim z alone) l rights) ≡ record (call_by l (call_profile a (Bump (of (purpose.Enter x Patient) again (at.Park (parking.Taken v))))) rights) { retries = None }) (let z : wanted x ≡ y = cc in z)
-      (recalls _ _ (one_more_of l (wanted x) _ _ (claim_back rights l (handed_claim (wanted x) alone)))))
+      subst (λ c. call_by l (call_profile a c) (with_claim (claim_handed alone y) l rights) ≡ record (call_by l (call_profile a (Bump (of (purpose.Enter x Patient) again (at.Park (parking.Taken v))))) rights) { retries = None }) (let z : Handed x Patient true (handed.Asleep u alone) ≡ c2 = cc in z)
+      (subst (λ z. call_by l (call_profile a (Handed x Patient true (handed.Asleep u alone))) (with_claim (claim_handed alone z) l rights) ≡ record (call_by l (call_profile a (Bump (of (purpose.Enter x Patient) again (at.Park (parking.Taken v))))) rights) { retries = None }) (let z : wanted x ≡ y = cc in z)
+      (recalls _ _ (one_more_of l (wanted x) _ _ (claim_back rights l (claim_handed alone (wanted x))))))
   bump_given (purpose.Enter x Patient) again (at.Aside (parking.Taken v)) u alone stands bump h none = absurd cc
   bump_given (purpose.Release access.Shared) again (at.Park to) u alone stands bump h none = absurd stands
   bump_given (purpose.Release access.Shared) again (at.Aside to) u alone stands bump h none = absurd stands
@@ -146,7 +146,7 @@ module _ (a : Admission) (l : ℕ) where
   bump_given q again to u alone stands bump h none = absurd bump
 
   -- nobody else was
-  never_given : (to : RwLockAt) (u : ℕ) → hand_at to ≡ hand u true → ⊥
+  pub never_given : (to : RwLockAt) (u : ℕ) → hand_at to ≡ hand u true → ⊥
   never_given (at.Park (parking.Taken v)) u h = cc
   never_given (at.Park to) u h = cc
   never_given (at.Aside (parking.Taken v)) u h = cc
@@ -158,8 +158,10 @@ module _ (a : Admission) (l : ℕ) where
   handed_goes x how b by alone c2 rights e = subst (λ c. call_by l (call_profile a c) rights ≡ call_by l (call_profile a (Handed x how b (handed.Asleep by alone))) rights) (let z : handed_woken x how b alone ≡ c2 = cc in z) (woken_same x b alone)
     where
       woken_same : (x : Access) (b alone : Bool) → call_by l (call_profile a (handed_woken x how b alone)) rights ≡ call_by l (call_profile a (Handed x how b (handed.Asleep by alone))) rights
-      woken_same access.Shared b alone = refl
-      woken_same access.Upgradable b alone = refl
+      woken_same access.Shared b true = refl
+      woken_same access.Shared b false = refl
+      woken_same access.Upgradable b true = refl
+      woken_same access.Upgradable b false = refl
       woken_same access.Exclusive b true = refl
       woken_same access.Exclusive true false = refl
       woken_same access.Exclusive false false = refl

@@ -99,7 +99,7 @@ module _ (a : Admission) (p : RwLockPlace) where
   firsts_for true answer how = tt
   firsts_for false answer how = misses_for how
 
-  counts_for : (was seen : ℕ) (b : Bool) → StaysFor p.purpose (if b then stays p (at.Count (plus was 2)) else counted p seen)
+  counts_for : (was seen : ℕ) (b : Bool) → StaysFor p.purpose (if b then stays p at.Marked else counted p seen)
   counts_for was seen true = refl
   counts_for was seen false = ends_or (count_in seen == 0) (entered (patience_of p.purpose)) (at.Count seen)
 
@@ -151,6 +151,8 @@ module _ (a : Admission) (p : RwLockPlace) where
   stays_at (at.Count was) (reply.Value seen) = counts_for was seen (seen == was)
   stays_at (at.Count was) reply.Done = refl
   stays_at (at.Count was) told = refl
+  stays_at at.Marked reply.Done = refl
+  stays_at at.Marked told = refl
   stays_at (at.Aside to) told = parks_for Second to told
   stays_at at.RollBack (reply.Value seen) = or_ends (has_parked seen) No (wakes Main)
   stays_at at.GiveWay (reply.Value seen) = gives_for seen p.purpose

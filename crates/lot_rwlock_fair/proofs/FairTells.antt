@@ -25,13 +25,14 @@ use Rattle.abstract_locks.proofs.Rights.{left}
 use Rattle.lot_rwlock.specs.declared.places.Admission.{Admission}
 use Rattle.lot_rwlock.specs.RwLockSteps.{wanted}
 use Rattle.lot_rwlock.specs.RwLockDeeds.{Admits, does_and_wakes}
+use Rattle.lot_acts.specs.Moves.{bit_left, heir_of}
 use Rattle.lot_rwlock_fair.specs.declared.places.RwLockCallPlace.{RwLockCallPlace}
 use Rattle.lot_rwlock_fair.specs.declared.places.RwLockCallPlace.TheVariants.{Glance, HandOver}
 use Rattle.lot_rwlock_fair.specs.declared.hand_over.Taken.{Taken}
 use Rattle.lot_rwlock_fair.specs.declared.hand_over.HandOverAt.{HandOverAt}
 use Rattle.lot_rwlock_fair.specs.declared.hand_over.HandOverAt.TheVariants as handing
 use Rattle.lot_rwlock_fair.specs.FairSteps.{any_taken, has_room, with_taken, parked_as, without, released, looked, took, freed_next, gives_up_at, hand_over_act, call_act}
-use Rattle.lot_rwlock_fair.specs.FairDeeds.{holding, freed_deeds, exchanged_deeds, hands_over, leaves_over, settles_bit, successor_of, glance_deeds, call_doing}
+use Rattle.lot_rwlock_fair.specs.FairDeeds.{holding, freed_deeds, exchanged_deeds, hands_over, leaves_over, glance_deeds, call_doing}
 use Rattle.lot_rwlock_fair.specs.FairProfiles.{call_profile, release_purpose, has_given}
 use Rattle.lot_rwlock_fair.specs.FairCalls.{HandsOverAt, IsInCall, HasInHand, MayHearHanding, in_hand_of}
 use Rattle.lot_rwlock_fair.specs.FairLaws.{next_rows, CallTells, HandOversTell}
@@ -42,7 +43,7 @@ use Rattle.lot_rwlock_fair.proofs.FairRights.{goes, keeps, loses, gave}
 pub recalls : (c : CallState) (f : ℕ → Rights) → ((k : ℕ) → f k ≡ c.former k) → record c { former = f } ≡ c
 recalls c f e = λ i. record c { former = λ k. e k i }
 
-keeps_bit : (none_left : Bool) → KeepLock (settles_bit none_left ∷ [])
+keeps_bit : (none_left : Bool) → KeepLock (bit_left none_left ∷ [])
 keeps_bit true = tt
 keeps_bit false = tt
 
@@ -114,20 +115,20 @@ module _ (r : Rules) (a : Admission) (s : Site) (t l : ℕ) where
   leaves access.Exclusive true true false fits = absurd fits
 
   -- the lock is handed over
-  stores : (b : Bool) (k : Taken) (whom : Option ℕ) (any : Bool) → with_right Exclusive (rights_of (handed t Exclusive (successor_of k.successor whom) s.lock) t) ≡ rights_of s.lock t
+  stores : (b : Bool) (k : Taken) (whom : Option ℕ) (any : Bool) → with_right Exclusive (rights_of (handed t Exclusive (heir_of whom k.successor) s.lock) t) ≡ rights_of s.lock t
       → Tells (HandOver access.Exclusive b (handing.Store k)) (hands_over Exclusive k whom) (next.At (HandOver access.Exclusive b (handing.Leave any true)))
   stores b k whom any same = record {
     one = keeps_bit k.none_left;
-    may = (made_of b Exclusive (HandOff Exclusive (successor_of k.successor whom)) (refl, refl) (refl, refl), tt);
-    comes = λ rights e. recalls _ _ (goes l t s.lock (handed t Exclusive (successor_of k.successor whom) s.lock) Exclusive false true rights e same);
+    may = (made_of b Exclusive (HandOff Exclusive (heir_of whom k.successor)) (refl, refl) (refl, refl), tt);
+    comes = λ rights e. recalls _ _ (goes l t s.lock (handed t Exclusive (heir_of whom k.successor) s.lock) Exclusive false true rights e same);
   }
 
-  exchanges : (b : Bool) (k : Taken) (expected : ℕ) (whom : Option ℕ) (any : Bool) → with_right Upgradable (rights_of (handed t Upgradable (successor_of k.successor whom) s.lock) t) ≡ rights_of s.lock t
+  exchanges : (b : Bool) (k : Taken) (expected : ℕ) (whom : Option ℕ) (any : Bool) → with_right Upgradable (rights_of (handed t Upgradable (heir_of whom k.successor) s.lock) t) ≡ rights_of s.lock t
       → Tells (HandOver access.Upgradable b (handing.Exchange k expected)) (hands_over Upgradable k whom) (next.At (HandOver access.Upgradable b (handing.Leave any true)))
   exchanges b k expected whom any same = record {
     one = keeps_bit k.none_left;
-    may = (made_of b Upgradable (HandOff Upgradable (successor_of k.successor whom)) (refl, refl) (refl, refl), tt);
-    comes = λ rights e. recalls _ _ (goes l t s.lock (handed t Upgradable (successor_of k.successor whom) s.lock) Upgradable false true rights e same);
+    may = (made_of b Upgradable (HandOff Upgradable (heir_of whom k.successor)) (refl, refl) (refl, refl), tt);
+    comes = λ rights e. recalls _ _ (goes l t s.lock (handed t Upgradable (heir_of whom k.successor) s.lock) Upgradable false true rights e same);
   }
 
   -- ---------------------------------------------------------------- every place of it
@@ -198,10 +199,10 @@ module _ (r : Rules) (a : Admission) (s : Site) (t l : ℕ) (op : Op) (whom : Op
   more : WantsMore j.successor
   more = wants_more r s t j whom call.0 site hand
 
-  gone_exclusive : s.doing t ≡ holding Exclusive j → with_right Exclusive (rights_of (handed t Exclusive (successor_of j.successor whom) s.lock) t) ≡ rights_of s.lock t
+  gone_exclusive : s.doing t ≡ holding Exclusive j → with_right Exclusive (rights_of (handed t Exclusive (heir_of whom j.successor) s.lock) t) ≡ rights_of s.lock t
   gone_exclusive is = gave r s.lock t free j whom hand more Exclusive (λ f. cc) (site.held t (Has Exclusive) (ap (λ (d : Doing). d.claims) is)) (exclusive_gone r s t site (ap (λ (d : Doing). d.claims) is)).0
 
-  gone_upgradable : s.doing t ≡ holding Upgradable j → with_right Upgradable (rights_of (handed t Upgradable (successor_of j.successor whom) s.lock) t) ≡ rights_of s.lock t
+  gone_upgradable : s.doing t ≡ holding Upgradable j → with_right Upgradable (rights_of (handed t Upgradable (heir_of whom j.successor) s.lock) t) ≡ rights_of s.lock t
   gone_upgradable is = gave r s.lock t free j whom hand more Upgradable (λ f. cc) (site.held t (Has Upgradable) (ap (λ (d : Doing). d.claims) is)) (upgradable_gone r s t site (ap (λ (d : Doing). d.claims) is)).0
 
   exchanged : (b : Bool) (expected : ℕ) → s.doing t ≡ holding Upgradable j → (room : Bool) → has_room a.limit j expected ≡ room → (won : Bool) → (code r s == expected) ≡ won

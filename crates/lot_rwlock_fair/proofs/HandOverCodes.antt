@@ -17,19 +17,20 @@ use Rattle.abstract_locks.specs.Deeds.{after_all}
 use Rattle.abstract_locks.proofs.CodeLaws.{rw_is, words_tell_true}
 use Rattle.lot_rwlock.specs.declared.places.Admission.{Admission}
 use Rattle.lot_rwlock.specs.RwLockDeeds.{Admits}
+use Rattle.lot_acts.specs.Moves.{bit_left, heir_of}
 use Rattle.lot_rwlock_fair.specs.declared.places.RwLockCallPlace.{RwLockCallPlace}
 use Rattle.lot_rwlock_fair.specs.declared.places.RwLockCallPlace.TheVariants.{HandOver}
 use Rattle.lot_rwlock_fair.specs.declared.hand_over.Taken.{Taken}
 use Rattle.lot_rwlock_fair.specs.declared.hand_over.HandOverAt.TheVariants as handing
 use Rattle.lot_rwlock_fair.specs.FairSteps.{tokens, token_of, counted, is_upgradable, has_room, parked_as, without, with_taken, call_act}
-use Rattle.lot_rwlock_fair.specs.FairDeeds.{holding, settles_bit, successor_of, exchanged_deeds}
+use Rattle.lot_rwlock_fair.specs.FairDeeds.{holding, exchanged_deeds}
 use Rattle.lot_rwlock_fair.specs.FairCalls.{IsInCall, HasInHand, in_hand_of}
 use Rattle.lot_rwlock_fair.specs.FairLaws.{behind_call, HandOversCode, HandOversKeepLimit}
 use Rattle.lot_rwlock_fair.proofs.HandOvers.{WantsMore, wants_more, adds, counts, lasting, exclusive_gone, upgradable_gone, settles, token_even, token_small, token_top}
 use Rattle.lot_rwlock_fair.proofs.HandOverFit.{fits}
 
 -- the bit is no part of the lock
-pub settled_lock : (r : Rules) (s : Site) (t : ℕ) (none_left : Bool) → (after_deed r (settles_bit none_left) s t).lock ≡ s.lock
+pub settled_lock : (r : Rules) (s : Site) (t : ℕ) (none_left : Bool) → (after_deed r (bit_left none_left) s t).lock ≡ s.lock
 settled_lock r s t true = refl
 settled_lock r s t false = refl
 
@@ -67,20 +68,20 @@ module _ (r : Rules) (s : Site) (t : ℕ) (whom : Option ℕ) (rw_sort : has_rea
 
   -- the site behind the hand-over, before its bit is set anew
   abbrev after_hand : Want → Site
-  after_hand x = after_deed r (Case (HandOff x (successor_of k.successor whom))) s t
+  after_hand x = after_deed r (Case (HandOff x (heir_of whom k.successor))) s t
 
   abbrev now : Want → LockState
-  now x = handed t x (successor_of k.successor whom) s.lock
+  now x = handed t x (heir_of whom k.successor) s.lock
 
   -- what an exclusive owner stores
-  pub stored : s.doing t ≡ holding Exclusive k → k.sharers < 2 ^ 60 - 1 → code r (after_deed r (settles_bit k.none_left) (after_hand Exclusive) t) ≡ parked_as k.none_left (tokens k)
+  pub stored : s.doing t ≡ holding Exclusive k → k.sharers < 2 ^ 60 - 1 → code r (after_deed r (bit_left k.none_left) (after_hand Exclusive) t) ≡ parked_as k.none_left (tokens k)
   stored is few =
       let gone = exclusive_gone r s t h (ap (λ (d : Doing). d.claims) is) in
       let sum_is = adds _ gone.0 k.successor whom more hand.named in
       let all = hand.sharers in let nobody = gone.1 in
       let bits = settles r (after_hand Exclusive) t k.none_left in
       let tokens_is = tokens_are k few in let even = token_even k.successor in
-      rw (coded (after_deed r (settles_bit k.none_left) (after_hand Exclusive) t), tokens_is) (omega arith)
+      rw (coded (after_deed r (bit_left k.none_left) (after_hand Exclusive) t), tokens_is) (omega arith)
 
   -- how many are in hand is no more than how many count
   few_in_hand : (limit n : ℕ) → n + counted k ≤ limit → limit < 2 ^ 60 - 1 → (k.sharers < 2 ^ 60 - 1) × (16 * n + (16 * k.sharers + token_of k.successor) ≤ 16 * limit + 16)
@@ -95,7 +96,7 @@ module _ (r : Rules) (s : Site) (t : ℕ) (whom : Option ℕ) (rw_sort : has_rea
 
   -- what an upgradable owner exchanges
   pub exchanged_word : s.doing t ≡ holding Upgradable k → code r s < 2 ^ 64 → (count_in (code r s) - 1) + counted k ≤ r.limit → r.limit < 2 ^ 60 - 1
-      → code r (after_deed r (settles_bit k.none_left) (after_hand Upgradable) t) ≡ with_taken access.Upgradable k (code r s)
+      → code r (after_deed r (bit_left k.none_left) (after_hand Upgradable) t) ≡ with_taken access.Upgradable k (code r s)
   exchanged_word is small room few =
       let gone = upgradable_gone r s t h (ap (λ (d : Doing). d.claims) is) in
       let sum_is : 16 * count (now Upgradable) + (8 * writers (now Upgradable) + 4 * one_if_some (now Upgradable).upgradable) ≡ 16 * readers s.lock + (16 * k.sharers + token_of k.successor) =
@@ -103,7 +104,7 @@ module _ (r : Rules) (s : Site) (t : ℕ) (whom : Option ℕ) (rw_sort : has_rea
       let bits = settles r (after_hand Upgradable) t k.none_left in
       let others : count_in (code r s) - 1 ≡ readers s.lock = (let c = tells.count in let one = gone.1 in omega arith) in
       let enough = few_in_hand r.limit (readers s.lock) (subst (λ n. n + counted k ≤ r.limit) others room) few in
-      rw (coded (after_deed r (settles_bit k.none_left) (after_hand Upgradable) t), tokens_are k enough.0)
+      rw (coded (after_deed r (bit_left k.none_left) (after_hand Upgradable) t), tokens_are k enough.0)
       (sums (code r s) (readers s.lock) (16 * k.sharers + token_of k.successor) (bit s.aside_parked) (bit s.parked) _ (if k.none_left then 0 else 1) (bit (after_hand Upgradable).parked) (rw_code (after_hand Upgradable)) (coded s ∙ gone.2) (one_bit s.aside_parked) (one_bit s.parked) small (let e = token_even k.successor in omega arith) (omega (arith, enough.1)) (now_code ∙ ap (λ n. n + (2 * bit s.aside_parked + bit (after_hand Upgradable).parked)) sum_is) bits)
 
   -- the limit

@@ -17,21 +17,22 @@ use Rattle.abstract_locks.specs.Codes.{code, TellsTrue, count_in}
 use Rattle.abstract_locks.proofs.CodeLaws.{words_tell_true}
 use Rattle.lot_rwlock.specs.declared.places.Admission.{Admission}
 use Rattle.lot_rwlock.specs.RwLockDeeds.{Admits, Follows}
+use Rattle.lot_acts.specs.Moves.{bit_left, heir_of}
 use Rattle.lot_rwlock_fair.specs.declared.places.RwLockCallPlace.{RwLockCallPlace}
 use Rattle.lot_rwlock_fair.specs.declared.places.RwLockCallPlace.TheVariants.{HandOver}
 use Rattle.lot_rwlock_fair.specs.declared.hand_over.Taken.{Taken}
 use Rattle.lot_rwlock_fair.specs.declared.hand_over.HandOverAt.TheVariants as handing
 use Rattle.lot_rwlock_fair.specs.FairSteps.{any_taken, counted, has_room, parked_as, without, with_taken, call_act}
-use Rattle.lot_rwlock_fair.specs.FairDeeds.{holding, settles_bit, successor_of, exchanged_deeds, call_doing_next}
+use Rattle.lot_rwlock_fair.specs.FairDeeds.{holding, exchanged_deeds, call_doing_next}
 use Rattle.lot_rwlock_fair.specs.FairCalls.{IsInCall, HasInHand, in_hand_of}
 use Rattle.lot_rwlock_fair.specs.FairLaws.{CallFollowsBy, HandOversFollow}
 use Rattle.lot_rwlock_fair.proofs.HandOvers.{WantsMore, wants_more, counts, upgradable_gone}
 
 module _ (r : Rules) (s : Site) (t : ℕ) (rw_sort : has_readers r.sort ≡ true) (h : IsSite r s) where
   -- a hand-over is allowed where the limit holds behind it
-  hands : (x : Want) (k : Taken) (whom : Option ℕ) (none_left : Bool) → (x ≡ Exclusive) ⊎ (x ≡ Upgradable) → HasInHand s.lock t k whom → HandOffFits r x (handed t x (successor_of k.successor whom) s.lock)
+  hands : (x : Want) (k : Taken) (whom : Option ℕ) (none_left : Bool) → (x ≡ Exclusive) ⊎ (x ≡ Upgradable) → HasInHand s.lock t k whom → HandOffFits r x (handed t x (heir_of whom k.successor) s.lock)
       → s.doing t ≡ record idle { inside = Some Main; carries = true; covers = true; empty = found Main none_left; claims = Some (Has x) }
-      → Follows r s t (Case (HandOff x (successor_of k.successor whom)) ∷ settles_bit none_left ∷ []) (record idle { inside = Some Main; carries = true })
+      → Follows r s t (Case (HandOff x (heir_of whom k.successor)) ∷ bit_left none_left ∷ []) (record idle { inside = Some Main; carries = true })
   hands Exclusive k whom true ex hand fits is = let own = h.held t (Has Exclusive) (grind arith) in let next = hand.successor in record { needed = grind (arith, nat_tests); doing = grind (arith, nat_tests) }
   hands Exclusive k whom false ex hand fits is = let own = h.held t (Has Exclusive) (grind arith) in let next = hand.successor in record { needed = grind (arith, nat_tests); doing = grind (arith, nat_tests) }
   hands Upgradable k whom true ex hand fits is = let own = h.held t (Has Upgradable) (grind arith) in let next = hand.successor in record { needed = grind (arith, nat_tests); doing = grind (arith, nat_tests) }
@@ -50,7 +51,7 @@ module _ (r : Rules) (a : Admission) (s : Site) (t l : ℕ) (op : Op) (whom : Op
     more = wants_more r s t k whom admits.0 h hand
 
     -- behind it as many count as there is room for
-    pub fits : s.doing t ≡ holding Upgradable k → has_room a.limit k v ≡ true → HandOffFits r Upgradable (handed t Upgradable (successor_of k.successor whom) s.lock)
+    pub fits : s.doing t ≡ holding Upgradable k → has_room a.limit k v ≡ true → HandOffFits r Upgradable (handed t Upgradable (heir_of whom k.successor) s.lock)
     fits is room =
         let gone = upgradable_gone r s t h (ap (λ (d : Doing). d.claims) is) in
         let n = counts _ gone.0 k.successor whom more hand.named in

@@ -5,9 +5,9 @@ use Rattle.lot_base.specs.declared.wants.Want.TheVariants.{Exclusive, Upgradable
 use Rattle.abstract_locks.specs.Locks.{LockState, Rules, Pending, IsSuccessor, Knows, count, readers, one_if_some, without_owner, sharing_handed, with_successor, with_owner, pending_for}
 use Rattle.abstract_locks.specs.Sites.{Site, IsSite, Has, has_readers, after_deed}
 use Rattle.abstract_locks.specs.Codes.{writers, bit, rw_code}
+use Rattle.lot_acts.specs.Moves.{bit_left, heir_of}
 use Rattle.lot_rwlock_fair.specs.declared.hand_over.Taken.{Taken}
 use Rattle.lot_rwlock_fair.specs.FairSteps.{token_of, is_upgradable}
-use Rattle.lot_rwlock_fair.specs.FairDeeds.{successor_of, settles_bit}
 use Rattle.lot_rwlock_fair.specs.FairCalls.{IsNamed, HasInHand}
 
 -- a successor wants more than to share
@@ -26,7 +26,7 @@ wants_more r s t k whom rw_sort h hand = by_want k.successor whom hand.named han
     known Shared knows more = more refl
     known x knows more = grind arith
 
-    by_want : (y : Option Want) (w : Option ℕ) → IsNamed y w → IsSuccessor s.lock t (successor_of y w) → WantsMore y
+    by_want : (y : Option Want) (w : Option ℕ) → IsNamed y w → IsSuccessor s.lock t (heir_of w y) → WantsMore y
     by_want None w named is = tt
     by_want (Some x) None named is = absurd named
     by_want (Some x) (Some u) named is = let g = (is u x).0 refl in known x (h.state.known_taken u _ g.0) g.1
@@ -48,7 +48,7 @@ module _ (base : LockState) (free : HasNoWriter base) where
   writes u false = rw (free.exclusive, free.upgradable) (omega arith)
 
   -- the successor adds its token
-  pub adds : (y : Option Want) (w : Option ℕ) → WantsMore y → IsNamed y w → Adds y (with_successor (successor_of y w) base)
+  pub adds : (y : Option Want) (w : Option ℕ) → WantsMore y → IsNamed y w → Adds y (with_successor (heir_of w y) base)
   adds None None more named = rw (free.exclusive, free.pending, free.upgradable) (omega arith)
   adds None (Some u) more named = absurd named
   adds (Some x) None more named = absurd named
@@ -61,7 +61,7 @@ module _ (base : LockState) (free : HasNoWriter base) where
   writes_counts u false = rw free.upgradable (omega arith)
 
   -- and counts where it is upgradable
-  pub counts : (y : Option Want) (w : Option ℕ) → WantsMore y → IsNamed y w → count (with_successor (successor_of y w) base) ≡ readers base + (if is_upgradable y then 1 else 0)
+  pub counts : (y : Option Want) (w : Option ℕ) → WantsMore y → IsNamed y w → count (with_successor (heir_of w y) base) ≡ readers base + (if is_upgradable y then 1 else 0)
   counts None None more named = rw free.upgradable refl
   counts None (Some u) more named = absurd named
   counts (Some x) None more named = absurd named
@@ -74,7 +74,7 @@ module _ (base : LockState) (free : HasNoWriter base) where
   writes_lasting u false p e = let f : ◌≡◌ {A = Option Pending} (Some (record { thread = u; falls_back = false })) (Some p) = e in cc
 
   -- a successor that is pending falls back to nothing
-  pub lasting : (y : Option Want) (w : Option ℕ) → WantsMore y → IsNamed y w → (p : Pending) → (with_successor (successor_of y w) base).pending ≡ Some p → p.falls_back ≡ false
+  pub lasting : (y : Option Want) (w : Option ℕ) → WantsMore y → IsNamed y w → (p : Pending) → (with_successor (heir_of w y) base).pending ≡ Some p → p.falls_back ≡ false
   lasting None None more named p e = absurd (let f : ◌≡◌ {A = Option Pending} None (Some p) = sym free.pending ∙ e in cc)
   lasting None (Some u) more named p e = absurd named
   lasting (Some x) None more named p e = absurd named
@@ -107,7 +107,7 @@ module _ (r : Rules) (s : Site) (t : ℕ) (h : IsSite r s) where
 -- ---------------------------------------------------------------- words
 
 -- the parked bit is set anew
-pub settles : (r : Rules) (s : Site) (t : ℕ) (none_left : Bool) → rw_code (after_deed r (settles_bit none_left) s t) + bit s.parked ≡ rw_code s + (if none_left then 0 else 1)
+pub settles : (r : Rules) (s : Site) (t : ℕ) (none_left : Bool) → rw_code (after_deed r (bit_left none_left) s t) + bit s.parked ≡ rw_code s + (if none_left then 0 else 1)
 settles r s t true = omega arith
 settles r s t false = omega arith
 

@@ -11,3 +11,4 @@ pub mod FairRights
 pub mod FairTells
 pub mod FairCallTells
 pub mod FairSleepers
+pub mod FairMoves

@@ -10,7 +10,7 @@ use Rattle.lot_acts.specs.declared.acts.Next.{Next}
 use Rattle.lot_acts.specs.declared.acts.Next.TheVariants as next
 use Rattle.lot_acts.specs.declared.acts.Reply.{Reply}
 use Rattle.lot_acts.specs.declared.acts.Reply.TheVariants as reply
-use Rattle.lot_acts.specs.Moves.{IsFree, MayTake}
+use Rattle.lot_acts.specs.Moves.{IsFree, MayTake, heir_of}
 use Rattle.abstract_locks.specs.Locks.{LockState, Rules, IsSuccessor, readers, sharing_handed}
 use Rattle.abstract_locks.specs.Sites.{Site, IsSite}
 use Rattle.abstract_locks.specs.Codes.{has_parked}
@@ -26,7 +26,7 @@ use Rattle.lot_rwlock_fair.specs.declared.hand_over.HandOverAt.{HandOverAt}
 use Rattle.lot_rwlock_fair.specs.declared.hand_over.HandOverAt.TheVariants as handing
 use Rattle.lot_rwlock_fair.specs.declared.handed.HandedAt.{HandedAt}
 use Rattle.lot_rwlock_fair.specs.declared.handed.HandedAt.TheVariants as handed
-use Rattle.lot_rwlock_fair.specs.FairDeeds.{call_doing, successor_of}
+use Rattle.lot_rwlock_fair.specs.FairDeeds.{call_doing}
 use Rattle.lot_rwlock_fair.specs.FairProfiles.{in_hand_at}
 
 -- ---------------------------------------------------------------- where a call may stand
@@ -86,7 +86,7 @@ IsNamed x whom = ⊥
 -- what the place says of them is so: how many want to share, and who wants more
 pub record HasInHand (s : LockState) (t : ℕ) (k : Taken) (whom : Option ℕ) : Type 0 where
   pub named : IsNamed k.successor whom
-  pub successor : IsSuccessor s t (successor_of k.successor whom)
+  pub successor : IsSuccessor s t (heir_of whom k.successor)
   pub sharers : readers (sharing_handed t s) ≡ readers s + k.sharers
 
 -- ---------------------------------------------------------------- what it may hear of its steps in and out of sections

@@ -2,14 +2,14 @@
 use Rattle.std.specs.Prelude.{ℕ, Bool, true, false, Option, Some, None, if◌then◌else◌, ◌==◌, not, List, [], ◌∷◌}
 use Rattle.lot_base.specs.declared.keys.Line.TheVariants.{Main}
 use Rattle.lot_base.specs.declared.wants.Want.{Want}
-use Rattle.lot_base.specs.declared.wants.Want.TheVariants.{Exclusive}
 use Rattle.lot_calls.specs.declared.calls.Access.{Access}
 use Rattle.lot_acts.specs.declared.acts.Next.{Next}
 use Rattle.lot_acts.specs.declared.acts.Next.TheVariants as next
 use Rattle.lot_acts.specs.declared.acts.Reply.{Reply}
 use Rattle.lot_acts.specs.declared.acts.Reply.TheVariants as reply
-use Rattle.abstract_locks.specs.Locks.{Queued, Leave, TakePicked, HandOff}
-use Rattle.abstract_locks.specs.Sites.{Claim, Has, Pends, Doing, idle, found, Deed, End, In, Out, Mark, Clear, Case}
+use Rattle.abstract_locks.specs.Locks.{Leave, TakePicked, HandOff}
+use Rattle.abstract_locks.specs.Sites.{Claim, Has, Doing, idle, found, Deed, End, In, Out, Case}
+use Rattle.lot_acts.specs.Moves.{bit_left, claim_handed, heir_of}
 use Rattle.lot_rwlock.specs.declared.places.Admission.{Admission}
 use Rattle.lot_rwlock.specs.RwLockSteps.{wanted}
 use Rattle.lot_rwlock.specs.RwLockDeeds.{at_rest, within, rwlock_doing, rwlock_deeds, does_and_wakes}
@@ -42,13 +42,9 @@ hand_over_doing x (handing.Exchange k seen) = holding x k
 hand_over_doing x (handing.Leave any handed) = record idle { inside = Some Main; carries = true; covers = not handed }
 hand_over_doing x to = at_rest None (Some (Has x))
 
--- what a thread has that was handed the lock: a writer beside readers is pending
-abbrev pub handed_claim : Want → Bool → Claim
-handed_claim Exclusive alone = if alone then Has Exclusive else Pends false
-handed_claim x alone = Has x
-
+-- what a thread has that was handed the lock
 abbrev pub claim_at : Want → HandedAt → Claim
-claim_at x (handed.Asleep by alone) = handed_claim x alone
+claim_at x (handed.Asleep by alone) = claim_handed alone x
 claim_at x handed.Accept = Has x
 
 abbrev pub call_doing : RwLockCallPlace → Doing
@@ -65,20 +61,12 @@ call_doing_next (next.End answer) = idle
 
 -- ---------------------------------------------------------------- the deeds of each step
 
--- who succeeds is no part of a place: `whom`
-abbrev pub successor_of : Option Want → Option ℕ → Option Queued
-successor_of (Some x) (Some u) = Some (record { thread = u; want = x })
-successor_of x whom = None
-
--- an operation inside the section sets the parked bit anew
-abbrev pub settles_bit : Bool → Deed
-settles_bit none_left = if none_left then Clear Main else Mark Main
-
+-- An operation inside the section sets the parked bit anew. Who succeeds is no part of a place: `whom`.
 abbrev pub hands_over : Want → Taken → Option ℕ → List Deed
-hands_over x k whom = Case (HandOff x (successor_of k.successor whom)) ∷ settles_bit k.none_left ∷ []
+hands_over x k whom = Case (HandOff x (heir_of whom k.successor)) ∷ bit_left k.none_left ∷ []
 
 abbrev pub leaves_over : Want → Taken → List Deed
-leaves_over x k = Case (Leave x) ∷ settles_bit k.none_left ∷ []
+leaves_over x k = Case (Leave x) ∷ bit_left k.none_left ∷ []
 
 abbrev pub exchanged_deeds : Want → Taken → Option ℕ → (won room : Bool) → List Deed
 exchanged_deeds x k whom false room = []

@@ -25,13 +25,14 @@ use Rattle.lot_rwlock.specs.RwLockBegins.{has_access}
 use Rattle.lot_rwlock.specs.RwLockDeeds.{Follows}
 use Rattle.lot_rwlock.specs.RwLockOpenings.{IsOpening}
 use Rattle.lot_rwlock.specs.RwLockCalls.{IsNotLate}
+use Rattle.lot_acts.specs.Moves.{claim_handed}
 use Rattle.lot_rwlock_fair.specs.declared.begin.FairCall.{FairCall}
 use Rattle.lot_rwlock_fair.specs.FairBegins.{fair_first, fair_purpose, right_of}
 use Rattle.lot_rwlock_fair.specs.FairProfiles.{call_profile, call_looking}
 use Rattle.lot_rwlock_fair.specs.declared.places.RwLockCallPlace.{RwLockCallPlace}
 use Rattle.lot_rwlock_fair.specs.declared.hand_over.Taken.{Taken}
 use Rattle.lot_rwlock_fair.specs.FairSteps.{call_act, call_next}
-use Rattle.lot_rwlock_fair.specs.FairDeeds.{call_deeds, call_doing_next, handed_claim}
+use Rattle.lot_rwlock_fair.specs.FairDeeds.{call_deeds, call_doing_next}
 use Rattle.lot_rwlock_fair.specs.FairCalls.{CallStands, CallStandsNext, CallMayBeTold, IsInCall, CallMayHear, HasInHand, in_hand_of}
 
 abbrev pub CallFollowsBy : Rules → Admission → Site → ℕ → RwLockCallPlace → Option ℕ → Reply → Type 0
@@ -106,7 +107,7 @@ abbrev pub HandOversGive : Type 0
 HandOversGive =
     (r : Rules) (a : Admission) (s : Site) (t l u : ℕ) (c : RwLockCallPlace) (op : Op) (whom : Option ℕ) (x : Want) → HandsOver r a s t c whom
     → call_act l a c ≡ act.HandOver l op → takes_effect op (code r s) ≡ true → IsTaken s.lock t u x → u < length s.lock.shared
-    → HasClaim (lock_behind r a s t c whom) u (Some (handed_claim x (readers (lock_behind r a s t c whom) == 0)))
+    → HasClaim (lock_behind r a s t c whom) u (Some (claim_handed (readers (lock_behind r a s t c whom) == 0) x))
 
 -- ---------------------------------------------------------------- calls
 
@@ -174,7 +175,7 @@ abbrev pub IsGiven : Admission → ℕ → RwLockCallPlace → ℕ → Bool → 
 IsGiven a l c u alone =
     (c2 : RwLockCallPlace) (rights : ℕ → Rights) (x : Want) → (call_profile a c).wants ≡ Some x
     → call_next a c (reply.HandedBy u alone) ≡ next.At c2
-    → call_by l (call_profile a c2) (with_claim (handed_claim x alone) l rights)
+    → call_by l (call_profile a c2) (with_claim (claim_handed alone x) l rights)
     ≡ record (call_by l (call_profile a c) rights) { retries = None }
 
 -- nothing, where it is taken, or woken that was handed the lock; it tries again, where it is woken that was taken; it is late, where its time is up;

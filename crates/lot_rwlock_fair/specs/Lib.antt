@@ -4,3 +4,4 @@ pub mod FairDeeds
 pub mod FairProfiles
 pub mod FairCalls
 pub mod FairLaws
+pub mod FairMoves

@@ -1,5 +1,6 @@
 //! What the steps of fair releases and bumps do to the lock.
 ghost use Rattle.lot_rwlock_fair.specs.FairLaws.{FairCallsOpen, FairCallsStand, FairLooksStand, FairSectionsFollow, FairSectionsTell, FairSleepersHear, FairStepsTell, HandOversGive, FairStepsCode, FairStepsFollow, HandOversCode, HandOversFollow, HandOversKeepLimit, HandOversTell};
+ghost use Rattle.lot_rwlock_fair.specs.FairMoves.{HandOversMove, HandedMove};
 
 /// Each step on the word may do to the lock what its deeds say, and its next place says what the thread does then.
 pub fn fair_steps_follow()
@@ -69,4 +70,14 @@ pub fn fair_sleepers_hear()
 /// Where a thread looks at the word once more, its row is the same, and its call stands where it may.
 pub fn fair_looks_stand()
     ensures { FairLooksStand }
+{}
+
+/// The step that hands the lock over does so as its act says: all whom the thread has in hand are handed it.
+pub fn hand_overs_move()
+    ensures { HandOversMove }
+{}
+
+/// Whoever is handed the lock is so from then on, and out of every hand from its wake on.
+pub fn handed_move()
+    ensures { HandedMove }
 {}
