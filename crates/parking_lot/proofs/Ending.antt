@@ -102,3 +102,9 @@ pub never_paused : (up : Type 0) (base : List Ownership) (n : ℕ) (purpose : Pu
 never_paused up base n purpose Idle state st s = s.0
 never_paused up base n purpose (RwLock l a at) state st s = rwlock_no_closure up l a base at st state s.0 s.2
 never_paused up base n purpose (Mutex l at) state st s = no_closure l state up base at st s.0 s.2
+
+-- no call comes to a closure
+pub never_closes : (up : Type 0) (base : List Ownership) (aim : Aim) (p : Place) (state : OnceState) (st : Stage) → IsStopped up base aim (Paused p state) st → ⊥
+never_closes up base aim Idle state st s = s.0
+never_closes up base aim (RwLock l a at) state st s = rwlock_no_closure up l a base at st state s.0 s.2
+never_closes up base aim (Mutex l at) state st s = no_closure l state up base at st s.0 s.2

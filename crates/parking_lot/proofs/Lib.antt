@@ -7,5 +7,7 @@ pub mod RwLockKeeping
 pub mod RwLockLeads
 pub mod RwLockLeading
 pub mod Leading
+pub mod RwLockBeginning
 pub mod Turning
+pub mod RwLockCalling
 pub mod Behind

@@ -1,17 +1,14 @@
 -- What a thread's decision says of the word that it saw.
-use Rattle.std.proofs.Common.{ℕ, Bool, true, false, if◌then◌else◌, ◌==◌, ◌&&◌, ◌||◌, not, ◌≡◌, ◌⊎◌, inl, inr, ◌+◌, ◌-◌, ◌/◌, ◌%◌, ◌^◌, ◌<◌, refl, ap, ◌∙◌, sym, subst, arith, nat_le}
+use Rattle.std.proofs.Common.{ℕ, Bool, true, false, if◌then◌else◌, ◌&&◌, ◌≡◌, ◌⊎◌, inl, inr, ◌+◌, ◌-◌, ◌/◌, ◌%◌, ◌^◌, ◌<◌, refl, arith, nat_le}
 use Rattle.std.proofs.lemmas.Bool.Decides.{nat_tests}
 use Rattle.lot_base.specs.declared.wants.Want.{Want}
 use Rattle.lot_base.specs.declared.wants.Want.TheVariants as wants
-use Rattle.lot_calls.specs.declared.calls.Access.{Access}
-use Rattle.lot_calls.specs.declared.calls.Access.TheVariants as access
 use Rattle.lot_calls.specs.declared.calls.Patience.{Patience}
 use Rattle.lot_calls.specs.declared.calls.Patience.TheVariants.{Patient, Timed, Try}
 use Rattle.lot_calls.specs.declared.outcomes.Answer.{Answer}
 use Rattle.lot_calls.specs.declared.outcomes.Answer.TheVariants.{No, ReadersFull}
-use Rattle.abstract_locks.specs.Codes.{count_in, has_aside, has_parked, has_writer, has_upgradable, is_blocked}
-use Rattle.lot_rwlock.specs.RwLockSteps.{wanted, token, is_counted, waits, decision_blocked, decision, plus}
-use Rattle.lot_rwlock.specs.declared.enter.Decision.{Decision}
+use Rattle.abstract_locks.specs.Codes.{count_in, has_aside, has_parked, is_blocked}
+use Rattle.lot_rwlock.specs.RwLockSteps.{is_counted, waits, decision_blocked, decision, plus}
 use Rattle.lot_rwlock.specs.declared.enter.Decision.TheVariants as decisions
 use Rattle.lot_rwlock.specs.declared.places.Admission.{Admission}
 

@@ -1,10 +1,10 @@
 -- What is claimed of a reader-writer lock stays owned by steps on its word, or is turned into what is claimed then.
-use Rattle.std.proofs.Common.{ℕ, Bool, true, false, List, ◌∷◌, Option, Some, None, ◌≡◌, ◌≢◌, ◌⊎◌, inl, inr, ◌+◌, ◌-◌, ◌/◌, ◌%◌, ◌^◌, ◌<◌, cond, eqb, refl, ap, ◌∙◌, sym, subst, arith, eq-eqb, ne_eqb}
+use Rattle.std.proofs.Common.{ℕ, Bool, true, false, List, ◌∷◌, Option, Some, ◌≡◌, ◌≢◌, ◌⊎◌, inl, inr, ◌+◌, ◌-◌, ◌/◌, ◌%◌, ◌<◌, cond, eqb, refl, ap, ◌∙◌, sym, subst, arith, eq-eqb, ne_eqb}
 use mathlib.Core.Logic.{dite}
 use native.Mathlib.Decide.{ℕ_discrete}
 use Rattle.lot_base.specs.Words.{apply}
 use Rattle.lot_base.specs.declared.ops.Op.{Op}
-use Rattle.lot_base.specs.declared.ops.Op.TheVariants.{Load, Add, Sub, Exchange}
+use Rattle.lot_base.specs.declared.ops.Op.TheVariants.{Add, Sub, Exchange}
 use Rattle.lot_base.specs.declared.wants.Want.TheVariants as wants
 use Rattle.abstract_locks.specs.Sites.{Claim, Has, Pends}
 use Rattle.lot_words.specs.Steps.{CodesWith, has, is_look, owns_after_step}
@@ -15,7 +15,7 @@ use Rattle.lot_words.specs.declared.owners.Ownership.{Ownership}
 use Rattle.lot_words.specs.declared.words.WordKind.TheVariants as kinds
 use Rattle.lot_words.proofs.RwLockOwning.{keeps_all, keeps_beside_readers, keeps_settled, looks_alone, upgrade_looks_alone, upgradable_keeps, downgraded_to_upgradable, fallen_back, pending_is_left, read, read_upgradable, writer_comes, tried_upgrade}
 use Rattle.parking_lot.specs.Paths.{rwlock_at}
-use Rattle.parking_lot.specs.RwLockFitting.{IsBeside, IsSettled, OwnsBeside, OwnsRight}
+use Rattle.parking_lot.specs.RwLockFitting.{IsBeside, OwnsBeside, OwnsRight}
 
 -- a failed exchange is a look
 pub missed_same : (from to seen : ℕ) → seen ≢ from → apply (Exchange from to) seen / 4 ≡ seen / 4

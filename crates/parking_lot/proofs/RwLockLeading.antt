@@ -19,7 +19,7 @@ use Rattle.lot_rwlock.specs.RwLockCalls.{IsDecided, IsNoRefusal, MayStand, MaySt
 use Rattle.abstract_locks.specs.Sites.{Doing}
 use Rattle.lot_acts.specs.Profiles.{Profile}
 use Rattle.lot_rwlock.specs.RwLockDeeds.{rwlock_doing}
-use Rattle.lot_rwlock.specs.RwLockProfiles.{gone_to, is_mark, rwlock_looking, rwlock_profile}
+use Rattle.lot_rwlock.specs.RwLockProfiles.{gone_to, is_mark, rwlock_looking}
 use Rattle.lot_rwlock.specs.RwLockSteps.{act_at, decided_act, decided_for, exchange, park_act, plus, rwlock_act, rwlock_next, wake_act, want_at}
 use Rattle.lot_rwlock.specs.declared.enter.Decision.{Decision}
 use Rattle.lot_rwlock.specs.declared.enter.Decision.TheVariants as decisions

@@ -1,31 +1,26 @@
 -- Each reply to an act of a reader-writer call leads to a place that fits, or ends the call rightly.
-use Rattle.std.proofs.Common.{ℕ, Bool, true, false, List, [], ◌∷◌, Option, Some, None, if◌then◌else◌, ◌==◌, ◌&&◌, not, ◌≡◌, ◌≢◌, ◌⊎◌, inl, inr, ◌+◌, ◌-◌, ◌*◌, ◌/◌, ◌%◌, ◌^◌, ◌<◌, refl, ap, ◌∙◌, sym, subst, arith, bit_and, eq-eqb, ne_eqb}
+use Rattle.std.proofs.Common.{ℕ, Bool, true, false, List, Option, Some, None, if◌then◌else◌, ◌==◌, ◌&&◌, not, ◌≡◌, ◌≢◌, inl, inr, ◌+◌, ◌-◌, ◌*◌, ◌/◌, ◌^◌, ◌<◌, refl, ap, ◌∙◌, sym, subst, arith, bit_and, eq-eqb, ne_eqb}
 use Rattle.std.proofs.lemmas.Nat.{and-not, and_comm}
 use Rattle.std.proofs.lemmas.Nat.Bits.{and_pow}
 use Rattle.std.proofs.lemmas.Bool.{eqb-true}
 use mathlib.Core.Logic.{dite}
 use native.Mathlib.Decide.{ℕ_discrete}
 use Rattle.lot_base.specs.Keys.{key_of}
-use Rattle.lot_base.specs.Lines.{threads_of}
 use Rattle.lot_base.specs.Words.{apply}
 use Rattle.lot_base.specs.declared.keys.Keys.TheVariants.{One}
 use Rattle.lot_base.specs.declared.keys.Line.{Line}
 use Rattle.lot_base.specs.declared.keys.Line.TheVariants.{Main, Second}
 use Rattle.lot_base.specs.declared.notes.Note.TheVariants as note
 use Rattle.lot_base.specs.declared.ops.Op.{Op}
-use Rattle.lot_base.specs.declared.ops.Op.TheVariants.{Load, And, Sub, Add, Exchange}
+use Rattle.lot_base.specs.declared.ops.Op.TheVariants.{Load, Sub, Add, Exchange}
 use Rattle.lot_base.specs.declared.wants.Want.TheVariants as wants
-use Rattle.lot_calls.specs.declared.calls.Access.{Access}
 use Rattle.lot_calls.specs.declared.calls.Access.TheVariants as access
-use Rattle.lot_calls.specs.declared.calls.Downgrade.{Downgrade}
 use Rattle.lot_calls.specs.declared.calls.Patience.{Patience}
 use Rattle.lot_calls.specs.declared.calls.Patience.TheVariants.{Patient, Timed, Try}
-use Rattle.lot_calls.specs.declared.outcomes.Answer.{Answer}
-use Rattle.lot_calls.specs.declared.outcomes.Answer.TheVariants.{Ok, Yes, No, ReadersFull}
+use Rattle.lot_calls.specs.declared.outcomes.Answer.TheVariants.{Ok, No}
 use Rattle.abstract_locks.specs.Codes.{count_in, has_aside, has_parked}
 use Rattle.abstract_locks.specs.Sites.{Claim, Has, Pends}
-use Rattle.lot_acts.specs.Acts.{holds, any_picked}
-use Rattle.lot_acts.specs.declared.acts.Act.{Act}
+use Rattle.lot_acts.specs.Acts.{any_picked}
 use Rattle.lot_acts.specs.declared.acts.Act.TheVariants as act
 use Rattle.lot_acts.specs.declared.acts.Next.{Next}
 use Rattle.lot_acts.specs.declared.acts.Next.TheVariants.{At, End}
@@ -34,10 +29,10 @@ use Rattle.lot_acts.specs.declared.acts.Reply.TheVariants.{Done, Value, Parked, 
 use Rattle.lot_acts.specs.Profiles.{in_line}
 use Rattle.lot_steps.specs.Steps.{key_in}
 use Rattle.lot_steps.specs.declared.places.Place.TheVariants as place
-use Rattle.lot_rwlock.specs.RwLockCalls.{StandsAt, MayBeTold, HasDeadline, ParksBy}
+use Rattle.lot_rwlock.specs.RwLockCalls.{StandsAt, MayBeTold, HasDeadline}
 use Rattle.lot_rwlock.specs.RwLockDeeds.{claimed, pends, rwlock_doing, kept_claim, falls_back}
 use Rattle.lot_rwlock.specs.RwLockProfiles.{enters_late, is_late, is_timed, late_at, rwlock_profile}
-use Rattle.lot_rwlock.specs.RwLockSteps.{wanted, access_of, patience_of, to_of, decided_for, decided_act, decision, plus, word_taken, exchange, count_act, rollback_op, unparked, whom, start_of, want_at, ends_with, first_next, entered, goes, stays, looked_by, looked, missed, came_in, exchanged_next, counted, wakes, rolled_back, gave_up, took, clears, park_check, act_at, next_at, park_act, wake_act, park_next, wake_next}
+use Rattle.lot_rwlock.specs.RwLockSteps.{wanted, access_of, patience_of, decided_for, decided_act, plus, word_taken, exchange, rollback_op, unparked, start_of, want_at, ends_with, first_next, entered, stays, looked_by, looked, missed, came_in, exchanged_next, counted, wakes, rolled_back, took, clears, act_at, next_at, park_act, wake_act, park_next, wake_next}
 use Rattle.lot_rwlock.specs.declared.enter.Decision.{Decision}
 use Rattle.lot_rwlock.specs.declared.enter.Decision.TheVariants as decisions
 use Rattle.lot_rwlock.specs.declared.park.ParkAt.{ParkAt}
@@ -50,16 +45,14 @@ use Rattle.lot_rwlock.specs.declared.purposes.RwLockPurpose.{RwLockPurpose}
 use Rattle.lot_rwlock.specs.declared.purposes.RwLockPurpose.TheVariants as purpose
 use Rattle.lot_rwlock.specs.declared.release.WakeAt.{WakeAt}
 use Rattle.lot_rwlock.specs.declared.release.WakeAt.TheVariants as waking
-use Rattle.lot_words.specs.Steps.{CodesWith, is_look, owns_after_step}
+use Rattle.lot_words.specs.Steps.{is_look, owns_after_step}
 use Rattle.lot_words.specs.declared.owners.Ownership.{Ownership}
 use Rattle.lot_words.specs.declared.words.WordKind.TheVariants as kinds
 use Rattle.lot_words.proofs.RwLockOwning.{fits}
-use Rattle.parking_lot_core.specs.declared.tokens.SectionRecord.{SectionRecord}
 use Rattle.parking_lot.specs.Fitting.{sleeper_at}
 use Rattle.parking_lot.specs.Paths.{rwlock_at, rwlocks, at_rwlock}
 use Rattle.parking_lot.specs.RwLockFitting.{Answers, FitsRwLock, HasGivenWay, HasSeen, IsBeside, IsRwLockOver, IsWithin, LeftAlone, MayGiveUp, OwnsBeside, OwnsRight, TookWoken, did_wake, woken_line}
 use Rattle.parking_lot.specs.Stages.{Stage, Inside, Became, IsLeft, Stepped, entered_now, listed, stage, took_as}
-use Rattle.parking_lot.specs.declared.acting.Sleeper.{Sleeper}
 use Rattle.parking_lot.proofs.RwLockDeciding.{marks, marks_aside, marks_clear, refuses, takes_shared, takes_upgradable, takes_exclusive, upgrades}
 use Rattle.parking_lot.proofs.RwLockKeeping as keeping
 

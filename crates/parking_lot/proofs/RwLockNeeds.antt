@@ -1,5 +1,5 @@
 -- Each act of a reader-writer call is one that its thread may take.
-use Rattle.std.proofs.Common.{ℕ, Bool, true, false, List, ◌∷◌, Option, Some, None, if◌then◌else◌, ◌==◌, ◌&&◌, not, ◌≡◌, ◌≢◌, ◌⊎◌, inl, inr, ◌+◌, ◌-◌, ◌*◌, ◌/◌, ◌^◌, ◌<◌, refl, ap, ◌∙◌, sym, subst, arith}
+use Rattle.std.proofs.Common.{ℕ, Bool, true, false, List, ◌∷◌, if◌then◌else◌, ◌==◌, ◌≡◌, inl, inr, ◌+◌, ◌*◌, ◌/◌, refl, ap, ◌∙◌, sym, subst}
 use mathlib.Core.Logic.{dite}
 use native.Mathlib.Decide.{ℕ_discrete}
 use Rattle.std.proofs.lemmas.Bool.{eqb-true}
@@ -9,21 +9,16 @@ use Rattle.lot_base.specs.declared.keys.Line.{Line}
 use Rattle.lot_base.specs.declared.keys.Line.TheVariants.{Main, Second}
 use Rattle.lot_base.specs.declared.notes.Note.TheVariants.{Normal}
 use Rattle.lot_base.specs.declared.ops.Op.{Op}
-use Rattle.lot_base.specs.declared.ops.Op.TheVariants.{Sub, Add, Exchange}
-use Rattle.lot_base.specs.declared.wants.Want.{Want}
-use Rattle.lot_base.specs.declared.wants.Want.TheVariants as wants
-use Rattle.lot_base.specs.declared.wants.Waiter.{Waiter}
-use Rattle.lot_calls.specs.declared.calls.Access.{Access}
+use Rattle.lot_base.specs.declared.ops.Op.TheVariants.{Exchange}
 use Rattle.lot_calls.specs.declared.calls.Access.TheVariants as access
-use Rattle.lot_calls.specs.declared.calls.Patience.{Patience}
-use Rattle.lot_calls.specs.declared.calls.Patience.TheVariants.{Patient, Timed, Try}
+use Rattle.lot_calls.specs.declared.calls.Patience.TheVariants.{Patient}
 use Rattle.lot_calls.specs.declared.outcomes.Answer.TheVariants.{No}
 use Rattle.abstract_locks.specs.Codes.{count_in, has_aside, has_parked}
 use Rattle.lot_acts.specs.declared.acts.Act.{Act}
 use Rattle.lot_acts.specs.declared.acts.Act.TheVariants as act
 use Rattle.lot_rwlock.specs.RwLockCalls.{StandsAt, IsNoRefusal}
 use Rattle.lot_rwlock.specs.RwLockDeeds.{claimed, pends}
-use Rattle.lot_rwlock.specs.RwLockSteps.{wanted, access_of, patience_of, decided_for, decided_act, decision, plus, exchange, count_act, rollback_op, unparked, whom, start_of, want_at, act_at, park_act, wake_act}
+use Rattle.lot_rwlock.specs.RwLockSteps.{wanted, access_of, decided_for, decided_act, plus, exchange, rollback_op, unparked, want_at, act_at, park_act, wake_act}
 use Rattle.lot_rwlock.specs.declared.enter.Decision.{Decision}
 use Rattle.lot_rwlock.specs.declared.enter.Decision.TheVariants as decisions
 use Rattle.lot_rwlock.specs.declared.park.ParkAt.{ParkAt}
@@ -45,8 +40,8 @@ use Rattle.lot_words.specs.declared.words.WordKind.TheVariants as kinds
 use Rattle.lot_words.proofs.RwLockKinds.{rwlock_steps}
 use Rattle.lot_words.proofs.RwLockOwning.{has_first}
 use Rattle.parking_lot.specs.Paths.{rwlock_at, rwlocks, at_rwlock}
-use Rattle.parking_lot.specs.RwLockFitting.{OwnsBeside, FitsRwLock, IsBeside, IsOwner, did_wake, waits_as}
-use Rattle.parking_lot.specs.Stages.{Stage, Inside, ActNeeds, HasKey, IsFresh, MayLeave, having_taken, entered_now}
+use Rattle.parking_lot.specs.RwLockFitting.{OwnsBeside, FitsRwLock, IsBeside}
+use Rattle.parking_lot.specs.Stages.{Stage, ActNeeds, HasKey, IsFresh, MayLeave, entered_now}
 use Rattle.parking_lot.proofs.RwLockDeciding.{marks, marks_aside, marks_clear, takes_shared, takes_upgradable, takes_exclusive, upgrades}
 
 -- a right that is claimed is there

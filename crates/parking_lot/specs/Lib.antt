@@ -8,4 +8,5 @@ pub mod MutexFitting
 pub mod RwLockFitting
 pub mod Fitting
 pub mod Calls
+pub mod RwLockCalls
 pub mod Users

@@ -1,5 +1,5 @@
 -- What a thread of a reader-writer call has at each place, read off the place's row, and what it has at its end.
-use Rattle.std.specs.Prelude.{ℕ, ◌≡◌, ◌<◌, ◌-◌, ◌*◌, ◌^◌, ◌⊎◌, Bool, true, false, List, ◌∷◌, Option, Some, None}
+use Rattle.std.specs.Prelude.{ℕ, ◌≡◌, ◌<◌, ◌-◌, ◌^◌, ◌⊎◌, Bool, true, false, List, ◌∷◌, Option, Some, None}
 use Rattle.lot_base.specs.Keys.{key_of}
 use Rattle.lot_base.specs.Lines.{threads_of}
 use Rattle.lot_base.specs.declared.keys.Keys.TheVariants.{One}

@@ -73,7 +73,7 @@ fn closure_of(act: Act) -> Option<OnceState>
     }
 }
 
-fn answer_of(act: Act) -> Option<Answer>
+pub(crate) fn answer_of(act: Act) -> Option<Answer>
     ensures { result ≡ answer_of act }
 {
     match act {

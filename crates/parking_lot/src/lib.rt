@@ -6,6 +6,8 @@ mod driver;
 pub mod guards;
 pub mod raw_fair_mutex;
 pub mod raw_mutex;
+pub mod raw_rwlock;
+mod rwlock_calls;
 mod taking;
 mod words;
 

@@ -1,0 +1,105 @@
+-- What a call of a reader-writer lock on real threads did.
+use Rattle.std.specs.Prelude.{ℕ, ◌≡◌, ◌<◌, ◌^◌, ◌-◌, ◌++◌, List, [], Option, Some, None, Ok, Err}
+use Rattle.std.specs.declared.result.Result.{Result}
+use Rattle.lot_base.specs.declared.ops.Op.{Op}
+use Rattle.lot_base.specs.declared.ops.Op.TheVariants.{Load, Exchange}
+use Rattle.lot_calls.specs.declared.calls.RwLockCall.{RwLockCall}
+use Rattle.lot_calls.specs.declared.calls.RwLockCall.TheVariants as calls
+use Rattle.lot_calls.specs.declared.outcomes.Answer.{Answer}
+use Rattle.lot_calls.specs.declared.calls.Patience.{Patience}
+use Rattle.lot_calls.specs.declared.outcomes.Answer.TheVariants.{No, ReadersFull}
+use Rattle.lot_calls.specs.declared.outcomes.Answer.TheVariants as answers
+use Rattle.lot_acts.specs.declared.acts.Next.{Next}
+use Rattle.lot_acts.specs.declared.acts.Next.TheVariants.{At, End}
+use Rattle.lot_acts.specs.declared.acts.Reply.TheVariants.{Value}
+use Rattle.lot_rwlock.specs.RwLockBegins.{purpose_for, first_at, rwlock_first}
+use Rattle.lot_rwlock.specs.RwLockDeeds.{rwlock_doing}
+use Rattle.lot_rwlock.specs.RwLockSteps.{wanted, to_of, entered, give_op, rwlock_next}
+use Rattle.lot_rwlock.specs.declared.places.Admission.{Admission}
+use Rattle.lot_rwlock.specs.declared.places.RwLockAt.{RwLockAt}
+use Rattle.lot_rwlock.specs.declared.places.RwLockAt.TheVariants as at
+use Rattle.lot_rwlock.specs.declared.places.RwLockPlace.{RwLockPlace}
+use Rattle.lot_rwlock.specs.declared.purposes.RwLockPurpose.{RwLockPurpose}
+use Rattle.lot_rwlock.specs.declared.purposes.RwLockPurpose.TheVariants as purpose
+use Rattle.lot_steps.specs.declared.places.Place.{Place}
+use Rattle.lot_steps.specs.declared.places.Place.TheVariants.{RwLock}
+use Rattle.lot_words.specs.Lots.{IsWordOf}
+use Rattle.lot_words.specs.RightsOf.{IsRightOf}
+use Rattle.lot_words.specs.declared.owners.Ownership.{Ownership}
+use Rattle.lot_words.specs.declared.owners.Owner.{Owner}
+use Rattle.lot_words.specs.declared.rights.Right.{Right}
+use Rattle.lot_words.specs.declared.views.WordStep.{WordStep}
+use Rattle.lot_words.specs.declared.words.Word.{Word}
+use Rattle.lot_words.specs.declared.words.WordKind.TheVariants as kinds
+use Rattle.parking_lot_core.specs.Tokens.{IsTokenOf, view_of, last_of}
+use Rattle.parking_lot_core.specs.declared.lot.ParkingLot.{ParkingLot}
+use Rattle.parking_lot_core.specs.declared.tokens.SectionRecord.{SectionRecord}
+use Rattle.parking_lot_core.specs.declared.tokens.Token.{Token}
+use Rattle.parking_lot.specs.Paths.{at_rwlock, rwlock_at, step, Walks}
+use Rattle.parking_lot.specs.RwLockFitting.{Answers, IsBeside, OwnsBeside, OwnsRight, TookWoken}
+use Rattle.parking_lot.specs.Stages.{Stage}
+
+-- where a call begins
+abbrev pub rwlock_begin : ℕ → Admission → RwLockCall → Place
+rwlock_begin l a c = RwLock l a (rwlock_first c)
+
+-- its first operation
+abbrev pub op_at : RwLockPurpose → RwLockAt → Op
+op_at q at.First = Exchange 0 8
+op_at q at.GiveWay = give_op q
+op_at q to = Load
+
+abbrev pub first_op : RwLockCall → Op
+first_op c = op_at (purpose_for c) (first_at (purpose_for c))
+
+-- the thread has the right that the call needs, beside these
+abbrev pub BeginsWith : ℕ → RwLockCall → List Ownership → List Ownership → Type 0
+BeginsWith l c base owns = OwnsBeside l (rwlock_doing (rwlock_first c)).claims base owns
+
+-- what an answer says of the rights at the end of a call, whether its first step ended it or not
+abbrev pub AnswersCall : Type 0 → ℕ → List Ownership → Admission → RwLockPurpose → Answer → Stage → Type 0
+AnswersCall up l base a (purpose.Release x) answer st = (answer ≡ answers.Ok) × IsBeside l base st.owns
+AnswersCall up l base a (purpose.Downgrade d) answer st = (answer ≡ answers.Ok) × OwnsRight l (wanted (to_of d)) base st.owns
+AnswersCall up l base a q answer st = Answers up l base a q answer st
+
+-- the steps of a call lead from its beginning to the answer
+abbrev pub HasWalkedRwLock : ℕ → Admission → RwLockCall → Answer → Token → Token → Type 0
+HasWalkedRwLock l a c answer old new =
+    Walks (at_rwlock l) (rwlock_begin l a c) (view_of old).steps (view_of new).steps answer
+
+-- where its first step did not end it, a release or a downgrade took those whom it wakes, and else there was no further step
+abbrev pub TookUnlessEnded : ℕ → Admission → RwLockPurpose → Next RwLockPlace → List WordStep → Option SectionRecord → Type 0
+TookUnlessEnded l a q (At p) more last = TookWoken l a q last
+TookUnlessEnded l a q (End answer) more last = (more ≡ []) × (last ≡ None)
+
+abbrev pub Wakes : ℕ → Admission → RwLockCall → List WordStep → List WordStep → Option SectionRecord → Type 0
+Wakes l a c old new last = (seen : ℕ) × (more : List WordStep)
+    × (new ≡ (old ++ step (rwlock_at l) (first_op c) seen) ++ more)
+    × TookUnlessEnded l a (purpose_for c) (rwlock_next a (rwlock_first c) (Value seen)) more last
+
+-- so it is of calls that wake others
+abbrev pub WakesBy : ℕ → Admission → RwLockCall → Token → Token → Type 0
+WakesBy l a (calls.Release x) old new =
+    Wakes l a (calls.Release x) (view_of old).steps (view_of new).steps (last_of new)
+WakesBy l a (calls.Downgrade d) old new =
+    Wakes l a (calls.Downgrade d) (view_of old).steps (view_of new).steps (last_of new)
+WakesBy l a c old new = Unit {0}
+
+-- a thread of the lot, and a reader-writer lock of it whose keys are numbers, with room for an upgrade that gives up
+abbrev pub MeetsAt : ParkingLot → Token → Word → Admission → Type 0
+MeetsAt lot token word a = IsTokenOf lot token × IsWordOf lot.words word
+    × (word.kind ≡ kinds.RwLock) × (word.number < 9223372036854775808) × (a.limit < 2 ^ 60 - 1)
+
+-- a right to a reader-writer lock, owned so
+abbrev pub IsRwLockRight : ParkingLot → Word → Owner → Right → Type 0
+IsRwLockRight lot word owner right = IsRightOf lot.words right × (right.word ≡ word) × (right.owner ≡ owner)
+
+-- it is the same thread, and owns what it did, where it waited for no last readers of the lock
+abbrev pub StaysBeside : ℕ → Token → Token → Type 0
+StaysBeside l old new = (new.number ≡ old.number) × IsBeside l (view_of old).owns (view_of new).owns
+
+-- what a call that enters answers, by what it gives
+abbrev pub entry_answer : {A E : Type 0} → Patience → Result (Option A) E → Answer
+entry_answer how (Ok (Some right)) = entered how
+entry_answer how (Ok None) = No
+entry_answer how (Err fault) = ReadersFull
