@@ -76,6 +76,8 @@ AreOfWord (Case Wake ∷ ds) = ⊥
 AreOfWord (Case (HandOff right successor) ∷ ds) = ⊥
 AreOfWord (Case case ∷ []) = Unit {0}
 AreOfWord (Case case ∷ End ∷ []) = Unit {0}
+AreOfWord (Case case ∷ Mark m ∷ []) = Unit {0}
+AreOfWord (Case case ∷ Clear m ∷ []) = Unit {0}
 AreOfWord ds = ⊥
 
 -- out of a section, and where the thread keeps a right of its own, the end of its call
@@ -182,6 +184,22 @@ pub record HandsOver (x : Move) (op : Op) : Type 0 where
   pub goes : (seen : ℕ) → takes_effect op seen ≡ true → station_then x (Value seen) ≡ record (inside_of Main) { carries = in_hand any true }
   pub fails : (whom : Option ℕ) (seen : ℕ) → takes_effect op seen ≡ false → x.deeds whom (Value seen) ≡ []
   pub stays : (seen : ℕ) → takes_effect op seen ≡ false → station_then x (Value seen) ≡ station_of x
+
+-- then it goes out of the section, and tells them
+pub record TellsHanded (x : Move) (hears : Hears) (wakes : Wakes) : Type 0 where
+  pub any : Bool
+  pub notes : wakes ≡ wakes_taken any HandOffNote
+  pub was : station_of x ≡ record (inside_of Main) { carries = in_hand any true }
+  pub deeds : AreLeaving (x.deeds None Done)
+  pub goes : station_then x Done ≡ nowhere
+  pub may : (r : Rules) (s : Site) (t : ℕ) → s.lock.taken t ≡ None → hears r s t None Done
+
+-- and who was told so ends its call
+pub record Accepts (x : Move) (hears : Hears) : Type 0 where
+  pub was : station_of x ≡ nowhere
+  pub deeds : x.deeds None Done ≡ End ∷ []
+  pub goes : station_then x Done ≡ nowhere
+  pub may : (r : Rules) (s : Site) (t : ℕ) → hears r s t None Done
 
 -- in the hand of a thread, it may be handed what it wants, which it claims then
 pub record IsGiven (x : Move) (u : ℕ) (want : Want) (alone : Bool) : Type 0 where

@@ -12,3 +12,4 @@ pub mod FairTells
 pub mod FairCallTells
 pub mod FairSleepers
 pub mod FairMoves
+pub mod FairOwners

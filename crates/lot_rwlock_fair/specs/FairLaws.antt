@@ -14,9 +14,9 @@ use Rattle.lot_acts.specs.declared.acts.Reply.{Reply}
 use Rattle.lot_acts.specs.declared.acts.Reply.TheVariants as reply
 use Rattle.lot_base.specs.declared.wants.Waiter.{Waiter}
 use Rattle.lot_acts.specs.declared.owners.Owners.{Owners}
-use Rattle.lot_acts.specs.Owners.{lock_seen}
+use Rattle.lot_acts.specs.Owners.{lock_seen, shares_then}
 use Rattle.lot_acts.specs.Acts.{takes_effect}
-use Rattle.abstract_locks.specs.Locks.{LockState, Rules, Rights, IsTaken, Taken as TakenBy, putting, readers, standing}
+use Rattle.abstract_locks.specs.Locks.{LockState, Rules, Rights, IsTaken, Taken as TakenBy, putting, readers, standing, without_owner}
 use Rattle.abstract_locks.specs.Sites.{Site, Claim, Has, Pends, HasClaim}
 use Rattle.abstract_locks.specs.Codes.{code, HasLimit}
 use Rattle.abstract_locks.specs.Deeds.{after_all}
@@ -30,10 +30,14 @@ use Rattle.lot_rwlock_fair.specs.declared.begin.FairCall.{FairCall}
 use Rattle.lot_rwlock_fair.specs.FairBegins.{fair_first, fair_purpose, right_of}
 use Rattle.lot_rwlock_fair.specs.FairProfiles.{call_profile, call_looking}
 use Rattle.lot_rwlock_fair.specs.declared.places.RwLockCallPlace.{RwLockCallPlace}
+use Rattle.lot_calls.specs.declared.calls.Access.{Access}
+use Rattle.lot_rwlock.specs.RwLockSteps.{wanted}
+use Rattle.lot_rwlock_fair.specs.declared.places.RwLockCallPlace.TheVariants.{HandOver}
 use Rattle.lot_rwlock_fair.specs.declared.hand_over.Taken.{Taken}
-use Rattle.lot_rwlock_fair.specs.FairSteps.{call_act, call_next}
+use Rattle.lot_rwlock_fair.specs.declared.hand_over.HandOverAt.{HandOverAt}
+use Rattle.lot_rwlock_fair.specs.FairSteps.{call_act, call_next, call_owners, call_shares, gives_up}
 use Rattle.lot_rwlock_fair.specs.FairDeeds.{call_deeds, call_doing_next}
-use Rattle.lot_rwlock_fair.specs.FairCalls.{CallStands, CallStandsNext, CallMayBeTold, IsInCall, CallMayHear, HasInHand, in_hand_of}
+use Rattle.lot_rwlock_fair.specs.FairCalls.{HandsOverAt, CallStands, CallStandsNext, CallMayBeTold, IsInCall, CallMayHear, HasInHand, in_hand_of}
 
 abbrev pub CallFollowsBy : Rules → Admission → Site → ℕ → RwLockCallPlace → Option ℕ → Reply → Type 0
 CallFollowsBy r a s t c whom told = Follows r s t (call_deeds a c whom told) (call_doing_next (call_next a c told))
@@ -197,3 +201,19 @@ abbrev pub FairLooksStand : Type 0
 FairLooksStand =
     (a : Admission) (c d : RwLockCallPlace) → call_looking a c ≡ Some d
     → (call_profile a d ≡ call_profile a c) × (CallStands a c → CallStands a d)
+
+-- each step on the word that hands nothing over leaves the owners and shares of the lock behind its deeds
+abbrev pub FairOwnersFollow : Type 0
+FairOwnersFollow =
+    (r : Rules) (a : Admission) (s : Site) (t l : ℕ) (c : RwLockCallPlace) (op : Op) (shared : List ℕ) (o : Owners) (main second : List Waiter) (taken : ℕ → Option TakenBy)
+    → IsInCall r a s t c → call_act l a c ≡ act.Word l op → a.limit < 2 ^ 60 - 1 → HasLimit r s.lock
+    → s.lock ≡ lock_seen shared o main second taken
+    → lock_seen (shares_then shared t (call_shares a c (code r s) (slice_index shared t))) (call_owners a c t (code r s) o) main second taken
+    ≡ (behind_call r a s t c None (reply.Value (code r s))).lock
+
+-- and one that gives a right up by a hand-over leaves those of the lock without it, before the others have theirs
+abbrev pub GiversKeep : Type 0
+GiversKeep =
+    (a : Admission) (x : Access) (b : Bool) (to : HandOverAt) (t seen : ℕ) (shared : List ℕ) (o : Owners) (main second : List Waiter) (taken : ℕ → Option TakenBy)
+    → HandsOverAt x to → gives_up to seen ≡ true
+    → lock_seen shared (call_owners a (HandOver x b to) t seen o) main second taken ≡ without_owner t (wanted x) (lock_seen shared o main second taken)

@@ -1,5 +1,5 @@
 //! What the steps of fair releases and bumps do to the lock.
-ghost use Rattle.lot_rwlock_fair.specs.FairLaws.{FairCallsOpen, FairCallsStand, FairLooksStand, FairSectionsFollow, FairSectionsTell, FairSleepersHear, FairStepsTell, HandOversGive, FairStepsCode, FairStepsFollow, HandOversCode, HandOversFollow, HandOversKeepLimit, HandOversTell};
+ghost use Rattle.lot_rwlock_fair.specs.FairLaws.{FairOwnersFollow, GiversKeep, FairCallsOpen, FairCallsStand, FairLooksStand, FairSectionsFollow, FairSectionsTell, FairSleepersHear, FairStepsTell, HandOversGive, FairStepsCode, FairStepsFollow, HandOversCode, HandOversFollow, HandOversKeepLimit, HandOversTell};
 ghost use Rattle.lot_rwlock_fair.specs.FairMoves.{HandOversMove, HandedMove};
 
 /// Each step on the word may do to the lock what its deeds say, and its next place says what the thread does then.
@@ -80,4 +80,14 @@ pub fn hand_overs_move()
 /// Whoever is handed the lock is so from then on, and out of every hand from its wake on.
 pub fn handed_move()
     ensures { HandedMove }
+{}
+
+/// Each step on the word that hands nothing over leaves the owners of the lock behind its deeds.
+pub fn fair_owners_follow()
+    ensures { FairOwnersFollow }
+{}
+
+/// A hand-over leaves the owners of the lock without the right that it gives up, before the others have theirs.
+pub fn givers_keep()
+    ensures { GiversKeep }
 {}

@@ -57,6 +57,8 @@ single_of (Case Wake ∷ ds) h = absurd h
 single_of (Case (HandOff right successor) ∷ ds) h = absurd h
 single_of (Case case ∷ []) h = (tt, tt)
 single_of (Case case ∷ End ∷ []) h = (tt, (tt, tt))
+single_of (Case case ∷ Mark m ∷ []) h = (tt, (tt, tt))
+single_of (Case case ∷ Clear m ∷ []) h = (tt, (tt, tt))
 single_of ds h = absurd h
 
 one_of : (ds : List Deed) → AreOfWord ds → HasOneCase ds
@@ -68,6 +70,8 @@ one_of (Case Wake ∷ ds) h = absurd h
 one_of (Case (HandOff right successor) ∷ ds) h = absurd h
 one_of (Case case ∷ []) h = tt
 one_of (Case case ∷ End ∷ []) h = (tt, tt)
+one_of (Case case ∷ Mark m ∷ []) h = (tt, tt)
+one_of (Case case ∷ Clear m ∷ []) h = (tt, tt)
 one_of ds h = absurd h
 
 plain_of : (ds : List Deed) → AreOfWord ds → NoHandOff ds
@@ -79,6 +83,8 @@ plain_of (Case Wake ∷ ds) h = absurd h
 plain_of (Case (HandOff right successor) ∷ ds) h = absurd h
 plain_of (Case case ∷ []) h = ((λ k. k), tt)
 plain_of (Case case ∷ End ∷ []) h = ((λ k. k), tt)
+plain_of (Case case ∷ Mark m ∷ []) h = ((λ k. k), tt)
+plain_of (Case case ∷ Clear m ∷ []) h = ((λ k. k), tt)
 plain_of ds h = absurd h
 
 leaving_plain : (ds : List Deed) → AreLeaving ds → NoHandOff ds
@@ -167,7 +173,7 @@ module _ (w : State) (t l : ℕ) (steady : IsSteady w) (there : t < length w.pla
     goes_in told p2 line free g followed = goes_in_by told p2 line free g (followed (entered_hears told free g))
 
     -- out of its own, where it has nobody in hand
-    goes_out_alone : (p2 : Place) → key_of l m < length w.sections → (g : AreLeaving (x.deeds None Done)) → (station_of x).inside ≡ Some m → (station_of x).carries ≡ None → (station_of x).hand ≡ None → station_then x Done ≡ record (station_of x) { inside = None; carries = None } → IsFollowed None Done p2
+    pub goes_out_alone : (p2 : Place) → key_of l m < length w.sections → (g : AreLeaving (x.deeds None Done)) → (station_of x).inside ≡ Some m → (station_of x).carries ≡ None → (station_of x).hand ≡ None → station_then x Done ≡ record (station_of x) { inside = None; carries = None } → IsFollowed None Done p2
         → Goes w (put (state_with_sections w (One (key_of l m)) None) t p2) l (acts t (x.deeds None Done))
     goes_out_alone p2 line leaving within bare free out f = leave_goes w t l steady own there r rules p2 f.of f.fits m line (ap (λ (y : Station). y.inside) station_is ∙ within) (x.deeds None Done) (λ h. leaving_plain (x.deeds None Done) leaving)
         (record {
