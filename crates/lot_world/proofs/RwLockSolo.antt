@@ -522,7 +522,7 @@ module _ (t l : ℕ) (a : Admission) where
 
       by_word : (b : Bool) → (v == x) ≡ b → has_aside x ≡ false → Comes w t l (rwlock_goes l a (marked_next b)) (outcome_of (rwlock_does l a (marked_next b))) (if v == x then plus x 2 else v) q → Leads 11 w t Resting
       by_word false ne e c = counted_rests (count_in v == 0) refl (subst (λ z. Comes w t l (rwlock_goes l a (marked_next false)) (outcome_of (rwlock_does l a (marked_next false))) z q) (ap (λ (b : Bool). if b then plus x 2 else v) ne) c)
-      by_word true g e c = 
+      by_word true g e c =
           leads_step w t Resting 10 c.0 (marked_rests p (plus x 2) _ q (below (x + 2)) (subst (λ y. Alone (after w (go_of t)) (again p at.Marked p.retries) y q) (ap (λ (b : Bool). if b then plus x 2 else v) g) c.1))
 
       either : (b : Bool) → has_aside x ≡ b → Leads 11 w t Resting
