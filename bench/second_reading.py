@@ -3,7 +3,8 @@
 `lotsim replay`, have to agree.
 
 Build the proved program first: `rt run -- replay < stdin` in crates/lotsim. Then:
-python3 bench/second_reading.py crates/lotsim/out/lotsim SCHEDULES LINES [FIRST_SEED]
+python3 bench/second_reading.py crates/lotsim/out/lotsim SCHEDULES LINES [FIRST_SEED] [--fair]
+With --fair, fair releases and bumps of reader-writer locks are among the calls.
 """
 import os, random, subprocess, sys, tempfile
 
@@ -118,7 +119,7 @@ class World:
         if number >= len(self.threads): return "not now"
         t, l = self.threads[number], self.locks[lock_number]
         if t.call is not None: return "not now"
-        calls = MUTEX if l.kind in ("mutex", "fair") else RWLOCK
+        calls = MUTEX if l.kind in ("mutex", "fair") else RWLOCK | FAIR
         if name not in calls: return "not now"
         need = RIGHT.get(name)
         if need == "x" and l.exclusive != number: return "not now"
@@ -152,6 +153,7 @@ MUTEX = {"lock", "lock_timed", "try_lock", "unlock", "unlock_fair", "bump"}
 RWLOCK = {"read", "read_timed", "try_read", "upgradable", "upgradable_timed", "try_upgradable", "write", "write_timed", "try_write",
           "unlock_shared", "unlock_exclusive", "unlock_upgradable", "downgrade", "downgrade_upgradable", "downgrade_to_upgradable",
           "upgrade", "upgrade_timed", "try_upgrade"}
+FAIR = {"unlock_shared_fair", "unlock_exclusive_fair", "unlock_upgradable_fair", "bump_shared", "bump_exclusive", "bump_upgradable"}
 RIGHT = {"unlock": "x", "unlock_fair": "x", "bump": "x", "unlock_shared": "s", "unlock_shared_fair": "s", "bump_shared": "s",
          "unlock_exclusive": "x", "unlock_exclusive_fair": "x", "bump_exclusive": "x", "downgrade": "x", "downgrade_to_upgradable": "x",
          "unlock_upgradable": "u", "unlock_upgradable_fair": "u", "bump_upgradable": "u", "downgrade_upgradable": "u",
@@ -479,14 +481,19 @@ class Call:
             if seen // 16 == 1 and seen & WP:
                 self.t.owes = (l, "second")
                 self.enter("second", lambda: self.then(take))
-            else: self.end("ok")
+            else: self.released()
         def take():
             if self.l.second: self.t.hand = [self.l.second.pop(0)[0]]
             def clear():
                 self.l.word &= ~WP
-                self.leave("second", "normal", lambda: self.end("ok"))
+                self.leave("second", "normal", self.released)
             self.then(clear)
         self.then(step)
+    def released(self):
+        """A release ends; a bump enters again."""
+        if self.name == "bump_shared": self.enter_shared()
+        else: self.end("ok")
+    r_unlock_shared_fair = r_unlock_shared
     def turn(self, change, own, start):
         def step():
             seen = self.l.word
@@ -538,9 +545,91 @@ class Call:
             self.then(step)
         self.then(lambda: look(self.l.word))
 
+    # ------------------------------------------------ fair releases and bumps
+    def hand(self, who, left):
+        """All that were taken own by what they want; a writer beside readers is pending."""
+        l = self.l
+        for u, want in who:
+            thread = self.world.threads[u]
+            if thread.retries is l: thread.retries = None
+            if want == "s": l.shared[u] = l.shared.get(u, 0) + 1
+        for u, want in who:
+            if want == "u": l.upgradable = u
+            if want == "x":
+                if l.readers(): l.pending = (u, False)
+                else: l.exclusive = u
+    def tokens(self, who): return sum({"s": 16, "u": 20, "x": 8}[want] for _, want in who)
+    def hand_exclusive(self, after):
+        def take():
+            who = self.take_picked(None)
+            left = bool(self.l.main)
+            def store():
+                self.l.word = self.tokens(who) + (P if left and who else 0)
+                self.l.exclusive = None
+                self.hand(who, left)
+                self.leave("main", "hand-off", after)
+            self.then(store)
+        self.enter("main", lambda: self.then(take))
+    def r_unlock_exclusive_fair(self):
+        def step():
+            if self.exchange(8, 0):
+                self.l.exclusive = None
+                return self.end("ok")
+            self.t.owes = (self.l, "main")
+            self.hand_exclusive(lambda: self.end("ok"))
+        self.then(step)
+    def hand_upgradable(self, after):
+        def load(): loop(self.l.word)
+        def loop(s):
+            if s & P == 0:
+                def step():
+                    if self.exchange(s, s - 20):
+                        self.l.upgradable = None
+                        after()
+                    else: loop(self.l.word)
+                self.then(step)
+            else:
+                self.t.owes = (self.l, "main")
+                self.enter("main", lambda: self.then(take))
+        def take():
+            who = self.take_picked(None)
+            left = bool(self.l.main)
+            def decide(s):
+                n = (s - 20 + self.tokens(who)) & ~P | (P if left else 0)
+                fits = n // 16 <= self.l.limit
+                to = n if fits else (s - 20) & ~P | (P if left else 0)
+                def step():
+                    if not self.exchange(s, to): return decide(self.l.word)
+                    self.l.upgradable = None
+                    if fits: self.hand(who, left)
+                    self.leave("main", "hand-off" if fits else "normal", after)
+                self.then(step)
+            self.then(lambda: decide(self.l.word))
+        self.then(load)
+    def r_unlock_upgradable_fair(self): self.hand_upgradable(lambda: self.end("ok"))
+    def r_bump_shared(self):
+        def step():
+            s = self.l.word
+            if s & W == 0 or (self.recursive and s // 16 != 1): return self.end("ok")
+            self.want = "s"
+            self.r_unlock_shared()
+        self.then(step)
+    def r_bump_exclusive(self):
+        def step():
+            if self.l.word & P == 0: return self.end("ok")
+            self.t.owes = (self.l, "main")
+            self.hand_exclusive(self.begin_write)
+        self.then(step)
+    def r_bump_upgradable(self):
+        def step():
+            if self.l.word & P == 0: return self.end("ok")
+            self.want = "u"
+            self.hand_upgradable(self.enter_shared)
+        self.then(step)
+
 # ---------------------------------------------------------------- random schedules
 
-def run(seed, lines):
+def run(seed, lines, fair):
     rng = random.Random(seed)
     threads = rng.randrange(2, 7)
     kinds = ["mutex", "fair", "rwlock", "recursive", "rwlock", "recursive"]
@@ -558,7 +647,7 @@ def run(seed, lines):
         locks.append((name, kind, limit))
     w = World(threads, locks)
     expected = []
-    calls = {"m": sorted(MUTEX), "r": sorted(RWLOCK)}
+    calls = {"m": sorted(MUTEX), "r": sorted(RWLOCK | FAIR if fair else RWLOCK)}
     enters = {"m": ["lock", "lock_timed", "try_lock"], "r": [c for c in sorted(RWLOCK) if c not in RIGHT]}
     for _ in range(lines):
         t = rng.randrange(threads)
@@ -599,11 +688,13 @@ def run(seed, lines):
     return text, expected
 
 def main():
-    program, seeds, lines = sys.argv[1], int(sys.argv[2]), int(sys.argv[3])
-    first = int(sys.argv[4]) if len(sys.argv) > 4 else 0
+    fair = "--fair" in sys.argv
+    given = [word for word in sys.argv[1:] if word != "--fair"]
+    program, seeds, lines = given[0], int(given[1]), int(given[2])
+    first = int(given[3]) if len(given) > 3 else 0
     seen = {}
     for seed in range(first, first + seeds):
-        text, expected = run(seed, lines)
+        text, expected = run(seed, lines, fair)
         out = subprocess.run([program, "replay"], input="\n".join(text) + "\n", capture_output=True, text=True).stdout.split("\n")[:-1]
         for e in expected: seen[e.split(" ", 1)[1] if " own" not in e else "show"] = seen.get(e.split(" ", 1)[1] if " own" not in e else "show", 0) + 1
         if out != expected:
