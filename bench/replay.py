@@ -68,7 +68,7 @@ def measure(name, kind, threads, locks, shows):
 
 
 if __name__ == "__main__":
-    for kind in CALLS:
+    for kind in GETS:
         measure(f"{kind}: 8 threads, 4 locks, a show in 1,000 lines", kind, 8, 4, 1_000)
         measure(f"{kind}: 1,024 threads, 256 locks, no show", kind, 1024, 256, LINES * 100)
         measure(f"{kind}: 1,024 threads, 256 locks, a show in 10,000 lines", kind, 1024, 256, 10_000)
