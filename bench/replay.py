@@ -57,7 +57,7 @@ def measure(name, kind, threads, locks, shows):
         file.write(text)
         file.flush()
         best = float("inf")
-        for _ in range(5):
+        for _ in range(12):
             with open(file.name) as stdin:
                 start = time.perf_counter()
                 status = subprocess.run([PROGRAM, "replay"], stdin=stdin, stdout=subprocess.DEVNULL).returncode
