@@ -20,7 +20,7 @@ use Rattle.lot_world.specs.Refinement.{lock_state, call_on, call_at, taken_at}
 use Rattle.lot_world.specs.Stations.{Station, nowhere, station, station_at, doing_on}
 use Rattle.lot_world.specs.SitesOf.{IsSteady, FitsItsLock, key_of, stood_in, rules_in}
 use Rattle.lot_world.specs.Owing.{Owes, IsInside, LetsOthersIn, IsDowngrade, sort_at}
-use Rattle.lot_world.specs.Promises.{GoesToWake}
+use Rattle.lot_world.specs.Promises.{GoesToWake, WakesAside}
 use Rattle.lot_world.proofs.Counts.{none_first}
 use Rattle.lot_world.proofs.Glue.{same, differ, taken_out, calls_none, inside_is}
 use Rattle.lot_world.proofs.MutexTable.{queued_times}
@@ -28,7 +28,7 @@ use Rattle.lot_world.proofs.StandsMoved.{mutex_rules}
 use Rattle.lot_world.proofs.LineActs.{IsOfLine, IsLineAct, line_act}
 use Rattle.lot_world.proofs.MutexRows.{mutex_promises}
 use Rattle.lot_world.proofs.SitesPromise.{first_out}
-use Rattle.lot_world.proofs.RowPromises.{LetsIn, IsWaiting, taken_of, RowPromises}
+use Rattle.lot_world.proofs.RowPromises.{LetsIn, LetsInAt, IsWaiting, taken_of, RowPromises}
 use Rattle.lot_world.proofs.CallEvents.{rights}
 use Rattle.lot_world.proofs.RwLockRows.{rwlock_promises}
 
@@ -243,15 +243,22 @@ module _ (w : State) (t : ℕ) (steady : IsSteady w) where
       )
     ])
 
+    -- on its way into the section of a line
+    lets_in_at : (m : Line) → LetsOthersIn w t l ⊎ WakesAside (call_at w t).purpose l m → LetsInAt (sort_at w l) l (profile (place_at w t)) m
+    lets_in_at m h = elim h [ inl lets ↦ inl (lets_in lets) | inr wakes ↦ inr (subst (λ (c : CallState). WakesAside c.purpose l m) call_own wakes) ]
+
+    lets_out_at : (m : Line) → LetsInAt (sort_at w l) l (profile (place_at w t)) m → LetsOthersIn w t l ⊎ WakesAside (call_at w t).purpose l m
+    lets_out_at m h = elim h [ inl lets ↦ inl (lets_out lets) | inr wakes ↦ inr (subst (λ (c : CallState). WakesAside c.purpose l m) (sym call_own) wakes) ]
+
   -- who owes a wake on a line is inside its section, or lets others in and is on its way into it
   pub owing_is : (l : ℕ) (m : Line) → Owes w t l m ↔ (IsInside w t l m ⊎ GoesToWake w t l m)
   owing_is l m = (
     (λ h. let own = owes_own (place_at w t) l m h in
         let row = (row_promises l own).owing.owes m (sym (owed_own (place_at w t) l own) ∙ h) in
-        elim row [ inl i ↦ inl ((inside_own l own m).0 i) | inr g ↦ inr (g.0, lets_out l own g.1) ]),
+        elim row [ inl i ↦ inl ((inside_own l own m).0 i) | inr g ↦ inr (g.0, lets_out_at l own m g.1) ]),
     λ h. elim h [
       | inl i ↦ (let own = inside_calls (lock_of (place_at w t)) refl i in owed_own (place_at w t) l own ∙ (row_promises l own).owing.inside m ((inside_own l own m).1 i))
-      | inr g ↦ (let own = entering_calls (lock_of (place_at w t)) refl g.0 in owed_own (place_at w t) l own ∙ (row_promises l own).owing.entering m g.0 (lets_in l own g.1))
+      | inr g ↦ (let own = entering_calls (lock_of (place_at w t)) refl g.0 in owed_own (place_at w t) l own ∙ (row_promises l own).owing.entering m g.0 (lets_in_at l own m g.1))
     ],
   )
     where

@@ -96,11 +96,11 @@ module _ (w : State) (t l : ℕ) (a : Admission) (p : RwLockPlace) (steady : IsS
       promises : RowPromises (rules_in behind l).sort l (rwlock_profile a q) (rwlock_act l a q)
       promises = rwlock_promises (rules_in behind l) a l q fits.0 fits.1
 
-      waits : IsWaiting (rwlock_profile a q) ⊎ WasHanded (rwlock_profile a q) → IsWaiting (rwlock_profile a q)
+      waits : IsWaiting (rwlock_profile a q) ⊎ WasHanded (rules_in behind l).sort l (rwlock_profile a q) → IsWaiting (rwlock_profile a q)
       waits (inl h) = h
-      waits (inr h) = absurd (let f : true ≡ false = ((rwlock_sleepers_move a q fits.1).held h.0 true h.1).0 in cc)
+      waits (inr h) = absurd (let f : true ≡ false = ((rwlock_sleepers_move a q fits.1).held h.by true h.in_hand).0 in cc)
 
-      by_act : (y : Act) → Moves l a.recursive (rwlock_move a q) (rwlock_hears a q) y → is_acting y ≡ true → (y ≡ act.Sleep → IsWaiting (rwlock_profile a q) ⊎ WasHanded (rwlock_profile a q))
+      by_act : (y : Act) → Moves l a.recursive (rwlock_move a q) (rwlock_hears a q) y → is_acting y ≡ true → (y ≡ act.Sleep → IsWaiting (rwlock_profile a q) ⊎ WasHanded (rules_in behind l).sort l (rwlock_profile a q))
           → (outcome_of y ≡ outcome.Step) ⊎ ((outcome_of y ≡ outcome.Sleep) × (1 ≤ standing t (lock_state behind l)))
       by_act act.Sleep moves acting asleep = inr (refl, waiting_stands behind t happens_so.after l (ap lock_of e) (subst (λ (x : Profile). IsWaiting x) (sym (ap profile e)) (waits (asleep refl))))
       by_act (act.End answer) moves acting asleep = absurd cc
