@@ -16,10 +16,11 @@ use Rattle.abstract_locks.specs.Locks as locks
 use Rattle.lot_world.specs.Owing.{sort_at}
 use Rattle.abstract_locks.specs.Sites.{Line}
 use Rattle.lot_world.specs.SitesOf.{IsSteady, FitsItsLock}
-use Rattle.lot_world.proofs.RowPromises.{Befalls, RowOwesNext, IsLateNext}
+use Rattle.lot_world.proofs.RowPromises.{Befalls, RowOwesThen, IsLateNext, owes_then, mutex_tells}
 use Rattle.lot_world.proofs.MutexOwing.{mutex_befallen, mutex_owes_next, mutex_first_owes, mutex_late}
 use Rattle.lot_world.proofs.StandsMoved.{mutex_rules}
-use Rattle.lot_world.proofs.RwLockOwing.{rwlock_befallen, rwlock_owes_next, rwlock_first_owes, rwlock_late}
+use Rattle.lot_world.proofs.RwLockOwing.{plain_tells, rwlock_befallen, rwlock_owes_next, rwlock_first_owes, rwlock_late}
+use Rattle.lot_world.proofs.CallOwing.{call_owes_next}
 use Rattle.lot_rwlock.specs.RwLockSteps.{rwlock_act}
 use Rattle.lot_rwlock.specs.RwLockBegins.{admission_of}
 
@@ -31,24 +32,29 @@ owes_befallen Idle r b k = refl
 owes_befallen (Mutex l at) r b k = mutex_befallen l at r b k
 owes_befallen (RwLock l a at) r b k = rwlock_befallen l a at r b k
 
+-- at a lock by its number and rules
+abbrev OwesAt : State → ℕ → locks.Sort → ℕ → Place → Type 0
+OwesAt w t sort l p =
+    let told = reply_to w t (act_of p) in
+    RowOwesThen sort l (word_at w l) (profile p) (outcome_of (next_act p told)) (profile (next_place p told)) (act_of (next_place p told))
+
 -- the reply to its act leads a thread on
-pub owes_next : (w : State) (t l : ℕ) → IsSteady w → lock_of (place_at w t) ≡ Some l
-    → RowOwesNext (sort_at w l) l (word_at w l) (profile (place_at w t)) (go_outcome w t) (profile (next_place (place_at w t) (go_reply w t)))
+pub owes_next : (w : State) (t l : ℕ) → IsSteady w → lock_of (place_at w t) ≡ Some l → OwesAt w t (sort_at w l) l (place_at w t)
 owes_next w t l steady own = by_place (place_at w t) refl own
   where
-    by_place : (p : Place) → place_at w t ≡ p → lock_of p ≡ Some l → RowOwesNext (sort_at w l) l (word_at w l) (profile p) (outcome_of (next_act p (reply_to w t (act_of p)))) (profile (next_place p (reply_to w t (act_of p))))
+    by_place : (p : Place) → place_at w t ≡ p → lock_of p ≡ Some l → OwesAt w t (sort_at w l) l p
     by_place Idle is own = absurd cc
     by_place (Mutex k at) is own =
         let here : k ≡ l = cc in
         let admitted : FitsItsLock w (Mutex k at) = rw is at (steady.stands.calls t) in
         let sort : locks.Mutex ≡ sort_at w k = sym (ap (λ r. r.sort) (mutex_rules (kind_at w k) admitted)) in
-        subst (λ j. RowOwesNext (sort_at w j) j (word_at w j) (profile (Mutex k at)) (outcome_of (next_act (Mutex k at) (reply_to w t (mutex_act k at)))) (profile (next_place (Mutex k at) (reply_to w t (mutex_act k at))))) here
-        (subst (λ s. RowOwesNext s k (word_at w k) (profile (Mutex k at)) (outcome_of (next_act (Mutex k at) (reply_to w t (mutex_act k at)))) (profile (next_place (Mutex k at) (reply_to w t (mutex_act k at))))) sort (mutex_owes_next w t steady k at is))
+        subst (λ j. OwesAt w t (sort_at w j) j (Mutex k at)) here
+        (subst (λ s. OwesAt w t s k (Mutex k at)) sort (owes_then (λ m. mutex_tells (Some ((profile (Mutex k at)).purpose k)) m (word_at w k)) (mutex_owes_next w t steady k at is)))
     by_place (RwLock k a at) is own =
         let here : k ≡ l = cc in
         let admitted : FitsItsLock w (RwLock k a at) = rw is at (steady.stands.calls t) in
-        subst (λ j. RowOwesNext (sort_at w j) j (word_at w j) (profile (RwLock k a at)) (outcome_of (next_act (RwLock k a at) (reply_to w t (rwlock_act k a at)))) (profile (next_place (RwLock k a at) (reply_to w t (rwlock_act k a at))))) here
-        (rwlock_owes_next w t k a admitted.0 at admitted.1)
+        subst (λ j. OwesAt w t (sort_at w j) j (RwLock k a at)) here
+        (owes_then (λ m. plain_tells (sort_at w k) k at.purpose m (word_at w k)) (rwlock_owes_next w t k a admitted.0 at admitted.1))
 
 pub first_owes : (k : Kind) (c : Call) → (profile (first_place k c)).owes ≡ None
 first_owes k (call.TheVariants.Mutex m c) = mutex_first_owes (is_fair k) c
