@@ -56,7 +56,7 @@ use Rattle.lot_rwlock_fair.proofs.FairMoves.{hand_overs_move}
 -- ---------------------------------------------------------------- calls that move alike
 
 -- what is told where nothing is handed over
-abbrev pub IsPlain : Reply → Type 0
+abbrev IsPlain : Reply → Type 0
 IsPlain (HandedBy u alone) = ⊥
 IsPlain (Woken note.HandOff) = ⊥
 IsPlain told = Unit {0}
@@ -148,7 +148,7 @@ module _ (x y : Move) (hears : Hears) (alike : IsAs x y) where
 -- ---------------------------------------------------------------- plain calls, and the second half of a bump
 
 -- nothing is handed over
-pub none_given : (b : Bool) (p : RwLockPlace) (told : Reply) → IsPlain told → given b p told ≡ None
+none_given : (b : Bool) (p : RwLockPlace) (told : Reply) → IsPlain told → given b p told ≡ None
 none_given b p (HandedBy u alone) plain = absurd plain
 none_given b p (Woken note.HandOff) plain = absurd plain
 none_given b p (Woken other) plain = refl

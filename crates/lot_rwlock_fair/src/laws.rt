@@ -1,5 +1,5 @@
 //! What the steps of fair releases and bumps do to the lock.
-ghost use Rattle.lot_rwlock_fair.specs.FairLaws.{FairOwnersFollow, GiversKeep, FairCallsOpen, FairCallsStand, FairLooksStand, FairSectionsFollow, FairSectionsTell, FairSleepersHear, FairStepsTell, HandOversGive, FairStepsCode, FairStepsFollow, HandOversCode, HandOversFollow, HandOversKeepLimit, HandOversTell};
+ghost use Rattle.lot_rwlock_fair.specs.FairLaws.{FairOwnersFollow, GiversKeep, CallsOpen, FairCallsStand, FairLooksStand, FairSectionsFollow, FairSectionsTell, FairSleepersHear, FairStepsTell, HandOversGive, FairStepsCode, FairStepsFollow, HandOversCode, HandOversFollow, HandOversKeepLimit, HandOversTell};
 ghost use Rattle.lot_rwlock_fair.specs.FairMoves.{FairActsMove, FairLateMove, FairSleepersMove, HandOversMove, HandedMove};
 
 /// Each step on the word may do to the lock what its deeds say, and its next place says what the thread does then.
@@ -43,8 +43,8 @@ pub fn fair_calls_stand()
 {}
 
 /// A call begins where it may stand, nowhere in the sections and lines of the lock, and claims a right that its thread has.
-pub fn fair_calls_open()
-    ensures { FairCallsOpen }
+pub fn calls_open()
+    ensures { CallsOpen }
 {}
 
 /// The step that hands the lock over makes of its call what its next row says, and the call is made of that case.

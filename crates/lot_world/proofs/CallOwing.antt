@@ -16,7 +16,6 @@ use Rattle.lot_calls.specs.declared.calls.Patience.TheVariants.{Patient}
 use Rattle.lot_calls.specs.declared.outcomes.Answer.{Answer}
 use Rattle.lot_calls.specs.declared.outcomes.Answer.TheVariants.{Ok}
 use Rattle.lot_calls.specs.declared.outcomes.Outcome.TheVariants as told
-use Rattle.lot_acts.specs.declared.acts.Whom as whom
 use Rattle.lot_acts.specs.declared.acts.Act.{Act}
 use Rattle.lot_acts.specs.declared.acts.Act.TheVariants as act
 use Rattle.lot_acts.specs.declared.acts.Next.{Next}
@@ -56,7 +55,7 @@ use Rattle.abstract_locks.specs.Sites.{has_readers}
 use Rattle.lot_machine.specs.Machine.{State, word_at, reply_to}
 use Rattle.lot_world.specs.SitesOf.{rules_in}
 use Rattle.lot_world.specs.Owing.{line_let_in, tells_by}
-use Rattle.lot_rwlock_fair.proofs.FairActs.{IsPlain, none_given}
+use Rattle.lot_world.proofs.PlainCalls.{never_given}
 use Rattle.lot_world.proofs.Glue.{same}
 use Rattle.lot_world.proofs.RowPromises.{LetsIn, RowFinds, RowLooks, RowOwesThen}
 use Rattle.lot_world.proofs.RwLockRows.{of, some_line, IsBefore, shut_before}
@@ -305,19 +304,17 @@ module _ (r : Rules) (readers : has_readers r.sort ≡ true) (a : Admission) (l 
 
 -- ---------------------------------------------------------------- each place
 
+-- of a call that may hand the lock over, or was handed it
+abbrev pub IsNoPlain : RwLockCallPlace → Type 0
+IsNoPlain (Plain p) = ⊥
+IsNoPlain c = Unit {0}
+
 module _ (w : State) (t l : ℕ) (a : Admission) (admits : Admits (rules_in w l) a) where
   abbrev next_of : RwLockCallPlace → Next RwLockCallPlace
   next_of c = call_next a c (reply_to w t (call_act l a c))
 
   abbrev Goes : RwLockCallPlace → Type 0
   Goes c = CallOwesNext (rules_in w l) a l (word_at w l) c (next_of c)
-
-  -- nobody is told by its own act that it was handed a lock
-  reply_plain : (y : Act) → IsPlain (reply_to w t y)
-  reply_plain (act.Take key whom.TheVariants.First) = tt
-  reply_plain (act.Take key (whom.TheVariants.Picked start recursive)) = tt
-  reply_plain (act.Take key whom.TheVariants.All) = tt
-  reply_plain y = tt
 
   exchange_reply : (b : Bool) (k : Taken) (seen : ℕ) → reply_to w t (exchange_act l a.limit access.Upgradable k seen) ≡ Value (word_at w l)
   exchange_reply b k seen = either (has_room a.limit k seen) _ _
@@ -356,7 +353,7 @@ module _ (w : State) (t l : ℕ) (a : Admission) (admits : Admits (rules_in w l)
 
   bump_owes : (q : RwLockPurpose) (again : Bool) (to : RwLockAt) → StandsAt q again to → IsOfBump q again → Goes (Bump (of q again to))
   bump_owes (purpose.Enter x Patient) again to fits bump =
-      rw (none_given true (of (purpose.Enter x Patient) again to) (reply_to w t (rwlock_act l a (of (purpose.Enter x Patient) again to))) (reply_plain (rwlock_act l a (of (purpose.Enter x Patient) again to))))
+      rw (never_given w t true (of (purpose.Enter x Patient) again to) (rwlock_act l a (of (purpose.Enter x Patient) again to)))
       (again_owes (rules_in w l) admits.0 a l (word_at w l) x again to fits (reply_to w t (rwlock_act l a (of (purpose.Enter x Patient) again to))))
   bump_owes (purpose.Release access.Shared) true to fits bump = absurd (let e : true ≡ false = bump in cc)
   bump_owes (purpose.Release access.Shared) false to fits bump = by_place to fits
@@ -377,9 +374,9 @@ module _ (w : State) (t l : ℕ) (a : Admission) (admits : Admits (rules_in w l)
   handed_goes access.Upgradable how b handed.Accept = handed_owes (rules_in w l) admits.0 a l (word_at w l) access.Upgradable how b handed.Accept (next_of (Handed access.Upgradable how b handed.Accept)) refl
 
   -- what the reply to its act makes of what a thread owes, where an owner that tries its word has the lock alone
-  pub call_owes_next : (c : RwLockCallPlace) → CallStands a c → ((p : RwLockPlace) → c ≡ Plain p → Goes c) → ((b : Bool) (seen : ℕ) → c ≡ HandOver access.Exclusive b (handing.Free seen) → IsOwners (word_at w l)) → Goes c
-  call_owes_next (Plain p) stands plain alone = plain p refl
-  call_owes_next (Bump p) stands plain alone = bump_owes p.purpose p.retries p.at stands.0.place stands.1
-  call_owes_next (Glance x) stands plain alone = glance_owes (rules_in w l) admits.0 a l (word_at w l) x
-  call_owes_next (HandOver x b to) stands plain alone = hands_owe x b to stands (λ seen e f. alone b seen (λ i. HandOver (e i) b (f i)))
-  call_owes_next (Handed x how b to) stands plain alone = handed_goes x how b to
+  pub call_owes_next : (c : RwLockCallPlace) → CallStands a c → IsNoPlain c → ((b : Bool) (seen : ℕ) → c ≡ HandOver access.Exclusive b (handing.Free seen) → IsOwners (word_at w l)) → Goes c
+  call_owes_next (Plain p) stands other alone = absurd other
+  call_owes_next (Bump p) stands other alone = bump_owes p.purpose p.retries p.at stands.0.place stands.1
+  call_owes_next (Glance x) stands other alone = glance_owes (rules_in w l) admits.0 a l (word_at w l) x
+  call_owes_next (HandOver x b to) stands other alone = hands_owe x b to stands (λ seen e f. alone b seen (λ i. HandOver (e i) b (f i)))
+  call_owes_next (Handed x how b to) stands other alone = handed_goes x how b to

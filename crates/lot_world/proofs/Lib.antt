@@ -1,4 +1,5 @@
 pub mod KindsKept
+pub mod PlainCalls
 pub mod Closures
 pub mod Alone
 pub mod Runs

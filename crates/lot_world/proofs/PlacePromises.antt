@@ -7,6 +7,7 @@ use Rattle.lot_acts.specs.declared.acts.Act.TheVariants.{Enter, Rest}
 use Rattle.lot_acts.specs.Profiles.{taken_from}
 use Rattle.lot_steps.specs.declared.places.Place.{Place}
 use Rattle.lot_steps.specs.declared.places.Place.TheVariants.{Idle, Mutex, RwLock}
+use Rattle.lot_rwlock_fair.specs.declared.places.RwLockCallPlace.TheVariants.{Plain}
 use Rattle.lot_steps.specs.Steps.{act_of, lock_of, is_lock, calls, profile, line_owed}
 use Rattle.abstract_locks.specs.Locks.{Taken, IsSomePending, one_if_some, is_thread, standing}
 use Rattle.abstract_locks.specs.Locks as locks
@@ -107,10 +108,11 @@ module _ (w : State) (t : ℕ) (steady : IsSteady w) where
           let sort : locks.Mutex ≡ sort_at w k = sym (ap (λ r. r.sort) (mutex_rules (kind_at w k) admitted)) in
           subst (λ j. RowPromises (sort_at w j) j (profile (Mutex k at)) (act_of (Mutex k at))) here
           (subst (λ s. RowPromises s k (profile (Mutex k at)) (act_of (Mutex k at))) sort (mutex_promises k at))
-      by_place (RwLock k a at) is own =
+      by_place (RwLock k a (Plain at)) is own =
           let here : k ≡ l = cc in
-          let admitted : FitsItsLock w (RwLock k a at) = rw is at (steady.stands.calls t) in
-          subst (λ j. RowPromises (sort_at w j) j (profile (RwLock k a at)) (act_of (RwLock k a at))) here (rwlock_promises (rules_in w k) a k at admitted.0 admitted.1)
+          let admitted : FitsItsLock w (RwLock k a (Plain at)) = rw is at (steady.stands.calls t) in
+          subst (λ j. RowPromises (sort_at w j) j (profile (RwLock k a (Plain at))) (act_of (RwLock k a (Plain at)))) here (rwlock_promises (rules_in w k) a k at admitted.0 admitted.1)
+      by_place (RwLock k a c) is own = absurd (subst (FitsItsLock w) is (steady.stands.calls t))
 
   -- ---------------------------------------------------------------- where it stands
 
