@@ -389,7 +389,7 @@ module _ (w : State) (t : ℕ) (shape : IsShaped w) (steady : IsSteady w) (there
 -- ---------------------------------------------------------------- a look at the word once more
 
 -- a call of a reader-writer lock is of no mutex
-not_mutex : (w : State) (l : ℕ) (a : Admission) (at : RwLockPlace) → Admits (rules_in w l) a → (r : ℕ → Rights) → IsOfMutex (locks_of w) (call_state (RwLock l a at) r).purpose → ⊥
+not_mutex : (w : State) (l : ℕ) (a : Admission) (at : RwLockPlace) → Admits (rules_in w l) a → (r : ℕ → Rights) → IsOfMutex (locks_of w) (call_state (RwLock l a (Plain at)) r).purpose → ⊥
 not_mutex w l a at admits r of = by_purpose at.purpose of
   where
     readers : (rules_in w l).sort ≡ Mutual → ⊥
@@ -417,7 +417,8 @@ module _ (w : State) (t : ℕ) (shape : IsShaped w) (steady : IsSteady w) (there
 
   look_stays : (p : Place) → place_at w t ≡ p → IsOfMutex (locks_of w) (call_state p (rights w t)).purpose → Stays (locks_of w) t ((locks_of w).calls t) (go_outcome moved t) (locks_of (state_after_go moved t))
   look_stays Idle e of = absurd of
-  look_stays (RwLock l a at) e of = absurd (let calls : FitsItsLock w (RwLock l a at) = subst (FitsItsLock w) e (steady.stands.calls t) in not_mutex w l a at calls.0 (rights w t) of)
+  look_stays (RwLock l a (Plain at)) e of = absurd (let calls : FitsItsLock w (RwLock l a (Plain at)) = subst (FitsItsLock w) e (steady.stands.calls t) in not_mutex w l a at calls.0 (rights w t) of)
+  look_stays (RwLock l a c) e of = absurd (subst (FitsItsLock w) e (steady.stands.calls t))
   look_stays (Mutex l at) e of = let loads = mutex_looks l at q (ap looking (sym e) ∙ is) in
       let now : place_at moved t ≡ Mutex l (Lock loads.0 loads.1 Load) = here w t there q is ∙ loads.2 in
       stays_as_before w t there q is _ (locks_of (state_after_go moved t)) (subst (λ p. Stays (locks_of moved) t ((locks_of moved).calls t) (going_outcome moved t p) (locks_of (state_after_going moved t p))) (sym now)
@@ -447,8 +448,8 @@ purpose_is k l c h = absurd cc
 no_purpose : (w : LocksState) (t : ℕ) (k : Kind) (c : Call) → has_call k c ≡ false → HasRight w t (purpose_of k c) → ⊥
 no_purpose w t kind.TheVariants.Mutex (call.TheVariants.Mutex l c) h r = absurd cc
 no_purpose w t kind.TheVariants.Fair (call.TheVariants.Mutex l c) h r = absurd cc
-no_purpose w t (kind.TheVariants.RwLock limit) (call.TheVariants.RwLock l c) h r = absurd cc
-no_purpose w t (kind.TheVariants.Recursive limit) (call.TheVariants.RwLock l c) h r = absurd cc
+no_purpose w t (kind.TheVariants.RwLock limit) (call.TheVariants.RwLock l c) h r = subst (λ b. HasRight w t (if b then Some (rwlock_purpose l c) else None)) h r
+no_purpose w t (kind.TheVariants.Recursive limit) (call.TheVariants.RwLock l c) h r = subst (λ b. HasRight w t (if b then Some (rwlock_purpose l c) else None)) h r
 no_purpose w t k c h r = r
 
 no_call_idle : (p : Place) (r : ℕ → Rights) → (call_state p r).purpose ≡ None → is_idle p ≡ true

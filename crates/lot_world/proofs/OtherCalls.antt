@@ -175,7 +175,6 @@ taken_by_hand w (RwLock k a (Plain p)) t l calls h = either (k == l) h
     either true g = let x = waits_so a p.purpose p.retries p.at t calls.1.place g in
         ap (is_taken_by t) (λ i. taken_from (g i) (x.1 i) true) ∙ same t
     either false g = absurd cc
-
 taken_by_hand w (RwLock k a c) t l calls h = absurd calls
 
 -- who was handed the lock goes on as it was

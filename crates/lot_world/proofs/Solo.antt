@@ -75,7 +75,6 @@ use Rattle.lot_world.proofs.RwLockSolo.{rwlock_rests, word_small, is_ready}
 use Rattle.lot_world.proofs.RwLockEnds.{rwlock_alone}
 use Rattle.lot_world.proofs.WorldRuns.{holds_of, solo_runs}
 use Rattle.lot_rwlock.specs.RwLockBegins.{admission_of}
-
 use Rattle.lot_rwlock_fair.specs.declared.places.RwLockCallPlace.{RwLockCallPlace}
 use Rattle.lot_rwlock_fair.specs.declared.places.RwLockCallPlace.TheVariants.{Plain}
 use Rattle.lot_rwlock_fair.specs.FairBegins.{call_first}
