@@ -1,13 +1,12 @@
 -- How a fair release, a bump, and who was handed the lock come to owe a wake: by the word that they see, and by entering a section.
 use Rattle.std.proofs.lemmas.Bool.{eqb-true}
-use Rattle.std.proofs.Common.{ℕ, Bool, true, false, Option, Some, None, if◌then◌else◌, ◌==◌, ◌&&◌, ◌||◌, ◌≡◌, ◌≢◌, ◌⊎◌, inl, inr, refl, sym, ◌∙◌, ap, subst}
+use Rattle.std.proofs.Common.{ℕ, Bool, true, false, Option, Some, None, if◌then◌else◌, ◌==◌, ◌&&◌, ◌||◌, ◌≡◌, ◌⊎◌, inl, inr, refl, sym, ◌∙◌, ap, subst, arith}
 use Rattle.lot_base.specs.declared.keys.Keys.TheVariants.{One}
 use Rattle.lot_base.specs.declared.keys.Line.{Line}
 use Rattle.lot_base.specs.declared.keys.Line.TheVariants.{Main, Second}
-use Rattle.lot_base.specs.declared.notes.Note.TheVariants as note
 use Rattle.lot_base.specs.declared.ops.Op.TheVariants as operation
 use Rattle.lot_base.specs.declared.wants.Want.{Want}
-use Rattle.lot_base.specs.declared.wants.Want.TheVariants.{Exclusive, Upgradable, Shared}
+use Rattle.lot_base.specs.declared.wants.Want.TheVariants.{Exclusive, Upgradable}
 use Rattle.lot_base.specs.Keys.{key_of}
 use Rattle.lot_calls.specs.declared.calls.Access.{Access}
 use Rattle.lot_calls.specs.declared.calls.Access.TheVariants as access
@@ -21,7 +20,7 @@ use Rattle.lot_acts.specs.declared.acts.Act.TheVariants as act
 use Rattle.lot_acts.specs.declared.acts.Next.{Next}
 use Rattle.lot_acts.specs.declared.acts.Next.TheVariants as next
 use Rattle.lot_acts.specs.declared.acts.Reply.{Reply}
-use Rattle.lot_acts.specs.declared.acts.Reply.TheVariants.{Done, Value, HandedBy, Woken}
+use Rattle.lot_acts.specs.declared.acts.Reply.TheVariants.{Value}
 use Rattle.lot_acts.specs.Acts.{outcome_of}
 use Rattle.lot_acts.specs.Moves.{row_of}
 use Rattle.lot_acts.specs.Profiles.{Profile}
@@ -33,10 +32,10 @@ use Rattle.lot_rwlock.specs.declared.purposes.RwLockPurpose.{RwLockPurpose}
 use Rattle.lot_rwlock.specs.declared.purposes.RwLockPurpose.TheVariants as purpose
 use Rattle.lot_rwlock.specs.declared.release.WakeAt.{WakeAt}
 use Rattle.lot_rwlock.specs.declared.release.WakeAt.TheVariants as waking
-use Rattle.lot_rwlock.specs.RwLockSteps.{wanted, rwlock_act, rwlock_next, next_at}
-use Rattle.lot_rwlock.specs.RwLockDeeds.{Admits, rwlock_doing}
-use Rattle.lot_rwlock.specs.RwLockCalls.{MayStand, StandsAt}
-use Rattle.lot_rwlock.specs.RwLockProfiles.{rwlock_profile, owes_at}
+use Rattle.lot_rwlock.specs.RwLockSteps.{rwlock_act, next_at}
+use Rattle.lot_rwlock.specs.RwLockDeeds.{Admits}
+use Rattle.lot_rwlock.specs.RwLockCalls.{StandsAt}
+use Rattle.lot_rwlock.specs.RwLockProfiles.{rwlock_profile}
 use Rattle.lot_rwlock_fair.specs.declared.places.RwLockCallPlace.{RwLockCallPlace}
 use Rattle.lot_rwlock_fair.specs.declared.places.RwLockCallPlace.TheVariants.{Plain, Glance, HandOver, Bump, Handed}
 use Rattle.lot_rwlock_fair.specs.declared.hand_over.Taken.{Taken}
@@ -44,14 +43,14 @@ use Rattle.lot_rwlock_fair.specs.declared.hand_over.HandOverAt.{HandOverAt}
 use Rattle.lot_rwlock_fair.specs.declared.hand_over.HandOverAt.TheVariants as handing
 use Rattle.lot_rwlock_fair.specs.declared.handed.HandedAt.{HandedAt}
 use Rattle.lot_rwlock_fair.specs.declared.handed.HandedAt.TheVariants as handed
-use Rattle.lot_rwlock_fair.specs.FairSteps.{any_taken, bump_next, enters_again, exchange_act, freed_next, given, gives_up_at, gives_way, glance_next, hand_over_act, hand_over_next, handed_act, handed_next, handed_woken, has_room, looked, released, took, call_act, call_next}
-use Rattle.lot_rwlock_fair.specs.FairProfiles.{bumping, call_profile, has_given, release_purpose, entry_purpose}
+use Rattle.lot_rwlock_fair.specs.FairSteps.{any_taken, bump_next, enters_again, exchange_act, gives_up_at, gives_way, glance_next, has_room, looked, released, took, call_act, call_next}
+use Rattle.lot_rwlock_fair.specs.FairProfiles.{bumping, call_profile, has_given, release_purpose}
 use Rattle.lot_rwlock_fair.specs.FairLaws.{next_rows}
 use Rattle.lot_rwlock_fair.specs.FairCalls.{CallStands, HandsOverAt, IsOfBump}
-use Rattle.abstract_locks.specs.Codes.{count_in, has_aside, has_parked, parked_in, aside_in}
-use Rattle.abstract_locks.specs.Locks.{Rules, Sort}
-use Rattle.abstract_locks.specs.Purposes.{Bumps}
-use Rattle.abstract_locks.specs.Sites.{has_readers}
+use Rattle.abstract_locks.specs.Codes.{bit, code, code_of, count_in, has_aside, has_parked, packed, parked_in, aside_in, writers}
+use Rattle.abstract_locks.specs.Locks.{Normal, Recursive, Rules, Sort, count, one_if_some, readers}
+use Rattle.abstract_locks.specs.Sites.{IsSite, Site, has_readers}
+use Rattle.abstract_locks.proofs.CodeLaws.{words_tell_true}
 use Rattle.lot_machine.specs.Machine.{State, word_at, reply_to}
 use Rattle.lot_world.specs.SitesOf.{rules_in}
 use Rattle.lot_world.specs.Owing.{line_let_in, tells_by}
@@ -75,7 +74,28 @@ CallOwesNext r a l word c n =
 abbrev pub IsOwners : ℕ → Type 0
 IsOwners word = has_parked word ≡ false → has_aside word ≡ false → word ≡ 8
 
-module _ (r : Rules) (readers : has_readers r.sort ≡ true) (a : Admission) (l word : ℕ) where
+pub owners_word : (r : Rules) (s : Site) (t : ℕ) → has_readers r.sort ≡ true → IsSite r s → s.lock.exclusive ≡ Some t → IsOwners (code r s)
+owners_word r s t shared site own parked aside = by_sort r.sort refl shared
+  where
+    alone : (s.lock.pending ≡ None) × (s.lock.upgradable ≡ None) × (readers s.lock ≡ 0)
+    alone = site.state.exclusive_alone t own
+
+    packed_so : packed (count s.lock) (writers s.lock) (one_if_some s.lock.upgradable) (bit s.aside_parked) (bit s.parked) ≡ 8
+    packed_so =
+        let e : one_if_some s.lock.exclusive ≡ 1 = ap one_if_some own in
+        let p : one_if_some s.lock.pending ≡ 0 = ap one_if_some alone.0 in
+        let u : one_if_some s.lock.upgradable ≡ 0 = ap one_if_some alone.1 in
+        let n : readers s.lock ≡ 0 = alone.2 in
+        let b : bit s.parked ≡ 0 = ap bit (sym (words_tell_true r s shared site).parked ∙ parked) in
+        let c : bit s.aside_parked ≡ 0 = ap bit (sym (words_tell_true r s shared site).aside ∙ aside) in
+        omega arith
+
+    by_sort : (sort : Sort) → r.sort ≡ sort → has_readers sort ≡ true → code r s ≡ 8
+    by_sort Normal e h = subst (λ sort. code_of sort r.limit s ≡ 8) (sym e) packed_so
+    by_sort Recursive e h = subst (λ sort. code_of sort r.limit s ≡ 8) (sym e) packed_so
+    by_sort sort e h = absurd (grind arith)
+
+module _ (r : Rules) (shared : has_readers r.sort ≡ true) (a : Admission) (l word : ℕ) where
   abbrev Owing : RwLockCallPlace → Next RwLockCallPlace → Type 0
   Owing c n = CallOwesNext r a l word c n
 
@@ -142,14 +162,14 @@ module _ (r : Rules) (readers : has_readers r.sort ≡ true) (a : Admission) (l 
         by_bump false = refl
 
     tells_up : (to : HandOverAt) → tells_at (up to) Main ≡ has_parked word
-    tells_up to = by_bump b ∙ parked_is r.sort word readers
+    tells_up to = by_bump b ∙ parked_is r.sort word shared
       where
         by_bump : (c : Bool) → tells_by r.sort (Some (release_purpose c Upgradable l)) Main word ≡ parked_in r.sort word
         by_bump true = refl
         by_bump false = refl
 
     tells_ex : (to : HandOverAt) → tells_at (ex to) Main ≡ (has_parked word || has_aside word)
-    tells_ex to = by_bump b ∙ (λ i. parked_is r.sort word readers i || aside_is r.sort word readers i)
+    tells_ex to = by_bump b ∙ (λ i. parked_is r.sort word shared i || aside_is r.sort word shared i)
       where
         by_bump : (c : Bool) → tells_by r.sort (Some (release_purpose c Exclusive l)) Main word ≡ (parked_in r.sort word || aside_in r.sort word)
         by_bump true = refl
@@ -211,7 +231,7 @@ module _ (r : Rules) (readers : has_readers r.sort ≡ true) (a : Admission) (l 
       either : (x : Access) (c : Bool) → gives_way a x word ≡ c → Owing (Glance x) (if c then next.At (gives_up_at x) else next.End Ok)
       either x false e = ended (Glance x) Ok
       either access.Exclusive true e = owes_on (Glance access.Exclusive) (next.At (HandOver access.Exclusive true handing.Enter)) Main refl refl
-          (inr ((inl (refl, refl), refl, ap (λ c. c || aside_in r.sort word) (parked_is r.sort word readers ∙ e)), refl))
+          (inr ((inl (refl, refl), refl, ap (λ c. c || aside_in r.sort word) (parked_is r.sort word shared ∙ e)), refl))
       either access.Upgradable true e = rests (Glance access.Upgradable) (next.At (HandOver access.Upgradable true handing.Load)) refl (λ m s looks. only m (looks ((refl, λ f. cc), refl)))
         where
           only : (m : Line) → act.Word l operation.Load ≡ act.Enter (One (key_of l m)) → ⊥
@@ -267,7 +287,7 @@ module _ (r : Rules) (readers : has_readers r.sort ≡ true) (a : Admission) (l 
       → Owing (Bump (of (purpose.Enter x Patient) again to)) (bump_next (purpose.Enter x Patient) (next_at a (of (purpose.Enter x Patient) again to) to told))
   again_owes x again to fits told = record {
     since = λ m h. inl (within_again x (next_at a p to told) (quiet_next (next_at a p to told) (before_quiet a p to (before_again x again to fits) told)) m h);
-    sees = λ m s step looks. absurd (shut_before r readers a l (purpose.Enter x Patient) again to fits (before_again x again to fits) (lets_plain a x again to s.0));
+    sees = λ m s step looks. absurd (shut_before r shared a l (purpose.Enter x Patient) again to fits (before_again x again to fits) (lets_plain a x again to s.0));
   }
     where
       p : RwLockPlace
@@ -283,13 +303,13 @@ module _ (r : Rules) (readers : has_readers r.sort ≡ true) (a : Admission) (l 
   leaving to = Bump (of (purpose.Release access.Shared) false to)
 
   line_shared : (to : RwLockAt) → line_by (leaving to) ≡ Second
-  line_shared to = ap (λ b. if b then Second else Main) readers
+  line_shared to = ap (λ b. if b then Second else Main) shared
 
   gave_owes : Owing (leaving at.GiveWay) (bump_next (purpose.Release access.Shared) (if has_aside word && (count_in word == 1) then next.At (of (purpose.Release access.Shared) false (at.Wake Second waking.Enter)) else next.End Ok))
   gave_owes = either (has_aside word && (count_in word == 1)) refl
     where
       tells : tells_at (leaving at.GiveWay) Second ≡ (has_aside word && (count_in word == 1))
-      tells = ap (λ b. b && (count_in word == 1)) (aside_is r.sort word readers)
+      tells = ap (λ b. b && (count_in word == 1)) (aside_is r.sort word shared)
 
       either : (c : Bool) → (has_aside word && (count_in word == 1)) ≡ c → Owing (leaving at.GiveWay) (bump_next (purpose.Release access.Shared) (if c then next.At (of (purpose.Release access.Shared) false (at.Wake Second waking.Enter)) else next.End Ok))
       either true e = owes_on (leaving at.GiveWay) (next.At (leaving (at.Wake Second waking.Enter))) Second refl (line_shared at.GiveWay) (inr ((inl (refl, refl), line_shared at.GiveWay, tells ∙ e), refl))

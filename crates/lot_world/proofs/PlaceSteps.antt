@@ -1,5 +1,5 @@
 -- What a step makes of what a thread owes, at each place.
-use Rattle.std.proofs.Common.{ℕ, false, Some, None, ◌≡◌, refl, sym, ap, subst}
+use Rattle.std.proofs.Common.{Bool, ℕ, false, Some, None, ◌≡◌, refl, sym, ap, subst}
 use Rattle.lot_calls.specs.declared.calls.Call.{Call}
 use Rattle.lot_calls.specs.declared.calls.Call as call
 use Rattle.lot_acts.specs.declared.acts.Reply.{Reply}
@@ -7,11 +7,10 @@ use Rattle.lot_acts.specs.declared.acts.Reply.TheVariants.{Late}
 use Rattle.lot_steps.specs.declared.places.Place.{Place}
 use Rattle.lot_steps.specs.declared.places.Place.TheVariants.{Idle, Mutex, RwLock}
 use Rattle.lot_acts.specs.Acts.{outcome_of}
-use Rattle.lot_mutex.specs.MutexSteps.{mutex_act}
 use Rattle.lot_calls.specs.declared.kinds.Kind.{Kind}
 use Rattle.lot_calls.specs.Kinds.{is_fair}
 use Rattle.lot_steps.specs.Steps.{act_of, next_act, next_place, first_place, lock_of, line_owed, profile, rwlock_does, rwlock_goes}
-use Rattle.lot_machine.specs.Machine.{State, place_at, word_at, go_reply, go_outcome, kind_at, reply_to}
+use Rattle.lot_machine.specs.Machine.{State, place_at, word_at, kind_at, reply_to}
 use Rattle.abstract_locks.specs.Locks as locks
 use Rattle.lot_world.specs.Owing.{sort_at}
 use Rattle.abstract_locks.specs.Sites.{Line}
