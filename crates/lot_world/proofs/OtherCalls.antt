@@ -1,5 +1,5 @@
 -- What an act of one thread makes of the calls of the others: nothing, but where it wakes those in its hand or hands them the lock.
-use Rattle.std.proofs.Common.{ℕ, Bool, true, false, Option, Some, None, if◌then◌else◌, ◌≡◌, ◌≢◌, inl, inr, List, [], ◌∷◌, get_or, set, refl, sym, ◌∙◌, ap, subst, get_or-set_other, ◌==◌}
+use Rattle.std.proofs.Common.{ℕ, Bool, true, false, Option, Some, None, if◌then◌else◌, ◌≡◌, ◌≢◌, ◌⊎◌, inl, inr, List, [], ◌∷◌, get_or, set, refl, sym, ◌∙◌, ap, subst, get_or-set_other, ◌==◌}
 use Rattle.lot_base.specs.declared.wants.Want.TheVariants.{Exclusive}
 use Rattle.lot_base.specs.declared.wants.Want.{Want}
 use Rattle.lot_rwlock.specs.declared.places.Admission.{Admission}

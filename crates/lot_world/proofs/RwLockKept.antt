@@ -183,7 +183,7 @@ IsOwn (HandedBy u alone) = ⊥
 IsOwn (Woken HandOff) = ⊥
 IsOwn told = Unit {0}
 
-not_given : (b : Bool) (p : RwLockPlace) (told : Reply) → IsOwn told → given b p told ≡ None
+pub not_given : (b : Bool) (p : RwLockPlace) (told : Reply) → IsOwn told → given b p told ≡ None
 not_given b p (HandedBy u alone) h = absurd h
 not_given b p (Woken HandOff) h = absurd h
 not_given b p (Woken Normal) h = refl
