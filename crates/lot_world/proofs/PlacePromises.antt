@@ -112,7 +112,7 @@ module _ (w : State) (t : ℕ) (steady : IsSteady w) where
       by_place (RwLock k a c) is own =
           let here : k ≡ l = cc in
           let admitted : FitsItsLock w (RwLock k a c) = rw is at (steady.stands.calls t) in
-          subst (λ j. RowPromises (sort_at w j) j (call_profile a c) (call_act j a c)) here (call_promises (rules_in w k) a k c admitted.0 admitted.1)
+          subst (λ j. RowPromises (sort_at w j) j (call_profile a c) (call_act k a c)) here (call_promises (rules_in w k) a k c admitted.0 admitted.1)
 
   -- ---------------------------------------------------------------- where it stands
 

@@ -133,10 +133,13 @@ module _ (w : State) (t l : ℕ) (a : Admission) (c : RwLockCallPlace) (steady :
 
       by_act : (y : Act) → CallMoves l a.recursive (call_move a q) (call_hears a q) y → is_acting y ≡ true → (y ≡ act.Sleep → IsWaiting (call_profile a q) ⊎ WasHanded (rules_in behind l).sort l (call_profile a q)) → CallAwake (call_profile a q) y
           → (outcome_of y ≡ outcome.Step) ⊎ ((outcome_of y ≡ outcome.Sleep) × (1 ≤ standing t (lock_state behind l)))
-      by_act act.Sleep moves acting asleep awake = inr (refl, waiting_stands behind t happens_so.after l (ap lock_of e) (subst (λ (x : Profile). IsWaiting x) (sym (ap profile e)) (elim (asleep refl) [
-        | inl h ↦ h
-        | inr h ↦ absurd (awake h.by h.in_hand)
-      ])))
+      by_act act.Sleep moves acting asleep awake = inr (
+        refl,
+        waiting_stands behind t happens_so.after l (ap lock_of e) (subst (λ (x : Profile). IsWaiting x) (sym (ap profile e)) (elim (asleep refl) [
+          | inl h ↦ h
+          | inr h ↦ absurd (awake h.by h.in_hand)
+        ])),
+      )
       by_act (act.End answer) moves acting asleep awake = absurd cc
       by_act act.Rest moves acting asleep awake = absurd cc
       by_act (act.Closure state) moves acting asleep awake = absurd moves
