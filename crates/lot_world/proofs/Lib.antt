@@ -21,6 +21,7 @@ pub mod AnyPicked
 pub mod MovesKept
 pub mod HandsMoved
 pub mod InHand
+pub mod HandsCounted
 pub mod SitesKept
 pub mod RwLockKept
 pub mod SectionsKept
