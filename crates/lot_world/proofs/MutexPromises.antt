@@ -85,8 +85,8 @@ module _ (w : State) (l : ℕ) (kept : IsKept w) (of_mutex : is_mutex (kind_at w
 
   owing : (t : ℕ) → IsShownToOwe w t l ↔ (IsInside w t l Main ⊎ GoesToRelease w t l)
   owing t = (
-    (λ h. elim ((kept.owing t l Main).0 (shown t h)) [ inl i ↦ inl i | inr g ↦ inr (g.0, only_releases w l of_mutex t g.1) ]),
-    λ h. ap is_line ((kept.owing t l Main).1 (elim h [ inl i ↦ inl i | inr g ↦ inr (g.0, inl g.1) ])),
+    (λ h. elim ((kept.owing t l Main).0 (shown t h)) [ inl i ↦ inl i | inr g ↦ inr (g.0, elim g.1 [ inl lets ↦ only_releases w l of_mutex t lets | inr none ↦ absurd none ]) ]),
+    λ h. ap is_line ((kept.owing t l Main).1 (elim h [ inl i ↦ inl i | inr g ↦ inr (g.0, inl (inl g.1)) ])),
   )
 
   pub mutex_kept : IsMutexKept w l

@@ -3,6 +3,7 @@
 use Rattle.std.proofs.Common.{ℕ, Bool, true, false, Option, Some, None, if◌then◌else◌, ◌≡◌, ◌≢◌, ◌*◌, ◌⊎◌}
 use Rattle.lot_base.specs.declared.keys.Keys.TheVariants.{One}
 use Rattle.lot_base.specs.declared.notes.Note.TheVariants as note
+use Rattle.lot_base.specs.declared.wants.Want.{Want}
 use Rattle.lot_base.specs.declared.wants.Want.TheVariants.{Exclusive}
 use Rattle.lot_calls.specs.declared.outcomes.Outcome.{Outcome}
 use Rattle.lot_calls.specs.declared.outcomes.Outcome.TheVariants as told
@@ -17,10 +18,10 @@ use Rattle.lot_steps.specs.Steps.{act_of, profile}
 use Rattle.abstract_locks.specs.Locks.{Sort, Taken}
 use Rattle.abstract_locks.specs.Purposes.{Purpose, Enters, Releases, Converts, Bumps, MayWait, IsReleasing}
 use Rattle.abstract_locks.specs.Runs.{IsTimed}
-use Rattle.abstract_locks.specs.Sites.{Doing, Line, Main, Second, Has, Pends, IsDebtor, counts_some, has_readers}
+use Rattle.abstract_locks.specs.Sites.{Claim, Doing, Line, Main, Second, Has, Pends, IsDebtor, counts_some, has_readers}
 use Rattle.lot_world.specs.SitesOf.{key_of}
 use Rattle.lot_world.specs.Owing.{IsDowngrade, line_let_in, tells_of}
-use Rattle.lot_world.specs.Promises.{KnowsRights, WakesWaiters, want_of}
+use Rattle.lot_world.specs.Promises.{KnowsRights, WakesAside, WakesWaiters, want_of}
 
 -- what a thread in a call does
 abbrev pub is_acting : Act → Bool
@@ -55,9 +56,19 @@ taken_of row = taken_from row.hand row.wants true
 abbrev pub IsWaiting : Profile → Type 0
 IsWaiting row = (row.stands ≢ None) ⊎ (taken_of row ≢ None)
 
--- it was handed the lock
-abbrev pub WasHanded : Profile → Type 0
-WasHanded row = (u : ℕ) × (row.hand ≡ hand u true) × (row.doing.claims ≡ Some (Has Exclusive))
+-- it has this right, or, to a lock that is shared, its pending one
+abbrev pub HasClaimed : Sort → Option Claim → Want → Type 0
+HasClaimed sort claims x =
+    (claims ≡ Some (Has x)) ⊎ ((x ≡ Exclusive) × (has_readers sort ≡ true) × ((b : Bool) × (claims ≡ Some (Pends b))))
+
+-- it was handed what it waited for
+pub record WasHanded (sort : Sort) (l : ℕ) (row : Profile) : Type 0 where
+  pub by : ℕ
+  pub in_hand : row.hand ≡ hand by true
+  pub waited : MayWait (Some (row.purpose l)) l
+  pub want : Want
+  pub wants : want_of (Some (row.purpose l)) ≡ Some want
+  pub has : HasClaimed sort row.doing.claims want
 
 -- its call lets others in
 abbrev pub LetsIn : Sort → ℕ → Profile → Type 0
@@ -65,11 +76,15 @@ LetsIn sort l row =
     IsReleasing (Some (row.purpose l)) row.released l
     ⊎ ((has_readers sort ≡ true) × (IsDowngrade (Some (row.purpose l)) l ⊎ ((row.gave_up ≡ true) × (row.doing.inside ≡ None))))
 
+-- on its way into the section of this line
+abbrev pub LetsInAt : Sort → ℕ → Profile → Line → Type 0
+LetsInAt sort l row m = LetsIn sort l row ⊎ WakesAside (Some (row.purpose l)) l m
+
 -- who owes a wake on a line is inside its section, or lets others in and is on its way into it
 pub record RowOwes (sort : Sort) (l : ℕ) (row : Profile) (a : Act) : Type 0 where
-  pub owes : (m : Line) → row.owes ≡ Some m → (row.doing.inside ≡ Some m) ⊎ ((a ≡ Enter (One (key_of l m))) × LetsIn sort l row)
+  pub owes : (m : Line) → row.owes ≡ Some m → (row.doing.inside ≡ Some m) ⊎ ((a ≡ Enter (One (key_of l m))) × LetsInAt sort l row m)
   pub inside : (m : Line) → row.doing.inside ≡ Some m → row.owes ≡ Some m
-  pub entering : (m : Line) → a ≡ Enter (One (key_of l m)) → LetsIn sort l row → row.owes ≡ Some m
+  pub entering : (m : Line) → a ≡ Enter (One (key_of l m)) → LetsInAt sort l row m → row.owes ≡ Some m
   pub second : row.owes ≡ Some Second → has_readers sort ≡ true
 
 -- it is to look after the waiters of a line, by what it does
@@ -110,7 +125,7 @@ pub record RowPromises (sort : Sort) (l : ℕ) (row : Profile) (a : Act) : Type 
   pub aside : row.stands ≡ Some Second → (b : Bool) × (row.doing.claims ≡ Some (Pends b))
   pub owing : RowOwes sort l row a
   pub debtor : (m : Line) → IsDebtorIn sort row.doing m → (row.doing.claims ≡ Some (Has Exclusive) → ⊥) → RowLooksAfter sort l row a m
-  pub asleep : a ≡ Sleep → IsWaiting row ⊎ WasHanded row
+  pub asleep : a ≡ Sleep → IsWaiting row ⊎ WasHanded sort l row
   -- who has handed the lock over leaves its section next, and tells so
   pub tells : row.carries ≡ Some true → (a ≡ Leave (One (2 * l)) (wakes.TheVariants.All note.HandOff)) × (row.doing.inside ≡ Some Main)
   pub late : (m : Line) → row.late_line ≡ Some m → RowIsLate sort l row a m
