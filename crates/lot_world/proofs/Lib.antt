@@ -46,6 +46,7 @@ pub mod OtherCalls
 pub mod MutexEvents
 pub mod MutexOwing
 pub mod RwLockOwing
+pub mod CallOwing
 pub mod PlaceSteps
 pub mod Possible
 pub mod RwLockEvents

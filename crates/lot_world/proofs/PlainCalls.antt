@@ -1,5 +1,5 @@
 -- A thread in a call of a reader-writer lock that hands nothing over, and is handed nothing, goes where its call does.
-use Rattle.std.proofs.Common.{ℕ, Bool, true, false, Option, Some, None, ◌≡◌, refl, ap}
+use Rattle.std.proofs.Common.{ℕ, Bool, false, Option, None, ◌≡◌, refl, ap}
 use Rattle.lot_acts.specs.declared.acts.Act.{Act}
 use Rattle.lot_acts.specs.declared.acts.Act.TheVariants as act
 use Rattle.lot_acts.specs.declared.acts.Whom.TheVariants as whom

@@ -1,6 +1,6 @@
 -- What the row of a place, and what its thread does next, must say, so that each state keeps what is promised of the thread: whatever the
 -- sort of its lock.
-use Rattle.std.proofs.Common.{ℕ, Bool, true, false, Option, Some, None, if◌then◌else◌, ◌≡◌, ◌≢◌, ◌*◌, ◌⊎◌}
+use Rattle.std.proofs.Common.{ℕ, Bool, true, false, Option, Some, None, if◌then◌else◌, ◌||◌, ◌≡◌, ◌≢◌, ◌*◌, ◌⊎◌, inl, inr, refl, sym, ◌∙◌}
 use Rattle.lot_base.specs.declared.keys.Keys.TheVariants.{One}
 use Rattle.lot_base.specs.declared.notes.Note.TheVariants as note
 use Rattle.lot_base.specs.declared.wants.Want.{Want}
@@ -15,12 +15,14 @@ use Rattle.lot_acts.specs.declared.acts.Reply.TheVariants.{TakenBy, MovedTo, Han
 use Rattle.lot_acts.specs.Profiles.{Profile, hand, taken_from}
 use Rattle.lot_steps.specs.declared.places.Place.{Place}
 use Rattle.lot_steps.specs.Steps.{act_of, profile}
+use Rattle.abstract_locks.specs.Codes.{parked_in}
 use Rattle.abstract_locks.specs.Locks.{Sort, Taken}
+use Rattle.abstract_locks.specs.Locks as sorts
 use Rattle.abstract_locks.specs.Purposes.{Purpose, Enters, Releases, Converts, Bumps, MayWait, IsReleasing}
 use Rattle.abstract_locks.specs.Runs.{IsTimed}
 use Rattle.abstract_locks.specs.Sites.{Claim, Doing, Line, Main, Second, Has, Pends, IsDebtor, counts_some, has_readers}
 use Rattle.lot_world.specs.SitesOf.{key_of}
-use Rattle.lot_world.specs.Owing.{IsDowngrade, line_let_in, tells_of}
+use Rattle.lot_world.specs.Owing.{IsDowngrade, LooksFirst, line_let_in, tells_by, tells_of}
 use Rattle.lot_world.specs.Promises.{KnowsRights, WakesAside, WakesWaiters, want_of}
 
 -- what a thread in a call does
@@ -142,6 +144,57 @@ RowSees sort l word row m =
 pub record RowOwesNext (sort : Sort) (l word : ℕ) (row : Profile) (o : Outcome) (next : Profile) : Type 0 where
   pub since : (m : Line) → next.owes ≡ Some m → (next.doing.inside ≡ Some m) ⊎ (RowSees sort l word row m × (o ≡ told.Step))
   pub sees : (m : Line) → RowSees sort l word row m → o ≡ told.Step → next.owes ≡ Some m
+
+-- the word says so by what its call is for
+abbrev pub RowFinds : Sort → ℕ → ℕ → Profile → Line → Type 0
+RowFinds sort l word row m =
+    LetsIn sort l row × (line_let_in sort (Some (row.purpose l)) ≡ m)
+    × (tells_by sort (Some (row.purpose l)) m word ≡ true)
+
+-- it only looked
+abbrev pub RowLooks : ℕ → Profile → Type 0
+RowLooks l row = LooksFirst (Some (row.purpose l)) l × (row.released ≡ false)
+
+-- and a thread that may hand its lock over, or bump, which does this next
+pub record RowOwesThen (sort : Sort) (l word : ℕ) (row : Profile) (o : Outcome) (next : Profile) (a : Act) : Type 0 where
+  pub since : (m : Line) → next.owes ≡ Some m → (next.doing.inside ≡ Some m) ⊎ (RowFinds sort l word row m × (o ≡ told.Step))
+  pub sees : (m : Line) → RowFinds sort l word row m → o ≡ told.Step → (RowLooks l next → a ≡ Enter (One (key_of l m))) → next.owes ≡ Some m
+
+or_none : (b : Bool) → (b || false) ≡ b
+or_none true = refl
+or_none false = refl
+
+-- a mutex has no second bit
+pub mutex_tells : (q : Option Purpose) (m : Line) (v : ℕ) → tells_by sorts.Mutex q m v ≡ tells_of sorts.Mutex m v
+mutex_tells None m v = refl
+mutex_tells (Some (Enters l x how)) m v = refl
+mutex_tells (Some (Converts l x y how)) m v = refl
+mutex_tells (Some (Releases l x false)) m v = by_right x m
+  where
+    by_right : (x : Want) (m : Line) → tells_by sorts.Mutex (Some (Releases l x false)) m v ≡ tells_of sorts.Mutex m v
+    by_right Exclusive Main = refl
+    by_right Exclusive Second = refl
+    by_right x m = refl
+mutex_tells (Some (Releases l x true)) m v = by_right x m
+  where
+    by_right : (x : Want) (m : Line) → tells_by sorts.Mutex (Some (Releases l x true)) m v ≡ tells_of sorts.Mutex m v
+    by_right Exclusive Main = or_none (parked_in sorts.Mutex v)
+    by_right Exclusive Second = refl
+    by_right x m = refl
+mutex_tells (Some (Bumps l x)) m v = by_right x m
+  where
+    by_right : (x : Want) (m : Line) → tells_by sorts.Mutex (Some (Bumps l x)) m v ≡ tells_of sorts.Mutex m v
+    by_right Exclusive Main = or_none (parked_in sorts.Mutex v)
+    by_right Exclusive Second = refl
+    by_right x m = refl
+
+-- who looks nowhere first owes since it saw waiters
+pub owes_then : {sort : Sort} {l word : ℕ} {row : Profile} {o : Outcome} {next : Profile} {a : Act}
+    → ((m : Line) → tells_by sort (Some (row.purpose l)) m word ≡ tells_of sort m word) → RowOwesNext sort l word row o next → RowOwesThen sort l word row o next a
+owes_then same k = record {
+  since = λ m h. elim (k.since m h) [ inl i ↦ inl i | inr s ↦ inr ((s.0.0, s.0.1, same m ∙ s.0.2), s.1) ];
+  sees = λ m s step looks. k.sees m (s.0, s.1, sym (same m) ∙ s.2) step;
+}
 
 -- whose time is up is then awake, inside the section of the line where it slept
 pub record IsLateNext (q : Place) (m : Line) : Type 0 where

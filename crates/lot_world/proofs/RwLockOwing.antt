@@ -52,7 +52,7 @@ use Rattle.lot_steps.specs.declared.places.Place.TheVariants.{RwLock}
 use Rattle.lot_steps.specs.Steps.{next_place, line_owed, profile, rwlock_goes}
 use Rattle.lot_machine.specs.Machine.{State, word_at, reply_to}
 use Rattle.lot_world.specs.SitesOf.{rules_in}
-use Rattle.lot_world.specs.Owing.{line_let_in, tells_of}
+use Rattle.lot_world.specs.Owing.{line_let_in, tells_by, tells_of}
 use Rattle.lot_world.proofs.PlainCalls.{plain_goes, plain_does}
 use Rattle.lot_world.proofs.RowPromises.{LetsIn, RowOwesNext, IsLateNext, Befalls}
 use Rattle.lot_world.proofs.RwLockRows.{of, row_of, IsBefore, lesser, shut, shut_before, parking_inside, some_line}
@@ -256,12 +256,12 @@ module _ (l : ℕ) (a : Admission) (r : Reply) (k : ℕ) where
 -- ---------------------------------------------------------------- the thread of the step
 
 -- it owes only where it is inside
-abbrev IsWithin : Next RwLockPlace → Type 0
+abbrev pub IsWithin : Next RwLockPlace → Type 0
 IsWithin (next.At p) = (m : Line) → owes_at p.at ≡ Some m → (rwlock_doing p).inside ≡ Some m
 IsWithin (next.End x) = Unit {0}
 
 -- at a place that is no wake's
-abbrev IsQuiet : RwLockAt → Type 0
+abbrev pub IsQuiet : RwLockAt → Type 0
 IsQuiet (at.Wake m to) = ⊥
 IsQuiet to = Unit {0}
 
@@ -272,11 +272,11 @@ quiet_within q again (at.Wake n to) h m e = absurd h
 quiet_within q again to h m e = absurd cc
 
 -- it goes on to no wake
-abbrev IsQuietNext : Next RwLockPlace → Type 0
+abbrev pub IsQuietNext : Next RwLockPlace → Type 0
 IsQuietNext (next.At p) = IsQuiet p.at
 IsQuietNext (next.End x) = Unit {0}
 
-quiet_next : (n : Next RwLockPlace) → IsQuietNext n → IsWithin n
+pub quiet_next : (n : Next RwLockPlace) → IsQuietNext n → IsWithin n
 quiet_next (next.At p) h = quiet_within p.purpose p.retries p.at h
 quiet_next (next.End x) h = tt
 
@@ -334,7 +334,7 @@ park_quiet p Second parking.GiveUp reply.Done = tt
 park_quiet p m to told = at_parks m to
 
 -- before it gives up or gives way, whatever it is told
-before_quiet : (a : Admission) (p : RwLockPlace) (to : RwLockAt) → IsBefore to → (told : Reply) → IsQuietNext (next_at a p to told)
+pub before_quiet : (a : Admission) (p : RwLockPlace) (to : RwLockAt) → IsBefore to → (told : Reply) → IsQuietNext (next_at a p to told)
 before_quiet a p at.First h (reply.Value seen) = if_quiet (seen == 0) (next.End (entered (patience_at p))) (missed p (patience_at p)) tt (missed_quiet p (patience_at p))
 before_quiet a p at.First h told = tt
 before_quiet a p at.Load h (reply.Value seen) = looked_quiet p seen (decided a p seen)
@@ -354,15 +354,24 @@ before_quiet a p (at.Aside to) h told = park_quiet p Second to told
 before_quiet a p to h told = absurd h
 
 -- the parked bits are those of a reader-writer lock
-parked_is : (s : Sort) (v : ℕ) → has_readers s ≡ true → parked_in s v ≡ has_parked v
+pub parked_is : (s : Sort) (v : ℕ) → has_readers s ≡ true → parked_in s v ≡ has_parked v
 parked_is sorts.Normal v e = refl
 parked_is sorts.Recursive v e = refl
 parked_is s v e = absurd cc
 
-aside_is : (s : Sort) (v : ℕ) → has_readers s ≡ true → aside_in s v ≡ has_aside v
+pub aside_is : (s : Sort) (v : ℕ) → has_readers s ≡ true → aside_in s v ≡ has_aside v
 aside_is sorts.Normal v e = refl
 aside_is sorts.Recursive v e = refl
 aside_is s v e = absurd cc
+
+-- a call that hands nothing over sees waiters by their own bits
+pub plain_tells : (s : Sort) (l : ℕ) (q : RwLockPurpose) (m : Line) (v : ℕ) → tells_by s (Some (purpose_by q l)) m v ≡ tells_of s m v
+plain_tells s l (purpose.Enter x how) m v = refl
+plain_tells s l (purpose.Release access.Shared) m v = refl
+plain_tells s l (purpose.Release access.Upgradable) m v = refl
+plain_tells s l (purpose.Release access.Exclusive) m v = refl
+plain_tells s l (purpose.Downgrade d) m v = refl
+plain_tells s l (purpose.Upgrade how) m v = refl
 
 -- where the reply leads a thread
 abbrev pub OwesNext : Rules → Admission → ℕ → ℕ → RwLockPlace → Next RwLockPlace → Type 0
