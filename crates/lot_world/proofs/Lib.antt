@@ -24,6 +24,7 @@ pub mod InHand
 pub mod HandsCounted
 pub mod SitesKept
 pub mod RwLockKept
+pub mod HandsOn
 pub mod SectionsKept
 pub mod GoneKept
 pub mod Looking

@@ -147,14 +147,14 @@ module _ (a : Admission) (p : RwLockPlace) where
 
 -- in any call
 module _ (a : Admission) where
-  call_told_other : (c : RwLockCallPlace) (told : Reply) → IsOther told → CallMayBeTold a c told
+  pub call_told_other : (c : RwLockCallPlace) (told : Reply) → IsOther told → CallMayBeTold a c told
   call_told_other (Plain p) told h = told_other a p p.at told h
   call_told_other (Bump p) told h = told_other a p p.at told h
   call_told_other (Glance x) told h = tt
   call_told_other (HandOver x b to) told h = tt
   call_told_other (Handed x how b to) told h = tt
 
-  call_told_value : (c : RwLockCallPlace) (v : ℕ) → v < 2 ^ 64 → CallMayBeTold a c (Value v)
+  pub call_told_value : (c : RwLockCallPlace) (v : ℕ) → v < 2 ^ 64 → CallMayBeTold a c (Value v)
   call_told_value (Plain p) v h = told_value a p p.at v h
   call_told_value (Bump p) v h = told_value a p p.at v h
   call_told_value (Glance x) v h = tt
@@ -218,7 +218,7 @@ module _ (a : Admission) where
 -- ---------------------------------------------------------------- words
 
 -- the word of a lock with room has 64 bits
-word_few : (r : Rules) (s : Site) → has_readers r.sort ≡ true → IsSite r s → r.limit < 2 ^ 60 - 1 → HasLimit r s.lock → code r s < 2 ^ 64
+pub word_few : (r : Rules) (s : Site) → has_readers r.sort ≡ true → IsSite r s → r.limit < 2 ^ 60 - 1 → HasLimit r s.lock → code r s < 2 ^ 64
 word_few r s readers site room limit = by_sort r.sort refl readers
   where
     one : s.lock.exclusive ≡ None → writers s.lock ≤ 1
@@ -306,42 +306,42 @@ left_wakes ds h = absurd h
 -- ---------------------------------------------------------------- one thread
 
 module _ (w : State) (t l : ℕ) (a : Admission) (c : RwLockCallPlace) (steady : IsSteady w) (shape : IsShaped w) (there : t < length w.places) (lt : l < length w.locks) (is : place_at w t ≡ RwLock l a c) where
-  fits_now : FitsItsLock w (RwLock l a c)
+  pub fits_now : FitsItsLock w (RwLock l a c)
   fits_now = subst (FitsItsLock w) is (steady.stands.calls t)
 
-  admits : Admits (rules_in w l) a
+  pub admits : Admits (rules_in w l) a
   admits = fits_now.0
 
-  stands : CallStands a c
+  pub stands : CallStands a c
   stands = fits_now.1
 
-  own : IsOf l (place_at w t)
+  pub own : IsOf l (place_at w t)
   own = rw is refl
 
-  same_row : profile (place_at w t) ≡ call_profile a c
+  pub same_row : profile (place_at w t) ≡ call_profile a c
   same_row = ap profile is
 
   abbrev here : Site
   here = lock_by w l (rules_in w l)
 
-  site : IsSite (rules_in w l) here
+  pub site : IsSite (rules_in w l) here
   site = steady.sites.site l
 
-  doing_now : here.doing t ≡ call_doing c
+  pub doing_now : here.doing t ≡ call_doing c
   doing_now = doing_here l (place_at w t) own ∙ ap (λ (y : Profile). y.doing) same_row ∙ doing_row a c
 
-  at_now : IsInCall (rules_in w l) a here t c
+  pub at_now : IsInCall (rules_in w l) a here t c
   at_now = record { admits = admits; site = site; doing = doing_now; stands = stands; there = subst (λ n. t < n) (sym (steady.numbers.threads l)) there }
 
-  fits_next : (k : ℕ) (b : Admission) (n : Next RwLockCallPlace) → Admits (rules_in w k) b → CallStandsNext b n → AreBuilt n → FitsItsLock w (rwlock_goes k b n)
-  fits_next k b (next.At q) admits stands built = (admits, stands, built)
-  fits_next k b (next.End answer) admits stands built = tt
+  pub fits_next : (k : ℕ) (b : Admission) (n : Next RwLockCallPlace) → Admits (rules_in w k) b → CallStandsNext b n → AreBuilt n → FitsItsLock w (rwlock_goes k b n)
+  fits_next k b (next.At q) admitted may built = (admitted, may, built)
+  fits_next k b (next.End answer) admitted may built = tt
 
   -- what its laws conclude
   abbrev Followed : Option ℕ → Reply → Type 0
   Followed whom told = IsFollowed w t l steady there own (rules_in w l) refl admits.0 (call_move a c) same_row whom told (next_place (place_at w t) told)
 
-  followed_by : (whom : Option ℕ) (told : Reply) → laws.AllNeeded (rules_in w l) (call_deeds a c whom told) here t → (laws.after_all (rules_in w l) (call_deeds a c whom told) here t).doing t ≡ call_doing_next (call_next a c told) → IsOwn told → CallMayBeTold a c told → Followed whom told
+  pub followed_by : (whom : Option ℕ) (told : Reply) → laws.AllNeeded (rules_in w l) (call_deeds a c whom told) here t → (laws.after_all (rules_in w l) (call_deeds a c whom told) here t).doing t ≡ call_doing_next (call_next a c told) → IsOwn told → CallMayBeTold a c told → Followed whom told
   followed_by whom told needed does own_told may = record {
     of = next_of l (place_at w t) told own;
     fits = subst (λ q. FitsItsLock w (next_place q told)) (sym is) (fits_next l a (call_next a c told) admits (fair_calls_stand a c told stands may) (built_next a c told own_told fits_now.2));
@@ -355,7 +355,7 @@ module _ (w : State) (t l : ℕ) (a : Admission) (c : RwLockCallPlace) (steady :
 
   -- ---------------------------------------------------------------- who else calls the lock
 
-  of_no_mutex : (u k : ℕ) (m : MutexPlace) → place_at w u ≡ Mutex k m → k ≡ l → ⊥
+  pub of_no_mutex : (u k : ℕ) (m : MutexPlace) → place_at w u ≡ Mutex k m → k ≡ l → ⊥
   of_no_mutex u k m e same_lock =
       let of_mutex : is_mutex (kind_at w k) ≡ true = subst (FitsItsLock w) e (steady.stands.calls u) in
       let none : has_readers (rules_in w k).sort ≡ false = ap (λ (r : Rules). has_readers r.sort) (mutex_rules (kind_at w k) of_mutex) in
@@ -406,7 +406,7 @@ module _ (w : State) (t l : ℕ) (a : Admission) (c : RwLockCallPlace) (steady :
   line_there : (m : Line) → key_of l m < length w.queues
   line_there m = let e : length w.queues ≡ length w.sections = shape.queues in let h : key_of l m < length w.sections = section_there m in omega arith
 
-  word_is : word_at w l ≡ code (rules_in w l) here
+  pub word_is : word_at w l ≡ code (rules_in w l) here
   word_is = steady.sites.word l
 
   -- one operation on the word
