@@ -352,11 +352,11 @@ module _ (t l : ℕ) (a : Admission) where
       either true c = leads_step w t (Ends p.purpose) 2 c.0 (wakes_clear p m any v _ q c.1)
       either false c = leads_more 2 3 w t (Ends p.purpose) (omega arith) (leads_step w t (Ends p.purpose) 1 c.0 (wakes_leave p m any v _ q c.1))
 
-  taken_word : (b : State) (x : Option ℕ) → word_at (state_after_taking b t x) l ≡ word_at b l
+  pub taken_word : (b : State) (x : Option ℕ) → word_at (state_after_taking b t x) l ≡ word_at b l
   taken_word b None = refl
   taken_word b (Some u) = refl
 
-  taken_sections : (b : State) (x : Option ℕ) (k : ℕ) → section_at (state_after_taking b t x) k ≡ section_at b k
+  pub taken_sections : (b : State) (x : Option ℕ) (k : ℕ) → section_at (state_after_taking b t x) k ≡ section_at b k
   taken_sections b None k = refl
   taken_sections b (Some u) k = refl
 
@@ -532,7 +532,7 @@ module _ (t l : ℕ) (a : Admission) where
       either false e = by_word (v == x) refl e (word_comes w t l _ v q f (op.Exchange x (plus x 2)) (ap (λ (b : Bool). if b then act.Enter (One (2 * l + 1)) else exchange l x (plus x 2)) e))
 
   -- awake, and with something to do
-  abbrev IsReady : RwLockPlace → RwLockAt → Type 0
+  abbrev pub IsReady : RwLockPlace → RwLockAt → Type 0
   IsReady p (at.Decide seen) = IsNoRefusal (decided a p seen)
   IsReady p (at.Park x) = IsUp x × IsWaiting p.purpose
   IsReady p (at.Aside x) = IsUp x × IsWaiting p.purpose
