@@ -34,7 +34,9 @@ use Rattle.lot_rwlock.specs.RwLockSteps.{decided, decided_act, exchange, plus, r
 use Rattle.lot_rwlock.specs.RwLockCalls.{IsDecided, IsNoRefusal, MayBeTold, MayStand, MayStandNext, ParksBy, StandsAt}
 use Rattle.lot_rwlock.proofs.RwLockStands.{rwlock_calls_stand}
 use Rattle.lot_rwlock_fair.specs.declared.places.RwLockCallPlace.{RwLockCallPlace}
-use Rattle.lot_rwlock_fair.specs.declared.places.RwLockCallPlace.TheVariants.{Plain, Bump}
+use Rattle.lot_rwlock_fair.specs.declared.places.RwLockCallPlace.TheVariants.{Plain, Glance, HandOver, Bump, Handed}
+use Rattle.lot_rwlock_fair.specs.declared.handed.HandedAt.TheVariants as handed
+use Rattle.lot_rwlock_fair.specs.FairCalls.{CallStands, IsOfBump}
 use Rattle.lot_rwlock_fair.specs.FairSteps.{bump_next, enters_again, plain_next, unless_given}
 use Rattle.lot_rwlock_fair.proofs.FairStands.{StaysFor, stays_for}
 use Rattle.abstract_locks.specs.Codes.{has_aside}
@@ -53,10 +55,10 @@ use Rattle.lot_world.proofs.Glue.{parts_at}
 use Rattle.lot_world.proofs.OneStep.{steps_by}
 use Rattle.lot_world.proofs.PlainCalls.{never_given}
 use Rattle.lot_world.proofs.RwLockRows.{of}
-use Rattle.lot_world.proofs.RwLockSolo.{IsReady, rwlock_rests, word_small}
-use Rattle.lot_world.proofs.SoloActs.{Leads}
+use Rattle.lot_world.proofs.RwLockSolo.{is_ready, rwlock_rests, word_small}
+use Rattle.lot_world.proofs.SoloActs.{Leads, leads_more}
 use Rattle.lot_world.proofs.LineSolo.{StepsAlone}
-use Rattle.lot_world.proofs.CallSolo.{EntersAgain, Shares, shares_on}
+use Rattle.lot_world.proofs.CallSolo.{EntersAgain, Shares, shares_on, accepts_rest, gives_rest, glance_rests, hands_over_rest, wakes_rest}
 use Rattle.lot_world.proofs.TurnsKept.{after_steady}
 
 set_set : {A : Type 0} (xs : List A) (i : ℕ) (y z : A) → set (set xs i y) i z ≡ set xs i z
@@ -385,45 +387,53 @@ module _ (t l : ℕ) (a : Admission) where
       (ap (λ q. taken_at q l) is) refl refl refl refl (sym (ap (λ q. doing_on q l) is)))
       (sym (ap station is)))
 
-  pub enters_again_rests : EntersAgain t l a
-  enters_again_rests x v w q shares small f = λ k last enough. subst Rests (same_run t l a x k w false (begin_at x) last g) (rwlock_rests t l a (of (purpose.Enter x Patient) false (begin_at x)) v plain_w q small (ready x) alone k last enough)
+  entry_rests : (x : Access) (retries : Bool) (to : RwLockAt) (v : ℕ) (w : State) (q : Line → List Waiter) → Shares t l a w → v < 2 ^ 64 → MayStand a (of (purpose.Enter x Patient) retries to)
+      → rwlock_act l a (of (purpose.Enter x Patient) retries to) ≢ act.Sleep → StepsAlone w t l (RwLock l a (Bump (of (purpose.Enter x Patient) retries to))) v q → Leads 11 w t (λ s o. Rests o)
+  entry_rests x retries to v w q shares small may up f = λ k last enough. subst Rests (same_run t l a x k w retries to last g) (rwlock_rests t l a entry v plain_w q small (is_ready t l a entry may up) alone k last enough)
     where
-      begin_at : Access → RwLockAt
-      begin_at access.Exclusive = at.First
-      begin_at y = at.Load
+      entry : RwLockPlace
+      entry = of (purpose.Enter x Patient) retries to
 
-      first_is : (y : Access) → enters_again y ≡ Bump (of (purpose.Enter y Patient) false (begin_at y))
-      first_is access.Exclusive = refl
-      first_is access.Shared = refl
-      first_is access.Upgradable = refl
-
-      may : (y : Access) → MayStand a (of (purpose.Enter y Patient) false (begin_at y))
-      may access.Exclusive = record { place = tt; fresh = tt; decided = tt }
-      may access.Shared = record { place = tt; fresh = tt; decided = tt }
-      may access.Upgradable = record { place = tt; fresh = tt; decided = tt }
-
-      ready : (y : Access) → IsReady t l a (of (purpose.Enter y Patient) false (begin_at y)) (begin_at y)
-      ready access.Exclusive = tt
-      ready access.Shared = tt
-      ready access.Upgradable = tt
-
-      place_is : place_at w t ≡ RwLock l a (Bump (of (purpose.Enter x Patient) false (begin_at x)))
-      place_is = f.place ∙ ap (RwLock l a) (first_is x)
-
-      g : Again t l a x w false (begin_at x)
-      g = record { shape = f.shape; steady = f.steady; shares = shares; thread = f.thread; place = place_is; stands = may x }
+      g : Again t l a x w retries to
+      g = record { shape = f.shape; steady = f.steady; shares = shares; thread = f.thread; place = f.place; stands = may }
 
       plain_w : State
-      plain_w = as_plain w t l a (of (purpose.Enter x Patient) false (begin_at x))
+      plain_w = as_plain w t l a entry
 
-      alone : StepsAlone plain_w t l (RwLock l a (Plain (of (purpose.Enter x Patient) false (begin_at x)))) v q
+      alone : StepsAlone plain_w t l (RwLock l a (Plain entry)) v q
       alone = record {
-        shape = put_shaped w t (RwLock l a (Plain (of (purpose.Enter x Patient) false (begin_at x)))) f.shape f.lock;
-        steady = plain_steady w (of (purpose.Enter x Patient) false (begin_at x)) f.steady f.thread place_is shares (may x);
-        thread = rw (length-set w.places t (RwLock l a (Plain (of (purpose.Enter x Patient) false (begin_at x))))) f.thread;
+        shape = put_shaped w t (RwLock l a (Plain entry)) f.shape f.lock;
+        steady = plain_steady w entry f.steady f.thread f.place shares may;
+        thread = rw (length-set w.places t (RwLock l a (Plain entry))) f.thread;
         lock = f.lock;
-        place = get_or-set_same w.places t (RwLock l a (Plain (of (purpose.Enter x Patient) false (begin_at x)))) Idle f.thread;
+        place = get_or-set_same w.places t (RwLock l a (Plain entry)) Idle f.thread;
         word = f.word;
         queue = f.queue;
         way = f.way;
       }
+
+  enters_again_rests : EntersAgain t l a
+  enters_again_rests access.Exclusive v w q shares small f = entry_rests access.Exclusive false at.First v w q shares small (record { place = tt; fresh = tt; decided = tt }) (λ e. cc) f
+  enters_again_rests access.Shared v w q shares small f = entry_rests access.Shared false at.Load v w q shares small (record { place = tt; fresh = tt; decided = tt }) (λ e. cc) f
+  enters_again_rests access.Upgradable v w q shares small f = entry_rests access.Upgradable false at.Load v w q shares small (record { place = tt; fresh = tt; decided = tt }) (λ e. cc) f
+
+  bump_rests : (q : RwLockPurpose) (retries : Bool) (to : RwLockAt) (v : ℕ) (w : State) (line : Line → List Waiter) → Shares t l a w → v < 2 ^ 64 → MayStand a (of q retries to) → IsOfBump q retries
+      → rwlock_act l a (of q retries to) ≢ act.Sleep → StepsAlone w t l (RwLock l a (Bump (of q retries to))) v line → Leads 18 w t (λ s o. Rests o)
+  bump_rests (purpose.Enter x Patient) retries to v w line shares small may bump up f = leads_more 11 18 w t (λ s o. Rests o) (omega arith) (entry_rests x retries to v w line shares small may up f)
+  bump_rests (purpose.Release access.Shared) true to v w line shares small may bump up f = absurd (let e : true ≡ false = bump in cc)
+  bump_rests (purpose.Release access.Shared) false to v w line shares small may bump up f = by_place to may.place f
+    where
+      by_place : (to : RwLockAt) → StandsAt (purpose.Release access.Shared) false to → StepsAlone w t l (RwLock l a (Bump (of (purpose.Release access.Shared) false to))) v line → Leads 18 w t (λ s o. Rests o)
+      by_place at.GiveWay fits f = leads_more 16 18 w t (λ s o. Rests o) (omega arith) (gives_rest t l a enters_again_rests v w line shares f)
+      by_place (at.Wake Second to) fits f = leads_more 15 18 w t (λ s o. Rests o) (omega arith) (wakes_rest t l a enters_again_rests to v w line shares f)
+      by_place to fits f = absurd fits
+  bump_rests q retries to v w line shares small may bump up f = absurd bump
+
+  -- from each place of a call where the thread is awake
+  pub call_rests : (c : RwLockCallPlace) (v : ℕ) (w : State) (q : Line → List Waiter) → Shares t l a w → v < 2 ^ 64 → CallStands a c → act_of (RwLock l a c) ≢ act.Sleep → StepsAlone w t l (RwLock l a c) v q → Leads 18 w t (λ s o. Rests o)
+  call_rests (Plain p) v w q shares small stands up f = leads_more 11 18 w t (λ s o. Rests o) (omega arith) (rwlock_rests t l a p v w q small (is_ready t l a p stands up) f)
+  call_rests (Bump p) v w q shares small stands up f = bump_rests p.purpose p.retries p.at v w q shares small stands.0 stands.1 up f
+  call_rests (Glance x) v w q shares small stands up f = glance_rests t l a enters_again_rests x v w q shares f
+  call_rests (HandOver x b to) v w q shares small stands up f = leads_more 17 18 w t (λ s o. Rests o) (omega arith) (hands_over_rest t l a enters_again_rests x b to stands v w q shares f)
+  call_rests (Handed x how b (handed.Asleep by alone)) v w q shares small stands up f = absurd (up refl)
+  call_rests (Handed x how b handed.Accept) v w q shares small stands up f = leads_more 1 18 w t (λ s o. Rests o) (omega arith) (accepts_rest t l a enters_again_rests x how b v w q f)

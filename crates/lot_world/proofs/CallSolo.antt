@@ -196,7 +196,7 @@ module _ (t l : ℕ) (a : Admission) where
         either access.Exclusive fits false e c = goes 16 v w q (HandOver access.Exclusive b handing.Enter) outcome.Step shares refl
             (subst (λ n. Comes w t l (RwLock l a (HandOver access.Exclusive b handing.Enter)) outcome.Step n q) (ap (λ (b : Bool). if b then without x seen else v) e) c) (λ s g. enters_rest access.Exclusive b tt v _ q s g)
 
-    hands_over_rest : (x : Access) (b : Bool) (to : HandOverAt) → HandsOverAt x to → (v : ℕ) (w : State) (q : Line → List Waiter) → Shares w → Alone w (HandOver x b to) v q → Leads 17 w t Resting
+    pub hands_over_rest : (x : Access) (b : Bool) (to : HandOverAt) → HandsOverAt x to → (v : ℕ) (w : State) (q : Line → List Waiter) → Shares w → Alone w (HandOver x b to) v q → Leads 17 w t Resting
     hands_over_rest access.Shared b to fits v w q shares f = absurd fits
     hands_over_rest access.Upgradable b handing.Load fits v w q shares f = load_rests b v w q shares f
     hands_over_rest access.Exclusive b handing.Load fits v w q shares f = absurd fits
@@ -233,7 +233,13 @@ module _ (t l : ℕ) (a : Admission) where
     wakes_enter : (v : ℕ) (w : State) (q : Line → List Waiter) → Shares w → Alone w (leaving (at.Wake Second waking.Enter)) v q → Leads 15 w t Resting
     wakes_enter v w q shares f = goes 14 v w q (leaving (at.Wake Second waking.Take)) _ shares refl (enter_comes w t l _ v q f Second refl (finds_free w t l _ v q f refl Second)) (λ s g. wakes_take v _ q s g)
 
-    gives_rest : (v : ℕ) (w : State) (q : Line → List Waiter) → Shares w → Alone w (leaving at.GiveWay) v q → Leads 16 w t Resting
+    pub wakes_rest : (to : WakeAt) (v : ℕ) (w : State) (q : Line → List Waiter) → Shares w → Alone w (leaving (at.Wake Second to)) v q → Leads 15 w t Resting
+    wakes_rest waking.Enter v w q shares f = wakes_enter v w q shares f
+    wakes_rest waking.Take v w q shares f = leads_more 14 15 w t Resting (omega arith) (wakes_take v w q shares f)
+    wakes_rest (waking.Clear any) v w q shares f = leads_more 13 15 w t Resting (omega arith) (wakes_clear any v w q shares f)
+    wakes_rest (waking.Leave any) v w q shares f = leads_more 12 15 w t Resting (omega arith) (wakes_leave any v w q shares f)
+
+    pub gives_rest : (v : ℕ) (w : State) (q : Line → List Waiter) → Shares w → Alone w (leaving at.GiveWay) v q → Leads 16 w t Resting
     gives_rest v w q shares f = either (has_aside v && (count_in v == 1)) _ (word_comes w t l _ v q f _ refl)
       where
         either : (b : Bool) (v2 : ℕ) → Comes w t l (rwlock_goes l a (bump_next (purpose.Release access.Shared) (if b then At (of (purpose.Release access.Shared) false (at.Wake Second waking.Enter)) else End Ok)))
@@ -243,7 +249,7 @@ module _ (t l : ℕ) (a : Admission) where
 
     -- ---------------------------------------------------------------- a bump that looks, and who was handed the lock
 
-    glance_rests : (x : Access) (v : ℕ) (w : State) (q : Line → List Waiter) → Shares w → Alone w (Glance x) v q → Leads 18 w t Resting
+    pub glance_rests : (x : Access) (v : ℕ) (w : State) (q : Line → List Waiter) → Shares w → Alone w (Glance x) v q → Leads 18 w t Resting
     glance_rests x v w q shares f = either x (gives_way a x v) (word_comes w t l _ v q f op.Load refl)
       where
         either : (x : Access) (b : Bool) → Comes w t l (rwlock_goes l a (if b then At (gives_up_at x) else End Ok)) (outcome_of (rwlock_does l a (if b then At (gives_up_at x) else End Ok))) v q → Leads 18 w t Resting
@@ -252,7 +258,7 @@ module _ (t l : ℕ) (a : Admission) where
         either access.Upgradable true c = goes 17 v w q (HandOver access.Upgradable true handing.Load) outcome.Step shares refl c (λ s g. load_rests true v _ q s g)
         either access.Exclusive true c = leads_more 17 18 w t Resting (omega arith) (goes 16 v w q (HandOver access.Exclusive true handing.Enter) outcome.Step shares refl c (λ s g. enters_rest access.Exclusive true tt v _ q s g))
 
-    accepts_rest : (x : Access) (how : Patience) (b : Bool) (v : ℕ) (w : State) (q : Line → List Waiter) → Alone w (Handed x how b handed.Accept) v q → Leads 1 w t Resting
+    pub accepts_rest : (x : Access) (how : Patience) (b : Bool) (v : ℕ) (w : State) (q : Line → List Waiter) → Alone w (Handed x how b handed.Accept) v q → Leads 1 w t Resting
     accepts_rest access.Exclusive how b v w q f = leads_rest w t Resting (outcome.End (entered how)) (word_comes w t l _ v q f op.Load refl).0 tt tt
     accepts_rest access.Shared how b v w q f = leads_rest w t Resting (outcome.End (entered how)) (accept_comes w t l _ v q f refl).0 tt tt
     accepts_rest access.Upgradable how b v w q f = leads_rest w t Resting (outcome.End (entered how)) (accept_comes w t l _ v q f refl).0 tt tt

@@ -532,7 +532,7 @@ module _ (t l : ℕ) (a : Admission) where
       either false e = by_word (v == x) refl e (word_comes w t l _ v q f (op.Exchange x (plus x 2)) (ap (λ (b : Bool). if b then act.Enter (One (2 * l + 1)) else exchange l x (plus x 2)) e))
 
   -- awake, and with something to do
-  abbrev pub IsReady : RwLockPlace → RwLockAt → Type 0
+  abbrev IsReady : RwLockPlace → RwLockAt → Type 0
   IsReady p (at.Decide seen) = IsNoRefusal (decided a p seen)
   IsReady p (at.Park x) = IsUp x × IsWaiting p.purpose
   IsReady p (at.Aside x) = IsUp x × IsWaiting p.purpose

@@ -71,8 +71,7 @@ use Rattle.lot_calls.specs.declared.calls.RwLockCall.{RwLockCall}
 use Rattle.lot_rwlock.specs.declared.places.Admission.{Admission}
 use Rattle.lot_rwlock.specs.declared.places.RwLockPlace.{RwLockPlace}
 use Rattle.lot_world.proofs.LineSolo.{StepsAlone}
-use Rattle.lot_world.proofs.CallSolo.{EntersAgain}
-use Rattle.lot_world.proofs.BumpSolo.{Again}
+use Rattle.lot_world.proofs.BumpSolo.{call_rests}
 use Rattle.lot_world.proofs.RwLockSolo.{rwlock_rests, word_small, is_ready}
 use Rattle.lot_world.proofs.RwLockEnds.{rwlock_alone}
 use Rattle.lot_world.proofs.WorldRuns.{holds_of, solo_runs}
