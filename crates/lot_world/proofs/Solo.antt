@@ -443,7 +443,7 @@ module _ (w : State) (t : ℕ) (shape : IsShaped w) (steady : IsSteady w) (there
   place_rests (Mutex l Bump) is fits busy up = fair_rests t l 11 true (first_of (queue_at w (2 * l))) (drop 1 (queue_at w (2 * l))) w (omega arith) (bump_leads t l (queue_at w (2 * l)) (word_at w l) (owner_at w l) w (at_first l (Mutex l Bump) is refl refl fits.0))
   place_rests (Mutex l (HandOff bumps a)) is fits busy up = hand_off_rests t l bumps a (word_at w l) (owner_at w l) (section_at w (2 * l)) (queue_at w (2 * l)) w (facing l (Mutex l (HandOff bumps a)) is fits.0) (λ outside. free l (Mutex l (HandOff bumps a)) is refl outside (section_at w (2 * l)) refl)
   place_rests (RwLock l a (Plain p)) is fits busy up = leads_more 11 12 w t (λ v x. Rests x) (omega arith) (rwlock_rests t l a p (word_at w l) w (λ m. queue_at w (key_of l m)) (word_small w l steady (admitted l a p is).0.0) (is_ready t l a p (admitted l a p is).1 up) (steps_alone l a (Plain p) (admitted l a p is).0.0 is fits))
-  place_rests (RwLock l a c) is fits busy up = absurd (subst (FitsItsLock w) is (steady.stands.calls t))
+  place_rests (RwLock l a c) is fits busy up = absurd (subst (FitsItsLock w) is (steady.stands.calls t)).2
 
   -- a call under way ends or sleeps
   pub solo_rests : IsUnderWay w t → (n : ℕ) (last : Outcome) → 12 ≤ n → Rests (solo n w t last).outcome

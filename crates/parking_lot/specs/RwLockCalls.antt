@@ -3,8 +3,6 @@ use Rattle.std.specs.Prelude.{ℕ, ◌≡◌, ◌<◌, ◌^◌, ◌-◌, ◌++�
 use Rattle.std.specs.declared.result.Result.{Result}
 use Rattle.lot_base.specs.declared.ops.Op.{Op}
 use Rattle.lot_base.specs.declared.ops.Op.TheVariants.{Load, Exchange}
-use Rattle.lot_calls.specs.declared.calls.RwLockCall.{RwLockCall}
-use Rattle.lot_calls.specs.declared.calls.RwLockCall.TheVariants as calls
 use Rattle.lot_calls.specs.declared.outcomes.Answer.{Answer}
 use Rattle.lot_calls.specs.declared.calls.Patience.{Patience}
 use Rattle.lot_calls.specs.declared.outcomes.Answer.TheVariants.{No, ReadersFull}
@@ -12,7 +10,8 @@ use Rattle.lot_calls.specs.declared.outcomes.Answer.TheVariants as answers
 use Rattle.lot_acts.specs.declared.acts.Next.{Next}
 use Rattle.lot_acts.specs.declared.acts.Next.TheVariants.{At, End}
 use Rattle.lot_acts.specs.declared.acts.Reply.TheVariants.{Value}
-use Rattle.lot_rwlock.specs.RwLockBegins.{purpose_for, first_at, rwlock_first}
+use Rattle.lot_rwlock.specs.RwLockBegins.{first_at, rwlock_first}
+use Rattle.lot_rwlock_fair.specs.FairBegins.{plain_first}
 use Rattle.lot_rwlock.specs.RwLockDeeds.{rwlock_doing}
 use Rattle.lot_rwlock.specs.RwLockSteps.{wanted, to_of, entered, give_op, rwlock_next}
 use Rattle.lot_rwlock.specs.declared.places.Admission.{Admission}
@@ -40,8 +39,8 @@ use Rattle.parking_lot.specs.RwLockFitting.{Answers, IsBeside, OwnsBeside, OwnsR
 use Rattle.parking_lot.specs.Stages.{Stage}
 
 -- where a call begins
-abbrev pub rwlock_begin : ℕ → Admission → RwLockCall → Place
-rwlock_begin l a c = RwLock l a (rwlock_first c)
+abbrev pub rwlock_begin : ℕ → Admission → RwLockPurpose → Place
+rwlock_begin l a q = RwLock l a (plain_first q)
 
 -- its first operation
 abbrev pub op_at : RwLockPurpose → RwLockAt → Op
@@ -49,11 +48,11 @@ op_at q at.First = Exchange 0 8
 op_at q at.GiveWay = give_op q
 op_at q to = Load
 
-abbrev pub first_op : RwLockCall → Op
-first_op c = op_at (purpose_for c) (first_at (purpose_for c))
+abbrev pub first_op : RwLockPurpose → Op
+first_op q = op_at q (first_at q)
 
 -- the thread has the right that the call needs, beside these
-abbrev pub BeginsWith : ℕ → RwLockCall → List Ownership → List Ownership → Type 0
+abbrev pub BeginsWith : ℕ → RwLockPurpose → List Ownership → List Ownership → Type 0
 BeginsWith l c base owns = OwnsBeside l (rwlock_doing (rwlock_first c)).claims base owns
 
 -- what an answer says of the rights at the end of a call, whether its first step ended it or not
@@ -63,7 +62,7 @@ AnswersCall up l base a (purpose.Downgrade d) answer st = (answer ≡ answers.Ok
 AnswersCall up l base a q answer st = Answers up l base a q answer st
 
 -- the steps of a call lead from its beginning to the answer
-abbrev pub HasWalkedRwLock : ℕ → Admission → RwLockCall → Answer → Token → Token → Type 0
+abbrev pub HasWalkedRwLock : ℕ → Admission → RwLockPurpose → Answer → Token → Token → Type 0
 HasWalkedRwLock l a c answer old new =
     Walks (at_rwlock l) (rwlock_begin l a c) (view_of old).steps (view_of new).steps answer
 
@@ -72,17 +71,17 @@ abbrev pub TookUnlessEnded : ℕ → Admission → RwLockPurpose → Next RwLock
 TookUnlessEnded l a q (At p) more last = TookWoken l a q last
 TookUnlessEnded l a q (End answer) more last = (more ≡ []) × (last ≡ None)
 
-abbrev pub Wakes : ℕ → Admission → RwLockCall → List WordStep → List WordStep → Option SectionRecord → Type 0
+abbrev pub Wakes : ℕ → Admission → RwLockPurpose → List WordStep → List WordStep → Option SectionRecord → Type 0
 Wakes l a c old new last = (seen : ℕ) × (more : List WordStep)
     × (new ≡ (old ++ step (rwlock_at l) (first_op c) seen) ++ more)
-    × TookUnlessEnded l a (purpose_for c) (rwlock_next a (rwlock_first c) (Value seen)) more last
+    × TookUnlessEnded l a c (rwlock_next a (rwlock_first c) (Value seen)) more last
 
 -- so it is of calls that wake others
-abbrev pub WakesBy : ℕ → Admission → RwLockCall → Token → Token → Type 0
-WakesBy l a (calls.Release x) old new =
-    Wakes l a (calls.Release x) (view_of old).steps (view_of new).steps (last_of new)
-WakesBy l a (calls.Downgrade d) old new =
-    Wakes l a (calls.Downgrade d) (view_of old).steps (view_of new).steps (last_of new)
+abbrev pub WakesBy : ℕ → Admission → RwLockPurpose → Token → Token → Type 0
+WakesBy l a (purpose.Release x) old new =
+    Wakes l a (purpose.Release x) (view_of old).steps (view_of new).steps (last_of new)
+WakesBy l a (purpose.Downgrade d) old new =
+    Wakes l a (purpose.Downgrade d) (view_of old).steps (view_of new).steps (last_of new)
 WakesBy l a c old new = Unit {0}
 
 -- a thread of the lot, and a reader-writer lock of it whose keys are numbers, with room for an upgrade that gives up

@@ -2,7 +2,7 @@
 ghost use Rattle.std.specs.Prelude.{◌≡◌, ◌⊎◌, ◌<◌, ◌≤◌, ◌-◌, ◌^◌, ◌∷◌, [], ℕ, true, IfNone, IfOk, IfSome, MatchResult};
 ghost use Rattle.std.specs.Arc.{arc_value};
 ghost use Rattle.lot_base.specs.Clocks.{IsUp};
-ghost use Rattle.lot_calls.specs.declared.calls.RwLockCall.TheVariants.{Enter, Release};
+ghost use Rattle.lot_rwlock.specs.declared.purposes.RwLockPurpose.TheVariants.{Enter, Release};
 ghost use Rattle.lot_calls.specs.declared.outcomes.Answer.TheVariants.{Ok as ok};
 ghost use Rattle.lot_rwlock.specs.RwLockSteps.{wanted};
 ghost use Rattle.lot_words.specs.Lots.{IsWordOf};
@@ -19,8 +19,8 @@ ghost use Rattle.parking_lot.specs.Telling.{owns_of};
 
 use crate::driver::NO_LIMIT;
 use crate::rwlock_calls::call;
-use lot_calls::{Access, Answer, Patience, RwLockCall};
-use lot_rwlock::Admission;
+use lot_calls::{Access, Answer, Patience};
+use lot_rwlock::{Admission, RwLockPurpose};
 use parking_lot_core::{Clock, Fault, ParkingLot, Right, Token, Want, Word, WordKind};
 use std::sync::{Arc, Wait};
 
@@ -118,7 +118,7 @@ impl RawRwLock {
             self.word,
             self.admission,
             limit,
-            RwLockCall::Enter { access, patience },
+            RwLockPurpose::Enter { access, patience },
         );
         match answer {
             Answer::Ok | Answer::Yes => Ok(Some(self.split(token, access_want(access)))),
@@ -143,7 +143,7 @@ impl RawRwLock {
             self.word,
             self.admission,
             NO_LIMIT,
-            RwLockCall::Release(access),
+            RwLockPurpose::Release(access),
         );
     }
 }
