@@ -1,14 +1,12 @@
 -- A bump that enters again steps alone as a call that enters: each of its steps is the same, but for the call that its place is of.
-use Rattle.std.proofs.Common.{ℕ, zero, suc, Bool, true, false, Option, Some, None, if◌then◌else◌, ◌==◌, ◌&&◌, ◌≡◌, ◌≢◌, ◌+◌, ◌*◌, ◌^◌, ◌<◌, ◌≤◌, List, [], ◌∷◌, length, set, nat_lt, replicate, slice_index_or, slice_set, refl, sym, ◌∙◌, ap, subst, arith, get_or-set_same, length-set}
-use Rattle.lot_base.specs.declared.keys.Keys.TheVariants.{One, Two}
+use Rattle.std.proofs.Common.{ℕ, zero, suc, Bool, true, false, Option, Some, None, if◌then◌else◌, ◌&&◌, ◌≡◌, ◌≢◌, ◌+◌, ◌*◌, ◌^◌, ◌<◌, List, [], ◌∷◌, length, set, nat_lt, replicate, slice_index_or, slice_set, refl, sym, ◌∙◌, ap, subst, arith, get_or-set_same, length-set}
+use Rattle.lot_base.specs.declared.keys.Keys.TheVariants.{One}
 use Rattle.lot_base.specs.declared.keys.Line.{Line}
 use Rattle.lot_base.specs.declared.keys.Line.TheVariants.{Main, Second}
-use Rattle.lot_base.specs.declared.ops.Op.TheVariants as op
 use Rattle.lot_base.specs.declared.wants.Waiter.{Waiter}
 use Rattle.lot_calls.specs.declared.calls.Access.{Access}
 use Rattle.lot_calls.specs.declared.calls.Access.TheVariants as access
 use Rattle.lot_calls.specs.declared.calls.Patience.TheVariants.{Patient}
-use Rattle.lot_calls.specs.declared.outcomes.Answer.{Answer}
 use Rattle.lot_calls.specs.declared.outcomes.Outcome.{Outcome}
 use Rattle.lot_calls.specs.declared.outcomes.Outcome.TheVariants as outcome
 use Rattle.lot_acts.specs.declared.acts.Act.{Act}
@@ -16,7 +14,6 @@ use Rattle.lot_acts.specs.declared.acts.Act.TheVariants as act
 use Rattle.lot_acts.specs.declared.acts.Next.{Next}
 use Rattle.lot_acts.specs.declared.acts.Next.TheVariants.{At, End}
 use Rattle.lot_acts.specs.declared.acts.Reply.{Reply}
-use Rattle.lot_acts.specs.declared.acts.Reply.TheVariants as reply
 use Rattle.lot_acts.specs.declared.acts.Wakes.TheVariants as wakes
 use Rattle.lot_acts.specs.Acts.{holds, outcome_of}
 use Rattle.lot_rwlock.specs.declared.places.Admission.{Admission}
@@ -37,7 +34,7 @@ use Rattle.lot_rwlock_fair.specs.declared.places.RwLockCallPlace.{RwLockCallPlac
 use Rattle.lot_rwlock_fair.specs.declared.places.RwLockCallPlace.TheVariants.{Plain, Glance, HandOver, Bump, Handed}
 use Rattle.lot_rwlock_fair.specs.declared.handed.HandedAt.TheVariants as handed
 use Rattle.lot_rwlock_fair.specs.FairCalls.{CallStands, IsOfBump}
-use Rattle.lot_rwlock_fair.specs.FairSteps.{bump_next, enters_again, plain_next, unless_given}
+use Rattle.lot_rwlock_fair.specs.FairSteps.{bump_next, plain_next, unless_given}
 use Rattle.lot_rwlock_fair.proofs.FairStands.{StaysFor, stays_for}
 use Rattle.abstract_locks.specs.Codes.{has_aside}
 use Rattle.lot_steps.specs.declared.places.Place.{Place}
@@ -46,7 +43,7 @@ use Rattle.lot_steps.specs.Steps.{act_of, next_act, next_place, rwlock_does, rwl
 use Rattle.lot_machine.specs.Machine.{Alone as Ran, State, state_after_operation, after, alone_after, can_do, can_go, go_of, go_outcome, is_possible, place_at, put, queues_with_last, reply_to, solo, state_after_act, state_after_go, step_outcome, word_at}
 use Rattle.lot_machine.specs.Fits.{IsShaped, SameSize}
 use Rattle.lot_machine.proofs.Shape.{after_shaped, after_size, performed_counts, put_shaped}
-use Rattle.lot_world.specs.SitesOf.{IsSteady, key_of, rules_in}
+use Rattle.lot_world.specs.SitesOf.{IsSteady, rules_in}
 use Rattle.lot_world.specs.Stations.{doing_on, station}
 use Rattle.lot_world.specs.Refinement.{taken_at}
 use Rattle.lot_world.specs.Solo.{Rests}
@@ -373,8 +370,8 @@ module _ (t l : ℕ) (a : Admission) (x : Access) where
       ∙ outcomes_same (step_outcome w (go_of t)) (plain_w w retries to g) (after (plain_w w retries to g) (go_of t)) w (after w (go_of t)) last
       (solo k (after (plain_w w retries to g) (go_of t)) t outcome.Step) (solo k (after w (go_of t)) t outcome.Step)
       (λ step. let next = goes_on w retries to g step in
-          ap (λ s. (solo k s t outcome.Step).outcome) (related w retries to g next.1.0 next.0 next.1.1)
-          ∙ same_run k (after w (go_of t)) next.0.retries next.0.at outcome.Step (again_then w retries to g next.1.0 next.0 next.1.1))
+      ap (λ s. (solo k s t outcome.Step).outcome) (related w retries to g next.1.0 next.0 next.1.1)
+      ∙ same_run k (after w (go_of t)) next.0.retries next.0.at outcome.Step (again_then w retries to g next.1.0 next.0 next.1.1))
 
 -- ---------------------------------------------------------------- it comes to rest
 
@@ -382,7 +379,7 @@ module _ (t l : ℕ) (a : Admission) where
   -- its place in a call that only enters is as good
   plain_steady : (w : State) (p : RwLockPlace) → IsSteady w → t < length w.places → place_at w t ≡ RwLock l a (Bump p) → Admits (rules_in w l) a → MayStand a p → IsSteady (put w t (RwLock l a (Plain p)))
   plain_steady w p steady there is admits stands = goes_steady w (put w t (RwLock l a (Plain p))) l [] steady
-      (place_goes w t l steady (rw is refl) there (rules_in w l) refl (RwLock l a (Plain p)) refl ((admits, stands)) [] (λ h. tt)
+      (place_goes w t l steady (rw is refl) there (rules_in w l) refl (RwLock l a (Plain p)) refl (admits, stands, tt) [] (λ h. tt)
       (steps_by (rules_in w l) l (parts_at w l) (parts_at w l) (place_at w) t (RwLock l a (Plain p)) [] tt tt
       (ap (λ q. taken_at q l) is) refl refl refl refl (sym (ap (λ q. doing_on q l) is)))
       (sym (ap station is)))

@@ -1,18 +1,14 @@
 -- A fair release, a bump, or who was handed the lock, whose thread steps alone: from each place it comes to rest.
-use Rattle.std.proofs.Common.{ℕ, Bool, true, false, Option, Some, None, if◌then◌else◌, ◌==◌, ◌&&◌, ◌≡◌, ◌≢◌, ◌+◌, ◌*◌, ◌^◌, ◌<◌, ◌≤◌, ◌⊎◌, List, length, drop, refl, sym, ◌∙◌, ap, subst, arith}
+use Rattle.std.proofs.Common.{ℕ, Bool, true, false, None, if◌then◌else◌, ◌==◌, ◌&&◌, ◌≡◌, ◌+◌, ◌*◌, ◌^◌, ◌<◌, List, refl, sym, ◌∙◌, ap, subst, arith}
 use Rattle.lot_base.specs.declared.keys.Line.{Line}
 use Rattle.lot_base.specs.declared.keys.Line.TheVariants.{Main, Second}
-use Rattle.lot_base.specs.declared.notes.Note.TheVariants as note
 use Rattle.lot_base.specs.declared.ops.Op.TheVariants as op
 use Rattle.lot_base.specs.declared.wants.Waiter.{Waiter}
-use Rattle.lot_base.specs.declared.wants.Want.{Want}
 use Rattle.lot_base.specs.Lines.{first_of}
 use Rattle.lot_base.specs.Words.{apply}
 use Rattle.lot_calls.specs.declared.calls.Access.{Access}
 use Rattle.lot_calls.specs.declared.calls.Access.TheVariants as access
 use Rattle.lot_calls.specs.declared.calls.Patience.{Patience}
-use Rattle.lot_calls.specs.declared.calls.Patience.TheVariants.{Patient, Timed, Try}
-use Rattle.lot_calls.specs.declared.outcomes.Answer.{Answer}
 use Rattle.lot_calls.specs.declared.outcomes.Answer.TheVariants.{Ok}
 use Rattle.lot_calls.specs.declared.outcomes.Outcome.{Outcome}
 use Rattle.lot_calls.specs.declared.outcomes.Outcome.TheVariants as outcome
@@ -20,35 +16,29 @@ use Rattle.lot_acts.specs.declared.acts.Act.{Act}
 use Rattle.lot_acts.specs.declared.acts.Act.TheVariants as act
 use Rattle.lot_acts.specs.declared.acts.Next.{Next}
 use Rattle.lot_acts.specs.declared.acts.Next.TheVariants.{At, End}
-use Rattle.lot_acts.specs.declared.acts.Wakes.TheVariants as wakes
 use Rattle.lot_acts.specs.declared.acts.Whom.TheVariants as whoms
 use Rattle.lot_acts.specs.Acts.{outcome_of, wakes_taken}
 use Rattle.lot_rwlock.specs.declared.places.Admission.{Admission}
-use Rattle.lot_rwlock.specs.declared.places.RwLockPlace.{RwLockPlace}
 use Rattle.lot_rwlock.specs.declared.places.RwLockAt.{RwLockAt}
 use Rattle.lot_rwlock.specs.declared.places.RwLockAt.TheVariants as at
-use Rattle.lot_rwlock.specs.declared.purposes.RwLockPurpose.{RwLockPurpose}
 use Rattle.lot_rwlock.specs.declared.purposes.RwLockPurpose.TheVariants as purpose
 use Rattle.lot_rwlock.specs.declared.release.WakeAt.{WakeAt}
 use Rattle.lot_rwlock.specs.declared.release.WakeAt.TheVariants as waking
-use Rattle.lot_rwlock.specs.RwLockSteps.{entered, rwlock_act, unparked}
+use Rattle.lot_rwlock.specs.RwLockSteps.{entered, unparked}
 use Rattle.lot_rwlock.specs.RwLockDeeds.{Admits}
-use Rattle.lot_rwlock.specs.RwLockCalls.{MayStand, StandsAt}
 use Rattle.lot_rwlock_fair.specs.declared.places.RwLockCallPlace.{RwLockCallPlace}
-use Rattle.lot_rwlock_fair.specs.declared.places.RwLockCallPlace.TheVariants.{Plain, Glance, HandOver, Bump, Handed}
+use Rattle.lot_rwlock_fair.specs.declared.places.RwLockCallPlace.TheVariants.{Glance, HandOver, Bump, Handed}
 use Rattle.lot_rwlock_fair.specs.declared.hand_over.Taken.{Taken}
 use Rattle.lot_rwlock_fair.specs.declared.hand_over.HandOverAt.{HandOverAt}
 use Rattle.lot_rwlock_fair.specs.declared.hand_over.HandOverAt.TheVariants as handing
-use Rattle.lot_rwlock_fair.specs.declared.handed.HandedAt.{HandedAt}
 use Rattle.lot_rwlock_fair.specs.declared.handed.HandedAt.TheVariants as handed
-use Rattle.lot_rwlock_fair.specs.FairSteps.{any_taken, bump_next, enters_again, exchange_act, freed_next, gives_up_at, gives_way, has_room, looked, note_of, parked_as, released, took, with_taken, without}
-use Rattle.lot_rwlock_fair.specs.FairCalls.{CallStands, HandsOverAt, IsOfBump}
+use Rattle.lot_rwlock_fair.specs.FairSteps.{any_taken, bump_next, enters_again, exchange_act, freed_next, gives_up_at, gives_way, has_room, looked, note_of, parked_as, released, with_taken, without}
+use Rattle.lot_rwlock_fair.specs.FairCalls.{HandsOverAt}
 use Rattle.abstract_locks.specs.Codes.{count_in, has_aside, has_parked}
 use Rattle.abstract_locks.specs.Purposes.{rules_of}
-use Rattle.lot_steps.specs.declared.places.Place.{Place}
-use Rattle.lot_steps.specs.declared.places.Place.TheVariants.{Idle, RwLock}
-use Rattle.lot_steps.specs.Steps.{act_of, rwlock_does, rwlock_goes}
-use Rattle.lot_machine.specs.Machine.{State, after, go_of, queue_at, queues_without_first, word_at}
+use Rattle.lot_steps.specs.declared.places.Place.TheVariants.{RwLock}
+use Rattle.lot_steps.specs.Steps.{rwlock_does, rwlock_goes}
+use Rattle.lot_machine.specs.Machine.{State, after, go_of, queue_at, queues_without_first}
 use Rattle.lot_world.specs.SitesOf.{rules_in}
 use Rattle.lot_world.specs.Solo.{Rests}
 use Rattle.lot_world.proofs.Glue.{same}
