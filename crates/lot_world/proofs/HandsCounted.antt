@@ -20,7 +20,7 @@ use Rattle.lot_machine.specs.Machine.{State, held, held_by, place_at, shares_at,
 use Rattle.lot_world.specs.Refinement.{lock_state, taken_at}
 use Rattle.lot_world.specs.Stations.{Station, nowhere, station, station_at}
 use Rattle.lot_world.specs.SitesOf.{IsSteady, carried_at, hand_at}
-use Rattle.lot_world.proofs.Glue.{IsOf, calls_none, same, station_elsewhere}
+use Rattle.lot_world.proofs.Glue.{IsOf, calls_none, held_where, same, station_elsewhere}
 use Rattle.lot_world.proofs.HandsMoved.{thread_of}
 use Rattle.lot_world.proofs.InHand.{counted, heir_wants, is_wanted, shared_by, sharers_from, wanted_is, wanted_of, wants_heir}
 
@@ -70,6 +70,17 @@ module _ (w : State) (t l : ℕ) (steady : IsSteady w) (own : IsOf l (place_at w
 
           carried : carried_at (place_at w t) k ≡ Some g
           carried = steady.stands.hands.taken t u k g there
+
+  pub hand_there : (u : ℕ) → is_thread t (taker (place_at w u)) ≡ true → hand_at (place_at w u) l ≡ hand t false
+  hand_there u h = let k = held_where (place_at w u) t h in elim (cases_eq k.lock l) [
+    | inl e ↦ subst (λ j. hand_at (place_at w u) j ≡ hand t false) e (k.hand ∙ ap (hand t) (by_any any k.handed (sym carries ∙ subst (λ j. carried_at (place_at w t) j ≡ Some k.handed) e (steady.stands.hands.taken t u k.lock k.handed k.hand))))
+    | inr ne ↦ absurd (let a : carried_at (place_at w t) k.lock ≡ Some k.handed = steady.stands.hands.taken t u k.lock k.handed k.hand in
+        let b : carried_at (place_at w t) k.lock ≡ None = ap (λ (y : Station). y.carries) (station_elsewhere l k.lock (place_at w t) own ne) in let c : ◌≡◌ {A = Option Bool} None (Some k.handed) = sym b ∙ a in cc)
+  ]
+    where
+      by_any : (c g : Bool) → in_hand c false ≡ Some g → g ≡ false
+      by_any true g e = let f : false ≡ g = cc in sym f
+      by_any false g e = absurd cc
 
   pub same_hand : (u : ℕ) → wanted_of t (held (place_at w u)) ≡ wanted_of t (taken_at (place_at w u) l)
   same_hand u = by_row t (profile (place_at w u)).hand (wants (place_at w u)) (calls (place_at w u) l) (fresh_here u)

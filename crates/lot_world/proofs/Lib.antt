@@ -25,6 +25,7 @@ pub mod HandsCounted
 pub mod SitesKept
 pub mod RwLockKept
 pub mod HandsOn
+pub mod HandsOnEvents
 pub mod SectionsKept
 pub mod GoneKept
 pub mod Looking
