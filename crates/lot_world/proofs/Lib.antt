@@ -22,6 +22,7 @@ pub mod MovesKept
 pub mod HandsMoved
 pub mod InHand
 pub mod HandsCounted
+pub mod HandsTaken
 pub mod SitesKept
 pub mod RwLockKept
 pub mod HandsOn
