@@ -1,24 +1,21 @@
 -- What a place says of those whom its thread has in hand, counted anew from where all threads stand: that is what the lock hands over.
 use Rattle.std.proofs.Common.{ℕ, zero, suc, Bool, true, false, Option, Some, None, if◌then◌else◌, ◌==◌, ◌&&◌, not, ◌≡◌, ◌≢◌, ◌+◌, ◌<◌, ◌≤◌, List, [], ◌∷◌, length, get_or, cond, inl, inr, refl, sym, ◌∙◌, ap, subst, arith}
-use Rattle.std.specs.Prelude.{◌↔◌}
 use Rattle.std.specs.List.{filter}
 use Rattle.std.proofs.lemmas.Bool.{cases_eq, eqb-true}
-use Rattle.std.proofs.lemmas.Bool.Decides.{nat_tests}
 use Rattle.lot_base.specs.declared.wants.Want.{Want}
 use Rattle.lot_base.specs.declared.wants.Want.TheVariants.{Exclusive, Upgradable, Shared, Wait, CallOnce}
 use Rattle.lot_acts.specs.Moves.{heir_of}
 use Rattle.lot_acts.specs.Profiles.{Hand, Of, hand, hand_owner, in_hand, taken_from}
-use Rattle.lot_acts.specs.Owners.{is_thread}
 use Rattle.lot_rwlock_fair.specs.declared.hand_over.Taken.{Taken as Counted}
 use Rattle.lot_rwlock_fair.specs.FairCalls.{HasInHand, IsNamed}
 use Rattle.lot_steps.specs.declared.places.Place.{Place}
 use Rattle.lot_steps.specs.declared.places.Place.TheVariants.{Idle}
-use Rattle.lot_steps.specs.Steps.{calls, is_lock, lock_of, profile, taker, wants}
-use Rattle.abstract_locks.specs.Locks.{IsSuccessor, IsTaken, LockState, Queued, Taken, readers, shares_handed, sharing_handed, wants_shared}
+use Rattle.lot_steps.specs.Steps.{calls, is_lock, lock_of, profile, wants}
+use Rattle.abstract_locks.specs.Locks.{IsSuccessor, Queued, Taken, readers, shares_handed, sharing_handed, wants_shared}
 use Rattle.lot_machine.specs.declared.hands.Successor.{Successor}
 use Rattle.lot_machine.specs.Machine.{State, held, held_by, place_at, shares_at, shares_in_hand, sharers, successor_from, successor_or, want_of_successor, wants_more_in_hand}
 use Rattle.lot_world.specs.Refinement.{lock_state, taken_at}
-use Rattle.lot_world.specs.Stations.{Station, nowhere, station, station_at}
+use Rattle.lot_world.specs.Stations.{Station, nowhere, station}
 use Rattle.lot_world.specs.SitesOf.{IsSteady, carried_at, hand_at}
 use Rattle.lot_world.proofs.Glue.{IsOf, calls_none, held_where, same, station_elsewhere}
 use Rattle.lot_world.proofs.HandsMoved.{thread_of}

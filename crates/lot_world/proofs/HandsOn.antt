@@ -1,5 +1,5 @@
 -- A thread in a call of a reader-writer lock hands its right over: where its operation takes effect, all whom it has in hand own.
-use Rattle.std.proofs.Common.{◌+◌, ◌*◌, ◌-◌, ℕ, Bool, true, false, Option, Some, None, if◌then◌else◌, ◌==◌, ◌≡◌, ◌≢◌, ◌^◌, ◌<◌, ◌≤◌, ◌⊎◌, inl, inr, List, [], ◌∷◌, ◌++◌, length, refl, sym, ◌∙◌, ap, subst, arith, append-nil}
+use Rattle.std.proofs.Common.{◌+◌, ◌*◌, ◌-◌, ℕ, Bool, true, false, Option, Some, None, if◌then◌else◌, ◌==◌, ◌≡◌, ◌≢◌, ◌^◌, ◌<◌, ◌≤◌, ◌⊎◌, inl, inr, List, [], ◌∷◌, ◌++◌, length, refl, sym, ◌∙◌, ap, subst, arith}
 use Rattle.std.proofs.lemmas.Bool.{eqb-true}
 use Rattle.lot_base.specs.declared.ops.Op.{Op}
 use Rattle.lot_base.specs.declared.ops.Op.TheVariants as operation
@@ -18,7 +18,6 @@ use Rattle.lot_acts.specs.Moves.{HandsOver, bit_left, claim_handed, heir_of}
 use Rattle.lot_acts.specs.Owners.{lock_seen, shares_then}
 use Rattle.lot_acts.specs.Profiles.{Profile, hand, in_hand}
 use Rattle.lot_acts.specs.Stations.{Station, nowhere, station_by}
-use Rattle.lot_mutex.specs.declared.places.MutexPlace.{MutexPlace}
 use Rattle.lot_rwlock.specs.declared.places.Admission.{Admission}
 use Rattle.lot_rwlock.specs.declared.places.RwLockPlace.{RwLockPlace}
 use Rattle.lot_rwlock.specs.declared.places.RwLockAt.{RwLockAt}
@@ -32,8 +31,8 @@ use Rattle.lot_rwlock_fair.specs.declared.hand_over.Taken.{Taken as Counted}
 use Rattle.lot_rwlock_fair.specs.declared.hand_over.HandOverAt.TheVariants as handing
 use Rattle.lot_rwlock_fair.specs.declared.handed.HandedAt.TheVariants as handed
 use Rattle.lot_rwlock_fair.specs.FairCalls.{CallStands, in_hand_of}
-use Rattle.lot_rwlock_fair.specs.FairDeeds.{call_deeds, call_doing, hands_over}
-use Rattle.lot_rwlock_fair.specs.FairLaws.{CallTells, HandsOver as Hands, next_rows}
+use Rattle.lot_rwlock_fair.specs.FairDeeds.{call_deeds, hands_over}
+use Rattle.lot_rwlock_fair.specs.FairLaws.{CallTells, HandsOver as Hands}
 use Rattle.lot_rwlock_fair.specs.FairMoves.{call_move}
 use Rattle.lot_rwlock_fair.specs.FairProfiles.{call_profile}
 use Rattle.lot_rwlock_fair.specs.FairSteps.{call_act, call_next, call_owners, call_shares, has_room, parked_as, tokens, with_taken, without}
@@ -46,25 +45,24 @@ use Rattle.lot_rwlock_fair.proofs.HandOverCodes.{hand_overs_code}
 use Rattle.lot_rwlock_fair.proofs.HandOverFit.{hand_overs_follow}
 use Rattle.lot_steps.specs.declared.places.Place.{Place}
 use Rattle.lot_steps.specs.declared.places.Place.TheVariants.{Idle, Mutex, RwLock}
-use Rattle.lot_steps.specs.Steps.{next_place, profile, wants}
+use Rattle.lot_steps.specs.Steps.{next_place, profile}
 use Rattle.abstract_locks.specs.Locks.{LockState, Rules, Taken, HandOff, IsLockState, Owns, Queued, without_owner}
-use Rattle.abstract_locks.specs.Sites.{Case, Claim, Doing, Has, Pends, Deed, Site, has_readers}
+use Rattle.abstract_locks.specs.Sites.{Case, Doing, Pends, Site, has_readers}
 use Rattle.abstract_locks.specs.Codes.{HasLimit, code}
 use Rattle.abstract_locks.specs.Deeds as laws
-use Rattle.lot_machine.specs.Machine.{State, owners_at, place_at, put, queue_at, share_at, shares_at, sharers, state_after_act, successor_from, unshared_then, want_of_successor, word_at}
+use Rattle.lot_machine.specs.Machine.{State, owners_at, place_at, put, queue_at, share_at, shares_at, sharers, state_after_act, successor_from, unshared_then, word_at}
 use Rattle.lot_machine.specs.Fits.{IsShaped}
 use Rattle.lot_world.specs.Refinement.{taken_at}
 use Rattle.lot_world.specs.MutexDeeds.{acts}
-use Rattle.lot_world.specs.MutexDeeds as deeds
 use Rattle.lot_world.specs.SitesOf.{FitsItsLock, Goes, HasRoom, IsBuilt, IsSteady, carried_at, hand_at, rules_in}
 use Rattle.lot_world.specs.Stations.{doing_on, station}
-use Rattle.lot_world.proofs.ActsKept.{lock_by, operated}
-use Rattle.lot_world.proofs.Glue.{IsOf, doing_here, lock_in, next_of, station_here}
+use Rattle.lot_world.proofs.ActsKept.{lock_by}
+use Rattle.lot_world.proofs.Glue.{IsOf, doing_here, next_of, station_here}
 use Rattle.lot_world.proofs.HandsCounted.{IsCounted, few_sharers, has_in_hand}
 use Rattle.lot_world.proofs.HandsKept.{IsGiven, claims_given}
 use Rattle.lot_world.proofs.HandsMoved.{hands_over as hands_all, looks_again, thread_of}
 use Rattle.lot_world.proofs.MovesKept.{IsFollowed, free_of}
-use Rattle.lot_world.proofs.RwLockKept.{AreBuilt, admits, at_now, call_told_other, call_told_value, doing_now, fits_next, fits_now, followed_by, goes_row, of_no_mutex, own, same_row, site, word_few, word_is}
+use Rattle.lot_world.proofs.RwLockKept.{AreBuilt, admits, at_now, call_told_other, call_told_value, fits_next, fits_now, followed_by, goes_row, of_no_mutex, own, same_row, word_few}
 
 -- ---------------------------------------------------------------- the place
 

@@ -64,6 +64,8 @@ pub mod SoloAnswers
 pub mod LineSolo
 pub mod RwLockSolo
 pub mod RwLockEnds
+pub mod CallSolo
+pub mod BumpSolo
 pub mod Solo
 pub mod Owing
 pub mod WorldRuns

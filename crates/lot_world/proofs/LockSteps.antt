@@ -3,17 +3,15 @@ use Rattle.std.proofs.Common.{◌≤◌, ◌++◌, arith, ℕ, Bool, true, false
 use Rattle.lot_acts.specs.Profiles.{taken_from}
 use Rattle.lot_rwlock.specs.declared.places.RwLockAt.TheVariants as at
 use Rattle.lot_rwlock.specs.declared.park.ParkAt.TheVariants as parking
-use Rattle.lot_rwlock.proofs.RwLockCallPlaces.{rwlock_sleepers_hear}
 use Rattle.lot_base.specs.Keys.{key_of}
 use Rattle.lot_base.specs.declared.keys.Line.{Line}
 use Rattle.lot_rwlock.specs.declared.places.RwLockAt.{RwLockAt}
 use Rattle.lot_rwlock.specs.RwLockSteps.{rwlock_next, next_at, patience_of}
-use Rattle.lot_rwlock.specs.RwLockCalls.{MayStand}
 use Rattle.lot_rwlock.specs.declared.places.Admission.{Admission}
 use Rattle.lot_rwlock.specs.declared.places.RwLockPlace.{RwLockPlace}
 use Rattle.lot_rwlock.specs.declared.purposes.RwLockPurpose.{RwLockPurpose}
 use Rattle.lot_rwlock.specs.declared.purposes.RwLockPurpose.TheVariants as purposes
-use Rattle.lot_rwlock.specs.RwLockProfiles.{purpose_by, rwlock_late_line, late_line_at, hand_at as rwlock_hand, wants_for}
+use Rattle.lot_rwlock.specs.RwLockProfiles.{purpose_by, rwlock_late_line, late_line_at, hand_at as rwlock_hand}
 use Rattle.lot_rwlock.specs.RwLockDeeds.{Admits}
 use Rattle.abstract_locks.specs.Sites.{has_readers}
 use Rattle.abstract_locks.specs.Locks.{Mutex as Mutual}

@@ -25,7 +25,6 @@ use Rattle.lot_rwlock.specs.RwLockBegins.{has_access}
 use Rattle.lot_rwlock.specs.RwLockSteps.{from_of, rwlock_next, wanted}
 use Rattle.lot_rwlock_fair.specs.declared.places.RwLockCallPlace.{RwLockCallPlace}
 use Rattle.lot_rwlock_fair.specs.declared.places.RwLockCallPlace.TheVariants.{Plain}
-use Rattle.lot_rwlock_fair.specs.FairCalls.{CallStands}
 use Rattle.lot_rwlock_fair.specs.FairDeeds.{call_deeds}
 use Rattle.lot_rwlock_fair.specs.FairMoves.{CallMoves, call_hears, call_move}
 use Rattle.lot_rwlock_fair.specs.FairSteps.{call_act, call_next, plain_next, unless_given}

@@ -1,5 +1,5 @@
 -- Each turn of a thread keeps every lock a site, and every thread in the line, the section and the hand that its place says.
-use Rattle.std.proofs.Common.{ℕ, Bool, true, false, Option, Some, None, if◌then◌else◌, ◌≡◌, ◌<◌, [], ◌∷◌, length, length-set, nat_lt, refl, sym, ◌∙◌, ap, subst}
+use Rattle.std.proofs.Common.{ℕ, Bool, true, false, Option, Some, None, if◌then◌else◌, ◌≡◌, ◌<◌, [], ◌∷◌, length, length-set, nat_lt, refl, sym, ◌∙◌, ap}
 use Rattle.std.proofs.lemmas.Bool.{ltb-true}
 use Rattle.lot_base.specs.declared.wants.Want.TheVariants.{Exclusive}
 use Rattle.lot_calls.specs.declared.calls.Call.{Call}
@@ -27,7 +27,7 @@ use Rattle.lot_world.specs.Refinement.{lock_state, taken_at}
 use Rattle.lot_world.specs.SitesOf.{is_mutex}
 use Rattle.lot_world.specs.MutexDeeds.{mutex_doing, mutex_station, acts, begins}
 use Rattle.lot_world.specs.Stations.{nowhere, station}
-use Rattle.lot_world.specs.SitesOf.{FitsItsLock, IsSteady, Goes}
+use Rattle.lot_world.specs.SitesOf.{IsSteady, Goes}
 use Rattle.lot_machine.proofs.Shape.{both, looking_shaped}
 use Rattle.lot_world.proofs.KindsKept.{calls_built, calls_mutex, calls_readers}
 use Rattle.lot_world.proofs.Glue.{parts_at, same, thread_is}
@@ -42,8 +42,6 @@ use Rattle.lot_rwlock.specs.declared.places.Admission.{Admission}
 use Rattle.lot_rwlock_fair.specs.declared.places.RwLockCallPlace.{RwLockCallPlace}
 use Rattle.lot_rwlock_fair.specs.declared.places.RwLockCallPlace.TheVariants.{Plain, Bump as BumpCall}
 use Rattle.lot_rwlock_fair.specs.FairProfiles.{call_late_line}
-use Rattle.lot_rwlock.specs.declared.places.RwLockPlace.{RwLockPlace}
-use Rattle.lot_rwlock.specs.RwLockProfiles.{rwlock_late_line}
 use Rattle.lot_base.specs.declared.keys.Line.{Line}
 
 pub idle_is : (p : Place) → is_idle p ≡ true → p ≡ Idle
