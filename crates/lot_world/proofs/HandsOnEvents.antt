@@ -1,5 +1,5 @@
 -- A hand-over of a reader-writer lock is one case of the abstract lock, and the calls of all who were handed it go on with what they wanted.
-use Rattle.std.proofs.Common.{ℕ, Bool, true, false, Option, Some, None, if◌then◌else◌, ◌==◌, ◌≡◌, ◌≢◌, ◌<◌, ◌⊎◌, inl, inr, List, [], ◌∷◌, ◌++◌, length, map, get_or, get_or-set_other, refl, sym, ◌∙◌, ap, subst}
+use Rattle.std.proofs.Common.{ℕ, Bool, true, false, Option, Some, None, if◌then◌else◌, ◌==◌, ◌≡◌, ◌<◌, List, ◌++◌, length, get_or, get_or-set_other, refl, sym, ◌∙◌, ap, subst}
 use Rattle.std.proofs.lemmas.Bool.{eqb-true}
 use Rattle.std.proofs.Math.ListN.{get_or-map}
 use Rattle.lot_base.specs.declared.ops.Op.{Op}
@@ -10,11 +10,10 @@ use Rattle.lot_acts.specs.declared.acts.Next.{Next}
 use Rattle.lot_acts.specs.declared.acts.Next.TheVariants as next
 use Rattle.lot_acts.specs.declared.acts.Reply.TheVariants.{HandedBy, Value}
 use Rattle.lot_acts.specs.Acts.{takes_effect}
-use Rattle.lot_acts.specs.Moves.{bit_left, claim_handed, heir_of, row_of}
+use Rattle.lot_acts.specs.Moves.{claim_handed, heir_of, row_of}
 use Rattle.lot_acts.specs.Owners.{is_thread}
 use Rattle.lot_acts.specs.Profiles.{Hand, Of, Profile, hand, taken_from}
 use Rattle.lot_acts.specs.Stations.{Station, nowhere, station_by}
-use Rattle.lot_mutex.specs.declared.places.MutexPlace.{MutexPlace}
 use Rattle.lot_rwlock.specs.declared.places.Admission.{Admission}
 use Rattle.lot_rwlock_fair.specs.declared.places.RwLockCallPlace.{RwLockCallPlace}
 use Rattle.lot_rwlock_fair.specs.declared.hand_over.Taken.{Taken as Counted}
@@ -24,23 +23,21 @@ use Rattle.lot_rwlock_fair.specs.FairLaws.{next_rows, with_claim}
 use Rattle.lot_rwlock_fair.specs.FairMoves.{call_move}
 use Rattle.lot_rwlock_fair.specs.FairProfiles.{call_profile}
 use Rattle.lot_rwlock_fair.specs.FairSteps.{call_act, call_next}
-use Rattle.lot_rwlock_fair.proofs.FairActs.{fair_sleepers_move}
 use Rattle.lot_rwlock_fair.proofs.FairMoves.{handed_move}
 use Rattle.lot_rwlock_fair.proofs.FairSleepers.{fair_sleepers_hear}
 use Rattle.lot_steps.specs.declared.places.Place.{Place}
 use Rattle.lot_steps.specs.declared.places.Place.TheVariants.{Idle, Mutex, RwLock}
 use Rattle.lot_steps.specs.Steps.{calls, next_place, profile, rwlock_goes, taker}
 use Rattle.abstract_locks.specs.Deeds.{case_of, event_by}
-use Rattle.abstract_locks.specs.Locks.{HandOff, IsTaken, Queued, Rights, Taken, putting, readers}
+use Rattle.abstract_locks.specs.Locks.{HandOff, IsTaken, Queued, Rights, Taken, putting}
 use Rattle.abstract_locks.specs.Runs.{AtLock, is_taken_by}
-use Rattle.abstract_locks.specs.Sites.{Case, Deed}
+use Rattle.abstract_locks.specs.Sites.{Deed}
 use Rattle.lot_machine.specs.Fits.{IsShaped}
 use Rattle.lot_machine.specs.Machine.{State, place_after_telling, place_at, put, state_after_act, state_after_hand_over_by, unshared_then, word_at}
 use Rattle.lot_world.specs.MutexDeeds.{acts}
 use Rattle.lot_world.specs.MutexDeeds as deeds
 use Rattle.lot_world.specs.Refinement.{call_state, lock_state, taken_at}
-use Rattle.lot_world.specs.SitesOf.{FitsItsLock, Goes, IsBuilt, IsSteady, carried_at, hand_at, rules_in}
-use Rattle.lot_world.specs.Stations.{station}
+use Rattle.lot_world.specs.SitesOf.{FitsItsLock, Goes, IsBuilt, IsSteady, carried_at, rules_in}
 use Rattle.lot_world.proofs.AtPlaces.{in_no_hand, unless_held}
 use Rattle.lot_world.proofs.CallEvents.{Happens, OthersFollow, happens}
 use Rattle.lot_world.proofs.Glue.{held_taker, station_here}
@@ -51,7 +48,7 @@ use Rattle.lot_world.proofs.HandsKept.{alone_is, claims_given}
 use Rattle.lot_world.proofs.HandsOn.{bare, carries, g, given, hands_goes, hands_tell, more_right, of, row, unclaimed, whom}
 use Rattle.lot_world.proofs.LockEvents.{Befalls}
 use Rattle.lot_world.proofs.OtherCalls.{taken_by_hand}
-use Rattle.lot_world.proofs.RwLockKept.{admits, fits_now, goes_row, of_no_mutex}
+use Rattle.lot_world.proofs.RwLockKept.{admits, of_no_mutex}
 
 -- what a thread has once it was handed what it wanted
 gains : (alone : Bool) (x : Want) (l : ℕ) (r : ℕ → Rights) → putting r l (given_right alone x (r l)) ≡ with_claim (claim_handed alone x) l r

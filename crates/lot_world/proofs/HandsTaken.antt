@@ -1,5 +1,5 @@
 -- Of those whom a thread picks that keeps no right, one at most wants more than to share: so one at most succeeds it.
-use Rattle.std.proofs.Common.{ℕ, Bool, true, false, Option, Some, None, if◌then◌else◌, ◌==◌, ◌≡◌, ◌≢◌, ◌+◌, ◌≤◌, List, [], ◌∷◌, map, refl, sym, ◌∙◌, ap, subst, arith}
+use Rattle.std.proofs.Common.{ℕ, Bool, true, false, None, if◌then◌else◌, ◌≡◌, ◌+◌, ◌≤◌, List, [], ◌∷◌, refl, arith}
 use Rattle.lot_base.specs.declared.lock_picker.LockPicker.{LockPicker}
 use Rattle.lot_base.specs.declared.lock_picker.LockPicker.TheVariants.{Anyone, Readers, Nobody}
 use Rattle.lot_base.specs.declared.wants.Waiter.{Waiter}
