@@ -7,7 +7,10 @@ pub mod guards;
 pub mod raw_fair_mutex;
 pub mod raw_mutex;
 pub mod raw_rwlock;
+mod raw_rwlock_timed;
 mod rwlock_calls;
+pub mod rwlock_guards;
+pub mod rwlock_rights;
 mod taking;
 mod words;
 
@@ -24,6 +27,9 @@ pub use parking_lot_core::{
 };
 pub use raw_fair_mutex::RawFairMutex;
 pub use raw_mutex::RawMutex;
+pub use raw_rwlock::{RawRwLock, RawRwLockRecursive};
+pub use rwlock_guards::{RawExclusiveGuard, RawSharedGuard, RawUpgradableGuard};
+pub use rwlock_rights::LotRwLock;
 
 /// A mutex of a lot, with its value.
 pub type Mutex<T> = lock_api::Mutex<RawMutex, T>;
