@@ -1,5 +1,7 @@
 //! Raw reader-writer locks of one thread.
 mod mixes;
+mod timed;
+mod waits;
 
 ghost use Rattle.std.specs.Prelude.{◌≡◌, ◌≤◌, ◌<◌, All, IfOk, IfSome};
 ghost use Rattle.std.specs.Arc.{arc_value};
