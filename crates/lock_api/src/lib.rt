@@ -9,6 +9,7 @@ pub mod mutex;
 pub mod reaches;
 pub mod rights;
 pub mod rwlock;
+mod rwlock_calls;
 pub mod rwlock_guards;
 pub mod shows;
 pub mod taken;
