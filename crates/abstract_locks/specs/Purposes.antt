@@ -1,5 +1,5 @@
 -- What each call of a lock is for, and which cases it is made of.
-use Rattle.std.specs.Prelude.{ℕ, Bool, true, false, Option, Some, None, ◌≡◌, ◌≢◌, ◌⊎◌}
+use Rattle.std.specs.Prelude.{ℕ, Bool, true, false, Option, Some, None, if◌then◌else◌, ◌≡◌, ◌≢◌, ◌⊎◌}
 use Rattle.lot_base.specs.declared.wants.Want.{Want}
 use Rattle.lot_base.specs.declared.wants.Want.TheVariants.{Exclusive, Upgradable, Shared}
 use Rattle.lot_calls.specs.declared.kinds.Kind.{Kind}
@@ -16,6 +16,7 @@ use Rattle.lot_calls.specs.declared.calls.Downgrade.{Downgrade}
 use Rattle.lot_calls.specs.declared.calls.Downgrade.TheVariants as downgrade
 use Rattle.lot_calls.specs.declared.calls.RwLockCall.{RwLockCall}
 use Rattle.lot_calls.specs.declared.calls.RwLockCall.TheVariants as rwlock_call
+use Rattle.lot_calls.specs.Kinds.{is_built}
 use Rattle.abstract_locks.specs.Locks.{Rules, Mutex, Normal, Recursive, LockCase, Enter, Pend, Settle, Leave, Convert, Park, Aside, TakeFirst, TakeAside, TakePicked, Wake, HandOff, Late, Rollback}
 
 -- what a call of a lock is for
@@ -49,18 +50,25 @@ abbrev pub to_of : Downgrade → Access
 to_of downgrade.ToUpgradable = access.Upgradable
 to_of d = access.Shared
 
+-- a shared right is given up as by any release, in a fair release and in a bump too
+abbrev pub is_fair_bump : Want → Bool
+is_fair_bump Shared = false
+is_fair_bump x = true
+
 abbrev pub rwlock_purpose : ℕ → RwLockCall → Purpose
 rwlock_purpose l (rwlock_call.Enter x how) = Enters l (wanted x) how
 rwlock_purpose l (rwlock_call.Release x) = Releases l (wanted x) false
 rwlock_purpose l (rwlock_call.Downgrade d) = Converts l (wanted (from_of d)) (wanted (to_of d)) Patient
 rwlock_purpose l (rwlock_call.Upgrade how) = Converts l Upgradable Exclusive how
+rwlock_purpose l (rwlock_call.ReleaseFair x) = Releases l (wanted x) (is_fair_bump (wanted x))
+rwlock_purpose l (rwlock_call.Bump x) = Bumps l (wanted x)
 
 -- what a call of a lock of this kind is for; nothing where the kind lacks the call
 abbrev pub purpose_of : Kind → Call → Option Purpose
 purpose_of kind.TheVariants.Mutex (call.TheVariants.Mutex l c) = Some (mutex_purpose false l c)
 purpose_of kind.TheVariants.Fair (call.TheVariants.Mutex l c) = Some (mutex_purpose true l c)
-purpose_of (kind.TheVariants.RwLock limit) (call.TheVariants.RwLock l c) = Some (rwlock_purpose l c)
-purpose_of (kind.TheVariants.Recursive limit) (call.TheVariants.RwLock l c) = Some (rwlock_purpose l c)
+purpose_of (kind.TheVariants.RwLock limit) (call.TheVariants.RwLock l c) = if is_built c then Some (rwlock_purpose l c) else None
+purpose_of (kind.TheVariants.Recursive limit) (call.TheVariants.RwLock l c) = if is_built c then Some (rwlock_purpose l c) else None
 purpose_of k c = None
 
 -- the lock of which a call is
@@ -125,10 +133,6 @@ ConvertsBy x y p gave_up (TakePicked start) =
     ((y ≢ Exclusive) × (start ≡ Some y)) ⊎ ((gave_up ≢ None) × (start ≡ Some x))
 ConvertsBy x y p gave_up Wake = (y ≢ Exclusive) ⊎ (gave_up ≢ None)
 ConvertsBy x y p gave_up case = ⊥
-
-abbrev pub is_fair_bump : Want → Bool
-is_fair_bump Shared = false
-is_fair_bump x = true
 
 -- what a bump does before it enters again: it gives its right up once
 abbrev pub GivesWay : Want → Bool → LockCase → Type 0

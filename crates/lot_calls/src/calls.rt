@@ -64,6 +64,11 @@ pub enum RwLockCall {
     Downgrade(Downgrade),
     /// Turns the upgradable right, which it needs, into the exclusive one.
     Upgrade(Patience),
+    /// Needs the right that it gives up, and hands the lock over where somebody waits. A shared right is released as by any
+    /// release.
+    ReleaseFair(Access),
+    /// Needs the right, and waits for it again where it has given it up: it does so only where somebody waits.
+    Bump(Access),
 }
 
 /// What a thread is to do.

@@ -58,4 +58,9 @@ fn both_reader_writer_locks_have_their_calls(rt: HostRuntime) {
         assert!(rt; Kind::Recursive { limit: 1 }.has_call(call));
         assert!(rt; !Kind::Mutex.has_call(call) && !Kind::Condvar.has_call(call));
     }
+    let fair = Call::RwLock {
+        lock: 3,
+        call: RwLockCall::ReleaseFair(Access::Shared),
+    };
+    assert!(rt; !Kind::RwLock { limit: 1 }.has_call(fair));
 }

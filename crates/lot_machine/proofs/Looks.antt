@@ -13,7 +13,11 @@ use Rattle.lot_rwlock.specs.declared.places.RwLockAt.{RwLockAt}
 use Rattle.lot_rwlock.specs.declared.places.RwLockAt.TheVariants as at
 use Rattle.lot_rwlock.specs.RwLockSteps.{rwlock_act}
 use Rattle.lot_rwlock.specs.RwLockProfiles.{rwlock_looking, looking_at, gone_to}
-use Rattle.lot_rwlock.proofs.RwLockCallPlaces.{rwlock_looks_stand}
+use Rattle.lot_rwlock_fair.specs.declared.places.RwLockCallPlace.{RwLockCallPlace}
+use Rattle.lot_rwlock_fair.specs.declared.places.RwLockCallPlace.TheVariants.{Plain, Glance, HandOver, Bump, Handed}
+use Rattle.lot_rwlock_fair.specs.FairSteps.{call_act}
+use Rattle.lot_rwlock_fair.specs.FairProfiles.{call_looking, in_call}
+use Rattle.lot_rwlock_fair.proofs.FairSleepers.{fair_looks_stand}
 use Rattle.lot_steps.specs.declared.places.Place.{Place}
 use Rattle.lot_steps.specs.declared.places.Place.TheVariants.{Idle, Mutex, RwLock}
 use Rattle.lot_steps.specs.Steps.{act_of, lock_of, looking, in_mutex, in_rwlock, profile}
@@ -31,22 +35,40 @@ some_is : (p q : Place) → Some p ≡ Some q → p ≡ q
 some_is p q e = cc
 
 -- a look of a reader-writer call
-rwlock_look : (l : ℕ) (a : Admission) (p : RwLockPlace) (q : Place) → in_rwlock l a (rwlock_looking a p) ≡ Some q → IsLook (RwLock l a p) q
-rwlock_look l a p q is = by_place (rwlock_looking a p) refl is
+rwlock_loads : (l : ℕ) (a : Admission) (p p2 : RwLockPlace) → rwlock_looking a p ≡ Some p2 → rwlock_act l a p2 ≡ Word l Load
+rwlock_loads l a p p2 is = loads p.at is
   where
-    loads : (to : RwLockAt) (p2 : RwLockPlace) → gone_to p (looking_at a p to) ≡ Some p2 → rwlock_act l a p2 ≡ Word l Load
-    loads (at.Decide seen) p2 e = by_mark _ e
+    loads : (to : RwLockAt) → gone_to p (looking_at a p to) ≡ Some p2 → rwlock_act l a p2 ≡ Word l Load
+    loads (at.Decide seen) e = by_mark _ e
       where
         by_mark : (b : Bool) → gone_to p (if b then Some at.Load else None) ≡ Some p2 → rwlock_act l a p2 ≡ Word l Load
         by_mark true e = let there : record p { at = at.Load } ≡ p2 = cc in subst (λ x. rwlock_act l a x ≡ Word l Load) there refl
         by_mark false e = absurd cc
-    loads (at.Count seen) p2 e = let there : record p { at = at.Look } ≡ p2 = cc in subst (λ x. rwlock_act l a x ≡ Word l Load) there refl
-    loads to p2 e = absurd cc
+    loads (at.Count seen) e = let there : record p { at = at.Look } ≡ p2 = cc in subst (λ x. rwlock_act l a x ≡ Word l Load) there refl
+    loads to e = absurd cc
 
-    by_place : (o : Option RwLockPlace) → rwlock_looking a p ≡ o → in_rwlock l a o ≡ Some q → IsLook (RwLock l a p) q
+call_loads : (l : ℕ) (a : Admission) (c d : RwLockCallPlace) → call_looking a c ≡ Some d → call_act l a d ≡ Word l Load
+call_loads l a (Plain p) d is = by_place (rwlock_looking a p) refl is
+  where
+    by_place : (o : Option RwLockPlace) → rwlock_looking a p ≡ o → in_call false o ≡ Some d → call_act l a d ≡ Word l Load
     by_place None e is = absurd cc
-    by_place (Some p2) e is = subst (IsLook (RwLock l a p)) (some_is (RwLock l a p2) q is)
-        (record { lock = l; before = refl; now = refl; loads = loads p.at p2 e; row = (rwlock_looks_stand a p p2 e).0; fits = λ locks h. h })
+    by_place (Some p2) e is = let there : Plain p2 ≡ d = cc in subst (λ x. call_act l a x ≡ Word l Load) there (rwlock_loads l a p p2 e)
+call_loads l a (Bump p) d is = by_place (rwlock_looking a p) refl is
+  where
+    by_place : (o : Option RwLockPlace) → rwlock_looking a p ≡ o → in_call true o ≡ Some d → call_act l a d ≡ Word l Load
+    by_place None e is = absurd cc
+    by_place (Some p2) e is = let there : Bump p2 ≡ d = cc in subst (λ x. call_act l a x ≡ Word l Load) there (rwlock_loads l a p p2 e)
+call_loads l a (Glance x) d is = absurd cc
+call_loads l a (HandOver x b to) d is = absurd cc
+call_loads l a (Handed x how b to) d is = absurd cc
+
+rwlock_look : (l : ℕ) (a : Admission) (c : RwLockCallPlace) (q : Place) → in_rwlock l a (call_looking a c) ≡ Some q → IsLook (RwLock l a c) q
+rwlock_look l a c q is = by_place (call_looking a c) refl is
+  where
+    by_place : (o : Option RwLockCallPlace) → call_looking a c ≡ o → in_rwlock l a o ≡ Some q → IsLook (RwLock l a c) q
+    by_place None e is = absurd cc
+    by_place (Some d) e is = subst (IsLook (RwLock l a c)) (some_is (RwLock l a d) q is)
+        (record { lock = l; before = refl; now = refl; loads = call_loads l a c d e; row = (fair_looks_stand a c d e).0; fits = λ locks h. h })
 
 pub look : (p q : Place) → looking p ≡ Some q → IsLook p q
 look Idle q is = absurd cc

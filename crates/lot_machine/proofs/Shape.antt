@@ -35,9 +35,9 @@ use Rattle.lot_calls.specs.declared.calls.MutexCall as mutex_call
 use Rattle.lot_base.specs.declared.keys.Line.{Line}
 use Rattle.lot_base.specs.Keys.{key_of}
 use Rattle.lot_rwlock.specs.declared.places.Admission.{Admission}
-use Rattle.lot_rwlock.specs.declared.places.RwLockPlace.{RwLockPlace}
-use Rattle.lot_rwlock.specs.RwLockSteps.{rwlock_next}
-use Rattle.lot_rwlock.specs.RwLockProfiles.{rwlock_late_line}
+use Rattle.lot_rwlock_fair.specs.declared.places.RwLockCallPlace.{RwLockCallPlace}
+use Rattle.lot_rwlock_fair.specs.FairSteps.{call_next}
+use Rattle.lot_rwlock_fair.specs.FairProfiles.{call_profile}
 use Rattle.lot_mutex.specs.declared.lock.Entry.{Entry}
 use Rattle.lot_mutex.specs.declared.places.MutexPlace.{MutexPlace}
 use Rattle.lot_mutex.specs.declared.places.MutexPlace.TheVariants.{Lock, TryLock, Unlock, UnlockFair, Bump, HandOff}
@@ -237,7 +237,7 @@ goes_fits : (locks l : ℕ) (n : Next MutexPlace) → l < locks → NextFits n �
 goes_fits locks l (next.TheVariants.At at) lt h = (lt, h)
 goes_fits locks l (next.TheVariants.End answer) lt h = tt
 
-rwlock_fits : (locks l : ℕ) (a : Admission) (n : Next RwLockPlace) → l < locks → PlaceFits locks (rwlock_goes l a n)
+rwlock_fits : (locks l : ℕ) (a : Admission) (n : Next RwLockCallPlace) → l < locks → PlaceFits locks (rwlock_goes l a n)
 rwlock_fits locks l a (next.TheVariants.At at) lt = lt
 rwlock_fits locks l a (next.TheVariants.End answer) lt = tt
 
@@ -249,7 +249,7 @@ next_fits locks (Mutex l (Unlock at)) reply h r = goes_fits locks l (mutex_next 
 next_fits locks (Mutex l UnlockFair) reply h r = goes_fits locks l (mutex_next UnlockFair reply) h.0 (unlock_fair_fits reply)
 next_fits locks (Mutex l Bump) reply h r = goes_fits locks l (mutex_next Bump reply) h.0 (bump_fits reply)
 next_fits locks (Mutex l (HandOff bumps at)) reply h r = goes_fits locks l (mutex_next (HandOff bumps at) reply) h.0 (hand_off_fits l bumps at reply r)
-next_fits locks (RwLock l a at) reply h r = rwlock_fits locks l a (rwlock_next a at reply) h
+next_fits locks (RwLock l a at) reply h r = rwlock_fits locks l a (call_next a at reply) h
 
 first_fits : (locks l : ℕ) (fair : Bool) (c : MutexCall) → l < locks → PlaceFits locks (Mutex l (mutex_first fair c))
 first_fits locks l fair mutex_call.TheVariants.Lock h = (h, tt)
@@ -557,7 +557,7 @@ lated_shaped w t s = by_place (place_at w t) refl
     by_place (Mutex l UnlockFair) e = s
     by_place (Mutex l Bump) e = s
     by_place (Mutex l (HandOff bumps at)) e = s
-    by_place (RwLock l a at) e = by_line (rwlock_late_line at)
+    by_place (RwLock l a at) e = by_line (call_profile a at).late_line
       where
         by_line : (m : Option Line) → IsShaped (state_after_late_on w t (key_in (Some l) m))
         by_line None = s

@@ -424,23 +424,23 @@ module _ (a : Admission) (l : ℕ) where
   is_late_then q again (at.Aside to) fits may = absurd (may refl)
   is_late_then q again to fits may = absurd (may refl)
 
--- who is taken stands somewhere of its call, which is as it was
+-- who is taken stands somewhere of its call, which is as it was, and for the same purpose
 pub taken_goes : (a : Admission) (l : ℕ) (p : RwLockPlace) (u : ℕ) → (p2 : RwLockPlace) × (rwlock_next a p (reply.TakenBy u) ≡ next.At p2)
-    × ((rights : ℕ → Rights) → call_by l (rwlock_profile a p2) rights ≡ call_by l (rwlock_profile a p) rights)
-taken_goes a l p u = (of a p.purpose p.retries (taken_to a l u p.at), takes a l p.purpose p.retries p.at u, taken_same a l p.purpose p.retries p.at u)
+    × ((rights : ℕ → Rights) → call_by l (rwlock_profile a p2) rights ≡ call_by l (rwlock_profile a p) rights) × (p2.purpose ≡ p.purpose)
+taken_goes a l p u = (of a p.purpose p.retries (taken_to a l u p.at), takes a l p.purpose p.retries p.at u, taken_same a l p.purpose p.retries p.at u, refl)
 
 -- who was taken, and is woken, does too, and it tries again
 pub woken_goes : (a : Admission) (l : ℕ) (p : RwLockPlace) (u : ℕ) → hand_at p.at ≡ hand u false → (p2 : RwLockPlace) × (rwlock_next a p (reply.Woken note.Normal) ≡ next.At p2)
-    × ((rights : ℕ → Rights) → call_by l (rwlock_profile a p2) rights ≡ record (call_by l (rwlock_profile a p) rights) { retries = Some l })
+    × ((rights : ℕ → Rights) → call_by l (rwlock_profile a p2) rights ≡ record (call_by l (rwlock_profile a p) rights) { retries = Some l }) × (p2.purpose ≡ p.purpose)
 woken_goes a l p u h = by_place p.at refl h
   where
     at_once : (to goes_to : RwLockAt) → p.at ≡ to → hand_at to ≡ hand u false → rwlock_next a (of a p.purpose p.retries to) (reply.Woken note.Normal) ≡ next.At (of a p.purpose true goes_to)
-        → (p2 : RwLockPlace) × (rwlock_next a p (reply.Woken note.Normal) ≡ next.At p2) × ((rights : ℕ → Rights) → call_by l (rwlock_profile a p2) rights ≡ record (call_by l (rwlock_profile a p) rights) { retries = Some l })
+        → (p2 : RwLockPlace) × (rwlock_next a p (reply.Woken note.Normal) ≡ next.At p2) × ((rights : ℕ → Rights) → call_by l (rwlock_profile a p2) rights ≡ record (call_by l (rwlock_profile a p) rights) { retries = Some l }) × (p2.purpose ≡ p.purpose)
     at_once to goes_to e h is = let then_is : rwlock_next a p (reply.Woken note.Normal) ≡ next.At (of a p.purpose true goes_to) = ap (λ x. rwlock_next a (of a p.purpose p.retries x) (reply.Woken note.Normal)) e ∙ is in
-        (of a p.purpose true goes_to, then_is, λ rights. wakes_up a l p.purpose p.retries p.at u (rw e h) (of a p.purpose true goes_to) rights then_is)
+        (of a p.purpose true goes_to, then_is, λ rights. wakes_up a l p.purpose p.retries p.at u (rw e h) (of a p.purpose true goes_to) rights then_is, refl)
 
     by_place : (to : RwLockAt) → p.at ≡ to → hand_at to ≡ hand u false → (p2 : RwLockPlace) × (rwlock_next a p (reply.Woken note.Normal) ≡ next.At p2)
-        × ((rights : ℕ → Rights) → call_by l (rwlock_profile a p2) rights ≡ record (call_by l (rwlock_profile a p) rights) { retries = Some l })
+        × ((rights : ℕ → Rights) → call_by l (rwlock_profile a p2) rights ≡ record (call_by l (rwlock_profile a p) rights) { retries = Some l }) × (p2.purpose ≡ p.purpose)
     by_place (at.Park (parking.Taken v)) e h = at_once (at.Park (parking.Taken v)) at.Load e h refl
     by_place (at.Aside (parking.Taken v)) e h = at_once (at.Aside (parking.Taken v)) at.Look e h refl
     by_place (at.Park to) e h = absurd cc

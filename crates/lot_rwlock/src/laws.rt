@@ -66,7 +66,7 @@ pub fn rwlock_late_moves()
     ensures { RwLockLateMove }
 {}
 
-/// A call begins where it may stand, nowhere in the sections and lines of the lock, and claims a right that its thread has.
+/// A call begins where it may stand, nowhere in the sections and lines of the lock, and has done nothing.
 pub fn rwlock_calls_open()
     ensures { RwLockCallsOpen }
 {}

@@ -11,7 +11,7 @@ pub mod places;
 pub mod purposes;
 pub mod release;
 
-pub use begin::rwlock_right;
+pub use begin::has_access;
 pub use changes::Change;
 pub use places::{Admission, RwLockAt, RwLockPlace};
 pub use purposes::RwLockPurpose;

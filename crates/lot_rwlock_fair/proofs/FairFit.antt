@@ -164,7 +164,7 @@ module _ (r : Rules) (a : Admission) (s : Site) (t l : ℕ) (op : Op) (admits : 
 
   hand_over_follows : (x : Access) (b : Bool) (to : HandOverAt) → HandsOverAt x to → s.doing t ≡ call_doing (HandOver x b to) → hand_over_act l a x to ≡ act.Word l op → FollowsAt (HandOver x b to)
   hand_over_follows x b handing.Load fits is e = rests r s t admits.0 h tells _ (is ∙ sym (looked_doing (wanted x) v))
-  hand_over_follows access.Exclusive b (handing.Free expected) fits is e = freed access.Exclusive b expected fits fits is (v == expected) refl
+  hand_over_follows access.Exclusive b (handing.Free expected) fits is e = freed access.Exclusive b expected fits (ap has_parked fits) is (v == expected) refl
   hand_over_follows access.Upgradable b (handing.Free expected) fits is e = freed access.Upgradable b expected fits fits is (v == expected) refl
   hand_over_follows access.Shared b (handing.Free expected) fits is e = absurd fits
   hand_over_follows x b (handing.Look k) fits is e = rests r s t admits.0 h tells _ is

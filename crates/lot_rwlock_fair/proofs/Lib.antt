@@ -12,4 +12,5 @@ pub mod FairTells
 pub mod FairCallTells
 pub mod FairSleepers
 pub mod FairMoves
+pub mod FairActs
 pub mod FairOwners

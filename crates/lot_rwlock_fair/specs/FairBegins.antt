@@ -1,33 +1,41 @@
--- Where a fair release and a bump begin.
-use Rattle.std.specs.Prelude.{ℕ, false}
+-- Where each call of a reader-writer lock begins, and the right that it needs.
+use Rattle.std.specs.Prelude.{ℕ, Bool, true, false}
 use Rattle.lot_calls.specs.declared.calls.Access.{Access}
 use Rattle.lot_calls.specs.declared.calls.Access.TheVariants as access
+use Rattle.lot_calls.specs.declared.calls.RwLockCall.{RwLockCall}
 use Rattle.lot_calls.specs.declared.calls.RwLockCall.TheVariants as call
-use Rattle.abstract_locks.specs.Purposes.{Purpose, Releases, Bumps, is_fair_bump}
-use Rattle.lot_rwlock.specs.RwLockBegins.{rwlock_first}
-use Rattle.lot_rwlock.specs.RwLockSteps.{wanted}
-use Rattle.lot_rwlock_fair.specs.declared.begin.FairCall.{FairCall}
-use Rattle.lot_rwlock_fair.specs.declared.begin.FairCall.TheVariants.{Release, Bump}
+use Rattle.lot_acts.specs.declared.owners.Owners.{Owners}
+use Rattle.lot_rwlock.specs.declared.purposes.RwLockPurpose.{RwLockPurpose}
+use Rattle.lot_rwlock.specs.declared.purposes.RwLockPurpose.TheVariants as purpose
+use Rattle.lot_rwlock.specs.RwLockBegins.{rwlock_first, has_access}
+use Rattle.lot_rwlock.specs.RwLockSteps.{from_of}
 use Rattle.lot_rwlock_fair.specs.declared.places.RwLockCallPlace.{RwLockCallPlace}
 use Rattle.lot_rwlock_fair.specs.declared.places.RwLockCallPlace.TheVariants.{Plain, Glance, HandOver}
 use Rattle.lot_rwlock_fair.specs.declared.hand_over.HandOverAt.TheVariants as handing
 
+-- a call that neither hands the lock over nor bumps
+abbrev pub plain_first : RwLockPurpose → RwLockCallPlace
+plain_first q = Plain (rwlock_first q)
+
 -- an exclusive owner tries a word that tells of nobody else, and an upgradable one looks
 abbrev pub release_first : Access → RwLockCallPlace
-release_first access.Shared = Plain (rwlock_first (call.Release access.Shared))
+release_first access.Shared = plain_first (purpose.Release access.Shared)
 release_first access.Upgradable = HandOver access.Upgradable false handing.Load
 release_first access.Exclusive = HandOver access.Exclusive false (handing.Free 8)
 
-abbrev pub fair_first : FairCall → RwLockCallPlace
-fair_first (Release x) = release_first x
-fair_first (Bump x) = Glance x
+abbrev pub call_first : RwLockCall → RwLockCallPlace
+call_first (call.Enter x how) = plain_first (purpose.Enter x how)
+call_first (call.Release x) = plain_first (purpose.Release x)
+call_first (call.Downgrade d) = plain_first (purpose.Downgrade d)
+call_first (call.Upgrade how) = plain_first (purpose.Upgrade how)
+call_first (call.ReleaseFair x) = release_first x
+call_first (call.Bump x) = Glance x
 
--- the right that it needs
-abbrev pub right_of : FairCall → Access
-right_of (Release x) = x
-right_of (Bump x) = x
-
--- a shared right is released as by any release
-abbrev pub fair_purpose : ℕ → FairCall → Purpose
-fair_purpose l (Release x) = Releases l (wanted x) (is_fair_bump (wanted x))
-fair_purpose l (Bump x) = Bumps l (wanted x)
+-- whether a thread has the right that the call needs
+abbrev pub call_right : RwLockCall → ℕ → Owners → ℕ → Bool
+call_right (call.Enter x how) t owners shares = true
+call_right (call.Release x) t owners shares = has_access x t owners shares
+call_right (call.Downgrade d) t owners shares = has_access (from_of d) t owners shares
+call_right (call.Upgrade how) t owners shares = has_access access.Upgradable t owners shares
+call_right (call.ReleaseFair x) t owners shares = has_access x t owners shares
+call_right (call.Bump x) t owners shares = has_access x t owners shares

@@ -37,10 +37,11 @@ IsOfBump (purpose.Enter x Patient) retries = Unit {0}
 IsOfBump (purpose.Release access.Shared) retries = retries ≡ false
 IsOfBump q retries = ⊥
 
--- an exclusive owner knows the word but for those who wait, and hands over whatever it takes; an upgradable one looks; who sees nobody wait enters no section
+-- an exclusive owner tries the word that tells of nobody else, and hands over whatever it takes; an upgradable one looks; who sees nobody wait enters no section
 abbrev pub HandsOverAt : Access → HandOverAt → Type 0
 HandsOverAt access.Shared to = ⊥
-HandsOverAt x (handing.Free seen) = has_parked seen ≡ false
+HandsOverAt access.Exclusive (handing.Free seen) = seen ≡ 8
+HandsOverAt access.Upgradable (handing.Free seen) = has_parked seen ≡ false
 HandsOverAt access.Exclusive handing.Load = ⊥
 HandsOverAt access.Exclusive (handing.Look k) = ⊥
 HandsOverAt access.Exclusive (handing.Exchange k seen) = ⊥

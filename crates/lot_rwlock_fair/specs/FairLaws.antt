@@ -21,13 +21,13 @@ use Rattle.abstract_locks.specs.Sites.{Site, Claim, Has, Pends, HasClaim}
 use Rattle.abstract_locks.specs.Codes.{code, HasLimit}
 use Rattle.abstract_locks.specs.Deeds.{after_all}
 use Rattle.lot_rwlock.specs.declared.places.Admission.{Admission}
-use Rattle.lot_rwlock.specs.RwLockBegins.{has_access}
 use Rattle.lot_rwlock.specs.RwLockDeeds.{Follows}
 use Rattle.lot_rwlock.specs.RwLockOpenings.{IsOpening}
 use Rattle.lot_rwlock.specs.RwLockCalls.{IsNotLate}
 use Rattle.lot_acts.specs.Moves.{claim_handed}
-use Rattle.lot_rwlock_fair.specs.declared.begin.FairCall.{FairCall}
-use Rattle.lot_rwlock_fair.specs.FairBegins.{fair_first, fair_purpose, right_of}
+use Rattle.lot_calls.specs.declared.calls.RwLockCall.{RwLockCall}
+use Rattle.abstract_locks.specs.Purposes.{rwlock_purpose}
+use Rattle.lot_rwlock_fair.specs.FairBegins.{call_first, call_right}
 use Rattle.lot_rwlock_fair.specs.FairProfiles.{call_profile, call_looking}
 use Rattle.lot_rwlock_fair.specs.declared.places.RwLockCallPlace.{RwLockCallPlace}
 use Rattle.lot_calls.specs.declared.calls.Access.{Access}
@@ -121,16 +121,16 @@ FairCallsStand =
     (a : Admission) (c : RwLockCallPlace) (told : Reply) → CallStands a c → CallMayBeTold a c told → CallStandsNext a (call_next a c told)
 
 -- what a call begins with: where it may stand, nowhere in the machine, and with the right that it needs
-pub record FairOpens (a : Admission) (c : FairCall) : Type 0 where
-  pub stands : CallStands a (fair_first c)
-  pub purpose : (l : ℕ) → (call_profile a (fair_first c)).purpose l ≡ fair_purpose l c
-  pub opening : IsOpening (call_profile a (fair_first c))
+pub record CallOpens (a : Admission) (c : RwLockCall) : Type 0 where
+  pub stands : CallStands a (call_first c)
+  pub purpose : (l : ℕ) → (call_profile a (call_first c)).purpose l ≡ rwlock_purpose l c
+  pub opening : IsOpening (call_profile a (call_first c))
   -- whoever has the right has what it claims
   pub has : (t : ℕ) (shared : List ℕ) (o : Owners) (main second : List Waiter) (taken : ℕ → Option TakenBy)
-      → has_access (right_of c) t o (slice_index shared t) ≡ true → HasClaim (lock_seen shared o main second taken) t opening.claims
+      → call_right c t o (slice_index shared t) ≡ true → HasClaim (lock_seen shared o main second taken) t opening.claims
 
-abbrev pub FairCallsOpen : Type 0
-FairCallsOpen = (a : Admission) (c : FairCall) → FairOpens a c
+abbrev pub CallsOpen : Type 0
+CallsOpen = (a : Admission) (c : RwLockCall) → CallOpens a c
 
 -- ---------------------------------------------------------------- what a step makes of a call
 

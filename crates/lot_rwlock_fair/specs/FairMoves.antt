@@ -1,17 +1,25 @@
--- Where a hand-over takes the thread that hands over, and those who are handed the lock, in the machine.
-use Rattle.std.specs.Prelude.{ℕ, Bool, true, false, Some, None, ◌≡◌}
+-- Where each step of a fair release and of a bump takes its thread in the machine, and where those go who are handed the lock.
+use Rattle.std.specs.Prelude.{ℕ, Bool, true, false, Some, None, ◌≡◌, ◌⊎◌}
+use Rattle.lot_base.specs.declared.keys.Keys.TheVariants.{One}
+use Rattle.lot_base.specs.declared.keys.Line.{Line}
+use Rattle.lot_base.specs.declared.keys.Line.TheVariants.{Main, Second}
 use Rattle.lot_base.specs.declared.ops.Op.{Op}
 use Rattle.lot_base.specs.declared.wants.Want.{Want}
+use Rattle.lot_base.specs.declared.wants.Want.TheVariants.{Exclusive}
+use Rattle.lot_base.specs.Keys.{key_of}
+use Rattle.lot_acts.specs.declared.acts.Act.{Act}
 use Rattle.lot_acts.specs.declared.acts.Act.TheVariants as act
-use Rattle.lot_acts.specs.Moves.{Move, HandsOver as Hands, IsGiven, WasGiven, row_of}
+use Rattle.lot_acts.specs.declared.acts.Reply.TheVariants.{Late}
+use Rattle.abstract_locks.specs.Sites.{Pends}
+use Rattle.lot_acts.specs.Moves.{Move, Hears, Moves, GoesIn, TellsHanded, Accepts, Sleeps, IsHeld, HandsOver as Hands, IsGiven, WasGiven, row_of, station_of}
 use Rattle.lot_acts.specs.Profiles.{hand}
 use Rattle.lot_rwlock.specs.declared.places.Admission.{Admission}
 use Rattle.lot_rwlock_fair.specs.declared.places.RwLockCallPlace.{RwLockCallPlace}
 use Rattle.lot_rwlock_fair.specs.declared.hand_over.Taken.{Taken}
 use Rattle.lot_rwlock_fair.specs.FairSteps.{call_act, call_next}
 use Rattle.lot_rwlock_fair.specs.FairDeeds.{call_deeds}
-use Rattle.lot_rwlock_fair.specs.FairProfiles.{call_profile}
-use Rattle.lot_rwlock_fair.specs.FairCalls.{CallStands, in_hand_of}
+use Rattle.lot_rwlock_fair.specs.FairProfiles.{call_profile, call_late_line}
+use Rattle.lot_rwlock_fair.specs.FairCalls.{CallStands, CallMayHear, in_hand_of}
 use Rattle.lot_rwlock_fair.specs.FairLaws.{next_rows}
 
 abbrev pub call_move : Admission → RwLockCallPlace → Move
@@ -36,3 +44,39 @@ pub record IsMoved (a : Admission) (c : RwLockCallPlace) : Type 0 where
 
 abbrev pub HandedMove : Type 0
 HandedMove = (a : Admission) (c : RwLockCallPlace) → CallStands a c → IsMoved a c
+
+-- ---------------------------------------------------------------- all acts
+
+-- what it may hear of its lock
+abbrev pub call_hears : Admission → RwLockCallPlace → Hears
+call_hears a c r s t whom told = CallMayHear r a s t c whom told
+
+-- by its act, as in any call; or it hands a right over, tells so to those who have it, or ends a call that was handed it
+abbrev pub CallMoves : ℕ → Bool → Move → Hears → Act → Type 0
+CallMoves l recursive x hears (act.HandOver k op) = (k ≡ l) × Hands x op
+CallMoves l recursive x hears (act.Leave keys wakes) =
+    Moves l recursive x hears (act.Leave keys wakes) ⊎ ((keys ≡ One (key_of l Main)) × TellsHanded x hears wakes)
+CallMoves l recursive x hears act.Accept = Accepts x hears
+CallMoves l recursive x hears act = Moves l recursive x hears act
+
+-- each place moves as its act says
+abbrev pub FairActsMove : Type 0
+FairActsMove =
+    (l : ℕ) (a : Admission) (c : RwLockCallPlace) → CallStands a c
+    → CallMoves l a.recursive (call_move a c) (call_hears a c) (call_act l a c)
+
+-- ---------------------------------------------------------------- what befalls a thread asleep
+
+-- who stands in a line sleeps there or is inside its section, only a pending writer stands aside, and who is in a hand is so to be woken until it is handed the lock
+pub record CallWaits (x : Move) : Type 0 where
+  pub aside : x.row.stands ≡ Some Second → (x.row.wants ≡ Some Exclusive) × ((falls_back : Bool) × (x.row.doing.claims ≡ Some (Pends falls_back)))
+  pub stands : (m : Line) → x.row.stands ≡ Some m → ((station_of x).inside ≡ Some m) ⊎ Sleeps x m
+  pub held : (u : ℕ) → x.row.hand ≡ hand u false → IsHeld x u
+
+abbrev pub FairSleepersMove : Type 0
+FairSleepersMove = (a : Admission) (c : RwLockCallPlace) → CallStands a c → CallWaits (call_move a c)
+
+-- into the section of its line, where its time is up
+abbrev pub FairLateMove : Type 0
+FairLateMove =
+    (a : Admission) (c : RwLockCallPlace) (m : Line) → call_late_line c ≡ Some m → GoesIn (call_move a c) (call_hears a c) m Late

@@ -28,13 +28,20 @@ use Rattle.lot_rwlock_fair.specs.FairDeeds.{call_doing, claim_at}
 -- ---------------------------------------------------------------- bumps
 
 -- the second half of a bump, which enters, began without the right that the bump found
+abbrev pub bump_released : RwLockPurpose → Bool → Bool
+bump_released (purpose.Enter x how) released = true
+bump_released q released = released
+
+abbrev pub bump_former : RwLockPurpose → ℕ → (ℕ → Rights) → ℕ → Rights
+bump_former (purpose.Enter x how) l rights = one_more_at l (wanted x) rights
+bump_former q l rights = rights
+
 abbrev pub bumping : RwLockPurpose → Profile → Profile
-bumping (purpose.Enter x how) row = record row {
-  purpose = λ l. Bumps l (wanted x);
-  released = true;
-  former = λ l rights. one_more_at l (wanted x) (row.former l rights);
+bumping q row = record row {
+  purpose = λ l. Bumps l (wanted (access_of q));
+  released = bump_released q row.released;
+  former = λ l rights. bump_former q l (row.former l rights);
 }
-bumping q row = record row { purpose = λ l. Bumps l (wanted (access_of q)) }
 
 -- ---------------------------------------------------------------- who hands over
 

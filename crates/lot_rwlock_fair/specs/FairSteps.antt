@@ -10,7 +10,6 @@ use Rattle.lot_calls.specs.declared.calls.Access.{Access}
 use Rattle.lot_calls.specs.declared.calls.Access.TheVariants as access
 use Rattle.lot_calls.specs.declared.calls.Patience.{Patience}
 use Rattle.lot_calls.specs.declared.calls.Patience.TheVariants.{Patient}
-use Rattle.lot_calls.specs.declared.calls.RwLockCall.TheVariants as call
 use Rattle.lot_calls.specs.declared.outcomes.Answer.{Answer}
 use Rattle.lot_calls.specs.declared.outcomes.Answer.TheVariants.{Ok}
 use Rattle.abstract_locks.specs.Codes.{count_in, has_parked, has_writer}
@@ -82,7 +81,7 @@ abbrev pub entering : Bool → RwLockPlace → RwLockCallPlace
 entering bumps p = if bumps then Bump p else Plain p
 
 abbrev pub enters_again : Access → RwLockCallPlace
-enters_again x = Bump (rwlock_first (call.Enter x Patient))
+enters_again x = Bump (rwlock_first (purpose.Enter x Patient))
 
 -- behind its release a bump enters again
 abbrev pub released : Access → Bool → Next RwLockCallPlace
@@ -151,7 +150,7 @@ gives_way a access.Shared seen = has_writer seen && (not a.recursive || (count_i
 gives_way a x seen = has_parked seen
 
 abbrev pub gives_up_at : Access → RwLockCallPlace
-gives_up_at access.Shared = Bump (rwlock_first (call.Release access.Shared))
+gives_up_at access.Shared = Bump (rwlock_first (purpose.Release access.Shared))
 gives_up_at access.Upgradable = HandOver access.Upgradable true handing.Load
 gives_up_at access.Exclusive = HandOver access.Exclusive true handing.Enter
 

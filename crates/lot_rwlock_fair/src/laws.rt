@@ -1,6 +1,6 @@
 //! What the steps of fair releases and bumps do to the lock.
-ghost use Rattle.lot_rwlock_fair.specs.FairLaws.{FairOwnersFollow, GiversKeep, FairCallsOpen, FairCallsStand, FairLooksStand, FairSectionsFollow, FairSectionsTell, FairSleepersHear, FairStepsTell, HandOversGive, FairStepsCode, FairStepsFollow, HandOversCode, HandOversFollow, HandOversKeepLimit, HandOversTell};
-ghost use Rattle.lot_rwlock_fair.specs.FairMoves.{HandOversMove, HandedMove};
+ghost use Rattle.lot_rwlock_fair.specs.FairLaws.{FairOwnersFollow, GiversKeep, CallsOpen, FairCallsStand, FairLooksStand, FairSectionsFollow, FairSectionsTell, FairSleepersHear, FairStepsTell, HandOversGive, FairStepsCode, FairStepsFollow, HandOversCode, HandOversFollow, HandOversKeepLimit, HandOversTell};
+ghost use Rattle.lot_rwlock_fair.specs.FairMoves.{FairActsMove, FairLateMove, FairSleepersMove, HandOversMove, HandedMove};
 
 /// Each step on the word may do to the lock what its deeds say, and its next place says what the thread does then.
 pub fn fair_steps_follow()
@@ -43,8 +43,8 @@ pub fn fair_calls_stand()
 {}
 
 /// A call begins where it may stand, nowhere in the sections and lines of the lock, and claims a right that its thread has.
-pub fn fair_calls_open()
-    ensures { FairCallsOpen }
+pub fn calls_open()
+    ensures { CallsOpen }
 {}
 
 /// The step that hands the lock over makes of its call what its next row says, and the call is made of that case.
@@ -75,6 +75,21 @@ pub fn fair_looks_stand()
 /// The step that hands the lock over does so as its act says: all whom the thread has in hand are handed it.
 pub fn hand_overs_move()
     ensures { HandOversMove }
+{}
+
+/// Each step takes its thread into the sections and lines of the lock, out of them, and into hands as its act says.
+pub fn fair_acts_move()
+    ensures { FairActsMove }
+{}
+
+/// Who stands in a line sleeps there or is inside its section; who is taken is in a hand, and who is woken in none.
+pub fn fair_sleepers_move()
+    ensures { FairSleepersMove }
+{}
+
+/// And whose time is up goes into the section of its line.
+pub fn fair_late_moves()
+    ensures { FairLateMove }
 {}
 
 /// Whoever is handed the lock is so from then on, and out of every hand from its wake on.

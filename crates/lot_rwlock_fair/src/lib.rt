@@ -9,7 +9,7 @@ pub mod places;
 #[cfg(test)]
 mod tests;
 
-pub use begin::FairCall;
+pub use begin::call_right;
 pub use hand_over::{HandOverAt, Taken};
 pub use handed::HandedAt;
 pub use places::RwLockCallPlace;

@@ -10,7 +10,7 @@ use crate::handed::{HandedAt, handed_act, handed_next, handed_woken};
 use lot_acts::bits::{count_in, has_parked, has_writer};
 use lot_acts::{Act, Next, Owners, Reply};
 use lot_base::{Line, Note, Op, Want};
-use lot_calls::{Access, Answer, Patience, RwLockCall};
+use lot_calls::{Access, Answer, Patience};
 use lot_rwlock::park::ParkAt;
 use lot_rwlock::purposes::wanted;
 use lot_rwlock::{Admission, RwLockAt, RwLockPlace, RwLockPurpose};
@@ -53,7 +53,7 @@ pub(super) fn entering(bumps: bool, place: RwLockPlace) -> RwLockCallPlace
 pub(super) fn enters_again(access: Access) -> RwLockCallPlace
     ensures { result ≡ enters_again access }
 {
-    RwLockCallPlace::Bump(RwLockPlace::first(RwLockCall::Enter {
+    RwLockCallPlace::Bump(RwLockPlace::first(RwLockPurpose::Enter {
         access,
         patience: Patience::Patient,
     }))
@@ -122,7 +122,7 @@ fn gives_up_at(access: Access) -> RwLockCallPlace
         at,
     };
     match access {
-        Access::Shared => RwLockCallPlace::Bump(RwLockPlace::first(RwLockCall::Release(access))),
+        Access::Shared => RwLockCallPlace::Bump(RwLockPlace::first(RwLockPurpose::Release(access))),
         Access::Upgradable => hands_over(HandOverAt::Load),
         Access::Exclusive => hands_over(HandOverAt::Enter),
     }

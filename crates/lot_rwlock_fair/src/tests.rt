@@ -1,9 +1,9 @@
 //! Words and notes of hand-overs, against tables worked out by hand.
 
-use crate::{FairCall, HandOverAt, RwLockCallPlace, Taken};
+use crate::{HandOverAt, RwLockCallPlace, Taken};
 use lot_acts::{Act, Next, Reply, Wakes};
 use lot_base::{Note, Op, Want};
-use lot_calls::Access;
+use lot_calls::{Access, RwLockCall};
 use lot_rwlock::Admission;
 
 fn admission(recursive: bool) -> Admission {
@@ -95,10 +95,10 @@ fn a_bump_begins_with_a_look(rt: HostRuntime) {
     };
     for access in [Access::Shared, Access::Upgradable, Access::Exclusive] {
         assert!(rt;
-            RwLockCallPlace::first(FairCall::Bump(access)).act(0, admission(false)) == load
+            RwLockCallPlace::first(RwLockCall::Bump(access)).act(0, admission(false)) == load
         );
     }
-    let glance = RwLockCallPlace::first(FairCall::Bump(Access::Shared));
+    let glance = RwLockCallPlace::first(RwLockCall::Bump(Access::Shared));
     let goes_on = |recursive: bool, seen: u64| {
         matches!(
             glance.next(admission(recursive), Reply::Value(seen)),

@@ -19,21 +19,22 @@ use Rattle.lot_base.specs.declared.wants.Want.{Want}
 use Rattle.lot_base.specs.Keys.{key_of}
 use Rattle.lot_acts.specs.Profiles.{Profile, blank, bringing_nobody, hand_owner}
 use Rattle.lot_rwlock.specs.declared.places.Admission.{Admission}
-use Rattle.lot_rwlock.specs.declared.places.RwLockPlace.{RwLockPlace}
-use Rattle.lot_rwlock.specs.RwLockBegins.{admission_of, rwlock_first, rwlock_right}
-use Rattle.lot_rwlock.specs.RwLockSteps.{rwlock_act, rwlock_next, rwlock_owners, rwlock_shares}
-use Rattle.lot_rwlock.specs.RwLockProfiles.{rwlock_profile, rwlock_looking}
+use Rattle.lot_rwlock.specs.RwLockBegins.{admission_of}
+use Rattle.lot_rwlock_fair.specs.declared.places.RwLockCallPlace.{RwLockCallPlace}
+use Rattle.lot_rwlock_fair.specs.FairBegins.{call_first, call_right}
+use Rattle.lot_rwlock_fair.specs.FairSteps.{call_act, call_next, call_owners, call_shares}
+use Rattle.lot_rwlock_fair.specs.FairProfiles.{call_profile, call_looking}
 use Rattle.lot_mutex.specs.MutexProfiles.{mutex_profile}
 
 -- where a call of a lock of a kind begins
 abbrev pub first_place : Kind → Call → Place
 first_place kind (call.TheVariants.Mutex lock c) = Mutex lock (mutex_first (is_fair kind) c)
-first_place kind (call.TheVariants.RwLock lock c) = RwLock lock (admission_of kind) (rwlock_first c)
+first_place kind (call.TheVariants.RwLock lock c) = RwLock lock (admission_of kind) (call_first c)
 
 -- whether a thread has the right that a call needs
 abbrev pub has_right : Call → ℕ → Owners → ℕ → Bool
 has_right (call.TheVariants.Mutex lock c) t owners shares = mutex_right c t owners
-has_right (call.TheVariants.RwLock lock c) t owners shares = rwlock_right c t owners shares
+has_right (call.TheVariants.RwLock lock c) t owners shares = call_right c t owners shares
 
 abbrev pub is_idle : Place → Bool
 is_idle Idle = true
@@ -59,7 +60,7 @@ calls p lock = is_lock lock (lock_of p)
 abbrev pub profile : Place → Profile
 profile Idle = blank
 profile (Mutex lock at) = bringing_nobody (mutex_profile at)
-profile (RwLock lock a at) = rwlock_profile a at
+profile (RwLock lock a at) = call_profile a at
 
 -- the keys of the lock that a thread calls are numbers
 abbrev pub HasKeys : Place → Type 0
@@ -71,13 +72,13 @@ HasKeys (RwLock lock a at) = lock < 2 ^ 63
 abbrev pub act_of : Place → Act
 act_of Idle = act.TheVariants.Rest
 act_of (Mutex lock at) = mutex_act lock at
-act_of (RwLock lock a at) = rwlock_act lock a at
+act_of (RwLock lock a at) = call_act lock a at
 
 abbrev pub mutex_goes : ℕ → Next MutexPlace → Place
 mutex_goes lock (At at) = Mutex lock at
 mutex_goes lock (End answer) = Idle
 
-abbrev pub rwlock_goes : ℕ → Admission → Next RwLockPlace → Place
+abbrev pub rwlock_goes : ℕ → Admission → Next RwLockCallPlace → Place
 rwlock_goes lock a (At at) = RwLock lock a at
 rwlock_goes lock a (End answer) = Idle
 
@@ -85,33 +86,33 @@ rwlock_goes lock a (End answer) = Idle
 abbrev pub next_place : Place → Reply → Place
 next_place Idle reply = Idle
 next_place (Mutex lock at) reply = mutex_goes lock (mutex_next at reply)
-next_place (RwLock lock a at) reply = rwlock_goes lock a (rwlock_next a at reply)
+next_place (RwLock lock a at) reply = rwlock_goes lock a (call_next a at reply)
 
 abbrev pub mutex_does : ℕ → Next MutexPlace → Act
 mutex_does lock (At at) = mutex_act lock at
 mutex_does lock (End answer) = act.TheVariants.End answer
 
-abbrev pub rwlock_does : ℕ → Admission → Next RwLockPlace → Act
-rwlock_does lock a (At at) = rwlock_act lock a at
+abbrev pub rwlock_does : ℕ → Admission → Next RwLockCallPlace → Act
+rwlock_does lock a (At at) = call_act lock a at
 rwlock_does lock a (End answer) = act.TheVariants.End answer
 
 -- and what it does then
 abbrev pub next_act : Place → Reply → Act
 next_act Idle reply = act.TheVariants.Rest
 next_act (Mutex lock at) reply = mutex_does lock (mutex_next at reply)
-next_act (RwLock lock a at) reply = rwlock_does lock a (rwlock_next a at reply)
+next_act (RwLock lock a at) reply = rwlock_does lock a (call_next a at reply)
 
 -- who owns the lock after an operation on its word that saw this value
 abbrev pub owners_after : Place → ℕ → ℕ → Owners → Owners
 owners_after Idle t seen owners = owners
 owners_after (Mutex lock at) t seen owners = mutex_owners at t seen owners
-owners_after (RwLock lock a at) t seen owners = rwlock_owners a at t seen owners
+owners_after (RwLock lock a at) t seen owners = call_owners a at t seen owners
 
 -- how many shared rights the thread has then, where their number changes; nobody shares a mutex
 abbrev pub shares_after : Place → ℕ → ℕ → Option ℕ
 shares_after Idle seen shares = None
 shares_after (Mutex lock at) seen shares = None
-shares_after (RwLock lock a at) seen shares = rwlock_shares a at seen shares
+shares_after (RwLock lock a at) seen shares = call_shares a at seen shares
 
 -- what a thread wants, where it waits
 abbrev pub wants : Place → Option Want
@@ -125,7 +126,7 @@ abbrev pub in_mutex : ℕ → Option MutexPlace → Option Place
 in_mutex lock None = None
 in_mutex lock (Some at) = Some (Mutex lock at)
 
-abbrev pub in_rwlock : ℕ → Admission → Option RwLockPlace → Option Place
+abbrev pub in_rwlock : ℕ → Admission → Option RwLockCallPlace → Option Place
 in_rwlock lock a None = None
 in_rwlock lock a (Some at) = Some (RwLock lock a at)
 
@@ -133,7 +134,7 @@ in_rwlock lock a (Some at) = Some (RwLock lock a at)
 abbrev pub looking : Place → Option Place
 looking Idle = None
 looking (Mutex lock at) = in_mutex lock (mutex_looking at)
-looking (RwLock lock a at) = in_rwlock lock a (rwlock_looking a at)
+looking (RwLock lock a at) = in_rwlock lock a (call_looking a at)
 
 -- the key of a line of the lock that a thread calls
 abbrev pub key_in : Option ℕ → Option Line → Option ℕ

@@ -12,4 +12,5 @@ pub use lot_calls::{Answer, Call, Kind, MutexCall, OnceState, Outcome, Step, Tur
 pub use lot_mutex;
 pub use lot_mutex::{Entry, HandOffAt, LockAt, MutexPlace, UnlockAt};
 pub use lot_rwlock;
+pub use lot_rwlock_fair;
 pub use places::{Place, advance, has_right};

@@ -6,7 +6,8 @@ use lot_acts::{Act, Next, Owners, Reply};
 use lot_base::{Key, Want};
 use lot_calls::{Call, Kind};
 use lot_mutex::{MutexPlace, mutex_right};
-use lot_rwlock::{Admission, RwLockPlace, rwlock_right};
+use lot_rwlock::Admission;
+use lot_rwlock_fair::{RwLockCallPlace, call_right};
 
 /// Where a thread stands: in no call, or in a call of a lock, with all that the call remembers.
 #[derive(Clone, Copy, Debug, PartialEq, Eq)]
@@ -19,7 +20,7 @@ pub enum Place {
     RwLock {
         lock: usize,
         admission: Admission,
-        at: RwLockPlace,
+        at: RwLockCallPlace,
     },
 }
 
@@ -36,7 +37,7 @@ impl Place {
             Call::RwLock { lock, call } => Place::RwLock {
                 lock,
                 admission: Admission::of(kind),
-                at: RwLockPlace::first(call),
+                at: RwLockCallPlace::first(call),
             },
         }
     }
@@ -198,7 +199,7 @@ impl Place {
         match self {
             Place::Idle => false,
             Place::Mutex { lock: own, at } => own == lock && at.retries(),
-            Place::RwLock { lock: own, at, .. } => own == lock && at.retries,
+            Place::RwLock { lock: own, at, .. } => own == lock && at.retries(),
         }
     }
 }
@@ -209,7 +210,7 @@ pub fn has_right(call: Call, thread: usize, owners: Owners, shares: usize) -> bo
 {
     match call {
         Call::Mutex { call, .. } => mutex_right(call, thread, owners),
-        Call::RwLock { call, .. } => rwlock_right(call, thread, owners, shares),
+        Call::RwLock { call, .. } => call_right(call, thread, owners, shares),
     }
 }
 

@@ -1,10 +1,10 @@
 -- What several sends in a row send.
-use Rattle.std.proofs.Common.{◌≡◌, ℕ, ◌+◌, ◌-◌, ◌≤◌, ◌<◌, ◌^◌, ◌/◌, ◌%◌, ◌∷◌, arith, None, Some, Result, Ok, Err, OnErr, is_ok, Bool, true, false, subst, List, [], ◌++◌, Option, take, drop, length, refl, sym, ap, ◌∙◌, append_assoc, append-nil, take-append-drop}
+use Rattle.std.proofs.Common.{◌≡◌, ℕ, ◌+◌, ◌-◌, ◌≤◌, ◌<◌, ◌∷◌, None, Some, Result, Ok, Err, OnErr, is_ok, Bool, true, false, subst, List, [], ◌++◌, Option, take, drop, length, refl, sym, ap, ◌∙◌, append_assoc, append-nil, take-append-drop}
 use Rattle.std.specs.Io.KnownBytes.{Appends, Keeps}
 use Rattle.std.proofs.KnownBytes.{Appends-nil, Appends-trans, Keeps-refl, Keeps-trans}
 use lib.Seq.{take-add, take-take}
 use Rattle.std.specs.Prelude.{decimal}
-use Rattle.std.proofs.lemmas.Fmt.{decimal_digit, decimal_step}
+use Rattle.std.proofs.lemmas.Fmt.{decimal_digit}
 use Rattle.lot_text.specs.Sent.{Sends, SendsFront, Held, Puts, PutsWhere}
 
 -- nothing was sent
@@ -110,12 +110,9 @@ pub on_err : (T E P : Type 0) (r : Result T E) → is_ok r ≡ false → OnErr r
 on_err T E P (Ok x) e h = cc
 on_err T E P (Err x) e h = h
 
--- a number goes out digit by digit
-pub number_one : (n : ℕ) (a c : Option (List ℕ)) (p q : Held) → n < 10 → Puts a c p q ((48 + n % 10) ∷ []) → Puts a c p q (decimal n)
-number_one n a c p q small h = let same : 48 + n % 10 ≡ 48 + n = omega arith in subst (Puts a c p q) (ap (λ d. d ∷ []) same ∙ sym (decimal_digit n small)) h
-
-pub number_more : (n : ℕ) (a b c : Option (List ℕ)) (p q r : Held) → 10 ≤ n → n < 2 ^ 64 → Puts a b p q (decimal (n / 10)) → Puts b c q r ((48 + n % 10) ∷ []) → Puts a c p r (decimal n)
-number_more n a b c p q r large fits h k = subst (Puts a c p r) (sym (decimal_step n large fits)) (puts_then a b c p q r (decimal (n / 10)) ((48 + n % 10) ∷ []) h k)
+-- a number of one digit
+pub number_one : (n : ℕ) (a c : Option (List ℕ)) (p q : Held) → n < 10 → Puts a c p q ((48 + n) ∷ []) → Puts a c p q (decimal n)
+number_one n a c p q small h = subst (Puts a c p q) (sym (decimal_digit n small)) h
 
 -- what was put so far, with what is left, is the whole
 pub record Left (a c : Option (List ℕ)) (p q : Held) (left whole : List ℕ) : Type 0 where

@@ -4,6 +4,7 @@ ghost use Rattle.lot_text.specs.Lines.{line_len};
 ghost use Rattle.lot_text.specs.Reads.{IsOneLine, TakesPiece, ReadsLine};
 
 use arrayvec::ArrayVec;
+use memchr::memchr;
 use std::io::{BufRead, ErrorKind};
 
 /// The longest line, without its line feed.
@@ -32,7 +33,7 @@ pub enum Piece {
 pub fn read_line<R: BufRead>(reader: &mut R, line: &mut ArrayVec<u8, LINE_LEN>) -> Reading
     ensures { ReadsLine (R.remaining reader.old) (R.remaining reader.new) result line.new.items }
 {
-    line.clear();
+    *line = ArrayVec::new();
     for _ in 0..u64::MAX {
         match take_piece(reader, line) {
             Piece::More => {}
@@ -86,8 +87,5 @@ fn len_of_line(bytes: &[u8]) -> usize
     ensures before { IsOneLine (take result bytes.now) }
     ensures found { result < length bytes.now → slice_index bytes.now result ≡ 10 }
 {
-    bytes
-        .iter()
-        .position(|b| *b == b'\n')
-        .unwrap_or(bytes.len())
+    memchr(b'\n', bytes).unwrap_or(bytes.len())
 }

@@ -4,6 +4,7 @@ ghost use Rattle.std.specs.Io.KnownBytes.{Appends};
 ghost use Rattle.lot_text.specs.Sent.{Held, Puts, Sends, SendsFront};
 
 use arrayvec::ArrayVec;
+use itoa::Buffer;
 use std::io::{ErrorKind, Write};
 use std::marker::Model;
 
@@ -55,14 +56,15 @@ impl Page {
         self.put_cold(writer, text);
     }
 
-    /// Adds a number, digit by digit, since a number is mostly a short one.
+    /// Adds a number, which is mostly a short one.
     pub fn put_number<W: Write>(&mut self, writer: &mut W, n: u64)
         ensures { Puts (W.contents writer.old) (W.contents writer.new) self.old self.new (decimal n) }
     {
-        if n >= 10 {
-            self.put_number(writer, n / 10);
+        if n < 10 {
+            self.put(writer, &[b'0' + n as u8]);
+        } else {
+            self.put(writer, Buffer::new().format(n).as_bytes());
         }
-        self.put(writer, &[b'0' + (n % 10) as u8]);
     }
 
     /// Sends all that is held.

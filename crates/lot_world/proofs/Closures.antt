@@ -2,7 +2,7 @@
 use Rattle.std.proofs.Common.{ℕ, Bool, true, false, if◌then◌else◌, ◌==◌, not, ◌≡◌, ◌+◌, ◌*◌, refl, sym, ◌∙◌}
 use Rattle.lot_base.specs.declared.keys.Keys.TheVariants.{One}
 use Rattle.lot_base.specs.declared.ops.Op as op
-use Rattle.lot_acts.specs.declared.acts.Act.TheVariants.{Word, Enter}
+use Rattle.lot_acts.specs.declared.acts.Act.TheVariants.{Word, HandOver, Enter}
 use Rattle.lot_mutex.specs.declared.places.MutexPlace.TheVariants.{Lock, TryLock, Unlock, UnlockFair, Bump, HandOff}
 use Rattle.lot_mutex.specs.declared.lock.LockAt.TheVariants as lock
 use Rattle.lot_mutex.specs.declared.unlock.UnlockAt.TheVariants as unlock
@@ -26,6 +26,15 @@ use Rattle.lot_rwlock.specs.declared.park.ParkAt.TheVariants as parking
 use Rattle.lot_rwlock.specs.declared.release.WakeAt.{WakeAt}
 use Rattle.lot_rwlock.specs.declared.release.WakeAt.TheVariants as waking
 use Rattle.lot_rwlock.specs.RwLockSteps.{act_at, decided, decided_act, park_act, wake_act, want_at, plus}
+use Rattle.lot_calls.specs.declared.calls.Access.{Access}
+use Rattle.lot_calls.specs.declared.calls.Access.TheVariants as access
+use Rattle.lot_rwlock_fair.specs.declared.places.RwLockCallPlace.{RwLockCallPlace}
+use Rattle.lot_rwlock_fair.specs.declared.places.RwLockCallPlace.TheVariants as places
+use Rattle.lot_rwlock_fair.specs.declared.hand_over.HandOverAt.{HandOverAt}
+use Rattle.lot_rwlock_fair.specs.declared.hand_over.HandOverAt.TheVariants as handing
+use Rattle.lot_rwlock_fair.specs.declared.hand_over.Taken.{Taken}
+use Rattle.lot_rwlock_fair.specs.declared.handed.HandedAt.TheVariants as handed
+use Rattle.lot_rwlock_fair.specs.FairSteps.{accept_act, call_act, hand_over_act, has_room, parked_as, with_taken, without}
 use Rattle.lot_steps.specs.Steps.{act_of}
 use Rattle.lot_machine.specs.Machine.{State, place_at, runs_closure, can_close}
 
@@ -72,6 +81,33 @@ rwlock_runs_none l a p at.RollBack = refl
 rwlock_runs_none l a p at.GiveWay = refl
 rwlock_runs_none l a p (at.Wake m to) = wakes_plainly l a p.purpose m to
 
+exchanges_plainly : (l limit : ℕ) (x : Access) (k : Taken) (s : ℕ) (b : Bool) → runs_closure (if b then HandOver l (op.TheVariants.Exchange s (with_taken x k s)) else Word l (op.TheVariants.Exchange s (parked_as k.none_left (without x s)))) ≡ false
+exchanges_plainly l limit x k s true = refl
+exchanges_plainly l limit x k s false = refl
+
+hands_over_plainly : (l : ℕ) (a : Admission) (x : Access) (to : HandOverAt) → runs_closure (hand_over_act l a x to) ≡ false
+hands_over_plainly l a x handing.Load = refl
+hands_over_plainly l a x (handing.Free s) = refl
+hands_over_plainly l a x handing.Enter = refl
+hands_over_plainly l a x handing.Take = refl
+hands_over_plainly l a x (handing.Store k) = refl
+hands_over_plainly l a x (handing.Look k) = refl
+hands_over_plainly l a x (handing.Exchange k s) = exchanges_plainly l a.limit x k s (has_room a.limit k s)
+hands_over_plainly l a x (handing.Leave any given) = refl
+
+accepts_plainly : (l : ℕ) (x : Access) → runs_closure (accept_act l x) ≡ false
+accepts_plainly l access.Exclusive = refl
+accepts_plainly l access.Shared = refl
+accepts_plainly l access.Upgradable = refl
+
+call_runs_none : (l : ℕ) (a : Admission) (c : RwLockCallPlace) → runs_closure (call_act l a c) ≡ false
+call_runs_none l a (places.Plain p) = rwlock_runs_none l a p p.at
+call_runs_none l a (places.Bump p) = rwlock_runs_none l a p p.at
+call_runs_none l a (places.Glance x) = refl
+call_runs_none l a (places.HandOver x b to) = hands_over_plainly l a x to
+call_runs_none l a (places.Handed x how b (handed.Asleep u alone)) = refl
+call_runs_none l a (places.Handed x how b handed.Accept) = accepts_plainly l x
+
 runs_none : (p : Place) → runs_closure (act_of p) ≡ false
 runs_none Idle = refl
 runs_none (Mutex l (Lock e r lock.First)) = refl
@@ -85,7 +121,7 @@ runs_none (Mutex l Bump) = refl
 runs_none (Mutex l (HandOff b (hand_off.Store false n))) = refl
 runs_none (Mutex l (HandOff b (hand_off.Store true n))) = refl
 runs_none (Mutex l (HandOff b a)) = refl
-runs_none (RwLock l a p) = rwlock_runs_none l a p p.at
+runs_none (RwLock l a c) = call_runs_none l a c
 
 pub no_closure : (w : State) (t : ℕ) → runs_closure (act_of (place_at w t)) ≡ true → ⊥
 no_closure w t h = let e : false ≡ true = sym (runs_none (place_at w t)) ∙ h in cc

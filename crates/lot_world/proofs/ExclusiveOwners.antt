@@ -12,11 +12,16 @@ use Rattle.lot_steps.specs.declared.places.Place.TheVariants.{Idle, Mutex, RwLoc
 use Rattle.lot_mutex.specs.MutexSteps.{is_locked}
 use Rattle.lot_acts.specs.Owners.{with_exclusive}
 use Rattle.lot_steps.specs.Steps.{owners_after}
+use Rattle.lot_calls.specs.declared.calls.Access.{Access}
 use Rattle.lot_calls.specs.declared.calls.Access.TheVariants as access
 use Rattle.lot_calls.specs.declared.calls.Downgrade.TheVariants as downgrade
 use Rattle.lot_rwlock.specs.declared.changes.Change.{Change}
 use Rattle.lot_rwlock.specs.declared.changes.Change.TheVariants as changes
 use Rattle.lot_rwlock.specs.RwLockSteps.{change, owners_by}
+use Rattle.lot_rwlock.specs.declared.places.Admission.{Admission}
+use Rattle.lot_rwlock_fair.specs.declared.places.RwLockCallPlace.{RwLockCallPlace}
+use Rattle.lot_rwlock_fair.specs.declared.places.RwLockCallPlace.TheVariants as places
+use Rattle.lot_rwlock_fair.specs.FairSteps.{call_owners, gives_up, without_owned}
 use Rattle.lot_world.specs.MutexPromises.{IsMutexWord}
 
 abbrev pub lock_owner : LockAt → ℕ → ℕ → Option ℕ → Option ℕ
@@ -55,6 +60,33 @@ exclusive_is (changes.Upgrade false) t r = refl
 exclusive_is (changes.RollBack true) t r = refl
 exclusive_is (changes.RollBack false) t r = refl
 
+-- who gives its right up owns no longer
+abbrev without_access : Access → Option ℕ → Option ℕ
+without_access access.Exclusive o = None
+without_access x o = o
+
+without_is : (x : Access) (r : Owners) → (without_owned x r).exclusive ≡ without_access x r.exclusive
+without_is access.Exclusive r = refl
+without_is access.Upgradable r = refl
+without_is access.Shared r = refl
+
+abbrev call_owner : Admission → RwLockCallPlace → ℕ → ℕ → Option ℕ → Option ℕ
+call_owner a (places.Plain p) t v o = exclusive_by (change a p v) t o
+call_owner a (places.Bump p) t v o = exclusive_by (change a p v) t o
+call_owner a (places.HandOver x b to) t v o = if gives_up to v then without_access x o else o
+call_owner a c t v o = o
+
+call_is : (a : Admission) (c : RwLockCallPlace) (t v : ℕ) (r : Owners) → (call_owners a c t v r).exclusive ≡ call_owner a c t v r.exclusive
+call_is a (places.Plain p) t v r = exclusive_is (change a p v) t r
+call_is a (places.Bump p) t v r = exclusive_is (change a p v) t r
+call_is a (places.Glance x) t v r = refl
+call_is a (places.Handed x how b to) t v r = refl
+call_is a (places.HandOver x b to) t v r = either (gives_up to v)
+  where
+    either : (c : Bool) → (if c then without_owned x r else r).exclusive ≡ (if c then without_access x r.exclusive else r.exclusive)
+    either true = without_is x r
+    either false = refl
+
 -- the exclusive owner after a step on the word that saw v, but for one whom it hands the lock
 abbrev pub owner_after : Place → ℕ → ℕ → Option ℕ → Option ℕ
 owner_after Idle t v o = o
@@ -65,11 +97,11 @@ owner_after (Mutex l UnlockFair) t v o = if v == 1 then None else o
 owner_after (Mutex l Bump) t v o = o
 owner_after (Mutex l (HandOff bumps (hand_off.Store any none_left))) t v o = None
 owner_after (Mutex l (HandOff bumps at)) t v o = o
-owner_after (RwLock l a p) t v o = exclusive_by (change a p v) t o
+owner_after (RwLock l a c) t v o = call_owner a c t v o
 
 pub exclusive-owners : (p : Place) (t v : ℕ) (r : Owners) → (owners_after p t v r).exclusive ≡ owner_after p t v r.exclusive
 exclusive-owners Idle t v r = refl
-exclusive-owners (RwLock l a p) t v r = exclusive_is (change a p v) t r
+exclusive-owners (RwLock l a c) t v r = call_is a c t v r
 exclusive-owners (Mutex l (Lock entry retries First)) t v r = either (v == 0)
   where
     either : (b : Bool) → (if b then with_exclusive r (Some t) else r).exclusive ≡ (if b then Some t else r.exclusive)

@@ -24,6 +24,7 @@ use Rattle.lot_mutex.specs.declared.hand_off.HandOffAt.{HandOffAt}
 use Rattle.lot_mutex.specs.declared.hand_off.HandOffAt.TheVariants as hand_off
 use Rattle.lot_steps.specs.declared.places.Place.{Place}
 use Rattle.lot_steps.specs.declared.places.Place.TheVariants.{Idle, Mutex, RwLock}
+use Rattle.lot_rwlock_fair.specs.declared.places.RwLockCallPlace.TheVariants.{Plain}
 use Rattle.lot_mutex.specs.MutexSteps.{is_locked, is_parked, lock_act, hand_off_act}
 use Rattle.lot_steps.specs.Steps.{act_of, looking, late_key}
 use Rattle.lot_machine.specs.Machine.{State, unlocked, place_at, word_at, owners_at, kind_at, queue_at, state_after_operation, queues_with_last, queues_without_first, state_after_act, state_after_taking, state_after_look, state_after_go, put, state_after_late_on, state_after_turn, can_turn, is_possible, after, step_outcome}
@@ -226,7 +227,8 @@ module _ (w : State) (t l : ℕ) (shape : IsShaped w) (steady : IsSteady w) (own
   -- whatever the act, and wherever the thread goes then
   go_gives : (p : Place) → place_at w t ≡ p → PlaceFits (length w.locks) p → IsFairRelease (call_state p (rights w t)).purpose l → ComesTo w t l (state_after_act w t p (act_of p))
   go_gives Idle is fits h = absurd h
-  go_gives (RwLock k a p) is fits h = absurd (never_fair k l p.purpose h)
+  go_gives (RwLock k a (Plain p)) is fits h = absurd (never_fair k l p.purpose h)
+  go_gives (RwLock k a c) is fits h = absurd (subst (FitsItsLock w) is (steady.stands.calls t))
   go_gives (Mutex k (Lock entries.Lock retries a)) is fits h = absurd h
   go_gives (Mutex k (Lock entries.LockTimed retries a)) is fits h = absurd h
   go_gives (Mutex k (Lock entries.Bump retries a)) is fits h = rw h (lock_keeps (here k h fits.0) retries a)
@@ -274,7 +276,8 @@ locked_by v o u c e = by_code (λ v o. o ≡ Some u → is_locked v ≡ true) (�
 -- the lock that is released fairly is a mutex
 fair_mutex : (w : State) (p : Place) (l : ℕ) (r : ℕ → Rights) → FitsItsLock w p → IsFairRelease (call_state p r).purpose l → is_mutex (kind_at w l) ≡ true
 fair_mutex w Idle l r fits h = absurd h
-fair_mutex w (RwLock k a p) l r fits h = absurd (never_fair k l p.purpose h)
+fair_mutex w (RwLock k a (Plain p)) l r fits h = absurd (never_fair k l p.purpose h)
+fair_mutex w (RwLock k a c) l r fits h = absurd fits
 fair_mutex w (Mutex k (Lock entries.Lock retries a)) l r fits h = absurd h
 fair_mutex w (Mutex k (Lock entries.LockTimed retries a)) l r fits h = absurd h
 fair_mutex w (Mutex k (Lock entries.Bump retries a)) l r fits h = rw (← h) fits

@@ -21,8 +21,9 @@ use Rattle.abstract_locks.specs.Codes.{parked_in, aside_in}
 use Rattle.std.proofs.Math.Bool.{or-false}
 use Rattle.lot_mutex.specs.MutexSteps.{is_parked}
 use Rattle.lot_acts.specs.declared.acts.Next.{Next}
-use Rattle.lot_rwlock.specs.declared.places.RwLockPlace.{RwLockPlace}
-use Rattle.lot_rwlock.specs.RwLockSteps.{rwlock_next}
+use Rattle.lot_rwlock_fair.specs.declared.places.RwLockCallPlace.{RwLockCallPlace}
+use Rattle.lot_rwlock_fair.specs.declared.places.RwLockCallPlace.TheVariants.{Plain}
+use Rattle.lot_rwlock_fair.specs.FairSteps.{call_next}
 use Rattle.lot_acts.specs.declared.acts.Next as next
 use Rattle.lot_mutex.specs.MutexSteps.{mutex_next}
 use Rattle.lot_base.specs.declared.wants.Want.{Want}
@@ -218,9 +219,10 @@ IsMutexCall l (RwLock k a at) = k ≢ l
 IsMutexCall l p = Unit {0}
 
 pub mutex_calls : (w : State) (l : ℕ) (p : Place) → FitsItsLock w p → rules_in w l ≡ mutex → IsMutexCall l p
-mutex_calls w l (RwLock k a at) calls rules = λ here.
+mutex_calls w l (RwLock k a (Plain at)) calls rules = λ here.
     let readers : has_readers (rules_in w k).sort ≡ true = calls.0.0 in
     let none : has_readers (rules_in w k).sort ≡ false = ap (λ n. has_readers (rules_in w n).sort) here ∙ ap (λ (r : Rules). has_readers r.sort) rules in cc
+mutex_calls w l (RwLock k a c) calls rules = absurd calls
 mutex_calls w l (Mutex k at) calls rules = tt
 mutex_calls w l Idle calls rules = tt
 
@@ -321,9 +323,9 @@ goes_on l k (next.TheVariants.End answer) e = tt
 pub next_of : (l : ℕ) (p : Place) (reply : Reply) → IsOf l p → IsOf l (next_place p reply)
 next_of l Idle reply h = tt
 next_of l (Mutex k at) reply h = goes_on l k (mutex_next at reply) h
-next_of l (RwLock k a at) reply h = by_next (rwlock_next a at reply)
+next_of l (RwLock k a at) reply h = by_next (call_next a at reply)
   where
-    by_next : (n : Next RwLockPlace) → IsOf l (rwlock_goes k a n)
+    by_next : (n : Next RwLockCallPlace) → IsOf l (rwlock_goes k a n)
     by_next (next.TheVariants.At at) = h
     by_next (next.TheVariants.End answer) = tt
 

@@ -1,4 +1,5 @@
 pub mod KindsKept
+pub mod PlainCalls
 pub mod Closures
 pub mod Alone
 pub mod Runs
@@ -32,6 +33,7 @@ pub mod SitesPromise
 pub mod RowPromises
 pub mod MutexRows
 pub mod RwLockRows
+pub mod CallRows
 pub mod PlacePromises
 pub mod AtPlaces
 pub mod ExclusiveOwners
@@ -44,6 +46,7 @@ pub mod OtherCalls
 pub mod MutexEvents
 pub mod MutexOwing
 pub mod RwLockOwing
+pub mod CallOwing
 pub mod PlaceSteps
 pub mod Possible
 pub mod RwLockEvents

@@ -37,6 +37,16 @@ use Rattle.lot_rwlock.specs.declared.enter.Decision.TheVariants as decisions
 use Rattle.lot_rwlock.specs.RwLockSteps.{decided, decided_act, exchange, plus, act_at, park_act, parks_at, want_at}
 use Rattle.lot_rwlock.specs.RwLockProfiles.{rwlock_profile, stands_at}
 use Rattle.lot_rwlock.specs.RwLockDeeds.{doing_at, again_of}
+use Rattle.lot_calls.specs.declared.calls.Access.{Access}
+use Rattle.lot_calls.specs.declared.calls.Access.TheVariants as access
+use Rattle.lot_rwlock_fair.specs.declared.places.RwLockCallPlace.{RwLockCallPlace}
+use Rattle.lot_rwlock_fair.specs.declared.places.RwLockCallPlace.TheVariants as places
+use Rattle.lot_rwlock_fair.specs.declared.hand_over.HandOverAt.{HandOverAt}
+use Rattle.lot_rwlock_fair.specs.declared.hand_over.HandOverAt.TheVariants as handing
+use Rattle.lot_rwlock_fair.specs.declared.handed.HandedAt.TheVariants as handed
+use Rattle.lot_rwlock_fair.specs.FairSteps as fair
+use Rattle.lot_rwlock_fair.specs.FairSteps.{call_act, hand_over_act, has_room, parked_as, with_taken}
+use Rattle.lot_rwlock_fair.specs.FairProfiles.{call_profile}
 use Rattle.abstract_locks.specs.Codes.{has_aside}
 
 -- the key of a line of the lock, and of the one whose section the thread is in
@@ -128,9 +138,33 @@ rwlock_lines l a p (at.Wake m waking.Take) is = (m, ap (λ x. (doing_at (again_o
 rwlock_lines l a p (at.Wake m (waking.Clear any)) is = tt
 rwlock_lines l a p (at.Wake m (waking.Leave any)) is = (m, ap (λ x. (doing_at (again_of p) p.purpose x).inside) is, refl)
 
+hand_over_lines : (l : ℕ) (a : Admission) (x : Access) (b : Bool) (to : HandOverAt) → IsLineAct l (station_by (call_profile a (places.HandOver x b to))) (hand_over_act l a x to)
+hand_over_lines l a x b handing.Load = tt
+hand_over_lines l a x b (handing.Free seen) = tt
+hand_over_lines l a x b handing.Enter = (Main, refl)
+hand_over_lines l a x b handing.Take = (Main, refl, refl)
+hand_over_lines l a x b (handing.Store k) = tt
+hand_over_lines l a x b (handing.Look k) = tt
+hand_over_lines l a x b (handing.Leave any given) = (Main, refl, refl)
+hand_over_lines l a x b (handing.Exchange k seen) = either (has_room a.limit k seen)
+  where
+    either : (c : Bool) → IsLineAct l (station_by (call_profile a (places.HandOver x b (handing.Exchange k seen)))) (if c then act.HandOver l (op.TheVariants.Exchange seen (with_taken x k seen)) else act.Word l (op.TheVariants.Exchange seen (parked_as k.none_left (fair.without x seen))))
+    either true = tt
+    either false = tt
+
+call_lines : (l : ℕ) (a : Admission) (c : RwLockCallPlace) → IsLineAct l (station_by (call_profile a c)) (call_act l a c)
+call_lines l a (places.Plain p) = rwlock_lines l a p p.at refl
+call_lines l a (places.Bump p) = rwlock_lines l a p p.at refl
+call_lines l a (places.Glance x) = tt
+call_lines l a (places.HandOver x b to) = hand_over_lines l a x b to
+call_lines l a (places.Handed x how b (handed.Asleep u alone)) = tt
+call_lines l a (places.Handed access.Exclusive how b handed.Accept) = tt
+call_lines l a (places.Handed access.Shared how b handed.Accept) = tt
+call_lines l a (places.Handed access.Upgradable how b handed.Accept) = tt
+
 pub line_act : (p : Place) (l : ℕ) → lock_of p ≡ Some l → IsLineAct l (station p) (act_of p)
 line_act Idle l h = absurd cc
-line_act (RwLock k a p) l h = let e : k ≡ l = cc in subst (λ j. IsLineAct j (station (RwLock k a p)) (act_of (RwLock k a p))) e (rwlock_lines k a p p.at refl)
+line_act (RwLock k a c) l h = let e : k ≡ l = cc in subst (λ j. IsLineAct j (station (RwLock k a c)) (act_of (RwLock k a c))) e (call_lines k a c)
 line_act (Mutex k at) l h = let e : k ≡ l = cc in subst (λ j. IsLineAct j (mutex_station at) (mutex_act k at)) e (mutex_lines k at)
 
 -- a thread that may be late sleeps in a line of its lock

@@ -16,18 +16,27 @@ use Rattle.lot_mutex.specs.declared.places.MutexPlace.TheVariants.{Lock, TryLock
 use Rattle.lot_mutex.specs.declared.lock.LockAt.TheVariants.{First, Taken}
 use Rattle.lot_mutex.specs.declared.unlock.UnlockAt.TheVariants as unlock
 use Rattle.lot_mutex.specs.declared.hand_off.HandOffAt.TheVariants as hand_off
+use Rattle.lot_rwlock.specs.declared.purposes.RwLockPurpose.{RwLockPurpose}
+use Rattle.lot_rwlock.specs.RwLockSteps.{access_of, wanted}
+use Rattle.lot_rwlock_fair.specs.declared.places.RwLockCallPlace.TheVariants as places
+use Rattle.lot_rwlock_fair.specs.declared.hand_over.HandOverAt.TheVariants as handing
+use Rattle.lot_rwlock_fair.specs.declared.handed.HandedAt.TheVariants as handed
+use Rattle.lot_rwlock_fair.specs.FairSteps.{bump_next}
+use Rattle.lot_rwlock_fair.specs.FairProfiles.{bump_former, bump_released, bumping}
 use Rattle.lot_steps.specs.Steps.{next_place, profile, rwlock_goes, calls}
 use Rattle.lot_steps.specs.declared.places.Place.{Place}
 use Rattle.lot_steps.specs.declared.places.Place.TheVariants.{Idle, Mutex, RwLock}
 use Rattle.abstract_locks.specs.Locks.{LockState, Queued, Taken as LockTaken, Rights, Enter, Wake, HandOff as HandsOff, IsTaken, IsLockState, Knows, Needs, rights_of, with_right, without_right, is_thread, putting}
 use Rattle.abstract_locks.specs.Locks as locks
-use Rattle.abstract_locks.specs.Runs.{is_taken_by, AtLock, one_more_at, one_less_at}
+use Rattle.abstract_locks.specs.Purposes.{Bumps}
+use Rattle.abstract_locks.specs.Runs.{CallState, is_taken_by, AtLock, one_more_at, one_less_at}
 use Rattle.abstract_locks.specs.Sites.{Site, IsSite}
 use Rattle.abstract_locks.proofs.LockKeeps.{sharing_same}
 use Rattle.lot_machine.specs.Machine.{State, place_at}
 use Rattle.lot_world.specs.Refinement.{owner_at, lock_state, taken_at, is_bump, before_entry, mutex_call_state, call_state, call_by}
 use Rattle.lot_world.specs.MutexDeeds.{queued}
 use Rattle.lot_world.specs.SitesOf.{rules_in}
+use Rattle.lot_world.proofs.PlainCalls.{plain_goes}
 use Rattle.lot_world.proofs.Glue.{IsTakenAt, heir, put_same, same, IsMutexCall, mutex_calls, taken_elsewhere}
 use Rattle.lot_world.proofs.MutexTable.{mutex}
 use Rattle.lot_world.proofs.CallEvents.{put_is, rights, rights_led, Happens, Others, OthersFollow}
@@ -127,6 +136,10 @@ taken_hand p t l h = by_row (profile p).hand (profile p).wants (calls p l) h
     by_row (Some (Of u false)) (Some x) true g = (ap (λ y. hand y false) (eqb-true u t g), refl)
     by_row (Some (Of u false)) (Some x) false g = absurd cc
 
+-- what a bump makes of a call by its purpose
+abbrev in_bump : RwLockPurpose → ℕ → CallState → CallState
+in_bump q l c = record c { purpose = Some (Bumps l (wanted (access_of q))); released = bump_released q c.released; former = bump_former q l c.former }
+
 -- whoever is woken tries the lock again
 pub woken_call : (p : Place) (t l : ℕ) → is_taken_by t (taken_at p l) ≡ true → (r : ℕ → Rights) → call_state (next_place p (Woken Normal)) r ≡ record (call_state p r) { retries = Some l }
 woken_call Idle t l h r = absurd cc
@@ -134,13 +147,26 @@ woken_call (Mutex k at) t l h r = by_place (Mutex k at) (taken_place (Mutex k at
   where
     by_place : (p : Place) → IsTakenAt p t l → call_state (next_place p (Woken Normal)) r ≡ record (call_state p r) { retries = Some l }
     by_place p there = rw there.is refl
-woken_call (RwLock k a at) t l h r = let held = taken_hand (RwLock k a at) t l h in let here : k ≡ l = eqb-true k l held.1 in let goes = woken_goes a k at t held.0 in
-    ap (λ n. call_state (rwlock_goes k a n) r) goes.1 ∙ goes.2 r ∙ ap (λ n. record (call_by k (rwlock_profile a at) r) { retries = Some n }) here
+woken_call (RwLock k a (places.Plain p)) t l h r = let held = taken_hand (RwLock k a (places.Plain p)) t l h in let here : k ≡ l = eqb-true k l held.1 in let goes = woken_goes a k p t held.0 in
+    ap (λ n. call_state (plain_goes k a n) r) goes.1 ∙ goes.2 r ∙ ap (λ n. record (call_by k (rwlock_profile a p) r) { retries = Some n }) here
+woken_call (RwLock k a (places.Bump p)) t l h r = let held = taken_hand (RwLock k a (places.Bump p)) t l h in let here : k ≡ l = eqb-true k l held.1 in let goes = woken_goes a k p t held.0 in
+    ap (λ n. call_state (rwlock_goes k a (bump_next p.purpose n)) r) goes.1 ∙ ap (λ q. call_by k (bumping q (rwlock_profile a goes.0)) r) goes.3 ∙ ap (in_bump p.purpose k) (goes.2 r) ∙ ap (λ n. record (in_bump p.purpose k (call_by k (rwlock_profile a p) r)) { retries = Some n }) here
+woken_call (RwLock k a (places.Glance x)) t l h r = absurd (let held = taken_hand (RwLock k a (places.Glance x)) t l h in let f : ◌≡◌ {A = Option Hand} None (hand t false) = held.0 in cc)
+woken_call (RwLock k a (places.HandOver x b to)) t l h r = absurd (let held = taken_hand (RwLock k a (places.HandOver x b to)) t l h in let f : ◌≡◌ {A = Option Hand} None (hand t false) = held.0 in cc)
+woken_call (RwLock k a (places.Handed x how b (handed.Asleep u alone))) t l h r = absurd (let held = taken_hand (RwLock k a (places.Handed x how b (handed.Asleep u alone))) t l h in let f : hand u true ≡ hand t false = held.0 in cc)
+woken_call (RwLock k a (places.Handed x how b handed.Accept)) t l h r = absurd (let held = taken_hand (RwLock k a (places.Handed x how b handed.Accept)) t l h in let f : ◌≡◌ {A = Option Hand} None (hand t false) = held.0 in cc)
 
 -- a call goes on as it is where a thread is taken
 pub taken_call : (p : Place) (by : ℕ) (r : ℕ → Rights) → call_state (next_place p (TakenBy by)) r ≡ call_state p r
 taken_call Idle by r = refl
-taken_call (RwLock k a at) by r = let goes = taken_goes a k at by in ap (λ n. call_state (rwlock_goes k a n) r) goes.1 ∙ goes.2 r
+taken_call (RwLock k a (places.Plain p)) by r = let goes = taken_goes a k p by in ap (λ n. call_state (plain_goes k a n) r) goes.1 ∙ goes.2 r
+taken_call (RwLock k a (places.Bump p)) by r = let goes = taken_goes a k p by in
+    ap (λ n. call_state (rwlock_goes k a (bump_next p.purpose n)) r) goes.1 ∙ ap (λ q. call_by k (bumping q (rwlock_profile a goes.0)) r) goes.3 ∙ ap (in_bump p.purpose k) (goes.2 r)
+taken_call (RwLock k a (places.Glance x)) by r = refl
+taken_call (RwLock k a (places.HandOver x b handing.Load)) by r = refl
+taken_call (RwLock k a (places.HandOver x b to)) by r = refl
+taken_call (RwLock k a (places.Handed x how b (handed.Asleep u alone))) by r = refl
+taken_call (RwLock k a (places.Handed x how b handed.Accept)) by r = refl
 taken_call (Mutex k (Lock entry retries First)) by r = refl
 taken_call (Mutex k (Lock entry retries at)) by r = refl
 taken_call (Mutex k TryLock) by r = refl

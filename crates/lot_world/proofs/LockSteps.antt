@@ -35,7 +35,7 @@ use Rattle.lot_calls.specs.declared.calls.Step.{Step}
 use Rattle.lot_calls.specs.declared.calls.MutexCall.{MutexCall}
 use Rattle.lot_calls.specs.declared.calls.MutexCall as mutex_call
 use Rattle.lot_calls.specs.Calls.{lock_in}
-use Rattle.lot_calls.specs.Kinds.{has_call, is_fair}
+use Rattle.lot_calls.specs.Kinds.{has_call, is_built, is_fair}
 use Rattle.lot_calls.specs.declared.outcomes.Outcome as outcome
 use Rattle.lot_mutex.specs.declared.lock.Entry.{Entry}
 use Rattle.lot_mutex.specs.declared.lock.Entry.TheVariants as entries
@@ -51,7 +51,7 @@ use Rattle.lot_steps.specs.declared.places.Place.{Place}
 use Rattle.lot_steps.specs.declared.places.Place.TheVariants.{Idle, Mutex, RwLock}
 use Rattle.lot_acts.specs.Acts.{outcome_of}
 use Rattle.lot_mutex.specs.MutexSteps.{mutex_first, mutex_right, is_locked, is_parked, lock_act, unlock_act, hand_off_word, hand_off_act}
-use Rattle.lot_steps.specs.Steps.{act_of, next_place, next_act, mutex_goes, mutex_does, looking, late_key, is_idle, has_right, first_place, rwlock_goes, key_in, calls}
+use Rattle.lot_steps.specs.Steps.{act_of, next_place, next_act, mutex_goes, mutex_does, looking, late_key, is_idle, has_right, first_place, key_in, calls}
 use Rattle.lot_machine.specs.Machine.{unshared_then, hand_over_told, State, place_at, word_at, owners_at, kind_at, section_at, put, state_after_act, go_reply, state_after_operation, state_after_hand_over, state_with_sections, reply_to, can_do, state_after_look, look_outcome, state_after_go, state_after_going, go_outcome, going_outcome, state_after_late_on, is_free_under, state_after_begin, can_begin, is_open_to, can_turn, state_after_turn, turn_outcome, is_possible, after, step_outcome, share_at}
 use Rattle.lot_machine.specs.Fits.{IsShaped, SameSize, PlaceFits, GivesUpTimed}
 use Rattle.lot_machine.proofs.Shape.{looking_shaped, after_size, both, performed_counts}
@@ -70,9 +70,12 @@ use Rattle.lot_acts.specs.Calls.{ComesTo}
 use Rattle.abstract_locks.specs.Deeds.{AllNeeded, case_of, event_by, after_event}
 use Rattle.lot_world.specs.Stations.{hand}
 use Rattle.lot_world.specs.Refinement.{owner_at, lock_state, taken_at, call_state, locks_of, sleeps}
-use Rattle.lot_world.proofs.KindsKept.{after_kinds, calls_mutex, calls_readers}
+use Rattle.lot_world.proofs.KindsKept.{after_kinds, calls_built, calls_mutex, calls_readers}
 use Rattle.lot_world.proofs.RwLockEvents.{rwlock_begins_with, rwlock_purpose_is, rwlock_right_held, rwlock_right_needed, rwlock_step, rwlock_untaken_first}
-use Rattle.lot_rwlock.specs.RwLockBegins.{admission_of, rwlock_first, rwlock_right}
+use Rattle.lot_rwlock.specs.RwLockBegins.{admission_of}
+use Rattle.lot_rwlock_fair.specs.declared.places.RwLockCallPlace.TheVariants.{Plain}
+use Rattle.lot_rwlock_fair.specs.FairBegins.{call_first, call_right}
+use Rattle.lot_world.proofs.PlainCalls.{plain_goes}
 use Rattle.std.specs.Prelude.{replicate}
 use Rattle.lot_acts.specs.declared.acts.Reply.{Reply}
 use Rattle.lot_mutex.specs.declared.places.MutexPlace.{MutexPlace}
@@ -326,7 +329,8 @@ module _ (w : State) (t : ℕ) (shape : IsShaped w) (steady : IsSteady w) (there
 
   go_goes : (p : Place) → place_at w t ≡ p → PlaceFits (length w.locks) p → FitsItsLock w p → can_do w (act_of p) ≡ true → GoesOn (locks_of w) t (outcome_of (next_act p (reply_to w t (act_of p)))) (locks_of (go_by w t p (act_of p)))
   go_goes Idle is fits of can = absurd cc
-  go_goes (RwLock l a p) is fits of can = rwlock_step w t l a p steady shape there fits is can
+  go_goes (RwLock l a (Plain p)) is fits of can = rwlock_step w t l a p steady shape there fits is can
+  go_goes (RwLock l a c) is fits of can = absurd of
   go_goes (Mutex l at) is fits of can = mutex_goes_on l fits.0 (mutex_rules (kind_at w l) of) at is can fits.1
 
   -- ---------------------------------------------------------------- turns by which the place alone changes
@@ -353,23 +357,24 @@ module _ (w : State) (t : ℕ) (shape : IsShaped w) (steady : IsSteady w) (there
   late_goes : (p : Place) → place_at w t ≡ p → is_free_under w (late_key p) ≡ true
       → Stays (locks_of w) t (record (call_state p (rights w t)) { late = true }) outcome.TheVariants.Step (locks_of (state_after_late_on w t (late_key p)))
   late_goes Idle is can = absurd cc
-  late_goes (RwLock l a p) is can = by_line (rwlock_late_line p) refl can
+  late_goes (RwLock l a (Plain p)) is can = by_line (rwlock_late_line p) refl can
     where
       stands : MayStand a p
-      stands = let calls : FitsItsLock w (RwLock l a p) = subst (FitsItsLock w) is (steady.stands.calls t) in calls.1
+      stands = let calls : FitsItsLock w (RwLock l a (Plain p)) = subst (FitsItsLock w) is (steady.stands.calls t) in calls.1
 
-      in_no_hand_at : (x : RwLockPlace) → rwlock_hand x.at ≡ None → (k : ℕ) → taken_at (RwLock l a x) k ≡ None
-      in_no_hand_at x e k = ap (λ h. taken_from h (wants_for x.purpose) (calls (RwLock l a x) k)) e
+      in_no_hand_at : (x : RwLockPlace) → rwlock_hand x.at ≡ None → (k : ℕ) → taken_at (RwLock l a (Plain x)) k ≡ None
+      in_no_hand_at x e k = ap (λ h. taken_from h (wants_for x.purpose) (calls (RwLock l a (Plain x)) k)) e
 
       by_line : (m : Option Line) → rwlock_late_line p ≡ m → is_free_under w (key_in (Some l) m) ≡ true
-          → Stays (locks_of w) t (record (call_state (RwLock l a p) (rights w t)) { late = true }) outcome.TheVariants.Step (locks_of (state_after_late_on w t (key_in (Some l) m)))
+          → Stays (locks_of w) t (record (call_state (RwLock l a (Plain p)) (rights w t)) { late = true }) outcome.TheVariants.Step (locks_of (state_after_late_on w t (key_in (Some l) m)))
       by_line None e can = absurd cc
       by_line (Some m) e can = let z = late_place a p m e in
-          placed (state_with_sections w (One (key_of l m)) (Some t)).sections (RwLock l a p) (next_place (place_at w t) reply.Late) is
-          (λ k. ap (λ y. taken_at (next_place y reply.Late) k) is ∙ ap (λ n. taken_at (rwlock_goes l a n) k) z.1 ∙ in_no_hand_at z.0 z.3 k ∙ sym (in_no_hand_at p z.2 k)) _
-          (λ r same_rights. ap (λ y. call_state (next_place y reply.Late) r) is ∙ ap (λ n. call_state (rwlock_goes l a n) r) z.1
+          placed (state_with_sections w (One (key_of l m)) (Some t)).sections (RwLock l a (Plain p)) (next_place (place_at w t) reply.Late) is
+          (λ k. ap (λ y. taken_at (next_place y reply.Late) k) is ∙ ap (λ n. taken_at (plain_goes l a n) k) z.1 ∙ in_no_hand_at z.0 z.3 k ∙ sym (in_no_hand_at p z.2 k)) _
+          (λ r same_rights. ap (λ y. call_state (next_place y reply.Late) r) is ∙ ap (λ n. call_state (plain_goes l a n) r) z.1
           ∙ (rwlock_sleepers_hear a l p stands).late (λ none. let f : ◌≡◌ {A = Option Line} None (Some m) = sym none ∙ e in cc) z.0 r z.1
-          ∙ ap (λ x. record (call_state (RwLock l a p) x) { late = true }) same_rights)
+          ∙ ap (λ x. record (call_state (RwLock l a (Plain p)) x) { late = true }) same_rights)
+  late_goes (RwLock l a c) is can = absurd (subst (FitsItsLock w) is (steady.stands.calls t))
   late_goes (Mutex l (Lock entries.LockTimed retries Asleep)) is can = placed (state_with_sections w (One (2 * l)) (Some t)).sections (Mutex l (Lock entries.LockTimed retries Asleep)) (next_place (place_at w t) reply.Late) is (rw is (λ k. refl)) _ (rw is (λ r e. rw e refl))
   late_goes (Mutex l (Lock entries.Lock retries Asleep)) is can = absurd cc
   late_goes (Mutex l (Lock entries.Bump retries Asleep)) is can = absurd cc
@@ -384,7 +389,7 @@ module _ (w : State) (t : ℕ) (shape : IsShaped w) (steady : IsSteady w) (there
 -- ---------------------------------------------------------------- a look at the word once more
 
 -- a call of a reader-writer lock is of no mutex
-not_mutex : (w : State) (l : ℕ) (a : Admission) (at : RwLockPlace) → Admits (rules_in w l) a → (r : ℕ → Rights) → IsOfMutex (locks_of w) (call_state (RwLock l a at) r).purpose → ⊥
+not_mutex : (w : State) (l : ℕ) (a : Admission) (at : RwLockPlace) → Admits (rules_in w l) a → (r : ℕ → Rights) → IsOfMutex (locks_of w) (call_state (RwLock l a (Plain at)) r).purpose → ⊥
 not_mutex w l a at admits r of = by_purpose at.purpose of
   where
     readers : (rules_in w l).sort ≡ Mutual → ⊥
@@ -412,7 +417,8 @@ module _ (w : State) (t : ℕ) (shape : IsShaped w) (steady : IsSteady w) (there
 
   look_stays : (p : Place) → place_at w t ≡ p → IsOfMutex (locks_of w) (call_state p (rights w t)).purpose → Stays (locks_of w) t ((locks_of w).calls t) (go_outcome moved t) (locks_of (state_after_go moved t))
   look_stays Idle e of = absurd of
-  look_stays (RwLock l a at) e of = absurd (let calls : FitsItsLock w (RwLock l a at) = subst (FitsItsLock w) e (steady.stands.calls t) in not_mutex w l a at calls.0 (rights w t) of)
+  look_stays (RwLock l a (Plain at)) e of = absurd (let calls : FitsItsLock w (RwLock l a (Plain at)) = subst (FitsItsLock w) e (steady.stands.calls t) in not_mutex w l a at calls.0 (rights w t) of)
+  look_stays (RwLock l a c) e of = absurd (subst (FitsItsLock w) e (steady.stands.calls t))
   look_stays (Mutex l at) e of = let loads = mutex_looks l at q (ap looking (sym e) ∙ is) in
       let now : place_at moved t ≡ Mutex l (Lock loads.0 loads.1 Load) = here w t there q is ∙ loads.2 in
       stays_as_before w t there q is _ (locks_of (state_after_go moved t)) (subst (λ p. Stays (locks_of moved) t ((locks_of moved).calls t) (going_outcome moved t p) (locks_of (state_after_going moved t p))) (sym now)
@@ -442,8 +448,8 @@ purpose_is k l c h = absurd cc
 no_purpose : (w : LocksState) (t : ℕ) (k : Kind) (c : Call) → has_call k c ≡ false → HasRight w t (purpose_of k c) → ⊥
 no_purpose w t kind.TheVariants.Mutex (call.TheVariants.Mutex l c) h r = absurd cc
 no_purpose w t kind.TheVariants.Fair (call.TheVariants.Mutex l c) h r = absurd cc
-no_purpose w t (kind.TheVariants.RwLock limit) (call.TheVariants.RwLock l c) h r = absurd cc
-no_purpose w t (kind.TheVariants.Recursive limit) (call.TheVariants.RwLock l c) h r = absurd cc
+no_purpose w t (kind.TheVariants.RwLock limit) (call.TheVariants.RwLock l c) h r = subst (λ b. HasRight w t (if b then Some (rwlock_purpose l c) else None)) h r
+no_purpose w t (kind.TheVariants.Recursive limit) (call.TheVariants.RwLock l c) h r = subst (λ b. HasRight w t (if b then Some (rwlock_purpose l c) else None)) h r
 no_purpose w t k c h r = r
 
 no_call_idle : (p : Place) (r : ℕ → Rights) → (call_state p r).purpose ≡ None → is_idle p ≡ true
@@ -494,9 +500,9 @@ module _ (w : State) (t l : ℕ) where
 begin_goes : (w : State) (t : ℕ) (c : Call) → IsShaped w → IsSteady w → t < length w.places → can_begin w t c ≡ true
     → MayBegin (locks_of w) t c × Stays (locks_of w) t (new_call (purpose_at (locks_of w) c) (rights w t)) outcome.TheVariants.Step (locks_of (state_after_begin w t c))
 begin_goes w t (call.TheVariants.RwLock l c) shape steady there can = (
-  record { thread = there; idle = rw idle refl; lock = ltb-true l (length w.locks) open_to.0; right = rw (rwlock_purpose_is (kind_at w l) l c is_kind) (rwlock_right_held w t l c held.1) },
-  placed w t shape steady there w.sections Idle (RwLock l (admission_of (kind_at w l)) (rwlock_first c)) idle (rwlock_untaken_first l (admission_of (kind_at w l)) c) _
-      (λ r e. rwlock_begins_with l (admission_of (kind_at w l)) c r ∙ (λ i. new_call (sym (rwlock_purpose_is (kind_at w l) l c is_kind) i) (e i))),
+  record { thread = there; idle = rw idle refl; lock = ltb-true l (length w.locks) open_to.0; right = rw (rwlock_purpose_is (kind_at w l) l c built is_kind) (rwlock_right_held w t l c held.1) },
+  placed w t shape steady there w.sections Idle (RwLock l (admission_of (kind_at w l)) (call_first c)) idle (rwlock_untaken_first l (admission_of (kind_at w l)) c) _
+      (λ r e. rwlock_begins_with l (admission_of (kind_at w l)) c r ∙ (λ i. new_call (sym (rwlock_purpose_is (kind_at w l) l c built is_kind) i) (e i))),
 )
   where
     idle : place_at w t ≡ Idle
@@ -505,11 +511,14 @@ begin_goes w t (call.TheVariants.RwLock l c) shape steady there can = (
     open_to : (nat_lt l (length w.locks) ≡ true) × ((has_call (kind_at w l) (call.TheVariants.RwLock l c) && has_right (call.TheVariants.RwLock l c) t (owners_at w l) (share_at w l t)) ≡ true)
     open_to = both (nat_lt l (length w.locks)) _ (both (is_idle (place_at w t)) (is_open_to w t (call.TheVariants.RwLock l c)) can).1
 
-    held : (has_call (kind_at w l) (call.TheVariants.RwLock l c) ≡ true) × (rwlock_right c t (owners_at w l) (share_at w l t) ≡ true)
-    held = both (has_call (kind_at w l) (call.TheVariants.RwLock l c)) (rwlock_right c t (owners_at w l) (share_at w l t)) open_to.1
+    held : (has_call (kind_at w l) (call.TheVariants.RwLock l c) ≡ true) × (call_right c t (owners_at w l) (share_at w l t) ≡ true)
+    held = both (has_call (kind_at w l) (call.TheVariants.RwLock l c)) (call_right c t (owners_at w l) (share_at w l t)) open_to.1
 
     is_kind : has_readers (rules_in w l).sort ≡ true
     is_kind = calls_readers (kind_at w l) l c held.0
+
+    built : is_built c ≡ true
+    built = calls_built (kind_at w l) l c held.0
 begin_goes w t (call.TheVariants.Mutex l c) shape steady there can = (
   record { thread = there; idle = rw idle refl; lock = ltb-true l (length w.locks) open_to.0; right = rw (purpose_is (kind_at w l) l c is_kind) (right_held w t l (is_fair (kind_at w l)) c held.1) },
   placed w t shape steady there w.sections Idle (Mutex l (mutex_first (is_fair (kind_at w l)) c)) idle (untaken_first w t l (is_fair (kind_at w l)) c) _
@@ -535,8 +544,8 @@ begin_refused w t (call.TheVariants.RwLock l c) cannot may = let idle : is_idle 
   where
     either : (b : Bool) → has_call (kind_at w l) (call.TheVariants.RwLock l c) ≡ b → is_idle (place_at w t) ≡ true → nat_lt l (length w.locks) ≡ true → ⊥
     either false e idle there = no_purpose (locks_of w) t (kind_at w l) (call.TheVariants.RwLock l c) e may.right
-    either true e idle there = let right : HasRight (locks_of w) t (Some (rwlock_purpose l c)) = subst (HasRight (locks_of w) t) (rwlock_purpose_is (kind_at w l) l c (calls_readers (kind_at w l) l c e)) may.right in
-        let held : rwlock_right c t (owners_at w l) (share_at w l t) ≡ true = rwlock_right_needed w t l c right in cc
+    either true e idle there = let right : HasRight (locks_of w) t (Some (rwlock_purpose l c)) = subst (HasRight (locks_of w) t) (rwlock_purpose_is (kind_at w l) l c (calls_built (kind_at w l) l c e) (calls_readers (kind_at w l) l c e)) may.right in
+        let held : call_right c t (owners_at w l) (share_at w l t) ≡ true = rwlock_right_needed w t l c right in cc
 begin_refused w t (call.TheVariants.Mutex l c) cannot may = let idle : is_idle (place_at w t) ≡ true = no_call_idle (place_at w t) (rights w t) may.idle in
     let there : nat_lt l (length w.locks) ≡ true = lt-ltb l (length w.locks) may.lock in either (has_call (kind_at w l) (call.TheVariants.Mutex l c)) refl idle there
   where

@@ -1,8 +1,10 @@
 -- A thread that looks at the word once more goes on from another place of its call. Standing there changes nothing that locks and calls see.
-use Rattle.std.proofs.Common.{ℕ, zero, suc, List, set, true, Option, Some, None, if◌then◌else◌, ◌≡◌, ◌<◌, inl, inr, [], ◌∷◌, length, replicate, refl, sym, ◌∙◌, ap, subst, get_or-set_other, get_or-set_same, length-set, get_or}
+use Rattle.std.proofs.Common.{ℕ, zero, suc, List, set, true, false, Option, Some, None, if◌then◌else◌, ◌≡◌, ◌<◌, inl, inr, [], ◌∷◌, length, replicate, refl, sym, ◌∙◌, ap, subst, get_or-set_other, get_or-set_same, length-set, get_or}
 use Rattle.lot_rwlock.specs.declared.places.RwLockPlace.{RwLockPlace}
 use Rattle.lot_rwlock.specs.RwLockProfiles.{rwlock_looking}
 use Rattle.lot_rwlock.proofs.RwLockCallPlaces.{rwlock_looks_stand}
+use Rattle.lot_rwlock_fair.specs.declared.places.RwLockCallPlace.TheVariants.{Plain}
+use Rattle.lot_rwlock_fair.specs.FairProfiles.{in_call}
 use Rattle.lot_steps.specs.Steps.{in_rwlock}
 use Rattle.std.proofs.lemmas.Bool.{cases_eq}
 use Rattle.lot_base.specs.declared.ops.Op.TheVariants.{Load}
@@ -48,11 +50,12 @@ of_lock l o e = rw e refl
 -- it is in the same call, of a lock of its sort
 calls_on : (w : State) (p q : Place) → looking p ≡ Some q → FitsItsLock w p → FitsItsLock w q
 calls_on w Idle q is calls = absurd cc
-calls_on w (RwLock l a at) q is calls = by_place (rwlock_looking a at) refl is
+calls_on w (RwLock l a (Plain at)) q is calls = by_place (rwlock_looking a at) refl is
   where
-    by_place : (o : Option RwLockPlace) → rwlock_looking a at ≡ o → in_rwlock l a o ≡ Some q → FitsItsLock w q
+    by_place : (o : Option RwLockPlace) → rwlock_looking a at ≡ o → in_rwlock l a (in_call false o) ≡ Some q → FitsItsLock w q
     by_place None e is = absurd cc
-    by_place (Some at2) e is = let there : RwLock l a at2 ≡ q = cc in subst (FitsItsLock w) there (calls.0, (rwlock_looks_stand a at at2 e).1 calls.1)
+    by_place (Some at2) e is = let there : RwLock l a (Plain at2) ≡ q = cc in subst (FitsItsLock w) there (calls.0, (rwlock_looks_stand a at at2 e).1 calls.1)
+calls_on w (RwLock l a c) q is calls = absurd calls
 calls_on w (Mutex l at) q is calls = by_place (mutex_looking at) is
   where
     by_place : (o : Option MutexPlace) → in_mutex l o ≡ Some q → FitsItsLock w q

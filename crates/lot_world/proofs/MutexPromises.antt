@@ -13,11 +13,12 @@ use Rattle.abstract_locks.specs.Purposes.{Purpose, Enters, Releases, Converts, B
 use Rattle.lot_machine.specs.Machine.{State, place_at, word_at, kind_at}
 use Rattle.lot_world.specs.Refinement.{owner_at, lock_state, call_at}
 use Rattle.lot_world.specs.SitesOf.{is_mutex, rules_in}
-use Rattle.lot_world.specs.Owing.{Owes, IsInside, ReleasesLock, LetsOthersIn, SeesWaiters, OwesSince, line_let_in, tells_of, sort_at}
+use Rattle.lot_world.specs.Owing.{Owes, IsInside, ReleasesLock, LetsOthersIn, SeesWaiters, OwesSince, OnlyLooks, LooksFirst, line_let_in, tells_by, sort_at}
 use Rattle.lot_world.specs.Promises.{KnowsRights, WakesWaiters, IsKept, IsLookedAfter, IsOpenNow}
 use Rattle.lot_world.specs.MutexPromises.{HasDebtor, IsShownToOwe, GoesToRelease, SeesParkedBit, IsMutexKept, MutexesAreKept, OwesMutexSince, MutexesOwe}
 use Rattle.lot_world.proofs.MutexTable.{mutex}
 use Rattle.lot_world.proofs.StandsMoved.{mutex_rules}
+use Rattle.lot_world.proofs.RowPromises.{mutex_tells}
 use Rattle.lot_world.proofs.SitesPromise.{codes_by, sets_nothing}
 
 -- a mutex knows one right
@@ -45,6 +46,9 @@ lets_in_main : (q : Option Purpose) → line_let_in locks.Mutex q ≡ Main
 lets_in_main (Some (Releases l Shared fair)) = refl
 lets_in_main (Some (Releases l Exclusive fair)) = refl
 lets_in_main (Some (Releases l x fair)) = refl
+lets_in_main (Some (Bumps l Shared)) = refl
+lets_in_main (Some (Bumps l Exclusive)) = refl
+lets_in_main (Some (Bumps l x)) = refl
 lets_in_main q = refl
 
 module _ (w : State) (l : ℕ) (of_mutex : is_mutex (kind_at w l) ≡ true) where
@@ -85,8 +89,8 @@ module _ (w : State) (l : ℕ) (kept : IsKept w) (of_mutex : is_mutex (kind_at w
 
   owing : (t : ℕ) → IsShownToOwe w t l ↔ (IsInside w t l Main ⊎ GoesToRelease w t l)
   owing t = (
-    (λ h. elim ((kept.owing t l Main).0 (shown t h)) [ inl i ↦ inl i | inr g ↦ inr (g.0, only_releases w l of_mutex t g.1) ]),
-    λ h. ap is_line ((kept.owing t l Main).1 (elim h [ inl i ↦ inl i | inr g ↦ inr (g.0, inl g.1) ])),
+    (λ h. elim ((kept.owing t l Main).0 (shown t h)) [ inl i ↦ inl i | inr g ↦ inr (g.0, elim g.1 [ inl lets ↦ only_releases w l of_mutex t lets | inr none ↦ absurd none ]) ]),
+    λ h. ap is_line ((kept.owing t l Main).1 (elim h [ inl i ↦ inl i | inr g ↦ inr (g.0, inl (inl g.1)) ])),
   )
 
   pub mutex_kept : IsMutexKept w l
@@ -106,11 +110,28 @@ mutexes_are_kept w l kept of_mutex = mutex_kept w l kept of_mutex
 -- ---------------------------------------------------------------- a step
 
 module _ (w v : State) (t l : ℕ) (o : Outcome) (since : OwesSince w t o v) (kept : IsKept v) (before : is_mutex (kind_at w l) ≡ true) (behind : is_mutex (kind_at v l) ≡ true) where
-  seen : SeesWaiters w t l Main o → SeesParkedBit w t l o
-  seen s = (only_releases w l before t s.0, subst (λ x. tells_of x Main (word_at w l) ≡ true) (sort w l before) s.2, s.3)
+  seen : SeesWaiters w t l Main o v → SeesParkedBit w t l o
+  seen s = (only_releases w l before t s.0, sym (mutex_tells (call_at w t).purpose Main (word_at w l)) ∙ subst (λ x. tells_by x (call_at w t).purpose Main (word_at w l) ≡ true) (sort w l before) s.2, s.3)
 
-  sees : SeesParkedBit w t l o → SeesWaiters w t l Main o
-  sees s = (inl s.0, ap (λ x. line_let_in x (call_at w t).purpose) (sort w l before) ∙ lets_in_main (call_at w t).purpose, subst (λ x. tells_of x Main (word_at w l) ≡ true) (sym (sort w l before)) s.1, s.2)
+  -- a mutex knows no right of which a bump would look first
+  looks : OnlyLooks v t l → ⊥
+  looks h = by_purpose (call_at v t).purpose (kept.known t) h.0
+    where
+      by_purpose : (q : Option Purpose) → KnowsRights (sort_at v) q → LooksFirst q l → ⊥
+      by_purpose None knows k = k
+      by_purpose (Some (Enters j x how)) knows k = k
+      by_purpose (Some (Converts j x y how)) knows k = k
+      by_purpose (Some (Releases j x fair)) knows k = k.2 (only_exclusive x (subst (λ s. Knows s x) (ap (sort_at v) k.0 ∙ sort v l behind) knows))
+      by_purpose (Some (Bumps j x)) knows k = k.1 (only_exclusive x (subst (λ s. Knows s x) (ap (sort_at v) k.0 ∙ sort v l behind) knows))
+
+  sees : SeesParkedBit w t l o → SeesWaiters w t l Main o v
+  sees s = (
+    inl s.0,
+    ap (λ x. line_let_in x (call_at w t).purpose) (sort w l before) ∙ lets_in_main (call_at w t).purpose,
+    subst (λ x. tells_by x (call_at w t).purpose Main (word_at w l) ≡ true) (sym (sort w l before)) (mutex_tells (call_at w t).purpose Main (word_at w l) ∙ s.1),
+    s.2,
+    λ k. absurd (looks k),
+  )
 
   pub owes_since : OwesMutexSince w t l o v
   owes_since = record {

@@ -25,7 +25,7 @@ use Rattle.abstract_locks.specs.Runs.{IsTimed}
 use Rattle.abstract_locks.specs.Sites.{Line, Main, Second, Has, IsDebtor, counts_some, idle}
 use Rattle.lot_world.specs.MutexDeeds.{mutex_row}
 use Rattle.lot_world.specs.SitesOf.{key_of}
-use Rattle.lot_world.specs.Promises.{KnowsRights, want_of}
+use Rattle.lot_world.specs.Promises.{KnowsRights, WakesAside, want_of}
 use Rattle.lot_world.proofs.RowPromises.{is_acting, lock_for, IsWaiting, WasHanded, LetsIn, IsDebtorIn, HasDebt, RowLooksAfter, RowIsLate, RowPromises}
 
 -- ---------------------------------------------------------------- waiting
@@ -137,6 +137,16 @@ entering_owes l (HandOff b (hand_off.Store false n)) m h lets = absurd cc
 entering_owes l (HandOff b (hand_off.Leave any)) m h lets = absurd cc
 entering_owes l at m h lets = absurd cc
 
+-- a bump of a mutex is of no shared right
+wakes_none : (l : ℕ) (at : MutexPlace) (m : Line) → WakesAside (Some ((mutex_row at).purpose l)) l m → ⊥
+wakes_none l at Main h = h
+wakes_none l (Lock entries.Lock r at) Second h = h
+wakes_none l (Lock entries.LockTimed r at) Second h = h
+wakes_none l (Lock entries.Bump r at) Second h = h
+wakes_none l (HandOff true at) Second h = h
+wakes_none l (HandOff false at) Second h = h
+wakes_none l at Second h = h
+
 owes_main : (at : MutexPlace) → (mutex_row at).owes ≢ Some Second
 owes_main (Lock e r at) h = lock_main (is_timed e) r at h
 owes_main (Unlock unlock.Subtract) h = cc
@@ -205,10 +215,27 @@ hand_off_awake l (hand_off.Store true none_left) e = cc
 hand_off_awake l (hand_off.Leave false) e = cc
 hand_off_awake l (hand_off.Leave true) e = cc
 
-asleep : (l : ℕ) (at : MutexPlace) → mutex_act l at ≡ Sleep → IsWaiting (mutex_row at) ⊎ WasHanded (mutex_row at)
+asleep : (l : ℕ) (at : MutexPlace) → mutex_act l at ≡ Sleep → IsWaiting (mutex_row at) ⊎ WasHanded locks.Mutex l (mutex_row at)
 asleep l (Lock e r lock.Asleep) h = inl (inl (λ n. cc))
 asleep l (Lock e r (lock.Taken by)) h = inl (inr (λ n. cc))
-asleep l (Lock e r (lock.Handed by)) h = inr (by, refl, refl)
+asleep l (Lock e r (lock.Handed by)) h = inr (record {
+  by = by;
+  in_hand = refl;
+  waited = waits e;
+  want = Exclusive;
+  wants = wants e;
+  has = inl refl;
+})
+  where
+    waits : (e : Entry) → MayWait (Some (entry_purpose l e)) l
+    waits entries.Lock = (refl, λ h. cc)
+    waits entries.LockTimed = (refl, λ h. cc)
+    waits entries.Bump = refl
+
+    wants : (e : Entry) → want_of (Some (entry_purpose l e)) ≡ Some Exclusive
+    wants entries.Lock = refl
+    wants entries.LockTimed = refl
+    wants entries.Bump = refl
 asleep l (Lock e r (lock.Decide x)) h = absurd (decided_awake l x (is_locked x) (x == 1) h)
 asleep l (Lock e r lock.First) h = absurd cc
 asleep l (Lock e r at) h = absurd cc
@@ -258,9 +285,9 @@ mutex_promises l at = record {
   known = mutex_known l at;
   aside = λ h. absurd (never_aside at h);
   owing = record {
-    owes = owes_is l at;
+    owes = λ m h. elim (owes_is l at m h) [ inl i ↦ inl i | inr g ↦ inr (g.0, inl g.1) ];
     inside = inside_owes at;
-    entering = entering_owes l at;
+    entering = λ m h lets. elim lets [ inl k ↦ entering_owes l at m h k | inr k ↦ absurd (wakes_none l at m k) ];
     second = λ h. absurd (owes_main at h);
   };
   debtor = debtor l at;

@@ -33,6 +33,7 @@ use Rattle.lot_acts.specs.Profiles.{hand}
 use Rattle.lot_steps.specs.Steps.{lock_of, next_place, taker}
 use Rattle.lot_steps.specs.declared.places.Place.{Place}
 use Rattle.lot_steps.specs.declared.places.Place.TheVariants.{Idle, RwLock, Mutex}
+use Rattle.lot_rwlock_fair.specs.declared.places.RwLockCallPlace.TheVariants.{Plain}
 use Rattle.abstract_locks.specs.Locks.{Rights, LockCase, Wake, HandOff}
 use Rattle.abstract_locks.specs.Runs.{AtLock, is_taken_by}
 use Rattle.abstract_locks.specs.Deeds.{event_by}
@@ -168,21 +169,22 @@ taken_by_hand w (Mutex k at) t l calls h = by_place (Mutex k at) (is_taken (Mute
   where
     by_place : (p : Place) → IsTakenAt p t l → is_taken_by t (taken_at p l) ≡ true
     by_place p there = rw (there.is, same l) (same t)
-taken_by_hand w (RwLock k a p) t l calls h = either (k == l) h
+taken_by_hand w (RwLock k a (Plain p)) t l calls h = either (k == l) h
   where
-    either : (b : Bool) → (if b then station (RwLock k a p) else nowhere).hand ≡ hand t false → is_taken_by t (taken_from (rwlock_hand p.at) (wants_for p.purpose) b) ≡ true
+    either : (b : Bool) → (if b then station (RwLock k a (Plain p)) else nowhere).hand ≡ hand t false → is_taken_by t (taken_from (rwlock_hand p.at) (wants_for p.purpose) b) ≡ true
     either true g = let x = waits_so a p.purpose p.retries p.at t calls.1.place g in
         ap (is_taken_by t) (λ i. taken_from (g i) (x.1 i) true) ∙ same t
     either false g = absurd cc
+taken_by_hand w (RwLock k a c) t l calls h = absurd calls
 
 -- who was handed the lock goes on as it was
-handed_goes : (p : Place) (t l : ℕ) → hand_at p l ≡ hand t true → (r : ℕ → Rights) → call_state (next_place p (Woken note.HandOff)) r ≡ call_state p r
-handed_goes Idle t l h r = refl
-handed_goes (Mutex k at) t l h r = by_place (Mutex k at) (is_handed (Mutex k at) t l tt h)
+handed_goes : (w : State) (p : Place) (t l : ℕ) → FitsItsLock w p → hand_at p l ≡ hand t true → (r : ℕ → Rights) → call_state (next_place p (Woken note.HandOff)) r ≡ call_state p r
+handed_goes w Idle t l fits h r = refl
+handed_goes w (Mutex k at) t l fits h r = by_place (Mutex k at) (is_handed (Mutex k at) t l tt h)
   where
     by_place : (p : Place) → IsHandedAt p t l → call_state (next_place p (Woken note.HandOff)) r ≡ call_state p r
     by_place p there = rw there.is refl
-handed_goes (RwLock k a p) t l h r = absurd (either (k == l) h)
+handed_goes w (RwLock k a (Plain p)) t l fits h r = absurd (either (k == l) h)
   where
     never : (to : RwLockAt) → rwlock_hand to ≡ hand t true → ⊥
     never (at.Park (parking.Taken by)) g = cc
@@ -191,9 +193,10 @@ handed_goes (RwLock k a p) t l h r = absurd (either (k == l) h)
     never (at.Aside to) g = cc
     never to g = cc
 
-    either : (b : Bool) → (if b then station (RwLock k a p) else nowhere).hand ≡ hand t true → ⊥
+    either : (b : Bool) → (if b then station (RwLock k a (Plain p)) else nowhere).hand ≡ hand t true → ⊥
     either true g = never p.at g
     either false g = cc
+handed_goes w (RwLock k a c) t l fits h r = absurd fits
 
 module _ (w : State) (t l : ℕ) (steady : IsSteady w) (own : lock_of (place_at w t) ≡ Some l) (p2 : Place) where
   is_of : IsOf l (place_at w t)
@@ -228,7 +231,7 @@ module _ (w : State) (t l : ℕ) (steady : IsSteady w) (own : lock_of (place_at 
   tells_handed b places carries u ne r = ap (λ p. call_state p r) (told_at b (Woken note.HandOff) places u ne) ∙ either (is_thread t (taker (place_at w u))) refl
     where
       either : (c : Bool) → is_thread t (taker (place_at w u)) ≡ c → call_state (if c then next_place (place_at w u) (Woken note.HandOff) else place_at w u) r ≡ call_state (place_at w u) r
-      either true e = handed_goes (place_at w u) t l (in_hand_here true carries u e) r
+      either true e = handed_goes w (place_at w u) t l (steady.stands.calls u) (in_hand_here true carries u e) r
       either false e = refl
 
   -- so the calls of the others are what its case makes of them

@@ -33,10 +33,10 @@ use Rattle.lot_base.specs.Requeues.{taken_by}
 use Rattle.lot_world.proofs.Closures.{nothing_closes}
 use Rattle.lot_world.specs.Refinement.{call_on}
 use Rattle.abstract_locks.specs.Locks.{Rights}
-use Rattle.lot_world.specs.Owing.{Owes, IsInside, SeesWaiters, OwesSince, LetsOthersIn, line_let_in, sort_at, tells_of}
+use Rattle.lot_world.specs.Owing.{Owes, IsInside, SeesWaiters, OwesSince, OnlyLooks, LooksFirst, LetsOthersIn, line_let_in, sort_at, tells_by}
 use Rattle.lot_machine.specs.Fits.{IsShaped}
 use Rattle.abstract_locks.specs.Sites.{Line}
-use Rattle.lot_world.specs.SitesOf.{IsSteady}
+use Rattle.lot_world.specs.SitesOf.{IsSteady, key_of}
 use Rattle.lot_machine.proofs.Shape.{both, performed_counts}
 use Rattle.lot_world.proofs.TurnsKept.{idle_is, after_steady}
 use Rattle.lot_world.proofs.Glue.{IsLock, next_of, calls_none}
@@ -45,7 +45,7 @@ use Rattle.lot_world.proofs.CallEvents.{rights as rights_at}
 use Rattle.lot_acts.specs.Profiles.{Profile}
 use Rattle.lot_acts.specs.Calls.{call_by}
 use Rattle.abstract_locks.specs.Runs.{CallState, no_call}
-use Rattle.lot_world.proofs.RowPromises.{RowSees, lock_for, releases_for, downgrades_for}
+use Rattle.lot_world.proofs.RowPromises.{RowFinds, RowLooks, lock_for, releases_for, downgrades_for}
 use Rattle.lot_world.proofs.PlacePromises.{LetsBy, row_promises, owing_is, owes_own, owed_own, inside_own, call_own, lets_in, lets_out}
 use Rattle.lot_world.proofs.LineActs.{late_line}
 use Rattle.lot_world.proofs.PlaceSteps.{owes_befallen, owes_next, first_owes, late_next}
@@ -150,9 +150,10 @@ others_owe w s u k ne = either (is_possible w s)
 -- ---------------------------------------------------------------- the thread of the step
 
 -- it sees waiters, by its call
-abbrev SeesBy : State → ℕ → ℕ → Line → Outcome → CallState → Type 0
-SeesBy w t l m o c =
-    LetsBy w t l c × (line_let_in (sort_at w l) c.purpose ≡ m) × (tells_of (sort_at w l) m (word_at w l) ≡ true) × (o ≡ outcome.TheVariants.Step)
+abbrev SeesBy : State → ℕ → ℕ → Line → Outcome → State → CallState → Type 0
+SeesBy w t l m o v c =
+    LetsBy w t l c × (line_let_in (sort_at w l) c.purpose ≡ m) × (tells_by (sort_at w l) c.purpose m (word_at w l) ≡ true) × (o ≡ outcome.TheVariants.Step)
+    × (OnlyLooks v t l → act_of (place_at v t) ≡ Enter (One (key_of l m)))
 
 -- a thread that is in no call lets nobody in
 idle_shut : (w : State) (t l : ℕ) → lock_of (place_at w t) ≡ None → LetsOthersIn w t l → ⊥
@@ -180,11 +181,22 @@ lets_own w t l steady lets = by_lock (lock_of (place_at w t)) refl
 
 module _ (w v : State) (t : ℕ) (steady : IsSteady w) (behind : IsSteady v) where
   -- what it sees, by its row
-  sees_row : (l : ℕ) (m : Line) (o : Outcome) (own : lock_of (place_at w t) ≡ Some l) → SeesWaiters w t l m o → RowSees (sort_at w l) l (word_at w l) (profile (place_at w t)) m
-  sees_row l m o own s = (lets_in w t steady l own s.0, ap (λ (c : CallState). line_let_in (sort_at w l) c.purpose) (sym (call_own w t steady l own)) ∙ s.1, s.2)
+  sees_row : (l : ℕ) (m : Line) (o : Outcome) (own : lock_of (place_at w t) ≡ Some l) → SeesWaiters w t l m o v → RowFinds (sort_at w l) l (word_at w l) (profile (place_at w t)) m
+  sees_row l m o own s = (
+    lets_in w t steady l own s.0,
+    ap (λ (c : CallState). line_let_in (sort_at w l) c.purpose) (sym (call_own w t steady l own)) ∙ s.1,
+    ap (λ (c : CallState). tells_by (sort_at w l) c.purpose m (word_at w l)) (sym (call_own w t steady l own)) ∙ s.2,
+  )
 
-  row_sees : (l : ℕ) (m : Line) (o : Outcome) (own : lock_of (place_at w t) ≡ Some l) → RowSees (sort_at w l) l (word_at w l) (profile (place_at w t)) m → o ≡ outcome.TheVariants.Step → SeesWaiters w t l m o
-  row_sees l m o own s step = (lets_out w t steady l own s.0, ap (λ (c : CallState). line_let_in (sort_at w l) c.purpose) (call_own w t steady l own) ∙ s.1, s.2, step)
+  row_sees : (l : ℕ) (m : Line) (o : Outcome) (own : lock_of (place_at w t) ≡ Some l) → RowFinds (sort_at w l) l (word_at w l) (profile (place_at w t)) m → o ≡ outcome.TheVariants.Step
+      → act_of (place_at v t) ≡ Enter (One (key_of l m)) → SeesWaiters w t l m o v
+  row_sees l m o own s step enters = (
+    lets_out w t steady l own s.0,
+    ap (λ (c : CallState). line_let_in (sort_at w l) c.purpose) (call_own w t steady l own) ∙ s.1,
+    ap (λ (c : CallState). tells_by (sort_at w l) c.purpose m (word_at w l)) (call_own w t steady l own) ∙ s.2,
+    step,
+    λ looks. enters,
+  )
 
   -- where it goes on to a place of its lock, or ends
   module _ (q : Place) (at_q : place_at v t ≡ q) (l : ℕ) (m : Line) (o : Outcome) where
@@ -198,7 +210,7 @@ module _ (w v : State) (t : ℕ) (steady : IsSteady w) (behind : IsSteady v) whe
     row_then h = ap (λ p. (profile p).owes) (sym at_q) ∙ sym (owed_own (place_at v t) l (owes_own (place_at v t) l m h)) ∙ h
 
   -- it goes on by the reply to its act
-  go_owes : place_at v t ≡ next_place (place_at w t) (go_reply w t) → (l : ℕ) (m : Line) → Owes v t l m ↔ (IsInside v t l m ⊎ SeesWaiters w t l m (go_outcome w t))
+  go_owes : place_at v t ≡ next_place (place_at w t) (go_reply w t) → (l : ℕ) (m : Line) → Owes v t l m ↔ (IsInside v t l m ⊎ SeesWaiters w t l m (go_outcome w t) v)
   go_owes at_q l m = (since, λ h. elim h [ inl i ↦ inside_then q at_q l m o i | inr s ↦ saw s ])
     where
       q : Place
@@ -211,27 +223,40 @@ module _ (w v : State) (t : ℕ) (steady : IsSteady w) (behind : IsSteady v) whe
       own_before own None e = absurd (let f : lock_of q ≡ None = ap (λ p. lock_of (next_place p (go_reply w t))) (calls_none (place_at w t) e) in let g : ◌≡◌ {A = Option ℕ} None (Some l) = sym f ∙ own in cc)
       own_before own (Some k) e = ap Some (sym (subst (IsLock k) own (next_of k (place_at w t) (go_reply w t) (subst (IsLock k) (sym e) refl))))
 
-      since : Owes v t l m → IsInside v t l m ⊎ SeesWaiters w t l m o
+      -- who owes a wake that is outside goes in
+      since : Owes v t l m → IsInside v t l m ⊎ SeesWaiters w t l m o v
       since h =
           let own = own_before (ap lock_of (sym at_q) ∙ owes_own (place_at v t) l m h) (lock_of (place_at w t)) refl in
-          elim ((owes_next w t l steady own).since m (row_then q at_q l m o h)) [
-            | inl i ↦ inl (within_then q at_q l m o h i)
-            | inr s ↦ inr (row_sees l m o own s.0 s.1)
+          elim ((owing_is v t behind l m).0 h) [
+            | inl i ↦ inl i
+            | inr g ↦ elim ((owes_next w t l steady own).since m (row_then q at_q l m o h)) [
+              | inl i ↦ inl (within_then q at_q l m o h i)
+              | inr s ↦ inr (row_sees l m o own s.0 s.1 g.0)
+            ]
           ]
 
-      saw : SeesWaiters w t l m o → Owes v t l m
+      saw : SeesWaiters w t l m o v → Owes v t l m
       saw s =
           let own = lets_own w t l steady s.0 in
-          let owes = (owes_next w t l steady own).sees m (sees_row l m o own s) s.3 in
+          let owes = (owes_next w t l steady own).sees m (sees_row l m o own s) s.3 (λ looks. ap act_of (sym at_q) ∙ s.4 (looks_then own (lock_of q) refl looks)) in
           owed_own (place_at v t) l (ap lock_of at_q ∙ still (lock_of q) refl owes own) ∙ ap (λ p. (profile p).owes) at_q ∙ owes
         where
+          same_lock : (j : ℕ) → lock_of q ≡ Some j → lock_of (place_at w t) ≡ Some l → j ≡ l
+          same_lock j e own = subst (IsLock l) e (next_of l (place_at w t) (go_reply w t) (subst (IsLock l) (sym own) refl))
+
           still : (x : Option ℕ) → lock_of q ≡ x → (profile q).owes ≡ Some m → lock_of (place_at w t) ≡ Some l → x ≡ Some l
           still None e owes own = absurd (let f : ◌≡◌ {A = Option Line} None (Some m) = sym (ap (λ p. (profile p).owes) (calls_none q e)) ∙ owes in cc)
-          still (Some j) e owes own = ap Some (subst (IsLock l) e (next_of l (place_at w t) (go_reply w t) (subst (IsLock l) (sym own) refl)))
+          still (Some j) e owes own = ap Some (same_lock j e own)
+
+          looks_then : lock_of (place_at w t) ≡ Some l → (x : Option ℕ) → lock_of q ≡ x → RowLooks l (profile q) → OnlyLooks v t l
+          looks_then own None e looks = absurd (subst (λ p. RowLooks l (profile p)) (calls_none q e) looks).0
+          looks_then own (Some j) e looks =
+              let own_then : lock_of (place_at v t) ≡ Some l = ap lock_of at_q ∙ e ∙ ap Some (same_lock j e own) in
+              subst (λ (c : CallState). LooksFirst c.purpose l × (c.released ≡ false)) (sym (call_own v t behind l own_then)) (subst (λ p. RowLooks l (profile p)) (sym at_q) looks)
 
   -- it owes nothing but what it is inside, and lets nobody in
   quiet_owes : (q : Place) → place_at v t ≡ q → ((m : Line) → (profile q).owes ≡ Some m → (profile q).doing.inside ≡ Some m) → ((l : ℕ) → LetsOthersIn w t l → ⊥)
-      → (l : ℕ) (m : Line) (o : Outcome) → Owes v t l m ↔ (IsInside v t l m ⊎ SeesWaiters w t l m o)
+      → (l : ℕ) (m : Line) (o : Outcome) → Owes v t l m ↔ (IsInside v t l m ⊎ SeesWaiters w t l m o v)
   quiet_owes q at_q within shut l m o = (
     (λ h. inl (within_then q at_q l m o h (within m (row_then q at_q l m o h)))),
     λ h. elim h [ inl i ↦ inside_then q at_q l m o i | inr s ↦ absurd (shut l s.0) ],
@@ -242,13 +267,13 @@ module _ (w : State) (t : ℕ) (there : t < length w.places) where
   go_place = get_or-set_same (state_after_act w t (place_at w t) (act_of (place_at w t))).places t _ Idle (rw ((performed_counts w t (place_at w t) (act_of (place_at w t))).0) there)
 
 module _ (w : State) (t : ℕ) (shape : IsShaped w) (steady : IsSteady w) (there : t < length w.places) where
-  begun_owing : (c : Call) → can_begin w t c ≡ true → IsSteady (state_after_begin w t c) → (l : ℕ) (m : Line) (o : Outcome) → Owes (state_after_begin w t c) t l m ↔ (IsInside (state_after_begin w t c) t l m ⊎ SeesWaiters w t l m o)
+  begun_owing : (c : Call) → can_begin w t c ≡ true → IsSteady (state_after_begin w t c) → (l : ℕ) (m : Line) (o : Outcome) → Owes (state_after_begin w t c) t l m ↔ (IsInside (state_after_begin w t c) t l m ⊎ SeesWaiters w t l m o (state_after_begin w t c))
   begun_owing c can behind = quiet_owes w (state_after_begin w t c) t steady behind (first_place (kind_at w (lock_in c)) c) (get_or-set_same w.places t (first_place (kind_at w (lock_in c)) c) Idle there)
       (λ m h. absurd (let e : ◌≡◌ {A = Option Line} None (Some m) = sym (first_owes (kind_at w (lock_in c)) c) ∙ h in cc))
       (λ l lets. idle_shut w t l (ap lock_of (idle_is (place_at w t) (both (is_idle (place_at w t)) (is_open_to w t c) can).0)) lets)
 
   -- who enters the section of the line where it slept
-  late_owing : (o : Option ℕ) → late_key (place_at w t) ≡ o → is_free_under w o ≡ true → IsSteady (state_after_late_on w t o) → (l : ℕ) (m : Line) (told : Outcome) → Owes (state_after_late_on w t o) t l m ↔ (IsInside (state_after_late_on w t o) t l m ⊎ SeesWaiters w t l m told)
+  late_owing : (o : Option ℕ) → late_key (place_at w t) ≡ o → is_free_under w o ≡ true → IsSteady (state_after_late_on w t o) → (l : ℕ) (m : Line) (told : Outcome) → Owes (state_after_late_on w t o) t l m ↔ (IsInside (state_after_late_on w t o) t l m ⊎ SeesWaiters w t l m told (state_after_late_on w t o))
   late_owing None e can behind = absurd cc
   late_owing (Some key) e can behind =
       let of = late_line (place_at w t) key e in
@@ -260,12 +285,12 @@ module _ (w : State) (t : ℕ) (shape : IsShaped w) (steady : IsSteady w) (there
 
   -- it looks at the word once more, and is in its call as before
   spun_owing : (o : Option Place) → looking (place_at w t) ≡ o → is_some o ≡ true → IsSteady (state_after_look w t o) → (l : ℕ) (m : Line)
-      → Owes (state_after_look w t o) t l m ↔ (IsInside (state_after_look w t o) t l m ⊎ SeesWaiters w t l m (look_outcome w t o))
+      → Owes (state_after_look w t o) t l m ↔ (IsInside (state_after_look w t o) t l m ⊎ SeesWaiters w t l m (look_outcome w t o) (state_after_look w t o))
   spun_owing None is can behind l m = absurd cc
-  spun_owing (Some q) is can behind l m = subst (λ (c : CallState). Owes (state_after_go (put w t q) t) t l m ↔ (IsInside (state_after_go (put w t q) t) t l m ⊎ SeesBy w t l m (go_outcome (put w t q) t) c)) (calls_same w t there q is t)
+  spun_owing (Some q) is can behind l m = subst (λ (c : CallState). Owes (state_after_go (put w t q) t) t l m ↔ (IsInside (state_after_go (put w t q) t) t l m ⊎ SeesBy w t l m (go_outcome (put w t q) t) (state_after_go (put w t q) t) c)) (calls_same w t there q is t)
       (go_owes (put w t q) (state_after_go (put w t q) t) t (looking_steady w t there q is steady) behind (go_place (put w t q) t (rw (length-set w.places t q) there)) l m)
 
-  turned_owing : (x : Turn) → can_turn w t x ≡ true → IsSteady (state_after_turn w t x) → (l : ℕ) (m : Line) → Owes (state_after_turn w t x) t l m ↔ (IsInside (state_after_turn w t x) t l m ⊎ SeesWaiters w t l m (turn_outcome w t x))
+  turned_owing : (x : Turn) → can_turn w t x ≡ true → IsSteady (state_after_turn w t x) → (l : ℕ) (m : Line) → Owes (state_after_turn w t x) t l m ↔ (IsInside (state_after_turn w t x) t l m ⊎ SeesWaiters w t l m (turn_outcome w t x) (state_after_turn w t x))
   turned_owing (turn.TheVariants.Begin c) can behind l m = begun_owing c can behind l m outcome.TheVariants.Step
   turned_owing turn.TheVariants.Go can behind l m = go_owes w (state_after_go w t) t steady behind (go_place w t there) l m
   turned_owing turn.TheVariants.Spin can behind l m = spun_owing (looking (place_at w t)) refl can behind l m
@@ -280,6 +305,6 @@ owes_since w s shape steady = record {
 }
   where
     own : (b : Bool) → is_possible w s ≡ b → IsSteady (if b then state_after_turn w s.thread s.turn else w) → (l : ℕ) (m : Line) → (if b then turn_outcome w s.thread s.turn else outcome.TheVariants.NotNow) ≢ outcome.TheVariants.NotNow
-        → Owes (if b then state_after_turn w s.thread s.turn else w) s.thread l m ↔ (IsInside (if b then state_after_turn w s.thread s.turn else w) s.thread l m ⊎ SeesWaiters w s.thread l m (if b then turn_outcome w s.thread s.turn else outcome.TheVariants.NotNow))
+        → Owes (if b then state_after_turn w s.thread s.turn else w) s.thread l m ↔ (IsInside (if b then state_after_turn w s.thread s.turn else w) s.thread l m ⊎ SeesWaiters w s.thread l m (if b then turn_outcome w s.thread s.turn else outcome.TheVariants.NotNow) (if b then state_after_turn w s.thread s.turn else w))
     own true can behind l m ne = let h = both (nat_lt s.thread (length w.places)) (can_turn w s.thread s.turn) can in turned_owing w s.thread shape steady (ltb-true s.thread (length w.places) h.0) s.turn h.1 behind l m
     own false cannot behind l m ne = absurd (ne refl)

@@ -7,6 +7,7 @@ use Rattle.lot_acts.specs.declared.acts.Act.TheVariants.{Enter, Rest}
 use Rattle.lot_acts.specs.Profiles.{taken_from}
 use Rattle.lot_steps.specs.declared.places.Place.{Place}
 use Rattle.lot_steps.specs.declared.places.Place.TheVariants.{Idle, Mutex, RwLock}
+use Rattle.lot_rwlock_fair.specs.declared.places.RwLockCallPlace.TheVariants.{Plain}
 use Rattle.lot_steps.specs.Steps.{act_of, lock_of, is_lock, calls, profile, line_owed}
 use Rattle.abstract_locks.specs.Locks.{Taken, IsSomePending, one_if_some, is_thread, standing}
 use Rattle.abstract_locks.specs.Locks as locks
@@ -19,7 +20,7 @@ use Rattle.lot_world.specs.Refinement.{lock_state, call_on, call_at, taken_at}
 use Rattle.lot_world.specs.Stations.{Station, nowhere, station, station_at, doing_on}
 use Rattle.lot_world.specs.SitesOf.{IsSteady, FitsItsLock, key_of, stood_in, rules_in}
 use Rattle.lot_world.specs.Owing.{Owes, IsInside, LetsOthersIn, IsDowngrade, sort_at}
-use Rattle.lot_world.specs.Promises.{GoesToWake}
+use Rattle.lot_world.specs.Promises.{GoesToWake, WakesAside}
 use Rattle.lot_world.proofs.Counts.{none_first}
 use Rattle.lot_world.proofs.Glue.{same, differ, taken_out, calls_none, inside_is}
 use Rattle.lot_world.proofs.MutexTable.{queued_times}
@@ -27,7 +28,7 @@ use Rattle.lot_world.proofs.StandsMoved.{mutex_rules}
 use Rattle.lot_world.proofs.LineActs.{IsOfLine, IsLineAct, line_act}
 use Rattle.lot_world.proofs.MutexRows.{mutex_promises}
 use Rattle.lot_world.proofs.SitesPromise.{first_out}
-use Rattle.lot_world.proofs.RowPromises.{LetsIn, IsWaiting, taken_of, RowPromises}
+use Rattle.lot_world.proofs.RowPromises.{LetsIn, LetsInAt, IsWaiting, taken_of, RowPromises}
 use Rattle.lot_world.proofs.CallEvents.{rights}
 use Rattle.lot_world.proofs.RwLockRows.{rwlock_promises}
 
@@ -107,10 +108,11 @@ module _ (w : State) (t : ℕ) (steady : IsSteady w) where
           let sort : locks.Mutex ≡ sort_at w k = sym (ap (λ r. r.sort) (mutex_rules (kind_at w k) admitted)) in
           subst (λ j. RowPromises (sort_at w j) j (profile (Mutex k at)) (act_of (Mutex k at))) here
           (subst (λ s. RowPromises s k (profile (Mutex k at)) (act_of (Mutex k at))) sort (mutex_promises k at))
-      by_place (RwLock k a at) is own =
+      by_place (RwLock k a (Plain at)) is own =
           let here : k ≡ l = cc in
-          let admitted : FitsItsLock w (RwLock k a at) = rw is at (steady.stands.calls t) in
-          subst (λ j. RowPromises (sort_at w j) j (profile (RwLock k a at)) (act_of (RwLock k a at))) here (rwlock_promises (rules_in w k) a k at admitted.0 admitted.1)
+          let admitted : FitsItsLock w (RwLock k a (Plain at)) = rw is at (steady.stands.calls t) in
+          subst (λ j. RowPromises (sort_at w j) j (profile (RwLock k a (Plain at))) (act_of (RwLock k a (Plain at)))) here (rwlock_promises (rules_in w k) a k at admitted.0 admitted.1)
+      by_place (RwLock k a c) is own = absurd (subst (FitsItsLock w) is (steady.stands.calls t))
 
   -- ---------------------------------------------------------------- where it stands
 
@@ -241,15 +243,22 @@ module _ (w : State) (t : ℕ) (steady : IsSteady w) where
       )
     ])
 
+    -- on its way into the section of a line
+    lets_in_at : (m : Line) → LetsOthersIn w t l ⊎ WakesAside (call_at w t).purpose l m → LetsInAt (sort_at w l) l (profile (place_at w t)) m
+    lets_in_at m h = elim h [ inl lets ↦ inl (lets_in lets) | inr wakes ↦ inr (subst (λ (c : CallState). WakesAside c.purpose l m) call_own wakes) ]
+
+    lets_out_at : (m : Line) → LetsInAt (sort_at w l) l (profile (place_at w t)) m → LetsOthersIn w t l ⊎ WakesAside (call_at w t).purpose l m
+    lets_out_at m h = elim h [ inl lets ↦ inl (lets_out lets) | inr wakes ↦ inr (subst (λ (c : CallState). WakesAside c.purpose l m) (sym call_own) wakes) ]
+
   -- who owes a wake on a line is inside its section, or lets others in and is on its way into it
   pub owing_is : (l : ℕ) (m : Line) → Owes w t l m ↔ (IsInside w t l m ⊎ GoesToWake w t l m)
   owing_is l m = (
     (λ h. let own = owes_own (place_at w t) l m h in
         let row = (row_promises l own).owing.owes m (sym (owed_own (place_at w t) l own) ∙ h) in
-        elim row [ inl i ↦ inl ((inside_own l own m).0 i) | inr g ↦ inr (g.0, lets_out l own g.1) ]),
+        elim row [ inl i ↦ inl ((inside_own l own m).0 i) | inr g ↦ inr (g.0, lets_out_at l own m g.1) ]),
     λ h. elim h [
       | inl i ↦ (let own = inside_calls (lock_of (place_at w t)) refl i in owed_own (place_at w t) l own ∙ (row_promises l own).owing.inside m ((inside_own l own m).1 i))
-      | inr g ↦ (let own = entering_calls (lock_of (place_at w t)) refl g.0 in owed_own (place_at w t) l own ∙ (row_promises l own).owing.entering m g.0 (lets_in l own g.1))
+      | inr g ↦ (let own = entering_calls (lock_of (place_at w t)) refl g.0 in owed_own (place_at w t) l own ∙ (row_promises l own).owing.entering m g.0 (lets_in_at l own m g.1))
     ],
   )
     where

@@ -53,11 +53,12 @@ use Rattle.lot_world.proofs.PlacePromises.{row_promises, station_own, station_ca
 use Rattle.lot_world.proofs.StandsKept.{in_main}
 use Rattle.lot_world.proofs.Counts.{first_times}
 use Rattle.lot_world.proofs.PlaceSteps.{late_next}
-use Rattle.lot_rwlock.specs.declared.places.RwLockPlace.{RwLockPlace}
+use Rattle.lot_rwlock_fair.specs.declared.places.RwLockCallPlace.{RwLockCallPlace}
 use Rattle.lot_calls.specs.declared.calls.RwLockCall.TheVariants as rwlock_call
 use Rattle.lot_calls.specs.declared.calls.Access.TheVariants as access
-use Rattle.lot_rwlock.specs.RwLockSteps.{rwlock_act, rwlock_next}
-use Rattle.lot_rwlock.specs.RwLockBegins.{admission_of, rwlock_first}
+use Rattle.lot_rwlock.specs.RwLockBegins.{admission_of}
+use Rattle.lot_rwlock_fair.specs.FairBegins.{call_first}
+use Rattle.lot_rwlock_fair.specs.FairSteps.{call_act, call_next}
 use Rattle.lot_calls.specs.declared.calls.RwLockCall.{RwLockCall}
 use Rattle.lot_calls.specs.declared.calls.Patience.TheVariants.{Try}
 
@@ -176,10 +177,10 @@ told_next l (next.End answer) = ((λ h. cc), λ h. cc)
 pub told_gone : (p : Place) (r : Reply) → (outcome_of (next_act p r) ≡ outcome.TheVariants.Sleep) ↔ (sleeps (act_of (next_place p r)) ≡ true)
 told_gone Idle r = ((λ h. cc), λ h. cc)
 told_gone (Mutex l at) r = told_next l (mutex_next at r)
-told_gone (RwLock l a p) r = by_next (rwlock_next a p r)
+told_gone (RwLock l a c) r = by_next (call_next a c r)
   where
-    by_next : (n : Next RwLockPlace) → (outcome_of (rwlock_does l a n) ≡ outcome.TheVariants.Sleep) ↔ (sleeps (act_of (rwlock_goes l a n)) ≡ true)
-    by_next (next.At q) = told_act (rwlock_act l a q)
+    by_next : (n : Next RwLockCallPlace) → (outcome_of (rwlock_does l a n) ≡ outcome.TheVariants.Sleep) ↔ (sleeps (act_of (rwlock_goes l a n)) ≡ true)
+    by_next (next.At q) = told_act (call_act l a q)
     by_next (next.End answer) = ((λ h. cc), λ h. cc)
 
 pub told_step : (b : Bool) → b ≡ false → (outcome.TheVariants.Step ≡ outcome.TheVariants.Sleep) ↔ (b ≡ true)
@@ -190,7 +191,7 @@ told_step false h = ((λ e. cc), λ e. cc)
 pub begins_awake : (k : Kind) (c : Call) → sleeps (act_of (first_place k c)) ≡ false
 begins_awake k (call.TheVariants.RwLock l c) = by_call c
   where
-    by_call : (c : RwLockCall) → sleeps (rwlock_act l (admission_of k) (rwlock_first c)) ≡ false
+    by_call : (c : RwLockCall) → sleeps (call_act l (admission_of k) (call_first c)) ≡ false
     by_call (rwlock_call.Enter access.Exclusive how) = refl
     by_call (rwlock_call.Enter access.Shared how) = refl
     by_call (rwlock_call.Enter access.Upgradable how) = refl
@@ -198,6 +199,10 @@ begins_awake k (call.TheVariants.RwLock l c) = by_call c
     by_call (rwlock_call.Downgrade d) = refl
     by_call (rwlock_call.Upgrade Try) = refl
     by_call (rwlock_call.Upgrade how) = refl
+    by_call (rwlock_call.ReleaseFair access.Shared) = refl
+    by_call (rwlock_call.ReleaseFair access.Upgradable) = refl
+    by_call (rwlock_call.ReleaseFair access.Exclusive) = refl
+    by_call (rwlock_call.Bump x) = refl
 begins_awake k (call.TheVariants.Mutex l c) = either (is_fair k) c
   where
     either : (fair : Bool) (c : MutexCall) → sleeps (act_of (Mutex l (mutex_first fair c))) ≡ false

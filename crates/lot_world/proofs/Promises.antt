@@ -1,5 +1,6 @@
 -- What holds between steps, as callers are told it.
 use Rattle.std.proofs.Common.{ℕ, Bool, true, false, Option, Some, None, if◌then◌else◌, ◌==◌, ◌&&◌, ◌≡◌, ◌≢◌, ◌+◌, ◌*◌, ◌≤◌, ◌<◌, ◌⊎◌, inl, inr, List, length, refl, ◌∙◌, ap, subst, arith, ◌↔◌, sym}
+use Rattle.lot_base.specs.declared.wants.Want.{Want}
 use Rattle.lot_base.specs.declared.wants.Want.TheVariants.{Exclusive}
 use Rattle.lot_acts.specs.declared.acts.Act.TheVariants.{Rest, Sleep}
 use Rattle.lot_acts.specs.Profiles.{Profile, hand, hand_owner}
@@ -14,15 +15,15 @@ use Rattle.lot_world.specs.SitesOf.{IsSteady, rules_in}
 use Rattle.abstract_locks.specs.Runs.{CallState, IsOpening}
 use Rattle.abstract_locks.specs.Locks.{LockState, Sort, Rights, Taken, opening_lock, Rules, IsSomePending, rights_of, readers, count, standing}
 use Rattle.abstract_locks.specs.Locks as sorts
-use Rattle.abstract_locks.specs.Sites.{Doing, Line, Main, Second, Has, IsOpen, counts_some, has_readers, idle}
+use Rattle.abstract_locks.specs.Sites.{Doing, Line, Main, Second, Has, Pends, IsOpen, counts_some, has_readers, idle}
 use Rattle.abstract_locks.specs.Codes.{HasLimit}
 use Rattle.abstract_locks.specs.Purposes.{Enters, Converts, Bumps, Purpose, MayWait, rules_of}
 use Rattle.lot_world.specs.Refinement.{locks_of, lock_state, lock_seen, taken_at, call_at, call_on, call_state, stance_of}
 use Rattle.lot_world.specs.Owing.{Owes, sort_at}
-use Rattle.lot_world.specs.Promises.{IsKept, KnowsRights, WaitsFor, WakesWaiters, IsDebtorOf, IsLookedAfter, IsOpenNow, WasNeverFull, IsHandedOver, IsWithinLimit, want_of}
+use Rattle.lot_world.specs.Promises.{IsKept, KnowsRights, WaitsFor, WakesWaiters, IsDebtorOf, IsLookedAfter, IsOpenNow, WasNeverFull, HasOrPends, IsHandedOver, IsWithinLimit, want_of}
 use Rattle.lot_world.proofs.TurnsKept.{after_steady}
 use Rattle.lot_world.proofs.SitesPromise.{not_empty}
-use Rattle.lot_world.proofs.RowPromises.{IsDebtorIn, HasDebt, WasHanded, RowLooksAfter}
+use Rattle.lot_world.proofs.RowPromises.{IsDebtorIn, HasClaimed, HasDebt, WasHanded, RowLooksAfter}
 use Rattle.lot_world.proofs.PlacePromises.{row_promises, station_own, doing_own, owed_own, owes_own, doing_calls, station_calls, stands_waiting, waiting_stands, call_own, inside_own, owing_is}
 use Rattle.lot_world.proofs.Glue.{same, calls_none}
 use Rattle.lot_machine.proofs.Opening.{idle_at, none_at, empty_at, nobody_owns, opening_shares}
@@ -159,18 +160,30 @@ module _ (w : State) (steady : IsSteady w) where
   -- ---------------------------------------------------------------- who was handed a lock
 
   module _ (t : ℕ) (asleep : act_of (place_at w t) ≡ Sleep) (nowhere : (l : ℕ) → standing t (lock_state w l) ≡ 0) where
-    handed_at : (l : ℕ) → lock_of (place_at w t) ≡ Some l → WasHanded (profile (place_at w t)) → IsHandedOver w t
+    -- what it has, by what it claims
+    claimed_at : (l : ℕ) → lock_of (place_at w t) ≡ Some l → (x : Want) → HasClaimed (sort_at w l) (profile (place_at w t)).doing.claims x → HasOrPends (sort_at w l) (lock_state w l) t x
+    claimed_at l own x h = elim h [
+      | inl has ↦ inl ((steady.sites.site l).held t (Has x) (claims ∙ has))
+      | inr pends ↦ inr (pends.0, pends.1, subst (λ o. IsSomePending o t) (sym ((steady.sites.site l).held t (Pends pends.2.0) (claims ∙ pends.2.1))) refl)
+    ]
+      where
+        claims : (doing_on (place_at w t) l).claims ≡ (profile (place_at w t)).doing.claims
+        claims = ap (λ (d : Doing). d.claims) (doing_own (place_at w t) l own)
+
+    handed_at : (l : ℕ) → lock_of (place_at w t) ≡ Some l → WasHanded (sort_at w l) l (profile (place_at w t)) → IsHandedOver w t
     handed_at l own handed =
-        let in_hand : (station_at (place_at w t) l).hand ≡ hand handed.0 true = ap (λ (x : Station). x.hand) (station_own (place_at w t) l own) ∙ handed.1 in
-        let carries = steady.stands.hands.taken handed.0 t l true in_hand in
-        let by_own = station_calls (place_at w handed.0) l (λ out. let e : ◌≡◌ {A = Option Bool} None (Some true) = sym (ap (λ (x : Station). x.carries) out) ∙ carries in cc) in
-        let told = (row_promises w handed.0 steady l by_own).tells (sym (ap (λ (x : Station). x.carries) (station_own (place_at w handed.0) l by_own)) ∙ carries) in
+        let in_hand : (station_at (place_at w t) l).hand ≡ hand handed.by true = ap (λ (x : Station). x.hand) (station_own (place_at w t) l own) ∙ handed.in_hand in
+        let carries = steady.stands.hands.taken handed.by t l true in_hand in
+        let by_own = station_calls (place_at w handed.by) l (λ out. let e : ◌≡◌ {A = Option Bool} None (Some true) = sym (ap (λ (x : Station). x.carries) out) ∙ carries in cc) in
+        let told = (row_promises w handed.by steady l by_own).tells (sym (ap (λ (x : Station). x.carries) (station_own (place_at w handed.by) l by_own)) ∙ carries) in
         record {
           lock = l;
-          by = handed.0;
-          owner = (steady.sites.site l).held t (Has Exclusive) (ap (λ (d : Doing). d.claims) (doing_own (place_at w t) l own) ∙ handed.2);
-          inside = (inside_own w handed.0 steady l by_own Main).0 told.1;
-          in_hand = ap hand_owner handed.1;
+          by = handed.by;
+          want = handed.want;
+          waited = subst (λ (c : CallState). MayWait c.purpose l × (want_of c.purpose ≡ Some handed.want)) (sym (call_own w t steady l own)) (handed.waited, handed.wants);
+          owner = claimed_at l own handed.want handed.has;
+          inside = (inside_own w handed.by steady l by_own Main).0 told.1;
+          in_hand = ap hand_owner handed.in_hand;
           wakes = told.0;
         }
 

@@ -1,8 +1,9 @@
 -- What the row of a place, and what its thread does next, must say, so that each state keeps what is promised of the thread: whatever the
 -- sort of its lock.
-use Rattle.std.proofs.Common.{ℕ, Bool, true, false, Option, Some, None, if◌then◌else◌, ◌≡◌, ◌≢◌, ◌*◌, ◌⊎◌}
+use Rattle.std.proofs.Common.{ℕ, Bool, true, false, Option, Some, None, if◌then◌else◌, ◌||◌, ◌≡◌, ◌≢◌, ◌*◌, ◌⊎◌, inl, inr, refl, sym, ◌∙◌}
 use Rattle.lot_base.specs.declared.keys.Keys.TheVariants.{One}
 use Rattle.lot_base.specs.declared.notes.Note.TheVariants as note
+use Rattle.lot_base.specs.declared.wants.Want.{Want}
 use Rattle.lot_base.specs.declared.wants.Want.TheVariants.{Exclusive}
 use Rattle.lot_calls.specs.declared.outcomes.Outcome.{Outcome}
 use Rattle.lot_calls.specs.declared.outcomes.Outcome.TheVariants as told
@@ -14,13 +15,15 @@ use Rattle.lot_acts.specs.declared.acts.Reply.TheVariants.{TakenBy, MovedTo, Han
 use Rattle.lot_acts.specs.Profiles.{Profile, hand, taken_from}
 use Rattle.lot_steps.specs.declared.places.Place.{Place}
 use Rattle.lot_steps.specs.Steps.{act_of, profile}
+use Rattle.abstract_locks.specs.Codes.{parked_in}
 use Rattle.abstract_locks.specs.Locks.{Sort, Taken}
+use Rattle.abstract_locks.specs.Locks as sorts
 use Rattle.abstract_locks.specs.Purposes.{Purpose, Enters, Releases, Converts, Bumps, MayWait, IsReleasing}
 use Rattle.abstract_locks.specs.Runs.{IsTimed}
-use Rattle.abstract_locks.specs.Sites.{Doing, Line, Main, Second, Has, Pends, IsDebtor, counts_some, has_readers}
+use Rattle.abstract_locks.specs.Sites.{Claim, Doing, Line, Main, Second, Has, Pends, IsDebtor, counts_some, has_readers}
 use Rattle.lot_world.specs.SitesOf.{key_of}
-use Rattle.lot_world.specs.Owing.{IsDowngrade, line_let_in, tells_of}
-use Rattle.lot_world.specs.Promises.{KnowsRights, WakesWaiters, want_of}
+use Rattle.lot_world.specs.Owing.{IsDowngrade, LooksFirst, line_let_in, tells_by, tells_of}
+use Rattle.lot_world.specs.Promises.{KnowsRights, WakesAside, WakesWaiters, want_of}
 
 -- what a thread in a call does
 abbrev pub is_acting : Act → Bool
@@ -55,9 +58,19 @@ taken_of row = taken_from row.hand row.wants true
 abbrev pub IsWaiting : Profile → Type 0
 IsWaiting row = (row.stands ≢ None) ⊎ (taken_of row ≢ None)
 
--- it was handed the lock
-abbrev pub WasHanded : Profile → Type 0
-WasHanded row = (u : ℕ) × (row.hand ≡ hand u true) × (row.doing.claims ≡ Some (Has Exclusive))
+-- it has this right, or, to a lock that is shared, its pending one
+abbrev pub HasClaimed : Sort → Option Claim → Want → Type 0
+HasClaimed sort claims x =
+    (claims ≡ Some (Has x)) ⊎ ((x ≡ Exclusive) × (has_readers sort ≡ true) × ((b : Bool) × (claims ≡ Some (Pends b))))
+
+-- it was handed what it waited for
+pub record WasHanded (sort : Sort) (l : ℕ) (row : Profile) : Type 0 where
+  pub by : ℕ
+  pub in_hand : row.hand ≡ hand by true
+  pub waited : MayWait (Some (row.purpose l)) l
+  pub want : Want
+  pub wants : want_of (Some (row.purpose l)) ≡ Some want
+  pub has : HasClaimed sort row.doing.claims want
 
 -- its call lets others in
 abbrev pub LetsIn : Sort → ℕ → Profile → Type 0
@@ -65,11 +78,15 @@ LetsIn sort l row =
     IsReleasing (Some (row.purpose l)) row.released l
     ⊎ ((has_readers sort ≡ true) × (IsDowngrade (Some (row.purpose l)) l ⊎ ((row.gave_up ≡ true) × (row.doing.inside ≡ None))))
 
+-- on its way into the section of this line
+abbrev pub LetsInAt : Sort → ℕ → Profile → Line → Type 0
+LetsInAt sort l row m = LetsIn sort l row ⊎ WakesAside (Some (row.purpose l)) l m
+
 -- who owes a wake on a line is inside its section, or lets others in and is on its way into it
 pub record RowOwes (sort : Sort) (l : ℕ) (row : Profile) (a : Act) : Type 0 where
-  pub owes : (m : Line) → row.owes ≡ Some m → (row.doing.inside ≡ Some m) ⊎ ((a ≡ Enter (One (key_of l m))) × LetsIn sort l row)
+  pub owes : (m : Line) → row.owes ≡ Some m → (row.doing.inside ≡ Some m) ⊎ ((a ≡ Enter (One (key_of l m))) × LetsInAt sort l row m)
   pub inside : (m : Line) → row.doing.inside ≡ Some m → row.owes ≡ Some m
-  pub entering : (m : Line) → a ≡ Enter (One (key_of l m)) → LetsIn sort l row → row.owes ≡ Some m
+  pub entering : (m : Line) → a ≡ Enter (One (key_of l m)) → LetsInAt sort l row m → row.owes ≡ Some m
   pub second : row.owes ≡ Some Second → has_readers sort ≡ true
 
 -- it is to look after the waiters of a line, by what it does
@@ -110,7 +127,7 @@ pub record RowPromises (sort : Sort) (l : ℕ) (row : Profile) (a : Act) : Type 
   pub aside : row.stands ≡ Some Second → (b : Bool) × (row.doing.claims ≡ Some (Pends b))
   pub owing : RowOwes sort l row a
   pub debtor : (m : Line) → IsDebtorIn sort row.doing m → (row.doing.claims ≡ Some (Has Exclusive) → ⊥) → RowLooksAfter sort l row a m
-  pub asleep : a ≡ Sleep → IsWaiting row ⊎ WasHanded row
+  pub asleep : a ≡ Sleep → IsWaiting row ⊎ WasHanded sort l row
   -- who has handed the lock over leaves its section next, and tells so
   pub tells : row.carries ≡ Some true → (a ≡ Leave (One (2 * l)) (wakes.TheVariants.All note.HandOff)) × (row.doing.inside ≡ Some Main)
   pub late : (m : Line) → row.late_line ≡ Some m → RowIsLate sort l row a m
@@ -127,6 +144,57 @@ RowSees sort l word row m =
 pub record RowOwesNext (sort : Sort) (l word : ℕ) (row : Profile) (o : Outcome) (next : Profile) : Type 0 where
   pub since : (m : Line) → next.owes ≡ Some m → (next.doing.inside ≡ Some m) ⊎ (RowSees sort l word row m × (o ≡ told.Step))
   pub sees : (m : Line) → RowSees sort l word row m → o ≡ told.Step → next.owes ≡ Some m
+
+-- the word says so by what its call is for
+abbrev pub RowFinds : Sort → ℕ → ℕ → Profile → Line → Type 0
+RowFinds sort l word row m =
+    LetsIn sort l row × (line_let_in sort (Some (row.purpose l)) ≡ m)
+    × (tells_by sort (Some (row.purpose l)) m word ≡ true)
+
+-- it only looked
+abbrev pub RowLooks : ℕ → Profile → Type 0
+RowLooks l row = LooksFirst (Some (row.purpose l)) l × (row.released ≡ false)
+
+-- and a thread that may hand its lock over, or bump, which does this next
+pub record RowOwesThen (sort : Sort) (l word : ℕ) (row : Profile) (o : Outcome) (next : Profile) (a : Act) : Type 0 where
+  pub since : (m : Line) → next.owes ≡ Some m → (next.doing.inside ≡ Some m) ⊎ (RowFinds sort l word row m × (o ≡ told.Step))
+  pub sees : (m : Line) → RowFinds sort l word row m → o ≡ told.Step → (RowLooks l next → a ≡ Enter (One (key_of l m))) → next.owes ≡ Some m
+
+or_none : (b : Bool) → (b || false) ≡ b
+or_none true = refl
+or_none false = refl
+
+-- a mutex has no second bit
+pub mutex_tells : (q : Option Purpose) (m : Line) (v : ℕ) → tells_by sorts.Mutex q m v ≡ tells_of sorts.Mutex m v
+mutex_tells None m v = refl
+mutex_tells (Some (Enters l x how)) m v = refl
+mutex_tells (Some (Converts l x y how)) m v = refl
+mutex_tells (Some (Releases l x false)) m v = by_right x m
+  where
+    by_right : (x : Want) (m : Line) → tells_by sorts.Mutex (Some (Releases l x false)) m v ≡ tells_of sorts.Mutex m v
+    by_right Exclusive Main = refl
+    by_right Exclusive Second = refl
+    by_right x m = refl
+mutex_tells (Some (Releases l x true)) m v = by_right x m
+  where
+    by_right : (x : Want) (m : Line) → tells_by sorts.Mutex (Some (Releases l x true)) m v ≡ tells_of sorts.Mutex m v
+    by_right Exclusive Main = or_none (parked_in sorts.Mutex v)
+    by_right Exclusive Second = refl
+    by_right x m = refl
+mutex_tells (Some (Bumps l x)) m v = by_right x m
+  where
+    by_right : (x : Want) (m : Line) → tells_by sorts.Mutex (Some (Bumps l x)) m v ≡ tells_of sorts.Mutex m v
+    by_right Exclusive Main = or_none (parked_in sorts.Mutex v)
+    by_right Exclusive Second = refl
+    by_right x m = refl
+
+-- who looks nowhere first owes since it saw waiters
+pub owes_then : {sort : Sort} {l word : ℕ} {row : Profile} {o : Outcome} {next : Profile} {a : Act}
+    → ((m : Line) → tells_by sort (Some (row.purpose l)) m word ≡ tells_of sort m word) → RowOwesNext sort l word row o next → RowOwesThen sort l word row o next a
+owes_then same k = record {
+  since = λ m h. elim (k.since m h) [ inl i ↦ inl i | inr s ↦ inr ((s.0.0, s.0.1, same m ∙ s.0.2), s.1) ];
+  sees = λ m s step looks. k.sees m (s.0, s.1, sym (same m) ∙ s.2) step;
+}
 
 -- whose time is up is then awake, inside the section of the line where it slept
 pub record IsLateNext (q : Place) (m : Line) : Type 0 where

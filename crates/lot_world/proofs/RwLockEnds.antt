@@ -30,7 +30,9 @@ use Rattle.lot_base.specs.declared.ops.Op.TheVariants as op
 use Rattle.lot_base.specs.Words.{apply}
 use Rattle.lot_calls.specs.declared.calls.RwLockCall.{RwLockCall}
 use Rattle.lot_calls.specs.declared.calls.RwLockCall.TheVariants as call
-use Rattle.lot_rwlock.specs.RwLockBegins.{rwlock_first}
+use Rattle.lot_calls.specs.Kinds.{is_built}
+use Rattle.lot_rwlock_fair.specs.declared.places.RwLockCallPlace.TheVariants.{Plain}
+use Rattle.lot_rwlock_fair.specs.FairBegins.{call_first}
 use Rattle.lot_rwlock.specs.RwLockDeeds.{Admits, doing_at, rwlock_doing}
 use Rattle.abstract_locks.specs.Locks.{LockState, Pending, Rights, with_right, is_thread, Sort, Mutex, Normal, Recursive, Semaphore, Rules, NoWriter, IsFreeAt, IsSomePending, one_if_some, IsFree, IsBlocked, MayEnter, Owns, is_recursive, count, readers, rights_of}
 use Rattle.abstract_locks.specs.Codes.{code, count_in, has_parked, is_blocked, TellsTrue}
@@ -127,14 +129,14 @@ module _ (w : State) (t l : ℕ) (a : Admission) (steady : IsSteady w) (admits :
   looking q at = place_for t l a q false at
 
   -- its answer holds
-  holds : (q : RwLockPurpose) (at : RwLockAt) → place_at w t ≡ RwLock l a (looking q at) → (answer : Answer) → x ≡ outcome.End answer → HasAnswered t (Some (purpose_by q l)) (call_at w t).former answer (locks_of v2)
+  holds : (q : RwLockPurpose) (at : RwLockAt) → place_at w t ≡ RwLock l a (Plain (looking q at)) → (answer : Answer) → x ≡ outcome.End answer → HasAnswered t (Some (purpose_by q l)) (call_at w t).former answer (locks_of v2)
   holds q at is answer e = subst (λ p. HasAnswered t p (call_at w t).former answer (locks_of v2)) called (answered run.told (locks_of w) (locks_of v2) t answer (run_refines w v2 (replicate (length run.told) (go_of t)) run.told run.run) run.goes_on (sym run.last ∙ e))
     where
       called : (call_at w t).purpose ≡ Some (purpose_by q l)
       called = ap (λ p. (call_state p (λ k. rights_of (lock_state w k) t)).purpose) is
 
   -- whoever has entered owns
-  enters_owns : (y : Access) (how : Patience) (at : RwLockAt) → place_at w t ≡ RwLock l a (looking (purpose.Enter y how) at) → x ≡ outcome.End (entered how) → (x ≡ outcome.End (entered_answer how)) × Owns (lock_state v2 l) t (wanted y)
+  enters_owns : (y : Access) (how : Patience) (at : RwLockAt) → place_at w t ≡ RwLock l a (Plain (looking (purpose.Enter y how) at)) → x ≡ outcome.End (entered how) → (x ≡ outcome.End (entered_answer how)) × Owns (lock_state v2 l) t (wanted y)
   enters_owns y how at is e = (told, by_how how (holds (purpose.Enter y how) at is (entered_answer how) told))
     where
       told : x ≡ outcome.End (entered_answer how)
@@ -162,7 +164,7 @@ module _ (w : State) (t l : ℕ) (a : Admission) (steady : IsSteady w) (admits :
       either false h = (h.0, queued (wanted y) h.1)
 
   -- who is to share looks at the word
-  shares_alone : (y : Access) (how : Patience) → wanted y ≢ Exclusive → place_at w t ≡ RwLock l a (looking (purpose.Enter y how) at.Load) → Decides t l a (decision a (wanted y) how (word_at w l)) (looking (purpose.Enter y how) at.Load) (word_at w l) queues v2 x
+  shares_alone : (y : Access) (how : Patience) → wanted y ≢ Exclusive → place_at w t ≡ RwLock l a (Plain (looking (purpose.Enter y how) at.Load)) → Decides t l a (decision a (wanted y) how (word_at w l)) (looking (purpose.Enter y how) at.Load) (word_at w l) queues v2 x
       → EntersAlone (word_at w l ≡ 0) (locks_of w) t l (wanted y) how x (locks_of v2)
   shares_alone y how shared is h = record {
     owns = λ may. enters_owns y how at.Load is (takes_one y shared (subst (λ d. Decides t l a d (looking (purpose.Enter y how) at.Load) (word_at w l) queues v2 x) (takes w l a steady admits y how (may_enter y shared may)) h));
@@ -247,10 +249,10 @@ module _ (w : State) (t l : ℕ) (a : Admission) (steady : IsSteady w) (admits :
   clear_free e b = let z : word_at w l ≡ 0 = eqb-true (word_at w l) 0 e in let f : false ≡ true = sym (ap (is_blocked a.recursive Exclusive) z) ∙ blocked_is w l a steady admits Exclusive b in cc
 
   -- who is to own alone tries a clear word first
-  writes_alone : (how : Patience) → place_at w t ≡ RwLock l a (writer how) → Tries t l a (word_at w l == 0) how (writer how) (word_at w l) queues v2 x → EntersAlone (word_at w l ≡ 0) (locks_of w) t l Exclusive how x (locks_of v2)
+  writes_alone : (how : Patience) → place_at w t ≡ RwLock l a (Plain (writer how)) → Tries t l a (word_at w l == 0) how (writer how) (word_at w l) queues v2 x → EntersAlone (word_at w l ≡ 0) (locks_of w) t l Exclusive how x (locks_of v2)
   writes_alone how is h = by_word (word_at w l == 0) refl how is h
     where
-      clear_alone : (how : Patience) → (word_at w l == 0) ≡ true → place_at w t ≡ RwLock l a (writer how) → x ≡ outcome.End (entered how) → (1 ≤ readers (lock_state w l) → WaitsForReaders how t x (lock_state v2 l)) → EntersAlone (word_at w l ≡ 0) (locks_of w) t l Exclusive how x (locks_of v2)
+      clear_alone : (how : Patience) → (word_at w l == 0) ≡ true → place_at w t ≡ RwLock l a (Plain (writer how)) → x ≡ outcome.End (entered how) → (1 ≤ readers (lock_state w l) → WaitsForReaders how t x (lock_state v2 l)) → EntersAlone (word_at w l ≡ 0) (locks_of w) t l Exclusive how x (locks_of v2)
       clear_alone how e is h aside = record {
         owns = λ may. enters_owns access.Exclusive how at.First is h;
         pends = λ f may some. aside some;
@@ -262,7 +264,7 @@ module _ (w : State) (t l : ℕ) (a : Admission) (steady : IsSteady w) (admits :
       none_reads : {A : Type 0} → (word_at w l == 0) ≡ true → 1 ≤ readers (lock_state w l) → A
       none_reads e some = absurd (let none = clear_reads e in omega arith)
 
-      by_word : (b : Bool) → (word_at w l == 0) ≡ b → (how : Patience) → place_at w t ≡ RwLock l a (writer how) → Tries t l a b how (writer how) (word_at w l) queues v2 x → EntersAlone (word_at w l ≡ 0) (locks_of w) t l Exclusive how x (locks_of v2)
+      by_word : (b : Bool) → (word_at w l == 0) ≡ b → (how : Patience) → place_at w t ≡ RwLock l a (Plain (writer how)) → Tries t l a b how (writer how) (word_at w l) queues v2 x → EntersAlone (word_at w l ≡ 0) (locks_of w) t l Exclusive how x (locks_of v2)
       by_word true e how is h = clear_alone how e is h (λ some. none_reads e some)
       by_word false e Try is h = record {
         owns = λ may. absurd (let f : (0 == 0) ≡ false = rw (may.1 admits.0) at e in cc);
@@ -289,7 +291,7 @@ module _ (w : State) (t l : ℕ) (a : Admission) (steady : IsSteady w) (admits :
   -- ---------------------------------------------------------------- a right given up, or turned into another
 
   -- what the thread had of the lock as its call began
-  began : (q : RwLockPurpose) (at : RwLockAt) → place_at w t ≡ RwLock l a (looking q at) → ((rights : ℕ → Rights) → before q at l rights ≡ rights) → (call_at w t).former ≡ (λ k. rights_of (lock_state w k) t)
+  began : (q : RwLockPurpose) (at : RwLockAt) → place_at w t ≡ RwLock l a (Plain (looking q at)) → ((rights : ℕ → Rights) → before q at l rights ≡ rights) → (call_at w t).former ≡ (λ k. rights_of (lock_state w k) t)
   began q at is same_rights = ap (λ p. (call_state p (λ k. rights_of (lock_state w k) t)).former) is ∙ same_rights (λ k. rights_of (lock_state w k) t)
 
   is_owner : (o : Option ℕ) → 1 ≤ is_thread t o → o ≡ Some t
@@ -311,11 +313,11 @@ module _ (w : State) (t l : ℕ) (a : Admission) (steady : IsSteady w) (admits :
       either true = omega arith
       either false = omega arith
 
-  lost_one : (y : Access) → place_at w t ≡ RwLock l a (looking (purpose.Release y) at.GiveWay) → x ≡ outcome.End answer.Ok → with_right (wanted y) (rights_of (lock_state v2 l) t) ≡ rights_of (lock_state w l) t
+  lost_one : (y : Access) → place_at w t ≡ RwLock l a (Plain (looking (purpose.Release y) at.GiveWay)) → x ≡ outcome.End answer.Ok → with_right (wanted y) (rights_of (lock_state v2 l) t) ≡ rights_of (lock_state w l) t
   lost_one y is told = let h = holds (purpose.Release y) at.GiveWay is answer.Ok told in
       sym (put_here (λ k. rights_of (lock_state v2 k) t) l (with_right (wanted y) (rights_of (lock_state v2 l) t))) ∙ h.holds l ∙ ap (λ f. f l) (h.former_is ∙ began (purpose.Release y) at.GiveWay is (λ rights. refl))
 
-  releases_alone : (y : Access) → place_at w t ≡ RwLock l a (looking (purpose.Release y) at.GiveWay) → x ≡ outcome.End answer.Ok → ReleasesAlone (locks_of w) t l (wanted y) false x (locks_of v2)
+  releases_alone : (y : Access) → place_at w t ≡ RwLock l a (Plain (looking (purpose.Release y) at.GiveWay)) → x ≡ outcome.End answer.Ok → ReleasesAlone (locks_of w) t l (wanted y) false x (locks_of v2)
   releases_alone access.Shared is told = (told, lost_one access.Shared is told)
   releases_alone access.Upgradable is told = (told, lost_one access.Upgradable is told)
   releases_alone access.Exclusive is told = (told, gone, λ mutex. absurd (let f : has_readers Mutex ≡ true = sym (ap has_readers mutex) ∙ admits.0 in cc))
@@ -325,7 +327,7 @@ module _ (w : State) (t l : ℕ) (a : Admission) (steady : IsSteady w) (admits :
           let one = owner_is (lock_state v2 l).exclusive own in let most = at_most (lock_state w l).exclusive in omega arith
 
   -- what a conversion has made of its thread's rights
-  replaced : (q : RwLockPurpose) (at : RwLockAt) (y z : Want) (how : Patience) (answer : Answer) → place_at w t ≡ RwLock l a (looking q at) → purpose_by q l ≡ Converts l y z how → ((rights : ℕ → Rights) → before q at l rights ≡ rights)
+  replaced : (q : RwLockPurpose) (at : RwLockAt) (y z : Want) (how : Patience) (answer : Answer) → place_at w t ≡ RwLock l a (Plain (looking q at)) → purpose_by q l ≡ Converts l y z how → ((rights : ℕ → Rights) → before q at l rights ≡ rights)
       → x ≡ outcome.End answer → ((c : CallState) → AnswerHolds (Some (Converts l y z how)) (locks_of v2) t c answer → (k : ℕ) → one_more_at l y (λ j. rights_of (lock_state v2 j) t) k ≡ one_more_at l z c.former k)
       → with_right y (rights_of (lock_state v2 l) t) ≡ with_right z (rights_of (lock_state w l) t)
   replaced q at y z how answer is of same_rights told says = let h = holds q at is answer told in
@@ -333,19 +335,19 @@ module _ (w : State) (t l : ℕ) (a : Admission) (steady : IsSteady w) (admits :
       ∙ says h.call (subst (λ p. AnswerHolds (Some p) (locks_of v2) t h.call answer) of h.holds) l
       ∙ (λ i. one_more_at l z ((h.former_is ∙ began q at is same_rights) i) l) ∙ put_here (λ k. rights_of (lock_state w k) t) l (with_right z (rights_of (lock_state w l) t))
 
-  downgrades_alone : (d : Downgrade) → place_at w t ≡ RwLock l a (looking (purpose.Downgrade d) at.GiveWay) → x ≡ outcome.End answer.Ok → ConvertsAlone (lock_state w l) t (wanted (to_of d)) Patient x (lock_state v2 l)
+  downgrades_alone : (d : Downgrade) → place_at w t ≡ RwLock l a (Plain (looking (purpose.Downgrade d) at.GiveWay)) → x ≡ outcome.End answer.Ok → ConvertsAlone (lock_state w l) t (wanted (to_of d)) Patient x (lock_state v2 l)
   downgrades_alone downgrade.ToShared is told = (told, let e = ap (λ (z : Rights). z.shared) (replaced (purpose.Downgrade downgrade.ToShared) at.GiveWay Exclusive Shared Patient answer.Ok is refl (λ rights. refl) told (λ c h. h)) in omega (arith, e))
   downgrades_alone downgrade.ToUpgradable is told = (told, is_owner (lock_state v2 l).upgradable (let e = ap (λ (z : Rights). z.upgradable) (replaced (purpose.Downgrade downgrade.ToUpgradable) at.GiveWay Exclusive Upgradable Patient answer.Ok is refl (λ rights. refl) told (λ c h. h)) in omega (arith, e)))
   downgrades_alone downgrade.UpgradableToShared is told = (told, let e = ap (λ (z : Rights). z.shared) (replaced (purpose.Downgrade downgrade.UpgradableToShared) at.GiveWay Upgradable Shared Patient answer.Ok is refl (λ rights. refl) told (λ c h. h)) in omega (arith, e))
 
   -- an upgrade has the upgradable right as it begins
-  upgrades_from : (how : Patience) (at : RwLockAt) → place_at w t ≡ RwLock l a (looking (purpose.Upgrade how) at) → (doing_at None (purpose.Upgrade how) at).claims ≡ Some (Has Upgradable) → (lock_state w l).upgradable ≡ Some t
+  upgrades_from : (how : Patience) (at : RwLockAt) → place_at w t ≡ RwLock l a (Plain (looking (purpose.Upgrade how) at)) → (doing_at None (purpose.Upgrade how) at).claims ≡ Some (Has Upgradable) → (lock_state w l).upgradable ≡ Some t
   upgrades_from how at is claims = (steady.sites.site l).held t (Has Upgradable) (ap (λ p. (doing_on p l).claims) is ∙ ap (λ (b : Bool). (if b then rwlock_doing (looking (purpose.Upgrade how) at) else idle).claims) (same l) ∙ claims)
 
   readers_and_one : (lock_state w l).upgradable ≡ Some t → count_in (word_at w l) ≡ readers (lock_state w l) + 1
   readers_and_one own = counted w l a steady admits ∙ ap (λ (o : Option ℕ). readers (lock_state w l) + one_if_some o) own
 
-  upgrade_owns : (how : Patience) (at : RwLockAt) → place_at w t ≡ RwLock l a (looking (purpose.Upgrade how) at) → ((rights : ℕ → Rights) → before (purpose.Upgrade how) at l rights ≡ rights) → x ≡ outcome.End (entered how) → (x ≡ outcome.End (entered_answer how)) × ((lock_state v2 l).exclusive ≡ Some t)
+  upgrade_owns : (how : Patience) (at : RwLockAt) → place_at w t ≡ RwLock l a (Plain (looking (purpose.Upgrade how) at)) → ((rights : ℕ → Rights) → before (purpose.Upgrade how) at l rights ≡ rights) → x ≡ outcome.End (entered how) → (x ≡ outcome.End (entered_answer how)) × ((lock_state v2 l).exclusive ≡ Some t)
   upgrade_owns how at is same_rights e = (told, is_owner (lock_state v2 l).exclusive (let g = ap (λ (z : Rights). z.exclusive) (replaced (purpose.Upgrade how) at Upgradable Exclusive how (entered_answer how) is refl same_rights told (says how)) in omega (arith, g)))
     where
       told : x ≡ outcome.End (entered_answer how)
@@ -362,7 +364,7 @@ module _ (w : State) (t l : ℕ) (a : Admission) (steady : IsSteady w) (admits :
   is_not_one : (lock_state w l).upgradable ≡ Some t → 1 ≤ readers (lock_state w l) → (count_in (word_at w l) == 1) ≡ false
   is_not_one own some = ap (λ n. n == 1) (readers_and_one own) ∙ grind (arith, nat_tests)
 
-  tries_upgrade : place_at w t ≡ RwLock l a (looking (purpose.Upgrade Try) at.Load) → Decides t l a (decided a (looking (purpose.Upgrade Try) at.Load) (word_at w l)) (looking (purpose.Upgrade Try) at.Load) (word_at w l) queues v2 x → ConvertsAlone (lock_state w l) t Exclusive Try x (lock_state v2 l)
+  tries_upgrade : place_at w t ≡ RwLock l a (Plain (looking (purpose.Upgrade Try) at.Load)) → Decides t l a (decided a (looking (purpose.Upgrade Try) at.Load) (word_at w l)) (looking (purpose.Upgrade Try) at.Load) (word_at w l) queues v2 x → ConvertsAlone (lock_state w l) t Exclusive Try x (lock_state v2 l)
   tries_upgrade is h = (λ none. upgrade_owns Try at.Load is (λ rights. refl) (by_count true (is_one own none)), λ some. by_count false (is_not_one own some))
     where
       own : (lock_state w l).upgradable ≡ Some t
@@ -371,7 +373,7 @@ module _ (w : State) (t l : ℕ) (a : Admission) (steady : IsSteady w) (admits :
       by_count : (b : Bool) → (count_in (word_at w l) == 1) ≡ b → Decides t l a (if b then decisions.Take else decisions.Refuse answer.No) (looking (purpose.Upgrade Try) at.Load) (word_at w l) queues v2 x
       by_count b e = subst (λ (b : Bool). Decides t l a (if b then decisions.Take else decisions.Refuse answer.No) (looking (purpose.Upgrade Try) at.Load) (word_at w l) queues v2 x) e h
 
-  upgrades_alone : (how : Patience) → how ≢ Try → place_at w t ≡ RwLock l a (looking (purpose.Upgrade how) at.GiveWay) → Upgrades t l a (count_in (word_at w l) == 1) how false (word_at w l) queues v2 x → ConvertsAlone (lock_state w l) t Exclusive how x (lock_state v2 l)
+  upgrades_alone : (how : Patience) → how ≢ Try → place_at w t ≡ RwLock l a (Plain (looking (purpose.Upgrade how) at.GiveWay)) → Upgrades t l a (count_in (word_at w l) == 1) how false (word_at w l) queues v2 x → ConvertsAlone (lock_state w l) t Exclusive how x (lock_state v2 l)
   upgrades_alone how waits is h = (λ none. upgrade_owns how at.GiveWay is (λ rights. refl) (by_count true (is_one own none)), λ some. by_how how waits (aside some))
     where
       own : (lock_state w l).upgradable ≡ Some t
@@ -400,9 +402,9 @@ module _ (w : State) (t l : ℕ) (a : Admission) (steady : IsSteady w) (admits :
       by_how Timed ne h = h
 
 -- each call, from its beginning
-pub rwlock_alone : (w : State) (t l : ℕ) (a : Admission) (c : RwLockCall) (n : ℕ) (last : Outcome) → 11 ≤ n → IsSteady w → Admits (rules_in w l) a → place_at w t ≡ RwLock l a (rwlock_first c) → StepsAlone w t l (RwLock l a (rwlock_first c)) (word_at w l) (λ m. queue_at w (key_of l m))
+pub rwlock_alone : (w : State) (t l : ℕ) (a : Admission) (c : RwLockCall) (n : ℕ) (last : Outcome) → is_built c ≡ true → 11 ≤ n → IsSteady w → Admits (rules_in w l) a → place_at w t ≡ RwLock l a (call_first c) → StepsAlone w t l (RwLock l a (call_first c)) (word_at w l) (λ m. queue_at w (key_of l m))
     → IsSoloRun w t (solo n w t last).outcome (solo n w t last).state → EndsAlone w t (Some (rwlock_purpose l c)) (solo n w t last).outcome (solo n w t last).state
-rwlock_alone w t l a c n last le steady admits is f run = by_call c is f
+rwlock_alone w t l a c n last built le steady admits is f run = by_call c built is f
   where
     small : word_at w l < 2 ^ 64
     small = word_small w l steady admits.0
@@ -413,12 +415,14 @@ rwlock_alone w t l a c n last le steady admits is f run = by_call c is f
     x : Outcome
     x = (solo n w t last).outcome
 
-    by_call : (c : RwLockCall) → place_at w t ≡ RwLock l a (rwlock_first c) → StepsAlone w t l (RwLock l a (rwlock_first c)) (word_at w l) (λ m. queue_at w (key_of l m)) → EndsAlone w t (Some (rwlock_purpose l c)) x v2
-    by_call (call.Enter access.Exclusive how) is f = writes_alone w t l a steady admits v2 x run how is (first_leads t l a _ (word_at w l) w (λ m. queue_at w (key_of l m)) small f n last (omega arith))
-    by_call (call.Enter access.Shared how) is f = shares_alone w t l a steady admits v2 x run access.Shared how (λ h. cc) is (load_leads t l a _ (word_at w l) w (λ m. queue_at w (key_of l m)) small f n last (omega arith))
-    by_call (call.Enter access.Upgradable how) is f = shares_alone w t l a steady admits v2 x run access.Upgradable how (λ h. cc) is (load_leads t l a _ (word_at w l) w (λ m. queue_at w (key_of l m)) small f n last (omega arith))
-    by_call (call.Release y) is f = releases_alone w t l a steady admits v2 x run y is (release_ends t l a y false (word_at w l) w (λ m. queue_at w (key_of l m)) f n last (omega arith))
-    by_call (call.Downgrade d) is f = downgrades_alone w t l a steady admits v2 x run d is (downgrade_ends t l a d false (word_at w l) w (λ m. queue_at w (key_of l m)) f n last (omega arith))
-    by_call (call.Upgrade Try) is f = tries_upgrade w t l a steady admits v2 x run is (load_leads t l a _ (word_at w l) w (λ m. queue_at w (key_of l m)) small f n last (omega arith))
-    by_call (call.Upgrade Patient) is f = upgrades_alone w t l a steady admits v2 x run Patient (λ h. cc) is (upgrade_leads t l a Patient false (word_at w l) w (λ m. queue_at w (key_of l m)) f n last (omega arith))
-    by_call (call.Upgrade Timed) is f = upgrades_alone w t l a steady admits v2 x run Timed (λ h. cc) is (upgrade_leads t l a Timed false (word_at w l) w (λ m. queue_at w (key_of l m)) f n last (omega arith))
+    by_call : (c : RwLockCall) → is_built c ≡ true → place_at w t ≡ RwLock l a (call_first c) → StepsAlone w t l (RwLock l a (call_first c)) (word_at w l) (λ m. queue_at w (key_of l m)) → EndsAlone w t (Some (rwlock_purpose l c)) x v2
+    by_call (call.Enter access.Exclusive how) built is f = writes_alone w t l a steady admits v2 x run how is (first_leads t l a _ (word_at w l) w (λ m. queue_at w (key_of l m)) small f n last (omega arith))
+    by_call (call.Enter access.Shared how) built is f = shares_alone w t l a steady admits v2 x run access.Shared how (λ h. cc) is (load_leads t l a _ (word_at w l) w (λ m. queue_at w (key_of l m)) small f n last (omega arith))
+    by_call (call.Enter access.Upgradable how) built is f = shares_alone w t l a steady admits v2 x run access.Upgradable how (λ h. cc) is (load_leads t l a _ (word_at w l) w (λ m. queue_at w (key_of l m)) small f n last (omega arith))
+    by_call (call.Release y) built is f = releases_alone w t l a steady admits v2 x run y is (release_ends t l a y false (word_at w l) w (λ m. queue_at w (key_of l m)) f n last (omega arith))
+    by_call (call.Downgrade d) built is f = downgrades_alone w t l a steady admits v2 x run d is (downgrade_ends t l a d false (word_at w l) w (λ m. queue_at w (key_of l m)) f n last (omega arith))
+    by_call (call.Upgrade Try) built is f = tries_upgrade w t l a steady admits v2 x run is (load_leads t l a _ (word_at w l) w (λ m. queue_at w (key_of l m)) small f n last (omega arith))
+    by_call (call.Upgrade Patient) built is f = upgrades_alone w t l a steady admits v2 x run Patient (λ h. cc) is (upgrade_leads t l a Patient false (word_at w l) w (λ m. queue_at w (key_of l m)) f n last (omega arith))
+    by_call (call.Upgrade Timed) built is f = upgrades_alone w t l a steady admits v2 x run Timed (λ h. cc) is (upgrade_leads t l a Timed false (word_at w l) w (λ m. queue_at w (key_of l m)) f n last (omega arith))
+    by_call (call.ReleaseFair y) built is f = absurd cc
+    by_call (call.Bump y) built is f = absurd cc

@@ -10,6 +10,8 @@ use Rattle.lot_base.specs.declared.wants.Want.{Want}
 use Rattle.lot_acts.specs.declared.acts.Check.{Check}
 use Rattle.lot_calls.specs.declared.calls.Access.TheVariants as access
 use Rattle.lot_calls.specs.declared.calls.RwLockCall.{RwLockCall}
+use Rattle.lot_calls.specs.declared.calls.RwLockCall.TheVariants as call
+use Rattle.lot_calls.specs.Kinds.{is_built}
 use Rattle.lot_calls.specs.declared.kinds.Kind.{Kind}
 use Rattle.lot_calls.specs.declared.kinds.Kind.TheVariants as kinds
 use Rattle.lot_calls.specs.declared.calls.Patience.{Patience}
@@ -37,9 +39,12 @@ use Rattle.lot_rwlock.specs.RwLockDeeds.{Admits, IsAt, MayHear, doing_next, rwlo
 use Rattle.lot_rwlock.specs.RwLockProfiles.{rwlock_profile, rwlock_late_line, late_line_at, carries_at}
 use Rattle.lot_rwlock.specs.RwLockCalls.{HasDeadline, MayStand, MayBeTold, MayStandNext, IsCalling, IsNotLate, CallFollowsBy, next_row}
 use Rattle.lot_rwlock.specs.RwLockMoves.{rwlock_move, rwlock_hears}
-use Rattle.lot_rwlock.specs.RwLockBegins.{admission_of, rwlock_first, rwlock_right}
-use Rattle.lot_rwlock.specs.RwLockOpenings.{Opens}
-use Rattle.lot_rwlock.proofs.RwLockOpenings.{rwlock_calls_open}
+use Rattle.lot_rwlock.specs.RwLockBegins.{admission_of}
+use Rattle.lot_rwlock_fair.specs.declared.places.RwLockCallPlace.TheVariants.{Plain}
+use Rattle.lot_rwlock_fair.specs.FairBegins.{call_first, call_right}
+use Rattle.lot_rwlock_fair.specs.FairLaws.{CallOpens}
+use Rattle.lot_rwlock_fair.specs.FairSteps.{given}
+use Rattle.lot_rwlock_fair.proofs.FairOpenings.{calls_open}
 use Rattle.lot_rwlock.proofs.RwLockStands.{is_at, rwlock_calls_stand}
 use Rattle.lot_rwlock.proofs.RwLockCalls.{rwlock_steps_tell}
 use Rattle.lot_rwlock.proofs.RwLockCallSections.{rwlock_sections_tell}
@@ -50,7 +55,7 @@ use Rattle.lot_rwlock.proofs.RwLockSections.{rwlock_sections_follow}
 use Rattle.lot_rwlock.proofs.RwLockMoves.{rwlock_acts_move, rwlock_sleepers_move, rwlock_late_moves}
 use Rattle.lot_steps.specs.declared.places.Place.{Place}
 use Rattle.lot_steps.specs.declared.places.Place.TheVariants.{Idle, Mutex, RwLock}
-use Rattle.lot_steps.specs.Steps.{next_place, profile, calls, rwlock_goes}
+use Rattle.lot_steps.specs.Steps.{next_place, profile, calls}
 use Rattle.abstract_locks.specs.Locks.{Rules, Sort, Normal, Recursive, Semaphore, count, one_if_some, standing}
 use Rattle.abstract_locks.specs.Locks as locks
 use Rattle.abstract_locks.specs.Sites.{Site, IsSite, Deed, Line, Main, Second, Begin, Case, Clear, End, In, Mark, Out, has_readers}
@@ -65,6 +70,7 @@ use Rattle.lot_world.specs.Refinement.{taken_at}
 use Rattle.lot_world.specs.MutexDeeds.{acts}
 use Rattle.lot_world.specs.Stations.{station, doing_on}
 use Rattle.lot_world.specs.SitesOf.{IsSteady, Goes, FitsItsLock, TakesOne, HasRoom, is_mutex, rules_in, key_of}
+use Rattle.lot_world.proofs.PlainCalls.{next_is, plain_goes, plain_leads}
 use Rattle.lot_world.proofs.Glue.{IsOf, next_of, parts_at, put_here, doing_here}
 use Rattle.lot_world.proofs.StandsMoved.{mutex_rules}
 use Rattle.lot_world.proofs.ActsKept.{lock_by, place_goes}
@@ -73,11 +79,6 @@ use Rattle.lot_world.proofs.OtherCalls.{IsCalm, WakesOwn}
 use Rattle.lot_world.proofs.MovesKept.{entered_hears, left_hears, parked_hears, removed_hears, picked_hears, picked_deeds, free_of, IsFollowed, IsSleeper, stays, goes_in, goes_out, parks_or_turns, leaves_line, takes_whom_aside, takes_chosen, wakes_one, nowhere_here}
 
 -- ---------------------------------------------------------------- rows
-
--- where a place leads, its row does
-pub next_is : (l : ℕ) (a : Admission) (n : Next RwLockPlace) → profile (rwlock_goes l a n) ≡ row_of (next_row a n)
-next_is l a (next.At p) = refl
-next_is l a (next.End answer) = refl
 
 doing_is : (a : Admission) (n : Next RwLockPlace) → doing_next n ≡ (row_of (next_row a n)).doing
 doing_is a (next.At p) = refl
@@ -206,8 +207,8 @@ left_wakes ds h = absurd h
 
 -- ---------------------------------------------------------------- one thread
 
-module _ (w : State) (t l : ℕ) (a : Admission) (p : RwLockPlace) (steady : IsSteady w) (shape : IsShaped w) (there : t < length w.places) (lt : l < length w.locks) (is : place_at w t ≡ RwLock l a p) where
-  fits_now : FitsItsLock w (RwLock l a p)
+module _ (w : State) (t l : ℕ) (a : Admission) (p : RwLockPlace) (steady : IsSteady w) (shape : IsShaped w) (there : t < length w.places) (lt : l < length w.locks) (is : place_at w t ≡ RwLock l a (Plain p)) where
+  fits_now : FitsItsLock w (RwLock l a (Plain p))
   fits_now = subst (FitsItsLock w) is (steady.stands.calls t)
 
   admits : Admits (rules_in w l) a
@@ -238,21 +239,21 @@ module _ (w : State) (t l : ℕ) (a : Admission) (p : RwLockPlace) (steady : IsS
   abbrev Followed : Option ℕ → Reply → Type 0
   Followed whom told = IsFollowed w t l steady there own (rules_in w l) refl admits.0 (rwlock_move a p) same_row whom told (next_place (place_at w t) told)
 
-  followed_by : (whom : Option ℕ) (told : Reply) → laws.AllNeeded (rules_in w l) (rwlock_deeds a p whom told) here t → (laws.after_all (rules_in w l) (rwlock_deeds a p whom told) here t).doing t ≡ doing_next (rwlock_next a p told) → MayBeTold a p p.at told → Followed whom told
-  followed_by whom told needed does may = record {
+  followed_by : (whom : Option ℕ) (told : Reply) → laws.AllNeeded (rules_in w l) (rwlock_deeds a p whom told) here t → (laws.after_all (rules_in w l) (rwlock_deeds a p whom told) here t).doing t ≡ doing_next (rwlock_next a p told) → given false p told ≡ None → MayBeTold a p p.at told → Followed whom told
+  followed_by whom told needed does plain may = record {
     of = next_of l (place_at w t) told own;
-    fits = subst (λ q. FitsItsLock w (next_place q told)) (sym is) (by_next (rwlock_next a p told) (rwlock_calls_stand a p told stands may));
-    row = ap (λ q. profile (next_place q told)) is ∙ next_is l a (rwlock_next a p told);
+    fits = subst (λ q. FitsItsLock w (next_place q told)) (sym is) (subst (FitsItsLock w) (sym (plain_leads l a p told plain)) (by_next (rwlock_next a p told) (rwlock_calls_stand a p told stands may)));
+    row = ap (λ q. profile (next_place q told)) is ∙ ap profile (plain_leads l a p told plain) ∙ next_is l a (rwlock_next a p told);
     needed = needed;
     doing = does ∙ doing_is a (rwlock_next a p told);
   }
     where
-      by_next : (n : Next RwLockPlace) → MayStandNext a n → FitsItsLock w (rwlock_goes l a n)
+      by_next : (n : Next RwLockPlace) → MayStandNext a n → FitsItsLock w (plain_goes l a n)
       by_next (next.At q) h = (admits, h)
       by_next (next.End answer) h = tt
 
-  followed : (whom : Option ℕ) (told : Reply) → MayHear (rules_in w l) a here t p p.at whom told → MayBeTold a p p.at told → Followed whom told
-  followed whom told hears may = let f = rwlock_sections_follow (rules_in w l) a here t p whom told at_now hears in followed_by whom told f.needed f.doing may
+  followed : (whom : Option ℕ) (told : Reply) → MayHear (rules_in w l) a here t p p.at whom told → given false p told ≡ None → MayBeTold a p p.at told → Followed whom told
+  followed whom told hears plain may = let f = rwlock_sections_follow (rules_in w l) a here t p whom told at_now hears in followed_by whom told f.needed f.doing plain may
 
   -- ---------------------------------------------------------------- who else calls the lock
 
@@ -263,7 +264,7 @@ module _ (w : State) (t l : ℕ) (a : Admission) (p : RwLockPlace) (steady : IsS
       by_place Idle e g = absurd cc
       by_place (Mutex k m) e g = absurd (let same_lock : k ≡ l = eqb-true k l g in let of_mutex : is_mutex (kind_at w k) ≡ true = subst (FitsItsLock w) e (steady.stands.calls u) in
           let none : has_readers (rules_in w k).sort ≡ false = ap (λ (r : Rules). has_readers r.sort) (mutex_rules (kind_at w k) of_mutex) in let some : has_readers (rules_in w l).sort ≡ true = admits.0 in let both : true ≡ false = sym some ∙ ap (λ j. has_readers (rules_in w j).sort) (sym same_lock) ∙ none in cc)
-      by_place (RwLock k b q) e g = record {
+      by_place (RwLock k b (Plain q)) e g = record {
         move = rwlock_move b q;
         row = ap profile e;
         waits = rwlock_sleepers_move b q fits_u.1;
@@ -273,19 +274,20 @@ module _ (w : State) (t l : ℕ) (a : Admission) (p : RwLockPlace) (steady : IsS
         woken_fits = subst (λ y. FitsItsLock w (next_place y (Woken Normal))) (sym e) (by_next (rwlock_next b q (Woken Normal)) (rwlock_calls_stand b q (Woken Normal) fits_u.1 (told_other b q q.at (Woken Normal) tt)));
       }
         where
-          fits_u : FitsItsLock w (RwLock k b q)
+          fits_u : FitsItsLock w (RwLock k b (Plain q))
           fits_u = subst (FitsItsLock w) e (steady.stands.calls u)
 
-          by_next : (n : Next RwLockPlace) → MayStandNext b n → FitsItsLock w (rwlock_goes k b n)
+          by_next : (n : Next RwLockPlace) → MayStandNext b n → FitsItsLock w (plain_goes k b n)
           by_next (next.At y) h = (fits_u.0, h)
           by_next (next.End answer) h = tt
+      by_place (RwLock k b c) e g = absurd (subst (FitsItsLock w) e (steady.stands.calls u))
 
   -- ---------------------------------------------------------------- each act
 
   -- its deeds as it goes on from a place, what they make of its call, and of those of the others
   pub record GoesFrom (q : Place) (y : Act) : Type 0 where
     pub whom : Option ℕ
-    pub goes : Goes w (put (state_after_act w t (RwLock l a p) y) t (next_place q (reply_to w t y))) l (acts t (rwlock_deeds a p whom (reply_to w t y)))
+    pub goes : Goes w (put (state_after_act w t (RwLock l a (Plain p)) y) t (next_place q (reply_to w t y))) l (acts t (rwlock_deeds a p whom (reply_to w t y)))
     pub tells : CallFollowsBy (rules_in w l) a here t l p whom (reply_to w t y)
     pub others : WakesOwn (carries_at p.at) y (case_of (carries_at p.at) (rwlock_deeds a p whom (reply_to w t y)))
 
@@ -316,7 +318,7 @@ module _ (w : State) (t l : ℕ) (a : Admission) (p : RwLockPlace) (steady : IsS
   on_word : (op : Op) → rwlock_act l a p ≡ act.Word l op → StaysPut (rwlock_move a p) → GoesFrom (place_at w t) (act.Word l op)
   on_word op e g = record {
     whom = None;
-    goes = stays w t l steady there own (rules_in w l) refl admits.0 (rwlock_move a p) same_row (RwLock l a p) (next_place (place_at w t) (Value (word_at w l))) op lt g on.0 on.1 on.2;
+    goes = stays w t l steady there own (rules_in w l) refl admits.0 (rwlock_move a p) same_row (RwLock l a (Plain p)) (next_place (place_at w t) (Value (word_at w l))) op lt g on.0 on.1 on.2;
     tells = subst (λ v. CallFollowsBy (rules_in w l) a here t l p None (Value v)) (sym word_is) (rwlock_steps_tell (rules_in w l) a here t l p op calling nowhere e);
     others = calm_by (rwlock_deeds a p None (Value (word_at w l))) refl (word_calm (rwlock_deeds a p None (Value (word_at w l))) (g.deeds (word_at w l)));
   }
@@ -340,7 +342,7 @@ module _ (w : State) (t l : ℕ) (a : Admission) (p : RwLockPlace) (steady : IsS
 
       on : at_word (word_at w l)
       on = subst at_word (sym word_is) (let f = rwlock_steps_follow (rules_in w l) a here t l p op at_now nowhere e in (
-        followed_by None (Value (code (rules_in w l) here)) f.needed f.doing (told_value a p p.at (code (rules_in w l) here) few),
+        followed_by None (Value (code (rules_in w l) here)) f.needed f.doing refl (told_value a p p.at (code (rules_in w l) here) few),
         rwlock_owners_follow (rules_in w l) a here t l p op (shares_at w l) (owners_at w l) (queue_at w (2 * l)) (queue_at w (2 * l + 1)) (λ u. taken_at (place_at w u) l) at_now e room limits.1 refl,
         rwlock_steps_code (rules_in w l) a here t l p op at_now nowhere e (subst (λ n. t < n) (sym (steady.numbers.threads l)) there) few room limits.1,
       ))
@@ -352,7 +354,7 @@ module _ (w : State) (t l : ℕ) (a : Admission) (p : RwLockPlace) (steady : IsS
   into : (m : Line) (keys : Keys) → keys ≡ One (key_of l m) → are_free w keys ≡ true → GoesIn (rwlock_move a p) (rwlock_hears a p) m Done → GoesFrom (place_at w t) (act.Enter keys)
   into m keys e free g = subst (λ k. GoesFrom (place_at w t) (act.Enter k)) (sym e) (record {
     whom = None;
-    goes = goes_in w t l steady there own (rules_in w l) refl admits.0 (rwlock_move a p) same_row (rwlock_hears a p) m Done (next_place (place_at w t) Done) (section_there m) is_free_now g (λ h. followed None Done h (told_done a p (rules_in w l) here t p.at None h));
+    goes = goes_in w t l steady there own (rules_in w l) refl admits.0 (rwlock_move a p) same_row (rwlock_hears a p) m Done (next_place (place_at w t) Done) (section_there m) is_free_now g (λ h. followed None Done h refl (told_done a p (rules_in w l) here t p.at None h));
     tells = tells_by None Done tt (entered_hears w t l steady there own (rules_in w l) refl admits.0 (rwlock_move a p) same_row (rwlock_hears a p) m Done is_free_now g);
     others = calm_by (In m ∷ []) g.deeds tt;
   })
@@ -363,7 +365,7 @@ module _ (w : State) (t l : ℕ) (a : Admission) (p : RwLockPlace) (steady : IsS
   out_of : (m : Line) (keys : Keys) (wakes : Wakes) → keys ≡ One (key_of l m) → GoesOut (rwlock_move a p) (rwlock_hears a p) m wakes → GoesFrom (place_at w t) (act.Leave keys wakes)
   out_of m keys wakes e g = subst (λ k. GoesFrom (place_at w t) (act.Leave k wakes)) (sym e) (record {
     whom = None;
-    goes = goes_out w t l steady there own (rules_in w l) refl admits.0 (rwlock_move a p) same_row (rwlock_hears a p) m wakes (next_place (place_at w t) Done) (section_there m) g (λ h. followed None Done h (told_done a p (rules_in w l) here t p.at None h)) (wakes_one w t l steady there own (rules_in w l) refl admits.0 (rwlock_move a p) same_row asleep);
+    goes = goes_out w t l steady there own (rules_in w l) refl admits.0 (rwlock_move a p) same_row (rwlock_hears a p) m wakes (next_place (place_at w t) Done) (section_there m) g (λ h. followed None Done h refl (told_done a p (rules_in w l) here t p.at None h)) (wakes_one w t l steady there own (rules_in w l) refl admits.0 (rwlock_move a p) same_row asleep);
     tells = tells_by None Done tt (left_hears w t l steady there own (rules_in w l) refl admits.0 (rwlock_move a p) same_row (rwlock_hears a p) m wakes g);
     others = subst (λ x. WakesOwn (carries_at p.at) (act.Leave (One (key_of l m)) x) (case_of (carries_at p.at) (rwlock_deeds a p None Done))) (sym g.notes) (wakes_any (carries_at p.at) g.any g.carries (rwlock_deeds a p None Done) g.deeds);
   })
@@ -375,7 +377,7 @@ module _ (w : State) (t l : ℕ) (a : Admission) (p : RwLockPlace) (steady : IsS
   parked : (m : Line) (k key : ℕ) (check : Check) (want : Want) → k ≡ l → key ≡ key_of l m → Parks (rwlock_move a p) (rwlock_hears a p) m check want → GoesFrom (place_at w t) (act.Park k key check want)
   parked m k key check x ke e g = subst (λ j. GoesFrom (place_at w t) (act.Park j key check x)) (sym ke) (subst (λ j. GoesFrom (place_at w t) (act.Park l j check x)) (sym e) (record {
     whom = None;
-    goes = parks_or_turns w t l steady there own (rules_in w l) refl admits.0 (rwlock_move a p) same_row (rwlock_hears a p) m check x (line_there m) g (λ b h. followed None (Parked b) h (told_other a p p.at (Parked b) tt));
+    goes = parks_or_turns w t l steady there own (rules_in w l) refl admits.0 (rwlock_move a p) same_row (rwlock_hears a p) m check x (line_there m) g (λ b h. followed None (Parked b) h refl (told_other a p p.at (Parked b) tt));
     tells = tells_by None (Parked (holds check (word_at w l))) tt (parked_hears w t l steady there own (rules_in w l) refl admits.0 (rwlock_move a p) same_row (rwlock_hears a p) m check x g (holds check (word_at w l)) refl);
     others = parks_calm (holds check (word_at w l));
   }))
@@ -387,7 +389,7 @@ module _ (w : State) (t l : ℕ) (a : Admission) (p : RwLockPlace) (steady : IsS
   left : (m : Line) (key : ℕ) → key ≡ key_of l m → LeavesLine (rwlock_move a p) (rwlock_hears a p) m → GoesFrom (place_at w t) (act.Remove key)
   left m key e g = subst (λ j. GoesFrom (place_at w t) (act.Remove j)) (sym e) (record {
     whom = None;
-    goes = leaves_line w t l steady there own (rules_in w l) refl admits.0 (rwlock_move a p) same_row asleep (rwlock_hears a p) m g (λ b h. followed None (Removed b) h (told_other a p p.at (Removed b) tt));
+    goes = leaves_line w t l steady there own (rules_in w l) refl admits.0 (rwlock_move a p) same_row asleep (rwlock_hears a p) m g (λ b h. followed None (Removed b) h refl (told_other a p p.at (Removed b) tt));
     tells = tells_by None (reply_to w t (act.Remove (key_of l m))) tt (removed_hears w t l steady there own (rules_in w l) refl admits.0 (rwlock_move a p) same_row asleep (rwlock_hears a p) m g);
     others = calm_by (Case locks.Late ∷ []) (g.deeds _) tt;
   })
@@ -401,12 +403,12 @@ module _ (w : State) (t l : ℕ) (a : Admission) (p : RwLockPlace) (steady : IsS
   }))
     where
       follows : (n : ℕ) (y : Option Want) (none_left : Bool) → rwlock_hears a p (rules_in w l) here t None (Picked n y none_left) → Followed None (Picked n y none_left)
-      follows n y none_left h = followed None (Picked n y none_left) h (told_other a p p.at (Picked n y none_left) tt)
+      follows n y none_left h = followed None (Picked n y none_left) h refl (told_other a p p.at (Picked n y none_left) tt)
 
   took : (key : ℕ) → key ≡ key_of l Second → TakesAside (rwlock_move a p) (rwlock_hears a p) → GoesFrom (place_at w t) (act.Take key whom.TheVariants.First)
   took key e g = subst (λ j. GoesFrom (place_at w t) (act.Take j whom.TheVariants.First)) (sym e) (record {
     whom = here.lock.aside;
-    goes = takes_whom_aside w t l steady there own (rules_in w l) refl admits.0 (rwlock_move a p) same_row asleep (rwlock_hears a p) many (line_there Second) g (λ any none_left h. followed here.lock.aside (Took any none_left) h (told_other a p p.at (Took any none_left) tt));
+    goes = takes_whom_aside w t l steady there own (rules_in w l) refl admits.0 (rwlock_move a p) same_row asleep (rwlock_hears a p) many (line_there Second) g (λ any none_left h. followed here.lock.aside (Took any none_left) h refl (told_other a p p.at (Took any none_left) tt));
     tells = tells_by here.lock.aside (reply_to w t (act.Take (key_of l Second) whom.TheVariants.First)) tt (g.may (rules_in w l) here t _ _);
     others = calm_by (takes_aside here.lock.aside ∷ []) (g.deeds here.lock.aside _ _) (aside_calm here.lock.aside);
   })
@@ -425,36 +427,45 @@ module _ (w : State) (t l : ℕ) (a : Admission) (p : RwLockPlace) (steady : IsS
   by_act y e g can = absurd g
 
   -- wherever it stands, its deeds are what the place and the reply say
-  pub rwlock_goes_on : can_do w (rwlock_act l a p) ≡ true → GoesFrom (RwLock l a p) (rwlock_act l a p)
+  pub rwlock_goes_on : can_do w (rwlock_act l a p) ≡ true → GoesFrom (RwLock l a (Plain p)) (rwlock_act l a p)
   rwlock_goes_on can = subst (λ q. GoesFrom q (rwlock_act l a p)) is (by_act (rwlock_act l a p) refl (rwlock_acts_move l a p stands) can)
 
   -- ---------------------------------------------------------------- its time is up
 
   pub rwlock_goes_late : (m : Line) → rwlock_late_line p ≡ Some m → is_free w (key_of l m) ≡ true → Goes w (state_after_late_under w t (key_of l m)) l (acts t (rwlock_deeds a p None Late))
   rwlock_goes_late m e free = goes_in w t l steady there own (rules_in w l) refl admits.0 (rwlock_move a p) same_row (rwlock_hears a p) m Late (next_place (place_at w t) Late) (section_there m)
-      (none_is (section_at w (key_of l m)) free) (rwlock_late_moves a p m e) (λ h. followed None Late h (told_late a p p.at (patience_of p.purpose) refl m e))
+      (none_is (section_at w (key_of l m)) free) (rwlock_late_moves a p m e) (λ h. followed None Late h refl (told_late a p p.at (patience_of p.purpose) refl m e))
 
 -- ---------------------------------------------------------------- a call begins
 
 -- a lock of such a kind lets in whom the call says
-admits_by : (k : Kind) → has_readers (rules_of k).sort ≡ true → Admits (rules_of k) (admission_of k)
+pub admits_by : (k : Kind) → has_readers (rules_of k).sort ≡ true → Admits (rules_of k) (admission_of k)
 admits_by (kinds.RwLock limit) h = (refl, refl, refl)
 admits_by (kinds.Recursive limit) h = (refl, refl, refl)
 admits_by k h = absurd cc
 
-module _ (w : State) (t l : ℕ) (c : RwLockCall) (steady : IsSteady w) (there : t < length w.places) (idle_now : place_at w t ≡ Idle) (readers : has_readers (rules_in w l).sort ≡ true) (right : rwlock_right c t (owners_at w l) (share_at w l t) ≡ true) where
-  abbrev pub first : Place
-  first = RwLock l (admission_of (kind_at w l)) (rwlock_first c)
+-- it begins where it fits its lock
+first_fits : (w : State) (l : ℕ) (a : Admission) (c : RwLockCall) → is_built c ≡ true → Admits (rules_in w l) a → FitsItsLock w (RwLock l a (call_first c))
+first_fits w l a (call.Enter x how) built admits = (admits, (calls_open a (call.Enter x how)).stands)
+first_fits w l a (call.Release x) built admits = (admits, (calls_open a (call.Release x)).stands)
+first_fits w l a (call.Downgrade d) built admits = (admits, (calls_open a (call.Downgrade d)).stands)
+first_fits w l a (call.Upgrade how) built admits = (admits, (calls_open a (call.Upgrade how)).stands)
+first_fits w l a (call.ReleaseFair x) built admits = absurd cc
+first_fits w l a (call.Bump x) built admits = absurd cc
 
-  pub opens : Opens (admission_of (kind_at w l)) c
-  opens = rwlock_calls_open (admission_of (kind_at w l)) c
+module _ (w : State) (t l : ℕ) (c : RwLockCall) (built : is_built c ≡ true) (steady : IsSteady w) (there : t < length w.places) (idle_now : place_at w t ≡ Idle) (readers : has_readers (rules_in w l).sort ≡ true) (right : call_right c t (owners_at w l) (share_at w l t) ≡ true) where
+  abbrev pub first : Place
+  first = RwLock l (admission_of (kind_at w l)) (call_first c)
+
+  pub opens : CallOpens (admission_of (kind_at w l)) c
+  opens = calls_open (admission_of (kind_at w l)) c
 
   free_now : taken_at (place_at w t) l ≡ None
   free_now = ap (λ q. taken_at q l) idle_now
 
   -- with what it claims
   pub rwlock_begins : Goes w (put w t first) l (acts t (Begin opens.opening.claims ∷ []))
-  rwlock_begins = place_goes w t l steady (rw idle_now tt) there (rules_in w l) refl first refl (admits_by (kind_at w l) readers, opens.stands) (Begin opens.opening.claims ∷ []) (λ h. tt)
+  rwlock_begins = place_goes w t l steady (rw idle_now tt) there (rules_in w l) refl first refl (first_fits w l (admission_of (kind_at w l)) c built (admits_by (kind_at w l) readers)) (Begin opens.opening.claims ∷ []) (λ h. tt)
       (steps_by (rules_in w l) l (parts_at w l) (parts_at w l) (place_at w) t first (Begin opens.opening.claims ∷ [])
       (opens.has t (shares_at w l) (owners_at w l) (queue_at w (2 * l)) (queue_at w (2 * l + 1)) (λ u. taken_at (place_at w u) l) right, tt) (tt, tt)
       (free_now ∙ sym (free_of first l (ap (λ (y : Station). y.hand) opens.opening.station)))

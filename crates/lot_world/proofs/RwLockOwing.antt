@@ -1,10 +1,11 @@
 -- How a call of a reader-writer lock comes to owe a wake: by the word that it sees, and by entering a section. Whatever befalls a thread
 -- changes nothing of that.
-use Rattle.std.proofs.Common.{ℕ, Bool, true, false, Some, None, if◌then◌else◌, ◌==◌, ◌&&◌, ◌≡◌, inl, inr, refl, sym, ◌∙◌, ap, subst}
+use Rattle.std.proofs.Common.{ℕ, Bool, true, false, Option, Some, None, if◌then◌else◌, ◌==◌, ◌&&◌, ◌≡◌, inl, inr, refl, sym, ◌∙◌, ap, subst}
 use Rattle.lot_base.specs.declared.keys.Line.{Line}
 use Rattle.lot_base.specs.declared.keys.Line.TheVariants.{Main, Second}
 use Rattle.lot_base.specs.declared.notes.Note.{Note}
 use Rattle.lot_base.specs.declared.notes.Note.TheVariants as note
+use Rattle.lot_calls.specs.declared.calls.Access.{Access}
 use Rattle.lot_calls.specs.declared.calls.Access.TheVariants as access
 use Rattle.lot_calls.specs.declared.calls.Patience.{Patience}
 use Rattle.lot_calls.specs.declared.calls.Patience.TheVariants.{Patient, Timed, Try}
@@ -33,17 +34,26 @@ use Rattle.lot_rwlock.specs.declared.release.WakeAt.TheVariants as waking
 use Rattle.lot_rwlock.specs.RwLockSteps.{plus, decided, patience_of, patience_at, entered, looked, looked_by, missed, came_in, came_in_for, exchanged_next, counted, rolled_back, gave_way_by, park_next, parks_at, looks_again, clears, wake_next, next_at, rwlock_act, rwlock_next, act_at}
 use Rattle.lot_rwlock.specs.RwLockDeeds.{Admits, rwlock_doing, pends}
 use Rattle.lot_rwlock.specs.RwLockCalls.{StandsAt, MayStand}
-use Rattle.lot_rwlock.specs.RwLockBegins.{rwlock_first}
+use Rattle.lot_rwlock_fair.specs.declared.places.RwLockCallPlace.{RwLockCallPlace}
+use Rattle.lot_rwlock_fair.specs.declared.places.RwLockCallPlace.TheVariants.{Plain, Glance, HandOver, Bump, Handed}
+use Rattle.lot_rwlock_fair.specs.declared.hand_over.HandOverAt.{HandOverAt}
+use Rattle.lot_rwlock_fair.specs.declared.hand_over.HandOverAt.TheVariants as handing
+use Rattle.lot_rwlock_fair.specs.declared.handed.HandedAt.{HandedAt}
+use Rattle.lot_rwlock_fair.specs.declared.handed.HandedAt.TheVariants as handed
+use Rattle.lot_rwlock_fair.specs.FairBegins.{call_first}
+use Rattle.lot_rwlock_fair.specs.FairSteps.{bump_ended, bump_next, given, glances, hand_over_next, handed_by, handed_next, handed_woken, plain_next, unless_given, woken_with}
+use Rattle.lot_rwlock_fair.specs.FairProfiles.{call_profile}
 use Rattle.lot_rwlock.specs.RwLockProfiles.{rwlock_profile, is_timed, owes_at, late_line_at, purpose_by}
 use Rattle.abstract_locks.specs.Codes.{count_in, has_aside, has_parked, parked_in, aside_in}
 use Rattle.abstract_locks.specs.Locks.{Rules, Sort}
 use Rattle.abstract_locks.specs.Locks as sorts
 use Rattle.abstract_locks.specs.Sites.{has_readers}
 use Rattle.lot_steps.specs.declared.places.Place.TheVariants.{RwLock}
-use Rattle.lot_steps.specs.Steps.{rwlock_goes, rwlock_does, next_place, line_owed, profile}
+use Rattle.lot_steps.specs.Steps.{next_place, line_owed, profile, rwlock_goes}
 use Rattle.lot_machine.specs.Machine.{State, word_at, reply_to}
 use Rattle.lot_world.specs.SitesOf.{rules_in}
-use Rattle.lot_world.specs.Owing.{line_let_in, tells_of}
+use Rattle.lot_world.specs.Owing.{line_let_in, tells_by, tells_of}
+use Rattle.lot_world.proofs.PlainCalls.{plain_goes, plain_does}
 use Rattle.lot_world.proofs.RowPromises.{LetsIn, RowOwesNext, IsLateNext, Befalls}
 use Rattle.lot_world.proofs.RwLockRows.{of, row_of, IsBefore, lesser, shut, shut_before, parking_inside, some_line}
 
@@ -51,25 +61,25 @@ use Rattle.lot_world.proofs.RwLockRows.{of, row_of, IsBefore, lesser, shut, shut
 
 -- a line is owed by the place alone
 module _ (l : ℕ) (a : Admission) (k : ℕ) where
-  park_taken : (p : RwLockPlace) (m : Line) (to : ParkAt) (u : ℕ) → line_owed (rwlock_goes l a (park_next p m to (reply.TakenBy u))) k ≡ (if l == k then owes_at (parks_at m to) else None)
+  park_taken : (p : RwLockPlace) (m : Line) (to : ParkAt) (u : ℕ) → line_owed (plain_goes l a (park_next p m to (reply.TakenBy u))) k ≡ (if l == k then owes_at (parks_at m to) else None)
   park_taken p Main parking.Asleep u = refl
   park_taken p Second parking.Asleep u = refl
   park_taken p Main to u = refl
   park_taken p Second to u = refl
 
-  park_moved : (p : RwLockPlace) (m : Line) (to : ParkAt) (key : ℕ) → line_owed (rwlock_goes l a (park_next p m to (reply.MovedTo key))) k ≡ (if l == k then owes_at (parks_at m to) else None)
+  park_moved : (p : RwLockPlace) (m : Line) (to : ParkAt) (key : ℕ) → line_owed (plain_goes l a (park_next p m to (reply.MovedTo key))) k ≡ (if l == k then owes_at (parks_at m to) else None)
   park_moved p Main parking.Asleep u = refl
   park_moved p Second parking.Asleep u = refl
   park_moved p Main to u = refl
   park_moved p Second to u = refl
 
-  park_handed : (p : RwLockPlace) (m : Line) (to : ParkAt) (u : ℕ) (alone : Bool) → line_owed (rwlock_goes l a (park_next p m to (reply.HandedBy u alone))) k ≡ (if l == k then owes_at (parks_at m to) else None)
+  park_handed : (p : RwLockPlace) (m : Line) (to : ParkAt) (u : ℕ) (alone : Bool) → line_owed (plain_goes l a (park_next p m to (reply.HandedBy u alone))) k ≡ (if l == k then owes_at (parks_at m to) else None)
   park_handed p Main parking.Asleep u alone = refl
   park_handed p Second parking.Asleep u alone = refl
   park_handed p Main to u alone = refl
   park_handed p Second to u alone = refl
 
-  park_woken : (p : RwLockPlace) (m : Line) (to : ParkAt) (n : Note) → line_owed (rwlock_goes l a (park_next p m to (reply.Woken n))) k ≡ (if l == k then owes_at (parks_at m to) else None)
+  park_woken : (p : RwLockPlace) (m : Line) (to : ParkAt) (n : Note) → line_owed (plain_goes l a (park_next p m to (reply.Woken n))) k ≡ (if l == k then owes_at (parks_at m to) else None)
   park_woken p Main parking.Asleep note.Normal = refl
   park_woken p Second parking.Asleep note.Normal = refl
   park_woken p Main (parking.Taken by) note.Normal = refl
@@ -81,38 +91,38 @@ module _ (l : ℕ) (a : Admission) (k : ℕ) where
   park_woken p Main to n = refl
   park_woken p Second to n = refl
 
-  befalls_parking : (p : RwLockPlace) (m : Line) (to : ParkAt) (r : Reply) → Befalls r → line_owed (rwlock_goes l a (park_next p m to r)) k ≡ (if l == k then owes_at (parks_at m to) else None)
+  befalls_parking : (p : RwLockPlace) (m : Line) (to : ParkAt) (r : Reply) → Befalls r → line_owed (plain_goes l a (park_next p m to r)) k ≡ (if l == k then owes_at (parks_at m to) else None)
   befalls_parking p m to (reply.TakenBy u) b = park_taken p m to u
   befalls_parking p m to (reply.MovedTo key) b = park_moved p m to key
   befalls_parking p m to (reply.HandedBy u alone) b = park_handed p m to u alone
   befalls_parking p m to (reply.Woken n) b = park_woken p m to n
   befalls_parking p m to r b = absurd b
 
-  befalls_waking : (p : RwLockPlace) (m : Line) (to : WakeAt) (r : Reply) → Befalls r → line_owed (rwlock_goes l a (wake_next p m to r)) k ≡ (if l == k then owes_at (at.Wake m to) else None)
+  befalls_waking : (p : RwLockPlace) (m : Line) (to : WakeAt) (r : Reply) → Befalls r → line_owed (plain_goes l a (wake_next p m to r)) k ≡ (if l == k then owes_at (at.Wake m to) else None)
   befalls_waking p m to (reply.TakenBy u) b = by_place to
     where
-      by_place : (to : WakeAt) → line_owed (rwlock_goes l a (wake_next p m to (reply.TakenBy u))) k ≡ (if l == k then Some m else None)
+      by_place : (to : WakeAt) → line_owed (plain_goes l a (wake_next p m to (reply.TakenBy u))) k ≡ (if l == k then Some m else None)
       by_place waking.Enter = refl
       by_place waking.Take = refl
       by_place (waking.Clear any) = refl
       by_place (waking.Leave any) = refl
   befalls_waking p m to (reply.MovedTo u) b = by_place to
     where
-      by_place : (to : WakeAt) → line_owed (rwlock_goes l a (wake_next p m to (reply.MovedTo u))) k ≡ (if l == k then Some m else None)
+      by_place : (to : WakeAt) → line_owed (plain_goes l a (wake_next p m to (reply.MovedTo u))) k ≡ (if l == k then Some m else None)
       by_place waking.Enter = refl
       by_place waking.Take = refl
       by_place (waking.Clear any) = refl
       by_place (waking.Leave any) = refl
   befalls_waking p m to (reply.HandedBy u alone) b = by_place to
     where
-      by_place : (to : WakeAt) → line_owed (rwlock_goes l a (wake_next p m to (reply.HandedBy u alone))) k ≡ (if l == k then Some m else None)
+      by_place : (to : WakeAt) → line_owed (plain_goes l a (wake_next p m to (reply.HandedBy u alone))) k ≡ (if l == k then Some m else None)
       by_place waking.Enter = refl
       by_place waking.Take = refl
       by_place (waking.Clear any) = refl
       by_place (waking.Leave any) = refl
   befalls_waking p m to (reply.Woken n) b = by_place to
     where
-      by_place : (to : WakeAt) → line_owed (rwlock_goes l a (wake_next p m to (reply.Woken n))) k ≡ (if l == k then Some m else None)
+      by_place : (to : WakeAt) → line_owed (plain_goes l a (wake_next p m to (reply.Woken n))) k ≡ (if l == k then Some m else None)
       by_place waking.Enter = refl
       by_place waking.Take = refl
       by_place (waking.Clear any) = refl
@@ -120,13 +130,13 @@ module _ (l : ℕ) (a : Admission) (k : ℕ) where
   befalls_waking p m to r b = absurd b
 
   -- a thread that is on no way into a queue, or out of it, hears nothing
-  befalls_at : (p : RwLockPlace) (to : RwLockAt) (r : Reply) → Befalls r → line_owed (rwlock_goes l a (next_at a p to r)) k ≡ (if l == k then owes_at to else None)
+  befalls_at : (p : RwLockPlace) (to : RwLockAt) (r : Reply) → Befalls r → line_owed (plain_goes l a (next_at a p to r)) k ≡ (if l == k then owes_at to else None)
   befalls_at p (at.Park to) r b = befalls_parking p Main to r b
   befalls_at p (at.Aside to) r b = befalls_parking p Second to r b
   befalls_at p (at.Wake m to) r b = befalls_waking p m to r b
   befalls_at p to (reply.TakenBy u) b = by_place to
     where
-      by_place : (to : RwLockAt) → line_owed (rwlock_goes l a (next_at a p to (reply.TakenBy u))) k ≡ (if l == k then owes_at to else None)
+      by_place : (to : RwLockAt) → line_owed (plain_goes l a (next_at a p to (reply.TakenBy u))) k ≡ (if l == k then owes_at to else None)
       by_place (at.Park to) = befalls_parking p Main to (reply.TakenBy u) tt
       by_place (at.Aside to) = befalls_parking p Second to (reply.TakenBy u) tt
       by_place (at.Wake m to) = befalls_waking p m to (reply.TakenBy u) tt
@@ -136,7 +146,7 @@ module _ (l : ℕ) (a : Admission) (k : ℕ) where
       by_place to = refl
   befalls_at p to (reply.MovedTo u) b = by_place to
     where
-      by_place : (to : RwLockAt) → line_owed (rwlock_goes l a (next_at a p to (reply.MovedTo u))) k ≡ (if l == k then owes_at to else None)
+      by_place : (to : RwLockAt) → line_owed (plain_goes l a (next_at a p to (reply.MovedTo u))) k ≡ (if l == k then owes_at to else None)
       by_place (at.Park to) = befalls_parking p Main to (reply.MovedTo u) tt
       by_place (at.Aside to) = befalls_parking p Second to (reply.MovedTo u) tt
       by_place (at.Wake m to) = befalls_waking p m to (reply.MovedTo u) tt
@@ -146,7 +156,7 @@ module _ (l : ℕ) (a : Admission) (k : ℕ) where
       by_place to = refl
   befalls_at p to (reply.HandedBy u alone) b = by_place to
     where
-      by_place : (to : RwLockAt) → line_owed (rwlock_goes l a (next_at a p to (reply.HandedBy u alone))) k ≡ (if l == k then owes_at to else None)
+      by_place : (to : RwLockAt) → line_owed (plain_goes l a (next_at a p to (reply.HandedBy u alone))) k ≡ (if l == k then owes_at to else None)
       by_place (at.Park to) = befalls_parking p Main to (reply.HandedBy u alone) tt
       by_place (at.Aside to) = befalls_parking p Second to (reply.HandedBy u alone) tt
       by_place (at.Wake m to) = befalls_waking p m to (reply.HandedBy u alone) tt
@@ -156,7 +166,7 @@ module _ (l : ℕ) (a : Admission) (k : ℕ) where
       by_place to = refl
   befalls_at p to (reply.Woken n) b = by_place to
     where
-      by_place : (to : RwLockAt) → line_owed (rwlock_goes l a (next_at a p to (reply.Woken n))) k ≡ (if l == k then owes_at to else None)
+      by_place : (to : RwLockAt) → line_owed (plain_goes l a (next_at a p to (reply.Woken n))) k ≡ (if l == k then owes_at to else None)
       by_place (at.Park to) = befalls_parking p Main to (reply.Woken n) tt
       by_place (at.Aside to) = befalls_parking p Second to (reply.Woken n) tt
       by_place (at.Wake m to) = befalls_waking p m to (reply.Woken n) tt
@@ -166,19 +176,92 @@ module _ (l : ℕ) (a : Admission) (k : ℕ) where
       by_place to = refl
   befalls_at p to r b = absurd b
 
+nothing : (b : Bool) → ◌≡◌ {A = Option Line} (if b then None else None) None
+nothing true = refl
+nothing false = refl
+
+-- who is handed the lock owes nothing, and owed nothing
+woken_owes : (a : Admission) (x : Access) (how : Patience) (b alone : Bool) → (call_profile a (handed_woken x how b alone)).owes ≡ None
+woken_owes a access.Exclusive how b true = refl
+woken_owes a access.Exclusive how true false = refl
+woken_owes a access.Exclusive how false false = refl
+woken_owes a access.Shared how b alone = refl
+woken_owes a access.Upgradable how b alone = refl
+
+given_owed : (a : Admission) (b : Bool) (p : RwLockPlace) (r : Reply) (c : RwLockCallPlace) → given b p r ≡ Some c → ((call_profile a c).owes ≡ None) × (owes_at p.at ≡ None)
+given_owed a b p (reply.HandedBy u alone) c e = by_place p.purpose p.at e
+  where
+    by_place : (q : RwLockPurpose) (to : RwLockAt) → handed_by b q to u alone ≡ Some c → ((call_profile a c).owes ≡ None) × (owes_at to ≡ None)
+    by_place (purpose.Enter x how) (at.Park (parking.Taken v)) e = (let f : Handed x how b (handed.Asleep u alone) ≡ c = cc in subst (λ (d : RwLockCallPlace). (call_profile a d).owes ≡ None) f refl, refl)
+    by_place (purpose.Enter x how) (at.Park to) e = absurd cc
+    by_place q to e = absurd cc
+given_owed a b p (reply.Woken note.HandOff) c e = by_place p.purpose p.at e
+  where
+    by_place : (q : RwLockPurpose) (to : RwLockAt) → woken_with b q to ≡ Some c → ((call_profile a c).owes ≡ None) × (owes_at to ≡ None)
+    by_place (purpose.Enter x how) (at.Park parking.Asleep) e = (let f : handed_woken x how b false ≡ c = cc in subst (λ (d : RwLockCallPlace). (call_profile a d).owes ≡ None) f (woken_owes a x how b false), refl)
+    by_place (purpose.Enter x how) (at.Park to) e = absurd cc
+    by_place q to e = absurd cc
+given_owed a b p (reply.Woken n) c e = absurd cc
+given_owed a b p r c e = absurd cc
+
+-- a bump that enters again owes nothing yet
+bump_owed : (l : ℕ) (a : Admission) (q : RwLockPurpose) (n : Next RwLockPlace) (k : ℕ) → line_owed (rwlock_goes l a (bump_next q n)) k ≡ line_owed (plain_goes l a n) k
+bump_owed l a q (next.At p) k = refl
+bump_owed l a q (next.End answer) k = by_purpose q
+  where
+    by_purpose : (q : RwLockPurpose) → line_owed (rwlock_goes l a (bump_ended q answer)) k ≡ None
+    by_purpose (purpose.Release access.Shared) = nothing (l == k)
+    by_purpose (purpose.Release access.Upgradable) = nothing (l == k)
+    by_purpose (purpose.Release access.Exclusive) = nothing (l == k)
+    by_purpose q = refl
+
 -- whatever befalls a thread, it owes what it owed
-pub rwlock_befallen : (l : ℕ) (a : Admission) (p : RwLockPlace) (r : Reply) → Befalls r → (k : ℕ) → line_owed (next_place (RwLock l a p) r) k ≡ line_owed (RwLock l a p) k
-rwlock_befallen l a p r b k = befalls_at l a k p p.at r b
+module _ (l : ℕ) (a : Admission) (r : Reply) (k : ℕ) where
+  if_given : (p : RwLockPlace) (o : Option RwLockCallPlace) (n : Next RwLockCallPlace) → ((c : RwLockCallPlace) → o ≡ Some c → ((call_profile a c).owes ≡ None) × (owes_at p.at ≡ None))
+      → line_owed (rwlock_goes l a n) k ≡ (if l == k then owes_at p.at else None) → line_owed (rwlock_goes l a (unless_given o n)) k ≡ (if l == k then owes_at p.at else None)
+  if_given p None n owed h = h
+  if_given p (Some c) n owed h = ap (λ x. if l == k then x else None) ((owed c refl).0 ∙ sym (owed c refl).1)
+
+  handed_next_owes : (x : Access) (how : Patience) (b : Bool) (to : HandedAt) (r : Reply) → Befalls r → line_owed (rwlock_goes l a (handed_next x how b to r)) k ≡ None
+  handed_next_owes x how b (handed.Asleep u alone) (reply.Woken note.HandOff) h = ap (λ o. if l == k then o else None) (woken_owes a x how b alone) ∙ nothing (l == k)
+  handed_next_owes x how b to (reply.Woken n) h = nothing (l == k)
+  handed_next_owes x how b to (reply.TakenBy v) h = nothing (l == k)
+  handed_next_owes x how b to (reply.MovedTo key) h = nothing (l == k)
+  handed_next_owes x how b to (reply.HandedBy v c) h = nothing (l == k)
+  handed_next_owes x how b to r h = absurd h
+
+  -- it stays where it stands
+  stays_owing : (x : Access) (b : Bool) (to : HandOverAt) (r : Reply) → Befalls r → hand_over_next a x b to r ≡ next.At (HandOver x b to)
+  stays_owing x b handing.Load (reply.Woken n) h = refl
+  stays_owing x b to (reply.Woken n) h = refl
+  stays_owing x b to (reply.TakenBy v) h = refl
+  stays_owing x b to (reply.MovedTo key) h = refl
+  stays_owing x b to (reply.HandedBy v c) h = refl
+  stays_owing x b to r h = absurd h
+
+  glance_stays : (x : Access) (r : Reply) → Befalls r → glances a x r ≡ next.At (Glance x)
+  glance_stays x (reply.Woken n) h = refl
+  glance_stays x (reply.TakenBy v) h = refl
+  glance_stays x (reply.MovedTo key) h = refl
+  glance_stays x (reply.HandedBy v c) h = refl
+  glance_stays x r h = absurd h
+
+  pub rwlock_befallen : (c : RwLockCallPlace) → Befalls r → line_owed (next_place (RwLock l a c) r) k ≡ line_owed (RwLock l a c) k
+  rwlock_befallen (Plain p) b = if_given p (given false p r) (plain_next (rwlock_next a p r)) (given_owed a false p r) (befalls_at l a k p p.at r b)
+  rwlock_befallen (Bump p) b = if_given p (given true p r) (bump_next p.purpose (rwlock_next a p r)) (given_owed a true p r) (bump_owed l a p.purpose (rwlock_next a p r) k ∙ befalls_at l a k p p.at r b)
+  rwlock_befallen (Glance x) b = ap (λ n. line_owed (rwlock_goes l a n) k) (glance_stays x r b)
+  rwlock_befallen (HandOver x y to) b = ap (λ n. line_owed (rwlock_goes l a n) k) (stays_owing x y to r b)
+  rwlock_befallen (Handed x how y to) b = handed_next_owes x how y to r b ∙ sym (nothing (l == k))
 
 -- ---------------------------------------------------------------- the thread of the step
 
 -- it owes only where it is inside
-abbrev IsWithin : Next RwLockPlace → Type 0
+abbrev pub IsWithin : Next RwLockPlace → Type 0
 IsWithin (next.At p) = (m : Line) → owes_at p.at ≡ Some m → (rwlock_doing p).inside ≡ Some m
 IsWithin (next.End x) = Unit {0}
 
 -- at a place that is no wake's
-abbrev IsQuiet : RwLockAt → Type 0
+abbrev pub IsQuiet : RwLockAt → Type 0
 IsQuiet (at.Wake m to) = ⊥
 IsQuiet to = Unit {0}
 
@@ -189,11 +272,11 @@ quiet_within q again (at.Wake n to) h m e = absurd h
 quiet_within q again to h m e = absurd cc
 
 -- it goes on to no wake
-abbrev IsQuietNext : Next RwLockPlace → Type 0
+abbrev pub IsQuietNext : Next RwLockPlace → Type 0
 IsQuietNext (next.At p) = IsQuiet p.at
 IsQuietNext (next.End x) = Unit {0}
 
-quiet_next : (n : Next RwLockPlace) → IsQuietNext n → IsWithin n
+pub quiet_next : (n : Next RwLockPlace) → IsQuietNext n → IsWithin n
 quiet_next (next.At p) h = quiet_within p.purpose p.retries p.at h
 quiet_next (next.End x) h = tt
 
@@ -251,7 +334,7 @@ park_quiet p Second parking.GiveUp reply.Done = tt
 park_quiet p m to told = at_parks m to
 
 -- before it gives up or gives way, whatever it is told
-before_quiet : (a : Admission) (p : RwLockPlace) (to : RwLockAt) → IsBefore to → (told : Reply) → IsQuietNext (next_at a p to told)
+pub before_quiet : (a : Admission) (p : RwLockPlace) (to : RwLockAt) → IsBefore to → (told : Reply) → IsQuietNext (next_at a p to told)
 before_quiet a p at.First h (reply.Value seen) = if_quiet (seen == 0) (next.End (entered (patience_at p))) (missed p (patience_at p)) tt (missed_quiet p (patience_at p))
 before_quiet a p at.First h told = tt
 before_quiet a p at.Load h (reply.Value seen) = looked_quiet p seen (decided a p seen)
@@ -271,22 +354,31 @@ before_quiet a p (at.Aside to) h told = park_quiet p Second to told
 before_quiet a p to h told = absurd h
 
 -- the parked bits are those of a reader-writer lock
-parked_is : (s : Sort) (v : ℕ) → has_readers s ≡ true → parked_in s v ≡ has_parked v
+pub parked_is : (s : Sort) (v : ℕ) → has_readers s ≡ true → parked_in s v ≡ has_parked v
 parked_is sorts.Normal v e = refl
 parked_is sorts.Recursive v e = refl
 parked_is s v e = absurd cc
 
-aside_is : (s : Sort) (v : ℕ) → has_readers s ≡ true → aside_in s v ≡ has_aside v
+pub aside_is : (s : Sort) (v : ℕ) → has_readers s ≡ true → aside_in s v ≡ has_aside v
 aside_is sorts.Normal v e = refl
 aside_is sorts.Recursive v e = refl
 aside_is s v e = absurd cc
 
+-- a call that hands nothing over sees waiters by their own bits
+pub plain_tells : (s : Sort) (l : ℕ) (q : RwLockPurpose) (m : Line) (v : ℕ) → tells_by s (Some (purpose_by q l)) m v ≡ tells_of s m v
+plain_tells s l (purpose.Enter x how) m v = refl
+plain_tells s l (purpose.Release access.Shared) m v = refl
+plain_tells s l (purpose.Release access.Upgradable) m v = refl
+plain_tells s l (purpose.Release access.Exclusive) m v = refl
+plain_tells s l (purpose.Downgrade d) m v = refl
+plain_tells s l (purpose.Upgrade how) m v = refl
+
 -- where the reply leads a thread
 abbrev pub OwesNext : Rules → Admission → ℕ → ℕ → RwLockPlace → Next RwLockPlace → Type 0
-OwesNext r a l word p n = RowOwesNext r.sort l word (rwlock_profile a p) (outcome_of (rwlock_does l a n)) (profile (rwlock_goes l a n))
+OwesNext r a l word p n = RowOwesNext r.sort l word (rwlock_profile a p) (outcome_of (plain_does l a n)) (profile (plain_goes l a n))
 
 module _ (r : Rules) (readers : has_readers r.sort ≡ true) (a : Admission) (l word : ℕ) where
-  next_within : (n : Next RwLockPlace) → IsWithin n → (m : Line) → (profile (rwlock_goes l a n)).owes ≡ Some m → (profile (rwlock_goes l a n)).doing.inside ≡ Some m
+  next_within : (n : Next RwLockPlace) → IsWithin n → (m : Line) → (profile (plain_goes l a n)).owes ≡ Some m → (profile (plain_goes l a n)).doing.inside ≡ Some m
   next_within (next.At p) h m e = h m e
   next_within (next.End x) h m e = absurd cc
 
@@ -385,7 +477,7 @@ module _ (w : State) (t l : ℕ) (a : Admission) (admits : Admits (rules_in w l)
 -- ---------------------------------------------------------------- the other turns
 
 -- a call begins before it owes anything
-pub rwlock_first_owes : (a : Admission) (c : RwLockCall) → (rwlock_profile a (rwlock_first c)).owes ≡ None
+pub rwlock_first_owes : (a : Admission) (c : RwLockCall) → (call_profile a (call_first c)).owes ≡ None
 rwlock_first_owes a (rwlock_call.Enter access.Exclusive how) = refl
 rwlock_first_owes a (rwlock_call.Enter access.Shared how) = refl
 rwlock_first_owes a (rwlock_call.Enter access.Upgradable how) = refl
@@ -393,18 +485,34 @@ rwlock_first_owes a (rwlock_call.Release x) = refl
 rwlock_first_owes a (rwlock_call.Downgrade d) = refl
 rwlock_first_owes a (rwlock_call.Upgrade Try) = refl
 rwlock_first_owes a (rwlock_call.Upgrade how) = refl
+rwlock_first_owes a (rwlock_call.ReleaseFair access.Shared) = refl
+rwlock_first_owes a (rwlock_call.ReleaseFair access.Upgradable) = refl
+rwlock_first_owes a (rwlock_call.ReleaseFair access.Exclusive) = refl
+rwlock_first_owes a (rwlock_call.Bump x) = refl
 
 -- whose time is up is then awake, inside the section of the line where it slept
-pub rwlock_late : (l : ℕ) (a : Admission) (p : RwLockPlace) (m : Line) → (rwlock_profile a p).late_line ≡ Some m → IsLateNext (next_place (RwLock l a p) reply.Late) m
-rwlock_late l a p m h = by_place p.at m h
-  where
-    asleep : (b : Bool) (n m : Line) → in_line b n ≡ Some m → n ≡ m
-    asleep true n m h = some_line n m h
-    asleep false n m h = absurd cc
+asleep_in : (b : Bool) (n m : Line) → in_line b n ≡ Some m → n ≡ m
+asleep_in true n m h = some_line n m h
+asleep_in false n m h = absurd cc
 
-    by_place : (to : RwLockAt) (m : Line) → late_line_at (patience_of p.purpose) to ≡ Some m → IsLateNext (rwlock_goes l a (next_at a p to reply.Late)) m
-    by_place (at.Park parking.Asleep) m h = let e : Main ≡ m = asleep (is_timed (patience_of p.purpose)) Main m h in record { inside = ap Some e; owes = ap Some e; awake = λ x. cc }
-    by_place (at.Aside parking.Asleep) m h = let e : Second ≡ m = asleep (is_timed (patience_of p.purpose)) Second m h in record { inside = ap Some e; owes = ap Some e; awake = λ x. cc }
-    by_place (at.Park to) m h = absurd cc
-    by_place (at.Aside to) m h = absurd cc
-    by_place to m h = absurd cc
+plain_late : (l : ℕ) (a : Admission) (p : RwLockPlace) (to : RwLockAt) (m : Line) → late_line_at (patience_of p.purpose) to ≡ Some m → IsLateNext (plain_goes l a (next_at a p to reply.Late)) m
+plain_late l a p (at.Park parking.Asleep) m h = let e : Main ≡ m = asleep_in (is_timed (patience_of p.purpose)) Main m h in record { inside = ap Some e; owes = ap Some e; awake = λ x. cc }
+plain_late l a p (at.Aside parking.Asleep) m h = let e : Second ≡ m = asleep_in (is_timed (patience_of p.purpose)) Second m h in record { inside = ap Some e; owes = ap Some e; awake = λ x. cc }
+plain_late l a p (at.Park to) m h = absurd cc
+plain_late l a p (at.Aside to) m h = absurd cc
+plain_late l a p to m h = absurd cc
+
+-- in a bump too
+bump_late : (l : ℕ) (a : Admission) (p : RwLockPlace) (to : RwLockAt) (m : Line) → late_line_at (patience_of p.purpose) to ≡ Some m → IsLateNext (rwlock_goes l a (bump_next p.purpose (next_at a p to reply.Late))) m
+bump_late l a p (at.Park parking.Asleep) m h = let e : Main ≡ m = asleep_in (is_timed (patience_of p.purpose)) Main m h in record { inside = ap Some e; owes = ap Some e; awake = λ x. cc }
+bump_late l a p (at.Aside parking.Asleep) m h = let e : Second ≡ m = asleep_in (is_timed (patience_of p.purpose)) Second m h in record { inside = ap Some e; owes = ap Some e; awake = λ x. cc }
+bump_late l a p (at.Park to) m h = absurd cc
+bump_late l a p (at.Aside to) m h = absurd cc
+bump_late l a p to m h = absurd cc
+
+pub rwlock_late : (l : ℕ) (a : Admission) (c : RwLockCallPlace) (m : Line) → (call_profile a c).late_line ≡ Some m → IsLateNext (next_place (RwLock l a c) reply.Late) m
+rwlock_late l a (Plain p) m h = plain_late l a p p.at m h
+rwlock_late l a (Bump p) m h = bump_late l a p p.at m h
+rwlock_late l a (Glance x) m h = absurd cc
+rwlock_late l a (HandOver x b to) m h = absurd cc
+rwlock_late l a (Handed x how b to) m h = absurd cc

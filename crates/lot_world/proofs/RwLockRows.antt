@@ -37,7 +37,7 @@ use Rattle.abstract_locks.specs.Locks as sorts
 use Rattle.abstract_locks.specs.Purposes.{MayWait}
 use Rattle.abstract_locks.specs.Runs.{IsTimed}
 use Rattle.abstract_locks.specs.Sites.{Pends, Claim, counts_some, has_readers, idle}
-use Rattle.lot_world.specs.Promises.{KnowsRights}
+use Rattle.lot_world.specs.Promises.{KnowsRights, WakesAside}
 use Rattle.lot_world.proofs.RowPromises.{is_acting, lock_for, LetsIn, IsDebtorIn, HasDebt, RowLooksAfter, RowIsLate, RowPromises}
 
 -- ---------------------------------------------------------------- the call
@@ -49,7 +49,7 @@ rwlock_own l (purpose.Downgrade d) = refl
 rwlock_own l (purpose.Upgrade how) = refl
 
 -- a lock that is shared knows each right
-knows : (s : Sort) → has_readers s ≡ true → (x : Access) → Knows s (wanted x)
+pub knows : (s : Sort) → has_readers s ≡ true → (x : Access) → Knows s (wanted x)
 knows sorts.Normal e access.Shared = tt
 knows sorts.Normal e access.Upgradable = tt
 knows sorts.Normal e access.Exclusive = tt
@@ -65,6 +65,14 @@ rwlock_known l (purpose.Downgrade downgrade.ToShared) sort_of e = (knows (sort_o
 rwlock_known l (purpose.Downgrade downgrade.ToUpgradable) sort_of e = (knows (sort_of l) e access.Exclusive, knows (sort_of l) e access.Upgradable)
 rwlock_known l (purpose.Downgrade downgrade.UpgradableToShared) sort_of e = (knows (sort_of l) e access.Upgradable, knows (sort_of l) e access.Shared)
 rwlock_known l (purpose.Upgrade how) sort_of e = (knows (sort_of l) e access.Upgradable, knows (sort_of l) e access.Exclusive)
+
+-- it is no bump
+pub no_bump : (l : ℕ) (q : RwLockPurpose) (m : Line) → WakesAside (Some (purpose_by q l)) l m → ⊥
+no_bump l q Main h = h
+no_bump l (purpose.Enter x how) Second h = h
+no_bump l (purpose.Release x) Second h = h
+no_bump l (purpose.Downgrade d) Second h = h
+no_bump l (purpose.Upgrade how) Second h = h
 
 -- a downgrade is to a lesser right
 pub lesser : (d : Downgrade) → wanted (to_of d) ≢ Exclusive
@@ -481,9 +489,9 @@ module _ (r : Rules) (readers : has_readers r.sort ≡ true) (a : Admission) (l 
     known = λ sort_of e. rwlock_known l q sort_of (ap has_readers e ∙ readers);
     aside = aside_claims (again_of (of q again to)) q to;
     owing = record {
-      owes = owes_is q again to;
+      owes = λ m h. elim (owes_is q again to m h) [ inl i ↦ inl i | inr g ↦ inr (g.0, inl g.1) ];
       inside = inside_owes q again to;
-      entering = entering_owes q again to stands.place;
+      entering = λ m h lets. elim lets [ inl k ↦ entering_owes q again to stands.place m h k | inr k ↦ absurd (no_bump l q m k) ];
       second = λ h. readers;
     };
     debtor = λ m d free. debtor q again to stands.place m d;

@@ -39,7 +39,9 @@ use Rattle.lot_rwlock.specs.RwLockSteps.{act_at, park_act, wanted, access_of, pa
 use Rattle.abstract_locks.specs.Codes.{bit, code, code_of, rw_code, writers, count_in, has_aside, has_parked, is_blocked, bars, leaves_readers}
 use Rattle.abstract_locks.specs.Sites.{Site, IsSite, has_readers, Line, Main, Second}
 use Rattle.lot_steps.specs.declared.places.Place.TheVariants.{Idle, RwLock}
-use Rattle.lot_steps.specs.Steps.{act_of, rwlock_goes, rwlock_does}
+use Rattle.lot_rwlock_fair.specs.declared.places.RwLockCallPlace.TheVariants.{Plain}
+use Rattle.lot_steps.specs.Steps.{act_of}
+use Rattle.lot_world.proofs.PlainCalls.{plain_goes, plain_does}
 use Rattle.lot_machine.specs.Machine.{State, word_at, section_at, queue_at, queues_without_first, state_after_taking, after, go_of}
 use Rattle.lot_rwlock.specs.RwLockCalls.{IsNoRefusal, MayStand, StandsAt, IsDecided}
 use Rattle.lot_rwlock.proofs.RwLockStands.{decides_to_park, aside_set}
@@ -57,21 +59,21 @@ Resting v x = Rests x
 
 module _ (t l : ℕ) (a : Admission) where
   abbrev Alone : State → RwLockPlace → ℕ → (Line → List Waiter) → Type 0
-  Alone w p v q = StepsAlone w t l (RwLock l a p) v q
+  Alone w p v q = StepsAlone w t l (RwLock l a (Plain p)) v q
 
   abbrev to : RwLockPlace → RwLockAt → RwLockPlace
   to p at = record p { at = at }
 
   -- it ends, or goes on from another place
   module _ (w : State) (P : State → Outcome → Type 0) where
-    ends : (v : ℕ) (q : Line → List Waiter) (answer : Answer) (n : Next RwLockPlace) → n ≡ End answer → Comes w t l (rwlock_goes l a n) (outcome_of (rwlock_does l a n)) v q → (P (after w (go_of t)) (outcome.End answer)) → Leads 1 w t P
-    ends v q answer n is c h = leads_rest w t P (outcome.End answer) (c.0 ∙ ap (λ x. outcome_of (rwlock_does l a x)) is) tt h
+    ends : (v : ℕ) (q : Line → List Waiter) (answer : Answer) (n : Next RwLockPlace) → n ≡ End answer → Comes w t l (plain_goes l a n) (outcome_of (plain_does l a n)) v q → (P (after w (go_of t)) (outcome.End answer)) → Leads 1 w t P
+    ends v q answer n is c h = leads_rest w t P (outcome.End answer) (c.0 ∙ ap (λ x. outcome_of (plain_does l a x)) is) tt h
 
-    sleeps : (v : ℕ) (q : Line → List Waiter) (p2 : RwLockPlace) (n : Next RwLockPlace) → n ≡ At p2 → outcome_of (rwlock_act l a p2) ≡ outcome.Sleep → Comes w t l (rwlock_goes l a n) (outcome_of (rwlock_does l a n)) v q → P (after w (go_of t)) outcome.Sleep → Leads 1 w t P
-    sleeps v q p2 n is rests c h = leads_rest w t P outcome.Sleep (c.0 ∙ ap (λ x. outcome_of (rwlock_does l a x)) is ∙ rests) tt h
+    sleeps : (v : ℕ) (q : Line → List Waiter) (p2 : RwLockPlace) (n : Next RwLockPlace) → n ≡ At p2 → outcome_of (rwlock_act l a p2) ≡ outcome.Sleep → Comes w t l (plain_goes l a n) (outcome_of (plain_does l a n)) v q → P (after w (go_of t)) outcome.Sleep → Leads 1 w t P
+    sleeps v q p2 n is rests c h = leads_rest w t P outcome.Sleep (c.0 ∙ ap (λ x. outcome_of (plain_does l a x)) is ∙ rests) tt h
 
-    goes : (k v : ℕ) (q : Line → List Waiter) (p2 : RwLockPlace) (n : Next RwLockPlace) → n ≡ At p2 → outcome_of (rwlock_act l a p2) ≡ outcome.Step → Comes w t l (rwlock_goes l a n) (outcome_of (rwlock_does l a n)) v q → (Alone (after w (go_of t)) p2 v q → Leads k (after w (go_of t)) t P) → Leads (k + 1) w t P
-    goes k v q p2 n is more c h = leads_step w t P k (c.0 ∙ ap (λ x. outcome_of (rwlock_does l a x)) is ∙ more) (h (subst (λ x. StepsAlone (after w (go_of t)) t l (rwlock_goes l a x) v q) is c.1))
+    goes : (k v : ℕ) (q : Line → List Waiter) (p2 : RwLockPlace) (n : Next RwLockPlace) → n ≡ At p2 → outcome_of (rwlock_act l a p2) ≡ outcome.Step → Comes w t l (plain_goes l a n) (outcome_of (plain_does l a n)) v q → (Alone (after w (go_of t)) p2 v q → Leads k (after w (go_of t)) t P) → Leads (k + 1) w t P
+    goes k v q p2 n is more c h = leads_step w t P k (c.0 ∙ ap (λ x. outcome_of (plain_does l a x)) is ∙ more) (h (subst (λ x. StepsAlone (after w (go_of t)) t l (plain_goes l a x) v q) is c.1))
 
   -- ---------------------------------------------------------------- into a line
 
@@ -202,7 +204,7 @@ module _ (t l : ℕ) (a : Admission) where
       counting : Bool → Next RwLockPlace
       counting b = if b then End (entered (patience_of p.purpose)) else At (again p (at.Count v) p.retries)
 
-      either : (b : Bool) → (count_in v == 0) ≡ b → Comes w t l (rwlock_goes l a (counting b)) (outcome_of (rwlock_does l a (counting b))) v q → Leads 5 w t (Settles b p q)
+      either : (b : Bool) → (count_in v == 0) ≡ b → Comes w t l (plain_goes l a (counting b)) (outcome_of (plain_does l a (counting b))) v q → Leads 5 w t (Settles b p q)
       either true e c = leads_more 1 5 w t (Settles true p q) (omega arith) (ends w (Settles true p q) v q (entered (patience_of p.purpose)) (counting true) refl c refl)
       either false e c = goes w (Settles false p q) 4 v q (again p (at.Count v) p.retries) (counting false) refl (counts_step v (has_aside v)) c (λ g. count_leads p v _ q small e g)
 
@@ -229,11 +231,11 @@ module _ (t l : ℕ) (a : Admission) where
       is_next r e = ap (exchanged_next a (place_for r retries (at.Decide v)) v v) e ∙ ap (λ (b : Bool). if b then came_in (place_for r retries (at.Decide v)) else looked a (place_for r retries (at.Decide v)) v) (same v)
 
       finished : (r : RwLockPurpose) → decided_for a r v ≡ decisions.Take → came_in (place_for r retries (at.Decide v)) ≡ End (entered (patience_of r))
-          → Comes w t l (rwlock_goes l a (rwlock_next a (place_for r retries (at.Decide v)) (Value v))) (outcome_of (rwlock_does l a (rwlock_next a (place_for r retries (at.Decide v)) (Value v)))) (apply (op.Exchange v (word_taken r v)) v) q
+          → Comes w t l (plain_goes l a (rwlock_next a (place_for r retries (at.Decide v)) (Value v))) (outcome_of (plain_does l a (rwlock_next a (place_for r retries (at.Decide v)) (Value v)))) (apply (op.Exchange v (word_taken r v)) v) q
           → Leads 6 w t (λ s x. x ≡ outcome.End (entered (patience_of r)))
       finished r e ended c = leads_more 1 6 w t (λ s x. x ≡ outcome.End (entered (patience_of r))) (omega arith) (ends w (λ s x. x ≡ outcome.End (entered (patience_of r))) _ q (entered (patience_of r)) _ (is_next r e ∙ ended) c refl)
 
-      by_purpose : (r : RwLockPurpose) → decided_for a r v ≡ decisions.Take → Comes w t l (rwlock_goes l a (rwlock_next a (place_for r retries (at.Decide v)) (Value v))) (outcome_of (rwlock_does l a (rwlock_next a (place_for r retries (at.Decide v)) (Value v)))) (apply (op.Exchange v (word_taken r v)) v) q → Leads 6 w t (Takes r retries v q)
+      by_purpose : (r : RwLockPurpose) → decided_for a r v ≡ decisions.Take → Comes w t l (plain_goes l a (rwlock_next a (place_for r retries (at.Decide v)) (Value v))) (outcome_of (plain_does l a (rwlock_next a (place_for r retries (at.Decide v)) (Value v)))) (apply (op.Exchange v (word_taken r v)) v) q → Leads 6 w t (Takes r retries v q)
       by_purpose (purpose.Enter access.Exclusive how) e c = goes w (Takes (purpose.Enter access.Exclusive how) retries v q) 5 _ q (place_for (purpose.Enter access.Exclusive how) false at.Look) _ (is_next (purpose.Enter access.Exclusive how) e) refl c
           (λ g. settled (look_leads (place_for (purpose.Enter access.Exclusive how) false at.Look) (plus v 8) _ q (below (v + 8)) (subst (λ y. Alone (after w (go_of t)) (place_for (purpose.Enter access.Exclusive how) false at.Look) y q) (won v (plus v 8)) g)))
         where
@@ -262,7 +264,7 @@ module _ (t l : ℕ) (a : Admission) where
   fresh_leads p v w q small (decisions.Refuse answer) h e f = absurd h
 
   -- it has looked at the word as it is
-  looked_leads : (p : RwLockPlace) (v : ℕ) (w : State) (q : Line → List Waiter) (n : Next RwLockPlace) → v < 2 ^ 64 → n ≡ looked a p v → Comes w t l (rwlock_goes l a n) (outcome_of (rwlock_does l a n)) v q → Leads 7 w t (Decides (decided a p v) p v q)
+  looked_leads : (p : RwLockPlace) (v : ℕ) (w : State) (q : Line → List Waiter) (n : Next RwLockPlace) → v < 2 ^ 64 → n ≡ looked a p v → Comes w t l (plain_goes l a n) (outcome_of (plain_does l a n)) v q → Leads 7 w t (Decides (decided a p v) p v q)
   looked_leads p v w q n small is c = by_decision (decided a p v) refl is
     where
       by_decision : (d : Decision) → decided a p v ≡ d → n ≡ looked_by p v d → Leads 7 w t (Decides d p v q)
@@ -286,10 +288,10 @@ module _ (t l : ℕ) (a : Admission) where
       ended : (P : State → Outcome → Type 0) (x : ℕ) (answer : Answer) → Comes w t l Idle (outcome.End answer) x q → P (after w (go_of t)) (outcome.End answer) → Leads 8 w t P
       ended P x answer c h = leads_more 1 8 w t P (omega arith) (leads_rest w t P (outcome.End answer) c.0 tt h)
 
-      looks : (how : Patience) → (v == 0) ≡ false → Comes w t l (RwLock l a (to p at.Load)) outcome.Step (if v == 0 then 8 else v) q → Leads 8 w t (Decides (decided a p v) p v q)
+      looks : (how : Patience) → (v == 0) ≡ false → Comes w t l (RwLock l a (Plain (to p at.Load))) outcome.Step (if v == 0 then 8 else v) q → Leads 8 w t (Decides (decided a p v) p v q)
       looks how e c = leads_step w t (Decides (decided a p v) p v q) 7 c.0 (load_leads p v _ q small (subst (λ y. Alone (after w (go_of t)) (to p at.Load) y q) (ap (λ (b : Bool). if b then 8 else v) e) c.1))
 
-      either : (b : Bool) (how : Patience) → Comes w t l (rwlock_goes l a (if b then End (entered how) else missed p how)) (outcome_of (rwlock_does l a (if b then End (entered how) else missed p how))) (if v == 0 then 8 else v) q → (v == 0) ≡ b → patience_of p.purpose ≡ how → Leads 8 w t (Tries b how p v q)
+      either : (b : Bool) (how : Patience) → Comes w t l (plain_goes l a (if b then End (entered how) else missed p how)) (outcome_of (plain_does l a (if b then End (entered how) else missed p how))) (if v == 0 then 8 else v) q → (v == 0) ≡ b → patience_of p.purpose ≡ how → Leads 8 w t (Tries b how p v q)
       either true how c e g = ended (Tries true how p v q) _ (entered how) c refl
       either false Try c e g = ended (Tries false Try p v q) _ answer.No c refl
       either false Patient c e g = looks Patient e c
@@ -324,7 +326,7 @@ module _ (t l : ℕ) (a : Admission) where
   tries_so false Patient p v q s x h = decides_so (decided a p v) p v q s x h
   tries_so false Timed p v q s x h = decides_so (decided a p v) p v q s x h
 
-  looked_rests : (p : RwLockPlace) (v : ℕ) (w : State) (q : Line → List Waiter) (n : Next RwLockPlace) → v < 2 ^ 64 → n ≡ looked a p v → Comes w t l (rwlock_goes l a n) (outcome_of (rwlock_does l a n)) v q → Leads 7 w t Resting
+  looked_rests : (p : RwLockPlace) (v : ℕ) (w : State) (q : Line → List Waiter) (n : Next RwLockPlace) → v < 2 ^ 64 → n ≡ looked a p v → Comes w t l (plain_goes l a n) (outcome_of (plain_does l a n)) v q → Leads 7 w t Resting
   looked_rests p v w q n small is c = leads_so 7 w t (Decides (decided a p v) p v q) Resting (decides_so (decided a p v) p v q) (looked_leads p v w q n small is c)
 
   load_rests : (p : RwLockPlace) (v : ℕ) (w : State) (q : Line → List Waiter) → v < 2 ^ 64 → Alone w (to p at.Load) v q → Leads 7 w t Resting
@@ -343,10 +345,10 @@ module _ (t l : ℕ) (a : Admission) where
   wakes_clear : (p : RwLockPlace) (m : Line) (any : Bool) (v : ℕ) (w : State) (q : Line → List Waiter) → Alone w (to p (at.Wake m (waking.Clear any))) v q → Leads 2 w t (Ends p.purpose)
   wakes_clear p m any v w q f = goes w (Ends p.purpose) 1 _ q (again p (at.Wake m (waking.Leave any)) p.retries) _ refl refl (word_comes w t l _ v q f (unparked m) refl) (λ g. wakes_leave p m any _ _ q g)
 
-  took_ends : (p : RwLockPlace) (m : Line) (any none_left : Bool) (v : ℕ) (w : State) (q : Line → List Waiter) → Comes w t l (RwLock l a (again p (at.Wake m (took m any none_left)) p.retries)) (outcome_of (rwlock_act l a (again p (at.Wake m (took m any none_left)) p.retries))) v q → Leads 3 w t (Ends p.purpose)
+  took_ends : (p : RwLockPlace) (m : Line) (any none_left : Bool) (v : ℕ) (w : State) (q : Line → List Waiter) → Comes w t l (RwLock l a (Plain (again p (at.Wake m (took m any none_left)) p.retries))) (outcome_of (rwlock_act l a (again p (at.Wake m (took m any none_left)) p.retries))) v q → Leads 3 w t (Ends p.purpose)
   took_ends p m any none_left v w q c = either (clears m none_left) c
     where
-      either : (b : Bool) → Comes w t l (RwLock l a (again p (at.Wake m (if b then waking.Clear any else waking.Leave any)) p.retries)) (outcome_of (rwlock_act l a (again p (at.Wake m (if b then waking.Clear any else waking.Leave any)) p.retries))) v q → Leads 3 w t (Ends p.purpose)
+      either : (b : Bool) → Comes w t l (RwLock l a (Plain (again p (at.Wake m (if b then waking.Clear any else waking.Leave any)) p.retries))) (outcome_of (rwlock_act l a (again p (at.Wake m (if b then waking.Clear any else waking.Leave any)) p.retries))) v q → Leads 3 w t (Ends p.purpose)
       either true c = leads_step w t (Ends p.purpose) 2 c.0 (wakes_clear p m any v _ q c.1)
       either false c = leads_more 2 3 w t (Ends p.purpose) (omega arith) (leads_step w t (Ends p.purpose) 1 c.0 (wakes_leave p m any v _ q c.1))
 
@@ -374,7 +376,7 @@ module _ (t l : ℕ) (a : Admission) where
 
   -- it gives its right up, and wakes those that it saw
   gave_ends : (p : RwLockPlace) (m : Line) (b : Bool) (answer : Answer) (v : ℕ) (w : State) (q : Line → List Waiter) → answer ≡ ends_with p.purpose
-      → Comes w t l (rwlock_goes l a (if b then At (again p (at.Wake m waking.Enter) p.retries) else End answer)) (outcome_of (rwlock_does l a (if b then At (again p (at.Wake m waking.Enter) p.retries) else End answer))) v q → Leads 6 w t (Ends p.purpose)
+      → Comes w t l (plain_goes l a (if b then At (again p (at.Wake m waking.Enter) p.retries) else End answer)) (outcome_of (plain_does l a (if b then At (again p (at.Wake m waking.Enter) p.retries) else End answer))) v q → Leads 6 w t (Ends p.purpose)
   gave_ends p m true answer v w q is c = leads_step w t (Ends p.purpose) 5 c.0 (wakes_enter p m v _ q c.1)
   gave_ends p m false answer v w q is c = leads_more 1 6 w t (Ends p.purpose) (omega arith) (leads_rest w t (Ends p.purpose) (outcome.End answer) c.0 tt (ap outcome.End is))
 
@@ -399,7 +401,7 @@ module _ (t l : ℕ) (a : Admission) where
   pub release_ends : (x : Access) (retries : Bool) (v : ℕ) (w : State) (q : Line → List Waiter) → Alone w (place_for (purpose.Release x) retries at.GiveWay) v q → Leads 6 w t (Ends (purpose.Release x))
   release_ends x retries v w q f = by_access x (word_comes w t l _ v q f (give_op (purpose.Release x)) refl)
     where
-      by_access : (x : Access) → Comes w t l (rwlock_goes l a (gave_way (place_for (purpose.Release x) retries at.GiveWay) v)) (outcome_of (rwlock_does l a (gave_way (place_for (purpose.Release x) retries at.GiveWay) v))) (apply (give_op (purpose.Release x)) v) q → Leads 6 w t (Ends (purpose.Release x))
+      by_access : (x : Access) → Comes w t l (plain_goes l a (gave_way (place_for (purpose.Release x) retries at.GiveWay) v)) (outcome_of (plain_does l a (gave_way (place_for (purpose.Release x) retries at.GiveWay) v))) (apply (give_op (purpose.Release x)) v) q → Leads 6 w t (Ends (purpose.Release x))
       by_access access.Shared c = gave_ends (place_for (purpose.Release access.Shared) retries at.GiveWay) Second (has_aside v && (count_in v == 1)) answer.Ok _ w q refl c
       by_access access.Upgradable c = gave_ends (place_for (purpose.Release access.Upgradable) retries at.GiveWay) Main (has_parked v) answer.Ok _ w q refl c
       by_access access.Exclusive c = gave_ends (place_for (purpose.Release access.Exclusive) retries at.GiveWay) Main (has_parked v) answer.Ok _ w q refl c
@@ -415,7 +417,7 @@ module _ (t l : ℕ) (a : Admission) where
   pub upgrade_leads : (how : Patience) (retries : Bool) (v : ℕ) (w : State) (q : Line → List Waiter) → Alone w (place_for (purpose.Upgrade how) retries at.GiveWay) v q → Leads 6 w t (Upgrades (count_in v == 1) how retries v q)
   upgrade_leads how retries v w q f = by_count (count_in v == 1) (word_comes w t l _ v q f (op.Sub 12) refl)
     where
-      by_count : (b : Bool) → Comes w t l (rwlock_goes l a (if b then End (entered how) else At (place_for (purpose.Upgrade how) false at.Look))) (outcome_of (rwlock_does l a (if b then End (entered how) else At (place_for (purpose.Upgrade how) false at.Look)))) (apply (op.Sub 12) v) q → Leads 6 w t (Upgrades b how retries v q)
+      by_count : (b : Bool) → Comes w t l (plain_goes l a (if b then End (entered how) else At (place_for (purpose.Upgrade how) false at.Look))) (outcome_of (plain_does l a (if b then End (entered how) else At (place_for (purpose.Upgrade how) false at.Look)))) (apply (op.Sub 12) v) q → Leads 6 w t (Upgrades b how retries v q)
       by_count true c = leads_more 1 6 w t (Upgrades true how retries v q) (omega arith) (leads_rest w t (Upgrades true how retries v q) (outcome.End (entered how)) c.0 tt refl)
       by_count false c = leads_step w t (Upgrades false how retries v q) 5 c.0 (look_leads (place_for (purpose.Upgrade how) false at.Look) (apply (op.Sub 12) v) _ q (below _) c.1)
 
@@ -446,7 +448,7 @@ module _ (t l : ℕ) (a : Admission) where
   remove_rests : (m : Line) (p : RwLockPlace) (v : ℕ) (w : State) (q : Line → List Waiter) → IsWaiting p.purpose → Alone w (to p (parks_at m parking.Remove)) v q → Leads 9 w t Resting
   remove_rests Main p v w q waits f = either _ (remove_comes w t l _ v q f (2 * l) refl)
     where
-      either : (b : Bool) {q2 : Line → List Waiter} → Comes w t l (RwLock l a (again p (at.Park (if b then parking.Clear else parking.GiveUp)) p.retries)) (outcome_of (rwlock_act l a (again p (at.Park (if b then parking.Clear else parking.GiveUp)) p.retries))) v q2 → Leads 9 w t Resting
+      either : (b : Bool) {q2 : Line → List Waiter} → Comes w t l (RwLock l a (Plain (again p (at.Park (if b then parking.Clear else parking.GiveUp)) p.retries))) (outcome_of (rwlock_act l a (again p (at.Park (if b then parking.Clear else parking.GiveUp)) p.retries))) v q2 → Leads 9 w t Resting
       either true {q2} c = leads_step w t Resting 8 c.0 (clear_rests Main p v _ q2 waits c.1)
       either false {q2} c = leads_more 8 9 w t Resting (omega arith) (leads_step w t Resting 7 c.0 (gives_up_rests Main p v _ q2 waits c.1))
   remove_rests Second p v w q waits f = let c = remove_comes w t l _ v q f (2 * l + 1) refl in leads_step w t Resting 8 c.0 (clear_rests Second p v _ _ waits c.1)
@@ -488,7 +490,7 @@ module _ (t l : ℕ) (a : Admission) where
 
   stale_rests : (p : RwLockPlace) (x v y : ℕ) (w : State) (q : Line → List Waiter) (d : Decision) → v < 2 ^ 64 → (v == x) ≡ false → (d ≡ decisions.Park → ⊥) → decided a p x ≡ d → rwlock_act l a (decides p x) ≡ act.Word l (op.Exchange x y) → Alone w (decides p x) v q → Leads 9 w t Resting
   stale_rests p x v y w q d small e h is does f = leads_more 7 9 w t Resting (omega arith) (looked_rests (decides p x) v w q _ small (ap (exchanged_next a (decides p x) x v) is ∙ stale_next p x v d e h)
-      (subst (λ z. Comes w t l (rwlock_goes l a (rwlock_next a (decides p x) (Value v))) (outcome_of (rwlock_does l a (rwlock_next a (decides p x) (Value v)))) z q) (ap (λ (b : Bool). if b then y else v) e) (word_comes w t l _ v q f (op.Exchange x y) does)))
+      (subst (λ z. Comes w t l (plain_goes l a (rwlock_next a (decides p x) (Value v))) (outcome_of (plain_does l a (rwlock_next a (decides p x) (Value v)))) z q) (ap (λ (b : Bool). if b then y else v) e) (word_comes w t l _ v q f (op.Exchange x y) does)))
 
   decide_rests : (p : RwLockPlace) (x v : ℕ) (w : State) (q : Line → List Waiter) (d : Decision) → IsNoRefusal d → decided a p x ≡ d → v < 2 ^ 64 → Alone w (decides p x) v q → Leads 10 w t Resting
   decide_rests p x v w q d h e small f = either (v == x) refl
@@ -513,15 +515,15 @@ module _ (t l : ℕ) (a : Admission) where
       aside_rests : (x v : ℕ) (w : State) → v < 2 ^ 64 → has_aside x ≡ true → Alone w (again p (at.Count x) p.retries) v q → Leads 10 w t Resting
       aside_rests x v w small e f = goes w Resting 9 v q (again p (at.Aside parking.Check) p.retries) _ refl refl (enter_comes w t l _ v q f Second (ap (λ (b : Bool). if b then act.Enter (One (2 * l + 1)) else exchange l x (plus x 2)) e) (finds_free w t l _ v q f refl Second)) (λ g. check_rests Second p v _ q small g)
 
-      counted_rests : (b : Bool) → (count_in v == 0) ≡ b → Comes w t l (rwlock_goes l a (if b then End (entered (patience_of p.purpose)) else At (again p (at.Count v) p.retries))) (outcome_of (rwlock_does l a (if b then End (entered (patience_of p.purpose)) else At (again p (at.Count v) p.retries)))) v q → Leads 11 w t Resting
+      counted_rests : (b : Bool) → (count_in v == 0) ≡ b → Comes w t l (plain_goes l a (if b then End (entered (patience_of p.purpose)) else At (again p (at.Count v) p.retries))) (outcome_of (plain_does l a (if b then End (entered (patience_of p.purpose)) else At (again p (at.Count v) p.retries)))) v q → Leads 11 w t Resting
       counted_rests true e c = leads_more 1 11 w t Resting (omega arith) (leads_rest w t Resting (outcome.End (entered (patience_of p.purpose))) c.0 tt tt)
       counted_rests false e c = leads_more 5 11 w t Resting (omega arith) (leads_step w t Resting 4 (c.0 ∙ counts_step v (has_aside v)) (leads_so 4 _ t (Sleeps Second p q) Resting (sleeps_so Second p q) (count_leads p v _ q small e c.1)))
 
       marked_next : Bool → Next RwLockPlace
       marked_next b = if b then At (again p at.Marked p.retries) else counted (to p (at.Count x)) v
 
-      by_word : (b : Bool) → (v == x) ≡ b → has_aside x ≡ false → Comes w t l (rwlock_goes l a (marked_next b)) (outcome_of (rwlock_does l a (marked_next b))) (if v == x then plus x 2 else v) q → Leads 11 w t Resting
-      by_word false ne e c = counted_rests (count_in v == 0) refl (subst (λ z. Comes w t l (rwlock_goes l a (marked_next false)) (outcome_of (rwlock_does l a (marked_next false))) z q) (ap (λ (b : Bool). if b then plus x 2 else v) ne) c)
+      by_word : (b : Bool) → (v == x) ≡ b → has_aside x ≡ false → Comes w t l (plain_goes l a (marked_next b)) (outcome_of (plain_does l a (marked_next b))) (if v == x then plus x 2 else v) q → Leads 11 w t Resting
+      by_word false ne e c = counted_rests (count_in v == 0) refl (subst (λ z. Comes w t l (plain_goes l a (marked_next false)) (outcome_of (plain_does l a (marked_next false))) z q) (ap (λ (b : Bool). if b then plus x 2 else v) ne) c)
       by_word true g e c =
           leads_step w t Resting 10 c.0 (marked_rests p (plus x 2) _ q (below (x + 2)) (subst (λ y. Alone (after w (go_of t)) (again p at.Marked p.retries) y q) (ap (λ (b : Bool). if b then plus x 2 else v) g) c.1))
 
@@ -580,7 +582,7 @@ word_small w l steady readers = let limits = steady.sites.limits l readers in
     subst (λ n. n < 2 ^ 64) (sym (steady.sites.word l)) (code_small (rules_in w l) (site_of w l) readers (steady.sites.site l) limits.0.1 limits.1.top)
 
 -- a thread that isn't asleep has something to do
-pub is_ready : (t l : ℕ) (a : Admission) (p : RwLockPlace) → MayStand a p → act_of (RwLock l a p) ≢ act.Sleep → IsReady t l a p p.at
+pub is_ready : (t l : ℕ) (a : Admission) (p : RwLockPlace) → MayStand a p → act_of (RwLock l a (Plain p)) ≢ act.Sleep → IsReady t l a p p.at
 is_ready t l a p stands up = by_at p.purpose p.at stands.place stands.decided up
   where
     by_parking : (q : RwLockPurpose) (m : Line) (x : ParkAt) → park_act l a (wanted (access_of q)) m x ≢ act.Sleep → IsUp t l a x

@@ -26,7 +26,12 @@ use Rattle.lot_rwlock.specs.declared.park.ParkAt.{ParkAt}
 use Rattle.lot_rwlock.specs.declared.places.RwLockAt.TheVariants as at
 use Rattle.lot_rwlock.specs.declared.park.ParkAt.TheVariants as parking
 use Rattle.lot_rwlock.specs.declared.release.WakeAt.TheVariants as waking
-use Rattle.lot_rwlock.specs.RwLockDeeds.{parking_doing, doing_at, again_of, rwlock_doing, pends}
+use Rattle.lot_rwlock.specs.RwLockDeeds.{parking_doing, doing_at, again_of, pends}
+use Rattle.lot_rwlock.specs.declared.places.Admission.{Admission}
+use Rattle.lot_rwlock_fair.specs.declared.places.RwLockCallPlace.{RwLockCallPlace}
+use Rattle.lot_rwlock_fair.specs.declared.places.RwLockCallPlace.TheVariants as places
+use Rattle.lot_rwlock_fair.specs.declared.hand_over.HandOverAt.TheVariants as handing
+use Rattle.lot_rwlock_fair.specs.FairProfiles.{call_profile}
 
 pub codes_by : (e : Option ℕ) (b : Bool) (w : ℕ) → w ≡ one_if_some e + 2 * bit b → IsMutexWord w e
 codes_by e true w h = inr h
@@ -55,6 +60,18 @@ rwlock_unset again q (at.Wake m (waking.Clear any)) = refl
 rwlock_unset again q (at.Wake m (waking.Leave any)) = refl
 rwlock_unset again q to = refl
 
+call_unset : (a : Admission) (c : RwLockCallPlace) → (call_profile a c).doing.sets ≡ false
+call_unset a (places.Plain p) = rwlock_unset (again_of p) p.purpose p.at
+call_unset a (places.Bump p) = rwlock_unset (again_of p) p.purpose p.at
+call_unset a (places.Glance x) = refl
+call_unset a (places.HandOver x b handing.Take) = refl
+call_unset a (places.HandOver x b (handing.Store k)) = refl
+call_unset a (places.HandOver x b (handing.Look k)) = refl
+call_unset a (places.HandOver x b (handing.Exchange k seen)) = refl
+call_unset a (places.HandOver x b (handing.Leave any given)) = refl
+call_unset a (places.HandOver x b to) = refl
+call_unset a (places.Handed x how b to) = refl
+
 -- no call that is built brings waiters
 pub sets_nothing : (p : Place) (l : ℕ) → (doing_on p l).sets ≡ false
 sets_nothing Idle l = refl
@@ -63,10 +80,10 @@ sets_nothing (Mutex k at) l = either (k == l)
     either : (b : Bool) → (if b then mutex_doing at else idle).sets ≡ false
     either true = refl
     either false = refl
-sets_nothing (RwLock k a p) l = either (k == l)
+sets_nothing (RwLock k a c) l = either (k == l)
   where
-    either : (b : Bool) → (if b then rwlock_doing p else idle).sets ≡ false
-    either true = rwlock_unset (again_of p) p.purpose p.at
+    either : (b : Bool) → (if b then (call_profile a c).doing else idle).sets ≡ false
+    either true = call_unset a c
     either false = refl
 
 pub first_out : (t : ℕ) (q : List Waiter) → Lines.times t q ≡ 0 → locks.is_thread t (Lines.first_of q) ≡ 0

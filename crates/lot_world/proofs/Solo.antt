@@ -35,7 +35,7 @@ use Rattle.lot_steps.specs.declared.places.Place.{Place}
 use Rattle.lot_steps.specs.declared.places.Place.TheVariants.{Idle, Mutex, RwLock}
 use Rattle.lot_acts.specs.Acts.{outcome_of}
 use Rattle.lot_mutex.specs.MutexSteps.{mutex_first, is_locked, is_parked, entered, looked, hand_off_word, in_unlock}
-use Rattle.lot_calls.specs.Kinds.{is_fair}
+use Rattle.lot_calls.specs.Kinds.{is_built, is_fair}
 use Rattle.lot_calls.specs.Calls.{lock_in}
 use Rattle.lot_steps.specs.Steps.{act_of, next_place, next_act, mutex_goes, mutex_does, lock_of, first_place}
 use Rattle.lot_machine.specs.Machine.{State, place_at, word_at, kind_at, queue_at, section_at, go_of, after, solo, owners_handed_over, is_there}
@@ -44,7 +44,7 @@ use Rattle.lot_world.specs.MutexPromises.{IsMutexWord}
 use Rattle.abstract_locks.specs.Sites.{Line, Main, Second, Site, has_readers}
 use Rattle.lot_world.specs.MutexDeeds.{acts, takes, queued}
 use Rattle.lot_world.specs.Stations.{station, station_at, Station, hand}
-use Rattle.lot_world.specs.SitesOf.{IsSteady, key_of, FitsItsLock, is_mutex, Goes, hand_at}
+use Rattle.lot_world.specs.SitesOf.{IsSteady, key_of, FitsItsLock, is_mutex, Goes, hand_at, rules_in}
 use Rattle.lot_world.proofs.ExclusiveOwners.{by_code, owner_after}
 use Rattle.abstract_locks.specs.Locks.{readers, Rules, MayEnter, IsBlocked, first_thread}
 use Rattle.abstract_locks.specs.Purposes.{rules_of, purpose_of, rwlock_purpose, Releases, Bumps, Patience, Patient, Timed, Try, mutex_purpose}
@@ -74,7 +74,11 @@ use Rattle.lot_world.proofs.LineSolo.{StepsAlone}
 use Rattle.lot_world.proofs.RwLockSolo.{rwlock_rests, word_small, is_ready}
 use Rattle.lot_world.proofs.RwLockEnds.{rwlock_alone}
 use Rattle.lot_world.proofs.WorldRuns.{holds_of, solo_runs}
-use Rattle.lot_rwlock.specs.RwLockBegins.{admission_of, rwlock_first}
+use Rattle.lot_rwlock.specs.RwLockBegins.{admission_of}
+use Rattle.lot_rwlock_fair.specs.declared.places.RwLockCallPlace.{RwLockCallPlace}
+use Rattle.lot_rwlock_fair.specs.declared.places.RwLockCallPlace.TheVariants.{Plain}
+use Rattle.lot_rwlock_fair.specs.FairBegins.{call_first}
+use Rattle.lot_world.proofs.RwLockKept.{admits_by}
 use Rattle.lot_world.proofs.AtPlaces.{coded as words_coded, coded_for, rules_for, absent, owns}
 use Rattle.lot_world.proofs.SoloActs.{Leads, leads_rest, leads_step, leads_more, leads_so, Facing, Faces, word_faces, enter_faces, leave_faces, wake_faces, hand_faces, accept_faces, park_faces, unparked_faces, remove_faces, take_faces, act_led}
 
@@ -408,11 +412,11 @@ module _ (w : State) (t : ℕ) (shape : IsShaped w) (steady : IsSteady w) (there
   at_first l p is own outside lt = subst (λ s. Facing w t l p (word_at w l) (owner_at w l) s (queue_at w (2 * l))) (free l p is own outside (section_at w (2 * l)) refl) (facing l p is lt)
 
   -- at a place of a reader-writer lock
-  admitted : (l : ℕ) (a : Admission) (p : RwLockPlace) → place_at w t ≡ RwLock l a p → FitsItsLock w (RwLock l a p)
+  admitted : (l : ℕ) (a : Admission) (p : RwLockPlace) → place_at w t ≡ RwLock l a (Plain p) → FitsItsLock w (RwLock l a (Plain p))
   admitted l a p is = subst (FitsItsLock w) is (steady.stands.calls t)
 
-  steps_alone : (l : ℕ) (a : Admission) (p : RwLockPlace) → place_at w t ≡ RwLock l a p → l < length w.locks → StepsAlone w t l (RwLock l a p) (word_at w l) (λ m. queue_at w (key_of l m))
-  steps_alone l a p is lt = record {
+  steps_alone : (l : ℕ) (a : Admission) (c : RwLockCallPlace) → has_readers (rules_in w l).sort ≡ true → place_at w t ≡ RwLock l a c → l < length w.locks → StepsAlone w t l (RwLock l a c) (word_at w l) (λ m. queue_at w (key_of l m))
+  steps_alone l a c readers is lt = record {
     shape = shape;
     steady = steady;
     thread = there;
@@ -425,7 +429,7 @@ module _ (w : State) (t : ℕ) (shape : IsShaped w) (steady : IsSteady w) (there
     where
       line : (m : Line) → HasLine (rules_of (kind_at w l)).sort m
       line Main = tt
-      line Second = (admitted l a p is).0.0
+      line Second = readers
 
   place_rests : (p : Place) → place_at w t ≡ p → PlaceFits (length w.locks) p → p ≢ Idle → act_of p ≢ act.TheVariants.Sleep → Leads 12 w t (λ v x. Rests x)
   place_rests Idle is fits busy up = absurd (busy refl)
@@ -437,7 +441,8 @@ module _ (w : State) (t : ℕ) (shape : IsShaped w) (steady : IsSteady w) (there
   place_rests (Mutex l UnlockFair) is fits busy up = fair_rests t l 11 false (first_of (queue_at w (2 * l))) (drop 1 (queue_at w (2 * l))) w (omega arith) (unlock_fair_leads t l (queue_at w (2 * l)) (word_at w l) (owner_at w l) w (at_first l (Mutex l UnlockFair) is refl refl fits.0))
   place_rests (Mutex l Bump) is fits busy up = fair_rests t l 11 true (first_of (queue_at w (2 * l))) (drop 1 (queue_at w (2 * l))) w (omega arith) (bump_leads t l (queue_at w (2 * l)) (word_at w l) (owner_at w l) w (at_first l (Mutex l Bump) is refl refl fits.0))
   place_rests (Mutex l (HandOff bumps a)) is fits busy up = hand_off_rests t l bumps a (word_at w l) (owner_at w l) (section_at w (2 * l)) (queue_at w (2 * l)) w (facing l (Mutex l (HandOff bumps a)) is fits.0) (λ outside. free l (Mutex l (HandOff bumps a)) is refl outside (section_at w (2 * l)) refl)
-  place_rests (RwLock l a p) is fits busy up = leads_more 11 12 w t (λ v x. Rests x) (omega arith) (rwlock_rests t l a p (word_at w l) w (λ m. queue_at w (key_of l m)) (word_small w l steady (admitted l a p is).0.0) (is_ready t l a p (admitted l a p is).1 up) (steps_alone l a p is fits))
+  place_rests (RwLock l a (Plain p)) is fits busy up = leads_more 11 12 w t (λ v x. Rests x) (omega arith) (rwlock_rests t l a p (word_at w l) w (λ m. queue_at w (key_of l m)) (word_small w l steady (admitted l a p is).0.0) (is_ready t l a p (admitted l a p is).1 up) (steps_alone l a (Plain p) (admitted l a p is).0.0 is fits))
+  place_rests (RwLock l a c) is fits busy up = absurd (subst (FitsItsLock w) is (steady.stands.calls t))
 
   -- a call under way ends or sleeps
   pub solo_rests : IsUnderWay w t → (n : ℕ) (last : Outcome) → 12 ≤ n → Rests (solo n w t last).outcome
@@ -536,22 +541,23 @@ module _ (w : State) (t : ℕ) (shape : IsShaped w) (steady : IsSteady w) (there
       fits : PlaceFits (length w.locks) (Mutex l (mutex_first (is_fair (kind_at w l)) c))
       fits = subst (PlaceFits (length w.locks)) is (shape.places t)
 
-  pub rwlock_ends : (l : ℕ) (c : RwLockCall) → place_at w t ≡ RwLock l (admission_of (kind_at w l)) (rwlock_first c)
+  pub rwlock_ends : (l : ℕ) (c : RwLockCall) → place_at w t ≡ RwLock l (admission_of (kind_at w l)) (call_first c)
       → EndsAlone w t (purpose_at (locks_of w) (call.TheVariants.RwLock l c)) (solo 64 w t outcome.TheVariants.NotNow).outcome (solo 64 w t outcome.TheVariants.NotNow).state
-  rwlock_ends l c is = by_kind (kind_at w l)
+  rwlock_ends l c is = by_kind (kind_at w l) refl
     where
       fits : l < length w.locks
       fits = subst (PlaceFits (length w.locks)) is (shape.places t)
 
-      ends : EndsAlone w t (Some (rwlock_purpose l c)) (solo 64 w t outcome.TheVariants.NotNow).outcome (solo 64 w t outcome.TheVariants.NotNow).state
-      ends = rwlock_alone w t l (admission_of (kind_at w l)) c 64 outcome.TheVariants.NotNow (omega arith) steady (admitted l (admission_of (kind_at w l)) (rwlock_first c) is).0 is (steps_alone l (admission_of (kind_at w l)) (rwlock_first c) is fits) (solo_runs w t (holds_of w shape steady))
+      ends : has_readers (rules_in w l).sort ≡ true → (b : Bool) → is_built c ≡ b → EndsAlone w t (if b then Some (rwlock_purpose l c) else None) (solo 64 w t outcome.TheVariants.NotNow).outcome (solo 64 w t outcome.TheVariants.NotNow).state
+      ends readers true built = rwlock_alone w t l (admission_of (kind_at w l)) c 64 outcome.TheVariants.NotNow built (omega arith) steady (admits_by (kind_at w l) readers) is (steps_alone l (admission_of (kind_at w l)) (call_first c) readers is fits) (solo_runs w t (holds_of w shape steady))
+      ends readers false built = tt
 
-      by_kind : (k : Kind) → EndsAlone w t (purpose_of k (call.TheVariants.RwLock l c)) (solo 64 w t outcome.TheVariants.NotNow).outcome (solo 64 w t outcome.TheVariants.NotNow).state
-      by_kind kinds.Mutex = tt
-      by_kind kinds.Fair = tt
-      by_kind (kinds.RwLock limit) = ends
-      by_kind (kinds.Recursive limit) = ends
-      by_kind k = tt
+      by_kind : (k : Kind) → kind_at w l ≡ k → EndsAlone w t (purpose_of k (call.TheVariants.RwLock l c)) (solo 64 w t outcome.TheVariants.NotNow).outcome (solo 64 w t outcome.TheVariants.NotNow).state
+      by_kind kinds.Mutex e = tt
+      by_kind kinds.Fair e = tt
+      by_kind (kinds.RwLock limit) e = ends (ap (λ k. has_readers (rules_of k).sort) e) (is_built c) refl
+      by_kind (kinds.Recursive limit) e = ends (ap (λ k. has_readers (rules_of k).sort) e) (is_built c) refl
+      by_kind k e = tt
 
 -- ---------------------------------------------------------------- as the world is told them
 
@@ -562,7 +568,7 @@ stands_there (x ∷ xs) (suc t) busy = let ih : t < length xs = stands_there xs 
 
 first_busy : (k : Kind) (c : Call) (p : Place) → p ≡ first_place k c → p ≢ Idle
 first_busy k (call.TheVariants.Mutex l c) p is idle = let e : Mutex l (mutex_first (is_fair k) c) ≡ Idle = sym is ∙ idle in cc
-first_busy k (call.TheVariants.RwLock l c) p is idle = let e : RwLock l (admission_of k) (rwlock_first c) ≡ Idle = sym is ∙ idle in cc
+first_busy k (call.TheVariants.RwLock l c) p is idle = let e : RwLock l (admission_of k) (call_first c) ≡ Idle = sym is ∙ idle in cc
 
 module _ (w : State) (t : ℕ) (shape : IsShaped w) (steady : IsSteady w) where
   pub rests_alone : IsUnderWay w t → HasItsWay w t → Rests (solo 64 w t outcome.TheVariants.NotNow).outcome

@@ -1,16 +1,18 @@
 -- Who owes a wake on a line, by what has happened: from the step that saw waiters, or from entering the section, until the section is left.
-use Rattle.std.specs.Prelude.{ℕ, Bool, true, if◌then◌else◌, ◌==◌, ◌&&◌, Option, Some, ◌≡◌, ◌≢◌, ◌⊎◌, ◌↔◌}
+use Rattle.std.specs.Prelude.{ℕ, Bool, true, false, if◌then◌else◌, ◌==◌, ◌&&◌, ◌||◌, Option, Some, ◌≡◌, ◌≢◌, ◌⊎◌, ◌↔◌}
 use Rattle.lot_base.specs.declared.wants.Want.TheVariants.{Exclusive, Shared}
 use Rattle.lot_calls.specs.declared.outcomes.Outcome.{Outcome}
 use Rattle.lot_calls.specs.declared.outcomes.Outcome.TheVariants as told
-use Rattle.lot_steps.specs.Steps.{line_owed}
+use Rattle.lot_base.specs.declared.keys.Keys.TheVariants.{One}
+use Rattle.lot_acts.specs.declared.acts.Act.TheVariants.{Enter}
+use Rattle.lot_steps.specs.Steps.{act_of, line_owed}
 use Rattle.lot_machine.specs.Machine.{State, place_at, word_at, section_at}
 use Rattle.lot_world.specs.Refinement.{call_at}
 use Rattle.lot_world.specs.SitesOf.{rules_in, key_of}
 use Rattle.abstract_locks.specs.Codes.{parked_in, aside_in, count_in}
 use Rattle.abstract_locks.specs.Locks.{Sort}
 use Rattle.abstract_locks.specs.Sites.{Line, Main, Second, has_readers}
-use Rattle.abstract_locks.specs.Purposes.{Purpose, Releases, Converts, IsReleasing}
+use Rattle.abstract_locks.specs.Purposes.{Purpose, Releases, Converts, Bumps, IsReleasing}
 
 abbrev pub sort_at : State → ℕ → Sort
 sort_at w l = (rules_in w l).sort
@@ -45,6 +47,7 @@ LetsOthersIn w t l =
 -- the line that it lets in: who shares a lock looks for the writer aside, everybody else to the main line
 abbrev pub line_let_in : Sort → Option Purpose → Line
 line_let_in sort (Some (Releases l Shared fair)) = if has_readers sort then Second else Main
+line_let_in sort (Some (Bumps l Shared)) = if has_readers sort then Second else Main
 line_let_in sort purpose = Main
 
 -- whether a word says that somebody may wait in a line: its parked bit is set, and for the second line one reader is left
@@ -52,13 +55,29 @@ abbrev pub tells_of : Sort → Line → ℕ → Bool
 tells_of sort Main v = parked_in sort v
 tells_of sort Second v = aside_in sort v && (count_in v == 1)
 
--- a call that lets others in finds a word that says that somebody may wait, and goes on
-abbrev pub SeesWaiters : State → ℕ → ℕ → Line → Outcome → Type 0
-SeesWaiters w t l m o =
+-- an owner that is to hand its lock over leaves it at once only where its word has no other bit
+abbrev pub tells_by : Sort → Option Purpose → Line → ℕ → Bool
+tells_by sort (Some (Releases l Exclusive true)) Main v = parked_in sort v || aside_in sort v
+tells_by sort (Some (Bumps l Exclusive)) Main v = parked_in sort v || aside_in sort v
+tells_by sort purpose m v = tells_of sort m v
+
+-- a bump, or a fair release of an upgradable right, looks at the word before it gives its right up
+abbrev pub LooksFirst : Option Purpose → ℕ → Type 0
+LooksFirst (Some (Releases k x fair)) l = (k ≡ l) × (fair ≡ true) × (x ≢ Exclusive)
+LooksFirst (Some (Bumps k x)) l = (k ≡ l) × (x ≢ Exclusive)
+LooksFirst purpose l = ⊥
+
+abbrev pub OnlyLooks : State → ℕ → ℕ → Type 0
+OnlyLooks w t l = LooksFirst (call_at w t).purpose l × ((call_at w t).released ≡ false)
+
+-- a call that lets others in finds a word that says that somebody may wait, and goes on; where it only looked, into the section of the line
+abbrev pub SeesWaiters : State → ℕ → ℕ → Line → Outcome → State → Type 0
+SeesWaiters w t l m o v =
     LetsOthersIn w t l × (line_let_in (sort_at w l) (call_at w t).purpose ≡ m)
-    × (tells_of (sort_at w l) m (word_at w l) ≡ true) × (o ≡ told.Step)
+    × (tells_by (sort_at w l) (call_at w t).purpose m (word_at w l) ≡ true) × (o ≡ told.Step)
+    × (OnlyLooks v t l → act_of (place_at v t) ≡ Enter (One (key_of l m)))
 
 -- in a step from w to v its thread begins and ends to owe by what it sees and where it is, and no other thread does
 pub record OwesSince (w : State) (t : ℕ) (o : Outcome) (v : State) : Type 0 where
-  pub own : (l : ℕ) (m : Line) → o ≢ told.NotNow → Owes v t l m ↔ (IsInside v t l m ⊎ SeesWaiters w t l m o)
+  pub own : (l : ℕ) (m : Line) → o ≢ told.NotNow → Owes v t l m ↔ (IsInside v t l m ⊎ SeesWaiters w t l m o v)
   pub others : (u l : ℕ) → u ≢ t → line_owed (place_at v u) l ≡ line_owed (place_at w u) l

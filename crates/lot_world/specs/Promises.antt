@@ -3,13 +3,13 @@
 use Rattle.std.specs.Prelude.{ℕ, Bool, false, true, None, Option, ◌≡◌, ◌≢◌, ◌<◌, ◌≤◌, ◌⊎◌, ◌↔◌, Some, ◌*◌, ◌+◌}
 use Rattle.lot_base.specs.declared.keys.Keys.TheVariants.{One}
 use Rattle.lot_base.specs.declared.wants.Want.{Want}
-use Rattle.lot_base.specs.declared.wants.Want.TheVariants.{Exclusive, Upgradable}
+use Rattle.lot_base.specs.declared.wants.Want.TheVariants.{Exclusive, Upgradable, Shared}
 use Rattle.lot_acts.specs.declared.acts.Act.TheVariants.{Enter, Leave, Sleep}
 use Rattle.lot_acts.specs.declared.acts.Wakes as wakes
 use Rattle.lot_base.specs.declared.notes.Note.TheVariants.{HandOff}
 use Rattle.lot_steps.specs.Steps.{act_of, taker, retries_on}
 use Rattle.lot_machine.specs.Machine.{State, place_at, word_at, filled_at, section_at}
-use Rattle.abstract_locks.specs.Locks.{LockState, Sort, Recursive, Semaphore, Rules, Knows, times, standing, readers, count, Owns}
+use Rattle.abstract_locks.specs.Locks.{LockState, Sort, Recursive, Semaphore, Rules, Knows, IsSomePending, times, standing, readers, count, Owns}
 use Rattle.abstract_locks.specs.Codes.{word_by, parked_in, aside_in}
 use Rattle.abstract_locks.specs.Runs.{AreLockStates}
 use Rattle.abstract_locks.specs.Sites.{Line, Main, Second, IsOpen, counts_some, has_readers}
@@ -42,9 +42,16 @@ IsAboutToMark w t l = (doing_on (place_at w t) l).sets ≡ true
 
 -- ---------------------------------------------------------------- debts
 
+-- a bump of a shared right, which wakes the writer aside behind its release
+abbrev pub WakesAside : Option Purpose → ℕ → Line → Type 0
+WakesAside purpose l Main = ⊥
+WakesAside (Some (Bumps k Shared)) l Second = k ≡ l
+WakesAside purpose l Second = ⊥
+
 -- a call that lets others in, and enters the section of the line next
 abbrev pub GoesToWake : State → ℕ → ℕ → Line → Type 0
-GoesToWake w t l m = (act_of (place_at w t) ≡ Enter (One (key_of l m))) × LetsOthersIn w t l
+GoesToWake w t l m =
+    (act_of (place_at w t) ≡ Enter (One (key_of l m))) × (LetsOthersIn w t l ⊎ WakesAside (call_at w t).purpose l m)
 
 -- a call that wakes whom it takes of the main line: a release that hands nothing over, a conversion that lets others in, or a writer
 -- beside readers that has given up
@@ -104,11 +111,17 @@ pub record NobodyForgotten (w : State) : Type 0 where
 abbrev pub IsAsleepNowhere : State → ℕ → Type 0
 IsAsleepNowhere w t = (act_of (place_at w t) ≡ Sleep) × ((l : ℕ) → standing t (lock_state w l) ≡ 0)
 
--- it owns a lock, and the thread inside the section has it in its hand, and wakes all whom it has there as it leaves
+-- it owns what it waited for; a writer of a lock that is shared may be pending
+abbrev pub HasOrPends : Sort → LockState → ℕ → Want → Type 0
+HasOrPends sort s t x = Owns s t x ⊎ ((x ≡ Exclusive) × (has_readers sort ≡ true) × IsSomePending s.pending t)
+
+-- it has what it waited for, and the thread inside the section has it in its hand, and wakes all whom it has there as it leaves
 pub record IsHandedOver (w : State) (t : ℕ) : Type 0 where
   pub lock : ℕ
   pub by : ℕ
-  pub owner : Owns (lock_state w lock) t Exclusive
+  pub want : Want
+  pub waited : MayWait (call_at w t).purpose lock × (want_of (call_at w t).purpose ≡ Some want)
+  pub owner : HasOrPends (sort_at w lock) (lock_state w lock) t want
   pub inside : section_at w (2 * lock) ≡ Some by
   pub in_hand : taker (place_at w t) ≡ Some by
   pub wakes : act_of (place_at w by) ≡ Leave (One (2 * lock)) (wakes.TheVariants.All HandOff)

@@ -16,6 +16,7 @@ use Rattle.lot_calls.specs.declared.kinds.Kind.{Kind}
 use Rattle.lot_calls.specs.declared.kinds.Kind as kind
 use Rattle.lot_rwlock.specs.RwLockDeeds.{Admits}
 use Rattle.lot_rwlock.specs.RwLockCalls.{MayStand}
+use Rattle.lot_rwlock_fair.specs.declared.places.RwLockCallPlace.TheVariants.{Plain}
 use Rattle.lot_world.specs.MutexDeeds.{Act}
 use Rattle.lot_world.specs.Stations.{Hand, hand, station_at, doing_on}
 
@@ -103,11 +104,12 @@ is_mutex kind.TheVariants.Mutex = true
 is_mutex kind.TheVariants.Fair = true
 is_mutex k = false
 
--- a call is of a lock of its sort, and stands where it may
+-- a call is of a lock of its sort, and stands where it may; no call of a world hands a reader-writer lock over yet
 abbrev pub FitsItsLock : State → Place → Type 0
 FitsItsLock w Idle = Unit {0}
 FitsItsLock w (OfMutex l at) = is_mutex (kind_at w l) ≡ true
-FitsItsLock w (OfRwLock l a at) = Admits (rules_in w l) a × MayStand a at
+FitsItsLock w (OfRwLock l a (Plain p)) = Admits (rules_in w l) a × MayStand a p
+FitsItsLock w (OfRwLock l a at) = ⊥
 
 pub record Stands (w : State) : Type 0 where
   pub sections : Sections (place_at w) (section_at w)

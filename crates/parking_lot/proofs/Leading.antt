@@ -8,9 +8,9 @@ use Rattle.lot_base.specs.declared.ops.Op.TheVariants.{Load, And, Exchange}
 use Rattle.lot_mutex.specs.MutexSteps.{mutex_act, mutex_looking, lock_act, unlock_act, decided}
 use Rattle.lot_calls.specs.declared.outcomes.Answer.{Answer}
 use Rattle.lot_calls.specs.declared.outcomes.OnceState.{OnceState}
-use Rattle.lot_rwlock.specs.RwLockProfiles.{rwlock_looking}
-use Rattle.lot_rwlock.specs.RwLockSteps.{rwlock_act}
-use Rattle.lot_rwlock.specs.declared.places.RwLockPlace.{RwLockPlace}
+use Rattle.lot_rwlock_fair.specs.FairProfiles.{call_looking}
+use Rattle.lot_rwlock_fair.specs.FairSteps.{call_act}
+use Rattle.lot_rwlock_fair.specs.declared.places.RwLockCallPlace.{RwLockCallPlace}
 use Rattle.lot_steps.specs.Steps.{act_of, late_key, in_mutex, in_rwlock, next_act, next_place}
 use Rattle.lot_acts.specs.declared.acts.Act.{Act}
 use Rattle.lot_acts.specs.declared.acts.Act as act
@@ -226,10 +226,10 @@ both_words kinds at kinds2 at2 a b = ap (λ (k : ℕ → WordKind). (k, at)) a �
 
 pub places_lead : (up : Type 0) → PlacesLead up
 places_lead up kinds at base Idle st words f = absurd f
-places_lead up kinds at base (RwLock n a p) st words f =
-    subst (λ (k : (ℕ → WordKind) × (ℕ → ℕ)). ActNeeds k.0 k.1 st (rwlock_act n a p) × Looks up base (RwLock n a p) st
-    × ((reply : Reply) (new : Stage) → Became up k.0 k.1 (sleeper_at (RwLock n a p)) st (rwlock_act n a p) reply new → Reached up base (RwLock n a p) reply new))
-    (sym (both_words kinds at rwlocks (at_rwlock n) words.1 words.2)) (rwlock_place_leads up n a base p st f)
+places_lead up kinds at base (RwLock n a c) st words f =
+    subst (λ (k : (ℕ → WordKind) × (ℕ → ℕ)). ActNeeds k.0 k.1 st (call_act n a c) × Looks up base (RwLock n a c) st
+    × ((reply : Reply) (new : Stage) → Became up k.0 k.1 (sleeper_at (RwLock n a c)) st (call_act n a c) reply new → Reached up base (RwLock n a c) reply new))
+    (sym (both_words kinds at rwlocks (at_rwlock n) words.1 words.2)) (rwlock_place_leads up n a base c st f)
 places_lead up kinds at base (Mutex n p) st words f =
     subst (λ (k : (ℕ → WordKind) × (ℕ → ℕ)). ActNeeds k.0 k.1 st (mutex_act n p) × Looks up base (Mutex n p) st
     × ((reply : Reply) (new : Stage) → Became up k.0 k.1 (sleeper_at (Mutex n p)) st (mutex_act n p) reply new → Reached up base (Mutex n p) reply new))
@@ -243,9 +243,9 @@ fits_from up kinds at base p q st (inr is) words fits = (places_lead up kinds at
 pub words_from : (kinds : ℕ → WordKind) (at : ℕ → ℕ) (p q : Place) → GoesFrom p q → AreWordsFor p kinds at → AreWordsFor q kinds at
 words_from kinds at p q (inl same) words = subst (λ r. AreWordsFor r kinds at) (sym same) words
 words_from kinds at Idle q (inr is) words = absurd cc
-words_from kinds at (RwLock l a p) q (inr is) words = by_place (rwlock_looking a p) is
+words_from kinds at (RwLock l a p) q (inr is) words = by_place (call_looking a p) is
   where
-    by_place : (o : Option RwLockPlace) → in_rwlock l a o ≡ Some q → AreWordsFor q kinds at
+    by_place : (o : Option RwLockCallPlace) → in_rwlock l a o ≡ Some q → AreWordsFor q kinds at
     by_place None e = absurd cc
     by_place (Some p2) e = let there : RwLock l a p2 ≡ q = cc in subst (λ r. AreWordsFor r kinds at) there words
 words_from kinds at (Mutex l p) q (inr is) words = by_place (mutex_looking p) is

@@ -13,8 +13,6 @@ use Rattle.lot_calls.specs.declared.calls.Downgrade.{Downgrade}
 use Rattle.lot_calls.specs.declared.calls.Downgrade.TheVariants as downgrade
 use Rattle.lot_calls.specs.declared.calls.Patience.{Patience}
 use Rattle.lot_calls.specs.declared.calls.Patience.TheVariants.{Patient, Timed, Try}
-use Rattle.lot_calls.specs.declared.calls.RwLockCall.{RwLockCall}
-use Rattle.lot_calls.specs.declared.calls.RwLockCall.TheVariants as call
 use Rattle.lot_calls.specs.declared.outcomes.Answer.{Answer}
 use Rattle.lot_calls.specs.declared.outcomes.Answer.TheVariants.{Ok}
 use Rattle.abstract_locks.specs.Codes.{count_in, has_aside, has_parked}
@@ -25,7 +23,7 @@ use Rattle.lot_acts.specs.declared.acts.Next.TheVariants.{At, End}
 use Rattle.lot_acts.specs.declared.acts.Reply.TheVariants.{Value}
 use Rattle.lot_rwlock.proofs.RwLockOpenings.{rwlock_calls_open}
 use Rattle.lot_rwlock.proofs.RwLockStands.{rwlock_calls_stand}
-use Rattle.lot_rwlock.specs.RwLockBegins.{purpose_for, rwlock_first}
+use Rattle.lot_rwlock.specs.RwLockBegins.{rwlock_first}
 use Rattle.lot_rwlock.specs.RwLockCalls.{MayBeTold, MayStandNext}
 use Rattle.lot_rwlock.specs.RwLockDeeds.{kept_claim, rwlock_doing}
 use Rattle.lot_rwlock.specs.RwLockProfiles.{is_late, late_at, rwlock_profile}
@@ -51,30 +49,30 @@ use Rattle.parking_lot.specs.Stages.{Stage, Stepped}
 use Rattle.parking_lot.proofs.RwLockLeads.{Comes, Kept, leads_at}
 use Rattle.parking_lot.proofs.RwLockNeeds.{has_right}
 
-pub begins_with : (l : ℕ) (a : Admission) (c : RwLockCall) → act_of (rwlock_begin l a c) ≡ act.Word l (first_op c)
-begins_with l a (call.Enter access.Shared how) = refl
-begins_with l a (call.Enter access.Upgradable how) = refl
-begins_with l a (call.Enter access.Exclusive how) = refl
-begins_with l a (call.Release x) = refl
-begins_with l a (call.Downgrade d) = refl
-begins_with l a (call.Upgrade Try) = refl
-begins_with l a (call.Upgrade Patient) = refl
-begins_with l a (call.Upgrade Timed) = refl
+pub begins_with : (l : ℕ) (a : Admission) (c : RwLockPurpose) → act_of (rwlock_begin l a c) ≡ act.Word l (first_op c)
+begins_with l a (purpose.Enter access.Shared how) = refl
+begins_with l a (purpose.Enter access.Upgradable how) = refl
+begins_with l a (purpose.Enter access.Exclusive how) = refl
+begins_with l a (purpose.Release x) = refl
+begins_with l a (purpose.Downgrade d) = refl
+begins_with l a (purpose.Upgrade Try) = refl
+begins_with l a (purpose.Upgrade Patient) = refl
+begins_with l a (purpose.Upgrade Timed) = refl
 
 -- who has the right that its call needs may take the first step
-pub may_begin : (l : ℕ) (c : RwLockCall) (base owns : List Ownership) → BeginsWith l c base owns → MayStep kinds.RwLock (rwlock_at l) (first_op c) owns
-may_begin l (call.Enter access.Shared how) base owns b = (rwlock_steps (rwlock_at l) owns).load
-may_begin l (call.Enter access.Upgradable how) base owns b = (rwlock_steps (rwlock_at l) owns).load
-may_begin l (call.Enter access.Exclusive how) base owns b = (rwlock_steps (rwlock_at l) owns).write_alone
-may_begin l (call.Release access.Shared) base owns b = (rwlock_steps (rwlock_at l) owns).leave_shared (has_right l owners.Shared base owns b)
-may_begin l (call.Release access.Upgradable) base owns b = (rwlock_steps (rwlock_at l) owns).leave_upgradable (has_right l owners.Upgradable base owns b)
-may_begin l (call.Release access.Exclusive) base owns b = (rwlock_steps (rwlock_at l) owns).leave_exclusive (has_right l owners.Exclusive base owns b)
-may_begin l (call.Downgrade downgrade.ToShared) base owns b = (rwlock_steps (rwlock_at l) owns).downgrade (has_right l owners.Exclusive base owns b)
-may_begin l (call.Downgrade downgrade.ToUpgradable) base owns b = (rwlock_steps (rwlock_at l) owns).downgrade_to_upgradable (has_right l owners.Exclusive base owns b)
-may_begin l (call.Downgrade downgrade.UpgradableToShared) base owns b = (rwlock_steps (rwlock_at l) owns).downgrade_upgradable (has_right l owners.Upgradable base owns b)
-may_begin l (call.Upgrade Try) base owns b = (rwlock_steps (rwlock_at l) owns).load
-may_begin l (call.Upgrade Patient) base owns b = (rwlock_steps (rwlock_at l) owns).upgrade (has_right l owners.Upgradable base owns b)
-may_begin l (call.Upgrade Timed) base owns b = (rwlock_steps (rwlock_at l) owns).upgrade (has_right l owners.Upgradable base owns b)
+pub may_begin : (l : ℕ) (c : RwLockPurpose) (base owns : List Ownership) → BeginsWith l c base owns → MayStep kinds.RwLock (rwlock_at l) (first_op c) owns
+may_begin l (purpose.Enter access.Shared how) base owns b = (rwlock_steps (rwlock_at l) owns).load
+may_begin l (purpose.Enter access.Upgradable how) base owns b = (rwlock_steps (rwlock_at l) owns).load
+may_begin l (purpose.Enter access.Exclusive how) base owns b = (rwlock_steps (rwlock_at l) owns).write_alone
+may_begin l (purpose.Release access.Shared) base owns b = (rwlock_steps (rwlock_at l) owns).leave_shared (has_right l owners.Shared base owns b)
+may_begin l (purpose.Release access.Upgradable) base owns b = (rwlock_steps (rwlock_at l) owns).leave_upgradable (has_right l owners.Upgradable base owns b)
+may_begin l (purpose.Release access.Exclusive) base owns b = (rwlock_steps (rwlock_at l) owns).leave_exclusive (has_right l owners.Exclusive base owns b)
+may_begin l (purpose.Downgrade downgrade.ToShared) base owns b = (rwlock_steps (rwlock_at l) owns).downgrade (has_right l owners.Exclusive base owns b)
+may_begin l (purpose.Downgrade downgrade.ToUpgradable) base owns b = (rwlock_steps (rwlock_at l) owns).downgrade_to_upgradable (has_right l owners.Exclusive base owns b)
+may_begin l (purpose.Downgrade downgrade.UpgradableToShared) base owns b = (rwlock_steps (rwlock_at l) owns).downgrade_upgradable (has_right l owners.Upgradable base owns b)
+may_begin l (purpose.Upgrade Try) base owns b = (rwlock_steps (rwlock_at l) owns).load
+may_begin l (purpose.Upgrade Patient) base owns b = (rwlock_steps (rwlock_at l) owns).upgrade (has_right l owners.Upgradable base owns b)
+may_begin l (purpose.Upgrade Timed) base owns b = (rwlock_steps (rwlock_at l) owns).upgrade (has_right l owners.Upgradable base owns b)
 
 -- what the first step came to
 abbrev pub ComesBegun : Type 0 → ℕ → List Ownership → Admission → RwLockPurpose → Next RwLockPlace → Stage → Type 0
@@ -137,14 +135,14 @@ module _ (up : Type 0) (l : ℕ) (a : Admission) (base : List Ownership) (st new
 
   module _ (room : a.limit < 2 ^ 60 - 1) where
     -- a call that enters, or tries to upgrade, begins at a place that fits
-    fits_first : (c : RwLockCall) → HasGivenWay (rwlock_first c).at → HasSeen (rwlock_first c).at → (rwlock_doing (rwlock_first c)).inside ≡ None → ((rwlock_profile a (rwlock_first c)).late ≡ true → up) → BeginsWith l c base st.owns → FitsRwLock up l base a (rwlock_first c) st
+    fits_first : (c : RwLockPurpose) → HasGivenWay (rwlock_first c).at → HasSeen (rwlock_first c).at → (rwlock_doing (rwlock_first c)).inside ≡ None → ((rwlock_profile a (rwlock_first c)).late ≡ true → up) → BeginsWith l c base st.owns → FitsRwLock up l base a (rwlock_first c) st
     fits_first c begun seen inside late owns = record {
       stands = (rwlock_calls_open a c).stands;
       room = room;
       begun = begun;
       seen = seen;
       owns = owns;
-      within = subst (λ (o : Option Line). IsWithin l a (purpose_for c) o (rwlock_doing (rwlock_first c)).carries st.inside) (sym inside) outside;
+      within = subst (λ (o : Option Line). IsWithin l a c o (rwlock_doing (rwlock_first c)).carries st.inside) (sym inside) outside;
       late = late;
     }
 
@@ -152,38 +150,38 @@ module _ (up : Type 0) (l : ℕ) (a : Admission) (base : List Ownership) (st new
     first_enters q (At p) same c = c
     first_enters q (End answer) same c = (c.0, same answer c.1)
 
-    pub begun_comes : (c : RwLockCall) → BeginsWith l c base st.owns → Step (first_op c) → ComesBegun up l base a (purpose_for c) (rwlock_next a (rwlock_first c) (Value seen)) new
-    begun_comes (call.Enter access.Exclusive how) owns b = first_enters (purpose.Enter access.Exclusive how) (rwlock_next a (rwlock_first (call.Enter access.Exclusive how)) (Value seen)) (λ answer h. h)
-        (leads_at up l a base (purpose.Enter access.Exclusive how) false st new at.First (fits_first (call.Enter access.Exclusive how) tt tt refl (λ e. never_late e) owns) (Value seen) b).0
-    begun_comes (call.Enter access.Shared how) owns b = first_enters (purpose.Enter access.Shared how) (rwlock_next a (rwlock_first (call.Enter access.Shared how)) (Value seen)) (λ answer h. h)
-        (leads_at up l a base (purpose.Enter access.Shared how) false st new at.Load (fits_first (call.Enter access.Shared how) tt tt refl (λ e. never_late e) owns) (Value seen) b).0
-    begun_comes (call.Enter access.Upgradable how) owns b = first_enters (purpose.Enter access.Upgradable how) (rwlock_next a (rwlock_first (call.Enter access.Upgradable how)) (Value seen)) (λ answer h. h)
-        (leads_at up l a base (purpose.Enter access.Upgradable how) false st new at.Load (fits_first (call.Enter access.Upgradable how) tt tt refl (λ e. never_late e) owns) (Value seen) b).0
-    begun_comes (call.Upgrade Try) owns b = first_enters (purpose.Upgrade Try) (rwlock_next a (rwlock_first (call.Upgrade Try)) (Value seen)) (λ answer h. h)
-        (leads_at up l a base (purpose.Upgrade Try) false st new at.Load (fits_first (call.Upgrade Try) tt tt refl (λ e. never_late e) owns) (Value seen) b).0
-    begun_comes (call.Upgrade Patient) owns b = gave_upgrade Patient owns b
-    begun_comes (call.Upgrade Timed) owns b = gave_upgrade Timed owns b
-    begun_comes (call.Release x) owns b = gave_release x owns b
-    begun_comes (call.Downgrade d) owns b = gave_downgrade d owns b
+    pub begun_comes : (c : RwLockPurpose) → BeginsWith l c base st.owns → Step (first_op c) → ComesBegun up l base a c (rwlock_next a (rwlock_first c) (Value seen)) new
+    begun_comes (purpose.Enter access.Exclusive how) owns b = first_enters (purpose.Enter access.Exclusive how) (rwlock_next a (rwlock_first (purpose.Enter access.Exclusive how)) (Value seen)) (λ answer h. h)
+        (leads_at up l a base (purpose.Enter access.Exclusive how) false st new at.First (fits_first (purpose.Enter access.Exclusive how) tt tt refl (λ e. never_late e) owns) (Value seen) b).0
+    begun_comes (purpose.Enter access.Shared how) owns b = first_enters (purpose.Enter access.Shared how) (rwlock_next a (rwlock_first (purpose.Enter access.Shared how)) (Value seen)) (λ answer h. h)
+        (leads_at up l a base (purpose.Enter access.Shared how) false st new at.Load (fits_first (purpose.Enter access.Shared how) tt tt refl (λ e. never_late e) owns) (Value seen) b).0
+    begun_comes (purpose.Enter access.Upgradable how) owns b = first_enters (purpose.Enter access.Upgradable how) (rwlock_next a (rwlock_first (purpose.Enter access.Upgradable how)) (Value seen)) (λ answer h. h)
+        (leads_at up l a base (purpose.Enter access.Upgradable how) false st new at.Load (fits_first (purpose.Enter access.Upgradable how) tt tt refl (λ e. never_late e) owns) (Value seen) b).0
+    begun_comes (purpose.Upgrade Try) owns b = first_enters (purpose.Upgrade Try) (rwlock_next a (rwlock_first (purpose.Upgrade Try)) (Value seen)) (λ answer h. h)
+        (leads_at up l a base (purpose.Upgrade Try) false st new at.Load (fits_first (purpose.Upgrade Try) tt tt refl (λ e. never_late e) owns) (Value seen) b).0
+    begun_comes (purpose.Upgrade Patient) owns b = gave_upgrade Patient owns b
+    begun_comes (purpose.Upgrade Timed) owns b = gave_upgrade Timed owns b
+    begun_comes (purpose.Release x) owns b = gave_release x owns b
+    begun_comes (purpose.Downgrade d) owns b = gave_downgrade d owns b
 
     -- the next place fits, or the call has ended rightly
     abbrev pub Begun : RwLockPurpose → Next RwLockPlace → Type 0
     Begun q (At p) = FitsRwLock up l base a p new × (p.purpose ≡ q)
     Begun q (End answer) = (new.inside ≡ None) × AnswersCall up l base a q answer new
 
-    pub begun : (c : RwLockCall) → BeginsWith l c base st.owns → Step (first_op c) → Begun (purpose_for c) (rwlock_next a (rwlock_first c) (Value seen))
+    pub begun : (c : RwLockPurpose) → BeginsWith l c base st.owns → Step (first_op c) → Begun c (rwlock_next a (rwlock_first c) (Value seen))
     begun c owns b = by_next (rwlock_next a (rwlock_first c) (Value seen)) (rwlock_calls_stand a (rwlock_first c) (Value seen) (rwlock_calls_open a c).stands (told c (fits (rwlock_at l) seen st.owns b.0))) (begun_comes c owns b)
       where
-        told : (c : RwLockCall) → seen < 2 ^ 64 → MayBeTold a (rwlock_first c) (rwlock_first c).at (Value seen)
-        told (call.Enter access.Exclusive how) s = s
-        told (call.Enter access.Shared how) s = s
-        told (call.Enter access.Upgradable how) s = s
-        told (call.Upgrade Try) s = s
-        told (call.Upgrade Patient) s = s
-        told (call.Upgrade Timed) s = s
-        told (call.Release x) s = s
-        told (call.Downgrade d) s = s
+        told : (c : RwLockPurpose) → seen < 2 ^ 64 → MayBeTold a (rwlock_first c) (rwlock_first c).at (Value seen)
+        told (purpose.Enter access.Exclusive how) s = s
+        told (purpose.Enter access.Shared how) s = s
+        told (purpose.Enter access.Upgradable how) s = s
+        told (purpose.Upgrade Try) s = s
+        told (purpose.Upgrade Patient) s = s
+        told (purpose.Upgrade Timed) s = s
+        told (purpose.Release x) s = s
+        told (purpose.Downgrade d) s = s
 
-        by_next : (n : Next RwLockPlace) → MayStandNext a n → ComesBegun up l base a (purpose_for c) n new → Begun (purpose_for c) n
+        by_next : (n : Next RwLockPlace) → MayStandNext a n → ComesBegun up l base a c n new → Begun c n
         by_next (At p) stands k = (record { stands = stands; room = room; begun = k.0.begun; seen = k.0.seen; owns = k.0.owns; within = k.0.within; late = k.0.late }, k.1)
         by_next (End answer) stands k = k

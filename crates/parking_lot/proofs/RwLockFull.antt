@@ -7,7 +7,6 @@ use Rattle.lot_calls.specs.declared.calls.Access.{Access}
 use Rattle.lot_calls.specs.declared.calls.Access.TheVariants as access
 use Rattle.lot_calls.specs.declared.calls.Patience.{Patience}
 use Rattle.lot_calls.specs.declared.calls.Patience.TheVariants.{Patient, Timed, Try}
-use Rattle.lot_calls.specs.declared.calls.RwLockCall.TheVariants.{Enter}
 use Rattle.lot_calls.specs.declared.outcomes.Answer.{Answer}
 use Rattle.lot_calls.specs.declared.outcomes.Answer.TheVariants.{ReadersFull}
 use Rattle.abstract_locks.specs.Codes.{count_in, has_aside, has_parked, is_blocked}
@@ -32,6 +31,12 @@ use Rattle.lot_rwlock.specs.declared.purposes.RwLockPurpose.{RwLockPurpose}
 use Rattle.lot_rwlock.specs.declared.purposes.RwLockPurpose.TheVariants as purpose
 use Rattle.lot_rwlock.specs.declared.release.WakeAt.{WakeAt}
 use Rattle.lot_rwlock.specs.declared.release.WakeAt.TheVariants as waking
+use Rattle.lot_rwlock_fair.specs.FairProfiles.{in_call}
+use Rattle.lot_rwlock_fair.specs.FairSteps.{call_act, call_next, given, handed_act, handed_by, handed_next, handed_woken, plain_next, unless_given, woken_with}
+use Rattle.lot_rwlock_fair.specs.declared.handed.HandedAt.{HandedAt}
+use Rattle.lot_rwlock_fair.specs.declared.handed.HandedAt.TheVariants as handed
+use Rattle.lot_rwlock_fair.specs.declared.places.RwLockCallPlace.{RwLockCallPlace}
+use Rattle.lot_rwlock_fair.specs.declared.places.RwLockCallPlace.TheVariants.{Plain, Glance, HandOver, Bump, Handed}
 use Rattle.lot_steps.specs.Steps.{in_rwlock, looking, next_act, next_place, rwlock_does, rwlock_goes}
 use Rattle.lot_steps.specs.declared.places.Place.{Place}
 use Rattle.lot_steps.specs.declared.places.Place.TheVariants.{Idle, Mutex, RwLock}
@@ -235,20 +240,88 @@ module _ (a : Admission) (how : Patience) where
   act_not_full : (l : ℕ) (p : RwLockPlace) → p.purpose ≡ writes → EndsNotFull (rwlock_act l a p)
   act_not_full l p e = subst (λ (q : RwLockPurpose). EndsNotFull (rwlock_act l a (record { purpose = q; retries = p.retries; at = p.at }))) (sym e) (act_there l p.retries p.at)
 
+  -- ---------------------------------------------------------------- who is handed the lock
+
+  abbrev IsWritingCall : RwLockCallPlace → Type 0
+  IsWritingCall (Plain p) = p.purpose ≡ writes
+  IsWritingCall (Handed x y b to) = (y ≡ how) × (b ≡ false)
+  IsWritingCall other = ⊥
+
+  abbrev KeepsCall : Next RwLockCallPlace → Type 0
+  KeepsCall (At c) = IsWritingCall c
+  KeepsCall (End answer) = IsNotFull answer
+
+  abbrev KeepsGiven : Option RwLockCallPlace → Type 0
+  KeepsGiven None = Unit {0}
+  KeepsGiven (Some c) = IsWritingCall c
+
+  taken_there : (to : RwLockAt) (by : ℕ) (alone : Bool) → KeepsGiven (handed_by false writes to by alone)
+  taken_there (at.Park (parking.Taken u)) by alone = (refl, refl)
+  taken_there to by alone = tt
+
+  slept_there : (to : RwLockAt) → KeepsGiven (woken_with false writes to)
+  slept_there (at.Park parking.Asleep) = refl
+  slept_there to = tt
+
+  given_there : (again : Bool) (to : RwLockAt) (told : Reply) → KeepsGiven (given false (of again to) told)
+  given_there again to (reply.HandedBy by alone) = taken_there to by alone
+  given_there again to (reply.Woken note.HandOff) = slept_there to
+  given_there again to told = tt
+
+  given_keeps : (p : RwLockPlace) (told : Reply) → p.purpose ≡ writes → KeepsGiven (given false p told)
+  given_keeps p told e = subst (λ (q : RwLockPurpose). KeepsGiven (given false (record { purpose = q; retries = p.retries; at = p.at }) told)) (sym e) (given_there p.retries p.at told)
+
+  plain_keeps : (o : Option RwLockCallPlace) (n : Next RwLockPlace) → KeepsGiven o → Keeps n → KeepsCall (unless_given o (plain_next n))
+  plain_keeps None (At p) g k = k
+  plain_keeps None (End answer) g k = k
+  plain_keeps (Some c) n g k = g
+
+  woken_keeps : (x : Access) (alone : Bool) → IsWritingCall (handed_woken x how false alone)
+  woken_keeps access.Exclusive true = (refl, refl)
+  woken_keeps access.Exclusive false = refl
+  woken_keeps access.Shared alone = (refl, refl)
+  woken_keeps access.Upgradable alone = (refl, refl)
+
+  handed_keeps : (x : Access) (to : HandedAt) (told : Reply) → KeepsCall (handed_next x how false to told)
+  handed_keeps x (handed.Asleep by alone) (reply.Woken note.HandOff) = woken_keeps x alone
+  handed_keeps x handed.Accept reply.Done = entered_not_full how
+  handed_keeps x handed.Accept (reply.Value seen) = entered_not_full how
+  handed_keeps x to told = (refl, refl)
+
+  call_keeps : (c : RwLockCallPlace) (told : Reply) → IsWritingCall c → KeepsCall (call_next a c told)
+  call_keeps (Plain p) told w = plain_keeps (given false p told) (rwlock_next a p told) (given_keeps p told w) (next_keeps p told w)
+  call_keeps (Handed x y b to) told w = subst (λ (z : Patience). KeepsCall (handed_next x z b to told)) (sym w.0) (subst (λ (d : Bool). KeepsCall (handed_next x how d to told)) (sym w.1) (handed_keeps x to told))
+  call_keeps (Bump p) told w = absurd w
+  call_keeps (Glance x) told w = absurd w
+  call_keeps (HandOver x b to) told w = absurd w
+
+  accepting_act : (l : ℕ) (x : Access) (to : HandedAt) → EndsNotFull (handed_act l x to)
+  accepting_act l x (handed.Asleep by alone) = tt
+  accepting_act l access.Exclusive handed.Accept = tt
+  accepting_act l access.Shared handed.Accept = tt
+  accepting_act l access.Upgradable handed.Accept = tt
+
+  call_not_full : (l : ℕ) (c : RwLockCallPlace) → IsWritingCall c → EndsNotFull (call_act l a c)
+  call_not_full l (Plain p) w = act_not_full l p w
+  call_not_full l (Handed x y b to) w = accepting_act l x to
+  call_not_full l (Bump p) w = absurd w
+  call_not_full l (Glance x) w = absurd w
+  call_not_full l (HandOver x b to) w = absurd w
+
   -- ---------------------------------------------------------------- a whole call
 
   abbrev IsWriting : Place → Type 0
   IsWriting Idle = Unit {0}
   IsWriting (Mutex l to) = ⊥
-  IsWriting (RwLock l b p) = (b ≡ a) × (p.purpose ≡ writes)
+  IsWriting (RwLock l b c) = (b ≡ a) × IsWritingCall c
 
   place_keeps : (p : Place) (told : Reply) → IsWriting p → IsWriting (next_place p told) × EndsNotFull (next_act p told)
   place_keeps Idle told w = (tt, tt)
   place_keeps (Mutex l to) told w = absurd w
-  place_keeps (RwLock l b p) told w = subst (λ (x : Admission). IsWriting (next_place (RwLock l x p) told) × EndsNotFull (next_act (RwLock l x p) told)) (sym w.0) (by_next (rwlock_next a p told) (next_keeps p told w.1))
+  place_keeps (RwLock l b c) told w = subst (λ (x : Admission). IsWriting (next_place (RwLock l x c) told) × EndsNotFull (next_act (RwLock l x c) told)) (sym w.0) (by_next (call_next a c told) (call_keeps c told w.1))
     where
-      by_next : (n : Next RwLockPlace) → Keeps n → IsWriting (rwlock_goes l a n) × EndsNotFull (rwlock_does l a n)
-      by_next (At r) k = ((refl, k), act_not_full l r k)
+      by_next : (n : Next RwLockCallPlace) → KeepsCall n → IsWriting (rwlock_goes l a n) × EndsNotFull (rwlock_does l a n)
+      by_next (At d) k = ((refl, k), call_not_full l d k)
       by_next (End answer) k = (tt, k)
 
   gone_keeps : (p r : RwLockPlace) (o : Option RwLockAt) → gone_to p o ≡ Some r → r.purpose ≡ p.purpose
@@ -258,22 +331,26 @@ module _ (a : Admission) (how : Patience) where
   looks_keep : (p q : Place) → looking p ≡ Some q → IsWriting p → IsWriting q
   looks_keep Idle q e w = absurd cc
   looks_keep (Mutex l to) q e w = absurd w
-  looks_keep (RwLock l b p) q e w = by_place (rwlock_looking b p) refl e
+  looks_keep (RwLock l b (Handed x y d to)) q e w = absurd cc
+  looks_keep (RwLock l b (Bump p)) q e w = absurd w.1
+  looks_keep (RwLock l b (Glance x)) q e w = absurd w.1
+  looks_keep (RwLock l b (HandOver x d to)) q e w = absurd w.1
+  looks_keep (RwLock l b (Plain p)) q e w = by_place (rwlock_looking b p) refl e
     where
-      by_place : (o : Option RwLockPlace) → rwlock_looking b p ≡ o → in_rwlock l b o ≡ Some q → IsWriting q
+      by_place : (o : Option RwLockPlace) → rwlock_looking b p ≡ o → in_rwlock l b (in_call false o) ≡ Some q → IsWriting q
       by_place None f is = absurd cc
-      by_place (Some r) f is = let there : RwLock l b r ≡ q = cc in subst IsWriting there (w.0, subst (λ (x : RwLockPurpose). r.purpose ≡ x) w.1 (gone_keeps p r (looking_at b p p.at) f))
+      by_place (Some r) f is = let there : RwLock l b (Plain r) ≡ q = cc in subst IsWriting there (w.0, subst (λ (x : RwLockPurpose). r.purpose ≡ x) w.1 (gone_keeps p r (looking_at b p p.at) f))
 
   path_keeps : (at : ℕ → ℕ) (p q : Place) (xs : List WordStep) → Path at p xs q → IsWriting p → IsWriting q
   path_keeps at p _ _ (here _) w = w
   path_keeps at p _ _ (on _ q xs ys told path tells) w = (place_keeps q told (path_keeps at p q xs path w)).0
   path_keeps at p r xs (looks _ q _ _ path is) w = looks_keep q r is (path_keeps at p q xs path w)
 
-  pub writes_not_full : (at : ℕ → ℕ) (l : ℕ) (old new : List WordStep) → Walks at (rwlock_begin l a (Enter access.Exclusive how)) old new ReadersFull → ⊥
-  writes_not_full at l old new w = subst EndsNotFull w.2.ends (place_keeps w.2.last w.2.reply (path_keeps at (rwlock_begin l a (Enter access.Exclusive how)) w.2.last w.2.before w.2.path (refl, refl))).1
+  pub writes_not_full : (at : ℕ → ℕ) (l : ℕ) (old new : List WordStep) → Walks at (rwlock_begin l a writes) old new ReadersFull → ⊥
+  writes_not_full at l old new w = subst EndsNotFull w.2.ends (place_keeps w.2.last w.2.reply (path_keeps at (rwlock_begin l a writes) w.2.last w.2.before w.2.path (refl, refl))).1
 
 -- so who finds a lock full of readers is counted with them
-pub counted_only : (x : Access) (how : Patience) (l : ℕ) (a : Admission) (old new : List WordStep) → Walks (at_rwlock l) (rwlock_begin l a (Enter x how)) old new ReadersFull → IsCounted x
+pub counted_only : (x : Access) (how : Patience) (l : ℕ) (a : Admission) (old new : List WordStep) → Walks (at_rwlock l) (rwlock_begin l a (purpose.Enter x how)) old new ReadersFull → IsCounted x
 counted_only access.Shared how l a old new w = tt
 counted_only access.Upgradable how l a old new w = tt
 counted_only access.Exclusive how l a old new w = writes_not_full a how (at_rwlock l) l old new w

@@ -28,6 +28,7 @@ use Rattle.lot_acts.specs.declared.acts.Reply.{Reply}
 use Rattle.lot_acts.specs.declared.acts.Reply.TheVariants.{Done, Value, Parked, Took, Picked, Removed, MovedTo, Late, Woken}
 use Rattle.lot_acts.specs.Profiles.{in_line}
 use Rattle.lot_steps.specs.Steps.{key_in}
+use Rattle.lot_rwlock_fair.specs.declared.places.RwLockCallPlace.TheVariants as calls
 use Rattle.lot_steps.specs.declared.places.Place.TheVariants as place
 use Rattle.lot_rwlock.specs.RwLockCalls.{StandsAt, MayBeTold, HasDeadline}
 use Rattle.lot_rwlock.specs.RwLockDeeds.{claimed, pends, rwlock_doing, kept_claim, falls_back}
@@ -299,7 +300,7 @@ module _ (up : Type 0) (l : ℕ) (a : Admission) (base : List Ownership) (q : Rw
             (claims_now (Exchange seen (plus seen 1)) seen (claimed q) b (keeping.unlooked l base st.owns seen b.0 (Exchange seen (plus seen 1)) (claimed q) same (keeping.marked_looks seen (plus seen 1)) f.owns)) (inside_now (Exchange seen (plus seen 1)) seen b ∙ f.within)
 
     -- by what the thread decides: an exchange, or the section of the main queue
-    decides_leads : (seen : ℕ) → Fits (at.Decide seen) → (d : Decision) → decided_for a q seen ≡ d → (reply : Reply) → Became up rwlocks (at_rwlock l) (sleeper_at (place.RwLock l a (of (at.Decide seen)))) st (decided_act l q seen d) reply new
+    decides_leads : (seen : ℕ) → Fits (at.Decide seen) → (d : Decision) → decided_for a q seen ≡ d → (reply : Reply) → Became up rwlocks (at_rwlock l) (sleeper_at (place.RwLock l a (calls.Plain (of (at.Decide seen))))) st (decided_act l q seen d) reply new
         → Comes up l base a q (next_at a (of (at.Decide seen)) (at.Decide seen) reply) new × MayBeTold a (of (at.Decide seen)) (at.Decide seen) reply
     decides_leads seen f decisions.Take e (Value other) b =
         (subst (λ (d : Decision). Reach (exchanged_next a (of (at.Decide seen)) seen other d)) (sym e) (takes_leads seen f e other b), small (Exchange seen (word_taken q seen)) other b)
@@ -416,7 +417,7 @@ module _ (up : Type 0) (l : ℕ) (a : Admission) (base : List Ownership) (q : Rw
         by_purpose (purpose.Downgrade d) stands = absurd stands
 
     -- into the second section
-    goes_aside : (to : RwLockAt) → OwnsBeside l (pends q) base st.owns → Became up rwlocks (at_rwlock l) (sleeper_at (place.RwLock l a (of to))) st (act.Enter (One (2 * l + 1))) Done new
+    goes_aside : (to : RwLockAt) → OwnsBeside l (pends q) base st.owns → Became up rwlocks (at_rwlock l) (sleeper_at (place.RwLock l a (calls.Plain (of to)))) st (act.Enter (One (2 * l + 1))) Done new
         → Reach (stays (of to) (at.Aside parking.Check))
     goes_aside to owns b = (
       record {
@@ -429,7 +430,7 @@ module _ (up : Type 0) (l : ℕ) (a : Admission) (base : List Ownership) (q : Rw
       refl,
     )
 
-    counts_leads : (seen : ℕ) → Fits (at.Count seen) → (b : Bool) → has_aside seen ≡ b → (reply : Reply) → Became up rwlocks (at_rwlock l) (sleeper_at (place.RwLock l a (of (at.Count seen)))) st (if b then act.Enter (One (2 * l + 1)) else exchange l seen (plus seen 2)) reply new
+    counts_leads : (seen : ℕ) → Fits (at.Count seen) → (b : Bool) → has_aside seen ≡ b → (reply : Reply) → Became up rwlocks (at_rwlock l) (sleeper_at (place.RwLock l a (calls.Plain (of (at.Count seen))))) st (if b then act.Enter (One (2 * l + 1)) else exchange l seen (plus seen 2)) reply new
         → Comes up l base a q (next_at a (of (at.Count seen)) (at.Count seen) reply) new × MayBeTold a (of (at.Count seen)) (at.Count seen) reply
     counts_leads seen f true e Done b = (goes_aside (at.Count seen) f.owns b, tt)
     counts_leads seen f false e (Value other) b = (
@@ -523,7 +524,7 @@ module _ (up : Type 0) (l : ℕ) (a : Admission) (base : List Ownership) (q : Rw
         by_purpose (purpose.Release access.Exclusive) stands late = absurd stands
         by_purpose (purpose.Downgrade d) stands late = absurd stands
 
-    main_leads : (to : ParkAt) → Fits (at.Park to) → (reply : Reply) → Became up rwlocks (at_rwlock l) (sleeper_at (place.RwLock l a (of (at.Park to)))) st (park_act l a (want_at (of (at.Park to))) Main to) reply new
+    main_leads : (to : ParkAt) → Fits (at.Park to) → (reply : Reply) → Became up rwlocks (at_rwlock l) (sleeper_at (place.RwLock l a (calls.Plain (of (at.Park to))))) st (park_act l a (want_at (of (at.Park to))) Main to) reply new
         → Reach (park_next (of (at.Park to)) Main to reply) × MayBeTold a (of (at.Park to)) (at.Park to) reply
     main_leads parking.Check f (Parked true) b = (inside_of (at.Park (parking.Leave true)) (again && not true) Main None tt tt refl refl refl (not_late (at.Park (parking.Leave true)) refl) (claims_now Load b.0 None b.2 (keeping.look_beside l base st.owns b.0 b.2.0 Load refl f.owns)) (inside_now Load b.0 b.2 ∙ f.within), tt)
     main_leads parking.Check f (Parked false) b = (inside_of (at.Park (parking.Leave false)) (again && not false) Main None tt tt refl refl refl (not_late (at.Park (parking.Leave false)) refl) (claims_now Load b.0 None b.2 (keeping.look_beside l base st.owns b.0 b.2.0 Load refl f.owns)) (inside_now Load b.0 b.2 ∙ f.within), tt)
@@ -544,7 +545,7 @@ module _ (up : Type 0) (l : ℕ) (a : Admission) (base : List Ownership) (q : Rw
     main_leads parking.GiveUp f Done b = (gives_up_main f b.0 b.1 b.2, tt)
     main_leads to f reply b = absurd b
 
-    aside_leads : (to : ParkAt) → Fits (at.Aside to) → (reply : Reply) → Became up rwlocks (at_rwlock l) (sleeper_at (place.RwLock l a (of (at.Aside to)))) st (park_act l a (want_at (of (at.Aside to))) Second to) reply new
+    aside_leads : (to : ParkAt) → Fits (at.Aside to) → (reply : Reply) → Became up rwlocks (at_rwlock l) (sleeper_at (place.RwLock l a (calls.Plain (of (at.Aside to))))) st (park_act l a (want_at (of (at.Aside to))) Second to) reply new
         → Reach (park_next (of (at.Aside to)) Second to reply) × MayBeTold a (of (at.Aside to)) (at.Aside to) reply
     aside_leads parking.Check f (Parked true) b = (inside_of (at.Aside (parking.Leave true)) (again && not true) Second (pends q) tt tt refl refl refl (not_late (at.Aside (parking.Leave true)) refl) (claims_now Load b.0 (pends q) b.2 (keeping.look_waits l base st.owns b.0 b.2.0 Load (falls_back q) refl refl f.owns)) (inside_now Load b.0 b.2 ∙ f.within), tt)
     aside_leads parking.Check f (Parked false) b = (inside_of (at.Aside (parking.Leave false)) (again && not false) Second (pends q) tt tt refl refl refl (not_late (at.Aside (parking.Leave false)) refl) (claims_now Load b.0 (pends q) b.2 (keeping.look_waits l base st.owns b.0 b.2.0 Load (falls_back q) refl refl f.owns)) (inside_now Load b.0 b.2 ∙ f.within), tt)
@@ -690,7 +691,7 @@ module _ (up : Type 0) (l : ℕ) (a : Admission) (base : List Ownership) (q : Rw
         by_purpose (purpose.Enter access.Shared how) is stands owns late = absurd stands
         by_purpose (purpose.Enter access.Upgradable how) is stands owns late = absurd stands
 
-    wakes_leads : (m : Line) (to : WakeAt) → Fits (at.Wake m to) → (reply : Reply) → Became up rwlocks (at_rwlock l) (sleeper_at (place.RwLock l a (of (at.Wake m to)))) st (wake_act l a q m to) reply new
+    wakes_leads : (m : Line) (to : WakeAt) → Fits (at.Wake m to) → (reply : Reply) → Became up rwlocks (at_rwlock l) (sleeper_at (place.RwLock l a (calls.Plain (of (at.Wake m to))))) st (wake_act l a q m to) reply new
         → Reach (wake_next (of (at.Wake m to)) m to reply) × MayBeTold a (of (at.Wake m to)) (at.Wake m to) reply
     wakes_leads m waking.Enter f Done b = (inside_of (at.Wake m waking.Take) again m (kept_claim (start_of q)) tt tt refl refl refl (still_late (at.Wake m waking.Enter) (at.Wake m waking.Take) refl f.late) (kept_owns (kept_claim (start_of q)) (ap (λ (s : Stage). s.owns) b) f.owns) (ap (λ (s : Stage). s.inside) b), tt)
     wakes_leads Main waking.Take f (Picked sharers successor none_left) b = (took_comes Main (any_picked sharers successor) none_left f.late (kept_owns (kept_claim (start_of q)) b.1 f.owns) (b.0.0, b.0.3 ∙ ap (took_as (did_wake l a q Main) b.0.0) f.within), tt)
@@ -706,7 +707,7 @@ module _ (up : Type 0) (l : ℕ) (a : Admission) (base : List Ownership) (q : Rw
     wakes_leads m to f reply b = absurd b
 
     -- each reply, at each place
-    pub leads_at : (to : RwLockAt) → Fits to → (reply : Reply) → Became up rwlocks (at_rwlock l) (sleeper_at (place.RwLock l a (of to))) st (act_at l a (of to) to) reply new
+    pub leads_at : (to : RwLockAt) → Fits to → (reply : Reply) → Became up rwlocks (at_rwlock l) (sleeper_at (place.RwLock l a (calls.Plain (of to)))) st (act_at l a (of to) to) reply new
         → Reach (next_at a (of to) to reply) × MayBeTold a (of to) to reply
     leads_at at.First f (Value seen) b = (first_leads f seen b, small (Exchange 0 8) seen b)
     leads_at at.Load f (Value seen) b = (load_leads f seen b, small Load seen b)

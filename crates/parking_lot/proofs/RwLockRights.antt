@@ -6,13 +6,12 @@ use Rattle.lot_base.specs.declared.wants.Want.TheVariants as wants
 use Rattle.lot_calls.specs.declared.calls.Access.TheVariants as access
 use Rattle.lot_calls.specs.declared.calls.Patience.{Patience}
 use Rattle.lot_calls.specs.declared.calls.Patience.TheVariants.{Patient, Timed, Try}
-use Rattle.lot_calls.specs.declared.calls.RwLockCall.{RwLockCall}
-use Rattle.lot_calls.specs.declared.calls.RwLockCall.TheVariants as call
 use Rattle.lot_calls.specs.declared.outcomes.Answer.{Answer}
 use Rattle.lot_calls.specs.declared.outcomes.Answer.TheVariants as answers
 use Rattle.lot_acts.specs.declared.acts.Reply.TheVariants.{Value}
 use Rattle.lot_rwlock.specs.RwLockSteps.{entered}
 use Rattle.lot_rwlock.specs.declared.places.Admission.{Admission}
+use Rattle.lot_rwlock.specs.declared.purposes.RwLockPurpose.{RwLockPurpose}
 use Rattle.lot_rwlock.specs.declared.purposes.RwLockPurpose.TheVariants as purpose
 use Rattle.lot_steps.specs.Steps.{next_act}
 use Rattle.lot_words.specs.Indices.{word_index}
@@ -43,7 +42,7 @@ joined_beside l given x base owns same e = (owner_for x, base, refl, (λ settled
 
 -- ---------------------------------------------------------------- upgrades
 
-pub begins_upgrading : (l : ℕ) (how : Patience) (base owns : List Ownership) → OwnsRight l wants.Upgradable base owns → BeginsWith l (call.Upgrade how) base owns
+pub begins_upgrading : (l : ℕ) (how : Patience) (base owns : List Ownership) → OwnsRight l wants.Upgradable base owns → BeginsWith l (purpose.Upgrade how) base owns
 begins_upgrading l Patient base owns right = right
 begins_upgrading l Timed base owns right = right
 begins_upgrading l Try base owns right = right
@@ -69,8 +68,8 @@ module _ (up : Type 0) (l : ℕ) (base : List Ownership) (a : Admission) (how : 
 -- ---------------------------------------------------------------- a writer's try
 
 module _ (word : Word) (is : word.kind ≡ kinds.RwLock) (a : Admission) (room : a.limit < 2 ^ 60 - 1) (seen : ℕ) (old new : Token) (stepped : view_of new ≡ after_step word.kind (word_index word.number word.kind) (Exchange 0 8) seen (view_of old)) where
-  abbrev try : RwLockCall
-  try = call.Enter access.Exclusive Try
+  abbrev try : RwLockPurpose
+  try = purpose.Enter access.Exclusive Try
 
   abbrev told : Bool → Answer
   told b = if b then answers.Yes else answers.No

@@ -5,8 +5,8 @@ use Rattle.lot_base.specs.declared.ops.Op.{Op}
 use Rattle.lot_calls.specs.declared.outcomes.OnceState.{OnceState}
 use Rattle.lot_base.specs.declared.ops.Op.TheVariants.{Load}
 use Rattle.lot_mutex.specs.MutexSteps.{mutex_next}
-use Rattle.lot_rwlock.specs.RwLockSteps.{rwlock_next}
-use Rattle.lot_rwlock.specs.declared.places.RwLockPlace.{RwLockPlace}
+use Rattle.lot_rwlock_fair.specs.FairSteps.{call_next}
+use Rattle.lot_rwlock_fair.specs.declared.places.RwLockCallPlace.{RwLockCallPlace}
 use Rattle.lot_steps.specs.Steps.{act_of, next_place, mutex_goes, rwlock_goes, HasKeys}
 use Rattle.lot_acts.specs.declared.acts.Next.{Next}
 use Rattle.lot_acts.specs.declared.acts.Next.TheVariants.{At, End}
@@ -62,9 +62,9 @@ told up at kinds sleeper p a is runs st new reply before behind b e = absurd b
 -- the words of a call serve it to its end
 pub words_on : (p : Place) (reply : Reply) (kinds : ℕ → WordKind) (at : ℕ → ℕ) → AreWordsFor p kinds at → AreWordsFor (next_place p reply) kinds at
 words_on Idle reply kinds at w = tt
-words_on (RwLock l a place) reply kinds at w = by_next (rwlock_next a place reply)
+words_on (RwLock l a place) reply kinds at w = by_next (call_next a place reply)
   where
-    by_next : (goes : Next RwLockPlace) → AreWordsFor (rwlock_goes l a goes) kinds at
+    by_next : (goes : Next RwLockCallPlace) → AreWordsFor (rwlock_goes l a goes) kinds at
     by_next (At next) = w
     by_next (End answer) = tt
 words_on (Mutex l place) reply kinds at w = by_next (mutex_next place reply)

@@ -1,6 +1,6 @@
 -- What a thread has at each place of its call, and at its end. Each sort of lock says so in a file of its own.
 use Rattle.std.specs.Prelude.{ℕ, ◌≡◌, List, Option, Some, None, true, false, unwrap_or}
-use Rattle.lot_rwlock.specs.RwLockProfiles.{rwlock_wants}
+use Rattle.lot_rwlock_fair.specs.FairProfiles.{call_wants}
 use Rattle.lot_base.specs.declared.wants.Want.TheVariants.{Exclusive}
 use Rattle.lot_calls.specs.declared.outcomes.Answer.{Answer}
 use Rattle.lot_steps.specs.Steps.{act_of, late_key, next_place, next_act, looking, HasKeys}
@@ -14,7 +14,7 @@ use Rattle.lot_words.specs.declared.words.WordKind.{WordKind}
 use Rattle.lot_rwlock.specs.declared.places.Admission.{Admission}
 use Rattle.lot_rwlock.specs.declared.purposes.RwLockPurpose.{RwLockPurpose}
 use Rattle.parking_lot.specs.MutexFitting.{Purpose, purpose_at, FitsMutex, IsMutexOver}
-use Rattle.parking_lot.specs.RwLockFitting.{FitsRwLock, IsRwLockOver}
+use Rattle.parking_lot.specs.RwLockFitting.{FitsCall, IsRwLockOver, purpose_in}
 use Rattle.parking_lot.specs.Paths.{mutexes, at_mutex, rwlocks, at_rwlock}
 use Rattle.parking_lot.specs.Stages.{Stage, ActNeeds, Became}
 use Rattle.parking_lot.specs.declared.acting.Sleeper.{Sleeper}
@@ -34,7 +34,7 @@ pub data Aim : Type 0 where
 abbrev pub aim_of : Place → Aim
 aim_of Idle = nothing
 aim_of (Mutex l at) = of_mutex l (purpose_at at)
-aim_of (RwLock l a at) = of_rwlock l a at.purpose
+aim_of (RwLock l a c) = of_rwlock l a (purpose_in c)
 
 -- for what a thread sleeps in a call, the keys under which it may be late, and whether it goes on where it is handed the lock.
 -- Nobody is moved from the queue of a lock
@@ -42,8 +42,8 @@ abbrev pub sleeper_at : Place → Sleeper
 sleeper_at Idle = record { lock = 0; want = Exclusive; late = None; moved = None; takes_over = false }
 sleeper_at (Mutex l at) =
     record { lock = l; want = Exclusive; late = late_key (Mutex l at); moved = None; takes_over = true }
-sleeper_at (RwLock l a at) =
-    record { lock = l; want = unwrap_or (rwlock_wants at) Exclusive; late = late_key (RwLock l a at); moved = None; takes_over = false }
+sleeper_at (RwLock l a c) =
+    record { lock = l; want = unwrap_or (call_wants c) Exclusive; late = late_key (RwLock l a c); moved = None; takes_over = false }
 
 -- the keys of the call's lock are numbers, and its words are of the kinds that the call steps on
 abbrev pub AreWordsFor : Place → (ℕ → WordKind) → (ℕ → ℕ) → Type 0
@@ -63,7 +63,7 @@ module _ (up : Type 0) where
   abbrev pub Fits : List Ownership → Place → Stage → Type 0
   Fits base Idle st = ⊥
   Fits base (Mutex l at) st = FitsMutex up l base at st
-  Fits base (RwLock l a at) st = FitsRwLock up l base a at st
+  Fits base (RwLock l a c) st = FitsCall up l base a c st
 
   -- what an answer says at the end of a call
   abbrev pub IsOver : List Ownership → Aim → Answer → Stage → Type 0

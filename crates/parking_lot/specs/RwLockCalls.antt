@@ -16,7 +16,8 @@ use Rattle.lot_calls.specs.declared.outcomes.Answer.TheVariants as answers
 use Rattle.lot_acts.specs.declared.acts.Next.{Next}
 use Rattle.lot_acts.specs.declared.acts.Next.TheVariants.{At, End}
 use Rattle.lot_acts.specs.declared.acts.Reply.TheVariants.{Value}
-use Rattle.lot_rwlock.specs.RwLockBegins.{purpose_for, first_at, rwlock_first}
+use Rattle.lot_rwlock.specs.RwLockBegins.{first_at, rwlock_first}
+use Rattle.lot_rwlock_fair.specs.FairBegins.{plain_first}
 use Rattle.lot_rwlock.specs.RwLockDeeds.{rwlock_doing}
 use Rattle.lot_rwlock.specs.RwLockSteps.{wanted, to_of, entered, give_op, rwlock_next}
 use Rattle.lot_rwlock.specs.declared.places.Admission.{Admission}
@@ -45,8 +46,8 @@ use Rattle.parking_lot.specs.RwLockFitting.{Answers, IsBeside, IsSettled, OwnsBe
 use Rattle.parking_lot.specs.Stages.{Stage}
 
 -- where a call begins
-abbrev pub rwlock_begin : ℕ → Admission → RwLockCall → Place
-rwlock_begin l a c = RwLock l a (rwlock_first c)
+abbrev pub rwlock_begin : ℕ → Admission → RwLockPurpose → Place
+rwlock_begin l a q = RwLock l a (plain_first q)
 
 -- its first operation
 abbrev pub op_at : RwLockPurpose → RwLockAt → Op
@@ -54,11 +55,11 @@ op_at q at.First = Exchange 0 8
 op_at q at.GiveWay = give_op q
 op_at q to = Load
 
-abbrev pub first_op : RwLockCall → Op
-first_op c = op_at (purpose_for c) (first_at (purpose_for c))
+abbrev pub first_op : RwLockPurpose → Op
+first_op q = op_at q (first_at q)
 
 -- the thread has the right that the call needs, beside these
-abbrev pub BeginsWith : ℕ → RwLockCall → List Ownership → List Ownership → Type 0
+abbrev pub BeginsWith : ℕ → RwLockPurpose → List Ownership → List Ownership → Type 0
 BeginsWith l c base owns = OwnsBeside l (rwlock_doing (rwlock_first c)).claims base owns
 
 -- what an answer says of the rights at the end of a call, whether its first step ended it or not
@@ -68,7 +69,7 @@ AnswersCall up l base a (purpose.Downgrade d) answer st = (answer ≡ answers.Ok
 AnswersCall up l base a q answer st = Answers up l base a q answer st
 
 -- the steps of a call lead from its beginning to the answer
-abbrev pub HasWalkedRwLock : ℕ → Admission → RwLockCall → Answer → Token → Token → Type 0
+abbrev pub HasWalkedRwLock : ℕ → Admission → RwLockPurpose → Answer → Token → Token → Type 0
 HasWalkedRwLock l a c answer old new =
     Walks (at_rwlock l) (rwlock_begin l a c) (view_of old).steps (view_of new).steps answer
 
@@ -77,17 +78,17 @@ abbrev pub TookUnlessEnded : ℕ → Admission → RwLockPurpose → Next RwLock
 TookUnlessEnded l a q (At p) more last = TookWoken l a q last
 TookUnlessEnded l a q (End answer) more last = (more ≡ []) × (last ≡ None)
 
-abbrev pub Wakes : ℕ → Admission → RwLockCall → List WordStep → List WordStep → Option SectionRecord → Type 0
+abbrev pub Wakes : ℕ → Admission → RwLockPurpose → List WordStep → List WordStep → Option SectionRecord → Type 0
 Wakes l a c old new last = (seen : ℕ) × (more : List WordStep)
     × (new ≡ (old ++ step (rwlock_at l) (first_op c) seen) ++ more)
-    × TookUnlessEnded l a (purpose_for c) (rwlock_next a (rwlock_first c) (Value seen)) more last
+    × TookUnlessEnded l a c (rwlock_next a (rwlock_first c) (Value seen)) more last
 
 -- so it is of calls that wake others
-abbrev pub WakesBy : ℕ → Admission → RwLockCall → Token → Token → Type 0
-WakesBy l a (calls.Release x) old new =
-    Wakes l a (calls.Release x) (view_of old).steps (view_of new).steps (last_of new)
-WakesBy l a (calls.Downgrade d) old new =
-    Wakes l a (calls.Downgrade d) (view_of old).steps (view_of new).steps (last_of new)
+abbrev pub WakesBy : ℕ → Admission → RwLockPurpose → Token → Token → Type 0
+WakesBy l a (purpose.Release x) old new =
+    Wakes l a (purpose.Release x) (view_of old).steps (view_of new).steps (last_of new)
+WakesBy l a (purpose.Downgrade d) old new =
+    Wakes l a (purpose.Downgrade d) (view_of old).steps (view_of new).steps (last_of new)
 WakesBy l a c old new = Unit {0}
 
 -- a thread of the lot, and a reader-writer lock of it whose keys are numbers, with room for an upgrade that gives up
@@ -128,6 +129,19 @@ Exclude one other = ⊥
 abbrev pub IsCounted : Access → Type 0
 IsCounted accesses.Exclusive = ⊥
 IsCounted access = Unit {0}
+
+-- so of a call, where its steps are built
+abbrev pub HasWalkedCall : ℕ → Admission → RwLockCall → Answer → Token → Token → Type 0
+HasWalkedCall l a (calls.Enter x how) answer old new = HasWalkedRwLock l a (purpose.Enter x how) answer old new
+HasWalkedCall l a (calls.Release x) answer old new = HasWalkedRwLock l a (purpose.Release x) answer old new
+HasWalkedCall l a (calls.Downgrade d) answer old new = HasWalkedRwLock l a (purpose.Downgrade d) answer old new
+HasWalkedCall l a (calls.Upgrade how) answer old new = HasWalkedRwLock l a (purpose.Upgrade how) answer old new
+HasWalkedCall l a fair answer old new = ⊥
+
+abbrev pub WakesByCall : ℕ → Admission → RwLockCall → Token → Token → Type 0
+WakesByCall l a (calls.Release x) old new = WakesBy l a (purpose.Release x) old new
+WakesByCall l a (calls.Downgrade d) old new = WakesBy l a (purpose.Downgrade d) old new
+WakesByCall l a call old new = ⊥
 
 -- somebody owns the lock, or waits for its last readers
 abbrev pub is_held : ℕ → Bool

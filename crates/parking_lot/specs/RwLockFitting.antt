@@ -26,6 +26,8 @@ use Rattle.lot_rwlock.specs.declared.places.RwLockAt.TheVariants as at
 use Rattle.lot_rwlock.specs.declared.places.RwLockPlace.{RwLockPlace}
 use Rattle.lot_rwlock.specs.declared.purposes.RwLockPurpose.{RwLockPurpose}
 use Rattle.lot_rwlock.specs.declared.purposes.RwLockPurpose.TheVariants as purpose
+use Rattle.lot_rwlock_fair.specs.declared.places.RwLockCallPlace.{RwLockCallPlace}
+use Rattle.lot_rwlock_fair.specs.declared.places.RwLockCallPlace.TheVariants as places
 use Rattle.lot_words.specs.Rights.{owner_for}
 use Rattle.lot_words.specs.Steps.{has}
 use Rattle.lot_words.specs.Views.{owning}
@@ -114,6 +116,14 @@ abbrev pub LeftAlone : ℕ → Option SectionRecord → Type 0
 LeftAlone l last = (number : ℕ)
     × (last ≡ Some (record { key = key_of l Main; did = did.Nothing; number = number }))
 
+-- what a call is for that enters, releases or converts; a call that hands the lock over releases, and was handed it where it enters
+abbrev pub purpose_in : RwLockCallPlace → RwLockPurpose
+purpose_in (places.Plain p) = p.purpose
+purpose_in (places.Bump p) = p.purpose
+purpose_in (places.Glance x) = purpose.Release x
+purpose_in (places.HandOver x b to) = purpose.Release x
+purpose_in (places.Handed x how b to) = purpose.Enter x how
+
 -- `up` says that the time of the call is up
 module _ (up : Type 0) where
   pub record FitsRwLock (l : ℕ) (base : List Ownership) (a : Admission) (p : RwLockPlace) (st : Stage) : Type 0 where
@@ -125,6 +135,11 @@ module _ (up : Type 0) where
     pub owns : OwnsBeside l (rwlock_doing p).claims base st.owns
     pub within : IsWithin l a p.purpose (rwlock_doing p).inside (rwlock_doing p).carries st.inside
     pub late : (rwlock_profile a p).late ≡ true → up
+
+  -- no call hands the lock over yet, so nobody is handed it
+  abbrev pub FitsCall : ℕ → List Ownership → Admission → RwLockCallPlace → Stage → Type 0
+  FitsCall l base a (places.Plain p) st = FitsRwLock l base a p st
+  FitsCall l base a c st = ⊥
 
   -- who may give up: a try at once, and a timed call once its time is up
   abbrev pub MayGiveUp : Patience → Type 0

@@ -2,7 +2,7 @@
 ghost use Rattle.std.specs.Prelude.{◌≡◌, ◌⊎◌, ◌≤◌, ◌+◌, ◌*◌, IfOk, MatchResult};
 ghost use Rattle.std.specs.Arc.{arc_value};
 ghost use Rattle.parking_lot_core.specs.Tokens.{IsTokenOf};
-ghost use Rattle.parking_lot.specs.RwLockCalls.{HasWalkedRwLock, SeesBy, StaysSettled, StaysSettled-on, WakesBy, is_held, is_held_alone};
+ghost use Rattle.parking_lot.specs.RwLockCalls.{HasWalkedCall, SeesBy, StaysSettled, StaysSettled-on, WakesByCall, is_held, is_held_alone};
 ghost use Rattle.parking_lot.specs.RwLockGuards.{IsExclusiveOf, IsExclusiveOf-prop, IsSharedOf, IsSharedOf-prop, IsUpgradableOf, IsUpgradableOf-prop};
 
 use crate::driver::NO_LIMIT;
@@ -70,9 +70,9 @@ impl<const RECURSIVE: bool> lock_raw::RawRwLock for RawRwLock<RECURSIVE> {
 
     ghost exclusive_once = { λ lock guard. IsExclusiveOf-prop (lot_at lock) (word_at lock) guard };
 
-    ghost walked = { λ lock call answer old new. HasWalkedRwLock (word_at lock).number (admission_of lock) call answer old new };
+    ghost walked = { λ lock call answer old new. HasWalkedCall (word_at lock).number (admission_of lock) call answer old new };
 
-    ghost woke = { λ lock call old new. WakesBy (word_at lock).number (admission_of lock) call old new };
+    ghost woke = { λ lock call old new. WakesByCall (word_at lock).number (admission_of lock) call old new };
 
     ghost looked = { λ lock held old new. SeesBy is_held (word_at lock).number held old new };
 

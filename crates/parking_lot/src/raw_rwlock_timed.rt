@@ -12,7 +12,7 @@ impl<const RECURSIVE: bool> RawRwLock<RECURSIVE> {
     ghost use Rattle.lot_base.specs.Clocks.{IsUp};
     ghost use Rattle.lot_calls.specs.declared.calls.Access.TheVariants as access;
     ghost use Rattle.lot_calls.specs.declared.calls.Patience.TheVariants.{Timed};
-    ghost use Rattle.lot_calls.specs.declared.calls.RwLockCall.TheVariants.{Enter, Upgrade};
+    ghost use Rattle.lot_rwlock.specs.declared.purposes.RwLockPurpose.TheVariants.{Enter, Upgrade};
     ghost use Rattle.parking_lot_core.specs.Tokens.{IsTokenOf};
     ghost use Rattle.parking_lot.specs.RwLockCalls.{HasWalkedRwLock, StaysSettled};
     ghost use Rattle.parking_lot.specs.RwLockGuards.{IsExclusiveOf, IsSharedOf, IsUpgradableOf};

@@ -2,7 +2,6 @@
 ghost use Rattle.std.specs.Prelude.{◌≡◌, ◌<◌, ◌^◌, List, None};
 ghost use Rattle.lot_base.specs.Clocks.{IsUp};
 ghost use Rattle.lot_steps.specs.Steps.{HasKeys};
-ghost use Rattle.lot_rwlock.specs.RwLockBegins.{purpose_for};
 ghost use Rattle.lot_words.specs.Lots.{IsWordOf};
 ghost use Rattle.lot_words.specs.declared.owners.Ownership.{Ownership};
 ghost use Rattle.parking_lot_core.specs.Tokens.{IsTokenOf, IsSameThread};
@@ -15,8 +14,9 @@ ghost use Rattle.parking_lot.specs.Words.{alone, kind_in, at_in};
 
 use crate::driver::{Stop, answer_of, run};
 use crate::words::Words;
-use lot_calls::{Answer, RwLockCall};
-use lot_rwlock::{Admission, RwLockPlace};
+use lot_calls::Answer;
+use lot_rwlock::{Admission, RwLockPurpose};
+use lot_rwlock_fair::RwLockCallPlace;
 use lot_steps::{Act, Place, Reply, advance};
 use parking_lot_core::{Clock, Op, ParkingLot, Token, Word};
 use std::sync::Wait;
@@ -47,22 +47,22 @@ fn run_out<R: Wait, C: Clock>(
 }
 
 // Where a call begins.
-fn beginning(lock: usize, admission: Admission, call: RwLockCall) -> Place
-    ensures { result ≡ rwlock_begin lock admission call }
+fn beginning(lock: usize, admission: Admission, purpose: RwLockPurpose) -> Place
+    ensures { result ≡ rwlock_begin lock admission purpose }
 {
     Place::RwLock {
         lock,
         admission,
-        at: RwLockPlace::first(call),
+        at: RwLockCallPlace::begin(purpose),
     }
 }
 
 // The operation with which a call begins.
-fn first_op(lock: usize, admission: Admission, call: RwLockCall) -> Op
+fn first_op(lock: usize, admission: Admission, purpose: RwLockPurpose) -> Op
     requires { lock < 9223372036854775808 }
-    ensures { result ≡ first_op call }
+    ensures { result ≡ first_op purpose }
 {
-    match beginning(lock, admission, call).act() {
+    match beginning(lock, admission, purpose).act() {
         Act::Word { op, .. } => op,
         _ => unreachable!(),
     }
@@ -76,19 +76,19 @@ pub(crate) fn call<R: Wait, C: Clock>(
     word: Word,
     admission: Admission,
     limit: Option<(&C, u64)>,
-    call: RwLockCall,
+    purpose: RwLockPurpose,
 ) -> Answer
     requires own { MeetsAt lot.now token.old word admission }
-    requires right { (base : List Ownership) × BeginsWith word.number call base (owns_of token.old) }
+    requires right { (base : List Ownership) × BeginsWith word.number purpose base (owns_of token.old) }
     ensures own { IsSameThread lot.now token.old token.new }
-    ensures path { HasWalkedRwLock word.number admission call result token.old token.new }
-    ensures over { (base : List Ownership) → BeginsWith word.number call base (owns_of token.old)
-        → AnswersCall (IsUp C.tells limit.entry) word.number base admission (purpose_for call) result
+    ensures path { HasWalkedRwLock word.number admission purpose result token.old token.new }
+    ensures over { (base : List Ownership) → BeginsWith word.number purpose base (owns_of token.old)
+        → AnswersCall (IsUp C.tells limit.entry) word.number base admission purpose result
         (stage_of token.new None) }
-    ensures record { WakesBy word.number admission call token.old token.new }
+    ensures record { WakesBy word.number admission purpose token.old token.new }
 {
-    let first = beginning(word.number(), admission, call);
-    let op = first_op(word.number(), admission, call);
+    let first = beginning(word.number(), admission, purpose);
+    let op = first_op(word.number(), admission, purpose);
     let seen = lot.word(token, word, op);
     let (next, act) = advance(first, Reply::Value(seen));
     match answer_of(act) {

@@ -7,8 +7,8 @@ ghost use Rattle.lot_base.specs.declared.ops.Op.TheVariants.{Load};
 ghost use Rattle.lot_base.specs.declared.wants.Want.TheVariants.{Exclusive, Upgradable};
 ghost use Rattle.lot_calls.specs.declared.calls.Access.TheVariants as access;
 ghost use Rattle.lot_calls.specs.declared.calls.Patience.TheVariants.{Try};
-ghost use Rattle.lot_calls.specs.declared.calls.RwLockCall.TheVariants.{Enter, Release, Upgrade};
-ghost use Rattle.lot_calls.specs.declared.calls.RwLockCall.TheVariants as calls;
+ghost use Rattle.lot_rwlock.specs.declared.purposes.RwLockPurpose.TheVariants.{Enter, Release, Upgrade};
+ghost use Rattle.lot_rwlock.specs.declared.purposes.RwLockPurpose.TheVariants as purposes_of;
 ghost use Rattle.lot_calls.specs.declared.outcomes.Answer.TheVariants.{Ok as ok};
 ghost use Rattle.lot_rwlock.specs.RwLockSteps.{from_of, to_of, wanted};
 ghost use Rattle.lot_words.specs.Lots.{IsWordOf};
@@ -26,7 +26,7 @@ ghost use Rattle.parking_lot.specs.Telling.{owns_of, steps_of};
 use crate::driver::NO_LIMIT;
 use crate::rwlock_calls::call;
 use lot_base::{main_key, second_key};
-use lot_calls::{Access, Answer, Downgrade, Patience, RwLockCall};
+use lot_calls::{Access, Answer, Downgrade, Patience};
 use lot_rwlock::places::WRITER;
 use lot_rwlock::{Admission, RwLockPurpose, purposes};
 use parking_lot_core::{Clock, Fault, Key, Op, ParkingLot, Right, Token, Want, Word, WordKind};
@@ -143,7 +143,7 @@ impl LotRwLock {
             self.word,
             self.admission,
             limit,
-            RwLockCall::Enter { access, patience },
+            RwLockPurpose::Enter { access, patience },
         );
         match answer {
             Answer::Ok | Answer::Yes => Ok(Some(self.split(token, purposes::wanted(access)))),
@@ -183,7 +183,7 @@ impl LotRwLock {
             self.word,
             self.admission,
             NO_LIMIT,
-            RwLockCall::Release(access),
+            RwLockPurpose::Release(access),
         );
     }
 
@@ -199,9 +199,9 @@ impl LotRwLock {
         requires right { IsRwLockRight (lot_in self.now) (word_in self.now) (owner_for (wanted (from_of downgrade))) right }
         ensures token { IsTokenOf (lot_in self.now) token.new × StaysBeside (word_in self.now).number token.old token.new }
         ensures right { IsRwLockRight (lot_in self.now) (word_in self.now) (owner_for (wanted (to_of downgrade))) result }
-        ensures path { HasWalkedRwLock (word_in self.now).number (admission_in self.now) (calls.Downgrade downgrade) ok token.old
+        ensures path { HasWalkedRwLock (word_in self.now).number (admission_in self.now) (purposes_of.Downgrade downgrade) ok token.old
             token.new }
-        ensures record { WakesBy (word_in self.now).number (admission_in self.now) (calls.Downgrade downgrade) token.old token.new }
+        ensures record { WakesBy (word_in self.now).number (admission_in self.now) (purposes_of.Downgrade downgrade) token.old token.new }
     {
         let purpose = RwLockPurpose::Downgrade(downgrade);
         self.join(token, purposes::wanted(purpose.access()), right);
@@ -212,7 +212,7 @@ impl LotRwLock {
             self.word,
             self.admission,
             NO_LIMIT,
-            RwLockCall::Downgrade(downgrade),
+            purpose,
         );
         match purpose.start() {
             Some(lesser) => self.split(token, lesser),
@@ -250,7 +250,7 @@ impl LotRwLock {
             self.word,
             self.admission,
             limit,
-            RwLockCall::Upgrade(patience),
+            RwLockPurpose::Upgrade(patience),
         );
         match answer {
             Answer::No => Err(self.split(token, Want::Upgradable)),

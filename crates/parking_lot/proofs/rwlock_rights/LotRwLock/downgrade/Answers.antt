@@ -1,6 +1,6 @@
 use Rattle.std.proofs.Common.{rules, ◌≡◌, true, List, ap, ◌∙◌, sym, subst}
 use Rattle.lot_base.specs.declared.wants.Want.{Want}
-use Rattle.lot_calls.specs.declared.calls.RwLockCall.TheVariants.{Downgrade}
+use Rattle.lot_rwlock.specs.declared.purposes.RwLockPurpose.TheVariants.{Downgrade}
 use Rattle.lot_calls.specs.declared.outcomes.Answer.{Answer}
 use Rattle.lot_calls.specs.declared.outcomes.Answer.TheVariants.{Ok}
 use Rattle.lot_rwlock.specs.RwLockSteps.{from_of, to_of, wanted}

@@ -1,7 +1,7 @@
 use Rattle.std.proofs.Common.{rules, ◌≡◌, List, None, true, ap, sym, subst, refl}
 use Rattle.lot_base.specs.Clocks.{IsUp}
 use Rattle.lot_base.specs.declared.wants.Want.{Want}
-use Rattle.lot_calls.specs.declared.calls.RwLockCall.TheVariants.{Enter}
+use Rattle.lot_rwlock.specs.declared.purposes.RwLockPurpose.TheVariants.{Enter}
 use Rattle.lot_calls.specs.declared.outcomes.Answer.{Answer}
 use Rattle.lot_rwlock.specs.RwLockSteps.{wanted, entered}
 use Rattle.lot_words.specs.Rights.{owner_for}

@@ -1,6 +1,6 @@
 use Rattle.std.proofs.Common.{◌∷◌, List, ap, ◌∙◌, subst, refl}
 use Rattle.lot_base.specs.declared.wants.Want.{Want}
-use Rattle.lot_calls.specs.declared.calls.RwLockCall.TheVariants.{Release}
+use Rattle.lot_rwlock.specs.declared.purposes.RwLockPurpose.TheVariants.{Release}
 use Rattle.lot_calls.specs.declared.outcomes.Answer.{Answer}
 use Rattle.lot_rwlock.specs.RwLockSteps.{wanted}
 use Rattle.lot_words.specs.Rights.{owner_for}

@@ -1,7 +1,7 @@
 use Rattle.std.proofs.Common.{rules, ◌≡◌, ◌==◌, ◌∙◌, true, false, ap, subst, sym, List, eq-eqb}
 use Rattle.lot_calls.specs.declared.calls.Access.TheVariants as access
 use Rattle.lot_calls.specs.declared.calls.Patience.TheVariants.{Try}
-use Rattle.lot_calls.specs.declared.calls.RwLockCall.TheVariants.{Enter}
+use Rattle.lot_rwlock.specs.declared.purposes.RwLockPurpose.TheVariants.{Enter}
 use Rattle.lot_calls.specs.declared.outcomes.Answer.TheVariants.{Yes}
 use Rattle.lot_words.specs.declared.owners.Owner.TheVariants as owners
 use Rattle.lot_words.specs.declared.views.View.{View}

@@ -1,6 +1,6 @@
 use Rattle.std.proofs.Common.{rules, List, ap, ◌∙◌, sym, subst, refl, None}
 use Rattle.lot_base.specs.Clocks.{IsUp}
-use Rattle.lot_calls.specs.declared.calls.RwLockCall.TheVariants.{Upgrade}
+use Rattle.lot_rwlock.specs.declared.purposes.RwLockPurpose.TheVariants.{Upgrade}
 use Rattle.lot_calls.specs.declared.outcomes.Answer.{Answer}
 use Rattle.lot_rwlock.specs.RwLockSteps.{entered}
 use Rattle.lot_words.specs.declared.owners.Owner.TheVariants as owners

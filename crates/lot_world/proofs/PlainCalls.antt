@@ -1,0 +1,56 @@
+-- A thread in a call of a reader-writer lock that hands nothing over, and is handed nothing, goes where its call does.
+use Rattle.std.proofs.Common.{ℕ, Bool, false, Option, None, ◌≡◌, refl, ap}
+use Rattle.lot_acts.specs.declared.acts.Act.{Act}
+use Rattle.lot_acts.specs.declared.acts.Act.TheVariants as act
+use Rattle.lot_acts.specs.declared.acts.Whom.TheVariants as whom
+use Rattle.lot_acts.specs.declared.acts.Next.{Next}
+use Rattle.lot_acts.specs.declared.acts.Next.TheVariants as next
+use Rattle.lot_acts.specs.declared.acts.Reply.{Reply}
+use Rattle.lot_acts.specs.Moves.{row_of}
+use Rattle.lot_rwlock.specs.declared.places.Admission.{Admission}
+use Rattle.lot_rwlock.specs.declared.places.RwLockPlace.{RwLockPlace}
+use Rattle.lot_rwlock.specs.RwLockSteps.{rwlock_next}
+use Rattle.lot_rwlock.specs.RwLockCalls.{next_row}
+use Rattle.lot_rwlock_fair.specs.declared.places.RwLockCallPlace.{RwLockCallPlace}
+use Rattle.lot_rwlock_fair.specs.declared.places.RwLockCallPlace.TheVariants.{Plain}
+use Rattle.lot_rwlock_fair.specs.FairSteps.{given, plain_next, unless_given}
+use Rattle.lot_steps.specs.declared.places.Place.{Place}
+use Rattle.lot_steps.specs.declared.places.Place.TheVariants.{RwLock}
+use Rattle.lot_machine.specs.Machine.{State, reply_to}
+use Rattle.lot_steps.specs.Steps.{next_act, next_place, profile, rwlock_does, rwlock_goes}
+
+abbrev pub plain_goes : ℕ → Admission → Next RwLockPlace → Place
+plain_goes l a n = rwlock_goes l a (plain_next n)
+
+abbrev pub plain_does : ℕ → Admission → Next RwLockPlace → Act
+plain_does l a n = rwlock_does l a (plain_next n)
+
+-- where a place leads, its row does
+pub next_is : (l : ℕ) (a : Admission) (n : Next RwLockPlace) → profile (plain_goes l a n) ≡ row_of (next_row a n)
+next_is l a (next.At p) = refl
+next_is l a (next.End answer) = refl
+
+pub plain_leads : (l : ℕ) (a : Admission) (p : RwLockPlace) (told : Reply) → given false p told ≡ None → next_place (RwLock l a (Plain p)) told ≡ plain_goes l a (rwlock_next a p told)
+plain_leads l a p told none = ap (λ (o : Option RwLockCallPlace). rwlock_goes l a (unless_given o (plain_next (rwlock_next a p told)))) none
+
+pub plain_acts : (l : ℕ) (a : Admission) (p : RwLockPlace) (told : Reply) → given false p told ≡ None → next_act (RwLock l a (Plain p)) told ≡ plain_does l a (rwlock_next a p told)
+plain_acts l a p told none = ap (λ (o : Option RwLockCallPlace). rwlock_does l a (unless_given o (plain_next (rwlock_next a p told)))) none
+
+-- no act of its own is told that the thread was handed the lock
+pub never_given : (w : State) (t : ℕ) (b : Bool) (p : RwLockPlace) (y : Act) → given b p (reply_to w t y) ≡ None
+never_given w t b p act.Rest = refl
+never_given w t b p (act.Word l op) = refl
+never_given w t b p (act.HandOver l op) = refl
+never_given w t b p (act.Enter keys) = refl
+never_given w t b p (act.Park l key check x) = refl
+never_given w t b p (act.Stand key x) = refl
+never_given w t b p (act.Take key whom.First) = refl
+never_given w t b p (act.Take key (whom.Picked start recursive)) = refl
+never_given w t b p (act.Take key whom.All) = refl
+never_given w t b p (act.Requeue from to how) = refl
+never_given w t b p (act.Remove key) = refl
+never_given w t b p (act.Leave keys wakes) = refl
+never_given w t b p act.Sleep = refl
+never_given w t b p act.Accept = refl
+never_given w t b p (act.Closure state) = refl
+never_given w t b p (act.End answer) = refl
