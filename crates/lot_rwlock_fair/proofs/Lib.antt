@@ -14,3 +14,4 @@ pub mod FairSleepers
 pub mod FairMoves
 pub mod FairActs
 pub mod FairOwners
+pub mod FairGives

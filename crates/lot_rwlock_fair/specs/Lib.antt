@@ -5,3 +5,4 @@ pub mod FairProfiles
 pub mod FairCalls
 pub mod FairLaws
 pub mod FairMoves
+pub mod FairGives

@@ -1,5 +1,6 @@
 //! What the steps of fair releases and bumps do to the lock.
 ghost use Rattle.lot_rwlock_fair.specs.FairLaws.{FairOwnersFollow, GiversKeep, CallsOpen, FairCallsStand, FairLooksStand, FairSectionsFollow, FairSectionsTell, FairSleepersHear, FairStepsTell, HandOversGive, FairStepsCode, FairStepsFollow, HandOversCode, HandOversFollow, HandOversKeepLimit, HandOversTell};
+ghost use Rattle.lot_rwlock_fair.specs.FairGives.{FairReleasesGive};
 ghost use Rattle.lot_rwlock_fair.specs.FairMoves.{FairActsMove, FairLateMove, FairSleepersMove, HandOversMove, HandedMove};
 
 /// Each step on the word may do to the lock what its deeds say, and its next place says what the thread does then.
@@ -105,4 +106,10 @@ pub fn fair_owners_follow()
 /// A hand-over leaves the owners of the lock without the right that it gives up, before the others have theirs.
 pub fn givers_keep()
     ensures { GiversKeep }
+{}
+
+/// A fair release, or a bump, of more than a shared right gives the lock to all whom it has taken in one step, or lets it go where nobody waits;
+/// where the limit would be passed they stay in its hand, to be woken.
+pub fn fair_releases_give()
+    ensures { FairReleasesGive }
 {}

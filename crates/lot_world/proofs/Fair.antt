@@ -228,7 +228,7 @@ module _ (w : State) (t l : ℕ) (shape : IsShaped w) (steady : IsSteady w) (own
   go_gives : (p : Place) → place_at w t ≡ p → PlaceFits (length w.locks) p → IsFairRelease (call_state p (rights w t)).purpose l → ComesTo w t l (state_after_act w t p (act_of p))
   go_gives Idle is fits h = absurd h
   go_gives (RwLock k a (Plain p)) is fits h = absurd (never_fair k l p.purpose h)
-  go_gives (RwLock k a c) is fits h = absurd (subst (FitsItsLock w) is (steady.stands.calls t))
+  go_gives (RwLock k a c) is fits h = absurd (subst (FitsItsLock w) is (steady.stands.calls t)).2
   go_gives (Mutex k (Lock entries.Lock retries a)) is fits h = absurd h
   go_gives (Mutex k (Lock entries.LockTimed retries a)) is fits h = absurd h
   go_gives (Mutex k (Lock entries.Bump retries a)) is fits h = rw h (lock_keeps (here k h fits.0) retries a)
@@ -277,7 +277,7 @@ locked_by v o u c e = by_code (λ v o. o ≡ Some u → is_locked v ≡ true) (�
 fair_mutex : (w : State) (p : Place) (l : ℕ) (r : ℕ → Rights) → FitsItsLock w p → IsFairRelease (call_state p r).purpose l → is_mutex (kind_at w l) ≡ true
 fair_mutex w Idle l r fits h = absurd h
 fair_mutex w (RwLock k a (Plain p)) l r fits h = absurd (never_fair k l p.purpose h)
-fair_mutex w (RwLock k a c) l r fits h = absurd fits
+fair_mutex w (RwLock k a c) l r fits h = absurd fits.2
 fair_mutex w (Mutex k (Lock entries.Lock retries a)) l r fits h = absurd h
 fair_mutex w (Mutex k (Lock entries.LockTimed retries a)) l r fits h = absurd h
 fair_mutex w (Mutex k (Lock entries.Bump retries a)) l r fits h = rw (← h) fits

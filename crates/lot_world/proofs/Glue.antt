@@ -22,7 +22,6 @@ use Rattle.std.proofs.Math.Bool.{or-false}
 use Rattle.lot_mutex.specs.MutexSteps.{is_parked}
 use Rattle.lot_acts.specs.declared.acts.Next.{Next}
 use Rattle.lot_rwlock_fair.specs.declared.places.RwLockCallPlace.{RwLockCallPlace}
-use Rattle.lot_rwlock_fair.specs.declared.places.RwLockCallPlace.TheVariants.{Plain}
 use Rattle.lot_rwlock_fair.specs.FairSteps.{call_next}
 use Rattle.lot_acts.specs.declared.acts.Next as next
 use Rattle.lot_mutex.specs.MutexSteps.{mutex_next}
@@ -219,10 +218,9 @@ IsMutexCall l (RwLock k a at) = k ≢ l
 IsMutexCall l p = Unit {0}
 
 pub mutex_calls : (w : State) (l : ℕ) (p : Place) → FitsItsLock w p → rules_in w l ≡ mutex → IsMutexCall l p
-mutex_calls w l (RwLock k a (Plain at)) calls rules = λ here.
+mutex_calls w l (RwLock k a c) calls rules = λ here.
     let readers : has_readers (rules_in w k).sort ≡ true = calls.0.0 in
     let none : has_readers (rules_in w k).sort ≡ false = ap (λ n. has_readers (rules_in w n).sort) here ∙ ap (λ (r : Rules). has_readers r.sort) rules in cc
-mutex_calls w l (RwLock k a c) calls rules = absurd calls
 mutex_calls w l (Mutex k at) calls rules = tt
 mutex_calls w l Idle calls rules = tt
 

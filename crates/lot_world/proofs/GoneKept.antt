@@ -9,7 +9,6 @@ use Rattle.lot_base.specs.declared.wants.Want.TheVariants.{Exclusive}
 use Rattle.lot_base.specs.Lines.{without, first_of, times}
 use Rattle.lot_steps.specs.declared.places.Place.{Place}
 use Rattle.lot_steps.specs.declared.places.Place.TheVariants.{Idle, Mutex, RwLock}
-use Rattle.lot_rwlock_fair.specs.declared.places.RwLockCallPlace.TheVariants.{Plain}
 use Rattle.lot_mutex.specs.declared.lock.Entry.{Entry}
 use Rattle.lot_mutex.specs.declared.lock.Entry.TheVariants as entries
 use Rattle.lot_mutex.specs.declared.places.MutexPlace.{MutexPlace}
@@ -70,12 +69,11 @@ asleep_at k l at f g = absurd cc
 
 pub asleep : (w : State) (p : Place) (l : ℕ) → rules_in w l ≡ mutex → FitsItsLock w p → (station_at p l).stands ≡ Some Main → ((station_at p l).inside ≡ Some Main) ⊎ IsAsleep p l
 asleep w Idle l r c h = absurd cc
-asleep w (RwLock k a (Plain at)) l r c h = either (k == l) refl h
+asleep w (RwLock k a at) l r c h = either (k == l) refl h
   where
-    either : (b : Bool) → (k == l) ≡ b → (if b then station (RwLock k a (Plain at)) else nowhere).stands ≡ Some Main → ((if b then station (RwLock k a (Plain at)) else nowhere).inside ≡ Some Main) ⊎ IsAsleep (RwLock k a (Plain at)) l
+    either : (b : Bool) → (k == l) ≡ b → (if b then station (RwLock k a at) else nowhere).stands ≡ Some Main → ((if b then station (RwLock k a at) else nowhere).inside ≡ Some Main) ⊎ IsAsleep (RwLock k a at) l
     either true e g = absurd (let own : k ≡ l = eqb-true k l e in let shared : has_readers (rules_in w k).sort ≡ true = c.0.0 in let f : has_readers mutex.sort ≡ true = rw (own, r) at shared in cc)
     either false e g = absurd cc
-asleep w (RwLock k a at) l r c h = absurd c
 asleep w (Mutex k at) l r c h = either (k == l) refl h
   where
     either : (b : Bool) → (k == l) ≡ b → (if b then mutex_station at else nowhere).stands ≡ Some Main → ((if b then mutex_station at else nowhere).inside ≡ Some Main) ⊎ IsAsleep (Mutex k at) l
@@ -253,5 +251,4 @@ module _ (w : State) (t : ℕ) (steady : IsSteady w) (shape : IsShaped w) (there
   pub gone_kept : (p : Place) → place_at w t ≡ p → PlaceFits (length w.locks) p → can_do w (act_of p) ≡ true → IsSteady (go_by w t p (act_of p))
   gone_kept Idle is fits can = absurd cc
   gone_kept (Mutex l at) is fits can = goes_steady w _ l _ steady (gone_goes l at is fits.0 can).1
-  gone_kept (RwLock l a (Plain p)) is fits can = goes_steady w _ l _ steady (rwlock_goes_on w t l a p steady shape there fits is can).goes
-  gone_kept (RwLock l a c) is fits can = absurd (subst (FitsItsLock w) is (steady.stands.calls t))
+  gone_kept (RwLock l a c) is fits can = goes_steady w _ l _ steady (rwlock_goes_on w t l a c steady shape there fits is can).goes

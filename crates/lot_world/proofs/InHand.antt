@@ -45,10 +45,10 @@ shares_by t (Some h) = either (h.by == t)
     either true = refl
     either false = refl
 
-wanted_is : (t : ℕ) (o : Option Taken) (x : Want) → o ≡ Some (record { by = t; want = x }) → wanted_of t o ≡ Some x
+pub wanted_is : (t : ℕ) (o : Option Taken) (x : Want) → o ≡ Some (record { by = t; want = x }) → wanted_of t o ≡ Some x
 wanted_is t o x e = ap (wanted_of t) e ∙ ap (λ b. if b then Some x else None) (let g : (t == t) ≡ true = grind (arith, nat_tests) in g)
 
-is_wanted : (t : ℕ) (o : Option Taken) (x : Want) → wanted_of t o ≡ Some x → o ≡ Some (record { by = t; want = x })
+pub is_wanted : (t : ℕ) (o : Option Taken) (x : Want) → wanted_of t o ≡ Some x → o ≡ Some (record { by = t; want = x })
 is_wanted t None x e = absurd cc
 is_wanted t (Some h) x e = either (h.by == t) refl e
   where
@@ -73,7 +73,7 @@ hand_stays n t p q number more e h = record {
 
 -- ---------------------------------------------------------------- what the lock hands over
 
-shared_by : (t : ℕ) (taken : ℕ → Option Taken) (i : ℕ) (ns : List ℕ) → sum (sharing_from t taken i ns) ≡ sum ns + sharers_from t taken i (length ns)
+pub shared_by : (t : ℕ) (taken : ℕ → Option Taken) (i : ℕ) (ns : List ℕ) → sum (sharing_from t taken i ns) ≡ sum ns + sharers_from t taken i (length ns)
 shared_by t taken i [] = refl
 shared_by t taken i (n ∷ ns) =
     let a = sum_cons n ns in
@@ -91,7 +91,7 @@ succeeds_so s t n number more h = h.heir
 
 -- ---------------------------------------------------------------- what the machine counts
 
-counted : (t i : ℕ) (taken : ℕ → Option Taken) (ps : List Place) → ((j : ℕ) → shares_handed t (taken (i + j)) ≡ (if shares_in_hand t (held (get_or ps j Idle)) then 1 else 0)) → sharers t ps ≡ sharers_from t taken i (length ps)
+pub counted : (t i : ℕ) (taken : ℕ → Option Taken) (ps : List Place) → ((j : ℕ) → shares_handed t (taken (i + j)) ≡ (if shares_in_hand t (held (get_or ps j Idle)) then 1 else 0)) → sharers t ps ≡ sharers_from t taken i (length ps)
 counted t i taken [] each = refl
 counted t i taken (p ∷ ps) each =
     let first : shares_handed t (taken i) ≡ (if shares_in_hand t (held p) then 1 else 0) = subst (λ k. shares_handed t (taken k) ≡ (if shares_in_hand t (held p) then 1 else 0)) (let z : i + 0 ≡ i = omega arith in z) (each 0) in

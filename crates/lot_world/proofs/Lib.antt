@@ -21,8 +21,10 @@ pub mod AnyPicked
 pub mod MovesKept
 pub mod HandsMoved
 pub mod InHand
+pub mod HandsCounted
 pub mod SitesKept
 pub mod RwLockKept
+pub mod HandsOn
 pub mod SectionsKept
 pub mod GoneKept
 pub mod Looking
@@ -60,6 +62,8 @@ pub mod SoloAnswers
 pub mod LineSolo
 pub mod RwLockSolo
 pub mod RwLockEnds
+pub mod CallSolo
+pub mod BumpSolo
 pub mod Solo
 pub mod Owing
 pub mod WorldRuns

@@ -19,12 +19,12 @@ use Rattle.lot_acts.specs.declared.acts.Reply.TheVariants.{Done, Value, Parked}
 use Rattle.lot_acts.specs.declared.acts.Wakes.{Wakes}
 use Rattle.lot_acts.specs.declared.acts.Wakes.TheVariants as notes
 use Rattle.lot_acts.specs.declared.acts.Whom.{Whom}
-use Rattle.lot_acts.specs.Acts.{holds, outcome_of}
+use Rattle.lot_acts.specs.Acts.{holds, outcome_of, takes_effect}
 use Rattle.lot_steps.specs.declared.places.Place.{Place}
 use Rattle.lot_steps.specs.declared.places.Place.TheVariants.{Idle}
 use Rattle.lot_steps.specs.Steps.{act_of, next_place, next_act}
 use Rattle.abstract_locks.specs.Sites.{Line, Main, Second}
-use Rattle.lot_machine.specs.Machine.{State, unlocked, place_at, word_at, section_at, queue_at, put, state_after_operation, state_with_sections, queues_with_last, state_after_act, state_after_take, state_after_wake, state_after_go, go_outcome, reply_to, can_do, is_possible, after, step_outcome, go_of}
+use Rattle.lot_machine.specs.Machine.{State, unlocked, place_at, word_at, section_at, queue_at, put, state_after_hand_over_by, state_after_operation, state_with_sections, queues_with_last, state_after_act, state_after_take, state_after_wake, state_after_go, go_outcome, reply_to, can_do, is_possible, after, step_outcome, go_of}
 use Rattle.lot_machine.specs.Fits.{IsShaped, SameSize}
 use Rattle.lot_machine.proofs.Shape.{after_shaped, after_size, main_key_there, performed_counts}
 use Rattle.lot_world.specs.SitesOf.{IsSteady, key_of, stood_in}
@@ -89,6 +89,29 @@ module _ (w : State) (t l : ℕ) (p : Place) (v : ℕ) (q : Line → List Waiter
   pub word_comes : (x : Op) → act_of p ≡ act.Word l x → Comes w t l (next_place p (Value v)) (outcome_of (next_act p (Value v))) (apply x v) q
   word_comes x is = comes (state_after_operation w t p l x) (Value v) (apply x v) q (rw is refl) (ap (state_after_act w t p) is) (ap (reply_to w t) is ∙ ap Value f.word)
       (ap (λ y. y.word) (get_or-set_same w.locks l _ (unlocked kind.Mutex) f.lock) ∙ ap (apply x) f.word) f.queue f.way
+
+  -- a right is handed over to those in hand, or an exchange fails
+  pub hand_comes : (x : Op) → act_of p ≡ act.HandOver l x → Comes w t l (next_place p (Value v)) (outcome_of (next_act p (Value v))) (apply x v) q
+  hand_comes x is = by_effect (takes_effect x (word_at w l)) refl
+    where
+      word : (b : Bool) → word_at (state_after_hand_over_by b w t p l x) l ≡ apply x v
+      word true = ap (λ y. y.word) (get_or-set_same w.locks l _ (unlocked kind.Mutex) f.lock) ∙ ap (apply x) f.word
+      word false = ap (λ y. y.word) (get_or-set_same w.locks l _ (unlocked kind.Mutex) f.lock) ∙ ap (apply x) f.word
+
+      queue : (b : Bool) (m : Line) → queue_at (state_after_hand_over_by b w t p l x) (key_of l m) ≡ q m
+      queue true m = f.queue m
+      queue false m = f.queue m
+
+      way : (b : Bool) (m : Line) (u : ℕ) → section_at (state_after_hand_over_by b w t p l x) (key_of l m) ≡ Some u → u ≡ t
+      way true m u e = f.way m u e
+      way false m u e = f.way m u e
+
+      by_effect : (b : Bool) → takes_effect x (word_at w l) ≡ b → Comes w t l (next_place p (Value v)) (outcome_of (next_act p (Value v))) (apply x v) q
+      by_effect b e = comes (state_after_hand_over_by b w t p l x) (Value v) (apply x v) q (rw is refl) (ap (state_after_act w t p) is ∙ ap (λ b. state_after_hand_over_by b w t p l x) e) (ap (reply_to w t) is ∙ ap Value f.word) (word b) (queue b) (way b)
+
+  -- it was handed the lock
+  pub accept_comes : act_of p ≡ act.Accept → Comes w t l (next_place p Done) (outcome_of (next_act p Done)) v q
+  accept_comes is = comes w Done v q (rw is refl) (ap (state_after_act w t p) is) (ap (reply_to w t) is) f.word f.queue f.way
 
   -- somebody is inside the section of a line then, or nobody
   way_then : (m : Line) (who : Option ℕ) → ((u : ℕ) → who ≡ Some u → u ≡ t) → (n : Line) (u : ℕ) → section_at (state_with_sections w (One (key_of l m)) who) (key_of l n) ≡ Some u → u ≡ t

@@ -3,17 +3,15 @@ use Rattle.std.proofs.Common.{◌≤◌, ◌++◌, arith, ℕ, Bool, true, false
 use Rattle.lot_acts.specs.Profiles.{taken_from}
 use Rattle.lot_rwlock.specs.declared.places.RwLockAt.TheVariants as at
 use Rattle.lot_rwlock.specs.declared.park.ParkAt.TheVariants as parking
-use Rattle.lot_rwlock.proofs.RwLockCallPlaces.{rwlock_sleepers_hear}
 use Rattle.lot_base.specs.Keys.{key_of}
 use Rattle.lot_base.specs.declared.keys.Line.{Line}
 use Rattle.lot_rwlock.specs.declared.places.RwLockAt.{RwLockAt}
 use Rattle.lot_rwlock.specs.RwLockSteps.{rwlock_next, next_at, patience_of}
-use Rattle.lot_rwlock.specs.RwLockCalls.{MayStand}
 use Rattle.lot_rwlock.specs.declared.places.Admission.{Admission}
 use Rattle.lot_rwlock.specs.declared.places.RwLockPlace.{RwLockPlace}
 use Rattle.lot_rwlock.specs.declared.purposes.RwLockPurpose.{RwLockPurpose}
 use Rattle.lot_rwlock.specs.declared.purposes.RwLockPurpose.TheVariants as purposes
-use Rattle.lot_rwlock.specs.RwLockProfiles.{purpose_by, rwlock_late_line, late_line_at, hand_at as rwlock_hand, wants_for}
+use Rattle.lot_rwlock.specs.RwLockProfiles.{purpose_by, rwlock_late_line, late_line_at, hand_at as rwlock_hand}
 use Rattle.lot_rwlock.specs.RwLockDeeds.{Admits}
 use Rattle.abstract_locks.specs.Sites.{has_readers}
 use Rattle.abstract_locks.specs.Locks.{Mutex as Mutual}
@@ -51,7 +49,7 @@ use Rattle.lot_steps.specs.declared.places.Place.{Place}
 use Rattle.lot_steps.specs.declared.places.Place.TheVariants.{Idle, Mutex, RwLock}
 use Rattle.lot_acts.specs.Acts.{outcome_of}
 use Rattle.lot_mutex.specs.MutexSteps.{mutex_first, mutex_right, is_locked, is_parked, lock_act, unlock_act, hand_off_word, hand_off_act}
-use Rattle.lot_steps.specs.Steps.{act_of, next_place, next_act, mutex_goes, mutex_does, looking, late_key, is_idle, has_right, first_place, key_in, calls}
+use Rattle.lot_steps.specs.Steps.{act_of, next_place, next_act, mutex_goes, mutex_does, looking, late_key, is_idle, has_right, first_place, rwlock_goes, key_in, calls}
 use Rattle.lot_machine.specs.Machine.{unshared_then, hand_over_told, State, place_at, word_at, owners_at, kind_at, section_at, put, state_after_act, go_reply, state_after_operation, state_after_hand_over, state_with_sections, reply_to, can_do, state_after_look, look_outcome, state_after_go, state_after_going, go_outcome, going_outcome, state_after_late_on, is_free_under, state_after_begin, can_begin, is_open_to, can_turn, state_after_turn, turn_outcome, is_possible, after, step_outcome, share_at}
 use Rattle.lot_machine.specs.Fits.{IsShaped, SameSize, PlaceFits, GivesUpTimed}
 use Rattle.lot_machine.proofs.Shape.{looking_shaped, after_size, both, performed_counts}
@@ -73,9 +71,13 @@ use Rattle.lot_world.specs.Refinement.{owner_at, lock_state, taken_at, call_stat
 use Rattle.lot_world.proofs.KindsKept.{after_kinds, calls_built, calls_mutex, calls_readers}
 use Rattle.lot_world.proofs.RwLockEvents.{rwlock_begins_with, rwlock_purpose_is, rwlock_right_held, rwlock_right_needed, rwlock_step, rwlock_untaken_first}
 use Rattle.lot_rwlock.specs.RwLockBegins.{admission_of}
-use Rattle.lot_rwlock_fair.specs.declared.places.RwLockCallPlace.TheVariants.{Plain}
+use Rattle.lot_rwlock_fair.specs.declared.places.RwLockCallPlace.{RwLockCallPlace}
+use Rattle.lot_rwlock_fair.specs.declared.places.RwLockCallPlace.TheVariants.{Plain, Glance, HandOver, Bump as BumpCall, Handed}
+use Rattle.lot_rwlock_fair.specs.FairCalls.{CallStands}
+use Rattle.lot_rwlock_fair.specs.FairProfiles.{call_late_line, call_profile}
+use Rattle.lot_rwlock_fair.specs.FairSteps.{bump_next, call_next, plain_next}
+use Rattle.lot_rwlock_fair.proofs.FairSleepers.{fair_sleepers_hear}
 use Rattle.lot_rwlock_fair.specs.FairBegins.{call_first, call_right}
-use Rattle.lot_world.proofs.PlainCalls.{plain_goes}
 use Rattle.std.specs.Prelude.{replicate}
 use Rattle.lot_acts.specs.declared.acts.Reply.{Reply}
 use Rattle.lot_mutex.specs.declared.places.MutexPlace.{MutexPlace}
@@ -111,6 +113,22 @@ late_place a p m h = by_place p.at refl h
     by_place (at.Park to) e h = absurd cc
     by_place (at.Aside to) e h = absurd cc
     by_place to e h = absurd cc
+
+call_late : (a : Admission) (c : RwLockCallPlace) (m : Line) → call_late_line c ≡ Some m
+    → (d : RwLockCallPlace) × (call_next a c reply.Late ≡ next.At d) × ((call_profile a c).hand ≡ None) × ((call_profile a d).hand ≡ None)
+call_late a (Plain p) m h = let z = late_place a p m h in (Plain z.0, ap plain_next z.1, z.2, z.3)
+call_late a (BumpCall p) m h = let z = late_place a p m h in (BumpCall z.0, ap (bump_next p.purpose) z.1, z.2, z.3)
+call_late a (Glance x) m h = absurd cc
+call_late a (HandOver x b to) m h = absurd cc
+call_late a (Handed x how b to) m h = absurd cc
+
+-- its line stands in its row
+late_row : (a : Admission) (c : RwLockCallPlace) → (call_profile a c).late_line ≡ call_late_line c
+late_row a (Plain p) = refl
+late_row a (BumpCall p) = refl
+late_row a (Glance x) = refl
+late_row a (HandOver x b to) = refl
+late_row a (Handed x how b to) = refl
 
 -- ---------------------------------------------------------------- a thread goes on
 
@@ -329,8 +347,7 @@ module _ (w : State) (t : ℕ) (shape : IsShaped w) (steady : IsSteady w) (there
 
   go_goes : (p : Place) → place_at w t ≡ p → PlaceFits (length w.locks) p → FitsItsLock w p → can_do w (act_of p) ≡ true → GoesOn (locks_of w) t (outcome_of (next_act p (reply_to w t (act_of p)))) (locks_of (go_by w t p (act_of p)))
   go_goes Idle is fits of can = absurd cc
-  go_goes (RwLock l a (Plain p)) is fits of can = rwlock_step w t l a p steady shape there fits is can
-  go_goes (RwLock l a c) is fits of can = absurd of
+  go_goes (RwLock l a c) is fits of can = rwlock_step w t l a c steady shape there fits is can
   go_goes (Mutex l at) is fits of can = mutex_goes_on l fits.0 (mutex_rules (kind_at w l) of) at is can fits.1
 
   -- ---------------------------------------------------------------- turns by which the place alone changes
@@ -357,24 +374,23 @@ module _ (w : State) (t : ℕ) (shape : IsShaped w) (steady : IsSteady w) (there
   late_goes : (p : Place) → place_at w t ≡ p → is_free_under w (late_key p) ≡ true
       → Stays (locks_of w) t (record (call_state p (rights w t)) { late = true }) outcome.TheVariants.Step (locks_of (state_after_late_on w t (late_key p)))
   late_goes Idle is can = absurd cc
-  late_goes (RwLock l a (Plain p)) is can = by_line (rwlock_late_line p) refl can
+  late_goes (RwLock l a c) is can = by_line (call_profile a c).late_line refl can
     where
-      stands : MayStand a p
-      stands = let calls : FitsItsLock w (RwLock l a (Plain p)) = subst (FitsItsLock w) is (steady.stands.calls t) in calls.1
+      stands : CallStands a c
+      stands = let calls : FitsItsLock w (RwLock l a c) = subst (FitsItsLock w) is (steady.stands.calls t) in calls.1
 
-      in_no_hand_at : (x : RwLockPlace) → rwlock_hand x.at ≡ None → (k : ℕ) → taken_at (RwLock l a (Plain x)) k ≡ None
-      in_no_hand_at x e k = ap (λ h. taken_from h (wants_for x.purpose) (calls (RwLock l a (Plain x)) k)) e
+      in_no_hand_at : (d : RwLockCallPlace) → (call_profile a d).hand ≡ None → (k : ℕ) → taken_at (RwLock l a d) k ≡ None
+      in_no_hand_at d e k = ap (λ h. taken_from h (call_profile a d).wants (calls (RwLock l a d) k)) e
 
-      by_line : (m : Option Line) → rwlock_late_line p ≡ m → is_free_under w (key_in (Some l) m) ≡ true
-          → Stays (locks_of w) t (record (call_state (RwLock l a (Plain p)) (rights w t)) { late = true }) outcome.TheVariants.Step (locks_of (state_after_late_on w t (key_in (Some l) m)))
+      by_line : (m : Option Line) → (call_profile a c).late_line ≡ m → is_free_under w (key_in (Some l) m) ≡ true
+          → Stays (locks_of w) t (record (call_state (RwLock l a c) (rights w t)) { late = true }) outcome.TheVariants.Step (locks_of (state_after_late_on w t (key_in (Some l) m)))
       by_line None e can = absurd cc
-      by_line (Some m) e can = let z = late_place a p m e in
-          placed (state_with_sections w (One (key_of l m)) (Some t)).sections (RwLock l a (Plain p)) (next_place (place_at w t) reply.Late) is
-          (λ k. ap (λ y. taken_at (next_place y reply.Late) k) is ∙ ap (λ n. taken_at (plain_goes l a n) k) z.1 ∙ in_no_hand_at z.0 z.3 k ∙ sym (in_no_hand_at p z.2 k)) _
-          (λ r same_rights. ap (λ y. call_state (next_place y reply.Late) r) is ∙ ap (λ n. call_state (plain_goes l a n) r) z.1
-          ∙ (rwlock_sleepers_hear a l p stands).late (λ none. let f : ◌≡◌ {A = Option Line} None (Some m) = sym none ∙ e in cc) z.0 r z.1
-          ∙ ap (λ x. record (call_state (RwLock l a (Plain p)) x) { late = true }) same_rights)
-  late_goes (RwLock l a c) is can = absurd (subst (FitsItsLock w) is (steady.stands.calls t))
+      by_line (Some m) e can = let z = call_late a c m (sym (late_row a c) ∙ e) in
+          placed (state_with_sections w (One (key_of l m)) (Some t)).sections (RwLock l a c) (next_place (place_at w t) reply.Late) is
+          (λ k. ap (λ y. taken_at (next_place y reply.Late) k) is ∙ ap (λ n. taken_at (rwlock_goes l a n) k) z.1 ∙ in_no_hand_at z.0 z.3 k ∙ sym (in_no_hand_at c z.2 k)) _
+          (λ r same_rights. ap (λ y. call_state (next_place y reply.Late) r) is ∙ ap (λ n. call_state (rwlock_goes l a n) r) z.1
+          ∙ (fair_sleepers_hear a l c stands).late (λ none. let f : ◌≡◌ {A = Option Line} None (Some m) = sym none ∙ e in cc) z.0 r z.1
+          ∙ ap (λ x. record (call_state (RwLock l a c) x) { late = true }) same_rights)
   late_goes (Mutex l (Lock entries.LockTimed retries Asleep)) is can = placed (state_with_sections w (One (2 * l)) (Some t)).sections (Mutex l (Lock entries.LockTimed retries Asleep)) (next_place (place_at w t) reply.Late) is (rw is (λ k. refl)) _ (rw is (λ r e. rw e refl))
   late_goes (Mutex l (Lock entries.Lock retries Asleep)) is can = absurd cc
   late_goes (Mutex l (Lock entries.Bump retries Asleep)) is can = absurd cc
@@ -389,8 +405,8 @@ module _ (w : State) (t : ℕ) (shape : IsShaped w) (steady : IsSteady w) (there
 -- ---------------------------------------------------------------- a look at the word once more
 
 -- a call of a reader-writer lock is of no mutex
-not_mutex : (w : State) (l : ℕ) (a : Admission) (at : RwLockPlace) → Admits (rules_in w l) a → (r : ℕ → Rights) → IsOfMutex (locks_of w) (call_state (RwLock l a (Plain at)) r).purpose → ⊥
-not_mutex w l a at admits r of = by_purpose at.purpose of
+not_mutex : (w : State) (l : ℕ) (a : Admission) (c : RwLockCallPlace) → Admits (rules_in w l) a → (r : ℕ → Rights) → IsOfMutex (locks_of w) (call_state (RwLock l a c) r).purpose → ⊥
+not_mutex w l a c admits r of = by_call c of
   where
     readers : (rules_in w l).sort ≡ Mutual → ⊥
     readers e = let f : has_readers (rules_in w l).sort ≡ false = ap has_readers e in let g : has_readers (rules_in w l).sort ≡ true = admits.0 in cc
@@ -400,6 +416,15 @@ not_mutex w l a at admits r of = by_purpose at.purpose of
     by_purpose (purposes.Release x) e = readers e
     by_purpose (purposes.Downgrade d) e = readers e
     by_purpose (purposes.Upgrade how) e = readers e
+
+    by_call : (d : RwLockCallPlace) → IsOfMutex (locks_of w) (Some ((call_profile a d).purpose l)) → ⊥
+    by_call (Plain p) e = by_purpose p.purpose e
+    by_call (BumpCall p) e = readers e
+    by_call (Glance x) e = readers e
+    by_call (HandOver x true to) e = readers e
+    by_call (HandOver x false to) e = readers e
+    by_call (Handed x how true to) e = readers e
+    by_call (Handed x how false to) e = readers e
 
 -- its call goes on by what it sees there
 module _ (w : State) (t : ℕ) (shape : IsShaped w) (steady : IsSteady w) (there : t < length w.places) (q : Place) (is : looking (place_at w t) ≡ Some q) where
@@ -417,8 +442,7 @@ module _ (w : State) (t : ℕ) (shape : IsShaped w) (steady : IsSteady w) (there
 
   look_stays : (p : Place) → place_at w t ≡ p → IsOfMutex (locks_of w) (call_state p (rights w t)).purpose → Stays (locks_of w) t ((locks_of w).calls t) (go_outcome moved t) (locks_of (state_after_go moved t))
   look_stays Idle e of = absurd of
-  look_stays (RwLock l a (Plain at)) e of = absurd (let calls : FitsItsLock w (RwLock l a (Plain at)) = subst (FitsItsLock w) e (steady.stands.calls t) in not_mutex w l a at calls.0 (rights w t) of)
-  look_stays (RwLock l a c) e of = absurd (subst (FitsItsLock w) e (steady.stands.calls t))
+  look_stays (RwLock l a c) e of = absurd (let calls : FitsItsLock w (RwLock l a c) = subst (FitsItsLock w) e (steady.stands.calls t) in not_mutex w l a c calls.0 (rights w t) of)
   look_stays (Mutex l at) e of = let loads = mutex_looks l at q (ap looking (sym e) ∙ is) in
       let now : place_at moved t ≡ Mutex l (Lock loads.0 loads.1 Load) = here w t there q is ∙ loads.2 in
       stays_as_before w t there q is _ (locks_of (state_after_go moved t)) (subst (λ p. Stays (locks_of moved) t ((locks_of moved).calls t) (going_outcome moved t p) (locks_of (state_after_going moved t p))) (sym now)

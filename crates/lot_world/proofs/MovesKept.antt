@@ -16,8 +16,9 @@ use Rattle.lot_acts.specs.declared.acts.Wakes.{Wakes}
 use Rattle.lot_acts.specs.declared.acts.Reply.TheVariants.{Done, Value, Parked, Took, Picked, Removed, TakenBy, Woken}
 use Rattle.lot_acts.specs.declared.acts.Whom as whom
 use Rattle.lot_acts.specs.Acts.{holds, wakes_taken}
-use Rattle.lot_acts.specs.Moves.{Move, Hears, StaysPut, GoesIn, Parks, Picks, TakesAside, LeavesLine, GoesOut, Sleeps, IsHeld, Waits, AreOfWord, AreLeaving, parks_in, inside_of, station_of, station_then}
+use Rattle.lot_acts.specs.Moves.{Move, Hears, StaysPut, GoesIn, Parks, Picks, TakesAside, LeavesLine, GoesOut, Sleeps, IsHeld, AreOfWord, AreLeaving, parks_in, inside_of, station_of, station_then}
 use Rattle.lot_acts.specs.Profiles.{Profile, Hand, Of, hand, in_hand, taken_from}
+use Rattle.lot_rwlock_fair.specs.FairMoves.{CallWaits}
 use Rattle.lot_acts.specs.Stations.{Station, station_by, nowhere, waits_for}
 use Rattle.lot_steps.specs.declared.places.Place.{Place}
 use Rattle.lot_steps.specs.Steps.{next_place, profile, wants, taker, lock_of, is_lock, calls}
@@ -280,7 +281,7 @@ module _ (w : State) (t l : ℕ) (steady : IsSteady w) (there : t < length w.pla
   pub record IsSleeper (u : ℕ) : Type 0 where
     pub move : Move
     pub row : profile (place_at w u) ≡ move.row
-    pub waits : Waits move
+    pub waits : CallWaits move
     pub taken : profile (next_place (place_at w u) (TakenBy t)) ≡ move.next (TakenBy t)
     pub woken : profile (next_place (place_at w u) (Woken Normal)) ≡ move.next (Woken Normal)
     pub taken_fits : FitsItsLock w (next_place (place_at w u) (TakenBy t))
@@ -310,13 +311,23 @@ module _ (w : State) (t l : ℕ) (steady : IsSteady w) (there : t < length w.pla
       by_lock (Some k) f g = ap (λ j. j == l) g ∙ same l
 
   module _ (asleep : (u : ℕ) → calls (place_at w u) l ≡ true → IsSleeper u) where
-    -- whom t has in hand is woken, and tries again
-    pub wakes_one : (u : ℕ) (b : Bool) → hand_at (place_at w u) l ≡ hand t b → IsWoken w t l b Normal (place_at w u)
-    wakes_one u b held = let k = by_calls (place_at w u) (λ (y : Station). y.hand) (Of t b) refl held in by_sleeper (called (place_at w u) k.0) k.0 k.1 (asleep u k.0)
+    -- whom t has in hand is woken, and tries again, where t has handed nothing over
+    pub wakes_one : (any : Bool) → (station_of x).carries ≡ in_hand any false → (u : ℕ) (b : Bool) → hand_at (place_at w u) l ≡ hand t b → IsWoken w t l b Normal (place_at w u)
+    wakes_one any carries u b held = let k = by_calls (place_at w u) (λ (y : Station). y.hand) (Of t b) refl held in by_sleeper (called (place_at w u) k.0) k.0 k.1 (asleep u k.0)
       where
         by_sleeper : IsOf l (place_at w u) → calls (place_at w u) l ≡ true → (station (place_at w u)).hand ≡ hand t b → IsSleeper u → IsWoken w t l b Normal (place_at w u)
-        by_sleeper of_u calls_l h z = by_held (z.waits.held t b (sym (ap (λ (y : Profile). y.hand) z.row) ∙ h))
+        by_sleeper of_u calls_l h z = by_held (fresh, z.waits.held t (sym (ap (λ (y : Profile). y.hand) z.row) ∙ h ∙ ap (hand t) fresh))
           where
+            fresh : b ≡ false
+            fresh = by_any any (sym carries ∙ sym station_carries ∙ steady.stands.hands.taken t u l b held)
+              where
+                station_carries : carried_at (place_at w t) l ≡ (station_of x).carries
+                station_carries = ap (λ (y : Station). y.carries) (station_here l (place_at w t) own ∙ station_is)
+
+                by_any : (c : Bool) → in_hand c false ≡ Some b → b ≡ false
+                by_any true e = let f : false ≡ b = cc in sym f
+                by_any false e = absurd cc
+
             p2 : Place
             p2 = next_place (place_at w u) (Woken Normal)
 

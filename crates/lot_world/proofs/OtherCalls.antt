@@ -1,17 +1,5 @@
 -- What an act of one thread makes of the calls of the others: nothing, but where it wakes those in its hand or hands them the lock.
-use Rattle.std.proofs.Common.{ℕ, Bool, true, false, Option, Some, None, if◌then◌else◌, ◌≡◌, ◌≢◌, inl, inr, List, [], ◌∷◌, get_or, set, refl, sym, ◌∙◌, ap, subst, get_or-set_other, ◌==◌}
-use Rattle.lot_base.specs.declared.wants.Want.TheVariants.{Exclusive}
-use Rattle.lot_base.specs.declared.wants.Want.{Want}
-use Rattle.lot_rwlock.specs.declared.places.Admission.{Admission}
-use Rattle.lot_rwlock.specs.declared.places.RwLockAt.{RwLockAt}
-use Rattle.lot_rwlock.specs.declared.places.RwLockAt.TheVariants as at
-use Rattle.lot_rwlock.specs.declared.park.ParkAt.TheVariants as parking
-use Rattle.lot_rwlock.specs.declared.purposes.RwLockPurpose.{RwLockPurpose}
-use Rattle.lot_rwlock.specs.declared.purposes.RwLockPurpose.TheVariants as purpose
-use Rattle.lot_calls.specs.declared.calls.Access.TheVariants as access
-use Rattle.lot_rwlock.specs.RwLockProfiles.{hand_at as rwlock_hand, wants_for}
-use Rattle.lot_rwlock.specs.RwLockCalls.{StandsAt}
-use Rattle.abstract_locks.specs.Purposes.{wanted}
+use Rattle.std.proofs.Common.{ℕ, Bool, true, false, Option, Some, None, if◌then◌else◌, ◌≡◌, ◌≢◌, ◌⊎◌, inl, inr, List, [], ◌∷◌, get_or, set, refl, sym, ◌∙◌, ap, subst, get_or-set_other, ◌==◌}
 use Rattle.lot_acts.specs.Profiles.{taken_from}
 use Rattle.std.proofs.Math.ListN.{get_or-map}
 use Rattle.std.proofs.lemmas.Bool.{cases_eq}
@@ -33,7 +21,14 @@ use Rattle.lot_acts.specs.Profiles.{hand}
 use Rattle.lot_steps.specs.Steps.{lock_of, next_place, taker}
 use Rattle.lot_steps.specs.declared.places.Place.{Place}
 use Rattle.lot_steps.specs.declared.places.Place.TheVariants.{Idle, RwLock, Mutex}
-use Rattle.lot_rwlock_fair.specs.declared.places.RwLockCallPlace.TheVariants.{Plain}
+use Rattle.lot_rwlock_fair.specs.declared.places.RwLockCallPlace.{RwLockCallPlace}
+use Rattle.lot_rwlock_fair.specs.declared.places.RwLockCallPlace.TheVariants.{Plain, Glance, HandOver, Bump, Handed}
+use Rattle.lot_rwlock_fair.specs.declared.handed.HandedAt.TheVariants as handed
+use Rattle.lot_rwlock_fair.specs.FairCalls.{CallStands}
+use Rattle.lot_rwlock_fair.specs.FairProfiles.{call_profile}
+use Rattle.lot_rwlock_fair.specs.FairSteps.{handed_woken}
+use Rattle.lot_rwlock_fair.proofs.FairActs.{fair_sleepers_move}
+use Rattle.lot_rwlock_fair.proofs.FairSleepers.{fair_sleepers_hear, never_given}
 use Rattle.abstract_locks.specs.Locks.{Rights, LockCase, Wake, HandOff}
 use Rattle.abstract_locks.specs.Runs.{AtLock, is_taken_by}
 use Rattle.abstract_locks.specs.Deeds.{event_by}
@@ -62,9 +57,9 @@ IsCalm (Some Wake) = ⊥
 IsCalm (Some (HandOff x successor)) = ⊥
 IsCalm c = Unit {0}
 
--- by its case an act wakes nobody but those in its hand, and hands nothing over
+-- by its case an act wakes nobody but those in its hand, or tells them that they were handed the lock, and hands nothing over
 abbrev pub WakesOwn : Option Bool → Act → Option LockCase → Type 0
-WakesOwn hand (act.Leave keys (wakes.All x)) c = (hand ≡ Some false) × ((x ≡ note.Normal) × (c ≡ Some Wake))
+WakesOwn hand (act.Leave keys (wakes.All x)) c = ((hand ≡ Some false) × ((x ≡ note.Normal) × (c ≡ Some Wake))) ⊎ ((hand ≡ Some true) × ((x ≡ note.HandOff) × IsCalm c))
 WakesOwn hand (act.Requeue from to how) c = ⊥
 WakesOwn hand (act.HandOver lock op) c = ⊥
 WakesOwn hand a c = IsCalm c
@@ -76,7 +71,8 @@ module _ (w v : State) (t l : ℕ) (c : Option LockCase) (h : Happens w v t l (e
   no_hand_off (Some case) still = λ x successor e. cc
 
   pub hands_nothing : (hand : Option Bool) (a : Act) (d : Option LockCase) → WakesOwn hand a d → IsNoHandOff w v t l c h d
-  hands_nothing hand (act.Leave keys (wakes.All x)) d own = subst (IsNoHandOff w v t l c h) (sym own.1.1) (λ y successor e. cc)
+  hands_nothing hand (act.Leave keys (wakes.All x)) d (inl own) = subst (IsNoHandOff w v t l c h) (sym own.1.1) (λ y successor e. cc)
+  hands_nothing hand (act.Leave keys (wakes.All x)) d (inr own) = no_hand_off d own.1.1
   hands_nothing hand (act.Requeue from to how) d own = absurd own
   hands_nothing hand (act.HandOver lock op) d own = absurd own
   hands_nothing hand a d own = no_hand_off d own
@@ -149,19 +145,6 @@ module _ (w : State) (t : ℕ) (p2 : Place) where
 
 -- ---------------------------------------------------------------- those in its hand are told
 
--- who is in a hand waits for something
-waits_so : (a : Admission) (q : RwLockPurpose) (again : Bool) (to : RwLockAt) (t : ℕ) → StandsAt q again to → rwlock_hand to ≡ hand t false → (x : Want) × (wants_for q ≡ Some x)
-waits_so a (purpose.Enter x how) again to t stands h = (wanted x, refl)
-waits_so a (purpose.Upgrade how) again to t stands h = (Exclusive, refl)
-waits_so a (purpose.Downgrade d) again (at.Park to) t stands h = absurd stands
-waits_so a (purpose.Downgrade d) again (at.Aside to) t stands h = absurd stands
-waits_so a (purpose.Downgrade d) again to t stands h = absurd cc
-waits_so a (purpose.Release access.Shared) again (at.Park to) t stands h = absurd stands
-waits_so a (purpose.Release access.Shared) again (at.Aside to) t stands h = absurd stands
-waits_so a (purpose.Release x) again (at.Park to) t stands h = absurd stands
-waits_so a (purpose.Release x) again (at.Aside to) t stands h = absurd stands
-waits_so a (purpose.Release x) again to t stands h = absurd cc
-
 -- so it is taken there by the one in whose hand it is
 taken_by_hand : (w : State) (p : Place) (t l : ℕ) → FitsItsLock w p → hand_at p l ≡ hand t false → is_taken_by t (taken_at p l) ≡ true
 taken_by_hand w Idle t l calls h = absurd (let none : hand_at Idle l ≡ None = refl in cc)
@@ -169,13 +152,11 @@ taken_by_hand w (Mutex k at) t l calls h = by_place (Mutex k at) (is_taken (Mute
   where
     by_place : (p : Place) → IsTakenAt p t l → is_taken_by t (taken_at p l) ≡ true
     by_place p there = rw (there.is, same l) (same t)
-taken_by_hand w (RwLock k a (Plain p)) t l calls h = either (k == l) h
+taken_by_hand w (RwLock k a c) t l calls h = either (k == l) h
   where
-    either : (b : Bool) → (if b then station (RwLock k a (Plain p)) else nowhere).hand ≡ hand t false → is_taken_by t (taken_from (rwlock_hand p.at) (wants_for p.purpose) b) ≡ true
-    either true g = let x = waits_so a p.purpose p.retries p.at t calls.1.place g in
-        ap (is_taken_by t) (λ i. taken_from (g i) (x.1 i) true) ∙ same t
+    either : (b : Bool) → (if b then station (RwLock k a c) else nowhere).hand ≡ hand t false → is_taken_by t (taken_from (call_profile a c).hand (call_profile a c).wants b) ≡ true
+    either true g = let x = (fair_sleepers_move a c calls.1).held t g in ap (is_taken_by t) (λ i. taken_from (g i) (x.wants i) true) ∙ same t
     either false g = absurd cc
-taken_by_hand w (RwLock k a c) t l calls h = absurd calls
 
 -- who was handed the lock goes on as it was
 handed_goes : (w : State) (p : Place) (t l : ℕ) → FitsItsLock w p → hand_at p l ≡ hand t true → (r : ℕ → Rights) → call_state (next_place p (Woken note.HandOff)) r ≡ call_state p r
@@ -184,19 +165,19 @@ handed_goes w (Mutex k at) t l fits h r = by_place (Mutex k at) (is_handed (Mute
   where
     by_place : (p : Place) → IsHandedAt p t l → call_state (next_place p (Woken note.HandOff)) r ≡ call_state p r
     by_place p there = rw there.is refl
-handed_goes w (RwLock k a (Plain p)) t l fits h r = absurd (either (k == l) h)
+handed_goes w (RwLock k a c) t l fits h r = either (k == l) h
   where
-    never : (to : RwLockAt) → rwlock_hand to ≡ hand t true → ⊥
-    never (at.Park (parking.Taken by)) g = cc
-    never (at.Aside (parking.Taken by)) g = cc
-    never (at.Park to) g = cc
-    never (at.Aside to) g = cc
-    never to g = cc
+    by_call : (c : RwLockCallPlace) → CallStands a c → (call_profile a c).hand ≡ hand t true → call_state (next_place (RwLock k a c) (Woken note.HandOff)) r ≡ call_state (RwLock k a c) r
+    by_call (Handed x how b (handed.Asleep u alone)) stands g = (fair_sleepers_hear a k (Handed x how b (handed.Asleep u alone)) stands).accepts t g (handed_woken x how b alone) r refl
+    by_call (Handed x how b handed.Accept) stands g = absurd cc
+    by_call (Plain p) stands g = absurd (never_given a k p.at t g)
+    by_call (Bump p) stands g = absurd (never_given a k p.at t g)
+    by_call (Glance x) stands g = absurd cc
+    by_call (HandOver x b to) stands g = absurd cc
 
-    either : (b : Bool) → (if b then station (RwLock k a (Plain p)) else nowhere).hand ≡ hand t true → ⊥
-    either true g = never p.at g
-    either false g = cc
-handed_goes w (RwLock k a c) t l fits h r = absurd fits
+    either : (b : Bool) → (if b then station (RwLock k a c) else nowhere).hand ≡ hand t true → call_state (next_place (RwLock k a c) (Woken note.HandOff)) r ≡ call_state (RwLock k a c) r
+    either true g = by_call c fits.1 g
+    either false g = absurd cc
 
 module _ (w : State) (t l : ℕ) (steady : IsSteady w) (own : lock_of (place_at w t) ≡ Some l) (p2 : Place) where
   is_of : IsOf l (place_at w t)
@@ -236,8 +217,10 @@ module _ (w : State) (t l : ℕ) (steady : IsSteady w) (own : lock_of (place_at 
 
   -- so the calls of the others are what its case makes of them
   pub wakes_own : (p : Place) (a : Act) (c : Option LockCase) → WakesOwn (carried_at (place_at w t) l) a c → Others w (put (state_after_act w t p a) t p2) t (event_by l c)
-  wakes_own p (act.Leave keys (wakes.All x)) c h = subst (λ y. Others w (put (state_after_telling (state_with_sections w keys None) t (Woken x)) t p2) t (event_by l y)) (sym h.1.1)
+  wakes_own p (act.Leave keys (wakes.All x)) c (inl h) = subst (λ y. Others w (put (state_after_telling (state_with_sections w keys None) t (Woken x)) t p2) t (event_by l y)) (sym h.1.1)
       (wakes_others w (put (state_after_telling (state_with_sections w keys None) t (Woken x)) t p2) t l (subst (λ y. Befalls w (put (state_after_telling (state_with_sections w keys None) t (Woken y)) t p2) t l (Woken note.Normal)) (sym h.1.0) (befalls (state_with_sections w keys None) (Woken note.Normal) (sections_stay w keys None) h.0)))
+  wakes_own p (act.Leave keys (wakes.All x)) c (inr h) = calm w t p2 (put (state_after_telling (state_with_sections w keys None) t (Woken x)) t p2) l c h.1.1
+      (λ u ne r. subst (λ y. call_state (place_at (put (state_after_telling (state_with_sections w keys None) t (Woken y)) t p2) u) r ≡ call_state (place_at w u) r) (sym h.1.0) (tells_handed (state_with_sections w keys None) (sections_stay w keys None) h.0 u ne r))
   wakes_own p (act.Requeue from to how) c h = absurd h
   wakes_own p (act.HandOver lock op) c h = absurd h
   wakes_own p (act.Take key x) c h = calm w t p2 (put (state_after_act w t p (act.Take key x)) t p2) l c h (takes w t p2 p key x)

@@ -7,7 +7,6 @@ use Rattle.lot_acts.specs.declared.acts.Act.TheVariants.{Enter, Rest}
 use Rattle.lot_acts.specs.Profiles.{taken_from}
 use Rattle.lot_steps.specs.declared.places.Place.{Place}
 use Rattle.lot_steps.specs.declared.places.Place.TheVariants.{Idle, Mutex, RwLock}
-use Rattle.lot_rwlock_fair.specs.declared.places.RwLockCallPlace.TheVariants.{Plain}
 use Rattle.lot_steps.specs.Steps.{act_of, lock_of, is_lock, calls, profile, line_owed}
 use Rattle.abstract_locks.specs.Locks.{Taken, IsSomePending, one_if_some, is_thread, standing}
 use Rattle.abstract_locks.specs.Locks as locks
@@ -30,7 +29,9 @@ use Rattle.lot_world.proofs.MutexRows.{mutex_promises}
 use Rattle.lot_world.proofs.SitesPromise.{first_out}
 use Rattle.lot_world.proofs.RowPromises.{LetsIn, LetsInAt, IsWaiting, taken_of, RowPromises}
 use Rattle.lot_world.proofs.CallEvents.{rights}
-use Rattle.lot_world.proofs.RwLockRows.{rwlock_promises}
+use Rattle.lot_world.proofs.CallRows.{call_promises}
+use Rattle.lot_rwlock_fair.specs.FairProfiles.{call_profile}
+use Rattle.lot_rwlock_fair.specs.FairSteps.{call_act}
 
 -- ---------------------------------------------------------------- the lock that a thread calls, and the others
 
@@ -108,11 +109,10 @@ module _ (w : State) (t : ℕ) (steady : IsSteady w) where
           let sort : locks.Mutex ≡ sort_at w k = sym (ap (λ r. r.sort) (mutex_rules (kind_at w k) admitted)) in
           subst (λ j. RowPromises (sort_at w j) j (profile (Mutex k at)) (act_of (Mutex k at))) here
           (subst (λ s. RowPromises s k (profile (Mutex k at)) (act_of (Mutex k at))) sort (mutex_promises k at))
-      by_place (RwLock k a (Plain at)) is own =
+      by_place (RwLock k a c) is own =
           let here : k ≡ l = cc in
-          let admitted : FitsItsLock w (RwLock k a (Plain at)) = rw is at (steady.stands.calls t) in
-          subst (λ j. RowPromises (sort_at w j) j (profile (RwLock k a (Plain at))) (act_of (RwLock k a (Plain at)))) here (rwlock_promises (rules_in w k) a k at admitted.0 admitted.1)
-      by_place (RwLock k a c) is own = absurd (subst (FitsItsLock w) is (steady.stands.calls t))
+          let admitted : FitsItsLock w (RwLock k a c) = rw is at (steady.stands.calls t) in
+          subst (λ j. RowPromises (sort_at w j) j (call_profile a c) (call_act k a c)) here (call_promises (rules_in w k) a k c admitted.0 admitted.1)
 
   -- ---------------------------------------------------------------- where it stands
 

@@ -1,5 +1,5 @@
 -- What a step makes of what a thread owes, at each place.
-use Rattle.std.proofs.Common.{Bool, ℕ, false, Some, None, ◌≡◌, refl, sym, ap, subst}
+use Rattle.std.proofs.Common.{Bool, ℕ, true, false, Some, None, if◌then◌else◌, ◌≡◌, refl, sym, ◌∙◌, ap, subst}
 use Rattle.lot_calls.specs.declared.calls.Call.{Call}
 use Rattle.lot_calls.specs.declared.calls.Call as call
 use Rattle.lot_acts.specs.declared.acts.Reply.{Reply}
@@ -13,13 +13,16 @@ use Rattle.lot_steps.specs.Steps.{act_of, next_act, next_place, first_place, loc
 use Rattle.lot_machine.specs.Machine.{State, place_at, word_at, kind_at, reply_to}
 use Rattle.abstract_locks.specs.Locks as locks
 use Rattle.lot_world.specs.Owing.{sort_at}
-use Rattle.abstract_locks.specs.Sites.{Line}
-use Rattle.lot_world.specs.SitesOf.{IsSteady, FitsItsLock, rules_in}
+use Rattle.lot_base.specs.declared.wants.Want.TheVariants.{Exclusive}
+use Rattle.abstract_locks.specs.Sites.{Has, Line, has_readers, idle}
+use Rattle.lot_world.specs.Stations.{doing_on}
+use Rattle.lot_world.proofs.Glue.{same}
+use Rattle.lot_world.specs.SitesOf.{IsSteady, FitsItsLock, rules_in, site_of}
 use Rattle.lot_world.proofs.RowPromises.{Befalls, RowOwesThen, IsLateNext, owes_then, mutex_tells}
 use Rattle.lot_world.proofs.MutexOwing.{mutex_befallen, mutex_owes_next, mutex_first_owes, mutex_late}
 use Rattle.lot_world.proofs.StandsMoved.{mutex_rules}
 use Rattle.lot_world.proofs.RwLockOwing.{plain_tells, rwlock_befallen, rwlock_owes_next, rwlock_first_owes, rwlock_late}
-use Rattle.lot_world.proofs.CallOwing.{CallOwesNext, IsOwners, call_owes_next}
+use Rattle.lot_world.proofs.CallOwing.{CallOwesNext, IsOwners, call_owes_next, owners_word}
 use Rattle.lot_calls.specs.declared.calls.Access.TheVariants as access
 use Rattle.lot_acts.specs.declared.acts.Next.{Next}
 use Rattle.lot_acts.specs.declared.acts.Next.TheVariants as next
@@ -72,6 +75,14 @@ call_owes w t k a c admits stands alone = leads (call_next a c (reply_to w t (ca
 pub owes_next : (w : State) (t l : ℕ) → IsSteady w → lock_of (place_at w t) ≡ Some l → OwesAt w t (sort_at w l) l (place_at w t)
 owes_next w t l steady own = by_place (place_at w t) refl own
   where
+    -- an exclusive owner knows the word but for those who wait
+    alone : (k : ℕ) (a : Admission) (c : RwLockCallPlace) → place_at w t ≡ RwLock k a c → has_readers (rules_in w k).sort ≡ true
+        → (b : Bool) (seen : ℕ) → c ≡ HandOver access.Exclusive b (handing.Free seen) → IsOwners (word_at w k)
+    alone k a c is readers b seen e = subst IsOwners (sym (steady.sites.word k)) (owners_word (rules_in w k) (site_of w k) t readers (steady.sites.site k) ((steady.sites.site k).held t (Has Exclusive) claims))
+      where
+        claims : (doing_on (place_at w t) k).claims ≡ Some (Has Exclusive)
+        claims = ap (λ p. (doing_on p k).claims) (is ∙ ap (RwLock k a) e) ∙ ap (λ (z : Bool). (if z then (call_profile a (HandOver access.Exclusive b (handing.Free seen))).doing else idle).claims) (same k)
+
     by_place : (p : Place) → place_at w t ≡ p → lock_of p ≡ Some l → OwesAt w t (sort_at w l) l p
     by_place Idle is own = absurd cc
     by_place (Mutex k at) is own =
@@ -80,11 +91,10 @@ owes_next w t l steady own = by_place (place_at w t) refl own
         let sort : locks.Mutex ≡ sort_at w k = sym (ap (λ r. r.sort) (mutex_rules (kind_at w k) admitted)) in
         subst (λ j. OwesAt w t (sort_at w j) j (Mutex k at)) here
         (subst (λ s. OwesAt w t s k (Mutex k at)) sort (owes_then (λ m. mutex_tells (Some ((profile (Mutex k at)).purpose k)) m (word_at w k)) (mutex_owes_next w t steady k at is)))
-    by_place (RwLock k a (Plain p)) is own =
+    by_place (RwLock k a c) is own =
         let here : k ≡ l = cc in
-        let admitted : FitsItsLock w (RwLock k a (Plain p)) = rw is at (steady.stands.calls t) in
-        subst (λ j. OwesAt w t (sort_at w j) j (RwLock k a (Plain p))) here (plain_owes w t k a p admitted.0 admitted.1)
-    by_place (RwLock k a c) is own = absurd (subst (FitsItsLock w) is (steady.stands.calls t))
+        let admitted : FitsItsLock w (RwLock k a c) = rw is at (steady.stands.calls t) in
+        subst (λ j. OwesAt w t (sort_at w j) j (RwLock k a c)) here (call_owes w t k a c admitted.0 admitted.1 (alone k a c is admitted.0.0))
 
 pub first_owes : (k : Kind) (c : Call) → (profile (first_place k c)).owes ≡ None
 first_owes k (call.TheVariants.Mutex m c) = mutex_first_owes (is_fair k) c

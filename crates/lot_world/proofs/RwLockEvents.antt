@@ -16,25 +16,26 @@ use Rattle.lot_acts.specs.declared.acts.Next.{Next}
 use Rattle.lot_acts.specs.declared.acts.Next.TheVariants as next
 use Rattle.lot_acts.specs.declared.acts.Reply.{Reply}
 use Rattle.lot_acts.specs.Acts.{outcome_of}
-use Rattle.lot_acts.specs.Moves.{Moves}
-use Rattle.lot_acts.specs.Profiles.{Hand, Profile, taken_from}
+use Rattle.lot_acts.specs.declared.acts.Whom.TheVariants as whom
+use Rattle.lot_acts.specs.Profiles.{Hand, Profile, hand, taken_from}
 use Rattle.lot_acts.specs.Stations.{Station}
 use Rattle.lot_rwlock.specs.declared.places.Admission.{Admission}
 use Rattle.lot_rwlock.specs.declared.places.RwLockPlace.{RwLockPlace}
 use Rattle.lot_rwlock.specs.RwLockBegins.{has_access}
-use Rattle.lot_rwlock.specs.RwLockCalls.{next_row}
-use Rattle.lot_rwlock.specs.RwLockDeeds.{rwlock_deeds}
-use Rattle.lot_rwlock.specs.RwLockMoves.{rwlock_move, rwlock_hears}
-use Rattle.lot_rwlock.specs.RwLockProfiles.{rwlock_profile, carries_at}
-use Rattle.lot_rwlock.specs.RwLockSteps.{from_of, rwlock_act, rwlock_next, wanted}
-use Rattle.lot_rwlock.proofs.RwLockMoves.{rwlock_acts_move, rwlock_sleepers_move}
+use Rattle.lot_rwlock.specs.RwLockSteps.{from_of, rwlock_next, wanted}
+use Rattle.lot_rwlock_fair.specs.declared.places.RwLockCallPlace.{RwLockCallPlace}
 use Rattle.lot_rwlock_fair.specs.declared.places.RwLockCallPlace.TheVariants.{Plain}
+use Rattle.lot_rwlock_fair.specs.FairDeeds.{call_deeds}
+use Rattle.lot_rwlock_fair.specs.FairMoves.{CallMoves, call_hears, call_move}
+use Rattle.lot_rwlock_fair.specs.FairSteps.{call_act, call_next, plain_next, unless_given}
+use Rattle.lot_rwlock_fair.proofs.FairActs.{fair_acts_move}
+use Rattle.lot_rwlock_fair.proofs.FairSleepers.{never_given}
 use Rattle.lot_rwlock_fair.specs.FairBegins.{call_first, call_right}
-use Rattle.lot_rwlock_fair.specs.FairLaws.{CallOpens}
+use Rattle.lot_rwlock_fair.specs.FairLaws.{CallOpens, next_rows}
 use Rattle.lot_rwlock_fair.specs.FairProfiles.{call_profile}
 use Rattle.lot_rwlock_fair.proofs.FairOpenings.{calls_open}
 use Rattle.lot_steps.specs.declared.places.Place.TheVariants.{Idle, RwLock}
-use Rattle.lot_steps.specs.Steps.{calls, lock_of, next_act, next_place, profile}
+use Rattle.lot_steps.specs.Steps.{calls, lock_of, next_act, next_place, profile, rwlock_does, rwlock_goes}
 use Rattle.abstract_locks.specs.Deeds.{case_of, event_by}
 use Rattle.abstract_locks.specs.Locks.{LockCase, Owns, Rights, standing}
 use Rattle.abstract_locks.specs.Purposes.{purpose_of, rules_of, rwlock_purpose}
@@ -45,84 +46,121 @@ use Rattle.lot_machine.specs.Fits.{IsShaped}
 use Rattle.lot_machine.proofs.Shape.{performed_counts}
 use Rattle.lot_world.specs.MutexDeeds.{acts}
 use Rattle.lot_world.specs.Refinement.{call_state, lock_state, locks_of, taken_at}
-use Rattle.lot_world.specs.SitesOf.{FitsItsLock, Goes, IsSteady, carried_at, rules_in}
+use Rattle.lot_world.specs.SitesOf.{FitsItsLock, Goes, IsBuilt, IsSteady, carried_at, rules_in}
 use Rattle.lot_world.specs.Stations.{station}
 use Rattle.lot_world.proofs.AtPlaces.{in_no_hand}
 use Rattle.lot_world.proofs.CallEvents.{Happens, LeadsTo, OthersFollow, goes_by, happens, others_follow}
 use Rattle.lot_world.proofs.Glue.{is_owner, thread_is}
-use Rattle.lot_world.proofs.PlainCalls.{never_given, plain_acts, plain_does, plain_goes, plain_leads}
 use Rattle.lot_world.proofs.OtherCalls.{WakesOwn, hands_nothing, wakes_own}
 use Rattle.lot_world.proofs.PlacePromises.{station_own, waiting_stands}
 use Rattle.lot_world.proofs.RowPromises.{IsWaiting, RowPromises, WasHanded, is_acting}
-use Rattle.lot_world.proofs.RwLockKept.{GoesFrom, rwlock_goes_on}
-use Rattle.lot_world.proofs.RwLockRows.{rwlock_promises}
+use Rattle.lot_world.proofs.RwLockKept.{GoesFrom, IsOwn, not_given, rwlock_goes_on}
+use Rattle.lot_world.proofs.CallRows.{call_promises}
 use Rattle.lot_world.proofs.SitesKept.{go_by}
 
 -- ---------------------------------------------------------------- a thread goes on
 
-module _ (w : State) (t l : ℕ) (a : Admission) (p : RwLockPlace) (steady : IsSteady w) (shape : IsShaped w) (there : t < length w.places) (lt : l < length w.locks) (is : place_at w t ≡ RwLock l a (Plain p)) (can : can_do w (rwlock_act l a p) ≡ true) where
-  kept : GoesFrom w t l a p steady shape there lt is (RwLock l a (Plain p)) (rwlock_act l a p)
-  kept = rwlock_goes_on w t l a p steady shape there lt is can
+-- who goes on by an act of its own, and sleeps, was not handed the lock
+abbrev CallAwake : Profile → Act → Type 0
+CallAwake row y = (u : ℕ) → row.hand ≡ hand u true → ⊥
+
+abbrev NextAwake : Admission → ℕ → Next RwLockCallPlace → Type 0
+NextAwake a l (next.At q) = CallAwake (call_profile a q) (call_act l a q)
+NextAwake a l (next.End answer) = Unit {0}
+
+own_next : (l : ℕ) (a : Admission) (c : RwLockCallPlace) (told : Reply) → IsOwn told → IsBuilt c → NextAwake a l (call_next a c told)
+own_next l a (Plain p) told own built = subst (λ (o : Option RwLockCallPlace). NextAwake a l (unless_given o (plain_next (rwlock_next a p told)))) (sym (not_given false p told own)) (by_next (rwlock_next a p told))
+  where
+    by_next : (n : Next RwLockPlace) → NextAwake a l (plain_next n)
+    by_next (next.At q) = never_given a l q.at
+    by_next (next.End answer) = tt
+own_next l a c told own built = absurd built
+
+own_reply : (w : State) (t : ℕ) (y : Act) → IsOwn (reply_to w t y)
+own_reply w t act.Rest = tt
+own_reply w t (act.Word l op) = tt
+own_reply w t (act.HandOver l op) = tt
+own_reply w t (act.Enter keys) = tt
+own_reply w t (act.Park l key check x) = tt
+own_reply w t (act.Stand key x) = tt
+own_reply w t (act.Take key whom.First) = tt
+own_reply w t (act.Take key (whom.Picked start recursive)) = tt
+own_reply w t (act.Take key whom.All) = tt
+own_reply w t (act.Requeue from to how) = tt
+own_reply w t (act.Remove key) = tt
+own_reply w t (act.Leave keys wakes) = tt
+own_reply w t act.Sleep = tt
+own_reply w t act.Accept = tt
+own_reply w t (act.Closure state) = tt
+own_reply w t (act.End answer) = tt
+
+module _ (w : State) (t l : ℕ) (a : Admission) (c : RwLockCallPlace) (steady : IsSteady w) (shape : IsShaped w) (there : t < length w.places) (lt : l < length w.locks) (is : place_at w t ≡ RwLock l a c) (can : can_do w (call_act l a c) ≡ true) where
+  kept : GoesFrom w t l a c steady shape there lt is (RwLock l a c) (call_act l a c)
+  kept = rwlock_goes_on w t l a c steady shape there lt is can
 
   abbrev told : Reply
-  told = reply_to w t (rwlock_act l a p)
+  told = reply_to w t (call_act l a c)
 
   abbrev behind : State
-  behind = go_by w t (RwLock l a (Plain p)) (rwlock_act l a p)
+  behind = go_by w t (RwLock l a c) (call_act l a c)
 
   abbrev deeds : List Deed
-  deeds = rwlock_deeds a p kept.whom told
+  deeds = call_deeds a c kept.whom told
 
   abbrev happened : Option LockCase
-  happened = case_of (carries_at p.at) deeds
+  happened = case_of ((call_profile a c).carries) deeds
 
   own : lock_of (place_at w t) ≡ Some l
   own = ap lock_of is
 
   -- whom it has in hand, by its place
-  carries : carried_at (place_at w t) l ≡ carries_at p.at
+  carries : carried_at (place_at w t) l ≡ (call_profile a c).carries
   carries = ap (λ (y : Station). y.carries) (station_own (place_at w t) l own) ∙ ap (λ q. (station q).carries) is
 
   happens_so : Happens w behind t l (event_by l happened)
-  happens_so = happens w behind t l (carries_at p.at) deeds [] steady (subst (Goes w behind l) (sym (append-nil (acts t deeds))) kept.goes) tt kept.tells.one (λ none. in_no_hand w steady t l (λ h. none (sym carries ∙ h)))
+  happens_so = happens w behind t l ((call_profile a c).carries) deeds [] steady (subst (Goes w behind l) (sym (append-nil (acts t deeds))) kept.goes) tt kept.tells.one (λ none. in_no_hand w steady t l (λ h. none (sym carries ∙ h)))
 
   -- who sleeps in a call stands about its lock
-  rests : (q : RwLockPlace) → place_at behind t ≡ RwLock l a (Plain q) → (outcome_of (rwlock_act l a q) ≡ outcome.Step) ⊎ ((outcome_of (rwlock_act l a q) ≡ outcome.Sleep) × (1 ≤ standing t (lock_state behind l)))
-  rests q e = by_act (rwlock_act l a q) (rwlock_acts_move l a q fits.1) promises.acts promises.asleep
+  rests : (q : RwLockCallPlace) → place_at behind t ≡ RwLock l a q → CallAwake (call_profile a q) (call_act l a q) → (outcome_of (call_act l a q) ≡ outcome.Step) ⊎ ((outcome_of (call_act l a q) ≡ outcome.Sleep) × (1 ≤ standing t (lock_state behind l)))
+  rests q e awake = by_act (call_act l a q) (fair_acts_move l a q fits.1) promises.acts promises.asleep awake
     where
-      fits : FitsItsLock behind (RwLock l a (Plain q))
+      fits : FitsItsLock behind (RwLock l a q)
       fits = subst (FitsItsLock behind) e (happens_so.after.stands.calls t)
 
-      promises : RowPromises (rules_in behind l).sort l (rwlock_profile a q) (rwlock_act l a q)
-      promises = rwlock_promises (rules_in behind l) a l q fits.0 fits.1
+      promises : RowPromises (rules_in behind l).sort l (call_profile a q) (call_act l a q)
+      promises = call_promises (rules_in behind l) a l q fits.0 fits.1
 
-      waits : IsWaiting (rwlock_profile a q) ⊎ WasHanded (rules_in behind l).sort l (rwlock_profile a q) → IsWaiting (rwlock_profile a q)
-      waits (inl h) = h
-      waits (inr h) = absurd (let f : true ≡ false = ((rwlock_sleepers_move a q fits.1).held h.by true h.in_hand).0 in cc)
-
-      by_act : (y : Act) → Moves l a.recursive (rwlock_move a q) (rwlock_hears a q) y → is_acting y ≡ true → (y ≡ act.Sleep → IsWaiting (rwlock_profile a q) ⊎ WasHanded (rules_in behind l).sort l (rwlock_profile a q))
+      by_act : (y : Act) → CallMoves l a.recursive (call_move a q) (call_hears a q) y → is_acting y ≡ true → (y ≡ act.Sleep → IsWaiting (call_profile a q) ⊎ WasHanded (rules_in behind l).sort l (call_profile a q)) → CallAwake (call_profile a q) y
           → (outcome_of y ≡ outcome.Step) ⊎ ((outcome_of y ≡ outcome.Sleep) × (1 ≤ standing t (lock_state behind l)))
-      by_act act.Sleep moves acting asleep = inr (refl, waiting_stands behind t happens_so.after l (ap lock_of e) (subst (λ (x : Profile). IsWaiting x) (sym (ap profile e)) (waits (asleep refl))))
-      by_act (act.End answer) moves acting asleep = absurd cc
-      by_act act.Rest moves acting asleep = absurd cc
-      by_act (act.Closure state) moves acting asleep = absurd moves
-      by_act y moves acting asleep = inl refl
+      by_act act.Sleep moves acting asleep awake = inr (
+        refl,
+        waiting_stands behind t happens_so.after l (ap lock_of e) (subst (λ (x : Profile). IsWaiting x) (sym (ap profile e)) (elim (asleep refl) [
+          | inl h ↦ h
+          | inr h ↦ absurd (awake h.by h.in_hand)
+        ])),
+      )
+      by_act (act.End answer) moves acting asleep awake = absurd cc
+      by_act act.Rest moves acting asleep awake = absurd cc
+      by_act (act.Closure state) moves acting asleep awake = absurd moves
+      by_act y moves acting asleep awake = inl refl
 
-  leads : LeadsTo behind t l (next_row a (rwlock_next a p told)) (outcome_of (plain_does l a (rwlock_next a p told)))
-  leads = by_next (rwlock_next a p told) (get_or-set_same (state_after_act w t (RwLock l a (Plain p)) (rwlock_act l a p)).places t _ Idle (rw (performed_counts w t (RwLock l a (Plain p)) (rwlock_act l a p)).0 there) ∙ plain_leads l a p told (never_given w t false p (rwlock_act l a p)))
+  leads : LeadsTo behind t l (next_rows a (call_next a c told)) (outcome_of (rwlock_does l a (call_next a c told)))
+  leads = by_next (call_next a c told) (get_or-set_same (state_after_act w t (RwLock l a c) (call_act l a c)).places t _ Idle (rw (performed_counts w t (RwLock l a c) (call_act l a c)).0 there)) (own_next l a c told (own_reply w t (call_act l a c)) fits_now.2)
     where
-      by_next : (n : Next RwLockPlace) → place_at behind t ≡ plain_goes l a n → LeadsTo behind t l (next_row a n) (outcome_of (plain_does l a n))
-      by_next (next.At q) e = (ap lock_of e, ap profile e, rests q e)
-      by_next (next.End answer) e = (e, refl)
+      fits_now : FitsItsLock w (RwLock l a c)
+      fits_now = subst (FitsItsLock w) is (steady.stands.calls t)
+
+      by_next : (n : Next RwLockCallPlace) → place_at behind t ≡ rwlock_goes l a n → NextAwake a l n → LeadsTo behind t l (next_rows a n) (outcome_of (rwlock_does l a n))
+      by_next (next.At q) e awake = (ap lock_of e, ap profile e, rests q e awake)
+      by_next (next.End answer) e awake = (e, refl)
 
   -- those in its hand are woken, and nobody else's call changes
   others : OthersFollow w behind t (event_by l happened)
-  others = others_follow w behind t l happened happens_so (hands_nothing w behind t l happened happens_so (carries_at p.at) (rwlock_act l a p) happened kept.others)
-      (wakes_own w t l steady own (next_place (RwLock l a (Plain p)) told) (RwLock l a (Plain p)) (rwlock_act l a p) happened (subst (λ h. WakesOwn h (rwlock_act l a p) happened) (sym carries) kept.others))
+  others = others_follow w behind t l happened happens_so (hands_nothing w behind t l happened happens_so ((call_profile a c).carries) (call_act l a c) happened kept.others)
+      (wakes_own w t l steady own (next_place (RwLock l a c) told) (RwLock l a c) (call_act l a c) happened (subst (λ h. WakesOwn h (call_act l a c) happened) (sym carries) kept.others))
 
-  pub rwlock_step : GoesOn (locks_of w) t (outcome_of (next_act (RwLock l a (Plain p)) told)) (locks_of behind)
-  rwlock_step = subst (λ y. GoesOn (locks_of w) t (outcome_of y) (locks_of behind)) (sym (plain_acts l a p told (never_given w t false p (rwlock_act l a p))))
-      (goes_by w behind t l happened happens_so (RwLock l a (Plain p)) is refl kept.tells.may (next_row a (rwlock_next a p told)) _ kept.tells.comes leads others)
+  pub rwlock_step : GoesOn (locks_of w) t (outcome_of (next_act (RwLock l a c) told)) (locks_of behind)
+  rwlock_step = goes_by w behind t l happened happens_so (RwLock l a c) is refl kept.tells.may (next_rows a (call_next a c told)) _ kept.tells.comes leads others
 
 -- ---------------------------------------------------------------- a call begins
 

@@ -1,9 +1,9 @@
 -- A thread in a call of a reader-writer lock goes on: every lock is a site again.
-use Rattle.std.proofs.Common.{ℕ, Bool, true, false, Option, Some, None, ◌≡◌, ◌+◌, ◌*◌, ◌-◌, ◌^◌, ◌≤◌, ◌<◌, List, [], ◌∷◌, length, is_none, refl, sym, ◌∙◌, ap, subst, arith}
+use Rattle.std.proofs.Common.{inl, inr, ℕ, Bool, true, false, Option, Some, None, if◌then◌else◌, ◌==◌, ◌≡◌, ◌+◌, ◌*◌, ◌-◌, ◌^◌, ◌≤◌, ◌<◌, List, [], ◌∷◌, length, is_none, refl, sym, ◌∙◌, ap, subst, arith}
 use Rattle.std.proofs.lemmas.Bool.{eqb-true}
 use Rattle.lot_base.specs.declared.keys.Keys.{Keys}
 use Rattle.lot_base.specs.declared.keys.Keys.TheVariants.{One}
-use Rattle.lot_base.specs.declared.notes.Note.TheVariants.{Normal}
+use Rattle.lot_base.specs.declared.notes.Note.TheVariants.{HandOff, Normal}
 use Rattle.lot_base.specs.declared.ops.Op.{Op}
 use Rattle.lot_base.specs.Words.{apply}
 use Rattle.lot_base.specs.declared.wants.Want.{Want}
@@ -21,44 +21,53 @@ use Rattle.lot_acts.specs.declared.acts.Act.TheVariants as act
 use Rattle.lot_acts.specs.declared.acts.Next.{Next}
 use Rattle.lot_acts.specs.declared.acts.Next.TheVariants as next
 use Rattle.lot_acts.specs.declared.acts.Reply.{Reply}
-use Rattle.lot_acts.specs.declared.acts.Reply.TheVariants.{Done, Value, Parked, Took, Picked, Removed, Late, TakenBy, Woken}
+use Rattle.lot_acts.specs.declared.acts.Reply.TheVariants.{Done, Value, Parked, Took, Picked, Removed, Late, TakenBy, HandedBy, Woken}
 use Rattle.lot_acts.specs.declared.acts.Wakes.{Wakes}
 use Rattle.lot_acts.specs.declared.acts.Whom as whom
 use Rattle.lot_acts.specs.Acts.{holds, wakes_taken}
-use Rattle.lot_acts.specs.Moves.{StaysPut, GoesIn, GoesOut, Parks, Picks, TakesAside, LeavesLine, Moves, AreOfWord, AreLeaving, parks_in, takes_aside, row_of}
-use Rattle.lot_acts.specs.Profiles.{Profile, in_hand}
-use Rattle.lot_acts.specs.Stations.{Station}
+use Rattle.lot_acts.specs.Moves.{StaysPut, GoesIn, GoesOut, Parks, Picks, TakesAside, LeavesLine, TellsHanded, Accepts, Moves, AreOfWord, AreLeaving, parks_in, takes_aside, row_of}
+use Rattle.lot_acts.specs.Profiles.{Profile, hand, in_hand, taken_from}
+use Rattle.lot_acts.specs.Stations.{Station, nowhere, station_by}
 use Rattle.lot_acts.specs.Owners.{lock_seen, shares_then}
 use Rattle.lot_rwlock.specs.declared.places.Admission.{Admission}
 use Rattle.lot_rwlock.specs.declared.places.RwLockPlace.{RwLockPlace}
 use Rattle.lot_rwlock.specs.declared.places.RwLockAt.{RwLockAt}
 use Rattle.lot_rwlock.specs.declared.places.RwLockAt.TheVariants as at
 use Rattle.lot_rwlock.specs.declared.park.ParkAt.TheVariants as parking
-use Rattle.lot_rwlock.specs.RwLockSteps.{patience_of, rwlock_act, rwlock_next, rwlock_owners, rwlock_shares}
-use Rattle.lot_rwlock.specs.RwLockDeeds.{Admits, IsAt, MayHear, doing_next, rwlock_deeds, rwlock_doing}
-use Rattle.lot_rwlock.specs.RwLockProfiles.{rwlock_profile, rwlock_late_line, late_line_at, carries_at}
-use Rattle.lot_rwlock.specs.RwLockCalls.{HasDeadline, MayStand, MayBeTold, MayStandNext, IsCalling, IsNotLate, CallFollowsBy, next_row}
+use Rattle.lot_rwlock.specs.RwLockSteps.{patience_of, rwlock_act, rwlock_next}
+use Rattle.lot_rwlock.specs.RwLockDeeds.{Admits, MayHear}
+use Rattle.lot_rwlock.specs.RwLockProfiles.{late_line_at}
+use Rattle.lot_rwlock.specs.RwLockCalls.{HasDeadline, MayStand, MayBeTold, IsNotLate}
 use Rattle.lot_rwlock.specs.RwLockMoves.{rwlock_move, rwlock_hears}
 use Rattle.lot_rwlock.specs.RwLockBegins.{admission_of}
-use Rattle.lot_rwlock_fair.specs.declared.places.RwLockCallPlace.TheVariants.{Plain}
+use Rattle.lot_rwlock_fair.specs.declared.places.RwLockCallPlace.{RwLockCallPlace}
+use Rattle.lot_rwlock_fair.specs.declared.places.RwLockCallPlace.TheVariants.{Plain, Glance, HandOver, Bump, Handed}
+use Rattle.lot_rwlock_fair.specs.FairCalls.{CallMayBeTold, CallMayHear, CallStands, CallStandsNext, IsInCall}
+use Rattle.lot_rwlock_fair.specs.FairDeeds.{call_deeds, call_doing, call_doing_next}
+use Rattle.lot_rwlock_fair.specs.FairMoves.{CallMoves, call_hears, call_move}
+use Rattle.lot_rwlock_fair.specs.FairProfiles.{call_late_line, call_profile}
+use Rattle.lot_rwlock_fair.proofs.FairActs.{fair_acts_move, fair_late_moves, fair_sleepers_move}
+use Rattle.lot_rwlock_fair.proofs.FairCallTells.{fair_sections_tell, fair_steps_tell}
+use Rattle.lot_rwlock_fair.proofs.FairCodes.{fair_steps_code}
+use Rattle.lot_rwlock_fair.proofs.FairFit.{fair_steps_follow}
+use Rattle.lot_rwlock_fair.proofs.FairMoves.{handed_move}
+use Rattle.lot_rwlock_fair.proofs.FairOwners.{fair_owners_follow}
+use Rattle.lot_rwlock_fair.proofs.FairSections.{fair_sections_follow}
+use Rattle.lot_rwlock_fair.proofs.FairSleepers.{never_given}
+use Rattle.lot_rwlock_fair.proofs.FairStands.{fair_calls_stand}
 use Rattle.lot_rwlock_fair.specs.FairBegins.{call_first, call_right}
-use Rattle.lot_rwlock_fair.specs.FairLaws.{CallOpens}
-use Rattle.lot_rwlock_fair.specs.FairSteps.{given}
+use Rattle.lot_rwlock_fair.specs.FairLaws.{CallOpens, CallTells, next_rows}
+use Rattle.lot_rwlock_fair.specs.FairSteps.{call_act, call_next, call_owners, call_shares, given, plain_next, unless_given}
 use Rattle.lot_rwlock_fair.proofs.FairOpenings.{calls_open}
-use Rattle.lot_rwlock.proofs.RwLockStands.{is_at, rwlock_calls_stand}
-use Rattle.lot_rwlock.proofs.RwLockCalls.{rwlock_steps_tell}
-use Rattle.lot_rwlock.proofs.RwLockCallSections.{rwlock_sections_tell}
-use Rattle.lot_rwlock.proofs.RwLockFit.{knows_all, rwlock_steps_follow}
-use Rattle.lot_rwlock.proofs.RwLockCodes.{rwlock_steps_code}
-use Rattle.lot_rwlock.proofs.RwLockOwners.{rwlock_owners_follow}
-use Rattle.lot_rwlock.proofs.RwLockSections.{rwlock_sections_follow}
-use Rattle.lot_rwlock.proofs.RwLockMoves.{rwlock_acts_move, rwlock_sleepers_move, rwlock_late_moves}
+use Rattle.lot_rwlock.proofs.RwLockFit.{knows_all}
+use Rattle.lot_rwlock.proofs.RwLockMoves.{rwlock_acts_move}
 use Rattle.lot_steps.specs.declared.places.Place.{Place}
 use Rattle.lot_steps.specs.declared.places.Place.TheVariants.{Idle, Mutex, RwLock}
-use Rattle.lot_steps.specs.Steps.{next_place, profile, calls}
-use Rattle.abstract_locks.specs.Locks.{Rules, Sort, Normal, Recursive, Semaphore, count, one_if_some, standing}
+use Rattle.lot_mutex.specs.declared.places.MutexPlace.{MutexPlace}
+use Rattle.lot_steps.specs.Steps.{next_place, profile, calls, rwlock_goes}
+use Rattle.abstract_locks.specs.Locks.{Rules, Sort, Normal as NormalSort, Recursive, Semaphore, count, keep_from, one_if_some, standing}
 use Rattle.abstract_locks.specs.Locks as locks
-use Rattle.abstract_locks.specs.Sites.{Site, IsSite, Deed, Line, Main, Second, Begin, Case, Clear, End, In, Mark, Out, has_readers}
+use Rattle.abstract_locks.specs.Sites.{Site, IsSite, Deed, Line, Main, Second, Begin, Case, Clear, End, In, Mark, Out, has_readers, wakened}
 use Rattle.abstract_locks.specs.Codes.{HasLimit, bit, code, code_of, packed, writers}
 use Rattle.abstract_locks.specs.Deeds.{case_of}
 use Rattle.abstract_locks.specs.Deeds as laws
@@ -69,9 +78,10 @@ use Rattle.lot_machine.proofs.Shape.{main_key_there}
 use Rattle.lot_world.specs.Refinement.{taken_at}
 use Rattle.lot_world.specs.MutexDeeds.{acts}
 use Rattle.lot_world.specs.Stations.{station, doing_on}
-use Rattle.lot_world.specs.SitesOf.{IsSteady, Goes, FitsItsLock, TakesOne, HasRoom, is_mutex, rules_in, key_of}
-use Rattle.lot_world.proofs.PlainCalls.{next_is, plain_goes, plain_leads}
-use Rattle.lot_world.proofs.Glue.{IsOf, next_of, parts_at, put_here, doing_here}
+use Rattle.lot_world.specs.SitesOf.{IsBuilt, IsSteady, Goes, FitsItsLock, TakesOne, HasRoom, carried_at, hand_at, is_mutex, rules_in, key_of}
+use Rattle.lot_world.proofs.Glue.{IsOf, next_of, parts_at, put_here, doing_here, station_here}
+use Rattle.lot_world.proofs.HandsMoved.{accepts, tells_handed, told_hears}
+use Rattle.lot_world.proofs.WakesKept.{IsWoken}
 use Rattle.lot_world.proofs.StandsMoved.{mutex_rules}
 use Rattle.lot_world.proofs.ActsKept.{lock_by, place_goes}
 use Rattle.lot_world.proofs.OneStep.{steps_by}
@@ -80,8 +90,20 @@ use Rattle.lot_world.proofs.MovesKept.{entered_hears, left_hears, parked_hears, 
 
 -- ---------------------------------------------------------------- rows
 
-doing_is : (a : Admission) (n : Next RwLockPlace) → doing_next n ≡ (row_of (next_row a n)).doing
-doing_is a (next.At p) = refl
+-- where a place leads, its row does
+pub goes_row : (l : ℕ) (a : Admission) (n : Next RwLockCallPlace) → profile (rwlock_goes l a n) ≡ row_of (next_rows a n)
+goes_row l a (next.At c) = refl
+goes_row l a (next.End answer) = refl
+
+doing_row : (a : Admission) (c : RwLockCallPlace) → (call_profile a c).doing ≡ call_doing c
+doing_row a (Plain p) = refl
+doing_row a (Glance x) = refl
+doing_row a (HandOver x b to) = refl
+doing_row a (Bump p) = refl
+doing_row a (Handed x how b to) = refl
+
+doing_is : (a : Admission) (n : Next RwLockCallPlace) → call_doing_next n ≡ (row_of (next_rows a n)).doing
+doing_is a (next.At c) = sym (doing_row a c)
 doing_is a (next.End answer) = refl
 
 -- ---------------------------------------------------------------- what a thread may be told
@@ -123,10 +145,80 @@ module _ (a : Admission) (p : RwLockPlace) where
   told_done r s t (at.Decide seen) whom h = h.0
   told_done r s t to whom h = tt
 
+-- in any call
+module _ (a : Admission) where
+  pub call_told_other : (c : RwLockCallPlace) (told : Reply) → IsOther told → CallMayBeTold a c told
+  call_told_other (Plain p) told h = told_other a p p.at told h
+  call_told_other (Bump p) told h = told_other a p p.at told h
+  call_told_other (Glance x) told h = tt
+  call_told_other (HandOver x b to) told h = tt
+  call_told_other (Handed x how b to) told h = tt
+
+  pub call_told_value : (c : RwLockCallPlace) (v : ℕ) → v < 2 ^ 64 → CallMayBeTold a c (Value v)
+  call_told_value (Plain p) v h = told_value a p p.at v h
+  call_told_value (Bump p) v h = told_value a p p.at v h
+  call_told_value (Glance x) v h = tt
+  call_told_value (HandOver x b to) v h = tt
+  call_told_value (Handed x how b to) v h = tt
+
+  call_told_late : (c : RwLockCallPlace) (m : Line) → call_late_line c ≡ Some m → CallMayBeTold a c Late
+  call_told_late (Plain p) m h = told_late a p p.at (patience_of p.purpose) refl m h
+  call_told_late (Bump p) m h = told_late a p p.at (patience_of p.purpose) refl m h
+  call_told_late (Glance x) m h = tt
+  call_told_late (HandOver x b to) m h = tt
+  call_told_late (Handed x how b to) m h = tt
+
+  call_told_done : (r : Rules) (s : Site) (t : ℕ) (c : RwLockCallPlace) (whom : Option ℕ) → CallMayHear r a s t c whom Done → CallMayBeTold a c Done
+  call_told_done r s t (Plain p) whom h = told_done a p r s t p.at whom h
+  call_told_done r s t (Bump p) whom h = told_done a p r s t p.at whom h
+  call_told_done r s t (Glance x) whom h = tt
+  call_told_done r s t (HandOver x b to) whom h = tt
+  call_told_done r s t (Handed x how b to) whom h = tt
+
+-- ---------------------------------------------------------------- where worlds go
+
+-- nobody hands the thread anything
+abbrev pub IsOwn : Reply → Type 0
+IsOwn (HandedBy u alone) = ⊥
+IsOwn (Woken HandOff) = ⊥
+IsOwn told = Unit {0}
+
+pub not_given : (b : Bool) (p : RwLockPlace) (told : Reply) → IsOwn told → given b p told ≡ None
+not_given b p (HandedBy u alone) h = absurd h
+not_given b p (Woken HandOff) h = absurd h
+not_given b p (Woken Normal) h = refl
+not_given b p told h = refl
+
+abbrev pub AreBuilt : Next RwLockCallPlace → Type 0
+AreBuilt (next.At c) = IsBuilt c
+AreBuilt (next.End answer) = Unit {0}
+
+pub built_next : (a : Admission) (c : RwLockCallPlace) (told : Reply) → IsOwn told → IsBuilt c → AreBuilt (call_next a c told)
+built_next a (Plain p) told own built = subst (λ (o : Option RwLockCallPlace). AreBuilt (unless_given o (plain_next (rwlock_next a p told)))) (sym (not_given false p told own)) (by_next (rwlock_next a p told))
+  where
+    by_next : (n : Next RwLockPlace) → AreBuilt (plain_next n)
+    by_next (next.At q) = tt
+    by_next (next.End answer) = tt
+built_next a c told own built = absurd built
+
+-- no such call hands anything over, or was handed anything
+module _ (a : Admission) where
+  plain_moves : (p : RwLockPlace) (l : ℕ) (y : Act) → MayStand a p → rwlock_act l a p ≡ y → Moves l a.recursive (rwlock_move a p) (rwlock_hears a p) y
+  plain_moves p l y stands e = subst (λ x. Moves l a.recursive (rwlock_move a p) (rwlock_hears a p) x) e (rwlock_acts_move l a p stands)
+
+  gives_nothing : (c : RwLockCallPlace) → IsBuilt c → (l k : ℕ) (op : Op) → CallStands a c → call_act l a c ≡ act.HandOver k op → ⊥
+  gives_nothing (Plain p) built l k op stands e = plain_moves p l (act.HandOver k op) stands e
+  gives_nothing c built l k op stands e = absurd built
+
+  -- and whoever was handed it goes on in such a call
+  built_then : (c : RwLockCallPlace) (u : ℕ) → IsBuilt c → (call_profile a c).hand ≡ hand u true → AreBuilt (call_next a c (Woken HandOff))
+  built_then (Plain p) u built h = absurd (never_given a 0 p.at u h)
+  built_then c u built h = absurd built
+
 -- ---------------------------------------------------------------- words
 
 -- the word of a lock with room has 64 bits
-word_few : (r : Rules) (s : Site) → has_readers r.sort ≡ true → IsSite r s → r.limit < 2 ^ 60 - 1 → HasLimit r s.lock → code r s < 2 ^ 64
+pub word_few : (r : Rules) (s : Site) → has_readers r.sort ≡ true → IsSite r s → r.limit < 2 ^ 60 - 1 → HasLimit r s.lock → code r s < 2 ^ 64
 word_few r s readers site room limit = by_sort r.sort refl readers
   where
     one : s.lock.exclusive ≡ None → writers s.lock ≤ 1
@@ -157,7 +249,7 @@ word_few r s readers site room limit = by_sort r.sort refl readers
         omega arith
 
     by_sort : (sort : Sort) → r.sort ≡ sort → has_readers sort ≡ true → code_of r.sort r.limit s < 2 ^ 64
-    by_sort Normal e h = subst (λ sort. code_of sort r.limit s < 2 ^ 64) (sym e) small
+    by_sort NormalSort e h = subst (λ sort. code_of sort r.limit s < 2 ^ 64) (sym e) small
     by_sort Recursive e h = subst (λ sort. code_of sort r.limit s < 2 ^ 64) (sym e) small
     by_sort locks.Mutex e h = absurd cc
     by_sort Semaphore e h = absurd cc
@@ -200,6 +292,12 @@ left_calm (Out ∷ []) h = tt
 left_calm (Out ∷ End ∷ []) h = tt
 left_calm ds h = absurd h
 
+-- or tells those to whom it has handed the lock
+handed_calm : (ds : List Deed) → AreLeaving ds → IsCalm (case_of (Some true) ds)
+handed_calm (Out ∷ []) h = tt
+handed_calm (Out ∷ End ∷ []) h = tt
+handed_calm ds h = absurd h
+
 left_wakes : (ds : List Deed) → AreLeaving ds → case_of (Some false) ds ≡ Some locks.Wake
 left_wakes (Out ∷ []) h = refl
 left_wakes (Out ∷ End ∷ []) h = refl
@@ -207,99 +305,96 @@ left_wakes ds h = absurd h
 
 -- ---------------------------------------------------------------- one thread
 
-module _ (w : State) (t l : ℕ) (a : Admission) (p : RwLockPlace) (steady : IsSteady w) (shape : IsShaped w) (there : t < length w.places) (lt : l < length w.locks) (is : place_at w t ≡ RwLock l a (Plain p)) where
-  fits_now : FitsItsLock w (RwLock l a (Plain p))
+module _ (w : State) (t l : ℕ) (a : Admission) (c : RwLockCallPlace) (steady : IsSteady w) (shape : IsShaped w) (there : t < length w.places) (lt : l < length w.locks) (is : place_at w t ≡ RwLock l a c) where
+  pub fits_now : FitsItsLock w (RwLock l a c)
   fits_now = subst (FitsItsLock w) is (steady.stands.calls t)
 
-  admits : Admits (rules_in w l) a
+  pub admits : Admits (rules_in w l) a
   admits = fits_now.0
 
-  stands : MayStand a p
+  pub stands : CallStands a c
   stands = fits_now.1
 
-  own : IsOf l (place_at w t)
+  pub own : IsOf l (place_at w t)
   own = rw is refl
 
-  same_row : profile (place_at w t) ≡ rwlock_profile a p
+  pub same_row : profile (place_at w t) ≡ call_profile a c
   same_row = ap profile is
 
   abbrev here : Site
   here = lock_by w l (rules_in w l)
 
-  site : IsSite (rules_in w l) here
+  pub site : IsSite (rules_in w l) here
   site = steady.sites.site l
 
-  doing_now : here.doing t ≡ rwlock_doing p
-  doing_now = doing_here l (place_at w t) own ∙ ap (λ (y : Profile). y.doing) same_row
+  pub doing_now : here.doing t ≡ call_doing c
+  doing_now = doing_here l (place_at w t) own ∙ ap (λ (y : Profile). y.doing) same_row ∙ doing_row a c
 
-  at_now : IsAt (rules_in w l) a here t p
-  at_now = is_at (rules_in w l) a here t p admits site doing_now stands (rw (steady.numbers.threads l) there)
+  pub at_now : IsInCall (rules_in w l) a here t c
+  at_now = record { admits = admits; site = site; doing = doing_now; stands = stands; there = subst (λ n. t < n) (sym (steady.numbers.threads l)) there }
+
+  pub fits_next : (k : ℕ) (b : Admission) (n : Next RwLockCallPlace) → Admits (rules_in w k) b → CallStandsNext b n → AreBuilt n → FitsItsLock w (rwlock_goes k b n)
+  fits_next k b (next.At q) admitted may built = (admitted, may, built)
+  fits_next k b (next.End answer) admitted may built = tt
 
   -- what its laws conclude
   abbrev Followed : Option ℕ → Reply → Type 0
-  Followed whom told = IsFollowed w t l steady there own (rules_in w l) refl admits.0 (rwlock_move a p) same_row whom told (next_place (place_at w t) told)
+  Followed whom told = IsFollowed w t l steady there own (rules_in w l) refl admits.0 (call_move a c) same_row whom told (next_place (place_at w t) told)
 
-  followed_by : (whom : Option ℕ) (told : Reply) → laws.AllNeeded (rules_in w l) (rwlock_deeds a p whom told) here t → (laws.after_all (rules_in w l) (rwlock_deeds a p whom told) here t).doing t ≡ doing_next (rwlock_next a p told) → given false p told ≡ None → MayBeTold a p p.at told → Followed whom told
-  followed_by whom told needed does plain may = record {
+  pub followed_by : (whom : Option ℕ) (told : Reply) → laws.AllNeeded (rules_in w l) (call_deeds a c whom told) here t → (laws.after_all (rules_in w l) (call_deeds a c whom told) here t).doing t ≡ call_doing_next (call_next a c told) → IsOwn told → CallMayBeTold a c told → Followed whom told
+  followed_by whom told needed does own_told may = record {
     of = next_of l (place_at w t) told own;
-    fits = subst (λ q. FitsItsLock w (next_place q told)) (sym is) (subst (FitsItsLock w) (sym (plain_leads l a p told plain)) (by_next (rwlock_next a p told) (rwlock_calls_stand a p told stands may)));
-    row = ap (λ q. profile (next_place q told)) is ∙ ap profile (plain_leads l a p told plain) ∙ next_is l a (rwlock_next a p told);
+    fits = subst (λ q. FitsItsLock w (next_place q told)) (sym is) (fits_next l a (call_next a c told) admits (fair_calls_stand a c told stands may) (built_next a c told own_told fits_now.2));
+    row = ap (λ q. profile (next_place q told)) is ∙ goes_row l a (call_next a c told);
     needed = needed;
-    doing = does ∙ doing_is a (rwlock_next a p told);
+    doing = does ∙ doing_is a (call_next a c told);
   }
-    where
-      by_next : (n : Next RwLockPlace) → MayStandNext a n → FitsItsLock w (plain_goes l a n)
-      by_next (next.At q) h = (admits, h)
-      by_next (next.End answer) h = tt
 
-  followed : (whom : Option ℕ) (told : Reply) → MayHear (rules_in w l) a here t p p.at whom told → given false p told ≡ None → MayBeTold a p p.at told → Followed whom told
-  followed whom told hears plain may = let f = rwlock_sections_follow (rules_in w l) a here t p whom told at_now hears in followed_by whom told f.needed f.doing plain may
+  followed : (whom : Option ℕ) (told : Reply) → CallMayHear (rules_in w l) a here t c whom told → IsOwn told → CallMayBeTold a c told → Followed whom told
+  followed whom told hears own_told may = let f = fair_sections_follow (rules_in w l) a here t c whom told at_now hears in followed_by whom told f.needed f.doing own_told may
 
   -- ---------------------------------------------------------------- who else calls the lock
 
-  asleep : (u : ℕ) → calls (place_at w u) l ≡ true → IsSleeper w t l steady there own (rules_in w l) refl admits.0 (rwlock_move a p) same_row u
+  pub of_no_mutex : (u k : ℕ) (m : MutexPlace) → place_at w u ≡ Mutex k m → k ≡ l → ⊥
+  of_no_mutex u k m e same_lock =
+      let of_mutex : is_mutex (kind_at w k) ≡ true = subst (FitsItsLock w) e (steady.stands.calls u) in
+      let none : has_readers (rules_in w k).sort ≡ false = ap (λ (r : Rules). has_readers r.sort) (mutex_rules (kind_at w k) of_mutex) in
+      let some : has_readers (rules_in w l).sort ≡ true = admits.0 in
+      let both : true ≡ false = sym some ∙ ap (λ j. has_readers (rules_in w j).sort) (sym same_lock) ∙ none in cc
+
+  asleep : (u : ℕ) → calls (place_at w u) l ≡ true → IsSleeper w t l steady there own (rules_in w l) refl admits.0 (call_move a c) same_row u
   asleep u h = by_place (place_at w u) refl h
     where
-      by_place : (q : Place) → place_at w u ≡ q → calls q l ≡ true → IsSleeper w t l steady there own (rules_in w l) refl admits.0 (rwlock_move a p) same_row u
+      by_place : (q : Place) → place_at w u ≡ q → calls q l ≡ true → IsSleeper w t l steady there own (rules_in w l) refl admits.0 (call_move a c) same_row u
       by_place Idle e g = absurd cc
-      by_place (Mutex k m) e g = absurd (let same_lock : k ≡ l = eqb-true k l g in let of_mutex : is_mutex (kind_at w k) ≡ true = subst (FitsItsLock w) e (steady.stands.calls u) in
-          let none : has_readers (rules_in w k).sort ≡ false = ap (λ (r : Rules). has_readers r.sort) (mutex_rules (kind_at w k) of_mutex) in let some : has_readers (rules_in w l).sort ≡ true = admits.0 in let both : true ≡ false = sym some ∙ ap (λ j. has_readers (rules_in w j).sort) (sym same_lock) ∙ none in cc)
-      by_place (RwLock k b (Plain q)) e g = record {
-        move = rwlock_move b q;
+      by_place (Mutex k m) e g = absurd (of_no_mutex u k m e (eqb-true k l g))
+      by_place (RwLock k b q) e g = record {
+        move = call_move b q;
         row = ap profile e;
-        waits = rwlock_sleepers_move b q fits_u.1;
-        taken = ap (λ y. profile (next_place y (TakenBy t))) e ∙ next_is k b (rwlock_next b q (TakenBy t));
-        woken = ap (λ y. profile (next_place y (Woken Normal))) e ∙ next_is k b (rwlock_next b q (Woken Normal));
-        taken_fits = subst (λ y. FitsItsLock w (next_place y (TakenBy t))) (sym e) (by_next (rwlock_next b q (TakenBy t)) (rwlock_calls_stand b q (TakenBy t) fits_u.1 (told_other b q q.at (TakenBy t) tt)));
-        woken_fits = subst (λ y. FitsItsLock w (next_place y (Woken Normal))) (sym e) (by_next (rwlock_next b q (Woken Normal)) (rwlock_calls_stand b q (Woken Normal) fits_u.1 (told_other b q q.at (Woken Normal) tt)));
+        waits = fair_sleepers_move b q fits_u.1;
+        taken = ap (λ y. profile (next_place y (TakenBy t))) e ∙ goes_row k b (call_next b q (TakenBy t));
+        woken = ap (λ y. profile (next_place y (Woken Normal))) e ∙ goes_row k b (call_next b q (Woken Normal));
+        taken_fits = subst (λ y. FitsItsLock w (next_place y (TakenBy t))) (sym e) (fits_next k b (call_next b q (TakenBy t)) fits_u.0 (fair_calls_stand b q (TakenBy t) fits_u.1 (call_told_other b q (TakenBy t) tt)) (built_next b q (TakenBy t) tt fits_u.2));
+        woken_fits = subst (λ y. FitsItsLock w (next_place y (Woken Normal))) (sym e) (fits_next k b (call_next b q (Woken Normal)) fits_u.0 (fair_calls_stand b q (Woken Normal) fits_u.1 (call_told_other b q (Woken Normal) tt)) (built_next b q (Woken Normal) tt fits_u.2));
       }
         where
-          fits_u : FitsItsLock w (RwLock k b (Plain q))
+          fits_u : FitsItsLock w (RwLock k b q)
           fits_u = subst (FitsItsLock w) e (steady.stands.calls u)
-
-          by_next : (n : Next RwLockPlace) → MayStandNext b n → FitsItsLock w (plain_goes k b n)
-          by_next (next.At y) h = (fits_u.0, h)
-          by_next (next.End answer) h = tt
-      by_place (RwLock k b c) e g = absurd (subst (FitsItsLock w) e (steady.stands.calls u))
 
   -- ---------------------------------------------------------------- each act
 
   -- its deeds as it goes on from a place, what they make of its call, and of those of the others
   pub record GoesFrom (q : Place) (y : Act) : Type 0 where
     pub whom : Option ℕ
-    pub goes : Goes w (put (state_after_act w t (RwLock l a (Plain p)) y) t (next_place q (reply_to w t y))) l (acts t (rwlock_deeds a p whom (reply_to w t y)))
-    pub tells : CallFollowsBy (rules_in w l) a here t l p whom (reply_to w t y)
-    pub others : WakesOwn (carries_at p.at) y (case_of (carries_at p.at) (rwlock_deeds a p whom (reply_to w t y)))
+    pub goes : Goes w (put (state_after_act w t (RwLock l a c) y) t (next_place q (reply_to w t y))) l (acts t (call_deeds a c whom (reply_to w t y)))
+    pub tells : CallTells (rules_in w l) a here t l c whom (reply_to w t y)
+    pub others : WakesOwn ((call_profile a c).carries) y (case_of ((call_profile a c).carries) (call_deeds a c whom (reply_to w t y)))
 
-  -- a thread that is there
-  calling : IsCalling (rules_in w l) a here t p
-  calling = record { at = at_now; stands = stands }
+  tells_by : (whom : Option ℕ) (told : Reply) → IsNotLate told → CallMayHear (rules_in w l) a here t c whom told → CallTells (rules_in w l) a here t l c whom told
+  tells_by whom told now hears = fair_sections_tell (rules_in w l) a here t l c whom told at_now hears now
 
-  tells_by : (whom : Option ℕ) (told : Reply) → IsNotLate told → MayHear (rules_in w l) a here t p p.at whom told → CallFollowsBy (rules_in w l) a here t l p whom told
-  tells_by whom told now hears = rwlock_sections_tell (rules_in w l) a here t l p whom told calling hears now
-
-  calm_by : (ds : List Deed) {x : List Deed} → x ≡ ds → AreCalm ds → IsCalm (case_of (carries_at p.at) x)
-  calm_by ds e h = subst (λ (x : List Deed). IsCalm (case_of (carries_at p.at) x)) (sym e) (calm_case (carries_at p.at) ds h)
+  calm_by : (ds : List Deed) {x : List Deed} → x ≡ ds → AreCalm ds → IsCalm (case_of ((call_profile a c).carries) x)
+  calm_by ds e h = subst (λ (x : List Deed). IsCalm (case_of ((call_profile a c).carries) x)) (sym e) (calm_case ((call_profile a c).carries) ds h)
 
   many : TakesOne w l → ⊥
   many one = one (knows_all (rules_in w l) admits.0 access.Upgradable)
@@ -311,20 +406,20 @@ module _ (w : State) (t l : ℕ) (a : Admission) (p : RwLockPlace) (steady : IsS
   line_there : (m : Line) → key_of l m < length w.queues
   line_there m = let e : length w.queues ≡ length w.sections = shape.queues in let h : key_of l m < length w.sections = section_there m in omega arith
 
-  word_is : word_at w l ≡ code (rules_in w l) here
+  pub word_is : word_at w l ≡ code (rules_in w l) here
   word_is = steady.sites.word l
 
   -- one operation on the word
-  on_word : (op : Op) → rwlock_act l a p ≡ act.Word l op → StaysPut (rwlock_move a p) → GoesFrom (place_at w t) (act.Word l op)
+  on_word : (op : Op) → call_act l a c ≡ act.Word l op → StaysPut (call_move a c) → GoesFrom (place_at w t) (act.Word l op)
   on_word op e g = record {
     whom = None;
-    goes = stays w t l steady there own (rules_in w l) refl admits.0 (rwlock_move a p) same_row (RwLock l a (Plain p)) (next_place (place_at w t) (Value (word_at w l))) op lt g on.0 on.1 on.2;
-    tells = subst (λ v. CallFollowsBy (rules_in w l) a here t l p None (Value v)) (sym word_is) (rwlock_steps_tell (rules_in w l) a here t l p op calling nowhere e);
-    others = calm_by (rwlock_deeds a p None (Value (word_at w l))) refl (word_calm (rwlock_deeds a p None (Value (word_at w l))) (g.deeds (word_at w l)));
+    goes = stays w t l steady there own (rules_in w l) refl admits.0 (call_move a c) same_row (RwLock l a c) (next_place (place_at w t) (Value (word_at w l))) op lt g on.0 on.1 on.2;
+    tells = subst (λ v. CallTells (rules_in w l) a here t l c None (Value v)) (sym word_is) (fair_steps_tell (rules_in w l) a here t l c op at_now nowhere e);
+    others = calm_by (call_deeds a c None (Value (word_at w l))) refl (word_calm (call_deeds a c None (Value (word_at w l))) (g.deeds (word_at w l)));
   }
     where
       nowhere : standing t here.lock ≡ 0
-      nowhere = nowhere_here w t l steady there own (rules_in w l) refl admits.0 (rwlock_move a p) same_row g.out g.free
+      nowhere = nowhere_here w t l steady there own (rules_in w l) refl admits.0 (call_move a c) same_row g.out g.free
 
       limits : HasRoom (length w.places) (rules_in w l) × HasLimit (rules_in w l) here.lock
       limits = steady.sites.limits l admits.0
@@ -337,83 +432,162 @@ module _ (w : State) (t l : ℕ) (a : Admission) (p : RwLockPlace) (steady : IsS
 
       at_word : ℕ → Type 0
       at_word v = Followed None (Value v)
-          × (lock_seen (shares_then (shares_at w l) t (rwlock_shares a p v (share_at w l t))) (rwlock_owners a p t v (owners_at w l)) (queue_at w (2 * l)) (queue_at w (2 * l + 1)) (λ u. taken_at (place_at w u) l) ≡ (laws.after_all (rules_in w l) (rwlock_deeds a p None (Value v)) here t).lock)
-          × (apply op v ≡ code (rules_in w l) (laws.after_all (rules_in w l) (rwlock_deeds a p None (Value v)) here t))
+          × (lock_seen (shares_then (shares_at w l) t (call_shares a c v (share_at w l t))) (call_owners a c t v (owners_at w l)) (queue_at w (2 * l)) (queue_at w (2 * l + 1)) (λ u. taken_at (place_at w u) l) ≡ (laws.after_all (rules_in w l) (call_deeds a c None (Value v)) here t).lock)
+          × (apply op v ≡ code (rules_in w l) (laws.after_all (rules_in w l) (call_deeds a c None (Value v)) here t))
 
       on : at_word (word_at w l)
-      on = subst at_word (sym word_is) (let f = rwlock_steps_follow (rules_in w l) a here t l p op at_now nowhere e in (
-        followed_by None (Value (code (rules_in w l) here)) f.needed f.doing refl (told_value a p p.at (code (rules_in w l) here) few),
-        rwlock_owners_follow (rules_in w l) a here t l p op (shares_at w l) (owners_at w l) (queue_at w (2 * l)) (queue_at w (2 * l + 1)) (λ u. taken_at (place_at w u) l) at_now e room limits.1 refl,
-        rwlock_steps_code (rules_in w l) a here t l p op at_now nowhere e (subst (λ n. t < n) (sym (steady.numbers.threads l)) there) few room limits.1,
+      on = subst at_word (sym word_is) (let f = fair_steps_follow (rules_in w l) a here t l c op at_now nowhere e in (
+        followed_by None (Value (code (rules_in w l) here)) f.needed f.doing tt (call_told_value a c (code (rules_in w l) here) few),
+        fair_owners_follow (rules_in w l) a here t l c op (shares_at w l) (owners_at w l) (queue_at w (2 * l)) (queue_at w (2 * l + 1)) (λ u. taken_at (place_at w u) l) at_now e room limits.1 refl,
+        fair_steps_code (rules_in w l) a here t l c op at_now nowhere e few room limits.1,
       ))
 
   none_is : (o : Option ℕ) → is_none o ≡ true → o ≡ None
   none_is None h = refl
   none_is (Some u) h = absurd cc
 
-  into : (m : Line) (keys : Keys) → keys ≡ One (key_of l m) → are_free w keys ≡ true → GoesIn (rwlock_move a p) (rwlock_hears a p) m Done → GoesFrom (place_at w t) (act.Enter keys)
+  into : (m : Line) (keys : Keys) → keys ≡ One (key_of l m) → are_free w keys ≡ true → GoesIn (call_move a c) (call_hears a c) m Done → GoesFrom (place_at w t) (act.Enter keys)
   into m keys e free g = subst (λ k. GoesFrom (place_at w t) (act.Enter k)) (sym e) (record {
     whom = None;
-    goes = goes_in w t l steady there own (rules_in w l) refl admits.0 (rwlock_move a p) same_row (rwlock_hears a p) m Done (next_place (place_at w t) Done) (section_there m) is_free_now g (λ h. followed None Done h refl (told_done a p (rules_in w l) here t p.at None h));
-    tells = tells_by None Done tt (entered_hears w t l steady there own (rules_in w l) refl admits.0 (rwlock_move a p) same_row (rwlock_hears a p) m Done is_free_now g);
+    goes = goes_in w t l steady there own (rules_in w l) refl admits.0 (call_move a c) same_row (call_hears a c) m Done (next_place (place_at w t) Done) (section_there m) is_free_now g (λ h. followed None Done h tt (call_told_done a (rules_in w l) here t c None h));
+    tells = tells_by None Done tt (entered_hears w t l steady there own (rules_in w l) refl admits.0 (call_move a c) same_row (call_hears a c) m Done is_free_now g);
     others = calm_by (In m ∷ []) g.deeds tt;
   })
     where
       is_free_now : section_at w (key_of l m) ≡ None
       is_free_now = none_is (section_at w (key_of l m)) (subst (λ k. are_free w k ≡ true) e free)
 
-  out_of : (m : Line) (keys : Keys) (wakes : Wakes) → keys ≡ One (key_of l m) → GoesOut (rwlock_move a p) (rwlock_hears a p) m wakes → GoesFrom (place_at w t) (act.Leave keys wakes)
+  out_of : (m : Line) (keys : Keys) (wakes : Wakes) → keys ≡ One (key_of l m) → GoesOut (call_move a c) (call_hears a c) m wakes → GoesFrom (place_at w t) (act.Leave keys wakes)
   out_of m keys wakes e g = subst (λ k. GoesFrom (place_at w t) (act.Leave k wakes)) (sym e) (record {
     whom = None;
-    goes = goes_out w t l steady there own (rules_in w l) refl admits.0 (rwlock_move a p) same_row (rwlock_hears a p) m wakes (next_place (place_at w t) Done) (section_there m) g (λ h. followed None Done h refl (told_done a p (rules_in w l) here t p.at None h)) (wakes_one w t l steady there own (rules_in w l) refl admits.0 (rwlock_move a p) same_row asleep);
-    tells = tells_by None Done tt (left_hears w t l steady there own (rules_in w l) refl admits.0 (rwlock_move a p) same_row (rwlock_hears a p) m wakes g);
-    others = subst (λ x. WakesOwn (carries_at p.at) (act.Leave (One (key_of l m)) x) (case_of (carries_at p.at) (rwlock_deeds a p None Done))) (sym g.notes) (wakes_any (carries_at p.at) g.any g.carries (rwlock_deeds a p None Done) g.deeds);
+    goes = goes_out w t l steady there own (rules_in w l) refl admits.0 (call_move a c) same_row (call_hears a c) m wakes (next_place (place_at w t) Done) (section_there m) g (λ h. followed None Done h tt (call_told_done a (rules_in w l) here t c None h)) (wakes_one w t l steady there own (rules_in w l) refl admits.0 (call_move a c) same_row asleep g.any g.carries);
+    tells = tells_by None Done tt (left_hears w t l steady there own (rules_in w l) refl admits.0 (call_move a c) same_row (call_hears a c) m wakes g);
+    others = subst (λ x. WakesOwn ((call_profile a c).carries) (act.Leave (One (key_of l m)) x) (case_of ((call_profile a c).carries) (call_deeds a c None Done))) (sym g.notes) (wakes_any ((call_profile a c).carries) g.any g.carries (call_deeds a c None Done) g.deeds);
   })
     where
       wakes_any : (hand : Option Bool) (any : Bool) → hand ≡ in_hand any false → (ds : List Deed) → AreLeaving ds → WakesOwn hand (act.Leave (One (key_of l m)) (wakes_taken any Normal)) (case_of hand ds)
       wakes_any hand false f ds h = subst (λ x. IsCalm (case_of x ds)) (sym f) (left_calm ds h)
-      wakes_any hand true f ds h = (f, (refl, ap (λ x. case_of x ds) f ∙ left_wakes ds h))
+      wakes_any hand true f ds h = inl (f, (refl, ap (λ x. case_of x ds) f ∙ left_wakes ds h))
 
-  parked : (m : Line) (k key : ℕ) (check : Check) (want : Want) → k ≡ l → key ≡ key_of l m → Parks (rwlock_move a p) (rwlock_hears a p) m check want → GoesFrom (place_at w t) (act.Park k key check want)
+  parked : (m : Line) (k key : ℕ) (check : Check) (want : Want) → k ≡ l → key ≡ key_of l m → Parks (call_move a c) (call_hears a c) m check want → GoesFrom (place_at w t) (act.Park k key check want)
   parked m k key check x ke e g = subst (λ j. GoesFrom (place_at w t) (act.Park j key check x)) (sym ke) (subst (λ j. GoesFrom (place_at w t) (act.Park l j check x)) (sym e) (record {
     whom = None;
-    goes = parks_or_turns w t l steady there own (rules_in w l) refl admits.0 (rwlock_move a p) same_row (rwlock_hears a p) m check x (line_there m) g (λ b h. followed None (Parked b) h refl (told_other a p p.at (Parked b) tt));
-    tells = tells_by None (Parked (holds check (word_at w l))) tt (parked_hears w t l steady there own (rules_in w l) refl admits.0 (rwlock_move a p) same_row (rwlock_hears a p) m check x g (holds check (word_at w l)) refl);
+    goes = parks_or_turns w t l steady there own (rules_in w l) refl admits.0 (call_move a c) same_row (call_hears a c) m check x (line_there m) g (λ b h. followed None (Parked b) h tt (call_told_other a c (Parked b) tt));
+    tells = tells_by None (Parked (holds check (word_at w l))) tt (parked_hears w t l steady there own (rules_in w l) refl admits.0 (call_move a c) same_row (call_hears a c) m check x g (holds check (word_at w l)) refl);
     others = parks_calm (holds check (word_at w l));
   }))
     where
-      parks_calm : (b : Bool) → IsCalm (case_of (carries_at p.at) (rwlock_deeds a p None (Parked b)))
+      parks_calm : (b : Bool) → IsCalm (case_of ((call_profile a c).carries) (call_deeds a c None (Parked b)))
       parks_calm true = calm_by (parks_in m x ∷ []) g.parks (in_line_calm m x)
       parks_calm false = calm_by [] g.turns tt
 
-  left : (m : Line) (key : ℕ) → key ≡ key_of l m → LeavesLine (rwlock_move a p) (rwlock_hears a p) m → GoesFrom (place_at w t) (act.Remove key)
+  -- whom it has handed the lock goes on where its wake leads it
+  hears_so : (u : ℕ) → hand_at (place_at w u) l ≡ hand t true → IsWoken w t l true HandOff (place_at w u)
+  hears_so u held = by_place (place_at w u) refl held
+    where
+      by_place : (q : Place) → place_at w u ≡ q → hand_at q l ≡ hand t true → IsWoken w t l true HandOff q
+      by_place Idle e h = absurd cc
+      by_place (Mutex k m) e h = either (k == l) refl h
+        where
+          either : (b : Bool) → (k == l) ≡ b → (if b then station (Mutex k m) else nowhere).hand ≡ hand t true → IsWoken w t l true HandOff (Mutex k m)
+          either true same_lock g = absurd (of_no_mutex u k m e (eqb-true k l same_lock))
+          either false same_lock g = absurd cc
+      by_place (RwLock k b q) e h = either (k == l) refl h
+        where
+          fits_u : FitsItsLock w (RwLock k b q)
+          fits_u = subst (FitsItsLock w) e (steady.stands.calls u)
+
+          then_u : Place
+          then_u = next_place (RwLock k b q) (Woken HandOff)
+
+          then_row : profile then_u ≡ row_of (next_rows b (call_next b q (Woken HandOff)))
+          then_row = goes_row k b (call_next b q (Woken HandOff))
+
+          at_lock : k ≡ l → (call_profile b q).hand ≡ hand t true → IsWoken w t l true HandOff (RwLock k b q)
+          at_lock same_lock g = let z = (handed_move b q fits_u.1).was_given t g in record {
+            lets = record {
+              taken = free_of then_u l (ap (λ (y : Station). y.hand) (ap station_by then_row ∙ z.goes)) ∙ sym (ap (keep_from t) untaken);
+              doing = doing_here l then_u (next_of l (RwLock k b q) (Woken HandOff) same_lock) ∙ ap (λ (y : Profile). y.doing) then_row ∙ z.doing ∙ sym (ap (λ o. wakened t o (doing_on (RwLock k b q) l)) untaken ∙ doing_here l (RwLock k b q) same_lock);
+            };
+            was = z.was;
+            free = ap station_by then_row ∙ z.goes;
+            fits = fits_next k b (call_next b q (Woken HandOff)) fits_u.0 (fair_calls_stand b q (Woken HandOff) fits_u.1 (call_told_other b q (Woken HandOff) tt)) (built_then b q t fits_u.2 g);
+          }
+            where
+              untaken : taken_at (RwLock k b q) l ≡ None
+              untaken = ap (λ o. taken_from o (call_profile b q).wants (calls (RwLock k b q) l)) g
+
+          either : (d : Bool) → (k == l) ≡ d → (if d then station (RwLock k b q) else nowhere).hand ≡ hand t true → IsWoken w t l true HandOff (RwLock k b q)
+          either true same_lock g = at_lock (eqb-true k l same_lock) g
+          either false same_lock g = absurd cc
+
+  tells_all : (keys : Keys) (wakes : Wakes) → keys ≡ One (key_of l Main) → TellsHanded (call_move a c) (call_hears a c) wakes → GoesFrom (place_at w t) (act.Leave keys wakes)
+  tells_all keys wakes e g = subst (λ k. GoesFrom (place_at w t) (act.Leave k wakes)) (sym e) (record {
+    whom = None;
+    goes = tells_handed w t l steady there own (rules_in w l) refl admits.0 (call_move a c) same_row (call_hears a c) wakes g (next_place (place_at w t) Done) (section_there Main)
+        (followed None Done hears_done tt (call_told_done a (rules_in w l) here t c None hears_done)) told_so;
+    tells = tells_by None Done tt hears_done;
+    others = subst (λ x. WakesOwn (call_profile a c).carries (act.Leave (One (key_of l Main)) x) (case_of (call_profile a c).carries (call_deeds a c None Done))) (sym g.notes) (tells_any (call_profile a c).carries g.any (ap (λ (y : Station). y.carries) g.was) (call_deeds a c None Done) g.deeds);
+  })
+    where
+      hears_done : CallMayHear (rules_in w l) a here t c None Done
+      hears_done = told_hears w t l steady there own (rules_in w l) refl admits.0 (call_move a c) same_row (call_hears a c) wakes g
+
+      -- they were handed it
+      told_so : (u : ℕ) (b : Bool) → hand_at (place_at w u) l ≡ hand t b → IsWoken w t l b HandOff (place_at w u)
+      told_so u b held = by_handed b held (sym (carried_now ∙ ap (λ (y : Station). y.carries) g.was) ∙ steady.stands.hands.taken t u l b held) g.any
+        where
+          carried_now : carried_at (place_at w t) l ≡ (call_profile a c).carries
+          carried_now = ap (λ (y : Station). y.carries) (station_here l (place_at w t) own) ∙ ap (λ (y : Profile). y.carries) same_row
+
+          by_handed : (b : Bool) → hand_at (place_at w u) l ≡ hand t b → in_hand g.any true ≡ Some b → (any : Bool) → IsWoken w t l b HandOff (place_at w u)
+          by_handed true h f any = hears_so u h
+          by_handed false h f any = absurd (never g.any f)
+            where
+              never : (any : Bool) → in_hand any true ≡ Some false → ⊥
+              never true f = cc
+              never false f = cc
+
+      tells_any : (hand : Option Bool) (any : Bool) → hand ≡ in_hand any true → (ds : List Deed) → AreLeaving ds → WakesOwn hand (act.Leave (One (key_of l Main)) (wakes_taken any HandOff)) (case_of hand ds)
+      tells_any hand false f ds h = subst (λ x. IsCalm (case_of x ds)) (sym f) (left_calm ds h)
+      tells_any hand true f ds h = inr (f, (refl, subst (λ x. IsCalm (case_of x ds)) (sym f) (handed_calm ds h)))
+
+  accepted : Accepts (call_move a c) (call_hears a c) → GoesFrom (place_at w t) act.Accept
+  accepted g = record {
+    whom = None;
+    goes = accepts w t l steady there own (rules_in w l) refl admits.0 (call_move a c) same_row (call_hears a c) g (next_place (place_at w t) Done) (λ h. followed None Done h tt (call_told_done a (rules_in w l) here t c None h));
+    tells = tells_by None Done tt (g.may (rules_in w l) here t);
+    others = calm_by (End ∷ []) g.deeds tt;
+  }
+
+  left : (m : Line) (key : ℕ) → key ≡ key_of l m → LeavesLine (call_move a c) (call_hears a c) m → GoesFrom (place_at w t) (act.Remove key)
   left m key e g = subst (λ j. GoesFrom (place_at w t) (act.Remove j)) (sym e) (record {
     whom = None;
-    goes = leaves_line w t l steady there own (rules_in w l) refl admits.0 (rwlock_move a p) same_row asleep (rwlock_hears a p) m g (λ b h. followed None (Removed b) h refl (told_other a p p.at (Removed b) tt));
-    tells = tells_by None (reply_to w t (act.Remove (key_of l m))) tt (removed_hears w t l steady there own (rules_in w l) refl admits.0 (rwlock_move a p) same_row asleep (rwlock_hears a p) m g);
+    goes = leaves_line w t l steady there own (rules_in w l) refl admits.0 (call_move a c) same_row asleep (call_hears a c) m g (λ b h. followed None (Removed b) h tt (call_told_other a c (Removed b) tt));
+    tells = tells_by None (reply_to w t (act.Remove (key_of l m))) tt (removed_hears w t l steady there own (rules_in w l) refl admits.0 (call_move a c) same_row asleep (call_hears a c) m g);
     others = calm_by (Case locks.Late ∷ []) (g.deeds _) tt;
   })
 
-  picked : (key : ℕ) (start : Option Want) (b : Bool) → key ≡ key_of l Main → b ≡ a.recursive → Picks (rwlock_move a p) (rwlock_hears a p) start → GoesFrom (place_at w t) (act.Take key (whom.TheVariants.Picked start b))
+  picked : (key : ℕ) (start : Option Want) (b : Bool) → key ≡ key_of l Main → b ≡ a.recursive → Picks (call_move a c) (call_hears a c) start → GoesFrom (place_at w t) (act.Take key (whom.TheVariants.Picked start b))
   picked key start b e same_rule g = subst (λ j. GoesFrom (place_at w t) (act.Take j (whom.TheVariants.Picked start b))) (sym e) (subst (λ c. GoesFrom (place_at w t) (act.Take (key_of l Main) (whom.TheVariants.Picked start c))) (admits.1 ∙ sym same_rule) (record {
     whom = None;
-    goes = takes_chosen w t l steady there own (rules_in w l) refl admits.0 (rwlock_move a p) same_row asleep (rwlock_hears a p) many (line_there Main) start g follows;
-    tells = tells_by None _ tt (picked_hears w t l steady there own (rules_in w l) refl admits.0 (rwlock_move a p) same_row asleep (rwlock_hears a p) many (line_there Main) start g follows);
-    others = calm_by (Case (locks.TakePicked start) ∷ []) (picked_deeds w t l steady there own (rules_in w l) refl admits.0 (rwlock_move a p) same_row asleep (rwlock_hears a p) many (line_there Main) start g follows) tt;
+    goes = takes_chosen w t l steady there own (rules_in w l) refl admits.0 (call_move a c) same_row asleep (call_hears a c) many (line_there Main) start g follows;
+    tells = tells_by None _ tt (picked_hears w t l steady there own (rules_in w l) refl admits.0 (call_move a c) same_row asleep (call_hears a c) many (line_there Main) start g follows);
+    others = calm_by (Case (locks.TakePicked start) ∷ []) (picked_deeds w t l steady there own (rules_in w l) refl admits.0 (call_move a c) same_row asleep (call_hears a c) many (line_there Main) start g follows) tt;
   }))
     where
-      follows : (n : ℕ) (y : Option Want) (none_left : Bool) → rwlock_hears a p (rules_in w l) here t None (Picked n y none_left) → Followed None (Picked n y none_left)
-      follows n y none_left h = followed None (Picked n y none_left) h refl (told_other a p p.at (Picked n y none_left) tt)
+      follows : (n : ℕ) (y : Option Want) (none_left : Bool) → call_hears a c (rules_in w l) here t None (Picked n y none_left) → Followed None (Picked n y none_left)
+      follows n y none_left h = followed None (Picked n y none_left) h tt (call_told_other a c (Picked n y none_left) tt)
 
-  took : (key : ℕ) → key ≡ key_of l Second → TakesAside (rwlock_move a p) (rwlock_hears a p) → GoesFrom (place_at w t) (act.Take key whom.TheVariants.First)
+  took : (key : ℕ) → key ≡ key_of l Second → TakesAside (call_move a c) (call_hears a c) → GoesFrom (place_at w t) (act.Take key whom.TheVariants.First)
   took key e g = subst (λ j. GoesFrom (place_at w t) (act.Take j whom.TheVariants.First)) (sym e) (record {
     whom = here.lock.aside;
-    goes = takes_whom_aside w t l steady there own (rules_in w l) refl admits.0 (rwlock_move a p) same_row asleep (rwlock_hears a p) many (line_there Second) g (λ any none_left h. followed here.lock.aside (Took any none_left) h refl (told_other a p p.at (Took any none_left) tt));
+    goes = takes_whom_aside w t l steady there own (rules_in w l) refl admits.0 (call_move a c) same_row asleep (call_hears a c) many (line_there Second) g (λ any none_left h. followed here.lock.aside (Took any none_left) h tt (call_told_other a c (Took any none_left) tt));
     tells = tells_by here.lock.aside (reply_to w t (act.Take (key_of l Second) whom.TheVariants.First)) tt (g.may (rules_in w l) here t _ _);
     others = calm_by (takes_aside here.lock.aside ∷ []) (g.deeds here.lock.aside _ _) (aside_calm here.lock.aside);
   })
 
-  by_act : (y : Act) → rwlock_act l a p ≡ y → Moves l a.recursive (rwlock_move a p) (rwlock_hears a p) y → can_do w y ≡ true → GoesFrom (place_at w t) y
+  by_act : (y : Act) → call_act l a c ≡ y → CallMoves l a.recursive (call_move a c) (call_hears a c) y → can_do w y ≡ true → GoesFrom (place_at w t) y
   by_act (act.Word k op) e g can = subst (λ j. GoesFrom (place_at w t) (act.Word j op)) (sym g.0) (on_word op (e ∙ ap (λ j. act.Word j op) g.0) g.1)
   by_act (act.Enter keys) e g can = into g.0 keys g.1 can g.2
   by_act (act.Park k key check want) e g can = parked g.0 k key check want g.1 g.2 g.3
@@ -421,20 +595,25 @@ module _ (w : State) (t l : ℕ) (a : Admission) (p : RwLockPlace) (steady : IsS
   by_act (act.Take key whom.TheVariants.First) e g can = took key g.0 g.1
   by_act (act.Take key whom.TheVariants.All) e g can = absurd g
   by_act (act.Remove key) e g can = left g.0 key g.1 g.2
-  by_act (act.Leave keys wakes) e g can = out_of g.0 keys wakes g.1 g.2
+  by_act (act.Leave keys wakes) e g can = elim g [
+    | inl h ↦ out_of h.0 keys wakes h.1 h.2
+    | inr h ↦ tells_all keys wakes h.0 h.1
+  ]
+  by_act (act.HandOver k op) e g can = absurd (gives_nothing a c fits_now.2 l k op stands e)
+  by_act act.Accept e g can = accepted g
   by_act act.Sleep e g can = absurd cc
   by_act (act.End answer) e g can = absurd cc
   by_act y e g can = absurd g
 
   -- wherever it stands, its deeds are what the place and the reply say
-  pub rwlock_goes_on : can_do w (rwlock_act l a p) ≡ true → GoesFrom (RwLock l a (Plain p)) (rwlock_act l a p)
-  rwlock_goes_on can = subst (λ q. GoesFrom q (rwlock_act l a p)) is (by_act (rwlock_act l a p) refl (rwlock_acts_move l a p stands) can)
+  pub rwlock_goes_on : can_do w (call_act l a c) ≡ true → GoesFrom (RwLock l a c) (call_act l a c)
+  rwlock_goes_on can = subst (λ q. GoesFrom q (call_act l a c)) is (by_act (call_act l a c) refl (fair_acts_move l a c stands) can)
 
   -- ---------------------------------------------------------------- its time is up
 
-  pub rwlock_goes_late : (m : Line) → rwlock_late_line p ≡ Some m → is_free w (key_of l m) ≡ true → Goes w (state_after_late_under w t (key_of l m)) l (acts t (rwlock_deeds a p None Late))
-  rwlock_goes_late m e free = goes_in w t l steady there own (rules_in w l) refl admits.0 (rwlock_move a p) same_row (rwlock_hears a p) m Late (next_place (place_at w t) Late) (section_there m)
-      (none_is (section_at w (key_of l m)) free) (rwlock_late_moves a p m e) (λ h. followed None Late h refl (told_late a p p.at (patience_of p.purpose) refl m e))
+  pub rwlock_goes_late : (m : Line) → call_late_line c ≡ Some m → is_free w (key_of l m) ≡ true → Goes w (state_after_late_under w t (key_of l m)) l (acts t (call_deeds a c None Late))
+  rwlock_goes_late m e free = goes_in w t l steady there own (rules_in w l) refl admits.0 (call_move a c) same_row (call_hears a c) m Late (next_place (place_at w t) Late) (section_there m)
+      (none_is (section_at w (key_of l m)) free) (fair_late_moves a c m e) (λ h. followed None Late h tt (call_told_late a c m e))
 
 -- ---------------------------------------------------------------- a call begins
 
@@ -446,10 +625,10 @@ admits_by k h = absurd cc
 
 -- it begins where it fits its lock
 first_fits : (w : State) (l : ℕ) (a : Admission) (c : RwLockCall) → is_built c ≡ true → Admits (rules_in w l) a → FitsItsLock w (RwLock l a (call_first c))
-first_fits w l a (call.Enter x how) built admits = (admits, (calls_open a (call.Enter x how)).stands)
-first_fits w l a (call.Release x) built admits = (admits, (calls_open a (call.Release x)).stands)
-first_fits w l a (call.Downgrade d) built admits = (admits, (calls_open a (call.Downgrade d)).stands)
-first_fits w l a (call.Upgrade how) built admits = (admits, (calls_open a (call.Upgrade how)).stands)
+first_fits w l a (call.Enter x how) built admits = (admits, (calls_open a (call.Enter x how)).stands, tt)
+first_fits w l a (call.Release x) built admits = (admits, (calls_open a (call.Release x)).stands, tt)
+first_fits w l a (call.Downgrade d) built admits = (admits, (calls_open a (call.Downgrade d)).stands, tt)
+first_fits w l a (call.Upgrade how) built admits = (admits, (calls_open a (call.Upgrade how)).stands, tt)
 first_fits w l a (call.ReleaseFair x) built admits = absurd cc
 first_fits w l a (call.Bump x) built admits = absurd cc
 

@@ -352,11 +352,11 @@ module _ (t l : ℕ) (a : Admission) where
       either true c = leads_step w t (Ends p.purpose) 2 c.0 (wakes_clear p m any v _ q c.1)
       either false c = leads_more 2 3 w t (Ends p.purpose) (omega arith) (leads_step w t (Ends p.purpose) 1 c.0 (wakes_leave p m any v _ q c.1))
 
-  taken_word : (b : State) (x : Option ℕ) → word_at (state_after_taking b t x) l ≡ word_at b l
+  pub taken_word : (b : State) (x : Option ℕ) → word_at (state_after_taking b t x) l ≡ word_at b l
   taken_word b None = refl
   taken_word b (Some u) = refl
 
-  taken_sections : (b : State) (x : Option ℕ) (k : ℕ) → section_at (state_after_taking b t x) k ≡ section_at b k
+  pub taken_sections : (b : State) (x : Option ℕ) (k : ℕ) → section_at (state_after_taking b t x) k ≡ section_at b k
   taken_sections b None k = refl
   taken_sections b (Some u) k = refl
 

@@ -69,14 +69,13 @@ use Rattle.lot_acts.specs.Owners.{with_exclusive}
 use Rattle.lot_world.proofs.GoneKept.{gone_goes}
 use Rattle.lot_calls.specs.declared.calls.RwLockCall.{RwLockCall}
 use Rattle.lot_rwlock.specs.declared.places.Admission.{Admission}
-use Rattle.lot_rwlock.specs.declared.places.RwLockPlace.{RwLockPlace}
 use Rattle.lot_world.proofs.LineSolo.{StepsAlone}
-use Rattle.lot_world.proofs.RwLockSolo.{rwlock_rests, word_small, is_ready}
+use Rattle.lot_world.proofs.BumpSolo.{call_rests}
+use Rattle.lot_world.proofs.RwLockSolo.{word_small}
 use Rattle.lot_world.proofs.RwLockEnds.{rwlock_alone}
 use Rattle.lot_world.proofs.WorldRuns.{holds_of, solo_runs}
 use Rattle.lot_rwlock.specs.RwLockBegins.{admission_of}
 use Rattle.lot_rwlock_fair.specs.declared.places.RwLockCallPlace.{RwLockCallPlace}
-use Rattle.lot_rwlock_fair.specs.declared.places.RwLockCallPlace.TheVariants.{Plain}
 use Rattle.lot_rwlock_fair.specs.FairBegins.{call_first}
 use Rattle.lot_world.proofs.RwLockKept.{admits_by}
 use Rattle.lot_world.proofs.AtPlaces.{coded as words_coded, coded_for, rules_for, absent, owns}
@@ -412,8 +411,8 @@ module _ (w : State) (t : ℕ) (shape : IsShaped w) (steady : IsSteady w) (there
   at_first l p is own outside lt = subst (λ s. Facing w t l p (word_at w l) (owner_at w l) s (queue_at w (2 * l))) (free l p is own outside (section_at w (2 * l)) refl) (facing l p is lt)
 
   -- at a place of a reader-writer lock
-  admitted : (l : ℕ) (a : Admission) (p : RwLockPlace) → place_at w t ≡ RwLock l a (Plain p) → FitsItsLock w (RwLock l a (Plain p))
-  admitted l a p is = subst (FitsItsLock w) is (steady.stands.calls t)
+  admitted : (l : ℕ) (a : Admission) (c : RwLockCallPlace) → place_at w t ≡ RwLock l a c → FitsItsLock w (RwLock l a c)
+  admitted l a c is = subst (FitsItsLock w) is (steady.stands.calls t)
 
   steps_alone : (l : ℕ) (a : Admission) (c : RwLockCallPlace) → has_readers (rules_in w l).sort ≡ true → place_at w t ≡ RwLock l a c → l < length w.locks → StepsAlone w t l (RwLock l a c) (word_at w l) (λ m. queue_at w (key_of l m))
   steps_alone l a c readers is lt = record {
@@ -431,21 +430,25 @@ module _ (w : State) (t : ℕ) (shape : IsShaped w) (steady : IsSteady w) (there
       line Main = tt
       line Second = readers
 
-  place_rests : (p : Place) → place_at w t ≡ p → PlaceFits (length w.locks) p → p ≢ Idle → act_of p ≢ act.TheVariants.Sleep → Leads 12 w t (λ v x. Rests x)
-  place_rests Idle is fits busy up = absurd (busy refl)
-  place_rests (Mutex l (Lock entry retries a)) is fits busy up = leads_more 8 12 w t (λ v x. Rests x) (omega arith) (lock_rests t l entry retries a (word_at w l) (owner_at w l) (section_at w (2 * l)) (queue_at w (2 * l)) w (facing l (Mutex l (Lock entry retries a)) is fits.0) (λ outside. free l (Mutex l (Lock entry retries a)) is refl outside (section_at w (2 * l)) refl) up)
-  place_rests (Mutex l TryLock) is fits busy up = leads_more 1 12 w t (λ v x. Rests x) (omega arith)
+  mutex_place_rests : (l : ℕ) (c : MutexPlace) → place_at w t ≡ Mutex l c → PlaceFits (length w.locks) (Mutex l c) → Mutex l c ≢ Idle → act_of (Mutex l c) ≢ act.TheVariants.Sleep → Leads 12 w t (λ v x. Rests x)
+  mutex_place_rests l (Lock entry retries a) is fits busy up = leads_more 8 12 w t (λ v x. Rests x) (omega arith) (lock_rests t l entry retries a (word_at w l) (owner_at w l) (section_at w (2 * l)) (queue_at w (2 * l)) w (facing l (Mutex l (Lock entry retries a)) is fits.0) (λ outside. free l (Mutex l (Lock entry retries a)) is refl outside (section_at w (2 * l)) refl) up)
+  mutex_place_rests l TryLock is fits busy up = leads_more 1 12 w t (λ v x. Rests x) (omega arith)
       (leads_so 1 w t (λ v x. (x ≡ (if is_locked (word_at w l) then outcome.TheVariants.End answer.TheVariants.No else outcome.TheVariants.End answer.TheVariants.Yes)) × (owner_at v l ≡ (if is_locked (word_at w l) then owner_at w l else Some t))) (λ v x. Rests x)
       (λ v x h. try_so (is_locked (word_at w l)) x h.0) (try_leads t l (queue_at w (2 * l)) (section_at w (2 * l)) (word_at w l) (owner_at w l) w (facing l (Mutex l TryLock) is fits.0)))
-  place_rests (Mutex l (Unlock a)) is fits busy up = leads_more 8 12 w t (λ v x. Rests x) (omega arith) (unlock_rests t l a (word_at w l) (owner_at w l) (section_at w (2 * l)) (queue_at w (2 * l)) w (facing l (Mutex l (Unlock a)) is fits.0) (λ outside. free l (Mutex l (Unlock a)) is refl outside (section_at w (2 * l)) refl))
-  place_rests (Mutex l UnlockFair) is fits busy up = fair_rests t l 11 false (first_of (queue_at w (2 * l))) (drop 1 (queue_at w (2 * l))) w (omega arith) (unlock_fair_leads t l (queue_at w (2 * l)) (word_at w l) (owner_at w l) w (at_first l (Mutex l UnlockFair) is refl refl fits.0))
-  place_rests (Mutex l Bump) is fits busy up = fair_rests t l 11 true (first_of (queue_at w (2 * l))) (drop 1 (queue_at w (2 * l))) w (omega arith) (bump_leads t l (queue_at w (2 * l)) (word_at w l) (owner_at w l) w (at_first l (Mutex l Bump) is refl refl fits.0))
-  place_rests (Mutex l (HandOff bumps a)) is fits busy up = hand_off_rests t l bumps a (word_at w l) (owner_at w l) (section_at w (2 * l)) (queue_at w (2 * l)) w (facing l (Mutex l (HandOff bumps a)) is fits.0) (λ outside. free l (Mutex l (HandOff bumps a)) is refl outside (section_at w (2 * l)) refl)
-  place_rests (RwLock l a (Plain p)) is fits busy up = leads_more 11 12 w t (λ v x. Rests x) (omega arith) (rwlock_rests t l a p (word_at w l) w (λ m. queue_at w (key_of l m)) (word_small w l steady (admitted l a p is).0.0) (is_ready t l a p (admitted l a p is).1 up) (steps_alone l a (Plain p) (admitted l a p is).0.0 is fits))
-  place_rests (RwLock l a c) is fits busy up = absurd (subst (FitsItsLock w) is (steady.stands.calls t))
+  mutex_place_rests l (Unlock a) is fits busy up = leads_more 8 12 w t (λ v x. Rests x) (omega arith) (unlock_rests t l a (word_at w l) (owner_at w l) (section_at w (2 * l)) (queue_at w (2 * l)) w (facing l (Mutex l (Unlock a)) is fits.0) (λ outside. free l (Mutex l (Unlock a)) is refl outside (section_at w (2 * l)) refl))
+  mutex_place_rests l UnlockFair is fits busy up = fair_rests t l 11 false (first_of (queue_at w (2 * l))) (drop 1 (queue_at w (2 * l))) w (omega arith) (unlock_fair_leads t l (queue_at w (2 * l)) (word_at w l) (owner_at w l) w (at_first l (Mutex l UnlockFair) is refl refl fits.0))
+  mutex_place_rests l Bump is fits busy up = fair_rests t l 11 true (first_of (queue_at w (2 * l))) (drop 1 (queue_at w (2 * l))) w (omega arith) (bump_leads t l (queue_at w (2 * l)) (word_at w l) (owner_at w l) w (at_first l (Mutex l Bump) is refl refl fits.0))
+  mutex_place_rests l (HandOff bumps a) is fits busy up = hand_off_rests t l bumps a (word_at w l) (owner_at w l) (section_at w (2 * l)) (queue_at w (2 * l)) w (facing l (Mutex l (HandOff bumps a)) is fits.0) (λ outside. free l (Mutex l (HandOff bumps a)) is refl outside (section_at w (2 * l)) refl)
+
+  place_rests : (p : Place) → place_at w t ≡ p → PlaceFits (length w.locks) p → p ≢ Idle → act_of p ≢ act.TheVariants.Sleep → Leads 18 w t (λ v x. Rests x)
+  place_rests Idle is fits busy up = absurd (busy refl)
+  place_rests (RwLock l a c) is fits busy up =
+      let h = admitted l a c is in
+      call_rests t l a c (word_at w l) w (λ m. queue_at w (key_of l m)) h.0 (word_small w l steady h.0.0) h.1 up (steps_alone l a c h.0.0 is fits)
+  place_rests (Mutex l c) is fits busy up = leads_more 12 18 w t (λ v x. Rests x) (omega arith) (mutex_place_rests l c is fits busy up)
 
   -- a call under way ends or sleeps
-  pub solo_rests : IsUnderWay w t → (n : ℕ) (last : Outcome) → 12 ≤ n → Rests (solo n w t last).outcome
+  pub solo_rests : IsUnderWay w t → (n : ℕ) (last : Outcome) → 18 ≤ n → Rests (solo n w t last).outcome
   solo_rests up n last le = place_rests (place_at w t) refl (shape.places t) up.0 up.1 n last le
 
   -- ---------------------------------------------------------------- calls from their beginning

@@ -8,7 +8,6 @@ use Rattle.lot_steps.specs.declared.places.Place.TheVariants.{Idle, Mutex, RwLoc
 use Rattle.abstract_locks.specs.Locks.{putting}
 use Rattle.abstract_locks.specs.Purposes.{rules_of}
 use Rattle.lot_rwlock.specs.RwLockDeeds.{Admits}
-use Rattle.lot_rwlock_fair.specs.declared.places.RwLockCallPlace.TheVariants.{Plain}
 use Rattle.abstract_locks.specs.Sites.{Line, Main, Second}
 use Rattle.lot_machine.specs.Machine.{State, kind_at}
 use Rattle.lot_world.specs.SitesOf.{is_mutex}
@@ -464,5 +463,4 @@ calls_of w l (RwLock k a at) h m = absurd h
 pub calls_in : (w v : State) (p : Place) → ((k : ℕ) → kind_at v k ≡ kind_at w k) → FitsItsLock w p → FitsItsLock v p
 calls_in w v Idle e h = tt
 calls_in w v (Mutex l at) e h = ap is_mutex (e l) ∙ h
-calls_in w v (RwLock l a (Plain p)) e h = (subst (λ k. Admits (rules_of k) a) (sym (e l)) h.0, h.1)
-calls_in w v (RwLock l a c) e h = absurd h
+calls_in w v (RwLock l a c) e h = (subst (λ k. Admits (rules_of k) a) (sym (e l)) h.0, h.1, h.2)

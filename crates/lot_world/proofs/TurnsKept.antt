@@ -1,5 +1,5 @@
 -- Each turn of a thread keeps every lock a site, and every thread in the line, the section and the hand that its place says.
-use Rattle.std.proofs.Common.{ℕ, Bool, true, false, Option, Some, None, if◌then◌else◌, ◌≡◌, ◌<◌, [], ◌∷◌, length, length-set, nat_lt, refl, sym, ◌∙◌, ap, subst}
+use Rattle.std.proofs.Common.{ℕ, Bool, true, false, Option, Some, None, if◌then◌else◌, ◌≡◌, ◌<◌, [], ◌∷◌, length, length-set, nat_lt, refl, sym, ◌∙◌, ap}
 use Rattle.std.proofs.lemmas.Bool.{ltb-true}
 use Rattle.lot_base.specs.declared.wants.Want.TheVariants.{Exclusive}
 use Rattle.lot_calls.specs.declared.calls.Call.{Call}
@@ -27,7 +27,7 @@ use Rattle.lot_world.specs.Refinement.{lock_state, taken_at}
 use Rattle.lot_world.specs.SitesOf.{is_mutex}
 use Rattle.lot_world.specs.MutexDeeds.{mutex_doing, mutex_station, acts, begins}
 use Rattle.lot_world.specs.Stations.{nowhere, station}
-use Rattle.lot_world.specs.SitesOf.{FitsItsLock, IsSteady, Goes}
+use Rattle.lot_world.specs.SitesOf.{IsSteady, Goes}
 use Rattle.lot_machine.proofs.Shape.{both, looking_shaped}
 use Rattle.lot_world.proofs.KindsKept.{calls_built, calls_mutex, calls_readers}
 use Rattle.lot_world.proofs.Glue.{parts_at, same, thread_is}
@@ -39,9 +39,9 @@ use Rattle.lot_world.proofs.Closures.{nothing_closes}
 use Rattle.lot_world.proofs.GoneKept.{enters, gone_kept}
 use Rattle.lot_world.proofs.RwLockKept.{rwlock_begins, rwlock_goes_late}
 use Rattle.lot_rwlock.specs.declared.places.Admission.{Admission}
-use Rattle.lot_rwlock_fair.specs.declared.places.RwLockCallPlace.TheVariants.{Plain}
-use Rattle.lot_rwlock.specs.declared.places.RwLockPlace.{RwLockPlace}
-use Rattle.lot_rwlock.specs.RwLockProfiles.{rwlock_late_line}
+use Rattle.lot_rwlock_fair.specs.declared.places.RwLockCallPlace.{RwLockCallPlace}
+use Rattle.lot_rwlock_fair.specs.declared.places.RwLockCallPlace.TheVariants.{Plain, Bump as BumpCall}
+use Rattle.lot_rwlock_fair.specs.FairProfiles.{call_late_line}
 use Rattle.lot_base.specs.declared.keys.Line.{Line}
 
 pub idle_is : (p : Place) → is_idle p ≡ true → p ≡ Idle
@@ -97,9 +97,9 @@ module _ (w : State) (t : ℕ) (steady : IsSteady w) (shape : IsShaped w) (there
   lock_late l e r lock.First is lt can = absurd cc
   lock_late l e r a is lt can = absurd cc
 
-  rwlock_late : (l : ℕ) (a : Admission) (p : RwLockPlace) → place_at w t ≡ RwLock l a (Plain p) → l < length w.locks → (m : Option Line) → rwlock_late_line p ≡ m → is_free_under w (key_in (Some l) m) ≡ true → IsSteady (state_after_late_on w t (key_in (Some l) m))
-  rwlock_late l a p is lt None e can = absurd cc
-  rwlock_late l a p is lt (Some m) e can = goes_steady w _ l _ steady (rwlock_goes_late w t l a p steady shape there lt is m e can)
+  rwlock_late : (l : ℕ) (a : Admission) (c : RwLockCallPlace) → place_at w t ≡ RwLock l a c → l < length w.locks → (m : Option Line) → call_late_line c ≡ m → is_free_under w (key_in (Some l) m) ≡ true → IsSteady (state_after_late_on w t (key_in (Some l) m))
+  rwlock_late l a c is lt None e can = absurd cc
+  rwlock_late l a c is lt (Some m) e can = goes_steady w _ l _ steady (rwlock_goes_late w t l a c steady shape there lt is m e can)
 
   late_kept : (p : Place) → place_at w t ≡ p → PlaceFits (length w.locks) p → is_free_under w (late_key p) ≡ true → IsSteady (state_after_late_on w t (late_key p))
   late_kept (Mutex l (Lock e r a)) is fits can = lock_late l e r a is fits.0 can
@@ -108,8 +108,9 @@ module _ (w : State) (t : ℕ) (steady : IsSteady w) (shape : IsShaped w) (there
   late_kept (Mutex l UnlockFair) is fits can = absurd cc
   late_kept (Mutex l Bump) is fits can = absurd cc
   late_kept (Mutex l (HandOff bumps a)) is fits can = absurd cc
-  late_kept (RwLock l a (Plain p)) is fits can = rwlock_late l a p is fits (rwlock_late_line p) refl can
-  late_kept (RwLock l a c) is fits can = absurd (subst (FitsItsLock w) is (steady.stands.calls t))
+  late_kept (RwLock l a (Plain p)) is fits can = rwlock_late l a (Plain p) is fits (call_late_line (Plain p)) refl can
+  late_kept (RwLock l a (BumpCall p)) is fits can = rwlock_late l a (BumpCall p) is fits (call_late_line (BumpCall p)) refl can
+  late_kept (RwLock l a c) is fits can = absurd cc
   late_kept Idle is fits can = absurd cc
 
   turned_kept : (x : Turn) → can_turn w t x ≡ true → IsSteady (state_after_turn w t x)

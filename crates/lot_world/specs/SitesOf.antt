@@ -15,8 +15,9 @@ use Rattle.lot_world.specs.Refinement.{lock_state}
 use Rattle.lot_calls.specs.declared.kinds.Kind.{Kind}
 use Rattle.lot_calls.specs.declared.kinds.Kind as kind
 use Rattle.lot_rwlock.specs.RwLockDeeds.{Admits}
-use Rattle.lot_rwlock.specs.RwLockCalls.{MayStand}
+use Rattle.lot_rwlock_fair.specs.declared.places.RwLockCallPlace.{RwLockCallPlace}
 use Rattle.lot_rwlock_fair.specs.declared.places.RwLockCallPlace.TheVariants.{Plain}
+use Rattle.lot_rwlock_fair.specs.FairCalls.{CallStands}
 use Rattle.lot_world.specs.MutexDeeds.{Act}
 use Rattle.lot_world.specs.Stations.{Hand, hand, station_at, doing_on}
 
@@ -104,12 +105,16 @@ is_mutex kind.TheVariants.Mutex = true
 is_mutex kind.TheVariants.Fair = true
 is_mutex k = false
 
--- a call is of a lock of its sort, and stands where it may; no call of a world hands a reader-writer lock over yet
+-- no call of a world hands a reader-writer lock over yet
+abbrev pub IsBuilt : RwLockCallPlace → Type 0
+IsBuilt (Plain p) = Unit {0}
+IsBuilt c = ⊥
+
+-- a call is of a lock of its sort, and stands where it may
 abbrev pub FitsItsLock : State → Place → Type 0
 FitsItsLock w Idle = Unit {0}
 FitsItsLock w (OfMutex l at) = is_mutex (kind_at w l) ≡ true
-FitsItsLock w (OfRwLock l a (Plain p)) = Admits (rules_in w l) a × MayStand a p
-FitsItsLock w (OfRwLock l a at) = ⊥
+FitsItsLock w (OfRwLock l a c) = Admits (rules_in w l) a × CallStands a c × IsBuilt c
 
 pub record Stands (w : State) : Type 0 where
   pub sections : Sections (place_at w) (section_at w)
