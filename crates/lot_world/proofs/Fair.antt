@@ -24,14 +24,13 @@ use Rattle.lot_mutex.specs.declared.hand_off.HandOffAt.{HandOffAt}
 use Rattle.lot_mutex.specs.declared.hand_off.HandOffAt.TheVariants as hand_off
 use Rattle.lot_steps.specs.declared.places.Place.{Place}
 use Rattle.lot_steps.specs.declared.places.Place.TheVariants.{Idle, Mutex, RwLock}
-use Rattle.lot_rwlock_fair.specs.declared.places.RwLockCallPlace.TheVariants.{Plain}
 use Rattle.lot_mutex.specs.MutexSteps.{is_locked, is_parked, lock_act, hand_off_act}
 use Rattle.lot_steps.specs.Steps.{act_of, looking, late_key}
 use Rattle.lot_machine.specs.Machine.{State, unlocked, place_at, word_at, owners_at, kind_at, queue_at, state_after_operation, queues_with_last, queues_without_first, state_after_act, state_after_taking, state_after_look, state_after_go, put, state_after_late_on, state_after_turn, can_turn, is_possible, after, step_outcome}
 use Rattle.lot_machine.specs.Fits.{IsShaped, PlaceFits}
 use Rattle.lot_world.specs.MutexPromises.{IsMutexWord}
 use Rattle.lot_world.specs.MutexDeeds.{mutex_station}
-use Rattle.lot_world.specs.SitesOf.{IsSteady, FitsItsLock, is_mutex}
+use Rattle.lot_world.specs.SitesOf.{IsSteady, FitsItsLock, is_mutex, rules_in}
 use Rattle.abstract_locks.specs.Sites.{Main}
 use Rattle.lot_world.proofs.MutexTable.{own_doing}
 use Rattle.lot_world.proofs.Closures.{nothing_closes}
@@ -58,19 +57,19 @@ use Rattle.lot_acts.specs.Owners.{with_exclusive}
 use Rattle.lot_world.proofs.CallEvents.{rights}
 use Rattle.lot_world.proofs.LockSteps.{after_step}
 use Rattle.abstract_locks.proofs.Runs.{needs_of}
-use Rattle.lot_rwlock.specs.declared.purposes.RwLockPurpose.{RwLockPurpose}
-use Rattle.lot_rwlock.specs.declared.purposes.RwLockPurpose.TheVariants as purpose
-use Rattle.lot_calls.specs.declared.calls.Access.TheVariants as access
-use Rattle.lot_rwlock.specs.RwLockProfiles.{purpose_by}
+use Rattle.abstract_locks.specs.Purposes.{Purpose, Enters, Releases, Converts, Bumps, lock_for}
+use Rattle.abstract_locks.specs.Sites.{has_readers}
+use Rattle.lot_rwlock_fair.specs.FairProfiles.{call_profile}
+use Rattle.lot_world.proofs.CallRows.{call_promises}
 
--- no call of a reader-writer lock releases fairly
-never_fair : (k l : ℕ) (q : RwLockPurpose) → IsFairRelease (Some (purpose_by q k)) l → ⊥
-never_fair k l (purpose.Enter x how) h = h
-never_fair k l (purpose.Release access.Exclusive) h = let e : false ≡ true = h.1 in cc
-never_fair k l (purpose.Release access.Shared) h = h
-never_fair k l (purpose.Release access.Upgradable) h = h
-never_fair k l (purpose.Downgrade d) h = h
-never_fair k l (purpose.Upgrade how) h = h
+-- the lock that is released fairly is that of the call
+released_lock : (q : Purpose) (l : ℕ) → IsFairRelease (Some q) l → lock_for q ≡ l
+released_lock (Releases k Exclusive fair) l h = h.0
+released_lock (Bumps k Exclusive) l h = h
+released_lock (Enters k x how) l h = absurd h
+released_lock (Converts k x y how) l h = absurd h
+released_lock (Releases k x fair) l h = absurd h
+released_lock (Bumps k x) l h = absurd h
 
 -- ---------------------------------------------------------------- what others do to an owner
 
@@ -155,7 +154,7 @@ ComesFrom s word t l v = (owner_at v l ≡ Some t) ⊎ (((u : ℕ) × IsTaken s 
 abbrev ComesTo : State → ℕ → ℕ → State → Type 0
 ComesTo w t l v = ComesFrom (lock_state w l) (word_at w l) t l v
 
-module _ (w : State) (t l : ℕ) (shape : IsShaped w) (steady : IsSteady w) (own : owner_at w l ≡ Some t) where
+module _ (w : State) (t l : ℕ) (shape : IsShaped w) (steady : IsSteady w) (own : owner_at w l ≡ Some t) (of_mutex : is_mutex (kind_at w l) ≡ true) where
   operated_owner : (p : Place) (f : Op) → l < length w.locks → owner_at (state_after_operation w t p l f) l ≡ owner_after p t (word_at w l) (Some t)
   operated_owner p f lt = ap (λ x. x.owners.exclusive) (get_or-set_same w.locks l _ (unlocked kind.TheVariants.Mutex) lt) ∙ exclusive-owners p t (word_at w l) (owners_at w l) ∙ ap (owner_after p t (word_at w l)) own
 
@@ -227,8 +226,13 @@ module _ (w : State) (t l : ℕ) (shape : IsShaped w) (steady : IsSteady w) (own
   -- whatever the act, and wherever the thread goes then
   go_gives : (p : Place) → place_at w t ≡ p → PlaceFits (length w.locks) p → IsFairRelease (call_state p (rights w t)).purpose l → ComesTo w t l (state_after_act w t p (act_of p))
   go_gives Idle is fits h = absurd h
-  go_gives (RwLock k a (Plain p)) is fits h = absurd (never_fair k l p.purpose h)
-  go_gives (RwLock k a c) is fits h = absurd (subst (FitsItsLock w) is (steady.stands.calls t)).2
+  go_gives (RwLock k a c) is fits h = absurd (
+      let admitted : FitsItsLock w (RwLock k a c) = subst (FitsItsLock w) is (steady.stands.calls t) in
+      let here : k ≡ l = sym (call_promises (rules_in w k) a k c admitted.0 admitted.1).own ∙ released_lock ((call_profile a c).purpose k) l h in
+      let shared : has_readers (rules_in w l).sort ≡ true = subst (λ j. has_readers (rules_in w j).sort ≡ true) here admitted.0.0 in
+      let none : false ≡ true = sym (ap (λ (r : Rules). has_readers r.sort) (mutex_rules (kind_at w l) of_mutex)) ∙ shared in
+      cc
+      )
   go_gives (Mutex k (Lock entries.Lock retries a)) is fits h = absurd h
   go_gives (Mutex k (Lock entries.LockTimed retries a)) is fits h = absurd h
   go_gives (Mutex k (Lock entries.Bump retries a)) is fits h = rw h (lock_keeps (here k h fits.0) retries a)
@@ -243,20 +247,20 @@ module _ (w : State) (t l : ℕ) (shape : IsShaped w) (steady : IsSteady w) (own
   late_gives None = inl own
   late_gives (Some key) = inl own
 
-module _ (w : State) (t l : ℕ) (shape : IsShaped w) (steady : IsSteady w) (own : owner_at w l ≡ Some t) where
+module _ (w : State) (t l : ℕ) (shape : IsShaped w) (steady : IsSteady w) (own : owner_at w l ≡ Some t) (of_mutex : is_mutex (kind_at w l) ≡ true) where
   -- it looks at the word once more, and goes on from there
   spin_gives : t < length w.places → IsFairRelease (call_state (place_at w t) (rights w t)).purpose l → (o : Option Place) → looking (place_at w t) ≡ o → ComesTo w t l (state_after_look w t o)
   spin_gives there h None is = inl own
   spin_gives there h (Some q) is = let shaped = looking_shaped w t q shape is in
       subst (λ s. ComesFrom s (word_at w l) t l (state_after_go (put w t q) t)) (locks_same w t there q is l)
-      (go_gives (put w t q) t l shaped (looking_steady w t there q is steady) own (place_at (put w t q) t) refl (shaped.places t)
+      (go_gives (put w t q) t l shaped (looking_steady w t there q is steady) own of_mutex (place_at (put w t q) t) refl (shaped.places t)
       (subst (λ (c : CallState). IsFairRelease c.purpose l) (sym (calls_same w t there q is t)) h))
 
   turned_gives : t < length w.places → IsFairRelease (call_state (place_at w t) (rights w t)).purpose l → (x : Turn) → can_turn w t x ≡ true → ComesTo w t l (state_after_turn w t x)
   turned_gives there h (turn.TheVariants.Begin c) can = inl own
-  turned_gives there h turn.TheVariants.Go can = go_gives w t l shape steady own (place_at w t) refl (shape.places t) h
+  turned_gives there h turn.TheVariants.Go can = go_gives w t l shape steady own of_mutex (place_at w t) refl (shape.places t) h
   turned_gives there h turn.TheVariants.Spin can = spin_gives there h (looking (place_at w t)) refl
-  turned_gives there h turn.TheVariants.Late can = late_gives w t l shape steady own (late_key (place_at w t))
+  turned_gives there h turn.TheVariants.Late can = late_gives w t l shape steady own of_mutex (late_key (place_at w t))
   turned_gives there h turn.TheVariants.Ok can = absurd (nothing_closes w t true can)
   turned_gives there h turn.TheVariants.Err can = absurd (nothing_closes w t false can)
 
@@ -273,30 +277,15 @@ module _ (w : State) (t l : ℕ) (shape : IsShaped w) (steady : IsSteady w) (own
 locked_by : (v : ℕ) (o : Option ℕ) (u : ℕ) → IsMutexWord v o → o ≡ Some u → is_locked v ≡ true
 locked_by v o u c e = by_code (λ v o. o ≡ Some u → is_locked v ≡ true) (λ g. absurd cc) (λ g. absurd cc) (λ x g. refl) (λ x g. refl) v o c e
 
--- the lock that is released fairly is a mutex
-fair_mutex : (w : State) (p : Place) (l : ℕ) (r : ℕ → Rights) → FitsItsLock w p → IsFairRelease (call_state p r).purpose l → is_mutex (kind_at w l) ≡ true
-fair_mutex w Idle l r fits h = absurd h
-fair_mutex w (RwLock k a (Plain p)) l r fits h = absurd (never_fair k l p.purpose h)
-fair_mutex w (RwLock k a c) l r fits h = absurd fits.2
-fair_mutex w (Mutex k (Lock entries.Lock retries a)) l r fits h = absurd h
-fair_mutex w (Mutex k (Lock entries.LockTimed retries a)) l r fits h = absurd h
-fair_mutex w (Mutex k (Lock entries.Bump retries a)) l r fits h = rw (← h) fits
-fair_mutex w (Mutex k TryLock) l r fits h = absurd h
-fair_mutex w (Mutex k (Unlock a)) l r fits h = rw (← h.0) fits
-fair_mutex w (Mutex k UnlockFair) l r fits h = rw (← h.0) fits
-fair_mutex w (Mutex k Bump) l r fits h = rw (← h) fits
-fair_mutex w (Mutex k (HandOff true a)) l r fits h = rw (← h) fits
-fair_mutex w (Mutex k (HandOff false a)) l r fits h = rw (← h.0) fits
-
 pub is_fair : (w : State) (s : Step) → IsShaped w → IsSteady w → IsFair w (after w s)
 is_fair w s shape steady = record {
   gives = λ t l h. elim (cases_eq s.thread t) [
-    | inl e ↦ told t l h (after_gives w t l shape steady h.1 h.0 s e)
+    | inl e ↦ told t l h (after_gives w t l shape steady h.1 h.2 h.0 s e)
     | inr ne ↦ inl (owned t l h (turned_so (λ x y. x.exclusive ≡ Some t → y.exclusive ≡ Some t) (locks_of w) (locks_of (after w s)) s.thread l (λ e. e)
         (λ c n e. others_keep (rules_at (locks_of w) l) (lock_state w l) t s.thread (all l) e ne c n) s.turn (step_outcome w s) step.1 h.1))
   ];
   takes = λ t l u h. turned_so (λ x y. IsTaken y t u Exclusive → IsTaken x t u Exclusive ⊎ (first_thread x.queue ≡ Some u)) (locks_of w) (locks_of (after w s)) s.thread l (λ e. inl e)
-      (λ c n. let rules : rules_at (locks_of w) l ≡ mutex = mutex_rules (kind_at w l) (fair_mutex w (place_at w t) l (rights w t) (steady.stands.calls t) h.0) in
+      (λ c n. let rules : rules_at (locks_of w) l ≡ mutex = mutex_rules (kind_at w l) h.2 in
       rw rules (taken_was (lock_state w l) t u s.thread Exclusive (subst (λ r. IsLockState r (lock_state w l)) rules (all l)) c (subst (λ r. Needs r c (lock_state w l) s.thread) rules n))) s.turn (step_outcome w s) step.1;
 }
   where
@@ -306,10 +295,9 @@ is_fair w s shape steady = record {
     step : IsStep (locks_of w) s (step_outcome w s) (locks_of (after w s))
     step = after_step w s shape steady
 
-    -- a lock that is released fairly is a mutex
     coded : (t l : ℕ) → ReleasesFairly w t l → IsMutexWord (word_at (after w s) l) (owner_at (after w s) l)
     coded t l h = words_coded (after w s) (after_steady w s shape steady) l
-        (ap rules_of (after_kinds w s l) ∙ mutex_rules (kind_at w l) (fair_mutex w (place_at w t) l (rights w t) (steady.stands.calls t) h.0))
+        (ap rules_of (after_kinds w s l) ∙ mutex_rules (kind_at w l) h.2)
 
     owned : (t l : ℕ) → ReleasesFairly w t l → owner_at (after w s) l ≡ Some t → OwnsOn (after w s) t l
     owned t l h e = (e, locked_by (word_at (after w s) l) (owner_at (after w s) l) t (coded t l h) e)

@@ -41,7 +41,7 @@ pub no_waiter_forgotten : NoWaiterIsForgotten
 no_waiter_forgotten kept = let looked = kept.nobody_forgotten.main 1 0 (omega arith) (inl refl) (λ h. absurd cc) in nobody_looks looked.debtor looked refl
 
 pub nobody_passed_over : NobodyIsPassedOver
-nobody_passed_over v free fair = elim (fair.gives 0 0 ((refl, refl), refl)) [
+nobody_passed_over v free fair = elim (fair.gives 0 0 ((refl, refl), refl, refl)) [
   | inl owns ↦ let e : None ≡ Some 0 = sym free ∙ owns.0 in cc
   | inr (inl hands) ↦ let e : None ≡ Some hands.0 = sym free ∙ hands.2 in cc
   | inr (inr lets) ↦ lets.1 1 _ refl

@@ -1,8 +1,9 @@
--- What a fair release does: it lets its mutex go only where nobody waits for it, and else the first waiter owns it in its place.
+-- What a fair release of a mutex does: it lets its mutex go only where nobody waits for it, and else the first waiter owns it in its place.
 use Rattle.std.specs.Prelude.{ℕ, true, false, Option, Some, None, ◌≡◌, ◌⊎◌, []}
 use Rattle.lot_base.specs.declared.wants.Want.TheVariants.{Exclusive}
 use Rattle.lot_mutex.specs.MutexSteps.{is_locked, is_parked}
-use Rattle.lot_machine.specs.Machine.{State, word_at}
+use Rattle.lot_machine.specs.Machine.{State, kind_at, word_at}
+use Rattle.lot_world.specs.SitesOf.{is_mutex}
 use Rattle.abstract_locks.specs.Locks.{Owns, IsTaken, HasTakenNobody, first_thread}
 use Rattle.abstract_locks.specs.Purposes.{Purpose, Releases, Bumps}
 use Rattle.lot_world.specs.Refinement.{lock_state, call_at}
@@ -15,7 +16,8 @@ IsFairRelease purpose k = ⊥
 
 -- an owner that releases its mutex fairly
 abbrev pub ReleasesFairly : State → ℕ → ℕ → Type 0
-ReleasesFairly w t l = IsFairRelease (call_at w t).purpose l × Owns (lock_state w l) t Exclusive
+ReleasesFairly w t l =
+    IsFairRelease (call_at w t).purpose l × Owns (lock_state w l) t Exclusive × (is_mutex (kind_at w l) ≡ true)
 
 -- it owns the mutex still
 abbrev pub OwnsOn : State → ℕ → ℕ → Type 0
