@@ -67,11 +67,7 @@ pub trait RawRwLock {
     /// # Errors
     ///
     /// `LotFull`, where the lot has no word left, and `NoMemory`, where memory was refused.
-    fn with_limit(
-        lot: &Arc<Self::Lot>,
-        token: &mut Self::Token,
-        limit: u64,
-    ) -> Result<Self, Fault>
+    fn with_limit(lot: &Arc<Self::Lot>, token: &mut Self::Token, limit: u64) -> Result<Self, Fault>
         requires token { is_token_of (arc_value lot.now) token.old }
         requires limit { limit ≤ 1152921504606846974 }
         ensures token { is_token_of (arc_value lot.now) token.new × stays token.old token.new }
