@@ -5,21 +5,22 @@ use Rattle.std.proofs.lemmas.Bool.{cases_eq, eqb-true}
 use Rattle.lot_base.specs.declared.wants.Want.{Want}
 use Rattle.lot_base.specs.declared.wants.Want.TheVariants.{Exclusive, Upgradable, Shared, Wait, CallOnce}
 use Rattle.lot_acts.specs.Moves.{heir_of}
+use Rattle.lot_acts.specs.Owners.{is_thread}
 use Rattle.lot_acts.specs.Profiles.{Hand, Of, hand, hand_owner, in_hand, taken_from}
 use Rattle.lot_rwlock_fair.specs.declared.hand_over.Taken.{Taken as Counted}
 use Rattle.lot_rwlock_fair.specs.FairCalls.{HasInHand, IsNamed}
 use Rattle.lot_steps.specs.declared.places.Place.{Place}
 use Rattle.lot_steps.specs.declared.places.Place.TheVariants.{Idle}
-use Rattle.lot_steps.specs.Steps.{calls, is_lock, lock_of, profile, wants}
+use Rattle.lot_steps.specs.Steps.{calls, is_lock, lock_of, profile, taker, wants}
 use Rattle.abstract_locks.specs.Locks.{IsSuccessor, Queued, Taken, readers, shares_handed, sharing_handed, wants_shared}
 use Rattle.lot_machine.specs.declared.hands.Successor.{Successor}
-use Rattle.lot_machine.specs.Machine.{State, held, held_by, place_at, shares_at, shares_in_hand, sharers, successor_from, want_of_successor, wants_more_in_hand}
+use Rattle.lot_machine.specs.Machine.{State, held, held_by, place_at, shares_at, shares_in_hand, sharers, successor_from, successor_or, want_of_successor, wants_more_in_hand}
 use Rattle.lot_world.specs.Refinement.{lock_state, taken_at}
 use Rattle.lot_world.specs.Stations.{Station, nowhere, station}
 use Rattle.lot_world.specs.SitesOf.{IsSteady, carried_at, hand_at}
-use Rattle.lot_world.proofs.Glue.{IsOf, calls_none, same, station_elsewhere}
+use Rattle.lot_world.proofs.Glue.{IsOf, calls_none, held_where, same, station_elsewhere}
 use Rattle.lot_world.proofs.HandsMoved.{thread_of}
-use Rattle.lot_world.proofs.InHand.{counted, heir_wants, is_wanted, shared_by, sharers_from, wanted_is, wanted_of, wants_heir}
+use Rattle.lot_world.proofs.InHand.{counted, heir_wants, is_wanted, shared_by, sharers_from, sharers_same, wanted_is, wanted_of, wants_heir}
 
 -- as many want to share, and who wants more wants this; that is one thread at most
 pub record IsCounted (w : State) (t : ℕ) (k : Counted) : Type 0 where
@@ -67,6 +68,17 @@ module _ (w : State) (t l : ℕ) (steady : IsSteady w) (own : IsOf l (place_at w
 
           carried : carried_at (place_at w t) k ≡ Some g
           carried = steady.stands.hands.taken t u k g there
+
+  pub hand_there : (u : ℕ) → is_thread t (taker (place_at w u)) ≡ true → hand_at (place_at w u) l ≡ hand t false
+  hand_there u h = let k = held_where (place_at w u) t h in elim (cases_eq k.lock l) [
+    | inl e ↦ subst (λ j. hand_at (place_at w u) j ≡ hand t false) e (k.hand ∙ ap (hand t) (by_any any k.handed (sym carries ∙ subst (λ j. carried_at (place_at w t) j ≡ Some k.handed) e (steady.stands.hands.taken t u k.lock k.handed k.hand))))
+    | inr ne ↦ absurd (let a : carried_at (place_at w t) k.lock ≡ Some k.handed = steady.stands.hands.taken t u k.lock k.handed k.hand in
+        let b : carried_at (place_at w t) k.lock ≡ None = ap (λ (y : Station). y.carries) (station_elsewhere l k.lock (place_at w t) own ne) in let c : ◌≡◌ {A = Option Bool} None (Some k.handed) = sym b ∙ a in cc)
+  ]
+    where
+      by_any : (c g : Bool) → in_hand c false ≡ Some g → g ≡ false
+      by_any true g e = let f : false ≡ g = cc in sym f
+      by_any false g e = absurd cc
 
   pub same_hand : (u : ℕ) → wanted_of t (held (place_at w u)) ≡ wanted_of t (taken_at (place_at w u) l)
   same_hand u = by_row t (profile (place_at w u)).hand (wants (place_at w u)) (calls (place_at w u) l) (fresh_here u)
@@ -200,3 +212,38 @@ filter_less f (p ∷ ps) (suc i) lt e = let h : length (filter f ps) < length ps
 -- who is in nobody's hand isn't in its own
 pub few_sharers : (w : State) (t : ℕ) → t < length w.places → (profile (place_at w t)).hand ≡ None → sharers t w.places < length w.places
 few_sharers w t lt free = filter_less (λ (p : Place). shares_in_hand t (held p)) w.places t lt (ap (λ h. shares_in_hand t (held_by (hand_owner h) (wants (place_at w t)))) free)
+
+-- ---------------------------------------------------------------- as long as nobody comes into the hand, or leaves it
+
+abbrev more_wanted : Option Want → Option Want
+more_wanted None = None
+more_wanted (Some x) = if not (wants_shared x) then Some x else None
+
+more_by : (t : ℕ) (o : Option Taken) → wants_more_in_hand t o ≡ more_wanted (wanted_of t o)
+more_by t None = refl
+more_by t (Some h) = either (h.by == t)
+  where
+    either : (b : Bool) → ◌≡◌ {A = Option Want} (if b && not (wants_shared h.want) then Some h.want else None) (more_wanted (if b then Some h.want else None))
+    either true = refl
+    either false = refl
+
+successor_same : (t i : ℕ) (ps qs : List Place) → length qs ≡ length ps → ((u : ℕ) → wants_more_in_hand t (held (get_or qs u Idle)) ≡ wants_more_in_hand t (held (get_or ps u Idle))) → successor_from t i qs ≡ successor_from t i ps
+successor_same t i [] [] len each = refl
+successor_same t i (p ∷ ps) [] len each = absurd (omega arith)
+successor_same t i [] (q ∷ qs) len each = absurd (omega arith)
+successor_same t i (p ∷ ps) (q ∷ qs) len each =
+    let rest = successor_same t (suc i) ps qs (omega arith) (λ u. each (suc u)) in λ j. successor_or i (each 0 j) (rest j)
+
+counts_own : (t : ℕ) (ps : List Place) → sharers t ps ≡ sharers_from t (λ u. held (get_or ps u Idle)) 0 (length ps)
+counts_own t ps = counted t 0 (λ u. held (get_or ps u Idle)) ps (λ j. subst (λ i. shares_handed t (held (get_or ps i Idle)) ≡ (if shares_in_hand t (held (get_or ps j Idle)) then 1 else 0)) (let z : j ≡ 0 + j = omega arith in z) (share_counts t (held (get_or ps j Idle))))
+
+-- the counts are as they were
+pub counted_stays : (w v : State) (t : ℕ) (k : Counted) → IsCounted w t k → length v.places ≡ length w.places → ((u : ℕ) → wanted_of t (held (place_at v u)) ≡ wanted_of t (held (place_at w u))) → IsCounted v t k
+counted_stays w v t k count len each = record {
+  number = counts_own t v.places ∙ ap (sharers_from t (λ u. held (place_at v u)) 0) len ∙ sharers_same t (λ u. held (place_at w u)) (λ u. held (place_at v u)) each 0 (length w.places) ∙ sym (counts_own t w.places) ∙ count.number;
+  more = ap want_of_successor (successor_same t 0 w.places v.places len more_same) ∙ count.more;
+  one = λ u x y z f g. count.one u x y z (sym (more_same u) ∙ f) (sym (more_same x) ∙ g);
+}
+  where
+    more_same : (u : ℕ) → wants_more_in_hand t (held (place_at v u)) ≡ wants_more_in_hand t (held (place_at w u))
+    more_same u = more_by t (held (place_at v u)) ∙ ap more_wanted (each u) ∙ sym (more_by t (held (place_at w u)))

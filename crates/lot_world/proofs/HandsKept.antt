@@ -309,7 +309,7 @@ module _ (w : State) (t l : ℕ) (steady : IsSteady w) (own : IsOf l (place_at w
   shares_are : shares_handed_over w t l ≡ sharing_from t taken 0 (shares_at w l)
   shares_are = given_is t 0 taken w.places (shares_at w l) (λ j. subst (λ k. shares_handed t (taken k) ≡ (if shares_in_hand t (held (place_at w j)) then 1 else 0)) (let z : j ≡ 0 + j = omega arith in z) (share_is j)) (sym (steady.numbers.threads l)) (let a : locks.count here.lock ≡ sum (shares_at w l) + locks.one_if_some (owners_at w l).upgradable = refl in let b : locks.count here.lock ≤ r.limit + 1 = limits.top in let c : r.limit < 2 ^ 60 - 1 = room.0 in omega arith)
 
-  alone_is : (x : Want) → x ≢ Shared → alone ≡ (readers (sharing_handed t (without_owner t x here.lock)) == 0)
+  pub alone_is : (x : Want) → x ≢ Shared → alone ≡ (readers (sharing_handed t (without_owner t x here.lock)) == 0)
   alone_is x ne = ap (λ ns. sum ns == 0) shares_are ∙ by_want x ne
     where
       by_want : (x : Want) → x ≢ Shared → (sum (sharing_from t taken 0 (shares_at w l)) == 0) ≡ (readers (sharing_handed t (without_owner t x here.lock)) == 0)

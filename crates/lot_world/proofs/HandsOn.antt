@@ -163,22 +163,22 @@ module _ (w : State) (t l : ℕ) (a : Admission) (c : RwLockCallPlace) (steady :
   fits : FitsItsLock w (RwLock l a c)
   fits = fits_now w t l a c steady shape there lt is
 
-  abbrev of : IsOf l (place_at w t)
+  abbrev pub of : IsOf l (place_at w t)
   of = own w t l a c steady shape there lt is
 
-  abbrev row : profile (place_at w t) ≡ call_profile a c
+  abbrev pub row : profile (place_at w t) ≡ call_profile a c
   row = same_row w t l a c steady shape there lt is
 
   abbrev readers : has_readers (rules_in w l).sort ≡ true
   readers = (admits w t l a c steady shape there lt is).0
 
-  g : HandsOver (call_move a c) op
+  pub g : HandsOver (call_move a c) op
   g = (hand_overs_move l l a c op k fits.1 is_k e).1
 
-  carries : carried_at (place_at w t) l ≡ in_hand g.any false
+  pub carries : carried_at (place_at w t) l ≡ in_hand g.any false
   carries = ap (λ (y : Station). y.carries) (station_here l (place_at w t) of) ∙ ap (λ (y : Station). y.carries) (ap station_by row ∙ g.was)
 
-  bare : (profile (place_at w t)).hand ≡ None
+  pub bare : (profile (place_at w t)).hand ≡ None
   bare = ap (λ (y : Station). y.hand) (ap station_by row ∙ g.was)
 
   abbrev pub whom : Option ℕ
@@ -225,7 +225,7 @@ module _ (w : State) (t l : ℕ) (a : Admission) (c : RwLockCallPlace) (steady :
         hand_overs_code (rules_in w l) a here t l c op whom hands e fewer few room limits.1,
       ))
 
-  facts : HandsFacts a c k op (word_at w l)
+  pub facts : HandsFacts a c k op (word_at w l)
   facts = hands_facts l a c k op (word_at w l) fits.1 is_k e
 
   -- where it takes effect
@@ -233,7 +233,7 @@ module _ (w : State) (t l : ℕ) (a : Admission) (c : RwLockCallPlace) (steady :
     same_deeds : (u : Option ℕ) → Case (HandOff g.right (heir_of u g.successor)) ∷ bit_left g.none_left ∷ [] ≡ Case (HandOff facts.right (heir_of u k.successor)) ∷ bit_left k.none_left ∷ []
     same_deeds u = sym (g.deeds u (word_at w l) takes) ∙ facts.deeds u takes
 
-    same_right : g.right ≡ facts.right
+    pub same_right : g.right ≡ facts.right
     same_right = let f = same_deeds None in cc
 
     same_successor : g.successor ≡ k.successor
@@ -242,11 +242,24 @@ module _ (w : State) (t l : ℕ) (a : Admission) (c : RwLockCallPlace) (steady :
     owns : Owns here.lock t g.right
     owns = (subst (λ ds. laws.AllNeeded (rules_in w l) ds here t) (g.deeds whom (word_at w l) takes) follows.0.needed).0.0.0
 
+    pub more_right : g.right ≢ Shared
+    more_right f = facts.more (sym same_right ∙ f)
+
     unpending : here.lock.pending ≡ None
     unpending = no_pending (rules_in w l) here.lock t g.right (steady.sites.site l).state owns (λ f. facts.more (sym same_right ∙ f))
 
+    -- nobody in its hand claims anything yet
+    pub unclaimed : (u j : ℕ) (d : Admission) (q : RwLockCallPlace) → place_at w u ≡ RwLock j d q → j ≡ l → (call_profile d q).hand ≡ hand t false → (call_profile d q).doing.claims ≡ None
+    unclaimed u j d q f same_lock z = elim (hand_claims d q t z) [
+      | inl none ↦ none
+      | inr pends ↦ absurd (
+          let claims : (here.doing u).claims ≡ Some (Pends pends.0) = ap (λ (y : Place). (doing_on y l).claims) f ∙ ap (λ (y : Doing). y.claims) (doing_here l (RwLock j d q) same_lock) ∙ pends.1 in
+          let some : here.lock.pending ≡ Some (record { thread = u; falls_back = pends.0 }) = (steady.sites.site l).held u (Pends pends.0) claims in
+          let none = unpending in cc)
+    ]
+
     -- whom it has in hand
-    given : (u : ℕ) (b : Bool) → hand_at (place_at w u) l ≡ hand t b → IsGiven w t l b (unshared_then w t l) (place_at w u)
+    pub given : (u : ℕ) (b : Bool) → hand_at (place_at w u) l ≡ hand t b → IsGiven w t l b (unshared_then w t l) (place_at w u)
     given u b held = by_place (place_at w u) refl held
       where
         fresh : b ≡ false
@@ -278,21 +291,11 @@ module _ (w : State) (t l : ℕ) (a : Admission) (c : RwLockCallPlace) (steady :
             built (next.At x) = all x
             built (next.End answer) = tt
 
-            unclaimed : j ≡ l → (call_profile d q).hand ≡ hand t false → (call_profile d q).doing.claims ≡ None
-            unclaimed same_lock z = elim (hand_claims d q t z) [
-              | inl none ↦ none
-              | inr pends ↦ absurd (
-                  let claims : (here.doing u).claims ≡ Some (Pends pends.0) = ap (λ (y : Place). (doing_on y l).claims) f ∙ ap (λ (y : Doing). y.claims) (doing_here l (RwLock j d q) same_lock) ∙ pends.1 in
-                  let held_so = (steady.sites.site l).held u (Pends pends.0) claims in
-                  let some : here.lock.pending ≡ Some (record { thread = u; falls_back = pends.0 }) = held_so in
-                  let none = unpending in cc)
-            ]
-
             at_lock : j ≡ l → (call_profile d q).hand ≡ hand t b → IsGiven w t l b (unshared_then w t l) (RwLock j d q)
             at_lock same_lock z =
                 let in_it : (call_profile d q).hand ≡ hand t false = z ∙ ap (hand t) fresh in
                 let waits = (fair_sleepers_move d q fits_u.1).held t in_it in
-                let m = (handed_move d q fits_u.1).given t (unshared_then w t l) waits.want in_it (unclaimed same_lock in_it) waits.wants in
+                let m = (handed_move d q fits_u.1).given t (unshared_then w t l) waits.want in_it (unclaimed u j d q f same_lock in_it) waits.wants in
                 record {
                   fresh = fresh;
                   want = waits.want;

@@ -56,7 +56,7 @@ is_wanted t (Some h) x e = either (h.by == t) refl e
     either true f g = let mine : h.by ≡ t = eqb-true h.by t f in let same_want : h.want ≡ x = cc in λ i. Some (record { by = mine i; want = same_want i })
     either false f g = absurd cc
 
-sharers_same : (t : ℕ) (p q : ℕ → Option Taken) → ((u : ℕ) → wanted_of t (q u) ≡ wanted_of t (p u)) → (i n : ℕ) → sharers_from t q i n ≡ sharers_from t p i n
+pub sharers_same : (t : ℕ) (p q : ℕ → Option Taken) → ((u : ℕ) → wanted_of t (q u) ≡ wanted_of t (p u)) → (i n : ℕ) → sharers_from t q i n ≡ sharers_from t p i n
 sharers_same t p q e i zero = refl
 sharers_same t p q e i (suc n) = λ j. (shares_by t (q i) ∙ ap share_of (e i) ∙ sym (shares_by t (p i))) j + sharers_same t p q e (i + 1) n j
 

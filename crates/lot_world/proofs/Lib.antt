@@ -22,9 +22,11 @@ pub mod MovesKept
 pub mod HandsMoved
 pub mod InHand
 pub mod HandsCounted
+pub mod HandsTaken
 pub mod SitesKept
 pub mod RwLockKept
 pub mod HandsOn
+pub mod HandsOnEvents
 pub mod SectionsKept
 pub mod GoneKept
 pub mod Looking

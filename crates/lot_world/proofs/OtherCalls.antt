@@ -146,7 +146,7 @@ module _ (w : State) (t : ℕ) (p2 : Place) where
 -- ---------------------------------------------------------------- those in its hand are told
 
 -- so it is taken there by the one in whose hand it is
-taken_by_hand : (w : State) (p : Place) (t l : ℕ) → FitsItsLock w p → hand_at p l ≡ hand t false → is_taken_by t (taken_at p l) ≡ true
+pub taken_by_hand : (w : State) (p : Place) (t l : ℕ) → FitsItsLock w p → hand_at p l ≡ hand t false → is_taken_by t (taken_at p l) ≡ true
 taken_by_hand w Idle t l calls h = absurd (let none : hand_at Idle l ≡ None = refl in cc)
 taken_by_hand w (Mutex k at) t l calls h = by_place (Mutex k at) (is_taken (Mutex k at) t l tt h)
   where
