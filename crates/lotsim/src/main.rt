@@ -1,16 +1,8 @@
 //! Any number of threads over named locks, by a list of lines.
 #![tactic(auto)]
 
-pub mod actions;
-pub mod replay;
-mod session;
-pub mod show;
-pub mod start;
-pub mod state;
-pub mod status;
-#[cfg(test)]
-mod tests;
-
+use lot_replay::start::start;
+use lot_replay::status;
 use std::io::{BufReader, ErrorKind};
 use std::process::ExitCode;
 use std::{env, io};
@@ -37,7 +29,7 @@ fn run(rt: &HostRuntime) -> io::Result<u8> {
         .map(|arg| arg.as_str())
         .collect::<Vec<&str>>(rt.alloc())?;
     let mut reader = BufReader::new(rt.alloc(), rt.reader())?;
-    Ok(start::start(
+    Ok(start(
         rt.alloc(),
         words.as_slice(),
         &mut reader,

@@ -1,0 +1,172 @@
+-- How far a replay has come.
+use Rattle.std.proofs.Common.{◌≡◌, ℕ, ◌+◌, ◌<◌, Bool, true, false, cond, List, [], ◌∷◌, ◌++◌, Option, None, Some, Ok, Err, inl, inr, length, refl, sym, ap, subst, ◌∙◌, arith, append_assoc, append-nil, length-append}
+use Rattle.std.proofs.lemmas.List.Elements.{All-nil}
+use Rattle.std.proofs.lemmas.Bool.Decides.{leb_tells}
+use Rattle.std.specs.Prelude.{⊤, option_and_then}
+use Rattle.std.specs.Io.KnownBytes.{Appends, IsAtEnd}
+use Rattle.std.proofs.KnownBytes.{Consumes-nil}
+use Rattle.lot_text.specs.Lines.{line_len, lines_of}
+use Rattle.lot_text.specs.Grammar.{meaning}
+use Rattle.lot_text.specs.Text.{malformed_line, no_memory_line}
+use Rattle.lot_text.specs.Reads.{TakesLine, StartsTooLong, TakesPart}
+use Rattle.lot_text.specs.Sent.{Held, Puts, PutsWhere, Sends, SendsFront}
+use Rattle.lot_text.proofs.SentLemmas.{puts_then}
+use Rattle.lot_replay.specs.declared.state.Refusal.{Refusal}
+use Rattle.lot_replay.specs.declared.state.Refusal.TheVariants.{Malformed, NoMemory}
+use Rattle.lot_replay.specs.Stages.{Stage, nothing, obeyed, after_line}
+use Rattle.lot_replay.specs.Answers.{AnswersTo, last_line, last_status}
+use Rattle.lot_replay.specs.Replay.{MayAnswer, IsMalformed, IsReplay, LinesWrite, IsText, StopsForMemory, MayWrite}
+
+-- `done` lines wrote `text`, the k-th is next, and then the others
+pub record Reached (input text : List ℕ) (k : ℕ) (s : Stage) (rest : List (List ℕ)) : Type 0 where
+  pub done : List (List ℕ)
+  pub lines : lines_of input ≡ done ++ rest
+  pub count : length done + 1 ≡ k
+  pub goes : (more : List (List ℕ)) (t : List ℕ) (st : ℕ) → IsReplay k s more t st → LinesWrite (done ++ more) (text ++ t) st
+
+reached_start : (input : List ℕ) → Reached input [] 1 nothing (lines_of input)
+reached_start input = record { done = []; lines = refl; count = refl; goes = λ more t st h. h }
+
+reached_step : (input text : List ℕ) (k : ℕ) (s : Stage) (line : List ℕ) (rest : List (List ℕ)) (next : Stage) (t : List ℕ) → Reached input text k s (line ∷ rest) → MayAnswer s line next t → Reached input (text ++ t) (k + 1) next rest
+reached_step input text k s line rest next t r e = record {
+  done = r.done ++ line ∷ [];
+  lines = r.lines ∙ sym (append_assoc r.done (line ∷ []) rest);
+  count = omega (arith, length-append r.done (line ∷ []), r.count);
+  goes = λ more u st h.
+      subst (λ ls. LinesWrite ls ((text ++ t) ++ u) st) (sym (append_assoc r.done (line ∷ []) more))
+      (subst (λ l. LinesWrite (r.done ++ line ∷ more) l st) (sym (append_assoc text t u)) (r.goes (line ∷ more) (t ++ u) st (inr (next, t, u, e, refl, h))));
+}
+
+-- the lines so far
+wrote_so_far : (input text : List ℕ) (k : ℕ) (s : Stage) (rest : List (List ℕ)) (r : Reached input text k s rest) → LinesWrite r.done text 0
+wrote_so_far input text k s rest r =
+    subst (λ ls. LinesWrite ls text 0) (append-nil r.done) (subst (λ l. LinesWrite (r.done ++ []) l 0) (append-nil text) (r.goes [] [] 0 (refl, refl)))
+
+whole_from : (input text : List ℕ) (k : ℕ) (s : Stage) (rest : List (List ℕ)) (t : List ℕ) (st : ℕ) → Reached input text k s rest → IsReplay k s rest t st → IsText input (text ++ t) st
+whole_from input text k s rest t st r h = subst (λ ls. LinesWrite ls (text ++ t) st) (sym r.lines) (r.goes rest t st h)
+
+-- the same where the bytes may be unknown
+abbrev pub ReachedKnown : Option (List ℕ) → Option (List ℕ) → List ℕ → ℕ → Stage → Type 0
+ReachedKnown None now text k s = ⊤
+ReachedKnown (Some x) None text k s = ⊥
+ReachedKnown (Some x) (Some y) text k s = Reached x text k s (lines_of y)
+
+pub known_start : (a : Option (List ℕ)) (s : Stage) → s ≡ nothing → ReachedKnown a a [] 1 s
+known_start None s e = tt
+known_start (Some x) s e = subst (λ t. Reached x [] 1 t (lines_of x)) (sym e) (reached_start x)
+
+pub known_step : (a b c : Option (List ℕ)) (text : List ℕ) (k : ℕ) (s : Stage) (line : List ℕ) (next : Stage) (t : List ℕ) → ReachedKnown a b text k s → TakesLine b c line → MayAnswer s line next t → ReachedKnown a c (text ++ t) (k + 1) next
+known_step None b c text k s line next t r q e = tt
+known_step (Some x) None c text k s line next t r q e = absurd r
+known_step (Some x) (Some y) None text k s line next t r q e = absurd q
+known_step (Some x) (Some y) (Some z) text k s line next t r q e = reached_step x text k s line (lines_of z) next t (subst (Reached x text k s) q r) e
+
+may_whole : (x : List ℕ) (d : Option (List ℕ)) (text : List ℕ) (st : ℕ) → IsText x text st → MayWrite (Some x) d text st
+may_whole x None text st e = inl e
+may_whole x (Some z) text st e = inl e
+
+may_memory : (x : List ℕ) (d : Option (List ℕ)) (text : List ℕ) → StopsForMemory x text → MayWrite (Some x) d text 3
+may_memory x None text m = inr (refl, m)
+may_memory x (Some z) text m = inr (inl (refl, m))
+
+pub known_end : (a b d : Option (List ℕ)) (text : List ℕ) (k : ℕ) (s : Stage) → ReachedKnown a b text k s → IsAtEnd b → MayWrite a d text 0
+known_end None b d text k s r e = tt
+known_end (Some x) None d text k s r e = absurd r
+known_end (Some x) (Some y) d text k s r e =
+    may_whole x d text 0 (subst (λ l. IsText x l 0) (append-nil text) (whole_from x text k s [] [] 0 (subst (λ l. Reached x text k s (lines_of l)) e r) (refl, refl)))
+
+malformed_at : (x text : List ℕ) (k : ℕ) (s : Stage) (line : List ℕ) (rest : List (List ℕ)) (d : Option (List ℕ)) → Reached x text k s (line ∷ rest) → IsMalformed s line → MayWrite (Some x) d (text ++ malformed_line k) 2
+malformed_at x text k s line rest d r e = may_whole x d (text ++ malformed_line k) 2 (whole_from x text k s (line ∷ rest) (malformed_line k) 2 r (inl (e, refl, refl)))
+
+known_malformed : (a b c d : Option (List ℕ)) (text : List ℕ) (k : ℕ) (s : Stage) (line : List ℕ) → ReachedKnown a b text k s → TakesLine b c line → IsMalformed s line → MayWrite a d (text ++ malformed_line k) 2
+known_malformed None b c d text k s line r q e = tt
+known_malformed (Some x) None c d text k s line r q e = absurd r
+known_malformed (Some x) (Some y) None d text k s line r q e = absurd q
+known_malformed (Some x) (Some y) (Some z) d text k s line r q e = malformed_at x text k s line (lines_of z) d (subst (Reached x text k s) q r) e
+
+too_long_none : (s : Stage) (line : List ℕ) → line_len < length line → IsMalformed s line
+too_long_none s line long = elim (leb_tells (length line) line_len) [
+  | inl h ↦ absurd (omega (arith, h.1))
+  | inr h ↦ ap (λ t. cond t (option_and_then (obeyed s) (meaning line)) None) h.0
+]
+
+pub known_too_long : (a b d : Option (List ℕ)) (text : List ℕ) (k : ℕ) (s : Stage) → ReachedKnown a b text k s → StartsTooLong b → MayWrite a d (text ++ malformed_line k) 2
+known_too_long None b d text k s r q = tt
+known_too_long (Some x) None d text k s r q = absurd r
+known_too_long (Some x) (Some y) d text k s r q = malformed_at x text k s q.0 q.1 d (subst (Reached x text k s) q.3 r) (too_long_none s q.0 q.2)
+
+pub known_failed : (a b c : Option (List ℕ)) (text : List ℕ) (k : ℕ) (s : Stage) → ReachedKnown a b text k s → TakesPart b c → MayWrite a c text 4
+known_failed None b c text k s r q = tt
+known_failed (Some x) None c text k s r q = absurd r
+known_failed (Some x) (Some y) None text k s r q = absurd q.2
+known_failed (Some x) (Some y) (Some z) text k s r q =
+    inr (inr (refl, record { done = r.done; part = q.0; one = q.1; lines = r.lines ∙ ap (λ l. r.done ++ lines_of l) q.2; wrote = wrote_so_far x text k s (lines_of y) r }))
+
+pub nothing_taken : (a : Option (List ℕ)) → TakesPart a a
+nothing_taken a = ([], All-nil (λ b. b ≡ 10 → ⊥), Consumes-nil a)
+
+memory_at : (x text : List ℕ) (k : ℕ) (s : Stage) (line : List ℕ) (rest : List (List ℕ)) (next : Stage) (t : List ℕ) → Reached x text k s (line ∷ rest) → MayAnswer s line next t → StopsForMemory x (text ++ no_memory_line k)
+unfolding reached_step
+memory_at x text k s line rest next t r e =
+    record {
+      done = r.done;
+      line = line;
+      rest = rest;
+      lines = r.lines;
+      before = text;
+      wrote = wrote_so_far x text k s (line ∷ rest) r;
+      whole = text ++ t;
+      would = wrote_so_far x (text ++ t) (k + 1) next rest (reached_step x text k s line rest next t r e);
+      written = ap (λ n. text ++ no_memory_line n) (sym r.count);
+    }
+
+known_memory : (a b c d : Option (List ℕ)) (text : List ℕ) (k : ℕ) (s : Stage) (line : List ℕ) (next : Stage) (t : List ℕ) → ReachedKnown a b text k s → TakesLine b c line → MayAnswer s line next t → MayWrite a d (text ++ no_memory_line k) 3
+known_memory None b c d text k s line next t r q e = tt
+known_memory (Some x) None c d text k s line next t r q e = absurd r
+known_memory (Some x) (Some y) None d text k s line next t r q e = absurd q
+known_memory (Some x) (Some y) (Some z) d text k s line next t r q e =
+    may_memory x d (text ++ no_memory_line k) (memory_at x text k s line (lines_of z) next t (subst (Reached x text k s) q r) e)
+
+-- what an answer says
+pub record Answered (w : Option (Stage × List ℕ)) (new : Stage) (a c : Option (List ℕ)) (p q : Held) : Type 0 where
+  pub text : List ℕ
+  pub wanted : w ≡ Some (new, text)
+  pub puts : Puts a c p q text
+
+pub as_answered : (w : Option (Stage × List ℕ)) (u : Unit {0}) (old new : Stage) (a c : Option (List ℕ)) (p q : Held) → AnswersTo w (Ok u) old new (Puts a c p q) → Answered w new a c p q
+as_answered None u old new a c p q h = absurd h
+as_answered (Some x) u old new a c p q h = record { text = x.1; wanted = ap (λ (s : Stage). Some (s, x.1)) (sym h.0); puts = h.1 }
+
+pub refused_puts : (w : Option (Stage × List ℕ)) (refusal : Refusal) (old new : Stage) (Wrote : List ℕ → Type 0) → AnswersTo w (Err refusal) old new Wrote → Wrote []
+refused_puts None Malformed old new Wrote h = h.1
+refused_puts None NoMemory old new Wrote h = absurd h
+refused_puts (Some x) Malformed old new Wrote h = absurd h
+refused_puts (Some x) NoMemory old new Wrote h = h.1
+
+pub known_refused : (w : Option (Stage × List ℕ)) (refusal : Refusal) (new : Stage) (Wrote : List ℕ → Type 0) (a b c d : Option (List ℕ)) (text : List ℕ) (k : ℕ) (s : Stage) (line : List ℕ)
+    → after_line s line ≡ w → AnswersTo w (Err refusal) s new Wrote → ReachedKnown a b text k s → TakesLine b c line → MayWrite a d (text ++ last_line refusal k) (last_status refusal)
+known_refused None Malformed new Wrote a b c d text k s line e h r q = known_malformed a b c d text k s line r q e
+known_refused None NoMemory new Wrote a b c d text k s line e h r q = absurd h
+known_refused (Some x) Malformed new Wrote a b c d text k s line e h r q = absurd h
+known_refused (Some x) NoMemory new Wrote a b c d text k s line e h r q = known_memory a b c d text k s line x.0 x.1 r q e
+
+-- the last send
+ended_lost : (y z : Bool) (a b c : Option (List ℕ)) (mid left text : List ℕ) → PutsWhere false y a b [] mid text → PutsWhere y z b c mid left [] → z ≡ true → PutsWhere false true a c [] left (text ++ [])
+ended_lost y true a b c mid left text p q e = puts_then a b c (record { bytes = []; lost = false }) (record { bytes = mid; lost = y }) (record { bytes = left; lost = true }) text [] p q
+ended_lost y false a b c mid left text p q e = cc
+
+pub finish_lost : (a b c : Option (List ℕ)) (p q : Held) (text : List ℕ) → Puts a b (record { bytes = []; lost = false }) p text → Puts b c p q [] → q.lost ≡ true → SendsFront a c text
+finish_lost a b c p q text h k e = subst (SendsFront a c) (append-nil text) (ended_lost p.lost q.lost a b c p.bytes q.bytes text h k e)
+
+pub all_sent : (a c : Option (List ℕ)) (text : List ℕ) → Sends a c text [] → Appends a c text
+all_sent a c text s = subst (Appends a c) (sym (append-nil s.taken) ∙ s.whole) s.appended
+
+ended_sent : (y z : Bool) (a b c : Option (List ℕ)) (mid left text : List ℕ) → PutsWhere false y a b [] mid text → PutsWhere y z b c mid left [] → z ≡ false → left ≡ [] → (y ≡ false) × Appends a c text
+ended_sent y true a b c mid left text p q e f = cc
+ended_sent true false a b c mid left text p q e f = absurd q
+ended_sent false false a b c mid left text p q e f =
+    let whole = puts_then a b c (record { bytes = []; lost = false }) (record { bytes = mid; lost = false }) (record { bytes = left; lost = false }) text [] p q in
+    (refl, all_sent a c text (subst (λ l. Sends a c text l) f (subst (λ l. Sends a c l left) (append-nil text) whole)))
+
+pub finish_sent : (a b c : Option (List ℕ)) (p q : Held) (text : List ℕ) → Puts a b (record { bytes = []; lost = false }) p text → Puts b c p q [] → q.lost ≡ false → q.bytes ≡ [] → (p.lost ≡ false) × Appends a c text
+finish_sent a b c p q text h k e f = ended_sent p.lost q.lost a b c p.bytes q.bytes text h k e f

@@ -1,0 +1,99 @@
+-- What the lines of a schedule do, one after another.
+use Rattle.std.specs.Prelude.{ℕ, Bool, ◌&&◌, nat_le, nat_lt, is_none, List, [], ◌∷◌, ◌++◌, length, if◌then◌else◌, Option, None, Some, option_map, option_and_then}
+use Rattle.lot_calls.specs.declared.kinds.Kind.{Kind}
+use Rattle.lot_text.specs.declared.grammar.NamedCall.{NamedCall}
+use Rattle.lot_text.specs.declared.grammar.NamedCall.TheVariants as calling
+use Rattle.lot_calls.specs.declared.calls.Call.{Call}
+use Rattle.lot_calls.specs.declared.calls.Call as calls
+use Rattle.lot_calls.specs.declared.calls.Turn.{Turn}
+use Rattle.lot_calls.specs.declared.calls.Turn as turns
+use Rattle.lot_calls.specs.declared.calls.Step.{Step}
+use Rattle.lot_calls.specs.declared.outcomes.Outcome.{Outcome}
+use Rattle.lot_calls.specs.declared.outcomes.Outcome as outcome
+use Rattle.lot_calls.specs.Kinds.{fits}
+use Rattle.lot_machine.specs.Machine.{State, opening, is_possible, after, step_outcome, solo}
+use Rattle.lot_text.specs.declared.grammar.Command.{Command}
+use Rattle.lot_text.specs.declared.grammar.Command as command
+use Rattle.lot_text.specs.declared.grammar.NamedTurn.{NamedTurn}
+use Rattle.lot_text.specs.declared.grammar.NamedTurn as named
+use Rattle.lot_text.specs.Lines.{line_len}
+use Rattle.lot_text.specs.Names.{lock_named}
+use Rattle.lot_text.specs.Grammar.{meaning}
+use Rattle.lot_replay.specs.Shows.{show_lines}
+use Rattle.lot_text.specs.Text.{turn_line}
+use Rattle.lot_replay.specs.declared.actions.Action.{Action}
+use Rattle.lot_replay.specs.declared.actions.Action as actions
+
+-- nothing yet; so many threads, and locks of these names and kinds; or a world of locks of these names
+pub data Stage : Type 0 where
+  nothing : Stage
+  declaring : ℕ → List (List ℕ) → List Kind → Stage
+  running : List (List ℕ) → State → Stage
+
+-- ---------------------------------------------------------------- turns
+
+-- the call of the lock that has the name
+abbrev pub call_at : NamedCall → ℕ → Call
+call_at (calling.Mutex call) lock = calls.TheVariants.Mutex lock call
+call_at (calling.RwLock call) lock = calls.TheVariants.RwLock lock call
+
+abbrev pub call_named : List (List ℕ) → NamedCall → List ℕ → Option Call
+call_named names call name = option_map (call_at call) (lock_named names name)
+
+abbrev pub action_of : List (List ℕ) → NamedTurn → Option Action
+action_of names (named.TheVariants.Begin call name) =
+    option_map (λ called. actions.TheVariants.Turn (turns.TheVariants.Begin called)) (call_named names call name)
+action_of names named.TheVariants.Go = Some (actions.TheVariants.Turn turns.TheVariants.Go)
+action_of names named.TheVariants.Spin = Some (actions.TheVariants.Turn turns.TheVariants.Spin)
+action_of names named.TheVariants.Late = Some (actions.TheVariants.Turn turns.TheVariants.Late)
+action_of names named.TheVariants.Solo = Some actions.TheVariants.Solo
+action_of names (named.TheVariants.Do call name) = option_map actions.TheVariants.Do (call_named names call name)
+
+-- where a step leads, and its outcome
+abbrev pub stepped : State → ℕ → Turn → State × Outcome
+stepped w t turn = let s : Step = record { thread = t; turn = turn } in (after w s, step_outcome w s)
+
+-- at most 64 steps of a thread alone
+abbrev pub went_alone : State → ℕ → State × Outcome
+went_alone w t = let a = solo 64 w t outcome.TheVariants.NotNow in (a.state, a.outcome)
+
+-- a thread begins a call, and where that was possible goes on alone
+abbrev pub did : State → ℕ → Call → State × Outcome
+did w t call =
+    let s : Step = record { thread = t; turn = turns.TheVariants.Begin call } in
+    if is_possible w s then went_alone (after w s) t else (w, outcome.TheVariants.NotNow)
+
+abbrev pub done_by : State → ℕ → Action → State × Outcome
+done_by w t (actions.TheVariants.Turn turn) = stepped w t turn
+done_by w t actions.TheVariants.Solo = went_alone w t
+done_by w t (actions.TheVariants.Do call) = did w t call
+
+-- ---------------------------------------------------------------- lines
+
+-- the stage and the text after a thread's action
+abbrev pub acted : List (List ℕ) → State → ℕ → Action → Stage × List ℕ
+acted names w t action = (running names (done_by w t action).0, turn_line t (done_by w t action).1)
+
+-- what a turn or a `show` leads to in a world, or none where it names no lock or is neither
+abbrev pub played : List (List ℕ) → State → Command → Option (Stage × List ℕ)
+played names w (command.TheVariants.Turn t turn) = option_map (acted names w t) (action_of names turn)
+played names w command.TheVariants.Show = Some (running names w, show_lines w 0 names)
+played names w _ = None
+
+-- the locks are fewer than 256, the kind fits the threads, and the name is new
+abbrev pub may_declare : ℕ → List (List ℕ) → Kind → List ℕ → Bool
+may_declare threads names kind name = nat_lt (length names) 256 && (fits kind threads && is_none (lock_named names name))
+
+-- the stage and the text after a line with a meaning, or none where the line may not stand there
+abbrev pub obeyed : Stage → Command → Option (Stage × List ℕ)
+obeyed nothing (command.TheVariants.Threads threads) =
+    if nat_le 1 threads && nat_le threads 1024 then Some (declaring threads [] [], []) else None
+obeyed nothing _ = None
+obeyed (declaring threads names kinds) (command.TheVariants.Lock name kind) =
+    if may_declare threads names kind name then Some (declaring threads (names ++ name ∷ []) (kinds ++ kind ∷ []), []) else None
+obeyed (declaring threads names kinds) command = played names (opening kinds threads) command
+obeyed (running names w) command = played names w command
+
+-- the stage and the text after a line, or none where it is malformed
+abbrev pub after_line : Stage → List ℕ → Option (Stage × List ℕ)
+after_line stage line = if nat_le (length line) line_len then option_and_then (obeyed stage) (meaning line) else None

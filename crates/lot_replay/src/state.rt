@@ -1,0 +1,183 @@
+//! The threads and locks of a replay, and what they answer to a line.
+ghost use Rattle.std.specs.Prelude.{◌≡◌, ◌≤◌, [], Some, IfSome, IfNone, length};
+ghost use Rattle.lot_world.specs.declared.world.TheConstants.{MOST_THREADS, MOST_LOCKS};
+ghost use Rattle.lot_text.specs.Lines.{line_len};
+ghost use Rattle.lot_text.specs.Sent.{Puts};
+ghost use Rattle.lot_replay.specs.Stages.{nothing, declaring, running, acted, played, obeyed, after_line};
+ghost use Rattle.lot_replay.specs.Sessions.{session_stage, session_world, stage_of};
+ghost use Rattle.lot_replay.specs.Answers.{AnswersTo};
+
+use crate::actions::{Action, action_of, perform};
+use crate::session::Session;
+use crate::show::show_locks;
+use lot_text::{Command, Name, Page, lock_named, meaning, print_turn};
+use lot_world::{Kind, MOST_LOCKS, MOST_THREADS, World};
+use std::alloc::Global;
+use std::io::Write;
+
+/// Why a line isn't answered.
+#[derive(Clone, Copy, Debug, PartialEq, Eq)]
+pub enum Refusal {
+    Malformed,
+    NoMemory,
+}
+
+/// What the lines of a replay have led to: nothing before the threads are there.
+#[derive(Drop)]
+pub struct State {
+    session: Option<Session>,
+}
+
+impl State {
+    pub fn new() -> State
+        ensures { stage_of result.session ≡ nothing }
+    {
+        State { session: None }
+    }
+
+    /// Answers a line. One that is refused changes nothing, and nothing is said of it here.
+    pub fn answer<W: Write>(
+        &mut self,
+        alloc: Global,
+        page: &mut Page,
+        writer: &mut W,
+        line: &[u8],
+    ) -> Result<(), Refusal>
+        requires { length line.now ≤ line_len }
+        ensures { AnswersTo (after_line (stage_of self.old.session) line.now) result
+            (stage_of self.old.session) (stage_of self.new.session)
+            (Puts (W.contents writer.old) (W.contents writer.new) page.old page.new) }
+    {
+        let Some(command) = meaning(line) else {
+            return Err(Refusal::Malformed);
+        };
+        match &mut self.session {
+            Some(session) => session.obey(alloc, page, writer, command),
+            None => self.open(alloc, command),
+        }
+    }
+
+    /// The first line has to say how many threads there are.
+    fn open(&mut self, alloc: Global, command: Command) -> Result<(), Refusal>
+        requires { stage_of self.old.session ≡ nothing }
+        ensures { AnswersTo (obeyed nothing command) result nothing (stage_of self.new.session) (λ text. text ≡ []) }
+    {
+        match command {
+            Command::Threads(threads) if 1 <= threads && threads <= MOST_THREADS => {
+                self.session = Some(Session::new(alloc, threads));
+                Ok(())
+            }
+            _ => Err(Refusal::Malformed),
+        }
+    }
+}
+
+impl Session {
+    fn new(alloc: Global, threads: usize) -> Session
+        requires some { 1 ≤ threads }
+        requires few { threads ≤ MOST_THREADS }
+        ensures { session_stage result ≡ declaring threads [] [] }
+    {
+        Session {
+            threads,
+            names: Vec::new(alloc),
+            kinds: Vec::new(alloc),
+            world: None,
+        }
+    }
+
+    fn obey<W: Write>(
+        &mut self,
+        alloc: Global,
+        page: &mut Page,
+        writer: &mut W,
+        command: Command,
+    ) -> Result<(), Refusal>
+        ensures { AnswersTo (obeyed (session_stage self.old) command) result (session_stage self.old) (session_stage self.new)
+            (Puts (W.contents writer.old) (W.contents writer.new) page.old page.new) }
+    {
+        match command {
+            Command::Threads(_) => Err(Refusal::Malformed),
+            Command::Lock { name, kind } => self.declare(name, kind),
+            Command::Turn { thread, turn } => match action_of(self.names.as_slice(), turn) {
+                Some(action) => self.act(alloc, page, writer, thread, action),
+                None => Err(Refusal::Malformed),
+            },
+            Command::Show => self.show(alloc, page, writer),
+        }
+    }
+
+    /// Adds a lock, where its name is new and no turn was taken yet.
+    fn declare(&mut self, name: Name, kind: Kind) -> Result<(), Refusal>
+        ensures { AnswersTo (obeyed (session_stage self.old) (Command.Lock name kind)) result
+            (session_stage self.old) (session_stage self.new) (λ text. text ≡ []) }
+    {
+        if self.world.is_some() || self.names.len() >= MOST_LOCKS {
+            return Err(Refusal::Malformed);
+        }
+        if !kind.fits(self.threads) || lock_named(self.names.as_slice(), name).is_some() {
+            return Err(Refusal::Malformed);
+        }
+        if self.names.reserve(1).is_err() || self.kinds.reserve(1).is_err() {
+            return Err(Refusal::NoMemory);
+        }
+        self.names.push_reserved(name);
+        self.kinds.push_reserved(kind);
+        Ok(())
+    }
+
+    /// Makes the world, where it isn't there yet. It stays away where memory is refused.
+    fn make_world(&mut self, alloc: Global)
+        ensures made { IfSome self.new.world
+            (λ w. session_stage self.new ≡ running self.old.names.items (session_world self.old)) }
+        ensures refused { IfNone self.new.world (session_stage self.new ≡ session_stage self.old) }
+    {
+        if self.world.is_none() {
+            self.world = World::new(alloc, self.kinds.as_slice(), self.threads).ok();
+        }
+    }
+
+    fn act<W: Write>(
+        &mut self,
+        alloc: Global,
+        page: &mut Page,
+        writer: &mut W,
+        thread: usize,
+        action: Action,
+    ) -> Result<(), Refusal>
+        ensures { AnswersTo (Some (acted self.old.names.items (session_world self.old) thread action)) result
+            (session_stage self.old) (session_stage self.new)
+            (Puts (W.contents writer.old) (W.contents writer.new) page.old page.new) }
+    {
+        self.make_world(alloc);
+        match &mut self.world {
+            Some(world) => {
+                let outcome = perform(world, thread, action);
+                print_turn(page, writer, thread, outcome);
+                Ok(())
+            }
+            None => Err(Refusal::NoMemory),
+        }
+    }
+
+    /// Prints a line for each lock, in the order in which they were declared.
+    fn show<W: Write>(
+        &mut self,
+        alloc: Global,
+        page: &mut Page,
+        writer: &mut W,
+    ) -> Result<(), Refusal>
+        ensures { AnswersTo (played self.old.names.items (session_world self.old) Command.Show) result
+            (session_stage self.old) (session_stage self.new)
+            (Puts (W.contents writer.old) (W.contents writer.new) page.old page.new) }
+    {
+        self.make_world(alloc);
+        match &self.world {
+            Some(world) => {
+                show_locks(page, writer, self.names.as_slice(), world);
+                Ok(())
+            }
+            None => Err(Refusal::NoMemory),
+        }
+    }
+}

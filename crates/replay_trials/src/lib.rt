@@ -1,0 +1,5 @@
+//! Schedules tried whole, with the text that they lead to.
+#![tactic(auto)]
+
+#[cfg(test)]
+mod tests;
