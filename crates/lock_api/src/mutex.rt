@@ -17,7 +17,7 @@ use std::sync::{Arc, Wait};
 use std::time::Duration;
 use value_place::{NamesPermit, Place};
 
-fn run_on<T, U, F: FnOnce(&mut T) -> U>(value: &mut T, f: F) -> U
+pub(crate) fn run_on<T, U, F: FnOnce(&mut T) -> U>(value: &mut T, f: F) -> U
     requires { F.IsAlwaysCallable f }
     ensures { FnOnceReturnsAtMut F.FnOnce f value.old result value.new }
 {

@@ -1,6 +1,8 @@
 //! Raw locks, as generic code sees them.
 #![tactic(auto)]
 
+pub mod rwlock;
+
 ghost use Rattle.std.specs.Prelude.{◌≡◌, ◌⊎◌, Bool, MatchResult, IfNone, IfSome};
 ghost use Rattle.std.specs.Arc.{arc_value};
 ghost use Rattle.std.specs.Duration.{as_nanos};
@@ -13,6 +15,10 @@ ghost use Rattle.lock_raw.specs.Answers.{answer_by};
 ghost use Rattle.value_place.specs.PermitIds.{PermitId};
 
 use lot_base::{Clock, Fault};
+pub use rwlock::{
+    RawRwLock, RawRwLockDowngrade, RawRwLockTimed, RawRwLockUpgrade, RawRwLockUpgradeDowngrade,
+    RawRwLockUpgradeTimed,
+};
 use std::sync::{Arc, Wait};
 use std::time::Duration;
 use value_place::Permit;

@@ -55,7 +55,7 @@ use Rattle.lot_world.proofs.RwLockRows.{of}
 use Rattle.lot_world.proofs.RwLockSolo.{is_ready, rwlock_rests, word_small}
 use Rattle.lot_world.proofs.SoloActs.{Leads, leads_more}
 use Rattle.lot_world.proofs.LineSolo.{StepsAlone}
-use Rattle.lot_world.proofs.CallSolo.{EntersAgain, Shares, shares_on, accepts_rest, gives_rest, glance_rests, hands_over_rest, wakes_rest}
+use Rattle.lot_world.proofs.CallSolo.{EntersAgain, Shares, shares_on, accepts_rest, gives_rest, glance_rests, hands_over_rest, rest_of, wakes_rest}
 use Rattle.lot_world.proofs.TurnsKept.{after_steady}
 
 set_set : {A : Type 0} (xs : List A) (i : ℕ) (y z : A) → set (set xs i y) i z ≡ set xs i z
@@ -409,7 +409,7 @@ module _ (t l : ℕ) (a : Admission) where
         way = f.way;
       }
 
-  enters_again_rests : EntersAgain t l a
+  pub enters_again_rests : EntersAgain t l a
   enters_again_rests access.Exclusive v w q shares small f = entry_rests access.Exclusive false at.First v w q shares small (record { place = tt; fresh = tt; decided = tt }) (λ e. cc) f
   enters_again_rests access.Shared v w q shares small f = entry_rests access.Shared false at.Load v w q shares small (record { place = tt; fresh = tt; decided = tt }) (λ e. cc) f
   enters_again_rests access.Upgradable v w q shares small f = entry_rests access.Upgradable false at.Load v w q shares small (record { place = tt; fresh = tt; decided = tt }) (λ e. cc) f
@@ -431,6 +431,6 @@ module _ (t l : ℕ) (a : Admission) where
   call_rests (Plain p) v w q shares small stands up f = leads_more 11 18 w t (λ s o. Rests o) (omega arith) (rwlock_rests t l a p v w q small (is_ready t l a p stands up) f)
   call_rests (Bump p) v w q shares small stands up f = bump_rests p.purpose p.retries p.at v w q shares small stands.0 stands.1 up f
   call_rests (Glance x) v w q shares small stands up f = glance_rests t l a enters_again_rests x v w q shares f
-  call_rests (HandOver x b to) v w q shares small stands up f = leads_more 17 18 w t (λ s o. Rests o) (omega arith) (hands_over_rest t l a enters_again_rests x b to stands v w q shares f)
+  call_rests (HandOver x b to) v w q shares small stands up f = leads_more 17 18 w t (λ s o. Rests o) (omega arith) (rest_of t l a enters_again_rests b 17 w (hands_over_rest t l a enters_again_rests x b to stands v w q shares f))
   call_rests (Handed x how b (handed.Asleep by alone)) v w q shares small stands up f = absurd (up refl)
   call_rests (Handed x how b handed.Accept) v w q shares small stands up f = leads_more 1 18 w t (λ s o. Rests o) (omega arith) (accepts_rest t l a enters_again_rests x how b v w q f)

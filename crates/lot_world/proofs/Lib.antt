@@ -63,9 +63,9 @@ pub mod SoloActs
 pub mod SoloAnswers
 pub mod LineSolo
 pub mod RwLockSolo
-pub mod RwLockEnds
 pub mod CallSolo
 pub mod BumpSolo
+pub mod RwLockEnds
 pub mod Solo
 pub mod Owing
 pub mod WorldRuns

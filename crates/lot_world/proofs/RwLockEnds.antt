@@ -30,14 +30,18 @@ use Rattle.lot_base.specs.declared.ops.Op.TheVariants as op
 use Rattle.lot_base.specs.Words.{apply}
 use Rattle.lot_calls.specs.declared.calls.RwLockCall.{RwLockCall}
 use Rattle.lot_calls.specs.declared.calls.RwLockCall.TheVariants as call
-use Rattle.lot_calls.specs.Kinds.{is_built}
-use Rattle.lot_rwlock_fair.specs.declared.places.RwLockCallPlace.TheVariants.{Plain}
+use Rattle.lot_rwlock_fair.specs.declared.places.RwLockCallPlace.{RwLockCallPlace}
+use Rattle.lot_rwlock_fair.specs.declared.places.RwLockCallPlace.TheVariants.{Plain, HandOver}
+use Rattle.lot_rwlock_fair.specs.declared.hand_over.HandOverAt.TheVariants as handing
+use Rattle.lot_rwlock_fair.specs.FairProfiles.{call_profile}
+use Rattle.lot_world.proofs.CallSolo.{hands_over_rest}
+use Rattle.lot_world.proofs.BumpSolo.{enters_again_rests}
 use Rattle.lot_rwlock_fair.specs.FairBegins.{call_first}
 use Rattle.lot_rwlock.specs.RwLockDeeds.{Admits, doing_at, rwlock_doing}
 use Rattle.abstract_locks.specs.Locks.{LockState, Pending, Rights, with_right, is_thread, Sort, Mutex, Normal, Recursive, Semaphore, Rules, NoWriter, IsFreeAt, IsSomePending, one_if_some, IsFree, IsBlocked, MayEnter, Owns, is_recursive, count, readers, rights_of}
 use Rattle.abstract_locks.specs.Codes.{code, count_in, has_parked, is_blocked, TellsTrue}
 use Rattle.abstract_locks.specs.Picks.{queued_of}
-use Rattle.abstract_locks.specs.Purposes.{Enters, Converts, rwlock_purpose}
+use Rattle.abstract_locks.specs.Purposes.{Enters, Releases, Converts, rwlock_purpose}
 use Rattle.abstract_locks.specs.Runs.{IsFull, AnswerHolds, CallState, one_more_at}
 use Rattle.abstract_locks.specs.Sites.{Has, idle, Line, Second, has_readers}
 use Rattle.abstract_locks.proofs.CodeLaws.{words_tell_true}
@@ -326,6 +330,32 @@ module _ (w : State) (t l : ℕ) (a : Admission) (steady : IsSteady w) (admits :
       gone own = let e : is_thread t (lock_state v2 l).exclusive + 1 ≡ is_thread t (lock_state w l).exclusive = ap (λ (z : Rights). z.exclusive) (lost_one access.Exclusive is told) in
           let one = owner_is (lock_state v2 l).exclusive own in let most = at_most (lock_state w l).exclusive in omega arith
 
+  -- a fair release, from any place where it has its right
+  lost_from : (c : RwLockCallPlace) (y : Want) (fair : Bool) → place_at w t ≡ RwLock l a c → (call_profile a c).purpose l ≡ Releases l y fair → ((rights : ℕ → Rights) → (call_profile a c).former l rights ≡ rights)
+      → x ≡ outcome.End answer.Ok → with_right y (rights_of (lock_state v2 l) t) ≡ rights_of (lock_state w l) t
+  lost_from c y fair is of same_rights told =
+      let h = subst (λ p. HasAnswered t p (call_at w t).former answer.Ok (locks_of v2)) called (answered run.told (locks_of w) (locks_of v2) t answer.Ok (run_refines w v2 (replicate (length run.told) (go_of t)) run.told run.run) run.goes_on (sym run.last ∙ told)) in
+      sym (put_here (λ k. rights_of (lock_state v2 k) t) l (with_right y (rights_of (lock_state v2 l) t))) ∙ h.holds l ∙ ap (λ f. f l) (h.former_is ∙ former)
+    where
+      called : (call_at w t).purpose ≡ Some (Releases l y fair)
+      called = ap (λ p. (call_state p (λ k. rights_of (lock_state w k) t)).purpose) is ∙ ap Some of
+
+      former : (call_at w t).former ≡ (λ k. rights_of (lock_state w k) t)
+      former = ap (λ p. (call_state p (λ k. rights_of (lock_state w k) t)).former) is ∙ same_rights (λ k. rights_of (lock_state w k) t)
+
+  no_mutex : {A : Type 0} → (rules_in w l).sort ≡ Mutex → A
+  no_mutex mutex = absurd (let f : has_readers Mutex ≡ true = sym (ap has_readers mutex) ∙ admits.0 in cc)
+
+  upgradable_released : place_at w t ≡ RwLock l a (HandOver access.Upgradable false handing.Load) → x ≡ outcome.End answer.Ok → ReleasesAlone (locks_of w) t l Upgradable true x (locks_of v2)
+  upgradable_released is told = (told, lost_from (HandOver access.Upgradable false handing.Load) Upgradable true is refl (λ rights. refl) told)
+
+  exclusive_released : place_at w t ≡ RwLock l a (HandOver access.Exclusive false (handing.Free 8)) → x ≡ outcome.End answer.Ok → ReleasesAlone (locks_of w) t l Exclusive true x (locks_of v2)
+  exclusive_released is told = (told, gone, λ mutex. no_mutex mutex)
+    where
+      gone : (lock_state v2 l).exclusive ≡ Some t → ⊥
+      gone own = let e : is_thread t (lock_state v2 l).exclusive + 1 ≡ is_thread t (lock_state w l).exclusive = ap (λ (z : Rights). z.exclusive) (lost_from (HandOver access.Exclusive false (handing.Free 8)) Exclusive true is refl (λ rights. refl) told) in
+          let one = owner_is (lock_state v2 l).exclusive own in let most = at_most (lock_state w l).exclusive in omega arith
+
   -- what a conversion has made of its thread's rights
   replaced : (q : RwLockPurpose) (at : RwLockAt) (y z : Want) (how : Patience) (answer : Answer) → place_at w t ≡ RwLock l a (Plain (looking q at)) → purpose_by q l ≡ Converts l y z how → ((rights : ℕ → Rights) → before q at l rights ≡ rights)
       → x ≡ outcome.End answer → ((c : CallState) → AnswerHolds (Some (Converts l y z how)) (locks_of v2) t c answer → (k : ℕ) → one_more_at l y (λ j. rights_of (lock_state v2 j) t) k ≡ one_more_at l z c.former k)
@@ -402,9 +432,9 @@ module _ (w : State) (t l : ℕ) (a : Admission) (steady : IsSteady w) (admits :
       by_how Timed ne h = h
 
 -- each call, from its beginning
-pub rwlock_alone : (w : State) (t l : ℕ) (a : Admission) (c : RwLockCall) (n : ℕ) (last : Outcome) → is_built c ≡ true → 11 ≤ n → IsSteady w → Admits (rules_in w l) a → place_at w t ≡ RwLock l a (call_first c) → StepsAlone w t l (RwLock l a (call_first c)) (word_at w l) (λ m. queue_at w (key_of l m))
+pub rwlock_alone : (w : State) (t l : ℕ) (a : Admission) (c : RwLockCall) (n : ℕ) (last : Outcome) → 18 ≤ n → IsSteady w → Admits (rules_in w l) a → place_at w t ≡ RwLock l a (call_first c) → StepsAlone w t l (RwLock l a (call_first c)) (word_at w l) (λ m. queue_at w (key_of l m))
     → IsSoloRun w t (solo n w t last).outcome (solo n w t last).state → EndsAlone w t (Some (rwlock_purpose l c)) (solo n w t last).outcome (solo n w t last).state
-rwlock_alone w t l a c n last built le steady admits is f run = by_call c built is f
+rwlock_alone w t l a c n last le steady admits is f run = by_call c is f
   where
     small : word_at w l < 2 ^ 64
     small = word_small w l steady admits.0
@@ -415,14 +445,18 @@ rwlock_alone w t l a c n last built le steady admits is f run = by_call c built 
     x : Outcome
     x = (solo n w t last).outcome
 
-    by_call : (c : RwLockCall) → is_built c ≡ true → place_at w t ≡ RwLock l a (call_first c) → StepsAlone w t l (RwLock l a (call_first c)) (word_at w l) (λ m. queue_at w (key_of l m)) → EndsAlone w t (Some (rwlock_purpose l c)) x v2
-    by_call (call.Enter access.Exclusive how) built is f = writes_alone w t l a steady admits v2 x run how is (first_leads t l a _ (word_at w l) w (λ m. queue_at w (key_of l m)) small f n last (omega arith))
-    by_call (call.Enter access.Shared how) built is f = shares_alone w t l a steady admits v2 x run access.Shared how (λ h. cc) is (load_leads t l a _ (word_at w l) w (λ m. queue_at w (key_of l m)) small f n last (omega arith))
-    by_call (call.Enter access.Upgradable how) built is f = shares_alone w t l a steady admits v2 x run access.Upgradable how (λ h. cc) is (load_leads t l a _ (word_at w l) w (λ m. queue_at w (key_of l m)) small f n last (omega arith))
-    by_call (call.Release y) built is f = releases_alone w t l a steady admits v2 x run y is (release_ends t l a y false (word_at w l) w (λ m. queue_at w (key_of l m)) f n last (omega arith))
-    by_call (call.Downgrade d) built is f = downgrades_alone w t l a steady admits v2 x run d is (downgrade_ends t l a d false (word_at w l) w (λ m. queue_at w (key_of l m)) f n last (omega arith))
-    by_call (call.Upgrade Try) built is f = tries_upgrade w t l a steady admits v2 x run is (load_leads t l a _ (word_at w l) w (λ m. queue_at w (key_of l m)) small f n last (omega arith))
-    by_call (call.Upgrade Patient) built is f = upgrades_alone w t l a steady admits v2 x run Patient (λ h. cc) is (upgrade_leads t l a Patient false (word_at w l) w (λ m. queue_at w (key_of l m)) f n last (omega arith))
-    by_call (call.Upgrade Timed) built is f = upgrades_alone w t l a steady admits v2 x run Timed (λ h. cc) is (upgrade_leads t l a Timed false (word_at w l) w (λ m. queue_at w (key_of l m)) f n last (omega arith))
-    by_call (call.ReleaseFair y) built is f = absurd cc
-    by_call (call.Bump y) built is f = absurd cc
+    by_call : (c : RwLockCall) → place_at w t ≡ RwLock l a (call_first c) → StepsAlone w t l (RwLock l a (call_first c)) (word_at w l) (λ m. queue_at w (key_of l m)) → EndsAlone w t (Some (rwlock_purpose l c)) x v2
+    by_call (call.Enter access.Exclusive how) is f = writes_alone w t l a steady admits v2 x run how is (first_leads t l a _ (word_at w l) w (λ m. queue_at w (key_of l m)) small f n last (omega arith))
+    by_call (call.Enter access.Shared how) is f = shares_alone w t l a steady admits v2 x run access.Shared how (λ h. cc) is (load_leads t l a _ (word_at w l) w (λ m. queue_at w (key_of l m)) small f n last (omega arith))
+    by_call (call.Enter access.Upgradable how) is f = shares_alone w t l a steady admits v2 x run access.Upgradable how (λ h. cc) is (load_leads t l a _ (word_at w l) w (λ m. queue_at w (key_of l m)) small f n last (omega arith))
+    by_call (call.Release y) is f = releases_alone w t l a steady admits v2 x run y is (release_ends t l a y false (word_at w l) w (λ m. queue_at w (key_of l m)) f n last (omega arith))
+    by_call (call.Downgrade d) is f = downgrades_alone w t l a steady admits v2 x run d is (downgrade_ends t l a d false (word_at w l) w (λ m. queue_at w (key_of l m)) f n last (omega arith))
+    by_call (call.Upgrade Try) is f = tries_upgrade w t l a steady admits v2 x run is (load_leads t l a _ (word_at w l) w (λ m. queue_at w (key_of l m)) small f n last (omega arith))
+    by_call (call.Upgrade Patient) is f = upgrades_alone w t l a steady admits v2 x run Patient (λ h. cc) is (upgrade_leads t l a Patient false (word_at w l) w (λ m. queue_at w (key_of l m)) f n last (omega arith))
+    by_call (call.Upgrade Timed) is f = upgrades_alone w t l a steady admits v2 x run Timed (λ h. cc) is (upgrade_leads t l a Timed false (word_at w l) w (λ m. queue_at w (key_of l m)) f n last (omega arith))
+    by_call (call.ReleaseFair access.Shared) is f = releases_alone w t l a steady admits v2 x run access.Shared is (release_ends t l a access.Shared false (word_at w l) w (λ m. queue_at w (key_of l m)) f n last (omega arith))
+    by_call (call.ReleaseFair access.Upgradable) is f = upgradable_released w t l a steady admits v2 x run is ((hands_over_rest t l a (enters_again_rests t l a) access.Upgradable false handing.Load tt (word_at w l) w (λ m. queue_at w (key_of l m)) admits f n last (omega arith)).1 refl)
+    by_call (call.ReleaseFair access.Exclusive) is f = exclusive_released w t l a steady admits v2 x run is ((hands_over_rest t l a (enters_again_rests t l a) access.Exclusive false (handing.Free 8) refl (word_at w l) w (λ m. queue_at w (key_of l m)) admits f n last (omega arith)).1 refl)
+    by_call (call.Bump access.Exclusive) is f = λ mutex. no_mutex w t l a steady admits v2 x run mutex
+    by_call (call.Bump access.Shared) is f = tt
+    by_call (call.Bump access.Upgradable) is f = tt

@@ -53,7 +53,7 @@ use Rattle.lot_machine.specs.Fits.{IsShaped}
 use Rattle.lot_machine.proofs.Shape.{performed_counts}
 use Rattle.lot_world.specs.MutexDeeds.{acts}
 use Rattle.lot_world.specs.Refinement.{call_state, lock_state, locks_of, taken_at}
-use Rattle.lot_world.specs.SitesOf.{FitsItsLock, Goes, IsBuilt, IsSteady, carried_at, rules_in}
+use Rattle.lot_world.specs.SitesOf.{FitsItsLock, Goes, IsSteady, carried_at, rules_in}
 use Rattle.lot_world.specs.Stations.{station}
 use Rattle.lot_world.proofs.AtPlaces.{in_no_hand}
 use Rattle.lot_world.proofs.CallEvents.{Happens, LeadsTo, OthersFollow, goes_by, happens, others_follow}

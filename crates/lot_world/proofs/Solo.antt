@@ -552,7 +552,7 @@ module _ (w : State) (t : ℕ) (shape : IsShaped w) (steady : IsSteady w) (there
       fits = subst (PlaceFits (length w.locks)) is (shape.places t)
 
       ends : has_readers (rules_in w l).sort ≡ true → (b : Bool) → is_built c ≡ b → EndsAlone w t (if b then Some (rwlock_purpose l c) else None) (solo 64 w t outcome.TheVariants.NotNow).outcome (solo 64 w t outcome.TheVariants.NotNow).state
-      ends readers true built = rwlock_alone w t l (admission_of (kind_at w l)) c 64 outcome.TheVariants.NotNow built (omega arith) steady (admits_by (kind_at w l) readers) is (steps_alone l (admission_of (kind_at w l)) (call_first c) readers is fits) (solo_runs w t (holds_of w shape steady))
+      ends readers true built = rwlock_alone w t l (admission_of (kind_at w l)) c 64 outcome.TheVariants.NotNow (omega arith) steady (admits_by (kind_at w l) readers) is (steps_alone l (admission_of (kind_at w l)) (call_first c) readers is fits) (solo_runs w t (holds_of w shape steady))
       ends readers false built = tt
 
       by_kind : (k : Kind) → kind_at w l ≡ k → EndsAlone w t (purpose_of k (call.TheVariants.RwLock l c)) (solo 64 w t outcome.TheVariants.NotNow).outcome (solo 64 w t outcome.TheVariants.NotNow).state

@@ -10,4 +10,6 @@ pub mod Leading
 pub mod RwLockBeginning
 pub mod Turning
 pub mod RwLockCalling
+pub mod RwLockFull
+pub mod RwLockRights
 pub mod Behind

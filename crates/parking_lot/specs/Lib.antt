@@ -9,4 +9,6 @@ pub mod RwLockFitting
 pub mod Fitting
 pub mod Calls
 pub mod RwLockCalls
+pub mod RwLockGuards
+pub mod RwLockUsers
 pub mod Users

@@ -1,8 +1,14 @@
 -- What a call of a reader-writer lock on real threads did.
-use Rattle.std.specs.Prelude.{ℕ, ◌≡◌, ◌<◌, ◌^◌, ◌-◌, ◌++◌, List, [], Option, Some, None, Ok, Err}
+use Rattle.std.specs.Prelude.{ℕ, ◌≡◌, ◌==◌, ◌<◌, ◌^◌, ◌-◌, ◌++◌, ◌&&◌, ◌||◌, not, Bool, List, [], Option, Some, None, Ok, Err}
+use Rattle.std.proofs.Common.{◌∙◌, sym, subst}
 use Rattle.std.specs.declared.result.Result.{Result}
 use Rattle.lot_base.specs.declared.ops.Op.{Op}
 use Rattle.lot_base.specs.declared.ops.Op.TheVariants.{Load, Exchange}
+use Rattle.abstract_locks.specs.Codes.{count_in, has_writer}
+use Rattle.lot_calls.specs.declared.calls.Access.{Access}
+use Rattle.lot_calls.specs.declared.calls.Access.TheVariants as accesses
+use Rattle.lot_calls.specs.declared.calls.RwLockCall.{RwLockCall}
+use Rattle.lot_calls.specs.declared.calls.RwLockCall.TheVariants as calls
 use Rattle.lot_calls.specs.declared.outcomes.Answer.{Answer}
 use Rattle.lot_calls.specs.declared.calls.Patience.{Patience}
 use Rattle.lot_calls.specs.declared.outcomes.Answer.TheVariants.{No, ReadersFull}
@@ -26,6 +32,7 @@ use Rattle.lot_words.specs.Lots.{IsWordOf}
 use Rattle.lot_words.specs.RightsOf.{IsRightOf}
 use Rattle.lot_words.specs.declared.owners.Ownership.{Ownership}
 use Rattle.lot_words.specs.declared.owners.Owner.{Owner}
+use Rattle.lot_words.specs.declared.owners.Owner.TheVariants as owners
 use Rattle.lot_words.specs.declared.rights.Right.{Right}
 use Rattle.lot_words.specs.declared.views.WordStep.{WordStep}
 use Rattle.lot_words.specs.declared.words.Word.{Word}
@@ -35,7 +42,7 @@ use Rattle.parking_lot_core.specs.declared.lot.ParkingLot.{ParkingLot}
 use Rattle.parking_lot_core.specs.declared.tokens.SectionRecord.{SectionRecord}
 use Rattle.parking_lot_core.specs.declared.tokens.Token.{Token}
 use Rattle.parking_lot.specs.Paths.{at_rwlock, rwlock_at, step, Walks}
-use Rattle.parking_lot.specs.RwLockFitting.{Answers, IsBeside, OwnsBeside, OwnsRight, TookWoken}
+use Rattle.parking_lot.specs.RwLockFitting.{Answers, IsBeside, IsSettled, OwnsBeside, OwnsRight, TookWoken}
 use Rattle.parking_lot.specs.Stages.{Stage}
 
 -- where a call begins
@@ -96,6 +103,63 @@ IsRwLockRight lot word owner right = IsRightOf lot.words right × (right.word �
 -- it is the same thread, and owns what it did, where it waited for no last readers of the lock
 abbrev pub StaysBeside : ℕ → Token → Token → Type 0
 StaysBeside l old new = (new.number ≡ old.number) × IsBeside l (view_of old).owns (view_of new).owns
+
+-- it waits for the last readers of no lock
+abbrev pub WaitsForNobody : List Ownership → Type 0
+WaitsForNobody owns = (l : ℕ) → IsSettled l owns
+
+-- it is the same thread, and owns what it did, where it waited for the last readers of no lock
+abbrev pub StaysSettled : Token → Token → Type 0
+StaysSettled old new = (new.number ≡ old.number)
+    × (WaitsForNobody (view_of old).owns → (view_of new).owns ≡ (view_of old).owns)
+
+pub StaysSettled-on : (first next last : Token) → StaysSettled first next → StaysSettled next last → StaysSettled first last
+StaysSettled-on first next last a b =
+    (b.0 ∙ a.0, λ settled. let same = a.1 settled in b.1 (subst WaitsForNobody (sym same) settled) ∙ same)
+
+-- nobody owns a lock so beside who owns it so
+abbrev pub Exclude : Owner → Owner → Type 0
+Exclude owners.Exclusive owners.Exclusive = Unit {0}
+Exclude owners.Exclusive owners.Shared = Unit {0}
+Exclude owners.Exclusive owners.Upgradable = Unit {0}
+Exclude owners.Upgradable owners.Upgradable = Unit {0}
+Exclude one other = ⊥
+
+-- whoever reads is counted, and may find the lock full of readers
+abbrev pub IsCounted : Access → Type 0
+IsCounted accesses.Exclusive = ⊥
+IsCounted access = Unit {0}
+
+-- so of a call, where its steps are built
+abbrev pub HasWalkedCall : ℕ → Admission → RwLockCall → Answer → Token → Token → Type 0
+HasWalkedCall l a (calls.Enter x how) answer old new = HasWalkedRwLock l a (purpose.Enter x how) answer old new
+HasWalkedCall l a (calls.Release x) answer old new = HasWalkedRwLock l a (purpose.Release x) answer old new
+HasWalkedCall l a (calls.Downgrade d) answer old new = HasWalkedRwLock l a (purpose.Downgrade d) answer old new
+HasWalkedCall l a (calls.Upgrade how) answer old new = HasWalkedRwLock l a (purpose.Upgrade how) answer old new
+HasWalkedCall l a fair answer old new = ⊥
+
+abbrev pub WakesByCall : ℕ → Admission → RwLockCall → Token → Token → Type 0
+WakesByCall l a (calls.Release x) old new = WakesBy l a (purpose.Release x) old new
+WakesByCall l a (calls.Downgrade d) old new = WakesBy l a (purpose.Downgrade d) old new
+WakesByCall l a call old new = ⊥
+
+-- somebody owns the lock, or waits for its last readers
+abbrev pub is_held : ℕ → Bool
+is_held word = has_writer word || not (count_in word == 0)
+
+-- somebody owns it alone
+abbrev pub is_held_alone : ℕ → Bool
+is_held_alone word = has_writer word && (count_in word == 0)
+
+-- the word was loaded once, and told so of the lock, or not
+abbrev pub SeesBy : (ℕ → Bool) → ℕ → Bool → Token → Token → Type 0
+SeesBy told l answer old new = (seen : ℕ)
+    × ((view_of new).steps ≡ (view_of old).steps ++ step (rwlock_at l) Load seen) × (told seen ≡ answer)
+
+-- what a call answers that turns the upgradable right into the exclusive one, by what it gives
+abbrev pub turn_answer : {A B : Type 0} → Patience → Result A B → Answer
+turn_answer how (Ok right) = entered how
+turn_answer how (Err right) = No
 
 -- what a call that enters answers, by what it gives
 abbrev pub entry_answer : {A E : Type 0} → Patience → Result (Option A) E → Answer

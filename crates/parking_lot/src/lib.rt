@@ -7,7 +7,10 @@ pub mod guards;
 pub mod raw_fair_mutex;
 pub mod raw_mutex;
 pub mod raw_rwlock;
+mod raw_rwlock_timed;
 mod rwlock_calls;
+pub mod rwlock_guards;
+pub mod rwlock_rights;
 mod taking;
 mod words;
 
@@ -24,6 +27,9 @@ pub use parking_lot_core::{
 };
 pub use raw_fair_mutex::RawFairMutex;
 pub use raw_mutex::RawMutex;
+pub use raw_rwlock::{RawRwLock, RawRwLockRecursive};
+pub use rwlock_guards::{RawExclusiveGuard, RawSharedGuard, RawUpgradableGuard};
+pub use rwlock_rights::LotRwLock;
 
 /// A mutex of a lot, with its value.
 pub type Mutex<T> = lock_api::Mutex<RawMutex, T>;
@@ -36,3 +42,35 @@ pub type FairMutex<T> = lock_api::Mutex<RawFairMutex, T>;
 
 /// The guard of a [`FairMutex`].
 pub type FairMutexGuard<'a, T> = lock_api::MutexGuard<'a, RawFairMutex, T>;
+
+/// A value of a lot that many threads may read, or one may write. A writer that waits keeps further readers out.
+pub type RwLock<T> = lock_api::RwLock<RawRwLock<false>, T>;
+
+/// The guard of who reads.
+pub type RwLockReadGuard<'a, T> = lock_api::RwLockReadGuard<'a, RawRwLock<false>, T>;
+
+/// The guard of who reads, and may write later.
+pub type RwLockUpgradableReadGuard<'a, T> = lock_api::RwLockUpgradableReadGuard<
+    'a,
+    RawRwLock<false>,
+    T,
+>;
+
+/// The guard of who writes.
+pub type RwLockWriteGuard<'a, T> = lock_api::RwLockWriteGuard<'a, RawRwLock<false>, T>;
+
+/// The same, of a value whose readers may read again beside a writer that waits for them.
+pub type RecursiveRwLock<T> = lock_api::RwLock<RawRwLockRecursive, T>;
+
+/// The guard of who reads.
+pub type RecursiveRwLockReadGuard<'a, T> = lock_api::RwLockReadGuard<'a, RawRwLockRecursive, T>;
+
+/// The guard of who reads, and may write later.
+pub type RecursiveRwLockUpgradableReadGuard<'a, T> = lock_api::RwLockUpgradableReadGuard<
+    'a,
+    RawRwLockRecursive,
+    T,
+>;
+
+/// The guard of who writes.
+pub type RecursiveRwLockWriteGuard<'a, T> = lock_api::RwLockWriteGuard<'a, RawRwLockRecursive, T>;

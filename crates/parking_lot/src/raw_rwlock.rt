@@ -1,155 +1,326 @@
 //! The reader-writer lock, without a value.
-ghost use Rattle.std.specs.Prelude.{◌≡◌, ◌⊎◌, ◌<◌, ◌≤◌, ◌-◌, ◌^◌, ◌∷◌, [], ℕ, true, IfNone, IfOk, IfSome, MatchResult};
+ghost use Rattle.std.specs.Prelude.{◌≡◌, ◌⊎◌, ◌≤◌, ◌+◌, ◌*◌, IfOk, MatchResult};
 ghost use Rattle.std.specs.Arc.{arc_value};
-ghost use Rattle.lot_base.specs.Clocks.{IsUp};
-ghost use Rattle.lot_rwlock.specs.declared.purposes.RwLockPurpose.TheVariants.{Enter, Release};
-ghost use Rattle.lot_calls.specs.declared.outcomes.Answer.TheVariants.{Ok as ok};
-ghost use Rattle.lot_rwlock.specs.RwLockSteps.{wanted};
-ghost use Rattle.lot_words.specs.Lots.{IsWordOf};
-ghost use Rattle.lot_words.specs.Plays.{left_over, piece, takes_in};
-ghost use Rattle.lot_words.specs.Rights.{owner_for};
-ghost use Rattle.lot_words.specs.Steps.{has};
-ghost use Rattle.lot_words.specs.Views.{owning};
-ghost use Rattle.lot_words.specs.declared.words.WordKind.TheVariants.{RwLock};
-ghost use Rattle.parking_lot_core.specs.Tokens.{IsTokenOf, IsSameThread, view_of, last_of};
-ghost use Rattle.parking_lot.specs.Paths.{rwlock_at};
-ghost use Rattle.parking_lot.specs.RwLockCalls.{HasWalkedRwLock, IsRwLockRight, StaysBeside, WakesBy, entry_answer};
-ghost use Rattle.parking_lot.specs.RwLockFitting.{MayGiveUp};
-ghost use Rattle.parking_lot.specs.Telling.{owns_of};
+ghost use Rattle.parking_lot_core.specs.Tokens.{IsTokenOf};
+ghost use Rattle.parking_lot.specs.RwLockCalls.{HasWalkedCall, SeesBy, StaysSettled, StaysSettled-on, WakesByCall, is_held, is_held_alone};
+ghost use Rattle.parking_lot.specs.RwLockGuards.{IsExclusiveOf, IsExclusiveOf-prop, IsSharedOf, IsSharedOf-prop, IsUpgradableOf, IsUpgradableOf-prop};
 
 use crate::driver::NO_LIMIT;
-use crate::rwlock_calls::call;
-use lot_calls::{Access, Answer, Patience};
-use lot_rwlock::{Admission, RwLockPurpose};
-use parking_lot_core::{Clock, Fault, ParkingLot, Right, Token, Want, Word, WordKind};
+use crate::rwlock_guards::{RawExclusiveGuard, RawSharedGuard, RawUpgradableGuard};
+use crate::rwlock_rights::LotRwLock;
+use lot_acts::bits::{count_in, has_writer};
+use lot_calls::{Access, Downgrade, Patience};
+use parking_lot_core::{Fault, Key, ParkingLot, Token, Want};
 use std::sync::{Arc, Wait};
 
-/// A reader-writer lock of a lot.
+// So many may share a lock for which nothing else is chosen.
+const MOST_READERS: u64 = 1152921504606846974;
+
+/// A reader-writer lock of a lot. Where it is recursive, who reads may read again beside a writer that waits for the last readers.
 #[derive(Drop)]
-pub struct RawRwLock {
-    lot: Arc<ParkingLot>,
-    word: Word,
-    admission: Admission,
-    ghost drawn: { IsWordOf (arc_value lot).words word × (word.kind ≡ RwLock) × (word.number < 9223372036854775808)
-        × (admission.limit < 2 ^ 60 - 1) },
+pub struct RawRwLock<const RECURSIVE: bool> {
+    pub(crate) lock: LotRwLock,
 }
 
-impl RawRwLock {
-    /// A lock that nobody has. So many may share it, and where it is recursive, they may read again beside a waiting writer.
-    ///
-    /// # Errors
-    ///
-    /// `LotFull`, where the lot has no word left, and `NoMemory`, where memory was refused.
-    pub fn with_limit(
+/// A lock whose readers may read again beside a writer that waits for them.
+pub type RawRwLockRecursive = RawRwLock<true>;
+
+impl<const RECURSIVE: bool> RawRwLock<RECURSIVE> {
+    ghost use Rattle.parking_lot.specs.RwLockUsers.{word_of};
+
+    /// The key of its main queue.
+    pub fn key(&self) -> Key
+        ensures { result ≡ 2 * (word_of self.now).number }
+    {
+        self.lock.key()
+    }
+
+    /// The key of the queue of the writer that waits for the last readers.
+    pub fn second_key(&self) -> Key
+        ensures { result ≡ 2 * (word_of self.now).number + 1 }
+    {
+        self.lock.second_key()
+    }
+}
+
+impl<const RECURSIVE: bool> lock_raw::RawRwLock for RawRwLock<RECURSIVE> {
+    ghost use Rattle.parking_lot.specs.RwLockUsers.{admission_of, lot_of as lot_at, word_of as word_at};
+
+    type Lot = ParkingLot;
+
+    type Token = Token;
+
+    type SharedGuard = RawSharedGuard;
+
+    type ExclusiveGuard = RawExclusiveGuard;
+
+    ghost lot_of = { lot_at };
+
+    ghost is_token_of = { λ lot token. IsTokenOf lot token };
+
+    ghost stays = { λ old new. StaysSettled old new };
+
+    ghost stays_on = { StaysSettled-on };
+
+    ghost is_shared_of = { λ lock guard. IsSharedOf (lot_at lock) (word_at lock) guard };
+
+    ghost shared_once = { λ lock guard. IsSharedOf-prop (lot_at lock) (word_at lock) guard };
+
+    ghost is_exclusive_of = { λ lock guard. IsExclusiveOf (lot_at lock) (word_at lock) guard };
+
+    ghost exclusive_once = { λ lock guard. IsExclusiveOf-prop (lot_at lock) (word_at lock) guard };
+
+    ghost walked = { λ lock call answer old new. HasWalkedCall (word_at lock).number (admission_of lock) call answer old new };
+
+    ghost woke = { λ lock call old new. WakesByCall (word_at lock).number (admission_of lock) call old new };
+
+    ghost looked = { λ lock held old new. SeesBy is_held (word_at lock).number held old new };
+
+    ghost looked_for_writer = { λ lock alone old new. SeesBy is_held_alone (word_at lock).number alone old new };
+
+    fn new(lot: &Arc<ParkingLot>, token: &mut Token) -> Result<RawRwLock<RECURSIVE>, Fault> {
+        <RawRwLock<RECURSIVE> as lock_raw::RawRwLock>::with_limit(lot, token, MOST_READERS)
+    }
+
+    fn with_limit(
         lot: &Arc<ParkingLot>,
         token: &mut Token,
-        recursive: bool,
         limit: u64,
-    ) -> Result<RawRwLock, Fault>
+    ) -> Result<RawRwLock<RECURSIVE>, Fault>
         requires token { IsTokenOf (arc_value lot.now) token.old }
         requires limit { limit ≤ 1152921504606846974 }
-        ensures token { IsTokenOf (arc_value lot.now) token.new × (token.new.number ≡ token.old.number)
-            × (owns_of token.new ≡ owns_of token.old) }
-        ensures made { MatchResult result
-            (λ lock. (arc_value lock.lot ≡ arc_value lot.now) × (lock.admission.recursive ≡ recursive) × (lock.admission.limit ≡ limit))
+        ensures token { IsTokenOf (arc_value lot.now) token.new × StaysSettled token.old token.new }
+        ensures made { MatchResult result (λ lock. lot_at lock ≡ arc_value lot.now)
             (λ fault. (fault ≡ Fault.NoMemory) ⊎ (fault ≡ Fault.LotFull)) }
+        ensures chosen { IfOk result (λ lock. ((admission_of lock).recursive ≡ RECURSIVE)
+            × ((admission_of lock).limit ≡ limit)) }
     {
-        let Ok(lot) = Arc::try_clone(lot) else {
-            return Err(Fault::NoMemory);
-        };
-        let word = lot.new_word(token, WordKind::RwLock)?;
-        let admission = Admission { recursive, limit };
-        Ok(RawRwLock {
-            lot,
-            word,
-            admission,
-        })
+        let lock = LotRwLock::with_limit(lot, token, RECURSIVE, limit)?;
+        Ok(RawRwLock { lock })
     }
 
-    fn split(&self, token: &mut Token, want: Want) -> Right
-        requires own { IsTokenOf (arc_value self.now.lot) token.old }
-        requires held { has (owning (rwlock_at self.now.word.number) (owner_for want)) (owns_of token.old) ≡ true }
-        ensures own { IsSameThread (arc_value self.now.lot) token.old token.new × (last_of token.new ≡ last_of token.old) }
-        ensures left { view_of token.new
-            ≡ left_over (owning (rwlock_at self.now.word.number) (owner_for want)) (view_of token.old) }
-        ensures right { IsRwLockRight (arc_value self.now.lot) self.now.word (owner_for want) result }
-    {
-        self.lot.split_right(token, self.word, want)
-    }
-
-    // Spends a right: the token owns it then.
-    fn join(&self, token: &mut Token, want: Want, right: Right)
-        requires own { IsTokenOf (arc_value self.now.lot) token.old }
-        requires right { IsRwLockRight (arc_value self.now.lot) self.now.word (owner_for want) right }
-        ensures own { IsSameThread (arc_value self.now.lot) token.old token.new × (last_of token.new ≡ last_of token.old) }
-        ensures joined { view_of token.new
-            ≡ takes_in (view_of token.old) (piece (owning (rwlock_at self.now.word.number) (owner_for want))) }
-    {
-        let _wanted = want;
-        self.lot.join_right(token, right);
-    }
-
-    /// Waits for a right: for ever, up to the limit, or not at all. None only where a try finds the lock blocked, or the time is up.
-    ///
-    /// # Errors
-    ///
-    /// `ReadersFull`, where as many share the lock as may.
-    pub fn enter<R: Wait, C: Clock>(
-        &self,
-        rt: &R,
-        token: &mut Token,
-        limit: Option<(&C, u64)>,
-        access: Access,
-        patience: Patience,
-    ) -> Result<Option<Right>, Fault>
-        requires { IsTokenOf (arc_value self.now.lot) token.old }
-        ensures token { IsTokenOf (arc_value self.now.lot) token.new × StaysBeside self.now.word.number token.old token.new }
-        ensures right { MatchResult result
-            (λ entered. IfSome entered (IsRwLockRight (arc_value self.now.lot) self.now.word (owner_for (wanted access))))
-            (λ fault. fault ≡ Fault.ReadersFull) }
-        ensures path { HasWalkedRwLock self.now.word.number self.now.admission (Enter access patience)
-            (entry_answer patience result) token.old token.new }
-        ensures late { IfOk result (λ entered. IfNone entered (MayGiveUp (IsUp C.tells limit.entry) patience)) }
-    {
-        let answer = call(
-            rt,
-            &self.lot,
-            token,
-            self.word,
-            self.admission,
-            limit,
-            RwLockPurpose::Enter { access, patience },
-        );
-        match answer {
-            Answer::Ok | Answer::Yes => Ok(Some(self.split(token, access_want(access)))),
-            Answer::No => Ok(None),
-            _ => Err(Fault::ReadersFull),
+    fn lock_shared<R: Wait>(&self, rt: &R, token: &mut Token) -> Result<RawSharedGuard, Fault> {
+        match self
+            .lock
+            .enter(rt, token, NO_LIMIT, Access::Shared, Patience::Patient)
+        {
+            Ok(Some(right)) => Ok(RawSharedGuard { right }),
+            Ok(None) => unreachable!(),
+            Err(fault) => Err(fault),
         }
     }
 
-    /// Gives a right up, and wakes whom that lets in.
-    pub fn release<R: Wait>(&self, rt: &R, token: &mut Token, access: Access, right: Right)
-        requires token { IsTokenOf (arc_value self.now.lot) token.old }
-        requires right { IsRwLockRight (arc_value self.now.lot) self.now.word (owner_for (wanted access)) right }
-        ensures token { IsTokenOf (arc_value self.now.lot) token.new × StaysBeside self.now.word.number token.old token.new }
-        ensures path { HasWalkedRwLock self.now.word.number self.now.admission (Release access) ok token.old token.new }
-        ensures record { WakesBy self.now.word.number self.now.admission (Release access) token.old token.new }
-    {
-        self.join(token, access_want(access), right);
-        call(
-            rt,
-            &self.lot,
-            token,
-            self.word,
-            self.admission,
-            NO_LIMIT,
-            RwLockPurpose::Release(access),
-        );
+    fn try_lock_shared<R: Wait>(
+        &self,
+        rt: &R,
+        token: &mut Token,
+    ) -> Result<Option<RawSharedGuard>, Fault> {
+        match self
+            .lock
+            .enter(rt, token, NO_LIMIT, Access::Shared, Patience::Try)
+        {
+            Ok(Some(right)) => Ok(Some(RawSharedGuard { right })),
+            Ok(None) => Ok(None),
+            Err(fault) => Err(fault),
+        }
+    }
+
+    fn unlock_shared<R: Wait>(&self, rt: &R, token: &mut Token, guard: RawSharedGuard) {
+        let RawSharedGuard { right } = guard;
+        self.lock.release(rt, token, Access::Shared, right);
+    }
+
+    fn lock_exclusive<R: Wait>(&self, rt: &R, token: &mut Token) -> RawExclusiveGuard {
+        match self
+            .lock
+            .enter(rt, token, NO_LIMIT, Access::Exclusive, Patience::Patient)
+        {
+            Ok(Some(right)) => RawExclusiveGuard { right },
+            Ok(None) | Err(_) => unreachable!(),
+        }
+    }
+
+    fn try_lock_exclusive(&self, token: &mut Token) -> Option<RawExclusiveGuard> {
+        let right = self.lock.try_enter_alone(token)?;
+        Some(RawExclusiveGuard { right })
+    }
+
+    fn unlock_exclusive<R: Wait>(&self, rt: &R, token: &mut Token, guard: RawExclusiveGuard) {
+        let RawExclusiveGuard { right } = guard;
+        self.lock.release(rt, token, Access::Exclusive, right);
+    }
+
+    fn is_locked(&self, token: &mut Token) -> bool {
+        let seen = self.lock.load(token);
+        has_writer(seen) || count_in(seen) != 0
+    }
+
+    fn is_locked_exclusive(&self, token: &mut Token) -> bool {
+        let seen = self.lock.load(token);
+        has_writer(seen) && count_in(seen) == 0
+    }
+
+    fn has_two_writers(
+        &self,
+        token: &mut Token,
+        one: RawExclusiveGuard,
+        other: RawExclusiveGuard,
+    ) -> ! {
+        let RawExclusiveGuard { right: one } = one;
+        let RawExclusiveGuard { right: other } = other;
+        self.lock
+            .has_both(token, Want::Exclusive, one, Want::Exclusive, other)
+    }
+
+    fn has_writer_and_reader(
+        &self,
+        token: &mut Token,
+        writer: RawExclusiveGuard,
+        reader: RawSharedGuard,
+    ) -> ! {
+        let RawExclusiveGuard { right: one } = writer;
+        let RawSharedGuard { right: other } = reader;
+        self.lock
+            .has_both(token, Want::Exclusive, one, Want::Shared, other)
     }
 }
 
-fn access_want(access: Access) -> Want
-    ensures { result ≡ wanted access }
-{
-    lot_rwlock::purposes::wanted(access)
+impl<const RECURSIVE: bool> lock_raw::RawRwLockDowngrade for RawRwLock<RECURSIVE> {
+    fn downgrade<R: Wait>(
+        &self,
+        rt: &R,
+        token: &mut Token,
+        guard: RawExclusiveGuard,
+    ) -> RawSharedGuard {
+        let RawExclusiveGuard { right } = guard;
+        RawSharedGuard {
+            right: self.lock.downgrade(rt, token, Downgrade::ToShared, right),
+        }
+    }
+}
+
+impl<const RECURSIVE: bool> lock_raw::RawRwLockUpgrade for RawRwLock<RECURSIVE> {
+    ghost use Rattle.parking_lot.specs.RwLockUsers.{lot_of as lot_at, word_of as word_at};
+
+    type UpgradableGuard = RawUpgradableGuard;
+
+    ghost is_upgradable_of = { λ lock guard. IsUpgradableOf (lot_at lock) (word_at lock) guard };
+
+    ghost upgradable_once = { λ lock guard. IsUpgradableOf-prop (lot_at lock) (word_at lock) guard };
+
+    fn lock_upgradable<R: Wait>(
+        &self,
+        rt: &R,
+        token: &mut Token,
+    ) -> Result<RawUpgradableGuard, Fault> {
+        match self
+            .lock
+            .enter(rt, token, NO_LIMIT, Access::Upgradable, Patience::Patient)
+        {
+            Ok(Some(right)) => Ok(RawUpgradableGuard { right }),
+            Ok(None) => unreachable!(),
+            Err(fault) => Err(fault),
+        }
+    }
+
+    fn try_lock_upgradable<R: Wait>(
+        &self,
+        rt: &R,
+        token: &mut Token,
+    ) -> Result<Option<RawUpgradableGuard>, Fault> {
+        match self
+            .lock
+            .enter(rt, token, NO_LIMIT, Access::Upgradable, Patience::Try)
+        {
+            Ok(Some(right)) => Ok(Some(RawUpgradableGuard { right })),
+            Ok(None) => Ok(None),
+            Err(fault) => Err(fault),
+        }
+    }
+
+    fn unlock_upgradable<R: Wait>(&self, rt: &R, token: &mut Token, guard: RawUpgradableGuard) {
+        let RawUpgradableGuard { right } = guard;
+        self.lock.release(rt, token, Access::Upgradable, right);
+    }
+
+    fn upgrade<R: Wait>(
+        &self,
+        rt: &R,
+        token: &mut Token,
+        guard: RawUpgradableGuard,
+    ) -> RawExclusiveGuard {
+        let RawUpgradableGuard { right } = guard;
+        match self
+            .lock
+            .upgrade(rt, token, NO_LIMIT, Patience::Patient, right)
+        {
+            Ok(right) => RawExclusiveGuard { right },
+            Err(_) => unreachable!(),
+        }
+    }
+
+    fn try_upgrade<R: Wait>(
+        &self,
+        rt: &R,
+        token: &mut Token,
+        guard: RawUpgradableGuard,
+    ) -> Result<RawExclusiveGuard, RawUpgradableGuard> {
+        let RawUpgradableGuard { right } = guard;
+        match self.lock.upgrade(rt, token, NO_LIMIT, Patience::Try, right) {
+            Ok(right) => Ok(RawExclusiveGuard { right }),
+            Err(right) => Err(RawUpgradableGuard { right }),
+        }
+    }
+
+    fn has_two_upgradables(
+        &self,
+        token: &mut Token,
+        one: RawUpgradableGuard,
+        other: RawUpgradableGuard,
+    ) -> ! {
+        let RawUpgradableGuard { right: one } = one;
+        let RawUpgradableGuard { right: other } = other;
+        self.lock
+            .has_both(token, Want::Upgradable, one, Want::Upgradable, other)
+    }
+
+    fn has_writer_and_upgradable(
+        &self,
+        token: &mut Token,
+        writer: RawExclusiveGuard,
+        reader: RawUpgradableGuard,
+    ) -> ! {
+        let RawExclusiveGuard { right: one } = writer;
+        let RawUpgradableGuard { right: other } = reader;
+        self.lock
+            .has_both(token, Want::Exclusive, one, Want::Upgradable, other)
+    }
+}
+
+impl<const RECURSIVE: bool> lock_raw::RawRwLockUpgradeDowngrade for RawRwLock<RECURSIVE> {
+    fn downgrade_upgradable<R: Wait>(
+        &self,
+        rt: &R,
+        token: &mut Token,
+        guard: RawUpgradableGuard,
+    ) -> RawSharedGuard {
+        let RawUpgradableGuard { right } = guard;
+        let downgrade = Downgrade::UpgradableToShared;
+        RawSharedGuard {
+            right: self.lock.downgrade(rt, token, downgrade, right),
+        }
+    }
+
+    fn downgrade_to_upgradable<R: Wait>(
+        &self,
+        rt: &R,
+        token: &mut Token,
+        guard: RawExclusiveGuard,
+    ) -> RawUpgradableGuard {
+        let RawExclusiveGuard { right } = guard;
+        let downgrade = Downgrade::ToUpgradable;
+        RawUpgradableGuard {
+            right: self.lock.downgrade(rt, token, downgrade, right),
+        }
+    }
 }

@@ -14,14 +14,15 @@ use Rattle.parking_lot.specs.Paths.{Walks, at_rwlock, rwlock_at}
 use Rattle.parking_lot.specs.RwLockCalls.{rwlock_begin}
 use Rattle.parking_lot.specs.Stages.{stage_of}
 use Rattle.parking_lot.proofs.RwLockCalling.{begins_entering, entered_right, found_full, gave_up_may}
+use Rattle.parking_lot.proofs.RwLockFull.{counted_only}
 use Rattle.parking_lot.proofs.RwLockNeeds.{has_right}
-use Rattle.parking_lot.proofs.raw_rwlock.RawRwLock.enter.Goals as goal
+use Rattle.parking_lot.proofs.rwlock_rights.LotRwLock.enter.Goals as goal
 
 pub split-requires-clause-held : goal.split-requires-clause-held
 split-requires-clause-held g c = let n = c.args.self.now.word.number in let owns = (view_of c.args.token.now).owns in
     let over = c.call-answer.ensures.over owns (begins_entering n c.args.access c.args.patience owns) in
     let right = (entered_right (IsUp g.C.Clock.tells c.args.limit) n owns c.args.self.now.admission c.args.access c.args.patience c.call-answer.result (stage_of c.call-answer.new.token None) over c.in-Ok.is).1 in
-    subst (λ (w : Want). has (owning (rwlock_at c.args.self.now.word.number) (owner_for w)) (view_of c.call-answer.new.token).owns ≡ true) (sym c.access_want.ensures) (has_right n (owner_for (wanted c.args.access)) owns (view_of c.call-answer.new.token).owns right)
+    subst (λ (w : Want). has (owning (rwlock_at c.args.self.now.word.number) (owner_for w)) (view_of c.call-answer.new.token).owns ≡ true) (sym c.wanted.ensures) (has_right n (owner_for (wanted c.args.access)) owns (view_of c.call-answer.new.token).owns right)
 
 pub returns-in-Ok-clause-path : goal.returns-in-Ok-clause-path
 returns-in-Ok-clause-path g c = let n = c.args.self.now.word.number in let owns = (view_of c.args.token.now).owns in
@@ -43,4 +44,5 @@ returns-in_default g c = let n = c.args.self.now.word.number in let owns = (view
       right = refl;
       path = subst (λ (answer : Answer). Walks (at_rwlock c.args.self.now.word.number) (rwlock_begin c.args.self.now.word.number c.args.self.now.admission (Enter c.args.access c.args.patience)) (view_of c.args.token.now).steps (view_of c.call-answer.new.token).steps answer) full.0 c.call-answer.ensures.path;
       late = tt;
+      full = counted_only c.args.access c.args.patience c.args.self.now.word.number c.args.self.now.admission (view_of c.args.token.now).steps (view_of c.call-answer.new.token).steps (subst (λ (answer : Answer). Walks (at_rwlock c.args.self.now.word.number) (rwlock_begin c.args.self.now.word.number c.args.self.now.admission (Enter c.args.access c.args.patience)) (view_of c.args.token.now).steps (view_of c.call-answer.new.token).steps answer) full.0 c.call-answer.ensures.path);
     }

@@ -1,0 +1,296 @@
+//! The reader-writer lock with its value.
+ghost use Rattle.std.specs.Prelude.{◌≡◌, ◌⊎◌, ◌≤◌, IfNone, IfOk, IfSome, MatchResult};
+ghost use Rattle.std.specs.Arc.{arc_value};
+ghost use Rattle.lock_raw.specs.Answers.{answer_by, counted_answer, reading_answer};
+ghost use Rattle.lock_api.specs.RwLockGuards.{lock_of};
+ghost use Rattle.lot_calls.specs.declared.calls.Access.TheVariants as access;
+ghost use Rattle.lot_calls.specs.declared.calls.Patience.TheVariants.{Patient, Try};
+ghost use Rattle.lot_calls.specs.declared.calls.RwLockCall.TheVariants.{Enter};
+ghost use Rattle.lot_calls.specs.declared.outcomes.Answer.TheVariants as answers;
+
+use crate::held::Held;
+use crate::rights::{Reading, Upgrading, Writing};
+use crate::rwlock_guards::{RwLockReadGuard, RwLockUpgradableReadGuard, RwLockWriteGuard};
+use lock_raw::{RawRwLock, RawRwLockUpgrade};
+use lot_base::Fault;
+use std::marker::Model;
+use std::sync;
+use std::sync::{Arc, Wait};
+
+/// A value that many threads may read, or one may write. The inner lock is opened only under the raw guard, so nobody ever waits
+/// for it.
+#[derive(Drop)]
+pub struct RwLock<R, T> {
+    raw: R,
+    inner: sync::RwLock<T>,
+}
+
+// In a clause a lock is its raw one: the value changes behind a shared reference, so none tells it.
+impl<R, T> Model for RwLock<R, T> {
+    ghost Value = { R };
+
+    ghost view = { λ lock. lock.raw };
+}
+
+impl<R: RawRwLock, T> RwLock<R, T> {
+    /// A lock that nobody has, with its value.
+    ///
+    /// # Errors
+    ///
+    /// `LotFull`, where the lot has no word left, and `NoMemory`, where memory was refused. The value is given back.
+    #[inline]
+    pub fn new(
+        lot: &Arc<R::Lot>,
+        token: &mut R::Token,
+        value: T,
+    ) -> Result<RwLock<R, T>, (Fault, T)>
+        requires { R.is_token_of (arc_value lot.now) token.old }
+        ensures token { R.is_token_of (arc_value lot.now) token.new × R.stays token.old token.new }
+        ensures made { MatchResult result (λ lock. R.lot_of lock ≡ arc_value lot.now) (λ refused. (refused.1 ≡ value) × ((refused.0 ≡ Fault.NoMemory) ⊎ (refused.0 ≡ Fault.LotFull))) }
+    {
+        match R::new(lot, token) {
+            Ok(raw) => Ok(RwLock {
+                raw,
+                inner: sync::RwLock::new(value),
+            }),
+            Err(fault) => Err((fault, value)),
+        }
+    }
+
+    /// A lock that nobody has and so many may share, with its value.
+    ///
+    /// # Errors
+    ///
+    /// `LotFull`, where the lot has no word left, and `NoMemory`, where memory was refused. The value is given back.
+    #[inline]
+    pub fn with_limit(
+        lot: &Arc<R::Lot>,
+        token: &mut R::Token,
+        value: T,
+        limit: u64,
+    ) -> Result<RwLock<R, T>, (Fault, T)>
+        requires token { R.is_token_of (arc_value lot.now) token.old }
+        requires limit { limit ≤ 1152921504606846974 }
+        ensures token { R.is_token_of (arc_value lot.now) token.new × R.stays token.old token.new }
+        ensures made { MatchResult result (λ lock. R.lot_of lock ≡ arc_value lot.now) (λ refused. (refused.1 ≡ value) × ((refused.0 ≡ Fault.NoMemory) ⊎ (refused.0 ≡ Fault.LotFull))) }
+    {
+        match R::with_limit(lot, token, limit) {
+            Ok(raw) => Ok(RwLock {
+                raw,
+                inner: sync::RwLock::new(value),
+            }),
+            Err(fault) => Err((fault, value)),
+        }
+    }
+
+    // The guard of who has the raw one.
+    #[inline]
+    pub(crate) fn open_shared<W: Wait>(
+        &self,
+        rt: &W,
+        raw: R::SharedGuard,
+    ) -> RwLockReadGuard<'_, R, T>
+        requires { R.is_shared_of self.now raw }
+        ensures { lock_of result ≡ self.now }
+    {
+        Held {
+            right: Reading::new(self, raw),
+            value: self.inner.read(rt),
+        }
+    }
+
+    #[inline]
+    pub(crate) fn open_exclusive<W: Wait>(
+        &self,
+        rt: &W,
+        raw: R::ExclusiveGuard,
+    ) -> RwLockWriteGuard<'_, R, T>
+        requires { R.is_exclusive_of self.now raw }
+        ensures { lock_of result ≡ self.now }
+    {
+        Held {
+            right: Writing::new(self, raw),
+            value: self.inner.write(rt),
+        }
+    }
+
+    /// Waits until no writer keeps readers out, and comes in to read.
+    ///
+    /// # Errors
+    ///
+    /// `ReadersFull`, where as many share the lock as may.
+    #[inline]
+    pub fn read<W: Wait>(
+        &self,
+        rt: &W,
+        token: &mut R::Token,
+    ) -> Result<RwLockReadGuard<'_, R, T>, Fault>
+        requires { R.is_token_of (R.lot_of self.now) token.old }
+        ensures token { R.is_token_of (R.lot_of self.now) token.new × R.stays token.old token.new }
+        ensures guard { MatchResult result (λ guard. lock_of guard ≡ self.now) (λ fault. fault ≡ Fault.ReadersFull) }
+        ensures path { R.walked self.now (Enter access.Shared Patient) (reading_answer result) token.old token.new }
+    {
+        match self.raw.lock_shared(rt, token) {
+            Ok(raw) => Ok(self.open_shared(rt, raw)),
+            Err(fault) => Err(fault),
+        }
+    }
+
+    /// Comes in to read where no writer keeps readers out.
+    ///
+    /// # Errors
+    ///
+    /// `ReadersFull`, where as many share the lock as may.
+    #[inline]
+    pub fn try_read<W: Wait>(
+        &self,
+        rt: &W,
+        token: &mut R::Token,
+    ) -> Result<Option<RwLockReadGuard<'_, R, T>>, Fault>
+        requires { R.is_token_of (R.lot_of self.now) token.old }
+        ensures token { R.is_token_of (R.lot_of self.now) token.new × R.stays token.old token.new }
+        ensures guard { MatchResult result (λ entered. IfSome entered (λ guard. lock_of guard ≡ self.now)) (λ fault. fault ≡ Fault.ReadersFull) }
+        ensures path { R.walked self.now (Enter access.Shared Try) (counted_answer result) token.old token.new }
+    {
+        match self.raw.try_lock_shared(rt, token) {
+            Ok(Some(raw)) => Ok(Some(self.open_shared(rt, raw))),
+            Ok(None) => Ok(None),
+            Err(fault) => Err(fault),
+        }
+    }
+
+    /// Waits until nobody has the lock, and takes it.
+    #[inline]
+    pub fn write<W: Wait>(&self, rt: &W, token: &mut R::Token) -> RwLockWriteGuard<'_, R, T>
+        requires { R.is_token_of (R.lot_of self.now) token.old }
+        ensures token { R.is_token_of (R.lot_of self.now) token.new × R.stays token.old token.new }
+        ensures guard { lock_of result ≡ self.now }
+        ensures path { R.walked self.now (Enter access.Exclusive Patient) answers.Ok token.old token.new }
+    {
+        let raw = self.raw.lock_exclusive(rt, token);
+        self.open_exclusive(rt, raw)
+    }
+
+    /// Takes the lock where nobody has it, and nobody waits.
+    #[inline]
+    pub fn try_write<W: Wait>(
+        &self,
+        rt: &W,
+        token: &mut R::Token,
+    ) -> Option<RwLockWriteGuard<'_, R, T>>
+        requires { R.is_token_of (R.lot_of self.now) token.old }
+        ensures token { R.is_token_of (R.lot_of self.now) token.new × R.stays token.old token.new }
+        ensures guard { IfSome result (λ guard. lock_of guard ≡ self.now) }
+        ensures path { R.walked self.now (Enter access.Exclusive Try) (answer_by result) token.old token.new }
+    {
+        let raw = self.raw.try_lock_exclusive(token)?;
+        Some(self.open_exclusive(rt, raw))
+    }
+
+    /// Whether somebody has the lock, or a writer waits for its last readers.
+    #[inline]
+    pub fn is_locked(&self, token: &mut R::Token) -> bool
+        requires { R.is_token_of (R.lot_of self.now) token.old }
+        ensures token { R.is_token_of (R.lot_of self.now) token.new × R.stays token.old token.new }
+        ensures seen { R.looked self.now result token.old token.new }
+    {
+        self.raw.is_locked(token)
+    }
+
+    /// Whether somebody has the lock alone.
+    #[inline]
+    pub fn is_locked_exclusive(&self, token: &mut R::Token) -> bool
+        requires { R.is_token_of (R.lot_of self.now) token.old }
+        ensures token { R.is_token_of (R.lot_of self.now) token.new × R.stays token.old token.new }
+        ensures seen { R.looked_for_writer self.now result token.old token.new }
+    {
+        self.raw.is_locked_exclusive(token)
+    }
+}
+
+impl<R: RawRwLockUpgrade, T> RwLock<R, T> {
+    #[inline]
+    pub(crate) fn open_upgradable<W: Wait>(
+        &self,
+        rt: &W,
+        raw: R::UpgradableGuard,
+    ) -> RwLockUpgradableReadGuard<'_, R, T>
+        requires { R.is_upgradable_of self.now raw }
+        ensures { lock_of result ≡ self.now }
+    {
+        Held {
+            right: Upgrading::new(self, raw),
+            value: self.inner.read(rt),
+        }
+    }
+
+    /// Waits until nobody has the lock alone or with the upgradable right, and comes in to read with that right.
+    ///
+    /// # Errors
+    ///
+    /// `ReadersFull`, where as many share the lock as may.
+    #[inline]
+    pub fn upgradable_read<W: Wait>(
+        &self,
+        rt: &W,
+        token: &mut R::Token,
+    ) -> Result<RwLockUpgradableReadGuard<'_, R, T>, Fault>
+        requires { R.is_token_of (R.lot_of self.now) token.old }
+        ensures token { R.is_token_of (R.lot_of self.now) token.new × R.stays token.old token.new }
+        ensures guard { MatchResult result (λ guard. lock_of guard ≡ self.now) (λ fault. fault ≡ Fault.ReadersFull) }
+        ensures path { R.walked self.now (Enter access.Upgradable Patient) (reading_answer result) token.old token.new }
+    {
+        match self.raw.lock_upgradable(rt, token) {
+            Ok(raw) => Ok(self.open_upgradable(rt, raw)),
+            Err(fault) => Err(fault),
+        }
+    }
+
+    /// Comes in so where nobody has the lock alone or with the upgradable right.
+    ///
+    /// # Errors
+    ///
+    /// `ReadersFull`, where as many share the lock as may.
+    #[inline]
+    pub fn try_upgradable_read<W: Wait>(
+        &self,
+        rt: &W,
+        token: &mut R::Token,
+    ) -> Result<Option<RwLockUpgradableReadGuard<'_, R, T>>, Fault>
+        requires { R.is_token_of (R.lot_of self.now) token.old }
+        ensures token { R.is_token_of (R.lot_of self.now) token.new × R.stays token.old token.new }
+        ensures guard { MatchResult result (λ entered. IfSome entered (λ guard. lock_of guard ≡ self.now)) (λ fault. fault ≡ Fault.ReadersFull) }
+        ensures path { R.walked self.now (Enter access.Upgradable Try) (counted_answer result) token.old token.new }
+    {
+        match self.raw.try_lock_upgradable(rt, token) {
+            Ok(Some(raw)) => Ok(Some(self.open_upgradable(rt, raw))),
+            Ok(None) => Ok(None),
+            Err(fault) => Err(fault),
+        }
+    }
+}
+
+impl<R, T> RwLock<R, T> {
+    /// The raw lock.
+    #[inline]
+    pub fn raw(&self) -> &R
+        ensures { result.now ≡ self.now }
+    {
+        &self.raw
+    }
+
+    /// The value, of a lock that nobody else can use meanwhile. It takes no step.
+    #[inline]
+    pub fn get_mut(&mut self) -> &mut T {
+        self.inner.get_mut()
+    }
+}
+
+impl<R: Drop, T> RwLock<R, T> {
+    /// The value of a lock that nobody has. It takes no step.
+    #[inline]
+    pub fn into_inner(self) -> T {
+        let RwLock { raw: _, inner } = self;
+        inner.into_inner()
+    }
+}

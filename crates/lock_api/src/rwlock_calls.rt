@@ -1,0 +1,235 @@
+//! Calls of a reader-writer lock with a value that give up in time, and calls that run a closure on the value.
+ghost use Rattle.std.specs.Prelude.{◌≡◌, IfNone, IfOk, IfSome, MatchResult};
+ghost use Rattle.std.specs.Duration.{as_nanos};
+ghost use Rattle.std.specs.Fn.{FnOnceReturnsAt, FnOnceReturnsAtMut};
+ghost use Rattle.lot_base.specs.Clocks.{HasElapsed, HasPassed};
+ghost use Rattle.lock_raw.specs.Answers.{answer_by, counted_answer};
+ghost use Rattle.lock_api.specs.RwLockGuards.{lock_of};
+ghost use Rattle.lot_calls.specs.declared.calls.Access.TheVariants as access;
+ghost use Rattle.lot_calls.specs.declared.calls.Patience.TheVariants.{Timed};
+ghost use Rattle.lot_calls.specs.declared.calls.RwLockCall.TheVariants.{Enter};
+
+use crate::mutex::run_on;
+use crate::rwlock::RwLock;
+use crate::rwlock_guards::{RwLockReadGuard, RwLockUpgradableReadGuard, RwLockWriteGuard};
+use lock_raw::{RawRwLock, RawRwLockTimed, RawRwLockUpgradeTimed};
+use lot_base::{Clock, Fault};
+use std::sync::Wait;
+use std::time::Duration;
+
+fn look_at<T, U, F: FnOnce(&T) -> U>(value: &T, f: F) -> U
+    requires { F.IsAlwaysCallable f }
+    ensures { FnOnceReturnsAt F.FnOnce f value.now result }
+{
+    f(value)
+}
+
+impl<R: RawRwLock, T> RwLock<R, T> {
+    /// Comes in to read, runs a closure on the value, and goes: what the closure promises of the value that it found.
+    ///
+    /// # Errors
+    ///
+    /// `ReadersFull`, where as many share the lock as may. The closure was not run.
+    pub fn with_read<W: Wait, U, F: FnOnce(&T) -> U + Drop>(
+        &self,
+        rt: &W,
+        token: &mut R::Token,
+        f: F,
+    ) -> Result<U, Fault>
+        requires token { R.is_token_of (R.lot_of self.now) token.old }
+        requires callable { F.IsAlwaysCallable f }
+        ensures token { R.is_token_of (R.lot_of self.now) token.new × R.stays token.old token.new }
+        ensures ran { MatchResult result (λ answer. (found : T) × FnOnceReturnsAt F.FnOnce f found answer) (λ fault. fault ≡ Fault.ReadersFull) }
+    {
+        match self.read(rt, token) {
+            Ok(guard) => {
+                let answer = look_at(&*guard, f);
+                guard.unlock(rt, token);
+                Ok(answer)
+            }
+            Err(fault) => Err(fault),
+        }
+    }
+
+    /// Takes the lock, runs a closure on the value, and gives the lock up: what the closure promises of the value that it found.
+    pub fn with_write<W: Wait, U, F: FnOnce(&mut T) -> U>(
+        &self,
+        rt: &W,
+        token: &mut R::Token,
+        f: F,
+    ) -> U
+        requires token { R.is_token_of (R.lot_of self.now) token.old }
+        requires callable { F.IsAlwaysCallable f }
+        ensures token { R.is_token_of (R.lot_of self.now) token.new × R.stays token.old token.new }
+        ensures ran { (found : T) × (left : T) × FnOnceReturnsAtMut F.FnOnce f found result left }
+    {
+        let mut guard = self.write(rt, token);
+        let answer = run_on(&mut *guard, f);
+        guard.unlock(rt, token);
+        answer
+    }
+}
+
+impl<R: RawRwLockTimed, T> RwLock<R, T> {
+    /// Waits until no writer keeps readers out, and comes in to read. None only where so much time, in nanoseconds of the clock,
+    /// had passed.
+    ///
+    /// A time that ends past all that a `u64` tells is no limit.
+    ///
+    /// # Errors
+    ///
+    /// `ReadersFull`, where as many share the lock as may.
+    #[inline]
+    pub fn try_read_for<W: Wait, C: Clock>(
+        &self,
+        rt: &W,
+        token: &mut R::Token,
+        clock: &C,
+        timeout: Duration,
+    ) -> Result<Option<RwLockReadGuard<'_, R, T>>, Fault>
+        requires { R.is_token_of (R.lot_of self.now) token.old }
+        ensures token { R.is_token_of (R.lot_of self.now) token.new × R.stays token.old token.new }
+        ensures guard { MatchResult result (λ entered. IfSome entered (λ guard. lock_of guard ≡ self.now)) (λ fault. fault ≡ Fault.ReadersFull) }
+        ensures path { R.walked self.now (Enter access.Shared Timed) (counted_answer result) token.old token.new }
+        ensures late { IfOk result (λ entered. IfNone entered (HasElapsed (C.tells clock.now) (as_nanos timeout))) }
+    {
+        match self.raw().try_lock_shared_for(rt, token, clock, timeout) {
+            Ok(Some(raw)) => Ok(Some(self.open_shared(rt, raw))),
+            Ok(None) => Ok(None),
+            Err(fault) => Err(fault),
+        }
+    }
+
+    /// The same, up to a deadline. None only where the clock had come to it.
+    ///
+    /// # Errors
+    ///
+    /// `ReadersFull`, where as many share the lock as may.
+    #[inline]
+    pub fn try_read_until<W: Wait, C: Clock>(
+        &self,
+        rt: &W,
+        token: &mut R::Token,
+        clock: &C,
+        deadline: u64,
+    ) -> Result<Option<RwLockReadGuard<'_, R, T>>, Fault>
+        requires { R.is_token_of (R.lot_of self.now) token.old }
+        ensures token { R.is_token_of (R.lot_of self.now) token.new × R.stays token.old token.new }
+        ensures guard { MatchResult result (λ entered. IfSome entered (λ guard. lock_of guard ≡ self.now)) (λ fault. fault ≡ Fault.ReadersFull) }
+        ensures path { R.walked self.now (Enter access.Shared Timed) (counted_answer result) token.old token.new }
+        ensures late { IfOk result (λ entered. IfNone entered (HasPassed (C.tells clock.now) deadline)) }
+    {
+        match self.raw().try_lock_shared_until(rt, token, clock, deadline) {
+            Ok(Some(raw)) => Ok(Some(self.open_shared(rt, raw))),
+            Ok(None) => Ok(None),
+            Err(fault) => Err(fault),
+        }
+    }
+
+    /// Waits until nobody has the lock, and takes it. None only where so much time, in nanoseconds of the clock, had passed.
+    ///
+    /// A time that ends past all that a `u64` tells is no limit.
+    #[inline]
+    pub fn try_write_for<W: Wait, C: Clock>(
+        &self,
+        rt: &W,
+        token: &mut R::Token,
+        clock: &C,
+        timeout: Duration,
+    ) -> Option<RwLockWriteGuard<'_, R, T>>
+        requires { R.is_token_of (R.lot_of self.now) token.old }
+        ensures token { R.is_token_of (R.lot_of self.now) token.new × R.stays token.old token.new }
+        ensures guard { IfSome result (λ guard. lock_of guard ≡ self.now) }
+        ensures path { R.walked self.now (Enter access.Exclusive Timed) (answer_by result) token.old token.new }
+        ensures late { IfNone result (HasElapsed (C.tells clock.now) (as_nanos timeout)) }
+    {
+        let raw = self
+            .raw()
+            .try_lock_exclusive_for(rt, token, clock, timeout)?;
+        Some(self.open_exclusive(rt, raw))
+    }
+
+    /// The same, up to a deadline. None only where the clock had come to it.
+    #[inline]
+    pub fn try_write_until<W: Wait, C: Clock>(
+        &self,
+        rt: &W,
+        token: &mut R::Token,
+        clock: &C,
+        deadline: u64,
+    ) -> Option<RwLockWriteGuard<'_, R, T>>
+        requires { R.is_token_of (R.lot_of self.now) token.old }
+        ensures token { R.is_token_of (R.lot_of self.now) token.new × R.stays token.old token.new }
+        ensures guard { IfSome result (λ guard. lock_of guard ≡ self.now) }
+        ensures path { R.walked self.now (Enter access.Exclusive Timed) (answer_by result) token.old token.new }
+        ensures late { IfNone result (HasPassed (C.tells clock.now) deadline) }
+    {
+        let raw = self
+            .raw()
+            .try_lock_exclusive_until(rt, token, clock, deadline)?;
+        Some(self.open_exclusive(rt, raw))
+    }
+}
+
+impl<R: RawRwLockUpgradeTimed, T> RwLock<R, T> {
+    /// Waits until nobody has the lock alone or with the upgradable right, and comes in to read with that right. None only where so
+    /// much time, in nanoseconds of the clock, had passed.
+    ///
+    /// A time that ends past all that a `u64` tells is no limit.
+    ///
+    /// # Errors
+    ///
+    /// `ReadersFull`, where as many share the lock as may.
+    #[inline]
+    pub fn try_upgradable_read_for<W: Wait, C: Clock>(
+        &self,
+        rt: &W,
+        token: &mut R::Token,
+        clock: &C,
+        timeout: Duration,
+    ) -> Result<Option<RwLockUpgradableReadGuard<'_, R, T>>, Fault>
+        requires { R.is_token_of (R.lot_of self.now) token.old }
+        ensures token { R.is_token_of (R.lot_of self.now) token.new × R.stays token.old token.new }
+        ensures guard { MatchResult result (λ entered. IfSome entered (λ guard. lock_of guard ≡ self.now)) (λ fault. fault ≡ Fault.ReadersFull) }
+        ensures path { R.walked self.now (Enter access.Upgradable Timed) (counted_answer result) token.old token.new }
+        ensures late { IfOk result (λ entered. IfNone entered (HasElapsed (C.tells clock.now) (as_nanos timeout))) }
+    {
+        match self
+            .raw()
+            .try_lock_upgradable_for(rt, token, clock, timeout)
+        {
+            Ok(Some(raw)) => Ok(Some(self.open_upgradable(rt, raw))),
+            Ok(None) => Ok(None),
+            Err(fault) => Err(fault),
+        }
+    }
+
+    /// The same, up to a deadline. None only where the clock had come to it.
+    ///
+    /// # Errors
+    ///
+    /// `ReadersFull`, where as many share the lock as may.
+    #[inline]
+    pub fn try_upgradable_read_until<W: Wait, C: Clock>(
+        &self,
+        rt: &W,
+        token: &mut R::Token,
+        clock: &C,
+        deadline: u64,
+    ) -> Result<Option<RwLockUpgradableReadGuard<'_, R, T>>, Fault>
+        requires { R.is_token_of (R.lot_of self.now) token.old }
+        ensures token { R.is_token_of (R.lot_of self.now) token.new × R.stays token.old token.new }
+        ensures guard { MatchResult result (λ entered. IfSome entered (λ guard. lock_of guard ≡ self.now)) (λ fault. fault ≡ Fault.ReadersFull) }
+        ensures path { R.walked self.now (Enter access.Upgradable Timed) (counted_answer result) token.old token.new }
+        ensures late { IfOk result (λ entered. IfNone entered (HasPassed (C.tells clock.now) deadline)) }
+    {
+        match self
+            .raw()
+            .try_lock_upgradable_until(rt, token, clock, deadline)
+        {
+            Ok(Some(raw)) => Ok(Some(self.open_upgradable(rt, raw))),
+            Ok(None) => Ok(None),
+            Err(fault) => Err(fault),
+        }
+    }
+}

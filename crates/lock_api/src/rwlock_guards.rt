@@ -1,0 +1,271 @@
+//! Guards of reader-writer locks with a value. Each has the raw guard of its lock; it can't be dropped, and is spent by what gives
+//! its right up or turns it into another.
+ghost use Rattle.std.specs.Prelude.{◌≡◌, IfErr, MatchResult};
+ghost use Rattle.std.specs.Duration.{as_nanos};
+ghost use Rattle.lot_base.specs.Clocks.{HasElapsed, HasPassed};
+ghost use Rattle.lock_raw.specs.Answers.{upgrade_answer};
+ghost use Rattle.lock_api.specs.RwLockGuards.{lock_of};
+ghost use Rattle.lot_calls.specs.declared.calls.Access.TheVariants as access;
+ghost use Rattle.lot_calls.specs.declared.calls.Downgrade.TheVariants as downgrades;
+ghost use Rattle.lot_calls.specs.declared.calls.Patience.TheVariants.{Patient, Timed, Try};
+ghost use Rattle.lot_calls.specs.declared.calls.RwLockCall.TheVariants.{Release, Downgrade, Upgrade};
+ghost use Rattle.lot_calls.specs.declared.outcomes.Answer.TheVariants as answers;
+
+use crate::held::Held;
+use crate::rights::{Reading, Upgrading, Writing};
+use crate::rwlock::RwLock;
+use lock_raw::{
+    RawRwLock, RawRwLockDowngrade, RawRwLockUpgrade, RawRwLockUpgradeDowngrade,
+    RawRwLockUpgradeTimed,
+};
+use lot_base::Clock;
+use std::sync;
+use std::sync::Wait;
+use std::time::Duration;
+
+/// The value may be read, beside others that read.
+pub type RwLockReadGuard<'a, R, T> = Held<Reading<'a, R, T>, sync::RwLockReadGuard<'a, T>>;
+
+/// The value may be read, and written later.
+pub type RwLockUpgradableReadGuard<'a, R, T> = Held<
+    Upgrading<'a, R, T>,
+    sync::RwLockReadGuard<'a, T>,
+>;
+
+/// The value may be read and written.
+pub type RwLockWriteGuard<'a, R, T> = Held<Writing<'a, R, T>, sync::RwLockWriteGuard<'a, T>>;
+
+impl<'a, R: RawRwLock, T> Held<Reading<'a, R, T>, sync::RwLockReadGuard<'a, T>> {
+    // Closes the inner lock, and only then gives the raw guard.
+    #[inline]
+    fn close_shared(self) -> (&'a RwLock<R, T>, R::SharedGuard)
+        ensures { (result.0.now ≡ lock_of self.entry) × R.is_shared_of (lock_of self.entry) result.1 }
+    {
+        let Held { right, value } = self;
+        drop(value);
+        right.parts()
+    }
+
+    /// Gives the right to read up. The last reader wakes the writer that waits for it.
+    #[inline]
+    pub fn unlock<W: Wait>(self, rt: &W, token: &mut R::Token)
+        requires { R.is_token_of (R.lot_of (lock_of self)) token.old }
+        ensures token { R.is_token_of (R.lot_of (lock_of self.entry)) token.new × R.stays token.old token.new }
+        ensures path { R.walked (lock_of self.entry) (Release access.Shared) answers.Ok token.old token.new }
+        ensures record { R.woke (lock_of self.entry) (Release access.Shared) token.old token.new }
+    {
+        let (lock, raw) = self.close_shared();
+        lock.raw().unlock_shared(rt, token, raw);
+    }
+}
+
+impl<'a, R: RawRwLockUpgrade, T> Held<Upgrading<'a, R, T>, sync::RwLockReadGuard<'a, T>> {
+    #[inline]
+    fn close_upgradable(self) -> (&'a RwLock<R, T>, R::UpgradableGuard)
+        ensures { (result.0.now ≡ lock_of self.entry) × R.is_upgradable_of (lock_of self.entry) result.1 }
+    {
+        let Held { right, value } = self;
+        drop(value);
+        right.parts()
+    }
+
+    /// Gives the right up, and wakes whom that lets in.
+    #[inline]
+    pub fn unlock<W: Wait>(self, rt: &W, token: &mut R::Token)
+        requires { R.is_token_of (R.lot_of (lock_of self)) token.old }
+        ensures token { R.is_token_of (R.lot_of (lock_of self.entry)) token.new × R.stays token.old token.new }
+        ensures path { R.walked (lock_of self.entry) (Release access.Upgradable) answers.Ok token.old token.new }
+        ensures record { R.woke (lock_of self.entry) (Release access.Upgradable) token.old token.new }
+    {
+        let (lock, raw) = self.close_upgradable();
+        lock.raw().unlock_upgradable(rt, token, raw);
+    }
+
+    /// Turns the right into that of who has the lock alone: further readers are kept out, and the others are waited for.
+    #[inline]
+    pub fn upgrade<W: Wait>(self, rt: &W, token: &mut R::Token) -> RwLockWriteGuard<'a, R, T>
+        requires { R.is_token_of (R.lot_of (lock_of self)) token.old }
+        ensures token { R.is_token_of (R.lot_of (lock_of self.entry)) token.new × R.stays token.old token.new }
+        ensures guard { lock_of result ≡ lock_of self.entry }
+        ensures path { R.walked (lock_of self.entry) (Upgrade Patient) answers.Ok token.old token.new }
+    {
+        let (lock, raw) = self.close_upgradable();
+        let raw = lock.raw().upgrade(rt, token, raw);
+        lock.open_exclusive(rt, raw)
+    }
+
+    /// The same where nobody else reads.
+    ///
+    /// # Errors
+    ///
+    /// The guard, where somebody else reads.
+    #[inline]
+    pub fn try_upgrade<W: Wait>(
+        self,
+        rt: &W,
+        token: &mut R::Token,
+    ) -> Result<RwLockWriteGuard<'a, R, T>, RwLockUpgradableReadGuard<'a, R, T>>
+        requires { R.is_token_of (R.lot_of (lock_of self)) token.old }
+        ensures token { R.is_token_of (R.lot_of (lock_of self.entry)) token.new × R.stays token.old token.new }
+        ensures guard { MatchResult result (λ guard. lock_of guard ≡ lock_of self.entry) (λ guard. lock_of guard ≡ lock_of self.entry) }
+        ensures path { R.walked (lock_of self.entry) (Upgrade Try) (upgrade_answer result) token.old token.new }
+    {
+        let (lock, raw) = self.close_upgradable();
+        match lock.raw().try_upgrade(rt, token, raw) {
+            Ok(raw) => Ok(lock.open_exclusive(rt, raw)),
+            Err(raw) => Err(lock.open_upgradable(rt, raw)),
+        }
+    }
+}
+
+impl<'a, R: RawRwLockUpgradeTimed, T> Held<Upgrading<'a, R, T>, sync::RwLockReadGuard<'a, T>> {
+    /// Upgrades, and gives up once so much time, in nanoseconds of the clock, had passed, and not before.
+    ///
+    /// # Errors
+    ///
+    /// The guard, where the time was up.
+    #[inline]
+    pub fn try_upgrade_for<W: Wait, C: Clock>(
+        self,
+        rt: &W,
+        token: &mut R::Token,
+        clock: &C,
+        timeout: Duration,
+    ) -> Result<RwLockWriteGuard<'a, R, T>, RwLockUpgradableReadGuard<'a, R, T>>
+        requires { R.is_token_of (R.lot_of (lock_of self)) token.old }
+        ensures token { R.is_token_of (R.lot_of (lock_of self.entry)) token.new × R.stays token.old token.new }
+        ensures guard { MatchResult result (λ guard. lock_of guard ≡ lock_of self.entry) (λ guard. lock_of guard ≡ lock_of self.entry) }
+        ensures path { R.walked (lock_of self.entry) (Upgrade Timed) (upgrade_answer result) token.old token.new }
+        ensures late { IfErr result (λ _. HasElapsed (C.tells clock.now) (as_nanos timeout)) }
+    {
+        let (lock, raw) = self.close_upgradable();
+        match lock.raw().try_upgrade_for(rt, token, raw, clock, timeout) {
+            Ok(raw) => Ok(lock.open_exclusive(rt, raw)),
+            Err(raw) => Err(lock.open_upgradable(rt, raw)),
+        }
+    }
+
+    /// The same, up to a deadline.
+    ///
+    /// # Errors
+    ///
+    /// The guard, where the clock had come to the deadline.
+    #[inline]
+    pub fn try_upgrade_until<W: Wait, C: Clock>(
+        self,
+        rt: &W,
+        token: &mut R::Token,
+        clock: &C,
+        deadline: u64,
+    ) -> Result<RwLockWriteGuard<'a, R, T>, RwLockUpgradableReadGuard<'a, R, T>>
+        requires { R.is_token_of (R.lot_of (lock_of self)) token.old }
+        ensures token { R.is_token_of (R.lot_of (lock_of self.entry)) token.new × R.stays token.old token.new }
+        ensures guard { MatchResult result (λ guard. lock_of guard ≡ lock_of self.entry) (λ guard. lock_of guard ≡ lock_of self.entry) }
+        ensures path { R.walked (lock_of self.entry) (Upgrade Timed) (upgrade_answer result) token.old token.new }
+        ensures late { IfErr result (λ _. HasPassed (C.tells clock.now) deadline) }
+    {
+        let (lock, raw) = self.close_upgradable();
+        match lock
+            .raw()
+            .try_upgrade_until(rt, token, raw, clock, deadline)
+        {
+            Ok(raw) => Ok(lock.open_exclusive(rt, raw)),
+            Err(raw) => Err(lock.open_upgradable(rt, raw)),
+        }
+    }
+}
+
+impl<'a, R: RawRwLockUpgradeDowngrade, T> Held<Upgrading<'a, R, T>, sync::RwLockReadGuard<'a, T>> {
+    /// Goes on as a reader, and wakes whom that lets in.
+    #[inline]
+    pub fn downgrade<W: Wait>(self, rt: &W, token: &mut R::Token) -> RwLockReadGuard<'a, R, T>
+        requires { R.is_token_of (R.lot_of (lock_of self)) token.old }
+        ensures token { R.is_token_of (R.lot_of (lock_of self.entry)) token.new × R.stays token.old token.new }
+        ensures guard { lock_of result ≡ lock_of self.entry }
+        ensures path { R.walked (lock_of self.entry) (Downgrade downgrades.UpgradableToShared) answers.Ok token.old token.new }
+        ensures record { R.woke (lock_of self.entry) (Downgrade downgrades.UpgradableToShared) token.old token.new }
+    {
+        let (lock, raw) = self.close_upgradable();
+        let raw = lock.raw().downgrade_upgradable(rt, token, raw);
+        lock.open_shared(rt, raw)
+    }
+}
+
+impl<'a, R: RawRwLock, T> Held<Writing<'a, R, T>, sync::RwLockWriteGuard<'a, T>> {
+    #[inline]
+    fn close_exclusive(self) -> (&'a RwLock<R, T>, R::ExclusiveGuard)
+        ensures { (result.0.now ≡ lock_of self.entry) × R.is_exclusive_of (lock_of self.entry) result.1 }
+    {
+        let Held { right, value } = self;
+        drop(value);
+        right.parts()
+    }
+
+    /// Gives the lock up, and wakes whom that lets in.
+    #[inline]
+    pub fn unlock<W: Wait>(self, rt: &W, token: &mut R::Token)
+        requires { R.is_token_of (R.lot_of (lock_of self)) token.old }
+        ensures token { R.is_token_of (R.lot_of (lock_of self.entry)) token.new × R.stays token.old token.new }
+        ensures path { R.walked (lock_of self.entry) (Release access.Exclusive) answers.Ok token.old token.new }
+        ensures record { R.woke (lock_of self.entry) (Release access.Exclusive) token.old token.new }
+    {
+        let (lock, raw) = self.close_exclusive();
+        lock.raw().unlock_exclusive(rt, token, raw);
+    }
+
+    /// Two guards that may write exclude each other: nobody ever has both, so this can't be called.
+    pub fn has_two(self, token: &mut R::Token, other: RwLockWriteGuard<'a, R, T>) -> !
+        requires token { R.is_token_of (R.lot_of (lock_of self)) token.old }
+        requires lock { lock_of other ≡ lock_of self }
+    {
+        let (lock, one) = self.close_exclusive();
+        let (_, other) = other.close_exclusive();
+        lock.raw().has_two_writers(token, one, other)
+    }
+
+    /// A guard that may write excludes those that read: this can't be called either.
+    pub fn has_reader(self, token: &mut R::Token, other: RwLockReadGuard<'a, R, T>) -> !
+        requires token { R.is_token_of (R.lot_of (lock_of self)) token.old }
+        requires lock { lock_of other ≡ lock_of self }
+    {
+        let (lock, one) = self.close_exclusive();
+        let (_, other) = other.close_shared();
+        lock.raw().has_writer_and_reader(token, one, other)
+    }
+}
+
+impl<'a, R: RawRwLockDowngrade, T> Held<Writing<'a, R, T>, sync::RwLockWriteGuard<'a, T>> {
+    /// Goes on as a reader, and wakes whom that lets in.
+    #[inline]
+    pub fn downgrade<W: Wait>(self, rt: &W, token: &mut R::Token) -> RwLockReadGuard<'a, R, T>
+        requires { R.is_token_of (R.lot_of (lock_of self)) token.old }
+        ensures token { R.is_token_of (R.lot_of (lock_of self.entry)) token.new × R.stays token.old token.new }
+        ensures guard { lock_of result ≡ lock_of self.entry }
+        ensures path { R.walked (lock_of self.entry) (Downgrade downgrades.ToShared) answers.Ok token.old token.new }
+        ensures record { R.woke (lock_of self.entry) (Downgrade downgrades.ToShared) token.old token.new }
+    {
+        let (lock, raw) = self.close_exclusive();
+        let raw = lock.raw().downgrade(rt, token, raw);
+        lock.open_shared(rt, raw)
+    }
+}
+
+impl<'a, R: RawRwLockUpgradeDowngrade, T> Held<Writing<'a, R, T>, sync::RwLockWriteGuard<'a, T>> {
+    /// Goes on as a reader with the upgradable right, and wakes whom that lets in.
+    #[inline]
+    pub fn downgrade_to_upgradable<W: Wait>(
+        self,
+        rt: &W,
+        token: &mut R::Token,
+    ) -> RwLockUpgradableReadGuard<'a, R, T>
+        requires { R.is_token_of (R.lot_of (lock_of self)) token.old }
+        ensures token { R.is_token_of (R.lot_of (lock_of self.entry)) token.new × R.stays token.old token.new }
+        ensures guard { lock_of result ≡ lock_of self.entry }
+        ensures path { R.walked (lock_of self.entry) (Downgrade downgrades.ToUpgradable) answers.Ok token.old token.new }
+        ensures record { R.woke (lock_of self.entry) (Downgrade downgrades.ToUpgradable) token.old token.new }
+    {
+        let (lock, raw) = self.close_exclusive();
+        let raw = lock.raw().downgrade_to_upgradable(rt, token, raw);
+        lock.open_upgradable(rt, raw)
+    }
+}

@@ -1,0 +1,478 @@
+//! Raw reader-writer locks, as generic code sees them. Fair releases and bumps are not among their calls yet.
+ghost use Rattle.std.specs.Prelude.{◌≡◌, ◌⊎◌, ◌≤◌, Bool, MatchResult, IfErr, IfNone, IfOk, IfSome};
+ghost use Rattle.std.specs.Arc.{arc_value};
+ghost use Rattle.std.specs.Duration.{as_nanos};
+ghost use Rattle.lot_base.specs.Clocks.{HasElapsed, HasPassed};
+ghost use Rattle.lot_calls.specs.declared.calls.Access.TheVariants as access;
+ghost use Rattle.lot_calls.specs.declared.calls.Downgrade.TheVariants as downgrades;
+ghost use Rattle.lot_calls.specs.declared.calls.Patience.TheVariants.{Patient, Timed, Try};
+ghost use Rattle.lot_calls.specs.declared.calls.RwLockCall.{RwLockCall};
+ghost use Rattle.lot_calls.specs.declared.calls.RwLockCall.TheVariants.{Enter, Release, Downgrade, Upgrade};
+ghost use Rattle.lot_calls.specs.declared.outcomes.Answer.{Answer};
+ghost use Rattle.lot_calls.specs.declared.outcomes.Answer.TheVariants as answers;
+ghost use Rattle.lock_raw.specs.Answers.{answer_by, reading_answer, counted_answer, upgrade_answer};
+
+use lot_base::{Clock, Fault};
+use std::sync::{Arc, Wait};
+use std::time::Duration;
+
+/// A reader-writer lock without a value. Who has entered it has a guard, which says how, and spends it to leave.
+pub trait RawRwLock {
+    /// Where the locks and the threads meet.
+    type Lot;
+    /// A thread of a lot.
+    type Token;
+    /// The right to read. It borrows nothing.
+    type SharedGuard;
+    /// The right of who has the lock alone. It borrows nothing.
+    type ExclusiveGuard;
+
+    // The lot of a lock.
+    ghost lot_of: { Self → Self.Lot };
+    // A thread belongs to a lot.
+    ghost is_token_of: { Self.Lot → Self.Token → Type 0 };
+    // It is the same thread, and owns what it did.
+    ghost stays: { Self.Token → Self.Token → Type 0 };
+    // So it does through two calls, one after the other.
+    ghost stays_on: { (first next last : Self.Token) → stays first next → stays next last → stays first last };
+    // A guard is of this lock. That has one proof at most, so a struct may keep it as a ghost field.
+    ghost is_shared_of: { Self → Self.SharedGuard → Type 0 };
+
+    ghost shared_once: { (lock : Self) (guard : Self.SharedGuard) → IsProp (is_shared_of lock guard) };
+
+    ghost is_exclusive_of: { Self → Self.ExclusiveGuard → Type 0 };
+
+    ghost exclusive_once: { (lock : Self) (guard : Self.ExclusiveGuard) → IsProp (is_exclusive_of lock guard) };
+    // Between the two states of a thread, it took the steps of this call of the lock, to this answer.
+    ghost walked: { Self → RwLockCall → Answer → Self.Token → Self.Token → Type 0 };
+    // Between them it gave a right up by this call, and took those whom that lets in where it saw that somebody waits.
+    ghost woke: { Self → RwLockCall → Self.Token → Self.Token → Type 0 };
+    // Between them it took one step, which saw that somebody has the lock, or not.
+    ghost looked: { Self → Bool → Self.Token → Self.Token → Type 0 };
+    // The same, of who has it alone.
+    ghost looked_for_writer: { Self → Bool → Self.Token → Self.Token → Type 0 };
+
+    /// A lock that nobody has, and that as many may share as there can be.
+    ///
+    /// # Errors
+    ///
+    /// `LotFull`, where the lot has no word left, and `NoMemory`, where memory was refused.
+    fn new(lot: &Arc<Self::Lot>, token: &mut Self::Token) -> Result<Self, Fault>
+        requires { is_token_of (arc_value lot.now) token.old }
+        ensures token { is_token_of (arc_value lot.now) token.new × stays token.old token.new }
+        ensures made { MatchResult result (λ lock. lot_of lock ≡ arc_value lot.now) (λ fault. (fault ≡ Fault.NoMemory) ⊎ (fault ≡ Fault.LotFull)) };
+
+    /// A lock that nobody has, and that so many may share.
+    ///
+    /// # Errors
+    ///
+    /// `LotFull`, where the lot has no word left, and `NoMemory`, where memory was refused.
+    fn with_limit(lot: &Arc<Self::Lot>, token: &mut Self::Token, limit: u64) -> Result<Self, Fault>
+        requires token { is_token_of (arc_value lot.now) token.old }
+        requires limit { limit ≤ 1152921504606846974 }
+        ensures token { is_token_of (arc_value lot.now) token.new × stays token.old token.new }
+        ensures made { MatchResult result (λ lock. lot_of lock ≡ arc_value lot.now) (λ fault. (fault ≡ Fault.NoMemory) ⊎ (fault ≡ Fault.LotFull)) };
+
+    /// Waits until no writer keeps readers out, and comes in to read.
+    ///
+    /// # Errors
+    ///
+    /// `ReadersFull`, where as many share the lock as may.
+    fn lock_shared<R: Wait>(
+        &self,
+        rt: &R,
+        token: &mut Self::Token,
+    ) -> Result<Self::SharedGuard, Fault>
+        requires { is_token_of (lot_of self.now) token.old }
+        ensures token { is_token_of (lot_of self.now) token.new × stays token.old token.new }
+        ensures guard { MatchResult result (is_shared_of self.now) (λ fault. fault ≡ Fault.ReadersFull) }
+        ensures path { walked self.now (Enter access.Shared Patient) (reading_answer result) token.old token.new };
+
+    /// Comes in to read where no writer keeps readers out. It may have to try again where others come and go.
+    ///
+    /// # Errors
+    ///
+    /// `ReadersFull`, where as many share the lock as may.
+    fn try_lock_shared<R: Wait>(
+        &self,
+        rt: &R,
+        token: &mut Self::Token,
+    ) -> Result<Option<Self::SharedGuard>, Fault>
+        requires { is_token_of (lot_of self.now) token.old }
+        ensures token { is_token_of (lot_of self.now) token.new × stays token.old token.new }
+        ensures guard { MatchResult result (λ entered. IfSome entered (is_shared_of self.now)) (λ fault. fault ≡ Fault.ReadersFull) }
+        ensures path { walked self.now (Enter access.Shared Try) (counted_answer result) token.old token.new };
+
+    /// Gives the right to read up. The last reader wakes the writer that waits for it.
+    fn unlock_shared<R: Wait>(&self, rt: &R, token: &mut Self::Token, guard: Self::SharedGuard)
+        requires token { is_token_of (lot_of self.now) token.old }
+        requires guard { is_shared_of self.now guard }
+        ensures token { is_token_of (lot_of self.now) token.new × stays token.old token.new }
+        ensures path { walked self.now (Release access.Shared) answers.Ok token.old token.new }
+        ensures record { woke self.now (Release access.Shared) token.old token.new };
+
+    /// Waits until nobody has the lock, and takes it.
+    fn lock_exclusive<R: Wait>(&self, rt: &R, token: &mut Self::Token) -> Self::ExclusiveGuard
+        requires { is_token_of (lot_of self.now) token.old }
+        ensures token { is_token_of (lot_of self.now) token.new × stays token.old token.new }
+        ensures guard { is_exclusive_of self.now result }
+        ensures path { walked self.now (Enter access.Exclusive Patient) answers.Ok token.old token.new };
+
+    /// Takes the lock where nobody has it, and nobody waits. It is one step.
+    fn try_lock_exclusive(&self, token: &mut Self::Token) -> Option<Self::ExclusiveGuard>
+        requires { is_token_of (lot_of self.now) token.old }
+        ensures token { is_token_of (lot_of self.now) token.new × stays token.old token.new }
+        ensures guard { IfSome result (is_exclusive_of self.now) }
+        ensures path { walked self.now (Enter access.Exclusive Try) (answer_by result) token.old token.new };
+
+    /// Gives the lock up, and wakes whom that lets in.
+    fn unlock_exclusive<R: Wait>(
+        &self,
+        rt: &R,
+        token: &mut Self::Token,
+        guard: Self::ExclusiveGuard,
+    )
+        requires token { is_token_of (lot_of self.now) token.old }
+        requires guard { is_exclusive_of self.now guard }
+        ensures token { is_token_of (lot_of self.now) token.new × stays token.old token.new }
+        ensures path { walked self.now (Release access.Exclusive) answers.Ok token.old token.new }
+        ensures record { woke self.now (Release access.Exclusive) token.old token.new };
+
+    /// Whether somebody has the lock, or a writer waits for its last readers.
+    fn is_locked(&self, token: &mut Self::Token) -> bool
+        requires { is_token_of (lot_of self.now) token.old }
+        ensures token { is_token_of (lot_of self.now) token.new × stays token.old token.new }
+        ensures seen { looked self.now result token.old token.new };
+
+    /// Whether somebody has the lock alone.
+    fn is_locked_exclusive(&self, token: &mut Self::Token) -> bool
+        requires { is_token_of (lot_of self.now) token.old }
+        ensures token { is_token_of (lot_of self.now) token.new × stays token.old token.new }
+        ensures seen { looked_for_writer self.now result token.old token.new };
+
+    /// Two that have a lock alone exclude each other: nobody ever has both guards, so this can't be called.
+    fn has_two_writers(
+        &self,
+        token: &mut Self::Token,
+        one: Self::ExclusiveGuard,
+        other: Self::ExclusiveGuard,
+    ) -> !
+        requires token { is_token_of (lot_of self.now) token.old }
+        requires guards { is_exclusive_of self.now one × is_exclusive_of self.now other };
+
+    /// Who has a lock alone excludes who reads: this can't be called either.
+    fn has_writer_and_reader(
+        &self,
+        token: &mut Self::Token,
+        writer: Self::ExclusiveGuard,
+        reader: Self::SharedGuard,
+    ) -> !
+        requires token { is_token_of (lot_of self.now) token.old }
+        requires guards { is_exclusive_of self.now writer × is_shared_of self.now reader };
+}
+
+/// A lock whose writer may go on as a reader.
+pub trait RawRwLockDowngrade: RawRwLock {
+    /// Turns the right of who has the lock alone into the right to read, in one step, and wakes whom that lets in.
+    fn downgrade<R: Wait>(
+        &self,
+        rt: &R,
+        token: &mut Self::Token,
+        guard: Self::ExclusiveGuard,
+    ) -> Self::SharedGuard
+        requires token { Self.is_token_of (Self.lot_of self.now) token.old }
+        requires guard { Self.is_exclusive_of self.now guard }
+        ensures token { Self.is_token_of (Self.lot_of self.now) token.new × Self.stays token.old token.new }
+        ensures guard { Self.is_shared_of self.now result }
+        ensures path { Self.walked self.now (Downgrade downgrades.ToShared) answers.Ok token.old token.new }
+        ensures record { Self.woke self.now (Downgrade downgrades.ToShared) token.old token.new };
+}
+
+/// A lock whose waiters may give up.
+pub trait RawRwLockTimed: RawRwLock {
+    /// Waits until no writer keeps readers out, and comes in to read. None only where so much time, in nanoseconds of the clock,
+    /// had passed.
+    ///
+    /// A time that ends past all that a `u64` tells is no limit.
+    ///
+    /// # Errors
+    ///
+    /// `ReadersFull`, where as many share the lock as may.
+    fn try_lock_shared_for<R: Wait, C: Clock>(
+        &self,
+        rt: &R,
+        token: &mut Self::Token,
+        clock: &C,
+        timeout: Duration,
+    ) -> Result<Option<Self::SharedGuard>, Fault>
+        requires { Self.is_token_of (Self.lot_of self.now) token.old }
+        ensures token { Self.is_token_of (Self.lot_of self.now) token.new × Self.stays token.old token.new }
+        ensures guard { MatchResult result (λ entered. IfSome entered (Self.is_shared_of self.now)) (λ fault. fault ≡ Fault.ReadersFull) }
+        ensures path { Self.walked self.now (Enter access.Shared Timed) (counted_answer result) token.old token.new }
+        ensures late { IfOk result (λ entered. IfNone entered (HasElapsed (C.tells clock.now) (as_nanos timeout))) };
+
+    /// The same, up to a deadline. None only where the clock had come to it.
+    ///
+    /// # Errors
+    ///
+    /// `ReadersFull`, where as many share the lock as may.
+    fn try_lock_shared_until<R: Wait, C: Clock>(
+        &self,
+        rt: &R,
+        token: &mut Self::Token,
+        clock: &C,
+        deadline: u64,
+    ) -> Result<Option<Self::SharedGuard>, Fault>
+        requires { Self.is_token_of (Self.lot_of self.now) token.old }
+        ensures token { Self.is_token_of (Self.lot_of self.now) token.new × Self.stays token.old token.new }
+        ensures guard { MatchResult result (λ entered. IfSome entered (Self.is_shared_of self.now)) (λ fault. fault ≡ Fault.ReadersFull) }
+        ensures path { Self.walked self.now (Enter access.Shared Timed) (counted_answer result) token.old token.new }
+        ensures late { IfOk result (λ entered. IfNone entered (HasPassed (C.tells clock.now) deadline)) };
+
+    /// Waits until nobody has the lock, and takes it. None only where so much time, in nanoseconds of the clock, had passed.
+    ///
+    /// A time that ends past all that a `u64` tells is no limit.
+    fn try_lock_exclusive_for<R: Wait, C: Clock>(
+        &self,
+        rt: &R,
+        token: &mut Self::Token,
+        clock: &C,
+        timeout: Duration,
+    ) -> Option<Self::ExclusiveGuard>
+        requires { Self.is_token_of (Self.lot_of self.now) token.old }
+        ensures token { Self.is_token_of (Self.lot_of self.now) token.new × Self.stays token.old token.new }
+        ensures guard { IfSome result (Self.is_exclusive_of self.now) }
+        ensures path { Self.walked self.now (Enter access.Exclusive Timed) (answer_by result) token.old token.new }
+        ensures late { IfNone result (HasElapsed (C.tells clock.now) (as_nanos timeout)) };
+
+    /// The same, up to a deadline. None only where the clock had come to it.
+    fn try_lock_exclusive_until<R: Wait, C: Clock>(
+        &self,
+        rt: &R,
+        token: &mut Self::Token,
+        clock: &C,
+        deadline: u64,
+    ) -> Option<Self::ExclusiveGuard>
+        requires { Self.is_token_of (Self.lot_of self.now) token.old }
+        ensures token { Self.is_token_of (Self.lot_of self.now) token.new × Self.stays token.old token.new }
+        ensures guard { IfSome result (Self.is_exclusive_of self.now) }
+        ensures path { Self.walked self.now (Enter access.Exclusive Timed) (answer_by result) token.old token.new }
+        ensures late { IfNone result (HasPassed (C.tells clock.now) deadline) };
+}
+
+/// A lock that one thread at a time may read with the right to own it alone later.
+pub trait RawRwLockUpgrade: RawRwLock {
+    /// The right to read, and to own alone later. It borrows nothing.
+    type UpgradableGuard;
+
+    // A guard is of this lock.
+    ghost is_upgradable_of: { Self → Self.UpgradableGuard → Type 0 };
+
+    ghost upgradable_once: { (lock : Self) (guard : Self.UpgradableGuard) → IsProp (is_upgradable_of lock guard) };
+
+    /// Waits until nobody has the lock alone or with this right, and comes in.
+    ///
+    /// # Errors
+    ///
+    /// `ReadersFull`, where as many share the lock as may.
+    fn lock_upgradable<R: Wait>(
+        &self,
+        rt: &R,
+        token: &mut Self::Token,
+    ) -> Result<Self::UpgradableGuard, Fault>
+        requires { Self.is_token_of (Self.lot_of self.now) token.old }
+        ensures token { Self.is_token_of (Self.lot_of self.now) token.new × Self.stays token.old token.new }
+        ensures guard { MatchResult result (is_upgradable_of self.now) (λ fault. fault ≡ Fault.ReadersFull) }
+        ensures path { Self.walked self.now (Enter access.Upgradable Patient) (reading_answer result) token.old token.new };
+
+    /// Comes in where nobody has the lock alone or with this right. It may have to try again where others come and go.
+    ///
+    /// # Errors
+    ///
+    /// `ReadersFull`, where as many share the lock as may.
+    fn try_lock_upgradable<R: Wait>(
+        &self,
+        rt: &R,
+        token: &mut Self::Token,
+    ) -> Result<Option<Self::UpgradableGuard>, Fault>
+        requires { Self.is_token_of (Self.lot_of self.now) token.old }
+        ensures token { Self.is_token_of (Self.lot_of self.now) token.new × Self.stays token.old token.new }
+        ensures guard { MatchResult result (λ entered. IfSome entered (is_upgradable_of self.now)) (λ fault. fault ≡ Fault.ReadersFull) }
+        ensures path { Self.walked self.now (Enter access.Upgradable Try) (counted_answer result) token.old token.new };
+
+    /// Gives the right up, and wakes whom that lets in.
+    fn unlock_upgradable<R: Wait>(
+        &self,
+        rt: &R,
+        token: &mut Self::Token,
+        guard: Self::UpgradableGuard,
+    )
+        requires token { Self.is_token_of (Self.lot_of self.now) token.old }
+        requires guard { is_upgradable_of self.now guard }
+        ensures token { Self.is_token_of (Self.lot_of self.now) token.new × Self.stays token.old token.new }
+        ensures path { Self.walked self.now (Release access.Upgradable) answers.Ok token.old token.new }
+        ensures record { Self.woke self.now (Release access.Upgradable) token.old token.new };
+
+    /// Turns the right into that of who has the lock alone: further readers are kept out, and the others are waited for.
+    fn upgrade<R: Wait>(
+        &self,
+        rt: &R,
+        token: &mut Self::Token,
+        guard: Self::UpgradableGuard,
+    ) -> Self::ExclusiveGuard
+        requires token { Self.is_token_of (Self.lot_of self.now) token.old }
+        requires guard { is_upgradable_of self.now guard }
+        ensures token { Self.is_token_of (Self.lot_of self.now) token.new × Self.stays token.old token.new }
+        ensures guard { Self.is_exclusive_of self.now result }
+        ensures path { Self.walked self.now (Upgrade Patient) answers.Ok token.old token.new };
+
+    /// The same where nobody else reads.
+    ///
+    /// # Errors
+    ///
+    /// The guard, where somebody else reads.
+    fn try_upgrade<R: Wait>(
+        &self,
+        rt: &R,
+        token: &mut Self::Token,
+        guard: Self::UpgradableGuard,
+    ) -> Result<Self::ExclusiveGuard, Self::UpgradableGuard>
+        requires token { Self.is_token_of (Self.lot_of self.now) token.old }
+        requires guard { is_upgradable_of self.now guard }
+        ensures token { Self.is_token_of (Self.lot_of self.now) token.new × Self.stays token.old token.new }
+        ensures guard { MatchResult result (Self.is_exclusive_of self.now) (is_upgradable_of self.now) }
+        ensures path { Self.walked self.now (Upgrade Try) (upgrade_answer result) token.old token.new };
+
+    /// One thread at a time has this right, so this can't be called.
+    fn has_two_upgradables(
+        &self,
+        token: &mut Self::Token,
+        one: Self::UpgradableGuard,
+        other: Self::UpgradableGuard,
+    ) -> !
+        requires token { Self.is_token_of (Self.lot_of self.now) token.old }
+        requires guards { is_upgradable_of self.now one × is_upgradable_of self.now other };
+
+    /// Who has a lock alone excludes who has this right: this can't be called either.
+    fn has_writer_and_upgradable(
+        &self,
+        token: &mut Self::Token,
+        writer: Self::ExclusiveGuard,
+        reader: Self::UpgradableGuard,
+    ) -> !
+        requires token { Self.is_token_of (Self.lot_of self.now) token.old }
+        requires guards { Self.is_exclusive_of self.now writer × is_upgradable_of self.now reader };
+}
+
+/// A lock whose upgradable right is turned into others without an upgrade.
+pub trait RawRwLockUpgradeDowngrade: RawRwLockUpgrade {
+    /// Turns the upgradable right into the right to read, in one step, and wakes whom that lets in.
+    fn downgrade_upgradable<R: Wait>(
+        &self,
+        rt: &R,
+        token: &mut Self::Token,
+        guard: Self::UpgradableGuard,
+    ) -> Self::SharedGuard
+        requires token { Self.RawRwLock.is_token_of (Self.RawRwLock.lot_of self.now) token.old }
+        requires guard { Self.RawRwLockUpgrade.is_upgradable_of self.now guard }
+        ensures token { Self.RawRwLock.is_token_of (Self.RawRwLock.lot_of self.now) token.new × Self.RawRwLock.stays token.old token.new }
+        ensures guard { Self.RawRwLock.is_shared_of self.now result }
+        ensures path { Self.RawRwLock.walked self.now (Downgrade downgrades.UpgradableToShared) answers.Ok token.old token.new }
+        ensures record { Self.RawRwLock.woke self.now (Downgrade downgrades.UpgradableToShared) token.old token.new };
+
+    /// Turns the right of who has the lock alone into the upgradable one, in one step, and wakes whom that lets in.
+    fn downgrade_to_upgradable<R: Wait>(
+        &self,
+        rt: &R,
+        token: &mut Self::Token,
+        guard: Self::ExclusiveGuard,
+    ) -> Self::UpgradableGuard
+        requires token { Self.RawRwLock.is_token_of (Self.RawRwLock.lot_of self.now) token.old }
+        requires guard { Self.RawRwLock.is_exclusive_of self.now guard }
+        ensures token { Self.RawRwLock.is_token_of (Self.RawRwLock.lot_of self.now) token.new × Self.RawRwLock.stays token.old token.new }
+        ensures guard { Self.RawRwLockUpgrade.is_upgradable_of self.now result }
+        ensures path { Self.RawRwLock.walked self.now (Downgrade downgrades.ToUpgradable) answers.Ok token.old token.new }
+        ensures record { Self.RawRwLock.woke self.now (Downgrade downgrades.ToUpgradable) token.old token.new };
+}
+
+/// A lock with the upgradable right, whose waiters may give up.
+pub trait RawRwLockUpgradeTimed: RawRwLockUpgrade {
+    /// Waits until nobody has the lock alone or with this right, and comes in. None only where so much time, in nanoseconds of
+    /// the clock, had passed.
+    ///
+    /// A time that ends past all that a `u64` tells is no limit.
+    ///
+    /// # Errors
+    ///
+    /// `ReadersFull`, where as many share the lock as may.
+    fn try_lock_upgradable_for<R: Wait, C: Clock>(
+        &self,
+        rt: &R,
+        token: &mut Self::Token,
+        clock: &C,
+        timeout: Duration,
+    ) -> Result<Option<Self::UpgradableGuard>, Fault>
+        requires { Self.RawRwLock.is_token_of (Self.RawRwLock.lot_of self.now) token.old }
+        ensures token { Self.RawRwLock.is_token_of (Self.RawRwLock.lot_of self.now) token.new × Self.RawRwLock.stays token.old token.new }
+        ensures guard { MatchResult result (λ entered. IfSome entered (Self.RawRwLockUpgrade.is_upgradable_of self.now)) (λ fault. fault ≡ Fault.ReadersFull) }
+        ensures path { Self.RawRwLock.walked self.now (Enter access.Upgradable Timed) (counted_answer result) token.old token.new }
+        ensures late { IfOk result (λ entered. IfNone entered (HasElapsed (C.tells clock.now) (as_nanos timeout))) };
+
+    /// The same, up to a deadline. None only where the clock had come to it.
+    ///
+    /// # Errors
+    ///
+    /// `ReadersFull`, where as many share the lock as may.
+    fn try_lock_upgradable_until<R: Wait, C: Clock>(
+        &self,
+        rt: &R,
+        token: &mut Self::Token,
+        clock: &C,
+        deadline: u64,
+    ) -> Result<Option<Self::UpgradableGuard>, Fault>
+        requires { Self.RawRwLock.is_token_of (Self.RawRwLock.lot_of self.now) token.old }
+        ensures token { Self.RawRwLock.is_token_of (Self.RawRwLock.lot_of self.now) token.new × Self.RawRwLock.stays token.old token.new }
+        ensures guard { MatchResult result (λ entered. IfSome entered (Self.RawRwLockUpgrade.is_upgradable_of self.now)) (λ fault. fault ≡ Fault.ReadersFull) }
+        ensures path { Self.RawRwLock.walked self.now (Enter access.Upgradable Timed) (counted_answer result) token.old token.new }
+        ensures late { IfOk result (λ entered. IfNone entered (HasPassed (C.tells clock.now) deadline)) };
+
+    /// Upgrades, and gives up once so much time, in nanoseconds of the clock, had passed, and not before.
+    ///
+    /// # Errors
+    ///
+    /// The guard, where the time was up.
+    fn try_upgrade_for<R: Wait, C: Clock>(
+        &self,
+        rt: &R,
+        token: &mut Self::Token,
+        guard: Self::UpgradableGuard,
+        clock: &C,
+        timeout: Duration,
+    ) -> Result<Self::ExclusiveGuard, Self::UpgradableGuard>
+        requires token { Self.RawRwLock.is_token_of (Self.RawRwLock.lot_of self.now) token.old }
+        requires guard { Self.RawRwLockUpgrade.is_upgradable_of self.now guard }
+        ensures token { Self.RawRwLock.is_token_of (Self.RawRwLock.lot_of self.now) token.new × Self.RawRwLock.stays token.old token.new }
+        ensures guard { MatchResult result (Self.RawRwLock.is_exclusive_of self.now) (Self.RawRwLockUpgrade.is_upgradable_of self.now) }
+        ensures path { Self.RawRwLock.walked self.now (Upgrade Timed) (upgrade_answer result) token.old token.new }
+        ensures late { IfErr result (λ _. HasElapsed (C.tells clock.now) (as_nanos timeout)) };
+
+    /// The same, up to a deadline.
+    ///
+    /// # Errors
+    ///
+    /// The guard, where the clock had come to the deadline.
+    fn try_upgrade_until<R: Wait, C: Clock>(
+        &self,
+        rt: &R,
+        token: &mut Self::Token,
+        guard: Self::UpgradableGuard,
+        clock: &C,
+        deadline: u64,
+    ) -> Result<Self::ExclusiveGuard, Self::UpgradableGuard>
+        requires token { Self.RawRwLock.is_token_of (Self.RawRwLock.lot_of self.now) token.old }
+        requires guard { Self.RawRwLockUpgrade.is_upgradable_of self.now guard }
+        ensures token { Self.RawRwLock.is_token_of (Self.RawRwLock.lot_of self.now) token.new × Self.RawRwLock.stays token.old token.new }
+        ensures guard { MatchResult result (Self.RawRwLock.is_exclusive_of self.now) (Self.RawRwLockUpgrade.is_upgradable_of self.now) }
+        ensures path { Self.RawRwLock.walked self.now (Upgrade Timed) (upgrade_answer result) token.old token.new }
+        ensures late { IfErr result (λ _. HasPassed (C.tells clock.now) deadline) };
+}
