@@ -348,6 +348,18 @@ calls_none Idle e = refl
 calls_none (Mutex k at) e = absurd cc
 calls_none (RwLock k a at) e = absurd cc
 
+-- who is in nobody's hand isn't taken
+pub free_of : (q : Place) (l : ℕ) → (station q).hand ≡ None → taken_at q l ≡ None
+free_of q l none = ap (λ (h : Option Hand). taken_from h (profile q).wants (calls q l)) none
+
+-- who is in a hand calls the lock
+pub held_calls : (p : Place) (l : ℕ) → IsOf l p → (h : Hand) → (station p).hand ≡ Some h → calls p l ≡ true
+held_calls p l of h e = by_lock (lock_of p) refl of
+  where
+    by_lock : (o : Option ℕ) → lock_of p ≡ o → IsLock l o → is_lock l o ≡ true
+    by_lock None f g = absurd (let none : ◌≡◌ {A = Option Hand} None (Some h) = sym (ap (λ q. (station q).hand) (calls_none p f)) ∙ e in cc)
+    by_lock (Some k) f g = ap (λ j. j == l) g ∙ same l
+
 calls_other : (l k : ℕ) (o : Option ℕ) → IsLock l o → k ≢ l → is_lock k o ≡ false
 calls_other l k None h ne = refl
 calls_other l k (Some j) h ne = differ j k (λ e. ne (sym e ∙ h))

@@ -18,7 +18,7 @@ use Rattle.lot_acts.specs.Owners.{is_thread, lock_seen, with_exclusive}
 use Rattle.lot_acts.specs.Profiles.{hand, Hand, Of, in_hand as in_hand_if, taken_from}
 use Rattle.lot_steps.specs.declared.places.Place.{Place}
 use Rattle.lot_steps.specs.declared.places.Place.TheVariants.{Idle}
-use Rattle.lot_steps.specs.Steps.{calls, is_lock, lock_of, next_place, owners_after, profile, taker, wants}
+use Rattle.lot_steps.specs.Steps.{calls, next_place, owners_after, profile, taker, wants}
 use Rattle.abstract_locks.specs.Locks.{LockState, Queued, Taken, Rules, Sort, Mutex, Normal, Recursive, Semaphore, HandOff, IsSuccessor, Knows, IsLockState, keep_from, let_go, putting, sharing_from, sharing_handed, shares_handed, succeeding, wants_shared, with_owner, with_successor, without_owner, handed, readers}
 use Rattle.abstract_locks.specs.Locks as locks
 use Rattle.abstract_locks.specs.Sites.{Doing, Site, IsSite, Deed, Has, Begin, Case, Holds, has_readers, is_full, after_deed}
@@ -36,7 +36,7 @@ use Rattle.lot_world.specs.MutexDeeds.{acts}
 use Rattle.lot_world.specs.MutexDeeds as deeds
 use Rattle.lot_world.specs.Stations.{Station, station, station_at, nowhere, doing_on}
 use Rattle.lot_world.specs.SitesOf.{ActsNeeded, HasRoom, IsSteady, Goes, Hands, TakesOne, FitsItsLock, after_acts, rules_in, carried_at, hand_at}
-use Rattle.lot_world.proofs.Glue.{Parts, parts_at, lock_in, seen_in, same, put_here, put_other, put_same, IsLock, IsOf, calls_none, station_here, untaken, held_taker, thread_is, past_all}
+use Rattle.lot_world.proofs.Glue.{free_of, held_calls, Parts, parts_at, lock_in, seen_in, same, put_here, put_other, put_same, IsOf, station_here, untaken, held_taker, thread_is, past_all}
 use Rattle.lot_world.proofs.KindsKept.{given_kinds}
 use Rattle.lot_world.proofs.OneStep.{AreQuiet, AreSingle, acts_keep, full_then, fills_by, others_same}
 use Rattle.lot_world.proofs.ActsKept.{Moves, lock_by, site_by, follows_by}
@@ -213,23 +213,11 @@ given_is t i taken (p ∷ ps) (n ∷ ns) each e few =
 
 -- ---------------------------------------------------------------- those in hand
 
--- who is in a hand calls the lock
-calls_here : (q : Place) (l : ℕ) → IsOf l q → (h : Hand) → (station q).hand ≡ Some h → calls q l ≡ true
-calls_here q l of h e = by_lock (lock_of q) refl of
-  where
-    by_lock : (o : Option ℕ) → lock_of q ≡ o → IsLock l o → is_lock l o ≡ true
-    by_lock None f g = absurd (let none : ◌≡◌ {A = Option Hand} None (Some h) = sym (ap (λ y. (station y).hand) (calls_none q f)) ∙ e in cc)
-    by_lock (Some k) f g = ap (λ j. j == l) g ∙ same l
-
 -- who is in the hand of t, by its place, is taken by it
 taken_by : (q : Place) (l : ℕ) {t : ℕ} (x : Want) → IsOf l q → (station q).hand ≡ hand t false → wants q ≡ Some x → taken_at q l ≡ Some (record { by = t; want = x })
-taken_by q l {t = t} x of h e = (λ i. taken_from (h i) (e i) (calls q l)) ∙ ap (taken_from (hand t false) (Some x)) (calls_here q l of (Of t false) h)
+taken_by q l {t = t} x of h e = (λ i. taken_from (h i) (e i) (calls q l)) ∙ ap (taken_from (hand t false) (Some x)) (held_calls q l of (Of t false) h)
 
--- who is in nobody's hand isn't taken
-free_at : (q : Place) (l : ℕ) → (station q).hand ≡ None → taken_at q l ≡ None
-free_at q l none = ap (λ (h : Option Hand). taken_from h (profile q).wants (calls q l)) none
-
--- and is not once it was handed what it wanted
+-- who was handed what it wanted isn't taken any more
 given_free : (q : Place) (l t : ℕ) → (station q).hand ≡ hand t true → taken_at q l ≡ None
 given_free q l t h = ap (λ o. taken_from o (profile q).wants (calls q l)) h
 
@@ -378,7 +366,7 @@ module _ (w : State) (t l : ℕ) (steady : IsSteady w) (own : IsOf l (place_at w
       -- who is in hand still
       taken_then : (u : ℕ) → taken_at (places_behind u) l ≡ let_go t taken u
       taken_then u = elim (cases_eq u t) [
-        | inl e ↦ rw e (ap (λ q. taken_at q l) (put_here told_now t p2) ∙ free_at p2 l unheld ∙ sym (ap (keep_from t) (free_at (place_at w t) l free)))
+        | inl e ↦ rw e (ap (λ q. taken_at q l) (put_here told_now t p2) ∙ free_of p2 l unheld ∙ sym (ap (keep_from t) (free_of (place_at w t) l free)))
         | inr ne ↦ ap (λ q. taken_at q l) (put_other told_now t p2 u ne) ∙ either (is_told u) refl
       ]
         where
@@ -447,7 +435,7 @@ module _ (w : State) (t l : ℕ) (steady : IsSteady w) (own : IsOf l (place_at w
 
       doing_then : (u : ℕ) → doing_on (places_behind u) l ≡ with_claim t alone (taken u) (between.doing u)
       doing_then u = elim (cases_eq u t) [
-        | inl e ↦ rw e (ap (λ q. doing_on q l) (put_here told_now t p2) ∙ sym law.doing ∙ sym (ap (λ o. with_claim t alone o (between.doing t)) (free_at (place_at w t) l free)))
+        | inl e ↦ rw e (ap (λ q. doing_on q l) (put_here told_now t p2) ∙ sym law.doing ∙ sym (ap (λ o. with_claim t alone o (between.doing t)) (free_of (place_at w t) l free)))
         | inr ne ↦ ap (λ q. doing_on q l) (put_other told_now t p2 u ne) ∙ either (is_told u) refl ∙ sym (ap (with_claim t alone (taken u)) (ap (λ (s : Site). s.doing u) (sym (after_same r own_deeds here t)) ∙ others_same r own_deeds here t u (single_bit none_left) ne))
       ]
         where
@@ -507,7 +495,7 @@ module _ (w : State) (t l : ℕ) (steady : IsSteady w) (own : IsOf l (place_at w
 
         within : HasLimit r behind.lock
         within = subst (λ s. HasLimit r s) (sym (ap (λ (s : Site). s.lock) behind_is ∙ lock_between))
-            (handed_limit r right heir here.lock t site.state law.needed.0.0 (subst (λ n. t < n) (sym (steady.numbers.threads l)) there) (free_at (place_at w t) l free) (subst (λ n. n ≤ r.limit) (sym (steady.numbers.threads l)) room.1))
+            (handed_limit r right heir here.lock t site.state law.needed.0.0 (subst (λ n. t < n) (sym (steady.numbers.threads l)) there) (free_of (place_at w t) l free) (subst (λ n. n ≤ r.limit) (sym (steady.numbers.threads l)) room.1))
 
         held_before : carried_at (place_at w t) l ≡ in_hand_if any false
         held_before = ap (λ (y : Station). y.carries) (station_here l (place_at w t) own) ∙ carried

@@ -27,10 +27,10 @@ use Rattle.lot_world.specs.MutexDeeds as deeds
 use Rattle.lot_world.specs.Stations.{doing_on, hand, station}
 use Rattle.lot_world.specs.SitesOf.{ActsNeeded, IsSteady, Goes, after_acts, key_of, rules_in, hand_at}
 use Rattle.lot_world.proofs.ActsKept.{lock_by, operated, place_goes}
-use Rattle.lot_world.proofs.Glue.{IsOf, doing_here, lock_in, parts_at}
+use Rattle.lot_world.proofs.Glue.{free_of, IsOf, doing_here, lock_in, parts_at}
 use Rattle.lot_world.proofs.HandsKept.{IsGiven, HandsLawful, claims_given, hand_over_goes, heir_in}
 use Rattle.lot_world.proofs.LawsKept.{after_same, lawful_goes, needed_same}
-use Rattle.lot_world.proofs.MovesKept.{IsFollowed, free_of, goes_out_alone}
+use Rattle.lot_world.proofs.MovesKept.{IsFollowed, goes_out_alone}
 use Rattle.lot_world.proofs.OneStep.{steps_by}
 use Rattle.lot_world.proofs.WakesKept.{IsWoken, wake_goes}
 

@@ -17,7 +17,7 @@ use Rattle.lot_acts.specs.declared.acts.Reply.TheVariants.{Done, Value, Parked, 
 use Rattle.lot_acts.specs.declared.acts.Whom as whom
 use Rattle.lot_acts.specs.Acts.{holds, wakes_taken}
 use Rattle.lot_acts.specs.Moves.{Move, Hears, StaysPut, GoesIn, Parks, Picks, TakesAside, LeavesLine, GoesOut, Sleeps, IsHeld, AreOfWord, AreLeaving, parks_in, inside_of, station_of, station_then}
-use Rattle.lot_acts.specs.Profiles.{Profile, Hand, Of, hand, in_hand, taken_from}
+use Rattle.lot_acts.specs.Profiles.{Profile, Of, hand, in_hand, taken_from}
 use Rattle.lot_rwlock_fair.specs.FairMoves.{CallWaits}
 use Rattle.lot_acts.specs.Stations.{Station, station_by, nowhere, waits_for}
 use Rattle.lot_steps.specs.declared.places.Place.{Place}
@@ -37,7 +37,7 @@ use Rattle.lot_world.specs.MutexDeeds.{acts}
 use Rattle.lot_world.specs.Stations.{station, station_at, doing_on}
 use Rattle.lot_world.specs.SitesOf.{ActsNeeded, AreWaiting, IsSteady, Goes, FitsItsLock, TakesOne, after_acts, rules_in, key_of, stood_in, carried_at, hand_at}
 use Rattle.lot_world.proofs.Counts.{without_absent, first_times, none_first}
-use Rattle.lot_world.proofs.Glue.{IsOf, IsLock, IsHeldBy, held_where, held_taker, nothing_at, calls_none, next_of, inside_is, parts_at, lock_in, same, put_here, doing_here, station_here, lets_nobody}
+use Rattle.lot_world.proofs.Glue.{free_of, held_calls, IsOf, IsLock, IsHeldBy, held_where, held_taker, nothing_at, next_of, inside_is, parts_at, lock_in, same, put_here, doing_here, station_here, lets_nobody}
 use Rattle.lot_world.proofs.OneStep.{AreSingle, HasOneCase, steps_by, empty_line, queued_times, queued_without}
 use Rattle.lot_world.proofs.ActsKept.{NoHandOff, lock_by, operated, site_by, with_line, place_goes, enter_goes, leave_goes, nobody_inside, park_goes, parks, asides, lates, remove_goes, nobody_goes, finds_none}
 use Rattle.lot_world.proofs.LawsKept.{after_same, needed_same, lawful_goes}
@@ -92,10 +92,6 @@ leaving_plain : (ds : List Deed) → AreLeaving ds → NoHandOff ds
 leaving_plain (Out ∷ []) h = tt
 leaving_plain (Out ∷ End ∷ []) h = tt
 leaving_plain ds h = absurd h
-
--- who is in nobody's hand isn't taken
-pub free_of : (q : Place) (l : ℕ) → (station q).hand ≡ None → taken_at q l ≡ None
-free_of q l none = ap (λ (h : Option Hand). taken_from h (profile q).wants (calls q l)) none
 
 -- one writer is pending
 pending_one : (p : Option Pending) (t u : ℕ) → IsSomePending p t → IsSomePending p u → t ≡ u
@@ -302,14 +298,6 @@ module _ (w : State) (t l : ℕ) (steady : IsSteady w) (there : t < length w.pla
       by_lock None e = tt
       by_lock (Some k) e = eqb-true k l e
 
-  -- who goes somewhere is in a call still
-  held_calls : (p : Place) → IsOf l p → (h : Hand) → (station p).hand ≡ Some h → calls p l ≡ true
-  held_calls p of h e = by_lock (lock_of p) refl of
-    where
-      by_lock : (o : Option ℕ) → lock_of p ≡ o → IsLock l o → is_lock l o ≡ true
-      by_lock None f g = absurd (let none : ◌≡◌ {A = Option Hand} None (Some h) = sym (ap (λ q. (station q).hand) (calls_none p f)) ∙ e in cc)
-      by_lock (Some k) f g = ap (λ j. j == l) g ∙ same l
-
   module _ (asleep : (u : ℕ) → calls (place_at w u) l ≡ true → IsSleeper u) where
     -- whom t has in hand is woken, and tries again, where t has handed nothing over
     pub wakes_one : (any : Bool) → (station_of x).carries ≡ in_hand any false → (u : ℕ) (b : Bool) → hand_at (place_at w u) l ≡ hand t b → IsWoken w t l b Normal (place_at w u)
@@ -361,7 +349,7 @@ module _ (w : State) (t l : ℕ) (steady : IsSteady w) (there : t < length w.pla
       free = free;
       calls_then = of_2;
       doing = doing_here l p2 of_2 ∙ ap (λ (y : Profile). y.doing) z.taken ∙ k.doing t ∙ sym (doing_here l (place_at w u) of_u ∙ ap (λ (y : Profile). y.doing) z.row);
-      held = λ y e. let same_want : k.want ≡ y = cc in (λ i. taken_from ((ap (λ (y : Station). y.hand) free) i) ((ap (λ (y : Profile). y.wants) z.taken ∙ k.wants t ∙ ap Some same_want) i) (held_calls p2 of_2 (Of t false) (ap (λ (y : Station). y.hand) free) i));
+      held = λ y e. let same_want : k.want ≡ y = cc in (λ i. taken_from ((ap (λ (y : Station). y.hand) free) i) ((ap (λ (y : Profile). y.wants) z.taken ∙ k.wants t ∙ ap Some same_want) i) (held_calls p2 l of_2 (Of t false) (ap (λ (y : Station). y.hand) free) i));
       fits = z.taken_fits;
     }
       where

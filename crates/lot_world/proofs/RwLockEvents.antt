@@ -1,5 +1,5 @@
 -- Each step of a thread in a call of a reader-writer lock is a step of the abstract locks, and a call begins where it has its right.
-use Rattle.std.proofs.Common.{ℕ, true, false, Option, Some, None, if◌then◌else◌, ◌==◌, not, ◌≡◌, ◌≤◌, ◌<◌, ◌⊎◌, inl, inr, List, [], length, get_or-set_same, refl, sym, ◌∙◌, ap, subst, arith, append-nil}
+use Rattle.std.proofs.Common.{ℕ, Bool, true, false, Option, Some, None, if◌then◌else◌, ◌==◌, not, ◌≡◌, ◌≤◌, ◌<◌, ◌⊎◌, inl, inr, List, [], length, get_or-set_same, refl, sym, ◌∙◌, ap, subst, arith, append-nil}
 use Rattle.std.proofs.lemmas.Bool.Decides.{nat_tests}
 use Rattle.lot_calls.specs.declared.calls.Access.{Access}
 use Rattle.lot_calls.specs.declared.calls.Access.TheVariants as access
@@ -24,10 +24,17 @@ use Rattle.lot_rwlock.specs.declared.places.RwLockPlace.{RwLockPlace}
 use Rattle.lot_rwlock.specs.RwLockBegins.{has_access}
 use Rattle.lot_rwlock.specs.RwLockSteps.{from_of, rwlock_next, wanted}
 use Rattle.lot_rwlock_fair.specs.declared.places.RwLockCallPlace.{RwLockCallPlace}
-use Rattle.lot_rwlock_fair.specs.declared.places.RwLockCallPlace.TheVariants.{Plain}
+use Rattle.lot_rwlock.specs.declared.purposes.RwLockPurpose.{RwLockPurpose}
+use Rattle.lot_rwlock.specs.declared.purposes.RwLockPurpose.TheVariants as purpose
+use Rattle.lot_calls.specs.declared.outcomes.Answer.TheVariants.{Ok}
+use Rattle.lot_acts.specs.declared.acts.Reply.TheVariants.{Done, Picked, Value}
+use Rattle.lot_rwlock_fair.specs.declared.places.RwLockCallPlace.TheVariants.{Plain, Glance, HandOver, Bump, Handed}
+use Rattle.lot_rwlock_fair.specs.declared.hand_over.HandOverAt.{HandOverAt}
+use Rattle.lot_rwlock_fair.specs.declared.hand_over.HandOverAt.TheVariants as handing
+use Rattle.lot_rwlock_fair.specs.declared.handed.HandedAt.TheVariants as handed
 use Rattle.lot_rwlock_fair.specs.FairDeeds.{call_deeds}
 use Rattle.lot_rwlock_fair.specs.FairMoves.{CallMoves, call_hears, call_move}
-use Rattle.lot_rwlock_fair.specs.FairSteps.{call_act, call_next, plain_next, unless_given}
+use Rattle.lot_rwlock_fair.specs.FairSteps.{any_taken, bump_next, call_act, call_next, enters_again, freed_next, gives_up_at, gives_way, hand_over_next, has_room, looked, plain_next, released, took, unless_given}
 use Rattle.lot_rwlock_fair.proofs.FairActs.{fair_acts_move}
 use Rattle.lot_rwlock_fair.proofs.FairSleepers.{never_given}
 use Rattle.lot_rwlock_fair.specs.FairBegins.{call_first, call_right}
@@ -46,7 +53,7 @@ use Rattle.lot_machine.specs.Fits.{IsShaped}
 use Rattle.lot_machine.proofs.Shape.{performed_counts}
 use Rattle.lot_world.specs.MutexDeeds.{acts}
 use Rattle.lot_world.specs.Refinement.{call_state, lock_state, locks_of, taken_at}
-use Rattle.lot_world.specs.SitesOf.{FitsItsLock, Goes, IsBuilt, IsSteady, carried_at, rules_in}
+use Rattle.lot_world.specs.SitesOf.{FitsItsLock, Goes, IsSteady, carried_at, rules_in}
 use Rattle.lot_world.specs.Stations.{station}
 use Rattle.lot_world.proofs.AtPlaces.{in_no_hand}
 use Rattle.lot_world.proofs.CallEvents.{Happens, LeadsTo, OthersFollow, goes_by, happens, others_follow}
@@ -68,13 +75,67 @@ abbrev NextAwake : Admission → ℕ → Next RwLockCallPlace → Type 0
 NextAwake a l (next.At q) = CallAwake (call_profile a q) (call_act l a q)
 NextAwake a l (next.End answer) = Unit {0}
 
-own_next : (l : ℕ) (a : Admission) (c : RwLockCallPlace) (told : Reply) → IsOwn told → IsBuilt c → NextAwake a l (call_next a c told)
-own_next l a (Plain p) told own built = subst (λ (o : Option RwLockCallPlace). NextAwake a l (unless_given o (plain_next (rwlock_next a p told)))) (sym (not_given false p told own)) (by_next (rwlock_next a p told))
+in_no_hand_now : (a : Admission) (c : RwLockCallPlace) → (call_profile a c).hand ≡ None → (u : ℕ) → (call_profile a c).hand ≡ hand u true → ⊥
+in_no_hand_now a c none u h = let f : ◌≡◌ {A = Option Hand} None (hand u true) = sym none ∙ h in cc
+
+enters_again_bare : (a : Admission) (x : Access) → (call_profile a (enters_again x)).hand ≡ None
+enters_again_bare a access.Exclusive = refl
+enters_again_bare a access.Upgradable = refl
+enters_again_bare a access.Shared = refl
+
+released_awake : (l : ℕ) (a : Admission) (x : Access) (b : Bool) → NextAwake a l (released x b)
+released_awake l a x true = in_no_hand_now a (enters_again x) (enters_again_bare a x)
+released_awake l a x false = tt
+
+gives_up_awake : (l : ℕ) (a : Admission) (x : Access) (b : Bool) → NextAwake a l (if b then next.At (gives_up_at x) else next.End Ok)
+gives_up_awake l a access.Shared true = in_no_hand_now a (gives_up_at access.Shared) refl
+gives_up_awake l a access.Upgradable true = in_no_hand_now a (gives_up_at access.Upgradable) refl
+gives_up_awake l a access.Exclusive true = in_no_hand_now a (gives_up_at access.Exclusive) refl
+gives_up_awake l a x false = tt
+
+module _ (l : ℕ) (a : Admission) (x : Access) (b : Bool) where
+  -- who hands over is in nobody's hand
+  goes_bare : (to : HandOverAt) → NextAwake a l (next.At (HandOver x b to))
+  goes_bare to = in_no_hand_now a (HandOver x b to) refl
+
+  either_bare : (c : Bool) (to : HandOverAt) → NextAwake a l (if c then released x b else next.At (HandOver x b to))
+  either_bare true to = released_awake l a x b
+  either_bare false to = goes_bare to
+
+  hands_bare : (c : Bool) (to too : HandOverAt) → NextAwake a l (if c then next.At (HandOver x b to) else next.At (HandOver x b too))
+  hands_bare true to too = goes_bare to
+  hands_bare false to too = goes_bare too
+
+  handing_awake : (to : HandOverAt) (told : Reply) → NextAwake a l (hand_over_next a x b to told)
+  handing_awake handing.Load (Value seen) = goes_bare (looked seen)
+  handing_awake (handing.Free expected) (Value seen) = either_bare (seen == expected) (freed_next x seen)
+  handing_awake handing.Enter Done = goes_bare handing.Take
+  handing_awake handing.Take (Picked n y none_left) = goes_bare (took x (record { sharers = n; successor = y; none_left = none_left }))
+  handing_awake (handing.Store k) (Value seen) = goes_bare (handing.Leave (any_taken k) true)
+  handing_awake (handing.Look k) (Value seen) = goes_bare (handing.Exchange k seen)
+  handing_awake (handing.Exchange k expected) (Value seen) = hands_bare (seen == expected) (handing.Leave (any_taken k) (has_room a.limit k seen)) (handing.Exchange k seen)
+  handing_awake (handing.Leave any given) Done = released_awake l a x b
+  handing_awake to told = goes_bare to
+
+own_next : (l : ℕ) (a : Admission) (c : RwLockCallPlace) (told : Reply) → IsOwn told → (call_act l a c ≡ act.Sleep → ⊥) → NextAwake a l (call_next a c told)
+own_next l a (Plain p) told own awake = subst (λ (o : Option RwLockCallPlace). NextAwake a l (unless_given o (plain_next (rwlock_next a p told)))) (sym (not_given false p told own)) (by_next (rwlock_next a p told))
   where
     by_next : (n : Next RwLockPlace) → NextAwake a l (plain_next n)
     by_next (next.At q) = never_given a l q.at
     by_next (next.End answer) = tt
-own_next l a c told own built = absurd built
+own_next l a (Bump p) told own awake = subst (λ (o : Option RwLockCallPlace). NextAwake a l (unless_given o (bump_next p.purpose (rwlock_next a p told)))) (sym (not_given true p told own)) (by_next p.purpose (rwlock_next a p told))
+  where
+    by_next : (q : RwLockPurpose) (n : Next RwLockPlace) → NextAwake a l (bump_next q n)
+    by_next q (next.At p2) = never_given a l p2.at
+    by_next (purpose.Release x) (next.End answer) = in_no_hand_now a (enters_again x) (enters_again_bare a x)
+    by_next q (next.End answer) = tt
+own_next l a (Glance x) (Value seen) own awake = gives_up_awake l a x (gives_way a x seen)
+own_next l a (Glance x) told own awake = in_no_hand_now a (Glance x) refl
+own_next l a (HandOver x b to) told own awake = handing_awake l a x b to told
+own_next l a (Handed x how b (handed.Asleep u alone)) told own awake = absurd (awake refl)
+own_next l a (Handed x how b handed.Accept) Done own awake = tt
+own_next l a (Handed x how b handed.Accept) (Value seen) own awake = tt
+own_next l a (Handed x how b handed.Accept) told own awake = in_no_hand_now a (Handed x how b handed.Accept) refl
 
 own_reply : (w : State) (t : ℕ) (y : Act) → IsOwn (reply_to w t y)
 own_reply w t act.Rest = tt
@@ -145,11 +206,8 @@ module _ (w : State) (t l : ℕ) (a : Admission) (c : RwLockCallPlace) (steady :
       by_act y moves acting asleep awake = inl refl
 
   leads : LeadsTo behind t l (next_rows a (call_next a c told)) (outcome_of (rwlock_does l a (call_next a c told)))
-  leads = by_next (call_next a c told) (get_or-set_same (state_after_act w t (RwLock l a c) (call_act l a c)).places t _ Idle (rw (performed_counts w t (RwLock l a c) (call_act l a c)).0 there)) (own_next l a c told (own_reply w t (call_act l a c)) fits_now.2)
+  leads = by_next (call_next a c told) (get_or-set_same (state_after_act w t (RwLock l a c) (call_act l a c)).places t _ Idle (rw (performed_counts w t (RwLock l a c) (call_act l a c)).0 there)) (own_next l a c told (own_reply w t (call_act l a c)) (λ asleep. let f : true ≡ false = sym can ∙ ap (can_do w) asleep in cc))
     where
-      fits_now : FitsItsLock w (RwLock l a c)
-      fits_now = subst (FitsItsLock w) is (steady.stands.calls t)
-
       by_next : (n : Next RwLockCallPlace) → place_at behind t ≡ rwlock_goes l a n → NextAwake a l n → LeadsTo behind t l (next_rows a n) (outcome_of (rwlock_does l a n))
       by_next (next.At q) e awake = (ap lock_of e, ap profile e, rests q e awake)
       by_next (next.End answer) e awake = (e, refl)

@@ -79,14 +79,14 @@ use Rattle.lot_world.specs.Refinement.{taken_at}
 use Rattle.lot_world.specs.MutexDeeds.{acts}
 use Rattle.lot_world.specs.Stations.{station, doing_on}
 use Rattle.lot_world.specs.SitesOf.{IsBuilt, IsSteady, Goes, FitsItsLock, TakesOne, HasRoom, carried_at, hand_at, is_mutex, rules_in, key_of}
-use Rattle.lot_world.proofs.Glue.{IsOf, next_of, parts_at, put_here, doing_here, station_here}
+use Rattle.lot_world.proofs.Glue.{free_of, IsOf, next_of, parts_at, put_here, doing_here, station_here}
 use Rattle.lot_world.proofs.HandsMoved.{accepts, tells_handed, told_hears}
 use Rattle.lot_world.proofs.WakesKept.{IsWoken}
 use Rattle.lot_world.proofs.StandsMoved.{mutex_rules}
 use Rattle.lot_world.proofs.ActsKept.{lock_by, place_goes}
 use Rattle.lot_world.proofs.OneStep.{steps_by}
 use Rattle.lot_world.proofs.OtherCalls.{IsCalm, WakesOwn}
-use Rattle.lot_world.proofs.MovesKept.{entered_hears, left_hears, parked_hears, removed_hears, picked_hears, picked_deeds, free_of, IsFollowed, IsSleeper, stays, goes_in, goes_out, parks_or_turns, leaves_line, takes_whom_aside, takes_chosen, wakes_one, nowhere_here}
+use Rattle.lot_world.proofs.MovesKept.{entered_hears, left_hears, parked_hears, removed_hears, picked_hears, picked_deeds, IsFollowed, IsSleeper, stays, goes_in, goes_out, parks_or_turns, leaves_line, takes_whom_aside, takes_chosen, wakes_one, nowhere_here}
 
 -- ---------------------------------------------------------------- rows
 

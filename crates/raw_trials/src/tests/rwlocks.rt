@@ -1,0 +1,325 @@
+//! Raw reader-writer locks of one thread.
+mod mixes;
+mod timed;
+mod waits;
+
+ghost use Rattle.std.specs.Prelude.{◌≡◌, ◌≤◌, ◌<◌, All, IfOk, IfSome};
+ghost use Rattle.std.specs.Arc.{arc_value};
+ghost use Rattle.parking_lot_core.specs.Tokens.{IsTicketOf, IsTokenOf};
+ghost use Rattle.parking_lot.specs.RwLockUsers.{lot_of};
+
+use parking_lot::lock_raw::{
+    RawRwLock as RawLock, RawRwLockDowngrade, RawRwLockUpgrade, RawRwLockUpgradeDowngrade,
+};
+use parking_lot::{Fault, ParkingLot, RawRwLock, Ticket, Token};
+use std::alloc::Global;
+use std::sync::{Arc, Wait};
+use std::test::Fail;
+
+// A lock of a lot, made by the thread of a ticket.
+fn lock_by<const RECURSIVE: bool>(
+    lot: &Arc<ParkingLot>,
+    ticket: Ticket,
+    limit: u64,
+) -> Result<RawRwLock<RECURSIVE>, Fault>
+    requires { IsTicketOf (arc_value lot.now) ticket × (limit ≤ 1000) }
+    ensures { IfOk result (λ lock. lot_of lock ≡ arc_value lot.now) }
+{
+    let mut token = ticket.enter();
+    RawRwLock::<RECURSIVE>::with_limit(lot, &mut token, limit)
+}
+
+// A lot with so many threads and one more, which has made a lock of it that so many may share.
+fn seats<const RECURSIVE: bool>(
+    alloc: Global,
+    threads: usize,
+    limit: u64,
+) -> Result<(Arc<ParkingLot>, RawRwLock<RECURSIVE>, Vec<Ticket>), Fault>
+    requires { (threads < 100) × (limit ≤ 1000) }
+    ensures { IfOk result (λ made. (lot_of made.1 ≡ arc_value made.0) × All (IsTicketOf (arc_value made.0)) made.2.items) }
+{
+    let (lot, mut tickets) = ParkingLot::new(alloc, 1, threads + 1)?;
+    let Some(ticket) = tickets.pop() else {
+        return Err(Fault::NoMemory);
+    };
+    let lock = lock_by(&lot, ticket, limit)?;
+    Ok((lot, lock, tickets))
+}
+
+fn next_of(lot: &ParkingLot, tickets: &mut Vec<Ticket>) -> Option<Ticket>
+    requires { All (IsTicketOf lot.now) tickets.old.items }
+    ensures left { All (IsTicketOf lot.now) tickets.new.items }
+    ensures one { IfSome result (IsTicketOf lot.now) }
+{
+    tickets.pop()
+}
+
+// A lock that one thread has for itself.
+fn lock_alone<const RECURSIVE: bool>(
+    alloc: Global,
+    limit: u64,
+) -> Result<(RawRwLock<RECURSIVE>, Token), Fault>
+    requires { limit ≤ 1000 }
+    ensures { IfOk result (λ made. IsTokenOf (lot_of made.0) made.1) }
+{
+    let (lot, lock, mut tickets) = seats(alloc, 1, limit)?;
+    let Some(ticket) = next_of(&lot, &mut tickets) else {
+        return Err(Fault::NoMemory);
+    };
+    Ok((lock, ticket.enter()))
+}
+
+// Whether a try to read gets the lock.
+fn reads<const RECURSIVE: bool, R: Wait>(
+    rt: &R,
+    lock: &RawRwLock<RECURSIVE>,
+    token: &mut Token,
+) -> bool
+    requires { IsTokenOf (lot_of lock.now) token.old }
+    ensures { IsTokenOf (lot_of lock.now) token.new }
+{
+    match lock.try_lock_shared(rt, token) {
+        Ok(Some(guard)) => {
+            lock.unlock_shared(rt, token, guard);
+            true
+        }
+        _ => false,
+    }
+}
+
+// Whether a try to come in with the upgradable right gets it.
+fn comes_upgradable<const RECURSIVE: bool, R: Wait>(
+    rt: &R,
+    lock: &RawRwLock<RECURSIVE>,
+    token: &mut Token,
+) -> bool
+    requires { IsTokenOf (lot_of lock.now) token.old }
+    ensures { IsTokenOf (lot_of lock.now) token.new }
+{
+    match lock.try_lock_upgradable(rt, token) {
+        Ok(Some(guard)) => {
+            lock.unlock_upgradable(rt, token, guard);
+            true
+        }
+        _ => false,
+    }
+}
+
+// Whether a try to own the lock alone gets it.
+fn writes<const RECURSIVE: bool, R: Wait>(
+    rt: &R,
+    lock: &RawRwLock<RECURSIVE>,
+    token: &mut Token,
+) -> bool
+    requires { IsTokenOf (lot_of lock.now) token.old }
+    ensures { IsTokenOf (lot_of lock.now) token.new }
+{
+    match lock.try_lock_exclusive(token) {
+        Some(guard) => {
+            lock.unlock_exclusive(rt, token, guard);
+            true
+        }
+        None => false,
+    }
+}
+
+// Whether the lock is held, and is held alone, and which tries get it: to read, to read and upgrade, to own alone.
+fn look<const RECURSIVE: bool, R: Wait>(
+    rt: &R,
+    lock: &RawRwLock<RECURSIVE>,
+    token: &mut Token,
+) -> [bool; 5]
+    requires { IsTokenOf (lot_of lock.now) token.old }
+    ensures { IsTokenOf (lot_of lock.now) token.new }
+{
+    [
+        lock.is_locked(token),
+        lock.is_locked_exclusive(token),
+        reads(rt, lock, token),
+        comes_upgradable(rt, lock, token),
+        writes(rt, lock, token),
+    ]
+}
+
+const FREE: [bool; 5] = [false, false, true, true, true];
+
+const READ: [bool; 5] = [true, false, true, true, false];
+
+const UPGRADABLE: [bool; 5] = [true, false, true, false, false];
+
+const WRITTEN: [bool; 5] = [true, true, false, false, false];
+
+// What is seen beside a reader, and behind it.
+fn sees_readers<const RECURSIVE: bool, R: Wait>(
+    rt: &R,
+    lock: &RawRwLock<RECURSIVE>,
+    token: &mut Token,
+) -> bool
+    requires { IsTokenOf (lot_of lock.now) token.old }
+    ensures { IsTokenOf (lot_of lock.now) token.new }
+{
+    let Ok(guard) = lock.lock_shared(rt, token) else {
+        return false;
+    };
+    let beside = look(rt, lock, token);
+    lock.unlock_shared(rt, token, guard);
+    beside == READ && look(rt, lock, token) == FREE
+}
+
+// The same of who has the upgradable right, and becomes a reader.
+fn sees_upgradables<const RECURSIVE: bool, R: Wait>(
+    rt: &R,
+    lock: &RawRwLock<RECURSIVE>,
+    token: &mut Token,
+) -> bool
+    requires { IsTokenOf (lot_of lock.now) token.old }
+    ensures { IsTokenOf (lot_of lock.now) token.new }
+{
+    let Ok(guard) = lock.lock_upgradable(rt, token) else {
+        return false;
+    };
+    let beside = look(rt, lock, token);
+    let guard = lock.downgrade_upgradable(rt, token, guard);
+    let turned = look(rt, lock, token);
+    lock.unlock_shared(rt, token, guard);
+    beside == UPGRADABLE && turned == READ
+}
+
+// The same of a writer, which becomes a reader.
+fn sees_writers<const RECURSIVE: bool, R: Wait>(
+    rt: &R,
+    lock: &RawRwLock<RECURSIVE>,
+    token: &mut Token,
+) -> bool
+    requires { IsTokenOf (lot_of lock.now) token.old }
+    ensures { IsTokenOf (lot_of lock.now) token.new }
+{
+    let guard = lock.lock_exclusive(rt, token);
+    let beside = look(rt, lock, token);
+    let guard = lock.downgrade(rt, token, guard);
+    let turned = look(rt, lock, token);
+    lock.unlock_shared(rt, token, guard);
+    beside == WRITTEN && turned == READ
+}
+
+// The same of a writer that has the upgradable right then, and is a writer again.
+fn sees_turns<const RECURSIVE: bool, R: Wait>(
+    rt: &R,
+    lock: &RawRwLock<RECURSIVE>,
+    token: &mut Token,
+) -> bool
+    requires { IsTokenOf (lot_of lock.now) token.old }
+    ensures { IsTokenOf (lot_of lock.now) token.new }
+{
+    let guard = lock.lock_exclusive(rt, token);
+    let guard = lock.downgrade_to_upgradable(rt, token, guard);
+    let lesser = look(rt, lock, token);
+    let guard = lock.upgrade(rt, token, guard);
+    let greater = look(rt, lock, token);
+    lock.unlock_exclusive(rt, token, guard);
+    lesser == UPGRADABLE && greater == WRITTEN && look(rt, lock, token) == FREE
+}
+
+// A try to upgrade: whether it succeeded, and what was seen then.
+fn try_to_upgrade<const RECURSIVE: bool, R: Wait>(
+    rt: &R,
+    lock: &RawRwLock<RECURSIVE>,
+    token: &mut Token,
+) -> (bool, [bool; 5])
+    requires { IsTokenOf (lot_of lock.now) token.old }
+    ensures { IsTokenOf (lot_of lock.now) token.new }
+{
+    let Ok(guard) = lock.lock_upgradable(rt, token) else {
+        return (false, FREE);
+    };
+    match lock.try_upgrade(rt, token, guard) {
+        Ok(guard) => {
+            let seen = look(rt, lock, token);
+            lock.unlock_exclusive(rt, token, guard);
+            (true, seen)
+        }
+        Err(guard) => {
+            let seen = look(rt, lock, token);
+            lock.unlock_upgradable(rt, token, guard);
+            (false, seen)
+        }
+    }
+}
+
+// Whether a try to upgrade fails beside another reader, keeps its right, and succeeds alone.
+fn tries_to_upgrade<const RECURSIVE: bool, R: Wait>(
+    rt: &R,
+    lock: &RawRwLock<RECURSIVE>,
+    token: &mut Token,
+) -> bool
+    requires { IsTokenOf (lot_of lock.now) token.old }
+    ensures { IsTokenOf (lot_of lock.now) token.new }
+{
+    let Ok(reader) = lock.lock_shared(rt, token) else {
+        return false;
+    };
+    let beside = try_to_upgrade(rt, lock, token);
+    lock.unlock_shared(rt, token, reader);
+    beside == (false, UPGRADABLE) && try_to_upgrade(rt, lock, token) == (true, WRITTEN)
+}
+
+// Whether all rights of a lock keep out whom they are to.
+fn sees_all<const RECURSIVE: bool>(rt: &impl Wait, alloc: Global) -> Result<bool, Fault> {
+    let (lock, mut token) = lock_alone::<RECURSIVE>(alloc, 10)?;
+    let held = sees_readers(rt, &lock, &mut token)
+        && sees_upgradables(rt, &lock, &mut token)
+        && sees_writers(rt, &lock, &mut token);
+    let turned = sees_turns(rt, &lock, &mut token) && tries_to_upgrade(rt, &lock, &mut token);
+    Ok(held && turned && look(rt, &lock, &mut token) == FREE)
+}
+
+#[test]
+fn rights_keep_out_whom_they_are_to(rt: HostRuntime) -> Result<(), Fail> {
+    assert!(rt; sees_all::<false>(&rt, rt.alloc())?);
+    assert!(rt; sees_all::<true>(&rt, rt.alloc())?);
+    Ok(())
+}
+
+// Whether the lock has as many readers as may share it.
+fn is_full<R: Wait>(rt: &R, lock: &RawRwLock<false>, token: &mut Token) -> bool
+    requires { IsTokenOf (lot_of lock.now) token.old }
+    ensures { IsTokenOf (lot_of lock.now) token.new }
+{
+    match lock.lock_shared(rt, token) {
+        Ok(guard) => {
+            lock.unlock_shared(rt, token, guard);
+            false
+        }
+        Err(fault) => fault == Fault::ReadersFull,
+    }
+}
+
+// Whether two readers fill a lock, the second with the upgradable right, and one doesn't.
+fn fills<R: Wait>(rt: &R, lock: &RawRwLock<false>, token: &mut Token) -> bool
+    requires { IsTokenOf (lot_of lock.now) token.old }
+    ensures { IsTokenOf (lot_of lock.now) token.new }
+{
+    let Ok(first) = lock.lock_upgradable(rt, token) else {
+        return false;
+    };
+    let before = is_full(rt, lock, token);
+    let filled = match lock.lock_shared(rt, token) {
+        Ok(second) => {
+            let full = is_full(rt, lock, token) && !reads(rt, lock, token);
+            lock.unlock_shared(rt, token, second);
+            full
+        }
+        Err(_) => false,
+    };
+    let behind = is_full(rt, lock, token);
+    lock.unlock_upgradable(rt, token, first);
+    filled && !before && !behind
+}
+
+#[test]
+fn a_full_lock_refuses_readers(rt: HostRuntime) -> Result<(), Fail> {
+    let (lock, mut token) = lock_alone(rt.alloc(), 2)?;
+    assert!(rt; fills(&rt, &lock, &mut token));
+    assert!(rt; look(&rt, &lock, &mut token) == FREE);
+    Ok(())
+}

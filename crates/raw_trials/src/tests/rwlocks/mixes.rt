@@ -1,0 +1,335 @@
+//! Threads that do all that a reader-writer lock has, each in an order of its own.
+ghost use Rattle.std.specs.Prelude.{◌≡◌, IfOk, IfSome};
+ghost use Rattle.parking_lot_core.specs.Tokens.{IsTicketOf, IsTokenOf};
+ghost use Rattle.parking_lot.specs.RwLockGuards.{IsExclusiveOf, IsSharedOf, IsUpgradableOf};
+ghost use Rattle.parking_lot.specs.RwLockUsers.{lot_of, word_of};
+
+use super::seats;
+use parking_lot::lock_raw::{
+    RawRwLock as RawLock, RawRwLockDowngrade, RawRwLockTimed, RawRwLockUpgrade,
+    RawRwLockUpgradeDowngrade, RawRwLockUpgradeTimed,
+};
+use parking_lot::{
+    Fault, RawExclusiveGuard, RawRwLock, RawSharedGuard, RawUpgradableGuard, TickClock, Ticket,
+    Token,
+};
+use std::alloc::Global;
+use std::sync::Wait;
+use std::sync::atomic::AtomicUsize;
+use std::sync::atomic::Ordering::SeqCst;
+use std::test::Fail;
+use std::thread::{Threads, map_vec, yield_now};
+
+const ROUNDS: usize = 300;
+
+const THREADS: usize = 6;
+
+/// Who is inside a lock, as its threads told it, and how often somebody found whom nobody may find there.
+#[derive(Drop)]
+pub(super) struct Inside {
+    readers: AtomicUsize,
+    upgradables: AtomicUsize,
+    writers: AtomicUsize,
+    wrongs: AtomicUsize,
+}
+
+impl Inside {
+    pub(super) fn new() -> Inside {
+        Inside {
+            readers: AtomicUsize::new(0),
+            upgradables: AtomicUsize::new(0),
+            writers: AtomicUsize::new(0),
+            wrongs: AtomicUsize::new(0),
+        }
+    }
+
+    pub(super) fn wrongs(&self) -> usize {
+        self.wrongs.load(SeqCst)
+    }
+
+    fn expect(&self, right: bool) {
+        if !right {
+            self.wrongs.fetch_add(1, SeqCst);
+        }
+    }
+
+    pub(super) fn read(&self) {
+        self.readers.fetch_add(1, SeqCst);
+        self.expect(self.writers.load(SeqCst) == 0);
+        yield_now();
+        self.expect(self.writers.load(SeqCst) == 0);
+        self.readers.fetch_sub(1, SeqCst);
+    }
+
+    pub(super) fn read_upgradable(&self) {
+        let others = self.upgradables.fetch_add(1, SeqCst);
+        self.expect(others == 0);
+        self.read();
+        self.upgradables.fetch_sub(1, SeqCst);
+    }
+
+    pub(super) fn write(&self) {
+        let others = self.writers.fetch_add(1, SeqCst);
+        self.expect(others == 0 && self.readers.load(SeqCst) == 0);
+        yield_now();
+        self.expect(self.upgradables.load(SeqCst) == 0 && self.readers.load(SeqCst) == 0);
+        self.writers.fetch_sub(1, SeqCst);
+    }
+}
+
+// Reads where it came in, and goes.
+fn read_by<const RECURSIVE: bool, R: Wait>(
+    rt: &R,
+    lock: &RawRwLock<RECURSIVE>,
+    token: &mut Token,
+    inside: &Inside,
+    came: Result<Option<RawSharedGuard>, Fault>,
+)
+    requires token { IsTokenOf (lot_of lock.now) token.old }
+    requires guard { IfOk came (λ came. IfSome came (IsSharedOf (lot_of lock.now) (word_of lock.now))) }
+    ensures { IsTokenOf (lot_of lock.now) token.new }
+{
+    match came {
+        Ok(Some(guard)) => {
+            inside.read();
+            lock.unlock_shared(rt, token, guard);
+        }
+        _ => {}
+    }
+}
+
+// The same of who reads with the upgradable right.
+fn read_upgradable_by<const RECURSIVE: bool, R: Wait>(
+    rt: &R,
+    lock: &RawRwLock<RECURSIVE>,
+    token: &mut Token,
+    inside: &Inside,
+    came: Result<Option<RawUpgradableGuard>, Fault>,
+)
+    requires token { IsTokenOf (lot_of lock.now) token.old }
+    requires guard { IfOk came (λ came. IfSome came (IsUpgradableOf (lot_of lock.now) (word_of lock.now))) }
+    ensures { IsTokenOf (lot_of lock.now) token.new }
+{
+    match came {
+        Ok(Some(guard)) => {
+            inside.read_upgradable();
+            lock.unlock_upgradable(rt, token, guard);
+        }
+        _ => {}
+    }
+}
+
+// The same of a writer.
+fn write_by<const RECURSIVE: bool, R: Wait>(
+    rt: &R,
+    lock: &RawRwLock<RECURSIVE>,
+    token: &mut Token,
+    inside: &Inside,
+    came: Option<RawExclusiveGuard>,
+)
+    requires token { IsTokenOf (lot_of lock.now) token.old }
+    requires guard { IfSome came (IsExclusiveOf (lot_of lock.now) (word_of lock.now)) }
+    ensures { IsTokenOf (lot_of lock.now) token.new }
+{
+    match came {
+        Some(guard) => {
+            inside.write();
+            lock.unlock_exclusive(rt, token, guard);
+        }
+        None => {}
+    }
+}
+
+fn read<const RECURSIVE: bool, R: Wait>(
+    rt: &R,
+    lock: &RawRwLock<RECURSIVE>,
+    token: &mut Token,
+    inside: &Inside,
+)
+    requires { IsTokenOf (lot_of lock.now) token.old }
+    ensures { IsTokenOf (lot_of lock.now) token.new }
+{
+    match lock.lock_shared(rt, token) {
+        Ok(guard) => read_by(rt, lock, token, inside, Ok(Some(guard))),
+        Err(_) => {}
+    }
+}
+
+fn write<const RECURSIVE: bool, R: Wait>(
+    rt: &R,
+    lock: &RawRwLock<RECURSIVE>,
+    token: &mut Token,
+    inside: &Inside,
+)
+    requires { IsTokenOf (lot_of lock.now) token.old }
+    ensures { IsTokenOf (lot_of lock.now) token.new }
+{
+    let guard = lock.lock_exclusive(rt, token);
+    write_by(rt, lock, token, inside, Some(guard));
+}
+
+// Reads, writes by an upgrade, and reads again in lesser and lesser rights.
+fn go_up_and_down<const RECURSIVE: bool, R: Wait>(
+    rt: &R,
+    lock: &RawRwLock<RECURSIVE>,
+    token: &mut Token,
+    inside: &Inside,
+)
+    requires { IsTokenOf (lot_of lock.now) token.old }
+    ensures { IsTokenOf (lot_of lock.now) token.new }
+{
+    let Ok(guard) = lock.lock_upgradable(rt, token) else {
+        return;
+    };
+    inside.read_upgradable();
+    let guard = lock.upgrade(rt, token, guard);
+    inside.write();
+    let guard = lock.downgrade_to_upgradable(rt, token, guard);
+    inside.read_upgradable();
+    let guard = lock.downgrade_upgradable(rt, token, guard);
+    read_by(rt, lock, token, inside, Ok(Some(guard)));
+}
+
+// Writes, and reads.
+fn go_down<const RECURSIVE: bool, R: Wait>(
+    rt: &R,
+    lock: &RawRwLock<RECURSIVE>,
+    token: &mut Token,
+    inside: &Inside,
+)
+    requires { IsTokenOf (lot_of lock.now) token.old }
+    ensures { IsTokenOf (lot_of lock.now) token.new }
+{
+    let guard = lock.lock_exclusive(rt, token);
+    inside.write();
+    let guard = lock.downgrade(rt, token, guard);
+    read_by(rt, lock, token, inside, Ok(Some(guard)));
+}
+
+// Upgrades where that succeeds before a deadline, or at once where there is none.
+fn upgrade_soon<const RECURSIVE: bool, R: Wait>(
+    rt: &R,
+    lock: &RawRwLock<RECURSIVE>,
+    token: &mut Token,
+    inside: &Inside,
+    deadline: Option<u64>,
+)
+    requires { IsTokenOf (lot_of lock.now) token.old }
+    ensures { IsTokenOf (lot_of lock.now) token.new }
+{
+    let clock = TickClock::new();
+    let Ok(guard) = lock.lock_upgradable(rt, token) else {
+        return;
+    };
+    inside.read_upgradable();
+    let turned = match deadline {
+        Some(deadline) => lock.try_upgrade_until(rt, token, guard, &clock, deadline),
+        None => lock.try_upgrade(rt, token, guard),
+    };
+    match turned {
+        Ok(guard) => write_by(rt, lock, token, inside, Some(guard)),
+        Err(guard) => read_upgradable_by(rt, lock, token, inside, Ok(Some(guard))),
+    }
+}
+
+// All that may fail: within a time, and at once.
+fn try_all<const RECURSIVE: bool, R: Wait>(
+    rt: &R,
+    lock: &RawRwLock<RECURSIVE>,
+    token: &mut Token,
+    inside: &Inside,
+    deadline: u64,
+)
+    requires { IsTokenOf (lot_of lock.now) token.old }
+    ensures { IsTokenOf (lot_of lock.now) token.new }
+{
+    let clock = TickClock::new();
+    let came = lock.try_lock_exclusive_until(rt, token, &clock, deadline);
+    write_by(rt, lock, token, inside, came);
+    clock.restart();
+    let came = lock.try_lock_shared_until(rt, token, &clock, deadline);
+    read_by(rt, lock, token, inside, came);
+    clock.restart();
+    let came = lock.try_lock_upgradable_until(rt, token, &clock, deadline);
+    read_upgradable_by(rt, lock, token, inside, came);
+    let came = lock.try_lock_exclusive(token);
+    write_by(rt, lock, token, inside, came);
+    let came = lock.try_lock_shared(rt, token);
+    read_by(rt, lock, token, inside, came);
+    let came = lock.try_lock_upgradable(rt, token);
+    read_upgradable_by(rt, lock, token, inside, came);
+}
+
+// One turn of a thread, by a number.
+fn turn<const RECURSIVE: bool, R: Wait>(
+    rt: &R,
+    lock: &RawRwLock<RECURSIVE>,
+    token: &mut Token,
+    inside: &Inside,
+    number: usize,
+)
+    requires { IsTokenOf (lot_of lock.now) token.old }
+    ensures { IsTokenOf (lot_of lock.now) token.new }
+{
+    match number % 7 {
+        0 => write(rt, lock, token, inside),
+        1 => go_up_and_down(rt, lock, token, inside),
+        2 => go_down(rt, lock, token, inside),
+        3 => upgrade_soon(rt, lock, token, inside, None),
+        4 => upgrade_soon(rt, lock, token, inside, Some(9)),
+        5 => try_all(rt, lock, token, inside, 5),
+        _ => read(rt, lock, token, inside),
+    }
+}
+
+fn mix<const RECURSIVE: bool, R: Wait>(
+    rt: &R,
+    lock: &RawRwLock<RECURSIVE>,
+    ticket: Ticket,
+    inside: &Inside,
+    next: &AtomicUsize,
+)
+    requires { IsTicketOf (lot_of lock.now) ticket }
+{
+    let start = next.fetch_add(1, SeqCst);
+    let mut token = ticket.enter();
+    for round in 0..ROUNDS {
+        turn(
+            rt,
+            lock,
+            &mut token,
+            inside,
+            start.wrapping_mul(round).wrapping_add(round / 5),
+        );
+    }
+    drop(token.leave());
+}
+
+// Whether all threads were through, and nobody found whom nobody may find.
+fn all_mix<const RECURSIVE: bool, R: Threads + Wait + Sync>(
+    rt: &R,
+    alloc: Global,
+) -> Result<bool, Fault> {
+    let (_lot, lock, tickets) = seats::<RECURSIVE>(alloc, THREADS, 1000)?;
+    let (shared, inside, next) = (&lock, &Inside::new(), &AtomicUsize::new(1));
+    let mixed = map_vec(
+        rt,
+        tickets,
+        &|ticket: Ticket|
+            requires { IsTicketOf (lot_of shared.now) ticket }
+        { mix(rt, shared, ticket, inside, next) },
+    );
+    Ok(mixed.is_ok() && inside.wrongs() == 0)
+}
+
+#[test]
+fn six_threads_mix_all_calls(rt: HostRuntime) -> Result<(), Fail> {
+    assert!(rt; all_mix::<false, HostRuntime>(&rt, rt.alloc())?);
+    Ok(())
+}
+
+#[test]
+fn six_threads_mix_all_calls_of_a_recursive_lock(rt: HostRuntime) -> Result<(), Fail> {
+    assert!(rt; all_mix::<true, HostRuntime>(&rt, rt.alloc())?);
+    Ok(())
+}

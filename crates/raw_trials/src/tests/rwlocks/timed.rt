@@ -1,0 +1,363 @@
+//! Waits for a reader-writer lock that end in time.
+ghost use Rattle.std.specs.Prelude.{◌≡◌, ◌∷◌, [], IfOk, IfSome};
+ghost use Rattle.std.specs.Arc.{arc_value};
+ghost use Rattle.parking_lot_core.specs.Tokens.{IsTicketOf, IsTokenOf};
+ghost use Rattle.parking_lot.specs.RwLockUsers.{lot_of};
+
+use super::waits::{comes_to, queue_up};
+use super::{FREE, READ, UPGRADABLE, WRITTEN, look, next_of, seats};
+use parking_lot::lock_raw::{
+    RawRwLock as RawLock, RawRwLockTimed, RawRwLockUpgrade, RawRwLockUpgradeTimed,
+};
+use parking_lot::{Clock, Fault, ParkingLot, RawRwLock, TickClock, Ticket, Token};
+use std::alloc::Global;
+use std::sync::atomic::Ordering::SeqCst;
+use std::sync::atomic::{AtomicBool, AtomicUsize};
+use std::sync::{Arc, Wait};
+use std::test::Fail;
+use std::thread::{Threads, join, yield_now};
+use std::time::Duration;
+
+// Whether the waits for each right end without it.
+fn waits_in_vain<const RECURSIVE: bool, R: Wait>(
+    rt: &R,
+    lock: &RawRwLock<RECURSIVE>,
+    token: &mut Token,
+) -> bool
+    requires { IsTokenOf (lot_of lock.now) token.old }
+    ensures { IsTokenOf (lot_of lock.now) token.new }
+{
+    let clock = TickClock::new();
+    let read = match lock.try_lock_shared_until(rt, token, &clock, 20) {
+        Ok(Some(guard)) => {
+            lock.unlock_shared(rt, token, guard);
+            true
+        }
+        _ => false,
+    };
+    let soon = Duration::from_nanos(5);
+    let read_upgradable = match lock.try_lock_upgradable_for(rt, token, &clock, soon) {
+        Ok(Some(guard)) => {
+            lock.unlock_upgradable(rt, token, guard);
+            true
+        }
+        _ => false,
+    };
+    let written = match lock.try_lock_exclusive_for(rt, token, &clock, soon) {
+        Some(guard) => {
+            lock.unlock_exclusive(rt, token, guard);
+            true
+        }
+        None => false,
+    };
+    !read && !read_upgradable && !written
+}
+
+// Whether who waits beside a writer gives up, and leaves the lock as it is.
+fn gives_up_beside_a_writer<const RECURSIVE: bool, R: Wait>(
+    rt: &R,
+    lock: &RawRwLock<RECURSIVE>,
+    token: &mut Token,
+) -> bool
+    requires { IsTokenOf (lot_of lock.now) token.old }
+    ensures { IsTokenOf (lot_of lock.now) token.new }
+{
+    let guard = lock.lock_exclusive(rt, token);
+    let in_vain = waits_in_vain(rt, lock, token);
+    let beside = look(rt, lock, token);
+    lock.unlock_exclusive(rt, token, guard);
+    in_vain && beside == WRITTEN && look(rt, lock, token) == FREE
+}
+
+// Whether a writer that waits beside a reader gives up, and readers come in then.
+fn gives_up_beside_a_reader<const RECURSIVE: bool, R: Wait>(
+    rt: &R,
+    lock: &RawRwLock<RECURSIVE>,
+    token: &mut Token,
+) -> bool
+    requires { IsTokenOf (lot_of lock.now) token.old }
+    ensures { IsTokenOf (lot_of lock.now) token.new }
+{
+    let clock = TickClock::new();
+    let Ok(guard) = lock.lock_shared(rt, token) else {
+        return false;
+    };
+    let written = match lock.try_lock_exclusive_until(rt, token, &clock, 20) {
+        Some(writer) => lock.has_writer_and_reader(token, writer, guard),
+        None => false,
+    };
+    let beside = look(rt, lock, token);
+    lock.unlock_shared(rt, token, guard);
+    !written && beside == READ && look(rt, lock, token) == FREE
+}
+
+// Whether an upgrade beside a reader gives up and keeps its right, and one alone doesn't.
+fn upgrades_in_time<const RECURSIVE: bool, R: Wait>(
+    rt: &R,
+    lock: &RawRwLock<RECURSIVE>,
+    token: &mut Token,
+) -> Option<[bool; 5]>
+    requires { IsTokenOf (lot_of lock.now) token.old }
+    ensures { IsTokenOf (lot_of lock.now) token.new }
+{
+    let clock = TickClock::new();
+    let Ok(guard) = lock.lock_upgradable(rt, token) else {
+        return None;
+    };
+    match lock.try_upgrade_for(rt, token, guard, &clock, Duration::from_nanos(5)) {
+        Ok(guard) => {
+            let seen = look(rt, lock, token);
+            lock.unlock_exclusive(rt, token, guard);
+            Some(seen)
+        }
+        Err(guard) => {
+            let seen = look(rt, lock, token);
+            lock.unlock_upgradable(rt, token, guard);
+            Some(seen)
+        }
+    }
+}
+
+fn upgrades_beside_a_reader<const RECURSIVE: bool, R: Wait>(
+    rt: &R,
+    lock: &RawRwLock<RECURSIVE>,
+    token: &mut Token,
+) -> bool
+    requires { IsTokenOf (lot_of lock.now) token.old }
+    ensures { IsTokenOf (lot_of lock.now) token.new }
+{
+    let Ok(guard) = lock.lock_shared(rt, token) else {
+        return false;
+    };
+    let beside = upgrades_in_time(rt, lock, token);
+    lock.unlock_shared(rt, token, guard);
+    beside == Some(UPGRADABLE) && upgrades_in_time(rt, lock, token) == Some(WRITTEN)
+}
+
+fn all_give_up<const RECURSIVE: bool>(rt: &impl Wait, alloc: Global) -> Result<bool, Fault> {
+    let (lock, mut token) = super::lock_alone::<RECURSIVE>(alloc, 10)?;
+    let given_up = gives_up_beside_a_writer(rt, &lock, &mut token)
+        && gives_up_beside_a_reader(rt, &lock, &mut token);
+    Ok(given_up && upgrades_beside_a_reader(rt, &lock, &mut token))
+}
+
+#[test]
+fn who_waits_gives_up_in_time(rt: HostRuntime) -> Result<(), Fail> {
+    assert!(rt; all_give_up::<false>(&rt, rt.alloc())?);
+    assert!(rt; all_give_up::<true>(&rt, rt.alloc())?);
+    Ok(())
+}
+
+// A clock on which a time is up once a flag is set.
+#[derive(Drop)]
+struct FlagClock<'a>(&'a AtomicBool);
+
+impl Clock for FlagClock<'_> {
+    ghost tells = { λ _ _. Unit {0} };
+
+    fn now(&self) -> u64 {
+        if self.0.load(SeqCst) { 2 } else { 0 }
+    }
+
+    fn pause(&self, _left: u64) {
+        yield_now();
+    }
+}
+
+/// What the threads tell one another.
+#[derive(Drop)]
+struct Told {
+    held: AtomicBool,
+    up: AtomicBool,
+    came: AtomicUsize,
+}
+
+// Waits beside a reader to own the lock alone, until the time is up. Whether it gave up.
+fn write_in_vain<R: Wait>(
+    rt: &R,
+    lock: &RawRwLock<false>,
+    token: &mut Token,
+    clock: &FlagClock<'_>,
+) -> bool
+    requires { IsTokenOf (lot_of lock.now) token.old }
+{
+    match lock.try_lock_exclusive_until(rt, token, clock, 1) {
+        Some(guard) => {
+            lock.unlock_exclusive(rt, token, guard);
+            false
+        }
+        None => true,
+    }
+}
+
+// The same of an upgrade.
+fn upgrade_in_vain<R: Wait>(
+    rt: &R,
+    lock: &RawRwLock<false>,
+    token: &mut Token,
+    clock: &FlagClock<'_>,
+) -> bool
+    requires { IsTokenOf (lot_of lock.now) token.old }
+{
+    let Ok(guard) = lock.lock_upgradable(rt, token) else {
+        return false;
+    };
+    match lock.try_upgrade_until(rt, token, guard, clock, 1) {
+        Ok(guard) => {
+            lock.unlock_exclusive(rt, token, guard);
+            false
+        }
+        Err(guard) => {
+            lock.unlock_upgradable(rt, token, guard);
+            true
+        }
+    }
+}
+
+// Waits once a reader holds the lock. Whether it gave up.
+fn give_up<R: Wait>(
+    rt: &R,
+    lock: &RawRwLock<false>,
+    ticket: Ticket,
+    upgrades: bool,
+    told: &Told,
+) -> bool
+    requires { IsTicketOf (lot_of lock.now) ticket }
+{
+    for _ in rt.forever() {
+        if told.held.load(SeqCst) {
+            break;
+        }
+        yield_now();
+    }
+    let mut token = ticket.enter();
+    let clock = FlagClock(&told.up);
+    if upgrades {
+        upgrade_in_vain(rt, lock, &mut token, &clock)
+    } else {
+        write_in_vain(rt, lock, &mut token, &clock)
+    }
+}
+
+// Reads once a writer waits, which keeps it out at first.
+fn come_behind<R: Wait>(
+    rt: &R,
+    lot: &ParkingLot,
+    lock: &RawRwLock<false>,
+    ticket: Ticket,
+    told: &Told,
+) -> bool
+    requires { IsTicketOf lot.now ticket × (lot_of lock.now ≡ lot.now) }
+{
+    let mut token = ticket.enter();
+    let aside = queue_up(rt, lot, lock, &mut token, 0, 1);
+    match lock.lock_shared(rt, &mut token) {
+        Ok(guard) => {
+            told.came.fetch_add(1, SeqCst);
+            lock.unlock_shared(rt, &mut token, guard);
+            aside
+        }
+        Err(_) => false,
+    }
+}
+
+// Reads until the writer gave up, and another reader came in for that reason.
+fn read_on<R: Wait>(
+    rt: &R,
+    lot: &ParkingLot,
+    lock: &RawRwLock<false>,
+    ticket: Ticket,
+    told: &Told,
+) -> bool
+    requires { IsTicketOf lot.now ticket × (lot_of lock.now ≡ lot.now) }
+{
+    let mut token = ticket.enter();
+    let Ok(guard) = lock.lock_shared(rt, &mut token) else {
+        return false;
+    };
+    told.held.store(true, SeqCst);
+    let stood = queue_up(rt, lot, lock, &mut token, 1, 1);
+    told.up.store(true, SeqCst);
+    let came = comes_to(&told.came, 1);
+    lock.unlock_shared(rt, &mut token, guard);
+    stood && came
+}
+
+// Whether the writer gave up, and the reader behind it came in.
+fn give_up_and_come<R: Threads + Wait + Sync>(
+    rt: &R,
+    lot: &ParkingLot,
+    lock: &RawRwLock<false>,
+    tickets: (Ticket, Ticket),
+    upgrades: bool,
+    told: &Told,
+) -> bool
+    requires lock { lot_of lock.now ≡ lot.now }
+    requires tickets { IsTicketOf (lot_of lock.now) tickets.0 × IsTicketOf lot.now tickets.1 }
+{
+    let (one, other) = tickets;
+    let (gave_up, came) = join(
+        rt,
+        move || give_up(rt, lock, one, upgrades, told),
+        move || come_behind(rt, lot, lock, other, told),
+    );
+    gave_up && came
+}
+
+fn all_three<R: Threads + Wait + Sync>(
+    rt: &R,
+    lot: &ParkingLot,
+    lock: &RawRwLock<false>,
+    reader: Ticket,
+    tickets: (Ticket, Ticket),
+    upgrades: bool,
+    told: &Told,
+) -> (bool, bool)
+    requires lock { lot_of lock.now ≡ lot.now }
+    requires tickets { IsTicketOf lot.now reader × IsTicketOf (lot_of lock.now) tickets.0 × IsTicketOf lot.now tickets.1 }
+{
+    join(
+        rt,
+        move || read_on(rt, lot, lock, reader, told),
+        move ||
+            requires { (lot_of lock.now ≡ lot.now) × IsTicketOf (lot_of lock.now) tickets.0 × IsTicketOf lot.now tickets.1 }
+        { give_up_and_come(rt, lot, lock, tickets, upgrades, told) },
+    )
+}
+
+// Whether a writer that gives up beside a reader lets another reader in.
+fn lets_readers_in<R: Threads + Wait + Sync>(
+    rt: &R,
+    alloc: Global,
+    upgrades: bool,
+) -> Result<bool, Fault> {
+    let (lot, lock, mut tickets) = seats::<false>(alloc, 3, 1000)?;
+    let Some(one) = next_of(&lot, &mut tickets) else {
+        return Err(Fault::NoMemory);
+    };
+    let Some(other) = next_of(&lot, &mut tickets) else {
+        return Err(Fault::NoMemory);
+    };
+    let Some(third) = next_of(&lot, &mut tickets) else {
+        return Err(Fault::NoMemory);
+    };
+    let told = Told {
+        held: AtomicBool::new(false),
+        up: AtomicBool::new(false),
+        came: AtomicUsize::new(0),
+    };
+    let (read, came) = all_three(rt, &lot, &lock, one, (other, third), upgrades, &told);
+    Ok(read && came)
+}
+
+#[test]
+fn a_writer_that_gives_up_lets_readers_in(rt: HostRuntime) -> Result<(), Fail> {
+    assert!(rt; lets_readers_in(&rt, rt.alloc(), false)?);
+    Ok(())
+}
+
+#[test]
+fn an_upgrade_that_gives_up_lets_readers_in(rt: HostRuntime) -> Result<(), Fail> {
+    assert!(rt; lets_readers_in(&rt, rt.alloc(), true)?);
+    Ok(())
+}
