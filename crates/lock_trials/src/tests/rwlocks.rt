@@ -1,0 +1,268 @@
+//! Reader-writer locks with a value.
+ghost use Rattle.std.specs.Prelude.{◌≡◌, ◌<◌, All, IfOk, IfSome};
+ghost use Rattle.std.specs.Arc.{arc_value};
+ghost use Rattle.parking_lot_core.specs.Tokens.{IsTicketOf, IsTokenOf};
+ghost use Rattle.parking_lot.specs.RwLockUsers.{lot_of};
+
+use super::lone;
+use parking_lot::{Fault, ParkingLot, RecursiveRwLock, RwLock, TickClock, Ticket, Token};
+use std::alloc::Global;
+use std::sync::atomic::AtomicUsize;
+use std::sync::atomic::Ordering::SeqCst;
+use std::sync::{Arc, Wait};
+use std::test::Fail;
+use std::thread::{Threads, map_vec, yield_now};
+
+const TIMES: u64 = 100;
+
+// A lock that one thread has for itself.
+fn lock_alone<T: Drop>(alloc: Global, value: T) -> Result<(RwLock<T>, Token), Fault>
+    ensures { IfOk result (λ made. IsTokenOf (lot_of made.0) made.1) }
+{
+    let (lot, mut token) = lone(alloc)?;
+    match RwLock::new(&lot, &mut token, value) {
+        Ok(lock) => Ok((lock, token)),
+        Err((fault, _)) => Err(fault),
+    }
+}
+
+// A lock of 0, made by the thread of a ticket.
+fn lock_by(lot: &Arc<ParkingLot>, ticket: Ticket) -> Result<RwLock<u64>, Fault>
+    requires { IsTicketOf (arc_value lot.now) ticket }
+    ensures { IfOk result (λ lock. lot_of lock ≡ arc_value lot.now) }
+{
+    let mut token = ticket.enter();
+    match RwLock::new(lot, &mut token, 0) {
+        Ok(lock) => Ok(lock),
+        Err((fault, _)) => Err(fault),
+    }
+}
+
+fn next_of(lot: &ParkingLot, tickets: &mut Vec<Ticket>) -> Option<Ticket>
+    requires { All (IsTicketOf lot.now) tickets.old.items }
+    ensures left { All (IsTicketOf lot.now) tickets.new.items }
+    ensures one { IfSome result (IsTicketOf lot.now) }
+{
+    tickets.pop()
+}
+
+// A lock of 0 in a lot of so many threads and one more, with the tickets of these.
+fn seats(
+    alloc: Global,
+    threads: usize,
+) -> Result<(Arc<ParkingLot>, RwLock<u64>, Vec<Ticket>), Fault>
+    requires { threads < 100 }
+    ensures { IfOk result (λ made. (lot_of made.1 ≡ arc_value made.0) × All (IsTicketOf (arc_value made.0)) made.2.items) }
+{
+    let (lot, mut tickets) = ParkingLot::new(alloc, 1, threads + 1)?;
+    let Some(ticket) = next_of(&lot, &mut tickets) else {
+        return Err(Fault::NoMemory);
+    };
+    let lock = lock_by(&lot, ticket)?;
+    Ok((lot, lock, tickets))
+}
+
+#[test]
+fn what_was_written_is_read(rt: HostRuntime) -> Result<(), Fail> {
+    let (mut lock, mut token) = lock_alone(rt.alloc(), 5u64)?;
+    let before = lock.with_write(&rt, &mut token, |value: &mut u64| {
+        let before = *value;
+        *value = 7;
+        before
+    });
+    assert_eq!(rt; before, 5);
+    let read = lock.with_read(&rt, &mut token, |value: &u64| *value);
+    assert_eq!(rt; read.ok(), Some(7));
+    *lock.get_mut() = 20;
+    assert_eq!(rt; lock.into_inner(), 20);
+    Ok(())
+}
+
+// Which tries get the lock: to read, to read and upgrade, to write.
+fn tries<R: Wait>(rt: &R, lock: &RwLock<u64>, token: &mut Token) -> [bool; 3]
+    requires { IsTokenOf (lot_of lock.now) token.old }
+    ensures { IsTokenOf (lot_of lock.now) token.new }
+{
+    let read = match lock.try_read(rt, token) {
+        Ok(Some(guard)) => {
+            guard.unlock(rt, token);
+            true
+        }
+        _ => false,
+    };
+    let upgradable = match lock.try_upgradable_read(rt, token) {
+        Ok(Some(guard)) => {
+            guard.unlock(rt, token);
+            true
+        }
+        _ => false,
+    };
+    let written = match lock.try_write(rt, token) {
+        Some(guard) => {
+            guard.unlock(rt, token);
+            true
+        }
+        None => false,
+    };
+    [read, upgradable, written]
+}
+
+// What tries get beside a writer, behind each of its downgrades, and in the end.
+fn tries_beside<R: Wait>(rt: &R, lock: &RwLock<u64>, token: &mut Token) -> [[bool; 3]; 4]
+    requires { IsTokenOf (lot_of lock.now) token.old }
+    ensures { IsTokenOf (lot_of lock.now) token.new }
+{
+    let guard = lock.write(rt, token);
+    let writer = tries(rt, lock, token);
+    let guard = guard.downgrade_to_upgradable(rt, token);
+    let upgradable = tries(rt, lock, token);
+    let guard = guard.downgrade(rt, token);
+    let reader = tries(rt, lock, token);
+    guard.unlock(rt, token);
+    [writer, upgradable, reader, tries(rt, lock, token)]
+}
+
+#[test]
+fn a_downgrade_lets_more_in(rt: HostRuntime) -> Result<(), Fail> {
+    let (lock, mut token) = lock_alone(rt.alloc(), 0)?;
+    let seen = tries_beside(&rt, &lock, &mut token);
+    let writer = [false, false, false];
+    let upgradable = [true, false, false];
+    assert_eq!(rt;
+        seen,
+        [writer, upgradable, [true, true, false], [true, true, true]]
+    );
+    Ok(())
+}
+
+// Whether a reader of a recursive lock reads again, and a writer beside it gives up in time.
+fn reads_again<R: Wait>(rt: &R, lock: &RecursiveRwLock<u64>, token: &mut Token) -> bool
+    requires { IsTokenOf (lot_of lock.now) token.old }
+{
+    let Ok(guard) = lock.read(rt, token) else {
+        return false;
+    };
+    let gave_up = match lock.try_write_until(rt, token, &TickClock::new(), 20) {
+        Some(writer) => writer.has_reader(token, guard),
+        None => true,
+    };
+    let again = match lock.read(rt, token) {
+        Ok(other) => {
+            let same = *other == *guard;
+            other.unlock(rt, token);
+            same
+        }
+        Err(_) => false,
+    };
+    guard.unlock(rt, token);
+    gave_up && again
+}
+
+#[test]
+fn a_reader_of_a_recursive_lock_reads_again(rt: HostRuntime) -> Result<(), Fail> {
+    let (lot, mut token) = lone(rt.alloc())?;
+    let Ok(lock) = RecursiveRwLock::new(&lot, &mut token, 3) else {
+        return Err("the lock was refused".into());
+    };
+    assert!(rt; reads_again(&rt, &lock, &mut token));
+    Ok(())
+}
+
+// Writes, goes on as a reader, and finds what it wrote.
+fn write_and_read<R: Wait>(rt: &R, lock: &RwLock<u64>, token: &mut Token, wrongs: &AtomicUsize)
+    requires { IsTokenOf (lot_of lock.now) token.old }
+    ensures { IsTokenOf (lot_of lock.now) token.new }
+{
+    let mut guard = lock.write(rt, token);
+    *guard = guard.wrapping_add(1);
+    let written = *guard;
+    let guard = guard.downgrade(rt, token);
+    yield_now();
+    if *guard != written {
+        wrongs.fetch_add(1, SeqCst);
+    }
+    guard.unlock(rt, token);
+}
+
+fn downgrade_many<R: Wait>(rt: &R, lock: &RwLock<u64>, ticket: Ticket, wrongs: &AtomicUsize)
+    requires { IsTicketOf (lot_of lock.now) ticket }
+{
+    let mut token = ticket.enter();
+    for _ in 0..TIMES {
+        write_and_read(rt, lock, &mut token, wrongs);
+    }
+    drop(token.leave());
+}
+
+// What all threads wrote, and how often one of them found something else than it had written.
+fn all_downgrade<R: Threads + Wait + Sync>(rt: &R, alloc: Global) -> Result<(u64, usize), Fault> {
+    let (_lot, lock, tickets) = seats(alloc, 8)?;
+    let (shared, wrongs) = (&lock, &AtomicUsize::new(0));
+    let done = map_vec(
+        rt,
+        tickets,
+        &|ticket: Ticket|
+            requires { IsTicketOf (lot_of shared.now) ticket }
+        { downgrade_many(rt, shared, ticket, wrongs) },
+    );
+    if done.is_err() {
+        return Err(Fault::NoMemory);
+    }
+    let found = wrongs.load(SeqCst);
+    Ok((lock.into_inner(), found))
+}
+
+#[test]
+fn eight_threads_read_what_they_wrote(rt: HostRuntime) -> Result<(), Fail> {
+    assert_eq!(rt; all_downgrade(&rt, rt.alloc())?, (8 * TIMES, 0));
+    Ok(())
+}
+
+// Reads a value, and adds 1 to it by an upgrade.
+fn add_by_upgrade<R: Wait>(rt: &R, lock: &RwLock<u64>, token: &mut Token)
+    requires { IsTokenOf (lot_of lock.now) token.old }
+    ensures { IsTokenOf (lot_of lock.now) token.new }
+{
+    match lock.upgradable_read(rt, token) {
+        Ok(guard) => {
+            let seen = *guard;
+            yield_now();
+            let mut guard = guard.upgrade(rt, token);
+            *guard = seen.wrapping_add(1);
+            guard.unlock(rt, token);
+        }
+        Err(_) => {}
+    }
+}
+
+fn upgrade_many<R: Wait>(rt: &R, lock: &RwLock<u64>, ticket: Ticket)
+    requires { IsTicketOf (lot_of lock.now) ticket }
+{
+    let mut token = ticket.enter();
+    for _ in 0..TIMES {
+        add_by_upgrade(rt, lock, &mut token);
+    }
+    drop(token.leave());
+}
+
+fn all_upgrade<R: Threads + Wait + Sync>(rt: &R, alloc: Global) -> Result<u64, Fault> {
+    let (_lot, lock, tickets) = seats(alloc, 6)?;
+    let shared = &lock;
+    let done = map_vec(
+        rt,
+        tickets,
+        &|ticket: Ticket|
+            requires { IsTicketOf (lot_of shared.now) ticket }
+        { upgrade_many(rt, shared, ticket) },
+    );
+    if done.is_err() {
+        return Err(Fault::NoMemory);
+    }
+    Ok(lock.into_inner())
+}
+
+#[test]
+fn upgrades_let_nobody_write_between(rt: HostRuntime) -> Result<(), Fail> {
+    assert_eq!(rt; all_upgrade(&rt, rt.alloc())?, 6 * TIMES);
+    Ok(())
+}
