@@ -17,16 +17,10 @@ use Rattle.lot_machine.specs.declared.hands.Successor.{Successor}
 use Rattle.lot_machine.specs.Machine.{State, held, held_by, place_at, shares_at, shares_in_hand, sharers, successor_from, successor_or, want_of_successor, wants_more_in_hand}
 use Rattle.lot_world.specs.Refinement.{lock_state, taken_at}
 use Rattle.lot_world.specs.Stations.{Station, nowhere, station}
-use Rattle.lot_world.specs.SitesOf.{IsSteady, carried_at, hand_at}
+use Rattle.lot_world.specs.SitesOf.{IsCounted, IsSteady, carried_at, hand_at}
 use Rattle.lot_world.proofs.Glue.{IsOf, calls_none, held_where, same, station_elsewhere}
 use Rattle.lot_world.proofs.HandsMoved.{thread_of}
 use Rattle.lot_world.proofs.InHand.{counted, heir_wants, is_wanted, shared_by, sharers_from, sharers_same, wanted_is, wanted_of, wants_heir}
-
--- as many want to share, and who wants more wants this; that is one thread at most
-pub record IsCounted (w : State) (t : ℕ) (k : Counted) : Type 0 where
-  pub number : sharers t w.places ≡ k.sharers
-  pub more : want_of_successor (successor_from t 0 w.places) ≡ k.successor
-  pub one : (u v : ℕ) (x y : Want) → wants_more_in_hand t (held (place_at w u)) ≡ Some x → wants_more_in_hand t (held (place_at w v)) ≡ Some y → u ≡ v
 
 -- ---------------------------------------------------------------- the machine's hand and the lock's
 

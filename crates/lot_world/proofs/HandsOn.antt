@@ -54,11 +54,11 @@ use Rattle.lot_machine.specs.Machine.{State, owners_at, place_at, put, queue_at,
 use Rattle.lot_machine.specs.Fits.{IsShaped}
 use Rattle.lot_world.specs.Refinement.{taken_at}
 use Rattle.lot_world.specs.MutexDeeds.{acts}
-use Rattle.lot_world.specs.SitesOf.{FitsItsLock, Goes, HasRoom, IsBuilt, IsSteady, carried_at, hand_at, rules_in}
+use Rattle.lot_world.specs.SitesOf.{FitsItsLock, Goes, HasRoom, IsBuilt, IsCounted, IsSteady, carried_at, hand_at, rules_in}
 use Rattle.lot_world.specs.Stations.{doing_on, station}
 use Rattle.lot_world.proofs.ActsKept.{lock_by}
 use Rattle.lot_world.proofs.Glue.{free_of, IsOf, doing_here, next_of, station_here}
-use Rattle.lot_world.proofs.HandsCounted.{IsCounted, few_sharers, has_in_hand}
+use Rattle.lot_world.proofs.HandsCounted.{few_sharers, has_in_hand}
 use Rattle.lot_world.proofs.HandsKept.{IsGiven, claims_given}
 use Rattle.lot_world.proofs.HandsMoved.{hands_over as hands_all, looks_again, thread_of}
 use Rattle.lot_world.proofs.MovesKept.{IsFollowed}

@@ -37,12 +37,12 @@ use Rattle.lot_machine.specs.Machine.{State, place_after_telling, place_at, put,
 use Rattle.lot_world.specs.MutexDeeds.{acts}
 use Rattle.lot_world.specs.MutexDeeds as deeds
 use Rattle.lot_world.specs.Refinement.{call_state, lock_state, taken_at}
-use Rattle.lot_world.specs.SitesOf.{FitsItsLock, Goes, IsBuilt, IsSteady, carried_at, rules_in}
+use Rattle.lot_world.specs.SitesOf.{FitsItsLock, Goes, IsBuilt, IsCounted, IsSteady, carried_at, rules_in}
 use Rattle.lot_world.proofs.AtPlaces.{in_no_hand, unless_held}
 use Rattle.lot_world.proofs.CallEvents.{Happens, OthersFollow, happens}
 use Rattle.lot_world.proofs.Glue.{held_taker, station_here}
 use Rattle.lot_world.proofs.HandRights.{given_right}
-use Rattle.lot_world.proofs.HandsCounted.{IsCounted, hand_there}
+use Rattle.lot_world.proofs.HandsCounted.{hand_there}
 use Rattle.lot_world.proofs.HandsEvents.{IsHandedCall, claims_are, hands_many}
 use Rattle.lot_world.proofs.HandsKept.{alone_is, claims_given}
 use Rattle.lot_world.proofs.HandsOn.{bare, carries, g, given, hands_goes, hands_tell, more_right, of, row, unclaimed, whom}
