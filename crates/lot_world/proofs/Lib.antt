@@ -66,6 +66,7 @@ pub mod RwLockSolo
 pub mod CallSolo
 pub mod BumpSolo
 pub mod RwLockEnds
+pub mod CallEnds
 pub mod Solo
 pub mod Owing
 pub mod WorldRuns

@@ -72,8 +72,8 @@ use Rattle.lot_rwlock.specs.declared.places.Admission.{Admission}
 use Rattle.lot_world.proofs.LineSolo.{StepsAlone}
 use Rattle.lot_world.proofs.BumpSolo.{call_rests}
 use Rattle.lot_world.proofs.RwLockSolo.{word_small}
-use Rattle.lot_world.proofs.RwLockEnds.{rwlock_alone}
-use Rattle.lot_world.proofs.WorldRuns.{holds_of, solo_runs}
+use Rattle.lot_world.proofs.CallEnds.{rwlock_alone}
+use Rattle.lot_world.proofs.WorldRuns.{holds_of, runs_alone}
 use Rattle.lot_rwlock.specs.RwLockBegins.{admission_of}
 use Rattle.lot_rwlock_fair.specs.declared.places.RwLockCallPlace.{RwLockCallPlace}
 use Rattle.lot_rwlock_fair.specs.FairBegins.{call_first}
@@ -506,7 +506,10 @@ module _ (w : State) (t : ℕ) (shape : IsShaped w) (steady : IsSteady w) (there
             let stood : 1 ≤ times t (queue_at w (2 * l)) = first_times t (queue_at w (2 * l)) first in let none : times t (queue_at w (2 * l)) ≡ 0 = absent w steady t awake l in omega arith
 
     bump_alone : LockEnds t l entries.Bump (first_of (queue_at w (2 * l))) (drop 1 (queue_at w (2 * l))) v x → EndsAlone w t (Some (Bumps l Exclusive)) x v
-    bump_alone h of_mutex = by_queue (queue_at w (2 * l)) h
+    bump_alone h = (
+      (λ mutex. by_queue (queue_at w (2 * l)) h),
+      λ readers. absurd (let unshared : has_readers (rules_in w l).sort ≡ false = ap (λ (r : Rules). has_readers r.sort) (mutex_rules (kind_at w l) kind) in let f : false ≡ true = sym unshared ∙ readers in cc),
+    )
       where
         by_queue : (q : List Waiter) → LockEnds t l entries.Bump (first_of q) (drop 1 q) v x → BumpsAlone t l (map queued_of q) x (lock_state v l)
         by_queue [] g = g
@@ -552,7 +555,7 @@ module _ (w : State) (t : ℕ) (shape : IsShaped w) (steady : IsSteady w) (there
       fits = subst (PlaceFits (length w.locks)) is (shape.places t)
 
       ends : has_readers (rules_in w l).sort ≡ true → (b : Bool) → is_built c ≡ b → EndsAlone w t (if b then Some (rwlock_purpose l c) else None) (solo 64 w t outcome.TheVariants.NotNow).outcome (solo 64 w t outcome.TheVariants.NotNow).state
-      ends readers true built = rwlock_alone w t l (admission_of (kind_at w l)) c 64 outcome.TheVariants.NotNow (omega arith) steady (admits_by (kind_at w l) readers) is (steps_alone l (admission_of (kind_at w l)) (call_first c) readers is fits) (solo_runs w t (holds_of w shape steady))
+      ends readers true built = rwlock_alone w t l (admission_of (kind_at w l)) c 64 outcome.TheVariants.NotNow (omega arith) steady (admits_by (kind_at w l) readers) is (steps_alone l (admission_of (kind_at w l)) (call_first c) readers is fits) (runs_alone 64 w t (holds_of w shape steady))
       ends readers false built = tt
 
       by_kind : (k : Kind) → kind_at w l ≡ k → EndsAlone w t (purpose_of k (call.TheVariants.RwLock l c)) (solo 64 w t outcome.TheVariants.NotNow).outcome (solo 64 w t outcome.TheVariants.NotNow).state
