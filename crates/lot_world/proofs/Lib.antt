@@ -57,6 +57,8 @@ pub mod CallOwing
 pub mod PlaceSteps
 pub mod Possible
 pub mod RwLockEvents
+pub mod RwLockGoes
+pub mod CountsPut
 pub mod LockSteps
 pub mod OneThing
 pub mod Promises
