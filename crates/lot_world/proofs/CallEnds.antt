@@ -35,7 +35,7 @@ use Rattle.abstract_locks.proofs.SiteKeeps.{fewer_share}
 use Rattle.lot_steps.specs.declared.places.Place.TheVariants.{RwLock}
 use Rattle.lot_machine.specs.Machine.{Alone as Ran, State, after, after_steps, alone_after, go_of, place_at, queue_at, section_at, solo, step_outcome, step_outcomes, word_at}
 use Rattle.lot_world.specs.Refinement.{call_at, call_state, lock_state, locks_of}
-use Rattle.lot_world.specs.SitesOf.{IsSteady, key_of, rules_in, site_of}
+use Rattle.lot_world.specs.SitesOf.{IsSteady, IsWorld, key_of, rules_in, site_of}
 use Rattle.lot_world.specs.Stations.{doing_on}
 use Rattle.lot_world.specs.Solo.{BumpsShared, ComesBack, EndsAlone, EntersAlone, GivesWay, MayEnterAtOnce, NeedsNoWay, Rests, WaitsAlone, WaitsForReaders}
 use Rattle.lot_world.specs.WorldRuns.{IsWorldRun}
@@ -43,7 +43,7 @@ use Rattle.lot_world.proofs.Glue.{doing_here, inside_is, put_here}
 use Rattle.lot_world.proofs.SoloActs.{Leads}
 use Rattle.lot_world.proofs.LineSolo.{StepsAlone}
 use Rattle.lot_world.proofs.SoloAnswers.{HasAnswered, answered, former_kept}
-use Rattle.lot_world.proofs.WorldRuns.{Holds, RunsAlone, holds_of, run_refines, runs_alone, world_run}
+use Rattle.lot_world.proofs.WorldRuns.{RunsAlone, run_refines, runs_alone, world_run}
 use Rattle.lot_world.proofs.CallSolo.{EntersAgain, Ends, Resting, glance_rests, hands_over_rest}
 use Rattle.lot_world.proofs.BumpSolo.{SameEnd, again_rests, as_first, as_plain, first_may, first_seen, plain_alone}
 use Rattle.lot_world.proofs.RwLockSolo.{downgrade_ends, load_leads, release_ends, upgrade_leads, word_small}
@@ -51,7 +51,7 @@ use Rattle.lot_world.proofs.RwLockEnds.{downgrades_alone, enters_alone, exclusiv
 
 -- ---------------------------------------------------------------- some steps of a thread alone, behind each of which it goes on
 
-steps_run : (n : ℕ) (w : State) (t : ℕ) → Holds w → step_outcomes w (replicate n (go_of t)) ≡ replicate n outcome.Step → IsRun (locks_of w) (replicate n (go_of t)) (replicate n outcome.Step) (locks_of (after_steps w (replicate n (go_of t))))
+steps_run : (n : ℕ) (w : State) (t : ℕ) → IsWorld w → step_outcomes w (replicate n (go_of t)) ≡ replicate n outcome.Step → IsRun (locks_of w) (replicate n (go_of t)) (replicate n outcome.Step) (locks_of (after_steps w (replicate n (go_of t))))
 steps_run n w t h told = run_refines w (after_steps w (replicate n (go_of t))) (replicate n (go_of t)) (replicate n outcome.Step)
     (subst (λ os. IsWorldRun w (replicate n (go_of t)) os (after_steps w (replicate n (go_of t)))) told (world_run w (replicate n (go_of t)) h))
 
@@ -92,7 +92,7 @@ module _ (before : Type 0) (w w2 v v2 : LocksState) (t l : ℕ) (o o2 : Outcome)
 
 -- ---------------------------------------------------------------- a bump
 
-module _ (w : State) (t l : ℕ) (a : Admission) (x : Access) (holds : Holds w) (admits : Admits (rules_in w l) a) (is : place_at w t ≡ RwLock l a (Glance x)) (v2 : State) (o : Outcome) (run : RunsAlone w t o v2) where
+module _ (w : State) (t l : ℕ) (a : Admission) (x : Access) (holds : IsWorld w) (admits : Admits (rules_in w l) a) (is : place_at w t ≡ RwLock l a (Glance x)) (v2 : State) (o : Outcome) (run : RunsAlone w t o v2) where
   abbrev s : LockState
   s = lock_state w l
 
@@ -238,8 +238,8 @@ module _ (w : State) (t l : ℕ) (a : Admission) (x : Access) (holds : Holds w) 
           (same_ends.1 l ∙ ap (λ (r : Ran). lock_state r.state l) from_there ∙ ap (λ (z : State). lock_state z l) e.state)
           (same_ends.0 ∙ ap (λ (r : Ran). r.outcome) from_there ∙ e.outcome_is) x
           (enters_alone plain_w t l a x Patient e.room outcome.NotNow e.enough plain.steady e.shares plain.place
-          (record { shape = plain.shape; steady = plain.steady; thread = plain.thread; lock = plain.lock; place = plain.place; word = refl; queue = λ m. refl; way = plain.way })
-          (runs_alone e.room plain_w t (holds_of plain_w plain.shape plain.steady)));
+          (record { shape = plain.shape; steady = plain.steady; counted = plain.counted; thread = plain.thread; lock = plain.lock; place = plain.place; word = refl; queue = λ m. refl; way = plain.way })
+          (runs_alone e.room plain_w t (record { shaped = plain.shape; steady = plain.steady; counted = plain.counted })));
     }
 
   pub bumps_shared : ((u : ℕ) → section_at w (key_of l Main) ≡ Some u → u ≡ t) → Ends t l a (gives_way a x word) x w v2 o → BumpsShared (has_parked word ≡ false) (locks_of w) t l (wanted x) o (locks_of v2)
@@ -275,5 +275,5 @@ rwlock_alone w t l a c n last le steady admits is f run = by_call c is f
     by_call (call.ReleaseFair access.Exclusive) is f = exclusive_released w t l a steady admits v2 x run is ((hands_over_rest t l a access.Exclusive false (handing.Free 8) refl (word_at w l) w (λ m. queue_at w (key_of l m)) admits f n last (omega arith)).1 refl)
     by_call (call.Bump y) is f = (
       (λ mutex. no_mutex w t l a steady admits v2 x run mutex),
-      λ readers. bumps_shared w t l a y (holds_of w f.shape f.steady) admits is v2 x run (f.way Main) (glance_rests t l a y (word_at w l) w (λ m. queue_at w (key_of l m)) admits f n last (omega arith)),
+      λ readers. bumps_shared w t l a y (record { shaped = f.shape; steady = f.steady; counted = f.counted }) admits is v2 x run (f.way Main) (glance_rests t l a y (word_at w l) w (λ m. queue_at w (key_of l m)) admits f n last (omega arith)),
     )

@@ -12,13 +12,13 @@ use Rattle.abstract_locks.specs.Sites.{Line, Main, Second, Site, IsSite, has_rea
 use Rattle.abstract_locks.specs.Codes.{code, parked_in, aside_in, HasLimit}
 use Rattle.abstract_locks.specs.Purposes.{rules_of}
 use Rattle.lot_machine.specs.Machine.{State, held, place_at, word_at, shares_at, sharers, successor_from, want_of_successor, wants_more_in_hand, filled_at, kind_at, queue_at, section_at}
+use Rattle.lot_machine.specs.Fits.{IsShaped}
 use Rattle.lot_world.specs.Refinement.{lock_state}
 use Rattle.lot_calls.specs.declared.kinds.Kind.{Kind}
 use Rattle.lot_calls.specs.declared.kinds.Kind as kind
 use Rattle.lot_rwlock.specs.declared.places.Admission.{Admission}
 use Rattle.lot_rwlock.specs.RwLockDeeds.{Admits}
 use Rattle.lot_rwlock_fair.specs.declared.places.RwLockCallPlace.{RwLockCallPlace}
-use Rattle.lot_rwlock_fair.specs.declared.places.RwLockCallPlace.TheVariants.{Plain}
 use Rattle.lot_rwlock_fair.specs.declared.hand_over.Taken.{Taken as Counted}
 use Rattle.lot_rwlock_fair.specs.FairCalls.{CallStands, in_hand_of}
 use Rattle.lot_world.specs.MutexDeeds.{Act}
@@ -108,16 +108,11 @@ is_mutex kind.TheVariants.Mutex = true
 is_mutex kind.TheVariants.Fair = true
 is_mutex k = false
 
--- no call of a world hands a reader-writer lock over yet
-abbrev pub IsBuilt : RwLockCallPlace → Type 0
-IsBuilt (Plain p) = Unit {0}
-IsBuilt c = ⊥
-
 -- a call is of a lock of its sort, and stands where it may
 abbrev pub FitsItsLock : State → Place → Type 0
 FitsItsLock w Idle = Unit {0}
 FitsItsLock w (OfMutex l at) = is_mutex (kind_at w l) ≡ true
-FitsItsLock w (OfRwLock l a c) = Admits (rules_in w l) a × CallStands a c × IsBuilt c
+FitsItsLock w (OfRwLock l a c) = Admits (rules_in w l) a × CallStands a c
 
 pub record Stands (w : State) : Type 0 where
   pub sections : Sections (place_at w) (section_at w)
@@ -148,6 +143,12 @@ pub record IsCounted (w : State) (t : ℕ) (k : Counted) : Type 0 where
 -- a call that is to hand its lock over has counted those whom it has in hand
 abbrev pub AreCounted : State → Type 0
 AreCounted w = (t l : ℕ) (a : Admission) (c : RwLockCallPlace) (k : Counted) → place_at w t ≡ OfRwLock l a c → in_hand_of c ≡ Some k → IsCounted w t k
+
+-- what a world keeps from step to step
+pub record IsWorld (w : State) : Type 0 where
+  pub shaped : IsShaped w
+  pub steady : IsSteady w
+  pub counted : AreCounted w
 
 -- a step changes no number of threads or locks
 pub record SameNumbers (w v : State) : Type 0 where
