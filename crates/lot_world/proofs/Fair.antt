@@ -140,7 +140,7 @@ module _ (P : LockState → LockState → Type 0) (w v : LocksState) (a l : ℕ)
   does_so turn.TheVariants.Ok o d = goes_so o d
   does_so turn.TheVariants.Err o d = goes_so o d
 
-  turned_so : (x : Turn) (o : Outcome) → Turned w a x o v → P (w.locks l) (v.locks l)
+  pub turned_so : (x : Turn) (o : Outcome) → Turned w a x o v → P (w.locks l) (v.locks l)
   turned_so x o (inl d) = does_so x o d.1
   turned_so x o (inr r) = rw r.1.1 stays
 

@@ -23,6 +23,9 @@ pub mod HandsMoved
 pub mod InHand
 pub mod HandsCounted
 pub mod HandsTaken
+pub mod HandCases
+pub mod Counting
+pub mod Befallen
 pub mod SitesKept
 pub mod RwLockKept
 pub mod HandsOn
@@ -61,6 +64,8 @@ pub mod OneThing
 pub mod Promises
 pub mod MutexPromises
 pub mod Fair
+pub mod CountsTaken
+pub mod CountsKept
 pub mod SoloActs
 pub mod SoloAnswers
 pub mod LineSolo

@@ -31,7 +31,7 @@ use Rattle.lot_world.proofs.OneStep.{steps_by}
 use Rattle.lot_world.proofs.ActsKept.{goes_steady, place_goes}
 
 -- who is set as it was is seen as it was
-set_keeps : {A B : Type 0} (f : A → B) (xs : List A) (i k : ℕ) (y d : A) → f y ≡ f (get_or xs i d) → f (get_or (set xs i y) k d) ≡ f (get_or xs k d)
+pub set_keeps : {A B : Type 0} (f : A → B) (xs : List A) (i k : ℕ) (y d : A) → f y ≡ f (get_or xs i d) → f (get_or (set xs i y) k d) ≡ f (get_or xs k d)
 set_keeps f [] i k y d e = refl
 set_keeps f (x ∷ xs) zero zero y d e = e
 set_keeps f (x ∷ xs) zero (suc k) y d e = refl
