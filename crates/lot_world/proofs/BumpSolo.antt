@@ -1,5 +1,5 @@
 -- A bump that enters again steps alone as a call that enters: each of its steps is the same, but for the call that its place is of.
-use Rattle.std.proofs.Common.{ℕ, zero, suc, Bool, true, false, Option, Some, None, if◌then◌else◌, ◌&&◌, ◌≡◌, ◌≢◌, ◌+◌, ◌*◌, ◌^◌, ◌<◌, List, [], ◌∷◌, length, set, nat_lt, replicate, slice_index_or, slice_set, refl, sym, ◌∙◌, ap, subst, arith, get_or-set_same, length-set}
+use Rattle.std.proofs.Common.{ℕ, zero, suc, Bool, true, false, Option, Some, None, if◌then◌else◌, ◌==◌, ◌&&◌, ◌≡◌, ◌≢◌, ◌+◌, ◌*◌, ◌^◌, ◌<◌, List, [], ◌∷◌, length, set, nat_lt, replicate, slice_index_or, slice_set, refl, sym, ◌∙◌, ap, subst, arith, get_or-set_same, length-set}
 use Rattle.lot_base.specs.declared.keys.Keys.TheVariants.{One}
 use Rattle.lot_base.specs.declared.keys.Line.{Line}
 use Rattle.lot_base.specs.declared.keys.Line.TheVariants.{Main, Second}
@@ -57,6 +57,7 @@ use Rattle.lot_world.proofs.SoloActs.{Leads, leads_more}
 use Rattle.lot_world.proofs.LineSolo.{StepsAlone}
 use Rattle.lot_world.proofs.CallSolo.{EntersAgain, Shares, shares_on, accepts_rest, gives_rest, glance_rests, hands_over_rest, rest_of, wakes_rest}
 use Rattle.lot_world.proofs.CountsKept.{counted_after}
+use Rattle.lot_world.proofs.Counting.{nothing}
 use Rattle.lot_world.proofs.CountsPut.{put_counted}
 use Rattle.lot_world.proofs.TurnsKept.{after_steady}
 
@@ -405,7 +406,7 @@ module _ (t l : ℕ) (a : Admission) where
       alone = record {
         shape = put_shaped w t (RwLock l a (Plain entry)) f.shape f.lock;
         steady = plain_steady w entry f.steady f.thread f.place shares may;
-        counted = put_counted w t (RwLock l a (Plain entry)) f.thread (sym (ap held f.place)) refl f.counted;
+        counted = put_counted w t (RwLock l a (Plain entry)) f.thread (sym (ap held f.place)) (λ k. nothing (l == k)) f.counted;
         thread = rw (length-set w.places t (RwLock l a (Plain entry))) f.thread;
         lock = f.lock;
         place = get_or-set_same w.places t (RwLock l a (Plain entry)) Idle f.thread;

@@ -1,5 +1,5 @@
 -- The places whose call has counted those whom its thread has in hand: a thread comes to one by its own step alone, and none of them is in a hand.
-use Rattle.std.proofs.Common.{ℕ, Bool, true, false, Option, Some, None, if◌then◌else◌, ◌==◌, ◌≡◌, List, refl, sym, ◌∙◌, ap, subst}
+use Rattle.std.proofs.Common.{ℕ, Bool, true, false, Option, Some, None, if◌then◌else◌, ◌==◌, ◌≡◌, refl, sym, ◌∙◌, ap, subst}
 use Rattle.std.proofs.lemmas.Bool.{eqb-true}
 use Rattle.lot_base.specs.declared.notes.Note as note
 use Rattle.lot_calls.specs.declared.calls.Access.{Access}
@@ -41,8 +41,7 @@ use Rattle.lot_rwlock_fair.specs.FairSteps.{any_taken, bump_ended, bump_next, ca
 use Rattle.lot_steps.specs.declared.places.Place.{Place}
 use Rattle.lot_steps.specs.declared.places.Place.TheVariants.{Idle, Mutex, RwLock}
 use Rattle.lot_steps.specs.Steps.{first_place, in_mutex, in_rwlock, late_key, looking, mutex_goes, next_place, rwlock_goes}
-use Rattle.lot_machine.specs.Machine.{State, held, opening, place_at}
-use Rattle.lot_machine.proofs.Opening.{idle_at}
+use Rattle.lot_machine.specs.Machine.{State, held, place_at}
 use Rattle.lot_world.specs.SitesOf.{AreCounted, IsCounted, carried_at}
 use Rattle.lot_world.specs.Stations.{nowhere, station}
 use Rattle.lot_world.proofs.Glue.{IsOf, same}
@@ -92,6 +91,9 @@ counts_there w t l k counted e = let h = counting l k (place_at w t) e in counte
 
 pub are_counted : (w : State) → ((t l : ℕ) (k : Counted) → counted_on (place_at w t) l ≡ Some k → IsCounted w t k) → AreCounted w
 are_counted w each t l a c k is counted = each t l k (ap (λ p. counted_on p l) is ∙ ap (λ b. if b then in_hand_of c else None) (same l) ∙ counted)
+
+pub none_is : (k : Counted) (o : Option Counted) → o ≡ None → o ≡ Some k → ⊥
+none_is k o e f = let g : ◌≡◌ {A = Option Counted} None (Some k) = sym e ∙ f in cc
 
 -- ---------------------------------------------------------------- what such a place says of its thread
 
@@ -265,7 +267,3 @@ late_bare (RwLock j a (Bump p)) key e l = (bare_at j a (Bump p) refl (λ no. no)
 late_bare (RwLock j a (Glance x)) key e l = absurd cc
 late_bare (RwLock j a (HandOver x b to)) key e l = absurd cc
 late_bare (RwLock j a (Handed x how b to)) key e l = absurd cc
-
--- in the opening state nobody is in a call
-pub counted_first : (kinds : List Kind) (threads : ℕ) → AreCounted (opening kinds threads)
-counted_first kinds threads = are_counted (opening kinds threads) (λ t l k e. absurd (let none : counted_on (place_at (opening kinds threads) t) l ≡ None = ap (λ p. counted_on p l) (idle_at threads t) in let f : ◌≡◌ {A = Option Counted} None (Some k) = sym none ∙ e in cc))

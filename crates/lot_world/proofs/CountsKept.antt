@@ -39,7 +39,7 @@ use Rattle.lot_world.specs.Refinement.{lock_state, locks_of}
 use Rattle.lot_world.specs.SitesOf.{AreCounted, IsCounted, IsSteady, rules_in}
 use Rattle.lot_world.proofs.Befallen.{others_keep_it}
 use Rattle.lot_world.proofs.Closures.{nothing_closes}
-use Rattle.lot_world.proofs.Counting.{HasCounted, IsHandOver, are_counted, begins_bare, counted_befallen, counted_next, counted_on, counting_row, counts_there, goes_counted, late_bare, looks_bare, mutex_counted, nothing, others_bare}
+use Rattle.lot_world.proofs.Counting.{HasCounted, IsHandOver, are_counted, begins_bare, counted_befallen, counted_next, counted_on, counting_row, counts_there, goes_counted, late_bare, looks_bare, mutex_counted, none_is, nothing, others_bare}
 use Rattle.lot_world.proofs.CountsTaken.{picked_now, take_counts, took_is}
 use Rattle.lot_world.proofs.Fair.{turned_so}
 use Rattle.lot_world.proofs.Glue.{same}
@@ -71,9 +71,6 @@ module _ (w v : State) (a : ℕ) (steady : IsSteady w) (behind : IsSteady v) (co
     another_counts ne x o turned = counted_stays w v t size (same_wanted ne x o turned) k (counts_there w t l k counted was)
 
 -- ---------------------------------------------------------------- the thread itself goes on
-
-none_is : (k : Counted) (o : Option Counted) → o ≡ None → o ≡ Some k → ⊥
-none_is k o e f = let g : ◌≡◌ {A = Option Counted} None (Some k) = sym e ∙ f in cc
 
 module _ (w : State) (t : ℕ) (steady : IsSteady w) (counted : AreCounted w) (there : t < length w.places) where
   -- no place changes but its own, and that is in no hand
@@ -231,10 +228,10 @@ pub counted_after : (w : State) (s : Step) → IsShaped w → IsSteady w → Are
 counted_after w s shape steady counted = are_counted (after w s) each
   where
     behind : IsSteady (after w s)
-    behind = after_steady w s shape steady
+    behind = after_steady w s shape steady counted
 
     stepped : IsStep (locks_of w) s (step_outcome w s) (locks_of (after w s))
-    stepped = after_step w s shape steady
+    stepped = after_step w s shape steady counted
 
     own : (b : Bool) → is_possible w s ≡ b → IsSteady (if b then state_after_turn w s.thread s.turn else w) → Turned (locks_of w) s.thread s.turn (step_outcome w s) (locks_of (if b then state_after_turn w s.thread s.turn else w))
         → (l : ℕ) (k : Counted) → counted_on (place_at (if b then state_after_turn w s.thread s.turn else w) s.thread) l ≡ Some k → IsCounted (if b then state_after_turn w s.thread s.turn else w) s.thread k

@@ -1,6 +1,5 @@
 -- A thread that looks at the word once more goes on from another place of its call. Standing there changes nothing that locks and calls see.
-use Rattle.std.proofs.Common.{ℕ, zero, suc, List, set, true, false, Option, Some, None, if◌then◌else◌, ◌≡◌, ◌<◌, inl, inr, [], ◌∷◌, length, replicate, refl, sym, ◌∙◌, ap, subst, get_or-set_other, get_or-set_same, length-set, get_or}
-use Rattle.lot_rwlock.specs.declared.places.Admission.{Admission}
+use Rattle.std.proofs.Common.{ℕ, zero, suc, List, set, true, Option, Some, None, if◌then◌else◌, ◌≡◌, ◌<◌, inl, inr, [], ◌∷◌, length, replicate, refl, sym, ◌∙◌, ap, subst, get_or-set_other, get_or-set_same, length-set, get_or}
 use Rattle.lot_rwlock_fair.specs.declared.places.RwLockCallPlace.{RwLockCallPlace}
 use Rattle.lot_rwlock_fair.proofs.FairSleepers.{fair_looks_stand}
 use Rattle.lot_rwlock_fair.specs.FairProfiles.{call_looking}

@@ -1,5 +1,5 @@
 -- Each step of a thread in a call of a reader-writer lock is a step of the abstract locks, and a call begins where it has its right.
-use Rattle.std.proofs.Common.{ℕ, Bool, true, false, Option, Some, None, if◌then◌else◌, ◌==◌, not, ◌≡◌, ◌≤◌, ◌<◌, ◌⊎◌, inl, inr, List, [], length, get_or-set_same, refl, sym, ◌∙◌, ap, subst, arith, append-nil}
+use Rattle.std.proofs.Common.{ℕ, Bool, true, false, Option, Some, None, if◌then◌else◌, ◌==◌, not, ◌≡◌, ◌≤◌, ◌<◌, ◌⊎◌, inl, inr, length, get_or-set_same, refl, sym, ◌∙◌, ap, subst, arith}
 use Rattle.std.proofs.lemmas.Bool.Decides.{nat_tests}
 use Rattle.lot_calls.specs.declared.calls.Access.{Access}
 use Rattle.lot_calls.specs.declared.calls.Access.TheVariants as access
@@ -32,7 +32,6 @@ use Rattle.lot_rwlock_fair.specs.declared.places.RwLockCallPlace.TheVariants.{Pl
 use Rattle.lot_rwlock_fair.specs.declared.hand_over.HandOverAt.{HandOverAt}
 use Rattle.lot_rwlock_fair.specs.declared.hand_over.HandOverAt.TheVariants as handing
 use Rattle.lot_rwlock_fair.specs.declared.handed.HandedAt.TheVariants as handed
-use Rattle.lot_rwlock_fair.specs.FairDeeds.{call_deeds}
 use Rattle.lot_rwlock_fair.specs.FairMoves.{CallMoves, call_hears, call_move}
 use Rattle.lot_rwlock_fair.specs.FairSteps.{any_taken, bump_next, call_act, call_next, enters_again, freed_next, given, gives_up_at, gives_way, hand_over_next, has_room, looked, plain_next, released, took, unless_given}
 use Rattle.lot_rwlock_fair.proofs.FairActs.{fair_acts_move}
@@ -42,18 +41,16 @@ use Rattle.lot_rwlock_fair.specs.FairLaws.{CallOpens, next_rows}
 use Rattle.lot_rwlock_fair.specs.FairProfiles.{call_profile}
 use Rattle.lot_rwlock_fair.proofs.FairOpenings.{calls_open}
 use Rattle.lot_steps.specs.declared.places.Place.TheVariants.{Idle, RwLock}
-use Rattle.lot_steps.specs.Steps.{calls, lock_of, next_act, next_place, profile, rwlock_does, rwlock_goes}
-use Rattle.abstract_locks.specs.Deeds.{case_of, event_by}
+use Rattle.lot_steps.specs.Steps.{calls, lock_of, next_act, profile, rwlock_does, rwlock_goes}
 use Rattle.abstract_locks.specs.Locks.{LockCase, Owns, Rights, standing}
 use Rattle.abstract_locks.specs.Purposes.{purpose_of, rules_of, rwlock_purpose}
 use Rattle.abstract_locks.specs.Runs.{GoesOn, HasRight, new_call}
-use Rattle.abstract_locks.specs.Sites.{Deed, has_readers}
+use Rattle.abstract_locks.specs.Sites.{has_readers}
 use Rattle.lot_machine.specs.Machine.{State, can_do, owners_at, place_at, reply_to, share_at, state_after_act}
 use Rattle.lot_machine.specs.Fits.{IsShaped}
 use Rattle.lot_machine.proofs.Shape.{performed_counts}
 use Rattle.lot_world.specs.Refinement.{call_state, lock_state, locks_of, taken_at}
 use Rattle.lot_world.specs.SitesOf.{AreCounted, FitsItsLock, IsSteady, rules_in}
-use Rattle.lot_world.specs.Stations.{station}
 use Rattle.lot_world.proofs.CallEvents.{LeadsTo, goes_by}
 use Rattle.lot_world.proofs.Glue.{is_owner, thread_is}
 use Rattle.lot_world.proofs.PlacePromises.{waiting_stands}

@@ -1,10 +1,9 @@
 -- A thread in a call of a reader-writer lock goes on by its act: for itself alone, or handing its right over to those whom it has in hand.
-use Rattle.std.proofs.Common.{ℕ, Bool, true, false, Option, Some, None, if◌then◌else◌, ◌==◌, ◌≡◌, ◌≢◌, ◌<◌, ◌++◌, List, [], length, refl, sym, ◌∙◌, ap, subst, append-nil}
+use Rattle.std.proofs.Common.{ℕ, Bool, true, false, Option, Some, ◌≡◌, ◌≢◌, ◌<◌, List, [], length, refl, sym, ◌∙◌, ap, subst, append-nil}
 use Rattle.lot_base.specs.declared.ops.Op.{Op}
 use Rattle.lot_calls.specs.declared.calls.Access.TheVariants as access
 use Rattle.lot_acts.specs.declared.acts.Act.{Act}
 use Rattle.lot_acts.specs.declared.acts.Act.TheVariants as act
-use Rattle.lot_acts.specs.declared.acts.Reply.{Reply}
 use Rattle.lot_acts.specs.declared.acts.Reply.TheVariants.{Value}
 use Rattle.lot_acts.specs.Acts.{takes_effect}
 use Rattle.lot_acts.specs.Stations.{Station}
@@ -27,7 +26,6 @@ use Rattle.lot_rwlock_fair.specs.FairMoves.{CallMoves, call_hears, call_move}
 use Rattle.lot_rwlock_fair.specs.FairProfiles.{call_profile}
 use Rattle.lot_rwlock_fair.specs.FairSteps.{call_act}
 use Rattle.lot_rwlock_fair.proofs.FairActs.{fair_acts_move}
-use Rattle.lot_steps.specs.declared.places.Place.{Place}
 use Rattle.lot_steps.specs.declared.places.Place.TheVariants.{RwLock}
 use Rattle.lot_steps.specs.Steps.{lock_of, next_place}
 use Rattle.abstract_locks.specs.Deeds.{case_of, event_by}
@@ -40,7 +38,7 @@ use Rattle.lot_world.specs.SitesOf.{AreCounted, Goes, IsSteady, carried_at, rule
 use Rattle.lot_world.specs.Stations.{station}
 use Rattle.lot_world.proofs.ActsKept.{lock_by}
 use Rattle.lot_world.proofs.AtPlaces.{in_no_hand}
-use Rattle.lot_world.proofs.CallEvents.{Happens, Others, OthersFollow, happens, others_follow}
+use Rattle.lot_world.proofs.CallEvents.{Happens, OthersFollow, happens, others_follow}
 use Rattle.lot_world.proofs.HandsOn.{g, hands_fails, hands_tell, whom}
 use Rattle.lot_world.proofs.HandsOnEvents.{hands_happen, hands_others}
 use Rattle.lot_world.proofs.OtherCalls.{Stay, IsCalm, WakesOwn, calm, hands_nothing, lonely, no_hand_off, wakes_own}

@@ -10,7 +10,6 @@ use Rattle.lot_base.specs.declared.wants.Want.{Want}
 use Rattle.lot_acts.specs.declared.acts.Check.{Check}
 use Rattle.lot_calls.specs.declared.calls.Access.TheVariants as access
 use Rattle.lot_calls.specs.declared.calls.RwLockCall.{RwLockCall}
-use Rattle.lot_calls.specs.declared.calls.RwLockCall.TheVariants as call
 use Rattle.lot_calls.specs.declared.kinds.Kind.{Kind}
 use Rattle.lot_calls.specs.declared.kinds.Kind.TheVariants as kinds
 use Rattle.lot_calls.specs.declared.calls.Patience.{Patience}
@@ -20,7 +19,7 @@ use Rattle.lot_acts.specs.declared.acts.Act.TheVariants as act
 use Rattle.lot_acts.specs.declared.acts.Next.{Next}
 use Rattle.lot_acts.specs.declared.acts.Next.TheVariants as next
 use Rattle.lot_acts.specs.declared.acts.Reply.{Reply}
-use Rattle.lot_acts.specs.declared.acts.Reply.TheVariants.{Done, Value, Parked, Took, Picked, Removed, Late, TakenBy, HandedBy, Woken}
+use Rattle.lot_acts.specs.declared.acts.Reply.TheVariants.{Done, Value, Parked, Took, Picked, Removed, Late, TakenBy, Woken}
 use Rattle.lot_acts.specs.declared.acts.Wakes.{Wakes}
 use Rattle.lot_acts.specs.declared.acts.Whom as whom
 use Rattle.lot_acts.specs.Acts.{holds, wakes_taken}
