@@ -35,7 +35,7 @@ use Rattle.lot_steps.specs.declared.places.Place.{Place}
 use Rattle.lot_steps.specs.declared.places.Place.TheVariants.{Idle, Mutex, RwLock}
 use Rattle.lot_acts.specs.Acts.{outcome_of}
 use Rattle.lot_mutex.specs.MutexSteps.{mutex_first, is_locked, is_parked, entered, looked, hand_off_word, in_unlock}
-use Rattle.lot_calls.specs.Kinds.{is_built, is_fair}
+use Rattle.lot_calls.specs.Kinds.{is_fair}
 use Rattle.lot_calls.specs.Calls.{lock_in}
 use Rattle.lot_steps.specs.Steps.{act_of, next_place, next_act, mutex_goes, mutex_does, lock_of, first_place}
 use Rattle.lot_machine.specs.Machine.{State, place_at, word_at, kind_at, queue_at, section_at, go_of, after, solo, owners_handed_over, is_there}
@@ -555,15 +555,14 @@ module _ (w : State) (t : ℕ) (shape : IsShaped w) (steady : IsSteady w) (count
       fits : l < length w.locks
       fits = subst (PlaceFits (length w.locks)) is (shape.places t)
 
-      ends : has_readers (rules_in w l).sort ≡ true → (b : Bool) → is_built c ≡ b → EndsAlone w t (if b then Some (rwlock_purpose l c) else None) (solo 64 w t outcome.TheVariants.NotNow).outcome (solo 64 w t outcome.TheVariants.NotNow).state
-      ends readers true built = rwlock_alone w t l (admission_of (kind_at w l)) c 64 outcome.TheVariants.NotNow (omega arith) steady (admits_by (kind_at w l) readers) is (steps_alone l (admission_of (kind_at w l)) (call_first c) readers is fits) (runs_alone 64 w t (record { shaped = shape; steady = steady; counted = counted }))
-      ends readers false built = tt
+      ends : has_readers (rules_in w l).sort ≡ true → EndsAlone w t (Some (rwlock_purpose l c)) (solo 64 w t outcome.TheVariants.NotNow).outcome (solo 64 w t outcome.TheVariants.NotNow).state
+      ends readers = rwlock_alone w t l (admission_of (kind_at w l)) c 64 outcome.TheVariants.NotNow (omega arith) steady (admits_by (kind_at w l) readers) is (steps_alone l (admission_of (kind_at w l)) (call_first c) readers is fits) (runs_alone 64 w t (record { shaped = shape; steady = steady; counted = counted }))
 
       by_kind : (k : Kind) → kind_at w l ≡ k → EndsAlone w t (purpose_of k (call.TheVariants.RwLock l c)) (solo 64 w t outcome.TheVariants.NotNow).outcome (solo 64 w t outcome.TheVariants.NotNow).state
       by_kind kinds.Mutex e = tt
       by_kind kinds.Fair e = tt
-      by_kind (kinds.RwLock limit) e = ends (ap (λ k. has_readers (rules_of k).sort) e) (is_built c) refl
-      by_kind (kinds.Recursive limit) e = ends (ap (λ k. has_readers (rules_of k).sort) e) (is_built c) refl
+      by_kind (kinds.RwLock limit) e = ends (ap (λ k. has_readers (rules_of k).sort) e)
+      by_kind (kinds.Recursive limit) e = ends (ap (λ k. has_readers (rules_of k).sort) e)
       by_kind k e = tt
 
 -- ---------------------------------------------------------------- as the world is told them
