@@ -69,6 +69,7 @@ fn a_fair_release_hands_the_lock_to_readers_and_the_writer_behind_them(
             DONE
         );
     }
+    assert_eq!(rt; world.locks(), 1);
     assert_eq!(rt; world.solo(3), DONE);
     assert_eq!(rt; world.owners(0).next(), Some((Owner::Exclusive, 3)));
     Ok(())
@@ -96,6 +97,7 @@ fn a_bump_enters_again_behind_those_to_whom_it_gave_way(rt: HostRuntime) -> Resu
         calls(&mut world, 1, RwLockCall::ReleaseFair(Access::Upgradable)),
         DONE
     );
+    assert_eq!(rt; world.locks(), 1);
     assert_eq!(rt; world.owners(0).next(), Some((Owner::Exclusive, 2)));
     Ok(())
 }
