@@ -45,7 +45,8 @@ use Rattle.lot_world.proofs.CallEvents.{rights as rights_at}
 use Rattle.lot_acts.specs.Profiles.{Profile}
 use Rattle.lot_acts.specs.Calls.{call_by}
 use Rattle.abstract_locks.specs.Runs.{CallState, no_call}
-use Rattle.lot_world.proofs.RowPromises.{RowFinds, RowLooks, lock_for, releases_for, downgrades_for}
+use Rattle.abstract_locks.specs.Purposes.{lock_for}
+use Rattle.lot_world.proofs.RowPromises.{RowFinds, RowLooks, releases_for, downgrades_for}
 use Rattle.lot_world.proofs.PlacePromises.{LetsBy, row_promises, owing_is, owes_own, owed_own, inside_own, call_own, lets_in, lets_out}
 use Rattle.lot_world.proofs.LineActs.{late_line}
 use Rattle.lot_world.proofs.PlaceSteps.{owes_befallen, owes_next, first_owes, late_next}
