@@ -63,6 +63,7 @@ pub mod LockSteps
 pub mod OneThing
 pub mod Promises
 pub mod MutexPromises
+pub mod SharedFair
 pub mod Fair
 pub mod CountsTaken
 pub mod CountsKept
