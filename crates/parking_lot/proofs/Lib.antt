@@ -13,4 +13,5 @@ pub mod RwLockCalling
 pub mod RwLockFull
 pub mod RwLockRights
 pub mod RwLockHands
+pub mod TakesFew
 pub mod Behind

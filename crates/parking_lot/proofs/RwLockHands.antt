@@ -21,12 +21,7 @@ use Rattle.lot_words.proofs.RwLockKinds.{rwlock_steps}
 use Rattle.lot_words.proofs.RwLockOwning.{first_goes, has_first, keeps_all}
 use Rattle.lot_words.proofs.RwLockSteps.{exclusive_trade, stays, there}
 use Rattle.parking_lot.specs.Stages.{HandsEach, owns_when_handed}
-use Rattle.parking_lot.specs.Takes.{shares, sharers_in, successor_in}
-
--- how many of them want more than to share
-abbrev pub more_in : List Want → ℕ
-more_in [] = 0
-more_in (x ∷ xs) = cond (shares x) (more_in xs) (suc (more_in xs))
+use Rattle.parking_lot.specs.Takes.{more_in, sharers_in, successor_in}
 
 -- no share, so no share is it
 abbrev IsMore : Owner → Type 0
