@@ -12,4 +12,6 @@ pub mod Turning
 pub mod RwLockCalling
 pub mod RwLockFull
 pub mod RwLockRights
+pub mod RwLockHands
+pub mod TakesFew
 pub mod Behind
