@@ -1,5 +1,5 @@
 -- A call that takes its right behind its first step.
-use Rattle.std.proofs.Common.{ℕ, List, ◌++◌, Option, Some, None, ◌≡◌, refl, ap, ◌∙◌, sym, subst}
+use Rattle.std.proofs.Common.{ℕ, List, ◌++◌, Option, None, ◌≡◌, ap, ◌∙◌, sym, subst}
 use Rattle.lot_acts.specs.declared.acts.Reply.TheVariants.{Value}
 use Rattle.lot_base.specs.declared.ops.Op.{Op}
 use Rattle.lot_base.specs.declared.ops.Op.TheVariants.{Exchange}
@@ -7,13 +7,12 @@ use Rattle.lot_calls.specs.declared.outcomes.Answer.{Answer}
 use Rattle.lot_rwlock.specs.RwLockSteps.{entered, patience_of, word_taken}
 use Rattle.lot_rwlock.specs.declared.places.Admission.{Admission}
 use Rattle.lot_rwlock.specs.declared.purposes.RwLockPurpose.{RwLockPurpose}
-use Rattle.lot_steps.specs.Steps.{next_act, next_place}
+use Rattle.lot_steps.specs.Steps.{next_place}
 use Rattle.lot_steps.specs.declared.places.Place.{Place}
 use Rattle.lot_words.specs.Indices.{word_index}
 use Rattle.lot_words.specs.Steps.{CodesWith, MayStep, after_step}
 use Rattle.lot_words.specs.declared.owners.Ownership.{Ownership}
 use Rattle.lot_words.specs.declared.views.View.{View}
-use Rattle.lot_words.specs.declared.views.WordStep.{WordStep}
 use Rattle.lot_words.specs.declared.words.Word.{Word}
 use Rattle.lot_words.specs.declared.words.WordKind.{WordKind}
 use Rattle.lot_words.specs.declared.words.WordKind.TheVariants as kinds
@@ -24,7 +23,7 @@ use Rattle.parking_lot.specs.declared.courses.Course.TheVariants.{Takes}
 use Rattle.parking_lot.specs.Fitting.{Fits, IsOver, Reached, ReachedBy, aim_of, answer_of, of_rwlock}
 use Rattle.parking_lot.specs.Paths.{Rests, Walks, at_rwlock, rwlock_at, step}
 use Rattle.parking_lot.specs.RwLockCalls.{rwlock_begin, rwlock_deciding}
-use Rattle.parking_lot.specs.Stages.{Stage, Stepped, stage_of}
+use Rattle.parking_lot.specs.Stages.{Stepped, stage_of}
 use Rattle.parking_lot.proofs.Paths.{ends_at_once, rests}
 use Rattle.parking_lot.proofs.RwLockCourses.{comes_to, may_take, takes_all, takes_by, takes_on}
 use Rattle.parking_lot.proofs.Turning.{by_stage}

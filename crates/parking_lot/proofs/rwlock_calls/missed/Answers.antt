@@ -6,7 +6,7 @@ use Rattle.lot_steps.specs.Steps.{next_act, next_place}
 use Rattle.lot_steps.specs.declared.places.Place.{Place}
 use Rattle.lot_words.specs.declared.owners.Ownership.{Ownership}
 use Rattle.parking_lot_core.specs.Tokens.{view_of}
-use Rattle.parking_lot.specs.Fitting.{Aim, AreWordsFor, Fits, IsOver, Reached, ReachedBy, aim_of, answer_of, of_rwlock}
+use Rattle.parking_lot.specs.Fitting.{Aim, AreWordsFor, Fits, IsOver, ReachedBy, aim_of, answer_of, of_rwlock}
 use Rattle.parking_lot.specs.Paths.{Walks}
 use Rattle.parking_lot.specs.RwLockCalls.{rwlock_deciding}
 use Rattle.parking_lot.specs.Stages.{stage_of}

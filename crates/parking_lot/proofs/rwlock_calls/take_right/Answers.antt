@@ -1,4 +1,4 @@
-use Rattle.std.proofs.Common.{rules, ◌≡◌, ap, ◌∙◌, sym, subst, List, None}
+use Rattle.std.proofs.Common.{rules, ◌≡◌, ap, sym, subst, List, None}
 use Rattle.lot_acts.specs.declared.acts.Reply.TheVariants.{Value}
 use Rattle.lot_base.specs.Clocks.{IsUp}
 use Rattle.lot_base.specs.declared.ops.Op.TheVariants.{Exchange}
