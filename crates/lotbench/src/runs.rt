@@ -8,7 +8,7 @@ ghost use Rattle.parking_lot_core.specs.Tokens.{IsTicketOf, IsTokenOf};
 use crate::plans::{Mode, Plan};
 use crate::rwlocks::{
     RWLOCKS, RwLocks, come_upgradable, downgrade_value, mix_value, read_raw, read_value,
-    rwlocks_of, upgrade_value, write_raw, write_value,
+    rwlocks_of, upgrade_value, value_in, write_raw, write_value,
 };
 use crate::shares::Shares;
 use parking_lot::lock_raw::RawMutex as RawLock;
@@ -228,8 +228,15 @@ fn total_of(mode: Mode, bench: Bench, counts: &[u64]) -> u64 {
     match mode {
         Mode::Mutex | Mode::MutexTry => bench.mutex.into_inner(),
         Mode::Fair => bench.fair.into_inner(),
-        Mode::Write | Mode::Upgrade | Mode::Downgrade => bench.rwlocks.value.into_inner(),
-        _ => counts
+        Mode::Write | Mode::Upgrade | Mode::Downgrade => value_in(bench.rwlocks),
+        Mode::RawMutex
+        | Mode::RawMutexTry
+        | Mode::RawRead
+        | Mode::RawWrite
+        | Mode::Read
+        | Mode::RwMix
+        | Mode::ReadRecursive
+        | Mode::Upgradable => counts
             .iter()
             .fold(0u64, |all, count| all.saturating_add(*count)),
     }

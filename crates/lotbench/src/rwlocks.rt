@@ -44,6 +44,11 @@ pub(crate) fn rwlocks_of(lot: &Arc<ParkingLot>, token: &mut Token) -> Result<RwL
     }
 }
 
+/// The value that was written.
+pub(crate) fn value_in(locks: RwLocks) -> u64 {
+    locks.value.into_inner()
+}
+
 /// Comes in to read and leaves, so many times.
 pub(crate) fn read_raw<L: RawLock, R: Wait>(rt: &R, lock: &L, token: &mut L::Token, times: u64)
     requires { L.is_token_of (L.lot_of lock.now) token.old }
