@@ -1,5 +1,5 @@
 -- A bump that enters again steps alone as a call that enters: each of its steps is the same, but for the call that its place is of.
-use Rattle.std.proofs.Common.{ℕ, zero, suc, Bool, true, false, Option, Some, None, if◌then◌else◌, ◌&&◌, ◌≡◌, ◌≢◌, ◌+◌, ◌*◌, ◌^◌, ◌<◌, List, [], ◌∷◌, length, set, nat_lt, replicate, slice_index_or, slice_set, refl, sym, ◌∙◌, ap, subst, arith, get_or-set_same, length-set}
+use Rattle.std.proofs.Common.{ℕ, zero, suc, Bool, true, false, Option, Some, None, if◌then◌else◌, ◌==◌, ◌&&◌, ◌≡◌, ◌≢◌, ◌+◌, ◌*◌, ◌^◌, ◌<◌, List, [], ◌∷◌, length, set, nat_lt, replicate, slice_index_or, slice_set, refl, sym, ◌∙◌, ap, subst, arith, get_or-set_same, length-set}
 use Rattle.lot_base.specs.declared.keys.Keys.TheVariants.{One}
 use Rattle.lot_base.specs.declared.keys.Line.{Line}
 use Rattle.lot_base.specs.declared.keys.Line.TheVariants.{Main, Second}
@@ -40,10 +40,10 @@ use Rattle.abstract_locks.specs.Codes.{has_aside}
 use Rattle.lot_steps.specs.declared.places.Place.{Place}
 use Rattle.lot_steps.specs.declared.places.Place.TheVariants.{Idle, RwLock}
 use Rattle.lot_steps.specs.Steps.{act_of, next_act, next_place, rwlock_does, rwlock_goes, shares_after}
-use Rattle.lot_machine.specs.Machine.{Alone as Ran, State, state_after_operation, after, alone_after, can_do, can_go, go_of, go_outcome, is_possible, place_at, put, queues_with_last, reply_to, solo, state_after_act, state_after_go, step_outcome, word_at}
+use Rattle.lot_machine.specs.Machine.{Alone as Ran, State, state_after_operation, after, alone_after, can_do, can_go, go_of, go_outcome, held, is_possible, place_at, put, queues_with_last, reply_to, solo, state_after_act, state_after_go, step_outcome, word_at}
 use Rattle.lot_machine.specs.Fits.{IsShaped, SameSize}
 use Rattle.lot_machine.proofs.Shape.{after_shaped, after_size, performed_counts, put_shaped}
-use Rattle.lot_world.specs.SitesOf.{IsSteady, rules_in}
+use Rattle.lot_world.specs.SitesOf.{AreCounted, IsSteady, rules_in}
 use Rattle.lot_world.specs.Stations.{doing_on, station}
 use Rattle.lot_world.specs.Refinement.{taken_at}
 use Rattle.lot_world.specs.Solo.{Rests}
@@ -56,6 +56,9 @@ use Rattle.lot_world.proofs.RwLockSolo.{is_ready, rwlock_rests, word_small}
 use Rattle.lot_world.proofs.SoloActs.{Leads, leads_more}
 use Rattle.lot_world.proofs.LineSolo.{StepsAlone}
 use Rattle.lot_world.proofs.CallSolo.{EntersAgain, Shares, shares_on, accepts_rest, gives_rest, glance_rests, hands_over_rest, rest_of, wakes_rest}
+use Rattle.lot_world.proofs.CountsKept.{counted_after}
+use Rattle.lot_world.proofs.Counting.{nothing}
+use Rattle.lot_world.proofs.CountsPut.{put_counted}
 use Rattle.lot_world.proofs.TurnsKept.{after_steady}
 
 set_set : {A : Type 0} (xs : List A) (i : ℕ) (y z : A) → set (set xs i y) i z ≡ set xs i z
@@ -246,6 +249,7 @@ module _ (t l : ℕ) (a : Admission) (x : Access) where
   pub record Again (w : State) (retries : Bool) (to : RwLockAt) : Type 0 where
     pub shape : IsShaped w
     pub steady : IsSteady w
+    pub counted : AreCounted w
     pub shares : Admits (rules_in w l) a
     pub thread : t < length w.places
     pub place : place_at w t ≡ RwLock l a (Bump (of (purpose.Enter x Patient) retries to))
@@ -341,7 +345,8 @@ module _ (t l : ℕ) (a : Admission) (x : Access) where
       again_then : Again (after w (go_of t)) q.retries q.at
       again_then = record {
         shape = after_shaped w (go_of t) g.shape;
-        steady = after_steady w (go_of t) g.shape g.steady;
+        steady = after_steady w (go_of t) g.shape g.steady g.counted;
+        counted = counted_after w (go_of t) g.shape g.steady g.counted;
         shares = shares_on t l a w g.shares;
         thread = let size : SameSize w (after w (go_of t)) = after_size w (go_of t) in rw size.threads g.thread;
         place = ap (λ (s : State). place_at s t) (went able ∙ ap (λ m. put acted t (rwlock_goes l a (bump_next (purpose.Enter x Patient) m))) is)
@@ -379,7 +384,7 @@ module _ (t l : ℕ) (a : Admission) where
   -- its place in a call that only enters is as good
   plain_steady : (w : State) (p : RwLockPlace) → IsSteady w → t < length w.places → place_at w t ≡ RwLock l a (Bump p) → Admits (rules_in w l) a → MayStand a p → IsSteady (put w t (RwLock l a (Plain p)))
   plain_steady w p steady there is admits stands = goes_steady w (put w t (RwLock l a (Plain p))) l [] steady
-      (place_goes w t l steady (rw is refl) there (rules_in w l) refl (RwLock l a (Plain p)) refl (admits, stands, tt) [] (λ h. tt)
+      (place_goes w t l steady (rw is refl) there (rules_in w l) refl (RwLock l a (Plain p)) refl (admits, stands) [] (λ h. tt)
       (steps_by (rules_in w l) l (parts_at w l) (parts_at w l) (place_at w) t (RwLock l a (Plain p)) [] tt tt
       (ap (λ q. taken_at q l) is) refl refl refl refl (sym (ap (λ q. doing_on q l) is)))
       (sym (ap station is)))
@@ -392,7 +397,7 @@ module _ (t l : ℕ) (a : Admission) where
       entry = of (purpose.Enter x Patient) retries to
 
       g : Again t l a x w retries to
-      g = record { shape = f.shape; steady = f.steady; shares = shares; thread = f.thread; place = f.place; stands = may }
+      g = record { shape = f.shape; steady = f.steady; counted = f.counted; shares = shares; thread = f.thread; place = f.place; stands = may }
 
       plain_w : State
       plain_w = as_plain w t l a entry
@@ -401,6 +406,7 @@ module _ (t l : ℕ) (a : Admission) where
       alone = record {
         shape = put_shaped w t (RwLock l a (Plain entry)) f.shape f.lock;
         steady = plain_steady w entry f.steady f.thread f.place shares may;
+        counted = put_counted w t (RwLock l a (Plain entry)) f.thread (sym (ap held f.place)) (λ k. nothing (l == k)) f.counted;
         thread = rw (length-set w.places t (RwLock l a (Plain entry))) f.thread;
         lock = f.lock;
         place = get_or-set_same w.places t (RwLock l a (Plain entry)) Idle f.thread;

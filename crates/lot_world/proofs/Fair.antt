@@ -30,7 +30,7 @@ use Rattle.lot_machine.specs.Machine.{State, unlocked, place_at, word_at, owners
 use Rattle.lot_machine.specs.Fits.{IsShaped, PlaceFits}
 use Rattle.lot_world.specs.MutexPromises.{IsMutexWord}
 use Rattle.lot_world.specs.MutexDeeds.{mutex_station}
-use Rattle.lot_world.specs.SitesOf.{IsSteady, FitsItsLock, is_mutex, rules_in}
+use Rattle.lot_world.specs.SitesOf.{AreCounted, IsSteady, FitsItsLock, is_mutex, rules_in}
 use Rattle.abstract_locks.specs.Sites.{Main}
 use Rattle.lot_world.proofs.MutexTable.{own_doing}
 use Rattle.lot_world.proofs.Closures.{nothing_closes}
@@ -140,7 +140,7 @@ module _ (P : LockState → LockState → Type 0) (w v : LocksState) (a l : ℕ)
   does_so turn.TheVariants.Ok o d = goes_so o d
   does_so turn.TheVariants.Err o d = goes_so o d
 
-  turned_so : (x : Turn) (o : Outcome) → Turned w a x o v → P (w.locks l) (v.locks l)
+  pub turned_so : (x : Turn) (o : Outcome) → Turned w a x o v → P (w.locks l) (v.locks l)
   turned_so x o (inl d) = does_so x o d.1
   turned_so x o (inr r) = rw r.1.1 stays
 
@@ -277,8 +277,8 @@ module _ (w : State) (t l : ℕ) (shape : IsShaped w) (steady : IsSteady w) (own
 locked_by : (v : ℕ) (o : Option ℕ) (u : ℕ) → IsMutexWord v o → o ≡ Some u → is_locked v ≡ true
 locked_by v o u c e = by_code (λ v o. o ≡ Some u → is_locked v ≡ true) (λ g. absurd cc) (λ g. absurd cc) (λ x g. refl) (λ x g. refl) v o c e
 
-pub is_fair : (w : State) (s : Step) → IsShaped w → IsSteady w → IsFair w (after w s)
-is_fair w s shape steady = record {
+pub is_fair : (w : State) (s : Step) → IsShaped w → IsSteady w → AreCounted w → IsFair w (after w s)
+is_fair w s shape steady counted = record {
   gives = λ t l h. elim (cases_eq s.thread t) [
     | inl e ↦ told t l h (after_gives w t l shape steady h.1 h.2 h.0 s e)
     | inr ne ↦ inl (owned t l h (turned_so (λ x y. x.exclusive ≡ Some t → y.exclusive ≡ Some t) (locks_of w) (locks_of (after w s)) s.thread l (λ e. e)
@@ -293,10 +293,10 @@ is_fair w s shape steady = record {
     all l = (steady.sites.site l).state
 
     step : IsStep (locks_of w) s (step_outcome w s) (locks_of (after w s))
-    step = after_step w s shape steady
+    step = after_step w s shape steady counted
 
     coded : (t l : ℕ) → ReleasesFairly w t l → IsMutexWord (word_at (after w s) l) (owner_at (after w s) l)
-    coded t l h = words_coded (after w s) (after_steady w s shape steady) l
+    coded t l h = words_coded (after w s) (after_steady w s shape steady counted) l
         (ap rules_of (after_kinds w s l) ∙ mutex_rules (kind_at w l) h.2)
 
     owned : (t l : ℕ) → ReleasesFairly w t l → owner_at (after w s) l ≡ Some t → OwnsOn (after w s) t l

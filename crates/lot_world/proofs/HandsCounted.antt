@@ -17,16 +17,10 @@ use Rattle.lot_machine.specs.declared.hands.Successor.{Successor}
 use Rattle.lot_machine.specs.Machine.{State, held, held_by, place_at, shares_at, shares_in_hand, sharers, successor_from, successor_or, want_of_successor, wants_more_in_hand}
 use Rattle.lot_world.specs.Refinement.{lock_state, taken_at}
 use Rattle.lot_world.specs.Stations.{Station, nowhere, station}
-use Rattle.lot_world.specs.SitesOf.{IsSteady, carried_at, hand_at}
+use Rattle.lot_world.specs.SitesOf.{IsCounted, IsSteady, carried_at, hand_at}
 use Rattle.lot_world.proofs.Glue.{IsOf, calls_none, held_where, same, station_elsewhere}
 use Rattle.lot_world.proofs.HandsMoved.{thread_of}
 use Rattle.lot_world.proofs.InHand.{counted, heir_wants, is_wanted, shared_by, sharers_from, sharers_same, wanted_is, wanted_of, wants_heir}
-
--- as many want to share, and who wants more wants this; that is one thread at most
-pub record IsCounted (w : State) (t : ℕ) (k : Counted) : Type 0 where
-  pub number : sharers t w.places ≡ k.sharers
-  pub more : want_of_successor (successor_from t 0 w.places) ≡ k.successor
-  pub one : (u v : ℕ) (x y : Want) → wants_more_in_hand t (held (place_at w u)) ≡ Some x → wants_more_in_hand t (held (place_at w v)) ≡ Some y → u ≡ v
 
 -- ---------------------------------------------------------------- the machine's hand and the lock's
 
@@ -120,7 +114,7 @@ more_is t (Some h) x e ne = either (h.by == t) e
     either true f = let same_want : h.want ≡ x = cc in ap (λ c. if not c then Some h.want else None) (unshared h.want (λ g. ne (sym same_want ∙ g))) ∙ f
     either false f = absurd cc
 
-is_more : (t : ℕ) (o : Option Taken) (x : Want) → wants_more_in_hand t o ≡ Some x → (wanted_of t o ≡ Some x) × (x ≢ Shared)
+pub is_more : (t : ℕ) (o : Option Taken) (x : Want) → wants_more_in_hand t o ≡ Some x → (wanted_of t o ≡ Some x) × (x ≢ Shared)
 is_more t None x e = absurd cc
 is_more t (Some h) x e = either (h.by == t) e
   where
@@ -238,12 +232,19 @@ counts_own : (t : ℕ) (ps : List Place) → sharers t ps ≡ sharers_from t (λ
 counts_own t ps = counted t 0 (λ u. held (get_or ps u Idle)) ps (λ j. subst (λ i. shares_handed t (held (get_or ps i Idle)) ≡ (if shares_in_hand t (held (get_or ps j Idle)) then 1 else 0)) (let z : j ≡ 0 + j = omega arith in z) (share_counts t (held (get_or ps j Idle))))
 
 -- the counts are as they were
-pub counted_stays : (w v : State) (t : ℕ) (k : Counted) → IsCounted w t k → length v.places ≡ length w.places → ((u : ℕ) → wanted_of t (held (place_at v u)) ≡ wanted_of t (held (place_at w u))) → IsCounted v t k
-counted_stays w v t k count len each = record {
-  number = counts_own t v.places ∙ ap (sharers_from t (λ u. held (place_at v u)) 0) len ∙ sharers_same t (λ u. held (place_at w u)) (λ u. held (place_at v u)) each 0 (length w.places) ∙ sym (counts_own t w.places) ∙ count.number;
-  more = ap want_of_successor (successor_same t 0 w.places v.places len more_same) ∙ count.more;
-  one = λ u x y z f g. count.one u x y z (sym (more_same u) ∙ f) (sym (more_same x) ∙ g);
-}
-  where
-    more_same : (u : ℕ) → wants_more_in_hand t (held (place_at v u)) ≡ wants_more_in_hand t (held (place_at w u))
-    more_same u = more_by t (held (place_at v u)) ∙ ap more_wanted (each u) ∙ sym (more_by t (held (place_at w u)))
+module _ (w v : State) (t : ℕ) (len : length v.places ≡ length w.places) (each : (u : ℕ) → wanted_of t (held (place_at v u)) ≡ wanted_of t (held (place_at w u))) where
+  more_same : (u : ℕ) → wants_more_in_hand t (held (place_at v u)) ≡ wants_more_in_hand t (held (place_at w u))
+  more_same u = more_by t (held (place_at v u)) ∙ ap more_wanted (each u) ∙ sym (more_by t (held (place_at w u)))
+
+  pub same_sharers : sharers t v.places ≡ sharers t w.places
+  same_sharers = counts_own t v.places ∙ ap (sharers_from t (λ u. held (place_at v u)) 0) len ∙ sharers_same t (λ u. held (place_at w u)) (λ u. held (place_at v u)) each 0 (length w.places) ∙ sym (counts_own t w.places)
+
+  pub same_successor : successor_from t 0 v.places ≡ successor_from t 0 w.places
+  same_successor = successor_same t 0 w.places v.places len more_same
+
+  pub counted_stays : (k : Counted) → IsCounted w t k → IsCounted v t k
+  counted_stays k count = record {
+    number = same_sharers ∙ count.number;
+    more = ap want_of_successor same_successor ∙ count.more;
+    one = λ u x y z f g. count.one u x y z (sym (more_same u) ∙ f) (sym (more_same x) ∙ g);
+  }

@@ -9,8 +9,6 @@ use Rattle.lot_base.specs.declared.wants.Waiter.{Waiter}
 use Rattle.lot_base.specs.Words.{apply}
 use Rattle.lot_calls.specs.declared.calls.Access.TheVariants as access
 use Rattle.lot_acts.specs.declared.acts.Act.TheVariants as act
-use Rattle.lot_acts.specs.declared.acts.Next.{Next}
-use Rattle.lot_acts.specs.declared.acts.Next.TheVariants as next
 use Rattle.lot_acts.specs.declared.acts.Reply.TheVariants.{HandedBy, Value}
 use Rattle.lot_acts.specs.declared.owners.Owners.{Owners}
 use Rattle.lot_acts.specs.Acts.{takes_effect}
@@ -54,15 +52,15 @@ use Rattle.lot_machine.specs.Machine.{State, owners_at, place_at, put, queue_at,
 use Rattle.lot_machine.specs.Fits.{IsShaped}
 use Rattle.lot_world.specs.Refinement.{taken_at}
 use Rattle.lot_world.specs.MutexDeeds.{acts}
-use Rattle.lot_world.specs.SitesOf.{FitsItsLock, Goes, HasRoom, IsBuilt, IsSteady, carried_at, hand_at, rules_in}
+use Rattle.lot_world.specs.SitesOf.{FitsItsLock, Goes, HasRoom, IsCounted, IsSteady, carried_at, hand_at, rules_in}
 use Rattle.lot_world.specs.Stations.{doing_on, station}
 use Rattle.lot_world.proofs.ActsKept.{lock_by}
 use Rattle.lot_world.proofs.Glue.{free_of, IsOf, doing_here, next_of, station_here}
-use Rattle.lot_world.proofs.HandsCounted.{IsCounted, few_sharers, has_in_hand}
+use Rattle.lot_world.proofs.HandsCounted.{few_sharers, has_in_hand}
 use Rattle.lot_world.proofs.HandsKept.{IsGiven, claims_given}
 use Rattle.lot_world.proofs.HandsMoved.{hands_over as hands_all, looks_again, thread_of}
 use Rattle.lot_world.proofs.MovesKept.{IsFollowed}
-use Rattle.lot_world.proofs.RwLockKept.{AreBuilt, admits, at_now, call_told_other, call_told_value, fits_next, fits_now, followed_by, goes_row, of_no_mutex, own, same_row, word_few}
+use Rattle.lot_world.proofs.RwLockKept.{admits, at_now, call_told_other, call_told_value, fits_next, fits_now, followed_by, goes_row, of_no_mutex, own, same_row, word_few}
 
 -- ---------------------------------------------------------------- the place
 
@@ -156,7 +154,7 @@ heir_same (Some x) (Some y) e = let both : record { thread = 0; want = x } ≡ r
 -- ---------------------------------------------------------------- the step
 
 module _ (w : State) (t l : ℕ) (a : Admission) (c : RwLockCallPlace) (steady : IsSteady w) (shape : IsShaped w) (there : t < length w.places) (lt : l < length w.locks) (is : place_at w t ≡ RwLock l a c)
-    (all : (d : RwLockCallPlace) → IsBuilt d) (k : Counted) (is_k : in_hand_of c ≡ Some k) (count : IsCounted w t k) (op : Op) (e : call_act l a c ≡ act.HandOver l op) where
+    (k : Counted) (is_k : in_hand_of c ≡ Some k) (count : IsCounted w t k) (op : Op) (e : call_act l a c ≡ act.HandOver l op) where
   abbrev here : Site
   here = lock_by w l (rules_in w l)
 
@@ -221,7 +219,7 @@ module _ (w : State) (t l : ℕ) (a : Admission) (c : RwLockCallPlace) (steady :
   follows : Followed (word_at w l) × (apply op (word_at w l) ≡ code (rules_in w l) (laws.after_all (rules_in w l) (call_deeds a c whom (Value (word_at w l))) here t))
   follows = subst (λ v. Followed v × (apply op v ≡ code (rules_in w l) (laws.after_all (rules_in w l) (call_deeds a c whom (Value v)) here t))) (sym now)
       (let f = hand_overs_follow (rules_in w l) a here t l c op whom hands e in (
-        followed_by w t l a c steady shape there lt is whom (Value (code (rules_in w l) here)) f.needed f.doing tt (call_told_value a c (code (rules_in w l) here) few),
+        followed_by w t l a c steady shape there lt is whom (Value (code (rules_in w l) here)) f.needed f.doing (call_told_value a c (code (rules_in w l) here) few),
         hand_overs_code (rules_in w l) a here t l c op whom hands e fewer few room limits.1,
       ))
 
@@ -287,10 +285,6 @@ module _ (w : State) (t l : ℕ) (a : Admission) (c : RwLockCallPlace) (steady :
             told_row : profile told ≡ (call_move d q).next (HandedBy t (unshared_then w t l))
             told_row = goes_row j d (call_next d q (HandedBy t (unshared_then w t l)))
 
-            built : (n : Next RwLockCallPlace) → AreBuilt n
-            built (next.At x) = all x
-            built (next.End answer) = tt
-
             at_lock : j ≡ l → (call_profile d q).hand ≡ hand t b → IsGiven w t l b (unshared_then w t l) (RwLock j d q)
             at_lock same_lock z =
                 let in_it : (call_profile d q).hand ≡ hand t false = z ∙ ap (hand t) fresh in
@@ -304,7 +298,7 @@ module _ (w : State) (t l : ℕ) (a : Admission) (c : RwLockCallPlace) (steady :
                   goes = ap station_by told_row ∙ m.goes;
                   doing = doing_here l told (next_of l (RwLock j d q) (HandedBy t (unshared_then w t l)) same_lock) ∙ ap (λ (y : Profile). y.doing) told_row ∙ m.claims
                       ∙ sym (ap (λ (y : Doing). record y { claims = Some (claim_handed (unshared_then w t l) waits.want) }) (doing_here l (RwLock j d q) same_lock));
-                  fits = fits_next w t l a c steady shape there lt is j d (call_next d q (HandedBy t (unshared_then w t l))) fits_u.0 (fair_calls_stand d q (HandedBy t (unshared_then w t l)) fits_u.1 (call_told_other d q (HandedBy t (unshared_then w t l)) tt)) (built (call_next d q (HandedBy t (unshared_then w t l))));
+                  fits = fits_next w t l a c steady shape there lt is j d (call_next d q (HandedBy t (unshared_then w t l))) fits_u.0 (fair_calls_stand d q (HandedBy t (unshared_then w t l)) fits_u.1 (call_told_other d q (HandedBy t (unshared_then w t l)) tt));
                 }
 
             either : (y : Bool) → (j == l) ≡ y → (if y then station (RwLock j d q) else nowhere).hand ≡ hand t b → IsGiven w t l b (unshared_then w t l) (RwLock j d q)

@@ -30,19 +30,19 @@ use Rattle.lot_steps.specs.declared.places.Place.TheVariants.{Idle, Mutex, RwLoc
 use Rattle.lot_steps.specs.Steps.{calls, next_place, profile, rwlock_goes, taker}
 use Rattle.abstract_locks.specs.Deeds.{case_of, event_by}
 use Rattle.abstract_locks.specs.Locks.{HandOff, IsTaken, Queued, Rights, Taken, putting}
-use Rattle.abstract_locks.specs.Runs.{AtLock, is_taken_by}
+use Rattle.abstract_locks.specs.Runs.{AtLock, Event, is_taken_by}
 use Rattle.abstract_locks.specs.Sites.{Deed}
 use Rattle.lot_machine.specs.Fits.{IsShaped}
 use Rattle.lot_machine.specs.Machine.{State, place_after_telling, place_at, put, state_after_act, state_after_hand_over_by, unshared_then, word_at}
 use Rattle.lot_world.specs.MutexDeeds.{acts}
 use Rattle.lot_world.specs.MutexDeeds as deeds
 use Rattle.lot_world.specs.Refinement.{call_state, lock_state, taken_at}
-use Rattle.lot_world.specs.SitesOf.{FitsItsLock, Goes, IsBuilt, IsSteady, carried_at, rules_in}
+use Rattle.lot_world.specs.SitesOf.{FitsItsLock, Goes, IsCounted, IsSteady, carried_at, rules_in}
 use Rattle.lot_world.proofs.AtPlaces.{in_no_hand, unless_held}
 use Rattle.lot_world.proofs.CallEvents.{Happens, OthersFollow, happens}
 use Rattle.lot_world.proofs.Glue.{held_taker, station_here}
 use Rattle.lot_world.proofs.HandRights.{given_right}
-use Rattle.lot_world.proofs.HandsCounted.{IsCounted, hand_there}
+use Rattle.lot_world.proofs.HandsCounted.{hand_there}
 use Rattle.lot_world.proofs.HandsEvents.{IsHandedCall, claims_are, hands_many}
 use Rattle.lot_world.proofs.HandsKept.{alone_is, claims_given}
 use Rattle.lot_world.proofs.HandsOn.{bare, carries, g, given, hands_goes, hands_tell, more_right, of, row, unclaimed, whom}
@@ -64,37 +64,43 @@ gains false Wait l r = refl
 gains false CallOnce l r = refl
 
 module _ (w : State) (t l : ℕ) (a : Admission) (c : RwLockCallPlace) (steady : IsSteady w) (shape : IsShaped w) (there : t < length w.places) (lt : l < length w.locks) (is : place_at w t ≡ RwLock l a c)
-    (all : (d : RwLockCallPlace) → IsBuilt d) (k : Counted) (is_k : in_hand_of c ≡ Some k) (count : IsCounted w t k) (op : Op) (e : call_act l a c ≡ act.HandOver l op) (takes : takes_effect op (word_at w l) ≡ true) where
+    (k : Counted) (is_k : in_hand_of c ≡ Some k) (count : IsCounted w t k) (op : Op) (e : call_act l a c ≡ act.HandOver l op) (takes : takes_effect op (word_at w l) ≡ true) where
   abbrev alone : Bool
   alone = unshared_then w t l
 
   abbrev heir : Option ℕ
-  heir = whom w t l a c steady shape there lt is all k is_k count op e
+  heir = whom w t l a c steady shape there lt is k is_k count op e
 
   abbrev pub behind : State
   behind = put (state_after_act w t (RwLock l a c) (act.HandOver l op)) t (next_place (RwLock l a c) (Value (word_at w l)))
 
-  abbrev done : List Deed
+  abbrev pub done : List Deed
   done = call_deeds a c heir (Value (word_at w l))
 
   abbrev claims : List deeds.Act
   claims = claims_given t alone (λ u. taken_at (place_at w u) l) (length w.places)
 
   went : Goes w behind l (acts t done ++ claims)
-  went = subst (λ q. Goes w (put (state_after_act w t (RwLock l a c) (act.HandOver l op)) t (next_place q (Value (word_at w l)))) l (acts t done ++ claims)) is (hands_goes w t l a c steady shape there lt is all k is_k count op e takes)
+  went = subst (λ q. Goes w (put (state_after_act w t (RwLock l a c) (act.HandOver l op)) t (next_place q (Value (word_at w l)))) l (acts t done ++ claims)) is (hands_goes w t l a c steady shape there lt is k is_k count op e takes)
 
   abbrev pub right : Want
-  right = (g w t l a c steady shape there lt is all k is_k count op e).right
+  right = (g w t l a c steady shape there lt is k is_k count op e).right
 
   abbrev pub successor : Option Queued
-  successor = heir_of heir (g w t l a c steady shape there lt is all k is_k count op e).successor
+  successor = heir_of heir (g w t l a c steady shape there lt is k is_k count op e).successor
 
   carried_now : carried_at (place_at w t) l ≡ (call_profile a c).carries
-  carried_now = ap (λ (y : Station). y.carries) (station_here l (place_at w t) (of w t l a c steady shape there lt is all k is_k count op e)) ∙ ap (λ (y : Profile). y.carries) (row w t l a c steady shape there lt is all k is_k count op e)
+  carried_now = ap (λ (y : Station). y.carries) (station_here l (place_at w t) (of w t l a c steady shape there lt is k is_k count op e)) ∙ ap (λ (y : Profile). y.carries) (row w t l a c steady shape there lt is k is_k count op e)
 
-  pub hands_happen : Happens w behind t l (AtLock l (HandOff right successor))
-  hands_happen = subst (λ ds. Happens w behind t l (event_by l (case_of (call_profile a c).carries ds))) ((g w t l a c steady shape there lt is all k is_k count op e).deeds heir (word_at w l) takes)
-      (happens w behind t l (call_profile a c).carries done claims steady went (claims_are t alone (λ u. taken_at (place_at w u) l) (length w.places)) (hands_tell w t l a c steady shape there lt is all k is_k count op e).one (λ none. in_no_hand w steady t l (λ h. none (sym carried_now ∙ h))))
+  abbrev event : Event
+  event = event_by l (case_of (call_profile a c).carries done)
+
+  one_case : event ≡ AtLock l (HandOff right successor)
+  one_case = ap (λ ds. event_by l (case_of (call_profile a c).carries ds)) ((g w t l a c steady shape there lt is k is_k count op e).deeds heir (word_at w l) takes)
+
+  pub hands_happen : Happens w behind t l event
+  hands_happen = happens w behind t l (call_profile a c).carries done claims steady went (claims_are t alone (λ u. taken_at (place_at w u) l) (length w.places)) (hands_tell w t l a c steady shape there lt is k is_k count op e).one
+      (λ none. in_no_hand w steady t l (λ h. none (sym carried_now ∙ h)))
 
   -- all in its hand are told, and nobody else
   befalls : Befalls w behind t l (HandedBy t alone)
@@ -105,7 +111,7 @@ module _ (w : State) (t l : ℕ) (a : Admission) (c : RwLockCallPlace) (steady :
     where
       same_test : (b : Bool) → is_thread t (taker (place_at w u)) ≡ b → is_thread t (taker (place_at w u)) ≡ is_taken_by t (taken_at (place_at w u) l)
       same_test true f = f ∙ sym (taken_by_hand w (place_at w u) t l (steady.stands.calls u)
-          (hand_there w t l steady (of w t l a c steady shape there lt is all k is_k count op e) (g w t l a c steady shape there lt is all k is_k count op e).any (carries w t l a c steady shape there lt is all k is_k count op e) u f))
+          (hand_there w t l steady (of w t l a c steady shape there lt is k is_k count op e) (g w t l a c steady shape there lt is k is_k count op e).any (carries w t l a c steady shape there lt is k is_k count op e) u f))
       same_test false f = f ∙ sym (unless_held w steady t l u (λ h. let z : is_thread t (taker (place_at w u)) ≡ true = held_taker (place_at w u) t l false h in cc))
 
   -- and their calls go on with it
@@ -134,7 +140,7 @@ module _ (w : State) (t l : ℕ) (a : Admission) (c : RwLockCallPlace) (steady :
           at_lock same_lock z wants r = by_next (call_next d q (HandedBy t alone)) refl
             where
               unclaimed_now : (call_profile d q).doing.claims ≡ None
-              unclaimed_now = unclaimed w t l a c steady shape there lt is all k is_k count op e takes u j d q f same_lock z
+              unclaimed_now = unclaimed w t l a c steady shape there lt is k is_k count op e takes u j d q f same_lock z
 
               by_next : (n : Next RwLockCallPlace) → call_next d q (HandedBy t alone) ≡ n → call_state (rwlock_goes j d n) (putting r l (given_right alone x (r l))) ≡ record (call_state (RwLock j d q) r) { retries = None }
               by_next (next.At c2) y = ap (call_state (RwLock j d c2)) (gains alone x l r ∙ ap (λ i. with_claim (claim_handed alone x) i r) (sym same_lock)) ∙ (fair_sleepers_hear d j q fits_u.1).given t alone z unclaimed_now c2 r x wants y
@@ -152,8 +158,8 @@ module _ (w : State) (t l : ℕ) (a : Admission) (c : RwLockCallPlace) (steady :
               at_lock (eqb-true j l p3) (p1 ∙ ap (λ (y : Taken). hand y.by false) both) (p2 ∙ ap (λ (y : Taken). Some y.want) both)
           by_row (Some (Of v false)) (Some s) false p1 p2 p3 z = absurd cc
 
-  pub hands_others : OthersFollow w behind t (AtLock l (HandOff right successor))
-  hands_others = hands_many w behind t l right successor hands_happen alone
-      (alone_is w t l steady (of w t l a c steady shape there lt is all k is_k count op e) there lt (RwLock l a c) (place_at w t) (of w t l a c steady shape there lt is all k is_k count op e) (steady.stands.calls t) op (rules_in w l) refl (admits w t l a c steady shape there lt is).0
-      (given w t l a c steady shape there lt is all k is_k count op e takes) (bare w t l a c steady shape there lt is all k is_k count op e) right (more_right w t l a c steady shape there lt is all k is_k count op e takes))
-      befalls handed_calls
+  pub hands_others : OthersFollow w behind t event
+  hands_others = subst (OthersFollow w behind t) (sym one_case) (hands_many w behind t l right successor (subst (Happens w behind t l) one_case hands_happen) alone
+      (alone_is w t l steady (of w t l a c steady shape there lt is k is_k count op e) there lt (RwLock l a c) (place_at w t) (of w t l a c steady shape there lt is k is_k count op e) (steady.stands.calls t) op (rules_in w l) refl (admits w t l a c steady shape there lt is).0
+      (given w t l a c steady shape there lt is k is_k count op e takes) (bare w t l a c steady shape there lt is k is_k count op e) right (more_right w t l a c steady shape there lt is k is_k count op e takes))
+      befalls handed_calls)

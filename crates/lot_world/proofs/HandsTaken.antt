@@ -1,11 +1,11 @@
--- Of those whom a thread picks that keeps no right, one at most wants more than to share: so one at most succeeds it.
-use Rattle.std.proofs.Common.{ℕ, Bool, true, false, None, if◌then◌else◌, ◌≡◌, ◌+◌, ◌≤◌, List, [], ◌∷◌, refl, arith}
+-- Of those whom a thread picks, one at most wants more than to share: so one at most succeeds it.
+use Rattle.std.proofs.Common.{ℕ, Bool, true, false, Option, if◌then◌else◌, ◌≡◌, ◌+◌, ◌≤◌, List, [], ◌∷◌, refl, arith}
 use Rattle.lot_base.specs.declared.lock_picker.LockPicker.{LockPicker}
 use Rattle.lot_base.specs.declared.lock_picker.LockPicker.TheVariants.{Anyone, Readers, Nobody}
 use Rattle.lot_base.specs.declared.wants.Waiter.{Waiter}
 use Rattle.lot_base.specs.declared.wants.Want.{Want}
 use Rattle.lot_base.specs.declared.wants.Want.TheVariants.{Exclusive, Upgradable, Shared, Wait, CallOnce}
-use Rattle.lot_base.specs.Picks.{lock_answer, lock_picked, next_picker, picked}
+use Rattle.lot_base.specs.Picks.{lock_answer, lock_picked, lock_picker, next_picker, picked}
 use Rattle.abstract_locks.specs.Locks.{wants_shared}
 
 -- how many want more than to share
@@ -40,5 +40,10 @@ few_more picker (x ∷ xs) = by_want (λ p. few_more p xs) picker x.want refl
     by_want rest (Anyone true) CallOnce e = let h : wanting_more (picked lock_answer next_picker Readers xs) ≤ 0 = rest Readers in rw e (omega arith)
     by_want rest (Anyone false) CallOnce e = let h : wanting_more (picked lock_answer next_picker Readers xs) ≤ 0 = rest Readers in rw e (omega arith)
 
-pub one_more_picked : (recursive : Bool) (xs : List Waiter) → wanting_more (lock_picked None recursive xs) ≤ 1
-one_more_picked recursive xs = few_more (Anyone recursive) xs
+pub one_more_picked : (start : Option Want) (recursive : Bool) (xs : List Waiter) → wanting_more (lock_picked start recursive xs) ≤ 1
+one_more_picked start recursive xs = let few : wanting_more (lock_picked start recursive xs) ≤ most (lock_picker start recursive) = few_more (lock_picker start recursive) xs in
+    let one : most (lock_picker start recursive) ≤ 1 = at_most (lock_picker start recursive) in omega arith
+  where
+    at_most : (picker : LockPicker) → most picker ≤ 1
+    at_most (Anyone recursive) = omega arith
+    at_most picker = omega arith

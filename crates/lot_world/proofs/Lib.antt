@@ -23,6 +23,9 @@ pub mod HandsMoved
 pub mod InHand
 pub mod HandsCounted
 pub mod HandsTaken
+pub mod HandCases
+pub mod Counting
+pub mod Befallen
 pub mod SitesKept
 pub mod RwLockKept
 pub mod HandsOn
@@ -54,11 +57,15 @@ pub mod CallOwing
 pub mod PlaceSteps
 pub mod Possible
 pub mod RwLockEvents
+pub mod RwLockGoes
+pub mod CountsPut
 pub mod LockSteps
 pub mod OneThing
 pub mod Promises
 pub mod MutexPromises
 pub mod Fair
+pub mod CountsTaken
+pub mod CountsKept
 pub mod SoloActs
 pub mod SoloAnswers
 pub mod LineSolo

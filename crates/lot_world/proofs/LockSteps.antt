@@ -55,9 +55,10 @@ use Rattle.lot_machine.specs.Fits.{IsShaped, SameSize, PlaceFits, GivesUpTimed}
 use Rattle.lot_machine.proofs.Shape.{looking_shaped, after_size, both, performed_counts}
 use Rattle.lot_world.proofs.Possible.{may_go, go_possible, may_be_late, late_possible, told_gone, told_step, begins_awake, turner_there, gone_sections, late_sections, late_awake}
 use Rattle.lot_machine.proofs.Looks.{mutex_looks}
+use Rattle.lot_world.proofs.CountsPut.{looking_counted}
 use Rattle.lot_world.proofs.Looking.{here, looks_now, looking_steady, goes_as_before, stays_as_before}
 use Rattle.lot_world.proofs.Closures.{no_closure, nothing_closes}
-use Rattle.lot_world.specs.SitesOf.{site_of, IsSteady, Goes, FitsItsLock, is_mutex, rules_in, carried_at}
+use Rattle.lot_world.specs.SitesOf.{site_of, AreCounted, IsSteady, Goes, FitsItsLock, is_mutex, rules_in, carried_at}
 use Rattle.abstract_locks.specs.Sites.{IsSite, Deed, Main, Mark, End, Case}
 use Rattle.abstract_locks.specs.Locks.{LockCase, Wake, Leave as GivesBack, HandOff as HandsOff, Rights, rights_of, standing}
 use Rattle.abstract_locks.specs.Runs.{LocksState, CallState, GoesOn, Stays, Looks, IsOfMutex, Does, SectionChanges, MayBegin, MayTurn, HasRight, Turned, IsStep, purpose_at, new_call, Nothing}
@@ -345,10 +346,10 @@ module _ (w : State) (t : ℕ) (shape : IsShaped w) (steady : IsSteady w) (there
         place_then : call_state (place_at decided t) ≡ call_state (place_at w t)
         place_then = ap call_state (get_or-set_same w.places t (next_place (Mutex l (Lock e again Load)) (Value (word_at w l))) Idle there) ∙ ap call_state (sym is)
 
-  go_goes : (p : Place) → place_at w t ≡ p → PlaceFits (length w.locks) p → FitsItsLock w p → can_do w (act_of p) ≡ true → GoesOn (locks_of w) t (outcome_of (next_act p (reply_to w t (act_of p)))) (locks_of (go_by w t p (act_of p)))
-  go_goes Idle is fits of can = absurd cc
-  go_goes (RwLock l a c) is fits of can = rwlock_step w t l a c steady shape there fits is can
-  go_goes (Mutex l at) is fits of can = mutex_goes_on l fits.0 (mutex_rules (kind_at w l) of) at is can fits.1
+  go_goes : AreCounted w → (p : Place) → place_at w t ≡ p → PlaceFits (length w.locks) p → FitsItsLock w p → can_do w (act_of p) ≡ true → GoesOn (locks_of w) t (outcome_of (next_act p (reply_to w t (act_of p)))) (locks_of (go_by w t p (act_of p)))
+  go_goes counted Idle is fits of can = absurd cc
+  go_goes counted (RwLock l a c) is fits of can = rwlock_step w t l a c steady shape there fits is counted can
+  go_goes counted (Mutex l at) is fits of can = mutex_goes_on l fits.0 (mutex_rules (kind_at w l) of) at is can fits.1
 
   -- ---------------------------------------------------------------- turns by which the place alone changes
 
@@ -454,10 +455,10 @@ module _ (w : State) (t : ℕ) (shape : IsShaped w) (steady : IsSteady w) (there
       calls_moved : {x : MutexPlace} → place_at moved t ≡ Mutex l x → FitsItsLock moved (Mutex l x)
       calls_moved now = subst (FitsItsLock moved) now (steady_moved.stands.calls t)
 
-  looks : Looks (locks_of w) t (go_outcome moved t) (locks_of (state_after_go moved t))
-  looks = record {
+  looks : AreCounted w → Looks (locks_of w) t (go_outcome moved t) (locks_of (state_after_go moved t))
+  looks counted = record {
     goes = goes_as_before w t there q is _ (locks_of (state_after_go moved t))
-        (go_goes moved t shaped_moved steady_moved there_moved (place_at moved t) refl (shaped_moved.places t) (steady_moved.stands.calls t) (looks_now w t there q is));
+        (go_goes moved t shaped_moved steady_moved there_moved (looking_counted w t there q is counted) (place_at moved t) refl (shaped_moved.places t) (steady_moved.stands.calls t) (looks_now w t there q is));
     stays = λ of. look_stays (place_at w t) refl of;
   }
 
@@ -589,17 +590,17 @@ begin_possible w t c may = either (can_begin w t c) refl
 -- ---------------------------------------------------------------- steps
 
 module _ (w : State) (t : ℕ) (shape : IsShaped w) (steady : IsSteady w) (there : t < length w.places) where
-  turned_does : (x : Turn) → can_turn w t x ≡ true → MayTurn (locks_of w) t x × Does (locks_of w) t x (turn_outcome w t x) (locks_of (state_after_turn w t x))
-  turned_does (turn.TheVariants.Begin c) can = begin_goes w t c shape steady there can
-  turned_does turn.TheVariants.Go can = (may_go w t can, go_goes w t shape steady there (place_at w t) refl (shape.places t) (steady.stands.calls t) can)
-  turned_does turn.TheVariants.Spin can = (can, by_look (looking (place_at w t)) refl can)
+  turned_does : AreCounted w → (x : Turn) → can_turn w t x ≡ true → MayTurn (locks_of w) t x × Does (locks_of w) t x (turn_outcome w t x) (locks_of (state_after_turn w t x))
+  turned_does counted (turn.TheVariants.Begin c) can = begin_goes w t c shape steady there can
+  turned_does counted turn.TheVariants.Go can = (may_go w t can, go_goes w t shape steady there counted (place_at w t) refl (shape.places t) (steady.stands.calls t) can)
+  turned_does counted turn.TheVariants.Spin can = (can, by_look (looking (place_at w t)) refl can)
     where
       by_look : (o : Option Place) → looking (place_at w t) ≡ o → is_some o ≡ true → Looks (locks_of w) t (look_outcome w t o) (locks_of (state_after_look w t o))
       by_look None is can = absurd cc
-      by_look (Some q) is can = looks w t shape steady there q is
-  turned_does turn.TheVariants.Late can = (may_be_late w t steady can, late_goes w t shape steady there (place_at w t) refl can)
-  turned_does turn.TheVariants.Ok can = absurd (nothing_closes w t true can)
-  turned_does turn.TheVariants.Err can = absurd (nothing_closes w t false can)
+      by_look (Some q) is can = looks w t shape steady there q is counted
+  turned_does counted turn.TheVariants.Late can = (may_be_late w t steady can, late_goes w t shape steady there (place_at w t) refl can)
+  turned_does counted turn.TheVariants.Ok can = absurd (nothing_closes w t true can)
+  turned_does counted turn.TheVariants.Err can = absurd (nothing_closes w t false can)
 
 -- a turn that may be taken is possible
 module _ (w : State) (t : ℕ) (steady : IsSteady w) where
@@ -649,8 +650,8 @@ module _ (w : State) (t : ℕ) (shape : IsShaped w) (steady : IsSteady w) (there
   turned_told turn.TheVariants.Ok can = absurd (nothing_closes w t true can)
   turned_told turn.TheVariants.Err can = absurd (nothing_closes w t false can)
 
-pub after_step : (w : State) (s : Step) → IsShaped w → IsSteady w → IsStep (locks_of w) s (step_outcome w s) (locks_of (after w s))
-after_step w s shape steady = (record { threads = size.threads; size = size.locks; kinds = after_kinds w s; sections = sections (is_possible w s) refl; told = told (is_possible w s) refl }, either (is_possible w s) refl)
+pub after_step : (w : State) (s : Step) → IsShaped w → IsSteady w → AreCounted w → IsStep (locks_of w) s (step_outcome w s) (locks_of (after w s))
+after_step w s shape steady counted = (record { threads = size.threads; size = size.locks; kinds = after_kinds w s; sections = sections (is_possible w s) refl; told = told (is_possible w s) refl }, either (is_possible w s) refl)
   where
     size : SameSize w (after w s)
     size = after_size w s
@@ -668,5 +669,5 @@ after_step w s shape steady = (record { threads = size.threads; size = size.lock
     told false cannot ne = absurd (ne refl)
 
     either : (b : Bool) → is_possible w s ≡ b → Turned (locks_of w) s.thread s.turn (if b then turn_outcome w s.thread s.turn else outcome.TheVariants.NotNow) (locks_of (if b then state_after_turn w s.thread s.turn else w))
-    either true can = inl (turned_does w s.thread shape steady (parts can).0 s.turn (parts can).1)
+    either true can = inl (turned_does w s.thread shape steady (parts can).0 counted s.turn (parts can).1)
     either false cannot = inr (stuck w s.thread steady s.turn cannot, (refl, refl))

@@ -1,12 +1,8 @@
 -- A thread that looks at the word once more goes on from another place of its call. Standing there changes nothing that locks and calls see.
-use Rattle.std.proofs.Common.{ℕ, zero, suc, List, set, true, false, Option, Some, None, if◌then◌else◌, ◌≡◌, ◌<◌, inl, inr, [], ◌∷◌, length, replicate, refl, sym, ◌∙◌, ap, subst, get_or-set_other, get_or-set_same, length-set, get_or}
-use Rattle.lot_rwlock.specs.declared.places.RwLockPlace.{RwLockPlace}
-use Rattle.lot_rwlock.specs.RwLockProfiles.{rwlock_looking}
-use Rattle.lot_rwlock.specs.declared.places.Admission.{Admission}
+use Rattle.std.proofs.Common.{ℕ, zero, suc, List, set, true, Option, Some, None, if◌then◌else◌, ◌≡◌, ◌<◌, inl, inr, [], ◌∷◌, length, replicate, refl, sym, ◌∙◌, ap, subst, get_or-set_other, get_or-set_same, length-set, get_or}
 use Rattle.lot_rwlock_fair.specs.declared.places.RwLockCallPlace.{RwLockCallPlace}
 use Rattle.lot_rwlock_fair.proofs.FairSleepers.{fair_looks_stand}
-use Rattle.lot_rwlock_fair.specs.declared.places.RwLockCallPlace.TheVariants.{Plain}
-use Rattle.lot_rwlock_fair.specs.FairProfiles.{call_looking, in_call}
+use Rattle.lot_rwlock_fair.specs.FairProfiles.{call_looking}
 use Rattle.lot_steps.specs.Steps.{in_rwlock}
 use Rattle.std.proofs.lemmas.Bool.{cases_eq}
 use Rattle.lot_base.specs.declared.ops.Op.TheVariants.{Load}
@@ -28,13 +24,13 @@ use Rattle.abstract_locks.specs.Sites.{idle}
 use Rattle.lot_world.specs.Refinement.{lock_state, locks_of, call_on, stance_of}
 use Rattle.lot_world.specs.Stations.{station_by}
 use Rattle.lot_world.specs.WorldRuns.{IsUntouched}
-use Rattle.lot_world.specs.SitesOf.{IsBuilt, IsSteady, FitsItsLock, rules_in}
+use Rattle.lot_world.specs.SitesOf.{IsSteady, FitsItsLock, rules_in}
 use Rattle.lot_world.proofs.Glue.{IsLock, parts_at}
 use Rattle.lot_world.proofs.OneStep.{steps_by}
 use Rattle.lot_world.proofs.ActsKept.{goes_steady, place_goes}
 
 -- who is set as it was is seen as it was
-set_keeps : {A B : Type 0} (f : A → B) (xs : List A) (i k : ℕ) (y d : A) → f y ≡ f (get_or xs i d) → f (get_or (set xs i y) k d) ≡ f (get_or xs k d)
+pub set_keeps : {A B : Type 0} (f : A → B) (xs : List A) (i k : ℕ) (y d : A) → f y ≡ f (get_or xs i d) → f (get_or (set xs i y) k d) ≡ f (get_or xs k d)
 set_keeps f [] i k y d e = refl
 set_keeps f (x ∷ xs) zero zero y d e = e
 set_keeps f (x ∷ xs) zero (suc k) y d e = refl
@@ -49,14 +45,6 @@ load_untouched w t l p a loads = subst (λ x. IsUntouched w (state_after_act w t
 of_lock : (l : ℕ) (o : Option ℕ) → o ≡ Some l → IsLock l o
 of_lock l o e = rw e refl
 
-built_looks : (a : Admission) (c d : RwLockCallPlace) → call_looking a c ≡ Some d → IsBuilt c → IsBuilt d
-built_looks a (Plain p) d is built = by_place (rwlock_looking a p) is
-  where
-    by_place : (o : Option RwLockPlace) → in_call false o ≡ Some d → IsBuilt d
-    by_place None e = absurd cc
-    by_place (Some q) e = let there : Plain q ≡ d = cc in subst IsBuilt there tt
-built_looks a c d is built = absurd built
-
 -- it is in the same call, of a lock of its sort
 calls_on : (w : State) (p q : Place) → looking p ≡ Some q → FitsItsLock w p → FitsItsLock w q
 calls_on w Idle q is calls = absurd cc
@@ -64,7 +52,7 @@ calls_on w (RwLock l a c) q is calls = by_place (call_looking a c) refl is
   where
     by_place : (o : Option RwLockCallPlace) → call_looking a c ≡ o → in_rwlock l a o ≡ Some q → FitsItsLock w q
     by_place None e is = absurd cc
-    by_place (Some d) e is = let there : RwLock l a d ≡ q = cc in subst (FitsItsLock w) there (calls.0, (fair_looks_stand a c d e).1 calls.1, built_looks a c d e calls.2)
+    by_place (Some d) e is = let there : RwLock l a d ≡ q = cc in subst (FitsItsLock w) there (calls.0, (fair_looks_stand a c d e).1 calls.1)
 calls_on w (Mutex l at) q is calls = by_place (mutex_looking at) is
   where
     by_place : (o : Option MutexPlace) → in_mutex l o ≡ Some q → FitsItsLock w q

@@ -117,7 +117,7 @@ module _ (w : State) (t : ℕ) (p2 : Place) where
   stay_in b places u ne = get_or-set_other b.places t u p2 Idle ne ∙ ap (λ (xs : List Place). get_or xs u Idle) places
 
   -- the calls of the others are as they were
-  abbrev Stay : State → Type 0
+  abbrev pub Stay : State → Type 0
   Stay v = (u : ℕ) → u ≢ t → (r : ℕ → Rights) → call_state (place_at v u) r ≡ call_state (place_at w u) r
 
   pub lonely : (p : Place) (a : Act) → IsLonely a → Stay (put (state_after_act w t p a) t p2)

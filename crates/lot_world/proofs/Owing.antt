@@ -36,7 +36,7 @@ use Rattle.abstract_locks.specs.Locks.{Rights}
 use Rattle.lot_world.specs.Owing.{Owes, IsInside, SeesWaiters, OwesSince, OnlyLooks, LooksFirst, LetsOthersIn, line_let_in, sort_at, tells_by}
 use Rattle.lot_machine.specs.Fits.{IsShaped}
 use Rattle.abstract_locks.specs.Sites.{Line}
-use Rattle.lot_world.specs.SitesOf.{IsSteady, key_of}
+use Rattle.lot_world.specs.SitesOf.{AreCounted, IsSteady, key_of}
 use Rattle.lot_machine.proofs.Shape.{both, performed_counts}
 use Rattle.lot_world.proofs.TurnsKept.{idle_is, after_steady}
 use Rattle.lot_world.proofs.Glue.{IsLock, next_of, calls_none}
@@ -298,9 +298,9 @@ module _ (w : State) (t : ℕ) (shape : IsShaped w) (steady : IsSteady w) (there
   turned_owing turn.TheVariants.Ok can behind l m = absurd (nothing_closes w t true can)
   turned_owing turn.TheVariants.Err can behind l m = absurd (nothing_closes w t false can)
 
-pub owes_since : (w : State) (s : Step) → IsShaped w → IsSteady w → OwesSince w s.thread (step_outcome w s) (after w s)
-owes_since w s shape steady = record {
-  own = own (is_possible w s) refl (after_steady w s shape steady);
+pub owes_since : (w : State) (s : Step) → IsShaped w → IsSteady w → AreCounted w → OwesSince w s.thread (step_outcome w s) (after w s)
+owes_since w s shape steady counted = record {
+  own = own (is_possible w s) refl (after_steady w s shape steady counted);
   others = λ u l ne. others_owe w s u l ne;
 }
   where

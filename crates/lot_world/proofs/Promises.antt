@@ -11,7 +11,7 @@ use Rattle.lot_steps.specs.Steps.{act_of, is_lock, lock_of, profile, retries_on}
 use Rattle.lot_machine.specs.Machine.{State, opening, place_at, after, kind_at, filled_at}
 use Rattle.lot_machine.specs.Fits.{IsShaped}
 use Rattle.lot_world.specs.Stations.{Station, station_at, doing_on}
-use Rattle.lot_world.specs.SitesOf.{IsSteady, rules_in}
+use Rattle.lot_world.specs.SitesOf.{AreCounted, IsSteady, rules_in}
 use Rattle.abstract_locks.specs.Runs.{CallState, IsOpening}
 use Rattle.abstract_locks.specs.Locks.{LockState, Sort, Rights, Taken, opening_lock, Rules, IsSomePending, rights_of, readers, count, standing}
 use Rattle.abstract_locks.specs.Locks as sorts
@@ -214,8 +214,8 @@ module _ (w : State) (steady : IsSteady w) where
     aside_parked = λ l. (steady.sites.site l).aside_parked;
   }
 
-pub kept_after : (w : State) (s : Step) → IsShaped w → IsSteady w → IsKept (after w s)
-kept_after w s shape steady = kept (after w s) (after_steady w s shape steady)
+pub kept_after : (w : State) (s : Step) → IsShaped w → IsSteady w → AreCounted w → IsKept (after w s)
+kept_after w s shape steady counted = kept (after w s) (after_steady w s shape steady counted)
 
 -- ---------------------------------------------------------------- the opening state, of the abstract locks
 

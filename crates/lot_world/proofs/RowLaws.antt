@@ -8,11 +8,17 @@ use Rattle.lot_world.specs.Laws.{FairUnlockHandsOver, NoWaiterIsForgotten, Nobod
 use Rattle.lot_machine.proofs.Shape.{opening_shaped}
 use Rattle.std.proofs.lemmas.List.Elements.{All-cons, All-nil}
 use Rattle.lot_calls.specs.Kinds.{fits}
+use Rattle.lot_world.specs.SitesOf.{IsWorld}
 use Rattle.lot_world.proofs.OpeningSites.{opening_steady}
-use Rattle.lot_world.proofs.WorldRuns.{Holds, holds_of, world_run, run_refines}
+use Rattle.lot_world.proofs.CountsPut.{opening_counted}
+use Rattle.lot_world.proofs.WorldRuns.{world_run, run_refines}
 
-three_hold : Holds three
-three_hold = holds_of three (opening_shaped (kind.Mutex ∷ []) 3 (omega arith)) (opening_steady (kind.Mutex ∷ []) 3 (omega arith) (All-cons (λ k. fits k 3 ≡ true) kind.Mutex [] refl (All-nil (λ k. fits k 3 ≡ true))))
+three_hold : IsWorld three
+three_hold = record {
+  shaped = opening_shaped (kind.Mutex ∷ []) 3 (omega arith);
+  steady = opening_steady (kind.Mutex ∷ []) 3 (omega arith) (All-cons (λ k. fits k 3 ≡ true) kind.Mutex [] refl (All-nil (λ k. fits k 3 ≡ true)));
+  counted = opening_counted (kind.Mutex ∷ []) 3;
+}
 
 pub hands_over : FairUnlockHandsOver
 hands_over = record {

@@ -1,5 +1,5 @@
 -- Each step of a thread in a call of a reader-writer lock is a step of the abstract locks, and a call begins where it has its right.
-use Rattle.std.proofs.Common.{ℕ, Bool, true, false, Option, Some, None, if◌then◌else◌, ◌==◌, not, ◌≡◌, ◌≤◌, ◌<◌, ◌⊎◌, inl, inr, List, [], length, get_or-set_same, refl, sym, ◌∙◌, ap, subst, arith, append-nil}
+use Rattle.std.proofs.Common.{ℕ, Bool, true, false, Option, Some, None, if◌then◌else◌, ◌==◌, not, ◌≡◌, ◌≤◌, ◌<◌, ◌⊎◌, inl, inr, length, get_or-set_same, refl, sym, ◌∙◌, ap, subst, arith}
 use Rattle.std.proofs.lemmas.Bool.Decides.{nat_tests}
 use Rattle.lot_calls.specs.declared.calls.Access.{Access}
 use Rattle.lot_calls.specs.declared.calls.Access.TheVariants as access
@@ -27,14 +27,14 @@ use Rattle.lot_rwlock_fair.specs.declared.places.RwLockCallPlace.{RwLockCallPlac
 use Rattle.lot_rwlock.specs.declared.purposes.RwLockPurpose.{RwLockPurpose}
 use Rattle.lot_rwlock.specs.declared.purposes.RwLockPurpose.TheVariants as purpose
 use Rattle.lot_calls.specs.declared.outcomes.Answer.TheVariants.{Ok}
-use Rattle.lot_acts.specs.declared.acts.Reply.TheVariants.{Done, Picked, Value}
+use Rattle.lot_acts.specs.declared.acts.Reply.TheVariants.{Done, HandedBy, Picked, Value, Woken}
+use Rattle.lot_base.specs.declared.notes.Note.TheVariants.{HandOff, Normal}
 use Rattle.lot_rwlock_fair.specs.declared.places.RwLockCallPlace.TheVariants.{Plain, Glance, HandOver, Bump, Handed}
 use Rattle.lot_rwlock_fair.specs.declared.hand_over.HandOverAt.{HandOverAt}
 use Rattle.lot_rwlock_fair.specs.declared.hand_over.HandOverAt.TheVariants as handing
 use Rattle.lot_rwlock_fair.specs.declared.handed.HandedAt.TheVariants as handed
-use Rattle.lot_rwlock_fair.specs.FairDeeds.{call_deeds}
 use Rattle.lot_rwlock_fair.specs.FairMoves.{CallMoves, call_hears, call_move}
-use Rattle.lot_rwlock_fair.specs.FairSteps.{any_taken, bump_next, call_act, call_next, enters_again, freed_next, gives_up_at, gives_way, hand_over_next, has_room, looked, plain_next, released, took, unless_given}
+use Rattle.lot_rwlock_fair.specs.FairSteps.{any_taken, bump_next, call_act, call_next, enters_again, freed_next, given, gives_up_at, gives_way, hand_over_next, has_room, looked, plain_next, released, took, unless_given}
 use Rattle.lot_rwlock_fair.proofs.FairActs.{fair_acts_move}
 use Rattle.lot_rwlock_fair.proofs.FairSleepers.{never_given}
 use Rattle.lot_rwlock_fair.specs.FairBegins.{call_first, call_right}
@@ -42,26 +42,21 @@ use Rattle.lot_rwlock_fair.specs.FairLaws.{CallOpens, next_rows}
 use Rattle.lot_rwlock_fair.specs.FairProfiles.{call_profile}
 use Rattle.lot_rwlock_fair.proofs.FairOpenings.{calls_open}
 use Rattle.lot_steps.specs.declared.places.Place.TheVariants.{Idle, RwLock}
-use Rattle.lot_steps.specs.Steps.{calls, lock_of, next_act, next_place, profile, rwlock_does, rwlock_goes}
-use Rattle.abstract_locks.specs.Deeds.{case_of, event_by}
+use Rattle.lot_steps.specs.Steps.{calls, lock_of, next_act, profile, rwlock_does, rwlock_goes}
 use Rattle.abstract_locks.specs.Locks.{LockCase, Owns, Rights, standing}
 use Rattle.abstract_locks.specs.Purposes.{purpose_of, rules_of, rwlock_purpose}
 use Rattle.abstract_locks.specs.Runs.{GoesOn, HasRight, new_call}
-use Rattle.abstract_locks.specs.Sites.{Deed, has_readers}
+use Rattle.abstract_locks.specs.Sites.{has_readers}
 use Rattle.lot_machine.specs.Machine.{State, can_do, owners_at, place_at, reply_to, share_at, state_after_act}
 use Rattle.lot_machine.specs.Fits.{IsShaped}
 use Rattle.lot_machine.proofs.Shape.{performed_counts}
-use Rattle.lot_world.specs.MutexDeeds.{acts}
 use Rattle.lot_world.specs.Refinement.{call_state, lock_state, locks_of, taken_at}
-use Rattle.lot_world.specs.SitesOf.{FitsItsLock, Goes, IsSteady, carried_at, rules_in}
-use Rattle.lot_world.specs.Stations.{station}
-use Rattle.lot_world.proofs.AtPlaces.{in_no_hand}
-use Rattle.lot_world.proofs.CallEvents.{Happens, LeadsTo, OthersFollow, goes_by, happens, others_follow}
+use Rattle.lot_world.specs.SitesOf.{AreCounted, FitsItsLock, IsSteady, rules_in}
+use Rattle.lot_world.proofs.CallEvents.{LeadsTo, goes_by}
 use Rattle.lot_world.proofs.Glue.{is_owner, thread_is}
-use Rattle.lot_world.proofs.OtherCalls.{WakesOwn, hands_nothing, wakes_own}
-use Rattle.lot_world.proofs.PlacePromises.{station_own, waiting_stands}
+use Rattle.lot_world.proofs.PlacePromises.{waiting_stands}
 use Rattle.lot_world.proofs.RowPromises.{IsWaiting, RowPromises, WasHanded, is_acting}
-use Rattle.lot_world.proofs.RwLockKept.{GoesFrom, IsOwn, not_given, rwlock_goes_on}
+use Rattle.lot_world.proofs.RwLockGoes.{GoesOnBy, case_by, rwlock_goes_on}
 use Rattle.lot_world.proofs.CallRows.{call_promises}
 use Rattle.lot_world.proofs.SitesKept.{go_by}
 
@@ -117,6 +112,18 @@ module _ (l : ℕ) (a : Admission) (x : Access) (b : Bool) where
   handing_awake (handing.Leave any given) Done = released_awake l a x b
   handing_awake to told = goes_bare to
 
+-- nobody hands the thread anything
+abbrev IsOwn : Reply → Type 0
+IsOwn (HandedBy u alone) = ⊥
+IsOwn (Woken HandOff) = ⊥
+IsOwn told = Unit {0}
+
+not_given : (b : Bool) (p : RwLockPlace) (told : Reply) → IsOwn told → given b p told ≡ None
+not_given b p (HandedBy u alone) h = absurd h
+not_given b p (Woken HandOff) h = absurd h
+not_given b p (Woken Normal) h = refl
+not_given b p told h = refl
+
 own_next : (l : ℕ) (a : Admission) (c : RwLockCallPlace) (told : Reply) → IsOwn told → (call_act l a c ≡ act.Sleep → ⊥) → NextAwake a l (call_next a c told)
 own_next l a (Plain p) told own awake = subst (λ (o : Option RwLockCallPlace). NextAwake a l (unless_given o (plain_next (rwlock_next a p told)))) (sym (not_given false p told own)) (by_next (rwlock_next a p told))
   where
@@ -155,9 +162,9 @@ own_reply w t act.Accept = tt
 own_reply w t (act.Closure state) = tt
 own_reply w t (act.End answer) = tt
 
-module _ (w : State) (t l : ℕ) (a : Admission) (c : RwLockCallPlace) (steady : IsSteady w) (shape : IsShaped w) (there : t < length w.places) (lt : l < length w.locks) (is : place_at w t ≡ RwLock l a c) (can : can_do w (call_act l a c) ≡ true) where
-  kept : GoesFrom w t l a c steady shape there lt is (RwLock l a c) (call_act l a c)
-  kept = rwlock_goes_on w t l a c steady shape there lt is can
+module _ (w : State) (t l : ℕ) (a : Admission) (c : RwLockCallPlace) (steady : IsSteady w) (shape : IsShaped w) (there : t < length w.places) (lt : l < length w.locks) (is : place_at w t ≡ RwLock l a c) (counted : AreCounted w) (can : can_do w (call_act l a c) ≡ true) where
+  kept : GoesOnBy w t l a c (call_act l a c)
+  kept = rwlock_goes_on w t l a c steady shape there lt is counted can
 
   abbrev told : Reply
   told = reply_to w t (call_act l a c)
@@ -165,28 +172,15 @@ module _ (w : State) (t l : ℕ) (a : Admission) (c : RwLockCallPlace) (steady :
   abbrev behind : State
   behind = go_by w t (RwLock l a c) (call_act l a c)
 
-  abbrev deeds : List Deed
-  deeds = call_deeds a c kept.whom told
-
   abbrev happened : Option LockCase
-  happened = case_of ((call_profile a c).carries) deeds
-
-  own : lock_of (place_at w t) ≡ Some l
-  own = ap lock_of is
-
-  -- whom it has in hand, by its place
-  carries : carried_at (place_at w t) l ≡ (call_profile a c).carries
-  carries = ap (λ (y : Station). y.carries) (station_own (place_at w t) l own) ∙ ap (λ q. (station q).carries) is
-
-  happens_so : Happens w behind t l (event_by l happened)
-  happens_so = happens w behind t l ((call_profile a c).carries) deeds [] steady (subst (Goes w behind l) (sym (append-nil (acts t deeds))) kept.goes) tt kept.tells.one (λ none. in_no_hand w steady t l (λ h. none (sym carries ∙ h)))
+  happened = case_by w t l a c kept.whom (call_act l a c)
 
   -- who sleeps in a call stands about its lock
   rests : (q : RwLockCallPlace) → place_at behind t ≡ RwLock l a q → CallAwake (call_profile a q) (call_act l a q) → (outcome_of (call_act l a q) ≡ outcome.Step) ⊎ ((outcome_of (call_act l a q) ≡ outcome.Sleep) × (1 ≤ standing t (lock_state behind l)))
   rests q e awake = by_act (call_act l a q) (fair_acts_move l a q fits.1) promises.acts promises.asleep awake
     where
       fits : FitsItsLock behind (RwLock l a q)
-      fits = subst (FitsItsLock behind) e (happens_so.after.stands.calls t)
+      fits = subst (FitsItsLock behind) e (kept.happened.after.stands.calls t)
 
       promises : RowPromises (rules_in behind l).sort l (call_profile a q) (call_act l a q)
       promises = call_promises (rules_in behind l) a l q fits.0 fits.1
@@ -195,7 +189,7 @@ module _ (w : State) (t l : ℕ) (a : Admission) (c : RwLockCallPlace) (steady :
           → (outcome_of y ≡ outcome.Step) ⊎ ((outcome_of y ≡ outcome.Sleep) × (1 ≤ standing t (lock_state behind l)))
       by_act act.Sleep moves acting asleep awake = inr (
         refl,
-        waiting_stands behind t happens_so.after l (ap lock_of e) (subst (λ (x : Profile). IsWaiting x) (sym (ap profile e)) (elim (asleep refl) [
+        waiting_stands behind t kept.happened.after l (ap lock_of e) (subst (λ (x : Profile). IsWaiting x) (sym (ap profile e)) (elim (asleep refl) [
           | inl h ↦ h
           | inr h ↦ absurd (awake h.by h.in_hand)
         ])),
@@ -212,13 +206,8 @@ module _ (w : State) (t l : ℕ) (a : Admission) (c : RwLockCallPlace) (steady :
       by_next (next.At q) e awake = (ap lock_of e, ap profile e, rests q e awake)
       by_next (next.End answer) e awake = (e, refl)
 
-  -- those in its hand are woken, and nobody else's call changes
-  others : OthersFollow w behind t (event_by l happened)
-  others = others_follow w behind t l happened happens_so (hands_nothing w behind t l happened happens_so ((call_profile a c).carries) (call_act l a c) happened kept.others)
-      (wakes_own w t l steady own (next_place (RwLock l a c) told) (RwLock l a c) (call_act l a c) happened (subst (λ h. WakesOwn h (call_act l a c) happened) (sym carries) kept.others))
-
   pub rwlock_step : GoesOn (locks_of w) t (outcome_of (next_act (RwLock l a c) told)) (locks_of behind)
-  rwlock_step = goes_by w behind t l happened happens_so (RwLock l a c) is refl kept.tells.may (next_rows a (call_next a c told)) _ kept.tells.comes leads others
+  rwlock_step = goes_by w behind t l happened kept.happened (RwLock l a c) is refl kept.tells.may (next_rows a (call_next a c told)) _ kept.tells.comes leads kept.others
 
 -- ---------------------------------------------------------------- a call begins
 

@@ -1,5 +1,5 @@
 -- A thread in a call of a reader-writer lock goes on: every lock is a site again.
-use Rattle.std.proofs.Common.{inl, inr, ℕ, Bool, true, false, Option, Some, None, if◌then◌else◌, ◌==◌, ◌≡◌, ◌+◌, ◌*◌, ◌-◌, ◌^◌, ◌≤◌, ◌<◌, List, [], ◌∷◌, length, is_none, refl, sym, ◌∙◌, ap, subst, arith}
+use Rattle.std.proofs.Common.{inl, inr, ℕ, Bool, true, false, Option, Some, None, if◌then◌else◌, ◌==◌, ◌≡◌, ◌≢◌, ◌+◌, ◌*◌, ◌-◌, ◌^◌, ◌≤◌, ◌<◌, List, [], ◌∷◌, length, is_none, refl, sym, ◌∙◌, ap, subst, arith}
 use Rattle.std.proofs.lemmas.Bool.{eqb-true}
 use Rattle.lot_base.specs.declared.keys.Keys.{Keys}
 use Rattle.lot_base.specs.declared.keys.Keys.TheVariants.{One}
@@ -10,8 +10,6 @@ use Rattle.lot_base.specs.declared.wants.Want.{Want}
 use Rattle.lot_acts.specs.declared.acts.Check.{Check}
 use Rattle.lot_calls.specs.declared.calls.Access.TheVariants as access
 use Rattle.lot_calls.specs.declared.calls.RwLockCall.{RwLockCall}
-use Rattle.lot_calls.specs.declared.calls.RwLockCall.TheVariants as call
-use Rattle.lot_calls.specs.Kinds.{is_built}
 use Rattle.lot_calls.specs.declared.kinds.Kind.{Kind}
 use Rattle.lot_calls.specs.declared.kinds.Kind.TheVariants as kinds
 use Rattle.lot_calls.specs.declared.calls.Patience.{Patience}
@@ -21,11 +19,11 @@ use Rattle.lot_acts.specs.declared.acts.Act.TheVariants as act
 use Rattle.lot_acts.specs.declared.acts.Next.{Next}
 use Rattle.lot_acts.specs.declared.acts.Next.TheVariants as next
 use Rattle.lot_acts.specs.declared.acts.Reply.{Reply}
-use Rattle.lot_acts.specs.declared.acts.Reply.TheVariants.{Done, Value, Parked, Took, Picked, Removed, Late, TakenBy, HandedBy, Woken}
+use Rattle.lot_acts.specs.declared.acts.Reply.TheVariants.{Done, Value, Parked, Took, Picked, Removed, Late, TakenBy, Woken}
 use Rattle.lot_acts.specs.declared.acts.Wakes.{Wakes}
 use Rattle.lot_acts.specs.declared.acts.Whom as whom
 use Rattle.lot_acts.specs.Acts.{holds, wakes_taken}
-use Rattle.lot_acts.specs.Moves.{StaysPut, GoesIn, GoesOut, Parks, Picks, TakesAside, LeavesLine, TellsHanded, Accepts, Moves, AreOfWord, AreLeaving, parks_in, takes_aside, row_of}
+use Rattle.lot_acts.specs.Moves.{StaysPut, GoesIn, GoesOut, Parks, Picks, TakesAside, LeavesLine, TellsHanded, Accepts, AreOfWord, AreLeaving, parks_in, takes_aside, row_of}
 use Rattle.lot_acts.specs.Profiles.{Profile, hand, in_hand, taken_from}
 use Rattle.lot_acts.specs.Stations.{Station, nowhere, station_by}
 use Rattle.lot_acts.specs.Owners.{lock_seen, shares_then}
@@ -34,11 +32,10 @@ use Rattle.lot_rwlock.specs.declared.places.RwLockPlace.{RwLockPlace}
 use Rattle.lot_rwlock.specs.declared.places.RwLockAt.{RwLockAt}
 use Rattle.lot_rwlock.specs.declared.places.RwLockAt.TheVariants as at
 use Rattle.lot_rwlock.specs.declared.park.ParkAt.TheVariants as parking
-use Rattle.lot_rwlock.specs.RwLockSteps.{patience_of, rwlock_act, rwlock_next}
+use Rattle.lot_rwlock.specs.RwLockSteps.{patience_of}
 use Rattle.lot_rwlock.specs.RwLockDeeds.{Admits, MayHear}
 use Rattle.lot_rwlock.specs.RwLockProfiles.{late_line_at}
-use Rattle.lot_rwlock.specs.RwLockCalls.{HasDeadline, MayStand, MayBeTold, IsNotLate}
-use Rattle.lot_rwlock.specs.RwLockMoves.{rwlock_move, rwlock_hears}
+use Rattle.lot_rwlock.specs.RwLockCalls.{HasDeadline, MayBeTold, IsNotLate}
 use Rattle.lot_rwlock.specs.RwLockBegins.{admission_of}
 use Rattle.lot_rwlock_fair.specs.declared.places.RwLockCallPlace.{RwLockCallPlace}
 use Rattle.lot_rwlock_fair.specs.declared.places.RwLockCallPlace.TheVariants.{Plain, Glance, HandOver, Bump, Handed}
@@ -53,14 +50,12 @@ use Rattle.lot_rwlock_fair.proofs.FairFit.{fair_steps_follow}
 use Rattle.lot_rwlock_fair.proofs.FairMoves.{handed_move}
 use Rattle.lot_rwlock_fair.proofs.FairOwners.{fair_owners_follow}
 use Rattle.lot_rwlock_fair.proofs.FairSections.{fair_sections_follow}
-use Rattle.lot_rwlock_fair.proofs.FairSleepers.{never_given}
 use Rattle.lot_rwlock_fair.proofs.FairStands.{fair_calls_stand}
 use Rattle.lot_rwlock_fair.specs.FairBegins.{call_first, call_right}
 use Rattle.lot_rwlock_fair.specs.FairLaws.{CallOpens, CallTells, next_rows}
-use Rattle.lot_rwlock_fair.specs.FairSteps.{call_act, call_next, call_owners, call_shares, given, plain_next, unless_given}
+use Rattle.lot_rwlock_fair.specs.FairSteps.{call_act, call_next, call_owners, call_shares}
 use Rattle.lot_rwlock_fair.proofs.FairOpenings.{calls_open}
 use Rattle.lot_rwlock.proofs.RwLockFit.{knows_all}
-use Rattle.lot_rwlock.proofs.RwLockMoves.{rwlock_acts_move}
 use Rattle.lot_steps.specs.declared.places.Place.{Place}
 use Rattle.lot_steps.specs.declared.places.Place.TheVariants.{Idle, Mutex, RwLock}
 use Rattle.lot_mutex.specs.declared.places.MutexPlace.{MutexPlace}
@@ -78,7 +73,7 @@ use Rattle.lot_machine.proofs.Shape.{main_key_there}
 use Rattle.lot_world.specs.Refinement.{taken_at}
 use Rattle.lot_world.specs.MutexDeeds.{acts}
 use Rattle.lot_world.specs.Stations.{station, doing_on}
-use Rattle.lot_world.specs.SitesOf.{IsBuilt, IsSteady, Goes, FitsItsLock, TakesOne, HasRoom, carried_at, hand_at, is_mutex, rules_in, key_of}
+use Rattle.lot_world.specs.SitesOf.{IsSteady, Goes, FitsItsLock, TakesOne, HasRoom, carried_at, hand_at, is_mutex, rules_in, key_of}
 use Rattle.lot_world.proofs.Glue.{free_of, IsOf, next_of, parts_at, put_here, doing_here, station_here}
 use Rattle.lot_world.proofs.HandsMoved.{accepts, tells_handed, told_hears}
 use Rattle.lot_world.proofs.WakesKept.{IsWoken}
@@ -174,46 +169,6 @@ module _ (a : Admission) where
   call_told_done r s t (Glance x) whom h = tt
   call_told_done r s t (HandOver x b to) whom h = tt
   call_told_done r s t (Handed x how b to) whom h = tt
-
--- ---------------------------------------------------------------- where worlds go
-
--- nobody hands the thread anything
-abbrev pub IsOwn : Reply → Type 0
-IsOwn (HandedBy u alone) = ⊥
-IsOwn (Woken HandOff) = ⊥
-IsOwn told = Unit {0}
-
-pub not_given : (b : Bool) (p : RwLockPlace) (told : Reply) → IsOwn told → given b p told ≡ None
-not_given b p (HandedBy u alone) h = absurd h
-not_given b p (Woken HandOff) h = absurd h
-not_given b p (Woken Normal) h = refl
-not_given b p told h = refl
-
-abbrev pub AreBuilt : Next RwLockCallPlace → Type 0
-AreBuilt (next.At c) = IsBuilt c
-AreBuilt (next.End answer) = Unit {0}
-
-pub built_next : (a : Admission) (c : RwLockCallPlace) (told : Reply) → IsOwn told → IsBuilt c → AreBuilt (call_next a c told)
-built_next a (Plain p) told own built = subst (λ (o : Option RwLockCallPlace). AreBuilt (unless_given o (plain_next (rwlock_next a p told)))) (sym (not_given false p told own)) (by_next (rwlock_next a p told))
-  where
-    by_next : (n : Next RwLockPlace) → AreBuilt (plain_next n)
-    by_next (next.At q) = tt
-    by_next (next.End answer) = tt
-built_next a c told own built = absurd built
-
--- no such call hands anything over, or was handed anything
-module _ (a : Admission) where
-  plain_moves : (p : RwLockPlace) (l : ℕ) (y : Act) → MayStand a p → rwlock_act l a p ≡ y → Moves l a.recursive (rwlock_move a p) (rwlock_hears a p) y
-  plain_moves p l y stands e = subst (λ x. Moves l a.recursive (rwlock_move a p) (rwlock_hears a p) x) e (rwlock_acts_move l a p stands)
-
-  gives_nothing : (c : RwLockCallPlace) → IsBuilt c → (l k : ℕ) (op : Op) → CallStands a c → call_act l a c ≡ act.HandOver k op → ⊥
-  gives_nothing (Plain p) built l k op stands e = plain_moves p l (act.HandOver k op) stands e
-  gives_nothing c built l k op stands e = absurd built
-
-  -- and whoever was handed it goes on in such a call
-  built_then : (c : RwLockCallPlace) (u : ℕ) → IsBuilt c → (call_profile a c).hand ≡ hand u true → AreBuilt (call_next a c (Woken HandOff))
-  built_then (Plain p) u built h = absurd (never_given a 0 p.at u h)
-  built_then c u built h = absurd built
 
 -- ---------------------------------------------------------------- words
 
@@ -333,25 +288,25 @@ module _ (w : State) (t l : ℕ) (a : Admission) (c : RwLockCallPlace) (steady :
   pub at_now : IsInCall (rules_in w l) a here t c
   at_now = record { admits = admits; site = site; doing = doing_now; stands = stands; there = subst (λ n. t < n) (sym (steady.numbers.threads l)) there }
 
-  pub fits_next : (k : ℕ) (b : Admission) (n : Next RwLockCallPlace) → Admits (rules_in w k) b → CallStandsNext b n → AreBuilt n → FitsItsLock w (rwlock_goes k b n)
-  fits_next k b (next.At q) admitted may built = (admitted, may, built)
-  fits_next k b (next.End answer) admitted may built = tt
+  pub fits_next : (k : ℕ) (b : Admission) (n : Next RwLockCallPlace) → Admits (rules_in w k) b → CallStandsNext b n → FitsItsLock w (rwlock_goes k b n)
+  fits_next k b (next.At q) admitted may = (admitted, may)
+  fits_next k b (next.End answer) admitted may = tt
 
   -- what its laws conclude
   abbrev Followed : Option ℕ → Reply → Type 0
   Followed whom told = IsFollowed w t l steady there own (rules_in w l) refl admits.0 (call_move a c) same_row whom told (next_place (place_at w t) told)
 
-  pub followed_by : (whom : Option ℕ) (told : Reply) → laws.AllNeeded (rules_in w l) (call_deeds a c whom told) here t → (laws.after_all (rules_in w l) (call_deeds a c whom told) here t).doing t ≡ call_doing_next (call_next a c told) → IsOwn told → CallMayBeTold a c told → Followed whom told
-  followed_by whom told needed does own_told may = record {
+  pub followed_by : (whom : Option ℕ) (told : Reply) → laws.AllNeeded (rules_in w l) (call_deeds a c whom told) here t → (laws.after_all (rules_in w l) (call_deeds a c whom told) here t).doing t ≡ call_doing_next (call_next a c told) → CallMayBeTold a c told → Followed whom told
+  followed_by whom told needed does may = record {
     of = next_of l (place_at w t) told own;
-    fits = subst (λ q. FitsItsLock w (next_place q told)) (sym is) (fits_next l a (call_next a c told) admits (fair_calls_stand a c told stands may) (built_next a c told own_told fits_now.2));
+    fits = subst (λ q. FitsItsLock w (next_place q told)) (sym is) (fits_next l a (call_next a c told) admits (fair_calls_stand a c told stands may));
     row = ap (λ q. profile (next_place q told)) is ∙ goes_row l a (call_next a c told);
     needed = needed;
     doing = does ∙ doing_is a (call_next a c told);
   }
 
-  followed : (whom : Option ℕ) (told : Reply) → CallMayHear (rules_in w l) a here t c whom told → IsOwn told → CallMayBeTold a c told → Followed whom told
-  followed whom told hears own_told may = let f = fair_sections_follow (rules_in w l) a here t c whom told at_now hears in followed_by whom told f.needed f.doing own_told may
+  followed : (whom : Option ℕ) (told : Reply) → CallMayHear (rules_in w l) a here t c whom told → CallMayBeTold a c told → Followed whom told
+  followed whom told hears may = let f = fair_sections_follow (rules_in w l) a here t c whom told at_now hears in followed_by whom told f.needed f.doing may
 
   -- ---------------------------------------------------------------- who else calls the lock
 
@@ -374,8 +329,8 @@ module _ (w : State) (t l : ℕ) (a : Admission) (c : RwLockCallPlace) (steady :
         waits = fair_sleepers_move b q fits_u.1;
         taken = ap (λ y. profile (next_place y (TakenBy t))) e ∙ goes_row k b (call_next b q (TakenBy t));
         woken = ap (λ y. profile (next_place y (Woken Normal))) e ∙ goes_row k b (call_next b q (Woken Normal));
-        taken_fits = subst (λ y. FitsItsLock w (next_place y (TakenBy t))) (sym e) (fits_next k b (call_next b q (TakenBy t)) fits_u.0 (fair_calls_stand b q (TakenBy t) fits_u.1 (call_told_other b q (TakenBy t) tt)) (built_next b q (TakenBy t) tt fits_u.2));
-        woken_fits = subst (λ y. FitsItsLock w (next_place y (Woken Normal))) (sym e) (fits_next k b (call_next b q (Woken Normal)) fits_u.0 (fair_calls_stand b q (Woken Normal) fits_u.1 (call_told_other b q (Woken Normal) tt)) (built_next b q (Woken Normal) tt fits_u.2));
+        taken_fits = subst (λ y. FitsItsLock w (next_place y (TakenBy t))) (sym e) (fits_next k b (call_next b q (TakenBy t)) fits_u.0 (fair_calls_stand b q (TakenBy t) fits_u.1 (call_told_other b q (TakenBy t) tt)));
+        woken_fits = subst (λ y. FitsItsLock w (next_place y (Woken Normal))) (sym e) (fits_next k b (call_next b q (Woken Normal)) fits_u.0 (fair_calls_stand b q (Woken Normal) fits_u.1 (call_told_other b q (Woken Normal) tt)));
       }
         where
           fits_u : FitsItsLock w (RwLock k b q)
@@ -437,7 +392,7 @@ module _ (w : State) (t l : ℕ) (a : Admission) (c : RwLockCallPlace) (steady :
 
       on : at_word (word_at w l)
       on = subst at_word (sym word_is) (let f = fair_steps_follow (rules_in w l) a here t l c op at_now nowhere e in (
-        followed_by None (Value (code (rules_in w l) here)) f.needed f.doing tt (call_told_value a c (code (rules_in w l) here) few),
+        followed_by None (Value (code (rules_in w l) here)) f.needed f.doing (call_told_value a c (code (rules_in w l) here) few),
         fair_owners_follow (rules_in w l) a here t l c op (shares_at w l) (owners_at w l) (queue_at w (2 * l)) (queue_at w (2 * l + 1)) (λ u. taken_at (place_at w u) l) at_now e room limits.1 refl,
         fair_steps_code (rules_in w l) a here t l c op at_now nowhere e few room limits.1,
       ))
@@ -449,7 +404,7 @@ module _ (w : State) (t l : ℕ) (a : Admission) (c : RwLockCallPlace) (steady :
   into : (m : Line) (keys : Keys) → keys ≡ One (key_of l m) → are_free w keys ≡ true → GoesIn (call_move a c) (call_hears a c) m Done → GoesFrom (place_at w t) (act.Enter keys)
   into m keys e free g = subst (λ k. GoesFrom (place_at w t) (act.Enter k)) (sym e) (record {
     whom = None;
-    goes = goes_in w t l steady there own (rules_in w l) refl admits.0 (call_move a c) same_row (call_hears a c) m Done (next_place (place_at w t) Done) (section_there m) is_free_now g (λ h. followed None Done h tt (call_told_done a (rules_in w l) here t c None h));
+    goes = goes_in w t l steady there own (rules_in w l) refl admits.0 (call_move a c) same_row (call_hears a c) m Done (next_place (place_at w t) Done) (section_there m) is_free_now g (λ h. followed None Done h (call_told_done a (rules_in w l) here t c None h));
     tells = tells_by None Done tt (entered_hears w t l steady there own (rules_in w l) refl admits.0 (call_move a c) same_row (call_hears a c) m Done is_free_now g);
     others = calm_by (In m ∷ []) g.deeds tt;
   })
@@ -460,7 +415,7 @@ module _ (w : State) (t l : ℕ) (a : Admission) (c : RwLockCallPlace) (steady :
   out_of : (m : Line) (keys : Keys) (wakes : Wakes) → keys ≡ One (key_of l m) → GoesOut (call_move a c) (call_hears a c) m wakes → GoesFrom (place_at w t) (act.Leave keys wakes)
   out_of m keys wakes e g = subst (λ k. GoesFrom (place_at w t) (act.Leave k wakes)) (sym e) (record {
     whom = None;
-    goes = goes_out w t l steady there own (rules_in w l) refl admits.0 (call_move a c) same_row (call_hears a c) m wakes (next_place (place_at w t) Done) (section_there m) g (λ h. followed None Done h tt (call_told_done a (rules_in w l) here t c None h)) (wakes_one w t l steady there own (rules_in w l) refl admits.0 (call_move a c) same_row asleep g.any g.carries);
+    goes = goes_out w t l steady there own (rules_in w l) refl admits.0 (call_move a c) same_row (call_hears a c) m wakes (next_place (place_at w t) Done) (section_there m) g (λ h. followed None Done h (call_told_done a (rules_in w l) here t c None h)) (wakes_one w t l steady there own (rules_in w l) refl admits.0 (call_move a c) same_row asleep g.any g.carries);
     tells = tells_by None Done tt (left_hears w t l steady there own (rules_in w l) refl admits.0 (call_move a c) same_row (call_hears a c) m wakes g);
     others = subst (λ x. WakesOwn ((call_profile a c).carries) (act.Leave (One (key_of l m)) x) (case_of ((call_profile a c).carries) (call_deeds a c None Done))) (sym g.notes) (wakes_any ((call_profile a c).carries) g.any g.carries (call_deeds a c None Done) g.deeds);
   })
@@ -472,7 +427,7 @@ module _ (w : State) (t l : ℕ) (a : Admission) (c : RwLockCallPlace) (steady :
   parked : (m : Line) (k key : ℕ) (check : Check) (want : Want) → k ≡ l → key ≡ key_of l m → Parks (call_move a c) (call_hears a c) m check want → GoesFrom (place_at w t) (act.Park k key check want)
   parked m k key check x ke e g = subst (λ j. GoesFrom (place_at w t) (act.Park j key check x)) (sym ke) (subst (λ j. GoesFrom (place_at w t) (act.Park l j check x)) (sym e) (record {
     whom = None;
-    goes = parks_or_turns w t l steady there own (rules_in w l) refl admits.0 (call_move a c) same_row (call_hears a c) m check x (line_there m) g (λ b h. followed None (Parked b) h tt (call_told_other a c (Parked b) tt));
+    goes = parks_or_turns w t l steady there own (rules_in w l) refl admits.0 (call_move a c) same_row (call_hears a c) m check x (line_there m) g (λ b h. followed None (Parked b) h (call_told_other a c (Parked b) tt));
     tells = tells_by None (Parked (holds check (word_at w l))) tt (parked_hears w t l steady there own (rules_in w l) refl admits.0 (call_move a c) same_row (call_hears a c) m check x g (holds check (word_at w l)) refl);
     others = parks_calm (holds check (word_at w l));
   }))
@@ -511,7 +466,7 @@ module _ (w : State) (t l : ℕ) (a : Admission) (c : RwLockCallPlace) (steady :
             };
             was = z.was;
             free = ap station_by then_row ∙ z.goes;
-            fits = fits_next k b (call_next b q (Woken HandOff)) fits_u.0 (fair_calls_stand b q (Woken HandOff) fits_u.1 (call_told_other b q (Woken HandOff) tt)) (built_then b q t fits_u.2 g);
+            fits = fits_next k b (call_next b q (Woken HandOff)) fits_u.0 (fair_calls_stand b q (Woken HandOff) fits_u.1 (call_told_other b q (Woken HandOff) tt));
           }
             where
               untaken : taken_at (RwLock k b q) l ≡ None
@@ -525,7 +480,7 @@ module _ (w : State) (t l : ℕ) (a : Admission) (c : RwLockCallPlace) (steady :
   tells_all keys wakes e g = subst (λ k. GoesFrom (place_at w t) (act.Leave k wakes)) (sym e) (record {
     whom = None;
     goes = tells_handed w t l steady there own (rules_in w l) refl admits.0 (call_move a c) same_row (call_hears a c) wakes g (next_place (place_at w t) Done) (section_there Main)
-        (followed None Done hears_done tt (call_told_done a (rules_in w l) here t c None hears_done)) told_so;
+        (followed None Done hears_done (call_told_done a (rules_in w l) here t c None hears_done)) told_so;
     tells = tells_by None Done tt hears_done;
     others = subst (λ x. WakesOwn (call_profile a c).carries (act.Leave (One (key_of l Main)) x) (case_of (call_profile a c).carries (call_deeds a c None Done))) (sym g.notes) (tells_any (call_profile a c).carries g.any (ap (λ (y : Station). y.carries) g.was) (call_deeds a c None Done) g.deeds);
   })
@@ -555,7 +510,7 @@ module _ (w : State) (t l : ℕ) (a : Admission) (c : RwLockCallPlace) (steady :
   accepted : Accepts (call_move a c) (call_hears a c) → GoesFrom (place_at w t) act.Accept
   accepted g = record {
     whom = None;
-    goes = accepts w t l steady there own (rules_in w l) refl admits.0 (call_move a c) same_row (call_hears a c) g (next_place (place_at w t) Done) (λ h. followed None Done h tt (call_told_done a (rules_in w l) here t c None h));
+    goes = accepts w t l steady there own (rules_in w l) refl admits.0 (call_move a c) same_row (call_hears a c) g (next_place (place_at w t) Done) (λ h. followed None Done h (call_told_done a (rules_in w l) here t c None h));
     tells = tells_by None Done tt (g.may (rules_in w l) here t);
     others = calm_by (End ∷ []) g.deeds tt;
   }
@@ -563,7 +518,7 @@ module _ (w : State) (t l : ℕ) (a : Admission) (c : RwLockCallPlace) (steady :
   left : (m : Line) (key : ℕ) → key ≡ key_of l m → LeavesLine (call_move a c) (call_hears a c) m → GoesFrom (place_at w t) (act.Remove key)
   left m key e g = subst (λ j. GoesFrom (place_at w t) (act.Remove j)) (sym e) (record {
     whom = None;
-    goes = leaves_line w t l steady there own (rules_in w l) refl admits.0 (call_move a c) same_row asleep (call_hears a c) m g (λ b h. followed None (Removed b) h tt (call_told_other a c (Removed b) tt));
+    goes = leaves_line w t l steady there own (rules_in w l) refl admits.0 (call_move a c) same_row asleep (call_hears a c) m g (λ b h. followed None (Removed b) h (call_told_other a c (Removed b) tt));
     tells = tells_by None (reply_to w t (act.Remove (key_of l m))) tt (removed_hears w t l steady there own (rules_in w l) refl admits.0 (call_move a c) same_row asleep (call_hears a c) m g);
     others = calm_by (Case locks.Late ∷ []) (g.deeds _) tt;
   })
@@ -577,43 +532,44 @@ module _ (w : State) (t l : ℕ) (a : Admission) (c : RwLockCallPlace) (steady :
   }))
     where
       follows : (n : ℕ) (y : Option Want) (none_left : Bool) → call_hears a c (rules_in w l) here t None (Picked n y none_left) → Followed None (Picked n y none_left)
-      follows n y none_left h = followed None (Picked n y none_left) h tt (call_told_other a c (Picked n y none_left) tt)
+      follows n y none_left h = followed None (Picked n y none_left) h (call_told_other a c (Picked n y none_left) tt)
 
   took : (key : ℕ) → key ≡ key_of l Second → TakesAside (call_move a c) (call_hears a c) → GoesFrom (place_at w t) (act.Take key whom.TheVariants.First)
   took key e g = subst (λ j. GoesFrom (place_at w t) (act.Take j whom.TheVariants.First)) (sym e) (record {
     whom = here.lock.aside;
-    goes = takes_whom_aside w t l steady there own (rules_in w l) refl admits.0 (call_move a c) same_row asleep (call_hears a c) many (line_there Second) g (λ any none_left h. followed here.lock.aside (Took any none_left) h tt (call_told_other a c (Took any none_left) tt));
+    goes = takes_whom_aside w t l steady there own (rules_in w l) refl admits.0 (call_move a c) same_row asleep (call_hears a c) many (line_there Second) g (λ any none_left h. followed here.lock.aside (Took any none_left) h (call_told_other a c (Took any none_left) tt));
     tells = tells_by here.lock.aside (reply_to w t (act.Take (key_of l Second) whom.TheVariants.First)) tt (g.may (rules_in w l) here t _ _);
     others = calm_by (takes_aside here.lock.aside ∷ []) (g.deeds here.lock.aside _ _) (aside_calm here.lock.aside);
   })
 
-  by_act : (y : Act) → call_act l a c ≡ y → CallMoves l a.recursive (call_move a c) (call_hears a c) y → can_do w y ≡ true → GoesFrom (place_at w t) y
-  by_act (act.Word k op) e g can = subst (λ j. GoesFrom (place_at w t) (act.Word j op)) (sym g.0) (on_word op (e ∙ ap (λ j. act.Word j op) g.0) g.1)
-  by_act (act.Enter keys) e g can = into g.0 keys g.1 can g.2
-  by_act (act.Park k key check want) e g can = parked g.0 k key check want g.1 g.2 g.3
-  by_act (act.Take key (whom.TheVariants.Picked start b)) e g can = picked key start b g.0 g.1 g.2
-  by_act (act.Take key whom.TheVariants.First) e g can = took key g.0 g.1
-  by_act (act.Take key whom.TheVariants.All) e g can = absurd g
-  by_act (act.Remove key) e g can = left g.0 key g.1 g.2
-  by_act (act.Leave keys wakes) e g can = elim g [
+  -- by any act that hands nothing over
+  by_act : ((k : ℕ) (op : Op) → call_act l a c ≢ act.HandOver k op) → (y : Act) → call_act l a c ≡ y → CallMoves l a.recursive (call_move a c) (call_hears a c) y → can_do w y ≡ true → GoesFrom (place_at w t) y
+  by_act plain (act.Word k op) e g can = subst (λ j. GoesFrom (place_at w t) (act.Word j op)) (sym g.0) (on_word op (e ∙ ap (λ j. act.Word j op) g.0) g.1)
+  by_act plain (act.Enter keys) e g can = into g.0 keys g.1 can g.2
+  by_act plain (act.Park k key check want) e g can = parked g.0 k key check want g.1 g.2 g.3
+  by_act plain (act.Take key (whom.TheVariants.Picked start b)) e g can = picked key start b g.0 g.1 g.2
+  by_act plain (act.Take key whom.TheVariants.First) e g can = took key g.0 g.1
+  by_act plain (act.Take key whom.TheVariants.All) e g can = absurd g
+  by_act plain (act.Remove key) e g can = left g.0 key g.1 g.2
+  by_act plain (act.Leave keys wakes) e g can = elim g [
     | inl h ↦ out_of h.0 keys wakes h.1 h.2
     | inr h ↦ tells_all keys wakes h.0 h.1
   ]
-  by_act (act.HandOver k op) e g can = absurd (gives_nothing a c fits_now.2 l k op stands e)
-  by_act act.Accept e g can = accepted g
-  by_act act.Sleep e g can = absurd cc
-  by_act (act.End answer) e g can = absurd cc
-  by_act y e g can = absurd g
+  by_act plain (act.HandOver k op) e g can = absurd (plain k op e)
+  by_act plain act.Accept e g can = accepted g
+  by_act plain act.Sleep e g can = absurd cc
+  by_act plain (act.End answer) e g can = absurd cc
+  by_act plain y e g can = absurd g
 
-  -- wherever it stands, its deeds are what the place and the reply say
-  pub rwlock_goes_on : can_do w (call_act l a c) ≡ true → GoesFrom (RwLock l a c) (call_act l a c)
-  rwlock_goes_on can = subst (λ q. GoesFrom q (call_act l a c)) is (by_act (call_act l a c) refl (fair_acts_move l a c stands) can)
+  -- its deeds are what the place and the reply say
+  pub goes_unhanded : ((k : ℕ) (op : Op) → call_act l a c ≢ act.HandOver k op) → can_do w (call_act l a c) ≡ true → GoesFrom (RwLock l a c) (call_act l a c)
+  goes_unhanded plain can = subst (λ q. GoesFrom q (call_act l a c)) is (by_act plain (call_act l a c) refl (fair_acts_move l a c stands) can)
 
   -- ---------------------------------------------------------------- its time is up
 
   pub rwlock_goes_late : (m : Line) → call_late_line c ≡ Some m → is_free w (key_of l m) ≡ true → Goes w (state_after_late_under w t (key_of l m)) l (acts t (call_deeds a c None Late))
   rwlock_goes_late m e free = goes_in w t l steady there own (rules_in w l) refl admits.0 (call_move a c) same_row (call_hears a c) m Late (next_place (place_at w t) Late) (section_there m)
-      (none_is (section_at w (key_of l m)) free) (fair_late_moves a c m e) (λ h. followed None Late h tt (call_told_late a c m e))
+      (none_is (section_at w (key_of l m)) free) (fair_late_moves a c m e) (λ h. followed None Late h (call_told_late a c m e))
 
 -- ---------------------------------------------------------------- a call begins
 
@@ -624,15 +580,10 @@ admits_by (kinds.Recursive limit) h = (refl, refl, refl)
 admits_by k h = absurd cc
 
 -- it begins where it fits its lock
-first_fits : (w : State) (l : ℕ) (a : Admission) (c : RwLockCall) → is_built c ≡ true → Admits (rules_in w l) a → FitsItsLock w (RwLock l a (call_first c))
-first_fits w l a (call.Enter x how) built admits = (admits, (calls_open a (call.Enter x how)).stands, tt)
-first_fits w l a (call.Release x) built admits = (admits, (calls_open a (call.Release x)).stands, tt)
-first_fits w l a (call.Downgrade d) built admits = (admits, (calls_open a (call.Downgrade d)).stands, tt)
-first_fits w l a (call.Upgrade how) built admits = (admits, (calls_open a (call.Upgrade how)).stands, tt)
-first_fits w l a (call.ReleaseFair x) built admits = absurd cc
-first_fits w l a (call.Bump x) built admits = absurd cc
+first_fits : (w : State) (l : ℕ) (a : Admission) (c : RwLockCall) → Admits (rules_in w l) a → FitsItsLock w (RwLock l a (call_first c))
+first_fits w l a c admits = (admits, (calls_open a c).stands)
 
-module _ (w : State) (t l : ℕ) (c : RwLockCall) (built : is_built c ≡ true) (steady : IsSteady w) (there : t < length w.places) (idle_now : place_at w t ≡ Idle) (readers : has_readers (rules_in w l).sort ≡ true) (right : call_right c t (owners_at w l) (share_at w l t) ≡ true) where
+module _ (w : State) (t l : ℕ) (c : RwLockCall) (steady : IsSteady w) (there : t < length w.places) (idle_now : place_at w t ≡ Idle) (readers : has_readers (rules_in w l).sort ≡ true) (right : call_right c t (owners_at w l) (share_at w l t) ≡ true) where
   abbrev pub first : Place
   first = RwLock l (admission_of (kind_at w l)) (call_first c)
 
@@ -644,7 +595,7 @@ module _ (w : State) (t l : ℕ) (c : RwLockCall) (built : is_built c ≡ true) 
 
   -- with what it claims
   pub rwlock_begins : Goes w (put w t first) l (acts t (Begin opens.opening.claims ∷ []))
-  rwlock_begins = place_goes w t l steady (rw idle_now tt) there (rules_in w l) refl first refl (first_fits w l (admission_of (kind_at w l)) c built (admits_by (kind_at w l) readers)) (Begin opens.opening.claims ∷ []) (λ h. tt)
+  rwlock_begins = place_goes w t l steady (rw idle_now tt) there (rules_in w l) refl first refl (first_fits w l (admission_of (kind_at w l)) c (admits_by (kind_at w l) readers)) (Begin opens.opening.claims ∷ []) (λ h. tt)
       (steps_by (rules_in w l) l (parts_at w l) (parts_at w l) (place_at w) t first (Begin opens.opening.claims ∷ [])
       (opens.has t (shares_at w l) (owners_at w l) (queue_at w (2 * l)) (queue_at w (2 * l + 1)) (λ u. taken_at (place_at w u) l) right, tt) (tt, tt)
       (free_now ∙ sym (free_of first l (ap (λ (y : Station). y.hand) opens.opening.station)))

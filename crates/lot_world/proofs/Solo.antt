@@ -44,7 +44,7 @@ use Rattle.lot_world.specs.MutexPromises.{IsMutexWord}
 use Rattle.abstract_locks.specs.Sites.{Line, Main, Second, Site, has_readers}
 use Rattle.lot_world.specs.MutexDeeds.{acts, takes, queued}
 use Rattle.lot_world.specs.Stations.{station, station_at, Station, hand}
-use Rattle.lot_world.specs.SitesOf.{IsSteady, key_of, FitsItsLock, is_mutex, Goes, hand_at, rules_in}
+use Rattle.lot_world.specs.SitesOf.{AreCounted, IsSteady, key_of, FitsItsLock, is_mutex, Goes, hand_at, rules_in}
 use Rattle.lot_world.proofs.ExclusiveOwners.{by_code, owner_after}
 use Rattle.abstract_locks.specs.Locks.{readers, Rules, MayEnter, IsBlocked, first_thread}
 use Rattle.abstract_locks.specs.Purposes.{rules_of, purpose_of, rwlock_purpose, Releases, Bumps, Patience, Patient, Timed, Try, mutex_purpose}
@@ -73,7 +73,7 @@ use Rattle.lot_world.proofs.LineSolo.{StepsAlone}
 use Rattle.lot_world.proofs.BumpSolo.{call_rests}
 use Rattle.lot_world.proofs.RwLockSolo.{word_small}
 use Rattle.lot_world.proofs.RwLockEnds.{rwlock_alone}
-use Rattle.lot_world.proofs.WorldRuns.{holds_of, solo_runs}
+use Rattle.lot_world.proofs.WorldRuns.{solo_runs}
 use Rattle.lot_rwlock.specs.RwLockBegins.{admission_of}
 use Rattle.lot_rwlock_fair.specs.declared.places.RwLockCallPlace.{RwLockCallPlace}
 use Rattle.lot_rwlock_fair.specs.FairBegins.{call_first}
@@ -396,9 +396,9 @@ try_so : (b : Bool) (x : Outcome) → x ≡ (if b then outcome.TheVariants.End a
 try_so true x h = rw h tt
 try_so false x h = rw h tt
 
-module _ (w : State) (t : ℕ) (shape : IsShaped w) (steady : IsSteady w) (there : t < length w.places) (way : HasItsWay w t) where
+module _ (w : State) (t : ℕ) (shape : IsShaped w) (steady : IsSteady w) (counted : AreCounted w) (there : t < length w.places) (way : HasItsWay w t) where
   facing : (l : ℕ) (p : Place) → place_at w t ≡ p → l < length w.locks → Facing w t l p (word_at w l) (owner_at w l) (section_at w (2 * l)) (queue_at w (2 * l))
-  facing l p is lt = record { shape = shape; steady = steady; thread = there; lock = lt; place = is; word = refl; owner = refl; section = refl; queue = refl }
+  facing l p is lt = record { shape = shape; steady = steady; counted = counted; thread = there; lock = lt; place = is; word = refl; owner = refl; section = refl; queue = refl }
 
   -- outside its section it finds it free
   free : (l : ℕ) (p : Place) → place_at w t ≡ p → lock_of p ≡ Some l → (station p).inside ≡ None → (x : Option ℕ) → section_at w (2 * l) ≡ x → x ≡ None
@@ -418,6 +418,7 @@ module _ (w : State) (t : ℕ) (shape : IsShaped w) (steady : IsSteady w) (there
   steps_alone l a c readers is lt = record {
     shape = shape;
     steady = steady;
+    counted = counted;
     thread = there;
     lock = lt;
     place = is;
@@ -552,7 +553,7 @@ module _ (w : State) (t : ℕ) (shape : IsShaped w) (steady : IsSteady w) (there
       fits = subst (PlaceFits (length w.locks)) is (shape.places t)
 
       ends : has_readers (rules_in w l).sort ≡ true → (b : Bool) → is_built c ≡ b → EndsAlone w t (if b then Some (rwlock_purpose l c) else None) (solo 64 w t outcome.TheVariants.NotNow).outcome (solo 64 w t outcome.TheVariants.NotNow).state
-      ends readers true built = rwlock_alone w t l (admission_of (kind_at w l)) c 64 outcome.TheVariants.NotNow (omega arith) steady (admits_by (kind_at w l) readers) is (steps_alone l (admission_of (kind_at w l)) (call_first c) readers is fits) (solo_runs w t (holds_of w shape steady))
+      ends readers true built = rwlock_alone w t l (admission_of (kind_at w l)) c 64 outcome.TheVariants.NotNow (omega arith) steady (admits_by (kind_at w l) readers) is (steps_alone l (admission_of (kind_at w l)) (call_first c) readers is fits) (solo_runs w t (record { shaped = shape; steady = steady; counted = counted }))
       ends readers false built = tt
 
       by_kind : (k : Kind) → kind_at w l ≡ k → EndsAlone w t (purpose_of k (call.TheVariants.RwLock l c)) (solo 64 w t outcome.TheVariants.NotNow).outcome (solo 64 w t outcome.TheVariants.NotNow).state
@@ -573,11 +574,11 @@ first_busy : (k : Kind) (c : Call) (p : Place) → p ≡ first_place k c → p �
 first_busy k (call.TheVariants.Mutex l c) p is idle = let e : Mutex l (mutex_first (is_fair k) c) ≡ Idle = sym is ∙ idle in cc
 first_busy k (call.TheVariants.RwLock l c) p is idle = let e : RwLock l (admission_of k) (call_first c) ≡ Idle = sym is ∙ idle in cc
 
-module _ (w : State) (t : ℕ) (shape : IsShaped w) (steady : IsSteady w) where
+module _ (w : State) (t : ℕ) (shape : IsShaped w) (steady : IsSteady w) (counted : AreCounted w) where
   pub rests_alone : IsUnderWay w t → HasItsWay w t → Rests (solo 64 w t outcome.TheVariants.NotNow).outcome
-  rests_alone up way = solo_rests w t shape steady (stands_there w.places t up.0) way up 64 outcome.TheVariants.NotNow (omega arith)
+  rests_alone up way = solo_rests w t shape steady counted (stands_there w.places t up.0) way up 64 outcome.TheVariants.NotNow (omega arith)
 
   pub ends_alone : (c : Call) → place_at w t ≡ first_place (kind_at w (lock_in c)) c → HasItsWay w t
       → EndsAlone w t (purpose_at (locks_of w) c) (solo 64 w t outcome.TheVariants.NotNow).outcome (solo 64 w t outcome.TheVariants.NotNow).state
-  ends_alone (call.TheVariants.Mutex l c) is way = mutex_ends w t shape steady (stands_there w.places t (first_busy (kind_at w l) (call.TheVariants.Mutex l c) (place_at w t) is)) way l c is 64 outcome.TheVariants.NotNow (omega arith)
-  ends_alone (call.TheVariants.RwLock l c) is way = rwlock_ends w t shape steady (stands_there w.places t (first_busy (kind_at w l) (call.TheVariants.RwLock l c) (place_at w t) is)) way l c is
+  ends_alone (call.TheVariants.Mutex l c) is way = mutex_ends w t shape steady counted (stands_there w.places t (first_busy (kind_at w l) (call.TheVariants.Mutex l c) (place_at w t) is)) way l c is 64 outcome.TheVariants.NotNow (omega arith)
+  ends_alone (call.TheVariants.RwLock l c) is way = rwlock_ends w t shape steady counted (stands_there w.places t (first_busy (kind_at w l) (call.TheVariants.RwLock l c) (place_at w t) is)) way l c is

@@ -28,8 +28,9 @@ use Rattle.lot_machine.specs.Machine.{state_after_hand_over_by, hand_over_told, 
 use Rattle.lot_machine.specs.Fits.{IsShaped, SameSize}
 use Rattle.lot_world.specs.Refinement.{owner_at}
 use Rattle.lot_world.specs.Stations.{station}
-use Rattle.lot_world.specs.SitesOf.{IsSteady}
+use Rattle.lot_world.specs.SitesOf.{AreCounted, IsSteady}
 use Rattle.lot_machine.proofs.Shape.{after_shaped, after_size, main_key_there, main_line_there}
+use Rattle.lot_world.proofs.CountsKept.{counted_after}
 use Rattle.lot_world.proofs.TurnsKept.{after_steady}
 use Rattle.lot_world.proofs.AtPlaces.{same_without}
 use Rattle.lot_world.proofs.ExclusiveOwners.{owner_after, exclusive-owners}
@@ -68,6 +69,7 @@ leads_so k w t P Q so h n last bound = so _ _ (h n last bound)
 pub record Facing (w : State) (t l : ℕ) (p : Place) (v : ℕ) (o : Option ℕ) (s : Option ℕ) (q : List Waiter) : Type 0 where
   pub shape : IsShaped w
   pub steady : IsSteady w
+  pub counted : AreCounted w
   pub thread : t < length w.places
   pub lock : l < length w.locks
   pub place : place_at w t ≡ p
@@ -98,7 +100,8 @@ module _ (w : State) (t l : ℕ) (p : Place) (v : ℕ) (o s : Option ℕ) (q : L
       → next_place p (reply_to w t (act_of p)) ≡ p2 → word_at b l ≡ v2 → owner_at b l ≡ o2 → section_at b (2 * l) ≡ s2 → queue_at b (2 * l) ≡ q2 → Facing (after w (go_of t)) t l p2 v2 o2 s2 q2
   faces b p2 v2 o2 s2 q2 can does places to word owner section queue = record {
     shape = after_shaped w (go_of t) f.shape;
-    steady = after_steady w (go_of t) f.shape f.steady;
+    steady = after_steady w (go_of t) f.shape f.steady f.counted;
+    counted = counted_after w (go_of t) f.shape f.steady f.counted;
     thread = let size : SameSize w (after w (go_of t)) = after_size w (go_of t) in rw size.threads f.thread;
     lock = let size : SameSize w (after w (go_of t)) = after_size w (go_of t) in rw size.locks f.lock;
     place = ap (λ (x : State). place_at x t) led ∙ get_or-set_same b.places t p2 Idle (rw places f.thread);

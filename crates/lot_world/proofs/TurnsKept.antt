@@ -27,15 +27,16 @@ use Rattle.lot_world.specs.Refinement.{lock_state, taken_at}
 use Rattle.lot_world.specs.SitesOf.{is_mutex}
 use Rattle.lot_world.specs.MutexDeeds.{mutex_doing, mutex_station, acts, begins}
 use Rattle.lot_world.specs.Stations.{nowhere, station}
-use Rattle.lot_world.specs.SitesOf.{IsSteady, Goes}
+use Rattle.lot_world.specs.SitesOf.{AreCounted, IsSteady, Goes}
 use Rattle.lot_machine.proofs.Shape.{both, looking_shaped}
-use Rattle.lot_world.proofs.KindsKept.{calls_built, calls_mutex, calls_readers}
+use Rattle.lot_world.proofs.KindsKept.{calls_mutex, calls_readers}
 use Rattle.lot_world.proofs.Glue.{parts_at, same, thread_is}
 use Rattle.lot_world.proofs.MutexTable.{mutex, own_doing, meets, others_same}
 use Rattle.lot_world.proofs.StandsMoved.{mutex_rules}
 use Rattle.lot_world.proofs.SitesKept.{mutex_at, goes_steady, place_goes}
 use Rattle.lot_world.proofs.Looking.{looking_steady, looks_now}
 use Rattle.lot_world.proofs.Closures.{nothing_closes}
+use Rattle.lot_world.proofs.CountsPut.{looking_counted}
 use Rattle.lot_world.proofs.GoneKept.{enters, gone_kept}
 use Rattle.lot_world.proofs.RwLockKept.{rwlock_begins, rwlock_goes_late}
 use Rattle.lot_rwlock.specs.declared.places.Admission.{Admission}
@@ -78,13 +79,13 @@ module _ (w : State) (t : ℕ) (steady : IsSteady w) (shape : IsShaped w) (there
       let parts = both (is_idle (place_at w t)) (is_open_to w t (calling.TheVariants.RwLock l c)) can in
       let open_to = both (nat_lt l (length w.locks)) _ parts.1 in
       let right = both (has_call (kind_at w l) (calling.TheVariants.RwLock l c)) _ open_to.1 in
-      goes_steady w _ l _ steady (rwlock_begins w t l c (calls_built (kind_at w l) l c right.0) steady there (idle_is (place_at w t) parts.0) (calls_readers (kind_at w l) l c right.0) right.1)
+      goes_steady w _ l _ steady (rwlock_begins w t l c steady there (idle_is (place_at w t) parts.0) (calls_readers (kind_at w l) l c right.0) right.1)
 
   -- it looks at the word once more
-  spun_kept : (o : Option Place) → looking (place_at w t) ≡ o → IsSteady (state_after_look w t o)
-  spun_kept None is = steady
-  spun_kept (Some q) is = let shaped = looking_shaped w t q shape is in
-      gone_kept (put w t q) t (looking_steady w t there q is steady) shaped (rw (length-set w.places t q) there) (place_at (put w t q) t) refl (shaped.places t) (looks_now w t there q is)
+  spun_kept : AreCounted w → (o : Option Place) → looking (place_at w t) ≡ o → IsSteady (state_after_look w t o)
+  spun_kept counted None is = steady
+  spun_kept counted (Some q) is = let shaped = looking_shaped w t q shape is in
+      gone_kept (put w t q) t (looking_steady w t there q is steady) shaped (rw (length-set w.places t q) there) (looking_counted w t there q is counted) (place_at (put w t q) t) refl (shaped.places t) (looks_now w t there q is)
 
   -- its time is up, and it goes into the section of its line
   asleep_late : (l : ℕ) (e : Entry) (r : Bool) → place_at w t ≡ Mutex l (Lock e r lock.Asleep) → l < length w.locks → is_free_under w (late_key (Mutex l (Lock e r lock.Asleep))) ≡ true → IsSteady (state_after_late_on w t (late_key (Mutex l (Lock e r lock.Asleep))))
@@ -113,19 +114,19 @@ module _ (w : State) (t : ℕ) (steady : IsSteady w) (shape : IsShaped w) (there
   late_kept (RwLock l a c) is fits can = absurd cc
   late_kept Idle is fits can = absurd cc
 
-  turned_kept : (x : Turn) → can_turn w t x ≡ true → IsSteady (state_after_turn w t x)
-  turned_kept (turn.TheVariants.Begin c) can = begun_kept c can
-  turned_kept turn.TheVariants.Go can = gone_kept w t steady shape there (place_at w t) refl (shape.places t) can
-  turned_kept turn.TheVariants.Spin can = spun_kept (looking (place_at w t)) refl
-  turned_kept turn.TheVariants.Late can = late_kept (place_at w t) refl (shape.places t) can
-  turned_kept turn.TheVariants.Ok can = absurd (nothing_closes w t true can)
-  turned_kept turn.TheVariants.Err can = absurd (nothing_closes w t false can)
+  turned_kept : AreCounted w → (x : Turn) → can_turn w t x ≡ true → IsSteady (state_after_turn w t x)
+  turned_kept counted (turn.TheVariants.Begin c) can = begun_kept c can
+  turned_kept counted turn.TheVariants.Go can = gone_kept w t steady shape there counted (place_at w t) refl (shape.places t) can
+  turned_kept counted turn.TheVariants.Spin can = spun_kept counted (looking (place_at w t)) refl
+  turned_kept counted turn.TheVariants.Late can = late_kept (place_at w t) refl (shape.places t) can
+  turned_kept counted turn.TheVariants.Ok can = absurd (nothing_closes w t true can)
+  turned_kept counted turn.TheVariants.Err can = absurd (nothing_closes w t false can)
 
 -- a step keeps what holds between steps
-pub after_steady : (w : State) (s : Step) → IsShaped w → IsSteady w → IsSteady (after w s)
-after_steady w s shape steady = either (is_possible w s) refl
+pub after_steady : (w : State) (s : Step) → IsShaped w → IsSteady w → AreCounted w → IsSteady (after w s)
+after_steady w s shape steady counted = either (is_possible w s) refl
   where
     either : (b : Bool) → is_possible w s ≡ b → IsSteady (if b then state_after_turn w s.thread s.turn else w)
     either true can = let parts = both (nat_lt s.thread (length w.places)) (can_turn w s.thread s.turn) can in
-        turned_kept w s.thread steady shape (ltb-true s.thread (length w.places) parts.0) s.turn parts.1
+        turned_kept w s.thread steady shape (ltb-true s.thread (length w.places) parts.0) counted s.turn parts.1
     either false can = steady

@@ -6,50 +6,43 @@ use Rattle.lot_calls.specs.declared.outcomes.Outcome as outcome
 use Rattle.abstract_locks.specs.Runs.{IsRun, LocksState}
 use Rattle.abstract_locks.specs.UserLaws.{OfEachStep}
 use Rattle.lot_machine.specs.Machine.{State, after, step_outcome, after_steps, step_outcomes, alone_after, go_of, solo}
-use Rattle.lot_machine.specs.Fits.{IsShaped}
 use Rattle.lot_world.specs.Refinement.{locks_of}
 use Rattle.lot_world.specs.WorldRuns.{IsWorldStep, IsWorldRun, Tells}
 use Rattle.lot_world.specs.Solo.{IsSoloRun, GoesOnUntil, last_told}
+use Rattle.lot_world.proofs.CountsKept.{counted_after}
 use Rattle.lot_world.proofs.Owing.{owes_since}
 use Rattle.lot_world.proofs.Fair.{is_fair}
 use Rattle.lot_world.proofs.LockSteps.{after_step}
 use Rattle.lot_world.proofs.OneThing.{one_thing, touches}
-use Rattle.lot_world.specs.SitesOf.{IsSteady}
+use Rattle.lot_world.specs.SitesOf.{IsWorld}
 use Rattle.lot_world.proofs.Promises.{kept, kept_after}
 use Rattle.lot_machine.proofs.Shape.{after_shaped}
 use Rattle.lot_world.proofs.TurnsKept.{after_steady}
 
--- what the world keeps from step to step
-pub record Holds (w : State) : Type 0 where
-  pub shaped : IsShaped w
-  pub steady : IsSteady w
-
-pub holds_of : (w : State) → IsShaped w → IsSteady w → Holds w
-holds_of w shape steady = record { shaped = shape; steady = steady }
-
-pub holds_after : (w : State) (s : Step) → Holds w → Holds (after w s)
-holds_after w s h = record {
+pub world_after : (w : State) (s : Step) → IsWorld w → IsWorld (after w s)
+world_after w s h = record {
   shaped = after_shaped w s h.shaped;
-  steady = after_steady w s h.shaped h.steady;
+  steady = after_steady w s h.shaped h.steady h.counted;
+  counted = counted_after w s h.shaped h.steady h.counted;
 }
 
-pub world_step : (w : State) (s : Step) → Holds w → IsWorldStep w s (step_outcome w s) (after w s)
+pub world_step : (w : State) (s : Step) → IsWorld w → IsWorldStep w s (step_outcome w s) (after w s)
 world_step w s h = record {
-  refines = after_step w s h.shaped h.steady;
+  refines = after_step w s h.shaped h.steady h.counted;
   one_thing = one_thing w s h.steady;
   touches = touches w s;
-  owing = owes_since w s h.shaped h.steady;
-  fair = is_fair w s h.shaped h.steady;
-  kept = kept_after w s h.shaped h.steady;
+  owing = owes_since w s h.shaped h.steady h.counted;
+  fair = is_fair w s h.shaped h.steady h.counted;
+  kept = kept_after w s h.shaped h.steady h.counted;
 }
 
 -- what holds of each step of the abstract locks holds of each step of the world
-pub of_step : {law : LocksState → LocksState → Type 0} → OfEachStep law → (w : State) (s : Step) → Holds w → law (locks_of w) (locks_of (after w s))
-of_step each w s h = each (locks_of w) (locks_of (after w s)) s (step_outcome w s) (kept w h.steady).state (after_step w s h.shaped h.steady)
+pub of_step : {law : LocksState → LocksState → Type 0} → OfEachStep law → (w : State) (s : Step) → IsWorld w → law (locks_of w) (locks_of (after w s))
+of_step each w s h = each (locks_of w) (locks_of (after w s)) s (step_outcome w s) (kept w h.steady).state (after_step w s h.shaped h.steady h.counted)
 
-pub world_run : (w : State) (ss : List Step) → Holds w → IsWorldRun w ss (step_outcomes w ss) (after_steps w ss)
+pub world_run : (w : State) (ss : List Step) → IsWorld w → IsWorldRun w ss (step_outcomes w ss) (after_steps w ss)
 world_run w [] h = refl
-world_run w (s ∷ ss) h = (after w s, world_step w s h, world_run (after w s) ss (holds_after w s h))
+world_run w (s ∷ ss) h = (after w s, world_step w s h, world_run (after w s) ss (world_after w s h))
 
 -- a run of the world is a run of the abstract locks
 pub run_refines : (w v : State) (ss : List Step) (os : List Outcome) → IsWorldRun w ss os v → IsRun (locks_of w) ss os (locks_of v)
@@ -60,7 +53,7 @@ run_refines w v (s ∷ ss) (o ∷ os) h = (locks_of h.0, h.1.refines, run_refine
 
 -- ---------------------------------------------------------------- what was told stands behind what was there
 
-module _ (w v : State) (ss : List Step) (before now : List Outcome) (h : Holds w) (led : v ≡ after_steps w ss) (answers : now ≡ before ++ step_outcomes w ss) where
+module _ (w v : State) (ss : List Step) (before now : List Outcome) (h : IsWorld w) (led : v ≡ after_steps w ss) (answers : now ≡ before ++ step_outcomes w ss) where
   pub tells_run : Tells before now (λ told. IsWorldRun w ss told v)
   tells_run = (step_outcomes w ss, answers, subst (IsWorldRun w ss (step_outcomes w ss)) (sym led) (world_run w ss h))
 
@@ -81,10 +74,10 @@ goes_more : (o : Outcome) (told : List Outcome) → o ≡ outcome.TheVariants.St
 goes_more o [] e h = λ f. let g : outcome.TheVariants.Step ≡ outcome.TheVariants.NotNow = sym e ∙ f in cc
 goes_more o (x ∷ told) e h = (e, h)
 
-goes_for : (n : ℕ) (w : State) (t : ℕ) (last : Outcome) → Holds w → GoesFor n w t last (solo n w t last).outcome (solo n w t last).state
+goes_for : (n : ℕ) (w : State) (t : ℕ) (last : Outcome) → IsWorld w → GoesFor n w t last (solo n w t last).outcome (solo n w t last).state
 unfolding solo
 goes_for zero w t last h = record { told = []; few = omega arith; run = refl; goes_on = tt; result_is = refl }
-goes_for (suc n) w t last h = by_outcome (step_outcome w (go_of t)) refl (goes_for n (after w (go_of t)) t outcome.TheVariants.Step (holds_after w (go_of t) h))
+goes_for (suc n) w t last h = by_outcome (step_outcome w (go_of t)) refl (goes_for n (after w (go_of t)) t outcome.TheVariants.Step (world_after w (go_of t) h))
   where
     by_outcome : (o : Outcome) → step_outcome w (go_of t) ≡ o → GoesFor n (after w (go_of t)) t outcome.TheVariants.Step (solo n (after w (go_of t)) t outcome.TheVariants.Step).outcome (solo n (after w (go_of t)) t outcome.TheVariants.Step).state
         → GoesFor (suc n) w t last (alone_after o w (after w (go_of t)) last (solo n (after w (go_of t)) t outcome.TheVariants.Step)).outcome (alone_after o w (after w (go_of t)) last (solo n (after w (go_of t)) t outcome.TheVariants.Step)).state
@@ -104,7 +97,7 @@ goes_for (suc n) w t last h = by_outcome (step_outcome w (go_of t)) refl (goes_f
       result_is = refl;
     }
 
-pub solo_runs : (w : State) (t : ℕ) → Holds w → IsSoloRun w t (solo 64 w t outcome.TheVariants.NotNow).outcome (solo 64 w t outcome.TheVariants.NotNow).state
+pub solo_runs : (w : State) (t : ℕ) → IsWorld w → IsSoloRun w t (solo 64 w t outcome.TheVariants.NotNow).outcome (solo 64 w t outcome.TheVariants.NotNow).state
 solo_runs w t h = let g = goes_for 64 w t outcome.TheVariants.NotNow h in record { told = g.told; few = g.few; run = g.run; goes_on = g.goes_on; last = last_is g.told g.result_is }
   where
     last_is : (told : List Outcome) → (solo 64 w t outcome.TheVariants.NotNow).outcome ≡ last_told (outcome.TheVariants.NotNow ∷ told) → (solo 64 w t outcome.TheVariants.NotNow).outcome ≡ last_told told

@@ -5,19 +5,22 @@ pub use Rattle.lot_base.specs.Keys.{key_of}
 use Rattle.lot_base.specs.Lines.{times}
 use Rattle.lot_steps.specs.declared.places.Place.{Place}
 use Rattle.lot_steps.specs.declared.places.Place.TheVariants.{Idle, Mutex as OfMutex, RwLock as OfRwLock}
+use Rattle.lot_base.specs.declared.wants.Want.{Want}
 use Rattle.lot_base.specs.declared.wants.Want.TheVariants.{Upgradable}
 use Rattle.abstract_locks.specs.Locks.{Rules, Knows}
 use Rattle.abstract_locks.specs.Sites.{Line, Main, Second, Site, IsSite, has_readers, after_deed, Needed}
 use Rattle.abstract_locks.specs.Codes.{code, parked_in, aside_in, HasLimit}
 use Rattle.abstract_locks.specs.Purposes.{rules_of}
-use Rattle.lot_machine.specs.Machine.{State, place_at, word_at, shares_at, filled_at, kind_at, queue_at, section_at}
+use Rattle.lot_machine.specs.Machine.{State, held, place_at, word_at, shares_at, sharers, successor_from, want_of_successor, wants_more_in_hand, filled_at, kind_at, queue_at, section_at}
+use Rattle.lot_machine.specs.Fits.{IsShaped}
 use Rattle.lot_world.specs.Refinement.{lock_state}
 use Rattle.lot_calls.specs.declared.kinds.Kind.{Kind}
 use Rattle.lot_calls.specs.declared.kinds.Kind as kind
+use Rattle.lot_rwlock.specs.declared.places.Admission.{Admission}
 use Rattle.lot_rwlock.specs.RwLockDeeds.{Admits}
 use Rattle.lot_rwlock_fair.specs.declared.places.RwLockCallPlace.{RwLockCallPlace}
-use Rattle.lot_rwlock_fair.specs.declared.places.RwLockCallPlace.TheVariants.{Plain}
-use Rattle.lot_rwlock_fair.specs.FairCalls.{CallStands}
+use Rattle.lot_rwlock_fair.specs.declared.hand_over.Taken.{Taken as Counted}
+use Rattle.lot_rwlock_fair.specs.FairCalls.{CallStands, in_hand_of}
 use Rattle.lot_world.specs.MutexDeeds.{Act}
 use Rattle.lot_world.specs.Stations.{Hand, hand, station_at, doing_on}
 
@@ -105,16 +108,11 @@ is_mutex kind.TheVariants.Mutex = true
 is_mutex kind.TheVariants.Fair = true
 is_mutex k = false
 
--- no call of a world hands a reader-writer lock over yet
-abbrev pub IsBuilt : RwLockCallPlace → Type 0
-IsBuilt (Plain p) = Unit {0}
-IsBuilt c = ⊥
-
 -- a call is of a lock of its sort, and stands where it may
 abbrev pub FitsItsLock : State → Place → Type 0
 FitsItsLock w Idle = Unit {0}
 FitsItsLock w (OfMutex l at) = is_mutex (kind_at w l) ≡ true
-FitsItsLock w (OfRwLock l a c) = Admits (rules_in w l) a × CallStands a c × IsBuilt c
+FitsItsLock w (OfRwLock l a c) = Admits (rules_in w l) a × CallStands a c
 
 pub record Stands (w : State) : Type 0 where
   pub sections : Sections (place_at w) (section_at w)
@@ -133,6 +131,24 @@ pub record IsSteady (w : State) : Type 0 where
   pub sites : AreSites w
   pub stands : Stands w
   pub numbers : HasNumbers w
+
+-- ---------------------------------------------------------------- whom a thread hands its lock
+
+-- as many want to share, and who wants more wants this; that is one thread at most
+pub record IsCounted (w : State) (t : ℕ) (k : Counted) : Type 0 where
+  pub number : sharers t w.places ≡ k.sharers
+  pub more : want_of_successor (successor_from t 0 w.places) ≡ k.successor
+  pub one : (u v : ℕ) (x y : Want) → wants_more_in_hand t (held (place_at w u)) ≡ Some x → wants_more_in_hand t (held (place_at w v)) ≡ Some y → u ≡ v
+
+-- a call that is to hand its lock over has counted those whom it has in hand
+abbrev pub AreCounted : State → Type 0
+AreCounted w = (t l : ℕ) (a : Admission) (c : RwLockCallPlace) (k : Counted) → place_at w t ≡ OfRwLock l a c → in_hand_of c ≡ Some k → IsCounted w t k
+
+-- what a world keeps from step to step
+pub record IsWorld (w : State) : Type 0 where
+  pub shaped : IsShaped w
+  pub steady : IsSteady w
+  pub counted : AreCounted w
 
 -- a step changes no number of threads or locks
 pub record SameNumbers (w v : State) : Type 0 where

@@ -44,14 +44,13 @@ pub struct World<Q: Queues + Drop> {
 
 impl<Q: Queues + Drop> Model for World<Q> {
     ghost use Rattle.lot_machine.specs.Machine.{State};
-    ghost use Rattle.lot_machine.specs.Fits.{IsShaped};
-    ghost use Rattle.lot_world.specs.SitesOf.{IsSteady};
+    ghost use Rattle.lot_world.specs.SitesOf.{IsWorld};
 
     ghost Value = { State };
 
     ghost view = { λ a. a.machine };
 
-    ghost invariant = { λ a. IsShaped a.machine × IsSteady a.machine };
+    ghost invariant = { λ a. IsWorld a.machine };
 }
 
 impl<Q: Queues + Drop> World<Q> {

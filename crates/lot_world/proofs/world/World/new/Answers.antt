@@ -1,13 +1,15 @@
 use Rattle.lot_machine.proofs.Shape.{opening_shaped}
+use Rattle.lot_world.proofs.CountsPut.{opening_counted}
 use Rattle.lot_world.proofs.OpeningSites.{opening_steady}
 use Rattle.lot_world.proofs.Promises.{kept, opening_is}
 use Rattle.lot_world.proofs.world.World.new.Goals as goal
 
 pub invariant_of-result : goal.invariant_of-result
-invariant_of-result g c = rw c.in_ok-new.ensures.ok (
-  opening_shaped c.args.kinds.now c.args.threads c.requires.few_locks,
-  opening_steady c.args.kinds.now c.args.threads c.requires.some c.requires.fit,
-)
+invariant_of-result g c = rw c.in_ok-new.ensures.ok (record {
+  shaped = opening_shaped c.args.kinds.now c.args.threads c.requires.few_locks;
+  steady = opening_steady c.args.kinds.now c.args.threads c.requires.some c.requires.fit;
+  counted = opening_counted c.args.kinds.now c.args.threads;
+})
 
 pub returns-clause-opening : goal.returns-clause-opening
 returns-clause-opening g c =

@@ -1,3 +1,4 @@
+use Rattle.lot_world.specs.SitesOf.{IsWorld}
 use Rattle.std.proofs.Common.{◌+◌, take}
 use Rattle.std.proofs.lemmas.List.{take_more}
 use Rattle.lot_machine.proofs.Shape.{size_more}
@@ -6,7 +7,7 @@ use Rattle.std.proofs.lemmas.List.{take_all}
 use Rattle.std.proofs.Common.{◌≡◌, ap, ◌∙◌, ◌++◌, arith}
 use Rattle.lot_machine.specs.Machine.{after_steps, step_outcomes}
 use Rattle.lot_world.proofs.Promises.{kept}
-use Rattle.lot_world.proofs.WorldRuns.{holds_of, Holds, tells_run, tells_refines}
+use Rattle.lot_world.proofs.WorldRuns.{tells_run, tells_refines}
 use Rattle.lot_world.proofs.world.World.run.Goals as goal
 
 pub loop-taken-preserved : goal.loop-taken-preserved
@@ -21,38 +22,38 @@ loop-taken-preserved g c =
 
 pub returns-then-is_err-clause-kept_before : goal.returns-then-is_err-clause-kept_before
 returns-then-is_err-clause-kept_before g c =
-    let before = holds_of c.self.inside.machine c.self.invariant.0 c.self.invariant.1 in
+    let before : IsWorld c.self.inside.machine = c.self.invariant in
     rw (← c.self.view_is) (kept c.self.inside.machine before.steady)
 
 pub returns-clause-kept_before : goal.returns-clause-kept_before
 returns-clause-kept_before g c =
-    let before = holds_of c.self.inside.machine c.self.invariant.0 c.self.invariant.1 in
+    let before : IsWorld c.self.inside.machine = c.self.invariant in
     rw (← c.self.view_is) (kept c.self.inside.machine before.steady)
 
 pub returns-then-is_err-clause-stopped_refines : goal.returns-then-is_err-clause-stopped_refines
 returns-then-is_err-clause-stopped_refines g c =
-    let before = holds_of c.self.inside.machine c.self.invariant.0 c.self.invariant.1 in
-    let holds : Holds c.args.self.now = rw (← c.self.view_is) before in
+    let before : IsWorld c.self.inside.machine = c.self.invariant in
+    let holds : IsWorld c.args.self.now = rw (← c.self.view_is) before in
     rw c.reserve.ensures.items (tells_refines c.args.self.now c.loop-taken.self (take c.loop-taken.taken c.args.steps.now) c.args.outcomes.now.items c.loop-taken.outcomes.items holds c.loop-taken.invariant.state c.loop-taken.invariant.outcomes)
 
 pub returns-then-is_err-clause-stopped_run : goal.returns-then-is_err-clause-stopped_run
 returns-then-is_err-clause-stopped_run g c =
-    let before = holds_of c.self.inside.machine c.self.invariant.0 c.self.invariant.1 in
-    let holds : Holds c.args.self.now = rw (← c.self.view_is) before in
+    let before : IsWorld c.self.inside.machine = c.self.invariant in
+    let holds : IsWorld c.args.self.now = rw (← c.self.view_is) before in
     rw c.reserve.ensures.items (tells_run c.args.self.now c.loop-taken.self (take c.loop-taken.taken c.args.steps.now) c.args.outcomes.now.items c.loop-taken.outcomes.items holds c.loop-taken.invariant.state c.loop-taken.invariant.outcomes)
 
 pub returns-clause-refines : goal.returns-clause-refines
 returns-clause-refines g c =
-    let before = holds_of c.self.inside.machine c.self.invariant.0 c.self.invariant.1 in
-    let holds : Holds c.args.self.now = rw (← c.self.view_is) before in
+    let before : IsWorld c.self.inside.machine = c.self.invariant in
+    let holds : IsWorld c.args.self.now = rw (← c.self.view_is) before in
     let all : take c.loop-taken.taken c.args.steps.now ≡ c.args.steps.now = take_all c.loop-taken.taken c.args.steps.now (omega arith) in
     tells_refines c.args.self.now c.loop-taken.self c.args.steps.now c.args.outcomes.now.items c.loop-taken.outcomes.items holds
     (c.loop-taken.invariant.state ∙ ap (after_steps c.args.self.now) all) (c.loop-taken.invariant.outcomes ∙ ap (λ ss. c.args.outcomes.now.items ++ step_outcomes c.args.self.now ss) all)
 
 pub returns-clause-run : goal.returns-clause-run
 returns-clause-run g c =
-    let before = holds_of c.self.inside.machine c.self.invariant.0 c.self.invariant.1 in
-    let holds : Holds c.args.self.now = rw (← c.self.view_is) before in
+    let before : IsWorld c.self.inside.machine = c.self.invariant in
+    let holds : IsWorld c.args.self.now = rw (← c.self.view_is) before in
     let all : take c.loop-taken.taken c.args.steps.now ≡ c.args.steps.now = take_all c.loop-taken.taken c.args.steps.now (omega arith) in
     tells_run c.args.self.now c.loop-taken.self c.args.steps.now c.args.outcomes.now.items c.loop-taken.outcomes.items holds
     (c.loop-taken.invariant.state ∙ ap (after_steps c.args.self.now) all) (c.loop-taken.invariant.outcomes ∙ ap (λ ss. c.args.outcomes.now.items ++ step_outcomes c.args.self.now ss) all)

@@ -1,66 +1,65 @@
-use Rattle.lot_machine.proofs.Shape.{after_shaped, after_size}
-use Rattle.lot_world.proofs.TurnsKept.{after_steady}
+use Rattle.lot_world.specs.SitesOf.{IsWorld}
+use Rattle.lot_machine.proofs.Shape.{after_size}
 use Rattle.lot_world.proofs.LockSteps.{after_step}
 use Rattle.lot_world.proofs.OneThing.{one_thing, touches}
 use Rattle.lot_world.proofs.Promises.{kept_after}
 use Rattle.lot_world.proofs.Fair.{is_fair}
 use Rattle.lot_world.proofs.Owing.{owes_since}
-use Rattle.lot_world.proofs.WorldRuns.{holds_of, of_step}
+use Rattle.lot_world.proofs.WorldRuns.{of_step, world_after}
 use Rattle.abstract_locks.proofs.UserLaws.{readers_stay_out, rereaders_pass, upgrades_hold, downgrades_hold}
 use Rattle.lot_world.proofs.world.World.step.Goals as goal
 
 pub invariant_of-self : goal.invariant_of-self
 invariant_of-self g c =
-    let before = c.self.invariant in
-    rw c.turn.ensures.state (after_shaped c.self.inside.machine c.args.step before.0, after_steady c.self.inside.machine c.args.step before.0 before.1)
+    rw c.turn.ensures.state (world_after c.self.inside.machine c.args.step c.self.invariant)
 
 pub returns-clause-refines : goal.returns-clause-refines
 returns-clause-refines g c =
-    let before = holds_of c.self.inside.machine c.self.invariant.0 c.self.invariant.1 in
-    rw (c.turn.ensures.outcome, c.turn.ensures.state, ← c.self.view_is) (after_step c.self.inside.machine c.args.step before.shaped before.steady)
+    let before : IsWorld c.self.inside.machine = c.self.invariant in
+    rw (c.turn.ensures.outcome, c.turn.ensures.state, ← c.self.view_is) (after_step c.self.inside.machine c.args.step before.shaped before.steady before.counted)
 
 pub returns-clause-one_thing : goal.returns-clause-one_thing
 returns-clause-one_thing g c =
-    let before = holds_of c.self.inside.machine c.self.invariant.0 c.self.invariant.1 in
+    let before : IsWorld c.self.inside.machine = c.self.invariant in
     rw (c.turn.ensures.state, ← c.self.view_is) (one_thing c.self.inside.machine c.args.step before.steady)
 
 pub returns-clause-kept : goal.returns-clause-kept
 returns-clause-kept g c =
-    let before = holds_of c.self.inside.machine c.self.invariant.0 c.self.invariant.1 in
-    rw c.turn.ensures.state (kept_after c.self.inside.machine c.args.step before.shaped before.steady)
+    let before : IsWorld c.self.inside.machine = c.self.invariant in
+    rw c.turn.ensures.state (kept_after c.self.inside.machine c.args.step before.shaped before.steady before.counted)
 
 pub returns-clause-same_size : goal.returns-clause-same_size
 returns-clause-same_size g c = rw (c.turn.ensures.state, ← c.self.view_is) (after_size c.self.inside.machine c.args.step)
 
 pub returns-clause-fair : goal.returns-clause-fair
 returns-clause-fair g c =
-    let before = holds_of c.self.inside.machine c.self.invariant.0 c.self.invariant.1 in
-    rw (c.turn.ensures.state, ← c.self.view_is) (is_fair c.self.inside.machine c.args.step before.shaped before.steady)
+    let before : IsWorld c.self.inside.machine = c.self.invariant in
+    rw (c.turn.ensures.state, ← c.self.view_is) (is_fair c.self.inside.machine c.args.step before.shaped before.steady before.counted)
 
 pub returns-clause-touches : goal.returns-clause-touches
 returns-clause-touches g c = rw (c.turn.ensures.state, ← c.self.view_is) (touches c.self.inside.machine c.args.step)
 
 pub returns-clause-owing : goal.returns-clause-owing
 returns-clause-owing g c =
-    let before = holds_of c.self.inside.machine c.self.invariant.0 c.self.invariant.1 in
-    rw (c.turn.ensures.outcome, c.turn.ensures.state, ← c.self.view_is) (owes_since c.self.inside.machine c.args.step before.shaped before.steady)
+    let before : IsWorld c.self.inside.machine = c.self.invariant in
+    rw (c.turn.ensures.outcome, c.turn.ensures.state, ← c.self.view_is) (owes_since c.self.inside.machine c.args.step before.shaped before.steady before.counted)
 
 pub returns-clause-readers_stay_out : goal.returns-clause-readers_stay_out
 returns-clause-readers_stay_out g c =
-    let before = holds_of c.self.inside.machine c.self.invariant.0 c.self.invariant.1 in
+    let before : IsWorld c.self.inside.machine = c.self.invariant in
     rw (c.turn.ensures.state, ← c.self.view_is) (of_step readers_stay_out c.self.inside.machine c.args.step before)
 
 pub returns-clause-rereaders_pass : goal.returns-clause-rereaders_pass
 returns-clause-rereaders_pass g c =
-    let before = holds_of c.self.inside.machine c.self.invariant.0 c.self.invariant.1 in
+    let before : IsWorld c.self.inside.machine = c.self.invariant in
     rw (c.turn.ensures.state, ← c.self.view_is) (of_step rereaders_pass c.self.inside.machine c.args.step before)
 
 pub returns-clause-upgrades_let_nobody_write : goal.returns-clause-upgrades_let_nobody_write
 returns-clause-upgrades_let_nobody_write g c =
-    let before = holds_of c.self.inside.machine c.self.invariant.0 c.self.invariant.1 in
+    let before : IsWorld c.self.inside.machine = c.self.invariant in
     rw (c.turn.ensures.state, ← c.self.view_is) (of_step upgrades_hold c.self.inside.machine c.args.step before)
 
 pub returns-clause-downgrades_own : goal.returns-clause-downgrades_own
 returns-clause-downgrades_own g c =
-    let before = holds_of c.self.inside.machine c.self.invariant.0 c.self.invariant.1 in
+    let before : IsWorld c.self.inside.machine = c.self.invariant in
     rw (c.turn.ensures.state, ← c.self.view_is) (of_step downgrades_hold c.self.inside.machine c.args.step before)
