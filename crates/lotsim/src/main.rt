@@ -1,6 +1,7 @@
-//! Any number of threads over named locks, by a list of lines.
+//! Any number of threads over named locks, by a list of lines; or real threads on one lot.
 #![tactic(auto)]
 
+use lot_live::live;
 use lot_replay::start::start;
 use lot_replay::status;
 use std::io::{BufReader, ErrorKind};
@@ -28,6 +29,9 @@ fn run(rt: &HostRuntime) -> io::Result<u8> {
         .iter()
         .map(|arg| arg.as_str())
         .collect::<Vec<&str>>(rt.alloc())?;
+    if matches!(words.as_slice(), ["live"]) {
+        return Ok(live(rt, rt.alloc(), &mut io::writer(rt)));
+    }
     let mut reader = BufReader::new(rt.alloc(), rt.reader())?;
     Ok(start(
         rt.alloc(),
