@@ -16,7 +16,6 @@ use Rattle.lot_calls.specs.declared.calls.Downgrade.{Downgrade}
 use Rattle.lot_calls.specs.declared.calls.Downgrade.TheVariants as downgrade
 use Rattle.lot_calls.specs.declared.calls.RwLockCall.{RwLockCall}
 use Rattle.lot_calls.specs.declared.calls.RwLockCall.TheVariants as rwlock_call
-use Rattle.lot_calls.specs.Kinds.{is_built}
 use Rattle.abstract_locks.specs.Locks.{Rules, Mutex, Normal, Recursive, LockCase, Enter, Pend, Settle, Leave, Convert, Park, Aside, TakeFirst, TakeAside, TakePicked, Wake, HandOff, Late, Rollback}
 
 -- what a call of a lock is for
@@ -67,8 +66,8 @@ rwlock_purpose l (rwlock_call.Bump x) = Bumps l (wanted x)
 abbrev pub purpose_of : Kind → Call → Option Purpose
 purpose_of kind.TheVariants.Mutex (call.TheVariants.Mutex l c) = Some (mutex_purpose false l c)
 purpose_of kind.TheVariants.Fair (call.TheVariants.Mutex l c) = Some (mutex_purpose true l c)
-purpose_of (kind.TheVariants.RwLock limit) (call.TheVariants.RwLock l c) = if is_built c then Some (rwlock_purpose l c) else None
-purpose_of (kind.TheVariants.Recursive limit) (call.TheVariants.RwLock l c) = if is_built c then Some (rwlock_purpose l c) else None
+purpose_of (kind.TheVariants.RwLock limit) (call.TheVariants.RwLock l c) = Some (rwlock_purpose l c)
+purpose_of (kind.TheVariants.Recursive limit) (call.TheVariants.RwLock l c) = Some (rwlock_purpose l c)
 purpose_of k c = None
 
 -- the lock of which a call is

@@ -4,8 +4,6 @@ use Rattle.lot_calls.specs.declared.kinds.Kind.{Kind}
 use Rattle.lot_calls.specs.declared.kinds.Kind.TheVariants.{Mutex, Fair, RwLock, Recursive, Condvar, Once}
 use Rattle.lot_calls.specs.declared.calls.Call.{Call}
 use Rattle.lot_calls.specs.declared.calls.Call as call
-use Rattle.lot_calls.specs.declared.calls.RwLockCall.{RwLockCall}
-use Rattle.lot_calls.specs.declared.calls.RwLockCall.TheVariants.{ReleaseFair, Bump}
 use Rattle.lot_calls.specs.declared.kinds.TheConstants.{MOST_READERS}
 
 -- a reader limit is at least the number of threads, and at most 2^60 - 2
@@ -17,18 +15,12 @@ fits Fair threads = true
 fits Condvar threads = true
 fits Once threads = true
 
--- fair releases and bumps of a reader-writer lock are in no world yet
-abbrev pub is_built : RwLockCall → Bool
-is_built (ReleaseFair x) = false
-is_built (Bump x) = false
-is_built c = true
-
 -- whether locks of the kind have the call
 abbrev pub has_call : Kind → Call → Bool
 has_call Mutex (call.TheVariants.Mutex lock c) = true
 has_call Fair (call.TheVariants.Mutex lock c) = true
-has_call (RwLock limit) (call.TheVariants.RwLock lock c) = is_built c
-has_call (Recursive limit) (call.TheVariants.RwLock lock c) = is_built c
+has_call (RwLock limit) (call.TheVariants.RwLock lock c) = true
+has_call (Recursive limit) (call.TheVariants.RwLock lock c) = true
 has_call _ c = false
 
 -- whether it is a mutex whose unlock hands the lock over

@@ -1,8 +1,8 @@
 //! The kinds of lock.
 ghost use Rattle.std.specs.Prelude.{◌≡◌};
-ghost use Rattle.lot_calls.specs.Kinds.{fits, has_call, is_built, is_fair};
+ghost use Rattle.lot_calls.specs.Kinds.{fits, has_call, is_fair};
 
-use crate::calls::{Call, RwLockCall};
+use crate::calls::Call;
 
 /// The greatest reader limit.
 pub const MOST_READERS: u64 = 1152921504606846974;
@@ -19,15 +19,6 @@ pub enum Kind {
     Recursive { limit: u64 },
     Condvar,
     Once,
-}
-
-impl RwLockCall {
-    /// Whether worlds have the call: fair releases and bumps are in none yet.
-    pub fn is_built(self) -> bool
-        ensures { result ≡ is_built self }
-    {
-        !matches!(self, RwLockCall::ReleaseFair(_) | RwLockCall::Bump(_))
-    }
 }
 
 impl Kind {
@@ -49,9 +40,7 @@ impl Kind {
     {
         match (self, call) {
             (Kind::Mutex | Kind::Fair, Call::Mutex { .. }) => true,
-            (Kind::RwLock { .. } | Kind::Recursive { .. }, Call::RwLock { call, .. }) => {
-                call.is_built()
-            }
+            (Kind::RwLock { .. } | Kind::Recursive { .. }, Call::RwLock { .. }) => true,
             _ => false,
         }
     }

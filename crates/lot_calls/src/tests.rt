@@ -48,6 +48,8 @@ fn both_reader_writer_locks_have_their_calls(rt: HostRuntime) {
         RwLockCall::Release(Access::Upgradable),
         RwLockCall::Downgrade(Downgrade::ToShared),
         RwLockCall::Upgrade(Patience::Timed),
+        RwLockCall::ReleaseFair(Access::Shared),
+        RwLockCall::Bump(Access::Exclusive),
     ] {
         let call = Call::RwLock {
             lock: 3,
@@ -58,9 +60,4 @@ fn both_reader_writer_locks_have_their_calls(rt: HostRuntime) {
         assert!(rt; Kind::Recursive { limit: 1 }.has_call(call));
         assert!(rt; !Kind::Mutex.has_call(call) && !Kind::Condvar.has_call(call));
     }
-    let fair = Call::RwLock {
-        lock: 3,
-        call: RwLockCall::ReleaseFair(Access::Shared),
-    };
-    assert!(rt; !Kind::RwLock { limit: 1 }.has_call(fair));
 }

@@ -44,19 +44,19 @@ use Rattle.lot_rwlock_fair.proofs.HandOversGive.{hand_overs_give}
 -- ---------------------------------------------------------------- calls
 
 -- no other call gives its right up fairly
-plain_keeps : (l : ℕ) (q : RwLockPurpose) (released : Bool) (x : Want) → IsToGive (purpose_by q l) released x → ⊥
+pub plain_keeps : (l : ℕ) (q : RwLockPurpose) (released : Bool) (x : Want) → IsToGive (purpose_by q l) released x → ⊥
 plain_keeps l (purpose.Enter y how) released x h = h
 plain_keeps l (purpose.Release y) released x h = let e : false ≡ true = h.1 in cc
 plain_keeps l (purpose.Downgrade d) released x h = h
 plain_keeps l (purpose.Upgrade how) released x h = h
 
-bump_keeps : (a : Admission) (l : ℕ) (q : RwLockPurpose) (again : Bool) (to : RwLockAt) (x : Want) → IsOfBump q again → x ≢ Shared
+pub bump_keeps : (a : Admission) (l : ℕ) (q : RwLockPurpose) (again : Bool) (to : RwLockAt) (x : Want) → IsOfBump q again → x ≢ Shared
     → IsToGive ((call_profile a (Bump (record { purpose = q; retries = again; at = to }))).purpose l) (call_profile a (Bump (record { purpose = q; retries = again; at = to }))).released x → ⊥
 bump_keeps a l (purpose.Enter y Patient) again to x bump more h = let e : true ≡ false = h.1 in cc
 bump_keeps a l (purpose.Release access.Shared) again to x bump more h = more (sym h.0)
 bump_keeps a l q again to x bump more h = bump
 
-handed_keeps : (a : Admission) (l : ℕ) (y : Access) (how : Patience) (b : Bool) (to : HandedAt) (x : Want) → IsToGive ((call_profile a (Handed y how b to)).purpose l) (call_profile a (Handed y how b to)).released x → ⊥
+pub handed_keeps : (a : Admission) (l : ℕ) (y : Access) (how : Patience) (b : Bool) (to : HandedAt) (x : Want) → IsToGive ((call_profile a (Handed y how b to)).purpose l) (call_profile a (Handed y how b to)).released x → ⊥
 handed_keeps a l y how true to x h = let e : true ≡ false = h.1 in cc
 handed_keeps a l y how false to x h = h
 

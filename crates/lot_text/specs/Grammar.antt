@@ -7,7 +7,7 @@ use Rattle.lot_calls.specs.declared.kinds.Kind as kind
 use Rattle.lot_calls.specs.declared.calls.MutexCall.{MutexCall}
 use Rattle.lot_calls.specs.declared.calls.MutexCall as mutex
 use Rattle.lot_calls.specs.declared.calls.RwLockCall.{RwLockCall}
-use Rattle.lot_calls.specs.declared.calls.RwLockCall.TheVariants.{Enter, Release, Downgrade, Upgrade}
+use Rattle.lot_calls.specs.declared.calls.RwLockCall.TheVariants.{Enter, Release, ReleaseFair, Downgrade, Upgrade, Bump}
 use Rattle.lot_calls.specs.declared.calls.Access.TheVariants.{Shared, Upgradable, Exclusive}
 use Rattle.lot_calls.specs.declared.calls.Downgrade.TheVariants.{ToShared, ToUpgradable, UpgradableToShared}
 use Rattle.lot_calls.specs.declared.calls.Patience.TheVariants.{Patient, Timed, Try}
@@ -75,6 +75,17 @@ entering_call_of word =
     else (if bytes_eq word (codes "try_write") then Some (Enter Exclusive Try)
     else None))))))))
 
+-- one that gives its right up fairly, for good or until it has it again
+abbrev pub fair_call_of : List ℕ → Option RwLockCall
+fair_call_of word =
+    if bytes_eq word (codes "unlock_shared_fair") then Some (ReleaseFair Shared)
+    else (if bytes_eq word (codes "unlock_upgradable_fair") then Some (ReleaseFair Upgradable)
+    else (if bytes_eq word (codes "unlock_exclusive_fair") then Some (ReleaseFair Exclusive)
+    else (if bytes_eq word (codes "bump_shared") then Some (Bump Shared)
+    else (if bytes_eq word (codes "bump_upgradable") then Some (Bump Upgradable)
+    else (if bytes_eq word (codes "bump_exclusive") then Some (Bump Exclusive)
+    else None)))))
+
 -- and one that gives its right up, or turns it into another
 abbrev pub other_call_of : List ℕ → Option RwLockCall
 other_call_of word =
@@ -87,7 +98,7 @@ other_call_of word =
     else (if bytes_eq word (codes "upgrade") then Some (Upgrade Patient)
     else (if bytes_eq word (codes "upgrade_timed") then Some (Upgrade Timed)
     else (if bytes_eq word (codes "try_upgrade") then Some (Upgrade Try)
-    else None))))))))
+    else fair_call_of word))))))))
 
 -- the first of them that is there
 abbrev pub first_call : Option MutexCall → Option RwLockCall → Option RwLockCall → Option NamedCall

@@ -1,7 +1,7 @@
 //! What a line means.
 ghost use Rattle.std.specs.Prelude.{ℕ, List, Some, decimal, ◌^◌, ◌≡◌, ◌≢◌, ◌<◌, ◌≤◌, [], ◌∷◌, length, take, slice_index, All, MatchOption};
 ghost use Rattle.lot_text.specs.Names.{name_of};
-ghost use Rattle.lot_text.specs.Grammar.{words_of, number_of, digits_after, kind_of, limited_kind_of, mutex_call_of, entering_call_of, other_call_of, call_of, turn_of, calling_turn_of, lock_command, turn_command, calling_command_of, command_of, meaning};
+ghost use Rattle.lot_text.specs.Grammar.{words_of, number_of, digits_after, kind_of, limited_kind_of, mutex_call_of, entering_call_of, fair_call_of, other_call_of, call_of, turn_of, calling_turn_of, lock_command, turn_command, calling_command_of, command_of, meaning};
 
 use crate::names::Name;
 use lot_calls::kinds::MOST_READERS;
@@ -298,6 +298,27 @@ fn other_call(word: &[u8]) -> Option<RwLockCall>
         Some(RwLockCall::Upgrade(Patience::Timed))
     } else if word == b"try_upgrade".as_slice() {
         Some(RwLockCall::Upgrade(Patience::Try))
+    } else {
+        fair_call(word)
+    }
+}
+
+/// The call that a word names, which gives a right to a reader-writer lock up fairly.
+fn fair_call(word: &[u8]) -> Option<RwLockCall>
+    ensures { result ≡ fair_call_of word.now }
+{
+    if word == b"unlock_shared_fair".as_slice() {
+        Some(RwLockCall::ReleaseFair(Access::Shared))
+    } else if word == b"unlock_upgradable_fair".as_slice() {
+        Some(RwLockCall::ReleaseFair(Access::Upgradable))
+    } else if word == b"unlock_exclusive_fair".as_slice() {
+        Some(RwLockCall::ReleaseFair(Access::Exclusive))
+    } else if word == b"bump_shared".as_slice() {
+        Some(RwLockCall::Bump(Access::Shared))
+    } else if word == b"bump_upgradable".as_slice() {
+        Some(RwLockCall::Bump(Access::Upgradable))
+    } else if word == b"bump_exclusive".as_slice() {
+        Some(RwLockCall::Bump(Access::Exclusive))
     } else {
         None
     }

@@ -102,7 +102,7 @@ const MALFORMED: [&str; 65] = [
     "0 begin m",
     "0 begin lock",
     "0 begin lock M",
-    "0 begin bump_shared m",
+    "0 begin bump_fair m",
     "0 start lock m",
     "0 do lock",
     "0 do lock m m",
@@ -138,7 +138,7 @@ const CALLS: [(&str, &str, MutexCall); 4] = [
 ];
 
 /// Calls of a reader-writer lock, by their names.
-const RWLOCK_CALLS: [(&str, RwLockCall); 18] = [
+const RWLOCK_CALLS: [(&str, RwLockCall); 24] = [
     (
         "3 begin read m",
         RwLockCall::Enter {
@@ -232,6 +232,27 @@ const RWLOCK_CALLS: [(&str, RwLockCall); 18] = [
         RwLockCall::Upgrade(Patience::Timed),
     ),
     ("3 begin try_upgrade m", RwLockCall::Upgrade(Patience::Try)),
+    (
+        "3 begin unlock_shared_fair m",
+        RwLockCall::ReleaseFair(Access::Shared),
+    ),
+    (
+        "3 begin unlock_upgradable_fair m",
+        RwLockCall::ReleaseFair(Access::Upgradable),
+    ),
+    (
+        "3 begin unlock_exclusive_fair m",
+        RwLockCall::ReleaseFair(Access::Exclusive),
+    ),
+    ("3 begin bump_shared m", RwLockCall::Bump(Access::Shared)),
+    (
+        "3 begin bump_upgradable m",
+        RwLockCall::Bump(Access::Upgradable),
+    ),
+    (
+        "3 begin bump_exclusive m",
+        RwLockCall::Bump(Access::Exclusive),
+    ),
 ];
 
 #[test]

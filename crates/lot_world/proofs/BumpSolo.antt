@@ -1,5 +1,5 @@
 -- A bump that enters again steps alone as a call that enters: each of its steps is the same, but for the call that its place is of.
-use Rattle.std.proofs.Common.{ℕ, zero, suc, Bool, true, false, Option, Some, None, if◌then◌else◌, ◌==◌, ◌&&◌, ◌≡◌, ◌≢◌, ◌+◌, ◌*◌, ◌^◌, ◌<◌, List, [], ◌∷◌, length, set, nat_lt, replicate, slice_index_or, slice_set, refl, sym, ◌∙◌, ap, subst, arith, get_or-set_same, length-set}
+use Rattle.std.proofs.Common.{ℕ, zero, suc, Bool, true, false, Option, Some, None, if◌then◌else◌, ◌==◌, ◌&&◌, ◌≡◌, ◌≢◌, ◌+◌, ◌*◌, ◌^◌, ◌<◌, List, [], ◌∷◌, length, set, get_or, nat_lt, replicate, slice_index_or, slice_set, refl, sym, ◌∙◌, ap, subst, arith, get_or-set_same, length-set}
 use Rattle.lot_base.specs.declared.keys.Keys.TheVariants.{One}
 use Rattle.lot_base.specs.declared.keys.Line.{Line}
 use Rattle.lot_base.specs.declared.keys.Line.TheVariants.{Main, Second}
@@ -34,18 +34,19 @@ use Rattle.lot_rwlock_fair.specs.declared.places.RwLockCallPlace.{RwLockCallPlac
 use Rattle.lot_rwlock_fair.specs.declared.places.RwLockCallPlace.TheVariants.{Plain, Glance, HandOver, Bump, Handed}
 use Rattle.lot_rwlock_fair.specs.declared.handed.HandedAt.TheVariants as handed
 use Rattle.lot_rwlock_fair.specs.FairCalls.{CallStands, IsOfBump}
-use Rattle.lot_rwlock_fair.specs.FairSteps.{bump_next, plain_next, unless_given}
+use Rattle.lot_rwlock_fair.specs.FairSteps.{bump_next, enters_again, gives_way, plain_next, unless_given}
+use Rattle.lot_rwlock.specs.RwLockBegins.{rwlock_first}
 use Rattle.lot_rwlock_fair.proofs.FairStands.{StaysFor, stays_for}
 use Rattle.abstract_locks.specs.Codes.{has_aside}
 use Rattle.lot_steps.specs.declared.places.Place.{Place}
 use Rattle.lot_steps.specs.declared.places.Place.TheVariants.{Idle, RwLock}
 use Rattle.lot_steps.specs.Steps.{act_of, next_act, next_place, rwlock_does, rwlock_goes, shares_after}
-use Rattle.lot_machine.specs.Machine.{Alone as Ran, State, state_after_operation, after, alone_after, can_do, can_go, go_of, go_outcome, held, is_possible, place_at, put, queues_with_last, reply_to, solo, state_after_act, state_after_go, step_outcome, word_at}
+use Rattle.lot_machine.specs.Machine.{Alone as Ran, State, state_after_operation, after, alone_after, can_do, can_go, go_of, go_outcome, held, is_possible, owners_at, place_at, put, queue_at, queues_with_last, reply_to, solo, state_after_act, state_after_go, step_outcome, word_at}
 use Rattle.lot_machine.specs.Fits.{IsShaped, SameSize}
 use Rattle.lot_machine.proofs.Shape.{after_shaped, after_size, performed_counts, put_shaped}
 use Rattle.lot_world.specs.SitesOf.{AreCounted, IsSteady, rules_in}
 use Rattle.lot_world.specs.Stations.{doing_on, station}
-use Rattle.lot_world.specs.Refinement.{taken_at}
+use Rattle.lot_world.specs.Refinement.{lock_seen, lock_state, taken_at}
 use Rattle.lot_world.specs.Solo.{Rests}
 use Rattle.lot_world.proofs.ActsKept.{goes_steady, place_goes}
 use Rattle.lot_world.proofs.Glue.{parts_at}
@@ -53,9 +54,9 @@ use Rattle.lot_world.proofs.OneStep.{steps_by}
 use Rattle.lot_world.proofs.PlainCalls.{never_given}
 use Rattle.lot_world.proofs.RwLockRows.{of}
 use Rattle.lot_world.proofs.RwLockSolo.{is_ready, rwlock_rests, word_small}
-use Rattle.lot_world.proofs.SoloActs.{Leads, leads_more}
+use Rattle.lot_world.proofs.SoloActs.{Leads, leads_more, leads_so}
 use Rattle.lot_world.proofs.LineSolo.{StepsAlone}
-use Rattle.lot_world.proofs.CallSolo.{EntersAgain, Shares, shares_on, accepts_rest, gives_rest, glance_rests, hands_over_rest, rest_of, wakes_rest}
+use Rattle.lot_world.proofs.CallSolo.{Ends, Resting, Shares, shares_on, accepts_rest, gives_rest, glance_rests, hands_over_rest, wakes_rest}
 use Rattle.lot_world.proofs.CountsKept.{counted_after}
 use Rattle.lot_world.proofs.Counting.{nothing}
 use Rattle.lot_world.proofs.CountsPut.{put_counted}
@@ -85,7 +86,7 @@ module _ (w : State) (t l : ℕ) (a : Admission) (p : RwLockPlace) where
   plainly = RwLock l a (Plain p)
 
   -- its place in a call that only enters
-  abbrev as_plain : State
+  abbrev pub as_plain : State
   as_plain = put w t plainly
 
   parked : (b : Bool) (queues : List (List Waiter)) → (if b then record as_plain { queues = queues } else as_plain) ≡ put (if b then record w { queues = queues } else w) t plainly
@@ -242,6 +243,32 @@ module _ (l : ℕ) (a : Admission) (x : Access) (retries : Bool) where
     told_may at.GiveWay on h = absurd on
     told_may (at.Wake m to) on h = absurd on
 
+-- ---------------------------------------------------------------- what the locks see of a place
+
+-- places by which a thread is taken alike
+abbrev TakenAlike : Place → Place → Type 0
+TakenAlike p q = (k : ℕ) → taken_at p k ≡ taken_at q k
+
+taken_set : (ps : List Place) (t : ℕ) (p q : Place) → TakenAlike p q → (u k : ℕ) → taken_at (get_or (set ps t p) u Idle) k ≡ taken_at (get_or (set ps t q) u Idle) k
+taken_set [] t p q alike u k = refl
+taken_set (y ∷ ps) zero p q alike zero k = alike k
+taken_set (y ∷ ps) zero p q alike (suc u) k = refl
+taken_set (y ∷ ps) (suc t) p q alike zero k = refl
+taken_set (y ∷ ps) (suc t) p q alike (suc u) k = taken_set ps t p q alike u k
+
+set_own : (ps : List Place) (t : ℕ) → set ps t (get_or ps t Idle) ≡ ps
+set_own [] t = refl
+set_own (y ∷ ps) zero = refl
+set_own (y ∷ ps) (suc t) = ap (λ qs. y ∷ qs) (set_own ps t)
+
+locks_put : (w : State) (t : ℕ) (p q : Place) → TakenAlike p q → (k : ℕ) → lock_state (put w t p) k ≡ lock_state (put w t q) k
+locks_put w t p q alike k =
+    let size : length (set w.places t p) ≡ length (set w.places t q) = length-set w.places t p ∙ sym (length-set w.places t q) in
+    λ i. lock_seen (slice_index_or w.shares k (replicate (size i) 0)) (owners_at w k) (queue_at w (2 * k)) (queue_at w (2 * k + 1)) (λ u. taken_set w.places t p q alike u k i)
+
+locks_kept : (w : State) (t l : ℕ) (c d : RwLockCallPlace) (a : Admission) → TakenAlike (RwLock l a c) (RwLock l a d) → place_at w t ≡ RwLock l a d → (k : ℕ) → lock_state (put w t (RwLock l a c)) k ≡ lock_state w k
+locks_kept w t l c d a alike is k = locks_put w t (RwLock l a c) (RwLock l a d) alike k ∙ ap (λ q. lock_state (put w t q) k) (sym is) ∙ ap (λ ps. lock_state (record w { places = ps }) k) (set_own w.places t)
+
 -- ---------------------------------------------------------------- solo runs
 
 module _ (t l : ℕ) (a : Admission) (x : Access) where
@@ -255,13 +282,18 @@ module _ (t l : ℕ) (a : Admission) (x : Access) where
     pub place : place_at w t ≡ RwLock l a (Bump (of (purpose.Enter x Patient) retries to))
     pub stands : MayStand a (of (purpose.Enter x Patient) retries to)
 
+  -- two runs tell the same, and leave the locks the same
+  abbrev pub SameEnd : Ran → Ran → Type 0
+  SameEnd r r2 = (r.outcome ≡ r2.outcome) × ((k : ℕ) → lock_state r.state k ≡ lock_state r2.state k)
+
   -- what one more step comes to
-  outcomes_same : (o : Outcome) (w v w2 v2 : State) (last : Outcome) (more more2 : Ran) → (o ≡ outcome.Step → more.outcome ≡ more2.outcome) → (alone_after o w v last more).outcome ≡ (alone_after o w2 v2 last more2).outcome
-  outcomes_same outcome.NotNow w v w2 v2 last more more2 h = refl
-  outcomes_same outcome.Step w v w2 v2 last more more2 h = h refl
-  outcomes_same outcome.Sleep w v w2 v2 last more more2 h = refl
-  outcomes_same (outcome.Closure state) w v w2 v2 last more more2 h = refl
-  outcomes_same (outcome.End answer) w v w2 v2 last more more2 h = refl
+  ends_same : (o : Outcome) (w v w2 v2 : State) (last : Outcome) (more more2 : Ran) → ((k : ℕ) → lock_state w k ≡ lock_state w2 k) → ((k : ℕ) → lock_state v k ≡ lock_state v2 k) → (o ≡ outcome.Step → SameEnd more more2)
+      → SameEnd (alone_after o w v last more) (alone_after o w2 v2 last more2)
+  ends_same outcome.NotNow w v w2 v2 last more more2 before behind h = (refl, before)
+  ends_same outcome.Step w v w2 v2 last more more2 before behind h = h refl
+  ends_same outcome.Sleep w v w2 v2 last more more2 before behind h = (refl, behind)
+  ends_same (outcome.Closure state) w v w2 v2 last more more2 before behind h = (refl, behind)
+  ends_same (outcome.End answer) w v w2 v2 last more more2 before behind h = (refl, behind)
 
   module _ (w : State) (retries : Bool) (to : RwLockAt) (g : Again w retries to) where
     abbrev p : RwLockPlace
@@ -328,6 +360,21 @@ module _ (t l : ℕ) (a : Admission) (x : Access) where
         ∙ ap (λ (o : Option RwLockCallPlace). put (put acted t (RwLock l a (Plain p))) t (rwlock_goes l a (unless_given o (plain_next n)))) (never_given w t false p y)
         ∙ ap (λ ps. record acted { places = ps }) (set_set acted.places t (RwLock l a (Plain p)) (rwlock_goes l a (plain_next n)))
 
+    -- the locks don't tell the one call from the other
+    locks_here : (k : ℕ) → lock_state plain_w k ≡ lock_state w k
+    locks_here = locks_kept w t l (Plain p) (Bump p) a (λ k. refl) g.place
+
+    locks_then : (m : Next RwLockPlace) (k : ℕ) → lock_state (put acted t (rwlock_goes l a (plain_next m))) k ≡ lock_state (put acted t (rwlock_goes l a (bump_next (purpose.Enter x Patient) m))) k
+    locks_then (At q) k = locks_put acted t (RwLock l a (Plain q)) (RwLock l a (Bump q)) (λ j. refl) k
+    locks_then (End answer) k = refl
+
+    locks_behind : (k : ℕ) → lock_state (after plain_w (go_of t)) k ≡ lock_state (after w (go_of t)) k
+    locks_behind k = either (is_possible w (go_of t)) refl
+      where
+        either : (b : Bool) → is_possible w (go_of t) ≡ b → lock_state (after plain_w (go_of t)) k ≡ lock_state (after w (go_of t)) k
+        either true able = ap (λ (s : State). lock_state s k) (went_plain able) ∙ locks_then n k ∙ sym (ap (λ (s : State). lock_state s k) (went able))
+        either false able = ap (λ (b : Bool). lock_state (if b then state_after_go plain_w t else plain_w) k) (possible ∙ able) ∙ locks_here k ∙ sym (ap (λ (b : Bool). lock_state (if b then state_after_go w t else w) k) able)
+
     -- where it goes on
     module _ (able : is_possible w (go_of t) ≡ true) (q : RwLockPlace) (is : n ≡ At q) where
       stays : q.purpose ≡ purpose.Enter x Patient
@@ -367,16 +414,17 @@ module _ (t l : ℕ) (a : Admission) (x : Access) where
         by_possible false able step = absurd cc
 
   -- its runs come to the same
-  same_run : (k : ℕ) (w : State) (retries : Bool) (to : RwLockAt) (last : Outcome) → Again w retries to → (solo k (as_plain w t l a (of (purpose.Enter x Patient) retries to)) t last).outcome ≡ (solo k w t last).outcome
+  same_run : (k : ℕ) (w : State) (retries : Bool) (to : RwLockAt) (last : Outcome) → Again w retries to → SameEnd (solo k (as_plain w t l a (of (purpose.Enter x Patient) retries to)) t last) (solo k w t last)
   unfolding solo
-  same_run zero w retries to last g = refl
-  same_run (suc k) w retries to last g =
-      ap (λ o. (alone_after o (plain_w w retries to g) (after (plain_w w retries to g) (go_of t)) last (solo k (after (plain_w w retries to g) (go_of t)) t outcome.Step)).outcome) (outs w retries to g)
-      ∙ outcomes_same (step_outcome w (go_of t)) (plain_w w retries to g) (after (plain_w w retries to g) (go_of t)) w (after w (go_of t)) last
-      (solo k (after (plain_w w retries to g) (go_of t)) t outcome.Step) (solo k (after w (go_of t)) t outcome.Step)
+  same_run zero w retries to last g = (refl, locks_here w retries to g)
+  same_run (suc k) w retries to last g = subst
+      (λ o. SameEnd (alone_after o (plain_w w retries to g) (after (plain_w w retries to g) (go_of t)) last (solo k (after (plain_w w retries to g) (go_of t)) t outcome.Step)) (alone_after (step_outcome w (go_of t)) w (after w (go_of t)) last (solo k (after w (go_of t)) t outcome.Step)))
+      (sym (outs w retries to g))
+      (ends_same (step_outcome w (go_of t)) (plain_w w retries to g) (after (plain_w w retries to g) (go_of t)) w (after w (go_of t)) last
+      (solo k (after (plain_w w retries to g) (go_of t)) t outcome.Step) (solo k (after w (go_of t)) t outcome.Step) (locks_here w retries to g) (locks_behind w retries to g)
       (λ step. let next = goes_on w retries to g step in
-      ap (λ s. (solo k s t outcome.Step).outcome) (related w retries to g next.1.0 next.0 next.1.1)
-      ∙ same_run k (after w (go_of t)) next.0.retries next.0.at outcome.Step (again_then w retries to g next.1.0 next.0 next.1.1))
+      subst (λ s. SameEnd (solo k s t outcome.Step) (solo k (after w (go_of t)) t outcome.Step)) (sym (related w retries to g next.1.0 next.0 next.1.1))
+      (same_run k (after w (go_of t)) next.0.retries next.0.at outcome.Step (again_then w retries to g next.1.0 next.0 next.1.1))))
 
 -- ---------------------------------------------------------------- it comes to rest
 
@@ -389,54 +437,77 @@ module _ (t l : ℕ) (a : Admission) where
       (ap (λ q. taken_at q l) is) refl refl refl refl (sym (ap (λ q. doing_on q l) is)))
       (sym (ap station is)))
 
-  entry_rests : (x : Access) (retries : Bool) (to : RwLockAt) (v : ℕ) (w : State) (q : Line → List Waiter) → Shares t l a w → v < 2 ^ 64 → MayStand a (of (purpose.Enter x Patient) retries to)
-      → rwlock_act l a (of (purpose.Enter x Patient) retries to) ≢ act.Sleep → StepsAlone w t l (RwLock l a (Bump (of (purpose.Enter x Patient) retries to))) v q → Leads 11 w t (λ s o. Rests o)
-  entry_rests x retries to v w q shares small may up f = λ k last enough. subst Rests (same_run t l a x k w retries to last g) (rwlock_rests t l a entry v plain_w q small (is_ready t l a entry may up) alone k last enough)
+  -- as a call that only enters it steps alone too
+  pub plain_alone : (w : State) (p : RwLockPlace) (v : ℕ) (q : Line → List Waiter) → Shares t l a w → MayStand a p → StepsAlone w t l (RwLock l a (Bump p)) v q → StepsAlone (as_plain w t l a p) t l (RwLock l a (Plain p)) v q
+  plain_alone w p v q shares may f = record {
+    shape = put_shaped w t (RwLock l a (Plain p)) f.shape f.lock;
+    steady = plain_steady w p f.steady f.thread f.place shares may;
+    counted = put_counted w t (RwLock l a (Plain p)) f.thread (sym (ap held f.place)) (λ k. nothing (l == k)) f.counted;
+    thread = rw (length-set w.places t (RwLock l a (Plain p))) f.thread;
+    lock = f.lock;
+    place = get_or-set_same w.places t (RwLock l a (Plain p)) Idle f.thread;
+    word = f.word;
+    queue = f.queue;
+    way = f.way;
+  }
+
+  pub as_entry : (x : Access) (retries : Bool) (to : RwLockAt) (v : ℕ) (w : State) (q : Line → List Waiter) → Shares t l a w → MayStand a (of (purpose.Enter x Patient) retries to) → StepsAlone w t l (RwLock l a (Bump (of (purpose.Enter x Patient) retries to))) v q
+      → (k : ℕ) (last : Outcome) → SameEnd t l a x (solo k (as_plain w t l a (of (purpose.Enter x Patient) retries to)) t last) (solo k w t last)
+  as_entry x retries to v w q shares may f k last = same_run t l a x k w retries to last (record { shape = f.shape; steady = f.steady; counted = f.counted; shares = shares; thread = f.thread; place = f.place; stands = may })
+
+  small_at : (w : State) (v : ℕ) (q : Line → List Waiter) (c : RwLockCallPlace) → Shares t l a w → StepsAlone w t l (RwLock l a c) v q → v < 2 ^ 64
+  small_at w v q c shares f = subst (λ n. n < 2 ^ 64) f.word (word_small w l f.steady shares.0)
+
+  entry_rests : (x : Access) (retries : Bool) (to : RwLockAt) (v : ℕ) (w : State) (q : Line → List Waiter) → Shares t l a w → MayStand a (of (purpose.Enter x Patient) retries to)
+      → rwlock_act l a (of (purpose.Enter x Patient) retries to) ≢ act.Sleep → StepsAlone w t l (RwLock l a (Bump (of (purpose.Enter x Patient) retries to))) v q → Leads 11 w t Resting
+  entry_rests x retries to v w q shares may up f = λ k last enough. subst Rests (as_entry x retries to v w q shares may f k last).0
+      (rwlock_rests t l a entry v (as_plain w t l a entry) q (small_at w v q (Bump entry) shares f) (is_ready t l a entry may up) (plain_alone w entry v q shares may f) k last enough)
     where
       entry : RwLockPlace
       entry = of (purpose.Enter x Patient) retries to
 
-      g : Again t l a x w retries to
-      g = record { shape = f.shape; steady = f.steady; counted = f.counted; shares = shares; thread = f.thread; place = f.place; stands = may }
+  -- where a bump enters again
+  pub first_may : (x : Access) → MayStand a (rwlock_first (purpose.Enter x Patient))
+  first_may access.Exclusive = record { place = tt; fresh = tt; decided = tt }
+  first_may access.Shared = record { place = tt; fresh = tt; decided = tt }
+  first_may access.Upgradable = record { place = tt; fresh = tt; decided = tt }
 
-      plain_w : State
-      plain_w = as_plain w t l a entry
+  -- there its runs come to the same as those of a call that only enters
+  pub as_first : (x : Access) (v : ℕ) (w : State) (q : Line → List Waiter) → Shares t l a w → StepsAlone w t l (RwLock l a (enters_again x)) v q → (k : ℕ) (last : Outcome)
+      → SameEnd t l a x (solo k (as_plain w t l a (rwlock_first (purpose.Enter x Patient))) t last) (solo k w t last)
+  as_first access.Exclusive v w q shares f k last = as_entry access.Exclusive false at.First v w q shares (first_may access.Exclusive) f k last
+  as_first access.Shared v w q shares f k last = as_entry access.Shared false at.Load v w q shares (first_may access.Shared) f k last
+  as_first access.Upgradable v w q shares f k last = as_entry access.Upgradable false at.Load v w q shares (first_may access.Upgradable) f k last
 
-      alone : StepsAlone plain_w t l (RwLock l a (Plain entry)) v q
-      alone = record {
-        shape = put_shaped w t (RwLock l a (Plain entry)) f.shape f.lock;
-        steady = plain_steady w entry f.steady f.thread f.place shares may;
-        counted = put_counted w t (RwLock l a (Plain entry)) f.thread (sym (ap held f.place)) (λ k. nothing (l == k)) f.counted;
-        thread = rw (length-set w.places t (RwLock l a (Plain entry))) f.thread;
-        lock = f.lock;
-        place = get_or-set_same w.places t (RwLock l a (Plain entry)) Idle f.thread;
-        word = f.word;
-        queue = f.queue;
-        way = f.way;
-      }
+  pub first_seen : (x : Access) (w : State) → place_at w t ≡ RwLock l a (enters_again x) → (k : ℕ) → lock_state (as_plain w t l a (rwlock_first (purpose.Enter x Patient))) k ≡ lock_state w k
+  first_seen x w is k = locks_kept w t l (Plain (rwlock_first (purpose.Enter x Patient))) (enters_again x) a (λ j. refl) is k
 
-  pub enters_again_rests : EntersAgain t l a
-  enters_again_rests access.Exclusive v w q shares small f = entry_rests access.Exclusive false at.First v w q shares small (record { place = tt; fresh = tt; decided = tt }) (λ e. cc) f
-  enters_again_rests access.Shared v w q shares small f = entry_rests access.Shared false at.Load v w q shares small (record { place = tt; fresh = tt; decided = tt }) (λ e. cc) f
-  enters_again_rests access.Upgradable v w q shares small f = entry_rests access.Upgradable false at.Load v w q shares small (record { place = tt; fresh = tt; decided = tt }) (λ e. cc) f
+  pub again_rests : (x : Access) (v : ℕ) (w : State) (q : Line → List Waiter) → Shares t l a w → StepsAlone w t l (RwLock l a (enters_again x)) v q → Leads 11 w t Resting
+  again_rests access.Exclusive v w q shares f = entry_rests access.Exclusive false at.First v w q shares (first_may access.Exclusive) (λ e. cc) f
+  again_rests access.Shared v w q shares f = entry_rests access.Shared false at.Load v w q shares (first_may access.Shared) (λ e. cc) f
+  again_rests access.Upgradable v w q shares f = entry_rests access.Upgradable false at.Load v w q shares (first_may access.Upgradable) (λ e. cc) f
+
+  ends_rest : (b : Bool) (x : Access) (k : ℕ) (w : State) → Leads k w t (Ends t l a b x w) → Leads k w t Resting
+  ends_rest true x k w h = leads_so k w t (Ends t l a true x w) Resting (λ v o e. let again = e.0 refl in subst Rests again.outcome_is (again_rests x again.word _ again.queues again.shares again.alone again.room again.last again.enough)) h
+  ends_rest false x k w h = leads_so k w t (Ends t l a false x w) Resting (λ v o e. subst Rests (sym (e.1 refl)) tt) h
 
   bump_rests : (q : RwLockPurpose) (retries : Bool) (to : RwLockAt) (v : ℕ) (w : State) (line : Line → List Waiter) → Shares t l a w → v < 2 ^ 64 → MayStand a (of q retries to) → IsOfBump q retries
-      → rwlock_act l a (of q retries to) ≢ act.Sleep → StepsAlone w t l (RwLock l a (Bump (of q retries to))) v line → Leads 18 w t (λ s o. Rests o)
-  bump_rests (purpose.Enter x Patient) retries to v w line shares small may bump up f = leads_more 11 18 w t (λ s o. Rests o) (omega arith) (entry_rests x retries to v w line shares small may up f)
+      → rwlock_act l a (of q retries to) ≢ act.Sleep → StepsAlone w t l (RwLock l a (Bump (of q retries to))) v line → Leads 18 w t Resting
+  bump_rests (purpose.Enter x Patient) retries to v w line shares small may bump up f = leads_more 11 18 w t Resting (omega arith) (entry_rests x retries to v w line shares may up f)
   bump_rests (purpose.Release access.Shared) true to v w line shares small may bump up f = absurd (let e : true ≡ false = bump in cc)
   bump_rests (purpose.Release access.Shared) false to v w line shares small may bump up f = by_place to may.place f
     where
-      by_place : (to : RwLockAt) → StandsAt (purpose.Release access.Shared) false to → StepsAlone w t l (RwLock l a (Bump (of (purpose.Release access.Shared) false to))) v line → Leads 18 w t (λ s o. Rests o)
-      by_place at.GiveWay fits f = leads_more 16 18 w t (λ s o. Rests o) (omega arith) (gives_rest t l a enters_again_rests v w line shares f)
-      by_place (at.Wake Second to) fits f = leads_more 15 18 w t (λ s o. Rests o) (omega arith) (wakes_rest t l a enters_again_rests to v w line shares f)
+      by_place : (to : RwLockAt) → StandsAt (purpose.Release access.Shared) false to → StepsAlone w t l (RwLock l a (Bump (of (purpose.Release access.Shared) false to))) v line → Leads 18 w t Resting
+      by_place at.GiveWay fits f = leads_more 16 18 w t Resting (omega arith) (ends_rest true access.Shared 16 w (gives_rest t l a v w line shares f))
+      by_place (at.Wake Second to) fits f = leads_more 15 18 w t Resting (omega arith) (ends_rest true access.Shared 15 w (wakes_rest t l a to v w line shares f))
       by_place to fits f = absurd fits
   bump_rests q retries to v w line shares small may bump up f = absurd bump
 
   -- from each place of a call where the thread is awake
-  pub call_rests : (c : RwLockCallPlace) (v : ℕ) (w : State) (q : Line → List Waiter) → Shares t l a w → v < 2 ^ 64 → CallStands a c → act_of (RwLock l a c) ≢ act.Sleep → StepsAlone w t l (RwLock l a c) v q → Leads 18 w t (λ s o. Rests o)
-  call_rests (Plain p) v w q shares small stands up f = leads_more 11 18 w t (λ s o. Rests o) (omega arith) (rwlock_rests t l a p v w q small (is_ready t l a p stands up) f)
+  pub call_rests : (c : RwLockCallPlace) (v : ℕ) (w : State) (q : Line → List Waiter) → Shares t l a w → v < 2 ^ 64 → CallStands a c → act_of (RwLock l a c) ≢ act.Sleep → StepsAlone w t l (RwLock l a c) v q → Leads 18 w t Resting
+  call_rests (Plain p) v w q shares small stands up f = leads_more 11 18 w t Resting (omega arith) (rwlock_rests t l a p v w q small (is_ready t l a p stands up) f)
   call_rests (Bump p) v w q shares small stands up f = bump_rests p.purpose p.retries p.at v w q shares small stands.0 stands.1 up f
-  call_rests (Glance x) v w q shares small stands up f = glance_rests t l a enters_again_rests x v w q shares f
-  call_rests (HandOver x b to) v w q shares small stands up f = leads_more 17 18 w t (λ s o. Rests o) (omega arith) (rest_of t l a enters_again_rests b 17 w (hands_over_rest t l a enters_again_rests x b to stands v w q shares f))
+  call_rests (Glance x) v w q shares small stands up f = ends_rest (gives_way a x v) x 18 w (glance_rests t l a x v w q shares f)
+  call_rests (HandOver x b to) v w q shares small stands up f = leads_more 17 18 w t Resting (omega arith) (ends_rest b x 17 w (hands_over_rest t l a x b to stands v w q shares f))
   call_rests (Handed x how b (handed.Asleep by alone)) v w q shares small stands up f = absurd (up refl)
-  call_rests (Handed x how b handed.Accept) v w q shares small stands up f = leads_more 1 18 w t (λ s o. Rests o) (omega arith) (accepts_rest t l a enters_again_rests x how b v w q f)
+  call_rests (Handed x how b handed.Accept) v w q shares small stands up f = leads_more 1 18 w t Resting (omega arith) (accepts_rest t l a x how b v w q f)

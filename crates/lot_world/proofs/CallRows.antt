@@ -41,10 +41,10 @@ use Rattle.lot_rwlock_fair.specs.FairDeeds.{claim_at}
 use Rattle.lot_rwlock_fair.specs.FairProfiles.{call_profile, carries_taken, release_purpose, entry_purpose}
 use Rattle.lot_rwlock_fair.specs.FairCalls.{CallStands, HandsOverAt, IsOfBump, WaitsFor}
 use Rattle.abstract_locks.specs.Locks.{Rules, Sort}
-use Rattle.abstract_locks.specs.Purposes.{Bumps, MayWait}
+use Rattle.abstract_locks.specs.Purposes.{Bumps, MayWait, lock_for}
 use Rattle.abstract_locks.specs.Sites.{Has, has_readers}
 use Rattle.lot_world.specs.Promises.{KnowsRights, WakesAside, want_of}
-use Rattle.lot_world.proofs.RowPromises.{is_acting, lock_for, IsWaiting, WasHanded, LetsIn, LetsInAt, IsDebtorIn, HasClaimed, HasDebt, RowLooksAfter, RowPromises}
+use Rattle.lot_world.proofs.RowPromises.{is_acting, IsWaiting, WasHanded, LetsIn, LetsInAt, IsDebtorIn, HasClaimed, HasDebt, RowLooksAfter, RowPromises}
 use Rattle.lot_world.proofs.RwLockRows.{knows, no_bump, of, rwlock_promises}
 
 -- two lines have two keys

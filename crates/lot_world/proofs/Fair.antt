@@ -1,12 +1,12 @@
 -- Each step of the world is fair.
-use Rattle.std.proofs.Common.{ℕ, Bool, true, false, Option, Some, None, if◌then◌else◌, ◌==◌, ◌&&◌, not, ◌≡◌, ◌≢◌, ◌+◌, ◌*◌, ◌<◌, ◌⊎◌, inl, inr, [], length, refl, sym, ◌∙◌, ap, subst, arith, get_or-set_same}
+use Rattle.std.proofs.Common.{ℕ, Bool, true, false, Option, Some, None, if◌then◌else◌, ◌==◌, ◌&&◌, not, ◌≡◌, ◌≢◌, ◌+◌, ◌*◌, ◌<◌, ◌⊎◌, inl, inr, [], length, refl, sym, ◌∙◌, ap, subst, arith, get_or-set_same, length-set}
 use Rattle.std.proofs.lemmas.Bool.{cases_eq, eqb-true, ltb-true}
 use Rattle.std.proofs.lemmas.Bool.Decides.{nat_tests}
 use Rattle.lot_base.specs.declared.keys.Keys.TheVariants.{One}
 use Rattle.lot_base.specs.declared.ops.Op.{Op}
 use Rattle.lot_base.specs.declared.ops.Op as op
 use Rattle.lot_base.specs.declared.wants.Want.{Want}
-use Rattle.lot_base.specs.declared.wants.Want.TheVariants.{Exclusive}
+use Rattle.lot_base.specs.declared.wants.Want.TheVariants.{Exclusive, Upgradable, Shared, Wait, CallOnce}
 use Rattle.lot_base.specs.Lines.{first_of}
 use Rattle.lot_calls.specs.declared.kinds.Kind as kind
 use Rattle.lot_acts.specs.declared.acts.Act as act
@@ -25,8 +25,8 @@ use Rattle.lot_mutex.specs.declared.hand_off.HandOffAt.TheVariants as hand_off
 use Rattle.lot_steps.specs.declared.places.Place.{Place}
 use Rattle.lot_steps.specs.declared.places.Place.TheVariants.{Idle, Mutex, RwLock}
 use Rattle.lot_mutex.specs.MutexSteps.{is_locked, is_parked, lock_act, hand_off_act}
-use Rattle.lot_steps.specs.Steps.{act_of, looking, late_key}
-use Rattle.lot_machine.specs.Machine.{State, unlocked, place_at, word_at, owners_at, kind_at, queue_at, state_after_operation, queues_with_last, queues_without_first, state_after_act, state_after_taking, state_after_look, state_after_go, put, state_after_late_on, state_after_turn, can_turn, is_possible, after, step_outcome}
+use Rattle.lot_steps.specs.Steps.{act_of, looking, late_key, next_place, lock_of, profile}
+use Rattle.lot_machine.specs.Machine.{State, unlocked, place_at, word_at, owners_at, kind_at, queue_at, state_after_operation, queues_with_last, queues_without_first, state_after_act, state_after_taking, state_after_look, state_after_go, put, state_after_late_on, state_after_turn, can_turn, is_possible, after, step_outcome, can_do, reply_to}
 use Rattle.lot_machine.specs.Fits.{IsShaped, PlaceFits}
 use Rattle.lot_world.specs.MutexPromises.{IsMutexWord}
 use Rattle.lot_world.specs.MutexDeeds.{mutex_station}
@@ -35,13 +35,20 @@ use Rattle.abstract_locks.specs.Sites.{Main}
 use Rattle.lot_world.proofs.MutexTable.{own_doing}
 use Rattle.lot_world.proofs.Closures.{nothing_closes}
 use Rattle.lot_machine.proofs.Shape.{both, looking_shaped}
-use Rattle.lot_world.proofs.Looking.{looking_steady, locks_same, calls_same}
+use Rattle.lot_world.proofs.Looking.{looking_steady, locks_same, looks_now, calls_same}
 use Rattle.std.specs.Prelude.{nat_lt}
-use Rattle.abstract_locks.specs.Locks.{LockState, Rules, Rights, Taken, LockCase, Enter, Pend, Settle, Leave, Convert, Park, Aside, TakeFirst, TakeAside, TakePicked, Wake, HandOff as HandsLockOff, Late, Rollback, Needs, IsTaken, HasTakenNobody, IsLockState, keep_from, first_thread}
+use Rattle.abstract_locks.specs.Locks.{LockState, Rules, Rights, Taken, LockCase, Enter, Pend, Settle, Leave, Convert, Park, Aside, TakeFirst, TakeAside, TakePicked, Wake, HandOff as HandsLockOff, Late, Rollback, Needs, IsTaken, HasTakenNobody, IsLockState, keep_from, first_thread, Owns}
 use Rattle.abstract_locks.specs.Locks as locks
 use Rattle.abstract_locks.specs.Runs.{LocksState, CallState, Event, Nothing, AtLock, AreLockStates, GoesOn, Stays, Does, MayHappen, IsStep, Turned, rules_at, locks_after}
 use Rattle.lot_world.specs.Refinement.{lock_state, locks_of, call_state, owner_at}
-use Rattle.lot_world.specs.Fair.{ReleasesFairly, IsFairRelease, OwnsOn, HandsOver, LetsGo, IsFair}
+use Rattle.lot_world.specs.Fair.{ReleasesFairly, IsFairRelease, OwnsOn, HandsOver, LetsGo, IsFair, IsToGiveAt, GivesUpFairly, ComesTo as GivesFrom}
+use Rattle.lot_rwlock_fair.specs.FairGives.{IsToGive}
+use Rattle.lot_rwlock_fair.specs.FairSteps.{call_act}
+use Rattle.lot_world.proofs.SharedFair.{goes_giving, owner_stays}
+use Rattle.lot_world.proofs.PlacePromises.{row_promises}
+use Rattle.lot_world.proofs.CountsPut.{looking_counted}
+use Rattle.lot_rwlock.specs.declared.places.Admission.{Admission}
+use Rattle.lot_rwlock_fair.specs.declared.places.RwLockCallPlace.{RwLockCallPlace}
 use Rattle.lot_world.proofs.ExclusiveOwners.{owner_after, exclusive-owners, by_code}
 use Rattle.lot_world.proofs.Glue.{IsTakenAt, is_taken, own_stance, successor_one}
 use Rattle.lot_world.proofs.AtPlaces.{coded as words_coded, in_no_hand}
@@ -90,6 +97,23 @@ others_keep r s t u is own ne Wake n = own
 others_keep r s t u is own ne (HandsLockOff right x) n = grind (arith, is.exclusive_alone t own)
 others_keep r s t u is own ne Late n = own
 others_keep r s t u is own ne Rollback n = grind (arith, is.exclusive_alone t own)
+
+upgradable_keep : (r : Rules) (s : LockState) (t u : ℕ) → IsLockState r s → s.upgradable ≡ Some t → u ≢ t → (c : LockCase) → Needs r c s u → (locks.after_case r c s u).upgradable ≡ Some t
+upgradable_keep r s t u is own ne (Enter Upgradable) n = grind arith
+upgradable_keep r s t u is own ne (Enter x) n = own
+upgradable_keep r s t u is own ne Pend n = own
+upgradable_keep r s t u is own ne Settle n = own
+upgradable_keep r s t u is own ne (Leave right) n = grind (arith, is.exclusive_alone u)
+upgradable_keep r s t u is own ne (Convert right x) n = grind (arith, is.exclusive_alone u)
+upgradable_keep r s t u is own ne (Park x) n = own
+upgradable_keep r s t u is own ne Aside n = own
+upgradable_keep r s t u is own ne (TakeFirst x) n = own
+upgradable_keep r s t u is own ne (TakeAside x) n = own
+upgradable_keep r s t u is own ne (TakePicked start) n = own
+upgradable_keep r s t u is own ne Wake n = own
+upgradable_keep r s t u is own ne (HandsLockOff right x) n = grind (arith, is.exclusive_alone u)
+upgradable_keep r s t u is own ne Late n = own
+upgradable_keep r s t u is own ne Rollback n = grind (arith, is.pending_alone)
 
 -- whoever is taken from a mutex stood first
 let_go_was : (t : ℕ) (o : Option Taken) (h : Taken) → keep_from t o ≡ Some h → o ≡ Some h
@@ -272,10 +296,80 @@ module _ (w : State) (t l : ℕ) (shape : IsShaped w) (steady : IsSteady w) (own
           rw e (turned_gives (rw e at (ltb-true s.thread (length w.places) parts.0)) h s.turn (rw e at parts.1))
       either false can = inl own
 
+-- ---------------------------------------------------------------- a fair release of a lock that is shared
+
+-- no case of another thread takes a right from its owner
+rights_keep : (r : Rules) (s : LockState) (t u : ℕ) (x : Want) → IsLockState r s → x ≢ Shared → Owns s t x → u ≢ t → (c : LockCase) → Needs r c s u → Owns (locks.after_case r c s u) t x
+rights_keep r s t u Exclusive is more own ne c n = others_keep r s t u is own ne c n
+rights_keep r s t u Upgradable is more own ne c n = upgradable_keep r s t u is own ne c n
+rights_keep r s t u Shared is more own ne c n = absurd (more refl)
+rights_keep r s t u Wait is more own ne c n = absurd own
+rights_keep r s t u CallOnce is more own ne c n = absurd own
+
+module _ (w : State) (t l : ℕ) (shape : IsShaped w) (steady : IsSteady w) (counted : AreCounted w) (x : Want) (more : x ≢ Shared) (readers : has_readers (rules_in w l).sort ≡ true) where
+  abbrev Gives : State → Type 0
+  Gives v = GivesFrom (rules_in w l) (lock_state w l) (lock_state v l) (word_at w l) t x
+
+  abbrev ToGive : Place → Type 0
+  ToGive p = IsToGiveAt (call_state p (rights w t)) l x
+
+  -- from its place
+  go_gives_shared : t < length w.places → can_do w (act_of (place_at w t)) ≡ true → ToGive (place_at w t) → Owns (lock_state w l) t x → Gives (state_after_go w t)
+  go_gives_shared there can gives own = by_place (place_at w t) refl (shape.places t) can gives
+    where
+      by_place : (p : Place) → place_at w t ≡ p → PlaceFits (length w.locks) p → can_do w (act_of p) ≡ true → ToGive p → Gives (put (state_after_act w t p (act_of p)) t (next_place p (reply_to w t (act_of p))))
+      by_place Idle is fits can gives = absurd gives
+      by_place (Mutex k at) is fits can gives = absurd (
+          let fits_k : is_mutex (kind_at w k) ≡ true = subst (FitsItsLock w) is (steady.stands.calls t) in
+          let here : k ≡ l = sym (subst (λ p. lock_for ((profile p).purpose k) ≡ k) is (row_promises w t steady k (ap lock_of is)).own) ∙ gives.0 in
+          let none : has_readers (rules_in w l).sort ≡ false = ap (λ (r : Rules). has_readers r.sort) (subst (λ j. rules_of (kind_at w j) ≡ mutex) here (mutex_rules (kind_at w k) fits_k)) in
+          let f : false ≡ true = sym none ∙ readers in cc)
+      by_place (RwLock k a c) is fits can gives =
+          let here : k ≡ l = sym (subst (λ p. lock_for ((profile p).purpose k) ≡ k) is (row_promises w t steady k (ap lock_of is)).own) ∙ gives.0 in
+          at_lock k here a c is fits can gives.1
+        where
+          at_lock : (k : ℕ) → k ≡ l → (a : Admission) (c : RwLockCallPlace) → place_at w t ≡ RwLock k a c → k < length w.locks → can_do w (call_act k a c) ≡ true → IsToGive ((call_profile a c).purpose k) (call_profile a c).released x
+              → Gives (put (state_after_act w t (RwLock k a c) (call_act k a c)) t (next_place (RwLock k a c) (reply_to w t (call_act k a c))))
+          at_lock k here a c is fits can gives = subst (λ j. GivesFrom (rules_in w j) (lock_state w j) (lock_state (put (state_after_act w t (RwLock k a c) (call_act k a c)) t (next_place (RwLock k a c) (reply_to w t (call_act k a c)))) j) (word_at w j) t x) here
+              (goes_giving w t k a c shape steady counted there fits is x more gives (subst (λ j. Owns (lock_state w j) t x) (sym here) own) can)
+
 -- ---------------------------------------------------------------- steps
 
 locked_by : (v : ℕ) (o : Option ℕ) (u : ℕ) → IsMutexWord v o → o ≡ Some u → is_locked v ≡ true
 locked_by v o u c e = by_code (λ v o. o ≡ Some u → is_locked v ≡ true) (λ g. absurd cc) (λ g. absurd cc) (λ x g. refl) (λ x g. refl) v o c e
+
+-- whatever turn it takes
+module _ (w : State) (t l : ℕ) (shape : IsShaped w) (steady : IsSteady w) (counted : AreCounted w) (x : Want) (h : GivesUpFairly w t l x) where
+  abbrev Comes : State → Type 0
+  Comes v = GivesFrom (rules_in w l) (lock_state w l) (lock_state v l) (word_at w l) t x
+
+  spin_gives_shared : t < length w.places → (o : Option Place) → looking (place_at w t) ≡ o → Comes (state_after_look w t o)
+  spin_gives_shared there None is = inl h.2
+  spin_gives_shared there (Some q) is =
+      subst (λ s. GivesFrom (rules_in w l) s (lock_state (state_after_go (put w t q) t) l) (word_at w l) t x) (locks_same w t there q is l)
+      (go_gives_shared (put w t q) t l (looking_shaped w t q shape is) (looking_steady w t there q is steady) (looking_counted w t there q is counted) x h.1 h.3
+      (rw (length-set w.places t q) there) (looks_now w t there q is)
+      (subst (λ (c : CallState). IsToGiveAt c l x) (sym (calls_same w t there q is t)) h.0) (subst (λ s. Owns s t x) (sym (locks_same w t there q is l)) h.2))
+
+  late_gives_shared : (o : Option ℕ) → Comes (state_after_late_on w t o)
+  late_gives_shared None = inl h.2
+  late_gives_shared (Some key) = inl (owner_stays w (state_after_late_on w t (Some key)) l t x refl h.1 h.2)
+
+  turned_gives_shared : t < length w.places → (y : Turn) → can_turn w t y ≡ true → Comes (state_after_turn w t y)
+  turned_gives_shared there (turn.TheVariants.Begin c) can = inl (owner_stays w (state_after_turn w t (turn.TheVariants.Begin c)) l t x refl h.1 h.2)
+  turned_gives_shared there turn.TheVariants.Go can = go_gives_shared w t l shape steady counted x h.1 h.3 there can h.0 h.2
+  turned_gives_shared there turn.TheVariants.Spin can = spin_gives_shared there (looking (place_at w t)) refl
+  turned_gives_shared there turn.TheVariants.Late can = late_gives_shared (late_key (place_at w t))
+  turned_gives_shared there turn.TheVariants.Ok can = absurd (nothing_closes w t true can)
+  turned_gives_shared there turn.TheVariants.Err can = absurd (nothing_closes w t false can)
+
+  after_gives_shared : (s : Step) → s.thread ≡ t → Comes (after w s)
+  after_gives_shared s e = either (is_possible w s) refl
+    where
+      either : (b : Bool) → is_possible w s ≡ b → Comes (if b then state_after_turn w s.thread s.turn else w)
+      either true can = let parts = both (nat_lt s.thread (length w.places)) (can_turn w s.thread s.turn) can in
+          subst (λ u. Comes (state_after_turn w u s.turn)) (sym e) (turned_gives_shared (rw e at (ltb-true s.thread (length w.places) parts.0)) s.turn (subst (λ u. can_turn w u s.turn ≡ true) e parts.1))
+      either false can = inl h.2
 
 pub is_fair : (w : State) (s : Step) → IsShaped w → IsSteady w → AreCounted w → IsFair w (after w s)
 is_fair w s shape steady counted = record {
@@ -287,6 +381,11 @@ is_fair w s shape steady counted = record {
   takes = λ t l u h. turned_so (λ x y. IsTaken y t u Exclusive → IsTaken x t u Exclusive ⊎ (first_thread x.queue ≡ Some u)) (locks_of w) (locks_of (after w s)) s.thread l (λ e. inl e)
       (λ c n. let rules : rules_at (locks_of w) l ≡ mutex = mutex_rules (kind_at w l) h.2 in
       rw rules (taken_was (lock_state w l) t u s.thread Exclusive (subst (λ r. IsLockState r (lock_state w l)) rules (all l)) c (subst (λ r. Needs r c (lock_state w l) s.thread) rules n))) s.turn (step_outcome w s) step.1;
+  shared = λ t l x h. elim (cases_eq s.thread t) [
+    | inl e ↦ after_gives_shared w t l shape steady counted x h s e
+    | inr ne ↦ inl (turned_so (λ y z. Owns y t x → Owns z t x) (locks_of w) (locks_of (after w s)) s.thread l (λ e. e)
+        (λ c n own. rights_keep (rules_at (locks_of w) l) (lock_state w l) t s.thread x (all l) h.1 own ne c n) s.turn (step_outcome w s) step.1 h.2)
+  ];
 }
   where
     all : AreLockStates (locks_of w)

@@ -1,14 +1,12 @@
 -- Whom a thread has in hand, by what they want: how many want to share, and which one wants more. What a place may say of it stays so as long as nobody
 -- comes into the hand or leaves it, and is what the lock hands over.
-use Rattle.std.proofs.Common.{ℕ, zero, suc, Bool, true, false, Option, Some, None, if◌then◌else◌, ◌==◌, ◌&&◌, ◌≡◌, ◌≢◌, ◌+◌, List, [], ◌∷◌, length, get_or, cond, refl, sym, ◌∙◌, ap, subst, arith}
-use Rattle.std.specs.Prelude.{◌↔◌, sum}
+use Rattle.std.proofs.Common.{ℕ, zero, suc, Bool, true, false, Option, Some, None, if◌then◌else◌, ◌==◌, ◌&&◌, ◌≡◌, ◌+◌, List, [], ◌∷◌, length, get_or, cond, refl, sym, ◌∙◌, ap, subst, arith}
+use Rattle.std.specs.Prelude.{sum}
 use Rattle.std.specs.List.{filter}
 use Rattle.std.proofs.lemmas.Bool.{eqb-true}
 use Rattle.std.proofs.lemmas.Bool.Decides.{nat_tests}
 use Rattle.lot_base.specs.declared.wants.Want.{Want}
-use Rattle.lot_base.specs.declared.wants.Want.TheVariants.{Shared}
-use Rattle.lot_acts.specs.Moves.{heir_of}
-use Rattle.abstract_locks.specs.Locks.{LockState, Taken, IsSuccessor, readers, shares_handed, sharing_from, sharing_handed, wants_shared}
+use Rattle.abstract_locks.specs.Locks.{Taken, shares_handed, sharing_from, wants_shared}
 use Rattle.abstract_locks.proofs.HandLimits.{sum_cons}
 use Rattle.lot_steps.specs.declared.places.Place.{Place}
 use Rattle.lot_steps.specs.declared.places.Place.TheVariants.{Idle}
@@ -24,12 +22,6 @@ wanted_of t (Some h) = if h.by == t then Some h.want else None
 abbrev pub sharers_from : ℕ → (ℕ → Option Taken) → ℕ → ℕ → ℕ
 sharers_from t taken i zero = 0
 sharers_from t taken i (suc n) = shares_handed t (taken i) + sharers_from t taken (i + 1) n
-
--- those whom t has in hand, of n threads: so many want to share, and the one who wants more wants this
-pub record HasInHand (n t : ℕ) (taken : ℕ → Option Taken) (number : ℕ) (more : Option Want) : Type 0 where
-  pub number_is : sharers_from t taken 0 n ≡ number
-  pub whom : Option ℕ
-  pub heir : (u : ℕ) (x : Want) → (heir_of whom more ≡ Some (record { thread = u; want = x })) ↔ ((taken u ≡ Some (record { by = t; want = x })) × (x ≢ Shared))
 
 -- ---------------------------------------------------------------- the same hand
 
@@ -60,17 +52,6 @@ pub sharers_same : (t : ℕ) (p q : ℕ → Option Taken) → ((u : ℕ) → wan
 sharers_same t p q e i zero = refl
 sharers_same t p q e i (suc n) = λ j. (shares_by t (q i) ∙ ap share_of (e i) ∙ sym (shares_by t (p i))) j + sharers_same t p q e (i + 1) n j
 
--- nobody has come into the hand of t, or left it
-pub hand_stays : (n t : ℕ) (p q : ℕ → Option Taken) (number : ℕ) (more : Option Want) → ((u : ℕ) → wanted_of t (q u) ≡ wanted_of t (p u)) → HasInHand n t p number more → HasInHand n t q number more
-hand_stays n t p q number more e h = record {
-  number_is = sharers_same t p q e 0 n ∙ h.number_is;
-  whom = h.whom;
-  heir = λ u x. (
-    λ f. let k = (h.heir u x).0 f in (is_wanted t (q u) x (e u ∙ wanted_is t (p u) x k.0), k.1),
-    λ k. (h.heir u x).1 (is_wanted t (p u) x (sym (e u) ∙ wanted_is t (q u) x k.0), k.1),
-  );
-}
-
 -- ---------------------------------------------------------------- what the lock hands over
 
 pub shared_by : (t : ℕ) (taken : ℕ → Option Taken) (i : ℕ) (ns : List ℕ) → sum (sharing_from t taken i ns) ≡ sum ns + sharers_from t taken i (length ns)
@@ -80,14 +61,6 @@ shared_by t taken i (n ∷ ns) =
     let b = sum_cons (n + shares_handed t (taken i)) (sharing_from t taken (i + 1) ns) in
     let c = shared_by t taken (i + 1) ns in
     omega arith
-
--- so many share more
-pub shares_more : (s : LockState) (t number : ℕ) (more : Option Want) → HasInHand (length s.shared) t s.taken number more → readers (sharing_handed t s) ≡ readers s + number
-shares_more s t number more h = shared_by t s.taken 0 s.shared ∙ ap (λ k. sum s.shared + k) h.number_is
-
--- and that one succeeds
-pub succeeds_so : (s : LockState) (t n number : ℕ) (more : Option Want) (h : HasInHand n t s.taken number more) → IsSuccessor s t (heir_of h.whom more)
-succeeds_so s t n number more h = h.heir
 
 -- ---------------------------------------------------------------- what the machine counts
 

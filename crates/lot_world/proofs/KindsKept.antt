@@ -23,7 +23,7 @@ use Rattle.lot_calls.specs.declared.calls.Step.{Step}
 use Rattle.lot_steps.specs.declared.places.Place.{Place}
 use Rattle.lot_acts.specs.declared.acts.Whom as whom
 use Rattle.lot_acts.specs.Acts.{takes_effect, holds}
-use Rattle.lot_calls.specs.Kinds.{has_call, is_built}
+use Rattle.lot_calls.specs.Kinds.{has_call}
 use Rattle.lot_steps.specs.Steps.{act_of, looking, late_key}
 use Rattle.lot_machine.specs.Machine.{state_after_hand_over_by, State, shares_handed_over, unlocked, place_at, word_at, shares_at, filled_at, kind_at, queue_at, state_after_operation, state_after_hand_over, state_with_sections, queues_with_last, queues_without_first, state_after_park, state_after_taking, state_after_wake, state_after_act, state_after_look, put, state_after_late_on, state_after_turn, closed_place, is_possible, after}
 use Rattle.lot_base.specs.Words.{apply}
@@ -130,7 +130,3 @@ calls_readers (kind.TheVariants.Recursive limit) l c h = refl
 calls_readers k l c h = absurd cc
 
 -- and that no fair release and no bump
-pub calls_built : (k : Kind) (l : ℕ) (c : RwLockCall) → has_call k (call.TheVariants.RwLock l c) ≡ true → is_built c ≡ true
-calls_built (kind.TheVariants.RwLock limit) l c h = h
-calls_built (kind.TheVariants.Recursive limit) l c h = h
-calls_built k l c h = absurd cc

@@ -63,6 +63,7 @@ pub mod LockSteps
 pub mod OneThing
 pub mod Promises
 pub mod MutexPromises
+pub mod SharedFair
 pub mod Fair
 pub mod CountsTaken
 pub mod CountsKept
@@ -73,6 +74,7 @@ pub mod RwLockSolo
 pub mod CallSolo
 pub mod BumpSolo
 pub mod RwLockEnds
+pub mod CallEnds
 pub mod Solo
 pub mod Owing
 pub mod WorldRuns

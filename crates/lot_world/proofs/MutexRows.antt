@@ -20,13 +20,13 @@ use Rattle.lot_mutex.specs.declared.hand_off.HandOffAt.TheVariants as hand_off
 use Rattle.lot_mutex.specs.MutexSteps.{is_locked, is_timed, unlock_act, hand_off_act, mutex_act}
 use Rattle.lot_mutex.specs.MutexProfiles.{lock_row, entry_purpose}
 use Rattle.abstract_locks.specs.Locks as locks
-use Rattle.abstract_locks.specs.Purposes.{MayWait}
+use Rattle.abstract_locks.specs.Purposes.{MayWait, lock_for}
 use Rattle.abstract_locks.specs.Runs.{IsTimed}
 use Rattle.abstract_locks.specs.Sites.{Line, Main, Second, Has, IsDebtor, counts_some, idle}
 use Rattle.lot_world.specs.MutexDeeds.{mutex_row}
 use Rattle.lot_world.specs.SitesOf.{key_of}
 use Rattle.lot_world.specs.Promises.{KnowsRights, WakesAside, want_of}
-use Rattle.lot_world.proofs.RowPromises.{is_acting, lock_for, IsWaiting, WasHanded, LetsIn, IsDebtorIn, HasDebt, RowLooksAfter, RowIsLate, RowPromises}
+use Rattle.lot_world.proofs.RowPromises.{is_acting, IsWaiting, WasHanded, LetsIn, IsDebtorIn, HasDebt, RowLooksAfter, RowIsLate, RowPromises}
 
 -- ---------------------------------------------------------------- waiting
 

@@ -1,35 +1,21 @@
 -- Who owes a wake does so since it saw waiters, or since it entered the section.
-use Rattle.std.proofs.Common.{◌∷◌, [], ℕ, Bool, true, false, Option, Some, None, if◌then◌else◌, ◌≡◌, ◌≢◌, ◌<◌, ◌⊎◌, ◌↔◌, inl, inr, List, length, set, get_or, refl, sym, ◌∙◌, ap, subst, get_or-set_other, get_or-set_same, nat_lt, map, is_some, length-set}
-use Rattle.std.proofs.Math.ListN.{get_or-map}
-use Rattle.std.proofs.lemmas.Bool.{cases_eq, cases_lt, ltb-true}
-use Rattle.std.proofs.lemmas.List.{set_past}
-use Rattle.lot_base.specs.declared.keys.Keys.{Keys}
-use Rattle.lot_base.specs.declared.keys.Keys.TheVariants.{One, Two}
-use Rattle.lot_base.specs.Lines.{first_of}
+use Rattle.std.proofs.Common.{ℕ, Bool, true, false, Option, Some, None, if◌then◌else◌, ◌≡◌, ◌≢◌, ◌<◌, ◌⊎◌, ◌↔◌, inl, inr, length, refl, sym, ◌∙◌, ap, subst, get_or-set_same, nat_lt, is_some, length-set}
+use Rattle.std.proofs.lemmas.Bool.{ltb-true}
+use Rattle.lot_base.specs.declared.keys.Keys.TheVariants.{One}
 use Rattle.lot_calls.specs.declared.calls.Call.{Call}
 use Rattle.lot_calls.specs.declared.calls.Turn.{Turn}
 use Rattle.lot_calls.specs.declared.calls.Turn as turn
 use Rattle.lot_calls.specs.declared.calls.Step.{Step}
 use Rattle.lot_calls.specs.declared.outcomes.Outcome.{Outcome}
 use Rattle.lot_calls.specs.declared.outcomes.Outcome as outcome
-use Rattle.lot_acts.specs.declared.acts.Act.{Act}
-use Rattle.lot_acts.specs.declared.acts.Act.TheVariants.{Word, HandOver, Enter, Park, Take, Remove}
-use Rattle.lot_acts.specs.declared.acts.Act.TheVariants as act
-use Rattle.lot_acts.specs.declared.acts.Wakes.{Wakes}
-use Rattle.lot_acts.specs.declared.acts.Wakes as wakes
-use Rattle.lot_acts.specs.declared.acts.Reply.{Reply}
-use Rattle.lot_acts.specs.declared.acts.Reply.TheVariants.{TakenBy, MovedTo, Woken, Late}
+use Rattle.lot_acts.specs.declared.acts.Act.TheVariants.{Enter}
+use Rattle.lot_acts.specs.declared.acts.Reply.TheVariants.{Late}
 use Rattle.lot_steps.specs.declared.places.Place.{Place}
 use Rattle.lot_steps.specs.declared.places.Place.TheVariants.{Idle}
-use Rattle.lot_acts.specs.Acts.{takes_effect, holds}
-use Rattle.lot_acts.specs.declared.acts.Whom as whom
-use Rattle.lot_acts.specs.Owners.{is_thread}
 use Rattle.lot_calls.specs.Calls.{lock_in}
-use Rattle.lot_steps.specs.Steps.{act_of, next_place, first_place, is_idle, looking, late_key, taker, lock_of, line_owed, profile}
-use Rattle.lot_machine.specs.Machine.{state_after_hand_over_by, hand_over_told, State, places_told, listed, moved_threads, closed_place, state_after_going, place_at, word_at, queues_without_first, state_after_taking, state_after_wake, state_with_sections, queue_at, state_after_act, state_after_go, go_reply, go_outcome, is_free_under, is_open_to, can_begin, state_after_begin, can_turn, turn_outcome, kind_at, put, state_after_look, look_outcome, state_after_late_on, state_after_turn, is_possible, after, step_outcome, place_after_telling}
-use Rattle.lot_base.specs.Lines.{threads_of}
-use Rattle.lot_base.specs.Picks.{lock_picked}
-use Rattle.lot_base.specs.Requeues.{taken_by}
+use Rattle.lot_steps.specs.Steps.{act_of, next_place, first_place, is_idle, looking, late_key, lock_of, line_owed, profile}
+use Rattle.lot_machine.specs.Machine.{State, place_at, word_at, state_after_act, state_after_go, go_reply, go_outcome, is_free_under, is_open_to, can_begin, state_after_begin, can_turn, turn_outcome, kind_at, put, state_after_look, look_outcome, state_after_late_on, state_after_turn, is_possible, after, step_outcome}
+use Rattle.lot_world.proofs.Befallen.{others_keep_it}
 use Rattle.lot_world.proofs.Closures.{nothing_closes}
 use Rattle.lot_world.specs.Refinement.{call_on}
 use Rattle.abstract_locks.specs.Locks.{Rights}
@@ -45,107 +31,16 @@ use Rattle.lot_world.proofs.CallEvents.{rights as rights_at}
 use Rattle.lot_acts.specs.Profiles.{Profile}
 use Rattle.lot_acts.specs.Calls.{call_by}
 use Rattle.abstract_locks.specs.Runs.{CallState, no_call}
-use Rattle.lot_world.proofs.RowPromises.{RowFinds, RowLooks, lock_for, releases_for, downgrades_for}
+use Rattle.abstract_locks.specs.Purposes.{lock_for}
+use Rattle.lot_world.proofs.RowPromises.{RowFinds, RowLooks, releases_for, downgrades_for}
 use Rattle.lot_world.proofs.PlacePromises.{LetsBy, row_promises, owing_is, owes_own, owed_own, inside_own, call_own, lets_in, lets_out}
 use Rattle.lot_world.proofs.LineActs.{late_line}
 use Rattle.lot_world.proofs.PlaceSteps.{owes_befallen, owes_next, first_owes, late_next}
 
 -- ---------------------------------------------------------------- the other threads
 
--- a thread stands where it stood, or was befallen
-befallen_owes : (k u : ℕ) (ps : List Place) (x : ℕ) (r : Reply) → ((p : Place) → line_owed (next_place p r) k ≡ line_owed p k)
-    → line_owed (get_or (set ps x (next_place (get_or ps x Idle) r)) u Idle) k ≡ line_owed (get_or ps u Idle) k
-befallen_owes k u ps x r kept = elim (cases_eq u x) [
-  | inl e ↦ elim (cases_lt x (length ps)) [
-    | inl lt ↦ rw (e, get_or-set_same ps x (next_place (get_or ps x Idle) r) Idle lt) (kept (get_or ps x Idle))
-    | inr ge ↦ ap (λ qs. line_owed (get_or qs u Idle) k) (set_past ps x (next_place (get_or ps x Idle) r) ge)
-  ]
-  | inr ne ↦ ap (λ p. line_owed p k) (get_or-set_other ps x u (next_place (get_or ps x Idle) r) Idle ne)
-]
-
--- one after another
-told_owes : (k u : ℕ) (r : Reply) → ((p : Place) → line_owed (next_place p r) k ≡ line_owed p k) → (us : List ℕ) (ps : List Place)
-    → line_owed (get_or (places_told r us ps) u Idle) k ≡ line_owed (get_or ps u Idle) k
-told_owes k u r kept [] ps = refl
-told_owes k u r kept (x ∷ us) ps = told_owes k u r kept us (set ps x (next_place (get_or ps x Idle) r)) ∙ befallen_owes k u ps x r kept
-
-module _ (w : State) (k u : ℕ) where
-  befallen_same : (x : ℕ) (r : Reply) → ((p : Place) → line_owed (next_place p r) k ≡ line_owed p k) → line_owed (get_or (set w.places x (next_place (place_at w x) r)) u Idle) k ≡ line_owed (place_at w u) k
-  befallen_same x r kept = befallen_owes k u w.places x r kept
-
-  parked_owes : (b : Bool) (queues : List (List _)) → line_owed (place_at (if b then record w { queues = queues } else w) u) k ≡ line_owed (place_at w u) k
-  parked_owes true queues = refl
-  parked_owes false queues = refl
-
-  took_owes : (t : ℕ) (queues : List (List _)) (o : Option ℕ) → line_owed (place_at (state_after_taking (record w { queues = queues }) t o) u) k ≡ line_owed (place_at w u) k
-  took_owes t queues None = refl
-  took_owes t queues (Some x) = befallen_same x (TakenBy t) (λ p. owes_befallen p (TakenBy t) tt k)
-
-  -- whatever is told to those in a hand
-  told_same : (t : ℕ) (r : Reply) → ((p : Place) → line_owed (next_place p r) k ≡ line_owed p k) → line_owed (get_or (map (place_after_telling t r) w.places) u Idle) k ≡ line_owed (place_at w u) k
-  told_same t r kept = ap (λ p. line_owed p k) (get_or-map (place_after_telling t r) w.places u Idle) ∙ either (is_thread t (taker (place_at w u)))
-    where
-      either : (b : Bool) → line_owed (if b then next_place (place_at w u) r else place_at w u) k ≡ line_owed (place_at w u) k
-      either true = kept (place_at w u)
-      either false = refl
-
-  left_owes : (t : ℕ) (keys : Keys) (x : Wakes) → line_owed (place_at (state_after_wake (state_with_sections w keys None) t x) u) k ≡ line_owed (place_at w u) k
-  left_owes t (One key) wakes.TheVariants.Nobody = refl
-  left_owes t (One key) (wakes.TheVariants.All n) = told_same t (Woken n) (λ p. owes_befallen p (Woken n) tt k)
-  left_owes t (Two first second) wakes.TheVariants.Nobody = refl
-  left_owes t (Two first second) (wakes.TheVariants.All n) = told_same t (Woken n) (λ p. owes_befallen p (Woken n) tt k)
-
-  filled_owes : (keys : Keys) (who : Option ℕ) → line_owed (place_at (state_with_sections w keys who) u) k ≡ line_owed (place_at w u) k
-  filled_owes (One key) who = refl
-  filled_owes (Two first second) who = refl
-
-  performed_owes : (t : ℕ) (p : Place) (a : Act) → line_owed (place_at (state_after_act w t p a) u) k ≡ line_owed (place_at w u) k
-  performed_owes t p (Word l f) = refl
-  performed_owes t p (HandOver l f) = either (takes_effect f (word_at w l))
-    where
-      either : (b : Bool) → line_owed (place_at (state_after_hand_over_by b w t p l f) u) k ≡ line_owed (place_at w u) k
-      either true = told_same t (hand_over_told w t l) (λ p. owes_befallen p (hand_over_told w t l) tt k)
-      either false = refl
-  performed_owes t p (Enter keys) = filled_owes keys (Some t)
-  performed_owes t p (Park l key check x) = parked_owes (holds check (word_at w l)) _
-  performed_owes t p (Take key whom.TheVariants.First) = took_owes t (queues_without_first w.queues key) (first_of (queue_at w key))
-  performed_owes t p (Take key (whom.TheVariants.Picked start recursive)) = told_owes k u (TakenBy t) (λ q. owes_befallen q (TakenBy t) tt k) (threads_of (lock_picked start recursive (queue_at w key))) w.places
-  performed_owes t p (Take key whom.TheVariants.All) = told_owes k u (TakenBy t) (λ q. owes_befallen q (TakenBy t) tt k) (threads_of (queue_at w key)) w.places
-  performed_owes t p (act.Requeue from to how) =
-      told_owes k u (MovedTo to) (λ q. owes_befallen q (MovedTo to) tt k) (moved_threads how (threads_of (queue_at w from))) (places_told (TakenBy t) (listed (taken_by how (queue_at w from))) w.places)
-      ∙ told_owes k u (TakenBy t) (λ q. owes_befallen q (TakenBy t) tt k) (listed (taken_by how (queue_at w from))) w.places
-  performed_owes t p (act.Leave keys x) = left_owes t keys x
-  performed_owes t p act.Rest = refl
-  performed_owes t p a = refl
-
-put_owes : (b : State) (t u k : ℕ) (p : Place) → u ≢ t → line_owed (place_at (put b t p) u) k ≡ line_owed (place_at b u) k
-put_owes b t u k p ne = ap (λ q. line_owed q k) (get_or-set_other b.places t u p Idle ne)
-
-late_owes : (w : State) (t u k : ℕ) (o : Option ℕ) → u ≢ t → line_owed (place_at (state_after_late_on w t o) u) k ≡ line_owed (place_at w u) k
-late_owes w t u k None ne = refl
-late_owes w t u k (Some key) ne = put_owes (state_with_sections w (One key) (Some t)) t u k _ ne
-
-went_owes : (w : State) (t u k : ℕ) (p : Place) → u ≢ t → line_owed (place_at (state_after_going w t p) u) k ≡ line_owed (place_at w u) k
-went_owes w t u k p ne = put_owes (state_after_act w t p (act_of p)) t u k _ ne ∙ performed_owes w k u t p (act_of p)
-
-spun_owes : (w : State) (t u k : ℕ) (o : Option Place) → u ≢ t → line_owed (place_at (state_after_look w t o) u) k ≡ line_owed (place_at w u) k
-spun_owes w t u k None ne = refl
-spun_owes w t u k (Some q) ne = went_owes (put w t q) t u k (place_at (put w t q) t) ne ∙ put_owes w t u k q ne
-
-turned_owes : (w : State) (t u k : ℕ) (x : Turn) → u ≢ t → line_owed (place_at (state_after_turn w t x) u) k ≡ line_owed (place_at w u) k
-turned_owes w t u k (turn.TheVariants.Begin c) ne = put_owes w t u k _ ne
-turned_owes w t u k turn.TheVariants.Go ne = went_owes w t u k (place_at w t) ne
-turned_owes w t u k turn.TheVariants.Spin ne = spun_owes w t u k (looking (place_at w t)) ne
-turned_owes w t u k turn.TheVariants.Late ne = late_owes w t u k (late_key (place_at w t)) ne
-turned_owes w t u k turn.TheVariants.Ok ne = went_owes w t u k (closed_place w t true) ne
-turned_owes w t u k turn.TheVariants.Err ne = went_owes w t u k (closed_place w t false) ne
-
 others_owe : (w : State) (s : Step) (u k : ℕ) → u ≢ s.thread → line_owed (place_at (after w s) u) k ≡ line_owed (place_at w u) k
-others_owe w s u k ne = either (is_possible w s)
-  where
-    either : (b : Bool) → line_owed (place_at (if b then state_after_turn w s.thread s.turn else w) u) k ≡ line_owed (place_at w u) k
-    either true = turned_owes w s.thread u k s.turn ne
-    either false = refl
+others_owe w s u k ne = others_keep_it (λ p. line_owed p k) (λ p r b. owes_befallen p r b k) w s u ne
 
 -- ---------------------------------------------------------------- the thread of the step
 

@@ -18,7 +18,7 @@ use Rattle.lot_steps.specs.Steps.{act_of, profile}
 use Rattle.abstract_locks.specs.Codes.{parked_in}
 use Rattle.abstract_locks.specs.Locks.{Sort, Taken}
 use Rattle.abstract_locks.specs.Locks as sorts
-use Rattle.abstract_locks.specs.Purposes.{Purpose, Enters, Releases, Converts, Bumps, MayWait, IsReleasing}
+use Rattle.abstract_locks.specs.Purposes.{Purpose, Enters, Releases, Converts, Bumps, MayWait, IsReleasing, lock_for}
 use Rattle.abstract_locks.specs.Runs.{IsTimed}
 use Rattle.abstract_locks.specs.Sites.{Claim, Doing, Line, Main, Second, Has, Pends, IsDebtor, counts_some, has_readers}
 use Rattle.lot_world.specs.SitesOf.{key_of}
@@ -30,13 +30,6 @@ abbrev pub is_acting : Act → Bool
 is_acting Rest = false
 is_acting (End answer) = false
 is_acting a = true
-
--- the lock that a call is of
-abbrev pub lock_for : Purpose → ℕ
-lock_for (Enters l x how) = l
-lock_for (Releases l x fair) = l
-lock_for (Converts l x y how) = l
-lock_for (Bumps l x) = l
 
 pub releases_for : (q : Purpose) (released : Bool) (l : ℕ) → IsReleasing (Some q) released l → lock_for q ≡ l
 releases_for (Enters k x how) released l h = absurd h

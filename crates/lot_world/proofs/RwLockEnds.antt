@@ -28,20 +28,17 @@ use Rattle.lot_calls.specs.declared.calls.Downgrade.TheVariants as downgrade
 use Rattle.lot_rwlock.specs.RwLockProfiles.{before, purpose_by}
 use Rattle.lot_base.specs.declared.ops.Op.TheVariants as op
 use Rattle.lot_base.specs.Words.{apply}
-use Rattle.lot_calls.specs.declared.calls.RwLockCall.{RwLockCall}
 use Rattle.lot_calls.specs.declared.calls.RwLockCall.TheVariants as call
 use Rattle.lot_rwlock_fair.specs.declared.places.RwLockCallPlace.{RwLockCallPlace}
 use Rattle.lot_rwlock_fair.specs.declared.places.RwLockCallPlace.TheVariants.{Plain, HandOver}
 use Rattle.lot_rwlock_fair.specs.declared.hand_over.HandOverAt.TheVariants as handing
 use Rattle.lot_rwlock_fair.specs.FairProfiles.{call_profile}
-use Rattle.lot_world.proofs.CallSolo.{hands_over_rest}
-use Rattle.lot_world.proofs.BumpSolo.{enters_again_rests}
 use Rattle.lot_rwlock_fair.specs.FairBegins.{call_first}
 use Rattle.lot_rwlock.specs.RwLockDeeds.{Admits, doing_at, rwlock_doing}
 use Rattle.abstract_locks.specs.Locks.{LockState, Pending, Rights, with_right, is_thread, Sort, Mutex, Normal, Recursive, Semaphore, Rules, NoWriter, IsFreeAt, IsSomePending, one_if_some, IsFree, IsBlocked, MayEnter, Owns, is_recursive, count, readers, rights_of}
 use Rattle.abstract_locks.specs.Codes.{code, count_in, has_parked, is_blocked, TellsTrue}
 use Rattle.abstract_locks.specs.Picks.{queued_of}
-use Rattle.abstract_locks.specs.Purposes.{Enters, Releases, Converts, rwlock_purpose}
+use Rattle.abstract_locks.specs.Purposes.{Enters, Releases, Converts}
 use Rattle.abstract_locks.specs.Runs.{IsFull, AnswerHolds, CallState, one_more_at}
 use Rattle.abstract_locks.specs.Sites.{Has, idle, Line, Second, has_readers}
 use Rattle.abstract_locks.proofs.CodeLaws.{words_tell_true}
@@ -50,13 +47,13 @@ use Rattle.lot_machine.specs.Machine.{State, go_of, place_at, word_at, queue_at,
 use Rattle.lot_world.specs.Refinement.{lock_state, locks_of, call_at, call_state}
 use Rattle.lot_world.specs.SitesOf.{IsSteady, key_of, rules_in, site_of}
 use Rattle.lot_world.specs.Stations.{doing_on}
-use Rattle.lot_world.specs.Solo.{EntersAlone, EndsAlone, ReleasesAlone, ConvertsAlone, MayEnterAtOnce, WaitsAlone, WaitsForReaders, IsSoloRun, entered_answer}
+use Rattle.lot_world.specs.Solo.{EntersAlone, ReleasesAlone, ConvertsAlone, MayEnterAtOnce, WaitsAlone, WaitsForReaders, entered_answer}
 use Rattle.lot_world.proofs.Glue.{put_here, same}
 use Rattle.lot_world.proofs.MutexTable.{queued_behind}
 use Rattle.lot_world.proofs.LineSolo.{StepsAlone}
 use Rattle.lot_world.proofs.SoloAnswers.{HasAnswered, answered}
-use Rattle.lot_world.proofs.WorldRuns.{run_refines}
-use Rattle.lot_world.proofs.RwLockSolo.{Decides, Takes, Settles, Sleeps, Tries, Upgrades, place_for, load_leads, first_leads, release_ends, downgrade_ends, upgrade_leads, word_small}
+use Rattle.lot_world.proofs.WorldRuns.{RunsAlone, run_refines}
+use Rattle.lot_world.proofs.RwLockSolo.{Decides, Takes, Settles, Sleeps, Tries, Upgrades, place_for, load_leads, first_leads, word_small}
 
 same_answer : (how : Patience) → entered how ≡ entered_answer how
 same_answer Patient = refl
@@ -122,7 +119,7 @@ module _ (w : State) (l : ℕ) (a : Admission) (steady : IsSteady w) (admits : A
 
 -- ---------------------------------------------------------------- a call from its beginning
 
-module _ (w : State) (t l : ℕ) (a : Admission) (steady : IsSteady w) (admits : Admits (rules_in w l) a) (v2 : State) (x : Outcome) (run : IsSoloRun w t x v2) where
+module _ (w : State) (t l : ℕ) (a : Admission) (steady : IsSteady w) (admits : Admits (rules_in w l) a) (v2 : State) (x : Outcome) (run : RunsAlone w t x v2) where
   small : word_at w l < 2 ^ 64
   small = word_small w l steady admits.0
 
@@ -168,7 +165,7 @@ module _ (w : State) (t l : ℕ) (a : Admission) (steady : IsSteady w) (admits :
       either false h = (h.0, queued (wanted y) h.1)
 
   -- who is to share looks at the word
-  shares_alone : (y : Access) (how : Patience) → wanted y ≢ Exclusive → place_at w t ≡ RwLock l a (Plain (looking (purpose.Enter y how) at.Load)) → Decides t l a (decision a (wanted y) how (word_at w l)) (looking (purpose.Enter y how) at.Load) (word_at w l) queues v2 x
+  pub shares_alone : (y : Access) (how : Patience) → wanted y ≢ Exclusive → place_at w t ≡ RwLock l a (Plain (looking (purpose.Enter y how) at.Load)) → Decides t l a (decision a (wanted y) how (word_at w l)) (looking (purpose.Enter y how) at.Load) (word_at w l) queues v2 x
       → EntersAlone (word_at w l ≡ 0) (locks_of w) t l (wanted y) how x (locks_of v2)
   shares_alone y how shared is h = record {
     owns = λ may. enters_owns y how at.Load is (takes_one y shared (subst (λ d. Decides t l a d (looking (purpose.Enter y how) at.Load) (word_at w l) queues v2 x) (takes w l a steady admits y how (may_enter y shared may)) h));
@@ -253,7 +250,7 @@ module _ (w : State) (t l : ℕ) (a : Admission) (steady : IsSteady w) (admits :
   clear_free e b = let z : word_at w l ≡ 0 = eqb-true (word_at w l) 0 e in let f : false ≡ true = sym (ap (is_blocked a.recursive Exclusive) z) ∙ blocked_is w l a steady admits Exclusive b in cc
 
   -- who is to own alone tries a clear word first
-  writes_alone : (how : Patience) → place_at w t ≡ RwLock l a (Plain (writer how)) → Tries t l a (word_at w l == 0) how (writer how) (word_at w l) queues v2 x → EntersAlone (word_at w l ≡ 0) (locks_of w) t l Exclusive how x (locks_of v2)
+  pub writes_alone : (how : Patience) → place_at w t ≡ RwLock l a (Plain (writer how)) → Tries t l a (word_at w l == 0) how (writer how) (word_at w l) queues v2 x → EntersAlone (word_at w l ≡ 0) (locks_of w) t l Exclusive how x (locks_of v2)
   writes_alone how is h = by_word (word_at w l == 0) refl how is h
     where
       clear_alone : (how : Patience) → (word_at w l == 0) ≡ true → place_at w t ≡ RwLock l a (Plain (writer how)) → x ≡ outcome.End (entered how) → (1 ≤ readers (lock_state w l) → WaitsForReaders how t x (lock_state v2 l)) → EntersAlone (word_at w l ≡ 0) (locks_of w) t l Exclusive how x (locks_of v2)
@@ -321,7 +318,7 @@ module _ (w : State) (t l : ℕ) (a : Admission) (steady : IsSteady w) (admits :
   lost_one y is told = let h = holds (purpose.Release y) at.GiveWay is answer.Ok told in
       sym (put_here (λ k. rights_of (lock_state v2 k) t) l (with_right (wanted y) (rights_of (lock_state v2 l) t))) ∙ h.holds l ∙ ap (λ f. f l) (h.former_is ∙ began (purpose.Release y) at.GiveWay is (λ rights. refl))
 
-  releases_alone : (y : Access) → place_at w t ≡ RwLock l a (Plain (looking (purpose.Release y) at.GiveWay)) → x ≡ outcome.End answer.Ok → ReleasesAlone (locks_of w) t l (wanted y) false x (locks_of v2)
+  pub releases_alone : (y : Access) → place_at w t ≡ RwLock l a (Plain (looking (purpose.Release y) at.GiveWay)) → x ≡ outcome.End answer.Ok → ReleasesAlone (locks_of w) t l (wanted y) false x (locks_of v2)
   releases_alone access.Shared is told = (told, lost_one access.Shared is told)
   releases_alone access.Upgradable is told = (told, lost_one access.Upgradable is told)
   releases_alone access.Exclusive is told = (told, gone, λ mutex. absurd (let f : has_readers Mutex ≡ true = sym (ap has_readers mutex) ∙ admits.0 in cc))
@@ -343,13 +340,13 @@ module _ (w : State) (t l : ℕ) (a : Admission) (steady : IsSteady w) (admits :
       former : (call_at w t).former ≡ (λ k. rights_of (lock_state w k) t)
       former = ap (λ p. (call_state p (λ k. rights_of (lock_state w k) t)).former) is ∙ same_rights (λ k. rights_of (lock_state w k) t)
 
-  no_mutex : {A : Type 0} → (rules_in w l).sort ≡ Mutex → A
+  pub no_mutex : {A : Type 0} → (rules_in w l).sort ≡ Mutex → A
   no_mutex mutex = absurd (let f : has_readers Mutex ≡ true = sym (ap has_readers mutex) ∙ admits.0 in cc)
 
-  upgradable_released : place_at w t ≡ RwLock l a (HandOver access.Upgradable false handing.Load) → x ≡ outcome.End answer.Ok → ReleasesAlone (locks_of w) t l Upgradable true x (locks_of v2)
+  pub upgradable_released : place_at w t ≡ RwLock l a (HandOver access.Upgradable false handing.Load) → x ≡ outcome.End answer.Ok → ReleasesAlone (locks_of w) t l Upgradable true x (locks_of v2)
   upgradable_released is told = (told, lost_from (HandOver access.Upgradable false handing.Load) Upgradable true is refl (λ rights. refl) told)
 
-  exclusive_released : place_at w t ≡ RwLock l a (HandOver access.Exclusive false (handing.Free 8)) → x ≡ outcome.End answer.Ok → ReleasesAlone (locks_of w) t l Exclusive true x (locks_of v2)
+  pub exclusive_released : place_at w t ≡ RwLock l a (HandOver access.Exclusive false (handing.Free 8)) → x ≡ outcome.End answer.Ok → ReleasesAlone (locks_of w) t l Exclusive true x (locks_of v2)
   exclusive_released is told = (told, gone, λ mutex. no_mutex mutex)
     where
       gone : (lock_state v2 l).exclusive ≡ Some t → ⊥
@@ -365,7 +362,7 @@ module _ (w : State) (t l : ℕ) (a : Admission) (steady : IsSteady w) (admits :
       ∙ says h.call (subst (λ p. AnswerHolds (Some p) (locks_of v2) t h.call answer) of h.holds) l
       ∙ (λ i. one_more_at l z ((h.former_is ∙ began q at is same_rights) i) l) ∙ put_here (λ k. rights_of (lock_state w k) t) l (with_right z (rights_of (lock_state w l) t))
 
-  downgrades_alone : (d : Downgrade) → place_at w t ≡ RwLock l a (Plain (looking (purpose.Downgrade d) at.GiveWay)) → x ≡ outcome.End answer.Ok → ConvertsAlone (lock_state w l) t (wanted (to_of d)) Patient x (lock_state v2 l)
+  pub downgrades_alone : (d : Downgrade) → place_at w t ≡ RwLock l a (Plain (looking (purpose.Downgrade d) at.GiveWay)) → x ≡ outcome.End answer.Ok → ConvertsAlone (lock_state w l) t (wanted (to_of d)) Patient x (lock_state v2 l)
   downgrades_alone downgrade.ToShared is told = (told, let e = ap (λ (z : Rights). z.shared) (replaced (purpose.Downgrade downgrade.ToShared) at.GiveWay Exclusive Shared Patient answer.Ok is refl (λ rights. refl) told (λ c h. h)) in omega (arith, e))
   downgrades_alone downgrade.ToUpgradable is told = (told, is_owner (lock_state v2 l).upgradable (let e = ap (λ (z : Rights). z.upgradable) (replaced (purpose.Downgrade downgrade.ToUpgradable) at.GiveWay Exclusive Upgradable Patient answer.Ok is refl (λ rights. refl) told (λ c h. h)) in omega (arith, e)))
   downgrades_alone downgrade.UpgradableToShared is told = (told, let e = ap (λ (z : Rights). z.shared) (replaced (purpose.Downgrade downgrade.UpgradableToShared) at.GiveWay Upgradable Shared Patient answer.Ok is refl (λ rights. refl) told (λ c h. h)) in omega (arith, e))
@@ -394,7 +391,7 @@ module _ (w : State) (t l : ℕ) (a : Admission) (steady : IsSteady w) (admits :
   is_not_one : (lock_state w l).upgradable ≡ Some t → 1 ≤ readers (lock_state w l) → (count_in (word_at w l) == 1) ≡ false
   is_not_one own some = ap (λ n. n == 1) (readers_and_one own) ∙ grind (arith, nat_tests)
 
-  tries_upgrade : place_at w t ≡ RwLock l a (Plain (looking (purpose.Upgrade Try) at.Load)) → Decides t l a (decided a (looking (purpose.Upgrade Try) at.Load) (word_at w l)) (looking (purpose.Upgrade Try) at.Load) (word_at w l) queues v2 x → ConvertsAlone (lock_state w l) t Exclusive Try x (lock_state v2 l)
+  pub tries_upgrade : place_at w t ≡ RwLock l a (Plain (looking (purpose.Upgrade Try) at.Load)) → Decides t l a (decided a (looking (purpose.Upgrade Try) at.Load) (word_at w l)) (looking (purpose.Upgrade Try) at.Load) (word_at w l) queues v2 x → ConvertsAlone (lock_state w l) t Exclusive Try x (lock_state v2 l)
   tries_upgrade is h = (λ none. upgrade_owns Try at.Load is (λ rights. refl) (by_count true (is_one own none)), λ some. by_count false (is_not_one own some))
     where
       own : (lock_state w l).upgradable ≡ Some t
@@ -403,7 +400,7 @@ module _ (w : State) (t l : ℕ) (a : Admission) (steady : IsSteady w) (admits :
       by_count : (b : Bool) → (count_in (word_at w l) == 1) ≡ b → Decides t l a (if b then decisions.Take else decisions.Refuse answer.No) (looking (purpose.Upgrade Try) at.Load) (word_at w l) queues v2 x
       by_count b e = subst (λ (b : Bool). Decides t l a (if b then decisions.Take else decisions.Refuse answer.No) (looking (purpose.Upgrade Try) at.Load) (word_at w l) queues v2 x) e h
 
-  upgrades_alone : (how : Patience) → how ≢ Try → place_at w t ≡ RwLock l a (Plain (looking (purpose.Upgrade how) at.GiveWay)) → Upgrades t l a (count_in (word_at w l) == 1) how false (word_at w l) queues v2 x → ConvertsAlone (lock_state w l) t Exclusive how x (lock_state v2 l)
+  pub upgrades_alone : (how : Patience) → how ≢ Try → place_at w t ≡ RwLock l a (Plain (looking (purpose.Upgrade how) at.GiveWay)) → Upgrades t l a (count_in (word_at w l) == 1) how false (word_at w l) queues v2 x → ConvertsAlone (lock_state w l) t Exclusive how x (lock_state v2 l)
   upgrades_alone how waits is h = (λ none. upgrade_owns how at.GiveWay is (λ rights. refl) (by_count true (is_one own none)), λ some. by_how how waits (aside some))
     where
       own : (lock_state w l).upgradable ≡ Some t
@@ -431,32 +428,17 @@ module _ (w : State) (t l : ℕ) (a : Admission) (steady : IsSteady w) (admits :
       by_how Patient ne h = h
       by_how Timed ne h = h
 
--- each call, from its beginning
-pub rwlock_alone : (w : State) (t l : ℕ) (a : Admission) (c : RwLockCall) (n : ℕ) (last : Outcome) → 18 ≤ n → IsSteady w → Admits (rules_in w l) a → place_at w t ≡ RwLock l a (call_first c) → StepsAlone w t l (RwLock l a (call_first c)) (word_at w l) (λ m. queue_at w (key_of l m))
-    → IsSoloRun w t (solo n w t last).outcome (solo n w t last).state → EndsAlone w t (Some (rwlock_purpose l c)) (solo n w t last).outcome (solo n w t last).state
-rwlock_alone w t l a c n last le steady admits is f run = by_call c is f
+-- a call that waits for a right, from its beginning
+pub enters_alone : (w : State) (t l : ℕ) (a : Admission) (x : Access) (how : Patience) (n : ℕ) (last : Outcome) → 11 ≤ n → IsSteady w → Admits (rules_in w l) a → place_at w t ≡ RwLock l a (call_first (call.Enter x how))
+    → StepsAlone w t l (RwLock l a (call_first (call.Enter x how))) (word_at w l) (λ m. queue_at w (key_of l m)) → RunsAlone w t (solo n w t last).outcome (solo n w t last).state
+    → EntersAlone (word_at w l ≡ 0) (locks_of w) t l (wanted x) how (solo n w t last).outcome (locks_of (solo n w t last).state)
+enters_alone w t l a x how n last le steady admits is f run = by_access x is f
   where
     small : word_at w l < 2 ^ 64
     small = word_small w l steady admits.0
 
-    v2 : State
-    v2 = (solo n w t last).state
-
-    x : Outcome
-    x = (solo n w t last).outcome
-
-    by_call : (c : RwLockCall) → place_at w t ≡ RwLock l a (call_first c) → StepsAlone w t l (RwLock l a (call_first c)) (word_at w l) (λ m. queue_at w (key_of l m)) → EndsAlone w t (Some (rwlock_purpose l c)) x v2
-    by_call (call.Enter access.Exclusive how) is f = writes_alone w t l a steady admits v2 x run how is (first_leads t l a _ (word_at w l) w (λ m. queue_at w (key_of l m)) small f n last (omega arith))
-    by_call (call.Enter access.Shared how) is f = shares_alone w t l a steady admits v2 x run access.Shared how (λ h. cc) is (load_leads t l a _ (word_at w l) w (λ m. queue_at w (key_of l m)) small f n last (omega arith))
-    by_call (call.Enter access.Upgradable how) is f = shares_alone w t l a steady admits v2 x run access.Upgradable how (λ h. cc) is (load_leads t l a _ (word_at w l) w (λ m. queue_at w (key_of l m)) small f n last (omega arith))
-    by_call (call.Release y) is f = releases_alone w t l a steady admits v2 x run y is (release_ends t l a y false (word_at w l) w (λ m. queue_at w (key_of l m)) f n last (omega arith))
-    by_call (call.Downgrade d) is f = downgrades_alone w t l a steady admits v2 x run d is (downgrade_ends t l a d false (word_at w l) w (λ m. queue_at w (key_of l m)) f n last (omega arith))
-    by_call (call.Upgrade Try) is f = tries_upgrade w t l a steady admits v2 x run is (load_leads t l a _ (word_at w l) w (λ m. queue_at w (key_of l m)) small f n last (omega arith))
-    by_call (call.Upgrade Patient) is f = upgrades_alone w t l a steady admits v2 x run Patient (λ h. cc) is (upgrade_leads t l a Patient false (word_at w l) w (λ m. queue_at w (key_of l m)) f n last (omega arith))
-    by_call (call.Upgrade Timed) is f = upgrades_alone w t l a steady admits v2 x run Timed (λ h. cc) is (upgrade_leads t l a Timed false (word_at w l) w (λ m. queue_at w (key_of l m)) f n last (omega arith))
-    by_call (call.ReleaseFair access.Shared) is f = releases_alone w t l a steady admits v2 x run access.Shared is (release_ends t l a access.Shared false (word_at w l) w (λ m. queue_at w (key_of l m)) f n last (omega arith))
-    by_call (call.ReleaseFair access.Upgradable) is f = upgradable_released w t l a steady admits v2 x run is ((hands_over_rest t l a (enters_again_rests t l a) access.Upgradable false handing.Load tt (word_at w l) w (λ m. queue_at w (key_of l m)) admits f n last (omega arith)).1 refl)
-    by_call (call.ReleaseFair access.Exclusive) is f = exclusive_released w t l a steady admits v2 x run is ((hands_over_rest t l a (enters_again_rests t l a) access.Exclusive false (handing.Free 8) refl (word_at w l) w (λ m. queue_at w (key_of l m)) admits f n last (omega arith)).1 refl)
-    by_call (call.Bump access.Exclusive) is f = λ mutex. no_mutex w t l a steady admits v2 x run mutex
-    by_call (call.Bump access.Shared) is f = tt
-    by_call (call.Bump access.Upgradable) is f = tt
+    by_access : (x : Access) → place_at w t ≡ RwLock l a (call_first (call.Enter x how)) → StepsAlone w t l (RwLock l a (call_first (call.Enter x how))) (word_at w l) (λ m. queue_at w (key_of l m))
+        → EntersAlone (word_at w l ≡ 0) (locks_of w) t l (wanted x) how (solo n w t last).outcome (locks_of (solo n w t last).state)
+    by_access access.Exclusive is f = writes_alone w t l a steady admits (solo n w t last).state (solo n w t last).outcome run how is (first_leads t l a _ (word_at w l) w (λ m. queue_at w (key_of l m)) small f n last (omega arith))
+    by_access access.Shared is f = shares_alone w t l a steady admits (solo n w t last).state (solo n w t last).outcome run access.Shared how (λ h. cc) is (load_leads t l a _ (word_at w l) w (λ m. queue_at w (key_of l m)) small f n last (omega arith))
+    by_access access.Upgradable is f = shares_alone w t l a steady admits (solo n w t last).state (solo n w t last).outcome run access.Upgradable how (λ h. cc) is (load_leads t l a _ (word_at w l) w (λ m. queue_at w (key_of l m)) small f n last (omega arith))

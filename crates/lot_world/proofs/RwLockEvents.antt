@@ -6,7 +6,6 @@ use Rattle.lot_calls.specs.declared.calls.Access.TheVariants as access
 use Rattle.lot_calls.specs.declared.calls.Call.TheVariants as call
 use Rattle.lot_calls.specs.declared.calls.RwLockCall.{RwLockCall}
 use Rattle.lot_calls.specs.declared.calls.RwLockCall.TheVariants as rwlock_call
-use Rattle.lot_calls.specs.Kinds.{is_built}
 use Rattle.lot_calls.specs.declared.kinds.Kind.{Kind}
 use Rattle.lot_calls.specs.declared.kinds.Kind.TheVariants as kind
 use Rattle.lot_calls.specs.declared.outcomes.Outcome.TheVariants as outcome
@@ -211,10 +210,10 @@ module _ (w : State) (t l : ℕ) (a : Admission) (c : RwLockCallPlace) (steady :
 
 -- ---------------------------------------------------------------- a call begins
 
-pub rwlock_purpose_is : (k : Kind) (l : ℕ) (c : RwLockCall) → is_built c ≡ true → has_readers (rules_of k).sort ≡ true → purpose_of k (call.RwLock l c) ≡ Some (rwlock_purpose l c)
-rwlock_purpose_is (kind.RwLock limit) l c built h = ap (λ b. if b then Some (rwlock_purpose l c) else None) built
-rwlock_purpose_is (kind.Recursive limit) l c built h = ap (λ b. if b then Some (rwlock_purpose l c) else None) built
-rwlock_purpose_is k l c built h = absurd cc
+pub rwlock_purpose_is : (k : Kind) (l : ℕ) (c : RwLockCall) → has_readers (rules_of k).sort ≡ true → purpose_of k (call.RwLock l c) ≡ Some (rwlock_purpose l c)
+rwlock_purpose_is (kind.RwLock limit) l c h = refl
+rwlock_purpose_is (kind.Recursive limit) l c h = refl
+rwlock_purpose_is k l c h = absurd cc
 
 -- it has the right that it needs
 module _ (w : State) (t l : ℕ) where

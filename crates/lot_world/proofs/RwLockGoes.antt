@@ -53,7 +53,7 @@ plain_gives : (l k : ℕ) (a : Admission) (p : RwLockPlace) (op : Op) → MaySta
 plain_gives l k a p op may e = subst (λ x. Moves l a.recursive (rwlock_move a p) (rwlock_hears a p) x) e (rwlock_acts_move l a p may)
 
 -- who hands over says whom it has in hand
-gives_counted : (l k : ℕ) (a : Admission) (c : RwLockCallPlace) (op : Op) → CallStands a c → call_act l a c ≡ act.HandOver k op → (n : Counted) × (in_hand_of c ≡ Some n)
+pub gives_counted : (l k : ℕ) (a : Admission) (c : RwLockCallPlace) (op : Op) → CallStands a c → call_act l a c ≡ act.HandOver k op → (n : Counted) × (in_hand_of c ≡ Some n)
 gives_counted l k a (HandOver x b (handing.Store n)) op may e = (n, refl)
 gives_counted l k a (HandOver x b (handing.Exchange n seen)) op may e = (n, refl)
 gives_counted l k a (HandOver x b (handing.Look n)) op may e = (n, refl)
@@ -92,7 +92,7 @@ module _ (w : State) (t l : ℕ) (a : Admission) (c : RwLockCallPlace) (steady :
   of = ap lock_of is
 
   -- whom it has in hand, by its place
-  carries : carried_at (place_at w t) l ≡ (call_profile a c).carries
+  pub carries : carried_at (place_at w t) l ≡ (call_profile a c).carries
   carries = ap (λ (y : Station). y.carries) (station_own (place_at w t) l of) ∙ ap (λ q. (station q).carries) is
 
   abbrev goes : Option ℕ → Act → Type 0
@@ -163,9 +163,14 @@ module _ (w : State) (t l : ℕ) (a : Admission) (c : RwLockCallPlace) (steady :
       looks : GoesOnBy w t l a c (act.HandOver l op)
       looks = record { whom = heir; tells = told_so; happened = happened; others = others }
 
-    by_effect : (b : Bool) → takes_effect op (word_at w l) ≡ b → GoesOnBy w t l a c (act.HandOver l op)
+    pub by_effect : (b : Bool) → takes_effect op (word_at w l) ≡ b → GoesOnBy w t l a c (act.HandOver l op)
     by_effect true f = hands f
     by_effect false f = looks f
+
+    pub effect_whom : (b : Bool) (f : takes_effect op (word_at w l) ≡ b) → (by_effect b f).whom ≡ heir
+    unfolding by_effect hands looks
+    effect_whom true f = refl
+    effect_whom false f = refl
 
   -- wherever it stands
   pub rwlock_goes_on : AreCounted w → can_do w (call_act l a c) ≡ true → GoesOnBy w t l a c (call_act l a c)

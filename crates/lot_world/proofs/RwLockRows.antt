@@ -34,11 +34,11 @@ use Rattle.lot_acts.specs.Profiles.{Profile, hand, in_line, taken_from}
 use Rattle.abstract_locks.specs.Codes.{has_aside}
 use Rattle.abstract_locks.specs.Locks.{Rules, Sort, Knows}
 use Rattle.abstract_locks.specs.Locks as sorts
-use Rattle.abstract_locks.specs.Purposes.{MayWait}
+use Rattle.abstract_locks.specs.Purposes.{MayWait, lock_for}
 use Rattle.abstract_locks.specs.Runs.{IsTimed}
 use Rattle.abstract_locks.specs.Sites.{Pends, Claim, counts_some, has_readers, idle}
 use Rattle.lot_world.specs.Promises.{KnowsRights, WakesAside}
-use Rattle.lot_world.proofs.RowPromises.{is_acting, lock_for, LetsIn, IsDebtorIn, HasDebt, RowLooksAfter, RowIsLate, RowPromises}
+use Rattle.lot_world.proofs.RowPromises.{is_acting, LetsIn, IsDebtorIn, HasDebt, RowLooksAfter, RowIsLate, RowPromises}
 
 -- ---------------------------------------------------------------- the call
 

@@ -35,7 +35,7 @@ use Rattle.lot_steps.specs.declared.places.Place.{Place}
 use Rattle.lot_steps.specs.declared.places.Place.TheVariants.{Idle, Mutex, RwLock}
 use Rattle.lot_acts.specs.Acts.{outcome_of}
 use Rattle.lot_mutex.specs.MutexSteps.{mutex_first, is_locked, is_parked, entered, looked, hand_off_word, in_unlock}
-use Rattle.lot_calls.specs.Kinds.{is_built, is_fair}
+use Rattle.lot_calls.specs.Kinds.{is_fair}
 use Rattle.lot_calls.specs.Calls.{lock_in}
 use Rattle.lot_steps.specs.Steps.{act_of, next_place, next_act, mutex_goes, mutex_does, lock_of, first_place}
 use Rattle.lot_machine.specs.Machine.{State, place_at, word_at, kind_at, queue_at, section_at, go_of, after, solo, owners_handed_over, is_there}
@@ -72,8 +72,8 @@ use Rattle.lot_rwlock.specs.declared.places.Admission.{Admission}
 use Rattle.lot_world.proofs.LineSolo.{StepsAlone}
 use Rattle.lot_world.proofs.BumpSolo.{call_rests}
 use Rattle.lot_world.proofs.RwLockSolo.{word_small}
-use Rattle.lot_world.proofs.RwLockEnds.{rwlock_alone}
-use Rattle.lot_world.proofs.WorldRuns.{solo_runs}
+use Rattle.lot_world.proofs.CallEnds.{rwlock_alone}
+use Rattle.lot_world.proofs.WorldRuns.{runs_alone}
 use Rattle.lot_rwlock.specs.RwLockBegins.{admission_of}
 use Rattle.lot_rwlock_fair.specs.declared.places.RwLockCallPlace.{RwLockCallPlace}
 use Rattle.lot_rwlock_fair.specs.FairBegins.{call_first}
@@ -507,7 +507,10 @@ module _ (w : State) (t : ℕ) (shape : IsShaped w) (steady : IsSteady w) (count
             let stood : 1 ≤ times t (queue_at w (2 * l)) = first_times t (queue_at w (2 * l)) first in let none : times t (queue_at w (2 * l)) ≡ 0 = absent w steady t awake l in omega arith
 
     bump_alone : LockEnds t l entries.Bump (first_of (queue_at w (2 * l))) (drop 1 (queue_at w (2 * l))) v x → EndsAlone w t (Some (Bumps l Exclusive)) x v
-    bump_alone h of_mutex = by_queue (queue_at w (2 * l)) h
+    bump_alone h = (
+      (λ mutex. by_queue (queue_at w (2 * l)) h),
+      λ readers. absurd (let unshared : has_readers (rules_in w l).sort ≡ false = ap (λ (r : Rules). has_readers r.sort) (mutex_rules (kind_at w l) kind) in let f : false ≡ true = sym unshared ∙ readers in cc),
+    )
       where
         by_queue : (q : List Waiter) → LockEnds t l entries.Bump (first_of q) (drop 1 q) v x → BumpsAlone t l (map queued_of q) x (lock_state v l)
         by_queue [] g = g
@@ -552,15 +555,14 @@ module _ (w : State) (t : ℕ) (shape : IsShaped w) (steady : IsSteady w) (count
       fits : l < length w.locks
       fits = subst (PlaceFits (length w.locks)) is (shape.places t)
 
-      ends : has_readers (rules_in w l).sort ≡ true → (b : Bool) → is_built c ≡ b → EndsAlone w t (if b then Some (rwlock_purpose l c) else None) (solo 64 w t outcome.TheVariants.NotNow).outcome (solo 64 w t outcome.TheVariants.NotNow).state
-      ends readers true built = rwlock_alone w t l (admission_of (kind_at w l)) c 64 outcome.TheVariants.NotNow (omega arith) steady (admits_by (kind_at w l) readers) is (steps_alone l (admission_of (kind_at w l)) (call_first c) readers is fits) (solo_runs w t (record { shaped = shape; steady = steady; counted = counted }))
-      ends readers false built = tt
+      ends : has_readers (rules_in w l).sort ≡ true → EndsAlone w t (Some (rwlock_purpose l c)) (solo 64 w t outcome.TheVariants.NotNow).outcome (solo 64 w t outcome.TheVariants.NotNow).state
+      ends readers = rwlock_alone w t l (admission_of (kind_at w l)) c 64 outcome.TheVariants.NotNow (omega arith) steady (admits_by (kind_at w l) readers) is (steps_alone l (admission_of (kind_at w l)) (call_first c) readers is fits) (runs_alone 64 w t (record { shaped = shape; steady = steady; counted = counted }))
 
       by_kind : (k : Kind) → kind_at w l ≡ k → EndsAlone w t (purpose_of k (call.TheVariants.RwLock l c)) (solo 64 w t outcome.TheVariants.NotNow).outcome (solo 64 w t outcome.TheVariants.NotNow).state
       by_kind kinds.Mutex e = tt
       by_kind kinds.Fair e = tt
-      by_kind (kinds.RwLock limit) e = ends (ap (λ k. has_readers (rules_of k).sort) e) (is_built c) refl
-      by_kind (kinds.Recursive limit) e = ends (ap (λ k. has_readers (rules_of k).sort) e) (is_built c) refl
+      by_kind (kinds.RwLock limit) e = ends (ap (λ k. has_readers (rules_of k).sort) e)
+      by_kind (kinds.Recursive limit) e = ends (ap (λ k. has_readers (rules_of k).sort) e)
       by_kind k e = tt
 
 -- ---------------------------------------------------------------- as the world is told them

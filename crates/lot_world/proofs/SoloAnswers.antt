@@ -1,5 +1,5 @@
 -- What the answer says of a call whose thread has stepped alone to its end.
-use Rattle.std.proofs.Common.{ℕ, Bool, Option, if◌then◌else◌, ◌≡◌, ◌≢◌, inl, inr, List, [], ◌∷◌, length, replicate, refl, sym, ◌∙◌, ap, subst}
+use Rattle.std.proofs.Common.{ℕ, zero, suc, Bool, Option, if◌then◌else◌, ◌≡◌, ◌≢◌, inl, inr, List, [], ◌∷◌, length, replicate, refl, sym, ◌∙◌, ap, subst}
 use Rattle.lot_calls.specs.declared.outcomes.Answer.{Answer}
 use Rattle.lot_calls.specs.declared.outcomes.Outcome.{Outcome}
 use Rattle.lot_calls.specs.declared.outcomes.Outcome.TheVariants as outcome
@@ -77,3 +77,10 @@ answered (o ∷ o2 ∷ os) w v t a run goes is =
       former_is = ih.former_is ∙ f;
       holds = subst (λ x. AnswerHolds x v t ih.call a) p ih.holds;
     }
+
+-- as long as it goes on, its thread owned as it began what it owned then
+pub former_kept : (n : ℕ) (w v : LocksState) (t : ℕ) → IsRun w (replicate n (go_of t)) (replicate n outcome.Step) v → (v.calls t).former ≡ (w.calls t).former
+former_kept zero w v t run = ap (λ (x : LocksState). (x.calls t).former) run
+former_kept (suc n) w v t run =
+    let g : GoesOn w t outcome.Step run.0 = gone w run.0 t outcome.Step (λ e. cc) run.1 in
+    former_kept n run.0 v t run.2 ∙ ap (λ (x : CallState). x.former) (call_then w run.0 t g) ∙ former_stays g.event (w.calls t)

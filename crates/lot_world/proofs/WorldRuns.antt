@@ -97,9 +97,21 @@ goes_for (suc n) w t last h = by_outcome (step_outcome w (go_of t)) refl (goes_f
       result_is = refl;
     }
 
+-- a run of a thread alone, and what it comes to
+pub record RunsAlone (w : State) (t : ℕ) (result : Outcome) (v : State) : Type 0 where
+  pub told : List Outcome
+  pub run : IsWorldRun w (replicate (length told) (go_of t)) told v
+  pub goes_on : GoesOnUntil told
+  pub last : result ≡ last_told told
+
+last_is : (result : Outcome) (told : List Outcome) → result ≡ last_told (outcome.TheVariants.NotNow ∷ told) → result ≡ last_told told
+last_is result [] e = e
+last_is result (o ∷ told) e = e
+
+pub runs_alone : (n : ℕ) (w : State) (t : ℕ) → IsWorld w → RunsAlone w t (solo n w t outcome.TheVariants.NotNow).outcome (solo n w t outcome.TheVariants.NotNow).state
+runs_alone n w t h = let g = goes_for n w t outcome.TheVariants.NotNow h in
+    record { told = g.told; run = g.run; goes_on = g.goes_on; last = last_is (solo n w t outcome.TheVariants.NotNow).outcome g.told g.result_is }
+
 pub solo_runs : (w : State) (t : ℕ) → IsWorld w → IsSoloRun w t (solo 64 w t outcome.TheVariants.NotNow).outcome (solo 64 w t outcome.TheVariants.NotNow).state
-solo_runs w t h = let g = goes_for 64 w t outcome.TheVariants.NotNow h in record { told = g.told; few = g.few; run = g.run; goes_on = g.goes_on; last = last_is g.told g.result_is }
-  where
-    last_is : (told : List Outcome) → (solo 64 w t outcome.TheVariants.NotNow).outcome ≡ last_told (outcome.TheVariants.NotNow ∷ told) → (solo 64 w t outcome.TheVariants.NotNow).outcome ≡ last_told told
-    last_is [] e = e
-    last_is (o ∷ told) e = e
+solo_runs w t h = let g = goes_for 64 w t outcome.TheVariants.NotNow h in
+    record { told = g.told; few = g.few; run = g.run; goes_on = g.goes_on; last = last_is (solo 64 w t outcome.TheVariants.NotNow).outcome g.told g.result_is }

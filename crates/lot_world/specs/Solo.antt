@@ -1,7 +1,7 @@
 -- What comes of a call whose thread steps alone.
-use Rattle.std.specs.Prelude.{ℕ, Bool, true, if◌then◌else◌, List, Option, Some, None, ◌≡◌, ◌≢◌, ◌≤◌, ◌++◌, ◌∷◌, [], length, replicate}
+use Rattle.std.specs.Prelude.{ℕ, Bool, true, false, if◌then◌else◌, List, Option, Some, None, ◌≡◌, ◌≢◌, ◌≤◌, ◌++◌, ◌∷◌, [], length, replicate}
 use Rattle.lot_base.specs.declared.wants.Want.{Want}
-use Rattle.lot_base.specs.declared.wants.Want.TheVariants.{Exclusive}
+use Rattle.lot_base.specs.declared.wants.Want.TheVariants.{Exclusive, Shared}
 use Rattle.lot_acts.specs.declared.acts.Act.TheVariants.{Sleep}
 use Rattle.lot_calls.specs.declared.outcomes.Answer.{Answer}
 use Rattle.lot_calls.specs.declared.outcomes.Answer as answer
@@ -10,10 +10,11 @@ use Rattle.lot_calls.specs.declared.outcomes.Outcome as outcome
 use Rattle.lot_steps.specs.declared.places.Place.TheVariants.{Idle}
 use Rattle.lot_steps.specs.Steps.{act_of, lock_of}
 use Rattle.lot_machine.specs.Machine.{State, place_at, word_at, kind_at, section_at, go_of}
-use Rattle.abstract_locks.specs.Locks.{Sort, Mutex, Rules, LockState, first_thread, Queued, MayEnter, IsBlocked, Owns, readers, with_right}
+use Rattle.abstract_locks.specs.Locks.{Sort, Mutex, Recursive, Rules, LockState, first_thread, Queued, MayEnter, IsBlocked, Owns, count, readers, with_right}
 use Rattle.abstract_locks.specs.Sites.{Line, Main, Second, has_readers}
 use Rattle.abstract_locks.specs.Purposes.{rules_of, Purpose, Enters, Releases, Converts, Bumps, Patience, Patient, Try}
-use Rattle.abstract_locks.specs.Runs.{LocksState, IsFull, rules_at, rights_in}
+use Rattle.abstract_locks.specs.Codes.{has_parked}
+use Rattle.abstract_locks.specs.Runs.{LocksState, IsFull, IsRun, rules_at, rights_in}
 use Rattle.lot_world.specs.SitesOf.{key_of}
 use Rattle.lot_world.specs.Refinement.{locks_of}
 use Rattle.lot_world.specs.WorldRuns.{IsWorldRun}
@@ -105,12 +106,38 @@ BumpsAlone t l (x ∷ q) o s =
     (o ≡ outcome.TheVariants.Sleep) × (s.exclusive ≡ Some x.thread)
     × (s.queue ≡ q ++ (record { thread = t; want = Exclusive }) ∷ [])
 
+-- to whom a bump of a lock that is shared gives way: who shares it, to a pending writer, on a recursive lock only as the last;
+-- and any other owner to whoever stands in the queue
+abbrev pub GivesWay : Rules → LockState → Want → Type 0
+GivesWay r s Shared = (s.pending ≢ None) × (r.sort ≡ Recursive → count s ≡ 1)
+GivesWay r s x = s.queue ≢ []
+
+-- where there is nobody; a parked bit may stand where a waiter was and is gone
+abbrev pub NeedsNoWay : Type 0 → Rules → LockState → Want → Type 0
+NeedsNoWay unparked r s Shared = GivesWay r s Shared → ⊥
+NeedsNoWay unparked r s x = unparked
+
+-- it gives its right up, and from there comes to what a call comes to that waits for that right
+pub record ComesBack (w : LocksState) (t l : ℕ) (x : Want) (o : Outcome) (v : LocksState) : Type 0 where
+  pub steps : ℕ
+  pub between : LocksState
+  pub run : IsRun w (replicate steps (go_of t)) (replicate steps outcome.TheVariants.Step) between
+  pub given_up : with_right x (rights_in between t l) ≡ rights_in w t l
+  pub enters : EntersAlone ⊥ between t l x Patient o v
+
+-- a bump of a lock that is shared gives way, or ends with its right
+pub record BumpsShared (unparked : Type 0) (w : LocksState) (t l : ℕ) (x : Want) (o : Outcome) (v : LocksState) : Type 0 where
+  pub gives_way : GivesWay (rules_at w l) (w.locks l) x → ComesBack w t l x o v
+  pub stays : NeedsNoWay unparked (rules_at w l) (w.locks l) x
+      → (o ≡ outcome.TheVariants.End answer.TheVariants.Ok) × Owns (v.locks l) t x
+
 abbrev pub EndsBy : (ℕ → ℕ) → LocksState → ℕ → Option Purpose → Outcome → LocksState → Type 0
 EndsBy words w t (Some (Enters l x how)) o v = EntersAlone (words l ≡ 0) w t l x how o v
 EndsBy words w t (Some (Releases l x fair)) o v = ReleasesAlone w t l x fair o v
 EndsBy words w t (Some (Converts l x y how)) o v = ConvertsAlone (w.locks l) t y how o (v.locks l)
-EndsBy words w t (Some (Bumps l Exclusive)) o v =
-    (rules_at w l).sort ≡ Mutex → BumpsAlone t l (w.locks l).queue o (v.locks l)
+EndsBy words w t (Some (Bumps l x)) o v =
+    ((rules_at w l).sort ≡ Mutex → BumpsAlone t l (w.locks l).queue o (v.locks l))
+    × (has_readers (rules_at w l).sort ≡ true → BumpsShared (has_parked (words l) ≡ false) w t l x o v)
 EndsBy words w t purpose o v = Unit {0}
 
 -- what a call comes to, by what it is for

@@ -1,9 +1,11 @@
 //! Inputs through `start`: what they answer, and what a broken device leaves.
 mod devices;
+mod fair_rows;
 mod rows;
 mod rwlock_rows;
 
 use devices::{Pieces, Short};
+use fair_rows::FAIR_ROWS;
 use lot_base::ListQueues;
 use lot_replay::start::start;
 use lot_world::{Answer, Call, Kind, MutexCall, Outcome, Step, Turn, World};
@@ -37,6 +39,15 @@ fn answers_inputs(rt: HostRuntime) {
 #[test]
 fn answers_inputs_of_reader_writer_locks(rt: HostRuntime) {
     for (input, want) in RWLOCK_ROWS {
+        let (text, ended) = replayed(rt.alloc(), input);
+        assert_eq!(rt; text.as_slice(), want);
+        assert_eq!(rt; ended, 0);
+    }
+}
+
+#[test]
+fn answers_inputs_of_fair_releases_and_bumps(rt: HostRuntime) {
+    for (input, want) in FAIR_ROWS {
         let (text, ended) = replayed(rt.alloc(), input);
         assert_eq!(rt; text.as_slice(), want);
         assert_eq!(rt; ended, 0);

@@ -1,3 +1,4 @@
+mod handed;
 mod rwlock;
 mod sizes;
 mod steps;
