@@ -14,4 +14,6 @@ pub mod RwLockCourses
 pub mod RwLockTakes
 pub mod RwLockFull
 pub mod RwLockRights
+pub mod RwLockHands
+pub mod TakesFew
 pub mod Behind

@@ -40,7 +40,7 @@ use Rattle.parking_lot_core.specs.declared.tokens.SectionRecord.{SectionRecord}
 use Rattle.parking_lot_core.specs.declared.tokens.Token.{Token}
 use Rattle.lot_queues.specs.Wants.{wants_of}
 use Rattle.parking_lot.specs.Paths.{step}
-use Rattle.parking_lot.specs.Takes.{sharers_in, successor_in}
+use Rattle.parking_lot.specs.Takes.{more_in, sharers_in, successor_in}
 use Rattle.parking_lot.specs.declared.acting.Sleeper.{Sleeper}
 
 -- a section that a thread is inside: what it did there, whom it took, what each of them wants, and which of them have no right yet
@@ -196,7 +196,7 @@ IsLeft None last = ⊥
 IsLeft (Some inside) last = (number : ℕ)
     × (last ≡ Some (record { key = first_key inside.keys; did = inside.did; number = number }))
 
--- whom a take took, by its reply
+-- whom a take took, by its reply; of those who were picked one at most wants more than to share
 abbrev pub TookBy : ℕ → Whom → Reply → Option Inside → Option Inside → Type 0
 TookBy key whom.TheVariants.First (Took any none_left) old new =
     (first : Option Waiter) × (any ≡ is_there first) × (new ≡ took_as (TakeFirst key) (listed first) old)
@@ -207,6 +207,7 @@ TookBy key (whom.TheVariants.Picked start recursive) (Picked sharers successor n
     (waiters : List Waiter) × (sharers ≡ sharers_in (wants_of waiters))
     × (successor ≡ successor_in (wants_of waiters))
     × (new ≡ took_as (did.TheVariants.TakePicked key start recursive) waiters old)
+    × (more_in (wants_of waiters) ≤ 1)
 TookBy key _ _ old new = ⊥
 
 -- what the end of its time made of a sleeper that stands under a key: it is inside the section of the key under which it may be

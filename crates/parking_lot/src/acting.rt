@@ -164,6 +164,7 @@ fn leave<R: Wait>(
     }
 }
 
+#[tactic(auto, using(crate::proofs::TakesFew::picked_few))]
 fn take(lot: &ParkingLot, section: &mut Option<Section>, key: Key, whom: Whom) -> Reply
     requires { MayTakeAt lot.now key section.old }
     ensures { IsIn lot.now section.new
