@@ -9,12 +9,27 @@ use std::process::ExitCode;
 use std::{env, io};
 
 fn main(rt: HostRuntime) -> ExitCode {
+    if asks_for_threads(&rt) {
+        return ExitCode::from(live(&rt, rt.alloc(), &mut io::writer(&rt)));
+    }
     match run(&rt) {
         Ok(status) => ExitCode::from(status),
         Err(_) => match println!(rt; "line 0 no memory") {
             Ok(()) => ExitCode::from(status::NO_MEMORY),
             Err(_) => ExitCode::from(status::BROKEN),
         },
+    }
+}
+
+// Whether the one argument is `live`.
+fn asks_for_threads(rt: &HostRuntime) -> bool {
+    let Ok(args) = env::args(rt) else {
+        return false;
+    };
+    let mut words = args.skip(1);
+    match (words.next(), words.next()) {
+        (Some(word), None) => word.as_str() == "live",
+        _ => false,
     }
 }
 
@@ -29,9 +44,6 @@ fn run(rt: &HostRuntime) -> io::Result<u8> {
         .iter()
         .map(|arg| arg.as_str())
         .collect::<Vec<&str>>(rt.alloc())?;
-    if matches!(words.as_slice(), ["live"]) {
-        return Ok(live(rt, rt.alloc(), &mut io::writer(rt)));
-    }
     let mut reader = BufReader::new(rt.alloc(), rt.reader())?;
     Ok(start(
         rt.alloc(),
