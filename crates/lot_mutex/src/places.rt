@@ -6,7 +6,8 @@
 //! | 1, `LOCKED` | owned, and nobody waits |
 //! | 2, `PARKED` | unlocked; somebody may stand in the queue |
 //! | 3 | owned; somebody may stand in the queue |
-ghost use Rattle.std.specs.Prelude.{◌≡◌, ◌<◌, ◌^◌};
+ghost use Rattle.std.specs.Prelude.{ℕ, ◌≡◌, ◌<◌, ◌^◌};
+ghost use Rattle.lot_acts.specs.Acts.{outcome_of};
 ghost use Rattle.lot_mutex.specs.MutexProfiles.{mutex_taker, mutex_wants, mutex_late_line, mutex_owes, mutex_retries};
 ghost use Rattle.lot_mutex.specs.MutexSteps.{is_locked, is_parked, mutex_first, mutex_right, mutex_act, mutex_next, mutex_looking, mutex_owners};
 
@@ -15,7 +16,7 @@ use crate::lock::{Entry, LockAt, lock_act, lock_owners, next_lock, still_retries
 use crate::unlock::{UnlockAt, next_unlock, unlock_act};
 use lot_acts::{Act, Next, Owners, Reply};
 use lot_base::{Line, Op, Want};
-use lot_calls::{Answer, MutexCall};
+use lot_calls::{Answer, MutexCall, Outcome};
 
 pub const LOCKED: u64 = 1;
 
@@ -112,6 +113,19 @@ impl MutexPlace {
             },
             MutexPlace::Bump => Act::Word { lock, op: Op::Load },
             MutexPlace::HandOff { at, .. } => hand_off_act(lock, at),
+        }
+    }
+
+    /// What a thread is told that comes here.
+    pub fn outcome(self) -> Outcome
+        ensures { (l : ℕ) → result ≡ outcome_of (mutex_act l self) }
+    {
+        match self {
+            MutexPlace::Lock {
+                at: LockAt::Asleep | LockAt::Taken { .. } | LockAt::Handed { .. },
+                ..
+            } => Outcome::Sleep,
+            _ => Outcome::Step,
         }
     }
 

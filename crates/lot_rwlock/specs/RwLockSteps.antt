@@ -1,5 +1,5 @@
 -- The steps of a reader-writer lock: what a thread does at each place, and where each reply leads it.
-use Rattle.std.specs.Prelude.{ℕ, Bool, true, false, Option, Some, None, if◌then◌else◌, ◌==◌, ◌&&◌, not, ◌+◌, ◌-◌, ◌*◌, nat_le}
+use Rattle.std.specs.Prelude.{ℕ, Bool, true, false, Option, Some, None, if◌then◌else◌, ◌==◌, ◌&&◌, not, ◌+◌, ◌-◌, ◌*◌, nat_le, ◌≡◌}
 use Rattle.lot_base.specs.declared.keys.Keys.TheVariants.{One}
 use Rattle.lot_base.specs.declared.keys.Line.{Line}
 use Rattle.lot_base.specs.declared.keys.Line.TheVariants.{Main, Second}
@@ -17,9 +17,10 @@ use Rattle.lot_calls.specs.declared.calls.Patience.{Patience}
 use Rattle.lot_calls.specs.declared.calls.Patience.TheVariants.{Patient, Try}
 use Rattle.lot_calls.specs.declared.outcomes.Answer.{Answer}
 use Rattle.lot_calls.specs.declared.outcomes.Answer as answer
+use Rattle.lot_calls.specs.declared.outcomes.Outcome.{Outcome}
 pub use Rattle.abstract_locks.specs.Purposes.{wanted, from_of, to_of}
 use Rattle.abstract_locks.specs.Codes.{count_in, has_aside, has_parked, is_blocked}
-use Rattle.lot_acts.specs.Acts.{wakes_taken, any_picked}
+use Rattle.lot_acts.specs.Acts.{wakes_taken, any_picked, outcome_of}
 use Rattle.lot_acts.specs.declared.acts.Act.{Act}
 use Rattle.lot_acts.specs.declared.acts.Act as act
 use Rattle.lot_acts.specs.declared.acts.Check.{Check}
@@ -195,6 +196,10 @@ park_act l a x m (parking.Taken by) = act.TheVariants.Sleep
 park_act l a x m parking.Remove = act.TheVariants.Remove (key_of l m)
 park_act l a x m parking.Clear = act.TheVariants.Word l (unparked m)
 park_act l a x m parking.GiveUp = leaves l m
+
+-- what a thread is told that comes to a place of a parking
+abbrev pub IsTold : Outcome → ParkAt → Type 0
+IsTold told at = (l : ℕ) (a : Admission) (x : Want) (m : Line) → told ≡ outcome_of (park_act l a x m at)
 
 -- whom a thread takes of a queue: those whom the lock lets in, or the writer aside
 abbrev pub whom : Admission → Option Want → Line → Whom

@@ -10,7 +10,7 @@
 //! | `Clear` | clears the parked bit of the queue | `GiveUp` |
 //! | `GiveUp` | leaves the section | ends with `No`; a pending writer rolls back |
 ghost use Rattle.std.specs.Prelude.{◌≡◌, ◌<◌, ◌^◌};
-ghost use Rattle.lot_rwlock.specs.RwLockSteps.{wanted, unparked, parks_at, looks_again, park_check, park_act, clears, gave_up, park_next};
+ghost use Rattle.lot_rwlock.specs.RwLockSteps.{IsTold, wanted, unparked, parks_at, looks_again, park_check, park_act, clears, gave_up, park_next};
 ghost use Rattle.lot_base.specs.Keys.{key_of};
 ghost use Rattle.lot_rwlock.specs.RwLockProfiles.{is_inside};
 
@@ -18,7 +18,7 @@ use crate::places::{Admission, NOT_PARKED, NOT_WRITER_PARKED, RwLockAt, RwLockPl
 use crate::purposes::wanted;
 use lot_acts::{Act, Check, Next, Reply, Wakes};
 use lot_base::{Keys, Line, Note, Op};
-use lot_calls::{Access, Answer};
+use lot_calls::{Access, Answer, Outcome};
 
 #[derive(Clone, Copy, Debug, PartialEq, Eq)]
 pub enum ParkAt {
@@ -36,6 +36,18 @@ pub enum ParkAt {
     Clear,
     /// Late, behind its removal.
     GiveUp,
+}
+
+impl ParkAt {
+    /// What a thread is told that comes here.
+    pub(super) fn outcome(self) -> Outcome
+        ensures { IsTold result self }
+    {
+        match self {
+            ParkAt::Asleep | ParkAt::Taken { .. } => Outcome::Sleep,
+            _ => Outcome::Step,
+        }
+    }
 }
 
 impl ParkAt {

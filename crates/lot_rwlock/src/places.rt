@@ -1,5 +1,6 @@
 //! The steps of a reader-writer lock. What the bits of its word mean is told in `bits`.
-ghost use Rattle.std.specs.Prelude.{◌≡◌, ◌<◌, ◌^◌};
+ghost use Rattle.std.specs.Prelude.{ℕ, ◌≡◌, ◌<◌, ◌^◌};
+ghost use Rattle.lot_acts.specs.Acts.{outcome_of};
 ghost use Rattle.abstract_locks.specs.Codes as codes;
 ghost use Rattle.lot_rwlock.specs.RwLockSteps.{wanted, goes, rwlock_act, rwlock_next};
 ghost use Rattle.lot_base.specs.Keys.{key_of};
@@ -13,7 +14,7 @@ use crate::release::{WakeAt, gave_way, next_wake, wake_act};
 use lot_acts::bits::{has_aside, is_blocked};
 use lot_acts::{Act, Next, Reply};
 use lot_base::{Keys, Line, Op, Want};
-use lot_calls::{Access, Patience};
+use lot_calls::{Access, Outcome, Patience};
 
 pub const PARKED: u64 = 1;
 
@@ -95,6 +96,20 @@ impl RwLockPlace {
             retries,
             ..self
         })
+    }
+
+    /// What a thread is told that comes here.
+    pub fn outcome(self, admission: Admission) -> Outcome
+        ensures { (l : ℕ) → result ≡ outcome_of (rwlock_act l admission self) }
+    {
+        match self.at {
+            RwLockAt::Park(at) | RwLockAt::Aside(at) => at.outcome(),
+            RwLockAt::Decide(seen) => match admission.decided(self.purpose, seen) {
+                Decision::Refuse(answer) => Outcome::End(answer),
+                _ => Outcome::Step,
+            },
+            _ => Outcome::Step,
+        }
     }
 
     /// What the thread does next.

@@ -1,7 +1,8 @@
 //! Where a thread stands in any call of a reader-writer lock.
 //!
 //! A bump looks whether anybody waits, releases its right fairly where somebody does, and enters again.
-ghost use Rattle.std.specs.Prelude.{◌≡◌, ◌<◌, ◌^◌};
+ghost use Rattle.std.specs.Prelude.{ℕ, ◌≡◌, ◌<◌, ◌^◌};
+ghost use Rattle.lot_acts.specs.Acts.{outcome_of};
 ghost use Rattle.lot_rwlock_fair.specs.FairSteps.{entering, enters_again, call_act, call_next, gives_way, gives_up_at, glance_next, given, plain_next, bump_next, call_owners, call_shares};
 ghost use Rattle.lot_rwlock_fair.specs.FairProfiles.{call_taker, call_wants, call_looking, call_late_line, call_owes, call_retries};
 
@@ -10,7 +11,7 @@ use crate::handed::{HandedAt, handed_act, handed_next, handed_woken};
 use lot_acts::bits::{count_in, has_parked, has_writer};
 use lot_acts::{Act, Next, Owners, Reply};
 use lot_base::{Line, Note, Op, Want};
-use lot_calls::{Access, Answer, Patience};
+use lot_calls::{Access, Answer, Outcome, Patience};
 use lot_rwlock::park::ParkAt;
 use lot_rwlock::purposes::wanted;
 use lot_rwlock::{Admission, RwLockAt, RwLockPlace, RwLockPurpose};
@@ -153,6 +154,22 @@ impl RwLockCallPlace {
                 hand_over_act(lock, admission, access, at)
             }
             RwLockCallPlace::Handed { access, at, .. } => handed_act(lock, access, at),
+        }
+    }
+
+    /// What a thread is told that comes here.
+    pub fn outcome(self, admission: Admission) -> Outcome
+        ensures { (l : ℕ) → result ≡ outcome_of (call_act l admission self) }
+    {
+        match self {
+            RwLockCallPlace::Plain(place) | RwLockCallPlace::Bump(place) => {
+                place.outcome(admission)
+            }
+            RwLockCallPlace::Handed {
+                at: HandedAt::Asleep { .. },
+                ..
+            } => Outcome::Sleep,
+            _ => Outcome::Step,
         }
     }
 

@@ -13,4 +13,4 @@ pub use lot_mutex;
 pub use lot_mutex::{Entry, HandOffAt, LockAt, MutexPlace, UnlockAt};
 pub use lot_rwlock;
 pub use lot_rwlock_fair;
-pub use places::{Place, advance, has_right};
+pub use places::{Place, advance, arrive, has_right};

@@ -1,10 +1,11 @@
 //! Where a thread stands, and where each step leads it.
 ghost use Rattle.std.specs.Prelude.{◌≡◌};
+ghost use Rattle.lot_acts.specs.Acts.{outcome_of};
 ghost use Rattle.lot_steps.specs.Steps.{HasKeys, first_place, has_right, act_of, next_place, next_act, owners_after, shares_after, taker, wants, looking, late_key, owes_on, retries_on, is_idle};
 
 use lot_acts::{Act, Next, Owners, Reply};
 use lot_base::{Key, Want};
-use lot_calls::{Call, Kind};
+use lot_calls::{Call, Kind, Outcome};
 use lot_mutex::{MutexPlace, mutex_right};
 use lot_rwlock::Admission;
 use lot_rwlock_fair::{RwLockCallPlace, call_right};
@@ -61,6 +62,17 @@ impl Place {
                 admission,
                 at,
             } => at.act(lock, admission),
+        }
+    }
+
+    /// What a thread is told that comes here.
+    pub fn outcome(self) -> Outcome
+        ensures { result ≡ outcome_of (act_of self) }
+    {
+        match self {
+            Place::Idle => Outcome::Step,
+            Place::Mutex { at, .. } => at.outcome(),
+            Place::RwLock { admission, at, .. } => at.outcome(admission),
         }
     }
 
@@ -211,6 +223,35 @@ pub fn has_right(call: Call, thread: usize, owners: Owners, shares: usize) -> bo
     match call {
         Call::Mutex { call, .. } => mutex_right(call, thread, owners),
         Call::RwLock { call, .. } => call_right(call, thread, owners, shares),
+    }
+}
+
+/// As `advance`, and what the thread is told of what it does next.
+pub fn arrive(place: Place, reply: Reply) -> (Place, Outcome)
+    ensures place { result.0 ≡ next_place place reply }
+    ensures outcome { result.1 ≡ outcome_of (next_act place reply) }
+{
+    match place {
+        Place::Idle => (Place::Idle, Outcome::Step),
+        Place::Mutex { lock, at } => match at.next(reply) {
+            Next::At(at) => (Place::Mutex { lock, at }, at.outcome()),
+            Next::End(answer) => (Place::Idle, Outcome::End(answer)),
+        },
+        Place::RwLock {
+            lock,
+            admission,
+            at,
+        } => match at.next(admission, reply) {
+            Next::At(at) => {
+                let next = Place::RwLock {
+                    lock,
+                    admission,
+                    at,
+                };
+                (next, at.outcome(admission))
+            }
+            Next::End(answer) => (Place::Idle, Outcome::End(answer)),
+        },
     }
 }
 

@@ -480,7 +480,7 @@ pub const MALFORMED: [(&str, &str); 25] = [
         "line 3 malformed\n",
     ),
     (
-        "threads 1\nlock m mutex\n0 begin bump_shared m\n",
+        "threads 1\nlock m mutex\n0 begin notify_one m\n",
         "line 3 malformed\n",
     ),
     // A line before.
