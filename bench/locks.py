@@ -22,7 +22,9 @@ RUST = os.path.join(HERE, "rust")
 THEIRS = os.path.join(RUST, "out", "release", "lotbench")
 # Where Debian's packages lay the sources of Rust crates.
 REGISTRY = "/usr/share/cargo/registry"
-MODES = ["raw_mutex", "raw_mutex_try", "mutex", "mutex_try", "fair"]
+MUTEXES = ["raw_mutex", "raw_mutex_try", "mutex", "mutex_try", "fair"]
+RWLOCKS = ["raw_read", "raw_write", "read", "write", "rw_mix", "read_recursive", "upgradable", "upgrade", "downgrade"]
+MODES = MUTEXES + RWLOCKS
 THREADS = [1, 2, 4, 8]
 COLLECTED = re.compile(r"Collected\s*:\s*(\d+)")
 

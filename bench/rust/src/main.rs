@@ -1,16 +1,19 @@
 //! `lotbench` over the Rust crate `parking_lot`: the same arguments, the same line.
 
-use parking_lot::lock_api::RawMutex as _;
-use parking_lot::{FairMutex, Mutex, RawMutex};
+use parking_lot::lock_api::{RawMutex as _, RawRwLock as _};
+use parking_lot::{FairMutex, Mutex, RawMutex, RawRwLock, RwLock, RwLockUpgradableReadGuard, RwLockWriteGuard};
+use std::hint::black_box;
 use std::process::ExitCode;
 use std::sync::atomic::{AtomicU64, Ordering::Relaxed};
 use std::thread;
 use std::time::Instant;
 
 const BATCH: u64 = 128;
+// One operation in so many writes, where some read and some write.
+const ONE_IN: u64 = 16;
 const MOST_THREADS: usize = 64;
 const MOST_OPERATIONS: u64 = 1_000_000_000_000;
-const USAGE: &str = "usage: lotbench raw_mutex|raw_mutex_try|mutex|mutex_try|fair THREADS N";
+const USAGE: &str = "usage: lotbench raw_mutex|raw_mutex_try|mutex|mutex_try|fair|raw_read|raw_write|read|write|rw_mix|read_recursive|upgradable|upgrade|downgrade THREADS N";
 
 #[derive(Clone, Copy)]
 enum Mode {
@@ -19,6 +22,15 @@ enum Mode {
     Mutex,
     MutexTry,
     Fair,
+    RawRead,
+    RawWrite,
+    Read,
+    Write,
+    RwMix,
+    ReadRecursive,
+    Upgradable,
+    Upgrade,
+    Downgrade,
 }
 
 impl Mode {
@@ -29,6 +41,15 @@ impl Mode {
             "mutex" => Some(Mode::Mutex),
             "mutex_try" => Some(Mode::MutexTry),
             "fair" => Some(Mode::Fair),
+            "raw_read" => Some(Mode::RawRead),
+            "raw_write" => Some(Mode::RawWrite),
+            "read" => Some(Mode::Read),
+            "write" => Some(Mode::Write),
+            "rw_mix" => Some(Mode::RwMix),
+            "read_recursive" => Some(Mode::ReadRecursive),
+            "upgradable" => Some(Mode::Upgradable),
+            "upgrade" => Some(Mode::Upgrade),
+            "downgrade" => Some(Mode::Downgrade),
             _ => None,
         }
     }
@@ -40,6 +61,15 @@ impl Mode {
             Mode::Mutex => "mutex",
             Mode::MutexTry => "mutex_try",
             Mode::Fair => "fair",
+            Mode::RawRead => "raw_read",
+            Mode::RawWrite => "raw_write",
+            Mode::Read => "read",
+            Mode::Write => "write",
+            Mode::RwMix => "rw_mix",
+            Mode::ReadRecursive => "read_recursive",
+            Mode::Upgradable => "upgradable",
+            Mode::Upgrade => "upgrade",
+            Mode::Downgrade => "downgrade",
         }
     }
 }
@@ -52,6 +82,8 @@ struct Bench {
     raw: Apart<RawMutex>,
     value: Apart<Mutex<u64>>,
     fair: Apart<FairMutex<u64>>,
+    raw_rwlock: Apart<RawRwLock>,
+    rwlock: Apart<RwLock<u64>>,
     taken: Apart<AtomicU64>,
     operations: u64,
 }
@@ -109,6 +141,91 @@ fn try_value(bench: &Bench, times: u64) {
     }
 }
 
+#[inline(never)]
+fn read_raw(bench: &Bench, times: u64) {
+    for _ in 0..times {
+        bench.raw_rwlock.0.lock_shared();
+        // This thread shares it.
+        unsafe { bench.raw_rwlock.0.unlock_shared() };
+    }
+}
+
+#[inline(never)]
+fn write_raw(bench: &Bench, times: u64) {
+    for _ in 0..times {
+        bench.raw_rwlock.0.lock_exclusive();
+        // It is locked by this thread.
+        unsafe { bench.raw_rwlock.0.unlock_exclusive() };
+    }
+}
+
+#[inline]
+fn read_once(bench: &Bench) {
+    black_box(*bench.rwlock.0.read());
+}
+
+#[inline]
+fn write_once(bench: &Bench) {
+    let mut value = bench.rwlock.0.write();
+    *value = value.wrapping_add(1);
+}
+
+#[inline(never)]
+fn read_value(bench: &Bench, times: u64) {
+    for _ in 0..times {
+        read_once(bench);
+    }
+}
+
+#[inline(never)]
+fn write_value(bench: &Bench, times: u64) {
+    for _ in 0..times {
+        write_once(bench);
+    }
+}
+
+#[inline(never)]
+fn mix_value(bench: &Bench, times: u64) {
+    for turn in 0..times {
+        if turn % ONE_IN == 0 {
+            write_once(bench);
+        } else {
+            read_once(bench);
+        }
+    }
+}
+
+#[inline(never)]
+fn read_again(bench: &Bench, times: u64) {
+    for _ in 0..times {
+        black_box(*bench.rwlock.0.read_recursive());
+    }
+}
+
+#[inline(never)]
+fn come_upgradable(bench: &Bench, times: u64) {
+    for _ in 0..times {
+        black_box(*bench.rwlock.0.upgradable_read());
+    }
+}
+
+#[inline(never)]
+fn upgrade_value(bench: &Bench, times: u64) {
+    for _ in 0..times {
+        let mut value = RwLockUpgradableReadGuard::upgrade(bench.rwlock.0.upgradable_read());
+        *value = value.wrapping_add(1);
+    }
+}
+
+#[inline(never)]
+fn downgrade_value(bench: &Bench, times: u64) {
+    for _ in 0..times {
+        let mut value = bench.rwlock.0.write();
+        *value = value.wrapping_add(1);
+        drop(RwLockWriteGuard::downgrade(value));
+    }
+}
+
 fn work(mode: Mode, bench: &Bench) -> u64 {
     let mut done = 0;
     loop {
@@ -122,6 +239,15 @@ fn work(mode: Mode, bench: &Bench) -> u64 {
             Mode::Mutex => lock_value(bench, times),
             Mode::MutexTry => try_value(bench, times),
             Mode::Fair => lock_fair(bench, times),
+            Mode::RawRead => read_raw(bench, times),
+            Mode::RawWrite => write_raw(bench, times),
+            Mode::Read => read_value(bench, times),
+            Mode::Write => write_value(bench, times),
+            Mode::RwMix => mix_value(bench, times),
+            Mode::ReadRecursive => read_again(bench, times),
+            Mode::Upgradable => come_upgradable(bench, times),
+            Mode::Upgrade => upgrade_value(bench, times),
+            Mode::Downgrade => downgrade_value(bench, times),
         }
         done += times;
     }
@@ -151,6 +277,8 @@ fn main() -> ExitCode {
         raw: Apart(RawMutex::INIT),
         value: Apart(Mutex::new(0)),
         fair: Apart(FairMutex::new(0)),
+        raw_rwlock: Apart(RawRwLock::INIT),
+        rwlock: Apart(RwLock::new(0)),
         taken: Apart(AtomicU64::new(0)),
         operations,
     });
@@ -162,9 +290,10 @@ fn main() -> ExitCode {
     });
     let nanos = started.elapsed().as_nanos();
     let answer = match mode {
-        Mode::RawMutex | Mode::RawMutexTry => counts.iter().sum(),
         Mode::Mutex | Mode::MutexTry => *bench.value.0.lock(),
         Mode::Fair => *bench.fair.0.lock(),
+        Mode::Write | Mode::Upgrade | Mode::Downgrade => *bench.rwlock.0.read(),
+        _ => counts.iter().sum(),
     };
     let (low, high) = (counts.iter().min().unwrap(), counts.iter().max().unwrap());
     println!("{} {threads} {operations} {nanos} {answer} {low} {high}", mode.name());

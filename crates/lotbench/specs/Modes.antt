@@ -1,7 +1,7 @@
 -- The names of the modes.
 use Rattle.std.specs.Prelude.{◌≡◌, ◌≢◌, ℕ, List, codes, Option, MatchOption}
 use Rattle.lotbench.specs.declared.plans.Mode.{Mode}
-use Rattle.lotbench.specs.declared.plans.Mode.TheVariants.{RawMutex, RawMutexTry, Mutex, MutexTry, Fair}
+use Rattle.lotbench.specs.declared.plans.Mode.TheVariants.{RawMutex, RawMutexTry, Mutex, MutexTry, Fair, RawRead, RawWrite, Read, Write, RwMix, ReadRecursive, Upgradable, Upgrade, Downgrade}
 
 abbrev pub name_of : Mode → List ℕ
 name_of RawMutex = codes "raw_mutex"
@@ -9,6 +9,15 @@ name_of RawMutexTry = codes "raw_mutex_try"
 name_of Mutex = codes "mutex"
 name_of MutexTry = codes "mutex_try"
 name_of Fair = codes "fair"
+name_of RawRead = codes "raw_read"
+name_of RawWrite = codes "raw_write"
+name_of Read = codes "read"
+name_of Write = codes "write"
+name_of RwMix = codes "rw_mix"
+name_of ReadRecursive = codes "read_recursive"
+name_of Upgradable = codes "upgradable"
+name_of Upgrade = codes "upgrade"
+name_of Downgrade = codes "downgrade"
 
 -- the mode of a name, and none where no mode has it
 abbrev pub IsModeNamed : List ℕ → Option Mode → Type 0

@@ -3,6 +3,7 @@
 
 mod plans;
 mod runs;
+mod rwlocks;
 mod shares;
 mod start;
 #[cfg(test)]

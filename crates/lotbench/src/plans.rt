@@ -22,6 +22,24 @@ pub(crate) enum Mode {
     MutexTry,
     /// The lock of a value of a fair mutex, to which 1 is added, and its unlock.
     Fair,
+    /// A shared lock and its release, of a raw reader-writer lock.
+    RawRead,
+    /// An exclusive lock and its release, of a raw reader-writer lock.
+    RawWrite,
+    /// A value is read under a reader-writer lock.
+    Read,
+    /// 1 is added to the value of a reader-writer lock.
+    Write,
+    /// The value is read, and in one operation of 16 1 is added to it.
+    RwMix,
+    /// The value of a recursive lock is read.
+    ReadRecursive,
+    /// The value is read by who may write it later.
+    Upgradable,
+    /// The same, and the right is upgraded and 1 added.
+    Upgrade,
+    /// 1 is added, and the right is downgraded.
+    Downgrade,
 }
 
 impl Mode {
@@ -35,6 +53,15 @@ impl Mode {
             "mutex" => Some(Mode::Mutex),
             "mutex_try" => Some(Mode::MutexTry),
             "fair" => Some(Mode::Fair),
+            "raw_read" => Some(Mode::RawRead),
+            "raw_write" => Some(Mode::RawWrite),
+            "read" => Some(Mode::Read),
+            "write" => Some(Mode::Write),
+            "rw_mix" => Some(Mode::RwMix),
+            "read_recursive" => Some(Mode::ReadRecursive),
+            "upgradable" => Some(Mode::Upgradable),
+            "upgrade" => Some(Mode::Upgrade),
+            "downgrade" => Some(Mode::Downgrade),
             _ => None,
         }
     }
@@ -48,6 +75,15 @@ impl Mode {
             Mode::Mutex => "mutex",
             Mode::MutexTry => "mutex_try",
             Mode::Fair => "fair",
+            Mode::RawRead => "raw_read",
+            Mode::RawWrite => "raw_write",
+            Mode::Read => "read",
+            Mode::Write => "write",
+            Mode::RwMix => "rw_mix",
+            Mode::ReadRecursive => "read_recursive",
+            Mode::Upgradable => "upgradable",
+            Mode::Upgrade => "upgrade",
+            Mode::Downgrade => "downgrade",
         }
     }
 }

@@ -1,10 +1,15 @@
 //! Plans, carried out by threads.
 ghost use Rattle.std.specs.Prelude.{◌≡◌, ◌≤◌, IfOk, IfSome, All};
 ghost use Rattle.std.specs.Arc.{arc_value};
+ghost use Rattle.parking_lot.specs.RwLockUsers.{lot_of as rwlot_of};
 ghost use Rattle.parking_lot.specs.Users.{lock_of, lot_of};
 ghost use Rattle.parking_lot_core.specs.Tokens.{IsTicketOf, IsTokenOf};
 
 use crate::plans::{Mode, Plan};
+use crate::rwlocks::{
+    RWLOCKS, RwLocks, come_upgradable, downgrade_value, mix_value, read_raw, read_value,
+    rwlocks_of, upgrade_value, value_in, write_raw, write_value,
+};
 use crate::shares::Shares;
 use parking_lot::lock_raw::RawMutex as RawLock;
 use parking_lot::{FairMutex, Fault, Mutex, ParkingLot, RawMutex, Ticket, Token, lock_api};
@@ -18,7 +23,7 @@ use std::time::{Clock, Instant};
 #[derive(Clone, Copy, Debug, PartialEq, Eq)]
 pub(crate) struct Figures {
     pub(crate) nanos: u128,
-    /// How often the lock was taken; in the modes with a value, that value.
+    /// The value, in the modes that add 1 to it each time, and else how often the lock was taken.
     pub(crate) answer: u64,
     /// How often the thread took the lock that took it least.
     pub(crate) low: u64,
@@ -26,13 +31,14 @@ pub(crate) struct Figures {
     pub(crate) high: u64,
 }
 
-// A mutex without a value, one with, and a fair one, of one lot.
+// A mutex without a value, one with, and a fair one, and reader-writer locks, of one lot.
 #[derive(Drop)]
 struct Bench {
     raw: RawMutex,
     mutex: Mutex<u64>,
     fair: FairMutex<u64>,
-    ghost together: { (lot_of mutex ≡ lot_of raw) × (lot_of fair ≡ lot_of raw) },
+    rwlocks: RwLocks,
+    ghost together: { (lot_of mutex ≡ lot_of raw) × (lot_of fair ≡ lot_of raw) × (rwlot_of rwlocks.raw ≡ lot_of raw) },
 }
 
 fn one_of(lot: &ParkingLot, tickets: &mut Vec<Ticket>) -> Option<Ticket>
@@ -53,7 +59,7 @@ fn put_back(lot: &ParkingLot, tickets: &mut Vec<Ticket>, ticket: Ticket) -> Resu
     }
 }
 
-// The mutexes, drawn from the lot by the thread of a ticket.
+// The locks, drawn from the lot by the thread of a ticket.
 fn bench_by(lot: &Arc<ParkingLot>, ticket: Ticket) -> Result<(Bench, Ticket), Fault>
     requires { IsTicketOf (arc_value lot.now) ticket }
     ensures { IfOk result (λ made. (lot_of made.0.raw ≡ arc_value lot.now) × IsTicketOf (arc_value lot.now) made.1) }
@@ -64,18 +70,26 @@ fn bench_by(lot: &Arc<ParkingLot>, ticket: Ticket) -> Result<(Bench, Ticket), Fa
         Ok(mutex) => mutex,
         Err((fault, _)) => return Err(fault),
     };
-    match FairMutex::new(lot, &mut token, 0) {
-        Ok(fair) => Ok((Bench { raw, mutex, fair }, token.leave())),
-        Err((fault, _)) => Err(fault),
-    }
+    let fair = match FairMutex::new(lot, &mut token, 0) {
+        Ok(fair) => fair,
+        Err((fault, _)) => return Err(fault),
+    };
+    let rwlocks = rwlocks_of(lot, &mut token)?;
+    let bench = Bench {
+        raw,
+        mutex,
+        fair,
+        rwlocks,
+    };
+    Ok((bench, token.leave()))
 }
 
-// A lot with so many threads, and mutexes of it.
+// A lot with so many threads, and locks of it.
 fn bench_for(alloc: Global, threads: usize) -> Result<(Bench, Vec<Ticket>), Fault>
     requires { (1 ≤ threads) × (threads ≤ 64) }
     ensures { IfOk result (λ made. All (IsTicketOf (lot_of made.0.raw)) made.1.items) }
 {
-    let (lot, mut tickets) = ParkingLot::new(alloc, 3, threads)?;
+    let (lot, mut tickets) = ParkingLot::new(alloc, 3 + RWLOCKS, threads)?;
     let Some(first) = one_of(&lot, &mut tickets) else {
         return Err(Fault::NoMemory);
     };
@@ -168,6 +182,30 @@ fn try_value<M: RawLock, R: Wait>(
     }
 }
 
+// Does so many operations.
+fn operate<R: Wait>(rt: &R, mode: Mode, bench: &Bench, token: &mut Token, times: u64)
+    requires { IsTokenOf (lot_of bench.now.raw) token.old }
+    ensures { IsTokenOf (lot_of bench.now.raw) token.new }
+{
+    let rwlocks = &bench.rwlocks;
+    match mode {
+        Mode::RawMutex => lock_raw(rt, &bench.raw, token, times),
+        Mode::RawMutexTry => try_raw(rt, &bench.raw, token, times),
+        Mode::Mutex => lock_value(rt, &bench.mutex, token, times),
+        Mode::MutexTry => try_value(rt, &bench.mutex, token, times),
+        Mode::Fair => lock_value(rt, &bench.fair, token, times),
+        Mode::RawRead => read_raw(rt, &rwlocks.raw, token, times),
+        Mode::RawWrite => write_raw(rt, &rwlocks.raw, token, times),
+        Mode::Read => read_value(rt, &rwlocks.value, token, times),
+        Mode::Write => write_value(rt, &rwlocks.value, token, times),
+        Mode::RwMix => mix_value(rt, &rwlocks.value, token, times),
+        Mode::ReadRecursive => read_value(rt, &rwlocks.recursive, token, times),
+        Mode::Upgradable => come_upgradable(rt, &rwlocks.value, token, times),
+        Mode::Upgrade => upgrade_value(rt, &rwlocks.value, token, times),
+        Mode::Downgrade => downgrade_value(rt, &rwlocks.value, token, times),
+    }
+}
+
 // Does operations until none is left. How many it did.
 fn work<R: Wait>(rt: &R, mode: Mode, bench: &Bench, ticket: Ticket, shares: &Shares) -> u64
     requires { IsTicketOf (lot_of bench.now.raw) ticket }
@@ -179,13 +217,7 @@ fn work<R: Wait>(rt: &R, mode: Mode, bench: &Bench, ticket: Ticket, shares: &Sha
         if times == 0 {
             break;
         }
-        match mode {
-            Mode::RawMutex => lock_raw(rt, &bench.raw, &mut token, times),
-            Mode::RawMutexTry => try_raw(rt, &bench.raw, &mut token, times),
-            Mode::Mutex => lock_value(rt, &bench.mutex, &mut token, times),
-            Mode::MutexTry => try_value(rt, &bench.mutex, &mut token, times),
-            Mode::Fair => lock_value(rt, &bench.fair, &mut token, times),
-        }
+        operate(rt, mode, bench, &mut token, times);
         done = done.saturating_add(times);
     }
     drop(token.leave());
@@ -194,11 +226,19 @@ fn work<R: Wait>(rt: &R, mode: Mode, bench: &Bench, ticket: Ticket, shares: &Sha
 
 fn total_of(mode: Mode, bench: Bench, counts: &[u64]) -> u64 {
     match mode {
-        Mode::RawMutex | Mode::RawMutexTry => counts
-            .iter()
-            .fold(0u64, |all, count| all.saturating_add(*count)),
         Mode::Mutex | Mode::MutexTry => bench.mutex.into_inner(),
         Mode::Fair => bench.fair.into_inner(),
+        Mode::Write | Mode::Upgrade | Mode::Downgrade => value_in(bench.rwlocks),
+        Mode::RawMutex
+        | Mode::RawMutexTry
+        | Mode::RawRead
+        | Mode::RawWrite
+        | Mode::Read
+        | Mode::RwMix
+        | Mode::ReadRecursive
+        | Mode::Upgradable => counts
+            .iter()
+            .fold(0u64, |all, count| all.saturating_add(*count)),
     }
 }
 

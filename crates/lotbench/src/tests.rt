@@ -30,6 +30,15 @@ fn does_every_operation(rt: HostRuntime) -> Result<(), Fail> {
         ("mutex", Mode::Mutex),
         ("mutex_try", Mode::MutexTry),
         ("fair", Mode::Fair),
+        ("raw_read", Mode::RawRead),
+        ("raw_write", Mode::RawWrite),
+        ("read", Mode::Read),
+        ("write", Mode::Write),
+        ("rw_mix", Mode::RwMix),
+        ("read_recursive", Mode::ReadRecursive),
+        ("upgradable", Mode::Upgradable),
+        ("upgrade", Mode::Upgrade),
+        ("downgrade", Mode::Downgrade),
     ] {
         let plan = plan_of(&[name, "2", "1000"]).ok_or("it is a plan")?;
         assert_eq!(rt; (plan.mode, plan.threads, plan.operations), (mode, 2, 1000));

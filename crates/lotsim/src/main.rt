@@ -1,6 +1,7 @@
-//! Any number of threads over named locks, by a list of lines.
+//! Any number of threads over named locks, by a list of lines; or real threads on one lot.
 #![tactic(auto)]
 
+use lot_live::live;
 use lot_replay::start::start;
 use lot_replay::status;
 use std::io::{BufReader, ErrorKind};
@@ -8,12 +9,27 @@ use std::process::ExitCode;
 use std::{env, io};
 
 fn main(rt: HostRuntime) -> ExitCode {
+    if asks_for_threads(&rt) {
+        return ExitCode::from(live(&rt, rt.alloc(), &mut io::writer(&rt)));
+    }
     match run(&rt) {
         Ok(status) => ExitCode::from(status),
         Err(_) => match println!(rt; "line 0 no memory") {
             Ok(()) => ExitCode::from(status::NO_MEMORY),
             Err(_) => ExitCode::from(status::BROKEN),
         },
+    }
+}
+
+// Whether the one argument is `live`.
+fn asks_for_threads(rt: &HostRuntime) -> bool {
+    let Ok(args) = env::args(rt) else {
+        return false;
+    };
+    let mut words = args.skip(1);
+    match (words.next(), words.next()) {
+        (Some(word), None) => word.as_str() == "live",
+        _ => false,
     }
 }
 

@@ -10,6 +10,8 @@ pub mod Leading
 pub mod RwLockBeginning
 pub mod Turning
 pub mod RwLockCalling
+pub mod RwLockCourses
+pub mod RwLockTakes
 pub mod RwLockFull
 pub mod RwLockRights
 pub mod RwLockHands

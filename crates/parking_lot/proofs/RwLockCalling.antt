@@ -18,6 +18,7 @@ use Rattle.lot_rwlock.specs.declared.places.RwLockPlace.{RwLockPlace}
 use Rattle.lot_rwlock.specs.declared.purposes.RwLockPurpose.{RwLockPurpose}
 use Rattle.lot_rwlock.specs.declared.purposes.RwLockPurpose.TheVariants as purpose
 use Rattle.lot_steps.specs.Steps.{next_act, next_place, rwlock_does, rwlock_goes}
+use Rattle.lot_steps.specs.declared.places.Place.{Place}
 use Rattle.lot_rwlock_fair.specs.FairSteps.{plain_next}
 use Rattle.lot_words.specs.Indices.{word_index}
 use Rattle.lot_words.specs.Steps.{CodesWith, MayStep, after_step}
@@ -29,7 +30,7 @@ use Rattle.lot_words.specs.declared.words.WordKind.{WordKind}
 use Rattle.lot_words.specs.declared.words.WordKind.TheVariants as kinds
 use Rattle.parking_lot_core.specs.Tokens.{view_of, last_of}
 use Rattle.parking_lot_core.specs.declared.tokens.Token.{Token}
-use Rattle.parking_lot.specs.Fitting.{AreWordsFor, Fits, aim_of, answer_of, of_rwlock}
+use Rattle.parking_lot.specs.Fitting.{Aim, AreWordsFor, Fits, IsOver, aim_of, answer_of, of_rwlock}
 use Rattle.parking_lot.specs.Paths.{Walks, at_rwlock, rwlock_at, rwlocks, step}
 use Rattle.parking_lot.specs.RwLockCalls.{AnswersCall, BeginsWith, TookUnlessEnded, Wakes, WakesBy, first_op, rwlock_begin}
 use Rattle.parking_lot.specs.RwLockFitting.{Answers, IsBeside, IsRwLockOver, MayGiveUp, OwnsRight, TookWoken}
@@ -81,6 +82,14 @@ module _ (up : Type 0) (l : ℕ) (a : Admission) (base : List Ownership) (c : Rw
       by_next : (n : Next RwLockPlace) → Begun up l a base st new seen outside room c n → answer_of (rwlock_does l a (plain_next n)) ≡ None → Fits up base (rwlock_goes l a (plain_next n)) new × (aim_of (rwlock_goes l a (plain_next n)) ≡ of_rwlock l a c)
       by_next (At p) k none = (k.0, ap (of_rwlock l a) k.1)
       by_next (End answer) k none = some_none none
+
+  -- where it goes on it has not ended
+  pub unfinished : BeginsWith l c base st.owns → Stepped kinds.RwLock (rwlock_at l) (first_op c) seen st new → (p : RwLockPlace) × (rwlock_next a (rwlock_first c) (Value seen) ≡ At p) → answer_of (next_act (rwlock_begin l a c) (Value seen)) ≡ None
+  unfinished b s at = by_next (rwlock_next a (rwlock_first c) (Value seen)) (begun_here b s) at.1
+    where
+      by_next : (n : Next RwLockPlace) → Begun up l a base st new seen outside room c n → n ≡ At at.0 → answer_of (rwlock_does l a (plain_next n)) ≡ None
+      by_next (At p) k e = (leading.goes_on l a p k.0.stands).0
+      by_next (End answer) k e = absurd cc
 
   -- where it ended, its answer is right
   pub ended_on : (answer : Answer) → BeginsWith l c base st.owns → Stepped kinds.RwLock (rwlock_at l) (first_op c) seen st new → answer_of (next_act (rwlock_begin l a c) (Value seen)) ≡ Some answer → AnswersCall up l base a c answer new × (rwlock_next a (rwlock_first c) (Value seen) ≡ End answer)
@@ -171,3 +180,35 @@ module _ (up : Type 0) (l : ℕ) (base : List Ownership) (a : Admission) (x : Ac
     | inr (inl none) ↦ absurd (n none.0)
     | inr (inr full) ↦ (full.0, full.1)
   ]
+
+-- a call that goes on behind its first step
+module _ (up : Type 0) (word : Word) (is : word.kind ≡ kinds.RwLock) (a : Admission) (room : a.limit < 2 ^ 60 - 1) (c : RwLockPurpose) (op : Op) (seen : ℕ) (old mid : Token) (first : op ≡ first_op c) (stepped : view_of mid ≡ after_step word.kind (word_index word.number word.kind) op seen (view_of old)) (last : last_of mid ≡ None)
+    (code : CodesWith word.kind (word_index word.number word.kind) seen (view_of old).owns) (goes : (p : RwLockPlace) × (rwlock_next a (rwlock_first c) (Value seen) ≡ At p)) where
+  abbrev next : Place
+  next = next_place (rwlock_begin word.number a c) (Value seen)
+
+  steps_saw : (view_of mid).steps ≡ (view_of old).steps ++ step (rwlock_at word.number) (first_op c) seen
+  steps_saw = saw word is c op seen old mid first stepped
+
+  start : Stepped kinds.RwLock (rwlock_at word.number) (first_op c) seen (stage_of old None) (stage_of mid None)
+  start = started word is c op seen old mid first stepped last code
+
+  none : (base : List Ownership) → BeginsWith word.number c base (view_of old).owns → answer_of (next_act (rwlock_begin word.number a c) (Value seen)) ≡ None
+  none base b = unfinished up word.number a base c (stage_of old None) (stage_of mid None) seen refl room b start goes
+
+  pub rest_fits : (base : List Ownership) → BeginsWith word.number c base (view_of old).owns → Fits up base next (stage_of mid None) × (aim_of next ≡ of_rwlock word.number a c)
+  rest_fits base b = fits_on up word.number a base c (stage_of old None) (stage_of mid None) seen refl room b start (none base b)
+
+  module _ (answer : Answer) (new : Token) where
+    pub rest_path : Walks (at_rwlock word.number) next (view_of mid).steps (view_of new).steps answer → Walks (at_rwlock word.number) (rwlock_begin word.number a c) (view_of old).steps (view_of new).steps answer
+    rest_path w = path_later word.number a c seen answer (view_of old).steps (view_of mid).steps (view_of new).steps steps_saw w
+
+    module _ (base : List Ownership) (b : BeginsWith word.number c base (view_of old).owns) (over : Fits up base next (stage_of mid None) → IsOver up base (aim_of next) answer (stage_of new None)) where
+      is_over : IsRwLockOver up word.number base a c answer (stage_of new None)
+      is_over = subst (λ (aim : Aim). IsOver up base aim answer (stage_of new None)) (rest_fits base b).1 (over (rest_fits base b).0)
+
+      pub rest_over : AnswersCall up word.number base a c answer (stage_of new None)
+      rest_over = over_call up word.number base a c answer (stage_of new None) is_over
+
+      pub rest_record : Walks (at_rwlock word.number) next (view_of mid).steps (view_of new).steps answer → WakesBy word.number a c old new
+      rest_record w = wakes_later up word.number base a c seen answer old mid new steps_saw w.0 w.1 (none base b) is_over

@@ -9,6 +9,7 @@ pub mod RwLockFitting
 pub mod Fitting
 pub mod Calls
 pub mod RwLockCalls
+pub mod Courses
 pub mod RwLockGuards
 pub mod RwLockUsers
 pub mod Users

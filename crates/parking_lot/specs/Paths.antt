@@ -109,6 +109,11 @@ pub record Ending (at : ℕ → ℕ) (p : Place) (steps : List WordStep) (answer
 abbrev pub Walks : (ℕ → ℕ) → Place → List WordStep → List WordStep → Answer → Type 0
 Walks at p old new answer = (more : List WordStep) × (new ≡ old ++ more) × Ending at p more answer
 
+-- behind a reply that ended its call there are no further steps, and else they go on from where it led
+abbrev pub Rests : (ℕ → ℕ) → Place → Reply → List WordStep → List WordStep → Answer → Type 0
+Rests at p reply old new answer = ((new ≡ old) × (next_act p reply ≡ act.TheVariants.End answer))
+    ⊎ Walks at (next_place p reply) old new answer
+
 -- and so do the steps of a run, which ends the call or comes to its closure
 abbrev pub Runs : (ℕ → ℕ) → Place → List WordStep → List WordStep → Stop → Type 0
 Runs at p old new (Ended answer) = Walks at p old new answer

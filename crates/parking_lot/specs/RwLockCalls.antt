@@ -1,5 +1,5 @@
 -- What a call of a reader-writer lock on real threads did.
-use Rattle.std.specs.Prelude.{ℕ, ◌≡◌, ◌==◌, ◌<◌, ◌^◌, ◌-◌, ◌++◌, ◌&&◌, ◌||◌, not, Bool, List, [], Option, Some, None, Ok, Err}
+use Rattle.std.specs.Prelude.{ℕ, ◌≡◌, ◌==◌, ◌<◌, ◌^◌, ◌-◌, ◌++◌, ◌&&◌, ◌||◌, not, Bool, false, List, [], Option, Some, None, Ok, Err}
 use Rattle.std.proofs.Common.{◌∙◌, sym, subst}
 use Rattle.std.specs.declared.result.Result.{Result}
 use Rattle.lot_base.specs.declared.ops.Op.{Op}
@@ -26,6 +26,7 @@ use Rattle.lot_rwlock.specs.declared.places.RwLockAt.TheVariants as at
 use Rattle.lot_rwlock.specs.declared.places.RwLockPlace.{RwLockPlace}
 use Rattle.lot_rwlock.specs.declared.purposes.RwLockPurpose.{RwLockPurpose}
 use Rattle.lot_rwlock.specs.declared.purposes.RwLockPurpose.TheVariants as purpose
+use Rattle.lot_rwlock_fair.specs.declared.places.RwLockCallPlace.TheVariants.{Plain}
 use Rattle.lot_steps.specs.declared.places.Place.{Place}
 use Rattle.lot_steps.specs.declared.places.Place.TheVariants.{RwLock}
 use Rattle.lot_words.specs.Lots.{IsWordOf}
@@ -48,6 +49,10 @@ use Rattle.parking_lot.specs.Stages.{Stage}
 -- where a call begins
 abbrev pub rwlock_begin : ℕ → Admission → RwLockPurpose → Place
 rwlock_begin l a q = RwLock l a (plain_first q)
+
+-- where it decides by what its first step saw
+abbrev pub rwlock_deciding : ℕ → Admission → RwLockPurpose → ℕ → Place
+rwlock_deciding l a q seen = RwLock l a (Plain (record { purpose = q; retries = false; at = at.Decide seen }))
 
 -- its first operation
 abbrev pub op_at : RwLockPurpose → RwLockAt → Op

@@ -2,6 +2,7 @@
 #![tactic(auto)]
 
 mod acting;
+mod courses;
 mod driver;
 pub mod guards;
 pub mod raw_fair_mutex;

@@ -99,6 +99,7 @@ impl<const RECURSIVE: bool> lock_raw::RawRwLock for RawRwLock<RECURSIVE> {
         Ok(RawRwLock { lock })
     }
 
+    #[inline]
     fn lock_shared<R: Wait>(&self, rt: &R, token: &mut Token) -> Result<RawSharedGuard, Fault> {
         match self
             .lock
@@ -110,6 +111,7 @@ impl<const RECURSIVE: bool> lock_raw::RawRwLock for RawRwLock<RECURSIVE> {
         }
     }
 
+    #[inline]
     fn try_lock_shared<R: Wait>(
         &self,
         rt: &R,
@@ -125,11 +127,13 @@ impl<const RECURSIVE: bool> lock_raw::RawRwLock for RawRwLock<RECURSIVE> {
         }
     }
 
+    #[inline]
     fn unlock_shared<R: Wait>(&self, rt: &R, token: &mut Token, guard: RawSharedGuard) {
         let RawSharedGuard { right } = guard;
         self.lock.release(rt, token, Access::Shared, right);
     }
 
+    #[inline]
     fn lock_exclusive<R: Wait>(&self, rt: &R, token: &mut Token) -> RawExclusiveGuard {
         match self
             .lock
@@ -140,21 +144,25 @@ impl<const RECURSIVE: bool> lock_raw::RawRwLock for RawRwLock<RECURSIVE> {
         }
     }
 
+    #[inline]
     fn try_lock_exclusive(&self, token: &mut Token) -> Option<RawExclusiveGuard> {
         let right = self.lock.try_enter_alone(token)?;
         Some(RawExclusiveGuard { right })
     }
 
+    #[inline]
     fn unlock_exclusive<R: Wait>(&self, rt: &R, token: &mut Token, guard: RawExclusiveGuard) {
         let RawExclusiveGuard { right } = guard;
         self.lock.release(rt, token, Access::Exclusive, right);
     }
 
+    #[inline]
     fn is_locked(&self, token: &mut Token) -> bool {
         let seen = self.lock.load(token);
         has_writer(seen) || count_in(seen) != 0
     }
 
+    #[inline]
     fn is_locked_exclusive(&self, token: &mut Token) -> bool {
         let seen = self.lock.load(token);
         has_writer(seen) && count_in(seen) == 0
@@ -186,6 +194,7 @@ impl<const RECURSIVE: bool> lock_raw::RawRwLock for RawRwLock<RECURSIVE> {
 }
 
 impl<const RECURSIVE: bool> lock_raw::RawRwLockDowngrade for RawRwLock<RECURSIVE> {
+    #[inline]
     fn downgrade<R: Wait>(
         &self,
         rt: &R,
@@ -208,6 +217,7 @@ impl<const RECURSIVE: bool> lock_raw::RawRwLockUpgrade for RawRwLock<RECURSIVE> 
 
     ghost upgradable_once = { λ lock guard. IsUpgradableOf-prop (lot_at lock) (word_at lock) guard };
 
+    #[inline]
     fn lock_upgradable<R: Wait>(
         &self,
         rt: &R,
@@ -223,6 +233,7 @@ impl<const RECURSIVE: bool> lock_raw::RawRwLockUpgrade for RawRwLock<RECURSIVE> 
         }
     }
 
+    #[inline]
     fn try_lock_upgradable<R: Wait>(
         &self,
         rt: &R,
@@ -238,11 +249,13 @@ impl<const RECURSIVE: bool> lock_raw::RawRwLockUpgrade for RawRwLock<RECURSIVE> 
         }
     }
 
+    #[inline]
     fn unlock_upgradable<R: Wait>(&self, rt: &R, token: &mut Token, guard: RawUpgradableGuard) {
         let RawUpgradableGuard { right } = guard;
         self.lock.release(rt, token, Access::Upgradable, right);
     }
 
+    #[inline]
     fn upgrade<R: Wait>(
         &self,
         rt: &R,
@@ -259,6 +272,7 @@ impl<const RECURSIVE: bool> lock_raw::RawRwLockUpgrade for RawRwLock<RECURSIVE> 
         }
     }
 
+    #[inline]
     fn try_upgrade<R: Wait>(
         &self,
         rt: &R,
@@ -298,6 +312,7 @@ impl<const RECURSIVE: bool> lock_raw::RawRwLockUpgrade for RawRwLock<RECURSIVE> 
 }
 
 impl<const RECURSIVE: bool> lock_raw::RawRwLockUpgradeDowngrade for RawRwLock<RECURSIVE> {
+    #[inline]
     fn downgrade_upgradable<R: Wait>(
         &self,
         rt: &R,
@@ -311,6 +326,7 @@ impl<const RECURSIVE: bool> lock_raw::RawRwLockUpgradeDowngrade for RawRwLock<RE
         }
     }
 
+    #[inline]
     fn downgrade_to_upgradable<R: Wait>(
         &self,
         rt: &R,

@@ -18,6 +18,7 @@ impl<const RECURSIVE: bool> RawRwLock<RECURSIVE> {
     ghost use Rattle.parking_lot.specs.RwLockGuards.{IsExclusiveOf, IsSharedOf, IsUpgradableOf};
     ghost use Rattle.parking_lot.specs.RwLockUsers.{admission_of, lot_of, word_of};
 
+    #[inline]
     fn read_in_time<R: Wait, C: Clock>(
         &self,
         rt: &R,
@@ -42,6 +43,7 @@ impl<const RECURSIVE: bool> RawRwLock<RECURSIVE> {
         }
     }
 
+    #[inline]
     fn come_upgradable_in_time<R: Wait, C: Clock>(
         &self,
         rt: &R,
@@ -66,6 +68,7 @@ impl<const RECURSIVE: bool> RawRwLock<RECURSIVE> {
         }
     }
 
+    #[inline]
     fn write_in_time<R: Wait, C: Clock>(
         &self,
         rt: &R,
@@ -89,6 +92,7 @@ impl<const RECURSIVE: bool> RawRwLock<RECURSIVE> {
         }
     }
 
+    #[inline]
     fn upgrade_in_time<R: Wait, C: Clock>(
         &self,
         rt: &R,
@@ -125,6 +129,7 @@ impl<const RECURSIVE: bool> lock_raw::RawRwLockTimed for RawRwLock<RECURSIVE> {
         self.read_in_time(rt, token, limit.map(|deadline| (clock, deadline)))
     }
 
+    #[inline]
     fn try_lock_shared_until<R: Wait, C: Clock>(
         &self,
         rt: &R,
@@ -146,6 +151,7 @@ impl<const RECURSIVE: bool> lock_raw::RawRwLockTimed for RawRwLock<RECURSIVE> {
         self.write_in_time(rt, token, limit.map(|deadline| (clock, deadline)))
     }
 
+    #[inline]
     fn try_lock_exclusive_until<R: Wait, C: Clock>(
         &self,
         rt: &R,
@@ -169,6 +175,7 @@ impl<const RECURSIVE: bool> lock_raw::RawRwLockUpgradeTimed for RawRwLock<RECURS
         self.come_upgradable_in_time(rt, token, limit.map(|deadline| (clock, deadline)))
     }
 
+    #[inline]
     fn try_lock_upgradable_until<R: Wait, C: Clock>(
         &self,
         rt: &R,
@@ -191,6 +198,7 @@ impl<const RECURSIVE: bool> lock_raw::RawRwLockUpgradeTimed for RawRwLock<RECURS
         self.upgrade_in_time(rt, token, limit.map(|deadline| (clock, deadline)), guard)
     }
 
+    #[inline]
     fn try_upgrade_until<R: Wait, C: Clock>(
         &self,
         rt: &R,

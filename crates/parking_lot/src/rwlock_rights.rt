@@ -23,12 +23,13 @@ ghost use Rattle.parking_lot.specs.RwLockCalls.{Exclude, HasWalkedRwLock, IsCoun
 ghost use Rattle.parking_lot.specs.RwLockFitting.{MayGiveUp};
 ghost use Rattle.parking_lot.specs.Telling.{owns_of, steps_of};
 
+use crate::courses::{greater, lesser, wanted};
 use crate::driver::NO_LIMIT;
 use crate::rwlock_calls::call;
 use lot_base::{main_key, second_key};
 use lot_calls::{Access, Answer, Downgrade, Patience};
 use lot_rwlock::places::WRITER;
-use lot_rwlock::{Admission, RwLockPurpose, purposes};
+use lot_rwlock::{Admission, RwLockPurpose};
 use parking_lot_core::{Clock, Fault, Key, Op, ParkingLot, Right, Token, Want, Word, WordKind};
 use std::sync::{Arc, Wait};
 
@@ -90,6 +91,7 @@ impl LotRwLock {
         second_key(self.word.number())
     }
 
+    #[inline(always)]
     fn split(&self, token: &mut Token, want: Want) -> Right
         requires own { IsTokenOf (lot_in self.now) token.old }
         requires held { has (owning (rwlock_at (word_in self.now).number) (owner_for want)) (owns_of token.old) ≡ true }
@@ -102,6 +104,7 @@ impl LotRwLock {
     }
 
     // Spends a right: the token owns it then.
+    #[inline(always)]
     fn join(&self, token: &mut Token, want: Want, right: Right)
         requires own { IsTokenOf (lot_in self.now) token.old }
         requires right { IsRwLockRight (lot_in self.now) (word_in self.now) (owner_for want) right }
@@ -118,6 +121,7 @@ impl LotRwLock {
     /// # Errors
     ///
     /// `ReadersFull`, where who would read finds as many readers as there may be.
+    #[inline(always)]
     pub(crate) fn enter<R: Wait, C: Clock>(
         &self,
         rt: &R,
@@ -146,13 +150,14 @@ impl LotRwLock {
             RwLockPurpose::Enter { access, patience },
         );
         match answer {
-            Answer::Ok | Answer::Yes => Ok(Some(self.split(token, purposes::wanted(access)))),
+            Answer::Ok | Answer::Yes => Ok(Some(self.split(token, wanted(access)))),
             Answer::No => Ok(None),
             _ => Err(Fault::ReadersFull),
         }
     }
 
     /// Takes a word that is 0, by one step.
+    #[inline(always)]
     pub(crate) fn try_enter_alone(&self, token: &mut Token) -> Option<Right>
         requires { IsTokenOf (lot_in self.now) token.old }
         ensures token { IsTokenOf (lot_in self.now) token.new × StaysBeside (word_in self.now).number token.old token.new }
@@ -168,6 +173,7 @@ impl LotRwLock {
     }
 
     /// Gives a right up, and wakes whom that lets in.
+    #[inline(always)]
     pub(crate) fn release<R: Wait>(&self, rt: &R, token: &mut Token, access: Access, right: Right)
         requires token { IsTokenOf (lot_in self.now) token.old }
         requires right { IsRwLockRight (lot_in self.now) (word_in self.now) (owner_for (wanted access)) right }
@@ -175,7 +181,7 @@ impl LotRwLock {
         ensures path { HasWalkedRwLock (word_in self.now).number (admission_in self.now) (Release access) ok token.old token.new }
         ensures record { WakesBy (word_in self.now).number (admission_in self.now) (Release access) token.old token.new }
     {
-        self.join(token, purposes::wanted(access), right);
+        self.join(token, wanted(access), right);
         call(
             rt,
             &self.lot,
@@ -188,6 +194,7 @@ impl LotRwLock {
     }
 
     /// Turns a right into a lesser one, and wakes whom that lets in.
+    #[inline(always)]
     pub(crate) fn downgrade<R: Wait>(
         &self,
         rt: &R,
@@ -203,8 +210,7 @@ impl LotRwLock {
             token.new }
         ensures record { WakesBy (word_in self.now).number (admission_in self.now) (purposes_of.Downgrade downgrade) token.old token.new }
     {
-        let purpose = RwLockPurpose::Downgrade(downgrade);
-        self.join(token, purposes::wanted(purpose.access()), right);
+        self.join(token, greater(downgrade), right);
         call(
             rt,
             &self.lot,
@@ -212,12 +218,9 @@ impl LotRwLock {
             self.word,
             self.admission,
             NO_LIMIT,
-            purpose,
+            RwLockPurpose::Downgrade(downgrade),
         );
-        match purpose.start() {
-            Some(lesser) => self.split(token, lesser),
-            None => unreachable!(),
-        }
+        self.split(token, lesser(downgrade))
     }
 
     /// Turns the upgradable right into the exclusive one: for ever, up to the limit, or not at all.
@@ -225,6 +228,7 @@ impl LotRwLock {
     /// # Errors
     ///
     /// The right, where a try finds other readers, or the time is up.
+    #[inline(always)]
     pub(crate) fn upgrade<R: Wait, C: Clock>(
         &self,
         rt: &R,
@@ -259,6 +263,7 @@ impl LotRwLock {
     }
 
     /// One load of the word.
+    #[inline(always)]
     pub(crate) fn load(&self, token: &mut Token) -> u64
         requires { IsTokenOf (lot_in self.now) token.old }
         ensures token { IsTokenOf (lot_in self.now) token.new × StaysBeside (word_in self.now).number token.old token.new }

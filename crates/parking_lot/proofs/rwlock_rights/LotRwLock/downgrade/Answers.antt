@@ -19,20 +19,18 @@ use Rattle.parking_lot.proofs.rwlock_rights.LotRwLock.downgrade.Goals as goal
 
 pub split-requires-clause-held : goal.split-requires-clause-held
 split-requires-clause-held g c = let n = c.args.self.now.word.number in let owns = (view_of c.args.token.now).owns in
-    let over = c.call.ensures.over owns (joined_beside n c.wanted.result (wanted (from_of c.args.downgrade)) owns (view_of c.join.new.token).owns (c.wanted.ensures ∙ ap wanted c.access.ensures) (ap (λ (v : View). v.owns) c.join.ensures.joined)) in
-    let same : c.in-Some.lesser ≡ wanted (to_of c.args.downgrade) = search rules in
-    subst (λ (w : Want). has (owning (rwlock_at c.args.self.now.word.number) (owner_for w)) (view_of c.call.new.token).owns ≡ true) (sym same) (has_right n (owner_for (wanted (to_of c.args.downgrade))) owns (view_of c.call.new.token).owns over.1)
+    let over = c.call.ensures.over owns (joined_beside n c.greater.result (wanted (from_of c.args.downgrade)) owns (view_of c.join.new.token).owns c.greater.ensures (ap (λ (v : View). v.owns) c.join.ensures.joined)) in
+    subst (λ (w : Want). has (owning (rwlock_at c.args.self.now.word.number) (owner_for w)) (view_of c.call.new.token).owns ≡ true) (sym c.lesser.ensures) (has_right n (owner_for (wanted (to_of c.args.downgrade))) owns (view_of c.call.new.token).owns over.1)
 
 pub returns-clause-token : goal.returns-clause-token
 returns-clause-token g c = let n = c.args.self.now.word.number in let owns = (view_of c.args.token.now).owns in
-    let over = c.call.ensures.over owns (joined_beside n c.wanted.result (wanted (from_of c.args.downgrade)) owns (view_of c.join.new.token).owns (c.wanted.ensures ∙ ap wanted c.access.ensures) (ap (λ (v : View). v.owns) c.join.ensures.joined)) in
-    let same : c.in-Some.lesser ≡ wanted (to_of c.args.downgrade) = search rules in
-    let left = subst (λ (w : Want). IsBeside c.args.self.now.word.number (view_of c.args.token.now).owns (without (owning (rwlock_at c.args.self.now.word.number) (owner_for w)) (view_of c.call.new.token).owns)) (sym same) (left_beside n (owner_for (wanted (to_of c.args.downgrade))) owns (view_of c.call.new.token).owns over.1) in
+    let over = c.call.ensures.over owns (joined_beside n c.greater.result (wanted (from_of c.args.downgrade)) owns (view_of c.join.new.token).owns c.greater.ensures (ap (λ (v : View). v.owns) c.join.ensures.joined)) in
+    let left = subst (λ (w : Want). IsBeside c.args.self.now.word.number (view_of c.args.token.now).owns (without (owning (rwlock_at c.args.self.now.word.number) (owner_for w)) (view_of c.call.new.token).owns)) (sym c.lesser.ensures) (left_beside n (owner_for (wanted (to_of c.args.downgrade))) owns (view_of c.call.new.token).owns over.1) in
     (search rules, (search rules, λ settled. ap (λ (v : View). v.owns) c.split.ensures.left ∙ left settled))
 
 pub returns-clause-path : goal.returns-clause-path
 returns-clause-path g c = let n = c.args.self.now.word.number in let owns = (view_of c.args.token.now).owns in
-    let over = c.call.ensures.over owns (joined_beside n c.wanted.result (wanted (from_of c.args.downgrade)) owns (view_of c.join.new.token).owns (c.wanted.ensures ∙ ap wanted c.access.ensures) (ap (λ (v : View). v.owns) c.join.ensures.joined)) in
+    let over = c.call.ensures.over owns (joined_beside n c.greater.result (wanted (from_of c.args.downgrade)) owns (view_of c.join.new.token).owns c.greater.ensures (ap (λ (v : View). v.owns) c.join.ensures.joined)) in
     subst (λ (steps : List WordStep). Walks (at_rwlock c.args.self.now.word.number) (rwlock_begin c.args.self.now.word.number c.args.self.now.admission (Downgrade c.args.downgrade)) (view_of c.args.token.now).steps steps Ok) (sym (ap (λ (v : View). v.steps) c.split.ensures.left))
     (subst (λ (answer : Answer). Walks (at_rwlock c.args.self.now.word.number) (rwlock_begin c.args.self.now.word.number c.args.self.now.admission (Downgrade c.args.downgrade)) (view_of c.args.token.now).steps (view_of c.call.new.token).steps answer) over.0
     (subst (λ (steps : List WordStep). Walks (at_rwlock c.args.self.now.word.number) (rwlock_begin c.args.self.now.word.number c.args.self.now.admission (Downgrade c.args.downgrade)) steps (view_of c.call.new.token).steps c.call.result) (ap (λ (v : View). v.steps) c.join.ensures.joined) c.call.ensures.path))

@@ -1,0 +1,24 @@
+//! What is written, and how it ends where nothing more can be.
+use crate::{BROKEN, DONE, live};
+use std::test::Fail;
+
+#[test]
+fn three_lines(rt: HostRuntime) -> Result<(), Fail> {
+    let mut text = Vec::<u8>::new(rt.alloc());
+    let status = live(&rt, rt.alloc(), &mut text);
+    assert_eq!(rt; status, DONE);
+    assert_eq!(rt;
+        text.as_slice(),
+        b"readers met\nread 7\ncount 6000\n".as_slice()
+    );
+    Ok(())
+}
+
+#[test]
+fn a_full_device(rt: HostRuntime) -> Result<(), Fail> {
+    let mut none = [0u8; 3];
+    let mut left = none.as_mut_slice();
+    assert_eq!(rt; live(&rt, rt.alloc(), &mut left), BROKEN);
+    assert_eq!(rt; none.as_slice(), b"rea".as_slice());
+    Ok(())
+}

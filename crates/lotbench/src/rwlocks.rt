@@ -1,0 +1,196 @@
+//! What is timed of reader-writer locks.
+ghost use Rattle.std.specs.Prelude.{◌≡◌, IfOk};
+ghost use Rattle.std.specs.Arc.{arc_value};
+ghost use Rattle.parking_lot.specs.RwLockUsers.{lot_of};
+ghost use Rattle.parking_lot_core.specs.Tokens.{IsTokenOf};
+
+use parking_lot::lock_raw::{RawRwLock as RawLock, RawRwLockDowngrade, RawRwLockUpgrade};
+use parking_lot::{Fault, ParkingLot, RawRwLock, RecursiveRwLock, RwLock, Token, lock_api};
+use std::sync::{Arc, Wait};
+
+// One operation in so many writes, where some read and some write.
+const ONE_IN: u64 = 16;
+
+/// A reader-writer lock without a value, one with, and a recursive one, of one lot.
+#[derive(Drop)]
+pub(crate) struct RwLocks {
+    pub(crate) raw: RawRwLock<false>,
+    pub(crate) value: RwLock<u64>,
+    pub(crate) recursive: RecursiveRwLock<u64>,
+    ghost together: { (lot_of value ≡ lot_of raw) × (lot_of recursive ≡ lot_of raw) },
+}
+
+/// How many words they take of their lot.
+pub(crate) const RWLOCKS: usize = 3;
+
+/// The locks, drawn from the lot.
+pub(crate) fn rwlocks_of(lot: &Arc<ParkingLot>, token: &mut Token) -> Result<RwLocks, Fault>
+    requires { IsTokenOf (arc_value lot.now) token.old }
+    ensures token { IsTokenOf (arc_value lot.now) token.new }
+    ensures made { IfOk result (λ locks. lot_of locks.raw ≡ arc_value lot.now) }
+{
+    let raw = RawRwLock::<false>::new(lot, token)?;
+    let value = match RwLock::new(lot, token, 0) {
+        Ok(lock) => lock,
+        Err((fault, _)) => return Err(fault),
+    };
+    match RecursiveRwLock::new(lot, token, 0) {
+        Ok(recursive) => Ok(RwLocks {
+            raw,
+            value,
+            recursive,
+        }),
+        Err((fault, _)) => Err(fault),
+    }
+}
+
+/// The value that was written.
+pub(crate) fn value_in(locks: RwLocks) -> u64 {
+    locks.value.into_inner()
+}
+
+/// Comes in to read and leaves, so many times.
+pub(crate) fn read_raw<L: RawLock, R: Wait>(rt: &R, lock: &L, token: &mut L::Token, times: u64)
+    requires { L.is_token_of (L.lot_of lock.now) token.old }
+    ensures { L.is_token_of (L.lot_of lock.now) token.new }
+{
+    for _ in 0..times {
+        if let Ok(guard) = lock.lock_shared(rt, token) {
+            lock.unlock_shared(rt, token, guard);
+        }
+    }
+}
+
+pub(crate) fn write_raw<L: RawLock, R: Wait>(rt: &R, lock: &L, token: &mut L::Token, times: u64)
+    requires { L.is_token_of (L.lot_of lock.now) token.old }
+    ensures { L.is_token_of (L.lot_of lock.now) token.new }
+{
+    for _ in 0..times {
+        let guard = lock.lock_exclusive(rt, token);
+        lock.unlock_exclusive(rt, token, guard);
+    }
+}
+
+#[inline]
+fn read_once<L: RawLock, R: Wait>(rt: &R, lock: &lock_api::RwLock<L, u64>, token: &mut L::Token)
+    requires { L.is_token_of (L.lot_of lock.now) token.old }
+    ensures { L.is_token_of (L.lot_of lock.now) token.new }
+{
+    if let Ok(guard) = lock.read(rt, token) {
+        let _value = *guard;
+        guard.unlock(rt, token);
+    }
+}
+
+#[inline]
+fn write_once<L: RawLock, R: Wait>(rt: &R, lock: &lock_api::RwLock<L, u64>, token: &mut L::Token)
+    requires { L.is_token_of (L.lot_of lock.now) token.old }
+    ensures { L.is_token_of (L.lot_of lock.now) token.new }
+{
+    let mut guard = lock.write(rt, token);
+    *guard = guard.wrapping_add(1);
+    guard.unlock(rt, token);
+}
+
+/// Reads the value.
+pub(crate) fn read_value<L: RawLock, R: Wait>(
+    rt: &R,
+    lock: &lock_api::RwLock<L, u64>,
+    token: &mut L::Token,
+    times: u64,
+)
+    requires { L.is_token_of (L.lot_of lock.now) token.old }
+    ensures { L.is_token_of (L.lot_of lock.now) token.new }
+{
+    for _ in 0..times {
+        read_once(rt, lock, token);
+    }
+}
+
+/// Adds 1 to the value.
+pub(crate) fn write_value<L: RawLock, R: Wait>(
+    rt: &R,
+    lock: &lock_api::RwLock<L, u64>,
+    token: &mut L::Token,
+    times: u64,
+)
+    requires { L.is_token_of (L.lot_of lock.now) token.old }
+    ensures { L.is_token_of (L.lot_of lock.now) token.new }
+{
+    for _ in 0..times {
+        write_once(rt, lock, token);
+    }
+}
+
+/// Reads the value, and adds 1 to it now and then.
+pub(crate) fn mix_value<L: RawLock, R: Wait>(
+    rt: &R,
+    lock: &lock_api::RwLock<L, u64>,
+    token: &mut L::Token,
+    times: u64,
+)
+    requires { L.is_token_of (L.lot_of lock.now) token.old }
+    ensures { L.is_token_of (L.lot_of lock.now) token.new }
+{
+    for turn in 0..times {
+        if turn % ONE_IN == 0 {
+            write_once(rt, lock, token);
+        } else {
+            read_once(rt, lock, token);
+        }
+    }
+}
+
+/// Comes in to read and perhaps write, and leaves.
+pub(crate) fn come_upgradable<L: RawRwLockUpgrade, R: Wait>(
+    rt: &R,
+    lock: &lock_api::RwLock<L, u64>,
+    token: &mut L::Token,
+    times: u64,
+)
+    requires { L.is_token_of (L.lot_of lock.now) token.old }
+    ensures { L.is_token_of (L.lot_of lock.now) token.new }
+{
+    for _ in 0..times {
+        if let Ok(guard) = lock.upgradable_read(rt, token) {
+            let _value = *guard;
+            guard.unlock(rt, token);
+        }
+    }
+}
+
+/// Comes in to read, upgrades, and adds 1 to the value.
+pub(crate) fn upgrade_value<L: RawRwLockUpgrade, R: Wait>(
+    rt: &R,
+    lock: &lock_api::RwLock<L, u64>,
+    token: &mut L::Token,
+    times: u64,
+)
+    requires { L.is_token_of (L.lot_of lock.now) token.old }
+    ensures { L.is_token_of (L.lot_of lock.now) token.new }
+{
+    for _ in 0..times {
+        if let Ok(guard) = lock.upgradable_read(rt, token) {
+            let mut guard = guard.upgrade(rt, token);
+            *guard = guard.wrapping_add(1);
+            guard.unlock(rt, token);
+        }
+    }
+}
+
+/// Adds 1 to the value, and reads on.
+pub(crate) fn downgrade_value<L: RawRwLockDowngrade, R: Wait>(
+    rt: &R,
+    lock: &lock_api::RwLock<L, u64>,
+    token: &mut L::Token,
+    times: u64,
+)
+    requires { L.is_token_of (L.lot_of lock.now) token.old }
+    ensures { L.is_token_of (L.lot_of lock.now) token.new }
+{
+    for _ in 0..times {
+        let mut guard = lock.write(rt, token);
+        *guard = guard.wrapping_add(1);
+        guard.downgrade(rt, token).unlock(rt, token);
+    }
+}
