@@ -5,8 +5,6 @@ use Rattle.std.specs.declared.result.Result.{Result}
 use Rattle.lot_base.specs.declared.ops.Op.{Op}
 use Rattle.lot_base.specs.declared.ops.Op.TheVariants.{Load, Exchange}
 use Rattle.abstract_locks.specs.Codes.{count_in, has_writer}
-use Rattle.lot_calls.specs.declared.calls.Access.{Access}
-use Rattle.lot_calls.specs.declared.calls.Access.TheVariants as accesses
 use Rattle.lot_calls.specs.declared.calls.RwLockCall.{RwLockCall}
 use Rattle.lot_calls.specs.declared.calls.RwLockCall.TheVariants as calls
 use Rattle.lot_calls.specs.declared.outcomes.Answer.{Answer}
@@ -129,11 +127,6 @@ Exclude owners.Exclusive owners.Shared = Unit {0}
 Exclude owners.Exclusive owners.Upgradable = Unit {0}
 Exclude owners.Upgradable owners.Upgradable = Unit {0}
 Exclude one other = ⊥
-
--- whoever reads is counted, and may find the lock full of readers
-abbrev pub IsCounted : Access → Type 0
-IsCounted accesses.Exclusive = ⊥
-IsCounted access = Unit {0}
 
 -- so of a call, where its steps are built
 abbrev pub HasWalkedCall : ℕ → Admission → RwLockCall → Answer → Token → Token → Type 0
