@@ -1,7 +1,6 @@
 //! Any number of threads over locks, by a list of steps.
 #![tactic(auto)]
 
-pub mod laws;
 pub mod world;
 
 pub use lot_calls::{Answer, Call, Kind, MutexCall, OnceState, Outcome, Step, Turn};

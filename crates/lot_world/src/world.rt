@@ -7,12 +7,12 @@ ghost use Rattle.lot_machine.specs.Machine.{opening, place_at, word_at, kind_at,
 ghost use Rattle.lot_machine.specs.Fits.{SameSize};
 ghost use Rattle.abstract_locks.specs.Runs.{IsOpening, IsStep, IsRun, purpose_at};
 ghost use Rattle.abstract_locks.specs.UserLaws.{ReadersStayOut, RereadersPass, UpgradesLetNobodyWrite, DowngradesOwn};
-ghost use Rattle.lot_world.specs.Refinement.{locks_of, ChangesOneThing};
-ghost use Rattle.lot_world.specs.Promises.{IsKept};
-ghost use Rattle.lot_world.specs.Fair.{IsFair};
-ghost use Rattle.lot_world.specs.Owing.{OwesSince};
-ghost use Rattle.lot_world.specs.WorldRuns.{IsWorldRun, Tells, TouchesOnlyByGoing};
-ghost use Rattle.lot_world.specs.Solo.{IsUnderWay, HasItsWay, Rests, EndsAlone, IsSoloRun};
+ghost use Rattle.lot_laws.specs.Refinement.{locks_of, ChangesOneThing};
+ghost use Rattle.lot_laws.specs.Promises.{IsKept};
+ghost use Rattle.lot_laws.specs.Fair.{IsFair};
+ghost use Rattle.lot_laws.specs.Owing.{OwesSince};
+ghost use Rattle.lot_laws.specs.WorldRuns.{IsWorldRun, Tells, TouchesOnlyByGoing};
+ghost use Rattle.lot_laws.specs.Solo.{IsUnderWay, HasItsWay, Rests, EndsAlone, IsSoloRun};
 ghost use Rattle.lot_machine.specs.Views.{StandUnder, owners_of, queue_of, debts_of};
 
 use lot_base::{Fault, Queues};
@@ -44,7 +44,7 @@ pub struct World<Q: Queues + Drop> {
 
 impl<Q: Queues + Drop> Model for World<Q> {
     ghost use Rattle.lot_machine.specs.Machine.{State};
-    ghost use Rattle.lot_world.specs.SitesOf.{IsWorld};
+    ghost use Rattle.lot_laws.specs.SitesOf.{IsWorld};
 
     ghost Value = { State };
 

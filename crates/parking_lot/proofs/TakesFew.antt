@@ -5,7 +5,7 @@ use Rattle.lot_base.specs.declared.wants.Waiter.{Waiter}
 use Rattle.lot_base.specs.declared.wants.Want.{Want}
 use Rattle.lot_base.specs.declared.wants.Want.TheVariants as wants
 use Rattle.lot_queues.specs.Wants.{wants_of}
-use Rattle.lot_world.proofs.HandsTaken.{one_more_picked, wanting_more}
+use Rattle.lot_laws.proofs.HandsTaken.{one_more_picked, wanting_more}
 use Rattle.parking_lot.specs.Takes.{more_in}
 
 one_behind : (x : Waiter) (xs : List Waiter) → more_in (wants_of xs) ≡ wanting_more xs → (y : Want) → x.want ≡ y → more_in (wants_of (x ∷ xs)) ≡ wanting_more (x ∷ xs)

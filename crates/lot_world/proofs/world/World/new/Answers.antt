@@ -1,7 +1,7 @@
 use Rattle.lot_machine.proofs.Shape.{opening_shaped}
-use Rattle.lot_world.proofs.CountsPut.{opening_counted}
-use Rattle.lot_world.proofs.OpeningSites.{opening_steady}
-use Rattle.lot_world.proofs.Promises.{kept, opening_is}
+use Rattle.lot_laws.proofs.CountsPut.{opening_counted}
+use Rattle.lot_laws.proofs.OpeningSites.{opening_steady}
+use Rattle.lot_laws.proofs.Promises.{kept, opening_is}
 use Rattle.lot_world.proofs.world.World.new.Goals as goal
 
 pub invariant_of-result : goal.invariant_of-result

@@ -1,6 +1,6 @@
-use Rattle.lot_world.specs.SitesOf.{IsWorld}
-use Rattle.lot_world.proofs.Solo.{rests_alone, ends_alone}
-use Rattle.lot_world.proofs.WorldRuns.{solo_runs}
+use Rattle.lot_laws.specs.SitesOf.{IsWorld}
+use Rattle.lot_laws.proofs.Solo.{rests_alone, ends_alone}
+use Rattle.lot_laws.proofs.WorldRuns.{solo_runs}
 use Rattle.lot_world.proofs.world.World.solo.Goals as goal
 
 pub returns-clause-run : goal.returns-clause-run

@@ -1,11 +1,11 @@
-use Rattle.lot_world.specs.SitesOf.{IsWorld}
+use Rattle.lot_laws.specs.SitesOf.{IsWorld}
 use Rattle.lot_machine.proofs.Shape.{after_size}
-use Rattle.lot_world.proofs.LockSteps.{after_step}
-use Rattle.lot_world.proofs.OneThing.{one_thing, touches}
-use Rattle.lot_world.proofs.Promises.{kept_after}
-use Rattle.lot_world.proofs.Fair.{is_fair}
-use Rattle.lot_world.proofs.Owing.{owes_since}
-use Rattle.lot_world.proofs.WorldRuns.{of_step, world_after}
+use Rattle.lot_laws.proofs.LockSteps.{after_step}
+use Rattle.lot_laws.proofs.OneThing.{one_thing, touches}
+use Rattle.lot_laws.proofs.Promises.{kept_after}
+use Rattle.lot_laws.proofs.Fair.{is_fair}
+use Rattle.lot_laws.proofs.Owing.{owes_since}
+use Rattle.lot_laws.proofs.WorldRuns.{of_step, world_after}
 use Rattle.abstract_locks.proofs.UserLaws.{readers_stay_out, rereaders_pass, upgrades_hold, downgrades_hold}
 use Rattle.lot_world.proofs.world.World.step.Goals as goal
 

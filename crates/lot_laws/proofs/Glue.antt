@@ -1,0 +1,671 @@
+-- The state of a world by its parts, as total functions, and what each act does to a lock and to what the threads do about it.
+use Rattle.std.proofs.Common.{ℕ, zero, suc, Bool, true, false, Option, Some, None, if◌then◌else◌, ◌==◌, ◌||◌, ◌≡◌, ◌≢◌, ◌+◌, ◌*◌, ◌≤◌, List, [], ◌∷◌, map, length, get_or, set, inl, inr, refl, sym, ◌∙◌, ap, subst, arith, length-set, get_or-set_same, get_or-set_other, not}
+use Rattle.abstract_locks.proofs.LockKeeps.{sharing_same}
+use Rattle.abstract_locks.specs.Locks.{IsLockState, wants_shared}
+use Rattle.std.proofs.lemmas.Bool.{cases_eq, cases_lt, eqb-true}
+use Rattle.std.proofs.lemmas.Bool.Decides.{nat_tests}
+use Rattle.lot_base.specs.declared.wants.Waiter.{Waiter}
+use Rattle.lot_base.specs.declared.wants.Want.TheVariants.{Exclusive}
+use Rattle.lot_base.specs.declared.notes.Note.TheVariants as note
+use Rattle.lot_acts.specs.declared.owners.Owners.{Owners}
+use Rattle.lot_steps.specs.declared.places.Place.{Place}
+use Rattle.lot_steps.specs.declared.places.Place.TheVariants.{Idle, Mutex, RwLock}
+use Rattle.lot_mutex.specs.declared.lock.Entry.{Entry}
+use Rattle.lot_mutex.specs.declared.places.MutexPlace.{MutexPlace}
+use Rattle.lot_mutex.specs.declared.places.MutexPlace.TheVariants.{Lock, HandOff}
+use Rattle.lot_mutex.specs.declared.lock.LockAt.TheVariants as lock
+use Rattle.lot_mutex.specs.declared.hand_off.HandOffAt.TheVariants as hand_off
+use Rattle.lot_acts.specs.declared.acts.Reply.{Reply}
+use Rattle.lot_acts.specs.declared.acts.Reply.TheVariants.{Woken, TakenBy, HandedBy}
+use Rattle.abstract_locks.specs.Codes.{parked_in, aside_in}
+use Rattle.std.proofs.Math.Bool.{or-false}
+use Rattle.lot_mutex.specs.MutexSteps.{is_parked}
+use Rattle.lot_acts.specs.declared.acts.Next.{Next}
+use Rattle.lot_rwlock_fair.specs.declared.places.RwLockCallPlace.{RwLockCallPlace}
+use Rattle.lot_rwlock_fair.specs.FairSteps.{call_next}
+use Rattle.lot_acts.specs.declared.acts.Next as next
+use Rattle.lot_mutex.specs.MutexSteps.{mutex_next}
+use Rattle.lot_base.specs.declared.wants.Want.{Want}
+use Rattle.lot_acts.specs.Profiles.{Hand, Of, hand_owner, taken_from}
+use Rattle.lot_steps.specs.Steps.{next_place, taker, mutex_goes, rwlock_goes, lock_of, profile, wants, is_lock, calls}
+use Rattle.abstract_locks.specs.Locks.{LockState, Taken, Queued, Rules, TakeFirst, keep_from, let_go, shares_handed, sharing_from, putting}
+use Rattle.std.specs.Prelude.{sum, ◌&&◌, ◌||◌}
+use Rattle.lot_acts.specs.Owners.{is_thread, with_exclusive}
+use Rattle.abstract_locks.specs.Locks as locks
+use Rattle.abstract_locks.specs.Sites.{Doing, Has, Site, Main, Begin, Out, Mark, Clear, Case, idle, leaves, wakened, taking_main, is_full, after_deed, has_readers}
+use Rattle.lot_machine.specs.Machine.{State, place_at, word_at, owners_at, shares_at, filled_at, queue_at, place_after_telling, state_after_telling, held, shares_in_hand, with_share, shares_given, wants_more_in_hand, successor_or, successor_from, pending_for, owners_of_successor, shares_handed_over, owners_handed_over, state_after_reply, put, held_by}
+use Rattle.lot_machine.specs.declared.hands.Successor.{Successor}
+use Rattle.lot_laws.specs.Refinement.{lock_seen, taken_at}
+use Rattle.lot_laws.specs.MutexDeeds.{Act, mutex_station, queued}
+use Rattle.lot_laws.specs.Stations.{Station, hand, station, station_at, nowhere, doing_on}
+use Rattle.lot_laws.specs.SitesOf.{site_of, rules_in, after_acts, carried_at, hand_at, Hands, FitsItsLock}
+
+-- ---------------------------------------------------------------- lists with one element set, as functions
+
+pub put_is : {A : Type 0} (f g : ℕ → A) (t : ℕ) (x : A) → g t ≡ x → ((u : ℕ) → u ≢ t → g u ≡ f u) → (u : ℕ) → g u ≡ putting f t x u
+put_is f g t x here other u = either (u == t) refl
+  where
+    either : (b : Bool) → (u == t) ≡ b → g u ≡ (if b then x else f u)
+    either true e = ap g (eqb-true u t e) ∙ here
+    either false e = other u (λ s. grind (arith, nat_tests))
+
+pub past_all : {A : Type 0} (xs : List A) (u : ℕ) (d : A) → length xs ≤ u → get_or xs u d ≡ d
+past_all [] u d h = refl
+past_all (x ∷ xs) zero d h = absurd (omega arith)
+past_all (x ∷ xs) (suc u) d h = past_all xs u d (omega arith)
+
+-- set is putting, where past the end only the default is set
+pub set_puts : {A : Type 0} (xs : List A) (i : ℕ) (x d : A) → (length xs ≤ i → x ≡ d) → (j : ℕ) → get_or (set xs i x) j d ≡ putting (λ k. get_or xs k d) i x j
+set_puts xs i x d past j = put_is (λ k. get_or xs k d) (λ k. get_or (set xs i x) k d) i x
+    (elim (cases_lt i (length xs)) [
+      | inl lt ↦ get_or-set_same xs i x d lt
+      | inr ge ↦ past_all (set xs i x) i d (rw (length-set xs i x) ge) ∙ sym (past ge)
+    ])
+    (λ u ne. get_or-set_other xs i u x d ne) j
+
+-- a thread that is there, or goes nowhere, stands at another place
+pub put_places : (w : State) (t : ℕ) (p : Place) → (length w.places ≤ t → p ≡ Idle) → place_at (put w t p) ≡ putting (place_at w) t p
+put_places w t p past = λ i u. set_puts w.places t p Idle past u i
+
+-- whatever befalls a thread, with no bound: past the last all are idle
+pub goes_from : (w : State) (t : ℕ) (reply : Reply) → place_at (put w t (next_place (place_at w t) reply)) ≡ putting (place_at w) t (next_place (place_at w t) reply)
+goes_from w t reply = put_places w t (next_place (place_at w t) reply) (λ h. ap (λ p. next_place p reply) (past_all w.places t Idle h))
+
+-- ---------------------------------------------------------------- a site by its parts
+
+abbrev pub mutex : Rules
+mutex = record { sort = locks.Mutex; limit = 0 }
+
+-- what no step of a mutex changes
+pub record Base : Type 0 where
+  pub shared : List ℕ
+  pub filled : Bool
+
+abbrev pub base_at : State → ℕ → Base
+base_at w l = record { shared = shares_at w l; filled = filled_at w l }
+
+-- all that the machine has of a lock, but for its kind
+pub record Parts : Type 0 where
+  pub base : Base
+  pub word : ℕ
+  pub owners : Owners
+  pub main : List Waiter
+  pub second : List Waiter
+
+abbrev pub parts_at : State → ℕ → Parts
+parts_at w l = record { base = base_at w l; word = word_at w l; owners = owners_at w l; main = queue_at w (2 * l); second = queue_at w (2 * l + 1) }
+
+-- the lock by its parts, where these threads are in somebody's hand
+abbrev pub lock_in : Parts → (ℕ → Option Taken) → LockState
+lock_in a taken = lock_seen a.base.shared a.owners a.main a.second taken
+
+-- the site of a lock with these rules, by its parts
+abbrev pub seen_in : Rules → ℕ → Parts → (ℕ → Place) → Site
+seen_in r l a places = record {
+  lock = lock_in a (λ u. taken_at (places u) l);
+  parked = parked_in r.sort a.word;
+  aside_parked = aside_in r.sort a.word;
+  filled = a.base.filled;
+  doing = λ u. doing_on (places u) l;
+}
+
+abbrev pub seen_by : Rules → (l : ℕ) → Base → (word : ℕ) → Owners → (main second : List Waiter) → (ℕ → Place) → Site
+seen_by r l n word o main second places = seen_in r l (record { base = n; word = word; owners = o; main = main; second = second }) places
+
+-- of a mutex
+abbrev pub seen : (l : ℕ) → Base → (word : ℕ) → Owners → (main second : List Waiter) → (ℕ → Place) → Site
+seen l n word o main second places = seen_by mutex l n word o main second places
+
+pub site_seen : (v : State) (r : Rules) (l : ℕ) (n : Base) (word : ℕ) (o : Owners) (m s : List Waiter) (places : ℕ → Place) → rules_in v l ≡ r → base_at v l ≡ n → word_at v l ≡ word → owners_at v l ≡ o → queue_at v (2 * l) ≡ m → queue_at v (2 * l + 1) ≡ s
+    → place_at v ≡ places → site_of v l ≡ seen_by r l n word o m s places
+site_seen v r l n word o m s places er en ew eo em es ep = λ i. seen_by (er i) l (en i) (ew i) (eo i) (em i) (es i) (ep i)
+
+pub same : (k : ℕ) → (k == k) ≡ true
+same k = grind (arith, nat_tests)
+
+pub thread_is : (t : ℕ) (o : Option ℕ) → is_thread t o ≡ true → o ≡ Some t
+thread_is t None h = absurd cc
+thread_is t (Some u) h = ap Some (eqb-true u t h)
+
+pub is_owner : (t : ℕ) (o : Option ℕ) → o ≡ Some t → is_thread t o ≡ true
+is_owner t o e = rw (e, same t) refl
+
+pub differ : (j k : ℕ) → j ≢ k → (j == k) ≡ false
+differ j k ne = grind (arith, nat_tests)
+
+pub put_here : {A : Type 0} (f : ℕ → A) (t : ℕ) (x : A) → putting f t x t ≡ x
+put_here f t x = ap (λ b. if b then x else f t) (same t)
+
+pub put_other : {A : Type 0} (f : ℕ → A) (t : ℕ) (x : A) (u : ℕ) → u ≢ t → putting f t x u ≡ f u
+put_other f t x u ne = ap (λ b. if b then x else f u) (differ u t ne)
+
+-- ---------------------------------------------------------------- leaving a section
+
+-- whom t hasn't taken
+abbrev pub Untaken : ℕ → Option Taken → Type 0
+Untaken t o = keep_from t o ≡ o
+
+pub not_wakened : (t : ℕ) (o : Option Taken) (d : Doing) → Untaken t o → wakened t o d ≡ d
+not_wakened t None d e = refl
+not_wakened t (Some h) d e = either (h.by == t) refl
+  where
+    either : (b : Bool) → (h.by == t) ≡ b → (if b then record d { retries = Some h.want } else d) ≡ d
+    either false f = refl
+    either true f = absurd (let g : keep_from t (Some h) ≡ None = ap (λ b. if b then None else Some h) f in cc)
+
+-- what leaving does to each other thread
+pub record LetGo (t l : ℕ) (p p2 : Place) : Type 0 where
+  pub taken : taken_at p2 l ≡ keep_from t (taken_at p l)
+  pub doing : doing_on p2 l ≡ wakened t (taken_at p l) (doing_on p l)
+
+-- who wasn't taken stays
+pub stays : (t l : ℕ) (p : Place) → Untaken t (taken_at p l) → LetGo t l p p
+stays t l p e = record { taken = sym e; doing = sym (not_wakened t (taken_at p l) (doing_on p l) e) }
+
+-- who was taken is woken and tries again
+pub tries : (t l : ℕ) (e : Entry) (retries : Bool) → LetGo t l (Mutex l (Lock e retries (lock.Taken t))) (next_place (Mutex l (Lock e retries (lock.Taken t))) (Woken note.Normal))
+tries t l e retries = record { taken = rw (same l, same t) refl; doing = rw (same l, same t) refl }
+
+-- who was handed the lock has it
+pub accepts : (t l by : ℕ) (e : Entry) (retries : Bool) → LetGo t l (Mutex l (Lock e retries (lock.Handed by))) (next_place (Mutex l (Lock e retries (lock.Handed by))) (Woken note.HandOff))
+accepts t l by e retries = record { taken = refl; doing = refl }
+
+module _ (r : Rules) (l : ℕ) (n : Base) (word : ℕ) (o : Owners) (m s : List Waiter) (p q : ℕ → Place) (t : ℕ) where
+  -- leaving a section, whoever is woken by it
+  pub leaving : taken_at (p t) l ≡ None → taken_at (q t) l ≡ None → doing_on (q t) l ≡ leaves (doing_on (p t) l) → ((u : ℕ) → u ≢ t → LetGo t l (p u) (q u))
+      → seen l n word o m s q ≡ after_deed r Out (seen l n word o m s p) t
+  leaving none none2 own others = λ i. record (seen l n word o m s q) { lock = lock_seen n.shared o m s (λ u. taken_now u i); doing = λ u. doing_now u i }
+    where
+      taken_now : (u : ℕ) → taken_at (q u) l ≡ keep_from t (taken_at (p u) l)
+      taken_now u = elim (cases_eq u t) [
+        | inl e ↦ rw e (none2 ∙ sym (ap (keep_from t) none))
+        | inr ne ↦ (others u ne).taken
+      ]
+
+      doing_now : (u : ℕ) → doing_on (q u) l ≡ wakened t (taken_at (p u) l) (putting (λ x. doing_on (p x) l) t (leaves (doing_on (p t) l)) u)
+      doing_now u = elim (cases_eq u t) [
+        | inl e ↦ rw e (own ∙ sym (ap (λ x. wakened t x (putting (λ y. doing_on (p y) l) t (leaves (doing_on (p t) l)) t)) none ∙ put_here (λ y. doing_on (p y) l) t (leaves (doing_on (p t) l))))
+        | inr ne ↦ (others u ne).doing ∙ sym (ap (wakened t (taken_at (p u) l)) (put_other (λ y. doing_on (p y) l) t (leaves (doing_on (p t) l)) u ne))
+      ]
+
+-- ---------------------------------------------------------------- hands
+
+pub record IsTakenAt (p : Place) (t l : ℕ) : Type 0 where
+  pub entry : Entry
+  pub retries : Bool
+  pub is : p ≡ Mutex l (Lock entry retries (lock.Taken t))
+
+pub record IsHandedAt (p : Place) (t l : ℕ) : Type 0 where
+  pub entry : Entry
+  pub retries : Bool
+  pub is : p ≡ Mutex l (Lock entry retries (lock.Handed t))
+
+-- what a place says nothing of at its own lock, it says nothing of at any
+pub nothing_at : {A : Type 0} (p : Place) (l : ℕ) (g : Station → Option A) → g nowhere ≡ None → g (station p) ≡ None → g (station_at p l) ≡ None
+nothing_at p l g n e = either (calls p l)
+  where
+    either : (b : Bool) → g (if b then station p else nowhere) ≡ None
+    either true = e
+    either false = n
+
+abbrev pub IsInHand : Place → ℕ → Bool → ℕ → Type 0
+IsInHand p t false l = IsTakenAt p t l
+IsInHand p t true l = IsHandedAt p t l
+
+-- who calls the lock l calls a mutex
+abbrev pub IsMutexCall : ℕ → Place → Type 0
+IsMutexCall l (RwLock k a at) = k ≢ l
+IsMutexCall l p = Unit {0}
+
+pub mutex_calls : (w : State) (l : ℕ) (p : Place) → FitsItsLock w p → rules_in w l ≡ mutex → IsMutexCall l p
+mutex_calls w l (RwLock k a c) calls rules = λ here.
+    let readers : has_readers (rules_in w k).sort ≡ true = calls.0.0 in
+    let none : has_readers (rules_in w k).sort ≡ false = ap (λ n. has_readers (rules_in w n).sort) here ∙ ap (λ (r : Rules). has_readers r.sort) rules in cc
+mutex_calls w l (Mutex k at) calls rules = tt
+mutex_calls w l Idle calls rules = tt
+
+pub in_hand : (p : Place) (t l : ℕ) (b : Bool) → IsMutexCall l p → hand_at p l ≡ hand t b → IsInHand p t b l
+in_hand (RwLock k a at) t l b other h = absurd (let none : hand_at (RwLock k a at) l ≡ None = ap (λ c. (if c then station (RwLock k a at) else nowhere).hand) (differ k l other) in cc)
+in_hand (Mutex k (Lock e retries (lock.Taken by))) t l b of h = either (k == l) refl b h
+  where
+    either : (c : Bool) → (k == l) ≡ c → (b : Bool) → (if c then mutex_station (Lock e retries (lock.Taken by)) else nowhere).hand ≡ hand t b → IsInHand (Mutex k (Lock e retries (lock.Taken by))) t b l
+    either true f false g = let own : k ≡ l = eqb-true k l f in let whose : by ≡ t = cc in record { entry = e; retries = retries; is = rw (own, whose) refl }
+    either true f true g = absurd cc
+    either false f b g = absurd cc
+in_hand (Mutex k (Lock e retries (lock.Handed by))) t l b of h = either (k == l) refl b h
+  where
+    either : (c : Bool) → (k == l) ≡ c → (b : Bool) → (if c then mutex_station (Lock e retries (lock.Handed by)) else nowhere).hand ≡ hand t b → IsInHand (Mutex k (Lock e retries (lock.Handed by))) t b l
+    either true f true g = let own : k ≡ l = eqb-true k l f in let whose : by ≡ t = cc in record { entry = e; retries = retries; is = rw (own, whose) refl }
+    either true f false g = absurd cc
+    either false f b g = absurd cc
+in_hand p t l b of h = absurd (let none : hand_at p l ≡ None = nothing_at p l (λ x. x.hand) refl refl in cc)
+
+pub is_taken : (p : Place) (t l : ℕ) → IsMutexCall l p → hand_at p l ≡ hand t false → IsTakenAt p t l
+is_taken p t l of h = in_hand p t l false of h
+
+pub is_handed : (p : Place) (t l : ℕ) → IsMutexCall l p → hand_at p l ≡ hand t true → IsHandedAt p t l
+is_handed p t l of h = in_hand p t l true of h
+
+-- who calls another lock is in nobody's hand here
+pub taken_out : (h : Option Hand) (x : Option Want) → taken_from h x false ≡ None
+taken_out None x = refl
+taken_out (Some (Of u true)) x = refl
+taken_out (Some (Of u false)) None = refl
+taken_out (Some (Of u false)) (Some x) = refl
+
+untaken_by : (t : ℕ) (h : Option Hand) (x : Option Want) → (h ≡ hand t false → ⊥) → Untaken t (taken_from h x true)
+untaken_by t None x none = refl
+untaken_by t (Some (Of u true)) x none = refl
+untaken_by t (Some (Of u false)) None none = refl
+untaken_by t (Some (Of u false)) (Some x) none = either (u == t) refl
+  where
+    held_so : Taken
+    held_so = record { by = u; want = x }
+
+    either : (b : Bool) → (u == t) ≡ b → (if b then None else Some held_so) ≡ Some held_so
+    either false e = refl
+    either true e = absurd (none (ap (λ y. hand y false) (eqb-true u t e)))
+
+-- who isn't in the hand of t
+pub untaken : (p : Place) (t l : ℕ) → (hand_at p l ≡ hand t false → ⊥) → Untaken t (taken_at p l)
+untaken p t l none = either (calls p l) none
+  where
+    either : (b : Bool) → ((if b then station p else nowhere).hand ≡ hand t false → ⊥) → Untaken t (taken_from (profile p).hand (profile p).wants b)
+    either true free = untaken_by t (profile p).hand (profile p).wants free
+    either false free = ap (keep_from t) (taken_out (profile p).hand (profile p).wants) ∙ sym (taken_out (profile p).hand (profile p).wants)
+
+-- ---------------------------------------------------------------- one thread goes elsewhere
+
+pub put_put : {A : Type 0} (f : ℕ → A) (t : ℕ) (x y : A) (u : ℕ) → putting (putting f t x) t y u ≡ putting f t y u
+put_put f t x y u = either (u == t)
+  where
+    either : (b : Bool) → (if b then y else if b then x else f u) ≡ (if b then y else f u)
+    either true = refl
+    either false = refl
+
+-- g of each, where one is put
+pub put_of : {A B : Type 0} (g : A → B) (f : ℕ → A) (t : ℕ) (x : A) (u : ℕ) → g (putting f t x u) ≡ putting (λ k. g (f k)) t (g x) u
+put_of g f t x u = either (u == t)
+  where
+    either : (b : Bool) → g (if b then x else f u) ≡ (if b then g x else g (f u))
+    either true = refl
+    either false = refl
+
+pub put_same : {A : Type 0} (f : ℕ → A) (t : ℕ) (x : A) → f t ≡ x → (u : ℕ) → putting f t x u ≡ f u
+put_same f t x e u = sym (put_is f f t x e (λ k ne. refl) u)
+
+-- a site whose lock, bit and one thread's doing are others
+abbrev pub local : Site → ℕ → LockState → Bool → Doing → Site
+local s t lock parked d = record s { lock = lock; parked = parked; doing = putting s.doing t d }
+
+-- what one thread's going elsewhere does to a site
+pub moved : (l : ℕ) (n : Base) (word : ℕ) (o : Owners) (m s : List Waiter) (p : ℕ → Place) (t : ℕ) (p2 : Place) → taken_at (p t) l ≡ taken_at p2 l
+    → seen l n word o m s (putting p t p2) ≡ local (seen l n word o m s p) t (lock_seen n.shared o m s (λ u. taken_at (p u) l)) (is_parked word) (doing_on p2 l)
+moved l n word o m s p t p2 e = λ i. record (seen l n word o m s p) { lock = lock_seen n.shared o m s (λ u. taken_same u i); doing = λ u. put_of (λ x. doing_on x l) p t p2 u i }
+  where
+    taken_same : (u : ℕ) → taken_at (putting p t p2 u) l ≡ taken_at (p u) l
+    taken_same u = put_of (λ x. taken_at x l) p t p2 u ∙ put_same (λ k. taken_at (p k) l) t (taken_at p2 l) e u
+
+abbrev pub IsLock : ℕ → Option ℕ → Type 0
+IsLock l None = Unit {0}
+IsLock l (Some k) = k ≡ l
+
+-- a place of a call of the lock l, or of none
+abbrev pub IsOf : ℕ → Place → Type 0
+IsOf l p = IsLock l (lock_of p)
+
+goes_on : (l k : ℕ) (n : Next MutexPlace) → k ≡ l → IsOf l (mutex_goes k n)
+goes_on l k (next.TheVariants.At at) e = e
+goes_on l k (next.TheVariants.End answer) e = tt
+
+pub next_of : (l : ℕ) (p : Place) (reply : Reply) → IsOf l p → IsOf l (next_place p reply)
+next_of l Idle reply h = tt
+next_of l (Mutex k at) reply h = goes_on l k (mutex_next at reply) h
+next_of l (RwLock k a at) reply h = by_next (call_next a at reply)
+  where
+    by_next : (n : Next RwLockCallPlace) → IsOf l (rwlock_goes k a n)
+    by_next (next.TheVariants.At at) = h
+    by_next (next.TheVariants.End answer) = tt
+
+-- a place of a call of the mutex l, or of none
+abbrev pub IsMutexOf : ℕ → Place → Type 0
+IsMutexOf l Idle = Unit {0}
+IsMutexOf l (Mutex k at) = k ≡ l
+IsMutexOf l (RwLock k a at) = ⊥
+
+pub own_of : (l : ℕ) (p : Place) → IsMutexOf l p → IsOf l p
+own_of l Idle of = tt
+own_of l (Mutex k at) of = of
+own_of l (RwLock k a at) of = absurd of
+
+pub next_mutex : (l k : ℕ) (n : Next MutexPlace) → k ≡ l → IsMutexOf l (mutex_goes k n)
+next_mutex l k (next.TheVariants.At at) e = e
+next_mutex l k (next.TheVariants.End answer) e = tt
+
+-- who calls no lock is idle
+pub calls_none : (p : Place) → lock_of p ≡ None → p ≡ Idle
+calls_none Idle e = refl
+calls_none (Mutex k at) e = absurd cc
+calls_none (RwLock k a at) e = absurd cc
+
+-- who is in nobody's hand isn't taken
+pub free_of : (q : Place) (l : ℕ) → (station q).hand ≡ None → taken_at q l ≡ None
+free_of q l none = ap (λ (h : Option Hand). taken_from h (profile q).wants (calls q l)) none
+
+-- who is in a hand calls the lock
+pub held_calls : (p : Place) (l : ℕ) → IsOf l p → (h : Hand) → (station p).hand ≡ Some h → calls p l ≡ true
+held_calls p l of h e = by_lock (lock_of p) refl of
+  where
+    by_lock : (o : Option ℕ) → lock_of p ≡ o → IsLock l o → is_lock l o ≡ true
+    by_lock None f g = absurd (let none : ◌≡◌ {A = Option Hand} None (Some h) = sym (ap (λ q. (station q).hand) (calls_none p f)) ∙ e in cc)
+    by_lock (Some k) f g = ap (λ j. j == l) g ∙ same l
+
+calls_other : (l k : ℕ) (o : Option ℕ) → IsLock l o → k ≢ l → is_lock k o ≡ false
+calls_other l k None h ne = refl
+calls_other l k (Some j) h ne = differ j k (λ e. ne (sym e ∙ h))
+
+-- it does nothing about another lock
+pub doing_elsewhere : (l k : ℕ) (p : Place) → IsOf l p → k ≢ l → doing_on p k ≡ idle
+doing_elsewhere l k p h ne = ap (λ b. if b then (profile p).doing else idle) (calls_other l k (lock_of p) h ne)
+
+pub taken_elsewhere : (l k : ℕ) (p : Place) → IsOf l p → k ≢ l → taken_at p k ≡ None
+taken_elsewhere l k p h ne = ap (taken_from (profile p).hand (profile p).wants) (calls_other l k (lock_of p) h ne) ∙ taken_out (profile p).hand (profile p).wants
+
+-- how it stands at a lock, by how it stands at its own
+pub station_is : (l k : ℕ) (p : Place) → IsOf l p → station_at p k ≡ (if l == k then station p else nowhere)
+station_is l k p h = by_lock (lock_of p) refl h
+  where
+    out : (b : Bool) → station p ≡ nowhere → nowhere ≡ (if b then station p else nowhere)
+    out true e = sym e
+    out false e = refl
+
+    by_lock : (o : Option ℕ) → lock_of p ≡ o → IsLock l o → (if is_lock k o then station p else nowhere) ≡ (if l == k then station p else nowhere)
+    by_lock None e own = out (l == k) (ap station (calls_none p e))
+    by_lock (Some j) e own = ap (λ x. if x == k then station p else nowhere) own
+
+pub station_here : (l : ℕ) (p : Place) → IsOf l p → station_at p l ≡ station p
+station_here l p h = station_is l l p h ∙ ap (λ b. if b then station p else nowhere) (same l)
+
+pub station_elsewhere : (l k : ℕ) (p : Place) → IsOf l p → k ≢ l → station_at p k ≡ nowhere
+station_elsewhere l k p h ne = station_is l k p h ∙ ap (λ b. if b then station p else nowhere) (differ l k (λ e. ne (sym e)))
+
+abbrev pub doing_of : Place → Doing
+doing_of p = (profile p).doing
+
+pub doing_here : (l : ℕ) (p : Place) → IsOf l p → doing_on p l ≡ doing_of p
+doing_here l p h = by_lock (lock_of p) refl h
+  where
+    by_lock : (o : Option ℕ) → lock_of p ≡ o → IsLock l o → (if is_lock l o then doing_of p else idle) ≡ doing_of p
+    by_lock None e own = sym (ap doing_of (calls_none p e))
+    by_lock (Some j) e own = ap (λ x. if x == l then doing_of p else idle) own ∙ ap (λ b. if b then doing_of p else idle) (same l)
+
+pub inside_is : (p : Place) (l : ℕ) → (doing_on p l).inside ≡ (station_at p l).inside
+inside_is p l = either (calls p l)
+  where
+    either : (b : Bool) → (if b then doing_of p else idle).inside ≡ (if b then station p else nowhere).inside
+    either true = refl
+    either false = refl
+
+pub own_stance : (l : ℕ) (q : Place) (at : MutexPlace) → q ≡ Mutex l at → station_at q l ≡ mutex_station at
+own_stance l q at is = ap (λ x. station_at x l) is ∙ station_here l (Mutex l at) refl
+
+-- another lock sees nothing of it
+pub moved_elsewhere : (l k : ℕ) (n : Base) (word : ℕ) (o : Owners) (m s : List Waiter) (p : ℕ → Place) (t : ℕ) (p2 : Place) → IsOf l (p t) → IsOf l p2 → k ≢ l → seen k n word o m s (putting p t p2) ≡ seen k n word o m s p
+moved_elsewhere l k n word o m s p t p2 h h2 ne = moved k n word o m s p t p2 (taken_elsewhere l k (p t) h ne ∙ sym (taken_elsewhere l k p2 h2 ne))
+    ∙ (λ i. record (seen k n word o m s p) { doing = λ u. put_same (λ x. doing_on (p x) k) t (doing_on p2 k) (doing_elsewhere l k (p t) h ne ∙ sym (doing_elsewhere l k p2 h2 ne)) u i })
+
+-- ---------------------------------------------------------------- whom a thread has in hand is told
+
+-- nobody is
+told_out : (t : ℕ) (reply : Reply) (ps : List Place) → ((x : ℕ) → is_thread t (taker (get_or ps x Idle)) ≡ false) → map (place_after_telling t reply) ps ≡ ps
+told_out t reply [] none = refl
+told_out t reply (p ∷ ps) none = λ i. ap (λ b. if b then next_place p reply else p) (none 0) i ∷ told_out t reply ps (λ x. none (suc x)) i
+
+-- one is
+told_in : (t : ℕ) (reply : Reply) (ps : List Place) (u : ℕ) → is_thread t (taker (get_or ps u Idle)) ≡ true → ((x : ℕ) → x ≢ u → is_thread t (taker (get_or ps x Idle)) ≡ false)
+    → map (place_after_telling t reply) ps ≡ set ps u (next_place (get_or ps u Idle) reply)
+told_in t reply [] u held only = absurd cc
+told_in t reply (p ∷ ps) zero held only = λ i. ap (λ b. if b then next_place p reply else p) held i ∷ told_out t reply ps (λ x. only (suc x) (λ e. omega arith)) i
+told_in t reply (p ∷ ps) (suc u) held only = λ i. ap (λ b. if b then next_place p reply else p) (only 0 (λ e. omega arith)) i ∷ told_in t reply ps u held (λ x ne. only (suc x) (λ e. ne (omega arith))) i
+
+-- whom t has in hand wants to own alone
+abbrev pub WantsAlone : ℕ → Place → Type 0
+WantsAlone t p = is_thread t (taker p) ≡ true → wants p ≡ Some Exclusive
+
+-- so it does not want to share
+no_sharer : (t : ℕ) (p : Place) → WantsAlone t p → shares_in_hand t (held p) ≡ false
+no_sharer t p alone = by_hand (taker p) (wants p) alone
+  where
+    by_hand : (o : Option ℕ) (x : Option Want) → (is_thread t o ≡ true → x ≡ Some Exclusive) → shares_in_hand t (held_by o x) ≡ false
+    by_hand None x own = refl
+    by_hand (Some u) None own = refl
+    by_hand (Some u) (Some x) own = either (u == t) own
+      where
+        either : (b : Bool) → (b ≡ true → Some x ≡ Some Exclusive) → (b && wants_shared x) ≡ false
+        either true e = let alone_so : x ≡ Exclusive = (let f : Some x ≡ Some Exclusive = e refl in cc) in rw alone_so refl
+        either false e = refl
+
+-- nobody gets a share
+pub none_given : (t : ℕ) (ps : List Place) (ns : List ℕ) → ((u : ℕ) → WantsAlone t (get_or ps u Idle)) → shares_given t ps ns ≡ ns
+none_given t [] ns alone = refl
+none_given t (p ∷ ps) [] alone = refl
+none_given t (p ∷ ps) (n ∷ ns) alone = λ i. ap (λ b. with_share b n) (no_sharer t p (alone 0)) i ∷ none_given t ps ns (λ u. alone (suc u)) i
+
+wants_all : (t : ℕ) (p : Place) → WantsAlone t p → is_thread t (taker p) ≡ true → wants_more_in_hand t (held p) ≡ Some Exclusive
+wants_all t p alone h = by_hand (taker p) (wants p) h (alone h)
+  where
+    by_hand : (o : Option ℕ) (x : Option Want) → is_thread t o ≡ true → x ≡ Some Exclusive → wants_more_in_hand t (held_by o x) ≡ Some Exclusive
+    by_hand None x own e = absurd cc
+    by_hand (Some u) x own e = rw e (ap (λ b. if b && true then Some Exclusive else None) own)
+
+wants_none : (t : ℕ) (p : Place) → is_thread t (taker p) ≡ false → wants_more_in_hand t (held p) ≡ None
+wants_none t p h = by_hand (taker p) (wants p) h
+  where
+    by_hand : (o : Option ℕ) (x : Option Want) → is_thread t o ≡ false → wants_more_in_hand t (held_by o x) ≡ None
+    by_hand None x other = refl
+    by_hand (Some u) None other = refl
+    by_hand (Some u) (Some x) other = ap (λ b. if b && not (wants_shared x) then Some x else None) other
+
+abbrev successor_is : ℕ → Successor
+successor_is u = record { thread = u; want = Exclusive }
+
+successor_in : (t k : ℕ) (ps : List Place) (u : ℕ) → WantsAlone t (get_or ps u Idle) → is_thread t (taker (get_or ps u Idle)) ≡ true → ((x : ℕ) → x ≢ u → is_thread t (taker (get_or ps x Idle)) ≡ false) → successor_from t k ps ≡ Some (successor_is (k + u))
+successor_in t k [] u alone held_by only = absurd cc
+successor_in t k (p ∷ ps) zero alone held_by only = ap (λ o. successor_or k o (successor_from t (suc k) ps)) (wants_all t p alone held_by) ∙ ap (λ n. Some (successor_is n)) (let e : k ≡ k + 0 = omega arith in e)
+successor_in t k (p ∷ ps) (suc u) alone held_by only = ap (λ o. successor_or k o (successor_from t (suc k) ps)) (wants_none t p (only 0 (λ e. omega arith)))
+    ∙ successor_in t (suc k) ps u alone held_by (λ x ne. only (suc x) (λ e. ne (omega arith))) ∙ ap (λ n. Some (successor_is n)) (let e : suc k + u ≡ k + suc u = omega arith in e)
+
+-- who took it, by its row
+taker_is : (p : Place) → taker p ≡ hand_owner (profile p).hand
+taker_is Idle = refl
+taker_is (Mutex k at) = refl
+taker_is (RwLock k a at) = refl
+
+-- who is in a hand by the place is so by the taker
+pub held_taker : (p : Place) (t l : ℕ) (b : Bool) → hand_at p l ≡ hand t b → is_thread t (taker p) ≡ true
+held_taker p t l b h = ap (is_thread t) (taker_is p) ∙ either (calls p l) h
+  where
+    either : (c : Bool) → (if c then station p else nowhere).hand ≡ hand t b → is_thread t (hand_owner (profile p).hand) ≡ true
+    either true g = ap (λ x. is_thread t (hand_owner x)) g ∙ same t
+    either false g = absurd cc
+
+-- and at some lock, if by the taker
+pub record IsHeldBy (p : Place) (t : ℕ) : Type 0 where
+  pub lock : ℕ
+  pub handed : Bool
+  pub hand : hand_at p lock ≡ hand t handed
+  pub of : IsOf lock p
+
+pub held_where : (p : Place) (t : ℕ) → is_thread t (taker p) ≡ true → IsHeldBy p t
+held_where p t h = by_hand (profile p).hand (lock_of p) refl refl (sym (ap (is_thread t) (taker_is p)) ∙ h)
+  where
+    by_hand : (x : Option Hand) (o : Option ℕ) → (profile p).hand ≡ x → lock_of p ≡ o → is_thread t (hand_owner x) ≡ true → IsHeldBy p t
+    by_hand None o e f g = absurd cc
+    by_hand (Some (Of u b)) None e f g = absurd (let none : (profile p).hand ≡ None = ap (λ y. (profile y).hand) (calls_none p f) in let k : ◌≡◌ {A = Option Hand} None (Some (Of u b)) = sym none ∙ e in cc)
+    by_hand (Some (Of u b)) (Some k) e f g = record {
+      lock = k;
+      handed = b;
+      hand = ap (λ (x : Station). x.hand) (station_here k p (rw f refl)) ∙ e ∙ ap (λ x. hand x b) (eqb-true u t g);
+      of = rw f refl;
+    }
+
+-- of those who call one lock, one at most is in the hand of t
+only_held : {one : ℕ → Type 0} (p : ℕ → Place) → Hands one p → (t l u : ℕ) (b : Bool) → one l → IsOf l (p t) → hand_at (p u) l ≡ hand t b → (x : ℕ) → x ≢ u → is_thread t (taker (p x)) ≡ false
+only_held p hands t l u b single of held x ne = either (is_thread t (taker (p x))) refl
+  where
+    second : IsHeldBy (p x) t → ⊥
+    second h = elim (cases_eq h.lock l) [
+      | inl e ↦ ne (hands.alone t l u x b h.handed single held (subst (λ k. hand_at (p x) k ≡ hand t h.handed) e h.hand))
+      | inr nl ↦ let a : carried_at (p t) h.lock ≡ Some h.handed = hands.taken t x h.lock h.handed h.hand in let c : carried_at (p t) h.lock ≡ None = ap (λ (y : Station). y.carries) (station_elsewhere l h.lock (p t) of nl) in cc
+    ]
+
+    either : (c : Bool) → is_thread t (taker (p x)) ≡ c → c ≡ false
+    either false e = refl
+    either true e = absurd (second (held_where (p x) t e))
+
+-- of those who call a mutex, each in the hand of t wants to own alone
+pub held_alone : {one : ℕ → Type 0} (p : ℕ → Place) → Hands one p → (t l : ℕ) → IsOf l (p t) → ((u : ℕ) → IsMutexCall l (p u)) → (u : ℕ) → WantsAlone t (p u)
+held_alone p hands t l of mutexes u h = let x = held_where (p u) t h in elim (cases_eq x.lock l) [
+  | inl e ↦ by_hand x.handed (in_hand (p u) t l x.handed (mutexes u) (subst (λ k. hand_at (p u) k ≡ hand t x.handed) e x.hand))
+  | inr ne ↦ absurd (let a : carried_at (p t) x.lock ≡ Some x.handed = hands.taken t u x.lock x.handed x.hand in let c : carried_at (p t) x.lock ≡ None = ap (λ (y : Station). y.carries) (station_elsewhere l x.lock (p t) of ne) in cc)
+]
+  where
+    by_hand : (b : Bool) → IsInHand (p u) t b l → wants (p u) ≡ Some Exclusive
+    by_hand true k = ap wants k.is
+    by_hand false k = ap wants k.is
+
+-- so all whom t has in hand are that one
+pub told_one : {one : ℕ → Type 0} (w : State) (t l u : ℕ) (b : Bool) (reply : Reply) → Hands one (place_at w) → one l → IsOf l (place_at w t) → hand_at (place_at w u) l ≡ hand t b → state_after_telling w t reply ≡ state_after_reply w u reply
+told_one w t l u b reply hands single of held = λ i. record w { places = told_in t reply w.places u (held_taker (place_at w u) t l b held) (only_held (place_at w) hands t l u b single of held) i }
+
+-- and it owns when t hands the lock over
+pub successor_one : {one : ℕ → Type 0} (w : State) (t l u : ℕ) (b : Bool) → Hands one (place_at w) → one l → IsOf l (place_at w t) → hand_at (place_at w u) l ≡ hand t b → ((x : ℕ) → WantsAlone t (place_at w x)) → sum (shares_at w l) ≡ 0 → (o : Owners) → owners_handed_over w t l o ≡ with_exclusive o (Some u)
+successor_one w t l u b hands single of held_at alone unshared o =
+    ap (λ s. owners_of_successor (sum (shares_handed_over w t l)) s o) (successor_in t 0 w.places u (alone u) (held_taker (place_at w u) t l b held_at) (only_held (place_at w) hands t l u b single of held_at) ∙ ap (λ n. Some (successor_is n)) (let e : 0 + u ≡ u = omega arith in e))
+    ∙ ap (λ (n : ℕ). if n == 0 then with_exclusive o (Some u) else pending_for u o) (ap sum (none_given t w.places (shares_at w l) alone) ∙ unshared)
+
+-- ---------------------------------------------------------------- a release wakes whom it has taken
+
+-- who has nobody in hand leaves alone
+pub lets_nobody : {one : ℕ → Type 0} (places : ℕ → Place) (hands : Hands one places) (t l : ℕ) (p2 : Place) → carried_at (places t) l ≡ None → (u : ℕ) → u ≢ t → LetGo t l (places u) (putting places t p2 u)
+lets_nobody places hands t l p2 none u ne = rw (put_other places t p2 u ne) (stays t l (places u) (untaken (places u) t l (λ h. let a : carried_at (places t) l ≡ Some false = hands.taken t u l false h in absurd cc)))
+
+-- ---------------------------------------------------------------- the first of a line is taken
+
+module _ (r : Rules) (l : ℕ) (n : Base) (word : ℕ) (o : Owners) (s rest : List Waiter) (x : Waiter) (p : ℕ → Place) (t : ℕ) (entry : Entry) (retries : Bool) (sort : r.sort ≡ locks.Mutex)
+    (first : p x.thread ≡ Mutex l (Lock entry retries lock.Asleep)) (wants : x.want ≡ Exclusive) (apart : x.thread ≢ t) where
+  abbrev before : Site
+  before = seen l n word o (x ∷ rest) s p
+
+  abbrev taken_then : ℕ → Option Taken
+  taken_then = putting (λ u. taken_at (p u) l) x.thread (Some (record { by = t; want = Exclusive }))
+
+  pub taking : (p2 : Place) → taken_at (p t) l ≡ None → taken_at p2 l ≡ None → doing_on p2 l ≡ taking_main true (lock_seen n.shared o rest s taken_then) (doing_on (p t) l)
+      → seen l n word o rest s (putting (putting p x.thread (next_place (p x.thread) (TakenBy t))) t p2) ≡ after_deed r (Case (TakeFirst (queued x.thread))) before t
+  taking p2 none none2 own = λ i. record before { lock = lock_seen n.shared o rest s (λ u. taken_now u i); filled = unfilled i; doing = λ u. doing_now u i }
+    where
+      unfilled : n.filled ≡ (n.filled || is_full r (locks.after_case r (TakeFirst (queued x.thread)) before.lock t))
+      unfilled = rw sort (sym (or-false n.filled))
+
+      hand_now : taken_at (next_place (p x.thread) (TakenBy t)) l ≡ Some (record { by = t; want = Exclusive })
+      hand_now = rw (first, same l) refl
+
+      taken_now : (u : ℕ) → taken_at (putting (putting p x.thread (next_place (p x.thread) (TakenBy t))) t p2 u) l ≡ taken_then u
+      taken_now u = elim (cases_eq u t) [
+        | inl e ↦ rw (e, put_here (putting p x.thread (next_place (p x.thread) (TakenBy t))) t p2) (none2 ∙ sym none ∙ sym (put_other (λ k. taken_at (p k) l) x.thread (Some (record { by = t; want = Exclusive })) t (λ f. apart (sym f))))
+        | inr ne ↦ rw (put_other (putting p x.thread (next_place (p x.thread) (TakenBy t))) t p2 u ne) (put_of (λ k. taken_at k l) p x.thread (next_place (p x.thread) (TakenBy t)) u ∙ ap (λ h. putting (λ k. taken_at (p k) l) x.thread h u) hand_now)
+      ]
+
+      doing_now : (u : ℕ) → doing_on (putting (putting p x.thread (next_place (p x.thread) (TakenBy t))) t p2 u) l ≡ putting (λ k. doing_on (p k) l) t (taking_main true (lock_seen n.shared o rest s taken_then) (doing_on (p t) l)) u
+      doing_now u = put_is (λ k. doing_on (p k) l) (λ k. doing_on (putting (putting p x.thread (next_place (p x.thread) (TakenBy t))) t p2 k) l) t (taking_main true (lock_seen n.shared o rest s taken_then) (doing_on (p t) l))
+          (rw (put_here (putting p x.thread (next_place (p x.thread) (TakenBy t))) t p2) own)
+          (λ k ne. rw (put_other (putting p x.thread (next_place (p x.thread) (TakenBy t))) t p2 k ne) (put_of (λ y. doing_on y l) p x.thread (next_place (p x.thread) (TakenBy t)) k ∙ put_same (λ y. doing_on (p y) l) x.thread (doing_on (next_place (p x.thread) (TakenBy t)) l) (rw (first, same l) refl) k))
+          u
+
+-- ---------------------------------------------------------------- a lock is handed over
+
+-- to whom the lock goes, if to anybody
+abbrev pub heir : Option ℕ → Option Queued
+heir None = None
+heir (Some u) = Some (queued u)
+
+-- the lock goes from t to those in hand
+pub handed_is : (t : ℕ) (n : Base) (o : Owners) (m s : List Waiter) (p : ℕ → Place) (l : ℕ) (to : Option ℕ) → IsLockState mutex (lock_seen n.shared o m s (λ u. taken_at (p u) l))
+    → locks.handed t Exclusive (heir to) (lock_seen n.shared o m s (λ u. taken_at (p u) l)) ≡ lock_seen n.shared (with_exclusive o to) m s (let_go t (λ u. taken_at (p u) l))
+handed_is t n o m s p l to state = (λ i. locks.with_successor (heir to) (record (lock_seen n.shared (with_exclusive o None) m s (let_go t (λ u. taken_at (p u) l))) { shared = sharing_same mutex (lock_seen n.shared o m s (λ u. taken_at (p u) l)) t 0 n.shared state (λ h. h) i })) ∙ by_heir to
+  where
+    by_heir : (to : Option ℕ) → locks.with_successor (heir to) (lock_seen n.shared (with_exclusive o None) m s (let_go t (λ u. taken_at (p u) l))) ≡ lock_seen n.shared (with_exclusive o to) m s (let_go t (λ u. taken_at (p u) l))
+    by_heir None = refl
+    by_heir (Some u) = ap (λ (k : ℕ). if k == 0 then lock_seen n.shared (with_exclusive o (Some u)) m s (let_go t (λ x. taken_at (p x) l)) else locks.pending_for u false (lock_seen n.shared (with_exclusive o None) m s (let_go t (λ x. taken_at (p x) l)))) (state.unshared (λ h. h))
+
+module _ (r : Rules) (l : ℕ) (n : Base) (word : ℕ) (o : Owners) (m s : List Waiter) (p : ℕ → Place) (one : ℕ → Type 0) (hands : Hands one p) (single : one l) (mutexes : (x : ℕ) → IsMutexCall l (p x)) (t u : ℕ) (alone bumps none_left : Bool) (sort : r.sort ≡ locks.Mutex) (state : IsLockState mutex (lock_seen n.shared o m s (λ x. taken_at (p x) l)))
+    (store : p t ≡ Mutex l (HandOff bumps (hand_off.Store true none_left))) (held : hand_at (p u) l ≡ hand t false) where
+  abbrev at_store : Site
+  at_store = seen l n word o m s p
+
+  abbrev pub handed_places : ℕ → Place
+  handed_places = putting (putting p u (next_place (p u) (HandedBy t alone))) t (Mutex l (HandOff bumps (hand_off.Leave true)))
+
+  pub taken_there : IsTakenAt (p u) t l
+  taken_there = is_taken (p u) t l (mutexes u) held
+
+  apart : u ≢ t
+  apart e = let a : Mutex l (HandOff bumps (hand_off.Store true none_left)) ≡ Mutex l (Lock taken_there.entry taken_there.retries (lock.Taken t)) = sym store ∙ ap p (sym e) ∙ taken_there.is in cc
+
+  let_go_now : (x : ℕ) → taken_at (handed_places x) l ≡ keep_from t (taken_at (p x) l)
+  let_go_now x = elim (cases_eq x t) [
+    | inl e ↦ rw (e, put_here (putting p u (next_place (p u) (HandedBy t alone))) t (Mutex l (HandOff bumps (hand_off.Leave true))), store) refl
+    | inr nt ↦ rw (put_other (putting p u (next_place (p u) (HandedBy t alone))) t (Mutex l (HandOff bumps (hand_off.Leave true))) x nt) (elim (cases_eq x u) [
+      | inl e ↦ rw (e, put_here p u (next_place (p u) (HandedBy t alone)), taken_there.is, same l, same t) refl
+      | inr nu ↦ rw (put_other p u (next_place (p u) (HandedBy t alone)) x nu) (sym (untaken (p x) t l (λ h. nu (hands.alone t l u x false false single held h))))
+    ])
+  ]
+
+  abbrev pub hands_acts : Bool → List Act
+  hands_acts b = record { by = t; deed = Case (locks.HandOff Exclusive (Some (queued u))) } ∷ record { by = t; deed = if b then Clear Main else Mark Main } ∷ record { by = u; deed = Begin (Some (Has Exclusive)) } ∷ []
+
+  doing_then : (b : Bool) → none_left ≡ b → (x : ℕ)
+      → doing_on (handed_places x) l ≡ (after_acts r (hands_acts b) at_store).doing x
+  doing_then true f x = elim (cases_eq x t) [
+    | inl e ↦ rw (e, put_here (putting p u (next_place (p u) (HandedBy t alone))) t (Mutex l (HandOff bumps (hand_off.Leave true))), differ t u (λ g. apart (sym g)), same t, store, same l) refl
+    | inr nt ↦ rw (put_other (putting p u (next_place (p u) (HandedBy t alone))) t (Mutex l (HandOff bumps (hand_off.Leave true))) x nt) (elim (cases_eq x u) [
+      | inl e ↦ rw (e, put_here p u (next_place (p u) (HandedBy t alone)), same u, differ u t apart, taken_there.is, same l) refl
+      | inr nu ↦ rw (put_other p u (next_place (p u) (HandedBy t alone)) x nu, differ x u nu, differ x t nt) refl
+    ])
+  ]
+  doing_then false f x = elim (cases_eq x t) [
+    | inl e ↦ rw (e, put_here (putting p u (next_place (p u) (HandedBy t alone))) t (Mutex l (HandOff bumps (hand_off.Leave true))), differ t u (λ g. apart (sym g)), same t, store, same l, f) refl
+    | inr nt ↦ rw (put_other (putting p u (next_place (p u) (HandedBy t alone))) t (Mutex l (HandOff bumps (hand_off.Leave true))) x nt) (elim (cases_eq x u) [
+      | inl e ↦ rw (e, put_here p u (next_place (p u) (HandedBy t alone)), same u, differ u t apart, taken_there.is, same l) refl
+      | inr nu ↦ rw (put_other p u (next_place (p u) (HandedBy t alone)) x nu, differ x u nu, differ x t nt) refl
+    ])
+  ]
+
+  -- the store does what its deeds do
+  pub handing : (b : Bool) → none_left ≡ b → seen l n (if b then 1 else 3) (with_exclusive o (Some u)) m s handed_places ≡ after_acts r (hands_acts b) at_store
+  handing b f = λ i. record at_store {
+    lock = (let_go_lock ∙ sym (handed_is t n o m s p l (Some u) state) ∙ same_lock b) i;
+    parked = bit b i;
+    aside_parked = no_aside b i;
+    filled = unfilled b i;
+    doing = λ x. doing_then b f x i;
+  }
+    where
+      let_go_lock : lock_seen n.shared (with_exclusive o (Some u)) m s (λ x. taken_at (handed_places x) l) ≡ lock_seen n.shared (with_exclusive o (Some u)) m s (let_go t (λ x. taken_at (p x) l))
+      let_go_lock = λ i. lock_seen n.shared (with_exclusive o (Some u)) m s (λ x. let_go_now x i)
+
+      same_lock : (b : Bool) → locks.handed t Exclusive (heir (Some u)) (lock_seen n.shared o m s (λ x. taken_at (p x) l)) ≡ (after_acts r (hands_acts b) at_store).lock
+      same_lock true = refl
+      same_lock false = refl
+
+      bit : (b : Bool) → is_parked (if b then 1 else 3) ≡ (after_acts r (hands_acts b) at_store).parked
+      bit true = refl
+      bit false = refl
+
+      no_aside : (b : Bool) → false ≡ (after_acts r (hands_acts b) at_store).aside_parked
+      no_aside true = refl
+      no_aside false = refl
+
+      unfilled : (b : Bool) → n.filled ≡ (after_acts r (hands_acts b) at_store).filled
+      unfilled true = rw sort (sym (or-false n.filled))
+      unfilled false = rw sort (sym (or-false n.filled))

@@ -1,0 +1,249 @@
+-- What becomes of the calls of those whom a thread has in hand: they try again, or were handed the lock.
+use Rattle.std.proofs.Common.{ℕ, Bool, true, false, Option, Some, None, if◌then◌else◌, ◌==◌, ◌≡◌, ◌≢◌, ◌+◌, ◌-◌, ◌⊎◌, inl, inr, List, refl, sym, ◌∙◌, ap, arith}
+use Rattle.lot_rwlock.proofs.RwLockCallPlaces.{taken_goes, woken_goes}
+use Rattle.lot_rwlock.specs.RwLockProfiles.{rwlock_profile}
+use Rattle.lot_acts.specs.Profiles.{Hand, Of, hand, taken_from}
+use Rattle.lot_base.specs.declared.wants.Want.{Want}
+use Rattle.std.specs.Prelude.{slice_index, sum}
+use Rattle.std.proofs.lemmas.Bool.{cases_eq, eqb-true}
+use Rattle.std.proofs.lemmas.Bool.Decides.{nat_tests}
+use Rattle.lot_base.specs.declared.notes.Note.TheVariants.{Normal}
+use Rattle.lot_base.specs.declared.wants.Want.{Want}
+use Rattle.lot_base.specs.declared.wants.Want.TheVariants.{Exclusive, Shared}
+use Rattle.lot_acts.specs.declared.acts.Reply.{Reply}
+use Rattle.lot_acts.specs.declared.acts.Reply.TheVariants.{TakenBy, HandedBy, Woken}
+use Rattle.lot_mutex.specs.declared.places.MutexPlace.TheVariants.{Lock, TryLock, Unlock, UnlockFair, Bump, HandOff}
+use Rattle.lot_mutex.specs.declared.lock.LockAt.TheVariants.{First, Taken}
+use Rattle.lot_mutex.specs.declared.unlock.UnlockAt.TheVariants as unlock
+use Rattle.lot_mutex.specs.declared.hand_off.HandOffAt.TheVariants as hand_off
+use Rattle.lot_rwlock.specs.declared.purposes.RwLockPurpose.{RwLockPurpose}
+use Rattle.lot_rwlock.specs.RwLockSteps.{access_of, wanted}
+use Rattle.lot_rwlock_fair.specs.declared.places.RwLockCallPlace.TheVariants as places
+use Rattle.lot_rwlock_fair.specs.declared.hand_over.HandOverAt.TheVariants as handing
+use Rattle.lot_rwlock_fair.specs.declared.handed.HandedAt.TheVariants as handed
+use Rattle.lot_rwlock_fair.specs.FairSteps.{bump_next}
+use Rattle.lot_rwlock_fair.specs.FairProfiles.{bump_former, bump_released, bumping}
+use Rattle.lot_steps.specs.Steps.{next_place, profile, rwlock_goes, calls}
+use Rattle.lot_steps.specs.declared.places.Place.{Place}
+use Rattle.lot_steps.specs.declared.places.Place.TheVariants.{Idle, Mutex, RwLock}
+use Rattle.abstract_locks.specs.Locks.{LockState, Queued, Taken as LockTaken, Rights, Enter, Wake, HandOff as HandsOff, IsTaken, IsLockState, Knows, Needs, rights_of, with_right, without_right, is_thread, putting}
+use Rattle.abstract_locks.specs.Locks as locks
+use Rattle.abstract_locks.specs.Purposes.{Bumps}
+use Rattle.abstract_locks.specs.Runs.{CallState, is_taken_by, AtLock, one_more_at, one_less_at}
+use Rattle.abstract_locks.specs.Sites.{Site, IsSite}
+use Rattle.abstract_locks.proofs.LockKeeps.{sharing_same}
+use Rattle.lot_machine.specs.Machine.{State, place_at}
+use Rattle.lot_laws.specs.Refinement.{owner_at, lock_state, taken_at, is_bump, before_entry, mutex_call_state, call_state, call_by}
+use Rattle.lot_laws.specs.MutexDeeds.{queued}
+use Rattle.lot_laws.specs.SitesOf.{rules_in}
+use Rattle.lot_laws.proofs.PlainCalls.{plain_goes}
+use Rattle.lot_laws.proofs.Glue.{IsTakenAt, heir, put_same, same, IsMutexCall, mutex_calls, taken_elsewhere}
+use Rattle.lot_laws.proofs.MutexTable.{mutex}
+use Rattle.lot_laws.proofs.CallEvents.{put_is, rights, rights_led, Happens, Others, OthersFollow}
+
+-- ---------------------------------------------------------------- rights
+
+none_counts : (t : ℕ) (o : Option ℕ) → o ≡ None → is_thread t o ≡ 0
+none_counts t o e = ap (is_thread t) e
+
+pub own_counts : (t : ℕ) → is_thread t (Some t) ≡ 1
+own_counts t = grind (arith, nat_tests)
+
+other_counts : (u t : ℕ) → u ≢ t → is_thread u (Some t) ≡ 0
+other_counts u t ne = grind (arith, nat_tests)
+
+module _ (s : LockState) (t : ℕ) where
+  abbrev given : LockState
+  given = locks.sharing_handed t (locks.without_owner t Exclusive s)
+
+  -- where a mutex goes to its heir, it alone owns it
+  module _ (state : IsLockState mutex s) (to : Option ℕ) where
+    handed_rights : (u : ℕ) → rights_of (locks.handed t Exclusive (heir to) s) u ≡ record (rights_of s u) { exclusive = is_thread u to }
+    handed_rights u = by_heir to
+      where
+        shared : locks.sharing_from t s.taken 0 s.shared ≡ s.shared
+        shared = sharing_same mutex s t 0 s.shared state (λ h. h)
+
+        by_heir : (to : Option ℕ) → rights_of (locks.with_successor (heir to) given) u ≡ record (rights_of s u) { exclusive = is_thread u to }
+        by_heir None = λ i. record (rights_of s u) { exclusive = 0; shared = slice_index (shared i) u }
+        by_heir (Some x) = ap (λ (n : ℕ). rights_of (if n == 0 then locks.with_owner x Exclusive given else locks.pending_for x false given) u) (ap (λ (xs : List ℕ). sum xs) shared ∙ state.unshared (λ h. h))
+            ∙ (λ i. record (rights_of s u) { exclusive = is_thread u (Some x); shared = slice_index (shared i) u })
+
+    module _ (own : s.exclusive ≡ Some t) (apart : to ≢ Some t) where
+      gave : with_right Exclusive (rights_of (locks.handed t Exclusive (heir to) s) t) ≡ rights_of s t
+      gave = ap (with_right Exclusive) (handed_rights t) ∙ (λ i. record (rights_of s t) { exclusive = one i })
+        where
+          none : (o : Option ℕ) → o ≢ Some t → is_thread t o ≡ 0
+          none None ne = refl
+          none (Some x) ne = other_counts t x (λ e. ne (ap Some (sym e)))
+
+          one : is_thread t to + 1 ≡ is_thread t s.exclusive
+          one = ap (λ n. n + 1) (none to apart) ∙ sym (own_counts t) ∙ ap (is_thread t) (sym own)
+
+      got : (u : ℕ) → to ≡ Some u → rights_of (locks.handed t Exclusive (heir to) s) u ≡ with_right Exclusive (rights_of s u)
+      got u e = handed_rights u ∙ (λ i. record (rights_of s u) { exclusive = one i })
+        where
+          one : is_thread u to ≡ is_thread u s.exclusive + 1
+          one = ap (is_thread u) e ∙ own_counts u ∙ ap (λ n. n + 1) (sym (ap (is_thread u) own ∙ other_counts u t (λ f. apart (e ∙ ap Some f))))
+
+      neither : (u : ℕ) → u ≢ t → to ≢ Some u → rights_of (locks.handed t Exclusive (heir to) s) u ≡ rights_of s u
+      neither u nt nu = handed_rights u ∙ (λ i. record (rights_of s u) { exclusive = none i })
+        where
+          not_heir : (o : Option ℕ) → o ≢ Some u → is_thread u o ≡ 0
+          not_heir None ne = refl
+          not_heir (Some x) ne = other_counts u x (λ e. ne (ap Some (sym e)))
+
+          none : is_thread u to ≡ is_thread u s.exclusive
+          none = not_heir to nu ∙ sym (ap (is_thread u) own ∙ other_counts u t nt)
+
+-- ---------------------------------------------------------------- whom a thread has in hand
+
+-- this befalls whom t has in hand at the lock, and nobody else
+abbrev pub Befalls : State → State → ℕ → ℕ → Reply → Type 0
+Befalls w v t l reply = (u : ℕ) → u ≢ t → place_at v u ≡ (if is_taken_by t (taken_at (place_at w u) l) then next_place (place_at w u) reply else place_at w u)
+
+pub taken_place : (p : Place) (t l : ℕ) → IsMutexCall l p → is_taken_by t (taken_at p l) ≡ true → IsTakenAt p t l
+taken_place (RwLock k a at) t l other h = absurd (let none : taken_at (RwLock k a at) l ≡ None = taken_elsewhere k l (RwLock k a at) refl (λ e. other (sym e)) in let f : is_taken_by t (taken_at (RwLock k a at) l) ≡ false = ap (is_taken_by t) none in cc)
+taken_place (Mutex k (Lock entry retries (Taken by))) t l of h = either (k == l) refl h
+  where
+    either : (b : Bool) → (k == l) ≡ b → is_taken_by t (if b then Some (record { by = by; want = Exclusive }) else None) ≡ true → IsTakenAt (Mutex k (Lock entry retries (Taken by))) t l
+    either true e g = record { entry = entry; retries = retries; is = rw (eqb-true k l e, eqb-true by t g) refl }
+    either false e g = absurd cc
+taken_place (Mutex k (Lock entry retries First)) t l of h = absurd cc
+taken_place (Mutex k (Lock entry retries at)) t l of h = absurd cc
+taken_place (Mutex k at) t l of h = absurd cc
+taken_place Idle t l of h = absurd cc
+
+pub untaken_by : (s : LockState) (t u : ℕ) → ((x : Want) → IsTaken s t u x → ⊥) → is_taken_by t (s.taken u) ≡ false
+untaken_by s t u none = by_hand (s.taken u) none
+  where
+    by_hand : (o : Option LockTaken) → ((x : Want) → o ≡ Some (record { by = t; want = x }) → ⊥) → is_taken_by t o ≡ false
+    by_hand None other = refl
+    by_hand (Some h) other = either (h.by == t) refl
+      where
+        either : (b : Bool) → (h.by == t) ≡ b → b ≡ false
+        either false e = refl
+        either true e = absurd (other h.want (let f : h.by ≡ t = eqb-true h.by t e in λ i. Some (record { by = f i; want = h.want })))
+
+-- who is taken at a lock calls it, and is in the hand of t
+taken_hand : (p : Place) (t l : ℕ) → is_taken_by t (taken_at p l) ≡ true → ((profile p).hand ≡ hand t false) × (calls p l ≡ true)
+taken_hand p t l h = by_row (profile p).hand (profile p).wants (calls p l) h
+  where
+    by_row : (o : Option Hand) (x : Option Want) (b : Bool) → is_taken_by t (taken_from o x b) ≡ true → (o ≡ hand t false) × (b ≡ true)
+    by_row None x b g = absurd cc
+    by_row (Some (Of u true)) x b g = absurd cc
+    by_row (Some (Of u false)) None b g = absurd cc
+    by_row (Some (Of u false)) (Some x) true g = (ap (λ y. hand y false) (eqb-true u t g), refl)
+    by_row (Some (Of u false)) (Some x) false g = absurd cc
+
+-- what a bump makes of a call by its purpose
+abbrev in_bump : RwLockPurpose → ℕ → CallState → CallState
+in_bump q l c = record c { purpose = Some (Bumps l (wanted (access_of q))); released = bump_released q c.released; former = bump_former q l c.former }
+
+-- whoever is woken tries the lock again
+pub woken_call : (p : Place) (t l : ℕ) → is_taken_by t (taken_at p l) ≡ true → (r : ℕ → Rights) → call_state (next_place p (Woken Normal)) r ≡ record (call_state p r) { retries = Some l }
+woken_call Idle t l h r = absurd cc
+woken_call (Mutex k at) t l h r = by_place (Mutex k at) (taken_place (Mutex k at) t l tt h)
+  where
+    by_place : (p : Place) → IsTakenAt p t l → call_state (next_place p (Woken Normal)) r ≡ record (call_state p r) { retries = Some l }
+    by_place p there = rw there.is refl
+woken_call (RwLock k a (places.Plain p)) t l h r = let held = taken_hand (RwLock k a (places.Plain p)) t l h in let here : k ≡ l = eqb-true k l held.1 in let goes = woken_goes a k p t held.0 in
+    ap (λ n. call_state (plain_goes k a n) r) goes.1 ∙ goes.2 r ∙ ap (λ n. record (call_by k (rwlock_profile a p) r) { retries = Some n }) here
+woken_call (RwLock k a (places.Bump p)) t l h r = let held = taken_hand (RwLock k a (places.Bump p)) t l h in let here : k ≡ l = eqb-true k l held.1 in let goes = woken_goes a k p t held.0 in
+    ap (λ n. call_state (rwlock_goes k a (bump_next p.purpose n)) r) goes.1 ∙ ap (λ q. call_by k (bumping q (rwlock_profile a goes.0)) r) goes.3 ∙ ap (in_bump p.purpose k) (goes.2 r) ∙ ap (λ n. record (in_bump p.purpose k (call_by k (rwlock_profile a p) r)) { retries = Some n }) here
+woken_call (RwLock k a (places.Glance x)) t l h r = absurd (let held = taken_hand (RwLock k a (places.Glance x)) t l h in let f : ◌≡◌ {A = Option Hand} None (hand t false) = held.0 in cc)
+woken_call (RwLock k a (places.HandOver x b to)) t l h r = absurd (let held = taken_hand (RwLock k a (places.HandOver x b to)) t l h in let f : ◌≡◌ {A = Option Hand} None (hand t false) = held.0 in cc)
+woken_call (RwLock k a (places.Handed x how b (handed.Asleep u alone))) t l h r = absurd (let held = taken_hand (RwLock k a (places.Handed x how b (handed.Asleep u alone))) t l h in let f : hand u true ≡ hand t false = held.0 in cc)
+woken_call (RwLock k a (places.Handed x how b handed.Accept)) t l h r = absurd (let held = taken_hand (RwLock k a (places.Handed x how b handed.Accept)) t l h in let f : ◌≡◌ {A = Option Hand} None (hand t false) = held.0 in cc)
+
+-- a call goes on as it is where a thread is taken
+pub taken_call : (p : Place) (by : ℕ) (r : ℕ → Rights) → call_state (next_place p (TakenBy by)) r ≡ call_state p r
+taken_call Idle by r = refl
+taken_call (RwLock k a (places.Plain p)) by r = let goes = taken_goes a k p by in ap (λ n. call_state (plain_goes k a n) r) goes.1 ∙ goes.2 r
+taken_call (RwLock k a (places.Bump p)) by r = let goes = taken_goes a k p by in
+    ap (λ n. call_state (rwlock_goes k a (bump_next p.purpose n)) r) goes.1 ∙ ap (λ q. call_by k (bumping q (rwlock_profile a goes.0)) r) goes.3 ∙ ap (in_bump p.purpose k) (goes.2 r)
+taken_call (RwLock k a (places.Glance x)) by r = refl
+taken_call (RwLock k a (places.HandOver x b handing.Load)) by r = refl
+taken_call (RwLock k a (places.HandOver x b to)) by r = refl
+taken_call (RwLock k a (places.Handed x how b (handed.Asleep u alone))) by r = refl
+taken_call (RwLock k a (places.Handed x how b handed.Accept)) by r = refl
+taken_call (Mutex k (Lock entry retries First)) by r = refl
+taken_call (Mutex k (Lock entry retries at)) by r = refl
+taken_call (Mutex k TryLock) by r = refl
+taken_call (Mutex k (Unlock unlock.Subtract)) by r = refl
+taken_call (Mutex k (Unlock at)) by r = refl
+taken_call (Mutex k UnlockFair) by r = refl
+taken_call (Mutex k Bump) by r = refl
+taken_call (Mutex k (HandOff bumps hand_off.Enter)) by r = refl
+taken_call (Mutex k (HandOff bumps at)) by r = refl
+
+module _ (w v : State) (t l : ℕ) where
+  pub wakes_others : Befalls w v t l (Woken Normal) → Others w v t (AtLock l Wake)
+  wakes_others befalls u ne r = ap (λ p. call_state p r) (befalls u ne) ∙ either (is_taken_by t (taken_at (place_at w u) l)) refl
+    where
+      either : (b : Bool) → is_taken_by t (taken_at (place_at w u) l) ≡ b → call_state (if b then next_place (place_at w u) (Woken Normal) else place_at w u) r ≡ (if b then record (call_state (place_at w u) r) { retries = Some l } else call_state (place_at w u) r)
+      either true e = woken_call (place_at w u) t l e r
+      either false e = refl
+
+-- ---------------------------------------------------------------- it hands its right over
+
+module _ (w v : State) (t l : ℕ) (to : Option ℕ) (h : Happens w v t l (AtLock l (HandsOff Exclusive (heir to)))) (rules : rules_in w l ≡ mutex) (awake : taken_at (place_at w t) l ≡ None) where
+  state : IsLockState mutex (lock_state w l)
+  state = let s : IsLockState (rules_in w l) (lock_state w l) = (h.before.sites.site l).state in rw rules at s
+
+  heir_of : (u : ℕ) → to ≡ Some u → IsTaken (lock_state w l) t u Exclusive
+  heir_of u e = ((h.needs.2 u Exclusive).0 (ap heir e)).0
+
+  -- nobody else is in its hand
+  no_heir : (u : ℕ) → to ≢ Some u → is_taken_by t (taken_at (place_at w u) l) ≡ false
+  no_heir u ne = untaken_by (lock_state w l) t u (λ x g. ne (thread_of to x ((h.needs.2 u x).1 (g, not_shared x (state.known_taken u (record { by = t; want = x }) g)))))
+    where
+      not_shared : (x : Want) → Knows locks.Mutex x → x ≢ Shared
+      not_shared Exclusive k e = cc
+      not_shared x k e = absurd k
+
+      thread_of : (o : Option ℕ) (x : Want) → heir o ≡ Some (record { thread = u; want = x }) → o ≡ Some u
+      thread_of None x e = absurd cc
+      thread_of (Some y) x e = ap Some (let f : queued y ≡ record { thread = u; want = x } = cc in ap (λ (q : Queued). q.thread) f)
+
+  apart : to ≢ Some t
+  apart e = let g : taken_at (place_at w t) l ≡ Some (record { by = t; want = Exclusive }) = heir_of t e in let none : taken_at (place_at w t) l ≡ None = awake in cc
+
+  led_to : (u : ℕ) (x : Rights) → rights_of (locks.handed t Exclusive (heir to) (lock_state w l)) u ≡ x → (k : ℕ) → rights v u k ≡ putting (rights w u) l x k
+  led_to u x e k = rights_led w v t l (Some (HandsOff Exclusive (heir to))) h u k ∙ ap (λ y. putting (rights w u) l y k) e
+
+  -- the heir has the right that it didn't have
+  module _ (u : ℕ) (e : to ≡ Some u) where
+    has : (k : ℕ) → rights v u k ≡ one_more_at l Exclusive (rights w u) k
+    has = led_to u (with_right Exclusive (rights w u l)) (got (lock_state w l) t state to h.needs.0 apart u e)
+
+    had : (k : ℕ) → one_less_at l Exclusive (rights v u) k ≡ rights w u k
+    had k = sym (put_is (rights v u) l (without_right Exclusive (rights v u l)) k (rights w u k)
+        (λ f. rw f (sym (ap (without_right Exclusive) (ap (λ s. rights_of s u) h.led ∙ got (lock_state w l) t state to h.needs.0 apart u e) ∙ one_less)))
+        (λ ne. sym (ap (λ s. rights_of s u) (h.elsewhere k ne))))
+      where
+        one_less : without_right Exclusive (with_right Exclusive (rights w u l)) ≡ rights w u l
+        one_less = λ i. record (rights w u l) { exclusive = (let n : (is_thread u (owner_at w l) + 1) - 1 ≡ is_thread u (owner_at w l) = omega arith in n) i }
+
+    former_same : (b : Bool) → before_entry l b true (rights v u) ≡ before_entry l b false (rights w u)
+    former_same true = λ i k. has k i
+    former_same false = λ i k. had k i
+
+    handed_call : (p : Place) (alone : Bool) → IsTakenAt p t l → call_state (next_place p (HandedBy t alone)) (rights v u) ≡ record (call_state p (rights w u)) { retries = None }
+    handed_call p alone k = rw k.is (λ i. record (mutex_call_state l (Lock k.entry k.retries (Taken t)) (rights w u)) { former = former_same (is_bump k.entry) i; retries = None })
+
+  pub hands_others : (alone : Bool) → Befalls w v t l (HandedBy t alone) → OthersFollow w v t (AtLock l (HandsOff Exclusive (heir to)))
+  hands_others alone befalls u ne = ap (λ p. call_state p (rights v u)) (befalls u ne) ∙ either (cases_to to)
+    where
+      cases_to : (o : Option ℕ) → (o ≡ Some u) ⊎ (o ≢ Some u)
+      cases_to None = inr (λ e. cc)
+      cases_to (Some x) = elim (cases_eq x u) [ inl e ↦ inl (ap Some e) | inr ne ↦ inr (λ e. ne cc) ]
+
+      either : ((to ≡ Some u) ⊎ (to ≢ Some u)) → call_state (if is_taken_by t (taken_at (place_at w u) l) then next_place (place_at w u) (HandedBy t alone) else place_at w u) (rights v u)
+          ≡ (if is_taken_by t (taken_at (place_at w u) l) then record (call_state (place_at w u) (rights w u)) { retries = None } else call_state (place_at w u) (rights w u))
+      either (inl e) = let taken : is_taken_by t (taken_at (place_at w u) l) ≡ true = rw (heir_of u e) (same t) in rw taken (handed_call u e (place_at w u) alone (taken_place (place_at w u) t l (mutex_calls w l (place_at w u) (h.before.stands.calls u) rules) taken))
+      either (inr other) = rw (no_heir u other) (ap (call_state (place_at w u)) (λ i k. (led_to u (rights w u l) (neither (lock_state w l) t state to h.needs.0 apart u ne other) k ∙ put_same (rights w u) l (rights w u l) refl k) i))
+
+-- who has an heir that isn't itself gives its right up
+pub gives_right : (s : Site) (t : ℕ) (to : Option ℕ) → IsSite mutex s → Needs mutex (HandsOff Exclusive (heir to)) s.lock t → s.lock.taken t ≡ None → with_right Exclusive (rights_of (locks.handed t Exclusive (heir to) s.lock) t) ≡ rights_of s.lock t
+gives_right s t to site needs awake = gave s.lock t site.state to needs.0 (λ e. let g : s.lock.taken t ≡ Some (record { by = t; want = Exclusive }) = ((needs.2 t Exclusive).0 (ap heir e)).0 in let none : s.lock.taken t ≡ None = awake in cc)

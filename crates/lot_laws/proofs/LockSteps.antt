@@ -1,0 +1,670 @@
+-- Each turn of a thread is a step of the abstract locks.
+use Rattle.std.proofs.Common.{◌≤◌, ◌++◌, arith, ℕ, Bool, true, false, Option, Some, None, if◌then◌else◌, ◌==◌, ◌&&◌, not, ◌≡◌, ◌≢◌, ◌+◌, ◌*◌, ◌<◌, ◌↔◌, inl, inr, List, [], ◌∷◌, length, get_or, refl, sym, ◌∙◌, ap, subst, get_or-set_other, get_or-set_same, length-set, nat_lt, is_some}
+use Rattle.lot_acts.specs.Profiles.{taken_from}
+use Rattle.lot_rwlock.specs.declared.places.RwLockAt.TheVariants as at
+use Rattle.lot_rwlock.specs.declared.park.ParkAt.TheVariants as parking
+use Rattle.lot_base.specs.Keys.{key_of}
+use Rattle.lot_base.specs.declared.keys.Line.{Line}
+use Rattle.lot_rwlock.specs.declared.places.RwLockAt.{RwLockAt}
+use Rattle.lot_rwlock.specs.RwLockSteps.{rwlock_next, next_at, patience_of}
+use Rattle.lot_rwlock.specs.declared.places.Admission.{Admission}
+use Rattle.lot_rwlock.specs.declared.places.RwLockPlace.{RwLockPlace}
+use Rattle.lot_rwlock.specs.declared.purposes.RwLockPurpose.{RwLockPurpose}
+use Rattle.lot_rwlock.specs.declared.purposes.RwLockPurpose.TheVariants as purposes
+use Rattle.lot_rwlock.specs.RwLockProfiles.{purpose_by, rwlock_late_line, late_line_at, hand_at as rwlock_hand}
+use Rattle.lot_rwlock.specs.RwLockDeeds.{Admits}
+use Rattle.abstract_locks.specs.Sites.{has_readers}
+use Rattle.abstract_locks.specs.Locks.{Mutex as Mutual}
+use Rattle.std.proofs.lemmas.Bool.{cases_eq, ltb-true, lt-ltb}
+use Rattle.lot_base.specs.declared.keys.Keys.TheVariants.{One}
+use Rattle.lot_base.specs.declared.ops.Op as op
+use Rattle.lot_base.specs.declared.wants.Want.TheVariants.{Exclusive}
+use Rattle.lot_calls.specs.declared.kinds.Kind.{Kind}
+use Rattle.lot_calls.specs.declared.kinds.Kind as kind
+use Rattle.lot_acts.specs.declared.acts.Act.{Act}
+use Rattle.lot_acts.specs.declared.acts.Act as act
+use Rattle.lot_acts.specs.declared.acts.Reply.TheVariants.{Value, Parked, HandedBy, Woken}
+use Rattle.lot_acts.specs.declared.acts.Reply.TheVariants as reply
+use Rattle.lot_calls.specs.declared.calls.Call.{Call}
+use Rattle.lot_calls.specs.declared.calls.Call as call
+use Rattle.lot_calls.specs.declared.calls.Turn.{Turn}
+use Rattle.lot_calls.specs.declared.calls.Turn as turn
+use Rattle.lot_calls.specs.declared.calls.Step.{Step}
+use Rattle.lot_calls.specs.declared.calls.MutexCall.{MutexCall}
+use Rattle.lot_calls.specs.declared.calls.MutexCall as mutex_call
+use Rattle.lot_calls.specs.Calls.{lock_in}
+use Rattle.lot_calls.specs.Kinds.{has_call, is_fair}
+use Rattle.lot_calls.specs.declared.outcomes.Outcome as outcome
+use Rattle.lot_mutex.specs.declared.lock.Entry.{Entry}
+use Rattle.lot_mutex.specs.declared.lock.Entry.TheVariants as entries
+use Rattle.lot_base.specs.declared.notes.Note.TheVariants as note
+use Rattle.lot_mutex.specs.declared.places.MutexPlace.TheVariants.{Lock, TryLock, Unlock, UnlockFair, Bump, HandOff}
+use Rattle.lot_mutex.specs.declared.lock.LockAt.{LockAt}
+use Rattle.lot_mutex.specs.declared.lock.LockAt.TheVariants.{First, Load, Decide, Check, Leave, Asleep, Taken, Handed, Accept, Remove, Clear, GiveUp}
+use Rattle.lot_mutex.specs.declared.unlock.UnlockAt.{UnlockAt}
+use Rattle.lot_mutex.specs.declared.unlock.UnlockAt.TheVariants as unlock
+use Rattle.lot_mutex.specs.declared.hand_off.HandOffAt.{HandOffAt}
+use Rattle.lot_mutex.specs.declared.hand_off.HandOffAt.TheVariants as hand_off
+use Rattle.lot_steps.specs.declared.places.Place.{Place}
+use Rattle.lot_steps.specs.declared.places.Place.TheVariants.{Idle, Mutex, RwLock}
+use Rattle.lot_acts.specs.Acts.{outcome_of}
+use Rattle.lot_mutex.specs.MutexSteps.{mutex_first, mutex_right, is_locked, is_parked, lock_act, unlock_act, hand_off_word, hand_off_act}
+use Rattle.lot_steps.specs.Steps.{act_of, next_place, next_act, mutex_goes, mutex_does, looking, late_key, is_idle, has_right, first_place, rwlock_goes, key_in, calls}
+use Rattle.lot_machine.specs.Machine.{unshared_then, hand_over_told, State, place_at, word_at, owners_at, kind_at, section_at, put, state_after_act, go_reply, state_after_operation, state_after_hand_over, state_with_sections, reply_to, can_do, state_after_look, look_outcome, state_after_go, state_after_going, go_outcome, going_outcome, state_after_late_on, is_free_under, state_after_begin, can_begin, is_open_to, can_turn, state_after_turn, turn_outcome, is_possible, after, step_outcome, share_at}
+use Rattle.lot_machine.specs.Fits.{IsShaped, SameSize, PlaceFits, GivesUpTimed}
+use Rattle.lot_machine.proofs.Shape.{looking_shaped, after_size, both, performed_counts}
+use Rattle.lot_laws.proofs.Possible.{may_go, go_possible, may_be_late, late_possible, told_gone, told_step, begins_awake, turner_there, gone_sections, late_sections, late_awake}
+use Rattle.lot_machine.proofs.Looks.{mutex_looks}
+use Rattle.lot_laws.proofs.CountsPut.{looking_counted}
+use Rattle.lot_laws.proofs.Looking.{here, looks_now, looking_steady, goes_as_before, stays_as_before}
+use Rattle.lot_laws.proofs.Closures.{no_closure, nothing_closes}
+use Rattle.lot_laws.specs.SitesOf.{site_of, AreCounted, IsSteady, Goes, FitsItsLock, is_mutex, rules_in, carried_at}
+use Rattle.abstract_locks.specs.Sites.{IsSite, Deed, Main, Mark, End, Case}
+use Rattle.abstract_locks.specs.Locks.{LockCase, Wake, Leave as GivesBack, HandOff as HandsOff, Rights, rights_of, standing}
+use Rattle.abstract_locks.specs.Runs.{LocksState, CallState, GoesOn, Stays, Looks, IsOfMutex, Does, SectionChanges, MayBegin, MayTurn, HasRight, Turned, IsStep, purpose_at, new_call, Nothing}
+use Rattle.abstract_locks.specs.Purposes.{purpose_of, mutex_purpose, rwlock_purpose}
+use Rattle.lot_laws.specs.MutexDeeds.{mutex_row, mutex_station, mutex_deeds, lock_deeds, enters, hands_over, acts}
+use Rattle.lot_laws.specs.MutexDeeds as of_mutex
+use Rattle.lot_acts.specs.Calls.{ComesTo}
+use Rattle.abstract_locks.specs.Deeds.{AllNeeded, case_of, event_by, after_event}
+use Rattle.lot_laws.specs.Stations.{hand}
+use Rattle.lot_laws.specs.Refinement.{owner_at, lock_state, taken_at, call_state, locks_of, sleeps}
+use Rattle.lot_laws.proofs.KindsKept.{after_kinds, calls_mutex, calls_readers}
+use Rattle.lot_laws.proofs.RwLockEvents.{rwlock_begins_with, rwlock_purpose_is, rwlock_right_held, rwlock_right_needed, rwlock_step, rwlock_untaken_first}
+use Rattle.lot_rwlock.specs.RwLockBegins.{admission_of}
+use Rattle.lot_rwlock_fair.specs.declared.places.RwLockCallPlace.{RwLockCallPlace}
+use Rattle.lot_rwlock_fair.specs.declared.places.RwLockCallPlace.TheVariants.{Plain, Glance, HandOver, Bump as BumpCall, Handed}
+use Rattle.lot_rwlock_fair.specs.FairCalls.{CallStands}
+use Rattle.lot_rwlock_fair.specs.FairProfiles.{call_late_line, call_profile}
+use Rattle.lot_rwlock_fair.specs.FairSteps.{bump_next, call_next, plain_next}
+use Rattle.lot_rwlock_fair.proofs.FairSleepers.{fair_sleepers_hear}
+use Rattle.lot_rwlock_fair.specs.FairBegins.{call_first, call_right}
+use Rattle.std.specs.Prelude.{replicate}
+use Rattle.lot_acts.specs.declared.acts.Reply.{Reply}
+use Rattle.lot_mutex.specs.declared.places.MutexPlace.{MutexPlace}
+use Rattle.lot_mutex.specs.MutexSteps.{mutex_act, mutex_next}
+use Rattle.lot_acts.specs.declared.acts.Next.{Next}
+use Rattle.lot_acts.specs.declared.acts.Next.TheVariants as next
+use Rattle.lot_acts.specs.declared.acts.Whom.TheVariants as whoms
+use Rattle.lot_laws.proofs.Glue.{heir, is_owner, own_stance, thread_is}
+use Rattle.lot_laws.proofs.MutexTable.{mutex}
+use Rattle.lot_laws.proofs.StandsMoved.{mutex_rules}
+use Rattle.lot_laws.proofs.SitesKept.{go_by}
+use Rattle.lot_laws.proofs.GoneKept.{gone_goes}
+use Rattle.lot_laws.proofs.TurnsKept.{idle_is}
+use Rattle.lot_laws.proofs.AtPlaces.{coded, in_no_hand, own_doing}
+use Rattle.lot_laws.proofs.PlacePromises.{standing_by}
+use Rattle.lot_laws.proofs.CallEvents.{put_is, rights, Others, OthersFollow, Happens, LeadsTo, happens, needed_then, others_follow, goes_by}
+use Rattle.lot_laws.proofs.LockEvents.{Befalls, wakes_others, hands_others}
+use Rattle.lot_laws.proofs.OtherCalls.{IsLonely, IsCalm, lonely, takes, calm, befalls, befalls_nobody, no_hand_off, tells_handed}
+use Rattle.lot_laws.proofs.MutexCalls.{Tells, Rests, row_of}
+use Rattle.lot_laws.proofs.MutexEvents.{Hears, owned_word, mutex_tells, claims_at, deeds_are, are_claims}
+
+-- ---------------------------------------------------------------- a reader-writer call whose time is up
+
+-- it sleeps in a line, and stands there still
+late_place : (a : Admission) (p : RwLockPlace) (m : Line) → rwlock_late_line p ≡ Some m
+    → (p2 : RwLockPlace) × (rwlock_next a p reply.Late ≡ next.At p2) × (rwlock_hand p.at ≡ None) × (rwlock_hand p2.at ≡ None)
+late_place a p m h = by_place p.at refl h
+  where
+    by_place : (to : RwLockAt) → p.at ≡ to → late_line_at (patience_of p.purpose) to ≡ Some m
+        → (p2 : RwLockPlace) × (rwlock_next a p reply.Late ≡ next.At p2) × (rwlock_hand p.at ≡ None) × (rwlock_hand p2.at ≡ None)
+    by_place (at.Park parking.Asleep) e h = (record p { at = at.Park parking.Remove }, ap (λ x. next_at a p x reply.Late) e, ap rwlock_hand e, refl)
+    by_place (at.Aside parking.Asleep) e h = (record p { at = at.Aside parking.Remove }, ap (λ x. next_at a p x reply.Late) e, ap rwlock_hand e, refl)
+    by_place (at.Park to) e h = absurd cc
+    by_place (at.Aside to) e h = absurd cc
+    by_place to e h = absurd cc
+
+call_late : (a : Admission) (c : RwLockCallPlace) (m : Line) → call_late_line c ≡ Some m
+    → (d : RwLockCallPlace) × (call_next a c reply.Late ≡ next.At d) × ((call_profile a c).hand ≡ None) × ((call_profile a d).hand ≡ None)
+call_late a (Plain p) m h = let z = late_place a p m h in (Plain z.0, ap plain_next z.1, z.2, z.3)
+call_late a (BumpCall p) m h = let z = late_place a p m h in (BumpCall z.0, ap (bump_next p.purpose) z.1, z.2, z.3)
+call_late a (Glance x) m h = absurd cc
+call_late a (HandOver x b to) m h = absurd cc
+call_late a (Handed x how b to) m h = absurd cc
+
+-- its line stands in its row
+late_row : (a : Admission) (c : RwLockCallPlace) → (call_profile a c).late_line ≡ call_late_line c
+late_row a (Plain p) = refl
+late_row a (BumpCall p) = refl
+late_row a (Glance x) = refl
+late_row a (HandOver x b to) = refl
+late_row a (Handed x how b to) = refl
+
+-- ---------------------------------------------------------------- a thread goes on
+
+module _ (w : State) (t : ℕ) (shape : IsShaped w) (steady : IsSteady w) (there : t < length w.places) where
+  module _ (l : ℕ) (lt : l < length w.locks) (rules : rules_in w l ≡ mutex) where
+    -- what it is told of its step
+    decided_hears : (e : Entry) (again : Bool) (x : ℕ) (a b : Bool) → Hears (site_of w l) t (Lock e again (Decide x)) (reply_to w t (if not a then act.TheVariants.Word l (op.TheVariants.Exchange x (x + 1)) else if b then act.TheVariants.Word l (op.TheVariants.Exchange 1 3) else act.TheVariants.Enter (One (2 * l))))
+    decided_hears e again x false b = tt
+    decided_hears e again x true true = tt
+    decided_hears e again x true false = tt
+
+    lock_hears : (e : Entry) (again : Bool) (a : LockAt) → can_do w (lock_act l a) ≡ true → GivesUpTimed (Lock e again a) → Hears (site_of w l) t (Lock e again a) (reply_to w t (lock_act l a))
+    lock_hears e again First can timed = tt
+    lock_hears e again Load can timed = tt
+    lock_hears e again (Decide x) can timed = decided_hears e again x (is_locked x) (x == 1)
+    lock_hears e again Check can timed = tt
+    lock_hears e again (Leave b) can timed = tt
+    lock_hears e again Asleep can timed = absurd cc
+    lock_hears e again (Taken by) can timed = absurd cc
+    lock_hears e again (Handed by) can timed = absurd cc
+    lock_hears e again Accept can timed = tt
+    lock_hears e again Remove can timed = timed
+    lock_hears e again Clear can timed = tt
+    lock_hears e again GiveUp can timed = timed
+
+    hears : (at : MutexPlace) → place_at w t ≡ Mutex l at → can_do w (mutex_act l at) ≡ true → GivesUpTimed at → Hears (site_of w l) t at (reply_to w t (mutex_act l at))
+    hears (Lock e again a) is can timed = lock_hears e again a can timed
+    hears TryLock is can timed = λ locked free. owned_word (word_at w l) (owner_at w l) (coded w steady l rules) locked free
+    hears (Unlock unlock.Subtract) is can timed = tt
+    hears (Unlock unlock.Enter) is can timed = tt
+    hears (Unlock unlock.Take) is can timed = tt
+    hears (Unlock (unlock.Clear any)) is can timed = tt
+    hears (Unlock (unlock.Leave true)) is can timed = tt
+    hears (Unlock (unlock.Leave false)) is can timed = tt
+    hears UnlockFair is can timed = tt
+    hears Bump is can timed = tt
+    hears (HandOff bumping hand_off.Enter) is can timed = tt
+    hears (HandOff bumping hand_off.Take) is can timed = tt
+    hears (HandOff bumping (hand_off.Store true b)) is can timed = ap (λ p. taken_at p l) is
+    hears (HandOff bumping (hand_off.Store false b)) is can timed = ap (λ p. taken_at p l) is
+    hears (HandOff bumping (hand_off.Leave true)) is can timed = tt
+    hears (HandOff bumping (hand_off.Leave false)) is can timed = tt
+
+    module _ (at : MutexPlace) (is : place_at w t ≡ Mutex l at) (can : can_do w (mutex_act l at) ≡ true) (timed : GivesUpTimed at) where
+      abbrev told : Reply
+      told = reply_to w t (mutex_act l at)
+
+      -- whom its act takes, or hands the lock
+      abbrev whom : Option ℕ
+      whom = (gone_goes w t steady shape there l at is lt can).0
+
+      abbrev behind : State
+      behind = go_by w t (Mutex l at) (mutex_act l at)
+
+      goes : Goes w behind l (acts t (mutex_deeds at whom told) ++ claims_at at whom told)
+      goes = subst (Goes w behind l) (deeds_are t at whom told) (gone_goes w t steady shape there l at is lt can).1
+
+      tells : Tells l t (lock_state w l) at (mutex_deeds at whom told) (mutex_next at told)
+      tells = mutex_tells (site_of w l) t l (subst (λ r. IsSite r (site_of w l)) rules (steady.sites.site l)) at whom told (own_doing w steady t l at is)
+          (subst (λ r. AllNeeded r (mutex_deeds at whom told) (site_of w l) t) rules (needed_then (rules_in w l) t (mutex_deeds at whom told) (claims_at at whom told) (site_of w l) goes.follows.needed)) (hears at is can timed)
+
+      -- whom it has in hand, by its place
+      carries : carried_at (place_at w t) l ≡ (mutex_row at).carries
+      carries = ap (λ x. x.carries) (own_stance l (place_at w t) at is)
+
+      abbrev happened : Option LockCase
+      happened = case_of (mutex_row at).carries (mutex_deeds at whom told)
+
+      happens_so : Happens w behind t l (event_by l happened)
+      happens_so = happens w behind t l (mutex_row at).carries (mutex_deeds at whom told) (claims_at at whom told) steady goes (are_claims at whom told) tells.follows.one (λ none. in_no_hand w steady t l (λ h. none (sym carries ∙ h)))
+
+      -- where it is then
+      leads : LeadsTo behind t l (row_of (mutex_next at told)) (outcome_of (mutex_does l (mutex_next at told)))
+      leads = by_next (mutex_next at told) (get_or-set_same (state_after_act w t (Mutex l at) (mutex_act l at)).places t _ Idle (rw (performed_counts w t (Mutex l at) (mutex_act l at)).0 there)) tells.rests
+        where
+          by_next : (n : Next MutexPlace) → place_at behind t ≡ mutex_goes l n → Rests l n → LeadsTo behind t l (row_of n) (outcome_of (mutex_does l n))
+          by_next (next.At at2) e rests = (
+            rw e refl,
+            rw e refl,
+            elim rests [
+              | inl step ↦ inl step
+              | inr sleeps ↦ inr (sleeps.0, standing_then at2 e sleeps.1)
+            ],
+          )
+            where
+              standing_then : (at2 : MutexPlace) → place_at behind t ≡ Mutex l at2 → (mutex_station at2).stands ≡ Some Main → 1 ≤ standing t (lock_state behind l)
+              standing_then at2 e stands = rw (standing_by behind t happens_so.after l, own_stance l (place_at behind t) at2 e, stands) (omega arith)
+          by_next (next.End a) e rests = (e, refl)
+
+      goes_if : OthersFollow w behind t (event_by l happened) → GoesOn (locks_of w) t (outcome_of (next_act (Mutex l at) told)) (locks_of behind)
+      goes_if others = goes_by w behind t l happened happens_so (Mutex l at) is refl tells.follows.may (row_of (mutex_next at told)) _
+          (subst (λ r. ComesTo r l (mutex_row at) (event_by l happened) (lock_state w l) (after_event r (event_by l happened) (lock_state w l) t) t (row_of (mutex_next at told))) (sym rules) tells.follows.comes)
+          leads others
+
+      -- nobody else's call changes
+      calmly : IsCalm happened → Others w behind t Nothing → GoesOn (locks_of w) t (outcome_of (next_act (Mutex l at) told)) (locks_of behind)
+      calmly still others = goes_if (others_follow w behind t l happened happens_so (no_hand_off w behind t l happened happens_so happened still) (calm w t (next_place (Mutex l at) told) behind l happened still others))
+
+      -- it hands the lock over
+      gives : (to : Option ℕ) → happened ≡ Some (HandsOff Exclusive (heir to)) → (left_alone : Bool) → Befalls w behind t l (HandedBy t left_alone) → taken_at (place_at w t) l ≡ None → GoesOn (locks_of w) t (outcome_of (next_act (Mutex l at) told)) (locks_of behind)
+      gives to case left_alone befalls awake = goes_if (subst (λ c. OthersFollow w behind t (event_by l c)) (sym case) (hands_others w behind t l to (subst (λ c. Happens w behind t l (event_by l c)) case happens_so) rules awake left_alone befalls))
+
+    -- whichever way it decides, the case is one that leaves the others in peace
+    if_calm : (hand : Option Bool) (b : Bool) (xs ys : List Deed) → IsCalm (case_of hand xs) → IsCalm (case_of hand ys) → IsCalm (case_of hand (if b then xs else ys))
+    if_calm hand true xs ys h k = h
+    if_calm hand false xs ys h k = k
+
+    abbrev decided_by : ℕ → Bool → Bool → Act
+    decided_by x a b = if not a then act.TheVariants.Word l (op.TheVariants.Exchange x (x + 1)) else if b then act.TheVariants.Word l (op.TheVariants.Exchange 1 3) else act.TheVariants.Enter (One (2 * l))
+
+    lonely_decided : (x : ℕ) (a b : Bool) → IsLonely (decided_by x a b)
+    lonely_decided x false b = tt
+    lonely_decided x true true = tt
+    lonely_decided x true false = tt
+
+    calm_word : (x v : ℕ) → IsCalm (case_of None (lock_deeds (Decide x) (Value v)))
+    calm_word x v = if_calm None (not (v == x)) [] (if is_locked v then Mark Main ∷ [] else enters) tt (if_calm None (is_locked v) (Mark Main ∷ []) enters tt tt)
+
+    calm_decided : (x : ℕ) (a b : Bool) → IsCalm (case_of None (lock_deeds (Decide x) (reply_to w t (decided_by x a b))))
+    calm_decided x false b = calm_word x (word_at w l)
+    calm_decided x true true = calm_word x (word_at w l)
+    calm_decided x true false = tt
+
+    calm_parked : (b : Bool) → IsCalm (case_of None (lock_deeds Check (Parked b)))
+    calm_parked true = tt
+    calm_parked false = tt
+
+    calm_takes : (o : Option ℕ) → IsCalm (case_of None (of_mutex.takes o))
+    calm_takes None = tt
+    calm_takes (Some u) = tt
+
+    -- nobody else goes anywhere, or whoever is taken goes on in its call
+    alone : (at : MutexPlace) (is : place_at w t ≡ Mutex l at) (can : can_do w (mutex_act l at) ≡ true) (timed : GivesUpTimed at) → IsLonely (mutex_act l at) → IsCalm (happened at is can timed)
+        → GoesOn (locks_of w) t (outcome_of (next_act (Mutex l at) (reply_to w t (mutex_act l at)))) (locks_of (go_by w t (Mutex l at) (mutex_act l at)))
+    alone at is can timed by_itself still = calmly at is can timed still (lonely w t (next_place (Mutex l at) (reply_to w t (mutex_act l at))) (Mutex l at) (mutex_act l at) by_itself)
+
+    lock_goes : (e : Entry) (again : Bool) (a : LockAt) (is : place_at w t ≡ Mutex l (Lock e again a)) (can : can_do w (lock_act l a) ≡ true) → GivesUpTimed (Lock e again a)
+        → GoesOn (locks_of w) t (outcome_of (next_act (Mutex l (Lock e again a)) (reply_to w t (lock_act l a)))) (locks_of (go_by w t (Mutex l (Lock e again a)) (lock_act l a)))
+    lock_goes e again First is can timed = alone (Lock e again First) is can timed tt (if_calm None (word_at w l == 0) enters [] tt tt)
+    lock_goes e again Load is can timed = alone (Lock e again Load) is can timed tt tt
+    lock_goes e again (Decide x) is can timed = alone (Lock e again (Decide x)) is can timed (lonely_decided x (is_locked x) (x == 1)) (calm_decided x (is_locked x) (x == 1))
+    lock_goes e again Check is can timed = alone (Lock e again Check) is can timed tt (calm_parked (word_at w l == 3))
+    lock_goes e again (Leave b) is can timed = alone (Lock e again (Leave b)) is can timed tt tt
+    lock_goes e again Asleep is can timed = absurd cc
+    lock_goes e again (Taken by) is can timed = absurd cc
+    lock_goes e again (Handed by) is can timed = absurd cc
+    lock_goes e again Accept is can timed = alone (Lock e again Accept) is can timed tt tt
+    lock_goes e again Remove is can timed = alone (Lock e again Remove) is can timed tt tt
+    lock_goes e again Clear is can timed = alone (Lock e again Clear) is can timed tt tt
+    lock_goes e again GiveUp is can timed = alone (Lock e again GiveUp) is can timed tt tt
+
+    unlock_goes : (a : UnlockAt) (is : place_at w t ≡ Mutex l (Unlock a)) (can : can_do w (unlock_act l a) ≡ true)
+        → GoesOn (locks_of w) t (outcome_of (next_act (Mutex l (Unlock a)) (reply_to w t (unlock_act l a)))) (locks_of (go_by w t (Mutex l (Unlock a)) (unlock_act l a)))
+    unlock_goes unlock.Subtract is can = alone (Unlock unlock.Subtract) is can tt tt tt
+    unlock_goes unlock.Enter is can = alone (Unlock unlock.Enter) is can tt tt tt
+    unlock_goes unlock.Take is can = calmly (Unlock unlock.Take) is can tt (calm_takes (whom (Unlock unlock.Take) is can tt)) (takes w t _ (Mutex l (Unlock unlock.Take)) (2 * l) whoms.First)
+    unlock_goes (unlock.Clear any) is can = alone (Unlock (unlock.Clear any)) is can tt tt tt
+    unlock_goes (unlock.Leave false) is can = alone (Unlock (unlock.Leave false)) is can tt tt tt
+    unlock_goes (unlock.Leave true) is can = goes_if (Unlock (unlock.Leave true)) is can tt (others_follow w (behind (Unlock (unlock.Leave true)) is can tt) t l (Some Wake) (happens_so (Unlock (unlock.Leave true)) is can tt) (λ x y e. cc)
+        (wakes_others w (behind (Unlock (unlock.Leave true)) is can tt) t l (befalls w t l steady (rw is refl) Idle (state_with_sections w (One (2 * l)) None) (Woken note.Normal) refl (carries (Unlock (unlock.Leave true)) is can tt))))
+
+    hands_case : (bumping any b : Bool) (o : Option ℕ) → case_of (mutex_row (HandOff bumping (hand_off.Store any b))).carries (hands_over o b) ≡ Some (HandsOff Exclusive (heir o))
+    hands_case bumping any b None = refl
+    hands_case bumping any b (Some u) = refl
+
+    hand_off_goes : (bumping : Bool) (a : HandOffAt) (is : place_at w t ≡ Mutex l (HandOff bumping a)) (can : can_do w (hand_off_act l a) ≡ true)
+        → GoesOn (locks_of w) t (outcome_of (next_act (Mutex l (HandOff bumping a)) (reply_to w t (hand_off_act l a)))) (locks_of (go_by w t (Mutex l (HandOff bumping a)) (hand_off_act l a)))
+    hand_off_goes bumping hand_off.Enter is can = alone (HandOff bumping hand_off.Enter) is can tt tt tt
+    hand_off_goes bumping hand_off.Take is can = calmly (HandOff bumping hand_off.Take) is can tt (calm_takes (whom (HandOff bumping hand_off.Take) is can tt)) (takes w t _ (Mutex l (HandOff bumping hand_off.Take)) (2 * l) whoms.First)
+    hand_off_goes bumping (hand_off.Store false b) is can = gives (HandOff bumping (hand_off.Store false b)) is can tt (whom (HandOff bumping (hand_off.Store false b)) is can tt) (hands_case bumping false b (whom (HandOff bumping (hand_off.Store false b)) is can tt)) true
+        (befalls_nobody w t l steady (rw is refl) _ (state_after_operation w t (Mutex l (HandOff bumping (hand_off.Store false b))) l (op.TheVariants.Store 0)) (HandedBy t true) refl (carries (HandOff bumping (hand_off.Store false b)) is can tt)) (ap (λ p. taken_at p l) is)
+    hand_off_goes bumping (hand_off.Store true b) is can = gives (HandOff bumping (hand_off.Store true b)) is can tt (whom (HandOff bumping (hand_off.Store true b)) is can tt) (hands_case bumping true b (whom (HandOff bumping (hand_off.Store true b)) is can tt)) (unshared_then w t l)
+        (befalls w t l steady (rw is refl) _ (state_after_hand_over w t (Mutex l (HandOff bumping (hand_off.Store true b))) l (op.TheVariants.Store (hand_off_word true b))) (hand_over_told w t l) refl (carries (HandOff bumping (hand_off.Store true b)) is can tt)) (ap (λ p. taken_at p l) is)
+    hand_off_goes bumping (hand_off.Leave false) is can = alone (HandOff bumping (hand_off.Leave false)) is can tt tt tt
+    hand_off_goes bumping (hand_off.Leave true) is can = calmly (HandOff bumping (hand_off.Leave true)) is can tt tt (tells_handed w t l steady (rw is refl) _ (state_with_sections w (One (2 * l)) None) refl (carries (HandOff bumping (hand_off.Leave true)) is can tt))
+
+    mutex_goes_on : (at : MutexPlace) (is : place_at w t ≡ Mutex l at) (can : can_do w (mutex_act l at) ≡ true) → GivesUpTimed at
+        → GoesOn (locks_of w) t (outcome_of (next_act (Mutex l at) (reply_to w t (mutex_act l at)))) (locks_of (go_by w t (Mutex l at) (mutex_act l at)))
+    mutex_goes_on (Lock e again a) is can timed = lock_goes e again a is can timed
+    mutex_goes_on TryLock is can timed = alone TryLock is can tt tt (if_calm None (is_locked (word_at w l)) (End ∷ []) enters tt tt)
+    mutex_goes_on (Unlock a) is can timed = unlock_goes a is can
+    mutex_goes_on UnlockFair is can timed = alone UnlockFair is can tt tt (if_calm None (word_at w l == 1) (Case (GivesBack Exclusive) ∷ End ∷ []) [] tt tt)
+    mutex_goes_on Bump is can timed = alone Bump is can tt tt (if_calm None (is_parked (word_at w l)) [] (End ∷ []) tt tt)
+    mutex_goes_on (HandOff bumping a) is can timed = hand_off_goes bumping a is can
+
+    -- a mutex's word is looked at, and the thread only decides anew
+    decides_on : (x : ℕ) (a b : Bool) → outcome_of (decided_by x a b) ≡ outcome.TheVariants.Step
+    decides_on x false b = refl
+    decides_on x true true = refl
+    decides_on x true false = refl
+
+    load_stays : (e : Entry) (again : Bool) → place_at w t ≡ Mutex l (Lock e again Load)
+        → Stays (locks_of w) t (call_state (place_at w t) (rights w t)) (going_outcome w t (Mutex l (Lock e again Load))) (locks_of (state_after_going w t (Mutex l (Lock e again Load))))
+    load_stays e again is = record {
+      told = decides_on (word_at w l) (is_locked (word_at w l)) (word_at w l == 1);
+      locks = locks_stay;
+      calls = λ u. put_is (λ x. call_state (place_at w x) (rights w x)) t (call_state (place_at w t) (rights w t)) u _
+          (λ e. rw e (λ i. place_then i (rights_stay t i)))
+          (λ ne. λ i. call_state (get_or-set_other w.places t u (next_place (Mutex l (Lock e again Load)) (Value (word_at w l))) Idle ne i) (rights_stay u i));
+    }
+      where
+        decided : State
+        decided = behind (Lock e again Load) is refl tt
+
+        locks_stay : (k : ℕ) → lock_state decided k ≡ lock_state w k
+        locks_stay k = let h : Happens w decided t l Nothing = happens_so (Lock e again Load) is refl tt in elim (cases_eq k l) [
+          | inl e ↦ rw e h.led
+          | inr ne ↦ h.elsewhere k ne
+        ]
+
+        rights_stay : (u : ℕ) → rights decided u ≡ rights w u
+        rights_stay u = λ i k. rights_of (locks_stay k i) u
+
+        place_then : call_state (place_at decided t) ≡ call_state (place_at w t)
+        place_then = ap call_state (get_or-set_same w.places t (next_place (Mutex l (Lock e again Load)) (Value (word_at w l))) Idle there) ∙ ap call_state (sym is)
+
+  go_goes : AreCounted w → (p : Place) → place_at w t ≡ p → PlaceFits (length w.locks) p → FitsItsLock w p → can_do w (act_of p) ≡ true → GoesOn (locks_of w) t (outcome_of (next_act p (reply_to w t (act_of p)))) (locks_of (go_by w t p (act_of p)))
+  go_goes counted Idle is fits of can = absurd cc
+  go_goes counted (RwLock l a c) is fits of can = rwlock_step w t l a c steady shape there fits is counted can
+  go_goes counted (Mutex l at) is fits of can = mutex_goes_on l fits.0 (mutex_rules (kind_at w l) of) at is can fits.1
+
+  -- ---------------------------------------------------------------- turns by which the place alone changes
+
+  placed : (s : List (Option ℕ)) (p p2 : Place) → place_at w t ≡ p → ((k : ℕ) → taken_at p2 k ≡ taken_at p k) → (c : CallState) → ((r : ℕ → Rights) → r ≡ rights w t → call_state p2 r ≡ c)
+      → Stays (locks_of w) t c outcome.TheVariants.Step (locks_of (put (record w { sections = s }) t p2))
+  placed s p p2 is stays c called = record {
+    told = refl;
+    locks = same_locks;
+    calls = λ u. put_is (λ x. call_state (place_at w x) (rights w x)) t c u _
+        (λ e. rw (e, get_or-set_same w.places t p2 Idle there) (called _ (λ i k. rights_of (same_locks k i) t)))
+        (λ ne. ap (λ q. call_state q (rights (put (record w { sections = s }) t p2) u)) (get_or-set_other w.places t u p2 Idle ne) ∙ ap (call_state (place_at w u)) (λ i k. rights_of (same_locks k i) u));
+  }
+    where
+      taken_same : (u k : ℕ) → taken_at (place_at (put (record w { sections = s }) t p2) u) k ≡ taken_at (place_at w u) k
+      taken_same u k = elim (cases_eq u t) [
+        | inl e ↦ rw (e, get_or-set_same w.places t p2 Idle there, is) (stays k)
+        | inr ne ↦ ap (λ q. taken_at q k) (get_or-set_other w.places t u p2 Idle ne)
+      ]
+
+      same_locks : (k : ℕ) → lock_state (put (record w { sections = s }) t p2) k ≡ lock_state w k
+      same_locks k = λ i. record (lock_state w k) { shared = get_or w.shares k (replicate (length-set w.places t p2 i) 0); taken = λ u. taken_same u k i }
+
+  late_goes : (p : Place) → place_at w t ≡ p → is_free_under w (late_key p) ≡ true
+      → Stays (locks_of w) t (record (call_state p (rights w t)) { late = true }) outcome.TheVariants.Step (locks_of (state_after_late_on w t (late_key p)))
+  late_goes Idle is can = absurd cc
+  late_goes (RwLock l a c) is can = by_line (call_profile a c).late_line refl can
+    where
+      stands : CallStands a c
+      stands = let calls : FitsItsLock w (RwLock l a c) = subst (FitsItsLock w) is (steady.stands.calls t) in calls.1
+
+      in_no_hand_at : (d : RwLockCallPlace) → (call_profile a d).hand ≡ None → (k : ℕ) → taken_at (RwLock l a d) k ≡ None
+      in_no_hand_at d e k = ap (λ h. taken_from h (call_profile a d).wants (calls (RwLock l a d) k)) e
+
+      by_line : (m : Option Line) → (call_profile a c).late_line ≡ m → is_free_under w (key_in (Some l) m) ≡ true
+          → Stays (locks_of w) t (record (call_state (RwLock l a c) (rights w t)) { late = true }) outcome.TheVariants.Step (locks_of (state_after_late_on w t (key_in (Some l) m)))
+      by_line None e can = absurd cc
+      by_line (Some m) e can = let z = call_late a c m (sym (late_row a c) ∙ e) in
+          placed (state_with_sections w (One (key_of l m)) (Some t)).sections (RwLock l a c) (next_place (place_at w t) reply.Late) is
+          (λ k. ap (λ y. taken_at (next_place y reply.Late) k) is ∙ ap (λ n. taken_at (rwlock_goes l a n) k) z.1 ∙ in_no_hand_at z.0 z.3 k ∙ sym (in_no_hand_at c z.2 k)) _
+          (λ r same_rights. ap (λ y. call_state (next_place y reply.Late) r) is ∙ ap (λ n. call_state (rwlock_goes l a n) r) z.1
+          ∙ (fair_sleepers_hear a l c stands).late (λ none. let f : ◌≡◌ {A = Option Line} None (Some m) = sym none ∙ e in cc) z.0 r z.1
+          ∙ ap (λ x. record (call_state (RwLock l a c) x) { late = true }) same_rights)
+  late_goes (Mutex l (Lock entries.LockTimed retries Asleep)) is can = placed (state_with_sections w (One (2 * l)) (Some t)).sections (Mutex l (Lock entries.LockTimed retries Asleep)) (next_place (place_at w t) reply.Late) is (rw is (λ k. refl)) _ (rw is (λ r e. rw e refl))
+  late_goes (Mutex l (Lock entries.Lock retries Asleep)) is can = absurd cc
+  late_goes (Mutex l (Lock entries.Bump retries Asleep)) is can = absurd cc
+  late_goes (Mutex l (Lock entry retries First)) is can = absurd cc
+  late_goes (Mutex l (Lock entry retries a)) is can = absurd cc
+  late_goes (Mutex l TryLock) is can = absurd cc
+  late_goes (Mutex l (Unlock a)) is can = absurd cc
+  late_goes (Mutex l UnlockFair) is can = absurd cc
+  late_goes (Mutex l Bump) is can = absurd cc
+  late_goes (Mutex l (HandOff bumps a)) is can = absurd cc
+
+-- ---------------------------------------------------------------- a look at the word once more
+
+-- a call of a reader-writer lock is of no mutex
+not_mutex : (w : State) (l : ℕ) (a : Admission) (c : RwLockCallPlace) → Admits (rules_in w l) a → (r : ℕ → Rights) → IsOfMutex (locks_of w) (call_state (RwLock l a c) r).purpose → ⊥
+not_mutex w l a c admits r of = by_call c of
+  where
+    readers : (rules_in w l).sort ≡ Mutual → ⊥
+    readers e = let f : has_readers (rules_in w l).sort ≡ false = ap has_readers e in let g : has_readers (rules_in w l).sort ≡ true = admits.0 in cc
+
+    by_purpose : (q : RwLockPurpose) → IsOfMutex (locks_of w) (Some (purpose_by q l)) → ⊥
+    by_purpose (purposes.Enter x how) e = readers e
+    by_purpose (purposes.Release x) e = readers e
+    by_purpose (purposes.Downgrade d) e = readers e
+    by_purpose (purposes.Upgrade how) e = readers e
+
+    by_call : (d : RwLockCallPlace) → IsOfMutex (locks_of w) (Some ((call_profile a d).purpose l)) → ⊥
+    by_call (Plain p) e = by_purpose p.purpose e
+    by_call (BumpCall p) e = readers e
+    by_call (Glance x) e = readers e
+    by_call (HandOver x true to) e = readers e
+    by_call (HandOver x false to) e = readers e
+    by_call (Handed x how true to) e = readers e
+    by_call (Handed x how false to) e = readers e
+
+-- its call goes on by what it sees there
+module _ (w : State) (t : ℕ) (shape : IsShaped w) (steady : IsSteady w) (there : t < length w.places) (q : Place) (is : looking (place_at w t) ≡ Some q) where
+  abbrev moved : State
+  moved = put w t q
+
+  shaped_moved : IsShaped moved
+  shaped_moved = looking_shaped w t q shape is
+
+  steady_moved : IsSteady moved
+  steady_moved = looking_steady w t there q is steady
+
+  there_moved : t < length moved.places
+  there_moved = rw (length-set w.places t q) there
+
+  look_stays : (p : Place) → place_at w t ≡ p → IsOfMutex (locks_of w) (call_state p (rights w t)).purpose → Stays (locks_of w) t ((locks_of w).calls t) (go_outcome moved t) (locks_of (state_after_go moved t))
+  look_stays Idle e of = absurd of
+  look_stays (RwLock l a c) e of = absurd (let calls : FitsItsLock w (RwLock l a c) = subst (FitsItsLock w) e (steady.stands.calls t) in not_mutex w l a c calls.0 (rights w t) of)
+  look_stays (Mutex l at) e of = let loads = mutex_looks l at q (ap looking (sym e) ∙ is) in
+      let now : place_at moved t ≡ Mutex l (Lock loads.0 loads.1 Load) = here w t there q is ∙ loads.2 in
+      stays_as_before w t there q is _ (locks_of (state_after_go moved t)) (subst (λ p. Stays (locks_of moved) t ((locks_of moved).calls t) (going_outcome moved t p) (locks_of (state_after_going moved t p))) (sym now)
+      (load_stays moved t shaped_moved steady_moved there_moved l (fits_moved now).0 (mutex_rules (kind_at w l) (calls_moved now)) loads.0 loads.1 now))
+    where
+      fits_moved : {x : MutexPlace} → place_at moved t ≡ Mutex l x → PlaceFits (length moved.locks) (Mutex l x)
+      fits_moved now = subst (PlaceFits (length moved.locks)) now (shaped_moved.places t)
+
+      calls_moved : {x : MutexPlace} → place_at moved t ≡ Mutex l x → FitsItsLock moved (Mutex l x)
+      calls_moved now = subst (FitsItsLock moved) now (steady_moved.stands.calls t)
+
+  looks : AreCounted w → Looks (locks_of w) t (go_outcome moved t) (locks_of (state_after_go moved t))
+  looks counted = record {
+    goes = goes_as_before w t there q is _ (locks_of (state_after_go moved t))
+        (go_goes moved t shaped_moved steady_moved there_moved (looking_counted w t there q is counted) (place_at moved t) refl (shaped_moved.places t) (steady_moved.stands.calls t) (looks_now w t there q is));
+    stays = λ of. look_stays (place_at w t) refl of;
+  }
+
+-- ---------------------------------------------------------------- a call begins
+
+-- a call of a mutex has its purpose
+pub purpose_is : (k : Kind) (l : ℕ) (c : MutexCall) → is_mutex k ≡ true → purpose_of k (call.TheVariants.Mutex l c) ≡ Some (mutex_purpose (is_fair k) l c)
+purpose_is kind.TheVariants.Mutex l c h = refl
+purpose_is kind.TheVariants.Fair l c h = refl
+purpose_is k l c h = absurd cc
+
+no_purpose : (w : LocksState) (t : ℕ) (k : Kind) (c : Call) → has_call k c ≡ false → HasRight w t (purpose_of k c) → ⊥
+no_purpose w t kind.TheVariants.Mutex (call.TheVariants.Mutex l c) h r = absurd cc
+no_purpose w t kind.TheVariants.Fair (call.TheVariants.Mutex l c) h r = absurd cc
+no_purpose w t (kind.TheVariants.RwLock limit) (call.TheVariants.RwLock l c) h r = absurd cc
+no_purpose w t (kind.TheVariants.Recursive limit) (call.TheVariants.RwLock l c) h r = absurd cc
+no_purpose w t k c h r = r
+
+no_call_idle : (p : Place) (r : ℕ → Rights) → (call_state p r).purpose ≡ None → is_idle p ≡ true
+no_call_idle Idle r h = refl
+no_call_idle (RwLock l a at) r h = absurd cc
+no_call_idle (Mutex l (Lock entry retries a)) r h = absurd cc
+no_call_idle (Mutex l TryLock) r h = absurd cc
+no_call_idle (Mutex l (Unlock a)) r h = absurd cc
+no_call_idle (Mutex l UnlockFair) r h = absurd cc
+no_call_idle (Mutex l Bump) r h = absurd cc
+no_call_idle (Mutex l (HandOff bumps a)) r h = absurd cc
+
+module _ (w : State) (t l : ℕ) where
+  right_held : (fair : Bool) (c : MutexCall) → mutex_right c t (owners_at w l) ≡ true → HasRight (locks_of w) t (Some (mutex_purpose fair l c))
+  right_held fair mutex_call.TheVariants.Lock h = tt
+  right_held fair mutex_call.TheVariants.LockTimed h = tt
+  right_held fair mutex_call.TheVariants.TryLock h = tt
+  right_held fair mutex_call.TheVariants.Unlock h = thread_is t (owner_at w l) h
+  right_held fair mutex_call.TheVariants.UnlockFair h = thread_is t (owner_at w l) h
+  right_held fair mutex_call.TheVariants.Bump h = thread_is t (owner_at w l) h
+
+  right_needed : (fair : Bool) (c : MutexCall) → HasRight (locks_of w) t (Some (mutex_purpose fair l c)) → mutex_right c t (owners_at w l) ≡ true
+  right_needed fair mutex_call.TheVariants.Lock h = refl
+  right_needed fair mutex_call.TheVariants.LockTimed h = refl
+  right_needed fair mutex_call.TheVariants.TryLock h = refl
+  right_needed fair mutex_call.TheVariants.Unlock h = is_owner t (owner_at w l) h
+  right_needed fair mutex_call.TheVariants.UnlockFair h = is_owner t (owner_at w l) h
+  right_needed fair mutex_call.TheVariants.Bump h = is_owner t (owner_at w l) h
+
+  begins_with : (fair : Bool) (c : MutexCall) (r : ℕ → Rights) → call_state (Mutex l (mutex_first fair c)) r ≡ new_call (Some (mutex_purpose fair l c)) r
+  begins_with fair mutex_call.TheVariants.Lock r = refl
+  begins_with fair mutex_call.TheVariants.LockTimed r = refl
+  begins_with fair mutex_call.TheVariants.TryLock r = refl
+  begins_with true mutex_call.TheVariants.Unlock r = refl
+  begins_with false mutex_call.TheVariants.Unlock r = refl
+  begins_with fair mutex_call.TheVariants.UnlockFair r = refl
+  begins_with fair mutex_call.TheVariants.Bump r = refl
+
+  untaken_first : (fair : Bool) (c : MutexCall) (k : ℕ) → taken_at (Mutex l (mutex_first fair c)) k ≡ None
+  untaken_first fair mutex_call.TheVariants.Lock k = refl
+  untaken_first fair mutex_call.TheVariants.LockTimed k = refl
+  untaken_first fair mutex_call.TheVariants.TryLock k = refl
+  untaken_first true mutex_call.TheVariants.Unlock k = refl
+  untaken_first false mutex_call.TheVariants.Unlock k = refl
+  untaken_first fair mutex_call.TheVariants.UnlockFair k = refl
+  untaken_first fair mutex_call.TheVariants.Bump k = refl
+
+begin_goes : (w : State) (t : ℕ) (c : Call) → IsShaped w → IsSteady w → t < length w.places → can_begin w t c ≡ true
+    → MayBegin (locks_of w) t c × Stays (locks_of w) t (new_call (purpose_at (locks_of w) c) (rights w t)) outcome.TheVariants.Step (locks_of (state_after_begin w t c))
+begin_goes w t (call.TheVariants.RwLock l c) shape steady there can = (
+  record { thread = there; idle = rw idle refl; lock = ltb-true l (length w.locks) open_to.0; right = rw (rwlock_purpose_is (kind_at w l) l c is_kind) (rwlock_right_held w t l c held.1) },
+  placed w t shape steady there w.sections Idle (RwLock l (admission_of (kind_at w l)) (call_first c)) idle (rwlock_untaken_first l (admission_of (kind_at w l)) c) _
+      (λ r e. rwlock_begins_with l (admission_of (kind_at w l)) c r ∙ (λ i. new_call (sym (rwlock_purpose_is (kind_at w l) l c is_kind) i) (e i))),
+)
+  where
+    idle : place_at w t ≡ Idle
+    idle = idle_is (place_at w t) (both (is_idle (place_at w t)) (is_open_to w t (call.TheVariants.RwLock l c)) can).0
+
+    open_to : (nat_lt l (length w.locks) ≡ true) × ((has_call (kind_at w l) (call.TheVariants.RwLock l c) && has_right (call.TheVariants.RwLock l c) t (owners_at w l) (share_at w l t)) ≡ true)
+    open_to = both (nat_lt l (length w.locks)) _ (both (is_idle (place_at w t)) (is_open_to w t (call.TheVariants.RwLock l c)) can).1
+
+    held : (has_call (kind_at w l) (call.TheVariants.RwLock l c) ≡ true) × (call_right c t (owners_at w l) (share_at w l t) ≡ true)
+    held = both (has_call (kind_at w l) (call.TheVariants.RwLock l c)) (call_right c t (owners_at w l) (share_at w l t)) open_to.1
+
+    is_kind : has_readers (rules_in w l).sort ≡ true
+    is_kind = calls_readers (kind_at w l) l c held.0
+begin_goes w t (call.TheVariants.Mutex l c) shape steady there can = (
+  record { thread = there; idle = rw idle refl; lock = ltb-true l (length w.locks) open_to.0; right = rw (purpose_is (kind_at w l) l c is_kind) (right_held w t l (is_fair (kind_at w l)) c held.1) },
+  placed w t shape steady there w.sections Idle (Mutex l (mutex_first (is_fair (kind_at w l)) c)) idle (untaken_first w t l (is_fair (kind_at w l)) c) _
+      (λ r e. begins_with w t l (is_fair (kind_at w l)) c r ∙ (λ i. new_call (sym (purpose_is (kind_at w l) l c is_kind) i) (e i))),
+)
+  where
+    idle : place_at w t ≡ Idle
+    idle = idle_is (place_at w t) (both (is_idle (place_at w t)) (is_open_to w t (call.TheVariants.Mutex l c)) can).0
+
+    open_to : (nat_lt l (length w.locks) ≡ true) × ((has_call (kind_at w l) (call.TheVariants.Mutex l c) && has_right (call.TheVariants.Mutex l c) t (owners_at w l) (share_at w l t)) ≡ true)
+    open_to = both (nat_lt l (length w.locks)) _ (both (is_idle (place_at w t)) (is_open_to w t (call.TheVariants.Mutex l c)) can).1
+
+    held : (has_call (kind_at w l) (call.TheVariants.Mutex l c) ≡ true) × (mutex_right c t (owners_at w l) ≡ true)
+    held = both (has_call (kind_at w l) (call.TheVariants.Mutex l c)) (mutex_right c t (owners_at w l)) open_to.1
+
+    is_kind : is_mutex (kind_at w l) ≡ true
+    is_kind = calls_mutex (kind_at w l) l c held.0
+
+-- a call that may begin can
+begin_refused : (w : State) (t : ℕ) (c : Call) → can_begin w t c ≡ false → MayBegin (locks_of w) t c → ⊥
+begin_refused w t (call.TheVariants.RwLock l c) cannot may = let idle : is_idle (place_at w t) ≡ true = no_call_idle (place_at w t) (rights w t) may.idle in
+    let there : nat_lt l (length w.locks) ≡ true = lt-ltb l (length w.locks) may.lock in either (has_call (kind_at w l) (call.TheVariants.RwLock l c)) refl idle there
+  where
+    either : (b : Bool) → has_call (kind_at w l) (call.TheVariants.RwLock l c) ≡ b → is_idle (place_at w t) ≡ true → nat_lt l (length w.locks) ≡ true → ⊥
+    either false e idle there = no_purpose (locks_of w) t (kind_at w l) (call.TheVariants.RwLock l c) e may.right
+    either true e idle there = let right : HasRight (locks_of w) t (Some (rwlock_purpose l c)) = subst (HasRight (locks_of w) t) (rwlock_purpose_is (kind_at w l) l c (calls_readers (kind_at w l) l c e)) may.right in
+        let held : call_right c t (owners_at w l) (share_at w l t) ≡ true = rwlock_right_needed w t l c right in cc
+begin_refused w t (call.TheVariants.Mutex l c) cannot may = let idle : is_idle (place_at w t) ≡ true = no_call_idle (place_at w t) (rights w t) may.idle in
+    let there : nat_lt l (length w.locks) ≡ true = lt-ltb l (length w.locks) may.lock in either (has_call (kind_at w l) (call.TheVariants.Mutex l c)) refl idle there
+  where
+    either : (b : Bool) → has_call (kind_at w l) (call.TheVariants.Mutex l c) ≡ b → is_idle (place_at w t) ≡ true → nat_lt l (length w.locks) ≡ true → ⊥
+    either false e idle there = no_purpose (locks_of w) t (kind_at w l) (call.TheVariants.Mutex l c) e may.right
+    either true e idle there = let is_kind : is_mutex (kind_at w l) ≡ true = calls_mutex (kind_at w l) l c e in
+        let right : HasRight (locks_of w) t (Some (mutex_purpose (is_fair (kind_at w l)) l c)) = subst (HasRight (locks_of w) t) (purpose_is (kind_at w l) l c is_kind) may.right in
+        let held : mutex_right c t (owners_at w l) ≡ true = right_needed w t l (is_fair (kind_at w l)) c right in cc
+
+begin_possible : (w : State) (t : ℕ) (c : Call) → MayBegin (locks_of w) t c → can_begin w t c ≡ true
+begin_possible w t c may = either (can_begin w t c) refl
+  where
+    either : (b : Bool) → can_begin w t c ≡ b → can_begin w t c ≡ true
+    either true e = e
+    either false e = absurd (begin_refused w t c e may)
+
+-- ---------------------------------------------------------------- steps
+
+module _ (w : State) (t : ℕ) (shape : IsShaped w) (steady : IsSteady w) (there : t < length w.places) where
+  turned_does : AreCounted w → (x : Turn) → can_turn w t x ≡ true → MayTurn (locks_of w) t x × Does (locks_of w) t x (turn_outcome w t x) (locks_of (state_after_turn w t x))
+  turned_does counted (turn.TheVariants.Begin c) can = begin_goes w t c shape steady there can
+  turned_does counted turn.TheVariants.Go can = (may_go w t can, go_goes w t shape steady there counted (place_at w t) refl (shape.places t) (steady.stands.calls t) can)
+  turned_does counted turn.TheVariants.Spin can = (can, by_look (looking (place_at w t)) refl can)
+    where
+      by_look : (o : Option Place) → looking (place_at w t) ≡ o → is_some o ≡ true → Looks (locks_of w) t (look_outcome w t o) (locks_of (state_after_look w t o))
+      by_look None is can = absurd cc
+      by_look (Some q) is can = looks w t shape steady there q is counted
+  turned_does counted turn.TheVariants.Late can = (may_be_late w t steady can, late_goes w t shape steady there (place_at w t) refl can)
+  turned_does counted turn.TheVariants.Ok can = absurd (nothing_closes w t true can)
+  turned_does counted turn.TheVariants.Err can = absurd (nothing_closes w t false can)
+
+-- a turn that may be taken is possible
+module _ (w : State) (t : ℕ) (steady : IsSteady w) where
+  possible : (x : Turn) → MayTurn (locks_of w) t x → can_turn w t x ≡ true
+  possible (turn.TheVariants.Begin c) may = begin_possible w t c may
+  possible turn.TheVariants.Go may = go_possible w t steady may
+  possible turn.TheVariants.Spin may = may
+  possible turn.TheVariants.Late may = late_possible w t steady may
+  possible turn.TheVariants.Ok may = absurd (no_closure w t may)
+  possible turn.TheVariants.Err may = absurd (no_closure w t may)
+
+  stuck : (x : Turn) → (nat_lt t (length w.places) && can_turn w t x) ≡ false → MayTurn (locks_of w) t x → ⊥
+  stuck x cannot may = let there : nat_lt t (length w.places) ≡ true = lt-ltb t (length w.places) (turner_there w t x may) in
+      let can : can_turn w t x ≡ true = possible x may in let e : true ≡ false = rw (there, can) at cannot in cc
+
+-- sections, and what the thread is told
+module _ (w : State) (t : ℕ) (there : t < length w.places) where
+  put_sleeps : (b : State) (p : Place) → length b.places ≡ length w.places → sleeps (act_of (place_at (put b t p) t)) ≡ sleeps (act_of p)
+  put_sleeps b p size = ap (λ q. sleeps (act_of q)) (get_or-set_same b.places t p Idle (rw size there))
+
+  told_going : (go_outcome w t ≡ outcome.TheVariants.Sleep) ↔ (sleeps (act_of (place_at (state_after_go w t) t)) ≡ true)
+  told_going = rw (put_sleeps (state_after_act w t (place_at w t) (act_of (place_at w t))) (next_place (place_at w t) (go_reply w t)) (performed_counts w t (place_at w t) (act_of (place_at w t))).0)
+      (told_gone (place_at w t) (go_reply w t))
+
+module _ (w : State) (t : ℕ) (shape : IsShaped w) (steady : IsSteady w) (there : t < length w.places) where
+  turned_sections : (x : Turn) → can_turn w t x ≡ true → (key : ℕ) → SectionChanges (section_at w key) t (section_at (state_after_turn w t x) key)
+  turned_sections (turn.TheVariants.Begin c) can key = inl refl
+  turned_sections turn.TheVariants.Go can key = gone_sections w t shape steady can key
+  turned_sections turn.TheVariants.Spin can key = by_look (looking (place_at w t)) refl
+    where
+      by_look : (o : Option Place) → looking (place_at w t) ≡ o → SectionChanges (section_at w key) t (section_at (state_after_look w t o) key)
+      by_look None is = inl refl
+      by_look (Some q) is = gone_sections (put w t q) t (shaped_moved w t shape steady there q is) (steady_moved w t shape steady there q is) (looks_now w t there q is) key
+  turned_sections turn.TheVariants.Late can key = late_sections w t shape (place_at w t) (shape.places t) can key
+  turned_sections turn.TheVariants.Ok can key = absurd (nothing_closes w t true can)
+  turned_sections turn.TheVariants.Err can key = absurd (nothing_closes w t false can)
+
+  turned_told : (x : Turn) → can_turn w t x ≡ true → (turn_outcome w t x ≡ outcome.TheVariants.Sleep) ↔ (sleeps (act_of (place_at (state_after_turn w t x) t)) ≡ true)
+  turned_told (turn.TheVariants.Begin c) can = told_step _ (put_sleeps w t there w (first_place (kind_at w (lock_in c)) c) refl ∙ begins_awake (kind_at w (lock_in c)) c)
+  turned_told turn.TheVariants.Go can = told_going w t there
+  turned_told turn.TheVariants.Spin can = by_look (looking (place_at w t)) refl can
+    where
+      by_look : (o : Option Place) → looking (place_at w t) ≡ o → is_some o ≡ true → (look_outcome w t o ≡ outcome.TheVariants.Sleep) ↔ (sleeps (act_of (place_at (state_after_look w t o) t)) ≡ true)
+      by_look None is can = absurd cc
+      by_look (Some q) is can = told_going (put w t q) t (there_moved w t shape steady there q is)
+  turned_told turn.TheVariants.Late can = told_step _ (late_awake w t there (late_key (place_at w t)) refl can)
+  turned_told turn.TheVariants.Ok can = absurd (nothing_closes w t true can)
+  turned_told turn.TheVariants.Err can = absurd (nothing_closes w t false can)
+
+pub after_step : (w : State) (s : Step) → IsShaped w → IsSteady w → AreCounted w → IsStep (locks_of w) s (step_outcome w s) (locks_of (after w s))
+after_step w s shape steady counted = (record { threads = size.threads; size = size.locks; kinds = after_kinds w s; sections = sections (is_possible w s) refl; told = told (is_possible w s) refl }, either (is_possible w s) refl)
+  where
+    size : SameSize w (after w s)
+    size = after_size w s
+
+    parts : is_possible w s ≡ true → (s.thread < length w.places) × (can_turn w s.thread s.turn ≡ true)
+    parts can = let h = both (nat_lt s.thread (length w.places)) (can_turn w s.thread s.turn) can in (ltb-true s.thread (length w.places) h.0, h.1)
+
+    sections : (b : Bool) → is_possible w s ≡ b → (key : ℕ) → SectionChanges (section_at w key) s.thread (section_at (if b then state_after_turn w s.thread s.turn else w) key)
+    sections true can key = turned_sections w s.thread shape steady (parts can).0 s.turn (parts can).1 key
+    sections false cannot key = inl refl
+
+    told : (b : Bool) → is_possible w s ≡ b → (if b then turn_outcome w s.thread s.turn else outcome.TheVariants.NotNow) ≢ outcome.TheVariants.NotNow
+        → ((if b then turn_outcome w s.thread s.turn else outcome.TheVariants.NotNow) ≡ outcome.TheVariants.Sleep) ↔ (sleeps (act_of (place_at (if b then state_after_turn w s.thread s.turn else w) s.thread)) ≡ true)
+    told true can ne = turned_told w s.thread shape steady (parts can).0 s.turn (parts can).1
+    told false cannot ne = absurd (ne refl)
+
+    either : (b : Bool) → is_possible w s ≡ b → Turned (locks_of w) s.thread s.turn (if b then turn_outcome w s.thread s.turn else outcome.TheVariants.NotNow) (locks_of (if b then state_after_turn w s.thread s.turn else w))
+    either true can = inl (turned_does w s.thread shape steady (parts can).0 counted s.turn (parts can).1)
+    either false cannot = inr (stuck w s.thread steady s.turn cannot, (refl, refl))

@@ -1,0 +1,135 @@
+-- A thread that looks at the word once more goes on from another place of its call. Standing there changes nothing that locks and calls see.
+use Rattle.std.proofs.Common.{ℕ, zero, suc, List, set, true, Option, Some, None, if◌then◌else◌, ◌≡◌, ◌<◌, inl, inr, [], ◌∷◌, length, replicate, refl, sym, ◌∙◌, ap, subst, get_or-set_other, get_or-set_same, length-set, get_or}
+use Rattle.lot_rwlock_fair.specs.declared.places.RwLockCallPlace.{RwLockCallPlace}
+use Rattle.lot_rwlock_fair.proofs.FairSleepers.{fair_looks_stand}
+use Rattle.lot_rwlock_fair.specs.FairProfiles.{call_looking}
+use Rattle.lot_steps.specs.Steps.{in_rwlock}
+use Rattle.std.proofs.lemmas.Bool.{cases_eq}
+use Rattle.lot_base.specs.declared.ops.Op.TheVariants.{Load}
+use Rattle.lot_calls.specs.declared.kinds.Kind as kind
+use Rattle.lot_acts.specs.declared.acts.Act.{Act}
+use Rattle.lot_acts.specs.declared.acts.Act.TheVariants.{Word}
+use Rattle.lot_calls.specs.declared.outcomes.Outcome.{Outcome}
+use Rattle.lot_acts.specs.Profiles.{taken_from}
+use Rattle.lot_mutex.specs.declared.places.MutexPlace.{MutexPlace}
+use Rattle.lot_steps.specs.declared.places.Place.{Place}
+use Rattle.lot_steps.specs.declared.places.Place.TheVariants.{Idle, Mutex, RwLock}
+use Rattle.lot_steps.specs.Steps.{act_of, looking, lock_of, profile, in_mutex, is_lock}
+use Rattle.lot_mutex.specs.MutexSteps.{mutex_looking}
+use Rattle.lot_machine.specs.Machine.{State, unlocked, place_at, put, can_go, state_after_act, state_after_go}
+use Rattle.lot_machine.proofs.Looks.{IsLook, look}
+use Rattle.abstract_locks.specs.Locks.{Rights, rights_of}
+use Rattle.abstract_locks.specs.Runs.{LocksState, GoesOn, Stays}
+use Rattle.abstract_locks.specs.Sites.{idle}
+use Rattle.lot_laws.specs.Refinement.{lock_state, locks_of, call_on, stance_of}
+use Rattle.lot_laws.specs.Stations.{station_by}
+use Rattle.lot_laws.specs.WorldRuns.{IsUntouched}
+use Rattle.lot_laws.specs.SitesOf.{IsSteady, FitsItsLock, rules_in}
+use Rattle.lot_laws.proofs.Glue.{IsLock, parts_at}
+use Rattle.lot_laws.proofs.OneStep.{steps_by}
+use Rattle.lot_laws.proofs.ActsKept.{goes_steady, place_goes}
+
+-- who is set as it was is seen as it was
+pub set_keeps : {A B : Type 0} (f : A → B) (xs : List A) (i k : ℕ) (y d : A) → f y ≡ f (get_or xs i d) → f (get_or (set xs i y) k d) ≡ f (get_or xs k d)
+set_keeps f [] i k y d e = refl
+set_keeps f (x ∷ xs) zero zero y d e = e
+set_keeps f (x ∷ xs) zero (suc k) y d e = refl
+set_keeps f (x ∷ xs) (suc i) zero y d e = refl
+set_keeps f (x ∷ xs) (suc i) (suc k) y d e = set_keeps f xs i k y d e
+
+-- a load changes no word
+load_untouched : (w : State) (t l : ℕ) (p : Place) (a : Act) → a ≡ Word l Load → IsUntouched w (state_after_act w t p a)
+load_untouched w t l p a loads = subst (λ x. IsUntouched w (state_after_act w t p x)) (sym loads)
+    ((λ k. set_keeps (λ x. x.word) w.locks l k _ (unlocked kind.TheVariants.Mutex) refl), λ key. refl)
+
+of_lock : (l : ℕ) (o : Option ℕ) → o ≡ Some l → IsLock l o
+of_lock l o e = rw e refl
+
+-- it is in the same call, of a lock of its sort
+calls_on : (w : State) (p q : Place) → looking p ≡ Some q → FitsItsLock w p → FitsItsLock w q
+calls_on w Idle q is calls = absurd cc
+calls_on w (RwLock l a c) q is calls = by_place (call_looking a c) refl is
+  where
+    by_place : (o : Option RwLockCallPlace) → call_looking a c ≡ o → in_rwlock l a o ≡ Some q → FitsItsLock w q
+    by_place None e is = absurd cc
+    by_place (Some d) e is = let there : RwLock l a d ≡ q = cc in subst (FitsItsLock w) there (calls.0, (fair_looks_stand a c d e).1 calls.1)
+calls_on w (Mutex l at) q is calls = by_place (mutex_looking at) is
+  where
+    by_place : (o : Option MutexPlace) → in_mutex l o ≡ Some q → FitsItsLock w q
+    by_place None e = absurd cc
+    by_place (Some at2) e = let there : Mutex l at2 ≡ q = cc in subst (FitsItsLock w) there calls
+
+module _ (w : State) (t : ℕ) (there : t < length w.places) (q : Place) (is : looking (place_at w t) ≡ Some q) where
+  abbrev moved : State
+  moved = put w t q
+
+  it : IsLook (place_at w t) q
+  it = look (place_at w t) q is
+
+  pub here : place_at moved t ≡ q
+  here = get_or-set_same w.places t q Idle there
+
+  -- it may look now
+  pub looks_now : can_go moved t ≡ true
+  looks_now = rw (here, it.loads) refl
+
+  pub looks_untouched : IsUntouched w (state_after_go moved t)
+  looks_untouched = load_untouched moved t it.lock (place_at moved t) (act_of (place_at moved t)) (ap act_of here ∙ it.loads)
+
+  -- each thread is in the call that it was in, and its place says of it what it said
+  row_same : (u : ℕ) → profile (place_at moved u) ≡ profile (place_at w u)
+  row_same u = elim (cases_eq u t) [
+    | inl e ↦ rw (e, here) it.row
+    | inr ne ↦ ap profile (get_or-set_other w.places t u q Idle ne)
+  ]
+
+  lock_same : (u : ℕ) → lock_of (place_at moved u) ≡ lock_of (place_at w u)
+  lock_same u = elim (cases_eq u t) [
+    | inl e ↦ rw (e, here) (it.now ∙ sym it.before)
+    | inr ne ↦ ap lock_of (get_or-set_other w.places t u q Idle ne)
+  ]
+
+  pub locks_same : (k : ℕ) → lock_state moved k ≡ lock_state w k
+  locks_same k = λ i. record (lock_state w k) {
+    shared = get_or w.shares k (replicate (length-set w.places t q i) 0);
+    taken = λ u. taken_from (row_same u i).hand (row_same u i).wants (is_lock k (lock_same u i));
+  }
+
+  abbrev rights_of_all : State → ℕ → ℕ → Rights
+  rights_of_all v u k = rights_of (lock_state v k) u
+
+  rights_same : (u : ℕ) → rights_of_all moved u ≡ rights_of_all w u
+  rights_same u = λ i k. rights_of (locks_same k i) u
+
+  pub calls_same : (u : ℕ) → (locks_of moved).calls u ≡ (locks_of w).calls u
+  calls_same u = λ i. call_on (lock_same u i) (row_same u i) (rights_same u i)
+
+  -- so the abstract locks see nothing of it, but for how the thread stands
+  sees : ◌≡◌ {A = LocksState} (record (locks_of w) { stances = λ u. stance_of (place_at moved u) }) (locks_of moved)
+  sees = λ i. record {
+    threads = sym (length-set w.places t q) i;
+    size = length w.locks;
+    kinds = (locks_of w).kinds;
+    locks = λ k. sym (locks_same k) i;
+    inside = (locks_of w).inside;
+    calls = λ u. sym (calls_same u) i;
+    stances = λ u. stance_of (place_at moved u);
+  }
+
+  pub goes_as_before : (o : Outcome) (v : LocksState) → GoesOn (locks_of moved) t o v → GoesOn (locks_of w) t o v
+  goes_as_before o v g = let h = subst (λ x. GoesOn x t o v) (sym sees) g in
+      record { called = h.called; event = h.event; may = h.may; locks = h.locks; calls = h.calls; agrees = h.agrees }
+
+  pub stays_as_before : (o : Outcome) (v : LocksState) → Stays (locks_of moved) t ((locks_of moved).calls t) o v → Stays (locks_of w) t ((locks_of w).calls t) o v
+  stays_as_before o v s = let h = subst (λ x. Stays x t (x.calls t) o v) (sym sees) s in
+      record { told = h.told; locks = h.locks; calls = h.calls }
+
+  pub looking_steady : IsSteady w → IsSteady moved
+  looking_steady steady = goes_steady w moved it.lock [] steady
+      (place_goes w t it.lock steady (of_lock it.lock (lock_of (place_at w t)) it.before) there (rules_in w it.lock) refl q (of_lock it.lock (lock_of q) it.now) (calls_on w (place_at w t) q is (steady.stands.calls t)) [] (λ h. tt)
+      (steps_by (rules_in w it.lock) it.lock (parts_at w it.lock) (parts_at w it.lock) (place_at w) t q [] tt tt
+      (λ i. taken_from (sym it.row i).hand (sym it.row i).wants (is_lock it.lock (sym lock_stays i))) refl refl refl refl (λ i. if is_lock it.lock (lock_stays i) then (it.row i).doing else idle))
+      (λ i. station_by (it.row i)))
+    where
+      lock_stays : lock_of q ≡ lock_of (place_at w t)
+      lock_stays = it.now ∙ sym it.before

@@ -1,0 +1,146 @@
+-- What is promised of every state, and of every step, says of a mutex what its users know it by.
+use Rattle.std.proofs.Common.{ℕ, Bool, true, false, Option, Some, None, ◌≡◌, ◌⊎◌, ◌↔◌, inl, inr, refl, sym, ◌∙◌, ap, subst}
+use Rattle.lot_base.specs.declared.wants.Want.{Want}
+use Rattle.lot_base.specs.declared.wants.Want.TheVariants.{Exclusive, Upgradable, Shared}
+use Rattle.lot_calls.specs.declared.outcomes.Outcome.{Outcome}
+use Rattle.lot_mutex.specs.MutexSteps.{is_parked}
+use Rattle.lot_steps.specs.Steps.{is_line, line_owed}
+use Rattle.abstract_locks.specs.Locks as locks
+use Rattle.abstract_locks.specs.Locks.{Knows, Sort}
+use Rattle.abstract_locks.specs.Codes.{parked_in, aside_in, word_by}
+use Rattle.abstract_locks.specs.Sites.{Line, Main, Second, has_readers}
+use Rattle.abstract_locks.specs.Purposes.{Purpose, Enters, Releases, Converts, Bumps}
+use Rattle.lot_machine.specs.Machine.{State, place_at, word_at, kind_at}
+use Rattle.lot_laws.specs.Refinement.{owner_at, lock_state, call_at}
+use Rattle.lot_laws.specs.SitesOf.{is_mutex, rules_in}
+use Rattle.lot_laws.specs.Owing.{Owes, IsInside, ReleasesLock, LetsOthersIn, SeesWaiters, OwesSince, OnlyLooks, LooksFirst, line_let_in, tells_by, sort_at}
+use Rattle.lot_laws.specs.Promises.{KnowsRights, WakesWaiters, IsKept, IsLookedAfter, IsOpenNow}
+use Rattle.lot_laws.specs.MutexPromises.{HasDebtor, IsShownToOwe, GoesToRelease, SeesParkedBit, IsMutexKept, MutexesAreKept, OwesMutexSince, MutexesOwe}
+use Rattle.lot_laws.proofs.MutexTable.{mutex}
+use Rattle.lot_laws.proofs.StandsMoved.{mutex_rules}
+use Rattle.lot_laws.proofs.RowPromises.{mutex_tells}
+use Rattle.lot_laws.proofs.SitesPromise.{codes_by, sets_nothing}
+
+-- a mutex knows one right
+only_exclusive : (x : Want) → Knows locks.Mutex x → x ≡ Exclusive
+only_exclusive Exclusive h = refl
+only_exclusive x h = absurd h
+
+-- whoever wakes the waiters of a mutex releases it
+releases : (sort : ℕ → Sort) (q : Option Purpose) (g : Option ℕ) (l : ℕ) → sort l ≡ locks.Mutex → KnowsRights sort q → WakesWaiters locks.Mutex q g l → q ≡ Some (Releases l Exclusive false)
+releases sort None g l e knows h = absurd h
+releases sort (Some (Enters k x how)) g l e knows h = absurd (let f : false ≡ true = h.2 in cc)
+releases sort (Some (Releases k x fair)) g l e knows h = by_right x fair (only_exclusive x (subst (λ s. Knows s x) (ap sort h.0 ∙ e) knows)) h.1
+  where
+    by_right : (x : Want) (fair : Bool) → x ≡ Exclusive → (fair ≡ false) ⊎ (x ≡ Upgradable) → ◌≡◌ {A = Option Purpose} (Some (Releases k x fair)) (Some (Releases l Exclusive false))
+    by_right x fair is (inl unfair) = λ i. Some (Releases (h.0 i) (is i) (unfair i))
+    by_right x fair is (inr greater) = absurd (let f : Exclusive ≡ Upgradable = sym is ∙ greater in cc)
+releases sort (Some (Converts k x y how)) g l e knows h = absurd (elim h.1 [
+  | inl less ↦ less (only_exclusive y (subst (λ s. Knows s y) (ap sort h.0 ∙ e) knows.1))
+  | inr gave_up ↦ let f : false ≡ true = gave_up.1 in cc
+])
+releases sort (Some (Bumps k x)) g l e knows h = absurd (h.1 (only_exclusive x (subst (λ s. Knows s x) (ap sort h.0 ∙ e) knows)))
+
+-- the line that a call of a mutex lets in is its queue
+lets_in_main : (q : Option Purpose) → line_let_in locks.Mutex q ≡ Main
+lets_in_main (Some (Releases l Shared fair)) = refl
+lets_in_main (Some (Releases l Exclusive fair)) = refl
+lets_in_main (Some (Releases l x fair)) = refl
+lets_in_main (Some (Bumps l Shared)) = refl
+lets_in_main (Some (Bumps l Exclusive)) = refl
+lets_in_main (Some (Bumps l x)) = refl
+lets_in_main q = refl
+
+module _ (w : State) (l : ℕ) (of_mutex : is_mutex (kind_at w l) ≡ true) where
+  rules : rules_in w l ≡ mutex
+  rules = mutex_rules (kind_at w l) of_mutex
+
+  sort : sort_at w l ≡ locks.Mutex
+  sort = ap (λ r. r.sort) rules
+
+  unshared : has_readers (sort_at w l) ≡ true → ⊥
+  unshared h = let e : false ≡ true = sym (ap has_readers sort) ∙ h in cc
+
+  -- who lets others in releases it
+  only_releases : (t : ℕ) → LetsOthersIn w t l → ReleasesLock w t l
+  only_releases t (inl releasing) = releasing
+  only_releases t (inr shared) = absurd (unshared shared.0)
+
+module _ (w : State) (l : ℕ) (kept : IsKept w) (of_mutex : is_mutex (kind_at w l) ≡ true) where
+  looked_after : IsLookedAfter w l Main → HasDebtor w l
+  looked_after k = record {
+    debtor = k.debtor;
+    debt = elim k.debt [
+      | inl owes ↦ inl (owes.0, releases (sort_at w) (call_at w k.debtor).purpose (call_at w k.debtor).gave_up l (sort w l of_mutex) (kept.known k.debtor) (subst (λ s. WakesWaiters s (call_at w k.debtor).purpose (call_at w k.debtor).gave_up l) (sort w l of_mutex) owes.1))
+      | inr again ↦ inr again.0
+    ];
+    awake = k.awake;
+    stands_nowhere = k.stands_nowhere;
+  }
+
+  -- who is shown to owe does so on the main line
+  pub shown : (t : ℕ) → IsShownToOwe w t l → Owes w t l Main
+  shown t h = by_line (line_owed (place_at w t) l) refl h
+    where
+      by_line : (o : Option Line) → line_owed (place_at w t) l ≡ o → is_line o ≡ true → o ≡ Some Main
+      by_line None e h = absurd cc
+      by_line (Some Main) e h = refl
+      by_line (Some Second) e h = absurd (unshared w l of_mutex (kept.second_line t l e))
+
+  owing : (t : ℕ) → IsShownToOwe w t l ↔ (IsInside w t l Main ⊎ GoesToRelease w t l)
+  owing t = (
+    (λ h. elim ((kept.owing t l Main).0 (shown t h)) [ inl i ↦ inl i | inr g ↦ inr (g.0, elim g.1 [ inl lets ↦ only_releases w l of_mutex t lets | inr none ↦ absurd none ]) ]),
+    λ h. ap is_line ((kept.owing t l Main).1 (elim h [ inl i ↦ inl i | inr g ↦ inr (g.0, inl (inl g.1)) ])),
+  )
+
+  pub mutex_kept : IsMutexKept w l
+  mutex_kept = record {
+    coded = codes_by (owner_at w l) (is_parked (word_at w l)) (word_at w l) (kept.coded l ∙ ap (λ r. word_by r.sort r.limit (lock_state w l) (aside_in r.sort (word_at w l)) (parked_in r.sort (word_at w l))) (rules w l of_mutex));
+    parked = λ t waits. elim (kept.parked t l waits) [
+      | inl set ↦ subst (λ r. parked_in r.sort (word_at w l) ≡ true) (rules w l of_mutex) set
+      | inr sets ↦ absurd (let none = sets_nothing (place_at w sets.0) l in let some = sets.1 in cc)
+    ];
+    owing = owing;
+    nobody_forgotten = λ t waits free. looked_after (kept.nobody_forgotten.main t l waits (subst (λ r. IsOpenNow r (lock_state w l)) (sym (rules w l of_mutex)) (inl free)) (λ readers. absurd (unshared w l of_mutex readers)));
+  }
+
+pub mutexes_are_kept : MutexesAreKept
+mutexes_are_kept w l kept of_mutex = mutex_kept w l kept of_mutex
+
+-- ---------------------------------------------------------------- a step
+
+module _ (w v : State) (t l : ℕ) (o : Outcome) (since : OwesSince w t o v) (kept : IsKept v) (before : is_mutex (kind_at w l) ≡ true) (behind : is_mutex (kind_at v l) ≡ true) where
+  seen : SeesWaiters w t l Main o v → SeesParkedBit w t l o
+  seen s = (only_releases w l before t s.0, sym (mutex_tells (call_at w t).purpose Main (word_at w l)) ∙ subst (λ x. tells_by x (call_at w t).purpose Main (word_at w l) ≡ true) (sort w l before) s.2, s.3)
+
+  -- a mutex knows no right of which a bump would look first
+  looks : OnlyLooks v t l → ⊥
+  looks h = by_purpose (call_at v t).purpose (kept.known t) h.0
+    where
+      by_purpose : (q : Option Purpose) → KnowsRights (sort_at v) q → LooksFirst q l → ⊥
+      by_purpose None knows k = k
+      by_purpose (Some (Enters j x how)) knows k = k
+      by_purpose (Some (Converts j x y how)) knows k = k
+      by_purpose (Some (Releases j x fair)) knows k = k.2 (only_exclusive x (subst (λ s. Knows s x) (ap (sort_at v) k.0 ∙ sort v l behind) knows))
+      by_purpose (Some (Bumps j x)) knows k = k.1 (only_exclusive x (subst (λ s. Knows s x) (ap (sort_at v) k.0 ∙ sort v l behind) knows))
+
+  sees : SeesParkedBit w t l o → SeesWaiters w t l Main o v
+  sees s = (
+    inl s.0,
+    ap (λ x. line_let_in x (call_at w t).purpose) (sort w l before) ∙ lets_in_main (call_at w t).purpose,
+    subst (λ x. tells_by x (call_at w t).purpose Main (word_at w l) ≡ true) (sym (sort w l before)) (mutex_tells (call_at w t).purpose Main (word_at w l) ∙ s.1),
+    s.2,
+    λ k. absurd (looks k),
+  )
+
+  pub owes_since : OwesMutexSince w t l o v
+  owes_since = record {
+    own = λ ne. (
+      (λ h. elim ((since.own l Main ne).0 (shown v l kept behind t h)) [ inl i ↦ inl i | inr s ↦ inr (seen s) ]),
+      λ h. ap is_line ((since.own l Main ne).1 (elim h [ inl i ↦ inl i | inr s ↦ inr (sees s) ])),
+    );
+    others = λ u ne. ((λ h. ap is_line (sym (since.others u l ne)) ∙ h), λ h. ap is_line (since.others u l ne) ∙ h);
+  }
+
+pub mutexes_owe : MutexesOwe
+mutexes_owe w v t l o since kept before behind = owes_since w v t l o since kept before behind

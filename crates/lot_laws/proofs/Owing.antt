@@ -1,0 +1,205 @@
+-- Who owes a wake does so since it saw waiters, or since it entered the section.
+use Rattle.std.proofs.Common.{ℕ, Bool, true, false, Option, Some, None, if◌then◌else◌, ◌≡◌, ◌≢◌, ◌<◌, ◌⊎◌, ◌↔◌, inl, inr, length, refl, sym, ◌∙◌, ap, subst, get_or-set_same, nat_lt, is_some, length-set}
+use Rattle.std.proofs.lemmas.Bool.{ltb-true}
+use Rattle.lot_base.specs.declared.keys.Keys.TheVariants.{One}
+use Rattle.lot_calls.specs.declared.calls.Call.{Call}
+use Rattle.lot_calls.specs.declared.calls.Turn.{Turn}
+use Rattle.lot_calls.specs.declared.calls.Turn as turn
+use Rattle.lot_calls.specs.declared.calls.Step.{Step}
+use Rattle.lot_calls.specs.declared.outcomes.Outcome.{Outcome}
+use Rattle.lot_calls.specs.declared.outcomes.Outcome as outcome
+use Rattle.lot_acts.specs.declared.acts.Act.TheVariants.{Enter}
+use Rattle.lot_acts.specs.declared.acts.Reply.TheVariants.{Late}
+use Rattle.lot_steps.specs.declared.places.Place.{Place}
+use Rattle.lot_steps.specs.declared.places.Place.TheVariants.{Idle}
+use Rattle.lot_calls.specs.Calls.{lock_in}
+use Rattle.lot_steps.specs.Steps.{act_of, next_place, first_place, is_idle, looking, late_key, lock_of, line_owed, profile}
+use Rattle.lot_machine.specs.Machine.{State, place_at, word_at, state_after_act, state_after_go, go_reply, go_outcome, is_free_under, is_open_to, can_begin, state_after_begin, can_turn, turn_outcome, kind_at, put, state_after_look, look_outcome, state_after_late_on, state_after_turn, is_possible, after, step_outcome}
+use Rattle.lot_laws.proofs.Befallen.{others_keep_it}
+use Rattle.lot_laws.proofs.Closures.{nothing_closes}
+use Rattle.lot_laws.specs.Refinement.{call_on}
+use Rattle.abstract_locks.specs.Locks.{Rights}
+use Rattle.lot_laws.specs.Owing.{Owes, IsInside, SeesWaiters, OwesSince, OnlyLooks, LooksFirst, LetsOthersIn, line_let_in, sort_at, tells_by}
+use Rattle.lot_machine.specs.Fits.{IsShaped}
+use Rattle.abstract_locks.specs.Sites.{Line}
+use Rattle.lot_laws.specs.SitesOf.{AreCounted, IsSteady, key_of}
+use Rattle.lot_machine.proofs.Shape.{both, performed_counts}
+use Rattle.lot_laws.proofs.TurnsKept.{idle_is, after_steady}
+use Rattle.lot_laws.proofs.Glue.{IsLock, next_of, calls_none}
+use Rattle.lot_laws.proofs.Looking.{looking_steady, calls_same}
+use Rattle.lot_laws.proofs.CallEvents.{rights as rights_at}
+use Rattle.lot_acts.specs.Profiles.{Profile}
+use Rattle.lot_acts.specs.Calls.{call_by}
+use Rattle.abstract_locks.specs.Runs.{CallState, no_call}
+use Rattle.abstract_locks.specs.Purposes.{lock_for}
+use Rattle.lot_laws.proofs.RowPromises.{RowFinds, RowLooks, releases_for, downgrades_for}
+use Rattle.lot_laws.proofs.PlacePromises.{LetsBy, row_promises, owing_is, owes_own, owed_own, inside_own, call_own, lets_in, lets_out}
+use Rattle.lot_laws.proofs.LineActs.{late_line}
+use Rattle.lot_laws.proofs.PlaceSteps.{owes_befallen, owes_next, first_owes, late_next}
+
+-- ---------------------------------------------------------------- the other threads
+
+others_owe : (w : State) (s : Step) (u k : ℕ) → u ≢ s.thread → line_owed (place_at (after w s) u) k ≡ line_owed (place_at w u) k
+others_owe w s u k ne = others_keep_it (λ p. line_owed p k) (λ p r b. owes_befallen p r b k) w s u ne
+
+-- ---------------------------------------------------------------- the thread of the step
+
+-- it sees waiters, by its call
+abbrev SeesBy : State → ℕ → ℕ → Line → Outcome → State → CallState → Type 0
+SeesBy w t l m o v c =
+    LetsBy w t l c × (line_let_in (sort_at w l) c.purpose ≡ m) × (tells_by (sort_at w l) c.purpose m (word_at w l) ≡ true) × (o ≡ outcome.TheVariants.Step)
+    × (OnlyLooks v t l → act_of (place_at v t) ≡ Enter (One (key_of l m)))
+
+-- a thread that is in no call lets nobody in
+idle_shut : (w : State) (t l : ℕ) → lock_of (place_at w t) ≡ None → LetsOthersIn w t l → ⊥
+idle_shut w t l none h = by_call (subst (LetsBy w t l) (ap (λ o. call_on o (profile (place_at w t)) (rights_at w t)) none) h)
+  where
+    by_call : LetsBy w t l no_call → ⊥
+    by_call (inl releases) = releases
+    by_call (inr shared) = elim shared.1 [ inl less ↦ less | inr left ↦ let e : ◌≡◌ {A = Option ℕ} None (Some l) = left.0 in cc ]
+
+-- who lets others in calls that lock
+lets_own : (w : State) (t l : ℕ) → IsSteady w → LetsOthersIn w t l → lock_of (place_at w t) ≡ Some l
+lets_own w t l steady lets = by_lock (lock_of (place_at w t)) refl
+  where
+    by_row : (k : ℕ) (row : Profile) (r : ℕ → Rights) → lock_for (row.purpose k) ≡ k → LetsBy w t l (call_by k row r) → k ≡ l
+    by_row k row r of (inl releases) = sym of ∙ releases_for (row.purpose k) row.released l releases
+    by_row k row r of (inr shared) = elim shared.1 [ inl less ↦ sym of ∙ downgrades_for (row.purpose k) l less | inr left ↦ gave_up_for row.gave_up k left.0 ]
+      where
+        gave_up_for : (b : Bool) (k : ℕ) → (if b then Some k else None) ≡ Some l → k ≡ l
+        gave_up_for true k h = cc
+        gave_up_for false k h = absurd cc
+
+    by_lock : (o : Option ℕ) → lock_of (place_at w t) ≡ o → o ≡ Some l
+    by_lock None e = absurd (idle_shut w t l e lets)
+    by_lock (Some k) e = ap Some (by_row k (profile (place_at w t)) (rights_at w t) (row_promises w t steady k e).own (subst (LetsBy w t l) (call_own w t steady k e) lets))
+
+module _ (w v : State) (t : ℕ) (steady : IsSteady w) (behind : IsSteady v) where
+  -- what it sees, by its row
+  sees_row : (l : ℕ) (m : Line) (o : Outcome) (own : lock_of (place_at w t) ≡ Some l) → SeesWaiters w t l m o v → RowFinds (sort_at w l) l (word_at w l) (profile (place_at w t)) m
+  sees_row l m o own s = (
+    lets_in w t steady l own s.0,
+    ap (λ (c : CallState). line_let_in (sort_at w l) c.purpose) (sym (call_own w t steady l own)) ∙ s.1,
+    ap (λ (c : CallState). tells_by (sort_at w l) c.purpose m (word_at w l)) (sym (call_own w t steady l own)) ∙ s.2,
+  )
+
+  row_sees : (l : ℕ) (m : Line) (o : Outcome) (own : lock_of (place_at w t) ≡ Some l) → RowFinds (sort_at w l) l (word_at w l) (profile (place_at w t)) m → o ≡ outcome.TheVariants.Step
+      → act_of (place_at v t) ≡ Enter (One (key_of l m)) → SeesWaiters w t l m o v
+  row_sees l m o own s step enters = (
+    lets_out w t steady l own s.0,
+    ap (λ (c : CallState). line_let_in (sort_at w l) c.purpose) (call_own w t steady l own) ∙ s.1,
+    ap (λ (c : CallState). tells_by (sort_at w l) c.purpose m (word_at w l)) (call_own w t steady l own) ∙ s.2,
+    step,
+    λ looks. enters,
+  )
+
+  -- where it goes on to a place of its lock, or ends
+  module _ (q : Place) (at_q : place_at v t ≡ q) (l : ℕ) (m : Line) (o : Outcome) where
+    inside_then : IsInside v t l m → Owes v t l m
+    inside_then i = (owing_is v t behind l m).1 (inl i)
+
+    within_then : Owes v t l m → (profile q).doing.inside ≡ Some m → IsInside v t l m
+    within_then h i = let own = owes_own (place_at v t) l m h in (inside_own v t behind l own m).0 (ap (λ p. (profile p).doing.inside) at_q ∙ i)
+
+    row_then : Owes v t l m → (profile q).owes ≡ Some m
+    row_then h = ap (λ p. (profile p).owes) (sym at_q) ∙ sym (owed_own (place_at v t) l (owes_own (place_at v t) l m h)) ∙ h
+
+  -- it goes on by the reply to its act
+  go_owes : place_at v t ≡ next_place (place_at w t) (go_reply w t) → (l : ℕ) (m : Line) → Owes v t l m ↔ (IsInside v t l m ⊎ SeesWaiters w t l m (go_outcome w t) v)
+  go_owes at_q l m = (since, λ h. elim h [ inl i ↦ inside_then q at_q l m o i | inr s ↦ saw s ])
+    where
+      q : Place
+      q = next_place (place_at w t) (go_reply w t)
+
+      o : Outcome
+      o = go_outcome w t
+
+      own_before : lock_of q ≡ Some l → (x : Option ℕ) → lock_of (place_at w t) ≡ x → x ≡ Some l
+      own_before own None e = absurd (let f : lock_of q ≡ None = ap (λ p. lock_of (next_place p (go_reply w t))) (calls_none (place_at w t) e) in let g : ◌≡◌ {A = Option ℕ} None (Some l) = sym f ∙ own in cc)
+      own_before own (Some k) e = ap Some (sym (subst (IsLock k) own (next_of k (place_at w t) (go_reply w t) (subst (IsLock k) (sym e) refl))))
+
+      -- who owes a wake that is outside goes in
+      since : Owes v t l m → IsInside v t l m ⊎ SeesWaiters w t l m o v
+      since h =
+          let own = own_before (ap lock_of (sym at_q) ∙ owes_own (place_at v t) l m h) (lock_of (place_at w t)) refl in
+          elim ((owing_is v t behind l m).0 h) [
+            | inl i ↦ inl i
+            | inr g ↦ elim ((owes_next w t l steady own).since m (row_then q at_q l m o h)) [
+              | inl i ↦ inl (within_then q at_q l m o h i)
+              | inr s ↦ inr (row_sees l m o own s.0 s.1 g.0)
+            ]
+          ]
+
+      saw : SeesWaiters w t l m o v → Owes v t l m
+      saw s =
+          let own = lets_own w t l steady s.0 in
+          let owes = (owes_next w t l steady own).sees m (sees_row l m o own s) s.3 (λ looks. ap act_of (sym at_q) ∙ s.4 (looks_then own (lock_of q) refl looks)) in
+          owed_own (place_at v t) l (ap lock_of at_q ∙ still (lock_of q) refl owes own) ∙ ap (λ p. (profile p).owes) at_q ∙ owes
+        where
+          same_lock : (j : ℕ) → lock_of q ≡ Some j → lock_of (place_at w t) ≡ Some l → j ≡ l
+          same_lock j e own = subst (IsLock l) e (next_of l (place_at w t) (go_reply w t) (subst (IsLock l) (sym own) refl))
+
+          still : (x : Option ℕ) → lock_of q ≡ x → (profile q).owes ≡ Some m → lock_of (place_at w t) ≡ Some l → x ≡ Some l
+          still None e owes own = absurd (let f : ◌≡◌ {A = Option Line} None (Some m) = sym (ap (λ p. (profile p).owes) (calls_none q e)) ∙ owes in cc)
+          still (Some j) e owes own = ap Some (same_lock j e own)
+
+          looks_then : lock_of (place_at w t) ≡ Some l → (x : Option ℕ) → lock_of q ≡ x → RowLooks l (profile q) → OnlyLooks v t l
+          looks_then own None e looks = absurd (subst (λ p. RowLooks l (profile p)) (calls_none q e) looks).0
+          looks_then own (Some j) e looks =
+              let own_then : lock_of (place_at v t) ≡ Some l = ap lock_of at_q ∙ e ∙ ap Some (same_lock j e own) in
+              subst (λ (c : CallState). LooksFirst c.purpose l × (c.released ≡ false)) (sym (call_own v t behind l own_then)) (subst (λ p. RowLooks l (profile p)) (sym at_q) looks)
+
+  -- it owes nothing but what it is inside, and lets nobody in
+  quiet_owes : (q : Place) → place_at v t ≡ q → ((m : Line) → (profile q).owes ≡ Some m → (profile q).doing.inside ≡ Some m) → ((l : ℕ) → LetsOthersIn w t l → ⊥)
+      → (l : ℕ) (m : Line) (o : Outcome) → Owes v t l m ↔ (IsInside v t l m ⊎ SeesWaiters w t l m o v)
+  quiet_owes q at_q within shut l m o = (
+    (λ h. inl (within_then q at_q l m o h (within m (row_then q at_q l m o h)))),
+    λ h. elim h [ inl i ↦ inside_then q at_q l m o i | inr s ↦ absurd (shut l s.0) ],
+  )
+
+module _ (w : State) (t : ℕ) (there : t < length w.places) where
+  go_place : place_at (state_after_go w t) t ≡ next_place (place_at w t) (go_reply w t)
+  go_place = get_or-set_same (state_after_act w t (place_at w t) (act_of (place_at w t))).places t _ Idle (rw ((performed_counts w t (place_at w t) (act_of (place_at w t))).0) there)
+
+module _ (w : State) (t : ℕ) (shape : IsShaped w) (steady : IsSteady w) (there : t < length w.places) where
+  begun_owing : (c : Call) → can_begin w t c ≡ true → IsSteady (state_after_begin w t c) → (l : ℕ) (m : Line) (o : Outcome) → Owes (state_after_begin w t c) t l m ↔ (IsInside (state_after_begin w t c) t l m ⊎ SeesWaiters w t l m o (state_after_begin w t c))
+  begun_owing c can behind = quiet_owes w (state_after_begin w t c) t steady behind (first_place (kind_at w (lock_in c)) c) (get_or-set_same w.places t (first_place (kind_at w (lock_in c)) c) Idle there)
+      (λ m h. absurd (let e : ◌≡◌ {A = Option Line} None (Some m) = sym (first_owes (kind_at w (lock_in c)) c) ∙ h in cc))
+      (λ l lets. idle_shut w t l (ap lock_of (idle_is (place_at w t) (both (is_idle (place_at w t)) (is_open_to w t c) can).0)) lets)
+
+  -- who enters the section of the line where it slept
+  late_owing : (o : Option ℕ) → late_key (place_at w t) ≡ o → is_free_under w o ≡ true → IsSteady (state_after_late_on w t o) → (l : ℕ) (m : Line) (told : Outcome) → Owes (state_after_late_on w t o) t l m ↔ (IsInside (state_after_late_on w t o) t l m ⊎ SeesWaiters w t l m told (state_after_late_on w t o))
+  late_owing None e can behind = absurd cc
+  late_owing (Some key) e can behind =
+      let of = late_line (place_at w t) key e in
+      let n : Line = of.2.0 in
+      let after = late_next (place_at w t) n of.2.1 in
+      quiet_owes w (state_after_late_on w t (Some key)) t steady behind (next_place (place_at w t) Late) (get_or-set_same w.places t (next_place (place_at w t) Late) Idle there)
+      (λ m h. after.inside ∙ sym after.owes ∙ h)
+      (λ l lets. let own = lets_own w t l steady lets in ((row_promises w t steady l own).late n of.2.1).shut (lets_in w t steady l own lets))
+
+  -- it looks at the word once more, and is in its call as before
+  spun_owing : (o : Option Place) → looking (place_at w t) ≡ o → is_some o ≡ true → IsSteady (state_after_look w t o) → (l : ℕ) (m : Line)
+      → Owes (state_after_look w t o) t l m ↔ (IsInside (state_after_look w t o) t l m ⊎ SeesWaiters w t l m (look_outcome w t o) (state_after_look w t o))
+  spun_owing None is can behind l m = absurd cc
+  spun_owing (Some q) is can behind l m = subst (λ (c : CallState). Owes (state_after_go (put w t q) t) t l m ↔ (IsInside (state_after_go (put w t q) t) t l m ⊎ SeesBy w t l m (go_outcome (put w t q) t) (state_after_go (put w t q) t) c)) (calls_same w t there q is t)
+      (go_owes (put w t q) (state_after_go (put w t q) t) t (looking_steady w t there q is steady) behind (go_place (put w t q) t (rw (length-set w.places t q) there)) l m)
+
+  turned_owing : (x : Turn) → can_turn w t x ≡ true → IsSteady (state_after_turn w t x) → (l : ℕ) (m : Line) → Owes (state_after_turn w t x) t l m ↔ (IsInside (state_after_turn w t x) t l m ⊎ SeesWaiters w t l m (turn_outcome w t x) (state_after_turn w t x))
+  turned_owing (turn.TheVariants.Begin c) can behind l m = begun_owing c can behind l m outcome.TheVariants.Step
+  turned_owing turn.TheVariants.Go can behind l m = go_owes w (state_after_go w t) t steady behind (go_place w t there) l m
+  turned_owing turn.TheVariants.Spin can behind l m = spun_owing (looking (place_at w t)) refl can behind l m
+  turned_owing turn.TheVariants.Late can behind l m = late_owing (late_key (place_at w t)) refl can behind l m outcome.TheVariants.Step
+  turned_owing turn.TheVariants.Ok can behind l m = absurd (nothing_closes w t true can)
+  turned_owing turn.TheVariants.Err can behind l m = absurd (nothing_closes w t false can)
+
+pub owes_since : (w : State) (s : Step) → IsShaped w → IsSteady w → AreCounted w → OwesSince w s.thread (step_outcome w s) (after w s)
+owes_since w s shape steady counted = record {
+  own = own (is_possible w s) refl (after_steady w s shape steady counted);
+  others = λ u l ne. others_owe w s u l ne;
+}
+  where
+    own : (b : Bool) → is_possible w s ≡ b → IsSteady (if b then state_after_turn w s.thread s.turn else w) → (l : ℕ) (m : Line) → (if b then turn_outcome w s.thread s.turn else outcome.TheVariants.NotNow) ≢ outcome.TheVariants.NotNow
+        → Owes (if b then state_after_turn w s.thread s.turn else w) s.thread l m ↔ (IsInside (if b then state_after_turn w s.thread s.turn else w) s.thread l m ⊎ SeesWaiters w s.thread l m (if b then turn_outcome w s.thread s.turn else outcome.TheVariants.NotNow) (if b then state_after_turn w s.thread s.turn else w))
+    own true can behind l m ne = let h = both (nat_lt s.thread (length w.places)) (can_turn w s.thread s.turn) can in turned_owing w s.thread shape steady (ltb-true s.thread (length w.places) h.0) s.turn h.1 behind l m
+    own false cannot behind l m ne = absurd (ne refl)

@@ -1,0 +1,308 @@
+-- A turn is possible exactly where the abstract locks and the call say so, and a thread is told that it sleeps where it does.
+use Rattle.std.proofs.Common.{is_some, subst, ℕ, Bool, true, false, Option, Some, None, if◌then◌else◌, ◌&&◌, ◌≡◌, ◌≢◌, ◌+◌, ◌*◌, ◌≤◌, ◌<◌, ◌↔◌, ◌⊎◌, inl, inr, List, length, is_none, refl, sym, ◌∙◌, ap, arith, get_or-set_other, get_or-set_same}
+use Rattle.std.proofs.lemmas.Bool.{cases_eq, cases_lt}
+use Rattle.std.proofs.lemmas.List.{get_or_past}
+use Rattle.lot_base.specs.declared.keys.Keys.{Keys}
+use Rattle.lot_base.specs.declared.keys.Keys.TheVariants.{One, Two}
+use Rattle.lot_base.specs.Lines.{first_of}
+use Rattle.lot_base.specs.declared.wants.Waiter.{Waiter}
+use Rattle.lot_calls.specs.declared.calls.Turn.{Turn}
+use Rattle.lot_calls.specs.declared.calls.Turn as turn
+use Rattle.lot_calls.specs.declared.calls.Call.{Call}
+use Rattle.lot_calls.specs.declared.calls.Call as call
+use Rattle.lot_calls.specs.declared.calls.MutexCall.{MutexCall}
+use Rattle.lot_calls.specs.declared.calls.MutexCall as mutex_call
+use Rattle.lot_calls.specs.declared.kinds.Kind.{Kind}
+use Rattle.lot_calls.specs.Kinds.{is_fair}
+use Rattle.lot_calls.specs.declared.outcomes.Outcome as outcome
+use Rattle.lot_acts.specs.declared.acts.Act.{Act}
+use Rattle.lot_acts.specs.declared.acts.Act.TheVariants.{Rest, Enter, Park, Take, Sleep, Closure, End}
+use Rattle.lot_acts.specs.declared.acts.Act.TheVariants as act
+use Rattle.lot_acts.specs.declared.acts.Reply.{Reply}
+use Rattle.lot_acts.specs.declared.acts.Reply.TheVariants.{Late}
+use Rattle.lot_acts.specs.declared.acts.Next.{Next}
+use Rattle.lot_acts.specs.declared.acts.Next.TheVariants as next
+use Rattle.lot_mutex.specs.declared.places.MutexPlace.{MutexPlace}
+use Rattle.lot_steps.specs.declared.places.Place.{Place}
+use Rattle.lot_steps.specs.declared.places.Place.TheVariants.{Idle, Mutex, RwLock}
+use Rattle.lot_acts.specs.declared.acts.Wakes.{Wakes}
+use Rattle.lot_acts.specs.declared.acts.Wakes as wakes
+use Rattle.lot_acts.specs.declared.acts.Whom.{Whom}
+use Rattle.lot_acts.specs.declared.acts.Whom as whom
+use Rattle.lot_acts.specs.Acts.{takes_effect, outcome_of, holds}
+use Rattle.lot_mutex.specs.MutexSteps.{mutex_act, mutex_first, mutex_next}
+use Rattle.lot_steps.specs.Steps.{act_of, lock_of, next_place, next_act, mutex_goes, mutex_does, late_key, first_place, looking, key_in, profile, rwlock_does, rwlock_goes}
+use Rattle.lot_base.specs.declared.ops.Op.{Op}
+use Rattle.lot_machine.specs.Machine.{state_after_hand_over_by, State, state_after_take, place_at, queue_at, section_at, can_do, can_go, is_free_under, word_at, state_with_sections, queues_without_first, state_after_taking, state_after_wake, state_after_act, state_after_go, state_after_late_on}
+use Rattle.lot_machine.specs.Fits.{IsShaped, PlaceFits}
+use Rattle.abstract_locks.specs.Sites.{Main, Line, Second}
+use Rattle.lot_laws.specs.Stations.{station, station_at, Station}
+use Rattle.lot_laws.specs.SitesOf.{IsSteady, stood_in, key_of}
+use Rattle.lot_laws.specs.Refinement.{lock_state, locks_of, call_state, sleeps, runs_closure, keys_entered, call_on}
+use Rattle.lot_laws.proofs.Glue.{calls_none}
+use Rattle.lot_laws.proofs.LineActs.{IsOfLine, IsLineAct, line_act, holds_line, key_there, late_line, calls_there}
+use Rattle.lot_laws.proofs.GoneKept.{none_is}
+use Rattle.lot_laws.proofs.Closures.{no_closure}
+use Rattle.lot_laws.proofs.AtPlaces.{queued_by}
+use Rattle.lot_laws.proofs.CallEvents.{rights}
+use Rattle.abstract_locks.specs.Locks.{Rights}
+use Rattle.abstract_locks.specs.Locks as locks
+use Rattle.abstract_locks.specs.Runs.{AreFree, MayGo, MayBeLate, MayTurn, IsTimed, StandsFreely, SectionChanges, CallState}
+use Rattle.lot_laws.proofs.RowPromises.{is_acting}
+use Rattle.lot_laws.proofs.PlacePromises.{row_promises, station_own, station_calls, call_own, in_second}
+use Rattle.lot_laws.proofs.StandsKept.{in_main}
+use Rattle.lot_laws.proofs.Counts.{first_times}
+use Rattle.lot_laws.proofs.PlaceSteps.{late_next}
+use Rattle.lot_rwlock_fair.specs.declared.places.RwLockCallPlace.{RwLockCallPlace}
+use Rattle.lot_calls.specs.declared.calls.RwLockCall.TheVariants as rwlock_call
+use Rattle.lot_calls.specs.declared.calls.Access.TheVariants as access
+use Rattle.lot_rwlock.specs.RwLockBegins.{admission_of}
+use Rattle.lot_rwlock_fair.specs.FairBegins.{call_first}
+use Rattle.lot_rwlock_fair.specs.FairSteps.{call_act, call_next}
+use Rattle.lot_calls.specs.declared.calls.RwLockCall.{RwLockCall}
+use Rattle.lot_calls.specs.declared.calls.Patience.TheVariants.{Try}
+
+-- ---------------------------------------------------------------- going on
+
+awake_is : (a : Act) → a ≢ Sleep → sleeps a ≡ false
+awake_is Sleep h = absurd (h refl)
+awake_is a h = refl
+
+module _ (w : State) where
+  -- what can be done is done by a thread that is awake, outside its closure, and before sections that are free
+  can_is : (a : Act) → can_do w a ≡ true → (sleeps a ≡ false) × (runs_closure a ≡ false) × AreFree (locks_of w) (keys_entered a)
+  can_is Rest can = absurd cc
+  can_is Sleep can = absurd cc
+  can_is (Closure state) can = absurd cc
+  can_is (End answer) can = absurd cc
+  can_is (Enter (One key)) can = (refl, refl, none_is (section_at w key) can)
+  can_is (Enter (Two first second)) can = (refl, refl, two (is_none (section_at w first)) (is_none (section_at w second)) refl refl can)
+    where
+      two : (a b : Bool) → is_none (section_at w first) ≡ a → is_none (section_at w second) ≡ b → (a && b) ≡ true → (section_at w first ≡ None) × (section_at w second ≡ None)
+      two true true ea eb can = (none_is (section_at w first) ea, none_is (section_at w second) eb)
+      two true false ea eb can = absurd cc
+      two false b ea eb can = absurd cc
+  can_is a can = (refl, refl, tt)
+
+  can_if : (a : Act) → is_acting a ≡ true → sleeps a ≡ false → runs_closure a ≡ false → AreFree (locks_of w) (keys_entered a) → can_do w a ≡ true
+  can_if Rest acting awake outside free = absurd cc
+  can_if (End answer) acting awake outside free = absurd cc
+  can_if Sleep acting awake outside free = absurd cc
+  can_if (Closure state) acting awake outside free = absurd cc
+  can_if (Enter (One key)) acting awake outside free = ap is_none free
+  can_if (Enter (Two first second)) acting awake outside free = rw (free.0, free.1) refl
+  can_if a acting awake outside free = refl
+
+-- who can do something is in a call, and whoever is in a call has something to do
+called_of : (w : State) (p : Place) (r : ℕ → Rights) → can_do w (act_of p) ≡ true → (call_state p r).purpose ≢ None
+called_of w p r can = by_lock (lock_of p) refl
+  where
+    by_lock : (o : Option ℕ) → lock_of p ≡ o → (call_on o (profile p) r).purpose ≢ None
+    by_lock (Some l) e = λ h. cc
+    by_lock None e = absurd (let f : can_do w Rest ≡ true = ap (λ q. can_do w (act_of q)) (sym (calls_none p e)) ∙ can in cc)
+
+acting_of : (w : State) (t : ℕ) → IsSteady w → (call_state (place_at w t) (rights w t)).purpose ≢ None → is_acting (act_of (place_at w t)) ≡ true
+acting_of w t steady called = by_lock (lock_of (place_at w t)) refl called
+  where
+    by_lock : (o : Option ℕ) → lock_of (place_at w t) ≡ o → (call_on o (profile (place_at w t)) (rights w t)).purpose ≢ None → is_acting (act_of (place_at w t)) ≡ true
+    by_lock (Some l) e called = (row_promises w t steady l e).acts
+    by_lock None e called = absurd (called refl)
+
+pub may_go : (w : State) (t : ℕ) → can_go w t ≡ true → MayGo (locks_of w) t
+may_go w t can = let is = can_is w (act_of (place_at w t)) can in
+    record { called = called_of w (place_at w t) (rights w t) can; awake = is.0; outside = is.1; free = is.2 }
+
+pub go_possible : (w : State) (t : ℕ) → IsSteady w → MayGo (locks_of w) t → can_go w t ≡ true
+go_possible w t steady may = can_if w (act_of (place_at w t)) (acting_of w t steady may.called) may.awake may.outside may.free
+
+-- ---------------------------------------------------------------- being late
+
+sleeps_is : (a : Act) → sleeps a ≡ true → a ≡ Sleep
+sleeps_is Sleep h = refl
+sleeps_is a h = absurd cc
+
+module _ (w : State) (t : ℕ) (steady : IsSteady w) where
+  -- a thread in whose line the section is free may be late there
+  stands_freely : (l : ℕ) (m : Line) → (station_at (place_at w t) l).stands ≡ Some m → section_at w (key_of l m) ≡ None → StandsFreely (locks_of w) t l
+  stands_freely l Main stands free = inl (let n : locks.times t (lock_state w l).queue ≡ 1 = queued_by w steady t l ∙ ap (λ x. stood_in x Main) stands in omega arith, free)
+  stands_freely l Second stands free = inr (in_second w t steady l stands, free)
+
+  stands_free : (l : ℕ) → StandsFreely (locks_of w) t l → (m : Line) × ((station_at (place_at w t) l).stands ≡ Some m) × (is_none (section_at w (key_of l m)) ≡ true)
+  stands_free l (inl h) = (Main, in_main (station_at (place_at w t) l).stands (subst (λ n. 1 ≤ n) (queued_by w steady t l) h.0), ap is_none h.1)
+  stands_free l (inr h) = (Second, in_line (station_at (place_at w t) l).stands (subst (λ n. 1 ≤ n) (steady.stands.lines t l Second) (first_times t (queue_at w (2 * l + 1)) h.0)), ap is_none h.1)
+    where
+      in_line : (o : Option Line) → 1 ≤ stood_in o Second → o ≡ Some Second
+      in_line (Some Second) h = refl
+      in_line (Some Main) h = absurd (omega arith)
+      in_line None h = absurd (omega arith)
+
+  late_there : (o : Option ℕ) → late_key (place_at w t) ≡ o → is_free_under w o ≡ true → MayBeLate (locks_of w) t
+  late_there None e can = absurd cc
+  late_there (Some key) e can =
+      let of = late_line (place_at w t) key e in
+      let row = (row_promises w t steady of.0 of.1).late of.2.0 of.2.1 in
+      record {
+        lock = of.0;
+        timed = subst (λ (c : CallState). IsTimed c.purpose of.0) (sym (call_own w t steady of.0 of.1)) row.timed;
+        asleep = ap sleeps row.asleep;
+        stands = stands_freely of.0 of.2.0 (ap (λ (x : Station). x.stands) (station_own (place_at w t) of.0 of.1) ∙ row.stands) (none_is (section_at w (key_of of.0 of.2.0)) (subst (λ k. is_none (section_at w k) ≡ true) of.2.2 can));
+      }
+
+  pub may_be_late : is_free_under w (late_key (place_at w t)) ≡ true → MayBeLate (locks_of w) t
+  may_be_late can = late_there (late_key (place_at w t)) refl can
+
+  pub late_possible : MayBeLate (locks_of w) t → is_free_under w (late_key (place_at w t)) ≡ true
+  late_possible may =
+      let stood = stands_free may.lock may.stands in
+      let own = station_calls (place_at w t) may.lock (λ out. let e : ◌≡◌ {A = Option Line} None (Some stood.0) = sym (ap (λ (x : Station). x.stands) out) ∙ stood.1 in cc) in
+      let stands : (profile (place_at w t)).stands ≡ Some stood.0 = sym (ap (λ (x : Station). x.stands) (station_own (place_at w t) may.lock own)) ∙ stood.1 in
+      let timed : IsTimed (Some ((profile (place_at w t)).purpose may.lock)) may.lock = subst (λ (c : CallState). IsTimed c.purpose may.lock) (call_own w t steady may.lock own) may.timed in
+      let row : (profile (place_at w t)).late_line ≡ Some stood.0 = (row_promises w t steady may.lock own).may_be_late stood.0 stands (sleeps_is (act_of (place_at w t)) may.asleep) timed in
+      ap (is_free_under w) (λ i. key_in (own i) (row i)) ∙ stood.2
+
+-- ---------------------------------------------------------------- what a thread is told
+
+-- a thread that goes on is told that it sleeps where it sleeps then
+told_act : (a : Act) → (outcome_of a ≡ outcome.TheVariants.Sleep) ↔ (sleeps a ≡ true)
+told_act Sleep = ((λ h. refl), λ h. refl)
+told_act (End answer) = ((λ h. cc), λ h. cc)
+told_act (Closure state) = ((λ h. cc), λ h. cc)
+told_act Rest = ((λ h. cc), λ h. cc)
+told_act a = ((λ h. cc), λ h. cc)
+
+told_next : (l : ℕ) (n : Next MutexPlace) → (outcome_of (mutex_does l n) ≡ outcome.TheVariants.Sleep) ↔ (sleeps (act_of (mutex_goes l n)) ≡ true)
+told_next l (next.At at) = told_act (mutex_act l at)
+told_next l (next.End answer) = ((λ h. cc), λ h. cc)
+
+pub told_gone : (p : Place) (r : Reply) → (outcome_of (next_act p r) ≡ outcome.TheVariants.Sleep) ↔ (sleeps (act_of (next_place p r)) ≡ true)
+told_gone Idle r = ((λ h. cc), λ h. cc)
+told_gone (Mutex l at) r = told_next l (mutex_next at r)
+told_gone (RwLock l a c) r = by_next (call_next a c r)
+  where
+    by_next : (n : Next RwLockCallPlace) → (outcome_of (rwlock_does l a n) ≡ outcome.TheVariants.Sleep) ↔ (sleeps (act_of (rwlock_goes l a n)) ≡ true)
+    by_next (next.At q) = told_act (call_act l a q)
+    by_next (next.End answer) = ((λ h. cc), λ h. cc)
+
+pub told_step : (b : Bool) → b ≡ false → (outcome.TheVariants.Step ≡ outcome.TheVariants.Sleep) ↔ (b ≡ true)
+told_step true h = absurd cc
+told_step false h = ((λ e. cc), λ e. cc)
+
+-- a call begins awake
+pub begins_awake : (k : Kind) (c : Call) → sleeps (act_of (first_place k c)) ≡ false
+begins_awake k (call.TheVariants.RwLock l c) = by_call c
+  where
+    by_call : (c : RwLockCall) → sleeps (call_act l (admission_of k) (call_first c)) ≡ false
+    by_call (rwlock_call.Enter access.Exclusive how) = refl
+    by_call (rwlock_call.Enter access.Shared how) = refl
+    by_call (rwlock_call.Enter access.Upgradable how) = refl
+    by_call (rwlock_call.Release x) = refl
+    by_call (rwlock_call.Downgrade d) = refl
+    by_call (rwlock_call.Upgrade Try) = refl
+    by_call (rwlock_call.Upgrade how) = refl
+    by_call (rwlock_call.ReleaseFair access.Shared) = refl
+    by_call (rwlock_call.ReleaseFair access.Upgradable) = refl
+    by_call (rwlock_call.ReleaseFair access.Exclusive) = refl
+    by_call (rwlock_call.Bump x) = refl
+begins_awake k (call.TheVariants.Mutex l c) = either (is_fair k) c
+  where
+    either : (fair : Bool) (c : MutexCall) → sleeps (act_of (Mutex l (mutex_first fair c))) ≡ false
+    either fair mutex_call.TheVariants.Lock = refl
+    either fair mutex_call.TheVariants.LockTimed = refl
+    either fair mutex_call.TheVariants.TryLock = refl
+    either true mutex_call.TheVariants.Unlock = refl
+    either false mutex_call.TheVariants.Unlock = refl
+    either fair mutex_call.TheVariants.UnlockFair = refl
+    either fair mutex_call.TheVariants.Bump = refl
+
+-- ---------------------------------------------------------------- nobody past the last thread
+
+pub nobody_turns : (w : State) (t : ℕ) (x : Turn) → place_at w t ≡ Idle → t < length w.places ⊎ (MayTurn (locks_of w) t x → ⊥)
+nobody_turns w t (turn.TheVariants.Begin c) idle = elim (cases_lt t (length w.places)) [
+  | inl lt ↦ inl lt
+  | inr ge ↦ inr (λ may. let lt : t < length w.places = may.thread in omega arith)
+]
+nobody_turns w t turn.TheVariants.Go idle = inr (λ may. may.called (ap (λ p. (call_state p (rights w t)).purpose) idle))
+nobody_turns w t turn.TheVariants.Spin idle = inr (λ may. let e : false ≡ true = sym (ap (λ p. is_some (looking p)) idle) ∙ may in cc)
+nobody_turns w t turn.TheVariants.Late idle = inr (λ may. let e : false ≡ true = sym (ap (λ p. sleeps (act_of p)) idle) ∙ may.asleep in cc)
+nobody_turns w t turn.TheVariants.Ok idle = inr (λ may. no_closure w t may)
+nobody_turns w t turn.TheVariants.Err idle = inr (λ may. no_closure w t may)
+
+-- whoever takes a turn is there
+pub turner_there : (w : State) (t : ℕ) (x : Turn) → MayTurn (locks_of w) t x → t < length w.places
+turner_there w t x may = elim (cases_lt t (length w.places)) [
+  | inl lt ↦ lt
+  | inr ge ↦ elim (nobody_turns w t x (get_or_past w.places t Idle ge)) [ inl lt ↦ lt | inr none ↦ absurd (none may) ]
+]
+
+-- ---------------------------------------------------------------- sections
+
+module _ (w : State) (t : ℕ) where
+  filled_changes : (k : ℕ) (who : Option ℕ) → k < length w.sections → SectionChanges (section_at w k) t who → (key : ℕ) → SectionChanges (section_at w key) t (section_at (state_with_sections w (One k) who) key)
+  filled_changes k who lt changes key = elim (cases_eq key k) [
+    | inl e ↦ rw (e, get_or-set_same w.sections k who None lt) changes
+    | inr ne ↦ inl (get_or-set_other w.sections k key who None ne)
+  ]
+
+  parked_sections : (b : Bool) (queues : List (List Waiter)) (key : ℕ) → section_at (if b then record w { queues = queues } else w) key ≡ section_at w key
+  parked_sections true queues key = refl
+  parked_sections false queues key = refl
+
+  took_sections : (queues : List (List Waiter)) (o : Option ℕ) (key : ℕ) → section_at (state_after_taking (record w { queues = queues }) t o) key ≡ section_at w key
+  took_sections queues None key = refl
+  took_sections queues (Some u) key = refl
+
+  left_sections : (keys : Keys) (x : Wakes) (key : ℕ) → section_at (state_after_wake (state_with_sections w keys None) t x) key ≡ section_at (state_with_sections w keys None) key
+  left_sections keys wakes.TheVariants.Nobody key = refl
+  left_sections keys (wakes.TheVariants.All note) key = refl
+
+  given_sections : (p : Place) (k : ℕ) (op : Op) (b : Bool) (key : ℕ) → section_at (state_after_hand_over_by b w t p k op) key ≡ section_at w key
+  given_sections p k op true key = refl
+  given_sections p k op false key = refl
+
+  took_all : (key : ℕ) (x : Whom) (k : ℕ) → section_at (state_after_take w t key x) k ≡ section_at w k
+  took_all key whom.TheVariants.First k = took_sections (queues_without_first w.queues key) (first_of (queue_at w key)) k
+  took_all key (whom.TheVariants.Picked start recursive) k = refl
+  took_all key whom.TheVariants.All k = refl
+
+  module _ (shape : IsShaped w) (steady : IsSteady w) (l : ℕ) (own : lock_of (place_at w t) ≡ Some l) (lt : l < length w.locks) where
+    there_is : (key : ℕ) → IsOfLine l key → key < length w.sections
+    there_is key h = subst (λ k. k < length w.sections) (sym h.1) (key_there w l h.0 shape lt)
+
+    -- it enters or leaves the section of one line alone, and leaves it only from inside
+    act_sections : (p : Place) (a : Act) → can_do w a ≡ true → IsLineAct l (station (place_at w t)) a → (key : ℕ) → SectionChanges (section_at w key) t (section_at (state_after_act w t p a) key)
+    act_sections p (Enter (One k)) can h key = filled_changes k (Some t) (there_is k h) (inr (inl (none_is (section_at w k) can, refl))) key
+    act_sections p (Enter (Two first second)) can h key = absurd h
+    act_sections p (act.Leave (One k) x) can h key = rw (left_sections (One k) x key) (filled_changes k None (there_is k (h.0, h.2)) (inr (inr (holds_line w t l steady own k h, refl))) key)
+    act_sections p (act.Leave (Two first second) x) can h key = absurd h
+    act_sections p (Park k key_there check x) can h key = inl (parked_sections (holds check (word_at w k)) _ key)
+    act_sections p (Take k x) can h key = inl (took_all k x key)
+    act_sections p (act.Requeue from to how) can h key = absurd h
+    act_sections p (act.HandOver k op) can h key = inl (given_sections p k op (takes_effect op (word_at w k)) key)
+    act_sections p Rest can h key = inl refl
+    act_sections p a can h key = inl refl
+
+pub gone_sections : (w : State) (t : ℕ) → IsShaped w → IsSteady w → can_go w t ≡ true → (key : ℕ) → SectionChanges (section_at w key) t (section_at (state_after_go w t) key)
+gone_sections w t shape steady can = by_lock (lock_of (place_at w t)) refl
+  where
+    by_lock : (o : Option ℕ) → lock_of (place_at w t) ≡ o → (key : ℕ) → SectionChanges (section_at w key) t (section_at (state_after_act w t (place_at w t) (act_of (place_at w t))) key)
+    by_lock (Some l) own key = act_sections w t shape steady l own (calls_there (length w.locks) (place_at w t) l own (shape.places t)) (place_at w t) (act_of (place_at w t)) can (line_act (place_at w t) l own) key
+    by_lock None none key = absurd (let e : can_do w (act_of (place_at w t)) ≡ false = ap (λ p. can_do w (act_of p)) (calls_none (place_at w t) none) in cc)
+
+-- ---------------------------------------------------------------- the other turns
+
+module _ (w : State) (t : ℕ) (there : t < length w.places) where
+  pub late_awake : (o : Option ℕ) → late_key (place_at w t) ≡ o → is_free_under w o ≡ true → sleeps (act_of (place_at (state_after_late_on w t o) t)) ≡ false
+  late_awake None e can = absurd cc
+  late_awake (Some key) e can =
+      let of = late_line (place_at w t) key e in
+      ap (λ p. sleeps (act_of p)) (get_or-set_same w.places t (next_place (place_at w t) Late) Idle there) ∙ awake_is (act_of (next_place (place_at w t) Late)) (late_next (place_at w t) of.2.0 of.2.1).awake
+
+module _ (w : State) (t : ℕ) (shape : IsShaped w) where
+  -- who is late enters the section of the line in which it sleeps
+  pub late_sections : (p : Place) → PlaceFits (length w.locks) p → is_free_under w (late_key p) ≡ true → (key : ℕ) → SectionChanges (section_at w key) t (section_at (state_after_late_on w t (late_key p)) key)
+  late_sections p fits can = by_key (late_key p) refl can
+    where
+      by_key : (o : Option ℕ) → late_key p ≡ o → is_free_under w o ≡ true → (key : ℕ) → SectionChanges (section_at w key) t (section_at (state_after_late_on w t o) key)
+      by_key None e can key = absurd cc
+      by_key (Some k) e can key = let of = late_line p k e in
+          filled_changes w t k (Some t) (subst (λ j. j < length w.sections) (sym of.2.2) (key_there w of.0 of.2.0 shape (calls_there (length w.locks) p of.0 of.1 fits))) (inr (inl (none_is (section_at w k) can, refl))) key

@@ -1,0 +1,231 @@
+-- What holds between steps, as callers are told it.
+use Rattle.std.proofs.Common.{ℕ, Bool, true, false, Option, Some, None, if◌then◌else◌, ◌==◌, ◌&&◌, ◌≡◌, ◌≢◌, ◌+◌, ◌*◌, ◌≤◌, ◌<◌, ◌⊎◌, inl, inr, List, length, refl, ◌∙◌, ap, subst, arith, ◌↔◌, sym}
+use Rattle.lot_base.specs.declared.wants.Want.{Want}
+use Rattle.lot_base.specs.declared.wants.Want.TheVariants.{Exclusive}
+use Rattle.lot_acts.specs.declared.acts.Act.TheVariants.{Rest, Sleep}
+use Rattle.lot_acts.specs.Profiles.{Profile, hand, hand_owner}
+use Rattle.lot_calls.specs.declared.kinds.Kind.{Kind}
+use Rattle.lot_calls.specs.declared.kinds.Kind as kinds
+use Rattle.lot_calls.specs.declared.calls.Step.{Step}
+use Rattle.lot_steps.specs.Steps.{act_of, is_lock, lock_of, profile, retries_on}
+use Rattle.lot_machine.specs.Machine.{State, opening, place_at, after, kind_at, filled_at}
+use Rattle.lot_machine.specs.Fits.{IsShaped}
+use Rattle.lot_laws.specs.Stations.{Station, station_at, doing_on}
+use Rattle.lot_laws.specs.SitesOf.{AreCounted, IsSteady, rules_in}
+use Rattle.abstract_locks.specs.Runs.{CallState, IsOpening}
+use Rattle.abstract_locks.specs.Locks.{LockState, Sort, Rights, Taken, opening_lock, Rules, IsSomePending, rights_of, readers, count, standing}
+use Rattle.abstract_locks.specs.Locks as sorts
+use Rattle.abstract_locks.specs.Sites.{Doing, Line, Main, Second, Has, Pends, IsOpen, counts_some, has_readers, idle}
+use Rattle.abstract_locks.specs.Codes.{HasLimit}
+use Rattle.abstract_locks.specs.Purposes.{Enters, Converts, Bumps, Purpose, MayWait, rules_of}
+use Rattle.lot_laws.specs.Refinement.{locks_of, lock_state, lock_seen, taken_at, call_at, call_on, call_state, stance_of}
+use Rattle.lot_laws.specs.Owing.{Owes, sort_at}
+use Rattle.lot_laws.specs.Promises.{IsKept, KnowsRights, WaitsFor, WakesWaiters, IsDebtorOf, IsLookedAfter, IsOpenNow, WasNeverFull, HasOrPends, IsHandedOver, IsWithinLimit, want_of}
+use Rattle.lot_laws.proofs.TurnsKept.{after_steady}
+use Rattle.lot_laws.proofs.SitesPromise.{not_empty}
+use Rattle.lot_laws.proofs.RowPromises.{IsDebtorIn, HasClaimed, HasDebt, WasHanded, RowLooksAfter}
+use Rattle.lot_laws.proofs.PlacePromises.{row_promises, station_own, doing_own, owed_own, owes_own, doing_calls, station_calls, stands_waiting, waiting_stands, call_own, inside_own, owing_is}
+use Rattle.lot_laws.proofs.Glue.{same, calls_none}
+use Rattle.lot_machine.proofs.Opening.{idle_at, none_at, empty_at, nobody_owns, opening_shares}
+use Rattle.std.proofs.lemmas.Bool.{cases_lt, eqb-true}
+
+-- a call waits for one lock
+one_purpose : (o : Option Purpose) (l k : ℕ) → MayWait o l → MayWait o k → l ≡ k
+one_purpose (Some (Enters j x how)) l k h g = sym h.0 ∙ g.0
+one_purpose (Some (Converts j x y how)) l k h g = sym h.0 ∙ g.0
+one_purpose (Some (Bumps j x)) l k h g = sym h ∙ g
+one_purpose o l k h g = absurd h
+
+-- who is shown to try again does
+retry_shown : (o : Option ℕ) (row : Profile) (r : ℕ → Rights) (l : ℕ) → ((row.retries && is_lock l o) ≡ true) ↔ ((call_on o row r).retries ≡ Some l)
+retry_shown None row r l = ((λ h. absurd (none row.retries h)), λ h. absurd cc)
+  where
+    none : (b : Bool) → (b && false) ≡ true → ⊥
+    none true h = cc
+    none false h = cc
+retry_shown (Some own) row r l = by_retry row.retries
+  where
+    by_retry : (b : Bool) → ((b && (own == l)) ≡ true) ↔ ((if b then Some own else None) ≡ Some l)
+    by_retry true = ((λ h. ap Some (eqb-true own l h)), λ h. let e : own ≡ l = cc in rw e (same l))
+    by_retry false = ((λ h. absurd cc), λ h. absurd cc)
+
+-- no semaphore is built
+unbuilt : (k : Kind) → (rules_of k).sort ≢ sorts.Semaphore
+unbuilt kinds.TheVariants.Mutex h = cc
+unbuilt kinds.TheVariants.Fair h = cc
+unbuilt (kinds.TheVariants.RwLock limit) h = cc
+unbuilt (kinds.TheVariants.Recursive limit) h = cc
+unbuilt kinds.TheVariants.Condvar h = cc
+unbuilt kinds.TheVariants.Once h = cc
+
+-- where nobody bars the way, nobody owns the lock alone
+open_unowned : (sort : Sort) (s : LockState) → IsOpen sort s → s.exclusive ≡ None
+open_unowned sorts.Mutex s h = h
+open_unowned sorts.Semaphore s h = absurd h
+open_unowned sort s h = h.0
+
+-- who does nothing owes nothing
+idle_owes : (sort : Sort) (m : Line) → IsDebtorIn sort idle m → ⊥
+idle_owes sort Main d = elim d [ inl h ↦ cc | inr h ↦ elim h [ inl k ↦ cc | inr k ↦ cc ] ]
+idle_owes sort Second d = cc
+
+within : (r : Rules) (s : LockState) → has_readers r.sort ≡ true → HasLimit r s → IsWithinLimit r s
+within r s shared h = by_sort r.sort refl shared
+  where
+    by_sort : (sort : Sort) → r.sort ≡ sort → has_readers sort ≡ true → IsWithinLimit r s
+    by_sort sorts.Normal e f = inl (h.normal e)
+    by_sort sorts.Recursive e f = by_count (cases_lt r.limit (count s))
+      where
+        by_count : (r.limit < count s) ⊎ (count s ≤ r.limit) → IsWithinLimit r s
+        by_count (inl more) = let top = h.top in inr (e, omega arith)
+        by_count (inr few) = inl few
+    by_sort sort e f = absurd (grind arith)
+
+module _ (w : State) (steady : IsSteady w) where
+  waits : (t l : ℕ) → 1 ≤ standing t (lock_state w l) → MayWait (call_at w t).purpose l
+  waits t l h =
+      let at_lock = stands_waiting w t steady l h in
+      subst (λ (c : CallState). MayWait c.purpose l) (sym (call_own w t steady l at_lock.0)) ((row_promises w t steady l at_lock.0).waits at_lock.1)
+
+  known : (t : ℕ) → KnowsRights (sort_at w) (call_at w t).purpose
+  known t = by_lock (lock_of (place_at w t)) refl
+    where
+      by_lock : (o : Option ℕ) → lock_of (place_at w t) ≡ o → KnowsRights (sort_at w) (call_at w t).purpose
+      by_lock None e = subst (λ (c : CallState). KnowsRights (sort_at w) c.purpose) (sym (ap (λ o. call_on o (profile (place_at w t)) (λ k. rights_of (lock_state w k) t)) e)) tt
+      by_lock (Some l) e = subst (λ (c : CallState). KnowsRights (sort_at w) c.purpose) (sym (call_own w t steady l e)) ((row_promises w t steady l e).known (sort_at w) refl)
+
+  retrying : (t l : ℕ) → (retries_on (place_at w t) l ≡ true) ↔ ((call_at w t).retries ≡ Some l)
+  retrying t l = retry_shown (lock_of (place_at w t)) (profile (place_at w t)) (λ k. rights_of (lock_state w k) t) l
+
+  second_line : (t l : ℕ) → Owes w t l Second → has_readers (sort_at w l) ≡ true
+  second_line t l h =
+      let own = owes_own (place_at w t) l Second h in
+      (row_promises w t steady l own).owing.second (sym (owed_own (place_at w t) l own) ∙ h)
+
+  limited : (l : ℕ) → has_readers (sort_at w l) ≡ true → IsWithinLimit (rules_in w l) (lock_state w l)
+  limited l shared = within (rules_in w l) (lock_state w l) shared (steady.sites.limits l shared).1
+
+  -- ---------------------------------------------------------------- nobody is forgotten
+
+  -- who is to look after the waiters of a line does so
+  module _ (t l : ℕ) (m : Line) (debtor : IsDebtorIn (sort_at w l) (doing_on (place_at w t) l) m) (unowned : (lock_state w l).exclusive ≢ Some t) where
+    own : lock_of (place_at w t) ≡ Some l
+    own = doing_calls (place_at w t) l (λ idles. idle_owes (sort_at w l) m (subst (λ d. IsDebtorIn (sort_at w l) d m) idles debtor))
+
+    row : RowLooksAfter (sort_at w l) l (profile (place_at w t)) (act_of (place_at w t)) m
+    row = (row_promises w t steady l own).debtor m (subst (λ d. IsDebtorIn (sort_at w l) d m) (doing_own (place_at w t) l own) debtor)
+        (λ claims. unowned ((steady.sites.site l).held t (Has Exclusive) (ap (λ (d : Doing). d.claims) (doing_own (place_at w t) l own) ∙ claims)))
+
+    debt_of : (n : Line) → HasDebt (sort_at w l) l (profile (place_at w t)) n → IsDebtorOf w t l n
+    debt_of Main (inl wakes) = inl (owed_own (place_at w t) l own ∙ wakes.0, subst (λ (c : CallState). WakesWaiters (sort_at w l) c.purpose c.gave_up l) (sym (call_own w t steady l own)) wakes.1)
+    debt_of Main (inr again) = inr (ap (λ (c : CallState). c.retries) (call_own w t steady l own) ∙ ap (λ b. if b then Some l else None) again.0, ap (λ (c : CallState). counts_some (sort_at w l) (want_of c.purpose)) (call_own w t steady l own) ∙ again.1)
+    debt_of Second owes = owed_own (place_at w t) l own ∙ owes
+
+    stands_nowhere : (k : ℕ) → standing t (lock_state w k) ≡ 0
+    stands_nowhere k = elim (cases_lt (standing t (lock_state w k)) 1) [
+      | inl none ↦ omega arith
+      | inr some ↦ absurd (elim (stands_waiting w t steady k some).1 [ inl in_line ↦ in_line row.stands | inr taken ↦ taken row.taken ])
+    ]
+
+    looks_after : IsLookedAfter w l m
+    looks_after = record { debtor = t; debt = debt_of m row.debt; awake = row.awake; stands_nowhere = stands_nowhere }
+
+  unfilled : (l : ℕ) → WasNeverFull w l → filled_at w l ≡ false
+  unfilled l full = by_sort (has_readers (sort_at w l)) refl
+    where
+      by_sort : (b : Bool) → has_readers (sort_at w l) ≡ b → filled_at w l ≡ false
+      by_sort true e = full e
+      by_sort false e = steady.sites.unfilled l e
+
+  main : (t l : ℕ) → WaitsFor w t l → IsOpenNow (rules_in w l) (lock_state w l) → WasNeverFull w l → IsLookedAfter w l Main
+  main t l waiting open_now full =
+      let now : IsOpen (sort_at w l) (lock_state w l) = elim open_now [ inl is ↦ is | inr other ↦ absurd (unbuilt (kind_at w l) other.0) ] in
+      let free = open_unowned (sort_at w l) (lock_state w l) now in
+      let d = (steady.sites.site l).main (inl (not_empty t (lock_state w l).queue waiting)) now (unfilled l full) in
+      looks_after d.0 l Main d.1 (λ own. let e : ◌≡◌ {A = Option ℕ} None (Some d.0) = sym free ∙ own in cc)
+
+  second : (l : ℕ) → (lock_state w l).aside ≢ None → readers (lock_state w l) ≡ 0 → IsLookedAfter w l Second
+  second l aside none =
+      let d = (steady.sites.site l).second aside none in
+      looks_after d.0 l Second d.1 (λ own. pending_alone d.0 own (lock_state w l).aside refl aside)
+    where
+      -- beside an owner that has the lock alone nobody is pending
+      pending_alone : (t : ℕ) → (lock_state w l).exclusive ≡ Some t → (o : Option ℕ) → (lock_state w l).aside ≡ o → o ≢ None → ⊥
+      pending_alone t alone None e some = some refl
+      pending_alone t alone (Some u) e some =
+          let pending = (steady.sites.site l).state.aside_pending u e in
+          let nobody = (steady.sites.site l).state.exclusive_alone t alone in
+          subst (λ o. IsSomePending o u) nobody.0 pending
+
+  -- ---------------------------------------------------------------- who was handed a lock
+
+  module _ (t : ℕ) (asleep : act_of (place_at w t) ≡ Sleep) (nowhere : (l : ℕ) → standing t (lock_state w l) ≡ 0) where
+    -- what it has, by what it claims
+    claimed_at : (l : ℕ) → lock_of (place_at w t) ≡ Some l → (x : Want) → HasClaimed (sort_at w l) (profile (place_at w t)).doing.claims x → HasOrPends (sort_at w l) (lock_state w l) t x
+    claimed_at l own x h = elim h [
+      | inl has ↦ inl ((steady.sites.site l).held t (Has x) (claims ∙ has))
+      | inr pends ↦ inr (pends.0, pends.1, subst (λ o. IsSomePending o t) (sym ((steady.sites.site l).held t (Pends pends.2.0) (claims ∙ pends.2.1))) refl)
+    ]
+      where
+        claims : (doing_on (place_at w t) l).claims ≡ (profile (place_at w t)).doing.claims
+        claims = ap (λ (d : Doing). d.claims) (doing_own (place_at w t) l own)
+
+    handed_at : (l : ℕ) → lock_of (place_at w t) ≡ Some l → WasHanded (sort_at w l) l (profile (place_at w t)) → IsHandedOver w t
+    handed_at l own handed =
+        let in_hand : (station_at (place_at w t) l).hand ≡ hand handed.by true = ap (λ (x : Station). x.hand) (station_own (place_at w t) l own) ∙ handed.in_hand in
+        let carries = steady.stands.hands.taken handed.by t l true in_hand in
+        let by_own = station_calls (place_at w handed.by) l (λ out. let e : ◌≡◌ {A = Option Bool} None (Some true) = sym (ap (λ (x : Station). x.carries) out) ∙ carries in cc) in
+        let told = (row_promises w handed.by steady l by_own).tells (sym (ap (λ (x : Station). x.carries) (station_own (place_at w handed.by) l by_own)) ∙ carries) in
+        record {
+          lock = l;
+          by = handed.by;
+          want = handed.want;
+          waited = subst (λ (c : CallState). MayWait c.purpose l × (want_of c.purpose ≡ Some handed.want)) (sym (call_own w t steady l own)) (handed.waited, handed.wants);
+          owner = claimed_at l own handed.want handed.has;
+          inside = (inside_own w handed.by steady l by_own Main).0 told.1;
+          in_hand = ap hand_owner handed.in_hand;
+          wakes = told.0;
+        }
+
+    handed_over : IsHandedOver w t
+    handed_over = by_lock (lock_of (place_at w t)) refl
+      where
+        by_lock : (o : Option ℕ) → lock_of (place_at w t) ≡ o → IsHandedOver w t
+        by_lock None e = absurd (let f : Rest ≡ Sleep = sym (ap act_of (calls_none (place_at w t) e)) ∙ asleep in cc)
+        by_lock (Some l) e = elim ((row_promises w t steady l e).asleep asleep) [
+          | inl waiting ↦ absurd (let some = waiting_stands w t steady l e waiting in let none = nowhere l in omega arith)
+          | inr handed ↦ handed_at l e handed
+        ]
+
+  pub kept : IsKept w
+  kept = record {
+    state = λ l. (steady.sites.site l).state;
+    one_place = λ t l k h g. one_purpose (call_at w t).purpose l k (waits t l h) (waits t k g);
+    waiting = waits;
+    known = known;
+    coded = λ l. steady.sites.word l;
+    limited = limited;
+    nobody_forgotten = record { main = main; second = second };
+    owing = λ t l m. owing_is w t steady l m;
+    second_line = second_line;
+    retrying = retrying;
+    handing = λ t h. handed_over t h.0 h.1;
+    parked = λ t l waiting. (steady.sites.site l).parked (not_empty t (lock_state w l).queue waiting);
+    aside_parked = λ l. (steady.sites.site l).aside_parked;
+  }
+
+pub kept_after : (w : State) (s : Step) → IsShaped w → IsSteady w → AreCounted w → IsKept (after w s)
+kept_after w s shape steady counted = kept (after w s) (after_steady w s shape steady counted)
+
+-- ---------------------------------------------------------------- the opening state, of the abstract locks
+
+opening_state : (kinds : List Kind) (threads l : ℕ) → lock_state (opening kinds threads) l ≡ opening_lock (length (opening kinds threads).places)
+opening_state kinds threads l = λ i. lock_seen (opening_shares kinds threads l i) (nobody_owns kinds l i) (empty_at (2 * length kinds) (2 * l) i) (empty_at (2 * length kinds) (2 * l + 1) i) (λ u. taken_at (idle_at threads u i) l)
+
+pub opening_is : (kinds : List Kind) (threads : ℕ) → IsOpening (locks_of (opening kinds threads))
+opening_is kinds threads = record {
+  locks = opening_state kinds threads;
+  calls = λ t. ap (λ p. call_state p (λ l. rights_of (lock_state (opening kinds threads) l) t)) (idle_at threads t);
+  inside = none_at (2 * length kinds);
+  stances = λ t. ap stance_of (idle_at threads t);
+}

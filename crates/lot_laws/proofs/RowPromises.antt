@@ -1,0 +1,204 @@
+-- What the row of a place, and what its thread does next, must say, so that each state keeps what is promised of the thread: whatever the
+-- sort of its lock.
+use Rattle.std.proofs.Common.{ℕ, Bool, true, false, Option, Some, None, if◌then◌else◌, ◌||◌, ◌≡◌, ◌≢◌, ◌*◌, ◌⊎◌, inl, inr, refl, sym, ◌∙◌}
+use Rattle.lot_base.specs.declared.keys.Keys.TheVariants.{One}
+use Rattle.lot_base.specs.declared.notes.Note.TheVariants as note
+use Rattle.lot_base.specs.declared.wants.Want.{Want}
+use Rattle.lot_base.specs.declared.wants.Want.TheVariants.{Exclusive}
+use Rattle.lot_calls.specs.declared.outcomes.Outcome.{Outcome}
+use Rattle.lot_calls.specs.declared.outcomes.Outcome.TheVariants as told
+use Rattle.lot_acts.specs.declared.acts.Act.{Act}
+use Rattle.lot_acts.specs.declared.acts.Act.TheVariants.{Rest, Enter, Leave, Sleep, End}
+use Rattle.lot_acts.specs.declared.acts.Wakes as wakes
+use Rattle.lot_acts.specs.declared.acts.Reply.{Reply}
+use Rattle.lot_acts.specs.declared.acts.Reply.TheVariants.{TakenBy, MovedTo, HandedBy, Woken}
+use Rattle.lot_acts.specs.Profiles.{Profile, hand, taken_from}
+use Rattle.lot_steps.specs.declared.places.Place.{Place}
+use Rattle.lot_steps.specs.Steps.{act_of, profile}
+use Rattle.abstract_locks.specs.Codes.{parked_in}
+use Rattle.abstract_locks.specs.Locks.{Sort, Taken}
+use Rattle.abstract_locks.specs.Locks as sorts
+use Rattle.abstract_locks.specs.Purposes.{Purpose, Enters, Releases, Converts, Bumps, MayWait, IsReleasing, lock_for}
+use Rattle.abstract_locks.specs.Runs.{IsTimed}
+use Rattle.abstract_locks.specs.Sites.{Claim, Doing, Line, Main, Second, Has, Pends, IsDebtor, counts_some, has_readers}
+use Rattle.lot_laws.specs.SitesOf.{key_of}
+use Rattle.lot_laws.specs.Owing.{IsDowngrade, LooksFirst, line_let_in, tells_by, tells_of}
+use Rattle.lot_laws.specs.Promises.{KnowsRights, WakesAside, WakesWaiters, want_of}
+
+-- what a thread in a call does
+abbrev pub is_acting : Act → Bool
+is_acting Rest = false
+is_acting (End answer) = false
+is_acting a = true
+
+pub releases_for : (q : Purpose) (released : Bool) (l : ℕ) → IsReleasing (Some q) released l → lock_for q ≡ l
+releases_for (Enters k x how) released l h = absurd h
+releases_for (Releases k x fair) released l h = h
+releases_for (Converts k x y how) released l h = absurd h
+releases_for (Bumps k x) released l h = h.0
+
+pub downgrades_for : (q : Purpose) (l : ℕ) → IsDowngrade (Some q) l → lock_for q ≡ l
+downgrades_for (Enters k x how) l h = absurd h
+downgrades_for (Releases k x fair) l h = absurd h
+downgrades_for (Converts k x y how) l h = h.0
+downgrades_for (Bumps k x) l h = absurd h
+
+-- by whom it was taken from a queue of its lock
+abbrev pub taken_of : Profile → Option Taken
+taken_of row = taken_from row.hand row.wants true
+
+-- it stands in a line, or was taken from one
+abbrev pub IsWaiting : Profile → Type 0
+IsWaiting row = (row.stands ≢ None) ⊎ (taken_of row ≢ None)
+
+-- it has this right, or, to a lock that is shared, its pending one
+abbrev pub HasClaimed : Sort → Option Claim → Want → Type 0
+HasClaimed sort claims x =
+    (claims ≡ Some (Has x)) ⊎ ((x ≡ Exclusive) × (has_readers sort ≡ true) × ((b : Bool) × (claims ≡ Some (Pends b))))
+
+-- it was handed what it waited for
+pub record WasHanded (sort : Sort) (l : ℕ) (row : Profile) : Type 0 where
+  pub by : ℕ
+  pub in_hand : row.hand ≡ hand by true
+  pub waited : MayWait (Some (row.purpose l)) l
+  pub want : Want
+  pub wants : want_of (Some (row.purpose l)) ≡ Some want
+  pub has : HasClaimed sort row.doing.claims want
+
+-- its call lets others in
+abbrev pub LetsIn : Sort → ℕ → Profile → Type 0
+LetsIn sort l row =
+    IsReleasing (Some (row.purpose l)) row.released l
+    ⊎ ((has_readers sort ≡ true) × (IsDowngrade (Some (row.purpose l)) l ⊎ ((row.gave_up ≡ true) × (row.doing.inside ≡ None))))
+
+-- on its way into the section of this line
+abbrev pub LetsInAt : Sort → ℕ → Profile → Line → Type 0
+LetsInAt sort l row m = LetsIn sort l row ⊎ WakesAside (Some (row.purpose l)) l m
+
+-- who owes a wake on a line is inside its section, or lets others in and is on its way into it
+pub record RowOwes (sort : Sort) (l : ℕ) (row : Profile) (a : Act) : Type 0 where
+  pub owes : (m : Line) → row.owes ≡ Some m → (row.doing.inside ≡ Some m) ⊎ ((a ≡ Enter (One (key_of l m))) × LetsInAt sort l row m)
+  pub inside : (m : Line) → row.doing.inside ≡ Some m → row.owes ≡ Some m
+  pub entering : (m : Line) → a ≡ Enter (One (key_of l m)) → LetsInAt sort l row m → row.owes ≡ Some m
+  pub second : row.owes ≡ Some Second → has_readers sort ≡ true
+
+-- it is to look after the waiters of a line, by what it does
+abbrev pub IsDebtorIn : Sort → Doing → Line → Type 0
+IsDebtorIn sort d Main = IsDebtor sort d
+IsDebtorIn sort d Second = d.wakes ≡ Some Second
+
+abbrev pub HasDebt : Sort → ℕ → Profile → Line → Type 0
+HasDebt sort l row Main =
+    ((row.owes ≡ Some Main) × WakesWaiters sort (Some (row.purpose l)) (if row.gave_up then Some l else None) l)
+    ⊎ ((row.retries ≡ true) × (counts_some sort (want_of (Some (row.purpose l))) ≡ true))
+HasDebt sort l row Second = row.owes ≡ Some Second
+
+-- it has the debt, is awake, stands in no line and isn't taken
+pub record RowLooksAfter (sort : Sort) (l : ℕ) (row : Profile) (a : Act) (m : Line) : Type 0 where
+  pub debt : HasDebt sort l row m
+  pub awake : a ≢ Sleep
+  pub stands : row.stands ≡ None
+  pub taken : taken_of row ≡ None
+
+-- who sleeps and may give up stands in the line, in a call that has a deadline and lets nobody in
+pub record RowIsLate (sort : Sort) (l : ℕ) (row : Profile) (a : Act) (m : Line) : Type 0 where
+  pub stands : row.stands ≡ Some m
+  pub asleep : a ≡ Sleep
+  pub timed : IsTimed (Some (row.purpose l)) l
+  pub shut : LetsIn sort l row → ⊥
+
+pub record RowPromises (sort : Sort) (l : ℕ) (row : Profile) (a : Act) : Type 0 where
+  -- its call is of the lock
+  pub own : lock_for (row.purpose l) ≡ l
+  -- it has something to do
+  pub acts : is_acting a ≡ true
+  -- who waits is in a call that may
+  pub waits : IsWaiting row → MayWait (Some (row.purpose l)) l
+  -- and it is for rights that the lock knows
+  pub known : (sorts : ℕ → Sort) → sorts l ≡ sort → KnowsRights sorts (Some (row.purpose l))
+  -- in the second line stands only who is pending
+  pub aside : row.stands ≡ Some Second → (b : Bool) × (row.doing.claims ≡ Some (Pends b))
+  pub owing : RowOwes sort l row a
+  pub debtor : (m : Line) → IsDebtorIn sort row.doing m → (row.doing.claims ≡ Some (Has Exclusive) → ⊥) → RowLooksAfter sort l row a m
+  pub asleep : a ≡ Sleep → IsWaiting row ⊎ WasHanded sort l row
+  -- who has handed the lock over leaves its section next, and tells so
+  pub tells : row.carries ≡ Some true → (a ≡ Leave (One (2 * l)) (wakes.TheVariants.All note.HandOff)) × (row.doing.inside ≡ Some Main)
+  pub late : (m : Line) → row.late_line ≡ Some m → RowIsLate sort l row a m
+  pub may_be_late : (m : Line) → row.stands ≡ Some m → a ≡ Sleep → IsTimed (Some (row.purpose l)) l → row.late_line ≡ Some m
+
+-- ---------------------------------------------------------------- a step
+
+-- its call lets others in, and the word says that somebody may wait in the line
+abbrev pub RowSees : Sort → ℕ → ℕ → Profile → Line → Type 0
+RowSees sort l word row m =
+    LetsIn sort l row × (line_let_in sort (Some (row.purpose l)) ≡ m) × (tells_of sort m word ≡ true)
+
+-- a thread that goes on to the next row owes a wake on a line since it saw waiters there, or is inside its section
+pub record RowOwesNext (sort : Sort) (l word : ℕ) (row : Profile) (o : Outcome) (next : Profile) : Type 0 where
+  pub since : (m : Line) → next.owes ≡ Some m → (next.doing.inside ≡ Some m) ⊎ (RowSees sort l word row m × (o ≡ told.Step))
+  pub sees : (m : Line) → RowSees sort l word row m → o ≡ told.Step → next.owes ≡ Some m
+
+-- the word says so by what its call is for
+abbrev pub RowFinds : Sort → ℕ → ℕ → Profile → Line → Type 0
+RowFinds sort l word row m =
+    LetsIn sort l row × (line_let_in sort (Some (row.purpose l)) ≡ m)
+    × (tells_by sort (Some (row.purpose l)) m word ≡ true)
+
+-- it only looked
+abbrev pub RowLooks : ℕ → Profile → Type 0
+RowLooks l row = LooksFirst (Some (row.purpose l)) l × (row.released ≡ false)
+
+-- and a thread that may hand its lock over, or bump, which does this next
+pub record RowOwesThen (sort : Sort) (l word : ℕ) (row : Profile) (o : Outcome) (next : Profile) (a : Act) : Type 0 where
+  pub since : (m : Line) → next.owes ≡ Some m → (next.doing.inside ≡ Some m) ⊎ (RowFinds sort l word row m × (o ≡ told.Step))
+  pub sees : (m : Line) → RowFinds sort l word row m → o ≡ told.Step → (RowLooks l next → a ≡ Enter (One (key_of l m))) → next.owes ≡ Some m
+
+or_none : (b : Bool) → (b || false) ≡ b
+or_none true = refl
+or_none false = refl
+
+-- a mutex has no second bit
+pub mutex_tells : (q : Option Purpose) (m : Line) (v : ℕ) → tells_by sorts.Mutex q m v ≡ tells_of sorts.Mutex m v
+mutex_tells None m v = refl
+mutex_tells (Some (Enters l x how)) m v = refl
+mutex_tells (Some (Converts l x y how)) m v = refl
+mutex_tells (Some (Releases l x false)) m v = by_right x m
+  where
+    by_right : (x : Want) (m : Line) → tells_by sorts.Mutex (Some (Releases l x false)) m v ≡ tells_of sorts.Mutex m v
+    by_right Exclusive Main = refl
+    by_right Exclusive Second = refl
+    by_right x m = refl
+mutex_tells (Some (Releases l x true)) m v = by_right x m
+  where
+    by_right : (x : Want) (m : Line) → tells_by sorts.Mutex (Some (Releases l x true)) m v ≡ tells_of sorts.Mutex m v
+    by_right Exclusive Main = or_none (parked_in sorts.Mutex v)
+    by_right Exclusive Second = refl
+    by_right x m = refl
+mutex_tells (Some (Bumps l x)) m v = by_right x m
+  where
+    by_right : (x : Want) (m : Line) → tells_by sorts.Mutex (Some (Bumps l x)) m v ≡ tells_of sorts.Mutex m v
+    by_right Exclusive Main = or_none (parked_in sorts.Mutex v)
+    by_right Exclusive Second = refl
+    by_right x m = refl
+
+-- who looks nowhere first owes since it saw waiters
+pub owes_then : {sort : Sort} {l word : ℕ} {row : Profile} {o : Outcome} {next : Profile} {a : Act}
+    → ((m : Line) → tells_by sort (Some (row.purpose l)) m word ≡ tells_of sort m word) → RowOwesNext sort l word row o next → RowOwesThen sort l word row o next a
+owes_then same k = record {
+  since = λ m h. elim (k.since m h) [ inl i ↦ inl i | inr s ↦ inr ((s.0.0, s.0.1, same m ∙ s.0.2), s.1) ];
+  sees = λ m s step looks. k.sees m (s.0, s.1, sym (same m) ∙ s.2) step;
+}
+
+-- whose time is up is then awake, inside the section of the line where it slept
+pub record IsLateNext (q : Place) (m : Line) : Type 0 where
+  pub inside : (profile q).doing.inside ≡ Some m
+  pub owes : (profile q).owes ≡ Some m
+  pub awake : act_of q ≢ Sleep
+
+-- what befalls a thread in a step of another
+abbrev pub Befalls : Reply → Type 0
+Befalls (TakenBy t) = Unit {0}
+Befalls (MovedTo key) = Unit {0}
+Befalls (HandedBy t alone) = Unit {0}
+Befalls (Woken n) = Unit {0}
+Befalls r = ⊥

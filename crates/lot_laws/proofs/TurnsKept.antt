@@ -1,0 +1,132 @@
+-- Each turn of a thread keeps every lock a site, and every thread in the line, the section and the hand that its place says.
+use Rattle.std.proofs.Common.{ℕ, Bool, true, false, Option, Some, None, if◌then◌else◌, ◌≡◌, ◌<◌, [], ◌∷◌, length, length-set, nat_lt, refl, sym, ◌∙◌, ap}
+use Rattle.std.proofs.lemmas.Bool.{ltb-true}
+use Rattle.lot_base.specs.declared.wants.Want.TheVariants.{Exclusive}
+use Rattle.lot_calls.specs.declared.calls.Call.{Call}
+use Rattle.lot_calls.specs.declared.calls.Call as calling
+use Rattle.lot_calls.specs.declared.calls.MutexCall.{MutexCall}
+use Rattle.lot_calls.specs.declared.calls.MutexCall.TheVariants as call
+use Rattle.lot_calls.specs.declared.calls.Step.{Step}
+use Rattle.lot_calls.specs.declared.calls.Turn.{Turn}
+use Rattle.lot_calls.specs.declared.calls.Turn as turn
+use Rattle.lot_calls.specs.Kinds.{has_call, is_fair}
+use Rattle.lot_steps.specs.declared.places.Place.{Place}
+use Rattle.lot_steps.specs.declared.places.Place.TheVariants.{Idle, Mutex, RwLock}
+use Rattle.lot_mutex.specs.declared.lock.Entry.{Entry}
+use Rattle.lot_mutex.specs.declared.lock.Entry.TheVariants as entries
+use Rattle.lot_mutex.specs.declared.lock.LockAt.{LockAt}
+use Rattle.lot_mutex.specs.declared.lock.LockAt.TheVariants as lock
+use Rattle.lot_mutex.specs.declared.places.MutexPlace.{MutexPlace}
+use Rattle.lot_mutex.specs.declared.places.MutexPlace.TheVariants.{Lock, TryLock, Unlock, UnlockFair, Bump, HandOff}
+use Rattle.lot_mutex.specs.MutexSteps.{mutex_first, mutex_right}
+use Rattle.lot_steps.specs.Steps.{is_idle, looking, late_key, key_in}
+use Rattle.abstract_locks.specs.Sites.{Claim, Has, Begin, HasClaim, idle}
+use Rattle.lot_machine.specs.Machine.{State, place_at, owners_at, kind_at, put, state_after_begin, can_begin, is_open_to, state_after_look, state_after_late_on, is_free_under, state_after_turn, can_turn, is_possible, after}
+use Rattle.lot_machine.specs.Fits.{IsShaped, PlaceFits}
+use Rattle.lot_laws.specs.Refinement.{lock_state, taken_at}
+use Rattle.lot_laws.specs.SitesOf.{is_mutex}
+use Rattle.lot_laws.specs.MutexDeeds.{mutex_doing, mutex_station, acts, begins}
+use Rattle.lot_laws.specs.Stations.{nowhere, station}
+use Rattle.lot_laws.specs.SitesOf.{AreCounted, IsSteady, Goes}
+use Rattle.lot_machine.proofs.Shape.{both, looking_shaped}
+use Rattle.lot_laws.proofs.KindsKept.{calls_mutex, calls_readers}
+use Rattle.lot_laws.proofs.Glue.{parts_at, same, thread_is}
+use Rattle.lot_laws.proofs.MutexTable.{mutex, own_doing, meets, others_same}
+use Rattle.lot_laws.proofs.StandsMoved.{mutex_rules}
+use Rattle.lot_laws.proofs.SitesKept.{mutex_at, goes_steady, place_goes}
+use Rattle.lot_laws.proofs.Looking.{looking_steady, looks_now}
+use Rattle.lot_laws.proofs.Closures.{nothing_closes}
+use Rattle.lot_laws.proofs.CountsPut.{looking_counted}
+use Rattle.lot_laws.proofs.GoneKept.{enters, gone_kept}
+use Rattle.lot_laws.proofs.RwLockKept.{rwlock_begins, rwlock_goes_late}
+use Rattle.lot_rwlock.specs.declared.places.Admission.{Admission}
+use Rattle.lot_rwlock_fair.specs.declared.places.RwLockCallPlace.{RwLockCallPlace}
+use Rattle.lot_rwlock_fair.specs.declared.places.RwLockCallPlace.TheVariants.{Plain, Bump as BumpCall}
+use Rattle.lot_rwlock_fair.specs.FairProfiles.{call_late_line}
+use Rattle.lot_base.specs.declared.keys.Line.{Line}
+
+pub idle_is : (p : Place) → is_idle p ≡ true → p ≡ Idle
+idle_is Idle h = refl
+idle_is (Mutex l at) h = absurd cc
+idle_is (RwLock l a at) h = absurd cc
+
+module _ (w : State) (t : ℕ) (steady : IsSteady w) (shape : IsShaped w) (there : t < length w.places) where
+  -- it begins, with the claim that the call needs
+  begin_kept : (l : ℕ) (at : MutexPlace) (c : Option Claim) → is_mutex (kind_at w l) ≡ true → place_at w t ≡ Idle → taken_at (Mutex l at) l ≡ None → mutex_doing at ≡ record idle { claims = c } → HasClaim (lock_state w l) t c → mutex_station at ≡ nowhere → Goes w (put w t (Mutex l at)) l (acts t (Begin c ∷ []))
+  begin_kept l at c of_mutex is none e has s = place_goes w t l steady (rw is tt) there mutex (mutex_rules (kind_at w l) of_mutex) (Mutex l at) refl of_mutex (Begin c ∷ []) (λ h. tt) (record {
+    site = meets mutex l (parts_at w l) (place_at w) t (Mutex l at) _ (rw is (sym none)) refl refl refl refl (own_doing l (Mutex l at) at refl ∙ e ∙ rw (same t, is) refl)
+        (λ u ne. others_same mutex (Begin c ∷ []) (mutex_at w l) t u (tt, tt) ne);
+    needed = (has, tt);
+  }) (s ∙ sym (ap station is))
+
+  -- each call of a mutex
+  calls_begin : (l : ℕ) (fair : Bool) (c : MutexCall) → is_mutex (kind_at w l) ≡ true → place_at w t ≡ Idle → mutex_right c t (owners_at w l) ≡ true → Goes w (put w t (Mutex l (mutex_first fair c))) l (acts t (begins (mutex_first fair c) ∷ []))
+  calls_begin l fair call.Lock of is right = begin_kept l _ None of is refl refl tt refl
+  calls_begin l fair call.LockTimed of is right = begin_kept l _ None of is refl refl tt refl
+  calls_begin l fair call.TryLock of is right = begin_kept l _ None of is refl refl tt refl
+  calls_begin l true call.Unlock of is right = begin_kept l _ (Some (Has Exclusive)) of is refl refl (thread_is t (owners_at w l).exclusive right) refl
+  calls_begin l false call.Unlock of is right = begin_kept l _ (Some (Has Exclusive)) of is refl refl (thread_is t (owners_at w l).exclusive right) refl
+  calls_begin l fair call.UnlockFair of is right = begin_kept l _ (Some (Has Exclusive)) of is refl refl (thread_is t (owners_at w l).exclusive right) refl
+  calls_begin l fair call.Bump of is right = begin_kept l _ (Some (Has Exclusive)) of is refl refl (thread_is t (owners_at w l).exclusive right) refl
+
+  begun_kept : (c : Call) → can_begin w t c ≡ true → IsSteady (state_after_begin w t c)
+  begun_kept (calling.TheVariants.Mutex l c) can =
+      let parts = both (is_idle (place_at w t)) (is_open_to w t (calling.TheVariants.Mutex l c)) can in
+      let open_to = both (nat_lt l (length w.locks)) _ parts.1 in
+      let right = both (has_call (kind_at w l) (calling.TheVariants.Mutex l c)) _ open_to.1 in
+      goes_steady w _ l _ steady (calls_begin l (is_fair (kind_at w l)) c (calls_mutex (kind_at w l) l c right.0) (idle_is (place_at w t) parts.0) right.1)
+  begun_kept (calling.TheVariants.RwLock l c) can =
+      let parts = both (is_idle (place_at w t)) (is_open_to w t (calling.TheVariants.RwLock l c)) can in
+      let open_to = both (nat_lt l (length w.locks)) _ parts.1 in
+      let right = both (has_call (kind_at w l) (calling.TheVariants.RwLock l c)) _ open_to.1 in
+      goes_steady w _ l _ steady (rwlock_begins w t l c steady there (idle_is (place_at w t) parts.0) (calls_readers (kind_at w l) l c right.0) right.1)
+
+  -- it looks at the word once more
+  spun_kept : AreCounted w → (o : Option Place) → looking (place_at w t) ≡ o → IsSteady (state_after_look w t o)
+  spun_kept counted None is = steady
+  spun_kept counted (Some q) is = let shaped = looking_shaped w t q shape is in
+      gone_kept (put w t q) t (looking_steady w t there q is steady) shaped (rw (length-set w.places t q) there) (looking_counted w t there q is counted) (place_at (put w t q) t) refl (shaped.places t) (looks_now w t there q is)
+
+  -- its time is up, and it goes into the section of its line
+  asleep_late : (l : ℕ) (e : Entry) (r : Bool) → place_at w t ≡ Mutex l (Lock e r lock.Asleep) → l < length w.locks → is_free_under w (late_key (Mutex l (Lock e r lock.Asleep))) ≡ true → IsSteady (state_after_late_on w t (late_key (Mutex l (Lock e r lock.Asleep))))
+  asleep_late l entries.LockTimed r is lt can = rw is (goes_steady w _ l _ steady (enters w t steady shape there l (Lock entries.LockTimed r lock.Asleep) (Lock entries.LockTimed r lock.Remove) is lt can refl refl refl refl refl refl))
+  asleep_late l entries.Lock r is lt can = absurd cc
+  asleep_late l entries.Bump r is lt can = absurd cc
+
+  lock_late : (l : ℕ) (e : Entry) (r : Bool) (a : LockAt) → place_at w t ≡ Mutex l (Lock e r a) → l < length w.locks → is_free_under w (late_key (Mutex l (Lock e r a))) ≡ true → IsSteady (state_after_late_on w t (late_key (Mutex l (Lock e r a))))
+  lock_late l e r lock.Asleep is lt can = asleep_late l e r is lt can
+  lock_late l e r lock.First is lt can = absurd cc
+  lock_late l e r a is lt can = absurd cc
+
+  rwlock_late : (l : ℕ) (a : Admission) (c : RwLockCallPlace) → place_at w t ≡ RwLock l a c → l < length w.locks → (m : Option Line) → call_late_line c ≡ m → is_free_under w (key_in (Some l) m) ≡ true → IsSteady (state_after_late_on w t (key_in (Some l) m))
+  rwlock_late l a c is lt None e can = absurd cc
+  rwlock_late l a c is lt (Some m) e can = goes_steady w _ l _ steady (rwlock_goes_late w t l a c steady shape there lt is m e can)
+
+  late_kept : (p : Place) → place_at w t ≡ p → PlaceFits (length w.locks) p → is_free_under w (late_key p) ≡ true → IsSteady (state_after_late_on w t (late_key p))
+  late_kept (Mutex l (Lock e r a)) is fits can = lock_late l e r a is fits.0 can
+  late_kept (Mutex l TryLock) is fits can = absurd cc
+  late_kept (Mutex l (Unlock a)) is fits can = absurd cc
+  late_kept (Mutex l UnlockFair) is fits can = absurd cc
+  late_kept (Mutex l Bump) is fits can = absurd cc
+  late_kept (Mutex l (HandOff bumps a)) is fits can = absurd cc
+  late_kept (RwLock l a (Plain p)) is fits can = rwlock_late l a (Plain p) is fits (call_late_line (Plain p)) refl can
+  late_kept (RwLock l a (BumpCall p)) is fits can = rwlock_late l a (BumpCall p) is fits (call_late_line (BumpCall p)) refl can
+  late_kept (RwLock l a c) is fits can = absurd cc
+  late_kept Idle is fits can = absurd cc
+
+  turned_kept : AreCounted w → (x : Turn) → can_turn w t x ≡ true → IsSteady (state_after_turn w t x)
+  turned_kept counted (turn.TheVariants.Begin c) can = begun_kept c can
+  turned_kept counted turn.TheVariants.Go can = gone_kept w t steady shape there counted (place_at w t) refl (shape.places t) can
+  turned_kept counted turn.TheVariants.Spin can = spun_kept counted (looking (place_at w t)) refl
+  turned_kept counted turn.TheVariants.Late can = late_kept (place_at w t) refl (shape.places t) can
+  turned_kept counted turn.TheVariants.Ok can = absurd (nothing_closes w t true can)
+  turned_kept counted turn.TheVariants.Err can = absurd (nothing_closes w t false can)
+
+-- a step keeps what holds between steps
+pub after_steady : (w : State) (s : Step) → IsShaped w → IsSteady w → AreCounted w → IsSteady (after w s)
+after_steady w s shape steady counted = either (is_possible w s) refl
+  where
+    either : (b : Bool) → is_possible w s ≡ b → IsSteady (if b then state_after_turn w s.thread s.turn else w)
+    either true can = let parts = both (nat_lt s.thread (length w.places)) (can_turn w s.thread s.turn) can in
+        turned_kept w s.thread steady shape (ltb-true s.thread (length w.places) parts.0) counted s.turn parts.1
+    either false can = steady

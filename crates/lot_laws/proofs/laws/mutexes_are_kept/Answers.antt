@@ -1,0 +1,5 @@
+use Rattle.lot_laws.proofs.MutexPromises.{mutexes_are_kept}
+use Rattle.lot_laws.proofs.laws.mutexes_are_kept.Goals as goal
+
+pub returns : goal.returns
+returns c = mutexes_are_kept

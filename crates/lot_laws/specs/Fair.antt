@@ -1,0 +1,67 @@
+-- What a fair release does. Of a mutex it lets it go only where nobody waits for it, and else the first waiter owns it in its place; of a lock that is
+-- shared all whom it takes have what they waited for in that one step.
+use Rattle.std.specs.Prelude.{ℕ, true, false, Option, Some, None, MatchOption, ◌≡◌, ◌≢◌, ◌⊎◌, []}
+use Rattle.lot_base.specs.declared.wants.Want.{Want}
+use Rattle.lot_base.specs.declared.wants.Want.TheVariants.{Exclusive, Shared}
+use Rattle.lot_mutex.specs.MutexSteps.{is_locked, is_parked}
+use Rattle.lot_machine.specs.Machine.{State, kind_at, word_at}
+use Rattle.lot_rwlock_fair.specs.FairGives.{IsToGive, GivesToAll, LetsGo as LetsItGo, WakesThem}
+use Rattle.lot_laws.specs.SitesOf.{is_mutex, rules_in}
+use Rattle.abstract_locks.specs.Locks.{LockState, Rules, Owns, IsTaken, HasTakenNobody, first_thread}
+use Rattle.abstract_locks.specs.Purposes.{Purpose, Releases, Bumps, lock_for}
+use Rattle.abstract_locks.specs.Runs.{CallState}
+use Rattle.abstract_locks.specs.Sites.{has_readers}
+use Rattle.lot_laws.specs.Refinement.{lock_state, call_at}
+
+-- unlock_fair, the unlock of a fair mutex, or a bump
+abbrev pub IsFairRelease : Option Purpose → ℕ → Type 0
+IsFairRelease (Some (Releases l Exclusive fair)) k = (l ≡ k) × (fair ≡ true)
+IsFairRelease (Some (Bumps l Exclusive)) k = l ≡ k
+IsFairRelease purpose k = ⊥
+
+-- an owner that releases its mutex fairly
+abbrev pub ReleasesFairly : State → ℕ → ℕ → Type 0
+ReleasesFairly w t l =
+    IsFairRelease (call_at w t).purpose l × Owns (lock_state w l) t Exclusive × (is_mutex (kind_at w l) ≡ true)
+
+-- it owns the mutex still
+abbrev pub OwnsOn : State → ℕ → ℕ → Type 0
+OwnsOn v t l = Owns (lock_state v l) t Exclusive × (is_locked (word_at v l) ≡ true)
+
+-- the waiter that it has taken owns the mutex in its place, and the word stays locked
+abbrev pub HandsOver : State → State → ℕ → ℕ → Type 0
+HandsOver w v t l =
+    (u : ℕ) × IsTaken (lock_state w l) t u Exclusive × Owns (lock_state v l) u Exclusive
+    × (is_locked (word_at v l) ≡ true)
+
+-- nobody owns the mutex then: it had taken nobody, and the parked bit was clear or the queue empty
+abbrev pub LetsGo : State → State → ℕ → ℕ → Type 0
+LetsGo w v t l =
+    ((lock_state v l).exclusive ≡ None) × HasTakenNobody (lock_state w l) t
+    × ((is_parked (word_at w l) ≡ false) ⊎ ((lock_state w l).queue ≡ []))
+
+-- ---------------------------------------------------------------- of a lock that is shared
+
+-- the call is to give this right to the lock up fairly, and has it still
+abbrev pub IsToGiveAt : CallState → ℕ → Want → Type 0
+IsToGiveAt c l x = MatchOption c.purpose ⊥ (λ p. (lock_for p ≡ l) × IsToGive p c.released x)
+
+-- an owner that gives more than a shared right up fairly
+abbrev pub GivesUpFairly : State → ℕ → ℕ → Want → Type 0
+GivesUpFairly w t l x =
+    IsToGiveAt (call_at w t) l x × (x ≢ Shared) × Owns (lock_state w l) t x × (has_readers (rules_in w l).sort ≡ true)
+
+-- from s to s2 it owns still; or all whom it has taken have what they waited for; or it had taken nobody, and the word told of nobody; or they would
+-- pass the limit, and it is to wake them
+abbrev pub ComesTo : Rules → (s s2 : LockState) → (word t : ℕ) → Want → Type 0
+ComesTo r s s2 word t x =
+    Owns s2 t x ⊎ (GivesToAll s s2 t ⊎ (LetsItGo s word t ⊎ WakesThem r s s2 t x))
+
+-- a step of any thread, from w to v
+pub record IsFair (w v : State) : Type 0 where
+  pub gives : (t l : ℕ) → ReleasesFairly w t l → OwnsOn v t l ⊎ (HandsOver w v t l ⊎ LetsGo w v t l)
+  -- whom it has taken was the first of the queue
+  pub takes : (t l u : ℕ) → ReleasesFairly w t l → IsTaken (lock_state v l) t u Exclusive
+      → IsTaken (lock_state w l) t u Exclusive ⊎ (first_thread (lock_state w l).queue ≡ Some u)
+  pub shared : (t l : ℕ) (x : Want) → GivesUpFairly w t l x
+      → ComesTo (rules_in w l) (lock_state w l) (lock_state v l) (word_at w l) t x

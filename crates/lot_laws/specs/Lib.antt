@@ -1,0 +1,11 @@
+pub mod Refinement
+pub mod Promises
+pub mod MutexPromises
+pub mod Fair
+pub mod Owing
+pub mod WorldRuns
+pub mod Solo
+pub mod Stations
+pub mod MutexDeeds
+pub mod SitesOf
+pub mod Laws

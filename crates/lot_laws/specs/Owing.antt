@@ -1,0 +1,83 @@
+-- Who owes a wake on a line, by what has happened: from the step that saw waiters, or from entering the section, until the section is left.
+use Rattle.std.specs.Prelude.{ℕ, Bool, true, false, if◌then◌else◌, ◌==◌, ◌&&◌, ◌||◌, Option, Some, ◌≡◌, ◌≢◌, ◌⊎◌, ◌↔◌}
+use Rattle.lot_base.specs.declared.wants.Want.TheVariants.{Exclusive, Shared}
+use Rattle.lot_calls.specs.declared.outcomes.Outcome.{Outcome}
+use Rattle.lot_calls.specs.declared.outcomes.Outcome.TheVariants as told
+use Rattle.lot_base.specs.declared.keys.Keys.TheVariants.{One}
+use Rattle.lot_acts.specs.declared.acts.Act.TheVariants.{Enter}
+use Rattle.lot_steps.specs.Steps.{act_of, line_owed}
+use Rattle.lot_machine.specs.Machine.{State, place_at, word_at, section_at}
+use Rattle.lot_laws.specs.Refinement.{call_at}
+use Rattle.lot_laws.specs.SitesOf.{rules_in, key_of}
+use Rattle.abstract_locks.specs.Codes.{parked_in, aside_in, count_in}
+use Rattle.abstract_locks.specs.Locks.{Sort}
+use Rattle.abstract_locks.specs.Sites.{Line, Main, Second, has_readers}
+use Rattle.abstract_locks.specs.Purposes.{Purpose, Releases, Converts, Bumps, IsReleasing}
+
+abbrev pub sort_at : State → ℕ → Sort
+sort_at w l = (rules_in w l).sort
+
+-- a thread is shown to owe a wake on a line of a lock
+abbrev pub Owes : State → ℕ → ℕ → Line → Type 0
+Owes w t l m = line_owed (place_at w t) l ≡ Some m
+
+-- it is inside the section of the line
+abbrev pub IsInside : State → ℕ → ℕ → Line → Type 0
+IsInside w t l m = section_at w (key_of l m) ≡ Some t
+
+-- its call releases the lock
+abbrev pub ReleasesLock : State → ℕ → ℕ → Type 0
+ReleasesLock w t l = IsReleasing (call_at w t).purpose (call_at w t).released l
+
+-- a call that turns its right into a lesser one
+abbrev pub IsDowngrade : Option Purpose → ℕ → Type 0
+IsDowngrade (Some (Converts k x y how)) l = (k ≡ l) × (y ≢ Exclusive)
+IsDowngrade purpose l = ⊥
+
+-- it has given up to wait for the lock, and is inside none of its sections
+abbrev pub HasGivenUp : State → ℕ → ℕ → Type 0
+HasGivenUp w t l = ((call_at w t).gave_up ≡ Some l) × ((m : Line) → IsInside w t l m → ⊥)
+
+-- its call lets others in: it releases the lock, or, where that is shared, turns its right into a lesser one or has given up
+abbrev pub LetsOthersIn : State → ℕ → ℕ → Type 0
+LetsOthersIn w t l =
+    ReleasesLock w t l
+    ⊎ ((has_readers (sort_at w l) ≡ true) × (IsDowngrade (call_at w t).purpose l ⊎ HasGivenUp w t l))
+
+-- the line that it lets in: who shares a lock looks for the writer aside, everybody else to the main line
+abbrev pub line_let_in : Sort → Option Purpose → Line
+line_let_in sort (Some (Releases l Shared fair)) = if has_readers sort then Second else Main
+line_let_in sort (Some (Bumps l Shared)) = if has_readers sort then Second else Main
+line_let_in sort purpose = Main
+
+-- whether a word says that somebody may wait in a line: its parked bit is set, and for the second line one reader is left
+abbrev pub tells_of : Sort → Line → ℕ → Bool
+tells_of sort Main v = parked_in sort v
+tells_of sort Second v = aside_in sort v && (count_in v == 1)
+
+-- an owner that is to hand its lock over leaves it at once only where its word has no other bit
+abbrev pub tells_by : Sort → Option Purpose → Line → ℕ → Bool
+tells_by sort (Some (Releases l Exclusive true)) Main v = parked_in sort v || aside_in sort v
+tells_by sort (Some (Bumps l Exclusive)) Main v = parked_in sort v || aside_in sort v
+tells_by sort purpose m v = tells_of sort m v
+
+-- a bump, or a fair release of an upgradable right, looks at the word before it gives its right up
+abbrev pub LooksFirst : Option Purpose → ℕ → Type 0
+LooksFirst (Some (Releases k x fair)) l = (k ≡ l) × (fair ≡ true) × (x ≢ Exclusive)
+LooksFirst (Some (Bumps k x)) l = (k ≡ l) × (x ≢ Exclusive)
+LooksFirst purpose l = ⊥
+
+abbrev pub OnlyLooks : State → ℕ → ℕ → Type 0
+OnlyLooks w t l = LooksFirst (call_at w t).purpose l × ((call_at w t).released ≡ false)
+
+-- a call that lets others in finds a word that says that somebody may wait, and goes on; where it only looked, into the section of the line
+abbrev pub SeesWaiters : State → ℕ → ℕ → Line → Outcome → State → Type 0
+SeesWaiters w t l m o v =
+    LetsOthersIn w t l × (line_let_in (sort_at w l) (call_at w t).purpose ≡ m)
+    × (tells_by (sort_at w l) (call_at w t).purpose m (word_at w l) ≡ true) × (o ≡ told.Step)
+    × (OnlyLooks v t l → act_of (place_at v t) ≡ Enter (One (key_of l m)))
+
+-- in a step from w to v its thread begins and ends to owe by what it sees and where it is, and no other thread does
+pub record OwesSince (w : State) (t : ℕ) (o : Outcome) (v : State) : Type 0 where
+  pub own : (l : ℕ) (m : Line) → o ≢ told.NotNow → Owes v t l m ↔ (IsInside v t l m ⊎ SeesWaiters w t l m o v)
+  pub others : (u l : ℕ) → u ≢ t → line_owed (place_at v u) l ≡ line_owed (place_at w u) l

@@ -1,0 +1,156 @@
+-- What is promised of every state, before and after each step, under every schedule. Each clause is told by the sort of lock, so that it
+-- stays as it is for sorts that have no call yet.
+use Rattle.std.specs.Prelude.{ℕ, Bool, false, true, None, Option, ◌≡◌, ◌≢◌, ◌<◌, ◌≤◌, ◌⊎◌, ◌↔◌, Some, ◌*◌, ◌+◌}
+use Rattle.lot_base.specs.declared.keys.Keys.TheVariants.{One}
+use Rattle.lot_base.specs.declared.wants.Want.{Want}
+use Rattle.lot_base.specs.declared.wants.Want.TheVariants.{Exclusive, Upgradable, Shared}
+use Rattle.lot_acts.specs.declared.acts.Act.TheVariants.{Enter, Leave, Sleep}
+use Rattle.lot_acts.specs.declared.acts.Wakes as wakes
+use Rattle.lot_base.specs.declared.notes.Note.TheVariants.{HandOff}
+use Rattle.lot_steps.specs.Steps.{act_of, taker, retries_on}
+use Rattle.lot_machine.specs.Machine.{State, place_at, word_at, filled_at, section_at}
+use Rattle.abstract_locks.specs.Locks.{LockState, Sort, Recursive, Semaphore, Rules, Knows, IsSomePending, times, standing, readers, count, Owns}
+use Rattle.abstract_locks.specs.Codes.{word_by, parked_in, aside_in}
+use Rattle.abstract_locks.specs.Runs.{AreLockStates}
+use Rattle.abstract_locks.specs.Sites.{Line, Main, Second, IsOpen, counts_some, has_readers}
+use Rattle.abstract_locks.specs.Purposes.{Purpose, Enters, Releases, Converts, Bumps, MayWait}
+use Rattle.lot_laws.specs.Refinement.{lock_state, locks_of, call_at}
+use Rattle.lot_laws.specs.Stations.{doing_on}
+use Rattle.lot_laws.specs.SitesOf.{rules_in, key_of}
+use Rattle.lot_laws.specs.Owing.{Owes, IsInside, LetsOthersIn, sort_at}
+
+-- a thread stands in the queue of a lock
+abbrev pub WaitsFor : State → ℕ → ℕ → Type 0
+WaitsFor w t l = 1 ≤ times t (lock_state w l).queue
+
+-- ---------------------------------------------------------------- words
+
+abbrev pub has_parked_bit : State → ℕ → Bool
+has_parked_bit w l = parked_in (sort_at w l) (word_at w l)
+
+abbrev pub has_aside_bit : State → ℕ → Bool
+has_aside_bit w l = aside_in (sort_at w l) (word_at w l)
+
+-- the word is the one of the lock's owners, beside its parked bits
+abbrev pub IsCoded : State → ℕ → Type 0
+IsCoded w l =
+    word_at w l ≡ word_by (sort_at w l) (rules_in w l).limit (lock_state w l) (has_aside_bit w l) (has_parked_bit w l)
+
+-- the thread has brought waiters of a condition variable to the lock, and is about to set its parked bit; no such call is built
+abbrev pub IsAboutToMark : State → ℕ → ℕ → Type 0
+IsAboutToMark w t l = (doing_on (place_at w t) l).sets ≡ true
+
+-- ---------------------------------------------------------------- debts
+
+-- a bump of a shared right, which wakes the writer aside behind its release
+abbrev pub WakesAside : Option Purpose → ℕ → Line → Type 0
+WakesAside purpose l Main = ⊥
+WakesAside (Some (Bumps k Shared)) l Second = k ≡ l
+WakesAside purpose l Second = ⊥
+
+-- a call that lets others in, and enters the section of the line next
+abbrev pub GoesToWake : State → ℕ → ℕ → Line → Type 0
+GoesToWake w t l m =
+    (act_of (place_at w t) ≡ Enter (One (key_of l m))) × (LetsOthersIn w t l ⊎ WakesAside (call_at w t).purpose l m)
+
+-- a call that wakes whom it takes of the main line: a release that hands nothing over, a conversion that lets others in, or a writer
+-- beside readers that has given up
+abbrev pub WakesWaiters : Sort → Option Purpose → Option ℕ → ℕ → Type 0
+WakesWaiters sort (Some (Releases k x fair)) gave_up l = (k ≡ l) × ((fair ≡ false) ⊎ (x ≡ Upgradable))
+WakesWaiters sort (Some (Converts k x y how)) gave_up l = (k ≡ l) × ((y ≢ Exclusive) ⊎ ((gave_up ≡ Some l) × (has_readers sort ≡ true)))
+WakesWaiters sort (Some (Enters k x how)) gave_up l = (k ≡ l) × (gave_up ≡ Some l) × (has_readers sort ≡ true)
+WakesWaiters sort (Some (Bumps k x)) gave_up l = (k ≡ l) × (x ≢ Exclusive)
+WakesWaiters sort None gave_up l = ⊥
+
+-- a call is for rights that its lock knows
+abbrev pub KnowsRights : (ℕ → Sort) → Option Purpose → Type 0
+KnowsRights sort (Some (Enters l x how)) = Knows (sort l) x
+KnowsRights sort (Some (Releases l x fair)) = Knows (sort l) x
+KnowsRights sort (Some (Converts l x y how)) = Knows (sort l) x × Knows (sort l) y
+KnowsRights sort (Some (Bumps l x)) = Knows (sort l) x
+KnowsRights sort None = Unit {0}
+
+-- what a call is to own in the end
+abbrev pub want_of : Option Purpose → Option Want
+want_of (Some (Enters l x how)) = Some x
+want_of (Some (Converts l x y how)) = Some y
+want_of (Some (Bumps l x)) = Some x
+want_of purpose = None
+
+-- it owes a wake on the main line, and its call wakes whom it takes; or it was woken, is about to try again, and wants what passes the
+-- turn on (of a mutex anything, of a reader-writer lock more than to share)
+abbrev pub IsDebtorOf : State → ℕ → ℕ → Line → Type 0
+IsDebtorOf w t l Main =
+    (Owes w t l Main × WakesWaiters (sort_at w l) (call_at w t).purpose (call_at w t).gave_up l)
+    ⊎ (((call_at w t).retries ≡ Some l) × (counts_some (sort_at w l) (want_of (call_at w t).purpose) ≡ true))
+IsDebtorOf w t l Second = Owes w t l Second
+
+-- some thread, which is awake, stands in no queue and isn't taken, is such a debtor
+pub record IsLookedAfter (w : State) (l : ℕ) (m : Line) : Type 0 where
+  pub debtor : ℕ
+  pub debt : IsDebtorOf w debtor l m
+  pub awake : act_of (place_at w debtor) ≢ Sleep
+  pub stands_nowhere : (k : ℕ) → standing debtor (lock_state w k) ≡ 0
+
+-- nobody bars the way of who stands first in the main line: nobody owns the mutex, no writer is there, or a permit is free
+abbrev pub IsOpenNow : Rules → LockState → Type 0
+IsOpenNow r s = IsOpen r.sort s ⊎ ((r.sort ≡ Semaphore) × (readers s < r.limit))
+
+-- a lock that is shared was never at its limit
+abbrev pub WasNeverFull : State → ℕ → Type 0
+WasNeverFull w l = has_readers (sort_at w l) ≡ true → filled_at w l ≡ false
+
+pub record NobodyForgotten (w : State) : Type 0 where
+  -- whoever waits for a lock whose way nobody bars is looked after
+  pub main : (t l : ℕ) → WaitsFor w t l → IsOpenNow (rules_in w l) (lock_state w l) → WasNeverFull w l
+      → IsLookedAfter w l Main
+  -- and so is a writer aside of whom nobody shares any more
+  pub second : (l : ℕ) → (lock_state w l).aside ≢ None → readers (lock_state w l) ≡ 0 → IsLookedAfter w l Second
+
+-- a thread sleeps, and stands in no queue, nor was it taken from one
+abbrev pub IsAsleepNowhere : State → ℕ → Type 0
+IsAsleepNowhere w t = (act_of (place_at w t) ≡ Sleep) × ((l : ℕ) → standing t (lock_state w l) ≡ 0)
+
+-- it owns what it waited for; a writer of a lock that is shared may be pending
+abbrev pub HasOrPends : Sort → LockState → ℕ → Want → Type 0
+HasOrPends sort s t x = Owns s t x ⊎ ((x ≡ Exclusive) × (has_readers sort ≡ true) × IsSomePending s.pending t)
+
+-- it has what it waited for, and the thread inside the section has it in its hand, and wakes all whom it has there as it leaves
+pub record IsHandedOver (w : State) (t : ℕ) : Type 0 where
+  pub lock : ℕ
+  pub by : ℕ
+  pub want : Want
+  pub waited : MayWait (call_at w t).purpose lock × (want_of (call_at w t).purpose ≡ Some want)
+  pub owner : HasOrPends (sort_at w lock) (lock_state w lock) t want
+  pub inside : section_at w (2 * lock) ≡ Some by
+  pub in_hand : taker (place_at w t) ≡ Some by
+  pub wakes : act_of (place_at w by) ≡ Leave (One (2 * lock)) (wakes.TheVariants.All HandOff)
+
+-- as many share as the limit allows; on a recursive lock one more, where an upgrade gave up beside a reader that came back
+abbrev pub IsWithinLimit : Rules → LockState → Type 0
+IsWithinLimit r s = (count s ≤ r.limit) ⊎ ((r.sort ≡ Recursive) × (count s ≡ r.limit + 1))
+
+pub record IsKept (w : State) : Type 0 where
+  -- owners exclude each other, and a thread stands at most once in the queue of a lock, aside of it or taken from it
+  pub state : AreLockStates (locks_of w)
+  -- and at one lock at most
+  pub one_place : (t l k : ℕ) → 1 ≤ standing t (lock_state w l) → 1 ≤ standing t (lock_state w k) → l ≡ k
+  -- in a call that waits for it
+  pub waiting : (t l : ℕ) → 1 ≤ standing t (lock_state w l) → MayWait (call_at w t).purpose l
+  -- and each call is for rights that its lock knows
+  pub known : (t : ℕ) → KnowsRights (sort_at w) (call_at w t).purpose
+  pub coded : (l : ℕ) → IsCoded w l
+  pub limited : (l : ℕ) → has_readers (sort_at w l) ≡ true → IsWithinLimit (rules_in w l) (lock_state w l)
+  pub nobody_forgotten : NobodyForgotten w
+  -- who is shown to owe a wake on a line is inside its section, or lets others in and is on its way into it
+  pub owing : (t l : ℕ) (m : Line) → Owes w t l m ↔ (IsInside w t l m ⊎ GoesToWake w t l m)
+  -- and only a lock that is shared has a second line
+  pub second_line : (t l : ℕ) → Owes w t l Second → has_readers (sort_at w l) ≡ true
+  -- who is shown to try a lock again was woken on it, and has got neither the lock nor a place in a queue since
+  pub retrying : (t l : ℕ) → retries_on (place_at w t) l ≡ true ↔ (call_at w t).retries ≡ Some l
+  -- who is asleep but stands nowhere was handed the lock that it waited for, by a thread that is inside the section and wakes it
+  pub handing : (t : ℕ) → IsAsleepNowhere w t → IsHandedOver w t
+  -- a waiter implies the parked bit, or somebody who has just brought it and is about to set the bit
+  pub parked : (t l : ℕ) → WaitsFor w t l → (has_parked_bit w l ≡ true) ⊎ ((u : ℕ) × IsAboutToMark w u l)
+  -- and a writer aside implies its own
+  pub aside_parked : (l : ℕ) → (lock_state w l).aside ≢ None → has_aside_bit w l ≡ true

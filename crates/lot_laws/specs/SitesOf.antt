@@ -1,0 +1,173 @@
+-- The locks of a world, with what each thread does about each.
+use Rattle.std.specs.Prelude.{ℕ, Bool, true, false, Option, Some, ◌≡◌, ◌≢◌, ◌<◌, ◌≤◌, ◌-◌, ◌^◌, ◌↔◌, List, [], ◌∷◌, length}
+use Rattle.lot_base.specs.declared.wants.Waiter.{Waiter}
+pub use Rattle.lot_base.specs.Keys.{key_of}
+use Rattle.lot_base.specs.Lines.{times}
+use Rattle.lot_steps.specs.declared.places.Place.{Place}
+use Rattle.lot_steps.specs.declared.places.Place.TheVariants.{Idle, Mutex as OfMutex, RwLock as OfRwLock}
+use Rattle.lot_base.specs.declared.wants.Want.{Want}
+use Rattle.lot_base.specs.declared.wants.Want.TheVariants.{Upgradable}
+use Rattle.abstract_locks.specs.Locks.{Rules, Knows}
+use Rattle.abstract_locks.specs.Sites.{Line, Main, Second, Site, IsSite, has_readers, after_deed, Needed}
+use Rattle.abstract_locks.specs.Codes.{code, parked_in, aside_in, HasLimit}
+use Rattle.abstract_locks.specs.Purposes.{rules_of}
+use Rattle.lot_machine.specs.Machine.{State, held, place_at, word_at, shares_at, sharers, successor_from, want_of_successor, wants_more_in_hand, filled_at, kind_at, queue_at, section_at}
+use Rattle.lot_machine.specs.Fits.{IsShaped}
+use Rattle.lot_laws.specs.Refinement.{lock_state}
+use Rattle.lot_calls.specs.declared.kinds.Kind.{Kind}
+use Rattle.lot_calls.specs.declared.kinds.Kind as kind
+use Rattle.lot_rwlock.specs.declared.places.Admission.{Admission}
+use Rattle.lot_rwlock.specs.RwLockDeeds.{Admits}
+use Rattle.lot_rwlock_fair.specs.declared.places.RwLockCallPlace.{RwLockCallPlace}
+use Rattle.lot_rwlock_fair.specs.declared.hand_over.Taken.{Taken as Counted}
+use Rattle.lot_rwlock_fair.specs.FairCalls.{CallStands, in_hand_of}
+use Rattle.lot_laws.specs.MutexDeeds.{Act}
+use Rattle.lot_laws.specs.Stations.{Hand, hand, station_at, doing_on}
+
+abbrev pub rules_in : State → ℕ → Rules
+rules_in w l = rules_of (kind_at w l)
+
+abbrev pub site_of : State → ℕ → Site
+site_of w l = record {
+  lock = lock_state w l;
+  parked = parked_in (rules_in w l).sort (word_at w l);
+  aside_parked = aside_in (rules_in w l).sort (word_at w l);
+  filled = filled_at w l;
+  doing = λ u. doing_on (place_at w u) l;
+}
+
+abbrev pub after_acts : Rules → List Act → Site → Site
+after_acts r [] s = s
+after_acts r (a ∷ more) s = after_acts r more (after_deed r a.deed s a.by)
+
+-- each deed may be done where it is
+abbrev pub ActsNeeded : Rules → List Act → Site → Type 0
+ActsNeeded r [] s = Unit {0}
+ActsNeeded r (a ∷ more) s = Needed r a.deed s a.by × ActsNeeded r more (after_deed r a.deed s a.by)
+
+-- a number of readers that a word can count, and that all threads may be
+abbrev pub HasRoom : ℕ → Rules → Type 0
+HasRoom threads r = (1 ≤ r.limit) × (r.limit < 2 ^ 60 - 1) × (threads ≤ r.limit)
+
+-- each lock is a site, and its word says so
+pub record AreSites (w : State) : Type 0 where
+  pub site : (l : ℕ) → IsSite (rules_in w l) (site_of w l)
+  pub word : (l : ℕ) → word_at w l ≡ code (rules_in w l) (site_of w l)
+  -- a lock that nobody shares is never filled
+  pub unfilled : (l : ℕ) → has_readers (rules_in w l).sort ≡ false → filled_at w l ≡ false
+  -- as many readers as the limit lets in, or one more
+  pub limits : (l : ℕ) → has_readers (rules_in w l).sort ≡ true
+      → HasRoom (length w.places) (rules_in w l) × HasLimit (rules_in w l) (lock_state w l)
+
+-- ---------------------------------------------------------------- what the machine keeps beside its locks' being sites
+
+-- how often a thread stands in a line
+abbrev pub stood_in : Option Line → Line → ℕ
+stood_in (Some Main) Main = 1
+stood_in (Some Second) Second = 1
+stood_in line m = 0
+
+-- a section is held by the thread inside it
+abbrev pub Sections : (ℕ → Place) → (ℕ → Option ℕ) → Type 0
+Sections places section = (t l : ℕ) (m : Line) → (station_at (places t) l).inside ≡ Some m ↔ section (key_of l m) ≡ Some t
+
+-- a thread stands in the line that its place says, and once
+abbrev pub Lines : (ℕ → Place) → (ℕ → List Waiter) → Type 0
+Lines places queue = (t l : ℕ) (m : Line) → times t (queue (key_of l m)) ≡ stood_in (station_at (places t) l).stands m
+
+-- each who stands in the line does so under its key, and wants what its place says
+abbrev pub AreWaiting : (ℕ → Place) → ℕ → Line → List Waiter → Type 0
+AreWaiting places l m [] = Unit {0}
+AreWaiting places l m (x ∷ q) =
+    ((x.key ≡ key_of l m) × ((station_at (places x.thread) l).waits ≡ Some x.want)) × AreWaiting places l m q
+
+abbrev pub Waits : (ℕ → Place) → (ℕ → List Waiter) → Type 0
+Waits places queue = (l : ℕ) (m : Line) → AreWaiting places l m (queue (key_of l m))
+
+abbrev pub carried_at : Place → ℕ → Option Bool
+carried_at p l = (station_at p l).carries
+
+abbrev pub hand_at : Place → ℕ → Option Hand
+hand_at p l = (station_at p l).hand
+
+-- at some locks a thread has one in hand at a time
+pub record Hands (one : ℕ → Type 0) (p : ℕ → Place) : Type 0 where
+  -- who has somebody in hand, by its place, has one
+  pub carried : (t l : ℕ) (b : Bool) → carried_at (p t) l ≡ Some b → (u : ℕ) × (hand_at (p u) l ≡ hand t b)
+  -- and there no second
+  pub alone : (t l u v : ℕ) (b c : Bool) → one l → hand_at (p u) l ≡ hand t b → hand_at (p v) l ≡ hand t c → v ≡ u
+  -- who is in the hand of a thread, is so by that one's place
+  pub taken : (t u l : ℕ) (b : Bool) → hand_at (p u) l ≡ hand t b → carried_at (p t) l ≡ Some b
+
+-- only the waiters of a reader-writer lock are taken many at a time
+abbrev pub TakesOne : State → ℕ → Type 0
+TakesOne w l = Knows (rules_in w l).sort Upgradable → ⊥
+
+abbrev pub is_mutex : Kind → Bool
+is_mutex kind.TheVariants.Mutex = true
+is_mutex kind.TheVariants.Fair = true
+is_mutex k = false
+
+-- a call is of a lock of its sort, and stands where it may
+abbrev pub FitsItsLock : State → Place → Type 0
+FitsItsLock w Idle = Unit {0}
+FitsItsLock w (OfMutex l at) = is_mutex (kind_at w l) ≡ true
+FitsItsLock w (OfRwLock l a c) = Admits (rules_in w l) a × CallStands a c
+
+pub record Stands (w : State) : Type 0 where
+  pub sections : Sections (place_at w) (section_at w)
+  pub lines : Lines (place_at w) (queue_at w)
+  pub waits : Waits (place_at w) (queue_at w)
+  pub hands : Hands (TakesOne w) (place_at w)
+  pub calls : (t : ℕ) → FitsItsLock w (place_at w t)
+
+-- each thread has a number of shared rights of each lock
+pub record HasNumbers (w : State) : Type 0 where
+  pub locks : length w.shares ≡ length w.locks
+  pub threads : (l : ℕ) → length (shares_at w l) ≡ length w.places
+
+-- what holds between any two steps
+pub record IsSteady (w : State) : Type 0 where
+  pub sites : AreSites w
+  pub stands : Stands w
+  pub numbers : HasNumbers w
+
+-- ---------------------------------------------------------------- whom a thread hands its lock
+
+-- as many want to share, and who wants more wants this; that is one thread at most
+pub record IsCounted (w : State) (t : ℕ) (k : Counted) : Type 0 where
+  pub number : sharers t w.places ≡ k.sharers
+  pub more : want_of_successor (successor_from t 0 w.places) ≡ k.successor
+  pub one : (u v : ℕ) (x y : Want) → wants_more_in_hand t (held (place_at w u)) ≡ Some x → wants_more_in_hand t (held (place_at w v)) ≡ Some y → u ≡ v
+
+-- a call that is to hand its lock over has counted those whom it has in hand
+abbrev pub AreCounted : State → Type 0
+AreCounted w = (t l : ℕ) (a : Admission) (c : RwLockCallPlace) (k : Counted) → place_at w t ≡ OfRwLock l a c → in_hand_of c ≡ Some k → IsCounted w t k
+
+-- what a world keeps from step to step
+pub record IsWorld (w : State) : Type 0 where
+  pub shaped : IsShaped w
+  pub steady : IsSteady w
+  pub counted : AreCounted w
+
+-- a step changes no number of threads or locks
+pub record SameNumbers (w v : State) : Type 0 where
+  pub threads : length v.places ≡ length w.places
+  pub locks : length v.locks ≡ length w.locks
+  pub shares : length v.shares ≡ length w.shares
+
+-- one lock has been through deeds that are allowed, its word says so, and the others are as they were
+pub record Follows (w v : State) (l : ℕ) (ds : List Act) : Type 0 where
+  pub site : site_of v l ≡ after_acts (rules_in w l) ds (site_of w l)
+  pub needed : ActsNeeded (rules_in w l) ds (site_of w l)
+  pub word : word_at v l ≡ code (rules_in w l) (site_of v l)
+  pub others : (k : ℕ) → k ≢ l → (site_of v k ≡ site_of w k) × (word_at v k ≡ word_at w k)
+  pub kinds : (k : ℕ) → kind_at v k ≡ kind_at w k
+  pub numbers : SameNumbers w v
+  pub sharers : (k : ℕ) → length (shares_at v k) ≡ length (shares_at w k)
+  pub limit : has_readers (rules_in w l).sort ≡ true → HasLimit (rules_in w l) (lock_state v l)
+
+-- and each thread stands where its place says
+pub record Goes (w v : State) (l : ℕ) (ds : List Act) : Type 0 where
+  pub follows : Follows w v l ds
+  pub stands : Stands v

@@ -1,0 +1,165 @@
+-- What comes of a call whose thread steps alone.
+use Rattle.std.specs.Prelude.{ℕ, Bool, true, false, if◌then◌else◌, List, Option, Some, None, ◌≡◌, ◌≢◌, ◌≤◌, ◌++◌, ◌∷◌, [], length, replicate}
+use Rattle.lot_base.specs.declared.wants.Want.{Want}
+use Rattle.lot_base.specs.declared.wants.Want.TheVariants.{Exclusive, Shared}
+use Rattle.lot_acts.specs.declared.acts.Act.TheVariants.{Sleep}
+use Rattle.lot_calls.specs.declared.outcomes.Answer.{Answer}
+use Rattle.lot_calls.specs.declared.outcomes.Answer as answer
+use Rattle.lot_calls.specs.declared.outcomes.Outcome.{Outcome}
+use Rattle.lot_calls.specs.declared.outcomes.Outcome as outcome
+use Rattle.lot_steps.specs.declared.places.Place.TheVariants.{Idle}
+use Rattle.lot_steps.specs.Steps.{act_of, lock_of}
+use Rattle.lot_machine.specs.Machine.{State, place_at, word_at, kind_at, section_at, go_of}
+use Rattle.abstract_locks.specs.Locks.{Sort, Mutex, Recursive, Rules, LockState, first_thread, Queued, MayEnter, IsBlocked, Owns, count, readers, with_right}
+use Rattle.abstract_locks.specs.Sites.{Line, Main, Second, has_readers}
+use Rattle.abstract_locks.specs.Purposes.{rules_of, Purpose, Enters, Releases, Converts, Bumps, Patience, Patient, Try}
+use Rattle.abstract_locks.specs.Codes.{has_parked}
+use Rattle.abstract_locks.specs.Runs.{LocksState, IsFull, IsRun, rules_at, rights_in}
+use Rattle.lot_laws.specs.SitesOf.{key_of}
+use Rattle.lot_laws.specs.Refinement.{locks_of}
+use Rattle.lot_laws.specs.WorldRuns.{IsWorldRun}
+
+-- the thread is in a call, and isn't asleep
+abbrev pub IsUnderWay : State → ℕ → Type 0
+IsUnderWay w t = (place_at w t ≢ Idle) × (act_of (place_at w t) ≢ Sleep)
+
+-- a lock that is shared has a second line
+abbrev pub HasLine : Sort → Line → Type 0
+HasLine sort Main = Unit {0}
+HasLine sort Second = has_readers sort ≡ true
+
+-- nobody else is inside a section that its call may enter
+abbrev pub HasItsWay : State → ℕ → Type 0
+HasItsWay w t = (l u : ℕ) (m : Line) → lock_of (place_at w t) ≡ Some l → HasLine (rules_of (kind_at w l)).sort m → section_at w (key_of l m) ≡ Some u → u ≡ t
+
+-- the call has ended, sleeps or is in its closure
+abbrev pub Rests : Outcome → Type 0
+Rests (outcome.TheVariants.End a) = Unit {0}
+Rests outcome.TheVariants.Sleep = Unit {0}
+Rests (outcome.TheVariants.Closure state) = Unit {0}
+Rests o = ⊥
+
+-- what a call answers that has entered
+abbrev pub entered_answer : Patience → Answer
+entered_answer Patient = answer.TheVariants.Ok
+entered_answer how = answer.TheVariants.Yes
+
+-- it may have its right at once: nobody shares where it is to own alone; and a writer's try at a lock that is shared finds a word that is
+-- clear, since a parked bit may stand where a waiter was and is gone
+abbrev pub MayEnterAtOnce : Type 0 → Rules → LockState → Want → Patience → Type 0
+MayEnterAtOnce clear r s Exclusive Try = MayEnter r s Exclusive × (has_readers r.sort ≡ true → clear)
+MayEnterAtOnce clear r s Exclusive how = MayEnter r s Exclusive × (has_readers r.sort ≡ true → readers s ≡ 0)
+MayEnterAtOnce clear r s x how = MayEnter r s x
+
+-- the thread is the last of the queue, asleep
+abbrev pub SleepsLast : LockState → ℕ → Want → Outcome → LockState → Type 0
+SleepsLast s t x o s2 = (o ≡ outcome.TheVariants.Sleep) × (s2.queue ≡ s.queue ++ (record { thread = t; want = x }) ∷ [])
+
+-- beside readers a writer sleeps aside of the queue, where it waits for them, and a try ends
+abbrev pub WaitsForReaders : Patience → ℕ → Outcome → LockState → Type 0
+WaitsForReaders Try t o s2 = o ≡ outcome.TheVariants.End answer.TheVariants.No
+WaitsForReaders how t o s2 = (o ≡ outcome.TheVariants.Sleep) × (s2.aside ≡ Some t)
+
+-- where its way is barred a try ends, and any other call waits
+abbrev pub WaitsAlone : Patience → LockState → ℕ → Want → Outcome → LockState → Type 0
+WaitsAlone Try s t x o s2 = o ≡ outcome.TheVariants.End answer.TheVariants.No
+WaitsAlone how s t x o s2 = SleepsLast s t x o s2
+
+-- what a call comes to that waits for a right; clear says that no bit of the word is set
+pub record EntersAlone (clear : Type 0) (w : LocksState) (t l : ℕ) (x : Want) (how : Patience) (o : Outcome) (v : LocksState) : Type 0 where
+  pub owns : MayEnterAtOnce clear (rules_at w l) (w.locks l) x how
+      → (o ≡ outcome.TheVariants.End (entered_answer how)) × Owns (v.locks l) t x
+  pub pends : x ≡ Exclusive → MayEnter (rules_at w l) (w.locks l) x → 1 ≤ readers (w.locks l) → WaitsForReaders how t o (v.locks l)
+  -- a writer's try at a lock that is shared fails wherever the word isn't clear
+  pub refused : has_readers (rules_at w l).sort ≡ true → x ≡ Exclusive → how ≡ Try → (clear → ⊥) → o ≡ outcome.TheVariants.End answer.TheVariants.No
+  pub full : IsFull w l x → o ≡ outcome.TheVariants.End answer.TheVariants.ReadersFull
+  pub barred : IsBlocked (rules_at w l) (w.locks l) x → WaitsAlone how (w.locks l) t x o (v.locks l)
+
+-- a right turned into a lesser one
+abbrev pub DowngradesAlone : ℕ → Want → Outcome → LockState → Type 0
+DowngradesAlone t y o s2 = (o ≡ outcome.TheVariants.End answer.TheVariants.Ok) × Owns s2 t y
+
+-- what a call comes to that turns its right into another
+abbrev pub ConvertsAlone : LockState → ℕ → Want → Patience → Outcome → LockState → Type 0
+ConvertsAlone s t Exclusive how o s2 =
+    (readers s ≡ 0 → (o ≡ outcome.TheVariants.End (entered_answer how)) × Owns s2 t Exclusive)
+    × (1 ≤ readers s → WaitsForReaders how t o s2)
+ConvertsAlone s t y how o s2 = DowngradesAlone t y o s2
+
+-- a fair release leaves the lock to the first waiter, and any other to nobody
+abbrev pub successor : Bool → List Queued → Option ℕ
+successor fair q = if fair then first_thread q else None
+
+-- a release ends without its right, and who shares has one right less
+abbrev pub ReleasesAlone : LocksState → ℕ → ℕ → Want → Bool → Outcome → LocksState → Type 0
+ReleasesAlone w t l Exclusive fair o v =
+    (o ≡ outcome.TheVariants.End answer.TheVariants.Ok) × (Owns (v.locks l) t Exclusive → ⊥)
+    × ((rules_at w l).sort ≡ Mutex → (v.locks l).exclusive ≡ successor fair (w.locks l).queue)
+ReleasesAlone w t l x fair o v =
+    (o ≡ outcome.TheVariants.End answer.TheVariants.Ok) × (with_right x (rights_in v t l) ≡ rights_in w t l)
+
+-- a bump of a mutex hands it to the first waiter and then is as a call that enters, asleep as the last of the queue; where nobody
+-- waits it ends with the mutex
+abbrev pub BumpsAlone : ℕ → ℕ → List Queued → Outcome → LockState → Type 0
+BumpsAlone t l [] o s = (o ≡ outcome.TheVariants.End answer.TheVariants.Ok) × (s.exclusive ≡ Some t)
+BumpsAlone t l (x ∷ q) o s =
+    (o ≡ outcome.TheVariants.Sleep) × (s.exclusive ≡ Some x.thread)
+    × (s.queue ≡ q ++ (record { thread = t; want = Exclusive }) ∷ [])
+
+-- to whom a bump of a lock that is shared gives way: who shares it, to a pending writer, on a recursive lock only as the last;
+-- and any other owner to whoever stands in the queue
+abbrev pub GivesWay : Rules → LockState → Want → Type 0
+GivesWay r s Shared = (s.pending ≢ None) × (r.sort ≡ Recursive → count s ≡ 1)
+GivesWay r s x = s.queue ≢ []
+
+-- where there is nobody; a parked bit may stand where a waiter was and is gone
+abbrev pub NeedsNoWay : Type 0 → Rules → LockState → Want → Type 0
+NeedsNoWay unparked r s Shared = GivesWay r s Shared → ⊥
+NeedsNoWay unparked r s x = unparked
+
+-- it gives its right up, and from there comes to what a call comes to that waits for that right
+pub record ComesBack (w : LocksState) (t l : ℕ) (x : Want) (o : Outcome) (v : LocksState) : Type 0 where
+  pub steps : ℕ
+  pub between : LocksState
+  pub run : IsRun w (replicate steps (go_of t)) (replicate steps outcome.TheVariants.Step) between
+  pub given_up : with_right x (rights_in between t l) ≡ rights_in w t l
+  pub enters : EntersAlone ⊥ between t l x Patient o v
+
+-- a bump of a lock that is shared gives way, or ends with its right
+pub record BumpsShared (unparked : Type 0) (w : LocksState) (t l : ℕ) (x : Want) (o : Outcome) (v : LocksState) : Type 0 where
+  pub gives_way : GivesWay (rules_at w l) (w.locks l) x → ComesBack w t l x o v
+  pub stays : NeedsNoWay unparked (rules_at w l) (w.locks l) x
+      → (o ≡ outcome.TheVariants.End answer.TheVariants.Ok) × Owns (v.locks l) t x
+
+abbrev pub EndsBy : (ℕ → ℕ) → LocksState → ℕ → Option Purpose → Outcome → LocksState → Type 0
+EndsBy words w t (Some (Enters l x how)) o v = EntersAlone (words l ≡ 0) w t l x how o v
+EndsBy words w t (Some (Releases l x fair)) o v = ReleasesAlone w t l x fair o v
+EndsBy words w t (Some (Converts l x y how)) o v = ConvertsAlone (w.locks l) t y how o (v.locks l)
+EndsBy words w t (Some (Bumps l x)) o v =
+    ((rules_at w l).sort ≡ Mutex → BumpsAlone t l (w.locks l).queue o (v.locks l))
+    × (has_readers (rules_at w l).sort ≡ true → BumpsShared (has_parked (words l) ≡ false) w t l x o v)
+EndsBy words w t purpose o v = Unit {0}
+
+-- what a call comes to, by what it is for
+abbrev pub EndsAlone : State → ℕ → Option Purpose → Outcome → State → Type 0
+EndsAlone w t purpose o v = EndsBy (word_at w) (locks_of w) t purpose o (locks_of v)
+
+-- the last of what was told, and NotNow where nothing was
+abbrev pub last_told : List Outcome → Outcome
+last_told [] = outcome.TheVariants.NotNow
+last_told (o ∷ []) = o
+last_told (o ∷ os) = last_told os
+
+-- each but the last is a step: the thread rests behind no other
+abbrev pub GoesOnUntil : List Outcome → Type 0
+GoesOnUntil [] = Unit {0}
+GoesOnUntil (o ∷ []) = o ≢ outcome.TheVariants.NotNow
+GoesOnUntil (o ∷ os) = (o ≡ outcome.TheVariants.Step) × GoesOnUntil os
+
+-- a solo run is a run of at most 64 steps of the thread, whose last outcome is the result
+pub record IsSoloRun (w : State) (t : ℕ) (result : Outcome) (v : State) : Type 0 where
+  pub told : List Outcome
+  pub few : length told ≤ 64
+  pub run : IsWorldRun w (replicate (length told) (go_of t)) told v
+  pub goes_on : GoesOnUntil told
+  pub last : result ≡ last_told told

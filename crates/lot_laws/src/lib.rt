@@ -1,0 +1,4 @@
+//! That the machine behaves as the abstract locks: what is promised of its states and steps, and the proofs of it.
+#![tactic(auto)]
+
+pub mod laws;

@@ -1,5 +1,0 @@
-use Rattle.lot_world.proofs.RowLaws.{hands_over}
-use Rattle.lot_world.proofs.laws.a_fair_unlock_hands_over.Goals as goal
-
-pub returns : goal.returns
-returns c = hands_over

@@ -1,5 +1,0 @@
-use Rattle.lot_world.proofs.MutexPromises.{mutexes_are_kept}
-use Rattle.lot_world.proofs.laws.mutexes_are_kept.Goals as goal
-
-pub returns : goal.returns
-returns c = mutexes_are_kept

@@ -1,5 +1,0 @@
-use Rattle.lot_world.proofs.RowLaws.{no_waiter_forgotten}
-use Rattle.lot_world.proofs.laws.no_waiter_is_forgotten.Goals as goal
-
-pub returns : goal.returns
-returns c = no_waiter_forgotten
