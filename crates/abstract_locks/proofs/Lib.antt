@@ -17,3 +17,4 @@ pub mod OnceFit
 pub mod Deeds
 pub mod Rights
 pub mod UserLaws
+pub mod HandsTaken

@@ -37,8 +37,8 @@ use Rattle.lot_laws.proofs.Fair.{turned_so}
 use Rattle.lot_laws.proofs.Glue.{same}
 use Rattle.lot_laws.proofs.HandCases.{OneMore, nobody_more, takes_one_more, wanting_more}
 use Rattle.lot_laws.proofs.HandsCounted.{is_more, same_hand, same_sharers, same_successor}
-use Rattle.lot_laws.proofs.HandsTaken.{one_more_picked}
-use Rattle.lot_laws.proofs.HandsTaken as hands
+use Rattle.abstract_locks.proofs.HandsTaken.{one_more_picked}
+use Rattle.abstract_locks.proofs.HandsTaken as hands
 use Rattle.lot_laws.proofs.InHand.{is_wanted, wanted_of}
 use Rattle.lot_laws.proofs.Looking.{set_keeps}
 use Rattle.lot_laws.proofs.PicksKept.{picks_tied, under_of}

@@ -22,7 +22,6 @@ pub mod MovesKept
 pub mod HandsMoved
 pub mod InHand
 pub mod HandsCounted
-pub mod HandsTaken
 pub mod HandCases
 pub mod Counting
 pub mod Befallen

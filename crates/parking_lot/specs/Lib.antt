@@ -1,15 +1,4 @@
-pub mod Words
-pub mod Takes
-pub mod Paths
-pub mod Driving
-pub mod Stages
-pub mod Telling
-pub mod MutexFitting
-pub mod RwLockFitting
-pub mod Fitting
-pub mod Calls
-pub mod RwLockCalls
-pub mod Courses
+pub mod MutexGuards
 pub mod RwLockGuards
 pub mod RwLockUsers
 pub mod Users

@@ -2,7 +2,7 @@
 use Rattle.std.proofs.Props.{props}
 use Rattle.lot_words.specs.declared.owners.Owner.TheVariants.{Exclusive, Shared, Upgradable}
 use Rattle.lot_words.specs.declared.words.Word.{Word}
-use Rattle.parking_lot.specs.RwLockCalls.{IsRwLockRight}
+use Rattle.lot_driver.specs.RwLockCalls.{IsRwLockRight}
 use Rattle.parking_lot.specs.declared.rwlock_guards.RawExclusiveGuard.{RawExclusiveGuard}
 use Rattle.parking_lot.specs.declared.rwlock_guards.RawSharedGuard.{RawSharedGuard}
 use Rattle.parking_lot.specs.declared.rwlock_guards.RawUpgradableGuard.{RawUpgradableGuard}

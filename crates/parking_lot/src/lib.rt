@@ -1,19 +1,13 @@
 //! Locks for real threads. Each call runs the steps that the simulated world runs.
 #![tactic(auto)]
 
-mod acting;
-mod courses;
-mod driver;
 pub mod guards;
 pub mod raw_fair_mutex;
 pub mod raw_mutex;
 pub mod raw_rwlock;
 mod raw_rwlock_timed;
-mod rwlock_calls;
 pub mod rwlock_guards;
 pub mod rwlock_rights;
-mod taking;
-mod words;
 
 pub use guards::{OpenGuard, RawGuard};
 pub use lock_api;

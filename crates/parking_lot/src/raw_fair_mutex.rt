@@ -2,9 +2,9 @@
 ghost use Rattle.std.specs.Prelude.{◌≡◌};
 ghost use Rattle.std.specs.Arc.{arc_value};
 ghost use Rattle.parking_lot_core.specs.Tokens.{IsTokenOf, view_of, last_of};
-ghost use Rattle.parking_lot.specs.Calls.{fairly, HasWalked, Sees, Releases};
-ghost use Rattle.parking_lot.specs.Driving.{IsGuardOf, IsGuardOf-prop, IsOpenGuardOf, IsOpenGuardOf-prop, permit_in, StaysAs, StaysAs-on};
-ghost use Rattle.parking_lot.specs.Telling.{steps_of};
+ghost use Rattle.lot_driver.specs.Calls.{fairly, HasWalked, Sees, Releases};
+ghost use Rattle.parking_lot.specs.MutexGuards.{IsGuardOf, IsGuardOf-prop, IsOpenGuardOf, IsOpenGuardOf-prop, permit_in, StaysAs, StaysAs-on};
+ghost use Rattle.lot_driver.specs.Telling.{steps_of};
 
 use crate::guards::{OpenGuard, RawGuard};
 use crate::raw_mutex::RawMutex;

@@ -11,18 +11,18 @@ ghost use Rattle.lot_words.specs.Steps.{has};
 ghost use Rattle.lot_words.specs.declared.words.WordKind.TheVariants.{Mutex};
 ghost use Rattle.parking_lot_core.specs.Tokens.{IsTokenOf, IsSameThread, view_of, last_of};
 ghost use Rattle.lot_words.specs.declared.views.WordStep.{WordStep};
-ghost use Rattle.parking_lot.specs.Calls.{purpose_in, IsUnfinished, HasWalked, Sees, Releases, WalksBehind};
-ghost use Rattle.parking_lot.specs.Driving.{IsGuardOf, IsGuardOf-prop, IsOpenGuardOf, IsOpenGuardOf-prop, permit_in, MeetAt, StaysAs, StaysAs-on};
-ghost use Rattle.parking_lot.specs.MutexFitting.{IsMutexOver, held};
-ghost use Rattle.parking_lot.specs.Paths.{mutex_at, at_mutex, Walks};
-ghost use Rattle.parking_lot.specs.Paths.{step as seen_step};
-ghost use Rattle.parking_lot.specs.Stages.{stage_of};
-ghost use Rattle.parking_lot.specs.Telling.{owns_of, steps_of};
+ghost use Rattle.lot_driver.specs.Calls.{MeetAt, purpose_in, IsUnfinished, HasWalked, Sees, Releases, WalksBehind};
+ghost use Rattle.parking_lot.specs.MutexGuards.{IsGuardOf, IsGuardOf-prop, IsOpenGuardOf, IsOpenGuardOf-prop, permit_in, StaysAs, StaysAs-on};
+ghost use Rattle.lot_driver.specs.MutexFitting.{IsMutexOver, held};
+ghost use Rattle.lot_driver.specs.Paths.{mutex_at, at_mutex, Walks};
+ghost use Rattle.lot_driver.specs.Paths.{step as seen_step};
+ghost use Rattle.lot_driver.specs.Stages.{stage_of};
+ghost use Rattle.lot_driver.specs.Telling.{owns_of, steps_of};
 
-use crate::driver::{NO_LIMIT, behind, step};
 use crate::guards::{OpenGuard, RawGuard};
 use lot_base::main_key;
 use lot_calls::{Answer, MutexCall};
+use lot_driver::driver::{NO_LIMIT, behind, step};
 use lot_mutex::{LOCKED, PARKED, is_locked, is_parked};
 use parking_lot_core::{
     Clock, Fault, Key, Op, ParkingLot, Permit, Token, Want, Word, WordKind, to_deadline,

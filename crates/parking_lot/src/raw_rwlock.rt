@@ -2,14 +2,14 @@
 ghost use Rattle.std.specs.Prelude.{◌≡◌, ◌⊎◌, ◌≤◌, ◌+◌, ◌*◌, IfOk, MatchResult};
 ghost use Rattle.std.specs.Arc.{arc_value};
 ghost use Rattle.parking_lot_core.specs.Tokens.{IsTokenOf};
-ghost use Rattle.parking_lot.specs.RwLockCalls.{HasWalkedCall, SeesBy, StaysSettled, StaysSettled-on, WakesByCall, is_held, is_held_alone};
+ghost use Rattle.lot_driver.specs.RwLockCalls.{HasWalkedCall, SeesBy, StaysSettled, StaysSettled-on, WakesByCall, is_held, is_held_alone};
 ghost use Rattle.parking_lot.specs.RwLockGuards.{IsExclusiveOf, IsExclusiveOf-prop, IsSharedOf, IsSharedOf-prop, IsUpgradableOf, IsUpgradableOf-prop};
 
-use crate::driver::NO_LIMIT;
 use crate::rwlock_guards::{RawExclusiveGuard, RawSharedGuard, RawUpgradableGuard};
 use crate::rwlock_rights::LotRwLock;
 use lot_acts::bits::{count_in, has_writer};
 use lot_calls::{Access, Downgrade, Patience};
+use lot_driver::driver::NO_LIMIT;
 use parking_lot_core::{Fault, Key, ParkingLot, Token, Want};
 use std::sync::{Arc, Wait};
 

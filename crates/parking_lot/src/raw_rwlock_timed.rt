@@ -14,7 +14,7 @@ impl<const RECURSIVE: bool> RawRwLock<RECURSIVE> {
     ghost use Rattle.lot_calls.specs.declared.calls.Patience.TheVariants.{Timed};
     ghost use Rattle.lot_rwlock.specs.declared.purposes.RwLockPurpose.TheVariants.{Enter, Upgrade};
     ghost use Rattle.parking_lot_core.specs.Tokens.{IsTokenOf};
-    ghost use Rattle.parking_lot.specs.RwLockCalls.{HasWalkedRwLock, StaysSettled};
+    ghost use Rattle.lot_driver.specs.RwLockCalls.{HasWalkedRwLock, StaysSettled};
     ghost use Rattle.parking_lot.specs.RwLockGuards.{IsExclusiveOf, IsSharedOf, IsUpgradableOf};
     ghost use Rattle.parking_lot.specs.RwLockUsers.{admission_of, lot_of, word_of};
 

@@ -2,7 +2,7 @@ use Rattle.std.proofs.Common.{◌≡◌, ◌∙◌, ap, rules}
 use Rattle.lot_calls.specs.declared.calls.MutexCall.TheVariants.{LockTimed}
 use Rattle.lot_words.specs.declared.views.View.{View}
 use Rattle.parking_lot_core.specs.Tokens.{view_of}
-use Rattle.parking_lot.proofs.Behind.{path_at_once}
+use Rattle.lot_driver.proofs.Behind.{path_at_once}
 use Rattle.parking_lot.proofs.raw_mutex.RawMutex.lock_timed.Goals as goal
 
 pub returns-then-seen-eq0-clause-path : goal.returns-then-seen-eq0-clause-path

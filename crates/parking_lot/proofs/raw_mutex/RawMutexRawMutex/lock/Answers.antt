@@ -2,7 +2,7 @@ use Rattle.std.proofs.Common.{◌≡◌, ◌∙◌, ap, rules}
 use Rattle.lot_calls.specs.declared.calls.MutexCall.TheVariants.{Lock}
 use Rattle.lot_words.specs.declared.views.View.{View}
 use Rattle.parking_lot_core.specs.Tokens.{view_of}
-use Rattle.parking_lot.proofs.Behind.{path_at_once}
+use Rattle.lot_driver.proofs.Behind.{path_at_once}
 use Rattle.parking_lot.proofs.raw_mutex.RawMutexRawMutex.lock.Goals as goal
 
 pub returns-clause-path : goal.returns-clause-path

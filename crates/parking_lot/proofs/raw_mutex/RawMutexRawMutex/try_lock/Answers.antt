@@ -2,7 +2,7 @@ use Rattle.std.proofs.Common.{◌≡◌, ◌∙◌, true, false, ap, rules}
 use Rattle.lot_mutex.specs.MutexSteps.{is_locked}
 use Rattle.lot_words.specs.declared.views.View.{View}
 use Rattle.parking_lot_core.specs.Tokens.{view_of}
-use Rattle.parking_lot.proofs.Behind.{path_of_try}
+use Rattle.lot_driver.proofs.Behind.{path_of_try}
 use Rattle.parking_lot.proofs.raw_mutex.RawMutexRawMutex.try_lock.Goals as goal
 
 pub returns-then-is_locked-clause-path : goal.returns-then-is_locked-clause-path

@@ -1,11 +1,11 @@
 use Rattle.std.proofs.Common.{◌≡◌, ◌∙◌, ◌++◌, false, ap, rules}
 use Rattle.lot_base.specs.declared.ops.Op.TheVariants.{Load}
 use Rattle.lot_mutex.specs.MutexSteps.{is_parked}
-use Rattle.parking_lot.specs.Paths.{mutex_at, step}
+use Rattle.lot_driver.specs.Paths.{mutex_at, step}
 use Rattle.lot_calls.specs.declared.calls.MutexCall.TheVariants.{Bump}
 use Rattle.lot_words.specs.declared.views.View.{View}
 use Rattle.parking_lot_core.specs.Tokens.{view_of}
-use Rattle.parking_lot.proofs.Behind.{path_at_once}
+use Rattle.lot_driver.proofs.Behind.{path_at_once}
 use Rattle.parking_lot.proofs.raw_mutex.RawMutexRawMutexFair.bump.Goals as goal
 
 pub returns-clause-path : goal.returns-clause-path

@@ -1,10 +1,10 @@
 use Rattle.std.proofs.Common.{◌≡◌, ◌∙◌, ◌++◌, ap, rules}
 use Rattle.lot_base.specs.declared.ops.Op.TheVariants.{Exchange}
-use Rattle.parking_lot.specs.Paths.{mutex_at, step}
+use Rattle.lot_driver.specs.Paths.{mutex_at, step}
 use Rattle.lot_calls.specs.declared.calls.MutexCall.TheVariants.{UnlockFair}
 use Rattle.lot_words.specs.declared.views.View.{View}
 use Rattle.parking_lot_core.specs.Tokens.{view_of}
-use Rattle.parking_lot.proofs.Behind.{path_at_once}
+use Rattle.lot_driver.proofs.Behind.{path_at_once}
 use Rattle.parking_lot.proofs.raw_mutex.RawMutexRawMutexFair.unlock_fair.Goals as goal
 
 pub returns-else-seen-ne-LOCKED-clause-path : goal.returns-else-seen-ne-LOCKED-clause-path

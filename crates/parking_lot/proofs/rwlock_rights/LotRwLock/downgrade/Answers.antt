@@ -10,11 +10,11 @@ use Rattle.lot_words.specs.Views.{owning}
 use Rattle.lot_words.specs.declared.views.View.{View}
 use Rattle.lot_words.specs.declared.views.WordStep.{WordStep}
 use Rattle.parking_lot_core.specs.Tokens.{view_of}
-use Rattle.parking_lot.specs.Paths.{Walks, at_rwlock, rwlock_at}
-use Rattle.parking_lot.specs.RwLockCalls.{rwlock_begin}
-use Rattle.parking_lot.specs.RwLockFitting.{IsBeside}
-use Rattle.parking_lot.proofs.RwLockNeeds.{has_right}
-use Rattle.parking_lot.proofs.RwLockRights.{joined_beside, left_beside}
+use Rattle.lot_driver.specs.Paths.{Walks, at_rwlock, rwlock_at}
+use Rattle.lot_driver.specs.RwLockCalls.{rwlock_begin}
+use Rattle.lot_driver.specs.RwLockFitting.{IsBeside}
+use Rattle.lot_driver.proofs.RwLockNeeds.{has_right}
+use Rattle.lot_driver.proofs.RwLockRights.{joined_beside, left_beside}
 use Rattle.parking_lot.proofs.rwlock_rights.LotRwLock.downgrade.Goals as goal
 
 pub split-requires-clause-held : goal.split-requires-clause-held

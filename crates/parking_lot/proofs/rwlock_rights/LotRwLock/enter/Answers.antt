@@ -10,12 +10,12 @@ use Rattle.lot_words.specs.Views.{owning}
 use Rattle.lot_words.specs.declared.views.View.{View}
 use Rattle.lot_words.specs.declared.views.WordStep.{WordStep}
 use Rattle.parking_lot_core.specs.Tokens.{view_of}
-use Rattle.parking_lot.specs.Paths.{Walks, at_rwlock, rwlock_at}
-use Rattle.parking_lot.specs.RwLockCalls.{rwlock_begin}
-use Rattle.parking_lot.specs.Stages.{stage_of}
-use Rattle.parking_lot.proofs.RwLockCalling.{begins_entering, entered_right, found_full, gave_up_may}
-use Rattle.parking_lot.proofs.RwLockFull.{counted_only}
-use Rattle.parking_lot.proofs.RwLockNeeds.{has_right}
+use Rattle.lot_driver.specs.Paths.{Walks, at_rwlock, rwlock_at}
+use Rattle.lot_driver.specs.RwLockCalls.{rwlock_begin}
+use Rattle.lot_driver.specs.Stages.{stage_of}
+use Rattle.lot_driver.proofs.RwLockCalling.{begins_entering, entered_right, found_full, gave_up_may}
+use Rattle.lot_driver.proofs.RwLockFull.{counted_only}
+use Rattle.lot_driver.proofs.RwLockNeeds.{has_right}
 use Rattle.parking_lot.proofs.rwlock_rights.LotRwLock.enter.Goals as goal
 
 pub split-requires-clause-held : goal.split-requires-clause-held

@@ -8,8 +8,8 @@ use Rattle.lot_words.specs.Views.{owning}
 use Rattle.lot_words.specs.declared.views.View.{View}
 use Rattle.lot_words.specs.declared.views.WordStep.{WordStep}
 use Rattle.parking_lot_core.specs.Tokens.{view_of}
-use Rattle.parking_lot.specs.Paths.{Walks, at_rwlock, rwlock_at}
-use Rattle.parking_lot.specs.RwLockCalls.{rwlock_begin}
+use Rattle.lot_driver.specs.Paths.{Walks, at_rwlock, rwlock_at}
+use Rattle.lot_driver.specs.RwLockCalls.{rwlock_begin}
 use Rattle.parking_lot.proofs.rwlock_rights.LotRwLock.release.Goals as goal
 
 pub call-requires-clause-right : goal.call-requires-clause-right

@@ -7,10 +7,10 @@ use Rattle.lot_words.specs.declared.owners.Owner.TheVariants as owners
 use Rattle.lot_words.specs.declared.views.View.{View}
 use Rattle.lot_words.specs.declared.views.WordStep.{WordStep}
 use Rattle.parking_lot_core.specs.Tokens.{view_of}
-use Rattle.parking_lot.specs.Paths.{Walks, at_rwlock}
-use Rattle.parking_lot.specs.RwLockCalls.{rwlock_begin}
-use Rattle.parking_lot.proofs.RwLockNeeds.{has_right}
-use Rattle.parking_lot.proofs.RwLockRights.{left_beside, took, tried}
+use Rattle.lot_driver.specs.Paths.{Walks, at_rwlock}
+use Rattle.lot_driver.specs.RwLockCalls.{rwlock_begin}
+use Rattle.lot_driver.proofs.RwLockNeeds.{has_right}
+use Rattle.lot_driver.proofs.RwLockRights.{left_beside, took, tried}
 use Rattle.parking_lot.proofs.rwlock_rights.LotRwLock.try_enter_alone.Goals as goal
 
 pub split-requires-clause-held : goal.split-requires-clause-held

@@ -7,11 +7,11 @@ use Rattle.lot_words.specs.declared.owners.Owner.TheVariants as owners
 use Rattle.lot_words.specs.declared.views.View.{View}
 use Rattle.lot_words.specs.declared.views.WordStep.{WordStep}
 use Rattle.parking_lot_core.specs.Tokens.{view_of}
-use Rattle.parking_lot.specs.Paths.{Walks, at_rwlock}
-use Rattle.parking_lot.specs.RwLockCalls.{rwlock_begin}
-use Rattle.parking_lot.specs.Stages.{stage_of}
-use Rattle.parking_lot.proofs.RwLockNeeds.{has_right}
-use Rattle.parking_lot.proofs.RwLockRights.{begins_upgrading, fell_back, left_beside, upgraded}
+use Rattle.lot_driver.specs.Paths.{Walks, at_rwlock}
+use Rattle.lot_driver.specs.RwLockCalls.{rwlock_begin}
+use Rattle.lot_driver.specs.Stages.{stage_of}
+use Rattle.lot_driver.proofs.RwLockNeeds.{has_right}
+use Rattle.lot_driver.proofs.RwLockRights.{begins_upgrading, fell_back, left_beside, upgraded}
 use Rattle.parking_lot.proofs.rwlock_rights.LotRwLock.upgrade.Goals as goal
 
 pub split-requires-clause-held : goal.split-requires-clause-held

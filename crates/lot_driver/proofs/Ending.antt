@@ -1,0 +1,110 @@
+-- The end of a call.
+use Rattle.std.proofs.Common.{ℕ, ◌≡◌, true, false, List, Option, None, Some, inl, inr, refl, subst}
+use Rattle.lot_calls.specs.declared.outcomes.Answer.{Answer}
+use Rattle.lot_calls.specs.declared.outcomes.OnceState.{OnceState}
+use Rattle.lot_steps.specs.Steps.{act_of}
+use Rattle.lot_steps.specs.declared.places.Place.{Place}
+use Rattle.lot_steps.specs.declared.places.Place.TheVariants.{Idle, Mutex, RwLock}
+use Rattle.lot_mutex.specs.MutexSteps.{mutex_act, decided}
+use Rattle.lot_mutex.specs.declared.places.MutexPlace.{MutexPlace}
+use Rattle.lot_mutex.specs.declared.places.MutexPlace.TheVariants as at_mutex_place
+use Rattle.lot_mutex.specs.declared.hand_off.HandOffAt as hand_off
+use Rattle.lot_mutex.specs.declared.lock.LockAt as lock
+use Rattle.lot_mutex.specs.declared.unlock.UnlockAt as unlock
+use Rattle.lot_words.proofs.MutexSteps.{each_code}
+use Rattle.lot_acts.specs.declared.acts.Act.{Act}
+use Rattle.lot_acts.specs.declared.acts.Act as act
+use Rattle.lot_words.specs.declared.owners.Ownership.{Ownership}
+use Rattle.lot_words.specs.declared.words.WordKind.{WordKind}
+use Rattle.parking_lot_core.specs.declared.tokens.SectionRecord.{SectionRecord}
+use Rattle.lot_rwlock.specs.declared.places.Admission.{Admission}
+use Rattle.lot_rwlock.specs.declared.purposes.RwLockPurpose.{RwLockPurpose}
+use Rattle.lot_rwlock.specs.declared.purposes.RwLockPurpose.TheVariants as purposes
+use Rattle.lot_driver.specs.RwLockFitting.{Answers}
+use Rattle.lot_driver.proofs.RwLockLeading.{rwlock_no_closure}
+use Rattle.lot_driver.specs.Fitting.{Aim, nothing, of_mutex, of_rwlock, aim_of, answer_of, Fits, IsOver, IsStopped}
+use Rattle.lot_driver.specs.MutexFitting.{Purpose, enters, releases, hands_over, FitsMutex, IsMutexOver}
+use Rattle.lot_driver.specs.Paths.{closure_of}
+use Rattle.lot_driver.specs.Stages.{Inside, Stage, ActNeeds, stage}
+use Rattle.lot_driver.specs.declared.driver.Stop.TheVariants.{Paused}
+
+pub end_of : (a : Act) (answer : Answer) → answer_of a ≡ Some answer → a ≡ act.TheVariants.End answer
+end_of (act.TheVariants.End x) answer e = cc
+end_of a answer e = absurd cc
+
+-- what a closure needs
+closure_act : (a : Act) (state : OnceState) → closure_of a ≡ Some state → a ≡ act.TheVariants.Closure state
+closure_act (act.TheVariants.Closure s) state e = cc
+closure_act a state e = absurd cc
+
+-- who comes to a closure is outside all sections, and stops there
+pub closes_outside : (kinds : ℕ → WordKind) (at : ℕ → ℕ) (st : Stage) (a : Act) (state : OnceState) → closure_of a ≡ Some state → ActNeeds kinds at st a → st.inside ≡ None
+closes_outside kinds at st a state e needs = subst (ActNeeds kinds at st) (closure_act a state e) needs
+
+pub closed : (up : Type 0) (base owns : List Ownership) (aim : Aim) (p : Place) (state : OnceState) (inside : Option Inside) (last : Option SectionRecord) → closure_of (act_of p) ≡ Some state → inside ≡ None → Fits up base p (stage owns inside last) → aim_of p ≡ aim → IsStopped up base aim (Paused p state) (stage owns None last)
+closed up base owns aim p state inside last e none fits same = (subst (λ (i : Option Inside). Fits up base p (stage owns i last)) none fits, same, closure_act (act_of p) state e)
+
+module _ (up : Type 0) (base owns : List Ownership) where
+  mutex_ended : (n : ℕ) (purpose : Purpose) (answer : Answer) (inside : Option Inside) (last : Option SectionRecord) → IsMutexOver up n base purpose answer (stage owns inside last) → IsMutexOver up n base purpose answer (stage owns None last)
+  mutex_ended n (enters e) answer inside last (inl h) = inl (h.0, (h.1.0, refl))
+  mutex_ended n (enters e) answer inside last (inr h) = inr (h.0, h.1, (h.2.0, refl))
+  mutex_ended n releases answer inside last h = (h.0, (h.1.0, refl), h.2)
+  mutex_ended n hands_over answer inside last h = (h.0, (h.1.0, refl), h.2)
+
+  mutex_outside : (n : ℕ) (purpose : Purpose) (answer : Answer) (inside : Option Inside) (last : Option SectionRecord) → IsMutexOver up n base purpose answer (stage owns inside last) → inside ≡ None
+  mutex_outside n (enters e) answer inside last (inl h) = h.1.1
+  mutex_outside n (enters e) answer inside last (inr h) = h.2.1
+  mutex_outside n releases answer inside last h = h.1.1
+  mutex_outside n hands_over answer inside last h = h.1.1
+
+  rwlock_ended : (l : ℕ) (a : Admission) (purpose : RwLockPurpose) (answer : Answer) (inside : Option Inside) (last : Option SectionRecord) → Answers up l base a purpose answer (stage owns inside last) → Answers up l base a purpose answer (stage owns None last)
+  rwlock_ended l a (purposes.Enter x how) answer inside last h = h
+  rwlock_ended l a (purposes.Release x) answer inside last h = h
+  rwlock_ended l a (purposes.Downgrade d) answer inside last h = h
+  rwlock_ended l a (purposes.Upgrade how) answer inside last h = h
+
+  -- where a call ended, its thread is outside all sections
+  pub ended : (aim : Aim) (answer : Answer) (inside : Option Inside) (last : Option SectionRecord) → IsOver up base aim answer (stage owns inside last) → IsOver up base aim answer (stage owns None last)
+  ended nothing answer inside last h = absurd h
+  ended (of_mutex n purpose) answer inside last h = mutex_ended n purpose answer inside last h
+  ended (of_rwlock l a purpose) answer inside last h = (refl, rwlock_ended l a purpose answer inside last h.1)
+
+  pub outside : (aim : Aim) (answer : Answer) (inside : Option Inside) (last : Option SectionRecord) → IsOver up base aim answer (stage owns inside last) → inside ≡ None
+  outside nothing answer inside last h = absurd h
+  outside (of_mutex n purpose) answer inside last h = mutex_outside n purpose answer inside last h
+  outside (of_rwlock l a purpose) answer inside last h = h.0
+
+-- no call of a mutex runs a closure
+no_closure : (n : ℕ) (state : OnceState) (up : Type 0) (base : List Ownership) (at : MutexPlace) (st : Stage) → FitsMutex up n base at st → mutex_act n at ≡ act.TheVariants.Closure state → ⊥
+no_closure n state up base (at_mutex_place.Lock e retries lock.TheVariants.First) st f is = cc
+no_closure n state up base (at_mutex_place.Lock e retries lock.TheVariants.Load) st f is = cc
+no_closure n state up base (at_mutex_place.Lock e retries (lock.TheVariants.Decide seen)) st f is =
+    each_code (λ s. decided n s ≡ act.TheVariants.Closure state → ⊥) (λ is. cc) (λ is. cc) (λ is. cc) (λ is. cc) seen f.0 is
+no_closure n state up base (at_mutex_place.Lock e retries lock.TheVariants.Check) st f is = cc
+no_closure n state up base (at_mutex_place.Lock e retries (lock.TheVariants.Leave parked)) st f is = cc
+no_closure n state up base (at_mutex_place.Lock e retries lock.TheVariants.Asleep) st f is = cc
+no_closure n state up base (at_mutex_place.Lock e retries lock.TheVariants.Accept) st f is = cc
+no_closure n state up base (at_mutex_place.Lock e retries lock.TheVariants.Remove) st f is = cc
+no_closure n state up base (at_mutex_place.Lock e retries lock.TheVariants.Clear) st f is = cc
+no_closure n state up base (at_mutex_place.Lock e retries lock.TheVariants.GiveUp) st f is = cc
+no_closure n state up base (at_mutex_place.Unlock unlock.TheVariants.Enter) st f is = cc
+no_closure n state up base (at_mutex_place.Unlock unlock.TheVariants.Take) st f is = cc
+no_closure n state up base (at_mutex_place.Unlock (unlock.TheVariants.Clear any)) st f is = cc
+no_closure n state up base (at_mutex_place.Unlock (unlock.TheVariants.Leave any)) st f is = cc
+no_closure n state up base (at_mutex_place.HandOff bumps hand_off.TheVariants.Enter) st f is = cc
+no_closure n state up base (at_mutex_place.HandOff bumps hand_off.TheVariants.Take) st f is = cc
+no_closure n state up base (at_mutex_place.HandOff bumps (hand_off.TheVariants.Store true none_left)) st f is = cc
+no_closure n state up base (at_mutex_place.HandOff bumps (hand_off.TheVariants.Store false none_left)) st f is = cc
+no_closure n state up base (at_mutex_place.HandOff bumps (hand_off.TheVariants.Leave any)) st f is = cc
+no_closure n state up base at st f is = absurd f
+
+pub never_paused : (up : Type 0) (base : List Ownership) (n : ℕ) (purpose : Purpose) (p : Place) (state : OnceState) (st : Stage) → IsStopped up base (of_mutex n purpose) (Paused p state) st → ⊥
+never_paused up base n purpose Idle state st s = s.0
+never_paused up base n purpose (RwLock l a at) state st s = rwlock_no_closure up l a base at st state s.0 s.2
+never_paused up base n purpose (Mutex l at) state st s = no_closure l state up base at st s.0 s.2
+
+-- no call comes to a closure
+pub never_closes : (up : Type 0) (base : List Ownership) (aim : Aim) (p : Place) (state : OnceState) (st : Stage) → IsStopped up base aim (Paused p state) st → ⊥
+never_closes up base aim Idle state st s = s.0
+never_closes up base aim (RwLock l a at) state st s = rwlock_no_closure up l a base at st state s.0 s.2
+never_closes up base aim (Mutex l at) state st s = no_closure l state up base at st s.0 s.2

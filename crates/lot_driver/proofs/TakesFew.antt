@@ -1,0 +1,24 @@
+-- Of those who are picked of a reader-writer lock's queue, one at most wants more than to share.
+use Rattle.std.proofs.Common.{Bool, Option, ◌≡◌, ◌≤◌, List, [], ◌∷◌, refl, arith}
+use Rattle.lot_base.specs.Picks.{lock_picked}
+use Rattle.lot_base.specs.declared.wants.Waiter.{Waiter}
+use Rattle.lot_base.specs.declared.wants.Want.{Want}
+use Rattle.lot_base.specs.declared.wants.Want.TheVariants as wants
+use Rattle.lot_queues.specs.Wants.{wants_of}
+use Rattle.abstract_locks.proofs.HandsTaken.{one_more_picked, wanting_more}
+use Rattle.lot_driver.specs.Takes.{more_in}
+
+one_behind : (x : Waiter) (xs : List Waiter) → more_in (wants_of xs) ≡ wanting_more xs → (y : Want) → x.want ≡ y → more_in (wants_of (x ∷ xs)) ≡ wanting_more (x ∷ xs)
+one_behind x xs h wants.Shared e = rw e (omega arith)
+one_behind x xs h wants.Exclusive e = rw e (omega arith)
+one_behind x xs h wants.Upgradable e = rw e (omega arith)
+one_behind x xs h wants.Wait e = rw e (omega arith)
+one_behind x xs h wants.CallOnce e = rw e (omega arith)
+
+same_number : (xs : List Waiter) → more_in (wants_of xs) ≡ wanting_more xs
+same_number [] = refl
+same_number (x ∷ xs) = one_behind x xs (same_number xs) x.want refl
+
+pub picked_few : (start : Option Want) (recursive : Bool) (xs : List Waiter) → more_in (wants_of (lock_picked start recursive xs)) ≤ 1
+picked_few start recursive xs = let few : wanting_more (lock_picked start recursive xs) ≤ 1 = one_more_picked start recursive xs in
+    let same : more_in (wants_of (lock_picked start recursive xs)) ≡ wanting_more (lock_picked start recursive xs) = same_number (lock_picked start recursive xs) in omega arith

@@ -1,0 +1,99 @@
+-- What a thread has at each place of its call, and at its end. Each sort of lock says so in a file of its own.
+use Rattle.std.specs.Prelude.{ℕ, ◌≡◌, List, Option, Some, None, true, false, unwrap_or}
+use Rattle.lot_rwlock_fair.specs.FairProfiles.{call_wants}
+use Rattle.lot_base.specs.declared.wants.Want.TheVariants.{Exclusive}
+use Rattle.lot_calls.specs.declared.outcomes.Answer.{Answer}
+use Rattle.lot_steps.specs.Steps.{act_of, late_key, next_place, next_act, looking, HasKeys}
+use Rattle.lot_acts.specs.declared.acts.Act.{Act}
+use Rattle.lot_acts.specs.declared.acts.Act as act
+use Rattle.lot_acts.specs.declared.acts.Reply.{Reply}
+use Rattle.lot_steps.specs.declared.places.Place.{Place}
+use Rattle.lot_steps.specs.declared.places.Place.TheVariants.{Idle, Mutex, RwLock}
+use Rattle.lot_words.specs.declared.owners.Ownership.{Ownership}
+use Rattle.lot_words.specs.declared.words.WordKind.{WordKind}
+use Rattle.lot_rwlock.specs.declared.places.Admission.{Admission}
+use Rattle.lot_rwlock.specs.declared.purposes.RwLockPurpose.{RwLockPurpose}
+use Rattle.lot_driver.specs.MutexFitting.{Purpose, purpose_at, FitsMutex, IsMutexOver}
+use Rattle.lot_driver.specs.RwLockFitting.{FitsCall, IsRwLockOver, purpose_in}
+use Rattle.lot_driver.specs.Paths.{mutexes, at_mutex, rwlocks, at_rwlock}
+use Rattle.lot_driver.specs.Stages.{Stage, ActNeeds, Became}
+use Rattle.lot_driver.specs.declared.acting.Sleeper.{Sleeper}
+use Rattle.lot_driver.specs.declared.driver.Stop.{Stop}
+use Rattle.lot_driver.specs.declared.driver.Stop.TheVariants.{Ended, Paused}
+
+abbrev pub answer_of : Act → Option Answer
+answer_of (act.TheVariants.End answer) = Some answer
+answer_of _ = None
+
+-- what a call is for, and of which lock
+pub data Aim : Type 0 where
+  nothing : Aim
+  of_mutex : ℕ → Purpose → Aim
+  of_rwlock : ℕ → Admission → RwLockPurpose → Aim
+
+abbrev pub aim_of : Place → Aim
+aim_of Idle = nothing
+aim_of (Mutex l at) = of_mutex l (purpose_at at)
+aim_of (RwLock l a c) = of_rwlock l a (purpose_in c)
+
+-- for what a thread sleeps in a call, the keys under which it may be late, and whether it goes on where it is handed the lock.
+-- Nobody is moved from the queue of a lock
+abbrev pub sleeper_at : Place → Sleeper
+sleeper_at Idle = record { lock = 0; want = Exclusive; late = None; moved = None; takes_over = false }
+sleeper_at (Mutex l at) =
+    record { lock = l; want = Exclusive; late = late_key (Mutex l at); moved = None; takes_over = true }
+sleeper_at (RwLock l a c) =
+    record { lock = l; want = unwrap_or (call_wants c) Exclusive; late = late_key (RwLock l a c); moved = None; takes_over = false }
+
+-- the keys of the call's lock are numbers, and its words are of the kinds that the call steps on
+abbrev pub AreWordsFor : Place → (ℕ → WordKind) → (ℕ → ℕ) → Type 0
+AreWordsFor Idle kinds at = Unit {0}
+AreWordsFor (Mutex l place) kinds at = HasKeys (Mutex l place) × (kinds ≡ mutexes) × (at ≡ at_mutex l)
+AreWordsFor (RwLock l a place) kinds at =
+    HasKeys (RwLock l a place) × (kinds ≡ rwlocks) × (at ≡ at_rwlock l)
+
+-- and behind its closure they are so still
+abbrev pub AreWordsAfter : Stop → (ℕ → WordKind) → (ℕ → ℕ) → Type 0
+AreWordsAfter (Ended answer) kinds at = Unit {0}
+AreWordsAfter (Paused place state) kinds at = AreWordsFor place kinds at
+
+-- `up` says that the time of the call is up
+module _ (up : Type 0) where
+  -- what a thread has at a place, which owned so much as it began to run, or beside what a reader-writer place claims
+  abbrev pub Fits : List Ownership → Place → Stage → Type 0
+  Fits base Idle st = ⊥
+  Fits base (Mutex l at) st = FitsMutex up l base at st
+  Fits base (RwLock l a c) st = FitsCall up l base a c st
+
+  -- what an answer says at the end of a call
+  abbrev pub IsOver : List Ownership → Aim → Answer → Stage → Type 0
+  IsOver base nothing answer st = ⊥
+  IsOver base (of_mutex l purpose) answer st = IsMutexOver up l base purpose answer st
+  IsOver base (of_rwlock l a purpose) answer st = IsRwLockOver up l base a purpose answer st
+
+  -- what a run came to: the end of its call, or a closure, which is outside all sections
+  abbrev pub IsStopped : List Ownership → Aim → Stop → Stage → Type 0
+  IsStopped base aim (Ended answer) st = IsOver base aim answer st
+  IsStopped base aim (Paused place state) st = Fits base place st
+      × (aim_of place ≡ aim) × (act_of place ≡ act.TheVariants.Closure state)
+
+  abbrev pub ReachedBy : List Ownership → Aim → Place → Option Answer → Stage → Type 0
+  ReachedBy base aim p None st = Fits base p st × (aim_of p ≡ aim)
+  ReachedBy base aim p (Some answer) st = IsOver base aim answer st
+
+  -- where a reply leads
+  abbrev pub Reached : List Ownership → Place → Reply → Stage → Type 0
+  Reached base p reply st = ReachedBy base (aim_of p) (next_place p reply) (answer_of (next_act p reply)) st
+
+  -- from where it looks at the word once more, it goes on too
+  abbrev pub Looks : List Ownership → Place → Stage → Type 0
+  Looks base p st = (q : Place) → looking p ≡ Some q → Fits base q st × (aim_of q ≡ aim_of p)
+
+  -- each place's act is one that the thread may take, and each reply leads to a place that fits
+  abbrev pub PlacesLead : Type 0
+  PlacesLead = (kinds : ℕ → WordKind) (at : ℕ → ℕ) (base : List Ownership) (p : Place) (st : Stage)
+      → AreWordsFor p kinds at → Fits base p st →
+      ActNeeds kinds at st (act_of p)
+      × Looks base p st
+      × ((reply : Reply) (new : Stage) → Became up kinds at (sleeper_at p) st (act_of p) reply new
+      → Reached base p reply new)

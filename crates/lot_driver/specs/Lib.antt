@@ -1,0 +1,11 @@
+pub mod Words
+pub mod Takes
+pub mod Paths
+pub mod Stages
+pub mod Telling
+pub mod MutexFitting
+pub mod RwLockFitting
+pub mod Fitting
+pub mod Calls
+pub mod RwLockCalls
+pub mod Courses

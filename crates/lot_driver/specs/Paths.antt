@@ -1,0 +1,120 @@
+-- The word steps of a call are a path of its transitions.
+use Rattle.std.specs.Prelude.{ℕ, ◌≡◌, Bool, true, false, Option, Some, None, List, [], ◌∷◌, ◌++◌, ◌⊎◌}
+use Rattle.lot_base.specs.declared.ops.Op.{Op}
+use Rattle.lot_base.specs.declared.ops.Op.TheVariants.{Load}
+use Rattle.lot_base.specs.declared.wants.Want.{Want}
+use Rattle.lot_words.specs.Indices.{word_index}
+use Rattle.lot_words.specs.declared.views.WordStep.{WordStep}
+use Rattle.lot_words.specs.declared.words.WordKind as kinds
+use Rattle.lot_acts.specs.Acts.{holds}
+use Rattle.lot_steps.specs.Steps.{act_of, next_place, next_act, looking}
+use Rattle.lot_acts.specs.declared.acts.Act.{Act}
+use Rattle.lot_acts.specs.declared.acts.Act as act
+use Rattle.lot_acts.specs.declared.acts.Check.{Check}
+use Rattle.lot_acts.specs.declared.acts.Reply.{Reply}
+use Rattle.lot_acts.specs.declared.acts.Reply.TheVariants.{Value, Parked}
+use Rattle.lot_calls.specs.declared.outcomes.Answer.{Answer}
+use Rattle.lot_calls.specs.declared.outcomes.OnceState.{OnceState}
+use Rattle.lot_steps.specs.declared.places.Place.{Place}
+use Rattle.lot_driver.specs.declared.driver.Stop.{Stop}
+use Rattle.lot_driver.specs.declared.driver.Stop.TheVariants.{Ended, Paused}
+
+-- where the word of a mutex stands
+abbrev pub mutex_at : ℕ → ℕ
+mutex_at number = word_index number kinds.TheVariants.Mutex
+
+-- a call of a mutex steps on no other word
+abbrev pub mutexes : ℕ → kinds.WordKind
+mutexes lock = kinds.TheVariants.Mutex
+
+abbrev pub at_mutex : ℕ → ℕ → ℕ
+at_mutex number lock = mutex_at number
+
+-- where the word of a reader-writer lock stands, on which alone its calls step
+abbrev pub rwlock_at : ℕ → ℕ
+rwlock_at number = word_index number kinds.TheVariants.RwLock
+
+abbrev pub rwlocks : ℕ → kinds.WordKind
+rwlocks lock = kinds.TheVariants.RwLock
+
+abbrev pub at_rwlock : ℕ → ℕ → ℕ
+at_rwlock number lock = rwlock_at number
+
+-- one step on the word at a place, and what it saw
+abbrev pub step : ℕ → Op → ℕ → List WordStep
+step at op seen = record { at = at; op = op; seen = seen } ∷ []
+
+-- the state with which the closure of a call runs
+abbrev pub closure_of : Act → Option OnceState
+closure_of (act.TheVariants.Closure state) = Some state
+closure_of _ = None
+
+-- acts that touch no word
+abbrev pub is_wordless : Act → Bool
+is_wordless (act.TheVariants.Enter keys) = true
+is_wordless (act.TheVariants.Stand key _) = true
+is_wordless (act.TheVariants.Take key whom) = true
+is_wordless (act.TheVariants.Requeue from to how) = true
+is_wordless (act.TheVariants.Remove key) = true
+is_wordless (act.TheVariants.Leave keys wakes) = true
+is_wordless act.TheVariants.Sleep = true
+is_wordless act.TheVariants.Accept = true
+is_wordless _ = false
+
+-- replies that tell nothing of a word's value
+abbrev pub is_valueless : Reply → Bool
+is_valueless (Value seen) = false
+is_valueless (Parked parked) = false
+is_valueless _ = true
+
+-- at a place these steps on words bring the reply, by where the word of each lock stands
+pub data Brings (at : ℕ → ℕ) : Place → List WordStep → Reply → Type 0 where
+  word : (p : Place) (lock : ℕ) (op : Op) (seen : ℕ) → act_of p ≡ act.TheVariants.Word lock op
+      → Brings at p (step (at lock) op seen) (Value seen)
+  hands : (p : Place) (lock : ℕ) (op : Op) (seen : ℕ) → act_of p ≡ act.TheVariants.HandOver lock op
+      → Brings at p (step (at lock) op seen) (Value seen)
+  parks : (p : Place) (lock key : ℕ) (check : Check) (want : Want) (seen : ℕ)
+      → act_of p ≡ act.TheVariants.Park lock key check want → Brings at p (step (at lock) Load seen) (Parked (holds check seen))
+  other : (p : Place) (reply : Reply) → is_wordless (act_of p) ≡ true → is_valueless reply ≡ true
+      → Brings at p [] reply
+
+-- these steps were added, and bring the reply
+abbrev pub Told : (ℕ → ℕ) → Place → Reply → List WordStep → List WordStep → Type 0
+Told at p reply before behind = (then : List WordStep) × (behind ≡ before ++ then) × Brings at p then reply
+
+-- these steps lead from one place to another
+pub data Path (at : ℕ → ℕ) : Place → List WordStep → Place → Type 0 where
+  here : (p : Place) → Path at p [] p
+  on : (p q : Place) (xs ys : List WordStep) (reply : Reply) → Path at p xs q → Brings at q ys reply
+      → Path at p (xs ++ ys) (next_place q reply)
+  -- it looks at the word once more in place of an act that leads to sleep
+  looks : (p q r : Place) (xs : List WordStep) → Path at p xs q → looking q ≡ Some r → Path at p xs r
+
+-- where a thread goes on from: where it stands, or from where it looks
+abbrev pub GoesFrom : Place → Place → Type 0
+GoesFrom p q = (q ≡ p) ⊎ (looking p ≡ Some q)
+
+-- the last reply of a call, which ends it by an answer
+pub record Ending (at : ℕ → ℕ) (p : Place) (steps : List WordStep) (answer : Answer) : Type 0 where
+  pub last : Place
+  pub before : List WordStep
+  pub then : List WordStep
+  pub reply : Reply
+  pub path : Path at p before last
+  pub tells : Brings at last then reply
+  pub all : steps ≡ before ++ then
+  pub ends : next_act last reply ≡ act.TheVariants.End answer
+
+-- the steps that were added to a list lead from a place to the end of its call
+abbrev pub Walks : (ℕ → ℕ) → Place → List WordStep → List WordStep → Answer → Type 0
+Walks at p old new answer = (more : List WordStep) × (new ≡ old ++ more) × Ending at p more answer
+
+-- behind a reply that ended its call there are no further steps, and else they go on from where it led
+abbrev pub Rests : (ℕ → ℕ) → Place → Reply → List WordStep → List WordStep → Answer → Type 0
+Rests at p reply old new answer = ((new ≡ old) × (next_act p reply ≡ act.TheVariants.End answer))
+    ⊎ Walks at (next_place p reply) old new answer
+
+-- and so do the steps of a run, which ends the call or comes to its closure
+abbrev pub Runs : (ℕ → ℕ) → Place → List WordStep → List WordStep → Stop → Type 0
+Runs at p old new (Ended answer) = Walks at p old new answer
+Runs at p old new (Paused place state) = (more : List WordStep) × (new ≡ old ++ more) × Path at p more place

@@ -1,0 +1,63 @@
+-- Words for what a clause of the driver says of tokens and sections.
+use Rattle.std.specs.Prelude.{ℕ, ◌≡◌, ◌==◌, ◌++◌, ◌∷◌, [], Bool, List, Option, length}
+use Rattle.lot_base.specs.Lines.{line, lines, waiter, without}
+use Rattle.lot_base.specs.declared.ops.Op.{Op}
+use Rattle.lot_base.specs.declared.wants.Waiter.{Waiter}
+use Rattle.lot_base.specs.declared.wants.Want.{Want}
+use Rattle.lot_words.specs.Indices.{word_index}
+use Rattle.lot_words.specs.Steps.{MayStep, CodesWith, after_step}
+use Rattle.lot_words.specs.declared.owners.Ownership.{Ownership}
+use Rattle.lot_words.specs.declared.views.WordStep.{WordStep}
+use Rattle.lot_words.specs.declared.words.Word.{Word}
+use Rattle.parking_lot_core.specs.Tokens.{view_of}
+use Rattle.parking_lot_core.specs.declared.lot.ParkingLot.{ParkingLot}
+use Rattle.parking_lot_core.specs.declared.sections.Section.{Section}
+use Rattle.parking_lot_core.specs.declared.tokens.Did.{Did}
+use Rattle.parking_lot_core.specs.declared.tokens.Token.{Token}
+use Rattle.lot_driver.specs.Stages.{HasKey, IsFresh, IsIn, inside_of, took_as, waiting_of}
+
+-- what a thread owns, and the steps that it took
+abbrev pub owns_of : Token → List Ownership
+owns_of token = (view_of token).owns
+
+abbrev pub steps_of : Token → List WordStep
+steps_of token = (view_of token).steps
+
+-- where a word stands
+abbrev pub index_of : Word → ℕ
+index_of word = word_index word.number word.kind
+
+-- the thread may take this step on a word
+abbrev pub MayTake : Word → Op → Token → Type 0
+MayTake word op token = MayStep word.kind (index_of word) op (owns_of token)
+
+-- the value is one that it may find there
+abbrev pub MayFind : Word → ℕ → Token → Type 0
+MayFind word seen token = CodesWith word.kind (index_of word) seen (owns_of token)
+
+-- it has taken the step, and no other
+abbrev pub HasStepped : Word → Op → ℕ → Token → Token → Type 0
+HasStepped word op seen old new = view_of new ≡ after_step word.kind (index_of word) op seen (view_of old)
+
+-- who stands under a key, and whether nobody does
+abbrev pub line_in : ℕ → Option Section → List Waiter
+line_in key section = line key (waiting_of section)
+
+abbrev pub is_empty_at : ℕ → Option Section → Bool
+is_empty_at key section = length (line_in key section) == 0
+
+-- these wait, line by line
+abbrev pub AreWaiting : List Waiter → Option Section → Type 0
+AreWaiting waiters section = lines (waiting_of section) ≡ lines waiters
+
+-- the thread stands behind the last of a queue
+abbrev pub StandsLast : ℕ → ℕ → Want → Option Section → Option Section → Type 0
+StandsLast key thread want old new = AreWaiting (without thread (waiting_of old) ++ waiter key thread want ∷ []) new
+
+-- waiters of this key may be taken in the section
+abbrev pub MayTakeAt : ParkingLot → ℕ → Option Section → Type 0
+MayTakeAt lot key section = IsIn lot section × HasKey key (inside_of section) × IsFresh (inside_of section)
+
+-- these were taken there
+abbrev pub HasTaken : ParkingLot → Did → List Waiter → Option Section → Option Section → Type 0
+HasTaken lot did waiters old new = IsIn lot new × (inside_of new ≡ took_as did waiters (inside_of old))

@@ -1,0 +1,286 @@
+//! One driver for all calls: it does the act of a place on the real lot, and `advance` leads on.
+ghost use Rattle.std.specs.Prelude.{◌≡◌, ◌++◌, ℕ, List, None};
+ghost use Rattle.lot_base.specs.Clocks.{IsUp};
+ghost use Rattle.lot_base.specs.declared.ops.Op.TheVariants.{Load};
+ghost use Rattle.lot_steps.specs.Steps.{act_of, next_act, next_place, HasKeys};
+ghost use Rattle.lot_acts.specs.declared.acts.Reply.TheVariants.{Value, Closed};
+ghost use Rattle.lot_words.specs.Lots.{IsWordOf};
+ghost use Rattle.lot_words.specs.Indices.{word_index};
+ghost use Rattle.lot_words.specs.Steps.{MayStep, CodesWith, after_step};
+ghost use Rattle.lot_words.specs.declared.owners.Ownership.{Ownership};
+ghost use Rattle.lot_words.specs.declared.views.WordStep.{WordStep};
+ghost use Rattle.lot_words.specs.declared.words.WordKind.TheVariants.{Mutex};
+ghost use Rattle.parking_lot_core.specs.Tokens.{IsTokenOf, IsSameThread, view_of, last_of};
+ghost use Rattle.lot_driver.specs.Calls.{MeetAt, beginning, purpose_in, IsUnfinished, WalksBehind};
+ghost use Rattle.lot_driver.specs.Fitting.{PlacesLead, AreWordsFor, AreWordsAfter, Fits, IsStopped, Reached, answer_of, aim_of, sleeper_at};
+ghost use Rattle.lot_driver.specs.MutexFitting.{IsMutexOver};
+ghost use Rattle.lot_driver.specs.Paths.{closure_of, mutex_at, at_mutex, GoesFrom, Runs, Told};
+ghost use Rattle.lot_driver.specs.Words.{AreWordsOf, kind_in, at_in};
+ghost use Rattle.lot_driver.specs.Stages.{IsIn, stage_of};
+ghost use Rattle.lot_driver.specs.Telling.{HasStepped, MayFind, MayTake, owns_of, steps_of};
+
+use crate::acting::{Sleeper, end, perform};
+use crate::words::Words;
+use lot_calls::{Answer, MutexCall, OnceState};
+use lot_steps::{Act, MutexPlace, Place, Reply, advance};
+use parking_lot_core::{Clock, Op, ParkingLot, Section, Token, Want, Word};
+use std::hint::spin_loop;
+use std::sync::Wait;
+use std::thread::yield_now;
+
+// The most loads in place of an act that leads to sleep, in one call.
+const MOST_LOADS: u32 = 6;
+
+// So many come before the thread lets others run.
+const PATIENT_LOADS: u32 = 3;
+
+// The rounds of the pause before the first load, and how often it doubles.
+const SHORTEST_PAUSE: u32 = 64;
+
+const DOUBLINGS: u32 = 3;
+
+/// The clock of who waits without a limit.
+pub struct NoClock;
+
+impl Clock for NoClock {
+    ghost tells = { λ _ _. Unit {0} };
+
+    fn now(&self) -> u64 {
+        0
+    }
+
+    fn pause(&self, _left: u64) {}
+}
+
+/// The deadline of who waits without a limit.
+pub const NO_LIMIT: Option<(&'static NoClock, u64)> = None;
+
+/// What a run of a call comes to.
+pub(crate) enum Stop {
+    /// The call is over.
+    Ended(Answer),
+    /// The closure of the call is to run, with this state. The call goes on behind the place.
+    Paused { place: Place, state: OnceState },
+}
+
+fn closure_of(act: Act) -> Option<OnceState>
+    ensures { result ≡ closure_of act }
+{
+    match act {
+        Act::Closure(state) => Some(state),
+        _ => None,
+    }
+}
+
+pub(crate) fn answer_of(act: Act) -> Option<Answer>
+    ensures { result ≡ answer_of act }
+{
+    match act {
+        Act::End(answer) => Some(answer),
+        _ => None,
+    }
+}
+
+/// One step on the word of a mutex.
+#[inline]
+pub fn step(lot: &ParkingLot, token: &mut Token, word: Word, op: Op) -> u64
+    requires own { MeetAt lot.now token.old word }
+    requires may { MayStep Mutex (mutex_at word.number) op (view_of token.old).owns }
+    ensures own { IsSameThread lot.now token.old token.new × (last_of token.new ≡ None) }
+    ensures stepped { view_of token.new ≡ after_step Mutex (mutex_at word.number) op result (view_of token.old) }
+    ensures coded { CodesWith Mutex (mutex_at word.number) result (view_of token.old).owns }
+{
+    lot.word(token, word, op)
+}
+
+// Each load takes the word's cache line from its owner, whom that slows. So a thread pauses before it loads, the longer the
+// more often it has loaded: the owner meanwhile takes many turns as if it were alone.
+fn pause(loads: u32) {
+    for _ in 0..SHORTEST_PAUSE << loads.min(DOUBLINGS) {
+        spin_loop();
+    }
+}
+
+// Where a call goes on. In place of an act that leads to sleep it looks at the word once more, after a pause, some times
+// over. Before a later look the thread lets others run.
+fn go_from(place: Place, loads: &mut u32) -> Place
+    ensures { GoesFrom place result }
+{
+    if *loads >= MOST_LOADS {
+        return place;
+    }
+    match place.looking() {
+        Some(looking) => {
+            pause(*loads);
+            if *loads >= PATIENT_LOADS {
+                yield_now();
+            }
+            *loads += 1;
+            looking
+        }
+        None => place,
+    }
+}
+
+/// All calls keep what fits at their places.
+pub(crate) fn places_lead<C: Clock>(_limit: Option<(&C, u64)>)
+    ensures { PlacesLead (IsUp C.tells _limit.entry) }
+{}
+
+// For what a thread sleeps in its call.
+fn sleeper(place: Place) -> Sleeper
+    requires { HasKeys place }
+    ensures { result ≡ sleeper_at place }
+{
+    let (lock, want, takes_over) = match place {
+        Place::Idle => (0, Want::Exclusive, false),
+        Place::Mutex { lock, .. } => (lock, Want::Exclusive, true),
+        Place::RwLock { lock, at, .. } => (lock, at.wants().unwrap_or(Want::Exclusive), false),
+    };
+    Sleeper {
+        lock,
+        want,
+        late: place.late_key(),
+        moved: None,
+        takes_over,
+    }
+}
+
+// One turn of a call: the act of its place. Whatever fitted there leads on to what fits.
+fn turn<'a, R: Wait, C: Clock>(
+    rt: &R,
+    lot: &'a ParkingLot,
+    token: &mut Token,
+    words: Words,
+    limit: Option<(&C, u64)>,
+    section: &mut Option<Section<'a>>,
+    place: Place,
+) -> Reply
+    requires own { IsTokenOf lot.now token.old × AreWordsOf lot.now words × IsIn lot.now section.old }
+    requires words { AreWordsFor place (kind_in words) (at_in words) }
+    requires fits { (base : List Ownership)
+        × Fits (IsUp C.tells limit) base place (stage_of token.old section.old) }
+    requires no_closure { closure_of (act_of place) ≡ None }
+    ensures own { IsSameThread lot.now token.old token.new × IsIn lot.now section.new }
+    ensures told { Told (at_in words) place result (steps_of token.old) (steps_of token.new) }
+    ensures reached { (base : List Ownership)
+        → Fits (IsUp C.tells limit.entry) base place (stage_of token.old section.old)
+        → Reached (IsUp C.tells limit.entry) base place result (stage_of token.new section.new) }
+{
+    perform(
+        rt,
+        lot,
+        token,
+        words,
+        limit,
+        sleeper(place),
+        section,
+        place.act(),
+    )
+}
+
+/// Runs a call from a place to its answer or its closure, up to a deadline where the call is timed.
+#[cold]
+#[inline(never)]
+pub(crate) fn run<R: Wait, C: Clock>(
+    rt: &R,
+    lot: &ParkingLot,
+    token: &mut Token,
+    words: Words,
+    limit: Option<(&C, u64)>,
+    start: Place,
+) -> Stop
+    requires own { IsTokenOf lot.now token.old × AreWordsOf lot.now words }
+    requires words { AreWordsFor start (kind_in words) (at_in words) }
+    requires start { (base : List Ownership) × Fits (IsUp C.tells limit) base start (stage_of token.old None) }
+    ensures own { IsSameThread lot.now token.old token.new }
+    ensures path { Runs (at_in words) start (steps_of token.old) (steps_of token.new) result }
+    ensures stopped { (base : List Ownership)
+        → Fits (IsUp C.tells limit.entry) base start (stage_of token.old None)
+        → IsStopped (IsUp C.tells limit.entry) base (aim_of start) result (stage_of token.new None) }
+    ensures words { AreWordsAfter result (kind_in words) (at_in words) }
+{
+    let mut place = start;
+    let mut section = None;
+    let mut loads = 0;
+    for _ in rt.forever() {
+        if let Some(state) = closure_of(place.act()) {
+            end(section);
+            return Stop::Paused { place, state };
+        }
+        let reply = turn(rt, lot, token, words, limit, &mut section, place);
+        let (next, act) = advance(place, reply);
+        if let Some(answer) = answer_of(act) {
+            end(section);
+            return Stop::Ended(answer);
+        }
+        place = go_from(next, &mut loads);
+    }
+    unreachable!()
+}
+
+/// Goes on behind the closure of a call, by whether that succeeded.
+pub(crate) fn resume<R: Wait, C: Clock>(
+    rt: &R,
+    lot: &ParkingLot,
+    token: &mut Token,
+    words: Words,
+    limit: Option<(&C, u64)>,
+    place: Place,
+    succeeded: bool,
+) -> Stop
+    requires own { IsTokenOf lot.now token.old × AreWordsOf lot.now words }
+    requires words { AreWordsFor place (kind_in words) (at_in words) }
+    requires closure { (state : OnceState) × (act_of place ≡ Act.Closure state) }
+    requires goes_on { answer_of (next_act place (Closed succeeded)) ≡ None }
+    requires fits { (base : List Ownership) × Fits (IsUp C.tells limit) base place (stage_of token.old None) }
+    ensures own { IsSameThread lot.now token.old token.new }
+    ensures path { Runs (at_in words) (next_place place (Closed succeeded))
+        (steps_of token.old) (steps_of token.new) result }
+    ensures stopped { (base : List Ownership)
+        → Fits (IsUp C.tells limit.entry) base place (stage_of token.old None)
+        → IsStopped (IsUp C.tells limit.entry) base (aim_of place) result (stage_of token.new None) }
+    ensures words { AreWordsAfter result (kind_in words) (at_in words) }
+{
+    let behind = place.after(Reply::Closed { succeeded });
+    run(rt, lot, token, words, limit, behind)
+}
+
+// Where a call goes on whose first step saw this.
+fn place_behind(word: Word, call: MutexCall, seen: u64) -> Place
+    ensures { result ≡ next_place (beginning word.number call) (Value seen) }
+{
+    let first = Place::Mutex {
+        lock: word.number(),
+        at: MutexPlace::first(call, false),
+    };
+    first.after(Reply::Value(seen))
+}
+
+/// The rest of a call whose first step saw this.
+#[cold]
+#[inline(never)]
+pub fn behind<R: Wait, C: Clock>(
+    rt: &R,
+    lot: &ParkingLot,
+    token: &mut Token,
+    word: Word,
+    limit: Option<(&C, u64)>,
+    call: MutexCall,
+    seen: u64,
+) -> Answer
+    requires own { MeetAt lot.now token.old word }
+    requires goes_on { IsUnfinished word.number call seen (view_of token.old).owns }
+    ensures own { IsSameThread lot.now token.old token.new }
+    ensures path { WalksBehind word.number call seen token.old token.new result }
+    ensures rest { (more : List WordStep) × (steps_of token.new ≡ steps_of token.old ++ more) }
+    ensures over { IsMutexOver (IsUp C.tells limit.entry) word.number (owns_of token.old)
+        (purpose_in call) result (stage_of token.new None) }
+{
+    let start = place_behind(word, call, seen);
+    match run(rt, lot, token, Words::alone(word), limit, start) {
+        Stop::Ended(answer) => answer,
+        // No call of a mutex runs a closure.
+        Stop::Paused { .. } => unreachable!(),
+    }
+}

@@ -1,0 +1,9 @@
+//! The driver of real threads: it leads a call through the places that the simulated world runs, and does each act on the lot.
+#![tactic(auto)]
+
+mod acting;
+pub mod courses;
+pub mod driver;
+pub mod rwlock_calls;
+mod taking;
+mod words;

@@ -1,0 +1,33 @@
+//! The words on which a call steps.
+ghost use Rattle.std.specs.Prelude.{◌≡◌};
+ghost use Rattle.lot_driver.specs.Words.{alone, word_in};
+
+use parking_lot_core::Word;
+
+/// The word of a lock, and where a call steps on the word of a second lock, that one too.
+#[derive(Clone, Copy)]
+pub(crate) struct Words {
+    one: Word,
+    other: Option<Word>,
+}
+
+impl Words {
+    pub(crate) fn alone(word: Word) -> Words
+        ensures { result ≡ alone word }
+    {
+        Words {
+            one: word,
+            other: None,
+        }
+    }
+
+    /// The word of the lock of this number.
+    pub(crate) fn of(self, lock: usize) -> Word
+        ensures { result ≡ word_in self lock }
+    {
+        match self.other {
+            Some(other) if other.number() == lock => other,
+            _ => self.one,
+        }
+    }
+}
