@@ -110,6 +110,24 @@ fn is_waited_for<const RECURSIVE: bool, R: Wait>(
     false
 }
 
+// Whether a try to read comes in.
+fn reads<const RECURSIVE: bool, R: Wait>(
+    rt: &R,
+    lock: &lock_api_rw::RwLock<RawRwLock<RECURSIVE>, u64>,
+    token: &mut Token,
+) -> bool
+    requires { IsTokenOf (lot_of lock.now) token.old }
+    ensures { IsTokenOf (lot_of lock.now) token.new }
+{
+    match lock.try_read(rt, token) {
+        Ok(Some(guard)) => {
+            guard.unlock(rt, token);
+            true
+        }
+        _ => false,
+    }
+}
+
 // Reads until a writer waits. Whether one came, and whether a try to read once more came in beside it.
 fn read_twice<const RECURSIVE: bool, R: Wait>(
     rt: &R,
@@ -124,13 +142,7 @@ fn read_twice<const RECURSIVE: bool, R: Wait>(
     let guard = lock.read(rt, &mut token).ok()?;
     held.store(true, SeqCst);
     let came = is_waited_for(rt, lot, lock, &mut token);
-    let again = match lock.try_read(rt, &mut token) {
-        Ok(Some(second)) => {
-            second.unlock(rt, &mut token);
-            true
-        }
-        _ => false,
-    };
+    let again = reads(rt, lock, &mut token);
     guard.unlock(rt, &mut token);
     drop(token.leave());
     Some((came, again))
