@@ -9,9 +9,9 @@ ghost use Rattle.lot_calls.specs.declared.calls.Access.TheVariants as access;
 ghost use Rattle.lot_calls.specs.declared.calls.Patience.TheVariants.{Timed};
 ghost use Rattle.lot_calls.specs.declared.calls.RwLockCall.TheVariants.{Enter};
 
-use lock_api::mutex::run_on;
-use crate::rwlock::RwLock;
 use crate::guards::{RwLockReadGuard, RwLockUpgradableReadGuard, RwLockWriteGuard};
+use crate::rwlock::RwLock;
+use lock_api::mutex::run_on;
 use lock_raw::{RawRwLock, RawRwLockTimed, RawRwLockUpgradeTimed};
 use lot_base::{Clock, Fault};
 use std::sync::Wait;

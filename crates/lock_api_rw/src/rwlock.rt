@@ -8,9 +8,9 @@ ghost use Rattle.lot_calls.specs.declared.calls.Patience.TheVariants.{Patient, T
 ghost use Rattle.lot_calls.specs.declared.calls.RwLockCall.TheVariants.{Enter};
 ghost use Rattle.lot_calls.specs.declared.outcomes.Answer.TheVariants as answers;
 
+use crate::guards::{RwLockReadGuard, RwLockUpgradableReadGuard, RwLockWriteGuard};
 use crate::held::Held;
 use crate::rights::{Reading, Upgrading, Writing};
-use crate::guards::{RwLockReadGuard, RwLockUpgradableReadGuard, RwLockWriteGuard};
 use lock_raw::{RawRwLock, RawRwLockUpgrade};
 use lot_base::Fault;
 use std::marker::Model;
