@@ -20,3 +20,4 @@ pub mod RwLockTakes
 pub mod RwLockRights
 pub mod TakesFew
 pub mod Behind
+pub mod RwLockFairCalls
