@@ -209,7 +209,6 @@ pub fn has_right(call: Call, thread: usize, owners: Owners, shares: usize) -> bo
 }
 
 /// The step of every call: where the reply to its act leads a thread, and what the thread is told.
-#[inline]
 pub fn arrive(place: Place, reply: Reply) -> (Place, Outcome)
     ensures place { result.0 ≡ next_place place reply }
     ensures outcome { result.1 ≡ outcome_of (next_act place reply) }
