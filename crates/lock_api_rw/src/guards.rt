@@ -117,7 +117,8 @@ impl<'a, R: RawRwLockUpgrade, T> Held<Upgrading<'a, R, T>, sync::RwLockReadGuard
     ) -> Result<RwLockWriteGuard<'a, R, T>, RwLockUpgradableReadGuard<'a, R, T>>
         requires { R.is_token_of (R.lot_of (lock_of self)) token.old }
         ensures token { R.is_token_of (R.lot_of (lock_of self.entry)) token.new × R.stays token.old token.new }
-        ensures guard { MatchResult result (λ guard. lock_of guard ≡ lock_of self.entry) (λ guard. lock_of guard ≡ lock_of self.entry) }
+        ensures guard { MatchResult result (λ guard. lock_of guard ≡ lock_of self.entry)
+            (λ guard. lock_of guard ≡ lock_of self.entry) }
         ensures path { R.walked (lock_of self.entry) (Upgrade Try) (upgrade_answer result) token.old token.new }
     {
         let (lock, raw) = self.close_upgradable();
@@ -144,8 +145,10 @@ impl<'a, R: RawRwLockUpgradeTimed, T> Held<Upgrading<'a, R, T>, sync::RwLockRead
     ) -> Result<RwLockWriteGuard<'a, R, T>, RwLockUpgradableReadGuard<'a, R, T>>
         requires { R.is_token_of (R.lot_of (lock_of self)) token.old }
         ensures token { R.is_token_of (R.lot_of (lock_of self.entry)) token.new × R.stays token.old token.new }
-        ensures guard { MatchResult result (λ guard. lock_of guard ≡ lock_of self.entry) (λ guard. lock_of guard ≡ lock_of self.entry) }
+        ensures guard { MatchResult result (λ guard. lock_of guard ≡ lock_of self.entry)
+            (λ guard. lock_of guard ≡ lock_of self.entry) }
         ensures path { R.walked (lock_of self.entry) (Upgrade Timed) (upgrade_answer result) token.old token.new }
+        ensures left { IfErr result (λ _. R.gave_up (lock_of self.entry) (Upgrade Timed) token.new) }
         ensures late { IfErr result (λ _. HasElapsed (C.tells clock.now) (as_nanos timeout)) }
     {
         let (lock, raw) = self.close_upgradable();
@@ -170,8 +173,10 @@ impl<'a, R: RawRwLockUpgradeTimed, T> Held<Upgrading<'a, R, T>, sync::RwLockRead
     ) -> Result<RwLockWriteGuard<'a, R, T>, RwLockUpgradableReadGuard<'a, R, T>>
         requires { R.is_token_of (R.lot_of (lock_of self)) token.old }
         ensures token { R.is_token_of (R.lot_of (lock_of self.entry)) token.new × R.stays token.old token.new }
-        ensures guard { MatchResult result (λ guard. lock_of guard ≡ lock_of self.entry) (λ guard. lock_of guard ≡ lock_of self.entry) }
+        ensures guard { MatchResult result (λ guard. lock_of guard ≡ lock_of self.entry)
+            (λ guard. lock_of guard ≡ lock_of self.entry) }
         ensures path { R.walked (lock_of self.entry) (Upgrade Timed) (upgrade_answer result) token.old token.new }
+        ensures left { IfErr result (λ _. R.gave_up (lock_of self.entry) (Upgrade Timed) token.new) }
         ensures late { IfErr result (λ _. HasPassed (C.tells clock.now) deadline) }
     {
         let (lock, raw) = self.close_upgradable();
@@ -192,7 +197,8 @@ impl<'a, R: RawRwLockUpgradeDowngrade, T> Held<Upgrading<'a, R, T>, sync::RwLock
         requires { R.is_token_of (R.lot_of (lock_of self)) token.old }
         ensures token { R.is_token_of (R.lot_of (lock_of self.entry)) token.new × R.stays token.old token.new }
         ensures guard { lock_of result ≡ lock_of self.entry }
-        ensures path { R.walked (lock_of self.entry) (Downgrade downgrades.UpgradableToShared) answers.Ok token.old token.new }
+        ensures path { R.walked (lock_of self.entry) (Downgrade downgrades.UpgradableToShared)
+            answers.Ok token.old token.new }
         ensures record { R.woke (lock_of self.entry) (Downgrade downgrades.UpgradableToShared) token.old token.new }
     {
         let (lock, raw) = self.close_upgradable();
@@ -287,7 +293,8 @@ impl<'a, R: RawRwLockUpgradeDowngrade, T> Held<Writing<'a, R, T>, sync::RwLockWr
         requires { R.is_token_of (R.lot_of (lock_of self)) token.old }
         ensures token { R.is_token_of (R.lot_of (lock_of self.entry)) token.new × R.stays token.old token.new }
         ensures guard { lock_of result ≡ lock_of self.entry }
-        ensures path { R.walked (lock_of self.entry) (Downgrade downgrades.ToUpgradable) answers.Ok token.old token.new }
+        ensures path { R.walked (lock_of self.entry) (Downgrade downgrades.ToUpgradable)
+            answers.Ok token.old token.new }
         ensures record { R.woke (lock_of self.entry) (Downgrade downgrades.ToUpgradable) token.old token.new }
     {
         let (lock, raw) = self.close_exclusive();

@@ -69,4 +69,8 @@ pub type RecursiveRwLockUpgradableReadGuard<'a, T> = lock_api_rw::RwLockUpgradab
 >;
 
 /// The guard of who writes.
-pub type RecursiveRwLockWriteGuard<'a, T> = lock_api_rw::RwLockWriteGuard<'a, RawRwLockRecursive, T>;
+pub type RecursiveRwLockWriteGuard<'a, T> = lock_api_rw::RwLockWriteGuard<
+    'a,
+    RawRwLockRecursive,
+    T,
+>;
