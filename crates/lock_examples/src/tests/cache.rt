@@ -88,11 +88,7 @@ fn fill_in<R: Wait>(
 }
 
 // What all prices come to.
-fn look_up_all<R: Wait>(
-    rt: &R,
-    cache: &RwLock<Vec<Priced>>,
-    ticket: Ticket,
-) -> Result<u64, Fault>
+fn look_up_all<R: Wait>(rt: &R, cache: &RwLock<Vec<Priced>>, ticket: Ticket) -> Result<u64, Fault>
     requires { IsTicketOf (lot_of cache.now) ticket }
 {
     let mut token = ticket.enter();

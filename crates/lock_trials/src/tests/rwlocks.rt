@@ -60,7 +60,14 @@ fn seats<const RECURSIVE: bool, T: Drop>(
     alloc: Global,
     threads: usize,
     value: T,
-) -> Result<(Arc<ParkingLot>, lock_api_rw::RwLock<RawRwLock<RECURSIVE>, T>, Vec<Ticket>), Fault>
+) -> Result<
+    (
+        Arc<ParkingLot>,
+        lock_api_rw::RwLock<RawRwLock<RECURSIVE>, T>,
+        Vec<Ticket>,
+    ),
+    Fault,
+>
     requires { threads < 100 }
     ensures { IfOk result (λ made. (lot_of made.1 ≡ arc_value made.0) × All (IsTicketOf (arc_value made.0)) made.2.items) }
 {

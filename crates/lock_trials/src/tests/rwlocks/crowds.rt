@@ -4,8 +4,7 @@ ghost use Rattle.parking_lot_core.specs.Tokens.{IsTicketOf, IsTokenOf};
 ghost use Rattle.parking_lot.specs.RwLockUsers.{lot_of};
 
 use super::seats;
-use parking_lot::lock_api_rw;
-use parking_lot::{Fault, RawRwLock, RwLock, Ticket, Token};
+use parking_lot::{Fault, RawRwLock, RwLock, Ticket, Token, lock_api_rw};
 use std::alloc::Global;
 use std::sync::Wait;
 use std::sync::atomic::AtomicUsize;
