@@ -1,4 +1,4 @@
--- Who finds a lock full of readers saw so by its last step, and is counted with them.
+-- Who finds a lock full of readers saw so by its last step.
 use Rattle.std.proofs.Common.{ℕ, Bool, true, false, not, List, Option, Some, None, if◌then◌else◌, ◌==◌, ◌≡◌, ◌≤◌, ◌+◌, ◌/◌, ◌%◌, ◌&&◌, ◌||◌, ◌∙◌, ◌++◌, nat_le, refl, ap, sym, subst, arith}
 use Rattle.std.proofs.lemmas.List.{append_assoc}
 use Rattle.std.proofs.lemmas.Bool.Decides.{nat_tests}
@@ -49,7 +49,7 @@ use Rattle.lot_words.specs.declared.views.WordStep.{WordStep}
 use Rattle.parking_lot_core.specs.Tokens.{view_of}
 use Rattle.parking_lot_core.specs.declared.tokens.Token.{Token}
 use Rattle.lot_driver.specs.Paths.{Brings, Path, at_rwlock, hands, here, is_valueless, looks, on, other, parks, rwlock_at, step, word}
-use Rattle.lot_driver.specs.RwLockCalls.{HasWalkedRwLock, IsCounted, rwlock_begin}
+use Rattle.lot_driver.specs.RwLockCalls.{HasWalkedRwLock, rwlock_begin}
 use Rattle.lot_driver.specs.RwLockRefusals.{SawFull}
 
 -- ---------------------------------------------------------------- words
@@ -459,7 +459,7 @@ value_seen l p _ _ (hands _ lock op s e) seen is = let same : s ≡ seen = cc in
 value_seen l p _ _ (parks _ lock key check _ s e) seen is = absurd cc
 value_seen l p _ _ (other _ told e none) seen is = let told_none : is_valueless (reply.Value seen) ≡ true = subst (λ (r : Reply). is_valueless r ≡ true) is none in absurd cc
 
--- who is told so is counted, is kept out by nobody, and sees as many readers as there may be
+-- who is told so is kept out by nobody, and sees as many readers as there may be
 module _ (a : Admission) (how : Patience) (seen : ℕ) where
   no_wait : (y : Patience) → decision_blocked y seen ≡ decisions.Refuse ReadersFull → ⊥
   no_wait Try e = cc
@@ -482,9 +482,9 @@ module _ (a : Admission) (how : Patience) (seen : ℕ) where
       by_tests false true eb ec f = (eb, ec)
       by_tests false false eb ec f = absurd cc
 
-  found : (x : Access) → decided_for a (purpose.Enter x how) seen ≡ decisions.Refuse ReadersFull → IsCounted x × (is_blocked a.recursive (wanted x) seen ≡ false) × (a.limit ≤ count_in seen)
-  found access.Shared e = let by = full_by want.Shared e in let most : nat_le a.limit (count_in seen) ≡ true = by.1 in (tt, by.0, grind (arith, nat_tests))
-  found access.Upgradable e = let by = full_by want.Upgradable e in let most : nat_le a.limit (count_in seen) ≡ true = by.1 in (tt, by.0, grind (arith, nat_tests))
+  found : (x : Access) → decided_for a (purpose.Enter x how) seen ≡ decisions.Refuse ReadersFull → (is_blocked a.recursive (wanted x) seen ≡ false) × (a.limit ≤ count_in seen)
+  found access.Shared e = let by = full_by want.Shared e in let most : nat_le a.limit (count_in seen) ≡ true = by.1 in (by.0, grind (arith, nat_tests))
+  found access.Upgradable e = let by = full_by want.Upgradable e in let most : nat_le a.limit (count_in seen) ≡ true = by.1 in (by.0, grind (arith, nat_tests))
   found access.Exclusive e = let by = full_by want.Exclusive e in let none : false ≡ true = by.1 in absurd cc
 
 begins_calling : (x : Access) (how : Patience) (l : ℕ) (a : Admission) → IsInCall a (purpose.Enter x how) (rwlock_begin l a (purpose.Enter x how))
@@ -493,10 +493,10 @@ begins_calling access.Upgradable how l a = (refl, (refl, tt))
 begins_calling access.Exclusive how l a = (refl, (refl, tt))
 
 -- so it is of a whole call that found the lock full
-pub sees_full : (x : Access) (how : Patience) (l : ℕ) (a : Admission) (old new : Token) → HasWalkedRwLock l a (purpose.Enter x how) ReadersFull old new → IsCounted x × SawFull l a x old new
+pub sees_full : (x : Access) (how : Patience) (l : ℕ) (a : Admission) (old new : Token) → HasWalkedRwLock l a (purpose.Enter x how) ReadersFull old new → SawFull l a x old new
 sees_full x how l a old new w =
     let told = ended_by a (purpose.Enter x how) (at_rwlock l) (rwlock_begin l a (purpose.Enter x how)) w.2.last w.2.before w.2.reply w.2.path (begins_calling x how l a) w.2.ends in
     let value = told_value a (purpose.Enter x how) w.2.reply told in
     let by = value_seen l w.2.last w.2.then w.2.reply w.2.tells value.0 value.1 in
     let is = found a how value.0 x value.2 in
-    (is.0, (w.2.before, by.0, value.0, w.1 ∙ ap (λ (s : List WordStep). (view_of old).steps ++ s) (w.2.all ∙ ap (λ (s : List WordStep). w.2.before ++ s) by.1) ∙ sym (append_assoc (view_of old).steps w.2.before (step (rwlock_at l) by.0 value.0)), is.1, is.2))
+    (w.2.before, by.0, value.0, w.1 ∙ ap (λ (s : List WordStep). (view_of old).steps ++ s) (w.2.all ∙ ap (λ (s : List WordStep). w.2.before ++ s) by.1) ∙ sym (append_assoc (view_of old).steps w.2.before (step (rwlock_at l) by.0 value.0)), is.0, is.1)

@@ -19,9 +19,9 @@ ghost use Rattle.lot_words.specs.Views.{owning};
 ghost use Rattle.lot_words.specs.declared.words.WordKind.TheVariants.{RwLock};
 ghost use Rattle.parking_lot_core.specs.Tokens.{IsTokenOf, IsSameThread, view_of, last_of};
 ghost use Rattle.lot_driver.specs.Paths.{rwlock_at, step};
-ghost use Rattle.lot_driver.specs.RwLockCalls.{Exclude, HasWalkedRwLock, IsCounted, IsRwLockRight, StaysBeside, WakesBy, entry_answer, turn_answer};
+ghost use Rattle.lot_driver.specs.RwLockCalls.{Exclude, HasWalkedRwLock, IsRwLockRight, StaysBeside, WakesBy, entry_answer, turn_answer};
+ghost use Rattle.lot_driver.specs.RwLockFitting.{IsCounted, MayGiveUp};
 ghost use Rattle.lot_driver.specs.RwLockRefusals.{GaveUp, SawFull};
-ghost use Rattle.lot_driver.specs.RwLockFitting.{MayGiveUp};
 ghost use Rattle.lot_driver.specs.Telling.{owns_of, steps_of};
 
 use lot_base::{main_key, second_key};

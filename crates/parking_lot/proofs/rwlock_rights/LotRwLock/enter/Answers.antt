@@ -46,11 +46,11 @@ returns-in_default g c = let n = c.args.self.now.word.number in let owns = (view
     let over = c.call-answer.ensures.over owns (begins_entering n c.args.access c.args.patience owns) in
     let full = found_full (IsUp g.C.Clock.tells c.args.limit) n owns c.args.self.now.admission c.args.access c.args.patience c.call-answer.result (stage_of c.call-answer.new.token None) over c.in_default.not-Ok c.in_default.not-Yes c.in_default.not-No in
     let sees = sees_full c.args.access c.args.patience n c.args.self.now.admission c.args.token.now c.call-answer.new.token (subst (λ (answer : Answer). Walks (at_rwlock n) (rwlock_begin n c.args.self.now.admission (Enter c.args.access c.args.patience)) (view_of c.args.token.now).steps (view_of c.call-answer.new.token).steps answer) full.0 c.call-answer.ensures.path) in record {
-      token = (search rules, (search rules, full.1));
+      token = (search rules, (search rules, full.2));
       right = refl;
       path = subst (λ (answer : Answer). Walks (at_rwlock c.args.self.now.word.number) (rwlock_begin c.args.self.now.word.number c.args.self.now.admission (Enter c.args.access c.args.patience)) (view_of c.args.token.now).steps (view_of c.call-answer.new.token).steps answer) full.0 c.call-answer.ensures.path;
       late = tt;
-      counted = sees.0;
-      full = sees.1;
+      counted = full.1;
+      full = sees;
       left = tt;
     }
