@@ -38,7 +38,7 @@ pub type RwLockWriteGuard<'a, R, T> = Held<Writing<'a, R, T>, sync::RwLockWriteG
 impl<'a, R: RawRwLock, T> Held<Reading<'a, R, T>, sync::RwLockReadGuard<'a, T>> {
     // Closes the inner lock, and only then gives the raw guard.
     #[inline]
-    fn close_shared(self) -> (&'a RwLock<R, T>, R::SharedGuard)
+    pub(crate) fn close_shared(self) -> (&'a RwLock<R, T>, R::SharedGuard)
         ensures { (result.0.now ≡ lock_of self.entry) × R.is_shared_of (lock_of self.entry) result.1 }
     {
         let Held { right, value } = self;
@@ -61,7 +61,7 @@ impl<'a, R: RawRwLock, T> Held<Reading<'a, R, T>, sync::RwLockReadGuard<'a, T>> 
 
 impl<'a, R: RawRwLockUpgrade, T> Held<Upgrading<'a, R, T>, sync::RwLockReadGuard<'a, T>> {
     #[inline]
-    fn close_upgradable(self) -> (&'a RwLock<R, T>, R::UpgradableGuard)
+    pub(crate) fn close_upgradable(self) -> (&'a RwLock<R, T>, R::UpgradableGuard)
         ensures { (result.0.now ≡ lock_of self.entry) × R.is_upgradable_of (lock_of self.entry) result.1 }
     {
         let Held { right, value } = self;
@@ -209,7 +209,7 @@ impl<'a, R: RawRwLockUpgradeDowngrade, T> Held<Upgrading<'a, R, T>, sync::RwLock
 
 impl<'a, R: RawRwLock, T> Held<Writing<'a, R, T>, sync::RwLockWriteGuard<'a, T>> {
     #[inline]
-    fn close_exclusive(self) -> (&'a RwLock<R, T>, R::ExclusiveGuard)
+    pub(crate) fn close_exclusive(self) -> (&'a RwLock<R, T>, R::ExclusiveGuard)
         ensures { (result.0.now ≡ lock_of self.entry) × R.is_exclusive_of (lock_of self.entry) result.1 }
     {
         let Held { right, value } = self;

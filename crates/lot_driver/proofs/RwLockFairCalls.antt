@@ -1,5 +1,5 @@
 -- The first steps of fair releases and bumps, and the rest of them.
-use Rattle.std.proofs.Common.{ℕ, Bool, true, false, List, [], ◌++◌, Option, Some, None, if◌then◌else◌, ◌≡◌, ◌≢◌, ◌-◌, ◌/◌, ◌^◌, ◌<◌, refl, ap, ◌∙◌, sym, subst, arith, eq-eqb, ne_eqb}
+use Rattle.std.proofs.Common.{inl, inr, ℕ, Bool, true, false, List, [], ◌++◌, Option, Some, None, if◌then◌else◌, ◌≡◌, ◌≢◌, ◌-◌, ◌/◌, ◌^◌, ◌<◌, refl, ap, ◌∙◌, sym, subst, arith, eq-eqb, ne_eqb}
 use Rattle.std.proofs.lemmas.List.{append-nil}
 use Rattle.lot_base.specs.Words.{apply}
 use Rattle.lot_base.specs.declared.ops.Op.{Op}
@@ -9,7 +9,7 @@ use Rattle.lot_calls.specs.declared.calls.Access.{Access}
 use Rattle.lot_calls.specs.declared.calls.Access.TheVariants as access
 use Rattle.lot_calls.specs.declared.calls.Patience.TheVariants.{Patient}
 use Rattle.lot_calls.specs.declared.outcomes.Answer.{Answer}
-use Rattle.lot_calls.specs.declared.outcomes.Answer.TheVariants.{Ok}
+use Rattle.lot_calls.specs.declared.outcomes.Answer.TheVariants.{Ok, ReadersFull}
 use Rattle.abstract_locks.specs.Sites.{Has}
 use Rattle.lot_acts.specs.declared.acts.Next.{Next}
 use Rattle.lot_acts.specs.declared.acts.Next.TheVariants.{At, End}
@@ -43,7 +43,7 @@ use Rattle.parking_lot_core.specs.declared.tokens.Token.{Token}
 use Rattle.lot_driver.specs.Fitting.{Fits, aim_of, of_rwlock}
 use Rattle.lot_driver.specs.Paths.{Walks, at_rwlock, rwlock_at, step}
 use Rattle.lot_driver.specs.RwLockCalls.{LeftFairly, TookUnlessFree}
-use Rattle.lot_driver.specs.RwLockFitting.{IsBeside, OwnsRight, TookWoken}
+use Rattle.lot_driver.specs.RwLockFitting.{Answers, IsBeside, IsCounted, OwnsRight, TookWoken}
 use Rattle.lot_driver.specs.Stages.{Stage, Stepped, stage_of}
 use Rattle.lot_driver.proofs.Paths.{ends_at_once, goes_on}
 use Rattle.lot_driver.proofs.RwLockKeeping.{alone_pends, kept, look_alone, look_upgradable, missed_looks, missed_same}
@@ -162,3 +162,11 @@ module _ (l : ℕ) (a : Admission) (x : Access) (seen : ℕ) (old mid new : List
 -- the first step of an exclusive owner is one that it may take
 pub may_leave_alone : (l : ℕ) (base owns : List Ownership) → OwnsRight l wants.Exclusive base owns → MayStep kinds.RwLock (rwlock_at l) (Exchange 8 0) owns
 may_leave_alone l base owns right = (rwlock_steps (rwlock_at l) owns).leave_alone (has_right l owners.Exclusive base owns right)
+
+-- a bump that has not its right again found the lock full of readers
+pub bump_full : (l : ℕ) (base : List Ownership) (a : Admission) (x : Access) (answer : Answer) (st : Stage) → Answers ⊥ l base a (purpose.Enter x Patient) answer st → (answer ≡ Ok → ⊥) → (answer ≡ ReadersFull) × IsCounted x × IsBeside l base st.owns
+bump_full l base a x answer st h other = elim h [
+  | inl got ↦ absurd (other got.0)
+  | inr (inl none) ↦ absurd none.1
+  | inr (inr full) ↦ full
+]
