@@ -21,18 +21,21 @@ ghost use Rattle.abstract_locks.specs.OnceSteps as once;
 use lot_base::Want;
 
 /// How many readers a reader-writer lock has, an upgradable owner among them.
+#[inline]
 pub fn count_in(word: u64) -> u64
     ensures { result ≡ codes.count_in word }
 {
     word / 16
 }
 
+#[inline]
 pub fn has_writer(word: u64) -> bool
     ensures { result ≡ codes.has_writer word }
 {
     word / 8 % 2 == 1
 }
 
+#[inline]
 pub fn has_upgradable(word: u64) -> bool
     ensures { result ≡ codes.has_upgradable word }
 {
@@ -40,6 +43,7 @@ pub fn has_upgradable(word: u64) -> bool
 }
 
 /// Whether a writer may stand in the second queue.
+#[inline]
 pub fn has_aside(word: u64) -> bool
     ensures { result ≡ codes.has_aside word }
 {
@@ -47,6 +51,7 @@ pub fn has_aside(word: u64) -> bool
 }
 
 /// Whether somebody may stand in the main queue.
+#[inline]
 pub fn has_parked(word: u64) -> bool
     ensures { result ≡ codes.has_parked word }
 {
@@ -55,6 +60,7 @@ pub fn has_parked(word: u64) -> bool
 
 /// Whether the owners of a reader-writer lock keep out who wants this. A recursive lock lets readers in beside
 /// readers.
+#[inline(always)]
 pub fn is_blocked(recursive: bool, want: Want, word: u64) -> bool
     ensures { result ≡ codes.is_blocked recursive want word }
 {
