@@ -1,0 +1,3 @@
+pub mod OnceSteps
+pub mod OnceProfiles
+pub mod OnceDeeds

@@ -1,0 +1,1 @@
+//! Each place of a call.
