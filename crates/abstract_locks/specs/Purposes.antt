@@ -18,7 +18,7 @@ use Rattle.lot_calls.specs.declared.calls.RwLockCall.{RwLockCall}
 use Rattle.lot_calls.specs.declared.calls.RwLockCall.TheVariants as rwlock_call
 use Rattle.lot_calls.specs.declared.calls.OnceCall.{OnceCall}
 use Rattle.lot_calls.specs.declared.calls.OnceCall.TheVariants as once_call
-use Rattle.abstract_locks.specs.Onces.{Start, Finish, Fail, Rest, TakeAll}
+use Rattle.abstract_locks.specs.Onces.{Start, Rest}
 use Rattle.abstract_locks.specs.Locks.{Rules, Mutex, Normal, Recursive, Once, LockCase, Enter, Pend, Settle, Leave, Convert, Park, Aside, TakeFirst, TakeAside, TakePicked, Wake, HandOff, Late, Rollback, OfOnce}
 
 -- what a call of a lock is for

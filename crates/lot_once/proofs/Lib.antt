@@ -1,0 +1,2 @@
+pub mod OnceWords
+pub mod OnceFit

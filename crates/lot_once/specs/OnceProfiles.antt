@@ -2,9 +2,8 @@
 use Rattle.std.specs.Prelude.{ℕ, Bool, true, false, Option, Some, None, if◌then◌else◌, not}
 use Rattle.lot_base.specs.declared.wants.Want.{Want}
 use Rattle.lot_calls.specs.declared.calls.OnceCall.{OnceCall}
-use Rattle.lot_calls.specs.declared.calls.OnceCall.TheVariants.{CallOnce, Wait}
 use Rattle.lot_acts.specs.Profiles.{hand, hand_owner, in_hand, in_line, Profile, blank}
-use Rattle.abstract_locks.specs.Purposes.{Purpose, CallsOnce, once_purpose}
+use Rattle.abstract_locks.specs.Purposes.{CallsOnce, once_purpose}
 use Rattle.abstract_locks.specs.Sites.{Doing, Line, Claim, Runs, Ran, Main, idle}
 use Rattle.lot_once.specs.declared.look.LookAt.{LookAt}
 use Rattle.lot_once.specs.declared.look.LookAt.TheVariants as look

@@ -13,7 +13,9 @@ ghost use Rattle.lot_acts.specs.Acts.{outcome_of};
 ghost use Rattle.lot_once.specs.OnceProfiles.{once_taker, once_wants, once_owes, once_retries};
 ghost use Rattle.lot_once.specs.OnceSteps.{once_first, once_act, once_next, once_looking, once_owners};
 
-use crate::look::{LookAt, begins_run, course_of, is_forced, look_act, next_look, still_retries, want_of, Course};
+use crate::look::{
+    Course, LookAt, begins_run, course_of, is_forced, look_act, next_look, still_retries, want_of,
+};
 use crate::run::{RunAt, next_run, phase_behind, run_act, state_before};
 use lot_acts::bits::{is_poisoned, is_running};
 use lot_acts::{Act, Next, Owners, Phase, Reply};

@@ -57,7 +57,11 @@ pub(super) fn state_before(poisoned: bool) -> OnceState
 pub(super) fn phase_behind(succeeded: bool) -> Phase
     ensures { result ≡ phase_behind succeeded }
 {
-    if succeeded { Phase::Done } else { Phase::Poisoned }
+    if succeeded {
+        Phase::Done
+    } else {
+        Phase::Poisoned
+    }
 }
 
 fn word_behind(succeeded: bool) -> u64
@@ -69,7 +73,11 @@ fn word_behind(succeeded: bool) -> u64
 fn ended(succeeded: bool) -> Answer
     ensures { result ≡ ended succeeded }
 {
-    if succeeded { Answer::Ok } else { Answer::Failed }
+    if succeeded {
+        Answer::Ok
+    } else {
+        Answer::Failed
+    }
 }
 
 /// Where a run goes.
