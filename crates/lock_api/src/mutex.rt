@@ -17,7 +17,8 @@ use std::sync::{Arc, Wait};
 use std::time::Duration;
 use value_place::{NamesPermit, Place};
 
-pub(crate) fn run_on<T, U, F: FnOnce(&mut T) -> U>(value: &mut T, f: F) -> U
+/// Calls a closure on a value: what the closure promises of the value as it was and as it is.
+pub fn run_on<T, U, F: FnOnce(&mut T) -> U>(value: &mut T, f: F) -> U
     requires { F.IsAlwaysCallable f }
     ensures { FnOnceReturnsAtMut F.FnOnce f value.old result value.new }
 {

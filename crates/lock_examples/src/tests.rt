@@ -1,4 +1,6 @@
-//! A shared counter, a queue of workers, and a try with a limit.
+//! A shared counter, a queue of workers, a try with a limit, and a cache.
+mod cache;
+
 ghost use Rattle.std.specs.Prelude.{All, IfOk};
 ghost use Rattle.std.specs.Arc.{arc_value};
 ghost use Rattle.parking_lot.specs.Users.{IsTicketOf, IsTokenOf, lot_of};

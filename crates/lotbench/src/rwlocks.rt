@@ -5,7 +5,7 @@ ghost use Rattle.parking_lot.specs.RwLockUsers.{lot_of};
 ghost use Rattle.parking_lot_core.specs.Tokens.{IsTokenOf};
 
 use parking_lot::lock_raw::{RawRwLock as RawLock, RawRwLockDowngrade, RawRwLockUpgrade};
-use parking_lot::{Fault, ParkingLot, RawRwLock, RecursiveRwLock, RwLock, Token, lock_api};
+use parking_lot::{Fault, ParkingLot, RawRwLock, RecursiveRwLock, RwLock, Token, lock_api_rw};
 use std::sync::{Arc, Wait};
 
 // One operation in so many writes, where some read and some write.
@@ -72,7 +72,7 @@ pub(crate) fn write_raw<L: RawLock, R: Wait>(rt: &R, lock: &L, token: &mut L::To
 }
 
 #[inline]
-fn read_once<L: RawLock, R: Wait>(rt: &R, lock: &lock_api::RwLock<L, u64>, token: &mut L::Token)
+fn read_once<L: RawLock, R: Wait>(rt: &R, lock: &lock_api_rw::RwLock<L, u64>, token: &mut L::Token)
     requires { L.is_token_of (L.lot_of lock.now) token.old }
     ensures { L.is_token_of (L.lot_of lock.now) token.new }
 {
@@ -83,7 +83,7 @@ fn read_once<L: RawLock, R: Wait>(rt: &R, lock: &lock_api::RwLock<L, u64>, token
 }
 
 #[inline]
-fn write_once<L: RawLock, R: Wait>(rt: &R, lock: &lock_api::RwLock<L, u64>, token: &mut L::Token)
+fn write_once<L: RawLock, R: Wait>(rt: &R, lock: &lock_api_rw::RwLock<L, u64>, token: &mut L::Token)
     requires { L.is_token_of (L.lot_of lock.now) token.old }
     ensures { L.is_token_of (L.lot_of lock.now) token.new }
 {
@@ -95,7 +95,7 @@ fn write_once<L: RawLock, R: Wait>(rt: &R, lock: &lock_api::RwLock<L, u64>, toke
 /// Reads the value.
 pub(crate) fn read_value<L: RawLock, R: Wait>(
     rt: &R,
-    lock: &lock_api::RwLock<L, u64>,
+    lock: &lock_api_rw::RwLock<L, u64>,
     token: &mut L::Token,
     times: u64,
 )
@@ -110,7 +110,7 @@ pub(crate) fn read_value<L: RawLock, R: Wait>(
 /// Adds 1 to the value.
 pub(crate) fn write_value<L: RawLock, R: Wait>(
     rt: &R,
-    lock: &lock_api::RwLock<L, u64>,
+    lock: &lock_api_rw::RwLock<L, u64>,
     token: &mut L::Token,
     times: u64,
 )
@@ -125,7 +125,7 @@ pub(crate) fn write_value<L: RawLock, R: Wait>(
 /// Reads the value, and adds 1 to it now and then.
 pub(crate) fn mix_value<L: RawLock, R: Wait>(
     rt: &R,
-    lock: &lock_api::RwLock<L, u64>,
+    lock: &lock_api_rw::RwLock<L, u64>,
     token: &mut L::Token,
     times: u64,
 )
@@ -144,7 +144,7 @@ pub(crate) fn mix_value<L: RawLock, R: Wait>(
 /// Comes in to read and perhaps write, and leaves.
 pub(crate) fn come_upgradable<L: RawRwLockUpgrade, R: Wait>(
     rt: &R,
-    lock: &lock_api::RwLock<L, u64>,
+    lock: &lock_api_rw::RwLock<L, u64>,
     token: &mut L::Token,
     times: u64,
 )
@@ -162,7 +162,7 @@ pub(crate) fn come_upgradable<L: RawRwLockUpgrade, R: Wait>(
 /// Comes in to read, upgrades, and adds 1 to the value.
 pub(crate) fn upgrade_value<L: RawRwLockUpgrade, R: Wait>(
     rt: &R,
-    lock: &lock_api::RwLock<L, u64>,
+    lock: &lock_api_rw::RwLock<L, u64>,
     token: &mut L::Token,
     times: u64,
 )
@@ -181,7 +181,7 @@ pub(crate) fn upgrade_value<L: RawRwLockUpgrade, R: Wait>(
 /// Adds 1 to the value, and reads on.
 pub(crate) fn downgrade_value<L: RawRwLockDowngrade, R: Wait>(
     rt: &R,
-    lock: &lock_api::RwLock<L, u64>,
+    lock: &lock_api_rw::RwLock<L, u64>,
     token: &mut L::Token,
     times: u64,
 )

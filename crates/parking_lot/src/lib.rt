@@ -11,6 +11,7 @@ pub mod rwlock_rights;
 
 pub use guards::{OpenGuard, RawGuard};
 pub use lock_api;
+pub use lock_api_rw;
 pub use lock_raw;
 pub use lot_base::{ListQueues, Queues};
 pub use lot_calls::{Answer, MutexCall};
@@ -39,33 +40,37 @@ pub type FairMutex<T> = lock_api::Mutex<RawFairMutex, T>;
 pub type FairMutexGuard<'a, T> = lock_api::MutexGuard<'a, RawFairMutex, T>;
 
 /// A value of a lot that many threads may read, or one may write. A writer that waits keeps further readers out.
-pub type RwLock<T> = lock_api::RwLock<RawRwLock<false>, T>;
+pub type RwLock<T> = lock_api_rw::RwLock<RawRwLock<false>, T>;
 
 /// The guard of who reads.
-pub type RwLockReadGuard<'a, T> = lock_api::RwLockReadGuard<'a, RawRwLock<false>, T>;
+pub type RwLockReadGuard<'a, T> = lock_api_rw::RwLockReadGuard<'a, RawRwLock<false>, T>;
 
 /// The guard of who reads, and may write later.
-pub type RwLockUpgradableReadGuard<'a, T> = lock_api::RwLockUpgradableReadGuard<
+pub type RwLockUpgradableReadGuard<'a, T> = lock_api_rw::RwLockUpgradableReadGuard<
     'a,
     RawRwLock<false>,
     T,
 >;
 
 /// The guard of who writes.
-pub type RwLockWriteGuard<'a, T> = lock_api::RwLockWriteGuard<'a, RawRwLock<false>, T>;
+pub type RwLockWriteGuard<'a, T> = lock_api_rw::RwLockWriteGuard<'a, RawRwLock<false>, T>;
 
 /// The same, of a value whose readers may read again beside a writer that waits for them.
-pub type RecursiveRwLock<T> = lock_api::RwLock<RawRwLockRecursive, T>;
+pub type RecursiveRwLock<T> = lock_api_rw::RwLock<RawRwLockRecursive, T>;
 
 /// The guard of who reads.
-pub type RecursiveRwLockReadGuard<'a, T> = lock_api::RwLockReadGuard<'a, RawRwLockRecursive, T>;
+pub type RecursiveRwLockReadGuard<'a, T> = lock_api_rw::RwLockReadGuard<'a, RawRwLockRecursive, T>;
 
 /// The guard of who reads, and may write later.
-pub type RecursiveRwLockUpgradableReadGuard<'a, T> = lock_api::RwLockUpgradableReadGuard<
+pub type RecursiveRwLockUpgradableReadGuard<'a, T> = lock_api_rw::RwLockUpgradableReadGuard<
     'a,
     RawRwLockRecursive,
     T,
 >;
 
 /// The guard of who writes.
-pub type RecursiveRwLockWriteGuard<'a, T> = lock_api::RwLockWriteGuard<'a, RawRwLockRecursive, T>;
+pub type RecursiveRwLockWriteGuard<'a, T> = lock_api_rw::RwLockWriteGuard<
+    'a,
+    RawRwLockRecursive,
+    T,
+>;

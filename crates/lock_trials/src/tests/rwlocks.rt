@@ -1,11 +1,16 @@
 //! Reader-writer locks with a value.
+mod crowds;
+mod guards;
+
 ghost use Rattle.std.specs.Prelude.{◌≡◌, ◌<◌, All, IfOk, IfSome};
 ghost use Rattle.std.specs.Arc.{arc_value};
 ghost use Rattle.parking_lot_core.specs.Tokens.{IsTicketOf, IsTokenOf};
 ghost use Rattle.parking_lot.specs.RwLockUsers.{lot_of};
 
 use super::lone;
-use parking_lot::{Fault, ParkingLot, RecursiveRwLock, RwLock, TickClock, Ticket, Token};
+use parking_lot::{
+    Fault, ParkingLot, RawRwLock, RecursiveRwLock, RwLock, TickClock, Ticket, Token, lock_api_rw,
+};
 use std::alloc::Global;
 use std::sync::atomic::AtomicUsize;
 use std::sync::atomic::Ordering::SeqCst;
@@ -26,13 +31,17 @@ fn lock_alone<T: Drop>(alloc: Global, value: T) -> Result<(RwLock<T>, Token), Fa
     }
 }
 
-// A lock of 0, made by the thread of a ticket.
-fn lock_by(lot: &Arc<ParkingLot>, ticket: Ticket) -> Result<RwLock<u64>, Fault>
+// A lock, made by the thread of a ticket.
+fn lock_by<const RECURSIVE: bool, T: Drop>(
+    lot: &Arc<ParkingLot>,
+    ticket: Ticket,
+    value: T,
+) -> Result<lock_api_rw::RwLock<RawRwLock<RECURSIVE>, T>, Fault>
     requires { IsTicketOf (arc_value lot.now) ticket }
     ensures { IfOk result (λ lock. lot_of lock ≡ arc_value lot.now) }
 {
     let mut token = ticket.enter();
-    match RwLock::new(lot, &mut token, 0) {
+    match lock_api_rw::RwLock::new(lot, &mut token, value) {
         Ok(lock) => Ok(lock),
         Err((fault, _)) => Err(fault),
     }
@@ -46,11 +55,19 @@ fn next_of(lot: &ParkingLot, tickets: &mut Vec<Ticket>) -> Option<Ticket>
     tickets.pop()
 }
 
-// A lock of 0 in a lot of so many threads and one more, with the tickets of these.
-fn seats(
+// A lock in a lot of so many threads and one more, with the tickets of these.
+fn seats<const RECURSIVE: bool, T: Drop>(
     alloc: Global,
     threads: usize,
-) -> Result<(Arc<ParkingLot>, RwLock<u64>, Vec<Ticket>), Fault>
+    value: T,
+) -> Result<
+    (
+        Arc<ParkingLot>,
+        lock_api_rw::RwLock<RawRwLock<RECURSIVE>, T>,
+        Vec<Ticket>,
+    ),
+    Fault,
+>
     requires { threads < 100 }
     ensures { IfOk result (λ made. (lot_of made.1 ≡ arc_value made.0) × All (IsTicketOf (arc_value made.0)) made.2.items) }
 {
@@ -58,7 +75,7 @@ fn seats(
     let Some(ticket) = next_of(&lot, &mut tickets) else {
         return Err(Fault::NoMemory);
     };
-    let lock = lock_by(&lot, ticket)?;
+    let lock = lock_by(&lot, ticket, value)?;
     Ok((lot, lock, tickets))
 }
 
@@ -196,7 +213,7 @@ fn downgrade_many<R: Wait>(rt: &R, lock: &RwLock<u64>, ticket: Ticket, wrongs: &
 
 // What all threads wrote, and how often one of them found something else than it had written.
 fn all_downgrade<R: Threads + Wait + Sync>(rt: &R, alloc: Global) -> Result<(u64, usize), Fault> {
-    let (_lot, lock, tickets) = seats(alloc, 8)?;
+    let (_lot, lock, tickets) = seats::<false, u64>(alloc, 8, 0)?;
     let (shared, wrongs) = (&lock, &AtomicUsize::new(0));
     let done = map_vec(
         rt,
@@ -246,7 +263,7 @@ fn upgrade_many<R: Wait>(rt: &R, lock: &RwLock<u64>, ticket: Ticket)
 }
 
 fn all_upgrade<R: Threads + Wait + Sync>(rt: &R, alloc: Global) -> Result<u64, Fault> {
-    let (_lot, lock, tickets) = seats(alloc, 6)?;
+    let (_lot, lock, tickets) = seats::<false, u64>(alloc, 6, 0)?;
     let shared = &lock;
     let done = map_vec(
         rt,

@@ -23,7 +23,7 @@ impl<K, V: Inner> Deref for Held<K, V> {
 
 impl<K, V: InnerMut> DerefMut for Held<K, V> {
     ghost use Rattle.std.specs.Borrow.{Lends, sem};
-    ghost use Rattle.lock_api.specs.contracts.held.Held.{the_row};
+    ghost use Rattle.lock_api_rw.specs.contracts.held.Held.{the_row};
 
     ghost deref_mut_gives = { λ guard value. value ≡ V.shown guard.value };
 

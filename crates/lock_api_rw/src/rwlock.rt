@@ -2,15 +2,15 @@
 ghost use Rattle.std.specs.Prelude.{◌≡◌, ◌⊎◌, ◌≤◌, IfNone, IfOk, IfSome, MatchResult};
 ghost use Rattle.std.specs.Arc.{arc_value};
 ghost use Rattle.lock_raw.specs.Answers.{answer_by, counted_answer, reading_answer};
-ghost use Rattle.lock_api.specs.RwLockGuards.{lock_of};
+ghost use Rattle.lock_api_rw.specs.Guards.{lock_of};
 ghost use Rattle.lot_calls.specs.declared.calls.Access.TheVariants as access;
 ghost use Rattle.lot_calls.specs.declared.calls.Patience.TheVariants.{Patient, Try};
 ghost use Rattle.lot_calls.specs.declared.calls.RwLockCall.TheVariants.{Enter};
 ghost use Rattle.lot_calls.specs.declared.outcomes.Answer.TheVariants as answers;
 
+use crate::guards::{RwLockReadGuard, RwLockUpgradableReadGuard, RwLockWriteGuard};
 use crate::held::Held;
 use crate::rights::{Reading, Upgrading, Writing};
-use crate::rwlock_guards::{RwLockReadGuard, RwLockUpgradableReadGuard, RwLockWriteGuard};
 use lock_raw::{RawRwLock, RawRwLockUpgrade};
 use lot_base::Fault;
 use std::marker::Model;

@@ -4,14 +4,14 @@ ghost use Rattle.std.specs.Duration.{as_nanos};
 ghost use Rattle.std.specs.Fn.{FnOnceReturnsAt, FnOnceReturnsAtMut};
 ghost use Rattle.lot_base.specs.Clocks.{HasElapsed, HasPassed};
 ghost use Rattle.lock_raw.specs.Answers.{answer_by, counted_answer};
-ghost use Rattle.lock_api.specs.RwLockGuards.{lock_of};
+ghost use Rattle.lock_api_rw.specs.Guards.{lock_of};
 ghost use Rattle.lot_calls.specs.declared.calls.Access.TheVariants as access;
 ghost use Rattle.lot_calls.specs.declared.calls.Patience.TheVariants.{Timed};
 ghost use Rattle.lot_calls.specs.declared.calls.RwLockCall.TheVariants.{Enter};
 
-use crate::mutex::run_on;
+use crate::guards::{RwLockReadGuard, RwLockUpgradableReadGuard, RwLockWriteGuard};
 use crate::rwlock::RwLock;
-use crate::rwlock_guards::{RwLockReadGuard, RwLockUpgradableReadGuard, RwLockWriteGuard};
+use lock_api::mutex::run_on;
 use lock_raw::{RawRwLock, RawRwLockTimed, RawRwLockUpgradeTimed};
 use lot_base::{Clock, Fault};
 use std::sync::Wait;

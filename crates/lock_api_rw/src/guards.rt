@@ -4,7 +4,7 @@ ghost use Rattle.std.specs.Prelude.{◌≡◌, IfErr, MatchResult};
 ghost use Rattle.std.specs.Duration.{as_nanos};
 ghost use Rattle.lot_base.specs.Clocks.{HasElapsed, HasPassed};
 ghost use Rattle.lock_raw.specs.Answers.{upgrade_answer};
-ghost use Rattle.lock_api.specs.RwLockGuards.{lock_of};
+ghost use Rattle.lock_api_rw.specs.Guards.{lock_of};
 ghost use Rattle.lot_calls.specs.declared.calls.Access.TheVariants as access;
 ghost use Rattle.lot_calls.specs.declared.calls.Downgrade.TheVariants as downgrades;
 ghost use Rattle.lot_calls.specs.declared.calls.Patience.TheVariants.{Patient, Timed, Try};
@@ -79,6 +79,16 @@ impl<'a, R: RawRwLockUpgrade, T> Held<Upgrading<'a, R, T>, sync::RwLockReadGuard
     {
         let (lock, raw) = self.close_upgradable();
         lock.raw().unlock_upgradable(rt, token, raw);
+    }
+
+    /// One thread at a time has this right: nobody ever has two such guards, so this can't be called.
+    pub fn has_two(self, token: &mut R::Token, other: RwLockUpgradableReadGuard<'a, R, T>) -> !
+        requires token { R.is_token_of (R.lot_of (lock_of self)) token.old }
+        requires lock { lock_of other ≡ lock_of self }
+    {
+        let (lock, one) = self.close_upgradable();
+        let (_, other) = other.close_upgradable();
+        lock.raw().has_two_upgradables(token, one, other)
     }
 
     /// Turns the right into that of who has the lock alone: further readers are kept out, and the others are waited for.
@@ -231,6 +241,22 @@ impl<'a, R: RawRwLock, T> Held<Writing<'a, R, T>, sync::RwLockWriteGuard<'a, T>>
         let (lock, one) = self.close_exclusive();
         let (_, other) = other.close_shared();
         lock.raw().has_writer_and_reader(token, one, other)
+    }
+}
+
+impl<'a, R: RawRwLockUpgrade, T> Held<Writing<'a, R, T>, sync::RwLockWriteGuard<'a, T>> {
+    /// A guard that may write excludes one that may write later: this can't be called either.
+    pub fn has_upgradable(
+        self,
+        token: &mut R::Token,
+        other: RwLockUpgradableReadGuard<'a, R, T>,
+    ) -> !
+        requires token { R.is_token_of (R.lot_of (lock_of self)) token.old }
+        requires lock { lock_of other ≡ lock_of self }
+    {
+        let (lock, writer) = self.close_exclusive();
+        let (_, reader) = other.close_upgradable();
+        lock.raw().has_writer_and_upgradable(token, writer, reader)
     }
 }
 

@@ -1,0 +1,131 @@
+//! Prices with their tax, which many threads look up. The first who misses one works it out, and the others find it.
+ghost use Rattle.std.specs.Prelude.{◌≡◌, ◌+◌, ◌*◌, ◌/◌, All, IfOk, IfSome};
+ghost use Rattle.parking_lot.specs.RwLockUsers.{lot_of};
+ghost use Rattle.parking_lot.specs.Users.{IsTicketOf, IsTokenOf};
+
+use super::lot_for_three;
+use parking_lot::{Fault, RwLock, Ticket, Token};
+use std::sync::Wait;
+use std::test::Fail;
+use std::thread::{Threads, map_vec};
+
+const PRICES: [u32; 4] = [100, 250, 999, 1000];
+
+/// A price and what it comes to with its tax. A lock keeps what its value's type says, so who reads finds right prices alone.
+#[derive(Clone, Copy)]
+struct Priced {
+    net: u32,
+    gross: u64,
+    ghost right: { gross ≡ net + net * 19 / 100 },
+}
+
+fn work_out(net: u32) -> Priced
+    ensures { result.net ≡ net }
+{
+    let price = u64::from(net);
+    Priced {
+        net,
+        gross: price + price * 19 / 100,
+    }
+}
+
+fn find(known: &[Priced], net: u32) -> Option<u64>
+    ensures { IfSome result (λ gross. gross ≡ net + net * 19 / 100) }
+{
+    for priced in known {
+        if priced.net == net {
+            return Some(priced.gross);
+        }
+    }
+    None
+}
+
+// Reads beside others that read, and waits for nobody but a writer.
+fn look_up<R: Wait>(
+    rt: &R,
+    cache: &RwLock<Vec<Priced>>,
+    token: &mut Token,
+    net: u32,
+) -> Result<u64, Fault>
+    requires { IsTokenOf (lot_of cache.now) token.old }
+    ensures token { IsTokenOf (lot_of cache.now) token.new }
+    ensures right { IfOk result (λ gross. gross ≡ net + net * 19 / 100) }
+{
+    let guard = cache.read(rt, token)?;
+    let found = find(guard.as_slice(), net);
+    guard.unlock(rt, token);
+    match found {
+        Some(gross) => Ok(gross),
+        None => fill_in(rt, cache, token, net),
+    }
+}
+
+// One thread at a time looks with the right to write later, so none works out what another has written meanwhile. Readers are
+// kept out only from the upgrade on.
+fn fill_in<R: Wait>(
+    rt: &R,
+    cache: &RwLock<Vec<Priced>>,
+    token: &mut Token,
+    net: u32,
+) -> Result<u64, Fault>
+    requires { IsTokenOf (lot_of cache.now) token.old }
+    ensures token { IsTokenOf (lot_of cache.now) token.new }
+    ensures right { IfOk result (λ gross. gross ≡ net + net * 19 / 100) }
+{
+    let guard = cache.upgradable_read(rt, token)?;
+    if let Some(gross) = find(guard.as_slice(), net) {
+        guard.unlock(rt, token);
+        return Ok(gross);
+    }
+    let priced = work_out(net);
+    let mut guard = guard.upgrade(rt, token);
+    let pushed = guard.push(priced);
+    guard.unlock(rt, token);
+    match pushed {
+        Ok(()) => Ok(priced.gross),
+        Err(_) => Err(Fault::NoMemory),
+    }
+}
+
+// What all prices come to.
+fn look_up_all<R: Wait>(rt: &R, cache: &RwLock<Vec<Priced>>, ticket: Ticket) -> Result<u64, Fault>
+    requires { IsTicketOf (lot_of cache.now) ticket }
+{
+    let mut token = ticket.enter();
+    let mut total = 0u64;
+    for net in PRICES {
+        total = total.wrapping_add(look_up(rt, cache, &mut token, net)?);
+    }
+    drop(token.leave());
+    Ok(total)
+}
+
+// Whether all threads of these tickets found the same, and how many prices were worked out.
+fn all_look_up<R: Threads + Wait + Sync>(
+    rt: &R,
+    cache: RwLock<Vec<Priced>>,
+    tickets: Vec<Ticket>,
+) -> Result<(bool, usize), Fault>
+    requires { All (IsTicketOf (lot_of cache)) tickets.items }
+{
+    let shared = &cache;
+    let found = map_vec(
+        rt,
+        tickets,
+        &|ticket: Ticket|
+            requires { IsTicketOf (lot_of shared.now) ticket }
+        { look_up_all(rt, shared, ticket) },
+    );
+    let same = found.is_ok_and(|found| found.iter().all(|total| *total == Ok(2794)));
+    Ok((same, cache.into_inner().len()))
+}
+
+#[test]
+fn a_cache(rt: HostRuntime) -> Result<(), Fail> {
+    let (lot, mut token, tickets) = lot_for_three(rt.alloc())?;
+    let Ok(cache) = RwLock::new(&lot, &mut token, Vec::new(rt.alloc())) else {
+        return Err(Fail::from(Fault::NoMemory));
+    };
+    assert_eq!(rt; all_look_up(&rt, cache, tickets)?, (true, 4));
+    Ok(())
+}
