@@ -1,2 +1,3 @@
 pub mod OnceWords
 pub mod OnceFit
+pub mod OnceTells

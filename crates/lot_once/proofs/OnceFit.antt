@@ -97,7 +97,7 @@ module _ (r : Rules) (s : Site) (t : ℕ) (sort : r.sort ≡ Once) (h : IsSite r
 
 module _ (r : Rules) (s : Site) (t l : ℕ) where
   may_start : (c : OnceCall) (k : Course) → course_of c (word_of s) ≡ k → k ≡ Runs → MayStart s.lock.phase (is_forced c)
-  may_start c k e f = subst (MayGo c s.parked s.lock.phase) (e ∙ f) (may_go c s.parked s.lock.phase)
+  may_start c k e f = let may : MayGo c s.parked s.lock.phase Runs = subst (MayGo c s.parked s.lock.phase) (e ∙ f) (may_go c s.parked s.lock.phase) in may.0
 
   follows : (p : OncePlace) (f : Op) → IsAt r s t p → once_act l p ≡ act.Word l f → Follows r s t p (Value (word_of s))
   follows (Look c retries look.Load) f a is =

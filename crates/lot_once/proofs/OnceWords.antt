@@ -9,7 +9,7 @@ use Rattle.abstract_locks.specs.Sites.{Site}
 use Rattle.abstract_locks.specs.Codes.{bit, code, code_of, is_marked}
 use Rattle.lot_once.specs.declared.look.Course.{Course}
 use Rattle.lot_once.specs.declared.look.Course.TheVariants.{Ends, Runs, Marks, Parks}
-use Rattle.lot_once.specs.OnceSteps.{is_forced, want_of, course_of, started, marked}
+use Rattle.lot_once.specs.OnceSteps.{is_forced, runs, want_of, course_of, started, marked}
 
 abbrev pub word : Bool → Phase → ℕ
 word parked phase = 8 * bit parked + phase_code phase
@@ -23,19 +23,19 @@ coded r s sort = ap (λ x. code_of x r.limit s) sort
 -- what a call does by the word, it may do
 abbrev pub MayGo : OnceCall → Bool → Phase → Course → Type 0
 MayGo c parked phase (Ends answer.Ok) = phase ≡ Done
-MayGo c parked phase (Ends answer.Poisoned) = phase ≡ Poisoned
+MayGo c parked phase (Ends answer.Poisoned) = (phase ≡ Poisoned) × (is_forced c ≡ false)
 MayGo c parked phase (Ends other) = ⊥
-MayGo c parked phase Runs = MayStart phase (is_forced c)
+MayGo c parked phase Runs = MayStart phase (is_forced c) × (runs c ≡ true)
 MayGo c parked phase Marks = MayRest (want_of c) (is_forced c) phase
 MayGo c parked phase Parks = (parked ≡ true) × MayRest (want_of c) (is_forced c) phase
 
 pub may_go : (c : OnceCall) (parked : Bool) (phase : Phase) → MayGo c parked phase (course_of c (word parked phase))
-may_go (CallOnce forced) true New = tt
-may_go (CallOnce forced) false New = tt
-may_go (CallOnce true) true Poisoned = tt
-may_go (CallOnce true) false Poisoned = tt
-may_go (CallOnce false) true Poisoned = refl
-may_go (CallOnce false) false Poisoned = refl
+may_go (CallOnce forced) true New = (tt, refl)
+may_go (CallOnce forced) false New = (tt, refl)
+may_go (CallOnce true) true Poisoned = (tt, refl)
+may_go (CallOnce true) false Poisoned = (tt, refl)
+may_go (CallOnce false) true Poisoned = (refl, refl)
+may_go (CallOnce false) false Poisoned = (refl, refl)
 may_go (CallOnce forced) true (InProgress u) = (refl, tt)
 may_go (CallOnce forced) false (InProgress u) = tt
 may_go (CallOnce forced) true Done = refl
@@ -44,8 +44,8 @@ may_go (Wait forced) true New = (refl, tt)
 may_go (Wait forced) false New = tt
 may_go (Wait true) true Poisoned = (refl, tt)
 may_go (Wait true) false Poisoned = tt
-may_go (Wait false) true Poisoned = refl
-may_go (Wait false) false Poisoned = refl
+may_go (Wait false) true Poisoned = (refl, refl)
+may_go (Wait false) false Poisoned = (refl, refl)
 may_go (Wait forced) true (InProgress u) = (refl, tt)
 may_go (Wait forced) false (InProgress u) = tt
 may_go (Wait forced) true Done = refl

@@ -1,4 +1,5 @@
 //! What the steps of a `Once` do to it.
+ghost use Rattle.lot_once.specs.OnceCalls.{OnceSectionsTell, OnceSleepersHear, OnceStepsTell};
 ghost use Rattle.lot_once.specs.OnceDeeds.{OnceOwnersFollow, OnceSectionsFollow, OnceStepsCode, OnceStepsFollow};
 
 /// Each step on the word of a `Once` may do to it what its deeds say, and its next place says what the thread does then.
@@ -19,4 +20,20 @@ pub fn once_owners_follow()
 /// Each step into the section, in it, and out of it may do to the `Once` what its deeds say too.
 pub fn once_sections_follow()
     ensures { OnceSectionsFollow }
+{}
+
+/// Each step on the word of a `Once` makes of its call what its next row says, the call is made of the step's case, and its answer is
+/// true.
+pub fn once_steps_tell()
+    ensures { OnceStepsTell }
+{}
+
+/// And so does each step into the section, in it, and out of it.
+pub fn once_sections_tell()
+    ensures { OnceSectionsTell }
+{}
+
+/// What befalls a thread asleep makes of its call what its row says.
+pub fn once_sleepers_hear()
+    ensures { OnceSleepersHear }
 {}
