@@ -31,7 +31,8 @@ pub record IsWorldStep (w : State) (s : Step) (o : Outcome) (v : State) : Type 0
   pub touches : TouchesOnlyByGoing w s.turn v
   -- its thread begins and ends to owe a wake by what it sees and where it is
   pub owing : OwesSince w s.thread o v
-  -- a fair release lets its mutex go only where nobody waits, and else the first waiter owns it in its place
+  -- a fair release gives to those whom it has taken in one step: of a mutex to the first waiter, of a lock that is shared to all of them, where the
+  -- limit allows
   pub fair : IsFair w v
   -- words are coded, and nobody is forgotten
   pub kept : IsKept v

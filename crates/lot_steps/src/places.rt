@@ -80,25 +80,7 @@ impl Place {
     pub fn after(self, reply: Reply) -> Place
         ensures { result ≡ next_place self reply }
     {
-        match self {
-            Place::Idle => Place::Idle,
-            Place::Mutex { lock, at } => match at.next(reply) {
-                Next::At(at) => Place::Mutex { lock, at },
-                Next::End(_) => Place::Idle,
-            },
-            Place::RwLock {
-                lock,
-                admission,
-                at,
-            } => match at.next(admission, reply) {
-                Next::At(at) => Place::RwLock {
-                    lock,
-                    admission,
-                    at,
-                },
-                Next::End(_) => Place::Idle,
-            },
-        }
+        arrive(self, reply).0
     }
 
     /// Who owns the lock after the thread's operation on its word, which saw this value. Those to whom the
@@ -226,7 +208,7 @@ pub fn has_right(call: Call, thread: usize, owners: Owners, shares: usize) -> bo
     }
 }
 
-/// As `advance`, and what the thread is told of what it does next.
+/// The step of every call: where the reply to its act leads a thread, and what the thread is told.
 pub fn arrive(place: Place, reply: Reply) -> (Place, Outcome)
     ensures place { result.0 ≡ next_place place reply }
     ensures outcome { result.1 ≡ outcome_of (next_act place reply) }
@@ -255,32 +237,15 @@ pub fn arrive(place: Place, reply: Reply) -> (Place, Outcome)
     }
 }
 
-/// The step of every call: where the reply to its act leads a thread, and what the thread does next.
+/// The same step, with what the thread does next in place of what it is told.
 pub fn advance(place: Place, reply: Reply) -> (Place, Act)
     requires { HasKeys place }
     ensures place { result.0 ≡ next_place place reply }
     ensures act { result.1 ≡ next_act place reply }
 {
-    match place {
-        Place::Idle => (Place::Idle, Act::Rest),
-        Place::Mutex { lock, at } => match at.next(reply) {
-            Next::At(at) => (Place::Mutex { lock, at }, at.act(lock)),
-            Next::End(answer) => (Place::Idle, Act::End(answer)),
-        },
-        Place::RwLock {
-            lock,
-            admission,
-            at,
-        } => match at.next(admission, reply) {
-            Next::At(at) => {
-                let next = Place::RwLock {
-                    lock,
-                    admission,
-                    at,
-                };
-                (next, at.act(lock, admission))
-            }
-            Next::End(answer) => (Place::Idle, Act::End(answer)),
-        },
+    let (next, outcome) = arrive(place, reply);
+    match outcome {
+        Outcome::End(answer) => (next, Act::End(answer)),
+        _ => (next, next.act()),
     }
 }

@@ -80,7 +80,8 @@ impl<Q: Queues + Drop> World<Q> {
         ensures one_thing { ChangesOneThing self.old step.thread self.new }
         ensures touches { TouchesOnlyByGoing self.old step.turn self.new }
 
-        // A fair release lets its mutex go only where nobody waits, and else the first waiter owns it in its place.
+        // A fair release lets its mutex go only where nobody waits, and else the first waiter owns it in its place; of a lock that is shared
+        // all whom it has taken have what they waited for in that one step, or are woken where they would pass the limit.
         ensures fair { IsFair self.old self.new }
 
         // Words are coded, counts keep to the limit, and whoever waits for a lock whose way nobody bars has a thread that owes its wake or

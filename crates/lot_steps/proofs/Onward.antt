@@ -1,0 +1,50 @@
+-- Where a step leads, and what is done there.
+use Rattle.std.proofs.Common.{ℕ, ◌≡◌, ◌≢◌, refl, arith}
+use Rattle.lot_calls.specs.declared.outcomes.Answer.{Answer}
+use Rattle.lot_calls.specs.declared.outcomes.Outcome as outcome
+use Rattle.lot_acts.specs.Acts.{outcome_of}
+use Rattle.lot_acts.specs.declared.acts.Act.{Act}
+use Rattle.lot_acts.specs.declared.acts.Act as act
+use Rattle.lot_acts.specs.declared.acts.Next.{Next}
+use Rattle.lot_acts.specs.declared.acts.Next.TheVariants.{At, End}
+use Rattle.lot_acts.specs.declared.acts.Reply.{Reply}
+use Rattle.lot_steps.specs.declared.places.Place.{Place}
+use Rattle.lot_steps.specs.declared.places.Place.TheVariants.{Idle, Mutex, RwLock}
+use Rattle.lot_steps.specs.Steps.{HasKeys, act_of, next_place, next_act, mutex_goes, mutex_does, rwlock_goes, rwlock_does}
+use Rattle.lot_mutex.specs.MutexSteps.{mutex_next}
+use Rattle.lot_mutex.specs.declared.places.MutexPlace.{MutexPlace}
+use Rattle.lot_rwlock.specs.declared.places.Admission.{Admission}
+use Rattle.lot_rwlock_fair.specs.FairSteps.{call_next}
+use Rattle.lot_rwlock_fair.specs.declared.places.RwLockCallPlace.{RwLockCallPlace}
+
+-- the keys of the lock stay numbers
+pub keeps_keys : (p : Place) (r : Reply) → HasKeys p → HasKeys (next_place p r)
+keeps_keys Idle r keys = keys
+keeps_keys (Mutex lock at) r keys = of (mutex_next at r)
+  where
+    of : (n : Next MutexPlace) → HasKeys (mutex_goes lock n)
+    of (At q) = keys
+    of (End x) = tt
+keeps_keys (RwLock lock a at) r keys = of (call_next a at r)
+  where
+    of : (n : Next RwLockCallPlace) → HasKeys (rwlock_goes lock a n)
+    of (At q) = keys
+    of (End x) = tt
+
+-- a step that ends no call does what its place says
+pub does : (p : Place) (r : Reply) → ((x : Answer) → next_act p r ≢ act.TheVariants.End x) → next_act p r ≡ act_of (next_place p r)
+does Idle r goes = refl
+does (Mutex lock at) r goes = of (mutex_next at r) goes
+  where
+    of : (n : Next MutexPlace) → ((x : Answer) → mutex_does lock n ≢ act.TheVariants.End x) → mutex_does lock n ≡ act_of (mutex_goes lock n)
+    of (At q) h = refl
+    of (End x) h = absurd (h x refl)
+does (RwLock lock a at) r goes = of (call_next a at r) goes
+  where
+    of : (n : Next RwLockCallPlace) → ((x : Answer) → rwlock_does lock a n ≢ act.TheVariants.End x) → rwlock_does lock a n ≡ act_of (rwlock_goes lock a n)
+    of (At q) h = refl
+    of (End x) h = absurd (h x refl)
+
+-- who is told of an answer ends its call with it
+pub ends : (c : Act) (x : Answer) → outcome_of c ≡ outcome.TheVariants.End x → c ≡ act.TheVariants.End x
+ends c x e = grind arith
