@@ -2,6 +2,7 @@
 #![tactic(auto)]
 
 pub mod rwlock;
+pub mod rwlock_fair;
 
 ghost use Rattle.std.specs.Prelude.{◌≡◌, ◌⊎◌, Bool, MatchResult, IfNone, IfSome};
 ghost use Rattle.std.specs.Arc.{arc_value};
@@ -19,6 +20,7 @@ pub use rwlock::{
     RawRwLock, RawRwLockDowngrade, RawRwLockTimed, RawRwLockUpgrade, RawRwLockUpgradeDowngrade,
     RawRwLockUpgradeTimed,
 };
+pub use rwlock_fair::{RawRwLockFair, RawRwLockUpgradeFair};
 use std::sync::{Arc, Wait};
 use std::time::Duration;
 use value_place::Permit;

@@ -1,4 +1,4 @@
-//! Raw reader-writer locks, as generic code sees them. Fair releases and bumps are not among their calls yet.
+//! Raw reader-writer locks, as generic code sees them.
 ghost use Rattle.std.specs.Prelude.{◌≡◌, ◌⊎◌, ◌≤◌, Bool, MatchResult, IfErr, IfNone, IfOk, IfSome};
 ghost use Rattle.std.specs.Arc.{arc_value};
 ghost use Rattle.std.specs.Duration.{as_nanos};

@@ -22,7 +22,7 @@ use Rattle.lot_rwlock.specs.declared.purposes.RwLockPurpose.{RwLockPurpose}
 use Rattle.lot_rwlock.specs.declared.purposes.RwLockPurpose.TheVariants as purposes
 use Rattle.lot_driver.specs.RwLockFitting.{Answers}
 use Rattle.lot_driver.proofs.RwLockLeading.{rwlock_no_closure}
-use Rattle.lot_driver.specs.Fitting.{Aim, nothing, of_mutex, of_rwlock, aim_of, answer_of, Fits, IsOver, IsStopped}
+use Rattle.lot_driver.specs.Fitting.{Aim, nothing, of_fair, of_mutex, of_rwlock, aim_of, answer_of, Fits, IsOver, IsStopped}
 use Rattle.lot_driver.specs.MutexFitting.{Purpose, enters, releases, hands_over, FitsMutex, IsMutexOver}
 use Rattle.lot_driver.specs.Paths.{closure_of}
 use Rattle.lot_driver.specs.Stages.{Inside, Stage, ActNeeds, stage}
@@ -68,11 +68,13 @@ module _ (up : Type 0) (base owns : List Ownership) where
   ended nothing answer inside last h = absurd h
   ended (of_mutex n purpose) answer inside last h = mutex_ended n purpose answer inside last h
   ended (of_rwlock l a purpose) answer inside last h = (refl, rwlock_ended l a purpose answer inside last h.1)
+  ended (of_fair l a x) answer inside last h = (refl, h.1, h.2, h.3)
 
   pub outside : (aim : Aim) (answer : Answer) (inside : Option Inside) (last : Option SectionRecord) → IsOver up base aim answer (stage owns inside last) → inside ≡ None
   outside nothing answer inside last h = absurd h
   outside (of_mutex n purpose) answer inside last h = mutex_outside n purpose answer inside last h
   outside (of_rwlock l a purpose) answer inside last h = h.0
+  outside (of_fair l a x) answer inside last h = h.0
 
 -- no call of a mutex runs a closure
 no_closure : (n : ℕ) (state : OnceState) (up : Type 0) (base : List Ownership) (at : MutexPlace) (st : Stage) → FitsMutex up n base at st → mutex_act n at ≡ act.TheVariants.Closure state → ⊥

@@ -65,7 +65,7 @@ module _ (n : ℕ) (base : List Ownership) (st : Stage) where
       by_first None e i word gives = absurd cc
       by_first (Some to) e i word gives = (
         subst IsUngiven (sym i) refl,
-        subst (λ (x : Option Inside). HandsEach kinds.TheVariants.Mutex (mutex_at n) (Store word) st.owns (wanted_in x)) (sym i) (λ seen code. (gives seen code, tt)),
+        subst (λ (x : Option Inside). HandsEach kinds.TheVariants.Mutex (mutex_at n) (Store word) st.owns (wanted_in x)) (sym i) (λ seen code won. (gives seen code, tt)),
       )
   hand_off_needs (at.Leave false) f = by_none f.0 f.1 f.2.1
     where

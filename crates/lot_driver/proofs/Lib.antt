@@ -5,6 +5,11 @@ pub mod RwLockDeciding
 pub mod RwLockNeeds
 pub mod RwLockKeeping
 pub mod RwLockLeads
+pub mod RwLockHands
+pub mod RwLockHanding
+pub mod RwLockGoing
+pub mod RwLockHanded
+pub mod RwLockBumping
 pub mod RwLockLeading
 pub mod Leading
 pub mod RwLockBeginning
@@ -12,8 +17,7 @@ pub mod Turning
 pub mod RwLockCalling
 pub mod RwLockCourses
 pub mod RwLockTakes
-pub mod RwLockFull
 pub mod RwLockRights
-pub mod RwLockHands
 pub mod TakesFew
 pub mod Behind
+pub mod RwLockFairCalls

@@ -33,13 +33,13 @@ use Rattle.parking_lot_core.specs.declared.tokens.Token.{Token}
 use Rattle.lot_driver.specs.Fitting.{Aim, AreWordsFor, Fits, IsOver, aim_of, answer_of, of_rwlock}
 use Rattle.lot_driver.specs.Paths.{Walks, at_rwlock, rwlock_at, rwlocks, step}
 use Rattle.lot_driver.specs.RwLockCalls.{AnswersCall, BeginsWith, TookUnlessEnded, Wakes, WakesBy, first_op, rwlock_begin}
-use Rattle.lot_driver.specs.RwLockFitting.{Answers, IsBeside, IsRwLockOver, MayGiveUp, OwnsRight, TookWoken}
+use Rattle.lot_driver.specs.RwLockFitting.{Answers, IsBeside, IsCounted, IsRwLockOver, MayGiveUp, OwnsRight, TookWoken}
 use Rattle.lot_driver.specs.Stages.{Stage, Stepped, stage_of}
 use Rattle.lot_driver.specs.Words.{alone, at_in, kind_in}
 use Rattle.lot_driver.proofs.Ending.{end_of}
 use Rattle.lot_driver.proofs.Paths.{ends_at_once, goes_on}
 use Rattle.lot_driver.proofs.RwLockBeginning.{Begun, begins_with, begun, may_begin}
-use Rattle.lot_driver.proofs.RwLockLeading as leading
+use Rattle.lot_driver.proofs.RwLockGoing as leading
 use Rattle.lot_driver.proofs.Turning.{by_stage, words_on}
 
 module _ (word : Word) (is : word.kind ≡ kinds.RwLock) where
@@ -174,11 +174,11 @@ module _ (up : Type 0) (l : ℕ) (base : List Ownership) (a : Admission) (x : Ac
     | inr (inr full) ↦ let n = full.0 in absurd cc
   ]
 
-  pub found_full : (answer ≡ answers.Ok → ⊥) → (answer ≡ answers.Yes → ⊥) → (answer ≡ answers.No → ⊥) → (answer ≡ answers.ReadersFull) × IsBeside l base st.owns
+  pub found_full : (answer ≡ answers.Ok → ⊥) → (answer ≡ answers.Yes → ⊥) → (answer ≡ answers.No → ⊥) → (answer ≡ answers.ReadersFull) × IsCounted x × IsBeside l base st.owns
   found_full o y n = elim h [
     | inl got ↦ absurd (full_entry how answer got.0 o y)
     | inr (inl none) ↦ absurd (n none.0)
-    | inr (inr full) ↦ (full.0, full.1)
+    | inr (inr full) ↦ full
   ]
 
 -- a call that goes on behind its first step

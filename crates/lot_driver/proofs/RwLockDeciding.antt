@@ -73,13 +73,14 @@ module _ (a : Admission) (how : Patience) (v : ℕ) where
       by_tests false false f = absurd cc
 
   -- a try is refused where the lock is blocked, and whoever counts where it is full
-  pub refuses : (x : Want) (answer : Answer) → decision a x how v ≡ decisions.Refuse answer → ((answer ≡ No) × (how ≡ Try)) ⊎ (answer ≡ ReadersFull)
-  refuses x answer e = by_tests (is_blocked a.recursive x v) (is_counted x && nat_le a.limit (count_in v)) e
+  pub refuses : (x : Want) (answer : Answer) → decision a x how v ≡ decisions.Refuse answer → ((answer ≡ No) × (how ≡ Try)) ⊎ ((answer ≡ ReadersFull) × (is_counted x ≡ true))
+  refuses x answer e = by_tests (is_blocked a.recursive x v) (is_counted x) (nat_le a.limit (count_in v)) e
     where
-      by_tests : (b c : Bool) → (if b then decision_blocked how v else if c then decisions.Refuse ReadersFull else decisions.Take) ≡ decisions.Refuse answer → ((answer ≡ No) × (how ≡ Try)) ⊎ (answer ≡ ReadersFull)
-      by_tests true c f = inl (blocked_tries how v answer f)
-      by_tests false true f = inr cc
-      by_tests false false f = absurd cc
+      by_tests : (b c d : Bool) → (if b then decision_blocked how v else if c && d then decisions.Refuse ReadersFull else decisions.Take) ≡ decisions.Refuse answer → ((answer ≡ No) × (how ≡ Try)) ⊎ ((answer ≡ ReadersFull) × (c ≡ true))
+      by_tests true c d f = inl (blocked_tries how v answer f)
+      by_tests false true true f = inr (cc, refl)
+      by_tests false true false f = absurd cc
+      by_tests false false d f = absurd cc
 
   pub takes_shared : a.limit < 2 ^ 60 - 1 → decision a wants.Shared how v ≡ decisions.Take → (plus v 16 ≡ v + 16) × (v / 16 < 2 ^ 60 - 2) × ((v / 8 % 2 ≡ 0) ⊎ (0 < v / 16))
   takes_shared few e = let t = takes_free wants.Shared e in let open_count = t.1 in (grind (arith, nat_tests), grind (arith, nat_tests), reader_free a.recursive v t.0)

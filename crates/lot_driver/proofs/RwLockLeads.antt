@@ -14,6 +14,7 @@ use Rattle.lot_base.specs.declared.notes.Note.TheVariants as note
 use Rattle.lot_base.specs.declared.ops.Op.{Op}
 use Rattle.lot_base.specs.declared.ops.Op.TheVariants.{Load, Sub, Add, Exchange}
 use Rattle.lot_base.specs.declared.wants.Want.TheVariants as wants
+use Rattle.lot_calls.specs.declared.calls.Access.{Access}
 use Rattle.lot_calls.specs.declared.calls.Access.TheVariants as access
 use Rattle.lot_calls.specs.declared.calls.Patience.{Patience}
 use Rattle.lot_calls.specs.declared.calls.Patience.TheVariants.{Patient, Timed, Try}
@@ -33,7 +34,7 @@ use Rattle.lot_steps.specs.declared.places.Place.TheVariants as place
 use Rattle.lot_rwlock.specs.RwLockCalls.{StandsAt, MayBeTold, HasDeadline}
 use Rattle.lot_rwlock.specs.RwLockDeeds.{claimed, pends, rwlock_doing, kept_claim, falls_back}
 use Rattle.lot_rwlock.specs.RwLockProfiles.{enters_late, is_late, is_timed, late_at, rwlock_profile}
-use Rattle.lot_rwlock.specs.RwLockSteps.{wanted, access_of, patience_of, decided_for, decided_act, plus, word_taken, exchange, rollback_op, unparked, start_of, want_at, ends_with, first_next, entered, stays, looked_by, looked, missed, came_in, exchanged_next, counted, wakes, rolled_back, took, clears, act_at, next_at, park_act, wake_act, park_next, wake_next}
+use Rattle.lot_rwlock.specs.RwLockSteps.{is_counted, wanted, access_of, patience_of, decided_for, decided_act, plus, word_taken, exchange, rollback_op, unparked, start_of, want_at, ends_with, first_next, entered, stays, looked_by, looked, missed, came_in, exchanged_next, counted, wakes, rolled_back, took, clears, act_at, next_at, park_act, wake_act, park_next, wake_next}
 use Rattle.lot_rwlock.specs.declared.enter.Decision.{Decision}
 use Rattle.lot_rwlock.specs.declared.enter.Decision.TheVariants as decisions
 use Rattle.lot_rwlock.specs.declared.park.ParkAt.{ParkAt}
@@ -52,7 +53,8 @@ use Rattle.lot_words.specs.declared.words.WordKind.TheVariants as kinds
 use Rattle.lot_words.proofs.RwLockOwning.{fits}
 use Rattle.lot_driver.specs.Fitting.{sleeper_at}
 use Rattle.lot_driver.specs.Paths.{rwlock_at, rwlocks, at_rwlock}
-use Rattle.lot_driver.specs.RwLockFitting.{Answers, FitsRwLock, HasGivenWay, HasSeen, IsBeside, IsRwLockOver, IsWithin, LeftAlone, MayGiveUp, OwnsBeside, OwnsRight, TookWoken, did_wake, woken_line}
+use Rattle.lot_driver.specs.RwLockFitting.{Answers, FitsRwLock, HasGivenWay, HasSeen, IsBeside, IsCounted, IsRwLockOver, IsWithin, LeftAlone, MayGiveUp, OwnsBeside, OwnsRight, TookWoken, did_wake, woken_line}
+use Rattle.lot_driver.specs.declared.acting.Sleeper.{Sleeper}
 use Rattle.lot_driver.specs.Stages.{Stage, Inside, Became, IsLeft, Stepped, entered_now, listed, stage, took_as}
 use Rattle.lot_driver.proofs.RwLockDeciding.{marks, marks_aside, marks_clear, refuses, takes_shared, takes_upgradable, takes_exclusive, upgrades}
 use Rattle.lot_driver.proofs.RwLockKeeping as keeping
@@ -74,6 +76,10 @@ clears_same Second seen small = omega (arith, cleared seen 1 small (omega arith)
 clears_looks : (m : Line) (seen : ℕ) → is_look (unparked m) seen ≡ false
 clears_looks Main seen = refl
 clears_looks Second seen = refl
+
+-- for what a thread sleeps, but that nobody hands it the lock
+abbrev pub unhanded : ℕ → Admission → RwLockPlace → Sleeper
+unhanded l a p = record (sleeper_at (place.RwLock l a (calls.Plain p))) { takes_over = false }
 
 -- what a place keeps, beside that its call may stand there
 pub record Kept (up : Type 0) (l : ℕ) (base : List Ownership) (a : Admission) (p : RwLockPlace) (st : Stage) : Type 0 where
@@ -160,6 +166,11 @@ module _ (up : Type 0) (l : ℕ) (a : Admission) (base : List Ownership) (q : Rw
     looked_comes to seen few stands owns none last decisions.Park e = rests (at.Decide seen) again (claimed q) tt few refl refl refl owns none
     looked_comes to seen few stands owns none last (decisions.Refuse answer) e = (none, by_purpose q stands owns e)
       where
+        counts : (x : Access) → is_counted (wanted x) ≡ true → IsCounted x
+        counts access.Shared e = tt
+        counts access.Upgradable e = tt
+        counts access.Exclusive e = never e
+
         try_may : (how : Patience) → how ≡ Try → MayGiveUp up how
         try_may how is = subst (MayGiveUp up) (sym is) tt
 
@@ -170,7 +181,7 @@ module _ (up : Type 0) (l : ℕ) (a : Admission) (base : List Ownership) (q : Rw
         by_purpose : (r : RwLockPurpose) → StandsAt r again (at.Decide seen) → OwnsBeside l (claimed r) base new.owns → decided_for a r seen ≡ decisions.Refuse answer → Answers up l base a r answer new
         by_purpose (purpose.Enter x how) stands owns e = elim (refuses a how seen (wanted x) answer e) [
           | inl tries ↦ inr (inl (tries.0, try_may how tries.1, owns, inl last))
-          | inr full ↦ inr (inr (full, owns))
+          | inr full ↦ inr (inr (full.0, counts x full.1, owns))
         ]
         by_purpose (purpose.Upgrade Try) stands owns e = inr (refused (count_in seen == 1) e, tt, owns, inl last)
         by_purpose (purpose.Upgrade Patient) stands owns e = absurd stands
@@ -300,7 +311,7 @@ module _ (up : Type 0) (l : ℕ) (a : Admission) (base : List Ownership) (q : Rw
             (claims_now (Exchange seen (plus seen 1)) seen (claimed q) b (keeping.unlooked l base st.owns seen b.0 (Exchange seen (plus seen 1)) (claimed q) same (keeping.marked_looks seen (plus seen 1)) f.owns)) (inside_now (Exchange seen (plus seen 1)) seen b ∙ f.within)
 
     -- by what the thread decides: an exchange, or the section of the main queue
-    decides_leads : (seen : ℕ) → Fits (at.Decide seen) → (d : Decision) → decided_for a q seen ≡ d → (reply : Reply) → Became up rwlocks (at_rwlock l) (sleeper_at (place.RwLock l a (calls.Plain (of (at.Decide seen))))) st (decided_act l q seen d) reply new
+    decides_leads : (seen : ℕ) → Fits (at.Decide seen) → (d : Decision) → decided_for a q seen ≡ d → (reply : Reply) → Became up rwlocks (at_rwlock l) (unhanded l a (of (at.Decide seen))) st (decided_act l q seen d) reply new
         → Comes up l base a q (next_at a (of (at.Decide seen)) (at.Decide seen) reply) new × MayBeTold a (of (at.Decide seen)) (at.Decide seen) reply
     decides_leads seen f decisions.Take e (Value other) b =
         (subst (λ (d : Decision). Reach (exchanged_next a (of (at.Decide seen)) seen other d)) (sym e) (takes_leads seen f e other b), small (Exchange seen (word_taken q seen)) other b)
@@ -417,7 +428,7 @@ module _ (up : Type 0) (l : ℕ) (a : Admission) (base : List Ownership) (q : Rw
         by_purpose (purpose.Downgrade d) stands = absurd stands
 
     -- into the second section
-    goes_aside : (to : RwLockAt) → OwnsBeside l (pends q) base st.owns → Became up rwlocks (at_rwlock l) (sleeper_at (place.RwLock l a (calls.Plain (of to)))) st (act.Enter (One (2 * l + 1))) Done new
+    goes_aside : (to : RwLockAt) → OwnsBeside l (pends q) base st.owns → Became up rwlocks (at_rwlock l) (unhanded l a (of to)) st (act.Enter (One (2 * l + 1))) Done new
         → Reach (stays (of to) (at.Aside parking.Check))
     goes_aside to owns b = (
       record {
@@ -430,7 +441,7 @@ module _ (up : Type 0) (l : ℕ) (a : Admission) (base : List Ownership) (q : Rw
       refl,
     )
 
-    counts_leads : (seen : ℕ) → Fits (at.Count seen) → (b : Bool) → has_aside seen ≡ b → (reply : Reply) → Became up rwlocks (at_rwlock l) (sleeper_at (place.RwLock l a (calls.Plain (of (at.Count seen))))) st (if b then act.Enter (One (2 * l + 1)) else exchange l seen (plus seen 2)) reply new
+    counts_leads : (seen : ℕ) → Fits (at.Count seen) → (b : Bool) → has_aside seen ≡ b → (reply : Reply) → Became up rwlocks (at_rwlock l) (unhanded l a (of (at.Count seen))) st (if b then act.Enter (One (2 * l + 1)) else exchange l seen (plus seen 2)) reply new
         → Comes up l base a q (next_at a (of (at.Count seen)) (at.Count seen) reply) new × MayBeTold a (of (at.Count seen)) (at.Count seen) reply
     counts_leads seen f true e Done b = (goes_aside (at.Count seen) f.owns b, tt)
     counts_leads seen f false e (Value other) b = (
@@ -524,7 +535,7 @@ module _ (up : Type 0) (l : ℕ) (a : Admission) (base : List Ownership) (q : Rw
         by_purpose (purpose.Release access.Exclusive) stands late = absurd stands
         by_purpose (purpose.Downgrade d) stands late = absurd stands
 
-    main_leads : (to : ParkAt) → Fits (at.Park to) → (reply : Reply) → Became up rwlocks (at_rwlock l) (sleeper_at (place.RwLock l a (calls.Plain (of (at.Park to))))) st (park_act l a (want_at (of (at.Park to))) Main to) reply new
+    main_leads : (to : ParkAt) → Fits (at.Park to) → (reply : Reply) → Became up rwlocks (at_rwlock l) (unhanded l a (of (at.Park to))) st (park_act l a (want_at (of (at.Park to))) Main to) reply new
         → Reach (park_next (of (at.Park to)) Main to reply) × MayBeTold a (of (at.Park to)) (at.Park to) reply
     main_leads parking.Check f (Parked true) b = (inside_of (at.Park (parking.Leave true)) (again && not true) Main None tt tt refl refl refl (not_late (at.Park (parking.Leave true)) refl) (claims_now Load b.0 None b.2 (keeping.look_beside l base st.owns b.0 b.2.0 Load refl f.owns)) (inside_now Load b.0 b.2 ∙ f.within), tt)
     main_leads parking.Check f (Parked false) b = (inside_of (at.Park (parking.Leave false)) (again && not false) Main None tt tt refl refl refl (not_late (at.Park (parking.Leave false)) refl) (claims_now Load b.0 None b.2 (keeping.look_beside l base st.owns b.0 b.2.0 Load refl f.owns)) (inside_now Load b.0 b.2 ∙ f.within), tt)
@@ -545,7 +556,7 @@ module _ (up : Type 0) (l : ℕ) (a : Admission) (base : List Ownership) (q : Rw
     main_leads parking.GiveUp f Done b = (gives_up_main f b.0 b.1 b.2, tt)
     main_leads to f reply b = absurd b
 
-    aside_leads : (to : ParkAt) → Fits (at.Aside to) → (reply : Reply) → Became up rwlocks (at_rwlock l) (sleeper_at (place.RwLock l a (calls.Plain (of (at.Aside to))))) st (park_act l a (want_at (of (at.Aside to))) Second to) reply new
+    aside_leads : (to : ParkAt) → Fits (at.Aside to) → (reply : Reply) → Became up rwlocks (at_rwlock l) (unhanded l a (of (at.Aside to))) st (park_act l a (want_at (of (at.Aside to))) Second to) reply new
         → Reach (park_next (of (at.Aside to)) Second to reply) × MayBeTold a (of (at.Aside to)) (at.Aside to) reply
     aside_leads parking.Check f (Parked true) b = (inside_of (at.Aside (parking.Leave true)) (again && not true) Second (pends q) tt tt refl refl refl (not_late (at.Aside (parking.Leave true)) refl) (claims_now Load b.0 (pends q) b.2 (keeping.look_waits l base st.owns b.0 b.2.0 Load (falls_back q) refl refl f.owns)) (inside_now Load b.0 b.2 ∙ f.within), tt)
     aside_leads parking.Check f (Parked false) b = (inside_of (at.Aside (parking.Leave false)) (again && not false) Second (pends q) tt tt refl refl refl (not_late (at.Aside (parking.Leave false)) refl) (claims_now Load b.0 (pends q) b.2 (keeping.look_waits l base st.owns b.0 b.2.0 Load (falls_back q) refl refl f.owns)) (inside_now Load b.0 b.2 ∙ f.within), tt)
@@ -691,7 +702,7 @@ module _ (up : Type 0) (l : ℕ) (a : Admission) (base : List Ownership) (q : Rw
         by_purpose (purpose.Enter access.Shared how) is stands owns late = absurd stands
         by_purpose (purpose.Enter access.Upgradable how) is stands owns late = absurd stands
 
-    wakes_leads : (m : Line) (to : WakeAt) → Fits (at.Wake m to) → (reply : Reply) → Became up rwlocks (at_rwlock l) (sleeper_at (place.RwLock l a (calls.Plain (of (at.Wake m to))))) st (wake_act l a q m to) reply new
+    wakes_leads : (m : Line) (to : WakeAt) → Fits (at.Wake m to) → (reply : Reply) → Became up rwlocks (at_rwlock l) (unhanded l a (of (at.Wake m to))) st (wake_act l a q m to) reply new
         → Reach (wake_next (of (at.Wake m to)) m to reply) × MayBeTold a (of (at.Wake m to)) (at.Wake m to) reply
     wakes_leads m waking.Enter f Done b = (inside_of (at.Wake m waking.Take) again m (kept_claim (start_of q)) tt tt refl refl refl (still_late (at.Wake m waking.Enter) (at.Wake m waking.Take) refl f.late) (kept_owns (kept_claim (start_of q)) (ap (λ (s : Stage). s.owns) b) f.owns) (ap (λ (s : Stage). s.inside) b), tt)
     wakes_leads Main waking.Take f (Picked sharers successor none_left) b = (took_comes Main (any_picked sharers successor) none_left f.late (kept_owns (kept_claim (start_of q)) b.1 f.owns) (b.0.0, b.0.3 ∙ ap (took_as (did_wake l a q Main) b.0.0) f.within), tt)
@@ -707,7 +718,7 @@ module _ (up : Type 0) (l : ℕ) (a : Admission) (base : List Ownership) (q : Rw
     wakes_leads m to f reply b = absurd b
 
     -- each reply, at each place
-    pub leads_at : (to : RwLockAt) → Fits to → (reply : Reply) → Became up rwlocks (at_rwlock l) (sleeper_at (place.RwLock l a (calls.Plain (of to)))) st (act_at l a (of to) to) reply new
+    pub leads_at : (to : RwLockAt) → Fits to → (reply : Reply) → Became up rwlocks (at_rwlock l) (unhanded l a (of to)) st (act_at l a (of to) to) reply new
         → Reach (next_at a (of to) to reply) × MayBeTold a (of to) to reply
     leads_at at.First f (Value seen) b = (first_leads f seen b, small (Exchange 0 8) seen b)
     leads_at at.Load f (Value seen) b = (load_leads f seen b, small Load seen b)

@@ -31,14 +31,14 @@ use Rattle.lot_rwlock.specs.declared.purposes.RwLockPurpose.{RwLockPurpose}
 use Rattle.lot_rwlock.specs.declared.purposes.RwLockPurpose.TheVariants as purpose
 use Rattle.lot_rwlock.specs.declared.release.WakeAt.{WakeAt}
 use Rattle.lot_rwlock.specs.declared.release.WakeAt.TheVariants as waking
-use Rattle.lot_words.specs.Steps.{MayStep, has}
+use Rattle.lot_words.specs.Steps.{MayStep, has, without}
 use Rattle.lot_words.specs.Views.{owning}
 use Rattle.lot_words.specs.declared.owners.Owner.{Owner}
 use Rattle.lot_words.specs.declared.owners.Owner.TheVariants as owners
 use Rattle.lot_words.specs.declared.owners.Ownership.{Ownership}
 use Rattle.lot_words.specs.declared.words.WordKind.TheVariants as kinds
 use Rattle.lot_words.proofs.RwLockKinds.{rwlock_steps}
-use Rattle.lot_words.proofs.RwLockOwning.{has_first}
+use Rattle.lot_words.proofs.RwLockOwning.{first_goes, has_first}
 use Rattle.lot_driver.specs.Paths.{rwlock_at, rwlocks, at_rwlock}
 use Rattle.lot_driver.specs.RwLockFitting.{OwnsBeside, FitsRwLock, IsBeside}
 use Rattle.lot_driver.specs.Stages.{Stage, ActNeeds, HasKey, IsFresh, MayLeave, entered_now}
@@ -50,6 +50,10 @@ has_owned l o rest owns e = subst (λ (x : List Ownership). has (owning (rwlock_
 
 pub has_right : (l : ℕ) (o : Owner) (base owns : List Ownership) → (owner : Owner) × (rest : List Ownership) × (owner ≡ o) × IsBeside l base rest × (owns ≡ owning (rwlock_at l) owner ∷ rest) → has (owning (rwlock_at l) o) owns ≡ true
 has_right l o base owns c = has_owned l o c.1 owns (c.4 ∙ ap (λ (w : Owner). owning (rwlock_at l) w ∷ c.1) c.2)
+
+-- what is left beside a right, once that is split off
+pub left_beside : (l : ℕ) (o : Owner) (base owns : List Ownership) → (owner : Owner) × (rest : List Ownership) × (owner ≡ o) × IsBeside l base rest × (owns ≡ owning (rwlock_at l) owner ∷ rest) → IsBeside l base (without (owning (rwlock_at l) o) owns)
+left_beside l o base owns c = λ settled. ap (without (owning (rwlock_at l) o)) (c.4 ∙ ap (λ (w : Owner). owning (rwlock_at l) w ∷ c.1) c.2) ∙ first_goes (rwlock_at l) o c.1 ∙ c.3 settled
 
 module _ (up : Type 0) (l : ℕ) (a : Admission) (base : List Ownership) (q : RwLockPurpose) (again : Bool) (st : Stage) where
   abbrev of : RwLockAt → RwLockPlace

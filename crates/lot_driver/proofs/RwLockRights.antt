@@ -16,25 +16,19 @@ use Rattle.lot_rwlock.specs.declared.purposes.RwLockPurpose.TheVariants as purpo
 use Rattle.lot_steps.specs.Steps.{next_act}
 use Rattle.lot_words.specs.Indices.{word_index}
 use Rattle.lot_words.specs.Rights.{owner_for}
-use Rattle.lot_words.specs.Steps.{CodesWith, after_step, without}
+use Rattle.lot_words.specs.Steps.{CodesWith, after_step}
 use Rattle.lot_words.specs.Views.{owning}
-use Rattle.lot_words.specs.declared.owners.Owner.{Owner}
 use Rattle.lot_words.specs.declared.owners.Ownership.{Ownership}
 use Rattle.lot_words.specs.declared.words.Word.{Word}
 use Rattle.lot_words.specs.declared.words.WordKind.TheVariants as kinds
-use Rattle.lot_words.proofs.RwLockOwning.{first_goes}
 use Rattle.parking_lot_core.specs.Tokens.{view_of, last_of}
 use Rattle.parking_lot_core.specs.declared.tokens.Token.{Token}
 use Rattle.lot_driver.specs.Fitting.{answer_of}
 use Rattle.lot_driver.specs.Paths.{Walks, at_rwlock, rwlock_at}
 use Rattle.lot_driver.specs.RwLockCalls.{BeginsWith, rwlock_begin}
-use Rattle.lot_driver.specs.RwLockFitting.{Answers, IsBeside, MayGiveUp, OwnsRight}
+use Rattle.lot_driver.specs.RwLockFitting.{Answers, MayGiveUp, OwnsRight}
 use Rattle.lot_driver.specs.Stages.{Stage, stage_of}
 use Rattle.lot_driver.proofs.RwLockCalling.{begins_entering, ended_on, entered_right, path_ended, saw, started}
-
--- what is left beside a right, once that is split off
-pub left_beside : (l : ℕ) (o : Owner) (base owns : List Ownership) → (owner : Owner) × (rest : List Ownership) × (owner ≡ o) × IsBeside l base rest × (owns ≡ owning (rwlock_at l) owner ∷ rest) → IsBeside l base (without (owning (rwlock_at l) o) owns)
-left_beside l o base owns c = λ settled. ap (without (owning (rwlock_at l) o)) (c.4 ∙ ap (λ (w : Owner). owning (rwlock_at l) w ∷ c.1) c.2) ∙ first_goes (rwlock_at l) o c.1 ∙ c.3 settled
 
 -- a right that is joined is owned beside what was owned before
 pub joined_beside : (l : ℕ) (given x : Want) (base owns : List Ownership) → given ≡ x → owns ≡ owning (rwlock_at l) (owner_for given) ∷ base → OwnsRight l x base owns

@@ -1,5 +1,6 @@
 -- Of those who are picked of a reader-writer lock's queue, one at most wants more than to share.
-use Rattle.std.proofs.Common.{Bool, Option, ◌≡◌, ◌≤◌, List, [], ◌∷◌, refl, arith}
+use Rattle.std.proofs.Common.{Bool, Option, ◌≡◌, ◌≤◌, ◌<◌, ◌^◌, List, [], ◌∷◌, length, refl, ap, arith, suc}
+use Rattle.lot_base.specs.Lines.{threads_of}
 use Rattle.lot_base.specs.Picks.{lock_picked}
 use Rattle.lot_base.specs.declared.wants.Waiter.{Waiter}
 use Rattle.lot_base.specs.declared.wants.Want.{Want}
@@ -22,3 +23,11 @@ same_number (x ∷ xs) = one_behind x xs (same_number xs) x.want refl
 pub picked_few : (start : Option Want) (recursive : Bool) (xs : List Waiter) → more_in (wants_of (lock_picked start recursive xs)) ≤ 1
 picked_few start recursive xs = let few : wanting_more (lock_picked start recursive xs) ≤ 1 = one_more_picked start recursive xs in
     let same : more_in (wants_of (lock_picked start recursive xs)) ≡ wanting_more (lock_picked start recursive xs) = same_number (lock_picked start recursive xs) in omega arith
+
+-- a list of threads that were taken is as long as that of the waiters
+pub few_waiters : (xs : List Waiter) → length (threads_of xs) < 2 ^ 60 → length xs < 2 ^ 60
+few_waiters xs few = let same = all_threads xs in omega arith
+  where
+    all_threads : (xs : List Waiter) → length (threads_of xs) ≡ length xs
+    all_threads [] = refl
+    all_threads (x ∷ xs) = ap suc (all_threads xs)

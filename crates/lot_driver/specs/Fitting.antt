@@ -1,5 +1,5 @@
 -- What a thread has at each place of its call, and at its end. Each sort of lock says so in a file of its own.
-use Rattle.std.specs.Prelude.{ℕ, ◌≡◌, List, Option, Some, None, true, false, unwrap_or}
+use Rattle.std.specs.Prelude.{ℕ, ◌≡◌, List, Option, Some, None, true, false, unwrap_or, Bool}
 use Rattle.lot_rwlock_fair.specs.FairProfiles.{call_wants}
 use Rattle.lot_base.specs.declared.wants.Want.TheVariants.{Exclusive}
 use Rattle.lot_calls.specs.declared.outcomes.Answer.{Answer}
@@ -13,8 +13,13 @@ use Rattle.lot_words.specs.declared.owners.Ownership.{Ownership}
 use Rattle.lot_words.specs.declared.words.WordKind.{WordKind}
 use Rattle.lot_rwlock.specs.declared.places.Admission.{Admission}
 use Rattle.lot_rwlock.specs.declared.purposes.RwLockPurpose.{RwLockPurpose}
+use Rattle.lot_rwlock.specs.declared.purposes.RwLockPurpose.TheVariants as purpose
+use Rattle.lot_rwlock_fair.specs.declared.places.RwLockCallPlace.{RwLockCallPlace}
+use Rattle.lot_rwlock_fair.specs.declared.places.RwLockCallPlace.TheVariants as places
+use Rattle.lot_calls.specs.declared.calls.Access.{Access}
+use Rattle.lot_calls.specs.declared.calls.Patience.TheVariants.{Patient}
 use Rattle.lot_driver.specs.MutexFitting.{Purpose, purpose_at, FitsMutex, IsMutexOver}
-use Rattle.lot_driver.specs.RwLockFitting.{FitsCall, IsRwLockOver, purpose_in}
+use Rattle.lot_driver.specs.RwLockFitting.{FitsCall, IsFairlyOver, IsRwLockOver, may_be_handed, purpose_in}
 use Rattle.lot_driver.specs.Paths.{mutexes, at_mutex, rwlocks, at_rwlock}
 use Rattle.lot_driver.specs.Stages.{Stage, ActNeeds, Became}
 use Rattle.lot_driver.specs.declared.acting.Sleeper.{Sleeper}
@@ -30,11 +35,21 @@ pub data Aim : Type 0 where
   nothing : Aim
   of_mutex : ℕ → Purpose → Aim
   of_rwlock : ℕ → Admission → RwLockPurpose → Aim
+  of_fair : ℕ → Admission → Access → Aim
+
+-- who hands the lock over releases it fairly, or bumps
+abbrev pub handing_aim : ℕ → Admission → Access → Bool → Aim
+handing_aim l a x true = of_rwlock l a (purpose.Enter x Patient)
+handing_aim l a x false = of_fair l a x
+
+abbrev pub call_aim : ℕ → Admission → RwLockCallPlace → Aim
+call_aim l a (places.HandOver x b to) = handing_aim l a x b
+call_aim l a c = of_rwlock l a (purpose_in c)
 
 abbrev pub aim_of : Place → Aim
 aim_of Idle = nothing
 aim_of (Mutex l at) = of_mutex l (purpose_at at)
-aim_of (RwLock l a c) = of_rwlock l a (purpose_in c)
+aim_of (RwLock l a c) = call_aim l a c
 
 -- for what a thread sleeps in a call, the keys under which it may be late, and whether it goes on where it is handed the lock.
 -- Nobody is moved from the queue of a lock
@@ -43,7 +58,7 @@ sleeper_at Idle = record { lock = 0; want = Exclusive; late = None; moved = None
 sleeper_at (Mutex l at) =
     record { lock = l; want = Exclusive; late = late_key (Mutex l at); moved = None; takes_over = true }
 sleeper_at (RwLock l a c) =
-    record { lock = l; want = unwrap_or (call_wants c) Exclusive; late = late_key (RwLock l a c); moved = None; takes_over = false }
+    record { lock = l; want = unwrap_or (call_wants c) Exclusive; late = late_key (RwLock l a c); moved = None; takes_over = may_be_handed c }
 
 -- the keys of the call's lock are numbers, and its words are of the kinds that the call steps on
 abbrev pub AreWordsFor : Place → (ℕ → WordKind) → (ℕ → ℕ) → Type 0
@@ -70,6 +85,7 @@ module _ (up : Type 0) where
   IsOver base nothing answer st = ⊥
   IsOver base (of_mutex l purpose) answer st = IsMutexOver up l base purpose answer st
   IsOver base (of_rwlock l a purpose) answer st = IsRwLockOver up l base a purpose answer st
+  IsOver base (of_fair l a x) answer st = IsFairlyOver l base a x answer st
 
   -- what a run came to: the end of its call, or a closure, which is outside all sections
   abbrev pub IsStopped : List Ownership → Aim → Stop → Stage → Type 0

@@ -1,5 +1,5 @@
 -- What a call of a reader-writer lock on real threads did.
-use Rattle.std.specs.Prelude.{ℕ, ◌≡◌, ◌==◌, ◌<◌, ◌^◌, ◌-◌, ◌++◌, ◌&&◌, ◌||◌, not, Bool, false, List, [], Option, Some, None, Ok, Err}
+use Rattle.std.specs.Prelude.{ℕ, ◌≡◌, ◌==◌, ◌<◌, ◌^◌, ◌-◌, ◌++◌, ◌&&◌, ◌||◌, not, Bool, true, false, List, [], Option, Some, None, Ok, Err}
 use Rattle.std.proofs.Common.{◌∙◌, sym, subst}
 use Rattle.std.specs.declared.result.Result.{Result}
 use Rattle.lot_base.specs.declared.ops.Op.{Op}
@@ -17,7 +17,7 @@ use Rattle.lot_acts.specs.declared.acts.Next.{Next}
 use Rattle.lot_acts.specs.declared.acts.Next.TheVariants.{At, End}
 use Rattle.lot_acts.specs.declared.acts.Reply.TheVariants.{Value}
 use Rattle.lot_rwlock.specs.RwLockBegins.{first_at, rwlock_first}
-use Rattle.lot_rwlock_fair.specs.FairBegins.{plain_first}
+use Rattle.lot_rwlock_fair.specs.FairBegins.{call_first, plain_first}
 use Rattle.lot_rwlock.specs.RwLockDeeds.{rwlock_doing}
 use Rattle.lot_rwlock.specs.RwLockSteps.{wanted, to_of, entered, give_op, rwlock_next}
 use Rattle.lot_rwlock.specs.declared.places.Admission.{Admission}
@@ -43,7 +43,7 @@ use Rattle.parking_lot_core.specs.declared.lot.ParkingLot.{ParkingLot}
 use Rattle.parking_lot_core.specs.declared.tokens.SectionRecord.{SectionRecord}
 use Rattle.parking_lot_core.specs.declared.tokens.Token.{Token}
 use Rattle.lot_driver.specs.Paths.{at_rwlock, rwlock_at, step, Walks}
-use Rattle.lot_driver.specs.RwLockFitting.{Answers, IsBeside, IsSettled, OwnsBeside, OwnsRight, TookWoken}
+use Rattle.lot_driver.specs.RwLockFitting.{Answers, GaveFairly, IsBeside, IsSettled, OwnsBeside, OwnsRight, TookWoken}
 use Rattle.lot_driver.specs.Stages.{Stage}
 
 -- where a call begins
@@ -130,22 +130,34 @@ Exclude owners.Exclusive owners.Upgradable = Unit {0}
 Exclude owners.Upgradable owners.Upgradable = Unit {0}
 Exclude one other = ⊥
 
--- whoever reads is counted, and may find the lock full of readers
-abbrev pub IsCounted : Access → Type 0
-IsCounted accesses.Exclusive = ⊥
-IsCounted access = Unit {0}
+-- ---------------------------------------------------------------- fair releases
 
--- so of a call, where its steps are built
+-- who shares releases as ever, and an upgradable owner takes those to whom it hands the lock, or frees a word that tells of nobody. An exclusive owner tries first
+-- the word that tells of nobody else: it takes those to whom it hands the lock where it finds another, and else there is no further step
+abbrev pub TookUnlessFree : ℕ → Admission → Bool → List WordStep → Option SectionRecord → Type 0
+TookUnlessFree l a true more last = (more ≡ []) × (last ≡ None)
+TookUnlessFree l a false more last = TookWoken l a (purpose.Release accesses.Exclusive) last
+
+abbrev pub LeftFairly : ℕ → Admission → List WordStep → List WordStep → Option SectionRecord → Type 0
+LeftFairly l a old new last = (seen : ℕ) × (more : List WordStep)
+    × (new ≡ (old ++ step (rwlock_at l) (Exchange 8 0) seen) ++ more) × TookUnlessFree l a (seen == 8) more last
+
+abbrev pub ReleasesFairly : ℕ → Admission → Access → Token → Token → Type 0
+ReleasesFairly l a accesses.Shared old new = WakesBy l a (purpose.Release accesses.Shared) old new
+ReleasesFairly l a accesses.Upgradable old new = GaveFairly l a accesses.Upgradable (last_of new)
+ReleasesFairly l a accesses.Exclusive old new = LeftFairly l a (view_of old).steps (view_of new).steps (last_of new)
+
+-- ---------------------------------------------------------------- calls of the world's language
+
+-- the steps of a call lead from where a call of a world begins to the answer
 abbrev pub HasWalkedCall : ℕ → Admission → RwLockCall → Answer → Token → Token → Type 0
-HasWalkedCall l a (calls.Enter x how) answer old new = HasWalkedRwLock l a (purpose.Enter x how) answer old new
-HasWalkedCall l a (calls.Release x) answer old new = HasWalkedRwLock l a (purpose.Release x) answer old new
-HasWalkedCall l a (calls.Downgrade d) answer old new = HasWalkedRwLock l a (purpose.Downgrade d) answer old new
-HasWalkedCall l a (calls.Upgrade how) answer old new = HasWalkedRwLock l a (purpose.Upgrade how) answer old new
-HasWalkedCall l a fair answer old new = ⊥
+HasWalkedCall l a call answer old new =
+    Walks (at_rwlock l) (RwLock l a (call_first call)) (view_of old).steps (view_of new).steps answer
 
 abbrev pub WakesByCall : ℕ → Admission → RwLockCall → Token → Token → Type 0
 WakesByCall l a (calls.Release x) old new = WakesBy l a (purpose.Release x) old new
 WakesByCall l a (calls.Downgrade d) old new = WakesBy l a (purpose.Downgrade d) old new
+WakesByCall l a (calls.ReleaseFair x) old new = ReleasesFairly l a x old new
 WakesByCall l a call old new = ⊥
 
 -- somebody owns the lock, or waits for its last readers

@@ -1,5 +1,5 @@
 -- What a thread of a reader-writer call has at each place, read off the place's row, and what it has at its end.
-use Rattle.std.specs.Prelude.{ℕ, ◌≡◌, ◌<◌, ◌-◌, ◌^◌, ◌⊎◌, Bool, true, false, List, ◌∷◌, Option, Some, None}
+use Rattle.std.specs.Prelude.{ℕ, ◌≡◌, ◌<◌, ◌-◌, ◌^◌, ◌⊎◌, Bool, true, false, List, ◌∷◌, Option, Some, None, ◌≤◌, ◌*◌, ◌/◌, ◌%◌, [], length}
 use Rattle.lot_base.specs.Keys.{key_of}
 use Rattle.lot_base.specs.Lines.{threads_of}
 use Rattle.lot_base.specs.declared.keys.Keys.TheVariants.{One}
@@ -8,6 +8,7 @@ use Rattle.lot_base.specs.declared.keys.Line.TheVariants.{Main, Second}
 use Rattle.lot_base.specs.declared.wants.Waiter.{Waiter}
 use Rattle.lot_base.specs.declared.wants.Want.{Want}
 use Rattle.lot_base.specs.declared.wants.Want.TheVariants as wants
+use Rattle.lot_calls.specs.declared.calls.Access.{Access}
 use Rattle.lot_calls.specs.declared.calls.Access.TheVariants as access
 use Rattle.lot_calls.specs.declared.calls.Patience.{Patience}
 use Rattle.lot_calls.specs.declared.calls.Patience.TheVariants.{Patient, Timed, Try}
@@ -19,15 +20,23 @@ use Rattle.lot_acts.specs.declared.acts.Whom.TheVariants as whom_taken
 use Rattle.lot_rwlock.specs.RwLockCalls.{MayStand}
 use Rattle.lot_rwlock.specs.RwLockDeeds.{rwlock_doing}
 use Rattle.lot_rwlock.specs.RwLockProfiles.{rwlock_profile}
-use Rattle.lot_rwlock.specs.RwLockSteps.{wanted, to_of, start_of, entered, whom}
+use Rattle.lot_rwlock.specs.RwLockSteps.{access_of, wanted, to_of, start_of, entered, whom}
+use Rattle.lot_rwlock.specs.declared.park.ParkAt.TheVariants as parking
 use Rattle.lot_rwlock.specs.declared.places.Admission.{Admission}
 use Rattle.lot_rwlock.specs.declared.places.RwLockAt.{RwLockAt}
 use Rattle.lot_rwlock.specs.declared.places.RwLockAt.TheVariants as at
 use Rattle.lot_rwlock.specs.declared.places.RwLockPlace.{RwLockPlace}
 use Rattle.lot_rwlock.specs.declared.purposes.RwLockPurpose.{RwLockPurpose}
 use Rattle.lot_rwlock.specs.declared.purposes.RwLockPurpose.TheVariants as purpose
+use Rattle.lot_rwlock_fair.specs.FairCalls.{IsOfBump}
+use Rattle.lot_rwlock_fair.specs.declared.hand_over.HandOverAt.{HandOverAt}
+use Rattle.lot_rwlock_fair.specs.declared.hand_over.HandOverAt.TheVariants as handing
+use Rattle.lot_rwlock_fair.specs.declared.hand_over.Taken.{Taken}
+use Rattle.lot_rwlock_fair.specs.declared.handed.HandedAt.{HandedAt}
+use Rattle.lot_rwlock_fair.specs.declared.handed.HandedAt.TheVariants as handed
 use Rattle.lot_rwlock_fair.specs.declared.places.RwLockCallPlace.{RwLockCallPlace}
 use Rattle.lot_rwlock_fair.specs.declared.places.RwLockCallPlace.TheVariants as places
+use Rattle.lot_queues.specs.Wants.{wants_of}
 use Rattle.lot_words.specs.Rights.{owner_for}
 use Rattle.lot_words.specs.Steps.{has}
 use Rattle.lot_words.specs.Views.{owning}
@@ -38,6 +47,7 @@ use Rattle.parking_lot_core.specs.declared.tokens.Did.{Did}
 use Rattle.parking_lot_core.specs.declared.tokens.Did.TheVariants as did
 use Rattle.parking_lot_core.specs.declared.tokens.SectionRecord.{SectionRecord}
 use Rattle.lot_driver.specs.Paths.{rwlock_at}
+use Rattle.lot_driver.specs.Takes.{more_in, sharers_in, successor_in}
 use Rattle.lot_driver.specs.Stages.{Inside, Stage, entered_now, having_taken}
 
 -- ---------------------------------------------------------------- what is owned
@@ -116,13 +126,98 @@ abbrev pub LeftAlone : ℕ → Option SectionRecord → Type 0
 LeftAlone l last = (number : ℕ)
     × (last ≡ Some (record { key = key_of l Main; did = did.Nothing; number = number }))
 
--- what a call is for that enters, releases or converts; a call that hands the lock over releases, and was handed it where it enters
+-- whoever reads is counted, and may find the lock full of readers
+abbrev pub IsCounted : Access → Type 0
+IsCounted access.Exclusive = ⊥
+IsCounted x = Unit {0}
+
+-- ---------------------------------------------------------------- who hands the lock over
+
+-- a word that an upgradable owner saw
+abbrev pub IsUpgradableWord : ℕ → Type 0
+IsUpgradableWord seen = (seen < 2 ^ 64) × (seen / 4 % 4 ≡ 1) × (0 < seen / 16)
+
+-- what a place says of those whom its thread took is so: as many want to share, and one at most wants more
+pub record AreTaken (ws : List Want) (k : Taken) : Type 0 where
+  pub sharers : k.sharers ≡ sharers_in ws
+  pub successor : k.successor ≡ successor_in ws
+  pub one : more_in ws ≤ 1
+  pub few : length ws < 2 ^ 60
+
+-- in the main section, where it has taken these, of whom these have no right yet
+abbrev pub HasPicked : ℕ → Admission → List Waiter → List ℕ → Option Inside → Type 0
+HasPicked l a waiters rightless inside =
+    inside ≡ Some (having_taken (One (2 * l)) (did.TakePicked (2 * l) None a.recursive) waiters rightless)
+
+abbrev pub HasInHand : ℕ → Admission → Taken → Option Inside → Type 0
+HasInHand l a k inside = (waiters : List Waiter) × AreTaken (wants_of waiters) k × HasPicked l a waiters (threads_of waiters) inside
+
+-- those whom it took have their rights where it handed the lock over, and nobody is there where it took nobody
+abbrev pub still_rightless : Bool → List Waiter → List ℕ
+still_rightless true waiters = []
+still_rightless false waiters = threads_of waiters
+
+abbrev pub HasHandedOver : ℕ → Admission → Bool → Bool → Option Inside → Type 0
+HasHandedOver l a any handed inside = (waiters : List Waiter) × (any ≡ false → waiters ≡ [])
+    × HasPicked l a waiters (still_rightless handed waiters) inside
+
+-- an exclusive owner stores the word, and an upgradable one looks and exchanges it. The first step of an exclusive owner's release was taken before
+abbrev pub HandsOver : Access → HandOverAt → Type 0
+HandsOver access.Shared to = ⊥
+HandsOver access.Upgradable (handing.Store k) = ⊥
+HandsOver access.Exclusive handing.Load = ⊥
+HandsOver access.Exclusive (handing.Free seen) = ⊥
+HandsOver access.Exclusive (handing.Look k) = ⊥
+HandsOver access.Exclusive (handing.Exchange k seen) = ⊥
+HandsOver x to = Unit {0}
+
+-- it owns its right until the step that gives that up
+abbrev pub FitsHandOver : ℕ → List Ownership → Admission → Access → HandOverAt → Stage → Type 0
+FitsHandOver l base a x handing.Load st = OwnsRight l (wanted x) base st.owns × (st.inside ≡ None)
+FitsHandOver l base a x (handing.Free seen) st =
+    OwnsRight l (wanted x) base st.owns × (st.inside ≡ None) × IsUpgradableWord seen
+FitsHandOver l base a x handing.Enter st = OwnsRight l (wanted x) base st.owns × (st.inside ≡ None)
+FitsHandOver l base a x handing.Take st = OwnsRight l (wanted x) base st.owns × (st.inside ≡ entered_now (One (2 * l)))
+FitsHandOver l base a x (handing.Store k) st = OwnsRight l (wanted x) base st.owns × HasInHand l a k st.inside
+FitsHandOver l base a x (handing.Look k) st = OwnsRight l (wanted x) base st.owns × HasInHand l a k st.inside
+FitsHandOver l base a x (handing.Exchange k seen) st =
+    OwnsRight l (wanted x) base st.owns × HasInHand l a k st.inside × IsUpgradableWord seen
+FitsHandOver l base a x (handing.Leave any handed) st = IsBeside l base st.owns × HasHandedOver l a any handed st.inside
+
+-- how who releases fairly left: it took those to whom it handed the lock, or an upgradable owner freed a word that told of nobody
+abbrev pub GaveFairly : ℕ → Admission → Access → Option SectionRecord → Type 0
+GaveFairly l a access.Upgradable last = (last ≡ None) ⊎ TookWoken l a (purpose.Release access.Upgradable) last
+GaveFairly l a x last = TookWoken l a (purpose.Release x) last
+
+abbrev pub IsFairlyOver : ℕ → List Ownership → Admission → Access → Answer → Stage → Type 0
+IsFairlyOver l base a x answer st =
+    (st.inside ≡ None) × (answer ≡ answers.Ok) × IsBeside l base st.owns × GaveFairly l a x st.last
+
+-- ---------------------------------------------------------------- who was handed it, and bumps
+
+-- who was handed the lock has its right; a writer looks for readers first
+abbrev pub FitsHanded : ℕ → List Ownership → Access → HandedAt → Stage → Type 0
+FitsHanded l base access.Exclusive to st = ⊥
+FitsHanded l base x handed.Accept st = OwnsRight l (wanted x) base st.owns × (st.inside ≡ None)
+FitsHanded l base x to st = ⊥
+
+-- who bumps enters again, and who was handed the lock came to enter
 abbrev pub purpose_in : RwLockCallPlace → RwLockPurpose
 purpose_in (places.Plain p) = p.purpose
-purpose_in (places.Bump p) = p.purpose
-purpose_in (places.Glance x) = purpose.Release x
-purpose_in (places.HandOver x b to) = purpose.Release x
+purpose_in (places.Bump p) = purpose.Enter (access_of p.purpose) Patient
+purpose_in (places.Glance x) = purpose.Enter x Patient
+purpose_in (places.HandOver x b to) = purpose.Enter x Patient
 purpose_in (places.Handed x how b to) = purpose.Enter x how
+
+-- it sleeps in the main queue, where it may be handed the lock
+abbrev pub awaits_right : RwLockAt → Bool
+awaits_right (at.Park parking.Asleep) = true
+awaits_right to = false
+
+abbrev pub may_be_handed : RwLockCallPlace → Bool
+may_be_handed (places.Plain p) = awaits_right p.at
+may_be_handed (places.Bump p) = awaits_right p.at
+may_be_handed c = false
 
 -- `up` says that the time of the call is up
 module _ (up : Type 0) where
@@ -136,10 +231,20 @@ module _ (up : Type 0) where
     pub within : IsWithin l a p.purpose (rwlock_doing p).inside (rwlock_doing p).carries st.inside
     pub late : (rwlock_profile a p).late ≡ true → up
 
-  -- no call hands the lock over yet, so nobody is handed it
+  -- a bump that gives its shared right up still has it, and else stands as a plain call does
+  abbrev pub FitsBump : ℕ → List Ownership → Admission → RwLockPlace → RwLockAt → Stage → Type 0
+  FitsBump l base a p at.GiveWay st = (p.purpose ≡ purpose.Release access.Shared) × (a.limit < 2 ^ 60 - 1)
+      × (st.inside ≡ None) × OwnsRight l wants.Shared base st.owns
+  FitsBump l base a p to st = FitsRwLock l base a p st
+
+  -- the first look of a bump was taken before
   abbrev pub FitsCall : ℕ → List Ownership → Admission → RwLockCallPlace → Stage → Type 0
   FitsCall l base a (places.Plain p) st = FitsRwLock l base a p st
-  FitsCall l base a c st = ⊥
+  FitsCall l base a (places.Bump p) st = IsOfBump p.purpose p.retries × FitsBump l base a p p.at st
+  FitsCall l base a (places.Glance x) st = ⊥
+  FitsCall l base a (places.HandOver x b to) st =
+      HandsOver x to × (a.limit < 2 ^ 60 - 1) × FitsHandOver l base a x to st
+  FitsCall l base a (places.Handed x how b to) st = FitsHanded l base x to st
 
   -- who may give up: a try at once, and a timed call once its time is up
   abbrev pub MayGiveUp : Patience → Type 0
@@ -153,7 +258,7 @@ module _ (up : Type 0) where
       ((answer ≡ entered how) × OwnsRight l (wanted x) base st.owns)
       ⊎ (((answer ≡ answers.No) × MayGiveUp how × IsBeside l base st.owns
       × ((st.last ≡ None) ⊎ (LeftAlone l st.last ⊎ TookWoken l a (purpose.Enter x how) st.last)))
-      ⊎ ((answer ≡ answers.ReadersFull) × IsBeside l base st.owns))
+      ⊎ ((answer ≡ answers.ReadersFull) × IsCounted x × IsBeside l base st.owns))
   Answers l base a (purpose.Release x) answer st =
       (answer ≡ answers.Ok) × IsBeside l base st.owns × TookWoken l a (purpose.Release x) st.last
   Answers l base a (purpose.Downgrade d) answer st =

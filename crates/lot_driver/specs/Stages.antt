@@ -1,5 +1,5 @@
 -- What a thread has between two acts of a call, and what each act needs and changes, whatever the lock is.
-use Rattle.std.specs.Prelude.{ℕ, ◌≡◌, ◌≢◌, ◌≤◌, ◌==◌, not, length, ◌++◌, List, [], ◌∷◌, Option, Some, None, Bool, true, false}
+use Rattle.std.specs.Prelude.{ℕ, ◌≡◌, ◌≢◌, ◌≤◌, ◌==◌, not, length, ◌++◌, List, [], ◌∷◌, Option, Some, None, Bool, true, false, ◌<◌, ◌^◌, if◌then◌else◌}
 use Rattle.lot_base.specs.Lines.{threads_of}
 use Rattle.lot_base.specs.Words.{apply}
 use Rattle.lot_base.specs.declared.keys.Keys.{Keys}
@@ -19,7 +19,7 @@ use Rattle.lot_words.specs.declared.owners.Owner.{Owner}
 use Rattle.lot_words.specs.declared.owners.Ownership.{Ownership}
 use Rattle.lot_words.specs.declared.views.WordStep.{WordStep}
 use Rattle.lot_words.specs.declared.words.WordKind.{WordKind}
-use Rattle.lot_acts.specs.Acts.{holds}
+use Rattle.lot_acts.specs.Acts.{holds, takes_effect}
 use Rattle.lot_acts.specs.declared.acts.Act.{Act}
 use Rattle.lot_acts.specs.declared.acts.Act as act
 use Rattle.lot_acts.specs.declared.acts.Reply.{Reply}
@@ -78,6 +78,11 @@ waiting_of (Some section) = waiting_in section
 abbrev pub wants_taken : Option Section → List Want
 wants_taken None = []
 wants_taken (Some section) = wants_in section
+
+-- whom it took
+abbrev pub threads_taken : Option Section → List ℕ
+threads_taken None = []
+threads_taken (Some section) = taken_in section
 
 abbrev pub stage_of : Token → Option Section → Stage
 stage_of token section = stage (view_of token).owns (inside_of section) (last_of token)
@@ -152,9 +157,9 @@ abbrev pub MayLeave : Note → Option Inside → Type 0
 MayLeave note None = ⊥
 MayLeave note (Some inside) = MayNote note inside.taken inside.rightless
 
--- a step that leaves its thread with the right that each of them wants, whatever value it finds
+-- a step that leaves its thread with the right that each of them wants, whatever value it finds by which it takes effect
 abbrev pub HandsEach : WordKind → ℕ → Op → List Ownership → List Want → Type 0
-HandsEach kind at op owns wants = (seen : ℕ) → CodesWith kind at seen owns
+HandsEach kind at op owns wants = (seen : ℕ) → CodesWith kind at seen owns → takes_effect op seen ≡ true
     → HasAll at (owners_given kind (apply op seen) wants) (owns_after_step kind at op seen owns)
 
 -- what an act needs of the stage, by the kind of each lock's word and where it stands
@@ -186,9 +191,11 @@ abbrev pub owns_when_handed : WordKind → ℕ → Op → ℕ → List Want → 
 owns_when_handed kind at op seen wants owns =
     without_all at (owners_given kind (apply op seen) wants) (owns_after_step kind at op seen owns)
 
+-- an exchange that finds another value hands nothing over
 abbrev pub handed : WordKind → ℕ → Op → ℕ → Stage → Stage
-handed kind at op seen st =
-    stage (owns_when_handed kind at op seen (wanted_in st.inside) st.owns) (all_given st.inside) None
+handed kind at op seen st = if takes_effect op seen
+    then stage (owns_when_handed kind at op seen (wanted_in st.inside) st.owns) (all_given st.inside) None
+    else stepped kind at op seen st
 
 -- what a section that is left leaves behind
 abbrev pub IsLeft : Option Inside → Option SectionRecord → Type 0
@@ -196,7 +203,7 @@ IsLeft None last = ⊥
 IsLeft (Some inside) last = (number : ℕ)
     × (last ≡ Some (record { key = first_key inside.keys; did = inside.did; number = number }))
 
--- whom a take took, by its reply; of those who were picked one at most wants more than to share
+-- whom a take took, by its reply; of those who were picked one at most wants more than to share, and a list holds them
 abbrev pub TookBy : ℕ → Whom → Reply → Option Inside → Option Inside → Type 0
 TookBy key whom.TheVariants.First (Took any none_left) old new =
     (first : Option Waiter) × (any ≡ is_there first) × (new ≡ took_as (TakeFirst key) (listed first) old)
@@ -207,7 +214,7 @@ TookBy key (whom.TheVariants.Picked start recursive) (Picked sharers successor n
     (waiters : List Waiter) × (sharers ≡ sharers_in (wants_of waiters))
     × (successor ≡ successor_in (wants_of waiters))
     × (new ≡ took_as (did.TheVariants.TakePicked key start recursive) waiters old)
-    × (more_in (wants_of waiters) ≤ 1)
+    × (more_in (wants_of waiters) ≤ 1) × (length waiters < 2 ^ 60)
 TookBy key _ _ old new = ⊥
 
 -- what the end of its time made of a sleeper that stands under a key: it is inside the section of the key under which it may be

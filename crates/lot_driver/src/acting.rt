@@ -17,6 +17,7 @@ ghost use Rattle.lot_driver.specs.Stages.{Adds, Awoke, AwokeLate, HandsEach, Has
 
 use crate::taking::{requeue, take_all, take_first, take_picked, tell_wants};
 use crate::words::Words;
+use lot_acts::takes_effect;
 use lot_steps::{Act, Check, Reply, Wakes, Whom};
 use parking_lot_core::{Clock, Key, Keys, Note, Op, ParkingLot, Section, Slept, Token, Want, Word};
 use std::sync::Wait;
@@ -74,6 +75,7 @@ fn stand(lot: &ParkingLot, token: &Token, section: &mut Option<Section>, key: Ke
 }
 
 // One step on the word, with which the lock goes to those who were taken. The right that each of them wants is laid in its record.
+// Where an exchange finds another value nothing is handed over.
 fn hand_over<R: Wait>(
     rt: &R,
     lot: &ParkingLot,
@@ -95,7 +97,9 @@ fn hand_over<R: Wait>(
     match section {
         Some(inside) => {
             let seen = lot.word(token, word, op);
-            inside.give_each(rt, token, word, op.apply(seen));
+            if takes_effect(op, seen) {
+                inside.give_each(rt, token, word, op.apply(seen));
+            }
             seen
         }
         None => unreachable!(),
@@ -164,7 +168,7 @@ fn leave<R: Wait>(
     }
 }
 
-#[tactic(auto, using(crate::proofs::TakesFew::picked_few))]
+#[tactic(auto, using(crate::proofs::TakesFew::picked_few, crate::proofs::TakesFew::few_waiters))]
 fn take(lot: &ParkingLot, section: &mut Option<Section>, key: Key, whom: Whom) -> Reply
     requires { MayTakeAt lot.now key section.old }
     ensures { IsIn lot.now section.new

@@ -14,6 +14,7 @@ ghost use Rattle.parking_lot_core.specs.Tokens.{IsTokenOf, IsSameThread, view_of
 ghost use Rattle.lot_driver.specs.Calls.{MeetAt, beginning, purpose_in, IsUnfinished, WalksBehind};
 ghost use Rattle.lot_driver.specs.Fitting.{PlacesLead, AreWordsFor, AreWordsAfter, Fits, IsStopped, Reached, answer_of, aim_of, sleeper_at};
 ghost use Rattle.lot_driver.specs.MutexFitting.{IsMutexOver};
+ghost use Rattle.lot_driver.specs.RwLockFitting.{may_be_handed};
 ghost use Rattle.lot_driver.specs.Paths.{closure_of, mutex_at, at_mutex, GoesFrom, Runs, Told};
 ghost use Rattle.lot_driver.specs.Words.{AreWordsOf, kind_in, at_in};
 ghost use Rattle.lot_driver.specs.Stages.{IsIn, stage_of};
@@ -22,6 +23,9 @@ ghost use Rattle.lot_driver.specs.Telling.{HasStepped, MayFind, MayTake, owns_of
 use crate::acting::{Sleeper, end, perform};
 use crate::words::Words;
 use lot_calls::{Answer, MutexCall, OnceState};
+use lot_rwlock::park::ParkAt;
+use lot_rwlock::places::RwLockAt;
+use lot_rwlock_fair::RwLockCallPlace;
 use lot_steps::{Act, MutexPlace, Place, Reply, advance};
 use parking_lot_core::{Clock, Op, ParkingLot, Section, Token, Want, Word};
 use std::hint::spin_loop;
@@ -127,6 +131,18 @@ pub(crate) fn places_lead<C: Clock>(_limit: Option<(&C, u64)>)
     ensures { PlacesLead (IsUp C.tells _limit.entry) }
 {}
 
+// Whether a thread sleeps in the main queue, where it may be handed the lock.
+fn may_be_handed(at: RwLockCallPlace) -> bool
+    ensures { result ≡ may_be_handed at }
+{
+    match at {
+        RwLockCallPlace::Plain(place) | RwLockCallPlace::Bump(place) => {
+            matches!(place.at, RwLockAt::Park(ParkAt::Asleep))
+        }
+        _ => false,
+    }
+}
+
 // For what a thread sleeps in its call.
 fn sleeper(place: Place) -> Sleeper
     requires { HasKeys place }
@@ -135,7 +151,13 @@ fn sleeper(place: Place) -> Sleeper
     let (lock, want, takes_over) = match place {
         Place::Idle => (0, Want::Exclusive, false),
         Place::Mutex { lock, .. } => (lock, Want::Exclusive, true),
-        Place::RwLock { lock, at, .. } => (lock, at.wants().unwrap_or(Want::Exclusive), false),
+        Place::RwLock { lock, at, .. } => {
+            (
+                lock,
+                at.wants().unwrap_or(Want::Exclusive),
+                may_be_handed(at),
+            )
+        }
     };
     Sleeper {
         lock,

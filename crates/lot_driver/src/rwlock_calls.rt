@@ -26,8 +26,8 @@ use lot_steps::{Place, Reply, advance};
 use parking_lot_core::{Clock, Op, ParkingLot, Token, Word};
 use std::sync::Wait;
 
-// Runs a call that steps on one word from a place to its answer.
-fn run_out<R: Wait, C: Clock>(
+/// Runs a call that steps on one word from a place to its answer.
+pub(crate) fn run_out<R: Wait, C: Clock>(
     rt: &R,
     lot: &ParkingLot,
     token: &mut Token,

@@ -1,5 +1,5 @@
 //! Takes and moves of waiters, as acts.
-ghost use Rattle.std.specs.Prelude.{◌≡◌, ◌≢◌, ◌+◌, ◌==◌, not, length};
+ghost use Rattle.std.specs.Prelude.{◌≡◌, ◌≢◌, ◌<◌, ◌+◌, ◌^◌, ◌==◌, not, length};
 ghost use Rattle.std.specs.List.{filter};
 ghost use Rattle.lot_base.specs.Lines.{line, lines, without_first, without_key};
 ghost use Rattle.lot_base.specs.Picks.{lock_picked, without_lock_picked};
@@ -7,7 +7,7 @@ ghost use Rattle.lot_base.specs.Requeues.{moved_by, requeued};
 ghost use Rattle.lot_queues.specs.Wants.{wants_of};
 ghost use Rattle.parking_lot_core.specs.declared.tokens.Did.TheVariants.{TakeFirst, TakeAll, TakePicked};
 ghost use Rattle.parking_lot_core.specs.declared.tokens.Did.TheVariants as did;
-ghost use Rattle.lot_driver.specs.Stages.{HasKey, IsFresh, IsIn, first_in, inside_of, is_there, listed, taken_of, took_as, waiting_of, wants_taken};
+ghost use Rattle.lot_driver.specs.Stages.{HasKey, IsFresh, IsIn, first_in, inside_of, is_there, listed, taken_of, threads_taken, took_as, waiting_of, wants_taken};
 ghost use Rattle.lot_driver.specs.Telling.{AreWaiting, HasTaken, MayTakeAt, is_empty_at, line_in};
 ghost use Rattle.lot_driver.specs.Takes.{shares, sharers_in, successor_in};
 
@@ -102,9 +102,14 @@ pub(crate) fn take_picked(
 pub(crate) fn tell_wants(section: &Option<Section>) -> (usize, Option<Want>)
     ensures sharers { result.0 ≡ sharers_in (wants_taken section.now) }
     ensures successor { result.1 ≡ successor_in (wants_taken section.now) }
+    ensures few { length (threads_taken section.now) < 2 ^ 60 }
 {
     match section {
-        Some(inside) => (sharers(inside.wants()), successor(inside.wants())),
+        Some(inside) => {
+            // So many fit into a list.
+            let _taken = inside.taken();
+            (sharers(inside.wants()), successor(inside.wants()))
+        }
         None => (0, None),
     }
 }

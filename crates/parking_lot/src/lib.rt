@@ -5,6 +5,7 @@ pub mod guards;
 pub mod raw_fair_mutex;
 pub mod raw_mutex;
 pub mod raw_rwlock;
+mod raw_rwlock_fair;
 mod raw_rwlock_timed;
 pub mod rwlock_guards;
 pub mod rwlock_rights;

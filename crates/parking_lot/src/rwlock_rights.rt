@@ -1,12 +1,13 @@
 //! A reader-writer lock of a lot, whose rights are got, given up and turned into others.
 ghost use Rattle.std.specs.Prelude.{◌≡◌, ◌⊎◌, ◌<◌, ◌≤◌, ◌+◌, ◌*◌, ◌-◌, ◌^◌, ◌++◌, ◌∷◌, [], ℕ, true, IfErr, IfNone, IfOk, IfSome, MatchResult};
 ghost use Rattle.std.specs.Arc.{arc_value};
-ghost use Rattle.lock_raw.specs.Answers.{answer_by};
+ghost use Rattle.lock_raw.specs.Answers.{answer_by, reading_answer};
 ghost use Rattle.lot_base.specs.Clocks.{IsUp};
 ghost use Rattle.lot_base.specs.declared.ops.Op.TheVariants.{Load};
 ghost use Rattle.lot_base.specs.declared.wants.Want.TheVariants.{Exclusive, Upgradable};
 ghost use Rattle.lot_calls.specs.declared.calls.Access.TheVariants as access;
 ghost use Rattle.lot_calls.specs.declared.calls.Patience.TheVariants.{Try};
+ghost use Rattle.lot_calls.specs.declared.calls.RwLockCall.TheVariants as fair_calls;
 ghost use Rattle.lot_rwlock.specs.declared.purposes.RwLockPurpose.TheVariants.{Enter, Release, Upgrade};
 ghost use Rattle.lot_rwlock.specs.declared.purposes.RwLockPurpose.TheVariants as purposes_of;
 ghost use Rattle.lot_calls.specs.declared.outcomes.Answer.TheVariants.{Ok as ok};
@@ -19,14 +20,15 @@ ghost use Rattle.lot_words.specs.Views.{owning};
 ghost use Rattle.lot_words.specs.declared.words.WordKind.TheVariants.{RwLock};
 ghost use Rattle.parking_lot_core.specs.Tokens.{IsTokenOf, IsSameThread, view_of, last_of};
 ghost use Rattle.lot_driver.specs.Paths.{rwlock_at, step};
-ghost use Rattle.lot_driver.specs.RwLockCalls.{Exclude, HasWalkedRwLock, IsCounted, IsRwLockRight, StaysBeside, WakesBy, entry_answer, turn_answer};
-ghost use Rattle.lot_driver.specs.RwLockFitting.{MayGiveUp};
+ghost use Rattle.lot_driver.specs.RwLockCalls.{Exclude, HasWalkedCall, HasWalkedRwLock, IsRwLockRight, ReleasesFairly, StaysBeside, WakesBy, entry_answer, turn_answer};
+ghost use Rattle.lot_driver.specs.RwLockFitting.{IsCounted, MayGiveUp};
 ghost use Rattle.lot_driver.specs.Telling.{owns_of, steps_of};
 
 use lot_base::{main_key, second_key};
 use lot_calls::{Access, Answer, Downgrade, Patience};
 use lot_driver::courses::{greater, lesser, wanted};
 use lot_driver::driver::NO_LIMIT;
+use lot_driver::fair_calls::{bump, release_exclusive, release_upgradable};
 use lot_driver::rwlock_calls::call;
 use lot_rwlock::places::WRITER;
 use lot_rwlock::{Admission, RwLockPurpose};
@@ -191,6 +193,60 @@ impl LotRwLock {
             NO_LIMIT,
             RwLockPurpose::Release(access),
         );
+    }
+
+    /// Gives the exclusive right up, and hands the lock to those who wait.
+    #[inline(always)]
+    pub(crate) fn release_exclusive_fair<R: Wait>(&self, rt: &R, token: &mut Token, right: Right)
+        requires token { IsTokenOf (lot_in self.now) token.old }
+        requires right { IsRwLockRight (lot_in self.now) (word_in self.now) (owner_for Exclusive) right }
+        ensures token { IsTokenOf (lot_in self.now) token.new × StaysBeside (word_in self.now).number token.old token.new }
+        ensures path { HasWalkedCall (word_in self.now).number (admission_in self.now) (fair_calls.ReleaseFair access.Exclusive) ok token.old token.new }
+        ensures record { ReleasesFairly (word_in self.now).number (admission_in self.now) access.Exclusive token.old token.new }
+    {
+        self.join(token, Want::Exclusive, right);
+        release_exclusive(rt, &self.lot, token, self.word, self.admission);
+    }
+
+    /// Gives the upgradable right up, and hands the lock to those who wait.
+    pub(crate) fn release_upgradable_fair<R: Wait>(&self, rt: &R, token: &mut Token, right: Right)
+        requires token { IsTokenOf (lot_in self.now) token.old }
+        requires right { IsRwLockRight (lot_in self.now) (word_in self.now) (owner_for Upgradable) right }
+        ensures token { IsTokenOf (lot_in self.now) token.new × StaysBeside (word_in self.now).number token.old token.new }
+        ensures path { HasWalkedCall (word_in self.now).number (admission_in self.now) (fair_calls.ReleaseFair access.Upgradable) ok token.old token.new }
+        ensures record { ReleasesFairly (word_in self.now).number (admission_in self.now) access.Upgradable token.old token.new }
+    {
+        self.join(token, Want::Upgradable, right);
+        release_upgradable(rt, &self.lot, token, self.word, self.admission);
+    }
+
+    /// Gives a right up where others wait for it, and waits for it again.
+    ///
+    /// # Errors
+    ///
+    /// `ReadersFull`, where it finds as many readers as there may be then.
+    #[inline(always)]
+    pub(crate) fn bump<R: Wait>(
+        &self,
+        rt: &R,
+        token: &mut Token,
+        access: Access,
+        right: Right,
+    ) -> Result<Right, Fault>
+        requires token { IsTokenOf (lot_in self.now) token.old }
+        requires right { IsRwLockRight (lot_in self.now) (word_in self.now) (owner_for (wanted access)) right }
+        ensures token { IsTokenOf (lot_in self.now) token.new × StaysBeside (word_in self.now).number token.old token.new }
+        ensures right { MatchResult result (IsRwLockRight (lot_in self.now) (word_in self.now) (owner_for (wanted access)))
+            (λ fault. fault ≡ Fault.ReadersFull) }
+        ensures path { HasWalkedCall (word_in self.now).number (admission_in self.now) (fair_calls.Bump access) (reading_answer result)
+            token.old token.new }
+        ensures full { IfErr result (λ fault. IsCounted access) }
+    {
+        self.join(token, wanted(access), right);
+        match bump(rt, &self.lot, token, self.word, self.admission, access) {
+            Answer::Ok => Ok(self.split(token, wanted(access))),
+            _ => Err(Fault::ReadersFull),
+        }
     }
 
     /// Turns a right into a lesser one, and wakes whom that lets in.

@@ -13,8 +13,8 @@ use Rattle.parking_lot_core.specs.Tokens.{view_of}
 use Rattle.lot_driver.specs.Paths.{Walks, at_rwlock, rwlock_at}
 use Rattle.lot_driver.specs.RwLockCalls.{rwlock_begin}
 use Rattle.lot_driver.specs.RwLockFitting.{IsBeside}
-use Rattle.lot_driver.proofs.RwLockNeeds.{has_right}
-use Rattle.lot_driver.proofs.RwLockRights.{joined_beside, left_beside}
+use Rattle.lot_driver.proofs.RwLockNeeds.{has_right, left_beside}
+use Rattle.lot_driver.proofs.RwLockRights.{joined_beside}
 use Rattle.parking_lot.proofs.rwlock_rights.LotRwLock.downgrade.Goals as goal
 
 pub split-requires-clause-held : goal.split-requires-clause-held

@@ -14,7 +14,6 @@ use Rattle.lot_driver.specs.Paths.{Walks, at_rwlock, rwlock_at}
 use Rattle.lot_driver.specs.RwLockCalls.{rwlock_begin}
 use Rattle.lot_driver.specs.Stages.{stage_of}
 use Rattle.lot_driver.proofs.RwLockCalling.{begins_entering, entered_right, found_full, gave_up_may}
-use Rattle.lot_driver.proofs.RwLockFull.{counted_only}
 use Rattle.lot_driver.proofs.RwLockNeeds.{has_right}
 use Rattle.parking_lot.proofs.rwlock_rights.LotRwLock.enter.Goals as goal
 
@@ -40,9 +39,9 @@ pub returns-in_default : goal.returns-in_default
 returns-in_default g c = let n = c.args.self.now.word.number in let owns = (view_of c.args.token.now).owns in
     let over = c.call-answer.ensures.over owns (begins_entering n c.args.access c.args.patience owns) in
     let full = found_full (IsUp g.C.Clock.tells c.args.limit) n owns c.args.self.now.admission c.args.access c.args.patience c.call-answer.result (stage_of c.call-answer.new.token None) over c.in_default.not-Ok c.in_default.not-Yes c.in_default.not-No in record {
-      token = (search rules, (search rules, full.1));
+      token = (search rules, (search rules, full.2));
       right = refl;
       path = subst (λ (answer : Answer). Walks (at_rwlock c.args.self.now.word.number) (rwlock_begin c.args.self.now.word.number c.args.self.now.admission (Enter c.args.access c.args.patience)) (view_of c.args.token.now).steps (view_of c.call-answer.new.token).steps answer) full.0 c.call-answer.ensures.path;
       late = tt;
-      full = counted_only c.args.access c.args.patience c.args.self.now.word.number c.args.self.now.admission (view_of c.args.token.now).steps (view_of c.call-answer.new.token).steps (subst (λ (answer : Answer). Walks (at_rwlock c.args.self.now.word.number) (rwlock_begin c.args.self.now.word.number c.args.self.now.admission (Enter c.args.access c.args.patience)) (view_of c.args.token.now).steps (view_of c.call-answer.new.token).steps answer) full.0 c.call-answer.ensures.path);
+      full = full.1;
     }

@@ -9,8 +9,8 @@ use Rattle.lot_words.specs.declared.views.WordStep.{WordStep}
 use Rattle.parking_lot_core.specs.Tokens.{view_of}
 use Rattle.lot_driver.specs.Paths.{Walks, at_rwlock}
 use Rattle.lot_driver.specs.RwLockCalls.{rwlock_begin}
-use Rattle.lot_driver.proofs.RwLockNeeds.{has_right}
-use Rattle.lot_driver.proofs.RwLockRights.{left_beside, took, tried}
+use Rattle.lot_driver.proofs.RwLockNeeds.{has_right, left_beside}
+use Rattle.lot_driver.proofs.RwLockRights.{took, tried}
 use Rattle.parking_lot.proofs.rwlock_rights.LotRwLock.try_enter_alone.Goals as goal
 
 pub split-requires-clause-held : goal.split-requires-clause-held

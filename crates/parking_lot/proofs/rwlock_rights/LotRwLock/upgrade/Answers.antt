@@ -10,8 +10,8 @@ use Rattle.parking_lot_core.specs.Tokens.{view_of}
 use Rattle.lot_driver.specs.Paths.{Walks, at_rwlock}
 use Rattle.lot_driver.specs.RwLockCalls.{rwlock_begin}
 use Rattle.lot_driver.specs.Stages.{stage_of}
-use Rattle.lot_driver.proofs.RwLockNeeds.{has_right}
-use Rattle.lot_driver.proofs.RwLockRights.{begins_upgrading, fell_back, left_beside, upgraded}
+use Rattle.lot_driver.proofs.RwLockNeeds.{has_right, left_beside}
+use Rattle.lot_driver.proofs.RwLockRights.{begins_upgrading, fell_back, upgraded}
 use Rattle.parking_lot.proofs.rwlock_rights.LotRwLock.upgrade.Goals as goal
 
 pub split-requires-clause-held : goal.split-requires-clause-held
