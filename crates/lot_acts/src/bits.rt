@@ -16,7 +16,6 @@
 //! | 8 | somebody may stand in the queue |
 ghost use Rattle.std.specs.Prelude.{◌≡◌};
 ghost use Rattle.abstract_locks.specs.Codes as codes;
-ghost use Rattle.abstract_locks.specs.OnceSteps as once;
 
 use lot_base::Want;
 
@@ -72,21 +71,28 @@ pub fn is_blocked(recursive: bool, want: Want, word: u64) -> bool
 
 /// Whether a `Once` is done.
 pub fn is_done(word: u64) -> bool
-    ensures { result ≡ once.is_done word }
+    ensures { result ≡ codes.is_done word }
 {
     word % 2 == 1
 }
 
 /// Whether the last run of a `Once` failed.
 pub fn is_poisoned(word: u64) -> bool
-    ensures { result ≡ once.is_poisoned word }
+    ensures { result ≡ codes.is_poisoned word }
 {
     word / 2 % 2 == 1
 }
 
+/// Whether some thread runs a `Once`.
+pub fn is_running(word: u64) -> bool
+    ensures { result ≡ codes.is_running word }
+{
+    word / 4 % 2 == 1
+}
+
 /// Whether somebody may stand in the queue of a `Once`.
 pub fn is_marked(word: u64) -> bool
-    ensures { result ≡ once.is_marked word }
+    ensures { result ≡ codes.is_marked word }
 {
     word / 8 == 1
 }
