@@ -1,14 +1,16 @@
 #!/usr/bin/env python3
-"""A second reading of the step tables, beside the program: random schedules of mutexes and reader-writer locks, answered here and by
-`lotsim replay`, have to agree.
+"""A second reading of the step tables, beside the program: random schedules of mutexes, reader-writer locks and `Once`, answered here and
+by `lotsim replay`, have to agree.
 
 Build the proved program first: `rt run -- replay < stdin` in crates/lotsim. Then:
-python3 bench/second_reading.py crates/lotsim/out/lotsim SCHEDULES LINES [FIRST_SEED] [--fair]
-With --fair, fair releases and bumps of reader-writer locks are among the calls.
+python3 bench/second_reading.py crates/lotsim/out/lotsim SCHEDULES LINES [FIRST_SEED] [--fair] [--once]
+With --fair, fair releases and bumps of reader-writer locks are among the calls; with --once, each `Once` is among the locks, whose calls
+the program does not know yet. To answer one schedule here: python3 bench/second_reading.py - < SCHEDULE
 """
 import os, random, subprocess, sys, tempfile
 
 P, WP, U, W = 1, 2, 4, 8
+DONE, POISONED, RUNNING, MARKED = 1, 2, 4, 8
 TOKEN = {"s": 16, "u": 20}
 DEFAULT = 2**60 - 2
 
@@ -18,7 +20,7 @@ class Lock:
         self.word = 0
         self.main, self.second = [], []          # (thread, want)
         self.inside = {"main": None, "second": None}
-        self.exclusive = self.pending = self.upgradable = None
+        self.exclusive = self.pending = self.upgradable = self.runner = None
         self.shared = {}
     def queue(self, line): return self.main if line == "main" else self.second
     def readers(self): return sum(self.shared.values())
@@ -40,6 +42,8 @@ class Thread:
         self.retries = None
         self.hand = []
         self.woken = None       # what a go does with a note
+        self.close = None       # what its closure's answer does
+        self.told = None        # what its closure was told
 
 class World:
     def __init__(self, threads, locks):
@@ -49,11 +53,12 @@ class World:
     # ---------------------------------------------------------------- turns
     def outcome(self, t):
         if t.ended is not None: return "end " + t.ended
+        if t.close is not None: return "closure " + t.told
         if t.asleep and t.note is None: return "sleep"
         return "step"
 
     def can_go(self, t):
-        if t.call is None: return False
+        if t.call is None or t.close is not None: return False
         if t.asleep and t.note is None: return False
         if not t.asleep and t.enters is not None:
             lock, line = t.enters
@@ -78,11 +83,20 @@ class World:
     def spin(self, number):
         if number >= len(self.threads): return "not now"
         t = self.threads[number]
-        if t.call is None or t.asleep or t.spin is None: return "not now"
+        if t.call is None or t.asleep or t.close is not None or t.spin is None: return "not now"
         t.ended = None
         spin = t.spin
         t.step, t.enters, t.spin = None, None, None
         spin()
+        return self.outcome(t)
+
+    def closes(self, number, succeeded):
+        if number >= len(self.threads): return "not now"
+        t = self.threads[number]
+        if t.close is None: return "not now"
+        t.ended = None
+        close, t.close = t.close, None
+        close(succeeded)
         return self.outcome(t)
 
     def is_late(self, t):
@@ -119,7 +133,7 @@ class World:
         if number >= len(self.threads): return "not now"
         t, l = self.threads[number], self.locks[lock_number]
         if t.call is not None: return "not now"
-        calls = MUTEX if l.kind in ("mutex", "fair") else RWLOCK | FAIR
+        calls = {"mutex": MUTEX, "fair": MUTEX, "once": ONCE}.get(l.kind, RWLOCK | FAIR)
         if name not in calls: return "not now"
         need = RIGHT.get(name)
         if need == "x" and l.exclusive != number: return "not now"
@@ -137,6 +151,7 @@ class World:
             if l.exclusive is not None: own.append(f"{l.exclusive}x")
             if l.pending is not None: own.append(f"{l.pending[0]}p")
             if l.upgradable is not None: own.append(f"{l.upgradable}u")
+            if l.runner is not None: own.append(f"{l.runner}r")
             for t in sorted(l.shared): own += [f"{t}s"] * l.shared[t]
             line = f"{l.name} {l.word}"
             if own: line += " own=" + ",".join(own)
@@ -154,6 +169,7 @@ RWLOCK = {"read", "read_timed", "try_read", "upgradable", "upgradable_timed", "t
           "unlock_shared", "unlock_exclusive", "unlock_upgradable", "downgrade", "downgrade_upgradable", "downgrade_to_upgradable",
           "upgrade", "upgrade_timed", "try_upgrade"}
 FAIR = {"unlock_shared_fair", "unlock_exclusive_fair", "unlock_upgradable_fair", "bump_shared", "bump_exclusive", "bump_upgradable"}
+ONCE = {"call_once", "call_once_force", "wait", "wait_force"}
 RIGHT = {"unlock": "x", "unlock_fair": "x", "bump": "x", "unlock_shared": "s", "unlock_shared_fair": "s", "bump_shared": "s",
          "unlock_exclusive": "x", "unlock_exclusive_fair": "x", "bump_exclusive": "x", "downgrade": "x", "downgrade_to_upgradable": "x",
          "unlock_upgradable": "u", "unlock_upgradable_fair": "u", "bump_upgradable": "u", "downgrade_upgradable": "u",
@@ -240,6 +256,9 @@ class Call:
         n = self.name
         self.t.timed = n.endswith("_timed")
         if n in MUTEX: getattr(self, "m_" + n)()
+        elif n in ONCE:
+            self.forced, self.runs = n.endswith("_force"), n.startswith("call")
+            self.then(self.o_load)
         elif n.startswith(("read", "upgradable")):
             self.want = "s" if n.startswith("read") else "u"
             self.enter_shared()
@@ -627,12 +646,71 @@ class Call:
             self.hand_upgradable(self.enter_shared)
         self.then(step)
 
+    # ------------------------------------------------ once
+    def o_load(self): self.o_loop(self.l.word)
+    def o_loop(self, s):
+        if s & DONE: return self.end("ok")
+        if s & POISONED and not self.forced: return self.end("poisoned")
+        if self.runs and not s & RUNNING:
+            def step():
+                if not self.exchange(s, s & MARKED | RUNNING): return self.o_loop(self.l.word)
+                self.owned()
+                self.l.runner = self.t.number
+                self.t.told = "Poisoned" if s & POISONED else "New"
+                self.t.close = self.o_close
+            self.then(step)
+        elif not s & MARKED:
+            def step():
+                if self.exchange(s, s + MARKED): self.o_park()
+                else: self.o_loop(self.l.word)
+            self.then(step, None, self.o_load if s & RUNNING else None)
+        else: self.o_park()
+    def o_waits(self, w):
+        if self.runs: return w == RUNNING + MARKED
+        return w & MARKED != 0 and not w & DONE and (self.forced or not w & POISONED)
+    def o_park(self):
+        self.park("main", self.o_waits, "c" if self.runs else "w", lambda note: self.then(self.o_load), None)
+    def o_close(self, succeeded):
+        seen, self.l.word, self.l.runner = self.l.word, DONE if succeeded else POISONED, None
+        answer = "ok" if succeeded else "failed"
+        if not seen & MARKED: return self.end(answer)
+        self.t.owes = (self.l, "main")
+        def take():
+            self.t.hand = [u for u, _ in self.l.main]
+            self.l.main.clear()
+            self.leave("main", "normal", lambda: self.end(answer))
+        self.enter("main", lambda: self.then(take))
+
+# ---------------------------------------------------------------- one schedule
+
+def answered(text):
+    """The answers to the lines of one schedule that has no malformed line."""
+    lines = [line.split() for line in text.splitlines()]
+    locks = [(words[1], words[2], int(words[3]) if len(words) > 3 else DEFAULT) for words in lines if words and words[0] == "lock"]
+    numbers = {name: n for n, (name, _, _) in enumerate(locks)}
+    threads = next((int(words[1]) for words in lines if words and words[0] == "threads"), 0)
+    w, out = World(threads, locks), []
+    for words in lines:
+        if not words or words[0] in ("threads", "lock"): continue
+        if words[0] == "show":
+            out += w.show()
+            continue
+        t, turn = int(words[0]), words[1]
+        if turn in ("begin", "do"):
+            told = w.begin(t, words[2], numbers[words[3]])
+            if turn == "do" and told == "step": told = w.solo(t)
+        else:
+            told = {"go": w.go, "spin": w.spin, "late": w.turn_late, "solo": w.solo, "ok": lambda t: w.closes(t, True),
+                    "err": lambda t: w.closes(t, False)}[turn](t)
+        out.append(f"{t} {told}")
+    return out
+
 # ---------------------------------------------------------------- random schedules
 
-def run(seed, lines, fair):
+def run(seed, lines, fair, once):
     rng = random.Random(seed)
     threads = rng.randrange(2, 7)
-    kinds = ["mutex", "fair", "rwlock", "recursive", "rwlock", "recursive"]
+    kinds = ["mutex", "fair", "rwlock", "recursive", "rwlock", "recursive"] + (["once"] * 3 if once else [])
     locks = []
     text = [f"threads {threads}"]
     for i in range(rng.randrange(1, 4)):
@@ -647,14 +725,14 @@ def run(seed, lines, fair):
         locks.append((name, kind, limit))
     w = World(threads, locks)
     expected = []
-    calls = {"m": sorted(MUTEX), "r": sorted(RWLOCK | FAIR if fair else RWLOCK)}
-    enters = {"m": ["lock", "lock_timed", "try_lock"], "r": [c for c in sorted(RWLOCK) if c not in RIGHT]}
+    calls = {"m": sorted(MUTEX), "o": sorted(ONCE), "r": sorted(RWLOCK | FAIR if fair else RWLOCK)}
+    enters = {"m": ["lock", "lock_timed", "try_lock"], "o": sorted(ONCE), "r": [c for c in sorted(RWLOCK) if c not in RIGHT]}
     for _ in range(lines):
         t = rng.randrange(threads)
         thread = w.threads[t]
         i = rng.randrange(len(locks))
         l = w.locks[i]
-        sort = "m" if l.kind in ("mutex", "fair") else "r"
+        sort = {"mutex": "m", "fair": "m", "once": "o"}.get(l.kind, "r")
         x = rng.random()
         if x < 0.08:
             text.append("show"); expected += w.show(); continue
@@ -673,6 +751,11 @@ def run(seed, lines, fair):
                 text.append(f"{t} begin {c} {l.name}")
                 expected.append(f"{t} {w.begin(t, c, i)}")
             continue
+        if thread.close is not None and rng.random() < 0.5:
+            succeeded = rng.random() < 0.4
+            text.append(f"{t} {'ok' if succeeded else 'err'}")
+            expected.append(f"{t} {w.closes(t, succeeded)}")
+            continue
         y = rng.random()
         if y < 0.06:
             text.append(f"{t} late"); expected.append(f"{t} {w.turn_late(t)}")
@@ -688,13 +771,16 @@ def run(seed, lines, fair):
     return text, expected
 
 def main():
-    fair = "--fair" in sys.argv
-    given = [word for word in sys.argv[1:] if word != "--fair"]
+    fair, once = "--fair" in sys.argv, "--once" in sys.argv
+    given = [word for word in sys.argv[1:] if word not in ("--fair", "--once")]
+    if given == ["-"]:
+        print("\n".join(answered(sys.stdin.read())))
+        return 0
     program, seeds, lines = given[0], int(given[1]), int(given[2])
     first = int(given[3]) if len(given) > 3 else 0
     seen = {}
     for seed in range(first, first + seeds):
-        text, expected = run(seed, lines, fair)
+        text, expected = run(seed, lines, fair, once)
         out = subprocess.run([program, "replay"], input="\n".join(text) + "\n", capture_output=True, text=True).stdout.split("\n")[:-1]
         for e in expected: seen[e.split(" ", 1)[1] if " own" not in e else "show"] = seen.get(e.split(" ", 1)[1] if " own" not in e else "show", 0) + 1
         if out != expected:

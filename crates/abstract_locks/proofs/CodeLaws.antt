@@ -5,7 +5,7 @@ use Rattle.std.proofs.lemmas.Bool.Decides.{nat_tests}
 use Rattle.std.proofs.lemmas.List.Sums.{sum_by-set}
 use Rattle.lot_base.specs.declared.wants.Want.{Want}
 use Rattle.lot_base.specs.declared.wants.Want.TheVariants.{Exclusive, Upgradable, Shared}
-use Rattle.abstract_locks.specs.Locks.{Sort, Mutex, Normal, Recursive, Semaphore, Rules, LockCase, Enter, Pend, Settle, Leave, Convert, Wake, HandOff, Rollback, Knows, NoWriter, IsFreeAt, is_recursive, count, readers, one_if_some}
+use Rattle.abstract_locks.specs.Locks.{Sort, Mutex, Normal, Recursive, Semaphore, Once, Rules, LockCase, OfOnce, Enter, Pend, Settle, Leave, Convert, Wake, HandOff, Rollback, Knows, NoWriter, IsFreeAt, is_recursive, count, readers, one_if_some}
 use Rattle.abstract_locks.specs.Sites.{Site, IsSite, Case, Needed, after_deed, has_readers}
 use Rattle.abstract_locks.specs.Codes.{bit, writers, code_of, rw_code, count_in, has_writer, has_upgradable, has_aside, has_parked, is_blocked, lost, rolled, IsHandOff, WordFollows, WordsTellTrue}
 use Rattle.abstract_locks.proofs.Seen.{packed_count, packed_writer, packed_upgradable, packed_aside, packed_parked}
@@ -14,7 +14,7 @@ use Rattle.abstract_locks.proofs.SiteKeeps.{fewer_share}
 pub one_more : (xs : List ℕ) (t : ℕ) → t < length xs → sum (slice_set xs t (slice_index xs t + 1)) ≡ sum xs + 1
 one_more xs t lt = let e = sum_by-set (λ (n : ℕ). n) xs t (slice_index xs t + 1) 0 lt in omega arith
 
-module _ (r : Rules) (s : Site) (t : ℕ) (there : t < length s.lock.shared) (h : IsSite r s) where
+module _ (r : Rules) (s : Site) (t : ℕ) (readers : has_readers r.sort ≡ true) (there : t < length s.lock.shared) (h : IsSite r s) where
   pub follows : (case : LockCase) → Needed r (Case case) s t → (IsHandOff case → ⊥) → rw_code (after_deed r (Case case) s t) + lost s.lock.pending case ≡ rw_code s + rolled s.lock.pending case
   follows (Enter Shared) n other = grind (arith, one_more s.lock.shared t there)
   follows (Enter Upgradable) n other = grind arith
@@ -31,6 +31,7 @@ module _ (r : Rules) (s : Site) (t : ℕ) (there : t < length s.lock.shared) (h 
   follows Rollback n other = grind arith
   follows Wake n other = absurd n.1
   follows (HandOff x y) n other = absurd (other tt)
+  follows (OfOnce case) n other = absurd (let e : has_readers Once ≡ true = rw n.0.0 at readers in cc)
   follows case n other = grind arith
 
 -- ---------------------------------------------------------------- what is read
@@ -101,16 +102,18 @@ pub words_follow : WordFollows
 words_follow r case s t rw there h n other = by_sort r.sort rw
   where
     by_sort : (sort : Sort) → has_readers sort ≡ true → code_of sort r.limit (after_deed r (Case case) s t) + lost s.lock.pending case ≡ code_of sort r.limit s + rolled s.lock.pending case
-    by_sort Normal e = follows r s t there h case n other
-    by_sort Recursive e = follows r s t there h case n other
+    by_sort Normal e = follows r s t rw there h case n other
+    by_sort Recursive e = follows r s t rw there h case n other
     by_sort Mutex e = absurd cc
     by_sort Semaphore e = absurd cc
+    by_sort Once e = absurd cc
 
 pub rw_is : (sort : Sort) (limit : ℕ) (s : Site) → has_readers sort ≡ true → code_of sort limit s ≡ rw_code s
 rw_is Normal limit s e = refl
 rw_is Recursive limit s e = refl
 rw_is Mutex limit s e = absurd cc
 rw_is Semaphore limit s e = absurd cc
+rw_is Once limit s e = absurd cc
 
 pub words_tell_true : WordsTellTrue
 words_tell_true r s rw_sort h =
@@ -129,9 +132,11 @@ words_tell_true r s rw_sort h =
     blocked Recursive e x knows b = recursive_blocked r s h x knows b
     blocked Mutex e x knows b = absurd cc
     blocked Semaphore e x knows b = absurd cc
+    blocked Once e x knows b = absurd cc
 
     free : (sort : Sort) → has_readers sort ≡ true → (x : Want) → Knows sort x → is_blocked (is_recursive sort) x (code_of sort r.limit s) ≡ false → IsFreeAt sort r.limit s.lock x
     free Normal e x knows b = normal_free r s h x knows b
     free Recursive e x knows b = recursive_free r s h x knows b
     free Mutex e x knows b = absurd cc
     free Semaphore e x knows b = absurd cc
+    free Once e x knows b = absurd cc

@@ -6,7 +6,7 @@ use Rattle.std.proofs.lemmas.List.{take-append-drop}
 use Rattle.std.proofs.Math.Seq.{take-nil, drop-nil}
 use Rattle.lot_base.specs.declared.wants.Want.{Want}
 use Rattle.lot_base.specs.declared.wants.Want.TheVariants.{Exclusive, Upgradable, Shared}
-use Rattle.abstract_locks.specs.Locks.{LockState, sharing_handed, sharing_from, shares_handed, without_owner, Queued, Taken, Sort, Mutex, Normal, Recursive, Semaphore, Rules, Knows, IsLockState, times, taking, picked, unpicked, front_of, keeps_more, sharers, stop_of, wants_shared, one_if_some, putting, without, keep_from, let_go, with_owner, pending_for, succeeding, with_successor, handed, readers}
+use Rattle.abstract_locks.specs.Locks.{LockState, sharing_handed, sharing_from, shares_handed, without_owner, Queued, Taken, Sort, Mutex, Normal, Recursive, Semaphore, Once, Rules, Knows, IsLockState, times, taking, picked, unpicked, front_of, keeps_more, sharers, stop_of, wants_shared, one_if_some, putting, without, keep_from, let_go, with_owner, pending_for, succeeding, with_successor, handed, readers}
 use Rattle.abstract_locks.specs.Sites.{IsOpen, counts, counts_taken}
 use Rattle.abstract_locks.proofs.LockKeeps.{times_append, times_filter}
 
@@ -62,11 +62,11 @@ unshared_picked sort start x q more none = either (stop_of sort start (x ∷ q))
     either n e = record { rest = sharers (take (stop_of sort start (x ∷ q) - 1) q); is = grind arith; few = λ u. let a = times_filtered u (λ (y : Queued). wants_shared y.want) (take (stop_of sort start (x ∷ q) - 1) q) in let b = times_cut u (stop_of sort start (x ∷ q) - 1) q in omega arith }
 
 -- t has taken somebody whose turn it is, where somebody is left
-pub passes_on : (sort : Sort) (start : Option Want) (t : ℕ) (q : List Queued) (taken : ℕ → Option Taken) → keeps_more start ≡ false → unpicked sort start q ≢ [] → ((u : ℕ) → times u q ≤ 1)
+pub passes_on : (sort : Sort) (start : Option Want) (t : ℕ) (q : List Queued) (taken : ℕ → Option Taken) → keeps_more start ≡ false → Knows sort Upgradable → unpicked sort start q ≢ [] → ((u : ℕ) → times u q ≤ 1)
     → (u : ℕ) × (counts_taken sort t (taking t (picked sort start q) taken u) ≡ true)
-passes_on sort start t [] taken none left once = absurd (left (grind (arith, take-nil {A = Queued}, drop-nil {A = Queued})))
-passes_on sort start t (x ∷ q) taken none left once = either (wants_shared x.want) refl
-    (passes_on sort start t q (putting taken x.thread (Some (record { by = t; want = x.want }))) none)
+passes_on sort start t [] taken none knows left once = absurd (left (grind (arith, take-nil {A = Queued}, drop-nil {A = Queued})))
+passes_on sort start t (x ∷ q) taken none knows left once = either (wants_shared x.want) refl
+    (passes_on sort start t q (putting taken x.thread (Some (record { by = t; want = x.want }))) none knows)
   where
     either : (b : Bool) → wants_shared x.want ≡ b
         → (unpicked sort start q ≢ [] → ((u : ℕ) → times u q ≤ 1) → (u : ℕ) × (counts_taken sort t (taking t (picked sort start q) (putting taken x.thread (Some (record { by = t; want = x.want }))) u) ≡ true))
@@ -102,10 +102,11 @@ pub record IsHanded (s now : LockState) (t : ℕ) : Type 0 where
   pub queue : now.queue ≡ s.queue
   pub aside : now.aside ≡ s.aside
   pub taken : (u : ℕ) → now.taken u ≡ let_go t s.taken u
+  pub phase : now.phase ≡ s.phase
 
 writes : (t u : ℕ) (b : Bool) (s now : LockState) → IsHanded s now t → IsHanded s (if b then with_owner u Exclusive now else pending_for u false now) t
-writes t u true s now e = record { queue = e.queue; aside = e.aside; taken = e.taken }
-writes t u false s now e = record { queue = e.queue; aside = e.aside; taken = e.taken }
+writes t u true s now e = record { queue = e.queue; aside = e.aside; taken = e.taken; phase = e.phase }
+writes t u false s now e = record { queue = e.queue; aside = e.aside; taken = e.taken; phase = e.phase }
 
 succeeds : (t : ℕ) (successor : Option Queued) (s now : LockState) → IsHanded s now t → IsHanded s (with_successor successor now) t
 succeeds t None s now e = e
@@ -113,15 +114,15 @@ succeeds t (Some x) s now e = by_want x.want
   where
     by_want : (w : Want) → IsHanded s (succeeding w x.thread now) t
     by_want Exclusive = writes t x.thread (readers now == 0) s now e
-    by_want Upgradable = record { queue = e.queue; aside = e.aside; taken = e.taken }
-    by_want Shared = record { queue = e.queue; aside = e.aside; taken = e.taken }
-    by_want w = record { queue = e.queue; aside = e.aside; taken = e.taken }
+    by_want Upgradable = record { queue = e.queue; aside = e.aside; taken = e.taken; phase = e.phase }
+    by_want Shared = record { queue = e.queue; aside = e.aside; taken = e.taken; phase = e.phase }
+    by_want w = record { queue = e.queue; aside = e.aside; taken = e.taken; phase = e.phase }
 
 pub is_handed : (t : ℕ) (right : Want) (successor : Option Queued) (s : LockState) → IsHanded s (handed t right successor s) t
-is_handed t Exclusive successor s = succeeds t successor s _ (record { queue = refl; aside = refl; taken = λ u. refl })
-is_handed t Upgradable successor s = succeeds t successor s _ (record { queue = refl; aside = refl; taken = λ u. refl })
-is_handed t Shared successor s = succeeds t successor s _ (record { queue = refl; aside = refl; taken = λ u. refl })
-is_handed t x successor s = succeeds t successor s _ (record { queue = refl; aside = refl; taken = λ u. refl })
+is_handed t Exclusive successor s = succeeds t successor s _ (record { queue = refl; aside = refl; taken = λ u. refl; phase = refl })
+is_handed t Upgradable successor s = succeeds t successor s _ (record { queue = refl; aside = refl; taken = λ u. refl; phase = refl })
+is_handed t Shared successor s = succeeds t successor s _ (record { queue = refl; aside = refl; taken = λ u. refl; phase = refl })
+is_handed t x successor s = succeeds t successor s _ (record { queue = refl; aside = refl; taken = λ u. refl; phase = refl })
 
 -- nobody shares less
 pub sharing_more : (t : ℕ) (taken : ℕ → Option Taken) (i u : ℕ) (ns : List ℕ) → slice_index ns u ≤ slice_index (sharing_from t taken i ns) u
@@ -150,15 +151,15 @@ shares_on t i n Shared successor s more e h = absurd (more refl)
 shares_on t i n x successor s more e h = let a = sharing_more t s.taken 0 i s.shared in succeeds_on i n successor _ e (omega arith)
 
 -- where somebody passes the turn on, the lock is barred by whoever has succeeded
-writes_bar : (r : Rules) (b : Bool) (u : ℕ) (now : LockState) → IsLockState r (if b then with_owner u Exclusive now else pending_for u false now) → IsOpen r.sort (if b then with_owner u Exclusive now else pending_for u false now) → ⊥
-writes_bar r true u now c free = grind arith
-writes_bar r false u now c free = grind (arith, c.unpending)
+writes_bar : (r : Rules) (b : Bool) (u : ℕ) (now : LockState) → Knows r.sort Exclusive → IsLockState r (if b then with_owner u Exclusive now else pending_for u false now) → IsOpen r.sort (if b then with_owner u Exclusive now else pending_for u false now) → ⊥
+writes_bar r true u now knows c free = grind arith
+writes_bar r false u now knows c free = grind (arith, c.unpending)
 
-pub bars : (r : Rules) (u : ℕ) (w : Want) (now : LockState) → Knows r.sort w → w ≢ Shared → IsLockState r (succeeding w u now) → IsOpen r.sort (succeeding w u now) → ⊥
-bars r u Exclusive now knows more c free = writes_bar r (readers now == 0) u now c free
-bars r u Upgradable now knows more c free = grind arith
-bars r u Shared now knows more c free = more refl
-bars r u w now knows more c free = grind arith
+pub bars : (r : Rules) (u : ℕ) (w : Want) (now : LockState) → Knows r.sort w → counts r.sort w ≡ true → w ≢ Shared → IsLockState r (succeeding w u now) → IsOpen r.sort (succeeding w u now) → ⊥
+bars r u Exclusive now knows turn more c free = writes_bar r (readers now == 0) u now knows c free
+bars r u Upgradable now knows turn more c free = grind arith
+bars r u Shared now knows turn more c free = more refl
+bars r u w now knows turn more c free = grind arith
 
 -- who passes the turn on doesn't want to share
 pub counts_more : (sort : Sort) (w : Want) → Knows sort w → sort ≢ Semaphore → counts sort w ≡ true → w ≢ Shared
@@ -167,6 +168,7 @@ counts_more Normal w knows lock c e = let g : counts Normal Shared ≡ true = rw
 counts_more Recursive w knows lock c e = let g : counts Recursive Shared ≡ true = rw e at c in cc
 counts_more Semaphore w knows lock c e = lock refl
 counts_more Mutex w knows lock c e = knows
+counts_more Once w knows lock c e = cc
 
 -- ---------------------------------------------------------------- behind a hand-over each in hand has its right
 

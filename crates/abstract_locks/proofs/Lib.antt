@@ -6,14 +6,13 @@ pub mod Turns
 pub mod Hands
 pub mod Wakes
 pub mod SiteKeeps
+pub mod OnceLaws
 pub mod Seen
 pub mod CodeLaws
 pub mod Limits
 pub mod HandLimits
-pub mod OnceKeeps
 pub mod CondvarKeeps
 pub mod PermitKeeps
-pub mod OnceFit
 pub mod Deeds
 pub mod Rights
 pub mod UserLaws

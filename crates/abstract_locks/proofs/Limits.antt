@@ -2,7 +2,8 @@
 use Rattle.std.proofs.Common.{ℕ, Bool, true, false, Option, Some, None, if◌then◌else◌, ◌==◌, ◌≡◌, ◌≤◌, ◌<◌, refl, length, arith}
 use Rattle.std.proofs.lemmas.Bool.Decides.{nat_tests}
 use Rattle.lot_base.specs.declared.wants.Want.TheVariants.{Exclusive, Upgradable, Shared}
-use Rattle.abstract_locks.specs.Locks.{LockState, Pending, Rules, Normal, LockCase, Enter, Pend, Settle, Leave, Convert, Park, Aside, TakeFirst, TakeAside, TakePicked, Wake, HandOff, Late, Rollback, Needs, IsLockState, Knows, count, readers}
+use Rattle.abstract_locks.specs.Locks.{LockState, Pending, Rules, Normal, LockCase, OfOnce, once_after, Enter, Pend, Settle, Leave, Convert, Park, Aside, TakeFirst, TakeAside, TakePicked, Wake, HandOff, Late, Rollback, Needs, IsLockState, Knows, count, readers}
+use Rattle.abstract_locks.specs.Onces.{OnceCase, Start, Finish, Fail, Rest, TakeAll}
 use Rattle.abstract_locks.specs.Locks as locks
 use Rattle.abstract_locks.specs.Codes.{HasLimit, LimitKept, IsHandOff}
 use Rattle.abstract_locks.proofs.SiteKeeps.{fewer_share}
@@ -22,6 +23,13 @@ module _ (r : Rules) (s : LockState) (t : ℕ) (there : t < length s.shared) (so
   rolls_by None e = grind arith
   rolls_by (Some p) e = rolls p e p.falls_back refl
 
+  once_keeps : (case : OnceCase) → HasLimit r (once_after case s t)
+  once_keeps (Start forced) = record { top = h.top; normal = h.normal; falls = h.falls; falls_normal = h.falls_normal }
+  once_keeps Finish = record { top = h.top; normal = h.normal; falls = h.falls; falls_normal = h.falls_normal }
+  once_keeps Fail = record { top = h.top; normal = h.normal; falls = h.falls; falls_normal = h.falls_normal }
+  once_keeps (Rest wanted forced) = record { top = h.top; normal = h.normal; falls = h.falls; falls_normal = h.falls_normal }
+  once_keeps TakeAll = record { top = h.top; normal = h.normal; falls = h.falls; falls_normal = h.falls_normal }
+
   keeps : (case : LockCase) → Needs r case s t → (IsHandOff case → ⊥) → HasLimit r (locks.after_case r case s t)
   keeps (Enter Shared) n other = grind (arith, one_more s.shared t there)
   keeps (Enter Upgradable) n other = grind arith
@@ -37,6 +45,7 @@ module _ (r : Rules) (s : LockState) (t : ℕ) (there : t < length s.shared) (so
   keeps (Convert Upgradable Exclusive) n other = upgrades (readers s == 0) refl n
   keeps Rollback n other = rolls_by s.pending refl
   keeps (HandOff x y) n other = absurd (other tt)
+  keeps (OfOnce case) n other = once_keeps case
   keeps case n other = grind arith
 
 pub limit_kept : LimitKept

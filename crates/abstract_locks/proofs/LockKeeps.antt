@@ -6,8 +6,9 @@ use Rattle.std.proofs.lemmas.List.Sums.{get_or-le-sum_by}
 use Rattle.std.proofs.lemmas.List.Folds.{sum_by-replicate}
 use Rattle.std.specs.Prelude.{not, filter, take, drop}
 use Rattle.lot_base.specs.declared.wants.Want.{Want}
-use Rattle.lot_base.specs.declared.wants.Want.TheVariants.{Shared}
-use Rattle.abstract_locks.specs.Locks.{LockState, Queued, Taken, Sort, Rules, LockCase, Enter, Pend, Settle, Leave, Convert, Park, Aside, TakeFirst, TakeAside, TakePicked, Wake, HandOff, Late, Rollback, Needs, after_case, IsLockState, Knows, KnowsAll, NoWriter, Owns, without_owner, sharing_from, sharing_handed, succeeding, times, one_if_some, taking, wants_shared, front_of, stop_of, opening_lock}
+use Rattle.lot_base.specs.declared.wants.Want.TheVariants.{Shared, Wait, CallOnce}
+use Rattle.abstract_locks.specs.Onces.{Phase, OnceCase, Start, Finish, Fail, Rest, TakeAll, MayRest}
+use Rattle.abstract_locks.specs.Locks.{LockState, Queued, Taken, Sort, Rules, LockCase, OfOnce, OnceNeeds, once_after, Once, Enter, Pend, Settle, Leave, Convert, Park, Aside, TakeFirst, TakeAside, TakePicked, Wake, HandOff, Late, Rollback, Needs, after_case, IsLockState, Knows, KnowsAll, NoWriter, Owns, without_owner, sharing_from, sharing_handed, succeeding, times, one_if_some, taking, wants_shared, front_of, stop_of, opening_lock}
 
 none_if_not : {A : Type 0} (o : Option A) → ((x : A) → o ≡ Some x → ⊥) → o ≡ None
 none_if_not o h = grind arith
@@ -65,6 +66,35 @@ shares r s t right c owns more = grind (arith, nat_tests, sharing_same r s t 0 s
 succeeds : (r : Rules) (s : LockState) (x : Queued) → IsLockState r s → NoWriter s → Knows r.sort x.want → x.want ≢ Shared → IsLockState r (succeeding x.want x.thread s)
 succeeds r s x c free knows more = grind (arith, nat_tests, no_aside r s c)
 
+-- ---------------------------------------------------------------- what is done to a `Once`
+
+pub rephased : (r : Rules) (s : LockState) (p : Phase) → IsLockState r s → IsLockState r (record s { phase = p })
+rephased r s p c = record {
+  exclusive_alone = c.exclusive_alone;
+  pending_alone = c.pending_alone;
+  aside_pending = c.aside_pending;
+  once = c.once;
+  known_queue = c.known_queue;
+  known_taken = c.known_taken;
+  unshared = c.unshared;
+  unpending = c.unpending;
+  unwritten = c.unwritten;
+}
+
+rests_known : (x : Want) (forced : Bool) (p : Phase) → MayRest x forced p → Knows Once x
+rests_known CallOnce forced p may = tt
+rests_known Wait forced p may = tt
+rests_known x forced p may = absurd (grind arith)
+
+once_keeps : (r : Rules) (case : OnceCase) (s : LockState) (t : ℕ) → IsLockState r s → r.sort ≡ Once → OnceNeeds case s t → IsLockState r (once_after case s t)
+once_keeps r (Start forced) s t c sort n = rephased r s _ c
+once_keeps r Finish s t c sort n = rephased r s _ c
+once_keeps r Fail s t c sort n = rephased r s _ c
+once_keeps r (Rest wanted forced) s t c sort n =
+    let known = rests_known wanted forced s.phase n.0 in
+    grind (arith, nat_tests, times_append, known_append, sort)
+once_keeps r TakeAll s t c sort n = grind (arith, nat_tests, times_taking, known_taking, sort)
+
 -- ---------------------------------------------------------------- all cases
 
 pub case_keeps : (r : Rules) (c : LockCase) (s : LockState) (t : ℕ) → IsLockState r s → Needs r c s t → IsLockState r (after_case r c s t)
@@ -83,6 +113,7 @@ case_keeps r (HandOff right None) s t c n = (shares r s t right c n.0 n.1).0
 case_keeps r (HandOff right (Some x)) s t c n = let left = shares r s t right c n.0 n.1 in let is_taken = (n.2 x.thread x.want).0 refl in succeeds r (sharing_handed t (without_owner t right s)) x left.0 left.1 (c.known_taken x.thread _ is_taken.0) is_taken.1
 case_keeps r Late s t c n = grind (arith, nat_tests, times_filter, known_filter)
 case_keeps r Rollback s t c n = grind arith
+case_keeps r (OfOnce case) s t c n = once_keeps r case s t c n.0 n.1
 
 pub opening_is_state : (r : Rules) (threads : ℕ) → IsLockState r (opening_lock threads)
 opening_is_state r threads = grind (arith, sum_by-replicate)

@@ -6,7 +6,8 @@ use Rattle.std.proofs.lemmas.List.{get_or_past}
 use Rattle.std.specs.Prelude.{length, slice_index, slice_set}
 use Rattle.lot_base.specs.declared.wants.Want.{Want}
 use Rattle.lot_base.specs.declared.wants.Want.TheVariants.{Exclusive, Upgradable, Shared}
-use Rattle.abstract_locks.specs.Locks.{LockState, Rules, Rights, LockCase, Enter, Pend, Settle, Leave, Convert, Park, Aside, TakeFirst, TakeAside, TakePicked, Wake, HandOff, Late, Rollback, Needs, after_case, IsLockState, Owns, MayConvert, Queued, putting, rights_of, with_right, without_right, with_owner, without_owner, pending_for, readers}
+use Rattle.abstract_locks.specs.Onces.{OnceCase, Start, Finish, Fail, Rest, TakeAll}
+use Rattle.abstract_locks.specs.Locks.{LockState, Rules, Rights, LockCase, Enter, Pend, Settle, Leave, Convert, Park, Aside, TakeFirst, TakeAside, TakePicked, Wake, HandOff, Late, Rollback, OfOnce, once_after, Needs, after_case, IsLockState, Owns, MayConvert, Queued, putting, rights_of, with_right, without_right, with_owner, without_owner, pending_for, readers}
 
 abbrev pub rights_by : ℕ → ℕ → ℕ → ℕ → Rights
 rights_by e p u s = record { exclusive = e; pending = p; upgradable = u; shared = s }
@@ -82,6 +83,14 @@ module _ (s : LockState) (t : ℕ) where
   pub fell : (r : Rules) → IsLockState r s → s.pending ≡ Some (record { thread = t; falls_back = true }) → rights_of (with_owner t Upgradable (record s { pending = None })) t ≡ with_right Upgradable (less_pending (rights_of s t))
   fell r state own = let free : s.upgradable ≡ None = grind (arith, state.pending_alone) in rights_are _ _ _ _ _ _ _ _ refl (grind (arith, nat_tests)) (grind (arith, nat_tests)) refl
 
+-- what is done to a `Once` changes no right
+pub once_keeps : (case : OnceCase) (s : LockState) (t u : ℕ) → rights_of (once_after case s t) u ≡ rights_of s u
+once_keeps (Start forced) s t u = refl
+once_keeps Finish s t u = refl
+once_keeps Fail s t u = refl
+once_keeps (Rest wanted forced) s t u = refl
+once_keeps TakeAll s t u = refl
+
 -- ---------------------------------------------------------------- any other thread
 
 module _ (r : Rules) (s : LockState) (t u : ℕ) (state : IsLockState r s) (ne : u ≢ t) where
@@ -121,6 +130,7 @@ module _ (r : Rules) (s : LockState) (t u : ℕ) (state : IsLockState r s) (ne :
   others_keep (HandOff x y) not_hand n = absurd (not_hand x y refl)
   others_keep Late not_hand n = refl
   others_keep Rollback not_hand n = grind (arith, nat_tests)
+  others_keep (OfOnce case) not_hand n = once_keeps case s t u
 
 -- ---------------------------------------------------------------- rights of each lock, where one lock's are told
 

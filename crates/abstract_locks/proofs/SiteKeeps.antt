@@ -1,15 +1,16 @@
 -- Each deed keeps what holds of a lock of the lot between steps.
 use Rattle.std.proofs.Common.{ℕ, Bool, true, false, Option, Some, None, if◌then◌else◌, ◌==◌, ◌≡◌, ◌≢◌, ◌≤◌, ◌<◌, subst, ◌+◌, ◌⊎◌, inl, inr, List, [], ◌∷◌, ◌++◌, refl, sym, ap, ◌∙◌, arith, get_or-set_same, get_or-set_other}
 use Rattle.std.proofs.Math.Seq.{take-nil, drop-nil}
-use Rattle.std.specs.Prelude.{not, drop, ◌-◌, ◌||◌, slice_index, slice_set, sum, length}
+use Rattle.std.specs.Prelude.{not, filter, drop, ◌-◌, ◌||◌, slice_index, slice_set, sum, length}
 use Rattle.std.proofs.lemmas.Bool.{cases_lt}
 use Rattle.std.proofs.lemmas.List.{get_or_past, set_past}
 use Rattle.std.proofs.lemmas.List.Sums.{sum_by-set}
 use Rattle.std.proofs.lemmas.Bool.Decides.{nat_tests}
 use Rattle.lot_base.specs.declared.wants.Want.{Want}
 use Rattle.lot_base.specs.declared.wants.Want.TheVariants.{Exclusive, Upgradable, Shared}
-use Rattle.abstract_locks.specs.Locks.{LockState, Pending, Queued, Taken, Sort, Rules, LockCase, Enter, Pend, Settle, Leave, Convert, Park, Aside, TakeFirst, TakeAside, TakePicked, Wake, HandOff, Late, Rollback, Needs, IsLockState, HasTakenNobody, IsTaken, Knows, KnowsAll, Mutex, Normal, Recursive, Semaphore, keeps_more, Owns, IsSuccessor, picked, unpicked, times, taking, standing, is_thread, one_if_some, readers, putting}
+use Rattle.abstract_locks.specs.Locks.{LockState, Pending, Queued, Taken, Sort, Rules, LockCase, Enter, Pend, Settle, Leave, Convert, Park, Aside, TakeFirst, TakeAside, TakePicked, Wake, HandOff, Late, Rollback, OfOnce, once_after, TakesFirst, has_caller, without, Needs, IsLockState, HasTakenNobody, IsTaken, Knows, KnowsAll, Mutex, Normal, Recursive, Semaphore, Once, keeps_more, Owns, IsSuccessor, picked, unpicked, times, taking, standing, is_thread, one_if_some, readers, putting}
 use Rattle.abstract_locks.specs.Sites.{Line, Main, Second, Claim, Doing, Site, IsSite, Begin, End, In, Out, Mark, Clear, FindNobody, MarkOwned, MarkBrought, Bring, Case, Needed, after_deed, with_doing, done, case_doing, taking_main, IsEmpty, IsOpen, IsDebtor, bringing, late_found, gives_way, shares_less, KeepsOwned, Has, Pends, Runs, Ran, Holds, counts, counts_taken, is_full, EachDeedKeeps}
+use Rattle.abstract_locks.specs.Onces.{OnceCase, Start, Finish, Fail, Rest, TakeAll}
 use Rattle.abstract_locks.specs.Locks as locks
 use Rattle.abstract_locks.proofs.LockKeeps.{case_keeps, no_aside, times_taking, times_append, known_append, known_taking}
 use Rattle.abstract_locks.proofs.Hands.{taking_others, taking_by, times_picked, passes_on, without_fewer, is_handed, shares_on, counts_more, bars, kept_few, kept_counts, kept_by}
@@ -39,12 +40,26 @@ fewer_share xs t h = elim (cases_lt t (length xs)) [
   | inr past ↦ let e = get_or_past xs t 0 past in absurd (omega arith)
 ]
 
--- the exclusive, pending and upgradable owners alone decide whether a lock is open
-same_open : (sort : Sort) (a b : LockState) → a.exclusive ≡ b.exclusive → a.pending ≡ b.pending → a.upgradable ≡ b.upgradable → IsOpen sort a → IsOpen sort b
-same_open Mutex a b e f g free = sym e ∙ free
-same_open Normal a b e f g free = (sym e ∙ free.0, sym f ∙ free.1, sym g ∙ free.2)
-same_open Recursive a b e f g free = (sym e ∙ free.0, sym f ∙ free.1, sym g ∙ free.2)
-same_open Semaphore a b e f g free = absurd free
+-- the exclusive, pending and upgradable owners alone decide whether a lock is open, and of a `Once` its phase and who waits to run it
+same_open : (sort : Sort) (a b : LockState) → a.exclusive ≡ b.exclusive → a.pending ≡ b.pending → a.upgradable ≡ b.upgradable → a.phase ≡ b.phase → (has_caller a.queue ≡ true → has_caller b.queue ≡ true) → IsOpen sort a → IsOpen sort b
+same_open Mutex a b e f g p q free = sym e ∙ free
+same_open Normal a b e f g p q free = (sym e ∙ free.0, sym f ∙ free.1, sym g ∙ free.2)
+same_open Recursive a b e f g p q free = (sym e ∙ free.0, sym f ∙ free.1, sym g ∙ free.2)
+same_open Semaphore a b e f g p q free = absurd free
+same_open Once a b e f g p q free = (q free.0, rw (← p) free.1)
+
+-- who waits to run a `Once` among those who are left waited before
+callers_filter : (p : Queued → Bool) (xs : List Queued) → has_caller (filter p xs) ≡ true → has_caller xs ≡ true
+callers_filter p [] e = e
+callers_filter p (x ∷ xs) e = grind (arith, callers_filter p xs)
+
+callers_append : (xs ys : List Queued) → has_caller (xs ++ ys) ≡ has_caller xs || has_caller ys
+callers_append [] ys = refl
+callers_append (x ∷ xs) ys = grind (arith, callers_append xs ys)
+
+pub callers_stand : (xs : List Queued) → has_caller xs ≡ true → xs ≢ []
+callers_stand [] e = absurd cc
+callers_stand (x ∷ xs) e = λ k. cc
 
 -- beside a writer that sleeps aside nobody has the upgradable right
 alone_aside : (r : Rules) (s : LockState) → IsLockState r s → s.aside ≢ None → s.upgradable ≡ None
@@ -129,7 +144,7 @@ module _ (r : Rules) (s : Site) (t : ℕ) (h : IsSite r s) where
   state c n = case_keeps r c s.lock t h.state n.0
 
   -- t takes some of the main line
-  module _ (gone left : List Queued) (covers : Bool) (n : (s.doing t).inside ≡ Some Main) (free : (s.doing t).carries ≡ false) (elsewhere : (s.doing t).wakes ≢ Some Second) (nobody : HasTakenNobody s.lock t)
+  module _ (gone left : List Queued) (covers : Bool) (lock : r.sort ≢ Once) (n : (s.doing t).inside ≡ Some Main) (free : (s.doing t).carries ≡ false) (elsewhere : (s.doing t).wakes ≢ Some Second) (nobody : HasTakenNobody s.lock t)
       (state_now : IsLockState r (record s.lock { queue = left; taken = taking t gone s.lock.taken })) (part : (u : ℕ) → times u gone + times u left ≡ times u s.lock.queue) (none : s.lock.queue ≡ [] → left ≡ [])
       (barred : covers ≡ false → IsOpen r.sort s.lock → ⊥) (passes : covers ≡ true → left ≢ [] → (u : ℕ) × (counts_taken r.sort t (taking t gone s.lock.taken u) ≡ true)) where
     abbrev now : LockState
@@ -149,7 +164,10 @@ module _ (r : Rules) (s : Site) (t : ℕ) (h : IsSite r s) where
     stood u e = let a = times_taking u t gone s.lock.taken in let b = part u in omega arith
 
     not_set : (s.doing t).sets ≡ true → ⊥
-    not_set k = let g = (h.covered t (h.setting t k)).1 in let f = free in cc
+    not_set k = elim (h.setting t k) [
+      | inl covers ↦ let g = (h.covered t covers).1 in let f = free in cc
+      | inr once ↦ lock once.0
+    ]
 
     still_bit : s.lock.queue ≢ [] → (s.parked ≡ true) ⊎ (((s.doing t).sets ≡ true) ⊎ ((s.lock.queue ≢ []) × (s.parked ≡ false) × ((s.doing t).sets ≡ false)))
     still_bit left = grind (arith, not_set)
@@ -199,16 +217,16 @@ module _ (r : Rules) (s : Site) (t : ℕ) (h : IsSite r s) where
   nobody_picked start e = rw e (grind (arith, take-nil {A = Queued}, drop-nil {A = Queued}))
 
   picked_keeps : (start : Option Want) → Needed r (Case (TakePicked start)) s t → IsSite r (after_deed r (Case (TakePicked start)) s t)
-  picked_keeps start n = take_keeps (picked r.sort start s.lock.queue) (unpicked r.sort start s.lock.queue) (not (keeps_more start)) n.1.0 n.1.1 n.1.2 n.0.0 (state (TakePicked start) n)
+  picked_keeps start n = take_keeps (picked r.sort start s.lock.queue) (unpicked r.sort start s.lock.queue) (not (keeps_more start)) (λ e. let k : Knows Once Upgradable = rw e at n.0.1 in k) n.1.0 n.1.1 n.1.2 n.0.0 (state (TakePicked start) n)
       (λ u. times_picked r.sort start u s.lock.queue) (nobody_picked start) (λ e. barred_by start n.1.3 e n.0.1)
-      (λ e left. passes_on r.sort start t s.lock.queue s.lock.taken (grind arith) left once)
+      (λ e left. passes_on r.sort start t s.lock.queue s.lock.taken (grind arith) n.0.1 left once)
 
   -- the first of the queue of a mutex passes the turn on
-  first_counts : (x : Queued) → (Knows r.sort Upgradable → ⊥) → counts_taken r.sort t (taking t (x ∷ []) s.lock.taken x.thread) ≡ true
-  first_counts x unknown = grind (arith, nat_tests)
+  first_counts : (x : Queued) → TakesFirst r.sort → counts_taken r.sort t (taking t (x ∷ []) s.lock.taken x.thread) ≡ true
+  first_counts x first = grind (arith, nat_tests)
 
   first_keeps : (x : Queued) → Needed r (Case (TakeFirst x)) s t → IsSite r (after_deed r (Case (TakeFirst x)) s t)
-  first_keeps x n = take_keeps (x ∷ []) (drop 1 s.lock.queue) true n.1.0 n.1.1 n.1.2 n.0.1 (state (TakeFirst x) n)
+  first_keeps x n = take_keeps (x ∷ []) (drop 1 s.lock.queue) true (λ e. let k : TakesFirst Once = rw e at n.0.2 in k) n.1.0 n.1.1 n.1.2 n.0.1 (state (TakeFirst x) n)
       (λ u. let e = n.0.0.1 in grind (arith, nat_tests)) (λ e. rw e refl) (λ e. absurd cc) (λ e left. (x.thread, first_counts x n.0.2))
 
   -- an upgrade owns where nobody shares, and is pending where somebody does
@@ -242,25 +260,32 @@ module _ (r : Rules) (s : Site) (t : ℕ) (h : IsSite r s) where
     succeeded None k = inl refl
     succeeded (Some y) k = inr (y, (refl, ((k y.thread y.want).0 refl).1))
 
-    owns_alone : (w : Want) → Owns s.lock t w → w ≢ Shared → (u : ℕ) → u ≢ t → (c : Claim) → c ≢ Has Shared → Holds s.lock u c → ⊥
-    owns_alone Exclusive own more u ne (Has Exclusive) unshared e = grind arith
-    owns_alone Exclusive own more u ne (Has Upgradable) unshared e = grind arith
-    owns_alone Exclusive own more u ne (Pends b) unshared e = grind arith
-    owns_alone Upgradable own more u ne (Has Exclusive) unshared e = grind arith
-    owns_alone Upgradable own more u ne (Has Upgradable) unshared e = grind arith
-    owns_alone Upgradable own more u ne (Pends b) unshared e = grind arith
-    owns_alone w own more u ne (Has Shared) unshared e = unshared refl
-    owns_alone Shared own more u ne c unshared e = more refl
-    owns_alone w own more u ne c unshared e = grind arith
+    abbrev of_once : Claim → Type 0
+    of_once Runs = Unit {0}
+    of_once Ran = Unit {0}
+    of_once c = ⊥
+
+    owns_alone : (w : Want) → Owns s.lock t w → w ≢ Shared → (u : ℕ) → u ≢ t → (c : Claim) → c ≢ Has Shared → (of_once c → ⊥) → Holds s.lock u c → ⊥
+    owns_alone Exclusive own more u ne (Has Exclusive) unshared k e = grind arith
+    owns_alone Exclusive own more u ne (Has Upgradable) unshared k e = grind arith
+    owns_alone Exclusive own more u ne (Pends b) unshared k e = grind arith
+    owns_alone Upgradable own more u ne (Has Exclusive) unshared k e = grind arith
+    owns_alone Upgradable own more u ne (Has Upgradable) unshared k e = grind arith
+    owns_alone Upgradable own more u ne (Pends b) unshared k e = grind arith
+    owns_alone w own more u ne (Has Shared) unshared k e = unshared refl
+    owns_alone w own more u ne Runs unshared k e = k tt
+    owns_alone w own more u ne Ran unshared k e = k tt
+    owns_alone Shared own more u ne c unshared k e = more refl
+    owns_alone w own more u ne c unshared k e = grind arith
 
     still_theirs : (u : ℕ) (c : Claim) → u ≢ t → Holds s.lock u c → Holds handed_lock u c
     still_theirs u (Has Shared) ne e = shares_on t u 1 x successor s.lock n.0.1 (succeeded successor n.0.2) e
-    still_theirs u (Has Exclusive) ne e = absurd (owns_alone x n.0.0 n.0.1 u ne (Has Exclusive) (λ f. cc) e)
-    still_theirs u (Has Upgradable) ne e = absurd (owns_alone x n.0.0 n.0.1 u ne (Has Upgradable) (λ f. cc) e)
-    still_theirs u (Has w) ne e = absurd (owns_alone x n.0.0 n.0.1 u ne (Has w) (λ f. cc) e)
-    still_theirs u Runs ne e = absurd e
-    still_theirs u Ran ne e = absurd e
-    still_theirs u (Pends b) ne e = absurd (owns_alone x n.0.0 n.0.1 u ne (Pends b) (λ f. cc) e)
+    still_theirs u (Has Exclusive) ne e = absurd (owns_alone x n.0.0 n.0.1 u ne (Has Exclusive) (λ f. cc) (λ k. k) e)
+    still_theirs u (Has Upgradable) ne e = absurd (owns_alone x n.0.0 n.0.1 u ne (Has Upgradable) (λ f. cc) (λ k. k) e)
+    still_theirs u (Has w) ne e = absurd (owns_alone x n.0.0 n.0.1 u ne (Has w) (λ f. cc) (λ k. k) e)
+    still_theirs u Runs ne e = (is_handed t x successor s.lock).phase ∙ e
+    still_theirs u Ran ne e = (is_handed t x successor s.lock).phase ∙ e
+    still_theirs u (Pends b) ne e = absurd (owns_alone x n.0.0 n.0.1 u ne (Pends b) (λ f. cc) (λ k. k) e)
 
     nobody_aside : (w : Want) → Owns s.lock t w → w ≢ Shared → s.lock.aside ≡ None
     nobody_aside Exclusive own more = no_aside r s.lock h.state (h.state.exclusive_alone t own).0
@@ -273,7 +298,7 @@ module _ (r : Rules) (s : Site) (t : ℕ) (h : IsSite r s) where
         let knows = h.state.known_taken u a e in
         let more = counts_more r.sort a.want knows (λ k. rw k at free) c in
         let is : successor ≡ Some (record { thread = u; want = a.want }) = (n.0.2 u a.want).1 (rw (← mine) e, more) in
-        bars r u a.want (locks.sharing_handed t (locks.without_owner t x s.lock)) knows more (rw is at (state (HandOff x successor) n)) (rw is at free)
+        bars r u a.want (locks.sharing_handed t (locks.without_owner t x s.lock)) knows c more (rw is at (state (HandOff x successor) n)) (rw is at free)
 
     barred_now : s.lock.queue ≢ [] → IsOpen r.sort handed_lock → ⊥
     barred_now left free = let one = (h.covered t n.1.1).2 left in by_hand one.0 (s.lock.taken one.0) refl one.1
@@ -303,7 +328,7 @@ module _ (r : Rules) (s : Site) (t : ℕ) (h : IsSite r s) where
         record {
           state = state (HandOff x successor) n;
           parked = λ left. grind arith;
-          bit_stays = λ k. inr n.1.0;
+          bit_stays = λ k. inr (inl n.1.0);
           brought = λ k. absurd cc;
           setting = λ k. absurd cc;
           aside_parked = λ stands. absurd (stands (e.aside ∙ alone_now));
@@ -348,8 +373,8 @@ module _ (r : Rules) (s : Site) (t : ℕ) (h : IsSite r s) where
     others_stand = λ u ne e. inl e;
     others_carry = λ x u ne e. e;
     taken_by = λ x a e. grind (arith, h.carried x);
-    main = λ e free room. inr (inl (e, same_open r.sort _ s.lock refl refl refl free, shares_debt (s.doing t) n.0.0.0 n.1 free));
-    main_brought = λ e apart free room. inr (same_open r.sort _ s.lock refl refl refl free, shares_debt (s.doing t) n.0.0.0 n.1 free);
+    main = λ e free room. inr (inl (e, same_open r.sort _ s.lock refl refl refl refl (λ k. k) free, shares_debt (s.doing t) n.0.0.0 n.1 free));
+    main_brought = λ e apart free room. inr (same_open r.sort _ s.lock refl refl refl refl (λ k. k) free, shares_debt (s.doing t) n.0.0.0 n.1 free);
     second = λ e none. grind (arith, more_share s.lock.shared t);
   }
 
@@ -358,11 +383,19 @@ module _ (r : Rules) (s : Site) (t : ℕ) (h : IsSite r s) where
   shares_less_local n Mutex e = grind (arith, state (Leave Shared) n, h.emptied t, h.covered t, h.unwoken t, h.brought t, h.setting t, share_other, fewer_share s.lock.shared t, alone_aside r s.lock h.state)
   shares_less_local n Normal e = grind (arith, state (Leave Shared) n, h.emptied t, h.covered t, h.unwoken t, h.brought t, h.setting t, share_other, fewer_share s.lock.shared t, alone_aside r s.lock h.state)
   shares_less_local n Recursive e = grind (arith, state (Leave Shared) n, h.emptied t, h.covered t, h.unwoken t, h.brought t, h.setting t, share_other, fewer_share s.lock.shared t, alone_aside r s.lock h.state)
+  shares_less_local n Once e = absurd (let none = h.state.unshared (λ k. let g : Knows Once Shared = rw e at k in g) in let some = fewer_share s.lock.shared t n.0 in omega arith)
   shares_less_local n Semaphore e = grind (arith, state (Leave Shared) n, h.emptied t, h.covered t, h.unwoken t, h.brought t, h.setting t, share_other, fewer_share s.lock.shared t, no_aside r s.lock h.state (h.state.unpending (λ k. let g : Knows Semaphore Upgradable = rw e at k in g)).0)
 
+  -- who is to set the bit, and has seen no waiters, has taken some
+  covers_still : (s.doing t).wakes ≢ Some Main → (s.doing t).sets ≡ true → (s.doing t).covers ≡ true
+  covers_still none e = elim (h.setting t e) [
+    | inl covers ↦ covers
+    | inr wakes ↦ absurd (none wakes.1)
+  ]
+
   -- who gives way sees the bit, or has the next in hand
-  way_debt : (claims : Option Claim) → (s.lock.queue ≢ []) ⊎ ((s.doing t).brings ≡ true) → IsDebtor r.sort (gives_way s (s.doing t) claims) ⊎ ((s.lock.queue ≢ []) × (s.parked ≡ false) × ((s.doing t).sets ≡ false))
-  way_debt claims one = grind (arith, h.brought t, h.setting t)
+  way_debt : (claims : Option Claim) → (s.doing t).wakes ≡ None → (s.lock.queue ≢ []) ⊎ ((s.doing t).brings ≡ true) → IsDebtor r.sort (gives_way s (s.doing t) claims) ⊎ ((s.lock.queue ≢ []) × (s.parked ≡ false) × ((s.doing t).sets ≡ false))
+  way_debt claims none one = grind (arith, h.brought t, h.setting t)
 
   shared_local : (n : Needed r (Case (Convert Exclusive Shared)) s t) → Local r s (done r (Convert Exclusive Shared) s t (locks.with_owner t Shared (locks.without_owner t Exclusive s.lock))) t (s.doing t) (gives_way s (s.doing t) (Some (Has Shared)))
   shared_local n = record {
@@ -377,14 +410,14 @@ module _ (r : Rules) (s : Site) (t : ℕ) (h : IsSite r s) where
     emptied = λ m e. let k = h.emptied t m e in (k.0, grind arith);
     covered = h.covered t;
     brought = h.brought t;
-    setting = h.setting t;
+    setting = λ e. inl (covers_still (λ k. let none = n.1.0 in cc) e);
     held = λ c e. let claim : Has Shared ≡ c = cc in subst (Holds (locks.with_owner t Shared (locks.without_owner t Exclusive s.lock)) t) claim (share_own s.lock.shared t n.1.2);
     unwoken = λ e. h.unwoken t e;
     others_hold = λ u c ne e. grind (arith, share_other);
     others_stand = λ u ne e. inl e;
     others_carry = λ x u ne e. e;
     taken_by = λ x a e. grind (arith, h.carried x);
-    main = λ e free room. elim (way_debt (Some (Has Shared)) e) [ inl k ↦ inl k | inr k ↦ inr (inr k) ];
+    main = λ e free room. elim (way_debt (Some (Has Shared)) n.1.0 e) [ inl k ↦ inl k | inr k ↦ inr (inr k) ];
     main_brought = λ e apart free room. inl (grind (arith, h.covered t));
     second = λ e none. grind (arith, more_share s.lock.shared t);
   }
@@ -392,6 +425,7 @@ module _ (r : Rules) (s : Site) (t : ℕ) (h : IsSite r s) where
   -- beside a writer aside the lock isn't open
   barred_aside : (u : ℕ) → s.lock.aside ≡ Some u → (sort : Sort) → r.sort ≡ sort → IsOpen sort s.lock → ⊥
   barred_aside u e Mutex f free = let none = no_aside r s.lock h.state (h.state.unpending (λ k. let g : Knows Mutex Upgradable = rw f at k in g)).0 in cc
+  barred_aside u e Once f free = let none = no_aside r s.lock h.state (h.state.unpending (λ k. let g : Knows Once Upgradable = rw f at k in g)).0 in cc
   barred_aside u e Normal f free = grind (arith, h.state.aside_pending u e)
   barred_aside u e Recursive f free = grind (arith, h.state.aside_pending u e)
   barred_aside u e Semaphore f free = free
@@ -410,15 +444,15 @@ module _ (r : Rules) (s : Site) (t : ℕ) (h : IsSite r s) where
     emptied = λ m e. grind arith;
     covered = λ e. let k = (h.covered t e).0 in let i = n.1.0 in absurd cc;
     brought = λ e. h.brought t e;
-    setting = λ e. h.setting t e;
+    setting = λ e. inl (covers_still n.1.2 e);
     held = λ c e. grind (arith, h.held t c);
     unwoken = λ e. h.unwoken t (grind (arith, nat_tests));
     others_hold = λ x c ne e. grind arith;
     others_stand = λ x ne e. inl (grind (arith, nat_tests));
     others_carry = λ x y ne e. grind (arith, nat_tests, n.0.1, h.state.once u);
     taken_by = λ x a e. grind (arith, nat_tests, n.0.1);
-    main = λ e free room. absurd (barred_aside u n.0.0 r.sort refl (same_open r.sort _ s.lock refl refl refl free));
-    main_brought = λ e apart free room. absurd (barred_aside u n.0.0 r.sort refl (same_open r.sort _ s.lock refl refl refl free));
+    main = λ e free room. absurd (barred_aside u n.0.0 r.sort refl (same_open r.sort _ s.lock refl refl refl refl (λ k. k) free));
+    main_brought = λ e apart free room. absurd (barred_aside u n.0.0 r.sort refl (same_open r.sort _ s.lock refl refl refl refl (λ k. k) free));
     second = λ e none. absurd (e refl);
   }
 
@@ -452,8 +486,8 @@ module _ (r : Rules) (s : Site) (t : ℕ) (h : IsSite r s) where
     others_stand = λ x ne e. inl (late_stood x e);
     others_carry = λ x y ne e. e;
     taken_by = λ x a e. grind (arith, h.carried x a);
-    main = λ e free room. inr (inl (late_awaited e, same_open r.sort _ s.lock refl refl refl free, λ debt. debt));
-    main_brought = λ e apart free room. inr (same_open r.sort _ s.lock refl refl refl free, λ debt. debt);
+    main = λ e free room. inr (inl (late_awaited e, same_open r.sort _ s.lock refl refl refl refl (callers_filter _ s.lock.queue) free, λ debt. debt));
+    main_brought = λ e apart free room. inr (same_open r.sort _ s.lock refl refl refl refl (callers_filter _ s.lock.queue) free, λ debt. debt);
     second = λ e none. late_second (s.doing t).wakes (λ k. e (rw k refl)) none;
   }
     where
@@ -472,6 +506,87 @@ module _ (r : Rules) (s : Site) (t : ℕ) (h : IsSite r s) where
 
       late_bit : s.lock.queue ≢ [] → (s.parked ≡ true) ⊎ (((s.doing t).sets ≡ true) ⊎ ((s.lock.queue ≢ []) × (s.parked ≡ false) × ((s.doing t).sets ≡ false)))
       late_bit left = grind arith
+
+  -- what a thread does to a `Once`: nobody has a right to it, and nobody brings waiters to it
+  all_taken : (u : ℕ) → standing u (once_after TakeAll s.lock t) ≤ standing u s.lock
+  all_taken u = let a = times_taking u t s.lock.queue s.lock.taken in omega arith
+
+  -- who comes to wait stands behind the last: while nobody runs it, another waited to run it already
+  rests_local : (wanted : Want) (forced : Bool) (n : Needed r (Case (OfOnce (Rest wanted forced))) s t)
+      → Local r s (done r (OfOnce (Rest wanted forced)) s t (once_after (Rest wanted forced) s.lock t)) t (s.doing t) (record (s.doing t) { retries = None; empty = None })
+  rests_local wanted forced n = record {
+    state = state (OfOnce (Rest wanted forced)) n;
+    parked = λ e. inl n.1.1;
+    bit_stays = λ e. inl e;
+    aside_parked = h.aside_parked;
+    full = λ e. grind arith;
+    filled = λ e. grind arith;
+    inside = λ m e. inl e;
+    fills = λ m e. inr_main m e;
+    emptied = λ m e. absurd cc;
+    covered = λ e. absurd (let none = n.1.3 in cc);
+    brought = λ e. absurd (let k = (h.brought t e).2 in let once = n.0.0 in cc);
+    setting = λ e. h.setting t e;
+    held = λ c e. grind (arith, h.held t c);
+    unwoken = λ e. refl;
+    others_hold = λ u c ne e. grind arith;
+    others_stand = λ u ne e. inl (grind (arith, nat_tests, times_append));
+    others_carry = λ x u ne e. e;
+    taken_by = λ x a e. grind (arith, h.carried x);
+    main = λ e free room. grind (arith, callers_append, callers_stand);
+    main_brought = λ e apart free room. absurd (apart n.1.0);
+    second = λ e none. grind arith;
+  }
+    where
+      inr_main : (m : Line) → IsEmpty s.lock m → IsEmpty (once_after (Rest wanted forced) s.lock t) m ⊎ ((s.doing t).inside ≡ Some m)
+      inr_main Main e = inr n.1.0
+      inr_main Second e = inl e
+
+  -- who takes all leaves nobody
+  takes_all_local : (n : Needed r (Case (OfOnce TakeAll)) s t) → Local r s (done r (OfOnce TakeAll) s t (once_after TakeAll s.lock t)) t (s.doing t) (record (s.doing t) { wakes = None; sets = false; carries = true })
+  takes_all_local n = record {
+    state = state (OfOnce TakeAll) n;
+    parked = λ e. absurd (e refl);
+    bit_stays = λ e. inl e;
+    aside_parked = h.aside_parked;
+    full = λ e. grind arith;
+    filled = λ e. grind arith;
+    inside = λ m e. inl e;
+    fills = λ m e. fills_main m e;
+    emptied = λ m e. let k = h.emptied t m e in (k.0, none_left m k.1);
+    covered = λ e. absurd (let k = (h.covered t e).1 in let none = n.1.1 in cc);
+    brought = λ e. absurd (let k = (h.brought t e).2 in let once = n.0.0 in cc);
+    setting = λ e. absurd cc;
+    held = λ c e. grind (arith, h.held t c);
+    unwoken = λ e. h.unwoken t (let a = all_taken t in omega arith);
+    others_hold = λ u c ne e. grind arith;
+    others_stand = λ u ne e. inl (let a = all_taken u in omega arith);
+    others_carry = λ x u ne e. absurd (nobody_counts (s.lock.taken x) u e);
+    taken_by = λ x a e. elim (taking_by t x s.lock.queue s.lock.taken a e) [ inl k ↦ inl (k, refl) | inr k ↦ grind (arith, n.0.1 x a.want, h.carried x a k) ];
+    main = λ e free room. absurd (let call = free_call free in cc);
+    main_brought = λ e apart free room. absurd (apart n.1.0);
+    second = λ e none. absurd (e (no_aside r s.lock h.state (h.state.unpending (λ k. let g : Knows Once Upgradable = rw n.0.0 at k in g)).0));
+  }
+    where
+      none_left : (m : Line) → IsEmpty s.lock m → IsEmpty (once_after TakeAll s.lock t) m
+      none_left Main e = refl
+      none_left Second e = e
+
+      fills_main : (m : Line) → IsEmpty s.lock m → IsEmpty (once_after TakeAll s.lock t) m ⊎ ((s.doing t).inside ≡ Some m)
+      fills_main m e = inl (none_left m e)
+
+      free_call : IsOpen r.sort (once_after TakeAll s.lock t) → false ≡ true
+      free_call free = let open_now : IsOpen Once (once_after TakeAll s.lock t) = rw n.0.0 at free in open_now.0
+
+      nobody_counts : (o : Option Taken) (u : ℕ) → counts_taken r.sort u o ≡ true → ⊥
+      nobody_counts o u e = grind (arith, n.0.0)
+
+  once_acts : (c : OnceCase) → Needed r (Case (OfOnce c)) s t → IsSite r (after_deed r (Case (OfOnce c)) s t)
+  once_acts (Start forced) n = acts (OfOnce (Start forced)) (grind (arith, nat_tests, state (OfOnce (Start forced)) n, h.emptied t, h.covered t, h.unwoken t, h.brought t, h.setting t, n.0.0))
+  once_acts Finish n = acts (OfOnce Finish) (grind (arith, nat_tests, state (OfOnce Finish) n, h.emptied t, h.covered t, h.unwoken t, h.brought t, h.setting t, n.0.0, callers_stand))
+  once_acts Fail n = acts (OfOnce Fail) (grind (arith, nat_tests, state (OfOnce Fail) n, h.emptied t, h.covered t, h.unwoken t, h.brought t, h.setting t, n.0.0, callers_stand))
+  once_acts (Rest wanted forced) n = acts (OfOnce (Rest wanted forced)) (rests_local wanted forced n)
+  once_acts TakeAll n = acts (OfOnce TakeAll) (takes_all_local n)
 
   act_keeps : (c : LockCase) → Needed r (Case c) s t → IsSite r (after_deed r (Case c) s t)
   act_keeps (Enter Exclusive) n = acts (Enter Exclusive) (grind (arith, state (Enter Exclusive) n, h.emptied t, h.covered t, h.unwoken t, h.brought t, h.setting t))
@@ -497,6 +612,7 @@ module _ (r : Rules) (s : Site) (t : ℕ) (h : IsSite r s) where
   act_keeps (Convert Upgradable Shared) n = acts (Convert Upgradable Shared) (grind (arith, nat_tests, state (Convert Upgradable Shared) n, h.emptied t, h.covered t, h.unwoken t, h.brought t, h.setting t, share_other, share_own s.lock.shared t, more_share s.lock.shared t))
   act_keeps (Convert Upgradable Exclusive) n = acts (Convert Upgradable Exclusive) (upgrades n (readers s.lock == 0) refl (state (Convert Upgradable Exclusive) n))
   act_keeps (Convert x y) n = absurd (grind arith)
+  act_keeps (OfOnce c) n = once_acts c n
   act_keeps (HandOff x successor) n = acts (HandOff x successor) (hands_local x successor n)
 
   -- a notification brings waiters
@@ -554,7 +670,10 @@ module _ (r : Rules) (s : Site) (t : ℕ) (h : IsSite r s) where
     not_covers c = let g = (h.covered t c).1 in let f = n.2 in cc
 
     not_sets : (s.doing t).sets ≡ true → ⊥
-    not_sets k = not_covers (h.setting t k)
+    not_sets k = elim (h.setting t k) [
+      | inl covers ↦ not_covers covers
+      | inr wakes ↦ let mutex = n.0 in let once = wakes.0 in cc
+    ]
 
     still_bit_there : s.lock.queue ≢ [] → (s.parked ≡ true) ⊎ (((bringing gone moved (s.doing t)).sets ≡ true) ⊎ ((s.lock.queue ≢ []) × (s.parked ≡ false) × ((s.doing t).sets ≡ false)))
     still_bit_there left = grind (arith, not_sets)
@@ -579,7 +698,7 @@ module _ (r : Rules) (s : Site) (t : ℕ) (h : IsSite r s) where
       others_stand = λ u ne e. let a = (stands u).0 in let b = n.5 u in grind arith;
       others_carry = λ x u ne c. hands_kept x u ne c;
       taken_by = λ x a e. elim (taking_by t x gone s.lock.taken a e) [ inl k ↦ inl (k, refl) | inr k ↦ grind (arith, h.carried x a k) ];
-      main = λ e free room. debt_by (same_open r.sort _ s.lock refl refl refl free) gone refl;
+      main = λ e free room. debt_by (rw n.0 (let none : IsOpen Mutex brings_now = rw n.0 at free in none)) gone refl;
       main_brought = λ e apart free room. absurd (apart n.1);
       second = λ e none. grind arith;
     }

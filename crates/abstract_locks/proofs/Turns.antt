@@ -1,14 +1,15 @@
 -- One thread changes a lock of the lot, and what it does itself: what holds between steps holds again.
 use Rattle.std.proofs.Common.{ℕ, Bool, true, false, Some, None, ◌≡◌, ◌≢◌, ◌≤◌, ◌⊎◌, inl, inr, [], refl, sym, ◌∙◌}
 use Rattle.std.proofs.lemmas.Bool.{cases_eq}
-use Rattle.abstract_locks.specs.Locks.{Taken, Rules, IsLockState, standing, readers}
-use Rattle.abstract_locks.specs.Sites.{Line, Main, Second, Claim, Doing, Site, IsSite, IsEmpty, IsOpen, IsDebtor, Holds, is_full, counts_taken}
+use Rattle.abstract_locks.specs.Locks.{Taken, Mutex, Rules, IsLockState, standing, readers}
+use Rattle.abstract_locks.specs.Sites.{Line, Main, Second, Claim, Doing, Site, IsSite, IsEmpty, IsOpen, IsDebtor, LooksAfter, Holds, is_full, counts_taken}
 
 -- What a step of thread t asks: it leads from s to v, and what t does goes from d to d2. It speaks of t alone, and of no other thread's doing.
 pub record Local (r : Rules) (s v : Site) (t : ℕ) (d d2 : Doing) : Type 0 where
   pub state : IsLockState r v.lock
   pub parked : v.lock.queue ≢ [] → (v.parked ≡ true) ⊎ ((d2.sets ≡ true) ⊎ ((s.lock.queue ≢ []) × (s.parked ≡ false) × (d.sets ≡ false)))
-  pub bit_stays : s.parked ≡ true → (v.parked ≡ true) ⊎ (d.inside ≡ Some Main)
+  -- the bit stays where waiters may be brought: to a mutex, by who is inside
+  pub bit_stays : s.parked ≡ true → (v.parked ≡ true) ⊎ ((d.inside ≡ Some Main) ⊎ (r.sort ≢ Mutex))
   pub aside_parked : v.lock.aside ≢ None → v.aside_parked ≡ true
   pub full : is_full r v.lock ≡ true → v.filled ≡ true
   pub filled : s.filled ≡ true → v.filled ≡ true
@@ -18,8 +19,8 @@ pub record Local (r : Rules) (s v : Site) (t : ℕ) (d d2 : Doing) : Type 0 wher
   -- what it says of itself is so
   pub emptied : (m : Line) → d2.empty ≡ Some m → (d2.inside ≡ Some m) × IsEmpty v.lock m
   pub covered : d2.covers ≡ true → (d2.inside ≡ Some Main) × (d2.carries ≡ true) × (v.lock.queue ≢ [] → (u : ℕ) × (counts_taken r.sort t (v.lock.taken u) ≡ true))
-  pub brought : d2.brings ≡ true → (d2.inside ≡ Some Main) × (v.parked ≡ true)
-  pub setting : d2.sets ≡ true → d2.covers ≡ true
+  pub brought : d2.brings ≡ true → (d2.inside ≡ Some Main) × (v.parked ≡ true) × (r.sort ≡ Mutex)
+  pub setting : d2.sets ≡ true → LooksAfter r.sort d2
   pub held : (c : Claim) → d2.claims ≡ Some c → Holds v.lock t c
   pub unwoken : 1 ≤ standing t v.lock → d2.retries ≡ None
   -- nobody else loses what it has, or comes to stand while it tries again
@@ -91,19 +92,21 @@ module _ (r : Rules) (s v : Site) (t : ℕ) (d d2 : Doing) (h : IsSite r s) (is 
     | inr k ↦ rw (doing.other a.by k.0) (h.carried x a k.1)
   ]
 
-  still_brought : (u : ℕ) → (v.doing u).brings ≡ true → ((v.doing u).inside ≡ Some Main) × (v.parked ≡ true)
+  still_brought : (u : ℕ) → (v.doing u).brings ≡ true → ((v.doing u).inside ≡ Some Main) × (v.parked ≡ true) × (r.sort ≡ Mutex)
   still_brought u e = elim (cases_eq u t) [
     | inl f ↦ rw (f, doing.here) (local.brought (rw (f, doing.here) at e))
     | inr ne ↦ let was = h.brought u (rw (doing.other u ne) at e) in rw (doing.other u ne) (
       was.0,
       elim (local.bit_stays was.1) [
         | inl k ↦ k
-        | inr k ↦ absurd (ne (h.alone u t Main was.0 (rw is k)))
+        | inr (inl k) ↦ absurd (ne (h.alone u t Main was.0 (rw is k)))
+        | inr (inr k) ↦ absurd (k was.2)
       ],
+      was.2,
     )
   ]
 
-  still_setting : (u : ℕ) → (v.doing u).sets ≡ true → (v.doing u).covers ≡ true
+  still_setting : (u : ℕ) → (v.doing u).sets ≡ true → LooksAfter r.sort (v.doing u)
   still_setting u e = elim (cases_eq u t) [
     | inl f ↦ rw (f, doing.here) (local.setting (rw (f, doing.here) at e))
     | inr ne ↦ rw (doing.other u ne) (h.setting u (rw (doing.other u ne) at e))
@@ -156,11 +159,16 @@ module _ (r : Rules) (s v : Site) (t : ℕ) (d d2 : Doing) (h : IsSite r s) (is 
   awaited (inl k) = inl k
   awaited (inr k) = inr (t, rw is k)
 
+  -- who looks after the line is a debtor
+  in_debt : (e : Doing) → LooksAfter r.sort e → IsDebtor r.sort e
+  in_debt e (inl covers) = inr (inl covers)
+  in_debt e (inr wakes) = inl wakes.1
+
   own_main : (v.lock.queue ≢ []) ⊎ (d2.brings ≡ true) → IsOpen r.sort v.lock → v.filled ≡ false → (u : ℕ) × IsDebtor r.sort (v.doing u)
   own_main one free room = elim (local.main one free room) [
     | inl own ↦ (t, rw doing.here own)
     | inr (inl k) ↦ other_debtor (h.main (awaited k.0) k.1 (unfilled room)) k.2
-    | inr (inr k) ↦ let sets = other_sets k.0 k.1 k.2 in (sets.0, inr (inl (still_setting sets.0 sets.1)))
+    | inr (inr k) ↦ let sets = other_sets k.0 k.1 k.2 in (sets.0, in_debt (v.doing sets.0) (still_setting sets.0 sets.1))
   ]
 
   still_main : (v.lock.queue ≢ []) ⊎ ((u : ℕ) × ((v.doing u).brings ≡ true)) → IsOpen r.sort v.lock → v.filled ≡ false → (u : ℕ) × IsDebtor r.sort (v.doing u)

@@ -11,7 +11,8 @@ use Rattle.lot_calls.specs.declared.calls.Turn.{Turn}
 use Rattle.lot_calls.specs.declared.calls.Turn as turn
 use Rattle.lot_calls.specs.declared.calls.Step.{Step}
 use Rattle.lot_calls.specs.declared.outcomes.Outcome.{Outcome}
-use Rattle.abstract_locks.specs.Locks.{LockState, LockCase, MayConvert, Enter, Pend, Settle, Leave, Convert, Park, Aside, TakeFirst, TakeAside, TakePicked, Wake, HandOff, Late, Rollback, Needs, IsLockState, Rules, Normal, Recursive, Queued, Pending, Rights, rights_of, Owns, readers, sharers, times, after_case, wants_shared}
+use Rattle.abstract_locks.specs.Locks.{LockState, LockCase, MayConvert, Enter, Pend, Settle, Leave, Convert, Park, Aside, TakeFirst, TakeAside, TakePicked, Wake, HandOff, Late, Rollback, OfOnce, once_after, Needs, IsLockState, Rules, Normal, Recursive, Queued, Pending, Rights, rights_of, Owns, readers, sharers, times, after_case, wants_shared}
+use Rattle.abstract_locks.specs.Onces.{OnceCase, Start, Finish, Fail, Rest, TakeAll}
 use Rattle.abstract_locks.specs.Locks as locks
 use Rattle.abstract_locks.specs.Purposes.{Purpose, Converts, ConvertsBy, Patience}
 use Rattle.abstract_locks.specs.Runs.{LocksState, Event, Nothing, AtLock, AreLockStates, GoesOn, Does, MayDo, MayHappen, Turned, IsStep, rules_at, locks_after}
@@ -75,6 +76,7 @@ module _ (r : Rules) (s : LockState) (t : ℕ) (c : IsLockState r s) (normal : r
   no_reader (HandOff Upgradable y) n was is = absurd (grind (arith, c.pending_alone))
   no_reader (HandOff x y) n was is = absurd (grind arith)
   no_reader Rollback n was is = grind arith
+  no_reader (OfOnce case) n was is = absurd (let e = n.0 in cc)
   no_reader case n was is = grind arith
 
 readers_stay : (w v : LocksState) (t l : ℕ) → AreLockStates w → (rules_at w l).sort ≡ Normal → (w.locks l).pending ≢ None → (s2 : LockState) → Change w t l s2 → s2.pending ≢ None → readers s2 ≤ readers (w.locks l)
@@ -128,6 +130,7 @@ module _ (r : Rules) (s : LockState) (t u : ℕ) (c : IsLockState r s) (recursiv
   rereads (TakePicked start) n = among_unpicked t r start s.queue
   rereads (TakeFirst x) n = absurd (grind (arith, recursive))
   rereads Late n = among_filter t (λ (x : Queued). not (x.thread == u)) s.queue
+  rereads (OfOnce case) n = absurd (let e = n.0 in cc)
   rereads case n = grind arith
 
 reread : (w : LocksState) (t u l : ℕ) → AreLockStates w → (rules_at w l).sort ≡ Recursive → Owns (w.locks l) t Shared → (s2 : LockState) → Change w u l s2 → waits_to_share t s2 ≤ waits_to_share t (w.locks l)
@@ -149,6 +152,13 @@ no_other r s t c (inl upgradable) u own = absurd (grind (arith, c.exclusive_alon
 no_other r s t c (inr (inl pending)) u own = absurd (grind (arith, c.exclusive_alone))
 no_other r s t c (inr (inr alone)) u own = grind arith
 
+writes_on : (case : OnceCase) (s : LockState) (t u : ℕ) → IsFirstWriter s t → IsFirstWriter (once_after case s u) t
+writes_on (Start forced) s t u h = h
+writes_on Finish s t u h = h
+writes_on Fail s t u h = h
+writes_on (Rest wanted forced) s t u h = h
+writes_on TakeAll s t u h = h
+
 module _ (r : Rules) (s : LockState) (t u : ℕ) (c : IsLockState r s) where
   upgrades : (case : LockCase) → Needs r case s u → (u ≡ t → (how : Patience) × (gave_up : Option ℕ) × ConvertsBy Upgradable Exclusive how gave_up case) → IsFirstWriter s t → IsFirstWriter (after_case r case s u) t
   upgrades (Enter Exclusive) n own h = absurd (grind (arith, nat_tests, c.exclusive_alone, c.pending_alone, c.unpending))
@@ -162,6 +172,7 @@ module _ (r : Rules) (s : LockState) (t u : ℕ) (c : IsLockState r s) where
   upgrades (Convert x y) n own h = grind (arith, nat_tests, c.exclusive_alone, c.pending_alone)
   upgrades (HandOff x y) n own h = grind (arith, nat_tests, c.exclusive_alone, c.pending_alone)
   upgrades Rollback n own h = grind (arith, nat_tests, c.exclusive_alone, c.pending_alone)
+  upgrades (OfOnce case) n own h = writes_on case s t u h
   upgrades case n own h = grind (arith, nat_tests)
 
 upgrade_holds : (w : LocksState) (t u l : ℕ) (how : Patience) → AreLockStates w → (w.calls t).purpose ≡ Some (Converts l Upgradable Exclusive how) → IsFirstWriter (w.locks l) t → (s2 : LockState) → Change w u l s2 → IsFirstWriter s2 t

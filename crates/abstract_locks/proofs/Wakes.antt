@@ -2,8 +2,8 @@
 use Rattle.std.proofs.Common.{ℕ, Bool, true, false, Option, Some, None, if◌then◌else◌, ◌==◌, ◌≡◌, ◌≢◌, ◌≤◌, ◌+◌, ◌⊎◌, inl, inr, [], refl, sym, ap, ◌∙◌, arith}
 use Rattle.std.proofs.lemmas.Bool.{cases_eq}
 use Rattle.std.proofs.lemmas.Bool.Decides.{nat_tests}
-use Rattle.abstract_locks.specs.Locks.{Taken, Sort, Mutex, Normal, Recursive, Semaphore, Rules, Wake, readers, times, is_thread, standing, one_if_some, keep_from, let_go, putting}
-use Rattle.abstract_locks.specs.Sites.{Line, Main, Second, Claim, Doing, Site, IsSite, IsEmpty, IsOpen, IsDebtor, Holds, Out, Needed, after_deed, leaves, wakened, counts_some, counts_taken}
+use Rattle.abstract_locks.specs.Locks.{Taken, Sort, Mutex, Normal, Recursive, Semaphore, Once, Rules, Wake, readers, times, is_thread, standing, one_if_some, keep_from, let_go, putting}
+use Rattle.abstract_locks.specs.Sites.{Line, Main, Second, Claim, Doing, Site, IsSite, IsEmpty, IsOpen, IsDebtor, LooksAfter, Holds, Out, Needed, after_deed, leaves, wakened, counts_some, counts_taken}
 use Rattle.abstract_locks.proofs.LockKeeps.{case_keeps}
 use Rattle.abstract_locks.proofs.Hands.{kept_few, kept_counts, kept_by}
 
@@ -95,11 +95,14 @@ module _ (r : Rules) (s : Site) (t : ℕ) (h : IsSite r s) (n : Needed r Out s t
         inr (one.0, (other one.0 ne).sets ∙ one.1)
   ]
 
-  still_brought : (u : ℕ) → (v.doing u).brings ≡ true → ((v.doing u).inside ≡ Some Main) × (s.parked ≡ true)
-  still_brought u i = let k = brings_other u i in let was = h.brought u k.1 in ((other u k.0).inside ∙ was.0, was.1)
+  still_brought : (u : ℕ) → (v.doing u).brings ≡ true → ((v.doing u).inside ≡ Some Main) × (s.parked ≡ true) × (r.sort ≡ Mutex)
+  still_brought u i = let k = brings_other u i in let was = h.brought u k.1 in ((other u k.0).inside ∙ was.0, was.1, was.2)
 
-  still_setting : (u : ℕ) → (v.doing u).sets ≡ true → (v.doing u).covers ≡ true
-  still_setting u i = let k = sets_other u i in (other u k.0).covers ∙ h.setting u k.1
+  still_setting : (u : ℕ) → (v.doing u).sets ≡ true → LooksAfter r.sort (v.doing u)
+  still_setting u i = let k = sets_other u i in elim (h.setting u k.1) [
+    | inl covers ↦ inl ((other u k.0).covers ∙ covers)
+    | inr wakes ↦ inr (wakes.0, (other u k.0).wakes ∙ wakes.1)
+  ]
 
   was_awaited : (v.lock.queue ≢ []) ⊎ ((u : ℕ) × ((v.doing u).brings ≡ true)) → (s.lock.queue ≢ []) ⊎ ((u : ℕ) × ((s.doing u).brings ≡ true))
   was_awaited (inl k) = inl k
@@ -150,6 +153,7 @@ module _ (r : Rules) (s : Site) (t : ℕ) (h : IsSite r s) (n : Needed r Out s t
   was_open Normal e = e
   was_open Recursive e = e
   was_open Semaphore e = e
+  was_open Once e = e
 
   -- who tries again is in nobody's hand
   in_no_hand : (u : ℕ) → counts_some r.sort (s.doing u).retries ≡ true → (o : Option Taken) → s.lock.taken u ≡ o → keep_from t o ≡ o

@@ -2,7 +2,8 @@
 use Rattle.std.specs.Prelude.{ℕ, Bool, true, false, Option, Some, None, if◌then◌else◌, ◌==◌, ◌&&◌, ◌||◌, not, ◌+◌, ◌-◌, ◌*◌, ◌/◌, ◌%◌, ◌<◌, ◌≤◌, ◌≡◌, length, nat_le}
 use Rattle.lot_base.specs.declared.wants.Want.{Want}
 use Rattle.lot_base.specs.declared.wants.Want.TheVariants.{Exclusive, Upgradable, Shared}
-use Rattle.abstract_locks.specs.Locks.{LockState, Pending, Sort, Mutex, Normal, Recursive, Semaphore, Rules, LockCase, Enter, Pend, Leave, Convert, HandOff, Rollback, Knows, NoWriter, IsFree, IsBlocked, is_recursive, count, readers, one_if_some, Needs, IsLockState}
+use Rattle.abstract_locks.specs.Locks.{LockState, Pending, Sort, Mutex, Normal, Recursive, Semaphore, Once, Rules, LockCase, Enter, Pend, Leave, Convert, HandOff, Rollback, Knows, NoWriter, IsFree, IsBlocked, is_recursive, count, readers, one_if_some, Needs, IsLockState}
+use Rattle.abstract_locks.specs.Onces.{phase_code}
 use Rattle.abstract_locks.specs.Locks as locks
 use Rattle.abstract_locks.specs.Sites.{Site, IsSite, Case, Needed, after_deed, has_readers}
 
@@ -25,6 +26,7 @@ word_by Normal limit s aside parked = packed (count s) (writers s) (one_if_some 
 word_by Recursive limit s aside parked =
     packed (count s) (writers s) (one_if_some s.upgradable) (bit aside) (bit parked)
 word_by Semaphore limit s aside parked = 2 * (limit - readers s) + bit parked
+word_by Once limit s aside parked = 8 * bit parked + phase_code s.phase
 
 abbrev pub rw_code : Site → ℕ
 rw_code s = packed (count s.lock) (writers s.lock) (one_if_some s.lock.upgradable) (bit s.aside_parked) (bit s.parked)
@@ -51,9 +53,23 @@ has_aside v = v / 2 % 2 == 1
 abbrev pub has_parked : ℕ → Bool
 has_parked v = v % 2 == 1
 
+-- and in the word of a `Once`: whether it is done, poisoned or run, and whether somebody may stand in the queue
+abbrev pub is_done : ℕ → Bool
+is_done v = v % 2 == 1
+
+abbrev pub is_poisoned : ℕ → Bool
+is_poisoned v = v / 2 % 2 == 1
+
+abbrev pub is_running : ℕ → Bool
+is_running v = v / 4 % 2 == 1
+
+abbrev pub is_marked : ℕ → Bool
+is_marked v = v / 8 == 1
+
 -- the parked bit of the main line, and that of the second, where the sort of lock has it
 abbrev pub parked_in : Sort → ℕ → Bool
 parked_in Mutex v = v / 2 % 2 == 1
+parked_in Once v = is_marked v
 parked_in sort v = has_parked v
 
 abbrev pub aside_in : Sort → ℕ → Bool
@@ -76,6 +92,10 @@ bars recursive x v = has_parked v && is_blocked recursive x v
 
 abbrev pub leaves_readers : ℕ → Bool
 leaves_readers v = has_aside v && not (count_in v == 0)
+
+-- and that only waits for a run: it isn't done, nor poisoned unless that is forced
+abbrev pub leaves_unfinished : Bool → ℕ → Bool
+leaves_unfinished forced v = is_marked v && (not (is_done v) && (forced || not (is_poisoned v)))
 
 -- ---------------------------------------------------------------- the laws
 

@@ -6,8 +6,8 @@ pub mod Laws
 pub mod Sites
 pub mod Codes
 pub mod Onces
+pub mod OnceLaws
 pub mod Condvars
 pub mod Permits
-pub mod OnceSteps
 pub mod Deeds
 pub mod UserLaws

@@ -1,8 +1,9 @@
 -- The abstract locks: who owns, who waits, and what one thread may do to a lock in one step.
-use Rattle.std.specs.Prelude.{ℕ, Bool, true, false, Option, Some, None, if◌then◌else◌, ◌==◌, ◌&&◌, not, ◌+◌, ◌-◌, ◌<◌, ◌≤◌, ◌≡◌, ◌≢◌, ◌↔◌, List, [], ◌∷◌, ◌++◌, filter, sum, slice_index, slice_set, take, drop, length, replicate, find}
+use Rattle.std.specs.Prelude.{ℕ, Bool, true, false, Option, Some, None, if◌then◌else◌, ◌==◌, ◌&&◌, ◌||◌, not, ◌+◌, ◌-◌, ◌<◌, ◌≤◌, ◌≡◌, ◌≢◌, ◌↔◌, List, [], ◌∷◌, ◌++◌, filter, sum, slice_index, slice_set, take, drop, length, replicate, find}
 use Rattle.std.specs.List.{prefix_len}
 use Rattle.lot_base.specs.declared.wants.Want.{Want}
-use Rattle.lot_base.specs.declared.wants.Want.TheVariants.{Exclusive, Upgradable, Shared}
+use Rattle.lot_base.specs.declared.wants.Want.TheVariants.{Exclusive, Upgradable, Shared, Wait, CallOnce}
+use Rattle.abstract_locks.specs.Onces.{Phase, New, InProgress, OnceCase, Start, Finish, Fail, Rest, TakeAll, MayStart, MayRest, phase_after, wants_to_run}
 
 -- a thread in a queue, and what it wants
 pub record Queued : Type 0 where
@@ -20,7 +21,8 @@ pub record Pending : Type 0 where
   pub falls_back : Bool
 
 -- The owners: one exclusive, pending and upgradable at most, and each thread's number of shared rights, by the thread's number.
--- The waiters: the main queue from its front, the pending writer that sleeps aside, and who was taken from a queue by whom.
+-- The waiters: the main queue from its front, the pending writer that sleeps aside, and who was taken from a queue by whom. A `Once` has a
+-- phase in place of owners; that of any other lock stays the first.
 pub record LockState : Type 0 where
   pub exclusive : Option ℕ
   pub pending : Option Pending
@@ -29,14 +31,16 @@ pub record LockState : Type 0 where
   pub queue : List Queued
   pub aside : Option ℕ
   pub taken : ℕ → Option Taken
+  pub phase : Phase
 
 -- the sorts of lock: one owner; many readers beside each other; the same, where a reader may come back beside a pending writer;
--- a number of permits
+-- a number of permits; a run that completes once
 pub data Sort : Type 0 where
   Mutex : Sort
   Normal : Sort
   Recursive : Sort
   Semaphore : Sort
+  Once : Sort
 
 -- a sort, and how many may share
 pub record Rules : Type 0 where
@@ -94,6 +98,11 @@ times t (x ∷ xs) = (if x.thread == t then 1 else 0) + times t xs
 abbrev pub first_thread : List Queued → Option ℕ
 first_thread [] = None
 first_thread (x ∷ q) = Some x.thread
+
+-- whether somebody waits to run a `Once`
+abbrev pub has_caller : List Queued → Bool
+has_caller [] = false
+has_caller (x ∷ q) = wants_to_run x.want || has_caller q
 
 -- how often a thread stands in the queue, stands aside or is taken
 abbrev pub standing : ℕ → LockState → ℕ
@@ -162,6 +171,8 @@ Knows Recursive Exclusive = Unit {0}
 Knows Recursive Upgradable = Unit {0}
 Knows Recursive Shared = Unit {0}
 Knows Semaphore Shared = Unit {0}
+Knows Once Wait = Unit {0}
+Knows Once CallOnce = Unit {0}
 Knows sort x = ⊥
 
 -- what the owners that are there must allow; the readers' limit is left out
@@ -172,6 +183,7 @@ IsFreeAt Normal limit s x = NoWriter s
 IsFreeAt Recursive limit s Shared = (s.exclusive ≡ None) × (s.pending ≢ None → 1 ≤ readers s)
 IsFreeAt Recursive limit s x = NoWriter s
 IsFreeAt Semaphore limit s x = readers s < limit
+IsFreeAt Once limit s x = Unit {0}
 
 abbrev pub IsFree : Rules → LockState → Want → Type 0
 IsFree r s x = Knows r.sort x × IsFreeAt r.sort r.limit s x
@@ -179,9 +191,11 @@ IsFree r s x = Knows r.sort x × IsFreeAt r.sort r.limit s x
 abbrev pub IsBlocked : Rules → LockState → Want → Type 0
 IsBlocked r s x = Knows r.sort x × (IsFreeAt r.sort r.limit s x → ⊥)
 
--- who shares counts, and needs a count below the limit
+-- who shares counts, and needs a count below the limit; a `Once` has no right to enter for
 abbrev pub HasRoom : Rules → LockState → Want → Type 0
 HasRoom r s Exclusive = Unit {0}
+HasRoom r s Wait = ⊥
+HasRoom r s CallOnce = ⊥
 HasRoom r s x = count s < r.limit
 
 abbrev pub MayEnter : Rules → LockState → Want → Type 0
@@ -275,6 +289,8 @@ pub data LockCase : Type 0 where
   Late : LockCase
   -- the pending writer whose time is up has again what it had
   Rollback : LockCase
+  -- what a thread does to a `Once`
+  OfOnce : OnceCase → LockCase
 
 -- the state with one right more
 abbrev pub with_owner : ℕ → Want → LockState → LockState
@@ -359,6 +375,25 @@ abbrev pub HandOffFits : Rules → Want → LockState → Type 0
 HandOffFits r Upgradable s = count s ≤ r.limit
 HandOffFits r right s = Unit {0}
 
+-- whose first waiter is taken alone
+abbrev pub TakesFirst : Sort → Type 0
+TakesFirst Mutex = Unit {0}
+TakesFirst Semaphore = Unit {0}
+TakesFirst sort = ⊥
+
+-- what is done to a `Once` needs a phase, and a run is ended by its runner
+abbrev pub OnceNeeds : OnceCase → LockState → ℕ → Type 0
+OnceNeeds (Start forced) s t = MayStart s.phase forced
+OnceNeeds Finish s t = s.phase ≡ InProgress t
+OnceNeeds Fail s t = s.phase ≡ InProgress t
+OnceNeeds (Rest wanted forced) s t = MayRest wanted forced s.phase × (standing t s ≡ 0)
+OnceNeeds TakeAll s t = HasTakenNobody s t
+
+abbrev pub once_after : OnceCase → LockState → ℕ → LockState
+once_after (Rest wanted forced) s t = record s { queue = s.queue ++ (record { thread = t; want = wanted }) ∷ [] }
+once_after TakeAll s t = record s { queue = []; taken = taking t s.queue s.taken }
+once_after case s t = record s { phase = phase_after case t s.phase }
+
 abbrev pub IsSomePending : Option Pending → ℕ → Type 0
 IsSomePending None t = ⊥
 IsSomePending (Some p) t = p.thread ≡ t
@@ -374,7 +409,7 @@ Needs r (Convert right want) s t = Owns s t right × MayConvert right want × Kn
 Needs r (Park want) s t = IsBlocked r s want × (standing t s ≡ 0)
 Needs r Aside s t = IsSomePending s.pending t × (1 ≤ readers s) × (standing t s ≡ 0)
 Needs r (TakeFirst x) s t =
-    ((rest : List Queued) × (s.queue ≡ x ∷ rest)) × HasTakenNobody s t × (Knows r.sort Upgradable → ⊥)
+    ((rest : List Queued) × (s.queue ≡ x ∷ rest)) × HasTakenNobody s t × TakesFirst r.sort
 Needs r (TakeAside u) s t = (s.aside ≡ Some u) × HasTakenNobody s t
 Needs r (TakePicked start) s t = HasTakenNobody s t × Knows r.sort Upgradable
 Needs r Wake s t = Unit {0}
@@ -382,6 +417,7 @@ Needs r (HandOff right successor) s t =
     Owns s t right × (right ≢ Shared) × IsSuccessor s t successor × HandOffFits r right (handed t right successor s)
 Needs r Late s t = 1 ≤ times t s.queue + is_thread t s.aside
 Needs r Rollback s t = IsSomePending s.pending t × (s.aside ≡ None)
+Needs r (OfOnce case) s t = (r.sort ≡ Once) × OnceNeeds case s t
 
 -- and where it leads
 abbrev pub after_case : Rules → LockCase → LockState → ℕ → LockState
@@ -401,6 +437,7 @@ after_case r Wake s t = record s { taken = let_go t s.taken }
 after_case r (HandOff right successor) s t = handed t right successor s
 after_case r Late s t = record s { queue = without t s.queue; aside = aside_without t s.aside }
 after_case r Rollback s t = falling_back t s.pending (record s { pending = None })
+after_case r (OfOnce case) s t = once_after case s t
 
 -- ---------------------------------------------------------------- what holds in every state
 
@@ -435,4 +472,5 @@ opening_lock threads = record {
   queue = [];
   aside = None;
   taken = λ u. None;
+  phase = New;
 }

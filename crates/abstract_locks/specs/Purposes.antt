@@ -1,7 +1,7 @@
 -- What each call of a lock is for, and which cases it is made of.
-use Rattle.std.specs.Prelude.{ℕ, Bool, true, false, Option, Some, None, if◌then◌else◌, ◌≡◌, ◌≢◌, ◌⊎◌}
+use Rattle.std.specs.Prelude.{ℕ, Bool, true, false, Option, Some, None, ◌≡◌, ◌≢◌, ◌⊎◌}
 use Rattle.lot_base.specs.declared.wants.Want.{Want}
-use Rattle.lot_base.specs.declared.wants.Want.TheVariants.{Exclusive, Upgradable, Shared}
+use Rattle.lot_base.specs.declared.wants.Want.TheVariants.{Exclusive, Upgradable, Shared, Wait, CallOnce}
 use Rattle.lot_calls.specs.declared.kinds.Kind.{Kind}
 use Rattle.lot_calls.specs.declared.kinds.Kind as kind
 use Rattle.lot_calls.specs.declared.calls.Call.{Call}
@@ -16,7 +16,10 @@ use Rattle.lot_calls.specs.declared.calls.Downgrade.{Downgrade}
 use Rattle.lot_calls.specs.declared.calls.Downgrade.TheVariants as downgrade
 use Rattle.lot_calls.specs.declared.calls.RwLockCall.{RwLockCall}
 use Rattle.lot_calls.specs.declared.calls.RwLockCall.TheVariants as rwlock_call
-use Rattle.abstract_locks.specs.Locks.{Rules, Mutex, Normal, Recursive, LockCase, Enter, Pend, Settle, Leave, Convert, Park, Aside, TakeFirst, TakeAside, TakePicked, Wake, HandOff, Late, Rollback}
+use Rattle.lot_calls.specs.declared.calls.OnceCall.{OnceCall}
+use Rattle.lot_calls.specs.declared.calls.OnceCall.TheVariants as once_call
+use Rattle.abstract_locks.specs.Onces.{Start, Rest}
+use Rattle.abstract_locks.specs.Locks.{Rules, Mutex, Normal, Recursive, Once, LockCase, Enter, Pend, Settle, Leave, Convert, Park, Aside, TakeFirst, TakeAside, TakePicked, Wake, HandOff, Late, Rollback, OfOnce}
 
 -- what a call of a lock is for
 pub data Purpose : Type 0 where
@@ -24,6 +27,9 @@ pub data Purpose : Type 0 where
   Releases : (lock : ℕ) → (right : Want) → (fair : Bool) → Purpose
   Converts : (lock : ℕ) → (right want : Want) → Patience → Purpose
   Bumps : (lock : ℕ) → (right : Want) → Purpose
+  -- of a `Once`: it runs a closure, or waits for another's run
+  CallsOnce : (lock : ℕ) → (forced : Bool) → Purpose
+  Awaits : (lock : ℕ) → (forced : Bool) → Purpose
 
 -- a fair mutex is released fairly by any release
 abbrev pub mutex_purpose : Bool → ℕ → MutexCall → Purpose
@@ -62,6 +68,10 @@ rwlock_purpose l (rwlock_call.Upgrade how) = Converts l Upgradable Exclusive how
 rwlock_purpose l (rwlock_call.ReleaseFair x) = Releases l (wanted x) (is_fair_bump (wanted x))
 rwlock_purpose l (rwlock_call.Bump x) = Bumps l (wanted x)
 
+abbrev pub once_purpose : ℕ → OnceCall → Purpose
+once_purpose l (once_call.CallOnce forced) = CallsOnce l forced
+once_purpose l (once_call.Wait forced) = Awaits l forced
+
 -- what a call of a lock of this kind is for; nothing where the kind lacks the call
 abbrev pub purpose_of : Kind → Call → Option Purpose
 purpose_of kind.TheVariants.Mutex (call.TheVariants.Mutex l c) = Some (mutex_purpose false l c)
@@ -76,12 +86,16 @@ lock_for (Enters l x how) = l
 lock_for (Releases l x fair) = l
 lock_for (Converts l x y how) = l
 lock_for (Bumps l x) = l
+lock_for (CallsOnce l forced) = l
+lock_for (Awaits l forced) = l
 
--- a call that may sleep until it has the lock
+-- a call that may sleep until it has the lock, or until a `Once` is run
 abbrev pub MayWait : Option Purpose → ℕ → Type 0
 MayWait (Some (Enters l x how)) k = (l ≡ k) × (how ≢ Try)
 MayWait (Some (Converts l x y how)) k = (l ≡ k) × (how ≢ Try)
 MayWait (Some (Bumps l x)) k = l ≡ k
+MayWait (Some (CallsOnce l forced)) k = l ≡ k
+MayWait (Some (Awaits l forced)) k = l ≡ k
 MayWait purpose k = ⊥
 
 -- a call that releases the lock; a bump does so until it has, and then it enters
@@ -90,10 +104,11 @@ IsReleasing (Some (Releases l x fair)) released k = l ≡ k
 IsReleasing (Some (Bumps l x)) released k = (l ≡ k) × (released ≡ false)
 IsReleasing purpose released k = ⊥
 
--- the rules of a lock of each kind; a condition variable and a Once have none, and nobody enters them
+-- the rules of a lock of each kind; a condition variable has none, and nobody enters it
 abbrev pub rules_of : Kind → Rules
 rules_of (kind.TheVariants.RwLock limit) = record { sort = Normal; limit = limit }
 rules_of (kind.TheVariants.Recursive limit) = record { sort = Recursive; limit = limit }
+rules_of kind.TheVariants.Once = record { sort = Once; limit = 0 }
 rules_of k = record { sort = Mutex; limit = 0 }
 
 -- ---------------------------------------------------------------- which cases a call is made of
@@ -139,6 +154,18 @@ GivesWay x released (Leave y) = ReleasesBy x (is_fair_bump x) (Leave y) × (rele
 GivesWay x released (HandOff y successor) = ReleasesBy x (is_fair_bump x) (HandOff y successor) × (released ≡ false)
 GivesWay x released case = ReleasesBy x (is_fair_bump x) case
 
+-- a call that runs a closure, or waits while another runs one; its run ends the wait of all
+abbrev pub CallsOnceBy : Bool → LockCase → Type 0
+CallsOnceBy forced (OfOnce (Start by)) = by ≡ forced
+CallsOnceBy forced (OfOnce (Rest x by)) = (x ≡ CallOnce) × (by ≡ forced)
+CallsOnceBy forced (OfOnce case) = Unit {0}
+CallsOnceBy forced Wake = Unit {0}
+CallsOnceBy forced case = ⊥
+
+abbrev pub AwaitsBy : Bool → LockCase → Type 0
+AwaitsBy forced (OfOnce (Rest x by)) = (x ≡ Wait) × (by ≡ forced)
+AwaitsBy forced case = ⊥
+
 -- the call does this to this lock; gave_up is the lock whose queue it left because its time was up, released whether it has given
 -- its right up: a bump enters only then
 abbrev pub IsMadeOf : Purpose → Option ℕ → Bool → ℕ → LockCase → Type 0
@@ -147,3 +174,5 @@ IsMadeOf (Releases l x fair) gave_up released k case = (k ≡ l) × ReleasesBy x
 IsMadeOf (Converts l x y p) gave_up released k case = (k ≡ l) × ConvertsBy x y p gave_up case
 IsMadeOf (Bumps l x) gave_up released k case =
     (k ≡ l) × (GivesWay x released case ⊎ ((released ≡ true) × EntersBy x Patient gave_up case))
+IsMadeOf (CallsOnce l forced) gave_up released k case = (k ≡ l) × CallsOnceBy forced case
+IsMadeOf (Awaits l forced) gave_up released k case = (k ≡ l) × AwaitsBy forced case

@@ -15,8 +15,9 @@ use Rattle.lot_calls.specs.declared.outcomes.Answer as answer
 use Rattle.lot_calls.specs.declared.outcomes.Outcome.{Outcome}
 use Rattle.lot_calls.specs.declared.outcomes.Outcome as outcome
 use Rattle.lot_calls.specs.Calls.{lock_in}
-use Rattle.abstract_locks.specs.Locks.{LockState, Taken, LockCase, Enter, Pend, Settle, Leave, Park, Aside, Wake, HandOff, Late, Rules, Rights, Mutex, Needs, after_case, rights_of, with_right, without_right, Owns, IsFree, IsBlocked, count, readers, putting, standing, HasTakenNobody, IsLockState, opening_lock, times}
-use Rattle.abstract_locks.specs.Purposes.{Purpose, Enters, Releases, Converts, Bumps, Patience, Patient, Timed, Try, lock_for, purpose_of, rules_of, IsMadeOf}
+use Rattle.abstract_locks.specs.Onces.{Poisoned, Done, Start, Fail, Rest}
+use Rattle.abstract_locks.specs.Locks.{LockState, Taken, LockCase, Enter, Pend, Settle, Leave, Park, Aside, Wake, HandOff, Late, OfOnce, Rules, Rights, Mutex, Needs, after_case, rights_of, with_right, without_right, Owns, IsFree, IsBlocked, count, readers, putting, standing, HasTakenNobody, IsLockState, opening_lock, times}
+use Rattle.abstract_locks.specs.Purposes.{Purpose, Enters, Releases, Converts, Bumps, CallsOnce, Awaits, Patience, Patient, Timed, Try, lock_for, purpose_of, rules_of, IsMadeOf}
 
 -- what is remembered of a call: what its answer needs of earlier steps, and whether it tries again
 pub record CallState : Type 0 where
@@ -32,6 +33,8 @@ pub record CallState : Type 0 where
   pub released : Bool
   -- whether its time is up
   pub late : Bool
+  -- whether its run of a `Once` failed
+  pub failed : Bool
 
 -- how a thread stands between two steps
 pub record Stance : Type 0 where
@@ -64,7 +67,7 @@ rights_in w t l = rights_of (w.locks l) t
 
 abbrev pub new_call : Option Purpose → (ℕ → Rights) → CallState
 new_call purpose former =
-    record { purpose = purpose; former = former; gave_up = None; retries = None; released = false; late = false }
+    record { purpose = purpose; former = former; gave_up = None; retries = None; released = false; late = false; failed = false }
 
 abbrev pub no_rights : Rights
 no_rights = record { exclusive = 0; pending = 0; upgradable = 0; shared = 0 }
@@ -99,7 +102,7 @@ abbrev pub locks_after : LocksState → ℕ → Event → ℕ → LockState
 locks_after w t Nothing = w.locks
 locks_after w t (AtLock l case) = putting w.locks l (after_case (rules_at w l) case (w.locks l) t)
 
--- what the thread of the step remembers of it: an ownership, or a place in a queue, ends its retry
+-- what the thread of the step remembers of it: an ownership, a run, or a place in a queue, ends its retry
 abbrev pub going_on : Event → CallState → CallState
 going_on (AtLock l Late) c = record c { gave_up = Some l }
 going_on (AtLock l (Enter x)) c = record c { retries = None }
@@ -109,6 +112,9 @@ going_on (AtLock l (Park x)) c = record c { retries = None }
 going_on (AtLock l Aside) c = record c { retries = None }
 going_on (AtLock l (Leave x)) c = record c { released = true }
 going_on (AtLock l (HandOff x successor)) c = record c { released = true }
+going_on (AtLock l (OfOnce (Start forced))) c = record c { retries = None }
+going_on (AtLock l (OfOnce (Rest x forced))) c = record c { retries = None }
+going_on (AtLock l (OfOnce Fail)) c = record c { failed = true }
 going_on event c = c
 
 abbrev pub is_taken_by : ℕ → Option Taken → Bool
@@ -206,12 +212,25 @@ BumpsAnswer w t c l x answer.TheVariants.Ok = Owns (w.locks l) t x × Keeps w t 
 BumpsAnswer w t c l x answer.TheVariants.ReadersFull = IsFull w l x × Loses w t c l x
 BumpsAnswer w t c l x a = ⊥
 
+-- a `Once` is done, or poisoned for who isn't forced; or the thread's own run failed
+abbrev pub CallsOnceAnswer : LocksState → ℕ → CallState → ℕ → Bool → Answer → Type 0
+CallsOnceAnswer w t c l forced answer.TheVariants.Ok = ((w.locks l).phase ≡ Done) × Keeps w t c
+CallsOnceAnswer w t c l forced answer.TheVariants.Poisoned = ((w.locks l).phase ≡ Poisoned) × (forced ≡ false) × Keeps w t c
+CallsOnceAnswer w t c l forced answer.TheVariants.Failed = (c.failed ≡ true) × Keeps w t c
+CallsOnceAnswer w t c l forced a = ⊥
+
+abbrev pub AwaitsAnswer : LocksState → ℕ → CallState → ℕ → Bool → Answer → Type 0
+AwaitsAnswer w t c l forced answer.TheVariants.Failed = ⊥
+AwaitsAnswer w t c l forced a = CallsOnceAnswer w t c l forced a
+
 -- what an answer says of the state in which it is given
 abbrev pub AnswerHolds : Option Purpose → LocksState → ℕ → CallState → Answer → Type 0
 AnswerHolds (Some (Enters l x how)) w t c a = EntersAnswer w t c l x how a
 AnswerHolds (Some (Releases l x fair)) w t c answer.TheVariants.Ok = Loses w t c l x
 AnswerHolds (Some (Converts l x y how)) w t c a = ConvertsAnswer w t c l x y how a
 AnswerHolds (Some (Bumps l x)) w t c a = BumpsAnswer w t c l x a
+AnswerHolds (Some (CallsOnce l forced)) w t c a = CallsOnceAnswer w t c l forced a
+AnswerHolds (Some (Awaits l forced)) w t c a = AwaitsAnswer w t c l forced a
 AnswerHolds purpose w t c a = ⊥
 
 -- what a thread is told agrees with the state that its step led to; c is its call with this step in it

@@ -4,7 +4,8 @@ pub use Rattle.lot_base.specs.declared.keys.Line.{Line}
 pub use Rattle.lot_base.specs.declared.keys.Line.TheVariants.{Main, Second}
 use Rattle.lot_base.specs.declared.wants.Want.{Want}
 use Rattle.lot_base.specs.declared.wants.Want.TheVariants.{Exclusive, Upgradable, Shared}
-use Rattle.abstract_locks.specs.Locks.{LockState, Taken, Queued, Pending, Sort, Mutex, Normal, Recursive, Semaphore, Rules, LockCase, Enter, Pend, Settle, Leave, Convert, Park, Aside, TakeFirst, TakeAside, TakePicked, Wake, HandOff, Late, Rollback, Needs, Owns, Knows, NoWriter, IsLockState, KnowsAll, IsTaken, putting, taking, readers, count, times, standing, is_thread, is_writer, keeps_more, unpicked, wants_shared, let_go, opening_lock}
+use Rattle.abstract_locks.specs.Locks.{LockState, Taken, Queued, Pending, Sort, Mutex, Normal, Recursive, Semaphore, Once, Rules, LockCase, Enter, Pend, Settle, Leave, Convert, Park, Aside, TakeFirst, TakeAside, TakePicked, Wake, HandOff, Late, Rollback, OfOnce, Needs, Owns, Knows, NoWriter, IsLockState, KnowsAll, IsTaken, putting, taking, readers, count, times, standing, is_thread, is_writer, has_caller, keeps_more, unpicked, wants_shared, let_go, opening_lock}
+use Rattle.abstract_locks.specs.Onces.{InProgress, Done, IsRunning, OnceCase, Start, Finish, Fail, Rest, TakeAll}
 use Rattle.abstract_locks.specs.Locks as locks
 
 -- what a thread has by its place: a right, or a pending one with what it falls back to
@@ -33,7 +34,8 @@ pub record Doing : Type 0 where
   pub claims : Option Claim
   -- inside the main section: it has set the parked bit of a mutex that somebody owned, and is to bring waiters
   pub brings : Bool
-  -- it has brought waiters to a mutex that nobody owned, has one of them in hand, and is yet to set the bit
+  -- it has brought waiters to a mutex that nobody owned, has one of them in hand, and is yet to set the bit; or it has cleared the bit of
+  -- a `Once` beside its waiters, and is yet to take them
   pub sets : Bool
 
 abbrev pub idle : Doing
@@ -67,12 +69,14 @@ opening_site threads =
 abbrev pub IsOpen : Sort → LockState → Type 0
 IsOpen Mutex s = s.exclusive ≡ None
 IsOpen Semaphore s = ⊥
+IsOpen Once s = (has_caller s.queue ≡ true) × (IsRunning s.phase → ⊥)
 IsOpen sort s = NoWriter s
 
 -- a woken thread that wants this will pass the turn on
 abbrev pub counts : Sort → Want → Bool
 counts Mutex x = true
 counts Semaphore x = true
+counts Once x = false
 counts sort x = not (wants_shared x)
 
 abbrev pub counts_some : Sort → Option Want → Bool
@@ -94,7 +98,8 @@ is_full r s = has_readers r.sort && nat_le r.limit (count s)
 abbrev pub Holds : LockState → ℕ → Claim → Type 0
 Holds s t (Has x) = Owns s t x
 Holds s t (Pends falls_back) = s.pending ≡ Some (record { thread = t; falls_back = falls_back })
-Holds s t claim = ⊥
+Holds s t Runs = s.phase ≡ InProgress t
+Holds s t Ran = s.phase ≡ Done
 
 abbrev pub is_empty : List Queued → Bool
 is_empty [] = true
@@ -118,13 +123,17 @@ StandsIn s t (Some Second) = s.aside ≡ Some t
 abbrev pub IsDebtor : Sort → Doing → Type 0
 IsDebtor sort d = (d.wakes ≡ Some Main) ⊎ ((d.covers ≡ true) ⊎ (counts_some sort d.retries ≡ true))
 
+-- who is yet to set the bit has one of those whom it has brought in hand, or is to take those of whom it has seen it
+abbrev pub LooksAfter : Sort → Doing → Type 0
+LooksAfter sort d = (d.covers ≡ true) ⊎ ((sort ≡ Once) × (d.wakes ≡ Some Main))
+
 -- ---------------------------------------------------------------- what holds between steps
 
 pub record IsSite (r : Rules) (s : Site) : Type 0 where
   pub state : IsLockState r s.lock
   -- nobody is inside a section beside another
   pub alone : (t u : ℕ) (m : Line) → (s.doing t).inside ≡ Some m → (s.doing u).inside ≡ Some m → t ≡ u
-  -- a waiter implies its bit, or somebody inside who is about to set it
+  -- a waiter implies its bit, or somebody who is yet to set it, or to take the waiters
   pub parked : s.lock.queue ≢ [] → (s.parked ≡ true) ⊎ ((t : ℕ) × ((s.doing t).sets ≡ true))
   pub aside_parked : s.lock.aside ≢ None → s.aside_parked ≡ true
   -- who has seen nobody is inside that section, and nobody has come
@@ -134,9 +143,9 @@ pub record IsSite (r : Rules) (s : Site) : Type 0 where
       × ((s.lock.queue ≢ []) → (u : ℕ) × (counts_taken r.sort t (s.lock.taken u) ≡ true))
   -- who holds others in hand has taken them in this section
   pub carried : (u : ℕ) (h : Taken) → s.lock.taken u ≡ Some h → (s.doing h.by).carries ≡ true
-  -- who is to bring waiters is inside, and the bit stays; who is yet to set it has one of them in hand
-  pub brought : (t : ℕ) → (s.doing t).brings ≡ true → ((s.doing t).inside ≡ Some Main) × (s.parked ≡ true)
-  pub setting : (t : ℕ) → (s.doing t).sets ≡ true → (s.doing t).covers ≡ true
+  -- who is to bring waiters does so to a mutex, is inside, and the bit stays
+  pub brought : (t : ℕ) → (s.doing t).brings ≡ true → ((s.doing t).inside ≡ Some Main) × (s.parked ≡ true) × (r.sort ≡ Mutex)
+  pub setting : (t : ℕ) → (s.doing t).sets ≡ true → LooksAfter r.sort (s.doing t)
   pub held : (t : ℕ) (c : Claim) → (s.doing t).claims ≡ Some c → Holds s.lock t c
   -- who stands in a line, or is in hand, doesn't try again
   pub unwoken : (t : ℕ) → 1 ≤ standing t s.lock → (s.doing t).retries ≡ None
@@ -205,6 +214,19 @@ abbrev pub shares_less : Sort → Site → Doing → Doing
 shares_less Semaphore s d = record d { wakes = seen_main s.parked; claims = None }
 shares_less sort s d = record d { wakes = seen_second (s.aside_parked && (count s.lock == 1)); claims = None }
 
+-- the end of a run clears the bit, and sees it
+abbrev pub once_parked : OnceCase → Bool → Bool
+once_parked Finish parked = false
+once_parked Fail parked = false
+once_parked case parked = parked
+
+abbrev pub once_doing : OnceCase → Site → Doing → Doing
+once_doing (Start forced) s d = record d { retries = None; claims = Some Runs }
+once_doing Finish s d = record d { wakes = seen_main s.parked; sets = s.parked; claims = Some Ran }
+once_doing Fail s d = record d { wakes = seen_main s.parked; sets = s.parked; claims = None }
+once_doing (Rest wanted forced) s d = record d { retries = None; empty = None }
+once_doing TakeAll s d = record d { wakes = None; sets = false; carries = true }
+
 -- what the thread does after a case; now is the lock then
 abbrev pub case_doing : Sort → Site → LockState → LockCase → Doing → Doing
 case_doing sort s now (Enter x) d = record d { retries = None; claims = None }
@@ -223,11 +245,13 @@ case_doing sort s now Wake d = d
 case_doing sort s now (HandOff x successor) d = record d { covers = false; claims = None; brings = false; sets = false }
 case_doing sort s now Late d = record d { empty = late_found now d.inside }
 case_doing sort s now Rollback d = gives_way s d (fallen s.lock.pending)
+case_doing sort s now (OfOnce case) d = once_doing case s d
 
 -- a hand-over stores the word anew: the bit of the main line stands where somebody is left, and an exclusive owner leaves no
 -- other
 abbrev pub case_parked : Site → LockState → LockCase → Bool
 case_parked s now (HandOff x successor) = not (is_empty now.queue)
+case_parked s now (OfOnce case) = once_parked case s.parked
 case_parked s now case = s.parked
 
 abbrev pub case_aside_parked : Site → LockCase → Bool
@@ -304,6 +328,13 @@ KeepsOwned s t None = Unit {0}
 KeepsOwned s t (Some Shared) = Unit {0}
 KeepsOwned s t (Some x) = Owns s t x
 
+abbrev pub OnceFits : OnceCase → Site → Doing → Type 0
+OnceFits (Start forced) s d = Unit {0}
+OnceFits Finish s d = (d.wakes ≡ None) × (d.sets ≡ false)
+OnceFits Fail s d = (d.wakes ≡ None) × (d.sets ≡ false)
+OnceFits (Rest wanted forced) s d = (d.inside ≡ Some Main) × (s.parked ≡ true) × (d.wakes ≡ None) × (d.covers ≡ false)
+OnceFits TakeAll s d = (d.inside ≡ Some Main) × (d.carries ≡ false)
+
 abbrev pub CaseFits : Rules → Site → ℕ → LockCase → Doing → Type 0
 CaseFits r s t (Enter x) d = (d.retries ≡ None) ⊎ (d.retries ≡ Some x)
 CaseFits r s t Pend d = Unit {0}
@@ -320,6 +351,7 @@ CaseFits r s t Wake d = ⊥
 CaseFits r s t (HandOff x successor) d = (d.inside ≡ Some Main) × (d.covers ≡ true) × (d.retries ≡ None) × (d.wakes ≡ None)
 CaseFits r s t Late d = StandsIn s.lock t d.inside × (d.carries ≡ false)
 CaseFits r s t Rollback d = (d.wakes ≡ None) × (d.carries ≡ false)
+CaseFits r s t (OfOnce case) d = OnceFits case s d
 
 -- a call ends outside of the sections, and one that was woken has what it wanted, or another has, or the lock is full
 abbrev pub MayEnd : Rules → LockState → Doing → Type 0
@@ -342,7 +374,7 @@ Needed r (FindNobody m) s t =
     ((s.doing t).inside ≡ Some m) × ((s.doing t).carries ≡ false) × IsEmpty s.lock m
     × ((s.doing t).wakes ≡ None ⊎ (s.doing t).wakes ≡ Some m)
 Needed r MarkBrought s t = Unit {0}
-Needed r MarkOwned s t = ((s.doing t).inside ≡ Some Main) × (IsOpen r.sort s.lock → ⊥)
+Needed r MarkOwned s t = ((s.doing t).inside ≡ Some Main) × (IsOpen r.sort s.lock → ⊥) × (r.sort ≡ Mutex)
 Needed r (Bring taken moved) s t =
     (r.sort ≡ Mutex) × ((s.doing t).inside ≡ Some Main) × ((s.doing t).carries ≡ false)
     × ((s.doing t).wakes ≡ None) × ((s.doing t).retries ≡ None)

@@ -5,10 +5,9 @@ ghost use Rattle.abstract_locks.specs.Laws.{CallsTakeSteps, FairReleasesHandOver
 ghost use Rattle.abstract_locks.specs.UserLaws.{DowngradesOwn, OfEachStep, ReadersStayOut, RereadersPass, UpgradesLetNobodyWrite};
 ghost use Rattle.abstract_locks.specs.Picks.{PickersPickAsTheLocksSay};
 ghost use Rattle.abstract_locks.specs.Sites.{EachDeedKeeps};
-ghost use Rattle.abstract_locks.specs.OnceSteps.{OnceStepsFollow, OnceWordFollows};
 ghost use Rattle.abstract_locks.specs.Permits.{EachDeedKeepsPermits, PermitsAreLookedAfter};
 ghost use Rattle.abstract_locks.specs.Condvars.{EachCondvarDeedKeeps, EachMoveFits};
-ghost use Rattle.abstract_locks.specs.Onces.{EachOnceDeedKeeps, NothingLeavesDone};
+ghost use Rattle.abstract_locks.specs.OnceLaws.{CallersAreLookedAfter, NothingLeavesDone};
 ghost use Rattle.abstract_locks.specs.Codes.{LimitKept, WordFollows, WordsTellTrue};
 
 /// Whatever one thread does to a lock of the lot, what holds of it between steps holds again.
@@ -16,12 +15,7 @@ pub fn each_deed_keeps()
     ensures { EachDeedKeeps }
 {}
 
-/// Whatever one thread does to a `Once`, what holds of it between steps holds again.
-pub fn each_once_deed_keeps()
-    ensures { EachOnceDeedKeeps }
-{}
-
-/// And nothing leaves the phase in which it is done.
+/// A `Once` that is done stays so, whatever is done to it.
 pub fn nothing_leaves_done()
     ensures { NothingLeavesDone }
 {}
@@ -46,14 +40,9 @@ pub fn permits_are_looked_after()
     ensures { PermitsAreLookedAfter }
 {}
 
-/// Each step of the calls of a `Once` does to it what its table says.
-pub fn once_steps_follow()
-    ensures { OnceStepsFollow }
-{}
-
-/// And the word follows.
-pub fn once_word_follows()
-    ensures { OnceWordFollows }
+/// Who waits to run a `Once` that nobody runs is looked after.
+pub fn callers_are_looked_after()
+    ensures { CallersAreLookedAfter }
 {}
 
 /// The word of a reader-writer lock follows each case of the lock.

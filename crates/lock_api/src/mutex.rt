@@ -1,10 +1,10 @@
 //! The mutex with its value.
-ghost use Rattle.std.specs.Prelude.{◌≡◌, ◌⊎◌, IfNone, IfSome, MatchOption, MatchResult};
+ghost use Rattle.std.specs.Prelude.{◌≡◌, IfNone, IfSome, MatchOption, MatchResult};
 ghost use Rattle.std.specs.Fn.{FnOnceReturnsAtMut};
 ghost use Rattle.std.specs.Arc.{arc_value};
 ghost use Rattle.std.specs.Duration.{as_nanos};
 ghost use Rattle.lot_base.specs.Clocks.{HasElapsed, HasPassed};
-ghost use Rattle.lock_raw.specs.Answers.{answer_by};
+ghost use Rattle.lock_raw.specs.Answers.{IsRefusal, answer_by};
 ghost use Rattle.lock_api.specs.Guards.{lock_of};
 ghost use Rattle.lot_calls.specs.declared.calls.MutexCall.TheVariants.{Lock, LockTimed, TryLock};
 ghost use Rattle.lot_calls.specs.declared.outcomes.Answer.TheVariants as answers;
@@ -62,7 +62,8 @@ impl<R: RawMutex, T> Mutex<R, T> {
     pub fn new(lot: &Arc<R::Lot>, token: &mut R::Token, value: T) -> Result<Mutex<R, T>, (Fault, T)>
         requires { R.is_token_of (arc_value lot.now) token.old }
         ensures token { R.is_token_of (arc_value lot.now) token.new × R.stays token.old token.new }
-        ensures made { MatchResult result (λ mutex. R.lot_of mutex ≡ arc_value lot.now) (λ refused. (refused.1 ≡ value) × ((refused.0 ≡ Fault.NoMemory) ⊎ (refused.0 ≡ Fault.LotFull))) }
+        ensures made { MatchResult result (λ mutex. R.lot_of mutex ≡ arc_value lot.now)
+            (λ refused. (refused.1 ≡ value) × IsRefusal refused.0) }
     {
         match R::new(lot, token) {
             Ok(raw) => {
@@ -142,7 +143,8 @@ impl<R: RawMutex, T> Mutex<R, T> {
         requires token { R.is_token_of (R.lot_of self.now) token.old }
         requires callable { F.IsAlwaysCallable f }
         ensures token { R.is_token_of (R.lot_of self.now) token.new × R.stays token.old token.new }
-        ensures ran { MatchOption result (R.walked self.now TryLock answers.No token.old token.new) (λ answer. (found : T) × (left : T) × FnOnceReturnsAtMut F.FnOnce f found answer left) }
+        ensures ran { MatchOption result (R.walked self.now TryLock answers.No token.old token.new)
+            (λ answer. (found : T) × (left : T) × FnOnceReturnsAtMut F.FnOnce f found answer left) }
     {
         let mut guard = self.try_lock(token)?;
         let answer = run_on(&mut *guard, f);

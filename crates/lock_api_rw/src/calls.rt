@@ -1,9 +1,9 @@
 //! Calls of a reader-writer lock with a value that give up in time, and calls that run a closure on the value.
-ghost use Rattle.std.specs.Prelude.{◌≡◌, IfNone, IfOk, IfSome, MatchResult};
+ghost use Rattle.std.specs.Prelude.{◌≡◌, IfErr, IfNone, IfOk, IfSome, MatchResult};
 ghost use Rattle.std.specs.Duration.{as_nanos};
 ghost use Rattle.std.specs.Fn.{FnOnceReturnsAt, FnOnceReturnsAtMut};
 ghost use Rattle.lot_base.specs.Clocks.{HasElapsed, HasPassed};
-ghost use Rattle.lock_raw.specs.Answers.{answer_by, counted_answer};
+ghost use Rattle.lock_raw.specs.Answers.{IsFull, TriesOrFull, answer_by, counted_answer};
 ghost use Rattle.lock_api_rw.specs.Guards.{lock_of};
 ghost use Rattle.lot_calls.specs.declared.calls.Access.TheVariants as access;
 ghost use Rattle.lot_calls.specs.declared.calls.Patience.TheVariants.{Timed};
@@ -39,7 +39,7 @@ impl<R: RawRwLock, T> RwLock<R, T> {
         requires token { R.is_token_of (R.lot_of self.now) token.old }
         requires callable { F.IsAlwaysCallable f }
         ensures token { R.is_token_of (R.lot_of self.now) token.new × R.stays token.old token.new }
-        ensures ran { MatchResult result (λ answer. (found : T) × FnOnceReturnsAt F.FnOnce f found answer) (λ fault. fault ≡ Fault.ReadersFull) }
+        ensures ran { MatchResult result (λ answer. (found : T) × FnOnceReturnsAt F.FnOnce f found answer) IsFull }
     {
         match self.read(rt, token) {
             Ok(guard) => {
@@ -89,8 +89,10 @@ impl<R: RawRwLockTimed, T> RwLock<R, T> {
     ) -> Result<Option<RwLockReadGuard<'_, R, T>>, Fault>
         requires { R.is_token_of (R.lot_of self.now) token.old }
         ensures token { R.is_token_of (R.lot_of self.now) token.new × R.stays token.old token.new }
-        ensures guard { MatchResult result (λ entered. IfSome entered (λ guard. lock_of guard ≡ self.now)) (λ fault. fault ≡ Fault.ReadersFull) }
+        ensures guard { TriesOrFull result (λ guard. lock_of guard ≡ self.now) }
         ensures path { R.walked self.now (Enter access.Shared Timed) (counted_answer result) token.old token.new }
+        ensures full { IfErr result (λ _. R.saw_full self.now access.Shared token.old token.new) }
+        ensures left { IfOk result (λ entered. IfNone entered (R.gave_up self.now (Enter access.Shared Timed) token.new)) }
         ensures late { IfOk result (λ entered. IfNone entered (HasElapsed (C.tells clock.now) (as_nanos timeout))) }
     {
         match self.raw().try_lock_shared_for(rt, token, clock, timeout) {
@@ -115,8 +117,10 @@ impl<R: RawRwLockTimed, T> RwLock<R, T> {
     ) -> Result<Option<RwLockReadGuard<'_, R, T>>, Fault>
         requires { R.is_token_of (R.lot_of self.now) token.old }
         ensures token { R.is_token_of (R.lot_of self.now) token.new × R.stays token.old token.new }
-        ensures guard { MatchResult result (λ entered. IfSome entered (λ guard. lock_of guard ≡ self.now)) (λ fault. fault ≡ Fault.ReadersFull) }
+        ensures guard { TriesOrFull result (λ guard. lock_of guard ≡ self.now) }
         ensures path { R.walked self.now (Enter access.Shared Timed) (counted_answer result) token.old token.new }
+        ensures full { IfErr result (λ _. R.saw_full self.now access.Shared token.old token.new) }
+        ensures left { IfOk result (λ entered. IfNone entered (R.gave_up self.now (Enter access.Shared Timed) token.new)) }
         ensures late { IfOk result (λ entered. IfNone entered (HasPassed (C.tells clock.now) deadline)) }
     {
         match self.raw().try_lock_shared_until(rt, token, clock, deadline) {
@@ -141,6 +145,7 @@ impl<R: RawRwLockTimed, T> RwLock<R, T> {
         ensures token { R.is_token_of (R.lot_of self.now) token.new × R.stays token.old token.new }
         ensures guard { IfSome result (λ guard. lock_of guard ≡ self.now) }
         ensures path { R.walked self.now (Enter access.Exclusive Timed) (answer_by result) token.old token.new }
+        ensures left { IfNone result (R.gave_up self.now (Enter access.Exclusive Timed) token.new) }
         ensures late { IfNone result (HasElapsed (C.tells clock.now) (as_nanos timeout)) }
     {
         let raw = self
@@ -162,6 +167,7 @@ impl<R: RawRwLockTimed, T> RwLock<R, T> {
         ensures token { R.is_token_of (R.lot_of self.now) token.new × R.stays token.old token.new }
         ensures guard { IfSome result (λ guard. lock_of guard ≡ self.now) }
         ensures path { R.walked self.now (Enter access.Exclusive Timed) (answer_by result) token.old token.new }
+        ensures left { IfNone result (R.gave_up self.now (Enter access.Exclusive Timed) token.new) }
         ensures late { IfNone result (HasPassed (C.tells clock.now) deadline) }
     {
         let raw = self
@@ -190,8 +196,10 @@ impl<R: RawRwLockUpgradeTimed, T> RwLock<R, T> {
     ) -> Result<Option<RwLockUpgradableReadGuard<'_, R, T>>, Fault>
         requires { R.is_token_of (R.lot_of self.now) token.old }
         ensures token { R.is_token_of (R.lot_of self.now) token.new × R.stays token.old token.new }
-        ensures guard { MatchResult result (λ entered. IfSome entered (λ guard. lock_of guard ≡ self.now)) (λ fault. fault ≡ Fault.ReadersFull) }
+        ensures guard { TriesOrFull result (λ guard. lock_of guard ≡ self.now) }
         ensures path { R.walked self.now (Enter access.Upgradable Timed) (counted_answer result) token.old token.new }
+        ensures full { IfErr result (λ _. R.saw_full self.now access.Upgradable token.old token.new) }
+        ensures left { IfOk result (λ entered. IfNone entered (R.gave_up self.now (Enter access.Upgradable Timed) token.new)) }
         ensures late { IfOk result (λ entered. IfNone entered (HasElapsed (C.tells clock.now) (as_nanos timeout))) }
     {
         match self
@@ -219,8 +227,10 @@ impl<R: RawRwLockUpgradeTimed, T> RwLock<R, T> {
     ) -> Result<Option<RwLockUpgradableReadGuard<'_, R, T>>, Fault>
         requires { R.is_token_of (R.lot_of self.now) token.old }
         ensures token { R.is_token_of (R.lot_of self.now) token.new × R.stays token.old token.new }
-        ensures guard { MatchResult result (λ entered. IfSome entered (λ guard. lock_of guard ≡ self.now)) (λ fault. fault ≡ Fault.ReadersFull) }
+        ensures guard { TriesOrFull result (λ guard. lock_of guard ≡ self.now) }
         ensures path { R.walked self.now (Enter access.Upgradable Timed) (counted_answer result) token.old token.new }
+        ensures full { IfErr result (λ _. R.saw_full self.now access.Upgradable token.old token.new) }
+        ensures left { IfOk result (λ entered. IfNone entered (R.gave_up self.now (Enter access.Upgradable Timed) token.new)) }
         ensures late { IfOk result (λ entered. IfNone entered (HasPassed (C.tells clock.now) deadline)) }
     {
         match self

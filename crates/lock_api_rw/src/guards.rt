@@ -38,7 +38,7 @@ pub type RwLockWriteGuard<'a, R, T> = Held<Writing<'a, R, T>, sync::RwLockWriteG
 impl<'a, R: RawRwLock, T> Held<Reading<'a, R, T>, sync::RwLockReadGuard<'a, T>> {
     // Closes the inner lock, and only then gives the raw guard.
     #[inline]
-    fn close_shared(self) -> (&'a RwLock<R, T>, R::SharedGuard)
+    pub(crate) fn close_shared(self) -> (&'a RwLock<R, T>, R::SharedGuard)
         ensures { (result.0.now ≡ lock_of self.entry) × R.is_shared_of (lock_of self.entry) result.1 }
     {
         let Held { right, value } = self;
@@ -61,7 +61,7 @@ impl<'a, R: RawRwLock, T> Held<Reading<'a, R, T>, sync::RwLockReadGuard<'a, T>> 
 
 impl<'a, R: RawRwLockUpgrade, T> Held<Upgrading<'a, R, T>, sync::RwLockReadGuard<'a, T>> {
     #[inline]
-    fn close_upgradable(self) -> (&'a RwLock<R, T>, R::UpgradableGuard)
+    pub(crate) fn close_upgradable(self) -> (&'a RwLock<R, T>, R::UpgradableGuard)
         ensures { (result.0.now ≡ lock_of self.entry) × R.is_upgradable_of (lock_of self.entry) result.1 }
     {
         let Held { right, value } = self;
@@ -117,7 +117,8 @@ impl<'a, R: RawRwLockUpgrade, T> Held<Upgrading<'a, R, T>, sync::RwLockReadGuard
     ) -> Result<RwLockWriteGuard<'a, R, T>, RwLockUpgradableReadGuard<'a, R, T>>
         requires { R.is_token_of (R.lot_of (lock_of self)) token.old }
         ensures token { R.is_token_of (R.lot_of (lock_of self.entry)) token.new × R.stays token.old token.new }
-        ensures guard { MatchResult result (λ guard. lock_of guard ≡ lock_of self.entry) (λ guard. lock_of guard ≡ lock_of self.entry) }
+        ensures guard { MatchResult result (λ guard. lock_of guard ≡ lock_of self.entry)
+            (λ guard. lock_of guard ≡ lock_of self.entry) }
         ensures path { R.walked (lock_of self.entry) (Upgrade Try) (upgrade_answer result) token.old token.new }
     {
         let (lock, raw) = self.close_upgradable();
@@ -144,8 +145,10 @@ impl<'a, R: RawRwLockUpgradeTimed, T> Held<Upgrading<'a, R, T>, sync::RwLockRead
     ) -> Result<RwLockWriteGuard<'a, R, T>, RwLockUpgradableReadGuard<'a, R, T>>
         requires { R.is_token_of (R.lot_of (lock_of self)) token.old }
         ensures token { R.is_token_of (R.lot_of (lock_of self.entry)) token.new × R.stays token.old token.new }
-        ensures guard { MatchResult result (λ guard. lock_of guard ≡ lock_of self.entry) (λ guard. lock_of guard ≡ lock_of self.entry) }
+        ensures guard { MatchResult result (λ guard. lock_of guard ≡ lock_of self.entry)
+            (λ guard. lock_of guard ≡ lock_of self.entry) }
         ensures path { R.walked (lock_of self.entry) (Upgrade Timed) (upgrade_answer result) token.old token.new }
+        ensures left { IfErr result (λ _. R.gave_up (lock_of self.entry) (Upgrade Timed) token.new) }
         ensures late { IfErr result (λ _. HasElapsed (C.tells clock.now) (as_nanos timeout)) }
     {
         let (lock, raw) = self.close_upgradable();
@@ -170,8 +173,10 @@ impl<'a, R: RawRwLockUpgradeTimed, T> Held<Upgrading<'a, R, T>, sync::RwLockRead
     ) -> Result<RwLockWriteGuard<'a, R, T>, RwLockUpgradableReadGuard<'a, R, T>>
         requires { R.is_token_of (R.lot_of (lock_of self)) token.old }
         ensures token { R.is_token_of (R.lot_of (lock_of self.entry)) token.new × R.stays token.old token.new }
-        ensures guard { MatchResult result (λ guard. lock_of guard ≡ lock_of self.entry) (λ guard. lock_of guard ≡ lock_of self.entry) }
+        ensures guard { MatchResult result (λ guard. lock_of guard ≡ lock_of self.entry)
+            (λ guard. lock_of guard ≡ lock_of self.entry) }
         ensures path { R.walked (lock_of self.entry) (Upgrade Timed) (upgrade_answer result) token.old token.new }
+        ensures left { IfErr result (λ _. R.gave_up (lock_of self.entry) (Upgrade Timed) token.new) }
         ensures late { IfErr result (λ _. HasPassed (C.tells clock.now) deadline) }
     {
         let (lock, raw) = self.close_upgradable();
@@ -192,7 +197,8 @@ impl<'a, R: RawRwLockUpgradeDowngrade, T> Held<Upgrading<'a, R, T>, sync::RwLock
         requires { R.is_token_of (R.lot_of (lock_of self)) token.old }
         ensures token { R.is_token_of (R.lot_of (lock_of self.entry)) token.new × R.stays token.old token.new }
         ensures guard { lock_of result ≡ lock_of self.entry }
-        ensures path { R.walked (lock_of self.entry) (Downgrade downgrades.UpgradableToShared) answers.Ok token.old token.new }
+        ensures path { R.walked (lock_of self.entry) (Downgrade downgrades.UpgradableToShared)
+            answers.Ok token.old token.new }
         ensures record { R.woke (lock_of self.entry) (Downgrade downgrades.UpgradableToShared) token.old token.new }
     {
         let (lock, raw) = self.close_upgradable();
@@ -203,7 +209,7 @@ impl<'a, R: RawRwLockUpgradeDowngrade, T> Held<Upgrading<'a, R, T>, sync::RwLock
 
 impl<'a, R: RawRwLock, T> Held<Writing<'a, R, T>, sync::RwLockWriteGuard<'a, T>> {
     #[inline]
-    fn close_exclusive(self) -> (&'a RwLock<R, T>, R::ExclusiveGuard)
+    pub(crate) fn close_exclusive(self) -> (&'a RwLock<R, T>, R::ExclusiveGuard)
         ensures { (result.0.now ≡ lock_of self.entry) × R.is_exclusive_of (lock_of self.entry) result.1 }
     {
         let Held { right, value } = self;
@@ -287,7 +293,8 @@ impl<'a, R: RawRwLockUpgradeDowngrade, T> Held<Writing<'a, R, T>, sync::RwLockWr
         requires { R.is_token_of (R.lot_of (lock_of self)) token.old }
         ensures token { R.is_token_of (R.lot_of (lock_of self.entry)) token.new × R.stays token.old token.new }
         ensures guard { lock_of result ≡ lock_of self.entry }
-        ensures path { R.walked (lock_of self.entry) (Downgrade downgrades.ToUpgradable) answers.Ok token.old token.new }
+        ensures path { R.walked (lock_of self.entry) (Downgrade downgrades.ToUpgradable)
+            answers.Ok token.old token.new }
         ensures record { R.woke (lock_of self.entry) (Downgrade downgrades.ToUpgradable) token.old token.new }
     {
         let (lock, raw) = self.close_exclusive();

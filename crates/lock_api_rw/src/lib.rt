@@ -2,6 +2,7 @@
 #![tactic(auto)]
 
 mod calls;
+mod fair;
 pub mod guards;
 pub mod held;
 pub mod inner;
@@ -11,7 +12,7 @@ pub mod rwlock;
 pub use guards::{RwLockReadGuard, RwLockUpgradableReadGuard, RwLockWriteGuard};
 pub use lock_raw;
 pub use lock_raw::{
-    RawRwLock, RawRwLockDowngrade, RawRwLockTimed, RawRwLockUpgrade, RawRwLockUpgradeDowngrade,
-    RawRwLockUpgradeTimed,
+    RawRwLock, RawRwLockDowngrade, RawRwLockFair, RawRwLockTimed, RawRwLockUpgrade,
+    RawRwLockUpgradeDowngrade, RawRwLockUpgradeFair, RawRwLockUpgradeTimed,
 };
 pub use rwlock::RwLock;

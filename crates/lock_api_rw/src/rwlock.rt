@@ -1,7 +1,7 @@
 //! The reader-writer lock with its value.
-ghost use Rattle.std.specs.Prelude.{◌≡◌, ◌⊎◌, ◌≤◌, IfNone, IfOk, IfSome, MatchResult};
+ghost use Rattle.std.specs.Prelude.{◌≡◌, ◌≤◌, IfErr, IfSome, MatchResult};
 ghost use Rattle.std.specs.Arc.{arc_value};
-ghost use Rattle.lock_raw.specs.Answers.{answer_by, counted_answer, reading_answer};
+ghost use Rattle.lock_raw.specs.Answers.{IsFull, IsRefusal, TriesOrFull, answer_by, counted_answer, reading_answer};
 ghost use Rattle.lock_api_rw.specs.Guards.{lock_of};
 ghost use Rattle.lot_calls.specs.declared.calls.Access.TheVariants as access;
 ghost use Rattle.lot_calls.specs.declared.calls.Patience.TheVariants.{Patient, Try};
@@ -46,7 +46,8 @@ impl<R: RawRwLock, T> RwLock<R, T> {
     ) -> Result<RwLock<R, T>, (Fault, T)>
         requires { R.is_token_of (arc_value lot.now) token.old }
         ensures token { R.is_token_of (arc_value lot.now) token.new × R.stays token.old token.new }
-        ensures made { MatchResult result (λ lock. R.lot_of lock ≡ arc_value lot.now) (λ refused. (refused.1 ≡ value) × ((refused.0 ≡ Fault.NoMemory) ⊎ (refused.0 ≡ Fault.LotFull))) }
+        ensures made { MatchResult result (λ lock. R.lot_of lock ≡ arc_value lot.now)
+            (λ refused. (refused.1 ≡ value) × IsRefusal refused.0) }
     {
         match R::new(lot, token) {
             Ok(raw) => Ok(RwLock {
@@ -72,7 +73,8 @@ impl<R: RawRwLock, T> RwLock<R, T> {
         requires token { R.is_token_of (arc_value lot.now) token.old }
         requires limit { limit ≤ 1152921504606846974 }
         ensures token { R.is_token_of (arc_value lot.now) token.new × R.stays token.old token.new }
-        ensures made { MatchResult result (λ lock. R.lot_of lock ≡ arc_value lot.now) (λ refused. (refused.1 ≡ value) × ((refused.0 ≡ Fault.NoMemory) ⊎ (refused.0 ≡ Fault.LotFull))) }
+        ensures made { MatchResult result (λ lock. R.lot_of lock ≡ arc_value lot.now)
+            (λ refused. (refused.1 ≡ value) × IsRefusal refused.0) }
     {
         match R::with_limit(lot, token, limit) {
             Ok(raw) => Ok(RwLock {
@@ -127,8 +129,9 @@ impl<R: RawRwLock, T> RwLock<R, T> {
     ) -> Result<RwLockReadGuard<'_, R, T>, Fault>
         requires { R.is_token_of (R.lot_of self.now) token.old }
         ensures token { R.is_token_of (R.lot_of self.now) token.new × R.stays token.old token.new }
-        ensures guard { MatchResult result (λ guard. lock_of guard ≡ self.now) (λ fault. fault ≡ Fault.ReadersFull) }
+        ensures guard { MatchResult result (λ guard. lock_of guard ≡ self.now) IsFull }
         ensures path { R.walked self.now (Enter access.Shared Patient) (reading_answer result) token.old token.new }
+        ensures full { IfErr result (λ _. R.saw_full self.now access.Shared token.old token.new) }
     {
         match self.raw.lock_shared(rt, token) {
             Ok(raw) => Ok(self.open_shared(rt, raw)),
@@ -149,8 +152,9 @@ impl<R: RawRwLock, T> RwLock<R, T> {
     ) -> Result<Option<RwLockReadGuard<'_, R, T>>, Fault>
         requires { R.is_token_of (R.lot_of self.now) token.old }
         ensures token { R.is_token_of (R.lot_of self.now) token.new × R.stays token.old token.new }
-        ensures guard { MatchResult result (λ entered. IfSome entered (λ guard. lock_of guard ≡ self.now)) (λ fault. fault ≡ Fault.ReadersFull) }
+        ensures guard { TriesOrFull result (λ guard. lock_of guard ≡ self.now) }
         ensures path { R.walked self.now (Enter access.Shared Try) (counted_answer result) token.old token.new }
+        ensures full { IfErr result (λ _. R.saw_full self.now access.Shared token.old token.new) }
     {
         match self.raw.try_lock_shared(rt, token) {
             Ok(Some(raw)) => Ok(Some(self.open_shared(rt, raw))),
@@ -237,8 +241,9 @@ impl<R: RawRwLockUpgrade, T> RwLock<R, T> {
     ) -> Result<RwLockUpgradableReadGuard<'_, R, T>, Fault>
         requires { R.is_token_of (R.lot_of self.now) token.old }
         ensures token { R.is_token_of (R.lot_of self.now) token.new × R.stays token.old token.new }
-        ensures guard { MatchResult result (λ guard. lock_of guard ≡ self.now) (λ fault. fault ≡ Fault.ReadersFull) }
+        ensures guard { MatchResult result (λ guard. lock_of guard ≡ self.now) IsFull }
         ensures path { R.walked self.now (Enter access.Upgradable Patient) (reading_answer result) token.old token.new }
+        ensures full { IfErr result (λ _. R.saw_full self.now access.Upgradable token.old token.new) }
     {
         match self.raw.lock_upgradable(rt, token) {
             Ok(raw) => Ok(self.open_upgradable(rt, raw)),
@@ -259,8 +264,9 @@ impl<R: RawRwLockUpgrade, T> RwLock<R, T> {
     ) -> Result<Option<RwLockUpgradableReadGuard<'_, R, T>>, Fault>
         requires { R.is_token_of (R.lot_of self.now) token.old }
         ensures token { R.is_token_of (R.lot_of self.now) token.new × R.stays token.old token.new }
-        ensures guard { MatchResult result (λ entered. IfSome entered (λ guard. lock_of guard ≡ self.now)) (λ fault. fault ≡ Fault.ReadersFull) }
+        ensures guard { TriesOrFull result (λ guard. lock_of guard ≡ self.now) }
         ensures path { R.walked self.now (Enter access.Upgradable Try) (counted_answer result) token.old token.new }
+        ensures full { IfErr result (λ _. R.saw_full self.now access.Upgradable token.old token.new) }
     {
         match self.raw.try_lock_upgradable(rt, token) {
             Ok(Some(raw)) => Ok(Some(self.open_upgradable(rt, raw))),

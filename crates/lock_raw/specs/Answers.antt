@@ -1,6 +1,8 @@
 -- What calls answer.
-use Rattle.std.specs.Prelude.{Option, Some, None, Ok, Err}
+use Rattle.std.specs.Prelude.{◌≡◌, ◌⊎◌, Option, Some, None, Ok, Err, IfSome, MatchResult}
 use Rattle.std.specs.declared.result.Result.{Result}
+use Rattle.lot_base.specs.declared.faults.Fault.{Fault}
+use Rattle.lot_base.specs.declared.faults.Fault.TheVariants as faults
 use Rattle.lot_calls.specs.declared.outcomes.Answer.{Answer}
 use Rattle.lot_calls.specs.declared.outcomes.Answer.TheVariants as answers
 
@@ -23,3 +25,15 @@ counted_answer (Err _) = answers.ReadersFull
 abbrev pub upgrade_answer : {A B : Type 0} → Result A B → Answer
 upgrade_answer (Ok _) = answers.Yes
 upgrade_answer (Err _) = answers.No
+
+-- a new lock is refused for want of memory, or of a word in its lot
+abbrev pub IsRefusal : Fault → Type 0
+IsRefusal fault = (fault ≡ faults.NoMemory) ⊎ (fault ≡ faults.LotFull)
+
+-- the lock is full of readers
+abbrev pub IsFull : Fault → Type 0
+IsFull fault = fault ≡ faults.ReadersFull
+
+-- who may end without the lock has such a guard where it came in, or found the lock full of readers
+abbrev pub TriesOrFull : {A : Type 0} → Result (Option A) Fault → (A → Type 0) → Type 0
+TriesOrFull result holds = MatchResult result (λ entered. IfSome entered holds) IsFull

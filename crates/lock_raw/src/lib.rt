@@ -4,7 +4,7 @@
 pub mod rwlock;
 pub mod rwlock_fair;
 
-ghost use Rattle.std.specs.Prelude.{◌≡◌, ◌⊎◌, Bool, MatchResult, IfNone, IfSome};
+ghost use Rattle.std.specs.Prelude.{◌≡◌, Bool, MatchResult, IfNone, IfSome};
 ghost use Rattle.std.specs.Arc.{arc_value};
 ghost use Rattle.std.specs.Duration.{as_nanos};
 ghost use Rattle.lot_base.specs.Clocks.{HasElapsed, HasPassed};
@@ -12,7 +12,7 @@ ghost use Rattle.lot_calls.specs.declared.calls.MutexCall.{MutexCall};
 ghost use Rattle.lot_calls.specs.declared.calls.MutexCall.TheVariants.{Lock, LockTimed, TryLock, Unlock, UnlockFair, Bump};
 ghost use Rattle.lot_calls.specs.declared.outcomes.Answer.{Answer};
 ghost use Rattle.lot_calls.specs.declared.outcomes.Answer.TheVariants as answers;
-ghost use Rattle.lock_raw.specs.Answers.{answer_by};
+ghost use Rattle.lock_raw.specs.Answers.{IsRefusal, answer_by};
 ghost use Rattle.value_place.specs.PermitIds.{PermitId};
 
 use lot_base::{Clock, Fault};
@@ -69,7 +69,7 @@ pub trait RawMutex {
     fn new(lot: &Arc<Self::Lot>, token: &mut Self::Token) -> Result<Self, Fault>
         requires { is_token_of (arc_value lot.now) token.old }
         ensures token { is_token_of (arc_value lot.now) token.new × stays token.old token.new }
-        ensures made { MatchResult result (λ mutex. lot_of mutex ≡ arc_value lot.now) (λ fault. (fault ≡ Fault.NoMemory) ⊎ (fault ≡ Fault.LotFull)) };
+        ensures made { MatchResult result (λ mutex. lot_of mutex ≡ arc_value lot.now) IsRefusal };
 
     /// Waits until nobody has the mutex, and takes it.
     fn lock<R: Wait>(&self, rt: &R, token: &mut Self::Token) -> Self::Guard

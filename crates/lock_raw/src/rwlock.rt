@@ -1,8 +1,9 @@
 //! Raw reader-writer locks, as generic code sees them.
-ghost use Rattle.std.specs.Prelude.{◌≡◌, ◌⊎◌, ◌≤◌, Bool, MatchResult, IfErr, IfNone, IfOk, IfSome};
+ghost use Rattle.std.specs.Prelude.{◌≡◌, ◌≤◌, Bool, MatchResult, IfErr, IfNone, IfOk, IfSome};
 ghost use Rattle.std.specs.Arc.{arc_value};
 ghost use Rattle.std.specs.Duration.{as_nanos};
 ghost use Rattle.lot_base.specs.Clocks.{HasElapsed, HasPassed};
+ghost use Rattle.lot_calls.specs.declared.calls.Access.{Access};
 ghost use Rattle.lot_calls.specs.declared.calls.Access.TheVariants as access;
 ghost use Rattle.lot_calls.specs.declared.calls.Downgrade.TheVariants as downgrades;
 ghost use Rattle.lot_calls.specs.declared.calls.Patience.TheVariants.{Patient, Timed, Try};
@@ -10,7 +11,7 @@ ghost use Rattle.lot_calls.specs.declared.calls.RwLockCall.{RwLockCall};
 ghost use Rattle.lot_calls.specs.declared.calls.RwLockCall.TheVariants.{Enter, Release, Downgrade, Upgrade};
 ghost use Rattle.lot_calls.specs.declared.outcomes.Answer.{Answer};
 ghost use Rattle.lot_calls.specs.declared.outcomes.Answer.TheVariants as answers;
-ghost use Rattle.lock_raw.specs.Answers.{answer_by, reading_answer, counted_answer, upgrade_answer};
+ghost use Rattle.lock_raw.specs.Answers.{IsFull, IsRefusal, TriesOrFull, answer_by, counted_answer, reading_answer, upgrade_answer};
 
 use lot_base::{Clock, Fault};
 use std::sync::{Arc, Wait};
@@ -51,6 +52,10 @@ pub trait RawRwLock {
     ghost looked: { Self → Bool → Self.Token → Self.Token → Type 0 };
     // The same, of who has it alone.
     ghost looked_for_writer: { Self → Bool → Self.Token → Self.Token → Type 0 };
+    // Between them its last step saw that nobody keeps this right out, and that as many share the lock as may.
+    ghost saw_full: { Self → Access → Self.Token → Self.Token → Type 0 };
+    // This call gave up and left no section behind its last step, or one in which it left a queue, or took those whom it had kept out.
+    ghost gave_up: { Self → RwLockCall → Self.Token → Type 0 };
 
     /// A lock that nobody has, and that as many may share as there can be.
     ///
@@ -60,7 +65,7 @@ pub trait RawRwLock {
     fn new(lot: &Arc<Self::Lot>, token: &mut Self::Token) -> Result<Self, Fault>
         requires { is_token_of (arc_value lot.now) token.old }
         ensures token { is_token_of (arc_value lot.now) token.new × stays token.old token.new }
-        ensures made { MatchResult result (λ lock. lot_of lock ≡ arc_value lot.now) (λ fault. (fault ≡ Fault.NoMemory) ⊎ (fault ≡ Fault.LotFull)) };
+        ensures made { MatchResult result (λ lock. lot_of lock ≡ arc_value lot.now) IsRefusal };
 
     /// A lock that nobody has, and that so many may share.
     ///
@@ -71,7 +76,7 @@ pub trait RawRwLock {
         requires token { is_token_of (arc_value lot.now) token.old }
         requires limit { limit ≤ 1152921504606846974 }
         ensures token { is_token_of (arc_value lot.now) token.new × stays token.old token.new }
-        ensures made { MatchResult result (λ lock. lot_of lock ≡ arc_value lot.now) (λ fault. (fault ≡ Fault.NoMemory) ⊎ (fault ≡ Fault.LotFull)) };
+        ensures made { MatchResult result (λ lock. lot_of lock ≡ arc_value lot.now) IsRefusal };
 
     /// Waits until no writer keeps readers out, and comes in to read.
     ///
@@ -85,8 +90,9 @@ pub trait RawRwLock {
     ) -> Result<Self::SharedGuard, Fault>
         requires { is_token_of (lot_of self.now) token.old }
         ensures token { is_token_of (lot_of self.now) token.new × stays token.old token.new }
-        ensures guard { MatchResult result (is_shared_of self.now) (λ fault. fault ≡ Fault.ReadersFull) }
-        ensures path { walked self.now (Enter access.Shared Patient) (reading_answer result) token.old token.new };
+        ensures guard { MatchResult result (is_shared_of self.now) IsFull }
+        ensures path { walked self.now (Enter access.Shared Patient) (reading_answer result) token.old token.new }
+        ensures full { IfErr result (λ _. saw_full self.now access.Shared token.old token.new) };
 
     /// Comes in to read where no writer keeps readers out. It may have to try again where others come and go.
     ///
@@ -100,8 +106,9 @@ pub trait RawRwLock {
     ) -> Result<Option<Self::SharedGuard>, Fault>
         requires { is_token_of (lot_of self.now) token.old }
         ensures token { is_token_of (lot_of self.now) token.new × stays token.old token.new }
-        ensures guard { MatchResult result (λ entered. IfSome entered (is_shared_of self.now)) (λ fault. fault ≡ Fault.ReadersFull) }
-        ensures path { walked self.now (Enter access.Shared Try) (counted_answer result) token.old token.new };
+        ensures guard { TriesOrFull result (is_shared_of self.now) }
+        ensures path { walked self.now (Enter access.Shared Try) (counted_answer result) token.old token.new }
+        ensures full { IfErr result (λ _. saw_full self.now access.Shared token.old token.new) };
 
     /// Gives the right to read up. The last reader wakes the writer that waits for it.
     fn unlock_shared<R: Wait>(&self, rt: &R, token: &mut Self::Token, guard: Self::SharedGuard)
@@ -207,8 +214,10 @@ pub trait RawRwLockTimed: RawRwLock {
     ) -> Result<Option<Self::SharedGuard>, Fault>
         requires { Self.is_token_of (Self.lot_of self.now) token.old }
         ensures token { Self.is_token_of (Self.lot_of self.now) token.new × Self.stays token.old token.new }
-        ensures guard { MatchResult result (λ entered. IfSome entered (Self.is_shared_of self.now)) (λ fault. fault ≡ Fault.ReadersFull) }
+        ensures guard { TriesOrFull result (Self.is_shared_of self.now) }
         ensures path { Self.walked self.now (Enter access.Shared Timed) (counted_answer result) token.old token.new }
+        ensures full { IfErr result (λ _. Self.saw_full self.now access.Shared token.old token.new) }
+        ensures left { IfOk result (λ entered. IfNone entered (Self.gave_up self.now (Enter access.Shared Timed) token.new)) }
         ensures late { IfOk result (λ entered. IfNone entered (HasElapsed (C.tells clock.now) (as_nanos timeout))) };
 
     /// The same, up to a deadline. None only where the clock had come to it.
@@ -225,8 +234,10 @@ pub trait RawRwLockTimed: RawRwLock {
     ) -> Result<Option<Self::SharedGuard>, Fault>
         requires { Self.is_token_of (Self.lot_of self.now) token.old }
         ensures token { Self.is_token_of (Self.lot_of self.now) token.new × Self.stays token.old token.new }
-        ensures guard { MatchResult result (λ entered. IfSome entered (Self.is_shared_of self.now)) (λ fault. fault ≡ Fault.ReadersFull) }
+        ensures guard { TriesOrFull result (Self.is_shared_of self.now) }
         ensures path { Self.walked self.now (Enter access.Shared Timed) (counted_answer result) token.old token.new }
+        ensures full { IfErr result (λ _. Self.saw_full self.now access.Shared token.old token.new) }
+        ensures left { IfOk result (λ entered. IfNone entered (Self.gave_up self.now (Enter access.Shared Timed) token.new)) }
         ensures late { IfOk result (λ entered. IfNone entered (HasPassed (C.tells clock.now) deadline)) };
 
     /// Waits until nobody has the lock, and takes it. None only where so much time, in nanoseconds of the clock, had passed.
@@ -243,6 +254,7 @@ pub trait RawRwLockTimed: RawRwLock {
         ensures token { Self.is_token_of (Self.lot_of self.now) token.new × Self.stays token.old token.new }
         ensures guard { IfSome result (Self.is_exclusive_of self.now) }
         ensures path { Self.walked self.now (Enter access.Exclusive Timed) (answer_by result) token.old token.new }
+        ensures left { IfNone result (Self.gave_up self.now (Enter access.Exclusive Timed) token.new) }
         ensures late { IfNone result (HasElapsed (C.tells clock.now) (as_nanos timeout)) };
 
     /// The same, up to a deadline. None only where the clock had come to it.
@@ -257,6 +269,7 @@ pub trait RawRwLockTimed: RawRwLock {
         ensures token { Self.is_token_of (Self.lot_of self.now) token.new × Self.stays token.old token.new }
         ensures guard { IfSome result (Self.is_exclusive_of self.now) }
         ensures path { Self.walked self.now (Enter access.Exclusive Timed) (answer_by result) token.old token.new }
+        ensures left { IfNone result (Self.gave_up self.now (Enter access.Exclusive Timed) token.new) }
         ensures late { IfNone result (HasPassed (C.tells clock.now) deadline) };
 }
 
@@ -282,8 +295,10 @@ pub trait RawRwLockUpgrade: RawRwLock {
     ) -> Result<Self::UpgradableGuard, Fault>
         requires { Self.is_token_of (Self.lot_of self.now) token.old }
         ensures token { Self.is_token_of (Self.lot_of self.now) token.new × Self.stays token.old token.new }
-        ensures guard { MatchResult result (is_upgradable_of self.now) (λ fault. fault ≡ Fault.ReadersFull) }
-        ensures path { Self.walked self.now (Enter access.Upgradable Patient) (reading_answer result) token.old token.new };
+        ensures guard { MatchResult result (is_upgradable_of self.now) IsFull }
+        ensures path { Self.walked self.now (Enter access.Upgradable Patient)
+            (reading_answer result) token.old token.new }
+        ensures full { IfErr result (λ _. Self.saw_full self.now access.Upgradable token.old token.new) };
 
     /// Comes in where nobody has the lock alone or with this right. It may have to try again where others come and go.
     ///
@@ -297,8 +312,9 @@ pub trait RawRwLockUpgrade: RawRwLock {
     ) -> Result<Option<Self::UpgradableGuard>, Fault>
         requires { Self.is_token_of (Self.lot_of self.now) token.old }
         ensures token { Self.is_token_of (Self.lot_of self.now) token.new × Self.stays token.old token.new }
-        ensures guard { MatchResult result (λ entered. IfSome entered (is_upgradable_of self.now)) (λ fault. fault ≡ Fault.ReadersFull) }
-        ensures path { Self.walked self.now (Enter access.Upgradable Try) (counted_answer result) token.old token.new };
+        ensures guard { TriesOrFull result (is_upgradable_of self.now) }
+        ensures path { Self.walked self.now (Enter access.Upgradable Try) (counted_answer result) token.old token.new }
+        ensures full { IfErr result (λ _. Self.saw_full self.now access.Upgradable token.old token.new) };
 
     /// Gives the right up, and wakes whom that lets in.
     fn unlock_upgradable<R: Wait>(
@@ -375,9 +391,11 @@ pub trait RawRwLockUpgradeDowngrade: RawRwLockUpgrade {
     ) -> Self::SharedGuard
         requires token { Self.RawRwLock.is_token_of (Self.RawRwLock.lot_of self.now) token.old }
         requires guard { Self.RawRwLockUpgrade.is_upgradable_of self.now guard }
-        ensures token { Self.RawRwLock.is_token_of (Self.RawRwLock.lot_of self.now) token.new × Self.RawRwLock.stays token.old token.new }
+        ensures token { Self.RawRwLock.is_token_of (Self.RawRwLock.lot_of self.now) token.new
+            × Self.RawRwLock.stays token.old token.new }
         ensures guard { Self.RawRwLock.is_shared_of self.now result }
-        ensures path { Self.RawRwLock.walked self.now (Downgrade downgrades.UpgradableToShared) answers.Ok token.old token.new }
+        ensures path { Self.RawRwLock.walked self.now (Downgrade downgrades.UpgradableToShared)
+            answers.Ok token.old token.new }
         ensures record { Self.RawRwLock.woke self.now (Downgrade downgrades.UpgradableToShared) token.old token.new };
 
     /// Turns the right of who has the lock alone into the upgradable one, in one step, and wakes whom that lets in.
@@ -389,9 +407,11 @@ pub trait RawRwLockUpgradeDowngrade: RawRwLockUpgrade {
     ) -> Self::UpgradableGuard
         requires token { Self.RawRwLock.is_token_of (Self.RawRwLock.lot_of self.now) token.old }
         requires guard { Self.RawRwLock.is_exclusive_of self.now guard }
-        ensures token { Self.RawRwLock.is_token_of (Self.RawRwLock.lot_of self.now) token.new × Self.RawRwLock.stays token.old token.new }
+        ensures token { Self.RawRwLock.is_token_of (Self.RawRwLock.lot_of self.now) token.new
+            × Self.RawRwLock.stays token.old token.new }
         ensures guard { Self.RawRwLockUpgrade.is_upgradable_of self.now result }
-        ensures path { Self.RawRwLock.walked self.now (Downgrade downgrades.ToUpgradable) answers.Ok token.old token.new }
+        ensures path { Self.RawRwLock.walked self.now (Downgrade downgrades.ToUpgradable)
+            answers.Ok token.old token.new }
         ensures record { Self.RawRwLock.woke self.now (Downgrade downgrades.ToUpgradable) token.old token.new };
 }
 
@@ -413,9 +433,13 @@ pub trait RawRwLockUpgradeTimed: RawRwLockUpgrade {
         timeout: Duration,
     ) -> Result<Option<Self::UpgradableGuard>, Fault>
         requires { Self.RawRwLock.is_token_of (Self.RawRwLock.lot_of self.now) token.old }
-        ensures token { Self.RawRwLock.is_token_of (Self.RawRwLock.lot_of self.now) token.new × Self.RawRwLock.stays token.old token.new }
-        ensures guard { MatchResult result (λ entered. IfSome entered (Self.RawRwLockUpgrade.is_upgradable_of self.now)) (λ fault. fault ≡ Fault.ReadersFull) }
-        ensures path { Self.RawRwLock.walked self.now (Enter access.Upgradable Timed) (counted_answer result) token.old token.new }
+        ensures token { Self.RawRwLock.is_token_of (Self.RawRwLock.lot_of self.now) token.new
+            × Self.RawRwLock.stays token.old token.new }
+        ensures guard { TriesOrFull result (Self.RawRwLockUpgrade.is_upgradable_of self.now) }
+        ensures path { Self.RawRwLock.walked self.now (Enter access.Upgradable Timed)
+            (counted_answer result) token.old token.new }
+        ensures full { IfErr result (λ _. Self.RawRwLock.saw_full self.now access.Upgradable token.old token.new) }
+        ensures left { IfOk result (λ entered. IfNone entered (Self.RawRwLock.gave_up self.now (Enter access.Upgradable Timed) token.new)) }
         ensures late { IfOk result (λ entered. IfNone entered (HasElapsed (C.tells clock.now) (as_nanos timeout))) };
 
     /// The same, up to a deadline. None only where the clock had come to it.
@@ -431,9 +455,13 @@ pub trait RawRwLockUpgradeTimed: RawRwLockUpgrade {
         deadline: u64,
     ) -> Result<Option<Self::UpgradableGuard>, Fault>
         requires { Self.RawRwLock.is_token_of (Self.RawRwLock.lot_of self.now) token.old }
-        ensures token { Self.RawRwLock.is_token_of (Self.RawRwLock.lot_of self.now) token.new × Self.RawRwLock.stays token.old token.new }
-        ensures guard { MatchResult result (λ entered. IfSome entered (Self.RawRwLockUpgrade.is_upgradable_of self.now)) (λ fault. fault ≡ Fault.ReadersFull) }
-        ensures path { Self.RawRwLock.walked self.now (Enter access.Upgradable Timed) (counted_answer result) token.old token.new }
+        ensures token { Self.RawRwLock.is_token_of (Self.RawRwLock.lot_of self.now) token.new
+            × Self.RawRwLock.stays token.old token.new }
+        ensures guard { TriesOrFull result (Self.RawRwLockUpgrade.is_upgradable_of self.now) }
+        ensures path { Self.RawRwLock.walked self.now (Enter access.Upgradable Timed)
+            (counted_answer result) token.old token.new }
+        ensures full { IfErr result (λ _. Self.RawRwLock.saw_full self.now access.Upgradable token.old token.new) }
+        ensures left { IfOk result (λ entered. IfNone entered (Self.RawRwLock.gave_up self.now (Enter access.Upgradable Timed) token.new)) }
         ensures late { IfOk result (λ entered. IfNone entered (HasPassed (C.tells clock.now) deadline)) };
 
     /// Upgrades, and gives up once so much time, in nanoseconds of the clock, had passed, and not before.
@@ -451,9 +479,12 @@ pub trait RawRwLockUpgradeTimed: RawRwLockUpgrade {
     ) -> Result<Self::ExclusiveGuard, Self::UpgradableGuard>
         requires token { Self.RawRwLock.is_token_of (Self.RawRwLock.lot_of self.now) token.old }
         requires guard { Self.RawRwLockUpgrade.is_upgradable_of self.now guard }
-        ensures token { Self.RawRwLock.is_token_of (Self.RawRwLock.lot_of self.now) token.new × Self.RawRwLock.stays token.old token.new }
-        ensures guard { MatchResult result (Self.RawRwLock.is_exclusive_of self.now) (Self.RawRwLockUpgrade.is_upgradable_of self.now) }
+        ensures token { Self.RawRwLock.is_token_of (Self.RawRwLock.lot_of self.now) token.new
+            × Self.RawRwLock.stays token.old token.new }
+        ensures guard { MatchResult result (Self.RawRwLock.is_exclusive_of self.now)
+            (Self.RawRwLockUpgrade.is_upgradable_of self.now) }
         ensures path { Self.RawRwLock.walked self.now (Upgrade Timed) (upgrade_answer result) token.old token.new }
+        ensures left { IfErr result (λ _. Self.RawRwLock.gave_up self.now (Upgrade Timed) token.new) }
         ensures late { IfErr result (λ _. HasElapsed (C.tells clock.now) (as_nanos timeout)) };
 
     /// The same, up to a deadline.
@@ -471,8 +502,11 @@ pub trait RawRwLockUpgradeTimed: RawRwLockUpgrade {
     ) -> Result<Self::ExclusiveGuard, Self::UpgradableGuard>
         requires token { Self.RawRwLock.is_token_of (Self.RawRwLock.lot_of self.now) token.old }
         requires guard { Self.RawRwLockUpgrade.is_upgradable_of self.now guard }
-        ensures token { Self.RawRwLock.is_token_of (Self.RawRwLock.lot_of self.now) token.new × Self.RawRwLock.stays token.old token.new }
-        ensures guard { MatchResult result (Self.RawRwLock.is_exclusive_of self.now) (Self.RawRwLockUpgrade.is_upgradable_of self.now) }
+        ensures token { Self.RawRwLock.is_token_of (Self.RawRwLock.lot_of self.now) token.new
+            × Self.RawRwLock.stays token.old token.new }
+        ensures guard { MatchResult result (Self.RawRwLock.is_exclusive_of self.now)
+            (Self.RawRwLockUpgrade.is_upgradable_of self.now) }
         ensures path { Self.RawRwLock.walked self.now (Upgrade Timed) (upgrade_answer result) token.old token.new }
+        ensures left { IfErr result (λ _. Self.RawRwLock.gave_up self.now (Upgrade Timed) token.new) }
         ensures late { IfErr result (λ _. HasPassed (C.tells clock.now) deadline) };
 }

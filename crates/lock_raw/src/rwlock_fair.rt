@@ -1,9 +1,9 @@
 //! Fair releases and bumps of raw reader-writer locks, as generic code sees them.
-ghost use Rattle.std.specs.Prelude.{◌≡◌, MatchResult};
+ghost use Rattle.std.specs.Prelude.{MatchResult};
 ghost use Rattle.lot_calls.specs.declared.calls.Access.TheVariants as access;
 ghost use Rattle.lot_calls.specs.declared.calls.RwLockCall.TheVariants.{ReleaseFair, Bump};
 ghost use Rattle.lot_calls.specs.declared.outcomes.Answer.TheVariants as answers;
-ghost use Rattle.lock_raw.specs.Answers.{reading_answer};
+ghost use Rattle.lock_raw.specs.Answers.{IsFull, reading_answer};
 
 use crate::rwlock::{RawRwLock, RawRwLockUpgrade};
 use lot_base::Fault;
@@ -48,7 +48,7 @@ pub trait RawRwLockFair: RawRwLock {
         requires token { Self.is_token_of (Self.lot_of self.now) token.old }
         requires guard { Self.is_shared_of self.now guard }
         ensures token { Self.is_token_of (Self.lot_of self.now) token.new × Self.stays token.old token.new }
-        ensures guard { MatchResult result (Self.is_shared_of self.now) (λ fault. fault ≡ Fault.ReadersFull) }
+        ensures guard { MatchResult result (Self.is_shared_of self.now) IsFull }
         ensures path { Self.walked self.now (Bump access.Shared) (reading_answer result) token.old token.new };
 
     /// Hands the lock to those who wait for it, and waits to have it alone again. Where nobody waits, keeps it.
@@ -77,7 +77,8 @@ pub trait RawRwLockUpgradeFair: RawRwLockUpgrade {
     )
         requires token { Self.RawRwLock.is_token_of (Self.RawRwLock.lot_of self.now) token.old }
         requires guard { Self.RawRwLockUpgrade.is_upgradable_of self.now guard }
-        ensures token { Self.RawRwLock.is_token_of (Self.RawRwLock.lot_of self.now) token.new × Self.RawRwLock.stays token.old token.new }
+        ensures token { Self.RawRwLock.is_token_of (Self.RawRwLock.lot_of self.now) token.new
+            × Self.RawRwLock.stays token.old token.new }
         ensures path { Self.RawRwLock.walked self.now (ReleaseFair access.Upgradable) answers.Ok token.old token.new }
         ensures record { Self.RawRwLock.woke self.now (ReleaseFair access.Upgradable) token.old token.new };
 
@@ -94,7 +95,8 @@ pub trait RawRwLockUpgradeFair: RawRwLockUpgrade {
     ) -> Result<Self::UpgradableGuard, Fault>
         requires token { Self.RawRwLock.is_token_of (Self.RawRwLock.lot_of self.now) token.old }
         requires guard { Self.RawRwLockUpgrade.is_upgradable_of self.now guard }
-        ensures token { Self.RawRwLock.is_token_of (Self.RawRwLock.lot_of self.now) token.new × Self.RawRwLock.stays token.old token.new }
-        ensures guard { MatchResult result (Self.RawRwLockUpgrade.is_upgradable_of self.now) (λ fault. fault ≡ Fault.ReadersFull) }
+        ensures token { Self.RawRwLock.is_token_of (Self.RawRwLock.lot_of self.now) token.new
+            × Self.RawRwLock.stays token.old token.new }
+        ensures guard { MatchResult result (Self.RawRwLockUpgrade.is_upgradable_of self.now) IsFull }
         ensures path { Self.RawRwLock.walked self.now (Bump access.Upgradable) (reading_answer result) token.old token.new };
 }

@@ -12,19 +12,13 @@ use Rattle.lot_acts.specs.declared.acts.Wakes.{Wakes}
 use Rattle.lot_acts.specs.declared.acts.Wakes as wakes
 use Rattle.lot_calls.specs.declared.outcomes.Outcome.{Outcome}
 use Rattle.lot_calls.specs.declared.outcomes.Outcome as outcome
-use Rattle.abstract_locks.specs.Codes.{bars, leaves_readers}
-use Rattle.abstract_locks.specs.OnceSteps.{still_waits}
-use Rattle.abstract_locks.specs.OnceSteps as once
-
--- who only waits for the end of a `Once`
-abbrev pub waits_for_end : Bool → once.Purpose
-waits_for_end forced = record { runs = false; forced = forced; timed = false }
+use Rattle.abstract_locks.specs.Codes.{bars, leaves_readers, leaves_unfinished}
 
 abbrev pub holds : Check → ℕ → Bool
 holds (WordIs value) word = word == value
 holds (Blocked want recursive) word = bars recursive want word
 holds ReadersLeft word = leaves_readers word
-holds (Unfinished forced) word = still_waits (waits_for_end forced) word
+holds (Unfinished forced) word = leaves_unfinished forced word
 
 -- whoever was taken is woken
 abbrev pub wakes_taken : Bool → Note → Wakes

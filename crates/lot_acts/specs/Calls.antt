@@ -19,6 +19,7 @@ call_by l row rights = record {
   retries = if row.retries then Some l else None;
   released = row.released;
   late = row.late;
+  failed = row.failed;
 }
 
 -- the call is made of the case, and it is time for it

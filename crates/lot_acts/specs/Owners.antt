@@ -6,6 +6,9 @@ use Rattle.lot_acts.specs.declared.owners.Owners.{Owners}
 use Rattle.lot_acts.specs.declared.owners.Pending as owners
 use Rattle.lot_acts.specs.declared.owners.Fallback.{Fallback}
 use Rattle.lot_acts.specs.declared.owners.Fallback.TheVariants as fallbacks
+use Rattle.lot_acts.specs.declared.owners.Phase.{Phase}
+use Rattle.lot_acts.specs.declared.owners.Phase.TheVariants as phases
+use Rattle.abstract_locks.specs.Onces as onces
 use Rattle.abstract_locks.specs.Locks.{LockState, Taken, Pending}
 use Rattle.abstract_locks.specs.Picks.{queued_of}
 
@@ -31,6 +34,17 @@ abbrev pub pending_owner : Option owners.Pending → Option Pending
 pending_owner None = None
 pending_owner (Some p) = Some (record { thread = p.thread; falls_back = is_upgradable p.fallback })
 
+-- the thread that runs the closure of a `Once`
+abbrev pub runner : Phase → Option ℕ
+runner (phases.InProgress t) = Some t
+runner phase = None
+
+abbrev pub phase_seen : Phase → onces.Phase
+phase_seen phases.New = onces.New
+phase_seen phases.Poisoned = onces.Poisoned
+phase_seen (phases.InProgress t) = onces.InProgress t
+phase_seen phases.Done = onces.Done
+
 -- by its owners, the waiters of its two lines, and those who are in somebody's hand
 abbrev pub lock_seen : List ℕ → Owners → List Waiter → List Waiter → (ℕ → Option Taken) → LockState
 lock_seen shared o main second taken = record {
@@ -41,4 +55,5 @@ lock_seen shared o main second taken = record {
   queue = map queued_of main;
   aside = first_of second;
   taken = taken;
+  phase = phase_seen o.phase;
 }

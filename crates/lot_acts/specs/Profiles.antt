@@ -44,6 +44,8 @@ pub record Profile : Type 0 where
   -- its time was up, and it has left the line
   pub late : Bool
   pub gave_up : Bool
+  -- its run of a `Once` failed
+  pub failed : Bool
   -- what its call is for, by the lock, and whether it has given its right up
   pub purpose : ℕ → Purpose
   pub released : Bool
@@ -64,6 +66,7 @@ blank = record {
   late_line = None;
   late = false;
   gave_up = false;
+  failed = false;
   purpose = λ l. Enters l Exclusive Try;
   released = false;
   former = λ l rights. rights;

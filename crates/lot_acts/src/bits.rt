@@ -16,23 +16,25 @@
 //! | 8 | somebody may stand in the queue |
 ghost use Rattle.std.specs.Prelude.{◌≡◌};
 ghost use Rattle.abstract_locks.specs.Codes as codes;
-ghost use Rattle.abstract_locks.specs.OnceSteps as once;
 
 use lot_base::Want;
 
 /// How many readers a reader-writer lock has, an upgradable owner among them.
+#[inline]
 pub fn count_in(word: u64) -> u64
     ensures { result ≡ codes.count_in word }
 {
     word / 16
 }
 
+#[inline]
 pub fn has_writer(word: u64) -> bool
     ensures { result ≡ codes.has_writer word }
 {
     word / 8 % 2 == 1
 }
 
+#[inline]
 pub fn has_upgradable(word: u64) -> bool
     ensures { result ≡ codes.has_upgradable word }
 {
@@ -40,6 +42,7 @@ pub fn has_upgradable(word: u64) -> bool
 }
 
 /// Whether a writer may stand in the second queue.
+#[inline]
 pub fn has_aside(word: u64) -> bool
     ensures { result ≡ codes.has_aside word }
 {
@@ -47,6 +50,7 @@ pub fn has_aside(word: u64) -> bool
 }
 
 /// Whether somebody may stand in the main queue.
+#[inline]
 pub fn has_parked(word: u64) -> bool
     ensures { result ≡ codes.has_parked word }
 {
@@ -55,6 +59,7 @@ pub fn has_parked(word: u64) -> bool
 
 /// Whether the owners of a reader-writer lock keep out who wants this. A recursive lock lets readers in beside
 /// readers.
+#[inline(always)]
 pub fn is_blocked(recursive: bool, want: Want, word: u64) -> bool
     ensures { result ≡ codes.is_blocked recursive want word }
 {
@@ -66,21 +71,28 @@ pub fn is_blocked(recursive: bool, want: Want, word: u64) -> bool
 
 /// Whether a `Once` is done.
 pub fn is_done(word: u64) -> bool
-    ensures { result ≡ once.is_done word }
+    ensures { result ≡ codes.is_done word }
 {
     word % 2 == 1
 }
 
 /// Whether the last run of a `Once` failed.
 pub fn is_poisoned(word: u64) -> bool
-    ensures { result ≡ once.is_poisoned word }
+    ensures { result ≡ codes.is_poisoned word }
 {
     word / 2 % 2 == 1
 }
 
+/// Whether some thread runs a `Once`.
+pub fn is_running(word: u64) -> bool
+    ensures { result ≡ codes.is_running word }
+{
+    word / 4 % 2 == 1
+}
+
 /// Whether somebody may stand in the queue of a `Once`.
 pub fn is_marked(word: u64) -> bool
-    ensures { result ≡ once.is_marked word }
+    ensures { result ≡ codes.is_marked word }
 {
     word / 8 == 1
 }

@@ -7,4 +7,4 @@ pub mod owners;
 
 pub use acts::{Act, Check, Next, Reply, Wakes, Whom, takes_effect};
 pub use lot_base::Op;
-pub use owners::{Fallback, Owner, Owners, Pending};
+pub use owners::{Fallback, Owner, Owners, Pending, Phase};

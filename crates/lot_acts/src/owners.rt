@@ -1,5 +1,6 @@
 //! Who owns a lock.
 ghost use Rattle.std.specs.Prelude.{◌≡◌, Option};
+ghost use Rattle.lot_acts.specs.Owners.{runner};
 
 /// A sort of ownership.
 #[derive(Clone, Copy, Debug, PartialEq, Eq)]
@@ -27,13 +28,25 @@ pub struct Pending {
     pub fallback: Fallback,
 }
 
-/// The owners of a lock, of each sort that one thread has alone.
+/// How far a `Once` has come.
+#[derive(Clone, Copy, Debug, PartialEq, Eq)]
+pub enum Phase {
+    New,
+    /// The last run failed.
+    Poisoned,
+    /// A thread runs its closure.
+    InProgress(usize),
+    /// A run succeeded, and no other begins.
+    Done,
+}
+
+/// The owners of a lock, of each sort that one thread has alone; of a `Once`, how far it has come.
 #[derive(Clone, Copy, Debug, PartialEq, Eq)]
 pub struct Owners {
     pub exclusive: Option<usize>,
     pub pending: Option<Pending>,
     pub upgradable: Option<usize>,
-    pub running: Option<usize>,
+    pub phase: Phase,
 }
 
 impl Owners {
@@ -41,7 +54,7 @@ impl Owners {
         exclusive: None,
         pending: None,
         upgradable: None,
-        running: None,
+        phase: Phase::New,
     };
 
     /// The same owners but for the exclusive one.
@@ -68,6 +81,25 @@ impl Owners {
         Owners {
             upgradable: thread,
             ..self
+        }
+    }
+
+    /// The same owners but for the phase.
+    pub fn with_phase(self, phase: Phase) -> Owners
+        ensures { result ≡ record self { phase = phase } }
+    {
+        Owners { phase, ..self }
+    }
+}
+
+impl Phase {
+    /// The thread that runs the closure.
+    pub fn runner(self) -> Option<usize>
+        ensures { result ≡ runner self }
+    {
+        match self {
+            Phase::InProgress(thread) => Some(thread),
+            Phase::New | Phase::Poisoned | Phase::Done => None,
         }
     }
 }

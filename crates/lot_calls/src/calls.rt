@@ -71,6 +71,15 @@ pub enum RwLockCall {
     Bump(Access),
 }
 
+/// The calls of a `Once`. One that is forced goes on where the last run failed; any other answers `Poisoned` there.
+#[derive(Clone, Copy, Debug, PartialEq, Eq)]
+pub enum OnceCall {
+    /// Runs a closure, unless a run has succeeded, and waits while another runs.
+    CallOnce { forced: bool },
+    /// Waits until a run has succeeded.
+    Wait { forced: bool },
+}
+
 /// What a thread is to do.
 #[derive(Clone, Copy, Debug, PartialEq, Eq)]
 pub enum Turn {

@@ -17,6 +17,7 @@ pub mod Turning
 pub mod RwLockCalling
 pub mod RwLockCourses
 pub mod RwLockTakes
+pub mod RwLockFull
 pub mod RwLockRights
 pub mod TakesFew
 pub mod Behind

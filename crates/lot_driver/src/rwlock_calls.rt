@@ -15,7 +15,7 @@ ghost use Rattle.lot_driver.specs.Stages.{stage_of};
 ghost use Rattle.lot_driver.specs.Telling.{owns_of, steps_of};
 ghost use Rattle.lot_driver.specs.Words.{alone, kind_in, at_in};
 
-use crate::courses::{Course, answer_with, course_of, opening, taken};
+use crate::courses::{Course, answer_with, course_of, opening};
 use crate::driver::{Stop, answer_of, run};
 use crate::words::Words;
 use lot_calls::Answer;
@@ -162,7 +162,7 @@ fn take_right<R: Wait, C: Clock>(
         → IsOver (IsUp C.tells limit.entry) base
         (aim_of (next_place (rwlock_begin word.number admission purpose) (Value seen))) result (stage_of token.new None) }
 {
-    let to = taken(purpose, seen);
+    let to = purpose.taken(seen);
     let found = lot.word(token, word, Op::Exchange { from: seen, to });
     if found == seen {
         return answer_with(purpose);

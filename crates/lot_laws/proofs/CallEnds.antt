@@ -24,7 +24,7 @@ use Rattle.lot_rwlock_fair.specs.declared.hand_over.HandOverAt.TheVariants as ha
 use Rattle.lot_rwlock_fair.specs.FairBegins.{call_first}
 use Rattle.lot_rwlock_fair.specs.FairDeeds.{call_doing}
 use Rattle.lot_rwlock_fair.specs.FairSteps.{enters_again, gives_way}
-use Rattle.abstract_locks.specs.Locks.{LockState, Rights, Sort, Mutex as Mutual, Normal, Recursive, Semaphore, Rules, IsBlocked, IsFree, MayEnter, Owns, count, is_recursive, one_if_some, readers, rights_of, with_right}
+use Rattle.abstract_locks.specs.Locks.{LockState, Rights, Sort, Mutex as Mutual, Normal, Recursive, Semaphore, Once, Rules, IsBlocked, IsFree, MayEnter, Owns, count, is_recursive, one_if_some, readers, rights_of, with_right}
 use Rattle.abstract_locks.specs.Codes.{TellsTrue, bit, code, count_in, has_parked, has_writer, writers}
 use Rattle.abstract_locks.specs.Purposes.{Bumps, rwlock_purpose}
 use Rattle.abstract_locks.specs.Runs.{LocksState, IsRun, one_more_at, rules_at}
@@ -124,12 +124,19 @@ module _ (w : State) (t l : ℕ) (a : Admission) (x : Access) (holds : IsWorld w
   site : IsSite (rules_in w l) (site_of w l)
   site = holds.steady.sites.site l
 
+  -- who is to set the bit of a lock that is shared has taken waiters
+  covers : (u : ℕ) → ((site_of w l).doing u).sets ≡ true → ((site_of w l).doing u).covers ≡ true
+  covers u sets = elim (site.setting u sets) [
+    | inl has ↦ has
+    | inr once ↦ absurd (let f : has_readers Once ≡ true = subst (λ sort. has_readers sort ≡ true) once.0 admits.0 in cc)
+  ]
+
   -- nobody else is inside, and it sets no bit itself
   has_waiter : ((u : ℕ) → section_at w (key_of l Main) ≡ Some u → u ≡ t) → s.queue ≢ [] → has_parked word ≡ true
   has_waiter way some = elim (site.parked some) [
     | inl h ↦ ap has_parked coded ∙ tells.parked ∙ h
     | inr h ↦ absurd (
-        let covered = site.covered h.0 (site.setting h.0 h.1) in
+        let covered = site.covered h.0 (covers h.0 h.1) in
         let inside : section_at w (key_of l Main) ≡ Some h.0 = (holds.steady.stands.sections h.0 l Main).0 (sym (inside_is (place_at w h.0) l) ∙ covered.0) in
         let here : (doing_on (place_at w t) l).sets ≡ true = subst (λ u. (doing_on (place_at w u) l).sets ≡ true) (way h.0 inside) h.1 in
         let f : false ≡ true = sym (ap (λ (d : Doing). d.sets) doing_now) ∙ here in cc)
@@ -162,6 +169,7 @@ module _ (w : State) (t l : ℕ) (a : Admission) (x : Access) (holds : IsWorld w
       by_sort Normal e f = ap (λ (b : Bool). not b || (count_in word == 1)) (sym f)
       by_sort Mutual e f = ap (λ (b : Bool). not b || (count_in word == 1)) (sym f)
       by_sort Semaphore e f = ap (λ (b : Bool). not b || (count_in word == 1)) (sym f)
+      by_sort Once e f = ap (λ (b : Bool). not b || (count_in word == 1)) (sym f)
 
   reads_last : (not a.recursive || (count_in word == 1)) ≡ true → (rules_in w l).sort ≡ Recursive → count s ≡ 1
   reads_last h e = sym counted ∙ eqb-true (count_in word) 1 (ap (λ (b : Bool). not b || (count_in word == 1)) (ap is_recursive (sym e) ∙ admits.1) ∙ h)

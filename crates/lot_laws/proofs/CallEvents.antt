@@ -14,6 +14,7 @@ use Rattle.lot_steps.specs.Steps.{lock_of, profile}
 use Rattle.lot_steps.specs.declared.places.Place.{Place}
 use Rattle.lot_steps.specs.declared.places.Place.TheVariants.{Idle}
 use Rattle.abstract_locks.specs.Purposes.{Purpose, IsMadeOf, rules_of}
+use Rattle.abstract_locks.specs.Onces.{OnceCase, Start, Finish, Fail, Rest, TakeAll}
 use Rattle.abstract_locks.specs.Locks as locks
 use Rattle.abstract_locks.specs.Locks.{LockState, Rules, Rights, LockCase, HandOff, HasTakenNobody, Queued, Needs, putting, rights_of, standing}
 use Rattle.abstract_locks.specs.Runs.{LocksState, IsTimely, rules_at as locks_rules, CallState, Event, AtLock, MayHappen, Agrees, AnswerHolds, GoesOn, locks_after, going_on, woken, unless_ended}
@@ -127,6 +128,14 @@ same_purpose l (Some case) x = by_case case
     by_case locks.Aside = refl
     by_case (locks.Leave y) = refl
     by_case (locks.HandOff y z) = refl
+    by_case (locks.OfOnce case) = by_once case
+      where
+        by_once : (case : OnceCase) → (going_on (AtLock l (locks.OfOnce case)) x).purpose ≡ x.purpose
+        by_once (Start forced) = refl
+        by_once Finish = refl
+        by_once Fail = refl
+        by_once (Rest wanted forced) = refl
+        by_once TakeAll = refl
     by_case case = refl
 
 -- a case may happen where the call is made of it and what it needs is there

@@ -1,5 +1,5 @@
 -- A thread that hands its lock over counts those whom it takes: what its place says of them then is so.
-use Rattle.std.proofs.Common.{ℕ, Bool, false, Option, Some, None, if◌then◌else◌, ◌==◌, ◌≡◌, ◌+◌, ◌*◌, ◌<◌, ◌≤◌, inl, inr, List, [], ◌∷◌, length, set, get_or, map, refl, sym, ◌∙◌, ap, subst, arith, get_or-set_same, get_or-set_other, length-set}
+use Rattle.std.proofs.Common.{ℕ, Bool, true, false, Option, Some, None, if◌then◌else◌, ◌==◌, ◌≡◌, ◌≢◌, ◌+◌, ◌*◌, ◌<◌, ◌≤◌, inl, inr, List, [], ◌∷◌, length, set, get_or, map, refl, sym, ◌∙◌, ap, subst, arith, get_or-set_same, get_or-set_other, length-set}
 use Rattle.std.proofs.lemmas.Bool.{cases_eq, cases_lt}
 use Rattle.std.proofs.lemmas.List.{set_past}
 use Rattle.lot_base.specs.declared.wants.Waiter.{Waiter}
@@ -22,14 +22,14 @@ use Rattle.lot_rwlock_fair.specs.FairSteps.{took}
 use Rattle.lot_steps.specs.declared.places.Place.{Place}
 use Rattle.lot_steps.specs.declared.places.Place.TheVariants.{Idle, RwLock}
 use Rattle.lot_steps.specs.Steps.{next_place}
-use Rattle.abstract_locks.specs.Locks.{HasTakenNobody, LockState, is_recursive, picked, wants_shared}
+use Rattle.abstract_locks.specs.Locks.{HasTakenNobody, LockState, Once, is_recursive, picked, wants_shared}
 use Rattle.abstract_locks.specs.Picks.{queued_of}
 use Rattle.abstract_locks.specs.Runs.{Turned}
-use Rattle.abstract_locks.specs.Sites.{Main}
+use Rattle.abstract_locks.specs.Sites.{Main, has_readers}
 use Rattle.lot_machine.specs.Machine.{State, held, place_at, places_told, put, queue_at, sharers, state_after_take, successor_from, want_of_successor, wants_more_in_hand}
 use Rattle.lot_machine.proofs.QueueLemmas.{told_count}
 use Rattle.lot_laws.specs.Refinement.{lock_state, locks_of}
-use Rattle.lot_laws.specs.SitesOf.{IsCounted, IsSteady, carried_at, rules_in}
+use Rattle.lot_laws.specs.SitesOf.{FitsItsLock, IsCounted, IsSteady, carried_at, rules_in}
 use Rattle.lot_laws.specs.Stations.{nowhere, station}
 use Rattle.lot_laws.proofs.AtPlaces.{in_no_hand}
 use Rattle.lot_laws.proofs.Counting.{HasCounted, counting_row, counted_on}
@@ -57,9 +57,9 @@ module _ (w : State) (t l : ℕ) (steady : IsSteady w) where
       omega arith)
 
   -- behind a step of a thread that had nobody in hand
-  one_more_then : (v : State) (x : Turn) (o : Outcome) → Turned (locks_of w) t x o (locks_of v) → HasTakenNobody (lock_state w l) t → OneMore (lock_state v l).taken t
-  one_more_then v x o turned none = turned_so (λ (s z : LockState). OneMore z.taken t) (locks_of w) (locks_of v) t l (nobody_more t (lock_state w l).taken none)
-      (λ c needs. takes_one_more (lock_state w l) t none (rules_in w l) few_picked c needs) x o turned
+  one_more_then : (v : State) (x : Turn) (o : Outcome) → (rules_in w l).sort ≢ Once → Turned (locks_of w) t x o (locks_of v) → HasTakenNobody (lock_state w l) t → OneMore (lock_state v l).taken t
+  one_more_then v x o lock turned none = turned_so (λ (s z : LockState). OneMore z.taken t) (locks_of w) (locks_of v) t l (nobody_more t (lock_state w l).taken none)
+      (λ c needs. takes_one_more (lock_state w l) t none (rules_in w l) lock few_picked c needs) x o turned
 
 -- by where it stands then
 one_in_hand : (v : State) (t l : ℕ) → IsSteady v → HasCounted l (place_at v t) → OneMore (lock_state v l).taken t
@@ -126,9 +126,15 @@ module _ (w : State) (t l : ℕ) (a : Admission) (x : Access) (b : Bool) (steady
   nobody_before = in_no_hand w steady t l (λ h. let none : carried_at (place_at w t) l ≡ None = ap (λ p. carried_at p l) is ∙ ap (λ y. (if y then station (RwLock l a (HandOver x b handing.Take)) else nowhere).carries) (same l) in
       let f : ◌≡◌ {A = Option Bool} None (Some false) = sym none ∙ h in cc)
 
+  -- a lock that is shared
+  shared : (rules_in w l).sort ≢ Once
+  shared once =
+      let fits : FitsItsLock w (RwLock l a (HandOver x b handing.Take)) = subst (FitsItsLock w) is (steady.stands.calls t) in
+      let f : has_readers Once ≡ true = subst (λ sort. has_readers sort ≡ true) once fits.0.0 in cc
+
   pub take_counts : IsSteady state_then → (y : Turn) (o : Outcome) → Turned (locks_of w) t y o (locks_of state_then) → IsCounted state_then t picked_now
   take_counts behind y o turned = record {
     number = same_sharers taken_all state_then t (length-set taken_all.places t place_then) same_wants;
     more = ap want_of_successor (same_successor taken_all state_then t (length-set taken_all.places t place_then) same_wants);
-    one = one_in_hand state_then t l behind (subst (HasCounted l) (sym at_then) (counting_row l picked_now place_then counts)) (one_more_then w t l steady state_then y o turned nobody_before);
+    one = one_in_hand state_then t l behind (subst (HasCounted l) (sym at_then) (counting_row l picked_now place_then counts)) (one_more_then w t l steady state_then y o shared turned nobody_before);
   }

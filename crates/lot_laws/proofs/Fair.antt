@@ -37,7 +37,8 @@ use Rattle.lot_laws.proofs.Closures.{nothing_closes}
 use Rattle.lot_machine.proofs.Shape.{both, looking_shaped}
 use Rattle.lot_laws.proofs.Looking.{looking_steady, locks_same, looks_now, calls_same}
 use Rattle.std.specs.Prelude.{nat_lt}
-use Rattle.abstract_locks.specs.Locks.{LockState, Rules, Rights, Taken, LockCase, Enter, Pend, Settle, Leave, Convert, Park, Aside, TakeFirst, TakeAside, TakePicked, Wake, HandOff as HandsLockOff, Late, Rollback, Needs, IsTaken, HasTakenNobody, IsLockState, keep_from, first_thread, Owns}
+use Rattle.abstract_locks.specs.Onces.{OnceCase, Start, Finish, Fail, Rest, TakeAll}
+use Rattle.abstract_locks.specs.Locks.{LockState, Rules, Rights, Taken, LockCase, Enter, Pend, Settle, Leave, Convert, Park, Aside, TakeFirst, TakeAside, TakePicked, Wake, HandOff as HandsLockOff, Late, Rollback, OfOnce, Needs, IsTaken, HasTakenNobody, IsLockState, keep_from, first_thread, Owns}
 use Rattle.abstract_locks.specs.Locks as locks
 use Rattle.abstract_locks.specs.Runs.{LocksState, CallState, Event, Nothing, AtLock, AreLockStates, GoesOn, Stays, Does, MayHappen, IsStep, Turned, rules_at, locks_after}
 use Rattle.lot_laws.specs.Refinement.{lock_state, locks_of, call_state, owner_at}
@@ -64,7 +65,7 @@ use Rattle.lot_acts.specs.Owners.{with_exclusive}
 use Rattle.lot_laws.proofs.CallEvents.{rights}
 use Rattle.lot_laws.proofs.LockSteps.{after_step}
 use Rattle.abstract_locks.proofs.Runs.{needs_of}
-use Rattle.abstract_locks.specs.Purposes.{Purpose, Enters, Releases, Converts, Bumps, lock_for}
+use Rattle.abstract_locks.specs.Purposes.{Purpose, Enters, Releases, Converts, Bumps, CallsOnce, Awaits, lock_for}
 use Rattle.abstract_locks.specs.Sites.{has_readers}
 use Rattle.lot_rwlock_fair.specs.FairProfiles.{call_profile}
 use Rattle.lot_laws.proofs.CallRows.{call_promises}
@@ -77,8 +78,18 @@ released_lock (Enters k x how) l h = absurd h
 released_lock (Converts k x y how) l h = absurd h
 released_lock (Releases k x fair) l h = absurd h
 released_lock (Bumps k x) l h = absurd h
+released_lock (CallsOnce k forced) l h = absurd h
+released_lock (Awaits k forced) l h = absurd h
 
 -- ---------------------------------------------------------------- what others do to an owner
+
+-- what is done to a `Once` changes no owner
+once_keeps : (case : OnceCase) (s : LockState) (u : ℕ) → ((locks.once_after case s u).exclusive ≡ s.exclusive) × ((locks.once_after case s u).upgradable ≡ s.upgradable)
+once_keeps (Start forced) s u = (refl, refl)
+once_keeps Finish s u = (refl, refl)
+once_keeps Fail s u = (refl, refl)
+once_keeps (Rest wanted forced) s u = (refl, refl)
+once_keeps TakeAll s u = (refl, refl)
 
 -- no case of another thread takes a lock from its owner
 others_keep : (r : Rules) (s : LockState) (t u : ℕ) → IsLockState r s → s.exclusive ≡ Some t → u ≢ t → (c : LockCase) → Needs r c s u → (locks.after_case r c s u).exclusive ≡ Some t
@@ -96,6 +107,7 @@ others_keep r s t u is own ne (TakePicked start) n = own
 others_keep r s t u is own ne Wake n = own
 others_keep r s t u is own ne (HandsLockOff right x) n = grind (arith, is.exclusive_alone t own)
 others_keep r s t u is own ne Late n = own
+others_keep r s t u is own ne (OfOnce case) n = (once_keeps case s u).0 ∙ own
 others_keep r s t u is own ne Rollback n = grind (arith, is.exclusive_alone t own)
 
 upgradable_keep : (r : Rules) (s : LockState) (t u : ℕ) → IsLockState r s → s.upgradable ≡ Some t → u ≢ t → (c : LockCase) → Needs r c s u → (locks.after_case r c s u).upgradable ≡ Some t
@@ -113,6 +125,7 @@ upgradable_keep r s t u is own ne (TakePicked start) n = own
 upgradable_keep r s t u is own ne Wake n = own
 upgradable_keep r s t u is own ne (HandsLockOff right x) n = grind (arith, is.exclusive_alone u)
 upgradable_keep r s t u is own ne Late n = own
+upgradable_keep r s t u is own ne (OfOnce case) n = (once_keeps case s u).1 ∙ own
 upgradable_keep r s t u is own ne Rollback n = grind (arith, is.pending_alone)
 
 -- whoever is taken from a mutex stood first
@@ -137,6 +150,7 @@ taken_was s t u a x is (TakePicked start) n h = absurd n.1
 taken_was s t u a x is Wake n h = inl (let_go_was a (s.taken u) _ h)
 taken_was s t u a x is (HandsLockOff right y) n h = inl (grind (arith, let_go_was))
 taken_was s t u a x is Late n h = inl h
+taken_was s t u a x is (OfOnce case) n h = absurd (let e : locks.Mutex ≡ locks.Once = n.0 in cc)
 taken_was s t u a x is Rollback n h = inl (grind arith)
 
 -- what holds of a lock before and after each case, and where nothing happens, holds of each step

@@ -5,7 +5,8 @@ use Rattle.std.proofs.lemmas.Bool.{eqb-true}
 use Rattle.std.proofs.lemmas.Bool.Decides.{nat_tests}
 use Rattle.lot_base.specs.declared.wants.Want.{Want}
 use Rattle.lot_base.specs.declared.wants.Want.TheVariants.{Exclusive, Upgradable, Shared, Wait, CallOnce}
-use Rattle.abstract_locks.specs.Locks.{LockState, Rules, Queued, Taken, LockCase, Enter, Pend, Settle, Leave, Convert, Park, Aside, TakeFirst, TakeAside, TakePicked, Wake, HandOff, Late, Rollback, Needs, IsTaken, HasTakenNobody, IsLockState, keep_from, one_if_some, picked, putting, standing, taking, times, unpicked, wants_shared}
+use Rattle.abstract_locks.specs.Locks.{LockState, Rules, Queued, Taken, LockCase, Sort, Once, OfOnce, Enter, Pend, Settle, Leave, Convert, Park, Aside, TakeFirst, TakeAside, TakePicked, Wake, HandOff, Late, Rollback, Needs, IsTaken, HasTakenNobody, IsLockState, keep_from, one_if_some, picked, putting, standing, taking, times, unpicked, wants_shared}
+use Rattle.abstract_locks.specs.Onces.{OnceCase, Start, Finish, Fail, Rest, TakeAll}
 use Rattle.abstract_locks.specs.Locks as locks
 use Rattle.abstract_locks.proofs.Hands.{is_handed, kept_by, taking_by, taking_others, times_picked}
 use Rattle.lot_laws.proofs.Glue.{differ}
@@ -58,6 +59,13 @@ aside_holds t a u v taken ne free = either (u == v) refl
     either true e = another_hand t (Some (record { by = a; want = Exclusive })) (λ h f g. let mine : record { by = a; want = Exclusive } ≡ h = cc in ne (sym g ∙ sym (ap (λ (j : Taken). j.by) mine)))
         ∙ sym (ap (wanted_of t) (free (eqb-true u v e)))
 
+once_holds : (r : Rules) (s : LockState) (t a u : ℕ) → IsLockState r s → t ≢ a → (c : OnceCase) → wanted_of t ((locks.once_after c s a).taken u) ≡ wanted_of t (s.taken u)
+once_holds r s t a u is ne (Start forced) = refl
+once_holds r s t a u is ne Finish = refl
+once_holds r s t a u is ne Fail = refl
+once_holds r s t a u is ne (Rest wanted forced) = refl
+once_holds r s t a u is ne TakeAll = taken_holds t a u s.queue s.taken ne (λ h. in_line_free r s u is (omega arith))
+
 pub others_hold : (r : Rules) (s : LockState) (t a u : ℕ) → IsLockState r s → t ≢ a → (c : LockCase) → Needs r c s a → wanted_of t ((locks.after_case r c s a).taken u) ≡ wanted_of t (s.taken u)
 others_hold r s t a u is ne (Enter x) n = ap (wanted_of t) (let e : (locks.after_case r (Enter x) s a).taken u ≡ s.taken u = grind arith in e)
 others_hold r s t a u is ne Pend n = refl
@@ -72,6 +80,7 @@ others_hold r s t a u is ne (TakePicked start) n = taken_holds t a u (picked r.s
 others_hold r s t a u is ne Wake n = kept_holds t a (s.taken u) ne
 others_hold r s t a u is ne (HandOff right x) n = ap (wanted_of t) ((is_handed a right x s).taken u) ∙ kept_holds t a (s.taken u) ne
 others_hold r s t a u is ne Late n = refl
+others_hold r s t a u is ne (OfOnce case) n = once_holds r s t a u is ne case
 others_hold r s t a u is ne Rollback n = ap (wanted_of t) (let e : (locks.after_case r Rollback s a).taken u ≡ s.taken u = grind arith in e)
 
 -- ---------------------------------------------------------------- a case of its own
@@ -162,18 +171,19 @@ module _ (s : LockState) (t : ℕ) (none : HasTakenNobody s t) where
   let_go_then : (z : LockState) → ((u : ℕ) → z.taken u ≡ keep_from t (s.taken u)) → OneMore z.taken t
   let_go_then z e = nobody_more t z.taken (λ u y h. kept_none t u s y (sym (e u) ∙ h))
 
-  pub takes_one_more : (r : Rules) → ((start : Option Want) → wanting_more (picked r.sort start s.queue) ≤ 1) → (c : LockCase) → Needs r c s t → OneMore (locks.after_case r c s t).taken t
-  takes_one_more r few (Enter x) n = as_before (locks.after_case r (Enter x) s t) (λ u. grind arith)
-  takes_one_more r few Pend n = as_before (locks.after_case r Pend s t) (λ u. refl)
-  takes_one_more r few Settle n = as_before (locks.after_case r Settle s t) (λ u. refl)
-  takes_one_more r few (Leave right) n = as_before (locks.after_case r (Leave right) s t) (λ u. grind arith)
-  takes_one_more r few (Convert right x) n = as_before (locks.after_case r (Convert right x) s t) (λ u. grind arith)
-  takes_one_more r few (Park x) n = as_before (locks.after_case r (Park x) s t) (λ u. refl)
-  takes_one_more r few Aside n = as_before (locks.after_case r Aside s t) (λ u. refl)
-  takes_one_more r few (TakeFirst x) n = one_taken t s (x ∷ []) none (few_first x)
-  takes_one_more r few (TakeAside v) n = one_taken t s (record { thread = v; want = Exclusive } ∷ []) none (few_first (record { thread = v; want = Exclusive }))
-  takes_one_more r few (TakePicked start) n = one_taken t s (picked r.sort start s.queue) none (few start)
-  takes_one_more r few Wake n = let_go_then (locks.after_case r Wake s t) (λ u. refl)
-  takes_one_more r few (HandOff right x) n = let_go_then (locks.after_case r (HandOff right x) s t) (is_handed t right x s).taken
-  takes_one_more r few Late n = as_before (locks.after_case r Late s t) (λ u. refl)
-  takes_one_more r few Rollback n = as_before (locks.after_case r Rollback s t) (λ u. grind arith)
+  pub takes_one_more : (r : Rules) → r.sort ≢ Once → ((start : Option Want) → wanting_more (picked r.sort start s.queue) ≤ 1) → (c : LockCase) → Needs r c s t → OneMore (locks.after_case r c s t).taken t
+  takes_one_more r lock few (Enter x) n = as_before (locks.after_case r (Enter x) s t) (λ u. grind arith)
+  takes_one_more r lock few Pend n = as_before (locks.after_case r Pend s t) (λ u. refl)
+  takes_one_more r lock few Settle n = as_before (locks.after_case r Settle s t) (λ u. refl)
+  takes_one_more r lock few (Leave right) n = as_before (locks.after_case r (Leave right) s t) (λ u. grind arith)
+  takes_one_more r lock few (Convert right x) n = as_before (locks.after_case r (Convert right x) s t) (λ u. grind arith)
+  takes_one_more r lock few (Park x) n = as_before (locks.after_case r (Park x) s t) (λ u. refl)
+  takes_one_more r lock few Aside n = as_before (locks.after_case r Aside s t) (λ u. refl)
+  takes_one_more r lock few (TakeFirst x) n = one_taken t s (x ∷ []) none (few_first x)
+  takes_one_more r lock few (TakeAside v) n = one_taken t s (record { thread = v; want = Exclusive } ∷ []) none (few_first (record { thread = v; want = Exclusive }))
+  takes_one_more r lock few (TakePicked start) n = one_taken t s (picked r.sort start s.queue) none (few start)
+  takes_one_more r lock few Wake n = let_go_then (locks.after_case r Wake s t) (λ u. refl)
+  takes_one_more r lock few (HandOff right x) n = let_go_then (locks.after_case r (HandOff right x) s t) (is_handed t right x s).taken
+  takes_one_more r lock few Late n = as_before (locks.after_case r Late s t) (λ u. refl)
+  takes_one_more r lock few Rollback n = as_before (locks.after_case r Rollback s t) (λ u. grind arith)
+  takes_one_more r lock few (OfOnce case) n = absurd (lock n.0)

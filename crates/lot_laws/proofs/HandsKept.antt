@@ -19,7 +19,7 @@ use Rattle.lot_acts.specs.Profiles.{hand, Hand, Of, in_hand as in_hand_if, taken
 use Rattle.lot_steps.specs.declared.places.Place.{Place}
 use Rattle.lot_steps.specs.declared.places.Place.TheVariants.{Idle}
 use Rattle.lot_steps.specs.Steps.{calls, next_place, owners_after, profile, taker, wants}
-use Rattle.abstract_locks.specs.Locks.{LockState, Queued, Taken, Rules, Sort, Mutex, Normal, Recursive, Semaphore, HandOff, IsSuccessor, Knows, IsLockState, keep_from, let_go, putting, sharing_from, sharing_handed, shares_handed, succeeding, wants_shared, with_owner, with_successor, without_owner, handed, readers}
+use Rattle.abstract_locks.specs.Locks.{LockState, Queued, Taken, Rules, Sort, Mutex, Normal, Recursive, Semaphore, Once, HandOff, IsSuccessor, Knows, IsLockState, keep_from, let_go, putting, sharing_from, sharing_handed, shares_handed, succeeding, wants_shared, with_owner, with_successor, without_owner, handed, readers}
 use Rattle.abstract_locks.specs.Locks as locks
 use Rattle.abstract_locks.specs.Sites.{Doing, Site, IsSite, Deed, Has, Begin, Case, Holds, has_readers, is_full, after_deed}
 use Rattle.abstract_locks.specs.Codes.{code, code_of, fills, has_aside, has_parked, HasLimit, TellsTrue}
@@ -128,16 +128,15 @@ module _ (t : ℕ) (alone : Bool) where
             either false g = tt
 
 -- no sort of lock with readers knows other wants than these
-unknown : (sort : Sort) (x : Want) → x ≢ Exclusive → x ≢ Upgradable → x ≢ Shared → Knows sort x → ⊥
-unknown Mutex Exclusive e u s k = e refl
-unknown Mutex x e u s k = k
-unknown Semaphore Shared e u s k = s refl
-unknown Semaphore x e u s k = k
-unknown sort Exclusive e u s k = e refl
-unknown sort Upgradable e u s k = u refl
-unknown sort Shared e u s k = s refl
-unknown Normal x e u s k = k
-unknown Recursive x e u s k = k
+unknown : (sort : Sort) (x : Want) → has_readers sort ≡ true → x ≢ Exclusive → x ≢ Upgradable → x ≢ Shared → Knows sort x → ⊥
+unknown Mutex x r e u s k = cc
+unknown Semaphore x r e u s k = cc
+unknown Once x r e u s k = cc
+unknown sort Exclusive r e u s k = e refl
+unknown sort Upgradable r e u s k = u refl
+unknown sort Shared r e u s k = s refl
+unknown Normal x r e u s k = k
+unknown Recursive x r e u s k = k
 
 -- who was not taken by t claims nothing anew
 unclaimed : (t : ℕ) (alone : Bool) (o : Option Taken) (d : Doing) → keep_from t o ≡ o → with_claim t alone o d ≡ d
@@ -157,6 +156,7 @@ code_doing r s d = by_sort r.sort
     by_sort Normal = refl
     by_sort Recursive = refl
     by_sort Semaphore = refl
+    by_sort Once = refl
 
 -- ---------------------------------------------------------------- owners
 
@@ -405,8 +405,8 @@ module _ (w : State) (t l : ℕ) (steady : IsSteady w) (own : IsOf l (place_at w
           by_want Upgradable false wants_so f known is = ap (λ o. (handed t right o here.lock).upgradable) (is (λ g. cc)) ∙ has_upgradable_handed t u right here.lock
           by_want Exclusive true wants_so f known is = ap (λ o. (handed t right o here.lock).exclusive) (is (λ g. cc)) ∙ has_exclusive_handed t u right here.lock (sym (alone_is right right_more) ∙ f)
           by_want Exclusive false wants_so f known is = ap (λ o. (handed t right o here.lock).pending) (is (λ g. cc)) ∙ pends_handed t u right here.lock (sym (alone_is right right_more) ∙ f)
-          by_want Wait b wants_so f known is = absurd (unknown r.sort Wait (λ g. cc) (λ g. cc) (λ g. cc) known)
-          by_want CallOnce b wants_so f known is = absurd (unknown r.sort CallOnce (λ g. cc) (λ g. cc) (λ g. cc) known)
+          by_want Wait b wants_so f known is = absurd (unknown r.sort Wait sharers (λ g. cc) (λ g. cc) (λ g. cc) known)
+          by_want CallOnce b wants_so f known is = absurd (unknown r.sort CallOnce sharers (λ g. cc) (λ g. cc) (λ g. cc) known)
 
       -- all of it, one deed after another
       abbrev behind : Site

@@ -9,7 +9,7 @@ use Rattle.abstract_locks.specs.Locks as locks
 use Rattle.abstract_locks.specs.Locks.{Knows, Sort}
 use Rattle.abstract_locks.specs.Codes.{parked_in, aside_in, word_by}
 use Rattle.abstract_locks.specs.Sites.{Line, Main, Second, has_readers}
-use Rattle.abstract_locks.specs.Purposes.{Purpose, Enters, Releases, Converts, Bumps}
+use Rattle.abstract_locks.specs.Purposes.{Purpose, Enters, Releases, Converts, Bumps, CallsOnce, Awaits}
 use Rattle.lot_machine.specs.Machine.{State, place_at, word_at, kind_at}
 use Rattle.lot_laws.specs.Refinement.{owner_at, lock_state, call_at}
 use Rattle.lot_laws.specs.SitesOf.{is_mutex, rules_in}
@@ -39,6 +39,8 @@ releases sort (Some (Converts k x y how)) g l e knows h = absurd (elim h.1 [
   | inl less ↦ less (only_exclusive y (subst (λ s. Knows s y) (ap sort h.0 ∙ e) knows.1))
   | inr gave_up ↦ let f : false ≡ true = gave_up.1 in cc
 ])
+releases sort (Some (CallsOnce k forced)) g l e knows h = absurd (let f : locks.Once ≡ locks.Mutex = sym knows ∙ (ap sort h ∙ e) in cc)
+releases sort (Some (Awaits k forced)) g l e knows h = absurd h
 releases sort (Some (Bumps k x)) g l e knows h = absurd (h.1 (only_exclusive x (subst (λ s. Knows s x) (ap sort h.0 ∙ e) knows)))
 
 -- the line that a call of a mutex lets in is its queue
@@ -121,6 +123,8 @@ module _ (w v : State) (t l : ℕ) (o : Outcome) (since : OwesSince w t o v) (ke
       by_purpose None knows k = k
       by_purpose (Some (Enters j x how)) knows k = k
       by_purpose (Some (Converts j x y how)) knows k = k
+      by_purpose (Some (CallsOnce j forced)) knows k = k
+      by_purpose (Some (Awaits j forced)) knows k = k
       by_purpose (Some (Releases j x fair)) knows k = k.2 (only_exclusive x (subst (λ s. Knows s x) (ap (sort_at v) k.0 ∙ sort v l behind) knows))
       by_purpose (Some (Bumps j x)) knows k = k.1 (only_exclusive x (subst (λ s. Knows s x) (ap (sort_at v) k.0 ∙ sort v l behind) knows))
 

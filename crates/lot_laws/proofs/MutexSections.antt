@@ -36,7 +36,7 @@ module _ (l : ℕ) (n : Base) (w : ℕ) (o : Owners) (s rest : List Waiter) (x :
 
   pub take_needed : (d : Doing) → doing_on (p t) l ≡ d → ((u : ℕ) → Untaken t (taken_at (p u) l)) → d.inside ≡ Some Main → d.carries ≡ false → d.wakes ≢ Some Second → ActsNeeded mutex (acts t (Case (TakeFirst (queued x.thread)) ∷ [])) (seen l n w o (x ∷ rest) s p)
   take_needed d is none i c v = (
-    (((map queued_of rest, λ j. (record { thread = x.thread; want = first_wants j }) ∷ map queued_of rest), taken_nobody l p t n o (x ∷ rest) s none, λ h. h), (rw is i, rw is c, rw is v)),
+    (((map queued_of rest, λ j. (record { thread = x.thread; want = first_wants j }) ∷ map queued_of rest), taken_nobody l p t n o (x ∷ rest) s none, tt), (rw is i, rw is c, rw is v)),
     tt,
   )
 

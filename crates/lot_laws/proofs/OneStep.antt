@@ -8,7 +8,8 @@ use Rattle.lot_base.specs.declared.wants.Want.{Want}
 use Rattle.lot_base.specs.declared.wants.Want.TheVariants as wants
 use Rattle.lot_base.specs.Lines.{waiter, without, times}
 use Rattle.lot_steps.specs.declared.places.Place.{Place}
-use Rattle.abstract_locks.specs.Locks.{LockState, LockCase, Pending, Rules, Sort, Mutex, Normal, Recursive, Semaphore, putting, readers}
+use Rattle.abstract_locks.specs.Onces.{OnceCase, Start, Finish, Fail, Rest, TakeAll}
+use Rattle.abstract_locks.specs.Locks.{LockState, LockCase, Pending, Rules, Sort, Mutex, Normal, Recursive, Semaphore, Once, OfOnce, once_after, putting, readers}
 use Rattle.abstract_locks.specs.Locks as locks
 use Rattle.abstract_locks.specs.Picks.{queued_of}
 use Rattle.abstract_locks.specs.Sites.{Site, IsSite, Deed, Main, Begin, End, In, Out, Mark, Clear, FindNobody, MarkOwned, Bring, MarkBrought, Case, has_readers, is_empty, is_full, after_deed, Needed}
@@ -171,6 +172,13 @@ module _ (t : ℕ) where
       either true = refl
       either false = refl
 
+  once_count : (case : OnceCase) (s : LockState) → length (once_after case s t).shared ≡ length s.shared
+  once_count (Start forced) s = refl
+  once_count Finish s = refl
+  once_count Fail s = refl
+  once_count (Rest wanted forced) s = refl
+  once_count TakeAll s = refl
+
   -- as many numbers as before
   case_count : (r : Rules) (case : LockCase) (s : LockState) → (IsHandOff case → ⊥) → length (locks.after_case r case s t).shared ≡ length s.shared
   case_count r (locks.Enter x) s other = with_owner_count x s
@@ -178,6 +186,7 @@ module _ (t : ℕ) where
   case_count r (locks.Convert x y) s other = converted_count y (locks.without_owner t x s) ∙ without_owner_count x s
   case_count r locks.Rollback s other = fallen_count s.pending (record s { pending = None })
   case_count r (locks.HandOff x y) s other = absurd (other tt)
+  case_count r (OfOnce case) s other = once_count case s
   case_count r case s other = refl
 
 -- what a deed that hands nothing over keeps
@@ -213,12 +222,13 @@ acts_limited r (a ∷ more) s n readers some e o site needed h =
 
 -- ---------------------------------------------------------------- words
 
--- the word is the lock's by its owners
-pub same_word : (sort : Sort) (limit : ℕ) (s v : LockState) (x y : Bool) → v.exclusive ≡ s.exclusive → v.pending ≡ s.pending → v.upgradable ≡ s.upgradable → v.shared ≡ s.shared → word_by sort limit v x y ≡ word_by sort limit s x y
-same_word Mutex limit s v x y e p u n = λ i. locks.one_if_some (e i) + 2 * bit y
-same_word Normal limit s v x y e p u n = λ i. packed (sum (n i) + locks.one_if_some (u i)) (locks.one_if_some (e i) + locks.one_if_some (p i)) (locks.one_if_some (u i)) (bit x) (bit y)
-same_word Recursive limit s v x y e p u n = λ i. packed (sum (n i) + locks.one_if_some (u i)) (locks.one_if_some (e i) + locks.one_if_some (p i)) (locks.one_if_some (u i)) (bit x) (bit y)
-same_word Semaphore limit s v x y e p u n = λ i. word_by Semaphore limit (record s { shared = n i }) x y
+-- the word is the lock's by its owners, and that of a `Once` by its phase
+pub same_word : (sort : Sort) (limit : ℕ) (s v : LockState) (x y : Bool) → v.exclusive ≡ s.exclusive → v.pending ≡ s.pending → v.upgradable ≡ s.upgradable → v.shared ≡ s.shared → v.phase ≡ s.phase → word_by sort limit v x y ≡ word_by sort limit s x y
+same_word Mutex limit s v x y e p u n f = λ i. locks.one_if_some (e i) + 2 * bit y
+same_word Normal limit s v x y e p u n f = λ i. packed (sum (n i) + locks.one_if_some (u i)) (locks.one_if_some (e i) + locks.one_if_some (p i)) (locks.one_if_some (u i)) (bit x) (bit y)
+same_word Recursive limit s v x y e p u n f = λ i. packed (sum (n i) + locks.one_if_some (u i)) (locks.one_if_some (e i) + locks.one_if_some (p i)) (locks.one_if_some (u i)) (bit x) (bit y)
+same_word Semaphore limit s v x y e p u n f = λ i. word_by Semaphore limit (record s { shared = n i }) x y
+same_word Once limit s v x y e p u n f = λ i. word_by Once limit (record s { phase = f i }) x y
 
 -- ---------------------------------------------------------------- a site by its parts
 

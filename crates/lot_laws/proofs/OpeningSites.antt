@@ -98,6 +98,7 @@ no_bits locks.Mutex n = refl
 no_bits locks.Normal n = refl
 no_bits locks.Recursive n = refl
 no_bits locks.Semaphore n = refl
+no_bits locks.Once n = refl
 
 -- the word of a new lock
 zero_code : (k : Kind) (n : ℕ) → code (rules_of k) (opening_site n) ≡ 0

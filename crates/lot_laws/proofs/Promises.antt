@@ -17,7 +17,7 @@ use Rattle.abstract_locks.specs.Locks.{LockState, Sort, Rights, Taken, opening_l
 use Rattle.abstract_locks.specs.Locks as sorts
 use Rattle.abstract_locks.specs.Sites.{Doing, Line, Main, Second, Has, Pends, IsOpen, counts_some, has_readers, idle}
 use Rattle.abstract_locks.specs.Codes.{HasLimit}
-use Rattle.abstract_locks.specs.Purposes.{Enters, Converts, Bumps, Purpose, MayWait, rules_of}
+use Rattle.abstract_locks.specs.Purposes.{Enters, Converts, Bumps, CallsOnce, Awaits, Purpose, MayWait, rules_of}
 use Rattle.lot_laws.specs.Refinement.{locks_of, lock_state, lock_seen, taken_at, call_at, call_on, call_state, stance_of}
 use Rattle.lot_laws.specs.Owing.{Owes, sort_at}
 use Rattle.lot_laws.specs.Promises.{IsKept, KnowsRights, WaitsFor, WakesWaiters, IsDebtorOf, IsLookedAfter, IsOpenNow, WasNeverFull, HasOrPends, IsHandedOver, IsWithinLimit, want_of}
@@ -34,6 +34,8 @@ one_purpose : (o : Option Purpose) (l k : ℕ) → MayWait o l → MayWait o k �
 one_purpose (Some (Enters j x how)) l k h g = sym h.0 ∙ g.0
 one_purpose (Some (Converts j x y how)) l k h g = sym h.0 ∙ g.0
 one_purpose (Some (Bumps j x)) l k h g = sym h ∙ g
+one_purpose (Some (CallsOnce j forced)) l k h g = sym h ∙ g
+one_purpose (Some (Awaits j forced)) l k h g = sym h ∙ g
 one_purpose o l k h g = absurd h
 
 -- who is shown to try again does
@@ -59,10 +61,12 @@ unbuilt kinds.TheVariants.Condvar h = cc
 unbuilt kinds.TheVariants.Once h = cc
 
 -- where nobody bars the way, nobody owns the lock alone
-open_unowned : (sort : Sort) (s : LockState) → IsOpen sort s → s.exclusive ≡ None
-open_unowned sorts.Mutex s h = h
-open_unowned sorts.Semaphore s h = absurd h
-open_unowned sort s h = h.0
+open_unowned : (sort : Sort) (s : LockState) → ((sorts.Knows sort Exclusive → ⊥) → s.exclusive ≡ None) → IsOpen sort s → s.exclusive ≡ None
+open_unowned sorts.Mutex s none h = h
+open_unowned sorts.Normal s none h = h.0
+open_unowned sorts.Recursive s none h = h.0
+open_unowned sorts.Semaphore s none h = absurd h
+open_unowned sorts.Once s none h = none (λ k. k)
 
 -- who does nothing owes nothing
 idle_owes : (sort : Sort) (m : Line) → IsDebtorIn sort idle m → ⊥
@@ -140,7 +144,7 @@ module _ (w : State) (steady : IsSteady w) where
   main : (t l : ℕ) → WaitsFor w t l → IsOpenNow (rules_in w l) (lock_state w l) → WasNeverFull w l → IsLookedAfter w l Main
   main t l waiting open_now full =
       let now : IsOpen (sort_at w l) (lock_state w l) = elim open_now [ inl is ↦ is | inr other ↦ absurd (unbuilt (kind_at w l) other.0) ] in
-      let free = open_unowned (sort_at w l) (lock_state w l) now in
+      let free = open_unowned (sort_at w l) (lock_state w l) (steady.sites.site l).state.unwritten now in
       let d = (steady.sites.site l).main (inl (not_empty t (lock_state w l).queue waiting)) now (unfilled l full) in
       looks_after d.0 l Main d.1 (λ own. let e : ◌≡◌ {A = Option ℕ} None (Some d.0) = sym free ∙ own in cc)
 

@@ -18,7 +18,7 @@ use Rattle.lot_steps.specs.Steps.{act_of, profile}
 use Rattle.abstract_locks.specs.Codes.{parked_in}
 use Rattle.abstract_locks.specs.Locks.{Sort, Taken}
 use Rattle.abstract_locks.specs.Locks as sorts
-use Rattle.abstract_locks.specs.Purposes.{Purpose, Enters, Releases, Converts, Bumps, MayWait, IsReleasing, lock_for}
+use Rattle.abstract_locks.specs.Purposes.{Purpose, Enters, Releases, Converts, Bumps, CallsOnce, Awaits, MayWait, IsReleasing, lock_for}
 use Rattle.abstract_locks.specs.Runs.{IsTimed}
 use Rattle.abstract_locks.specs.Sites.{Claim, Doing, Line, Main, Second, Has, Pends, IsDebtor, counts_some, has_readers}
 use Rattle.lot_laws.specs.SitesOf.{key_of}
@@ -36,12 +36,16 @@ releases_for (Enters k x how) released l h = absurd h
 releases_for (Releases k x fair) released l h = h
 releases_for (Converts k x y how) released l h = absurd h
 releases_for (Bumps k x) released l h = h.0
+releases_for (CallsOnce k forced) released l h = absurd h
+releases_for (Awaits k forced) released l h = absurd h
 
 pub downgrades_for : (q : Purpose) (l : ℕ) → IsDowngrade (Some q) l → lock_for q ≡ l
 downgrades_for (Enters k x how) l h = absurd h
 downgrades_for (Releases k x fair) l h = absurd h
 downgrades_for (Converts k x y how) l h = h.0
 downgrades_for (Bumps k x) l h = absurd h
+downgrades_for (CallsOnce k forced) l h = absurd h
+downgrades_for (Awaits k forced) l h = absurd h
 
 -- by whom it was taken from a queue of its lock
 abbrev pub taken_of : Profile → Option Taken
@@ -162,6 +166,8 @@ pub mutex_tells : (q : Option Purpose) (m : Line) (v : ℕ) → tells_by sorts.M
 mutex_tells None m v = refl
 mutex_tells (Some (Enters l x how)) m v = refl
 mutex_tells (Some (Converts l x y how)) m v = refl
+mutex_tells (Some (CallsOnce l forced)) m v = refl
+mutex_tells (Some (Awaits l forced)) m v = refl
 mutex_tells (Some (Releases l x false)) m v = by_right x m
   where
     by_right : (x : Want) (m : Line) → tells_by sorts.Mutex (Some (Releases l x false)) m v ≡ tells_of sorts.Mutex m v

@@ -262,6 +262,7 @@ module _ (l : ℕ) (a : Admission) (c : RwLockCall) where
     retries = if opens.opening.retries i then Some l else None;
     released = opens.opening.released i;
     late = opens.opening.late i;
+    failed = opens.opening.failed i;
   }
 
   pub rwlock_untaken_first : (k : ℕ) → taken_at (RwLock l a (call_first c)) k ≡ None

@@ -208,6 +208,7 @@ word_few r s readers site room limit = by_sort r.sort refl readers
     by_sort Recursive e h = subst (λ sort. code_of sort r.limit s < 2 ^ 64) (sym e) small
     by_sort locks.Mutex e h = absurd cc
     by_sort Semaphore e h = absurd cc
+    by_sort locks.Once e h = absurd cc
 
 -- ---------------------------------------------------------------- deeds that leave the others as they are
 

@@ -3,12 +3,27 @@ use Rattle.std.proofs.Common.{ℕ, zero, suc, Bool, Option, if◌then◌else◌,
 use Rattle.lot_calls.specs.declared.outcomes.Answer.{Answer}
 use Rattle.lot_calls.specs.declared.outcomes.Outcome.{Outcome}
 use Rattle.lot_calls.specs.declared.outcomes.Outcome.TheVariants as outcome
-use Rattle.abstract_locks.specs.Locks.{Rights, Enter, Pend, Settle, Leave, Park, Aside, HandOff, Late}
+use Rattle.abstract_locks.specs.Locks.{Rights, Enter, Pend, Settle, Leave, Park, Aside, HandOff, Late, OfOnce}
+use Rattle.abstract_locks.specs.Onces.{OnceCase, Start, Finish, Fail, Rest, TakeAll}
 use Rattle.abstract_locks.specs.Purposes.{Purpose}
 use Rattle.abstract_locks.specs.Runs.{LocksState, CallState, Event, Nothing, AtLock, IsStep, IsRun, GoesOn, AnswerHolds, going_on, woken}
 use Rattle.lot_machine.specs.Machine.{go_of}
 use Rattle.lot_laws.specs.Solo.{GoesOnUntil, last_told}
 use Rattle.lot_laws.proofs.Glue.{same}
+
+once_keeps_purpose : (case : OnceCase) (l : ℕ) (c : CallState) → (going_on (AtLock l (OfOnce case)) c).purpose ≡ c.purpose
+once_keeps_purpose (Start forced) l c = refl
+once_keeps_purpose Finish l c = refl
+once_keeps_purpose Fail l c = refl
+once_keeps_purpose (Rest wanted forced) l c = refl
+once_keeps_purpose TakeAll l c = refl
+
+once_keeps_former : (case : OnceCase) (l : ℕ) (c : CallState) → (going_on (AtLock l (OfOnce case)) c).former ≡ c.former
+once_keeps_former (Start forced) l c = refl
+once_keeps_former Finish l c = refl
+once_keeps_former Fail l c = refl
+once_keeps_former (Rest wanted forced) l c = refl
+once_keeps_former TakeAll l c = refl
 
 -- an event leaves what the call is for, and what its thread owned as it began
 purpose_stays : (e : Event) (c : CallState) → (going_on e c).purpose ≡ c.purpose
@@ -21,6 +36,7 @@ purpose_stays (AtLock l (Park x)) c = refl
 purpose_stays (AtLock l Aside) c = refl
 purpose_stays (AtLock l (Leave x)) c = refl
 purpose_stays (AtLock l (HandOff x h)) c = refl
+purpose_stays (AtLock l (OfOnce case)) c = once_keeps_purpose case l c
 purpose_stays (AtLock l case) c = refl
 
 former_stays : (e : Event) (c : CallState) → (going_on e c).former ≡ c.former
@@ -33,6 +49,7 @@ former_stays (AtLock l (Park x)) c = refl
 former_stays (AtLock l Aside) c = refl
 former_stays (AtLock l (Leave x)) c = refl
 former_stays (AtLock l (HandOff x h)) c = refl
+former_stays (AtLock l (OfOnce case)) c = once_keeps_former case l c
 former_stays (AtLock l case) c = refl
 
 -- a call for this has ended with this answer, of a thread that owned so much as it began

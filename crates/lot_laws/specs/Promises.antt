@@ -9,11 +9,11 @@ use Rattle.lot_acts.specs.declared.acts.Wakes as wakes
 use Rattle.lot_base.specs.declared.notes.Note.TheVariants.{HandOff}
 use Rattle.lot_steps.specs.Steps.{act_of, taker, retries_on}
 use Rattle.lot_machine.specs.Machine.{State, place_at, word_at, filled_at, section_at}
-use Rattle.abstract_locks.specs.Locks.{LockState, Sort, Recursive, Semaphore, Rules, Knows, IsSomePending, times, standing, readers, count, Owns}
+use Rattle.abstract_locks.specs.Locks.{LockState, Sort, Recursive, Semaphore, Once, Rules, Knows, IsSomePending, times, standing, readers, count, Owns}
 use Rattle.abstract_locks.specs.Codes.{word_by, parked_in, aside_in}
 use Rattle.abstract_locks.specs.Runs.{AreLockStates}
 use Rattle.abstract_locks.specs.Sites.{Line, Main, Second, IsOpen, counts_some, has_readers}
-use Rattle.abstract_locks.specs.Purposes.{Purpose, Enters, Releases, Converts, Bumps, MayWait}
+use Rattle.abstract_locks.specs.Purposes.{Purpose, Enters, Releases, Converts, Bumps, CallsOnce, Awaits, MayWait}
 use Rattle.lot_laws.specs.Refinement.{lock_state, locks_of, call_at}
 use Rattle.lot_laws.specs.Stations.{doing_on}
 use Rattle.lot_laws.specs.SitesOf.{rules_in, key_of}
@@ -54,12 +54,14 @@ GoesToWake w t l m =
     (act_of (place_at w t) ≡ Enter (One (key_of l m))) × (LetsOthersIn w t l ⊎ WakesAside (call_at w t).purpose l m)
 
 -- a call that wakes whom it takes of the main line: a release that hands nothing over, a conversion that lets others in, or a writer
--- beside readers that has given up
+-- beside readers that has given up; or a call that runs the closure of a `Once`
 abbrev pub WakesWaiters : Sort → Option Purpose → Option ℕ → ℕ → Type 0
 WakesWaiters sort (Some (Releases k x fair)) gave_up l = (k ≡ l) × ((fair ≡ false) ⊎ (x ≡ Upgradable))
 WakesWaiters sort (Some (Converts k x y how)) gave_up l = (k ≡ l) × ((y ≢ Exclusive) ⊎ ((gave_up ≡ Some l) × (has_readers sort ≡ true)))
 WakesWaiters sort (Some (Enters k x how)) gave_up l = (k ≡ l) × (gave_up ≡ Some l) × (has_readers sort ≡ true)
 WakesWaiters sort (Some (Bumps k x)) gave_up l = (k ≡ l) × (x ≢ Exclusive)
+WakesWaiters sort (Some (CallsOnce k forced)) gave_up l = k ≡ l
+WakesWaiters sort (Some (Awaits k forced)) gave_up l = ⊥
 WakesWaiters sort None gave_up l = ⊥
 
 -- a call is for rights that its lock knows
@@ -68,6 +70,8 @@ KnowsRights sort (Some (Enters l x how)) = Knows (sort l) x
 KnowsRights sort (Some (Releases l x fair)) = Knows (sort l) x
 KnowsRights sort (Some (Converts l x y how)) = Knows (sort l) x × Knows (sort l) y
 KnowsRights sort (Some (Bumps l x)) = Knows (sort l) x
+KnowsRights sort (Some (CallsOnce l forced)) = sort l ≡ Once
+KnowsRights sort (Some (Awaits l forced)) = sort l ≡ Once
 KnowsRights sort None = Unit {0}
 
 -- what a call is to own in the end

@@ -17,6 +17,7 @@ use Rattle.lot_calls.specs.declared.kinds.Kind.{Kind}
 use Rattle.lot_calls.specs.declared.kinds.Kind.TheVariants.{Mutex}
 use Rattle.lot_acts.specs.declared.owners.Owners.{Owners}
 use Rattle.lot_acts.specs.declared.owners.Fallback as fallback
+use Rattle.lot_acts.specs.declared.owners.Phase.TheVariants as phases
 use Rattle.lot_steps.specs.declared.places.Place.{Place}
 use Rattle.lot_steps.specs.declared.places.Place.TheVariants.{Idle}
 use Rattle.lot_acts.specs.declared.acts.Act.{Act}
@@ -56,7 +57,7 @@ pub record State : Type 0 where
   pub queues : List (List Waiter)
 
 abbrev pub nobody : Owners
-nobody = record { exclusive = None; pending = None; upgradable = None; running = None }
+nobody = record { exclusive = None; pending = None; upgradable = None; phase = phases.New }
 
 -- the word of a new lock
 abbrev pub first_word : Kind → ℕ

@@ -4,6 +4,7 @@ use Rattle.lot_acts.specs.declared.owners.Owner.{Owner}
 use Rattle.lot_acts.specs.declared.owners.Owner.TheVariants.{Exclusive, Pending, Upgradable, Running, Shared}
 use Rattle.lot_acts.specs.declared.owners.Owners.{Owners}
 use Rattle.lot_acts.specs.declared.owners.Pending as pending
+use Rattle.lot_acts.specs.Owners.{runner}
 use Rattle.lot_steps.specs.declared.places.Place.{Place}
 use Rattle.lot_steps.specs.Steps.{owes_on, retries_on}
 use Rattle.lot_base.specs.declared.wants.Waiter.{Waiter}
@@ -23,7 +24,7 @@ pending_of (Some p) = (Pending, p.thread) ∷ []
 abbrev pub owners_listed : Owners → List (Owner × ℕ)
 owners_listed o =
     owner_of Exclusive o.exclusive
-    ++ (pending_of o.pending ++ (owner_of Upgradable o.upgradable ++ owner_of Running o.running))
+    ++ (pending_of o.pending ++ (owner_of Upgradable o.upgradable ++ owner_of Running (runner o.phase)))
 
 -- who shares a lock, once for each right, by the numbers of rights of threads from this one on
 abbrev pub sharers_listed : ℕ → List ℕ → List (Owner × ℕ)

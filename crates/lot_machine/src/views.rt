@@ -4,7 +4,7 @@ ghost use Rattle.std.specs.Iterator.{YieldsFirst, item_count};
 ghost use Rattle.lot_machine.specs.Views.{owners_listed, sharers_listed, has_debt, debtors};
 
 use lot_base::{Queues, Waiter, main_key, second_key};
-use lot_steps::{Owner, Owners, Pending, Place};
+use lot_steps::{Owner, Owners, Pending, Phase, Place};
 use std::marker::Model;
 
 /// What a thread still has to do for a lock's waiters.
@@ -85,8 +85,8 @@ impl Iterator for OwnersOf<'_> {
             self.left.upgradable = None;
             return Some((Owner::Upgradable, thread));
         }
-        if let Some(thread) = self.left.running {
-            self.left.running = None;
+        if let Some(thread) = self.left.phase.runner() {
+            self.left.phase = Phase::New;
             return Some((Owner::Running, thread));
         }
         if self.rights != 0 {

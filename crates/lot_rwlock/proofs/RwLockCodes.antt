@@ -54,10 +54,10 @@ module _ (r : Rules) (s : Site) (t : ℕ) (rw_sort : has_readers r.sort ≡ true
 
   -- a case, at the end of its call or not
   behind_case : (c : LockCase) → Needed r (Case c) s t → (IsHandOff c → ⊥) → code r (after_deed r (Case c) s t) + lost s.lock.pending c ≡ code r s + rolled s.lock.pending c
-  behind_case c n other = rw (coded (after_deed r (Case c) s t), coded s) (follows r s t there h c n other)
+  behind_case c n other = rw (coded (after_deed r (Case c) s t), coded s) (follows r s t rw_sort there h c n other)
 
   behind_case_end : (c : LockCase) → Needed r (Case c) s t → (IsHandOff c → ⊥) → code r (after_deed r End (after_deed r (Case c) s t) t) + lost s.lock.pending c ≡ code r s + rolled s.lock.pending c
-  behind_case_end c n other = rw (coded (after_deed r End (after_deed r (Case c) s t) t), coded s) (follows r s t there h c n other)
+  behind_case_end c n other = rw (coded (after_deed r End (after_deed r (Case c) s t) t), coded s) (follows r s t rw_sort there h c n other)
 
   behind_looks : (d : Decision) → behind (looked_deeds d) ≡ code r s
   behind_looks (decisions.Refuse answer) = behind_end

@@ -1,6 +1,6 @@
 -- What each step of a reader-writer lock makes of its call: the row of the next place is what the step's case makes of the call, the call
 -- is made of that case, and its answer is true.
-use Rattle.std.specs.Prelude.{ℕ, Bool, true, false, Option, Some, None, ◌≡◌, ◌≢◌, ◌<◌, ◌^◌, length}
+use Rattle.std.specs.Prelude.{ℕ, Bool, true, false, Option, Some, None, ◌≡◌, ◌≢◌, ◌<◌, ◌^◌}
 use Rattle.lot_base.specs.declared.keys.Line.TheVariants.{Main, Second}
 use Rattle.lot_base.specs.declared.notes.Note.TheVariants.{Normal}
 use Rattle.lot_base.specs.declared.ops.Op.{Op}
@@ -25,10 +25,10 @@ use Rattle.lot_rwlock.specs.declared.enter.Decision.{Decision}
 use Rattle.lot_rwlock.specs.declared.enter.Decision.TheVariants as decisions
 use Rattle.lot_rwlock.specs.declared.park.ParkAt.{ParkAt}
 use Rattle.lot_rwlock.specs.declared.park.ParkAt.TheVariants as parking
-use Rattle.lot_rwlock.specs.RwLockSteps.{wanted, to_of, patience_of, decided, rwlock_act, rwlock_next, decided_for}
+use Rattle.lot_rwlock.specs.RwLockSteps.{patience_of, decided, rwlock_act, rwlock_next, decided_for}
 use Rattle.lot_rwlock.specs.RwLockDeeds.{IsAt, MayHear, rwlock_deeds, IsFreshTry}
 use Rattle.lot_rwlock.specs.RwLockProfiles.{rwlock_profile, rwlock_looking, hand_at, late_line_at}
-use Rattle.abstract_locks.specs.Locks.{LockState, Rules, Rights, Owns, standing}
+use Rattle.abstract_locks.specs.Locks.{Rules, Rights, standing}
 use Rattle.abstract_locks.specs.Codes.{code}
 use Rattle.abstract_locks.specs.Runs.{CallState}
 use Rattle.abstract_locks.specs.Sites.{Site}

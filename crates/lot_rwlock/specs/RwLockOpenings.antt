@@ -17,6 +17,7 @@ pub record IsOpening (row : Profile) : Type 0 where
   pub station : station_by row ≡ nowhere
   pub late : row.late ≡ false
   pub gave_up : row.gave_up ≡ false
+  pub failed : row.failed ≡ false
   pub retries : row.retries ≡ false
   pub released : row.released ≡ false
   pub former : (l : ℕ) (rights : ℕ → Rights) → row.former l rights ≡ rights

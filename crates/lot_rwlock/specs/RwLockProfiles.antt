@@ -174,6 +174,7 @@ rwlock_profile a p = record {
   late_line = late_line_at (patience_of p.purpose) p.at;
   late = late_at is_late p.purpose p.at;
   gave_up = late_at has_given_up p.purpose p.at;
+  failed = false;
   purpose = purpose_by p.purpose;
   released = has_released p.purpose p.at;
   former = before p.purpose p.at;

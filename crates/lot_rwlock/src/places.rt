@@ -79,6 +79,7 @@ pub struct RwLockPlace {
 
 impl Admission {
     /// Whether a word keeps a thread out that wants this right.
+    #[inline(always)]
     pub fn blocks(self, access: Access, word: u64) -> bool
         ensures { result ≡ codes.is_blocked self.recursive (wanted access) word }
     {

@@ -27,6 +27,7 @@ pub enum RwLockPurpose {
 const UPGRADED: u64 = READER + UPGRADABLE - WRITER;
 
 /// What a right adds to the word.
+#[inline]
 pub fn token(access: Access) -> u64
     ensures { result ≡ token (wanted access) }
 {
@@ -38,6 +39,7 @@ pub fn token(access: Access) -> u64
 }
 
 /// The want of a thread that waits for a right.
+#[inline]
 pub fn wanted(access: Access) -> Want
     ensures { result ≡ wanted access }
 {
@@ -49,7 +51,8 @@ pub fn wanted(access: Access) -> Want
 }
 
 /// The greater right of a downgrade.
-fn from(downgrade: Downgrade) -> Access
+#[inline]
+pub fn greater(downgrade: Downgrade) -> Access
     ensures { result ≡ from_of downgrade }
 {
     match downgrade {
@@ -59,7 +62,8 @@ fn from(downgrade: Downgrade) -> Access
 }
 
 /// The lesser one, which its thread keeps.
-fn to(downgrade: Downgrade) -> Access
+#[inline]
+pub fn lesser(downgrade: Downgrade) -> Access
     ensures { result ≡ to_of downgrade }
 {
     match downgrade {
@@ -69,6 +73,7 @@ fn to(downgrade: Downgrade) -> Access
 }
 
 /// What a call answers with its right: one that waits for ever `Ok`, another `Yes`.
+#[inline]
 pub fn entered(patience: Patience) -> Answer
     ensures { result ≡ entered patience }
 {
@@ -80,17 +85,19 @@ pub fn entered(patience: Patience) -> Answer
 
 impl RwLockPurpose {
     /// The right that the call waits for, or gives up.
+    #[inline]
     pub fn access(self) -> Access
         ensures { result ≡ access_of self }
     {
         match self {
             RwLockPurpose::Enter { access, .. } | RwLockPurpose::Release(access) => access,
-            RwLockPurpose::Downgrade(downgrade) => from(downgrade),
+            RwLockPurpose::Downgrade(downgrade) => greater(downgrade),
             RwLockPurpose::Upgrade(_) => Access::Exclusive,
         }
     }
 
     /// How long the call waits.
+    #[inline]
     pub fn patience(self) -> Patience
         ensures { result ≡ patience_of self }
     {
@@ -106,7 +113,7 @@ impl RwLockPurpose {
     {
         match self {
             RwLockPurpose::Enter { .. } | RwLockPurpose::Release(_) => None,
-            RwLockPurpose::Downgrade(downgrade) => Some(wanted(to(downgrade))),
+            RwLockPurpose::Downgrade(downgrade) => Some(wanted(lesser(downgrade))),
             RwLockPurpose::Upgrade(_) => Some(Want::Upgradable),
         }
     }
@@ -122,7 +129,8 @@ impl RwLockPurpose {
     }
 
     /// The operation with which the thread gives its right up, or turns it into another.
-    pub(super) fn give_op(self) -> Op
+    #[inline]
+    pub fn give_op(self) -> Op
         ensures { result ≡ give_op self }
     {
         match self {
@@ -147,7 +155,8 @@ impl RwLockPurpose {
     }
 
     /// The word with the right that a thread takes which saw this.
-    pub(super) fn taken(self, seen: u64) -> u64
+    #[inline]
+    pub fn taken(self, seen: u64) -> u64
         ensures { result ≡ word_taken self seen }
     {
         match self {

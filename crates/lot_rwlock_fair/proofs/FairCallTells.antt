@@ -17,7 +17,8 @@ use Rattle.lot_acts.specs.declared.acts.Reply.{Reply}
 use Rattle.lot_acts.specs.declared.acts.Reply.TheVariants as reply
 use Rattle.lot_acts.specs.Profiles.{Profile}
 use Rattle.lot_acts.specs.Calls.{CallFollows, MayCome, ComesTo, call_by, rights_where, event_at}
-use Rattle.abstract_locks.specs.Locks.{LockState, Rules, Rights, Leave, TakeAside, Late, Wake, Owns, after_case, rights_of, with_right, without_right, without_owner, standing}
+use Rattle.abstract_locks.specs.Onces.{OnceCase, Start, Finish, Fail, Rest, TakeAll}
+use Rattle.abstract_locks.specs.Locks.{LockState, Rules, Rights, Leave, TakeAside, Late, Wake, Owns, after_case, rights_of, with_right, without_right, without_owner, standing, OfOnce}
 use Rattle.abstract_locks.specs.Purposes.{Enters, Bumps, IsMadeOf}
 use Rattle.abstract_locks.specs.Runs.{LocksState, CallState, Event, Nothing, AtLock, AnswerHolds, going_on, EntersAnswer, BumpsAnswer, rights_in, one_more_at, one_less_at}
 use Rattle.abstract_locks.specs.Sites.{Has, Doing, Site, IsSite, Deed, Case, Clear, End}
@@ -63,6 +64,14 @@ lifted l x c = record c { purpose = Some (Bumps l x); released = true; former = 
 lifts : (l : ℕ) (x : Want) (event : Event) (c : CallState) → lifted l x (going_on event c) ≡ going_on event (lifted l x c)
 lifts l x Nothing c = refl
 lifts l x (AtLock k Late) c = refl
+lifts l x (AtLock k (OfOnce case)) c = lifts_once case
+  where
+    lifts_once : (case : OnceCase) → lifted l x (going_on (AtLock k (OfOnce case)) c) ≡ going_on (AtLock k (OfOnce case)) (lifted l x c)
+    lifts_once (Start forced) = refl
+    lifts_once Finish = refl
+    lifts_once Fail = refl
+    lifts_once (Rest wanted forced) = refl
+    lifts_once TakeAll = refl
 lifts l x (AtLock k case) c = refl
 
 -- and its answer

@@ -60,10 +60,10 @@ module _ (r : Rules) (a : Admission) (s : Site) (t l : ℕ) (op : Op) (rw_sort :
 
   -- a right is given up, at the end of its call or not
   gives : (x : Access) (b : Bool) → (x ≡ access.Exclusive) ⊎ (x ≡ access.Upgradable) → AllNeeded r (does_and_wakes b (Case (Leave (wanted x)))) s t → code r (after_all r (does_and_wakes b (Case (Leave (wanted x)))) s t) + token (wanted x) ≡ v
-  gives access.Exclusive true ex n = let e = follows r s t there h (Leave Exclusive) n.0 (λ f. f) in rw (coded (after_deed r (Case (Leave Exclusive)) s t), coded s) (omega arith)
-  gives access.Exclusive false ex n = let e = follows r s t there h (Leave Exclusive) n.0 (λ f. f) in rw (coded (after_deed r End (after_deed r (Case (Leave Exclusive)) s t) t), coded s) (omega arith)
-  gives access.Upgradable true ex n = let e = follows r s t there h (Leave Upgradable) n.0 (λ f. f) in rw (coded (after_deed r (Case (Leave Upgradable)) s t), coded s) (omega arith)
-  gives access.Upgradable false ex n = let e = follows r s t there h (Leave Upgradable) n.0 (λ f. f) in rw (coded (after_deed r End (after_deed r (Case (Leave Upgradable)) s t) t), coded s) (omega arith)
+  gives access.Exclusive true ex n = let e = follows r s t rw_sort there h (Leave Exclusive) n.0 (λ f. f) in rw (coded (after_deed r (Case (Leave Exclusive)) s t), coded s) (omega arith)
+  gives access.Exclusive false ex n = let e = follows r s t rw_sort there h (Leave Exclusive) n.0 (λ f. f) in rw (coded (after_deed r End (after_deed r (Case (Leave Exclusive)) s t) t), coded s) (omega arith)
+  gives access.Upgradable true ex n = let e = follows r s t rw_sort there h (Leave Upgradable) n.0 (λ f. f) in rw (coded (after_deed r (Case (Leave Upgradable)) s t), coded s) (omega arith)
+  gives access.Upgradable false ex n = let e = follows r s t rw_sort there h (Leave Upgradable) n.0 (λ f. f) in rw (coded (after_deed r End (after_deed r (Case (Leave Upgradable)) s t) t), coded s) (omega arith)
   gives access.Shared b ex n = absurd (elim ex [ inl f ↦ cc | inr f ↦ cc ])
 
   glanced : (b : Bool) → op ≡ operation.Load → apply op v ≡ code r (after_all r (glance_deeds b) s t)

@@ -3,6 +3,7 @@ ghost use Rattle.std.specs.Prelude.{◌≡◌, ◌⊎◌, ◌≤◌, ◌+◌, �
 ghost use Rattle.std.specs.Arc.{arc_value};
 ghost use Rattle.parking_lot_core.specs.Tokens.{IsTokenOf};
 ghost use Rattle.lot_driver.specs.RwLockCalls.{HasWalkedCall, SeesBy, StaysSettled, StaysSettled-on, WakesByCall, is_held, is_held_alone};
+ghost use Rattle.lot_driver.specs.RwLockRefusals.{GaveUpCall, SawFull};
 ghost use Rattle.parking_lot.specs.RwLockGuards.{IsExclusiveOf, IsExclusiveOf-prop, IsSharedOf, IsSharedOf-prop, IsUpgradableOf, IsUpgradableOf-prop};
 
 use crate::rwlock_guards::{RawExclusiveGuard, RawSharedGuard, RawUpgradableGuard};
@@ -77,6 +78,10 @@ impl<const RECURSIVE: bool> lock_raw::RawRwLock for RawRwLock<RECURSIVE> {
     ghost looked = { λ lock held old new. SeesBy is_held (word_at lock).number held old new };
 
     ghost looked_for_writer = { λ lock alone old new. SeesBy is_held_alone (word_at lock).number alone old new };
+
+    ghost saw_full = { λ lock access old new. SawFull (word_at lock).number (admission_of lock) access old new };
+
+    ghost gave_up = { λ lock call new. GaveUpCall (word_at lock).number (admission_of lock) call new };
 
     fn new(lot: &Arc<ParkingLot>, token: &mut Token) -> Result<RawRwLock<RECURSIVE>, Fault> {
         <RawRwLock<RECURSIVE> as lock_raw::RawRwLock>::with_limit(lot, token, MOST_READERS)

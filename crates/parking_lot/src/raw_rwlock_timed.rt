@@ -15,6 +15,7 @@ impl<const RECURSIVE: bool> RawRwLock<RECURSIVE> {
     ghost use Rattle.lot_rwlock.specs.declared.purposes.RwLockPurpose.TheVariants.{Enter, Upgrade};
     ghost use Rattle.parking_lot_core.specs.Tokens.{IsTokenOf};
     ghost use Rattle.lot_driver.specs.RwLockCalls.{HasWalkedRwLock, StaysSettled};
+    ghost use Rattle.lot_driver.specs.RwLockRefusals.{GaveUp, SawFull};
     ghost use Rattle.parking_lot.specs.RwLockGuards.{IsExclusiveOf, IsSharedOf, IsUpgradableOf};
     ghost use Rattle.parking_lot.specs.RwLockUsers.{admission_of, lot_of, word_of};
 
@@ -31,6 +32,9 @@ impl<const RECURSIVE: bool> RawRwLock<RECURSIVE> {
             (λ fault. fault ≡ Fault.ReadersFull) }
         ensures path { HasWalkedRwLock (word_of self.now).number (admission_of self.now) (Enter access.Shared Timed)
             (counted_answer result) token.old token.new }
+        ensures full { IfErr result (λ _. SawFull (word_of self.now).number (admission_of self.now) access.Shared token.old token.new) }
+        ensures left { IfOk result (λ entered. IfNone entered
+            (GaveUp (word_of self.now).number (admission_of self.now) (Enter access.Shared Timed) token.new)) }
         ensures late { IfOk result (λ entered. IfNone entered (IsUp C.tells limit.entry)) }
     {
         match self
@@ -56,6 +60,9 @@ impl<const RECURSIVE: bool> RawRwLock<RECURSIVE> {
             (λ fault. fault ≡ Fault.ReadersFull) }
         ensures path { HasWalkedRwLock (word_of self.now).number (admission_of self.now) (Enter access.Upgradable Timed)
             (counted_answer result) token.old token.new }
+        ensures full { IfErr result (λ _. SawFull (word_of self.now).number (admission_of self.now) access.Upgradable token.old token.new) }
+        ensures left { IfOk result (λ entered. IfNone entered
+            (GaveUp (word_of self.now).number (admission_of self.now) (Enter access.Upgradable Timed) token.new)) }
         ensures late { IfOk result (λ entered. IfNone entered (IsUp C.tells limit.entry)) }
     {
         match self
@@ -80,6 +87,8 @@ impl<const RECURSIVE: bool> RawRwLock<RECURSIVE> {
         ensures guard { IfSome result (IsExclusiveOf (lot_of self.now) (word_of self.now)) }
         ensures path { HasWalkedRwLock (word_of self.now).number (admission_of self.now) (Enter access.Exclusive Timed)
             (answer_by result) token.old token.new }
+        ensures left { IfNone result
+            (GaveUp (word_of self.now).number (admission_of self.now) (Enter access.Exclusive Timed) token.new) }
         ensures late { IfNone result (IsUp C.tells limit.entry) }
     {
         match self
@@ -107,6 +116,7 @@ impl<const RECURSIVE: bool> RawRwLock<RECURSIVE> {
             (IsUpgradableOf (lot_of self.now) (word_of self.now)) }
         ensures path { HasWalkedRwLock (word_of self.now).number (admission_of self.now) (Upgrade Timed)
             (upgrade_answer result) token.old token.new }
+        ensures left { IfErr result (λ _. GaveUp (word_of self.now).number (admission_of self.now) (Upgrade Timed) token.new) }
         ensures late { IfErr result (λ _. IsUp C.tells limit.entry) }
     {
         let RawUpgradableGuard { right } = guard;

@@ -22,15 +22,17 @@ ghost use Rattle.parking_lot_core.specs.Tokens.{IsTokenOf, IsSameThread, view_of
 ghost use Rattle.lot_driver.specs.Paths.{rwlock_at, step};
 ghost use Rattle.lot_driver.specs.RwLockCalls.{Exclude, HasWalkedCall, HasWalkedRwLock, IsRwLockRight, ReleasesFairly, StaysBeside, WakesBy, entry_answer, turn_answer};
 ghost use Rattle.lot_driver.specs.RwLockFitting.{IsCounted, MayGiveUp};
+ghost use Rattle.lot_driver.specs.RwLockRefusals.{GaveUp, SawFull};
 ghost use Rattle.lot_driver.specs.Telling.{owns_of, steps_of};
 
 use lot_base::{main_key, second_key};
 use lot_calls::{Access, Answer, Downgrade, Patience};
-use lot_driver::courses::{greater, lesser, wanted};
+use lot_driver::courses::{greater, lesser};
 use lot_driver::driver::NO_LIMIT;
 use lot_driver::fair_calls::{bump, release_exclusive, release_upgradable};
 use lot_driver::rwlock_calls::call;
 use lot_rwlock::places::WRITER;
+use lot_rwlock::purposes::wanted;
 use lot_rwlock::{Admission, RwLockPurpose};
 use parking_lot_core::{Clock, Fault, Key, Op, ParkingLot, Right, Token, Want, Word, WordKind};
 use std::sync::{Arc, Wait};
@@ -140,7 +142,10 @@ impl LotRwLock {
         ensures path { HasWalkedRwLock (word_in self.now).number (admission_in self.now) (Enter access patience)
             (entry_answer patience result) token.old token.new }
         ensures late { IfOk result (λ entered. IfNone entered (MayGiveUp (IsUp C.tells limit.entry) patience)) }
-        ensures full { IfErr result (λ fault. IsCounted access) }
+        ensures counted { IfErr result (λ fault. IsCounted access) }
+        ensures full { IfErr result (λ fault. SawFull (word_in self.now).number (admission_in self.now) access token.old token.new) }
+        ensures left { IfOk result (λ entered. IfNone entered
+            (GaveUp (word_in self.now).number (admission_in self.now) (Enter access patience) token.new)) }
     {
         let answer = call(
             rt,
@@ -301,6 +306,7 @@ impl LotRwLock {
         ensures path { HasWalkedRwLock (word_in self.now).number (admission_in self.now) (Upgrade patience)
             (turn_answer patience result) token.old token.new }
         ensures late { IfErr result (λ right. MayGiveUp (IsUp C.tells limit.entry) patience) }
+        ensures left { IfErr result (λ right. GaveUp (word_in self.now).number (admission_in self.now) (Upgrade patience) token.new) }
     {
         self.join(token, Want::Upgradable, right);
         let answer = call(

@@ -1,5 +1,6 @@
 //! Reader-writer locks with a value.
 mod crowds;
+mod fair;
 mod guards;
 
 ghost use Rattle.std.specs.Prelude.{◌≡◌, ◌<◌, All, IfOk, IfSome};

@@ -1,4 +1,5 @@
 //! Raw reader-writer locks of one thread.
+mod fair;
 mod mixes;
 mod timed;
 mod waits;

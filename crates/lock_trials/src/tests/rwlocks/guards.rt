@@ -91,8 +91,8 @@ fn guards_keep_tries_out(rt: HostRuntime) -> Result<(), Fail> {
     Ok(())
 }
 
-// Whether somebody comes to wait for the last readers.
-fn is_waited_for<const RECURSIVE: bool, R: Wait>(
+// Whether somebody comes to wait, for the lock or for its last readers.
+pub(super) fn is_waited_for<const RECURSIVE: bool, R: Wait>(
     rt: &R,
     lot: &ParkingLot,
     lock: &lock_api_rw::RwLock<RawRwLock<RECURSIVE>, u64>,
@@ -102,7 +102,9 @@ fn is_waited_for<const RECURSIVE: bool, R: Wait>(
     ensures { IsTokenOf lot.now token.new }
 {
     for _ in 0..TURNS {
-        if lot.queued(rt, token, lock.raw().second_key()) == 1 {
+        let waiting = lot.queued(rt, token, lock.raw().key());
+        let aside = lot.queued(rt, token, lock.raw().second_key());
+        if waiting == 1 || aside == 1 {
             return true;
         }
         yield_now();
@@ -148,8 +150,8 @@ fn read_twice<const RECURSIVE: bool, R: Wait>(
     Some((came, again))
 }
 
-// Writes once somebody reads.
-fn write_later<const RECURSIVE: bool, R: Wait>(
+// Writes once somebody has the lock.
+pub(super) fn write_later<const RECURSIVE: bool, R: Wait>(
     rt: &R,
     lock: &lock_api_rw::RwLock<RawRwLock<RECURSIVE>, u64>,
     ticket: Ticket,

@@ -3,6 +3,7 @@ ghost use Rattle.std.specs.Prelude.{◌≡◌, All};
 ghost use Rattle.parking_lot_core.specs.Tokens.{IsTicketOf, IsTokenOf};
 ghost use Rattle.parking_lot.specs.RwLockUsers.{lot_of};
 
+use super::fair::{go_alone, go_shared, go_upgradable};
 use super::mixes::Inside;
 use super::{next_of, seats};
 use parking_lot::lock_raw::{
@@ -97,7 +98,7 @@ fn readers_meet(rt: HostRuntime) -> Result<(), Fail> {
 
 /// For what a thread comes.
 #[derive(Clone, Copy, Debug, PartialEq, Eq)]
-enum Coming {
+pub(super) enum Coming {
     Reader,
     Upgradable,
     Writer,
@@ -105,7 +106,7 @@ enum Coming {
 
 /// How who holds the lock lets the others in.
 #[derive(Clone, Copy, Debug, PartialEq, Eq)]
-enum Manner {
+pub(super) enum Manner {
     /// A writer goes.
     Unlocked,
     /// A writer goes on as a reader.
@@ -120,24 +121,36 @@ enum Manner {
     ReaderGone,
     /// A reader reads once more beside the writer that waits for it, and goes twice.
     ReaderAgain,
+    /// A writer hands the lock over.
+    Handed,
+    /// A writer bumps.
+    Bumped,
+    /// Who has the upgradable right hands the lock over.
+    UpgradableHanded,
+    /// Who has it bumps.
+    UpgradableBumped,
+    /// A reader bumps.
+    ReaderBumped,
 }
 
 /// Who comes to a lock that is held, how many of them stand in its queues then, and how many come in beside who goes on.
 #[derive(Drop)]
-struct Scene {
-    manner: Manner,
-    coming: [Coming; 3],
-    main: usize,
-    second: usize,
-    beside: usize,
+pub(super) struct Scene {
+    pub(super) manner: Manner,
+    pub(super) coming: [Coming; 3],
+    pub(super) main: usize,
+    pub(super) second: usize,
+    pub(super) beside: usize,
 }
 
 /// What the threads of a scene tell one another.
 #[derive(Drop)]
-struct Told {
+pub(super) struct Told {
     held: AtomicBool,
     roles: AtomicUsize,
     came: AtomicUsize,
+    // Whether who has come in stays.
+    stays: AtomicBool,
     inside: Inside,
 }
 
@@ -147,7 +160,29 @@ impl Told {
             held: AtomicBool::new(false),
             roles: AtomicUsize::new(0),
             came: AtomicUsize::new(0),
+            stays: AtomicBool::new(false),
             inside: Inside::new(),
+        }
+    }
+
+    /// Whether anybody has come in.
+    pub(super) fn has_come(&self) -> bool {
+        self.came.load(SeqCst) != 0
+    }
+
+    /// Who has come in stays from now on, or goes.
+    pub(super) fn keep_inside(&self, stays: bool) {
+        self.stays.store(stays, SeqCst);
+    }
+
+    // Tells that it has come in, and goes once it may.
+    fn note_coming(&self) {
+        self.came.fetch_add(1, SeqCst);
+        for _ in 0..TURNS {
+            if !self.stays.load(SeqCst) {
+                return;
+            }
+            yield_now();
         }
     }
 
@@ -175,7 +210,7 @@ fn come<const RECURSIVE: bool, R: Wait>(
         Coming::Reader => match lock.lock_shared(rt, token) {
             Ok(guard) => {
                 told.inside.read();
-                told.came.fetch_add(1, SeqCst);
+                told.note_coming();
                 lock.unlock_shared(rt, token, guard);
             }
             Err(_) => {}
@@ -183,7 +218,7 @@ fn come<const RECURSIVE: bool, R: Wait>(
         Coming::Upgradable => match lock.lock_upgradable(rt, token) {
             Ok(guard) => {
                 told.inside.read_upgradable();
-                told.came.fetch_add(1, SeqCst);
+                told.note_coming();
                 lock.unlock_upgradable(rt, token, guard);
             }
             Err(_) => {}
@@ -191,7 +226,7 @@ fn come<const RECURSIVE: bool, R: Wait>(
         Coming::Writer => {
             let guard = lock.lock_exclusive(rt, token);
             told.inside.write();
-            told.came.fetch_add(1, SeqCst);
+            told.note_coming();
             lock.unlock_exclusive(rt, token, guard);
         }
     }
@@ -243,10 +278,7 @@ fn hold_alone<const RECURSIVE: bool, R: Wait>(
             lock.unlock_upgradable(rt, token, guard);
             came
         }
-        _ => {
-            lock.unlock_exclusive(rt, token, guard);
-            true
-        }
+        _ => go_alone(rt, lock, token, scene.manner, told, guard),
     };
     stood && came
 }
@@ -275,8 +307,8 @@ fn hold_upgradable<const RECURSIVE: bool, R: Wait>(
             stood && came
         }
         _ => {
-            lock.unlock_upgradable(rt, token, guard);
-            stood
+            let went = go_upgradable(rt, lock, token, scene.manner, told, guard);
+            stood && went
         }
     }
 }
@@ -297,6 +329,10 @@ fn hold_shared<const RECURSIVE: bool, R: Wait>(
     };
     told.held.store(true, SeqCst);
     let stood = queue_up(rt, lot, lock, token, scene.main, scene.second);
+    if scene.manner == Manner::ReaderBumped {
+        let came = go_shared(rt, lock, token, told, guard);
+        return stood && came;
+    }
     let again = match scene.manner {
         Manner::ReaderAgain => match lock.lock_shared(rt, token) {
             Ok(guard) => {
@@ -323,13 +359,16 @@ fn hold<const RECURSIVE: bool, R: Wait>(
 {
     let mut token = ticket.enter();
     match scene.manner {
-        Manner::Unlocked | Manner::Downgraded | Manner::ToUpgradable => {
-            hold_alone(rt, lot, lock, &mut token, scene, told)
-        }
-        Manner::UpgradableToReader | Manner::UpgradableGone => {
-            hold_upgradable(rt, lot, lock, &mut token, scene, told)
-        }
-        Manner::ReaderGone | Manner::ReaderAgain => {
+        Manner::Unlocked
+        | Manner::Downgraded
+        | Manner::ToUpgradable
+        | Manner::Handed
+        | Manner::Bumped => { hold_alone(rt, lot, lock, &mut token, scene, told) }
+        Manner::UpgradableToReader
+        | Manner::UpgradableGone
+        | Manner::UpgradableHanded
+        | Manner::UpgradableBumped => { hold_upgradable(rt, lot, lock, &mut token, scene, told) }
+        Manner::ReaderGone | Manner::ReaderAgain | Manner::ReaderBumped => {
             hold_shared(rt, lot, lock, &mut token, scene, told)
         }
     }
@@ -379,7 +418,7 @@ fn hold_and_come<const RECURSIVE: bool, R: Threads + Wait + Sync>(
 }
 
 // Plays a scene: whether all stood where they were to, and all came in, beside none whom they exclude.
-fn play<const RECURSIVE: bool, R: Threads + Wait + Sync>(
+pub(super) fn play<const RECURSIVE: bool, R: Threads + Wait + Sync>(
     rt: &R,
     alloc: Global,
     scene: Scene,
@@ -393,9 +432,9 @@ fn play<const RECURSIVE: bool, R: Threads + Wait + Sync>(
     Ok(held && came && told.came.load(SeqCst) == 3 && told.inside.wrongs() == 0)
 }
 
-const ALL: [Coming; 3] = [Coming::Reader, Coming::Upgradable, Coming::Writer];
+pub(super) const ALL: [Coming; 3] = [Coming::Reader, Coming::Upgradable, Coming::Writer];
 
-const READERS: [Coming; 3] = [Coming::Reader, Coming::Reader, Coming::Upgradable];
+pub(super) const READERS: [Coming; 3] = [Coming::Reader, Coming::Reader, Coming::Upgradable];
 
 #[test]
 fn a_writer_that_goes_lets_all_in(rt: HostRuntime) -> Result<(), Fail> {

@@ -13,7 +13,8 @@ use Rattle.parking_lot_core.specs.Tokens.{view_of}
 use Rattle.lot_driver.specs.Paths.{Walks, at_rwlock, rwlock_at}
 use Rattle.lot_driver.specs.RwLockCalls.{rwlock_begin}
 use Rattle.lot_driver.specs.Stages.{stage_of}
-use Rattle.lot_driver.proofs.RwLockCalling.{begins_entering, entered_right, found_full, gave_up_may}
+use Rattle.lot_driver.proofs.RwLockCalling.{begins_entering, entered_right, found_full, gave_up_left, gave_up_may}
+use Rattle.lot_driver.proofs.RwLockFull.{sees_full}
 use Rattle.lot_driver.proofs.RwLockNeeds.{has_right}
 use Rattle.parking_lot.proofs.rwlock_rights.LotRwLock.enter.Goals as goal
 
@@ -35,13 +36,21 @@ returns-in-No-clause-late g c = let n = c.args.self.now.word.number in let owns 
     let over = c.call-answer.ensures.over owns (begins_entering n c.args.access c.args.patience owns) in
     (gave_up_may (IsUp g.C.Clock.tells c.args.limit) n owns c.args.self.now.admission c.args.access c.args.patience c.call-answer.result (stage_of c.call-answer.new.token None) over c.in-No.is).0
 
+pub returns-in-No-clause-left : goal.returns-in-No-clause-left
+returns-in-No-clause-left g c = let n = c.args.self.now.word.number in let owns = (view_of c.args.token.now).owns in
+    let over = c.call-answer.ensures.over owns (begins_entering n c.args.access c.args.patience owns) in
+    gave_up_left (IsUp g.C.Clock.tells c.args.limit) n owns c.args.self.now.admission c.args.access c.args.patience c.call-answer.result (stage_of c.call-answer.new.token None) over c.in-No.is
+
 pub returns-in_default : goal.returns-in_default
 returns-in_default g c = let n = c.args.self.now.word.number in let owns = (view_of c.args.token.now).owns in
     let over = c.call-answer.ensures.over owns (begins_entering n c.args.access c.args.patience owns) in
-    let full = found_full (IsUp g.C.Clock.tells c.args.limit) n owns c.args.self.now.admission c.args.access c.args.patience c.call-answer.result (stage_of c.call-answer.new.token None) over c.in_default.not-Ok c.in_default.not-Yes c.in_default.not-No in record {
+    let full = found_full (IsUp g.C.Clock.tells c.args.limit) n owns c.args.self.now.admission c.args.access c.args.patience c.call-answer.result (stage_of c.call-answer.new.token None) over c.in_default.not-Ok c.in_default.not-Yes c.in_default.not-No in
+    let sees = sees_full c.args.access c.args.patience n c.args.self.now.admission c.args.token.now c.call-answer.new.token (subst (λ (answer : Answer). Walks (at_rwlock n) (rwlock_begin n c.args.self.now.admission (Enter c.args.access c.args.patience)) (view_of c.args.token.now).steps (view_of c.call-answer.new.token).steps answer) full.0 c.call-answer.ensures.path) in record {
       token = (search rules, (search rules, full.2));
       right = refl;
       path = subst (λ (answer : Answer). Walks (at_rwlock c.args.self.now.word.number) (rwlock_begin c.args.self.now.word.number c.args.self.now.admission (Enter c.args.access c.args.patience)) (view_of c.args.token.now).steps (view_of c.call-answer.new.token).steps answer) full.0 c.call-answer.ensures.path;
       late = tt;
-      full = full.1;
+      counted = full.1;
+      full = sees;
+      left = tt;
     }

@@ -1,0 +1,38 @@
+-- Why a call of a reader-writer lock was refused, and what one left that gave up.
+use Rattle.std.specs.Prelude.{ℕ, ◌≡◌, ◌≤◌, ◌++◌, ◌⊎◌, false, List, Option, None}
+use Rattle.lot_base.specs.declared.ops.Op.{Op}
+use Rattle.abstract_locks.specs.Codes.{count_in, is_blocked}
+use Rattle.lot_calls.specs.declared.calls.Access.{Access}
+use Rattle.lot_calls.specs.declared.calls.RwLockCall.{RwLockCall}
+use Rattle.lot_calls.specs.declared.calls.RwLockCall.TheVariants as calls
+use Rattle.lot_rwlock.specs.RwLockSteps.{wanted}
+use Rattle.lot_rwlock.specs.declared.places.Admission.{Admission}
+use Rattle.lot_rwlock.specs.declared.purposes.RwLockPurpose.{RwLockPurpose}
+use Rattle.lot_rwlock.specs.declared.purposes.RwLockPurpose.TheVariants as purpose
+use Rattle.lot_words.specs.declared.views.WordStep.{WordStep}
+use Rattle.parking_lot_core.specs.Tokens.{view_of, last_of}
+use Rattle.parking_lot_core.specs.declared.tokens.SectionRecord.{SectionRecord}
+use Rattle.parking_lot_core.specs.declared.tokens.Token.{Token}
+use Rattle.lot_driver.specs.Paths.{rwlock_at, step}
+use Rattle.lot_driver.specs.RwLockFitting.{LeftAlone, TookWoken}
+
+-- the last of its steps saw that nobody keeps this right out, and that as many share the lock as may
+abbrev pub SawFull : ℕ → Admission → Access → Token → Token → Type 0
+SawFull l a x old new = (before : List WordStep) × (op : Op) × (seen : ℕ)
+    × ((view_of new).steps ≡ ((view_of old).steps ++ before) ++ step (rwlock_at l) op seen)
+    × (is_blocked a.recursive (wanted x) seen ≡ false) × (a.limit ≤ count_in seen)
+
+-- an upgrade that gives up leaves no section behind its last step, or took there those whom it had kept out; one that enters may also
+-- have left the queue, and done nothing else there
+abbrev pub LeftBy : ℕ → Admission → RwLockPurpose → Option SectionRecord → Type 0
+LeftBy l a (purpose.Upgrade how) last = (last ≡ None) ⊎ TookWoken l a (purpose.Upgrade how) last
+LeftBy l a q last = (last ≡ None) ⊎ (LeftAlone l last ⊎ TookWoken l a q last)
+
+abbrev pub GaveUp : ℕ → Admission → RwLockPurpose → Token → Type 0
+GaveUp l a q new = LeftBy l a q (last_of new)
+
+-- so of a call; no other gives up
+abbrev pub GaveUpCall : ℕ → Admission → RwLockCall → Token → Type 0
+GaveUpCall l a (calls.Enter x how) new = GaveUp l a (purpose.Enter x how) new
+GaveUpCall l a (calls.Upgrade how) new = GaveUp l a (purpose.Upgrade how) new
+GaveUpCall l a call new = ⊥

@@ -1,0 +1,3 @@
+pub mod OnceWords
+pub mod OnceFit
+pub mod OnceTells

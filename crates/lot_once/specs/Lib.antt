@@ -1,0 +1,4 @@
+pub mod OnceSteps
+pub mod OnceProfiles
+pub mod OnceDeeds
+pub mod OnceCalls

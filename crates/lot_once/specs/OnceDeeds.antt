@@ -1,0 +1,130 @@
+-- What each step of a `Once` does to it: the deeds of each place, and their laws.
+use Rattle.std.specs.Prelude.{ℕ, Bool, true, false, Option, Some, None, if◌then◌else◌, ◌==◌, ◌≡◌, ◌≢◌, List, [], ◌∷◌}
+use Rattle.lot_base.specs.declared.ops.Op.{Op}
+use Rattle.lot_base.specs.declared.wants.Waiter.{Waiter}
+use Rattle.lot_base.specs.Words.{apply}
+use Rattle.lot_calls.specs.declared.calls.OnceCall.{OnceCall}
+use Rattle.lot_acts.specs.declared.acts.Act.TheVariants as act
+use Rattle.lot_acts.specs.declared.acts.Next.{Next}
+use Rattle.lot_acts.specs.declared.acts.Next.TheVariants as next
+use Rattle.lot_acts.specs.declared.acts.Reply.{Reply}
+use Rattle.lot_acts.specs.declared.acts.Reply.TheVariants as reply
+use Rattle.lot_acts.specs.declared.owners.Owners.{Owners}
+use Rattle.lot_acts.specs.Acts.{holds}
+use Rattle.lot_acts.specs.Owners.{lock_seen}
+use Rattle.abstract_locks.specs.Onces.{OnceCase, Start, Finish, Fail, Rest, TakeAll}
+use Rattle.abstract_locks.specs.Locks.{Rules, Once, OfOnce, Taken, standing, HasTakenNobody}
+use Rattle.abstract_locks.specs.Sites.{Main, Doing, Site, IsSite, Deed, End, In, Out, Mark, Case, idle}
+use Rattle.abstract_locks.specs.Deeds.{after_all, AllNeeded}
+use Rattle.abstract_locks.specs.Codes.{code, is_marked}
+use Rattle.lot_once.specs.declared.look.LookAt.{LookAt}
+use Rattle.lot_once.specs.declared.look.LookAt.TheVariants as look
+use Rattle.lot_once.specs.declared.look.Course.{Course}
+use Rattle.lot_once.specs.declared.look.Course.TheVariants.{Ends, Runs, Marks}
+use Rattle.lot_once.specs.declared.run.RunAt.{RunAt}
+use Rattle.lot_once.specs.declared.run.RunAt.TheVariants as run
+use Rattle.lot_once.specs.declared.places.OncePlace.{OncePlace}
+use Rattle.lot_once.specs.declared.places.OncePlace.TheVariants.{Look, Run}
+use Rattle.lot_once.specs.OnceSteps.{is_forced, want_of, course_of, check_of, once_act, once_next, once_owners}
+use Rattle.lot_once.specs.OnceProfiles.{once_profile}
+
+-- ---------------------------------------------------------------- the deeds of each step
+
+abbrev pub looked_deeds : Course → List Deed
+looked_deeds (Ends answer) = End ∷ []
+looked_deeds course = []
+
+-- behind an exchange, by whether it succeeded
+abbrev pub exchanged_deeds : OnceCall → Bool → Course → List Deed
+exchanged_deeds c true Runs = Case (OfOnce (Start (is_forced c))) ∷ []
+exchanged_deeds c true Marks = Mark Main ∷ []
+exchanged_deeds c won course = looked_deeds course
+
+abbrev pub look_deeds : OnceCall → LookAt → Reply → List Deed
+look_deeds c look.Load (reply.Value seen) = looked_deeds (course_of c seen)
+look_deeds c (look.Decide expected) (reply.Value seen) = exchanged_deeds c (seen == expected) (course_of c seen)
+look_deeds c (look.Decide expected) reply.Done = In Main ∷ []
+look_deeds c look.Check (reply.Parked true) = Case (OfOnce (Rest (want_of c) (is_forced c))) ∷ []
+look_deeds c (look.Leave parked) reply.Done = Out ∷ []
+look_deeds c at told = []
+
+abbrev pub end_of : Bool → OnceCase
+end_of succeeded = if succeeded then Finish else Fail
+
+-- the run ends, and so does its call where nobody is to be woken
+abbrev pub closes : Bool → Bool → List Deed
+closes succeeded true = Case (OfOnce (end_of succeeded)) ∷ []
+closes succeeded false = Case (OfOnce (end_of succeeded)) ∷ End ∷ []
+
+abbrev pub run_deeds : RunAt → Reply → List Deed
+run_deeds (run.Close succeeded) (reply.Value seen) = closes succeeded (is_marked seen)
+run_deeds (run.Enter succeeded) reply.Done = In Main ∷ []
+run_deeds (run.Take succeeded) (reply.Took any none_left) = Case (OfOnce TakeAll) ∷ []
+run_deeds (run.Leave succeeded any) reply.Done = Out ∷ End ∷ []
+run_deeds at told = []
+
+abbrev pub once_deeds : OncePlace → Reply → List Deed
+once_deeds (Look c retries at) told = look_deeds c at told
+once_deeds (Run forced at) told = run_deeds at told
+
+-- ---------------------------------------------------------------- the laws
+
+abbrev pub once_doing : OncePlace → Doing
+once_doing p = (once_profile p).doing
+
+-- behind a step, at its next place or in no call
+abbrev pub doing_next : Next OncePlace → Doing
+doing_next (next.At p) = once_doing p
+doing_next (next.End answer) = idle
+
+-- a thread stands at a place of a call of a `Once`
+pub record IsAt (r : Rules) (s : Site) (t : ℕ) (p : OncePlace) : Type 0 where
+  pub sort : r.sort ≡ Once
+  pub site : IsSite r s
+  pub doing : s.doing t ≡ once_doing p
+
+-- the deeds of a reply may be done, and the next place says what the thread does then
+pub record Follows (r : Rules) (s : Site) (t : ℕ) (p : OncePlace) (told : Reply) : Type 0 where
+  pub needed : AllNeeded r (once_deeds p told) s t
+  pub doing : (after_all r (once_deeds p told) s t).doing t ≡ doing_next (once_next p told)
+
+-- each step on the word follows
+abbrev pub OnceStepsFollow : Type 0
+OnceStepsFollow =
+    (r : Rules) (s : Site) (t l : ℕ) (p : OncePlace) (op : Op) → IsAt r s t p → once_act l p ≡ act.Word l op
+    → Follows r s t p (reply.Value (code r s))
+
+-- the word that it leaves is the word of the `Once` behind its deeds
+abbrev pub OnceStepsCode : Type 0
+OnceStepsCode =
+    (r : Rules) (s : Site) (t l : ℕ) (p : OncePlace) (op : Op) → IsAt r s t p → once_act l p ≡ act.Word l op
+    → apply op (code r s) ≡ code r (after_all r (once_deeds p (reply.Value (code r s))) s t)
+
+-- and so is how far it has come
+abbrev pub OnceOwnersFollow : Type 0
+OnceOwnersFollow =
+    (r : Rules) (s : Site) (t l : ℕ) (p : OncePlace) (op : Op) (shared : List ℕ) (o : Owners) (main second : List Waiter) (taken : ℕ → Option Taken)
+    → IsAt r s t p → once_act l p ≡ act.Word l op → s.lock ≡ lock_seen shared o main second taken
+    → lock_seen shared (once_owners p t (code r s) o) main second taken
+    ≡ (after_all r (once_deeds p (reply.Value (code r s))) s t).lock
+
+-- nobody is inside the section
+abbrev pub IsFree : Site → Type 0
+IsFree s = (u : ℕ) → (s.doing u).inside ≢ Some Main
+
+-- what a thread may be told of its steps in and out of the section
+abbrev pub MayHear : Rules → Site → ℕ → OncePlace → Reply → Type 0
+MayHear r s t (Look c retries (look.Decide seen)) reply.Done = IsFree s
+MayHear r s t (Look c retries look.Check) (reply.Parked b) =
+    (b ≡ holds (check_of c) (code r s)) × (standing t s.lock ≡ 0)
+MayHear r s t (Look c retries (look.Leave parked)) reply.Done = s.lock.taken t ≡ None
+MayHear r s t (Run forced (run.Enter succeeded)) reply.Done = IsFree s
+MayHear r s t (Run forced (run.Take succeeded)) (reply.Took any none_left) = HasTakenNobody s.lock t
+MayHear r s t (Run forced (run.Leave succeeded any)) reply.Done = s.lock.taken t ≡ None
+MayHear r s t p told = ⊥
+
+-- each such step follows too
+abbrev pub OnceSectionsFollow : Type 0
+OnceSectionsFollow =
+    (r : Rules) (s : Site) (t : ℕ) (p : OncePlace) (told : Reply) → IsAt r s t p → MayHear r s t p told
+    → Follows r s t p told

@@ -1,0 +1,106 @@
+//! Calls of a `Once` alone, by the values that their word would have.
+use super::*;
+use lot_acts::{Act, Next, Reply, Wakes};
+use lot_base::{Keys, Note, Op, Want};
+use lot_calls::{Answer, OnceCall, OnceState, Outcome};
+use std::process::Abort;
+
+/// Where a call goes on from a place by a reply, which doesn't end it.
+fn onward(rt: &impl Abort, place: OncePlace, reply: Reply) -> OncePlace {
+    match place.next(reply) {
+        Next::At(next) => next,
+        Next::End(answer) => panic!(rt; "ended with {answer:?}"),
+    }
+}
+
+#[test]
+fn a_call_runs_its_closure_and_wakes_who_waits(rt: HostRuntime) {
+    let loads = OncePlace::first(OnceCall::CallOnce { forced: false });
+    assert_eq!(rt;
+        loads.act(3),
+        Act::Word {
+            lock: 3,
+            op: Op::Load
+        }
+    );
+    let decides = onward(&rt, loads, Reply::Value(8));
+    let starts = Op::Exchange { from: 8, to: 12 };
+    assert_eq!(rt;
+        decides.act(3),
+        Act::Word {
+            lock: 3,
+            op: starts
+        }
+    );
+    let runs = onward(&rt, decides, Reply::Value(8));
+    assert_eq!(rt; runs.outcome(), Outcome::Closure(OnceState::New));
+    let closes = onward(&rt, runs, Reply::Closed { succeeded: true });
+    assert_eq!(rt;
+        closes.act(3),
+        Act::Word {
+            lock: 3,
+            op: Op::Swap(1)
+        }
+    );
+    let enters = onward(&rt, closes, Reply::Value(12));
+    assert_eq!(rt; enters.act(3), Act::Enter(Keys::One(6)));
+    let takes = onward(&rt, enters, Reply::Done);
+    let took = Reply::Took {
+        any: true,
+        none_left: true,
+    };
+    let leaves = onward(&rt, takes, took);
+    let wakes = Wakes::All(Note::Normal);
+    assert_eq!(rt;
+        leaves.act(3),
+        Act::Leave {
+            keys: Keys::One(6),
+            wakes
+        }
+    );
+    assert_eq!(rt; leaves.next(Reply::Done), Next::End(Answer::Ok));
+}
+
+#[test]
+fn a_call_of_a_poisoned_once_goes_on_by_force_alone(rt: HostRuntime) {
+    for (forced, ends) in [(false, true), (true, false)] {
+        for call in [OnceCall::CallOnce { forced }, OnceCall::Wait { forced }] {
+            let next = OncePlace::first(call).next(Reply::Value(2));
+            assert_eq!(rt; next == Next::End(Answer::Poisoned), ends);
+        }
+    }
+    let decides = onward(
+        &rt,
+        OncePlace::first(OnceCall::CallOnce { forced: true }),
+        Reply::Value(2),
+    );
+    let runs = onward(&rt, decides, Reply::Value(2));
+    assert_eq!(rt; runs.outcome(), Outcome::Closure(OnceState::Poisoned));
+    let closes = onward(&rt, runs, Reply::Closed { succeeded: false });
+    assert_eq!(rt; closes.next(Reply::Value(4)), Next::End(Answer::Failed));
+}
+
+#[test]
+fn who_waits_sleeps_until_it_is_woken(rt: HostRuntime) {
+    let decides = onward(
+        &rt,
+        OncePlace::first(OnceCall::Wait { forced: false }),
+        Reply::Value(4),
+    );
+    let marks = Op::Exchange { from: 4, to: 12 };
+    assert_eq!(rt; decides.act(0), Act::Word { lock: 0, op: marks });
+    assert_eq!(rt;
+        decides.looking(),
+        Some(OncePlace::first(OnceCall::Wait { forced: false }))
+    );
+    let enters = onward(&rt, decides, Reply::Value(4));
+    assert_eq!(rt; enters.act(0), Act::Enter(Keys::One(0)));
+    let checks = onward(&rt, enters, Reply::Done);
+    assert_eq!(rt; checks.wants(), Some(Want::Wait));
+    let leaves = onward(&rt, checks, Reply::Parked(true));
+    let asleep = onward(&rt, leaves, Reply::Done);
+    assert_eq!(rt; asleep.outcome(), Outcome::Sleep);
+    let again = onward(&rt, asleep, Reply::Woken(Note::Normal));
+    assert!(rt; again.retries());
+    assert_eq!(rt; again.next(Reply::Value(1)), Next::End(Answer::Ok));
+}
