@@ -6,7 +6,9 @@
 pub mod places;
 
 pub use lot_acts;
-pub use lot_acts::{Act, Check, Fallback, Next, Op, Owner, Owners, Pending, Phase, Reply, Wakes, Whom};
+pub use lot_acts::{
+    Act, Check, Fallback, Next, Op, Owner, Owners, Pending, Phase, Reply, Wakes, Whom,
+};
 pub use lot_calls;
 pub use lot_calls::{Answer, Call, Kind, MutexCall, OnceState, Outcome, Step, Turn};
 pub use lot_mutex;
