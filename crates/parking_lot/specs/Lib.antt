@@ -1,3 +1,4 @@
+pub mod Drawing
 pub mod MutexGuards
 pub mod RwLockGuards
 pub mod RwLockUsers

@@ -3,6 +3,8 @@ ghost use Rattle.std.specs.Prelude.{◌≡◌};
 ghost use Rattle.std.specs.Arc.{arc_value};
 ghost use Rattle.parking_lot_core.specs.Tokens.{IsTokenOf, view_of, last_of};
 ghost use Rattle.lot_driver.specs.Calls.{fairly, HasWalked, Sees, Releases};
+ghost use Rattle.lot_words.specs.declared.words.WordKind.TheVariants.{Mutex};
+ghost use Rattle.parking_lot.specs.Drawing.{Drew, FoundFull};
 ghost use Rattle.parking_lot.specs.MutexGuards.{IsGuardOf, IsGuardOf-prop, IsOpenGuardOf, IsOpenGuardOf-prop, permit_in, StaysAs, StaysAs-on};
 ghost use Rattle.lot_driver.specs.Telling.{steps_of};
 
@@ -67,6 +69,10 @@ impl lock_raw::RawMutex for RawFairMutex {
     ghost is_opened_of = { λ mutex opened. IsOpenGuardOf (arc_value mutex.lot) mutex.word opened };
 
     ghost opened_once = { λ mutex opened. IsOpenGuardOf-prop (arc_value mutex.lot) mutex.word opened };
+
+    ghost drew = { λ mutex old new. Drew Mutex (arc_value mutex.lot) mutex.word old new };
+
+    ghost found_full = { λ lot old new. FoundFull lot old new };
 
     ghost walked = { λ mutex call answer old new. HasWalked mutex.word.number (fairly call) answer old new };
 

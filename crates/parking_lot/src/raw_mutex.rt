@@ -4,7 +4,6 @@ ghost use Rattle.std.specs.Arc.{arc_value};
 ghost use Rattle.lot_base.specs.Clocks.{IsUp};
 ghost use Rattle.lock_raw.specs.Answers.{answer_by};
 ghost use Rattle.lot_calls.specs.declared.calls.MutexCall.TheVariants.{LockTimed};
-ghost use Rattle.lot_words.specs.Draws.{IsDrawn, IsDrawRefused};
 ghost use Rattle.lot_words.specs.Lots.{IsWordOf};
 ghost use Rattle.lot_words.specs.Plays.{piece, left_over, takes_in};
 ghost use Rattle.lot_words.specs.Steps.{has};
@@ -12,6 +11,7 @@ ghost use Rattle.lot_words.specs.declared.words.WordKind.TheVariants.{Mutex};
 ghost use Rattle.parking_lot_core.specs.Tokens.{IsTokenOf, IsSameThread, view_of, last_of};
 ghost use Rattle.lot_words.specs.declared.views.WordStep.{WordStep};
 ghost use Rattle.lot_driver.specs.Calls.{MeetAt, purpose_in, IsUnfinished, HasWalked, Sees, Releases, WalksBehind};
+ghost use Rattle.parking_lot.specs.Drawing.{Drew, FoundFull};
 ghost use Rattle.parking_lot.specs.MutexGuards.{IsGuardOf, IsGuardOf-prop, IsOpenGuardOf, IsOpenGuardOf-prop, permit_in, StaysAs, StaysAs-on};
 ghost use Rattle.lot_driver.specs.MutexFitting.{IsMutexOver, held};
 ghost use Rattle.lot_driver.specs.Paths.{mutex_at, at_mutex, Walks};
@@ -129,8 +129,6 @@ impl RawMutex {
 }
 
 impl lock_raw::RawMutex for RawMutex {
-    ghost use Rattle.parking_lot.specs.Users.{lot_of as lot_at, word_of};
-
     type Lot = ParkingLot;
 
     type Token = Token;
@@ -157,6 +155,10 @@ impl lock_raw::RawMutex for RawMutex {
 
     ghost opened_once = { λ mutex opened. IsOpenGuardOf-prop (arc_value mutex.lot) mutex.word opened };
 
+    ghost drew = { λ mutex old new. Drew Mutex (arc_value mutex.lot) mutex.word old new };
+
+    ghost found_full = { λ lot old new. FoundFull lot old new };
+
     ghost walked = { λ mutex call answer old new. HasWalked mutex.word.number call answer old new };
 
     ghost released = { λ mutex call old new.
@@ -164,17 +166,7 @@ impl lock_raw::RawMutex for RawMutex {
 
     ghost looked = { λ mutex locked old new. Sees mutex.word.number locked (steps_of old) (steps_of new) };
 
-    fn new(lot: &Arc<ParkingLot>, token: &mut Token) -> Result<RawMutex, Fault>
-        requires { IsTokenOf (arc_value lot.now) token.old }
-        ensures token { IsTokenOf (arc_value lot.now) token.new × StaysAs token.old token.new }
-        ensures made { MatchResult result (λ mutex. lot_at mutex ≡ arc_value lot.now)
-            (λ fault. (fault ≡ Fault.NoMemory) ⊎ (fault ≡ Fault.LotFull)) }
-        ensures drawn { MatchResult result
-            (λ mutex. IsDrawn (arc_value lot.now).words.count (Mutex ∷ []) (word_of mutex).number (view_of token.old)
-            (view_of token.new))
-            (λ fault. ((fault ≡ Fault.NoMemory) × (token.new ≡ token.old)) ⊎ ((fault ≡ Fault.LotFull)
-            × IsDrawRefused (arc_value lot.now).words.count 1 (view_of token.old) (view_of token.new))) }
-    {
+    fn new(lot: &Arc<ParkingLot>, token: &mut Token) -> Result<RawMutex, Fault> {
         let Ok(lot) = Arc::try_clone(lot) else {
             return Err(Fault::NoMemory);
         };

@@ -4,6 +4,9 @@ ghost use Rattle.std.specs.Arc.{arc_value};
 ghost use Rattle.parking_lot_core.specs.Tokens.{IsTokenOf};
 ghost use Rattle.lot_driver.specs.RwLockCalls.{HasWalkedCall, SeesBy, StaysSettled, StaysSettled-on, WakesByCall, is_held, is_held_alone};
 ghost use Rattle.lot_driver.specs.RwLockRefusals.{GaveUpCall, SawFull};
+ghost use Rattle.lock_raw.specs.Answers.{IsRefusal};
+ghost use Rattle.lot_words.specs.declared.words.WordKind.TheVariants.{RwLock};
+ghost use Rattle.parking_lot.specs.Drawing.{Drew, FoundFull};
 ghost use Rattle.parking_lot.specs.RwLockGuards.{IsExclusiveOf, IsExclusiveOf-prop, IsSharedOf, IsSharedOf-prop, IsUpgradableOf, IsUpgradableOf-prop};
 
 use crate::rwlock_guards::{RawExclusiveGuard, RawSharedGuard, RawUpgradableGuard};
@@ -71,6 +74,12 @@ impl<const RECURSIVE: bool> lock_raw::RawRwLock for RawRwLock<RECURSIVE> {
 
     ghost exclusive_once = { λ lock guard. IsExclusiveOf-prop (lot_at lock) (word_at lock) guard };
 
+    ghost limit_of = { λ lock. (admission_of lock).limit };
+
+    ghost drew = { λ lock old new. Drew RwLock (lot_at lock) (word_at lock) old new };
+
+    ghost found_full = { λ lot old new. FoundFull lot old new };
+
     ghost walked = { λ lock call answer old new. HasWalkedCall (word_at lock).number (admission_of lock) call answer old new };
 
     ghost woke = { λ lock call old new. WakesByCall (word_at lock).number (admission_of lock) call old new };
@@ -95,10 +104,11 @@ impl<const RECURSIVE: bool> lock_raw::RawRwLock for RawRwLock<RECURSIVE> {
         requires token { IsTokenOf (arc_value lot.now) token.old }
         requires limit { limit ≤ 1152921504606846974 }
         ensures token { IsTokenOf (arc_value lot.now) token.new × StaysSettled token.old token.new }
-        ensures made { MatchResult result (λ lock. lot_at lock ≡ arc_value lot.now)
-            (λ fault. (fault ≡ Fault.NoMemory) ⊎ (fault ≡ Fault.LotFull)) }
-        ensures chosen { IfOk result (λ lock. ((admission_of lock).recursive ≡ RECURSIVE)
-            × ((admission_of lock).limit ≡ limit)) }
+        ensures made { MatchResult result
+            (λ lock. (lot_at lock ≡ arc_value lot.now) × ((admission_of lock).limit ≡ limit))
+            (IsRefusal (FoundFull (arc_value lot.now)) token.old token.new) }
+        ensures drawn { IfOk result (λ lock. Drew RwLock (lot_at lock) (word_at lock) token.old token.new) }
+        ensures chosen { IfOk result (λ lock. (admission_of lock).recursive ≡ RECURSIVE) }
     {
         let lock = LotRwLock::with_limit(lot, token, RECURSIVE, limit)?;
         Ok(RawRwLock { lock })

@@ -1,7 +1,7 @@
 //! A reader-writer lock of a lot, whose rights are got, given up and turned into others.
 ghost use Rattle.std.specs.Prelude.{◌≡◌, ◌⊎◌, ◌<◌, ◌≤◌, ◌+◌, ◌*◌, ◌-◌, ◌^◌, ◌++◌, ◌∷◌, [], ℕ, true, IfErr, IfNone, IfOk, IfSome, MatchResult};
 ghost use Rattle.std.specs.Arc.{arc_value};
-ghost use Rattle.lock_raw.specs.Answers.{answer_by, reading_answer};
+ghost use Rattle.lock_raw.specs.Answers.{IsRefusal, answer_by, reading_answer};
 ghost use Rattle.lot_base.specs.Clocks.{IsUp};
 ghost use Rattle.lot_base.specs.declared.ops.Op.TheVariants.{Load};
 ghost use Rattle.lot_base.specs.declared.wants.Want.TheVariants.{Exclusive, Upgradable};
@@ -18,6 +18,7 @@ ghost use Rattle.lot_words.specs.Rights.{owner_for};
 ghost use Rattle.lot_words.specs.Steps.{CodesWith, has};
 ghost use Rattle.lot_words.specs.Views.{owning};
 ghost use Rattle.lot_words.specs.declared.words.WordKind.TheVariants.{RwLock};
+ghost use Rattle.parking_lot.specs.Drawing.{Drew, FoundFull};
 ghost use Rattle.parking_lot_core.specs.Tokens.{IsTokenOf, IsSameThread, view_of, last_of};
 ghost use Rattle.lot_driver.specs.Paths.{rwlock_at, step};
 ghost use Rattle.lot_driver.specs.RwLockCalls.{Exclude, HasWalkedCall, HasWalkedRwLock, IsRwLockRight, ReleasesFairly, StaysBeside, WakesBy, entry_answer, turn_answer};
@@ -69,7 +70,8 @@ impl LotRwLock {
         ensures made { MatchResult result
             (λ lock. (lot_in lock ≡ arc_value lot.now) × ((admission_in lock).recursive ≡ recursive)
             × ((admission_in lock).limit ≡ limit))
-            (λ fault. (fault ≡ Fault.NoMemory) ⊎ (fault ≡ Fault.LotFull)) }
+            (IsRefusal (FoundFull (arc_value lot.now)) token.old token.new) }
+        ensures drawn { IfOk result (λ lock. Drew RwLock (lot_in lock) (word_in lock) token.old token.new) }
     {
         let Ok(lot) = Arc::try_clone(lot) else {
             return Err(Fault::NoMemory);
