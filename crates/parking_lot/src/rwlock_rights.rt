@@ -247,7 +247,8 @@ impl LotRwLock {
             (λ fault. fault ≡ Fault.ReadersFull) }
         ensures path { HasWalkedCall (word_in self.now).number (admission_in self.now) (fair_calls.Bump access) (reading_answer result)
             token.old token.new }
-        ensures full { IfErr result (λ fault. IsCounted access) }
+        ensures counted { IfErr result (λ fault. IsCounted access) }
+        ensures full { IfErr result (λ fault. SawFull (word_in self.now).number (admission_in self.now) access token.old token.new) }
     {
         self.join(token, wanted(access), right);
         match bump(rt, &self.lot, token, self.word, self.admission, access) {
