@@ -150,8 +150,8 @@ impl LotRwLock {
             rt,
             &self.lot,
             token,
-            self.word,
-            self.admission,
+            &self.word,
+            &self.admission,
             limit,
             RwLockPurpose::Enter { access, patience },
         );
@@ -192,8 +192,8 @@ impl LotRwLock {
             rt,
             &self.lot,
             token,
-            self.word,
-            self.admission,
+            &self.word,
+            &self.admission,
             NO_LIMIT,
             RwLockPurpose::Release(access),
         );
@@ -209,7 +209,7 @@ impl LotRwLock {
         ensures record { ReleasesFairly (word_in self.now).number (admission_in self.now) access.Exclusive token.old token.new }
     {
         self.join(token, Want::Exclusive, right);
-        release_exclusive(rt, &self.lot, token, self.word, self.admission);
+        release_exclusive(rt, &self.lot, token, &self.word, &self.admission);
     }
 
     /// Gives the upgradable right up, and hands the lock to those who wait.
@@ -221,7 +221,7 @@ impl LotRwLock {
         ensures record { ReleasesFairly (word_in self.now).number (admission_in self.now) access.Upgradable token.old token.new }
     {
         self.join(token, Want::Upgradable, right);
-        release_upgradable(rt, &self.lot, token, self.word, self.admission);
+        release_upgradable(rt, &self.lot, token, &self.word, &self.admission);
     }
 
     /// Gives a right up where others wait for it, and waits for it again.
@@ -247,7 +247,7 @@ impl LotRwLock {
         ensures full { IfErr result (λ fault. IsCounted access) }
     {
         self.join(token, wanted(access), right);
-        match bump(rt, &self.lot, token, self.word, self.admission, access) {
+        match bump(rt, &self.lot, token, &self.word, &self.admission, access) {
             Answer::Ok => Ok(self.split(token, wanted(access))),
             _ => Err(Fault::ReadersFull),
         }
@@ -275,8 +275,8 @@ impl LotRwLock {
             rt,
             &self.lot,
             token,
-            self.word,
-            self.admission,
+            &self.word,
+            &self.admission,
             NO_LIMIT,
             RwLockPurpose::Downgrade(downgrade),
         );
@@ -312,8 +312,8 @@ impl LotRwLock {
             rt,
             &self.lot,
             token,
-            self.word,
-            self.admission,
+            &self.word,
+            &self.admission,
             limit,
             RwLockPurpose::Upgrade(patience),
         );
