@@ -3,7 +3,7 @@ use Rattle.std.specs.Prelude.{◌≡◌}
 use Rattle.std.proofs.Props.{props}
 use Rattle.std.proofs.Common.{◌∙◌}
 use Rattle.lot_words.specs.Lots.{permit_of}
-use Rattle.lot_words.specs.RightsOf.{IsRightOf, IsOpenOf}
+use Rattle.lot_words.specs.RightsOf.{IsHeldOf, IsOpenOf}
 use Rattle.lot_words.specs.declared.owners.Owner.TheVariants.{Exclusive}
 use Rattle.lot_words.specs.declared.words.Word.{Word}
 use Rattle.parking_lot.specs.declared.guards.OpenGuard.{OpenGuard}
@@ -15,8 +15,7 @@ use Rattle.parking_lot_core.specs.declared.tokens.Token.{Token}
 
 -- a guard of a mutex: the right of who owns it alone
 abbrev pub IsGuardOf : ParkingLot → Word → RawGuard → Type 0
-IsGuardOf lot word guard = IsRightOf lot.words guard.right
-    × (guard.right.word ≡ word) × (guard.right.owner ≡ Exclusive)
+IsGuardOf lot word guard = IsHeldOf lot.words word Exclusive guard.held
 
 -- that a guard is a mutex's has one proof at most
 pub IsGuardOf-prop : (lot : ParkingLot) (word : Word) (guard : RawGuard) → IsProp (IsGuardOf lot word guard)
@@ -24,7 +23,7 @@ IsGuardOf-prop lot word guard = Prim.hlevel props
 
 -- the same of a mutex whose value is open
 abbrev pub IsOpenGuardOf : ParkingLot → Word → OpenGuard → Type 0
-IsOpenGuardOf lot word guard = IsOpenOf lot.words guard.held × (guard.held.word ≡ word)
+IsOpenGuardOf lot word guard = IsOpenOf lot.words word guard.opened
 
 pub IsOpenGuardOf-prop : (lot : ParkingLot) (word : Word) (guard : OpenGuard) → IsProp (IsOpenGuardOf lot word guard)
 IsOpenGuardOf-prop lot word guard = Prim.hlevel props

@@ -71,7 +71,7 @@ impl RawMutex {
         ensures guard { IsGuardOf (lot_of self.now) (word_of self.now) result }
     {
         RawGuard {
-            right: lot.split_right(token, self.word, Want::Exclusive),
+            held: lot.split_held(token, self.word, Want::Exclusive),
         }
     }
 
@@ -83,8 +83,8 @@ impl RawMutex {
         ensures own { IsSameThread (lot_of self.now) token.old token.new × (last_of token.new ≡ last_of token.old) }
         ensures joined { view_of token.new ≡ takes_in (view_of token.old) (piece (held (word_of self.now).number)) }
     {
-        let RawGuard { right } = guard;
-        lot.join_right(token, right);
+        let RawGuard { held } = guard;
+        lot.join_held(token, self.word, Want::Exclusive, held);
     }
 
     // The slow half of a call without a limit. It takes the mutex by its address, so that the fast half copies nothing.
@@ -213,16 +213,16 @@ impl lock_raw::RawMutex for RawMutex {
 
     #[inline]
     fn open_value(&self, guard: RawGuard) -> (OpenGuard, Permit) {
-        let RawGuard { right } = guard;
-        let (held, permit) = self.lot.open_right(right);
-        (OpenGuard { held }, permit)
+        let RawGuard { held } = guard;
+        let (opened, permit) = self.lot.open_held(self.word, held);
+        (OpenGuard { opened }, permit)
     }
 
     #[inline]
     fn close_value(&self, opened: OpenGuard, permit: Permit) -> RawGuard {
-        let OpenGuard { held } = opened;
+        let OpenGuard { opened } = opened;
         RawGuard {
-            right: self.lot.close_right(held, permit),
+            held: self.lot.close_held(self.word, opened, permit),
         }
     }
 

@@ -35,7 +35,7 @@ use lot_driver::rwlock_calls::call;
 use lot_rwlock::places::WRITER;
 use lot_rwlock::purposes::wanted;
 use lot_rwlock::{Admission, RwLockPurpose};
-use parking_lot_core::{Clock, Fault, Key, Op, ParkingLot, Right, Token, Want, Word, WordKind};
+use parking_lot_core::{Clock, Fault, Held, Key, Op, ParkingLot, Token, Want, Word, WordKind};
 use std::sync::{Arc, Wait};
 
 // Takes a word that is 0.
@@ -98,7 +98,7 @@ impl LotRwLock {
     }
 
     #[inline(always)]
-    fn split(&self, token: &mut Token, want: Want) -> Right
+    fn split(&self, token: &mut Token, want: Want) -> Held
         requires own { IsTokenOf (lot_in self.now) token.old }
         requires held { has (owning (rwlock_at (word_in self.now).number) (owner_for want)) (owns_of token.old) ≡ true }
         ensures own { IsSameThread (lot_in self.now) token.old token.new × (last_of token.new ≡ last_of token.old) }
@@ -106,20 +106,19 @@ impl LotRwLock {
             ≡ left_over (owning (rwlock_at (word_in self.now).number) (owner_for want)) (view_of token.old) }
         ensures right { IsRwLockRight (lot_in self.now) (word_in self.now) (owner_for want) result }
     {
-        self.lot.split_right(token, self.word, want)
+        self.lot.split_held(token, self.word, want)
     }
 
     // Spends a right: the token owns it then.
     #[inline(always)]
-    fn join(&self, token: &mut Token, want: Want, right: Right)
+    fn join(&self, token: &mut Token, want: Want, right: Held)
         requires own { IsTokenOf (lot_in self.now) token.old }
         requires right { IsRwLockRight (lot_in self.now) (word_in self.now) (owner_for want) right }
         ensures own { IsSameThread (lot_in self.now) token.old token.new × (last_of token.new ≡ last_of token.old) }
         ensures joined { view_of token.new
             ≡ takes_in (view_of token.old) (piece (owning (rwlock_at (word_in self.now).number) (owner_for want))) }
     {
-        let _wanted = want;
-        self.lot.join_right(token, right);
+        self.lot.join_held(token, self.word, want, right);
     }
 
     /// Waits for a right: for ever, up to the limit, or not at all. None only where a try finds the lock blocked, or the time is up.
@@ -135,7 +134,7 @@ impl LotRwLock {
         limit: Option<(&C, u64)>,
         access: Access,
         patience: Patience,
-    ) -> Result<Option<Right>, Fault>
+    ) -> Result<Option<Held>, Fault>
         requires { IsTokenOf (lot_in self.now) token.old }
         ensures token { IsTokenOf (lot_in self.now) token.new × StaysBeside (word_in self.now).number token.old token.new }
         ensures right { MatchResult result
@@ -153,8 +152,8 @@ impl LotRwLock {
             rt,
             &self.lot,
             token,
-            self.word,
-            self.admission,
+            &self.word,
+            &self.admission,
             limit,
             RwLockPurpose::Enter { access, patience },
         );
@@ -167,7 +166,7 @@ impl LotRwLock {
 
     /// Takes a word that is 0, by one step.
     #[inline(always)]
-    pub(crate) fn try_enter_alone(&self, token: &mut Token) -> Option<Right>
+    pub(crate) fn try_enter_alone(&self, token: &mut Token) -> Option<Held>
         requires { IsTokenOf (lot_in self.now) token.old }
         ensures token { IsTokenOf (lot_in self.now) token.new × StaysBeside (word_in self.now).number token.old token.new }
         ensures right { IfSome result (IsRwLockRight (lot_in self.now) (word_in self.now) (owner_for Exclusive)) }
@@ -183,7 +182,7 @@ impl LotRwLock {
 
     /// Gives a right up, and wakes whom that lets in.
     #[inline(always)]
-    pub(crate) fn release<R: Wait>(&self, rt: &R, token: &mut Token, access: Access, right: Right)
+    pub(crate) fn release<R: Wait>(&self, rt: &R, token: &mut Token, access: Access, right: Held)
         requires token { IsTokenOf (lot_in self.now) token.old }
         requires right { IsRwLockRight (lot_in self.now) (word_in self.now) (owner_for (wanted access)) right }
         ensures token { IsTokenOf (lot_in self.now) token.new × StaysBeside (word_in self.now).number token.old token.new }
@@ -195,8 +194,8 @@ impl LotRwLock {
             rt,
             &self.lot,
             token,
-            self.word,
-            self.admission,
+            &self.word,
+            &self.admission,
             NO_LIMIT,
             RwLockPurpose::Release(access),
         );
@@ -204,7 +203,7 @@ impl LotRwLock {
 
     /// Gives the exclusive right up, and hands the lock to those who wait.
     #[inline(always)]
-    pub(crate) fn release_exclusive_fair<R: Wait>(&self, rt: &R, token: &mut Token, right: Right)
+    pub(crate) fn release_exclusive_fair<R: Wait>(&self, rt: &R, token: &mut Token, right: Held)
         requires token { IsTokenOf (lot_in self.now) token.old }
         requires right { IsRwLockRight (lot_in self.now) (word_in self.now) (owner_for Exclusive) right }
         ensures token { IsTokenOf (lot_in self.now) token.new × StaysBeside (word_in self.now).number token.old token.new }
@@ -212,11 +211,11 @@ impl LotRwLock {
         ensures record { ReleasesFairly (word_in self.now).number (admission_in self.now) access.Exclusive token.old token.new }
     {
         self.join(token, Want::Exclusive, right);
-        release_exclusive(rt, &self.lot, token, self.word, self.admission);
+        release_exclusive(rt, &self.lot, token, &self.word, &self.admission);
     }
 
     /// Gives the upgradable right up, and hands the lock to those who wait.
-    pub(crate) fn release_upgradable_fair<R: Wait>(&self, rt: &R, token: &mut Token, right: Right)
+    pub(crate) fn release_upgradable_fair<R: Wait>(&self, rt: &R, token: &mut Token, right: Held)
         requires token { IsTokenOf (lot_in self.now) token.old }
         requires right { IsRwLockRight (lot_in self.now) (word_in self.now) (owner_for Upgradable) right }
         ensures token { IsTokenOf (lot_in self.now) token.new × StaysBeside (word_in self.now).number token.old token.new }
@@ -224,7 +223,7 @@ impl LotRwLock {
         ensures record { ReleasesFairly (word_in self.now).number (admission_in self.now) access.Upgradable token.old token.new }
     {
         self.join(token, Want::Upgradable, right);
-        release_upgradable(rt, &self.lot, token, self.word, self.admission);
+        release_upgradable(rt, &self.lot, token, &self.word, &self.admission);
     }
 
     /// Gives a right up where others wait for it, and waits for it again.
@@ -238,8 +237,8 @@ impl LotRwLock {
         rt: &R,
         token: &mut Token,
         access: Access,
-        right: Right,
-    ) -> Result<Right, Fault>
+        right: Held,
+    ) -> Result<Held, Fault>
         requires token { IsTokenOf (lot_in self.now) token.old }
         requires right { IsRwLockRight (lot_in self.now) (word_in self.now) (owner_for (wanted access)) right }
         ensures token { IsTokenOf (lot_in self.now) token.new × StaysBeside (word_in self.now).number token.old token.new }
@@ -251,7 +250,7 @@ impl LotRwLock {
         ensures full { IfErr result (λ fault. SawFull (word_in self.now).number (admission_in self.now) access token.old token.new) }
     {
         self.join(token, wanted(access), right);
-        match bump(rt, &self.lot, token, self.word, self.admission, access) {
+        match bump(rt, &self.lot, token, &self.word, &self.admission, access) {
             Answer::Ok => Ok(self.split(token, wanted(access))),
             _ => Err(Fault::ReadersFull),
         }
@@ -264,8 +263,8 @@ impl LotRwLock {
         rt: &R,
         token: &mut Token,
         downgrade: Downgrade,
-        right: Right,
-    ) -> Right
+        right: Held,
+    ) -> Held
         requires token { IsTokenOf (lot_in self.now) token.old }
         requires right { IsRwLockRight (lot_in self.now) (word_in self.now) (owner_for (wanted (from_of downgrade))) right }
         ensures token { IsTokenOf (lot_in self.now) token.new × StaysBeside (word_in self.now).number token.old token.new }
@@ -279,8 +278,8 @@ impl LotRwLock {
             rt,
             &self.lot,
             token,
-            self.word,
-            self.admission,
+            &self.word,
+            &self.admission,
             NO_LIMIT,
             RwLockPurpose::Downgrade(downgrade),
         );
@@ -299,8 +298,8 @@ impl LotRwLock {
         token: &mut Token,
         limit: Option<(&C, u64)>,
         patience: Patience,
-        right: Right,
-    ) -> Result<Right, Right>
+        right: Held,
+    ) -> Result<Held, Held>
         requires token { IsTokenOf (lot_in self.now) token.old }
         requires right { IsRwLockRight (lot_in self.now) (word_in self.now) (owner_for Upgradable) right }
         ensures token { IsTokenOf (lot_in self.now) token.new × StaysBeside (word_in self.now).number token.old token.new }
@@ -316,8 +315,8 @@ impl LotRwLock {
             rt,
             &self.lot,
             token,
-            self.word,
-            self.admission,
+            &self.word,
+            &self.admission,
             limit,
             RwLockPurpose::Upgrade(patience),
         );
@@ -343,9 +342,9 @@ impl LotRwLock {
         &self,
         token: &mut Token,
         want: Want,
-        one: Right,
+        one: Held,
         other_want: Want,
-        other: Right,
+        other: Held,
     ) -> !
         requires token { IsTokenOf (lot_in self.now) token.old }
         requires one { IsRwLockRight (lot_in self.now) (word_in self.now) (owner_for want) one }
