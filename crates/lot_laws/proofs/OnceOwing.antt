@@ -1,5 +1,5 @@
 -- What the places of a `Once` owe, whatever befalls their thread; none of them gives up.
-use Rattle.std.proofs.Common.{ℕ, Bool, true, false, ◌≡◌, Some, ⊥, refl}
+use Rattle.std.proofs.Common.{ℕ, Bool, true, false, ◌≡◌, Some, refl}
 use Rattle.lot_base.specs.declared.keys.Line.{Line}
 use Rattle.lot_base.specs.declared.notes.Note.TheVariants.{Normal, HandOff}
 use Rattle.lot_acts.specs.declared.acts.Reply.{Reply}
