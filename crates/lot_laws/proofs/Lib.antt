@@ -51,6 +51,7 @@ pub mod HandsEvents
 pub mod OtherCalls
 pub mod MutexEvents
 pub mod MutexOwing
+pub mod OnceOwing
 pub mod RwLockOwing
 pub mod CallOwing
 pub mod PlaceSteps

@@ -57,7 +57,7 @@ use Rattle.lot_rwlock_fair.specs.FairSteps.{call_act, call_next, call_owners, ca
 use Rattle.lot_rwlock_fair.proofs.FairOpenings.{calls_open}
 use Rattle.lot_rwlock.proofs.RwLockFit.{knows_all}
 use Rattle.lot_steps.specs.declared.places.Place.{Place}
-use Rattle.lot_steps.specs.declared.places.Place.TheVariants.{Idle, Mutex, RwLock}
+use Rattle.lot_steps.specs.declared.places.Place.TheVariants.{Idle, Mutex, RwLock, Once}
 use Rattle.lot_mutex.specs.declared.places.MutexPlace.{MutexPlace}
 use Rattle.lot_steps.specs.Steps.{next_place, profile, calls, rwlock_goes}
 use Rattle.abstract_locks.specs.Locks.{Rules, Sort, Normal as NormalSort, Recursive, Semaphore, count, keep_from, one_if_some, standing}
@@ -323,6 +323,7 @@ module _ (w : State) (t l : ℕ) (a : Admission) (c : RwLockCallPlace) (steady :
     where
       by_place : (q : Place) → place_at w u ≡ q → calls q l ≡ true → IsSleeper w t l steady there own (rules_in w l) refl admits.0 (call_move a c) same_row u
       by_place Idle e g = absurd cc
+      by_place (Once k at) e g = absurd (subst (FitsItsLock w) e (steady.stands.calls u))
       by_place (Mutex k m) e g = absurd (of_no_mutex u k m e (eqb-true k l g))
       by_place (RwLock k b q) e g = record {
         move = call_move b q;
@@ -443,6 +444,7 @@ module _ (w : State) (t l : ℕ) (a : Admission) (c : RwLockCallPlace) (steady :
     where
       by_place : (q : Place) → place_at w u ≡ q → hand_at q l ≡ hand t true → IsWoken w t l true HandOff q
       by_place Idle e h = absurd cc
+      by_place (Once k at) e h = absurd (subst (FitsItsLock w) e (steady.stands.calls u))
       by_place (Mutex k m) e h = either (k == l) refl h
         where
           either : (b : Bool) → (k == l) ≡ b → (if b then station (Mutex k m) else nowhere).hand ≡ hand t true → IsWoken w t l true HandOff (Mutex k m)

@@ -4,7 +4,7 @@ use Rattle.lot_base.specs.declared.wants.Waiter.{Waiter}
 pub use Rattle.lot_base.specs.Keys.{key_of}
 use Rattle.lot_base.specs.Lines.{times}
 use Rattle.lot_steps.specs.declared.places.Place.{Place}
-use Rattle.lot_steps.specs.declared.places.Place.TheVariants.{Idle, Mutex as OfMutex, RwLock as OfRwLock}
+use Rattle.lot_steps.specs.declared.places.Place.TheVariants.{Idle, Mutex as OfMutex, RwLock as OfRwLock, Once as OfOnce}
 use Rattle.lot_base.specs.declared.wants.Want.{Want}
 use Rattle.lot_base.specs.declared.wants.Want.TheVariants.{Upgradable}
 use Rattle.abstract_locks.specs.Locks.{Rules, Knows}
@@ -108,11 +108,12 @@ is_mutex kind.TheVariants.Mutex = true
 is_mutex kind.TheVariants.Fair = true
 is_mutex k = false
 
--- a call is of a lock of its sort, and stands where it may
+-- a call is of a lock of its sort, and stands where it may; no call of a `Once` begins yet
 abbrev pub FitsItsLock : State → Place → Type 0
 FitsItsLock w Idle = Unit {0}
 FitsItsLock w (OfMutex l at) = is_mutex (kind_at w l) ≡ true
 FitsItsLock w (OfRwLock l a c) = Admits (rules_in w l) a × CallStands a c
+FitsItsLock w (OfOnce l at) = ⊥
 
 pub record Stands (w : State) : Type 0 where
   pub sections : Sections (place_at w) (section_at w)
