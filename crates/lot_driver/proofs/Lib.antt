@@ -11,6 +11,7 @@ pub mod RwLockGoing
 pub mod RwLockHanded
 pub mod RwLockBumping
 pub mod RwLockLeading
+pub mod OnceLeading
 pub mod Leading
 pub mod RwLockBeginning
 pub mod Turning

@@ -44,7 +44,7 @@ use Rattle.lot_rwlock_fair.specs.declared.places.RwLockCallPlace.{RwLockCallPlac
 use Rattle.lot_rwlock_fair.specs.declared.places.RwLockCallPlace.TheVariants.{Plain, Glance, HandOver, Bump, Handed}
 use Rattle.lot_steps.specs.Steps.{in_rwlock, looking, next_act, next_place, rwlock_does, rwlock_goes}
 use Rattle.lot_steps.specs.declared.places.Place.{Place}
-use Rattle.lot_steps.specs.declared.places.Place.TheVariants.{Idle, Mutex, RwLock}
+use Rattle.lot_steps.specs.declared.places.Place.TheVariants.{Idle, Mutex, RwLock, Once}
 use Rattle.lot_words.specs.declared.views.WordStep.{WordStep}
 use Rattle.parking_lot_core.specs.Tokens.{view_of}
 use Rattle.parking_lot_core.specs.declared.tokens.Token.{Token}
@@ -399,6 +399,7 @@ module _ (a : Admission) (q : RwLockPurpose) where
   abbrev IsInCall : Place → Type 0
   IsInCall Idle = Unit {0}
   IsInCall (Mutex l to) = ⊥
+  IsInCall (Once l to) = ⊥
   IsInCall (RwLock l b c) = (b ≡ a) × IsCall c
 
   abbrev EndsActBy : Reply → Act → Type 0
@@ -412,6 +413,7 @@ module _ (a : Admission) (q : RwLockPurpose) where
   place_keeps : (p : Place) (told : Reply) → IsInCall p → IsInCall (next_place p told) × EndsActBy told (next_act p told)
   place_keeps Idle told w = (tt, tt)
   place_keeps (Mutex l to) told w = absurd w
+  place_keeps (Once l to) told w = absurd w
   place_keeps (RwLock l b c) told w = subst (λ (x : Admission). IsInCall (next_place (RwLock l x c) told) × EndsActBy told (next_act (RwLock l x c) told)) (sym w.0) (by_next (call_next a c told) (call_keeps c told w.1))
     where
       by_next : (n : Next RwLockCallPlace) → KeepsCall told n → IsInCall (rwlock_goes l a n) × EndsActBy told (rwlock_does l a n)
@@ -430,6 +432,7 @@ module _ (a : Admission) (q : RwLockPurpose) where
   looks_keep : (p r : Place) → looking p ≡ Some r → IsInCall p → IsInCall r
   looks_keep Idle r e w = absurd cc
   looks_keep (Mutex l to) r e w = absurd w
+  looks_keep (Once l to) r e w = absurd w
   looks_keep (RwLock l b (Handed x y d to)) r e w = absurd cc
   looks_keep (RwLock l b (Bump p)) r e w = absurd w.1
   looks_keep (RwLock l b (Glance x)) r e w = absurd w.1
