@@ -12,6 +12,7 @@ pub mod RwLockHanded
 pub mod RwLockBumpFull
 pub mod RwLockBumping
 pub mod RwLockLeading
+pub mod OnceLeading
 pub mod Leading
 pub mod RwLockBeginning
 pub mod Turning

@@ -4,6 +4,7 @@ pub mod Paths
 pub mod Stages
 pub mod Telling
 pub mod MutexFitting
+pub mod OnceFitting
 pub mod RwLockFitting
 pub mod RwLockRefusals
 pub mod Fitting
