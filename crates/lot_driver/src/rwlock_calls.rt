@@ -169,7 +169,10 @@ fn take_right<R: Wait, C: Clock>(
     if found == seen {
         return answer_with(purpose);
     }
-    missed(rt, lot, token, word, admission, limit, purpose, seen, found)
+    // What a cold call is given lies in memory. It is copied here, so that the fast half writes nothing.
+    let until = limit;
+    let sought = purpose;
+    missed(rt, lot, token, word, admission, until, sought, seen, found)
 }
 
 /// A whole call of who has the right that it needs. Where it meets nobody it is a step or two, with no further call.
@@ -196,6 +199,10 @@ pub fn call<R: Wait, C: Clock>(
     match course_of(*admission, purpose, seen) {
         Course::Ends(answer) => answer,
         Course::Takes => take_right(rt, lot, token, word, admission, limit, purpose, seen),
-        Course::GoesOn => behind(rt, lot, token, word, admission, limit, purpose, seen),
+        Course::GoesOn => {
+            let until = limit;
+            let sought = purpose;
+            behind(rt, lot, token, word, admission, until, sought, seen)
+        }
     }
 }
