@@ -214,7 +214,7 @@ module _ (w : State) (t l : ℕ) (a : Admission) (c : RwLockCallPlace) (steady :
   hands_tell = subst (λ v. CallTells (rules_in w l) a here t l c whom (Value v)) (sym now) (hand_overs_tell (rules_in w l) a here t l c op whom hands e)
 
   abbrev Followed : ℕ → Type 0
-  Followed v = IsFollowed w t l steady there of (rules_in w l) refl readers (call_move a c) row whom (Value v) (next_place (place_at w t) (Value v))
+  Followed v = IsFollowed w t l steady there of (rules_in w l) refl (call_move a c) row whom (Value v) (next_place (place_at w t) (Value v))
 
   follows : Followed (word_at w l) × (apply op (word_at w l) ≡ code (rules_in w l) (laws.after_all (rules_in w l) (call_deeds a c whom (Value (word_at w l))) here t))
   follows = subst (λ v. Followed v × (apply op v ≡ code (rules_in w l) (laws.after_all (rules_in w l) (call_deeds a c whom (Value v)) here t))) (sym now)

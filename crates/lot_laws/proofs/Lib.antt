@@ -19,6 +19,7 @@ pub mod TakesKept
 pub mod PicksKept
 pub mod AnyPicked
 pub mod MovesKept
+pub mod OnceMovesKept
 pub mod HandsMoved
 pub mod InHand
 pub mod HandsCounted
