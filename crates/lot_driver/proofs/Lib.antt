@@ -16,6 +16,7 @@ pub mod OnceLeading
 pub mod Leading
 pub mod RwLockBeginning
 pub mod Turning
+pub mod OnceCalling
 pub mod RwLockCalling
 pub mod RwLockCourses
 pub mod RwLockTakes

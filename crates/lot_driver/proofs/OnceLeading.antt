@@ -1,17 +1,14 @@
 -- Each act of a `Once`'s call is one that the thread may take, and leads to a place that fits.
-use Rattle.std.proofs.Common.{ℕ, suc, ◌≡◌, ◌≢◌, ◌<◌, ◌*◌, ◌%◌, Bool, true, false, List, ◌∷◌, Option, Some, None, cond, if◌then◌else◌, inl, inr, sym, refl, ap, ◌∙◌, subst, arith, ne_eqb}
+use Rattle.std.proofs.Common.{ℕ, suc, ◌≡◌, ◌≢◌, ◌*◌, Bool, true, false, List, ◌∷◌, Option, Some, None, cond, if◌then◌else◌, inl, inr, sym, refl, ap, ◌∙◌, subst, arith, ne_eqb}
 use Rattle.std.proofs.lemmas.Bool.{false≢true}
 use mathlib.Core.Logic.{dite}
 use native.Mathlib.Decide.{ℕ_discrete}
 use Rattle.lot_base.specs.Words.{apply}
 use Rattle.lot_base.specs.declared.keys.Keys.TheVariants.{One}
 use Rattle.lot_base.specs.declared.notes.Note.TheVariants.{Normal, HandOff}
-use Rattle.lot_base.specs.declared.ops.Op.{Op}
-use Rattle.lot_base.specs.declared.ops.Op.TheVariants.{Load, Exchange}
-use Rattle.lot_base.specs.declared.wants.Waiter.{Waiter}
+use Rattle.lot_base.specs.declared.ops.Op.TheVariants.{Exchange}
 use Rattle.lot_calls.specs.declared.calls.OnceCall.{OnceCall}
 use Rattle.lot_calls.specs.declared.calls.OnceCall.TheVariants.{CallOnce, Wait}
-use Rattle.lot_acts.specs.Acts.{wakes_taken}
 use Rattle.lot_acts.specs.declared.acts.Act.{Act}
 use Rattle.lot_acts.specs.declared.acts.Act as act
 use Rattle.lot_acts.specs.declared.acts.Reply.{Reply}
@@ -24,7 +21,6 @@ use Rattle.lot_once.specs.declared.run.RunAt.TheVariants as run
 use Rattle.lot_once.specs.declared.places.OncePlace.{OncePlace}
 use Rattle.lot_once.specs.declared.places.OncePlace.TheVariants.{Look, Run}
 use Rattle.lot_steps.specs.Steps.{in_once, once_does, once_goes}
-use Rattle.lot_steps.specs.declared.places.Place.{Place}
 use Rattle.lot_steps.specs.declared.places.Place.TheVariants.{Once}
 use Rattle.lot_words.specs.Codes.{IsOnceWord}
 use Rattle.lot_words.specs.Steps.{once_trade, owns_after}
@@ -37,7 +33,7 @@ use Rattle.parking_lot_core.specs.declared.tokens.Did.TheVariants.{TakeAll}
 use Rattle.lot_driver.specs.Fitting.{Fits, Looks, Reached, ReachedBy, aim_of, answer_of, of_once, sleeper_at}
 use Rattle.lot_driver.specs.OnceFitting.{FitsLook, FitsOnce, FitsRun, OwnsBehind, StandsOutside, StandsWithin, goes_on, knowing}
 use Rattle.lot_driver.specs.Paths.{once_at, onces, at_once}
-use Rattle.lot_driver.specs.Stages.{Stage, Inside, ActNeeds, Became, HasKey, IsFresh, IsLeft, MayLeave, entered_now, note_of, stage, stepped, took_as}
+use Rattle.lot_driver.specs.Stages.{Stage, Inside, ActNeeds, Became, HasKey, IsFresh, IsLeft, MayLeave, stage, stepped, took_as}
 
 -- of the seven codes
 pub each_once_code : (P : ℕ → Type 0) → P 0 → P 1 → P 2 → P 4 → P 8 → P 10 → P 12 → (n : ℕ) → IsOnceWord n → P n
@@ -112,7 +108,7 @@ module _ (l : ℕ) (base : List Ownership) (st : Stage) where
       Lands c r seen = AsSeen seen → ReachedBy up base (of_once l c) (once_goes l (in_look c r (looked c seen))) (answer_of (once_does l (in_look c r (looked c seen)))) new
 
       -- where a look leads
-      lands : (c : OnceCall) (r : Bool) (seen : ℕ) → IsOnceWord seen → Lands c r seen
+      pub lands : (c : OnceCall) (r : Bool) (seen : ℕ) → IsOnceWord seen → Lands c r seen
       lands (CallOnce false) r = each_once_code (Lands (CallOnce false) r)
           (λ x. ((inr (omega arith, inl refl), refl, still f _ x refl refl), refl)) (λ x. (inside_of _ x ∙ f.1, knows f _ x refl)) (λ x. let s = still f _ x refl refl in (s.1, (refl, s.0)))
           (λ x. ((inr (omega arith, inr (inr refl)), refl, still f _ x refl refl), refl)) (λ x. ((inr (omega arith, inl refl), refl, still f _ x refl refl), refl))

@@ -1,8 +1,8 @@
-use Rattle.std.proofs.Common.{None, List, sym, subst}
+use Rattle.std.proofs.Common.{None, subst}
 use Rattle.lot_base.specs.Clocks.{IsUp}
 use Rattle.lot_driver.specs.Fitting.{AreWordsAfter, IsStopped, aim_of}
 use Rattle.lot_driver.specs.Stages.{stage_of}
-use Rattle.lot_driver.specs.Words.{kind_in, at_in, alone}
+use Rattle.lot_driver.specs.Words.{kind_in, at_in}
 use Rattle.lot_driver.specs.declared.driver.Stop.{Stop}
 use Rattle.lot_driver.specs.declared.driver.Stop.TheVariants.{Paused}
 use Rattle.lot_driver.specs.declared.words.Words.{Words}
