@@ -7,3 +7,4 @@ use Rattle.lot_calls.specs.declared.calls.Call as call
 abbrev pub lock_in : Call → ℕ
 lock_in (call.TheVariants.Mutex lock c) = lock
 lock_in (call.TheVariants.RwLock lock c) = lock
+lock_in (call.TheVariants.Once lock c) = lock

@@ -21,6 +21,7 @@ pub enum MutexCall {
 pub enum Call {
     Mutex { lock: usize, call: MutexCall },
     RwLock { lock: usize, call: RwLockCall },
+    Once { lock: usize, call: OnceCall },
 }
 
 /// A right to a reader-writer lock.
@@ -110,7 +111,7 @@ impl Call {
         ensures { result ≡ lock_in self }
     {
         match self {
-            Call::Mutex { lock, .. } | Call::RwLock { lock, .. } => lock,
+            Call::Mutex { lock, .. } | Call::RwLock { lock, .. } | Call::Once { lock, .. } => lock,
         }
     }
 }

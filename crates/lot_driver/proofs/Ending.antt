@@ -1,30 +1,37 @@
 -- The end of a call.
-use Rattle.std.proofs.Common.{ℕ, ◌≡◌, true, false, List, Option, None, Some, inl, inr, refl, subst}
+use Rattle.std.proofs.Common.{ℕ, ◌≡◌, true, false, List, Option, None, Some, inl, inr, refl, sym, ap, ◌∙◌, subst}
 use Rattle.lot_calls.specs.declared.outcomes.Answer.{Answer}
 use Rattle.lot_calls.specs.declared.outcomes.OnceState.{OnceState}
+use Rattle.lot_calls.specs.declared.calls.OnceCall.TheVariants.{CallOnce}
 use Rattle.lot_steps.specs.Steps.{act_of}
 use Rattle.lot_steps.specs.declared.places.Place.{Place}
-use Rattle.lot_steps.specs.declared.places.Place.TheVariants.{Idle, Mutex, RwLock}
+use Rattle.lot_steps.specs.declared.places.Place.TheVariants.{Idle, Mutex, RwLock, Once}
 use Rattle.lot_mutex.specs.MutexSteps.{mutex_act, decided}
 use Rattle.lot_mutex.specs.declared.places.MutexPlace.{MutexPlace}
 use Rattle.lot_mutex.specs.declared.places.MutexPlace.TheVariants as at_mutex_place
 use Rattle.lot_mutex.specs.declared.hand_off.HandOffAt as hand_off
 use Rattle.lot_mutex.specs.declared.lock.LockAt as lock
 use Rattle.lot_mutex.specs.declared.unlock.UnlockAt as unlock
+use Rattle.lot_once.specs.declared.places.OncePlace.{OncePlace}
+use Rattle.lot_once.specs.declared.places.OncePlace.TheVariants.{Look, Run}
+use Rattle.lot_once.specs.declared.run.RunAt.TheVariants as run
 use Rattle.lot_words.proofs.MutexSteps.{each_code}
 use Rattle.lot_acts.specs.declared.acts.Act.{Act}
 use Rattle.lot_acts.specs.declared.acts.Act as act
 use Rattle.lot_words.specs.declared.owners.Ownership.{Ownership}
+use Rattle.lot_words.specs.declared.words.Word.{Word}
 use Rattle.lot_words.specs.declared.words.WordKind.{WordKind}
+use Rattle.lot_words.specs.declared.words.WordKind as kinds
 use Rattle.parking_lot_core.specs.declared.tokens.SectionRecord.{SectionRecord}
 use Rattle.lot_rwlock.specs.declared.places.Admission.{Admission}
 use Rattle.lot_rwlock.specs.declared.purposes.RwLockPurpose.{RwLockPurpose}
 use Rattle.lot_rwlock.specs.declared.purposes.RwLockPurpose.TheVariants as purposes
 use Rattle.lot_driver.specs.RwLockFitting.{Answers}
 use Rattle.lot_driver.proofs.RwLockLeading.{rwlock_no_closure}
-use Rattle.lot_driver.specs.Fitting.{Aim, nothing, of_fair, of_mutex, of_rwlock, aim_of, answer_of, Fits, IsOver, IsStopped}
+use Rattle.lot_driver.specs.Fitting.{Aim, nothing, of_fair, of_mutex, of_once, of_run, of_rwlock, AreWordsFor, aim_of, answer_of, Fits, IsOver, IsStopped}
 use Rattle.lot_driver.specs.MutexFitting.{Purpose, enters, releases, hands_over, FitsMutex, IsMutexOver}
 use Rattle.lot_driver.specs.Paths.{closure_of}
+use Rattle.lot_driver.specs.Words.{alone, at_in, kind_in}
 use Rattle.lot_driver.specs.Stages.{Inside, Stage, ActNeeds, stage}
 use Rattle.lot_driver.specs.declared.driver.Stop.TheVariants.{Paused}
 
@@ -69,12 +76,16 @@ module _ (up : Type 0) (base owns : List Ownership) where
   ended (of_mutex n purpose) answer inside last h = mutex_ended n purpose answer inside last h
   ended (of_rwlock l a purpose) answer inside last h = (refl, rwlock_ended l a purpose answer inside last h.1)
   ended (of_fair l a x) answer inside last h = (refl, h.1, h.2, h.3)
+  ended (of_once l c) answer inside last h = (refl, h.1)
+  ended (of_run l succeeded) answer inside last h = (refl, h.1, h.2, h.3)
 
   pub outside : (aim : Aim) (answer : Answer) (inside : Option Inside) (last : Option SectionRecord) → IsOver up base aim answer (stage owns inside last) → inside ≡ None
   outside nothing answer inside last h = absurd h
   outside (of_mutex n purpose) answer inside last h = mutex_outside n purpose answer inside last h
   outside (of_rwlock l a purpose) answer inside last h = h.0
   outside (of_fair l a x) answer inside last h = h.0
+  outside (of_once l c) answer inside last h = h.0
+  outside (of_run l succeeded) answer inside last h = h.0
 
 -- no call of a mutex runs a closure
 no_closure : (n : ℕ) (state : OnceState) (up : Type 0) (base : List Ownership) (at : MutexPlace) (st : Stage) → FitsMutex up n base at st → mutex_act n at ≡ act.TheVariants.Closure state → ⊥
@@ -100,13 +111,24 @@ no_closure n state up base (at_mutex_place.HandOff bumps (hand_off.TheVariants.S
 no_closure n state up base (at_mutex_place.HandOff bumps (hand_off.TheVariants.Leave any)) st f is = cc
 no_closure n state up base at st f is = absurd f
 
+-- a call that runs its closure is of a `Once`
+once_runs : (l n : ℕ) (purpose : Purpose) (at : OncePlace) → aim_of (Once l at) ≡ of_mutex n purpose → ⊥
+once_runs l n purpose (Look c retries at) e = let aim : of_once l c ≡ of_mutex n purpose = e in cc
+once_runs l n purpose (Run forced (run.Closure poisoned)) e = let aim : of_once l (CallOnce forced) ≡ of_mutex n purpose = e in cc
+once_runs l n purpose (Run forced (run.Close succeeded)) e = let aim : of_run l succeeded ≡ of_mutex n purpose = e in cc
+once_runs l n purpose (Run forced (run.Enter succeeded)) e = let aim : of_run l succeeded ≡ of_mutex n purpose = e in cc
+once_runs l n purpose (Run forced (run.Take succeeded)) e = let aim : of_run l succeeded ≡ of_mutex n purpose = e in cc
+once_runs l n purpose (Run forced (run.Leave succeeded any)) e = let aim : of_run l succeeded ≡ of_mutex n purpose = e in cc
+
 pub never_paused : (up : Type 0) (base : List Ownership) (n : ℕ) (purpose : Purpose) (p : Place) (state : OnceState) (st : Stage) → IsStopped up base (of_mutex n purpose) (Paused p state) st → ⊥
 never_paused up base n purpose Idle state st s = s.0
 never_paused up base n purpose (RwLock l a at) state st s = rwlock_no_closure up l a base at st state s.0 s.2
+never_paused up base n purpose (Once l at) state st s = once_runs l n purpose at s.1
 never_paused up base n purpose (Mutex l at) state st s = no_closure l state up base at st s.0 s.2
 
--- no call comes to a closure
-pub never_closes : (up : Type 0) (base : List Ownership) (aim : Aim) (p : Place) (state : OnceState) (st : Stage) → IsStopped up base aim (Paused p state) st → ⊥
-never_closes up base aim Idle state st s = s.0
-never_closes up base aim (RwLock l a at) state st s = rwlock_no_closure up l a base at st state s.0 s.2
-never_closes up base aim (Mutex l at) state st s = no_closure l state up base at st s.0 s.2
+-- no call comes to a closure that steps on the word of a reader-writer lock
+pub never_closes : (up : Type 0) (base : List Ownership) (aim : Aim) (p : Place) (state : OnceState) (st : Stage) (word : Word) → word.kind ≡ kinds.TheVariants.RwLock → AreWordsFor p (kind_in (alone word)) (at_in (alone word)) → IsStopped up base aim (Paused p state) st → ⊥
+never_closes up base aim Idle state st word is words s = s.0
+never_closes up base aim (RwLock l a at) state st word is words s = rwlock_no_closure up l a base at st state s.0 s.2
+never_closes up base aim (Mutex l at) state st word is words s = no_closure l state up base at st s.0 s.2
+never_closes up base aim (Once l at) state st word is words s = let e : kinds.TheVariants.Once ≡ kinds.TheVariants.RwLock = sym (ap (λ (g : ℕ → WordKind). g 0) words.1) ∙ is in cc

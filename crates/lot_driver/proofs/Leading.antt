@@ -6,16 +6,16 @@ use Rattle.lot_base.specs.declared.notes.Note.TheVariants.{Normal, HandOff}
 use Rattle.lot_base.specs.declared.ops.Op.{Op}
 use Rattle.lot_base.specs.declared.ops.Op.TheVariants.{Load, And, Exchange}
 use Rattle.lot_mutex.specs.MutexSteps.{mutex_act, mutex_looking, lock_act, unlock_act, decided}
-use Rattle.lot_calls.specs.declared.outcomes.Answer.{Answer}
-use Rattle.lot_calls.specs.declared.outcomes.OnceState.{OnceState}
 use Rattle.lot_rwlock_fair.specs.FairProfiles.{call_looking}
 use Rattle.lot_rwlock_fair.specs.FairSteps.{call_act}
 use Rattle.lot_rwlock_fair.specs.declared.places.RwLockCallPlace.{RwLockCallPlace}
-use Rattle.lot_steps.specs.Steps.{act_of, late_key, in_mutex, in_rwlock, next_act, next_place}
+use Rattle.lot_once.specs.OnceSteps.{once_act, once_looking}
+use Rattle.lot_once.specs.declared.places.OncePlace.{OncePlace}
+use Rattle.lot_steps.specs.Steps.{late_key, in_mutex, in_rwlock, in_once}
 use Rattle.lot_acts.specs.declared.acts.Act.{Act}
 use Rattle.lot_acts.specs.declared.acts.Act as act
 use Rattle.lot_acts.specs.declared.acts.Reply.{Reply}
-use Rattle.lot_acts.specs.declared.acts.Reply.TheVariants.{Done, Value, Parked, Took, Removed, MovedTo, Late, Woken, Closed}
+use Rattle.lot_acts.specs.declared.acts.Reply.TheVariants.{Done, Value, Parked, Took, Removed, MovedTo, Late, Woken}
 use Rattle.lot_mutex.specs.declared.places.MutexPlace.{MutexPlace}
 use Rattle.lot_mutex.specs.declared.places.MutexPlace.TheVariants as at_mutex_place
 use Rattle.lot_mutex.specs.declared.lock.Entry.{Entry}
@@ -25,7 +25,7 @@ use Rattle.lot_mutex.specs.declared.lock.LockAt as lock
 use Rattle.lot_mutex.specs.declared.unlock.UnlockAt.{UnlockAt}
 use Rattle.lot_mutex.specs.declared.unlock.UnlockAt as unlock
 use Rattle.lot_steps.specs.declared.places.Place.{Place}
-use Rattle.lot_steps.specs.declared.places.Place.TheVariants.{Idle, Mutex, RwLock}
+use Rattle.lot_steps.specs.declared.places.Place.TheVariants.{Idle, Mutex, RwLock, Once}
 use Rattle.lot_words.specs.Views.{owning}
 use Rattle.lot_words.specs.declared.owners.Owner.{Owner}
 use Rattle.lot_words.specs.declared.owners.Ownership.{Ownership}
@@ -33,12 +33,13 @@ use Rattle.lot_words.specs.declared.words.WordKind.{WordKind}
 use Rattle.lot_words.specs.declared.words.WordKind as kinds
 use Rattle.lot_words.proofs.MutexSteps.{mutex_steps, each_code}
 use Rattle.parking_lot_core.specs.declared.tokens.Did.TheVariants.{TakeFirst}
-use Rattle.lot_driver.specs.Fitting.{AreWordsFor, Fits, PlacesLead, Looks, Reached, ReachedBy, aim_of, answer_of, sleeper_at}
+use Rattle.lot_driver.specs.Fitting.{AreWordsFor, Fits, PlacesLead, Looks, Reached, aim_of, sleeper_at}
 use Rattle.lot_driver.specs.MutexFitting.{GaveUp, FitsLock, FitsUnlock, FitsMutex, Within, Outside, beside, held}
-use Rattle.lot_driver.specs.Paths.{GoesFrom, mutex_at, mutexes, at_mutex, rwlocks, at_rwlock}
+use Rattle.lot_driver.specs.Paths.{GoesFrom, mutex_at, mutexes, at_mutex, rwlocks, at_rwlock, onces, at_once}
 use Rattle.lot_driver.specs.declared.acting.Sleeper.{Sleeper}
 use Rattle.lot_driver.specs.Stages.{Stage, Inside, ActNeeds, Became, HasKey, IsFresh, MayLeave, IsLeft, took_as, listed, entered_now, stage, stepped}
 use Rattle.lot_driver.proofs.HandingOver.{hand_off_needs, hand_off_leads}
+use Rattle.lot_driver.proofs.OnceLeading.{once_place_leads}
 use Rattle.lot_driver.proofs.RwLockLeading.{rwlock_place_leads}
 
 -- a reply to an operation on the word, which saw one of the four codes
@@ -230,6 +231,10 @@ places_lead up kinds at base (RwLock n a c) st words f =
     subst (λ (k : (ℕ → WordKind) × (ℕ → ℕ)). ActNeeds k.0 k.1 st (call_act n a c) × Looks up base (RwLock n a c) st
     × ((reply : Reply) (new : Stage) → Became up k.0 k.1 (sleeper_at (RwLock n a c)) st (call_act n a c) reply new → Reached up base (RwLock n a c) reply new))
     (sym (both_words kinds at rwlocks (at_rwlock n) words.1 words.2)) (rwlock_place_leads up n a base c st f)
+places_lead up kinds at base (Once n p) st words f =
+    subst (λ (k : (ℕ → WordKind) × (ℕ → ℕ)). ActNeeds k.0 k.1 st (once_act n p) × Looks up base (Once n p) st
+    × ((reply : Reply) (new : Stage) → Became up k.0 k.1 (sleeper_at (Once n p)) st (once_act n p) reply new → Reached up base (Once n p) reply new))
+    (sym (both_words kinds at onces (at_once n) words.1 words.2)) (once_place_leads up n base p st f)
 places_lead up kinds at base (Mutex n p) st words f =
     subst (λ (k : (ℕ → WordKind) × (ℕ → ℕ)). ActNeeds k.0 k.1 st (mutex_act n p) × Looks up base (Mutex n p) st
     × ((reply : Reply) (new : Stage) → Became up k.0 k.1 (sleeper_at (Mutex n p)) st (mutex_act n p) reply new → Reached up base (Mutex n p) reply new))
@@ -248,14 +253,13 @@ words_from kinds at (RwLock l a p) q (inr is) words = by_place (call_looking a p
     by_place : (o : Option RwLockCallPlace) → in_rwlock l a o ≡ Some q → AreWordsFor q kinds at
     by_place None e = absurd cc
     by_place (Some p2) e = let there : RwLock l a p2 ≡ q = cc in subst (λ r. AreWordsFor r kinds at) there words
+words_from kinds at (Once l p) q (inr is) words = by_place (once_looking p) is
+  where
+    by_place : (o : Option OncePlace) → in_once l o ≡ Some q → AreWordsFor q kinds at
+    by_place None e = absurd cc
+    by_place (Some p2) e = let there : Once l p2 ≡ q = cc in subst (λ r. AreWordsFor r kinds at) there words
 words_from kinds at (Mutex l p) q (inr is) words = by_place (mutex_looking p) is
   where
     by_place : (o : Option MutexPlace) → in_mutex l o ≡ Some q → AreWordsFor q kinds at
     by_place None e = absurd cc
     by_place (Some p2) e = let there : Mutex l p2 ≡ q = cc in subst (λ r. AreWordsFor r kinds at) there words
-
--- behind its closure a call goes on
-pub goes_behind : (up : Type 0) (kinds : ℕ → WordKind) (at : ℕ → ℕ) (base : List Ownership) (p : Place) (st : Stage) (succeeded : Bool) → AreWordsFor p kinds at → (state : OnceState) → act_of p ≡ act.TheVariants.Closure state → answer_of (next_act p (Closed succeeded)) ≡ None → Fits up base p st
-    → Fits up base (next_place p (Closed succeeded)) st × (aim_of (next_place p (Closed succeeded)) ≡ aim_of p)
-goes_behind up kinds at base p st succeeded words state is none fits = subst (λ (o : Option Answer). ReachedBy up base (aim_of p) (next_place p (Closed succeeded)) o st) none
-    ((places_lead up kinds at base p st words fits).2 (Closed succeeded) st (subst (λ (a : Act). Became up kinds at (sleeper_at p) st a (Closed succeeded) st) (sym is) refl))

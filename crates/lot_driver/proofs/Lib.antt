@@ -9,11 +9,14 @@ pub mod RwLockHands
 pub mod RwLockHanding
 pub mod RwLockGoing
 pub mod RwLockHanded
+pub mod RwLockBumpFull
 pub mod RwLockBumping
 pub mod RwLockLeading
+pub mod OnceLeading
 pub mod Leading
 pub mod RwLockBeginning
 pub mod Turning
+pub mod OnceCalling
 pub mod RwLockCalling
 pub mod RwLockCourses
 pub mod RwLockTakes

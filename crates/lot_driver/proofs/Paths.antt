@@ -41,6 +41,10 @@ joined at p q _ xs _ u (here _) = subst (λ (l : List WordStep). Path at p l q) 
 joined at p q r xs ys u (looks _ m _ _ v is) = looks p m r (xs ++ ys) (joined at p q m xs ys u v) is
 joined at p q _ xs _ u (on _ r ys zs reply v tells) = subst (λ (l : List WordStep). Path at p l (next_place r reply)) (append_assoc xs ys zs) (on p r (xs ++ ys) zs reply (joined at p q r xs ys u v) tells)
 
+-- one path behind another
+pub comes_then : (at : ℕ → ℕ) (p q r : Place) (old mid new : List WordStep) → Comes at p old mid q → Comes at q mid new r → Comes at p old new r
+comes_then at p q r old mid new c d = (c.0 ++ d.0, d.1 ∙ ap (λ (l : List WordStep). l ++ d.0) c.1 ∙ append_assoc old c.0 d.0, joined at p q r c.0 d.0 c.2 d.2)
+
 -- a path, and then the rest of the call
 pub walks_on : (at : ℕ → ℕ) (p q : Place) (old mid new : List WordStep) (answer : Answer) → Comes at p old mid q → Walks at q mid new answer → Walks at p old new answer
 walks_on at p q old mid new answer c w = let rest = w.2 in (

@@ -7,7 +7,9 @@ use Rattle.lot_base.specs.declared.ops.Op.TheVariants.{Load}
 use Rattle.lot_mutex.specs.MutexSteps.{mutex_next}
 use Rattle.lot_rwlock_fair.specs.FairSteps.{call_next}
 use Rattle.lot_rwlock_fair.specs.declared.places.RwLockCallPlace.{RwLockCallPlace}
-use Rattle.lot_steps.specs.Steps.{act_of, next_place, mutex_goes, rwlock_goes, HasKeys}
+use Rattle.lot_once.specs.OnceSteps.{once_next}
+use Rattle.lot_once.specs.declared.places.OncePlace.{OncePlace}
+use Rattle.lot_steps.specs.Steps.{act_of, next_place, mutex_goes, rwlock_goes, once_goes, HasKeys}
 use Rattle.lot_acts.specs.declared.acts.Next.{Next}
 use Rattle.lot_acts.specs.declared.acts.Next.TheVariants.{At, End}
 use Rattle.lot_mutex.specs.declared.places.MutexPlace.{MutexPlace}
@@ -17,7 +19,7 @@ use Rattle.lot_acts.specs.declared.acts.Whom as whom
 use Rattle.lot_acts.specs.declared.acts.Reply.{Reply}
 use Rattle.lot_acts.specs.declared.acts.Reply.TheVariants.{Done, Value, Parked, Took, Picked, Requeued, Removed, MovedTo, Late, Woken}
 use Rattle.lot_steps.specs.declared.places.Place.{Place}
-use Rattle.lot_steps.specs.declared.places.Place.TheVariants.{Idle, Mutex, RwLock}
+use Rattle.lot_steps.specs.declared.places.Place.TheVariants.{Idle, Mutex, RwLock, Once}
 use Rattle.lot_words.specs.Indices.{word_index}
 use Rattle.lot_words.specs.Steps.{CodesWith, after_step, owns_after_step}
 use Rattle.lot_words.specs.declared.views.View.{View}
@@ -67,6 +69,11 @@ words_on (RwLock l a place) reply kinds at w = by_next (call_next a place reply)
     by_next : (goes : Next RwLockCallPlace) → AreWordsFor (rwlock_goes l a goes) kinds at
     by_next (At next) = w
     by_next (End answer) = tt
+words_on (Once l place) reply kinds at w = by_next (once_next place reply)
+  where
+    by_next : (goes : Next OncePlace) → AreWordsFor (once_goes l goes) kinds at
+    by_next (At next) = w
+    by_next (End answer) = tt
 words_on (Mutex l place) reply kinds at w = by_next (mutex_next place reply)
   where
     by_next : (goes : Next MutexPlace) → AreWordsFor (mutex_goes l goes) kinds at
@@ -77,6 +84,7 @@ pub has_keys : (p : Place) (kinds : ℕ → WordKind) (at : ℕ → ℕ) → Are
 has_keys (Mutex l at) kinds places w = w.0
 has_keys Idle kinds at w = tt
 has_keys (RwLock l a place) kinds at w = w.0
+has_keys (Once l place) kinds at w = w.0
 
 -- a step on a word, as the stage has it
 pub by_stage : (w : Word) (op : Op) (seen : ℕ) (old : Token) (section : Option Section) (new : Token) → view_of new ≡ after_step w.kind (word_index w.number w.kind) op seen (view_of old) → last_of new ≡ None → CodesWith w.kind (word_index w.number w.kind) seen (view_of old).owns

@@ -8,7 +8,7 @@ use Rattle.lot_acts.specs.declared.acts.Act.{Act}
 use Rattle.lot_acts.specs.declared.acts.Act as act
 use Rattle.lot_acts.specs.declared.acts.Reply.{Reply}
 use Rattle.lot_steps.specs.declared.places.Place.{Place}
-use Rattle.lot_steps.specs.declared.places.Place.TheVariants.{Idle, Mutex, RwLock}
+use Rattle.lot_steps.specs.declared.places.Place.TheVariants.{Idle, Mutex, RwLock, Once}
 use Rattle.lot_words.specs.declared.owners.Ownership.{Ownership}
 use Rattle.lot_words.specs.declared.words.WordKind.{WordKind}
 use Rattle.lot_rwlock.specs.declared.places.Admission.{Admission}
@@ -17,10 +17,18 @@ use Rattle.lot_rwlock.specs.declared.purposes.RwLockPurpose.TheVariants as purpo
 use Rattle.lot_rwlock_fair.specs.declared.places.RwLockCallPlace.{RwLockCallPlace}
 use Rattle.lot_rwlock_fair.specs.declared.places.RwLockCallPlace.TheVariants as places
 use Rattle.lot_calls.specs.declared.calls.Access.{Access}
+use Rattle.lot_calls.specs.declared.calls.OnceCall.{OnceCall}
+use Rattle.lot_calls.specs.declared.calls.OnceCall.TheVariants.{CallOnce}
+use Rattle.lot_once.specs.OnceProfiles.{once_wants}
+use Rattle.lot_once.specs.declared.places.OncePlace.{OncePlace}
+use Rattle.lot_once.specs.declared.places.OncePlace.TheVariants.{Look, Run}
+use Rattle.lot_once.specs.declared.run.RunAt.{RunAt}
+use Rattle.lot_once.specs.declared.run.RunAt.TheVariants as run
 use Rattle.lot_calls.specs.declared.calls.Patience.TheVariants.{Patient}
 use Rattle.lot_driver.specs.MutexFitting.{Purpose, purpose_at, FitsMutex, IsMutexOver}
 use Rattle.lot_driver.specs.RwLockFitting.{FitsCall, IsFairlyOver, IsRwLockOver, may_be_handed, purpose_in}
-use Rattle.lot_driver.specs.Paths.{mutexes, at_mutex, rwlocks, at_rwlock}
+use Rattle.lot_driver.specs.OnceFitting.{FitsOnce, IsLookOver, IsRunOver}
+use Rattle.lot_driver.specs.Paths.{mutexes, at_mutex, rwlocks, at_rwlock, onces, at_once}
 use Rattle.lot_driver.specs.Stages.{Stage, ActNeeds, Became}
 use Rattle.lot_driver.specs.declared.acting.Sleeper.{Sleeper}
 use Rattle.lot_driver.specs.declared.driver.Stop.{Stop}
@@ -36,6 +44,9 @@ pub data Aim : Type 0 where
   of_mutex : ℕ → Purpose → Aim
   of_rwlock : ℕ → Admission → RwLockPurpose → Aim
   of_fair : ℕ → Admission → Access → Aim
+  of_once : ℕ → OnceCall → Aim
+  -- to end a run, by whether it succeeded
+  of_run : ℕ → Bool → Aim
 
 -- who hands the lock over releases it fairly, or bumps
 abbrev pub handing_aim : ℕ → Admission → Access → Bool → Aim
@@ -46,10 +57,23 @@ abbrev pub call_aim : ℕ → Admission → RwLockCallPlace → Aim
 call_aim l a (places.HandOver x b to) = handing_aim l a x b
 call_aim l a c = of_rwlock l a (purpose_in c)
 
+-- who begins a run goes on to its closure, and behind that ends the run
+abbrev pub run_aim : ℕ → Bool → RunAt → Aim
+run_aim l forced (run.Closure poisoned) = of_once l (CallOnce forced)
+run_aim l forced (run.Close succeeded) = of_run l succeeded
+run_aim l forced (run.Enter succeeded) = of_run l succeeded
+run_aim l forced (run.Take succeeded) = of_run l succeeded
+run_aim l forced (run.Leave succeeded any) = of_run l succeeded
+
+abbrev pub once_aim : ℕ → OncePlace → Aim
+once_aim l (Look c retries at) = of_once l c
+once_aim l (Run forced at) = run_aim l forced at
+
 abbrev pub aim_of : Place → Aim
 aim_of Idle = nothing
 aim_of (Mutex l at) = of_mutex l (purpose_at at)
 aim_of (RwLock l a c) = call_aim l a c
+aim_of (Once l at) = once_aim l at
 
 -- for what a thread sleeps in a call, the keys under which it may be late, and whether it goes on where it is handed the lock.
 -- Nobody is moved from the queue of a lock
@@ -59,6 +83,8 @@ sleeper_at (Mutex l at) =
     record { lock = l; want = Exclusive; late = late_key (Mutex l at); moved = None; takes_over = true }
 sleeper_at (RwLock l a c) =
     record { lock = l; want = unwrap_or (call_wants c) Exclusive; late = late_key (RwLock l a c); moved = None; takes_over = may_be_handed c }
+sleeper_at (Once l at) =
+    record { lock = l; want = unwrap_or (once_wants at) Exclusive; late = late_key (Once l at); moved = None; takes_over = false }
 
 -- the keys of the call's lock are numbers, and its words are of the kinds that the call steps on
 abbrev pub AreWordsFor : Place → (ℕ → WordKind) → (ℕ → ℕ) → Type 0
@@ -66,6 +92,7 @@ AreWordsFor Idle kinds at = Unit {0}
 AreWordsFor (Mutex l place) kinds at = HasKeys (Mutex l place) × (kinds ≡ mutexes) × (at ≡ at_mutex l)
 AreWordsFor (RwLock l a place) kinds at =
     HasKeys (RwLock l a place) × (kinds ≡ rwlocks) × (at ≡ at_rwlock l)
+AreWordsFor (Once l place) kinds at = HasKeys (Once l place) × (kinds ≡ onces) × (at ≡ at_once l)
 
 -- and behind its closure they are so still
 abbrev pub AreWordsAfter : Stop → (ℕ → WordKind) → (ℕ → ℕ) → Type 0
@@ -79,6 +106,7 @@ module _ (up : Type 0) where
   Fits base Idle st = ⊥
   Fits base (Mutex l at) st = FitsMutex up l base at st
   Fits base (RwLock l a c) st = FitsCall up l base a c st
+  Fits base (Once l at) st = FitsOnce l base at st
 
   -- what an answer says at the end of a call
   abbrev pub IsOver : List Ownership → Aim → Answer → Stage → Type 0
@@ -86,6 +114,8 @@ module _ (up : Type 0) where
   IsOver base (of_mutex l purpose) answer st = IsMutexOver up l base purpose answer st
   IsOver base (of_rwlock l a purpose) answer st = IsRwLockOver up l base a purpose answer st
   IsOver base (of_fair l a x) answer st = IsFairlyOver l base a x answer st
+  IsOver base (of_once l c) answer st = IsLookOver l c base answer st
+  IsOver base (of_run l succeeded) answer st = IsRunOver l succeeded base answer st
 
   -- what a run came to: the end of its call, or a closure, which is outside all sections
   abbrev pub IsStopped : List Ownership → Aim → Stop → Stage → Type 0

@@ -4,9 +4,12 @@ pub mod Paths
 pub mod Stages
 pub mod Telling
 pub mod MutexFitting
+pub mod OnceFitting
+pub mod OnceCalls
 pub mod RwLockFitting
 pub mod RwLockRefusals
 pub mod Fitting
 pub mod Calls
 pub mod RwLockCalls
 pub mod Courses
+pub mod Drawing

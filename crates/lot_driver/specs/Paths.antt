@@ -40,6 +40,16 @@ rwlocks lock = kinds.TheVariants.RwLock
 abbrev pub at_rwlock : ℕ → ℕ → ℕ
 at_rwlock number lock = rwlock_at number
 
+-- where the word of a `Once` stands, on which alone its calls step
+abbrev pub once_at : ℕ → ℕ
+once_at number = word_index number kinds.TheVariants.Once
+
+abbrev pub onces : ℕ → kinds.WordKind
+onces lock = kinds.TheVariants.Once
+
+abbrev pub at_once : ℕ → ℕ → ℕ
+at_once number lock = once_at number
+
 -- one step on the word at a place, and what it saw
 abbrev pub step : ℕ → Op → ℕ → List WordStep
 step at op seen = record { at = at; op = op; seen = seen } ∷ []

@@ -23,7 +23,7 @@ use Rattle.lot_acts.specs.Acts.{holds, takes_effect}
 use Rattle.lot_acts.specs.declared.acts.Act.{Act}
 use Rattle.lot_acts.specs.declared.acts.Act as act
 use Rattle.lot_acts.specs.declared.acts.Reply.{Reply}
-use Rattle.lot_acts.specs.declared.acts.Reply.TheVariants.{Done, Value, Parked, Took, Picked, Requeued, Removed, MovedTo, Late, Woken, Closed}
+use Rattle.lot_acts.specs.declared.acts.Reply.TheVariants.{Done, Value, Parked, Took, Picked, Requeued, Removed, MovedTo, Late, Woken}
 use Rattle.lot_acts.specs.declared.acts.Wakes.{Wakes}
 use Rattle.lot_acts.specs.declared.acts.Wakes as wakes
 use Rattle.lot_acts.specs.declared.acts.Whom.{Whom}
@@ -262,7 +262,6 @@ Became up kinds at sleeper st (act.TheVariants.Leave keys wakes) Done new =
 Became up kinds at sleeper st act.TheVariants.Sleep reply new =
     Awoke up (kinds sleeper.lock) (at sleeper.lock) sleeper st reply new
 Became up kinds at sleeper st act.TheVariants.Accept Done new = new ≡ st
-Became up kinds at sleeper st (act.TheVariants.Closure state) (Closed succeeded) new = new ≡ st
 Became up kinds at sleeper st _ _ new = ⊥
 
 -- the steps on words that an act adds

@@ -2,8 +2,8 @@
 ghost use Rattle.std.specs.Prelude.{◌≡◌, ◌++◌, ℕ, List, None};
 ghost use Rattle.lot_base.specs.Clocks.{IsUp};
 ghost use Rattle.lot_base.specs.declared.ops.Op.TheVariants.{Load};
-ghost use Rattle.lot_steps.specs.Steps.{act_of, next_act, next_place, HasKeys};
-ghost use Rattle.lot_acts.specs.declared.acts.Reply.TheVariants.{Value, Closed};
+ghost use Rattle.lot_steps.specs.Steps.{act_of, next_place, HasKeys};
+ghost use Rattle.lot_acts.specs.declared.acts.Reply.TheVariants.{Value};
 ghost use Rattle.lot_words.specs.Lots.{IsWordOf};
 ghost use Rattle.lot_words.specs.Indices.{word_index};
 ghost use Rattle.lot_words.specs.Steps.{MayStep, CodesWith, after_step};
@@ -63,6 +63,7 @@ pub const NO_LIMIT: Option<(&'static NoClock, u64)> = None;
 pub const FOR_EVER: &Option<(&'static NoClock, u64)> = &None;
 
 /// What a run of a call comes to.
+#[derive(Drop)]
 pub(crate) enum Stop {
     /// The call is over.
     Ended(Answer),
@@ -161,6 +162,8 @@ fn sleeper(place: Place) -> Sleeper
                 may_be_handed(at),
             )
         }
+        // Nobody hands a `Once` over.
+        Place::Once { lock, at } => (lock, at.wants().unwrap_or(Want::Exclusive), false),
     };
     Sleeper {
         lock,
@@ -242,33 +245,6 @@ pub(crate) fn run<R: Wait, C: Clock>(
         place = go_from(next, &mut loads);
     }
     unreachable!()
-}
-
-/// Goes on behind the closure of a call, by whether that succeeded.
-pub(crate) fn resume<R: Wait, C: Clock>(
-    rt: &R,
-    lot: &ParkingLot,
-    token: &mut Token,
-    words: Words,
-    limit: Option<(&C, u64)>,
-    place: Place,
-    succeeded: bool,
-) -> Stop
-    requires own { IsTokenOf lot.now token.old × AreWordsOf lot.now words }
-    requires words { AreWordsFor place (kind_in words) (at_in words) }
-    requires closure { (state : OnceState) × (act_of place ≡ Act.Closure state) }
-    requires goes_on { answer_of (next_act place (Closed succeeded)) ≡ None }
-    requires fits { (base : List Ownership) × Fits (IsUp C.tells limit) base place (stage_of token.old None) }
-    ensures own { IsSameThread lot.now token.old token.new }
-    ensures path { Runs (at_in words) (next_place place (Closed succeeded))
-        (steps_of token.old) (steps_of token.new) result }
-    ensures stopped { (base : List Ownership)
-        → Fits (IsUp C.tells limit.entry) base place (stage_of token.old None)
-        → IsStopped (IsUp C.tells limit.entry) base (aim_of place) result (stage_of token.new None) }
-    ensures words { AreWordsAfter result (kind_in words) (at_in words) }
-{
-    let behind = place.after(Reply::Closed { succeeded });
-    run(rt, lot, token, words, limit, behind)
 }
 
 // Where a call goes on whose first step saw this.

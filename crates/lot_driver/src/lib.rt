@@ -5,6 +5,7 @@ mod acting;
 pub mod courses;
 pub mod driver;
 pub mod fair_calls;
+pub mod once_calls;
 pub mod rwlock_calls;
 mod taking;
 mod words;

@@ -5,6 +5,7 @@ ghost use Rattle.lot_base.specs.Clocks.{IsUp};
 ghost use Rattle.lot_steps.specs.Steps.{next_place};
 ghost use Rattle.lot_words.specs.Lots.{IsWordOf};
 ghost use Rattle.lot_words.specs.declared.owners.Ownership.{Ownership};
+ghost use Rattle.lot_words.specs.declared.words.WordKind.TheVariants.{RwLock};
 ghost use Rattle.parking_lot_core.specs.Tokens.{IsTokenOf, IsSameThread};
 ghost use Rattle.lot_driver.specs.Courses.{course_of};
 ghost use Rattle.lot_driver.specs.declared.courses.Course.TheVariants.{Takes};
@@ -37,6 +38,7 @@ pub(crate) fn run_out<R: Wait, C: Clock>(
 ) -> Answer
     requires own { IsTokenOf lot.now token.old × IsWordOf lot.now.words word }
     requires words { AreWordsFor start (kind_in (alone word)) (at_in (alone word)) }
+    requires kind { word.kind ≡ RwLock }
     requires fits { (base : List Ownership) × Fits (IsUp C.tells limit) base start (stage_of token.old None) }
     ensures own { IsSameThread lot.now token.old token.new }
     ensures path { Walks (at_in (alone word)) start (steps_of token.old) (steps_of token.new) result }

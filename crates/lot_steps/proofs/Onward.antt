@@ -9,10 +9,12 @@ use Rattle.lot_acts.specs.declared.acts.Next.{Next}
 use Rattle.lot_acts.specs.declared.acts.Next.TheVariants.{At, End}
 use Rattle.lot_acts.specs.declared.acts.Reply.{Reply}
 use Rattle.lot_steps.specs.declared.places.Place.{Place}
-use Rattle.lot_steps.specs.declared.places.Place.TheVariants.{Idle, Mutex, RwLock}
-use Rattle.lot_steps.specs.Steps.{HasKeys, act_of, next_place, next_act, mutex_goes, mutex_does, rwlock_goes, rwlock_does}
+use Rattle.lot_steps.specs.declared.places.Place.TheVariants.{Idle, Mutex, RwLock, Once}
+use Rattle.lot_steps.specs.Steps.{HasKeys, act_of, next_place, next_act, mutex_goes, mutex_does, rwlock_goes, rwlock_does, once_goes, once_does}
 use Rattle.lot_mutex.specs.MutexSteps.{mutex_next}
 use Rattle.lot_mutex.specs.declared.places.MutexPlace.{MutexPlace}
+use Rattle.lot_once.specs.OnceSteps.{once_next}
+use Rattle.lot_once.specs.declared.places.OncePlace.{OncePlace}
 use Rattle.lot_rwlock.specs.declared.places.Admission.{Admission}
 use Rattle.lot_rwlock_fair.specs.FairSteps.{call_next}
 use Rattle.lot_rwlock_fair.specs.declared.places.RwLockCallPlace.{RwLockCallPlace}
@@ -30,6 +32,11 @@ keeps_keys (RwLock lock a at) r keys = of (call_next a at r)
     of : (n : Next RwLockCallPlace) → HasKeys (rwlock_goes lock a n)
     of (At q) = keys
     of (End x) = tt
+keeps_keys (Once lock at) r keys = of (once_next at r)
+  where
+    of : (n : Next OncePlace) → HasKeys (once_goes lock n)
+    of (At q) = keys
+    of (End x) = tt
 
 -- a step that ends no call does what its place says
 pub does : (p : Place) (r : Reply) → ((x : Answer) → next_act p r ≢ act.TheVariants.End x) → next_act p r ≡ act_of (next_place p r)
@@ -42,6 +49,11 @@ does (Mutex lock at) r goes = of (mutex_next at r) goes
 does (RwLock lock a at) r goes = of (call_next a at r) goes
   where
     of : (n : Next RwLockCallPlace) → ((x : Answer) → rwlock_does lock a n ≢ act.TheVariants.End x) → rwlock_does lock a n ≡ act_of (rwlock_goes lock a n)
+    of (At q) h = refl
+    of (End x) h = absurd (h x refl)
+does (Once lock at) r goes = of (once_next at r) goes
+  where
+    of : (n : Next OncePlace) → ((x : Answer) → once_does lock n ≢ act.TheVariants.End x) → once_does lock n ≡ act_of (once_goes lock n)
     of (At q) h = refl
     of (End x) h = absurd (h x refl)
 

@@ -13,6 +13,7 @@ pub use lot_calls;
 pub use lot_calls::{Answer, Call, Kind, MutexCall, OnceState, Outcome, Step, Turn};
 pub use lot_mutex;
 pub use lot_mutex::{Entry, HandOffAt, LockAt, MutexPlace, UnlockAt};
+pub use lot_once;
 pub use lot_rwlock;
 pub use lot_rwlock_fair;
 pub use places::{Place, advance, arrive, has_right};

@@ -7,6 +7,7 @@ use lot_acts::{Act, Next, Owners, Reply};
 use lot_base::{Key, Want};
 use lot_calls::{Call, Kind, Outcome};
 use lot_mutex::{MutexPlace, mutex_right};
+use lot_once::OncePlace;
 use lot_rwlock::Admission;
 use lot_rwlock_fair::{RwLockCallPlace, call_right};
 
@@ -22,6 +23,10 @@ pub enum Place {
         lock: usize,
         admission: Admission,
         at: RwLockCallPlace,
+    },
+    Once {
+        lock: usize,
+        at: OncePlace,
     },
 }
 
@@ -39,6 +44,10 @@ impl Place {
                 lock,
                 admission: Admission::of(kind),
                 at: RwLockCallPlace::first(call),
+            },
+            Call::Once { lock, call } => Place::Once {
+                lock,
+                at: OncePlace::first(call),
             },
         }
     }
@@ -62,6 +71,7 @@ impl Place {
                 admission,
                 at,
             } => at.act(lock, admission),
+            Place::Once { lock, at } => at.act(lock),
         }
     }
 
@@ -73,6 +83,7 @@ impl Place {
             Place::Idle => Outcome::Step,
             Place::Mutex { at, .. } => at.outcome(),
             Place::RwLock { admission, at, .. } => at.outcome(admission),
+            Place::Once { at, .. } => at.outcome(),
         }
     }
 
@@ -94,6 +105,7 @@ impl Place {
             Place::RwLock { admission, at, .. } => {
                 at.owners_after(admission, thread, seen, owners)
             }
+            Place::Once { at, .. } => at.owners_after(thread, seen, owners),
         }
     }
 
@@ -103,7 +115,7 @@ impl Place {
         ensures { result ≡ shares_after self seen shares }
     {
         match self {
-            Place::Idle | Place::Mutex { .. } => None,
+            Place::Idle | Place::Mutex { .. } | Place::Once { .. } => None,
             Place::RwLock { admission, at, .. } => at.shares_after(admission, seen, shares),
         }
     }
@@ -116,6 +128,7 @@ impl Place {
             Place::Idle => None,
             Place::Mutex { at, .. } => at.wants(),
             Place::RwLock { at, .. } => at.wants(),
+            Place::Once { at, .. } => at.wants(),
         }
     }
 
@@ -127,6 +140,7 @@ impl Place {
             Place::Idle => None,
             Place::Mutex { at, .. } => at.taker(),
             Place::RwLock { at, .. } => at.taker(),
+            Place::Once { at, .. } => at.taker(),
         }
     }
 
@@ -152,6 +166,10 @@ impl Place {
                     at,
                 })
             }
+            Place::Once { lock, at } => {
+                let at = at.looking()?;
+                Some(Place::Once { lock, at })
+            }
         }
     }
 
@@ -161,7 +179,7 @@ impl Place {
         ensures { result ≡ late_key self }
     {
         match self {
-            Place::Idle => None,
+            Place::Idle | Place::Once { .. } => None,
             Place::Mutex { lock, at } => match at.late_line() {
                 Some(line) => Some(line.key(lock)),
                 None => None,
@@ -182,6 +200,7 @@ impl Place {
             Place::Idle => false,
             Place::Mutex { lock: own, at } => own == lock && at.owes().is_some(),
             Place::RwLock { lock: own, at, .. } => own == lock && at.owes().is_some(),
+            Place::Once { lock: own, at } => own == lock && at.owes().is_some(),
         }
     }
 
@@ -194,6 +213,7 @@ impl Place {
             Place::Idle => false,
             Place::Mutex { lock: own, at } => own == lock && at.retries(),
             Place::RwLock { lock: own, at, .. } => own == lock && at.retries(),
+            Place::Once { lock: own, at } => own == lock && at.retries(),
         }
     }
 }
@@ -205,6 +225,7 @@ pub fn has_right(call: Call, thread: usize, owners: Owners, shares: usize) -> bo
     match call {
         Call::Mutex { call, .. } => mutex_right(call, thread, owners),
         Call::RwLock { call, .. } => call_right(call, thread, owners, shares),
+        Call::Once { .. } => true,
     }
 }
 
@@ -232,6 +253,10 @@ pub fn arrive(place: Place, reply: Reply) -> (Place, Outcome)
                 };
                 (next, at.outcome(admission))
             }
+            Next::End(answer) => (Place::Idle, Outcome::End(answer)),
+        },
+        Place::Once { lock, at } => match at.next(reply) {
+            Next::At(at) => (Place::Once { lock, at }, at.outcome()),
             Next::End(answer) => (Place::Idle, Outcome::End(answer)),
         },
     }

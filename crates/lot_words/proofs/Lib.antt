@@ -10,6 +10,7 @@ pub mod RwLockSteps
 pub mod RwLockKinds
 pub mod RwLockOwning
 pub mod OnceSteps
+pub mod OnceKnowledge
 pub mod TiedSteps
 mod Alone
 mod AtWord

@@ -4,9 +4,9 @@ use mathlib.Core.Logic.{dite}
 use native.Mathlib.Decide.{ℕ_discrete}
 use Rattle.lot_words.specs.Indices.{word_index, mutex_of_count}
 use Rattle.lot_words.specs.Views.{total, total_below, counted}
-use Rattle.lot_words.specs.RuleLaws.{DrawnOnce, NeverFalls, UntouchedIs0, ShownWasStepped, CountsAnOwner}
+use Rattle.lot_words.specs.RuleLaws.{DrawnOnce, NeverFalls, UntouchedIs0, ShownWasStepped, CountsAnOwner, RunsOneAtATime}
 use Rattle.lot_words.specs.declared.views.View.{View}
-use Rattle.lot_words.specs.declared.words.WordKind.TheVariants.{Mutex, Count}
+use Rattle.lot_words.specs.declared.words.WordKind.TheVariants.{Mutex, Once, Count}
 use Rattle.lot_words.proofs.Counts.{no_counts}
 use Rattle.lot_words.proofs.Totals.{cond_same, cond_other}
 
@@ -37,3 +37,7 @@ shown_was_stepped words family s rule = rule.shows
 pub counts_an_owner : CountsAnOwner
 counts_an_owner words family s rule number below = let here = rule.counts (number + 1) below in let same = here.1 in let there : mutex_of_count (word_index (number + 1) Count) ≡ word_index number Mutex = omega arith in
     (here.0, λ none. omega (arith, ap (λ (r : ℕ). total (λ (v : View). counted r v.owns) s.views) there, no_counts (word_index number Mutex) s.views none))
+
+pub one_at_a_time : RunsOneAtATime
+one_at_a_time words family s rule number below = let code = rule.coded number Once below in let runs = code.1 in
+    (omega (arith, runs), λ some. let done = code.2 some in (done, omega (arith, runs, done)))

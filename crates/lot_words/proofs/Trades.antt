@@ -28,7 +28,7 @@ both : (a b : Bool) → (a && b) ≡ true → (a ≡ true) × (b ≡ true)
 both true b e = (refl, e)
 both false b e = absurd (false≢true e)
 
-this_is : (x y : Ownership) → is_this x y ≡ true → x ≡ y
+pub this_is : (x y : Ownership) → is_this x y ≡ true → x ≡ y
 this_is x y e = let t = both (eqb x.at y.at) (eqb (owner_rank x.owner) (owner_rank y.owner) && eqb x.count y.count) e in
     let u = both (eqb (owner_rank x.owner) (owner_rank y.owner)) (eqb x.count y.count) t.1 in
     let at = eqb-true x.at y.at t.0 in let count = eqb-true x.count y.count u.1 in

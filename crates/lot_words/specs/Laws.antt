@@ -1,10 +1,12 @@
 -- What the codes say of owners.
 use Rattle.std.specs.Prelude.{◌≡◌, ◌≢◌, ◌⊎◌, ℕ, ◌+◌, ◌-◌, ◌*◌, ◌/◌, ◌%◌, ◌^◌, ◌<◌, ◌≤◌, List, true}
+use Rattle.lot_base.specs.Words.{apply}
+use Rattle.lot_base.specs.declared.ops.Op.{Op}
 use Rattle.lot_base.specs.declared.ops.Op.TheVariants.{Load, Store, Swap, Add, Sub, Or, And, Exchange}
 use Rattle.lot_words.specs.Indices.{word_index}
 use Rattle.lot_words.specs.Views.{owning, owning_with}
-use Rattle.lot_words.specs.Steps.{MayStep, has}
-use Rattle.lot_words.specs.declared.owners.Owner.TheVariants.{Exclusive, Pending, Upgrading, Upgradable, Shared, Runner}
+use Rattle.lot_words.specs.Steps.{MayStep, CodesWith, owns_after_step, has}
+use Rattle.lot_words.specs.declared.owners.Owner.TheVariants.{Exclusive, Pending, Upgrading, Upgradable, Shared, Runner, Witness}
 use Rattle.lot_words.specs.declared.owners.Ownership.{Ownership}
 use Rattle.lot_words.specs.Codes.{Owners, Codes, IsCountCode, everyone, exclusive, pending, upgrading, upgradable, shared}
 use Rattle.lot_words.specs.declared.words.WordKind.{WordKind}
@@ -87,6 +89,20 @@ pub record OnceSteps (at : ℕ) (owns : List Ownership) : Type 0 where
 -- whoever it is, it may take them
 abbrev pub OnceMaySteps : Type 0
 OnceMaySteps = (at : ℕ) (owns : List Ownership) → OnceSteps at owns
+
+-- what is known of a `Once` that is done
+pub record OnceKnowledge (at : ℕ) (owns : List Ownership) : Type 0 where
+  -- who leaves it done knows it
+  pub learns : (op : Op) (found : ℕ) → apply op found ≡ 1
+      → has (owning at Witness) (owns_after_step Once at op found owns) ≡ true
+  -- who knows it does so behind each step, and finds it done
+  pub keeps : (op : Op) (found : ℕ) → has (owning at Witness) owns ≡ true
+      → has (owning at Witness) (owns_after_step Once at op found owns) ≡ true
+  pub finds : (n : ℕ) → CodesWith Once at n owns → has (owning at Witness) owns ≡ true → n ≡ 1
+
+-- of whoever it is
+abbrev pub OnceIsKnown : Type 0
+OnceIsKnown = (at : ℕ) (owns : List Ownership) → OnceKnowledge at owns
 
 -- the kinds of step on a condition variable's word
 pub record CondvarSteps (at : ℕ) (owns : List Ownership) : Type 0 where

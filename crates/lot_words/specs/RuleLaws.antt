@@ -5,11 +5,11 @@ use lib.ListN.{get_elem?}
 use Rattle.atomic_table.specs.Table.{State}
 use Rattle.lot_words.specs.Indices.{counter, word_index}
 use Rattle.lot_words.specs.Views.{total, drew, steps_at, named}
-use Rattle.lot_words.specs.Codes.{everyone, IsCountCode, Shows}
+use Rattle.lot_words.specs.Codes.{everyone, runner, witness, IsCountCode, Shows}
 use Rattle.lot_words.specs.Rule.{LotRule}
 use Rattle.value_place.specs.declared.slot.PermitSlot.{PermitSlot}
 use Rattle.lot_words.specs.declared.views.View.{View}
-use Rattle.lot_words.specs.declared.words.WordKind.TheVariants.{Mutex, Condvar, Count}
+use Rattle.lot_words.specs.declared.words.WordKind.TheVariants.{Mutex, Once, Condvar, Count}
 
 -- how often a number was drawn
 abbrev pub times_drawn : ℕ → List View → ℕ
@@ -41,3 +41,10 @@ abbrev pub CountsAnOwner : Type 0
 CountsAnOwner = (words family : ℕ) (s : State PermitSlot View) → LotRule words family s → (number : ℕ) → number + 1 < words →
     IsCountCode (slice_index s.words (word_index (number + 1) Count))
     × (named (word_index number Mutex) everyone s.views ≡ 0 → slice_index s.words (word_index (number + 1) Count) ≡ 0)
+
+-- at most one view runs a `Once`, and none where some view knows that it is done: the word says so then
+abbrev pub RunsOneAtATime : Type 0
+RunsOneAtATime = (words family : ℕ) (s : State PermitSlot View) → LotRule words family s → (number : ℕ) → number < words →
+    (named (word_index number Once) runner s.views ≤ 1)
+    × (0 < named (word_index number Once) witness s.views
+    → (slice_index s.words (word_index number Once) ≡ 1) × (named (word_index number Once) runner s.views ≡ 0))

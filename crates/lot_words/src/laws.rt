@@ -1,6 +1,6 @@
 //! What the rule says to who takes a step, whoever else takes steps.
-ghost use Rattle.lot_words.specs.Laws.{CondvarMaySteps, CountMaySteps, ExclusiveIsAlone, MutexMaySteps, OnceMaySteps, RwLockMaySteps};
-ghost use Rattle.lot_words.specs.RuleLaws.{CountsAnOwner, DrawnOnce, NeverFalls, ShownWasStepped, UntouchedIs0};
+ghost use Rattle.lot_words.specs.Laws.{CondvarMaySteps, CountMaySteps, ExclusiveIsAlone, MutexMaySteps, OnceIsKnown, OnceMaySteps, RwLockMaySteps};
+ghost use Rattle.lot_words.specs.RuleLaws.{CountsAnOwner, DrawnOnce, NeverFalls, RunsOneAtATime, ShownWasStepped, UntouchedIs0};
 
 /// In every word of a mutex or a reader-writer lock that a step can find, an exclusive owner stands beside no other owner.
 pub fn exclusive_is_alone()
@@ -23,6 +23,11 @@ pub fn rwlock_may_step()
 /// or poisoned by who runs it.
 pub fn once_may_step()
     ensures { OnceMaySteps }
+{}
+
+/// Who finds a `Once` done, or leaves it so, knows it, and does so behind each further step. It is done then for ever.
+pub fn once_is_known()
+    ensures { OnceIsKnown }
 {}
 
 /// A condition variable's word may be loaded and set to 0 by anybody, and show a mutex, where it shows none, by who owns that
@@ -60,4 +65,9 @@ pub fn shown_mutex_was_stepped_on()
 /// A count word is 0, or a thread with how often it locked the mutex before. It is 0 where nobody owns that mutex.
 pub fn count_is_of_an_owner()
     ensures { CountsAnOwner }
+{}
+
+/// Of all views of a lot one at most runs a `Once`, and none where some view knows that it is done.
+pub fn runs_one_at_a_time()
+    ensures { RunsOneAtATime }
 {}

@@ -1,0 +1,222 @@
+-- Each act of a `Once`'s call is one that the thread may take, and leads to a place that fits.
+use Rattle.std.proofs.Common.{ℕ, suc, ◌≡◌, ◌≢◌, ◌*◌, Bool, true, false, List, ◌∷◌, Option, Some, None, cond, if◌then◌else◌, inl, inr, sym, refl, ap, ◌∙◌, subst, arith, ne_eqb}
+use Rattle.std.proofs.lemmas.Bool.{false≢true}
+use mathlib.Core.Logic.{dite}
+use native.Mathlib.Decide.{ℕ_discrete}
+use Rattle.lot_base.specs.Words.{apply}
+use Rattle.lot_base.specs.declared.keys.Keys.TheVariants.{One}
+use Rattle.lot_base.specs.declared.notes.Note.TheVariants.{Normal, HandOff}
+use Rattle.lot_base.specs.declared.ops.Op.TheVariants.{Exchange}
+use Rattle.lot_calls.specs.declared.calls.OnceCall.{OnceCall}
+use Rattle.lot_calls.specs.declared.calls.OnceCall.TheVariants.{CallOnce, Wait}
+use Rattle.lot_acts.specs.declared.acts.Act.{Act}
+use Rattle.lot_acts.specs.declared.acts.Act as act
+use Rattle.lot_acts.specs.declared.acts.Reply.{Reply}
+use Rattle.lot_acts.specs.declared.acts.Reply.TheVariants.{Done, Value, Parked, Took, MovedTo, Late, Woken}
+use Rattle.lot_once.specs.OnceSteps.{course_of, decided, in_look, look_act, looked, once_act, run_act}
+use Rattle.lot_once.specs.declared.look.LookAt.{LookAt}
+use Rattle.lot_once.specs.declared.look.LookAt.TheVariants as look
+use Rattle.lot_once.specs.declared.run.RunAt.{RunAt}
+use Rattle.lot_once.specs.declared.run.RunAt.TheVariants as run
+use Rattle.lot_once.specs.declared.places.OncePlace.{OncePlace}
+use Rattle.lot_once.specs.declared.places.OncePlace.TheVariants.{Look, Run}
+use Rattle.lot_steps.specs.Steps.{in_once, once_does, once_goes}
+use Rattle.lot_steps.specs.declared.places.Place.TheVariants.{Once}
+use Rattle.lot_words.specs.Codes.{IsOnceWord}
+use Rattle.lot_words.specs.Steps.{once_trade, owns_after}
+use Rattle.lot_words.specs.Views.{owning}
+use Rattle.lot_words.specs.declared.owners.Owner.TheVariants.{Runner, Witness}
+use Rattle.lot_words.specs.declared.owners.Ownership.{Ownership}
+use Rattle.lot_words.specs.declared.words.WordKind as kinds
+use Rattle.lot_words.proofs.OnceSteps.{once_steps}
+use Rattle.parking_lot_core.specs.declared.tokens.Did.TheVariants.{TakeAll}
+use Rattle.lot_driver.specs.Fitting.{Fits, Looks, Reached, ReachedBy, aim_of, answer_of, of_once, sleeper_at}
+use Rattle.lot_driver.specs.OnceFitting.{FitsLook, FitsOnce, FitsRun, OwnsBehind, StandsOutside, StandsWithin, goes_on, knowing}
+use Rattle.lot_driver.specs.Paths.{once_at, onces, at_once}
+use Rattle.lot_driver.specs.Stages.{Stage, Inside, ActNeeds, Became, HasKey, IsFresh, IsLeft, MayLeave, stage, stepped, took_as}
+
+-- of the seven codes
+pub each_once_code : (P : ℕ → Type 0) → P 0 → P 1 → P 2 → P 4 → P 8 → P 10 → P 12 → (n : ℕ) → IsOnceWord n → P n
+each_once_code P p₀ p₁ p₂ p₄ p₈ p₁₀ p₁₂ n (inl e) = subst P (sym e) p₁
+each_once_code P p₀ p₁ p₂ p₄ p₈ p₁₀ p₁₂ n (inr h) = let small = h.0 in elim h.1 [
+  | inl z ↦ dite (ℕ_discrete n 0) (λ e. subst P (sym e) p₀) (λ ne. let e : n ≡ 8 = omega arith in subst P (sym e) p₈)
+  | inr (inl z) ↦ dite (ℕ_discrete n 2) (λ e. subst P (sym e) p₂) (λ ne. let e : n ≡ 10 = omega arith in subst P (sym e) p₁₀)
+  | inr (inr z) ↦ dite (ℕ_discrete n 4) (λ e. subst P (sym e) p₄) (λ ne. let e : n ≡ 12 = omega arith in subst P (sym e) p₁₂)
+]
+
+module _ (l : ℕ) (base : List Ownership) (st : Stage) where
+  abbrev Can : Act → Type 0
+  Can = ActNeeds onces (at_once l) st
+
+  abbrev Decides : OnceCall → ℕ → Type 0
+  Decides c seen = st.inside ≡ None → Can (decided l c seen)
+
+  decide_needs : (c : OnceCall) (seen : ℕ) → IsOnceWord seen → Decides c seen
+  decide_needs (CallOnce false) = let s = once_steps (once_at l) st.owns in each_once_code (Decides (CallOnce false))
+      (λ o. s.start 0 (omega arith) (inl refl)) (λ o. s.load) (λ o. s.load) (λ o. s.set_parked 4 (inr (inr refl)))
+      (λ o. s.start 8 (omega arith) (inl refl)) (λ o. s.load) (λ o. (tt, o))
+  decide_needs (CallOnce true) = let s = once_steps (once_at l) st.owns in each_once_code (Decides (CallOnce true))
+      (λ o. s.start 0 (omega arith) (inl refl)) (λ o. s.load) (λ o. s.start 2 (omega arith) (inr refl)) (λ o. s.set_parked 4 (inr (inr refl)))
+      (λ o. s.start 8 (omega arith) (inl refl)) (λ o. s.start 10 (omega arith) (inr refl)) (λ o. (tt, o))
+  decide_needs (Wait false) = let s = once_steps (once_at l) st.owns in each_once_code (Decides (Wait false))
+      (λ o. s.set_parked 0 (inl refl)) (λ o. s.load) (λ o. s.load) (λ o. s.set_parked 4 (inr (inr refl)))
+      (λ o. (tt, o)) (λ o. s.load) (λ o. (tt, o))
+  decide_needs (Wait true) = let s = once_steps (once_at l) st.owns in each_once_code (Decides (Wait true))
+      (λ o. s.set_parked 0 (inl refl)) (λ o. s.load) (λ o. s.set_parked 2 (inr (inl refl))) (λ o. s.set_parked 4 (inr (inr refl)))
+      (λ o. (tt, o)) (λ o. (tt, o)) (λ o. (tt, o))
+
+  look_needs : (c : OnceCall) (at : LookAt) → FitsLook l c base at st → Can (look_act l c at)
+  look_needs c look.Load f = (once_steps (once_at l) st.owns).load
+  look_needs c (look.Decide seen) f = decide_needs c seen f.0 f.2.1
+  look_needs c look.Check f = ((once_steps (once_at l) st.owns).load, subst (HasKey (2 * l)) (sym f.1) refl)
+  look_needs c (look.Leave parked) f = subst (MayLeave Normal) (sym f.1) refl
+  look_needs c look.Asleep f = f.1
+  look_needs c (look.Taken by) f = absurd f
+
+  run_needs : (at : RunAt) → FitsRun l base at st → Can (run_act l at)
+  run_needs (run.Closure poisoned) f = f.1
+  run_needs (run.Close succeeded) f = absurd f
+  run_needs (run.Enter succeeded) f = (tt, f.1)
+  run_needs (run.Take succeeded) f = (subst (HasKey (2 * l)) (sym f.1) refl, subst IsFresh (sym f.1) refl)
+  run_needs (run.Leave succeeded true) f = subst (MayLeave Normal) (sym f.3) refl
+  run_needs (run.Leave succeeded false) f = subst (MayLeave Normal) (sym f.3) refl
+
+  -- what the place's act needs is there
+  needs : (at : OncePlace) → FitsOnce l base at st → Can (once_act l at)
+  needs (Look c retries at) f = look_needs c at f
+  needs (Run forced at) f = run_needs at f
+
+  module _ (up : Type 0) (new : Stage) where
+    owns_of : (s : Stage) → new ≡ s → new.owns ≡ s.owns
+    owns_of s e = ap (λ (x : Stage). x.owns) e
+
+    inside_of : (s : Stage) → new ≡ s → new.inside ≡ s.inside
+    inside_of s e = ap (λ (x : Stage). x.inside) e
+
+    -- a look that found it done, and one that did not
+    knows : StandsOutside l base st → (s : Stage) → new ≡ s → s.owns ≡ owning (once_at l) Witness ∷ st.owns → (times : ℕ) × (new.owns ≡ owning (once_at l) Witness ∷ knowing l times base)
+    knows f s x o = (f.0.0, owns_of s x ∙ o ∙ ap (λ (rest : List Ownership). owning (once_at l) Witness ∷ rest) f.0.1)
+
+    still : StandsOutside l base st → (s : Stage) → new ≡ s → s.owns ≡ st.owns → s.inside ≡ st.inside → StandsOutside l base new
+    still f s x o i = ((f.0.0, owns_of s x ∙ o ∙ f.0.1), inside_of s x ∙ i ∙ f.1)
+
+    abbrev AsSeen : ℕ → Type 0
+    AsSeen seen = new ≡ stage (owns_after (once_at l) (once_trade seen seen) st.owns) st.inside None
+
+    module _ (f : StandsOutside l base st) where
+      abbrev Lands : OnceCall → Bool → ℕ → Type 0
+      Lands c r seen = AsSeen seen → ReachedBy up base (of_once l c) (once_goes l (in_look c r (looked c seen))) (answer_of (once_does l (in_look c r (looked c seen)))) new
+
+      -- where a look leads
+      pub lands : (c : OnceCall) (r : Bool) (seen : ℕ) → IsOnceWord seen → Lands c r seen
+      lands (CallOnce false) r = each_once_code (Lands (CallOnce false) r)
+          (λ x. ((inr (omega arith, inl refl), refl, still f _ x refl refl), refl)) (λ x. (inside_of _ x ∙ f.1, knows f _ x refl)) (λ x. let s = still f _ x refl refl in (s.1, (refl, s.0)))
+          (λ x. ((inr (omega arith, inr (inr refl)), refl, still f _ x refl refl), refl)) (λ x. ((inr (omega arith, inl refl), refl, still f _ x refl refl), refl))
+          (λ x. let s = still f _ x refl refl in (s.1, (refl, s.0))) (λ x. ((inr (omega arith, inr (inr refl)), refl, still f _ x refl refl), refl))
+      lands (CallOnce true) r = each_once_code (Lands (CallOnce true) r)
+          (λ x. ((inr (omega arith, inl refl), refl, still f _ x refl refl), refl)) (λ x. (inside_of _ x ∙ f.1, knows f _ x refl)) (λ x. ((inr (omega arith, inr (inl refl)), refl, still f _ x refl refl), refl))
+          (λ x. ((inr (omega arith, inr (inr refl)), refl, still f _ x refl refl), refl)) (λ x. ((inr (omega arith, inl refl), refl, still f _ x refl refl), refl))
+          (λ x. ((inr (omega arith, inr (inl refl)), refl, still f _ x refl refl), refl)) (λ x. ((inr (omega arith, inr (inr refl)), refl, still f _ x refl refl), refl))
+      lands (Wait false) r = each_once_code (Lands (Wait false) r)
+          (λ x. ((inr (omega arith, inl refl), refl, still f _ x refl refl), refl)) (λ x. (inside_of _ x ∙ f.1, knows f _ x refl)) (λ x. let s = still f _ x refl refl in (s.1, (refl, s.0)))
+          (λ x. ((inr (omega arith, inr (inr refl)), refl, still f _ x refl refl), refl)) (λ x. ((inr (omega arith, inl refl), refl, still f _ x refl refl), refl))
+          (λ x. let s = still f _ x refl refl in (s.1, (refl, s.0))) (λ x. ((inr (omega arith, inr (inr refl)), refl, still f _ x refl refl), refl))
+      lands (Wait true) r = each_once_code (Lands (Wait true) r)
+          (λ x. ((inr (omega arith, inl refl), refl, still f _ x refl refl), refl)) (λ x. (inside_of _ x ∙ f.1, knows f _ x refl)) (λ x. ((inr (omega arith, inr (inl refl)), refl, still f _ x refl refl), refl))
+          (λ x. ((inr (omega arith, inr (inr refl)), refl, still f _ x refl refl), refl)) (λ x. ((inr (omega arith, inl refl), refl, still f _ x refl refl), refl))
+          (λ x. ((inr (omega arith, inr (inl refl)), refl, still f _ x refl refl), refl)) (λ x. ((inr (omega arith, inr (inr refl)), refl, still f _ x refl refl), refl))
+
+      abbrev Saw : OnceCall → Bool → ℕ → ℕ → ℕ → Type 0
+      Saw c r from to seen = new ≡ stepped kinds.TheVariants.Once (once_at l) (Exchange from to) seen st → Reached up base (Once l (Look c r (look.Decide from))) (Value seen) new
+
+      -- an exchange that finds another value is a look
+      misses : (c : OnceCall) (r : Bool) (from to seen : ℕ) → IsOnceWord seen → seen ≢ from → Saw c r from to seen
+      misses c r from to seen word ne x = let found : apply (Exchange from to) seen ≡ seen = ap (λ (b : Bool). cond b to seen) (ne_eqb seen from ne) in
+          rw (ne_eqb seen from ne) (lands c r seen word (x ∙ ap (λ (left : ℕ). stage (owns_after (once_at l) (once_trade seen left) st.owns) st.inside None) found))
+
+      abbrev Leads : OnceCall → Bool → ℕ → Type 0
+      Leads c r from = goes_on (course_of c from) ≡ true → (reply : Reply) → Became up onces (at_once l) (sleeper_at (Once l (Look c r (look.Decide from)))) st (decided l c from) reply new → Reached up base (Once l (Look c r (look.Decide from))) reply new
+
+      by_exchange : (c : OnceCall) (r : Bool) (from to : ℕ) → Saw c r from to from → (reply : Reply) → Became up onces (at_once l) (sleeper_at (Once l (Look c r (look.Decide from)))) st (act.TheVariants.Word l (Exchange from to)) reply new → Reached up base (Once l (Look c r (look.Decide from))) reply new
+      by_exchange c r from to hit (Value seen) b = dite (ℕ_discrete seen from) (λ e. subst (Saw c r from to) (sym e) hit) (λ ne. misses c r from to seen b.0.1.0 ne) b.1
+      by_exchange c r from to hit reply b = absurd b
+
+      by_entry : (c : OnceCall) (r : Bool) (from : ℕ) (reply : Reply) → Became up onces (at_once l) (sleeper_at (Once l (Look c r (look.Decide from)))) st (act.TheVariants.Enter (One (2 * l))) reply new → Reached up base (Once l (Look c r (look.Decide from))) reply new
+      by_entry c r from Done b = (((f.0.0, owns_of _ b ∙ f.0.1), inside_of _ b), refl)
+      by_entry c r from reply b = absurd b
+
+      begins : (s : Stage) → new ≡ s → s.owns ≡ owning (once_at l) Runner ∷ st.owns → s.inside ≡ st.inside → FitsRun l base (run.Closure false) new
+      begins s x o i = ((st.owns, f.0, owns_of s x ∙ o), inside_of s x ∙ i ∙ f.1)
+
+      decides : (c : OnceCall) (r : Bool) (from : ℕ) → IsOnceWord from → Leads c r from
+      decides (CallOnce false) r = each_once_code (Leads (CallOnce false) r)
+          (λ g. by_exchange (CallOnce false) r 0 4 (λ x. (begins _ x refl refl, refl))) (λ g. absurd (false≢true g)) (λ g. absurd (false≢true g))
+          (λ g. by_exchange (CallOnce false) r 4 12 (λ x. ((inr (omega arith, inr (inr refl)), refl, still f _ x refl refl), refl)))
+          (λ g. by_exchange (CallOnce false) r 8 12 (λ x. (begins _ x refl refl, refl))) (λ g. absurd (false≢true g)) (λ g. by_entry (CallOnce false) r 12)
+      decides (CallOnce true) r = each_once_code (Leads (CallOnce true) r)
+          (λ g. by_exchange (CallOnce true) r 0 4 (λ x. (begins _ x refl refl, refl))) (λ g. absurd (false≢true g)) (λ g. by_exchange (CallOnce true) r 2 4 (λ x. (begins _ x refl refl, refl)))
+          (λ g. by_exchange (CallOnce true) r 4 12 (λ x. ((inr (omega arith, inr (inr refl)), refl, still f _ x refl refl), refl)))
+          (λ g. by_exchange (CallOnce true) r 8 12 (λ x. (begins _ x refl refl, refl))) (λ g. by_exchange (CallOnce true) r 10 12 (λ x. (begins _ x refl refl, refl))) (λ g. by_entry (CallOnce true) r 12)
+      decides (Wait false) r = each_once_code (Leads (Wait false) r)
+          (λ g. by_exchange (Wait false) r 0 8 (λ x. ((inr (omega arith, inl refl), refl, still f _ x refl refl), refl))) (λ g. absurd (false≢true g)) (λ g. absurd (false≢true g))
+          (λ g. by_exchange (Wait false) r 4 12 (λ x. ((inr (omega arith, inr (inr refl)), refl, still f _ x refl refl), refl)))
+          (λ g. by_entry (Wait false) r 8) (λ g. absurd (false≢true g)) (λ g. by_entry (Wait false) r 12)
+      decides (Wait true) r = each_once_code (Leads (Wait true) r)
+          (λ g. by_exchange (Wait true) r 0 8 (λ x. ((inr (omega arith, inl refl), refl, still f _ x refl refl), refl))) (λ g. absurd (false≢true g)) (λ g. by_exchange (Wait true) r 2 10 (λ x. ((inr (omega arith, inr (inl refl)), refl, still f _ x refl refl), refl)))
+          (λ g. by_exchange (Wait true) r 4 12 (λ x. ((inr (omega arith, inr (inr refl)), refl, still f _ x refl refl), refl)))
+          (λ g. by_entry (Wait true) r 8) (λ g. by_entry (Wait true) r 10) (λ g. by_entry (Wait true) r 12)
+
+    abbrev Checked : ℕ → Type 0
+    Checked seen = AsSeen seen → StandsWithin l base new
+
+    -- the look inside the section
+    checks : StandsWithin l base st → (seen : ℕ) → IsOnceWord seen → Checked seen
+    checks f = let same : (s : Stage) → new ≡ s → s.owns ≡ st.owns → s.inside ≡ st.inside → StandsWithin l base new = λ s x o i. ((f.0.0, owns_of s x ∙ o ∙ f.0.1), inside_of s x ∙ i ∙ f.1) in each_once_code Checked
+        (λ x. same _ x refl refl) (λ x. ((suc f.0.0, owns_of _ x ∙ ap (λ (rest : List Ownership). owning (once_at l) Witness ∷ rest) f.0.1), inside_of _ x ∙ f.1)) (λ x. same _ x refl refl)
+        (λ x. same _ x refl refl) (λ x. same _ x refl refl) (λ x. same _ x refl refl) (λ x. same _ x refl refl)
+
+    nobody : {key : ℕ} → None ≡ Some key → ⊥
+    nobody e = cc
+
+    look_leads : (c : OnceCall) (r : Bool) (at : LookAt) → FitsLook l c base at st → (reply : Reply) → Became up onces (at_once l) (sleeper_at (Once l (Look c r at))) st (look_act l c at) reply new → Reached up base (Once l (Look c r at)) reply new
+    look_leads c r look.Load f (Value seen) b = lands f c r seen b.0.1.0 b.1
+    look_leads c r (look.Decide seen) f reply b = decides f.2 c r seen f.0 f.1 reply b
+    look_leads c r look.Check f (Parked parked) b = (checks f b.0 b.2.0.1.0 b.2.1, refl)
+    look_leads c r (look.Leave true) f Done b = (((f.0.0, b.0 ∙ f.0.1), b.1), refl)
+    look_leads c r (look.Leave false) f Done b = (((f.0.0, b.0 ∙ f.0.1), b.1), refl)
+    look_leads c r look.Asleep f (Woken Normal) b = (((f.0.0, b.0 ∙ f.0.1), b.1), refl)
+    look_leads c r look.Asleep f (Woken HandOff) b = absurd (false≢true b.3)
+    look_leads c r look.Asleep f Late b = absurd (nobody b.1.0)
+    look_leads c r look.Asleep f (MovedTo key) b = absurd (nobody b.0.1)
+    look_leads c r (look.Taken by) f reply b = absurd f
+    look_leads c r at f reply b = absurd b
+
+    same_behind : (succeeded : Bool) → OwnsBehind l succeeded base st.owns → new.owns ≡ st.owns → OwnsBehind l succeeded base new.owns
+    same_behind succeeded f e = subst (OwnsBehind l succeeded base) (sym e) f
+
+    run_leads : (forced : Bool) (at : RunAt) → FitsRun l base at st → (reply : Reply) → Became up onces (at_once l) (sleeper_at (Once l (Run forced at))) st (run_act l at) reply new → Reached up base (Once l (Run forced at)) reply new
+    run_leads forced (run.Enter succeeded) f Done b = ((same_behind succeeded f.0 (owns_of _ b), inside_of _ b), refl)
+    run_leads forced (run.Take succeeded) f (Took any left) b = ((same_behind succeeded f.0 b.1, b.0.0, b.0.1, b.0.2 ∙ ap (took_as (TakeAll (2 * l)) b.0.0) f.1), refl)
+    run_leads forced (run.Leave succeeded any) f Done b = (b.1, refl, same_behind succeeded f.0 b.0, subst (λ (i : Option Inside). IsLeft i new.last) f.3 b.2)
+    run_leads forced (run.Take succeeded) f reply b = absurd b.0
+    run_leads forced (run.Close succeeded) f reply b = absurd f
+    run_leads forced at f reply b = absurd b
+
+    leads : (at : OncePlace) → FitsOnce l base at st → (reply : Reply) → Became up onces (at_once l) (sleeper_at (Once l at)) st (once_act l at) reply new → Reached up base (Once l at) reply new
+    leads (Look c r at) f = look_leads c r at f
+    leads (Run forced at) f = run_leads forced at f
+
+  -- where it looks at the word once more, it has what it had
+  looks : (up : Type 0) (at : OncePlace) → FitsOnce l base at st → Looks up base (Once l at) st
+  looks up (Look c r (look.Decide seen)) f q is = by_mark _ is
+    where
+      by_mark : (b : Bool) → in_once l (if b then Some (Look c r look.Load) else None) ≡ Some q → Fits up base q st × (aim_of q ≡ of_once l c)
+      by_mark true is = let there : Once l (Look c r look.Load) ≡ q = cc in subst (λ p. Fits up base p st × (aim_of p ≡ of_once l c)) there (f.2, refl)
+      by_mark false is = absurd cc
+  looks up at f q is = absurd cc
+
+-- the words of a call of a `Once` are that one alone
+pub once_place_leads : (up : Type 0) (l : ℕ) (base : List Ownership) (at : OncePlace) (st : Stage) → FitsOnce l base at st →
+    ActNeeds onces (at_once l) st (once_act l at) × Looks up base (Once l at) st
+    × ((reply : Reply) (new : Stage) → Became up onces (at_once l) (sleeper_at (Once l at)) st (once_act l at) reply new → Reached up base (Once l at) reply new)
+once_place_leads up l base at st f = (needs l base st at f, looks l base st up at f, λ reply new. leads l base st up new at f reply)

@@ -1,0 +1,103 @@
+-- What a thread of a `Once`'s call has at each place, and at its end.
+use Rattle.std.specs.Prelude.{ℕ, zero, suc, ◌≡◌, ◌*◌, ◌==◌, not, length, Bool, true, false, List, ◌∷◌, Option, Some, None}
+use Rattle.lot_base.specs.Lines.{threads_of}
+use Rattle.lot_base.specs.declared.keys.Keys.TheVariants.{One}
+use Rattle.lot_base.specs.declared.wants.Waiter.{Waiter}
+use Rattle.lot_calls.specs.declared.calls.OnceCall.{OnceCall}
+use Rattle.lot_calls.specs.declared.outcomes.Answer.{Answer}
+use Rattle.lot_calls.specs.declared.outcomes.Answer.TheVariants as answers
+use Rattle.lot_once.specs.OnceSteps.{course_of, ended, is_forced}
+use Rattle.lot_once.specs.declared.look.Course.{Course}
+use Rattle.lot_once.specs.declared.look.Course.TheVariants.{Ends}
+use Rattle.lot_once.specs.declared.look.LookAt.{LookAt}
+use Rattle.lot_once.specs.declared.look.LookAt.TheVariants as look
+use Rattle.lot_once.specs.declared.run.RunAt.{RunAt}
+use Rattle.lot_once.specs.declared.run.RunAt.TheVariants as run
+use Rattle.lot_once.specs.declared.places.OncePlace.{OncePlace}
+use Rattle.lot_once.specs.declared.places.OncePlace.TheVariants.{Look, Run}
+use Rattle.lot_words.specs.Codes.{IsOnceWord}
+use Rattle.lot_words.specs.Views.{owning}
+use Rattle.lot_words.specs.declared.owners.Owner.TheVariants.{Runner, Witness}
+use Rattle.lot_words.specs.declared.owners.Ownership.{Ownership}
+use Rattle.parking_lot_core.specs.declared.tokens.Did.TheVariants.{TakeAll}
+use Rattle.parking_lot_core.specs.declared.tokens.SectionRecord.{SectionRecord}
+use Rattle.lot_driver.specs.Paths.{once_at}
+use Rattle.lot_driver.specs.Stages.{Inside, Stage, entered_now, having_taken}
+
+-- what is owned by who has found a `Once` done so often, beside the rest
+abbrev pub knowing : ℕ → ℕ → List Ownership → List Ownership
+knowing l zero base = base
+knowing l (suc times) base = owning (once_at l) Witness ∷ knowing l times base
+
+abbrev pub OwnsKnowing : ℕ → List Ownership → List Ownership → Type 0
+OwnsKnowing l base owns = (times : ℕ) × (owns ≡ knowing l times base)
+
+-- it knows that the `Once` is done
+abbrev pub KnowsIt : ℕ → List Ownership → List Ownership → Type 0
+KnowsIt l base owns = (times : ℕ) × (owns ≡ knowing l (suc times) base)
+
+-- and so does who ran it well
+abbrev pub OwnsBehind : ℕ → Bool → List Ownership → List Ownership → Type 0
+OwnsBehind l true base owns = KnowsIt l base owns
+OwnsBehind l false base owns = OwnsKnowing l base owns
+
+abbrev pub StandsOutside : ℕ → List Ownership → Stage → Type 0
+StandsOutside l base st = OwnsKnowing l base st.owns × (st.inside ≡ None)
+
+-- in the section of the main key, where it has done nothing
+abbrev pub StandsWithin : ℕ → List Ownership → Stage → Type 0
+StandsWithin l base st = OwnsKnowing l base st.owns × (st.inside ≡ entered_now (One (2 * l)))
+
+abbrev pub goes_on : Course → Bool
+goes_on (Ends answer) = false
+goes_on course = true
+
+abbrev pub FitsLook : ℕ → OnceCall → List Ownership → LookAt → Stage → Type 0
+FitsLook l c base look.Load st = StandsOutside l base st
+FitsLook l c base (look.Decide seen) st =
+    IsOnceWord seen × (goes_on (course_of c seen) ≡ true) × StandsOutside l base st
+FitsLook l c base look.Check st = StandsWithin l base st
+FitsLook l c base (look.Leave parked) st = StandsWithin l base st
+FitsLook l c base look.Asleep st = StandsOutside l base st
+FitsLook l c base (look.Taken by) st = ⊥
+
+-- who is in its closure owns its run
+abbrev pub OwnsRun : ℕ → List Ownership → List Ownership → Type 0
+OwnsRun l base owns = (rest : List Ownership) × OwnsKnowing l base rest × (owns ≡ owning (once_at l) Runner ∷ rest)
+
+-- it has taken all that waited; these have no right yet, and get none
+abbrev pub TookEach : ℕ → List Waiter → Option Inside → Type 0
+TookEach l waiters inside = inside ≡ Some (having_taken (One (2 * l)) (TakeAll (2 * l)) waiters (threads_of waiters))
+
+-- the step that ends a run is taken before
+abbrev pub FitsRun : ℕ → List Ownership → RunAt → Stage → Type 0
+FitsRun l base (run.Closure poisoned) st = OwnsRun l base st.owns × (st.inside ≡ None)
+FitsRun l base (run.Close succeeded) st = ⊥
+FitsRun l base (run.Enter succeeded) st = OwnsBehind l succeeded base st.owns × (st.inside ≡ None)
+FitsRun l base (run.Take succeeded) st =
+    OwnsBehind l succeeded base st.owns × (st.inside ≡ entered_now (One (2 * l)))
+FitsRun l base (run.Leave succeeded any) st = OwnsBehind l succeeded base st.owns
+    × (waiters : List Waiter) × (any ≡ not (length waiters == 0)) × TookEach l waiters st.inside
+
+-- what a thread has in a call of a `Once`, beside what it owned as it began
+abbrev pub FitsOnce : ℕ → List Ownership → OncePlace → Stage → Type 0
+FitsOnce l base (Look c retries at) st = FitsLook l c base at st
+FitsOnce l base (Run forced at) st = FitsRun l base at st
+
+-- the section that was left last is one of the main key, where all that waited were taken
+abbrev pub WokeAll : ℕ → Option SectionRecord → Type 0
+WokeAll l last = (number : ℕ) × (last ≡ Some (record { key = 2 * l; did = TakeAll (2 * l); number = number }))
+
+-- what an answer says of a call that runs nothing
+abbrev pub LooksAnswer : ℕ → OnceCall → List Ownership → Answer → List Ownership → Type 0
+LooksAnswer l c base answers.Ok owns = KnowsIt l base owns
+LooksAnswer l c base answers.Poisoned owns = (is_forced c ≡ false) × OwnsKnowing l base owns
+LooksAnswer l c base answer owns = ⊥
+
+abbrev pub IsLookOver : ℕ → OnceCall → List Ownership → Answer → Stage → Type 0
+IsLookOver l c base answer st = (st.inside ≡ None) × LooksAnswer l c base answer st.owns
+
+-- and of a run that saw waiters
+abbrev pub IsRunOver : ℕ → Bool → List Ownership → Answer → Stage → Type 0
+IsRunOver l succeeded base answer st = (st.inside ≡ None) × (answer ≡ ended succeeded)
+    × OwnsBehind l succeeded base st.owns × WokeAll l st.last

@@ -1,0 +1,155 @@
+//! The calls of a `Once`: up to its closure, and from behind that to its end.
+ghost use Rattle.std.specs.Prelude.{◌≡◌, ◌++◌, List, None, true};
+ghost use Rattle.lot_acts.specs.declared.acts.Reply.TheVariants.{Value};
+ghost use Rattle.lot_base.specs.declared.ops.Op.TheVariants.{Load};
+ghost use Rattle.lot_once.specs.OnceSteps.{word_behind};
+ghost use Rattle.lot_once.specs.declared.places.OncePlace.TheVariants.{Run};
+ghost use Rattle.lot_once.specs.declared.run.RunAt.TheVariants.{Enter};
+ghost use Rattle.lot_steps.specs.declared.places.Place.TheVariants.{Once};
+ghost use Rattle.lot_words.specs.Steps.{has, without};
+ghost use Rattle.lot_words.specs.Views.{owning};
+ghost use Rattle.lot_words.specs.declared.owners.Owner.TheVariants.{Runner};
+ghost use Rattle.lot_words.specs.declared.owners.Ownership.{Ownership};
+ghost use Rattle.lot_words.specs.declared.views.WordStep.{WordStep};
+ghost use Rattle.parking_lot_core.specs.Tokens.{IsSameThread, last_of};
+ghost use Rattle.lot_driver.specs.Fitting.{Reached};
+ghost use Rattle.lot_driver.specs.OnceCalls.{Closes, EndsRun, LookOwns, LooksBy, MeetsOnce, once_begin};
+ghost use Rattle.lot_driver.specs.OnceFitting.{IsRunOver, OwnsBehind};
+ghost use Rattle.lot_driver.specs.Paths.{Walks, at_once, once_at, step};
+ghost use Rattle.lot_driver.specs.Stages.{stage_of};
+ghost use Rattle.lot_driver.specs.Telling.{owns_of, steps_of};
+
+use crate::driver::{NO_LIMIT, Stop, answer_of, run};
+use crate::words::Words;
+use lot_acts::bits::{is_done, is_marked};
+use lot_calls::{Answer, OnceCall, OnceState};
+use lot_once::{DONE, OncePlace, POISONED, RunAt};
+use lot_steps::{Place, Reply, advance};
+use parking_lot_core::{Op, ParkingLot, Token, Word};
+use std::sync::Wait;
+
+/// What a call of a `Once` comes to.
+pub enum Look {
+    /// It is over, and ran nothing.
+    Ended(Answer),
+    /// Its closure is to run, with this state, and [`close`] ends its run.
+    Runs(OnceState),
+}
+
+// The rest of a call whose first step saw this, up to its closure.
+#[cold]
+#[inline(never)]
+fn begin_behind<R: Wait>(
+    rt: &R,
+    lot: &ParkingLot,
+    token: &mut Token,
+    word: Word,
+    call: OnceCall,
+    seen: u64,
+) -> Look
+    requires own { MeetsOnce lot.now token.old word }
+    requires reached { (base : List Ownership)
+        × Reached ⊥ base (once_begin word.number call) (Value seen) (stage_of token.old None) }
+    ensures own { IsSameThread lot.now token.old token.new }
+    ensures path { (before : List WordStep) → steps_of token.old ≡ before ++ step (once_at word.number) Load seen
+        → LooksBy word.number call result before (steps_of token.new) }
+    ensures over { (base : List Ownership)
+        → Reached ⊥ base (once_begin word.number call) (Value seen) (stage_of token.old None)
+        → LookOwns word.number call result base (owns_of token.new) }
+{
+    let first = Place::Once {
+        lock: word.number(),
+        at: OncePlace::first(call),
+    };
+    let (next, act) = advance(first, Reply::Value(seen));
+    if let Some(answer) = answer_of(act) {
+        return Look::Ended(answer);
+    }
+    match run(rt, lot, token, Words::alone(word), NO_LIMIT, next) {
+        Stop::Ended(answer) => Look::Ended(answer),
+        Stop::Paused { state, .. } => Look::Runs(state),
+    }
+}
+
+/// Looks how far a `Once` has come, and waits as the call does. Where the `Once` is done that is one step.
+#[inline]
+pub fn begin<R: Wait>(
+    rt: &R,
+    lot: &ParkingLot,
+    token: &mut Token,
+    word: Word,
+    call: OnceCall,
+) -> Look
+    requires own { MeetsOnce lot.now token.old word }
+    ensures own { IsSameThread lot.now token.old token.new }
+    ensures path { LooksBy word.number call result (steps_of token.old) (steps_of token.new) }
+    ensures over { LookOwns word.number call result (owns_of token.old) (owns_of token.new) }
+{
+    let seen = lot.word(token, word, Op::Load);
+    if is_done(seen) {
+        return Look::Ended(Answer::Ok);
+    }
+    begin_behind(rt, lot, token, word, call, seen)
+}
+
+// A run that has ended wakes all who wait.
+#[cold]
+#[inline(never)]
+fn wake<R: Wait>(
+    rt: &R,
+    lot: &ParkingLot,
+    token: &mut Token,
+    word: Word,
+    forced: bool,
+    succeeded: bool,
+) -> Answer
+    requires own { MeetsOnce lot.now token.old word }
+    requires owns { (base : List Ownership) × OwnsBehind word.number succeeded base (owns_of token.old) }
+    ensures own { IsSameThread lot.now token.old token.new }
+    ensures path { Walks (at_once word.number) (Once word.number (Run forced (Enter succeeded)))
+        (steps_of token.old) (steps_of token.new) result }
+    ensures over { (base : List Ownership) → OwnsBehind word.number succeeded base (owns_of token.old)
+        → IsRunOver word.number succeeded base result (stage_of token.new None) }
+{
+    let start = Place::Once {
+        lock: word.number(),
+        at: OncePlace::Run {
+            forced,
+            at: RunAt::Enter { succeeded },
+        },
+    };
+    match run(rt, lot, token, Words::alone(word), NO_LIMIT, start) {
+        Stop::Ended(answer) => answer,
+        // The closure has run.
+        Stop::Paused { .. } => unreachable!(),
+    }
+}
+
+fn word_behind(succeeded: bool) -> u64
+    ensures { result ≡ word_behind succeeded }
+{
+    if succeeded { DONE } else { POISONED }
+}
+
+/// Ends the run of a `Once` whose closure succeeded, or failed, and wakes all who wait.
+pub fn close<R: Wait>(
+    rt: &R,
+    lot: &ParkingLot,
+    token: &mut Token,
+    word: Word,
+    forced: bool,
+    succeeded: bool,
+)
+    requires own { MeetsOnce lot.now token.old word }
+    requires runs { has (owning (once_at word.number) Runner) (owns_of token.old) ≡ true }
+    ensures own { IsSameThread lot.now token.old token.new }
+    ensures path { EndsRun word.number forced succeeded (steps_of token.old) (steps_of token.new) }
+    ensures closed { Closes word.number succeeded (steps_of token.old) (steps_of token.new) (last_of token.new) }
+    ensures owns { OwnsBehind word.number succeeded (without (owning (once_at word.number) Runner) (owns_of token.old))
+        (owns_of token.new) }
+{
+    let seen = lot.word(token, word, Op::Swap(word_behind(succeeded)));
+    if is_marked(seen) {
+        wake(rt, lot, token, word, forced, succeeded);
+    }
+}

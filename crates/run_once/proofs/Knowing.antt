@@ -1,0 +1,67 @@
+-- What a thread knows and owns behind a call of a `Once`.
+use Rattle.std.proofs.Common.{ℕ, zero, suc, ◌≡◌, Bool, true, false, List, ◌∷◌, refl, sym, ap, ◌∙◌, subst}
+use Rattle.lot_calls.specs.declared.calls.OnceCall.{OnceCall}
+use Rattle.lot_calls.specs.declared.outcomes.Answer.{Answer}
+use Rattle.lot_calls.specs.declared.outcomes.Answer.TheVariants as answers
+use Rattle.lot_words.specs.Steps.{has, without}
+use Rattle.lot_words.specs.Views.{owning}
+use Rattle.lot_words.specs.declared.owners.Owner.TheVariants.{Runner, Witness}
+use Rattle.lot_words.specs.declared.owners.Ownership.{Ownership}
+use Rattle.lot_words.proofs.RwLockOwning.{first_goes, has_first}
+use Rattle.parking_lot_core.specs.declared.tokens.Token.{Token}
+use Rattle.parking_lot_core.specs.Tokens.{last_of}
+use Rattle.lot_calls.specs.declared.calls.OnceCall.TheVariants.{CallOnce}
+use Rattle.lot_calls.specs.declared.outcomes.OnceState.{OnceState}
+use Rattle.lot_driver.specs.OnceCalls.{Closes, ComesTo, EndsRun, LookOwns, LooksBy, in_closure, once_begin}
+use Rattle.lot_driver.specs.OnceFitting.{LooksAnswer, OwnsBehind, OwnsKnowing, OwnsRun, knowing}
+use Rattle.lot_driver.specs.Paths.{once_at}
+use Rattle.lot_driver.specs.Telling.{owns_of, steps_of}
+use Rattle.lot_driver.specs.declared.once_calls.Look.{Look}
+use Rattle.lot_driver.specs.declared.once_calls.Look.TheVariants.{Ended, Runs}
+use Rattle.run_once.specs.Looks.{Began, EndedBy, MatchLook, Tells, is_ok}
+use Rattle.run_once.specs.Ran.{HasRun, StaysKnowing}
+
+module _ (n : ℕ) where
+  abbrev run : Ownership
+  run = owning (once_at n) Runner
+
+  -- found done so often, and then so often again
+  again : (more times : ℕ) (base : List Ownership) → (sum : ℕ) × (knowing n more (knowing n times base) ≡ knowing n sum base)
+  again zero times base = (times, refl)
+  again (suc more) times base = let rest = again more times base in (suc rest.0, ap (λ (owns : List Ownership). owning (once_at n) Witness ∷ owns) rest.1)
+
+  stays_of : (s : Bool) (base owns : List Ownership) → OwnsBehind n s base owns → OwnsKnowing n base owns
+  stays_of true base owns k = (suc k.0, k.1)
+  stays_of false base owns k = k
+
+  on_base : (s : Bool) (base owns : List Ownership) (times : ℕ) → OwnsBehind n s (knowing n times base) owns → OwnsBehind n s base owns
+  on_base true base owns times k = let rest = again k.0 times base in (rest.0, k.1 ∙ ap (λ (owns : List Ownership). owning (once_at n) Witness ∷ owns) rest.1)
+  on_base false base owns times k = let rest = again k.0 times base in (rest.0, k.1 ∙ rest.1)
+
+  -- who runs has its run
+  pub has_run : (base owns : List Ownership) → OwnsRun n base owns → has (owning (once_at n) Runner) owns ≡ true
+  has_run base owns r = subst (λ (l : List Ownership). has (owning (once_at n) Runner) l ≡ true) (sym r.2) (has_first (once_at n) Runner r.0)
+
+  pub behind_run : (s : Bool) (base mid owns : List Ownership) → OwnsRun n base mid → OwnsBehind n s (without (owning (once_at n) Runner) mid) owns → OwnsBehind n s base owns × OwnsKnowing n base owns
+  behind_run s base mid owns r b = let rest : without (owning (once_at n) Runner) mid ≡ knowing n r.1.0 base = ap (without (owning (once_at n) Runner)) r.2 ∙ first_goes (once_at n) Runner r.0 ∙ r.1.1 in
+      let behind = on_base s base owns r.1.0 (subst (λ (l : List Ownership). OwnsBehind n s l owns) rest b) in (behind, stays_of s base owns behind)
+
+  answer_stays : (c : OnceCall) (base owns : List Ownership) (answer : Answer) → LooksAnswer n c base answer owns → OwnsKnowing n base owns
+  answer_stays c base owns answers.Ok h = (suc h.0, h.1)
+  answer_stays c base owns answers.Poisoned h = h.1
+  answer_stays c base owns answer h = absurd h
+
+  answer_tells : (c : OnceCall) (answer : Answer) (old new : Token) → LooksAnswer n c (owns_of old) answer (owns_of new) → Tells n c (is_ok answer) answer old new
+  answer_tells c answers.Ok old new h = (refl, h)
+  answer_tells c answers.Poisoned old new h = (refl, h.0)
+  answer_tells c answer old new h = absurd h
+
+  pub came_to : (c : OnceCall) (old new : Token) (look : Look) → new.number ≡ old.number → LooksBy n c look (steps_of old) (steps_of new) → LookOwns n c look (owns_of old) (owns_of new)
+      → MatchLook look (λ answer. StaysKnowing n old new × EndedBy n c answer old new) (λ state. OwnsRun n (owns_of old) (owns_of new) × Began n c state old new)
+  came_to c old new (Ended answer) same by over = ((same, answer_stays c (owns_of old) (owns_of new) answer over), (by, answer_tells c answer old new over))
+  came_to c old new (Runs state) same by over = (over, by)
+
+  -- a call that came to its closure, and ended its run
+  pub has_run_by : (forced s : Bool) (state : OnceState) (old mid new : Token) → Began n (CallOnce forced) state old mid → EndsRun n forced s (steps_of mid) (steps_of new) → Closes n s (steps_of mid) (steps_of new) (last_of new) → HasRun n forced s state old new
+  has_run_by forced s state old mid new b ends closes = let call : CallOnce forced ≡ CallOnce b.0 = b.2 in let same : b.0 ≡ forced = cc in
+      (b.1, steps_of mid, b.3, subst (λ (f : Bool). ComesTo n (once_begin n (CallOnce forced)) (steps_of old) (steps_of mid) (in_closure n f b.1)) same b.4, ends, closes)

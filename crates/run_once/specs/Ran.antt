@@ -1,0 +1,69 @@
+-- What the calls of a `Once` did.
+use Rattle.std.specs.Prelude.{ℕ, ◌≡◌, ◌⊎◌, ◌++◌, Bool, true, false, List, Ok, Err, if◌then◌else◌}
+use Rattle.std.specs.declared.result.Result.{Result}
+use Rattle.abstract_locks.specs.Codes.{is_done, is_poisoned, is_running}
+use Rattle.lot_base.specs.declared.faults.Fault.{Fault}
+use Rattle.lot_base.specs.declared.faults.Fault.TheVariants as faults
+use Rattle.lot_base.specs.declared.ops.Op.TheVariants.{Load}
+use Rattle.lot_calls.specs.declared.calls.OnceCall.{OnceCall}
+use Rattle.lot_calls.specs.declared.calls.OnceCall.TheVariants.{CallOnce, Wait}
+use Rattle.lot_calls.specs.declared.outcomes.Answer.{Answer}
+use Rattle.lot_calls.specs.declared.outcomes.Answer.TheVariants as answers
+use Rattle.lot_calls.specs.declared.outcomes.OnceState.{OnceState}
+use Rattle.lot_calls.specs.declared.outcomes.OnceState.TheVariants as states
+use Rattle.lot_once.specs.OnceSteps.{state_before}
+use Rattle.lot_words.specs.declared.views.WordStep.{WordStep}
+use Rattle.parking_lot_core.specs.Tokens.{last_of}
+use Rattle.parking_lot_core.specs.declared.tokens.Token.{Token}
+use Rattle.lot_driver.specs.OnceCalls.{Closes, ComesTo, EndsRun, in_closure, once_begin}
+use Rattle.lot_driver.specs.OnceFitting.{KnowsIt, OwnsKnowing}
+use Rattle.lot_driver.specs.Paths.{Walks, at_once, once_at, step}
+use Rattle.lot_driver.specs.Telling.{owns_of, steps_of}
+use Rattle.run_once.specs.declared.once.OnceFault.{OnceFault}
+use Rattle.run_once.specs.declared.once.OnceFault.TheVariants.{Refused, Failed}
+
+-- it is the same thread, and owns what it did; beside that it may know that the `Once` is done
+abbrev pub StaysKnowing : ℕ → Token → Token → Type 0
+StaysKnowing n old new = (new.number ≡ old.number) × OwnsKnowing n (owns_of old) (owns_of new)
+
+-- it knows that the `Once` is done
+abbrev pub SawDone : ℕ → Token → Token → Type 0
+SawDone n old new = KnowsIt n (owns_of old) (owns_of new)
+
+-- how far it has come, by its word
+abbrev pub state_of : ℕ → OnceState
+state_of v = if is_done v then states.Done
+    else if is_running v then states.InProgress
+    else if is_poisoned v then states.Poisoned
+    else states.New
+
+-- the word was loaded once, and said this
+abbrev pub Loaded : ℕ → ℕ → Token → Token → Type 0
+Loaded n seen old new = steps_of new ≡ steps_of old ++ step (once_at n) Load seen
+
+-- a call ran nothing, and its steps lead to its answer
+abbrev pub HasLooked : ℕ → OnceCall → Answer → Token → Token → Type 0
+HasLooked n c answer old new = Walks (at_once n) (once_begin n c) (steps_of old) (steps_of new) answer
+
+-- a call ran its closure, which was told this state: its steps lead there, and from there to its end, and whoever waited then
+-- was woken
+abbrev pub HasRun : ℕ → Bool → Bool → OnceState → Token → Token → Type 0
+HasRun n forced succeeded state old new = (poisoned : Bool) × (mid : List WordStep) × (state ≡ state_before poisoned)
+    × ComesTo n (once_begin n (CallOnce forced)) (steps_of old) mid (in_closure n forced poisoned)
+    × EndsRun n forced succeeded mid (steps_of new) × Closes n succeeded mid (steps_of new) (last_of new)
+
+-- what the answer of a call says, by what its closure answers in a state: it is Ok where the call began no run and saw the `Once`
+-- done, or where its own closure succeeded
+abbrev pub CalledOnce : {E : Type 0} → ℕ → Bool → (OnceState → Result (Unit {0}) E → Type 0) → Token → Token → Result (Unit {0}) (OnceFault E) → Type 0
+CalledOnce n forced ran old new (Ok done) = SawDone n old new
+    × (HasLooked n (CallOnce forced) answers.Ok old new
+    ⊎ ((state : OnceState) × ran state (Ok tt) × HasRun n forced true state old new))
+CalledOnce n forced ran old new (Err (Refused fault)) = (forced ≡ false) × (fault ≡ faults.Poisoned)
+    × HasLooked n (CallOnce forced) answers.Poisoned old new
+CalledOnce n forced ran old new (Err (Failed error)) =
+    (state : OnceState) × ran state (Err error) × HasRun n forced false state old new
+
+-- and of one that waits
+abbrev pub Waited : ℕ → Token → Token → Result (Unit {0}) Fault → Type 0
+Waited n old new (Ok done) = SawDone n old new × HasLooked n (Wait false) answers.Ok old new
+Waited n old new (Err fault) = (fault ≡ faults.Poisoned) × HasLooked n (Wait false) answers.Poisoned old new

@@ -1,0 +1,7 @@
+//! Closures that run once, whoever calls first: `Once` of real threads.
+#![tactic(auto)]
+
+pub mod once;
+
+pub use lot_calls::OnceState;
+pub use once::{Once, OnceFault};

@@ -1,0 +1,260 @@
+//! `Once`, and its calls.
+ghost use Rattle.std.specs.Prelude.{◌≡◌, ◌≢◌, ◌⊎◌, ◌<◌, ◌*◌, ◌∷◌, [], ℕ, List, true, false, MatchResult};
+ghost use Rattle.std.specs.Arc.{arc_value};
+ghost use Rattle.abstract_locks.specs.Codes.{is_done};
+ghost use Rattle.lot_calls.specs.declared.calls.OnceCall.TheVariants as calls;
+ghost use Rattle.lot_calls.specs.declared.outcomes.Answer.TheVariants as answers;
+ghost use Rattle.lot_words.specs.Draws.{IsDrawn, IsDrawRefused};
+ghost use Rattle.lot_words.specs.Lots.{IsWordOf};
+ghost use Rattle.lot_words.specs.declared.words.WordKind.TheVariants as kinds;
+ghost use Rattle.lot_words.specs.declared.owners.Ownership.{Ownership};
+ghost use Rattle.parking_lot_core.specs.Tokens.{IsTokenOf, last_of, view_of};
+ghost use Rattle.lot_driver.specs.OnceCalls.{Closes, EndsRun};
+ghost use Rattle.lot_driver.specs.OnceFitting.{OwnsBehind, OwnsKnowing, OwnsRun};
+ghost use Rattle.lot_driver.specs.Telling.{owns_of, steps_of};
+ghost use Rattle.run_once.specs.Looks.{Began, EndedBy, MatchLook, is_ok};
+
+use lot_acts::bits::{is_done, is_poisoned, is_running};
+use lot_base::main_key;
+use lot_calls::{Answer, OnceCall, OnceState};
+use lot_driver::once_calls::{Look, begin, close};
+use lot_once::{DONE, RUNNING};
+use lot_words::laws::once_may_step;
+use parking_lot_core::{Fault, Key, Op, ParkingLot, Token, Word, WordKind};
+use std::sync::{Arc, Wait};
+
+/// Why a call of a `Once` came to no end that is done.
+#[derive(Debug, Drop)]
+pub enum OnceFault<E> {
+    /// An earlier run failed, and the call was not one that forces a further one.
+    Refused(Fault),
+    /// The call's own closure failed, and leaves the `Once` poisoned.
+    Failed(E),
+}
+
+/// Runs one closure of all that are brought to it. Whoever calls beside that run waits for its end.
+///
+/// A closure that answers an error leaves it poisoned: then it runs a closure again for `call_once_force` alone.
+#[derive(Drop)]
+pub struct Once {
+    lot: Arc<ParkingLot>,
+    word: Word,
+    ghost drawn: { IsWordOf (arc_value lot).words word × (word.kind ≡ kinds.Once) × (word.number < 9223372036854775808) },
+}
+
+fn is_ok(answer: Answer) -> bool
+    ensures { result ≡ is_ok answer }
+{
+    matches!(answer, Answer::Ok)
+}
+
+impl Once {
+    ghost use Rattle.run_once.specs.Ran.{CalledOnce, HasLooked, Loaded, SawDone, StaysKnowing, Waited, state_of};
+    ghost use Rattle.run_once.specs.Users.{lot_of, number_of};
+
+    /// A `Once` that has run nothing.
+    ///
+    /// # Errors
+    ///
+    /// `LotFull`, and `NoMemory`. Nothing is drawn then.
+    pub fn new(lot: &Arc<ParkingLot>, token: &mut Token) -> Result<Once, Fault>
+        requires { IsTokenOf (arc_value lot.now) token.old }
+        ensures token { IsTokenOf (arc_value lot.now) token.new × (token.new.number ≡ token.old.number)
+            × ((view_of token.new).owns ≡ (view_of token.old).owns) }
+        ensures made { MatchResult result (λ once. lot_of once ≡ arc_value lot.now)
+            (λ fault. (fault ≡ Fault.NoMemory) ⊎ (fault ≡ Fault.LotFull)) }
+        ensures drawn { MatchResult result
+            (λ once. IsDrawn (arc_value lot.now).words.count (kinds.Once ∷ []) (number_of once) (view_of token.old)
+            (view_of token.new))
+            (λ fault. ((fault ≡ Fault.NoMemory) × (token.new ≡ token.old)) ⊎ ((fault ≡ Fault.LotFull)
+            × IsDrawRefused (arc_value lot.now).words.count 1 (view_of token.old) (view_of token.new))) }
+    {
+        let Ok(lot) = Arc::try_clone(lot) else {
+            return Err(Fault::NoMemory);
+        };
+        let word = lot.new_word(token, WordKind::Once)?;
+        Ok(Once { lot, word })
+    }
+
+    /// The key of its queue.
+    pub fn key(&self) -> Key
+        ensures { result ≡ 2 * number_of self.now }
+    {
+        main_key(self.word.number())
+    }
+
+    // One load of its word.
+    #[inline]
+    fn load(&self, token: &mut Token) -> u64
+        requires { IsTokenOf (lot_of self.now) token.old }
+        ensures token { IsTokenOf (lot_of self.now) token.new × StaysKnowing (number_of self.now) token.old token.new }
+        ensures loaded { Loaded (number_of self.now) result token.old token.new }
+        ensures done { is_done result ≡ true → SawDone (number_of self.now) token.old token.new }
+    {
+        once_may_step();
+        self.lot.word(token, self.word, Op::Load)
+    }
+
+    /// How far it has come.
+    #[inline]
+    pub fn state(&self, token: &mut Token) -> OnceState
+        requires { IsTokenOf (lot_of self.now) token.old }
+        ensures token { IsTokenOf (lot_of self.now) token.new × StaysKnowing (number_of self.now) token.old token.new }
+        ensures seen { (seen : ℕ) × Loaded (number_of self.now) seen token.old token.new × (result ≡ state_of seen) }
+    {
+        let seen = self.load(token);
+        if is_done(seen) {
+            OnceState::Done
+        } else if is_running(seen) {
+            OnceState::InProgress
+        } else if is_poisoned(seen) {
+            OnceState::Poisoned
+        } else {
+            OnceState::New
+        }
+    }
+
+    /// Whether a run has succeeded.
+    #[inline]
+    pub fn is_completed(&self, token: &mut Token) -> bool
+        requires { IsTokenOf (lot_of self.now) token.old }
+        ensures token { IsTokenOf (lot_of self.now) token.new × StaysKnowing (number_of self.now) token.old token.new }
+        ensures seen { (seen : ℕ) × Loaded (number_of self.now) seen token.old token.new × (result ≡ is_done seen) }
+        ensures done { result ≡ true → SawDone (number_of self.now) token.old token.new }
+    {
+        is_done(self.load(token))
+    }
+
+    // A call, up to its end or its closure.
+    #[inline]
+    fn look<R: Wait>(&self, rt: &R, token: &mut Token, call: OnceCall) -> Look
+        requires { IsTokenOf (lot_of self.now) token.old }
+        ensures token { IsTokenOf (lot_of self.now) token.new × (token.new.number ≡ token.old.number) }
+        ensures came { MatchLook result
+            (λ answer. StaysKnowing (number_of self.now) token.old token.new
+            × EndedBy (number_of self.now) call answer token.old token.new)
+            (λ state. OwnsRun (number_of self.now) (owns_of token.old) (owns_of token.new)
+            × Began (number_of self.now) call state token.old token.new) }
+    {
+        begin(rt, &self.lot, token, self.word, call)
+    }
+
+    // The run of who has run the closure ends.
+    fn end_run<R: Wait>(&self, rt: &R, token: &mut Token, forced: bool, succeeded: bool)
+        requires token { IsTokenOf (lot_of self.now) token.old }
+        requires runs { (base : List Ownership) × OwnsRun (number_of self.now) base (owns_of token.old) }
+        ensures token { IsTokenOf (lot_of self.now) token.new × (token.new.number ≡ token.old.number) }
+        ensures ends { EndsRun (number_of self.now) forced succeeded (steps_of token.old) (steps_of token.new) }
+        ensures closes { Closes (number_of self.now) succeeded (steps_of token.old) (steps_of token.new) (last_of token.new) }
+        ensures owns { (base : List Ownership) → OwnsRun (number_of self.now) base (owns_of token.old)
+            → OwnsBehind (number_of self.now) succeeded base (owns_of token.new)
+            × OwnsKnowing (number_of self.now) base (owns_of token.new) }
+    {
+        close(rt, &self.lot, token, self.word, forced, succeeded);
+    }
+
+    /// Waits until a run has succeeded.
+    ///
+    /// # Errors
+    ///
+    /// `Poisoned`, where the last run failed.
+    #[inline]
+    pub fn wait<R: Wait>(&self, rt: &R, token: &mut Token) -> Result<(), Fault>
+        requires { IsTokenOf (lot_of self.now) token.old }
+        ensures token { IsTokenOf (lot_of self.now) token.new × StaysKnowing (number_of self.now) token.old token.new }
+        ensures waited { Waited (number_of self.now) token.old token.new result }
+    {
+        let call = OnceCall::Wait { forced: false };
+        match self.look(rt, token, call) {
+            Look::Ended(answer) => if is_ok(answer) {
+                Ok(())
+            } else {
+                Err(Fault::Poisoned)
+            },
+            Look::Runs(_) => unreachable!(),
+        }
+    }
+
+    /// The same, past runs that failed.
+    #[inline]
+    pub fn wait_force<R: Wait>(&self, rt: &R, token: &mut Token)
+        requires { IsTokenOf (lot_of self.now) token.old }
+        ensures token { IsTokenOf (lot_of self.now) token.new × StaysKnowing (number_of self.now) token.old token.new }
+        ensures done { SawDone (number_of self.now) token.old token.new }
+        ensures path { HasLooked (number_of self.now) (calls.Wait true) answers.Ok token.old token.new }
+    {
+        let call = OnceCall::Wait { forced: true };
+        match self.look(rt, token, call) {
+            Look::Ended(_) => {}
+            Look::Runs(_) => unreachable!(),
+        }
+    }
+
+    /// Runs the closure where none has succeeded yet, or waits until one has. Where one has, that is one load.
+    ///
+    /// # Errors
+    ///
+    /// `Refused` by `Poisoned`, where an earlier run failed. `Failed`, where its own did, by what that answered.
+    #[inline]
+    pub fn call_once<R: Wait, E, F: FnOnce() -> Result<(), E> + Drop>(
+        &self,
+        rt: &R,
+        token: &mut Token,
+        f: F,
+    ) -> Result<(), OnceFault<E>>
+        requires token { IsTokenOf (lot_of self.now) token.old }
+        requires callable { F.IsAlwaysCallable f }
+        ensures token { IsTokenOf (lot_of self.now) token.new × StaysKnowing (number_of self.now) token.old token.new }
+        ensures ran { CalledOnce (number_of self.now) false (λ _ answer. F.post f answer) token.old token.new result }
+    {
+        match self.look(rt, token, OnceCall::CallOnce { forced: false }) {
+            Look::Ended(answer) => if is_ok(answer) {
+                Ok(())
+            } else {
+                Err(OnceFault::Refused(Fault::Poisoned))
+            },
+            Look::Runs(_) => match f() {
+                Ok(()) => {
+                    self.end_run(rt, token, false, true);
+                    Ok(())
+                }
+                Err(error) => {
+                    self.end_run(rt, token, false, false);
+                    Err(OnceFault::Failed(error))
+                }
+            },
+        }
+    }
+
+    /// The same, past runs that failed. The closure is told whether one did.
+    ///
+    /// # Errors
+    ///
+    /// `Failed`, where its own run did, by what that answered.
+    #[inline]
+    pub fn call_once_force<R: Wait, E, F: FnOnce(OnceState) -> Result<(), E> + Drop>(
+        &self,
+        rt: &R,
+        token: &mut Token,
+        f: F,
+    ) -> Result<(), OnceFault<E>>
+        requires token { IsTokenOf (lot_of self.now) token.old }
+        requires callable { F.IsAlwaysCallable f }
+        ensures token { IsTokenOf (lot_of self.now) token.new × StaysKnowing (number_of self.now) token.old token.new }
+        ensures ran { CalledOnce (number_of self.now) true (λ state answer. F.post f state answer) token.old token.new result }
+    {
+        match self.look(rt, token, OnceCall::CallOnce { forced: true }) {
+            Look::Ended(_) => Ok(()),
+            Look::Runs(state) => match f(state) {
+                Ok(()) => {
+                    self.end_run(rt, token, true, true);
+                    Ok(())
+                }
+                Err(error) => {
+                    self.end_run(rt, token, true, false);
+                    Err(OnceFault::Failed(error))
+                }
+            },
+        }
+    }
+}
