@@ -59,6 +59,9 @@ impl Clock for NoClock {
 /// The deadline of who waits without a limit.
 pub const NO_LIMIT: Option<(&'static NoClock, u64)> = None;
 
+/// The same where it is asked for by reference.
+pub const FOR_EVER: &Option<(&'static NoClock, u64)> = &None;
+
 /// What a run of a call comes to.
 #[derive(Drop)]
 pub(crate) enum Stop {

@@ -89,23 +89,23 @@ fn behind<R: Wait, C: Clock>(
     token: &mut Token,
     word: &Word,
     admission: &Admission,
-    limit: Option<(&C, u64)>,
+    limit: &Option<(&C, u64)>,
     purpose: RwLockPurpose,
     seen: u64,
 ) -> Answer
     requires own { MeetsAt lot.now token.old word.now admission.now }
-    requires fits { (base : List Ownership) × Fits (IsUp C.tells limit) base
+    requires fits { (base : List Ownership) × Fits (IsUp C.tells limit.now) base
         (next_place (rwlock_begin word.now.number admission.now purpose) (Value seen)) (stage_of token.old None) }
     ensures own { IsSameThread lot.now token.old token.new }
     ensures path { Walks (at_rwlock word.now.number) (next_place (rwlock_begin word.now.number admission.now purpose) (Value seen))
         (steps_of token.old) (steps_of token.new) result }
-    ensures over { (base : List Ownership) → Fits (IsUp C.tells limit.entry) base
+    ensures over { (base : List Ownership) → Fits (IsUp C.tells limit.now) base
         (next_place (rwlock_begin word.now.number admission.now purpose) (Value seen)) (stage_of token.old None)
-        → IsOver (IsUp C.tells limit.entry) base
+        → IsOver (IsUp C.tells limit.now) base
         (aim_of (next_place (rwlock_begin word.now.number admission.now purpose) (Value seen))) result (stage_of token.new None) }
 {
     let start = place_behind(word.number(), *admission, purpose, seen);
-    run_out(rt, lot, token, *word, limit, start)
+    run_out(rt, lot, token, *word, *limit, start)
 }
 
 // The rest of a call whose exchange expected one value and found this one.
@@ -117,26 +117,26 @@ fn missed<R: Wait, C: Clock>(
     token: &mut Token,
     word: &Word,
     admission: &Admission,
-    limit: Option<(&C, u64)>,
+    limit: &Option<(&C, u64)>,
     purpose: RwLockPurpose,
     expected: u64,
     found: u64,
 ) -> Answer
     requires own { MeetsAt lot.now token.old word.now admission.now }
-    requires reached { (base : List Ownership) × Reached (IsUp C.tells limit) base
+    requires reached { (base : List Ownership) × Reached (IsUp C.tells limit.now) base
         (rwlock_deciding word.now.number admission.now purpose expected) (Value found) (stage_of token.old None) }
     ensures own { IsSameThread lot.now token.old token.new }
     ensures path { Rests (at_rwlock word.now.number) (rwlock_deciding word.now.number admission.now purpose expected) (Value found)
         (steps_of token.old) (steps_of token.new) result }
-    ensures over { (base : List Ownership) → Reached (IsUp C.tells limit.entry) base
+    ensures over { (base : List Ownership) → Reached (IsUp C.tells limit.now) base
         (rwlock_deciding word.now.number admission.now purpose expected) (Value found) (stage_of token.old None)
-        → IsOver (IsUp C.tells limit.entry) base (of_rwlock word.now.number admission.now purpose) result (stage_of token.new None) }
+        → IsOver (IsUp C.tells limit.now) base (of_rwlock word.now.number admission.now purpose) result (stage_of token.new None) }
 {
     let place = deciding(word.number(), *admission, purpose, expected);
     let (next, act) = advance(place, Reply::Value(found));
     match answer_of(act) {
         Some(answer) => answer,
-        None => run_out(rt, lot, token, *word, limit, next),
+        None => run_out(rt, lot, token, *word, *limit, next),
     }
 }
 
@@ -148,20 +148,20 @@ fn take_right<R: Wait, C: Clock>(
     token: &mut Token,
     word: &Word,
     admission: &Admission,
-    limit: Option<(&C, u64)>,
+    limit: &Option<(&C, u64)>,
     purpose: RwLockPurpose,
     seen: u64,
 ) -> Answer
     requires own { MeetsAt lot.now token.old word.now admission.now }
     requires takes { course_of admission.now purpose seen ≡ Takes }
-    requires fits { (base : List Ownership) × Fits (IsUp C.tells limit) base
+    requires fits { (base : List Ownership) × Fits (IsUp C.tells limit.now) base
         (next_place (rwlock_begin word.now.number admission.now purpose) (Value seen)) (stage_of token.old None) }
     ensures own { IsSameThread lot.now token.old token.new }
     ensures path { Walks (at_rwlock word.now.number) (next_place (rwlock_begin word.now.number admission.now purpose) (Value seen))
         (steps_of token.old) (steps_of token.new) result }
-    ensures over { (base : List Ownership) → Fits (IsUp C.tells limit.entry) base
+    ensures over { (base : List Ownership) → Fits (IsUp C.tells limit.now) base
         (next_place (rwlock_begin word.now.number admission.now purpose) (Value seen)) (stage_of token.old None)
-        → IsOver (IsUp C.tells limit.entry) base
+        → IsOver (IsUp C.tells limit.now) base
         (aim_of (next_place (rwlock_begin word.now.number admission.now purpose) (Value seen))) result (stage_of token.new None) }
 {
     let to = purpose.taken(seen);
@@ -169,10 +169,9 @@ fn take_right<R: Wait, C: Clock>(
     if found == seen {
         return answer_with(purpose);
     }
-    // What a cold call is given lies in memory. It is copied here, so that the fast half writes nothing.
-    let until = limit;
+    // What a cold call is given lies in memory: a copy, so that the fast half knows its own.
     let sought = purpose;
-    missed(rt, lot, token, word, admission, until, sought, seen, found)
+    missed(rt, lot, token, word, admission, limit, sought, seen, found)
 }
 
 /// A whole call of who has the right that it needs. Where it meets nobody it is a step or two, with no further call.
@@ -183,7 +182,7 @@ pub fn call<R: Wait, C: Clock>(
     token: &mut Token,
     word: &Word,
     admission: &Admission,
-    limit: Option<(&C, u64)>,
+    limit: &Option<(&C, u64)>,
     purpose: RwLockPurpose,
 ) -> Answer
     requires own { MeetsAt lot.now token.old word.now admission.now }
@@ -191,7 +190,7 @@ pub fn call<R: Wait, C: Clock>(
     ensures own { IsSameThread lot.now token.old token.new }
     ensures path { HasWalkedRwLock word.now.number admission.now purpose result token.old token.new }
     ensures over { (base : List Ownership) → BeginsWith word.now.number purpose base (owns_of token.old)
-        → AnswersCall (IsUp C.tells limit.entry) word.now.number base admission.now purpose result
+        → AnswersCall (IsUp C.tells limit.now) word.now.number base admission.now purpose result
         (stage_of token.new None) }
     ensures record { WakesBy word.now.number admission.now purpose token.old token.new }
 {
@@ -200,9 +199,8 @@ pub fn call<R: Wait, C: Clock>(
         Course::Ends(answer) => answer,
         Course::Takes => take_right(rt, lot, token, word, admission, limit, purpose, seen),
         Course::GoesOn => {
-            let until = limit;
             let sought = purpose;
-            behind(rt, lot, token, word, admission, until, sought, seen)
+            behind(rt, lot, token, word, admission, limit, sought, seen)
         }
     }
 }

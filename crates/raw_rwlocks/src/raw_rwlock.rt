@@ -13,7 +13,7 @@ use crate::rwlock_guards::{RawExclusiveGuard, RawSharedGuard, RawUpgradableGuard
 use crate::rwlock_rights::LotRwLock;
 use lot_acts::bits::{count_in, has_writer};
 use lot_calls::{Access, Downgrade, Patience};
-use lot_driver::driver::NO_LIMIT;
+use lot_driver::driver::FOR_EVER;
 use parking_lot_core::{Fault, Key, ParkingLot, Token, Want};
 use std::sync::{Arc, Wait};
 
@@ -118,7 +118,7 @@ impl<const RECURSIVE: bool> lock_raw::RawRwLock for RawRwLock<RECURSIVE> {
     fn lock_shared<R: Wait>(&self, rt: &R, token: &mut Token) -> Result<RawSharedGuard, Fault> {
         match self
             .lock
-            .enter(rt, token, NO_LIMIT, Access::Shared, Patience::Patient)
+            .enter(rt, token, FOR_EVER, Access::Shared, Patience::Patient)
         {
             Ok(Some(right)) => Ok(RawSharedGuard { right }),
             Ok(None) => unreachable!(),
@@ -134,7 +134,7 @@ impl<const RECURSIVE: bool> lock_raw::RawRwLock for RawRwLock<RECURSIVE> {
     ) -> Result<Option<RawSharedGuard>, Fault> {
         match self
             .lock
-            .enter(rt, token, NO_LIMIT, Access::Shared, Patience::Try)
+            .enter(rt, token, FOR_EVER, Access::Shared, Patience::Try)
         {
             Ok(Some(right)) => Ok(Some(RawSharedGuard { right })),
             Ok(None) => Ok(None),
@@ -152,7 +152,7 @@ impl<const RECURSIVE: bool> lock_raw::RawRwLock for RawRwLock<RECURSIVE> {
     fn lock_exclusive<R: Wait>(&self, rt: &R, token: &mut Token) -> RawExclusiveGuard {
         match self
             .lock
-            .enter(rt, token, NO_LIMIT, Access::Exclusive, Patience::Patient)
+            .enter(rt, token, FOR_EVER, Access::Exclusive, Patience::Patient)
         {
             Ok(Some(right)) => RawExclusiveGuard { right },
             Ok(None) | Err(_) => unreachable!(),
@@ -240,7 +240,7 @@ impl<const RECURSIVE: bool> lock_raw::RawRwLockUpgrade for RawRwLock<RECURSIVE> 
     ) -> Result<RawUpgradableGuard, Fault> {
         match self
             .lock
-            .enter(rt, token, NO_LIMIT, Access::Upgradable, Patience::Patient)
+            .enter(rt, token, FOR_EVER, Access::Upgradable, Patience::Patient)
         {
             Ok(Some(right)) => Ok(RawUpgradableGuard { right }),
             Ok(None) => unreachable!(),
@@ -256,7 +256,7 @@ impl<const RECURSIVE: bool> lock_raw::RawRwLockUpgrade for RawRwLock<RECURSIVE> 
     ) -> Result<Option<RawUpgradableGuard>, Fault> {
         match self
             .lock
-            .enter(rt, token, NO_LIMIT, Access::Upgradable, Patience::Try)
+            .enter(rt, token, FOR_EVER, Access::Upgradable, Patience::Try)
         {
             Ok(Some(right)) => Ok(Some(RawUpgradableGuard { right })),
             Ok(None) => Ok(None),
@@ -280,7 +280,7 @@ impl<const RECURSIVE: bool> lock_raw::RawRwLockUpgrade for RawRwLock<RECURSIVE> 
         let RawUpgradableGuard { right } = guard;
         match self
             .lock
-            .upgrade(rt, token, NO_LIMIT, Patience::Patient, right)
+            .upgrade(rt, token, FOR_EVER, Patience::Patient, right)
         {
             Ok(right) => RawExclusiveGuard { right },
             Err(_) => unreachable!(),
@@ -295,7 +295,7 @@ impl<const RECURSIVE: bool> lock_raw::RawRwLockUpgrade for RawRwLock<RECURSIVE> 
         guard: RawUpgradableGuard,
     ) -> Result<RawExclusiveGuard, RawUpgradableGuard> {
         let RawUpgradableGuard { right } = guard;
-        match self.lock.upgrade(rt, token, NO_LIMIT, Patience::Try, right) {
+        match self.lock.upgrade(rt, token, FOR_EVER, Patience::Try, right) {
             Ok(right) => Ok(RawExclusiveGuard { right }),
             Err(right) => Err(RawUpgradableGuard { right }),
         }

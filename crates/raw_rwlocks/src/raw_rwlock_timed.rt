@@ -39,7 +39,7 @@ impl<const RECURSIVE: bool> RawRwLock<RECURSIVE> {
     {
         match self
             .lock
-            .enter(rt, token, limit, Access::Shared, Patience::Timed)
+            .enter(rt, token, &limit, Access::Shared, Patience::Timed)
         {
             Ok(Some(right)) => Ok(Some(RawSharedGuard { right })),
             Ok(None) => Ok(None),
@@ -67,7 +67,7 @@ impl<const RECURSIVE: bool> RawRwLock<RECURSIVE> {
     {
         match self
             .lock
-            .enter(rt, token, limit, Access::Upgradable, Patience::Timed)
+            .enter(rt, token, &limit, Access::Upgradable, Patience::Timed)
         {
             Ok(Some(right)) => Ok(Some(RawUpgradableGuard { right })),
             Ok(None) => Ok(None),
@@ -93,7 +93,7 @@ impl<const RECURSIVE: bool> RawRwLock<RECURSIVE> {
     {
         match self
             .lock
-            .enter(rt, token, limit, Access::Exclusive, Patience::Timed)
+            .enter(rt, token, &limit, Access::Exclusive, Patience::Timed)
         {
             Ok(Some(right)) => Some(RawExclusiveGuard { right }),
             Ok(None) => None,
@@ -120,7 +120,7 @@ impl<const RECURSIVE: bool> RawRwLock<RECURSIVE> {
         ensures late { IfErr result (λ _. IsUp C.tells limit.entry) }
     {
         let RawUpgradableGuard { right } = guard;
-        match self.lock.upgrade(rt, token, limit, Patience::Timed, right) {
+        match self.lock.upgrade(rt, token, &limit, Patience::Timed, right) {
             Ok(right) => Ok(RawExclusiveGuard { right }),
             Err(right) => Err(RawUpgradableGuard { right }),
         }

@@ -29,7 +29,7 @@ ghost use Rattle.lot_driver.specs.Telling.{owns_of, steps_of};
 use lot_base::{main_key, second_key};
 use lot_calls::{Access, Answer, Downgrade, Patience};
 use lot_driver::courses::{greater, lesser};
-use lot_driver::driver::NO_LIMIT;
+use lot_driver::driver::FOR_EVER;
 use lot_driver::fair_calls::{bump, release_exclusive, release_upgradable};
 use lot_driver::rwlock_calls::call;
 use lot_rwlock::places::WRITER;
@@ -131,7 +131,7 @@ impl LotRwLock {
         &self,
         rt: &R,
         token: &mut Token,
-        limit: Option<(&C, u64)>,
+        limit: &Option<(&C, u64)>,
         access: Access,
         patience: Patience,
     ) -> Result<Option<Held>, Fault>
@@ -142,7 +142,7 @@ impl LotRwLock {
             (λ fault. fault ≡ Fault.ReadersFull) }
         ensures path { HasWalkedRwLock (word_in self.now).number (admission_in self.now) (Enter access patience)
             (entry_answer patience result) token.old token.new }
-        ensures late { IfOk result (λ entered. IfNone entered (MayGiveUp (IsUp C.tells limit.entry) patience)) }
+        ensures late { IfOk result (λ entered. IfNone entered (MayGiveUp (IsUp C.tells limit.now) patience)) }
         ensures counted { IfErr result (λ fault. IsCounted access) }
         ensures full { IfErr result (λ fault. SawFull (word_in self.now).number (admission_in self.now) access token.old token.new) }
         ensures left { IfOk result (λ entered. IfNone entered
@@ -196,7 +196,7 @@ impl LotRwLock {
             token,
             &self.word,
             &self.admission,
-            NO_LIMIT,
+            FOR_EVER,
             RwLockPurpose::Release(access),
         );
     }
@@ -280,7 +280,7 @@ impl LotRwLock {
             token,
             &self.word,
             &self.admission,
-            NO_LIMIT,
+            FOR_EVER,
             RwLockPurpose::Downgrade(downgrade),
         );
         self.split(token, lesser(downgrade))
@@ -296,7 +296,7 @@ impl LotRwLock {
         &self,
         rt: &R,
         token: &mut Token,
-        limit: Option<(&C, u64)>,
+        limit: &Option<(&C, u64)>,
         patience: Patience,
         right: Held,
     ) -> Result<Held, Held>
@@ -307,7 +307,7 @@ impl LotRwLock {
             (IsRwLockRight (lot_in self.now) (word_in self.now) (owner_for Upgradable)) }
         ensures path { HasWalkedRwLock (word_in self.now).number (admission_in self.now) (Upgrade patience)
             (turn_answer patience result) token.old token.new }
-        ensures late { IfErr result (λ right. MayGiveUp (IsUp C.tells limit.entry) patience) }
+        ensures late { IfErr result (λ right. MayGiveUp (IsUp C.tells limit.now) patience) }
         ensures left { IfErr result (λ right. GaveUp (word_in self.now).number (admission_in self.now) (Upgrade patience) token.new) }
     {
         self.join(token, Want::Upgradable, right);

@@ -20,7 +20,7 @@ run_out-requires-clause-words g c = let start : c.place_behind-start.result ≡ 
 
 pub run_out-requires-clause-fits : goal.run_out-requires-clause-fits
 run_out-requires-clause-fits g c = let start : c.place_behind-start.result ≡ next_place (rwlock_begin c.args.word.now.number c.args.admission.now c.args.purpose) (Value c.args.seen) = search rules in
-    (c.requires.fits.0, subst (λ (p : Place). Fits (IsUp g.C.Clock.tells c.args.limit) c.requires.fits.0 p (stage_of c.args.token.now None)) (sym start) c.requires.fits.1)
+    (c.requires.fits.0, subst (λ (p : Place). Fits (IsUp g.C.Clock.tells c.args.limit.now) c.requires.fits.0 p (stage_of c.args.token.now None)) (sym start) c.requires.fits.1)
 
 pub returns-clause-path : goal.returns-clause-path
 returns-clause-path g c = let start : c.place_behind-start.result ≡ next_place (rwlock_begin c.args.word.now.number c.args.admission.now c.args.purpose) (Value c.args.seen) = search rules in
@@ -29,5 +29,5 @@ returns-clause-path g c = let start : c.place_behind-start.result ≡ next_place
 
 pub returns-clause-over : goal.returns-clause-over
 returns-clause-over g c = λ (base : List Ownership) fits. let start : c.place_behind-start.result ≡ next_place (rwlock_begin c.args.word.now.number c.args.admission.now c.args.purpose) (Value c.args.seen) = search rules in
-    subst (λ (p : Place). IsOver (IsUp g.C.Clock.tells c.args.limit) base (aim_of p) c.run_out.result (stage_of c.run_out.new.token None)) start
-    (c.run_out.ensures.over base (subst (λ (p : Place). Fits (IsUp g.C.Clock.tells c.args.limit) base p (stage_of c.args.token.now None)) (sym start) fits))
+    subst (λ (p : Place). IsOver (IsUp g.C.Clock.tells c.args.limit.now) base (aim_of p) c.run_out.result (stage_of c.run_out.new.token None)) start
+    (c.run_out.ensures.over base (subst (λ (p : Place). Fits (IsUp g.C.Clock.tells c.args.limit.now) base p (stage_of c.args.token.now None)) (sym start) fits))

@@ -19,36 +19,36 @@ use Rattle.raw_rwlocks.proofs.rwlock_rights.LotRwLock.upgrade.Goals as goal
 pub split-requires-clause-held : goal.split-requires-clause-held
 split-requires-clause-held g c = let n = c.args.self.now.word.number in let owns = (view_of c.args.token.now).owns in
     let over = c.call-answer.ensures.over owns (begins_upgrading n c.args.patience owns (view_of c.join.new.token).owns (owners.Upgradable, owns, refl, (λ settled. refl), ap (λ (v : View). v.owns) c.join.ensures.joined)) in
-    has_right n owners.Upgradable owns (view_of c.call-answer.new.token).owns (fell_back (IsUp g.C.Clock.tells c.args.limit) n owns c.args.self.now.admission c.args.patience c.call-answer.result (stage_of c.call-answer.new.token None) over c.in-No.is).1
+    has_right n owners.Upgradable owns (view_of c.call-answer.new.token).owns (fell_back (IsUp g.C.Clock.tells c.args.limit.now) n owns c.args.self.now.admission c.args.patience c.call-answer.result (stage_of c.call-answer.new.token None) over c.in-No.is).1
 
 pub split-requires-in_default : goal.split-requires-in_default
 split-requires-in_default g c = let n = c.args.self.now.word.number in let owns = (view_of c.args.token.now).owns in
     let over = c.call-answer.ensures.over owns (begins_upgrading n c.args.patience owns (view_of c.join.new.token).owns (owners.Upgradable, owns, refl, (λ settled. refl), ap (λ (v : View). v.owns) c.join.ensures.joined)) in
     record {
       own = search rules;
-      held = has_right n owners.Exclusive owns (view_of c.call-answer.new.token).owns (upgraded (IsUp g.C.Clock.tells c.args.limit) n owns c.args.self.now.admission c.args.patience c.call-answer.result (stage_of c.call-answer.new.token None) over c.in_default.not-No).1;
+      held = has_right n owners.Exclusive owns (view_of c.call-answer.new.token).owns (upgraded (IsUp g.C.Clock.tells c.args.limit.now) n owns c.args.self.now.admission c.args.patience c.call-answer.result (stage_of c.call-answer.new.token None) over c.in_default.not-No).1;
     }
 
 pub returns-in-No-clause-token : goal.returns-in-No-clause-token
 returns-in-No-clause-token g c = let n = c.args.self.now.word.number in let owns = (view_of c.args.token.now).owns in
     let over = c.call-answer.ensures.over owns (begins_upgrading n c.args.patience owns (view_of c.join.new.token).owns (owners.Upgradable, owns, refl, (λ settled. refl), ap (λ (v : View). v.owns) c.join.ensures.joined)) in
-    let right = (fell_back (IsUp g.C.Clock.tells c.args.limit) n owns c.args.self.now.admission c.args.patience c.call-answer.result (stage_of c.call-answer.new.token None) over c.in-No.is).1 in
+    let right = (fell_back (IsUp g.C.Clock.tells c.args.limit.now) n owns c.args.self.now.admission c.args.patience c.call-answer.result (stage_of c.call-answer.new.token None) over c.in-No.is).1 in
     (search rules, (search rules, λ settled. ap (λ (v : View). v.owns) c.split.ensures.left ∙ left_beside n owners.Upgradable owns (view_of c.call-answer.new.token).owns right settled))
 
 pub returns-in-No-clause-late : goal.returns-in-No-clause-late
 returns-in-No-clause-late g c = let n = c.args.self.now.word.number in let owns = (view_of c.args.token.now).owns in
     let over = c.call-answer.ensures.over owns (begins_upgrading n c.args.patience owns (view_of c.join.new.token).owns (owners.Upgradable, owns, refl, (λ settled. refl), ap (λ (v : View). v.owns) c.join.ensures.joined)) in
-    (fell_back (IsUp g.C.Clock.tells c.args.limit) n owns c.args.self.now.admission c.args.patience c.call-answer.result (stage_of c.call-answer.new.token None) over c.in-No.is).0
+    (fell_back (IsUp g.C.Clock.tells c.args.limit.now) n owns c.args.self.now.admission c.args.patience c.call-answer.result (stage_of c.call-answer.new.token None) over c.in-No.is).0
 
 pub returns-in-No-clause-left : goal.returns-in-No-clause-left
 returns-in-No-clause-left g c = let n = c.args.self.now.word.number in let owns = (view_of c.args.token.now).owns in
     let over = c.call-answer.ensures.over owns (begins_upgrading n c.args.patience owns (view_of c.join.new.token).owns (owners.Upgradable, owns, refl, (λ settled. refl), ap (λ (v : View). v.owns) c.join.ensures.joined)) in
-    subst (λ (last : Option SectionRecord). LeftBy n c.args.self.now.admission (Upgrade c.args.patience) last) (sym c.split.ensures.own.1) (fell_back_left (IsUp g.C.Clock.tells c.args.limit) n owns c.args.self.now.admission c.args.patience c.call-answer.result (stage_of c.call-answer.new.token None) over c.in-No.is)
+    subst (λ (last : Option SectionRecord). LeftBy n c.args.self.now.admission (Upgrade c.args.patience) last) (sym c.split.ensures.own.1) (fell_back_left (IsUp g.C.Clock.tells c.args.limit.now) n owns c.args.self.now.admission c.args.patience c.call-answer.result (stage_of c.call-answer.new.token None) over c.in-No.is)
 
 pub returns-in_default : goal.returns-in_default
 returns-in_default g c = let n = c.args.self.now.word.number in let owns = (view_of c.args.token.now).owns in
     let over = c.call-answer.ensures.over owns (begins_upgrading n c.args.patience owns (view_of c.join.new.token).owns (owners.Upgradable, owns, refl, (λ settled. refl), ap (λ (v : View). v.owns) c.join.ensures.joined)) in
-    let right = upgraded (IsUp g.C.Clock.tells c.args.limit) n owns c.args.self.now.admission c.args.patience c.call-answer.result (stage_of c.call-answer.new.token None) over c.in_default.not-No in record {
+    let right = upgraded (IsUp g.C.Clock.tells c.args.limit.now) n owns c.args.self.now.admission c.args.patience c.call-answer.result (stage_of c.call-answer.new.token None) over c.in_default.not-No in record {
       token = (search rules, (search rules, λ settled. ap (λ (v : View). v.owns) c.split-in_default.ensures.left ∙ left_beside n owners.Exclusive owns (view_of c.call-answer.new.token).owns right.1 settled));
       right = search rules;
       path = subst (λ (steps : List WordStep). Walks (at_rwlock c.args.self.now.word.number) (rwlock_begin c.args.self.now.word.number c.args.self.now.admission (Upgrade c.args.patience)) (view_of c.args.token.now).steps steps (entered c.args.patience)) (sym (ap (λ (v : View). v.steps) c.split-in_default.ensures.left))
