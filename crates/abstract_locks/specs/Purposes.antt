@@ -98,10 +98,11 @@ MayWait (Some (CallsOnce l forced)) k = l ≡ k
 MayWait (Some (Awaits l forced)) k = l ≡ k
 MayWait purpose k = ⊥
 
--- a call that releases the lock; a bump does so until it has, and then it enters
+-- a call that releases the lock; a bump does so until it has, and then it enters; and a call that runs a closure, once its run has begun
 abbrev pub IsReleasing : Option Purpose → Bool → ℕ → Type 0
 IsReleasing (Some (Releases l x fair)) released k = l ≡ k
 IsReleasing (Some (Bumps l x)) released k = (l ≡ k) × (released ≡ false)
+IsReleasing (Some (CallsOnce l forced)) released k = (l ≡ k) × (released ≡ true)
 IsReleasing purpose released k = ⊥
 
 -- the rules of a lock of each kind; a condition variable has none, and nobody enters it

@@ -29,7 +29,7 @@ pub record CallState : Type 0 where
   pub gave_up : Option ℕ
   -- the lock that it tries again since it was woken
   pub retries : Option ℕ
-  -- whether it has given its right up
+  -- whether it has given its right up, or its run of a `Once` has begun
   pub released : Bool
   -- whether its time is up
   pub late : Bool
@@ -112,7 +112,7 @@ going_on (AtLock l (Park x)) c = record c { retries = None }
 going_on (AtLock l Aside) c = record c { retries = None }
 going_on (AtLock l (Leave x)) c = record c { released = true }
 going_on (AtLock l (HandOff x successor)) c = record c { released = true }
-going_on (AtLock l (OfOnce (Start forced))) c = record c { retries = None }
+going_on (AtLock l (OfOnce (Start forced))) c = record c { retries = None; released = true }
 going_on (AtLock l (OfOnce (Rest x forced))) c = record c { retries = None }
 going_on (AtLock l (OfOnce Fail)) c = record c { failed = true }
 going_on event c = c

@@ -53,6 +53,8 @@ pub mod OtherCalls
 pub mod MutexEvents
 pub mod MutexOwing
 pub mod OnceOwing
+pub mod OnceRows
+pub mod OnceNext
 pub mod RwLockOwing
 pub mod CallOwing
 pub mod PlaceSteps

@@ -6,7 +6,6 @@ use Rattle.std.proofs.Math.Bool.{or-false}
 use Rattle.lot_base.specs.declared.ops.Op.{Op}
 use Rattle.lot_base.specs.declared.wants.Waiter.{Waiter}
 use Rattle.lot_base.specs.declared.wants.Want.{Want}
-use Rattle.lot_base.specs.Keys.{key_of}
 use Rattle.lot_base.specs.Lines.{times, waiter}
 use Rattle.lot_base.specs.Words.{apply}
 use Rattle.lot_acts.specs.declared.acts.Check.{Check}
@@ -25,7 +24,7 @@ use Rattle.abstract_locks.specs.Deeds as laws
 use Rattle.lot_steps.specs.declared.places.Place.{Place}
 use Rattle.lot_steps.specs.Steps.{next_place, profile, calls}
 use Rattle.lot_once.specs.OnceMoves.{Closes, RestsBehind, TakesAll}
-use Rattle.lot_machine.specs.Machine.{State, filled_at, place_at, put, queue_at, queues_with_last, reply_to_take, state_after_operation, state_after_park, state_after_take, word_at}
+use Rattle.lot_machine.specs.Machine.{State, filled_at, place_at, put, queue_at, queues_with_last, state_after_operation, state_after_park, state_after_take, word_at}
 use Rattle.lot_laws.specs.Refinement.{lock_state, taken_at}
 use Rattle.lot_laws.specs.MutexDeeds.{acts}
 use Rattle.lot_laws.specs.Stations.{station, station_at}
@@ -34,7 +33,7 @@ use Rattle.lot_laws.proofs.ActsKept.{lock_by, operated, park_goes, place_goes, w
 use Rattle.lot_laws.proofs.AtPlaces.{in_no_hand}
 use Rattle.lot_laws.proofs.Glue.{IsOf, differ, free_of, lock_in, nothing_at, parts_at, same}
 use Rattle.lot_laws.proofs.LawsKept.{after_same}
-use Rattle.lot_laws.proofs.MovesKept.{IsFollowed, IsSleeper, here, needed_by, nowhere_here, own_by, single_of, site, sleeps_in, station_is, there_is, word_is}
+use Rattle.lot_laws.proofs.MovesKept.{IsFollowed, IsSleeper, needed_by, nowhere_here, own_by, single_of, site, sleeps_in, station_is, there_is, word_is}
 use Rattle.lot_laws.proofs.OneStep.{Steps, noted, queued_behind, same_filled, steps_by}
 use Rattle.lot_laws.proofs.PicksKept.{all_goes}
 use Rattle.lot_laws.proofs.StandsKept.{in_main}

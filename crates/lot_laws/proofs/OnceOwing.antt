@@ -1,7 +1,7 @@
 -- What the places of a `Once` owe, whatever befalls their thread; none of them gives up.
-use Rattle.std.proofs.Common.{ℕ, Bool, true, false, ◌≡◌, Some, refl}
+use Rattle.std.proofs.Common.{ℕ, ◌≡◌, Some, refl}
 use Rattle.lot_base.specs.declared.keys.Line.{Line}
-use Rattle.lot_base.specs.declared.notes.Note.TheVariants.{Normal, HandOff}
+use Rattle.lot_base.specs.declared.notes.Note.TheVariants.{Normal}
 use Rattle.lot_acts.specs.declared.acts.Reply.{Reply}
 use Rattle.lot_acts.specs.declared.acts.Reply.TheVariants.{TakenBy, MovedTo, HandedBy, Woken}
 use Rattle.lot_once.specs.declared.places.OncePlace.{OncePlace}

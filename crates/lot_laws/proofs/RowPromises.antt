@@ -36,7 +36,7 @@ releases_for (Enters k x how) released l h = absurd h
 releases_for (Releases k x fair) released l h = h
 releases_for (Converts k x y how) released l h = absurd h
 releases_for (Bumps k x) released l h = h.0
-releases_for (CallsOnce k forced) released l h = absurd h
+releases_for (CallsOnce k forced) released l h = h.0
 releases_for (Awaits k forced) released l h = absurd h
 
 pub downgrades_for : (q : Purpose) (l : ℕ) → IsDowngrade (Some q) l → lock_for q ≡ l

@@ -8,7 +8,6 @@ use Rattle.lot_base.specs.declared.ops.Op.{Op}
 use Rattle.lot_base.specs.Words.{apply}
 use Rattle.lot_base.specs.declared.wants.Want.{Want}
 use Rattle.lot_acts.specs.declared.acts.Check.{Check}
-use Rattle.lot_calls.specs.declared.calls.Access.TheVariants as access
 use Rattle.lot_calls.specs.declared.calls.RwLockCall.{RwLockCall}
 use Rattle.lot_calls.specs.declared.kinds.Kind.{Kind}
 use Rattle.lot_calls.specs.declared.kinds.Kind.TheVariants as kinds
@@ -55,7 +54,6 @@ use Rattle.lot_rwlock_fair.specs.FairBegins.{call_first, call_right}
 use Rattle.lot_rwlock_fair.specs.FairLaws.{CallOpens, CallTells, next_rows}
 use Rattle.lot_rwlock_fair.specs.FairSteps.{call_act, call_next, call_owners, call_shares}
 use Rattle.lot_rwlock_fair.proofs.FairOpenings.{calls_open}
-use Rattle.lot_rwlock.proofs.RwLockFit.{knows_all}
 use Rattle.lot_steps.specs.declared.places.Place.{Place}
 use Rattle.lot_steps.specs.declared.places.Place.TheVariants.{Idle, Mutex, RwLock, Once}
 use Rattle.lot_mutex.specs.declared.places.MutexPlace.{MutexPlace}

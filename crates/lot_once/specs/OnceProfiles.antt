@@ -66,7 +66,7 @@ again_of c retries = if retries then Some (want_of c) else None
 
 abbrev pub once_profile : OncePlace → Profile
 once_profile (Look c retries at) = looking c retries (look_row (again_of c retries) at)
-once_profile (Run forced at) = record (run_row at) { purpose = λ l. CallsOnce l forced }
+once_profile (Run forced at) = record (run_row at) { purpose = λ l. CallsOnce l forced; released = true }
 
 -- the thread that took this one and has not left its section yet
 abbrev pub once_taker : OncePlace → Option ℕ
