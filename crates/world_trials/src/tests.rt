@@ -1,4 +1,5 @@
 mod handed;
+mod once;
 mod rwlock;
 mod sizes;
 mod steps;
