@@ -1,4 +1,7 @@
 //! What a call answers, and what comes of a step.
+ghost use Rattle.std.specs.Prelude.{◌≡◌};
+ghost use Rattle.lot_calls.specs.States.{is_completed, is_poisoned};
+
 /// What a `Once` shows of itself.
 #[derive(Clone, Copy, Debug, PartialEq, Eq)]
 pub enum OnceState {
@@ -6,6 +9,36 @@ pub enum OnceState {
     Poisoned,
     InProgress,
     Done,
+}
+
+impl OnceState {
+    /// Whether a run has succeeded.
+    pub fn is_completed(self) -> bool
+        ensures { result ≡ is_completed self }
+    {
+        matches!(self, OnceState::Done)
+    }
+
+    /// The same.
+    pub fn done(self) -> bool
+        ensures { result ≡ is_completed self }
+    {
+        self.is_completed()
+    }
+
+    /// Whether the last run failed, and none goes on.
+    pub fn is_poisoned(self) -> bool
+        ensures { result ≡ is_poisoned self }
+    {
+        matches!(self, OnceState::Poisoned)
+    }
+
+    /// The same.
+    pub fn poisoned(self) -> bool
+        ensures { result ≡ is_poisoned self }
+    {
+        self.is_poisoned()
+    }
 }
 
 /// The answer of a call.
