@@ -1,5 +1,5 @@
 //! The mutex with its value.
-ghost use Rattle.std.specs.Prelude.{◌≡◌, IfNone, IfSome, MatchOption, MatchResult};
+ghost use Rattle.std.specs.Prelude.{◌≡◌, IfNone, IfOk, IfSome, MatchOption, MatchResult};
 ghost use Rattle.std.specs.Fn.{FnOnceReturnsAtMut};
 ghost use Rattle.std.specs.Arc.{arc_value};
 ghost use Rattle.std.specs.Duration.{as_nanos};
@@ -63,7 +63,8 @@ impl<R: RawMutex, T> Mutex<R, T> {
         requires { R.is_token_of (arc_value lot.now) token.old }
         ensures token { R.is_token_of (arc_value lot.now) token.new × R.stays token.old token.new }
         ensures made { MatchResult result (λ mutex. R.lot_of mutex ≡ arc_value lot.now)
-            (λ refused. (refused.1 ≡ value) × IsRefusal refused.0) }
+            (λ refused. (refused.1 ≡ value) × IsRefusal (R.found_full (arc_value lot.now)) token.old token.new refused.0) }
+        ensures drawn { IfOk result (λ mutex. R.drew mutex token.old token.new) }
     {
         match R::new(lot, token) {
             Ok(raw) => {

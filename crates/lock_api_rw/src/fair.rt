@@ -1,5 +1,5 @@
 //! Fair releases and bumps of guards of reader-writer locks with a value.
-ghost use Rattle.std.specs.Prelude.{◌≡◌, MatchResult};
+ghost use Rattle.std.specs.Prelude.{◌≡◌, IfErr, MatchResult};
 ghost use Rattle.lock_api_rw.specs.Guards.{lock_of};
 ghost use Rattle.lock_raw.specs.Answers.{IsFull, reading_answer};
 ghost use Rattle.lot_calls.specs.declared.calls.Access.TheVariants as access;
@@ -42,6 +42,7 @@ impl<'a, R: RawRwLockFair, T> Held<Reading<'a, R, T>, sync::RwLockReadGuard<'a, 
         ensures token { R.is_token_of (R.lot_of (lock_of self.entry)) token.new × R.stays token.old token.new }
         ensures guard { MatchResult result (λ guard. lock_of guard ≡ lock_of self.entry) IsFull }
         ensures path { R.walked (lock_of self.entry) (Bump access.Shared) (reading_answer result) token.old token.new }
+        ensures full { IfErr result (λ _. R.saw_full (lock_of self.entry) access.Shared token.old token.new) }
     {
         let (lock, raw) = self.close_shared();
         match lock.raw().bump_shared(rt, token, raw) {
@@ -80,6 +81,7 @@ impl<'a, R: RawRwLockUpgradeFair, T> Held<Upgrading<'a, R, T>, sync::RwLockReadG
         ensures token { R.is_token_of (R.lot_of (lock_of self.entry)) token.new × R.stays token.old token.new }
         ensures guard { MatchResult result (λ guard. lock_of guard ≡ lock_of self.entry) IsFull }
         ensures path { R.walked (lock_of self.entry) (Bump access.Upgradable) (reading_answer result) token.old token.new }
+        ensures full { IfErr result (λ _. R.saw_full (lock_of self.entry) access.Upgradable token.old token.new) }
     {
         let (lock, raw) = self.close_upgradable();
         match lock.raw().bump_upgradable(rt, token, raw) {

@@ -1,5 +1,5 @@
 //! The reader-writer lock with its value.
-ghost use Rattle.std.specs.Prelude.{◌≡◌, ◌≤◌, IfErr, IfSome, MatchResult};
+ghost use Rattle.std.specs.Prelude.{◌≡◌, ◌≤◌, IfErr, IfOk, IfSome, MatchResult};
 ghost use Rattle.std.specs.Arc.{arc_value};
 ghost use Rattle.lock_raw.specs.Answers.{IsFull, IsRefusal, TriesOrFull, answer_by, counted_answer, reading_answer};
 ghost use Rattle.lock_api_rw.specs.Guards.{lock_of};
@@ -46,8 +46,10 @@ impl<R: RawRwLock, T> RwLock<R, T> {
     ) -> Result<RwLock<R, T>, (Fault, T)>
         requires { R.is_token_of (arc_value lot.now) token.old }
         ensures token { R.is_token_of (arc_value lot.now) token.new × R.stays token.old token.new }
-        ensures made { MatchResult result (λ lock. R.lot_of lock ≡ arc_value lot.now)
-            (λ refused. (refused.1 ≡ value) × IsRefusal refused.0) }
+        ensures made { MatchResult result
+            (λ lock. (R.lot_of lock ≡ arc_value lot.now) × (R.limit_of lock ≡ 1152921504606846974))
+            (λ refused. (refused.1 ≡ value) × IsRefusal (R.found_full (arc_value lot.now)) token.old token.new refused.0) }
+        ensures drawn { IfOk result (λ lock. R.drew lock token.old token.new) }
     {
         match R::new(lot, token) {
             Ok(raw) => Ok(RwLock {
@@ -73,8 +75,9 @@ impl<R: RawRwLock, T> RwLock<R, T> {
         requires token { R.is_token_of (arc_value lot.now) token.old }
         requires limit { limit ≤ 1152921504606846974 }
         ensures token { R.is_token_of (arc_value lot.now) token.new × R.stays token.old token.new }
-        ensures made { MatchResult result (λ lock. R.lot_of lock ≡ arc_value lot.now)
-            (λ refused. (refused.1 ≡ value) × IsRefusal refused.0) }
+        ensures made { MatchResult result (λ lock. (R.lot_of lock ≡ arc_value lot.now) × (R.limit_of lock ≡ limit))
+            (λ refused. (refused.1 ≡ value) × IsRefusal (R.found_full (arc_value lot.now)) token.old token.new refused.0) }
+        ensures drawn { IfOk result (λ lock. R.drew lock token.old token.new) }
     {
         match R::with_limit(lot, token, limit) {
             Ok(raw) => Ok(RwLock {
@@ -285,7 +288,7 @@ impl<R, T> RwLock<R, T> {
         &self.raw
     }
 
-    /// The value, of a lock that nobody else can use meanwhile. It takes no step.
+    /// The value, of a lock that nobody else can use meanwhile. It takes no step, and the lock is the same behind it.
     #[inline]
     pub fn get_mut(&mut self) -> &mut T {
         self.inner.get_mut()

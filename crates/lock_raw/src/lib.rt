@@ -4,7 +4,7 @@
 pub mod rwlock;
 pub mod rwlock_fair;
 
-ghost use Rattle.std.specs.Prelude.{◌≡◌, Bool, MatchResult, IfNone, IfSome};
+ghost use Rattle.std.specs.Prelude.{◌≡◌, Bool, MatchResult, IfNone, IfOk, IfSome};
 ghost use Rattle.std.specs.Arc.{arc_value};
 ghost use Rattle.std.specs.Duration.{as_nanos};
 ghost use Rattle.lot_base.specs.Clocks.{HasElapsed, HasPassed};
@@ -54,7 +54,11 @@ pub trait RawMutex {
     ghost is_opened_of: { Self → Self.Opened → Type 0 };
 
     ghost opened_once: { (mutex : Self) (opened : Self.Opened) → IsProp (is_opened_of mutex opened) };
-    // Between the two states of a thread, it took the steps of this call of the mutex, to this answer.
+    // Between the two states of a thread it drew the word of this mutex, which nobody has stepped on.
+    ghost drew: { Self → Self.Token → Self.Token → Type 0 };
+    // Between them its last step found the lot full, and it drew nothing.
+    ghost found_full: { Self.Lot → Self.Token → Self.Token → Type 0 };
+    // Between them it took the steps of this call of the mutex, to this answer.
     ghost walked: { Self → MutexCall → Answer → Self.Token → Self.Token → Type 0 };
     // Between them it gave the mutex up by this call, and took the first who waits where it saw a waiter.
     ghost released: { Self → MutexCall → Self.Token → Self.Token → Type 0 };
@@ -69,7 +73,9 @@ pub trait RawMutex {
     fn new(lot: &Arc<Self::Lot>, token: &mut Self::Token) -> Result<Self, Fault>
         requires { is_token_of (arc_value lot.now) token.old }
         ensures token { is_token_of (arc_value lot.now) token.new × stays token.old token.new }
-        ensures made { MatchResult result (λ mutex. lot_of mutex ≡ arc_value lot.now) IsRefusal };
+        ensures made { MatchResult result (λ mutex. lot_of mutex ≡ arc_value lot.now)
+            (IsRefusal (found_full (arc_value lot.now)) token.old token.new) }
+        ensures drawn { IfOk result (λ mutex. drew mutex token.old token.new) };
 
     /// Waits until nobody has the mutex, and takes it.
     fn lock<R: Wait>(&self, rt: &R, token: &mut Self::Token) -> Self::Guard

@@ -1,5 +1,5 @@
 //! Raw reader-writer locks, as generic code sees them.
-ghost use Rattle.std.specs.Prelude.{◌≡◌, ◌≤◌, Bool, MatchResult, IfErr, IfNone, IfOk, IfSome};
+ghost use Rattle.std.specs.Prelude.{◌≡◌, ◌≤◌, ℕ, Bool, MatchResult, IfErr, IfNone, IfOk, IfSome};
 ghost use Rattle.std.specs.Arc.{arc_value};
 ghost use Rattle.std.specs.Duration.{as_nanos};
 ghost use Rattle.lot_base.specs.Clocks.{HasElapsed, HasPassed};
@@ -44,7 +44,13 @@ pub trait RawRwLock {
     ghost is_exclusive_of: { Self → Self.ExclusiveGuard → Type 0 };
 
     ghost exclusive_once: { (lock : Self) (guard : Self.ExclusiveGuard) → IsProp (is_exclusive_of lock guard) };
-    // Between the two states of a thread, it took the steps of this call of the lock, to this answer.
+    // So many may share a lock.
+    ghost limit_of: { Self → ℕ };
+    // Between the two states of a thread it drew the word of this lock, which nobody has stepped on.
+    ghost drew: { Self → Self.Token → Self.Token → Type 0 };
+    // Between them its last step found the lot full, and it drew nothing.
+    ghost found_full: { Self.Lot → Self.Token → Self.Token → Type 0 };
+    // Between them it took the steps of this call of the lock, to this answer.
     ghost walked: { Self → RwLockCall → Answer → Self.Token → Self.Token → Type 0 };
     // Between them it gave a right up by this call, and took those whom that lets in where it saw that somebody waits.
     ghost woke: { Self → RwLockCall → Self.Token → Self.Token → Type 0 };
@@ -65,7 +71,10 @@ pub trait RawRwLock {
     fn new(lot: &Arc<Self::Lot>, token: &mut Self::Token) -> Result<Self, Fault>
         requires { is_token_of (arc_value lot.now) token.old }
         ensures token { is_token_of (arc_value lot.now) token.new × stays token.old token.new }
-        ensures made { MatchResult result (λ lock. lot_of lock ≡ arc_value lot.now) IsRefusal };
+        ensures made { MatchResult result
+            (λ lock. (lot_of lock ≡ arc_value lot.now) × (limit_of lock ≡ 1152921504606846974))
+            (IsRefusal (found_full (arc_value lot.now)) token.old token.new) }
+        ensures drawn { IfOk result (λ lock. drew lock token.old token.new) };
 
     /// A lock that nobody has, and that so many may share.
     ///
@@ -76,7 +85,9 @@ pub trait RawRwLock {
         requires token { is_token_of (arc_value lot.now) token.old }
         requires limit { limit ≤ 1152921504606846974 }
         ensures token { is_token_of (arc_value lot.now) token.new × stays token.old token.new }
-        ensures made { MatchResult result (λ lock. lot_of lock ≡ arc_value lot.now) IsRefusal };
+        ensures made { MatchResult result (λ lock. (lot_of lock ≡ arc_value lot.now) × (limit_of lock ≡ limit))
+            (IsRefusal (found_full (arc_value lot.now)) token.old token.new) }
+        ensures drawn { IfOk result (λ lock. drew lock token.old token.new) };
 
     /// Waits until no writer keeps readers out, and comes in to read.
     ///

@@ -1,5 +1,5 @@
 //! Fair releases and bumps of raw reader-writer locks, as generic code sees them.
-ghost use Rattle.std.specs.Prelude.{MatchResult};
+ghost use Rattle.std.specs.Prelude.{IfErr, MatchResult};
 ghost use Rattle.lot_calls.specs.declared.calls.Access.TheVariants as access;
 ghost use Rattle.lot_calls.specs.declared.calls.RwLockCall.TheVariants.{ReleaseFair, Bump};
 ghost use Rattle.lot_calls.specs.declared.outcomes.Answer.TheVariants as answers;
@@ -49,7 +49,8 @@ pub trait RawRwLockFair: RawRwLock {
         requires guard { Self.is_shared_of self.now guard }
         ensures token { Self.is_token_of (Self.lot_of self.now) token.new × Self.stays token.old token.new }
         ensures guard { MatchResult result (Self.is_shared_of self.now) IsFull }
-        ensures path { Self.walked self.now (Bump access.Shared) (reading_answer result) token.old token.new };
+        ensures path { Self.walked self.now (Bump access.Shared) (reading_answer result) token.old token.new }
+        ensures full { IfErr result (λ _. Self.saw_full self.now access.Shared token.old token.new) };
 
     /// Hands the lock to those who wait for it, and waits to have it alone again. Where nobody waits, keeps it.
     fn bump_exclusive<R: Wait>(
@@ -98,5 +99,6 @@ pub trait RawRwLockUpgradeFair: RawRwLockUpgrade {
         ensures token { Self.RawRwLock.is_token_of (Self.RawRwLock.lot_of self.now) token.new
             × Self.RawRwLock.stays token.old token.new }
         ensures guard { MatchResult result (Self.RawRwLockUpgrade.is_upgradable_of self.now) IsFull }
-        ensures path { Self.RawRwLock.walked self.now (Bump access.Upgradable) (reading_answer result) token.old token.new };
+        ensures path { Self.RawRwLock.walked self.now (Bump access.Upgradable) (reading_answer result) token.old token.new }
+        ensures full { IfErr result (λ _. Self.RawRwLock.saw_full self.now access.Upgradable token.old token.new) };
 }

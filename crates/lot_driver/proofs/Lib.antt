@@ -9,6 +9,7 @@ pub mod RwLockHands
 pub mod RwLockHanding
 pub mod RwLockGoing
 pub mod RwLockHanded
+pub mod RwLockBumpFull
 pub mod RwLockBumping
 pub mod RwLockLeading
 pub mod OnceLeading

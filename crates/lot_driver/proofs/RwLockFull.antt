@@ -44,11 +44,11 @@ use Rattle.lot_rwlock_fair.specs.declared.places.RwLockCallPlace.{RwLockCallPlac
 use Rattle.lot_rwlock_fair.specs.declared.places.RwLockCallPlace.TheVariants.{Plain, Glance, HandOver, Bump, Handed}
 use Rattle.lot_steps.specs.Steps.{in_rwlock, looking, next_act, next_place, rwlock_does, rwlock_goes}
 use Rattle.lot_steps.specs.declared.places.Place.{Place}
-use Rattle.lot_steps.specs.declared.places.Place.TheVariants.{Idle, Mutex, RwLock, Once}
+use Rattle.lot_steps.specs.declared.places.Place.TheVariants.{Idle, Mutex, Once, RwLock}
 use Rattle.lot_words.specs.declared.views.WordStep.{WordStep}
 use Rattle.parking_lot_core.specs.Tokens.{view_of}
 use Rattle.parking_lot_core.specs.declared.tokens.Token.{Token}
-use Rattle.lot_driver.specs.Paths.{Brings, Path, at_rwlock, hands, here, is_valueless, looks, on, other, parks, rwlock_at, step, word}
+use Rattle.lot_driver.specs.Paths.{Brings, Path, at_rwlock, Walks, hands, here, is_valueless, looks, on, other, parks, rwlock_at, step, word}
 use Rattle.lot_driver.specs.RwLockCalls.{HasWalkedRwLock, rwlock_begin}
 use Rattle.lot_driver.specs.RwLockRefusals.{SawFull}
 
@@ -117,7 +117,7 @@ marked_on a (purpose.Upgrade how) was e = never (count_in was == 1) e
     never true f = absurd cc
     never false f = absurd cc
 
-abbrev IsGoing : Act → Type 0
+abbrev pub IsGoing : Act → Type 0
 IsGoing (act.End answer) = ⊥
 IsGoing going = Unit {0}
 
@@ -126,22 +126,22 @@ module _ (a : Admission) (q : RwLockPurpose) where
   of again to = record { purpose = q; retries = again; at = to }
 
   -- the value told that the lock is full
-  abbrev ToldFull : Reply → Type 0
+  abbrev pub ToldFull : Reply → Type 0
   ToldFull (reply.Value seen) = decided_for a q seen ≡ decisions.Refuse ReadersFull
   ToldFull told = ⊥
 
-  abbrev EndsBy : Reply → Answer → Type 0
+  abbrev pub EndsBy : Reply → Answer → Type 0
   EndsBy told ReadersFull = ToldFull told
   EndsBy told answer = Unit {0}
 
-  abbrev IsCalling : RwLockPlace → Type 0
+  abbrev pub IsCalling : RwLockPlace → Type 0
   IsCalling p = (p.purpose ≡ q) × IsDecided a q p.at
 
-  abbrev Keeps : Reply → Next RwLockPlace → Type 0
+  abbrev pub Keeps : Reply → Next RwLockPlace → Type 0
   Keeps told (At p) = IsCalling p
   Keeps told (End answer) = EndsBy told answer
 
-  entered_ends : (told : Reply) (how : Patience) → EndsBy told (entered how)
+  pub entered_ends : (told : Reply) (how : Patience) → EndsBy told (entered how)
   entered_ends told Patient = tt
   entered_ends told Timed = tt
   entered_ends told Try = tt
@@ -260,7 +260,7 @@ module _ (a : Admission) (q : RwLockPurpose) where
   wakes_keep again m (waking.Leave any) reply.Done = woken_ends reply.Done q
   wakes_keep again m to told = (refl, tt)
 
-  keeps_at : (again : Bool) (to : RwLockAt) (told : Reply) → IsDecided a q to → Keeps told (rwlock_next a (of again to) told)
+  pub keeps_at : (again : Bool) (to : RwLockAt) (told : Reply) → IsDecided a q to → Keeps told (rwlock_next a (of again to) told)
   keeps_at again at.First (reply.Value seen) d = first_keeps again seen (seen == 0) (patience_of q)
   keeps_at again at.First told d = (refl, tt)
   keeps_at again at.Load (reply.Value seen) d = looked_keeps again at.Load seen
@@ -283,7 +283,7 @@ module _ (a : Admission) (q : RwLockPurpose) where
   keeps_at again at.GiveWay told d = (refl, tt)
   keeps_at again (at.Wake m to) told d = wakes_keep again m to told
 
-  next_keeps : (p : RwLockPlace) (told : Reply) → IsCalling p → Keeps told (rwlock_next a p told)
+  pub next_keeps : (p : RwLockPlace) (told : Reply) → IsCalling p → Keeps told (rwlock_next a p told)
   next_keeps p told w = subst (λ (c : RwLockPurpose). Keeps told (rwlock_next a (record { purpose = c; retries = p.retries; at = p.at }) told)) (sym w.0) (keeps_at p.retries p.at told w.1)
 
   -- ---------------------------------------------------------------- one act
@@ -326,7 +326,7 @@ module _ (a : Admission) (q : RwLockPurpose) where
   act_there l again at.GiveWay d = tt
   act_there l again (at.Wake m to) d = woken_act l m to
 
-  act_going : (l : ℕ) (p : RwLockPlace) → IsCalling p → IsGoing (rwlock_act l a p)
+  pub act_going : (l : ℕ) (p : RwLockPlace) → IsCalling p → IsGoing (rwlock_act l a p)
   act_going l p w = subst (λ (c : RwLockPurpose). IsGoing (rwlock_act l a (record { purpose = c; retries = p.retries; at = p.at }))) (sym w.0) (act_there l p.retries p.at w.1)
 
   -- ---------------------------------------------------------------- who is handed the lock
@@ -381,7 +381,7 @@ module _ (a : Admission) (q : RwLockPurpose) where
   call_keeps (Glance x) told w = absurd w
   call_keeps (HandOver x b to) told w = absurd w
 
-  accepting_act : (l : ℕ) (x : Access) (to : HandedAt) → IsGoing (handed_act l x to)
+  pub accepting_act : (l : ℕ) (x : Access) (to : HandedAt) → IsGoing (handed_act l x to)
   accepting_act l x (handed.Asleep by alone) = tt
   accepting_act l access.Exclusive handed.Accept = tt
   accepting_act l access.Shared handed.Accept = tt
@@ -394,33 +394,9 @@ module _ (a : Admission) (q : RwLockPurpose) where
   call_going l (Glance x) w = absurd w
   call_going l (HandOver x b to) w = absurd w
 
-  -- ---------------------------------------------------------------- a whole call
+  -- ---------------------------------------------------------------- where it looks once more
 
-  abbrev IsInCall : Place → Type 0
-  IsInCall Idle = Unit {0}
-  IsInCall (Mutex l to) = ⊥
-  IsInCall (Once l to) = ⊥
-  IsInCall (RwLock l b c) = (b ≡ a) × IsCall c
-
-  abbrev EndsActBy : Reply → Act → Type 0
-  EndsActBy told (act.End answer) = EndsBy told answer
-  EndsActBy told going = Unit {0}
-
-  going_ends : (told : Reply) (x : Act) → IsGoing x → EndsActBy told x
-  going_ends told (act.End answer) g = absurd g
-  going_ends told x g = tt
-
-  place_keeps : (p : Place) (told : Reply) → IsInCall p → IsInCall (next_place p told) × EndsActBy told (next_act p told)
-  place_keeps Idle told w = (tt, tt)
-  place_keeps (Mutex l to) told w = absurd w
-  place_keeps (Once l to) told w = absurd w
-  place_keeps (RwLock l b c) told w = subst (λ (x : Admission). IsInCall (next_place (RwLock l x c) told) × EndsActBy told (next_act (RwLock l x c) told)) (sym w.0) (by_next (call_next a c told) (call_keeps c told w.1))
-    where
-      by_next : (n : Next RwLockCallPlace) → KeepsCall told n → IsInCall (rwlock_goes l a n) × EndsActBy told (rwlock_does l a n)
-      by_next (At d) k = ((refl, k), going_ends told (call_act l a d) (call_going l d k))
-      by_next (End answer) k = (tt, k)
-
-  gone_at : (p : RwLockPlace) (to : RwLockAt) → IsCalling p → (r : RwLockPlace) → gone_to p (looking_at a p to) ≡ Some r → IsCalling r
+  pub gone_at : (p : RwLockPlace) (to : RwLockAt) → IsCalling p → (r : RwLockPlace) → gone_to p (looking_at a p to) ≡ Some r → IsCalling r
   gone_at p (at.Decide seen) w r e = by_test (is_mark (decided a p seen) && not (has_aside seen)) e
     where
       by_test : (b : Bool) → gone_to p (if b then Some at.Load else None) ≡ Some r → IsCalling r
@@ -429,31 +405,9 @@ module _ (a : Admission) (q : RwLockPurpose) where
   gone_at p (at.Count seen) w r e = let there : record p { at = at.Look } ≡ r = cc in subst IsCalling there (w.0, tt)
   gone_at p to w r e = absurd cc
 
-  looks_keep : (p r : Place) → looking p ≡ Some r → IsInCall p → IsInCall r
-  looks_keep Idle r e w = absurd cc
-  looks_keep (Mutex l to) r e w = absurd w
-  looks_keep (Once l to) r e w = absurd w
-  looks_keep (RwLock l b (Handed x y d to)) r e w = absurd cc
-  looks_keep (RwLock l b (Bump p)) r e w = absurd w.1
-  looks_keep (RwLock l b (Glance x)) r e w = absurd w.1
-  looks_keep (RwLock l b (HandOver x d to)) r e w = absurd w.1
-  looks_keep (RwLock l b (Plain p)) r e w = by_place (rwlock_looking b p) refl e
-    where
-      by_place : (o : Option RwLockPlace) → rwlock_looking b p ≡ o → in_rwlock l b (in_call false o) ≡ Some r → IsInCall r
-      by_place None f is = absurd cc
-      by_place (Some n) f is = let there : RwLock l b (Plain n) ≡ r = cc in subst IsInCall there (w.0, gone_at p p.at w.1 n (subst (λ (x : Admission). rwlock_looking x p ≡ Some n) w.0 f))
-
-  path_keeps : (at : ℕ → ℕ) (p r : Place) (xs : List WordStep) → Path at p xs r → IsInCall p → IsInCall r
-  path_keeps at p _ _ (here _) w = w
-  path_keeps at p _ _ (on _ r xs ys told path tells) w = (place_keeps r told (path_keeps at p r xs path w)).0
-  path_keeps at p s xs (looks _ r _ _ path is) w = looks_keep r s is (path_keeps at p r xs path w)
-
-  told_value : (told : Reply) → ToldFull told → (seen : ℕ) × (told ≡ reply.Value seen) × (decided_for a q seen ≡ decisions.Refuse ReadersFull)
+  pub told_value : (told : Reply) → ToldFull told → (seen : ℕ) × (told ≡ reply.Value seen) × (decided_for a q seen ≡ decisions.Refuse ReadersFull)
   told_value (reply.Value seen) h = (seen, refl, h)
   told_value told h = absurd h
-
-  ended_by : (at : ℕ → ℕ) (p last : Place) (xs : List WordStep) (told : Reply) → Path at p xs last → IsInCall p → next_act last told ≡ act.End ReadersFull → ToldFull told
-  ended_by at p last xs told path w ends = subst (EndsActBy told) ends (place_keeps last told (path_keeps at p last xs path w)).1
 
 -- the step that brings a value saw it
 value_seen : (l : ℕ) (p : Place) (xs : List WordStep) (told : Reply) → Brings (at_rwlock l) p xs told → (seen : ℕ) → told ≡ reply.Value seen → (op : Op) × (xs ≡ step (rwlock_at l) op seen)
@@ -490,16 +444,90 @@ module _ (a : Admission) (how : Patience) (seen : ℕ) where
   found access.Upgradable e = let by = full_by want.Upgradable e in let most : nat_le a.limit (count_in seen) ≡ true = by.1 in (by.0, grind (arith, nat_tests))
   found access.Exclusive e = let by = full_by want.Exclusive e in let none : false ≡ true = by.1 in absurd cc
 
-begins_calling : (x : Access) (how : Patience) (l : ℕ) (a : Admission) → IsInCall a (purpose.Enter x how) (rwlock_begin l a (purpose.Enter x how))
-begins_calling access.Shared how l a = (refl, (refl, tt))
-begins_calling access.Upgradable how l a = (refl, (refl, tt))
-begins_calling access.Exclusive how l a = (refl, (refl, tt))
+-- ---------------------------------------------------------------- a whole call
+
+-- the places of a call that enters so: each reply leads to one of them, or ends the call
+module _ (a : Admission) (x : Access) (how : Patience) (Is : RwLockCallPlace → Type 0) where
+  abbrev enters : RwLockPurpose
+  enters = purpose.Enter x how
+
+  abbrev pub Keeping : Reply → Next RwLockCallPlace → Type 0
+  Keeping told (At c) = Is c
+  Keeping told (End answer) = EndsBy a enters told answer
+
+  abbrev pub IsIn : Place → Type 0
+  IsIn Idle = Unit {0}
+  IsIn (Mutex l to) = ⊥
+  IsIn (Once l to) = ⊥
+  IsIn (RwLock l b c) = (b ≡ a) × Is c
+
+  abbrev EndsActBy : Reply → Act → Type 0
+  EndsActBy told (act.End answer) = EndsBy a enters told answer
+  EndsActBy told going = Unit {0}
+
+  going_ends : (told : Reply) (y : Act) → IsGoing y → EndsActBy told y
+  going_ends told (act.End answer) g = absurd g
+  going_ends told y g = tt
+
+  -- none of them ends it by itself, and one that it looks from once more is one too
+  abbrev pub Leads : Type 0
+  Leads = ((c : RwLockCallPlace) (told : Reply) → Is c → Keeping told (call_next a c told))
+      × ((l : ℕ) (c : RwLockCallPlace) → Is c → IsGoing (call_act l a c))
+      × ((l : ℕ) (c : RwLockCallPlace) (r : Place) → looking (RwLock l a c) ≡ Some r → Is c → IsIn r)
+
+  module _ (leads : Leads) where
+    place_keeps : (p : Place) (told : Reply) → IsIn p → IsIn (next_place p told) × EndsActBy told (next_act p told)
+    place_keeps Idle told w = (tt, tt)
+    place_keeps (Mutex l to) told w = absurd w
+    place_keeps (Once l to) told w = absurd w
+    place_keeps (RwLock l b c) told w = subst (λ (y : Admission). IsIn (next_place (RwLock l y c) told) × EndsActBy told (next_act (RwLock l y c) told)) (sym w.0) (by_next (call_next a c told) (leads.0 c told w.1))
+      where
+        by_next : (n : Next RwLockCallPlace) → Keeping told n → IsIn (rwlock_goes l a n) × EndsActBy told (rwlock_does l a n)
+        by_next (At d) k = ((refl, k), going_ends told (call_act l a d) (leads.1 l d k))
+        by_next (End answer) k = (tt, k)
+
+    looks_keep : (p r : Place) → looking p ≡ Some r → IsIn p → IsIn r
+    looks_keep Idle r e w = absurd cc
+    looks_keep (Mutex l to) r e w = absurd w
+    looks_keep (Once l to) r e w = absurd w
+    looks_keep (RwLock l b c) r e w = leads.2 l c r (subst (λ (y : Admission). looking (RwLock l y c) ≡ Some r) w.0 e) w.1
+
+    path_keeps : (at : ℕ → ℕ) (p r : Place) (xs : List WordStep) → Path at p xs r → IsIn p → IsIn r
+    path_keeps at p _ _ (here _) w = w
+    path_keeps at p _ _ (on _ r xs ys told path tells) w = (place_keeps r told (path_keeps at p r xs path w)).0
+    path_keeps at p s xs (looks _ r _ _ path is) w = looks_keep r s is (path_keeps at p r xs path w)
+
+    ended_by : (at : ℕ → ℕ) (p last : Place) (xs : List WordStep) (told : Reply) → Path at p xs last → IsIn p → next_act last told ≡ act.End ReadersFull → ToldFull a enters told
+    ended_by at p last xs told path w ends = subst (EndsActBy told) ends (place_keeps last told (path_keeps at p last xs path w)).1
+
+    -- who finds the lock full by them saw so by its last step
+    pub walked_full : (l : ℕ) (start : Place) (old new : Token) → IsIn start → Walks (at_rwlock l) start (view_of old).steps (view_of new).steps ReadersFull → SawFull l a x old new
+    walked_full l start old new begins w =
+        let told = ended_by (at_rwlock l) start w.2.last w.2.before w.2.reply w.2.path begins w.2.ends in
+        let value = told_value a enters w.2.reply told in
+        let by = value_seen l w.2.last w.2.then w.2.reply w.2.tells value.0 value.1 in
+        let is = found a how value.0 x value.2 in
+        (w.2.before, by.0, value.0, w.1 ∙ ap (λ (s : List WordStep). (view_of old).steps ++ s) (w.2.all ∙ ap (λ (s : List WordStep). w.2.before ++ s) by.1) ∙ sym (append_assoc (view_of old).steps w.2.before (step (rwlock_at l) by.0 value.0)), is.0, is.1)
+
+-- ---------------------------------------------------------------- a call that enters
+
+module _ (x : Access) (how : Patience) (a : Admission) where
+  looks_on : (l : ℕ) (c : RwLockCallPlace) (r : Place) → looking (RwLock l a c) ≡ Some r → IsCall a (purpose.Enter x how) c → IsIn a x how (IsCall a (purpose.Enter x how)) r
+  looks_on l (Handed y z d to) r e w = absurd cc
+  looks_on l (Bump p) r e w = absurd w
+  looks_on l (Glance y) r e w = absurd w
+  looks_on l (HandOver y d to) r e w = absurd w
+  looks_on l (Plain p) r e w = by_place (rwlock_looking a p) refl e
+    where
+      by_place : (o : Option RwLockPlace) → rwlock_looking a p ≡ o → in_rwlock l a (in_call false o) ≡ Some r → IsIn a x how (IsCall a (purpose.Enter x how)) r
+      by_place None f is = absurd cc
+      by_place (Some n) f is = let there : RwLock l a (Plain n) ≡ r = cc in subst (IsIn a x how (IsCall a (purpose.Enter x how))) there (refl, gone_at a (purpose.Enter x how) p p.at w n f)
+
+  begins : (y : Access) (l : ℕ) → IsIn a y how (IsCall a (purpose.Enter y how)) (rwlock_begin l a (purpose.Enter y how))
+  begins access.Shared l = (refl, (refl, tt))
+  begins access.Upgradable l = (refl, (refl, tt))
+  begins access.Exclusive l = (refl, (refl, tt))
 
 -- so it is of a whole call that found the lock full
 pub sees_full : (x : Access) (how : Patience) (l : ℕ) (a : Admission) (old new : Token) → HasWalkedRwLock l a (purpose.Enter x how) ReadersFull old new → SawFull l a x old new
-sees_full x how l a old new w =
-    let told = ended_by a (purpose.Enter x how) (at_rwlock l) (rwlock_begin l a (purpose.Enter x how)) w.2.last w.2.before w.2.reply w.2.path (begins_calling x how l a) w.2.ends in
-    let value = told_value a (purpose.Enter x how) w.2.reply told in
-    let by = value_seen l w.2.last w.2.then w.2.reply w.2.tells value.0 value.1 in
-    let is = found a how value.0 x value.2 in
-    (w.2.before, by.0, value.0, w.1 ∙ ap (λ (s : List WordStep). (view_of old).steps ++ s) (w.2.all ∙ ap (λ (s : List WordStep). w.2.before ++ s) by.1) ∙ sym (append_assoc (view_of old).steps w.2.before (step (rwlock_at l) by.0 value.0)), is.0, is.1)
+sees_full x how l a old new w = walked_full a x how (IsCall a (purpose.Enter x how)) (call_keeps a (purpose.Enter x how), call_going a (purpose.Enter x how), looks_on x how a) l (rwlock_begin l a (purpose.Enter x how)) old new (begins x how a x l) w

@@ -12,3 +12,4 @@ pub mod Fitting
 pub mod Calls
 pub mod RwLockCalls
 pub mod Courses
+pub mod Drawing

@@ -30,11 +30,11 @@ use Rattle.lot_rwlock_fair.specs.declared.places.RwLockCallPlace.TheVariants.{Pl
 use Rattle.lot_steps.specs.declared.places.Place.{Place}
 use Rattle.lot_steps.specs.declared.places.Place.TheVariants.{RwLock}
 use Rattle.lot_words.specs.Lots.{IsWordOf}
-use Rattle.lot_words.specs.RightsOf.{IsRightOf}
+use Rattle.lot_words.specs.RightsOf.{IsHeldOf}
 use Rattle.lot_words.specs.declared.owners.Ownership.{Ownership}
 use Rattle.lot_words.specs.declared.owners.Owner.{Owner}
 use Rattle.lot_words.specs.declared.owners.Owner.TheVariants as owners
-use Rattle.lot_words.specs.declared.rights.Right.{Right}
+use Rattle.lot_words.specs.declared.rights.Held.{Held}
 use Rattle.lot_words.specs.declared.views.WordStep.{WordStep}
 use Rattle.lot_words.specs.declared.words.Word.{Word}
 use Rattle.lot_words.specs.declared.words.WordKind.TheVariants as kinds
@@ -102,8 +102,8 @@ MeetsAt lot token word a = IsTokenOf lot token × IsWordOf lot.words word
     × (word.kind ≡ kinds.RwLock) × (word.number < 9223372036854775808) × (a.limit < 2 ^ 60 - 1)
 
 -- a right to a reader-writer lock, owned so
-abbrev pub IsRwLockRight : ParkingLot → Word → Owner → Right → Type 0
-IsRwLockRight lot word owner right = IsRightOf lot.words right × (right.word ≡ word) × (right.owner ≡ owner)
+abbrev pub IsRwLockRight : ParkingLot → Word → Owner → Held → Type 0
+IsRwLockRight lot word owner held = IsHeldOf lot.words word owner held
 
 -- it is the same thread, and owns what it did, where it waited for no last readers of the lock
 abbrev pub StaysBeside : ℕ → Token → Token → Type 0

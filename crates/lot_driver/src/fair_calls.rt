@@ -40,23 +40,23 @@ fn rest<R: Wait>(
     rt: &R,
     lot: &ParkingLot,
     token: &mut Token,
-    word: Word,
-    admission: Admission,
+    word: &Word,
+    admission: &Admission,
     at: RwLockCallPlace,
 ) -> Answer
-    requires own { MeetsAt lot.now token.old word admission }
-    requires fits { (base : List Ownership) × Fits ⊥ base (RwLock word.number admission at) (stage_of token.old None) }
+    requires own { MeetsAt lot.now token.old word.now admission.now }
+    requires fits { (base : List Ownership) × Fits ⊥ base (RwLock word.now.number admission.now at) (stage_of token.old None) }
     ensures own { IsSameThread lot.now token.old token.new }
-    ensures path { Walks (at_rwlock word.number) (RwLock word.number admission at) (steps_of token.old) (steps_of token.new) result }
-    ensures over { (base : List Ownership) → Fits ⊥ base (RwLock word.number admission at) (stage_of token.old None)
-        → IsOver ⊥ base (aim_of (RwLock word.number admission at)) result (stage_of token.new None) }
+    ensures path { Walks (at_rwlock word.now.number) (RwLock word.now.number admission.now at) (steps_of token.old) (steps_of token.new) result }
+    ensures over { (base : List Ownership) → Fits ⊥ base (RwLock word.now.number admission.now at) (stage_of token.old None)
+        → IsOver ⊥ base (aim_of (RwLock word.now.number admission.now at)) result (stage_of token.new None) }
 {
     let start = Place::RwLock {
         lock: word.number(),
-        admission,
+        admission: *admission,
         at,
     };
-    run_out(rt, lot, token, word, NO_LIMIT, start)
+    run_out(rt, lot, token, *word, NO_LIMIT, start)
 }
 
 /// An exclusive owner gives its right up, and hands the lock over to those who wait. Where nobody does, that is one step.
@@ -65,18 +65,18 @@ pub fn release_exclusive<R: Wait>(
     rt: &R,
     lot: &ParkingLot,
     token: &mut Token,
-    word: Word,
-    admission: Admission,
+    word: &Word,
+    admission: &Admission,
 )
-    requires own { MeetsAt lot.now token.old word admission }
-    requires right { (base : List Ownership) × OwnsRight word.number (wanted Exclusive) base (owns_of token.old) }
+    requires own { MeetsAt lot.now token.old word.now admission.now }
+    requires right { (base : List Ownership) × OwnsRight word.now.number (wanted Exclusive) base (owns_of token.old) }
     ensures own { IsSameThread lot.now token.old token.new }
-    ensures path { HasWalkedCall word.number admission (calls.ReleaseFair Exclusive) ok token.old token.new }
-    ensures over { (base : List Ownership) → OwnsRight word.number (wanted Exclusive) base (owns_of token.old)
-        → IsBeside word.number base (owns_of token.new) }
-    ensures record { ReleasesFairly word.number admission Exclusive token.old token.new }
+    ensures path { HasWalkedCall word.now.number admission.now (calls.ReleaseFair Exclusive) ok token.old token.new }
+    ensures over { (base : List Ownership) → OwnsRight word.now.number (wanted Exclusive) base (owns_of token.old)
+        → IsBeside word.now.number base (owns_of token.new) }
+    ensures record { ReleasesFairly word.now.number admission.now Exclusive token.old token.new }
 {
-    let seen = lot.word(token, word, LEAVE_ALONE);
+    let seen = lot.word(token, *word, LEAVE_ALONE);
     if seen != WRITER {
         let at = RwLockCallPlace::HandOver {
             access: Access::Exclusive,
@@ -92,16 +92,16 @@ pub fn release_upgradable<R: Wait>(
     rt: &R,
     lot: &ParkingLot,
     token: &mut Token,
-    word: Word,
-    admission: Admission,
+    word: &Word,
+    admission: &Admission,
 )
-    requires own { MeetsAt lot.now token.old word admission }
-    requires right { (base : List Ownership) × OwnsRight word.number (wanted Upgradable) base (owns_of token.old) }
+    requires own { MeetsAt lot.now token.old word.now admission.now }
+    requires right { (base : List Ownership) × OwnsRight word.now.number (wanted Upgradable) base (owns_of token.old) }
     ensures own { IsSameThread lot.now token.old token.new }
-    ensures path { HasWalkedCall word.number admission (calls.ReleaseFair Upgradable) ok token.old token.new }
-    ensures over { (base : List Ownership) → OwnsRight word.number (wanted Upgradable) base (owns_of token.old)
-        → IsBeside word.number base (owns_of token.new) }
-    ensures record { ReleasesFairly word.number admission Upgradable token.old token.new }
+    ensures path { HasWalkedCall word.now.number admission.now (calls.ReleaseFair Upgradable) ok token.old token.new }
+    ensures over { (base : List Ownership) → OwnsRight word.now.number (wanted Upgradable) base (owns_of token.old)
+        → IsBeside word.now.number base (owns_of token.new) }
+    ensures record { ReleasesFairly word.now.number admission.now Upgradable token.old token.new }
 {
     let at = RwLockCallPlace::HandOver {
         access: Access::Upgradable,
@@ -117,19 +117,19 @@ pub fn bump<R: Wait>(
     rt: &R,
     lot: &ParkingLot,
     token: &mut Token,
-    word: Word,
-    admission: Admission,
+    word: &Word,
+    admission: &Admission,
     access: Access,
 ) -> Answer
-    requires own { MeetsAt lot.now token.old word admission }
-    requires right { (base : List Ownership) × OwnsRight word.number (wanted access) base (owns_of token.old) }
+    requires own { MeetsAt lot.now token.old word.now admission.now }
+    requires right { (base : List Ownership) × OwnsRight word.now.number (wanted access) base (owns_of token.old) }
     ensures own { IsSameThread lot.now token.old token.new }
-    ensures path { HasWalkedCall word.number admission (calls.Bump access) result token.old token.new }
-    ensures over { (base : List Ownership) → OwnsRight word.number (wanted access) base (owns_of token.old)
-        → Answers ⊥ word.number base admission (Enter access Patient) result (stage_of token.new None) }
+    ensures path { HasWalkedCall word.now.number admission.now (calls.Bump access) result token.old token.new }
+    ensures over { (base : List Ownership) → OwnsRight word.now.number (wanted access) base (owns_of token.old)
+        → Answers ⊥ word.now.number base admission.now (Enter access Patient) result (stage_of token.new None) }
 {
-    let seen = lot.word(token, word, Op::Load);
-    match RwLockCallPlace::Glance(access).next(admission, Reply::Value(seen)) {
+    let seen = lot.word(token, *word, Op::Load);
+    match RwLockCallPlace::Glance(access).next(*admission, Reply::Value(seen)) {
         Next::End(answer) => answer,
         Next::At(at) => rest(rt, lot, token, word, admission, at),
     }

@@ -87,25 +87,25 @@ fn behind<R: Wait, C: Clock>(
     rt: &R,
     lot: &ParkingLot,
     token: &mut Token,
-    word: Word,
-    admission: Admission,
+    word: &Word,
+    admission: &Admission,
     limit: Option<(&C, u64)>,
     purpose: RwLockPurpose,
     seen: u64,
 ) -> Answer
-    requires own { MeetsAt lot.now token.old word admission }
+    requires own { MeetsAt lot.now token.old word.now admission.now }
     requires fits { (base : List Ownership) × Fits (IsUp C.tells limit) base
-        (next_place (rwlock_begin word.number admission purpose) (Value seen)) (stage_of token.old None) }
+        (next_place (rwlock_begin word.now.number admission.now purpose) (Value seen)) (stage_of token.old None) }
     ensures own { IsSameThread lot.now token.old token.new }
-    ensures path { Walks (at_rwlock word.number) (next_place (rwlock_begin word.number admission purpose) (Value seen))
+    ensures path { Walks (at_rwlock word.now.number) (next_place (rwlock_begin word.now.number admission.now purpose) (Value seen))
         (steps_of token.old) (steps_of token.new) result }
     ensures over { (base : List Ownership) → Fits (IsUp C.tells limit.entry) base
-        (next_place (rwlock_begin word.number admission purpose) (Value seen)) (stage_of token.old None)
+        (next_place (rwlock_begin word.now.number admission.now purpose) (Value seen)) (stage_of token.old None)
         → IsOver (IsUp C.tells limit.entry) base
-        (aim_of (next_place (rwlock_begin word.number admission purpose) (Value seen))) result (stage_of token.new None) }
+        (aim_of (next_place (rwlock_begin word.now.number admission.now purpose) (Value seen))) result (stage_of token.new None) }
 {
-    let start = place_behind(word.number(), admission, purpose, seen);
-    run_out(rt, lot, token, word, limit, start)
+    let start = place_behind(word.number(), *admission, purpose, seen);
+    run_out(rt, lot, token, *word, limit, start)
 }
 
 // The rest of a call whose exchange expected one value and found this one.
@@ -115,28 +115,28 @@ fn missed<R: Wait, C: Clock>(
     rt: &R,
     lot: &ParkingLot,
     token: &mut Token,
-    word: Word,
-    admission: Admission,
+    word: &Word,
+    admission: &Admission,
     limit: Option<(&C, u64)>,
     purpose: RwLockPurpose,
     expected: u64,
     found: u64,
 ) -> Answer
-    requires own { MeetsAt lot.now token.old word admission }
+    requires own { MeetsAt lot.now token.old word.now admission.now }
     requires reached { (base : List Ownership) × Reached (IsUp C.tells limit) base
-        (rwlock_deciding word.number admission purpose expected) (Value found) (stage_of token.old None) }
+        (rwlock_deciding word.now.number admission.now purpose expected) (Value found) (stage_of token.old None) }
     ensures own { IsSameThread lot.now token.old token.new }
-    ensures path { Rests (at_rwlock word.number) (rwlock_deciding word.number admission purpose expected) (Value found)
+    ensures path { Rests (at_rwlock word.now.number) (rwlock_deciding word.now.number admission.now purpose expected) (Value found)
         (steps_of token.old) (steps_of token.new) result }
     ensures over { (base : List Ownership) → Reached (IsUp C.tells limit.entry) base
-        (rwlock_deciding word.number admission purpose expected) (Value found) (stage_of token.old None)
-        → IsOver (IsUp C.tells limit.entry) base (of_rwlock word.number admission purpose) result (stage_of token.new None) }
+        (rwlock_deciding word.now.number admission.now purpose expected) (Value found) (stage_of token.old None)
+        → IsOver (IsUp C.tells limit.entry) base (of_rwlock word.now.number admission.now purpose) result (stage_of token.new None) }
 {
-    let place = deciding(word.number(), admission, purpose, expected);
+    let place = deciding(word.number(), *admission, purpose, expected);
     let (next, act) = advance(place, Reply::Value(found));
     match answer_of(act) {
         Some(answer) => answer,
-        None => run_out(rt, lot, token, word, limit, next),
+        None => run_out(rt, lot, token, *word, limit, next),
     }
 }
 
@@ -146,30 +146,33 @@ fn take_right<R: Wait, C: Clock>(
     rt: &R,
     lot: &ParkingLot,
     token: &mut Token,
-    word: Word,
-    admission: Admission,
+    word: &Word,
+    admission: &Admission,
     limit: Option<(&C, u64)>,
     purpose: RwLockPurpose,
     seen: u64,
 ) -> Answer
-    requires own { MeetsAt lot.now token.old word admission }
-    requires takes { course_of admission purpose seen ≡ Takes }
+    requires own { MeetsAt lot.now token.old word.now admission.now }
+    requires takes { course_of admission.now purpose seen ≡ Takes }
     requires fits { (base : List Ownership) × Fits (IsUp C.tells limit) base
-        (next_place (rwlock_begin word.number admission purpose) (Value seen)) (stage_of token.old None) }
+        (next_place (rwlock_begin word.now.number admission.now purpose) (Value seen)) (stage_of token.old None) }
     ensures own { IsSameThread lot.now token.old token.new }
-    ensures path { Walks (at_rwlock word.number) (next_place (rwlock_begin word.number admission purpose) (Value seen))
+    ensures path { Walks (at_rwlock word.now.number) (next_place (rwlock_begin word.now.number admission.now purpose) (Value seen))
         (steps_of token.old) (steps_of token.new) result }
     ensures over { (base : List Ownership) → Fits (IsUp C.tells limit.entry) base
-        (next_place (rwlock_begin word.number admission purpose) (Value seen)) (stage_of token.old None)
+        (next_place (rwlock_begin word.now.number admission.now purpose) (Value seen)) (stage_of token.old None)
         → IsOver (IsUp C.tells limit.entry) base
-        (aim_of (next_place (rwlock_begin word.number admission purpose) (Value seen))) result (stage_of token.new None) }
+        (aim_of (next_place (rwlock_begin word.now.number admission.now purpose) (Value seen))) result (stage_of token.new None) }
 {
     let to = purpose.taken(seen);
-    let found = lot.word(token, word, Op::Exchange { from: seen, to });
+    let found = lot.word(token, *word, Op::Exchange { from: seen, to });
     if found == seen {
         return answer_with(purpose);
     }
-    missed(rt, lot, token, word, admission, limit, purpose, seen, found)
+    // What a cold call is given lies in memory. It is copied here, so that the fast half writes nothing.
+    let until = limit;
+    let sought = purpose;
+    missed(rt, lot, token, word, admission, until, sought, seen, found)
 }
 
 /// A whole call of who has the right that it needs. Where it meets nobody it is a step or two, with no further call.
@@ -178,24 +181,28 @@ pub fn call<R: Wait, C: Clock>(
     rt: &R,
     lot: &ParkingLot,
     token: &mut Token,
-    word: Word,
-    admission: Admission,
+    word: &Word,
+    admission: &Admission,
     limit: Option<(&C, u64)>,
     purpose: RwLockPurpose,
 ) -> Answer
-    requires own { MeetsAt lot.now token.old word admission }
-    requires right { (base : List Ownership) × BeginsWith word.number purpose base (owns_of token.old) }
+    requires own { MeetsAt lot.now token.old word.now admission.now }
+    requires right { (base : List Ownership) × BeginsWith word.now.number purpose base (owns_of token.old) }
     ensures own { IsSameThread lot.now token.old token.new }
-    ensures path { HasWalkedRwLock word.number admission purpose result token.old token.new }
-    ensures over { (base : List Ownership) → BeginsWith word.number purpose base (owns_of token.old)
-        → AnswersCall (IsUp C.tells limit.entry) word.number base admission purpose result
+    ensures path { HasWalkedRwLock word.now.number admission.now purpose result token.old token.new }
+    ensures over { (base : List Ownership) → BeginsWith word.now.number purpose base (owns_of token.old)
+        → AnswersCall (IsUp C.tells limit.entry) word.now.number base admission.now purpose result
         (stage_of token.new None) }
-    ensures record { WakesBy word.number admission purpose token.old token.new }
+    ensures record { WakesBy word.now.number admission.now purpose token.old token.new }
 {
-    let seen = lot.word(token, word, opening(purpose));
-    match course_of(admission, purpose, seen) {
+    let seen = lot.word(token, *word, opening(purpose));
+    match course_of(*admission, purpose, seen) {
         Course::Ends(answer) => answer,
         Course::Takes => take_right(rt, lot, token, word, admission, limit, purpose, seen),
-        Course::GoesOn => behind(rt, lot, token, word, admission, limit, purpose, seen),
+        Course::GoesOn => {
+            let until = limit;
+            let sought = purpose;
+            behind(rt, lot, token, word, admission, until, sought, seen)
+        }
     }
 }

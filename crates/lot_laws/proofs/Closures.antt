@@ -8,8 +8,9 @@ use Rattle.lot_mutex.specs.declared.lock.LockAt.TheVariants as lock
 use Rattle.lot_mutex.specs.declared.unlock.UnlockAt.TheVariants as unlock
 use Rattle.lot_mutex.specs.declared.hand_off.HandOffAt.TheVariants as hand_off
 use Rattle.lot_steps.specs.declared.places.Place.{Place}
-use Rattle.lot_steps.specs.declared.places.Place.TheVariants.{Idle, Mutex, RwLock}
+use Rattle.lot_steps.specs.declared.places.Place.TheVariants.{Idle, Mutex, RwLock, Once}
 use Rattle.lot_mutex.specs.MutexSteps.{is_locked}
+use Rattle.lot_laws.specs.SitesOf.{FitsItsLock}
 use Rattle.lot_base.specs.declared.wants.Want.{Want}
 use Rattle.lot_base.specs.declared.keys.Line.{Line}
 use Rattle.lot_base.specs.declared.keys.Line.TheVariants.{Main, Second}
@@ -108,24 +109,25 @@ call_runs_none l a (places.HandOver x b to) = hands_over_plainly l a x to
 call_runs_none l a (places.Handed x how b (handed.Asleep u alone)) = refl
 call_runs_none l a (places.Handed x how b handed.Accept) = accepts_plainly l x
 
-runs_none : (p : Place) → runs_closure (act_of p) ≡ false
-runs_none Idle = refl
-runs_none (Mutex l (Lock e r lock.First)) = refl
-runs_none (Mutex l (Lock e r (lock.Decide s))) = decides_plainly l s (is_locked s) (s == 1)
-runs_none (Mutex l (Lock e r a)) = refl
-runs_none (Mutex l TryLock) = refl
-runs_none (Mutex l (Unlock unlock.Subtract)) = refl
-runs_none (Mutex l (Unlock a)) = refl
-runs_none (Mutex l UnlockFair) = refl
-runs_none (Mutex l Bump) = refl
-runs_none (Mutex l (HandOff b (hand_off.Store false n))) = refl
-runs_none (Mutex l (HandOff b (hand_off.Store true n))) = refl
-runs_none (Mutex l (HandOff b a)) = refl
-runs_none (RwLock l a c) = call_runs_none l a c
+runs_none : (w : State) (p : Place) → FitsItsLock w p → runs_closure (act_of p) ≡ false
+runs_none w Idle fits = refl
+runs_none w (Mutex l (Lock e r lock.First)) fits = refl
+runs_none w (Mutex l (Lock e r (lock.Decide s))) fits = decides_plainly l s (is_locked s) (s == 1)
+runs_none w (Mutex l (Lock e r a)) fits = refl
+runs_none w (Mutex l TryLock) fits = refl
+runs_none w (Mutex l (Unlock unlock.Subtract)) fits = refl
+runs_none w (Mutex l (Unlock a)) fits = refl
+runs_none w (Mutex l UnlockFair) fits = refl
+runs_none w (Mutex l Bump) fits = refl
+runs_none w (Mutex l (HandOff b (hand_off.Store false n))) fits = refl
+runs_none w (Mutex l (HandOff b (hand_off.Store true n))) fits = refl
+runs_none w (Mutex l (HandOff b a)) fits = refl
+runs_none w (RwLock l a c) fits = call_runs_none l a c
+runs_none w (Once l at) fits = absurd fits
 
-pub no_closure : (w : State) (t : ℕ) → runs_closure (act_of (place_at w t)) ≡ true → ⊥
-no_closure w t h = let e : false ≡ true = sym (runs_none (place_at w t)) ∙ h in cc
+pub no_closure : (w : State) (t : ℕ) → FitsItsLock w (place_at w t) → runs_closure (act_of (place_at w t)) ≡ true → ⊥
+no_closure w t fits h = let e : false ≡ true = sym (runs_none w (place_at w t) fits) ∙ h in cc
 
 -- so none ends
-pub nothing_closes : (w : State) (t : ℕ) (succeeded : Bool) → can_close w t succeeded ≡ true → ⊥
-nothing_closes w t succeeded can = let e : false ≡ true = sym (rw (runs_none (place_at w t)) refl) ∙ can in cc
+pub nothing_closes : (w : State) (t : ℕ) (succeeded : Bool) → FitsItsLock w (place_at w t) → can_close w t succeeded ≡ true → ⊥
+nothing_closes w t succeeded fits can = let e : false ≡ true = sym (rw (runs_none w (place_at w t) fits) refl) ∙ can in cc

@@ -38,9 +38,11 @@ use Rattle.lot_rwlock_fair.specs.FairBegins.{call_first, release_first}
 use Rattle.lot_rwlock_fair.specs.FairCalls.{in_hand_of}
 use Rattle.lot_rwlock_fair.specs.FairProfiles.{in_call}
 use Rattle.lot_rwlock_fair.specs.FairSteps.{any_taken, bump_ended, bump_next, call_next, entering, given, gives_up_at, gives_way, glances, hand_over_next, handed_by, handed_next, handed_woken, plain_next, unless_given, woken_with}
+use Rattle.lot_once.specs.declared.places.OncePlace.{OncePlace}
+use Rattle.lot_once.specs.OnceSteps.{once_looking, once_next}
 use Rattle.lot_steps.specs.declared.places.Place.{Place}
-use Rattle.lot_steps.specs.declared.places.Place.TheVariants.{Idle, Mutex, RwLock}
-use Rattle.lot_steps.specs.Steps.{first_place, in_mutex, in_rwlock, late_key, looking, mutex_goes, next_place, rwlock_goes}
+use Rattle.lot_steps.specs.declared.places.Place.TheVariants.{Idle, Mutex, RwLock, Once}
+use Rattle.lot_steps.specs.Steps.{first_place, in_mutex, in_once, in_rwlock, late_key, looking, mutex_goes, next_place, once_goes, rwlock_goes}
 use Rattle.lot_machine.specs.Machine.{State, held, place_at}
 use Rattle.lot_laws.specs.SitesOf.{AreCounted, IsCounted, carried_at}
 use Rattle.lot_laws.specs.Stations.{nowhere, station}
@@ -52,6 +54,7 @@ abbrev pub counted_on : Place → ℕ → Option Counted
 counted_on Idle l = None
 counted_on (Mutex j at) l = None
 counted_on (RwLock j a c) l = if j == l then in_hand_of c else None
+counted_on (Once j at) l = None
 
 -- and where a call goes on
 abbrev pub counted_next : Next RwLockCallPlace → Option Counted
@@ -70,6 +73,10 @@ pub mutex_counted : (l j : ℕ) (n : Next MutexPlace) → counted_on (mutex_goes
 mutex_counted l j (next.At c) = refl
 mutex_counted l j (next.End answer) = refl
 
+pub once_counted : (l j : ℕ) (n : Next OncePlace) → counted_on (once_goes j n) l ≡ None
+once_counted l j (next.At c) = refl
+once_counted l j (next.End answer) = refl
+
 -- who has counted is in a call of a reader-writer lock
 pub record IsCounting (l : ℕ) (k : Counted) (p : Place) : Type 0 where
   pub admission : Admission
@@ -80,6 +87,7 @@ pub record IsCounting (l : ℕ) (k : Counted) (p : Place) : Type 0 where
 pub counting : (l : ℕ) (k : Counted) (p : Place) → counted_on p l ≡ Some k → IsCounting l k p
 counting l k Idle e = absurd cc
 counting l k (Mutex j at) e = absurd cc
+counting l k (Once j at) e = absurd cc
 counting l k (RwLock j a c) e = either (j == l) refl e
   where
     either : (b : Bool) → (j == l) ≡ b → (if b then in_hand_of c else None) ≡ Some k → IsCounting l k (RwLock j a c)
@@ -212,6 +220,7 @@ call_befallen a (Handed x how b to) r h = others_bare a (Handed x how b to) r (�
 pub counted_befallen : (l : ℕ) (p : Place) (r : Reply) → Befalls r → counted_on (next_place p r) l ≡ counted_on p l
 counted_befallen l Idle r h = refl
 counted_befallen l (Mutex j at) r h = mutex_counted l j (mutex_next at r)
+counted_befallen l (Once j at) r h = once_counted l j (once_next at r)
 counted_befallen l (RwLock j a c) r h = goes_counted l j a (call_next a c r) ∙ ap (λ o. if j == l then o else None) (call_befallen a c r h)
 
 -- ---------------------------------------------------------------- where calls begin and look
@@ -227,6 +236,7 @@ first_bare c = refl
 
 pub begins_bare : (l : ℕ) (kind : Kind) (c : Call) → counted_on (first_place kind c) l ≡ None
 begins_bare l kind (call.TheVariants.Mutex j c) = refl
+begins_bare l kind (call.TheVariants.Once j c) = refl
 begins_bare l kind (call.TheVariants.RwLock j c) = ap (λ o. if j == l then o else None) (first_bare c) ∙ nothing (j == l)
 
 -- who looks at the word once more hands nothing over
@@ -252,6 +262,11 @@ looks_bare (Mutex j at) q is = by_place (mutex_looking at) is
     by_place : (o : Option MutexPlace) → in_mutex j o ≡ Some q → LooksBare q
     by_place None e = absurd cc
     by_place (Some at2) e = let there : Mutex j at2 ≡ q = cc in subst LooksBare there (record { bare = λ l. refl; goes_on = λ r l. mutex_counted l j (mutex_next at2 r) })
+looks_bare (Once j at) q is = by_place (once_looking at) is
+  where
+    by_place : (o : Option OncePlace) → in_once j o ≡ Some q → LooksBare q
+    by_place None e = absurd cc
+    by_place (Some at2) e = let there : Once j at2 ≡ q = cc in subst LooksBare there (record { bare = λ l. refl; goes_on = λ r l. once_counted l j (once_next at2 r) })
 looks_bare (RwLock j a (Plain p)) q is = looks_bare_at j a false (rwlock_looking a p) q is
 looks_bare (RwLock j a (Bump p)) q is = looks_bare_at j a true (rwlock_looking a p) q is
 looks_bare (RwLock j a (Glance x)) q is = absurd cc
@@ -262,6 +277,7 @@ looks_bare (RwLock j a (Handed x how b to)) q is = absurd cc
 pub late_bare : (p : Place) (key : ℕ) → late_key p ≡ Some key → (l : ℕ) → counted_on (next_place p reply.Late) l ≡ None
 late_bare Idle key e l = refl
 late_bare (Mutex j at) key e l = mutex_counted l j (mutex_next at reply.Late)
+late_bare (Once j at) key e l = once_counted l j (once_next at reply.Late)
 late_bare (RwLock j a (Plain p)) key e l = (bare_at j a (Plain p) refl (λ no. no)).goes_on reply.Late l
 late_bare (RwLock j a (Bump p)) key e l = (bare_at j a (Bump p) refl (λ no. no)).goes_on reply.Late l
 late_bare (RwLock j a (Glance x)) key e l = absurd cc

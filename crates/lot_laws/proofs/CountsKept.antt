@@ -27,8 +27,9 @@ use Rattle.lot_rwlock_fair.specs.declared.hand_over.HandOverAt.TheVariants as ha
 use Rattle.lot_rwlock_fair.specs.FairCalls.{in_hand_of}
 use Rattle.lot_rwlock_fair.specs.FairSteps.{any_taken, call_act, call_next, freed_next, has_room, hand_over_act, hand_over_next, looked, parked_as, released, with_taken, without}
 use Rattle.abstract_locks.specs.Codes.{has_parked}
+use Rattle.lot_once.specs.OnceSteps.{once_act, once_next}
 use Rattle.lot_steps.specs.declared.places.Place.{Place}
-use Rattle.lot_steps.specs.declared.places.Place.TheVariants.{Idle, Mutex, RwLock}
+use Rattle.lot_steps.specs.declared.places.Place.TheVariants.{Idle, Mutex, RwLock, Once}
 use Rattle.lot_steps.specs.Steps.{act_of, first_place, late_key, looking, next_place, rwlock_goes}
 use Rattle.abstract_locks.specs.Locks.{LockState}
 use Rattle.abstract_locks.specs.Runs.{IsStep, Turned}
@@ -39,7 +40,7 @@ use Rattle.lot_laws.specs.Refinement.{lock_state, locks_of}
 use Rattle.lot_laws.specs.SitesOf.{AreCounted, IsCounted, IsSteady, rules_in}
 use Rattle.lot_laws.proofs.Befallen.{others_keep_it}
 use Rattle.lot_laws.proofs.Closures.{nothing_closes}
-use Rattle.lot_laws.proofs.Counting.{HasCounted, IsHandOver, are_counted, begins_bare, counted_befallen, counted_next, counted_on, counting_row, counts_there, goes_counted, late_bare, looks_bare, mutex_counted, none_is, nothing, others_bare}
+use Rattle.lot_laws.proofs.Counting.{HasCounted, IsHandOver, are_counted, begins_bare, counted_befallen, counted_next, counted_on, counting_row, counts_there, goes_counted, late_bare, looks_bare, mutex_counted, none_is, nothing, once_counted, others_bare}
 use Rattle.lot_laws.proofs.CountsTaken.{picked_now, take_counts, took_is}
 use Rattle.lot_laws.proofs.Fair.{turned_so}
 use Rattle.lot_laws.proofs.Glue.{same}
@@ -184,6 +185,7 @@ module _ (w : State) (t : ℕ) (steady : IsSteady w) (counted : AreCounted w) (t
     going_counts : (p : Place) → Goes p
     going_counts Idle is behind turned l k e = absurd cc
     going_counts (Mutex j m) is behind turned l k e = absurd (none_is k _ (mutex_counted l j (mutex_next m (reply_to w t (mutex_act j m)))) e)
+    going_counts (Once j m) is behind turned l k e = absurd (none_is k _ (once_counted l j (once_next m (reply_to w t (once_act j m)))) e)
     going_counts (RwLock j a (HandOver x b to)) is behind turned l k e = either (j == l) (sym (goes_counted l j a n) ∙ e)
       where
         n : Next RwLockCallPlace
@@ -219,8 +221,8 @@ module _ (w : State) (t : ℕ) (steady : IsSteady w) (counted : AreCounted w) (t
   turned_counts turn.TheVariants.Go can behind o turned l k e = going_counts w t steady counted there turn.TheVariants.Go o (place_at w t) refl behind turned l k (ap (λ p. counted_on p l) (sym (go_place w t there)) ∙ e)
   turned_counts turn.TheVariants.Spin can behind o turned l k e = spun_counts (looking (place_at w t)) refl l k e
   turned_counts turn.TheVariants.Late can behind o turned l k e = late_counts (late_key (place_at w t)) refl l k e
-  turned_counts turn.TheVariants.Ok can behind o turned l k e = absurd (nothing_closes w t true can)
-  turned_counts turn.TheVariants.Err can behind o turned l k e = absurd (nothing_closes w t false can)
+  turned_counts turn.TheVariants.Ok can behind o turned l k e = absurd (nothing_closes w t true (steady.stands.calls t) can)
+  turned_counts turn.TheVariants.Err can behind o turned l k e = absurd (nothing_closes w t false (steady.stands.calls t) can)
 
 -- ---------------------------------------------------------------- every step
 

@@ -7,8 +7,14 @@ use Rattle.lot_mutex.specs.declared.lock.LockAt.TheVariants.{First, Decide}
 use Rattle.lot_mutex.specs.declared.unlock.UnlockAt.{UnlockAt}
 use Rattle.lot_mutex.specs.declared.unlock.UnlockAt.TheVariants as unlock
 use Rattle.lot_mutex.specs.declared.hand_off.HandOffAt.TheVariants as hand_off
+use Rattle.lot_once.specs.declared.places.OncePlace.{OncePlace}
+use Rattle.lot_once.specs.declared.places.OncePlace.TheVariants.{Look, Run}
+use Rattle.lot_once.specs.declared.run.RunAt.TheVariants as run_at
+use Rattle.lot_once.specs.OnceSteps.{begins_run, once_owners}
+use Rattle.lot_acts.specs.declared.acts.Reply.TheVariants as reply
+use Rattle.lot_acts.specs.declared.owners.Phase.TheVariants as phases
 use Rattle.lot_steps.specs.declared.places.Place.{Place}
-use Rattle.lot_steps.specs.declared.places.Place.TheVariants.{Idle, Mutex, RwLock}
+use Rattle.lot_steps.specs.declared.places.Place.TheVariants.{Idle, Mutex, RwLock, Once}
 use Rattle.lot_mutex.specs.MutexSteps.{is_locked}
 use Rattle.lot_acts.specs.Owners.{with_exclusive}
 use Rattle.lot_steps.specs.Steps.{owners_after}
@@ -98,10 +104,21 @@ owner_after (Mutex l Bump) t v o = o
 owner_after (Mutex l (HandOff bumps (hand_off.Store any none_left))) t v o = None
 owner_after (Mutex l (HandOff bumps at)) t v o = o
 owner_after (RwLock l a c) t v o = call_owner a c t v o
+owner_after (Once l at) t v o = o
+
+once_is : (at : OncePlace) (t v : ℕ) (r : Owners) → (once_owners at t v r).exclusive ≡ r.exclusive
+once_is (Look c again at) t v r = either (begins_run c at (reply.Value v))
+  where
+    either : (b : Bool) → (if b then record r { phase = phases.InProgress t } else r).exclusive ≡ r.exclusive
+    either true = refl
+    either false = refl
+once_is (Run forced (run_at.Close succeeded)) t v r = refl
+once_is (Run forced at) t v r = refl
 
 pub exclusive-owners : (p : Place) (t v : ℕ) (r : Owners) → (owners_after p t v r).exclusive ≡ owner_after p t v r.exclusive
 exclusive-owners Idle t v r = refl
 exclusive-owners (RwLock l a c) t v r = call_is a c t v r
+exclusive-owners (Once l at) t v r = once_is at t v r
 exclusive-owners (Mutex l (Lock entry retries First)) t v r = either (v == 0)
   where
     either : (b : Bool) → (if b then with_exclusive r (Some t) else r).exclusive ≡ (if b then Some t else r.exclusive)

@@ -23,7 +23,7 @@ use Rattle.lot_mutex.specs.declared.places.TheConstants.{NOT_PARKED}
 use Rattle.lot_mutex.specs.declared.hand_off.HandOffAt.{HandOffAt}
 use Rattle.lot_mutex.specs.declared.hand_off.HandOffAt.TheVariants as hand_off
 use Rattle.lot_steps.specs.declared.places.Place.{Place}
-use Rattle.lot_steps.specs.declared.places.Place.TheVariants.{Idle, Mutex, RwLock}
+use Rattle.lot_steps.specs.declared.places.Place.TheVariants.{Idle, Mutex, RwLock, Once}
 use Rattle.lot_mutex.specs.MutexSteps.{is_locked, is_parked, lock_act, hand_off_act}
 use Rattle.lot_steps.specs.Steps.{act_of, looking, late_key, next_place, lock_of, profile}
 use Rattle.lot_machine.specs.Machine.{State, unlocked, place_at, word_at, owners_at, kind_at, queue_at, state_after_operation, queues_with_last, queues_without_first, state_after_act, state_after_taking, state_after_look, state_after_go, put, state_after_late_on, state_after_turn, can_turn, is_possible, after, step_outcome, can_do, reply_to}
@@ -264,6 +264,7 @@ module _ (w : State) (t l : ℕ) (shape : IsShaped w) (steady : IsSteady w) (own
   -- whatever the act, and wherever the thread goes then
   go_gives : (p : Place) → place_at w t ≡ p → PlaceFits (length w.locks) p → IsFairRelease (call_state p (rights w t)).purpose l → ComesTo w t l (state_after_act w t p (act_of p))
   go_gives Idle is fits h = absurd h
+  go_gives (Once k at) is fits h = absurd (subst (FitsItsLock w) is (steady.stands.calls t))
   go_gives (RwLock k a c) is fits h = absurd (
       let admitted : FitsItsLock w (RwLock k a c) = subst (FitsItsLock w) is (steady.stands.calls t) in
       let here : k ≡ l = sym (call_promises (rules_in w k) a k c admitted.0 admitted.1).own ∙ released_lock ((call_profile a c).purpose k) l h in
@@ -299,8 +300,8 @@ module _ (w : State) (t l : ℕ) (shape : IsShaped w) (steady : IsSteady w) (own
   turned_gives there h turn.TheVariants.Go can = go_gives w t l shape steady own of_mutex (place_at w t) refl (shape.places t) h
   turned_gives there h turn.TheVariants.Spin can = spin_gives there h (looking (place_at w t)) refl
   turned_gives there h turn.TheVariants.Late can = late_gives w t l shape steady own of_mutex (late_key (place_at w t))
-  turned_gives there h turn.TheVariants.Ok can = absurd (nothing_closes w t true can)
-  turned_gives there h turn.TheVariants.Err can = absurd (nothing_closes w t false can)
+  turned_gives there h turn.TheVariants.Ok can = absurd (nothing_closes w t true (steady.stands.calls t) can)
+  turned_gives there h turn.TheVariants.Err can = absurd (nothing_closes w t false (steady.stands.calls t) can)
 
   after_gives : IsFairRelease (call_state (place_at w t) (rights w t)).purpose l → (s : Step) → s.thread ≡ t → ComesTo w t l (after w s)
   after_gives h s e = either (is_possible w s) refl
@@ -333,6 +334,7 @@ module _ (w : State) (t l : ℕ) (shape : IsShaped w) (steady : IsSteady w) (cou
     where
       by_place : (p : Place) → place_at w t ≡ p → PlaceFits (length w.locks) p → can_do w (act_of p) ≡ true → ToGive p → Gives (put (state_after_act w t p (act_of p)) t (next_place p (reply_to w t (act_of p))))
       by_place Idle is fits can gives = absurd gives
+      by_place (Once k at) is fits can gives = absurd (subst (FitsItsLock w) is (steady.stands.calls t))
       by_place (Mutex k at) is fits can gives = absurd (
           let fits_k : is_mutex (kind_at w k) ≡ true = subst (FitsItsLock w) is (steady.stands.calls t) in
           let here : k ≡ l = sym (subst (λ p. lock_for ((profile p).purpose k) ≡ k) is (row_promises w t steady k (ap lock_of is)).own) ∙ gives.0 in
@@ -374,8 +376,8 @@ module _ (w : State) (t l : ℕ) (shape : IsShaped w) (steady : IsSteady w) (cou
   turned_gives_shared there turn.TheVariants.Go can = go_gives_shared w t l shape steady counted x h.1 h.3 there can h.0 h.2
   turned_gives_shared there turn.TheVariants.Spin can = spin_gives_shared there (looking (place_at w t)) refl
   turned_gives_shared there turn.TheVariants.Late can = late_gives_shared (late_key (place_at w t))
-  turned_gives_shared there turn.TheVariants.Ok can = absurd (nothing_closes w t true can)
-  turned_gives_shared there turn.TheVariants.Err can = absurd (nothing_closes w t false can)
+  turned_gives_shared there turn.TheVariants.Ok can = absurd (nothing_closes w t true (steady.stands.calls t) can)
+  turned_gives_shared there turn.TheVariants.Err can = absurd (nothing_closes w t false (steady.stands.calls t) can)
 
   after_gives_shared : (s : Step) → s.thread ≡ t → Comes (after w s)
   after_gives_shared s e = either (is_possible w s) refl

@@ -65,7 +65,7 @@ module _ (w : State) (t l : ℕ) (steady : IsSteady w) (there : t < length w.pla
   free = ap (λ (y : Station). y.hand) station_is
 
   -- where the operation takes effect
-  module _ (takes : takes_effect op seen ≡ true) (p2 : Place) (f : IsFollowed w t l steady there own r rules readers x same_row whom (Value seen) p2)
+  module _ (takes : takes_effect op seen ≡ true) (p2 : Place) (f : IsFollowed w t l steady there own r rules x same_row whom (Value seen) p2)
       (given : (u : ℕ) (b : Bool) → hand_at (place_at w u) l ≡ hand t b → IsGiven w t l b (unshared_then w t l) (place_at w u)) (knows : g.successor ≡ want_of_successor (successor_from t 0 w.places)) where
     abbrev hands : List Deed
     hands = Case (HandOff g.right (heir_in (successor_from t 0 w.places))) ∷ bit_left g.none_left ∷ []
@@ -94,7 +94,7 @@ module _ (w : State) (t l : ℕ) (steady : IsSteady w) (there : t < length w.pla
         }
 
   -- where it fails, the thread looks again
-  module _ (fails : takes_effect op seen ≡ false) (p2 : Place) (f : IsFollowed w t l steady there own r rules readers x same_row whom (Value seen) p2) where
+  module _ (fails : takes_effect op seen ≡ false) (p2 : Place) (f : IsFollowed w t l steady there own r rules x same_row whom (Value seen) p2) where
     nothing : x.deeds whom (Value seen) ≡ []
     nothing = g.fails whom seen fails
 
@@ -125,7 +125,7 @@ module _ (w : State) (t l : ℕ) (steady : IsSteady w) (there : t < length w.pla
     told_hears = g.may r now t (free_of (place_at w t) l bare)
 
     -- out of the section, and whom it has handed its right hears of it
-    pub tells_handed : (p2 : Place) → key_of l Main < length w.sections → IsFollowed w t l steady there own r rules readers x same_row None Done p2 → ((u : ℕ) (b : Bool) → hand_at (place_at w u) l ≡ hand t b → IsWoken w t l b HandOffNote (place_at w u))
+    pub tells_handed : (p2 : Place) → key_of l Main < length w.sections → IsFollowed w t l steady there own r rules x same_row None Done p2 → ((u : ℕ) (b : Bool) → hand_at (place_at w u) l ≡ hand t b → IsWoken w t l b HandOffNote (place_at w u))
         → Goes w (put (state_after_leave w t (One (key_of l Main)) wakes) t p2) l (acts t (x.deeds None Done))
     tells_handed p2 line f woken = subst (λ y. Goes w (put (state_after_leave w t (One (key_of l Main)) y) t p2) l (acts t (x.deeds None Done))) (sym g.notes) (either g.any refl)
       where
@@ -136,14 +136,14 @@ module _ (w : State) (t l : ℕ) (steady : IsSteady w) (there : t < length w.pla
         own_then = doing_here l p2 f.of ∙ ap (λ (y : Profile). y.doing) f.row ∙ sym f.doing ∙ sym (ap (λ (s : Site). s.doing t) (after_same r (x.deeds None Done) now t))
 
         either : (b : Bool) → g.any ≡ b → Goes w (put (state_after_leave w t (One (key_of l Main)) (wakes_taken b HandOffNote)) t p2) l (acts t (x.deeds None Done))
-        either false e = goes_out_alone w t l steady there own r rules readers x same_row hears Main p2 line g.deeds (ap (λ (y : Station). y.inside) g.was) (ap (λ (y : Station). y.carries) g.was ∙ ap (λ b. in_hand b true) e) (ap (λ (y : Station). y.hand) g.was)
+        either false e = goes_out_alone w t l steady there own r rules x same_row hears Main p2 line g.deeds (ap (λ (y : Station). y.inside) g.was) (ap (λ (y : Station). y.carries) g.was ∙ ap (λ b. in_hand b true) e) (ap (λ (y : Station). y.hand) g.was)
             (g.goes ∙ sym (ap (λ (y : Station). record y { inside = None; carries = None }) g.was)) f
         either true e = wake_goes w t l steady own there p2 f.of f.fits HandOffNote woken bare (ap (λ (y : Station). y.carries) goes_nowhere) (ap (λ (y : Station). y.hand) goes_nowhere)
             Main line (ap (λ (y : Station). y.inside) stands_so) (ap (λ (y : Station). y.stands) goes_nowhere ∙ sym (ap (λ (y : Station). y.stands) stands_so)) (ap (λ (y : Station). y.waits) goes_nowhere ∙ sym (ap (λ (y : Station). y.waits) stands_so)) (ap (λ (y : Station). y.inside) goes_nowhere)
             r rules (free_of (place_at w t) l bare) (free_of p2 l (ap (λ (y : Station). y.hand) goes_nowhere)) (x.deeds None Done) g.deeds (needed_same r (x.deeds None Done) now t f.needed) own_then
 
   -- who was told so ends its call
-  pub accepts : (g : Accepts x hears) (p2 : Place) → (hears r now t None Done → IsFollowed w t l steady there own r rules readers x same_row None Done p2) → Goes w (put w t p2) l (acts t (x.deeds None Done))
+  pub accepts : (g : Accepts x hears) (p2 : Place) → (hears r now t None Done → IsFollowed w t l steady there own r rules x same_row None Done p2) → Goes w (put w t p2) l (acts t (x.deeds None Done))
   accepts g p2 followed = subst (λ ds. Goes w (put w t p2) l (acts t ds)) (sym g.deeds)
       (place_goes w t l steady own there r rules p2 f.of f.fits (End ∷ []) (λ h. tt)
       (steps_by r l (parts_at w l) (parts_at w l) (place_at w) t p2 (End ∷ []) (subst (λ ds. ActsNeeded r (acts t ds) now) g.deeds (needed_same r (x.deeds None Done) now t f.needed)) (tt, tt)
@@ -151,7 +151,7 @@ module _ (w : State) (t l : ℕ) (steady : IsSteady w) (there : t < length w.pla
       (doing_here l p2 f.of ∙ ap (λ (y : Profile). y.doing) f.row ∙ sym f.doing ∙ ap (λ ds. (laws.after_all r ds now t).doing t) g.deeds))
       (goes_nowhere ∙ sym stood))
     where
-      f : IsFollowed w t l steady there own r rules readers x same_row None Done p2
+      f : IsFollowed w t l steady there own r rules x same_row None Done p2
       f = followed (g.may r now t)
 
       stood : station (place_at w t) ≡ nowhere

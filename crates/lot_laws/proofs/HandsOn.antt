@@ -42,7 +42,7 @@ use Rattle.lot_rwlock_fair.proofs.FairTells.{hand_overs_tell}
 use Rattle.lot_rwlock_fair.proofs.HandOverCodes.{hand_overs_code}
 use Rattle.lot_rwlock_fair.proofs.HandOverFit.{hand_overs_follow}
 use Rattle.lot_steps.specs.declared.places.Place.{Place}
-use Rattle.lot_steps.specs.declared.places.Place.TheVariants.{Idle, Mutex, RwLock}
+use Rattle.lot_steps.specs.declared.places.Place.TheVariants.{Idle, Mutex, RwLock, Once}
 use Rattle.lot_steps.specs.Steps.{next_place, profile}
 use Rattle.abstract_locks.specs.Locks.{LockState, Rules, Taken, HandOff, IsLockState, Owns, Queued, without_owner}
 use Rattle.abstract_locks.specs.Sites.{Case, Doing, Pends, Site, has_readers}
@@ -214,7 +214,7 @@ module _ (w : State) (t l : ℕ) (a : Admission) (c : RwLockCallPlace) (steady :
   hands_tell = subst (λ v. CallTells (rules_in w l) a here t l c whom (Value v)) (sym now) (hand_overs_tell (rules_in w l) a here t l c op whom hands e)
 
   abbrev Followed : ℕ → Type 0
-  Followed v = IsFollowed w t l steady there of (rules_in w l) refl readers (call_move a c) row whom (Value v) (next_place (place_at w t) (Value v))
+  Followed v = IsFollowed w t l steady there of (rules_in w l) refl (call_move a c) row whom (Value v) (next_place (place_at w t) (Value v))
 
   follows : Followed (word_at w l) × (apply op (word_at w l) ≡ code (rules_in w l) (laws.after_all (rules_in w l) (call_deeds a c whom (Value (word_at w l))) here t))
   follows = subst (λ v. Followed v × (apply op v ≡ code (rules_in w l) (laws.after_all (rules_in w l) (call_deeds a c whom (Value v)) here t))) (sym now)
@@ -269,6 +269,7 @@ module _ (w : State) (t l : ℕ) (a : Admission) (c : RwLockCallPlace) (steady :
 
         by_place : (q : Place) → place_at w u ≡ q → hand_at q l ≡ hand t b → IsGiven w t l b (unshared_then w t l) q
         by_place Idle f h = absurd cc
+        by_place (Once j at) f h = absurd (subst (FitsItsLock w) f (steady.stands.calls u))
         by_place (Mutex j m) f h = either (j == l) refl h
           where
             either : (y : Bool) → (j == l) ≡ y → (if y then station (Mutex j m) else nowhere).hand ≡ hand t b → IsGiven w t l b (unshared_then w t l) (Mutex j m)

@@ -20,6 +20,7 @@ use Rattle.lot_calls.specs.declared.calls.RwLockCall.{RwLockCall}
 use Rattle.lot_calls.specs.declared.calls.Turn.{Turn}
 use Rattle.lot_calls.specs.declared.calls.Turn as turn
 use Rattle.lot_calls.specs.declared.calls.Step.{Step}
+use Rattle.lot_calls.specs.declared.calls.OnceCall.{OnceCall}
 use Rattle.lot_steps.specs.declared.places.Place.{Place}
 use Rattle.lot_acts.specs.declared.acts.Whom as whom
 use Rattle.lot_acts.specs.Acts.{takes_effect, holds}
@@ -129,4 +130,7 @@ calls_readers (kind.TheVariants.RwLock limit) l c h = refl
 calls_readers (kind.TheVariants.Recursive limit) l c h = refl
 calls_readers k l c h = absurd cc
 
--- and that no fair release and no bump
+-- no call of a `Once` begins yet
+pub never_once : (k : Kind) (l : ℕ) (c : OnceCall) → has_call k (call.TheVariants.Once l c) ≡ false
+never_once kind.TheVariants.Mutex l c = refl
+never_once k l c = refl

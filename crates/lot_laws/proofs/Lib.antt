@@ -19,6 +19,7 @@ pub mod TakesKept
 pub mod PicksKept
 pub mod AnyPicked
 pub mod MovesKept
+pub mod OnceMovesKept
 pub mod HandsMoved
 pub mod InHand
 pub mod HandsCounted
@@ -51,6 +52,7 @@ pub mod HandsEvents
 pub mod OtherCalls
 pub mod MutexEvents
 pub mod MutexOwing
+pub mod OnceOwing
 pub mod RwLockOwing
 pub mod CallOwing
 pub mod PlaceSteps

@@ -14,9 +14,17 @@ use Rattle.lot_mutex.specs.declared.lock.LockAt.TheVariants as lock
 use Rattle.lot_mutex.specs.declared.unlock.UnlockAt.TheVariants as unlock
 use Rattle.lot_mutex.specs.declared.hand_off.HandOffAt.TheVariants as hand_off
 use Rattle.lot_mutex.specs.MutexSteps.{is_locked, mutex_act}
+use Rattle.lot_once.specs.declared.places.OncePlace.{OncePlace}
+use Rattle.lot_once.specs.declared.places.OncePlace.TheVariants.{Look, Run}
+use Rattle.lot_once.specs.declared.look.LookAt.TheVariants as look_at
+use Rattle.lot_once.specs.declared.run.RunAt.TheVariants as run_at
+use Rattle.lot_once.specs.OnceProfiles.{once_profile}
+use Rattle.lot_once.specs.declared.look.Course.{Course}
+use Rattle.lot_once.specs.declared.look.Course.TheVariants as courses
+use Rattle.lot_once.specs.OnceSteps.{course_act, course_of, once_act}
 use Rattle.lot_steps.specs.Steps.{act_of, key_in, late_key, lock_of, profile}
 use Rattle.lot_steps.specs.declared.places.Place.{Place}
-use Rattle.lot_steps.specs.declared.places.Place.TheVariants.{Idle, Mutex, RwLock}
+use Rattle.lot_steps.specs.declared.places.Place.TheVariants.{Idle, Mutex, RwLock, Once}
 use Rattle.abstract_locks.specs.Sites.{Line, Main, Second}
 use Rattle.lot_machine.specs.Machine.{State, place_at, section_at, queue_at}
 use Rattle.lot_machine.specs.Fits.{IsShaped, PlaceFits}
@@ -162,9 +170,26 @@ call_lines l a (places.Handed access.Exclusive how b handed.Accept) = tt
 call_lines l a (places.Handed access.Shared how b handed.Accept) = tt
 call_lines l a (places.Handed access.Upgradable how b handed.Accept) = tt
 
+once_lines : (l : ℕ) (at : OncePlace) → IsLineAct l (station_by (once_profile at)) (once_act l at)
+once_lines l (Look c again (look_at.Decide seen)) = by_course (course_of c seen)
+  where
+    by_course : (course : Course) → IsLineAct l (station_by (once_profile (Look c again (look_at.Decide seen)))) (course_act l seen course)
+    by_course (courses.Ends answer) = tt
+    by_course courses.Runs = tt
+    by_course courses.Marks = tt
+    by_course courses.Parks = (Main, refl)
+once_lines l (Look c again look_at.Check) = ((Main, refl, refl), inl refl)
+once_lines l (Look c again (look_at.Leave parked)) = (Main, refl, refl)
+once_lines l (Look c again at) = tt
+once_lines l (Run forced (run_at.Enter succeeded)) = (Main, refl)
+once_lines l (Run forced (run_at.Take succeeded)) = (Main, refl, refl)
+once_lines l (Run forced (run_at.Leave succeeded any)) = (Main, refl, refl)
+once_lines l (Run forced at) = tt
+
 pub line_act : (p : Place) (l : ℕ) → lock_of p ≡ Some l → IsLineAct l (station p) (act_of p)
 line_act Idle l h = absurd cc
 line_act (RwLock k a c) l h = let e : k ≡ l = cc in subst (λ j. IsLineAct j (station (RwLock k a c)) (act_of (RwLock k a c))) e (call_lines k a c)
+line_act (Once k at) l h = let e : k ≡ l = cc in subst (λ j. IsLineAct j (station (Once k at)) (act_of (Once k at))) e (once_lines k at)
 line_act (Mutex k at) l h = let e : k ≡ l = cc in subst (λ j. IsLineAct j (mutex_station at) (mutex_act k at)) e (mutex_lines k at)
 
 -- a thread that may be late sleeps in a line of its lock
@@ -181,6 +206,7 @@ late_line p key h = by_lock (lock_of p) (profile p).late_line h
 pub calls_there : (n : ℕ) (p : Place) (l : ℕ) → lock_of p ≡ Some l → PlaceFits n p → l < n
 calls_there n Idle l e fits = absurd cc
 calls_there n (RwLock k a p) l e fits = let f : k ≡ l = cc in subst (λ j. j < n) f fits
+calls_there n (Once k p) l e fits = let f : k ≡ l = cc in subst (λ j. j < n) f fits
 calls_there n (Mutex k at) l e fits = let f : k ≡ l = cc in subst (λ j. j < n) f fits.0
 
 -- ---------------------------------------------------------------- the sections and queues that it touches

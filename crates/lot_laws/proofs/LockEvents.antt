@@ -23,9 +23,12 @@ use Rattle.lot_rwlock_fair.specs.declared.hand_over.HandOverAt.TheVariants as ha
 use Rattle.lot_rwlock_fair.specs.declared.handed.HandedAt.TheVariants as handed
 use Rattle.lot_rwlock_fair.specs.FairSteps.{bump_next}
 use Rattle.lot_rwlock_fair.specs.FairProfiles.{bump_former, bump_released, bumping}
+use Rattle.lot_once.specs.declared.places.OncePlace.TheVariants.{Look, Run}
+use Rattle.lot_once.specs.declared.look.LookAt.TheVariants as look_at
+use Rattle.lot_once.specs.declared.run.RunAt.TheVariants as run_at
 use Rattle.lot_steps.specs.Steps.{next_place, profile, rwlock_goes, calls}
 use Rattle.lot_steps.specs.declared.places.Place.{Place}
-use Rattle.lot_steps.specs.declared.places.Place.TheVariants.{Idle, Mutex, RwLock}
+use Rattle.lot_steps.specs.declared.places.Place.TheVariants.{Idle, Mutex, RwLock, Once}
 use Rattle.abstract_locks.specs.Locks.{LockState, Queued, Taken as LockTaken, Rights, Enter, Wake, HandOff as HandsOff, IsTaken, IsLockState, Knows, Needs, rights_of, with_right, without_right, is_thread, putting}
 use Rattle.abstract_locks.specs.Locks as locks
 use Rattle.abstract_locks.specs.Purposes.{Bumps}
@@ -104,6 +107,7 @@ Befalls w v t l reply = (u : ℕ) → u ≢ t → place_at v u ≡ (if is_taken_
 
 pub taken_place : (p : Place) (t l : ℕ) → IsMutexCall l p → is_taken_by t (taken_at p l) ≡ true → IsTakenAt p t l
 taken_place (RwLock k a at) t l other h = absurd (let none : taken_at (RwLock k a at) l ≡ None = taken_elsewhere k l (RwLock k a at) refl (λ e. other (sym e)) in let f : is_taken_by t (taken_at (RwLock k a at) l) ≡ false = ap (is_taken_by t) none in cc)
+taken_place (Once k at) t l other h = absurd (let none : taken_at (Once k at) l ≡ None = taken_elsewhere k l (Once k at) refl (λ e. other (sym e)) in let f : is_taken_by t (taken_at (Once k at) l) ≡ false = ap (is_taken_by t) none in cc)
 taken_place (Mutex k (Lock entry retries (Taken by))) t l of h = either (k == l) refl h
   where
     either : (b : Bool) → (k == l) ≡ b → is_taken_by t (if b then Some (record { by = by; want = Exclusive }) else None) ≡ true → IsTakenAt (Mutex k (Lock entry retries (Taken by))) t l
@@ -147,6 +151,11 @@ woken_call (Mutex k at) t l h r = by_place (Mutex k at) (taken_place (Mutex k at
   where
     by_place : (p : Place) → IsTakenAt p t l → call_state (next_place p (Woken Normal)) r ≡ record (call_state p r) { retries = Some l }
     by_place p there = rw there.is refl
+woken_call (Once k (Look c again (look_at.Taken by))) t l h r = let held = taken_hand (Once k (Look c again (look_at.Taken by))) t l h in
+    ap (λ n. record (call_state (Once k (Look c again (look_at.Taken by))) r) { retries = Some n }) (eqb-true k l held.1)
+woken_call (Once k (Look c again at)) t l h r = absurd (let held = taken_hand (Once k (Look c again at)) t l h in let f : ◌≡◌ {A = Option Hand} None (hand t false) = held.0 in cc)
+woken_call (Once k (Run forced (run_at.Closure poisoned))) t l h r = absurd (let held = taken_hand (Once k (Run forced (run_at.Closure poisoned))) t l h in let f : ◌≡◌ {A = Option Hand} None (hand t false) = held.0 in cc)
+woken_call (Once k (Run forced at)) t l h r = absurd (let held = taken_hand (Once k (Run forced at)) t l h in let f : ◌≡◌ {A = Option Hand} None (hand t false) = held.0 in cc)
 woken_call (RwLock k a (places.Plain p)) t l h r = let held = taken_hand (RwLock k a (places.Plain p)) t l h in let here : k ≡ l = eqb-true k l held.1 in let goes = woken_goes a k p t held.0 in
     ap (λ n. call_state (plain_goes k a n) r) goes.1 ∙ goes.2 r ∙ ap (λ n. record (call_by k (rwlock_profile a p) r) { retries = Some n }) here
 woken_call (RwLock k a (places.Bump p)) t l h r = let held = taken_hand (RwLock k a (places.Bump p)) t l h in let here : k ≡ l = eqb-true k l held.1 in let goes = woken_goes a k p t held.0 in
@@ -167,6 +176,10 @@ taken_call (RwLock k a (places.HandOver x b handing.Load)) by r = refl
 taken_call (RwLock k a (places.HandOver x b to)) by r = refl
 taken_call (RwLock k a (places.Handed x how b (handed.Asleep u alone))) by r = refl
 taken_call (RwLock k a (places.Handed x how b handed.Accept)) by r = refl
+taken_call (Once k (Look c again look_at.Asleep)) by r = refl
+taken_call (Once k (Look c again at)) by r = refl
+taken_call (Once k (Run forced (run_at.Closure poisoned))) by r = refl
+taken_call (Once k (Run forced at)) by r = refl
 taken_call (Mutex k (Lock entry retries First)) by r = refl
 taken_call (Mutex k (Lock entry retries at)) by r = refl
 taken_call (Mutex k TryLock) by r = refl

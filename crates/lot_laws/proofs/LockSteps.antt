@@ -46,7 +46,7 @@ use Rattle.lot_mutex.specs.declared.unlock.UnlockAt.TheVariants as unlock
 use Rattle.lot_mutex.specs.declared.hand_off.HandOffAt.{HandOffAt}
 use Rattle.lot_mutex.specs.declared.hand_off.HandOffAt.TheVariants as hand_off
 use Rattle.lot_steps.specs.declared.places.Place.{Place}
-use Rattle.lot_steps.specs.declared.places.Place.TheVariants.{Idle, Mutex, RwLock}
+use Rattle.lot_steps.specs.declared.places.Place.TheVariants.{Idle, Mutex, RwLock, Once}
 use Rattle.lot_acts.specs.Acts.{outcome_of}
 use Rattle.lot_mutex.specs.MutexSteps.{mutex_first, mutex_right, is_locked, is_parked, lock_act, unlock_act, hand_off_word, hand_off_act}
 use Rattle.lot_steps.specs.Steps.{act_of, next_place, next_act, mutex_goes, mutex_does, looking, late_key, is_idle, has_right, first_place, rwlock_goes, key_in, calls}
@@ -69,7 +69,7 @@ use Rattle.lot_acts.specs.Calls.{ComesTo}
 use Rattle.abstract_locks.specs.Deeds.{AllNeeded, case_of, event_by, after_event}
 use Rattle.lot_laws.specs.Stations.{hand}
 use Rattle.lot_laws.specs.Refinement.{owner_at, lock_state, taken_at, call_state, locks_of, sleeps}
-use Rattle.lot_laws.proofs.KindsKept.{after_kinds, calls_mutex, calls_readers}
+use Rattle.lot_laws.proofs.KindsKept.{after_kinds, calls_mutex, calls_readers, never_once}
 use Rattle.lot_laws.proofs.RwLockEvents.{rwlock_begins_with, rwlock_purpose_is, rwlock_right_held, rwlock_right_needed, rwlock_step, rwlock_untaken_first}
 use Rattle.lot_rwlock.specs.RwLockBegins.{admission_of}
 use Rattle.lot_rwlock_fair.specs.declared.places.RwLockCallPlace.{RwLockCallPlace}
@@ -91,7 +91,7 @@ use Rattle.lot_laws.proofs.MutexTable.{mutex}
 use Rattle.lot_laws.proofs.StandsMoved.{mutex_rules}
 use Rattle.lot_laws.proofs.SitesKept.{go_by}
 use Rattle.lot_laws.proofs.GoneKept.{gone_goes}
-use Rattle.lot_laws.proofs.TurnsKept.{idle_is}
+use Rattle.lot_laws.proofs.TurnsKept.{idle_is, once_begins}
 use Rattle.lot_laws.proofs.AtPlaces.{coded, in_no_hand, own_doing}
 use Rattle.lot_laws.proofs.PlacePromises.{standing_by}
 use Rattle.lot_laws.proofs.CallEvents.{put_is, rights, Others, OthersFollow, Happens, LeadsTo, happens, needed_then, others_follow, goes_by}
@@ -348,6 +348,7 @@ module _ (w : State) (t : ℕ) (shape : IsShaped w) (steady : IsSteady w) (there
 
   go_goes : AreCounted w → (p : Place) → place_at w t ≡ p → PlaceFits (length w.locks) p → FitsItsLock w p → can_do w (act_of p) ≡ true → GoesOn (locks_of w) t (outcome_of (next_act p (reply_to w t (act_of p)))) (locks_of (go_by w t p (act_of p)))
   go_goes counted Idle is fits of can = absurd cc
+  go_goes counted (Once l at) is fits of can = absurd of
   go_goes counted (RwLock l a c) is fits of can = rwlock_step w t l a c steady shape there fits is counted can
   go_goes counted (Mutex l at) is fits of can = mutex_goes_on l fits.0 (mutex_rules (kind_at w l) of) at is can fits.1
 
@@ -375,6 +376,7 @@ module _ (w : State) (t : ℕ) (shape : IsShaped w) (steady : IsSteady w) (there
   late_goes : (p : Place) → place_at w t ≡ p → is_free_under w (late_key p) ≡ true
       → Stays (locks_of w) t (record (call_state p (rights w t)) { late = true }) outcome.TheVariants.Step (locks_of (state_after_late_on w t (late_key p)))
   late_goes Idle is can = absurd cc
+  late_goes (Once l at) is can = absurd (subst (FitsItsLock w) is (steady.stands.calls t))
   late_goes (RwLock l a c) is can = by_line (call_profile a c).late_line refl can
     where
       stands : CallStands a c
@@ -443,6 +445,7 @@ module _ (w : State) (t : ℕ) (shape : IsShaped w) (steady : IsSteady w) (there
 
   look_stays : (p : Place) → place_at w t ≡ p → IsOfMutex (locks_of w) (call_state p (rights w t)).purpose → Stays (locks_of w) t ((locks_of w).calls t) (go_outcome moved t) (locks_of (state_after_go moved t))
   look_stays Idle e of = absurd of
+  look_stays (Once l at) e of = absurd (subst (FitsItsLock w) e (steady.stands.calls t))
   look_stays (RwLock l a c) e of = absurd (let calls : FitsItsLock w (RwLock l a c) = subst (FitsItsLock w) e (steady.stands.calls t) in not_mutex w l a c calls.0 (rights w t) of)
   look_stays (Mutex l at) e of = let loads = mutex_looks l at q (ap looking (sym e) ∙ is) in
       let now : place_at moved t ≡ Mutex l (Lock loads.0 loads.1 Load) = here w t there q is ∙ loads.2 in
@@ -480,6 +483,7 @@ no_purpose w t k c h r = r
 no_call_idle : (p : Place) (r : ℕ → Rights) → (call_state p r).purpose ≡ None → is_idle p ≡ true
 no_call_idle Idle r h = refl
 no_call_idle (RwLock l a at) r h = absurd cc
+no_call_idle (Once l at) r h = absurd cc
 no_call_idle (Mutex l (Lock entry retries a)) r h = absurd cc
 no_call_idle (Mutex l TryLock) r h = absurd cc
 no_call_idle (Mutex l (Unlock a)) r h = absurd cc
@@ -541,6 +545,7 @@ begin_goes w t (call.TheVariants.RwLock l c) shape steady there can = (
 
     is_kind : has_readers (rules_in w l).sort ≡ true
     is_kind = calls_readers (kind_at w l) l c held.0
+begin_goes w t (call.TheVariants.Once l c) shape steady there can = absurd (once_begins w t l c can)
 begin_goes w t (call.TheVariants.Mutex l c) shape steady there can = (
   record { thread = there; idle = rw idle refl; lock = ltb-true l (length w.locks) open_to.0; right = rw (purpose_is (kind_at w l) l c is_kind) (right_held w t l (is_fair (kind_at w l)) c held.1) },
   placed w t shape steady there w.sections Idle (Mutex l (mutex_first (is_fair (kind_at w l)) c)) idle (untaken_first w t l (is_fair (kind_at w l)) c) _
@@ -568,6 +573,7 @@ begin_refused w t (call.TheVariants.RwLock l c) cannot may = let idle : is_idle 
     either false e idle there = no_purpose (locks_of w) t (kind_at w l) (call.TheVariants.RwLock l c) e may.right
     either true e idle there = let right : HasRight (locks_of w) t (Some (rwlock_purpose l c)) = subst (HasRight (locks_of w) t) (rwlock_purpose_is (kind_at w l) l c (calls_readers (kind_at w l) l c e)) may.right in
         let held : call_right c t (owners_at w l) (share_at w l t) ≡ true = rwlock_right_needed w t l c right in cc
+begin_refused w t (call.TheVariants.Once l c) cannot may = no_purpose (locks_of w) t (kind_at w l) (call.TheVariants.Once l c) (never_once (kind_at w l) l c) may.right
 begin_refused w t (call.TheVariants.Mutex l c) cannot may = let idle : is_idle (place_at w t) ≡ true = no_call_idle (place_at w t) (rights w t) may.idle in
     let there : nat_lt l (length w.locks) ≡ true = lt-ltb l (length w.locks) may.lock in either (has_call (kind_at w l) (call.TheVariants.Mutex l c)) refl idle there
   where
@@ -596,8 +602,8 @@ module _ (w : State) (t : ℕ) (shape : IsShaped w) (steady : IsSteady w) (there
       by_look None is can = absurd cc
       by_look (Some q) is can = looks w t shape steady there q is counted
   turned_does counted turn.TheVariants.Late can = (may_be_late w t steady can, late_goes w t shape steady there (place_at w t) refl can)
-  turned_does counted turn.TheVariants.Ok can = absurd (nothing_closes w t true can)
-  turned_does counted turn.TheVariants.Err can = absurd (nothing_closes w t false can)
+  turned_does counted turn.TheVariants.Ok can = absurd (nothing_closes w t true (steady.stands.calls t) can)
+  turned_does counted turn.TheVariants.Err can = absurd (nothing_closes w t false (steady.stands.calls t) can)
 
 -- a turn that may be taken is possible
 module _ (w : State) (t : ℕ) (steady : IsSteady w) where
@@ -606,8 +612,8 @@ module _ (w : State) (t : ℕ) (steady : IsSteady w) where
   possible turn.TheVariants.Go may = go_possible w t steady may
   possible turn.TheVariants.Spin may = may
   possible turn.TheVariants.Late may = late_possible w t steady may
-  possible turn.TheVariants.Ok may = absurd (no_closure w t may)
-  possible turn.TheVariants.Err may = absurd (no_closure w t may)
+  possible turn.TheVariants.Ok may = absurd (no_closure w t (steady.stands.calls t) may)
+  possible turn.TheVariants.Err may = absurd (no_closure w t (steady.stands.calls t) may)
 
   stuck : (x : Turn) → (nat_lt t (length w.places) && can_turn w t x) ≡ false → MayTurn (locks_of w) t x → ⊥
   stuck x cannot may = let there : nat_lt t (length w.places) ≡ true = lt-ltb t (length w.places) (turner_there w t x may) in
@@ -632,8 +638,8 @@ module _ (w : State) (t : ℕ) (shape : IsShaped w) (steady : IsSteady w) (there
       by_look None is = inl refl
       by_look (Some q) is = gone_sections (put w t q) t (shaped_moved w t shape steady there q is) (steady_moved w t shape steady there q is) (looks_now w t there q is) key
   turned_sections turn.TheVariants.Late can key = late_sections w t shape (place_at w t) (shape.places t) can key
-  turned_sections turn.TheVariants.Ok can key = absurd (nothing_closes w t true can)
-  turned_sections turn.TheVariants.Err can key = absurd (nothing_closes w t false can)
+  turned_sections turn.TheVariants.Ok can key = absurd (nothing_closes w t true (steady.stands.calls t) can)
+  turned_sections turn.TheVariants.Err can key = absurd (nothing_closes w t false (steady.stands.calls t) can)
 
   turned_told : (x : Turn) → can_turn w t x ≡ true → (turn_outcome w t x ≡ outcome.TheVariants.Sleep) ↔ (sleeps (act_of (place_at (state_after_turn w t x) t)) ≡ true)
   turned_told (turn.TheVariants.Begin c) can = told_step _ (put_sleeps w t there w (first_place (kind_at w (lock_in c)) c) refl ∙ begins_awake (kind_at w (lock_in c)) c)
@@ -644,8 +650,8 @@ module _ (w : State) (t : ℕ) (shape : IsShaped w) (steady : IsSteady w) (there
       by_look None is can = absurd cc
       by_look (Some q) is can = told_going (put w t q) t (there_moved w t shape steady there q is)
   turned_told turn.TheVariants.Late can = told_step _ (late_awake w t there (late_key (place_at w t)) refl can)
-  turned_told turn.TheVariants.Ok can = absurd (nothing_closes w t true can)
-  turned_told turn.TheVariants.Err can = absurd (nothing_closes w t false can)
+  turned_told turn.TheVariants.Ok can = absurd (nothing_closes w t true (steady.stands.calls t) can)
+  turned_told turn.TheVariants.Err can = absurd (nothing_closes w t false (steady.stands.calls t) can)
 
 pub after_step : (w : State) (s : Step) → IsShaped w → IsSteady w → AreCounted w → IsStep (locks_of w) s (step_outcome w s) (locks_of (after w s))
 after_step w s shape steady counted = (record { threads = size.threads; size = size.locks; kinds = after_kinds w s; sections = sections (is_possible w s) refl; told = told (is_possible w s) refl }, either (is_possible w s) refl)

@@ -13,7 +13,7 @@ use Rattle.lot_calls.specs.declared.outcomes.Outcome.{Outcome}
 use Rattle.lot_acts.specs.Profiles.{taken_from}
 use Rattle.lot_mutex.specs.declared.places.MutexPlace.{MutexPlace}
 use Rattle.lot_steps.specs.declared.places.Place.{Place}
-use Rattle.lot_steps.specs.declared.places.Place.TheVariants.{Idle, Mutex, RwLock}
+use Rattle.lot_steps.specs.declared.places.Place.TheVariants.{Idle, Mutex, RwLock, Once}
 use Rattle.lot_steps.specs.Steps.{act_of, looking, lock_of, profile, in_mutex, is_lock}
 use Rattle.lot_mutex.specs.MutexSteps.{mutex_looking}
 use Rattle.lot_machine.specs.Machine.{State, unlocked, place_at, put, can_go, state_after_act, state_after_go}
@@ -48,6 +48,7 @@ of_lock l o e = rw e refl
 -- it is in the same call, of a lock of its sort
 calls_on : (w : State) (p q : Place) → looking p ≡ Some q → FitsItsLock w p → FitsItsLock w q
 calls_on w Idle q is calls = absurd cc
+calls_on w (Once l at) q is calls = absurd calls
 calls_on w (RwLock l a c) q is calls = by_place (call_looking a c) refl is
   where
     by_place : (o : Option RwLockCallPlace) → call_looking a c ≡ o → in_rwlock l a o ≡ Some q → FitsItsLock w q

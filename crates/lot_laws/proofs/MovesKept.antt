@@ -1,4 +1,4 @@
--- A thread goes on where its act takes it, at a lock that is shared: every lock is a site again. No place is named: the row of a place says where
+-- A thread goes on where its act takes it: every lock is a site again. No place is named: the row of a place says where
 -- the act takes its thread, and the laws of its sort of lock that its deeds may be done.
 use Rattle.std.proofs.Common.{ℕ, Bool, true, false, Option, Some, None, if◌then◌else◌, ◌==◌, ◌≡◌, ◌≢◌, ◌+◌, ◌*◌, ◌≤◌, ◌<◌, List, [], ◌∷◌, length, map, drop, get_or, cond, not, inl, inr, refl, sym, ◌∙◌, ap, subst, arith}
 use Rattle.std.proofs.lemmas.Bool.{eqb-true}
@@ -49,7 +49,7 @@ use Rattle.lot_laws.proofs.WakesKept.{IsWoken, leaving_by, wake_goes}
 
 -- ---------------------------------------------------------------- deeds of a step on the word
 
-single_of : (ds : List Deed) → AreOfWord ds → AreSingle ds
+pub single_of : (ds : List Deed) → AreOfWord ds → AreSingle ds
 single_of [] h = tt
 single_of (End ∷ []) h = (tt, tt)
 single_of (Mark m ∷ []) h = (tt, tt)
@@ -98,7 +98,7 @@ pending_one : (p : Option Pending) (t u : ℕ) → IsSomePending p t → IsSomeP
 pending_one None t u h g = absurd h
 pending_one (Some p) t u h g = sym h ∙ g
 
-module _ (w : State) (t l : ℕ) (steady : IsSteady w) (there : t < length w.places) (own : IsOf l (place_at w t)) (r : Rules) (rules : rules_in w l ≡ r) (readers : has_readers r.sort ≡ true) (x : Move) (same_row : profile (place_at w t) ≡ x.row) where
+module _ (w : State) (t l : ℕ) (steady : IsSteady w) (there : t < length w.places) (own : IsOf l (place_at w t)) (r : Rules) (rules : rules_in w l ≡ r) (x : Move) (same_row : profile (place_at w t) ≡ x.row) where
   abbrev pub here : Site
   here = lock_by w l r
 
@@ -110,36 +110,36 @@ module _ (w : State) (t l : ℕ) (steady : IsSteady w) (there : t < length w.pla
     pub needed : laws.AllNeeded r (x.deeds whom told) here t
     pub doing : (laws.after_all r (x.deeds whom told) here t).doing t ≡ (x.next told).doing
 
-  station_is : station (place_at w t) ≡ station_of x
+  pub station_is : station (place_at w t) ≡ station_of x
   station_is = ap station_by same_row
 
-  site : IsSite r here
+  pub site : IsSite r here
   site = site_by w t l steady own there r rules (place_at w t) own (steady.stands.calls t)
 
-  word_is : word_at w l ≡ code r here
+  pub word_is : word_at w l ≡ code r here
   word_is = steady.sites.word l ∙ (λ i. code (rules i) (lock_by w l (rules i)))
 
   module _ (whom : Option ℕ) (told : Reply) (p2 : Place) (f : IsFollowed whom told p2) where
-    there_is : station p2 ≡ station_then x told
+    pub there_is : station p2 ≡ station_then x told
     there_is = ap station_by f.row
 
     own_then : doing_on p2 l ≡ (laws.after_all r (x.deeds whom told) here t).doing t
     own_then = doing_here l p2 f.of ∙ ap (λ (y : Profile). y.doing) f.row ∙ sym f.doing
 
     -- by the names of its deeds
-    needed_by : (ds : List Deed) → x.deeds whom told ≡ ds → ActsNeeded r (acts t ds) here
+    pub needed_by : (ds : List Deed) → x.deeds whom told ≡ ds → ActsNeeded r (acts t ds) here
     needed_by ds e = subst (λ ds. ActsNeeded r (acts t ds) here) e (needed_same r (x.deeds whom told) here t f.needed)
 
-    own_by : (ds : List Deed) → x.deeds whom told ≡ ds → doing_on p2 l ≡ (after_acts r (acts t ds) here).doing t
+    pub own_by : (ds : List Deed) → x.deeds whom told ≡ ds → doing_on p2 l ≡ (after_acts r (acts t ds) here).doing t
     own_by ds e = own_then ∙ ap (λ ds. (laws.after_all r ds here t).doing t) e ∙ sym (ap (λ (s : Site). s.doing t) (after_same r ds here t))
 
   -- ---------------------------------------------------------------- the word
 
-  pub stays : (p p2 : Place) (op : Op) → l < length w.locks → StaysPut x → IsFollowed None (Value (word_at w l)) p2
+  pub stays : (readers : has_readers r.sort ≡ true) (p p2 : Place) (op : Op) → l < length w.locks → StaysPut x → IsFollowed None (Value (word_at w l)) p2
       → lock_in (operated w t p l op) (λ u. taken_at (place_at w u) l) ≡ (laws.after_all r (x.deeds None (Value (word_at w l))) here t).lock
       → apply op (word_at w l) ≡ code r (laws.after_all r (x.deeds None (Value (word_at w l))) here t)
       → Goes w (put (state_after_operation w t p l op) t p2) l (acts t (x.deeds None (Value (word_at w l))))
-  stays p p2 op lt g f owners word = lawful_goes w t l steady own there r rules p2 f.of f.fits readers p op (x.deeds None (Value (word_at w l)))
+  stays readers p p2 op lt g f owners word = lawful_goes w t l steady own there r rules p2 f.of f.fits readers p op (x.deeds None (Value (word_at w l)))
       (record { needed = f.needed; doing = sym (own_then None (Value (word_at w l)) p2 f); owners = owners; word = word })
       (single_of (x.deeds None (Value (word_at w l))) (g.deeds (word_at w l))) (one_of (x.deeds None (Value (word_at w l))) (g.deeds (word_at w l))) lt (plain_of (x.deeds None (Value (word_at w l))) (g.deeds (word_at w l)))
       (free_of (place_at w t) l (ap (λ (y : Station). y.hand) station_is ∙ g.free) ∙ sym (free_of p2 l (ap (λ (y : Station). y.hand) (there_is None (Value (word_at w l)) p2 f ∙ g.goes (word_at w l)) ∙ g.free)))

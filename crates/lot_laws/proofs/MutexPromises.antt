@@ -4,6 +4,12 @@ use Rattle.lot_base.specs.declared.wants.Want.{Want}
 use Rattle.lot_base.specs.declared.wants.Want.TheVariants.{Exclusive, Upgradable, Shared}
 use Rattle.lot_calls.specs.declared.outcomes.Outcome.{Outcome}
 use Rattle.lot_mutex.specs.MutexSteps.{is_parked}
+use Rattle.lot_once.specs.declared.places.OncePlace.{OncePlace}
+use Rattle.lot_once.specs.declared.places.OncePlace.TheVariants.{Look, Run}
+use Rattle.lot_once.specs.OnceProfiles.{once_profile}
+use Rattle.lot_calls.specs.declared.calls.OnceCall.TheVariants as once_call
+use Rattle.lot_steps.specs.declared.places.Place.{Place}
+use Rattle.lot_steps.specs.declared.places.Place.TheVariants.{Idle, Mutex, RwLock, Once}
 use Rattle.lot_steps.specs.Steps.{is_line, line_owed}
 use Rattle.abstract_locks.specs.Locks as locks
 use Rattle.abstract_locks.specs.Locks.{Knows, Sort}
@@ -11,7 +17,7 @@ use Rattle.abstract_locks.specs.Codes.{parked_in, aside_in, word_by}
 use Rattle.abstract_locks.specs.Sites.{Line, Main, Second, has_readers}
 use Rattle.abstract_locks.specs.Purposes.{Purpose, Enters, Releases, Converts, Bumps, CallsOnce, Awaits}
 use Rattle.lot_machine.specs.Machine.{State, place_at, word_at, kind_at}
-use Rattle.lot_laws.specs.Refinement.{owner_at, lock_state, call_at}
+use Rattle.lot_laws.specs.Refinement.{owner_at, lock_state, call_at, call_state}
 use Rattle.lot_laws.specs.SitesOf.{is_mutex, rules_in}
 use Rattle.lot_laws.specs.Owing.{Owes, IsInside, ReleasesLock, LetsOthersIn, SeesWaiters, OwesSince, OnlyLooks, LooksFirst, line_let_in, tells_by, sort_at}
 use Rattle.lot_laws.specs.Promises.{KnowsRights, WakesWaiters, IsKept, IsLookedAfter, IsOpenNow}
@@ -19,7 +25,7 @@ use Rattle.lot_laws.specs.MutexPromises.{HasDebtor, IsShownToOwe, GoesToRelease,
 use Rattle.lot_laws.proofs.MutexTable.{mutex}
 use Rattle.lot_laws.proofs.StandsMoved.{mutex_rules}
 use Rattle.lot_laws.proofs.RowPromises.{mutex_tells}
-use Rattle.lot_laws.proofs.SitesPromise.{codes_by, sets_nothing}
+use Rattle.lot_laws.proofs.SitesPromise.{IsNoOnce, codes_by, sets_nothing}
 
 -- a mutex knows one right
 only_exclusive : (x : Want) → Knows locks.Mutex x → x ≡ Exclusive
@@ -52,6 +58,11 @@ lets_in_main (Some (Bumps l Shared)) = refl
 lets_in_main (Some (Bumps l Exclusive)) = refl
 lets_in_main (Some (Bumps l x)) = refl
 lets_in_main q = refl
+
+known_once : (sort : ℕ → locks.Sort) (k : ℕ) (at : OncePlace) → KnowsRights sort (Some ((once_profile at).purpose k)) → sort k ≡ locks.Once
+known_once sort k (Look (once_call.CallOnce forced) again at) h = h
+known_once sort k (Look (once_call.Wait forced) again at) h = h
+known_once sort k (Run forced at) h = h
 
 module _ (w : State) (l : ℕ) (of_mutex : is_mutex (kind_at w l) ≡ true) where
   rules : rules_in w l ≡ mutex
@@ -95,12 +106,22 @@ module _ (w : State) (l : ℕ) (kept : IsKept w) (of_mutex : is_mutex (kind_at w
     λ h. ap is_line ((kept.owing t l Main).1 (elim h [ inl i ↦ inl i | inr g ↦ inr (g.0, inl (inl g.1)) ])),
   )
 
+  -- nobody calls it as a `Once`
+  no_once : (t : ℕ) (p : Place) → place_at w t ≡ p → IsNoOnce l p
+  no_once t (Once k at) is = λ here.
+      let knows : KnowsRights (sort_at w) (call_state (Once k at) (λ j. locks.rights_of (lock_state w j) t)).purpose = subst (λ p. KnowsRights (sort_at w) (call_state p (λ j. locks.rights_of (lock_state w j) t)).purpose) is (kept.known t) in
+      let a : sort_at w k ≡ locks.Once = known_once (sort_at w) k at knows in
+      let b : sort_at w k ≡ locks.Mutex = ap (sort_at w) here ∙ ap (λ r. r.sort) (rules w l of_mutex) in cc
+  no_once t (Mutex k at) is = tt
+  no_once t (RwLock k a c) is = tt
+  no_once t Idle is = tt
+
   pub mutex_kept : IsMutexKept w l
   mutex_kept = record {
     coded = codes_by (owner_at w l) (is_parked (word_at w l)) (word_at w l) (kept.coded l ∙ ap (λ r. word_by r.sort r.limit (lock_state w l) (aside_in r.sort (word_at w l)) (parked_in r.sort (word_at w l))) (rules w l of_mutex));
     parked = λ t waits. elim (kept.parked t l waits) [
       | inl set ↦ subst (λ r. parked_in r.sort (word_at w l) ≡ true) (rules w l of_mutex) set
-      | inr sets ↦ absurd (let none = sets_nothing (place_at w sets.0) l in let some = sets.1 in cc)
+      | inr sets ↦ absurd (let none = sets_nothing (place_at w sets.0) l (no_once sets.0 (place_at w sets.0) refl) in let some = sets.1 in cc)
     ];
     owing = owing;
     nobody_forgotten = λ t waits free. looked_after (kept.nobody_forgotten.main t l waits (subst (λ r. IsOpenNow r (lock_state w l)) (sym (rules w l of_mutex)) (inl free)) (λ readers. absurd (unshared w l of_mutex readers)));

@@ -137,8 +137,8 @@ module _ (w : State) (t : ℕ) (steady : IsSteady w) (there : t < length w.place
   turned_one turn.TheVariants.Go can = put_one w (state_after_act w t (place_at w t) (act_of (place_at w t))) t t (next_place (place_at w t) (go_reply w t)) (gone_one (lock_of (place_at w t)) refl)
   turned_one turn.TheVariants.Spin can = spin_one (looking (place_at w t)) refl
   turned_one turn.TheVariants.Late can = late_one (late_key (place_at w t))
-  turned_one turn.TheVariants.Ok can = absurd (nothing_closes w t true can)
-  turned_one turn.TheVariants.Err can = absurd (nothing_closes w t false can)
+  turned_one turn.TheVariants.Ok can = absurd (nothing_closes w t true (steady.stands.calls t) can)
+  turned_one turn.TheVariants.Err can = absurd (nothing_closes w t false (steady.stands.calls t) can)
 
 pub one_thing : (w : State) (s : Step) → IsSteady w → ChangesOneThing w s.thread (after w s)
 one_thing w s steady = either (is_possible w s) refl

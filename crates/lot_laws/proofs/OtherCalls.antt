@@ -20,7 +20,7 @@ use Rattle.lot_acts.specs.Owners.{is_thread}
 use Rattle.lot_acts.specs.Profiles.{hand}
 use Rattle.lot_steps.specs.Steps.{lock_of, next_place, taker}
 use Rattle.lot_steps.specs.declared.places.Place.{Place}
-use Rattle.lot_steps.specs.declared.places.Place.TheVariants.{Idle, RwLock, Mutex}
+use Rattle.lot_steps.specs.declared.places.Place.TheVariants.{Idle, RwLock, Mutex, Once}
 use Rattle.lot_rwlock_fair.specs.declared.places.RwLockCallPlace.{RwLockCallPlace}
 use Rattle.lot_rwlock_fair.specs.declared.places.RwLockCallPlace.TheVariants.{Plain, Glance, HandOver, Bump, Handed}
 use Rattle.lot_rwlock_fair.specs.declared.handed.HandedAt.TheVariants as handed
@@ -147,6 +147,7 @@ module _ (w : State) (t : ℕ) (p2 : Place) where
 
 -- so it is taken there by the one in whose hand it is
 pub taken_by_hand : (w : State) (p : Place) (t l : ℕ) → FitsItsLock w p → hand_at p l ≡ hand t false → is_taken_by t (taken_at p l) ≡ true
+taken_by_hand w (Once k at) t l calls h = absurd calls
 taken_by_hand w Idle t l calls h = absurd (let none : hand_at Idle l ≡ None = refl in cc)
 taken_by_hand w (Mutex k at) t l calls h = by_place (Mutex k at) (is_taken (Mutex k at) t l tt h)
   where
@@ -161,6 +162,7 @@ taken_by_hand w (RwLock k a c) t l calls h = either (k == l) h
 -- who was handed the lock goes on as it was
 handed_goes : (w : State) (p : Place) (t l : ℕ) → FitsItsLock w p → hand_at p l ≡ hand t true → (r : ℕ → Rights) → call_state (next_place p (Woken note.HandOff)) r ≡ call_state p r
 handed_goes w Idle t l fits h r = refl
+handed_goes w (Once k at) t l fits h r = absurd fits
 handed_goes w (Mutex k at) t l fits h r = by_place (Mutex k at) (is_handed (Mutex k at) t l tt h)
   where
     by_place : (p : Place) → IsHandedAt p t l → call_state (next_place p (Woken note.HandOff)) r ≡ call_state p r

@@ -190,8 +190,8 @@ module _ (w : State) (t : ℕ) (shape : IsShaped w) (steady : IsSteady w) (there
   turned_owing turn.TheVariants.Go can behind l m = go_owes w (state_after_go w t) t steady behind (go_place w t there) l m
   turned_owing turn.TheVariants.Spin can behind l m = spun_owing (looking (place_at w t)) refl can behind l m
   turned_owing turn.TheVariants.Late can behind l m = late_owing (late_key (place_at w t)) refl can behind l m outcome.TheVariants.Step
-  turned_owing turn.TheVariants.Ok can behind l m = absurd (nothing_closes w t true can)
-  turned_owing turn.TheVariants.Err can behind l m = absurd (nothing_closes w t false can)
+  turned_owing turn.TheVariants.Ok can behind l m = absurd (nothing_closes w t true (steady.stands.calls t) can)
+  turned_owing turn.TheVariants.Err can behind l m = absurd (nothing_closes w t false (steady.stands.calls t) can)
 
 pub owes_since : (w : State) (s : Step) → IsShaped w → IsSteady w → AreCounted w → OwesSince w s.thread (step_outcome w s) (after w s)
 owes_since w s shape steady counted = record {

@@ -1,4 +1,4 @@
--- A thread takes those who are picked of the main queue of a reader-writer lock, or the writer aside: what the machine does is the case of the lock.
+-- A thread takes those who are picked of the main queue of a reader-writer lock, the writer aside, or all who wait for a `Once`: what the machine does is the case of the lock.
 use Rattle.std.proofs.Common.{ℕ, Bool, true, false, Option, Some, None, if◌then◌else◌, ◌==◌, ◌||◌, ◌≡◌, ◌+◌, ◌*◌, ◌≤◌, ◌<◌, List, [], ◌∷◌, length, map, drop, refl, sym, ◌∙◌, ap, subst, arith, length-set, get_or-set_same, get_or-set_other}
 use Rattle.std.proofs.lemmas.Bool.Decides.{nat_tests}
 use Rattle.lot_base.specs.declared.lock_picker.LockPicker.{LockPicker}
@@ -14,7 +14,8 @@ use Rattle.lot_steps.specs.declared.places.Place.TheVariants.{Idle}
 use Rattle.lot_acts.specs.declared.acts.Reply.TheVariants.{TakenBy}
 use Rattle.lot_acts.specs.declared.acts.Whom as whom
 use Rattle.lot_steps.specs.Steps.{next_place}
-use Rattle.abstract_locks.specs.Locks.{Rules, Sort, TakePicked, TakeAside, is_recursive, putting}
+use Rattle.abstract_locks.specs.Onces.{TakeAll}
+use Rattle.abstract_locks.specs.Locks.{OfOnce, Rules, Sort, TakePicked, TakeAside, is_recursive, putting}
 use Rattle.abstract_locks.specs.Locks as locks
 use Rattle.abstract_locks.specs.Picks.{queued_of}
 use Rattle.abstract_locks.specs.Sites.{Line, Main, Second, Case}
@@ -143,6 +144,27 @@ module _ (w : State) (t l : ℕ) (steady : IsSteady w) (own : IsOf l (place_at w
         places : place_at v ≡ putting (told_by (TakenBy t) picks (place_at w)) t p2
         places = put_places (state_after_take w t (2 * l) (whom.TheVariants.Picked start (is_recursive r.sort))) t p2 (past (length (places_told (TakenBy t) (threads_of picks) w.places)) (told_count (TakenBy t) (threads_of picks) w.places))
             ∙ ap (λ (f : ℕ → Place). putting f t p2) (told_places (TakenBy t) picks w.places)
+
+  -- all of the main queue
+  module _ (some_line : 2 * l < length w.queues) where
+    pub all_goes : ((u : ℕ) → member u (queue_at w (2 * l)) ≡ true → IsTakenFrom w t l Main (place_at w u))
+        → ((b : Bool) → (station p2).carries ≡ Some b → (b ≡ false) × ((u : ℕ) × (member u (queue_at w (2 * l)) ≡ true))) → ((u : ℕ) → member u (queue_at w (2 * l)) ≡ true → (station p2).carries ≡ Some false) → ActsNeeded r (acts t (Case (OfOnce TakeAll) ∷ [])) (lock_by w l r)
+        → doing_on p2 l ≡ (after_acts r (acts t (Case (OfOnce TakeAll) ∷ [])) (lock_by w l r)).doing t → Goes w (put (state_after_take w t (2 * l) whom.TheVariants.All) t p2) l (acts t (Case (OfOnce TakeAll) ∷ []))
+    all_goes sleeps some full needed own_is = take_goes w t l steady own there p2 of fits many Main (queue_at w (2 * l)) []
+        (record { counts = λ u. omega arith; sleeps = sleeps; lefts = tt; wants = wants_held w t l Main (queue_at w (2 * l)) (steady.stands.waits l Main) sleeps }) out free bare r rules none none2 v refl refl refl threads places
+        (get_or-set_same w.queues (2 * l) [] [] some_line) (λ key ne. get_or-set_other w.queues (2 * l) key [] [] ne) inside stands unheld some full
+        (Case (OfOnce TakeAll)) (tt, tt) ((λ h. h), tt) needed
+        refl refl refl (noted r (lock_by w l r) (site_by w t l steady own there r rules p2 of fits)) own_is
+      where
+        v : State
+        v = put (state_after_take w t (2 * l) whom.TheVariants.All) t p2
+
+        threads : length v.places ≡ length w.places
+        threads = length-set (places_told (TakenBy t) (threads_of (queue_at w (2 * l))) w.places) t p2 ∙ told_count (TakenBy t) (threads_of (queue_at w (2 * l))) w.places
+
+        places : place_at v ≡ putting (told_by (TakenBy t) (queue_at w (2 * l)) (place_at w)) t p2
+        places = put_places (state_after_take w t (2 * l) whom.TheVariants.All) t p2 (past (length (places_told (TakenBy t) (threads_of (queue_at w (2 * l))) w.places)) (told_count (TakenBy t) (threads_of (queue_at w (2 * l))) w.places))
+            ∙ ap (λ (f : ℕ → Place). putting f t p2) (told_places (TakenBy t) (queue_at w (2 * l)) w.places)
 
   -- the writer aside
   module _ (x : Waiter) (first : queue_at w (2 * l + 1) ≡ x ∷ []) (writes : x.want ≡ Exclusive) (some_line : 2 * l + 1 < length w.queues) where

@@ -6,7 +6,7 @@ use Rattle.lot_base.specs.Lines as Lines
 use Rattle.lot_acts.specs.declared.acts.Act.TheVariants.{Enter, Rest}
 use Rattle.lot_acts.specs.Profiles.{taken_from}
 use Rattle.lot_steps.specs.declared.places.Place.{Place}
-use Rattle.lot_steps.specs.declared.places.Place.TheVariants.{Idle, Mutex, RwLock}
+use Rattle.lot_steps.specs.declared.places.Place.TheVariants.{Idle, Mutex, RwLock, Once}
 use Rattle.lot_steps.specs.Steps.{act_of, lock_of, is_lock, calls, profile, line_owed}
 use Rattle.abstract_locks.specs.Locks.{Taken, IsSomePending, one_if_some, is_thread, standing}
 use Rattle.abstract_locks.specs.Locks as locks
@@ -103,6 +103,7 @@ module _ (w : State) (t : ℕ) (steady : IsSteady w) where
     where
       by_place : (p : Place) → place_at w t ≡ p → lock_of p ≡ Some l → RowPromises (sort_at w l) l (profile p) (act_of p)
       by_place Idle is own = absurd cc
+      by_place (Once k at) is own = absurd (subst (FitsItsLock w) is (steady.stands.calls t))
       by_place (Mutex k at) is own =
           let here : k ≡ l = cc in
           let admitted : FitsItsLock w (Mutex k at) = rw is at (steady.stands.calls t) in

@@ -4,8 +4,9 @@ use Rattle.lot_calls.specs.declared.calls.Call.{Call}
 use Rattle.lot_calls.specs.declared.calls.Call as call
 use Rattle.lot_acts.specs.declared.acts.Reply.{Reply}
 use Rattle.lot_acts.specs.declared.acts.Reply.TheVariants.{Late}
+use Rattle.lot_laws.proofs.OnceOwing.{once_befallen, once_never_late}
 use Rattle.lot_steps.specs.declared.places.Place.{Place}
-use Rattle.lot_steps.specs.declared.places.Place.TheVariants.{Idle, Mutex, RwLock}
+use Rattle.lot_steps.specs.declared.places.Place.TheVariants.{Idle, Mutex, RwLock, Once}
 use Rattle.lot_acts.specs.Acts.{outcome_of}
 use Rattle.lot_calls.specs.declared.kinds.Kind.{Kind}
 use Rattle.lot_calls.specs.Kinds.{is_fair}
@@ -47,6 +48,7 @@ pub owes_befallen : (p : Place) (r : Reply) → Befalls r → (k : ℕ) → line
 owes_befallen Idle r b k = refl
 owes_befallen (Mutex l at) r b k = mutex_befallen l at r b k
 owes_befallen (RwLock l a c) r b k = rwlock_befallen l a r k c b
+owes_befallen (Once l at) r b k = once_befallen l at r b k
 
 -- at a lock by its number and rules
 abbrev OwesAt : State → ℕ → locks.Sort → ℕ → Place → Type 0
@@ -85,6 +87,7 @@ owes_next w t l steady own = by_place (place_at w t) refl own
 
     by_place : (p : Place) → place_at w t ≡ p → lock_of p ≡ Some l → OwesAt w t (sort_at w l) l p
     by_place Idle is own = absurd cc
+    by_place (Once k at) is own = absurd (subst (FitsItsLock w) is (steady.stands.calls t))
     by_place (Mutex k at) is own =
         let here : k ≡ l = cc in
         let admitted : FitsItsLock w (Mutex k at) = rw is at (steady.stands.calls t) in
@@ -99,8 +102,10 @@ owes_next w t l steady own = by_place (place_at w t) refl own
 pub first_owes : (k : Kind) (c : Call) → (profile (first_place k c)).owes ≡ None
 first_owes k (call.TheVariants.Mutex m c) = mutex_first_owes (is_fair k) c
 first_owes k (call.TheVariants.RwLock m c) = rwlock_first_owes (admission_of k) c
+first_owes k (call.TheVariants.Once m c) = refl
 
 pub late_next : (p : Place) (m : Line) → (profile p).late_line ≡ Some m → IsLateNext (next_place p Late) m
 late_next Idle m h = absurd cc
 late_next (Mutex l at) m h = mutex_late l at m h
 late_next (RwLock l a at) m h = rwlock_late l a at m h
+late_next (Once l at) m h = absurd (once_never_late at m h)

@@ -23,21 +23,23 @@ use Rattle.lot_acts.specs.declared.acts.Reply.TheVariants.{Late}
 use Rattle.lot_acts.specs.declared.acts.Next.{Next}
 use Rattle.lot_acts.specs.declared.acts.Next.TheVariants as next
 use Rattle.lot_mutex.specs.declared.places.MutexPlace.{MutexPlace}
+use Rattle.lot_once.specs.declared.places.OncePlace.{OncePlace}
+use Rattle.lot_once.specs.OnceSteps.{once_act, once_next}
 use Rattle.lot_steps.specs.declared.places.Place.{Place}
-use Rattle.lot_steps.specs.declared.places.Place.TheVariants.{Idle, Mutex, RwLock}
+use Rattle.lot_steps.specs.declared.places.Place.TheVariants.{Idle, Mutex, RwLock, Once}
 use Rattle.lot_acts.specs.declared.acts.Wakes.{Wakes}
 use Rattle.lot_acts.specs.declared.acts.Wakes as wakes
 use Rattle.lot_acts.specs.declared.acts.Whom.{Whom}
 use Rattle.lot_acts.specs.declared.acts.Whom as whom
 use Rattle.lot_acts.specs.Acts.{takes_effect, outcome_of, holds}
 use Rattle.lot_mutex.specs.MutexSteps.{mutex_act, mutex_first, mutex_next}
-use Rattle.lot_steps.specs.Steps.{act_of, lock_of, next_place, next_act, mutex_goes, mutex_does, late_key, first_place, looking, key_in, profile, rwlock_does, rwlock_goes}
+use Rattle.lot_steps.specs.Steps.{act_of, lock_of, next_place, next_act, mutex_goes, mutex_does, late_key, first_place, looking, key_in, profile, rwlock_does, rwlock_goes, once_does, once_goes}
 use Rattle.lot_base.specs.declared.ops.Op.{Op}
 use Rattle.lot_machine.specs.Machine.{state_after_hand_over_by, State, state_after_take, place_at, queue_at, section_at, can_do, can_go, is_free_under, word_at, state_with_sections, queues_without_first, state_after_taking, state_after_wake, state_after_act, state_after_go, state_after_late_on}
 use Rattle.lot_machine.specs.Fits.{IsShaped, PlaceFits}
 use Rattle.abstract_locks.specs.Sites.{Main, Line, Second}
 use Rattle.lot_laws.specs.Stations.{station, station_at, Station}
-use Rattle.lot_laws.specs.SitesOf.{IsSteady, stood_in, key_of}
+use Rattle.lot_laws.specs.SitesOf.{FitsItsLock, IsSteady, stood_in, key_of}
 use Rattle.lot_laws.specs.Refinement.{lock_state, locks_of, call_state, sleeps, runs_closure, keys_entered, call_on}
 use Rattle.lot_laws.proofs.Glue.{calls_none}
 use Rattle.lot_laws.proofs.LineActs.{IsOfLine, IsLineAct, line_act, holds_line, key_there, late_line, calls_there}
@@ -177,6 +179,11 @@ told_next l (next.End answer) = ((λ h. cc), λ h. cc)
 pub told_gone : (p : Place) (r : Reply) → (outcome_of (next_act p r) ≡ outcome.TheVariants.Sleep) ↔ (sleeps (act_of (next_place p r)) ≡ true)
 told_gone Idle r = ((λ h. cc), λ h. cc)
 told_gone (Mutex l at) r = told_next l (mutex_next at r)
+told_gone (Once l at) r = by_next (once_next at r)
+  where
+    by_next : (n : Next OncePlace) → (outcome_of (once_does l n) ≡ outcome.TheVariants.Sleep) ↔ (sleeps (act_of (once_goes l n)) ≡ true)
+    by_next (next.At q) = told_act (once_act l q)
+    by_next (next.End answer) = ((λ h. cc), λ h. cc)
 told_gone (RwLock l a c) r = by_next (call_next a c r)
   where
     by_next : (n : Next RwLockCallPlace) → (outcome_of (rwlock_does l a n) ≡ outcome.TheVariants.Sleep) ↔ (sleeps (act_of (rwlock_goes l a n)) ≡ true)
@@ -203,6 +210,7 @@ begins_awake k (call.TheVariants.RwLock l c) = by_call c
     by_call (rwlock_call.ReleaseFair access.Upgradable) = refl
     by_call (rwlock_call.ReleaseFair access.Exclusive) = refl
     by_call (rwlock_call.Bump x) = refl
+begins_awake k (call.TheVariants.Once l c) = refl
 begins_awake k (call.TheVariants.Mutex l c) = either (is_fair k) c
   where
     either : (fair : Bool) (c : MutexCall) → sleeps (act_of (Mutex l (mutex_first fair c))) ≡ false
@@ -224,8 +232,8 @@ nobody_turns w t (turn.TheVariants.Begin c) idle = elim (cases_lt t (length w.pl
 nobody_turns w t turn.TheVariants.Go idle = inr (λ may. may.called (ap (λ p. (call_state p (rights w t)).purpose) idle))
 nobody_turns w t turn.TheVariants.Spin idle = inr (λ may. let e : false ≡ true = sym (ap (λ p. is_some (looking p)) idle) ∙ may in cc)
 nobody_turns w t turn.TheVariants.Late idle = inr (λ may. let e : false ≡ true = sym (ap (λ p. sleeps (act_of p)) idle) ∙ may.asleep in cc)
-nobody_turns w t turn.TheVariants.Ok idle = inr (λ may. no_closure w t may)
-nobody_turns w t turn.TheVariants.Err idle = inr (λ may. no_closure w t may)
+nobody_turns w t turn.TheVariants.Ok idle = inr (λ may. no_closure w t (subst (FitsItsLock w) (sym idle) tt) may)
+nobody_turns w t turn.TheVariants.Err idle = inr (λ may. no_closure w t (subst (FitsItsLock w) (sym idle) tt) may)
 
 -- whoever takes a turn is there
 pub turner_there : (w : State) (t : ℕ) (x : Turn) → MayTurn (locks_of w) t x → t < length w.places

@@ -57,7 +57,7 @@ use Rattle.lot_rwlock_fair.specs.FairSteps.{call_act, call_next, call_owners, ca
 use Rattle.lot_rwlock_fair.proofs.FairOpenings.{calls_open}
 use Rattle.lot_rwlock.proofs.RwLockFit.{knows_all}
 use Rattle.lot_steps.specs.declared.places.Place.{Place}
-use Rattle.lot_steps.specs.declared.places.Place.TheVariants.{Idle, Mutex, RwLock}
+use Rattle.lot_steps.specs.declared.places.Place.TheVariants.{Idle, Mutex, RwLock, Once}
 use Rattle.lot_mutex.specs.declared.places.MutexPlace.{MutexPlace}
 use Rattle.lot_steps.specs.Steps.{next_place, profile, calls, rwlock_goes}
 use Rattle.abstract_locks.specs.Locks.{Rules, Sort, Normal as NormalSort, Recursive, Semaphore, count, keep_from, one_if_some, standing}
@@ -295,7 +295,7 @@ module _ (w : State) (t l : ℕ) (a : Admission) (c : RwLockCallPlace) (steady :
 
   -- what its laws conclude
   abbrev Followed : Option ℕ → Reply → Type 0
-  Followed whom told = IsFollowed w t l steady there own (rules_in w l) refl admits.0 (call_move a c) same_row whom told (next_place (place_at w t) told)
+  Followed whom told = IsFollowed w t l steady there own (rules_in w l) refl (call_move a c) same_row whom told (next_place (place_at w t) told)
 
   pub followed_by : (whom : Option ℕ) (told : Reply) → laws.AllNeeded (rules_in w l) (call_deeds a c whom told) here t → (laws.after_all (rules_in w l) (call_deeds a c whom told) here t).doing t ≡ call_doing_next (call_next a c told) → CallMayBeTold a c told → Followed whom told
   followed_by whom told needed does may = record {
@@ -318,11 +318,12 @@ module _ (w : State) (t l : ℕ) (a : Admission) (c : RwLockCallPlace) (steady :
       let some : has_readers (rules_in w l).sort ≡ true = admits.0 in
       let both : true ≡ false = sym some ∙ ap (λ j. has_readers (rules_in w j).sort) (sym same_lock) ∙ none in cc
 
-  asleep : (u : ℕ) → calls (place_at w u) l ≡ true → IsSleeper w t l steady there own (rules_in w l) refl admits.0 (call_move a c) same_row u
+  asleep : (u : ℕ) → calls (place_at w u) l ≡ true → IsSleeper w t l steady there own (rules_in w l) refl (call_move a c) same_row u
   asleep u h = by_place (place_at w u) refl h
     where
-      by_place : (q : Place) → place_at w u ≡ q → calls q l ≡ true → IsSleeper w t l steady there own (rules_in w l) refl admits.0 (call_move a c) same_row u
+      by_place : (q : Place) → place_at w u ≡ q → calls q l ≡ true → IsSleeper w t l steady there own (rules_in w l) refl (call_move a c) same_row u
       by_place Idle e g = absurd cc
+      by_place (Once k at) e g = absurd (subst (FitsItsLock w) e (steady.stands.calls u))
       by_place (Mutex k m) e g = absurd (of_no_mutex u k m e (eqb-true k l g))
       by_place (RwLock k b q) e g = record {
         move = call_move b q;
@@ -353,7 +354,7 @@ module _ (w : State) (t l : ℕ) (a : Admission) (c : RwLockCallPlace) (steady :
   calm_by ds e h = subst (λ (x : List Deed). IsCalm (case_of ((call_profile a c).carries) x)) (sym e) (calm_case ((call_profile a c).carries) ds h)
 
   many : TakesOne w l → ⊥
-  many one = one (knows_all (rules_in w l) admits.0 access.Upgradable)
+  many one = let none : has_readers (rules_in w l).sort ≡ false = ap has_readers one in let some : has_readers (rules_in w l).sort ≡ true = admits.0 in cc
 
   section_there : (m : Line) → key_of l m < length w.sections
   section_there Main = main_key_there w l shape lt
@@ -369,13 +370,13 @@ module _ (w : State) (t l : ℕ) (a : Admission) (c : RwLockCallPlace) (steady :
   on_word : (op : Op) → call_act l a c ≡ act.Word l op → StaysPut (call_move a c) → GoesFrom (place_at w t) (act.Word l op)
   on_word op e g = record {
     whom = None;
-    goes = stays w t l steady there own (rules_in w l) refl admits.0 (call_move a c) same_row (RwLock l a c) (next_place (place_at w t) (Value (word_at w l))) op lt g on.0 on.1 on.2;
+    goes = stays w t l steady there own (rules_in w l) refl (call_move a c) same_row admits.0 (RwLock l a c) (next_place (place_at w t) (Value (word_at w l))) op lt g on.0 on.1 on.2;
     tells = subst (λ v. CallTells (rules_in w l) a here t l c None (Value v)) (sym word_is) (fair_steps_tell (rules_in w l) a here t l c op at_now nowhere e);
     others = calm_by (call_deeds a c None (Value (word_at w l))) refl (word_calm (call_deeds a c None (Value (word_at w l))) (g.deeds (word_at w l)));
   }
     where
       nowhere : standing t here.lock ≡ 0
-      nowhere = nowhere_here w t l steady there own (rules_in w l) refl admits.0 (call_move a c) same_row g.out g.free
+      nowhere = nowhere_here w t l steady there own (rules_in w l) refl (call_move a c) same_row g.out g.free
 
       limits : HasRoom (length w.places) (rules_in w l) × HasLimit (rules_in w l) here.lock
       limits = steady.sites.limits l admits.0
@@ -405,8 +406,8 @@ module _ (w : State) (t l : ℕ) (a : Admission) (c : RwLockCallPlace) (steady :
   into : (m : Line) (keys : Keys) → keys ≡ One (key_of l m) → are_free w keys ≡ true → GoesIn (call_move a c) (call_hears a c) m Done → GoesFrom (place_at w t) (act.Enter keys)
   into m keys e free g = subst (λ k. GoesFrom (place_at w t) (act.Enter k)) (sym e) (record {
     whom = None;
-    goes = goes_in w t l steady there own (rules_in w l) refl admits.0 (call_move a c) same_row (call_hears a c) m Done (next_place (place_at w t) Done) (section_there m) is_free_now g (λ h. followed None Done h (call_told_done a (rules_in w l) here t c None h));
-    tells = tells_by None Done tt (entered_hears w t l steady there own (rules_in w l) refl admits.0 (call_move a c) same_row (call_hears a c) m Done is_free_now g);
+    goes = goes_in w t l steady there own (rules_in w l) refl (call_move a c) same_row (call_hears a c) m Done (next_place (place_at w t) Done) (section_there m) is_free_now g (λ h. followed None Done h (call_told_done a (rules_in w l) here t c None h));
+    tells = tells_by None Done tt (entered_hears w t l steady there own (rules_in w l) refl (call_move a c) same_row (call_hears a c) m Done is_free_now g);
     others = calm_by (In m ∷ []) g.deeds tt;
   })
     where
@@ -416,8 +417,8 @@ module _ (w : State) (t l : ℕ) (a : Admission) (c : RwLockCallPlace) (steady :
   out_of : (m : Line) (keys : Keys) (wakes : Wakes) → keys ≡ One (key_of l m) → GoesOut (call_move a c) (call_hears a c) m wakes → GoesFrom (place_at w t) (act.Leave keys wakes)
   out_of m keys wakes e g = subst (λ k. GoesFrom (place_at w t) (act.Leave k wakes)) (sym e) (record {
     whom = None;
-    goes = goes_out w t l steady there own (rules_in w l) refl admits.0 (call_move a c) same_row (call_hears a c) m wakes (next_place (place_at w t) Done) (section_there m) g (λ h. followed None Done h (call_told_done a (rules_in w l) here t c None h)) (wakes_one w t l steady there own (rules_in w l) refl admits.0 (call_move a c) same_row asleep g.any g.carries);
-    tells = tells_by None Done tt (left_hears w t l steady there own (rules_in w l) refl admits.0 (call_move a c) same_row (call_hears a c) m wakes g);
+    goes = goes_out w t l steady there own (rules_in w l) refl (call_move a c) same_row (call_hears a c) m wakes (next_place (place_at w t) Done) (section_there m) g (λ h. followed None Done h (call_told_done a (rules_in w l) here t c None h)) (wakes_one w t l steady there own (rules_in w l) refl (call_move a c) same_row asleep g.any g.carries);
+    tells = tells_by None Done tt (left_hears w t l steady there own (rules_in w l) refl (call_move a c) same_row (call_hears a c) m wakes g);
     others = subst (λ x. WakesOwn ((call_profile a c).carries) (act.Leave (One (key_of l m)) x) (case_of ((call_profile a c).carries) (call_deeds a c None Done))) (sym g.notes) (wakes_any ((call_profile a c).carries) g.any g.carries (call_deeds a c None Done) g.deeds);
   })
     where
@@ -428,8 +429,8 @@ module _ (w : State) (t l : ℕ) (a : Admission) (c : RwLockCallPlace) (steady :
   parked : (m : Line) (k key : ℕ) (check : Check) (want : Want) → k ≡ l → key ≡ key_of l m → Parks (call_move a c) (call_hears a c) m check want → GoesFrom (place_at w t) (act.Park k key check want)
   parked m k key check x ke e g = subst (λ j. GoesFrom (place_at w t) (act.Park j key check x)) (sym ke) (subst (λ j. GoesFrom (place_at w t) (act.Park l j check x)) (sym e) (record {
     whom = None;
-    goes = parks_or_turns w t l steady there own (rules_in w l) refl admits.0 (call_move a c) same_row (call_hears a c) m check x (line_there m) g (λ b h. followed None (Parked b) h (call_told_other a c (Parked b) tt));
-    tells = tells_by None (Parked (holds check (word_at w l))) tt (parked_hears w t l steady there own (rules_in w l) refl admits.0 (call_move a c) same_row (call_hears a c) m check x g (holds check (word_at w l)) refl);
+    goes = parks_or_turns w t l steady there own (rules_in w l) refl (call_move a c) same_row (call_hears a c) m check x (line_there m) g (λ b h. followed None (Parked b) h (call_told_other a c (Parked b) tt));
+    tells = tells_by None (Parked (holds check (word_at w l))) tt (parked_hears w t l steady there own (rules_in w l) refl (call_move a c) same_row (call_hears a c) m check x g (holds check (word_at w l)) refl);
     others = parks_calm (holds check (word_at w l));
   }))
     where
@@ -443,6 +444,7 @@ module _ (w : State) (t l : ℕ) (a : Admission) (c : RwLockCallPlace) (steady :
     where
       by_place : (q : Place) → place_at w u ≡ q → hand_at q l ≡ hand t true → IsWoken w t l true HandOff q
       by_place Idle e h = absurd cc
+      by_place (Once k at) e h = absurd (subst (FitsItsLock w) e (steady.stands.calls u))
       by_place (Mutex k m) e h = either (k == l) refl h
         where
           either : (b : Bool) → (k == l) ≡ b → (if b then station (Mutex k m) else nowhere).hand ≡ hand t true → IsWoken w t l true HandOff (Mutex k m)
@@ -519,17 +521,17 @@ module _ (w : State) (t l : ℕ) (a : Admission) (c : RwLockCallPlace) (steady :
   left : (m : Line) (key : ℕ) → key ≡ key_of l m → LeavesLine (call_move a c) (call_hears a c) m → GoesFrom (place_at w t) (act.Remove key)
   left m key e g = subst (λ j. GoesFrom (place_at w t) (act.Remove j)) (sym e) (record {
     whom = None;
-    goes = leaves_line w t l steady there own (rules_in w l) refl admits.0 (call_move a c) same_row asleep (call_hears a c) m g (λ b h. followed None (Removed b) h (call_told_other a c (Removed b) tt));
-    tells = tells_by None (reply_to w t (act.Remove (key_of l m))) tt (removed_hears w t l steady there own (rules_in w l) refl admits.0 (call_move a c) same_row asleep (call_hears a c) m g);
+    goes = leaves_line w t l steady there own (rules_in w l) refl (call_move a c) same_row asleep (call_hears a c) m g (λ b h. followed None (Removed b) h (call_told_other a c (Removed b) tt));
+    tells = tells_by None (reply_to w t (act.Remove (key_of l m))) tt (removed_hears w t l steady there own (rules_in w l) refl (call_move a c) same_row asleep (call_hears a c) m g);
     others = calm_by (Case locks.Late ∷ []) (g.deeds _) tt;
   })
 
   picked : (key : ℕ) (start : Option Want) (b : Bool) → key ≡ key_of l Main → b ≡ a.recursive → Picks (call_move a c) (call_hears a c) start → GoesFrom (place_at w t) (act.Take key (whom.TheVariants.Picked start b))
   picked key start b e same_rule g = subst (λ j. GoesFrom (place_at w t) (act.Take j (whom.TheVariants.Picked start b))) (sym e) (subst (λ c. GoesFrom (place_at w t) (act.Take (key_of l Main) (whom.TheVariants.Picked start c))) (admits.1 ∙ sym same_rule) (record {
     whom = None;
-    goes = takes_chosen w t l steady there own (rules_in w l) refl admits.0 (call_move a c) same_row asleep (call_hears a c) many (line_there Main) start g follows;
-    tells = tells_by None _ tt (picked_hears w t l steady there own (rules_in w l) refl admits.0 (call_move a c) same_row asleep (call_hears a c) many (line_there Main) start g follows);
-    others = calm_by (Case (locks.TakePicked start) ∷ []) (picked_deeds w t l steady there own (rules_in w l) refl admits.0 (call_move a c) same_row asleep (call_hears a c) many (line_there Main) start g follows) tt;
+    goes = takes_chosen w t l steady there own (rules_in w l) refl (call_move a c) same_row asleep (call_hears a c) many (line_there Main) start g follows;
+    tells = tells_by None _ tt (picked_hears w t l steady there own (rules_in w l) refl (call_move a c) same_row asleep (call_hears a c) many (line_there Main) start g follows);
+    others = calm_by (Case (locks.TakePicked start) ∷ []) (picked_deeds w t l steady there own (rules_in w l) refl (call_move a c) same_row asleep (call_hears a c) many (line_there Main) start g follows) tt;
   }))
     where
       follows : (n : ℕ) (y : Option Want) (none_left : Bool) → call_hears a c (rules_in w l) here t None (Picked n y none_left) → Followed None (Picked n y none_left)
@@ -538,7 +540,7 @@ module _ (w : State) (t l : ℕ) (a : Admission) (c : RwLockCallPlace) (steady :
   took : (key : ℕ) → key ≡ key_of l Second → TakesAside (call_move a c) (call_hears a c) → GoesFrom (place_at w t) (act.Take key whom.TheVariants.First)
   took key e g = subst (λ j. GoesFrom (place_at w t) (act.Take j whom.TheVariants.First)) (sym e) (record {
     whom = here.lock.aside;
-    goes = takes_whom_aside w t l steady there own (rules_in w l) refl admits.0 (call_move a c) same_row asleep (call_hears a c) many (line_there Second) g (λ any none_left h. followed here.lock.aside (Took any none_left) h (call_told_other a c (Took any none_left) tt));
+    goes = takes_whom_aside w t l steady there own (rules_in w l) refl (call_move a c) same_row asleep (call_hears a c) many (line_there Second) g (λ any none_left h. followed here.lock.aside (Took any none_left) h (call_told_other a c (Took any none_left) tt));
     tells = tells_by here.lock.aside (reply_to w t (act.Take (key_of l Second) whom.TheVariants.First)) tt (g.may (rules_in w l) here t _ _);
     others = calm_by (takes_aside here.lock.aside ∷ []) (g.deeds here.lock.aside _ _) (aside_calm here.lock.aside);
   })
@@ -569,7 +571,7 @@ module _ (w : State) (t l : ℕ) (a : Admission) (c : RwLockCallPlace) (steady :
   -- ---------------------------------------------------------------- its time is up
 
   pub rwlock_goes_late : (m : Line) → call_late_line c ≡ Some m → is_free w (key_of l m) ≡ true → Goes w (state_after_late_under w t (key_of l m)) l (acts t (call_deeds a c None Late))
-  rwlock_goes_late m e free = goes_in w t l steady there own (rules_in w l) refl admits.0 (call_move a c) same_row (call_hears a c) m Late (next_place (place_at w t) Late) (section_there m)
+  rwlock_goes_late m e free = goes_in w t l steady there own (rules_in w l) refl (call_move a c) same_row (call_hears a c) m Late (next_place (place_at w t) Late) (section_there m)
       (none_is (section_at w (key_of l m)) free) (fair_late_moves a c m e) (λ h. followed None Late h (call_told_late a c m e))
 
 -- ---------------------------------------------------------------- a call begins

@@ -1,11 +1,12 @@
 -- What its lock's being a site says of the word of a mutex, and of who waits for it.
-use Rattle.std.proofs.Common.{ℕ, Bool, true, false, Option, if◌then◌else◌, ◌==◌, ◌≡◌, ◌≢◌, ◌+◌, ◌*◌, ◌≤◌, List, [], ◌∷◌, inl, inr, refl, sym, ◌∙◌, subst, arith, None}
+use Rattle.std.proofs.Common.{ℕ, Bool, true, false, Option, if◌then◌else◌, ◌==◌, ◌≡◌, ◌≢◌, ◌+◌, ◌*◌, ◌≤◌, List, [], ◌∷◌, inl, inr, refl, sym, ◌∙◌, ap, subst, arith, None}
 use Rattle.std.proofs.lemmas.Bool.Decides.{nat_tests}
 use Rattle.lot_base.specs.declared.wants.Waiter.{Waiter}
 use Rattle.lot_base.specs.Lines as Lines
 use Rattle.lot_mutex.specs.MutexSteps.{is_parked}
+use Rattle.lot_once.specs.OnceProfiles.{once_profile}
 use Rattle.lot_steps.specs.declared.places.Place.{Place}
-use Rattle.lot_steps.specs.declared.places.Place.TheVariants.{Idle, Mutex, RwLock}
+use Rattle.lot_steps.specs.declared.places.Place.TheVariants.{Idle, Mutex, RwLock, Once}
 use Rattle.abstract_locks.specs.Locks.{Queued, times, one_if_some}
 use Rattle.abstract_locks.specs.Locks as locks
 use Rattle.abstract_locks.specs.Sites.{idle, Line, Main, Second, Claim}
@@ -16,7 +17,8 @@ use Rattle.lot_laws.specs.Promises.{WaitsFor}
 use Rattle.lot_laws.specs.MutexPromises.{IsMutexWord}
 use Rattle.lot_laws.specs.MutexDeeds.{mutex_doing}
 use Rattle.lot_laws.specs.Stations.{doing_on}
-use Rattle.lot_laws.specs.SitesOf.{IsSteady, rules_in}
+use Rattle.lot_laws.specs.SitesOf.{FitsItsLock, IsSteady, rules_in}
+use Rattle.lot_laws.proofs.Glue.{differ}
 use Rattle.lot_laws.proofs.MutexTable.{mutex, queued_times}
 use Rattle.lot_laws.proofs.SitesKept.{lock_by}
 use Rattle.lot_base.specs.declared.wants.Want.{Want}
@@ -72,19 +74,30 @@ call_unset a (places.HandOver x b (handing.Leave any given)) = refl
 call_unset a (places.HandOver x b to) = refl
 call_unset a (places.Handed x how b to) = refl
 
--- no call that is built brings waiters
-pub sets_nothing : (p : Place) (l : ℕ) → (doing_on p l).sets ≡ false
-sets_nothing Idle l = refl
-sets_nothing (Mutex k at) l = either (k == l)
+-- no call but one of a `Once`, whose run has ended, has cleared the bit beside waiters
+abbrev pub IsNoOnce : ℕ → Place → Type 0
+IsNoOnce l (Once k at) = k ≢ l
+IsNoOnce l p = Unit {0}
+
+pub sets_nothing : (p : Place) (l : ℕ) → IsNoOnce l p → (doing_on p l).sets ≡ false
+sets_nothing Idle l other = refl
+sets_nothing (Once k at) l other = ap (λ b. (if b then (once_profile at).doing else idle).sets) (differ k l other)
+sets_nothing (Mutex k at) l other = either (k == l)
   where
     either : (b : Bool) → (if b then mutex_doing at else idle).sets ≡ false
     either true = refl
     either false = refl
-sets_nothing (RwLock k a c) l = either (k == l)
+sets_nothing (RwLock k a c) l other = either (k == l)
   where
     either : (b : Bool) → (if b then (call_profile a c).doing else idle).sets ≡ false
     either true = call_unset a c
     either false = refl
+
+no_once : (w : State) (p : Place) (l : ℕ) → FitsItsLock w p → IsNoOnce l p
+no_once w (Once k at) l fits = absurd fits
+no_once w (Mutex k at) l fits = tt
+no_once w (RwLock k a c) l fits = tt
+no_once w Idle l fits = tt
 
 pub first_out : (t : ℕ) (q : List Waiter) → Lines.times t q ≡ 0 → locks.is_thread t (Lines.first_of q) ≡ 0
 first_out t [] h = refl
@@ -95,7 +108,7 @@ module _ (w : State) (s : IsSteady w) (t l : ℕ) (rules : rules_in w l ≡ mute
   parked : WaitsFor w t l → is_parked (word_at w l) ≡ true
   parked h = elim ((s.sites.site l).parked (not_empty t (lock_state w l).queue h)) [
     | inl g ↦ subst (λ r. parked_in r.sort (word_at w l) ≡ true) rules g
-    | inr g ↦ absurd (let a : (doing_on (place_at w g.0) l).sets ≡ false = sets_nothing (place_at w g.0) l in let b : (doing_on (place_at w g.0) l).sets ≡ true = g.1 in cc)
+    | inr g ↦ absurd (let a : (doing_on (place_at w g.0) l).sets ≡ false = sets_nothing (place_at w g.0) l (no_once w (place_at w g.0) l (s.stands.calls g.0)) in let b : (doing_on (place_at w g.0) l).sets ≡ true = g.1 in cc)
   ]
 
   pub parked_at : 1 ≤ Lines.times t (queue_at w (2 * l)) → is_parked (word_at w l) ≡ true

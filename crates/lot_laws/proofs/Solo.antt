@@ -31,8 +31,9 @@ use Rattle.lot_mutex.specs.declared.unlock.UnlockAt.{UnlockAt}
 use Rattle.lot_mutex.specs.declared.unlock.UnlockAt.TheVariants as unlock
 use Rattle.lot_mutex.specs.declared.hand_off.HandOffAt.{HandOffAt}
 use Rattle.lot_mutex.specs.declared.hand_off.HandOffAt.TheVariants as hand_off
+use Rattle.lot_once.specs.OnceSteps.{once_first}
 use Rattle.lot_steps.specs.declared.places.Place.{Place}
-use Rattle.lot_steps.specs.declared.places.Place.TheVariants.{Idle, Mutex, RwLock}
+use Rattle.lot_steps.specs.declared.places.Place.TheVariants.{Idle, Mutex, RwLock, Once}
 use Rattle.lot_acts.specs.Acts.{outcome_of}
 use Rattle.lot_mutex.specs.MutexSteps.{mutex_first, is_locked, is_parked, entered, looked, hand_off_word, in_unlock}
 use Rattle.lot_calls.specs.Kinds.{is_fair}
@@ -443,6 +444,7 @@ module _ (w : State) (t : ℕ) (shape : IsShaped w) (steady : IsSteady w) (count
 
   place_rests : (p : Place) → place_at w t ≡ p → PlaceFits (length w.locks) p → p ≢ Idle → act_of p ≢ act.TheVariants.Sleep → Leads 18 w t (λ v x. Rests x)
   place_rests Idle is fits busy up = absurd (busy refl)
+  place_rests (Once l at) is fits busy up = absurd (subst (FitsItsLock w) is (steady.stands.calls t))
   place_rests (RwLock l a c) is fits busy up =
       let h = admitted l a c is in
       call_rests t l a c (word_at w l) w (λ m. queue_at w (key_of l m)) h.0 (word_small w l steady h.0.0) h.1 up (steps_alone l a c h.0.0 is fits)
@@ -575,6 +577,7 @@ stands_there (x ∷ xs) (suc t) busy = let ih : t < length xs = stands_there xs 
 first_busy : (k : Kind) (c : Call) (p : Place) → p ≡ first_place k c → p ≢ Idle
 first_busy k (call.TheVariants.Mutex l c) p is idle = let e : Mutex l (mutex_first (is_fair k) c) ≡ Idle = sym is ∙ idle in cc
 first_busy k (call.TheVariants.RwLock l c) p is idle = let e : RwLock l (admission_of k) (call_first c) ≡ Idle = sym is ∙ idle in cc
+first_busy k (call.TheVariants.Once l c) p is idle = let e : Once l (once_first c) ≡ Idle = sym is ∙ idle in cc
 
 module _ (w : State) (t : ℕ) (shape : IsShaped w) (steady : IsSteady w) (counted : AreCounted w) where
   pub rests_alone : IsUnderWay w t → HasItsWay w t → Rests (solo 64 w t outcome.TheVariants.NotNow).outcome
@@ -582,5 +585,6 @@ module _ (w : State) (t : ℕ) (shape : IsShaped w) (steady : IsSteady w) (count
 
   pub ends_alone : (c : Call) → place_at w t ≡ first_place (kind_at w (lock_in c)) c → HasItsWay w t
       → EndsAlone w t (purpose_at (locks_of w) c) (solo 64 w t outcome.TheVariants.NotNow).outcome (solo 64 w t outcome.TheVariants.NotNow).state
+  ends_alone (call.TheVariants.Once l c) is way = absurd (subst (FitsItsLock w) is (steady.stands.calls t))
   ends_alone (call.TheVariants.Mutex l c) is way = mutex_ends w t shape steady counted (stands_there w.places t (first_busy (kind_at w l) (call.TheVariants.Mutex l c) (place_at w t) is)) way l c is 64 outcome.TheVariants.NotNow (omega arith)
   ends_alone (call.TheVariants.RwLock l c) is way = rwlock_ends w t shape steady counted (stands_there w.places t (first_busy (kind_at w l) (call.TheVariants.RwLock l c) (place_at w t) is)) way l c is

@@ -26,13 +26,13 @@ mutex_rules k h = absurd cc
 
 -- a thread has one waiter of a mutex in hand
 pub takes_one : (w : State) (l : ℕ) → rules_in w l ≡ mutex → TakesOne w l
-takes_one w l rules k = let none : Knows mutex.sort Upgradable = subst (λ (r : Rules). Knows r.sort Upgradable) rules k in none
+takes_one w l rules = ap (λ (r : Rules). r.sort) rules
 
 -- locks of the same kinds take as many
 pub hands_in : (w v : State) (p : ℕ → Place) → ((k : ℕ) → kind_at v k ≡ kind_at w k) → Hands (TakesOne w) p → Hands (TakesOne v) p
 hands_in w v p kinds h = record {
   carried = h.carried;
-  alone = λ t l u x b c o. h.alone t l u x b c (λ k. o (subst (λ y. Knows (rules_of y).sort Upgradable) (sym (kinds l)) k));
+  alone = λ t l u x b c o. h.alone t l u x b c (sym (ap (λ y. (rules_of y).sort) (kinds l)) ∙ o);
   taken = h.taken;
 }
 

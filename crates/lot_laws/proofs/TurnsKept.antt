@@ -1,5 +1,5 @@
 -- Each turn of a thread keeps every lock a site, and every thread in the line, the section and the hand that its place says.
-use Rattle.std.proofs.Common.{ℕ, Bool, true, false, Option, Some, None, if◌then◌else◌, ◌≡◌, ◌<◌, [], ◌∷◌, length, length-set, nat_lt, refl, sym, ◌∙◌, ap}
+use Rattle.std.proofs.Common.{ℕ, Bool, true, false, Option, Some, None, if◌then◌else◌, ◌≡◌, ◌<◌, [], ◌∷◌, length, length-set, nat_lt, refl, subst, sym, ◌∙◌, ap}
 use Rattle.std.proofs.lemmas.Bool.{ltb-true}
 use Rattle.lot_base.specs.declared.wants.Want.TheVariants.{Exclusive}
 use Rattle.lot_calls.specs.declared.calls.Call.{Call}
@@ -10,8 +10,9 @@ use Rattle.lot_calls.specs.declared.calls.Step.{Step}
 use Rattle.lot_calls.specs.declared.calls.Turn.{Turn}
 use Rattle.lot_calls.specs.declared.calls.Turn as turn
 use Rattle.lot_calls.specs.Kinds.{has_call, is_fair}
+use Rattle.lot_calls.specs.declared.calls.OnceCall.{OnceCall}
 use Rattle.lot_steps.specs.declared.places.Place.{Place}
-use Rattle.lot_steps.specs.declared.places.Place.TheVariants.{Idle, Mutex, RwLock}
+use Rattle.lot_steps.specs.declared.places.Place.TheVariants.{Idle, Mutex, RwLock, Once}
 use Rattle.lot_mutex.specs.declared.lock.Entry.{Entry}
 use Rattle.lot_mutex.specs.declared.lock.Entry.TheVariants as entries
 use Rattle.lot_mutex.specs.declared.lock.LockAt.{LockAt}
@@ -27,9 +28,9 @@ use Rattle.lot_laws.specs.Refinement.{lock_state, taken_at}
 use Rattle.lot_laws.specs.SitesOf.{is_mutex}
 use Rattle.lot_laws.specs.MutexDeeds.{mutex_doing, mutex_station, acts, begins}
 use Rattle.lot_laws.specs.Stations.{nowhere, station}
-use Rattle.lot_laws.specs.SitesOf.{AreCounted, IsSteady, Goes}
+use Rattle.lot_laws.specs.SitesOf.{AreCounted, FitsItsLock, IsSteady, Goes}
 use Rattle.lot_machine.proofs.Shape.{both, looking_shaped}
-use Rattle.lot_laws.proofs.KindsKept.{calls_mutex, calls_readers}
+use Rattle.lot_laws.proofs.KindsKept.{calls_mutex, calls_readers, never_once}
 use Rattle.lot_laws.proofs.Glue.{parts_at, same, thread_is}
 use Rattle.lot_laws.proofs.MutexTable.{mutex, own_doing, meets, others_same}
 use Rattle.lot_laws.proofs.StandsMoved.{mutex_rules}
@@ -49,6 +50,15 @@ pub idle_is : (p : Place) → is_idle p ≡ true → p ≡ Idle
 idle_is Idle h = refl
 idle_is (Mutex l at) h = absurd cc
 idle_is (RwLock l a at) h = absurd cc
+idle_is (Once l at) h = absurd cc
+
+-- no call of a `Once` begins yet
+pub once_begins : (w : State) (t l : ℕ) (c : OnceCall) → can_begin w t (calling.TheVariants.Once l c) ≡ true → ⊥
+once_begins w t l c can =
+    let parts = both (is_idle (place_at w t)) (is_open_to w t (calling.TheVariants.Once l c)) can in
+    let open_to = both (nat_lt l (length w.locks)) _ parts.1 in
+    let has = both (has_call (kind_at w l) (calling.TheVariants.Once l c)) _ open_to.1 in
+    let none : false ≡ true = sym (never_once (kind_at w l) l c) ∙ has.0 in cc
 
 module _ (w : State) (t : ℕ) (steady : IsSteady w) (shape : IsShaped w) (there : t < length w.places) where
   -- it begins, with the claim that the call needs
@@ -75,6 +85,7 @@ module _ (w : State) (t : ℕ) (steady : IsSteady w) (shape : IsShaped w) (there
       let open_to = both (nat_lt l (length w.locks)) _ parts.1 in
       let right = both (has_call (kind_at w l) (calling.TheVariants.Mutex l c)) _ open_to.1 in
       goes_steady w _ l _ steady (calls_begin l (is_fair (kind_at w l)) c (calls_mutex (kind_at w l) l c right.0) (idle_is (place_at w t) parts.0) right.1)
+  begun_kept (calling.TheVariants.Once l c) can = absurd (once_begins w t l c can)
   begun_kept (calling.TheVariants.RwLock l c) can =
       let parts = both (is_idle (place_at w t)) (is_open_to w t (calling.TheVariants.RwLock l c)) can in
       let open_to = both (nat_lt l (length w.locks)) _ parts.1 in
@@ -113,14 +124,15 @@ module _ (w : State) (t : ℕ) (steady : IsSteady w) (shape : IsShaped w) (there
   late_kept (RwLock l a (BumpCall p)) is fits can = rwlock_late l a (BumpCall p) is fits (call_late_line (BumpCall p)) refl can
   late_kept (RwLock l a c) is fits can = absurd cc
   late_kept Idle is fits can = absurd cc
+  late_kept (Once l at) is fits can = absurd (subst (FitsItsLock w) is (steady.stands.calls t))
 
   turned_kept : AreCounted w → (x : Turn) → can_turn w t x ≡ true → IsSteady (state_after_turn w t x)
   turned_kept counted (turn.TheVariants.Begin c) can = begun_kept c can
   turned_kept counted turn.TheVariants.Go can = gone_kept w t steady shape there counted (place_at w t) refl (shape.places t) can
   turned_kept counted turn.TheVariants.Spin can = spun_kept counted (looking (place_at w t)) refl
   turned_kept counted turn.TheVariants.Late can = late_kept (place_at w t) refl (shape.places t) can
-  turned_kept counted turn.TheVariants.Ok can = absurd (nothing_closes w t true can)
-  turned_kept counted turn.TheVariants.Err can = absurd (nothing_closes w t false can)
+  turned_kept counted turn.TheVariants.Ok can = absurd (nothing_closes w t true (steady.stands.calls t) can)
+  turned_kept counted turn.TheVariants.Err can = absurd (nothing_closes w t false (steady.stands.calls t) can)
 
 -- a step keeps what holds between steps
 pub after_steady : (w : State) (s : Step) → IsShaped w → IsSteady w → AreCounted w → IsSteady (after w s)

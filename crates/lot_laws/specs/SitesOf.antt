@@ -4,10 +4,9 @@ use Rattle.lot_base.specs.declared.wants.Waiter.{Waiter}
 pub use Rattle.lot_base.specs.Keys.{key_of}
 use Rattle.lot_base.specs.Lines.{times}
 use Rattle.lot_steps.specs.declared.places.Place.{Place}
-use Rattle.lot_steps.specs.declared.places.Place.TheVariants.{Idle, Mutex as OfMutex, RwLock as OfRwLock}
+use Rattle.lot_steps.specs.declared.places.Place.TheVariants.{Idle, Mutex as OfMutex, RwLock as OfRwLock, Once as OfOnce}
 use Rattle.lot_base.specs.declared.wants.Want.{Want}
-use Rattle.lot_base.specs.declared.wants.Want.TheVariants.{Upgradable}
-use Rattle.abstract_locks.specs.Locks.{Rules, Knows}
+use Rattle.abstract_locks.specs.Locks.{Rules, Mutex as OneOwner}
 use Rattle.abstract_locks.specs.Sites.{Line, Main, Second, Site, IsSite, has_readers, after_deed, Needed}
 use Rattle.abstract_locks.specs.Codes.{code, parked_in, aside_in, HasLimit}
 use Rattle.abstract_locks.specs.Purposes.{rules_of}
@@ -99,20 +98,21 @@ pub record Hands (one : ℕ → Type 0) (p : ℕ → Place) : Type 0 where
   -- who is in the hand of a thread, is so by that one's place
   pub taken : (t u l : ℕ) (b : Bool) → hand_at (p u) l ≡ hand t b → carried_at (p t) l ≡ Some b
 
--- only the waiters of a reader-writer lock are taken many at a time
+-- the waiters of a mutex are taken one at a time
 abbrev pub TakesOne : State → ℕ → Type 0
-TakesOne w l = Knows (rules_in w l).sort Upgradable → ⊥
+TakesOne w l = (rules_in w l).sort ≡ OneOwner
 
 abbrev pub is_mutex : Kind → Bool
 is_mutex kind.TheVariants.Mutex = true
 is_mutex kind.TheVariants.Fair = true
 is_mutex k = false
 
--- a call is of a lock of its sort, and stands where it may
+-- a call is of a lock of its sort, and stands where it may; no call of a `Once` begins yet
 abbrev pub FitsItsLock : State → Place → Type 0
 FitsItsLock w Idle = Unit {0}
 FitsItsLock w (OfMutex l at) = is_mutex (kind_at w l) ≡ true
 FitsItsLock w (OfRwLock l a c) = Admits (rules_in w l) a × CallStands a c
+FitsItsLock w (OfOnce l at) = ⊥
 
 pub record Stands (w : State) : Type 0 where
   pub sections : Sections (place_at w) (section_at w)

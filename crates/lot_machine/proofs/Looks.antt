@@ -18,9 +18,13 @@ use Rattle.lot_rwlock_fair.specs.declared.places.RwLockCallPlace.TheVariants.{Pl
 use Rattle.lot_rwlock_fair.specs.FairSteps.{call_act}
 use Rattle.lot_rwlock_fair.specs.FairProfiles.{call_looking, in_call}
 use Rattle.lot_rwlock_fair.proofs.FairSleepers.{fair_looks_stand}
+use Rattle.lot_once.specs.declared.places.OncePlace.{OncePlace}
+use Rattle.lot_once.specs.declared.places.OncePlace.TheVariants.{Look, Run}
+use Rattle.lot_once.specs.declared.look.LookAt.TheVariants as look_at
+use Rattle.lot_once.specs.OnceSteps.{once_looking}
 use Rattle.lot_steps.specs.declared.places.Place.{Place}
-use Rattle.lot_steps.specs.declared.places.Place.TheVariants.{Idle, Mutex, RwLock}
-use Rattle.lot_steps.specs.Steps.{act_of, lock_of, looking, in_mutex, in_rwlock, profile}
+use Rattle.lot_steps.specs.declared.places.Place.TheVariants.{Idle, Mutex, RwLock, Once}
+use Rattle.lot_steps.specs.Steps.{act_of, lock_of, looking, in_mutex, in_rwlock, in_once, profile}
 use Rattle.lot_machine.specs.Fits.{PlaceFits}
 
 pub record IsLook (p q : Place) : Type 0 where
@@ -84,6 +88,17 @@ look (Mutex l at) q is = mutex_look at is
         by_mark _ (Lock e again (lock.Decide seen)) (Lock e again lock.Load) (record { lock = l; before = refl; now = refl; loads = refl; row = refl; fits = λ locks h. (h.0, tt) }) is
     mutex_look (Lock e again to) is = absurd cc
     mutex_look at is = absurd cc
+look (Once l at) q is = once_look at is
+  where
+    by_mark : (b : Bool) (at at2 : OncePlace) → IsLook (Once l at) (Once l at2) → in_once l (if b then Some at2 else None) ≡ Some q → IsLook (Once l at) q
+    by_mark true at at2 h is = subst (IsLook (Once l at)) (some_is (Once l at2) q is) h
+    by_mark false at at2 h is = absurd cc
+
+    once_look : (at : OncePlace) → in_once l (once_looking at) ≡ Some q → IsLook (Once l at) q
+    once_look (Look c again (look_at.Decide seen)) is =
+        by_mark _ (Look c again (look_at.Decide seen)) (Look c again look_at.Load) (record { lock = l; before = refl; now = refl; loads = refl; row = refl; fits = λ locks h. h }) is
+    once_look (Look c again to) is = absurd cc
+    once_look (Run forced to) is = absurd cc
 
 -- who looks at a mutex's word enters it
 pub mutex_looks : (l : ℕ) (at : MutexPlace) (q : Place) → looking (Mutex l at) ≡ Some q → (e : Entry) × (again : Bool) × (q ≡ Mutex l (Lock e again lock.Load))

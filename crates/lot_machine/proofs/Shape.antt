@@ -29,7 +29,7 @@ use Rattle.lot_calls.specs.declared.calls.Turn.{Turn}
 use Rattle.lot_calls.specs.declared.calls.Turn as turn
 use Rattle.lot_calls.specs.declared.calls.Step.{Step}
 use Rattle.lot_steps.specs.declared.places.Place.{Place}
-use Rattle.lot_steps.specs.declared.places.Place.TheVariants.{Idle, Mutex, RwLock}
+use Rattle.lot_steps.specs.declared.places.Place.TheVariants.{Idle, Mutex, RwLock, Once}
 use Rattle.lot_calls.specs.declared.calls.MutexCall.{MutexCall}
 use Rattle.lot_calls.specs.declared.calls.MutexCall as mutex_call
 use Rattle.lot_base.specs.declared.keys.Line.{Line}
@@ -38,6 +38,9 @@ use Rattle.lot_rwlock.specs.declared.places.Admission.{Admission}
 use Rattle.lot_rwlock_fair.specs.declared.places.RwLockCallPlace.{RwLockCallPlace}
 use Rattle.lot_rwlock_fair.specs.FairSteps.{call_next}
 use Rattle.lot_rwlock_fair.specs.FairProfiles.{call_profile}
+use Rattle.lot_once.specs.declared.places.OncePlace.{OncePlace}
+use Rattle.lot_once.specs.OnceSteps.{once_next}
+use Rattle.lot_once.specs.OnceProfiles.{once_profile}
 use Rattle.lot_mutex.specs.declared.lock.Entry.{Entry}
 use Rattle.lot_mutex.specs.declared.places.MutexPlace.{MutexPlace}
 use Rattle.lot_mutex.specs.declared.places.MutexPlace.TheVariants.{Lock, TryLock, Unlock, UnlockFair, Bump, HandOff}
@@ -65,7 +68,7 @@ use Rattle.lot_acts.specs.Owners.{is_thread}
 use Rattle.lot_calls.specs.Calls.{lock_in}
 use Rattle.lot_acts.specs.Profiles.{in_line}
 use Rattle.abstract_locks.specs.Sites.{Main}
-use Rattle.lot_steps.specs.Steps.{is_idle, lock_of, first_place, taker, act_of, next_place, mutex_goes, rwlock_goes, looking, late_key, key_in}
+use Rattle.lot_steps.specs.Steps.{is_idle, lock_of, first_place, taker, act_of, next_place, mutex_goes, rwlock_goes, once_goes, looking, late_key, key_in}
 use Rattle.lot_machine.specs.Machine.{state_after_hand_over_by, hand_over_told, State, unlocked, opening, kind_at, word_at, place_at, queue_at, put, state_after_operation, state_with_sections, queues_with_last, queues_without_first, queues_without, state_after_park, state_after_reply, place_after_telling, state_after_telling, state_after_hand_over, state_after_taking, state_after_wake, state_after_act, state_after_takes, state_after_take_first, state_after_requeue, queues_requeued, left_behind, moved_under, moved_threads, listed, places_told, state_after_going, going_outcome, closed_place, can_do, state_after_go, reply_to, state_after_begin, can_begin, is_open_to, state_after_spin, state_after_late, state_after_late_on, state_after_turn, can_turn, is_possible, after, state_after_look, look_outcome, spin_outcome, can_spin, can_go, go_outcome}
 use Rattle.lot_base.specs.declared.notes.Note as note
 use Rattle.lot_mutex.specs.declared.lock.LockAt as lock
@@ -241,6 +244,10 @@ rwlock_fits : (locks l : ℕ) (a : Admission) (n : Next RwLockCallPlace) → l <
 rwlock_fits locks l a (next.TheVariants.At at) lt = lt
 rwlock_fits locks l a (next.TheVariants.End answer) lt = tt
 
+once_fits : (locks l : ℕ) (n : Next OncePlace) → l < locks → PlaceFits locks (once_goes l n)
+once_fits locks l (next.TheVariants.At at) lt = lt
+once_fits locks l (next.TheVariants.End answer) lt = tt
+
 pub next_fits : (locks : ℕ) (p : Place) (reply : Reply) → PlaceFits locks p → ReplyFits p reply → PlaceFits locks (next_place p reply)
 next_fits locks Idle reply h r = tt
 next_fits locks (Mutex l (Lock entry retries at)) reply h r = goes_fits locks l (mutex_next (Lock entry retries at) reply) h.0 (lock_fits l entry retries at reply h.1 r)
@@ -250,6 +257,7 @@ next_fits locks (Mutex l UnlockFair) reply h r = goes_fits locks l (mutex_next U
 next_fits locks (Mutex l Bump) reply h r = goes_fits locks l (mutex_next Bump reply) h.0 (bump_fits reply)
 next_fits locks (Mutex l (HandOff bumps at)) reply h r = goes_fits locks l (mutex_next (HandOff bumps at) reply) h.0 (hand_off_fits l bumps at reply r)
 next_fits locks (RwLock l a at) reply h r = rwlock_fits locks l a (call_next a at reply) h
+next_fits locks (Once l at) reply h r = once_fits locks l (once_next at reply) h
 
 first_fits : (locks l : ℕ) (fair : Bool) (c : MutexCall) → l < locks → PlaceFits locks (Mutex l (mutex_first fair c))
 first_fits locks l fair mutex_call.TheVariants.Lock h = (h, tt)
@@ -263,6 +271,7 @@ first_fits locks l fair mutex_call.TheVariants.Bump h = (h, tt)
 call_fits : (locks : ℕ) (kind : Kind) (c : Call) → lock_in c < locks → PlaceFits locks (first_place kind c)
 call_fits locks kind (call.TheVariants.Mutex l c) h = first_fits locks l (is_fair kind) c h
 call_fits locks kind (call.TheVariants.RwLock l c) h = h
+call_fits locks kind (call.TheVariants.Once l c) h = h
 
 -- ---------------------------------------------------------------- states
 
@@ -514,6 +523,7 @@ place_lock : (locks l : ℕ) (p : Place) → PlaceFits locks p → lock_of p ≡
 place_lock locks l Idle h e = absurd cc
 place_lock locks l (Mutex k at) h e = let same : k ≡ l = cc in subst (λ j. j < locks) same h.0
 place_lock locks l (RwLock k a at) h e = let same : k ≡ l = cc in subst (λ j. j < locks) same h
+place_lock locks l (Once k at) h e = let same : k ≡ l = cc in subst (λ j. j < locks) same h
 
 -- and loads there
 pub looks_fit : (w : State) (t : ℕ) (q : Place) → IsShaped w → t < length w.places → looking (place_at w t) ≡ Some q → ActFits (put w t q) (act_of (place_at (put w t q) t))
@@ -558,6 +568,11 @@ lated_shaped w t s = by_place (place_at w t) refl
     by_place (Mutex l Bump) e = s
     by_place (Mutex l (HandOff bumps at)) e = s
     by_place (RwLock l a at) e = by_line (call_profile a at).late_line
+      where
+        by_line : (m : Option Line) → IsShaped (state_after_late_on w t (key_in (Some l) m))
+        by_line None = s
+        by_line (Some m) = befallen_shaped (state_with_sections w (One (key_of l m)) (Some t)) t Late (filled_shaped w (One (key_of l m)) (Some t) s) (rw e tt)
+    by_place (Once l at) e = by_line (once_profile at).late_line
       where
         by_line : (m : Option Line) → IsShaped (state_after_late_on w t (key_in (Some l) m))
         by_line None = s

@@ -6,7 +6,7 @@ use Rattle.lot_base.specs.declared.wants.Waiter.{Waiter}
 use Rattle.lot_acts.specs.declared.acts.Act.{Act}
 use Rattle.lot_acts.specs.declared.acts.Act.TheVariants.{Word, HandOver, Enter, Park, Stand, Take, Requeue, Remove, Leave}
 use Rattle.lot_steps.specs.declared.places.Place.{Place}
-use Rattle.lot_steps.specs.declared.places.Place.TheVariants.{Idle, Mutex, RwLock}
+use Rattle.lot_steps.specs.declared.places.Place.TheVariants.{Idle, Mutex, RwLock, Once}
 use Rattle.lot_mutex.specs.declared.places.MutexPlace.{MutexPlace}
 use Rattle.lot_mutex.specs.MutexProfiles.{mutex_profile}
 use Rattle.lot_machine.specs.Machine.{State, place_at, queue_at}
@@ -39,6 +39,7 @@ abbrev pub PlaceFits : ℕ → Place → Type 0
 PlaceFits locks Idle = Unit {0}
 PlaceFits locks (Mutex lock at) = (lock < locks) × GivesUpTimed at
 PlaceFits locks (RwLock lock a at) = lock < locks
+PlaceFits locks (Once lock at) = lock < locks
 
 -- each waiter is a thread that is there
 abbrev pub AllBelow : ℕ → List Waiter → Type 0

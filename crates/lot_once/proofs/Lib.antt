@@ -1,3 +1,4 @@
 pub mod OnceWords
 pub mod OnceFit
 pub mod OnceTells
+pub mod OnceActs

@@ -2,3 +2,4 @@ pub mod OnceSteps
 pub mod OnceProfiles
 pub mod OnceDeeds
 pub mod OnceCalls
+pub mod OnceMoves

@@ -1,5 +1,6 @@
 //! What the steps of a `Once` do to it.
 ghost use Rattle.lot_once.specs.OnceCalls.{OnceSectionsTell, OnceSleepersHear, OnceStepsTell};
+ghost use Rattle.lot_once.specs.OnceMoves.{OnceActsMove, OnceSleepersMove};
 ghost use Rattle.lot_once.specs.OnceDeeds.{OnceOwnersFollow, OnceSectionsFollow, OnceStepsCode, OnceStepsFollow};
 
 /// Each step on the word of a `Once` may do to it what its deeds say, and its next place says what the thread does then.
@@ -36,4 +37,14 @@ pub fn once_sections_tell()
 /// What befalls a thread asleep makes of its call what its row says.
 pub fn once_sleepers_hear()
     ensures { OnceSleepersHear }
+{}
+
+/// Each step takes its thread in the machine where its act says: into the section and the queue, out of them, and into hands.
+pub fn once_acts_move()
+    ensures { OnceActsMove }
+{}
+
+/// And so does what befalls it asleep.
+pub fn once_sleepers_move()
+    ensures { OnceSleepersMove }
 {}

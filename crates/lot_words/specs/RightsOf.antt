@@ -1,12 +1,21 @@
 -- Rights of a lot.
-use Rattle.std.specs.Prelude.{◌≡◌}
+use Rattle.std.specs.Prelude.{◌≡◌, [], ◌∷◌}
+use Rattle.lot_words.specs.Indices.{word_index}
 use Rattle.lot_words.specs.Lots.{IsSeatOf, IsWordOf}
-use Rattle.lot_words.specs.Rights.{MayHand}
+use Rattle.lot_words.specs.Permits.{bare}
+use Rattle.lot_words.specs.Rights.{MayHand, piece_of}
+use Rattle.lot_words.specs.declared.owners.Owner.{Owner}
+use Rattle.lot_words.specs.declared.owners.Owner.TheVariants.{Opened}
 use Rattle.lot_words.specs.declared.table.LotWords.{LotWords}
 use Rattle.lot_words.specs.declared.rights.Right.{Right}
-use Rattle.lot_words.specs.declared.permits.OpenRight.{OpenRight}
+use Rattle.lot_words.specs.declared.rights.Held.{Held}
+use Rattle.lot_words.specs.declared.permits.OpenHeld.{OpenHeld}
 use Rattle.lot_words.specs.declared.words.Word.{Word}
 use Rattle.lot_base.specs.declared.wants.Want.{Want}
+
+-- an ownership of a word of the lot, owned so: it names this and nothing else
+abbrev pub IsHeldOf : LotWords → Word → Owner → Held → Type 0
+IsHeldOf lot word owner held = IsSeatOf lot held.seat × (held.seat.me ≡ (piece_of word owner, []))
 
 abbrev pub IsRightOf : LotWords → Right → Type 0
 IsRightOf lot right = IsSeatOf lot right.seat × IsWordOf lot right.word
@@ -15,6 +24,7 @@ IsRightOf lot right = IsSeatOf lot right.seat × IsWordOf lot right.word
 abbrev pub IsFor : Word → Want → Right → Type 0
 IsFor word want right = (right.word ≡ word) × MayHand word.kind want right.owner
 
--- the right to a mutex of the lot whose permit is out
-abbrev pub IsOpenOf : LotWords → OpenRight → Type 0
-IsOpenOf lot held = IsSeatOf lot held.seat × IsWordOf lot held.word
+-- the ownership of a mutex of the lot, whose permit is out
+abbrev pub IsOpenOf : LotWords → Word → OpenHeld → Type 0
+IsOpenOf lot word opened =
+    IsSeatOf lot opened.seat × (opened.seat.me ≡ (piece_of word Opened, (word_index word.number word.kind, bare) ∷ []))

@@ -12,8 +12,8 @@ pub mod views;
 pub mod words;
 
 pub use owners::{Owner, Ownership};
-pub use permits::OpenRight;
-pub use rights::Right;
+pub use permits::OpenHeld;
+pub use rights::{Held, Right};
 pub use table::{LotWords, Seat};
 pub use views::{Drawn, View, WordStep};
 pub use words::{Word, WordKind};

@@ -10,38 +10,20 @@ ghost use Rattle.lot_words.specs.declared.words.WordKind.TheVariants.{Mutex};
 
 use crate::owners::Owner;
 use crate::plays::{Closes, Family, Opens};
-use crate::rights::Right;
+use crate::rights::Held;
 use crate::table::{LotWords, Seat};
 use crate::words::Word;
 use std::marker::Brand;
 use value_place::{Permit, PermitSlot};
 
-/// The right to a mutex whose permit is out. It has to be closed, or the word stays owned.
-pub struct OpenRight {
+/// The ownership of a mutex whose permit is out. It has to be closed, or the word stays owned. It takes no memory.
+pub struct OpenHeld {
     seat: Seat,
-    word: Word,
-    ghost mutex: { word.kind ≡ Mutex },
-    ghost names: { seat.me ≡ (piece_of word Opened, (word_index word.number word.kind, bare) ∷ []) },
-}
-
-impl OpenRight {
-    #[inline]
-    pub fn word(&self) -> Word
-        ensures { result ≡ self.now.word }
-    {
-        self.word
-    }
-
-    /// Lets the right go without a step. Its word stays owned for good.
-    pub fn forget(self) {
-        let OpenRight { seat, word: _ } = self;
-        drop(seat);
-    }
 }
 
 impl LotWords {
     ghost use Rattle.lot_words.specs.Lots.{IsSeatOf, IsWordOf, permit_of};
-    ghost use Rattle.lot_words.specs.RightsOf.{IsRightOf, IsOpenOf};
+    ghost use Rattle.lot_words.specs.RightsOf.{IsHeldOf, IsOpenOf};
 
     // The seat is that of a right.
     #[inline]
@@ -60,27 +42,29 @@ impl LotWords {
 
     /// Takes the permit out of the value that a mutex guards, for who owns the mutex. It loads the word, which is no step of a call.
     #[inline]
-    pub fn open_right(&self, right: Right) -> (OpenRight, Permit)
-        requires { IsRightOf self.now right × (right.word.kind ≡ Mutex) × (right.owner ≡ Exclusive) }
-        ensures right { IsOpenOf self.now result.0 × (result.0.word ≡ right.word) }
-        ensures permit { result.1.id ≡ permit_of self.now right.word }
+    pub fn open_held(&self, word: Word, held: Held) -> (OpenHeld, Permit)
+        requires mutex { IsWordOf self.now word × (word.kind ≡ Mutex) }
+        requires held { IsHeldOf self.now word Exclusive held }
+        ensures opened { IsOpenOf self.now word result.0 }
+        ensures permit { result.1.id ≡ permit_of self.now word }
     {
-        let (mut seat, word) = right.into_seat();
+        let Held { mut seat } = held;
         let permit = self.take_permit::<Brand>(&mut seat, word);
-        (OpenRight { seat, word }, permit)
+        (OpenHeld { seat }, permit)
     }
 
     /// Lays the permit back. It loads the word, which is no step of a call.
     #[inline]
-    pub fn close_right(&self, held: OpenRight, permit: Permit) -> Right
-        requires { IsOpenOf self.now held × (permit.id ≡ permit_of self.now held.word) }
-        ensures { IsRightOf self.now result × (result.word ≡ held.word) × (result.owner ≡ Exclusive) }
+    pub fn close_held(&self, word: Word, opened: OpenHeld, permit: Permit) -> Held
+        requires mutex { IsWordOf self.now word × (word.kind ≡ Mutex) }
+        requires opened { IsOpenOf self.now word opened × (permit.id ≡ permit_of self.now word) }
+        ensures { IsHeldOf self.now word Exclusive result }
     {
-        let OpenRight { mut seat, word } = held;
+        let OpenHeld { mut seat } = opened;
         let at = word.index();
         let words = &self.table.shared;
         drop(words.exchange(&mut seat, at, permit.into_slot()));
         words.load::<Closes>(&mut seat, at);
-        Right::of_seat(seat, word)
+        Held { seat }
     }
 }

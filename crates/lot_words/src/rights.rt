@@ -1,7 +1,6 @@
 //! Ownerships that are split off a seat.
 ghost use Rattle.std.specs.Prelude.{◌≡◌, ◌↔◌, IsTrue, [], true};
 ghost use Rattle.lot_words.specs.Rights.{named_by, piece_of, want_of};
-ghost use Rattle.lot_words.specs.declared.owners.Owner.TheVariants.{Exclusive};
 
 use crate::owners::Owner;
 use crate::plays::{Piece, SplitsOff, TakesIn};
@@ -10,9 +9,14 @@ use crate::words::Word;
 use lot_base::Want;
 use std::marker::Brand;
 
-/// The ownership of a word, split off the view of a seat. It borrows nothing, and takes no memory beside its word and owner.
+/// An ownership, split off the view of a seat, as who knows its word keeps it. It borrows nothing, and takes no memory.
 ///
 /// It has to be given back, or the word stays owned.
+pub struct Held {
+    pub(crate) seat: Seat,
+}
+
+/// The same with its word and owner, as it goes to a thread that is to be told them.
 pub struct Right {
     seat: Seat,
     word: Word,
@@ -22,31 +26,6 @@ pub struct Right {
 
 impl Right {
     ghost use Rattle.lot_words.specs.RightsOf.{IsFor};
-
-    // What a mutex is owned by.
-    #[inline]
-    pub(crate) fn into_seat(self) -> (Seat, Word)
-        ensures { (result.0 ≡ self.seat) × (result.1 ≡ self.word) }
-    {
-        let Right {
-            seat,
-            word,
-            owner: _,
-        } = self;
-        (seat, word)
-    }
-
-    #[inline]
-    pub(crate) fn of_seat(seat: Seat, word: Word) -> Right
-        requires { seat.me ≡ (piece_of word Exclusive, []) }
-        ensures { (result.seat ≡ seat) × (result.word ≡ word) × (result.owner ≡ Exclusive) }
-    {
-        Right {
-            seat,
-            word,
-            owner: Owner::Exclusive,
-        }
-    }
 
     #[inline]
     pub fn word(&self) -> Word
@@ -89,7 +68,7 @@ impl Right {
 
 impl LotWords {
     ghost use Rattle.lot_words.specs.Lots.{IsSeatOf, IsWordOf};
-    ghost use Rattle.lot_words.specs.RightsOf.{IsRightOf};
+    ghost use Rattle.lot_words.specs.RightsOf.{IsHeldOf, IsRightOf};
     ghost use Rattle.lot_words.specs.Plays.{left_over, piece, takes_in};
     ghost use Rattle.lot_words.specs.Steps.{has};
 
@@ -105,6 +84,31 @@ impl LotWords {
     }
 
     /// Splits an ownership off that the seat's view names. It loads a word, which is no step of a call.
+    #[inline]
+    pub fn split_held(&self, seat: &mut Seat, word: Word, owner: Owner) -> Held
+        requires own { IsSeatOf self.now seat.old }
+        requires named { has (named_by word owner) seat.old.me.0.owns ≡ true }
+        ensures left { IsSeatOf self.now seat.new
+            × (seat.new.me ≡ (left_over (named_by word owner) seat.old.me.0, seat.old.me.1)) }
+        ensures held { IsHeldOf self.now word owner result }
+    {
+        let seat = self.split_off::<Brand>(seat, word, owner);
+        Held { seat }
+    }
+
+    /// Gives it back to a seat, and it is spent. It loads a word, which is no step of a call.
+    #[inline]
+    pub fn join_held(&self, seat: &mut Seat, word: Word, owner: Owner, held: Held)
+        requires { IsSeatOf self.now seat.old × IsHeldOf self.now word owner held }
+        ensures { IsSeatOf self.now seat.new
+            × (seat.new.me ≡ (takes_in seat.old.me.0 (piece_of word owner), seat.old.me.1)) }
+    {
+        let _named = (word, owner);
+        let Held { seat: other } = held;
+        self.table.shared.join_seat::<TakesIn>(seat, other);
+    }
+
+    /// The same with its word and owner.
     #[inline]
     pub fn split_right(&self, seat: &mut Seat, word: Word, owner: Owner) -> Right
         requires own { IsSeatOf self.now seat.old × IsWordOf self.now word }

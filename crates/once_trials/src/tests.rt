@@ -1,5 +1,7 @@
 //! Calls of one `Once`, by one thread and by many.
-ghost use Rattle.std.specs.Prelude.{◌≡◌, All, IfOk};
+mod meets;
+
+ghost use Rattle.std.specs.Prelude.{◌≡◌, ◌<◌, ◌≤◌, All, IfOk};
 ghost use Rattle.std.specs.Arc.{arc_value};
 ghost use Rattle.run_once.specs.Users.{IsTicketOf, IsTokenOf, lot_of};
 
@@ -10,15 +12,14 @@ use std::sync::atomic::Ordering::SeqCst;
 use std::sync::atomic::{AtomicBool, AtomicUsize};
 use std::sync::{Arc, Wait};
 use std::test::Fail;
-use std::thread::{Threads, join, map_vec, yield_now};
-
-const TURNS: usize = 1_000_000;
+use std::thread::{Threads, map_vec};
 
 // A lot with so many threads, the token of the first, and a `Once` of it.
 fn seats(
     alloc: Global,
     threads: usize,
 ) -> Result<(Arc<ParkingLot>, Once, Token, Vec<Ticket>), Fault>
+    requires { (0 < threads) × (threads ≤ 1024) }
     ensures { IfOk result (λ made. (lot_of made.1 ≡ arc_value made.0) × IsTokenOf (arc_value made.0) made.2
         × All (IsTicketOf (arc_value made.0)) made.3.items) }
 {

@@ -1,4 +1,3 @@
-pub mod MutexGuards
 pub mod RwLockGuards
 pub mod RwLockUsers
 pub mod Users

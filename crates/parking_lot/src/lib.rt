@@ -1,16 +1,6 @@
 //! Locks for real threads. Each call runs the steps that the simulated world runs.
 #![tactic(auto)]
 
-pub mod guards;
-pub mod raw_fair_mutex;
-pub mod raw_mutex;
-pub mod raw_rwlock;
-mod raw_rwlock_fair;
-mod raw_rwlock_timed;
-pub mod rwlock_guards;
-pub mod rwlock_rights;
-
-pub use guards::{OpenGuard, RawGuard};
 pub use lock_api;
 pub use lock_api_rw;
 pub use lock_raw;
@@ -22,11 +12,11 @@ pub use parking_lot_core::{
     Clock, Did, Fault, Key, Keys, Note, Op, ParkingLot, Requeue, Right, Section, SectionRecord,
     Slept, SystemClock, TickClock, Ticket, Token, Want, Word, WordKind, to_deadline,
 };
-pub use raw_fair_mutex::RawFairMutex;
-pub use raw_mutex::RawMutex;
-pub use raw_rwlock::{RawRwLock, RawRwLockRecursive};
-pub use rwlock_guards::{RawExclusiveGuard, RawSharedGuard, RawUpgradableGuard};
-pub use rwlock_rights::LotRwLock;
+pub use raw_mutexes::{OpenGuard, RawFairMutex, RawGuard, RawMutex};
+pub use raw_rwlocks::{
+    RawExclusiveGuard, RawRwLock, RawRwLockRecursive, RawSharedGuard, RawUpgradableGuard,
+};
+pub use run_once::{Once, OnceFault, OnceState};
 
 /// A mutex of a lot, with its value.
 pub type Mutex<T> = lock_api::Mutex<RawMutex, T>;

@@ -12,7 +12,7 @@ pub use lot::ParkingLot;
 pub use lot_base::{
     Clock, Fault, Key, Keys, Note, Op, Requeue, SystemClock, TickClock, Waiter, Want, to_deadline,
 };
-pub use lot_words::{OpenRight, Owner, Right, Word, WordKind};
+pub use lot_words::{Held, OpenHeld, Owner, Right, Word, WordKind};
 pub use sections::Section;
 pub use sleep::Slept;
 pub use tokens::{Did, SectionRecord, Ticket, Token};

@@ -7,7 +7,7 @@ ghost use Rattle.lot_words.specs.Draws.{IsDrawn, IsDrawRefused};
 ghost use Rattle.lot_words.specs.Lots.{IsWordOf, permit_of};
 ghost use Rattle.lot_words.specs.Plays.{left_over, takes_in};
 ghost use Rattle.lot_words.specs.Rights.{named_by, owner_for, piece_of, OwnsWith};
-ghost use Rattle.lot_words.specs.RightsOf.{IsRightOf, IsOpenOf};
+ghost use Rattle.lot_words.specs.RightsOf.{IsHeldOf, IsOpenOf, IsRightOf};
 ghost use Rattle.lot_words.specs.declared.owners.Owner.TheVariants.{Exclusive};
 ghost use Rattle.lot_words.specs.declared.words.WordKind.TheVariants.{Mutex, Condvar, Count};
 ghost use Rattle.lot_base.specs.declared.ops.Op.TheVariants.{Add, Exchange};
@@ -17,7 +17,7 @@ use crate::lot::ParkingLot;
 use crate::tokens::Token;
 use lot_base::{Fault, Op, Want};
 use lot_words::laws::{condvar_may_step, count_may_step};
-use lot_words::{OpenRight, Owner, Right, Word, WordKind};
+use lot_words::{Held, OpenHeld, Owner, Right, Word, WordKind};
 use value_place::Permit;
 
 impl ParkingLot {
@@ -104,6 +104,30 @@ impl ParkingLot {
 
     /// Splits what was wanted off the token's view. It loads a word, which is no step of a call.
     #[inline]
+    pub fn split_held(&self, token: &mut Token, word: Word, want: Want) -> Held
+        requires own { IsTokenOf self.now token.old }
+        requires named { has (named_by word (owner_for want)) (view_of token.old).owns ≡ true }
+        ensures own { IsSameThread self.now token.old token.new × (last_of token.new ≡ last_of token.old) }
+        ensures left { view_of token.new ≡ left_over (named_by word (owner_for want)) (view_of token.old) }
+        ensures held { IsHeldOf self.now.words word (owner_for want) result }
+    {
+        self.words
+            .split_held(&mut token.seat, word, Owner::of_want(want))
+    }
+
+    /// Gives it back to a token, and it is spent. It loads a word, which is no step of a call.
+    #[inline]
+    pub fn join_held(&self, token: &mut Token, word: Word, want: Want, held: Held)
+        requires { IsTokenOf self.now token.old × IsHeldOf self.now.words word (owner_for want) held }
+        ensures own { IsSameThread self.now token.old token.new × (last_of token.new ≡ last_of token.old) }
+        ensures joined { view_of token.new ≡ takes_in (view_of token.old) (piece_of word (owner_for want)) }
+    {
+        self.words
+            .join_held(&mut token.seat, word, Owner::of_want(want), held);
+    }
+
+    /// Splits what was wanted off, as it is given to another thread.
+    #[inline]
     pub fn split_right(&self, token: &mut Token, word: Word, want: Want) -> Right
         requires own { IsTokenOf self.now token.old × IsWordOf self.now.words word }
         requires named { has (named_by word (owner_for want)) (view_of token.old).owns ≡ true }
@@ -138,20 +162,22 @@ impl ParkingLot {
 
     /// Takes out the permit of the value that a mutex guards, for who owns the mutex. It loads the word, which is no step of a call.
     #[inline]
-    pub fn open_right(&self, right: Right) -> (OpenRight, Permit)
-        requires { IsRightOf self.now.words right × (right.word.kind ≡ Mutex) × (right.owner ≡ Exclusive) }
-        ensures right { IsOpenOf self.now.words result.0 × (result.0.word ≡ right.word) }
-        ensures permit { result.1.id ≡ permit_of self.now.words right.word }
+    pub fn open_held(&self, word: Word, held: Held) -> (OpenHeld, Permit)
+        requires mutex { IsWordOf self.now.words word × (word.kind ≡ Mutex) }
+        requires held { IsHeldOf self.now.words word Exclusive held }
+        ensures opened { IsOpenOf self.now.words word result.0 }
+        ensures permit { result.1.id ≡ permit_of self.now.words word }
     {
-        self.words.open_right(right)
+        self.words.open_held(word, held)
     }
 
     /// Lays it back. It loads the word, which is no step of a call.
     #[inline]
-    pub fn close_right(&self, held: OpenRight, permit: Permit) -> Right
-        requires { IsOpenOf self.now.words held × (permit.id ≡ permit_of self.now.words held.word) }
-        ensures { IsRightOf self.now.words result × (result.word ≡ held.word) × (result.owner ≡ Exclusive) }
+    pub fn close_held(&self, word: Word, opened: OpenHeld, permit: Permit) -> Held
+        requires mutex { IsWordOf self.now.words word × (word.kind ≡ Mutex) }
+        requires opened { IsOpenOf self.now.words word opened × (permit.id ≡ permit_of self.now.words word) }
+        ensures { IsHeldOf self.now.words word Exclusive result }
     {
-        self.words.close_right(held, permit)
+        self.words.close_held(word, opened, permit)
     }
 }

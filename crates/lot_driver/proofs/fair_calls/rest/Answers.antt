@@ -7,5 +7,5 @@ use Rattle.lot_driver.proofs.RwLockCalling.{rwlock_alone}
 use Rattle.lot_driver.proofs.fair_calls.rest.Goals as goal
 
 pub returns-clause-path : goal.returns-clause-path
-returns-clause-path g c = subst (λ (at : ℕ → ℕ). Walks at (RwLock c.args.word.number c.args.admission c.args.at) (view_of c.args.token.now).steps (view_of c.run_out.new.token).steps c.run_out.result) (rwlock_alone c.args.word c.requires.own.2)
-    (subst (λ (n : ℕ). Walks (at_in (alone c.args.word)) (RwLock n c.args.admission c.args.at) (view_of c.args.token.now).steps (view_of c.run_out.new.token).steps c.run_out.result) c.number.ensures c.run_out.ensures.path)
+returns-clause-path g c = subst (λ (at : ℕ → ℕ). Walks at (RwLock c.args.word.now.number c.args.admission.now c.args.at) (view_of c.args.token.now).steps (view_of c.run_out.new.token).steps c.run_out.result) (rwlock_alone c.args.word.now c.requires.own.2)
+    (subst (λ (n : ℕ). Walks (at_in (alone c.args.word.now)) (RwLock n c.args.admission.now c.args.at) (view_of c.args.token.now).steps (view_of c.run_out.new.token).steps c.run_out.result) c.number.ensures c.run_out.ensures.path)

@@ -14,20 +14,20 @@ use Rattle.lot_driver.proofs.RwLockCalling.{rwlock_alone, words_after}
 use Rattle.lot_driver.proofs.rwlock_calls.behind.Goals as goal
 
 pub run_out-requires-clause-words : goal.run_out-requires-clause-words
-run_out-requires-clause-words g c = let start : c.place_behind-start.result ≡ next_place (rwlock_begin c.args.word.number c.args.admission c.args.purpose) (Value c.args.seen) = search rules in
-    subst (λ (p : Place). AreWordsFor p (kind_in (alone c.args.word)) (at_in (alone c.args.word))) (sym start)
-    (words_after c.args.word c.requires.own.2 c.args.admission c.args.purpose c.args.seen c.requires.own.3)
+run_out-requires-clause-words g c = let start : c.place_behind-start.result ≡ next_place (rwlock_begin c.args.word.now.number c.args.admission.now c.args.purpose) (Value c.args.seen) = search rules in
+    subst (λ (p : Place). AreWordsFor p (kind_in (alone c.args.word.now)) (at_in (alone c.args.word.now))) (sym start)
+    (words_after c.args.word.now c.requires.own.2 c.args.admission.now c.args.purpose c.args.seen c.requires.own.3)
 
 pub run_out-requires-clause-fits : goal.run_out-requires-clause-fits
-run_out-requires-clause-fits g c = let start : c.place_behind-start.result ≡ next_place (rwlock_begin c.args.word.number c.args.admission c.args.purpose) (Value c.args.seen) = search rules in
+run_out-requires-clause-fits g c = let start : c.place_behind-start.result ≡ next_place (rwlock_begin c.args.word.now.number c.args.admission.now c.args.purpose) (Value c.args.seen) = search rules in
     (c.requires.fits.0, subst (λ (p : Place). Fits (IsUp g.C.Clock.tells c.args.limit) c.requires.fits.0 p (stage_of c.args.token.now None)) (sym start) c.requires.fits.1)
 
 pub returns-clause-path : goal.returns-clause-path
-returns-clause-path g c = let start : c.place_behind-start.result ≡ next_place (rwlock_begin c.args.word.number c.args.admission c.args.purpose) (Value c.args.seen) = search rules in
-    subst (λ (at : ℕ → ℕ). Walks at (next_place (rwlock_begin c.args.word.number c.args.admission c.args.purpose) (Value c.args.seen)) (view_of c.args.token.now).steps (view_of c.run_out.new.token).steps c.run_out.result) (rwlock_alone c.args.word c.requires.own.2)
-    (subst (λ (p : Place). Walks (at_in (alone c.args.word)) p (view_of c.args.token.now).steps (view_of c.run_out.new.token).steps c.run_out.result) start c.run_out.ensures.path)
+returns-clause-path g c = let start : c.place_behind-start.result ≡ next_place (rwlock_begin c.args.word.now.number c.args.admission.now c.args.purpose) (Value c.args.seen) = search rules in
+    subst (λ (at : ℕ → ℕ). Walks at (next_place (rwlock_begin c.args.word.now.number c.args.admission.now c.args.purpose) (Value c.args.seen)) (view_of c.args.token.now).steps (view_of c.run_out.new.token).steps c.run_out.result) (rwlock_alone c.args.word.now c.requires.own.2)
+    (subst (λ (p : Place). Walks (at_in (alone c.args.word.now)) p (view_of c.args.token.now).steps (view_of c.run_out.new.token).steps c.run_out.result) start c.run_out.ensures.path)
 
 pub returns-clause-over : goal.returns-clause-over
-returns-clause-over g c = λ (base : List Ownership) fits. let start : c.place_behind-start.result ≡ next_place (rwlock_begin c.args.word.number c.args.admission c.args.purpose) (Value c.args.seen) = search rules in
+returns-clause-over g c = λ (base : List Ownership) fits. let start : c.place_behind-start.result ≡ next_place (rwlock_begin c.args.word.now.number c.args.admission.now c.args.purpose) (Value c.args.seen) = search rules in
     subst (λ (p : Place). IsOver (IsUp g.C.Clock.tells c.args.limit) base (aim_of p) c.run_out.result (stage_of c.run_out.new.token None)) start
     (c.run_out.ensures.over base (subst (λ (p : Place). Fits (IsUp g.C.Clock.tells c.args.limit) base p (stage_of c.args.token.now None)) (sym start) fits))

@@ -17,32 +17,32 @@ use Rattle.lot_driver.proofs.Turning.{words_on}
 use Rattle.lot_driver.proofs.rwlock_calls.missed.Goals as goal
 
 pub run_out-requires-clause-words : goal.run_out-requires-clause-words
-run_out-requires-clause-words g c = let next : c.advance-next.result.0 ≡ next_place (rwlock_deciding c.args.word.number c.args.admission c.args.purpose c.args.expected) (Value c.args.found) = search rules in
-    subst (λ (p : Place). AreWordsFor p (kind_in (alone c.args.word)) (at_in (alone c.args.word))) (sym next)
-    (words_on (rwlock_deciding c.args.word.number c.args.admission c.args.purpose c.args.expected) (Value c.args.found) (kind_in (alone c.args.word)) (at_in (alone c.args.word)) (c.requires.own.3, rwlock_kinds c.args.word c.requires.own.2, rwlock_alone c.args.word c.requires.own.2))
+run_out-requires-clause-words g c = let next : c.advance-next.result.0 ≡ next_place (rwlock_deciding c.args.word.now.number c.args.admission.now c.args.purpose c.args.expected) (Value c.args.found) = search rules in
+    subst (λ (p : Place). AreWordsFor p (kind_in (alone c.args.word.now)) (at_in (alone c.args.word.now))) (sym next)
+    (words_on (rwlock_deciding c.args.word.now.number c.args.admission.now c.args.purpose c.args.expected) (Value c.args.found) (kind_in (alone c.args.word.now)) (at_in (alone c.args.word.now)) (c.requires.own.3, rwlock_kinds c.args.word.now c.requires.own.2, rwlock_alone c.args.word.now c.requires.own.2))
 
 pub run_out-requires-clause-fits : goal.run_out-requires-clause-fits
-run_out-requires-clause-fits g c = let next : c.advance-next.result.0 ≡ next_place (rwlock_deciding c.args.word.number c.args.admission c.args.purpose c.args.expected) (Value c.args.found) = search rules in
-    let none : answer_of (next_act (rwlock_deciding c.args.word.number c.args.admission c.args.purpose c.args.expected) (Value c.args.found)) ≡ None = search rules in
-    let reached = subst (λ (o : Option Answer). ReachedBy (IsUp g.C.Clock.tells c.args.limit) c.requires.reached.0 (of_rwlock c.args.word.number c.args.admission c.args.purpose) (next_place (rwlock_deciding c.args.word.number c.args.admission c.args.purpose c.args.expected) (Value c.args.found)) o (stage_of c.args.token.now None)) none c.requires.reached.1 in
+run_out-requires-clause-fits g c = let next : c.advance-next.result.0 ≡ next_place (rwlock_deciding c.args.word.now.number c.args.admission.now c.args.purpose c.args.expected) (Value c.args.found) = search rules in
+    let none : answer_of (next_act (rwlock_deciding c.args.word.now.number c.args.admission.now c.args.purpose c.args.expected) (Value c.args.found)) ≡ None = search rules in
+    let reached = subst (λ (o : Option Answer). ReachedBy (IsUp g.C.Clock.tells c.args.limit) c.requires.reached.0 (of_rwlock c.args.word.now.number c.args.admission.now c.args.purpose) (next_place (rwlock_deciding c.args.word.now.number c.args.admission.now c.args.purpose c.args.expected) (Value c.args.found)) o (stage_of c.args.token.now None)) none c.requires.reached.1 in
     (c.requires.reached.0, subst (λ (p : Place). Fits (IsUp g.C.Clock.tells c.args.limit) c.requires.reached.0 p (stage_of c.args.token.now None)) (sym next) reached.0)
 
 pub returns-in-Some-clause-path : goal.returns-in-Some-clause-path
-returns-in-Some-clause-path g c = let some : answer_of (next_act (rwlock_deciding c.args.word.number c.args.admission c.args.purpose c.args.expected) (Value c.args.found)) ≡ Some c.in-Some.answer = search rules in
-    inl (refl, end_of (next_act (rwlock_deciding c.args.word.number c.args.admission c.args.purpose c.args.expected) (Value c.args.found)) c.in-Some.answer some)
+returns-in-Some-clause-path g c = let some : answer_of (next_act (rwlock_deciding c.args.word.now.number c.args.admission.now c.args.purpose c.args.expected) (Value c.args.found)) ≡ Some c.in-Some.answer = search rules in
+    inl (refl, end_of (next_act (rwlock_deciding c.args.word.now.number c.args.admission.now c.args.purpose c.args.expected) (Value c.args.found)) c.in-Some.answer some)
 
 pub returns-in-Some-clause-over : goal.returns-in-Some-clause-over
-returns-in-Some-clause-over g c = let some : answer_of (next_act (rwlock_deciding c.args.word.number c.args.admission c.args.purpose c.args.expected) (Value c.args.found)) ≡ Some c.in-Some.answer = search rules in
-    λ (base : List Ownership) reached. subst (λ (o : Option Answer). ReachedBy (IsUp g.C.Clock.tells c.args.limit) base (of_rwlock c.args.word.number c.args.admission c.args.purpose) (next_place (rwlock_deciding c.args.word.number c.args.admission c.args.purpose c.args.expected) (Value c.args.found)) o (stage_of c.args.token.now None)) some reached
+returns-in-Some-clause-over g c = let some : answer_of (next_act (rwlock_deciding c.args.word.now.number c.args.admission.now c.args.purpose c.args.expected) (Value c.args.found)) ≡ Some c.in-Some.answer = search rules in
+    λ (base : List Ownership) reached. subst (λ (o : Option Answer). ReachedBy (IsUp g.C.Clock.tells c.args.limit) base (of_rwlock c.args.word.now.number c.args.admission.now c.args.purpose) (next_place (rwlock_deciding c.args.word.now.number c.args.admission.now c.args.purpose c.args.expected) (Value c.args.found)) o (stage_of c.args.token.now None)) some reached
 
 pub returns-in-None-clause-path : goal.returns-in-None-clause-path
-returns-in-None-clause-path g c = let next : c.advance-next.result.0 ≡ next_place (rwlock_deciding c.args.word.number c.args.admission c.args.purpose c.args.expected) (Value c.args.found) = search rules in
-    inr (subst (λ (at : ℕ → ℕ). Walks at (next_place (rwlock_deciding c.args.word.number c.args.admission c.args.purpose c.args.expected) (Value c.args.found)) (view_of c.args.token.now).steps (view_of c.run_out.new.token).steps c.run_out.result) (rwlock_alone c.args.word c.requires.own.2)
-    (subst (λ (p : Place). Walks (at_in (alone c.args.word)) p (view_of c.args.token.now).steps (view_of c.run_out.new.token).steps c.run_out.result) next c.run_out.ensures.path))
+returns-in-None-clause-path g c = let next : c.advance-next.result.0 ≡ next_place (rwlock_deciding c.args.word.now.number c.args.admission.now c.args.purpose c.args.expected) (Value c.args.found) = search rules in
+    inr (subst (λ (at : ℕ → ℕ). Walks at (next_place (rwlock_deciding c.args.word.now.number c.args.admission.now c.args.purpose c.args.expected) (Value c.args.found)) (view_of c.args.token.now).steps (view_of c.run_out.new.token).steps c.run_out.result) (rwlock_alone c.args.word.now c.requires.own.2)
+    (subst (λ (p : Place). Walks (at_in (alone c.args.word.now)) p (view_of c.args.token.now).steps (view_of c.run_out.new.token).steps c.run_out.result) next c.run_out.ensures.path))
 
 pub returns-in-None-clause-over : goal.returns-in-None-clause-over
-returns-in-None-clause-over g c = let next : c.advance-next.result.0 ≡ next_place (rwlock_deciding c.args.word.number c.args.admission c.args.purpose c.args.expected) (Value c.args.found) = search rules in
-    let none : answer_of (next_act (rwlock_deciding c.args.word.number c.args.admission c.args.purpose c.args.expected) (Value c.args.found)) ≡ None = search rules in
-    λ (base : List Ownership) reached. let goes = subst (λ (o : Option Answer). ReachedBy (IsUp g.C.Clock.tells c.args.limit) base (of_rwlock c.args.word.number c.args.admission c.args.purpose) (next_place (rwlock_deciding c.args.word.number c.args.admission c.args.purpose c.args.expected) (Value c.args.found)) o (stage_of c.args.token.now None)) none reached in
+returns-in-None-clause-over g c = let next : c.advance-next.result.0 ≡ next_place (rwlock_deciding c.args.word.now.number c.args.admission.now c.args.purpose c.args.expected) (Value c.args.found) = search rules in
+    let none : answer_of (next_act (rwlock_deciding c.args.word.now.number c.args.admission.now c.args.purpose c.args.expected) (Value c.args.found)) ≡ None = search rules in
+    λ (base : List Ownership) reached. let goes = subst (λ (o : Option Answer). ReachedBy (IsUp g.C.Clock.tells c.args.limit) base (of_rwlock c.args.word.now.number c.args.admission.now c.args.purpose) (next_place (rwlock_deciding c.args.word.now.number c.args.admission.now c.args.purpose c.args.expected) (Value c.args.found)) o (stage_of c.args.token.now None)) none reached in
     subst (λ (aim : Aim). IsOver (IsUp g.C.Clock.tells c.args.limit) base aim c.run_out.result (stage_of c.run_out.new.token None)) (ap aim_of next ∙ goes.1)
     (c.run_out.ensures.over base (subst (λ (p : Place). Fits (IsUp g.C.Clock.tells c.args.limit) base p (stage_of c.args.token.now None)) (sym next) goes.0))

@@ -4,13 +4,55 @@ ghost use Rattle.parking_lot.specs.RwLockGuards.{IsExclusiveOf, IsSharedOf, IsUp
 ghost use Rattle.parking_lot.specs.RwLockUsers.{lot_of, word_of};
 
 use super::lock_alone;
-use super::waits::{ALL, Coming, Manner, READERS, Scene, Told, play};
+use super::waits::{ALL, Coming, Manner, READERS, Scene, Told, play, play_within};
 use parking_lot::lock_raw::{
-    RawRwLock as RawLock, RawRwLockFair, RawRwLockUpgrade, RawRwLockUpgradeFair,
+    RawRwLock as RawLock, RawRwLockFair, RawRwLockTimed, RawRwLockUpgrade, RawRwLockUpgradeFair,
+    RawRwLockUpgradeTimed,
 };
-use parking_lot::{RawExclusiveGuard, RawRwLock, RawSharedGuard, RawUpgradableGuard, Token};
+use parking_lot::{
+    RawExclusiveGuard, RawRwLock, RawSharedGuard, RawUpgradableGuard, TickClock, Token,
+};
 use std::sync::Wait;
 use std::test::Fail;
+
+// Comes in before a deadline that never comes, tells so, and goes.
+pub(super) fn come_in_time<const RECURSIVE: bool, R: Wait>(
+    rt: &R,
+    lock: &RawRwLock<RECURSIVE>,
+    token: &mut Token,
+    coming: Coming,
+    told: &Told,
+)
+    requires { IsTokenOf (lot_of lock.now) token.old }
+{
+    let clock = TickClock::new();
+    match coming {
+        Coming::TimedReader => match lock.try_lock_shared_until(rt, token, &clock, NEVER) {
+            Ok(Some(guard)) => {
+                told.inside.read();
+                told.note_coming();
+                lock.unlock_shared(rt, token, guard);
+            }
+            _ => {}
+        },
+        Coming::TimedUpgradable => match lock.try_lock_upgradable_until(rt, token, &clock, NEVER) {
+            Ok(Some(guard)) => {
+                told.inside.read_upgradable();
+                told.note_coming();
+                lock.unlock_upgradable(rt, token, guard);
+            }
+            _ => {}
+        },
+        _ => match lock.try_lock_exclusive_until(rt, token, &clock, NEVER) {
+            Some(guard) => {
+                told.inside.write();
+                told.note_coming();
+                lock.unlock_exclusive(rt, token, guard);
+            }
+            None => {}
+        },
+    }
+}
 
 // A writer goes, to whom others wait. Where it hands the lock over, whether somebody had it at once; where it bumps, whether
 // somebody came in before it had the lock again.
@@ -102,6 +144,9 @@ pub(super) fn go_shared<const RECURSIVE: bool, R: Wait>(
     }
 }
 
+// No clock that a test has comes to it.
+const NEVER: u64 = 18446744073709551615;
+
 // So many of those who come stand in each queue.
 fn scene(manner: Manner, coming: [Coming; 3], main: usize, second: usize) -> Scene {
     Scene {
@@ -125,6 +170,35 @@ fn a_writer_hands_the_lock_over(rt: HostRuntime) -> Result<(), Fail> {
 fn a_writer_that_bumps_lets_others_in(rt: HostRuntime) -> Result<(), Fail> {
     assert!(rt; play::<false, HostRuntime>(&rt, rt.alloc(), scene(Manner::Bumped, ALL, 3, 0))?);
     assert!(rt; play::<true, HostRuntime>(&rt, rt.alloc(), scene(Manner::Bumped, READERS, 3, 0))?);
+    Ok(())
+}
+
+const TIMED: [Coming; 3] = [
+    Coming::TimedReader,
+    Coming::TimedUpgradable,
+    Coming::TimedWriter,
+];
+
+#[test]
+fn who_waits_with_a_deadline_is_handed_the_lock(rt: HostRuntime) -> Result<(), Fail> {
+    assert!(rt; play::<false, HostRuntime>(&rt, rt.alloc(), scene(Manner::Handed, TIMED, 3, 0))?);
+    assert!(rt; play::<true, HostRuntime>(&rt, rt.alloc(), scene(Manner::Bumped, TIMED, 3, 0))?);
+    let upgradables = [
+        Coming::TimedUpgradable,
+        Coming::TimedUpgradable,
+        Coming::TimedWriter,
+    ];
+    let handed = scene(Manner::UpgradableHanded, upgradables, 3, 0);
+    assert!(rt; play::<false, HostRuntime>(&rt, rt.alloc(), handed)?);
+    Ok(())
+}
+
+// An exclusive owner hands the lock to all who read, also where they are more than may come in by themselves.
+#[test]
+fn all_who_are_handed_the_lock_have_it(rt: HostRuntime) -> Result<(), Fail> {
+    let readers = [Coming::Reader, Coming::Reader, Coming::Reader];
+    let handed = scene(Manner::Handed, readers, 3, 0);
+    assert!(rt; play_within::<false, HostRuntime>(&rt, rt.alloc(), handed, 1)?);
     Ok(())
 }
 

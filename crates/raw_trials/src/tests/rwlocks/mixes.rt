@@ -6,8 +6,8 @@ ghost use Rattle.parking_lot.specs.RwLockUsers.{lot_of, word_of};
 
 use super::seats;
 use parking_lot::lock_raw::{
-    RawRwLock as RawLock, RawRwLockDowngrade, RawRwLockTimed, RawRwLockUpgrade,
-    RawRwLockUpgradeDowngrade, RawRwLockUpgradeTimed,
+    RawRwLock as RawLock, RawRwLockDowngrade, RawRwLockFair, RawRwLockTimed, RawRwLockUpgrade,
+    RawRwLockUpgradeDowngrade, RawRwLockUpgradeFair, RawRwLockUpgradeTimed,
 };
 use parking_lot::{
     Fault, RawExclusiveGuard, RawRwLock, RawSharedGuard, RawUpgradableGuard, TickClock, Ticket,
@@ -260,6 +260,61 @@ fn try_all<const RECURSIVE: bool, R: Wait>(
     read_upgradable_by(rt, lock, token, inside, came);
 }
 
+// Reads, bumps and gives its right up fairly: to read alone, with the upgradable right, and as a writer.
+fn read_fairly<const RECURSIVE: bool, R: Wait>(
+    rt: &R,
+    lock: &RawRwLock<RECURSIVE>,
+    token: &mut Token,
+    inside: &Inside,
+)
+    requires { IsTokenOf (lot_of lock.now) token.old }
+    ensures { IsTokenOf (lot_of lock.now) token.new }
+{
+    let Ok(guard) = lock.lock_shared(rt, token) else {
+        return;
+    };
+    inside.read();
+    if let Ok(guard) = lock.bump_shared(rt, token, guard) {
+        inside.read();
+        lock.unlock_shared_fair(rt, token, guard);
+    }
+}
+
+fn read_upgradable_fairly<const RECURSIVE: bool, R: Wait>(
+    rt: &R,
+    lock: &RawRwLock<RECURSIVE>,
+    token: &mut Token,
+    inside: &Inside,
+)
+    requires { IsTokenOf (lot_of lock.now) token.old }
+    ensures { IsTokenOf (lot_of lock.now) token.new }
+{
+    let Ok(guard) = lock.lock_upgradable(rt, token) else {
+        return;
+    };
+    inside.read_upgradable();
+    if let Ok(guard) = lock.bump_upgradable(rt, token, guard) {
+        inside.read_upgradable();
+        lock.unlock_upgradable_fair(rt, token, guard);
+    }
+}
+
+fn write_fairly<const RECURSIVE: bool, R: Wait>(
+    rt: &R,
+    lock: &RawRwLock<RECURSIVE>,
+    token: &mut Token,
+    inside: &Inside,
+)
+    requires { IsTokenOf (lot_of lock.now) token.old }
+    ensures { IsTokenOf (lot_of lock.now) token.new }
+{
+    let guard = lock.lock_exclusive(rt, token);
+    inside.write();
+    let guard = lock.bump_exclusive(rt, token, guard);
+    inside.write();
+    lock.unlock_exclusive_fair(rt, token, guard);
+}
+
 // One turn of a thread, by a number.
 fn turn<const RECURSIVE: bool, R: Wait>(
     rt: &R,
@@ -271,13 +326,16 @@ fn turn<const RECURSIVE: bool, R: Wait>(
     requires { IsTokenOf (lot_of lock.now) token.old }
     ensures { IsTokenOf (lot_of lock.now) token.new }
 {
-    match number % 7 {
+    match number % 10 {
         0 => write(rt, lock, token, inside),
         1 => go_up_and_down(rt, lock, token, inside),
         2 => go_down(rt, lock, token, inside),
         3 => upgrade_soon(rt, lock, token, inside, None),
         4 => upgrade_soon(rt, lock, token, inside, Some(9)),
         5 => try_all(rt, lock, token, inside, 5),
+        6 => read_fairly(rt, lock, token, inside),
+        7 => read_upgradable_fairly(rt, lock, token, inside),
+        8 => write_fairly(rt, lock, token, inside),
         _ => read(rt, lock, token, inside),
     }
 }

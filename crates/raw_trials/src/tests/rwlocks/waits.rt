@@ -1,9 +1,9 @@
 //! Threads that wait for a reader-writer lock until another lets them in.
-ghost use Rattle.std.specs.Prelude.{◌≡◌, All};
+ghost use Rattle.std.specs.Prelude.{◌≡◌, ◌≤◌, All};
 ghost use Rattle.parking_lot_core.specs.Tokens.{IsTicketOf, IsTokenOf};
 ghost use Rattle.parking_lot.specs.RwLockUsers.{lot_of};
 
-use super::fair::{go_alone, go_shared, go_upgradable};
+use super::fair::{come_in_time, go_alone, go_shared, go_upgradable};
 use super::mixes::Inside;
 use super::{next_of, seats};
 use parking_lot::lock_raw::{
@@ -102,6 +102,10 @@ pub(super) enum Coming {
     Reader,
     Upgradable,
     Writer,
+    /// The same, and its wait has a deadline, which never comes.
+    TimedReader,
+    TimedUpgradable,
+    TimedWriter,
 }
 
 /// How who holds the lock lets the others in.
@@ -151,7 +155,7 @@ pub(super) struct Told {
     came: AtomicUsize,
     // Whether who has come in stays.
     stays: AtomicBool,
-    inside: Inside,
+    pub(super) inside: Inside,
 }
 
 impl Told {
@@ -176,7 +180,7 @@ impl Told {
     }
 
     // Tells that it has come in, and goes once it may.
-    fn note_coming(&self) {
+    pub(super) fn note_coming(&self) {
         self.came.fetch_add(1, SeqCst);
         for _ in 0..TURNS {
             if !self.stays.load(SeqCst) {
@@ -229,6 +233,7 @@ fn come<const RECURSIVE: bool, R: Wait>(
             told.note_coming();
             lock.unlock_exclusive(rt, token, guard);
         }
+        _ => come_in_time(rt, lock, token, coming, told),
     }
 }
 
@@ -423,7 +428,19 @@ pub(super) fn play<const RECURSIVE: bool, R: Threads + Wait + Sync>(
     alloc: Global,
     scene: Scene,
 ) -> Result<bool, Fault> {
-    let (lot, lock, mut tickets) = seats::<RECURSIVE>(alloc, 4, 1000)?;
+    play_within::<RECURSIVE, R>(rt, alloc, scene, 1000)
+}
+
+// The same on a lock that so many may share.
+pub(super) fn play_within<const RECURSIVE: bool, R: Threads + Wait + Sync>(
+    rt: &R,
+    alloc: Global,
+    scene: Scene,
+    limit: u64,
+) -> Result<bool, Fault>
+    requires { limit ≤ 1000 }
+{
+    let (lot, lock, mut tickets) = seats::<RECURSIVE>(alloc, 4, limit)?;
     let Some(ticket) = next_of(&lot, &mut tickets) else {
         return Err(Fault::NoMemory);
     };

@@ -1,0 +1,4 @@
+use Rattle.lot_words.proofs.table.LotWords.open_held.Given as goal
+
+abbrev pub ghosts-take_permit : goal.ghosts-take_permit
+ghosts-take_permit a = record { family = a.self.now.table.shared.key.1.family }

@@ -1,4 +1,0 @@
-use Rattle.lot_words.proofs.table.LotWords.open_right.Given as goal
-
-abbrev pub ghosts-take_permit : goal.ghosts-take_permit
-ghosts-take_permit a = record { family = a.self.now.table.shared.key.1.family }

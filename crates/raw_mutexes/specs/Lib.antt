@@ -1,0 +1,2 @@
+pub mod MutexGuards
+pub mod Words

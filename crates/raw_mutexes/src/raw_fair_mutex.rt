@@ -1,0 +1,158 @@
+//! The mutex whose `unlock` hands it over, without a value.
+ghost use Rattle.std.specs.Prelude.{◌≡◌};
+ghost use Rattle.std.specs.Arc.{arc_value};
+ghost use Rattle.parking_lot_core.specs.Tokens.{IsTokenOf, view_of, last_of};
+ghost use Rattle.lot_driver.specs.Calls.{fairly, HasWalked, Sees, Releases};
+ghost use Rattle.lot_words.specs.declared.words.WordKind.TheVariants.{Mutex};
+ghost use Rattle.lot_driver.specs.Drawing.{Drew, FoundFull};
+ghost use Rattle.raw_mutexes.specs.MutexGuards.{IsGuardOf, IsGuardOf-prop, IsOpenGuardOf, IsOpenGuardOf-prop, permit_in, StaysAs, StaysAs-on};
+ghost use Rattle.lot_driver.specs.Telling.{steps_of};
+
+use crate::guards::{OpenGuard, RawGuard};
+use crate::raw_mutex::RawMutex;
+use lock_raw::{RawMutexFair, RawMutexTimed};
+use parking_lot_core::{Clock, Fault, Key, ParkingLot, Permit, Token};
+use std::marker::Model;
+use std::sync::{Arc, Wait};
+use std::time::Duration;
+
+/// A mutex of a lot whose `unlock` hands it to the first who waits.
+#[derive(Drop)]
+pub struct RawFairMutex {
+    raw: RawMutex,
+}
+
+// In a clause it is its raw mutex.
+impl Model for RawFairMutex {
+    ghost use Rattle.raw_mutexes.specs.declared.raw_mutex.RawMutex.{RawMutex};
+
+    ghost Value = { RawMutex };
+
+    ghost view = { λ mutex. mutex.raw };
+}
+
+impl RawFairMutex {
+    ghost use Rattle.std.specs.Prelude.{◌*◌};
+    ghost use Rattle.raw_mutexes.specs.Words.{word_of};
+
+    /// The key of its queue.
+    pub fn key(&self) -> Key
+        ensures { result ≡ 2 * (word_of self.now).number }
+    {
+        self.raw.key()
+    }
+}
+
+impl lock_raw::RawMutex for RawFairMutex {
+    type Lot = ParkingLot;
+
+    type Token = Token;
+
+    type Guard = RawGuard;
+
+    type Opened = OpenGuard;
+
+    ghost lot_of = { λ mutex. arc_value mutex.lot };
+
+    ghost is_token_of = { λ lot token. IsTokenOf lot token };
+
+    ghost stays = { λ old new. StaysAs old new };
+
+    ghost stays_on = { StaysAs-on };
+
+    ghost is_guard_of = { λ mutex guard. IsGuardOf (arc_value mutex.lot) mutex.word guard };
+
+    ghost guard_once = { λ mutex guard. IsGuardOf-prop (arc_value mutex.lot) mutex.word guard };
+
+    ghost permit_of = { λ mutex. permit_in (arc_value mutex.lot) mutex.word };
+
+    ghost is_opened_of = { λ mutex opened. IsOpenGuardOf (arc_value mutex.lot) mutex.word opened };
+
+    ghost opened_once = { λ mutex opened. IsOpenGuardOf-prop (arc_value mutex.lot) mutex.word opened };
+
+    ghost drew = { λ mutex old new. Drew Mutex (arc_value mutex.lot) mutex.word old new };
+
+    ghost found_full = { λ lot old new. FoundFull lot old new };
+
+    ghost walked = { λ mutex call answer old new. HasWalked mutex.word.number (fairly call) answer old new };
+
+    ghost released = { λ mutex call old new.
+        Releases mutex.word.number (fairly call) (steps_of old) (steps_of new) (last_of new) };
+
+    ghost looked = { λ mutex locked old new. Sees mutex.word.number locked (steps_of old) (steps_of new) };
+
+    fn new(lot: &Arc<ParkingLot>, token: &mut Token) -> Result<RawFairMutex, Fault> {
+        let raw = <RawMutex as lock_raw::RawMutex>::new(lot, token)?;
+        Ok(RawFairMutex { raw })
+    }
+
+    #[inline]
+    fn lock<R: Wait>(&self, rt: &R, token: &mut Token) -> RawGuard {
+        lock_raw::RawMutex::lock(&self.raw, rt, token)
+    }
+
+    #[inline]
+    fn try_lock(&self, token: &mut Token) -> Option<RawGuard> {
+        lock_raw::RawMutex::try_lock(&self.raw, token)
+    }
+
+    #[inline]
+    fn unlock<R: Wait>(&self, rt: &R, token: &mut Token, guard: RawGuard) {
+        self.unlock_fair(rt, token, guard);
+    }
+
+    #[inline]
+    fn is_locked(&self, token: &mut Token) -> bool {
+        lock_raw::RawMutex::is_locked(&self.raw, token)
+    }
+
+    #[inline]
+    fn open_value(&self, guard: RawGuard) -> (OpenGuard, Permit) {
+        lock_raw::RawMutex::open_value(&self.raw, guard)
+    }
+
+    #[inline]
+    fn close_value(&self, opened: OpenGuard, permit: Permit) -> RawGuard {
+        lock_raw::RawMutex::close_value(&self.raw, opened, permit)
+    }
+
+    fn has_two_guards(&self, token: &mut Token, one: RawGuard, other: RawGuard) -> ! {
+        lock_raw::RawMutex::has_two_guards(&self.raw, token, one, other)
+    }
+}
+
+impl RawMutexFair for RawFairMutex {
+    #[inline]
+    fn unlock_fair<R: Wait>(&self, rt: &R, token: &mut Token, guard: RawGuard) {
+        self.raw.unlock_fair(rt, token, guard);
+    }
+
+    #[inline]
+    fn bump<R: Wait>(&self, rt: &R, token: &mut Token, guard: RawGuard) -> RawGuard {
+        self.raw.bump(rt, token, guard)
+    }
+}
+
+impl RawMutexTimed for RawFairMutex {
+    #[inline]
+    fn try_lock_for<R: Wait, C: Clock>(
+        &self,
+        rt: &R,
+        token: &mut Token,
+        clock: &C,
+        timeout: Duration,
+    ) -> Option<RawGuard> {
+        self.raw.try_lock_for(rt, token, clock, timeout)
+    }
+
+    #[inline]
+    fn try_lock_until<R: Wait, C: Clock>(
+        &self,
+        rt: &R,
+        token: &mut Token,
+        clock: &C,
+        deadline: u64,
+    ) -> Option<RawGuard> {
+        self.raw.try_lock_until(rt, token, clock, deadline)
+    }
+}

@@ -1,0 +1,285 @@
+//! The mutex, without a value.
+ghost use Rattle.std.specs.Prelude.{◌≡◌, ◌<◌, ◌*◌, ◌⊎◌, ◌++◌, [], ◌∷◌, List, None, true, IfNone, IfSome, MatchResult};
+ghost use Rattle.std.specs.Arc.{arc_value};
+ghost use Rattle.lot_base.specs.Clocks.{IsUp};
+ghost use Rattle.lock_raw.specs.Answers.{answer_by};
+ghost use Rattle.lot_calls.specs.declared.calls.MutexCall.TheVariants.{LockTimed};
+ghost use Rattle.lot_words.specs.Lots.{IsWordOf};
+ghost use Rattle.lot_words.specs.Plays.{piece, left_over, takes_in};
+ghost use Rattle.lot_words.specs.Steps.{has};
+ghost use Rattle.lot_words.specs.declared.words.WordKind.TheVariants.{Mutex};
+ghost use Rattle.parking_lot_core.specs.Tokens.{IsTokenOf, IsSameThread, view_of, last_of};
+ghost use Rattle.lot_words.specs.declared.views.WordStep.{WordStep};
+ghost use Rattle.lot_driver.specs.Calls.{MeetAt, purpose_in, IsUnfinished, HasWalked, Sees, Releases, WalksBehind};
+ghost use Rattle.lot_driver.specs.Drawing.{Drew, FoundFull};
+ghost use Rattle.raw_mutexes.specs.MutexGuards.{IsGuardOf, IsGuardOf-prop, IsOpenGuardOf, IsOpenGuardOf-prop, permit_in, StaysAs, StaysAs-on};
+ghost use Rattle.lot_driver.specs.MutexFitting.{IsMutexOver, held};
+ghost use Rattle.lot_driver.specs.Paths.{mutex_at, at_mutex, Walks};
+ghost use Rattle.lot_driver.specs.Paths.{step as seen_step};
+ghost use Rattle.lot_driver.specs.Stages.{stage_of};
+ghost use Rattle.lot_driver.specs.Telling.{owns_of, steps_of};
+
+use crate::guards::{OpenGuard, RawGuard};
+use lot_base::main_key;
+use lot_calls::{Answer, MutexCall};
+use lot_driver::driver::{NO_LIMIT, behind, step};
+use lot_mutex::{LOCKED, PARKED, is_locked, is_parked};
+use parking_lot_core::{
+    Clock, Fault, Key, Op, ParkingLot, Permit, Token, Want, Word, WordKind, to_deadline,
+};
+use std::sync::{Arc, Wait};
+use std::time::Duration;
+
+// Takes a word that is 0.
+const ENTER: Op = Op::Exchange {
+    from: 0,
+    to: LOCKED,
+};
+
+// Leaves a word that says that nobody waits.
+const LEAVE: Op = Op::Exchange {
+    from: LOCKED,
+    to: 0,
+};
+
+/// A mutex of a lot. Its word is 1 where it is locked, and 2 where a thread may be parked, or the sum of these.
+#[derive(Drop)]
+pub struct RawMutex {
+    lot: Arc<ParkingLot>,
+    word: Word,
+    ghost drawn: { IsWordOf (arc_value lot).words word × (word.kind ≡ Mutex) × (word.number < 9223372036854775808) },
+}
+
+impl RawMutex {
+    ghost use Rattle.raw_mutexes.specs.Words.{lot_of, word_of};
+
+    /// The key of its queue.
+    pub fn key(&self) -> Key
+        ensures { result ≡ 2 * (word_of self.now).number }
+    {
+        main_key(self.word.number())
+    }
+
+    // The guard of who owns the mutex. It takes the lot from its caller, who has it at hand: behind an atomic step it would be loaded anew.
+    #[inline]
+    fn split(&self, lot: &ParkingLot, token: &mut Token) -> RawGuard
+        requires lot { lot.now ≡ lot_of self.now }
+        requires own { IsTokenOf (lot_of self.now) token.old }
+        requires held { has (held (word_of self.now).number) (view_of token.old).owns ≡ true }
+        ensures own { IsSameThread (lot_of self.now) token.old token.new × (last_of token.new ≡ last_of token.old) }
+        ensures left { view_of token.new ≡ left_over (held (word_of self.now).number) (view_of token.old) }
+        ensures guard { IsGuardOf (lot_of self.now) (word_of self.now) result }
+    {
+        RawGuard {
+            held: lot.split_held(token, self.word, Want::Exclusive),
+        }
+    }
+
+    // Spends a guard: the token owns the mutex then.
+    #[inline]
+    fn join(&self, lot: &ParkingLot, token: &mut Token, guard: RawGuard)
+        requires lot { lot.now ≡ lot_of self.now }
+        requires own { IsTokenOf (lot_of self.now) token.old × IsGuardOf (lot_of self.now) (word_of self.now) guard }
+        ensures own { IsSameThread (lot_of self.now) token.old token.new × (last_of token.new ≡ last_of token.old) }
+        ensures joined { view_of token.new ≡ takes_in (view_of token.old) (piece (held (word_of self.now).number)) }
+    {
+        let RawGuard { held } = guard;
+        lot.join_held(token, self.word, Want::Exclusive, held);
+    }
+
+    // The slow half of a call without a limit. It takes the mutex by its address, so that the fast half copies nothing.
+    #[cold]
+    #[inline(never)]
+    fn go_on<R: Wait>(&self, rt: &R, token: &mut Token, call: MutexCall, seen: u64) -> Answer
+        requires own { MeetAt (lot_of self.now) token.old (word_of self.now) }
+        requires goes_on { IsUnfinished (word_of self.now).number call seen (view_of token.old).owns }
+        ensures own { IsSameThread (lot_of self.now) token.old token.new }
+        ensures path { WalksBehind (word_of self.now).number call seen token.old token.new result }
+        ensures rest { (more : List WordStep) × (steps_of token.new ≡ steps_of token.old ++ more) }
+        ensures over { IsMutexOver ⊥ (word_of self.now).number (owns_of token.old) (purpose_in call) result
+            (stage_of token.new None) }
+    {
+        behind(rt, &self.lot, token, self.word, NO_LIMIT, call, seen)
+    }
+
+    #[inline]
+    fn lock_timed<R: Wait, C: Clock>(
+        &self,
+        rt: &R,
+        token: &mut Token,
+        limit: Option<(&C, u64)>,
+    ) -> Option<RawGuard>
+        requires { IsTokenOf (lot_of self.now) token.old }
+        ensures token { IsTokenOf (lot_of self.now) token.new × StaysAs token.old token.new }
+        ensures guard { IfSome result (IsGuardOf (lot_of self.now) (word_of self.now)) }
+        ensures path { HasWalked (word_of self.now).number LockTimed (answer_by result) token.old token.new }
+        ensures late { IfNone result (IsUp C.tells limit.entry) }
+    {
+        let lot: &ParkingLot = &self.lot;
+        let seen = step(lot, token, self.word, ENTER);
+        if seen == 0 {
+            return Some(self.split(lot, token));
+        }
+        let answer = behind(rt, lot, token, self.word, limit, MutexCall::LockTimed, seen);
+        if matches!(answer, Answer::No) {
+            return None;
+        }
+        Some(self.split(lot, token))
+    }
+}
+
+impl lock_raw::RawMutex for RawMutex {
+    type Lot = ParkingLot;
+
+    type Token = Token;
+
+    type Guard = RawGuard;
+
+    type Opened = OpenGuard;
+
+    ghost lot_of = { λ mutex. arc_value mutex.lot };
+
+    ghost is_token_of = { λ lot token. IsTokenOf lot token };
+
+    ghost stays = { λ old new. StaysAs old new };
+
+    ghost stays_on = { StaysAs-on };
+
+    ghost is_guard_of = { λ mutex guard. IsGuardOf (arc_value mutex.lot) mutex.word guard };
+
+    ghost guard_once = { λ mutex guard. IsGuardOf-prop (arc_value mutex.lot) mutex.word guard };
+
+    ghost permit_of = { λ mutex. permit_in (arc_value mutex.lot) mutex.word };
+
+    ghost is_opened_of = { λ mutex opened. IsOpenGuardOf (arc_value mutex.lot) mutex.word opened };
+
+    ghost opened_once = { λ mutex opened. IsOpenGuardOf-prop (arc_value mutex.lot) mutex.word opened };
+
+    ghost drew = { λ mutex old new. Drew Mutex (arc_value mutex.lot) mutex.word old new };
+
+    ghost found_full = { λ lot old new. FoundFull lot old new };
+
+    ghost walked = { λ mutex call answer old new. HasWalked mutex.word.number call answer old new };
+
+    ghost released = { λ mutex call old new.
+        Releases mutex.word.number call (steps_of old) (steps_of new) (last_of new) };
+
+    ghost looked = { λ mutex locked old new. Sees mutex.word.number locked (steps_of old) (steps_of new) };
+
+    fn new(lot: &Arc<ParkingLot>, token: &mut Token) -> Result<RawMutex, Fault> {
+        let Ok(lot) = Arc::try_clone(lot) else {
+            return Err(Fault::NoMemory);
+        };
+        let word = lot.new_word(token, WordKind::Mutex)?;
+        Ok(RawMutex { lot, word })
+    }
+
+    #[inline]
+    fn lock<R: Wait>(&self, rt: &R, token: &mut Token) -> RawGuard {
+        let lot: &ParkingLot = &self.lot;
+        let seen = step(lot, token, self.word, ENTER);
+        if seen != 0 {
+            self.go_on(rt, token, MutexCall::Lock, seen);
+            return self.split(lot, token);
+        }
+        self.split(lot, token)
+    }
+
+    #[inline]
+    fn try_lock(&self, token: &mut Token) -> Option<RawGuard> {
+        let lot: &ParkingLot = &self.lot;
+        let seen = step(lot, token, self.word, Op::Or(LOCKED));
+        if is_locked(seen) {
+            return None;
+        }
+        Some(self.split(lot, token))
+    }
+
+    #[inline]
+    fn unlock<R: Wait>(&self, rt: &R, token: &mut Token, guard: RawGuard) {
+        let lot: &ParkingLot = &self.lot;
+        self.join(lot, token, guard);
+        let seen = step(lot, token, self.word, Op::Sub(LOCKED));
+        // An owner finds one of two values. The flags of the subtraction tell them apart, so the value isn't asked for.
+        if seen != LOCKED {
+            self.go_on(rt, token, MutexCall::Unlock, LOCKED | PARKED);
+        }
+    }
+
+    #[inline]
+    fn is_locked(&self, token: &mut Token) -> bool {
+        is_locked(step(&self.lot, token, self.word, Op::Load))
+    }
+
+    #[inline]
+    fn open_value(&self, guard: RawGuard) -> (OpenGuard, Permit) {
+        let RawGuard { held } = guard;
+        let (opened, permit) = self.lot.open_held(self.word, held);
+        (OpenGuard { opened }, permit)
+    }
+
+    #[inline]
+    fn close_value(&self, opened: OpenGuard, permit: Permit) -> RawGuard {
+        let OpenGuard { opened } = opened;
+        RawGuard {
+            held: self.lot.close_held(self.word, opened, permit),
+        }
+    }
+
+    // A step of who owns the mutex twice would find a word that says so, and there is none.
+    fn has_two_guards(&self, token: &mut Token, one: RawGuard, other: RawGuard) -> ! {
+        let lot: &ParkingLot = &self.lot;
+        self.join(lot, token, one);
+        self.join(lot, token, other);
+        step(lot, token, self.word, Op::Load);
+        unreachable!()
+    }
+}
+
+impl lock_raw::RawMutexFair for RawMutex {
+    #[inline]
+    fn unlock_fair<R: Wait>(&self, rt: &R, token: &mut Token, guard: RawGuard) {
+        let lot: &ParkingLot = &self.lot;
+        self.join(lot, token, guard);
+        let seen = step(lot, token, self.word, LEAVE);
+        if seen != LOCKED {
+            self.go_on(rt, token, MutexCall::UnlockFair, seen);
+        }
+    }
+
+    #[inline]
+    fn bump<R: Wait>(&self, rt: &R, token: &mut Token, guard: RawGuard) -> RawGuard {
+        let lot: &ParkingLot = &self.lot;
+        self.join(lot, token, guard);
+        let seen = step(lot, token, self.word, Op::Load);
+        if is_parked(seen) {
+            self.go_on(rt, token, MutexCall::Bump, seen);
+            return self.split(lot, token);
+        }
+        self.split(lot, token)
+    }
+}
+
+impl lock_raw::RawMutexTimed for RawMutex {
+    fn try_lock_for<R: Wait, C: Clock>(
+        &self,
+        rt: &R,
+        token: &mut Token,
+        clock: &C,
+        timeout: Duration,
+    ) -> Option<RawGuard> {
+        let limit = to_deadline(clock.now(), timeout);
+        self.lock_timed(rt, token, limit.map(|deadline| (clock, deadline)))
+    }
+
+    #[inline]
+    fn try_lock_until<R: Wait, C: Clock>(
+        &self,
+        rt: &R,
+        token: &mut Token,
+        clock: &C,
+        deadline: u64,
+    ) -> Option<RawGuard> {
+        self.lock_timed(rt, token, Some((clock, deadline)))
+    }
+}

@@ -1,0 +1,51 @@
+use Rattle.std.proofs.Common.{rules, ◌≡◌, ◌∙◌, ◌∷◌, List, None, true, ap, inl, refl, subst, sym}
+use Rattle.lot_base.specs.declared.wants.Want.{Want}
+use Rattle.lot_calls.specs.declared.calls.Patience.TheVariants.{Patient}
+use Rattle.lot_calls.specs.declared.outcomes.Answer.{Answer}
+use Rattle.lot_rwlock.specs.RwLockSteps.{wanted}
+use Rattle.lot_rwlock_fair.specs.declared.places.RwLockCallPlace.TheVariants.{Glance}
+use Rattle.lot_steps.specs.declared.places.Place.TheVariants.{RwLock}
+use Rattle.lot_words.specs.Rights.{owner_for}
+use Rattle.lot_words.specs.Steps.{has, without}
+use Rattle.lot_words.specs.Views.{owning}
+use Rattle.lot_words.specs.declared.views.View.{View}
+use Rattle.lot_words.specs.declared.views.WordStep.{WordStep}
+use Rattle.parking_lot_core.specs.Tokens.{view_of}
+use Rattle.lot_driver.specs.Paths.{Walks, at_rwlock, rwlock_at}
+use Rattle.lot_driver.specs.Stages.{stage_of}
+use Rattle.lot_driver.proofs.RwLockBumpFull.{bump_sees_full}
+use Rattle.lot_driver.proofs.RwLockCalling.{entered_right}
+use Rattle.lot_driver.proofs.RwLockFairCalls.{bump_full}
+use Rattle.lot_driver.proofs.RwLockNeeds.{has_right, left_beside}
+use Rattle.raw_rwlocks.proofs.rwlock_rights.LotRwLock.bump.Goals as goal
+
+pub bump-requires-clause-right : goal.bump-requires-clause-right
+bump-requires-clause-right g c = ((view_of c.args.token.now).owns, (owner_for (wanted c.args.access), (view_of c.args.token.now).owns, refl, (λ settled. refl), ap (λ (v : View). v.owns) c.join.ensures.joined ∙ ap (λ (w : Want). owning (rwlock_at c.args.self.now.word.number) (owner_for w) ∷ (view_of c.args.token.now).owns) c.wanted.ensures))
+
+pub split-requires-clause-held : goal.split-requires-clause-held
+split-requires-clause-held g c = let over = c.bump.ensures.over (view_of c.args.token.now).owns (owner_for (wanted c.args.access), (view_of c.args.token.now).owns, refl, (λ settled. refl), ap (λ (v : View). v.owns) c.join.ensures.joined ∙ ap (λ (w : Want). owning (rwlock_at c.args.self.now.word.number) (owner_for w) ∷ (view_of c.args.token.now).owns) c.wanted.ensures) in
+    let right = (entered_right ⊥ c.args.self.now.word.number (view_of c.args.token.now).owns c.args.self.now.admission c.args.access Patient c.bump.result (stage_of c.bump.new.token None) over (inl c.in-Ok.is)).1 in
+    subst (λ (w : Want). has (owning (rwlock_at c.args.self.now.word.number) (owner_for w)) (view_of c.bump.new.token).owns ≡ true) (sym c.wanted-in-Ok.ensures) (has_right c.args.self.now.word.number (owner_for (wanted c.args.access)) (view_of c.args.token.now).owns (view_of c.bump.new.token).owns right)
+
+pub returns-in-Ok-clause-token : goal.returns-in-Ok-clause-token
+returns-in-Ok-clause-token g c = let over = c.bump.ensures.over (view_of c.args.token.now).owns (owner_for (wanted c.args.access), (view_of c.args.token.now).owns, refl, (λ settled. refl), ap (λ (v : View). v.owns) c.join.ensures.joined ∙ ap (λ (w : Want). owning (rwlock_at c.args.self.now.word.number) (owner_for w) ∷ (view_of c.args.token.now).owns) c.wanted.ensures) in
+    let right = (entered_right ⊥ c.args.self.now.word.number (view_of c.args.token.now).owns c.args.self.now.admission c.args.access Patient c.bump.result (stage_of c.bump.new.token None) over (inl c.in-Ok.is)).1 in (
+      search rules,
+      (
+        search rules,
+        λ settled. ap (λ (v : View). v.owns) c.split.ensures.left ∙ ap (λ (w : Want). without (owning (rwlock_at c.args.self.now.word.number) (owner_for w)) (view_of c.bump.new.token).owns) c.wanted-in-Ok.ensures
+            ∙ left_beside c.args.self.now.word.number (owner_for (wanted c.args.access)) (view_of c.args.token.now).owns (view_of c.bump.new.token).owns right settled,
+      ),
+    )
+
+pub returns-in_default : goal.returns-in_default
+returns-in_default g c = let over = c.bump.ensures.over (view_of c.args.token.now).owns (owner_for (wanted c.args.access), (view_of c.args.token.now).owns, refl, (λ settled. refl), ap (λ (v : View). v.owns) c.join.ensures.joined ∙ ap (λ (w : Want). owning (rwlock_at c.args.self.now.word.number) (owner_for w) ∷ (view_of c.args.token.now).owns) c.wanted.ensures) in
+    let full = bump_full c.args.self.now.word.number (view_of c.args.token.now).owns c.args.self.now.admission c.args.access c.bump.result (stage_of c.bump.new.token None) over c.in_default.not-Ok in
+    let walked = subst (λ (answer : Answer). Walks (at_rwlock c.args.self.now.word.number) (RwLock c.args.self.now.word.number c.args.self.now.admission (Glance c.args.access)) (view_of c.args.token.now).steps (view_of c.bump.new.token).steps answer) full.0
+          (subst (λ (steps : List WordStep). Walks (at_rwlock c.args.self.now.word.number) (RwLock c.args.self.now.word.number c.args.self.now.admission (Glance c.args.access)) steps (view_of c.bump.new.token).steps c.bump.result) (ap (λ (v : View). v.steps) c.join.ensures.joined) c.bump.ensures.path) in record {
+      token = (search rules, (search rules, full.2));
+      right = refl;
+      path = walked;
+      counted = full.1;
+      full = bump_sees_full c.args.access c.args.self.now.word.number c.args.self.now.admission c.args.token.now c.bump.new.token walked;
+    }

@@ -1,0 +1,36 @@
+use Rattle.std.proofs.Common.{rules, ◌≡◌, true, List, ap, ◌∙◌, sym, subst}
+use Rattle.lot_base.specs.declared.wants.Want.{Want}
+use Rattle.lot_rwlock.specs.declared.purposes.RwLockPurpose.TheVariants.{Downgrade}
+use Rattle.lot_calls.specs.declared.outcomes.Answer.{Answer}
+use Rattle.lot_calls.specs.declared.outcomes.Answer.TheVariants.{Ok}
+use Rattle.lot_rwlock.specs.RwLockSteps.{from_of, to_of, wanted}
+use Rattle.lot_words.specs.Rights.{owner_for}
+use Rattle.lot_words.specs.Steps.{has, without}
+use Rattle.lot_words.specs.Views.{owning}
+use Rattle.lot_words.specs.declared.views.View.{View}
+use Rattle.lot_words.specs.declared.views.WordStep.{WordStep}
+use Rattle.parking_lot_core.specs.Tokens.{view_of}
+use Rattle.lot_driver.specs.Paths.{Walks, at_rwlock, rwlock_at}
+use Rattle.lot_driver.specs.RwLockCalls.{rwlock_begin}
+use Rattle.lot_driver.specs.RwLockFitting.{IsBeside}
+use Rattle.lot_driver.proofs.RwLockNeeds.{has_right, left_beside}
+use Rattle.lot_driver.proofs.RwLockRights.{joined_beside}
+use Rattle.raw_rwlocks.proofs.rwlock_rights.LotRwLock.downgrade.Goals as goal
+
+pub split-requires-clause-held : goal.split-requires-clause-held
+split-requires-clause-held g c = let n = c.args.self.now.word.number in let owns = (view_of c.args.token.now).owns in
+    let over = c.call.ensures.over owns (joined_beside n c.greater.result (wanted (from_of c.args.downgrade)) owns (view_of c.join.new.token).owns c.greater.ensures (ap (λ (v : View). v.owns) c.join.ensures.joined)) in
+    subst (λ (w : Want). has (owning (rwlock_at c.args.self.now.word.number) (owner_for w)) (view_of c.call.new.token).owns ≡ true) (sym c.lesser.ensures) (has_right n (owner_for (wanted (to_of c.args.downgrade))) owns (view_of c.call.new.token).owns over.1)
+
+pub returns-clause-token : goal.returns-clause-token
+returns-clause-token g c = let n = c.args.self.now.word.number in let owns = (view_of c.args.token.now).owns in
+    let over = c.call.ensures.over owns (joined_beside n c.greater.result (wanted (from_of c.args.downgrade)) owns (view_of c.join.new.token).owns c.greater.ensures (ap (λ (v : View). v.owns) c.join.ensures.joined)) in
+    let left = subst (λ (w : Want). IsBeside c.args.self.now.word.number (view_of c.args.token.now).owns (without (owning (rwlock_at c.args.self.now.word.number) (owner_for w)) (view_of c.call.new.token).owns)) (sym c.lesser.ensures) (left_beside n (owner_for (wanted (to_of c.args.downgrade))) owns (view_of c.call.new.token).owns over.1) in
+    (search rules, (search rules, λ settled. ap (λ (v : View). v.owns) c.split.ensures.left ∙ left settled))
+
+pub returns-clause-path : goal.returns-clause-path
+returns-clause-path g c = let n = c.args.self.now.word.number in let owns = (view_of c.args.token.now).owns in
+    let over = c.call.ensures.over owns (joined_beside n c.greater.result (wanted (from_of c.args.downgrade)) owns (view_of c.join.new.token).owns c.greater.ensures (ap (λ (v : View). v.owns) c.join.ensures.joined)) in
+    subst (λ (steps : List WordStep). Walks (at_rwlock c.args.self.now.word.number) (rwlock_begin c.args.self.now.word.number c.args.self.now.admission (Downgrade c.args.downgrade)) (view_of c.args.token.now).steps steps Ok) (sym (ap (λ (v : View). v.steps) c.split.ensures.left))
+    (subst (λ (answer : Answer). Walks (at_rwlock c.args.self.now.word.number) (rwlock_begin c.args.self.now.word.number c.args.self.now.admission (Downgrade c.args.downgrade)) (view_of c.args.token.now).steps (view_of c.call.new.token).steps answer) over.0
+    (subst (λ (steps : List WordStep). Walks (at_rwlock c.args.self.now.word.number) (rwlock_begin c.args.self.now.word.number c.args.self.now.admission (Downgrade c.args.downgrade)) steps (view_of c.call.new.token).steps c.call.result) (ap (λ (v : View). v.steps) c.join.ensures.joined) c.call.ensures.path))

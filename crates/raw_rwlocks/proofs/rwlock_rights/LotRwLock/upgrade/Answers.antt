@@ -1,0 +1,59 @@
+use Rattle.std.proofs.Common.{rules, List, Option, ap, ◌∙◌, sym, subst, refl, None}
+use Rattle.lot_base.specs.Clocks.{IsUp}
+use Rattle.lot_rwlock.specs.declared.purposes.RwLockPurpose.TheVariants.{Upgrade}
+use Rattle.lot_calls.specs.declared.outcomes.Answer.{Answer}
+use Rattle.lot_rwlock.specs.RwLockSteps.{entered}
+use Rattle.lot_words.specs.declared.owners.Owner.TheVariants as owners
+use Rattle.lot_words.specs.declared.views.View.{View}
+use Rattle.lot_words.specs.declared.views.WordStep.{WordStep}
+use Rattle.parking_lot_core.specs.Tokens.{view_of}
+use Rattle.parking_lot_core.specs.declared.tokens.SectionRecord.{SectionRecord}
+use Rattle.lot_driver.specs.RwLockRefusals.{LeftBy}
+use Rattle.lot_driver.specs.Paths.{Walks, at_rwlock}
+use Rattle.lot_driver.specs.RwLockCalls.{rwlock_begin}
+use Rattle.lot_driver.specs.Stages.{stage_of}
+use Rattle.lot_driver.proofs.RwLockNeeds.{has_right, left_beside}
+use Rattle.lot_driver.proofs.RwLockRights.{begins_upgrading, fell_back, fell_back_left, upgraded}
+use Rattle.raw_rwlocks.proofs.rwlock_rights.LotRwLock.upgrade.Goals as goal
+
+pub split-requires-clause-held : goal.split-requires-clause-held
+split-requires-clause-held g c = let n = c.args.self.now.word.number in let owns = (view_of c.args.token.now).owns in
+    let over = c.call-answer.ensures.over owns (begins_upgrading n c.args.patience owns (view_of c.join.new.token).owns (owners.Upgradable, owns, refl, (λ settled. refl), ap (λ (v : View). v.owns) c.join.ensures.joined)) in
+    has_right n owners.Upgradable owns (view_of c.call-answer.new.token).owns (fell_back (IsUp g.C.Clock.tells c.args.limit) n owns c.args.self.now.admission c.args.patience c.call-answer.result (stage_of c.call-answer.new.token None) over c.in-No.is).1
+
+pub split-requires-in_default : goal.split-requires-in_default
+split-requires-in_default g c = let n = c.args.self.now.word.number in let owns = (view_of c.args.token.now).owns in
+    let over = c.call-answer.ensures.over owns (begins_upgrading n c.args.patience owns (view_of c.join.new.token).owns (owners.Upgradable, owns, refl, (λ settled. refl), ap (λ (v : View). v.owns) c.join.ensures.joined)) in
+    record {
+      own = search rules;
+      held = has_right n owners.Exclusive owns (view_of c.call-answer.new.token).owns (upgraded (IsUp g.C.Clock.tells c.args.limit) n owns c.args.self.now.admission c.args.patience c.call-answer.result (stage_of c.call-answer.new.token None) over c.in_default.not-No).1;
+    }
+
+pub returns-in-No-clause-token : goal.returns-in-No-clause-token
+returns-in-No-clause-token g c = let n = c.args.self.now.word.number in let owns = (view_of c.args.token.now).owns in
+    let over = c.call-answer.ensures.over owns (begins_upgrading n c.args.patience owns (view_of c.join.new.token).owns (owners.Upgradable, owns, refl, (λ settled. refl), ap (λ (v : View). v.owns) c.join.ensures.joined)) in
+    let right = (fell_back (IsUp g.C.Clock.tells c.args.limit) n owns c.args.self.now.admission c.args.patience c.call-answer.result (stage_of c.call-answer.new.token None) over c.in-No.is).1 in
+    (search rules, (search rules, λ settled. ap (λ (v : View). v.owns) c.split.ensures.left ∙ left_beside n owners.Upgradable owns (view_of c.call-answer.new.token).owns right settled))
+
+pub returns-in-No-clause-late : goal.returns-in-No-clause-late
+returns-in-No-clause-late g c = let n = c.args.self.now.word.number in let owns = (view_of c.args.token.now).owns in
+    let over = c.call-answer.ensures.over owns (begins_upgrading n c.args.patience owns (view_of c.join.new.token).owns (owners.Upgradable, owns, refl, (λ settled. refl), ap (λ (v : View). v.owns) c.join.ensures.joined)) in
+    (fell_back (IsUp g.C.Clock.tells c.args.limit) n owns c.args.self.now.admission c.args.patience c.call-answer.result (stage_of c.call-answer.new.token None) over c.in-No.is).0
+
+pub returns-in-No-clause-left : goal.returns-in-No-clause-left
+returns-in-No-clause-left g c = let n = c.args.self.now.word.number in let owns = (view_of c.args.token.now).owns in
+    let over = c.call-answer.ensures.over owns (begins_upgrading n c.args.patience owns (view_of c.join.new.token).owns (owners.Upgradable, owns, refl, (λ settled. refl), ap (λ (v : View). v.owns) c.join.ensures.joined)) in
+    subst (λ (last : Option SectionRecord). LeftBy n c.args.self.now.admission (Upgrade c.args.patience) last) (sym c.split.ensures.own.1) (fell_back_left (IsUp g.C.Clock.tells c.args.limit) n owns c.args.self.now.admission c.args.patience c.call-answer.result (stage_of c.call-answer.new.token None) over c.in-No.is)
+
+pub returns-in_default : goal.returns-in_default
+returns-in_default g c = let n = c.args.self.now.word.number in let owns = (view_of c.args.token.now).owns in
+    let over = c.call-answer.ensures.over owns (begins_upgrading n c.args.patience owns (view_of c.join.new.token).owns (owners.Upgradable, owns, refl, (λ settled. refl), ap (λ (v : View). v.owns) c.join.ensures.joined)) in
+    let right = upgraded (IsUp g.C.Clock.tells c.args.limit) n owns c.args.self.now.admission c.args.patience c.call-answer.result (stage_of c.call-answer.new.token None) over c.in_default.not-No in record {
+      token = (search rules, (search rules, λ settled. ap (λ (v : View). v.owns) c.split-in_default.ensures.left ∙ left_beside n owners.Exclusive owns (view_of c.call-answer.new.token).owns right.1 settled));
+      right = search rules;
+      path = subst (λ (steps : List WordStep). Walks (at_rwlock c.args.self.now.word.number) (rwlock_begin c.args.self.now.word.number c.args.self.now.admission (Upgrade c.args.patience)) (view_of c.args.token.now).steps steps (entered c.args.patience)) (sym (ap (λ (v : View). v.steps) c.split-in_default.ensures.left))
+          (subst (λ (answer : Answer). Walks (at_rwlock c.args.self.now.word.number) (rwlock_begin c.args.self.now.word.number c.args.self.now.admission (Upgrade c.args.patience)) (view_of c.args.token.now).steps (view_of c.call-answer.new.token).steps answer) right.0
+          (subst (λ (steps : List WordStep). Walks (at_rwlock c.args.self.now.word.number) (rwlock_begin c.args.self.now.word.number c.args.self.now.admission (Upgrade c.args.patience)) steps (view_of c.call-answer.new.token).steps c.call-answer.result) (ap (λ (v : View). v.steps) c.join.ensures.joined) c.call-answer.ensures.path));
+      late = tt;
+      left = tt;
+    }

@@ -1,0 +1,2 @@
+pub mod RwLockGuards
+pub mod RwLockUsers

@@ -1,0 +1,12 @@
+//! Reader-writer locks of real threads, without a value. Each call runs the steps that the simulated world runs.
+#![tactic(auto)]
+
+pub mod raw_rwlock;
+mod raw_rwlock_fair;
+mod raw_rwlock_timed;
+pub mod rwlock_guards;
+pub mod rwlock_rights;
+
+pub use raw_rwlock::{RawRwLock, RawRwLockRecursive};
+pub use rwlock_guards::{RawExclusiveGuard, RawSharedGuard, RawUpgradableGuard};
+pub use rwlock_rights::LotRwLock;

@@ -1,0 +1,357 @@
+//! The reader-writer lock, without a value.
+ghost use Rattle.std.specs.Prelude.{◌≡◌, ◌⊎◌, ◌≤◌, ◌+◌, ◌*◌, IfOk, MatchResult};
+ghost use Rattle.std.specs.Arc.{arc_value};
+ghost use Rattle.parking_lot_core.specs.Tokens.{IsTokenOf};
+ghost use Rattle.lot_driver.specs.RwLockCalls.{HasWalkedCall, SeesBy, StaysSettled, StaysSettled-on, WakesByCall, is_held, is_held_alone};
+ghost use Rattle.lot_driver.specs.RwLockRefusals.{GaveUpCall, SawFull};
+ghost use Rattle.lock_raw.specs.Answers.{IsRefusal};
+ghost use Rattle.lot_words.specs.declared.words.WordKind.TheVariants.{RwLock};
+ghost use Rattle.lot_driver.specs.Drawing.{Drew, FoundFull};
+ghost use Rattle.raw_rwlocks.specs.RwLockGuards.{IsExclusiveOf, IsExclusiveOf-prop, IsSharedOf, IsSharedOf-prop, IsUpgradableOf, IsUpgradableOf-prop};
+
+use crate::rwlock_guards::{RawExclusiveGuard, RawSharedGuard, RawUpgradableGuard};
+use crate::rwlock_rights::LotRwLock;
+use lot_acts::bits::{count_in, has_writer};
+use lot_calls::{Access, Downgrade, Patience};
+use lot_driver::driver::NO_LIMIT;
+use parking_lot_core::{Fault, Key, ParkingLot, Token, Want};
+use std::sync::{Arc, Wait};
+
+// So many may share a lock for which nothing else is chosen.
+const MOST_READERS: u64 = 1152921504606846974;
+
+/// A reader-writer lock of a lot. Where it is recursive, who reads may read again beside a writer that waits for the last readers.
+#[derive(Drop)]
+pub struct RawRwLock<const RECURSIVE: bool> {
+    pub(crate) lock: LotRwLock,
+}
+
+/// A lock whose readers may read again beside a writer that waits for them.
+pub type RawRwLockRecursive = RawRwLock<true>;
+
+impl<const RECURSIVE: bool> RawRwLock<RECURSIVE> {
+    ghost use Rattle.raw_rwlocks.specs.RwLockUsers.{word_of};
+
+    /// The key of its main queue.
+    pub fn key(&self) -> Key
+        ensures { result ≡ 2 * (word_of self.now).number }
+    {
+        self.lock.key()
+    }
+
+    /// The key of the queue of the writer that waits for the last readers.
+    pub fn second_key(&self) -> Key
+        ensures { result ≡ 2 * (word_of self.now).number + 1 }
+    {
+        self.lock.second_key()
+    }
+}
+
+impl<const RECURSIVE: bool> lock_raw::RawRwLock for RawRwLock<RECURSIVE> {
+    ghost use Rattle.raw_rwlocks.specs.RwLockUsers.{admission_of, lot_of as lot_at, word_of as word_at};
+
+    type Lot = ParkingLot;
+
+    type Token = Token;
+
+    type SharedGuard = RawSharedGuard;
+
+    type ExclusiveGuard = RawExclusiveGuard;
+
+    ghost lot_of = { lot_at };
+
+    ghost is_token_of = { λ lot token. IsTokenOf lot token };
+
+    ghost stays = { λ old new. StaysSettled old new };
+
+    ghost stays_on = { StaysSettled-on };
+
+    ghost is_shared_of = { λ lock guard. IsSharedOf (lot_at lock) (word_at lock) guard };
+
+    ghost shared_once = { λ lock guard. IsSharedOf-prop (lot_at lock) (word_at lock) guard };
+
+    ghost is_exclusive_of = { λ lock guard. IsExclusiveOf (lot_at lock) (word_at lock) guard };
+
+    ghost exclusive_once = { λ lock guard. IsExclusiveOf-prop (lot_at lock) (word_at lock) guard };
+
+    ghost limit_of = { λ lock. (admission_of lock).limit };
+
+    ghost drew = { λ lock old new. Drew RwLock (lot_at lock) (word_at lock) old new };
+
+    ghost found_full = { λ lot old new. FoundFull lot old new };
+
+    ghost walked = { λ lock call answer old new. HasWalkedCall (word_at lock).number (admission_of lock) call answer old new };
+
+    ghost woke = { λ lock call old new. WakesByCall (word_at lock).number (admission_of lock) call old new };
+
+    ghost looked = { λ lock held old new. SeesBy is_held (word_at lock).number held old new };
+
+    ghost looked_for_writer = { λ lock alone old new. SeesBy is_held_alone (word_at lock).number alone old new };
+
+    ghost saw_full = { λ lock access old new. SawFull (word_at lock).number (admission_of lock) access old new };
+
+    ghost gave_up = { λ lock call new. GaveUpCall (word_at lock).number (admission_of lock) call new };
+
+    fn new(lot: &Arc<ParkingLot>, token: &mut Token) -> Result<RawRwLock<RECURSIVE>, Fault> {
+        <RawRwLock<RECURSIVE> as lock_raw::RawRwLock>::with_limit(lot, token, MOST_READERS)
+    }
+
+    fn with_limit(
+        lot: &Arc<ParkingLot>,
+        token: &mut Token,
+        limit: u64,
+    ) -> Result<RawRwLock<RECURSIVE>, Fault>
+        requires token { IsTokenOf (arc_value lot.now) token.old }
+        requires limit { limit ≤ 1152921504606846974 }
+        ensures token { IsTokenOf (arc_value lot.now) token.new × StaysSettled token.old token.new }
+        ensures made { MatchResult result
+            (λ lock. (lot_at lock ≡ arc_value lot.now) × ((admission_of lock).limit ≡ limit))
+            (IsRefusal (FoundFull (arc_value lot.now)) token.old token.new) }
+        ensures drawn { IfOk result (λ lock. Drew RwLock (lot_at lock) (word_at lock) token.old token.new) }
+        ensures chosen { IfOk result (λ lock. (admission_of lock).recursive ≡ RECURSIVE) }
+    {
+        let lock = LotRwLock::with_limit(lot, token, RECURSIVE, limit)?;
+        Ok(RawRwLock { lock })
+    }
+
+    #[inline]
+    fn lock_shared<R: Wait>(&self, rt: &R, token: &mut Token) -> Result<RawSharedGuard, Fault> {
+        match self
+            .lock
+            .enter(rt, token, NO_LIMIT, Access::Shared, Patience::Patient)
+        {
+            Ok(Some(right)) => Ok(RawSharedGuard { right }),
+            Ok(None) => unreachable!(),
+            Err(fault) => Err(fault),
+        }
+    }
+
+    #[inline]
+    fn try_lock_shared<R: Wait>(
+        &self,
+        rt: &R,
+        token: &mut Token,
+    ) -> Result<Option<RawSharedGuard>, Fault> {
+        match self
+            .lock
+            .enter(rt, token, NO_LIMIT, Access::Shared, Patience::Try)
+        {
+            Ok(Some(right)) => Ok(Some(RawSharedGuard { right })),
+            Ok(None) => Ok(None),
+            Err(fault) => Err(fault),
+        }
+    }
+
+    #[inline]
+    fn unlock_shared<R: Wait>(&self, rt: &R, token: &mut Token, guard: RawSharedGuard) {
+        let RawSharedGuard { right } = guard;
+        self.lock.release(rt, token, Access::Shared, right);
+    }
+
+    #[inline]
+    fn lock_exclusive<R: Wait>(&self, rt: &R, token: &mut Token) -> RawExclusiveGuard {
+        match self
+            .lock
+            .enter(rt, token, NO_LIMIT, Access::Exclusive, Patience::Patient)
+        {
+            Ok(Some(right)) => RawExclusiveGuard { right },
+            Ok(None) | Err(_) => unreachable!(),
+        }
+    }
+
+    #[inline]
+    fn try_lock_exclusive(&self, token: &mut Token) -> Option<RawExclusiveGuard> {
+        let right = self.lock.try_enter_alone(token)?;
+        Some(RawExclusiveGuard { right })
+    }
+
+    #[inline]
+    fn unlock_exclusive<R: Wait>(&self, rt: &R, token: &mut Token, guard: RawExclusiveGuard) {
+        let RawExclusiveGuard { right } = guard;
+        self.lock.release(rt, token, Access::Exclusive, right);
+    }
+
+    #[inline]
+    fn is_locked(&self, token: &mut Token) -> bool {
+        let seen = self.lock.load(token);
+        has_writer(seen) || count_in(seen) != 0
+    }
+
+    #[inline]
+    fn is_locked_exclusive(&self, token: &mut Token) -> bool {
+        let seen = self.lock.load(token);
+        has_writer(seen) && count_in(seen) == 0
+    }
+
+    fn has_two_writers(
+        &self,
+        token: &mut Token,
+        one: RawExclusiveGuard,
+        other: RawExclusiveGuard,
+    ) -> ! {
+        let RawExclusiveGuard { right: one } = one;
+        let RawExclusiveGuard { right: other } = other;
+        self.lock
+            .has_both(token, Want::Exclusive, one, Want::Exclusive, other)
+    }
+
+    fn has_writer_and_reader(
+        &self,
+        token: &mut Token,
+        writer: RawExclusiveGuard,
+        reader: RawSharedGuard,
+    ) -> ! {
+        let RawExclusiveGuard { right: one } = writer;
+        let RawSharedGuard { right: other } = reader;
+        self.lock
+            .has_both(token, Want::Exclusive, one, Want::Shared, other)
+    }
+}
+
+impl<const RECURSIVE: bool> lock_raw::RawRwLockDowngrade for RawRwLock<RECURSIVE> {
+    #[inline]
+    fn downgrade<R: Wait>(
+        &self,
+        rt: &R,
+        token: &mut Token,
+        guard: RawExclusiveGuard,
+    ) -> RawSharedGuard {
+        let RawExclusiveGuard { right } = guard;
+        RawSharedGuard {
+            right: self.lock.downgrade(rt, token, Downgrade::ToShared, right),
+        }
+    }
+}
+
+impl<const RECURSIVE: bool> lock_raw::RawRwLockUpgrade for RawRwLock<RECURSIVE> {
+    ghost use Rattle.raw_rwlocks.specs.RwLockUsers.{lot_of as lot_at, word_of as word_at};
+
+    type UpgradableGuard = RawUpgradableGuard;
+
+    ghost is_upgradable_of = { λ lock guard. IsUpgradableOf (lot_at lock) (word_at lock) guard };
+
+    ghost upgradable_once = { λ lock guard. IsUpgradableOf-prop (lot_at lock) (word_at lock) guard };
+
+    #[inline]
+    fn lock_upgradable<R: Wait>(
+        &self,
+        rt: &R,
+        token: &mut Token,
+    ) -> Result<RawUpgradableGuard, Fault> {
+        match self
+            .lock
+            .enter(rt, token, NO_LIMIT, Access::Upgradable, Patience::Patient)
+        {
+            Ok(Some(right)) => Ok(RawUpgradableGuard { right }),
+            Ok(None) => unreachable!(),
+            Err(fault) => Err(fault),
+        }
+    }
+
+    #[inline]
+    fn try_lock_upgradable<R: Wait>(
+        &self,
+        rt: &R,
+        token: &mut Token,
+    ) -> Result<Option<RawUpgradableGuard>, Fault> {
+        match self
+            .lock
+            .enter(rt, token, NO_LIMIT, Access::Upgradable, Patience::Try)
+        {
+            Ok(Some(right)) => Ok(Some(RawUpgradableGuard { right })),
+            Ok(None) => Ok(None),
+            Err(fault) => Err(fault),
+        }
+    }
+
+    #[inline]
+    fn unlock_upgradable<R: Wait>(&self, rt: &R, token: &mut Token, guard: RawUpgradableGuard) {
+        let RawUpgradableGuard { right } = guard;
+        self.lock.release(rt, token, Access::Upgradable, right);
+    }
+
+    #[inline]
+    fn upgrade<R: Wait>(
+        &self,
+        rt: &R,
+        token: &mut Token,
+        guard: RawUpgradableGuard,
+    ) -> RawExclusiveGuard {
+        let RawUpgradableGuard { right } = guard;
+        match self
+            .lock
+            .upgrade(rt, token, NO_LIMIT, Patience::Patient, right)
+        {
+            Ok(right) => RawExclusiveGuard { right },
+            Err(_) => unreachable!(),
+        }
+    }
+
+    #[inline]
+    fn try_upgrade<R: Wait>(
+        &self,
+        rt: &R,
+        token: &mut Token,
+        guard: RawUpgradableGuard,
+    ) -> Result<RawExclusiveGuard, RawUpgradableGuard> {
+        let RawUpgradableGuard { right } = guard;
+        match self.lock.upgrade(rt, token, NO_LIMIT, Patience::Try, right) {
+            Ok(right) => Ok(RawExclusiveGuard { right }),
+            Err(right) => Err(RawUpgradableGuard { right }),
+        }
+    }
+
+    fn has_two_upgradables(
+        &self,
+        token: &mut Token,
+        one: RawUpgradableGuard,
+        other: RawUpgradableGuard,
+    ) -> ! {
+        let RawUpgradableGuard { right: one } = one;
+        let RawUpgradableGuard { right: other } = other;
+        self.lock
+            .has_both(token, Want::Upgradable, one, Want::Upgradable, other)
+    }
+
+    fn has_writer_and_upgradable(
+        &self,
+        token: &mut Token,
+        writer: RawExclusiveGuard,
+        reader: RawUpgradableGuard,
+    ) -> ! {
+        let RawExclusiveGuard { right: one } = writer;
+        let RawUpgradableGuard { right: other } = reader;
+        self.lock
+            .has_both(token, Want::Exclusive, one, Want::Upgradable, other)
+    }
+}
+
+impl<const RECURSIVE: bool> lock_raw::RawRwLockUpgradeDowngrade for RawRwLock<RECURSIVE> {
+    #[inline]
+    fn downgrade_upgradable<R: Wait>(
+        &self,
+        rt: &R,
+        token: &mut Token,
+        guard: RawUpgradableGuard,
+    ) -> RawSharedGuard {
+        let RawUpgradableGuard { right } = guard;
+        let downgrade = Downgrade::UpgradableToShared;
+        RawSharedGuard {
+            right: self.lock.downgrade(rt, token, downgrade, right),
+        }
+    }
+
+    #[inline]
+    fn downgrade_to_upgradable<R: Wait>(
+        &self,
+        rt: &R,
+        token: &mut Token,
+        guard: RawExclusiveGuard,
+    ) -> RawUpgradableGuard {
+        let RawExclusiveGuard { right } = guard;
+        let downgrade = Downgrade::ToUpgradable;
+        RawUpgradableGuard {
+            right: self.lock.downgrade(rt, token, downgrade, right),
+        }
+    }
+}

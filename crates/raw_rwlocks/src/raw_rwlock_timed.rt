@@ -1,0 +1,222 @@
+//! Calls of a reader-writer lock that give up in time.
+use crate::raw_rwlock::RawRwLock;
+use crate::rwlock_guards::{RawExclusiveGuard, RawSharedGuard, RawUpgradableGuard};
+use lot_calls::{Access, Patience};
+use parking_lot_core::{Clock, Fault, Token, to_deadline};
+use std::sync::Wait;
+use std::time::Duration;
+
+impl<const RECURSIVE: bool> RawRwLock<RECURSIVE> {
+    ghost use Rattle.std.specs.Prelude.{◌≡◌, IfErr, IfNone, IfOk, IfSome, MatchResult};
+    ghost use Rattle.lock_raw.specs.Answers.{answer_by, counted_answer, upgrade_answer};
+    ghost use Rattle.lot_base.specs.Clocks.{IsUp};
+    ghost use Rattle.lot_calls.specs.declared.calls.Access.TheVariants as access;
+    ghost use Rattle.lot_calls.specs.declared.calls.Patience.TheVariants.{Timed};
+    ghost use Rattle.lot_rwlock.specs.declared.purposes.RwLockPurpose.TheVariants.{Enter, Upgrade};
+    ghost use Rattle.parking_lot_core.specs.Tokens.{IsTokenOf};
+    ghost use Rattle.lot_driver.specs.RwLockCalls.{HasWalkedRwLock, StaysSettled};
+    ghost use Rattle.lot_driver.specs.RwLockRefusals.{GaveUp, SawFull};
+    ghost use Rattle.raw_rwlocks.specs.RwLockGuards.{IsExclusiveOf, IsSharedOf, IsUpgradableOf};
+    ghost use Rattle.raw_rwlocks.specs.RwLockUsers.{admission_of, lot_of, word_of};
+
+    #[inline]
+    fn read_in_time<R: Wait, C: Clock>(
+        &self,
+        rt: &R,
+        token: &mut Token,
+        limit: Option<(&C, u64)>,
+    ) -> Result<Option<RawSharedGuard>, Fault>
+        requires { IsTokenOf (lot_of self.now) token.old }
+        ensures token { IsTokenOf (lot_of self.now) token.new × StaysSettled token.old token.new }
+        ensures guard { MatchResult result (λ entered. IfSome entered (IsSharedOf (lot_of self.now) (word_of self.now)))
+            (λ fault. fault ≡ Fault.ReadersFull) }
+        ensures path { HasWalkedRwLock (word_of self.now).number (admission_of self.now) (Enter access.Shared Timed)
+            (counted_answer result) token.old token.new }
+        ensures full { IfErr result (λ _. SawFull (word_of self.now).number (admission_of self.now) access.Shared token.old token.new) }
+        ensures left { IfOk result (λ entered. IfNone entered
+            (GaveUp (word_of self.now).number (admission_of self.now) (Enter access.Shared Timed) token.new)) }
+        ensures late { IfOk result (λ entered. IfNone entered (IsUp C.tells limit.entry)) }
+    {
+        match self
+            .lock
+            .enter(rt, token, limit, Access::Shared, Patience::Timed)
+        {
+            Ok(Some(right)) => Ok(Some(RawSharedGuard { right })),
+            Ok(None) => Ok(None),
+            Err(fault) => Err(fault),
+        }
+    }
+
+    #[inline]
+    fn come_upgradable_in_time<R: Wait, C: Clock>(
+        &self,
+        rt: &R,
+        token: &mut Token,
+        limit: Option<(&C, u64)>,
+    ) -> Result<Option<RawUpgradableGuard>, Fault>
+        requires { IsTokenOf (lot_of self.now) token.old }
+        ensures token { IsTokenOf (lot_of self.now) token.new × StaysSettled token.old token.new }
+        ensures guard { MatchResult result (λ entered. IfSome entered (IsUpgradableOf (lot_of self.now) (word_of self.now)))
+            (λ fault. fault ≡ Fault.ReadersFull) }
+        ensures path { HasWalkedRwLock (word_of self.now).number (admission_of self.now) (Enter access.Upgradable Timed)
+            (counted_answer result) token.old token.new }
+        ensures full { IfErr result (λ _. SawFull (word_of self.now).number (admission_of self.now) access.Upgradable token.old token.new) }
+        ensures left { IfOk result (λ entered. IfNone entered
+            (GaveUp (word_of self.now).number (admission_of self.now) (Enter access.Upgradable Timed) token.new)) }
+        ensures late { IfOk result (λ entered. IfNone entered (IsUp C.tells limit.entry)) }
+    {
+        match self
+            .lock
+            .enter(rt, token, limit, Access::Upgradable, Patience::Timed)
+        {
+            Ok(Some(right)) => Ok(Some(RawUpgradableGuard { right })),
+            Ok(None) => Ok(None),
+            Err(fault) => Err(fault),
+        }
+    }
+
+    #[inline]
+    fn write_in_time<R: Wait, C: Clock>(
+        &self,
+        rt: &R,
+        token: &mut Token,
+        limit: Option<(&C, u64)>,
+    ) -> Option<RawExclusiveGuard>
+        requires { IsTokenOf (lot_of self.now) token.old }
+        ensures token { IsTokenOf (lot_of self.now) token.new × StaysSettled token.old token.new }
+        ensures guard { IfSome result (IsExclusiveOf (lot_of self.now) (word_of self.now)) }
+        ensures path { HasWalkedRwLock (word_of self.now).number (admission_of self.now) (Enter access.Exclusive Timed)
+            (answer_by result) token.old token.new }
+        ensures left { IfNone result
+            (GaveUp (word_of self.now).number (admission_of self.now) (Enter access.Exclusive Timed) token.new) }
+        ensures late { IfNone result (IsUp C.tells limit.entry) }
+    {
+        match self
+            .lock
+            .enter(rt, token, limit, Access::Exclusive, Patience::Timed)
+        {
+            Ok(Some(right)) => Some(RawExclusiveGuard { right }),
+            Ok(None) => None,
+            Err(_) => unreachable!(),
+        }
+    }
+
+    #[inline]
+    fn upgrade_in_time<R: Wait, C: Clock>(
+        &self,
+        rt: &R,
+        token: &mut Token,
+        limit: Option<(&C, u64)>,
+        guard: RawUpgradableGuard,
+    ) -> Result<RawExclusiveGuard, RawUpgradableGuard>
+        requires token { IsTokenOf (lot_of self.now) token.old }
+        requires guard { IsUpgradableOf (lot_of self.now) (word_of self.now) guard }
+        ensures token { IsTokenOf (lot_of self.now) token.new × StaysSettled token.old token.new }
+        ensures guard { MatchResult result (IsExclusiveOf (lot_of self.now) (word_of self.now))
+            (IsUpgradableOf (lot_of self.now) (word_of self.now)) }
+        ensures path { HasWalkedRwLock (word_of self.now).number (admission_of self.now) (Upgrade Timed)
+            (upgrade_answer result) token.old token.new }
+        ensures left { IfErr result (λ _. GaveUp (word_of self.now).number (admission_of self.now) (Upgrade Timed) token.new) }
+        ensures late { IfErr result (λ _. IsUp C.tells limit.entry) }
+    {
+        let RawUpgradableGuard { right } = guard;
+        match self.lock.upgrade(rt, token, limit, Patience::Timed, right) {
+            Ok(right) => Ok(RawExclusiveGuard { right }),
+            Err(right) => Err(RawUpgradableGuard { right }),
+        }
+    }
+}
+
+impl<const RECURSIVE: bool> lock_raw::RawRwLockTimed for RawRwLock<RECURSIVE> {
+    fn try_lock_shared_for<R: Wait, C: Clock>(
+        &self,
+        rt: &R,
+        token: &mut Token,
+        clock: &C,
+        timeout: Duration,
+    ) -> Result<Option<RawSharedGuard>, Fault> {
+        let limit = to_deadline(clock.now(), timeout);
+        self.read_in_time(rt, token, limit.map(|deadline| (clock, deadline)))
+    }
+
+    #[inline]
+    fn try_lock_shared_until<R: Wait, C: Clock>(
+        &self,
+        rt: &R,
+        token: &mut Token,
+        clock: &C,
+        deadline: u64,
+    ) -> Result<Option<RawSharedGuard>, Fault> {
+        self.read_in_time(rt, token, Some((clock, deadline)))
+    }
+
+    fn try_lock_exclusive_for<R: Wait, C: Clock>(
+        &self,
+        rt: &R,
+        token: &mut Token,
+        clock: &C,
+        timeout: Duration,
+    ) -> Option<RawExclusiveGuard> {
+        let limit = to_deadline(clock.now(), timeout);
+        self.write_in_time(rt, token, limit.map(|deadline| (clock, deadline)))
+    }
+
+    #[inline]
+    fn try_lock_exclusive_until<R: Wait, C: Clock>(
+        &self,
+        rt: &R,
+        token: &mut Token,
+        clock: &C,
+        deadline: u64,
+    ) -> Option<RawExclusiveGuard> {
+        self.write_in_time(rt, token, Some((clock, deadline)))
+    }
+}
+
+impl<const RECURSIVE: bool> lock_raw::RawRwLockUpgradeTimed for RawRwLock<RECURSIVE> {
+    fn try_lock_upgradable_for<R: Wait, C: Clock>(
+        &self,
+        rt: &R,
+        token: &mut Token,
+        clock: &C,
+        timeout: Duration,
+    ) -> Result<Option<RawUpgradableGuard>, Fault> {
+        let limit = to_deadline(clock.now(), timeout);
+        self.come_upgradable_in_time(rt, token, limit.map(|deadline| (clock, deadline)))
+    }
+
+    #[inline]
+    fn try_lock_upgradable_until<R: Wait, C: Clock>(
+        &self,
+        rt: &R,
+        token: &mut Token,
+        clock: &C,
+        deadline: u64,
+    ) -> Result<Option<RawUpgradableGuard>, Fault> {
+        self.come_upgradable_in_time(rt, token, Some((clock, deadline)))
+    }
+
+    fn try_upgrade_for<R: Wait, C: Clock>(
+        &self,
+        rt: &R,
+        token: &mut Token,
+        guard: RawUpgradableGuard,
+        clock: &C,
+        timeout: Duration,
+    ) -> Result<RawExclusiveGuard, RawUpgradableGuard> {
+        let limit = to_deadline(clock.now(), timeout);
+        self.upgrade_in_time(rt, token, limit.map(|deadline| (clock, deadline)), guard)
+    }
+
+    #[inline]
+    fn try_upgrade_until<R: Wait, C: Clock>(
+        &self,
+        rt: &R,
+        token: &mut Token,
+        guard: RawUpgradableGuard,
+        clock: &C,
+        deadline: u64,
+    ) -> Result<RawExclusiveGuard, RawUpgradableGuard> {
+        self.upgrade_in_time(rt, token, Some((clock, deadline)), guard)
+    }
+}

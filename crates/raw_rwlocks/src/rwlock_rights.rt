@@ -1,0 +1,359 @@
+//! A reader-writer lock of a lot, whose rights are got, given up and turned into others.
+ghost use Rattle.std.specs.Prelude.{◌≡◌, ◌⊎◌, ◌<◌, ◌≤◌, ◌+◌, ◌*◌, ◌-◌, ◌^◌, ◌++◌, ◌∷◌, [], ℕ, true, IfErr, IfNone, IfOk, IfSome, MatchResult};
+ghost use Rattle.std.specs.Arc.{arc_value};
+ghost use Rattle.lock_raw.specs.Answers.{IsRefusal, answer_by, reading_answer};
+ghost use Rattle.lot_base.specs.Clocks.{IsUp};
+ghost use Rattle.lot_base.specs.declared.ops.Op.TheVariants.{Load};
+ghost use Rattle.lot_base.specs.declared.wants.Want.TheVariants.{Exclusive, Upgradable};
+ghost use Rattle.lot_calls.specs.declared.calls.Access.TheVariants as access;
+ghost use Rattle.lot_calls.specs.declared.calls.Patience.TheVariants.{Try};
+ghost use Rattle.lot_calls.specs.declared.calls.RwLockCall.TheVariants as fair_calls;
+ghost use Rattle.lot_rwlock.specs.declared.purposes.RwLockPurpose.TheVariants.{Enter, Release, Upgrade};
+ghost use Rattle.lot_rwlock.specs.declared.purposes.RwLockPurpose.TheVariants as purposes_of;
+ghost use Rattle.lot_calls.specs.declared.outcomes.Answer.TheVariants.{Ok as ok};
+ghost use Rattle.lot_rwlock.specs.RwLockSteps.{from_of, to_of, wanted};
+ghost use Rattle.lot_words.specs.Lots.{IsWordOf};
+ghost use Rattle.lot_words.specs.Plays.{left_over, piece, takes_in};
+ghost use Rattle.lot_words.specs.Rights.{owner_for};
+ghost use Rattle.lot_words.specs.Steps.{CodesWith, has};
+ghost use Rattle.lot_words.specs.Views.{owning};
+ghost use Rattle.lot_words.specs.declared.words.WordKind.TheVariants.{RwLock};
+ghost use Rattle.lot_driver.specs.Drawing.{Drew, FoundFull};
+ghost use Rattle.parking_lot_core.specs.Tokens.{IsTokenOf, IsSameThread, view_of, last_of};
+ghost use Rattle.lot_driver.specs.Paths.{rwlock_at, step};
+ghost use Rattle.lot_driver.specs.RwLockCalls.{Exclude, HasWalkedCall, HasWalkedRwLock, IsRwLockRight, ReleasesFairly, StaysBeside, WakesBy, entry_answer, turn_answer};
+ghost use Rattle.lot_driver.specs.RwLockFitting.{IsCounted, MayGiveUp};
+ghost use Rattle.lot_driver.specs.RwLockRefusals.{GaveUp, SawFull};
+ghost use Rattle.lot_driver.specs.Telling.{owns_of, steps_of};
+
+use lot_base::{main_key, second_key};
+use lot_calls::{Access, Answer, Downgrade, Patience};
+use lot_driver::courses::{greater, lesser};
+use lot_driver::driver::NO_LIMIT;
+use lot_driver::fair_calls::{bump, release_exclusive, release_upgradable};
+use lot_driver::rwlock_calls::call;
+use lot_rwlock::places::WRITER;
+use lot_rwlock::purposes::wanted;
+use lot_rwlock::{Admission, RwLockPurpose};
+use parking_lot_core::{Clock, Fault, Held, Key, Op, ParkingLot, Token, Want, Word, WordKind};
+use std::sync::{Arc, Wait};
+
+// Takes a word that is 0.
+const ENTER: Op = Op::Exchange {
+    from: 0,
+    to: WRITER,
+};
+
+/// A reader-writer lock of a lot, as clauses see it.
+#[derive(Drop)]
+pub struct LotRwLock {
+    lot: Arc<ParkingLot>,
+    word: Word,
+    admission: Admission,
+    ghost drawn: { IsWordOf (arc_value lot).words word × (word.kind ≡ RwLock) × (word.number < 9223372036854775808)
+        × (admission.limit < 2 ^ 60 - 1) },
+}
+
+impl LotRwLock {
+    ghost use Rattle.raw_rwlocks.specs.RwLockUsers.{admission_in, lot_in, word_in};
+
+    pub(crate) fn with_limit(
+        lot: &Arc<ParkingLot>,
+        token: &mut Token,
+        recursive: bool,
+        limit: u64,
+    ) -> Result<LotRwLock, Fault>
+        requires token { IsTokenOf (arc_value lot.now) token.old }
+        requires limit { limit ≤ 1152921504606846974 }
+        ensures token { IsTokenOf (arc_value lot.now) token.new × (token.new.number ≡ token.old.number)
+            × (owns_of token.new ≡ owns_of token.old) }
+        ensures made { MatchResult result
+            (λ lock. (lot_in lock ≡ arc_value lot.now) × ((admission_in lock).recursive ≡ recursive)
+            × ((admission_in lock).limit ≡ limit))
+            (IsRefusal (FoundFull (arc_value lot.now)) token.old token.new) }
+        ensures drawn { IfOk result (λ lock. Drew RwLock (lot_in lock) (word_in lock) token.old token.new) }
+    {
+        let Ok(lot) = Arc::try_clone(lot) else {
+            return Err(Fault::NoMemory);
+        };
+        let word = lot.new_word(token, WordKind::RwLock)?;
+        let admission = Admission { recursive, limit };
+        Ok(LotRwLock {
+            lot,
+            word,
+            admission,
+        })
+    }
+
+    pub(crate) fn key(&self) -> Key
+        ensures { result ≡ 2 * (word_in self.now).number }
+    {
+        main_key(self.word.number())
+    }
+
+    pub(crate) fn second_key(&self) -> Key
+        ensures { result ≡ 2 * (word_in self.now).number + 1 }
+    {
+        second_key(self.word.number())
+    }
+
+    #[inline(always)]
+    fn split(&self, token: &mut Token, want: Want) -> Held
+        requires own { IsTokenOf (lot_in self.now) token.old }
+        requires held { has (owning (rwlock_at (word_in self.now).number) (owner_for want)) (owns_of token.old) ≡ true }
+        ensures own { IsSameThread (lot_in self.now) token.old token.new × (last_of token.new ≡ last_of token.old) }
+        ensures left { view_of token.new
+            ≡ left_over (owning (rwlock_at (word_in self.now).number) (owner_for want)) (view_of token.old) }
+        ensures right { IsRwLockRight (lot_in self.now) (word_in self.now) (owner_for want) result }
+    {
+        self.lot.split_held(token, self.word, want)
+    }
+
+    // Spends a right: the token owns it then.
+    #[inline(always)]
+    fn join(&self, token: &mut Token, want: Want, right: Held)
+        requires own { IsTokenOf (lot_in self.now) token.old }
+        requires right { IsRwLockRight (lot_in self.now) (word_in self.now) (owner_for want) right }
+        ensures own { IsSameThread (lot_in self.now) token.old token.new × (last_of token.new ≡ last_of token.old) }
+        ensures joined { view_of token.new
+            ≡ takes_in (view_of token.old) (piece (owning (rwlock_at (word_in self.now).number) (owner_for want))) }
+    {
+        self.lot.join_held(token, self.word, want, right);
+    }
+
+    /// Waits for a right: for ever, up to the limit, or not at all. None only where a try finds the lock blocked, or the time is up.
+    ///
+    /// # Errors
+    ///
+    /// `ReadersFull`, where who would read finds as many readers as there may be.
+    #[inline(always)]
+    pub(crate) fn enter<R: Wait, C: Clock>(
+        &self,
+        rt: &R,
+        token: &mut Token,
+        limit: Option<(&C, u64)>,
+        access: Access,
+        patience: Patience,
+    ) -> Result<Option<Held>, Fault>
+        requires { IsTokenOf (lot_in self.now) token.old }
+        ensures token { IsTokenOf (lot_in self.now) token.new × StaysBeside (word_in self.now).number token.old token.new }
+        ensures right { MatchResult result
+            (λ entered. IfSome entered (IsRwLockRight (lot_in self.now) (word_in self.now) (owner_for (wanted access))))
+            (λ fault. fault ≡ Fault.ReadersFull) }
+        ensures path { HasWalkedRwLock (word_in self.now).number (admission_in self.now) (Enter access patience)
+            (entry_answer patience result) token.old token.new }
+        ensures late { IfOk result (λ entered. IfNone entered (MayGiveUp (IsUp C.tells limit.entry) patience)) }
+        ensures counted { IfErr result (λ fault. IsCounted access) }
+        ensures full { IfErr result (λ fault. SawFull (word_in self.now).number (admission_in self.now) access token.old token.new) }
+        ensures left { IfOk result (λ entered. IfNone entered
+            (GaveUp (word_in self.now).number (admission_in self.now) (Enter access patience) token.new)) }
+    {
+        let answer = call(
+            rt,
+            &self.lot,
+            token,
+            &self.word,
+            &self.admission,
+            limit,
+            RwLockPurpose::Enter { access, patience },
+        );
+        match answer {
+            Answer::Ok | Answer::Yes => Ok(Some(self.split(token, wanted(access)))),
+            Answer::No => Ok(None),
+            _ => Err(Fault::ReadersFull),
+        }
+    }
+
+    /// Takes a word that is 0, by one step.
+    #[inline(always)]
+    pub(crate) fn try_enter_alone(&self, token: &mut Token) -> Option<Held>
+        requires { IsTokenOf (lot_in self.now) token.old }
+        ensures token { IsTokenOf (lot_in self.now) token.new × StaysBeside (word_in self.now).number token.old token.new }
+        ensures right { IfSome result (IsRwLockRight (lot_in self.now) (word_in self.now) (owner_for Exclusive)) }
+        ensures path { HasWalkedRwLock (word_in self.now).number (admission_in self.now) (Enter access.Exclusive Try)
+            (answer_by result) token.old token.new }
+    {
+        let seen = self.lot.word(token, self.word, ENTER);
+        if seen == 0 {
+            return Some(self.split(token, Want::Exclusive));
+        }
+        None
+    }
+
+    /// Gives a right up, and wakes whom that lets in.
+    #[inline(always)]
+    pub(crate) fn release<R: Wait>(&self, rt: &R, token: &mut Token, access: Access, right: Held)
+        requires token { IsTokenOf (lot_in self.now) token.old }
+        requires right { IsRwLockRight (lot_in self.now) (word_in self.now) (owner_for (wanted access)) right }
+        ensures token { IsTokenOf (lot_in self.now) token.new × StaysBeside (word_in self.now).number token.old token.new }
+        ensures path { HasWalkedRwLock (word_in self.now).number (admission_in self.now) (Release access) ok token.old token.new }
+        ensures record { WakesBy (word_in self.now).number (admission_in self.now) (Release access) token.old token.new }
+    {
+        self.join(token, wanted(access), right);
+        call(
+            rt,
+            &self.lot,
+            token,
+            &self.word,
+            &self.admission,
+            NO_LIMIT,
+            RwLockPurpose::Release(access),
+        );
+    }
+
+    /// Gives the exclusive right up, and hands the lock to those who wait.
+    #[inline(always)]
+    pub(crate) fn release_exclusive_fair<R: Wait>(&self, rt: &R, token: &mut Token, right: Held)
+        requires token { IsTokenOf (lot_in self.now) token.old }
+        requires right { IsRwLockRight (lot_in self.now) (word_in self.now) (owner_for Exclusive) right }
+        ensures token { IsTokenOf (lot_in self.now) token.new × StaysBeside (word_in self.now).number token.old token.new }
+        ensures path { HasWalkedCall (word_in self.now).number (admission_in self.now) (fair_calls.ReleaseFair access.Exclusive) ok token.old token.new }
+        ensures record { ReleasesFairly (word_in self.now).number (admission_in self.now) access.Exclusive token.old token.new }
+    {
+        self.join(token, Want::Exclusive, right);
+        release_exclusive(rt, &self.lot, token, &self.word, &self.admission);
+    }
+
+    /// Gives the upgradable right up, and hands the lock to those who wait.
+    pub(crate) fn release_upgradable_fair<R: Wait>(&self, rt: &R, token: &mut Token, right: Held)
+        requires token { IsTokenOf (lot_in self.now) token.old }
+        requires right { IsRwLockRight (lot_in self.now) (word_in self.now) (owner_for Upgradable) right }
+        ensures token { IsTokenOf (lot_in self.now) token.new × StaysBeside (word_in self.now).number token.old token.new }
+        ensures path { HasWalkedCall (word_in self.now).number (admission_in self.now) (fair_calls.ReleaseFair access.Upgradable) ok token.old token.new }
+        ensures record { ReleasesFairly (word_in self.now).number (admission_in self.now) access.Upgradable token.old token.new }
+    {
+        self.join(token, Want::Upgradable, right);
+        release_upgradable(rt, &self.lot, token, &self.word, &self.admission);
+    }
+
+    /// Gives a right up where others wait for it, and waits for it again.
+    ///
+    /// # Errors
+    ///
+    /// `ReadersFull`, where it finds as many readers as there may be then.
+    #[inline(always)]
+    pub(crate) fn bump<R: Wait>(
+        &self,
+        rt: &R,
+        token: &mut Token,
+        access: Access,
+        right: Held,
+    ) -> Result<Held, Fault>
+        requires token { IsTokenOf (lot_in self.now) token.old }
+        requires right { IsRwLockRight (lot_in self.now) (word_in self.now) (owner_for (wanted access)) right }
+        ensures token { IsTokenOf (lot_in self.now) token.new × StaysBeside (word_in self.now).number token.old token.new }
+        ensures right { MatchResult result (IsRwLockRight (lot_in self.now) (word_in self.now) (owner_for (wanted access)))
+            (λ fault. fault ≡ Fault.ReadersFull) }
+        ensures path { HasWalkedCall (word_in self.now).number (admission_in self.now) (fair_calls.Bump access) (reading_answer result)
+            token.old token.new }
+        ensures counted { IfErr result (λ fault. IsCounted access) }
+        ensures full { IfErr result (λ fault. SawFull (word_in self.now).number (admission_in self.now) access token.old token.new) }
+    {
+        self.join(token, wanted(access), right);
+        match bump(rt, &self.lot, token, &self.word, &self.admission, access) {
+            Answer::Ok => Ok(self.split(token, wanted(access))),
+            _ => Err(Fault::ReadersFull),
+        }
+    }
+
+    /// Turns a right into a lesser one, and wakes whom that lets in.
+    #[inline(always)]
+    pub(crate) fn downgrade<R: Wait>(
+        &self,
+        rt: &R,
+        token: &mut Token,
+        downgrade: Downgrade,
+        right: Held,
+    ) -> Held
+        requires token { IsTokenOf (lot_in self.now) token.old }
+        requires right { IsRwLockRight (lot_in self.now) (word_in self.now) (owner_for (wanted (from_of downgrade))) right }
+        ensures token { IsTokenOf (lot_in self.now) token.new × StaysBeside (word_in self.now).number token.old token.new }
+        ensures right { IsRwLockRight (lot_in self.now) (word_in self.now) (owner_for (wanted (to_of downgrade))) result }
+        ensures path { HasWalkedRwLock (word_in self.now).number (admission_in self.now) (purposes_of.Downgrade downgrade) ok token.old
+            token.new }
+        ensures record { WakesBy (word_in self.now).number (admission_in self.now) (purposes_of.Downgrade downgrade) token.old token.new }
+    {
+        self.join(token, greater(downgrade), right);
+        call(
+            rt,
+            &self.lot,
+            token,
+            &self.word,
+            &self.admission,
+            NO_LIMIT,
+            RwLockPurpose::Downgrade(downgrade),
+        );
+        self.split(token, lesser(downgrade))
+    }
+
+    /// Turns the upgradable right into the exclusive one: for ever, up to the limit, or not at all.
+    ///
+    /// # Errors
+    ///
+    /// The right, where a try finds other readers, or the time is up.
+    #[inline(always)]
+    pub(crate) fn upgrade<R: Wait, C: Clock>(
+        &self,
+        rt: &R,
+        token: &mut Token,
+        limit: Option<(&C, u64)>,
+        patience: Patience,
+        right: Held,
+    ) -> Result<Held, Held>
+        requires token { IsTokenOf (lot_in self.now) token.old }
+        requires right { IsRwLockRight (lot_in self.now) (word_in self.now) (owner_for Upgradable) right }
+        ensures token { IsTokenOf (lot_in self.now) token.new × StaysBeside (word_in self.now).number token.old token.new }
+        ensures right { MatchResult result (IsRwLockRight (lot_in self.now) (word_in self.now) (owner_for Exclusive))
+            (IsRwLockRight (lot_in self.now) (word_in self.now) (owner_for Upgradable)) }
+        ensures path { HasWalkedRwLock (word_in self.now).number (admission_in self.now) (Upgrade patience)
+            (turn_answer patience result) token.old token.new }
+        ensures late { IfErr result (λ right. MayGiveUp (IsUp C.tells limit.entry) patience) }
+        ensures left { IfErr result (λ right. GaveUp (word_in self.now).number (admission_in self.now) (Upgrade patience) token.new) }
+    {
+        self.join(token, Want::Upgradable, right);
+        let answer = call(
+            rt,
+            &self.lot,
+            token,
+            &self.word,
+            &self.admission,
+            limit,
+            RwLockPurpose::Upgrade(patience),
+        );
+        match answer {
+            Answer::No => Err(self.split(token, Want::Upgradable)),
+            _ => Ok(self.split(token, Want::Exclusive)),
+        }
+    }
+
+    /// One load of the word.
+    #[inline(always)]
+    pub(crate) fn load(&self, token: &mut Token) -> u64
+        requires { IsTokenOf (lot_in self.now) token.old }
+        ensures token { IsTokenOf (lot_in self.now) token.new × StaysBeside (word_in self.now).number token.old token.new }
+        ensures saw { steps_of token.new ≡ steps_of token.old ++ step (rwlock_at (word_in self.now).number) Load result }
+        ensures coded { CodesWith RwLock (rwlock_at (word_in self.now).number) result (owns_of token.old) }
+    {
+        self.lot.word(token, self.word, Op::Load)
+    }
+
+    // A step of who had both rights would find a word that says so, and there is none.
+    pub(crate) fn has_both(
+        &self,
+        token: &mut Token,
+        want: Want,
+        one: Held,
+        other_want: Want,
+        other: Held,
+    ) -> !
+        requires token { IsTokenOf (lot_in self.now) token.old }
+        requires one { IsRwLockRight (lot_in self.now) (word_in self.now) (owner_for want) one }
+        requires other { IsRwLockRight (lot_in self.now) (word_in self.now) (owner_for other_want) other }
+        requires exclude { Exclude (owner_for want) (owner_for other_want) }
+    {
+        self.join(token, want, one);
+        self.join(token, other_want, other);
+        self.load(token);
+        unreachable!()
+    }
+}
