@@ -70,6 +70,21 @@ fn who_calls_first_runs(rt: HostRuntime) -> Result<(), Fail> {
     Ok(())
 }
 
+#[test]
+fn what_is_made_done_runs_nothing(rt: HostRuntime) -> Result<(), Fail> {
+    let (lot, mut tickets) = ParkingLot::new(rt.alloc(), 1, 1)?;
+    let Some(ticket) = tickets.pop() else {
+        return Ok(());
+    };
+    let mut token = ticket.enter();
+    let once = Once::new_completed(&lot, &mut token)?;
+    let runs = AtomicUsize::new(0);
+    assert_eq!(rt; once.state(&mut token), OnceState::Done);
+    assert_eq!(rt; count_run(&rt, &once, &mut token, &runs), "ok");
+    assert_eq!(rt; runs.load(SeqCst), 0);
+    Ok(())
+}
+
 // Its closure fails.
 fn fail<R: Wait>(rt: &R, once: &Once, token: &mut Token) -> &'static str
     requires { IsTokenOf (lot_of once.now) token.old }

@@ -121,6 +121,42 @@ fn four_of(lot: &ParkingLot, tickets: &mut Vec<Ticket>) -> Option<Four>
     })
 }
 
+fn run_and_call<R: Threads + Wait + Sync>(
+    rt: &R,
+    once: &Once,
+    runs: Ticket,
+    calls: Ticket,
+    flags: (&AtomicBool, &AtomicBool),
+    further: &AtomicUsize,
+) -> (&'static str, &'static str)
+    requires { IsTicketOf (lot_of once.now) runs × IsTicketOf (lot_of once.now) calls }
+{
+    let (inside, go) = flags;
+    join(
+        rt,
+        move || run_long(rt, once, runs, inside, go),
+        move || call_beside(rt, once, calls, inside, further),
+    )
+}
+
+fn wait_and_let_go<R: Threads + Wait + Sync>(
+    rt: &R,
+    lot: &ParkingLot,
+    once: &Once,
+    waits: Ticket,
+    lets_go: Ticket,
+    flags: (&AtomicBool, &AtomicBool),
+) -> (bool, bool)
+    requires { IsTicketOf lot.now waits × IsTicketOf lot.now lets_go × (lot_of once.now ≡ lot.now) }
+{
+    let (inside, go) = flags;
+    join(
+        rt,
+        move || wait_beside(rt, once, waits, inside),
+        move || let_go_of_two(rt, lot, once, lets_go, go),
+    )
+}
+
 fn meet<R: Threads + Wait + Sync>(
     rt: &R,
     lot: &ParkingLot,
@@ -137,22 +173,13 @@ fn meet<R: Threads + Wait + Sync>(
         waits,
         lets_go,
     } = four;
-    let is_inside = AtomicBool::new(false);
+    let inside = AtomicBool::new(false);
     let may_go = AtomicBool::new(false);
-    let inside = &is_inside;
-    let go = &may_go;
+    let flags = (&inside, &may_go);
     join(
         rt,
-        move || join(
-            rt,
-            move || run_long(rt, once, runs, inside, go),
-            move || call_beside(rt, once, calls, inside, further),
-        ),
-        move || join(
-            rt,
-            move || wait_beside(rt, once, waits, inside),
-            move || let_go_of_two(rt, lot, once, lets_go, go),
-        ),
+        move || run_and_call(rt, once, runs, calls, flags, further),
+        move || wait_and_let_go(rt, lot, once, waits, lets_go, flags),
     )
 }
 
