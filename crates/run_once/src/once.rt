@@ -76,6 +76,44 @@ impl Once {
         Ok(Once { lot, word })
     }
 
+    // Takes the word of a new `Once` to the end of a run. Whether nobody was there before.
+    fn complete(&self, token: &mut Token) -> bool
+        requires { IsTokenOf (lot_of self.now) token.old }
+        ensures token { IsTokenOf (lot_of self.now) token.new × (token.new.number ≡ token.old.number) }
+        ensures done { result ≡ true → SawDone (number_of self.now) token.old token.new }
+    {
+        let start = Op::Exchange {
+            from: 0,
+            to: RUNNING,
+        };
+        let seen = self.lot.word(token, self.word, start);
+        if seen != 0 {
+            return false;
+        }
+        let _running = self.lot.word(token, self.word, Op::Swap(DONE));
+        true
+    }
+
+    /// A `Once` that is done, and runs nothing.
+    ///
+    /// # Errors
+    ///
+    /// `NoMemory`, and `LotFull`, also where somebody stepped on the word before, as nobody does whose word it isn't.
+    pub fn new_completed(lot: &Arc<ParkingLot>, token: &mut Token) -> Result<Once, Fault>
+        requires { IsTokenOf (arc_value lot.now) token.old }
+        ensures token { IsTokenOf (arc_value lot.now) token.new × (token.new.number ≡ token.old.number) }
+        ensures made { MatchResult result
+            (λ once. (lot_of once ≡ arc_value lot.now) × SawDone (number_of once) token.old token.new)
+            (λ fault. (fault ≡ Fault.NoMemory) ⊎ (fault ≡ Fault.LotFull)) }
+    {
+        let once = Once::new(lot, token)?;
+        if once.complete(token) {
+            Ok(once)
+        } else {
+            Err(Fault::LotFull)
+        }
+    }
+
     /// The key of its queue.
     pub fn key(&self) -> Key
         ensures { result ≡ 2 * number_of self.now }

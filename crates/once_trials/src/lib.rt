@@ -1,0 +1,5 @@
+//! `Once`, tried by threads. Nothing is here but tests.
+#![tactic(auto)]
+
+#[cfg(test)]
+mod tests;

@@ -1,0 +1,164 @@
+//! Calls of one `Once`, by one thread and by many.
+mod meets;
+
+ghost use Rattle.std.specs.Prelude.{◌≡◌, ◌<◌, ◌≤◌, All, IfOk};
+ghost use Rattle.std.specs.Arc.{arc_value};
+ghost use Rattle.run_once.specs.Users.{IsTicketOf, IsTokenOf, lot_of};
+
+use parking_lot_core::{Fault, ParkingLot, Ticket, Token};
+use run_once::{Once, OnceFault, OnceState};
+use std::alloc::Global;
+use std::sync::atomic::Ordering::SeqCst;
+use std::sync::atomic::{AtomicBool, AtomicUsize};
+use std::sync::{Arc, Wait};
+use std::test::Fail;
+use std::thread::{Threads, map_vec};
+
+// A lot with so many threads, the token of the first, and a `Once` of it.
+fn seats(
+    alloc: Global,
+    threads: usize,
+) -> Result<(Arc<ParkingLot>, Once, Token, Vec<Ticket>), Fault>
+    requires { (0 < threads) × (threads ≤ 1024) }
+    ensures { IfOk result (λ made. (lot_of made.1 ≡ arc_value made.0) × IsTokenOf (arc_value made.0) made.2
+        × All (IsTicketOf (arc_value made.0)) made.3.items) }
+{
+    let (lot, mut tickets) = ParkingLot::new(alloc, 1, threads)?;
+    let Some(first) = tickets.pop() else {
+        return Err(Fault::NoMemory);
+    };
+    let mut token = first.enter();
+    let once = Once::new(&lot, &mut token)?;
+    Ok((lot, once, token, tickets))
+}
+
+// How it answers, in a word.
+fn told(answer: Result<(), OnceFault<u32>>) -> &'static str {
+    match answer {
+        Ok(()) => "ok",
+        Err(OnceFault::Refused(Fault::Poisoned)) => "poisoned",
+        Err(OnceFault::Refused(_)) => "refused",
+        Err(OnceFault::Failed(_)) => "failed",
+    }
+}
+
+// A call that counts the runs of its closure.
+fn count_run<R: Wait>(rt: &R, once: &Once, token: &mut Token, runs: &AtomicUsize) -> &'static str
+    requires { IsTokenOf (lot_of once.now) token.old }
+    ensures { IsTokenOf (lot_of once.now) token.new }
+{
+    let answer: Result<(), OnceFault<u32>> = once.call_once(rt, token, move || {
+        runs.fetch_add(1, SeqCst);
+        Ok(())
+    });
+    told(answer)
+}
+
+#[test]
+fn who_calls_first_runs(rt: HostRuntime) -> Result<(), Fail> {
+    let (_lot, once, mut token, _others) = seats(rt.alloc(), 1)?;
+    let runs = AtomicUsize::new(0);
+    assert_eq!(rt; once.state(&mut token), OnceState::New);
+    assert!(rt; !once.is_completed(&mut token));
+    assert_eq!(rt; count_run(&rt, &once, &mut token, &runs), "ok");
+    assert_eq!(rt; once.state(&mut token), OnceState::Done);
+    assert_eq!(rt; count_run(&rt, &once, &mut token, &runs), "ok");
+    assert!(rt; once.wait(&rt, &mut token).is_ok());
+    once.wait_force(&rt, &mut token);
+    assert!(rt; once.is_completed(&mut token));
+    assert_eq!(rt; runs.load(SeqCst), 1);
+    Ok(())
+}
+
+#[test]
+fn what_is_made_done_runs_nothing(rt: HostRuntime) -> Result<(), Fail> {
+    let (lot, mut tickets) = ParkingLot::new(rt.alloc(), 1, 1)?;
+    let Some(ticket) = tickets.pop() else {
+        return Ok(());
+    };
+    let mut token = ticket.enter();
+    let once = Once::new_completed(&lot, &mut token)?;
+    let runs = AtomicUsize::new(0);
+    assert_eq!(rt; once.state(&mut token), OnceState::Done);
+    assert_eq!(rt; count_run(&rt, &once, &mut token, &runs), "ok");
+    assert_eq!(rt; runs.load(SeqCst), 0);
+    Ok(())
+}
+
+// Its closure fails.
+fn fail<R: Wait>(rt: &R, once: &Once, token: &mut Token) -> &'static str
+    requires { IsTokenOf (lot_of once.now) token.old }
+    ensures { IsTokenOf (lot_of once.now) token.new }
+{
+    told(once.call_once(rt, token, || Err(7u32)))
+}
+
+// A forced call. Whether it was told that the run before had failed.
+fn mend<R: Wait>(rt: &R, once: &Once, token: &mut Token, poisoned: &AtomicBool) -> &'static str
+    requires { IsTokenOf (lot_of once.now) token.old }
+    ensures { IsTokenOf (lot_of once.now) token.new }
+{
+    let answer: Result<(), OnceFault<u32>> = once.call_once_force(
+        rt,
+        token,
+        move |before: OnceState| {
+            poisoned.store(matches!(before, OnceState::Poisoned), SeqCst);
+            Ok(())
+        },
+    );
+    told(answer)
+}
+
+#[test]
+fn a_failed_run_poisons(rt: HostRuntime) -> Result<(), Fail> {
+    let (_lot, once, mut token, _others) = seats(rt.alloc(), 1)?;
+    let runs = AtomicUsize::new(0);
+    let poisoned = AtomicBool::new(false);
+    assert_eq!(rt; fail(&rt, &once, &mut token), "failed");
+    assert_eq!(rt; once.state(&mut token), OnceState::Poisoned);
+    assert_eq!(rt; count_run(&rt, &once, &mut token, &runs), "poisoned");
+    assert_eq!(rt; runs.load(SeqCst), 0);
+    assert!(rt; matches!(once.wait(&rt, &mut token), Err(Fault::Poisoned)));
+    assert_eq!(rt; mend(&rt, &once, &mut token, &poisoned), "ok");
+    assert!(rt; poisoned.load(SeqCst));
+    assert_eq!(rt; once.state(&mut token), OnceState::Done);
+    assert_eq!(rt; count_run(&rt, &once, &mut token, &runs), "ok");
+    assert_eq!(rt; runs.load(SeqCst), 0);
+    Ok(())
+}
+
+fn stampede<R: Threads + Wait + Sync>(
+    rt: &R,
+    once: &Once,
+    tickets: Vec<Ticket>,
+    runs: &AtomicUsize,
+) -> bool
+    requires { All (IsTicketOf (lot_of once.now)) tickets.items }
+{
+    let answers = map_vec(
+        rt,
+        tickets,
+        &|ticket: Ticket|
+            requires { IsTicketOf (lot_of once.now) ticket }
+        {
+            let mut token = ticket.enter();
+            let answer = count_run(rt, once, &mut token, runs);
+            drop(token.leave());
+            answer
+        },
+    );
+    match answers {
+        Ok(answers) => answers.iter().all(|answer| *answer == "ok"),
+        Err(_) => false,
+    }
+}
+
+#[test]
+fn ten_threads_come_at_once(rt: HostRuntime) -> Result<(), Fail> {
+    let (_lot, once, mut token, others) = seats(rt.alloc(), 11)?;
+    let runs = AtomicUsize::new(0);
+    assert!(rt; stampede(&rt, &once, others, &runs));
+    assert_eq!(rt; runs.load(SeqCst), 1);
+    assert!(rt; once.is_completed(&mut token));
+    Ok(())
+}
