@@ -1,5 +1,6 @@
-//! A shared counter, a queue of workers, a try with a limit, and a cache.
+//! A shared counter, a queue of workers, a try with a limit, a cache, and a table that is filled once.
 mod cache;
+mod table;
 
 ghost use Rattle.std.specs.Prelude.{All, IfOk};
 ghost use Rattle.std.specs.Arc.{arc_value};

@@ -1,3 +1,4 @@
+pub mod OnceUsers
 pub mod RwLockGuards
 pub mod RwLockUsers
 pub mod Users
