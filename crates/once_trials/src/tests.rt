@@ -1,4 +1,6 @@
 //! Calls of one `Once`, by one thread and by many.
+mod meets;
+
 ghost use Rattle.std.specs.Prelude.{◌≡◌, ◌<◌, ◌≤◌, All, IfOk};
 ghost use Rattle.std.specs.Arc.{arc_value};
 ghost use Rattle.run_once.specs.Users.{IsTicketOf, IsTokenOf, lot_of};
