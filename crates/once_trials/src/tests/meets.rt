@@ -1,9 +1,9 @@
 //! Threads that wait for the end of one run.
 ghost use Rattle.std.specs.Prelude.{◌≡◌, All, IfSome};
-ghost use Rattle.run_once.specs.Users.{IsTicketOf, lot_of};
+ghost use Rattle.run_once.specs.Users.{IsTicketOf, IsTokenOf, lot_of};
 
 use super::{count_run, fail, seats};
-use parking_lot_core::{Fault, ParkingLot, Ticket};
+use parking_lot_core::{Fault, ParkingLot, Ticket, Token};
 use run_once::{Once, OnceFault, OnceState};
 use std::alloc::Global;
 use std::sync::Wait;
@@ -81,19 +81,26 @@ fn wait_beside<R: Wait>(rt: &R, once: &Once, ticket: Ticket, told: &Told) -> boo
     waited
 }
 
+// Whether two came to wait for the end of its run.
+fn two_wait<R: Wait>(rt: &R, lot: &ParkingLot, once: &Once, token: &mut Token) -> bool
+    requires { IsTokenOf lot.now token.old }
+    ensures { IsTokenOf lot.now token.new }
+{
+    for _ in 0..TURNS {
+        if lot.queued(rt, token, once.key()) == 2 {
+            return true;
+        }
+        yield_now();
+    }
+    false
+}
+
 // Lets the run go once two wait for its end. Whether that was seen.
 fn let_go<R: Wait>(rt: &R, lot: &ParkingLot, once: &Once, ticket: Ticket, told: &Told) -> bool
     requires { IsTicketOf lot.now ticket × (lot_of once.now ≡ lot.now) }
 {
     let mut token = ticket.enter();
-    let mut seen = false;
-    for _ in 0..TURNS {
-        if lot.queued(rt, &mut token, once.key()) == 2 {
-            seen = true;
-            break;
-        }
-        yield_now();
-    }
+    let seen = two_wait(rt, lot, once, &mut token);
     told.go.store(true, SeqCst);
     drop(token.leave());
     seen
