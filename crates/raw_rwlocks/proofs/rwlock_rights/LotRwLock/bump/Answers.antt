@@ -42,7 +42,7 @@ pub returns-in_default : goal.returns-in_default
 returns-in_default g c = let over = c.bump.ensures.over (view_of c.args.token.now).owns (owner_for (wanted c.args.access), (view_of c.args.token.now).owns, refl, (λ settled. refl), ap (λ (v : View). v.owns) c.join.ensures.joined ∙ ap (λ (w : Want). owning (rwlock_at c.args.self.now.word.number) (owner_for w) ∷ (view_of c.args.token.now).owns) c.wanted.ensures) in
     let full = bump_full c.args.self.now.word.number (view_of c.args.token.now).owns c.args.self.now.admission c.args.access c.bump.result (stage_of c.bump.new.token None) over c.in_default.not-Ok in
     let walked = subst (λ (answer : Answer). Walks (at_rwlock c.args.self.now.word.number) (RwLock c.args.self.now.word.number c.args.self.now.admission (Glance c.args.access)) (view_of c.args.token.now).steps (view_of c.bump.new.token).steps answer) full.0
-          (subst (λ (steps : List WordStep). Walks (at_rwlock c.args.self.now.word.number) (RwLock c.args.self.now.word.number c.args.self.now.admission (Glance c.args.access)) steps (view_of c.bump.new.token).steps c.bump.result) (ap (λ (v : View). v.steps) c.join.ensures.joined) c.bump.ensures.path) in record {
+    (subst (λ (steps : List WordStep). Walks (at_rwlock c.args.self.now.word.number) (RwLock c.args.self.now.word.number c.args.self.now.admission (Glance c.args.access)) steps (view_of c.bump.new.token).steps c.bump.result) (ap (λ (v : View). v.steps) c.join.ensures.joined) c.bump.ensures.path) in record {
       token = (search rules, (search rules, full.2));
       right = refl;
       path = walked;
