@@ -24,7 +24,9 @@ THEIRS = os.path.join(RUST, "out", "release", "lotbench")
 REGISTRY = "/usr/share/cargo/registry"
 MUTEXES = ["raw_mutex", "raw_mutex_try", "mutex", "mutex_try", "fair"]
 RWLOCKS = ["raw_read", "raw_write", "read", "write", "rw_mix", "read_recursive", "upgradable", "upgrade", "downgrade"]
-MODES = MUTEXES + RWLOCKS
+MODES = MUTEXES + RWLOCKS + ["once"]
+# Ours beside a mode of the other program that has another name.
+BESIDE = {"once": ["once", "std_once"]}
 THREADS = [1, 2, 4, 8]
 COLLECTED = re.compile(r"Collected\s*:\s*(\d+)")
 
@@ -48,17 +50,17 @@ def run(program, mode, threads, operations):
     return nanos / operations, high / max(low, 1)
 
 
-def row(mode, threads, operations, runs):
+def row(mode, other, threads, operations, runs):
     ours, theirs = [], []
     for _ in range(runs):
         ours.append(run(OURS, mode, threads, operations))
-        theirs.append(run(THEIRS, mode, threads, operations))
+        theirs.append(run(THEIRS, other, threads, operations))
     our_times, spreads = zip(*ours)
     their_times, _ = zip(*theirs)
     our_time, their_time = statistics.median(our_times), statistics.median(their_times)
     spread = f"{statistics.median(spreads):.2f}, {max(spreads):.2f}" if threads > 1 else ""
     return (
-        f"| `{mode}` | {threads} | {our_time:.1f} ({min(our_times):.1f}) | {their_time:.1f} ({min(their_times):.1f})"
+        f"| `{other}` | {threads} | {our_time:.1f} ({min(our_times):.1f}) | {their_time:.1f} ({min(their_times):.1f})"
         f" | {our_time / their_time:.2f} | {spread} |"
     )
 
@@ -86,13 +88,15 @@ def main():
     print("| mode | threads | ours, ns | Rust, ns | ratio | ours, busiest by idlest |")
     print("|---|---|---|---|---|---|")
     for mode in modes:
-        for threads in THREADS:
-            print(row(mode, threads, asked.n, asked.runs), flush=True)
+        for other in BESIDE.get(mode, [mode]):
+            for threads in THREADS:
+                print(row(mode, other, threads, asked.n, asked.runs), flush=True)
     print()
     print("| mode | ours, instructions | Rust, instructions |")
     print("|---|---|---|")
     for mode in modes:
-        print(f"| `{mode}` | {for_one(OURS, mode):.1f} | {for_one(THEIRS, mode):.1f} |", flush=True)
+        for other in BESIDE.get(mode, [mode]):
+            print(f"| `{other}` | {for_one(OURS, mode):.1f} | {for_one(THEIRS, other):.1f} |", flush=True)
 
 
 if __name__ == "__main__":

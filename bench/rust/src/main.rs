@@ -1,11 +1,11 @@
 //! `lotbench` over the Rust crate `parking_lot`: the same arguments, the same line.
 
 use parking_lot::lock_api::{RawMutex as _, RawRwLock as _};
-use parking_lot::{FairMutex, Mutex, RawMutex, RawRwLock, RwLock, RwLockUpgradableReadGuard, RwLockWriteGuard};
+use parking_lot::{FairMutex, Mutex, Once, RawMutex, RawRwLock, RwLock, RwLockUpgradableReadGuard, RwLockWriteGuard};
 use std::hint::black_box;
 use std::process::ExitCode;
 use std::sync::atomic::{AtomicU64, Ordering::Relaxed};
-use std::thread;
+use std::{sync, thread};
 use std::time::Instant;
 
 const BATCH: u64 = 128;
@@ -13,7 +13,7 @@ const BATCH: u64 = 128;
 const ONE_IN: u64 = 16;
 const MOST_THREADS: usize = 64;
 const MOST_OPERATIONS: u64 = 1_000_000_000_000;
-const USAGE: &str = "usage: lotbench raw_mutex|raw_mutex_try|mutex|mutex_try|fair|raw_read|raw_write|read|write|rw_mix|read_recursive|upgradable|upgrade|downgrade THREADS N";
+const USAGE: &str = "usage: lotbench raw_mutex|raw_mutex_try|mutex|mutex_try|fair|raw_read|raw_write|read|write|rw_mix|read_recursive|upgradable|upgrade|downgrade|once|std_once THREADS N";
 
 #[derive(Clone, Copy)]
 enum Mode {
@@ -31,6 +31,9 @@ enum Mode {
     Upgradable,
     Upgrade,
     Downgrade,
+    Once,
+    /// The same, of the standard library.
+    StdOnce,
 }
 
 impl Mode {
@@ -50,6 +53,8 @@ impl Mode {
             "upgradable" => Some(Mode::Upgradable),
             "upgrade" => Some(Mode::Upgrade),
             "downgrade" => Some(Mode::Downgrade),
+            "once" => Some(Mode::Once),
+            "std_once" => Some(Mode::StdOnce),
             _ => None,
         }
     }
@@ -70,6 +75,8 @@ impl Mode {
             Mode::Upgradable => "upgradable",
             Mode::Upgrade => "upgrade",
             Mode::Downgrade => "downgrade",
+            Mode::Once => "once",
+            Mode::StdOnce => "std_once",
         }
     }
 }
@@ -84,6 +91,8 @@ struct Bench {
     fair: Apart<FairMutex<u64>>,
     raw_rwlock: Apart<RawRwLock>,
     rwlock: Apart<RwLock<u64>>,
+    once: Apart<Once>,
+    std_once: Apart<sync::Once>,
     taken: Apart<AtomicU64>,
     operations: u64,
 }
@@ -226,6 +235,20 @@ fn downgrade_value(bench: &Bench, times: u64) {
     }
 }
 
+#[inline(never)]
+fn call_once(bench: &Bench, times: u64) {
+    for _ in 0..times {
+        bench.once.0.call_once(|| panic!("it is done"));
+    }
+}
+
+#[inline(never)]
+fn call_std_once(bench: &Bench, times: u64) {
+    for _ in 0..times {
+        bench.std_once.0.call_once(|| panic!("it is done"));
+    }
+}
+
 fn work(mode: Mode, bench: &Bench) -> u64 {
     let mut done = 0;
     loop {
@@ -248,6 +271,8 @@ fn work(mode: Mode, bench: &Bench) -> u64 {
             Mode::Upgradable => come_upgradable(bench, times),
             Mode::Upgrade => upgrade_value(bench, times),
             Mode::Downgrade => downgrade_value(bench, times),
+            Mode::Once => call_once(bench, times),
+            Mode::StdOnce => call_std_once(bench, times),
         }
         done += times;
     }
@@ -279,9 +304,13 @@ fn main() -> ExitCode {
         fair: Apart(FairMutex::new(0)),
         raw_rwlock: Apart(RawRwLock::INIT),
         rwlock: Apart(RwLock::new(0)),
+        once: Apart(Once::new()),
+        std_once: Apart(sync::Once::new()),
         taken: Apart(AtomicU64::new(0)),
         operations,
     });
+    bench.once.0.call_once(|| {});
+    bench.std_once.0.call_once(|| {});
     let started = Instant::now();
     let counts: Vec<u64> = thread::scope(|scope| {
         let shared = &bench;

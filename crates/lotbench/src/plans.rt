@@ -40,6 +40,8 @@ pub(crate) enum Mode {
     Upgrade,
     /// 1 is added, and the right is downgraded.
     Downgrade,
+    /// A call of a `Once` that is done.
+    Once,
 }
 
 impl Mode {
@@ -62,6 +64,7 @@ impl Mode {
             "upgradable" => Some(Mode::Upgradable),
             "upgrade" => Some(Mode::Upgrade),
             "downgrade" => Some(Mode::Downgrade),
+            "once" => Some(Mode::Once),
             _ => None,
         }
     }
@@ -84,6 +87,7 @@ impl Mode {
             Mode::Upgradable => "upgradable",
             Mode::Upgrade => "upgrade",
             Mode::Downgrade => "downgrade",
+            Mode::Once => "once",
         }
     }
 }

@@ -2,6 +2,7 @@
 ghost use Rattle.std.specs.Prelude.{◌≡◌, ◌≤◌, IfOk, IfSome, All};
 ghost use Rattle.std.specs.Arc.{arc_value};
 ghost use Rattle.parking_lot.specs.RwLockUsers.{lot_of as rwlot_of};
+ghost use Rattle.parking_lot.specs.OnceUsers.{lot_of as once_lot};
 ghost use Rattle.parking_lot.specs.Users.{lock_of, lot_of};
 ghost use Rattle.parking_lot_core.specs.Tokens.{IsTicketOf, IsTokenOf};
 
@@ -12,7 +13,7 @@ use crate::rwlocks::{
 };
 use crate::shares::Shares;
 use parking_lot::lock_raw::RawMutex as RawLock;
-use parking_lot::{FairMutex, Fault, Mutex, ParkingLot, RawMutex, Ticket, Token, lock_api};
+use parking_lot::{FairMutex, Fault, Mutex, Once, ParkingLot, RawMutex, Ticket, Token, lock_api};
 use std::alloc::Global;
 use std::io;
 use std::sync::{Arc, Wait};
@@ -31,14 +32,16 @@ pub(crate) struct Figures {
     pub(crate) high: u64,
 }
 
-// A mutex without a value, one with, and a fair one, and reader-writer locks, of one lot.
+// A mutex without a value, one with, and a fair one, reader-writer locks, and a `Once` that is done, of one lot.
 #[derive(Drop)]
 struct Bench {
     raw: RawMutex,
     mutex: Mutex<u64>,
     fair: FairMutex<u64>,
     rwlocks: RwLocks,
-    ghost together: { (lot_of mutex ≡ lot_of raw) × (lot_of fair ≡ lot_of raw) × (rwlot_of rwlocks.raw ≡ lot_of raw) },
+    done: Once,
+    ghost together: { (lot_of mutex ≡ lot_of raw) × (lot_of fair ≡ lot_of raw) × (rwlot_of rwlocks.raw ≡ lot_of raw)
+        × (once_lot done ≡ lot_of raw) },
 }
 
 fn one_of(lot: &ParkingLot, tickets: &mut Vec<Ticket>) -> Option<Ticket>
@@ -75,11 +78,13 @@ fn bench_by(lot: &Arc<ParkingLot>, ticket: Ticket) -> Result<(Bench, Ticket), Fa
         Err((fault, _)) => return Err(fault),
     };
     let rwlocks = rwlocks_of(lot, &mut token)?;
+    let done = Once::new_completed(lot, &mut token)?;
     let bench = Bench {
         raw,
         mutex,
         fair,
         rwlocks,
+        done,
     };
     Ok((bench, token.leave()))
 }
@@ -89,7 +94,7 @@ fn bench_for(alloc: Global, threads: usize) -> Result<(Bench, Vec<Ticket>), Faul
     requires { (1 ≤ threads) × (threads ≤ 64) }
     ensures { IfOk result (λ made. All (IsTicketOf (lot_of made.0.raw)) made.1.items) }
 {
-    let (lot, mut tickets) = ParkingLot::new(alloc, 3 + RWLOCKS, threads)?;
+    let (lot, mut tickets) = ParkingLot::new(alloc, 4 + RWLOCKS, threads)?;
     let Some(first) = one_of(&lot, &mut tickets) else {
         return Err(Fault::NoMemory);
     };
@@ -182,6 +187,17 @@ fn try_value<M: RawLock, R: Wait>(
     }
 }
 
+// Calls it so many times.
+fn call_once<R: Wait>(rt: &R, once: &Once, token: &mut Token, times: u64)
+    requires { IsTokenOf (once_lot once.now) token.old }
+    ensures { IsTokenOf (once_lot once.now) token.new }
+{
+    for _ in 0..times {
+        let answer = once.call_once(rt, token, || Err(Fault::Poisoned));
+        drop(answer);
+    }
+}
+
 // Does so many operations.
 fn operate<R: Wait>(rt: &R, mode: Mode, bench: &Bench, token: &mut Token, times: u64)
     requires { IsTokenOf (lot_of bench.now.raw) token.old }
@@ -203,6 +219,7 @@ fn operate<R: Wait>(rt: &R, mode: Mode, bench: &Bench, token: &mut Token, times:
         Mode::Upgradable => come_upgradable(rt, &rwlocks.value, token, times),
         Mode::Upgrade => upgrade_value(rt, &rwlocks.value, token, times),
         Mode::Downgrade => downgrade_value(rt, &rwlocks.value, token, times),
+        Mode::Once => call_once(rt, &bench.done, token, times),
     }
 }
 
@@ -236,7 +253,8 @@ fn total_of(mode: Mode, bench: Bench, counts: &[u64]) -> u64 {
         | Mode::Read
         | Mode::RwMix
         | Mode::ReadRecursive
-        | Mode::Upgradable => counts
+        | Mode::Upgradable
+        | Mode::Once => counts
             .iter()
             .fold(0u64, |all, count| all.saturating_add(*count)),
     }

@@ -39,6 +39,7 @@ fn does_every_operation(rt: HostRuntime) -> Result<(), Fail> {
         ("upgradable", Mode::Upgradable),
         ("upgrade", Mode::Upgrade),
         ("downgrade", Mode::Downgrade),
+        ("once", Mode::Once),
     ] {
         let plan = plan_of(&[name, "2", "1000"]).ok_or("it is a plan")?;
         assert_eq!(rt; (plan.mode, plan.threads, plan.operations), (mode, 2, 1000));

@@ -1,4 +1,5 @@
 //! Calls of one `Once`, by one thread and by many.
+mod cells;
 mod meets;
 
 ghost use Rattle.std.specs.Prelude.{◌≡◌, ◌<◌, ◌≤◌, All, IfOk};

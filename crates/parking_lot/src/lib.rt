@@ -16,7 +16,7 @@ pub use raw_mutexes::{OpenGuard, RawFairMutex, RawGuard, RawMutex};
 pub use raw_rwlocks::{
     RawExclusiveGuard, RawRwLock, RawRwLockRecursive, RawSharedGuard, RawUpgradableGuard,
 };
-pub use run_once::{Once, OnceFault, OnceState};
+pub use run_once::{Once, OnceCell, OnceFault, OnceState};
 
 /// A mutex of a lot, with its value.
 pub type Mutex<T> = lock_api::Mutex<RawMutex, T>;

@@ -2,6 +2,8 @@
 #![tactic(auto)]
 
 pub mod once;
+pub mod once_cell;
 
 pub use lot_calls::OnceState;
 pub use once::{Once, OnceFault};
+pub use once_cell::OnceCell;

@@ -1,0 +1,116 @@
+//! `OnceCell`: a value that the first who asks for it makes.
+ghost use Rattle.std.specs.Prelude.{◌≡◌, ◌⊎◌, Ok, Err, MatchResult};
+ghost use Rattle.std.specs.Arc.{arc_value};
+ghost use Rattle.parking_lot_core.specs.Tokens.{IsTokenOf};
+
+use crate::once::{Once, OnceFault};
+use parking_lot_core::{Fault, ParkingLot, Token};
+use std::marker::Model;
+use std::sync::{Arc, OnceLock, Wait};
+
+/// A value that is made once, by the first who asks for it, and then read by all.
+///
+/// Whoever asks while another makes it waits. Where making it fails, the next who asks makes it.
+#[derive(Drop)]
+pub struct OnceCell<T> {
+    made: Once,
+    value: OnceLock<T>,
+}
+
+// In a clause a cell is its `Once`: the value comes behind a shared reference, so none tells it.
+impl<T> Model for OnceCell<T> {
+    ghost use Rattle.std.specs.Prelude.{◌≡◌};
+    ghost use Rattle.run_once.specs.declared.once.Once.{Once};
+
+    ghost Value = { Once };
+
+    ghost view = { λ cell. cell.made };
+}
+
+impl<T: Drop> OnceCell<T> {
+    ghost use Rattle.run_once.specs.Ran.{StaysKnowing};
+    ghost use Rattle.run_once.specs.Users.{lot_of, number_of};
+
+    /// A cell that is empty.
+    ///
+    /// # Errors
+    ///
+    /// `LotFull`, and `NoMemory`.
+    pub fn new(lot: &Arc<ParkingLot>, token: &mut Token) -> Result<OnceCell<T>, Fault>
+        requires { IsTokenOf (arc_value lot.now) token.old }
+        ensures token { IsTokenOf (arc_value lot.now) token.new }
+        ensures made { MatchResult result (λ cell. lot_of cell ≡ arc_value lot.now)
+            (λ fault. (fault ≡ Fault.NoMemory) ⊎ (fault ≡ Fault.LotFull)) }
+    {
+        let made = Once::new(lot, token)?;
+        Ok(OnceCell {
+            made,
+            value: OnceLock::new(),
+        })
+    }
+
+    /// The value, once it is made. That is one load, and never waits.
+    #[inline]
+    pub fn get(&self) -> Option<&T> {
+        self.value.get()
+    }
+
+    /// The value, for who has the cell alone.
+    pub fn get_mut(&mut self) -> Option<&mut T> {
+        self.value.get_mut()
+    }
+
+    /// The value, and none of a cell that is empty.
+    pub fn into_inner(self) -> Option<T> {
+        self.value.into_inner()
+    }
+
+    /// The value. Where there is none the closure makes it, or another thread's does, and the call waits for that one.
+    ///
+    /// # Errors
+    ///
+    /// What the closure answers that makes none. The cell stays empty then.
+    #[inline]
+    pub fn get_or_try_init<R: Wait, E, F: FnOnce() -> Result<T, E> + Drop>(
+        &self,
+        rt: &R,
+        token: &mut Token,
+        f: F,
+    ) -> Result<&T, E>
+        requires token { IsTokenOf (lot_of self.now) token.old }
+        requires callable { F.IsAlwaysCallable f }
+        ensures token { IsTokenOf (lot_of self.now) token.new × StaysKnowing (number_of self.now) token.old token.new }
+        ensures failed { MatchResult result (λ value. Unit {0}) (λ error. F.post f (Err error)) }
+    {
+        if let Some(value) = self.value.get() {
+            return Ok(value);
+        }
+        self.make(rt, token, f)
+    }
+
+    #[cold]
+    #[inline(never)]
+    fn make<R: Wait, E, F: FnOnce() -> Result<T, E> + Drop>(
+        &self,
+        rt: &R,
+        token: &mut Token,
+        f: F,
+    ) -> Result<&T, E>
+        requires token { IsTokenOf (lot_of self.now) token.old }
+        requires callable { F.IsAlwaysCallable f }
+        ensures token { IsTokenOf (lot_of self.now) token.new × StaysKnowing (number_of self.now) token.old token.new }
+        ensures failed { MatchResult result (λ value. Unit {0}) (λ error. F.post f (Err error)) }
+    {
+        let value = &self.value;
+        let ran = self.made.call_once_force(rt, token, move |_| {
+            let made = f()?;
+            drop(value.try_set(made));
+            Ok(())
+        });
+        match ran {
+            Ok(()) => Ok(value.wait(rt)),
+            Err(OnceFault::Failed(error)) => Err(error),
+            Err(OnceFault::Refused(_)) => unreachable!(),
+        }
+    }
+}
