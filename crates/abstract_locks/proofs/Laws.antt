@@ -19,8 +19,8 @@ told_done w v t (turn.TheVariants.Begin c) d = let told = d.told in cc
 told_done w v t turn.TheVariants.Spin d = d.goes.agrees
 told_done w v t turn.TheVariants.Late d = let told = d.told in cc
 told_done w v t turn.TheVariants.Go d = d.agrees
-told_done w v t turn.TheVariants.Ok d = d.agrees
-told_done w v t turn.TheVariants.Err d = d.agrees
+told_done w v t turn.TheVariants.Ok d = d.goes.agrees
+told_done w v t turn.TheVariants.Err d = d.goes.agrees
 
 pub possible_turns : PossibleTurnsAreTaken
 possible_turns w v s may h = elim h.1 [

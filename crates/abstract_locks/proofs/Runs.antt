@@ -34,8 +34,8 @@ does_keeps w v t (turn.TheVariants.Begin c) o kinds d all = stays_keeps w v t _ 
 does_keeps w v t turn.TheVariants.Go o kinds d all = goes_keeps w v t o kinds d all
 does_keeps w v t turn.TheVariants.Spin o kinds d all = goes_keeps w v t o kinds d.goes all
 does_keeps w v t turn.TheVariants.Late o kinds d all = stays_keeps w v t _ o kinds d all
-does_keeps w v t turn.TheVariants.Ok o kinds d all = goes_keeps w v t o kinds d all
-does_keeps w v t turn.TheVariants.Err o kinds d all = goes_keeps w v t o kinds d all
+does_keeps w v t turn.TheVariants.Ok o kinds d all = goes_keeps w v t o kinds d.goes all
+does_keeps w v t turn.TheVariants.Err o kinds d all = goes_keeps w v t o kinds d.goes all
 
 turned_keeps : (w v : LocksState) (t : ℕ) (x : Turn) (o : Outcome) → ((l : ℕ) → v.kinds l ≡ w.kinds l) → Turned w t x o v → AreLockStates w → AreLockStates v
 turned_keeps w v t x o kinds (inl d) all = does_keeps w v t x o kinds d.1 all

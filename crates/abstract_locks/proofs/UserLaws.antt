@@ -51,8 +51,8 @@ module _ (w : LocksState) (t l : ℕ) where
   did v turn.TheVariants.Go o d = went v o d
   did v turn.TheVariants.Spin o d = went v o d.goes
   did v turn.TheVariants.Late o d = None_ (d.locks l)
-  did v turn.TheVariants.Ok o d = went v o d
-  did v turn.TheVariants.Err o d = went v o d
+  did v turn.TheVariants.Ok o d = went v o d.goes
+  did v turn.TheVariants.Err o d = went v o d.goes
 
   turned : (v : LocksState) (x : Turn) (o : Outcome) → Turned w t x o v → Change w t l (v.locks l)
   turned v x o (inl d) = did v x o d.1

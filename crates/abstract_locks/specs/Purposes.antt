@@ -78,6 +78,7 @@ purpose_of kind.TheVariants.Mutex (call.TheVariants.Mutex l c) = Some (mutex_pur
 purpose_of kind.TheVariants.Fair (call.TheVariants.Mutex l c) = Some (mutex_purpose true l c)
 purpose_of (kind.TheVariants.RwLock limit) (call.TheVariants.RwLock l c) = Some (rwlock_purpose l c)
 purpose_of (kind.TheVariants.Recursive limit) (call.TheVariants.RwLock l c) = Some (rwlock_purpose l c)
+purpose_of kind.TheVariants.Once (call.TheVariants.Once l c) = Some (once_purpose l c)
 purpose_of k c = None
 
 -- the lock of which a call is

@@ -14,8 +14,10 @@ use Rattle.lot_calls.specs.declared.outcomes.Answer.{Answer}
 use Rattle.lot_calls.specs.declared.outcomes.Answer as answer
 use Rattle.lot_calls.specs.declared.outcomes.Outcome.{Outcome}
 use Rattle.lot_calls.specs.declared.outcomes.Outcome as outcome
+use Rattle.lot_calls.specs.declared.outcomes.OnceState.{OnceState}
+use Rattle.lot_calls.specs.declared.outcomes.OnceState as once_state
 use Rattle.lot_calls.specs.Calls.{lock_in}
-use Rattle.abstract_locks.specs.Onces.{Poisoned, Done, Start, Fail, Rest}
+use Rattle.abstract_locks.specs.Onces.{Phase, New, Poisoned, InProgress, Done, OnceCase, Start, Finish, Fail, Rest}
 use Rattle.abstract_locks.specs.Locks.{LockState, Taken, LockCase, Enter, Pend, Settle, Leave, Park, Aside, Wake, HandOff, Late, OfOnce, Rules, Rights, Mutex, Needs, after_case, rights_of, with_right, without_right, Owns, IsFree, IsBlocked, count, readers, putting, standing, HasTakenNobody, IsLockState, opening_lock, times}
 use Rattle.abstract_locks.specs.Purposes.{Purpose, Enters, Releases, Converts, Bumps, CallsOnce, Awaits, Patience, Patient, Timed, Try, lock_for, purpose_of, rules_of, IsMadeOf}
 
@@ -238,8 +240,21 @@ abbrev pub Agrees : ℕ → CallState → Outcome → LocksState → Type 0
 Agrees t c outcome.TheVariants.NotNow v = ⊥
 Agrees t c outcome.TheVariants.Step v = Unit {0}
 Agrees t c outcome.TheVariants.Sleep v = (l : ℕ) × (1 ≤ standing t (v.locks l))
-Agrees t c (outcome.TheVariants.Closure state) v = ⊥
+Agrees t c (outcome.TheVariants.Closure state) v = (l : ℕ) × ((v.locks l).phase ≡ InProgress t)
 Agrees t c (outcome.TheVariants.End a) v = AnswerHolds c.purpose v t c a × ((l : ℕ) → HasTakenNobody (v.locks l) t)
+
+-- how far a `Once` has come, as a closure is told
+abbrev pub state_told : Phase → OnceState
+state_told New = once_state.TheVariants.New
+state_told Poisoned = once_state.TheVariants.Poisoned
+state_told (InProgress runner) = once_state.TheVariants.InProgress
+state_told Done = once_state.TheVariants.Done
+
+-- a thread is told to run its closure exactly where its run of a `Once` begins, and what the run found
+abbrev pub Begins : LocksState → Event → Outcome → Type 0
+Begins w (AtLock l (OfOnce (Start forced))) o = o ≡ outcome.TheVariants.Closure (state_told (w.locks l).phase)
+Begins w event (outcome.TheVariants.Closure state) = ⊥
+Begins w event o = Unit {0}
 
 -- ---------------------------------------------------------------- steps
 
@@ -316,6 +331,13 @@ pub record GoesOn (w : LocksState) (t : ℕ) (o : Outcome) (v : LocksState) : Ty
   pub locks : (l : ℕ) → v.locks l ≡ locks_after w t event l
   pub calls : (u : ℕ) → v.calls u ≡ calls_after w t event o u
   pub agrees : Agrees t (going_on event (w.calls t)) o v
+  pub begins : Begins w event o
+
+-- its closure has answered, and so its run of a `Once` ends, well or not
+pub record Closes (w : LocksState) (t : ℕ) (ending : OnceCase) (o : Outcome) (v : LocksState) : Type 0 where
+  pub goes : GoesOn w t o v
+  pub lock : ℕ
+  pub ends : goes.event ≡ AtLock lock (OfOnce ending)
 
 abbrev pub IsOfMutex : LocksState → Option Purpose → Type 0
 IsOfMutex w None = ⊥
@@ -326,12 +348,14 @@ pub record Looks (w : LocksState) (t : ℕ) (o : Outcome) (v : LocksState) : Typ
   pub goes : GoesOn w t o v
   pub stays : IsOfMutex w (w.calls t).purpose → Stays w t (w.calls t) o v
 
--- what a turn does: a call begins, goes on, looks once more, or is late
+-- what a turn does: a call begins, goes on, looks once more, or is late, or its closure has answered
 abbrev pub Does : LocksState → ℕ → Turn → Outcome → LocksState → Type 0
 Does w t (turn.TheVariants.Begin c) o v = Stays w t (new_call (purpose_at w c) (rights_in w t)) o v
 Does w t turn.TheVariants.Spin o v = Looks w t o v
 Does w t turn.TheVariants.Late o v = Stays w t (record (w.calls t) { late = true }) o v
-Does w t x o v = GoesOn w t o v
+Does w t turn.TheVariants.Go o v = GoesOn w t o v
+Does w t turn.TheVariants.Ok o v = Closes w t Finish o v
+Does w t turn.TheVariants.Err o v = Closes w t Fail o v
 
 -- nothing happens
 abbrev pub IsRefused : LocksState → Outcome → LocksState → Type 0
@@ -345,6 +369,10 @@ Turned w t x o v = (MayTurn w t x × Does w t x o v) ⊎ ((MayTurn w t x → ⊥
 abbrev pub SectionChanges : Option ℕ → ℕ → Option ℕ → Type 0
 SectionChanges before t now = (now ≡ before) ⊎ (((before ≡ None) × (now ≡ Some t)) ⊎ ((before ≡ Some t) × (now ≡ None)))
 
+abbrev pub is_closure : Outcome → Bool
+is_closure (outcome.TheVariants.Closure state) = true
+is_closure o = false
+
 -- threads and locks stay as many, locks of their kinds, and sections are those of who is inside
 pub record KeepsOrder (w : LocksState) (t : ℕ) (o : Outcome) (v : LocksState) : Type 0 where
   pub threads : v.threads ≡ w.threads
@@ -353,6 +381,8 @@ pub record KeepsOrder (w : LocksState) (t : ℕ) (o : Outcome) (v : LocksState) 
   pub sections : (key : ℕ) → SectionChanges (w.inside key) t (v.inside key)
   -- the thread is told that it sleeps exactly where it does
   pub told : o ≢ outcome.TheVariants.NotNow → (o ≡ outcome.TheVariants.Sleep) ↔ ((v.stances t).asleep ≡ true)
+  -- and to run its closure exactly where it does
+  pub runs : o ≢ outcome.TheVariants.NotNow → is_closure o ≡ (v.stances t).in_closure
 
 abbrev pub IsStep : LocksState → Step → Outcome → LocksState → Type 0
 IsStep w s o v = KeepsOrder w s.thread o v × Turned w s.thread s.turn o v

@@ -34,7 +34,23 @@ fn both_mutexes_have_the_calls_of_a_mutex(rt: HostRuntime) {
         };
         assert_eq!(rt; call.lock(), 3);
         assert!(rt; Kind::Mutex.has_call(call) && Kind::Fair.has_call(call));
-        assert!(rt; !Kind::Once.has_call(call));
+        assert!(rt; !Kind::Once.has_call(call) && !Kind::Condvar.has_call(call));
+    }
+}
+
+#[test]
+fn a_once_has_its_calls(rt: HostRuntime) {
+    for name in [
+        OnceCall::CallOnce { forced: false },
+        OnceCall::Wait { forced: true },
+    ] {
+        let call = Call::Once {
+            lock: 3,
+            call: name,
+        };
+        assert_eq!(rt; call.lock(), 3);
+        assert!(rt; Kind::Once.has_call(call));
+        assert!(rt; !Kind::Mutex.has_call(call) && !Kind::Condvar.has_call(call));
     }
 }
 

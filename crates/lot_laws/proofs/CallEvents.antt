@@ -1,6 +1,12 @@
 -- What a step of a thread is to the abstract locks, whatever lock it calls and wherever it stands: the event is the one case of its deeds, and
 -- its call comes to what its rows say.
 use Rattle.std.proofs.Common.{ℕ, Bool, true, false, Option, Some, None, if◌then◌else◌, ◌==◌, ◌≡◌, ◌≢◌, ◌⊎◌, ◌≤◌, List, [], ◌∷◌, ◌++◌, inl, inr, refl, sym, ◌∙◌, ap, subst, arith}
+use Rattle.abstract_locks.specs.Runs.{Nothing}
+use Rattle.lot_laws.specs.Promises.{KnowsRights}
+use Rattle.abstract_locks.specs.Locks.{Once, OfOnce, Sort}
+use Rattle.abstract_locks.specs.Purposes.{Enters, Releases, Converts, Bumps, CallsOnce, Awaits, lock_for}
+use Rattle.abstract_locks.specs.Runs.{is_closure}
+use Rattle.abstract_locks.specs.Runs.{Begins}
 use Rattle.std.proofs.lemmas.Bool.{cases_eq, eqb-true}
 use Rattle.std.proofs.lemmas.Bool.Decides.{nat_tests}
 use Rattle.lot_base.specs.declared.wants.Want.{Want}
@@ -14,7 +20,8 @@ use Rattle.lot_steps.specs.Steps.{lock_of, profile}
 use Rattle.lot_steps.specs.declared.places.Place.{Place}
 use Rattle.lot_steps.specs.declared.places.Place.TheVariants.{Idle}
 use Rattle.abstract_locks.specs.Purposes.{Purpose, IsMadeOf, rules_of}
-use Rattle.abstract_locks.specs.Onces.{OnceCase, Start, Finish, Fail, Rest, TakeAll}
+use Rattle.abstract_locks.specs.Onces.{InProgress, OnceCase, Start, Finish, Fail, Rest, TakeAll}
+use Rattle.lot_calls.specs.declared.outcomes.OnceState.{OnceState}
 use Rattle.abstract_locks.specs.Locks as locks
 use Rattle.abstract_locks.specs.Locks.{LockState, Rules, Rights, LockCase, HandOff, HasTakenNobody, Queued, Needs, putting, rights_of, standing}
 use Rattle.abstract_locks.specs.Runs.{LocksState, IsTimely, rules_at as locks_rules, CallState, Event, AtLock, MayHappen, Agrees, AnswerHolds, GoesOn, locks_after, going_on, woken, unless_ended}
@@ -100,10 +107,17 @@ happens w v t l hand ds claims steady goes begin one free = record {
 
 -- ---------------------------------------------------------------- the calls
 
+-- it is told of a step; that it sleeps, where it stands about the lock; or of its closure, where its run is on
+abbrev pub GoesAs : State → ℕ → ℕ → Outcome → Type 0
+GoesAs v t l o =
+    (o ≡ outcome.TheVariants.Step)
+    ⊎ (((o ≡ outcome.TheVariants.Sleep) × (1 ≤ standing t (lock_state v l)))
+    ⊎ ((state : OnceState) × (o ≡ outcome.TheVariants.Closure state) × ((lock_state v l).phase ≡ InProgress t)))
+
 -- the call of a thread goes on by an event as its rows say, or it has ended
 abbrev pub LeadsTo : State → ℕ → ℕ → Next Profile → Outcome → Type 0
 LeadsTo v t l (next.At row) o = (lock_of (place_at v t) ≡ Some l) × (profile (place_at v t) ≡ row)
-    × ((o ≡ outcome.TheVariants.Step) ⊎ ((o ≡ outcome.TheVariants.Sleep) × (1 ≤ standing t (lock_state v l))))
+    × GoesAs v t l o
 LeadsTo v t l (next.End a) o = (place_at v t ≡ Idle) × (o ≡ outcome.TheVariants.End a)
 
 -- the calls of the other threads become what an event makes of them
@@ -142,6 +156,39 @@ same_purpose l (Some case) x = by_case case
 may_do : (w : LocksState) (t l : ℕ) (case : LockCase) (purpose : Purpose) (c : CallState) → w.calls t ≡ c → c.purpose ≡ Some purpose → IsMadeOf purpose c.gave_up c.released l case
     → Needs (locks_rules w l) case (w.locks l) t → IsTimely c.late case → MayHappen w t (AtLock l case)
 may_do w t l case purpose c is e made needs timely = rw (is, e) (rw is made, needs, rw is timely)
+
+-- who calls no `Once` begins no run
+abbrev pub RunsNothing : Purpose → Type 0
+RunsNothing (CallsOnce l forced) = ⊥
+RunsNothing (Awaits l forced) = ⊥
+RunsNothing purpose = Unit {0}
+
+pub runs_nothing : (sorts : ℕ → Sort) (l : ℕ) (p : Purpose) → lock_for p ≡ l → KnowsRights sorts (Some p) → (sorts l ≡ Once → ⊥) → RunsNothing p
+runs_nothing sorts l (CallsOnce k forced) own knows other = other (subst (λ j. sorts j ≡ Once) own knows)
+runs_nothing sorts l (Awaits k forced) own knows other = other (subst (λ j. sorts j ≡ Once) own knows)
+runs_nothing sorts l p own knows other = tt
+
+never_starts : (p : Purpose) (g : Option ℕ) (r : Bool) (l : ℕ) (forced : Bool) → RunsNothing p → IsMadeOf p g r l (OfOnce (Start forced)) → ⊥
+never_starts (Enters k x how) g r l forced h m = m.1
+never_starts (Releases k x fair) g r l forced h m = m.1
+never_starts (Converts k x y how) g r l forced h m = m.1
+never_starts (Bumps k x) g r l forced h m = elim m.1 [ inl a ↦ a | inr b ↦ b.1 ]
+never_starts (CallsOnce k f) g r l forced h m = h
+never_starts (Awaits k f) g r l forced h m = h
+
+-- and is told of no closure
+pub begins_nothing : (w : LocksState) (l : ℕ) (row : Profile) (c : Option LockCase) (o : Outcome) → RunsNothing (row.purpose l) → MayCome l row (event_by l c) → is_closure o ≡ false → Begins w (event_by l c) o
+begins_nothing w l row None o runs may told = by_outcome o told
+  where
+    by_outcome : (o : Outcome) → is_closure o ≡ false → Begins w Nothing o
+    by_outcome (outcome.TheVariants.Closure state) h = absurd cc
+    by_outcome o h = tt
+begins_nothing w l row (Some case) o runs may told = by_case case o may told
+  where
+    by_case : (case : LockCase) (o : Outcome) → MayCome l row (AtLock l case) → is_closure o ≡ false → Begins w (AtLock l case) o
+    by_case (OfOnce (Start forced)) o m h = absurd (never_starts (row.purpose l) _ row.released l forced runs m.0)
+    by_case case (outcome.TheVariants.Closure state) m h = absurd cc
+    by_case case o m h = tt
 
 module _ (w v : State) (t l : ℕ) (c : Option LockCase) (h : Happens w v t l (event_by l c)) where
   -- what a thread owns then
@@ -194,8 +241,8 @@ module _ (w v : State) (t l : ℕ) (c : Option LockCase) (h : Happens w v t l (e
     -- the event of the step is that of its deeds
     pub goes_by : MayCome l (profile p) (event_by l c) → (n : Next Profile) (o : Outcome)
         → ComesTo (rules_in w l) l (profile p) (event_by l c) (lock_state w l) (after_event (rules_in w l) (event_by l c) (lock_state w l) t) t n
-        → LeadsTo v t l n o → OthersFollow w v t (event_by l c) → GoesOn (locks_of w) t o (locks_of v)
-    goes_by may n o comes leads others = record {
+        → LeadsTo v t l n o → OthersFollow w v t (event_by l c) → Begins (locks_of w) (event_by l c) o → GoesOn (locks_of w) t o (locks_of v)
+    goes_by may n o comes leads others begins = record {
       called = rw (called_by (rights w t)) (λ e. cc);
       event = event_by l c;
       may = may_happen may;
@@ -204,6 +251,7 @@ module _ (w v : State) (t l : ℕ) (c : Option LockCase) (h : Happens w v t l (e
           (λ h. let same : u ≡ t = eqb-true u t h in rw (same, called_by (rights w t)) (own n comes leads))
           (λ h. others u (unequal u t h));
       agrees = rw (called_by (rights w t)) (agrees n comes leads);
+      begins = begins;
     }
       where
         rules_then : rules_in v l ≡ rules_in w l
@@ -214,17 +262,27 @@ module _ (w v : State) (t l : ℕ) (c : Option LockCase) (h : Happens w v t l (e
         own (next.At row) comes leads = ap (λ x. call_on x (profile (place_at v t)) (rights v t)) leads.0 ∙ ap (λ x. call_by l x (rights v t)) leads.1
             ∙ ap (call_by l row) (λ i k. rights_led t k i) ∙ comes (rights w t) refl ∙ goes_on leads.2
           where
-            goes_on : ((o ≡ outcome.TheVariants.Step) ⊎ ((o ≡ outcome.TheVariants.Sleep) × (1 ≤ standing t (lock_state v l)))) → going_on (event_by l c) call_then ≡ unless_ended o (going_on (event_by l c) call_then)
+            goes_on : GoesAs v t l o → going_on (event_by l c) call_then ≡ unless_ended o (going_on (event_by l c) call_then)
             goes_on (inl e) = rw e refl
-            goes_on (inr e) = rw e.0 refl
+            goes_on (inr (inl e)) = rw e.0 refl
+            goes_on (inr (inr e)) = rw e.1 refl
         own (next.End a) comes leads = rw (leads.0, leads.1) refl
 
         agrees : (n : Next Profile) → ComesTo (rules_in w l) l (profile p) (event_by l c) (lock_state w l) behind t n → LeadsTo v t l n o → Agrees t (going_on (event_by l c) call_then) o (locks_of v)
         agrees (next.At row) comes leads = elim leads.2 [
           | inl e ↦ rw e tt
-          | inr e ↦ rw e.0 (l, e.1)
+          | inr h ↦ elim h [
+            | inl e ↦ rw e.0 (l, e.1)
+            | inr e ↦ rw e.1 (l, e.2)
+          ]
         ]
         agrees (next.End a) comes leads = rw leads.1 (
           subst (λ x. AnswerHolds x (locks_of v) t (going_on (event_by l c) call_then) a) (sym (same_purpose l c call_then)) (comes (locks_of v) (rights w t) rules_then h.led refl (rights_led t)),
           λ k. taken_nobody v h.after t k (rw leads.0 refl),
         )
+
+    pub goes_event : (may : MayCome l (profile p) (event_by l c)) (n : Next Profile) (o : Outcome)
+        (comes : ComesTo (rules_in w l) l (profile p) (event_by l c) (lock_state w l) (after_event (rules_in w l) (event_by l c) (lock_state w l) t) t n)
+        (leads : LeadsTo v t l n o) (others : OthersFollow w v t (event_by l c)) (begins : Begins (locks_of w) (event_by l c) o) → (goes_by may n o comes leads others begins).event ≡ event_by l c
+    unfolding goes_by
+    goes_event may n o comes leads others begins = refl

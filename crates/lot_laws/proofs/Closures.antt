@@ -1,5 +1,10 @@
 -- No call that is built runs a closure.
 use Rattle.std.proofs.Common.{ℕ, Bool, true, false, if◌then◌else◌, ◌==◌, not, ◌≡◌, ◌+◌, ◌*◌, refl, sym, ◌∙◌}
+use Rattle.abstract_locks.specs.Runs.{is_closure}
+use Rattle.lot_acts.specs.Acts.{outcome_of}
+use Rattle.lot_acts.specs.declared.acts.Act as act
+use Rattle.lot_acts.specs.declared.acts.Act.{Act}
+use Rattle.lot_machine.proofs.Shape.{both}
 use Rattle.lot_base.specs.declared.keys.Keys.TheVariants.{One}
 use Rattle.lot_base.specs.declared.ops.Op as op
 use Rattle.lot_acts.specs.declared.acts.Act.TheVariants.{Word, HandOver, Enter}
@@ -10,7 +15,6 @@ use Rattle.lot_mutex.specs.declared.hand_off.HandOffAt.TheVariants as hand_off
 use Rattle.lot_steps.specs.declared.places.Place.{Place}
 use Rattle.lot_steps.specs.declared.places.Place.TheVariants.{Idle, Mutex, RwLock, Once}
 use Rattle.lot_mutex.specs.MutexSteps.{is_locked}
-use Rattle.lot_laws.specs.SitesOf.{FitsItsLock}
 use Rattle.lot_base.specs.declared.wants.Want.{Want}
 use Rattle.lot_base.specs.declared.keys.Line.{Line}
 use Rattle.lot_base.specs.declared.keys.Line.TheVariants.{Main, Second}
@@ -37,7 +41,14 @@ use Rattle.lot_rwlock_fair.specs.declared.hand_over.Taken.{Taken}
 use Rattle.lot_rwlock_fair.specs.declared.handed.HandedAt.TheVariants as handed
 use Rattle.lot_rwlock_fair.specs.FairSteps.{accept_act, call_act, hand_over_act, has_room, parked_as, with_taken, without}
 use Rattle.lot_steps.specs.Steps.{act_of}
-use Rattle.lot_machine.specs.Machine.{State, place_at, runs_closure, can_close}
+use Rattle.lot_machine.specs.Machine.{State, place_at, runs_closure, can_close, can_do, closed_place}
+use Rattle.lot_once.specs.declared.look.LookAt.TheVariants as look
+use Rattle.lot_once.specs.declared.look.Course.{Course}
+use Rattle.lot_once.specs.declared.look.Course.TheVariants.{Ends, Runs, Marks, Parks}
+use Rattle.lot_once.specs.declared.run.RunAt.TheVariants as run
+use Rattle.lot_once.specs.declared.places.OncePlace.TheVariants.{Look, Run}
+use Rattle.lot_once.specs.OnceSteps.{course_act, course_of}
+use Rattle.lot_mutex.specs.declared.places.MutexPlace.{MutexPlace}
 
 decides_plainly : (l s : ℕ) (a b : Bool) → runs_closure (if not a then Word l (op.TheVariants.Exchange s (s + 1)) else if b then Word l (op.TheVariants.Exchange 1 3) else Enter (One (2 * l))) ≡ false
 decides_plainly l s false b = refl
@@ -101,7 +112,7 @@ accepts_plainly l access.Exclusive = refl
 accepts_plainly l access.Shared = refl
 accepts_plainly l access.Upgradable = refl
 
-call_runs_none : (l : ℕ) (a : Admission) (c : RwLockCallPlace) → runs_closure (call_act l a c) ≡ false
+pub call_runs_none : (l : ℕ) (a : Admission) (c : RwLockCallPlace) → runs_closure (call_act l a c) ≡ false
 call_runs_none l a (places.Plain p) = rwlock_runs_none l a p p.at
 call_runs_none l a (places.Bump p) = rwlock_runs_none l a p p.at
 call_runs_none l a (places.Glance x) = refl
@@ -109,25 +120,56 @@ call_runs_none l a (places.HandOver x b to) = hands_over_plainly l a x to
 call_runs_none l a (places.Handed x how b (handed.Asleep u alone)) = refl
 call_runs_none l a (places.Handed x how b handed.Accept) = accepts_plainly l x
 
-runs_none : (w : State) (p : Place) → FitsItsLock w p → runs_closure (act_of p) ≡ false
-runs_none w Idle fits = refl
-runs_none w (Mutex l (Lock e r lock.First)) fits = refl
-runs_none w (Mutex l (Lock e r (lock.Decide s))) fits = decides_plainly l s (is_locked s) (s == 1)
-runs_none w (Mutex l (Lock e r a)) fits = refl
-runs_none w (Mutex l TryLock) fits = refl
-runs_none w (Mutex l (Unlock unlock.Subtract)) fits = refl
-runs_none w (Mutex l (Unlock a)) fits = refl
-runs_none w (Mutex l UnlockFair) fits = refl
-runs_none w (Mutex l Bump) fits = refl
-runs_none w (Mutex l (HandOff b (hand_off.Store false n))) fits = refl
-runs_none w (Mutex l (HandOff b (hand_off.Store true n))) fits = refl
-runs_none w (Mutex l (HandOff b a)) fits = refl
-runs_none w (RwLock l a c) fits = call_runs_none l a c
-runs_none w (Once l at) fits = absurd fits
+-- a thread that runs a closure
+pub record RunsOne (p : Place) : Type 0 where
+  pub lock : ℕ
+  pub forced : Bool
+  pub poisoned : Bool
+  pub is : p ≡ Once lock (Run forced (run.Closure poisoned))
 
-pub no_closure : (w : State) (t : ℕ) → FitsItsLock w (place_at w t) → runs_closure (act_of (place_at w t)) ≡ true → ⊥
-no_closure w t fits h = let e : false ≡ true = sym (runs_none w (place_at w t) fits) ∙ h in cc
+course_runs_none : (l v : ℕ) (k : Course) → runs_closure (course_act l v k) ≡ false
+course_runs_none l v (Ends answer) = refl
+course_runs_none l v Runs = refl
+course_runs_none l v Marks = refl
+course_runs_none l v Parks = refl
 
--- so none ends
-pub nothing_closes : (w : State) (t : ℕ) (succeeded : Bool) → FitsItsLock w (place_at w t) → can_close w t succeeded ≡ true → ⊥
-nothing_closes w t succeeded fits can = let e : false ≡ true = sym (rw (runs_none w (place_at w t) fits) refl) ∙ can in cc
+pub mutex_runs_none : (l : ℕ) (m : MutexPlace) → runs_closure (act_of (Mutex l m)) ≡ false
+mutex_runs_none l (Lock e r lock.First) = refl
+mutex_runs_none l (Lock e r (lock.Decide s)) = decides_plainly l s (is_locked s) (s == 1)
+mutex_runs_none l (Lock e r a) = refl
+mutex_runs_none l TryLock = refl
+mutex_runs_none l (Unlock unlock.Subtract) = refl
+mutex_runs_none l (Unlock a) = refl
+mutex_runs_none l UnlockFair = refl
+mutex_runs_none l Bump = refl
+mutex_runs_none l (HandOff b (hand_off.Store false n)) = refl
+mutex_runs_none l (HandOff b (hand_off.Store true n)) = refl
+mutex_runs_none l (HandOff b a) = refl
+
+-- it is in a call of a `Once`, and its run is on
+pub runs_one : (p : Place) → runs_closure (act_of p) ≡ true → RunsOne p
+runs_one Idle h = absurd cc
+runs_one (Mutex l m) h = absurd (let e : false ≡ true = sym (mutex_runs_none l m) ∙ h in cc)
+runs_one (RwLock l a c) h = absurd (let e : false ≡ true = sym (call_runs_none l a c) ∙ h in cc)
+runs_one (Once l (Run forced (run.Closure poisoned))) h = record { lock = l; forced = forced; poisoned = poisoned; is = refl }
+runs_one (Once l (Run forced (run.Close succeeded))) h = absurd cc
+runs_one (Once l (Run forced (run.Enter succeeded))) h = absurd cc
+runs_one (Once l (Run forced (run.Take succeeded))) h = absurd cc
+runs_one (Once l (Run forced (run.Leave succeeded any))) h = absurd cc
+runs_one (Once l (Look c again (look.Decide seen))) h = absurd (let e : false ≡ true = sym (course_runs_none l seen (course_of c seen)) ∙ h in cc)
+runs_one (Once l (Look c again look.Load)) h = absurd cc
+runs_one (Once l (Look c again look.Check)) h = absurd cc
+runs_one (Once l (Look c again (look.Leave parked))) h = absurd cc
+runs_one (Once l (Look c again look.Asleep)) h = absurd cc
+runs_one (Once l (Look c again (look.Taken by))) h = absurd cc
+
+-- who may end its closure runs one
+pub closes_one : (w : State) (t : ℕ) (succeeded : Bool) → can_close w t succeeded ≡ true → RunsOne (place_at w t)
+closes_one w t succeeded can = runs_one (place_at w t) (both (runs_closure (act_of (place_at w t))) (can_do w (act_of (closed_place w t succeeded))) can).0
+
+-- and is told so
+pub closure_told : (y : Act) → is_closure (outcome_of y) ≡ runs_closure y
+closure_told (act.TheVariants.Closure state) = refl
+closure_told act.TheVariants.Sleep = refl
+closure_told (act.TheVariants.End answer) = refl
+closure_told y = refl

@@ -1,6 +1,14 @@
 -- What a call has counted of those whom its thread has in hand stays so, whatever a thread does: as long as it hasn't handed the lock over, no other
 -- thread brings anybody into its hand or lets anybody go.
 use Rattle.std.proofs.Common.{ℕ, Bool, true, false, Option, Some, None, if◌then◌else◌, ◌==◌, ◌≡◌, ◌≢◌, ◌<◌, inl, inr, length, nat_lt, refl, sym, ◌∙◌, ap, subst, get_or, get_or-set_same, length-set, set}
+use Rattle.lot_steps.specs.declared.places.Place.TheVariants.{Once}
+use Rattle.lot_laws.proofs.Counting.{once_counted}
+use Rattle.lot_once.specs.OnceSteps.{once_next}
+use Rattle.lot_once.specs.declared.run.RunAt.TheVariants as run
+use Rattle.lot_once.specs.declared.places.OncePlace.TheVariants.{Run}
+use Rattle.lot_acts.specs.declared.acts.Reply.TheVariants.{Closed}
+use Rattle.lot_machine.specs.Machine.{closed_place, reply_to, state_after_close}
+use Rattle.lot_laws.proofs.Closures.{RunsOne, closes_one}
 use Rattle.std.proofs.lemmas.Bool.{cases_eq, ltb-true}
 use Rattle.lot_base.specs.declared.ops.Op.{Op}
 use Rattle.lot_base.specs.declared.ops.Op.TheVariants as operation
@@ -39,7 +47,6 @@ use Rattle.lot_machine.proofs.Shape.{after_size, both, performed_counts}
 use Rattle.lot_laws.specs.Refinement.{lock_state, locks_of}
 use Rattle.lot_laws.specs.SitesOf.{AreCounted, IsCounted, IsSteady, rules_in}
 use Rattle.lot_laws.proofs.Befallen.{others_keep_it}
-use Rattle.lot_laws.proofs.Closures.{nothing_closes}
 use Rattle.lot_laws.proofs.Counting.{HasCounted, IsHandOver, are_counted, begins_bare, counted_befallen, counted_next, counted_on, counting_row, counts_there, goes_counted, late_bare, looks_bare, mutex_counted, none_is, nothing, once_counted, others_bare}
 use Rattle.lot_laws.proofs.CountsTaken.{picked_now, take_counts, took_is}
 use Rattle.lot_laws.proofs.Fair.{turned_so}
@@ -216,13 +223,19 @@ module _ (w : State) (t : ℕ) (steady : IsSteady w) (counted : AreCounted w) (t
   late_counts None is l k e = counts_there w t l k counted e
   late_counts (Some key) is l k e = absurd (none_is k _ (ap (λ p. counted_on p l) (get_or-set_same w.places t (next_place (place_at w t) Late) Idle there) ∙ late_bare (place_at w t) key is l) e)
 
+  -- a call of a `Once` counts nobody
+  closed_bare : (succeeded : Bool) → RunsOne (place_at w t) → (l : ℕ) → counted_on (place_at (state_after_close w t succeeded) t) l ≡ None
+  closed_bare succeeded one l = ap (λ p. counted_on p l) (get_or-set_same (state_after_act w t (closed_place w t succeeded) (act_of (closed_place w t succeeded))).places t _ Idle (rw ((performed_counts w t (closed_place w t succeeded) (act_of (closed_place w t succeeded))).0) there))
+      ∙ ap (λ p. counted_on (next_place p (reply_to w t (act_of p))) l) (ap (λ p. next_place p (Closed succeeded)) one.is)
+      ∙ once_counted l one.lock (once_next (Run one.forced (run.Close succeeded)) (reply_to w t (act_of (Once one.lock (Run one.forced (run.Close succeeded))))))
+
   turned_counts : (x : Turn) → can_turn w t x ≡ true → IsSteady (state_after_turn w t x) → (o : Outcome) → Turned (locks_of w) t x o (locks_of (state_after_turn w t x)) → (l : ℕ) (k : Counted) → counted_on (place_at (state_after_turn w t x) t) l ≡ Some k → IsCounted (state_after_turn w t x) t k
   turned_counts (turn.TheVariants.Begin c) can behind o turned l k e = absurd (none_is k _ (ap (λ p. counted_on p l) (get_or-set_same w.places t (first_place (kind_at w (lock_in c)) c) Idle there) ∙ begins_bare l (kind_at w (lock_in c)) c) e)
   turned_counts turn.TheVariants.Go can behind o turned l k e = going_counts w t steady counted there turn.TheVariants.Go o (place_at w t) refl behind turned l k (ap (λ p. counted_on p l) (sym (go_place w t there)) ∙ e)
   turned_counts turn.TheVariants.Spin can behind o turned l k e = spun_counts (looking (place_at w t)) refl l k e
   turned_counts turn.TheVariants.Late can behind o turned l k e = late_counts (late_key (place_at w t)) refl l k e
-  turned_counts turn.TheVariants.Ok can behind o turned l k e = absurd (nothing_closes w t true (steady.stands.calls t) can)
-  turned_counts turn.TheVariants.Err can behind o turned l k e = absurd (nothing_closes w t false (steady.stands.calls t) can)
+  turned_counts turn.TheVariants.Ok can behind o turned l k e = absurd (none_is k _ (closed_bare true (closes_one w t true can) l) e)
+  turned_counts turn.TheVariants.Err can behind o turned l k e = absurd (none_is k _ (closed_bare false (closes_one w t false can) l) e)
 
 -- ---------------------------------------------------------------- every step
 

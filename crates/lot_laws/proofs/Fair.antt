@@ -1,5 +1,8 @@
 -- Each step of the world is fair.
 use Rattle.std.proofs.Common.{ℕ, Bool, true, false, Option, Some, None, if◌then◌else◌, ◌==◌, ◌&&◌, not, ◌≡◌, ◌≢◌, ◌+◌, ◌*◌, ◌<◌, ◌⊎◌, inl, inr, [], length, refl, sym, ◌∙◌, ap, subst, arith, get_or-set_same, length-set}
+use Rattle.lot_calls.specs.declared.calls.OnceCall.TheVariants as once_call
+use Rattle.lot_once.specs.declared.places.OncePlace.TheVariants.{Look, Run}
+use Rattle.lot_laws.proofs.Closures.{closes_one}
 use Rattle.std.proofs.lemmas.Bool.{cases_eq, eqb-true, ltb-true}
 use Rattle.std.proofs.lemmas.Bool.Decides.{nat_tests}
 use Rattle.lot_base.specs.declared.keys.Keys.TheVariants.{One}
@@ -33,7 +36,6 @@ use Rattle.lot_laws.specs.MutexDeeds.{mutex_station}
 use Rattle.lot_laws.specs.SitesOf.{AreCounted, IsSteady, FitsItsLock, is_mutex, rules_in}
 use Rattle.abstract_locks.specs.Sites.{Main}
 use Rattle.lot_laws.proofs.MutexTable.{own_doing}
-use Rattle.lot_laws.proofs.Closures.{nothing_closes}
 use Rattle.lot_machine.proofs.Shape.{both, looking_shaped}
 use Rattle.lot_laws.proofs.Looking.{looking_steady, locks_same, looks_now, calls_same}
 use Rattle.std.specs.Prelude.{nat_lt}
@@ -175,8 +177,8 @@ module _ (P : LockState → LockState → Type 0) (w v : LocksState) (a l : ℕ)
   does_so turn.TheVariants.Go o d = goes_so o d
   does_so turn.TheVariants.Spin o d = goes_so o d.goes
   does_so turn.TheVariants.Late o d = stays_so _ o d
-  does_so turn.TheVariants.Ok o d = goes_so o d
-  does_so turn.TheVariants.Err o d = goes_so o d
+  does_so turn.TheVariants.Ok o d = goes_so o d.goes
+  does_so turn.TheVariants.Err o d = goes_so o d.goes
 
   pub turned_so : (x : Turn) (o : Outcome) → Turned w a x o v → P (w.locks l) (v.locks l)
   turned_so x o (inl d) = does_so x o d.1
@@ -264,7 +266,9 @@ module _ (w : State) (t l : ℕ) (shape : IsShaped w) (steady : IsSteady w) (own
   -- whatever the act, and wherever the thread goes then
   go_gives : (p : Place) → place_at w t ≡ p → PlaceFits (length w.locks) p → IsFairRelease (call_state p (rights w t)).purpose l → ComesTo w t l (state_after_act w t p (act_of p))
   go_gives Idle is fits h = absurd h
-  go_gives (Once k at) is fits h = absurd (subst (FitsItsLock w) is (steady.stands.calls t))
+  go_gives (Once k (Look (once_call.CallOnce forced) again at)) is fits h = absurd h
+  go_gives (Once k (Look (once_call.Wait forced) again at)) is fits h = absurd h
+  go_gives (Once k (Run forced at)) is fits h = absurd h
   go_gives (RwLock k a c) is fits h = absurd (
       let admitted : FitsItsLock w (RwLock k a c) = subst (FitsItsLock w) is (steady.stands.calls t) in
       let here : k ≡ l = sym (call_promises (rules_in w k) a k c admitted.0 admitted.1).own ∙ released_lock ((call_profile a c).purpose k) l h in
@@ -300,8 +304,8 @@ module _ (w : State) (t l : ℕ) (shape : IsShaped w) (steady : IsSteady w) (own
   turned_gives there h turn.TheVariants.Go can = go_gives w t l shape steady own of_mutex (place_at w t) refl (shape.places t) h
   turned_gives there h turn.TheVariants.Spin can = spin_gives there h (looking (place_at w t)) refl
   turned_gives there h turn.TheVariants.Late can = late_gives w t l shape steady own of_mutex (late_key (place_at w t))
-  turned_gives there h turn.TheVariants.Ok can = absurd (nothing_closes w t true (steady.stands.calls t) can)
-  turned_gives there h turn.TheVariants.Err can = absurd (nothing_closes w t false (steady.stands.calls t) can)
+  turned_gives there h turn.TheVariants.Ok can = absurd (subst (λ p. IsFairRelease (call_state p (rights w t)).purpose l) (closes_one w t true can).is h)
+  turned_gives there h turn.TheVariants.Err can = absurd (subst (λ p. IsFairRelease (call_state p (rights w t)).purpose l) (closes_one w t false can).is h)
 
   after_gives : IsFairRelease (call_state (place_at w t) (rights w t)).purpose l → (s : Step) → s.thread ≡ t → ComesTo w t l (after w s)
   after_gives h s e = either (is_possible w s) refl
@@ -334,7 +338,9 @@ module _ (w : State) (t l : ℕ) (shape : IsShaped w) (steady : IsSteady w) (cou
     where
       by_place : (p : Place) → place_at w t ≡ p → PlaceFits (length w.locks) p → can_do w (act_of p) ≡ true → ToGive p → Gives (put (state_after_act w t p (act_of p)) t (next_place p (reply_to w t (act_of p))))
       by_place Idle is fits can gives = absurd gives
-      by_place (Once k at) is fits can gives = absurd (subst (FitsItsLock w) is (steady.stands.calls t))
+      by_place (Once k (Look (once_call.CallOnce forced) again at)) is fits can gives = absurd gives.1
+      by_place (Once k (Look (once_call.Wait forced) again at)) is fits can gives = absurd gives.1
+      by_place (Once k (Run forced at)) is fits can gives = absurd gives.1
       by_place (Mutex k at) is fits can gives = absurd (
           let fits_k : is_mutex (kind_at w k) ≡ true = subst (FitsItsLock w) is (steady.stands.calls t) in
           let here : k ≡ l = sym (subst (λ p. lock_for ((profile p).purpose k) ≡ k) is (row_promises w t steady k (ap lock_of is)).own) ∙ gives.0 in
@@ -376,8 +382,8 @@ module _ (w : State) (t l : ℕ) (shape : IsShaped w) (steady : IsSteady w) (cou
   turned_gives_shared there turn.TheVariants.Go can = go_gives_shared w t l shape steady counted x h.1 h.3 there can h.0 h.2
   turned_gives_shared there turn.TheVariants.Spin can = spin_gives_shared there (looking (place_at w t)) refl
   turned_gives_shared there turn.TheVariants.Late can = late_gives_shared (late_key (place_at w t))
-  turned_gives_shared there turn.TheVariants.Ok can = absurd (nothing_closes w t true (steady.stands.calls t) can)
-  turned_gives_shared there turn.TheVariants.Err can = absurd (nothing_closes w t false (steady.stands.calls t) can)
+  turned_gives_shared there turn.TheVariants.Ok can = absurd (subst (λ p. IsToGiveAt (call_state p (rights w t)) l x) (closes_one w t true can).is h.0).1
+  turned_gives_shared there turn.TheVariants.Err can = absurd (subst (λ p. IsToGiveAt (call_state p (rights w t)) l x) (closes_one w t false can).is h.0).1
 
   after_gives_shared : (s : Step) → s.thread ≡ t → Comes (after w s)
   after_gives_shared s e = either (is_possible w s) refl

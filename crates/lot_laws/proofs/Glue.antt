@@ -224,7 +224,8 @@ pub mutex_calls : (w : State) (l : ℕ) (p : Place) → FitsItsLock w p → rule
 mutex_calls w l (RwLock k a c) calls rules = λ here.
     let readers : has_readers (rules_in w k).sort ≡ true = calls.0.0 in
     let none : has_readers (rules_in w k).sort ≡ false = ap (λ n. has_readers (rules_in w n).sort) here ∙ ap (λ (r : Rules). has_readers r.sort) rules in cc
-mutex_calls w l (Once k at) calls rules = absurd calls
+mutex_calls w l (Once k at) calls rules = λ here.
+    let both : locks.Once ≡ locks.Mutex = sym calls ∙ ap (λ n. (rules_in w n).sort) here ∙ ap (λ (r : Rules). r.sort) rules in cc
 mutex_calls w l (Mutex k at) calls rules = tt
 mutex_calls w l Idle calls rules = tt
 

@@ -1,5 +1,7 @@
 -- A thread goes on: every lock is a site again. Here a call of a mutex.
 use Rattle.std.proofs.Common.{ℕ, Bool, true, false, Option, Some, None, if◌then◌else◌, ◌==◌, ◌&&◌, not, ◌≡◌, ◌≢◌, ◌+◌, ◌*◌, ◌<◌, ◌⊎◌, List, [], ◌∷◌, length, map, drop, is_none, inl, inr, refl, sym, ◌∙◌, ap, subst, arith}
+use Rattle.lot_laws.proofs.OnceKept.{goes_once}
+use Rattle.abstract_locks.specs.Locks as locks
 use Rattle.std.proofs.lemmas.Bool.{eqb-true}
 use Rattle.lot_base.specs.declared.keys.Keys.TheVariants.{One}
 use Rattle.lot_base.specs.declared.ops.Op.{Op}
@@ -69,7 +71,11 @@ asleep_at k l at f g = absurd cc
 
 pub asleep : (w : State) (p : Place) (l : ℕ) → rules_in w l ≡ mutex → FitsItsLock w p → (station_at p l).stands ≡ Some Main → ((station_at p l).inside ≡ Some Main) ⊎ IsAsleep p l
 asleep w Idle l r c h = absurd cc
-asleep w (Once k at) l r c h = absurd c
+asleep w (Once k at) l r c h = either (k == l) refl h
+  where
+    either : (b : Bool) → (k == l) ≡ b → (if b then station (Once k at) else nowhere).stands ≡ Some Main → ((if b then station (Once k at) else nowhere).inside ≡ Some Main) ⊎ IsAsleep (Once k at) l
+    either true e g = absurd (let own : k ≡ l = eqb-true k l e in let both : locks.Once ≡ locks.Mutex = sym c ∙ ap (λ n. (rules_in w n).sort) own ∙ ap (λ (x : locks.Rules). x.sort) r in cc)
+    either false e g = absurd cc
 asleep w (RwLock k a at) l r c h = either (k == l) refl h
   where
     either : (b : Bool) → (k == l) ≡ b → (if b then station (RwLock k a at) else nowhere).stands ≡ Some Main → ((if b then station (RwLock k a at) else nowhere).inside ≡ Some Main) ⊎ IsAsleep (RwLock k a at) l
@@ -251,6 +257,6 @@ module _ (w : State) (t : ℕ) (steady : IsSteady w) (shape : IsShaped w) (there
   -- a thread goes on
   pub gone_kept : AreCounted w → (p : Place) → place_at w t ≡ p → PlaceFits (length w.locks) p → can_do w (act_of p) ≡ true → IsSteady (go_by w t p (act_of p))
   gone_kept counted Idle is fits can = absurd cc
-  gone_kept counted (Once l at) is fits can = absurd (subst (FitsItsLock w) is (steady.stands.calls t))
+  gone_kept counted (Once l at) is fits can = goes_steady w _ l _ steady (goes_once w t l at steady shape there fits is can).goes
   gone_kept counted (Mutex l at) is fits can = goes_steady w _ l _ steady (gone_goes l at is fits.0 can).1
   gone_kept counted (RwLock l a c) is fits can = (rwlock_goes_on w t l a c steady shape there fits is counted can).happened.after

@@ -1,5 +1,6 @@
 -- A thread in a call of a reader-writer lock hands its right over: where its operation takes effect, all whom it has in hand own.
 use Rattle.std.proofs.Common.{◌+◌, ◌*◌, ◌-◌, ℕ, Bool, true, false, Option, Some, None, if◌then◌else◌, ◌==◌, ◌≡◌, ◌≢◌, ◌^◌, ◌<◌, ◌≤◌, ◌⊎◌, inl, inr, List, [], ◌∷◌, ◌++◌, length, refl, sym, ◌∙◌, ap, subst, arith}
+use Rattle.lot_laws.proofs.RwLockKept.{of_no_once}
 use Rattle.std.proofs.lemmas.Bool.{eqb-true}
 use Rattle.lot_base.specs.declared.ops.Op.{Op}
 use Rattle.lot_base.specs.declared.ops.Op.TheVariants as operation
@@ -269,7 +270,11 @@ module _ (w : State) (t l : ℕ) (a : Admission) (c : RwLockCallPlace) (steady :
 
         by_place : (q : Place) → place_at w u ≡ q → hand_at q l ≡ hand t b → IsGiven w t l b (unshared_then w t l) q
         by_place Idle f h = absurd cc
-        by_place (Once j at) f h = absurd (subst (FitsItsLock w) f (steady.stands.calls u))
+        by_place (Once j at) f h = either (j == l) refl h
+          where
+            either : (y : Bool) → (j == l) ≡ y → (if y then station (Once j at) else nowhere).hand ≡ hand t b → IsGiven w t l b (unshared_then w t l) (Once j at)
+            either true same_lock z = absurd (of_no_once w t l a c steady shape there lt is u j at f (eqb-true j l same_lock))
+            either false same_lock z = absurd cc
         by_place (Mutex j m) f h = either (j == l) refl h
           where
             either : (y : Bool) → (j == l) ≡ y → (if y then station (Mutex j m) else nowhere).hand ≡ hand t b → IsGiven w t l b (unshared_then w t l) (Mutex j m)

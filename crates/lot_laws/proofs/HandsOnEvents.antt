@@ -1,5 +1,6 @@
 -- A hand-over of a reader-writer lock is one case of the abstract lock, and the calls of all who were handed it go on with what they wanted.
 use Rattle.std.proofs.Common.{ℕ, Bool, true, false, Option, Some, None, if◌then◌else◌, ◌==◌, ◌≡◌, ◌<◌, List, ◌++◌, length, get_or, get_or-set_other, refl, sym, ◌∙◌, ap, subst}
+use Rattle.lot_laws.proofs.RwLockKept.{of_no_once}
 use Rattle.std.proofs.lemmas.Bool.{eqb-true}
 use Rattle.std.proofs.Math.ListN.{get_or-map}
 use Rattle.lot_base.specs.declared.ops.Op.{Op}
@@ -120,7 +121,17 @@ module _ (w : State) (t l : ℕ) (a : Admission) (c : RwLockCallPlace) (steady :
     where
       by_place : (q : Place) → place_at w u ≡ q → taken_at q l ≡ Some (record { by = t; want = x }) → IsHandedCall l t alone x q
       by_place Idle f h = absurd cc
-      by_place (Once j at) f h = absurd (subst (FitsItsLock w) f (steady.stands.calls u))
+      by_place (Once j at) f h = either (j == l) refl h
+        where
+          either : (y : Bool) → (j == l) ≡ y → taken_from (profile (Once j at)).hand (profile (Once j at)).wants y ≡ Some (record { by = t; want = x }) → IsHandedCall l t alone x (Once j at)
+          either true same_lock z = absurd (of_no_once w t l a c steady shape there lt is u j at f (eqb-true j l same_lock))
+          either false same_lock z = absurd (untaken (profile (Once j at)).hand (profile (Once j at)).wants z)
+            where
+              untaken : (o : Option Hand) (y : Option Want) → taken_from o y false ≡ Some (record { by = t; want = x }) → ⊥
+              untaken None y z = cc
+              untaken (Some (Of v true)) y z = cc
+              untaken (Some (Of v false)) None z = cc
+              untaken (Some (Of v false)) (Some s) z = cc
       by_place (Mutex j m) f h = either (j == l) refl h
         where
           either : (y : Bool) → (j == l) ≡ y → taken_from (profile (Mutex j m)).hand (profile (Mutex j m)).wants y ≡ Some (record { by = t; want = x }) → IsHandedCall l t alone x (Mutex j m)

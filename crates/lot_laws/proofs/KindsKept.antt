@@ -119,7 +119,7 @@ after_kinds w s k = either (is_possible w s)
     either true = turned_kinds w s.thread s.turn k
     either false = refl
 
--- only mutexes have a call of a mutex, and only reader-writer locks one of theirs
+-- each sort of lock has its own calls alone
 pub calls_mutex : (k : Kind) (l : ℕ) (c : MutexCall) → has_call k (call.TheVariants.Mutex l c) ≡ true → is_mutex k ≡ true
 calls_mutex kind.TheVariants.Mutex l c h = refl
 calls_mutex kind.TheVariants.Fair l c h = refl
@@ -130,7 +130,6 @@ calls_readers (kind.TheVariants.RwLock limit) l c h = refl
 calls_readers (kind.TheVariants.Recursive limit) l c h = refl
 calls_readers k l c h = absurd cc
 
--- no call of a `Once` begins yet
-pub never_once : (k : Kind) (l : ℕ) (c : OnceCall) → has_call k (call.TheVariants.Once l c) ≡ false
-never_once kind.TheVariants.Mutex l c = refl
-never_once k l c = refl
+pub calls_once : (k : Kind) (l : ℕ) (c : OnceCall) → has_call k (call.TheVariants.Once l c) ≡ true → (rules_of k).sort ≡ locks.Once
+calls_once kind.TheVariants.Once l c h = refl
+calls_once k l c h = absurd cc

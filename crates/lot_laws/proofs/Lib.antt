@@ -1,6 +1,7 @@
 pub mod KindsKept
 pub mod PlainCalls
 pub mod Closures
+pub mod Closings
 pub mod Alone
 pub mod Runs
 pub mod Glue
@@ -20,6 +21,9 @@ pub mod PicksKept
 pub mod AnyPicked
 pub mod MovesKept
 pub mod OnceMovesKept
+pub mod OnceEnds
+pub mod OnceKept
+pub mod OnceGoes
 pub mod HandsMoved
 pub mod InHand
 pub mod HandsCounted
@@ -79,6 +83,7 @@ pub mod BumpSolo
 pub mod RwLockEnds
 pub mod CallEnds
 pub mod Solo
+pub mod OnceSolo
 pub mod Owing
 pub mod WorldRuns
 pub mod RowLaws

@@ -1,5 +1,34 @@
 -- Each turn of a thread is a step of the abstract locks.
 use Rattle.std.proofs.Common.{◌≤◌, ◌++◌, arith, ℕ, Bool, true, false, Option, Some, None, if◌then◌else◌, ◌==◌, ◌&&◌, not, ◌≡◌, ◌≢◌, ◌+◌, ◌*◌, ◌<◌, ◌↔◌, inl, inr, List, [], ◌∷◌, length, get_or, refl, sym, ◌∙◌, ap, subst, get_or-set_other, get_or-set_same, length-set, nat_lt, is_some}
+use Rattle.lot_laws.proofs.Possible.{begins_outside, closure_gone, late_outside}
+use Rattle.abstract_locks.specs.Runs.{AtLock}
+use Rattle.abstract_locks.specs.Purposes.{rules_of}
+use Rattle.abstract_locks.specs.Codes.{is_marked}
+use Rattle.lot_laws.proofs.OnceGoes.{closes_event, step_event}
+use Rattle.lot_laws.proofs.Looking.{alike_event, closing_here, closing_steady, like}
+use Rattle.lot_laws.proofs.Closings.{closing_shaped, closing_there, goes_behind, goes_there, is_behind, told_behind, told_there}
+use Rattle.abstract_locks.specs.Locks.{OfOnce}
+use Rattle.lot_laws.proofs.Closures.{RunsOne}
+use Rattle.lot_laws.proofs.Closings.{closing}
+use Rattle.lot_machine.specs.Machine.{can_close, close_outcome, closed_place, runs_closure, state_after_close, state_after_going}
+use Rattle.lot_once.specs.declared.run.RunAt.TheVariants as run
+use Rattle.lot_once.specs.OnceDeeds.{end_of}
+use Rattle.abstract_locks.specs.Runs.{Closes}
+use Rattle.abstract_locks.specs.Locks.{Rules}
+use Rattle.abstract_locks.specs.Locks as locks
+use Rattle.lot_laws.proofs.MutexRows.{mutex_promises}
+use Rattle.lot_laws.proofs.RowPromises.{RowPromises}
+use Rattle.lot_laws.proofs.CallEvents.{RunsNothing, begins_nothing, runs_nothing}
+use Rattle.abstract_locks.specs.Runs.{is_closure}
+use Rattle.abstract_locks.specs.Purposes.{once_purpose}
+use Rattle.lot_calls.specs.declared.calls.OnceCall.TheVariants as once_call
+use Rattle.lot_calls.specs.declared.calls.OnceCall.{OnceCall}
+use Rattle.lot_once.specs.declared.places.OncePlace.TheVariants.{Look, Run}
+use Rattle.lot_once.specs.declared.places.OncePlace.{OncePlace}
+use Rattle.lot_once.specs.OnceSteps.{once_first}
+use Rattle.lot_once.specs.OnceProfiles.{once_profile}
+use Rattle.lot_laws.proofs.OnceOwing.{once_never_late}
+use Rattle.lot_laws.proofs.OnceGoes.{once_step}
 use Rattle.lot_acts.specs.Profiles.{taken_from}
 use Rattle.lot_rwlock.specs.declared.places.RwLockAt.TheVariants as at
 use Rattle.lot_rwlock.specs.declared.park.ParkAt.TheVariants as parking
@@ -57,7 +86,7 @@ use Rattle.lot_laws.proofs.Possible.{may_go, go_possible, may_be_late, late_poss
 use Rattle.lot_machine.proofs.Looks.{mutex_looks}
 use Rattle.lot_laws.proofs.CountsPut.{looking_counted}
 use Rattle.lot_laws.proofs.Looking.{here, looks_now, looking_steady, goes_as_before, stays_as_before}
-use Rattle.lot_laws.proofs.Closures.{no_closure, nothing_closes}
+use Rattle.lot_laws.proofs.Closures.{closes_one, closure_told, mutex_runs_none, runs_one}
 use Rattle.lot_laws.specs.SitesOf.{site_of, AreCounted, IsSteady, Goes, FitsItsLock, is_mutex, rules_in, carried_at}
 use Rattle.abstract_locks.specs.Sites.{IsSite, Deed, Main, Mark, End, Case}
 use Rattle.abstract_locks.specs.Locks.{LockCase, Wake, Leave as GivesBack, HandOff as HandsOff, Rights, rights_of, standing}
@@ -69,7 +98,7 @@ use Rattle.lot_acts.specs.Calls.{ComesTo}
 use Rattle.abstract_locks.specs.Deeds.{AllNeeded, case_of, event_by, after_event}
 use Rattle.lot_laws.specs.Stations.{hand}
 use Rattle.lot_laws.specs.Refinement.{owner_at, lock_state, taken_at, call_state, locks_of, sleeps}
-use Rattle.lot_laws.proofs.KindsKept.{after_kinds, calls_mutex, calls_readers, never_once}
+use Rattle.lot_laws.proofs.KindsKept.{after_kinds, calls_mutex, calls_readers, calls_once}
 use Rattle.lot_laws.proofs.RwLockEvents.{rwlock_begins_with, rwlock_purpose_is, rwlock_right_held, rwlock_right_needed, rwlock_step, rwlock_untaken_first}
 use Rattle.lot_rwlock.specs.RwLockBegins.{admission_of}
 use Rattle.lot_rwlock_fair.specs.declared.places.RwLockCallPlace.{RwLockCallPlace}
@@ -91,7 +120,7 @@ use Rattle.lot_laws.proofs.MutexTable.{mutex}
 use Rattle.lot_laws.proofs.StandsMoved.{mutex_rules}
 use Rattle.lot_laws.proofs.SitesKept.{go_by}
 use Rattle.lot_laws.proofs.GoneKept.{gone_goes}
-use Rattle.lot_laws.proofs.TurnsKept.{idle_is, once_begins}
+use Rattle.lot_laws.proofs.TurnsKept.{idle_is}
 use Rattle.lot_laws.proofs.AtPlaces.{coded, in_no_hand, own_doing}
 use Rattle.lot_laws.proofs.PlacePromises.{standing_by}
 use Rattle.lot_laws.proofs.CallEvents.{put_is, rights, Others, OthersFollow, Happens, LeadsTo, happens, needed_then, others_follow, goes_by}
@@ -211,7 +240,7 @@ module _ (w : State) (t : ℕ) (shape : IsShaped w) (steady : IsSteady w) (there
             rw e refl,
             elim rests [
               | inl step ↦ inl step
-              | inr sleeps ↦ inr (sleeps.0, standing_then at2 e sleeps.1)
+              | inr sleeps ↦ inr (inl (sleeps.0, standing_then at2 e sleeps.1))
             ],
           )
             where
@@ -222,7 +251,18 @@ module _ (w : State) (t : ℕ) (shape : IsShaped w) (steady : IsSteady w) (there
       goes_if : OthersFollow w behind t (event_by l happened) → GoesOn (locks_of w) t (outcome_of (next_act (Mutex l at) told)) (locks_of behind)
       goes_if others = goes_by w behind t l happened happens_so (Mutex l at) is refl tells.follows.may (row_of (mutex_next at told)) _
           (subst (λ r. ComesTo r l (mutex_row at) (event_by l happened) (lock_state w l) (after_event r (event_by l happened) (lock_state w l) t) t (row_of (mutex_next at told))) (sym rules) tells.follows.comes)
-          leads others
+          leads others (begins_nothing (locks_of w) l (mutex_row at) happened _ runs tells.follows.may (tells_none (mutex_next at told)))
+        where
+          promises : RowPromises locks.Mutex l (mutex_row at) (mutex_act l at)
+          promises = mutex_promises l at
+
+          runs : RunsNothing ((mutex_row at).purpose l)
+          runs = runs_nothing (λ k. (rules_in w k).sort) l ((mutex_row at).purpose l) promises.own (promises.known (λ k. (rules_in w k).sort) (ap (λ (r : Rules). r.sort) rules))
+              (λ once. let both : locks.Mutex ≡ locks.Once = sym (ap (λ (r : Rules). r.sort) rules) ∙ once in cc)
+
+          tells_none : (n : Next MutexPlace) → is_closure (outcome_of (mutex_does l n)) ≡ false
+          tells_none (next.At p) = closure_told (mutex_act l p) ∙ mutex_runs_none l p
+          tells_none (next.End answer) = refl
 
       -- nobody else's call changes
       calmly : IsCalm happened → Others w behind t Nothing → GoesOn (locks_of w) t (outcome_of (next_act (Mutex l at) told)) (locks_of behind)
@@ -348,7 +388,7 @@ module _ (w : State) (t : ℕ) (shape : IsShaped w) (steady : IsSteady w) (there
 
   go_goes : AreCounted w → (p : Place) → place_at w t ≡ p → PlaceFits (length w.locks) p → FitsItsLock w p → can_do w (act_of p) ≡ true → GoesOn (locks_of w) t (outcome_of (next_act p (reply_to w t (act_of p)))) (locks_of (go_by w t p (act_of p)))
   go_goes counted Idle is fits of can = absurd cc
-  go_goes counted (Once l at) is fits of can = absurd of
+  go_goes counted (Once l at) is fits of can = once_step w t l at steady shape there fits is can
   go_goes counted (RwLock l a c) is fits of can = rwlock_step w t l a c steady shape there fits is counted can
   go_goes counted (Mutex l at) is fits of can = mutex_goes_on l fits.0 (mutex_rules (kind_at w l) of) at is can fits.1
 
@@ -376,7 +416,12 @@ module _ (w : State) (t : ℕ) (shape : IsShaped w) (steady : IsSteady w) (there
   late_goes : (p : Place) → place_at w t ≡ p → is_free_under w (late_key p) ≡ true
       → Stays (locks_of w) t (record (call_state p (rights w t)) { late = true }) outcome.TheVariants.Step (locks_of (state_after_late_on w t (late_key p)))
   late_goes Idle is can = absurd cc
-  late_goes (Once l at) is can = absurd (subst (FitsItsLock w) is (steady.stands.calls t))
+  late_goes (Once l at) is can = by_line (once_profile at).late_line refl can
+    where
+      by_line : (m : Option Line) → (once_profile at).late_line ≡ m → is_free_under w (key_in (Some l) m) ≡ true
+          → Stays (locks_of w) t (record (call_state (Once l at) (rights w t)) { late = true }) outcome.TheVariants.Step (locks_of (state_after_late_on w t (key_in (Some l) m)))
+      by_line None e can = absurd cc
+      by_line (Some m) e can = absurd (once_never_late at m e)
   late_goes (RwLock l a c) is can = by_line (call_profile a c).late_line refl can
     where
       stands : CallStands a c
@@ -429,6 +474,11 @@ not_mutex w l a c admits r of = by_call c of
     by_call (Handed x how true to) e = readers e
     by_call (Handed x how false to) e = readers e
 
+once_no_mutex : (w : State) (l : ℕ) (at : OncePlace) → (rules_in w l).sort ≡ locks.Once → (r : ℕ → Rights) → IsOfMutex (locks_of w) (call_state (Once l at) r).purpose → ⊥
+once_no_mutex w l (Look (once_call.CallOnce forced) again at) once r of = let both : locks.Once ≡ locks.Mutex = sym once ∙ of in cc
+once_no_mutex w l (Look (once_call.Wait forced) again at) once r of = let both : locks.Once ≡ locks.Mutex = sym once ∙ of in cc
+once_no_mutex w l (Run forced at) once r of = let both : locks.Once ≡ locks.Mutex = sym once ∙ of in cc
+
 -- its call goes on by what it sees there
 module _ (w : State) (t : ℕ) (shape : IsShaped w) (steady : IsSteady w) (there : t < length w.places) (q : Place) (is : looking (place_at w t) ≡ Some q) where
   abbrev moved : State
@@ -445,7 +495,7 @@ module _ (w : State) (t : ℕ) (shape : IsShaped w) (steady : IsSteady w) (there
 
   look_stays : (p : Place) → place_at w t ≡ p → IsOfMutex (locks_of w) (call_state p (rights w t)).purpose → Stays (locks_of w) t ((locks_of w).calls t) (go_outcome moved t) (locks_of (state_after_go moved t))
   look_stays Idle e of = absurd of
-  look_stays (Once l at) e of = absurd (subst (FitsItsLock w) e (steady.stands.calls t))
+  look_stays (Once l at) e of = absurd (let calls : FitsItsLock w (Once l at) = subst (FitsItsLock w) e (steady.stands.calls t) in once_no_mutex w l at calls (rights w t) of)
   look_stays (RwLock l a c) e of = absurd (let calls : FitsItsLock w (RwLock l a c) = subst (FitsItsLock w) e (steady.stands.calls t) in not_mutex w l a c calls.0 (rights w t) of)
   look_stays (Mutex l at) e of = let loads = mutex_looks l at q (ap looking (sym e) ∙ is) in
       let now : place_at moved t ≡ Mutex l (Lock loads.0 loads.1 Load) = here w t there q is ∙ loads.2 in
@@ -473,11 +523,19 @@ purpose_is kind.TheVariants.Mutex l c h = refl
 purpose_is kind.TheVariants.Fair l c h = refl
 purpose_is k l c h = absurd cc
 
+once_purpose_is : (k : Kind) (l : ℕ) (c : OnceCall) → (rules_of k).sort ≡ locks.Once → purpose_of k (call.TheVariants.Once l c) ≡ Some (once_purpose l c)
+once_purpose_is kind.TheVariants.Once l c h = refl
+once_purpose_is k l c h = absurd cc
+
+once_begins_with : (l : ℕ) (c : OnceCall) (r : ℕ → Rights) → call_state (Once l (once_first c)) r ≡ new_call (Some (once_purpose l c)) r
+once_begins_with l c r = refl
+
 no_purpose : (w : LocksState) (t : ℕ) (k : Kind) (c : Call) → has_call k c ≡ false → HasRight w t (purpose_of k c) → ⊥
 no_purpose w t kind.TheVariants.Mutex (call.TheVariants.Mutex l c) h r = absurd cc
 no_purpose w t kind.TheVariants.Fair (call.TheVariants.Mutex l c) h r = absurd cc
 no_purpose w t (kind.TheVariants.RwLock limit) (call.TheVariants.RwLock l c) h r = absurd cc
 no_purpose w t (kind.TheVariants.Recursive limit) (call.TheVariants.RwLock l c) h r = absurd cc
+no_purpose w t kind.TheVariants.Once (call.TheVariants.Once l c) h r = absurd cc
 no_purpose w t k c h r = r
 
 no_call_idle : (p : Place) (r : ℕ → Rights) → (call_state p r).purpose ≡ None → is_idle p ≡ true
@@ -545,7 +603,23 @@ begin_goes w t (call.TheVariants.RwLock l c) shape steady there can = (
 
     is_kind : has_readers (rules_in w l).sort ≡ true
     is_kind = calls_readers (kind_at w l) l c held.0
-begin_goes w t (call.TheVariants.Once l c) shape steady there can = absurd (once_begins w t l c can)
+begin_goes w t (call.TheVariants.Once l c) shape steady there can = (
+  record { thread = there; idle = rw idle refl; lock = ltb-true l (length w.locks) open_to.0; right = rw (once_purpose_is (kind_at w l) l c is_kind) (once_right l c) },
+  placed w t shape steady there w.sections Idle (Once l (once_first c)) idle (λ k. refl) _ (λ r e. once_begins_with l c r ∙ (λ i. new_call (sym (once_purpose_is (kind_at w l) l c is_kind) i) (e i))),
+)
+  where
+    idle : place_at w t ≡ Idle
+    idle = idle_is (place_at w t) (both (is_idle (place_at w t)) (is_open_to w t (call.TheVariants.Once l c)) can).0
+
+    open_to : (nat_lt l (length w.locks) ≡ true) × ((has_call (kind_at w l) (call.TheVariants.Once l c) && has_right (call.TheVariants.Once l c) t (owners_at w l) (share_at w l t)) ≡ true)
+    open_to = both (nat_lt l (length w.locks)) _ (both (is_idle (place_at w t)) (is_open_to w t (call.TheVariants.Once l c)) can).1
+
+    is_kind : (rules_in w l).sort ≡ locks.Once
+    is_kind = calls_once (kind_at w l) l c (both (has_call (kind_at w l) (call.TheVariants.Once l c)) _ open_to.1).0
+
+    once_right : (l : ℕ) (c : OnceCall) → HasRight (locks_of w) t (Some (once_purpose l c))
+    once_right l (once_call.CallOnce forced) = tt
+    once_right l (once_call.Wait forced) = tt
 begin_goes w t (call.TheVariants.Mutex l c) shape steady there can = (
   record { thread = there; idle = rw idle refl; lock = ltb-true l (length w.locks) open_to.0; right = rw (purpose_is (kind_at w l) l c is_kind) (right_held w t l (is_fair (kind_at w l)) c held.1) },
   placed w t shape steady there w.sections Idle (Mutex l (mutex_first (is_fair (kind_at w l)) c)) idle (untaken_first w t l (is_fair (kind_at w l)) c) _
@@ -573,7 +647,12 @@ begin_refused w t (call.TheVariants.RwLock l c) cannot may = let idle : is_idle 
     either false e idle there = no_purpose (locks_of w) t (kind_at w l) (call.TheVariants.RwLock l c) e may.right
     either true e idle there = let right : HasRight (locks_of w) t (Some (rwlock_purpose l c)) = subst (HasRight (locks_of w) t) (rwlock_purpose_is (kind_at w l) l c (calls_readers (kind_at w l) l c e)) may.right in
         let held : call_right c t (owners_at w l) (share_at w l t) ≡ true = rwlock_right_needed w t l c right in cc
-begin_refused w t (call.TheVariants.Once l c) cannot may = no_purpose (locks_of w) t (kind_at w l) (call.TheVariants.Once l c) (never_once (kind_at w l) l c) may.right
+begin_refused w t (call.TheVariants.Once l c) cannot may = let idle : is_idle (place_at w t) ≡ true = no_call_idle (place_at w t) (rights w t) may.idle in
+    let there : nat_lt l (length w.locks) ≡ true = lt-ltb l (length w.locks) may.lock in either (has_call (kind_at w l) (call.TheVariants.Once l c)) refl idle there
+  where
+    either : (b : Bool) → has_call (kind_at w l) (call.TheVariants.Once l c) ≡ b → is_idle (place_at w t) ≡ true → nat_lt l (length w.locks) ≡ true → ⊥
+    either false e idle there = no_purpose (locks_of w) t (kind_at w l) (call.TheVariants.Once l c) e may.right
+    either true e idle there = let open_now : can_begin w t (call.TheVariants.Once l c) ≡ true = rw (idle, there, e) refl in let f : true ≡ false = sym open_now ∙ cannot in cc
 begin_refused w t (call.TheVariants.Mutex l c) cannot may = let idle : is_idle (place_at w t) ≡ true = no_call_idle (place_at w t) (rights w t) may.idle in
     let there : nat_lt l (length w.locks) ≡ true = lt-ltb l (length w.locks) may.lock in either (has_call (kind_at w l) (call.TheVariants.Mutex l c)) refl idle there
   where
@@ -593,6 +672,44 @@ begin_possible w t c may = either (can_begin w t c) refl
 -- ---------------------------------------------------------------- steps
 
 module _ (w : State) (t : ℕ) (shape : IsShaped w) (steady : IsSteady w) (there : t < length w.places) where
+  -- its closure has answered, and its run ends by the next act
+  closed_does : (succeeded : Bool) → can_close w t succeeded ≡ true
+      → (((locks_of w).stances t).in_closure ≡ true) × Closes (locks_of w) t (end_of succeeded) (close_outcome w t succeeded) (locks_of (state_after_close w t succeeded))
+  closed_does succeeded can = (
+    (both (runs_closure (act_of (place_at w t))) (can_do w (act_of (closed_place w t succeeded))) can).0,
+    record { goes = ended.0; lock = one.lock; ends = ended.1 },
+  )
+    where
+      one : RunsOne (place_at w t)
+      one = closes_one w t succeeded can
+
+      at : OncePlace
+      at = Run one.forced (run.Close succeeded)
+
+      v : State
+      v = closing w t there succeeded one
+
+      ended : (g : GoesOn (locks_of w) t (close_outcome w t succeeded) (locks_of (state_after_close w t succeeded))) × (g.event ≡ AtLock one.lock (OfOnce (end_of succeeded)))
+      ended = subst (λ x. (g : GoesOn (locks_of w) t (close_outcome w t succeeded) (locks_of x)) × (g.event ≡ AtLock one.lock (OfOnce (end_of succeeded)))) (sym (goes_there w t there succeeded one))
+          (subst (λ o. (g : GoesOn (locks_of w) t o (locks_of (state_after_going v t (Once one.lock at)))) × (g.event ≡ AtLock one.lock (OfOnce (end_of succeeded)))) (sym (told_there w t there succeeded one))
+          (alike_event w t there (closed_place w t succeeded) (like w t there succeeded one) _ _ (AtLock one.lock (OfOnce (end_of succeeded)))
+          (once_step v t one.lock at steady_v shape_v there_v lt is_v refl, step_event v t one.lock at steady_v shape_v there_v lt is_v refl ∙ closes_event one.lock succeeded (is_marked (word_at v one.lock)))))
+        where
+          steady_v : IsSteady v
+          steady_v = closing_steady w t there succeeded one steady
+
+          shape_v : IsShaped v
+          shape_v = closing_shaped w t there succeeded one shape
+
+          there_v : t < length v.places
+          there_v = closing_there w t there succeeded one
+
+          is_v : place_at v t ≡ Once one.lock at
+          is_v = closing_here w t there succeeded one ∙ is_behind w t there succeeded one
+
+          lt : one.lock < length v.locks
+          lt = subst (PlaceFits (length v.locks)) is_v (shape_v.places t)
+
   turned_does : AreCounted w → (x : Turn) → can_turn w t x ≡ true → MayTurn (locks_of w) t x × Does (locks_of w) t x (turn_outcome w t x) (locks_of (state_after_turn w t x))
   turned_does counted (turn.TheVariants.Begin c) can = begin_goes w t c shape steady there can
   turned_does counted turn.TheVariants.Go can = (may_go w t can, go_goes w t shape steady there counted (place_at w t) refl (shape.places t) (steady.stands.calls t) can)
@@ -602,18 +719,22 @@ module _ (w : State) (t : ℕ) (shape : IsShaped w) (steady : IsSteady w) (there
       by_look None is can = absurd cc
       by_look (Some q) is can = looks w t shape steady there q is counted
   turned_does counted turn.TheVariants.Late can = (may_be_late w t steady can, late_goes w t shape steady there (place_at w t) refl can)
-  turned_does counted turn.TheVariants.Ok can = absurd (nothing_closes w t true (steady.stands.calls t) can)
-  turned_does counted turn.TheVariants.Err can = absurd (nothing_closes w t false (steady.stands.calls t) can)
+  turned_does counted turn.TheVariants.Ok can = closed_does true can
+  turned_does counted turn.TheVariants.Err can = closed_does false can
 
 -- a turn that may be taken is possible
 module _ (w : State) (t : ℕ) (steady : IsSteady w) where
+  -- behind its closure it may swap the word
+  closes_possible : (succeeded : Bool) → runs_closure (act_of (place_at w t)) ≡ true → can_close w t succeeded ≡ true
+  closes_possible succeeded may = let one = runs_one (place_at w t) may in rw one.is refl
+
   possible : (x : Turn) → MayTurn (locks_of w) t x → can_turn w t x ≡ true
   possible (turn.TheVariants.Begin c) may = begin_possible w t c may
   possible turn.TheVariants.Go may = go_possible w t steady may
   possible turn.TheVariants.Spin may = may
   possible turn.TheVariants.Late may = late_possible w t steady may
-  possible turn.TheVariants.Ok may = absurd (no_closure w t (steady.stands.calls t) may)
-  possible turn.TheVariants.Err may = absurd (no_closure w t (steady.stands.calls t) may)
+  possible turn.TheVariants.Ok may = closes_possible true may
+  possible turn.TheVariants.Err may = closes_possible false may
 
   stuck : (x : Turn) → (nat_lt t (length w.places) && can_turn w t x) ≡ false → MayTurn (locks_of w) t x → ⊥
   stuck x cannot may = let there : nat_lt t (length w.places) ≡ true = lt-ltb t (length w.places) (turner_there w t x may) in
@@ -629,6 +750,9 @@ module _ (w : State) (t : ℕ) (there : t < length w.places) where
       (told_gone (place_at w t) (go_reply w t))
 
 module _ (w : State) (t : ℕ) (shape : IsShaped w) (steady : IsSteady w) (there : t < length w.places) where
+  closed_sections : (succeeded : Bool) → can_close w t succeeded ≡ true → (key : ℕ) → SectionChanges (section_at w key) t (section_at (state_after_close w t succeeded) key)
+  closed_sections succeeded can key = let one = closes_one w t succeeded can in inl (ap (λ p. section_at (state_after_going w t (next_place p (reply.Closed succeeded))) key) one.is)
+
   turned_sections : (x : Turn) → can_turn w t x ≡ true → (key : ℕ) → SectionChanges (section_at w key) t (section_at (state_after_turn w t x) key)
   turned_sections (turn.TheVariants.Begin c) can key = inl refl
   turned_sections turn.TheVariants.Go can key = gone_sections w t shape steady can key
@@ -638,8 +762,14 @@ module _ (w : State) (t : ℕ) (shape : IsShaped w) (steady : IsSteady w) (there
       by_look None is = inl refl
       by_look (Some q) is = gone_sections (put w t q) t (shaped_moved w t shape steady there q is) (steady_moved w t shape steady there q is) (looks_now w t there q is) key
   turned_sections turn.TheVariants.Late can key = late_sections w t shape (place_at w t) (shape.places t) can key
-  turned_sections turn.TheVariants.Ok can key = absurd (nothing_closes w t true (steady.stands.calls t) can)
-  turned_sections turn.TheVariants.Err can key = absurd (nothing_closes w t false (steady.stands.calls t) can)
+  turned_sections turn.TheVariants.Ok can key = closed_sections true can key
+  turned_sections turn.TheVariants.Err can key = closed_sections false can key
+
+  closed_told : (succeeded : Bool) → can_close w t succeeded ≡ true → (close_outcome w t succeeded ≡ outcome.TheVariants.Sleep) ↔ (sleeps (act_of (place_at (state_after_close w t succeeded) t)) ≡ true)
+  closed_told succeeded can = let one = closes_one w t succeeded can in
+      subst (λ o. (o ≡ outcome.TheVariants.Sleep) ↔ (sleeps (act_of (place_at (state_after_close w t succeeded) t)) ≡ true)) (sym (told_behind w t there succeeded one))
+      (subst (λ x. (go_outcome (closing w t there succeeded one) t ≡ outcome.TheVariants.Sleep) ↔ (sleeps (act_of (place_at x t)) ≡ true)) (sym (goes_behind w t there succeeded one))
+      (told_going (closing w t there succeeded one) t (closing_there w t there succeeded one)))
 
   turned_told : (x : Turn) → can_turn w t x ≡ true → (turn_outcome w t x ≡ outcome.TheVariants.Sleep) ↔ (sleeps (act_of (place_at (state_after_turn w t x) t)) ≡ true)
   turned_told (turn.TheVariants.Begin c) can = told_step _ (put_sleeps w t there w (first_place (kind_at w (lock_in c)) c) refl ∙ begins_awake (kind_at w (lock_in c)) c)
@@ -650,11 +780,36 @@ module _ (w : State) (t : ℕ) (shape : IsShaped w) (steady : IsSteady w) (there
       by_look None is can = absurd cc
       by_look (Some q) is can = told_going (put w t q) t (there_moved w t shape steady there q is)
   turned_told turn.TheVariants.Late can = told_step _ (late_awake w t there (late_key (place_at w t)) refl can)
-  turned_told turn.TheVariants.Ok can = absurd (nothing_closes w t true (steady.stands.calls t) can)
-  turned_told turn.TheVariants.Err can = absurd (nothing_closes w t false (steady.stands.calls t) can)
+  turned_told turn.TheVariants.Ok can = closed_told true can
+  turned_told turn.TheVariants.Err can = closed_told false can
+
+  going_runs : (v : State) → t < length v.places → is_closure (go_outcome v t) ≡ runs_closure (act_of (place_at (state_after_go v t) t))
+  going_runs v there_v = closure_gone (place_at v t) (go_reply v t)
+      ∙ sym (ap (λ p. runs_closure (act_of p)) (get_or-set_same (state_after_act v t (place_at v t) (act_of (place_at v t))).places t (next_place (place_at v t) (go_reply v t)) Idle (rw (performed_counts v t (place_at v t) (act_of (place_at v t))).0 there_v)))
+
+  closing_runs : (succeeded : Bool) → can_close w t succeeded ≡ true → is_closure (close_outcome w t succeeded) ≡ runs_closure (act_of (place_at (state_after_close w t succeeded) t))
+  closing_runs succeeded can = let one = closes_one w t succeeded can in
+      ap is_closure (told_behind w t there succeeded one) ∙ going_runs (closing w t there succeeded one) (closing_there w t there succeeded one)
+      ∙ sym (ap (λ x. runs_closure (act_of (place_at x t))) (goes_behind w t there succeeded one))
+
+  late_runs : (o : Option ℕ) → late_key (place_at w t) ≡ o → is_free_under w o ≡ true → false ≡ runs_closure (act_of (place_at (state_after_late_on w t o) t))
+  late_runs None e can = absurd cc
+  late_runs (Some key) e can = sym (ap (λ p. runs_closure (act_of p)) (get_or-set_same w.places t (next_place (place_at w t) reply.Late) Idle there) ∙ late_outside (place_at w t) (λ none. let f : ◌≡◌ {A = Option ℕ} None (Some key) = sym none ∙ e in cc))
+
+  turned_runs : (x : Turn) → can_turn w t x ≡ true → is_closure (turn_outcome w t x) ≡ runs_closure (act_of (place_at (state_after_turn w t x) t))
+  turned_runs (turn.TheVariants.Begin c) can = sym (ap (λ p. runs_closure (act_of p)) (get_or-set_same w.places t (first_place (kind_at w (lock_in c)) c) Idle there) ∙ begins_outside (kind_at w (lock_in c)) c)
+  turned_runs turn.TheVariants.Go can = going_runs w there
+  turned_runs turn.TheVariants.Spin can = by_look (looking (place_at w t)) refl can
+    where
+      by_look : (o : Option Place) → looking (place_at w t) ≡ o → is_some o ≡ true → is_closure (look_outcome w t o) ≡ runs_closure (act_of (place_at (state_after_look w t o) t))
+      by_look None is can = absurd cc
+      by_look (Some q) is can = going_runs (put w t q) (there_moved w t shape steady there q is)
+  turned_runs turn.TheVariants.Late can = late_runs (late_key (place_at w t)) refl can
+  turned_runs turn.TheVariants.Ok can = closing_runs true can
+  turned_runs turn.TheVariants.Err can = closing_runs false can
 
 pub after_step : (w : State) (s : Step) → IsShaped w → IsSteady w → AreCounted w → IsStep (locks_of w) s (step_outcome w s) (locks_of (after w s))
-after_step w s shape steady counted = (record { threads = size.threads; size = size.locks; kinds = after_kinds w s; sections = sections (is_possible w s) refl; told = told (is_possible w s) refl }, either (is_possible w s) refl)
+after_step w s shape steady counted = (record { threads = size.threads; size = size.locks; kinds = after_kinds w s; sections = sections (is_possible w s) refl; told = told (is_possible w s) refl; runs = runs (is_possible w s) refl }, either (is_possible w s) refl)
   where
     size : SameSize w (after w s)
     size = after_size w s
@@ -670,6 +825,11 @@ after_step w s shape steady counted = (record { threads = size.threads; size = s
         → ((if b then turn_outcome w s.thread s.turn else outcome.TheVariants.NotNow) ≡ outcome.TheVariants.Sleep) ↔ (sleeps (act_of (place_at (if b then state_after_turn w s.thread s.turn else w) s.thread)) ≡ true)
     told true can ne = turned_told w s.thread shape steady (parts can).0 s.turn (parts can).1
     told false cannot ne = absurd (ne refl)
+
+    runs : (b : Bool) → is_possible w s ≡ b → (if b then turn_outcome w s.thread s.turn else outcome.TheVariants.NotNow) ≢ outcome.TheVariants.NotNow
+        → is_closure (if b then turn_outcome w s.thread s.turn else outcome.TheVariants.NotNow) ≡ runs_closure (act_of (place_at (if b then state_after_turn w s.thread s.turn else w) s.thread))
+    runs true can ne = turned_runs w s.thread shape steady (parts can).0 s.turn (parts can).1
+    runs false cannot ne = absurd (ne refl)
 
     either : (b : Bool) → is_possible w s ≡ b → Turned (locks_of w) s.thread s.turn (if b then turn_outcome w s.thread s.turn else outcome.TheVariants.NotNow) (locks_of (if b then state_after_turn w s.thread s.turn else w))
     either true can = inl (turned_does w s.thread shape steady (parts can).0 counted s.turn (parts can).1)

@@ -1,5 +1,15 @@
 -- A thread that looks at the word once more goes on from another place of its call. Standing there changes nothing that locks and calls see.
 use Rattle.std.proofs.Common.{ℕ, zero, suc, List, set, true, Option, Some, None, if◌then◌else◌, ◌≡◌, ◌<◌, inl, inr, [], ◌∷◌, length, replicate, refl, sym, ◌∙◌, ap, subst, get_or-set_other, get_or-set_same, length-set, get_or}
+use Rattle.std.proofs.Common.{◌*◌}
+use Rattle.abstract_locks.specs.Runs.{Event}
+use Rattle.std.proofs.Common.{Bool}
+use Rattle.lot_laws.proofs.Closures.{RunsOne}
+use Rattle.lot_machine.specs.Machine.{closed_place}
+use Rattle.lot_steps.specs.Steps.{next_place}
+use Rattle.lot_acts.specs.declared.acts.Reply.TheVariants.{Closed}
+use Rattle.lot_steps.specs.Steps.{in_once}
+use Rattle.lot_once.specs.OnceSteps.{once_looking}
+use Rattle.lot_once.specs.declared.places.OncePlace.{OncePlace}
 use Rattle.lot_rwlock_fair.specs.declared.places.RwLockCallPlace.{RwLockCallPlace}
 use Rattle.lot_rwlock_fair.proofs.FairSleepers.{fair_looks_stand}
 use Rattle.lot_rwlock_fair.specs.FairProfiles.{call_looking}
@@ -48,7 +58,11 @@ of_lock l o e = rw e refl
 -- it is in the same call, of a lock of its sort
 calls_on : (w : State) (p q : Place) → looking p ≡ Some q → FitsItsLock w p → FitsItsLock w q
 calls_on w Idle q is calls = absurd cc
-calls_on w (Once l at) q is calls = absurd calls
+calls_on w (Once l at) q is calls = by_place (once_looking at) is
+  where
+    by_place : (o : Option OncePlace) → in_once l o ≡ Some q → FitsItsLock w q
+    by_place None is = absurd cc
+    by_place (Some at2) is = let there : Once l at2 ≡ q = cc in subst (FitsItsLock w) there calls
 calls_on w (RwLock l a c) q is calls = by_place (call_looking a c) refl is
   where
     by_place : (o : Option RwLockCallPlace) → call_looking a c ≡ o → in_rwlock l a o ≡ Some q → FitsItsLock w q
@@ -60,38 +74,36 @@ calls_on w (Mutex l at) q is calls = by_place (mutex_looking at) is
     by_place None e = absurd cc
     by_place (Some at2) e = let there : Mutex l at2 ≡ q = cc in subst (FitsItsLock w) there calls
 
-module _ (w : State) (t : ℕ) (there : t < length w.places) (q : Place) (is : looking (place_at w t) ≡ Some q) where
+-- a place of the same call, of which its row says the same
+pub record IsAlike (p q : Place) : Type 0 where
+  pub lock : ℕ
+  pub before : lock_of p ≡ Some lock
+  pub now : lock_of q ≡ Some lock
+  pub row : profile q ≡ profile p
+
+-- a thread that stands at another such place
+module _ (w : State) (t : ℕ) (there : t < length w.places) (q : Place) (it : IsAlike (place_at w t) q) where
   abbrev moved : State
   moved = put w t q
 
-  it : IsLook (place_at w t) q
-  it = look (place_at w t) q is
-
-  pub here : place_at moved t ≡ q
-  here = get_or-set_same w.places t q Idle there
-
-  -- it may look now
-  pub looks_now : can_go moved t ≡ true
-  looks_now = rw (here, it.loads) refl
-
-  pub looks_untouched : IsUntouched w (state_after_go moved t)
-  looks_untouched = load_untouched moved t it.lock (place_at moved t) (act_of (place_at moved t)) (ap act_of here ∙ it.loads)
+  pub stands_here : place_at moved t ≡ q
+  stands_here = get_or-set_same w.places t q Idle there
 
   -- each thread is in the call that it was in, and its place says of it what it said
   row_same : (u : ℕ) → profile (place_at moved u) ≡ profile (place_at w u)
   row_same u = elim (cases_eq u t) [
-    | inl e ↦ rw (e, here) it.row
+    | inl e ↦ rw (e, stands_here) it.row
     | inr ne ↦ ap profile (get_or-set_other w.places t u q Idle ne)
   ]
 
   lock_same : (u : ℕ) → lock_of (place_at moved u) ≡ lock_of (place_at w u)
   lock_same u = elim (cases_eq u t) [
-    | inl e ↦ rw (e, here) (it.now ∙ sym it.before)
+    | inl e ↦ rw (e, stands_here) (it.now ∙ sym it.before)
     | inr ne ↦ ap lock_of (get_or-set_other w.places t u q Idle ne)
   ]
 
-  pub locks_same : (k : ℕ) → lock_state moved k ≡ lock_state w k
-  locks_same k = λ i. record (lock_state w k) {
+  pub alike_locks : (k : ℕ) → lock_state moved k ≡ lock_state w k
+  alike_locks k = λ i. record (lock_state w k) {
     shared = get_or w.shares k (replicate (length-set w.places t q i) 0);
     taken = λ u. taken_from (row_same u i).hand (row_same u i).wants (is_lock k (lock_same u i));
   }
@@ -100,10 +112,10 @@ module _ (w : State) (t : ℕ) (there : t < length w.places) (q : Place) (is : l
   rights_of_all v u k = rights_of (lock_state v k) u
 
   rights_same : (u : ℕ) → rights_of_all moved u ≡ rights_of_all w u
-  rights_same u = λ i k. rights_of (locks_same k i) u
+  rights_same u = λ i k. rights_of (alike_locks k i) u
 
-  pub calls_same : (u : ℕ) → (locks_of moved).calls u ≡ (locks_of w).calls u
-  calls_same u = λ i. call_on (lock_same u i) (row_same u i) (rights_same u i)
+  pub alike_calls : (u : ℕ) → (locks_of moved).calls u ≡ (locks_of w).calls u
+  alike_calls u = λ i. call_on (lock_same u i) (row_same u i) (rights_same u i)
 
   -- so the abstract locks see nothing of it, but for how the thread stands
   sees : ◌≡◌ {A = LocksState} (record (locks_of w) { stances = λ u. stance_of (place_at moved u) }) (locks_of moved)
@@ -111,26 +123,94 @@ module _ (w : State) (t : ℕ) (there : t < length w.places) (q : Place) (is : l
     threads = sym (length-set w.places t q) i;
     size = length w.locks;
     kinds = (locks_of w).kinds;
-    locks = λ k. sym (locks_same k) i;
+    locks = λ k. sym (alike_locks k) i;
     inside = (locks_of w).inside;
-    calls = λ u. sym (calls_same u) i;
+    calls = λ u. sym (alike_calls u) i;
     stances = λ u. stance_of (place_at moved u);
   }
 
-  pub goes_as_before : (o : Outcome) (v : LocksState) → GoesOn (locks_of moved) t o v → GoesOn (locks_of w) t o v
-  goes_as_before o v g = let h = subst (λ x. GoesOn x t o v) (sym sees) g in
-      record { called = h.called; event = h.event; may = h.may; locks = h.locks; calls = h.calls; agrees = h.agrees }
+  pub alike_goes : (o : Outcome) (v : LocksState) → GoesOn (locks_of moved) t o v → GoesOn (locks_of w) t o v
+  alike_goes o v g = let h = subst (λ x. GoesOn x t o v) (sym sees) g in
+      record { called = h.called; event = h.event; may = h.may; locks = h.locks; calls = h.calls; agrees = h.agrees; begins = h.begins }
 
-  pub stays_as_before : (o : Outcome) (v : LocksState) → Stays (locks_of moved) t ((locks_of moved).calls t) o v → Stays (locks_of w) t ((locks_of w).calls t) o v
-  stays_as_before o v s = let h = subst (λ x. Stays x t (x.calls t) o v) (sym sees) s in
+  -- by the same event
+  pub alike_event : (o : Outcome) (v : LocksState) (e : Event) → ((g : GoesOn (locks_of moved) t o v) × (g.event ≡ e)) → (g : GoesOn (locks_of w) t o v) × (g.event ≡ e)
+  alike_event o v e g = let h = subst (λ x. (g : GoesOn x t o v) × (g.event ≡ e)) (sym sees) g in
+      (record { called = h.0.called; event = h.0.event; may = h.0.may; locks = h.0.locks; calls = h.0.calls; agrees = h.0.agrees; begins = h.0.begins }, h.1)
+
+  pub alike_stays : (o : Outcome) (v : LocksState) → Stays (locks_of moved) t ((locks_of moved).calls t) o v → Stays (locks_of w) t ((locks_of w).calls t) o v
+  alike_stays o v s = let h = subst (λ x. Stays x t (x.calls t) o v) (sym sees) s in
       record { told = h.told; locks = h.locks; calls = h.calls }
 
-  pub looking_steady : IsSteady w → IsSteady moved
-  looking_steady steady = goes_steady w moved it.lock [] steady
-      (place_goes w t it.lock steady (of_lock it.lock (lock_of (place_at w t)) it.before) there (rules_in w it.lock) refl q (of_lock it.lock (lock_of q) it.now) (calls_on w (place_at w t) q is (steady.stands.calls t)) [] (λ h. tt)
+  pub alike_steady : FitsItsLock w q → IsSteady w → IsSteady moved
+  alike_steady fits steady = goes_steady w moved it.lock [] steady
+      (place_goes w t it.lock steady (of_lock it.lock (lock_of (place_at w t)) it.before) there (rules_in w it.lock) refl q (of_lock it.lock (lock_of q) it.now) fits [] (λ h. tt)
       (steps_by (rules_in w it.lock) it.lock (parts_at w it.lock) (parts_at w it.lock) (place_at w) t q [] tt tt
       (λ i. taken_from (sym it.row i).hand (sym it.row i).wants (is_lock it.lock (sym lock_stays i))) refl refl refl refl (λ i. if is_lock it.lock (lock_stays i) then (it.row i).doing else idle))
       (λ i. station_by (it.row i)))
     where
       lock_stays : lock_of q ≡ lock_of (place_at w t)
       lock_stays = it.now ∙ sym it.before
+
+-- ---------------------------------------------------------------- a look
+
+module _ (w : State) (t : ℕ) (there : t < length w.places) (q : Place) (is : looking (place_at w t) ≡ Some q) where
+  abbrev looked : State
+  looked = put w t q
+
+  looks : IsLook (place_at w t) q
+  looks = look (place_at w t) q is
+
+  alike : IsAlike (place_at w t) q
+  alike = record { lock = looks.lock; before = looks.before; now = looks.now; row = looks.row }
+
+  pub here : place_at looked t ≡ q
+  here = get_or-set_same w.places t q Idle there
+
+  -- it may look now
+  pub looks_now : can_go looked t ≡ true
+  looks_now = rw (here, looks.loads) refl
+
+  pub looks_untouched : IsUntouched w (state_after_go looked t)
+  looks_untouched = load_untouched looked t looks.lock (place_at looked t) (act_of (place_at looked t)) (ap act_of here ∙ looks.loads)
+
+  pub locks_same : (k : ℕ) → lock_state looked k ≡ lock_state w k
+  locks_same k = alike_locks w t there q alike k
+
+  pub calls_same : (u : ℕ) → (locks_of looked).calls u ≡ (locks_of w).calls u
+  calls_same u = alike_calls w t there q alike u
+
+  pub goes_as_before : (o : Outcome) (v : LocksState) → GoesOn (locks_of looked) t o v → GoesOn (locks_of w) t o v
+  goes_as_before o v g = alike_goes w t there q alike o v g
+
+  pub stays_as_before : (o : Outcome) (v : LocksState) → Stays (locks_of looked) t ((locks_of looked).calls t) o v → Stays (locks_of w) t ((locks_of w).calls t) o v
+  stays_as_before o v s = alike_stays w t there q alike o v s
+
+  pub looking_steady : IsSteady w → IsSteady looked
+  looking_steady steady = alike_steady w t there q alike (calls_on w (place_at w t) q is (steady.stands.calls t)) steady
+
+-- ---------------------------------------------------------------- a closure's end
+
+-- behind its closure
+abbrev pub behind_closure : Bool → Place → Place
+behind_closure succeeded p = next_place p (Closed succeeded)
+
+-- who runs a closure stands behind it in the same call
+pub closes_alike : (p : Place) (succeeded : Bool) → RunsOne p → IsAlike p (behind_closure succeeded p)
+closes_alike p succeeded one = rw one.is (record { lock = one.lock; before = refl; now = refl; row = refl })
+
+pub closes_fit : (w : State) (p : Place) (succeeded : Bool) → RunsOne p → FitsItsLock w p → FitsItsLock w (behind_closure succeeded p)
+closes_fit w p succeeded one fits = subst (λ q. FitsItsLock w (behind_closure succeeded q)) (sym one.is) (subst (FitsItsLock w) one.is fits)
+
+module _ (w : State) (t : ℕ) (there : t < length w.places) (succeeded : Bool) (one : RunsOne (place_at w t)) where
+  abbrev pub closing : State
+  closing = put w t (closed_place w t succeeded)
+
+  abbrev pub like : IsAlike (place_at w t) (closed_place w t succeeded)
+  like = closes_alike (place_at w t) succeeded one
+
+  pub closing_steady : IsSteady w → IsSteady closing
+  closing_steady steady = alike_steady w t there (closed_place w t succeeded) like (closes_fit w (place_at w t) succeeded one (steady.stands.calls t)) steady
+
+  pub closing_here : place_at closing t ≡ closed_place w t succeeded
+  closing_here = get_or-set_same w.places t (closed_place w t succeeded) Idle there

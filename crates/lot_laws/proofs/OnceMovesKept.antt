@@ -111,7 +111,7 @@ module _ (w : State) (t l : ℕ) (steady : IsSteady w) (there : t < length w.pla
     rests : Deed
     rests = Case (OfOnce (Rest want g.forced))
 
-    told_so : (b : Bool) → holds check (word_at w l) ≡ b → hears r now t None (Parked b)
+    pub told_so : (b : Bool) → holds check (word_at w l) ≡ b → hears r now t None (Parked b)
     told_so b e = g.may r now t b (sym e ∙ ap (holds check) (word_is w t l steady there own r rules x same_row))
         (nowhere_here w t l steady there own r rules x same_row (ap (λ (y : Station). y.stands) g.was) (ap (λ (y : Station). y.hand) g.was))
 

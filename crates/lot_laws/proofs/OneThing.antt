@@ -1,5 +1,13 @@
 -- A step changes one word at most, or queues whose sections its thread is in.
 use Rattle.std.proofs.Common.{subst, sym, ℕ, Bool, true, false, Option, Some, None, if◌then◌else◌, ◌≡◌, ◌<◌, ◌⊎◌, inl, inr, List, [], ◌∷◌, ◌++◌, get_or, set, map, drop, refl, ◌∙◌, ap, get_or-set_other}
+use Rattle.lot_acts.specs.declared.acts.Reply.TheVariants.{Value}
+use Rattle.lot_steps.specs.declared.places.Place.TheVariants.{Once}
+use Rattle.lot_once.specs.OnceSteps.{word_behind}
+use Rattle.lot_once.specs.declared.run.RunAt.TheVariants as run
+use Rattle.lot_once.specs.declared.places.OncePlace.TheVariants.{Run}
+use Rattle.lot_acts.specs.declared.acts.Reply.TheVariants.{Closed}
+use Rattle.lot_machine.specs.Machine.{state_after_close, state_after_going, state_after_operation}
+use Rattle.lot_laws.proofs.Closures.{RunsOne, closes_one}
 use Rattle.std.proofs.lemmas.Bool.{cases_eq, ltb-true}
 use Rattle.lot_base.specs.declared.keys.Keys.{Keys}
 use Rattle.lot_base.specs.declared.keys.Keys.TheVariants.{One, Two}
@@ -19,7 +27,6 @@ use Rattle.lot_calls.specs.Calls.{lock_in}
 use Rattle.lot_steps.specs.Steps.{act_of, lock_of, next_place, first_place, looking, late_key}
 use Rattle.lot_machine.specs.Machine.{state_after_hand_over_by, State, state_after_take, can_turn, unlocked, place_at, word_at, queue_at, section_at, put, state_after_operation, state_with_sections, queues_with_last, queues_without_first, state_after_taking, state_after_wake, state_after_act, state_after_look, state_after_late_on, go_reply, state_after_turn, is_possible, after, kind_at}
 use Rattle.lot_laws.proofs.Looking.{looks_untouched}
-use Rattle.lot_laws.proofs.Closures.{nothing_closes}
 use Rattle.lot_machine.proofs.Shape.{both}
 use Rattle.std.specs.Prelude.{nat_lt, length}
 use Rattle.lot_laws.specs.Stations.{station}
@@ -132,13 +139,21 @@ module _ (w : State) (t : ℕ) (steady : IsSteady w) (there : t < length w.place
   late_one None = stays
   late_one (Some key) = put_one w (state_with_sections w (One key) (Some t)) t t (next_place (place_at w t) Late) (filled_one (One key) (Some t))
 
+  -- behind its closure it swaps the word of its `Once`
+  closed_one : (succeeded : Bool) → RunsOne (place_at w t) → ChangesOneThing w t (state_after_close w t succeeded)
+  closed_one succeeded one = subst (λ q. ChangesOneThing w t (state_after_going w t q)) (sym (ap (λ p. next_place p (Closed succeeded)) one.is))
+      (put_one w (state_after_operation w t (behind succeeded one) one.lock (op.TheVariants.Swap (word_behind succeeded))) t t (next_place (behind succeeded one) (Value (word_at w one.lock))) (word_one (behind succeeded one) one.lock (op.TheVariants.Swap (word_behind succeeded))))
+    where
+      behind : Bool → RunsOne (place_at w t) → Place
+      behind succeeded one = Once one.lock (Run one.forced (run.Close succeeded))
+
   turned_one : (x : Turn) → can_turn w t x ≡ true → ChangesOneThing w t (state_after_turn w t x)
   turned_one (turn.TheVariants.Begin c) can = put_one w w t t (first_place (kind_at w (lock_in c)) c) stays
   turned_one turn.TheVariants.Go can = put_one w (state_after_act w t (place_at w t) (act_of (place_at w t))) t t (next_place (place_at w t) (go_reply w t)) (gone_one (lock_of (place_at w t)) refl)
   turned_one turn.TheVariants.Spin can = spin_one (looking (place_at w t)) refl
   turned_one turn.TheVariants.Late can = late_one (late_key (place_at w t))
-  turned_one turn.TheVariants.Ok can = absurd (nothing_closes w t true (steady.stands.calls t) can)
-  turned_one turn.TheVariants.Err can = absurd (nothing_closes w t false (steady.stands.calls t) can)
+  turned_one turn.TheVariants.Ok can = closed_one true (closes_one w t true can)
+  turned_one turn.TheVariants.Err can = closed_one false (closes_one w t false can)
 
 pub one_thing : (w : State) (s : Step) → IsSteady w → ChangesOneThing w s.thread (after w s)
 one_thing w s steady = either (is_possible w s) refl

@@ -1,5 +1,7 @@
 -- What an act of one thread makes of the calls of the others: nothing, but where it wakes those in its hand or hands them the lock.
 use Rattle.std.proofs.Common.{ℕ, Bool, true, false, Option, Some, None, if◌then◌else◌, ◌≡◌, ◌≢◌, ◌⊎◌, inl, inr, List, [], ◌∷◌, get_or, set, refl, sym, ◌∙◌, ap, subst, get_or-set_other, ◌==◌}
+use Rattle.lot_once.proofs.OnceActs.{once_sleepers_move}
+use Rattle.lot_once.specs.OnceProfiles.{once_profile}
 use Rattle.lot_acts.specs.Profiles.{taken_from}
 use Rattle.std.proofs.Math.ListN.{get_or-map}
 use Rattle.std.proofs.lemmas.Bool.{cases_eq}
@@ -147,7 +149,11 @@ module _ (w : State) (t : ℕ) (p2 : Place) where
 
 -- so it is taken there by the one in whose hand it is
 pub taken_by_hand : (w : State) (p : Place) (t l : ℕ) → FitsItsLock w p → hand_at p l ≡ hand t false → is_taken_by t (taken_at p l) ≡ true
-taken_by_hand w (Once k at) t l calls h = absurd calls
+taken_by_hand w (Once k at) t l calls h = either (k == l) h
+  where
+    either : (b : Bool) → (if b then station (Once k at) else nowhere).hand ≡ hand t false → is_taken_by t (taken_from (once_profile at).hand (once_profile at).wants b) ≡ true
+    either true g = let x = (once_sleepers_move at).held t false g in ap (is_taken_by t) (λ i. taken_from (g i) (x.1.wants i) true) ∙ same t
+    either false g = absurd cc
 taken_by_hand w Idle t l calls h = absurd (let none : hand_at Idle l ≡ None = refl in cc)
 taken_by_hand w (Mutex k at) t l calls h = by_place (Mutex k at) (is_taken (Mutex k at) t l tt h)
   where
@@ -162,7 +168,11 @@ taken_by_hand w (RwLock k a c) t l calls h = either (k == l) h
 -- who was handed the lock goes on as it was
 handed_goes : (w : State) (p : Place) (t l : ℕ) → FitsItsLock w p → hand_at p l ≡ hand t true → (r : ℕ → Rights) → call_state (next_place p (Woken note.HandOff)) r ≡ call_state p r
 handed_goes w Idle t l fits h r = refl
-handed_goes w (Once k at) t l fits h r = absurd fits
+handed_goes w (Once k at) t l fits h r = either (k == l) h
+  where
+    either : (b : Bool) → (if b then station (Once k at) else nowhere).hand ≡ hand t true → call_state (next_place (Once k at) (Woken note.HandOff)) r ≡ call_state (Once k at) r
+    either true g = absurd (let x : true ≡ false = ((once_sleepers_move at).held t true g).0 in cc)
+    either false g = absurd cc
 handed_goes w (Mutex k at) t l fits h r = by_place (Mutex k at) (is_handed (Mutex k at) t l tt h)
   where
     by_place : (p : Place) → IsHandedAt p t l → call_state (next_place p (Woken note.HandOff)) r ≡ call_state p r

@@ -1,5 +1,10 @@
 -- Who owes a wake does so since it saw waiters, or since it entered the section.
 use Rattle.std.proofs.Common.{ℕ, Bool, true, false, Option, Some, None, if◌then◌else◌, ◌≡◌, ◌≢◌, ◌<◌, ◌⊎◌, ◌↔◌, inl, inr, length, refl, sym, ◌∙◌, ap, subst, get_or-set_same, nat_lt, is_some, length-set}
+use Rattle.lot_machine.specs.Machine.{closed_place}
+use Rattle.lot_laws.proofs.Looking.{alike_calls, closing_steady, like}
+use Rattle.lot_laws.proofs.Closings.{closing, closing_there, goes_behind, told_behind}
+use Rattle.lot_machine.specs.Machine.{close_outcome, state_after_close}
+use Rattle.lot_laws.proofs.Closures.{RunsOne, closes_one}
 use Rattle.std.proofs.lemmas.Bool.{ltb-true}
 use Rattle.lot_base.specs.declared.keys.Keys.TheVariants.{One}
 use Rattle.lot_calls.specs.declared.calls.Call.{Call}
@@ -16,7 +21,6 @@ use Rattle.lot_calls.specs.Calls.{lock_in}
 use Rattle.lot_steps.specs.Steps.{act_of, next_place, first_place, is_idle, looking, late_key, lock_of, line_owed, profile}
 use Rattle.lot_machine.specs.Machine.{State, place_at, word_at, state_after_act, state_after_go, go_reply, go_outcome, is_free_under, is_open_to, can_begin, state_after_begin, can_turn, turn_outcome, kind_at, put, state_after_look, look_outcome, state_after_late_on, state_after_turn, is_possible, after, step_outcome}
 use Rattle.lot_laws.proofs.Befallen.{others_keep_it}
-use Rattle.lot_laws.proofs.Closures.{nothing_closes}
 use Rattle.lot_laws.specs.Refinement.{call_on}
 use Rattle.abstract_locks.specs.Locks.{Rights}
 use Rattle.lot_laws.specs.Owing.{Owes, IsInside, SeesWaiters, OwesSince, OnlyLooks, LooksFirst, LetsOthersIn, line_let_in, sort_at, tells_by}
@@ -185,13 +189,25 @@ module _ (w : State) (t : ℕ) (shape : IsShaped w) (steady : IsSteady w) (there
   spun_owing (Some q) is can behind l m = subst (λ (c : CallState). Owes (state_after_go (put w t q) t) t l m ↔ (IsInside (state_after_go (put w t q) t) t l m ⊎ SeesBy w t l m (go_outcome (put w t q) t) (state_after_go (put w t q) t) c)) (calls_same w t there q is t)
       (go_owes (put w t q) (state_after_go (put w t q) t) t (looking_steady w t there q is steady) behind (go_place (put w t q) t (rw (length-set w.places t q) there)) l m)
 
+  -- its closure has answered, and it is in its call as before
+  closed_owing : (succeeded : Bool) (one : RunsOne (place_at w t)) → IsSteady (state_after_close w t succeeded) → (l : ℕ) (m : Line)
+      → Owes (state_after_close w t succeeded) t l m ↔ (IsInside (state_after_close w t succeeded) t l m ⊎ SeesWaiters w t l m (close_outcome w t succeeded) (state_after_close w t succeeded))
+  closed_owing succeeded one behind l m =
+      subst (λ o. Owes (state_after_close w t succeeded) t l m ↔ (IsInside (state_after_close w t succeeded) t l m ⊎ SeesWaiters w t l m o (state_after_close w t succeeded))) (sym (told_behind w t there succeeded one))
+      (subst (λ x. Owes x t l m ↔ (IsInside x t l m ⊎ SeesWaiters w t l m (go_outcome v t) x)) (sym (goes_behind w t there succeeded one))
+      (subst (λ (c : CallState). Owes (state_after_go v t) t l m ↔ (IsInside (state_after_go v t) t l m ⊎ SeesBy w t l m (go_outcome v t) (state_after_go v t) c)) (alike_calls w t there (closed_place w t succeeded) (like w t there succeeded one) t)
+      (go_owes v (state_after_go v t) t (closing_steady w t there succeeded one steady) (subst IsSteady (goes_behind w t there succeeded one) behind) (go_place v t (closing_there w t there succeeded one)) l m)))
+    where
+      v : State
+      v = closing w t there succeeded one
+
   turned_owing : (x : Turn) → can_turn w t x ≡ true → IsSteady (state_after_turn w t x) → (l : ℕ) (m : Line) → Owes (state_after_turn w t x) t l m ↔ (IsInside (state_after_turn w t x) t l m ⊎ SeesWaiters w t l m (turn_outcome w t x) (state_after_turn w t x))
   turned_owing (turn.TheVariants.Begin c) can behind l m = begun_owing c can behind l m outcome.TheVariants.Step
   turned_owing turn.TheVariants.Go can behind l m = go_owes w (state_after_go w t) t steady behind (go_place w t there) l m
   turned_owing turn.TheVariants.Spin can behind l m = spun_owing (looking (place_at w t)) refl can behind l m
   turned_owing turn.TheVariants.Late can behind l m = late_owing (late_key (place_at w t)) refl can behind l m outcome.TheVariants.Step
-  turned_owing turn.TheVariants.Ok can behind l m = absurd (nothing_closes w t true (steady.stands.calls t) can)
-  turned_owing turn.TheVariants.Err can behind l m = absurd (nothing_closes w t false (steady.stands.calls t) can)
+  turned_owing turn.TheVariants.Ok can behind l m = closed_owing true (closes_one w t true can) behind l m
+  turned_owing turn.TheVariants.Err can behind l m = closed_owing false (closes_one w t false can) behind l m
 
 pub owes_since : (w : State) (s : Step) → IsShaped w → IsSteady w → AreCounted w → OwesSince w s.thread (step_outcome w s) (after w s)
 owes_since w s shape steady counted = record {

@@ -1,5 +1,8 @@
 -- What is promised of a thread at any place of a call, by its row, and what that says of the state.
 use Rattle.std.proofs.Common.{ℕ, Bool, true, false, Option, Some, None, if◌then◌else◌, ◌≡◌, ◌≢◌, ◌*◌, ◌+◌, ◌≤◌, ◌⊎◌, ◌↔◌, inl, inr, refl, sym, ◌∙◌, ap, subst, arith}
+use Rattle.lot_laws.proofs.OnceRows.{once_promises}
+use Rattle.lot_once.specs.OnceSteps.{once_act}
+use Rattle.lot_once.specs.OnceProfiles.{once_profile}
 use Rattle.lot_base.specs.declared.keys.Keys.TheVariants.{One}
 use Rattle.lot_base.specs.Lines.{first_of}
 use Rattle.lot_base.specs.Lines as Lines
@@ -103,7 +106,11 @@ module _ (w : State) (t : ℕ) (steady : IsSteady w) where
     where
       by_place : (p : Place) → place_at w t ≡ p → lock_of p ≡ Some l → RowPromises (sort_at w l) l (profile p) (act_of p)
       by_place Idle is own = absurd cc
-      by_place (Once k at) is own = absurd (subst (FitsItsLock w) is (steady.stands.calls t))
+      by_place (Once k at) is own =
+          let here : k ≡ l = cc in
+          let admitted : (rules_in w k).sort ≡ locks.Once = subst (FitsItsLock w) is (steady.stands.calls t) in
+          subst (λ j. RowPromises (sort_at w j) j (profile (Once k at)) (act_of (Once k at))) here
+          (subst (λ s. RowPromises s k (profile (Once k at)) (act_of (Once k at))) (sym admitted) (once_promises k at))
       by_place (Mutex k at) is own =
           let here : k ≡ l = cc in
           let admitted : FitsItsLock w (Mutex k at) = rw is at (steady.stands.calls t) in

@@ -1,5 +1,9 @@
 -- A turn is possible exactly where the abstract locks and the call say so, and a thread is told that it sleeps where it does.
 use Rattle.std.proofs.Common.{is_some, subst, ℕ, Bool, true, false, Option, Some, None, if◌then◌else◌, ◌&&◌, ◌≡◌, ◌≢◌, ◌+◌, ◌*◌, ◌≤◌, ◌<◌, ◌↔◌, ◌⊎◌, inl, inr, List, length, is_none, refl, sym, ◌∙◌, ap, arith, get_or-set_other, get_or-set_same}
+use Rattle.lot_laws.proofs.OnceOwing.{once_never_late}
+use Rattle.lot_once.specs.OnceProfiles.{once_profile}
+use Rattle.abstract_locks.specs.Runs.{is_closure}
+use Rattle.lot_laws.proofs.Closures.{call_runs_none, closure_told, mutex_runs_none}
 use Rattle.std.proofs.lemmas.Bool.{cases_eq, cases_lt}
 use Rattle.std.proofs.lemmas.List.{get_or_past}
 use Rattle.lot_base.specs.declared.keys.Keys.{Keys}
@@ -44,7 +48,7 @@ use Rattle.lot_laws.specs.Refinement.{lock_state, locks_of, call_state, sleeps, 
 use Rattle.lot_laws.proofs.Glue.{calls_none}
 use Rattle.lot_laws.proofs.LineActs.{IsOfLine, IsLineAct, line_act, holds_line, key_there, late_line, calls_there}
 use Rattle.lot_laws.proofs.GoneKept.{none_is}
-use Rattle.lot_laws.proofs.Closures.{no_closure}
+use Rattle.lot_machine.specs.Machine.{runs_closure}
 use Rattle.lot_laws.proofs.AtPlaces.{queued_by}
 use Rattle.lot_laws.proofs.CallEvents.{rights}
 use Rattle.abstract_locks.specs.Locks.{Rights}
@@ -190,6 +194,49 @@ told_gone (RwLock l a c) r = by_next (call_next a c r)
     by_next (next.At q) = told_act (call_act l a q)
     by_next (next.End answer) = ((λ h. cc), λ h. cc)
 
+-- and that it runs its closure where it does then
+pub closure_gone : (p : Place) (r : Reply) → is_closure (outcome_of (next_act p r)) ≡ runs_closure (act_of (next_place p r))
+closure_gone Idle r = refl
+closure_gone (Mutex l at) r = by_next (mutex_next at r)
+  where
+    by_next : (n : Next MutexPlace) → is_closure (outcome_of (mutex_does l n)) ≡ runs_closure (act_of (mutex_goes l n))
+    by_next (next.At q) = closure_told (mutex_act l q)
+    by_next (next.End answer) = refl
+closure_gone (Once l at) r = by_next (once_next at r)
+  where
+    by_next : (n : Next OncePlace) → is_closure (outcome_of (once_does l n)) ≡ runs_closure (act_of (once_goes l n))
+    by_next (next.At q) = closure_told (once_act l q)
+    by_next (next.End answer) = refl
+closure_gone (RwLock l a c) r = by_next (call_next a c r)
+  where
+    by_next : (n : Next RwLockCallPlace) → is_closure (outcome_of (rwlock_does l a n)) ≡ runs_closure (act_of (rwlock_goes l a n))
+    by_next (next.At q) = closure_told (call_act l a q)
+    by_next (next.End answer) = refl
+
+-- no call begins in its closure, and none is late there
+pub begins_outside : (k : Kind) (c : Call) → runs_closure (act_of (first_place k c)) ≡ false
+begins_outside k (call.TheVariants.RwLock l c) = call_runs_none l (admission_of k) (call_first c)
+begins_outside k (call.TheVariants.Once l c) = refl
+begins_outside k (call.TheVariants.Mutex l c) = mutex_runs_none l (mutex_first (is_fair k) c)
+
+pub late_outside : (p : Place) → late_key p ≢ None → runs_closure (act_of (next_place p Late)) ≡ false
+late_outside Idle h = refl
+late_outside (Mutex l at) h = by_next (mutex_next at Late)
+  where
+    by_next : (n : Next MutexPlace) → runs_closure (act_of (mutex_goes l n)) ≡ false
+    by_next (next.At q) = mutex_runs_none l q
+    by_next (next.End answer) = refl
+late_outside (RwLock l a c) h = by_next (call_next a c Late)
+  where
+    by_next : (n : Next RwLockCallPlace) → runs_closure (act_of (rwlock_goes l a n)) ≡ false
+    by_next (next.At q) = call_runs_none l a q
+    by_next (next.End answer) = refl
+late_outside (Once l at) h = absurd (by_line (once_profile at).late_line refl h)
+  where
+    by_line : (m : Option Line) → (once_profile at).late_line ≡ m → key_in (Some l) m ≢ None → ⊥
+    by_line None e h = h refl
+    by_line (Some m) e h = once_never_late at m e
+
 pub told_step : (b : Bool) → b ≡ false → (outcome.TheVariants.Step ≡ outcome.TheVariants.Sleep) ↔ (b ≡ true)
 told_step true h = absurd cc
 told_step false h = ((λ e. cc), λ e. cc)
@@ -232,8 +279,8 @@ nobody_turns w t (turn.TheVariants.Begin c) idle = elim (cases_lt t (length w.pl
 nobody_turns w t turn.TheVariants.Go idle = inr (λ may. may.called (ap (λ p. (call_state p (rights w t)).purpose) idle))
 nobody_turns w t turn.TheVariants.Spin idle = inr (λ may. let e : false ≡ true = sym (ap (λ p. is_some (looking p)) idle) ∙ may in cc)
 nobody_turns w t turn.TheVariants.Late idle = inr (λ may. let e : false ≡ true = sym (ap (λ p. sleeps (act_of p)) idle) ∙ may.asleep in cc)
-nobody_turns w t turn.TheVariants.Ok idle = inr (λ may. no_closure w t (subst (FitsItsLock w) (sym idle) tt) may)
-nobody_turns w t turn.TheVariants.Err idle = inr (λ may. no_closure w t (subst (FitsItsLock w) (sym idle) tt) may)
+nobody_turns w t turn.TheVariants.Ok idle = inr (λ may. let e : false ≡ true = sym (ap (λ p. runs_closure (act_of p)) idle) ∙ may in cc)
+nobody_turns w t turn.TheVariants.Err idle = inr (λ may. let e : false ≡ true = sym (ap (λ p. runs_closure (act_of p)) idle) ∙ may in cc)
 
 -- whoever takes a turn is there
 pub turner_there : (w : State) (t : ℕ) (x : Turn) → MayTurn (locks_of w) t x → t < length w.places

@@ -1,5 +1,5 @@
 -- What holds between steps, as callers are told it.
-use Rattle.std.proofs.Common.{ℕ, Bool, true, false, Option, Some, None, if◌then◌else◌, ◌==◌, ◌&&◌, ◌≡◌, ◌≢◌, ◌+◌, ◌*◌, ◌≤◌, ◌<◌, ◌⊎◌, inl, inr, List, length, refl, ◌∙◌, ap, subst, arith, ◌↔◌, sym}
+use Rattle.std.proofs.Common.{ℕ, Bool, true, false, Option, Some, None, if◌then◌else◌, ◌==◌, ◌&&◌, ◌≡◌, ◌≢◌, ◌+◌, ◌*◌, ◌≤◌, ◌<◌, ◌⊎◌, inl, inr, List, [], ◌∷◌, length, refl, ◌∙◌, ap, subst, arith, ◌↔◌, sym}
 use Rattle.lot_base.specs.declared.wants.Want.{Want}
 use Rattle.lot_base.specs.declared.wants.Want.TheVariants.{Exclusive}
 use Rattle.lot_acts.specs.declared.acts.Act.TheVariants.{Rest, Sleep}
@@ -13,14 +13,16 @@ use Rattle.lot_machine.specs.Fits.{IsShaped}
 use Rattle.lot_laws.specs.Stations.{Station, station_at, doing_on}
 use Rattle.lot_laws.specs.SitesOf.{AreCounted, IsSteady, rules_in}
 use Rattle.abstract_locks.specs.Runs.{CallState, IsOpening}
-use Rattle.abstract_locks.specs.Locks.{LockState, Sort, Rights, Taken, opening_lock, Rules, IsSomePending, rights_of, readers, count, standing}
+use Rattle.abstract_locks.specs.Locks.{LockState, Sort, Queued, Rights, Taken, opening_lock, Rules, IsSomePending, has_caller, rights_of, readers, count, standing}
+use Rattle.abstract_locks.specs.Onces.{InProgress, IsRunning}
 use Rattle.abstract_locks.specs.Locks as sorts
-use Rattle.abstract_locks.specs.Sites.{Doing, Line, Main, Second, Has, Pends, IsOpen, counts_some, has_readers, idle}
+use Rattle.abstract_locks.specs.Sites.{Doing, Line, Main, Second, Has, Pends, Runs, IsOpen, counts_some, has_readers, idle}
 use Rattle.abstract_locks.specs.Codes.{HasLimit}
 use Rattle.abstract_locks.specs.Purposes.{Enters, Converts, Bumps, CallsOnce, Awaits, Purpose, MayWait, rules_of}
 use Rattle.lot_laws.specs.Refinement.{locks_of, lock_state, lock_seen, taken_at, call_at, call_on, call_state, stance_of}
 use Rattle.lot_laws.specs.Owing.{Owes, sort_at}
-use Rattle.lot_laws.specs.Promises.{IsKept, KnowsRights, WaitsFor, WakesWaiters, IsDebtorOf, IsLookedAfter, IsOpenNow, WasNeverFull, HasOrPends, IsHandedOver, IsWithinLimit, want_of}
+use Rattle.lot_laws.specs.Promises.{IsKept, KnowsRights, WaitsFor, WakesWaiters, IsDebtorOf, IsLookedAfter, IsOpenNow, WasNeverFull, HasOrPends, IsHandedOver, IsOwedWake, IsWithinLimit, RunsClosure, want_of}
+use Rattle.lot_laws.proofs.Closures.{runs_one}
 use Rattle.lot_laws.proofs.TurnsKept.{after_steady}
 use Rattle.lot_laws.proofs.SitesPromise.{not_empty}
 use Rattle.lot_laws.proofs.RowPromises.{IsDebtorIn, HasClaimed, HasDebt, WasHanded, RowLooksAfter}
@@ -141,12 +143,41 @@ module _ (w : State) (steady : IsSteady w) where
       by_sort true e = full e
       by_sort false e = steady.sites.unfilled l e
 
+  -- whoever waits in a line whose way is open
+  in_line : (l : ℕ) → (lock_state w l).queue ≢ [] → IsOpen (sort_at w l) (lock_state w l) → filled_at w l ≡ false → IsLookedAfter w l Main
+  in_line l some now empty =
+      let free = open_unowned (sort_at w l) (lock_state w l) (steady.sites.site l).state.unwritten now in
+      let d = (steady.sites.site l).main (inl some) now empty in
+      looks_after d.0 l Main d.1 (λ own. let e : ◌≡◌ {A = Option ℕ} None (Some d.0) = sym free ∙ own in cc)
+
   main : (t l : ℕ) → WaitsFor w t l → IsOpenNow (rules_in w l) (lock_state w l) → WasNeverFull w l → IsLookedAfter w l Main
   main t l waiting open_now full =
       let now : IsOpen (sort_at w l) (lock_state w l) = elim open_now [ inl is ↦ is | inr other ↦ absurd (unbuilt (kind_at w l) other.0) ] in
-      let free = open_unowned (sort_at w l) (lock_state w l) (steady.sites.site l).state.unwritten now in
-      let d = (steady.sites.site l).main (inl (not_empty t (lock_state w l).queue waiting)) now (unfilled l full) in
-      looks_after d.0 l Main d.1 (λ own. let e : ◌≡◌ {A = Option ℕ} None (Some d.0) = sym free ∙ own in cc)
+      in_line l (not_empty t (lock_state w l).queue waiting) now (unfilled l full)
+
+  -- nobody counts as one who passes the turn of a `Once` on but who owes its waiters their wake
+  callers : (l : ℕ) → sort_at w l ≡ sorts.Once → has_caller (lock_state w l).queue ≡ true → (IsRunning (lock_state w l).phase → ⊥) → IsOwedWake w l
+  callers l once called rests = record { debtor = after.debtor; owes = by_debt after.debtor after.debt; awake = after.awake; stands_nowhere = after.stands_nowhere }
+    where
+      called_some : (q : List Queued) → has_caller q ≡ true → q ≢ []
+      called_some [] h e = cc
+      called_some (x ∷ q) h e = cc
+
+      after : IsLookedAfter w l Main
+      after = in_line l (called_some (lock_state w l).queue called) (subst (λ s. IsOpen s (lock_state w l)) (sym once) (called, rests)) (steady.sites.unfilled l (ap has_readers once))
+
+      counts_none : (o : Option Want) → counts_some sorts.Once o ≡ true → ⊥
+      counts_none None h = cc
+      counts_none (Some x) h = cc
+
+      by_debt : (t : ℕ) → IsDebtorOf w t l Main → Owes w t l Main
+      by_debt t (inl owes) = owes.0
+      by_debt t (inr again) = absurd (counts_none (want_of (call_at w t).purpose) (subst (λ s. counts_some s (want_of (call_at w t).purpose) ≡ true) once again.1))
+
+  closures : (t l : ℕ) → RunsClosure w t l → (lock_state w l).phase ≡ InProgress t
+  closures t l h =
+      let one = runs_one (place_at w t) h.1 in
+      (steady.sites.site l).held t Runs (ap (λ (d : Doing). d.claims) (doing_own (place_at w t) l h.0) ∙ ap (λ p. (profile p).doing.claims) one.is)
 
   second : (l : ℕ) → (lock_state w l).aside ≢ None → readers (lock_state w l) ≡ 0 → IsLookedAfter w l Second
   second l aside none =
@@ -210,6 +241,8 @@ module _ (w : State) (steady : IsSteady w) where
     coded = λ l. steady.sites.word l;
     limited = limited;
     nobody_forgotten = record { main = main; second = second };
+    callers = callers;
+    closures = closures;
     owing = λ t l m. owing_is w t steady l m;
     second_line = second_line;
     retrying = retrying;

@@ -1,5 +1,9 @@
 -- Each step of a thread in a call of a reader-writer lock is a step of the abstract locks, and a call begins where it has its right.
 use Rattle.std.proofs.Common.{ℕ, Bool, true, false, Option, Some, None, if◌then◌else◌, ◌==◌, not, ◌≡◌, ◌≤◌, ◌<◌, ◌⊎◌, inl, inr, length, get_or-set_same, refl, sym, ◌∙◌, ap, subst, arith}
+use Rattle.lot_laws.proofs.Closures.{call_runs_none, closure_told}
+use Rattle.lot_laws.proofs.RwLockKept.{admits, stands}
+use Rattle.abstract_locks.specs.Runs.{is_closure}
+use Rattle.lot_laws.proofs.CallEvents.{RunsNothing, begins_nothing, runs_nothing}
 use Rattle.std.proofs.lemmas.Bool.Decides.{nat_tests}
 use Rattle.lot_calls.specs.declared.calls.Access.{Access}
 use Rattle.lot_calls.specs.declared.calls.Access.TheVariants as access
@@ -202,11 +206,26 @@ module _ (w : State) (t l : ℕ) (a : Admission) (c : RwLockCallPlace) (steady :
   leads = by_next (call_next a c told) (get_or-set_same (state_after_act w t (RwLock l a c) (call_act l a c)).places t _ Idle (rw (performed_counts w t (RwLock l a c) (call_act l a c)).0 there)) (own_next l a c told (own_reply w t (call_act l a c)) (λ asleep. let f : true ≡ false = sym can ∙ ap (can_do w) asleep in cc))
     where
       by_next : (n : Next RwLockCallPlace) → place_at behind t ≡ rwlock_goes l a n → NextAwake a l n → LeadsTo behind t l (next_rows a n) (outcome_of (rwlock_does l a n))
-      by_next (next.At q) e awake = (ap lock_of e, ap profile e, rests q e awake)
+      by_next (next.At q) e awake = (ap lock_of e, ap profile e, elim (rests q e awake) [
+        | inl step ↦ inl step
+        | inr sleeps ↦ inr (inl sleeps)
+      ])
       by_next (next.End answer) e awake = (e, refl)
 
   pub rwlock_step : GoesOn (locks_of w) t (outcome_of (next_act (RwLock l a c) told)) (locks_of behind)
   rwlock_step = goes_by w behind t l happened kept.happened (RwLock l a c) is refl kept.tells.may (next_rows a (call_next a c told)) _ kept.tells.comes leads kept.others
+      (begins_nothing (locks_of w) l (call_profile a c) happened _ runs kept.tells.may (tells_none (call_next a c told)))
+    where
+      promises : RowPromises (rules_in w l).sort l (call_profile a c) (call_act l a c)
+      promises = call_promises (rules_in w l) a l c (admits w t l a c steady shape there lt is) (stands w t l a c steady shape there lt is)
+
+      runs : RunsNothing ((call_profile a c).purpose l)
+      runs = runs_nothing (λ k. (rules_in w k).sort) l ((call_profile a c).purpose l) promises.own (promises.known (λ k. (rules_in w k).sort) refl)
+          (λ once. let both : false ≡ true = sym (ap has_readers once) ∙ (admits w t l a c steady shape there lt is).0 in cc)
+
+      tells_none : (n : Next RwLockCallPlace) → is_closure (outcome_of (rwlock_does l a n)) ≡ false
+      tells_none (next.At q) = closure_told (call_act l a q) ∙ call_runs_none l a q
+      tells_none (next.End answer) = refl
 
 -- ---------------------------------------------------------------- a call begins
 

@@ -57,6 +57,7 @@ use Rattle.lot_rwlock_fair.proofs.FairOpenings.{calls_open}
 use Rattle.lot_steps.specs.declared.places.Place.{Place}
 use Rattle.lot_steps.specs.declared.places.Place.TheVariants.{Idle, Mutex, RwLock, Once}
 use Rattle.lot_mutex.specs.declared.places.MutexPlace.{MutexPlace}
+use Rattle.lot_once.specs.declared.places.OncePlace.{OncePlace}
 use Rattle.lot_steps.specs.Steps.{next_place, profile, calls, rwlock_goes}
 use Rattle.abstract_locks.specs.Locks.{Rules, Sort, Normal as NormalSort, Recursive, Semaphore, count, keep_from, one_if_some, standing}
 use Rattle.abstract_locks.specs.Locks as locks
@@ -210,19 +211,19 @@ word_few r s readers site room limit = by_sort r.sort refl readers
 
 -- ---------------------------------------------------------------- deeds that leave the others as they are
 
-abbrev AreCalm : List Deed → Type 0
+abbrev pub AreCalm : List Deed → Type 0
 AreCalm [] = Unit {0}
 AreCalm (Case case ∷ ds) = IsCalm (Some case)
 AreCalm (Out ∷ ds) = ⊥
 AreCalm (d ∷ ds) = AreCalm ds
 
-calm_case : (hand : Option Bool) (ds : List Deed) → AreCalm ds → IsCalm (case_of hand ds)
+pub calm_case : (hand : Option Bool) (ds : List Deed) → AreCalm ds → IsCalm (case_of hand ds)
 calm_case hand [] h = tt
 calm_case hand (Case case ∷ ds) h = h
 calm_case hand (Out ∷ ds) h = absurd h
 calm_case hand (d ∷ ds) h = calm_case hand ds h
 
-word_calm : (ds : List Deed) → AreOfWord ds → AreCalm ds
+pub word_calm : (ds : List Deed) → AreOfWord ds → AreCalm ds
 word_calm [] h = tt
 word_calm (End ∷ []) h = tt
 word_calm (Mark m ∷ []) h = tt
@@ -241,7 +242,7 @@ aside_calm None = tt
 aside_calm (Some u) = tt
 
 -- who leaves a section wakes those in its hand, if anybody
-left_calm : (ds : List Deed) → AreLeaving ds → IsCalm (case_of None ds)
+pub left_calm : (ds : List Deed) → AreLeaving ds → IsCalm (case_of None ds)
 left_calm (Out ∷ []) h = tt
 left_calm (Out ∷ End ∷ []) h = tt
 left_calm ds h = absurd h
@@ -252,7 +253,7 @@ handed_calm (Out ∷ []) h = tt
 handed_calm (Out ∷ End ∷ []) h = tt
 handed_calm ds h = absurd h
 
-left_wakes : (ds : List Deed) → AreLeaving ds → case_of (Some false) ds ≡ Some locks.Wake
+pub left_wakes : (ds : List Deed) → AreLeaving ds → case_of (Some false) ds ≡ Some locks.Wake
 left_wakes (Out ∷ []) h = refl
 left_wakes (Out ∷ End ∷ []) h = refl
 left_wakes ds h = absurd h
@@ -316,12 +317,18 @@ module _ (w : State) (t l : ℕ) (a : Admission) (c : RwLockCallPlace) (steady :
       let some : has_readers (rules_in w l).sort ≡ true = admits.0 in
       let both : true ≡ false = sym some ∙ ap (λ j. has_readers (rules_in w j).sort) (sym same_lock) ∙ none in cc
 
+  pub of_no_once : (u k : ℕ) (p : OncePlace) → place_at w u ≡ Once k p → k ≡ l → ⊥
+  of_no_once u k p e same_lock =
+      let of_once : (rules_in w k).sort ≡ locks.Once = subst (FitsItsLock w) e (steady.stands.calls u) in
+      let some : has_readers (rules_in w l).sort ≡ true = admits.0 in
+      let both : true ≡ false = sym some ∙ ap (λ j. has_readers (rules_in w j).sort) (sym same_lock) ∙ ap has_readers of_once in cc
+
   asleep : (u : ℕ) → calls (place_at w u) l ≡ true → IsSleeper w t l steady there own (rules_in w l) refl (call_move a c) same_row u
   asleep u h = by_place (place_at w u) refl h
     where
       by_place : (q : Place) → place_at w u ≡ q → calls q l ≡ true → IsSleeper w t l steady there own (rules_in w l) refl (call_move a c) same_row u
       by_place Idle e g = absurd cc
-      by_place (Once k at) e g = absurd (subst (FitsItsLock w) e (steady.stands.calls u))
+      by_place (Once k at) e g = absurd (of_no_once u k at e (eqb-true k l g))
       by_place (Mutex k m) e g = absurd (of_no_mutex u k m e (eqb-true k l g))
       by_place (RwLock k b q) e g = record {
         move = call_move b q;
@@ -442,7 +449,11 @@ module _ (w : State) (t l : ℕ) (a : Admission) (c : RwLockCallPlace) (steady :
     where
       by_place : (q : Place) → place_at w u ≡ q → hand_at q l ≡ hand t true → IsWoken w t l true HandOff q
       by_place Idle e h = absurd cc
-      by_place (Once k at) e h = absurd (subst (FitsItsLock w) e (steady.stands.calls u))
+      by_place (Once k at) e h = either (k == l) refl h
+        where
+          either : (b : Bool) → (k == l) ≡ b → (if b then station (Once k at) else nowhere).hand ≡ hand t true → IsWoken w t l true HandOff (Once k at)
+          either true same_lock g = absurd (of_no_once u k at e (eqb-true k l same_lock))
+          either false same_lock g = absurd cc
       by_place (Mutex k m) e h = either (k == l) refl h
         where
           either : (b : Bool) → (k == l) ≡ b → (if b then station (Mutex k m) else nowhere).hand ≡ hand t true → IsWoken w t l true HandOff (Mutex k m)

@@ -93,11 +93,12 @@ sets_nothing (RwLock k a c) l other = either (k == l)
     either true = call_unset a c
     either false = refl
 
-no_once : (w : State) (p : Place) (l : ℕ) → FitsItsLock w p → IsNoOnce l p
-no_once w (Once k at) l fits = absurd fits
-no_once w (Mutex k at) l fits = tt
-no_once w (RwLock k a c) l fits = tt
-no_once w Idle l fits = tt
+no_once : (w : State) (p : Place) (l : ℕ) → rules_in w l ≡ mutex → FitsItsLock w p → IsNoOnce l p
+no_once w (Once k at) l rules fits = λ here.
+    let both : locks.Once ≡ locks.Mutex = sym fits ∙ ap (λ n. (rules_in w n).sort) here ∙ ap (λ (r : locks.Rules). r.sort) rules in cc
+no_once w (Mutex k at) l rules fits = tt
+no_once w (RwLock k a c) l rules fits = tt
+no_once w Idle l rules fits = tt
 
 pub first_out : (t : ℕ) (q : List Waiter) → Lines.times t q ≡ 0 → locks.is_thread t (Lines.first_of q) ≡ 0
 first_out t [] h = refl
@@ -108,7 +109,7 @@ module _ (w : State) (s : IsSteady w) (t l : ℕ) (rules : rules_in w l ≡ mute
   parked : WaitsFor w t l → is_parked (word_at w l) ≡ true
   parked h = elim ((s.sites.site l).parked (not_empty t (lock_state w l).queue h)) [
     | inl g ↦ subst (λ r. parked_in r.sort (word_at w l) ≡ true) rules g
-    | inr g ↦ absurd (let a : (doing_on (place_at w g.0) l).sets ≡ false = sets_nothing (place_at w g.0) l (no_once w (place_at w g.0) l (s.stands.calls g.0)) in let b : (doing_on (place_at w g.0) l).sets ≡ true = g.1 in cc)
+    | inr g ↦ absurd (let a : (doing_on (place_at w g.0) l).sets ≡ false = sets_nothing (place_at w g.0) l (no_once w (place_at w g.0) l rules (s.stands.calls g.0)) in let b : (doing_on (place_at w g.0) l).sets ≡ true = g.1 in cc)
   ]
 
   pub parked_at : 1 ≤ Lines.times t (queue_at w (2 * l)) → is_parked (word_at w l) ≡ true

@@ -1,5 +1,13 @@
 -- Each turn of a thread keeps every lock a site, and every thread in the line, the section and the hand that its place says.
 use Rattle.std.proofs.Common.{ℕ, Bool, true, false, Option, Some, None, if◌then◌else◌, ◌≡◌, ◌<◌, [], ◌∷◌, length, length-set, nat_lt, refl, subst, sym, ◌∙◌, ap}
+use Rattle.lot_laws.proofs.OnceKept.{once_begins}
+use Rattle.lot_laws.proofs.KindsKept.{calls_once}
+use Rattle.lot_machine.specs.Machine.{can_close, state_after_close}
+use Rattle.lot_laws.proofs.Looking.{closing_steady}
+use Rattle.lot_laws.proofs.Closings.{closing, closing_counted, closing_may, closing_shaped, closing_there, goes_behind}
+use Rattle.lot_laws.proofs.Closures.{closes_one}
+use Rattle.lot_laws.proofs.OnceOwing.{once_never_late}
+use Rattle.lot_once.specs.OnceProfiles.{once_profile}
 use Rattle.std.proofs.lemmas.Bool.{ltb-true}
 use Rattle.lot_base.specs.declared.wants.Want.TheVariants.{Exclusive}
 use Rattle.lot_calls.specs.declared.calls.Call.{Call}
@@ -30,13 +38,12 @@ use Rattle.lot_laws.specs.MutexDeeds.{mutex_doing, mutex_station, acts, begins}
 use Rattle.lot_laws.specs.Stations.{nowhere, station}
 use Rattle.lot_laws.specs.SitesOf.{AreCounted, FitsItsLock, IsSteady, Goes}
 use Rattle.lot_machine.proofs.Shape.{both, looking_shaped}
-use Rattle.lot_laws.proofs.KindsKept.{calls_mutex, calls_readers, never_once}
+use Rattle.lot_laws.proofs.KindsKept.{calls_mutex, calls_readers}
 use Rattle.lot_laws.proofs.Glue.{parts_at, same, thread_is}
 use Rattle.lot_laws.proofs.MutexTable.{mutex, own_doing, meets, others_same}
 use Rattle.lot_laws.proofs.StandsMoved.{mutex_rules}
 use Rattle.lot_laws.proofs.SitesKept.{mutex_at, goes_steady, place_goes}
 use Rattle.lot_laws.proofs.Looking.{looking_steady, looks_now}
-use Rattle.lot_laws.proofs.Closures.{nothing_closes}
 use Rattle.lot_laws.proofs.CountsPut.{looking_counted}
 use Rattle.lot_laws.proofs.GoneKept.{enters, gone_kept}
 use Rattle.lot_laws.proofs.RwLockKept.{rwlock_begins, rwlock_goes_late}
@@ -51,14 +58,6 @@ idle_is Idle h = refl
 idle_is (Mutex l at) h = absurd cc
 idle_is (RwLock l a at) h = absurd cc
 idle_is (Once l at) h = absurd cc
-
--- no call of a `Once` begins yet
-pub once_begins : (w : State) (t l : ℕ) (c : OnceCall) → can_begin w t (calling.TheVariants.Once l c) ≡ true → ⊥
-once_begins w t l c can =
-    let parts = both (is_idle (place_at w t)) (is_open_to w t (calling.TheVariants.Once l c)) can in
-    let open_to = both (nat_lt l (length w.locks)) _ parts.1 in
-    let has = both (has_call (kind_at w l) (calling.TheVariants.Once l c)) _ open_to.1 in
-    let none : false ≡ true = sym (never_once (kind_at w l) l c) ∙ has.0 in cc
 
 module _ (w : State) (t : ℕ) (steady : IsSteady w) (shape : IsShaped w) (there : t < length w.places) where
   -- it begins, with the claim that the call needs
@@ -85,7 +84,11 @@ module _ (w : State) (t : ℕ) (steady : IsSteady w) (shape : IsShaped w) (there
       let open_to = both (nat_lt l (length w.locks)) _ parts.1 in
       let right = both (has_call (kind_at w l) (calling.TheVariants.Mutex l c)) _ open_to.1 in
       goes_steady w _ l _ steady (calls_begin l (is_fair (kind_at w l)) c (calls_mutex (kind_at w l) l c right.0) (idle_is (place_at w t) parts.0) right.1)
-  begun_kept (calling.TheVariants.Once l c) can = absurd (once_begins w t l c can)
+  begun_kept (calling.TheVariants.Once l c) can =
+      let parts = both (is_idle (place_at w t)) (is_open_to w t (calling.TheVariants.Once l c)) can in
+      let open_to = both (nat_lt l (length w.locks)) _ parts.1 in
+      let right = both (has_call (kind_at w l) (calling.TheVariants.Once l c)) _ open_to.1 in
+      goes_steady w _ l _ steady (once_begins w t l c steady there (idle_is (place_at w t) parts.0) (calls_once (kind_at w l) l c right.0))
   begun_kept (calling.TheVariants.RwLock l c) can =
       let parts = both (is_idle (place_at w t)) (is_open_to w t (calling.TheVariants.RwLock l c)) can in
       let open_to = both (nat_lt l (length w.locks)) _ parts.1 in
@@ -124,15 +127,28 @@ module _ (w : State) (t : ℕ) (steady : IsSteady w) (shape : IsShaped w) (there
   late_kept (RwLock l a (BumpCall p)) is fits can = rwlock_late l a (BumpCall p) is fits (call_late_line (BumpCall p)) refl can
   late_kept (RwLock l a c) is fits can = absurd cc
   late_kept Idle is fits can = absurd cc
-  late_kept (Once l at) is fits can = absurd (subst (FitsItsLock w) is (steady.stands.calls t))
+  late_kept (Once l at) is fits can = once_late (once_profile at).late_line refl can
+    where
+      once_late : (m : Option Line) → (once_profile at).late_line ≡ m → is_free_under w (key_in (Some l) m) ≡ true → IsSteady (state_after_late_on w t (key_in (Some l) m))
+      once_late None e h = absurd cc
+      once_late (Some m) e h = absurd (once_never_late at m e)
+
+  -- its closure has answered, and it goes on behind it
+  closed_kept : AreCounted w → (succeeded : Bool) → can_close w t succeeded ≡ true → IsSteady (state_after_close w t succeeded)
+  closed_kept counted succeeded can =
+      let one = closes_one w t succeeded can in
+      let v = closing w t there succeeded one in
+      let shaped = closing_shaped w t there succeeded one shape in
+      subst IsSteady (sym (goes_behind w t there succeeded one))
+      (gone_kept v t (closing_steady w t there succeeded one steady) shaped (closing_there w t there succeeded one) (closing_counted w t there succeeded one counted) (place_at v t) refl (shaped.places t) (closing_may w t there succeeded one))
 
   turned_kept : AreCounted w → (x : Turn) → can_turn w t x ≡ true → IsSteady (state_after_turn w t x)
   turned_kept counted (turn.TheVariants.Begin c) can = begun_kept c can
   turned_kept counted turn.TheVariants.Go can = gone_kept w t steady shape there counted (place_at w t) refl (shape.places t) can
   turned_kept counted turn.TheVariants.Spin can = spun_kept counted (looking (place_at w t)) refl
   turned_kept counted turn.TheVariants.Late can = late_kept (place_at w t) refl (shape.places t) can
-  turned_kept counted turn.TheVariants.Ok can = absurd (nothing_closes w t true (steady.stands.calls t) can)
-  turned_kept counted turn.TheVariants.Err can = absurd (nothing_closes w t false (steady.stands.calls t) can)
+  turned_kept counted turn.TheVariants.Ok can = closed_kept counted true can
+  turned_kept counted turn.TheVariants.Err can = closed_kept counted false can
 
 -- a step keeps what holds between steps
 pub after_steady : (w : State) (s : Step) → IsShaped w → IsSteady w → AreCounted w → IsSteady (after w s)

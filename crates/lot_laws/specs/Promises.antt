@@ -7,9 +7,10 @@ use Rattle.lot_base.specs.declared.wants.Want.TheVariants.{Exclusive, Upgradable
 use Rattle.lot_acts.specs.declared.acts.Act.TheVariants.{Enter, Leave, Sleep}
 use Rattle.lot_acts.specs.declared.acts.Wakes as wakes
 use Rattle.lot_base.specs.declared.notes.Note.TheVariants.{HandOff}
-use Rattle.lot_steps.specs.Steps.{act_of, taker, retries_on}
-use Rattle.lot_machine.specs.Machine.{State, place_at, word_at, filled_at, section_at}
-use Rattle.abstract_locks.specs.Locks.{LockState, Sort, Recursive, Semaphore, Once, Rules, Knows, IsSomePending, times, standing, readers, count, Owns}
+use Rattle.lot_steps.specs.Steps.{act_of, lock_of, taker, retries_on}
+use Rattle.lot_machine.specs.Machine.{State, place_at, runs_closure, word_at, filled_at, section_at}
+use Rattle.abstract_locks.specs.Locks.{LockState, Sort, Recursive, Semaphore, Once, Rules, Knows, IsSomePending, times, standing, readers, count, has_caller, Owns}
+use Rattle.abstract_locks.specs.Onces.{InProgress, IsRunning}
 use Rattle.abstract_locks.specs.Codes.{word_by, parked_in, aside_in}
 use Rattle.abstract_locks.specs.Runs.{AreLockStates}
 use Rattle.abstract_locks.specs.Sites.{Line, Main, Second, IsOpen, counts_some, has_readers}
@@ -36,7 +37,8 @@ abbrev pub IsCoded : State → ℕ → Type 0
 IsCoded w l =
     word_at w l ≡ word_by (sort_at w l) (rules_in w l).limit (lock_state w l) (has_aside_bit w l) (has_parked_bit w l)
 
--- the thread has brought waiters of a condition variable to the lock, and is about to set its parked bit; no such call is built
+-- the thread has brought waiters of a condition variable to the lock, and is about to set its parked bit (no such call is built); or it has
+-- ended its run of a `Once`, has cleared the bit beside waiters, and is about to take them
 abbrev pub IsAboutToMark : State → ℕ → ℕ → Type 0
 IsAboutToMark w t l = (doing_on (place_at w t) l).sets ≡ true
 
@@ -111,6 +113,17 @@ pub record NobodyForgotten (w : State) : Type 0 where
   -- and so is a writer aside of whom nobody shares any more
   pub second : (l : ℕ) → (lock_state w l).aside ≢ None → readers (lock_state w l) ≡ 0 → IsLookedAfter w l Second
 
+-- some thread, which is awake, stands in no queue and isn't taken, owes a wake on the queue of the lock
+pub record IsOwedWake (w : State) (l : ℕ) : Type 0 where
+  pub debtor : ℕ
+  pub owes : Owes w debtor l Main
+  pub awake : act_of (place_at w debtor) ≢ Sleep
+  pub stands_nowhere : (k : ℕ) → standing debtor (lock_state w k) ≡ 0
+
+-- a thread is in its call of the lock, and runs its closure
+abbrev pub RunsClosure : State → ℕ → ℕ → Type 0
+RunsClosure w t l = (lock_of (place_at w t) ≡ Some l) × (runs_closure (act_of (place_at w t)) ≡ true)
+
 -- a thread sleeps, and stands in no queue, nor was it taken from one
 abbrev pub IsAsleepNowhere : State → ℕ → Type 0
 IsAsleepNowhere w t = (act_of (place_at w t) ≡ Sleep) × ((l : ℕ) → standing t (lock_state w l) ≡ 0)
@@ -146,6 +159,11 @@ pub record IsKept (w : State) : Type 0 where
   pub coded : (l : ℕ) → IsCoded w l
   pub limited : (l : ℕ) → has_readers (sort_at w l) ≡ true → IsWithinLimit (rules_in w l) (lock_state w l)
   pub nobody_forgotten : NobodyForgotten w
+  -- a queued `call_once` of a `Once` that nobody runs has a thread, awake and in no queue, that owes on its queue
+  pub callers : (l : ℕ) → sort_at w l ≡ Once → has_caller (lock_state w l).queue ≡ true
+      → (IsRunning (lock_state w l).phase → ⊥) → IsOwedWake w l
+  -- who runs the closure of a call of a `Once` has its run
+  pub closures : (t l : ℕ) → RunsClosure w t l → (lock_state w l).phase ≡ InProgress t
   -- who is shown to owe a wake on a line is inside its section, or lets others in and is on its way into it
   pub owing : (t l : ℕ) (m : Line) → Owes w t l m ↔ (IsInside w t l m ⊎ GoesToWake w t l m)
   -- and only a lock that is shared has a second line

@@ -6,7 +6,7 @@ use Rattle.lot_base.specs.Lines.{times}
 use Rattle.lot_steps.specs.declared.places.Place.{Place}
 use Rattle.lot_steps.specs.declared.places.Place.TheVariants.{Idle, Mutex as OfMutex, RwLock as OfRwLock, Once as OfOnce}
 use Rattle.lot_base.specs.declared.wants.Want.{Want}
-use Rattle.abstract_locks.specs.Locks.{Rules, Mutex as OneOwner}
+use Rattle.abstract_locks.specs.Locks.{Rules, Mutex as OneOwner, Once as OnceSort}
 use Rattle.abstract_locks.specs.Sites.{Line, Main, Second, Site, IsSite, has_readers, after_deed, Needed}
 use Rattle.abstract_locks.specs.Codes.{code, parked_in, aside_in, HasLimit}
 use Rattle.abstract_locks.specs.Purposes.{rules_of}
@@ -107,12 +107,12 @@ is_mutex kind.TheVariants.Mutex = true
 is_mutex kind.TheVariants.Fair = true
 is_mutex k = false
 
--- a call is of a lock of its sort, and stands where it may; no call of a `Once` begins yet
+-- a call is of a lock of its sort, and stands where it may
 abbrev pub FitsItsLock : State → Place → Type 0
 FitsItsLock w Idle = Unit {0}
 FitsItsLock w (OfMutex l at) = is_mutex (kind_at w l) ≡ true
 FitsItsLock w (OfRwLock l a c) = Admits (rules_in w l) a × CallStands a c
-FitsItsLock w (OfOnce l at) = ⊥
+FitsItsLock w (OfOnce l at) = (rules_in w l).sort ≡ OnceSort
 
 pub record Stands (w : State) : Type 0 where
   pub sections : Sections (place_at w) (section_at w)

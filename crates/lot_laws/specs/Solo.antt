@@ -1,27 +1,31 @@
 -- What comes of a call whose thread steps alone.
 use Rattle.std.specs.Prelude.{ℕ, Bool, true, false, if◌then◌else◌, List, Option, Some, None, ◌≡◌, ◌≢◌, ◌≤◌, ◌++◌, ◌∷◌, [], length, replicate}
 use Rattle.lot_base.specs.declared.wants.Want.{Want}
-use Rattle.lot_base.specs.declared.wants.Want.TheVariants.{Exclusive, Shared}
+use Rattle.lot_base.specs.declared.wants.Want.TheVariants.{Exclusive, Shared, CallOnce, Wait}
 use Rattle.lot_acts.specs.declared.acts.Act.TheVariants.{Sleep}
 use Rattle.lot_calls.specs.declared.outcomes.Answer.{Answer}
 use Rattle.lot_calls.specs.declared.outcomes.Answer as answer
 use Rattle.lot_calls.specs.declared.outcomes.Outcome.{Outcome}
 use Rattle.lot_calls.specs.declared.outcomes.Outcome as outcome
+use Rattle.lot_calls.specs.declared.outcomes.OnceState.{OnceState}
+use Rattle.lot_calls.specs.declared.outcomes.OnceState as once_state
 use Rattle.lot_steps.specs.declared.places.Place.TheVariants.{Idle}
 use Rattle.lot_steps.specs.Steps.{act_of, lock_of}
-use Rattle.lot_machine.specs.Machine.{State, place_at, word_at, kind_at, section_at, go_of}
+use Rattle.lot_machine.specs.Machine.{State, place_at, word_at, kind_at, section_at, go_of, runs_closure}
 use Rattle.abstract_locks.specs.Locks.{Sort, Mutex, Recursive, Rules, LockState, first_thread, Queued, MayEnter, IsBlocked, Owns, count, readers, with_right}
 use Rattle.abstract_locks.specs.Sites.{Line, Main, Second, has_readers}
-use Rattle.abstract_locks.specs.Purposes.{rules_of, Purpose, Enters, Releases, Converts, Bumps, Patience, Patient, Try}
+use Rattle.abstract_locks.specs.Purposes.{rules_of, Purpose, Enters, Releases, Converts, Bumps, CallsOnce, Awaits, Patience, Patient, Try}
 use Rattle.abstract_locks.specs.Codes.{has_parked}
+use Rattle.abstract_locks.specs.Onces.{Phase, New, Poisoned, InProgress, Done}
 use Rattle.abstract_locks.specs.Runs.{LocksState, IsFull, IsRun, rules_at, rights_in}
 use Rattle.lot_laws.specs.SitesOf.{key_of}
 use Rattle.lot_laws.specs.Refinement.{locks_of}
 use Rattle.lot_laws.specs.WorldRuns.{IsWorldRun}
 
--- the thread is in a call, and isn't asleep
+-- the thread is in a call, isn't asleep, and isn't in its closure
 abbrev pub IsUnderWay : State → ℕ → Type 0
-IsUnderWay w t = (place_at w t ≢ Idle) × (act_of (place_at w t) ≢ Sleep)
+IsUnderWay w t =
+    (place_at w t ≢ Idle) × (act_of (place_at w t) ≢ Sleep) × (runs_closure (act_of (place_at w t)) ≡ false)
 
 -- a lock that is shared has a second line
 abbrev pub HasLine : Sort → Line → Type 0
@@ -131,6 +135,24 @@ pub record BumpsShared (unparked : Type 0) (w : LocksState) (t l : ℕ) (x : Wan
   pub stays : NeedsNoWay unparked (rules_at w l) (w.locks l) x
       → (o ≡ outcome.TheVariants.End answer.TheVariants.Ok) × Owns (v.locks l) t x
 
+-- its closure begins, told what the run found
+abbrev pub RunsAlone : OnceState → ℕ → Outcome → LockState → Type 0
+RunsAlone found t o s2 = (o ≡ outcome.TheVariants.Closure found) × (s2.phase ≡ InProgress t)
+
+-- what a call comes to that runs a closure, by how far the `Once` has come
+abbrev pub CallsOnceAlone : Phase → LockState → ℕ → Bool → Outcome → LockState → Type 0
+CallsOnceAlone New s t forced o s2 = RunsAlone once_state.TheVariants.New t o s2
+CallsOnceAlone Poisoned s t true o s2 = RunsAlone once_state.TheVariants.Poisoned t o s2
+CallsOnceAlone Poisoned s t false o s2 = o ≡ outcome.TheVariants.End answer.TheVariants.Poisoned
+CallsOnceAlone (InProgress runner) s t forced o s2 = SleepsLast s t CallOnce o s2
+CallsOnceAlone Done s t forced o s2 = o ≡ outcome.TheVariants.End answer.TheVariants.Ok
+
+-- what a call comes to that waits for another's run
+abbrev pub AwaitsAlone : Phase → LockState → ℕ → Bool → Outcome → LockState → Type 0
+AwaitsAlone Done s t forced o s2 = o ≡ outcome.TheVariants.End answer.TheVariants.Ok
+AwaitsAlone Poisoned s t false o s2 = o ≡ outcome.TheVariants.End answer.TheVariants.Poisoned
+AwaitsAlone phase s t forced o s2 = SleepsLast s t Wait o s2
+
 abbrev pub EndsBy : (ℕ → ℕ) → LocksState → ℕ → Option Purpose → Outcome → LocksState → Type 0
 EndsBy words w t (Some (Enters l x how)) o v = EntersAlone (words l ≡ 0) w t l x how o v
 EndsBy words w t (Some (Releases l x fair)) o v = ReleasesAlone w t l x fair o v
@@ -138,7 +160,9 @@ EndsBy words w t (Some (Converts l x y how)) o v = ConvertsAlone (w.locks l) t y
 EndsBy words w t (Some (Bumps l x)) o v =
     ((rules_at w l).sort ≡ Mutex → BumpsAlone t l (w.locks l).queue o (v.locks l))
     × (has_readers (rules_at w l).sort ≡ true → BumpsShared (has_parked (words l) ≡ false) w t l x o v)
-EndsBy words w t purpose o v = Unit {0}
+EndsBy words w t (Some (CallsOnce l forced)) o v = CallsOnceAlone (w.locks l).phase (w.locks l) t forced o (v.locks l)
+EndsBy words w t (Some (Awaits l forced)) o v = AwaitsAlone (w.locks l).phase (w.locks l) t forced o (v.locks l)
+EndsBy words w t None o v = Unit {0}
 
 -- what a call comes to, by what it is for
 abbrev pub EndsAlone : State → ℕ → Option Purpose → Outcome → State → Type 0

@@ -36,6 +36,7 @@ pub data Stage : Type 0 where
 abbrev pub call_at : NamedCall → ℕ → Call
 call_at (calling.Mutex call) lock = calls.TheVariants.Mutex lock call
 call_at (calling.RwLock call) lock = calls.TheVariants.RwLock lock call
+call_at (calling.Once call) lock = calls.TheVariants.Once lock call
 
 abbrev pub call_named : List (List ℕ) → NamedCall → List ℕ → Option Call
 call_named names call name = option_map (call_at call) (lock_named names name)
@@ -46,6 +47,8 @@ action_of names (named.TheVariants.Begin call name) =
 action_of names named.TheVariants.Go = Some (actions.TheVariants.Turn turns.TheVariants.Go)
 action_of names named.TheVariants.Spin = Some (actions.TheVariants.Turn turns.TheVariants.Spin)
 action_of names named.TheVariants.Late = Some (actions.TheVariants.Turn turns.TheVariants.Late)
+action_of names named.TheVariants.Ok = Some (actions.TheVariants.Turn turns.TheVariants.Ok)
+action_of names named.TheVariants.Err = Some (actions.TheVariants.Turn turns.TheVariants.Err)
 action_of names named.TheVariants.Solo = Some actions.TheVariants.Solo
 action_of names (named.TheVariants.Do call name) = option_map actions.TheVariants.Do (call_named names call name)
 

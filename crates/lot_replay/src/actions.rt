@@ -26,6 +26,8 @@ pub fn action_of(names: &[Name], turn: NamedTurn) -> Option<Action>
         NamedTurn::Go => Some(Action::Turn(Turn::Go)),
         NamedTurn::Spin => Some(Action::Turn(Turn::Spin)),
         NamedTurn::Late => Some(Action::Turn(Turn::Late)),
+        NamedTurn::Ok => Some(Action::Turn(Turn::Ok)),
+        NamedTurn::Err => Some(Action::Turn(Turn::Err)),
         NamedTurn::Solo => Some(Action::Solo),
         NamedTurn::Do { call, name } => {
             let call = call_named(names, call, name)?;
@@ -41,6 +43,7 @@ fn call_named(names: &[Name], call: NamedCall, name: Name) -> Option<Call>
     Some(match call {
         NamedCall::Mutex(call) => Call::Mutex { lock, call },
         NamedCall::RwLock(call) => Call::RwLock { lock, call },
+        NamedCall::Once(call) => Call::Once { lock, call },
     })
 }
 

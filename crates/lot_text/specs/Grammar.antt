@@ -1,5 +1,5 @@
 -- What a line means.
-use Rattle.std.specs.Prelude.{ℕ, ◌+◌, ◌-◌, ◌*◌, Bool, not, ◌&&◌, ◌||◌, List, [], ◌∷◌, length, slice_index, nat_lt, nat_le, ◌==◌, if◌then◌else◌, codes, Option, None, Some, option_map, option_and_then}
+use Rattle.std.specs.Prelude.{ℕ, ◌+◌, ◌-◌, ◌*◌, Bool, true, false, not, ◌&&◌, ◌||◌, List, [], ◌∷◌, length, slice_index, nat_lt, nat_le, ◌==◌, if◌then◌else◌, codes, Option, None, Some, option_map, option_and_then}
 use Rattle.std.specs.List.{slice_split}
 use Rattle.std.specs.Str.{bytes_eq}
 use Rattle.lot_calls.specs.declared.kinds.Kind.{Kind}
@@ -8,6 +8,8 @@ use Rattle.lot_calls.specs.declared.calls.MutexCall.{MutexCall}
 use Rattle.lot_calls.specs.declared.calls.MutexCall as mutex
 use Rattle.lot_calls.specs.declared.calls.RwLockCall.{RwLockCall}
 use Rattle.lot_calls.specs.declared.calls.RwLockCall.TheVariants.{Enter, Release, ReleaseFair, Downgrade, Upgrade, Bump}
+use Rattle.lot_calls.specs.declared.calls.OnceCall.{OnceCall}
+use Rattle.lot_calls.specs.declared.calls.OnceCall.TheVariants.{CallOnce, Wait}
 use Rattle.lot_calls.specs.declared.calls.Access.TheVariants.{Shared, Upgradable, Exclusive}
 use Rattle.lot_calls.specs.declared.calls.Downgrade.TheVariants.{ToShared, ToUpgradable, UpgradableToShared}
 use Rattle.lot_calls.specs.declared.calls.Patience.TheVariants.{Patient, Timed, Try}
@@ -49,7 +51,8 @@ abbrev pub kind_of : List ℕ → Option Kind
 kind_of word =
     if bytes_eq word (codes "mutex") then Some kind.TheVariants.Mutex
     else (if bytes_eq word (codes "fair") then Some kind.TheVariants.Fair
-    else limited_kind_of word (Some MOST_READERS))
+    else (if bytes_eq word (codes "once") then Some kind.TheVariants.Once
+    else limited_kind_of word (Some MOST_READERS)))
 
 abbrev pub mutex_call_of : List ℕ → Option MutexCall
 mutex_call_of word =
@@ -100,14 +103,30 @@ other_call_of word =
     else (if bytes_eq word (codes "try_upgrade") then Some (Upgrade Try)
     else fair_call_of word))))))))
 
+abbrev pub once_call_of : List ℕ → Option OnceCall
+once_call_of word =
+    if bytes_eq word (codes "call_once") then Some (CallOnce false)
+    else (if bytes_eq word (codes "call_once_force") then Some (CallOnce true)
+    else (if bytes_eq word (codes "wait") then Some (Wait false)
+    else (if bytes_eq word (codes "wait_force") then Some (Wait true)
+    else None)))
+
 -- the first of them that is there
-abbrev pub first_call : Option MutexCall → Option RwLockCall → Option RwLockCall → Option NamedCall
-first_call (Some c) enters other = Some (call.TheVariants.Mutex c)
-first_call None (Some c) other = Some (call.TheVariants.RwLock c)
-first_call None None other = option_map call.TheVariants.RwLock other
+abbrev pub first_call : Option MutexCall → Option RwLockCall → Option RwLockCall → Option OnceCall → Option NamedCall
+first_call (Some c) enters other once = Some (call.TheVariants.Mutex c)
+first_call None (Some c) other once = Some (call.TheVariants.RwLock c)
+first_call None None (Some c) once = Some (call.TheVariants.RwLock c)
+first_call None None None once = option_map call.TheVariants.Once once
 
 abbrev pub call_of : List ℕ → Option NamedCall
-call_of word = first_call (mutex_call_of word) (entering_call_of word) (other_call_of word)
+call_of word = first_call (mutex_call_of word) (entering_call_of word) (other_call_of word) (once_call_of word)
+
+-- a turn by which a closure answers
+abbrev pub closing_turn_of : List ℕ → Option NamedTurn
+closing_turn_of word =
+    if bytes_eq word (codes "ok") then Some turn.TheVariants.Ok
+    else (if bytes_eq word (codes "err") then Some turn.TheVariants.Err
+    else None)
 
 -- a turn that calls no lock
 abbrev pub turn_of : List ℕ → Option NamedTurn
@@ -116,7 +135,7 @@ turn_of word =
     else (if bytes_eq word (codes "solo") then Some turn.TheVariants.Solo
     else (if bytes_eq word (codes "spin") then Some turn.TheVariants.Spin
     else (if bytes_eq word (codes "late") then Some turn.TheVariants.Late
-    else None)))
+    else closing_turn_of word)))
 
 -- a turn that calls a lock
 abbrev pub calling_turn_of : List ℕ → NamedCall → List ℕ → Option NamedTurn

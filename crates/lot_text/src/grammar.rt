@@ -1,11 +1,11 @@
 //! What a line means.
 ghost use Rattle.std.specs.Prelude.{ℕ, List, Some, decimal, ◌^◌, ◌≡◌, ◌≢◌, ◌<◌, ◌≤◌, [], ◌∷◌, length, take, slice_index, All, MatchOption};
 ghost use Rattle.lot_text.specs.Names.{name_of};
-ghost use Rattle.lot_text.specs.Grammar.{words_of, number_of, digits_after, kind_of, limited_kind_of, mutex_call_of, entering_call_of, fair_call_of, other_call_of, call_of, turn_of, calling_turn_of, lock_command, turn_command, calling_command_of, command_of, meaning};
+ghost use Rattle.lot_text.specs.Grammar.{words_of, number_of, digits_after, kind_of, limited_kind_of, mutex_call_of, entering_call_of, fair_call_of, other_call_of, once_call_of, call_of, turn_of, closing_turn_of, calling_turn_of, lock_command, turn_command, calling_command_of, command_of, meaning};
 
 use crate::names::Name;
 use lot_calls::kinds::MOST_READERS;
-use lot_calls::{Access, Downgrade, Kind, MutexCall, Patience, RwLockCall};
+use lot_calls::{Access, Downgrade, Kind, MutexCall, OnceCall, Patience, RwLockCall};
 
 /// The most digits of a number. All such numbers fit.
 const MOST_DIGITS: usize = 19;
@@ -28,6 +28,7 @@ pub enum Command {
 pub enum NamedCall {
     Mutex(MutexCall),
     RwLock(RwLockCall),
+    Once(OnceCall),
 }
 
 /// What a thread does, of locks by their names.
@@ -41,6 +42,10 @@ pub enum NamedTurn {
     Spin,
     /// Its time is up, and it gives up a timed sleep.
     Late,
+    /// The closure of its call answers well, and it goes on.
+    Ok,
+    /// The closure of its call answers an error, and it goes on.
+    Err,
     /// It goes on alone.
     Solo,
     /// It begins a call, and goes on alone.
@@ -165,6 +170,19 @@ fn turn(word: &[u8]) -> Option<NamedTurn>
     } else if word == b"late".as_slice() {
         Some(NamedTurn::Late)
     } else {
+        closing_turn(word)
+    }
+}
+
+/// The turn that a word names, by which a closure answers.
+fn closing_turn(word: &[u8]) -> Option<NamedTurn>
+    ensures { result ≡ closing_turn_of word.now }
+{
+    if word == b"ok".as_slice() {
+        Some(NamedTurn::Ok)
+    } else if word == b"err".as_slice() {
+        Some(NamedTurn::Err)
+    } else {
         None
     }
 }
@@ -190,6 +208,8 @@ fn kind(word: &[u8]) -> Option<Kind>
         Some(Kind::Mutex)
     } else if word == b"fair".as_slice() {
         Some(Kind::Fair)
+    } else if word == b"once".as_slice() {
+        Some(Kind::Once)
     } else {
         limited_kind(word, MOST_READERS as usize)
     }
@@ -219,7 +239,10 @@ fn call(word: &[u8]) -> Option<NamedCall>
     if let Some(call) = entering_call(word) {
         return Some(NamedCall::RwLock(call));
     }
-    other_call(word).map(NamedCall::RwLock)
+    if let Some(call) = other_call(word) {
+        return Some(NamedCall::RwLock(call));
+    }
+    once_call(word).map(NamedCall::Once)
 }
 
 /// The call of a mutex that a word names.
@@ -319,6 +342,23 @@ fn fair_call(word: &[u8]) -> Option<RwLockCall>
         Some(RwLockCall::Bump(Access::Upgradable))
     } else if word == b"bump_exclusive".as_slice() {
         Some(RwLockCall::Bump(Access::Exclusive))
+    } else {
+        None
+    }
+}
+
+/// The call of a `Once` that a word names.
+fn once_call(word: &[u8]) -> Option<OnceCall>
+    ensures { result ≡ once_call_of word.now }
+{
+    if word == b"call_once".as_slice() {
+        Some(OnceCall::CallOnce { forced: false })
+    } else if word == b"call_once_force".as_slice() {
+        Some(OnceCall::CallOnce { forced: true })
+    } else if word == b"wait".as_slice() {
+        Some(OnceCall::Wait { forced: false })
+    } else if word == b"wait_force".as_slice() {
+        Some(OnceCall::Wait { forced: true })
     } else {
         None
     }

@@ -7,7 +7,7 @@ use crate::names::Name;
 use crate::output::Page;
 use arrayvec::ArrayVec;
 use lot_calls::{
-    Access, Answer, Downgrade, Kind, MutexCall, OnceState, Outcome, Patience, RwLockCall,
+    Access, Answer, Downgrade, Kind, MutexCall, OnceCall, OnceState, Outcome, Patience, RwLockCall,
 };
 
 /// Outcomes, as they are printed.
@@ -39,7 +39,7 @@ const OUTCOMES: [(Outcome, &str); 18] = [
 ];
 
 /// Lines without a meaning.
-const MALFORMED: [&str; 65] = [
+const MALFORMED: [&str; 69] = [
     // Blanks.
     "",
     " ",
@@ -77,7 +77,8 @@ const MALFORMED: [&str; 65] = [
     "lock m rwlock 01",
     "lock m rwlock 1 1",
     "lock m fair 1",
-    "lock m once",
+    "lock m Once",
+    "lock m once 1",
     "lock m Mutex",
     "lock M mutex",
     "lock 1m mutex",
@@ -92,8 +93,11 @@ const MALFORMED: [&str; 65] = [
     "0",
     "0 lately",
     "0 Go",
-    "0 ok",
-    "0 err",
+    "0 Ok",
+    "0 error",
+    "0 ok m",
+    "0 begin call_once",
+    "0 begin once m",
     "m go",
     "0 go m",
     "0 spin m",
@@ -114,10 +118,12 @@ const MALFORMED: [&str; 65] = [
 ];
 
 /// Lines of a thread's turn without a call.
-const TURNS: [(&str, NamedTurn); 4] = [
+const TURNS: [(&str, NamedTurn); 6] = [
     ("7 go", NamedTurn::Go),
     ("7 spin", NamedTurn::Spin),
     ("7 late", NamedTurn::Late),
+    ("7 ok", NamedTurn::Ok),
+    ("7 err", NamedTurn::Err),
     ("7 solo", NamedTurn::Solo),
 ];
 
@@ -255,6 +261,17 @@ const RWLOCK_CALLS: [(&str, RwLockCall); 24] = [
     ),
 ];
 
+/// Calls of a `Once`, by their names.
+const ONCE_CALLS: [(&str, OnceCall); 4] = [
+    ("3 begin call_once m", OnceCall::CallOnce { forced: false }),
+    (
+        "3 begin call_once_force m",
+        OnceCall::CallOnce { forced: true },
+    ),
+    ("3 begin wait m", OnceCall::Wait { forced: false }),
+    ("3 begin wait_force m", OnceCall::Wait { forced: true }),
+];
+
 #[test]
 fn malformed_lines_mean_nothing(rt: HostRuntime) {
     for line in MALFORMED {
@@ -330,6 +347,26 @@ fn reader_writer_calls_have_their_meaning(rt: HostRuntime) {
     for (line, call) in RWLOCK_CALLS {
         let thread = 3;
         let call = NamedCall::RwLock(call);
+        let begun = m.map(|name| Command::Turn {
+            thread,
+            turn: NamedTurn::Begin { call, name },
+        });
+        assert_eq!(rt; meaning(line.as_bytes()), begun);
+    }
+}
+
+#[test]
+fn calls_of_a_once_have_their_meaning(rt: HostRuntime) {
+    let m = Name::from_word(b"m");
+    assert!(rt; m.is_some());
+    let lock = m.map(|name| Command::Lock {
+        name,
+        kind: Kind::Once,
+    });
+    assert_eq!(rt; meaning(b"lock m once"), lock);
+    for (line, call) in ONCE_CALLS {
+        let thread = 3;
+        let call = NamedCall::Once(call);
         let begun = m.map(|name| Command::Turn {
             thread,
             turn: NamedTurn::Begin { call, name },
