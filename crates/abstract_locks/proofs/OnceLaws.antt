@@ -1,9 +1,9 @@
 -- Nothing leaves Done, and who waits to run is looked after.
-use Rattle.std.proofs.Common.{ℕ, Bool, true, false, Option, Some, None, if◌then◌else◌, ◌≡◌, ◌⊎◌, inl, inr, ◌∙◌, refl, arith}
+use Rattle.std.proofs.Common.{ℕ, Bool, true, false, Option, Some, None, if◌then◌else◌, ◌≡◌, ◌⊎◌, inl, inr, ◌∙◌, refl, sym, subst, arith}
 use Rattle.lot_base.specs.declared.wants.Want.{Want}
 use Rattle.lot_base.specs.declared.wants.Want.TheVariants.{Exclusive, Upgradable, Shared}
 use Rattle.abstract_locks.specs.Onces.{Done, OnceCase, Start, Finish, Fail, Rest, TakeAll, MayStart}
-use Rattle.abstract_locks.specs.Locks.{LockState, Pending, Enter, Pend, Settle, Leave, Convert, Park, Aside, TakeFirst, TakeAside, TakePicked, Wake, HandOff, Late, Rollback, OfOnce, OnceNeeds, once_after, Sort, Once, with_owner, without_owner, converted, falling_back, pending_for}
+use Rattle.abstract_locks.specs.Locks.{LockCase, LockState, Needs, Pending, Rules, after_case, Enter, Pend, Settle, Leave, Convert, Park, Aside, TakeFirst, TakeAside, TakePicked, Wake, HandOff, Late, Rollback, OfOnce, OnceNeeds, once_after, Sort, Once, with_owner, without_owner, converted, falling_back, pending_for}
 use Rattle.abstract_locks.specs.Sites.{Main, Doing, IsOpen, IsDebtor}
 use Rattle.abstract_locks.specs.OnceLaws.{NothingLeavesDone, CallersAreLookedAfter}
 use Rattle.abstract_locks.proofs.Hands.{is_handed}
@@ -47,22 +47,29 @@ once_stays Fail s t n e = absurd (let runs = n in cc)
 once_stays (Rest wanted forced) s t n e = e
 once_stays TakeAll s t n e = e
 
+-- only a case of a `Once` changes how far it has come
+pub phase_by : (r : Rules) (case : LockCase) (s : LockState) (t : ℕ) → ((after_case r case s t).phase ≡ s.phase) ⊎ ((c : OnceCase) × (case ≡ OfOnce c))
+phase_by r (Enter x) s t = inl (given t x s)
+phase_by r Pend s t = inl refl
+phase_by r Settle s t = inl refl
+phase_by r (Leave x) s t = inl (given_up t x s)
+phase_by r (Convert x y) s t = inl (turned t y (without_owner t x s) ∙ given_up t x s)
+phase_by r (Park x) s t = inl refl
+phase_by r Aside s t = inl refl
+phase_by r (TakeFirst x) s t = inl refl
+phase_by r (TakeAside u) s t = inl refl
+phase_by r (TakePicked start) s t = inl refl
+phase_by r Wake s t = inl refl
+phase_by r (HandOff x successor) s t = inl ((is_handed t x successor s).phase)
+phase_by r Late s t = inl refl
+phase_by r Rollback s t = inl (fallen t s.pending (record s { pending = None }))
+phase_by r (OfOnce c) s t = inr (c, refl)
+
 pub done_stays : NothingLeavesDone
-done_stays r (Enter x) s t n e = given t x s ∙ e
-done_stays r Pend s t n e = e
-done_stays r Settle s t n e = e
-done_stays r (Leave x) s t n e = given_up t x s ∙ e
-done_stays r (Convert x y) s t n e = turned t y (without_owner t x s) ∙ (given_up t x s ∙ e)
-done_stays r (Park x) s t n e = e
-done_stays r Aside s t n e = e
-done_stays r (TakeFirst x) s t n e = e
-done_stays r (TakeAside u) s t n e = e
-done_stays r (TakePicked start) s t n e = e
-done_stays r Wake s t n e = e
-done_stays r (HandOff x successor) s t n e = (is_handed t x successor s).phase ∙ e
-done_stays r Late s t n e = e
-done_stays r Rollback s t n e = fallen t s.pending (record s { pending = None }) ∙ e
-done_stays r (OfOnce case) s t n e = once_stays case s t n.1 e
+done_stays r case s t n e = elim (phase_by r case s t) [
+  | inl same ↦ same ∙ e
+  | inr once ↦ subst (λ x. Needs r x s t → (after_case r x s t).phase ≡ Done) (sym once.1) (λ m. once_stays once.0 s t m.1 e) n
+]
 
 -- of a `Once` nobody who tries again passes a turn on
 debt_of : (sort : Sort) (d : Doing) → sort ≡ Once → IsDebtor sort d → (d.wakes ≡ Some Main) ⊎ (d.covers ≡ true)

@@ -41,10 +41,12 @@ use Rattle.abstract_locks.specs.Codes.{has_aside}
 use Rattle.lot_steps.specs.declared.places.Place.{Place}
 use Rattle.lot_steps.specs.declared.places.Place.TheVariants.{Idle, RwLock}
 use Rattle.lot_steps.specs.Steps.{act_of, next_act, next_place, rwlock_does, rwlock_goes, shares_after}
-use Rattle.lot_machine.specs.Machine.{Alone as Ran, State, state_after_operation, after, alone_after, can_do, can_go, go_of, go_outcome, held, is_possible, owners_at, place_at, put, queue_at, queues_with_last, reply_to, solo, state_after_act, state_after_go, step_outcome, word_at}
+use Rattle.lot_machine.specs.Machine.{Alone as Ran, State, state_after_operation, after, alone_after, can_do, can_go, go_of, go_outcome, held, is_possible, owners_at, place_at, put, queue_at, queues_with_last, reply_to, runs_closure, solo, state_after_act, state_after_go, step_outcome, word_at}
 use Rattle.lot_machine.specs.Fits.{IsShaped, SameSize}
 use Rattle.lot_machine.proofs.Shape.{after_shaped, after_size, performed_counts, put_shaped}
 use Rattle.lot_laws.specs.SitesOf.{AreCounted, IsSteady, rules_in}
+use Rattle.lot_laws.proofs.Closures.{call_runs_none}
+use Rattle.lot_laws.proofs.RunsKept.{put_running}
 use Rattle.lot_laws.specs.Stations.{doing_on, station}
 use Rattle.lot_laws.specs.Refinement.{lock_seen, lock_state, taken_at}
 use Rattle.lot_laws.specs.Solo.{Rests}
@@ -443,6 +445,7 @@ module _ (t l : ℕ) (a : Admission) where
     shape = put_shaped w t (RwLock l a (Plain p)) f.shape f.lock;
     steady = plain_steady w p f.steady f.thread f.place shares may;
     counted = put_counted w t (RwLock l a (Plain p)) f.thread (sym (ap held f.place)) (λ k. nothing (l == k)) f.counted;
+    running = put_running w t (RwLock l a (Plain p)) (ap (λ q. runs_closure (act_of q)) f.place ∙ call_runs_none l a (Bump p)) f.running;
     thread = rw (length-set w.places t (RwLock l a (Plain p))) f.thread;
     lock = f.lock;
     place = get_or-set_same w.places t (RwLock l a (Plain p)) Idle f.thread;

@@ -127,7 +127,7 @@ pub record RunsOne (p : Place) : Type 0 where
   pub poisoned : Bool
   pub is : p ≡ Once lock (Run forced (run.Closure poisoned))
 
-course_runs_none : (l v : ℕ) (k : Course) → runs_closure (course_act l v k) ≡ false
+pub course_runs_none : (l v : ℕ) (k : Course) → runs_closure (course_act l v k) ≡ false
 course_runs_none l v (Ends answer) = refl
 course_runs_none l v Runs = refl
 course_runs_none l v Marks = refl

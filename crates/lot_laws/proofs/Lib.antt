@@ -87,3 +87,4 @@ pub mod OnceSolo
 pub mod Owing
 pub mod WorldRuns
 pub mod RowLaws
+pub mod RunsKept

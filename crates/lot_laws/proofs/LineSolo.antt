@@ -27,7 +27,8 @@ use Rattle.abstract_locks.specs.Sites.{Line, Main, Second}
 use Rattle.lot_machine.specs.Machine.{State, unlocked, place_at, word_at, section_at, queue_at, put, state_after_hand_over_by, state_after_operation, state_with_sections, queues_with_last, state_after_act, state_after_take, state_after_wake, state_after_go, go_outcome, reply_to, can_do, is_possible, after, step_outcome, go_of}
 use Rattle.lot_machine.specs.Fits.{IsShaped, SameSize}
 use Rattle.lot_machine.proofs.Shape.{after_shaped, after_size, main_key_there, performed_counts}
-use Rattle.lot_laws.specs.SitesOf.{AreCounted, IsSteady, key_of, stood_in}
+use Rattle.lot_laws.specs.SitesOf.{AreCounted, IsSteady, RunsInClosures, key_of, stood_in}
+use Rattle.lot_laws.proofs.RunsKept.{running_after}
 use Rattle.lot_laws.specs.Stations.{station, station_at}
 use Rattle.lot_laws.proofs.Glue.{nothing_at}
 use Rattle.lot_laws.proofs.Counts.{without_absent}
@@ -39,6 +40,7 @@ pub record StepsAlone (w : State) (t l : ℕ) (p : Place) (v : ℕ) (q : Line �
   pub shape : IsShaped w
   pub steady : IsSteady w
   pub counted : AreCounted w
+  pub running : RunsInClosures w
   pub thread : t < length w.places
   pub lock : l < length w.locks
   pub place : place_at w t ≡ p
@@ -73,6 +75,7 @@ module _ (w : State) (t l : ℕ) (p : Place) (v : ℕ) (q : Line → List Waiter
       shape = after_shaped w (go_of t) f.shape;
       steady = after_steady w (go_of t) f.shape f.steady f.counted;
       counted = counted_after w (go_of t) f.shape f.steady f.counted;
+      running = running_after w (go_of t) f.shape f.steady f.counted f.running;
       thread = let size : SameSize w (after w (go_of t)) = after_size w (go_of t) in rw size.threads f.thread;
       lock = let size : SameSize w (after w (go_of t)) = after_size w (go_of t) in rw size.locks f.lock;
       place = ap (λ (x : State). place_at x t) led ∙ get_or-set_same b.places t (next_place p reply) Idle (rw places f.thread);

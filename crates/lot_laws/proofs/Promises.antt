@@ -11,7 +11,7 @@ use Rattle.lot_steps.specs.Steps.{act_of, is_lock, lock_of, profile, retries_on}
 use Rattle.lot_machine.specs.Machine.{State, opening, place_at, after, kind_at, filled_at}
 use Rattle.lot_machine.specs.Fits.{IsShaped}
 use Rattle.lot_laws.specs.Stations.{Station, station_at, doing_on}
-use Rattle.lot_laws.specs.SitesOf.{AreCounted, IsSteady, rules_in}
+use Rattle.lot_laws.specs.SitesOf.{AreCounted, IsSteady, RunsInClosures, rules_in}
 use Rattle.abstract_locks.specs.Runs.{CallState, IsOpening}
 use Rattle.abstract_locks.specs.Locks.{LockState, Sort, Queued, Rights, Taken, opening_lock, Rules, IsSomePending, has_caller, rights_of, readers, count, standing}
 use Rattle.abstract_locks.specs.Onces.{InProgress, IsRunning}
@@ -19,9 +19,9 @@ use Rattle.abstract_locks.specs.Locks as sorts
 use Rattle.abstract_locks.specs.Sites.{Doing, Line, Main, Second, Has, Pends, Runs, IsOpen, counts_some, has_readers, idle}
 use Rattle.abstract_locks.specs.Codes.{HasLimit}
 use Rattle.abstract_locks.specs.Purposes.{Enters, Converts, Bumps, CallsOnce, Awaits, Purpose, MayWait, rules_of}
-use Rattle.lot_laws.specs.Refinement.{locks_of, lock_state, lock_seen, taken_at, call_at, call_on, call_state, stance_of}
+use Rattle.lot_laws.specs.Refinement.{RunsClosure, locks_of, lock_state, lock_seen, taken_at, call_at, call_on, call_state, stance_of}
 use Rattle.lot_laws.specs.Owing.{Owes, sort_at}
-use Rattle.lot_laws.specs.Promises.{IsKept, KnowsRights, WaitsFor, WakesWaiters, IsDebtorOf, IsLookedAfter, IsOpenNow, WasNeverFull, HasOrPends, IsHandedOver, IsOwedWake, IsWithinLimit, RunsClosure, want_of}
+use Rattle.lot_laws.specs.Promises.{IsKept, KnowsRights, WaitsFor, WakesWaiters, IsDebtorOf, IsLookedAfter, IsOpenNow, WasNeverFull, HasOrPends, IsHandedOver, IsOwedWake, IsWithinLimit, want_of}
 use Rattle.lot_laws.proofs.Closures.{runs_one}
 use Rattle.lot_laws.proofs.TurnsKept.{after_steady}
 use Rattle.lot_laws.proofs.SitesPromise.{not_empty}
@@ -232,8 +232,8 @@ module _ (w : State) (steady : IsSteady w) where
           | inr handed ↦ handed_at l e handed
         ]
 
-  pub kept : IsKept w
-  kept = record {
+  pub kept : RunsInClosures w → IsKept w
+  kept running = record {
     state = λ l. (steady.sites.site l).state;
     one_place = λ t l k h g. one_purpose (call_at w t).purpose l k (waits t l h) (waits t k g);
     waiting = waits;
@@ -242,7 +242,7 @@ module _ (w : State) (steady : IsSteady w) where
     limited = limited;
     nobody_forgotten = record { main = main; second = second };
     callers = callers;
-    closures = closures;
+    runs = λ t l. (running t l, closures t l);
     owing = λ t l m. owing_is w t steady l m;
     second_line = second_line;
     retrying = retrying;
@@ -251,12 +251,12 @@ module _ (w : State) (steady : IsSteady w) where
     aside_parked = λ l. (steady.sites.site l).aside_parked;
   }
 
-pub kept_after : (w : State) (s : Step) → IsShaped w → IsSteady w → AreCounted w → IsKept (after w s)
-kept_after w s shape steady counted = kept (after w s) (after_steady w s shape steady counted)
+pub kept_after : (w : State) (s : Step) → IsShaped w → IsSteady w → AreCounted w → RunsInClosures (after w s) → IsKept (after w s)
+kept_after w s shape steady counted running = kept (after w s) (after_steady w s shape steady counted) running
 
 -- ---------------------------------------------------------------- the opening state, of the abstract locks
 
-opening_state : (kinds : List Kind) (threads l : ℕ) → lock_state (opening kinds threads) l ≡ opening_lock (length (opening kinds threads).places)
+pub opening_state : (kinds : List Kind) (threads l : ℕ) → lock_state (opening kinds threads) l ≡ opening_lock (length (opening kinds threads).places)
 opening_state kinds threads l = λ i. lock_seen (opening_shares kinds threads l i) (nobody_owns kinds l i) (empty_at (2 * length kinds) (2 * l) i) (empty_at (2 * length kinds) (2 * l + 1) i) (λ u. taken_at (idle_at threads u i) l)
 
 pub opening_is : (kinds : List Kind) (threads : ℕ) → IsOpening (locks_of (opening kinds threads))

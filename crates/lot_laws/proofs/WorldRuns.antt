@@ -16,6 +16,7 @@ use Rattle.lot_laws.proofs.LockSteps.{after_step}
 use Rattle.lot_laws.proofs.OneThing.{one_thing, touches}
 use Rattle.lot_laws.specs.SitesOf.{IsWorld}
 use Rattle.lot_laws.proofs.Promises.{kept, kept_after}
+use Rattle.lot_laws.proofs.RunsKept.{running_after}
 use Rattle.lot_machine.proofs.Shape.{after_shaped}
 use Rattle.lot_laws.proofs.TurnsKept.{after_steady}
 
@@ -24,6 +25,7 @@ world_after w s h = record {
   shaped = after_shaped w s h.shaped;
   steady = after_steady w s h.shaped h.steady h.counted;
   counted = counted_after w s h.shaped h.steady h.counted;
+  running = running_after w s h.shaped h.steady h.counted h.running;
 }
 
 pub world_step : (w : State) (s : Step) → IsWorld w → IsWorldStep w s (step_outcome w s) (after w s)
@@ -33,12 +35,12 @@ world_step w s h = record {
   touches = touches w s;
   owing = owes_since w s h.shaped h.steady h.counted;
   fair = is_fair w s h.shaped h.steady h.counted;
-  kept = kept_after w s h.shaped h.steady h.counted;
+  kept = kept_after w s h.shaped h.steady h.counted (running_after w s h.shaped h.steady h.counted h.running);
 }
 
 -- what holds of each step of the abstract locks holds of each step of the world
 pub of_step : {law : LocksState → LocksState → Type 0} → OfEachStep law → (w : State) (s : Step) → IsWorld w → law (locks_of w) (locks_of (after w s))
-of_step each w s h = each (locks_of w) (locks_of (after w s)) s (step_outcome w s) (kept w h.steady).state (after_step w s h.shaped h.steady h.counted)
+of_step each w s h = each (locks_of w) (locks_of (after w s)) s (step_outcome w s) (kept w h.steady h.running).state (after_step w s h.shaped h.steady h.counted)
 
 pub world_run : (w : State) (ss : List Step) → IsWorld w → IsWorldRun w ss (step_outcomes w ss) (after_steps w ss)
 world_run w [] h = refl

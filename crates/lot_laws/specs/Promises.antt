@@ -7,15 +7,15 @@ use Rattle.lot_base.specs.declared.wants.Want.TheVariants.{Exclusive, Upgradable
 use Rattle.lot_acts.specs.declared.acts.Act.TheVariants.{Enter, Leave, Sleep}
 use Rattle.lot_acts.specs.declared.acts.Wakes as wakes
 use Rattle.lot_base.specs.declared.notes.Note.TheVariants.{HandOff}
-use Rattle.lot_steps.specs.Steps.{act_of, lock_of, taker, retries_on}
-use Rattle.lot_machine.specs.Machine.{State, place_at, runs_closure, word_at, filled_at, section_at}
+use Rattle.lot_steps.specs.Steps.{act_of, taker, retries_on}
+use Rattle.lot_machine.specs.Machine.{State, place_at, word_at, filled_at, section_at}
 use Rattle.abstract_locks.specs.Locks.{LockState, Sort, Recursive, Semaphore, Once, Rules, Knows, IsSomePending, times, standing, readers, count, has_caller, Owns}
 use Rattle.abstract_locks.specs.Onces.{InProgress, IsRunning}
 use Rattle.abstract_locks.specs.Codes.{word_by, parked_in, aside_in}
 use Rattle.abstract_locks.specs.Runs.{AreLockStates}
 use Rattle.abstract_locks.specs.Sites.{Line, Main, Second, IsOpen, counts_some, has_readers}
 use Rattle.abstract_locks.specs.Purposes.{Purpose, Enters, Releases, Converts, Bumps, CallsOnce, Awaits, MayWait}
-use Rattle.lot_laws.specs.Refinement.{lock_state, locks_of, call_at}
+use Rattle.lot_laws.specs.Refinement.{RunsClosure, lock_state, locks_of, call_at}
 use Rattle.lot_laws.specs.Stations.{doing_on}
 use Rattle.lot_laws.specs.SitesOf.{rules_in, key_of}
 use Rattle.lot_laws.specs.Owing.{Owes, IsInside, LetsOthersIn, sort_at}
@@ -120,10 +120,6 @@ pub record IsOwedWake (w : State) (l : ℕ) : Type 0 where
   pub awake : act_of (place_at w debtor) ≢ Sleep
   pub stands_nowhere : (k : ℕ) → standing debtor (lock_state w k) ≡ 0
 
--- a thread is in its call of the lock, and runs its closure
-abbrev pub RunsClosure : State → ℕ → ℕ → Type 0
-RunsClosure w t l = (lock_of (place_at w t) ≡ Some l) × (runs_closure (act_of (place_at w t)) ≡ true)
-
 -- a thread sleeps, and stands in no queue, nor was it taken from one
 abbrev pub IsAsleepNowhere : State → ℕ → Type 0
 IsAsleepNowhere w t = (act_of (place_at w t) ≡ Sleep) × ((l : ℕ) → standing t (lock_state w l) ≡ 0)
@@ -162,8 +158,8 @@ pub record IsKept (w : State) : Type 0 where
   -- a queued `call_once` of a `Once` that nobody runs has a thread, awake and in no queue, that owes on its queue
   pub callers : (l : ℕ) → sort_at w l ≡ Once → has_caller (lock_state w l).queue ≡ true
       → (IsRunning (lock_state w l).phase → ⊥) → IsOwedWake w l
-  -- who runs the closure of a call of a `Once` has its run
-  pub closures : (t l : ℕ) → RunsClosure w t l → (lock_state w l).phase ≡ InProgress t
+  -- a run of a `Once` is on exactly while its thread runs the closure of its call
+  pub runs : (t l : ℕ) → (lock_state w l).phase ≡ InProgress t ↔ RunsClosure w t l
   -- who is shown to owe a wake on a line is inside its section, or lets others in and is on its way into it
   pub owing : (t l : ℕ) (m : Line) → Owes w t l m ↔ (IsInside w t l m ⊎ GoesToWake w t l m)
   -- and only a lock that is shared has a second line

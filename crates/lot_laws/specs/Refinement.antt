@@ -78,6 +78,10 @@ locks_of w = record {
 abbrev pub call_at : State → ℕ → CallState
 call_at w t = (locks_of w).calls t
 
+-- a thread is in its call of the lock, and runs its closure
+abbrev pub RunsClosure : State → ℕ → ℕ → Type 0
+RunsClosure w t l = (lock_of (place_at w t) ≡ Some l) × (runs_closure (act_of (place_at w t)) ≡ true)
+
 -- a step changes one word at most, or queues whose sections its thread is in, never both
 abbrev pub ChangesOneThing : State → ℕ → State → Type 0
 ChangesOneThing w t v =

@@ -12,7 +12,8 @@ use Rattle.abstract_locks.specs.Codes.{code, parked_in, aside_in, HasLimit}
 use Rattle.abstract_locks.specs.Purposes.{rules_of}
 use Rattle.lot_machine.specs.Machine.{State, held, place_at, word_at, shares_at, sharers, successor_from, want_of_successor, wants_more_in_hand, filled_at, kind_at, queue_at, section_at}
 use Rattle.lot_machine.specs.Fits.{IsShaped}
-use Rattle.lot_laws.specs.Refinement.{lock_state}
+use Rattle.lot_laws.specs.Refinement.{RunsClosure, lock_state}
+use Rattle.abstract_locks.specs.Onces.{InProgress}
 use Rattle.lot_calls.specs.declared.kinds.Kind.{Kind}
 use Rattle.lot_calls.specs.declared.kinds.Kind as kind
 use Rattle.lot_rwlock.specs.declared.places.Admission.{Admission}
@@ -144,11 +145,18 @@ pub record IsCounted (w : State) (t : ℕ) (k : Counted) : Type 0 where
 abbrev pub AreCounted : State → Type 0
 AreCounted w = (t l : ℕ) (a : Admission) (c : RwLockCallPlace) (k : Counted) → place_at w t ≡ OfRwLock l a c → in_hand_of c ≡ Some k → IsCounted w t k
 
+-- ---------------------------------------------------------------- who runs a closure
+
+-- a run of a `Once` is on only while its thread runs the closure of its call
+abbrev pub RunsInClosures : State → Type 0
+RunsInClosures w = (t l : ℕ) → (lock_state w l).phase ≡ InProgress t → RunsClosure w t l
+
 -- what a world keeps from step to step
 pub record IsWorld (w : State) : Type 0 where
   pub shaped : IsShaped w
   pub steady : IsSteady w
   pub counted : AreCounted w
+  pub running : RunsInClosures w
 
 -- a step changes no number of threads or locks
 pub record SameNumbers (w v : State) : Type 0 where

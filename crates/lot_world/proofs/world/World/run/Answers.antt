@@ -23,12 +23,12 @@ loop-taken-preserved g c =
 pub returns-then-is_err-clause-kept_before : goal.returns-then-is_err-clause-kept_before
 returns-then-is_err-clause-kept_before g c =
     let before : IsWorld c.self.inside.machine = c.self.invariant in
-    rw (← c.self.view_is) (kept c.self.inside.machine before.steady)
+    rw (← c.self.view_is) (kept c.self.inside.machine before.steady before.running)
 
 pub returns-clause-kept_before : goal.returns-clause-kept_before
 returns-clause-kept_before g c =
     let before : IsWorld c.self.inside.machine = c.self.invariant in
-    rw (← c.self.view_is) (kept c.self.inside.machine before.steady)
+    rw (← c.self.view_is) (kept c.self.inside.machine before.steady before.running)
 
 pub returns-then-is_err-clause-stopped_refines : goal.returns-then-is_err-clause-stopped_refines
 returns-then-is_err-clause-stopped_refines g c =

@@ -2,10 +2,9 @@ use Rattle.lot_laws.specs.SitesOf.{IsWorld}
 use Rattle.lot_machine.proofs.Shape.{after_size}
 use Rattle.lot_laws.proofs.LockSteps.{after_step}
 use Rattle.lot_laws.proofs.OneThing.{one_thing, touches}
-use Rattle.lot_laws.proofs.Promises.{kept_after}
 use Rattle.lot_laws.proofs.Fair.{is_fair}
 use Rattle.lot_laws.proofs.Owing.{owes_since}
-use Rattle.lot_laws.proofs.WorldRuns.{of_step, world_after}
+use Rattle.lot_laws.proofs.WorldRuns.{of_step, world_after, world_step}
 use Rattle.abstract_locks.proofs.UserLaws.{readers_stay_out, rereaders_pass, upgrades_hold, downgrades_hold}
 use Rattle.lot_world.proofs.world.World.step.Goals as goal
 
@@ -26,7 +25,7 @@ returns-clause-one_thing g c =
 pub returns-clause-kept : goal.returns-clause-kept
 returns-clause-kept g c =
     let before : IsWorld c.self.inside.machine = c.self.invariant in
-    rw c.turn.ensures.state (kept_after c.self.inside.machine c.args.step before.shaped before.steady before.counted)
+    rw c.turn.ensures.state ((world_step c.self.inside.machine c.args.step before).kept)
 
 pub returns-clause-same_size : goal.returns-clause-same_size
 returns-clause-same_size g c = rw (c.turn.ensures.state, ← c.self.view_is) (after_size c.self.inside.machine c.args.step)
