@@ -6,7 +6,6 @@ use Rattle.lot_calls.specs.declared.calls.Access.TheVariants as access
 use Rattle.lot_calls.specs.declared.calls.Patience.{Patience}
 use Rattle.lot_calls.specs.declared.calls.Patience.TheVariants.{Patient}
 use Rattle.lot_calls.specs.declared.calls.RwLockCall.TheVariants as calls
-use Rattle.lot_calls.specs.declared.outcomes.Answer.{Answer}
 use Rattle.lot_calls.specs.declared.outcomes.Answer.TheVariants.{Ok, ReadersFull}
 use Rattle.lot_acts.specs.declared.acts.Act.TheVariants as act
 use Rattle.lot_base.specs.declared.ops.Op.TheVariants as op
@@ -14,10 +13,9 @@ use Rattle.lot_acts.specs.declared.acts.Next.{Next}
 use Rattle.lot_acts.specs.declared.acts.Next.TheVariants.{At, End}
 use Rattle.lot_acts.specs.declared.acts.Reply.{Reply}
 use Rattle.lot_acts.specs.declared.acts.Reply.TheVariants as reply
-use Rattle.lot_rwlock.specs.RwLockBegins.{rwlock_first}
 use Rattle.lot_rwlock.specs.RwLockCalls.{IsDecided}
 use Rattle.lot_rwlock.specs.RwLockProfiles.{rwlock_looking}
-use Rattle.lot_rwlock.specs.RwLockSteps.{rwlock_act, rwlock_next}
+use Rattle.lot_rwlock.specs.RwLockSteps.{rwlock_next}
 use Rattle.lot_rwlock.specs.declared.park.ParkAt.TheVariants as parking
 use Rattle.lot_rwlock.specs.declared.places.Admission.{Admission}
 use Rattle.lot_rwlock.specs.declared.places.RwLockAt.{RwLockAt}
@@ -40,7 +38,7 @@ use Rattle.lot_steps.specs.declared.places.Place.TheVariants.{RwLock}
 use Rattle.parking_lot_core.specs.declared.tokens.Token.{Token}
 use Rattle.lot_driver.specs.RwLockCalls.{HasWalkedCall}
 use Rattle.lot_driver.specs.RwLockRefusals.{SawFull}
-use Rattle.lot_driver.proofs.RwLockFull.{EndsBy, IsCalling, IsGoing, IsIn, Keeping, Keeps, accepting_act, act_going, entered_ends, gone_at, keeps_at, walked_full}
+use Rattle.lot_driver.proofs.RwLockFull.{IsCalling, IsGoing, IsIn, Keeping, Keeps, accepting_act, act_going, entered_ends, gone_at, keeps_at, walked_full}
 
 module _ (a : Admission) (x : Access) where
   abbrev leaves : RwLockPurpose

@@ -1,6 +1,7 @@
 -- What the calls of a `Once` did.
 use Rattle.std.specs.Prelude.{ℕ, ◌≡◌, ◌<◌, Bool, true, false, List, [], ◌++◌, Option, None}
 use Rattle.abstract_locks.specs.Codes.{is_marked}
+use Rattle.lot_acts.specs.declared.acts.Reply.TheVariants.{Value}
 use Rattle.lot_base.specs.declared.ops.Op.TheVariants.{Load, Swap}
 use Rattle.lot_calls.specs.declared.calls.OnceCall.{OnceCall}
 use Rattle.lot_calls.specs.declared.calls.OnceCall.TheVariants.{CallOnce}
@@ -18,8 +19,11 @@ use Rattle.parking_lot_core.specs.Tokens.{IsTokenOf}
 use Rattle.parking_lot_core.specs.declared.lot.ParkingLot.{ParkingLot}
 use Rattle.parking_lot_core.specs.declared.tokens.SectionRecord.{SectionRecord}
 use Rattle.parking_lot_core.specs.declared.tokens.Token.{Token}
+use Rattle.lot_driver.specs.Fitting.{Reached}
 use Rattle.lot_driver.specs.OnceFitting.{LooksAnswer, OwnsRun, WokeAll}
 use Rattle.lot_driver.specs.Paths.{Path, Walks, at_once, once_at, step}
+use Rattle.lot_driver.specs.Stages.{stage_of}
+use Rattle.lot_driver.specs.Telling.{owns_of, steps_of}
 use Rattle.lot_driver.specs.declared.once_calls.Look.{Look}
 use Rattle.lot_driver.specs.declared.once_calls.Look.TheVariants.{Ended, Runs}
 
@@ -68,6 +72,7 @@ Closes n succeeded old new last = (seen : ℕ) × (more : List WordStep)
 abbrev pub EndsRun : ℕ → Bool → Bool → List WordStep → List WordStep → Type 0
 EndsRun n forced succeeded old new = Walks (at_once n) (run_end n forced succeeded) old new (ended succeeded)
 
--- the word was loaded once, and said this
-abbrev pub LoadsOnce : ℕ → ℕ → List WordStep → List WordStep → Type 0
-LoadsOnce n seen old new = new ≡ old ++ step (once_at n) Load seen
+-- its thread loaded the word once and found this, and each call goes on from there
+abbrev pub HasSeen : ℕ → ℕ → Token → Token → Type 0
+HasSeen n seen old new = (new.number ≡ old.number) × (steps_of new ≡ steps_of old ++ step (once_at n) Load seen)
+    × ((c : OnceCall) → Reached ⊥ (owns_of old) (once_begin n c) (Value seen) (stage_of new None))

@@ -1,7 +1,5 @@
 //! The calls of a `Once`: up to its closure, and from behind that to its end.
-ghost use Rattle.std.specs.Prelude.{◌≡◌, ◌++◌, List, None, true};
-ghost use Rattle.lot_acts.specs.declared.acts.Reply.TheVariants.{Value};
-ghost use Rattle.lot_base.specs.declared.ops.Op.TheVariants.{Load};
+ghost use Rattle.std.specs.Prelude.{◌≡◌, List, None, true};
 ghost use Rattle.lot_once.specs.OnceSteps.{word_behind};
 ghost use Rattle.lot_once.specs.declared.places.OncePlace.TheVariants.{Run};
 ghost use Rattle.lot_once.specs.declared.run.RunAt.TheVariants.{Enter};
@@ -10,18 +8,17 @@ ghost use Rattle.lot_words.specs.Steps.{has, without};
 ghost use Rattle.lot_words.specs.Views.{owning};
 ghost use Rattle.lot_words.specs.declared.owners.Owner.TheVariants.{Runner};
 ghost use Rattle.lot_words.specs.declared.owners.Ownership.{Ownership};
-ghost use Rattle.lot_words.specs.declared.views.WordStep.{WordStep};
 ghost use Rattle.parking_lot_core.specs.Tokens.{IsSameThread, last_of};
-ghost use Rattle.lot_driver.specs.Fitting.{Reached};
-ghost use Rattle.lot_driver.specs.OnceCalls.{Closes, EndsRun, LookOwns, LooksBy, MeetsOnce, once_begin};
+ghost use Rattle.parking_lot_core.specs.declared.tokens.Token.{Token};
+ghost use Rattle.lot_driver.specs.OnceCalls.{Closes, EndsRun, HasSeen, LookOwns, LooksBy, MeetsOnce};
 ghost use Rattle.lot_driver.specs.OnceFitting.{IsRunOver, OwnsBehind};
-ghost use Rattle.lot_driver.specs.Paths.{Walks, at_once, once_at, step};
+ghost use Rattle.lot_driver.specs.Paths.{Walks, at_once, once_at};
 ghost use Rattle.lot_driver.specs.Stages.{stage_of};
 ghost use Rattle.lot_driver.specs.Telling.{owns_of, steps_of};
 
 use crate::driver::{NO_LIMIT, Stop, answer_of, run};
 use crate::words::Words;
-use lot_acts::bits::{is_done, is_marked};
+use lot_acts::bits::is_marked;
 use lot_calls::{Answer, OnceCall, OnceState};
 use lot_once::{DONE, OncePlace, POISONED, RunAt};
 use lot_steps::{Place, Reply, advance};
@@ -36,10 +33,20 @@ pub enum Look {
     Runs(OnceState),
 }
 
-// The rest of a call whose first step saw this, up to its closure.
+/// The step with which each call begins, as all callers make it themselves: where it sees DONE the call is over.
+#[inline]
+pub fn begin(lot: &ParkingLot, token: &mut Token, word: Word) -> u64
+    requires own { MeetsOnce lot.now token.old word }
+    ensures own { IsSameThread lot.now token.old token.new }
+    ensures seen { HasSeen word.number result token.old token.new }
+{
+    lot.word(token, word, Op::Load)
+}
+
+/// The rest of a call whose first step saw this, up to its closure.
 #[cold]
 #[inline(never)]
-fn begin_behind<R: Wait>(
+pub fn begin_behind<R: Wait>(
     rt: &R,
     lot: &ParkingLot,
     token: &mut Token,
@@ -48,14 +55,12 @@ fn begin_behind<R: Wait>(
     seen: u64,
 ) -> Look
     requires own { MeetsOnce lot.now token.old word }
-    requires reached { (base : List Ownership)
-        × Reached ⊥ base (once_begin word.number call) (Value seen) (stage_of token.old None) }
+    requires seen { (before : Token) × HasSeen word.number seen before token.old }
     ensures own { IsSameThread lot.now token.old token.new }
-    ensures path { (before : List WordStep) → steps_of token.old ≡ before ++ step (once_at word.number) Load seen
-        → LooksBy word.number call result before (steps_of token.new) }
-    ensures over { (base : List Ownership)
-        → Reached ⊥ base (once_begin word.number call) (Value seen) (stage_of token.old None)
-        → LookOwns word.number call result base (owns_of token.new) }
+    ensures path { (before : Token) → HasSeen word.number seen before token.old
+        → LooksBy word.number call result (steps_of before) (steps_of token.new) }
+    ensures over { (before : Token) → HasSeen word.number seen before token.old
+        → LookOwns word.number call result (owns_of before) (owns_of token.new) }
 {
     let first = Place::Once {
         lock: word.number(),
@@ -69,27 +74,6 @@ fn begin_behind<R: Wait>(
         Stop::Ended(answer) => Look::Ended(answer),
         Stop::Paused { state, .. } => Look::Runs(state),
     }
-}
-
-/// Looks how far a `Once` has come, and waits as the call does. Where the `Once` is done that is one step.
-#[inline]
-pub fn begin<R: Wait>(
-    rt: &R,
-    lot: &ParkingLot,
-    token: &mut Token,
-    word: Word,
-    call: OnceCall,
-) -> Look
-    requires own { MeetsOnce lot.now token.old word }
-    ensures own { IsSameThread lot.now token.old token.new }
-    ensures path { LooksBy word.number call result (steps_of token.old) (steps_of token.new) }
-    ensures over { LookOwns word.number call result (owns_of token.old) (owns_of token.new) }
-{
-    let seen = lot.word(token, word, Op::Load);
-    if is_done(seen) {
-        return Look::Ended(Answer::Ok);
-    }
-    begin_behind(rt, lot, token, word, call, seen)
 }
 
 // A run that has ended wakes all who wait.

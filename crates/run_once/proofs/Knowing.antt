@@ -1,5 +1,8 @@
 -- What a thread knows and owns behind a call of a `Once`.
-use Rattle.std.proofs.Common.{ℕ, zero, suc, ◌≡◌, Bool, true, false, List, ◌∷◌, refl, sym, ap, ◌∙◌, subst}
+use Rattle.std.proofs.Common.{ℕ, zero, suc, ◌≡◌, Bool, true, false, List, ◌∷◌, None, refl, sym, ap, ◌∙◌, subst}
+use Rattle.abstract_locks.specs.Codes.{is_done}
+use Rattle.lot_acts.specs.declared.acts.Act.{Act}
+use Rattle.lot_acts.specs.declared.acts.Reply.TheVariants.{Value}
 use Rattle.lot_calls.specs.declared.calls.OnceCall.{OnceCall}
 use Rattle.lot_calls.specs.declared.outcomes.Answer.{Answer}
 use Rattle.lot_calls.specs.declared.outcomes.Answer.TheVariants as answers
@@ -10,15 +13,19 @@ use Rattle.lot_words.specs.declared.owners.Ownership.{Ownership}
 use Rattle.lot_words.proofs.RwLockOwning.{first_goes, has_first}
 use Rattle.parking_lot_core.specs.declared.tokens.Token.{Token}
 use Rattle.parking_lot_core.specs.Tokens.{last_of}
-use Rattle.lot_calls.specs.declared.calls.OnceCall.TheVariants.{CallOnce}
+use Rattle.lot_calls.specs.declared.calls.OnceCall.TheVariants.{CallOnce, Wait}
 use Rattle.lot_calls.specs.declared.outcomes.OnceState.{OnceState}
-use Rattle.lot_driver.specs.OnceCalls.{Closes, ComesTo, EndsRun, LookOwns, LooksBy, in_closure, once_begin}
+use Rattle.lot_steps.specs.Steps.{next_place}
+use Rattle.lot_driver.specs.Fitting.{ReachedBy, aim_of, answer_of}
+use Rattle.lot_driver.specs.OnceCalls.{Closes, ComesTo, EndsRun, HasSeen, LookOwns, LooksBy, in_closure, once_begin}
 use Rattle.lot_driver.specs.OnceFitting.{LooksAnswer, OwnsBehind, OwnsKnowing, OwnsRun, knowing}
 use Rattle.lot_driver.specs.Paths.{once_at}
+use Rattle.lot_driver.specs.Stages.{stage_of}
 use Rattle.lot_driver.specs.Telling.{owns_of, steps_of}
 use Rattle.lot_driver.specs.declared.once_calls.Look.{Look}
 use Rattle.lot_driver.specs.declared.once_calls.Look.TheVariants.{Ended, Runs}
-use Rattle.run_once.specs.Looks.{Began, EndedBy, MatchLook, Tells, is_ok}
+use Rattle.lot_driver.proofs.OnceCalling.{done_ends, looks_ended}
+use Rattle.run_once.specs.Looks.{Began, EndedBy, FoundDone, MatchLook, Tells, is_ok}
 use Rattle.run_once.specs.Ran.{HasRun, StaysKnowing}
 
 module _ (n : ℕ) where
@@ -57,9 +64,14 @@ module _ (n : ℕ) where
   answer_tells c answer old new h = absurd h
 
   pub came_to : (c : OnceCall) (old new : Token) (look : Look) → new.number ≡ old.number → LooksBy n c look (steps_of old) (steps_of new) → LookOwns n c look (owns_of old) (owns_of new)
-      → MatchLook look (λ answer. StaysKnowing n old new × EndedBy n c answer old new) (λ state. OwnsRun n (owns_of old) (owns_of new) × Began n c state old new)
+      → MatchLook look (λ answer. StaysKnowing n old new × EndedBy n c answer old new) (λ state. (new.number ≡ old.number) × OwnsRun n (owns_of old) (owns_of new) × Began n c state old new)
   came_to c old new (Ended answer) same by over = ((same, answer_stays c (owns_of old) (owns_of new) answer over), (by, answer_tells c answer old new over))
-  came_to c old new (Runs state) same by over = (over, by)
+  came_to c old new (Runs state) same by over = (same, over, by)
+
+  -- who finds it done knows it, and any call ends with that
+  pub found_done : (seen : ℕ) (old new : Token) → is_done seen ≡ true → HasSeen n seen old new → FoundDone n old new
+  found_done seen old new done saw = let call = Wait true in let over = subst (λ (a : Act). ReachedBy ⊥ (owns_of old) (aim_of (once_begin n call)) (next_place (once_begin n call) (Value seen)) (answer_of a) (stage_of new None)) (done_ends n call seen done) (saw.2 call) in
+      (saw.0, stays_of true (owns_of old) (owns_of new) over.1, over.1, λ (c : OnceCall). looks_ended n c seen (steps_of old) (steps_of new) answers.Ok saw.1 (done_ends n c seen done))
 
   -- a call that came to its closure, and ended its run
   pub has_run_by : (forced s : Bool) (state : OnceState) (old mid new : Token) → Began n (CallOnce forced) state old mid → EndsRun n forced s (steps_of mid) (steps_of new) → Closes n s (steps_of mid) (steps_of new) (last_of new) → HasRun n forced s state old new

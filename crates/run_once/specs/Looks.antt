@@ -8,7 +8,7 @@ use Rattle.lot_calls.specs.declared.outcomes.OnceState.{OnceState}
 use Rattle.lot_once.specs.OnceSteps.{is_forced, state_before}
 use Rattle.parking_lot_core.specs.declared.tokens.Token.{Token}
 use Rattle.lot_driver.specs.OnceCalls.{ComesTo, in_closure, once_begin}
-use Rattle.lot_driver.specs.OnceFitting.{KnowsIt}
+use Rattle.lot_driver.specs.OnceFitting.{KnowsIt, OwnsKnowing}
 use Rattle.lot_driver.specs.Paths.{Walks, at_once}
 use Rattle.lot_driver.specs.Telling.{owns_of, steps_of}
 use Rattle.lot_driver.specs.declared.once_calls.Look.{Look}
@@ -37,3 +37,8 @@ abbrev pub Began : ℕ → OnceCall → OnceState → Token → Token → Type 0
 Began n c state old new = (forced : Bool) × (poisoned : Bool) × (c ≡ CallOnce forced)
     × (state ≡ state_before poisoned)
     × ComesTo n (once_begin n c) (steps_of old) (steps_of new) (in_closure n forced poisoned)
+
+-- its first step found it done, and was all of any call
+abbrev pub FoundDone : ℕ → Token → Token → Type 0
+FoundDone n old new = (new.number ≡ old.number) × OwnsKnowing n (owns_of old) (owns_of new) × KnowsIt n (owns_of old) (owns_of new)
+    × ((c : OnceCall) → Walks (at_once n) (once_begin n c) (steps_of old) (steps_of new) answers.Ok)

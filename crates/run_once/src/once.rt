@@ -9,15 +9,16 @@ ghost use Rattle.lot_words.specs.Lots.{IsWordOf};
 ghost use Rattle.lot_words.specs.declared.words.WordKind.TheVariants as kinds;
 ghost use Rattle.lot_words.specs.declared.owners.Ownership.{Ownership};
 ghost use Rattle.parking_lot_core.specs.Tokens.{IsTokenOf, last_of, view_of};
-ghost use Rattle.lot_driver.specs.OnceCalls.{Closes, EndsRun};
+ghost use Rattle.lot_driver.specs.OnceCalls.{Closes, EndsRun, HasSeen};
 ghost use Rattle.lot_driver.specs.OnceFitting.{OwnsBehind, OwnsKnowing, OwnsRun};
 ghost use Rattle.lot_driver.specs.Telling.{owns_of, steps_of};
-ghost use Rattle.run_once.specs.Looks.{Began, EndedBy, MatchLook, is_ok};
+ghost use Rattle.parking_lot_core.specs.declared.tokens.Token.{Token};
+ghost use Rattle.run_once.specs.Looks.{Began, EndedBy, FoundDone, MatchLook, is_ok};
 
 use lot_acts::bits::{is_done, is_poisoned, is_running};
 use lot_base::main_key;
 use lot_calls::{Answer, OnceCall, OnceState};
-use lot_driver::once_calls::{Look, begin, close};
+use lot_driver::once_calls::{Look, begin, begin_behind, close};
 use lot_once::{DONE, RUNNING};
 use lot_words::laws::once_may_step;
 use parking_lot_core::{Fault, Key, Op, ParkingLot, Token, Word, WordKind};
@@ -163,18 +164,30 @@ impl Once {
         is_done(self.load(token))
     }
 
-    // A call, up to its end or its closure.
+    // The step with which each call begins.
     #[inline]
-    fn look<R: Wait>(&self, rt: &R, token: &mut Token, call: OnceCall) -> Look
+    fn begin(&self, token: &mut Token) -> u64
         requires { IsTokenOf (lot_of self.now) token.old }
-        ensures token { IsTokenOf (lot_of self.now) token.new × (token.new.number ≡ token.old.number) }
-        ensures came { MatchLook result
-            (λ answer. StaysKnowing (number_of self.now) token.old token.new
-            × EndedBy (number_of self.now) call answer token.old token.new)
-            (λ state. OwnsRun (number_of self.now) (owns_of token.old) (owns_of token.new)
-            × Began (number_of self.now) call state token.old token.new) }
+        ensures token { IsTokenOf (lot_of self.now) token.new }
+        ensures seen { HasSeen (number_of self.now) result token.old token.new }
+        ensures done { is_done result ≡ true → FoundDone (number_of self.now) token.old token.new }
     {
-        begin(rt, &self.lot, token, self.word, call)
+        begin(&self.lot, token, self.word)
+    }
+
+    // The rest of a call whose first step saw this, up to its end or its closure.
+    #[inline]
+    fn go_on<R: Wait>(&self, rt: &R, token: &mut Token, call: OnceCall, seen: u64) -> Look
+        requires own { IsTokenOf (lot_of self.now) token.old }
+        requires seen { (before : Token) × HasSeen (number_of self.now) seen before token.old }
+        ensures token { IsTokenOf (lot_of self.now) token.new }
+        ensures came { (before : Token) → HasSeen (number_of self.now) seen before token.old
+            → MatchLook result (λ answer. StaysKnowing (number_of self.now) before token.new
+            × EndedBy (number_of self.now) call answer before token.new)
+            (λ state. (token.new.number ≡ before.number) × OwnsRun (number_of self.now) (owns_of before) (owns_of token.new)
+            × Began (number_of self.now) call state before token.new) }
+    {
+        begin_behind(rt, &self.lot, token, self.word, call, seen)
     }
 
     // The run of who has run the closure ends.
@@ -202,8 +215,12 @@ impl Once {
         ensures token { IsTokenOf (lot_of self.now) token.new × StaysKnowing (number_of self.now) token.old token.new }
         ensures waited { Waited (number_of self.now) token.old token.new result }
     {
+        let seen = self.begin(token);
+        if is_done(seen) {
+            return Ok(());
+        }
         let call = OnceCall::Wait { forced: false };
-        match self.look(rt, token, call) {
+        match self.go_on(rt, token, call, seen) {
             Look::Ended(answer) => if is_ok(answer) {
                 Ok(())
             } else {
@@ -221,8 +238,12 @@ impl Once {
         ensures done { SawDone (number_of self.now) token.old token.new }
         ensures path { HasLooked (number_of self.now) (calls.Wait true) answers.Ok token.old token.new }
     {
+        let seen = self.begin(token);
+        if is_done(seen) {
+            return;
+        }
         let call = OnceCall::Wait { forced: true };
-        match self.look(rt, token, call) {
+        match self.go_on(rt, token, call, seen) {
             Look::Ended(_) => {}
             Look::Runs(_) => unreachable!(),
         }
@@ -245,7 +266,12 @@ impl Once {
         ensures token { IsTokenOf (lot_of self.now) token.new × StaysKnowing (number_of self.now) token.old token.new }
         ensures ran { CalledOnce (number_of self.now) false (λ _ answer. F.post f answer) token.old token.new result }
     {
-        match self.look(rt, token, OnceCall::CallOnce { forced: false }) {
+        let seen = self.begin(token);
+        if is_done(seen) {
+            return Ok(());
+        }
+        let call = OnceCall::CallOnce { forced: false };
+        match self.go_on(rt, token, call, seen) {
             Look::Ended(answer) => if is_ok(answer) {
                 Ok(())
             } else {
@@ -281,7 +307,12 @@ impl Once {
         ensures token { IsTokenOf (lot_of self.now) token.new × StaysKnowing (number_of self.now) token.old token.new }
         ensures ran { CalledOnce (number_of self.now) true (λ state answer. F.post f state answer) token.old token.new result }
     {
-        match self.look(rt, token, OnceCall::CallOnce { forced: true }) {
+        let seen = self.begin(token);
+        if is_done(seen) {
+            return Ok(());
+        }
+        let call = OnceCall::CallOnce { forced: true };
+        match self.go_on(rt, token, call, seen) {
             Look::Ended(_) => Ok(()),
             Look::Runs(state) => match f(state) {
                 Ok(()) => {

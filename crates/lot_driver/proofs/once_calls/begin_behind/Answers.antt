@@ -1,13 +1,13 @@
-use Rattle.std.proofs.Common.{rules, ℕ, ◌≡◌, ◌∙◌, None, Some, List, ap, sym, subst}
+use Rattle.std.proofs.Common.{rules, ℕ, ◌≡◌, ◌∙◌, None, Some, ap, sym, subst}
 use Rattle.lot_acts.specs.declared.acts.Reply.TheVariants.{Value}
 use Rattle.lot_steps.specs.Steps.{next_act, next_place}
 use Rattle.lot_steps.specs.declared.places.Place.{Place}
-use Rattle.lot_words.specs.declared.owners.Ownership.{Ownership}
+use Rattle.parking_lot_core.specs.declared.tokens.Token.{Token}
 use Rattle.lot_driver.specs.Fitting.{Aim, Fits, IsStopped, aim_of, answer_of}
 use Rattle.lot_driver.specs.OnceCalls.{in_closure, once_begin}
 use Rattle.lot_driver.specs.Paths.{Runs, Walks}
 use Rattle.lot_driver.specs.Stages.{stage_of}
-use Rattle.lot_driver.specs.Telling.{steps_of}
+use Rattle.lot_driver.specs.Telling.{owns_of, steps_of}
 use Rattle.lot_driver.specs.Words.{at_in}
 use Rattle.lot_driver.specs.declared.driver.Stop.{Stop}
 use Rattle.lot_driver.specs.declared.driver.Stop.TheVariants.{Paused}
@@ -18,35 +18,35 @@ use Rattle.lot_driver.proofs.once_calls.begin_behind.Goals as goal
 pub returns-in-Some-clause-path : goal.returns-in-Some-clause-path
 returns-in-Some-clause-path g c = let n = c.args.word.number in let call = c.args.call in
     let some : answer_of (next_act (once_begin c.args.word.number c.args.call) (Value c.args.seen)) ≡ Some c.in-Some.answer = search rules in
-    λ before saw. looks_ended n call c.args.seen before (steps_of c.args.token.now) c.in-Some.answer saw (end_of (next_act (once_begin n call) (Value c.args.seen)) c.in-Some.answer some)
+    λ before saw. looks_ended n call c.args.seen (steps_of before) (steps_of c.args.token.now) c.in-Some.answer saw.1 (end_of (next_act (once_begin n call) (Value c.args.seen)) c.in-Some.answer some)
 
 pub returns-in-Ended-clause-path : goal.returns-in-Ended-clause-path
 returns-in-Ended-clause-path g c = let n = c.args.word.number in let call = c.args.call in
     let next : c.advance-next.result.0 ≡ next_place (once_begin c.args.word.number c.args.call) (Value c.args.seen) = search rules in
     let walks = subst (Runs (at_in c.alone.result) c.advance-next.result.0 (steps_of c.args.token.now) (steps_of c.run.new.token)) c.in-Ended.is c.run.ensures.path in
-    λ before saw. looks_on n call c.args.seen before (steps_of c.args.token.now) (steps_of c.run.new.token) c.in-Ended.answer saw
+    λ before saw. looks_on n call c.args.seen (steps_of before) (steps_of c.args.token.now) (steps_of c.run.new.token) c.in-Ended.answer saw.1
     (subst (λ (at : ℕ → ℕ). Walks at (next_place (once_begin c.args.word.number c.args.call) (Value c.args.seen)) (steps_of c.args.token.now) (steps_of c.run.new.token) c.in-Ended.answer) (ap at_in c.alone.ensures ∙ once_alone c.args.word c.requires.own.2)
     (subst (λ (p : Place). Walks (at_in c.alone.result) p (steps_of c.args.token.now) (steps_of c.run.new.token) c.in-Ended.answer) next walks))
 
 pub returns-in-Paused-clause-path : goal.returns-in-Paused-clause-path
-returns-in-Paused-clause-path g c = let n = c.args.word.number in let call = c.args.call in let base = c.requires.reached.0 in
+returns-in-Paused-clause-path g c = let n = c.args.word.number in let call = c.args.call in let base = owns_of c.requires.seen.0 in
     let next : c.advance-next.result.0 ≡ next_place (once_begin c.args.word.number c.args.call) (Value c.args.seen) = search rules in
     let none : answer_of (next_act (once_begin c.args.word.number c.args.call) (Value c.args.seen)) ≡ None = search rules in
-    let on = on_aim n call c.args.seen base (stage_of c.args.token.now None) none c.requires.reached.1 in
-    let fits = subst (λ (p : Place). Fits ⊥ c.requires.reached.0 p (stage_of c.args.token.now None)) (sym next) on.0 in
-    let stopped = subst (λ (stop : Stop). IsStopped ⊥ c.requires.reached.0 (aim_of c.advance-next.result.0) stop (stage_of c.run.new.token None)) c.in-Paused.is (c.run.ensures.stopped base fits) in
+    let on = on_aim n call c.args.seen base (stage_of c.args.token.now None) none (c.requires.seen.1.2 call) in
+    let fits = subst (λ (p : Place). Fits ⊥ (owns_of c.requires.seen.0) p (stage_of c.args.token.now None)) (sym next) on.0 in
+    let stopped = subst (λ (stop : Stop). IsStopped ⊥ (owns_of c.requires.seen.0) (aim_of c.advance-next.result.0) stop (stage_of c.run.new.token None)) c.in-Paused.is (c.run.ensures.stopped base fits) in
     let closure = paused n call base c.in-Paused.place c.in-Paused.state (stage_of c.run.new.token None)
-    (subst (λ (aim : Aim). IsStopped ⊥ c.requires.reached.0 aim (Paused c.in-Paused.place c.in-Paused.state) (stage_of c.run.new.token None)) (ap aim_of next ∙ on.1) stopped) in
+    (subst (λ (aim : Aim). IsStopped ⊥ (owns_of c.requires.seen.0) aim (Paused c.in-Paused.place c.in-Paused.state) (stage_of c.run.new.token None)) (ap aim_of next ∙ on.1) stopped) in
     let path = subst (Runs (at_in c.alone.result) c.advance-next.result.0 (steps_of c.args.token.now) (steps_of c.run.new.token)) c.in-Paused.is c.run.ensures.path in
     let comes = comes_by (at_in c.alone.result) n c.advance-next.result.0 (next_place (once_begin n call) (Value c.args.seen)) c.in-Paused.place (in_closure n closure.forced closure.poisoned) (steps_of c.args.token.now) (steps_of c.run.new.token) (ap at_in c.alone.ensures ∙ once_alone c.args.word c.requires.own.2) next closure.there path in
-    λ before saw. (closure.forced, closure.poisoned, closure.call, closure.told, looks_to n call c.args.seen before (steps_of c.args.token.now) (steps_of c.run.new.token) (in_closure n closure.forced closure.poisoned) saw comes)
+    λ before saw. (closure.forced, closure.poisoned, closure.call, closure.told, looks_to n call c.args.seen (steps_of before) (steps_of c.args.token.now) (steps_of c.run.new.token) (in_closure n closure.forced closure.poisoned) saw.1 comes)
 
 pub returns-in-Paused-clause-over : goal.returns-in-Paused-clause-over
 returns-in-Paused-clause-over g c = let n = c.args.word.number in let call = c.args.call in
     let next : c.advance-next.result.0 ≡ next_place (once_begin c.args.word.number c.args.call) (Value c.args.seen) = search rules in
     let none : answer_of (next_act (once_begin c.args.word.number c.args.call) (Value c.args.seen)) ≡ None = search rules in
-    λ (base : List Ownership) reached. let on = on_aim n call c.args.seen base (stage_of c.args.token.now None) none reached in
-    let fits = subst (λ (p : Place). Fits ⊥ base p (stage_of c.args.token.now None)) (sym next) on.0 in
-    let stopped = subst (λ (stop : Stop). IsStopped ⊥ base (aim_of c.advance-next.result.0) stop (stage_of c.run.new.token None)) c.in-Paused.is (c.run.ensures.stopped base fits) in
+    λ (before : Token) saw. let base = owns_of before in let on = on_aim n call c.args.seen base (stage_of c.args.token.now None) none (saw.2 call) in
+    let fits = subst (λ (p : Place). Fits ⊥ (owns_of before) p (stage_of c.args.token.now None)) (sym next) on.0 in
+    let stopped = subst (λ (stop : Stop). IsStopped ⊥ (owns_of before) (aim_of c.advance-next.result.0) stop (stage_of c.run.new.token None)) c.in-Paused.is (c.run.ensures.stopped base fits) in
     (paused n call base c.in-Paused.place c.in-Paused.state (stage_of c.run.new.token None)
-    (subst (λ (aim : Aim). IsStopped ⊥ base aim (Paused c.in-Paused.place c.in-Paused.state) (stage_of c.run.new.token None)) (ap aim_of next ∙ on.1) stopped)).owns
+    (subst (λ (aim : Aim). IsStopped ⊥ (owns_of before) aim (Paused c.in-Paused.place c.in-Paused.state) (stage_of c.run.new.token None)) (ap aim_of next ∙ on.1) stopped)).owns
