@@ -1,4 +1,4 @@
--- No call that is built runs a closure.
+-- Only a call of a `Once` runs a closure, while its run is on.
 use Rattle.std.proofs.Common.{ℕ, Bool, true, false, if◌then◌else◌, ◌==◌, not, ◌≡◌, ◌+◌, ◌*◌, refl, sym, ◌∙◌}
 use Rattle.abstract_locks.specs.Runs.{is_closure}
 use Rattle.lot_acts.specs.Acts.{outcome_of}

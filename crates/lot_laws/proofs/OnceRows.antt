@@ -214,3 +214,8 @@ run_promises l forced at = record {
 pub once_promises : (l : ℕ) (at : OncePlace) → RowPromises locks.Once l (once_profile at) (once_act l at)
 once_promises l (Look c again at) = look_promises l c again at
 once_promises l (Run forced at) = run_promises l forced at
+
+-- it has no second line
+pub main_only : (at : OncePlace) → (once_profile at).doing.inside ≡ Some Second → ⊥
+main_only (Look c again at) h = look_main (again_of c again) at (look_inside (again_of c again) at Second h)
+main_only (Run forced at) h = run_main at (run_inside at Second h)

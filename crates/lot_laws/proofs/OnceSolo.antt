@@ -1,6 +1,8 @@
 -- A call of a `Once` whose thread steps alone ends, sleeps or comes to its closure.
+use Rattle.std.proofs.lemmas.Bool.{eqb-true}
 use Rattle.std.proofs.Common.{ℕ, Bool, true, false, Option, Some, None, if◌then◌else◌, ◌==◌, ◌≡◌, ◌≢◌, ◌+◌, ◌*◌, ◌≤◌, ◌<◌, List, length, refl, sym, ◌∙◌, ap, subst, arith}
 use Rattle.std.specs.Prelude.{◌&&◌, not}
+use Rattle.lot_base.specs.declared.ops.Op.{Op}
 use Rattle.lot_base.specs.declared.ops.Op.TheVariants as op
 use Rattle.lot_base.specs.declared.wants.Waiter.{Waiter}
 use Rattle.lot_base.specs.Words.{apply}
@@ -16,73 +18,28 @@ use Rattle.lot_acts.specs.declared.acts.Wakes.TheVariants.{Nobody}
 use Rattle.lot_acts.specs.declared.acts.Whom.TheVariants as whom
 use Rattle.lot_base.specs.declared.notes.Note.TheVariants.{Normal}
 use Rattle.lot_acts.specs.Acts.{holds, outcome_of, wakes_taken}
-use Rattle.abstract_locks.specs.Codes.{is_marked}
+use Rattle.abstract_locks.specs.Codes.{is_marked, is_poisoned}
 use Rattle.abstract_locks.specs.Onces.{Phase, New, Poisoned, InProgress, Done as IsDone}
 use Rattle.abstract_locks.specs.Sites.{Line, Main}
+use Rattle.lot_once.specs.declared.look.LookAt.{LookAt}
 use Rattle.lot_once.specs.declared.look.LookAt.TheVariants as look
 use Rattle.lot_once.specs.declared.look.Course.{Course}
 use Rattle.lot_once.specs.declared.look.Course.TheVariants.{Ends, Runs, Marks, Parks}
+use Rattle.lot_once.specs.declared.run.RunAt.{RunAt}
 use Rattle.lot_once.specs.declared.run.RunAt.TheVariants as run
 use Rattle.lot_once.specs.declared.places.OncePlace.{OncePlace}
 use Rattle.lot_once.specs.declared.places.OncePlace.TheVariants.{Look, Run}
-use Rattle.lot_once.specs.OnceSteps.{check_of, course_act, course_of, ended, in_look, in_run, is_mark, is_run, looked_by, marked, once_act, want_of, word_behind}
-use Rattle.lot_once.proofs.OnceWords as words
+use Rattle.lot_once.specs.OnceSteps.{check_of, course_act, course_of, ended, in_look, in_run, is_forced, is_mark, is_run, looked, marked, once_next, started, want_of, word_behind}
 use Rattle.lot_steps.specs.declared.places.Place.{Place}
 use Rattle.lot_steps.specs.declared.places.Place.TheVariants.{Once}
 use Rattle.lot_steps.specs.Steps.{act_of, once_does, once_goes}
-use Rattle.lot_machine.specs.Machine.{State, after, go_of, queue_at, step_outcome}
-use Rattle.lot_laws.specs.SitesOf.{key_of}
+use Rattle.lot_machine.specs.Machine.{State, after, go_of, runs_closure, step_outcome}
+use Rattle.lot_laws.specs.Refinement.{lock_state}
+use Rattle.lot_laws.specs.SitesOf.{site_of}
 use Rattle.lot_laws.specs.Solo.{Rests}
 use Rattle.lot_laws.proofs.LineSolo.{Comes, StepsAlone, enter_comes, finds_free, leave_comes, park_comes, take_comes, word_comes}
-use Rattle.lot_laws.proofs.SoloActs.{Leads, leads_more, leads_rest, leads_step}
-
--- whoever finds the bit set beside a run, inside the section, still waits for it
-waits_on : (c : OnceCall) (parked : Bool) (phase : Phase) → course_of c (words.word parked phase) ≡ Parks → holds (check_of c) (words.word parked phase) ≡ true
-waits_on (CallOnce forced) true (InProgress u) e = refl
-waits_on (CallOnce forced) true New e = absurd cc
-waits_on (CallOnce true) true Poisoned e = absurd cc
-waits_on (CallOnce false) true Poisoned e = absurd cc
-waits_on (CallOnce forced) true IsDone e = absurd cc
-waits_on (CallOnce forced) false New e = absurd cc
-waits_on (CallOnce true) false Poisoned e = absurd cc
-waits_on (CallOnce false) false Poisoned e = absurd cc
-waits_on (CallOnce forced) false (InProgress u) e = absurd cc
-waits_on (CallOnce forced) false IsDone e = absurd cc
-waits_on (Wait true) true New e = refl
-waits_on (Wait false) true New e = refl
-waits_on (Wait true) true Poisoned e = refl
-waits_on (Wait false) true Poisoned e = absurd cc
-waits_on (Wait true) true (InProgress u) e = refl
-waits_on (Wait false) true (InProgress u) e = refl
-waits_on (Wait forced) true IsDone e = absurd cc
-waits_on (Wait forced) false New e = absurd cc
-waits_on (Wait true) false Poisoned e = absurd cc
-waits_on (Wait false) false Poisoned e = absurd cc
-waits_on (Wait forced) false (InProgress u) e = absurd cc
-waits_on (Wait forced) false IsDone e = absurd cc
-
--- behind the exchange that sets the bit it goes to wait
-marks_park : (c : OnceCall) (parked : Bool) (phase : Phase) → course_of c (words.word parked phase) ≡ Marks → course_of c (words.word true phase) ≡ Parks
-marks_park (CallOnce forced) false (InProgress u) e = refl
-marks_park (CallOnce forced) true (InProgress u) e = absurd cc
-marks_park (CallOnce forced) true New e = absurd cc
-marks_park (CallOnce forced) false New e = absurd cc
-marks_park (CallOnce true) true Poisoned e = absurd cc
-marks_park (CallOnce true) false Poisoned e = absurd cc
-marks_park (CallOnce false) true Poisoned e = absurd cc
-marks_park (CallOnce false) false Poisoned e = absurd cc
-marks_park (CallOnce forced) true IsDone e = absurd cc
-marks_park (CallOnce forced) false IsDone e = absurd cc
-marks_park (Wait forced) false New e = refl
-marks_park (Wait forced) true New e = absurd cc
-marks_park (Wait true) false Poisoned e = refl
-marks_park (Wait true) true Poisoned e = absurd cc
-marks_park (Wait false) true Poisoned e = absurd cc
-marks_park (Wait false) false Poisoned e = absurd cc
-marks_park (Wait forced) false (InProgress u) e = refl
-marks_park (Wait forced) true (InProgress u) e = absurd cc
-marks_park (Wait forced) true IsDone e = absurd cc
-marks_park (Wait forced) false IsDone e = absurd cc
+use Rattle.lot_laws.proofs.OnceEnds.{Ended, Looked, decides, loads, looks, told_by_word}
+use Rattle.lot_laws.proofs.SoloActs.{Leads, leads_more, leads_rest, leads_so, leads_step}
 
 module _ (t l : ℕ) where
   abbrev Queues : Type 0
@@ -124,19 +81,89 @@ module _ (t l : ℕ) where
       either true c = goes 3 (word_behind b) w q (Run forced (run.Enter b)) _ refl c (λ g. run_enters forced b (word_behind b) _ q g)
       either false c = leads_more 1 4 w t (λ v o. Rests o) (omega arith) (rests w (outcome.End (ended b)) c.0 tt)
 
+  run_rests : (forced : Bool) (at : RunAt) (v : ℕ) (w : State) (q : Queues) → runs_closure (act_of (Once l (Run forced at))) ≡ false → Alone w (Run forced at) v q → RestsIn 4 w
+  run_rests forced (run.Closure poisoned) v w q outside f = absurd cc
+  run_rests forced (run.Close b) v w q outside f = run_closes forced b v w q f
+  run_rests forced (run.Enter b) v w q outside f = leads_more 3 4 w t (λ v o. Rests o) (omega arith) (run_enters forced b v w q f)
+  run_rests forced (run.Take b) v w q outside f = leads_more 2 4 w t (λ v o. Rests o) (omega arith) (run_takes forced b v w q f)
+  run_rests forced (run.Leave b any) v w q outside f = leads_more 1 4 w t (λ v o. Rests o) (omega arith) (run_leaves forced b any v w q f)
+
   -- ---------------------------------------------------------------- who looks
 
+  ended_is_rest : (q : Queues) (c : OnceCall) (phase : Phase) (v : State) (o : Outcome) → Ended t l q c phase v o → Rests o
+  ended_is_rest q (CallOnce forced) New v o h = rw (h.0) tt
+  ended_is_rest q (CallOnce true) Poisoned v o h = rw (h.0) tt
+  ended_is_rest q (CallOnce false) Poisoned v o h = rw h tt
+  ended_is_rest q (CallOnce forced) (InProgress u) v o h = rw (h.0) tt
+  ended_is_rest q (CallOnce forced) IsDone v o h = rw h tt
+  ended_is_rest q (Wait forced) New v o h = rw (h.0) tt
+  ended_is_rest q (Wait true) Poisoned v o h = rw (h.0) tt
+  ended_is_rest q (Wait false) Poisoned v o h = rw h tt
+  ended_is_rest q (Wait forced) (InProgress u) v o h = rw (h.0) tt
+  ended_is_rest q (Wait forced) IsDone v o h = rw h tt
+
   module _ (c : OnceCall) where
-    sleeps : (again : Bool) (v : ℕ) (w : State) (q : Queues) → Alone w (Look c again (look.Leave true)) v q → RestsIn 1 w
-    sleeps again v w q f = rests w outcome.Sleep (leave_comes w t l _ v q f Main Nobody refl).0 tt
+    loads_rest : (again : Bool) (v : ℕ) (w : State) (q : Queues) → Alone w (Look c again look.Load) v q → RestsIn 5 w
+    loads_rest again v w q f = leads_so 5 w t (Ended t l q c (lock_state w l).phase) (λ v o. Rests o) (ended_is_rest q c (lock_state w l).phase)
+        (loads t l again w q c (site_of w l).parked (lock_state w l).phase (subst (λ x. Alone w (Look c again look.Load) x q) (told_by_word w t l _ v q f) f))
 
-    checks : (again : Bool) (v : ℕ) (w : State) (q : Queues) → holds (check_of c) v ≡ true → Alone w (Look c again look.Check) v q → RestsIn 2 w
-    checks again v w q h f = goes 1 v w _ (Look c (again && not true) (look.Leave true)) _ refl (park_comes w t l _ v q f (2 * l) (check_of c) (want_of c) true refl h) (λ g. sleeps (again && not true) v _ _ g)
+    leaves : (again parked : Bool) (v : ℕ) (w : State) (q : Queues) → Alone w (Look c again (look.Leave parked)) v q → RestsIn 6 w
+    leaves again true v w q f = leads_more 1 6 w t (λ v o. Rests o) (omega arith) (rests w outcome.Sleep (leave_comes w t l _ v q f Main Nobody refl).0 tt)
+    leaves again false v w q f = goes 5 v w q (Look c again look.Load) _ refl (leave_comes w t l _ v q f Main Nobody refl) (λ g. loads_rest again v _ q g)
 
-    -- the act by the course of what it saw
-    by_course : (seen : ℕ) (k : Course) → course_of c seen ≡ k → (again : Bool) → act_of (Once l (Look c again (look.Decide seen))) ≡ course_act l seen k
-    by_course seen k e again = ap (course_act l seen) e
+    checks : (again : Bool) (v : ℕ) (w : State) (q : Queues) → Alone w (Look c again look.Check) v q → RestsIn 7 w
+    checks again v w q f = either (holds (check_of c) v) refl
+      where
+        either : (b : Bool) → holds (check_of c) v ≡ b → RestsIn 7 w
+        either true e = goes 6 v w _ (Look c (again && not true) (look.Leave true)) _ refl (park_comes w t l _ v q f (2 * l) (check_of c) (want_of c) true refl e) (λ g. leaves (again && not true) true v _ _ g)
+        either false e = goes 6 v w _ (Look c (again && not false) (look.Leave false)) _ refl (park_comes w t l _ v q f (2 * l) (check_of c) (want_of c) false refl e) (λ g. leaves (again && not false) false v _ _ g)
 
-    waits : (again : Bool) (seen v : ℕ) (w : State) (q : Queues) → course_of c seen ≡ Parks → holds (check_of c) v ≡ true → Alone w (Look c again (look.Decide seen)) v q → RestsIn 3 w
-    waits again seen v w q e h f = goes 2 v w q (Look c again look.Check) _ refl (enter_comes w t l _ v q f Main (by_course seen Parks e again) (finds_free w t l _ v q f refl Main)) (λ g. checks again v _ q h g)
+    -- it has looked at the word, wherever it came from
+    looked_rests : (again : Bool) (v : ℕ) (w : State) (q : Queues) (p : OncePlace) → Alone w p v q → Looked t l again w q c v → RestsIn 5 w
+    looked_rests again v w q p f g = leads_so 5 w t (Ended t l q c (lock_state w l).phase) (λ v o. Rests o) (ended_is_rest q c (lock_state w l).phase)
+        (looks t l again w q c (site_of w l).parked (lock_state w l).phase (subst (Looked t l again w q c) (told_by_word w t l p v q f) g))
 
+    decides_now : (again : Bool) (v : ℕ) (w : State) (q : Queues) → Alone w (Look c again (look.Decide v)) v q → RestsIn 4 w
+    decides_now again v w q f = leads_so 4 w t (Ended t l q c (lock_state w l).phase) (λ v o. Rests o) (ended_is_rest q c (lock_state w l).phase)
+        (decides t l again w q c (site_of w l).parked (lock_state w l).phase (subst (λ x. Alone w (Look c again (look.Decide x)) x q) (told_by_word w t l _ v q f) f))
+
+    -- it saw another value than the word has now
+    module _ (again : Bool) (seen v : ℕ) (w : State) (q : Queues) (other : (v == seen) ≡ false) (f : Alone w (Look c again (look.Decide seen)) v q) where
+      sees : once_next (Look c again (look.Decide seen)) (Value v) ≡ in_look c again (looked c v)
+      sees = ap (λ b. if b && is_run (course_of c v) then next.At (Run (is_forced c) (run.Closure (is_poisoned v)))
+          else in_look c again (if b && is_mark (course_of c v) then next.At (look.Decide (marked v)) else looked c v)) other
+
+      looks_anew : (o : Op) → act_of (Once l (Look c again (look.Decide seen))) ≡ act.Word l o → apply o v ≡ v → RestsIn 8 w
+      looks_anew o is same_word = leads_more 5 8 w t (λ v o. Rests o) (omega arith) (looked_rests again v w q _ f
+          (subst (λ n. Comes w t l (once_goes l n) (outcome_of (once_does l n)) v q) sees
+              (subst (λ x. Comes w t l (once_goes l (once_next (Look c again (look.Decide seen)) (Value v))) (outcome_of (once_does l (once_next (Look c again (look.Decide seen)) (Value v)))) x q) same_word
+                  (word_comes w t l _ v q f o is))))
+
+      unchanged : (m : ℕ) → apply (op.Exchange seen m) v ≡ v
+      unchanged m = ap (λ b. if b then m else v) other
+
+      by_course : (k : Course) → course_of c seen ≡ k → RestsIn 8 w
+      by_course (Ends answer) e = looks_anew op.Load (ap (course_act l seen) e) refl
+      by_course Runs e = looks_anew (op.Exchange seen (started seen)) (ap (course_act l seen) e) (unchanged (started seen))
+      by_course Marks e = looks_anew (op.Exchange seen (marked seen)) (ap (course_act l seen) e) (unchanged (marked seen))
+      by_course Parks e = goes 7 v w q (Look c again look.Check) _ refl (enter_comes w t l _ v q f Main (ap (course_act l seen) e) (finds_free w t l _ v q f refl Main)) (λ g. checks again v _ q g)
+
+    decides_rests : (again : Bool) (seen v : ℕ) (w : State) (q : Queues) → Alone w (Look c again (look.Decide seen)) v q → RestsIn 8 w
+    decides_rests again seen v w q f = either (v == seen) refl
+      where
+        either : (b : Bool) → (v == seen) ≡ b → RestsIn 8 w
+        either true e = leads_more 4 8 w t (λ v o. Rests o) (omega arith) (decides_now again v w q (subst (λ x. Alone w (Look c again (look.Decide x)) v q) (sym (eqb-true v seen e)) f))
+        either false e = by_course again seen v w q e f (course_of c seen) refl
+
+    look_rests : (again : Bool) (at : LookAt) (v : ℕ) (w : State) (q : Queues) → act_of (Once l (Look c again at)) ≢ act.Sleep → Alone w (Look c again at) v q → RestsIn 8 w
+    look_rests again look.Load v w q up f = leads_more 5 8 w t (λ v o. Rests o) (omega arith) (loads_rest again v w q f)
+    look_rests again (look.Decide seen) v w q up f = decides_rests again seen v w q f
+    look_rests again look.Check v w q up f = leads_more 7 8 w t (λ v o. Rests o) (omega arith) (checks again v w q f)
+    look_rests again (look.Leave parked) v w q up f = leads_more 6 8 w t (λ v o. Rests o) (omega arith) (leaves again parked v w q f)
+    look_rests again look.Asleep v w q up f = absurd (up refl)
+    look_rests again (look.Taken by) v w q up f = absurd (up refl)
+
+  -- from any place outside its closure, where it is awake
+  pub once_rests : (p : OncePlace) (v : ℕ) (w : State) (q : Queues) → act_of (Once l p) ≢ act.Sleep → runs_closure (act_of (Once l p)) ≡ false → Alone w p v q → RestsIn 8 w
+  once_rests (Look c again at) v w q up outside f = look_rests c again at v w q up f
+  once_rests (Run forced at) v w q up outside f = leads_more 4 8 w t (λ v o. Rests o) (omega arith) (run_rests forced at v w q outside f)

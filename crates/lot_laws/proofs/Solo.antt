@@ -31,7 +31,12 @@ use Rattle.lot_mutex.specs.declared.unlock.UnlockAt.{UnlockAt}
 use Rattle.lot_mutex.specs.declared.unlock.UnlockAt.TheVariants as unlock
 use Rattle.lot_mutex.specs.declared.hand_off.HandOffAt.{HandOffAt}
 use Rattle.lot_mutex.specs.declared.hand_off.HandOffAt.TheVariants as hand_off
+use Rattle.lot_calls.specs.declared.calls.OnceCall.{OnceCall}
+use Rattle.lot_once.specs.declared.places.OncePlace.{OncePlace}
 use Rattle.lot_once.specs.OnceSteps.{once_first}
+use Rattle.lot_laws.proofs.OnceEnds.{once_alone}
+use Rattle.lot_laws.proofs.OnceRows.{main_only}
+use Rattle.lot_laws.proofs.OnceSolo.{once_rests}
 use Rattle.lot_steps.specs.declared.places.Place.{Place}
 use Rattle.lot_steps.specs.declared.places.Place.TheVariants.{Idle, Mutex, RwLock, Once}
 use Rattle.lot_acts.specs.Acts.{outcome_of}
@@ -39,15 +44,16 @@ use Rattle.lot_mutex.specs.MutexSteps.{mutex_first, is_locked, is_parked, entere
 use Rattle.lot_calls.specs.Kinds.{is_fair}
 use Rattle.lot_calls.specs.Calls.{lock_in}
 use Rattle.lot_steps.specs.Steps.{act_of, next_place, next_act, mutex_goes, mutex_does, lock_of, first_place}
-use Rattle.lot_machine.specs.Machine.{State, place_at, word_at, kind_at, queue_at, section_at, go_of, after, solo, owners_handed_over, is_there}
+use Rattle.lot_machine.specs.Machine.{State, place_at, word_at, kind_at, queue_at, section_at, go_of, after, runs_closure, solo, owners_handed_over, is_there}
 use Rattle.lot_machine.specs.Fits.{IsShaped, PlaceFits}
 use Rattle.lot_laws.specs.MutexPromises.{IsMutexWord}
 use Rattle.abstract_locks.specs.Sites.{Line, Main, Second, Site, has_readers}
 use Rattle.lot_laws.specs.MutexDeeds.{acts, takes, queued}
-use Rattle.lot_laws.specs.Stations.{station, station_at, Station, hand}
+use Rattle.lot_laws.specs.Stations.{nowhere, station, station_at, Station, hand}
 use Rattle.lot_laws.specs.SitesOf.{AreCounted, IsSteady, key_of, FitsItsLock, is_mutex, Goes, hand_at, rules_in}
 use Rattle.lot_laws.proofs.ExclusiveOwners.{by_code, owner_after}
 use Rattle.abstract_locks.specs.Locks.{readers, Rules, MayEnter, IsBlocked, first_thread}
+use Rattle.abstract_locks.specs.Locks as locks
 use Rattle.abstract_locks.specs.Purposes.{rules_of, purpose_of, rwlock_purpose, Releases, Bumps, Patience, Patient, Timed, Try, mutex_purpose}
 use Rattle.abstract_locks.specs.Runs.{IsFull, rules_at, purpose_at}
 use Rattle.abstract_locks.specs.Picks.{queued_of}
@@ -397,6 +403,27 @@ try_so : (b : Bool) (x : Outcome) → x ≡ (if b then outcome.TheVariants.End a
 try_so true x h = rw h tt
 try_so false x h = rw h tt
 
+-- nobody is in a second section of a `Once`
+never_aside : (w : State) (l : ℕ) (p : Place) → FitsItsLock w p → (rules_in w l).sort ≡ locks.Once → (station_at p l).inside ≡ Some Second → ⊥
+never_aside w l Idle fits sort e = absurd cc
+never_aside w l (Mutex k at) fits sort e = either (k == l) refl
+  where
+    either : (b : Bool) → (k == l) ≡ b → ⊥
+    either true h = let own : (rules_in w k).sort ≡ locks.Once = subst (λ n. (rules_in w n).sort ≡ locks.Once) (sym (eqb-true k l h)) sort in
+        let other : locks.Mutex ≡ locks.Once = sym (ap (λ (r : Rules). r.sort) (mutex_rules (kind_at w k) fits)) ∙ own in cc
+    either false h = let none : None ≡ Some Second = sym (ap (λ c. (if c then station (Mutex k at) else nowhere).inside) h) ∙ e in cc
+never_aside w l (RwLock k a c) fits sort e = either (k == l) refl
+  where
+    either : (b : Bool) → (k == l) ≡ b → ⊥
+    either true h = let own : (rules_in w k).sort ≡ locks.Once = subst (λ n. (rules_in w n).sort ≡ locks.Once) (sym (eqb-true k l h)) sort in
+        let other : true ≡ false = sym (fits.0.0) ∙ ap has_readers own in cc
+    either false h = let none : None ≡ Some Second = sym (ap (λ b. (if b then station (RwLock k a c) else nowhere).inside) h) ∙ e in cc
+never_aside w l (Once k at) fits sort e = either (k == l) refl
+  where
+    either : (b : Bool) → (k == l) ≡ b → ⊥
+    either true h = main_only at (sym (ap (λ b. (if b then station (Once k at) else nowhere).inside) h) ∙ e)
+    either false h = let none : None ≡ Some Second = sym (ap (λ b. (if b then station (Once k at) else nowhere).inside) h) ∙ e in cc
+
 module _ (w : State) (t : ℕ) (shape : IsShaped w) (steady : IsSteady w) (counted : AreCounted w) (there : t < length w.places) (way : HasItsWay w t) where
   facing : (l : ℕ) (p : Place) → place_at w t ≡ p → l < length w.locks → Facing w t l p (word_at w l) (owner_at w l) (section_at w (2 * l)) (queue_at w (2 * l))
   facing l p is lt = record { shape = shape; steady = steady; counted = counted; thread = there; lock = lt; place = is; word = refl; owner = refl; section = refl; queue = refl }
@@ -415,8 +442,8 @@ module _ (w : State) (t : ℕ) (shape : IsShaped w) (steady : IsSteady w) (count
   admitted : (l : ℕ) (a : Admission) (c : RwLockCallPlace) → place_at w t ≡ RwLock l a c → FitsItsLock w (RwLock l a c)
   admitted l a c is = subst (FitsItsLock w) is (steady.stands.calls t)
 
-  steps_alone : (l : ℕ) (a : Admission) (c : RwLockCallPlace) → has_readers (rules_in w l).sort ≡ true → place_at w t ≡ RwLock l a c → l < length w.locks → StepsAlone w t l (RwLock l a c) (word_at w l) (λ m. queue_at w (key_of l m))
-  steps_alone l a c readers is lt = record {
+  steps_alone_at : (l : ℕ) (p : Place) → ((m : Line) (u : ℕ) → section_at w (key_of l m) ≡ Some u → u ≡ t) → place_at w t ≡ p → l < length w.locks → StepsAlone w t l p (word_at w l) (λ m. queue_at w (key_of l m))
+  steps_alone_at l p free_way is lt = record {
     shape = shape;
     steady = steady;
     counted = counted;
@@ -425,12 +452,26 @@ module _ (w : State) (t : ℕ) (shape : IsShaped w) (steady : IsSteady w) (count
     place = is;
     word = refl;
     queue = λ m. refl;
-    way = λ m u e. way l u m (ap lock_of is) (line m) e;
+    way = free_way;
   }
+
+  steps_alone : (l : ℕ) (a : Admission) (c : RwLockCallPlace) → has_readers (rules_in w l).sort ≡ true → place_at w t ≡ RwLock l a c → l < length w.locks → StepsAlone w t l (RwLock l a c) (word_at w l) (λ m. queue_at w (key_of l m))
+  steps_alone l a c readers is lt = steps_alone_at l (RwLock l a c) (λ m u e. way l u m (ap lock_of is) (line m) e) is lt
     where
       line : (m : Line) → HasLine (rules_of (kind_at w l)).sort m
       line Main = tt
       line Second = readers
+
+  -- at a place of a `Once`, which has no second line
+  once_steps_alone : (l : ℕ) (at : OncePlace) → place_at w t ≡ Once l at → l < length w.locks → StepsAlone w t l (Once l at) (word_at w l) (λ m. queue_at w (key_of l m))
+  once_steps_alone l at is lt = steps_alone_at l (Once l at) free_way is lt
+    where
+      sort : (rules_in w l).sort ≡ locks.Once
+      sort = subst (FitsItsLock w) is (steady.stands.calls t)
+
+      free_way : (m : Line) (u : ℕ) → section_at w (key_of l m) ≡ Some u → u ≡ t
+      free_way Main u e = way l u Main (ap lock_of is) tt e
+      free_way Second u e = absurd (never_aside w l (place_at w u) (steady.stands.calls u) sort ((steady.stands.sections u l Second).1 e))
 
   mutex_place_rests : (l : ℕ) (c : MutexPlace) → place_at w t ≡ Mutex l c → PlaceFits (length w.locks) (Mutex l c) → Mutex l c ≢ Idle → act_of (Mutex l c) ≢ act.TheVariants.Sleep → Leads 12 w t (λ v x. Rests x)
   mutex_place_rests l (Lock entry retries a) is fits busy up = leads_more 8 12 w t (λ v x. Rests x) (omega arith) (lock_rests t l entry retries a (word_at w l) (owner_at w l) (section_at w (2 * l)) (queue_at w (2 * l)) w (facing l (Mutex l (Lock entry retries a)) is fits.0) (λ outside. free l (Mutex l (Lock entry retries a)) is refl outside (section_at w (2 * l)) refl) up)
@@ -442,17 +483,18 @@ module _ (w : State) (t : ℕ) (shape : IsShaped w) (steady : IsSteady w) (count
   mutex_place_rests l Bump is fits busy up = fair_rests t l 11 true (first_of (queue_at w (2 * l))) (drop 1 (queue_at w (2 * l))) w (omega arith) (bump_leads t l (queue_at w (2 * l)) (word_at w l) (owner_at w l) w (at_first l (Mutex l Bump) is refl refl fits.0))
   mutex_place_rests l (HandOff bumps a) is fits busy up = hand_off_rests t l bumps a (word_at w l) (owner_at w l) (section_at w (2 * l)) (queue_at w (2 * l)) w (facing l (Mutex l (HandOff bumps a)) is fits.0) (λ outside. free l (Mutex l (HandOff bumps a)) is refl outside (section_at w (2 * l)) refl)
 
-  place_rests : (p : Place) → place_at w t ≡ p → PlaceFits (length w.locks) p → p ≢ Idle → act_of p ≢ act.TheVariants.Sleep → Leads 18 w t (λ v x. Rests x)
-  place_rests Idle is fits busy up = absurd (busy refl)
-  place_rests (Once l at) is fits busy up = absurd (subst (FitsItsLock w) is (steady.stands.calls t))
-  place_rests (RwLock l a c) is fits busy up =
+  place_rests : (p : Place) → place_at w t ≡ p → PlaceFits (length w.locks) p → p ≢ Idle → act_of p ≢ act.TheVariants.Sleep → runs_closure (act_of p) ≡ false → Leads 18 w t (λ v x. Rests x)
+  place_rests Idle is fits busy up outside = absurd (busy refl)
+  place_rests (Once l at) is fits busy up outside =
+      leads_more 8 18 w t (λ v x. Rests x) (omega arith) (once_rests t l at (word_at w l) w (λ m. queue_at w (key_of l m)) up outside (once_steps_alone l at is fits))
+  place_rests (RwLock l a c) is fits busy up outside =
       let h = admitted l a c is in
       call_rests t l a c (word_at w l) w (λ m. queue_at w (key_of l m)) h.0 (word_small w l steady h.0.0) h.1 up (steps_alone l a c h.0.0 is fits)
-  place_rests (Mutex l c) is fits busy up = leads_more 12 18 w t (λ v x. Rests x) (omega arith) (mutex_place_rests l c is fits busy up)
+  place_rests (Mutex l c) is fits busy up outside = leads_more 12 18 w t (λ v x. Rests x) (omega arith) (mutex_place_rests l c is fits busy up)
 
   -- a call under way ends or sleeps
   pub solo_rests : IsUnderWay w t → (n : ℕ) (last : Outcome) → 18 ≤ n → Rests (solo n w t last).outcome
-  solo_rests up n last le = place_rests (place_at w t) refl (shape.places t) up.0 up.1 n last le
+  solo_rests up n last le = place_rests (place_at w t) refl (shape.places t) up.0 up.1 up.2 n last le
 
   -- ---------------------------------------------------------------- calls from their beginning
 
@@ -567,6 +609,17 @@ module _ (w : State) (t : ℕ) (shape : IsShaped w) (steady : IsSteady w) (count
       by_kind (kinds.Recursive limit) e = ends (ap (λ k. has_readers (rules_of k).sort) e)
       by_kind k e = tt
 
+  pub once_ends : (l : ℕ) (c : OnceCall) → place_at w t ≡ Once l (once_first c)
+      → EndsAlone w t (purpose_at (locks_of w) (call.TheVariants.Once l c)) (solo 64 w t outcome.TheVariants.NotNow).outcome (solo 64 w t outcome.TheVariants.NotNow).state
+  once_ends l c is = by_kind (kind_at w l) refl
+    where
+      fits : l < length w.locks
+      fits = subst (PlaceFits (length w.locks)) is (shape.places t)
+
+      by_kind : (k : Kind) → kind_at w l ≡ k → EndsAlone w t (purpose_of k (call.TheVariants.Once l c)) (solo 64 w t outcome.TheVariants.NotNow).outcome (solo 64 w t outcome.TheVariants.NotNow).state
+      by_kind kinds.Once e = once_alone w t l c 64 outcome.TheVariants.NotNow (omega arith) (once_steps_alone l (once_first c) is fits)
+      by_kind k e = tt
+
 -- ---------------------------------------------------------------- as the world is told them
 
 stands_there : (xs : List Place) (t : ℕ) → get_or xs t Idle ≢ Idle → t < length xs
@@ -585,6 +638,6 @@ module _ (w : State) (t : ℕ) (shape : IsShaped w) (steady : IsSteady w) (count
 
   pub ends_alone : (c : Call) → place_at w t ≡ first_place (kind_at w (lock_in c)) c → HasItsWay w t
       → EndsAlone w t (purpose_at (locks_of w) c) (solo 64 w t outcome.TheVariants.NotNow).outcome (solo 64 w t outcome.TheVariants.NotNow).state
-  ends_alone (call.TheVariants.Once l c) is way = absurd (subst (FitsItsLock w) is (steady.stands.calls t))
+  ends_alone (call.TheVariants.Once l c) is way = once_ends w t shape steady counted (stands_there w.places t (first_busy (kind_at w l) (call.TheVariants.Once l c) (place_at w t) is)) way l c is
   ends_alone (call.TheVariants.Mutex l c) is way = mutex_ends w t shape steady counted (stands_there w.places t (first_busy (kind_at w l) (call.TheVariants.Mutex l c) (place_at w t) is)) way l c is 64 outcome.TheVariants.NotNow (omega arith)
   ends_alone (call.TheVariants.RwLock l c) is way = rwlock_ends w t shape steady counted (stands_there w.places t (first_busy (kind_at w l) (call.TheVariants.RwLock l c) (place_at w t) is)) way l c is
