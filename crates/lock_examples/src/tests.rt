@@ -1,5 +1,6 @@
-//! A shared counter, a queue of workers, a try with a limit, a cache, and a table that is filled once.
+//! A shared counter, a queue of workers, a try with a limit, a cache, a table that is filled once, and a value that is made once.
 mod cache;
+mod rates;
 mod table;
 
 ghost use Rattle.std.specs.Prelude.{All, IfOk};

@@ -2,8 +2,9 @@
 mod cells;
 mod meets;
 
-ghost use Rattle.std.specs.Prelude.{◌≡◌, ◌<◌, ◌≤◌, All, IfOk};
+ghost use Rattle.std.specs.Prelude.{◌<◌, ◌≤◌, All, IfOk};
 ghost use Rattle.std.specs.Arc.{arc_value};
+ghost use Rattle.std.specs.Fork.{AcceptsJobs};
 ghost use Rattle.run_once.specs.Users.{IsTicketOf, IsTokenOf, lot_of};
 
 use parking_lot_core::{Fault, ParkingLot, Ticket, Token};
@@ -15,22 +16,16 @@ use std::sync::{Arc, Wait};
 use std::test::Fail;
 use std::thread::{Threads, map_vec};
 
-// A lot with so many threads, the token of the first, and a `Once` of it.
-fn seats(
-    alloc: Global,
-    threads: usize,
-) -> Result<(Arc<ParkingLot>, Once, Token, Vec<Ticket>), Fault>
+// A lot of one word with so many threads, the token of the first, and the tickets of the others.
+fn seats(alloc: Global, threads: usize) -> Result<(Arc<ParkingLot>, Token, Vec<Ticket>), Fault>
     requires { (0 < threads) × (threads ≤ 1024) }
-    ensures { IfOk result (λ made. (lot_of made.1 ≡ arc_value made.0) × IsTokenOf (arc_value made.0) made.2
-        × All (IsTicketOf (arc_value made.0)) made.3.items) }
+    ensures { IfOk result (λ made. IsTokenOf (arc_value made.0) made.1 × All (IsTicketOf (arc_value made.0)) made.2.items) }
 {
     let (lot, mut tickets) = ParkingLot::new(alloc, 1, threads)?;
     let Some(first) = tickets.pop() else {
         return Err(Fault::NoMemory);
     };
-    let mut token = first.enter();
-    let once = Once::new(&lot, &mut token)?;
-    Ok((lot, once, token, tickets))
+    Ok((lot, first.enter(), tickets))
 }
 
 // How it answers, in a word.
@@ -57,7 +52,8 @@ fn count_run<R: Wait>(rt: &R, once: &Once, token: &mut Token, runs: &AtomicUsize
 
 #[test]
 fn who_calls_first_runs(rt: HostRuntime) -> Result<(), Fail> {
-    let (_lot, once, mut token, _others) = seats(rt.alloc(), 1)?;
+    let (lot, mut token, _others) = seats(rt.alloc(), 1)?;
+    let once = Once::new(&lot, &mut token)?;
     let runs = AtomicUsize::new(0);
     assert_eq!(rt; once.state(&mut token), OnceState::New);
     assert!(rt; !once.is_completed(&mut token));
@@ -73,11 +69,7 @@ fn who_calls_first_runs(rt: HostRuntime) -> Result<(), Fail> {
 
 #[test]
 fn what_is_made_done_runs_nothing(rt: HostRuntime) -> Result<(), Fail> {
-    let (lot, mut tickets) = ParkingLot::new(rt.alloc(), 1, 1)?;
-    let Some(ticket) = tickets.pop() else {
-        return Ok(());
-    };
-    let mut token = ticket.enter();
+    let (lot, mut token, _others) = seats(rt.alloc(), 1)?;
     let once = Once::new_completed(&lot, &mut token)?;
     let runs = AtomicUsize::new(0);
     assert_eq!(rt; once.state(&mut token), OnceState::Done);
@@ -112,7 +104,8 @@ fn mend<R: Wait>(rt: &R, once: &Once, token: &mut Token, poisoned: &AtomicBool) 
 
 #[test]
 fn a_failed_run_poisons(rt: HostRuntime) -> Result<(), Fail> {
-    let (_lot, once, mut token, _others) = seats(rt.alloc(), 1)?;
+    let (lot, mut token, _others) = seats(rt.alloc(), 1)?;
+    let once = Once::new(&lot, &mut token)?;
     let runs = AtomicUsize::new(0);
     let poisoned = AtomicBool::new(false);
     assert_eq!(rt; fail(&rt, &once, &mut token), "failed");
@@ -128,6 +121,17 @@ fn a_failed_run_poisons(rt: HostRuntime) -> Result<(), Fail> {
     Ok(())
 }
 
+// Whether each thread of these tickets is content with what came of its part.
+fn all_are_content<R: Threads + Wait + Sync, F: Fn(Ticket) -> bool + Sync>(
+    rt: &R,
+    tickets: Vec<Ticket>,
+    part: &F,
+) -> bool
+    requires { AcceptsJobs F.Fn part.now tickets.items }
+{
+    map_vec(rt, tickets, part).is_ok_and(|found| found.iter().all(|content| *content))
+}
+
 fn stampede<R: Threads + Wait + Sync>(
     rt: &R,
     once: &Once,
@@ -136,7 +140,7 @@ fn stampede<R: Threads + Wait + Sync>(
 ) -> bool
     requires { All (IsTicketOf (lot_of once.now)) tickets.items }
 {
-    let answers = map_vec(
+    all_are_content(
         rt,
         tickets,
         &|ticket: Ticket|
@@ -145,18 +149,15 @@ fn stampede<R: Threads + Wait + Sync>(
             let mut token = ticket.enter();
             let answer = count_run(rt, once, &mut token, runs);
             drop(token.leave());
-            answer
+            answer == "ok"
         },
-    );
-    match answers {
-        Ok(answers) => answers.iter().all(|answer| *answer == "ok"),
-        Err(_) => false,
-    }
+    )
 }
 
 #[test]
 fn ten_threads_come_at_once(rt: HostRuntime) -> Result<(), Fail> {
-    let (_lot, once, mut token, others) = seats(rt.alloc(), 11)?;
+    let (lot, mut token, others) = seats(rt.alloc(), 11)?;
+    let once = Once::new(&lot, &mut token)?;
     let runs = AtomicUsize::new(0);
     assert!(rt; stampede(&rt, &once, others, &runs));
     assert_eq!(rt; runs.load(SeqCst), 1);

@@ -1,16 +1,15 @@
 //! Inputs through `start`: what they answer, and what a broken device leaves.
 mod devices;
-mod fair_rows;
-mod rows;
-mod rwlock_rows;
 
 use devices::{Pieces, Short};
-use fair_rows::FAIR_ROWS;
 use lot_base::ListQueues;
 use lot_replay::start::start;
 use lot_world::{Answer, Call, Kind, MutexCall, Outcome, Step, Turn, World};
-use rows::{MALFORMED, ROWS, TWO_TRIES};
-use rwlock_rows::RWLOCK_ROWS;
+use replay_rows::fair::FAIR_ROWS;
+use replay_rows::malformed::MALFORMED;
+use replay_rows::mutexes::{ROWS, TWO_TRIES};
+use replay_rows::onces::ONCE_ROWS;
+use replay_rows::rwlocks::RWLOCK_ROWS;
 use std::alloc::{AllocError, Global};
 use std::io::BufRead;
 use std::test::Fail;
@@ -39,6 +38,15 @@ fn answers_inputs(rt: HostRuntime) {
 #[test]
 fn answers_inputs_of_reader_writer_locks(rt: HostRuntime) {
     for (input, want) in RWLOCK_ROWS {
+        let (text, ended) = replayed(rt.alloc(), input);
+        assert_eq!(rt; text.as_slice(), want);
+        assert_eq!(rt; ended, 0);
+    }
+}
+
+#[test]
+fn answers_inputs_of_onces(rt: HostRuntime) {
+    for (input, want) in ONCE_ROWS {
         let (text, ended) = replayed(rt.alloc(), input);
         assert_eq!(rt; text.as_slice(), want);
         assert_eq!(rt; ended, 0);

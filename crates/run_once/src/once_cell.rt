@@ -5,6 +5,7 @@ ghost use Rattle.parking_lot_core.specs.Tokens.{IsTokenOf};
 
 use crate::once::{Once, OnceFault};
 use parking_lot_core::{Fault, ParkingLot, Token};
+use std::convert::Infallible;
 use std::marker::Model;
 use std::sync::{Arc, OnceLock, Wait};
 
@@ -86,6 +87,24 @@ impl<T: Drop> OnceCell<T> {
             return Ok(value);
         }
         self.make(rt, token, f)
+    }
+
+    /// The value, where the closure can't fail.
+    #[inline]
+    pub fn get_or_init<R: Wait, F: FnOnce() -> T + Drop>(
+        &self,
+        rt: &R,
+        token: &mut Token,
+        f: F,
+    ) -> &T
+        requires token { IsTokenOf (lot_of self.now) token.old }
+        requires callable { F.IsAlwaysCallable f }
+        ensures token { IsTokenOf (lot_of self.now) token.new × StaysKnowing (number_of self.now) token.old token.new }
+    {
+        match self.get_or_try_init(rt, token, move || Ok::<T, Infallible>(f())) {
+            Ok(value) => value,
+            Err(never) => match never {},
+        }
     }
 
     #[cold]

@@ -197,7 +197,8 @@ fn all_four<R: Threads + Wait + Sync>(
 
 // Whether who calls and who waits beside a run came through with it, and nothing ran but that. An earlier run may have failed.
 fn meet<R: Threads + Wait + Sync>(rt: &R, alloc: Global, poisoned: bool) -> Result<bool, Fault> {
-    let (lot, once, mut token, mut others) = seats(alloc, 5)?;
+    let (lot, mut token, mut others) = seats(alloc, 5)?;
+    let once = Once::new(&lot, &mut token)?;
     if poisoned && fail(rt, &once, &mut token) != "failed" {
         return Ok(false);
     }

@@ -1,4 +1,4 @@
-//! Worked schedules and malformed inputs, with the text and the status that they lead to.
+//! Worked schedules of mutexes and of whole inputs, with the text and the status that they lead to.
 
 /// One thread tries twice, and unlocks.
 pub const TWO_TRIES: &[u8] = b"threads 1
@@ -430,62 +430,5 @@ show",
         b"m 0
 ",
         0,
-    ),
-];
-
-/// Inputs that end at a malformed line, with the text that they lead to.
-pub const MALFORMED: [(&str, &str); 25] = [
-    // The form of a line.
-    ("\n", "line 1 malformed\n"),
-    ("threads 1\n\nlock m mutex\n", "line 2 malformed\n"),
-    ("threads 1\r\n", "line 1 malformed\n"),
-    ("threads 1\nlock \u{e9} mutex\n", "line 2 malformed\n"),
-    ("threads 1\nlock m once\n", "line 2 malformed\n"),
-    ("threads 2\nlock m rwlock 1\n", "line 2 malformed\n"),
-    ("threads 1\nlock m fair 1\n", "line 2 malformed\n"),
-    (
-        "threads 1\nlock m rwlock 1152921504606846975\n",
-        "line 2 malformed\n",
-    ),
-    ("threads 1\n12345678901234567890 go\n", "line 2 malformed\n"),
-    ("threads 1\nlock m mutex\n0 lately\n", "line 3 malformed\n"),
-    ("threads 1\nlock m mutex\nshow m\n", "line 3 malformed\n"),
-    // The first line.
-    ("lock m mutex\n", "line 1 malformed\n"),
-    ("0 go\n", "line 1 malformed\n"),
-    ("threads 0\n", "line 1 malformed\n"),
-    ("threads 1025\n", "line 1 malformed\n"),
-    ("threads 9999999999999999999\n", "line 1 malformed\n"),
-    ("threads 1\nthreads 1\n", "line 2 malformed\n"),
-    ("threads 1\nshow\nthreads 1\n", "line 3 malformed\n"),
-    // Locks.
-    (
-        "threads 1\nlock m mutex\nlock m mutex\n",
-        "line 3 malformed\n",
-    ),
-    (
-        "threads 1\nlock m mutex\nshow\nlock n mutex\n",
-        "m 0\nline 4 malformed\n",
-    ),
-    (
-        "threads 1\n0 go\nlock m mutex\n",
-        "0 not now\nline 3 malformed\n",
-    ),
-    (
-        "threads 1\nlock m mutex\n0 begin lock n\n",
-        "line 3 malformed\n",
-    ),
-    (
-        "threads 1\nlock m mutex\n0 do lock mm\n",
-        "line 3 malformed\n",
-    ),
-    (
-        "threads 1\nlock m mutex\n0 begin notify_one m\n",
-        "line 3 malformed\n",
-    ),
-    // A line before.
-    (
-        "threads 1\nlock m mutex\nshow\n0 fly\n0 go\n",
-        "m 0\nline 4 malformed\n",
     ),
 ];
