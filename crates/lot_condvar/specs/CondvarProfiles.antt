@@ -1,0 +1,213 @@
+-- What each place of a condition variable says of its thread, there and at the mutex beside it: a row for each place. All that is asked of
+-- a place is read off its row.
+use Rattle.std.specs.Prelude.{ℕ, Bool, true, false, Option, Some, None, if◌then◌else◌, ◌==◌, ◌&&◌, ◌||◌, ◌*◌}
+use Rattle.lot_base.specs.declared.notes.Note.TheVariants as note
+use Rattle.lot_base.specs.declared.wants.Want.{Want}
+use Rattle.lot_base.specs.declared.wants.Want.TheVariants as wants
+use Rattle.lot_acts.specs.Profiles.{Hand, Profile, hand, hand_owner, in_hand}
+use Rattle.abstract_locks.specs.Condvars.{Stage, Rests, Adds, Refuses, Misses, Sees, Takes, Clears, moving}
+use Rattle.abstract_locks.specs.Sites.{Doing, Line, Has, Main, found, idle}
+use Rattle.lot_mutex.specs.declared.places.MutexPlace.{MutexPlace}
+use Rattle.lot_mutex.specs.MutexProfiles.{inside, mutex_profile, owner}
+use Rattle.lot_condvar.specs.declared.notify.NotifyAt.{NotifyAt}
+use Rattle.lot_condvar.specs.declared.notify.NotifyAt.TheVariants as notify
+use Rattle.lot_condvar.specs.declared.places.CondvarPlace.{CondvarPlace}
+use Rattle.lot_condvar.specs.declared.places.CondvarPlace.TheVariants.{Wait, Look, Notify}
+use Rattle.lot_condvar.specs.declared.wait.Stands.{Stands}
+use Rattle.lot_condvar.specs.declared.wait.Stands.TheVariants as stands
+use Rattle.lot_condvar.specs.declared.wait.WaitAt.{WaitAt}
+use Rattle.lot_condvar.specs.declared.wait.WaitAt.TheVariants as wait
+
+pub record CondvarRow : Type 0 where
+  -- inside the section of the condition variable, what it is about to do there; the mutex that its wait names, and whether it stands
+  -- in the queue of the condition variable
+  pub stage : Option Stage
+  pub waits_with : Option ℕ
+  pub listed : Bool
+  -- what it does about the mutex, and whether it stands in that queue
+  pub doing : Doing
+  pub moved : Bool
+  -- whether it has anybody in hand, in whose hand it is, and what it wants, where it waits
+  pub carries : Option Bool
+  pub hand : Option Hand
+  pub wants : Option Want
+  -- on which of the two queues it is shown to owe a wake, and whether to try its mutex again
+  pub owes : Bool
+  pub owes_mutex : Bool
+  pub retries : Bool
+  -- its time was up, and it has left the queue of the condition variable
+  pub gave_up : Bool
+
+abbrev pub blank : CondvarRow
+blank = record {
+  stage = None;
+  waits_with = None;
+  listed = false;
+  doing = idle;
+  moved = false;
+  carries = None;
+  hand = None;
+  wants = None;
+  owes = false;
+  owes_mutex = false;
+  retries = false;
+  gave_up = false;
+}
+
+abbrev pub is_main : Option Line → Bool
+is_main (Some Main) = true
+is_main line = false
+
+-- ---------------------------------------------------------------- who waits
+
+abbrev pub is_listed : Stands → Bool
+is_listed stands.Listed = true
+is_listed s = false
+
+abbrev pub is_moved : Stands → Bool
+is_moved stands.Moved = true
+is_moved s = false
+
+-- it was handed the mutex
+abbrev pub has_mutex : Stands → Bool
+has_mutex (stands.Handed by) = true
+has_mutex (stands.Noted note.HandOff) = true
+has_mutex s = false
+
+-- it was woken, and has the mutex to lock again
+abbrev pub is_woken : Stands → Bool
+is_woken (stands.Noted note.Normal) = true
+is_woken s = false
+
+abbrev pub hand_of : Stands → Option Hand
+hand_of (stands.InHand by) = hand by false
+hand_of (stands.Handed by) = hand by true
+hand_of s = None
+
+abbrev pub taker_of : Stands → Option ℕ
+taker_of s = hand_owner (hand_of s)
+
+abbrev pub want_of : Stands → Want
+want_of s = if is_listed s then wants.Wait else wants.Exclusive
+
+-- what befell it adds to what it does about the mutex
+abbrev pub befell : Stands → Doing → Doing
+befell s d = record d {
+  retries = if is_woken s then Some wants.Exclusive else d.retries;
+  claims = if has_mutex s then Some (Has wants.Exclusive) else d.claims;
+}
+
+-- it stands somewhere since it stood behind the last
+abbrev pub standing : Stands → CondvarRow → CondvarRow
+standing s row = record row {
+  listed = is_listed s;
+  moved = is_moved s;
+  hand = hand_of s;
+  wants = Some (want_of s);
+  retries = is_woken s;
+}
+
+-- as in a call of the mutex
+abbrev pub beside : Profile → CondvarRow
+beside row = record blank {
+  doing = row.doing;
+  moved = is_main row.stands;
+  carries = row.carries;
+  hand = row.hand;
+  wants = row.wants;
+  owes_mutex = is_main row.owes;
+  retries = row.retries;
+}
+
+-- inside the section of the condition variable
+abbrev pub waiting_at : Stage → CondvarRow
+waiting_at stage = record blank { stage = Some stage; wants = Some wants.Wait; owes = true }
+
+-- it still owns its mutex there
+abbrev pub coming : Stage → CondvarRow
+coming stage = record (waiting_at stage) { doing = owner }
+
+-- inside the section of the mutex, to which it was moved
+abbrev pub leaving_mutex : Bool → CondvarRow
+leaving_mutex moved =
+    record blank { doing = inside; moved = moved; wants = Some wants.Exclusive; owes_mutex = true }
+
+abbrev pub wait_row : ℕ → WaitAt → CondvarRow
+wait_row m wait.Enter = record blank { doing = owner; wants = Some wants.Wait }
+wait_row m wait.Show = coming Rests
+wait_row m wait.Stand = coming (Adds m)
+wait_row m wait.Leave = record (coming Rests) { listed = true }
+wait_row m wait.Refuse = coming (Refuses m)
+wait_row m (wait.Release s at) = standing s (record (beside (mutex_profile at)) { doing = befell s (mutex_profile at).doing })
+wait_row m (wait.Asleep s) = standing s (record blank { doing = befell s idle })
+wait_row m wait.Remove = record (waiting_at Rests) { listed = true }
+wait_row m wait.Hide = record (waiting_at Clears) { gave_up = true }
+wait_row m wait.GiveUp = record (waiting_at Rests) { gave_up = true }
+wait_row m wait.RemoveMoved = leaving_mutex true
+wait_row m wait.GiveUpMoved = leaving_mutex false
+wait_row m (wait.Lock timed_out at) = record (beside (mutex_profile at)) { gave_up = timed_out }
+
+-- ---------------------------------------------------------------- who notifies
+
+abbrev pub brings_to : Bool → Doing
+brings_to locked = record inside { brings = locked }
+
+-- it has taken the first, if any, and has the bit to set yet where it has moved others
+abbrev pub has_moved : Bool → Bool → Doing
+has_moved any sets = record inside { carries = true; covers = any; sets = sets }
+
+abbrev pub both : Stage → Doing → CondvarRow
+both stage doing = record blank { stage = Some stage; doing = doing; owes = true; owes_mutex = true }
+
+-- it has moved nobody, or so many
+abbrev pub told_of : Bool → ℕ → ℕ → CondvarRow
+told_of any number m =
+    if number == 0 then both (Misses m) inside else record (both Rests (has_moved any false)) { carries = in_hand any false }
+
+abbrev pub notify_row : Bool → ℕ → NotifyAt → CondvarRow
+notify_row all m notify.Enter = blank
+notify_row all m notify.Again = both Rests inside
+notify_row all m notify.Hide = both (Sees m) inside
+notify_row all m notify.Mark = both (moving all m) inside
+notify_row all m (notify.Set seen) = both (moving all m) inside
+notify_row all m (notify.Move locked) = both (moving all m) (brings_to locked)
+notify_row all m (notify.Clear any) = record (both Clears (has_moved any false)) { carries = in_hand any false }
+notify_row all m (notify.MarkMoved number) = record (both Rests (has_moved true true)) { carries = Some false }
+notify_row all m (notify.Leave any number) = told_of any number m
+
+-- ---------------------------------------------------------------- every place
+
+abbrev pub condvar_row : CondvarPlace → CondvarRow
+condvar_row (Wait m timed at) = record (wait_row m at) { waits_with = Some m }
+condvar_row (Look all) = blank
+condvar_row (Notify all m at) = notify_row all m at
+
+-- the thread that took this one and has not left its sections yet
+abbrev pub condvar_taker : CondvarPlace → Option ℕ
+condvar_taker p = hand_owner (condvar_row p).hand
+
+-- what it wants, where it waits
+abbrev pub condvar_wants : CondvarPlace → Option Want
+condvar_wants p = (condvar_row p).wants
+
+-- the key under which a thread sleeps in a call that may give up
+abbrev pub sleeps_under : ℕ → ℕ → Stands → Option ℕ
+sleeps_under c m stands.Listed = Some (2 * c)
+sleeps_under c m stands.Moved = Some (2 * m)
+sleeps_under c m s = None
+
+abbrev pub condvar_late_key : ℕ → CondvarPlace → Option ℕ
+condvar_late_key c (Wait m true (wait.Asleep s)) = sleeps_under c m s
+condvar_late_key c p = None
+
+-- on the queue of a lock, from entering its section until it is left
+abbrev pub owes_by : ℕ → ℕ → ℕ → CondvarRow → Bool
+owes_by c l m row = (row.owes && (l == c)) || (row.owes_mutex && (l == m))
+
+abbrev pub condvar_owes : ℕ → ℕ → CondvarPlace → Bool
+condvar_owes c l (Wait m timed at) = owes_by c l m (wait_row m at)
+condvar_owes c l (Look all) = false
+condvar_owes c l (Notify all m at) = owes_by c l m (notify_row all m at)
+
+abbrev pub condvar_retries : CondvarPlace → Bool
+condvar_retries p = (condvar_row p).retries

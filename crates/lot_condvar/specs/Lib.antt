@@ -1,0 +1,2 @@
+pub mod CondvarSteps
+pub mod CondvarProfiles

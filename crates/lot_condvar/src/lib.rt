@@ -1,0 +1,13 @@
+//! The steps of every call of a condition variable.
+#![tactic(auto)]
+
+pub mod notify;
+pub mod places;
+pub mod wait;
+
+pub use notify::NotifyAt;
+pub use places::{CondvarCall, CondvarPlace, shown, shows};
+pub use wait::{Stands, WaitAt};
+
+#[cfg(test)]
+mod tests;

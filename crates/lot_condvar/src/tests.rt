@@ -1,0 +1,262 @@
+//! Calls of a condition variable alone, by the values that words would have.
+ghost use Rattle.lot_condvar.specs.CondvarSteps.{HasMutexKey};
+
+use super::*;
+use lot_acts::{Act, Next, Reply, Wakes, Whom};
+use lot_base::{Keys, Note, Op, Requeue, Want};
+use lot_calls::{Answer, Outcome};
+use std::process::Abort;
+
+const WAIT: CondvarCall = CondvarCall::Wait {
+    mutex: 5,
+    timed: false,
+};
+
+const WAIT_TIMED: CondvarCall = CondvarCall::Wait {
+    mutex: 5,
+    timed: true,
+};
+
+/// Where a call beside the mutex 5 goes on from a place by a reply, which doesn't end it.
+fn onward(rt: &impl Abort, place: CondvarPlace, reply: Reply) -> CondvarPlace
+    ensures { HasMutexKey result }
+{
+    match place.next(reply) {
+        Next::At(next) if next.mutex() == Some(5) => next,
+        other => panic!(rt; "went to {other:?}"),
+    }
+}
+
+/// And by another behind that.
+fn twice(rt: &impl Abort, place: CondvarPlace, first: Reply, second: Reply) -> CondvarPlace
+    ensures { HasMutexKey result }
+{
+    onward(rt, onward(rt, place, first), second)
+}
+
+/// A thread that waits and has left the section, before its release.
+fn releases(rt: &impl Abort, call: CondvarCall) -> CondvarPlace
+    ensures { HasMutexKey result }
+{
+    let stands = twice(rt, CondvarPlace::first(call), Reply::Done, Reply::Value(0));
+    twice(rt, stands, Reply::Done, Reply::Done)
+}
+
+/// A thread that waits asleep, with nobody in the queue of its mutex.
+fn asleep(rt: &impl Abort, call: CondvarCall) -> CondvarPlace
+    ensures { HasMutexKey result }
+{
+    onward(rt, releases(rt, call), Reply::Value(1))
+}
+
+/// A notification that has found waiters of the mutex 5, and entered the sections.
+fn notifies(rt: &impl Abort, all: bool) -> CondvarPlace
+    ensures { HasMutexKey result }
+{
+    let first = CondvarPlace::first(CondvarCall::Notify { all });
+    twice(rt, first, Reply::Value(6), Reply::Done)
+}
+
+#[test]
+fn a_wait_shows_its_mutex_stands_and_releases(rt: HostRuntime) {
+    let enters = CondvarPlace::first(WAIT);
+    assert_eq!(rt; enters.act(3), Act::Enter(Keys::One(6)));
+    assert!(rt; !enters.owes_on(3, 3));
+    let shows = onward(&rt, enters, Reply::Done);
+    let op = Op::Exchange { from: 0, to: 6 };
+    assert_eq!(rt; shows.act(3), Act::Word { lock: 3, op });
+    assert!(rt; shows.owes_on(3, 3) && !shows.owes_on(3, 5));
+    let stands = onward(&rt, shows, Reply::Value(6));
+    let want = Want::Wait;
+    assert_eq!(rt; stands.act(3), Act::Stand { key: 6, want });
+    let releases = twice(&rt, stands, Reply::Done, Reply::Done);
+    let op = Op::Sub(1);
+    assert_eq!(rt; releases.act(3), Act::Word { lock: 5, op });
+    let asleep = onward(&rt, releases, Reply::Value(1));
+    assert_eq!(rt; asleep.outcome(), Outcome::Sleep);
+    assert!(rt; asleep.late_key(3).is_none());
+}
+
+#[test]
+fn a_wait_beside_another_mutex_is_refused(rt: HostRuntime) {
+    let refused = twice(&rt, CondvarPlace::first(WAIT), Reply::Done, Reply::Value(8));
+    let act = Act::Leave {
+        keys: Keys::One(6),
+        wakes: Wakes::Nobody,
+    };
+    assert_eq!(rt; refused.act(3), act);
+    assert_eq!(rt; refused.next(Reply::Done), Next::End(Answer::TwoMutexes));
+}
+
+#[test]
+fn who_is_woken_locks_its_mutex_again(rt: HostRuntime) {
+    let taken = onward(&rt, asleep(&rt, WAIT), Reply::TakenBy(2));
+    assert_eq!(rt; taken.taker(), Some(2));
+    assert_eq!(rt; taken.wants(), Some(Want::Exclusive));
+    let locks = onward(&rt, taken, Reply::Woken(Note::Normal));
+    assert!(rt; locks.retries());
+    let op = Op::Exchange { from: 0, to: 1 };
+    assert_eq!(rt; locks.act(3), Act::Word { lock: 5, op });
+    assert_eq!(rt; locks.next(Reply::Value(0)), Next::End(Answer::Ok));
+    let decides = twice(&rt, locks, Reply::Value(1), Reply::Value(1));
+    assert!(rt; decides.looking().is_some());
+}
+
+#[test]
+fn who_is_moved_may_be_handed_its_mutex(rt: HostRuntime) {
+    let moved = onward(&rt, asleep(&rt, WAIT_TIMED), Reply::MovedTo(10));
+    assert_eq!(rt; moved.late_key(3), Some(10));
+    let handed = Reply::HandedBy { by: 1, alone: true };
+    let has = twice(&rt, moved, Reply::TakenBy(1), handed);
+    assert_eq!(rt; has.outcome(), Outcome::Sleep);
+    let accepts = onward(&rt, has, Reply::Woken(Note::HandOff));
+    assert_eq!(rt; accepts.act(3), Act::Accept);
+    assert!(rt; !accepts.retries());
+    assert_eq!(rt; accepts.next(Reply::Done), Next::End(Answer::Notified));
+}
+
+#[test]
+fn a_notification_may_come_beside_the_release(rt: HostRuntime) {
+    let moved = onward(&rt, releases(&rt, WAIT), Reply::MovedTo(10));
+    let takes = twice(&rt, moved, Reply::Value(3), Reply::Done);
+    assert!(rt; takes.owes_on(3, 5));
+    // It is the first of that queue, and takes itself.
+    let took = Reply::Took {
+        any: true,
+        none_left: false,
+    };
+    let leaves = twice(&rt, takes, Reply::TakenBy(0), took);
+    let wakes = Wakes::All(Note::Normal);
+    let keys = Keys::One(10);
+    assert_eq!(rt; leaves.act(3), Act::Leave { keys, wakes });
+    let locks = twice(&rt, leaves, Reply::Woken(Note::Normal), Reply::Done);
+    assert!(rt; locks.retries());
+    assert_eq!(rt; locks.next(Reply::Value(0)), Next::End(Answer::Ok));
+}
+
+#[test]
+fn a_timed_wait_leaves_the_queue_in_which_it_stands(rt: HostRuntime) {
+    let late = asleep(&rt, WAIT_TIMED);
+    assert_eq!(rt; late.late_key(3), Some(6));
+    let removes = onward(&rt, late, Reply::Late);
+    assert_eq!(rt; removes.act(3), Act::Remove(6));
+    let hides = onward(&rt, removes, Reply::Removed { none_left: true });
+    let op = Op::Store(0);
+    assert_eq!(rt; hides.act(3), Act::Word { lock: 3, op });
+    let locks = twice(&rt, hides, Reply::Value(6), Reply::Done);
+    assert!(rt; !locks.retries());
+    assert_eq!(rt; locks.next(Reply::Value(0)), Next::End(Answer::TimedOut));
+    let moved = twice(&rt, late, Reply::MovedTo(10), Reply::Late);
+    assert_eq!(rt; moved.act(3), Act::Remove(10));
+    let locks = twice(&rt, moved, Reply::Removed { none_left: true }, Reply::Done);
+    assert_eq!(rt; locks.next(Reply::Value(0)), Next::End(Answer::Notified));
+}
+
+#[test]
+fn nobody_is_notified_where_nobody_waits(rt: HostRuntime) {
+    for (all, none) in [(false, Answer::No), (true, Answer::Number(0))] {
+        let looks = CondvarPlace::first(CondvarCall::Notify { all });
+        assert!(rt; looks.mutex().is_none());
+        assert_eq!(rt; looks.next(Reply::Value(0)), Next::End(none));
+        let missed = onward(&rt, notifies(&rt, all), Reply::Value(8));
+        assert_eq!(rt; missed.next(Reply::Done), Next::End(none));
+    }
+}
+
+#[test]
+fn the_first_is_moved_to_an_owned_mutex(rt: HostRuntime) {
+    let again = notifies(&rt, false);
+    assert!(rt; again.owes_on(3, 3) && again.owes_on(3, 5) && !again.owes_on(3, 4));
+    let sets = twice(&rt, again, Reply::Value(6), Reply::Value(1));
+    let op = Op::Exchange { from: 1, to: 3 };
+    assert_eq!(rt; sets.act(3), Act::Word { lock: 5, op });
+    let moves = onward(&rt, sets, Reply::Value(1));
+    let how = Requeue::One;
+    assert_eq!(rt;
+        moves.act(3),
+        Act::Requeue {
+            from: 6,
+            to: 10,
+            how
+        }
+    );
+    let moved = Reply::Requeued {
+        number: 1,
+        none_left: true,
+    };
+    let clears = onward(&rt, moves, moved);
+    let op = Op::Store(0);
+    assert_eq!(rt; clears.act(3), Act::Word { lock: 3, op });
+    let leaves = onward(&rt, clears, Reply::Value(6));
+    let wakes = Wakes::Nobody;
+    let keys = Keys::Two(6, 10);
+    assert_eq!(rt; leaves.act(3), Act::Leave { keys, wakes });
+    assert_eq!(rt; leaves.next(Reply::Done), Next::End(Answer::Yes));
+}
+
+#[test]
+fn the_first_is_woken_where_the_mutex_is_free(rt: HostRuntime) {
+    let marks = onward(&rt, notifies(&rt, false), Reply::Value(6));
+    let takes = twice(&rt, marks, Reply::Value(1), Reply::Value(0));
+    let whom = Whom::First;
+    assert_eq!(rt; takes.act(3), Act::Take { key: 6, whom });
+    let took = Reply::Took {
+        any: true,
+        none_left: false,
+    };
+    let leaves = onward(&rt, takes, took);
+    let wakes = Wakes::All(Note::Normal);
+    let keys = Keys::Two(6, 10);
+    assert_eq!(rt; leaves.act(3), Act::Leave { keys, wakes });
+    assert_eq!(rt; leaves.next(Reply::Done), Next::End(Answer::Yes));
+}
+
+#[test]
+fn all_are_moved_and_one_is_woken_where_the_mutex_is_free(rt: HostRuntime) {
+    let hides = onward(&rt, notifies(&rt, true), Reply::Value(6));
+    let op = Op::Store(0);
+    assert_eq!(rt; hides.act(3), Act::Word { lock: 3, op });
+    let moves = twice(&rt, hides, Reply::Value(6), Reply::Value(0));
+    let how = Requeue::TakeOneMoveRest;
+    assert_eq!(rt;
+        moves.act(3),
+        Act::Requeue {
+            from: 6,
+            to: 10,
+            how
+        }
+    );
+    let moved = Reply::Requeued {
+        number: 3,
+        none_left: true,
+    };
+    let marks = onward(&rt, moves, moved);
+    let op = Op::Or(2);
+    assert_eq!(rt; marks.act(3), Act::Word { lock: 5, op });
+    let leaves = onward(&rt, marks, Reply::Value(0));
+    let wakes = Wakes::All(Note::Normal);
+    let keys = Keys::Two(6, 10);
+    assert_eq!(rt; leaves.act(3), Act::Leave { keys, wakes });
+    assert_eq!(rt; leaves.next(Reply::Done), Next::End(Answer::Number(3)));
+}
+
+#[test]
+fn all_are_moved_to_an_owned_mutex(rt: HostRuntime) {
+    let marks = twice(&rt, notifies(&rt, true), Reply::Value(6), Reply::Value(6));
+    let moves = twice(&rt, marks, Reply::Value(3), Reply::Value(3));
+    let how = Requeue::All;
+    assert_eq!(rt;
+        moves.act(3),
+        Act::Requeue {
+            from: 6,
+            to: 10,
+            how
+        }
+    );
+    let moved = Reply::Requeued {
+        number: 2,
+        none_left: true,
+    };
+    let leaves = onward(&rt, moves, moved);
+    assert_eq!(rt; leaves.next(Reply::Done), Next::End(Answer::Number(2)));
+}
