@@ -106,33 +106,62 @@ fn what_was_written_is_read(rt: HostRuntime) -> Result<(), Fail> {
     Ok(())
 }
 
-// Which tries get the lock: to read, to read and upgrade, to write.
-fn tries<R: Wait>(rt: &R, lock: &RwLock<u64>, token: &mut Token) -> [bool; 3]
+// Whether a try to read comes in.
+fn reads<const RECURSIVE: bool, R: Wait>(
+    rt: &R,
+    lock: &lock_api_rw::RwLock<RawRwLock<RECURSIVE>, u64>,
+    token: &mut Token,
+) -> bool
     requires { IsTokenOf (lot_of lock.now) token.old }
     ensures { IsTokenOf (lot_of lock.now) token.new }
 {
-    let read = match lock.try_read(rt, token) {
+    match lock.try_read(rt, token) {
         Ok(Some(guard)) => {
             guard.unlock(rt, token);
             true
         }
         _ => false,
-    };
-    let upgradable = match lock.try_upgradable_read(rt, token) {
+    }
+}
+
+// Whether a try to read and to write later does.
+fn comes_upgradable<R: Wait>(rt: &R, lock: &RwLock<u64>, token: &mut Token) -> bool
+    requires { IsTokenOf (lot_of lock.now) token.old }
+    ensures { IsTokenOf (lot_of lock.now) token.new }
+{
+    match lock.try_upgradable_read(rt, token) {
         Ok(Some(guard)) => {
             guard.unlock(rt, token);
             true
         }
         _ => false,
-    };
-    let written = match lock.try_write(rt, token) {
+    }
+}
+
+// Whether a try to write does.
+fn writes<R: Wait>(rt: &R, lock: &RwLock<u64>, token: &mut Token) -> bool
+    requires { IsTokenOf (lot_of lock.now) token.old }
+    ensures { IsTokenOf (lot_of lock.now) token.new }
+{
+    match lock.try_write(rt, token) {
         Some(guard) => {
             guard.unlock(rt, token);
             true
         }
         None => false,
-    };
-    [read, upgradable, written]
+    }
+}
+
+// Which tries get the lock: to read, to read and upgrade, to write.
+fn tries<R: Wait>(rt: &R, lock: &RwLock<u64>, token: &mut Token) -> [bool; 3]
+    requires { IsTokenOf (lot_of lock.now) token.old }
+    ensures { IsTokenOf (lot_of lock.now) token.new }
+{
+    [
+        reads(rt, lock, token),
+        comes_upgradable(rt, lock, token),
+        writes(rt, lock, token),
+    ]
 }
 
 // What tries get beside a writer, behind each of its downgrades, and in the end.
@@ -163,6 +192,21 @@ fn a_downgrade_lets_more_in(rt: HostRuntime) -> Result<(), Fail> {
     Ok(())
 }
 
+// Whether who reads finds this value.
+fn finds<R: Wait>(rt: &R, lock: &RecursiveRwLock<u64>, token: &mut Token, value: u64) -> bool
+    requires { IsTokenOf (lot_of lock.now) token.old }
+    ensures { IsTokenOf (lot_of lock.now) token.new }
+{
+    match lock.read(rt, token) {
+        Ok(guard) => {
+            let same = *guard == value;
+            guard.unlock(rt, token);
+            same
+        }
+        Err(_) => false,
+    }
+}
+
 // Whether a reader of a recursive lock reads again, and a writer beside it gives up in time.
 fn reads_again<R: Wait>(rt: &R, lock: &RecursiveRwLock<u64>, token: &mut Token) -> bool
     requires { IsTokenOf (lot_of lock.now) token.old }
@@ -174,14 +218,7 @@ fn reads_again<R: Wait>(rt: &R, lock: &RecursiveRwLock<u64>, token: &mut Token) 
         Some(writer) => writer.has_reader(token, guard),
         None => true,
     };
-    let again = match lock.read(rt, token) {
-        Ok(other) => {
-            let same = *other == *guard;
-            other.unlock(rt, token);
-            same
-        }
-        Err(_) => false,
-    };
+    let again = finds(rt, lock, token, *guard);
     guard.unlock(rt, token);
     gave_up && again
 }

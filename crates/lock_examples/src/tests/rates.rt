@@ -45,8 +45,8 @@ fn taxed<R: Wait>(rt: &R, rate: &OnceCell<Rate>, ticket: Ticket, reads: &AtomicU
     let mut token = ticket.enter();
     let found = rate_of(rt, rate, &mut token, RATES, reads);
     drop(token.leave());
-    let percent = u64::from(found.ok()?.percent);
-    Some(1000 + 10 * percent)
+    let percent = found.ok()?.percent;
+    u64::from(percent).checked_mul(10)?.checked_add(1000)
 }
 
 // Whether all threads of these tickets found the same.

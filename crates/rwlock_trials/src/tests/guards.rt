@@ -3,7 +3,7 @@ ghost use Rattle.std.specs.Prelude.{◌≡◌, ◌≤◌};
 ghost use Rattle.parking_lot_core.specs.Tokens.{IsTicketOf, IsTokenOf};
 ghost use Rattle.parking_lot.specs.RwLockUsers.{lot_of};
 
-use super::{lock_alone, lone, next_of, seats, tries};
+use super::{lock_alone, lone, next_of, reads, seats, tries};
 use parking_lot::{Fault, ParkingLot, RawRwLock, RwLock, Ticket, Token, lock_api_rw};
 use std::alloc::Global;
 use std::sync::Wait;
@@ -109,24 +109,6 @@ pub(super) fn is_waited_for<const RECURSIVE: bool, R: Wait>(
         yield_now();
     }
     false
-}
-
-// Whether a try to read comes in.
-fn reads<const RECURSIVE: bool, R: Wait>(
-    rt: &R,
-    lock: &lock_api_rw::RwLock<RawRwLock<RECURSIVE>, u64>,
-    token: &mut Token,
-) -> bool
-    requires { IsTokenOf (lot_of lock.now) token.old }
-    ensures { IsTokenOf (lot_of lock.now) token.new }
-{
-    match lock.try_read(rt, token) {
-        Ok(Some(guard)) => {
-            guard.unlock(rt, token);
-            true
-        }
-        _ => false,
-    }
 }
 
 // Reads until a writer waits. Whether one came, and whether a try to read once more came in beside it.
