@@ -160,9 +160,13 @@ abbrev pub both : Stage → Doing → CondvarRow
 both stage doing = record blank { stage = Some stage; doing = doing; owes = true; owes_mutex = true }
 
 -- it has moved nobody, or so many
+abbrev pub told_stage : ℕ → ℕ → Stage
+told_stage m number = if number == 0 then Misses m else Rests
+
 abbrev pub told_of : Bool → ℕ → ℕ → CondvarRow
-told_of any number m =
-    if number == 0 then both (Misses m) inside else record (both Rests (has_moved any false)) { carries = in_hand any false }
+told_of any number m = record (both (told_stage m number) (if number == 0 then inside else has_moved any false)) {
+  carries = in_hand any false;
+}
 
 abbrev pub notify_row : Bool → ℕ → NotifyAt → CondvarRow
 notify_row all m notify.Enter = blank
