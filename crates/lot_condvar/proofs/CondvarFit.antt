@@ -1,12 +1,14 @@
 -- Each step of a thread may do to the condition variable what its deeds say, and leaves its word.
-use Rattle.std.proofs.Common.{ℕ, Bool, true, false, Option, Some, None, if◌then◌else◌, ◌==◌, ◌≡◌, ◌≢◌, ◌≤◌, ◌+◌, ◌-◌, ◌⊎◌, inl, inr, List, [], ◌∷◌, ◌++◌, length, refl, sym, ap, ◌∙◌, subst, arith}
+use Rattle.std.proofs.Common.{ℕ, Bool, true, false, Option, Some, None, if◌then◌else◌, ◌==◌, ◌≡◌, ◌≢◌, ◌≤◌, ◌+◌, ◌*◌, ◌⊎◌, inl, inr, List, [], ◌∷◌, ◌++◌, length, refl, sym, ap, ◌∙◌, subst, arith}
 use Rattle.std.proofs.lemmas.Bool.{cases_eq}
 use Rattle.std.proofs.lemmas.Bool.Decides.{nat_tests}
 use Rattle.std.specs.Prelude.{drop, nat_lt, not, ◌&&◌, ◌||◌}
+use Rattle.lot_base.specs.declared.keys.Keys.TheVariants.{One}
 use Rattle.lot_base.specs.declared.notes.Note.TheVariants as note
 use Rattle.lot_base.specs.declared.ops.Op.{Op}
 use Rattle.lot_base.specs.declared.ops.Op.TheVariants as op
 use Rattle.lot_base.specs.Words.{apply}
+use Rattle.lot_acts.specs.declared.acts.Act.TheVariants as act
 use Rattle.lot_acts.specs.declared.acts.Next.{Next}
 use Rattle.lot_acts.specs.declared.acts.Next.TheVariants.{At, End}
 use Rattle.lot_acts.specs.declared.acts.Reply.{Reply}
@@ -14,10 +16,15 @@ use Rattle.lot_acts.specs.declared.acts.Reply.TheVariants as reply
 use Rattle.abstract_locks.specs.Condvars.{Stage, Rests, Adds, Refuses, Misses, Sees, Takes, Clears, Inside, CondvarSite, IsCondvar, CondvarDeed, EndsWait, GoesIn, GoesOut, Show, SeeOther, StandLast, SeeAgain, MissIt, Hide, MoveFirst, MoveAll, LeaveList, Clear, MayGo, MayGoOut, CondvarNeeded, IsAsInside, IsInsideAt, IsInsideNot, at, clears_if, condvar_leads, hidden, moving, waiter}
 use Rattle.abstract_locks.specs.Condvars as condvars
 use Rattle.abstract_locks.specs.Locks.{Queued, putting, times, without}
-use Rattle.abstract_locks.specs.Sites.{is_empty}
+use Rattle.abstract_locks.specs.Sites.{Doing, is_empty}
+use Rattle.abstract_locks.proofs.CondvarKeeps.{move_fits}
 use Rattle.abstract_locks.proofs.LockKeeps.{times_append}
+use Rattle.lot_mutex.specs.declared.hand_off.HandOffAt.TheVariants as hand_off
+use Rattle.lot_mutex.specs.declared.lock.LockAt.TheVariants as lock
 use Rattle.lot_mutex.specs.declared.places.MutexPlace.{MutexPlace}
-use Rattle.lot_mutex.specs.MutexSteps.{is_locked, mutex_next}
+use Rattle.lot_mutex.specs.declared.places.MutexPlace.TheVariants as mutex
+use Rattle.lot_mutex.specs.declared.unlock.UnlockAt.TheVariants as unlock
+use Rattle.lot_mutex.specs.MutexSteps.{is_locked, mutex_act, mutex_next}
 use Rattle.lot_condvar.specs.declared.notify.NotifyAt.{NotifyAt}
 use Rattle.lot_condvar.specs.declared.notify.NotifyAt.TheVariants as notify
 use Rattle.lot_condvar.specs.declared.places.CondvarPlace.{CondvarPlace}
@@ -26,9 +33,9 @@ use Rattle.lot_condvar.specs.declared.wait.Stands.{Stands}
 use Rattle.lot_condvar.specs.declared.wait.Stands.TheVariants as stands
 use Rattle.lot_condvar.specs.declared.wait.WaitAt.{WaitAt}
 use Rattle.lot_condvar.specs.declared.wait.WaitAt.TheVariants as wait
-use Rattle.lot_condvar.specs.CondvarSteps.{befallen, befalls, behind, in_notify, in_wait, is_shown, marks, mutex_shown, notified, released, relocked, shown_as}
+use Rattle.lot_condvar.specs.CondvarSteps.{befallen, befalls, behind, condvar_act, in_notify, in_wait, is_shown, marks, mutex_beside, mutex_shown, notified, released, relocked, shown_as}
 use Rattle.lot_condvar.specs.CondvarProfiles.{is_listed, told_stage}
-use Rattle.lot_condvar.specs.CondvarDeeds.{AllNeeded, CondvarStepsCode, CondvarStepsFollow, Follows, IsAt, IsAtNext, IsAtStage, IsAway, IsListed, MayHear, after_all, condvar_deeds, own_op, relocked_deeds, word_of}
+use Rattle.lot_condvar.specs.CondvarDeeds.{AllNeeded, CondvarMovesFit, CondvarStepsCode, CondvarStepsFollow, Follows, IsAt, IsAtNext, IsAtStage, IsAway, IsListed, MayHear, after_all, condvar_deeds, relocked_deeds, word_of}
 
 times_gone : (t : ℕ) (q : List Queued) → times t (without t q) ≡ 0
 times_gone t [] = refl
@@ -214,8 +221,43 @@ module _ (c : CondvarSite) (t : ℕ) (site : IsCondvar c) where
   follows (Notify all m at) told a h = notifies m all at told a h
   follows p told a h = absurd h
 
-  -- ---------------------------------------------------------------- the word
+-- ---------------------------------------------------------------- the word
 
+-- a step on a word in a call of a mutex is one on its word
+decided_word : (l k s : ℕ) (f : Op) (a b : Bool)
+    → (if not a then act.Word l (op.Exchange s (s + 1)) else if b then act.Word l (op.Exchange 1 3) else act.Enter (One (2 * l))) ≡ act.Word k f → l ≡ k
+decided_word l k s f false b is = cc
+decided_word l k s f true true is = cc
+decided_word l k s f true false is = absurd cc
+
+mutex_word_is : (l k : ℕ) (f : Op) (p : MutexPlace) → mutex_act l p ≡ act.Word k f → l ≡ k
+mutex_word_is l k f (mutex.Lock e r (lock.Decide s)) is = decided_word l k s f (is_locked s) (s == 1) is
+mutex_word_is l k f (mutex.Lock e r lock.First) is = cc
+mutex_word_is l k f (mutex.Lock e r lock.Load) is = cc
+mutex_word_is l k f (mutex.Lock e r lock.Clear) is = cc
+mutex_word_is l k f (mutex.Lock e r lock.Check) is = absurd cc
+mutex_word_is l k f (mutex.Lock e r (lock.Leave parked)) is = absurd cc
+mutex_word_is l k f (mutex.Lock e r lock.Asleep) is = absurd cc
+mutex_word_is l k f (mutex.Lock e r (lock.Taken by)) is = absurd cc
+mutex_word_is l k f (mutex.Lock e r (lock.Handed by)) is = absurd cc
+mutex_word_is l k f (mutex.Lock e r lock.Accept) is = absurd cc
+mutex_word_is l k f (mutex.Lock e r lock.Remove) is = absurd cc
+mutex_word_is l k f (mutex.Lock e r lock.GiveUp) is = absurd cc
+mutex_word_is l k f mutex.TryLock is = cc
+mutex_word_is l k f (mutex.Unlock unlock.Subtract) is = cc
+mutex_word_is l k f (mutex.Unlock (unlock.Clear any)) is = cc
+mutex_word_is l k f (mutex.Unlock unlock.Enter) is = absurd cc
+mutex_word_is l k f (mutex.Unlock unlock.Take) is = absurd cc
+mutex_word_is l k f (mutex.Unlock (unlock.Leave any)) is = absurd cc
+mutex_word_is l k f mutex.UnlockFair is = cc
+mutex_word_is l k f mutex.Bump is = cc
+mutex_word_is l k f (mutex.HandOff b (hand_off.Store false none_left)) is = cc
+mutex_word_is l k f (mutex.HandOff b (hand_off.Store true none_left)) is = absurd cc
+mutex_word_is l k f (mutex.HandOff b hand_off.Enter) is = absurd cc
+mutex_word_is l k f (mutex.HandOff b hand_off.Take) is = absurd cc
+mutex_word_is l k f (mutex.HandOff b (hand_off.Leave any)) is = absurd cc
+
+module _ (c : CondvarSite) (t : ℕ) where
   same_word : (n m : ℕ) → ((shown_as n == 0) || is_shown (shown_as n) m) ≡ true → (if shown_as n == 0 then shown_as m else shown_as n) ≡ shown_as m
   same_word n m e = grind (arith, nat_tests)
 
@@ -233,17 +275,43 @@ module _ (c : CondvarSite) (t : ℕ) (site : IsCondvar c) where
   looks_word m true = refl
   looks_word m false = refl
 
-  leaves_word : (p : CondvarPlace) (f : Op) → own_op p ≡ Some f → apply f (word_of c.shown) ≡ word_of (after_all (condvar_deeds p (reply.Value (word_of c.shown))) c t).shown
-  leaves_word (Wait m timed wait.Show) f is = let e : op.Exchange 0 (shown_as m) ≡ f = cc in rw (← e) (shows_word m c.shown refl ((word_of c.shown == 0) || is_shown (word_of c.shown) m) refl)
-  leaves_word (Wait m timed wait.Hide) f is = let e : op.Store 0 ≡ f = cc in rw (← e) refl
-  leaves_word (Look all) f is = let e : op.Load ≡ f = cc in rw (← e) refl
-  leaves_word (Notify all m notify.Again) f is = let e : op.Load ≡ f = cc in rw (← e) (looks_word m (is_shown (word_of c.shown) m))
-  leaves_word (Notify all m notify.Hide) f is = let e : op.Store 0 ≡ f = cc in rw (← e) refl
-  leaves_word (Notify all m (notify.Clear any)) f is = let e : op.Store 0 ≡ f = cc in rw (← e) refl
-  leaves_word p f is = absurd cc
+  leaves_word : (k : ℕ) (p : CondvarPlace) (f : Op) → condvar_act k p ≡ act.Word k f → mutex_beside p ≢ Some k
+      → apply f (word_of c.shown) ≡ word_of (after_all (condvar_deeds p (reply.Value (word_of c.shown))) c t).shown
+  leaves_word k (Wait m timed wait.Show) f is ne = let e : op.Exchange 0 (shown_as m) ≡ f = cc in rw (← e) (shows_word m c.shown refl ((word_of c.shown == 0) || is_shown (word_of c.shown) m) refl)
+  leaves_word k (Wait m timed wait.Hide) f is ne = let e : op.Store 0 ≡ f = cc in rw (← e) refl
+  leaves_word k (Wait m timed (wait.Release s at)) f is ne = absurd (ne (ap (λ l. Some l) (mutex_word_is m k f at is)))
+  leaves_word k (Wait m timed (wait.Lock timed_out at)) f is ne = absurd (ne (ap (λ l. Some l) (mutex_word_is m k f at is)))
+  leaves_word k (Wait m timed wait.Enter) f is ne = absurd cc
+  leaves_word k (Wait m timed wait.Stand) f is ne = absurd cc
+  leaves_word k (Wait m timed wait.Leave) f is ne = absurd cc
+  leaves_word k (Wait m timed wait.Refuse) f is ne = absurd cc
+  leaves_word k (Wait m timed (wait.Asleep s)) f is ne = absurd cc
+  leaves_word k (Wait m timed wait.Remove) f is ne = absurd cc
+  leaves_word k (Wait m timed wait.GiveUp) f is ne = absurd cc
+  leaves_word k (Wait m timed wait.RemoveMoved) f is ne = absurd cc
+  leaves_word k (Wait m timed wait.GiveUpMoved) f is ne = absurd cc
+  leaves_word k (Look all) f is ne = let e : op.Load ≡ f = cc in rw (← e) refl
+  leaves_word k (Notify all m notify.Again) f is ne = let e : op.Load ≡ f = cc in rw (← e) (looks_word m (is_shown (word_of c.shown) m))
+  leaves_word k (Notify all m notify.Hide) f is ne = let e : op.Store 0 ≡ f = cc in rw (← e) refl
+  leaves_word k (Notify all m (notify.Clear any)) f is ne = let e : op.Store 0 ≡ f = cc in rw (← e) refl
+  leaves_word k (Notify all m notify.Mark) f is ne = absurd (ne (ap (λ l. Some l) (let g : m ≡ k = cc in g)))
+  leaves_word k (Notify all m (notify.Set seen)) f is ne = absurd (ne (ap (λ l. Some l) (let g : m ≡ k = cc in g)))
+  leaves_word k (Notify all m (notify.MarkMoved number)) f is ne = absurd (ne (ap (λ l. Some l) (let g : m ≡ k = cc in g)))
+  leaves_word k (Notify all m notify.Enter) f is ne = absurd cc
+  leaves_word k (Notify true m (notify.Move locked)) f is ne = absurd cc
+  leaves_word k (Notify false m (notify.Move true)) f is ne = absurd cc
+  leaves_word k (Notify false m (notify.Move false)) f is ne = absurd cc
+  leaves_word k (Notify all m (notify.Leave any number)) f is ne = absurd cc
 
 pub condvar_steps_follow : CondvarStepsFollow
 condvar_steps_follow c t p told site a h = follows c t site p told a h
 
 pub condvar_steps_code : CondvarStepsCode
-condvar_steps_code c t p f site a is = leaves_word c t site p f is
+condvar_steps_code c t k p f is ne = leaves_word c t k p f is ne
+
+-- ---------------------------------------------------------------- with the mutex
+
+pub condvar_moves_fit : CondvarMovesFit
+condvar_moves_fit r all locked c s t m sort site aside a doing =
+    move_fits r all locked c s t m sort site aside a.stage (ap (λ (d : Doing). d.inside) doing) (ap (λ (d : Doing). d.carries) doing)
+    (ap (λ (d : Doing). d.wakes) doing) (ap (λ (d : Doing). d.retries) doing) (λ e. ap (λ (d : Doing). d.brings) doing ∙ e)

@@ -2,15 +2,15 @@
 -- of them.
 use Rattle.std.specs.Prelude.{ℕ, Bool, true, false, Option, Some, None, if◌then◌else◌, ◌==◌, ◌||◌, ◌≡◌, ◌≢◌, List, [], ◌∷◌, drop, length}
 use Rattle.lot_base.specs.declared.ops.Op.{Op}
-use Rattle.lot_base.specs.declared.ops.Op.TheVariants as op
 use Rattle.lot_base.specs.Words.{apply}
+use Rattle.lot_acts.specs.declared.acts.Act.TheVariants as act
 use Rattle.lot_acts.specs.declared.acts.Next.{Next}
 use Rattle.lot_acts.specs.declared.acts.Next.TheVariants.{At, End}
 use Rattle.lot_acts.specs.declared.acts.Reply.{Reply}
 use Rattle.lot_acts.specs.declared.acts.Reply.TheVariants.{Done, Value, Took, Requeued, Removed, Late}
-use Rattle.abstract_locks.specs.Condvars.{Stage, CondvarSite, IsCondvar, CondvarDeed, EndsWait, GoesIn, GoesOut, Show, SeeOther, StandLast, SeeAgain, MissIt, Hide, MoveFirst, MoveAll, LeaveList, Clear, CondvarNeeded, IsInsideAt, IsInsideNot, condvar_leads}
-use Rattle.abstract_locks.specs.Locks.{times, without}
-use Rattle.abstract_locks.specs.Sites.{is_empty}
+use Rattle.abstract_locks.specs.Condvars.{Stage, CondvarSite, IsCondvar, CondvarDeed, EndsWait, GoesIn, GoesOut, Show, SeeOther, StandLast, SeeAgain, MissIt, Hide, MoveFirst, MoveAll, LeaveList, Clear, CondvarNeeded, IsInsideAt, IsInsideNot, MoveFits, WaitsAside, condvar_leads}
+use Rattle.abstract_locks.specs.Locks.{Mutex, Rules, times, without}
+use Rattle.abstract_locks.specs.Sites.{Site, is_empty}
 use Rattle.lot_mutex.specs.declared.places.MutexPlace.{MutexPlace}
 use Rattle.lot_mutex.specs.MutexSteps.{mutex_next}
 use Rattle.lot_condvar.specs.declared.notify.NotifyAt.{NotifyAt}
@@ -20,8 +20,8 @@ use Rattle.lot_condvar.specs.declared.places.CondvarPlace.TheVariants.{Wait, Loo
 use Rattle.lot_condvar.specs.declared.wait.Stands.TheVariants as stands
 use Rattle.lot_condvar.specs.declared.wait.WaitAt.{WaitAt}
 use Rattle.lot_condvar.specs.declared.wait.WaitAt.TheVariants as wait
-use Rattle.lot_condvar.specs.CondvarSteps.{befalls, condvar_next, is_shown, shown_as}
-use Rattle.lot_condvar.specs.CondvarProfiles.{condvar_row}
+use Rattle.lot_condvar.specs.CondvarSteps.{befalls, condvar_act, condvar_next, is_shown, mutex_beside, shown_as}
+use Rattle.lot_condvar.specs.CondvarProfiles.{condvar_row, notify_row}
 
 -- ---------------------------------------------------------------- the deeds of each step
 
@@ -148,18 +148,15 @@ CondvarStepsFollow =
     (c : CondvarSite) (t : ℕ) (p : CondvarPlace) (told : Reply) → IsCondvar c → IsAt c t p → MayHear c t p told
     → Follows c t p told
 
--- the operation of a place on the word of the condition variable
-abbrev pub own_op : CondvarPlace → Option Op
-own_op (Wait m timed wait.Show) = Some (op.Exchange 0 (shown_as m))
-own_op (Wait m timed wait.Hide) = Some (op.Store 0)
-own_op (Look all) = Some op.Load
-own_op (Notify all m notify.Again) = Some op.Load
-own_op (Notify all m notify.Hide) = Some (op.Store 0)
-own_op (Notify all m (notify.Clear any)) = Some (op.Store 0)
-own_op p = None
-
--- it leaves the word of the condition variable behind the deeds
+-- each step on its word, which is no word of the mutex beside it, leaves that word behind the deeds
 abbrev pub CondvarStepsCode : Type 0
 CondvarStepsCode =
-    (c : CondvarSite) (t : ℕ) (p : CondvarPlace) (f : Op) → IsCondvar c → IsAt c t p → own_op p ≡ Some f
+    (c : CondvarSite) (t k : ℕ) (p : CondvarPlace) (f : Op) → condvar_act k p ≡ act.Word k f → mutex_beside p ≢ Some k
     → apply f (word_of c.shown) ≡ word_of (after_all (condvar_deeds p (Value (word_of c.shown))) c t).shown
+
+-- where a notification moves, it moves somebody, each of them waits with the mutex that it saw, and that mutex may be brought them
+abbrev pub CondvarMovesFit : Type 0
+CondvarMovesFit =
+    (r : Rules) (all locked : Bool) (c : CondvarSite) (s : Site) (t m : ℕ) → r.sort ≡ Mutex → IsCondvar c → WaitsAside c s m
+    → IsAt c t (Notify all m (notify.Move locked)) → s.doing t ≡ (notify_row all m (notify.Move locked)).doing
+    → MoveFits r all locked c s t m
