@@ -1,7 +1,6 @@
 //! Mutexes of one thread, of two and of many.
 mod fair;
 mod mutexes;
-mod rwlocks;
 mod timed;
 
 ghost use Rattle.std.specs.Prelude.{◌≡◌, IfOk};

@@ -1,5 +1,4 @@
 //! Threads that meet at one raw mutex.
-mod rwlocks;
 mod timed;
 
 ghost use Rattle.std.specs.Prelude.{◌≡◌, All, IfOk, IfSome};

@@ -22,11 +22,11 @@ use Rattle.lot_driver.specs.OnceFitting.{LooksAnswer, OwnsBehind, OwnsKnowing, O
 use Rattle.lot_driver.specs.Paths.{once_at}
 use Rattle.lot_driver.specs.Stages.{stage_of}
 use Rattle.lot_driver.specs.Telling.{owns_of, steps_of}
-use Rattle.lot_driver.specs.declared.once_calls.Look.{Look}
-use Rattle.lot_driver.specs.declared.once_calls.Look.TheVariants.{Ended, Runs}
+use Rattle.lot_driver.specs.declared.once_calls.Look.TheVariants.{Ended}
 use Rattle.lot_driver.proofs.OnceCalling.{done_ends, looks_ended}
-use Rattle.run_once.specs.Looks.{Began, EndedBy, FoundDone, MatchLook, Tells, is_ok}
-use Rattle.run_once.specs.Ran.{HasRun, StaysKnowing}
+use Rattle.run_once.specs.Looks.{Began, CameTo, FoundDone, Tells, is_ok}
+use Rattle.run_once.specs.Ran.{HasLooked, HasRun}
+use Rattle.run_once.specs.declared.once.Came.TheVariants.{Done, Poisoned}
 
 module _ (n : ℕ) where
   abbrev run : Ownership
@@ -63,15 +63,21 @@ module _ (n : ℕ) where
   answer_tells c answers.Poisoned old new h = (refl, h.0)
   answer_tells c answer old new h = absurd h
 
-  pub came_to : (c : OnceCall) (old new : Token) (look : Look) → new.number ≡ old.number → LooksBy n c look (steps_of old) (steps_of new) → LookOwns n c look (owns_of old) (owns_of new)
-      → MatchLook look (λ answer. StaysKnowing n old new × EndedBy n c answer old new) (λ state. (new.number ≡ old.number) × OwnsRun n (owns_of old) (owns_of new) × Began n c state old new)
-  came_to c old new (Ended answer) same by over = ((same, answer_stays c (owns_of old) (owns_of new) answer over), (by, answer_tells c answer old new over))
-  came_to c old new (Runs state) same by over = (same, over, by)
+  -- a call that ran nothing, by whether it found it done
+  pub came_done : (c : OnceCall) (old new : Token) (answer : Answer) → new.number ≡ old.number → LooksBy n c (Ended answer) (steps_of old) (steps_of new) → LookOwns n c (Ended answer) (owns_of old) (owns_of new)
+      → is_ok answer ≡ true → CameTo n c old new Done
+  came_done c old new answer same by over ok = let t = subst (λ (b : Bool). Tells n c b answer old new) ok (answer_tells c answer old new over) in
+      ((same, answer_stays c (owns_of old) (owns_of new) answer over), subst (λ (a : Answer). HasLooked n c a old new) t.0 by, t.1)
+
+  pub came_poisoned : (c : OnceCall) (old new : Token) (answer : Answer) → new.number ≡ old.number → LooksBy n c (Ended answer) (steps_of old) (steps_of new) → LookOwns n c (Ended answer) (owns_of old) (owns_of new)
+      → is_ok answer ≡ false → CameTo n c old new Poisoned
+  came_poisoned c old new answer same by over ok = let t = subst (λ (b : Bool). Tells n c b answer old new) ok (answer_tells c answer old new over) in
+      ((same, answer_stays c (owns_of old) (owns_of new) answer over), subst (λ (a : Answer). HasLooked n c a old new) t.0 by, t.1)
 
   -- who finds it done knows it, and any call ends with that
   pub found_done : (seen : ℕ) (old new : Token) → is_done seen ≡ true → HasSeen n seen old new → FoundDone n old new
   found_done seen old new done saw = let call = Wait true in let over = subst (λ (a : Act). ReachedBy ⊥ (owns_of old) (aim_of (once_begin n call)) (next_place (once_begin n call) (Value seen)) (answer_of a) (stage_of new None)) (done_ends n call seen done) (saw.2 call) in
-      (saw.0, stays_of true (owns_of old) (owns_of new) over.1, over.1, λ (c : OnceCall). looks_ended n c seen (steps_of old) (steps_of new) answers.Ok saw.1 (done_ends n c seen done))
+      ((saw.0, stays_of true (owns_of old) (owns_of new) over.1), over.1, λ (c : OnceCall). looks_ended n c seen (steps_of old) (steps_of new) answers.Ok saw.1 (done_ends n c seen done))
 
   -- a call that came to its closure, and ended its run
   pub has_run_by : (forced s : Bool) (state : OnceState) (old mid new : Token) → Began n (CallOnce forced) state old mid → EndsRun n forced s (steps_of mid) (steps_of new) → Closes n s (steps_of mid) (steps_of new) (last_of new) → HasRun n forced s state old new

@@ -13,7 +13,7 @@ ghost use Rattle.lot_driver.specs.OnceCalls.{Closes, EndsRun, HasSeen};
 ghost use Rattle.lot_driver.specs.OnceFitting.{OwnsBehind, OwnsKnowing, OwnsRun};
 ghost use Rattle.lot_driver.specs.Telling.{owns_of, steps_of};
 ghost use Rattle.parking_lot_core.specs.declared.tokens.Token.{Token};
-ghost use Rattle.run_once.specs.Looks.{Began, EndedBy, FoundDone, MatchLook, is_ok};
+ghost use Rattle.run_once.specs.Looks.{CameTo, FoundDone, is_ok};
 
 use lot_acts::bits::{is_done, is_poisoned, is_running};
 use lot_base::main_key;
@@ -31,6 +31,13 @@ pub enum OnceFault<E> {
     Refused(Fault),
     /// The call's own closure failed, and leaves the `Once` poisoned.
     Failed(E),
+}
+
+// What the rest of a call comes to: in a register, so that the first step has no local to clear for it.
+enum Came {
+    Done,
+    Poisoned,
+    Runs(OnceState),
 }
 
 /// Runs one closure of all that are brought to it. Whoever calls beside that run waits for its end.
@@ -176,18 +183,23 @@ impl Once {
     }
 
     // The rest of a call whose first step saw this, up to its end or its closure.
-    #[inline]
-    fn go_on<R: Wait>(&self, rt: &R, token: &mut Token, call: OnceCall, seen: u64) -> Look
+    #[cold]
+    #[inline(never)]
+    fn go_on<R: Wait>(&self, rt: &R, token: &mut Token, call: OnceCall, seen: u64) -> Came
         requires own { IsTokenOf (lot_of self.now) token.old }
         requires seen { (before : Token) × HasSeen (number_of self.now) seen before token.old }
         ensures token { IsTokenOf (lot_of self.now) token.new }
         ensures came { (before : Token) → HasSeen (number_of self.now) seen before token.old
-            → MatchLook result (λ answer. StaysKnowing (number_of self.now) before token.new
-            × EndedBy (number_of self.now) call answer before token.new)
-            (λ state. (token.new.number ≡ before.number) × OwnsRun (number_of self.now) (owns_of before) (owns_of token.new)
-            × Began (number_of self.now) call state before token.new) }
+            → CameTo (number_of self.now) call before token.new result }
     {
-        begin_behind(rt, &self.lot, token, self.word, call, seen)
+        match begin_behind(rt, &self.lot, token, self.word, call, seen) {
+            Look::Ended(answer) => if is_ok(answer) {
+                Came::Done
+            } else {
+                Came::Poisoned
+            },
+            Look::Runs(state) => Came::Runs(state),
+        }
     }
 
     // The run of who has run the closure ends.
@@ -221,12 +233,9 @@ impl Once {
         }
         let call = OnceCall::Wait { forced: false };
         match self.go_on(rt, token, call, seen) {
-            Look::Ended(answer) => if is_ok(answer) {
-                Ok(())
-            } else {
-                Err(Fault::Poisoned)
-            },
-            Look::Runs(_) => unreachable!(),
+            Came::Done => Ok(()),
+            Came::Poisoned => Err(Fault::Poisoned),
+            Came::Runs(_) => unreachable!(),
         }
     }
 
@@ -244,8 +253,8 @@ impl Once {
         }
         let call = OnceCall::Wait { forced: true };
         match self.go_on(rt, token, call, seen) {
-            Look::Ended(_) => {}
-            Look::Runs(_) => unreachable!(),
+            Came::Done => {}
+            Came::Poisoned | Came::Runs(_) => unreachable!(),
         }
     }
 
@@ -272,12 +281,9 @@ impl Once {
         }
         let call = OnceCall::CallOnce { forced: false };
         match self.go_on(rt, token, call, seen) {
-            Look::Ended(answer) => if is_ok(answer) {
-                Ok(())
-            } else {
-                Err(OnceFault::Refused(Fault::Poisoned))
-            },
-            Look::Runs(_) => match f() {
+            Came::Done => Ok(()),
+            Came::Poisoned => Err(OnceFault::Refused(Fault::Poisoned)),
+            Came::Runs(_) => match f() {
                 Ok(()) => {
                     self.end_run(rt, token, false, true);
                     Ok(())
@@ -313,8 +319,9 @@ impl Once {
         }
         let call = OnceCall::CallOnce { forced: true };
         match self.go_on(rt, token, call, seen) {
-            Look::Ended(_) => Ok(()),
-            Look::Runs(state) => match f(state) {
+            Came::Done => Ok(()),
+            Came::Poisoned => unreachable!(),
+            Came::Runs(state) => match f(state) {
                 Ok(()) => {
                     self.end_run(rt, token, true, true);
                     Ok(())

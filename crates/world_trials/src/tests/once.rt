@@ -26,26 +26,64 @@ const RUNS_NEW: Outcome = Outcome::Closure(OnceState::New);
 
 const RUNS_POISONED: Outcome = Outcome::Closure(OnceState::Poisoned);
 
-fn turn(world: &mut World<ListQueues>, thread: usize, turn: Turn) -> Outcome {
-    world.step(Step { thread, turn })
+/// What a line of a script has its thread do.
+#[derive(Clone, Copy)]
+enum Does {
+    /// A call, alone from its beginning.
+    Calls(OnceCall),
+    Turns(Turn),
+    /// Alone, until it rests.
+    GoesOn,
 }
 
-// A call, alone from its beginning.
-fn calls(world: &mut World<ListQueues>, thread: usize, call: OnceCall) -> Outcome {
-    match turn(world, thread, Turn::Begin(Call::Once { lock: 0, call })) {
-        Outcome::Step => world.solo(thread),
-        refused => refused,
+fn outcome_of(world: &mut World<ListQueues>, thread: usize, what: Does) -> Outcome {
+    match what {
+        Does::Calls(call) => {
+            let turn = Turn::Begin(Call::Once { lock: 0, call });
+            match world.step(Step { thread, turn }) {
+                Outcome::Step => world.solo(thread),
+                refused => refused,
+            }
+        }
+        Does::Turns(turn) => world.step(Step { thread, turn }),
+        Does::GoesOn => world.solo(thread),
     }
 }
 
-// Whether every thread but the first ends its call alone, one after the other.
-fn all_end(world: &mut World<ListQueues>, threads: usize) -> bool {
-    for thread in 1..threads {
-        if world.solo(thread) != DONE {
+// Whether each line of the script comes to what it says.
+fn plays(world: &mut World<ListQueues>, script: &[(usize, Does, Outcome)]) -> bool {
+    for line in script {
+        let (thread, what, told) = *line;
+        if outcome_of(world, thread, what) != told {
             return false;
         }
     }
     true
+}
+
+// The word of the only lock, and who runs it.
+fn shown(world: &World<ListQueues>) -> Option<(u64, Option<(Owner, usize)>)> {
+    if world.locks() == 1 {
+        Some((world.word(0), world.owners(0).next()))
+    } else {
+        None
+    }
+}
+
+fn first_waiter(world: &World<ListQueues>) -> Option<Waiter> {
+    if world.locks() == 1 {
+        world.queue(0).next()
+    } else {
+        None
+    }
+}
+
+fn first_debt(world: &World<ListQueues>) -> Option<(Debt, usize)> {
+    if world.locks() == 1 {
+        world.debt(0).next()
+    } else {
+        None
+    }
 }
 
 #[test]
@@ -106,113 +144,140 @@ fn who_waits_for_a_run_tries_again_when_woken(rt: HostRuntime) {
 #[test]
 fn a_run_that_fails_poisons_until_one_is_forced(rt: HostRuntime) -> Result<(), Fail> {
     let mut world = World::<ListQueues>::new(rt.alloc(), &[Kind::Once], 1)?;
-    assert_eq!(rt; calls(&mut world, 0, RUN), RUNS_NEW);
-    assert_eq!(rt; world.word(0), 4);
-    assert_eq!(rt; world.owners(0).next(), Some((Owner::Running, 0)));
-    assert_eq!(rt;
-        turn(&mut world, 0, Turn::Err),
-        Outcome::End(Answer::Failed)
-    );
-    assert_eq!(rt; world.word(0), 2);
-    assert!(rt; world.owners(0).next().is_none());
-    assert_eq!(rt; calls(&mut world, 0, RUN), POISONED);
-    assert_eq!(rt; calls(&mut world, 0, WAIT), POISONED);
-    assert_eq!(rt; calls(&mut world, 0, RUN_FORCED), RUNS_POISONED);
-    assert_eq!(rt; turn(&mut world, 0, Turn::Ok), DONE);
-    assert_eq!(rt; world.word(0), 1);
-    assert_eq!(rt; calls(&mut world, 0, RUN), DONE);
-    assert_eq!(rt; calls(&mut world, 0, WAIT), DONE);
+    assert!(rt; plays(&mut world, &[(0, Does::Calls(RUN), RUNS_NEW)]));
+    assert_eq!(rt; shown(&world), Some((4, Some((Owner::Running, 0)))));
+    let fails = [
+        (0, Does::Turns(Turn::Err), Outcome::End(Answer::Failed)),
+        (0, Does::Calls(RUN), POISONED),
+        (0, Does::Calls(WAIT), POISONED),
+    ];
+    assert!(rt; plays(&mut world, &fails));
+    assert_eq!(rt; shown(&world), Some((2, None)));
+    let succeeds = [
+        (0, Does::Calls(RUN_FORCED), RUNS_POISONED),
+        (0, Does::Turns(Turn::Ok), DONE),
+        (0, Does::Calls(RUN), DONE),
+        (0, Does::Calls(WAIT), DONE),
+    ];
+    assert!(rt; plays(&mut world, &succeeds));
+    assert_eq!(rt; shown(&world), Some((1, None)));
     Ok(())
 }
 
 #[test]
 fn who_waits_before_the_run_sees_it_done(rt: HostRuntime) -> Result<(), Fail> {
     let mut world = World::<ListQueues>::new(rt.alloc(), &[Kind::Once], 2)?;
-    assert_eq!(rt; calls(&mut world, 0, WAIT), Outcome::Sleep);
-    assert_eq!(rt; world.word(0), 8);
-    assert_eq!(rt; calls(&mut world, 1, RUN), RUNS_NEW);
-    assert_eq!(rt; world.word(0), 12);
+    assert!(rt; plays(&mut world, &[(0, Does::Calls(WAIT), Outcome::Sleep)]));
+    assert_eq!(rt; shown(&world), Some((8, None)));
+    assert!(rt; plays(&mut world, &[(1, Does::Calls(RUN), RUNS_NEW)]));
+    assert_eq!(rt; shown(&world), Some((12, Some((Owner::Running, 1)))));
+    assert!(rt; plays(&mut world, &[(1, Does::Turns(Turn::Ok), Outcome::Step)]));
+    assert_eq!(rt; shown(&world), Some((1, None)));
     let waiter = Waiter {
         key: 0,
         thread: 0,
         want: Want::Wait,
     };
-    let waiters: Vec<Waiter> = world.queue(0).collect(rt.alloc())?;
-    assert_eq!(rt; waiters.as_slice(), [waiter].as_slice());
-    assert_eq!(rt; turn(&mut world, 1, Turn::Ok), Outcome::Step);
-    assert_eq!(rt; world.word(0), 1);
-    assert_eq!(rt; world.queue(0).next(), Some(waiter));
-    assert_eq!(rt; world.debt(0).next(), Some((Debt::Owes, 1)));
-    assert_eq!(rt; world.solo(1), DONE);
-    assert_eq!(rt; world.solo(0), DONE);
-    assert!(rt; world.debt(0).next().is_none());
+    assert_eq!(rt; first_waiter(&world), Some(waiter));
+    assert_eq!(rt; first_debt(&world), Some((Debt::Owes, 1)));
+    assert!(rt; plays(&mut world, &[(1, Does::GoesOn, DONE), (0, Does::GoesOn, DONE)]));
+    assert!(rt; first_debt(&world).is_none());
     Ok(())
 }
 
 #[test]
 fn only_its_end_takes_a_thread_out_of_its_closure(rt: HostRuntime) -> Result<(), Fail> {
     let mut world = World::<ListQueues>::new(rt.alloc(), &[Kind::Once], 2)?;
-    assert_eq!(rt; turn(&mut world, 0, Turn::Ok), Outcome::NotNow);
-    assert_eq!(rt; calls(&mut world, 0, RUN), RUNS_NEW);
-    let again = Turn::Begin(Call::Once { lock: 0, call: RUN });
-    for refused in [Turn::Go, Turn::Spin, Turn::Late, again] {
-        assert_eq!(rt; turn(&mut world, 0, refused), Outcome::NotNow);
-    }
-    assert_eq!(rt; turn(&mut world, 1, Turn::Ok), Outcome::NotNow);
-    assert_eq!(rt; turn(&mut world, 1, Turn::Err), Outcome::NotNow);
-    assert_eq!(rt; world.owners(0).next(), Some((Owner::Running, 0)));
-    assert_eq!(rt; turn(&mut world, 0, Turn::Ok), DONE);
-    assert_eq!(rt; turn(&mut world, 0, Turn::Err), Outcome::NotNow);
+    let script = [
+        (0, Does::Turns(Turn::Ok), Outcome::NotNow),
+        (0, Does::Calls(RUN), RUNS_NEW),
+        (0, Does::Turns(Turn::Go), Outcome::NotNow),
+        (0, Does::Turns(Turn::Spin), Outcome::NotNow),
+        (0, Does::Turns(Turn::Late), Outcome::NotNow),
+        (0, Does::Calls(RUN), Outcome::NotNow),
+        (1, Does::Turns(Turn::Ok), Outcome::NotNow),
+        (1, Does::Turns(Turn::Err), Outcome::NotNow),
+    ];
+    assert!(rt; plays(&mut world, &script));
+    assert_eq!(rt; shown(&world), Some((4, Some((Owner::Running, 0)))));
+    let end = [
+        (0, Does::Turns(Turn::Ok), DONE),
+        (0, Does::Turns(Turn::Err), Outcome::NotNow),
+    ];
+    assert!(rt; plays(&mut world, &end));
     Ok(())
 }
 
 #[test]
 fn a_failed_run_wakes_all_and_a_forced_one_begins(rt: HostRuntime) -> Result<(), Fail> {
     let mut world = World::<ListQueues>::new(rt.alloc(), &[Kind::Once], 5)?;
-    assert_eq!(rt; calls(&mut world, 0, RUN), RUNS_NEW);
-    for (thread, call) in [(1, RUN), (2, WAIT), (3, WAIT_FORCED), (4, RUN_FORCED)] {
-        assert_eq!(rt; calls(&mut world, thread, call), Outcome::Sleep);
-    }
-    assert_eq!(rt; turn(&mut world, 0, Turn::Err), Outcome::Step);
-    assert_eq!(rt; world.word(0), 2);
-    assert_eq!(rt; world.solo(0), Outcome::End(Answer::Failed));
-    assert!(rt; world.queue(0).next().is_none());
-    assert_eq!(rt; world.solo(1), POISONED);
-    assert_eq!(rt; world.solo(2), POISONED);
-    assert_eq!(rt; world.solo(4), RUNS_POISONED);
-    assert_eq!(rt; world.solo(3), Outcome::Sleep);
-    assert_eq!(rt; world.word(0), 12);
-    assert_eq!(rt; turn(&mut world, 4, Turn::Ok), Outcome::Step);
-    assert_eq!(rt; world.solo(4), DONE);
-    assert_eq!(rt; world.solo(3), DONE);
-    assert_eq!(rt; world.word(0), 1);
+    let waits = [
+        (0, Does::Calls(RUN), RUNS_NEW),
+        (1, Does::Calls(RUN), Outcome::Sleep),
+        (2, Does::Calls(WAIT), Outcome::Sleep),
+        (3, Does::Calls(WAIT_FORCED), Outcome::Sleep),
+        (4, Does::Calls(RUN_FORCED), Outcome::Sleep),
+        (0, Does::Turns(Turn::Err), Outcome::Step),
+    ];
+    assert!(rt; plays(&mut world, &waits));
+    assert_eq!(rt; shown(&world), Some((2, None)));
+    let wakes = [(0, Does::GoesOn, Outcome::End(Answer::Failed))];
+    assert!(rt; plays(&mut world, &wakes));
+    assert!(rt; first_waiter(&world).is_none());
+    let begins = [
+        (1, Does::GoesOn, POISONED),
+        (2, Does::GoesOn, POISONED),
+        (4, Does::GoesOn, RUNS_POISONED),
+        (3, Does::GoesOn, Outcome::Sleep),
+    ];
+    assert!(rt; plays(&mut world, &begins));
+    assert_eq!(rt; shown(&world), Some((12, Some((Owner::Running, 4)))));
+    let ends = [
+        (4, Does::Turns(Turn::Ok), Outcome::Step),
+        (4, Does::GoesOn, DONE),
+        (3, Does::GoesOn, DONE),
+    ];
+    assert!(rt; plays(&mut world, &ends));
+    assert_eq!(rt; shown(&world), Some((1, None)));
     Ok(())
+}
+
+// Every thread but the first makes one of four calls beside its run, and afterwards ends it.
+fn nine_wait(world: &mut World<ListQueues>) -> bool {
+    for thread in 1..10 {
+        let call = match thread % 4 {
+            0 => WAIT,
+            1 => RUN,
+            2 => WAIT_FORCED,
+            _ => RUN_FORCED,
+        };
+        if outcome_of(world, thread, Does::Calls(call)) != Outcome::Sleep {
+            return false;
+        }
+    }
+    true
+}
+
+fn nine_end(world: &mut World<ListQueues>) -> bool {
+    for thread in 1..10 {
+        if world.solo(thread) != DONE {
+            return false;
+        }
+    }
+    true
 }
 
 #[test]
 fn a_run_beside_nine_waiters_wakes_them_all(rt: HostRuntime) -> Result<(), Fail> {
     let mut world = World::<ListQueues>::new(rt.alloc(), &[Kind::Once], 10)?;
-    assert_eq!(rt; calls(&mut world, 0, RUN), RUNS_NEW);
-    for (thread, call) in [
-        (1, RUN),
-        (2, WAIT),
-        (3, RUN),
-        (4, WAIT),
-        (5, RUN_FORCED),
-        (6, WAIT_FORCED),
-        (7, RUN),
-        (8, WAIT),
-        (9, RUN),
-    ] {
-        assert_eq!(rt; calls(&mut world, thread, call), Outcome::Sleep);
-    }
-    assert_eq!(rt; turn(&mut world, 0, Turn::Ok), Outcome::Step);
-    let waiters: Vec<Waiter> = world.queue(0).collect(rt.alloc())?;
-    assert_eq!(rt; waiters.len(), 9);
-    assert_eq!(rt; world.solo(0), DONE);
-    assert!(rt; world.queue(0).next().is_none());
-    assert!(rt; all_end(&mut world, 10));
-    assert_eq!(rt; world.word(0), 1);
-    assert!(rt; world.debt(0).next().is_none());
+    assert!(rt; plays(&mut world, &[(0, Does::Calls(RUN), RUNS_NEW)]));
+    assert!(rt; nine_wait(&mut world));
+    assert!(rt; plays(&mut world, &[(0, Does::Turns(Turn::Ok), Outcome::Step)]));
+    assert!(rt; first_waiter(&world).is_some());
+    assert!(rt; plays(&mut world, &[(0, Does::GoesOn, DONE)]));
+    assert!(rt; first_waiter(&world).is_none());
+    assert!(rt; nine_end(&mut world));
+    assert_eq!(rt; shown(&world), Some((1, None)));
+    assert!(rt; first_debt(&world).is_none());
     Ok(())
 }

@@ -8,7 +8,6 @@ ghost use Rattle.std.specs.Arc.{arc_value};
 ghost use Rattle.parking_lot_core.specs.Tokens.{IsTicketOf, IsTokenOf};
 ghost use Rattle.parking_lot.specs.RwLockUsers.{lot_of};
 
-use super::lone;
 use parking_lot::{
     Fault, ParkingLot, RawRwLock, RecursiveRwLock, RwLock, TickClock, Ticket, Token, lock_api_rw,
 };
@@ -20,6 +19,17 @@ use std::test::Fail;
 use std::thread::{Threads, map_vec, yield_now};
 
 const TIMES: u64 = 100;
+
+// A lot of one word, with its one thread.
+fn lone(alloc: Global) -> Result<(Arc<ParkingLot>, Token), Fault>
+    ensures { IfOk result (λ made. IsTokenOf (arc_value made.0) made.1) }
+{
+    let (lot, mut tickets) = ParkingLot::new(alloc, 1, 1)?;
+    let Some(ticket) = tickets.pop() else {
+        return Err(Fault::NoMemory);
+    };
+    Ok((lot, ticket.enter()))
+}
 
 // A lock that one thread has for itself.
 fn lock_alone<T: Drop>(alloc: Global, value: T) -> Result<(RwLock<T>, Token), Fault>

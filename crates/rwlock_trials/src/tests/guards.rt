@@ -3,8 +3,7 @@ ghost use Rattle.std.specs.Prelude.{◌≡◌, ◌≤◌};
 ghost use Rattle.parking_lot_core.specs.Tokens.{IsTicketOf, IsTokenOf};
 ghost use Rattle.parking_lot.specs.RwLockUsers.{lot_of};
 
-use super::{lock_alone, next_of, seats, tries};
-use crate::tests::lone;
+use super::{lock_alone, lone, next_of, seats, tries};
 use parking_lot::{Fault, ParkingLot, RawRwLock, RwLock, Ticket, Token, lock_api_rw};
 use std::alloc::Global;
 use std::sync::Wait;
