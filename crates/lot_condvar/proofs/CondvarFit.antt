@@ -1,6 +1,5 @@
 -- Each step of a thread may do to the condition variable what its deeds say, and leaves its word.
 use Rattle.std.proofs.Common.{ℕ, Bool, true, false, Option, Some, None, if◌then◌else◌, ◌==◌, ◌≡◌, ◌≢◌, ◌≤◌, ◌+◌, ◌*◌, ◌⊎◌, inl, inr, List, [], ◌∷◌, ◌++◌, length, refl, sym, ap, ◌∙◌, subst, arith}
-use Rattle.std.proofs.lemmas.Bool.{cases_eq}
 use Rattle.std.proofs.lemmas.Bool.Decides.{nat_tests}
 use Rattle.std.specs.Prelude.{drop, nat_lt, not, ◌&&◌, ◌||◌}
 use Rattle.lot_base.specs.declared.keys.Keys.TheVariants.{One}
@@ -35,7 +34,7 @@ use Rattle.lot_condvar.specs.declared.wait.WaitAt.{WaitAt}
 use Rattle.lot_condvar.specs.declared.wait.WaitAt.TheVariants as wait
 use Rattle.lot_condvar.specs.CondvarSteps.{befallen, befalls, behind, condvar_act, in_notify, in_wait, is_shown, marks, mutex_beside, mutex_shown, notified, released, relocked, shown_as}
 use Rattle.lot_condvar.specs.CondvarProfiles.{is_listed, told_stage}
-use Rattle.lot_condvar.specs.CondvarDeeds.{AllNeeded, CondvarMovesFit, CondvarStepsCode, CondvarStepsFollow, Follows, IsAt, IsAtNext, IsAtStage, IsAway, IsListed, MayHear, after_all, condvar_deeds, relocked_deeds, word_of}
+use Rattle.lot_condvar.specs.CondvarDeeds.{AllNeeded, CondvarMovesFit, CondvarStepsCode, CondvarStepsFollow, Follows, IsAt, IsAtNext, IsListed, MayHear, after_all, condvar_deeds, relocked_deeds, word_of}
 
 times_gone : (t : ℕ) (q : List Queued) → times t (without t q) ≡ 0
 times_gone t [] = refl

@@ -5,9 +5,8 @@ use Rattle.lot_base.specs.declared.notes.Note.TheVariants as note
 use Rattle.lot_base.specs.declared.wants.Want.{Want}
 use Rattle.lot_base.specs.declared.wants.Want.TheVariants as wants
 use Rattle.lot_acts.specs.Profiles.{Hand, Profile, hand, hand_owner, in_hand}
-use Rattle.abstract_locks.specs.Condvars.{Stage, Rests, Adds, Refuses, Misses, Sees, Takes, Clears, moving}
-use Rattle.abstract_locks.specs.Sites.{Doing, Line, Has, Main, found, idle}
-use Rattle.lot_mutex.specs.declared.places.MutexPlace.{MutexPlace}
+use Rattle.abstract_locks.specs.Condvars.{Stage, Rests, Adds, Refuses, Misses, Sees, Clears, moving}
+use Rattle.abstract_locks.specs.Sites.{Doing, Line, Has, Main, idle}
 use Rattle.lot_mutex.specs.MutexProfiles.{inside, mutex_profile, owner}
 use Rattle.lot_condvar.specs.declared.notify.NotifyAt.{NotifyAt}
 use Rattle.lot_condvar.specs.declared.notify.NotifyAt.TheVariants as notify
