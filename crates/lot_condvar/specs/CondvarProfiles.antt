@@ -4,10 +4,9 @@ use Rattle.std.specs.Prelude.{ℕ, Bool, true, false, Option, Some, None, if◌t
 use Rattle.lot_base.specs.declared.notes.Note.TheVariants as note
 use Rattle.lot_base.specs.declared.wants.Want.{Want}
 use Rattle.lot_base.specs.declared.wants.Want.TheVariants as wants
-use Rattle.lot_acts.specs.Profiles.{Hand, Profile, hand, hand_owner, in_hand}
-use Rattle.abstract_locks.specs.Condvars.{Stage, Rests, Adds, Refuses, Misses, Sees, Takes, Clears, moving}
-use Rattle.abstract_locks.specs.Sites.{Doing, Line, Has, Main, found, idle}
-use Rattle.lot_mutex.specs.declared.places.MutexPlace.{MutexPlace}
+use Rattle.lot_acts.specs.Profiles.{Hand, Profile, hand, hand_owner}
+use Rattle.abstract_locks.specs.Condvars.{Stage, Rests, Adds, Refuses, Misses, Sees, Clears, moving}
+use Rattle.abstract_locks.specs.Sites.{Doing, Line, Has, Main, idle}
 use Rattle.lot_mutex.specs.MutexProfiles.{inside, mutex_profile, owner}
 use Rattle.lot_condvar.specs.declared.notify.NotifyAt.{NotifyAt}
 use Rattle.lot_condvar.specs.declared.notify.NotifyAt.TheVariants as notify
@@ -27,16 +26,13 @@ pub record CondvarRow : Type 0 where
   -- what it does about the mutex, and whether it stands in that queue
   pub doing : Doing
   pub moved : Bool
-  -- whether it has anybody in hand, in whose hand it is, and what it wants, where it waits
-  pub carries : Option Bool
+  -- in whose hand it is, and what it wants, where it waits
   pub hand : Option Hand
   pub wants : Option Want
   -- on which of the two queues it is shown to owe a wake, and whether to try its mutex again
   pub owes : Bool
   pub owes_mutex : Bool
   pub retries : Bool
-  -- its time was up, and it has left the queue of the condition variable
-  pub gave_up : Bool
 
 abbrev pub blank : CondvarRow
 blank = record {
@@ -45,13 +41,11 @@ blank = record {
   listed = false;
   doing = idle;
   moved = false;
-  carries = None;
   hand = None;
   wants = None;
   owes = false;
   owes_mutex = false;
   retries = false;
-  gave_up = false;
 }
 
 abbrev pub is_main : Option Line → Bool
@@ -112,7 +106,6 @@ abbrev pub beside : Profile → CondvarRow
 beside row = record blank {
   doing = row.doing;
   moved = is_main row.stands;
-  carries = row.carries;
   hand = row.hand;
   wants = row.wants;
   owes_mutex = is_main row.owes;
@@ -141,11 +134,11 @@ wait_row m wait.Refuse = coming (Refuses m)
 wait_row m (wait.Release s at) = standing s (record (beside (mutex_profile at)) { doing = befell s (mutex_profile at).doing })
 wait_row m (wait.Asleep s) = standing s (record blank { doing = befell s idle })
 wait_row m wait.Remove = record (waiting_at Rests) { listed = true }
-wait_row m wait.Hide = record (waiting_at Clears) { gave_up = true }
-wait_row m wait.GiveUp = record (waiting_at Rests) { gave_up = true }
+wait_row m wait.Hide = waiting_at Clears
+wait_row m wait.GiveUp = waiting_at Rests
 wait_row m wait.RemoveMoved = leaving_mutex true
 wait_row m wait.GiveUpMoved = leaving_mutex false
-wait_row m (wait.Lock timed_out at) = record (beside (mutex_profile at)) { gave_up = timed_out }
+wait_row m (wait.Lock timed_out at) = beside (mutex_profile at)
 
 -- ---------------------------------------------------------------- who notifies
 
@@ -160,9 +153,11 @@ abbrev pub both : Stage → Doing → CondvarRow
 both stage doing = record blank { stage = Some stage; doing = doing; owes = true; owes_mutex = true }
 
 -- it has moved nobody, or so many
+abbrev pub told_stage : ℕ → ℕ → Stage
+told_stage m number = if number == 0 then Misses m else Rests
+
 abbrev pub told_of : Bool → ℕ → ℕ → CondvarRow
-told_of any number m =
-    if number == 0 then both (Misses m) inside else record (both Rests (has_moved any false)) { carries = in_hand any false }
+told_of any number m = both (told_stage m number) (if number == 0 then inside else has_moved any false)
 
 abbrev pub notify_row : Bool → ℕ → NotifyAt → CondvarRow
 notify_row all m notify.Enter = blank
@@ -171,8 +166,8 @@ notify_row all m notify.Hide = both (Sees m) inside
 notify_row all m notify.Mark = both (moving all m) inside
 notify_row all m (notify.Set seen) = both (moving all m) inside
 notify_row all m (notify.Move locked) = both (moving all m) (brings_to locked)
-notify_row all m (notify.Clear any) = record (both Clears (has_moved any false)) { carries = in_hand any false }
-notify_row all m (notify.MarkMoved number) = record (both Rests (has_moved true true)) { carries = Some false }
+notify_row all m (notify.Clear any) = both Clears (has_moved any false)
+notify_row all m (notify.MarkMoved number) = both Rests (has_moved true true)
 notify_row all m (notify.Leave any number) = told_of any number m
 
 -- ---------------------------------------------------------------- every place
@@ -190,14 +185,13 @@ condvar_taker p = hand_owner (condvar_row p).hand
 abbrev pub condvar_wants : CondvarPlace → Option Want
 condvar_wants p = (condvar_row p).wants
 
--- the key under which a thread sleeps in a call that may give up
-abbrev pub sleeps_under : ℕ → ℕ → Stands → Option ℕ
-sleeps_under c m stands.Listed = Some (2 * c)
-sleeps_under c m stands.Moved = Some (2 * m)
-sleeps_under c m s = None
+-- the key of the queue in which it stands
+abbrev pub stands_under : ℕ → ℕ → CondvarRow → Option ℕ
+stands_under c m row = if row.listed then Some (2 * c) else if row.moved then Some (2 * m) else None
 
+-- the key under which a thread sleeps in a call that may give up
 abbrev pub condvar_late_key : ℕ → CondvarPlace → Option ℕ
-condvar_late_key c (Wait m true (wait.Asleep s)) = sleeps_under c m s
+condvar_late_key c (Wait m true (wait.Asleep s)) = stands_under c m (wait_row m (wait.Asleep s))
 condvar_late_key c p = None
 
 -- on the queue of a lock, from entering its section until it is left

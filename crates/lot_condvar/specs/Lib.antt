@@ -1,2 +1,3 @@
 pub mod CondvarSteps
 pub mod CondvarProfiles
+pub mod CondvarDeeds

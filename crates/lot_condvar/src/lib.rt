@@ -1,6 +1,7 @@
 //! The steps of every call of a condition variable.
 #![tactic(auto)]
 
+pub mod laws;
 pub mod notify;
 pub mod places;
 pub mod wait;

@@ -1,0 +1,17 @@
+//! What the steps of a condition variable do to it.
+ghost use Rattle.lot_condvar.specs.CondvarDeeds.{CondvarMovesFit, CondvarStepsCode, CondvarStepsFollow};
+
+/// Each step of a thread may do to the condition variable what its deeds say, and its next place says where the thread is behind them.
+pub fn condvar_steps_follow()
+    ensures { CondvarStepsFollow }
+{}
+
+/// And each step on the word leaves the word of the condition variable behind its deeds.
+pub fn condvar_steps_code()
+    ensures { CondvarStepsCode }
+{}
+
+/// Where a notification moves waiters, there are some, each waits with the mutex that it saw, and that mutex may be brought them.
+pub fn condvar_moves_fit()
+    ensures { CondvarMovesFit }
+{}
