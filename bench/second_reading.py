@@ -4,8 +4,7 @@ by `lotsim replay`, have to agree.
 
 Build the proved program first: `rt run -- replay < stdin` in crates/lotsim. Then:
 python3 bench/second_reading.py crates/lotsim/out/lotsim SCHEDULES LINES [FIRST_SEED] [--fair] [--once]
-With --fair, fair releases and bumps of reader-writer locks are among the calls; with --once, each `Once` is among the locks, whose calls
-the program does not know yet. To answer one schedule here: python3 bench/second_reading.py - < SCHEDULE
+With --fair, fair releases and bumps of reader-writer locks are among the calls; with --once, each `Once` is among the locks. To answer one schedule here: python3 bench/second_reading.py - < SCHEDULE
 """
 import os, random, subprocess, sys, tempfile
 

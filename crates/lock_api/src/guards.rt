@@ -49,8 +49,9 @@ impl<'a, R: RawMutex, T> Guarded<Taken<'a, R, T>, Open<'a, T>> {
         ensures path { R.walked (lock_of self.entry) Unlock answers.Ok token.old token.new }
         ensures record { R.released (lock_of self.entry) Unlock token.old token.new }
     {
-        let (mutex, guard) = self.close();
-        mutex.raw().unlock(rt, token, guard);
+        let Guarded { taken, value } = self;
+        let (mutex, opened, permit) = taken.part(value);
+        mutex.raw().unlock_open(rt, token, opened, permit);
     }
 
     /// Two guards of one mutex exclude each other: nobody ever has both, so this can't be called.

@@ -83,8 +83,8 @@ impl<R: RawMutex, T> Mutex<R, T> {
         ensures guard { lock_of result ≡ self.now }
         ensures path { R.walked self.now Lock answers.Ok token.old token.new }
     {
-        let raw = self.raw.lock(rt, token);
-        self.open(raw)
+        let (opened, permit) = self.raw.lock_open(rt, token);
+        MutexGuard::new(self, opened, self.place.open(permit))
     }
 
     // The guard of who has the raw one.

@@ -115,6 +115,27 @@ pub trait RawMutex {
         requires { is_opened_of self.now opened × (permit.id ≡ permit_of self.now) }
         ensures { is_guard_of self.now result };
 
+    /// `lock` and then `open_value`, which find the lot and the word once for both.
+    fn lock_open<R: Wait>(&self, rt: &R, token: &mut Self::Token) -> (Self::Opened, Permit)
+        requires { is_token_of (lot_of self.now) token.old }
+        ensures token { is_token_of (lot_of self.now) token.new × stays token.old token.new }
+        ensures opened { is_opened_of self.now result.0 × (result.1.id ≡ permit_of self.now) }
+        ensures path { walked self.now Lock answers.Ok token.old token.new };
+
+    /// `close_value` and then `unlock`, in the same way.
+    fn unlock_open<R: Wait>(
+        &self,
+        rt: &R,
+        token: &mut Self::Token,
+        opened: Self::Opened,
+        permit: Permit,
+    )
+        requires token { is_token_of (lot_of self.now) token.old }
+        requires opened { is_opened_of self.now opened × (permit.id ≡ permit_of self.now) }
+        ensures token { is_token_of (lot_of self.now) token.new × stays token.old token.new }
+        ensures path { walked self.now Unlock answers.Ok token.old token.new }
+        ensures record { released self.now Unlock token.old token.new };
+
     /// Two guards of one mutex exclude each other: nobody ever has both, so this can't be called.
     fn has_two_guards(&self, token: &mut Self::Token, one: Self::Guard, other: Self::Guard) -> !
         requires token { is_token_of (lot_of self.now) token.old }

@@ -225,4 +225,4 @@ module _ (w : State) (t l : ℕ) where
       → EndsAlone w t (Some (once_purpose l c)) (solo n w t last).outcome (solo n w t last).state
   once_alone c n last le f = ended_so w t l (solo n w t last).state (solo n w t last).outcome c (lock_state w l).phase refl
       (loads t l false w (λ m. queue_at w (key_of l m)) c (site_of w l).parked (lock_state w l).phase
-          (subst (λ v. StepsAlone w t l (Once l (once_first c)) v (λ m. queue_at w (key_of l m))) (told_by_word _ _ _ f) f) n last (omega arith))
+      (subst (λ v. StepsAlone w t l (Once l (once_first c)) v (λ m. queue_at w (key_of l m))) (told_by_word _ _ _ f) f) n last (omega arith))

@@ -149,8 +149,12 @@ module _ (w : State) (t l : ℕ) (at : OncePlace) (steady : IsSteady w) (shape :
   rests (Look c again look.Load) e = inl refl
   rests (Look c again look.Check) e = inl refl
   rests (Look c again (look.Leave parked)) e = inl refl
-  rests (Run forced (run.Closure poisoned)) e = inr (inr (state_before poisoned, refl, (happened.after.sites.site l).held t Running
-      (ap (λ p. (doing_on p l).claims) e ∙ ap (λ (z : Bool). (if z then (once_profile (Run forced (run.Closure poisoned))).doing else idle).claims) (same l))))
+  rests (Run forced (run.Closure poisoned)) e = inr (inr (
+    state_before poisoned,
+    refl,
+    (happened.after.sites.site l).held t Running
+        (ap (λ p. (doing_on p l).claims) e ∙ ap (λ (z : Bool). (if z then (once_profile (Run forced (run.Closure poisoned))).doing else idle).claims) (same l)),
+  ))
   rests (Run forced (run.Close succeeded)) e = inl refl
   rests (Run forced (run.Enter succeeded)) e = inl refl
   rests (Run forced (run.Take succeeded)) e = inl refl

@@ -136,8 +136,8 @@ module _ (t l : ℕ) where
       looks_anew : (o : Op) → act_of (Once l (Look c again (look.Decide seen))) ≡ act.Word l o → apply o v ≡ v → RestsIn 8 w
       looks_anew o is same_word = leads_more 5 8 w t (λ v o. Rests o) (omega arith) (looked_rests again v w q _ f
           (subst (λ n. Comes w t l (once_goes l n) (outcome_of (once_does l n)) v q) sees
-              (subst (λ x. Comes w t l (once_goes l (once_next (Look c again (look.Decide seen)) (Value v))) (outcome_of (once_does l (once_next (Look c again (look.Decide seen)) (Value v)))) x q) same_word
-                  (word_comes w t l _ v q f o is))))
+          (subst (λ x. Comes w t l (once_goes l (once_next (Look c again (look.Decide seen)) (Value v))) (outcome_of (once_does l (once_next (Look c again (look.Decide seen)) (Value v)))) x q) same_word
+          (word_comes w t l _ v q f o is))))
 
       unchanged : (m : ℕ) → apply (op.Exchange seen m) v ≡ v
       unchanged m = ap (λ b. if b then m else v) other

@@ -262,7 +262,7 @@ module _ (w : State) (s : Step) (o : Outcome) (step : IsStep (locks_of w) s o (l
   unchanged same_locks t l e =
       let h = running t l (sym (ap (λ (x : LocksState). (x.locks l).phase) same_locks) ∙ e) in
       runs_its_own v t l (ap (λ (x : LocksState). (x.stances t).in_closure) same_locks ∙ h.1)
-          (subst (λ p. IsCallOnce p l) (sym (ap (λ (x : LocksState). (x.calls t).purpose) same_locks)) (calls_once w t l h))
+      (subst (λ p. IsCallOnce p l) (sym (ap (λ (x : LocksState). (x.calls t).purpose) same_locks)) (calls_once w t l h))
 
   runs_on : RunsInClosures v
   runs_on = elim step.1 [

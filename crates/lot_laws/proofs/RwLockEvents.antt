@@ -206,10 +206,14 @@ module _ (w : State) (t l : ℕ) (a : Admission) (c : RwLockCallPlace) (steady :
   leads = by_next (call_next a c told) (get_or-set_same (state_after_act w t (RwLock l a c) (call_act l a c)).places t _ Idle (rw (performed_counts w t (RwLock l a c) (call_act l a c)).0 there)) (own_next l a c told (own_reply w t (call_act l a c)) (λ asleep. let f : true ≡ false = sym can ∙ ap (can_do w) asleep in cc))
     where
       by_next : (n : Next RwLockCallPlace) → place_at behind t ≡ rwlock_goes l a n → NextAwake a l n → LeadsTo behind t l (next_rows a n) (outcome_of (rwlock_does l a n))
-      by_next (next.At q) e awake = (ap lock_of e, ap profile e, elim (rests q e awake) [
-        | inl step ↦ inl step
-        | inr sleeps ↦ inr (inl sleeps)
-      ])
+      by_next (next.At q) e awake = (
+        ap lock_of e,
+        ap profile e,
+        elim (rests q e awake) [
+          | inl step ↦ inl step
+          | inr sleeps ↦ inr (inl sleeps)
+        ],
+      )
       by_next (next.End answer) e awake = (e, refl)
 
   pub rwlock_step : GoesOn (locks_of w) t (outcome_of (next_act (RwLock l a c) told)) (locks_of behind)

@@ -116,6 +116,17 @@ impl lock_raw::RawMutex for RawFairMutex {
         lock_raw::RawMutex::close_value(&self.raw, opened, permit)
     }
 
+    #[inline]
+    fn lock_open<R: Wait>(&self, rt: &R, token: &mut Token) -> (OpenGuard, Permit) {
+        lock_raw::RawMutex::lock_open(&self.raw, rt, token)
+    }
+
+    #[inline]
+    fn unlock_open<R: Wait>(&self, rt: &R, token: &mut Token, opened: OpenGuard, permit: Permit) {
+        let guard = lock_raw::RawMutex::close_value(&self.raw, opened, permit);
+        self.raw.unlock_fair(rt, token, guard);
+    }
+
     fn has_two_guards(&self, token: &mut Token, one: RawGuard, other: RawGuard) -> ! {
         lock_raw::RawMutex::has_two_guards(&self.raw, token, one, other)
     }

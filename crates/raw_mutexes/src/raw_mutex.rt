@@ -87,6 +87,44 @@ impl RawMutex {
         lot.join_held(token, self.word, Want::Exclusive, held);
     }
 
+    // The same, of who opens the value too. It takes the word as well, so that all of a call find it once.
+    #[inline]
+    fn split_open(&self, lot: &ParkingLot, token: &mut Token, word: Word) -> (OpenGuard, Permit)
+        requires lot { (lot.now ≡ lot_of self.now) × (word ≡ word_of self.now) }
+        requires own { IsTokenOf (lot_of self.now) token.old }
+        requires held { has (held (word_of self.now).number) (view_of token.old).owns ≡ true }
+        ensures own { IsSameThread (lot_of self.now) token.old token.new × (last_of token.new ≡ last_of token.old) }
+        ensures left { view_of token.new ≡ left_over (held (word_of self.now).number) (view_of token.old) }
+        ensures opened { IsOpenGuardOf (lot_of self.now) (word_of self.now) result.0
+            × (result.1.id ≡ permit_in (lot_of self.now) (word_of self.now)) }
+    {
+        let held = lot.split_held(token, word, Want::Exclusive);
+        let (opened, permit) = lot.open_held(word, held);
+        (OpenGuard { opened }, permit)
+    }
+
+    // Closes the value, and spends the guard.
+    #[inline]
+    fn join_open(
+        &self,
+        lot: &ParkingLot,
+        token: &mut Token,
+        word: Word,
+        opened: OpenGuard,
+        permit: Permit,
+    )
+        requires lot { (lot.now ≡ lot_of self.now) × (word ≡ word_of self.now) }
+        requires own { IsTokenOf (lot_of self.now) token.old }
+        requires opened { IsOpenGuardOf (lot_of self.now) (word_of self.now) opened
+            × (permit.id ≡ permit_in (lot_of self.now) (word_of self.now)) }
+        ensures own { IsSameThread (lot_of self.now) token.old token.new × (last_of token.new ≡ last_of token.old) }
+        ensures joined { view_of token.new ≡ takes_in (view_of token.old) (piece (held (word_of self.now).number)) }
+    {
+        let OpenGuard { opened } = opened;
+        let held = lot.close_held(word, opened, permit);
+        lot.join_held(token, word, Want::Exclusive, held);
+    }
+
     // The slow half of a call without a limit. It takes the mutex by its address, so that the fast half copies nothing.
     #[cold]
     #[inline(never)]
@@ -223,6 +261,30 @@ impl lock_raw::RawMutex for RawMutex {
         let OpenGuard { opened } = opened;
         RawGuard {
             held: self.lot.close_held(self.word, opened, permit),
+        }
+    }
+
+    #[inline]
+    fn lock_open<R: Wait>(&self, rt: &R, token: &mut Token) -> (OpenGuard, Permit) {
+        let lot: &ParkingLot = &self.lot;
+        let word = self.word;
+        let seen = step(lot, token, word, ENTER);
+        if seen != 0 {
+            self.go_on(rt, token, MutexCall::Lock, seen);
+            return self.split_open(lot, token, word);
+        }
+        self.split_open(lot, token, word)
+    }
+
+    #[inline]
+    fn unlock_open<R: Wait>(&self, rt: &R, token: &mut Token, opened: OpenGuard, permit: Permit) {
+        let lot: &ParkingLot = &self.lot;
+        let word = self.word;
+        self.join_open(lot, token, word, opened, permit);
+        let seen = step(lot, token, word, Op::Sub(LOCKED));
+        // Two values, told apart as in `unlock`.
+        if seen != LOCKED {
+            self.go_on(rt, token, MutexCall::Unlock, LOCKED | PARKED);
         }
     }
 

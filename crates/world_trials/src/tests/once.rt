@@ -180,7 +180,12 @@ fn who_waits_before_the_run_sees_it_done(rt: HostRuntime) -> Result<(), Fail> {
     };
     assert_eq!(rt; first_waiter(&world), Some(waiter));
     assert_eq!(rt; first_debt(&world), Some((Debt::Owes, 1)));
-    assert!(rt; plays(&mut world, &[(1, Does::GoesOn, DONE), (0, Does::GoesOn, DONE)]));
+    assert!(rt;
+        plays(
+            &mut world,
+            &[(1, Does::GoesOn, DONE), (0, Does::GoesOn, DONE)]
+        )
+    );
     assert!(rt; first_debt(&world).is_none());
     Ok(())
 }
