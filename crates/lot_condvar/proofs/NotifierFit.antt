@@ -3,6 +3,10 @@ use Rattle.std.proofs.Common.{ℕ, Bool, true, false, Option, Some, None, if◌t
 use Rattle.std.proofs.lemmas.Bool.{eqb-true}
 use Rattle.std.proofs.lemmas.Bool.Decides.{nat_tests}
 use Rattle.std.specs.Prelude.{drop, map, nat_lt, not, ◌&&◌, take}
+use Rattle.lot_base.specs.declared.ops.Op.{Op}
+use Rattle.lot_base.specs.declared.ops.Op.TheVariants as op
+use Rattle.lot_base.specs.Words.{apply}
+use Rattle.lot_acts.specs.declared.acts.Act.TheVariants as act
 use Rattle.lot_acts.specs.declared.acts.Next.TheVariants as next
 use Rattle.lot_acts.specs.declared.acts.Reply.{Reply}
 use Rattle.lot_acts.specs.declared.acts.Reply.TheVariants.{Done, Value, Took, Requeued}
@@ -15,9 +19,9 @@ use Rattle.lot_mutex.specs.MutexProfiles.{inside}
 use Rattle.lot_mutex.specs.MutexSteps.{is_locked}
 use Rattle.lot_condvar.specs.declared.notify.NotifyAt.{NotifyAt}
 use Rattle.lot_condvar.specs.declared.notify.NotifyAt.TheVariants as notify
-use Rattle.lot_condvar.specs.CondvarSteps.{is_shown, marks}
+use Rattle.lot_condvar.specs.CondvarSteps.{is_shown, marks, notify_act}
 use Rattle.lot_condvar.specs.CondvarProfiles.{has_moved, notify_row}
-use Rattle.lot_condvar.specs.CondvarMutex.{FollowsBeside, MayHearBeside, NotifiersFollow, doing_next}
+use Rattle.lot_condvar.specs.CondvarMutex.{FollowsBeside, MayHearBeside, NotifiersCode, NotifiersFollow, beside_deeds, doing_next}
 use Rattle.lot_condvar.proofs.CondvarFit.{not_none, some_left}
 
 put_same : (f : ℕ → Doing) (t : ℕ) (x : Doing) → putting f t x t ≡ x
@@ -143,3 +147,50 @@ module _ (r : Rules) (s : Site) (c : CondvarSite) (t m : ℕ) (sort : r.sort ≡
 
 pub notifiers_follow : NotifiersFollow
 notifiers_follow r s c t m all p told sort is h = notifies r s c t m sort all p told is h
+
+-- ---------------------------------------------------------------- the word
+
+-- the word of a mutex, owned or not
+abbrev word_of : Bool → Option ℕ → ℕ
+word_of parked o = one_if_some o + 2 * bit parked
+
+coded : (r : Rules) (s : Site) → r.sort ≡ Mutex → code r s ≡ word_of s.parked s.lock.exclusive
+coded r s sort = ap (λ x. code_of x r.limit s) sort
+
+owned_word : (parked : Bool) (o : Option ℕ) → is_locked (word_of parked o) ≡ true → 3 ≡ word_of true o
+owned_word parked (Some u) e = refl
+owned_word true None e = absurd cc
+owned_word false None e = absurd cc
+
+or_word : (parked : Bool) (o : Option ℕ) → apply (op.Or 2) (word_of parked o) ≡ word_of true o
+or_word true (Some u) = refl
+or_word true None = refl
+or_word false (Some u) = refl
+or_word false None = refl
+
+module _ (r : Rules) (s : Site) (c : CondvarSite) (t k m : ℕ) (sort : r.sort ≡ Mutex) (apart : k ≢ m) where
+  set_word : (expected v : ℕ) → v ≡ code r s → is_locked expected ≡ true → (b : Bool) → (v == expected) ≡ b
+      → (if b then 3 else v) ≡ code r (after_all r (if b then MarkOwned ∷ [] else []) s t)
+  set_word expected v e locked true same =
+      let g : v ≡ expected = eqb-true v expected same in
+      owned_word s.parked s.lock.exclusive (subst (λ n. is_locked n ≡ true) (sym g ∙ e ∙ coded r s sort) locked) ∙ sym (coded r (record s { parked = true }) sort)
+  set_word expected v e locked false same = e
+
+  leaves_word : (all : Bool) (p : NotifyAt) (f : Op) → MayHearBeside r s c t m all p (Value (code r s)) → notify_act all k m p ≡ act.Word m f
+      → apply f (code r s) ≡ code r (after_all r (beside_deeds all c.waiters p (Value (code r s))) s t)
+  leaves_word all notify.Mark f h is = let e : op.Load ≡ f = cc in rw (← e) refl
+  leaves_word all (notify.Set expected) f h is = let e : op.Exchange expected 3 ≡ f = cc in rw (← e) (set_word expected (code r s) refl h.1 (code r s == expected) refl)
+  leaves_word all (notify.MarkMoved number) f h is =
+      let e : op.Or 2 ≡ f = cc in
+      rw (← e) (ap (λ v. apply (op.Or 2) v) (coded r s sort) ∙ or_word s.parked s.lock.exclusive ∙ sym (coded r (record s { parked = true }) sort))
+  leaves_word all notify.Again f h is = absurd (apart (let g : k ≡ m = cc in g))
+  leaves_word all notify.Hide f h is = absurd (apart (let g : k ≡ m = cc in g))
+  leaves_word all (notify.Clear any) f h is = absurd (apart (let g : k ≡ m = cc in g))
+  leaves_word all notify.Enter f h is = absurd cc
+  leaves_word true (notify.Move locked) f h is = absurd cc
+  leaves_word false (notify.Move true) f h is = absurd cc
+  leaves_word false (notify.Move false) f h is = absurd cc
+  leaves_word all (notify.Leave any number) f h is = absurd cc
+
+pub notifiers_code : NotifiersCode
+notifiers_code r s c t k m all p f sort apart h is = leaves_word r s c t k m sort apart all p f h is

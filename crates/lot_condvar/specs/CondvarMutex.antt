@@ -1,5 +1,8 @@
 -- What each step of a notification does to the mutex beside it: the deeds of each place, and their law.
 use Rattle.std.specs.Prelude.{ℕ, Bool, true, false, None, if◌then◌else◌, ◌==◌, ◌≡◌, ◌≢◌, Some, List, [], ◌∷◌, length}
+use Rattle.lot_base.specs.declared.ops.Op.{Op}
+use Rattle.lot_base.specs.Words.{apply}
+use Rattle.lot_acts.specs.declared.acts.Act.TheVariants as act
 use Rattle.lot_acts.specs.declared.acts.Next.{Next}
 use Rattle.lot_acts.specs.declared.acts.Next.TheVariants.{At, End as Over}
 use Rattle.lot_acts.specs.declared.acts.Reply.{Reply}
@@ -12,7 +15,7 @@ use Rattle.abstract_locks.specs.Sites.{Bring, Deed, Doing, End, In, Main, MarkBr
 use Rattle.lot_mutex.specs.MutexSteps.{is_locked}
 use Rattle.lot_condvar.specs.declared.notify.NotifyAt.{NotifyAt}
 use Rattle.lot_condvar.specs.declared.notify.NotifyAt.TheVariants as notify
-use Rattle.lot_condvar.specs.CondvarSteps.{next_notify}
+use Rattle.lot_condvar.specs.CondvarSteps.{next_notify, notify_act}
 use Rattle.lot_condvar.specs.CondvarProfiles.{notify_row}
 
 -- of these waiters, those whom it moves or takes
@@ -57,3 +60,10 @@ abbrev pub NotifiersFollow : Type 0
 NotifiersFollow =
     (r : Rules) (s : Site) (c : CondvarSite) (t m : ℕ) (all : Bool) (at : NotifyAt) (told : Reply) → r.sort ≡ Mutex
     → s.doing t ≡ (notify_row all m at).doing → MayHearBeside r s c t m all at told → FollowsBeside r s c t m all at told
+
+-- and its steps on the word of the mutex leave the word of the mutex behind the deeds
+abbrev pub NotifiersCode : Type 0
+NotifiersCode =
+    (r : Rules) (s : Site) (c : CondvarSite) (t k m : ℕ) (all : Bool) (at : NotifyAt) (f : Op) → r.sort ≡ Mutex → k ≢ m
+    → MayHearBeside r s c t m all at (Value (code r s)) → notify_act all k m at ≡ act.Word m f
+    → apply f (code r s) ≡ code r (after_all r (beside_deeds all c.waiters at (Value (code r s))) s t)

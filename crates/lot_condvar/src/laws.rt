@@ -1,6 +1,6 @@
 //! What the steps of a condition variable do to it.
 ghost use Rattle.lot_condvar.specs.CondvarDeeds.{CondvarMovesFit, CondvarStepsCode, CondvarStepsFollow};
-ghost use Rattle.lot_condvar.specs.CondvarMutex.{NotifiersFollow};
+ghost use Rattle.lot_condvar.specs.CondvarMutex.{NotifiersCode, NotifiersFollow};
 
 /// Each step of a thread may do to the condition variable what its deeds say, and its next place says where the thread is behind them.
 pub fn condvar_steps_follow()
@@ -20,4 +20,9 @@ pub fn condvar_moves_fit()
 /// Each step of a notification may do to the mutex beside it what its deeds say, and its next place says what the thread does there then.
 pub fn notifiers_follow()
     ensures { NotifiersFollow }
+{}
+
+/// And each of its steps on the word of the mutex leaves the word of the mutex behind its deeds.
+pub fn notifiers_code()
+    ensures { NotifiersCode }
 {}
