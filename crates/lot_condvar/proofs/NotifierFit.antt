@@ -2,7 +2,7 @@
 use Rattle.std.proofs.Common.{ℕ, Bool, true, false, Option, Some, None, if◌then◌else◌, ◌==◌, ◌≡◌, ◌≢◌, ◌+◌, ◌*◌, List, [], ◌∷◌, length, refl, sym, ap, ◌∙◌, subst, arith}
 use Rattle.std.proofs.lemmas.Bool.{eqb-true}
 use Rattle.std.proofs.lemmas.Bool.Decides.{nat_tests}
-use Rattle.std.specs.Prelude.{drop, map, nat_lt, not, ◌&&◌, take}
+use Rattle.std.specs.Prelude.{nat_lt, not, ◌&&◌}
 use Rattle.lot_base.specs.declared.ops.Op.{Op}
 use Rattle.lot_base.specs.declared.ops.Op.TheVariants as op
 use Rattle.lot_base.specs.Words.{apply}
@@ -11,10 +11,10 @@ use Rattle.lot_acts.specs.declared.acts.Next.TheVariants as next
 use Rattle.lot_acts.specs.declared.acts.Reply.{Reply}
 use Rattle.lot_acts.specs.declared.acts.Reply.TheVariants.{Done, Value, Took, Requeued}
 use Rattle.abstract_locks.specs.Codes.{bit, code, code_of}
-use Rattle.abstract_locks.specs.Condvars.{CondvarSite, MoveFits, in_line, line_of, moved_of, taken_of}
+use Rattle.abstract_locks.specs.Condvars.{CondvarSite, line_of, moved_of, taken_of}
 use Rattle.abstract_locks.specs.Deeds.{AllNeeded, after_all}
 use Rattle.abstract_locks.specs.Locks.{Mutex, Queued, Rules, Taken, one_if_some, putting}
-use Rattle.abstract_locks.specs.Sites.{Deed, Doing, End, IsOpen, Main, MarkOwned, Out, Site, after_deed, bringing, counts_some, idle, is_empty, leaves, wakened}
+use Rattle.abstract_locks.specs.Sites.{Doing, End, IsOpen, Main, MarkOwned, Out, Site, after_deed, bringing, counts_some, idle, is_empty, leaves, wakened}
 use Rattle.lot_mutex.specs.MutexProfiles.{inside}
 use Rattle.lot_mutex.specs.MutexSteps.{is_locked}
 use Rattle.lot_condvar.specs.declared.notify.NotifyAt.{NotifyAt}
@@ -102,10 +102,18 @@ module _ (r : Rules) (s : Site) (c : CondvarSite) (t m : ℕ) (sort : r.sort ≡
   leaving any number is h =
       let x = left_row any (number == 0) in
       let wakes : (s.doing t).wakes ≡ None = ap (λ (d : Doing). d.wakes) is ∙ x.1 in
-      let gone : ((after_deed r Out s t).doing t).retries ≡ None = ap (λ (d : Doing). d.retries) (out h) ∙ ap (λ (d : Doing). d.retries) is ∙ x.3 in
-      ((λ e. let g : Some Main ≡ None = sym (ap (λ (d : Doing). d.inside) is ∙ x.0) ∙ e in cc, wakes, ap (λ (d : Doing). d.sets) is ∙ x.2),
-      ((ap (λ (d : Doing). d.inside) (out h), ap (λ (d : Doing). d.wakes) (out h) ∙ wakes, ap (λ (d : Doing). d.carries) (out h),
-      λ some. absurd (let f : false ≡ true = sym (ap (λ o. counts_some r.sort o) gone) ∙ some in cc)), tt))
+      let gone : ((after_deed r Out s t).doing t).retries ≡ None = ap (λ (d : Doing). d.retries) (out h) ∙ ap (λ (d : Doing). d.retries) is ∙ x.3 in (
+        (λ e. let g : Some Main ≡ None = sym (ap (λ (d : Doing). d.inside) is ∙ x.0) ∙ e in cc, wakes, ap (λ (d : Doing). d.sets) is ∙ x.2),
+        (
+          (
+            ap (λ (d : Doing). d.inside) (out h),
+            ap (λ (d : Doing). d.wakes) (out h) ∙ wakes,
+            ap (λ (d : Doing). d.carries) (out h),
+            λ some. absurd (let f : false ≡ true = sym (ap (λ o. counts_some r.sort o) gone) ∙ some in cc),
+          ),
+          tt,
+        ),
+      )
 
   notifies : (all : Bool) (p : NotifyAt) (told : Reply) → s.doing t ≡ (notify_row all m p).doing → MayHearBeside r s c t m all p told → FollowsBeside r s c t m all p told
   notifies all notify.Enter Done is h = record {
