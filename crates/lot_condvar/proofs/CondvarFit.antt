@@ -79,11 +79,11 @@ misses : (o : Option ℕ) (m : ℕ) → is_shown (word_of o) m ≡ false → o �
 misses None m e k = cc
 misses (Some n) m e k = other_again n m e (let g : n ≡ m = cc in g)
 
-some_left : (q : List Queued) → q ≢ [] → (length q == 0) ≡ false
+pub some_left : (q : List Queued) → q ≢ [] → (length q == 0) ≡ false
 some_left [] ne = absurd (ne refl)
 some_left (x ∷ q) ne = grind (arith, nat_tests)
 
-not_none : (n : ℕ) → n ≢ 0 → (n == 0) ≡ false
+pub not_none : (n : ℕ) → n ≢ 0 → (n == 0) ≡ false
 not_none n ne = grind (arith, nat_tests)
 
 -- deeds may be done, and the thread is there behind them

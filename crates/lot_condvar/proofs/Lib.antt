@@ -1,1 +1,2 @@
 pub mod CondvarFit
+pub mod NotifierFit

@@ -1,3 +1,4 @@
 pub mod CondvarSteps
 pub mod CondvarProfiles
 pub mod CondvarDeeds
+pub mod CondvarMutex

@@ -1,5 +1,6 @@
 //! What the steps of a condition variable do to it.
 ghost use Rattle.lot_condvar.specs.CondvarDeeds.{CondvarMovesFit, CondvarStepsCode, CondvarStepsFollow};
+ghost use Rattle.lot_condvar.specs.CondvarMutex.{NotifiersCode, NotifiersFollow};
 
 /// Each step of a thread may do to the condition variable what its deeds say, and its next place says where the thread is behind them.
 pub fn condvar_steps_follow()
@@ -14,4 +15,14 @@ pub fn condvar_steps_code()
 /// Where a notification moves waiters, there are some, each waits with the mutex that it saw, and that mutex may be brought them.
 pub fn condvar_moves_fit()
     ensures { CondvarMovesFit }
+{}
+
+/// Each step of a notification may do to the mutex beside it what its deeds say, and its next place says what the thread does there then.
+pub fn notifiers_follow()
+    ensures { NotifiersFollow }
+{}
+
+/// And each of its steps on the word of the mutex leaves the word of the mutex behind its deeds.
+pub fn notifiers_code()
+    ensures { NotifiersCode }
 {}
