@@ -29,6 +29,3 @@ pub use requeues::Requeue;
 pub use system::SystemClock;
 pub use ticks::TickClock;
 pub use wants::{Waiter, Want};
-
-#[cfg(test)]
-mod tests;

@@ -10,6 +10,3 @@ pub mod outcomes;
 pub use calls::{Access, Call, Downgrade, MutexCall, OnceCall, Patience, RwLockCall, Step, Turn};
 pub use kinds::Kind;
 pub use outcomes::{Answer, OnceState, Outcome};
-
-#[cfg(test)]
-mod tests;

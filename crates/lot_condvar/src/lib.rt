@@ -9,6 +9,3 @@ pub mod wait;
 pub use notify::NotifyAt;
 pub use places::{CondvarCall, CondvarPlace, shown, shows};
 pub use wait::{Stands, WaitAt};
-
-#[cfg(test)]
-mod tests;

@@ -3,8 +3,6 @@
 
 mod lines;
 mod runs;
-#[cfg(test)]
-mod tests;
 
 ghost use Rattle.lot_live.specs.Lines.{Lives};
 

@@ -9,6 +9,3 @@ pub mod run;
 pub use look::{Course, LookAt};
 pub use places::{DONE, MARKED, OncePlace, POISONED, RUNNING};
 pub use run::RunAt;
-
-#[cfg(test)]
-mod tests;

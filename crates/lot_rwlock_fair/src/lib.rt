@@ -6,8 +6,6 @@ pub mod hand_over;
 pub mod handed;
 pub mod laws;
 pub mod places;
-#[cfg(test)]
-mod tests;
 
 pub use begin::call_right;
 pub use hand_over::{HandOverAt, Taken};

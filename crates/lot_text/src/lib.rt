@@ -6,8 +6,6 @@ pub mod grammar;
 pub mod input;
 pub mod names;
 pub mod output;
-#[cfg(test)]
-mod tests;
 
 pub use answers::{print_malformed, print_no_memory, print_turn};
 pub use grammar::{Command, NamedCall, NamedTurn, meaning, numbers_are_decimal};

@@ -1,4 +1,5 @@
 //! Threads that meet at one raw mutex.
+mod live;
 mod timed;
 
 ghost use Rattle.std.specs.Prelude.{◌≡◌, All, IfOk, IfSome};

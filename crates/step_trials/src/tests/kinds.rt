@@ -1,5 +1,5 @@
 //! Kinds and what they have.
-use super::*;
+use lot_calls::{Access, Call, Downgrade, Kind, MutexCall, OnceCall, Patience, RwLockCall};
 use std::process::Abort;
 
 #[test]

@@ -1,10 +1,10 @@
 //! Words and notes of hand-overs, against tables worked out by hand.
 
-use crate::{HandOverAt, RwLockCallPlace, Taken};
 use lot_acts::{Act, Next, Reply, Wakes};
 use lot_base::{Note, Op, Want};
 use lot_calls::{Access, RwLockCall};
 use lot_rwlock::Admission;
+use lot_rwlock_fair::{HandOverAt, RwLockCallPlace, Taken};
 
 fn admission(recursive: bool) -> Admission {
     Admission {

@@ -1,5 +1,5 @@
 //! Deadlines at their bounds, and the clock of the system.
-use crate::{Clock, SystemClock, TickClock, to_deadline};
+use lot_base::{Clock, SystemClock, TickClock, to_deadline};
 use std::process::Abort;
 use std::time::Duration;
 

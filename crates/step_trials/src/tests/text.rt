@@ -1,13 +1,11 @@
 //! Which lines have a meaning and which have none, how lines are read, and how outcomes are printed.
 
-use crate::answers::print_turn;
-use crate::grammar::{Command, NamedCall, NamedTurn, meaning};
-use crate::input::{LINE_LEN, Reading, read_line};
-use crate::names::Name;
-use crate::output::Page;
 use arrayvec::ArrayVec;
 use lot_calls::{
     Access, Answer, Downgrade, Kind, MutexCall, OnceCall, OnceState, Outcome, Patience, RwLockCall,
+};
+use lot_text::{
+    Command, LINE_LEN, Name, NamedCall, NamedTurn, Page, Reading, meaning, print_turn, read_line,
 };
 
 /// Outcomes, as they are printed.

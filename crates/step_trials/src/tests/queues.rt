@@ -1,9 +1,10 @@
 //! The texts, and each call once with ample memory.
 ghost use Rattle.std.specs.Prelude.{◌≡◌, ◌<◌, IfOk, length};
 
-mod clocks;
-
-use super::*;
+use lot_base::{
+    Fault, ListQueues, LockPicker, Op, Pick, Picker, Queues, Requeue, Waiter, Want, main_key,
+    second_key,
+};
 use std::alloc::Global;
 use std::process::Abort;
 use std::test::Fail;

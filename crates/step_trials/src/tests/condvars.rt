@@ -1,10 +1,10 @@
 //! Calls of a condition variable alone, by the values that words would have.
 ghost use Rattle.lot_condvar.specs.CondvarSteps.{HasMutexKey};
 
-use super::*;
 use lot_acts::{Act, Next, Reply, Wakes, Whom};
 use lot_base::{Keys, Note, Op, Requeue, Want};
 use lot_calls::{Answer, Outcome};
+use lot_condvar::{CondvarCall, CondvarPlace};
 use std::process::Abort;
 
 const WAIT: CondvarCall = CondvarCall::Wait {

@@ -1,8 +1,8 @@
 //! Calls of a `Once` alone, by the values that their word would have.
-use super::*;
 use lot_acts::{Act, Next, Reply, Wakes};
 use lot_base::{Keys, Note, Op, Want};
 use lot_calls::{Answer, OnceCall, OnceState, Outcome};
+use lot_once::OncePlace;
 use std::process::Abort;
 
 /// Where a call goes on from a place by a reply, which doesn't end it.

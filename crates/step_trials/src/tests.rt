@@ -1,0 +1,7 @@
+mod clocks;
+mod condvars;
+mod hand_over;
+mod kinds;
+mod onces;
+mod queues;
+mod text;
