@@ -1,5 +1,5 @@
 -- What calls answer.
-use Rattle.std.specs.Prelude.{◌≡◌, ◌⊎◌, Option, Some, None, Ok, Err, IfSome, MatchResult}
+use Rattle.std.specs.Prelude.{◌≡◌, ◌⊎◌, ℕ, Bool, true, false, Option, Some, None, Ok, Err, IfOk, IfSome, MatchResult}
 use Rattle.std.specs.declared.result.Result.{Result}
 use Rattle.lot_base.specs.declared.faults.Fault.{Fault}
 use Rattle.lot_base.specs.declared.faults.Fault.TheVariants as faults
@@ -37,3 +37,41 @@ IsFull fault = fault ≡ faults.ReadersFull
 -- who may end without the lock has such a guard where it came in, or found the lock full of readers
 abbrev pub TriesOrFull : {A : Type 0} → Result (Option A) Fault → (A → Type 0) → Type 0
 TriesOrFull result holds = MatchResult result (λ entered. IfSome entered holds) IsFull
+
+-- a wait without a limit ends with its guard, or is refused because of another mutex
+abbrev pub waiting_answer : {A E : Type 0} → Result A E → Answer
+waiting_answer (Ok _) = answers.Ok
+waiting_answer (Err _) = answers.TwoMutexes
+
+-- with one it tells besides whether its time was up
+abbrev pub late_answer : Bool → Answer
+late_answer true = answers.TimedOut
+late_answer false = answers.Notified
+
+abbrev pub timed_answer : {A E : Type 0} → Result (A × Bool) E → Answer
+timed_answer (Ok ended) = late_answer ended.1
+timed_answer (Err _) = answers.TwoMutexes
+
+-- whether a notification found somebody
+abbrev pub notifying_answer : Bool → Answer
+notifying_answer true = answers.Yes
+notifying_answer false = answers.No
+
+-- and so how many it moved
+abbrev pub moved_first : Bool → ℕ
+moved_first true = 1
+moved_first false = 0
+
+-- a guard is given back, also by who was refused
+abbrev pub IsRefusedWith : {A : Type 0} → (A → Type 0) → Fault × A → Type 0
+IsRefusedWith holds refused = (refused.0 ≡ faults.TwoMutexes) × holds refused.1
+
+abbrev pub GivesBack : {A : Type 0} → Result A (Fault × A) → (A → Type 0) → Type 0
+GivesBack result holds = MatchResult result holds (IsRefusedWith holds)
+
+abbrev pub GivesBackTimed : {A B : Type 0} → Result (A × B) (Fault × A) → (A → Type 0) → Type 0
+GivesBackTimed result holds = MatchResult result (λ ended. holds ended.0) (IsRefusedWith holds)
+
+-- who tells that its time was up says so of its clock
+abbrev pub IsLate : {A E : Type 0} → Result (A × Bool) E → Type 0 → Type 0
+IsLate result passed = IfOk result (λ ended. ended.1 ≡ true → passed)

@@ -1,6 +1,7 @@
 //! Raw locks, as generic code sees them.
 #![tactic(auto)]
 
+pub mod condvar;
 pub mod rwlock;
 pub mod rwlock_fair;
 
@@ -15,6 +16,7 @@ ghost use Rattle.lot_calls.specs.declared.outcomes.Answer.TheVariants as answers
 ghost use Rattle.lock_raw.specs.Answers.{IsRefusal, answer_by};
 ghost use Rattle.value_place.specs.PermitIds.{PermitId};
 
+pub use condvar::{RawCondvar, RawCondvarTimed};
 use lot_base::{Clock, Fault};
 pub use rwlock::{
     RawRwLock, RawRwLockDowngrade, RawRwLockTimed, RawRwLockUpgrade, RawRwLockUpgradeDowngrade,
