@@ -34,7 +34,7 @@ impl<'a, R: RawMutex, T> Guarded<Taken<'a, R, T>, Open<'a, T>> {
 
     // The value is closed, and the mutex is still taken.
     #[inline]
-    fn close(self) -> (&'a Mutex<R, T>, R::Guard)
+    pub(crate) fn close(self) -> (&'a Mutex<R, T>, R::Guard)
         ensures { (result.0.now ≡ lock_of self.entry) × R.is_guard_of (lock_of self.entry) result.1 }
     {
         let Guarded { taken, value } = self;

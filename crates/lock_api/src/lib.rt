@@ -1,6 +1,7 @@
-//! Mutexes that keep a value, over any raw mutex.
+//! Mutexes that keep a value, over any raw mutex, and condition variables beside them.
 #![tactic(auto)]
 
+pub mod condvar;
 pub mod guarded;
 pub mod guards;
 pub mod mutex;
@@ -8,7 +9,8 @@ pub mod reaches;
 pub mod shows;
 pub mod taken;
 
+pub use condvar::Condvar;
 pub use guards::MutexGuard;
 pub use lock_raw;
-pub use lock_raw::{RawMutex, RawMutexFair, RawMutexTimed};
+pub use lock_raw::{RawCondvar, RawCondvarTimed, RawMutex, RawMutexFair, RawMutexTimed};
 pub use mutex::Mutex;
