@@ -8,9 +8,11 @@ pub mod mutex;
 pub mod reaches;
 pub mod shows;
 pub mod taken;
+pub mod waits;
 
 pub use condvar::Condvar;
 pub use guards::MutexGuard;
 pub use lock_raw;
 pub use lock_raw::{RawCondvar, RawCondvarTimed, RawMutex, RawMutexFair, RawMutexTimed};
 pub use mutex::Mutex;
+pub use waits::WaitTimeoutResult;

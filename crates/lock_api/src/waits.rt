@@ -1,0 +1,227 @@
+//! Waits of condition variables that end with a condition, or in time.
+ghost use Rattle.std.specs.Prelude.{◌≡◌, ◌*◌, true};
+ghost use Rattle.std.specs.Duration.{as_nanos};
+ghost use Rattle.std.specs.Iterator.Runs.{CallKeepsClosure};
+ghost use Rattle.lot_base.specs.Clocks.{HasElapsed, HasPassed};
+ghost use Rattle.lock_raw.specs.Answers.{GivesBack, GivesBackTimed, IsLate, timed_answer};
+ghost use Rattle.lock_api.specs.Guards.{lock_of};
+ghost use Rattle.lock_api.specs.Conditions.{LastAnswered, LastRefused};
+
+use crate::condvar::{Condvar, TokenOf, Waited};
+use crate::guards::MutexGuard;
+use lock_raw::{RawCondvar, RawCondvarTimed};
+use lot_base::{Clock, Fault};
+use std::marker::Model;
+use std::sync::Wait;
+use std::time::Duration;
+
+/// How a wait with a limit ended.
+#[derive(Clone, Copy, Debug, PartialEq, Eq)]
+pub struct WaitTimeoutResult {
+    timed_out: bool,
+}
+
+// In a clause it is whether the time was up.
+impl Model for WaitTimeoutResult {
+    ghost use Rattle.std.specs.Prelude.{◌≡◌, Bool};
+
+    ghost Value = { Bool };
+
+    ghost view = { λ ended. ended.timed_out };
+
+    ghost inverse = { λ late. record { timed_out = late } };
+}
+
+impl WaitTimeoutResult {
+    /// Whether its time was up.
+    pub fn timed_out(self) -> bool
+        ensures { result ≡ self }
+    {
+        self.timed_out
+    }
+}
+
+/// What a wait with a limit answers: the guard, and how it ended.
+pub type WaitedFor<'a, R, T> = Result<
+    (MutexGuard<'a, <R as RawCondvar>::RawMutex, T>, WaitTimeoutResult),
+    (Fault, MutexGuard<'a, <R as RawCondvar>::RawMutex, T>),
+>;
+
+impl<R: RawCondvar> Condvar<R> {
+    /// Waits for as long as the condition holds of the value. It is called first, and again after each wait.
+    ///
+    /// # Errors
+    ///
+    /// `TwoMutexes`, as of `wait`.
+    pub fn wait_while<'a, W: Wait, T, F: FnMut(&mut T) -> bool + Drop>(
+        &self,
+        rt: &W,
+        token: &mut TokenOf<R>,
+        guard: MutexGuard<'a, R::RawMutex, T>,
+        condition: F,
+    ) -> Waited<'a, R, T>
+        requires token { R.RawMutex.is_token_of (R.lot_of self.now) token.old }
+        requires lot { R.RawMutex.lot_of (lock_of guard) ≡ R.lot_of self.now }
+        requires callable { F.IsAlwaysCallable condition }
+        ensures token { R.RawMutex.is_token_of (R.lot_of self.now) token.new × R.RawMutex.stays token.old token.new }
+        ensures guard { GivesBack result (λ back. lock_of back ≡ lock_of guard.entry) }
+        ensures ended { LastRefused F.step (CallKeepsClosure F.FnMut condition) condition result }
+    {
+        let mut guard = guard;
+        let mut condition = condition;
+        for _ in rt.forever() {
+            if !condition(&mut *guard) {
+                return Ok(guard);
+            }
+            match self.wait(rt, token, guard) {
+                Ok(back) => guard = back,
+                Err(refused) => return Err(refused),
+            }
+        }
+        unreachable!()
+    }
+}
+
+impl<R: RawCondvarTimed> Condvar<R> {
+    /// Waits as `wait` does, or until so much time, in nanoseconds of the clock, has passed.
+    ///
+    /// A time that ends past all that a `u64` tells is no limit.
+    ///
+    /// # Errors
+    ///
+    /// `TwoMutexes`, as of `wait`.
+    #[inline]
+    pub fn wait_for<'a, W: Wait, C: Clock, T>(
+        &self,
+        rt: &W,
+        token: &mut TokenOf<R>,
+        guard: MutexGuard<'a, R::RawMutex, T>,
+        clock: &C,
+        timeout: Duration,
+    ) -> WaitedFor<'a, R, T>
+        requires token { R.RawMutex.is_token_of (R.lot_of self.now) token.old }
+        requires lot { R.RawMutex.lot_of (lock_of guard) ≡ R.lot_of self.now }
+        ensures token { R.RawMutex.is_token_of (R.lot_of self.now) token.new × R.RawMutex.stays token.old token.new }
+        ensures guard { GivesBackTimed result (λ back. lock_of back ≡ lock_of guard.entry) }
+        ensures path { R.waited self.now (lock_of guard.entry) true (timed_answer result) token.old token.new }
+        ensures late { IsLate result (HasElapsed (C.tells clock.now) (as_nanos timeout)) }
+    {
+        let (mutex, guard) = guard.close();
+        match self
+            .raw()
+            .wait_for(rt, token, mutex.raw(), guard, clock, timeout)
+        {
+            Ok((guard, timed_out)) => Ok((mutex.open(guard), WaitTimeoutResult { timed_out })),
+            Err((fault, guard)) => Err((fault, mutex.open(guard))),
+        }
+    }
+
+    /// Waits as `wait` does, or until the clock, in nanoseconds, has come to the deadline.
+    ///
+    /// # Errors
+    ///
+    /// `TwoMutexes`, as of `wait`.
+    #[inline]
+    pub fn wait_until<'a, W: Wait, C: Clock, T>(
+        &self,
+        rt: &W,
+        token: &mut TokenOf<R>,
+        guard: MutexGuard<'a, R::RawMutex, T>,
+        clock: &C,
+        deadline: u64,
+    ) -> WaitedFor<'a, R, T>
+        requires token { R.RawMutex.is_token_of (R.lot_of self.now) token.old }
+        requires lot { R.RawMutex.lot_of (lock_of guard) ≡ R.lot_of self.now }
+        ensures token { R.RawMutex.is_token_of (R.lot_of self.now) token.new × R.RawMutex.stays token.old token.new }
+        ensures guard { GivesBackTimed result (λ back. lock_of back ≡ lock_of guard.entry) }
+        ensures path { R.waited self.now (lock_of guard.entry) true (timed_answer result) token.old token.new }
+        ensures late { IsLate result (HasPassed (C.tells clock.now) deadline) }
+    {
+        let (mutex, guard) = guard.close();
+        match self
+            .raw()
+            .wait_until(rt, token, mutex.raw(), guard, clock, deadline)
+        {
+            Ok((guard, timed_out)) => Ok((mutex.open(guard), WaitTimeoutResult { timed_out })),
+            Err((fault, guard)) => Err((fault, mutex.open(guard))),
+        }
+    }
+
+    /// Waits for as long as the condition holds of the value, or until the clock, in nanoseconds, has come to the deadline.
+    ///
+    /// The condition is called first, and again after each wait, also after one whose time was up. It timed out where the last call
+    /// still held.
+    ///
+    /// # Errors
+    ///
+    /// `TwoMutexes`, as of `wait`.
+    pub fn wait_while_until<'a, W: Wait, C: Clock, T, F: FnMut(&mut T) -> bool + Drop>(
+        &self,
+        rt: &W,
+        token: &mut TokenOf<R>,
+        guard: MutexGuard<'a, R::RawMutex, T>,
+        condition: F,
+        clock: &C,
+        deadline: u64,
+    ) -> WaitedFor<'a, R, T>
+        requires token { R.RawMutex.is_token_of (R.lot_of self.now) token.old }
+        requires lot { R.RawMutex.lot_of (lock_of guard) ≡ R.lot_of self.now }
+        requires callable { F.IsAlwaysCallable condition }
+        ensures token { R.RawMutex.is_token_of (R.lot_of self.now) token.new × R.RawMutex.stays token.old token.new }
+        ensures guard { GivesBackTimed result (λ back. lock_of back ≡ lock_of guard.entry) }
+        ensures ended { LastAnswered F.step (CallKeepsClosure F.FnMut condition) condition result }
+        ensures late { IsLate result (HasPassed (C.tells clock.now) deadline) }
+    {
+        let mut guard = guard;
+        let mut condition = condition;
+        let mut late = false;
+        for _ in rt.forever() {
+            let holds = condition(&mut *guard);
+            if late || !holds {
+                return Ok((guard, WaitTimeoutResult { timed_out: holds }));
+            }
+            match self.wait_until(rt, token, guard, clock, deadline) {
+                Ok((back, ended)) => {
+                    guard = back;
+                    late = ended.timed_out();
+                }
+                Err(refused) => return Err(refused),
+            }
+        }
+        unreachable!()
+    }
+
+    /// Waits for as long as the condition holds of the value, or until so much time, in nanoseconds of the clock, has passed since
+    /// the call.
+    ///
+    /// The condition is called as by `wait_while_until`. A time that ends past all that a `u64` tells is no limit.
+    ///
+    /// # Errors
+    ///
+    /// `TwoMutexes`, as of `wait`.
+    pub fn wait_while_for<'a, W: Wait, C: Clock, T, F: FnMut(&mut T) -> bool + Drop>(
+        &self,
+        rt: &W,
+        token: &mut TokenOf<R>,
+        guard: MutexGuard<'a, R::RawMutex, T>,
+        condition: F,
+        clock: &C,
+        timeout: Duration,
+    ) -> WaitedFor<'a, R, T>
+        requires token { R.RawMutex.is_token_of (R.lot_of self.now) token.old }
+        requires lot { R.RawMutex.lot_of (lock_of guard) ≡ R.lot_of self.now }
+        requires callable { F.IsAlwaysCallable condition }
+        ensures token { R.RawMutex.is_token_of (R.lot_of self.now) token.new × R.RawMutex.stays token.old token.new }
+        ensures guard { GivesBackTimed result (λ back. lock_of back ≡ lock_of guard.entry) }
+        ensures ended { LastAnswered F.step (CallKeepsClosure F.FnMut condition) condition result }
+        ensures late { IsLate result (HasElapsed (C.tells clock.now) (as_nanos timeout)) }
+    {
+        if let Some(deadline) = R::checked_duration_to_instant(clock.now(), timeout) {
+            return self.wait_while_until(rt, token, guard, condition, clock, deadline);
+        }
+        match self.wait_while(rt, token, guard, condition) {
+            Ok(guard) => Ok((guard, WaitTimeoutResult { timed_out: false })),
+            Err(refused) => Err(refused),
+        }
+    }
+}
