@@ -5,7 +5,7 @@ ghost use Rattle.std.specs.Iterator.Runs.{CallKeepsClosure};
 ghost use Rattle.lot_base.specs.Clocks.{HasElapsed, HasPassed};
 ghost use Rattle.lock_raw.specs.Answers.{GivesBack, GivesBackTimed, IsLate, timed_answer};
 ghost use Rattle.lock_api.specs.Guards.{lock_of};
-ghost use Rattle.lock_api.specs.Conditions.{LastAnswered, LastRefused};
+ghost use Rattle.lock_api.specs.Conditions.{LastAnswered, LastRefused, WaitedOrNot};
 
 use crate::condvar::{Condvar, TokenOf, Waited};
 use crate::guards::MutexGuard;
@@ -63,7 +63,7 @@ impl<R: RawCondvar> Condvar<R> {
         requires token { R.RawMutex.is_token_of (R.lot_of self.now) token.old }
         requires lot { R.RawMutex.lot_of (lock_of guard) ≡ R.lot_of self.now }
         requires callable { F.IsAlwaysCallable condition }
-        ensures token { R.RawMutex.is_token_of (R.lot_of self.now) token.new × R.RawMutex.stays token.old token.new }
+        ensures token { R.RawMutex.is_token_of (R.lot_of self.now) token.new × WaitedOrNot R.RawMutex.stays token.old token.new }
         ensures guard { GivesBack result (λ back. lock_of back ≡ lock_of guard.entry) }
         ensures ended { LastRefused F.step (CallKeepsClosure F.FnMut condition) condition result }
     {
@@ -167,7 +167,7 @@ impl<R: RawCondvarTimed> Condvar<R> {
         requires token { R.RawMutex.is_token_of (R.lot_of self.now) token.old }
         requires lot { R.RawMutex.lot_of (lock_of guard) ≡ R.lot_of self.now }
         requires callable { F.IsAlwaysCallable condition }
-        ensures token { R.RawMutex.is_token_of (R.lot_of self.now) token.new × R.RawMutex.stays token.old token.new }
+        ensures token { R.RawMutex.is_token_of (R.lot_of self.now) token.new × WaitedOrNot R.RawMutex.stays token.old token.new }
         ensures guard { GivesBackTimed result (λ back. lock_of back ≡ lock_of guard.entry) }
         ensures ended { LastAnswered F.step (CallKeepsClosure F.FnMut condition) condition result }
         ensures late { IsLate result (HasPassed (C.tells clock.now) deadline) }
@@ -211,7 +211,7 @@ impl<R: RawCondvarTimed> Condvar<R> {
         requires token { R.RawMutex.is_token_of (R.lot_of self.now) token.old }
         requires lot { R.RawMutex.lot_of (lock_of guard) ≡ R.lot_of self.now }
         requires callable { F.IsAlwaysCallable condition }
-        ensures token { R.RawMutex.is_token_of (R.lot_of self.now) token.new × R.RawMutex.stays token.old token.new }
+        ensures token { R.RawMutex.is_token_of (R.lot_of self.now) token.new × WaitedOrNot R.RawMutex.stays token.old token.new }
         ensures guard { GivesBackTimed result (λ back. lock_of back ≡ lock_of guard.entry) }
         ensures ended { LastAnswered F.step (CallKeepsClosure F.FnMut condition) condition result }
         ensures late { IsLate result (HasElapsed (C.tells clock.now) (as_nanos timeout)) }
