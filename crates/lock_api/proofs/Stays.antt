@@ -1,5 +1,5 @@
 -- What a thread is behind one more call.
-use Rattle.std.proofs.Common.{◌≡◌, inl, inr, subst}
+use Rattle.std.proofs.Common.{inl, inr, subst}
 use Rattle.lock_api.specs.Conditions.{WaitedOrNot}
 
 -- behind one more wait it is the same thread still

@@ -43,7 +43,10 @@ impl WaitTimeoutResult {
 
 /// What a wait with a limit answers: the guard, and how it ended.
 pub type WaitedFor<'a, R, T> = Result<
-    (MutexGuard<'a, <R as RawCondvar>::RawMutex, T>, WaitTimeoutResult),
+    (
+        MutexGuard<'a, <R as RawCondvar>::RawMutex, T>,
+        WaitTimeoutResult,
+    ),
     (Fault, MutexGuard<'a, <R as RawCondvar>::RawMutex, T>),
 >;
 

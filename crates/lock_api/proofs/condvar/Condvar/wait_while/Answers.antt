@@ -1,4 +1,4 @@
-use Rattle.std.proofs.Common.{◌≡◌, ◌∙◌, inl, refl, of_calls, rules}
+use Rattle.std.proofs.Common.{◌∙◌, inl, refl, of_calls}
 use denote.Param.Members.{was_Called}
 use Rattle.lock_api.proofs.Stays.{stays_behind}
 use Rattle.lock_api.proofs.condvar.Condvar.wait_while.Goals as goal
@@ -25,4 +25,4 @@ loop-preserved g c = record {
 
 pub returns-in-Err-clause-token : goal.returns-in-Err-clause-token
 returns-in-Err-clause-token g c =
-  (c.in-Err.ensures.token.0, stays_behind g.R.RawMutex.RawMutex.stays g.R.RawMutex.RawMutex.stays_on _ _ _ c.loop.invariant.stays c.in-Err.ensures.token.1)
+    (c.in-Err.ensures.token.0, stays_behind g.R.RawMutex.RawMutex.stays g.R.RawMutex.RawMutex.stays_on _ _ _ c.loop.invariant.stays c.in-Err.ensures.token.1)
