@@ -47,7 +47,7 @@ use Rattle.lot_once.proofs.OnceFit.{once_owners_follow, once_steps_code, once_st
 use Rattle.lot_once.proofs.OnceTells.{once_sections_tell, once_steps_tell}
 use Rattle.lot_once.proofs.OnceWords as words
 use Rattle.lot_steps.specs.declared.places.Place.{Place}
-use Rattle.lot_steps.specs.declared.places.Place.TheVariants.{Idle, Mutex, RwLock, Once}
+use Rattle.lot_steps.specs.declared.places.Place.TheVariants.{Idle, Mutex, RwLock, Once, Condvar}
 use Rattle.lot_mutex.specs.declared.places.MutexPlace.{MutexPlace}
 use Rattle.lot_rwlock.specs.declared.places.Admission.{Admission}
 use Rattle.lot_rwlock_fair.specs.declared.places.RwLockCallPlace.{RwLockCallPlace}
@@ -224,6 +224,7 @@ module _ (w : State) (t l : ℕ) (at : OncePlace) (steady : IsSteady w) (shape :
 
       by_place : (q : Place) → place_at w u ≡ q → calls q l ≡ true → IsSleeper w t l steady there own (rules_in w l) refl (once_move at) same_row u
       by_place Idle e g = absurd cc
+      by_place (Condvar k at) e g = absurd (subst (FitsItsLock w) e (steady.stands.calls u))
       by_place (Mutex k m) e g = absurd (of_mutex k m e (eqb-true k l g))
       by_place (RwLock k a c) e g = absurd (of_rwlock k a c e (eqb-true k l g))
       by_place (Once k p) e g = record {
