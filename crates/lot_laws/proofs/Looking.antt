@@ -1,6 +1,5 @@
 -- A thread that looks at the word once more goes on from another place of its call. Standing there changes nothing that locks and calls see.
 use Rattle.std.proofs.Common.{ℕ, zero, suc, List, set, true, Option, Some, None, if◌then◌else◌, ◌≡◌, ◌<◌, inl, inr, [], ◌∷◌, length, replicate, refl, sym, ◌∙◌, ap, subst, get_or-set_other, get_or-set_same, length-set, get_or}
-use Rattle.std.proofs.Common.{◌*◌}
 use Rattle.abstract_locks.specs.Runs.{Event}
 use Rattle.std.proofs.Common.{Bool}
 use Rattle.lot_laws.proofs.Closures.{RunsOne}

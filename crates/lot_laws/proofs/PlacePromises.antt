@@ -1,8 +1,6 @@
 -- What is promised of a thread at any place of a call, by its row, and what that says of the state.
 use Rattle.std.proofs.Common.{ℕ, Bool, true, false, Option, Some, None, if◌then◌else◌, ◌≡◌, ◌≢◌, ◌*◌, ◌+◌, ◌≤◌, ◌⊎◌, ◌↔◌, inl, inr, refl, sym, ◌∙◌, ap, subst, arith}
 use Rattle.lot_laws.proofs.OnceRows.{once_promises}
-use Rattle.lot_once.specs.OnceSteps.{once_act}
-use Rattle.lot_once.specs.OnceProfiles.{once_profile}
 use Rattle.lot_base.specs.declared.keys.Keys.TheVariants.{One}
 use Rattle.lot_base.specs.Lines.{first_of}
 use Rattle.lot_base.specs.Lines as Lines
