@@ -1,5 +1,5 @@
 -- A closure has answered: its thread goes on from behind it, as from any other place of its call.
-use Rattle.std.proofs.Common.{ℕ, Bool, true, false, Option, Some, ◌≡◌, ◌<◌, length, length-set, refl, sym, ◌∙◌, ap, subst}
+use Rattle.std.proofs.Common.{ℕ, Bool, true, ◌≡◌, ◌<◌, length, length-set, refl, sym, ◌∙◌, ap, subst}
 use Rattle.lot_machine.specs.Machine.{held_by, reply_to}
 use Rattle.std.proofs.lemmas.List.{set-set}
 use Rattle.lot_acts.specs.declared.acts.Reply.TheVariants.{Closed}
@@ -7,16 +7,16 @@ use Rattle.lot_acts.specs.Profiles.{Profile, hand_owner}
 use Rattle.lot_once.specs.declared.places.OncePlace.TheVariants.{Run}
 use Rattle.lot_once.specs.declared.run.RunAt.TheVariants as run
 use Rattle.lot_steps.specs.declared.places.Place.{Place}
-use Rattle.lot_steps.specs.declared.places.Place.TheVariants.{Idle, Once}
+use Rattle.lot_steps.specs.declared.places.Place.TheVariants.{Once}
 use Rattle.lot_steps.specs.Steps.{act_of, next_place}
-use Rattle.lot_machine.specs.Machine.{State, can_close, can_do, can_go, close_outcome, closed_place, go_outcome, going_outcome, place_at, put, runs_closure, state_after_close, state_after_go, state_after_going}
+use Rattle.lot_machine.specs.Machine.{State, can_go, close_outcome, closed_place, go_outcome, going_outcome, place_at, put, state_after_close, state_after_go, state_after_going}
 use Rattle.lot_machine.specs.Fits.{IsShaped}
-use Rattle.lot_machine.proofs.Shape.{both, closed_fits, put_shaped}
-use Rattle.lot_laws.specs.SitesOf.{AreCounted, IsSteady}
-use Rattle.lot_laws.proofs.Closures.{RunsOne, closes_one}
+use Rattle.lot_machine.proofs.Shape.{closed_fits, put_shaped}
+use Rattle.lot_laws.specs.SitesOf.{AreCounted}
+use Rattle.lot_laws.proofs.Closures.{RunsOne}
 use Rattle.lot_laws.proofs.CountsPut.{put_counted}
 use Rattle.lot_laws.proofs.Counting.{counted_on}
-use Rattle.lot_laws.proofs.Looking.{closing_here, closing_steady, like}
+use Rattle.lot_laws.proofs.Looking.{closing_here, like}
 
 module _ (w : State) (t : ℕ) (there : t < length w.places) (succeeded : Bool) (one : RunsOne (place_at w t)) where
   abbrev pub closing : State

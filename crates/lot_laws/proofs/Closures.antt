@@ -12,8 +12,12 @@ use Rattle.lot_mutex.specs.declared.places.MutexPlace.TheVariants.{Lock, TryLock
 use Rattle.lot_mutex.specs.declared.lock.LockAt.TheVariants as lock
 use Rattle.lot_mutex.specs.declared.unlock.UnlockAt.TheVariants as unlock
 use Rattle.lot_mutex.specs.declared.hand_off.HandOffAt.TheVariants as hand_off
+use Rattle.lot_condvar.specs.declared.places.CondvarPlace.{CondvarPlace}
+use Rattle.lot_condvar.specs.declared.notify.NotifyAt.TheVariants as notify
+use Rattle.lot_condvar.specs.declared.wait.WaitAt.TheVariants as wait
+use Rattle.lot_condvar.specs.declared.places.CondvarPlace.TheVariants.{Wait, Look as Looks, Notify}
 use Rattle.lot_steps.specs.declared.places.Place.{Place}
-use Rattle.lot_steps.specs.declared.places.Place.TheVariants.{Idle, Mutex, RwLock, Once}
+use Rattle.lot_steps.specs.declared.places.Place.TheVariants.{Idle, Mutex, RwLock, Once, Condvar}
 use Rattle.lot_mutex.specs.MutexSteps.{is_locked}
 use Rattle.lot_base.specs.declared.wants.Want.{Want}
 use Rattle.lot_base.specs.declared.keys.Line.{Line}
@@ -146,11 +150,22 @@ mutex_runs_none l (HandOff b (hand_off.Store false n)) = refl
 mutex_runs_none l (HandOff b (hand_off.Store true n)) = refl
 mutex_runs_none l (HandOff b a) = refl
 
+pub condvar_runs_none : (l : ℕ) (at : CondvarPlace) → runs_closure (act_of (Condvar l at)) ≡ false
+condvar_runs_none l (Wait m timed (wait.Release s at)) = mutex_runs_none m at
+condvar_runs_none l (Wait m timed (wait.Lock late at)) = mutex_runs_none m at
+condvar_runs_none l (Wait m timed at) = refl
+condvar_runs_none l (Looks all) = refl
+condvar_runs_none l (Notify true m (notify.Move locked)) = refl
+condvar_runs_none l (Notify false m (notify.Move true)) = refl
+condvar_runs_none l (Notify false m (notify.Move false)) = refl
+condvar_runs_none l (Notify all m at) = refl
+
 -- it is in a call of a `Once`, and its run is on
 pub runs_one : (p : Place) → runs_closure (act_of p) ≡ true → RunsOne p
 runs_one Idle h = absurd cc
 runs_one (Mutex l m) h = absurd (let e : false ≡ true = sym (mutex_runs_none l m) ∙ h in cc)
 runs_one (RwLock l a c) h = absurd (let e : false ≡ true = sym (call_runs_none l a c) ∙ h in cc)
+runs_one (Condvar l at) h = absurd (let e : false ≡ true = sym (condvar_runs_none l at) ∙ h in cc)
 runs_one (Once l (Run forced (run.Closure poisoned))) h = record { lock = l; forced = forced; poisoned = poisoned; is = refl }
 runs_one (Once l (Run forced (run.Close succeeded))) h = absurd cc
 runs_one (Once l (Run forced (run.Enter succeeded))) h = absurd cc

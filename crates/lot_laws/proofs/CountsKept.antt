@@ -2,7 +2,7 @@
 -- thread brings anybody into its hand or lets anybody go.
 use Rattle.std.proofs.Common.{ℕ, Bool, true, false, Option, Some, None, if◌then◌else◌, ◌==◌, ◌≡◌, ◌≢◌, ◌<◌, inl, inr, length, nat_lt, refl, sym, ◌∙◌, ap, subst, get_or, get_or-set_same, length-set, set}
 use Rattle.lot_steps.specs.declared.places.Place.TheVariants.{Once}
-use Rattle.lot_laws.proofs.Counting.{once_counted}
+use Rattle.lot_laws.proofs.Counting.{once_counted, condvar_counted}
 use Rattle.lot_once.specs.OnceSteps.{once_next}
 use Rattle.lot_once.specs.declared.run.RunAt.TheVariants as run
 use Rattle.lot_once.specs.declared.places.OncePlace.TheVariants.{Run}
@@ -36,8 +36,9 @@ use Rattle.lot_rwlock_fair.specs.FairCalls.{in_hand_of}
 use Rattle.lot_rwlock_fair.specs.FairSteps.{any_taken, call_act, call_next, freed_next, has_room, hand_over_act, hand_over_next, looked, parked_as, released, with_taken, without}
 use Rattle.abstract_locks.specs.Codes.{has_parked}
 use Rattle.lot_once.specs.OnceSteps.{once_act, once_next}
+use Rattle.lot_condvar.specs.CondvarSteps.{condvar_act, condvar_next}
 use Rattle.lot_steps.specs.declared.places.Place.{Place}
-use Rattle.lot_steps.specs.declared.places.Place.TheVariants.{Idle, Mutex, RwLock, Once}
+use Rattle.lot_steps.specs.declared.places.Place.TheVariants.{Idle, Mutex, RwLock, Once, Condvar}
 use Rattle.lot_steps.specs.Steps.{act_of, first_place, late_key, looking, next_place, rwlock_goes}
 use Rattle.abstract_locks.specs.Locks.{LockState}
 use Rattle.abstract_locks.specs.Runs.{IsStep, Turned}
@@ -193,6 +194,7 @@ module _ (w : State) (t : ℕ) (steady : IsSteady w) (counted : AreCounted w) (t
     going_counts Idle is behind turned l k e = absurd cc
     going_counts (Mutex j m) is behind turned l k e = absurd (none_is k _ (mutex_counted l j (mutex_next m (reply_to w t (mutex_act j m)))) e)
     going_counts (Once j m) is behind turned l k e = absurd (none_is k _ (once_counted l j (once_next m (reply_to w t (once_act j m)))) e)
+    going_counts (Condvar j m) is behind turned l k e = absurd (none_is k _ (condvar_counted l j (condvar_next m (reply_to w t (condvar_act j m)))) e)
     going_counts (RwLock j a (HandOver x b to)) is behind turned l k e = either (j == l) (sym (goes_counted l j a n) ∙ e)
       where
         n : Next RwLockCallPlace

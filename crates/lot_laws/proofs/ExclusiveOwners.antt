@@ -13,9 +13,14 @@ use Rattle.lot_once.specs.declared.run.RunAt.TheVariants as run_at
 use Rattle.lot_once.specs.OnceSteps.{begins_run, once_owners}
 use Rattle.lot_acts.specs.declared.acts.Reply.TheVariants as reply
 use Rattle.lot_acts.specs.declared.owners.Phase.TheVariants as phases
+use Rattle.lot_condvar.specs.CondvarSteps.{condvar_owners}
+use Rattle.lot_condvar.specs.declared.places.CondvarPlace.TheVariants.{Wait, Look as Looks, Notify}
+use Rattle.lot_condvar.specs.declared.wait.WaitAt.TheVariants as wait
+use Rattle.lot_condvar.specs.declared.places.CondvarPlace.{CondvarPlace}
 use Rattle.lot_steps.specs.declared.places.Place.{Place}
-use Rattle.lot_steps.specs.declared.places.Place.TheVariants.{Idle, Mutex, RwLock, Once}
-use Rattle.lot_mutex.specs.MutexSteps.{is_locked}
+use Rattle.lot_steps.specs.declared.places.Place.TheVariants.{Idle, Mutex, RwLock, Once, Condvar}
+use Rattle.lot_mutex.specs.MutexSteps.{is_locked, mutex_owners}
+use Rattle.lot_mutex.specs.declared.places.MutexPlace.{MutexPlace}
 use Rattle.lot_acts.specs.Owners.{with_exclusive}
 use Rattle.lot_steps.specs.Steps.{owners_after}
 use Rattle.lot_calls.specs.declared.calls.Access.{Access}
@@ -94,17 +99,26 @@ call_is a (places.HandOver x b to) t v r = either (gives_up to v)
     either false = refl
 
 -- the exclusive owner after a step on the word that saw v, but for one whom it hands the lock
+abbrev pub mutex_owner_after : MutexPlace → ℕ → ℕ → Option ℕ → Option ℕ
+mutex_owner_after (Lock entry retries at) t v o = lock_owner at t v o
+mutex_owner_after TryLock t v o = if is_locked v then o else Some t
+mutex_owner_after (Unlock at) t v o = unlock_owner at o
+mutex_owner_after UnlockFair t v o = if v == 1 then None else o
+mutex_owner_after Bump t v o = o
+mutex_owner_after (HandOff bumps (hand_off.Store any none_left)) t v o = None
+mutex_owner_after (HandOff bumps at) t v o = o
+
+abbrev pub condvar_owner_after : CondvarPlace → ℕ → ℕ → Option ℕ → Option ℕ
+condvar_owner_after (Wait m timed (wait.Release s at)) t v o = mutex_owner_after at t v o
+condvar_owner_after (Wait m timed (wait.Lock late at)) t v o = mutex_owner_after at t v o
+condvar_owner_after at t v o = o
+
 abbrev pub owner_after : Place → ℕ → ℕ → Option ℕ → Option ℕ
 owner_after Idle t v o = o
-owner_after (Mutex l (Lock entry retries at)) t v o = lock_owner at t v o
-owner_after (Mutex l TryLock) t v o = if is_locked v then o else Some t
-owner_after (Mutex l (Unlock at)) t v o = unlock_owner at o
-owner_after (Mutex l UnlockFair) t v o = if v == 1 then None else o
-owner_after (Mutex l Bump) t v o = o
-owner_after (Mutex l (HandOff bumps (hand_off.Store any none_left))) t v o = None
-owner_after (Mutex l (HandOff bumps at)) t v o = o
+owner_after (Mutex l at) t v o = mutex_owner_after at t v o
 owner_after (RwLock l a c) t v o = call_owner a c t v o
 owner_after (Once l at) t v o = o
+owner_after (Condvar l at) t v o = condvar_owner_after at t v o
 
 once_is : (at : OncePlace) (t v : ℕ) (r : Owners) → (once_owners at t v r).exclusive ≡ r.exclusive
 once_is (Look c again at) t v r = either (begins_run c at (reply.Value v))
@@ -115,36 +129,47 @@ once_is (Look c again at) t v r = either (begins_run c at (reply.Value v))
 once_is (Run forced (run_at.Close succeeded)) t v r = refl
 once_is (Run forced at) t v r = refl
 
-pub exclusive-owners : (p : Place) (t v : ℕ) (r : Owners) → (owners_after p t v r).exclusive ≡ owner_after p t v r.exclusive
-exclusive-owners Idle t v r = refl
-exclusive-owners (RwLock l a c) t v r = call_is a c t v r
-exclusive-owners (Once l at) t v r = once_is at t v r
-exclusive-owners (Mutex l (Lock entry retries First)) t v r = either (v == 0)
+mutex_is : (at : MutexPlace) (t v : ℕ) (r : Owners) → (mutex_owners at t v r).exclusive ≡ mutex_owner_after at t v r.exclusive
+mutex_is (Lock entry retries First) t v r = either (v == 0)
   where
     either : (b : Bool) → (if b then with_exclusive r (Some t) else r).exclusive ≡ (if b then Some t else r.exclusive)
     either true = refl
     either false = refl
-exclusive-owners (Mutex l (Lock entry retries (Decide s))) t v r = either ((v == s) && not (is_locked v))
+mutex_is (Lock entry retries (Decide s)) t v r = either ((v == s) && not (is_locked v))
   where
     either : (b : Bool) → (if b then with_exclusive r (Some t) else r).exclusive ≡ (if b then Some t else r.exclusive)
     either true = refl
     either false = refl
-exclusive-owners (Mutex l (Lock entry retries at)) t v r = refl
-exclusive-owners (Mutex l TryLock) t v r = either (is_locked v)
+mutex_is (Lock entry retries at) t v r = refl
+mutex_is TryLock t v r = either (is_locked v)
   where
     either : (b : Bool) → (if b then r else with_exclusive r (Some t)).exclusive ≡ (if b then r.exclusive else Some t)
     either true = refl
     either false = refl
-exclusive-owners (Mutex l (Unlock unlock.Subtract)) t v r = refl
-exclusive-owners (Mutex l (Unlock at)) t v r = refl
-exclusive-owners (Mutex l UnlockFair) t v r = either (v == 1)
+mutex_is (Unlock unlock.Subtract) t v r = refl
+mutex_is (Unlock at) t v r = refl
+mutex_is UnlockFair t v r = either (v == 1)
   where
     either : (b : Bool) → (if b then with_exclusive r None else r).exclusive ≡ (if b then None else r.exclusive)
     either true = refl
     either false = refl
-exclusive-owners (Mutex l Bump) t v r = refl
-exclusive-owners (Mutex l (HandOff bumps (hand_off.Store any none_left))) t v r = refl
-exclusive-owners (Mutex l (HandOff bumps at)) t v r = refl
+mutex_is Bump t v r = refl
+mutex_is (HandOff bumps (hand_off.Store any none_left)) t v r = refl
+mutex_is (HandOff bumps at) t v r = refl
+
+condvar_is : (at : CondvarPlace) (t v : ℕ) (r : Owners) → (condvar_owners at t v r).exclusive ≡ condvar_owner_after at t v r.exclusive
+condvar_is (Wait m timed (wait.Release s at)) t v r = mutex_is at t v r
+condvar_is (Wait m timed (wait.Lock late at)) t v r = mutex_is at t v r
+condvar_is (Wait m timed at) t v r = refl
+condvar_is (Looks all) t v r = refl
+condvar_is (Notify all m at) t v r = refl
+
+pub exclusive-owners : (p : Place) (t v : ℕ) (r : Owners) → (owners_after p t v r).exclusive ≡ owner_after p t v r.exclusive
+exclusive-owners Idle t v r = refl
+exclusive-owners (RwLock l a c) t v r = call_is a c t v r
+exclusive-owners (Once l at) t v r = once_is at t v r
+exclusive-owners (Mutex l at) t v r = mutex_is at t v r
+exclusive-owners (Condvar l at) t v r = condvar_is at t v r
 
 -- ---------------------------------------------------------------- words
 

@@ -10,8 +10,10 @@ use Rattle.lot_base.specs.declared.notes.Note.TheVariants as note
 use Rattle.lot_acts.specs.declared.owners.Owners.{Owners}
 use Rattle.lot_once.specs.declared.places.OncePlace.{OncePlace}
 use Rattle.lot_once.specs.OnceSteps.{once_next}
+use Rattle.lot_condvar.specs.declared.places.CondvarPlace.{CondvarPlace}
+use Rattle.lot_condvar.specs.CondvarSteps.{condvar_next}
 use Rattle.lot_steps.specs.declared.places.Place.{Place}
-use Rattle.lot_steps.specs.declared.places.Place.TheVariants.{Idle, Mutex, RwLock, Once}
+use Rattle.lot_steps.specs.declared.places.Place.TheVariants.{Idle, Mutex, RwLock, Once, Condvar}
 use Rattle.lot_mutex.specs.declared.lock.Entry.{Entry}
 use Rattle.lot_mutex.specs.declared.places.MutexPlace.{MutexPlace}
 use Rattle.lot_mutex.specs.declared.places.MutexPlace.TheVariants.{Lock, HandOff}
@@ -29,7 +31,7 @@ use Rattle.lot_acts.specs.declared.acts.Next as next
 use Rattle.lot_mutex.specs.MutexSteps.{mutex_next}
 use Rattle.lot_base.specs.declared.wants.Want.{Want}
 use Rattle.lot_acts.specs.Profiles.{Hand, Of, hand_owner, taken_from}
-use Rattle.lot_steps.specs.Steps.{next_place, taker, mutex_goes, rwlock_goes, once_goes, lock_of, profile, wants, is_lock, calls}
+use Rattle.lot_steps.specs.Steps.{next_place, taker, mutex_goes, rwlock_goes, once_goes, lock_of, profile, wants, is_lock, calls, condvar_goes}
 use Rattle.abstract_locks.specs.Locks.{LockState, Taken, Queued, Rules, TakeFirst, keep_from, let_go, shares_handed, sharing_from, putting}
 use Rattle.std.specs.Prelude.{sum, ◌&&◌, ◌||◌}
 use Rattle.lot_acts.specs.Owners.{is_thread, with_exclusive}
@@ -218,6 +220,7 @@ IsInHand p t true l = IsHandedAt p t l
 abbrev pub IsMutexCall : ℕ → Place → Type 0
 IsMutexCall l (RwLock k a at) = k ≢ l
 IsMutexCall l (Once k at) = k ≢ l
+IsMutexCall l (Condvar k at) = ⊥
 IsMutexCall l p = Unit {0}
 
 pub mutex_calls : (w : State) (l : ℕ) (p : Place) → FitsItsLock w p → rules_in w l ≡ mutex → IsMutexCall l p
@@ -226,12 +229,14 @@ mutex_calls w l (RwLock k a c) calls rules = λ here.
     let none : has_readers (rules_in w k).sort ≡ false = ap (λ n. has_readers (rules_in w n).sort) here ∙ ap (λ (r : Rules). has_readers r.sort) rules in cc
 mutex_calls w l (Once k at) calls rules = λ here.
     let both : locks.Once ≡ locks.Mutex = sym calls ∙ ap (λ n. (rules_in w n).sort) here ∙ ap (λ (r : Rules). r.sort) rules in cc
+mutex_calls w l (Condvar k at) calls rules = absurd calls
 mutex_calls w l (Mutex k at) calls rules = tt
 mutex_calls w l Idle calls rules = tt
 
 pub in_hand : (p : Place) (t l : ℕ) (b : Bool) → IsMutexCall l p → hand_at p l ≡ hand t b → IsInHand p t b l
 in_hand (RwLock k a at) t l b other h = absurd (let none : hand_at (RwLock k a at) l ≡ None = ap (λ c. (if c then station (RwLock k a at) else nowhere).hand) (differ k l other) in cc)
 in_hand (Once k at) t l b other h = absurd (let none : hand_at (Once k at) l ≡ None = ap (λ c. (if c then station (Once k at) else nowhere).hand) (differ k l other) in cc)
+in_hand (Condvar k at) t l b of h = absurd of
 in_hand (Mutex k (Lock e retries (lock.Taken by))) t l b of h = either (k == l) refl b h
   where
     either : (c : Bool) → (k == l) ≡ c → (b : Bool) → (if c then mutex_station (Lock e retries (lock.Taken by)) else nowhere).hand ≡ hand t b → IsInHand (Mutex k (Lock e retries (lock.Taken by))) t b l
@@ -337,6 +342,11 @@ next_of l (Once k at) reply h = by_next (once_next at reply)
     by_next : (n : Next OncePlace) → IsOf l (once_goes k n)
     by_next (next.TheVariants.At at) = h
     by_next (next.TheVariants.End answer) = tt
+next_of l (Condvar k at) reply h = by_next (condvar_next at reply)
+  where
+    by_next : (n : Next CondvarPlace) → IsOf l (condvar_goes k n)
+    by_next (next.TheVariants.At at) = h
+    by_next (next.TheVariants.End answer) = tt
 
 -- a place of a call of the mutex l, or of none
 abbrev pub IsMutexOf : ℕ → Place → Type 0
@@ -344,12 +354,14 @@ IsMutexOf l Idle = Unit {0}
 IsMutexOf l (Mutex k at) = k ≡ l
 IsMutexOf l (RwLock k a at) = ⊥
 IsMutexOf l (Once k at) = ⊥
+IsMutexOf l (Condvar k at) = ⊥
 
 pub own_of : (l : ℕ) (p : Place) → IsMutexOf l p → IsOf l p
 own_of l Idle of = tt
 own_of l (Mutex k at) of = of
 own_of l (RwLock k a at) of = absurd of
 own_of l (Once k at) of = absurd of
+own_of l (Condvar k at) of = absurd of
 
 pub next_mutex : (l k : ℕ) (n : Next MutexPlace) → k ≡ l → IsMutexOf l (mutex_goes k n)
 next_mutex l k (next.TheVariants.At at) e = e
@@ -361,6 +373,7 @@ calls_none Idle e = refl
 calls_none (Mutex k at) e = absurd cc
 calls_none (RwLock k a at) e = absurd cc
 calls_none (Once k at) e = absurd cc
+calls_none (Condvar k at) e = absurd cc
 
 -- who is in nobody's hand isn't taken
 pub free_of : (q : Place) (l : ℕ) → (station q).hand ≡ None → taken_at q l ≡ None
@@ -495,6 +508,7 @@ taker_is Idle = refl
 taker_is (Mutex k at) = refl
 taker_is (RwLock k a at) = refl
 taker_is (Once k at) = refl
+taker_is (Condvar k at) = refl
 
 -- who is in a hand by the place is so by the taker
 pub held_taker : (p : Place) (t l : ℕ) (b : Bool) → hand_at p l ≡ hand t b → is_thread t (taker p) ≡ true

@@ -10,7 +10,7 @@ use Rattle.lot_base.specs.declared.wants.Waiter.{Waiter}
 use Rattle.lot_base.specs.declared.wants.Want.TheVariants.{Exclusive}
 use Rattle.lot_base.specs.Lines.{without, first_of, times}
 use Rattle.lot_steps.specs.declared.places.Place.{Place}
-use Rattle.lot_steps.specs.declared.places.Place.TheVariants.{Idle, Mutex, RwLock, Once}
+use Rattle.lot_steps.specs.declared.places.Place.TheVariants.{Idle, Mutex, RwLock, Once, Condvar}
 use Rattle.lot_mutex.specs.declared.lock.Entry.{Entry}
 use Rattle.lot_mutex.specs.declared.lock.Entry.TheVariants as entries
 use Rattle.lot_mutex.specs.declared.places.MutexPlace.{MutexPlace}
@@ -71,6 +71,7 @@ asleep_at k l at f g = absurd cc
 
 pub asleep : (w : State) (p : Place) (l : ℕ) → rules_in w l ≡ mutex → FitsItsLock w p → (station_at p l).stands ≡ Some Main → ((station_at p l).inside ≡ Some Main) ⊎ IsAsleep p l
 asleep w Idle l r c h = absurd cc
+asleep w (Condvar k at) l r c h = absurd c
 asleep w (Once k at) l r c h = either (k == l) refl h
   where
     either : (b : Bool) → (k == l) ≡ b → (if b then station (Once k at) else nowhere).stands ≡ Some Main → ((if b then station (Once k at) else nowhere).inside ≡ Some Main) ⊎ IsAsleep (Once k at) l
@@ -257,6 +258,7 @@ module _ (w : State) (t : ℕ) (steady : IsSteady w) (shape : IsShaped w) (there
   -- a thread goes on
   pub gone_kept : AreCounted w → (p : Place) → place_at w t ≡ p → PlaceFits (length w.locks) p → can_do w (act_of p) ≡ true → IsSteady (go_by w t p (act_of p))
   gone_kept counted Idle is fits can = absurd cc
+  gone_kept counted (Condvar l at) is fits can = absurd fits
   gone_kept counted (Once l at) is fits can = goes_steady w _ l _ steady (goes_once w t l at steady shape there fits is can).goes
   gone_kept counted (Mutex l at) is fits can = goes_steady w _ l _ steady (gone_goes l at is fits.0 can).1
   gone_kept counted (RwLock l a c) is fits can = (rwlock_goes_on w t l a c steady shape there fits is counted can).happened.after

@@ -43,7 +43,7 @@ use Rattle.lot_rwlock_fair.proofs.FairTells.{hand_overs_tell}
 use Rattle.lot_rwlock_fair.proofs.HandOverCodes.{hand_overs_code}
 use Rattle.lot_rwlock_fair.proofs.HandOverFit.{hand_overs_follow}
 use Rattle.lot_steps.specs.declared.places.Place.{Place}
-use Rattle.lot_steps.specs.declared.places.Place.TheVariants.{Idle, Mutex, RwLock, Once}
+use Rattle.lot_steps.specs.declared.places.Place.TheVariants.{Idle, Mutex, RwLock, Once, Condvar}
 use Rattle.lot_steps.specs.Steps.{next_place, profile}
 use Rattle.abstract_locks.specs.Locks.{LockState, Rules, Taken, HandOff, IsLockState, Owns, Queued, without_owner}
 use Rattle.abstract_locks.specs.Sites.{Case, Doing, Pends, Site, has_readers}
@@ -270,6 +270,7 @@ module _ (w : State) (t l : ℕ) (a : Admission) (c : RwLockCallPlace) (steady :
 
         by_place : (q : Place) → place_at w u ≡ q → hand_at q l ≡ hand t b → IsGiven w t l b (unshared_then w t l) q
         by_place Idle f h = absurd cc
+        by_place (Condvar j at) f h = absurd (subst (FitsItsLock w) f (steady.stands.calls u))
         by_place (Once j at) f h = either (j == l) refl h
           where
             either : (y : Bool) → (j == l) ≡ y → (if y then station (Once j at) else nowhere).hand ≡ hand t b → IsGiven w t l b (unshared_then w t l) (Once j at)

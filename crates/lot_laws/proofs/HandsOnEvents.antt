@@ -27,7 +27,7 @@ use Rattle.lot_rwlock_fair.specs.FairSteps.{call_act, call_next}
 use Rattle.lot_rwlock_fair.proofs.FairMoves.{handed_move}
 use Rattle.lot_rwlock_fair.proofs.FairSleepers.{fair_sleepers_hear}
 use Rattle.lot_steps.specs.declared.places.Place.{Place}
-use Rattle.lot_steps.specs.declared.places.Place.TheVariants.{Idle, Mutex, RwLock, Once}
+use Rattle.lot_steps.specs.declared.places.Place.TheVariants.{Idle, Mutex, RwLock, Once, Condvar}
 use Rattle.lot_steps.specs.Steps.{calls, next_place, profile, rwlock_goes, taker}
 use Rattle.abstract_locks.specs.Deeds.{case_of, event_by}
 use Rattle.abstract_locks.specs.Locks.{HandOff, IsTaken, Queued, Rights, Taken, putting}
@@ -121,6 +121,7 @@ module _ (w : State) (t l : ℕ) (a : Admission) (c : RwLockCallPlace) (steady :
     where
       by_place : (q : Place) → place_at w u ≡ q → taken_at q l ≡ Some (record { by = t; want = x }) → IsHandedCall l t alone x q
       by_place Idle f h = absurd cc
+      by_place (Condvar j at) f h = absurd (subst (FitsItsLock w) f (steady.stands.calls u))
       by_place (Once j at) f h = either (j == l) refl h
         where
           either : (y : Bool) → (j == l) ≡ y → taken_from (profile (Once j at)).hand (profile (Once j at)).wants y ≡ Some (record { by = t; want = x }) → IsHandedCall l t alone x (Once j at)

@@ -24,13 +24,13 @@ use Rattle.lot_once.specs.declared.look.Course.TheVariants as courses
 use Rattle.lot_once.specs.OnceSteps.{course_act, course_of, once_act}
 use Rattle.lot_steps.specs.Steps.{act_of, key_in, late_key, lock_of, profile}
 use Rattle.lot_steps.specs.declared.places.Place.{Place}
-use Rattle.lot_steps.specs.declared.places.Place.TheVariants.{Idle, Mutex, RwLock, Once}
+use Rattle.lot_steps.specs.declared.places.Place.TheVariants.{Idle, Mutex, RwLock, Once, Condvar}
 use Rattle.abstract_locks.specs.Sites.{Line, Main, Second}
 use Rattle.lot_machine.specs.Machine.{State, place_at, section_at, queue_at}
 use Rattle.lot_machine.specs.Fits.{IsShaped, PlaceFits}
 use Rattle.lot_laws.specs.MutexDeeds.{mutex_station}
 use Rattle.lot_laws.specs.Stations.{Station, station, station_at, station_by}
-use Rattle.lot_laws.specs.SitesOf.{IsSteady, key_of, stood_in}
+use Rattle.lot_laws.specs.SitesOf.{FitsItsLock, IsSteady, key_of, stood_in}
 use Rattle.lot_laws.proofs.Counts.{without_absent}
 use Rattle.lot_laws.proofs.Glue.{IsLock, IsOf, station_here, station_elsewhere}
 use Rattle.lot_rwlock.specs.declared.places.Admission.{Admission}
@@ -186,11 +186,12 @@ once_lines l (Run forced (run_at.Take succeeded)) = (Main, refl, refl)
 once_lines l (Run forced (run_at.Leave succeeded any)) = (Main, refl, refl)
 once_lines l (Run forced at) = tt
 
-pub line_act : (p : Place) (l : ℕ) → lock_of p ≡ Some l → IsLineAct l (station p) (act_of p)
-line_act Idle l h = absurd cc
-line_act (RwLock k a c) l h = let e : k ≡ l = cc in subst (λ j. IsLineAct j (station (RwLock k a c)) (act_of (RwLock k a c))) e (call_lines k a c)
-line_act (Once k at) l h = let e : k ≡ l = cc in subst (λ j. IsLineAct j (station (Once k at)) (act_of (Once k at))) e (once_lines k at)
-line_act (Mutex k at) l h = let e : k ≡ l = cc in subst (λ j. IsLineAct j (mutex_station at) (mutex_act k at)) e (mutex_lines k at)
+pub line_act : (w : State) (p : Place) (l : ℕ) → FitsItsLock w p → lock_of p ≡ Some l → IsLineAct l (station p) (act_of p)
+line_act w Idle l fits h = absurd cc
+line_act w (RwLock k a c) l fits h = let e : k ≡ l = cc in subst (λ j. IsLineAct j (station (RwLock k a c)) (act_of (RwLock k a c))) e (call_lines k a c)
+line_act w (Once k at) l fits h = let e : k ≡ l = cc in subst (λ j. IsLineAct j (station (Once k at)) (act_of (Once k at))) e (once_lines k at)
+line_act w (Condvar k at) l fits h = absurd fits
+line_act w (Mutex k at) l fits h = let e : k ≡ l = cc in subst (λ j. IsLineAct j (mutex_station at) (mutex_act k at)) e (mutex_lines k at)
 
 -- a thread that may be late sleeps in a line of its lock
 pub late_line : (p : Place) (key : ℕ) → late_key p ≡ Some key → (l : ℕ) × (lock_of p ≡ Some l) × ((m : Line) × ((profile p).late_line ≡ Some m) × (key ≡ key_of l m))
@@ -207,6 +208,7 @@ pub calls_there : (n : ℕ) (p : Place) (l : ℕ) → lock_of p ≡ Some l → P
 calls_there n Idle l e fits = absurd cc
 calls_there n (RwLock k a p) l e fits = let f : k ≡ l = cc in subst (λ j. j < n) f fits
 calls_there n (Once k p) l e fits = let f : k ≡ l = cc in subst (λ j. j < n) f fits
+calls_there n (Condvar k at) l e fits = absurd fits
 calls_there n (Mutex k at) l e fits = let f : k ≡ l = cc in subst (λ j. j < n) f fits.0
 
 -- ---------------------------------------------------------------- the sections and queues that it touches

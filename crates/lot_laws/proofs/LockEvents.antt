@@ -27,8 +27,12 @@ use Rattle.lot_once.specs.declared.places.OncePlace.TheVariants.{Look, Run}
 use Rattle.lot_once.specs.declared.look.LookAt.TheVariants as look_at
 use Rattle.lot_once.specs.declared.run.RunAt.TheVariants as run_at
 use Rattle.lot_steps.specs.Steps.{next_place, profile, rwlock_goes, calls}
+use Rattle.lot_condvar.specs.declared.places.CondvarPlace.TheVariants.{Wait, Look as Looks, Notify}
+use Rattle.lot_condvar.specs.declared.notify.NotifyAt.TheVariants as notify
+use Rattle.lot_condvar.specs.declared.wait.WaitAt.TheVariants as wait
+use Rattle.lot_mutex.specs.declared.places.MutexPlace.{MutexPlace}
 use Rattle.lot_steps.specs.declared.places.Place.{Place}
-use Rattle.lot_steps.specs.declared.places.Place.TheVariants.{Idle, Mutex, RwLock, Once}
+use Rattle.lot_steps.specs.declared.places.Place.TheVariants.{Idle, Mutex, RwLock, Once, Condvar}
 use Rattle.abstract_locks.specs.Locks.{LockState, Queued, Taken as LockTaken, Rights, Enter, Wake, HandOff as HandsOff, IsTaken, IsLockState, Knows, Needs, rights_of, with_right, without_right, is_thread, putting}
 use Rattle.abstract_locks.specs.Locks as locks
 use Rattle.abstract_locks.specs.Purposes.{Bumps}
@@ -108,6 +112,7 @@ Befalls w v t l reply = (u : ℕ) → u ≢ t → place_at v u ≡ (if is_taken_
 pub taken_place : (p : Place) (t l : ℕ) → IsMutexCall l p → is_taken_by t (taken_at p l) ≡ true → IsTakenAt p t l
 taken_place (RwLock k a at) t l other h = absurd (let none : taken_at (RwLock k a at) l ≡ None = taken_elsewhere k l (RwLock k a at) refl (λ e. other (sym e)) in let f : is_taken_by t (taken_at (RwLock k a at) l) ≡ false = ap (is_taken_by t) none in cc)
 taken_place (Once k at) t l other h = absurd (let none : taken_at (Once k at) l ≡ None = taken_elsewhere k l (Once k at) refl (λ e. other (sym e)) in let f : is_taken_by t (taken_at (Once k at) l) ≡ false = ap (is_taken_by t) none in cc)
+taken_place (Condvar k at) t l of h = absurd of
 taken_place (Mutex k (Lock entry retries (Taken by))) t l of h = either (k == l) refl h
   where
     either : (b : Bool) → (k == l) ≡ b → is_taken_by t (if b then Some (record { by = by; want = Exclusive }) else None) ≡ true → IsTakenAt (Mutex k (Lock entry retries (Taken by))) t l
@@ -151,6 +156,7 @@ woken_call (Mutex k at) t l h r = by_place (Mutex k at) (taken_place (Mutex k at
   where
     by_place : (p : Place) → IsTakenAt p t l → call_state (next_place p (Woken Normal)) r ≡ record (call_state p r) { retries = Some l }
     by_place p there = rw there.is refl
+woken_call (Condvar k at) t l h r = absurd (let held = taken_hand (Condvar k at) t l h in let f : ◌≡◌ {A = Option Hand} None (hand t false) = held.0 in cc)
 woken_call (Once k (Look c again (look_at.Taken by))) t l h r = let held = taken_hand (Once k (Look c again (look_at.Taken by))) t l h in
     ap (λ n. record (call_state (Once k (Look c again (look_at.Taken by))) r) { retries = Some n }) (eqb-true k l held.1)
 woken_call (Once k (Look c again at)) t l h r = absurd (let held = taken_hand (Once k (Look c again at)) t l h in let f : ◌≡◌ {A = Option Hand} None (hand t false) = held.0 in cc)
@@ -164,6 +170,18 @@ woken_call (RwLock k a (places.Glance x)) t l h r = absurd (let held = taken_han
 woken_call (RwLock k a (places.HandOver x b to)) t l h r = absurd (let held = taken_hand (RwLock k a (places.HandOver x b to)) t l h in let f : ◌≡◌ {A = Option Hand} None (hand t false) = held.0 in cc)
 woken_call (RwLock k a (places.Handed x how b (handed.Asleep u alone))) t l h r = absurd (let held = taken_hand (RwLock k a (places.Handed x how b (handed.Asleep u alone))) t l h in let f : hand u true ≡ hand t false = held.0 in cc)
 woken_call (RwLock k a (places.Handed x how b handed.Accept)) t l h r = absurd (let held = taken_hand (RwLock k a (places.Handed x how b handed.Accept)) t l h in let f : ◌≡◌ {A = Option Hand} None (hand t false) = held.0 in cc)
+
+-- where a wait locks its mutex again nothing befalls it
+lock_taken : (k m : ℕ) (timed late : Bool) (at : MutexPlace) (by : ℕ) (r : ℕ → Rights) → call_state (next_place (Condvar k (Wait m timed (wait.Lock late at))) (TakenBy by)) r ≡ call_state (Condvar k (Wait m timed (wait.Lock late at))) r
+lock_taken k m timed late (Lock entry retries First) by r = refl
+lock_taken k m timed late (Lock entry retries at) by r = refl
+lock_taken k m timed late TryLock by r = refl
+lock_taken k m timed late (Unlock unlock.Subtract) by r = refl
+lock_taken k m timed late (Unlock at) by r = refl
+lock_taken k m timed late UnlockFair by r = refl
+lock_taken k m timed late Bump by r = refl
+lock_taken k m timed late (HandOff bumps hand_off.Enter) by r = refl
+lock_taken k m timed late (HandOff bumps at) by r = refl
 
 -- a call goes on as it is where a thread is taken
 pub taken_call : (p : Place) (by : ℕ) (r : ℕ → Rights) → call_state (next_place p (TakenBy by)) r ≡ call_state p r
@@ -180,6 +198,18 @@ taken_call (Once k (Look c again look_at.Asleep)) by r = refl
 taken_call (Once k (Look c again at)) by r = refl
 taken_call (Once k (Run forced (run_at.Closure poisoned))) by r = refl
 taken_call (Once k (Run forced at)) by r = refl
+taken_call (Condvar k (Wait m timed (wait.Lock late at))) by r = lock_taken k m timed late at by r
+taken_call (Condvar k (Wait m timed at)) by r = refl
+taken_call (Condvar k (Looks all)) by r = refl
+taken_call (Condvar k (Notify all m notify.Enter)) by r = refl
+taken_call (Condvar k (Notify all m notify.Again)) by r = refl
+taken_call (Condvar k (Notify all m notify.Hide)) by r = refl
+taken_call (Condvar k (Notify all m notify.Mark)) by r = refl
+taken_call (Condvar k (Notify all m (notify.Set seen))) by r = refl
+taken_call (Condvar k (Notify all m (notify.Move locked))) by r = refl
+taken_call (Condvar k (Notify all m (notify.Clear any))) by r = refl
+taken_call (Condvar k (Notify all m (notify.MarkMoved number))) by r = refl
+taken_call (Condvar k (Notify all m (notify.Leave any number))) by r = refl
 taken_call (Mutex k (Lock entry retries First)) by r = refl
 taken_call (Mutex k (Lock entry retries at)) by r = refl
 taken_call (Mutex k TryLock) by r = refl

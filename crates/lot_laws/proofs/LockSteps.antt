@@ -75,7 +75,7 @@ use Rattle.lot_mutex.specs.declared.unlock.UnlockAt.TheVariants as unlock
 use Rattle.lot_mutex.specs.declared.hand_off.HandOffAt.{HandOffAt}
 use Rattle.lot_mutex.specs.declared.hand_off.HandOffAt.TheVariants as hand_off
 use Rattle.lot_steps.specs.declared.places.Place.{Place}
-use Rattle.lot_steps.specs.declared.places.Place.TheVariants.{Idle, Mutex, RwLock, Once}
+use Rattle.lot_steps.specs.declared.places.Place.TheVariants.{Idle, Mutex, RwLock, Once, Condvar}
 use Rattle.lot_acts.specs.Acts.{outcome_of}
 use Rattle.lot_mutex.specs.MutexSteps.{mutex_first, mutex_right, is_locked, is_parked, lock_act, unlock_act, hand_off_word, hand_off_act}
 use Rattle.lot_steps.specs.Steps.{act_of, next_place, next_act, mutex_goes, mutex_does, looking, late_key, is_idle, has_right, first_place, rwlock_goes, key_in, calls}
@@ -388,6 +388,7 @@ module _ (w : State) (t : ℕ) (shape : IsShaped w) (steady : IsSteady w) (there
 
   go_goes : AreCounted w → (p : Place) → place_at w t ≡ p → PlaceFits (length w.locks) p → FitsItsLock w p → can_do w (act_of p) ≡ true → GoesOn (locks_of w) t (outcome_of (next_act p (reply_to w t (act_of p)))) (locks_of (go_by w t p (act_of p)))
   go_goes counted Idle is fits of can = absurd cc
+  go_goes counted (Condvar l at) is fits of can = absurd fits
   go_goes counted (Once l at) is fits of can = once_step w t l at steady shape there fits is can
   go_goes counted (RwLock l a c) is fits of can = rwlock_step w t l a c steady shape there fits is counted can
   go_goes counted (Mutex l at) is fits of can = mutex_goes_on l fits.0 (mutex_rules (kind_at w l) of) at is can fits.1
@@ -416,6 +417,7 @@ module _ (w : State) (t : ℕ) (shape : IsShaped w) (steady : IsSteady w) (there
   late_goes : (p : Place) → place_at w t ≡ p → is_free_under w (late_key p) ≡ true
       → Stays (locks_of w) t (record (call_state p (rights w t)) { late = true }) outcome.TheVariants.Step (locks_of (state_after_late_on w t (late_key p)))
   late_goes Idle is can = absurd cc
+  late_goes (Condvar l at) is can = absurd (subst (FitsItsLock w) is (steady.stands.calls t))
   late_goes (Once l at) is can = by_line (once_profile at).late_line refl can
     where
       by_line : (m : Option Line) → (once_profile at).late_line ≡ m → is_free_under w (key_in (Some l) m) ≡ true
@@ -495,6 +497,7 @@ module _ (w : State) (t : ℕ) (shape : IsShaped w) (steady : IsSteady w) (there
 
   look_stays : (p : Place) → place_at w t ≡ p → IsOfMutex (locks_of w) (call_state p (rights w t)).purpose → Stays (locks_of w) t ((locks_of w).calls t) (go_outcome moved t) (locks_of (state_after_go moved t))
   look_stays Idle e of = absurd of
+  look_stays (Condvar l at) e of = absurd (subst (FitsItsLock w) e (steady.stands.calls t))
   look_stays (Once l at) e of = absurd (let calls : FitsItsLock w (Once l at) = subst (FitsItsLock w) e (steady.stands.calls t) in once_no_mutex w l at calls (rights w t) of)
   look_stays (RwLock l a c) e of = absurd (let calls : FitsItsLock w (RwLock l a c) = subst (FitsItsLock w) e (steady.stands.calls t) in not_mutex w l a c calls.0 (rights w t) of)
   look_stays (Mutex l at) e of = let loads = mutex_looks l at q (ap looking (sym e) ∙ is) in
@@ -542,6 +545,7 @@ no_call_idle : (p : Place) (r : ℕ → Rights) → (call_state p r).purpose ≡
 no_call_idle Idle r h = refl
 no_call_idle (RwLock l a at) r h = absurd cc
 no_call_idle (Once l at) r h = absurd cc
+no_call_idle (Condvar l at) r h = absurd cc
 no_call_idle (Mutex l (Lock entry retries a)) r h = absurd cc
 no_call_idle (Mutex l TryLock) r h = absurd cc
 no_call_idle (Mutex l (Unlock a)) r h = absurd cc

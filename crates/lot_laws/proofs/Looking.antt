@@ -1,6 +1,5 @@
 -- A thread that looks at the word once more goes on from another place of its call. Standing there changes nothing that locks and calls see.
 use Rattle.std.proofs.Common.{ℕ, zero, suc, List, set, true, Option, Some, None, if◌then◌else◌, ◌≡◌, ◌<◌, inl, inr, [], ◌∷◌, length, replicate, refl, sym, ◌∙◌, ap, subst, get_or-set_other, get_or-set_same, length-set, get_or}
-use Rattle.std.proofs.Common.{◌*◌}
 use Rattle.abstract_locks.specs.Runs.{Event}
 use Rattle.std.proofs.Common.{Bool}
 use Rattle.lot_laws.proofs.Closures.{RunsOne}
@@ -23,7 +22,7 @@ use Rattle.lot_calls.specs.declared.outcomes.Outcome.{Outcome}
 use Rattle.lot_acts.specs.Profiles.{taken_from}
 use Rattle.lot_mutex.specs.declared.places.MutexPlace.{MutexPlace}
 use Rattle.lot_steps.specs.declared.places.Place.{Place}
-use Rattle.lot_steps.specs.declared.places.Place.TheVariants.{Idle, Mutex, RwLock, Once}
+use Rattle.lot_steps.specs.declared.places.Place.TheVariants.{Idle, Mutex, RwLock, Once, Condvar}
 use Rattle.lot_steps.specs.Steps.{act_of, looking, lock_of, profile, in_mutex, is_lock}
 use Rattle.lot_mutex.specs.MutexSteps.{mutex_looking}
 use Rattle.lot_machine.specs.Machine.{State, unlocked, place_at, put, can_go, state_after_act, state_after_go}
@@ -58,6 +57,7 @@ of_lock l o e = rw e refl
 -- it is in the same call, of a lock of its sort
 calls_on : (w : State) (p q : Place) → looking p ≡ Some q → FitsItsLock w p → FitsItsLock w q
 calls_on w Idle q is calls = absurd cc
+calls_on w (Condvar l at) q is calls = absurd calls
 calls_on w (Once l at) q is calls = by_place (once_looking at) is
   where
     by_place : (o : Option OncePlace) → in_once l o ≡ Some q → FitsItsLock w q
@@ -172,7 +172,7 @@ module _ (w : State) (t : ℕ) (there : t < length w.places) (q : Place) (is : l
   looks_now = rw (here, looks.loads) refl
 
   pub looks_untouched : IsUntouched w (state_after_go looked t)
-  looks_untouched = load_untouched looked t looks.lock (place_at looked t) (act_of (place_at looked t)) (ap act_of here ∙ looks.loads)
+  looks_untouched = load_untouched looked t looks.loaded (place_at looked t) (act_of (place_at looked t)) (ap act_of here ∙ looks.loads)
 
   pub locks_same : (k : ℕ) → lock_state looked k ≡ lock_state w k
   locks_same k = alike_locks w t there q alike k

@@ -9,7 +9,7 @@ use Rattle.lot_once.specs.declared.places.OncePlace.TheVariants.{Look, Run}
 use Rattle.lot_once.specs.OnceProfiles.{once_profile}
 use Rattle.lot_calls.specs.declared.calls.OnceCall.TheVariants as once_call
 use Rattle.lot_steps.specs.declared.places.Place.{Place}
-use Rattle.lot_steps.specs.declared.places.Place.TheVariants.{Idle, Mutex, RwLock, Once}
+use Rattle.lot_steps.specs.declared.places.Place.TheVariants.{Idle, Mutex, RwLock, Once, Condvar}
 use Rattle.lot_steps.specs.Steps.{is_line, line_owed}
 use Rattle.abstract_locks.specs.Locks as locks
 use Rattle.abstract_locks.specs.Locks.{Knows, Sort}
@@ -114,6 +114,7 @@ module _ (w : State) (l : ℕ) (kept : IsKept w) (of_mutex : is_mutex (kind_at w
       let b : sort_at w k ≡ locks.Mutex = ap (sort_at w) here ∙ ap (λ r. r.sort) (rules w l of_mutex) in cc
   no_once t (Mutex k at) is = tt
   no_once t (RwLock k a c) is = tt
+  no_once t (Condvar k at) is = tt
   no_once t Idle is = tt
 
   pub mutex_kept : IsMutexKept w l

@@ -1,5 +1,5 @@
 -- What a call of a `Once` comes to, from its beginning, whose thread steps alone.
-use Rattle.std.proofs.Common.{ℕ, Bool, true, false, Option, Some, None, if◌then◌else◌, ◌==◌, ◌≡◌, ◌≢◌, ◌+◌, ◌*◌, ◌≤◌, ◌<◌, ◌++◌, ◌∷◌, [], List, map, length, refl, sym, ◌∙◌, ap, subst, arith}
+use Rattle.std.proofs.Common.{ℕ, Bool, true, false, Some, if◌then◌else◌, ◌≡◌, ◌+◌, ◌*◌, ◌≤◌, ◌++◌, ◌∷◌, [], List, map, refl, sym, ◌∙◌, ap, subst, arith}
 use Rattle.std.specs.Prelude.{◌&&◌, not}
 use Rattle.lot_base.specs.declared.keys.Keys.TheVariants.{One}
 use Rattle.lot_base.specs.declared.ops.Op.TheVariants as op
@@ -15,15 +15,13 @@ use Rattle.lot_calls.specs.declared.outcomes.Outcome.TheVariants as outcome
 use Rattle.lot_acts.specs.declared.acts.Act.TheVariants as act
 use Rattle.lot_acts.specs.declared.acts.Next.{Next}
 use Rattle.lot_acts.specs.declared.acts.Next.TheVariants as next
-use Rattle.lot_acts.specs.declared.acts.Reply.TheVariants.{Done, Parked, Value}
+use Rattle.lot_acts.specs.declared.acts.Reply.TheVariants.{Value}
 use Rattle.lot_acts.specs.declared.acts.Wakes.TheVariants.{Nobody}
 use Rattle.lot_acts.specs.Acts.{holds, outcome_of}
-use Rattle.abstract_locks.specs.Codes.{is_poisoned}
 use Rattle.abstract_locks.specs.Onces.{Phase, New, Poisoned, InProgress, Done as IsDone}
 use Rattle.abstract_locks.specs.Picks.{queued_of}
 use Rattle.abstract_locks.specs.Purposes.{once_purpose}
 use Rattle.abstract_locks.specs.Sites.{Line, Main, Runs as Running, idle}
-use Rattle.abstract_locks.specs.Locks as locks
 use Rattle.lot_once.specs.declared.look.LookAt.TheVariants as look
 use Rattle.lot_once.specs.declared.run.RunAt.TheVariants as run
 use Rattle.lot_once.specs.declared.places.OncePlace.{OncePlace}
@@ -33,15 +31,15 @@ use Rattle.lot_once.specs.OnceSteps.{check_of, in_look, is_forced, looked, once_
 use Rattle.lot_once.proofs.OnceWords as words
 use Rattle.lot_steps.specs.declared.places.Place.TheVariants.{Once}
 use Rattle.lot_steps.specs.Steps.{once_does, once_goes}
-use Rattle.lot_machine.specs.Machine.{State, after, go_of, place_at, queue_at, solo, step_outcome, word_at}
-use Rattle.lot_laws.specs.Refinement.{lock_state, locks_of}
-use Rattle.lot_laws.specs.SitesOf.{FitsItsLock, IsSteady, key_of, rules_in, site_of}
-use Rattle.lot_laws.specs.Solo.{EndsAlone, Rests}
+use Rattle.lot_machine.specs.Machine.{State, after, go_of, queue_at, solo, word_at}
+use Rattle.lot_laws.specs.Refinement.{lock_state}
+use Rattle.lot_laws.specs.SitesOf.{FitsItsLock, key_of, rules_in, site_of}
+use Rattle.lot_laws.specs.Solo.{EndsAlone}
 use Rattle.lot_laws.specs.Stations.{doing_on}
 use Rattle.lot_laws.proofs.Glue.{same}
 use Rattle.lot_laws.proofs.LineSolo.{Comes, StepsAlone, enter_comes, finds_free, leave_comes, park_comes, parks_last, word_comes}
 use Rattle.lot_laws.proofs.MutexTable.{queued_behind}
-use Rattle.lot_laws.proofs.SoloActs.{Leads, leads_more, leads_rest, leads_so, leads_step}
+use Rattle.lot_laws.proofs.SoloActs.{Leads, leads_more, leads_rest, leads_step}
 
 -- who waits for a run still does so while none has ended
 none_yet : (forced : Bool) → holds (check_of (Wait forced)) 8 ≡ true

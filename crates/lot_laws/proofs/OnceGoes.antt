@@ -1,9 +1,7 @@
 -- A thread in a call of a `Once` goes on by its act: that is one event of the `Once`, and its call goes on with it.
-use Rattle.std.proofs.Common.{inl, inr, ℕ, Bool, true, false, Option, Some, None, ◌==◌, ◌≡◌, ◌≢◌, ◌<◌, ◌≤◌, List, [], ◌∷◌, length, get_or-set_same, refl, sym, ◌∙◌, ap, subst, append-nil}
+use Rattle.std.proofs.Common.{inl, inr, ℕ, Bool, true, false, Option, Some, None, ◌==◌, ◌≡◌, ◌<◌, ◌≤◌, [], length, get_or-set_same, refl, sym, ◌∙◌, ap, subst, append-nil}
 use Rattle.lot_calls.specs.declared.calls.OnceCall.{OnceCall}
 use Rattle.lot_calls.specs.declared.outcomes.Outcome.TheVariants as outcome
-use Rattle.lot_acts.specs.declared.acts.Act.{Act}
-use Rattle.lot_acts.specs.declared.acts.Act.TheVariants as act
 use Rattle.lot_acts.specs.declared.acts.Next.{Next}
 use Rattle.lot_acts.specs.declared.acts.Next.TheVariants as next
 use Rattle.lot_acts.specs.declared.acts.Reply.{Reply}
@@ -28,7 +26,6 @@ use Rattle.lot_once.specs.OnceCalls.{next_row}
 use Rattle.lot_once.specs.OnceDeeds.{closes, end_of, exchanged_deeds, looked_deeds, once_deeds}
 use Rattle.lot_once.specs.OnceProfiles.{once_profile}
 use Rattle.lot_once.specs.OnceSteps.{course_act, course_of, ended, found, in_look, in_run, is_forced, is_mark, is_run, looked_by, marked, once_act, once_next, state_before}
-use Rattle.lot_steps.specs.declared.places.Place.{Place}
 use Rattle.lot_steps.specs.declared.places.Place.TheVariants.{Idle, Once}
 use Rattle.lot_steps.specs.Steps.{lock_of, next_act, next_place, once_does, once_goes, profile}
 use Rattle.abstract_locks.specs.Deeds.{case_of, event_by}
@@ -44,7 +41,7 @@ use Rattle.lot_laws.proofs.RowPromises.{IsWaiting}
 use Rattle.lot_laws.specs.Refinement.{lock_state}
 use Rattle.lot_laws.specs.Stations.{doing_on}
 use Rattle.std.specs.Prelude.{◌&&◌, if◌then◌else◌}
-use Rattle.abstract_locks.specs.Sites.{Deed, Site, Runs as Running, idle}
+use Rattle.abstract_locks.specs.Sites.{Site, Runs as Running, idle}
 use Rattle.lot_machine.specs.Machine.{State, can_do, place_at, reply_to, state_after_act}
 use Rattle.lot_machine.specs.Fits.{IsShaped}
 use Rattle.lot_machine.proofs.Shape.{performed_counts}

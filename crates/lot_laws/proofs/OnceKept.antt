@@ -1,5 +1,5 @@
 -- A thread in a call of a `Once` goes on: every lock is a site again.
-use Rattle.std.proofs.Common.{inl, inr, rules, ℕ, Bool, true, false, Option, Some, None, if◌then◌else◌, ◌==◌, ◌≡◌, ◌≢◌, ◌+◌, ◌*◌, ◌<◌, List, [], ◌∷◌, length, is_none, refl, sym, ◌∙◌, ap, subst, arith}
+use Rattle.std.proofs.Common.{inl, rules, ℕ, Bool, true, false, Option, Some, None, ◌==◌, ◌≡◌, ◌+◌, ◌*◌, ◌<◌, List, [], ◌∷◌, length, is_none, refl, sym, ◌∙◌, ap, subst, arith}
 use Rattle.std.proofs.lemmas.Bool.{eqb-true}
 use Rattle.lot_base.specs.declared.keys.Keys.{Keys}
 use Rattle.lot_base.specs.declared.keys.Keys.TheVariants.{One}
@@ -18,28 +18,25 @@ use Rattle.lot_acts.specs.declared.acts.Reply.TheVariants.{Done, Value, Parked, 
 use Rattle.lot_acts.specs.declared.acts.Wakes.{Wakes}
 use Rattle.lot_acts.specs.declared.acts.Whom.TheVariants as whom
 use Rattle.lot_acts.specs.Acts.{holds, wakes_taken}
-use Rattle.lot_acts.specs.Moves.{StaysPut, GoesIn, GoesOut, AreOfWord, AreLeaving, Waits, row_of}
+use Rattle.lot_acts.specs.Moves.{StaysPut, GoesIn, GoesOut, AreLeaving, Waits, row_of}
 use Rattle.lot_acts.specs.Profiles.{Profile, in_hand}
-use Rattle.lot_acts.specs.Stations.{Station}
 use Rattle.lot_acts.specs.Owners.{lock_seen}
 use Rattle.abstract_locks.specs.Onces.{Rest, TakeAll}
 use Rattle.abstract_locks.specs.Locks.{Rules, OfOnce, standing}
 use Rattle.abstract_locks.specs.Locks as locks
-use Rattle.abstract_locks.specs.Sites.{Site, IsSite, Deed, Line, Main, Second, Case, Clear, End, In, Mark, Out, has_readers}
+use Rattle.abstract_locks.specs.Sites.{Site, Deed, Line, Main, Second, Case, In, has_readers}
 use Rattle.abstract_locks.specs.Codes.{aside_in, code, is_marked, parked_in}
 use Rattle.abstract_locks.specs.Deeds.{case_of}
 use Rattle.abstract_locks.specs.Deeds as laws
-use Rattle.lot_once.specs.declared.look.LookAt.{LookAt}
 use Rattle.lot_once.specs.declared.look.LookAt.TheVariants as look
 use Rattle.lot_once.specs.declared.look.Course.{Course}
 use Rattle.lot_once.specs.declared.look.Course.TheVariants.{Ends, Runs, Marks, Parks}
-use Rattle.lot_once.specs.declared.run.RunAt.{RunAt}
 use Rattle.lot_once.specs.declared.run.RunAt.TheVariants as run
 use Rattle.lot_once.specs.declared.places.OncePlace.{OncePlace}
 use Rattle.lot_once.specs.declared.places.OncePlace.TheVariants.{Look, Run}
 use Rattle.lot_once.specs.OnceCalls.{CallFollowsBy, next_row}
 use Rattle.lot_once.specs.OnceDeeds.{Follows, IsAt, OnceSectionsFollow, MayHear, closes, doing_next, exchanged_deeds, looked_deeds, once_deeds, once_doing}
-use Rattle.lot_once.specs.OnceMoves.{Closes, OnceMoves, RestsBehind, TakesAll, once_hears, once_move}
+use Rattle.lot_once.specs.OnceMoves.{OnceMoves, RestsBehind, TakesAll, once_hears, once_move}
 use Rattle.lot_once.specs.OnceProfiles.{once_profile}
 use Rattle.lot_once.specs.OnceSteps.{course_act, course_of, once_act, once_first, once_next, once_owners}
 use Rattle.lot_once.proofs.OnceActs.{once_acts_move, once_sleepers_move}
@@ -47,7 +44,7 @@ use Rattle.lot_once.proofs.OnceFit.{once_owners_follow, once_steps_code, once_st
 use Rattle.lot_once.proofs.OnceTells.{once_sections_tell, once_steps_tell}
 use Rattle.lot_once.proofs.OnceWords as words
 use Rattle.lot_steps.specs.declared.places.Place.{Place}
-use Rattle.lot_steps.specs.declared.places.Place.TheVariants.{Idle, Mutex, RwLock, Once}
+use Rattle.lot_steps.specs.declared.places.Place.TheVariants.{Idle, Mutex, RwLock, Once, Condvar}
 use Rattle.lot_mutex.specs.declared.places.MutexPlace.{MutexPlace}
 use Rattle.lot_rwlock.specs.declared.places.Admission.{Admission}
 use Rattle.lot_rwlock_fair.specs.declared.places.RwLockCallPlace.{RwLockCallPlace}
@@ -59,10 +56,10 @@ use Rattle.lot_laws.specs.Refinement.{taken_at}
 use Rattle.lot_laws.specs.MutexDeeds.{acts}
 use Rattle.lot_laws.specs.Stations.{doing_on, station}
 use Rattle.lot_laws.specs.SitesOf.{FitsItsLock, Goes, IsSteady, TakesOne, is_mutex, key_of, rules_in}
-use Rattle.lot_laws.proofs.ActsKept.{lock_by, operated, place_goes}
+use Rattle.lot_laws.proofs.ActsKept.{lock_by, place_goes}
 use Rattle.lot_laws.proofs.OneStep.{steps_by}
-use Rattle.lot_laws.proofs.Glue.{IsOf, doing_here, free_of, lock_in, next_of, parts_at}
-use Rattle.lot_laws.proofs.MovesKept.{IsFollowed, IsSleeper, entered_hears, goes_in, goes_out, left_hears, nowhere_here, wakes_one}
+use Rattle.lot_laws.proofs.Glue.{IsOf, doing_here, free_of, next_of, parts_at}
+use Rattle.lot_laws.proofs.MovesKept.{IsFollowed, IsSleeper, entered_hears, goes_in, goes_out, left_hears, wakes_one}
 use Rattle.lot_laws.proofs.OnceMovesKept.{all_hears, closes_so, rests_or_turns, stays_unshared, takes_all, told_so}
 use Rattle.lot_laws.proofs.OtherCalls.{IsCalm, WakesOwn}
 use Rattle.lot_laws.proofs.RwLockKept.{left_calm, left_wakes, word_calm, calm_case, AreCalm}
@@ -224,6 +221,7 @@ module _ (w : State) (t l : ℕ) (at : OncePlace) (steady : IsSteady w) (shape :
 
       by_place : (q : Place) → place_at w u ≡ q → calls q l ≡ true → IsSleeper w t l steady there own (rules_in w l) refl (once_move at) same_row u
       by_place Idle e g = absurd cc
+      by_place (Condvar k at) e g = absurd (subst (FitsItsLock w) e (steady.stands.calls u))
       by_place (Mutex k m) e g = absurd (of_mutex k m e (eqb-true k l g))
       by_place (RwLock k a c) e g = absurd (of_rwlock k a c e (eqb-true k l g))
       by_place (Once k p) e g = record {

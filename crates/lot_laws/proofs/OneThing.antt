@@ -129,7 +129,7 @@ module _ (w : State) (t : ℕ) (steady : IsSteady w) (there : t < length w.place
     act_one p (act.TheVariants.End answer) h = stays
 
   gone_one : (o : Option ℕ) → lock_of (place_at w t) ≡ o → ChangesOneThing w t (state_after_act w t (place_at w t) (act_of (place_at w t)))
-  gone_one (Some l) own = act_one l own (place_at w t) (act_of (place_at w t)) (line_act (place_at w t) l own)
+  gone_one (Some l) own = act_one l own (place_at w t) (act_of (place_at w t)) (line_act w (place_at w t) l (steady.stands.calls t) own)
   gone_one None none = subst (λ p. ChangesOneThing w t (state_after_act w t p (act_of p))) (sym (calls_none (place_at w t) none)) stays
 
   spin_one : (o : Option Place) → looking (place_at w t) ≡ o → ChangesOneThing w t (state_after_look w t o)

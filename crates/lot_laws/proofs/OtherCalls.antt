@@ -22,7 +22,7 @@ use Rattle.lot_acts.specs.Owners.{is_thread}
 use Rattle.lot_acts.specs.Profiles.{hand}
 use Rattle.lot_steps.specs.Steps.{lock_of, next_place, taker}
 use Rattle.lot_steps.specs.declared.places.Place.{Place}
-use Rattle.lot_steps.specs.declared.places.Place.TheVariants.{Idle, RwLock, Mutex, Once}
+use Rattle.lot_steps.specs.declared.places.Place.TheVariants.{Idle, RwLock, Mutex, Once, Condvar}
 use Rattle.lot_rwlock_fair.specs.declared.places.RwLockCallPlace.{RwLockCallPlace}
 use Rattle.lot_rwlock_fair.specs.declared.places.RwLockCallPlace.TheVariants.{Plain, Glance, HandOver, Bump, Handed}
 use Rattle.lot_rwlock_fair.specs.declared.handed.HandedAt.TheVariants as handed
@@ -149,6 +149,7 @@ module _ (w : State) (t : ℕ) (p2 : Place) where
 
 -- so it is taken there by the one in whose hand it is
 pub taken_by_hand : (w : State) (p : Place) (t l : ℕ) → FitsItsLock w p → hand_at p l ≡ hand t false → is_taken_by t (taken_at p l) ≡ true
+taken_by_hand w (Condvar k at) t l calls h = absurd calls
 taken_by_hand w (Once k at) t l calls h = either (k == l) h
   where
     either : (b : Bool) → (if b then station (Once k at) else nowhere).hand ≡ hand t false → is_taken_by t (taken_from (once_profile at).hand (once_profile at).wants b) ≡ true
@@ -168,6 +169,7 @@ taken_by_hand w (RwLock k a c) t l calls h = either (k == l) h
 -- who was handed the lock goes on as it was
 handed_goes : (w : State) (p : Place) (t l : ℕ) → FitsItsLock w p → hand_at p l ≡ hand t true → (r : ℕ → Rights) → call_state (next_place p (Woken note.HandOff)) r ≡ call_state p r
 handed_goes w Idle t l fits h r = refl
+handed_goes w (Condvar k at) t l fits h r = absurd fits
 handed_goes w (Once k at) t l fits h r = either (k == l) h
   where
     either : (b : Bool) → (if b then station (Once k at) else nowhere).hand ≡ hand t true → call_state (next_place (Once k at) (Woken note.HandOff)) r ≡ call_state (Once k at) r

@@ -1,15 +1,13 @@
 -- What is promised of a thread at any place of a call, by its row, and what that says of the state.
 use Rattle.std.proofs.Common.{ℕ, Bool, true, false, Option, Some, None, if◌then◌else◌, ◌≡◌, ◌≢◌, ◌*◌, ◌+◌, ◌≤◌, ◌⊎◌, ◌↔◌, inl, inr, refl, sym, ◌∙◌, ap, subst, arith}
 use Rattle.lot_laws.proofs.OnceRows.{once_promises}
-use Rattle.lot_once.specs.OnceSteps.{once_act}
-use Rattle.lot_once.specs.OnceProfiles.{once_profile}
 use Rattle.lot_base.specs.declared.keys.Keys.TheVariants.{One}
 use Rattle.lot_base.specs.Lines.{first_of}
 use Rattle.lot_base.specs.Lines as Lines
 use Rattle.lot_acts.specs.declared.acts.Act.TheVariants.{Enter, Rest}
 use Rattle.lot_acts.specs.Profiles.{taken_from}
 use Rattle.lot_steps.specs.declared.places.Place.{Place}
-use Rattle.lot_steps.specs.declared.places.Place.TheVariants.{Idle, Mutex, RwLock, Once}
+use Rattle.lot_steps.specs.declared.places.Place.TheVariants.{Idle, Mutex, RwLock, Once, Condvar}
 use Rattle.lot_steps.specs.Steps.{act_of, lock_of, is_lock, calls, profile, line_owed}
 use Rattle.abstract_locks.specs.Locks.{Taken, IsSomePending, one_if_some, is_thread, standing}
 use Rattle.abstract_locks.specs.Locks as locks
@@ -106,6 +104,7 @@ module _ (w : State) (t : ℕ) (steady : IsSteady w) where
     where
       by_place : (p : Place) → place_at w t ≡ p → lock_of p ≡ Some l → RowPromises (sort_at w l) l (profile p) (act_of p)
       by_place Idle is own = absurd cc
+      by_place (Condvar k at) is own = absurd (subst (FitsItsLock w) is (steady.stands.calls t))
       by_place (Once k at) is own =
           let here : k ≡ l = cc in
           let admitted : (rules_in w k).sort ≡ locks.Once = subst (FitsItsLock w) is (steady.stands.calls t) in
@@ -277,5 +276,5 @@ module _ (w : State) (t : ℕ) (steady : IsSteady w) where
       entering_calls : (o : Option ℕ) → lock_of (place_at w t) ≡ o → act_of (place_at w t) ≡ Enter (One (key_of l m)) → lock_of (place_at w t) ≡ Some l
       entering_calls None e a = absurd (let f : Rest ≡ Enter (One (key_of l m)) = sym (ap act_of (calls_none (place_at w t) e)) ∙ a in cc)
       entering_calls (Some k) e a =
-          let of : IsOfLine k (key_of l m) = subst (IsLineAct k (station (place_at w t))) a (line_act (place_at w t) k e) in
+          let of : IsOfLine k (key_of l m) = subst (IsLineAct k (station (place_at w t))) a (line_act w (place_at w t) k (steady.stands.calls t) e) in
           e ∙ ap Some (sym (key_one l k m of.0 of.1))

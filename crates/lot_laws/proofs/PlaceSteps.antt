@@ -1,17 +1,19 @@
 -- What a step makes of what a thread owes, at each place.
-use Rattle.std.proofs.Common.{Bool, ℕ, true, false, Some, None, if◌then◌else◌, ◌≡◌, refl, sym, ◌∙◌, ap, subst}
+use Rattle.std.proofs.Common.{Bool, ℕ, true, false, Option, Some, None, if◌then◌else◌, ◌==◌, ◌≡◌, refl, sym, ◌∙◌, ap, subst}
 use Rattle.lot_laws.proofs.OnceNext.{once_owes_next}
 use Rattle.lot_calls.specs.declared.calls.Call.{Call}
 use Rattle.lot_calls.specs.declared.calls.Call as call
 use Rattle.lot_acts.specs.declared.acts.Reply.{Reply}
 use Rattle.lot_acts.specs.declared.acts.Reply.TheVariants.{Late}
 use Rattle.lot_laws.proofs.OnceOwing.{once_befallen, once_never_late}
+use Rattle.lot_condvar.specs.declared.places.CondvarPlace.{CondvarPlace}
+use Rattle.lot_condvar.specs.CondvarSteps.{condvar_next}
 use Rattle.lot_steps.specs.declared.places.Place.{Place}
-use Rattle.lot_steps.specs.declared.places.Place.TheVariants.{Idle, Mutex, RwLock, Once}
+use Rattle.lot_steps.specs.declared.places.Place.TheVariants.{Idle, Mutex, RwLock, Once, Condvar}
 use Rattle.lot_acts.specs.Acts.{outcome_of}
 use Rattle.lot_calls.specs.declared.kinds.Kind.{Kind}
 use Rattle.lot_calls.specs.Kinds.{is_fair}
-use Rattle.lot_steps.specs.Steps.{act_of, next_act, next_place, first_place, lock_of, line_owed, profile, rwlock_does, rwlock_goes}
+use Rattle.lot_steps.specs.Steps.{act_of, next_act, next_place, first_place, lock_of, line_owed, profile, rwlock_does, rwlock_goes, condvar_goes}
 use Rattle.lot_machine.specs.Machine.{State, place_at, word_at, kind_at, reply_to}
 use Rattle.abstract_locks.specs.Locks as locks
 use Rattle.lot_laws.specs.Owing.{sort_at}
@@ -50,6 +52,15 @@ owes_befallen Idle r b k = refl
 owes_befallen (Mutex l at) r b k = mutex_befallen l at r b k
 owes_befallen (RwLock l a c) r b k = rwlock_befallen l a r k c b
 owes_befallen (Once l at) r b k = once_befallen l at r b k
+owes_befallen (Condvar l at) r b k = by_next (condvar_next at r)
+  where
+    nothing : (b : Bool) → ◌≡◌ {A = Option Line} None (if b then None else None)
+    nothing true = refl
+    nothing false = refl
+
+    by_next : (n : Next CondvarPlace) → line_owed (condvar_goes l n) k ≡ line_owed (Condvar l at) k
+    by_next (next.At q) = refl
+    by_next (next.End answer) = nothing (l == k)
 
 -- at a lock by its number and rules
 abbrev OwesAt : State → ℕ → locks.Sort → ℕ → Place → Type 0
@@ -92,6 +103,7 @@ owes_next w t l steady own = by_place (place_at w t) refl own
         let here : k ≡ l = cc in
         let admitted : (rules_in w k).sort ≡ locks.Once = subst (FitsItsLock w) is (steady.stands.calls t) in
         subst (λ j. OwesAt w t (sort_at w j) j (Once k at)) here (subst (λ s. OwesAt w t s k (Once k at)) (sym admitted) (once_owes_next w t k at))
+    by_place (Condvar k at) is own = absurd (subst (FitsItsLock w) is (steady.stands.calls t))
     by_place (Mutex k at) is own =
         let here : k ≡ l = cc in
         let admitted : FitsItsLock w (Mutex k at) = rw is at (steady.stands.calls t) in
@@ -112,4 +124,5 @@ pub late_next : (p : Place) (m : Line) → (profile p).late_line ≡ Some m → 
 late_next Idle m h = absurd cc
 late_next (Mutex l at) m h = mutex_late l at m h
 late_next (RwLock l a at) m h = rwlock_late l a at m h
+late_next (Condvar l at) m h = absurd cc
 late_next (Once l at) m h = absurd (once_never_late at m h)

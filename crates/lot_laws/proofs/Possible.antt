@@ -3,7 +3,7 @@ use Rattle.std.proofs.Common.{is_some, subst, ℕ, Bool, true, false, Option, So
 use Rattle.lot_laws.proofs.OnceOwing.{once_never_late}
 use Rattle.lot_once.specs.OnceProfiles.{once_profile}
 use Rattle.abstract_locks.specs.Runs.{is_closure}
-use Rattle.lot_laws.proofs.Closures.{call_runs_none, closure_told, mutex_runs_none}
+use Rattle.lot_laws.proofs.Closures.{call_runs_none, closure_told, mutex_runs_none, condvar_runs_none}
 use Rattle.std.proofs.lemmas.Bool.{cases_eq, cases_lt}
 use Rattle.std.proofs.lemmas.List.{get_or_past}
 use Rattle.lot_base.specs.declared.keys.Keys.{Keys}
@@ -29,21 +29,23 @@ use Rattle.lot_acts.specs.declared.acts.Next.TheVariants as next
 use Rattle.lot_mutex.specs.declared.places.MutexPlace.{MutexPlace}
 use Rattle.lot_once.specs.declared.places.OncePlace.{OncePlace}
 use Rattle.lot_once.specs.OnceSteps.{once_act, once_next}
+use Rattle.lot_condvar.specs.declared.places.CondvarPlace.{CondvarPlace}
+use Rattle.lot_condvar.specs.CondvarSteps.{condvar_next, condvar_act}
 use Rattle.lot_steps.specs.declared.places.Place.{Place}
-use Rattle.lot_steps.specs.declared.places.Place.TheVariants.{Idle, Mutex, RwLock, Once}
+use Rattle.lot_steps.specs.declared.places.Place.TheVariants.{Idle, Mutex, RwLock, Once, Condvar}
 use Rattle.lot_acts.specs.declared.acts.Wakes.{Wakes}
 use Rattle.lot_acts.specs.declared.acts.Wakes as wakes
 use Rattle.lot_acts.specs.declared.acts.Whom.{Whom}
 use Rattle.lot_acts.specs.declared.acts.Whom as whom
 use Rattle.lot_acts.specs.Acts.{takes_effect, outcome_of, holds}
 use Rattle.lot_mutex.specs.MutexSteps.{mutex_act, mutex_first, mutex_next}
-use Rattle.lot_steps.specs.Steps.{act_of, lock_of, next_place, next_act, mutex_goes, mutex_does, late_key, first_place, looking, key_in, profile, rwlock_does, rwlock_goes, once_does, once_goes}
+use Rattle.lot_steps.specs.Steps.{act_of, lock_of, next_place, next_act, mutex_goes, mutex_does, late_key, first_place, looking, key_in, profile, rwlock_does, rwlock_goes, once_does, once_goes, condvar_goes, condvar_does}
 use Rattle.lot_base.specs.declared.ops.Op.{Op}
 use Rattle.lot_machine.specs.Machine.{state_after_hand_over_by, State, state_after_take, place_at, queue_at, section_at, can_do, can_go, is_free_under, word_at, state_with_sections, queues_without_first, state_after_taking, state_after_wake, state_after_act, state_after_go, state_after_late_on}
 use Rattle.lot_machine.specs.Fits.{IsShaped, PlaceFits}
 use Rattle.abstract_locks.specs.Sites.{Main, Line, Second}
 use Rattle.lot_laws.specs.Stations.{station, station_at, Station}
-use Rattle.lot_laws.specs.SitesOf.{FitsItsLock, IsSteady, stood_in, key_of}
+use Rattle.lot_laws.specs.SitesOf.{IsSteady, stood_in, key_of}
 use Rattle.lot_laws.specs.Refinement.{lock_state, locks_of, call_state, sleeps, runs_closure, keys_entered, call_on}
 use Rattle.lot_laws.proofs.Glue.{calls_none}
 use Rattle.lot_laws.proofs.LineActs.{IsOfLine, IsLineAct, line_act, holds_line, key_there, late_line, calls_there}
@@ -193,6 +195,11 @@ told_gone (RwLock l a c) r = by_next (call_next a c r)
     by_next : (n : Next RwLockCallPlace) → (outcome_of (rwlock_does l a n) ≡ outcome.TheVariants.Sleep) ↔ (sleeps (act_of (rwlock_goes l a n)) ≡ true)
     by_next (next.At q) = told_act (call_act l a q)
     by_next (next.End answer) = ((λ h. cc), λ h. cc)
+told_gone (Condvar l at) r = by_next (condvar_next at r)
+  where
+    by_next : (n : Next CondvarPlace) → (outcome_of (condvar_does l n) ≡ outcome.TheVariants.Sleep) ↔ (sleeps (act_of (condvar_goes l n)) ≡ true)
+    by_next (next.At q) = told_act (condvar_act l q)
+    by_next (next.End answer) = ((λ h. cc), λ h. cc)
 
 -- and that it runs its closure where it does then
 pub closure_gone : (p : Place) (r : Reply) → is_closure (outcome_of (next_act p r)) ≡ runs_closure (act_of (next_place p r))
@@ -212,6 +219,11 @@ closure_gone (RwLock l a c) r = by_next (call_next a c r)
     by_next : (n : Next RwLockCallPlace) → is_closure (outcome_of (rwlock_does l a n)) ≡ runs_closure (act_of (rwlock_goes l a n))
     by_next (next.At q) = closure_told (call_act l a q)
     by_next (next.End answer) = refl
+closure_gone (Condvar l at) r = by_next (condvar_next at r)
+  where
+    by_next : (n : Next CondvarPlace) → is_closure (outcome_of (condvar_does l n)) ≡ runs_closure (act_of (condvar_goes l n))
+    by_next (next.At q) = closure_told (condvar_act l q)
+    by_next (next.End answer) = refl
 
 -- no call begins in its closure, and none is late there
 pub begins_outside : (k : Kind) (c : Call) → runs_closure (act_of (first_place k c)) ≡ false
@@ -230,6 +242,11 @@ late_outside (RwLock l a c) h = by_next (call_next a c Late)
   where
     by_next : (n : Next RwLockCallPlace) → runs_closure (act_of (rwlock_goes l a n)) ≡ false
     by_next (next.At q) = call_runs_none l a q
+    by_next (next.End answer) = refl
+late_outside (Condvar l at) h = by_next (condvar_next at Late)
+  where
+    by_next : (n : Next CondvarPlace) → runs_closure (act_of (condvar_goes l n)) ≡ false
+    by_next (next.At q) = condvar_runs_none l q
     by_next (next.End answer) = refl
 late_outside (Once l at) h = absurd (by_line (once_profile at).late_line refl h)
   where
@@ -340,7 +357,7 @@ pub gone_sections : (w : State) (t : ℕ) → IsShaped w → IsSteady w → can_
 gone_sections w t shape steady can = by_lock (lock_of (place_at w t)) refl
   where
     by_lock : (o : Option ℕ) → lock_of (place_at w t) ≡ o → (key : ℕ) → SectionChanges (section_at w key) t (section_at (state_after_act w t (place_at w t) (act_of (place_at w t))) key)
-    by_lock (Some l) own key = act_sections w t shape steady l own (calls_there (length w.locks) (place_at w t) l own (shape.places t)) (place_at w t) (act_of (place_at w t)) can (line_act (place_at w t) l own) key
+    by_lock (Some l) own key = act_sections w t shape steady l own (calls_there (length w.locks) (place_at w t) l own (shape.places t)) (place_at w t) (act_of (place_at w t)) can (line_act w (place_at w t) l (steady.stands.calls t) own) key
     by_lock None none key = absurd (let e : can_do w (act_of (place_at w t)) ≡ false = ap (λ p. can_do w (act_of p)) (calls_none (place_at w t) none) in cc)
 
 -- ---------------------------------------------------------------- the other turns

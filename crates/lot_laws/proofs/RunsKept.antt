@@ -1,5 +1,5 @@
 -- A run of a `Once` is on only while its thread is in the closure of its call.
-use Rattle.std.proofs.Common.{ℕ, Bool, true, false, Option, Some, None, if◌then◌else◌, ◌==◌, ◌≡◌, ◌≢◌, ◌⊎◌, inl, inr, is_some, List, get_or-set_other, refl, sym, ◌∙◌, ap, subst}
+use Rattle.std.proofs.Common.{ℕ, Bool, true, false, Option, Some, None, if◌then◌else◌, ◌≡◌, ◌≢◌, ◌⊎◌, inl, inr, is_some, List, get_or-set_other, refl, sym, ◌∙◌, ap, subst}
 use Rattle.std.proofs.lemmas.Bool.{cases_eq}
 use Rattle.lot_calls.specs.declared.calls.Step.{Step}
 use Rattle.lot_calls.specs.declared.calls.Turn.{Turn}
@@ -27,15 +27,17 @@ use Rattle.lot_once.specs.declared.places.OncePlace.TheVariants.{Look, Run}
 use Rattle.lot_once.specs.OnceSteps.{begins_run, course_of, found, in_look, in_run, is_forced, next_look, next_run, still_retries}
 use Rattle.lot_rwlock_fair.specs.declared.places.RwLockCallPlace.{RwLockCallPlace}
 use Rattle.lot_rwlock_fair.specs.FairSteps.{call_next}
+use Rattle.lot_condvar.specs.declared.places.CondvarPlace.{CondvarPlace}
+use Rattle.lot_condvar.specs.CondvarSteps.{condvar_next}
 use Rattle.lot_steps.specs.declared.places.Place.{Place}
-use Rattle.lot_steps.specs.declared.places.Place.TheVariants.{Idle, Mutex, RwLock, Once}
-use Rattle.lot_steps.specs.Steps.{act_of, lock_of, looking, mutex_goes, next_place, once_goes, rwlock_goes}
+use Rattle.lot_steps.specs.declared.places.Place.TheVariants.{Idle, Mutex, RwLock, Once, Condvar}
+use Rattle.lot_steps.specs.Steps.{act_of, lock_of, looking, mutex_goes, next_place, once_goes, rwlock_goes, condvar_goes}
 use Rattle.lot_machine.specs.Fits.{IsShaped}
 use Rattle.lot_machine.specs.Machine.{State, after, opening, place_at, put, runs_closure, step_outcome}
 use Rattle.lot_laws.specs.Refinement.{RunsClosure, call_at, call_state, lock_state, locks_of, sleeps}
 use Rattle.lot_laws.specs.SitesOf.{AreCounted, IsSteady, RunsInClosures}
 use Rattle.lot_laws.proofs.Befallen.{others_keep_it}
-use Rattle.lot_laws.proofs.Closures.{call_runs_none, course_runs_none, mutex_runs_none, runs_one}
+use Rattle.lot_laws.proofs.Closures.{call_runs_none, course_runs_none, mutex_runs_none, runs_one, condvar_runs_none}
 use Rattle.lot_laws.proofs.Glue.{put_here, put_other, same}
 use Rattle.lot_laws.proofs.LockSteps.{after_step}
 use Rattle.lot_laws.proofs.Promises.{opening_state}
@@ -134,6 +136,11 @@ unmoved (RwLock l a c) r h = by_next (call_next a c r) ∙ sym (outside (RwLock 
   where
     by_next : (n : Next RwLockCallPlace) → closure_lock (rwlock_goes l a n) ≡ None
     by_next (next.At q) = outside (RwLock l a q) (call_runs_none l a q)
+    by_next (next.End answer) = refl
+unmoved (Condvar l at) r h = by_next (condvar_next at r) ∙ sym (outside (Condvar l at) (condvar_runs_none l at))
+  where
+    by_next : (n : Next CondvarPlace) → closure_lock (condvar_goes l n) ≡ None
+    by_next (next.At q) = outside (Condvar l q) (condvar_runs_none l q)
     by_next (next.End answer) = refl
 unmoved (Once l (Run forced at)) r h = ap (λ n. closure_lock (once_goes l (in_run forced n))) (stays_running at r h)
 unmoved (Once l (Look c again at)) r h = looks (begins_run c at r) (begins_never c at r h) ∙ sym (outside (Once l (Look c again at)) (look_runs_none l c again at))

@@ -55,7 +55,7 @@ use Rattle.lot_rwlock_fair.specs.FairLaws.{CallOpens, CallTells, next_rows}
 use Rattle.lot_rwlock_fair.specs.FairSteps.{call_act, call_next, call_owners, call_shares}
 use Rattle.lot_rwlock_fair.proofs.FairOpenings.{calls_open}
 use Rattle.lot_steps.specs.declared.places.Place.{Place}
-use Rattle.lot_steps.specs.declared.places.Place.TheVariants.{Idle, Mutex, RwLock, Once}
+use Rattle.lot_steps.specs.declared.places.Place.TheVariants.{Idle, Mutex, RwLock, Once, Condvar}
 use Rattle.lot_mutex.specs.declared.places.MutexPlace.{MutexPlace}
 use Rattle.lot_once.specs.declared.places.OncePlace.{OncePlace}
 use Rattle.lot_steps.specs.Steps.{next_place, profile, calls, rwlock_goes}
@@ -328,6 +328,7 @@ module _ (w : State) (t l : ℕ) (a : Admission) (c : RwLockCallPlace) (steady :
     where
       by_place : (q : Place) → place_at w u ≡ q → calls q l ≡ true → IsSleeper w t l steady there own (rules_in w l) refl (call_move a c) same_row u
       by_place Idle e g = absurd cc
+      by_place (Condvar k at) e g = absurd (subst (FitsItsLock w) e (steady.stands.calls u))
       by_place (Once k at) e g = absurd (of_no_once u k at e (eqb-true k l g))
       by_place (Mutex k m) e g = absurd (of_no_mutex u k m e (eqb-true k l g))
       by_place (RwLock k b q) e g = record {
@@ -449,6 +450,7 @@ module _ (w : State) (t l : ℕ) (a : Admission) (c : RwLockCallPlace) (steady :
     where
       by_place : (q : Place) → place_at w u ≡ q → hand_at q l ≡ hand t true → IsWoken w t l true HandOff q
       by_place Idle e h = absurd cc
+      by_place (Condvar k at) e h = absurd (subst (FitsItsLock w) e (steady.stands.calls u))
       by_place (Once k at) e h = either (k == l) refl h
         where
           either : (b : Bool) → (k == l) ≡ b → (if b then station (Once k at) else nowhere).hand ≡ hand t true → IsWoken w t l true HandOff (Once k at)

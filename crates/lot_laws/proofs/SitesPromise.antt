@@ -5,8 +5,9 @@ use Rattle.lot_base.specs.declared.wants.Waiter.{Waiter}
 use Rattle.lot_base.specs.Lines as Lines
 use Rattle.lot_mutex.specs.MutexSteps.{is_parked}
 use Rattle.lot_once.specs.OnceProfiles.{once_profile}
+use Rattle.lot_steps.specs.Steps.{profile}
 use Rattle.lot_steps.specs.declared.places.Place.{Place}
-use Rattle.lot_steps.specs.declared.places.Place.TheVariants.{Idle, Mutex, RwLock, Once}
+use Rattle.lot_steps.specs.declared.places.Place.TheVariants.{Idle, Mutex, RwLock, Once, Condvar}
 use Rattle.abstract_locks.specs.Locks.{Queued, times, one_if_some}
 use Rattle.abstract_locks.specs.Locks as locks
 use Rattle.abstract_locks.specs.Sites.{idle, Line, Main, Second, Claim}
@@ -92,12 +93,18 @@ sets_nothing (RwLock k a c) l other = either (k == l)
     either : (b : Bool) → (if b then (call_profile a c).doing else idle).sets ≡ false
     either true = call_unset a c
     either false = refl
+sets_nothing (Condvar k at) l other = either (k == l)
+  where
+    either : (b : Bool) → (if b then (profile (Condvar k at)).doing else idle).sets ≡ false
+    either true = refl
+    either false = refl
 
 no_once : (w : State) (p : Place) (l : ℕ) → rules_in w l ≡ mutex → FitsItsLock w p → IsNoOnce l p
 no_once w (Once k at) l rules fits = λ here.
     let both : locks.Once ≡ locks.Mutex = sym fits ∙ ap (λ n. (rules_in w n).sort) here ∙ ap (λ (r : locks.Rules). r.sort) rules in cc
 no_once w (Mutex k at) l rules fits = tt
 no_once w (RwLock k a c) l rules fits = tt
+no_once w (Condvar k at) l rules fits = tt
 no_once w Idle l rules fits = tt
 
 pub first_out : (t : ℕ) (q : List Waiter) → Lines.times t q ≡ 0 → locks.is_thread t (Lines.first_of q) ≡ 0

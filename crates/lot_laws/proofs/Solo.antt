@@ -38,7 +38,7 @@ use Rattle.lot_laws.proofs.OnceEnds.{once_alone}
 use Rattle.lot_laws.proofs.OnceRows.{main_only}
 use Rattle.lot_laws.proofs.OnceSolo.{once_rests}
 use Rattle.lot_steps.specs.declared.places.Place.{Place}
-use Rattle.lot_steps.specs.declared.places.Place.TheVariants.{Idle, Mutex, RwLock, Once}
+use Rattle.lot_steps.specs.declared.places.Place.TheVariants.{Idle, Mutex, RwLock, Once, Condvar}
 use Rattle.lot_acts.specs.Acts.{outcome_of}
 use Rattle.lot_mutex.specs.MutexSteps.{mutex_first, is_locked, is_parked, entered, looked, hand_off_word, in_unlock}
 use Rattle.lot_calls.specs.Kinds.{is_fair}
@@ -418,6 +418,7 @@ never_aside w l (RwLock k a c) fits sort e = either (k == l) refl
     either true h = let own : (rules_in w k).sort ≡ locks.Once = subst (λ n. (rules_in w n).sort ≡ locks.Once) (sym (eqb-true k l h)) sort in
         let other : true ≡ false = sym (fits.0.0) ∙ ap has_readers own in cc
     either false h = let none : None ≡ Some Second = sym (ap (λ b. (if b then station (RwLock k a c) else nowhere).inside) h) ∙ e in cc
+never_aside w l (Condvar k at) fits sort e = absurd fits
 never_aside w l (Once k at) fits sort e = either (k == l) refl
   where
     either : (b : Bool) → (k == l) ≡ b → ⊥
@@ -486,6 +487,7 @@ module _ (w : State) (t : ℕ) (shape : IsShaped w) (steady : IsSteady w) (count
 
   place_rests : (p : Place) → place_at w t ≡ p → PlaceFits (length w.locks) p → p ≢ Idle → act_of p ≢ act.TheVariants.Sleep → runs_closure (act_of p) ≡ false → Leads 18 w t (λ v x. Rests x)
   place_rests Idle is fits busy up outside = absurd (busy refl)
+  place_rests (Condvar l at) is fits busy up outside = absurd fits
   place_rests (Once l at) is fits busy up outside =
       leads_more 8 18 w t (λ v x. Rests x) (omega arith) (once_rests t l at (word_at w l) w (λ m. queue_at w (key_of l m)) up outside (once_steps_alone l at is fits))
   place_rests (RwLock l a c) is fits busy up outside =

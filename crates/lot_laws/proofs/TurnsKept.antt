@@ -18,9 +18,8 @@ use Rattle.lot_calls.specs.declared.calls.Step.{Step}
 use Rattle.lot_calls.specs.declared.calls.Turn.{Turn}
 use Rattle.lot_calls.specs.declared.calls.Turn as turn
 use Rattle.lot_calls.specs.Kinds.{has_call, is_fair}
-use Rattle.lot_calls.specs.declared.calls.OnceCall.{OnceCall}
 use Rattle.lot_steps.specs.declared.places.Place.{Place}
-use Rattle.lot_steps.specs.declared.places.Place.TheVariants.{Idle, Mutex, RwLock, Once}
+use Rattle.lot_steps.specs.declared.places.Place.TheVariants.{Idle, Mutex, RwLock, Once, Condvar}
 use Rattle.lot_mutex.specs.declared.lock.Entry.{Entry}
 use Rattle.lot_mutex.specs.declared.lock.Entry.TheVariants as entries
 use Rattle.lot_mutex.specs.declared.lock.LockAt.{LockAt}
@@ -36,7 +35,7 @@ use Rattle.lot_laws.specs.Refinement.{lock_state, taken_at}
 use Rattle.lot_laws.specs.SitesOf.{is_mutex}
 use Rattle.lot_laws.specs.MutexDeeds.{mutex_doing, mutex_station, acts, begins}
 use Rattle.lot_laws.specs.Stations.{nowhere, station}
-use Rattle.lot_laws.specs.SitesOf.{AreCounted, FitsItsLock, IsSteady, Goes}
+use Rattle.lot_laws.specs.SitesOf.{AreCounted, IsSteady, Goes}
 use Rattle.lot_machine.proofs.Shape.{both, looking_shaped}
 use Rattle.lot_laws.proofs.KindsKept.{calls_mutex, calls_readers}
 use Rattle.lot_laws.proofs.Glue.{parts_at, same, thread_is}
@@ -58,6 +57,7 @@ idle_is Idle h = refl
 idle_is (Mutex l at) h = absurd cc
 idle_is (RwLock l a at) h = absurd cc
 idle_is (Once l at) h = absurd cc
+idle_is (Condvar l at) h = absurd cc
 
 module _ (w : State) (t : ℕ) (steady : IsSteady w) (shape : IsShaped w) (there : t < length w.places) where
   -- it begins, with the claim that the call needs
@@ -127,6 +127,7 @@ module _ (w : State) (t : ℕ) (steady : IsSteady w) (shape : IsShaped w) (there
   late_kept (RwLock l a (BumpCall p)) is fits can = rwlock_late l a (BumpCall p) is fits (call_late_line (BumpCall p)) refl can
   late_kept (RwLock l a c) is fits can = absurd cc
   late_kept Idle is fits can = absurd cc
+  late_kept (Condvar l at) is fits can = absurd fits
   late_kept (Once l at) is fits can = once_late (once_profile at).late_line refl can
     where
       once_late : (m : Option Line) → (once_profile at).late_line ≡ m → is_free_under w (key_in (Some l) m) ≡ true → IsSteady (state_after_late_on w t (key_in (Some l) m))

@@ -4,7 +4,7 @@ use Rattle.lot_base.specs.declared.wants.Waiter.{Waiter}
 pub use Rattle.lot_base.specs.Keys.{key_of}
 use Rattle.lot_base.specs.Lines.{times}
 use Rattle.lot_steps.specs.declared.places.Place.{Place}
-use Rattle.lot_steps.specs.declared.places.Place.TheVariants.{Idle, Mutex as OfMutex, RwLock as OfRwLock, Once as OfOnce}
+use Rattle.lot_steps.specs.declared.places.Place.TheVariants.{Idle, Mutex as OfMutex, RwLock as OfRwLock, Once as OfOnce, Condvar as OfCondvar}
 use Rattle.lot_base.specs.declared.wants.Want.{Want}
 use Rattle.abstract_locks.specs.Locks.{Rules, Mutex as OneOwner, Once as OnceSort}
 use Rattle.abstract_locks.specs.Sites.{Line, Main, Second, Site, IsSite, has_readers, after_deed, Needed}
@@ -108,12 +108,13 @@ is_mutex kind.TheVariants.Mutex = true
 is_mutex kind.TheVariants.Fair = true
 is_mutex k = false
 
--- a call is of a lock of its sort, and stands where it may
+-- a call is of a lock of its sort, and stands where it may; none of a condition variable begins here
 abbrev pub FitsItsLock : State → Place → Type 0
 FitsItsLock w Idle = Unit {0}
 FitsItsLock w (OfMutex l at) = is_mutex (kind_at w l) ≡ true
 FitsItsLock w (OfRwLock l a c) = Admits (rules_in w l) a × CallStands a c
 FitsItsLock w (OfOnce l at) = (rules_in w l).sort ≡ OnceSort
+FitsItsLock w (OfCondvar l at) = ⊥
 
 pub record Stands (w : State) : Type 0 where
   pub sections : Sections (place_at w) (section_at w)

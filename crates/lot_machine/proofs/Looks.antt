@@ -1,5 +1,5 @@
--- From where a thread looks at the word once more: in the same call, with the same row, and about to load.
-use Rattle.std.proofs.Common.{ℕ, Bool, true, false, Option, Some, None, if◌then◌else◌, ◌≡◌, refl, sym, subst}
+-- From where a thread looks at a word once more: in the same call, with the same row, and about to load.
+use Rattle.std.proofs.Common.{ℕ, Bool, true, false, Option, Some, None, if◌then◌else◌, ◌≡◌, ◌<◌, refl, sym, subst}
 use Rattle.lot_base.specs.declared.ops.Op.TheVariants.{Load}
 use Rattle.lot_acts.specs.declared.acts.Act.TheVariants.{Word}
 use Rattle.lot_mutex.specs.declared.lock.Entry.{Entry}
@@ -22,18 +22,24 @@ use Rattle.lot_once.specs.declared.places.OncePlace.{OncePlace}
 use Rattle.lot_once.specs.declared.places.OncePlace.TheVariants.{Look, Run}
 use Rattle.lot_once.specs.declared.look.LookAt.TheVariants as look_at
 use Rattle.lot_once.specs.OnceSteps.{once_looking}
+use Rattle.lot_condvar.specs.declared.places.CondvarPlace.{CondvarPlace}
+use Rattle.lot_condvar.specs.declared.places.CondvarPlace.TheVariants.{Wait}
+use Rattle.lot_condvar.specs.declared.wait.WaitAt.TheVariants as wait
+use Rattle.lot_condvar.specs.CondvarSteps.{condvar_looking, in_lock}
 use Rattle.lot_steps.specs.declared.places.Place.{Place}
-use Rattle.lot_steps.specs.declared.places.Place.TheVariants.{Idle, Mutex, RwLock, Once}
-use Rattle.lot_steps.specs.Steps.{act_of, lock_of, looking, in_mutex, in_rwlock, in_once, profile}
+use Rattle.lot_steps.specs.declared.places.Place.TheVariants.{Idle, Mutex, RwLock, Once, Condvar}
+use Rattle.lot_steps.specs.Steps.{act_of, lock_of, looking, in_mutex, in_rwlock, in_once, in_condvar, profile}
 use Rattle.lot_machine.specs.Fits.{PlaceFits}
 
 pub record IsLook (p q : Place) : Type 0 where
   pub lock : ℕ
   pub before : lock_of p ≡ Some lock
   pub now : lock_of q ≡ Some lock
-  pub loads : act_of q ≡ Word lock Load
+  pub loaded : ℕ
+  pub loads : act_of q ≡ Word loaded Load
   pub row : profile q ≡ profile p
   pub fits : (locks : ℕ) → PlaceFits locks p → PlaceFits locks q
+  pub there : (locks : ℕ) → PlaceFits locks p → loaded < locks
 
 some_is : (p q : Place) → Some p ≡ Some q → p ≡ q
 some_is p q e = cc
@@ -72,7 +78,7 @@ rwlock_look l a c q is = by_place (call_looking a c) refl is
     by_place : (o : Option RwLockCallPlace) → call_looking a c ≡ o → in_rwlock l a o ≡ Some q → IsLook (RwLock l a c) q
     by_place None e is = absurd cc
     by_place (Some d) e is = subst (IsLook (RwLock l a c)) (some_is (RwLock l a d) q is)
-        (record { lock = l; before = refl; now = refl; loads = call_loads l a c d e; row = (fair_looks_stand a c d e).0; fits = λ locks h. h })
+        (record { lock = l; before = refl; now = refl; loaded = l; loads = call_loads l a c d e; row = (fair_looks_stand a c d e).0; fits = λ locks h. h; there = λ locks h. h })
 
 pub look : (p q : Place) → looking p ≡ Some q → IsLook p q
 look Idle q is = absurd cc
@@ -85,7 +91,7 @@ look (Mutex l at) q is = mutex_look at is
 
     mutex_look : (at : MutexPlace) → in_mutex l (mutex_looking at) ≡ Some q → IsLook (Mutex l at) q
     mutex_look (Lock e again (lock.Decide seen)) is =
-        by_mark _ (Lock e again (lock.Decide seen)) (Lock e again lock.Load) (record { lock = l; before = refl; now = refl; loads = refl; row = refl; fits = λ locks h. (h.0, tt) }) is
+        by_mark _ (Lock e again (lock.Decide seen)) (Lock e again lock.Load) (record { lock = l; before = refl; now = refl; loaded = l; loads = refl; row = refl; fits = λ locks h. (h.0, tt); there = λ locks h. h.0 }) is
     mutex_look (Lock e again to) is = absurd cc
     mutex_look at is = absurd cc
 look (Once l at) q is = once_look at is
@@ -96,9 +102,25 @@ look (Once l at) q is = once_look at is
 
     once_look : (at : OncePlace) → in_once l (once_looking at) ≡ Some q → IsLook (Once l at) q
     once_look (Look c again (look_at.Decide seen)) is =
-        by_mark _ (Look c again (look_at.Decide seen)) (Look c again look_at.Load) (record { lock = l; before = refl; now = refl; loads = refl; row = refl; fits = λ locks h. h }) is
+        by_mark _ (Look c again (look_at.Decide seen)) (Look c again look_at.Load) (record { lock = l; before = refl; now = refl; loaded = l; loads = refl; row = refl; fits = λ locks h. h; there = λ locks h. h }) is
     once_look (Look c again to) is = absurd cc
     once_look (Run forced to) is = absurd cc
+look (Condvar l at) q is = condvar_look at is
+  where
+    by_mark : (b : Bool) (m : ℕ) (timed late : Bool) (at at2 : MutexPlace) → IsLook (Condvar l (Wait m timed (wait.Lock late at))) (Condvar l (Wait m timed (wait.Lock late at2)))
+        → in_condvar l (in_lock m timed late (if b then Some at2 else None)) ≡ Some q → IsLook (Condvar l (Wait m timed (wait.Lock late at))) q
+    by_mark true m timed late at at2 h is = subst (IsLook (Condvar l (Wait m timed (wait.Lock late at)))) (some_is (Condvar l (Wait m timed (wait.Lock late at2))) q is) h
+    by_mark false m timed late at at2 h is = absurd cc
+
+    locks : (m : ℕ) (timed late : Bool) (at : MutexPlace) → in_condvar l (in_lock m timed late (mutex_looking at)) ≡ Some q → IsLook (Condvar l (Wait m timed (wait.Lock late at))) q
+    locks m timed late (Lock e again (lock.Decide seen)) is =
+        by_mark _ m timed late (Lock e again (lock.Decide seen)) (Lock e again lock.Load) (record { lock = l; before = refl; now = refl; loaded = m; loads = refl; row = refl; fits = λ locks h. h; there = λ locks h. absurd h }) is
+    locks m timed late (Lock e again to) is = absurd cc
+    locks m timed late at is = absurd cc
+
+    condvar_look : (at : CondvarPlace) → in_condvar l (condvar_looking at) ≡ Some q → IsLook (Condvar l at) q
+    condvar_look (Wait m timed (wait.Lock late at)) is = locks m timed late at is
+    condvar_look at is = absurd cc
 
 -- who looks at a mutex's word enters it
 pub mutex_looks : (l : ℕ) (at : MutexPlace) (q : Place) → looking (Mutex l at) ≡ Some q → (e : Entry) × (again : Bool) × (q ≡ Mutex l (Lock e again lock.Load))

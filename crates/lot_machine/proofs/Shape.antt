@@ -29,7 +29,7 @@ use Rattle.lot_calls.specs.declared.calls.Turn.{Turn}
 use Rattle.lot_calls.specs.declared.calls.Turn as turn
 use Rattle.lot_calls.specs.declared.calls.Step.{Step}
 use Rattle.lot_steps.specs.declared.places.Place.{Place}
-use Rattle.lot_steps.specs.declared.places.Place.TheVariants.{Idle, Mutex, RwLock, Once}
+use Rattle.lot_steps.specs.declared.places.Place.TheVariants.{Idle, Mutex, RwLock, Once, Condvar}
 use Rattle.lot_calls.specs.declared.calls.MutexCall.{MutexCall}
 use Rattle.lot_calls.specs.declared.calls.MutexCall as mutex_call
 use Rattle.lot_base.specs.declared.keys.Line.{Line}
@@ -68,7 +68,7 @@ use Rattle.lot_acts.specs.Owners.{is_thread}
 use Rattle.lot_calls.specs.Calls.{lock_in}
 use Rattle.lot_acts.specs.Profiles.{in_line}
 use Rattle.abstract_locks.specs.Sites.{Main}
-use Rattle.lot_steps.specs.Steps.{is_idle, lock_of, first_place, taker, act_of, next_place, mutex_goes, rwlock_goes, once_goes, looking, late_key, key_in}
+use Rattle.lot_steps.specs.Steps.{is_idle, first_place, taker, act_of, next_place, mutex_goes, rwlock_goes, once_goes, looking, late_key, key_in}
 use Rattle.lot_machine.specs.Machine.{state_after_hand_over_by, hand_over_told, State, unlocked, opening, kind_at, word_at, place_at, queue_at, put, state_after_operation, state_with_sections, queues_with_last, queues_without_first, queues_without, state_after_park, state_after_reply, place_after_telling, state_after_telling, state_after_hand_over, state_after_taking, state_after_wake, state_after_act, state_after_takes, state_after_take_first, state_after_requeue, queues_requeued, left_behind, moved_under, moved_threads, listed, places_told, state_after_going, going_outcome, closed_place, can_do, state_after_go, reply_to, state_after_begin, can_begin, is_open_to, state_after_spin, state_after_late, state_after_late_on, state_after_turn, can_turn, is_possible, after, state_after_look, look_outcome, spin_outcome, can_spin, can_go, go_outcome}
 use Rattle.lot_base.specs.declared.notes.Note as note
 use Rattle.lot_mutex.specs.declared.lock.LockAt as lock
@@ -258,6 +258,7 @@ next_fits locks (Mutex l Bump) reply h r = goes_fits locks l (mutex_next Bump re
 next_fits locks (Mutex l (HandOff bumps at)) reply h r = goes_fits locks l (mutex_next (HandOff bumps at) reply) h.0 (hand_off_fits l bumps at reply r)
 next_fits locks (RwLock l a at) reply h r = rwlock_fits locks l a (call_next a at reply) h
 next_fits locks (Once l at) reply h r = once_fits locks l (once_next at reply) h
+next_fits locks (Condvar l at) reply h r = absurd h
 
 first_fits : (locks l : ℕ) (fair : Bool) (c : MutexCall) → l < locks → PlaceFits locks (Mutex l (mutex_first fair c))
 first_fits locks l fair mutex_call.TheVariants.Lock h = (h, tt)
@@ -518,17 +519,10 @@ begun_shaped w t c s can =
 pub looking_shaped : (w : State) (t : ℕ) (q : Place) → IsShaped w → looking (place_at w t) ≡ Some q → IsShaped (put w t q)
 looking_shaped w t q s is = put_shaped w t q s ((look (place_at w t) q is).fits (length w.locks) (s.places t))
 
--- a call is of a lock that is there
-place_lock : (locks l : ℕ) (p : Place) → PlaceFits locks p → lock_of p ≡ Some l → l < locks
-place_lock locks l Idle h e = absurd cc
-place_lock locks l (Mutex k at) h e = let same : k ≡ l = cc in subst (λ j. j < locks) same h.0
-place_lock locks l (RwLock k a at) h e = let same : k ≡ l = cc in subst (λ j. j < locks) same h
-place_lock locks l (Once k at) h e = let same : k ≡ l = cc in subst (λ j. j < locks) same h
-
--- and loads there
+-- and loads the word of a lock that is there
 pub looks_fit : (w : State) (t : ℕ) (q : Place) → IsShaped w → t < length w.places → looking (place_at w t) ≡ Some q → ActFits (put w t q) (act_of (place_at (put w t q) t))
 looks_fit w t q s lt is = let k = look (place_at w t) q is in
-    subst (λ p. ActFits (put w t q) (act_of p)) (sym (get_or-set_same w.places t q Idle lt)) (subst (ActFits (put w t q)) (sym k.loads) (place_lock (length w.locks) k.lock (place_at w t) (s.places t) k.before))
+    subst (λ p. ActFits (put w t q) (act_of p)) (sym (get_or-set_same w.places t q Idle lt)) (subst (ActFits (put w t q)) (sym k.loads) (k.there (length w.locks) (s.places t)))
 
 looks_go : (w : State) (t : ℕ) (q : Place) → t < length w.places → looking (place_at w t) ≡ Some q → can_go (put w t q) t ≡ true
 looks_go w t q lt is = ap (λ p. can_do (put w t q) (act_of p)) (get_or-set_same w.places t q Idle lt) ∙ ap (can_do (put w t q)) (look (place_at w t) q is).loads
@@ -577,6 +571,7 @@ lated_shaped w t s = by_place (place_at w t) refl
         by_line : (m : Option Line) → IsShaped (state_after_late_on w t (key_in (Some l) m))
         by_line None = s
         by_line (Some m) = befallen_shaped (state_with_sections w (One (key_of l m)) (Some t)) t Late (filled_shaped w (One (key_of l m)) (Some t) s) (rw e tt)
+    by_place (Condvar l at) e = absurd (subst (PlaceFits (length w.locks)) e (s.places t))
 
 turned_shaped : (w : State) (t : ℕ) (x : Turn) → IsShaped w → t < length w.places → can_turn w t x ≡ true → IsShaped (state_after_turn w t x)
 turned_shaped w t (turn.TheVariants.Begin c) s lt can = begun_shaped w t c s can

@@ -6,7 +6,7 @@ use Rattle.lot_base.specs.declared.wants.Waiter.{Waiter}
 use Rattle.lot_acts.specs.declared.acts.Act.{Act}
 use Rattle.lot_acts.specs.declared.acts.Act.TheVariants.{Word, HandOver, Enter, Park, Stand, Take, Requeue, Remove, Leave}
 use Rattle.lot_steps.specs.declared.places.Place.{Place}
-use Rattle.lot_steps.specs.declared.places.Place.TheVariants.{Idle, Mutex, RwLock, Once}
+use Rattle.lot_steps.specs.declared.places.Place.TheVariants.{Idle, Mutex, RwLock, Once, Condvar}
 use Rattle.lot_mutex.specs.declared.places.MutexPlace.{MutexPlace}
 use Rattle.lot_mutex.specs.MutexProfiles.{mutex_profile}
 use Rattle.lot_machine.specs.Machine.{State, place_at, queue_at}
@@ -35,11 +35,13 @@ Implies false b = Unit {0}
 abbrev pub GivesUpTimed : MutexPlace → Type 0
 GivesUpTimed at = Implies (mutex_profile at).late (mutex_profile at).timed
 
+-- no call of a condition variable begins here
 abbrev pub PlaceFits : ℕ → Place → Type 0
 PlaceFits locks Idle = Unit {0}
 PlaceFits locks (Mutex lock at) = (lock < locks) × GivesUpTimed at
 PlaceFits locks (RwLock lock a at) = lock < locks
 PlaceFits locks (Once lock at) = lock < locks
+PlaceFits locks (Condvar lock at) = ⊥
 
 -- each waiter is a thread that is there
 abbrev pub AllBelow : ℕ → List Waiter → Type 0

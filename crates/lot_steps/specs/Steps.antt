@@ -4,7 +4,7 @@ use Rattle.lot_calls.specs.declared.kinds.Kind.{Kind}
 use Rattle.lot_calls.specs.declared.calls.Call.{Call}
 use Rattle.lot_calls.specs.declared.calls.Call as call
 use Rattle.lot_steps.specs.declared.places.Place.{Place}
-use Rattle.lot_steps.specs.declared.places.Place.TheVariants.{Idle, Mutex, RwLock, Once}
+use Rattle.lot_steps.specs.declared.places.Place.TheVariants.{Idle, Mutex, RwLock, Once, Condvar}
 use Rattle.lot_mutex.specs.declared.places.MutexPlace.{MutexPlace}
 use Rattle.lot_acts.specs.declared.acts.Act.{Act}
 use Rattle.lot_acts.specs.declared.acts.Act as act
@@ -28,6 +28,8 @@ use Rattle.lot_mutex.specs.MutexProfiles.{mutex_profile}
 use Rattle.lot_once.specs.declared.places.OncePlace.{OncePlace}
 use Rattle.lot_once.specs.OnceSteps.{once_first, once_act, once_next, once_looking, once_owners}
 use Rattle.lot_once.specs.OnceProfiles.{once_profile}
+use Rattle.lot_condvar.specs.declared.places.CondvarPlace.{CondvarPlace}
+use Rattle.lot_condvar.specs.CondvarSteps.{HasMutexKey, condvar_act, condvar_next, condvar_looking, condvar_owners}
 
 -- where a call of a lock of a kind begins
 abbrev pub first_place : Kind → Call → Place
@@ -46,6 +48,7 @@ is_idle Idle = true
 is_idle (Mutex lock at) = false
 is_idle (RwLock lock a at) = false
 is_idle (Once lock at) = false
+is_idle (Condvar lock at) = false
 
 -- the lock that a thread calls
 abbrev pub lock_of : Place → Option ℕ
@@ -53,6 +56,7 @@ lock_of Idle = None
 lock_of (Mutex lock at) = Some lock
 lock_of (RwLock lock a at) = Some lock
 lock_of (Once lock at) = Some lock
+lock_of (Condvar lock at) = Some lock
 
 -- whether it is the lock
 abbrev pub is_lock : ℕ → Option ℕ → Bool
@@ -63,19 +67,21 @@ is_lock lock (Some own) = own == lock
 abbrev pub calls : Place → ℕ → Bool
 calls p lock = is_lock lock (lock_of p)
 
--- what a place says of its thread
+-- what a place says of its thread; one of a condition variable, with whose calls no world begins, says it in a row of its own
 abbrev pub profile : Place → Profile
 profile Idle = blank
 profile (Mutex lock at) = bringing_nobody (mutex_profile at)
 profile (RwLock lock a at) = call_profile a at
 profile (Once lock at) = once_profile at
+profile (Condvar lock at) = blank
 
--- the keys of the lock that a thread calls are numbers
+-- the keys of the lock that a thread calls, and of the mutex beside it, are numbers
 abbrev pub HasKeys : Place → Type 0
 HasKeys Idle = Unit {0}
 HasKeys (Mutex lock at) = lock < 2 ^ 63
 HasKeys (RwLock lock a at) = lock < 2 ^ 63
 HasKeys (Once lock at) = lock < 2 ^ 63
+HasKeys (Condvar lock at) = (lock < 2 ^ 63) × HasMutexKey at
 
 -- what a thread does next
 abbrev pub act_of : Place → Act
@@ -83,6 +89,7 @@ act_of Idle = act.TheVariants.Rest
 act_of (Mutex lock at) = mutex_act lock at
 act_of (RwLock lock a at) = call_act lock a at
 act_of (Once lock at) = once_act lock at
+act_of (Condvar lock at) = condvar_act lock at
 
 abbrev pub mutex_goes : ℕ → Next MutexPlace → Place
 mutex_goes lock (At at) = Mutex lock at
@@ -96,12 +103,17 @@ abbrev pub once_goes : ℕ → Next OncePlace → Place
 once_goes lock (At at) = Once lock at
 once_goes lock (End answer) = Idle
 
+abbrev pub condvar_goes : ℕ → Next CondvarPlace → Place
+condvar_goes lock (At at) = Condvar lock at
+condvar_goes lock (End answer) = Idle
+
 -- where the reply to its act leads a thread
 abbrev pub next_place : Place → Reply → Place
 next_place Idle reply = Idle
 next_place (Mutex lock at) reply = mutex_goes lock (mutex_next at reply)
 next_place (RwLock lock a at) reply = rwlock_goes lock a (call_next a at reply)
 next_place (Once lock at) reply = once_goes lock (once_next at reply)
+next_place (Condvar lock at) reply = condvar_goes lock (condvar_next at reply)
 
 abbrev pub mutex_does : ℕ → Next MutexPlace → Act
 mutex_does lock (At at) = mutex_act lock at
@@ -115,12 +127,25 @@ abbrev pub once_does : ℕ → Next OncePlace → Act
 once_does lock (At at) = once_act lock at
 once_does lock (End answer) = act.TheVariants.End answer
 
+abbrev pub condvar_does : ℕ → Next CondvarPlace → Act
+condvar_does lock (At at) = condvar_act lock at
+condvar_does lock (End answer) = act.TheVariants.End answer
+
 -- and what it does then
 abbrev pub next_act : Place → Reply → Act
 next_act Idle reply = act.TheVariants.Rest
 next_act (Mutex lock at) reply = mutex_does lock (mutex_next at reply)
 next_act (RwLock lock a at) reply = rwlock_does lock a (call_next a at reply)
 next_act (Once lock at) reply = once_does lock (once_next at reply)
+next_act (Condvar lock at) reply = condvar_does lock (condvar_next at reply)
+
+-- a mutex that a notification sees has keys that are numbers
+abbrev pub ShowsKeys : Place → Reply → Type 0
+ShowsKeys Idle reply = Unit {0}
+ShowsKeys (Mutex lock at) reply = Unit {0}
+ShowsKeys (RwLock lock a at) reply = Unit {0}
+ShowsKeys (Once lock at) reply = Unit {0}
+ShowsKeys (Condvar lock at) reply = HasKeys (next_place (Condvar lock at) reply)
 
 -- who owns the lock after an operation on its word that saw this value
 abbrev pub owners_after : Place → ℕ → ℕ → Owners → Owners
@@ -128,6 +153,7 @@ owners_after Idle t seen owners = owners
 owners_after (Mutex lock at) t seen owners = mutex_owners at t seen owners
 owners_after (RwLock lock a at) t seen owners = call_owners a at t seen owners
 owners_after (Once lock at) t seen owners = once_owners at t seen owners
+owners_after (Condvar lock at) t seen owners = condvar_owners at t seen owners
 
 -- how many shared rights the thread has then, where their number changes; nobody shares a mutex or a `Once`
 abbrev pub shares_after : Place → ℕ → ℕ → Option ℕ
@@ -135,6 +161,7 @@ shares_after Idle seen shares = None
 shares_after (Mutex lock at) seen shares = None
 shares_after (RwLock lock a at) seen shares = call_shares a at seen shares
 shares_after (Once lock at) seen shares = None
+shares_after (Condvar lock at) seen shares = None
 
 -- what a thread wants, where it waits
 abbrev pub wants : Place → Option Want
@@ -156,12 +183,17 @@ abbrev pub in_once : ℕ → Option OncePlace → Option Place
 in_once lock None = None
 in_once lock (Some at) = Some (Once lock at)
 
+abbrev pub in_condvar : ℕ → Option CondvarPlace → Option Place
+in_condvar lock None = None
+in_condvar lock (Some at) = Some (Condvar lock at)
+
 -- from where a thread looks at the word once more, in place of an act that leads to sleep
 abbrev pub looking : Place → Option Place
 looking Idle = None
 looking (Mutex lock at) = in_mutex lock (mutex_looking at)
 looking (RwLock lock a at) = in_rwlock lock a (call_looking a at)
 looking (Once lock at) = in_once lock (once_looking at)
+looking (Condvar lock at) = in_condvar lock (condvar_looking at)
 
 -- the key of a line of the lock that a thread calls
 abbrev pub key_in : Option ℕ → Option Line → Option ℕ

@@ -11,6 +11,7 @@ pub use lot_acts::{
 };
 pub use lot_calls;
 pub use lot_calls::{Answer, Call, Kind, MutexCall, OnceState, Outcome, Step, Turn};
+pub use lot_condvar;
 pub use lot_mutex;
 pub use lot_mutex::{Entry, HandOffAt, LockAt, MutexPlace, UnlockAt};
 pub use lot_once;

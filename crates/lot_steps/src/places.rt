@@ -1,11 +1,12 @@
 //! Where a thread stands, and where each step leads it.
 ghost use Rattle.std.specs.Prelude.{◌≡◌};
 ghost use Rattle.lot_acts.specs.Acts.{outcome_of};
-ghost use Rattle.lot_steps.specs.Steps.{HasKeys, first_place, has_right, act_of, next_place, next_act, owners_after, shares_after, taker, wants, looking, late_key, owes_on, retries_on, is_idle};
+ghost use Rattle.lot_steps.specs.Steps.{HasKeys, ShowsKeys, first_place, has_right, act_of, next_place, next_act, owners_after, shares_after, taker, wants, looking, late_key, owes_on, retries_on, is_idle};
 
 use lot_acts::{Act, Next, Owners, Reply};
 use lot_base::{Key, Want};
 use lot_calls::{Call, Kind, Outcome};
+use lot_condvar::CondvarPlace;
 use lot_mutex::{MutexPlace, mutex_right};
 use lot_once::OncePlace;
 use lot_rwlock::Admission;
@@ -27,6 +28,11 @@ pub enum Place {
     Once {
         lock: usize,
         at: OncePlace,
+    },
+    /// In a call of a condition variable, which only the driver of real threads makes.
+    Condvar {
+        lock: usize,
+        at: CondvarPlace,
     },
 }
 
@@ -72,6 +78,7 @@ impl Place {
                 at,
             } => at.act(lock, admission),
             Place::Once { lock, at } => at.act(lock),
+            Place::Condvar { lock, at } => at.act(lock),
         }
     }
 
@@ -84,6 +91,7 @@ impl Place {
             Place::Mutex { at, .. } => at.outcome(),
             Place::RwLock { admission, at, .. } => at.outcome(admission),
             Place::Once { at, .. } => at.outcome(),
+            Place::Condvar { at, .. } => at.outcome(),
         }
     }
 
@@ -106,6 +114,7 @@ impl Place {
                 at.owners_after(admission, thread, seen, owners)
             }
             Place::Once { at, .. } => at.owners_after(thread, seen, owners),
+            Place::Condvar { at, .. } => at.owners_after(thread, seen, owners),
         }
     }
 
@@ -115,7 +124,7 @@ impl Place {
         ensures { result ≡ shares_after self seen shares }
     {
         match self {
-            Place::Idle | Place::Mutex { .. } | Place::Once { .. } => None,
+            Place::Idle | Place::Mutex { .. } | Place::Once { .. } | Place::Condvar { .. } => None,
             Place::RwLock { admission, at, .. } => at.shares_after(admission, seen, shares),
         }
     }
@@ -129,6 +138,7 @@ impl Place {
             Place::Mutex { at, .. } => at.wants(),
             Place::RwLock { at, .. } => at.wants(),
             Place::Once { at, .. } => at.wants(),
+            Place::Condvar { .. } => None,
         }
     }
 
@@ -141,6 +151,7 @@ impl Place {
             Place::Mutex { at, .. } => at.taker(),
             Place::RwLock { at, .. } => at.taker(),
             Place::Once { at, .. } => at.taker(),
+            Place::Condvar { .. } => None,
         }
     }
 
@@ -170,6 +181,10 @@ impl Place {
                 let at = at.looking()?;
                 Some(Place::Once { lock, at })
             }
+            Place::Condvar { lock, at } => {
+                let at = at.looking()?;
+                Some(Place::Condvar { lock, at })
+            }
         }
     }
 
@@ -179,7 +194,7 @@ impl Place {
         ensures { result ≡ late_key self }
     {
         match self {
-            Place::Idle | Place::Once { .. } => None,
+            Place::Idle | Place::Once { .. } | Place::Condvar { .. } => None,
             Place::Mutex { lock, at } => match at.late_line() {
                 Some(line) => Some(line.key(lock)),
                 None => None,
@@ -197,7 +212,7 @@ impl Place {
         ensures { result ≡ owes_on self lock }
     {
         match self {
-            Place::Idle => false,
+            Place::Idle | Place::Condvar { .. } => false,
             Place::Mutex { lock: own, at } => own == lock && at.owes().is_some(),
             Place::RwLock { lock: own, at, .. } => own == lock && at.owes().is_some(),
             Place::Once { lock: own, at } => own == lock && at.owes().is_some(),
@@ -210,7 +225,7 @@ impl Place {
         ensures { result ≡ retries_on self lock }
     {
         match self {
-            Place::Idle => false,
+            Place::Idle | Place::Condvar { .. } => false,
             Place::Mutex { lock: own, at } => own == lock && at.retries(),
             Place::RwLock { lock: own, at, .. } => own == lock && at.retries(),
             Place::Once { lock: own, at } => own == lock && at.retries(),
@@ -259,12 +274,17 @@ pub fn arrive(place: Place, reply: Reply) -> (Place, Outcome)
             Next::At(at) => (Place::Once { lock, at }, at.outcome()),
             Next::End(answer) => (Place::Idle, Outcome::End(answer)),
         },
+        Place::Condvar { lock, at } => match at.next(reply) {
+            Next::At(at) => (Place::Condvar { lock, at }, at.outcome()),
+            Next::End(answer) => (Place::Idle, Outcome::End(answer)),
+        },
     }
 }
 
 /// The same step, with what the thread does next in place of what it is told.
 pub fn advance(place: Place, reply: Reply) -> (Place, Act)
-    requires { HasKeys place }
+    requires keys { HasKeys place }
+    requires shown { ShowsKeys place reply }
     ensures place { result.0 ≡ next_place place reply }
     ensures act { result.1 ≡ next_act place reply }
 {
