@@ -9,8 +9,10 @@ use Rattle.lot_acts.specs.declared.acts.Next.{Next}
 use Rattle.lot_acts.specs.declared.acts.Next.TheVariants.{At, End}
 use Rattle.lot_acts.specs.declared.acts.Reply.{Reply}
 use Rattle.lot_steps.specs.declared.places.Place.{Place}
-use Rattle.lot_steps.specs.declared.places.Place.TheVariants.{Idle, Mutex, RwLock, Once}
-use Rattle.lot_steps.specs.Steps.{HasKeys, act_of, next_place, next_act, mutex_goes, mutex_does, rwlock_goes, rwlock_does, once_goes, once_does}
+use Rattle.lot_steps.specs.declared.places.Place.TheVariants.{Idle, Mutex, RwLock, Once, Condvar}
+use Rattle.lot_steps.specs.Steps.{HasKeys, ShowsKeys, act_of, next_place, next_act, mutex_goes, mutex_does, rwlock_goes, rwlock_does, once_goes, once_does, condvar_goes, condvar_does}
+use Rattle.lot_condvar.specs.CondvarSteps.{condvar_next}
+use Rattle.lot_condvar.specs.declared.places.CondvarPlace.{CondvarPlace}
 use Rattle.lot_mutex.specs.MutexSteps.{mutex_next}
 use Rattle.lot_mutex.specs.declared.places.MutexPlace.{MutexPlace}
 use Rattle.lot_once.specs.OnceSteps.{once_next}
@@ -20,23 +22,24 @@ use Rattle.lot_rwlock_fair.specs.FairSteps.{call_next}
 use Rattle.lot_rwlock_fair.specs.declared.places.RwLockCallPlace.{RwLockCallPlace}
 
 -- the keys of the lock stay numbers
-pub keeps_keys : (p : Place) (r : Reply) → HasKeys p → HasKeys (next_place p r)
-keeps_keys Idle r keys = keys
-keeps_keys (Mutex lock at) r keys = of (mutex_next at r)
+pub keeps_keys : (p : Place) (r : Reply) → HasKeys p → ShowsKeys p r → HasKeys (next_place p r)
+keeps_keys Idle r keys shown = keys
+keeps_keys (Mutex lock at) r keys shown = of (mutex_next at r)
   where
     of : (n : Next MutexPlace) → HasKeys (mutex_goes lock n)
     of (At q) = keys
     of (End x) = tt
-keeps_keys (RwLock lock a at) r keys = of (call_next a at r)
+keeps_keys (RwLock lock a at) r keys shown = of (call_next a at r)
   where
     of : (n : Next RwLockCallPlace) → HasKeys (rwlock_goes lock a n)
     of (At q) = keys
     of (End x) = tt
-keeps_keys (Once lock at) r keys = of (once_next at r)
+keeps_keys (Once lock at) r keys shown = of (once_next at r)
   where
     of : (n : Next OncePlace) → HasKeys (once_goes lock n)
     of (At q) = keys
     of (End x) = tt
+keeps_keys (Condvar lock at) r keys shown = shown
 
 -- a step that ends no call does what its place says
 pub does : (p : Place) (r : Reply) → ((x : Answer) → next_act p r ≢ act.TheVariants.End x) → next_act p r ≡ act_of (next_place p r)
@@ -54,6 +57,11 @@ does (RwLock lock a at) r goes = of (call_next a at r) goes
 does (Once lock at) r goes = of (once_next at r) goes
   where
     of : (n : Next OncePlace) → ((x : Answer) → once_does lock n ≢ act.TheVariants.End x) → once_does lock n ≡ act_of (once_goes lock n)
+    of (At q) h = refl
+    of (End x) h = absurd (h x refl)
+does (Condvar lock at) r goes = of (condvar_next at r) goes
+  where
+    of : (n : Next CondvarPlace) → ((x : Answer) → condvar_does lock n ≢ act.TheVariants.End x) → condvar_does lock n ≡ act_of (condvar_goes lock n)
     of (At q) h = refl
     of (End x) h = absurd (h x refl)
 

@@ -139,6 +139,14 @@ next_act (RwLock lock a at) reply = rwlock_does lock a (call_next a at reply)
 next_act (Once lock at) reply = once_does lock (once_next at reply)
 next_act (Condvar lock at) reply = condvar_does lock (condvar_next at reply)
 
+-- a mutex that a notification sees has keys that are numbers
+abbrev pub ShowsKeys : Place → Reply → Type 0
+ShowsKeys Idle reply = Unit {0}
+ShowsKeys (Mutex lock at) reply = Unit {0}
+ShowsKeys (RwLock lock a at) reply = Unit {0}
+ShowsKeys (Once lock at) reply = Unit {0}
+ShowsKeys (Condvar lock at) reply = HasKeys (next_place (Condvar lock at) reply)
+
 -- who owns the lock after an operation on its word that saw this value
 abbrev pub owners_after : Place → ℕ → ℕ → Owners → Owners
 owners_after Idle t seen owners = owners

@@ -1,7 +1,7 @@
 //! Where a thread stands, and where each step leads it.
 ghost use Rattle.std.specs.Prelude.{◌≡◌};
 ghost use Rattle.lot_acts.specs.Acts.{outcome_of};
-ghost use Rattle.lot_steps.specs.Steps.{HasKeys, first_place, has_right, act_of, next_place, next_act, owners_after, shares_after, taker, wants, looking, late_key, owes_on, retries_on, is_idle};
+ghost use Rattle.lot_steps.specs.Steps.{HasKeys, ShowsKeys, first_place, has_right, act_of, next_place, next_act, owners_after, shares_after, taker, wants, looking, late_key, owes_on, retries_on, is_idle};
 
 use lot_acts::{Act, Next, Owners, Reply};
 use lot_base::{Key, Want};
@@ -283,7 +283,8 @@ pub fn arrive(place: Place, reply: Reply) -> (Place, Outcome)
 
 /// The same step, with what the thread does next in place of what it is told.
 pub fn advance(place: Place, reply: Reply) -> (Place, Act)
-    requires { HasKeys place }
+    requires keys { HasKeys place }
+    requires shown { ShowsKeys place reply }
     ensures place { result.0 ≡ next_place place reply }
     ensures act { result.1 ≡ next_act place reply }
 {

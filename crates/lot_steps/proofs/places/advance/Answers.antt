@@ -5,7 +5,7 @@ use Rattle.lot_steps.proofs.Onward.{keeps_keys, does, ends}
 use Rattle.lot_steps.proofs.places.advance.Goals as goal
 
 pub act-requires : goal.act-requires
-act-requires c = rw c.arrive-next.ensures.place (keeps_keys c.args.place c.args.reply c.requires)
+act-requires c = rw c.arrive-next.ensures.place (keeps_keys c.args.place c.args.reply c.requires.keys c.requires.shown)
 
 pub returns-in-End-clause-act : goal.returns-in-End-clause-act
 returns-in-End-clause-act c =
