@@ -5,7 +5,7 @@ use Rattle.lot_calls.specs.declared.outcomes.OnceState.{OnceState}
 use Rattle.lot_calls.specs.declared.calls.OnceCall.TheVariants.{CallOnce}
 use Rattle.lot_steps.specs.Steps.{act_of}
 use Rattle.lot_steps.specs.declared.places.Place.{Place}
-use Rattle.lot_steps.specs.declared.places.Place.TheVariants.{Idle, Mutex, RwLock, Once}
+use Rattle.lot_steps.specs.declared.places.Place.TheVariants.{Idle, Mutex, RwLock, Once, Condvar}
 use Rattle.lot_mutex.specs.MutexSteps.{mutex_act, decided}
 use Rattle.lot_mutex.specs.declared.places.MutexPlace.{MutexPlace}
 use Rattle.lot_mutex.specs.declared.places.MutexPlace.TheVariants as at_mutex_place
@@ -122,6 +122,7 @@ once_runs l n purpose (Run forced (run.Leave succeeded any)) e = let aim : of_ru
 
 pub never_paused : (up : Type 0) (base : List Ownership) (n : ℕ) (purpose : Purpose) (p : Place) (state : OnceState) (st : Stage) → IsStopped up base (of_mutex n purpose) (Paused p state) st → ⊥
 never_paused up base n purpose Idle state st s = s.0
+never_paused up base n purpose (Condvar l at) state st s = s.0
 never_paused up base n purpose (RwLock l a at) state st s = rwlock_no_closure up l a base at st state s.0 s.2
 never_paused up base n purpose (Once l at) state st s = once_runs l n purpose at s.1
 never_paused up base n purpose (Mutex l at) state st s = no_closure l state up base at st s.0 s.2
@@ -129,6 +130,7 @@ never_paused up base n purpose (Mutex l at) state st s = no_closure l state up b
 -- no call comes to a closure that steps on the word of a reader-writer lock
 pub never_closes : (up : Type 0) (base : List Ownership) (aim : Aim) (p : Place) (state : OnceState) (st : Stage) (word : Word) → word.kind ≡ kinds.TheVariants.RwLock → AreWordsFor p (kind_in (alone word)) (at_in (alone word)) → IsStopped up base aim (Paused p state) st → ⊥
 never_closes up base aim Idle state st word is words s = s.0
+never_closes up base aim (Condvar l at) state st word is words s = s.0
 never_closes up base aim (RwLock l a at) state st word is words s = rwlock_no_closure up l a base at st state s.0 s.2
 never_closes up base aim (Mutex l at) state st word is words s = no_closure l state up base at st s.0 s.2
 never_closes up base aim (Once l at) state st word is words s = let e : kinds.TheVariants.Once ≡ kinds.TheVariants.RwLock = sym (ap (λ (g : ℕ → WordKind). g 0) words.1) ∙ is in cc

@@ -8,7 +8,7 @@ use Rattle.lot_acts.specs.declared.acts.Act.{Act}
 use Rattle.lot_acts.specs.declared.acts.Act as act
 use Rattle.lot_acts.specs.declared.acts.Reply.{Reply}
 use Rattle.lot_steps.specs.declared.places.Place.{Place}
-use Rattle.lot_steps.specs.declared.places.Place.TheVariants.{Idle, Mutex, RwLock, Once}
+use Rattle.lot_steps.specs.declared.places.Place.TheVariants.{Idle, Mutex, RwLock, Once, Condvar}
 use Rattle.lot_words.specs.declared.owners.Ownership.{Ownership}
 use Rattle.lot_words.specs.declared.words.WordKind.{WordKind}
 use Rattle.lot_rwlock.specs.declared.places.Admission.{Admission}
@@ -74,6 +74,7 @@ aim_of Idle = nothing
 aim_of (Mutex l at) = of_mutex l (purpose_at at)
 aim_of (RwLock l a c) = call_aim l a c
 aim_of (Once l at) = once_aim l at
+aim_of (Condvar l at) = nothing
 
 -- for what a thread sleeps in a call, the keys under which it may be late, and whether it goes on where it is handed the lock.
 -- Nobody is moved from the queue of a lock
@@ -85,6 +86,7 @@ sleeper_at (RwLock l a c) =
     record { lock = l; want = unwrap_or (call_wants c) Exclusive; late = late_key (RwLock l a c); moved = None; takes_over = may_be_handed c }
 sleeper_at (Once l at) =
     record { lock = l; want = unwrap_or (once_wants at) Exclusive; late = late_key (Once l at); moved = None; takes_over = false }
+sleeper_at (Condvar l at) = record { lock = l; want = Exclusive; late = None; moved = None; takes_over = false }
 
 -- the keys of the call's lock are numbers, and its words are of the kinds that the call steps on
 abbrev pub AreWordsFor : Place → (ℕ → WordKind) → (ℕ → ℕ) → Type 0
@@ -93,6 +95,7 @@ AreWordsFor (Mutex l place) kinds at = HasKeys (Mutex l place) × (kinds ≡ mut
 AreWordsFor (RwLock l a place) kinds at =
     HasKeys (RwLock l a place) × (kinds ≡ rwlocks) × (at ≡ at_rwlock l)
 AreWordsFor (Once l place) kinds at = HasKeys (Once l place) × (kinds ≡ onces) × (at ≡ at_once l)
+AreWordsFor (Condvar l place) kinds at = ⊥
 
 -- and behind its closure they are so still
 abbrev pub AreWordsAfter : Stop → (ℕ → WordKind) → (ℕ → ℕ) → Type 0
@@ -107,6 +110,8 @@ module _ (up : Type 0) where
   Fits base (Mutex l at) st = FitsMutex up l base at st
   Fits base (RwLock l a c) st = FitsCall up l base a c st
   Fits base (Once l at) st = FitsOnce l base at st
+  -- no call of a condition variable is run as yet
+  Fits base (Condvar l at) st = ⊥
 
   -- what an answer says at the end of a call
   abbrev pub IsOver : List Ownership → Aim → Answer → Stage → Type 0

@@ -164,6 +164,7 @@ fn sleeper(place: Place) -> Sleeper
         }
         // Nobody hands a `Once` over.
         Place::Once { lock, at } => (lock, at.wants().unwrap_or(Want::Exclusive), false),
+        Place::Condvar { lock, .. } => (lock, Want::Exclusive, false),
     };
     Sleeper {
         lock,
