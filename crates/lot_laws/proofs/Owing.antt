@@ -29,7 +29,7 @@ use Rattle.abstract_locks.specs.Sites.{Line}
 use Rattle.lot_laws.specs.SitesOf.{AreCounted, IsSteady, key_of}
 use Rattle.lot_machine.proofs.Shape.{both, performed_counts}
 use Rattle.lot_laws.proofs.TurnsKept.{idle_is, after_steady}
-use Rattle.lot_laws.proofs.Glue.{IsLock, next_of, calls_none}
+use Rattle.lot_laws.proofs.Glue.{IsLock, next_of, calls_none, singles}
 use Rattle.lot_laws.proofs.Looking.{looking_steady, calls_same}
 use Rattle.lot_laws.proofs.CallEvents.{rights as rights_at}
 use Rattle.lot_acts.specs.Profiles.{Profile}
@@ -175,7 +175,7 @@ module _ (w : State) (t : ℕ) (shape : IsShaped w) (steady : IsSteady w) (there
   late_owing : (o : Option ℕ) → late_key (place_at w t) ≡ o → is_free_under w o ≡ true → IsSteady (state_after_late_on w t o) → (l : ℕ) (m : Line) (told : Outcome) → Owes (state_after_late_on w t o) t l m ↔ (IsInside (state_after_late_on w t o) t l m ⊎ SeesWaiters w t l m told (state_after_late_on w t o))
   late_owing None e can behind = absurd cc
   late_owing (Some key) e can behind =
-      let of = late_line (place_at w t) key e in
+      let of = late_line (place_at w t) key (singles w steady t) e in
       let n : Line = of.2.0 in
       let after = late_next (place_at w t) n of.2.1 in
       quiet_owes w (state_after_late_on w t (Some key)) t steady behind (next_place (place_at w t) Late) (get_or-set_same w.places t (next_place (place_at w t) Late) Idle there)

@@ -48,10 +48,10 @@ called p l own = ap (is_lock l) own ∙ same l
 
 module _ (p : Place) (l : ℕ) (own : lock_of p ≡ Some l) where
   pub station_own : station_at p l ≡ station p
-  station_own = ap (λ b. if b then station p else nowhere) (called p l own)
+  station_own = ap (λ b. if b then station p else if is_lock l (beside_of p) then station_by (profile_beside p) else nowhere) (called p l own)
 
   pub doing_own : doing_on p l ≡ (profile p).doing
-  doing_own = ap (λ b. if b then (profile p).doing else idle) (called p l own)
+  doing_own = ap (λ b. if b then (profile p).doing else if is_lock l (beside_of p) then (profile_beside p).doing else idle) (called p l own)
 
   pub taken_own : taken_at p l ≡ taken_of (profile p)
   taken_own = ap (taken_from (profile p).hand (profile p).wants) (called p l own)

@@ -27,7 +27,7 @@ use Rattle.lot_laws.proofs.TurnsKept.{after_steady}
 use Rattle.lot_laws.proofs.SitesPromise.{not_empty}
 use Rattle.lot_laws.proofs.RowPromises.{IsDebtorIn, HasClaimed, HasDebt, WasHanded, RowLooksAfter}
 use Rattle.lot_laws.proofs.PlacePromises.{row_promises, station_own, doing_own, owed_own, owes_own, doing_calls, station_calls, stands_waiting, waiting_stands, call_own, inside_own, owing_is}
-use Rattle.lot_laws.proofs.Glue.{same, calls_none}
+use Rattle.lot_laws.proofs.Glue.{same, calls_none, single_retries, singles}
 use Rattle.lot_machine.proofs.Opening.{idle_at, none_at, empty_at, nobody_owns, opening_shares}
 use Rattle.std.proofs.lemmas.Bool.{cases_lt, eqb-true}
 
@@ -101,7 +101,7 @@ module _ (w : State) (steady : IsSteady w) where
       by_lock (Some l) e = subst (λ (c : CallState). KnowsRights (sort_at w) c.purpose) (sym (call_own w t steady l e)) ((row_promises w t steady l e).known (sort_at w) refl)
 
   retrying : (t l : ℕ) → (retries_on (place_at w t) l ≡ true) ↔ ((call_at w t).retries ≡ Some l)
-  retrying t l = retry_shown (lock_of (place_at w t)) (profile (place_at w t)) (λ k. rights_of (lock_state w k) t) l
+  retrying t l = subst (λ b. (b ≡ true) ↔ ((call_at w t).retries ≡ Some l)) (sym (single_retries (place_at w t) l (singles w steady t))) (retry_shown (lock_of (place_at w t)) (profile (place_at w t)) (λ k. rights_of (lock_state w k) t) l)
 
   second_line : (t l : ℕ) → Owes w t l Second → has_readers (sort_at w l) ≡ true
   second_line t l h =

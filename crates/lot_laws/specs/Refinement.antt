@@ -1,5 +1,5 @@
 -- The abstract locks that a world's words, places and queues stand for.
-use Rattle.std.specs.Prelude.{ℕ, Bool, true, false, Option, Some, None, if◌then◌else◌, ◌+◌, ◌*◌, ◌≡◌, ◌≢◌, ◌⊎◌, length, is_some}
+use Rattle.std.specs.Prelude.{ℕ, Bool, true, false, Option, Some, None, if◌then◌else◌, ◌&&◌, not, ◌+◌, ◌*◌, ◌≡◌, ◌≢◌, ◌⊎◌, length, is_some}
 use Rattle.lot_steps.specs.declared.places.Place.{Place}
 use Rattle.lot_acts.specs.Profiles.{Profile, bringing_nobody, taken_from}
 pub use Rattle.lot_acts.specs.Calls.{call_by}
@@ -21,7 +21,7 @@ use Rattle.abstract_locks.specs.Locks as locks
 -- by whom the thread at a place was taken from the queue of a lock
 abbrev pub taken_at : Place → ℕ → Option Taken
 taken_at p l =
-    if is_lock l (beside_of p) then taken_from (profile_beside p).hand (profile_beside p).wants true
+    if is_lock l (beside_of p) && not (calls p l) then taken_from (profile_beside p).hand (profile_beside p).wants true
     else taken_from (profile p).hand (profile p).wants (calls p l)
 
 abbrev pub lock_state : State → ℕ → LockState

@@ -8,11 +8,11 @@ use Rattle.abstract_locks.specs.Sites.{Doing, idle}
 
 -- what it does about the lock l
 abbrev pub doing_on : Place → ℕ → Doing
-doing_on p l = if is_lock l (beside_of p) then (profile_beside p).doing else if calls p l then (profile p).doing else idle
+doing_on p l = if calls p l then (profile p).doing else if is_lock l (beside_of p) then (profile_beside p).doing else idle
 
 abbrev pub station : Place → Station
 station p = station_by (profile p)
 
 -- how it stands at the lock l
 abbrev pub station_at : Place → ℕ → Station
-station_at p l = if is_lock l (beside_of p) then station_by (profile_beside p) else if calls p l then station p else nowhere
+station_at p l = if calls p l then station p else if is_lock l (beside_of p) then station_by (profile_beside p) else nowhere

@@ -94,7 +94,7 @@ profile_beside (Condvar lock at) = mutex_side at
 
 -- at any lock
 abbrev pub profile_at : Place → ℕ → Profile
-profile_at p lock = if is_lock lock (beside_of p) then profile_beside p else if calls p lock then profile p else blank
+profile_at p lock = if calls p lock then profile p else if is_lock lock (beside_of p) then profile_beside p else blank
 
 -- this, or else that
 abbrev pub or_else : {A : Type 0} → Option A → Option A → Option A
