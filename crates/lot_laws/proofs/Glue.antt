@@ -42,6 +42,7 @@ use Rattle.lot_machine.specs.declared.hands.Successor.{Successor}
 use Rattle.lot_laws.specs.Refinement.{lock_seen, taken_at}
 use Rattle.lot_laws.specs.MutexDeeds.{Act, mutex_station, queued}
 use Rattle.lot_laws.specs.Stations.{Station, hand, station, station_at, nowhere, doing_on, station_by}
+use Rattle.lot_machine.specs.Fits.{PlaceFits}
 use Rattle.lot_laws.specs.SitesOf.{site_of, rules_in, after_acts, carried_at, hand_at, Hands, FitsItsLock, IsSteady}
 
 -- ---------------------------------------------------------------- lists with one element set, as functions
@@ -215,6 +216,13 @@ fits_single w (Mutex k at) fits = tt
 fits_single w (RwLock k a at) fits = tt
 fits_single w (Once k at) fits = tt
 fits_single w (Condvar k at) fits = absurd fits
+
+pub fits_one : (locks : ℕ) (p : Place) → PlaceFits locks p → IsSingle p
+fits_one locks Idle fits = tt
+fits_one locks (Mutex k at) fits = tt
+fits_one locks (RwLock k a at) fits = tt
+fits_one locks (Once k at) fits = tt
+fits_one locks (Condvar k at) fits = absurd fits
 
 pub singles : (w : State) → IsSteady w → (t : ℕ) → IsSingle (place_at w t)
 singles w steady t = fits_single w (place_at w t) (steady.stands.calls t)
@@ -593,12 +601,12 @@ successor_in t k (p ∷ ps) (suc u) alone held_by only = ap (λ o. successor_or 
     ∙ successor_in t (suc k) ps u alone held_by (λ x ne. only (suc x) (λ e. ne (omega arith))) ∙ ap (λ n. Some (successor_is n)) (let e : suc k + u ≡ k + suc u = omega arith in e)
 
 -- who took it, by its row
-taker_is : (p : Place) → IsSingle p → taker p ≡ hand_owner (profile p).hand
-taker_is p single = ap (λ (row : Profile). hand_owner (or_else row.hand (profile p).hand)) (blank_beside p single)
+pub single_taker : (p : Place) → IsSingle p → taker p ≡ hand_owner (profile p).hand
+single_taker p single = ap (λ (row : Profile). hand_owner (or_else row.hand (profile p).hand)) (blank_beside p single)
 
 -- who is in a hand by the place is so by the taker
 pub held_taker : (p : Place) (t l : ℕ) (b : Bool) → IsSingle p → hand_at p l ≡ hand t b → is_thread t (taker p) ≡ true
-held_taker p t l b single h = ap (is_thread t) (taker_is p single) ∙ either (calls p l) (sym (ap (λ (x : Station). x.hand) (single_station p l single)) ∙ h)
+held_taker p t l b single h = ap (is_thread t) (single_taker p single) ∙ either (calls p l) (sym (ap (λ (x : Station). x.hand) (single_station p l single)) ∙ h)
   where
     either : (c : Bool) → (if c then station p else nowhere).hand ≡ hand t b → is_thread t (hand_owner (profile p).hand) ≡ true
     either true g = ap (λ x. is_thread t (hand_owner x)) g ∙ same t
@@ -612,7 +620,7 @@ pub record IsHeldBy (p : Place) (t : ℕ) : Type 0 where
   pub of : IsOf lock p
 
 pub held_where : (p : Place) (t : ℕ) → IsSingle p → is_thread t (taker p) ≡ true → IsHeldBy p t
-held_where p t single h = by_hand (profile p).hand (lock_of p) refl refl (sym (ap (is_thread t) (taker_is p single)) ∙ h)
+held_where p t single h = by_hand (profile p).hand (lock_of p) refl refl (sym (ap (is_thread t) (single_taker p single)) ∙ h)
   where
     by_hand : (x : Option Hand) (o : Option ℕ) → (profile p).hand ≡ x → lock_of p ≡ o → is_thread t (hand_owner x) ≡ true → IsHeldBy p t
     by_hand None o e f g = absurd cc

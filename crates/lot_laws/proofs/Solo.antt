@@ -65,7 +65,7 @@ use Rattle.lot_laws.proofs.MutexEvents.{free_word, owned_word}
 use Rattle.lot_laws.proofs.MutexCalls.{decides}
 use Rattle.lot_laws.proofs.LockSteps.{purpose_is}
 use Rattle.lot_laws.proofs.Counts.{first_times}
-use Rattle.lot_laws.proofs.Glue.{nothing_at, IsTakenAt, put_here, station_here, own_stance, successor_one, same, mutex_calls, singles}
+use Rattle.lot_laws.proofs.Glue.{nothing_at, IsTakenAt, put_here, station_here, own_stance, successor_one, same, mutex_calls, singles, differ}
 use Rattle.lot_laws.proofs.SitesPromise.{parked_at}
 use Rattle.lot_mutex.specs.declared.places.MutexPlace.{MutexPlace}
 use Rattle.lot_acts.specs.declared.acts.Whom as whoms
@@ -174,7 +174,7 @@ module _ (t l : ℕ) (entry : Entry) where
   ]
     where
       stale : v ≢ x → (v == x) ≡ false
-      stale ne = grind (arith, nat_tests)
+      stale ne = differ v x ne
 
       here : Place
       here = Mutex l (Lock entry retries (Decide x))
