@@ -4,7 +4,8 @@ use Rattle.std.specs.Prelude.{ℕ, Bool, true, false, Option, Some, None, if◌t
 use Rattle.lot_base.specs.declared.notes.Note.TheVariants as note
 use Rattle.lot_base.specs.declared.wants.Want.{Want}
 use Rattle.lot_base.specs.declared.wants.Want.TheVariants as wants
-use Rattle.lot_acts.specs.Profiles.{Hand, Profile, hand, hand_owner}
+use Rattle.lot_acts.specs.Profiles as profiles
+use Rattle.lot_acts.specs.Profiles.{Hand, Profile, hand, hand_owner, in_hand, in_line}
 use Rattle.abstract_locks.specs.Condvars.{Stage, Rests, Adds, Refuses, Misses, Sees, Clears, moving}
 use Rattle.abstract_locks.specs.Sites.{Doing, Line, Has, Main, idle}
 use Rattle.lot_mutex.specs.MutexProfiles.{inside, mutex_profile, owner}
@@ -205,3 +206,95 @@ condvar_owes c l (Notify all m at) = owes_by c l m (notify_row all m at)
 
 abbrev pub condvar_retries : CondvarPlace → Bool
 condvar_retries p = (condvar_row p).retries
+
+-- ---------------------------------------------------------------- as a place of each of its two locks
+
+abbrev pub section_in : Option Stage → Option Line
+section_in None = None
+section_in (Some stage) = Some Main
+
+-- who waits to be notified does so at the condition variable, and everybody else at the mutex
+abbrev pub wants_there : Option Want → Option Want
+wants_there (Some wants.Wait) = Some wants.Wait
+wants_there x = None
+
+abbrev pub wants_beside : Option Want → Option Want
+wants_beside (Some wants.Wait) = None
+wants_beside x = x
+
+-- whether its call has a deadline, and whether it sleeps in such a call
+abbrev pub has_deadline : CondvarPlace → Bool
+has_deadline (Wait m timed at) = timed
+has_deadline p = false
+
+abbrev pub may_give_up : CondvarPlace → Bool
+may_give_up (Wait m timed (wait.Asleep s)) = timed
+may_give_up p = false
+
+-- its time is up, and it leaves, or has left, the queue of the condition variable
+abbrev pub is_late : CondvarPlace → Bool
+is_late (Wait m timed wait.Remove) = true
+is_late (Wait m timed wait.Hide) = true
+is_late (Wait m timed wait.GiveUp) = true
+is_late (Wait m timed (wait.Lock timed_out at)) = timed_out
+is_late p = false
+
+abbrev pub has_given_up : CondvarPlace → Bool
+has_given_up (Wait m timed wait.Remove) = false
+has_given_up p = is_late p
+
+-- or that of the mutex
+abbrev pub is_late_beside : CondvarPlace → Bool
+is_late_beside (Wait m timed wait.RemoveMoved) = true
+is_late_beside (Wait m timed wait.GiveUpMoved) = true
+is_late_beside p = false
+
+abbrev pub has_given_up_beside : CondvarPlace → Bool
+has_given_up_beside (Wait m timed wait.GiveUpMoved) = true
+has_given_up_beside p = false
+
+-- whether it has anybody in hand, who waits for the mutex
+abbrev pub wait_carries : WaitAt → Option Bool
+wait_carries (wait.Release s at) = (mutex_profile at).carries
+wait_carries (wait.Lock timed_out at) = (mutex_profile at).carries
+wait_carries at = None
+
+abbrev pub notify_carries : NotifyAt → Option Bool
+notify_carries (notify.Clear any) = in_hand any false
+notify_carries (notify.MarkMoved number) = in_hand true false
+notify_carries (notify.Leave any number) = in_hand any false
+notify_carries at = None
+
+abbrev pub carries_beside : CondvarPlace → Option Bool
+carries_beside (Wait m timed at) = wait_carries at
+carries_beside (Look all) = None
+carries_beside (Notify all m at) = notify_carries at
+
+-- what a place says of its thread at the condition variable: nobody is in a hand there
+abbrev pub condvar_profile : CondvarPlace → Profile
+condvar_profile p = record profiles.blank {
+  doing = record idle { inside = section_in (condvar_row p).stage };
+  stands = in_line (condvar_row p).listed Main;
+  wants = wants_there (condvar_row p).wants;
+  owes = in_line (condvar_row p).owes Main;
+  timed = has_deadline p;
+  late_line = if may_give_up p then in_line (condvar_row p).listed Main else None;
+  late = is_late p;
+  gave_up = has_given_up p;
+}
+
+-- and at the mutex beside it
+abbrev pub mutex_side : CondvarPlace → Profile
+mutex_side p = record profiles.blank {
+  doing = (condvar_row p).doing;
+  stands = in_line (condvar_row p).moved Main;
+  carries = carries_beside p;
+  hand = (condvar_row p).hand;
+  wants = wants_beside (condvar_row p).wants;
+  owes = in_line (condvar_row p).owes_mutex Main;
+  retries = (condvar_row p).retries;
+  timed = has_deadline p;
+  late_line = if may_give_up p then in_line (condvar_row p).moved Main else None;
+  late = is_late_beside p;
+  gave_up = has_given_up_beside p;
+}

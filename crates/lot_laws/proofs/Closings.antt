@@ -8,7 +8,7 @@ use Rattle.lot_once.specs.declared.places.OncePlace.TheVariants.{Run}
 use Rattle.lot_once.specs.declared.run.RunAt.TheVariants as run
 use Rattle.lot_steps.specs.declared.places.Place.{Place}
 use Rattle.lot_steps.specs.declared.places.Place.TheVariants.{Once}
-use Rattle.lot_steps.specs.Steps.{act_of, next_place}
+use Rattle.lot_steps.specs.Steps.{act_of, next_place, or_else}
 use Rattle.lot_machine.specs.Machine.{State, can_go, close_outcome, closed_place, go_outcome, going_outcome, place_at, put, state_after_close, state_after_go, state_after_going}
 use Rattle.lot_machine.specs.Fits.{IsShaped}
 use Rattle.lot_machine.proofs.Shape.{closed_fits, put_shaped}
@@ -45,7 +45,7 @@ module _ (w : State) (t : ℕ) (there : t < length w.places) (succeeded : Bool) 
 
   pub closing_counted : AreCounted w → AreCounted closing
   closing_counted = put_counted w t (closed_place w t succeeded) there
-      (ap (λ (y : Profile). held_by (hand_owner y.hand) y.wants) (like w t there succeeded one).row)
+      (let it = like w t there succeeded one in λ i. held_by (hand_owner (or_else (it.row_beside i).hand (it.row i).hand)) (or_else (it.row_beside i).wants (it.row i).wants))
       (λ l. ap (λ p. counted_on p l) is_behind)
 
   -- the word is swapped next, whoever is inside

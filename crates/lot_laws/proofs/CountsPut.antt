@@ -5,12 +5,13 @@ use Rattle.lot_calls.specs.declared.kinds.Kind.{Kind}
 use Rattle.lot_acts.specs.Profiles.{Profile, hand_owner}
 use Rattle.lot_steps.specs.declared.places.Place.{Place}
 use Rattle.lot_steps.specs.declared.places.Place.TheVariants.{Idle}
-use Rattle.lot_steps.specs.Steps.{looking}
+use Rattle.lot_steps.specs.Steps.{looking, or_else}
 use Rattle.lot_machine.specs.Machine.{State, held, held_by, opening, place_at, put}
 use Rattle.lot_machine.proofs.Opening.{idle_at}
 use Rattle.lot_machine.proofs.Looks.{look}
 use Rattle.lot_laws.specs.SitesOf.{AreCounted}
 use Rattle.lot_laws.proofs.Counting.{are_counted, counted_on, counts_there, looks_bare, none_is}
+use Rattle.lot_laws.proofs.Beside.{looks_beside}
 use Rattle.lot_laws.proofs.HandsCounted.{counted_stays}
 use Rattle.lot_laws.proofs.InHand.{wanted_of}
 
@@ -29,7 +30,7 @@ module _ (w : State) (t : ℕ) (q : Place) (there : t < length w.places) (same_h
 
 -- who looks at the word once more has counted nobody
 pub looking_counted : (w : State) (t : ℕ) → t < length w.places → (q : Place) → looking (place_at w t) ≡ Some q → AreCounted w → AreCounted (put w t q)
-looking_counted w t there q is = put_counted w t q there (ap (λ (y : Profile). held_by (hand_owner y.hand) y.wants) (look (place_at w t) q is).row) (looks_bare (place_at w t) q is).bare
+looking_counted w t there q is = put_counted w t q there (let b = looks_beside (place_at w t) q is in let r = (look (place_at w t) q is).row in λ i. held_by (hand_owner (or_else (b.1 i).hand (r i).hand)) (or_else (b.1 i).wants (r i).wants)) (looks_bare (place_at w t) q is).bare
 
 -- nobody is in a call yet
 pub opening_counted : (kinds : List Kind) (threads : ℕ) → AreCounted (opening kinds threads)

@@ -30,8 +30,8 @@ use Rattle.lot_rwlock_fair.specs.FairSteps.{call_next}
 use Rattle.lot_acts.specs.declared.acts.Next as next
 use Rattle.lot_mutex.specs.MutexSteps.{mutex_next}
 use Rattle.lot_base.specs.declared.wants.Want.{Want}
-use Rattle.lot_acts.specs.Profiles.{Hand, Of, hand_owner, taken_from}
-use Rattle.lot_steps.specs.Steps.{next_place, taker, mutex_goes, rwlock_goes, once_goes, lock_of, profile, wants, is_lock, calls, condvar_goes}
+use Rattle.lot_acts.specs.Profiles.{Hand, Of, hand_owner, taken_from, Profile, blank}
+use Rattle.lot_steps.specs.Steps.{next_place, taker, mutex_goes, rwlock_goes, once_goes, lock_of, profile, wants, is_lock, calls, condvar_goes, beside_of, or_else, profile_beside, key_in, late_key, line_owed, retries_on}
 use Rattle.abstract_locks.specs.Locks.{LockState, Taken, Queued, Rules, TakeFirst, keep_from, let_go, shares_handed, sharing_from, putting}
 use Rattle.std.specs.Prelude.{sum, ◌&&◌, ◌||◌}
 use Rattle.lot_acts.specs.Owners.{is_thread, with_exclusive}
@@ -41,8 +41,9 @@ use Rattle.lot_machine.specs.Machine.{State, place_at, word_at, owners_at, share
 use Rattle.lot_machine.specs.declared.hands.Successor.{Successor}
 use Rattle.lot_laws.specs.Refinement.{lock_seen, taken_at}
 use Rattle.lot_laws.specs.MutexDeeds.{Act, mutex_station, queued}
-use Rattle.lot_laws.specs.Stations.{Station, hand, station, station_at, nowhere, doing_on}
-use Rattle.lot_laws.specs.SitesOf.{site_of, rules_in, after_acts, carried_at, hand_at, Hands, FitsItsLock}
+use Rattle.lot_laws.specs.Stations.{Station, hand, station, station_at, nowhere, doing_on, station_by}
+use Rattle.lot_machine.specs.Fits.{PlaceFits}
+use Rattle.lot_laws.specs.SitesOf.{site_of, rules_in, after_acts, carried_at, hand_at, Hands, FitsItsLock, IsSteady}
 
 -- ---------------------------------------------------------------- lists with one element set, as functions
 
@@ -204,9 +205,71 @@ pub record IsHandedAt (p : Place) (t l : ℕ) : Type 0 where
   pub retries : Bool
   pub is : p ≡ Mutex l (Lock entry retries (lock.Handed t))
 
+-- a call of one lock
+abbrev pub IsSingle : Place → Type 0
+IsSingle (Condvar k at) = ⊥
+IsSingle p = Unit {0}
+
+pub fits_single : (w : State) (p : Place) → FitsItsLock w p → IsSingle p
+fits_single w Idle fits = tt
+fits_single w (Mutex k at) fits = tt
+fits_single w (RwLock k a at) fits = tt
+fits_single w (Once k at) fits = tt
+fits_single w (Condvar k at) fits = absurd fits
+
+pub fits_one : (locks : ℕ) (p : Place) → PlaceFits locks p → IsSingle p
+fits_one locks Idle fits = tt
+fits_one locks (Mutex k at) fits = tt
+fits_one locks (RwLock k a at) fits = tt
+fits_one locks (Once k at) fits = tt
+fits_one locks (Condvar k at) fits = absurd fits
+
+pub singles : (w : State) → IsSteady w → (t : ℕ) → IsSingle (place_at w t)
+singles w steady t = fits_single w (place_at w t) (steady.stands.calls t)
+
+-- has no other beside it
+pub none_beside : (p : Place) → IsSingle p → beside_of p ≡ None
+none_beside Idle single = refl
+none_beside (Mutex k at) single = refl
+none_beside (RwLock k a at) single = refl
+none_beside (Once k at) single = refl
+none_beside (Condvar k at) single = absurd single
+
+pub blank_beside : (p : Place) → IsSingle p → profile_beside p ≡ blank
+blank_beside Idle single = refl
+blank_beside (Mutex k at) single = refl
+blank_beside (RwLock k a at) single = refl
+blank_beside (Once k at) single = refl
+blank_beside (Condvar k at) single = absurd single
+
+-- so that all that is said of it is said of its lock
+pub single_station : (p : Place) (l : ℕ) → IsSingle p → station_at p l ≡ (if calls p l then station p else nowhere)
+single_station p l single = ap (λ o. if calls p l then station p else if is_lock l o then station_by (profile_beside p) else nowhere) (none_beside p single)
+
+pub single_doing : (p : Place) (l : ℕ) → IsSingle p → doing_on p l ≡ (if calls p l then (profile p).doing else idle)
+single_doing p l single = ap (λ o. if calls p l then (profile p).doing else if is_lock l o then (profile_beside p).doing else idle) (none_beside p single)
+
+pub single_taken : (p : Place) (l : ℕ) → IsSingle p → taken_at p l ≡ taken_from (profile p).hand (profile p).wants (calls p l)
+single_taken p l single = ap (λ o. if is_lock l o && not (calls p l) then taken_from (profile_beside p).hand (profile_beside p).wants true else taken_from (profile p).hand (profile p).wants (calls p l)) (none_beside p single)
+
+pub single_late : (p : Place) → IsSingle p → late_key p ≡ key_in (lock_of p) (profile p).late_line
+single_late p single = ap (λ o. or_else (key_in o (profile_beside p).late_line) (key_in (lock_of p) (profile p).late_line)) (none_beside p single)
+
+pub single_owes : (p : Place) (l : ℕ) → IsSingle p → line_owed p l ≡ (if calls p l then (profile p).owes else None)
+single_owes p l single = ap (λ o. or_else (if is_lock l o then (profile_beside p).owes else None) (if calls p l then (profile p).owes else None)) (none_beside p single)
+
+pub single_retries : (p : Place) (l : ℕ) → IsSingle p → retries_on p l ≡ ((profile p).retries && calls p l)
+single_retries p l single = ap (λ o. (is_lock l o && (profile_beside p).retries) || ((profile p).retries && calls p l)) (none_beside p single)
+
+pub single_held : (p : Place) → IsSingle p → held p ≡ held_by (hand_owner (profile p).hand) (profile p).wants
+single_held p single = ap (λ (row : Profile). held_by (hand_owner (or_else row.hand (profile p).hand)) (or_else row.wants (profile p).wants)) (blank_beside p single)
+
+pub single_wants : (p : Place) → IsSingle p → wants p ≡ (profile p).wants
+single_wants p single = ap (λ (row : Profile). or_else row.wants (profile p).wants) (blank_beside p single)
+
 -- what a place says nothing of at its own lock, it says nothing of at any
-pub nothing_at : {A : Type 0} (p : Place) (l : ℕ) (g : Station → Option A) → g nowhere ≡ None → g (station p) ≡ None → g (station_at p l) ≡ None
-nothing_at p l g n e = either (calls p l)
+pub nothing_at : {A : Type 0} (p : Place) (l : ℕ) → IsSingle p → (g : Station → Option A) → g nowhere ≡ None → g (station p) ≡ None → g (station_at p l) ≡ None
+nothing_at p l single g n e = ap g (single_station p l single) ∙ either (calls p l)
   where
     either : (b : Bool) → g (if b then station p else nowhere) ≡ None
     either true = e
@@ -249,7 +312,7 @@ in_hand (Mutex k (Lock e retries (lock.Handed by))) t l b of h = either (k == l)
     either true f true g = let own : k ≡ l = eqb-true k l f in let whose : by ≡ t = cc in record { entry = e; retries = retries; is = rw (own, whose) refl }
     either true f false g = absurd cc
     either false f b g = absurd cc
-in_hand p t l b of h = absurd (let none : hand_at p l ≡ None = nothing_at p l (λ x. x.hand) refl refl in cc)
+in_hand p t l b of h = absurd (let none : hand_at p l ≡ None = nothing_at p l tt (λ x. x.hand) refl refl in cc)
 
 pub is_taken : (p : Place) (t l : ℕ) → IsMutexCall l p → hand_at p l ≡ hand t false → IsTakenAt p t l
 is_taken p t l of h = in_hand p t l false of h
@@ -279,11 +342,17 @@ untaken_by t (Some (Of u false)) (Some x) none = either (u == t) refl
 
 -- who isn't in the hand of t
 pub untaken : (p : Place) (t l : ℕ) → (hand_at p l ≡ hand t false → ⊥) → Untaken t (taken_at p l)
-untaken p t l none = either (calls p l) none
+untaken p t l none = which (calls p l) (is_lock l (beside_of p)) none
   where
-    either : (b : Bool) → ((if b then station p else nowhere).hand ≡ hand t false → ⊥) → Untaken t (taken_from (profile p).hand (profile p).wants b)
-    either true free = untaken_by t (profile p).hand (profile p).wants free
-    either false free = ap (keep_from t) (taken_out (profile p).hand (profile p).wants) ∙ sym (taken_out (profile p).hand (profile p).wants)
+    out : (h : Option Hand) (x : Option Want) → Untaken t (taken_from h x false)
+    out h x = ap (keep_from t) (taken_out h x) ∙ sym (taken_out h x)
+
+    which : (b c : Bool) → ((if b then station p else if c then station_by (profile_beside p) else nowhere).hand ≡ hand t false → ⊥)
+        → Untaken t (if c && not b then taken_from (profile_beside p).hand (profile_beside p).wants true else taken_from (profile p).hand (profile p).wants b)
+    which true true free = untaken_by t (profile p).hand (profile p).wants free
+    which true false free = untaken_by t (profile p).hand (profile p).wants free
+    which false true free = untaken_by t (profile_beside p).hand (profile_beside p).wants free
+    which false false free = out (profile p).hand (profile p).wants
 
 -- ---------------------------------------------------------------- one thread goes elsewhere
 
@@ -323,7 +392,39 @@ IsLock l (Some k) = k ≡ l
 
 -- a place of a call of the lock l, or of none
 abbrev pub IsOf : ℕ → Place → Type 0
-IsOf l p = IsLock l (lock_of p)
+IsOf l Idle = Unit {0}
+IsOf l (Mutex k at) = k ≡ l
+IsOf l (RwLock k a at) = k ≡ l
+IsOf l (Once k at) = k ≡ l
+IsOf l (Condvar k at) = ⊥
+
+pub of_single : (l : ℕ) (p : Place) → IsOf l p → IsSingle p
+of_single l Idle of = tt
+of_single l (Mutex k at) of = tt
+of_single l (RwLock k a at) of = tt
+of_single l (Once k at) of = tt
+of_single l (Condvar k at) of = absurd of
+
+pub of_lock_of : (l : ℕ) (p : Place) → IsOf l p → IsLock l (lock_of p)
+of_lock_of l Idle of = tt
+of_lock_of l (Mutex k at) of = of
+of_lock_of l (RwLock k a at) of = of
+of_lock_of l (Once k at) of = of
+of_lock_of l (Condvar k at) of = absurd of
+
+pub of_lock : (l : ℕ) (p : Place) → IsSingle p → IsLock l (lock_of p) → IsOf l p
+of_lock l Idle single own = tt
+of_lock l (Mutex k at) single own = own
+of_lock l (RwLock k a at) single own = own
+of_lock l (Once k at) single own = own
+of_lock l (Condvar k at) single own = absurd single
+
+pub of_own : (l : ℕ) (p : Place) → IsSingle p → lock_of p ≡ Some l → IsOf l p
+of_own l Idle single own = tt
+of_own l (Mutex k at) single own = cc
+of_own l (RwLock k a at) single own = cc
+of_own l (Once k at) single own = cc
+of_own l (Condvar k at) single own = absurd single
 
 goes_on : (l k : ℕ) (n : Next MutexPlace) → k ≡ l → IsOf l (mutex_goes k n)
 goes_on l k (next.TheVariants.At at) e = e
@@ -342,11 +443,7 @@ next_of l (Once k at) reply h = by_next (once_next at reply)
     by_next : (n : Next OncePlace) → IsOf l (once_goes k n)
     by_next (next.TheVariants.At at) = h
     by_next (next.TheVariants.End answer) = tt
-next_of l (Condvar k at) reply h = by_next (condvar_next at reply)
-  where
-    by_next : (n : Next CondvarPlace) → IsOf l (condvar_goes k n)
-    by_next (next.TheVariants.At at) = h
-    by_next (next.TheVariants.End answer) = tt
+next_of l (Condvar k at) reply h = absurd h
 
 -- a place of a call of the mutex l, or of none
 abbrev pub IsMutexOf : ℕ → Place → Type 0
@@ -376,12 +473,12 @@ calls_none (Once k at) e = absurd cc
 calls_none (Condvar k at) e = absurd cc
 
 -- who is in nobody's hand isn't taken
-pub free_of : (q : Place) (l : ℕ) → (station q).hand ≡ None → taken_at q l ≡ None
-free_of q l none = ap (λ (h : Option Hand). taken_from h (profile q).wants (calls q l)) none
+pub free_of : (q : Place) (l : ℕ) → IsSingle q → (station q).hand ≡ None → taken_at q l ≡ None
+free_of q l single none = single_taken q l single ∙ ap (λ (h : Option Hand). taken_from h (profile q).wants (calls q l)) none
 
 -- who is in a hand calls the lock
 pub held_calls : (p : Place) (l : ℕ) → IsOf l p → (h : Hand) → (station p).hand ≡ Some h → calls p l ≡ true
-held_calls p l of h e = by_lock (lock_of p) refl of
+held_calls p l of h e = by_lock (lock_of p) refl (of_lock_of l p of)
   where
     by_lock : (o : Option ℕ) → lock_of p ≡ o → IsLock l o → is_lock l o ≡ true
     by_lock None f g = absurd (let none : ◌≡◌ {A = Option Hand} None (Some h) = sym (ap (λ q. (station q).hand) (calls_none p f)) ∙ e in cc)
@@ -393,14 +490,14 @@ calls_other l k (Some j) h ne = differ j k (λ e. ne (sym e ∙ h))
 
 -- it does nothing about another lock
 pub doing_elsewhere : (l k : ℕ) (p : Place) → IsOf l p → k ≢ l → doing_on p k ≡ idle
-doing_elsewhere l k p h ne = ap (λ b. if b then (profile p).doing else idle) (calls_other l k (lock_of p) h ne)
+doing_elsewhere l k p h ne = single_doing p k (of_single l p h) ∙ ap (λ b. if b then (profile p).doing else idle) (calls_other l k (lock_of p) (of_lock_of l p h) ne)
 
 pub taken_elsewhere : (l k : ℕ) (p : Place) → IsOf l p → k ≢ l → taken_at p k ≡ None
-taken_elsewhere l k p h ne = ap (taken_from (profile p).hand (profile p).wants) (calls_other l k (lock_of p) h ne) ∙ taken_out (profile p).hand (profile p).wants
+taken_elsewhere l k p h ne = single_taken p k (of_single l p h) ∙ ap (taken_from (profile p).hand (profile p).wants) (calls_other l k (lock_of p) (of_lock_of l p h) ne) ∙ taken_out (profile p).hand (profile p).wants
 
 -- how it stands at a lock, by how it stands at its own
 pub station_is : (l k : ℕ) (p : Place) → IsOf l p → station_at p k ≡ (if l == k then station p else nowhere)
-station_is l k p h = by_lock (lock_of p) refl h
+station_is l k p h = single_station p k (of_single l p h) ∙ by_lock (lock_of p) refl (of_lock_of l p h)
   where
     out : (b : Bool) → station p ≡ nowhere → nowhere ≡ (if b then station p else nowhere)
     out true e = sym e
@@ -420,18 +517,19 @@ abbrev pub doing_of : Place → Doing
 doing_of p = (profile p).doing
 
 pub doing_here : (l : ℕ) (p : Place) → IsOf l p → doing_on p l ≡ doing_of p
-doing_here l p h = by_lock (lock_of p) refl h
+doing_here l p h = single_doing p l (of_single l p h) ∙ by_lock (lock_of p) refl (of_lock_of l p h)
   where
     by_lock : (o : Option ℕ) → lock_of p ≡ o → IsLock l o → (if is_lock l o then doing_of p else idle) ≡ doing_of p
     by_lock None e own = sym (ap doing_of (calls_none p e))
     by_lock (Some j) e own = ap (λ x. if x == l then doing_of p else idle) own ∙ ap (λ b. if b then doing_of p else idle) (same l)
 
 pub inside_is : (p : Place) (l : ℕ) → (doing_on p l).inside ≡ (station_at p l).inside
-inside_is p l = either (calls p l)
+inside_is p l = which (calls p l) (is_lock l (beside_of p))
   where
-    either : (b : Bool) → (if b then doing_of p else idle).inside ≡ (if b then station p else nowhere).inside
-    either true = refl
-    either false = refl
+    which : (b c : Bool) → (if b then doing_of p else if c then (profile_beside p).doing else idle).inside ≡ (if b then station p else if c then station_by (profile_beside p) else nowhere).inside
+    which true c = refl
+    which false true = refl
+    which false false = refl
 
 pub own_stance : (l : ℕ) (q : Place) (at : MutexPlace) → q ≡ Mutex l at → station_at q l ≡ mutex_station at
 own_stance l q at is = ap (λ x. station_at x l) is ∙ station_here l (Mutex l at) refl
@@ -503,16 +601,12 @@ successor_in t k (p ∷ ps) (suc u) alone held_by only = ap (λ o. successor_or 
     ∙ successor_in t (suc k) ps u alone held_by (λ x ne. only (suc x) (λ e. ne (omega arith))) ∙ ap (λ n. Some (successor_is n)) (let e : suc k + u ≡ k + suc u = omega arith in e)
 
 -- who took it, by its row
-taker_is : (p : Place) → taker p ≡ hand_owner (profile p).hand
-taker_is Idle = refl
-taker_is (Mutex k at) = refl
-taker_is (RwLock k a at) = refl
-taker_is (Once k at) = refl
-taker_is (Condvar k at) = refl
+pub single_taker : (p : Place) → IsSingle p → taker p ≡ hand_owner (profile p).hand
+single_taker p single = ap (λ (row : Profile). hand_owner (or_else row.hand (profile p).hand)) (blank_beside p single)
 
 -- who is in a hand by the place is so by the taker
-pub held_taker : (p : Place) (t l : ℕ) (b : Bool) → hand_at p l ≡ hand t b → is_thread t (taker p) ≡ true
-held_taker p t l b h = ap (is_thread t) (taker_is p) ∙ either (calls p l) h
+pub held_taker : (p : Place) (t l : ℕ) (b : Bool) → IsSingle p → hand_at p l ≡ hand t b → is_thread t (taker p) ≡ true
+held_taker p t l b single h = ap (is_thread t) (single_taker p single) ∙ either (calls p l) (sym (ap (λ (x : Station). x.hand) (single_station p l single)) ∙ h)
   where
     either : (c : Bool) → (if c then station p else nowhere).hand ≡ hand t b → is_thread t (hand_owner (profile p).hand) ≡ true
     either true g = ap (λ x. is_thread t (hand_owner x)) g ∙ same t
@@ -525,8 +619,8 @@ pub record IsHeldBy (p : Place) (t : ℕ) : Type 0 where
   pub hand : hand_at p lock ≡ hand t handed
   pub of : IsOf lock p
 
-pub held_where : (p : Place) (t : ℕ) → is_thread t (taker p) ≡ true → IsHeldBy p t
-held_where p t h = by_hand (profile p).hand (lock_of p) refl refl (sym (ap (is_thread t) (taker_is p)) ∙ h)
+pub held_where : (p : Place) (t : ℕ) → IsSingle p → is_thread t (taker p) ≡ true → IsHeldBy p t
+held_where p t single h = by_hand (profile p).hand (lock_of p) refl refl (sym (ap (is_thread t) (single_taker p single)) ∙ h)
   where
     by_hand : (x : Option Hand) (o : Option ℕ) → (profile p).hand ≡ x → lock_of p ≡ o → is_thread t (hand_owner x) ≡ true → IsHeldBy p t
     by_hand None o e f g = absurd cc
@@ -534,13 +628,13 @@ held_where p t h = by_hand (profile p).hand (lock_of p) refl refl (sym (ap (is_t
     by_hand (Some (Of u b)) (Some k) e f g = record {
       lock = k;
       handed = b;
-      hand = ap (λ (x : Station). x.hand) (station_here k p (rw f refl)) ∙ e ∙ ap (λ x. hand x b) (eqb-true u t g);
-      of = rw f refl;
+      hand = ap (λ (x : Station). x.hand) (station_here k p (of_own k p single f)) ∙ e ∙ ap (λ x. hand x b) (eqb-true u t g);
+      of = of_own k p single f;
     }
 
 -- of those who call one lock, one at most is in the hand of t
-only_held : {one : ℕ → Type 0} (p : ℕ → Place) → Hands one p → (t l u : ℕ) (b : Bool) → one l → IsOf l (p t) → hand_at (p u) l ≡ hand t b → (x : ℕ) → x ≢ u → is_thread t (taker (p x)) ≡ false
-only_held p hands t l u b single of held x ne = either (is_thread t (taker (p x))) refl
+only_held : {one : ℕ → Type 0} (p : ℕ → Place) → ((u : ℕ) → IsSingle (p u)) → Hands one p → (t l u : ℕ) (b : Bool) → one l → IsOf l (p t) → hand_at (p u) l ≡ hand t b → (x : ℕ) → x ≢ u → is_thread t (taker (p x)) ≡ false
+only_held p calls_one hands t l u b single of held x ne = either (is_thread t (taker (p x))) refl
   where
     second : IsHeldBy (p x) t → ⊥
     second h = elim (cases_eq h.lock l) [
@@ -550,11 +644,11 @@ only_held p hands t l u b single of held x ne = either (is_thread t (taker (p x)
 
     either : (c : Bool) → is_thread t (taker (p x)) ≡ c → c ≡ false
     either false e = refl
-    either true e = absurd (second (held_where (p x) t e))
+    either true e = absurd (second (held_where (p x) t (calls_one x) e))
 
 -- of those who call a mutex, each in the hand of t wants to own alone
-pub held_alone : {one : ℕ → Type 0} (p : ℕ → Place) → Hands one p → (t l : ℕ) → IsOf l (p t) → ((u : ℕ) → IsMutexCall l (p u)) → (u : ℕ) → WantsAlone t (p u)
-held_alone p hands t l of mutexes u h = let x = held_where (p u) t h in elim (cases_eq x.lock l) [
+pub held_alone : {one : ℕ → Type 0} (p : ℕ → Place) → ((u : ℕ) → IsSingle (p u)) → Hands one p → (t l : ℕ) → IsOf l (p t) → ((u : ℕ) → IsMutexCall l (p u)) → (u : ℕ) → WantsAlone t (p u)
+held_alone p calls_one hands t l of mutexes u h = let x = held_where (p u) t (calls_one u) h in elim (cases_eq x.lock l) [
   | inl e ↦ by_hand x.handed (in_hand (p u) t l x.handed (mutexes u) (subst (λ k. hand_at (p u) k ≡ hand t x.handed) e x.hand))
   | inr ne ↦ absurd (let a : carried_at (p t) x.lock ≡ Some x.handed = hands.taken t u x.lock x.handed x.hand in let c : carried_at (p t) x.lock ≡ None = ap (λ (y : Station). y.carries) (station_elsewhere l x.lock (p t) of ne) in cc)
 ]
@@ -564,13 +658,13 @@ held_alone p hands t l of mutexes u h = let x = held_where (p u) t h in elim (ca
     by_hand false k = ap wants k.is
 
 -- so all whom t has in hand are that one
-pub told_one : {one : ℕ → Type 0} (w : State) (t l u : ℕ) (b : Bool) (reply : Reply) → Hands one (place_at w) → one l → IsOf l (place_at w t) → hand_at (place_at w u) l ≡ hand t b → state_after_telling w t reply ≡ state_after_reply w u reply
-told_one w t l u b reply hands single of held = λ i. record w { places = told_in t reply w.places u (held_taker (place_at w u) t l b held) (only_held (place_at w) hands t l u b single of held) i }
+pub told_one : {one : ℕ → Type 0} (w : State) (t l u : ℕ) (b : Bool) (reply : Reply) → ((u : ℕ) → IsSingle (place_at w u)) → Hands one (place_at w) → one l → IsOf l (place_at w t) → hand_at (place_at w u) l ≡ hand t b → state_after_telling w t reply ≡ state_after_reply w u reply
+told_one w t l u b reply calls_one hands single of held = λ i. record w { places = told_in t reply w.places u (held_taker (place_at w u) t l b (calls_one u) held) (only_held (place_at w) calls_one hands t l u b single of held) i }
 
 -- and it owns when t hands the lock over
-pub successor_one : {one : ℕ → Type 0} (w : State) (t l u : ℕ) (b : Bool) → Hands one (place_at w) → one l → IsOf l (place_at w t) → hand_at (place_at w u) l ≡ hand t b → ((x : ℕ) → WantsAlone t (place_at w x)) → sum (shares_at w l) ≡ 0 → (o : Owners) → owners_handed_over w t l o ≡ with_exclusive o (Some u)
-successor_one w t l u b hands single of held_at alone unshared o =
-    ap (λ s. owners_of_successor (sum (shares_handed_over w t l)) s o) (successor_in t 0 w.places u (alone u) (held_taker (place_at w u) t l b held_at) (only_held (place_at w) hands t l u b single of held_at) ∙ ap (λ n. Some (successor_is n)) (let e : 0 + u ≡ u = omega arith in e))
+pub successor_one : {one : ℕ → Type 0} (w : State) (t l u : ℕ) (b : Bool) → ((u : ℕ) → IsSingle (place_at w u)) → Hands one (place_at w) → one l → IsOf l (place_at w t) → hand_at (place_at w u) l ≡ hand t b → ((x : ℕ) → WantsAlone t (place_at w x)) → sum (shares_at w l) ≡ 0 → (o : Owners) → owners_handed_over w t l o ≡ with_exclusive o (Some u)
+successor_one w t l u b calls_one hands single of held_at alone unshared o =
+    ap (λ s. owners_of_successor (sum (shares_handed_over w t l)) s o) (successor_in t 0 w.places u (alone u) (held_taker (place_at w u) t l b (calls_one u) held_at) (only_held (place_at w) calls_one hands t l u b single of held_at) ∙ ap (λ n. Some (successor_is n)) (let e : 0 + u ≡ u = omega arith in e))
     ∙ ap (λ (n : ℕ). if n == 0 then with_exclusive o (Some u) else pending_for u o) (ap sum (none_given t w.places (shares_at w l) alone) ∙ unshared)
 
 -- ---------------------------------------------------------------- a release wakes whom it has taken

@@ -18,7 +18,7 @@ use Rattle.lot_machine.specs.Machine.{State, held, held_by, place_at, shares_at,
 use Rattle.lot_laws.specs.Refinement.{lock_state, taken_at}
 use Rattle.lot_laws.specs.Stations.{Station, nowhere, station}
 use Rattle.lot_laws.specs.SitesOf.{IsCounted, IsSteady, carried_at, hand_at}
-use Rattle.lot_laws.proofs.Glue.{IsOf, calls_none, held_where, same, station_elsewhere}
+use Rattle.lot_laws.proofs.Glue.{IsOf, calls_none, held_where, same, station_elsewhere, singles, IsSingle, single_held, single_station, single_taken}
 use Rattle.lot_laws.proofs.HandsMoved.{thread_of}
 use Rattle.lot_laws.proofs.InHand.{counted, heir_wants, is_wanted, shared_by, sharers_from, sharers_same, wanted_is, wanted_of, wants_heir}
 
@@ -58,13 +58,13 @@ module _ (w : State) (t l : ℕ) (steady : IsSteady w) (own : IsOf l (place_at w
       ]
         where
           there : hand_at (place_at w u) k ≡ hand t g
-          there = ap (λ o. (if is_lock k o then station (place_at w u) else nowhere).hand) e ∙ ap (λ b. (if b then station (place_at w u) else nowhere).hand) (same k) ∙ h
+          there = ap (λ (y : Station). y.hand) (single_station (place_at w u) k (singles w steady u)) ∙ ap (λ o. (if is_lock k o then station (place_at w u) else nowhere).hand) e ∙ ap (λ b. (if b then station (place_at w u) else nowhere).hand) (same k) ∙ h
 
           carried : carried_at (place_at w t) k ≡ Some g
           carried = steady.stands.hands.taken t u k g there
 
   pub hand_there : (u : ℕ) → is_thread t (taker (place_at w u)) ≡ true → hand_at (place_at w u) l ≡ hand t false
-  hand_there u h = let k = held_where (place_at w u) t h in elim (cases_eq k.lock l) [
+  hand_there u h = let k = held_where (place_at w u) t (singles w steady u) h in elim (cases_eq k.lock l) [
     | inl e ↦ subst (λ j. hand_at (place_at w u) j ≡ hand t false) e (k.hand ∙ ap (hand t) (by_any any k.handed (sym carries ∙ subst (λ j. carried_at (place_at w t) j ≡ Some k.handed) e (steady.stands.hands.taken t u k.lock k.handed k.hand))))
     | inr ne ↦ absurd (let a : carried_at (place_at w t) k.lock ≡ Some k.handed = steady.stands.hands.taken t u k.lock k.handed k.hand in
         let b : carried_at (place_at w t) k.lock ≡ None = ap (λ (y : Station). y.carries) (station_elsewhere l k.lock (place_at w t) own ne) in let c : ◌≡◌ {A = Option Bool} None (Some k.handed) = sym b ∙ a in cc)
@@ -75,7 +75,8 @@ module _ (w : State) (t l : ℕ) (steady : IsSteady w) (own : IsOf l (place_at w
       by_any false g e = absurd cc
 
   pub same_hand : (u : ℕ) → wanted_of t (held (place_at w u)) ≡ wanted_of t (taken_at (place_at w u) l)
-  same_hand u = by_row t (profile (place_at w u)).hand (wants (place_at w u)) (calls (place_at w u) l) (fresh_here u)
+  same_hand u = ap (wanted_of t) (single_held (place_at w u) (singles w steady u)) ∙ by_row t (profile (place_at w u)).hand (profile (place_at w u)).wants (calls (place_at w u) l) (fresh_here u)
+      ∙ ap (wanted_of t) (sym (single_taken (place_at w u) l (singles w steady u)))
 
 -- ---------------------------------------------------------------- counts
 
@@ -204,8 +205,8 @@ filter_less f (p ∷ ps) (suc i) lt e = let h : length (filter f ps) < length ps
     one false h = omega arith
 
 -- who is in nobody's hand isn't in its own
-pub few_sharers : (w : State) (t : ℕ) → t < length w.places → (profile (place_at w t)).hand ≡ None → sharers t w.places < length w.places
-few_sharers w t lt free = filter_less (λ (p : Place). shares_in_hand t (held p)) w.places t lt (ap (λ h. shares_in_hand t (held_by (hand_owner h) (wants (place_at w t)))) free)
+pub few_sharers : (w : State) (t : ℕ) → t < length w.places → IsSingle (place_at w t) → (profile (place_at w t)).hand ≡ None → sharers t w.places < length w.places
+few_sharers w t lt single free = filter_less (λ (p : Place). shares_in_hand t (held p)) w.places t lt (ap (shares_in_hand t) (single_held (place_at w t) single) ∙ ap (λ h. shares_in_hand t (held_by (hand_owner h) (profile (place_at w t)).wants)) free)
 
 -- ---------------------------------------------------------------- as long as nobody comes into the hand, or leaves it
 

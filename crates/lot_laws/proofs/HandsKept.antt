@@ -36,7 +36,7 @@ use Rattle.lot_laws.specs.MutexDeeds.{acts}
 use Rattle.lot_laws.specs.MutexDeeds as deeds
 use Rattle.lot_laws.specs.Stations.{Station, station, station_at, nowhere, doing_on}
 use Rattle.lot_laws.specs.SitesOf.{ActsNeeded, HasRoom, IsSteady, Goes, Hands, TakesOne, FitsItsLock, after_acts, rules_in, carried_at, hand_at}
-use Rattle.lot_laws.proofs.Glue.{free_of, held_calls, Parts, parts_at, lock_in, seen_in, same, put_here, put_other, put_same, IsOf, station_here, untaken, held_taker, thread_is, past_all}
+use Rattle.lot_laws.proofs.Glue.{free_of, held_calls, Parts, parts_at, lock_in, seen_in, same, put_here, put_other, put_same, IsOf, station_here, untaken, held_taker, thread_is, past_all, singles, IsSingle, of_single, single_taken, single_wants, next_of}
 use Rattle.lot_laws.proofs.KindsKept.{given_kinds}
 use Rattle.lot_laws.proofs.OneStep.{AreQuiet, AreSingle, acts_keep, full_then, fills_by, others_same}
 use Rattle.lot_laws.proofs.ActsKept.{Moves, lock_by, site_by, follows_by}
@@ -215,11 +215,11 @@ given_is t i taken (p ∷ ps) (n ∷ ns) each e few =
 
 -- who is in the hand of t, by its place, is taken by it
 taken_by : (q : Place) (l : ℕ) {t : ℕ} (x : Want) → IsOf l q → (station q).hand ≡ hand t false → wants q ≡ Some x → taken_at q l ≡ Some (record { by = t; want = x })
-taken_by q l {t = t} x of h e = (λ i. taken_from (h i) (e i) (calls q l)) ∙ ap (taken_from (hand t false) (Some x)) (held_calls q l of (Of t false) h)
+taken_by q l {t = t} x of h e = single_taken q l (of_single l q of) ∙ (λ i. taken_from (h i) ((sym (single_wants q (of_single l q of)) ∙ e) i) (calls q l)) ∙ ap (taken_from (hand t false) (Some x)) (held_calls q l of (Of t false) h)
 
 -- who was handed what it wanted isn't taken any more
-given_free : (q : Place) (l t : ℕ) → (station q).hand ≡ hand t true → taken_at q l ≡ None
-given_free q l t h = ap (λ o. taken_from o (profile q).wants (calls q l)) h
+given_free : (q : Place) (l t : ℕ) → IsSingle q → (station q).hand ≡ hand t true → taken_at q l ≡ None
+given_free q l t single h = single_taken q l single ∙ ap (λ o. taken_from o (profile q).wants (calls q l)) h
 
 -- where a thread goes that t has in hand, and hands its right
 pub record IsGiven (w : State) (t l : ℕ) (handed alone : Bool) (p : Place) : Type 0 where
@@ -272,7 +272,7 @@ module _ (w : State) (t l : ℕ) (steady : IsSteady w) (own : IsOf l (place_at w
     taken_is = taken_by (place_at w u) l given.want of_u (ap (λ (y : Station). y.hand) given.was ∙ ap (hand t) given.fresh) given.wants_it
 
     free_then : taken_at (next_place (place_at w u) (hand_over_told w t l)) l ≡ None
-    free_then = given_free (next_place (place_at w u) (hand_over_told w t l)) l t (ap (λ (y : Station). y.hand) given.goes)
+    free_then = given_free (next_place (place_at w u) (hand_over_told w t l)) l t (of_single l (next_place (place_at w u) (hand_over_told w t l)) (next_of l (place_at w u) (hand_over_told w t l) of_u)) (ap (λ (y : Station). y.hand) given.goes)
 
   not_taken : (u : ℕ) → is_told u ≡ false → keep_from t (taken u) ≡ taken u
   not_taken u h = untaken (place_at w u) t l (not_held w t l steady own there p2 of fits (hand_over_told w t l) (hand t true) all_told free u h false)
@@ -366,7 +366,7 @@ module _ (w : State) (t l : ℕ) (steady : IsSteady w) (own : IsOf l (place_at w
       -- who is in hand still
       taken_then : (u : ℕ) → taken_at (places_behind u) l ≡ let_go t taken u
       taken_then u = elim (cases_eq u t) [
-        | inl e ↦ rw e (ap (λ q. taken_at q l) (put_here told_now t p2) ∙ free_of p2 l unheld ∙ sym (ap (keep_from t) (free_of (place_at w t) l free)))
+        | inl e ↦ rw e (ap (λ q. taken_at q l) (put_here told_now t p2) ∙ free_of p2 l (of_single l p2 of) unheld ∙ sym (ap (keep_from t) (free_of (place_at w t) l (singles w steady t) free)))
         | inr ne ↦ ap (λ q. taken_at q l) (put_other told_now t p2 u ne) ∙ either (is_told u) refl
       ]
         where
@@ -435,7 +435,7 @@ module _ (w : State) (t l : ℕ) (steady : IsSteady w) (own : IsOf l (place_at w
 
       doing_then : (u : ℕ) → doing_on (places_behind u) l ≡ with_claim t alone (taken u) (between.doing u)
       doing_then u = elim (cases_eq u t) [
-        | inl e ↦ rw e (ap (λ q. doing_on q l) (put_here told_now t p2) ∙ sym law.doing ∙ sym (ap (λ o. with_claim t alone o (between.doing t)) (free_of (place_at w t) l free)))
+        | inl e ↦ rw e (ap (λ q. doing_on q l) (put_here told_now t p2) ∙ sym law.doing ∙ sym (ap (λ o. with_claim t alone o (between.doing t)) (free_of (place_at w t) l (singles w steady t) free)))
         | inr ne ↦ ap (λ q. doing_on q l) (put_other told_now t p2 u ne) ∙ either (is_told u) refl ∙ sym (ap (with_claim t alone (taken u)) (ap (λ (s : Site). s.doing u) (sym (after_same r own_deeds here t)) ∙ others_same r own_deeds here t u (single_bit none_left) ne))
       ]
         where
@@ -495,7 +495,7 @@ module _ (w : State) (t l : ℕ) (steady : IsSteady w) (own : IsOf l (place_at w
 
         within : HasLimit r behind.lock
         within = subst (λ s. HasLimit r s) (sym (ap (λ (s : Site). s.lock) behind_is ∙ lock_between))
-            (handed_limit r right heir here.lock t site.state law.needed.0.0 (subst (λ n. t < n) (sym (steady.numbers.threads l)) there) (free_of (place_at w t) l free) (subst (λ n. n ≤ r.limit) (sym (steady.numbers.threads l)) room.1))
+            (handed_limit r right heir here.lock t site.state law.needed.0.0 (subst (λ n. t < n) (sym (steady.numbers.threads l)) there) (free_of (place_at w t) l (singles w steady t) free) (subst (λ n. n ≤ r.limit) (sym (steady.numbers.threads l)) room.1))
 
         held_before : carried_at (place_at w t) l ≡ in_hand_if any false
         held_before = ap (λ (y : Station). y.carries) (station_here l (place_at w t) own) ∙ carried
@@ -505,7 +505,7 @@ module _ (w : State) (t l : ℕ) (steady : IsSteady w) (own : IsOf l (place_at w
         some_held b e = by_any any refl (sym carries_now ∙ e)
           where
             by_any : (a : Bool) → any ≡ a → in_hand_if a true ≡ Some b → (b ≡ true) × ((u : ℕ) × (is_told u ≡ true))
-            by_any true f g = (let h : true ≡ b = cc in sym h, let u = steady.stands.hands.carried t l false (held_before ∙ ap (λ a. in_hand_if a false) f) in (u.0, held_taker (place_at w u.0) t l false u.1))
+            by_any true f g = (let h : true ≡ b = cc in sym h, let u = steady.stands.hands.carried t l false (held_before ∙ ap (λ a. in_hand_if a false) f) in (u.0, held_taker (place_at w u.0) t l false (singles w steady u.0) u.1))
             by_any false f g = absurd cc
 
         full_hand : (u : ℕ) → is_told u ≡ true → (station p2).carries ≡ Some true
@@ -522,7 +522,7 @@ module _ (w : State) (t l : ℕ) (steady : IsSteady w) (own : IsOf l (place_at w
         hands_now = hands_given (TakesOne w) (place_at w) places_behind steady.stands.hands t l is_told (station p2).carries
             (in_hand w t l steady own there p2 of fits (hand_over_told w t l) (hand t true) all_told free unheld)
             (carries w t l steady own there p2 of fits (hand_over_told w t l) (hand t true) all_told free)
-            (λ u h. ((at_hand u h).handed, (at_hand u h).hand)) (λ u b h. held_taker (place_at w u) t l b h) some_held full_hand
+            (λ u h. ((at_hand u h).handed, (at_hand u h).hand)) (λ u b h. held_taker (place_at w u) t l b (singles w steady u) h) some_held full_hand
 
         part_kept : {A : Type 0} (g : Station → A) → ((h : Option Hand) → g (record nowhere { hand = h }) ≡ g nowhere) → g (station p2) ≡ g (station (place_at w t)) → (u k : ℕ) → g (station_at (places_behind u) k) ≡ g (station_at (place_at w u) k)
         part_kept = all_parts w t l steady own there p2 of fits (hand_over_told w t l) (hand t true) all_told free

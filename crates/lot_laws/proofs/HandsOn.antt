@@ -56,7 +56,7 @@ use Rattle.lot_laws.specs.MutexDeeds.{acts}
 use Rattle.lot_laws.specs.SitesOf.{FitsItsLock, Goes, HasRoom, IsCounted, IsSteady, carried_at, hand_at, rules_in}
 use Rattle.lot_laws.specs.Stations.{doing_on, station}
 use Rattle.lot_laws.proofs.ActsKept.{lock_by}
-use Rattle.lot_laws.proofs.Glue.{free_of, IsOf, doing_here, next_of, station_here}
+use Rattle.lot_laws.proofs.Glue.{free_of, IsOf, doing_here, next_of, station_here, singles}
 use Rattle.lot_laws.proofs.HandsCounted.{few_sharers, has_in_hand}
 use Rattle.lot_laws.proofs.HandsKept.{IsGiven, claims_given}
 use Rattle.lot_laws.proofs.HandsMoved.{hands_over as hands_all, looks_again, thread_of}
@@ -186,7 +186,7 @@ module _ (w : State) (t l : ℕ) (a : Admission) (c : RwLockCallPlace) (steady :
   abbrev hands : Hands (rules_in w l) a here t c whom
   hands = record {
     call = at_now w t l a c steady shape there lt is;
-    free = free_of (place_at w t) l bare;
+    free = free_of (place_at w t) l (singles w steady t) bare;
     taken = k;
     is = is_k;
     in_hand = has_in_hand w t l steady of g.any carries k count;
@@ -202,7 +202,7 @@ module _ (w : State) (t l : ℕ) (a : Admission) (c : RwLockCallPlace) (steady :
   few = word_few (rules_in w l) here fits.0.0 (steady.sites.site l) limits.0.1 limits.1
 
   fewer : k.sharers < a.limit
-  fewer = let x : sharers t w.places < length w.places = few_sharers w t there bare in
+  fewer = let x : sharers t w.places < length w.places = few_sharers w t there (singles w steady t) bare in
       let y : length w.places ≤ (rules_in w l).limit = limits.0.2 in
       let z : (rules_in w l).limit ≡ a.limit = fits.0.2 in
       let n : sharers t w.places ≡ k.sharers = count.number in omega arith

@@ -41,7 +41,7 @@ use Rattle.lot_laws.specs.Refinement.{call_state, lock_state, taken_at}
 use Rattle.lot_laws.specs.SitesOf.{FitsItsLock, Goes, IsCounted, IsSteady, carried_at, rules_in}
 use Rattle.lot_laws.proofs.AtPlaces.{in_no_hand, unless_held}
 use Rattle.lot_laws.proofs.CallEvents.{Happens, OthersFollow, happens}
-use Rattle.lot_laws.proofs.Glue.{held_taker, station_here}
+use Rattle.lot_laws.proofs.Glue.{held_taker, station_here, singles}
 use Rattle.lot_laws.proofs.HandRights.{given_right}
 use Rattle.lot_laws.proofs.HandsCounted.{hand_there}
 use Rattle.lot_laws.proofs.HandsEvents.{IsHandedCall, claims_are, hands_many}
@@ -113,7 +113,7 @@ module _ (w : State) (t l : ℕ) (a : Admission) (c : RwLockCallPlace) (steady :
       same_test : (b : Bool) → is_thread t (taker (place_at w u)) ≡ b → is_thread t (taker (place_at w u)) ≡ is_taken_by t (taken_at (place_at w u) l)
       same_test true f = f ∙ sym (taken_by_hand w (place_at w u) t l (steady.stands.calls u)
           (hand_there w t l steady (of w t l a c steady shape there lt is k is_k count op e) (g w t l a c steady shape there lt is k is_k count op e).any (carries w t l a c steady shape there lt is k is_k count op e) u f))
-      same_test false f = f ∙ sym (unless_held w steady t l u (λ h. let z : is_thread t (taker (place_at w u)) ≡ true = held_taker (place_at w u) t l false h in cc))
+      same_test false f = f ∙ sym (unless_held w steady t l u (λ h. let z : is_thread t (taker (place_at w u)) ≡ true = held_taker (place_at w u) t l false (singles w steady u) h in cc))
 
   -- and their calls go on with it
   handed_calls : (u : ℕ) (x : Want) → IsTaken (lock_state w l) t u x → IsHandedCall l t alone x (place_at w u)

@@ -32,7 +32,7 @@ use Rattle.lot_laws.specs.MutexDeeds.{mutex_station}
 use Rattle.lot_laws.specs.Stations.{Station, station, station_at, station_by}
 use Rattle.lot_laws.specs.SitesOf.{FitsItsLock, IsSteady, key_of, stood_in}
 use Rattle.lot_laws.proofs.Counts.{without_absent}
-use Rattle.lot_laws.proofs.Glue.{IsLock, IsOf, station_here, station_elsewhere}
+use Rattle.lot_laws.proofs.Glue.{IsLock, IsOf, station_here, station_elsewhere, IsSingle, single_late, of_own, singles}
 use Rattle.lot_rwlock.specs.declared.places.Admission.{Admission}
 use Rattle.lot_rwlock.specs.declared.places.RwLockPlace.{RwLockPlace}
 use Rattle.lot_rwlock.specs.declared.places.RwLockAt.{RwLockAt}
@@ -194,8 +194,8 @@ line_act w (Condvar k at) l fits h = absurd fits
 line_act w (Mutex k at) l fits h = let e : k ≡ l = cc in subst (λ j. IsLineAct j (mutex_station at) (mutex_act k at)) e (mutex_lines k at)
 
 -- a thread that may be late sleeps in a line of its lock
-pub late_line : (p : Place) (key : ℕ) → late_key p ≡ Some key → (l : ℕ) × (lock_of p ≡ Some l) × ((m : Line) × ((profile p).late_line ≡ Some m) × (key ≡ key_of l m))
-late_line p key h = by_lock (lock_of p) (profile p).late_line h
+pub late_line : (p : Place) (key : ℕ) → IsSingle p → late_key p ≡ Some key → (l : ℕ) × (lock_of p ≡ Some l) × ((m : Line) × ((profile p).late_line ≡ Some m) × (key ≡ key_of l m))
+late_line p key single h = by_lock (lock_of p) (profile p).late_line (sym (single_late p single) ∙ h)
   where
     by_lock : (o : Option ℕ) (x : Option Line) → key_in o x ≡ Some key → (l : ℕ) × (o ≡ Some l) × ((m : Line) × (x ≡ Some m) × (key ≡ key_of l m))
     by_lock (Some l) (Some m) e = (l, refl, (m, refl, cc))
@@ -233,7 +233,7 @@ key_there w l Second shape lt = let n : length w.sections ≡ 2 * length w.locks
 
 module _ (w : State) (t l : ℕ) (steady : IsSteady w) (own : lock_of (place_at w t) ≡ Some l) where
   is_of : IsOf l (place_at w t)
-  is_of = subst (λ o. IsLock l o) (sym own) refl
+  is_of = of_own l (place_at w t) (singles w steady t) own
 
   -- it holds the section of the line
   pub holds_line : (key : ℕ) → IsWithinLine l (station (place_at w t)) key → section_at w key ≡ Some t

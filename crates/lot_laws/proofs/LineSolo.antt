@@ -30,7 +30,7 @@ use Rattle.lot_machine.proofs.Shape.{after_shaped, after_size, main_key_there, p
 use Rattle.lot_laws.specs.SitesOf.{AreCounted, IsSteady, RunsInClosures, key_of, stood_in}
 use Rattle.lot_laws.proofs.RunsKept.{running_after}
 use Rattle.lot_laws.specs.Stations.{station, station_at}
-use Rattle.lot_laws.proofs.Glue.{nothing_at}
+use Rattle.lot_laws.proofs.Glue.{nothing_at, singles}
 use Rattle.lot_laws.proofs.Counts.{without_absent}
 use Rattle.lot_laws.proofs.CountsKept.{counted_after}
 use Rattle.lot_laws.proofs.TurnsKept.{after_steady}
@@ -167,7 +167,7 @@ module _ (w : State) (t l : ℕ) (p : Place) (v : ℕ) (q : Line → List Waiter
   unmoved nowhere m = get_or-map (without t) w.queues (key_of l m) [] ∙ without_absent t (queue_at w (key_of l m)) absent ∙ f.queue m
     where
       absent : times t (queue_at w (key_of l m)) ≡ 0
-      absent = f.steady.stands.lines t l m ∙ ap (λ x. stood_in x m) (nothing_at (place_at w t) l (λ x. x.stands) refl (ap (λ x. (station x).stands) f.place ∙ nowhere))
+      absent = f.steady.stands.lines t l m ∙ ap (λ x. stood_in x m) (nothing_at (place_at w t) l (singles w f.steady t) (λ x. x.stands) refl (ap (λ x. (station x).stands) f.place ∙ nowhere))
 
   pub parks_last : (station p).stands ≡ None → (m : Line) (x : Want) → queue_at (record w { queues = queues_with_last w.queues (key_of l m) t x }) (key_of l m) ≡ q m ++ waiter (key_of l m) t x ∷ []
   parks_last nowhere m x = get_or-set_same (map (without t) w.queues) (key_of l m) _ [] (rw (length-map w.queues (without t)) (line_there m))
@@ -181,4 +181,4 @@ module _ (w : State) (t l : ℕ) (p : Place) (v : ℕ) (q : Line → List Waiter
       by_who None e = e
       by_who (Some u) e = absurd (let mine : u ≡ t = f.way m u e in
           let within : (station_at (place_at w t) l).inside ≡ Some m = (f.steady.stands.sections t l m).1 (e ∙ ap Some mine) in
-          let out : (station_at (place_at w t) l).inside ≡ None = nothing_at (place_at w t) l (λ x. x.inside) refl (ap (λ x. (station x).inside) f.place ∙ outside) in cc)
+          let out : (station_at (place_at w t) l).inside ≡ None = nothing_at (place_at w t) l (singles w f.steady t) (λ x. x.inside) refl (ap (λ x. (station x).inside) f.place ∙ outside) in cc)

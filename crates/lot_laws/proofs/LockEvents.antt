@@ -44,7 +44,7 @@ use Rattle.lot_laws.specs.Refinement.{owner_at, lock_state, taken_at, is_bump, b
 use Rattle.lot_laws.specs.MutexDeeds.{queued}
 use Rattle.lot_laws.specs.SitesOf.{rules_in}
 use Rattle.lot_laws.proofs.PlainCalls.{plain_goes}
-use Rattle.lot_laws.proofs.Glue.{IsTakenAt, heir, put_same, same, IsMutexCall, mutex_calls, taken_elsewhere}
+use Rattle.lot_laws.proofs.Glue.{IsTakenAt, heir, put_same, same, IsMutexCall, mutex_calls, taken_elsewhere, IsSingle, single_taken}
 use Rattle.lot_laws.proofs.MutexTable.{mutex}
 use Rattle.lot_laws.proofs.CallEvents.{put_is, rights, rights_led, Happens, Others, OthersFollow}
 
@@ -135,8 +135,8 @@ untaken_by s t u none = by_hand (s.taken u) none
         either true e = absurd (other h.want (let f : h.by ≡ t = eqb-true h.by t e in λ i. Some (record { by = f i; want = h.want })))
 
 -- who is taken at a lock calls it, and is in the hand of t
-taken_hand : (p : Place) (t l : ℕ) → is_taken_by t (taken_at p l) ≡ true → ((profile p).hand ≡ hand t false) × (calls p l ≡ true)
-taken_hand p t l h = by_row (profile p).hand (profile p).wants (calls p l) h
+taken_hand : (p : Place) (t l : ℕ) → IsSingle p → is_taken_by t (taken_at p l) ≡ true → ((profile p).hand ≡ hand t false) × (calls p l ≡ true)
+taken_hand p t l single h = by_row (profile p).hand (profile p).wants (calls p l) (sym (ap (is_taken_by t) (single_taken p l single)) ∙ h)
   where
     by_row : (o : Option Hand) (x : Option Want) (b : Bool) → is_taken_by t (taken_from o x b) ≡ true → (o ≡ hand t false) × (b ≡ true)
     by_row None x b g = absurd cc
@@ -150,26 +150,26 @@ abbrev in_bump : RwLockPurpose → ℕ → CallState → CallState
 in_bump q l c = record c { purpose = Some (Bumps l (wanted (access_of q))); released = bump_released q c.released; former = bump_former q l c.former }
 
 -- whoever is woken tries the lock again
-pub woken_call : (p : Place) (t l : ℕ) → is_taken_by t (taken_at p l) ≡ true → (r : ℕ → Rights) → call_state (next_place p (Woken Normal)) r ≡ record (call_state p r) { retries = Some l }
-woken_call Idle t l h r = absurd cc
-woken_call (Mutex k at) t l h r = by_place (Mutex k at) (taken_place (Mutex k at) t l tt h)
+pub woken_call : (p : Place) (t l : ℕ) → IsSingle p → is_taken_by t (taken_at p l) ≡ true → (r : ℕ → Rights) → call_state (next_place p (Woken Normal)) r ≡ record (call_state p r) { retries = Some l }
+woken_call Idle t l single h r = absurd cc
+woken_call (Mutex k at) t l single h r = by_place (Mutex k at) (taken_place (Mutex k at) t l tt h)
   where
     by_place : (p : Place) → IsTakenAt p t l → call_state (next_place p (Woken Normal)) r ≡ record (call_state p r) { retries = Some l }
     by_place p there = rw there.is refl
-woken_call (Condvar k at) t l h r = absurd (let held = taken_hand (Condvar k at) t l h in let f : ◌≡◌ {A = Option Hand} None (hand t false) = held.0 in cc)
-woken_call (Once k (Look c again (look_at.Taken by))) t l h r = let held = taken_hand (Once k (Look c again (look_at.Taken by))) t l h in
+woken_call (Condvar k at) t l single h r = absurd single
+woken_call (Once k (Look c again (look_at.Taken by))) t l single h r = let held = taken_hand (Once k (Look c again (look_at.Taken by))) t l tt h in
     ap (λ n. record (call_state (Once k (Look c again (look_at.Taken by))) r) { retries = Some n }) (eqb-true k l held.1)
-woken_call (Once k (Look c again at)) t l h r = absurd (let held = taken_hand (Once k (Look c again at)) t l h in let f : ◌≡◌ {A = Option Hand} None (hand t false) = held.0 in cc)
-woken_call (Once k (Run forced (run_at.Closure poisoned))) t l h r = absurd (let held = taken_hand (Once k (Run forced (run_at.Closure poisoned))) t l h in let f : ◌≡◌ {A = Option Hand} None (hand t false) = held.0 in cc)
-woken_call (Once k (Run forced at)) t l h r = absurd (let held = taken_hand (Once k (Run forced at)) t l h in let f : ◌≡◌ {A = Option Hand} None (hand t false) = held.0 in cc)
-woken_call (RwLock k a (places.Plain p)) t l h r = let held = taken_hand (RwLock k a (places.Plain p)) t l h in let here : k ≡ l = eqb-true k l held.1 in let goes = woken_goes a k p t held.0 in
+woken_call (Once k (Look c again at)) t l single h r = absurd (let held = taken_hand (Once k (Look c again at)) t l tt h in let f : ◌≡◌ {A = Option Hand} None (hand t false) = held.0 in cc)
+woken_call (Once k (Run forced (run_at.Closure poisoned))) t l single h r = absurd (let held = taken_hand (Once k (Run forced (run_at.Closure poisoned))) t l tt h in let f : ◌≡◌ {A = Option Hand} None (hand t false) = held.0 in cc)
+woken_call (Once k (Run forced at)) t l single h r = absurd (let held = taken_hand (Once k (Run forced at)) t l tt h in let f : ◌≡◌ {A = Option Hand} None (hand t false) = held.0 in cc)
+woken_call (RwLock k a (places.Plain p)) t l single h r = let held = taken_hand (RwLock k a (places.Plain p)) t l tt h in let here : k ≡ l = eqb-true k l held.1 in let goes = woken_goes a k p t held.0 in
     ap (λ n. call_state (plain_goes k a n) r) goes.1 ∙ goes.2 r ∙ ap (λ n. record (call_by k (rwlock_profile a p) r) { retries = Some n }) here
-woken_call (RwLock k a (places.Bump p)) t l h r = let held = taken_hand (RwLock k a (places.Bump p)) t l h in let here : k ≡ l = eqb-true k l held.1 in let goes = woken_goes a k p t held.0 in
+woken_call (RwLock k a (places.Bump p)) t l single h r = let held = taken_hand (RwLock k a (places.Bump p)) t l tt h in let here : k ≡ l = eqb-true k l held.1 in let goes = woken_goes a k p t held.0 in
     ap (λ n. call_state (rwlock_goes k a (bump_next p.purpose n)) r) goes.1 ∙ ap (λ q. call_by k (bumping q (rwlock_profile a goes.0)) r) goes.3 ∙ ap (in_bump p.purpose k) (goes.2 r) ∙ ap (λ n. record (in_bump p.purpose k (call_by k (rwlock_profile a p) r)) { retries = Some n }) here
-woken_call (RwLock k a (places.Glance x)) t l h r = absurd (let held = taken_hand (RwLock k a (places.Glance x)) t l h in let f : ◌≡◌ {A = Option Hand} None (hand t false) = held.0 in cc)
-woken_call (RwLock k a (places.HandOver x b to)) t l h r = absurd (let held = taken_hand (RwLock k a (places.HandOver x b to)) t l h in let f : ◌≡◌ {A = Option Hand} None (hand t false) = held.0 in cc)
-woken_call (RwLock k a (places.Handed x how b (handed.Asleep u alone))) t l h r = absurd (let held = taken_hand (RwLock k a (places.Handed x how b (handed.Asleep u alone))) t l h in let f : hand u true ≡ hand t false = held.0 in cc)
-woken_call (RwLock k a (places.Handed x how b handed.Accept)) t l h r = absurd (let held = taken_hand (RwLock k a (places.Handed x how b handed.Accept)) t l h in let f : ◌≡◌ {A = Option Hand} None (hand t false) = held.0 in cc)
+woken_call (RwLock k a (places.Glance x)) t l single h r = absurd (let held = taken_hand (RwLock k a (places.Glance x)) t l tt h in let f : ◌≡◌ {A = Option Hand} None (hand t false) = held.0 in cc)
+woken_call (RwLock k a (places.HandOver x b to)) t l single h r = absurd (let held = taken_hand (RwLock k a (places.HandOver x b to)) t l tt h in let f : ◌≡◌ {A = Option Hand} None (hand t false) = held.0 in cc)
+woken_call (RwLock k a (places.Handed x how b (handed.Asleep u alone))) t l single h r = absurd (let held = taken_hand (RwLock k a (places.Handed x how b (handed.Asleep u alone))) t l tt h in let f : hand u true ≡ hand t false = held.0 in cc)
+woken_call (RwLock k a (places.Handed x how b handed.Accept)) t l single h r = absurd (let held = taken_hand (RwLock k a (places.Handed x how b handed.Accept)) t l tt h in let f : ◌≡◌ {A = Option Hand} None (hand t false) = held.0 in cc)
 
 -- where a wait locks its mutex again nothing befalls it
 lock_taken : (k m : ℕ) (timed late : Bool) (at : MutexPlace) (by : ℕ) (r : ℕ → Rights) → call_state (next_place (Condvar k (Wait m timed (wait.Lock late at))) (TakenBy by)) r ≡ call_state (Condvar k (Wait m timed (wait.Lock late at))) r
@@ -221,11 +221,11 @@ taken_call (Mutex k (HandOff bumps hand_off.Enter)) by r = refl
 taken_call (Mutex k (HandOff bumps at)) by r = refl
 
 module _ (w v : State) (t l : ℕ) where
-  pub wakes_others : Befalls w v t l (Woken Normal) → Others w v t (AtLock l Wake)
-  wakes_others befalls u ne r = ap (λ p. call_state p r) (befalls u ne) ∙ either (is_taken_by t (taken_at (place_at w u) l)) refl
+  pub wakes_others : ((u : ℕ) → IsSingle (place_at w u)) → Befalls w v t l (Woken Normal) → Others w v t (AtLock l Wake)
+  wakes_others single befalls u ne r = ap (λ p. call_state p r) (befalls u ne) ∙ either (is_taken_by t (taken_at (place_at w u) l)) refl
     where
       either : (b : Bool) → is_taken_by t (taken_at (place_at w u) l) ≡ b → call_state (if b then next_place (place_at w u) (Woken Normal) else place_at w u) r ≡ (if b then record (call_state (place_at w u) r) { retries = Some l } else call_state (place_at w u) r)
-      either true e = woken_call (place_at w u) t l e r
+      either true e = woken_call (place_at w u) t l (single u) e r
       either false e = refl
 
 -- ---------------------------------------------------------------- it hands its right over

@@ -115,7 +115,7 @@ use Rattle.lot_mutex.specs.MutexSteps.{mutex_act, mutex_next}
 use Rattle.lot_acts.specs.declared.acts.Next.{Next}
 use Rattle.lot_acts.specs.declared.acts.Next.TheVariants as next
 use Rattle.lot_acts.specs.declared.acts.Whom.TheVariants as whoms
-use Rattle.lot_laws.proofs.Glue.{heir, is_owner, own_stance, thread_is}
+use Rattle.lot_laws.proofs.Glue.{heir, is_owner, own_stance, thread_is, singles}
 use Rattle.lot_laws.proofs.MutexTable.{mutex}
 use Rattle.lot_laws.proofs.StandsMoved.{mutex_rules}
 use Rattle.lot_laws.proofs.SitesKept.{go_by}
@@ -329,7 +329,7 @@ module _ (w : State) (t : ℕ) (shape : IsShaped w) (steady : IsSteady w) (there
     unlock_goes (unlock.Clear any) is can = alone (Unlock (unlock.Clear any)) is can tt tt tt
     unlock_goes (unlock.Leave false) is can = alone (Unlock (unlock.Leave false)) is can tt tt tt
     unlock_goes (unlock.Leave true) is can = goes_if (Unlock (unlock.Leave true)) is can tt (others_follow w (behind (Unlock (unlock.Leave true)) is can tt) t l (Some Wake) (happens_so (Unlock (unlock.Leave true)) is can tt) (λ x y e. cc)
-        (wakes_others w (behind (Unlock (unlock.Leave true)) is can tt) t l (befalls w t l steady (rw is refl) Idle (state_with_sections w (One (2 * l)) None) (Woken note.Normal) refl (carries (Unlock (unlock.Leave true)) is can tt))))
+        (wakes_others w (behind (Unlock (unlock.Leave true)) is can tt) t l (singles w steady) (befalls w t l steady (rw is refl) Idle (state_with_sections w (One (2 * l)) None) (Woken note.Normal) refl (carries (Unlock (unlock.Leave true)) is can tt))))
 
     hands_case : (bumping any b : Bool) (o : Option ℕ) → case_of (mutex_row (HandOff bumping (hand_off.Store any b))).carries (hands_over o b) ≡ Some (HandsOff Exclusive (heir o))
     hands_case bumping any b None = refl
@@ -783,7 +783,7 @@ module _ (w : State) (t : ℕ) (shape : IsShaped w) (steady : IsSteady w) (there
       by_look : (o : Option Place) → looking (place_at w t) ≡ o → is_some o ≡ true → (look_outcome w t o ≡ outcome.TheVariants.Sleep) ↔ (sleeps (act_of (place_at (state_after_look w t o) t)) ≡ true)
       by_look None is can = absurd cc
       by_look (Some q) is can = told_going (put w t q) t (there_moved w t shape steady there q is)
-  turned_told turn.TheVariants.Late can = told_step _ (late_awake w t there (late_key (place_at w t)) refl can)
+  turned_told turn.TheVariants.Late can = told_step _ (late_awake w t there steady (late_key (place_at w t)) refl can)
   turned_told turn.TheVariants.Ok can = closed_told true can
   turned_told turn.TheVariants.Err can = closed_told false can
 

@@ -1,10 +1,10 @@
 -- A thread that looks at the word once more goes on from another place of its call. Standing there changes nothing that locks and calls see.
-use Rattle.std.proofs.Common.{ℕ, zero, suc, List, set, true, Option, Some, None, if◌then◌else◌, ◌≡◌, ◌<◌, inl, inr, [], ◌∷◌, length, replicate, refl, sym, ◌∙◌, ap, subst, get_or-set_other, get_or-set_same, length-set, get_or}
+use Rattle.std.proofs.Common.{◌&&◌, not, ℕ, zero, suc, List, set, true, Option, Some, None, if◌then◌else◌, ◌≡◌, ◌<◌, inl, inr, [], ◌∷◌, length, replicate, refl, sym, ◌∙◌, ap, subst, get_or-set_other, get_or-set_same, length-set, get_or}
 use Rattle.abstract_locks.specs.Runs.{Event}
 use Rattle.std.proofs.Common.{Bool}
 use Rattle.lot_laws.proofs.Closures.{RunsOne}
 use Rattle.lot_machine.specs.Machine.{closed_place}
-use Rattle.lot_steps.specs.Steps.{next_place}
+use Rattle.lot_steps.specs.Steps.{next_place, beside_of, profile_beside, is_lock}
 use Rattle.lot_acts.specs.declared.acts.Reply.TheVariants.{Closed}
 use Rattle.lot_steps.specs.Steps.{in_once}
 use Rattle.lot_once.specs.OnceSteps.{once_looking}
@@ -34,7 +34,8 @@ use Rattle.lot_laws.specs.Refinement.{lock_state, locks_of, call_on, stance_of}
 use Rattle.lot_laws.specs.Stations.{station_by}
 use Rattle.lot_laws.specs.WorldRuns.{IsUntouched}
 use Rattle.lot_laws.specs.SitesOf.{IsSteady, FitsItsLock, rules_in}
-use Rattle.lot_laws.proofs.Glue.{IsLock, parts_at}
+use Rattle.lot_laws.proofs.Beside.{looks_beside}
+use Rattle.lot_laws.proofs.Glue.{IsLock, parts_at, of_own, singles, fits_single, single_taken, single_doing}
 use Rattle.lot_laws.proofs.OneStep.{steps_by}
 use Rattle.lot_laws.proofs.ActsKept.{goes_steady, place_goes}
 
@@ -80,6 +81,8 @@ pub record IsAlike (p q : Place) : Type 0 where
   pub before : lock_of p ≡ Some lock
   pub now : lock_of q ≡ Some lock
   pub row : profile q ≡ profile p
+  pub beside : beside_of q ≡ beside_of p
+  pub row_beside : profile_beside q ≡ profile_beside p
 
 -- a thread that stands at another such place
 module _ (w : State) (t : ℕ) (there : t < length w.places) (q : Place) (it : IsAlike (place_at w t) q) where
@@ -96,6 +99,12 @@ module _ (w : State) (t : ℕ) (there : t < length w.places) (q : Place) (it : I
     | inr ne ↦ ap profile (get_or-set_other w.places t u q Idle ne)
   ]
 
+  beside_same : (u : ℕ) → (beside_of (place_at moved u) ≡ beside_of (place_at w u)) × (profile_beside (place_at moved u) ≡ profile_beside (place_at w u))
+  beside_same u = elim (cases_eq u t) [
+    | inl e ↦ rw (e, stands_here) (it.beside, it.row_beside)
+    | inr ne ↦ let same_place = get_or-set_other w.places t u q Idle ne in (ap beside_of same_place, ap profile_beside same_place)
+  ]
+
   lock_same : (u : ℕ) → lock_of (place_at moved u) ≡ lock_of (place_at w u)
   lock_same u = elim (cases_eq u t) [
     | inl e ↦ rw (e, stands_here) (it.now ∙ sym it.before)
@@ -105,7 +114,9 @@ module _ (w : State) (t : ℕ) (there : t < length w.places) (q : Place) (it : I
   pub alike_locks : (k : ℕ) → lock_state moved k ≡ lock_state w k
   alike_locks k = λ i. record (lock_state w k) {
     shared = get_or w.shares k (replicate (length-set w.places t q i) 0);
-    taken = λ u. taken_from (row_same u i).hand (row_same u i).wants (is_lock k (lock_same u i));
+    taken = λ u. let b = beside_same u in
+        if is_lock k (b.0 i) && not (is_lock k (lock_same u i)) then taken_from (b.1 i).hand (b.1 i).wants true
+        else taken_from (row_same u i).hand (row_same u i).wants (is_lock k (lock_same u i));
   }
 
   abbrev rights_of_all : State → ℕ → ℕ → Rights
@@ -144,9 +155,9 @@ module _ (w : State) (t : ℕ) (there : t < length w.places) (q : Place) (it : I
 
   pub alike_steady : FitsItsLock w q → IsSteady w → IsSteady moved
   alike_steady fits steady = goes_steady w moved it.lock [] steady
-      (place_goes w t it.lock steady (of_lock it.lock (lock_of (place_at w t)) it.before) there (rules_in w it.lock) refl q (of_lock it.lock (lock_of q) it.now) fits [] (λ h. tt)
+      (place_goes w t it.lock steady (of_own it.lock (place_at w t) (singles w steady t) it.before) there (rules_in w it.lock) refl q (of_own it.lock q (fits_single w q fits) it.now) fits [] (λ h. tt)
       (steps_by (rules_in w it.lock) it.lock (parts_at w it.lock) (parts_at w it.lock) (place_at w) t q [] tt tt
-      (λ i. taken_from (sym it.row i).hand (sym it.row i).wants (is_lock it.lock (sym lock_stays i))) refl refl refl refl (λ i. if is_lock it.lock (lock_stays i) then (it.row i).doing else idle))
+      (single_taken (place_at w t) it.lock (singles w steady t) ∙ (λ i. taken_from (sym it.row i).hand (sym it.row i).wants (is_lock it.lock (sym lock_stays i))) ∙ sym (single_taken q it.lock (fits_single w q fits))) refl refl refl refl (single_doing q it.lock (fits_single w q fits) ∙ (λ i. if is_lock it.lock (lock_stays i) then (it.row i).doing else idle) ∙ sym (single_doing (place_at w t) it.lock (singles w steady t))))
       (λ i. station_by (it.row i)))
     where
       lock_stays : lock_of q ≡ lock_of (place_at w t)
@@ -162,7 +173,7 @@ module _ (w : State) (t : ℕ) (there : t < length w.places) (q : Place) (is : l
   looks = look (place_at w t) q is
 
   alike : IsAlike (place_at w t) q
-  alike = record { lock = looks.lock; before = looks.before; now = looks.now; row = looks.row }
+  alike = let b = looks_beside (place_at w t) q is in record { lock = looks.lock; before = looks.before; now = looks.now; row = looks.row; beside = b.0; row_beside = b.1 }
 
   pub here : place_at looked t ≡ q
   here = get_or-set_same w.places t q Idle there
@@ -197,7 +208,7 @@ behind_closure succeeded p = next_place p (Closed succeeded)
 
 -- who runs a closure stands behind it in the same call
 pub closes_alike : (p : Place) (succeeded : Bool) → RunsOne p → IsAlike p (behind_closure succeeded p)
-closes_alike p succeeded one = rw one.is (record { lock = one.lock; before = refl; now = refl; row = refl })
+closes_alike p succeeded one = rw one.is (record { lock = one.lock; before = refl; now = refl; row = refl; beside = refl; row_beside = refl })
 
 pub closes_fit : (w : State) (p : Place) (succeeded : Bool) → RunsOne p → FitsItsLock w p → FitsItsLock w (behind_closure succeeded p)
 closes_fit w p succeeded one fits = subst (λ q. FitsItsLock w (behind_closure succeeded q)) (sym one.is) (subst (FitsItsLock w) one.is fits)

@@ -20,7 +20,7 @@ use Rattle.lot_machine.specs.Machine.{State, place_at, word_at, kind_at}
 use Rattle.lot_laws.specs.Refinement.{owner_at, lock_state, call_at, call_state}
 use Rattle.lot_laws.specs.SitesOf.{is_mutex, rules_in}
 use Rattle.lot_laws.specs.Owing.{Owes, IsInside, ReleasesLock, LetsOthersIn, SeesWaiters, OwesSince, OnlyLooks, LooksFirst, line_let_in, tells_by, sort_at}
-use Rattle.lot_laws.specs.Promises.{KnowsRights, WakesWaiters, IsKept, IsLookedAfter, IsOpenNow}
+use Rattle.lot_laws.specs.Promises.{KnowsRights, WakesWaiters, IsKept, IsLookedAfter, IsOpenNow, IsOfOne}
 use Rattle.lot_laws.specs.MutexPromises.{HasDebtor, IsShownToOwe, GoesToRelease, SeesParkedBit, IsMutexKept, MutexesAreKept, OwesMutexSince, MutexesOwe}
 use Rattle.lot_laws.proofs.MutexTable.{mutex}
 use Rattle.lot_laws.proofs.StandsMoved.{mutex_rules}
@@ -114,7 +114,7 @@ module _ (w : State) (l : ℕ) (kept : IsKept w) (of_mutex : is_mutex (kind_at w
       let b : sort_at w k ≡ locks.Mutex = ap (sort_at w) here ∙ ap (λ r. r.sort) (rules w l of_mutex) in cc
   no_once t (Mutex k at) is = tt
   no_once t (RwLock k a c) is = tt
-  no_once t (Condvar k at) is = tt
+  no_once t (Condvar k at) is = subst IsOfOne is (kept.of_one t)
   no_once t Idle is = tt
 
   pub mutex_kept : IsMutexKept w l

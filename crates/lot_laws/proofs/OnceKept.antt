@@ -383,7 +383,7 @@ module _ (w : State) (t l : ℕ) (c : OnceCall) (steady : IsSteady w) (there : t
   pub once_begins : Goes w (put w t first) l (acts t [])
   once_begins = place_goes w t l steady (rw idle_now tt) there (rules_in w l) refl first refl sort [] (λ h. tt)
       (steps_by (rules_in w l) l (parts_at w l) (parts_at w l) (place_at w) t first [] tt tt
-      (ap (λ q. taken_at q l) idle_now ∙ sym (free_of first l refl))
+      (ap (λ q. taken_at q l) idle_now ∙ sym (free_of first l tt refl))
       refl refl refl refl
       (doing_here l first refl ∙ sym (ap (λ q. doing_on q l) idle_now)))
       (sym (ap station idle_now))

@@ -39,7 +39,7 @@ use Rattle.lot_laws.specs.Refinement.{call_state, taken_at}
 use Rattle.lot_laws.specs.Stations.{Station, hand, station, nowhere}
 use Rattle.lot_laws.specs.SitesOf.{IsSteady, carried_at, hand_at, FitsItsLock}
 use Rattle.lot_laws.proofs.AtPlaces.{unless_held}
-use Rattle.lot_laws.proofs.Glue.{IsLock, IsOf, IsTakenAt, IsHandedAt, is_taken, is_handed, held_where, held_taker, station_elsewhere, same, put_of, put_same, set_puts, past_all}
+use Rattle.lot_laws.proofs.Glue.{IsLock, IsOf, IsTakenAt, IsHandedAt, is_taken, is_handed, held_where, held_taker, station_elsewhere, same, put_of, put_same, set_puts, past_all, singles, of_own}
 use Rattle.lot_laws.proofs.CallEvents.{Happens, IsNoHandOff, Others}
 use Rattle.lot_laws.proofs.LockEvents.{Befalls, taken_call, wakes_others}
 
@@ -195,11 +195,11 @@ handed_goes w (RwLock k a c) t l fits h r = either (k == l) h
 
 module _ (w : State) (t l : ℕ) (steady : IsSteady w) (own : lock_of (place_at w t) ≡ Some l) (p2 : Place) where
   is_of : IsOf l (place_at w t)
-  is_of = subst (λ o. IsLock l o) (sym own) refl
+  is_of = of_own l (place_at w t) (singles w steady t) own
 
   -- who is in its hand is so at its lock, and was handed that or not as its place says
   in_hand_here : (h : Bool) → carried_at (place_at w t) l ≡ Some h → (u : ℕ) → is_thread t (taker (place_at w u)) ≡ true → hand_at (place_at w u) l ≡ hand t h
-  in_hand_here h carries u e = let x = held_where (place_at w u) t e in let there = steady.stands.hands.taken t u x.lock x.handed x.hand in
+  in_hand_here h carries u e = let x = held_where (place_at w u) t (singles w steady u) e in let there = steady.stands.hands.taken t u x.lock x.handed x.hand in
       elim (cases_eq x.lock l) [
         | inl f ↦ let here : carried_at (place_at w t) l ≡ Some x.handed = subst (λ k. carried_at (place_at w t) k ≡ Some x.handed) f there in let g : x.handed ≡ h = cc in subst (λ b. hand_at (place_at w u) l ≡ hand t b) g (subst (λ k. hand_at (place_at w u) k ≡ hand t x.handed) f x.hand)
         | inr ne ↦ absurd (let none : carried_at (place_at w t) x.lock ≡ None = ap (λ (y : Station). y.carries) (station_elsewhere l x.lock (place_at w t) is_of ne) in cc)
@@ -214,7 +214,7 @@ module _ (w : State) (t l : ℕ) (steady : IsSteady w) (own : lock_of (place_at 
     where
       same_test : (c : Bool) → is_thread t (taker (place_at w u)) ≡ c → is_thread t (taker (place_at w u)) ≡ is_taken_by t (taken_at (place_at w u) l)
       same_test true e = e ∙ sym (taken_by_hand w (place_at w u) t l (steady.stands.calls u) (in_hand_here false carries u e))
-      same_test false e = e ∙ sym (unless_held w steady t l u (λ h. let f : is_thread t (taker (place_at w u)) ≡ true = held_taker (place_at w u) t l false h in cc))
+      same_test false e = e ∙ sym (unless_held w steady t l u (λ h. let f : is_thread t (taker (place_at w u)) ≡ true = held_taker (place_at w u) t l false (singles w steady u) h in cc))
 
   -- nobody has been
   pub befalls_nobody : (b : State) (reply : Reply) → b.places ≡ w.places → carried_at (place_at w t) l ≡ None → Befalls w (put b t p2) t l reply
@@ -232,7 +232,7 @@ module _ (w : State) (t l : ℕ) (steady : IsSteady w) (own : lock_of (place_at 
   -- so the calls of the others are what its case makes of them
   pub wakes_own : (p : Place) (a : Act) (c : Option LockCase) → WakesOwn (carried_at (place_at w t) l) a c → Others w (put (state_after_act w t p a) t p2) t (event_by l c)
   wakes_own p (act.Leave keys (wakes.All x)) c (inl h) = subst (λ y. Others w (put (state_after_telling (state_with_sections w keys None) t (Woken x)) t p2) t (event_by l y)) (sym h.1.1)
-      (wakes_others w (put (state_after_telling (state_with_sections w keys None) t (Woken x)) t p2) t l (subst (λ y. Befalls w (put (state_after_telling (state_with_sections w keys None) t (Woken y)) t p2) t l (Woken note.Normal)) (sym h.1.0) (befalls (state_with_sections w keys None) (Woken note.Normal) (sections_stay w keys None) h.0)))
+      (wakes_others w (put (state_after_telling (state_with_sections w keys None) t (Woken x)) t p2) t l (singles w steady) (subst (λ y. Befalls w (put (state_after_telling (state_with_sections w keys None) t (Woken y)) t p2) t l (Woken note.Normal)) (sym h.1.0) (befalls (state_with_sections w keys None) (Woken note.Normal) (sections_stay w keys None) h.0)))
   wakes_own p (act.Leave keys (wakes.All x)) c (inr h) = calm w t p2 (put (state_after_telling (state_with_sections w keys None) t (Woken x)) t p2) l c h.1.1
       (λ u ne r. subst (λ y. call_state (place_at (put (state_after_telling (state_with_sections w keys None) t (Woken y)) t p2) u) r ≡ call_state (place_at w u) r) (sym h.1.0) (tells_handed (state_with_sections w keys None) (sections_stay w keys None) h.0 u ne r))
   wakes_own p (act.Requeue from to how) c h = absurd h

@@ -29,7 +29,7 @@ use Rattle.abstract_locks.specs.Sites.{Line}
 use Rattle.lot_laws.specs.SitesOf.{AreCounted, IsSteady, key_of}
 use Rattle.lot_machine.proofs.Shape.{both, performed_counts}
 use Rattle.lot_laws.proofs.TurnsKept.{idle_is, after_steady}
-use Rattle.lot_laws.proofs.Glue.{IsLock, next_of, calls_none}
+use Rattle.lot_laws.proofs.Glue.{IsLock, next_of, calls_none, singles, of_lock_of, of_own}
 use Rattle.lot_laws.proofs.Looking.{looking_steady, calls_same}
 use Rattle.lot_laws.proofs.CallEvents.{rights as rights_at}
 use Rattle.lot_acts.specs.Profiles.{Profile}
@@ -39,12 +39,13 @@ use Rattle.abstract_locks.specs.Purposes.{lock_for}
 use Rattle.lot_laws.proofs.RowPromises.{RowFinds, RowLooks, releases_for, downgrades_for}
 use Rattle.lot_laws.proofs.PlacePromises.{LetsBy, row_promises, owing_is, owes_own, owed_own, inside_own, call_own, lets_in, lets_out}
 use Rattle.lot_laws.proofs.LineActs.{late_line}
-use Rattle.lot_laws.proofs.PlaceSteps.{owes_befallen, owes_next, first_owes, late_next}
+use Rattle.lot_laws.proofs.PlaceSteps.{owed_by, owed_is, owes_befallen, owes_next, first_owes, late_next}
 
 -- ---------------------------------------------------------------- the other threads
 
-others_owe : (w : State) (s : Step) (u k : ℕ) → u ≢ s.thread → line_owed (place_at (after w s) u) k ≡ line_owed (place_at w u) k
-others_owe w s u k ne = others_keep_it (λ p. line_owed p k) (λ p r b. owes_befallen p r b k) w s u ne
+others_owe : (w : State) (s : Step) → IsSteady w → IsSteady (after w s) → (u k : ℕ) → u ≢ s.thread → line_owed (place_at (after w s) u) k ≡ line_owed (place_at w u) k
+others_owe w s steady behind u k ne = owed_is (place_at (after w s) u) k (singles (after w s) behind u)
+    ∙ others_keep_it (λ p. owed_by p k) (λ p r b. owes_befallen p r b k) w s u ne ∙ sym (owed_is (place_at w u) k (singles w steady u))
 
 -- ---------------------------------------------------------------- the thread of the step
 
@@ -103,10 +104,10 @@ module _ (w v : State) (t : ℕ) (steady : IsSteady w) (behind : IsSteady v) whe
     inside_then i = (owing_is v t behind l m).1 (inl i)
 
     within_then : Owes v t l m → (profile q).doing.inside ≡ Some m → IsInside v t l m
-    within_then h i = let own = owes_own (place_at v t) l m h in (inside_own v t behind l own m).0 (ap (λ p. (profile p).doing.inside) at_q ∙ i)
+    within_then h i = let own = owes_own (place_at v t) l m (singles v behind t) h in (inside_own v t behind l own m).0 (ap (λ p. (profile p).doing.inside) at_q ∙ i)
 
     row_then : Owes v t l m → (profile q).owes ≡ Some m
-    row_then h = ap (λ p. (profile p).owes) (sym at_q) ∙ sym (owed_own (place_at v t) l (owes_own (place_at v t) l m h)) ∙ h
+    row_then h = ap (λ p. (profile p).owes) (sym at_q) ∙ sym (owed_own (place_at v t) l (owes_own (place_at v t) l m (singles v behind t) h) (singles v behind t)) ∙ h
 
   -- it goes on by the reply to its act
   go_owes : place_at v t ≡ next_place (place_at w t) (go_reply w t) → (l : ℕ) (m : Line) → Owes v t l m ↔ (IsInside v t l m ⊎ SeesWaiters w t l m (go_outcome w t) v)
@@ -120,12 +121,12 @@ module _ (w v : State) (t : ℕ) (steady : IsSteady w) (behind : IsSteady v) whe
 
       own_before : lock_of q ≡ Some l → (x : Option ℕ) → lock_of (place_at w t) ≡ x → x ≡ Some l
       own_before own None e = absurd (let f : lock_of q ≡ None = ap (λ p. lock_of (next_place p (go_reply w t))) (calls_none (place_at w t) e) in let g : ◌≡◌ {A = Option ℕ} None (Some l) = sym f ∙ own in cc)
-      own_before own (Some k) e = ap Some (sym (subst (IsLock k) own (next_of k (place_at w t) (go_reply w t) (subst (IsLock k) (sym e) refl))))
+      own_before own (Some k) e = ap Some (sym (subst (IsLock k) own (of_lock_of k q (next_of k (place_at w t) (go_reply w t) (of_own k (place_at w t) (singles w steady t) e)))))
 
       -- who owes a wake that is outside goes in
       since : Owes v t l m → IsInside v t l m ⊎ SeesWaiters w t l m o v
       since h =
-          let own = own_before (ap lock_of (sym at_q) ∙ owes_own (place_at v t) l m h) (lock_of (place_at w t)) refl in
+          let own = own_before (ap lock_of (sym at_q) ∙ owes_own (place_at v t) l m (singles v behind t) h) (lock_of (place_at w t)) refl in
           elim ((owing_is v t behind l m).0 h) [
             | inl i ↦ inl i
             | inr g ↦ elim ((owes_next w t l steady own).since m (row_then q at_q l m o h)) [
@@ -138,10 +139,10 @@ module _ (w v : State) (t : ℕ) (steady : IsSteady w) (behind : IsSteady v) whe
       saw s =
           let own = lets_own w t l steady s.0 in
           let owes = (owes_next w t l steady own).sees m (sees_row l m o own s) s.3 (λ looks. ap act_of (sym at_q) ∙ s.4 (looks_then own (lock_of q) refl looks)) in
-          owed_own (place_at v t) l (ap lock_of at_q ∙ still (lock_of q) refl owes own) ∙ ap (λ p. (profile p).owes) at_q ∙ owes
+          owed_own (place_at v t) l (ap lock_of at_q ∙ still (lock_of q) refl owes own) (singles v behind t) ∙ ap (λ p. (profile p).owes) at_q ∙ owes
         where
           same_lock : (j : ℕ) → lock_of q ≡ Some j → lock_of (place_at w t) ≡ Some l → j ≡ l
-          same_lock j e own = subst (IsLock l) e (next_of l (place_at w t) (go_reply w t) (subst (IsLock l) (sym own) refl))
+          same_lock j e own = subst (IsLock l) e (of_lock_of l q (next_of l (place_at w t) (go_reply w t) (of_own l (place_at w t) (singles w steady t) own)))
 
           still : (x : Option ℕ) → lock_of q ≡ x → (profile q).owes ≡ Some m → lock_of (place_at w t) ≡ Some l → x ≡ Some l
           still None e owes own = absurd (let f : ◌≡◌ {A = Option Line} None (Some m) = sym (ap (λ p. (profile p).owes) (calls_none q e)) ∙ owes in cc)
@@ -175,9 +176,9 @@ module _ (w : State) (t : ℕ) (shape : IsShaped w) (steady : IsSteady w) (there
   late_owing : (o : Option ℕ) → late_key (place_at w t) ≡ o → is_free_under w o ≡ true → IsSteady (state_after_late_on w t o) → (l : ℕ) (m : Line) (told : Outcome) → Owes (state_after_late_on w t o) t l m ↔ (IsInside (state_after_late_on w t o) t l m ⊎ SeesWaiters w t l m told (state_after_late_on w t o))
   late_owing None e can behind = absurd cc
   late_owing (Some key) e can behind =
-      let of = late_line (place_at w t) key e in
+      let of = late_line (place_at w t) key (singles w steady t) e in
       let n : Line = of.2.0 in
-      let after = late_next (place_at w t) n of.2.1 in
+      let after = late_next (place_at w t) n (singles w steady t) of.2.1 in
       quiet_owes w (state_after_late_on w t (Some key)) t steady behind (next_place (place_at w t) Late) (get_or-set_same w.places t (next_place (place_at w t) Late) Idle there)
       (λ m h. after.inside ∙ sym after.owes ∙ h)
       (λ l lets. let own = lets_own w t l steady lets in ((row_promises w t steady l own).late n of.2.1).shut (lets_in w t steady l own lets))
@@ -212,7 +213,7 @@ module _ (w : State) (t : ℕ) (shape : IsShaped w) (steady : IsSteady w) (there
 pub owes_since : (w : State) (s : Step) → IsShaped w → IsSteady w → AreCounted w → OwesSince w s.thread (step_outcome w s) (after w s)
 owes_since w s shape steady counted = record {
   own = own (is_possible w s) refl (after_steady w s shape steady counted);
-  others = λ u l ne. others_owe w s u l ne;
+  others = λ u l ne. others_owe w s steady (after_steady w s shape steady counted) u l ne;
 }
   where
     own : (b : Bool) → is_possible w s ≡ b → IsSteady (if b then state_after_turn w s.thread s.turn else w) → (l : ℕ) (m : Line) → (if b then turn_outcome w s.thread s.turn else outcome.TheVariants.NotNow) ≢ outcome.TheVariants.NotNow

@@ -36,6 +36,9 @@ abbrev pub AllUnder : ℕ → List Waiter → Type 0
 AllUnder key [] = Unit {0}
 AllUnder key (x ∷ xs) = (x.key ≡ key) × AllUnder key xs
 
+only_member : (x : Waiter) (u : ℕ) → member u (x ∷ []) ≡ true → x.thread ≡ u
+only_member x u h = grind (arith, nat_tests)
+
 line_all : (key : ℕ) (xs : List Waiter) → AllUnder key xs → line key xs ≡ xs
 line_all key [] h = refl
 line_all key (x ∷ xs) h = grind (arith, nat_tests, line_all key xs h.1)
@@ -182,10 +185,10 @@ module _ (w : State) (t l : ℕ) (steady : IsSteady w) (own : IsOf l (place_at w
         v = put (state_after_reply (record w { queues = queues_without_first w.queues (2 * l + 1) }) x.thread (TakenBy t)) t p2
 
         same_one : member x.thread (x ∷ []) ≡ true
-        same_one = grind (arith, nat_tests)
+        same_one = rw (same x.thread) refl
 
         one_sleeps : (u : ℕ) (b : Bool) → (x.thread == u) ≡ b → member u (x ∷ []) ≡ true → IsTakenFrom w t l Second (place_at w u)
-        one_sleeps u b e h = let f : x.thread ≡ u = grind (arith, nat_tests) in subst (λ j. IsTakenFrom w t l Second (place_at w j)) f sleeps
+        one_sleeps u b e h = subst (λ j. IsTakenFrom w t l Second (place_at w j)) (only_member x u h) sleeps
 
         threads : length v.places ≡ length w.places
         threads = length-set (places_told (TakenBy t) (threads_of (x ∷ [])) w.places) t p2 ∙ told_count (TakenBy t) (threads_of (x ∷ [])) w.places

@@ -1,5 +1,5 @@
 -- What is promised of a thread at any place of a call, by its row, and what that says of the state.
-use Rattle.std.proofs.Common.{ℕ, Bool, true, false, Option, Some, None, if◌then◌else◌, ◌≡◌, ◌≢◌, ◌*◌, ◌+◌, ◌≤◌, ◌⊎◌, ◌↔◌, inl, inr, refl, sym, ◌∙◌, ap, subst, arith}
+use Rattle.std.proofs.Common.{ℕ, Bool, true, false, Option, Some, None, if◌then◌else◌, ◌≡◌, ◌≢◌, ◌*◌, ◌+◌, ◌≤◌, ◌⊎◌, ◌↔◌, inl, inr, refl, sym, ◌∙◌, ap, subst, arith, ◌&&◌, not}
 use Rattle.lot_laws.proofs.OnceRows.{once_promises}
 use Rattle.lot_base.specs.declared.keys.Keys.TheVariants.{One}
 use Rattle.lot_base.specs.Lines.{first_of}
@@ -8,7 +8,7 @@ use Rattle.lot_acts.specs.declared.acts.Act.TheVariants.{Enter, Rest}
 use Rattle.lot_acts.specs.Profiles.{taken_from}
 use Rattle.lot_steps.specs.declared.places.Place.{Place}
 use Rattle.lot_steps.specs.declared.places.Place.TheVariants.{Idle, Mutex, RwLock, Once, Condvar}
-use Rattle.lot_steps.specs.Steps.{act_of, lock_of, is_lock, calls, profile, line_owed}
+use Rattle.lot_steps.specs.Steps.{act_of, lock_of, is_lock, calls, profile, line_owed, beside_of, profile_beside}
 use Rattle.abstract_locks.specs.Locks.{Taken, IsSomePending, one_if_some, is_thread, standing}
 use Rattle.abstract_locks.specs.Locks as locks
 use Rattle.abstract_locks.specs.Runs.{CallState}
@@ -17,12 +17,12 @@ use Rattle.std.proofs.lemmas.Bool.{cases_eq}
 use Rattle.abstract_locks.specs.Sites.{Doing, Line, Main, Second, Pends, idle, has_readers}
 use Rattle.lot_machine.specs.Machine.{State, place_at, kind_at, queue_at}
 use Rattle.lot_laws.specs.Refinement.{lock_state, call_on, call_at, taken_at}
-use Rattle.lot_laws.specs.Stations.{Station, nowhere, station, station_at, doing_on}
+use Rattle.lot_laws.specs.Stations.{Station, nowhere, station, station_at, doing_on, station_by}
 use Rattle.lot_laws.specs.SitesOf.{IsSteady, FitsItsLock, key_of, stood_in, rules_in}
 use Rattle.lot_laws.specs.Owing.{Owes, IsInside, LetsOthersIn, IsDowngrade, sort_at}
 use Rattle.lot_laws.specs.Promises.{GoesToWake, WakesAside}
 use Rattle.lot_laws.proofs.Counts.{none_first}
-use Rattle.lot_laws.proofs.Glue.{same, differ, taken_out, calls_none, inside_is}
+use Rattle.lot_laws.proofs.Glue.{same, differ, taken_out, calls_none, inside_is, IsSingle, single_station, single_doing, single_taken, single_owes, singles}
 use Rattle.lot_laws.proofs.MutexTable.{queued_times}
 use Rattle.lot_laws.proofs.StandsMoved.{mutex_rules}
 use Rattle.lot_laws.proofs.LineActs.{IsOfLine, IsLineAct, line_act}
@@ -48,40 +48,45 @@ called p l own = ap (is_lock l) own ∙ same l
 
 module _ (p : Place) (l : ℕ) (own : lock_of p ≡ Some l) where
   pub station_own : station_at p l ≡ station p
-  station_own = ap (λ b. if b then station p else nowhere) (called p l own)
+  station_own = ap (λ b. if b then station p else if is_lock l (beside_of p) then station_by (profile_beside p) else nowhere) (called p l own)
 
   pub doing_own : doing_on p l ≡ (profile p).doing
-  doing_own = ap (λ b. if b then (profile p).doing else idle) (called p l own)
+  doing_own = ap (λ b. if b then (profile p).doing else if is_lock l (beside_of p) then (profile_beside p).doing else idle) (called p l own)
 
   pub taken_own : taken_at p l ≡ taken_of (profile p)
-  taken_own = ap (taken_from (profile p).hand (profile p).wants) (called p l own)
+  taken_own = here (is_lock l (beside_of p)) (calls p l) (called p l own)
+    where
+      here : (b c : Bool) → c ≡ true → (if b && not c then taken_from (profile_beside p).hand (profile_beside p).wants true else taken_from (profile p).hand (profile p).wants c) ≡ taken_from (profile p).hand (profile p).wants true
+      here true true e = refl
+      here false true e = refl
+      here b false e = absurd cc
 
-  pub owed_own : line_owed p l ≡ (profile p).owes
-  owed_own = ap (λ b. if b then (profile p).owes else None) (called p l own)
+  pub owed_own : IsSingle p → line_owed p l ≡ (profile p).owes
+  owed_own single = single_owes p l single ∙ ap (λ b. if b then (profile p).owes else None) (called p l own)
 
 -- of a lock that it doesn't call nothing is said
-module _ (p : Place) (l : ℕ) (other : calls p l ≡ false) where
+module _ (p : Place) (l : ℕ) (single : IsSingle p) (other : calls p l ≡ false) where
   station_other : station_at p l ≡ nowhere
-  station_other = ap (λ b. if b then station p else nowhere) other
+  station_other = single_station p l single ∙ ap (λ b. if b then station p else nowhere) other
 
   taken_other : taken_at p l ≡ None
-  taken_other = ap (taken_from (profile p).hand (profile p).wants) other ∙ taken_out (profile p).hand (profile p).wants
+  taken_other = single_taken p l single ∙ ap (taken_from (profile p).hand (profile p).wants) other ∙ taken_out (profile p).hand (profile p).wants
 
 -- who does something about a lock, stands at it or owes on it, calls it
-pub owes_own : (p : Place) (l : ℕ) (m : Line) → line_owed p l ≡ Some m → lock_of p ≡ Some l
-owes_own p l m h = elim (calls_one p l) [
+pub owes_own : (p : Place) (l : ℕ) (m : Line) → IsSingle p → line_owed p l ≡ Some m → lock_of p ≡ Some l
+owes_own p l m single h = elim (calls_one p l) [
   | inl own ↦ own
-  | inr other ↦ absurd (let e : None ≡ Some m = sym (ap (λ b. if b then (profile p).owes else None) other) ∙ h in cc)
+  | inr other ↦ absurd (let e : None ≡ Some m = sym (single_owes p l single ∙ ap (λ b. if b then (profile p).owes else None) other) ∙ h in cc)
 ]
 
-pub doing_calls : (p : Place) (l : ℕ) → (doing_on p l ≡ idle → ⊥) → lock_of p ≡ Some l
-doing_calls p l busy = elim (calls_one p l) [
+pub doing_calls : (p : Place) (l : ℕ) → IsSingle p → (doing_on p l ≡ idle → ⊥) → lock_of p ≡ Some l
+doing_calls p l single busy = elim (calls_one p l) [
   | inl own ↦ own
-  | inr other ↦ absurd (busy (ap (λ b. if b then (profile p).doing else idle) other))
+  | inr other ↦ absurd (busy (single_doing p l single ∙ ap (λ b. if b then (profile p).doing else idle) other))
 ]
 
-pub station_calls : (p : Place) (l : ℕ) → (station_at p l ≡ nowhere → ⊥) → lock_of p ≡ Some l
-station_calls p l busy = elim (calls_one p l) [ inl own ↦ own | inr other ↦ absurd (busy (station_other p l other)) ]
+pub station_calls : (p : Place) (l : ℕ) → IsSingle p → (station_at p l ≡ nowhere → ⊥) → lock_of p ≡ Some l
+station_calls p l single busy = elim (calls_one p l) [ inl own ↦ own | inr other ↦ absurd (busy (station_other p l single other)) ]
 
 -- a key is of one lock
 key_one : (l k : ℕ) (m n : Line) → key_of l m ≡ key_of k n → l ≡ k
@@ -129,7 +134,7 @@ module _ (w : State) (t : ℕ) (steady : IsSteady w) where
     in_second stands = by_first (first_of (queue_at w (2 * l + 1))) refl
       where
         own : lock_of (place_at w t) ≡ Some l
-        own = station_calls (place_at w t) l (λ out. let e : ◌≡◌ {A = Option Line} None (Some Second) = sym (ap (λ (x : Station). x.stands) out) ∙ stands in cc)
+        own = station_calls (place_at w t) l (singles w steady t) (λ out. let e : ◌≡◌ {A = Option Line} None (Some Second) = sym (ap (λ (x : Station). x.stands) out) ∙ stands in cc)
 
         pending : (b : Bool) × ((lock_state w l).pending ≡ Some (record { thread = t; falls_back = b }))
         pending =
@@ -169,8 +174,8 @@ module _ (w : State) (t : ℕ) (steady : IsSteady w) where
     stands_waiting some = elim (calls_one (place_at w t) l) [
       | inl own ↦ (own, by_row own (profile (place_at w t)).stands refl (taken_of (profile (place_at w t))) refl)
       | inr other ↦ absurd (
-          let a : (station_at (place_at w t) l).stands ≡ None = ap (λ (x : Station). x.stands) (station_other (place_at w t) l other) in
-          let b : taken_at (place_at w t) l ≡ None = taken_other (place_at w t) l other in
+          let a : (station_at (place_at w t) l).stands ≡ None = ap (λ (x : Station). x.stands) (station_other (place_at w t) l (singles w steady t) other) in
+          let b : taken_at (place_at w t) l ≡ None = taken_other (place_at w t) l (singles w steady t) other in
           let n : standing t (lock_state w l) ≡ 0 = standing_by ∙ (λ i. stood_in (a i) Main + stood_in (a i) Second + one_if_some (b i)) in
           omega arith)
     ]
@@ -260,17 +265,17 @@ module _ (w : State) (t : ℕ) (steady : IsSteady w) where
   -- who owes a wake on a line is inside its section, or lets others in and is on its way into it
   pub owing_is : (l : ℕ) (m : Line) → Owes w t l m ↔ (IsInside w t l m ⊎ GoesToWake w t l m)
   owing_is l m = (
-    (λ h. let own = owes_own (place_at w t) l m h in
-        let row = (row_promises l own).owing.owes m (sym (owed_own (place_at w t) l own) ∙ h) in
+    (λ h. let own = owes_own (place_at w t) l m (singles w steady t) h in
+        let row = (row_promises l own).owing.owes m (sym (owed_own (place_at w t) l own (singles w steady t)) ∙ h) in
         elim row [ inl i ↦ inl ((inside_own l own m).0 i) | inr g ↦ inr (g.0, lets_out_at l own m g.1) ]),
     λ h. elim h [
-      | inl i ↦ (let own = inside_calls (lock_of (place_at w t)) refl i in owed_own (place_at w t) l own ∙ (row_promises l own).owing.inside m ((inside_own l own m).1 i))
-      | inr g ↦ (let own = entering_calls (lock_of (place_at w t)) refl g.0 in owed_own (place_at w t) l own ∙ (row_promises l own).owing.entering m g.0 (lets_in_at l own m g.1))
+      | inl i ↦ (let own = inside_calls (lock_of (place_at w t)) refl i in owed_own (place_at w t) l own (singles w steady t) ∙ (row_promises l own).owing.inside m ((inside_own l own m).1 i))
+      | inr g ↦ (let own = entering_calls (lock_of (place_at w t)) refl g.0 in owed_own (place_at w t) l own (singles w steady t) ∙ (row_promises l own).owing.entering m g.0 (lets_in_at l own m g.1))
     ],
   )
     where
       inside_calls : (o : Option ℕ) → lock_of (place_at w t) ≡ o → IsInside w t l m → lock_of (place_at w t) ≡ Some l
-      inside_calls o e i = doing_calls (place_at w t) l (λ idles. let f : (station_at (place_at w t) l).inside ≡ Some m = (steady.stands.sections t l m).1 i in
+      inside_calls o e i = doing_calls (place_at w t) l (singles w steady t) (λ idles. let f : (station_at (place_at w t) l).inside ≡ Some m = (steady.stands.sections t l m).1 i in
           let g : ◌≡◌ {A = Option Line} None (Some m) = sym (ap (λ (d : Doing). d.inside) idles) ∙ inside_is (place_at w t) l ∙ f in cc)
 
       entering_calls : (o : Option ℕ) → lock_of (place_at w t) ≡ o → act_of (place_at w t) ≡ Enter (One (key_of l m)) → lock_of (place_at w t) ≡ Some l

@@ -8,19 +8,23 @@ use Rattle.lot_acts.specs.declared.acts.Reply.TheVariants.{Late}
 use Rattle.lot_laws.proofs.OnceOwing.{once_befallen, once_never_late}
 use Rattle.lot_condvar.specs.declared.places.CondvarPlace.{CondvarPlace}
 use Rattle.lot_condvar.specs.CondvarSteps.{condvar_next}
+use Rattle.lot_mutex.specs.MutexSteps.{mutex_next}
+use Rattle.lot_mutex.specs.declared.places.MutexPlace.{MutexPlace}
+use Rattle.lot_once.specs.declared.places.OncePlace.{OncePlace}
+use Rattle.lot_once.specs.OnceSteps.{once_next}
 use Rattle.lot_steps.specs.declared.places.Place.{Place}
 use Rattle.lot_steps.specs.declared.places.Place.TheVariants.{Idle, Mutex, RwLock, Once, Condvar}
 use Rattle.lot_acts.specs.Acts.{outcome_of}
 use Rattle.lot_calls.specs.declared.kinds.Kind.{Kind}
 use Rattle.lot_calls.specs.Kinds.{is_fair}
-use Rattle.lot_steps.specs.Steps.{act_of, next_act, next_place, first_place, lock_of, line_owed, profile, rwlock_does, rwlock_goes, condvar_goes}
+use Rattle.lot_steps.specs.Steps.{act_of, next_act, next_place, first_place, lock_of, line_owed, profile, rwlock_does, rwlock_goes, condvar_goes, mutex_goes, once_goes}
 use Rattle.lot_machine.specs.Machine.{State, place_at, word_at, kind_at, reply_to}
 use Rattle.abstract_locks.specs.Locks as locks
 use Rattle.lot_laws.specs.Owing.{sort_at}
 use Rattle.lot_base.specs.declared.wants.Want.TheVariants.{Exclusive}
 use Rattle.abstract_locks.specs.Sites.{Has, Line, has_readers, idle}
 use Rattle.lot_laws.specs.Stations.{doing_on}
-use Rattle.lot_laws.proofs.Glue.{same}
+use Rattle.lot_laws.proofs.Glue.{same, IsSingle}
 use Rattle.lot_laws.specs.SitesOf.{IsSteady, FitsItsLock, rules_in, site_of}
 use Rattle.lot_laws.proofs.RowPromises.{Befalls, RowOwesThen, IsLateNext, owes_then, mutex_tells}
 use Rattle.lot_laws.proofs.MutexOwing.{mutex_befallen, mutex_owes_next, mutex_first_owes, mutex_late}
@@ -46,21 +50,41 @@ use Rattle.lot_laws.proofs.PlainCalls.{never_given, plain_acts, plain_leads}
 
 -- ---------------------------------------------------------------- each place
 
+-- on which line a thread in a call of one lock owes a wake
+abbrev pub owed_by : Place → ℕ → Option Line
+owed_by (Condvar l at) k = None
+owed_by p k = line_owed p k
+
+pub owed_is : (p : Place) (k : ℕ) → IsSingle p → line_owed p k ≡ owed_by p k
+owed_is Idle k single = refl
+owed_is (Mutex l at) k single = refl
+owed_is (RwLock l a c) k single = refl
+owed_is (Once l at) k single = refl
+owed_is (Condvar l at) k single = absurd single
+
+mutex_owed : (l k : ℕ) (n : Next MutexPlace) → owed_by (mutex_goes l n) k ≡ line_owed (mutex_goes l n) k
+mutex_owed l k (next.At at) = refl
+mutex_owed l k (next.End answer) = refl
+
+call_owed : (l k : ℕ) (a : Admission) (n : Next RwLockCallPlace) → owed_by (rwlock_goes l a n) k ≡ line_owed (rwlock_goes l a n) k
+call_owed l k a (next.At at) = refl
+call_owed l k a (next.End answer) = refl
+
+once_owed : (l k : ℕ) (n : Next OncePlace) → owed_by (once_goes l n) k ≡ line_owed (once_goes l n) k
+once_owed l k (next.At at) = refl
+once_owed l k (next.End answer) = refl
+
 -- whatever befalls a thread, it owes what it owed
-pub owes_befallen : (p : Place) (r : Reply) → Befalls r → (k : ℕ) → line_owed (next_place p r) k ≡ line_owed p k
+pub owes_befallen : (p : Place) (r : Reply) → Befalls r → (k : ℕ) → owed_by (next_place p r) k ≡ owed_by p k
 owes_befallen Idle r b k = refl
-owes_befallen (Mutex l at) r b k = mutex_befallen l at r b k
-owes_befallen (RwLock l a c) r b k = rwlock_befallen l a r k c b
-owes_befallen (Once l at) r b k = once_befallen l at r b k
+owes_befallen (Mutex l at) r b k = mutex_owed l k (mutex_next at r) ∙ mutex_befallen l at r b k
+owes_befallen (RwLock l a c) r b k = call_owed l k a (call_next a c r) ∙ rwlock_befallen l a r k c b
+owes_befallen (Once l at) r b k = once_owed l k (once_next at r) ∙ once_befallen l at r b k
 owes_befallen (Condvar l at) r b k = by_next (condvar_next at r)
   where
-    nothing : (b : Bool) → ◌≡◌ {A = Option Line} None (if b then None else None)
-    nothing true = refl
-    nothing false = refl
-
-    by_next : (n : Next CondvarPlace) → line_owed (condvar_goes l n) k ≡ line_owed (Condvar l at) k
+    by_next : (n : Next CondvarPlace) → owed_by (condvar_goes l n) k ≡ None
     by_next (next.At q) = refl
-    by_next (next.End answer) = nothing (l == k)
+    by_next (next.End answer) = refl
 
 -- at a lock by its number and rules
 abbrev OwesAt : State → ℕ → locks.Sort → ℕ → Place → Type 0
@@ -120,9 +144,9 @@ first_owes k (call.TheVariants.Mutex m c) = mutex_first_owes (is_fair k) c
 first_owes k (call.TheVariants.RwLock m c) = rwlock_first_owes (admission_of k) c
 first_owes k (call.TheVariants.Once m c) = refl
 
-pub late_next : (p : Place) (m : Line) → (profile p).late_line ≡ Some m → IsLateNext (next_place p Late) m
-late_next Idle m h = absurd cc
-late_next (Mutex l at) m h = mutex_late l at m h
-late_next (RwLock l a at) m h = rwlock_late l a at m h
-late_next (Condvar l at) m h = absurd cc
-late_next (Once l at) m h = absurd (once_never_late at m h)
+pub late_next : (p : Place) (m : Line) → IsSingle p → (profile p).late_line ≡ Some m → IsLateNext (next_place p Late) m
+late_next Idle m single h = absurd cc
+late_next (Mutex l at) m single h = mutex_late l at m h
+late_next (RwLock l a at) m single h = rwlock_late l a at m h
+late_next (Condvar l at) m single h = absurd single
+late_next (Once l at) m single h = absurd (once_never_late at m h)

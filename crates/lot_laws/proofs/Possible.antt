@@ -47,7 +47,7 @@ use Rattle.abstract_locks.specs.Sites.{Main, Line, Second}
 use Rattle.lot_laws.specs.Stations.{station, station_at, Station}
 use Rattle.lot_laws.specs.SitesOf.{IsSteady, stood_in, key_of}
 use Rattle.lot_laws.specs.Refinement.{lock_state, locks_of, call_state, sleeps, runs_closure, keys_entered, call_on}
-use Rattle.lot_laws.proofs.Glue.{calls_none}
+use Rattle.lot_laws.proofs.Glue.{calls_none, singles, single_late, fits_one}
 use Rattle.lot_laws.proofs.LineActs.{IsOfLine, IsLineAct, line_act, holds_line, key_there, late_line, calls_there}
 use Rattle.lot_laws.proofs.GoneKept.{none_is}
 use Rattle.lot_machine.specs.Machine.{runs_closure}
@@ -147,7 +147,7 @@ module _ (w : State) (t : ℕ) (steady : IsSteady w) where
   late_there : (o : Option ℕ) → late_key (place_at w t) ≡ o → is_free_under w o ≡ true → MayBeLate (locks_of w) t
   late_there None e can = absurd cc
   late_there (Some key) e can =
-      let of = late_line (place_at w t) key e in
+      let of = late_line (place_at w t) key (singles w steady t) e in
       let row = (row_promises w t steady of.0 of.1).late of.2.0 of.2.1 in
       record {
         lock = of.0;
@@ -162,11 +162,11 @@ module _ (w : State) (t : ℕ) (steady : IsSteady w) where
   pub late_possible : MayBeLate (locks_of w) t → is_free_under w (late_key (place_at w t)) ≡ true
   late_possible may =
       let stood = stands_free may.lock may.stands in
-      let own = station_calls (place_at w t) may.lock (λ out. let e : ◌≡◌ {A = Option Line} None (Some stood.0) = sym (ap (λ (x : Station). x.stands) out) ∙ stood.1 in cc) in
+      let own = station_calls (place_at w t) may.lock (singles w steady t) (λ out. let e : ◌≡◌ {A = Option Line} None (Some stood.0) = sym (ap (λ (x : Station). x.stands) out) ∙ stood.1 in cc) in
       let stands : (profile (place_at w t)).stands ≡ Some stood.0 = sym (ap (λ (x : Station). x.stands) (station_own (place_at w t) may.lock own)) ∙ stood.1 in
       let timed : IsTimed (Some ((profile (place_at w t)).purpose may.lock)) may.lock = subst (λ (c : CallState). IsTimed c.purpose may.lock) (call_own w t steady may.lock own) may.timed in
       let row : (profile (place_at w t)).late_line ≡ Some stood.0 = (row_promises w t steady may.lock own).may_be_late stood.0 stands (sleeps_is (act_of (place_at w t)) may.asleep) timed in
-      ap (is_free_under w) (λ i. key_in (own i) (row i)) ∙ stood.2
+      ap (is_free_under w) (single_late (place_at w t) (singles w steady t) ∙ (λ i. key_in (own i) (row i))) ∙ stood.2
 
 -- ---------------------------------------------------------------- what a thread is told
 
@@ -363,11 +363,11 @@ gone_sections w t shape steady can = by_lock (lock_of (place_at w t)) refl
 -- ---------------------------------------------------------------- the other turns
 
 module _ (w : State) (t : ℕ) (there : t < length w.places) where
-  pub late_awake : (o : Option ℕ) → late_key (place_at w t) ≡ o → is_free_under w o ≡ true → sleeps (act_of (place_at (state_after_late_on w t o) t)) ≡ false
-  late_awake None e can = absurd cc
-  late_awake (Some key) e can =
-      let of = late_line (place_at w t) key e in
-      ap (λ p. sleeps (act_of p)) (get_or-set_same w.places t (next_place (place_at w t) Late) Idle there) ∙ awake_is (act_of (next_place (place_at w t) Late)) (late_next (place_at w t) of.2.0 of.2.1).awake
+  pub late_awake : IsSteady w → (o : Option ℕ) → late_key (place_at w t) ≡ o → is_free_under w o ≡ true → sleeps (act_of (place_at (state_after_late_on w t o) t)) ≡ false
+  late_awake steady None e can = absurd cc
+  late_awake steady (Some key) e can =
+      let of = late_line (place_at w t) key (singles w steady t) e in
+      ap (λ p. sleeps (act_of p)) (get_or-set_same w.places t (next_place (place_at w t) Late) Idle there) ∙ awake_is (act_of (next_place (place_at w t) Late)) (late_next (place_at w t) of.2.0 (singles w steady t) of.2.1).awake
 
 module _ (w : State) (t : ℕ) (shape : IsShaped w) where
   -- who is late enters the section of the line in which it sleeps
@@ -376,5 +376,5 @@ module _ (w : State) (t : ℕ) (shape : IsShaped w) where
     where
       by_key : (o : Option ℕ) → late_key p ≡ o → is_free_under w o ≡ true → (key : ℕ) → SectionChanges (section_at w key) t (section_at (state_after_late_on w t o) key)
       by_key None e can key = absurd cc
-      by_key (Some k) e can key = let of = late_line p k e in
+      by_key (Some k) e can key = let of = late_line p k (fits_one (length w.locks) p fits) e in
           filled_changes w t k (Some t) (subst (λ j. j < length w.sections) (sym of.2.2) (key_there w of.0 of.2.0 shape (calls_there (length w.locks) p of.0 of.1 fits))) (inr (inl (none_is (section_at w k) can, refl))) key

@@ -7,6 +7,8 @@ use Rattle.lot_acts.specs.Profiles.{Profile, hand, hand_owner}
 use Rattle.lot_calls.specs.declared.kinds.Kind.{Kind}
 use Rattle.lot_calls.specs.declared.kinds.Kind as kinds
 use Rattle.lot_calls.specs.declared.calls.Step.{Step}
+use Rattle.lot_steps.specs.declared.places.Place.{Place}
+use Rattle.lot_steps.specs.declared.places.Place.TheVariants.{Idle, Mutex, RwLock, Once, Condvar}
 use Rattle.lot_steps.specs.Steps.{act_of, is_lock, lock_of, profile, retries_on}
 use Rattle.lot_machine.specs.Machine.{State, opening, place_at, after, kind_at, filled_at}
 use Rattle.lot_machine.specs.Fits.{IsShaped}
@@ -21,13 +23,13 @@ use Rattle.abstract_locks.specs.Codes.{HasLimit}
 use Rattle.abstract_locks.specs.Purposes.{Enters, Converts, Bumps, CallsOnce, Awaits, Purpose, MayWait, rules_of}
 use Rattle.lot_laws.specs.Refinement.{RunsClosure, locks_of, lock_state, lock_seen, taken_at, call_at, call_on, call_state, stance_of}
 use Rattle.lot_laws.specs.Owing.{Owes, sort_at}
-use Rattle.lot_laws.specs.Promises.{IsKept, KnowsRights, WaitsFor, WakesWaiters, IsDebtorOf, IsLookedAfter, IsOpenNow, WasNeverFull, HasOrPends, IsHandedOver, IsOwedWake, IsWithinLimit, want_of}
+use Rattle.lot_laws.specs.Promises.{IsKept, KnowsRights, WaitsFor, WakesWaiters, IsDebtorOf, IsLookedAfter, IsOpenNow, WasNeverFull, HasOrPends, IsHandedOver, IsOwedWake, IsWithinLimit, want_of, IsOfOne}
 use Rattle.lot_laws.proofs.Closures.{runs_one}
 use Rattle.lot_laws.proofs.TurnsKept.{after_steady}
 use Rattle.lot_laws.proofs.SitesPromise.{not_empty}
 use Rattle.lot_laws.proofs.RowPromises.{IsDebtorIn, HasClaimed, HasDebt, WasHanded, RowLooksAfter}
 use Rattle.lot_laws.proofs.PlacePromises.{row_promises, station_own, doing_own, owed_own, owes_own, doing_calls, station_calls, stands_waiting, waiting_stands, call_own, inside_own, owing_is}
-use Rattle.lot_laws.proofs.Glue.{same, calls_none}
+use Rattle.lot_laws.proofs.Glue.{same, calls_none, single_retries, singles, single_taker, IsSingle}
 use Rattle.lot_machine.proofs.Opening.{idle_at, none_at, empty_at, nobody_owns, opening_shares}
 use Rattle.std.proofs.lemmas.Bool.{cases_lt, eqb-true}
 
@@ -39,6 +41,13 @@ one_purpose (Some (Bumps j x)) l k h g = sym h ∙ g
 one_purpose (Some (CallsOnce j forced)) l k h g = sym h ∙ g
 one_purpose (Some (Awaits j forced)) l k h g = sym h ∙ g
 one_purpose o l k h g = absurd h
+
+one_of : (p : Place) → IsSingle p → IsOfOne p
+one_of Idle single = tt
+one_of (Mutex l at) single = tt
+one_of (RwLock l a at) single = tt
+one_of (Once l at) single = tt
+one_of (Condvar l at) single = absurd single
 
 -- who is shown to try again does
 retry_shown : (o : Option ℕ) (row : Profile) (r : ℕ → Rights) (l : ℕ) → ((row.retries && is_lock l o) ≡ true) ↔ ((call_on o row r).retries ≡ Some l)
@@ -101,12 +110,12 @@ module _ (w : State) (steady : IsSteady w) where
       by_lock (Some l) e = subst (λ (c : CallState). KnowsRights (sort_at w) c.purpose) (sym (call_own w t steady l e)) ((row_promises w t steady l e).known (sort_at w) refl)
 
   retrying : (t l : ℕ) → (retries_on (place_at w t) l ≡ true) ↔ ((call_at w t).retries ≡ Some l)
-  retrying t l = retry_shown (lock_of (place_at w t)) (profile (place_at w t)) (λ k. rights_of (lock_state w k) t) l
+  retrying t l = subst (λ b. (b ≡ true) ↔ ((call_at w t).retries ≡ Some l)) (sym (single_retries (place_at w t) l (singles w steady t))) (retry_shown (lock_of (place_at w t)) (profile (place_at w t)) (λ k. rights_of (lock_state w k) t) l)
 
   second_line : (t l : ℕ) → Owes w t l Second → has_readers (sort_at w l) ≡ true
   second_line t l h =
-      let own = owes_own (place_at w t) l Second h in
-      (row_promises w t steady l own).owing.second (sym (owed_own (place_at w t) l own) ∙ h)
+      let own = owes_own (place_at w t) l Second (singles w steady t) h in
+      (row_promises w t steady l own).owing.second (sym (owed_own (place_at w t) l own (singles w steady t)) ∙ h)
 
   limited : (l : ℕ) → has_readers (sort_at w l) ≡ true → IsWithinLimit (rules_in w l) (lock_state w l)
   limited l shared = within (rules_in w l) (lock_state w l) shared (steady.sites.limits l shared).1
@@ -116,16 +125,16 @@ module _ (w : State) (steady : IsSteady w) where
   -- who is to look after the waiters of a line does so
   module _ (t l : ℕ) (m : Line) (debtor : IsDebtorIn (sort_at w l) (doing_on (place_at w t) l) m) (unowned : (lock_state w l).exclusive ≢ Some t) where
     own : lock_of (place_at w t) ≡ Some l
-    own = doing_calls (place_at w t) l (λ idles. idle_owes (sort_at w l) m (subst (λ d. IsDebtorIn (sort_at w l) d m) idles debtor))
+    own = doing_calls (place_at w t) l (singles w steady t) (λ idles. idle_owes (sort_at w l) m (subst (λ d. IsDebtorIn (sort_at w l) d m) idles debtor))
 
     row : RowLooksAfter (sort_at w l) l (profile (place_at w t)) (act_of (place_at w t)) m
     row = (row_promises w t steady l own).debtor m (subst (λ d. IsDebtorIn (sort_at w l) d m) (doing_own (place_at w t) l own) debtor)
         (λ claims. unowned ((steady.sites.site l).held t (Has Exclusive) (ap (λ (d : Doing). d.claims) (doing_own (place_at w t) l own) ∙ claims)))
 
     debt_of : (n : Line) → HasDebt (sort_at w l) l (profile (place_at w t)) n → IsDebtorOf w t l n
-    debt_of Main (inl wakes) = inl (owed_own (place_at w t) l own ∙ wakes.0, subst (λ (c : CallState). WakesWaiters (sort_at w l) c.purpose c.gave_up l) (sym (call_own w t steady l own)) wakes.1)
+    debt_of Main (inl wakes) = inl (owed_own (place_at w t) l own (singles w steady t) ∙ wakes.0, subst (λ (c : CallState). WakesWaiters (sort_at w l) c.purpose c.gave_up l) (sym (call_own w t steady l own)) wakes.1)
     debt_of Main (inr again) = inr (ap (λ (c : CallState). c.retries) (call_own w t steady l own) ∙ ap (λ b. if b then Some l else None) again.0, ap (λ (c : CallState). counts_some (sort_at w l) (want_of c.purpose)) (call_own w t steady l own) ∙ again.1)
-    debt_of Second owes = owed_own (place_at w t) l own ∙ owes
+    debt_of Second owes = owed_own (place_at w t) l own (singles w steady t) ∙ owes
 
     stands_nowhere : (k : ℕ) → standing t (lock_state w k) ≡ 0
     stands_nowhere k = elim (cases_lt (standing t (lock_state w k)) 1) [
@@ -209,7 +218,7 @@ module _ (w : State) (steady : IsSteady w) where
     handed_at l own handed =
         let in_hand : (station_at (place_at w t) l).hand ≡ hand handed.by true = ap (λ (x : Station). x.hand) (station_own (place_at w t) l own) ∙ handed.in_hand in
         let carries = steady.stands.hands.taken handed.by t l true in_hand in
-        let by_own = station_calls (place_at w handed.by) l (λ out. let e : ◌≡◌ {A = Option Bool} None (Some true) = sym (ap (λ (x : Station). x.carries) out) ∙ carries in cc) in
+        let by_own = station_calls (place_at w handed.by) l (singles w steady handed.by) (λ out. let e : ◌≡◌ {A = Option Bool} None (Some true) = sym (ap (λ (x : Station). x.carries) out) ∙ carries in cc) in
         let told = (row_promises w handed.by steady l by_own).tells (sym (ap (λ (x : Station). x.carries) (station_own (place_at w handed.by) l by_own)) ∙ carries) in
         record {
           lock = l;
@@ -218,7 +227,7 @@ module _ (w : State) (steady : IsSteady w) where
           waited = subst (λ (c : CallState). MayWait c.purpose l × (want_of c.purpose ≡ Some handed.want)) (sym (call_own w t steady l own)) (handed.waited, handed.wants);
           owner = claimed_at l own handed.want handed.has;
           inside = (inside_own w handed.by steady l by_own Main).0 told.1;
-          in_hand = ap hand_owner handed.in_hand;
+          in_hand = single_taker (place_at w t) (singles w steady t) ∙ ap hand_owner handed.in_hand;
           wakes = told.0;
         }
 
@@ -234,6 +243,7 @@ module _ (w : State) (steady : IsSteady w) where
 
   pub kept : RunsInClosures w → IsKept w
   kept running = record {
+    of_one = λ t. one_of (place_at w t) (singles w steady t);
     state = λ l. (steady.sites.site l).state;
     one_place = λ t l k h g. one_purpose (call_at w t).purpose l k (waits t l h) (waits t k g);
     waiting = waits;

@@ -73,7 +73,7 @@ use Rattle.lot_laws.specs.Refinement.{taken_at}
 use Rattle.lot_laws.specs.MutexDeeds.{acts}
 use Rattle.lot_laws.specs.Stations.{station, doing_on}
 use Rattle.lot_laws.specs.SitesOf.{IsSteady, Goes, FitsItsLock, TakesOne, HasRoom, carried_at, hand_at, is_mutex, rules_in, key_of}
-use Rattle.lot_laws.proofs.Glue.{free_of, IsOf, next_of, parts_at, put_here, doing_here, station_here}
+use Rattle.lot_laws.proofs.Glue.{free_of, IsOf, next_of, parts_at, put_here, doing_here, station_here, of_single}
 use Rattle.lot_laws.proofs.HandsMoved.{accepts, tells_handed, told_hears}
 use Rattle.lot_laws.proofs.WakesKept.{IsWoken}
 use Rattle.lot_laws.proofs.StandsMoved.{mutex_rules}
@@ -475,7 +475,7 @@ module _ (w : State) (t l : ℕ) (a : Admission) (c : RwLockCallPlace) (steady :
           at_lock : k ≡ l → (call_profile b q).hand ≡ hand t true → IsWoken w t l true HandOff (RwLock k b q)
           at_lock same_lock g = let z = (handed_move b q fits_u.1).was_given t g in record {
             lets = record {
-              taken = free_of then_u l (ap (λ (y : Station). y.hand) (ap station_by then_row ∙ z.goes)) ∙ sym (ap (keep_from t) untaken);
+              taken = free_of then_u l (of_single l then_u (next_of l (RwLock k b q) (Woken HandOff) same_lock)) (ap (λ (y : Station). y.hand) (ap station_by then_row ∙ z.goes)) ∙ sym (ap (keep_from t) untaken);
               doing = doing_here l then_u (next_of l (RwLock k b q) (Woken HandOff) same_lock) ∙ ap (λ (y : Profile). y.doing) then_row ∙ z.doing ∙ sym (ap (λ o. wakened t o (doing_on (RwLock k b q) l)) untaken ∙ doing_here l (RwLock k b q) same_lock);
             };
             was = z.was;
@@ -612,7 +612,7 @@ module _ (w : State) (t l : ℕ) (c : RwLockCall) (steady : IsSteady w) (there :
   rwlock_begins = place_goes w t l steady (rw idle_now tt) there (rules_in w l) refl first refl (first_fits w l (admission_of (kind_at w l)) c (admits_by (kind_at w l) readers)) (Begin opens.opening.claims ∷ []) (λ h. tt)
       (steps_by (rules_in w l) l (parts_at w l) (parts_at w l) (place_at w) t first (Begin opens.opening.claims ∷ [])
       (opens.has t (shares_at w l) (owners_at w l) (queue_at w (2 * l)) (queue_at w (2 * l + 1)) (λ u. taken_at (place_at w u) l) right, tt) (tt, tt)
-      (free_now ∙ sym (free_of first l (ap (λ (y : Station). y.hand) opens.opening.station)))
+      (free_now ∙ sym (free_of first l tt (ap (λ (y : Station). y.hand) opens.opening.station)))
       refl refl refl refl
       (doing_here l first refl ∙ opens.opening.doing ∙ sym (put_here (λ u. doing_on (place_at w u) l) t (record (doing_on (place_at w t) l) { claims = opens.opening.claims }) ∙ ap (λ q. record (doing_on q l) { claims = opens.opening.claims }) idle_now)))
       (opens.opening.station ∙ sym (ap station idle_now))

@@ -78,6 +78,7 @@ call_unset a (places.Handed x how b to) = refl
 -- no call but one of a `Once`, whose run has ended, has cleared the bit beside waiters
 abbrev pub IsNoOnce : ℕ → Place → Type 0
 IsNoOnce l (Once k at) = k ≢ l
+IsNoOnce l (Condvar k at) = ⊥
 IsNoOnce l p = Unit {0}
 
 pub sets_nothing : (p : Place) (l : ℕ) → IsNoOnce l p → (doing_on p l).sets ≡ false
@@ -93,18 +94,14 @@ sets_nothing (RwLock k a c) l other = either (k == l)
     either : (b : Bool) → (if b then (call_profile a c).doing else idle).sets ≡ false
     either true = call_unset a c
     either false = refl
-sets_nothing (Condvar k at) l other = either (k == l)
-  where
-    either : (b : Bool) → (if b then (profile (Condvar k at)).doing else idle).sets ≡ false
-    either true = refl
-    either false = refl
+sets_nothing (Condvar k at) l other = absurd other
 
 no_once : (w : State) (p : Place) (l : ℕ) → rules_in w l ≡ mutex → FitsItsLock w p → IsNoOnce l p
 no_once w (Once k at) l rules fits = λ here.
     let both : locks.Once ≡ locks.Mutex = sym fits ∙ ap (λ n. (rules_in w n).sort) here ∙ ap (λ (r : locks.Rules). r.sort) rules in cc
 no_once w (Mutex k at) l rules fits = tt
 no_once w (RwLock k a c) l rules fits = tt
-no_once w (Condvar k at) l rules fits = tt
+no_once w (Condvar k at) l rules fits = absurd fits
 no_once w Idle l rules fits = tt
 
 pub first_out : (t : ℕ) (q : List Waiter) → Lines.times t q ≡ 0 → locks.is_thread t (Lines.first_of q) ≡ 0

@@ -13,7 +13,7 @@ use Rattle.lot_machine.specs.Machine.{State, kind_at}
 use Rattle.lot_laws.specs.SitesOf.{is_mutex}
 use Rattle.lot_laws.specs.Stations.{Hand, Station, hand, nowhere, station, station_at}
 use Rattle.lot_laws.specs.SitesOf.{Sections, Lines, Waits, AreWaiting, Hands, FitsItsLock, key_of, stood_in, carried_at, hand_at}
-use Rattle.lot_laws.proofs.Glue.{IsOf, nothing_at, put_here, put_other, same, station_is, station_here, station_elsewhere, IsMutexOf}
+use Rattle.lot_laws.proofs.Glue.{IsOf, nothing_at, put_here, put_other, same, station_is, station_here, station_elsewhere, IsMutexOf, of_single}
 
 both : (a b : Bool) → (a && b) ≡ true → (a ≡ true) × (b ≡ true)
 both true b h = (refl, h)
@@ -223,10 +223,10 @@ module _ (p : ℕ → Place) (t v l : ℕ) (x : Option Bool) (a : AreLinked p t 
   there b e = ap (λ (y : Station). y.hand) (station_here l (p v) a.of_v) ∙ a.hand ∙ ap (λ y. link y t) e
 
   unheld : (k u : ℕ) (b : Bool) → hand_at (p t) k ≡ hand u b → ⊥
-  unheld k u b h = let g : hand_at (p t) k ≡ None = nothing_at (p t) k (λ y. y.hand) refl a.free in cc
+  unheld k u b h = let g : hand_at (p t) k ≡ None = nothing_at (p t) k (of_single l (p t) a.of_t) (λ y. y.hand) refl a.free in cc
 
   empty : (k : ℕ) (b : Bool) → carried_at (p v) k ≡ Some b → ⊥
-  empty k b h = let g : carried_at (p v) k ≡ None = nothing_at (p v) k (λ y. y.carries) refl a.bare in cc
+  empty k b h = let g : carried_at (p v) k ≡ None = nothing_at (p v) k (of_single l (p v) a.of_v) (λ y. y.carries) refl a.bare in cc
 
 -- two threads that have to do with each other alone go elsewhere, and so it is behind
 module _ (one : ℕ → Type 0) (p q : ℕ → Place) (hands : Hands one p) (t v l : ℕ) (single : one l) (x y : Option Bool) (a : AreLinked p t v l x) (b : AreLinked q t v l y) (others : (u : ℕ) → u ≢ t → u ≢ v → q u ≡ p u) where

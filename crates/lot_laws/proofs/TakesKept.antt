@@ -21,7 +21,7 @@ use Rattle.lot_laws.specs.Refinement.{taken_at}
 use Rattle.lot_laws.specs.MutexDeeds.{acts}
 use Rattle.lot_laws.specs.Stations.{Station, hand, station, station_at, nowhere, doing_on}
 use Rattle.lot_laws.specs.SitesOf.{ActsNeeded, TakesOne, Hands, IsSteady, Goes, FitsItsLock, Lines, Waits, AreWaiting, Sections, after_acts, rules_in, key_of, stood_in, carried_at, hand_at}
-use Rattle.lot_laws.proofs.Glue.{parts_at, base_at, lock_in, seen_in, same, differ, put_here, put_other, set_puts, past_all, IsOf, doing_elsewhere, taken_elsewhere, station_here, station_elsewhere, nothing_at}
+use Rattle.lot_laws.proofs.Glue.{parts_at, base_at, lock_in, seen_in, same, differ, put_here, put_other, set_puts, past_all, IsOf, doing_elsewhere, taken_elsewhere, station_here, station_elsewhere, nothing_at, singles, of_single}
 use Rattle.lot_laws.proofs.OneStep.{AreSingle, others_same}
 use Rattle.lot_laws.proofs.ActsKept.{AlikeAt, Moves, NoHandOff, ordinary_by, limited, with_line, stood_other, follows_by, lock_by, word_by_lines}
 use Rattle.lot_laws.proofs.StandsKept.{same_line, other_key, other_line, sections_same, waiting_same, hands_taken, calls_in}
@@ -177,7 +177,7 @@ module _ (w : State) (t l : ℕ) (steady : IsSteady w) (own : IsOf l (place_at w
 
     in_hand : (u k : ℕ) → hand_at (places_now u) k ≡ (if has u && (k == l) then hand t false else hand_at (place_at w u) k)
     in_hand u k = by_thread (λ u p. hand_at p k ≡ (if has u && (k == l) then hand t false else hand_at (place_at w u) k))
-        (rw not_self (nothing_at p2 k (λ y. y.hand) refl unheld ∙ sym (nothing_at (place_at w t) k (λ y. y.hand) refl free)))
+        (rw not_self (nothing_at p2 k (of_single l p2 of) (λ y. y.hand) refl unheld ∙ sym (nothing_at (place_at w t) k (singles w steady t) (λ y. y.hand) refl free)))
         (λ u nu h. rw h (by_lock u h (cases_eq k l)))
         (λ u nu h. rw h refl) u
       where
@@ -188,7 +188,7 @@ module _ (w : State) (t l : ℕ) (steady : IsSteady w) (own : IsOf l (place_at w
     carries : (i k : ℕ) → carried_at (places_now i) k ≡ (if (i == t) && (k == l) then (station p2).carries else carried_at (place_at w i) k)
     carries i k = by_thread (λ i p. carried_at p k ≡ (if (i == t) && (k == l) then (station p2).carries else carried_at (place_at w i) k))
         (rw (same t) (by_lock (cases_eq k l)))
-        (λ u nu h. rw (differ u t nu) (let s = splits.sleeps u h in nothing_at (next_place (place_at w u) (TakenBy t)) k (λ y. y.carries) refl (ap (λ (y : Station). y.carries) s.free) ∙ sym (nothing_at (place_at w u) k (λ y. y.carries) refl (ap (λ (y : Station). y.carries) s.was))))
+        (λ u nu h. rw (differ u t nu) (let s = splits.sleeps u h in nothing_at (next_place (place_at w u) (TakenBy t)) k (of_single l (next_place (place_at w u) (TakenBy t)) s.calls_then) (λ y. y.carries) refl (ap (λ (y : Station). y.carries) s.free) ∙ sym (nothing_at (place_at w u) k (of_single l (place_at w u) s.calls) (λ y. y.carries) refl (ap (λ (y : Station). y.carries) s.was))))
         (λ u nu h. rw (differ u t nu) refl) i
       where
         by_lock : ((k ≡ l) ⊎ (k ≢ l)) → carried_at p2 k ≡ (if k == l then (station p2).carries else carried_at (place_at w t) k)
@@ -206,7 +206,7 @@ module _ (w : State) (t l : ℕ) (steady : IsSteady w) (own : IsOf l (place_at w
   -- those who are left stand in the line
   lines_now : (queue : ℕ → List Waiter) → (station p2).stands ≡ None → queue (key_of l m) ≡ left → ((key : ℕ) → key ≢ key_of l m → queue key ≡ queue_at w key) → Lines places_now queue
   lines_now queue stands here others u k n = by_thread (λ u p. times u (queue (key_of k n)) ≡ stood_in (station_at p k).stands n)
-      (at_line t (λ f. no_member_left (cases_eq k l)) ∙ sym (ap (λ x. stood_in x n) (nothing_at p2 k (λ y. y.stands) refl stands)))
+      (at_line t (λ f. no_member_left (cases_eq k l)) ∙ sym (ap (λ x. stood_in x n) (nothing_at p2 k (of_single l p2 of) (λ y. y.stands) refl stands)))
       (λ u nu h. taken_out u h)
       (λ u nu h. stays u h) u
     where
@@ -226,10 +226,10 @@ module _ (w : State) (t l : ℕ) (steady : IsSteady w) (own : IsOf l (place_at w
       ]
 
       no_member_left : ((k ≡ l) ⊎ (k ≢ l)) → times t (queue (key_of k n)) ≡ 0
-      no_member_left any = stays t not_self ∙ ap (λ x. stood_in x n) (nothing_at (place_at w t) k (λ y. y.stands) refl out)
+      no_member_left any = stays t not_self ∙ ap (λ x. stood_in x n) (nothing_at (place_at w t) k (singles w steady t) (λ y. y.stands) refl out)
 
       taken_out : (u : ℕ) → has u ≡ true → times u (queue (key_of k n)) ≡ stood_in (station_at (next_place (place_at w u) (TakenBy t)) k).stands n
-      taken_out u h = let s = splits.sleeps u h in none_there (cases_eq k l) ∙ sym (ap (λ x. stood_in x n) (nothing_at (next_place (place_at w u) (TakenBy t)) k (λ y. y.stands) refl (ap (λ (y : Station). y.stands) s.free)))
+      taken_out u h = let s = splits.sleeps u h in none_there (cases_eq k l) ∙ sym (ap (λ x. stood_in x n) (nothing_at (next_place (place_at w u) (TakenBy t)) k (of_single l (next_place (place_at w u) (TakenBy t)) s.calls_then) (λ y. y.stands) refl (ap (λ (y : Station). y.stands) s.free)))
         where
           none_there : ((k ≡ l) ⊎ (k ≢ l)) → times u (queue (key_of k n)) ≡ 0
           none_there (inr ne) = let s = splits.sleeps u h in ap (times u) (others (key_of k n) (other_key l k m n ne)) ∙ steady.stands.lines u k n ∙ ap (λ (y : Station). stood_in y.stands n) (station_elsewhere l k (place_at w u) s.calls ne)

@@ -12,7 +12,7 @@ use Rattle.abstract_locks.specs.Locks.{putting}
 use Rattle.lot_machine.specs.Machine.{State, place_at, put, state_after_telling, place_after_telling}
 use Rattle.lot_laws.specs.Stations.{Station, Hand, hand, station, station_at, nowhere}
 use Rattle.lot_laws.specs.SitesOf.{IsSteady, FitsItsLock, carried_at, hand_at}
-use Rattle.lot_laws.proofs.Glue.{same, differ, put_places, put_here, put_other, IsOf, next_of, doing_elsewhere, taken_elsewhere, station_here, station_elsewhere, nothing_at, IsHeldBy, held_taker, held_where}
+use Rattle.lot_laws.proofs.Glue.{same, differ, put_places, put_here, put_other, IsOf, next_of, doing_elsewhere, taken_elsewhere, station_here, station_elsewhere, nothing_at, IsHeldBy, held_taker, held_where, singles, of_single}
 use Rattle.lot_laws.proofs.ActsKept.{AlikeAt}
 
 -- where a thread goes that t had in hand, and in whose hand it is then, if in anybody's
@@ -43,7 +43,7 @@ module _ (w : State) (t l : ℕ) (steady : IsSteady w) (own : IsOf l (place_at w
   held_here u h = by_lock (cases_eq k.lock l)
     where
       k : IsHeldBy (place_at w u) t
-      k = held_where (place_at w u) t h
+      k = held_where (place_at w u) t (singles w steady u) h
 
       by_lock : ((k.lock ≡ l) ⊎ (k.lock ≢ l)) → HeldHere u
       by_lock (inl e) = record { handed = k.handed; hand = subst (λ j. hand_at (place_at w u) j ≡ hand t k.handed) e k.hand; calls = subst (λ j. IsOf j (place_at w u)) e k.of }
@@ -58,7 +58,7 @@ module _ (w : State) (t l : ℕ) (steady : IsSteady w) (own : IsOf l (place_at w
 
   -- who is not told is not in its hand
   pub not_held : (u : ℕ) → has u ≡ false → (b : Bool) → hand_at (place_at w u) l ≡ hand t b → ⊥
-  not_held u h b g = let a : has u ≡ true = held_taker (place_at w u) t l b g in let c : true ≡ false = sym a ∙ h in cc
+  not_held u h b g = let a : has u ≡ true = held_taker (place_at w u) t l b (singles w steady u) g in let c : true ≡ false = sym a ∙ h in cc
 
   -- a part of a station that a hand is no part of
   part_told : {A : Type 0} (g : Station → A) → ((h : Option Hand) → g (record nowhere { hand = h }) ≡ g nowhere) → (u k : ℕ) → g (station_at (told u) k) ≡ g (station_at (place_at w u) k)
@@ -91,7 +91,7 @@ module _ (w : State) (t l : ℕ) (steady : IsSteady w) (own : IsOf l (place_at w
     where
       either : (b : Bool) → has t ≡ b → b ≡ false
       either false h = refl
-      either true h = absurd (let held = held_here t h in let a : hand_at (place_at w t) l ≡ None = nothing_at (place_at w t) l (λ y. y.hand) refl free in let b : ◌≡◌ {A = Option Hand} None (hand t held.handed) = sym a ∙ held.hand in cc)
+      either true h = absurd (let held = held_here t h in let a : hand_at (place_at w t) l ≡ None = nothing_at (place_at w t) l (singles w steady t) (λ y. y.hand) refl free in let b : ◌≡◌ {A = Option Hand} None (hand t held.handed) = sym a ∙ held.hand in cc)
 
   not_here : (k : ℕ) → (k == l) ≡ false → k ≢ l
   not_here k e f = let yes : (k == l) ≡ true = rw f (same l) in let g : true ≡ false = sym yes ∙ e in cc
@@ -110,7 +110,7 @@ module _ (w : State) (t l : ℕ) (steady : IsSteady w) (own : IsOf l (place_at w
   module _ (unheld : (station p2).hand ≡ None) where
     pub in_hand : (u k : ℕ) → hand_at (places_then u) k ≡ (if has u && (k == l) then after else hand_at (place_at w u) k)
     in_hand u k = elim (cases_eq u t) [
-      | inl e ↦ rw (e, put_here told t p2, not_self) (nothing_at p2 k (λ y. y.hand) refl unheld ∙ sym (nothing_at (place_at w t) k (λ y. y.hand) refl free))
+      | inl e ↦ rw (e, put_here told t p2, not_self) (nothing_at p2 k (of_single l p2 of) (λ y. y.hand) refl unheld ∙ sym (nothing_at (place_at w t) k (singles w steady t) (λ y. y.hand) refl free))
       | inr nu ↦ ap (λ y. hand_at y k) (put_other told t p2 u nu) ∙ either (has u) refl
     ]
       where

@@ -14,7 +14,7 @@ use Rattle.lot_laws.specs.Refinement.{taken_at}
 use Rattle.lot_laws.specs.MutexDeeds.{acts}
 use Rattle.lot_laws.specs.Stations.{Station, hand, station, station_at, nowhere, doing_on}
 use Rattle.lot_laws.specs.SitesOf.{ActsNeeded, TakesOne, Hands, IsSteady, Goes, FitsItsLock, after_acts, rules_in, key_of, carried_at, hand_at}
-use Rattle.lot_laws.proofs.Glue.{Parts, parts_at, lock_in, seen_in, put_here, put_other, IsOf, station_here, LetGo, stays, untaken, held_taker}
+use Rattle.lot_laws.proofs.Glue.{Parts, parts_at, lock_in, seen_in, put_here, put_other, IsOf, station_here, LetGo, stays, untaken, held_taker, singles}
 use Rattle.lot_laws.proofs.ActsKept.{limited, follows_by, lock_by, word_by_lines}
 use Rattle.lot_laws.proofs.OneStep.{AreOrdinary}
 use Rattle.lot_laws.proofs.ToldKept.{IsTold, has, told, places_then, held_here, told_on, told_off, not_held, in_hand, carries, alike, calls_then, same_parts, all_parts, places_are}
@@ -86,7 +86,7 @@ module _ (w : State) (t l : ℕ) (steady : IsSteady w) (own : IsOf l (place_at w
     hands_then : Hands (TakesOne w) behind
     hands_then = hands_freed (TakesOne w) (place_at w) behind steady.stands.hands t l is_told (in_hand w t l steady own there p2 of fits (Woken x) None all_told free unheld)
         (λ i k. carries w t l steady own there p2 of fits (Woken x) None all_told free i k ∙ ap (λ c. if (i == t) && (k == l) then c else carried_at (place_at w i) k) bare)
-        (λ u h. let held = held_here w t l steady own there p2 of fits (Woken x) None all_told free u h in (held.handed, held.hand)) (λ u b h. held_taker (place_at w u) t l b h)
+        (λ u h. let held = held_here w t l steady own there p2 of fits (Woken x) None all_told free u h in (held.handed, held.hand)) (λ u b h. held_taker (place_at w u) t l b (singles w steady u) h)
 
     -- out of a section of the lock
     module _ (m : Line) (line : key_of l m < length w.sections) (within : (station (place_at w t)).inside ≡ Some m) (stood : (station p2).stands ≡ (station (place_at w t)).stands) (waited : (station p2).waits ≡ (station (place_at w t)).waits) (out : (station p2).inside ≡ None) where

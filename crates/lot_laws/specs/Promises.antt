@@ -7,6 +7,8 @@ use Rattle.lot_base.specs.declared.wants.Want.TheVariants.{Exclusive, Upgradable
 use Rattle.lot_acts.specs.declared.acts.Act.TheVariants.{Enter, Leave, Sleep}
 use Rattle.lot_acts.specs.declared.acts.Wakes as wakes
 use Rattle.lot_base.specs.declared.notes.Note.TheVariants.{HandOff}
+use Rattle.lot_steps.specs.declared.places.Place.{Place}
+use Rattle.lot_steps.specs.declared.places.Place.TheVariants.{Condvar}
 use Rattle.lot_steps.specs.Steps.{act_of, taker, retries_on}
 use Rattle.lot_machine.specs.Machine.{State, place_at, word_at, filled_at, section_at}
 use Rattle.abstract_locks.specs.Locks.{LockState, Sort, Recursive, Semaphore, Once, Rules, Knows, IsSomePending, times, standing, readers, count, has_caller, Owns}
@@ -143,7 +145,13 @@ pub record IsHandedOver (w : State) (t : ℕ) : Type 0 where
 abbrev pub IsWithinLimit : Rules → LockState → Type 0
 IsWithinLimit r s = (count s ≤ r.limit) ⊎ ((r.sort ≡ Recursive) × (count s ≡ r.limit + 1))
 
+-- a call is of one lock: none of a condition variable begins here
+abbrev pub IsOfOne : Place → Type 0
+IsOfOne (Condvar l at) = ⊥
+IsOfOne p = Unit {0}
+
 pub record IsKept (w : State) : Type 0 where
+  pub of_one : (t : ℕ) → IsOfOne (place_at w t)
   -- owners exclude each other, and a thread stands at most once in the queue of a lock, aside of it or taken from it
   pub state : AreLockStates (locks_of w)
   -- and at one lock at most

@@ -1,5 +1,5 @@
 -- The abstract locks that a world's words, places and queues stand for.
-use Rattle.std.specs.Prelude.{ℕ, Bool, true, false, Option, Some, None, ◌+◌, ◌*◌, ◌≡◌, ◌≢◌, ◌⊎◌, length, is_some}
+use Rattle.std.specs.Prelude.{ℕ, Bool, true, false, Option, Some, None, if◌then◌else◌, ◌&&◌, not, ◌+◌, ◌*◌, ◌≡◌, ◌≢◌, ◌⊎◌, length, is_some}
 use Rattle.lot_steps.specs.declared.places.Place.{Place}
 use Rattle.lot_acts.specs.Profiles.{Profile, bringing_nobody, taken_from}
 pub use Rattle.lot_acts.specs.Calls.{call_by}
@@ -8,7 +8,7 @@ use Rattle.lot_mutex.specs.declared.places.MutexPlace.{MutexPlace}
 use Rattle.lot_acts.specs.declared.acts.Act.{Act}
 use Rattle.lot_acts.specs.declared.acts.Act.TheVariants.{Enter, Sleep}
 use Rattle.lot_base.specs.declared.keys.Keys.{Keys}
-use Rattle.lot_steps.specs.Steps.{act_of, looking, lock_of, calls, profile}
+use Rattle.lot_steps.specs.Steps.{act_of, beside_of, looking, lock_of, calls, is_lock, profile, profile_beside}
 pub use Rattle.lot_mutex.specs.MutexProfiles.{mutex_profile, is_bump, entry_purpose, release_purpose, before_entry, before_release}
 pub use Rattle.lot_machine.specs.Machine.{runs_closure}
 use Rattle.lot_machine.specs.Machine.{State, place_at, word_at, owners_at, shares_at, kind_at, queue_at, section_at}
@@ -20,7 +20,9 @@ use Rattle.abstract_locks.specs.Locks as locks
 
 -- by whom the thread at a place was taken from the queue of a lock
 abbrev pub taken_at : Place → ℕ → Option Taken
-taken_at p l = taken_from (profile p).hand (profile p).wants (calls p l)
+taken_at p l =
+    if is_lock l (beside_of p) && not (calls p l) then taken_from (profile_beside p).hand (profile_beside p).wants true
+    else taken_from (profile p).hand (profile p).wants (calls p l)
 
 abbrev pub lock_state : State → ℕ → LockState
 lock_state w l = lock_seen (shares_at w l) (owners_at w l) (queue_at w (2 * l)) (queue_at w (2 * l + 1)) (λ u. taken_at (place_at w u) l)

@@ -1,5 +1,5 @@
 -- The steps of every call.
-use Rattle.std.specs.Prelude.{ℕ, Bool, true, false, Option, Some, None, if◌then◌else◌, ◌==◌, ◌&&◌, ◌^◌, ◌<◌}
+use Rattle.std.specs.Prelude.{ℕ, Bool, true, false, Option, Some, None, if◌then◌else◌, ◌==◌, ◌&&◌, ◌||◌, ◌^◌, ◌<◌}
 use Rattle.lot_calls.specs.declared.kinds.Kind.{Kind}
 use Rattle.lot_calls.specs.declared.calls.Call.{Call}
 use Rattle.lot_calls.specs.declared.calls.Call as call
@@ -29,7 +29,8 @@ use Rattle.lot_once.specs.declared.places.OncePlace.{OncePlace}
 use Rattle.lot_once.specs.OnceSteps.{once_first, once_act, once_next, once_looking, once_owners}
 use Rattle.lot_once.specs.OnceProfiles.{once_profile}
 use Rattle.lot_condvar.specs.declared.places.CondvarPlace.{CondvarPlace}
-use Rattle.lot_condvar.specs.CondvarSteps.{HasMutexKey, condvar_act, condvar_next, condvar_looking, condvar_owners}
+use Rattle.lot_condvar.specs.CondvarSteps.{HasMutexKey, condvar_act, condvar_next, condvar_looking, condvar_owners, mutex_beside}
+use Rattle.lot_condvar.specs.CondvarProfiles.{condvar_profile, mutex_side}
 
 -- where a call of a lock of a kind begins
 abbrev pub first_place : Kind → Call → Place
@@ -67,13 +68,38 @@ is_lock lock (Some own) = own == lock
 abbrev pub calls : Place → ℕ → Bool
 calls p lock = is_lock lock (lock_of p)
 
--- what a place says of its thread; one of a condition variable, with whose calls no world begins, says it in a row of its own
+-- what a place says of its thread at the lock that it calls
 abbrev pub profile : Place → Profile
 profile Idle = blank
 profile (Mutex lock at) = bringing_nobody (mutex_profile at)
 profile (RwLock lock a at) = call_profile a at
 profile (Once lock at) = once_profile at
-profile (Condvar lock at) = blank
+profile (Condvar lock at) = condvar_profile at
+
+-- the mutex beside a condition variable that is called
+abbrev pub beside_of : Place → Option ℕ
+beside_of Idle = None
+beside_of (Mutex lock at) = None
+beside_of (RwLock lock a at) = None
+beside_of (Once lock at) = None
+beside_of (Condvar lock at) = mutex_beside at
+
+-- and what a place says of its thread there
+abbrev pub profile_beside : Place → Profile
+profile_beside Idle = blank
+profile_beside (Mutex lock at) = blank
+profile_beside (RwLock lock a at) = blank
+profile_beside (Once lock at) = blank
+profile_beside (Condvar lock at) = mutex_side at
+
+-- at any lock
+abbrev pub profile_at : Place → ℕ → Profile
+profile_at p lock = if calls p lock then profile p else if is_lock lock (beside_of p) then profile_beside p else blank
+
+-- this, or else that
+abbrev pub or_else : {A : Type 0} → Option A → Option A → Option A
+or_else None own = own
+or_else (Some x) own = Some x
 
 -- the keys of the lock that a thread calls, and of the mutex beside it, are numbers
 abbrev pub HasKeys : Place → Type 0
@@ -165,11 +191,11 @@ shares_after (Condvar lock at) seen shares = None
 
 -- what a thread wants, where it waits
 abbrev pub wants : Place → Option Want
-wants p = (profile p).wants
+wants p = or_else (profile_beside p).wants (profile p).wants
 
 -- the thread that took this one from its queue, and has not left its section yet
 abbrev pub taker : Place → Option ℕ
-taker p = hand_owner (profile p).hand
+taker p = hand_owner (or_else (profile_beside p).hand (profile p).hand)
 
 abbrev pub in_mutex : ℕ → Option MutexPlace → Option Place
 in_mutex lock None = None
@@ -202,11 +228,11 @@ key_in lock m = None
 
 -- the key under which a thread sleeps in a call that may give up
 abbrev pub late_key : Place → Option ℕ
-late_key p = key_in (lock_of p) (profile p).late_line
+late_key p = or_else (key_in (beside_of p) (profile_beside p).late_line) (key_in (lock_of p) (profile p).late_line)
 
 -- the line on which a thread owes a wake on a lock
 abbrev pub line_owed : Place → ℕ → Option Line
-line_owed p lock = if calls p lock then (profile p).owes else None
+line_owed p lock = or_else (if is_lock lock (beside_of p) then (profile_beside p).owes else None) (if calls p lock then (profile p).owes else None)
 
 abbrev pub is_line : Option Line → Bool
 is_line None = false
@@ -218,4 +244,4 @@ owes_on p lock = is_line (line_owed p lock)
 
 -- a thread was woken and tries again on a lock
 abbrev pub retries_on : Place → ℕ → Bool
-retries_on p lock = (profile p).retries && calls p lock
+retries_on p lock = (is_lock lock (beside_of p) && (profile_beside p).retries) || ((profile p).retries && calls p lock)

@@ -138,7 +138,7 @@ impl Place {
             Place::Mutex { at, .. } => at.wants(),
             Place::RwLock { at, .. } => at.wants(),
             Place::Once { at, .. } => at.wants(),
-            Place::Condvar { .. } => None,
+            Place::Condvar { at, .. } => at.wants(),
         }
     }
 
@@ -151,7 +151,7 @@ impl Place {
             Place::Mutex { at, .. } => at.taker(),
             Place::RwLock { at, .. } => at.taker(),
             Place::Once { at, .. } => at.taker(),
-            Place::Condvar { .. } => None,
+            Place::Condvar { at, .. } => at.taker(),
         }
     }
 
@@ -194,7 +194,8 @@ impl Place {
         ensures { result ≡ late_key self }
     {
         match self {
-            Place::Idle | Place::Once { .. } | Place::Condvar { .. } => None,
+            Place::Idle | Place::Once { .. } => None,
+            Place::Condvar { lock, at } => at.late_key(lock),
             Place::Mutex { lock, at } => match at.late_line() {
                 Some(line) => Some(line.key(lock)),
                 None => None,
@@ -212,10 +213,11 @@ impl Place {
         ensures { result ≡ owes_on self lock }
     {
         match self {
-            Place::Idle | Place::Condvar { .. } => false,
+            Place::Idle => false,
             Place::Mutex { lock: own, at } => own == lock && at.owes().is_some(),
             Place::RwLock { lock: own, at, .. } => own == lock && at.owes().is_some(),
             Place::Once { lock: own, at } => own == lock && at.owes().is_some(),
+            Place::Condvar { lock: own, at } => at.owes_on(own, lock),
         }
     }
 
@@ -225,10 +227,11 @@ impl Place {
         ensures { result ≡ retries_on self lock }
     {
         match self {
-            Place::Idle | Place::Condvar { .. } => false,
+            Place::Idle => false,
             Place::Mutex { lock: own, at } => own == lock && at.retries(),
             Place::RwLock { lock: own, at, .. } => own == lock && at.retries(),
             Place::Once { lock: own, at } => own == lock && at.retries(),
+            Place::Condvar { at, .. } => at.mutex() == Some(lock) && at.retries(),
         }
     }
 }

@@ -1,0 +1,53 @@
+-- From where a thread looks at a word once more, its place says the same of the lock beside.
+use Rattle.std.proofs.Common.{ℕ, Bool, true, false, Option, Some, None, if◌then◌else◌, ◌≡◌, refl, subst}
+use Rattle.lot_acts.specs.Profiles.{Profile, blank}
+use Rattle.lot_condvar.specs.declared.places.CondvarPlace.{CondvarPlace}
+use Rattle.lot_condvar.specs.declared.places.CondvarPlace.TheVariants.{Wait}
+use Rattle.lot_condvar.specs.declared.wait.WaitAt.TheVariants as wait
+use Rattle.lot_condvar.specs.CondvarSteps.{condvar_looking, in_lock}
+use Rattle.lot_mutex.specs.declared.lock.LockAt.TheVariants as lock
+use Rattle.lot_mutex.specs.declared.places.MutexPlace.{MutexPlace}
+use Rattle.lot_mutex.specs.declared.places.MutexPlace.TheVariants.{Lock}
+use Rattle.lot_mutex.specs.MutexSteps.{mutex_looking}
+use Rattle.lot_once.specs.declared.places.OncePlace.{OncePlace}
+use Rattle.lot_once.specs.OnceSteps.{once_looking}
+use Rattle.lot_rwlock_fair.specs.declared.places.RwLockCallPlace.{RwLockCallPlace}
+use Rattle.lot_rwlock_fair.specs.FairProfiles.{call_looking}
+use Rattle.lot_steps.specs.declared.places.Place.{Place}
+use Rattle.lot_steps.specs.declared.places.Place.TheVariants.{Idle, Mutex, RwLock, Once, Condvar}
+use Rattle.lot_steps.specs.Steps.{beside_of, in_condvar, in_mutex, in_once, in_rwlock, looking, profile_beside}
+
+abbrev pub SameBeside : Place → Place → Type 0
+SameBeside p q = (beside_of q ≡ beside_of p) × (profile_beside q ≡ profile_beside p)
+
+pub looks_beside : (p q : Place) → looking p ≡ Some q → SameBeside p q
+looks_beside Idle q is = absurd cc
+looks_beside (Mutex l at) q is = by_place (mutex_looking at) is
+  where
+    by_place : (o : Option MutexPlace) → in_mutex l o ≡ Some q → SameBeside (Mutex l at) q
+    by_place None e = absurd cc
+    by_place (Some at2) e = let there : Mutex l at2 ≡ q = cc in subst (SameBeside (Mutex l at)) there (refl, refl)
+looks_beside (RwLock l a c) q is = by_place (call_looking a c) is
+  where
+    by_place : (o : Option RwLockCallPlace) → in_rwlock l a o ≡ Some q → SameBeside (RwLock l a c) q
+    by_place None e = absurd cc
+    by_place (Some d) e = let there : RwLock l a d ≡ q = cc in subst (SameBeside (RwLock l a c)) there (refl, refl)
+looks_beside (Once l at) q is = by_place (once_looking at) is
+  where
+    by_place : (o : Option OncePlace) → in_once l o ≡ Some q → SameBeside (Once l at) q
+    by_place None e = absurd cc
+    by_place (Some at2) e = let there : Once l at2 ≡ q = cc in subst (SameBeside (Once l at)) there (refl, refl)
+looks_beside (Condvar l at) q is = condvar_look at is
+  where
+    locks : (m : ℕ) (timed late : Bool) (at : MutexPlace) → in_condvar l (in_lock m timed late (mutex_looking at)) ≡ Some q → SameBeside (Condvar l (Wait m timed (wait.Lock late at))) q
+    locks m timed late (Lock e again (lock.Decide seen)) is = by_mark _ is
+      where
+        by_mark : (b : Bool) → in_condvar l (in_lock m timed late (if b then Some (Lock e again lock.Load) else None)) ≡ Some q → SameBeside (Condvar l (Wait m timed (wait.Lock late (Lock e again (lock.Decide seen))))) q
+        by_mark true is = let there : Condvar l (Wait m timed (wait.Lock late (Lock e again lock.Load))) ≡ q = cc in subst (SameBeside (Condvar l (Wait m timed (wait.Lock late (Lock e again (lock.Decide seen)))))) there (refl, refl)
+        by_mark false is = absurd cc
+    locks m timed late (Lock e again to) is = absurd cc
+    locks m timed late at is = absurd cc
+
+    condvar_look : (at : CondvarPlace) → in_condvar l (condvar_looking at) ≡ Some q → SameBeside (Condvar l at) q
+    condvar_look (Wait m timed (wait.Lock late at)) is = locks m timed late at is
+    condvar_look at is = absurd cc
