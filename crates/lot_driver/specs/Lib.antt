@@ -5,6 +5,7 @@ pub mod Stages
 pub mod Telling
 pub mod MutexFitting
 pub mod OnceFitting
+pub mod CondvarFitting
 pub mod OnceCalls
 pub mod RwLockFitting
 pub mod RwLockRefusals
