@@ -13,6 +13,7 @@ pub mod RwLockBumpFull
 pub mod RwLockBumping
 pub mod RwLockLeading
 pub mod OnceLeading
+pub mod CondvarLeading
 pub mod Leading
 pub mod RwLockBeginning
 pub mod Turning
