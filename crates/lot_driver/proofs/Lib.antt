@@ -18,6 +18,7 @@ pub mod Leading
 pub mod RwLockBeginning
 pub mod Turning
 pub mod OnceCalling
+pub mod CondvarCalling
 pub mod RwLockCalling
 pub mod RwLockCourses
 pub mod RwLockTakes

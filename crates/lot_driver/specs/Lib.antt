@@ -11,6 +11,7 @@ pub mod RwLockFitting
 pub mod RwLockRefusals
 pub mod Fitting
 pub mod Calls
+pub mod CondvarCalls
 pub mod RwLockCalls
 pub mod Courses
 pub mod Drawing
