@@ -1,5 +1,5 @@
 -- The calls of a condition variable: the words on which they step, and that none runs a closure.
-use Rattle.std.proofs.Common.{ℕ, ◌≡◌, ◌≢◌, ◌==◌, Bool, true, false, List, Option, None, Some, cond, if◌then◌else◌, inl, inr, sym, refl, ap, ◌∙◌, subst, arith, ne_eqb, eq-eqb}
+use Rattle.std.proofs.Common.{ℕ, ◌≡◌, ◌≢◌, ◌==◌, Bool, true, false, List, Some, cond, if◌then◌else◌, sym, refl, ap, ◌∙◌, ne_eqb, eq-eqb}
 use Rattle.lot_calls.specs.declared.outcomes.OnceState.{OnceState}
 use Rattle.lot_calls.specs.declared.calls.OnceCall.TheVariants.{CallOnce}
 use Rattle.lot_acts.specs.declared.acts.Act as act
@@ -22,7 +22,7 @@ use Rattle.lot_words.specs.declared.table.LotWords.{LotWords}
 use Rattle.lot_words.specs.declared.words.Word.{Word}
 use Rattle.lot_words.specs.declared.words.WordKind.TheVariants as kind
 use Rattle.lot_driver.specs.CondvarFitting.{FitsWait, apart}
-use Rattle.lot_driver.specs.Fitting.{Aim, AreWordsBeside, IsStopped, aim_of, of_mutex, of_notify, of_once, of_run, of_wait}
+use Rattle.lot_driver.specs.Fitting.{AreWordsBeside, IsStopped, of_notify, of_once, of_run, of_wait}
 use Rattle.lot_driver.specs.Paths.{at_condvar, condvar_at, mutex_at}
 use Rattle.lot_driver.specs.Stages.{Stage}
 use Rattle.lot_driver.specs.Words.{at_in, both, kind_in, word_in}

@@ -1,10 +1,10 @@
 -- Each act of a condition variable's call is one that the thread may take, and leads to a place that fits.
-use Rattle.std.proofs.Common.{ℕ, ◌+◌, ◌≡◌, ◌≢◌, ◌<◌, ◌*◌, ◌%◌, ◌⊎◌, ◌==◌, ◌||◌, not, Bool, true, false, List, ◌∷◌, Option, Some, None, if◌then◌else◌, inl, inr, sym, refl, ap, ◌∙◌, subst, arith}
+use Rattle.std.proofs.Common.{ℕ, ◌+◌, ◌≡◌, ◌<◌, ◌*◌, ◌%◌, ◌==◌, ◌||◌, not, Bool, true, false, List, ◌∷◌, Option, Some, None, if◌then◌else◌, inl, inr, sym, refl, ap, ◌∙◌, subst, arith}
 use Rattle.std.proofs.lemmas.Bool.{false≢true}
-use Rattle.lot_base.specs.declared.keys.Keys.TheVariants.{One, Two}
+use Rattle.lot_base.specs.declared.keys.Keys.TheVariants.{One}
 use Rattle.lot_base.specs.declared.notes.Note.TheVariants.{Normal, HandOff}
 use Rattle.lot_base.specs.declared.ops.Op.{Op}
-use Rattle.lot_base.specs.declared.ops.Op.TheVariants.{Load, Store, Sub, Or, Exchange}
+use Rattle.lot_base.specs.declared.ops.Op.TheVariants.{Load, Store, Sub, Exchange}
 use Rattle.lot_base.specs.declared.wants.Want.TheVariants as wants
 use Rattle.lot_calls.specs.declared.outcomes.Answer.{Answer}
 use Rattle.lot_calls.specs.declared.outcomes.Answer.TheVariants.{Ok}
@@ -13,8 +13,7 @@ use Rattle.lot_acts.specs.declared.acts.Act as act
 use Rattle.lot_acts.specs.declared.acts.Next.{Next}
 use Rattle.lot_acts.specs.declared.acts.Next.TheVariants.{At, End}
 use Rattle.lot_acts.specs.declared.acts.Reply.{Reply}
-use Rattle.lot_acts.specs.declared.acts.Reply.TheVariants.{Done, Value, Parked, Took, Picked, Requeued, Removed, MovedTo, Late, Woken}
-use Rattle.lot_acts.specs.declared.acts.Whom.TheVariants as whom
+use Rattle.lot_acts.specs.declared.acts.Reply.TheVariants.{Done, Value, Parked, Took, Requeued, Removed, MovedTo, Late, Woken}
 use Rattle.lot_condvar.specs.CondvarSteps.{condvar_act, first_lock, in_wait, is_shown, mutex_beside, relocked, released, wait_act}
 use Rattle.lot_condvar.specs.CondvarSteps as condvar_steps_of
 use Rattle.lot_condvar.specs.declared.wait.Stands.{Stands}
@@ -23,7 +22,7 @@ use Rattle.lot_condvar.specs.declared.wait.WaitAt.{WaitAt}
 use Rattle.lot_condvar.specs.declared.wait.WaitAt.TheVariants as wait
 use Rattle.lot_condvar.specs.declared.places.CondvarPlace.{CondvarPlace}
 use Rattle.lot_condvar.specs.declared.places.CondvarPlace.TheVariants.{Wait, Look, Notify}
-use Rattle.lot_mutex.specs.MutexSteps.{decided, in_lock, in_unlock, is_locked, is_parked, lock_act, mutex_act, mutex_next, next_lock, next_unlock, still_retries, unlock_act}
+use Rattle.lot_mutex.specs.MutexSteps.{in_lock, in_unlock, is_locked, is_parked, lock_act, mutex_act, next_lock, next_unlock, still_retries, unlock_act}
 use Rattle.lot_mutex.specs.declared.places.MutexPlace.{MutexPlace}
 use Rattle.lot_mutex.specs.declared.places.MutexPlace.TheVariants.{Lock, Unlock}
 use Rattle.lot_mutex.specs.declared.lock.Entry.TheVariants as entry
@@ -46,11 +45,11 @@ use Rattle.lot_words.specs.declared.words.WordKind.TheVariants as kind
 use Rattle.lot_words.proofs.MutexSteps.{each_code, mutex_steps}
 use Rattle.lot_words.proofs.TiedSteps.{condvar_steps}
 use Rattle.lot_words.proofs.Trades.{owned_some}
-use Rattle.lot_driver.specs.CondvarFitting.{FitsAsleep, FitsCondvar, FitsRelease, FitsRelock, FitsWait, LateIf, OwnsIt, apart}
-use Rattle.lot_driver.specs.Fitting.{Aim, AreWordsBeside, Fits, Looks, Reached, ReachedBy, aim_of, answer_of, of_mutex, of_wait, sleeper_at}
+use Rattle.lot_driver.specs.CondvarFitting.{FitsCondvar, FitsWait, LateIf, OwnsIt, apart}
+use Rattle.lot_driver.specs.Fitting.{AreWordsBeside, Fits, Looks, Reached, ReachedBy, aim_of, answer_of, of_mutex, of_wait, sleeper_at}
 use Rattle.lot_driver.specs.MutexFitting.{FitsMutex, Outside, Within, enters, held, releases}
 use Rattle.lot_driver.specs.Paths.{at_mutex, condvar_at, mutex_at, mutexes}
-use Rattle.lot_driver.specs.Stages.{ActNeeds, Awoke, Became, HasKey, Inside, MayLeave, Stage, Stepped, entered_now, stage, stepped}
+use Rattle.lot_driver.specs.Stages.{ActNeeds, Awoke, Became, HasKey, Inside, MayLeave, Stage, Stepped, entered_now, stage}
 use Rattle.lot_driver.specs.declared.acting.Sleeper.{Sleeper}
 
 -- what is known of a mutex's places
@@ -255,13 +254,17 @@ module _ (up : Type 0) (c m : ℕ) (kinds : ℕ → WordKind) (at : ℕ → ℕ)
         where
           s : Stepped kind.Mutex (mutex_at m) (Sub 1) seen st new
           s = stepped_there (Sub 1) seen st new b
+
           mine : has (held m) st.owns ≡ true
           mine = subst (λ (o : List Ownership). has (held m) o ≡ true) (sym f.1.0) f.0
+
           left : new.owns ≡ apart m st.owns
           left = owns_of _ s.1 ∙ each_code (λ n. n % 2 ≡ 1 → owns_after_step kind.Mutex (mutex_at m) (Sub 1) n st.owns ≡ apart m st.owns)
               (λ odd. absurd (omega arith)) (λ odd. refl) (λ odd. absurd (omega arith)) (λ odd. refl) seen s.0.1.0 (found_locked seen st.owns s.0 mine)
+
           outside : Outside (apart m base) new
           outside = (left ∙ ap (apart m) f.1.0, inside_of _ s.1 ∙ f.1.1)
+
           by_bit : (b : Bool) → Comes (At (released stands.Listed (in_unlock (if b then At unlock.Enter else End Ok))))
           by_bit true = (outside, refl)
           by_bit false = (outside, refl)
@@ -292,6 +295,7 @@ module _ (up : Type 0) (c m : ℕ) (kinds : ℕ → WordKind) (at : ℕ → ℕ)
         where
           kept : Within c base new
           kept = shows_on (Exchange 0 (m + 1)) seen base _ b f.1
+
           by_bit : (b : Bool) → Comes (if b then At wait.Stand else At wait.Refuse)
           by_bit true = ((f.0, kept), refl)
           by_bit false = ((f.0, kept), refl)
@@ -329,6 +333,7 @@ module _ (up : Type 0) (c m : ℕ) (kinds : ℕ → WordKind) (at : ℕ → ℕ)
         where
           kept : Within c (apart m base) new
           kept = stays (apart m base) _ _ b refl refl f.1
+
           by_bit : (b : Bool) → Comes (if b then At wait.Hide else At wait.GiveUp)
           by_bit true = ((f.0, kept), refl)
           by_bit false = ((f.0, kept), refl)

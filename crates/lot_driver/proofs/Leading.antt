@@ -10,7 +10,7 @@ use Rattle.lot_rwlock_fair.specs.FairProfiles.{call_looking}
 use Rattle.lot_rwlock_fair.specs.FairSteps.{call_act}
 use Rattle.lot_rwlock_fair.specs.declared.places.RwLockCallPlace.{RwLockCallPlace}
 use Rattle.lot_condvar.specs.CondvarSteps as condvar_steps
-use Rattle.lot_condvar.specs.declared.places.CondvarPlace.TheVariants.{Wait, Look, Notify}
+use Rattle.lot_condvar.specs.declared.places.CondvarPlace.TheVariants.{Wait}
 use Rattle.lot_condvar.specs.declared.wait.WaitAt.TheVariants as waiting
 use Rattle.lot_once.specs.OnceSteps.{once_act, once_looking}
 use Rattle.lot_once.specs.declared.places.OncePlace.{OncePlace}

@@ -1,7 +1,7 @@
 -- What a thread of a condition variable's call has at each place, and at its end.
 use Rattle.std.specs.Prelude.{ℕ, ◌≡◌, ◌*◌, ◌+◌, ◌⊎◌, Bool, true, false, List, ◌∷◌, Option, Some, None, length, if◌then◌else◌}
 use Rattle.lot_base.specs.Lines.{threads_of}
-use Rattle.lot_base.specs.declared.keys.Keys.TheVariants.{One, Two}
+use Rattle.lot_base.specs.declared.keys.Keys.TheVariants.{Two}
 use Rattle.lot_base.specs.declared.requeues.Requeue.TheVariants as requeue
 use Rattle.lot_base.specs.declared.wants.Waiter.{Waiter}
 use Rattle.lot_base.specs.declared.wants.Want.TheVariants as wants

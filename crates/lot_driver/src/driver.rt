@@ -161,7 +161,12 @@ fn condvar_sleeper(lock: usize, at: CondvarPlace) -> Sleeper
             mutex,
             at: WaitAt::Lock { at, .. },
             ..
-        } => (mutex, Place::Mutex { lock: mutex, at }.late_key(), None, true),
+        } => (
+            mutex,
+            Place::Mutex { lock: mutex, at }.late_key(),
+            None,
+            true,
+        ),
         CondvarPlace::Wait { mutex, .. } => {
             (mutex, at.late_key(lock), Some(main_key(mutex)), true)
         }
