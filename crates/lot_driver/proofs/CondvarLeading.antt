@@ -1,11 +1,12 @@
 -- Each act of a condition variable's call is one that the thread may take, and leads to a place that fits.
-use Rattle.std.proofs.Common.{ℕ, ◌+◌, ◌≡◌, ◌<◌, ◌*◌, ◌%◌, ◌==◌, ◌||◌, not, Bool, true, false, List, ◌∷◌, Option, Some, None, if◌then◌else◌, inl, inr, sym, refl, ap, ◌∙◌, subst, arith}
+use Rattle.std.proofs.Common.{Bool, List, None, Option, Some, ap, arith, false, if◌then◌else◌, inl, inr, length, nat_lt, not, refl, subst, sym, true, ℕ, ◌%◌, ◌&&◌, ◌*◌, ◌+◌, ◌<◌, ◌==◌, ◌||◌, ◌∙◌, ◌∷◌, ◌≡◌, ◌≢◌, ◌⊎◌}
 use Rattle.std.proofs.lemmas.Bool.{false≢true}
-use Rattle.lot_base.specs.declared.keys.Keys.TheVariants.{One}
+use Rattle.lot_base.specs.declared.keys.Keys.TheVariants.{One, Two}
 use Rattle.lot_base.specs.declared.notes.Note.TheVariants.{Normal, HandOff}
 use Rattle.lot_base.specs.declared.ops.Op.{Op}
-use Rattle.lot_base.specs.declared.ops.Op.TheVariants.{Load, Store, Sub, Exchange}
+use Rattle.lot_base.specs.declared.ops.Op.TheVariants.{Load, Store, Sub, Exchange, Or}
 use Rattle.lot_base.specs.declared.wants.Want.TheVariants as wants
+use Rattle.lot_condvar.specs.declared.notify.NotifyAt.{NotifyAt}
 use Rattle.lot_calls.specs.declared.outcomes.Answer.{Answer}
 use Rattle.lot_calls.specs.declared.outcomes.Answer.TheVariants.{Ok}
 use Rattle.lot_acts.specs.declared.acts.Act.{Act}
@@ -14,8 +15,15 @@ use Rattle.lot_acts.specs.declared.acts.Next.{Next}
 use Rattle.lot_acts.specs.declared.acts.Next.TheVariants.{At, End}
 use Rattle.lot_acts.specs.declared.acts.Reply.{Reply}
 use Rattle.lot_acts.specs.declared.acts.Reply.TheVariants.{Done, Value, Parked, Took, Requeued, Removed, MovedTo, Late, Woken}
-use Rattle.lot_condvar.specs.CondvarSteps.{condvar_act, first_lock, in_wait, is_shown, mutex_beside, relocked, released, wait_act}
+use Rattle.lot_condvar.specs.CondvarSteps.{condvar_act, first_lock, in_notify, in_wait, is_shown, marks, move_act, mutex_beside, notified, notify_act, released, relocked, wait_act}
 use Rattle.lot_condvar.specs.CondvarSteps as condvar_steps_of
+use Rattle.lot_condvar.specs.declared.notify.NotifyAt.TheVariants as notify
+use Rattle.parking_lot_core.specs.declared.tokens.Did.{Did}
+use Rattle.parking_lot_core.specs.declared.tokens.Did.TheVariants as did
+use Rattle.lot_base.specs.declared.requeues.Requeue.{Requeue}
+use Rattle.lot_base.specs.declared.wants.Waiter.{Waiter}
+use Rattle.lot_base.specs.Lines.{threads_of}
+use Rattle.lot_acts.specs.Acts.{wakes_taken}
 use Rattle.lot_condvar.specs.declared.wait.Stands.{Stands}
 use Rattle.lot_condvar.specs.declared.wait.Stands.TheVariants as stands
 use Rattle.lot_condvar.specs.declared.wait.WaitAt.{WaitAt}
@@ -45,11 +53,11 @@ use Rattle.lot_words.specs.declared.words.WordKind.TheVariants as kind
 use Rattle.lot_words.proofs.MutexSteps.{each_code, mutex_steps}
 use Rattle.lot_words.proofs.TiedSteps.{condvar_steps}
 use Rattle.lot_words.proofs.Trades.{owned_some}
-use Rattle.lot_driver.specs.CondvarFitting.{FitsCondvar, FitsWait, LateIf, OwnsIt, apart}
-use Rattle.lot_driver.specs.Fitting.{AreWordsBeside, Fits, Looks, Reached, ReachedBy, aim_of, answer_of, of_mutex, of_wait, sleeper_at}
+use Rattle.lot_driver.specs.CondvarFitting.{Between, FitsCondvar, FitsNotify, FitsWait, HasMoved, IsNotifyOver, LateIf, OwnsIt, TellsNumber, apart, move_did}
+use Rattle.lot_driver.specs.Fitting.{AreWordsBeside, Fits, Looks, Reached, ReachedBy, aim_of, answer_of, of_mutex, of_notify, of_wait, sleeper_at}
 use Rattle.lot_driver.specs.MutexFitting.{FitsMutex, Outside, Within, enters, held, releases}
 use Rattle.lot_driver.specs.Paths.{at_mutex, condvar_at, mutex_at, mutexes}
-use Rattle.lot_driver.specs.Stages.{ActNeeds, Awoke, Became, HasKey, Inside, MayLeave, Stage, Stepped, entered_now, stage}
+use Rattle.lot_driver.specs.Stages.{ActNeeds, Awoke, Became, HasKey, Inside, IsCounted, IsFresh, MayLeave, Stage, Stepped, entered_now, having_taken, listed, moving, note_of, stage, took_as}
 use Rattle.lot_driver.specs.declared.acting.Sleeper.{Sleeper}
 
 -- what is known of a mutex's places
@@ -356,10 +364,149 @@ module _ (up : Type 0) (c m : ℕ) (kinds : ℕ → WordKind) (at : ℕ → ℕ)
       wait_looks (wait.Lock timed_out (Lock entry.Bump retries l)) f q is = absurd f.1
       wait_looks w f q is = absurd cc
 
+    module _ (all : Bool) where
+      abbrev there : NotifyAt → Place
+      there n = Condvar c (Notify all m n)
+
+      abbrev Notes : Next NotifyAt → Type 0
+      Notes n = ReachedBy up base (of_notify c m all) (condvar_goes c (in_notify all m n)) (answer_of (condvar_does c (in_notify all m n))) new
+
+      apart_keys : 2 * c ≢ 2 * m
+      apart_keys e = words.0 (omega (arith, e))
+
+      -- a step on the word of the mutex that changes no owner
+      marks_on : (op : Op) (seen : ℕ) → ((n : ℕ) → n < 4 → owns_after_step kind.Mutex (mutex_at m) op n st.owns ≡ st.owns) → Stepped (kinds m) (at m) op seen st new → Between c m base st → (seen < 4) × Between c m base new
+      marks_on op seen same b f = let s = stepped_there op seen st new b in (s.0.1.0, (owns_of _ s.1 ∙ same seen s.0.1.0 ∙ f.0, inside_of _ s.1 ∙ f.1))
+
+      loads : (n : ℕ) → n < 4 → owns_after_step kind.Mutex (mutex_at m) Load n st.owns ≡ st.owns
+      loads = each_code (λ n. owns_after_step kind.Mutex (mutex_at m) Load n st.owns ≡ st.owns) refl refl refl refl
+
+      sets_1 : (n : ℕ) → n < 4 → owns_after_step kind.Mutex (mutex_at m) (Exchange 1 3) n st.owns ≡ st.owns
+      sets_1 = each_code (λ n. owns_after_step kind.Mutex (mutex_at m) (Exchange 1 3) n st.owns ≡ st.owns) refl refl refl refl
+
+      sets_3 : (n : ℕ) → n < 4 → owns_after_step kind.Mutex (mutex_at m) (Exchange 3 3) n st.owns ≡ st.owns
+      sets_3 = each_code (λ n. owns_after_step kind.Mutex (mutex_at m) (Exchange 3 3) n st.owns ≡ st.owns) refl refl refl refl
+
+      sets : (s : ℕ) → (s ≡ 1) ⊎ (s ≡ 3) → (n : ℕ) → n < 4 → owns_after_step kind.Mutex (mutex_at m) (Exchange s 3) n st.owns ≡ st.owns
+      sets s (inl e) n h = subst (λ (s : ℕ). owns_after_step kind.Mutex (mutex_at m) (Exchange s 3) n st.owns ≡ st.owns) (sym e) (sets_1 n h)
+      sets s (inr e) n h = subst (λ (s : ℕ). owns_after_step kind.Mutex (mutex_at m) (Exchange s 3) n st.owns ≡ st.owns) (sym e) (sets_3 n h)
+
+      sets_bit : (n : ℕ) → n < 4 → owns_after_step kind.Mutex (mutex_at m) (Or 2) n st.owns ≡ st.owns
+      sets_bit = each_code (λ n. owns_after_step kind.Mutex (mutex_at m) (Or 2) n st.owns ≡ st.owns) refl refl refl refl
+
+      -- by the word of the mutex it goes on
+      marked : (seen : ℕ) → seen < 4 → Between c m base new → Notes (At (marks seen))
+      marked = each_code (λ n. Between c m base new → Notes (At (marks n))) (λ f. by_all all f) (λ f. ((inl refl, f), refl)) (λ f. by_all all f) (λ f. ((inr refl, f), refl))
+        where
+          by_all : (a : Bool) → Between c m base new → ReachedBy up base (of_notify c m a) (Condvar c (Notify a m (notify.Move false))) (answer_of (move_act a false c m)) new
+          by_all true f = (f, refl)
+          by_all false f = (f, refl)
+
+      move_needs : (a locked : Bool) → Between c m base st → ActNeeds kinds at st (move_act a locked c m)
+      move_needs true locked f = (subst (HasKey (2 * c)) (sym f.1) (inl refl), subst (HasKey (2 * m)) (sym f.1) (inr refl), apart_keys, subst IsFresh (sym f.1) refl)
+      move_needs false true f = (subst (HasKey (2 * c)) (sym f.1) (inl refl), subst (HasKey (2 * m)) (sym f.1) (inr refl), apart_keys, subst IsFresh (sym f.1) refl)
+      move_needs false false f = (subst (HasKey (2 * c)) (sym f.1) (inl refl), subst IsFresh (sym f.1) refl)
+
+      leave_needs : (any : Bool) (number : ℕ) → FitsNotify c m all base (notify.Leave any number) st → MayLeave (note_of (wakes_taken any Normal)) st.inside
+      leave_needs true number (inl f) = subst (MayLeave Normal) (sym f.1.1) refl
+      leave_needs false number (inl f) = subst (MayLeave Normal) (sym f.1.1) refl
+      leave_needs true number (inr f) = subst (MayLeave Normal) (sym f.4) refl
+      leave_needs false number (inr f) = subst (MayLeave Normal) (sym f.4) refl
+
+      notify_needs : (n : NotifyAt) → FitsNotify c m all base n st → ActNeeds kinds at st (notify_act all c m n)
+      notify_needs notify.Enter f = (apart_keys, f.1)
+      notify_needs notify.Again f = may_here Load st.owns (condvar_steps (condvar_at c) st.owns).load
+      notify_needs notify.Hide f = may_here (Store 0) st.owns (condvar_steps (condvar_at c) st.owns).hide
+      notify_needs notify.Mark f = may_there Load st.owns (mutex_steps (mutex_at m) st.owns).load
+      notify_needs (notify.Set seen) f = may_there (Exchange seen 3) st.owns ((mutex_steps (mutex_at m) st.owns).mark seen f.0)
+      notify_needs (notify.Move locked) f = move_needs all locked f
+      notify_needs (notify.Clear any) f = may_here (Store 0) st.owns (condvar_steps (condvar_at c) st.owns).hide
+      notify_needs (notify.MarkMoved number) f = may_there (Or 2) st.owns (mutex_steps (mutex_at m) st.owns).mark_any
+      notify_needs (notify.Leave any number) f = leave_needs any number f
+
+      -- it has moved waiters, and took one of them or none
+      moved_so : (a : Bool) (number : ℕ) (locked : Bool) (waiters : List Waiter) (moved : ℕ) → new.owns ≡ base
+          → new.inside ≡ Some (record (having_taken (Two (2 * c) (2 * m)) (move_did a locked c m) waiters (threads_of waiters)) { moved = moved })
+          → TellsNumber a number (length (threads_of waiters) + moved) → HasMoved c m a number base new
+      moved_so a number locked waiters moved o i t = (o, locked, waiters, moved, i, t)
+
+      listed_number : (first : Option Waiter) → length (threads_of (listed first)) ≡ length (listed first)
+      listed_number None = refl
+      listed_number (Some w) = refl
+
+      keeps_moved : (number : ℕ) → HasMoved c m all number base st → new.owns ≡ st.owns → new.inside ≡ st.inside → HasMoved c m all number base new
+      keeps_moved number f o i = (o ∙ f.0, f.1, f.2, f.3, i ∙ f.4, f.5)
+
+      -- where all were moved, or the first
+      after_all : (locked : Bool) (number : ℕ) → HasMoved c m true number base new → (b : Bool) → ReachedBy up base (of_notify c m true) (Condvar c (Notify true m (if b then notify.MarkMoved number else notify.Leave (not locked) number))) (answer_of (notify_act true c m (if b then notify.MarkMoved number else notify.Leave (not locked) number))) new
+      after_all locked number h true = (h, refl)
+      after_all locked number h false = (inr h, refl)
+
+      after_one : (any : Bool) → HasMoved c m false 1 base new → (b : Bool) → ReachedBy up base (of_notify c m false) (Condvar c (Notify false m (if b then notify.Clear any else notify.Leave any 1))) (answer_of (notify_act false c m (if b then notify.Clear any else notify.Leave any 1))) new
+      after_one any h true = ((refl, h), refl)
+      after_one any h false = (inr h, refl)
+
+      requeues : (a locked : Bool) (from to : ℕ) (how : Requeue) (number : ℕ) (left : Bool) → did.Requeue from to how ≡ move_did a locked c m → Between c m base st
+          → Became up kinds at (sleeper_at (Condvar c (Notify a m (notify.Move locked)))) st (act.TheVariants.Requeue from to how) (Requeued number left) new → (t : ℕ) → TellsNumber a t number → HasMoved c m a t base new
+      requeues a locked from to how number left same f b t tells = moved_so a t locked (listed b.0) b.1 (owns_of _ b.3 ∙ f.0)
+          (inside_of _ b.3 ∙ ap (λ (i : Option Inside). moving b.1 (took_as (did.Requeue from to how) (listed b.0) i)) f.1 ∙ ap (λ (d : Did). Some (record (having_taken (Two (2 * c) (2 * m)) d (listed b.0) (threads_of (listed b.0))) { moved = b.1 })) same)
+          (by_kind a tells)
+        where
+          sum : number ≡ length (threads_of (listed b.0)) + b.1
+          sum = b.2 ∙ ap (λ (k : ℕ). k + b.1) (sym (listed_number b.0))
+
+          by_kind : (a : Bool) → TellsNumber a t number → TellsNumber a t (length (threads_of (listed b.0)) + b.1)
+          by_kind true e = e ∙ sum
+          by_kind false e = e
+
+      move_leads : (a locked : Bool) → Between c m base st → (reply : Reply) → Became up kinds at (sleeper_at (Condvar c (Notify a m (notify.Move locked)))) st (move_act a locked c m) reply new → Reached up base (Condvar c (Notify a m (notify.Move locked))) reply new
+      move_leads true true f (Requeued number left) b = after_all true number (requeues true true _ _ _ number left refl f b number refl) (not true && nat_lt 1 number)
+      move_leads true false f (Requeued number left) b = after_all false number (requeues true false _ _ _ number left refl f b number refl) (not false && nat_lt 1 number)
+      move_leads false true f (Requeued number left) b = after_one false (requeues false true _ _ _ number left refl f b 1 refl) left
+      move_leads false false f (Took any left) b = after_one any (moved_so false 1 false (listed b.0.0) 0 (b.1 ∙ f.0) (b.0.2 ∙ ap (took_as (did.TakeFirst (2 * c)) (listed b.0.0)) f.1) refl) left
+      move_leads true true f reply b = absurd b
+      move_leads true false f reply b = absurd b
+      move_leads false true f reply b = absurd b
+      move_leads false false f reply b = absurd b.0
+
+      leave_leads : (a any : Bool) (number : ℕ) → FitsNotify c m a base (notify.Leave any number) st → (new.owns ≡ st.owns) × (new.inside ≡ None) × IsCounted st.inside new.last → IsNotifyOver c m a base (notified a number) new
+      leave_leads a any number (inl f) b = ((b.0 ∙ f.1.0, b.1), inl (ap (notified a) f.0, subst (λ (i : Option Inside). IsCounted i new.last) f.1.1 b.2))
+      leave_leads true any number (inr f) b = ((b.0 ∙ f.0, b.1), inr (f.1, number, refl, subst (λ (i : Option Inside). IsCounted i new.last) f.4 b.2 ∙ ap (λ (k : ℕ). Some (record { key = 2 * c; did = move_did true f.1 c m; number = k })) (sym f.5)))
+      leave_leads false any number (inr f) b = ((b.0 ∙ f.0, b.1), inr (f.1, length (threads_of f.2) + f.3, ap (notified false) f.5, subst (λ (i : Option Inside). IsCounted i new.last) f.4 b.2))
+
+      again : (b e : Bool) → Between c m base new → ReachedBy up base (of_notify c m all) (Condvar c (Notify all m (if b then notify.Leave false 0 else if e then notify.Hide else notify.Mark))) (answer_of (notify_act all c m (if b then notify.Leave false 0 else if e then notify.Hide else notify.Mark))) new
+      again true e f = (inl (refl, f), refl)
+      again false true f = (f, refl)
+      again false false f = (f, refl)
+
+      notify_leads : (n : NotifyAt) → FitsNotify c m all base n st → (reply : Reply) → Became up kinds at (sleeper_at (there n)) st (notify_act all c m n) reply new → Reached up base (there n) reply new
+      notify_leads notify.Enter f Done b = ((owns_of _ b ∙ f.0, inside_of _ b), refl)
+      notify_leads notify.Again f (Value seen) b = again (not (is_shown seen m)) all (shows_on Load seen base _ b f)
+      notify_leads notify.Hide f (Value seen) b = (shows_on (Store 0) seen base _ b f, refl)
+      notify_leads notify.Mark f (Value seen) b = let k = marks_on Load seen loads b f in marked seen k.0 k.1
+      notify_leads (notify.Set expected) f (Value seen) b = by_bit (seen == expected)
+        where
+          k : (seen < 4) × Between c m base new
+          k = marks_on (Exchange expected 3) seen (sets expected f.0) b f.1
+
+          all_moves : (a : Bool) → ReachedBy up base (of_notify c m a) (Condvar c (Notify a m (notify.Move true))) (answer_of (move_act a true c m)) new
+          all_moves true = (k.1, refl)
+          all_moves false = (k.1, refl)
+
+          by_bit : (b : Bool) → Notes (if b then At (notify.Move true) else At (marks seen))
+          by_bit true = all_moves all
+          by_bit false = marked seen k.0 k.1
+      notify_leads (notify.Move locked) f reply b = move_leads all locked f reply b
+      notify_leads (notify.Clear any) f (Value seen) b = let e = subst (λ (k : WordKind). Stepped k (at c) (Store 0) seen st new) words.1 b in
+          (inr (subst (λ (a : Bool). HasMoved c m all 1 base new) f.0 (keeps_moved 1 f.1 (owns_of _ e.1) (inside_of _ e.1))), refl)
+      notify_leads (notify.MarkMoved number) f (Value seen) b = let s = stepped_there (Or 2) seen st new b in (inr (keeps_moved number f (owns_of _ s.1 ∙ sets_bit seen s.0.1.0) (inside_of _ s.1)), refl)
+      notify_leads (notify.Leave any number) f Done b = leave_leads all any number f (b.0, b.1, b.3)
+      notify_leads n f reply b = absurd b
+
 -- each place of a condition variable's call leads on
 pub condvar_place_leads : (up : Type 0) → MutexPlacesLead up → (l : ℕ) (kinds : ℕ → WordKind) (at : ℕ → ℕ) (base : List Ownership) (p : CondvarPlace) (st : Stage) → AreWordsBeside l (mutex_beside p) kinds at → FitsCondvar up l base p st →
     ActNeeds kinds at st (condvar_act l p) × Looks up base (Condvar l p) st
     × ((reply : Reply) (new : Stage) → Became up kinds at (sleeper_at (Condvar l p)) st (condvar_act l p) reply new → Reached up base (Condvar l p) reply new)
 condvar_place_leads up law l kinds at base (Wait m timed w) st words f = (wait_needs up l m kinds at words base st st timed law w f, wait_looks up l m kinds at words base st st timed law w f, λ reply new. wait_leads up l m kinds at words base st new timed law w f reply)
 condvar_place_leads up law l kinds at base (Look all) st words f = absurd f
-condvar_place_leads up law l kinds at base (Notify all m n) st words f = absurd f
+condvar_place_leads up law l kinds at base (Notify all m n) st words f = (notify_needs up l m kinds at words base st st all n f, (λ q is. absurd cc), λ reply new. notify_leads up l m kinds at words base st new all n f reply)

@@ -138,7 +138,7 @@ module _ (up : Type 0) where
   abbrev pub FitsCondvar : ℕ → List Ownership → CondvarPlace → Stage → Type 0
   FitsCondvar c base (Wait m timed at) st = FitsWait c m timed base at st
   FitsCondvar c base (Look all) st = ⊥
-  FitsCondvar c base (Notify all m at) st = ⊥
+  FitsCondvar c base (Notify all m at) st = FitsNotify c m all base at st
 
   -- what an answer says at the end of a wait: another mutex was shown, and it never released its own, or it has it again
   abbrev pub IsWaitOver : ℕ → Bool → List Ownership → Answer → Stage → Type 0
