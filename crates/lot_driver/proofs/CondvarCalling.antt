@@ -4,10 +4,12 @@ use Rattle.lot_calls.specs.declared.outcomes.OnceState.{OnceState}
 use Rattle.lot_calls.specs.declared.calls.OnceCall.TheVariants.{CallOnce}
 use Rattle.lot_acts.specs.declared.acts.Act as act
 use Rattle.lot_condvar.specs.declared.places.CondvarPlace.TheVariants.{Wait, Look, Notify}
+use Rattle.lot_condvar.specs.declared.notify.NotifyAt.{NotifyAt}
+use Rattle.lot_condvar.specs.declared.notify.NotifyAt.TheVariants as notify
 use Rattle.lot_condvar.specs.declared.wait.Stands.TheVariants as stands
 use Rattle.lot_condvar.specs.declared.wait.WaitAt.{WaitAt}
 use Rattle.lot_condvar.specs.declared.wait.WaitAt.TheVariants as wait
-use Rattle.lot_condvar.specs.CondvarSteps.{wait_act}
+use Rattle.lot_condvar.specs.CondvarSteps.{notify_act, wait_act}
 use Rattle.lot_mutex.specs.declared.lock.Entry.TheVariants as entry
 use Rattle.lot_mutex.specs.declared.places.MutexPlace.TheVariants.{Lock, Unlock}
 use Rattle.lot_mutex.specs.declared.unlock.UnlockAt.TheVariants as unlock
@@ -55,6 +57,27 @@ wait_never_pauses up base c m timed (Once l (once.Run forced (run.Leave succeede
 wait_never_pauses up base c m timed (Condvar l (Wait m2 timed2 w)) state st s = wait_no_closure l m2 timed2 state up base w st s.0 s.2
 wait_never_pauses up base c m timed (Condvar l (Look all)) state st s = s.0
 wait_never_pauses up base c m timed (Condvar l (Notify all m2 at)) state st s = let aim : of_notify l m2 all ≡ of_wait c m timed = s.1 in cc
+
+-- and no notification
+notify_no_closure : (c m : ℕ) (state : OnceState) (all : Bool) (n : NotifyAt) → notify_act all c m n ≡ act.TheVariants.Closure state → ⊥
+notify_no_closure c m state true (notify.Move locked) is = cc
+notify_no_closure c m state false (notify.Move true) is = cc
+notify_no_closure c m state false (notify.Move false) is = cc
+notify_no_closure c m state all n is = cc
+
+pub notify_never_pauses : (up : Type 0) (base : List Ownership) (c m : ℕ) (all : Bool) (p : Place) (state : OnceState) (st : Stage) → IsStopped up base (of_notify c m all) (Paused p state) st → ⊥
+notify_never_pauses up base c m all Idle state st s = s.0
+notify_never_pauses up base c m all (Mutex l at) state st s = no_closure l state up base at st s.0 s.2
+notify_never_pauses up base c m all (RwLock l a at) state st s = rwlock_no_closure up l a base at st state s.0 s.2
+notify_never_pauses up base c m all (Once l (once.Look call retries at)) state st s = let aim : of_once l call ≡ of_notify c m all = s.1 in cc
+notify_never_pauses up base c m all (Once l (once.Run forced (run.Closure poisoned))) state st s = let aim : of_once l (CallOnce forced) ≡ of_notify c m all = s.1 in cc
+notify_never_pauses up base c m all (Once l (once.Run forced (run.Close succeeded))) state st s = s.0
+notify_never_pauses up base c m all (Once l (once.Run forced (run.Enter succeeded))) state st s = let aim : of_run l succeeded ≡ of_notify c m all = s.1 in cc
+notify_never_pauses up base c m all (Once l (once.Run forced (run.Take succeeded))) state st s = let aim : of_run l succeeded ≡ of_notify c m all = s.1 in cc
+notify_never_pauses up base c m all (Once l (once.Run forced (run.Leave succeeded any))) state st s = let aim : of_run l succeeded ≡ of_notify c m all = s.1 in cc
+notify_never_pauses up base c m all (Condvar l (Wait m2 timed2 w)) state st s = wait_no_closure l m2 timed2 state up base w st s.0 s.2
+notify_never_pauses up base c m all (Condvar l (Look all2)) state st s = s.0
+notify_never_pauses up base c m all (Condvar l (Notify all2 m2 n)) state st s = notify_no_closure l m2 state all2 n s.2
 
 module _ (condvar mutex : Word) (apart : condvar.number ≢ mutex.number) (is_condvar : condvar.kind ≡ kind.Condvar) (is_mutex : mutex.kind ≡ kind.Mutex) where
   other : (mutex.number == condvar.number) ≡ false

@@ -1,7 +1,8 @@
 -- What the calls of a condition variable did.
 use Rattle.std.specs.Prelude.{ℕ, ◌≡◌, ◌≢◌, ◌<◌, Bool, List}
 use Rattle.lot_calls.specs.declared.outcomes.Answer.{Answer}
-use Rattle.lot_condvar.specs.declared.places.CondvarPlace.TheVariants.{Wait}
+use Rattle.lot_condvar.specs.declared.places.CondvarPlace.TheVariants.{Wait, Notify}
+use Rattle.lot_condvar.specs.declared.notify.NotifyAt.TheVariants as notify
 use Rattle.lot_condvar.specs.declared.wait.WaitAt.TheVariants as wait
 use Rattle.lot_steps.specs.declared.places.Place.{Place}
 use Rattle.lot_steps.specs.declared.places.Place.TheVariants.{Condvar}
@@ -27,3 +28,10 @@ wait_begin c m timed = Condvar c (Wait m timed wait.Enter)
 -- of the mutex
 abbrev pub HasWaited : ℕ → ℕ → Bool → Answer → List WordStep → List WordStep → Type 0
 HasWaited c m timed answer old new = Walks (at_condvar c m) (wait_begin c m timed) old new answer
+
+-- and where a notification goes on that has seen a mutex
+abbrev pub notify_behind : ℕ → ℕ → Bool → Place
+notify_behind c m all = Condvar c (Notify all m notify.Enter)
+
+abbrev pub HasNotified : ℕ → ℕ → Bool → Answer → List WordStep → List WordStep → Type 0
+HasNotified c m all answer old new = Walks (at_condvar c m) (notify_behind c m all) old new answer

@@ -2,15 +2,15 @@
 ghost use Rattle.std.specs.Prelude.{◌≡◌, None};
 ghost use Rattle.lot_base.specs.Clocks.{IsUp};
 ghost use Rattle.parking_lot_core.specs.Tokens.{IsSameThread};
-ghost use Rattle.lot_driver.specs.CondvarCalls.{MeetBeside, HasWaited, wait_begin};
-ghost use Rattle.lot_driver.specs.CondvarFitting.{IsWaitOver, OwnsIt};
+ghost use Rattle.lot_driver.specs.CondvarCalls.{HasNotified, HasWaited, MeetBeside, notify_behind, wait_begin};
+ghost use Rattle.lot_driver.specs.CondvarFitting.{IsNotifyOver, IsWaitOver, OwnsIt};
 ghost use Rattle.lot_driver.specs.Stages.{stage_of};
 ghost use Rattle.lot_driver.specs.Telling.{owns_of, steps_of};
 
-use crate::driver::{Stop, run};
+use crate::driver::{NO_LIMIT, Stop, run};
 use crate::words::Words;
 use lot_calls::Answer;
-use lot_condvar::{CondvarPlace, WaitAt};
+use lot_condvar::{CondvarPlace, NotifyAt, WaitAt};
 use lot_steps::Place;
 use parking_lot_core::{Clock, ParkingLot, Token, Word};
 use std::sync::Wait;
@@ -53,6 +53,45 @@ pub fn wait<R: Wait, C: Clock>(
     match run(rt, lot, token, Words::both(condvar, mutex), limit, start) {
         Stop::Ended(answer) => answer,
         // No wait runs a closure.
+        Stop::Paused { .. } => unreachable!(),
+    }
+}
+
+// Where a notification goes on that has seen this mutex.
+fn notifies(condvar: Word, mutex: Word, all: bool) -> Place
+    ensures { result ≡ notify_behind condvar.number mutex.number all }
+{
+    Place::Condvar {
+        lock: condvar.number(),
+        at: CondvarPlace::Notify {
+            all,
+            mutex: mutex.number(),
+            at: NotifyAt::Enter,
+        },
+    }
+}
+
+/// The rest of a notification whose first step saw this mutex: it wakes the first who waits with it, or all, or moves them to its
+/// queue.
+#[cold]
+#[inline(never)]
+pub fn notify_shown<R: Wait>(
+    rt: &R,
+    lot: &ParkingLot,
+    token: &mut Token,
+    condvar: Word,
+    mutex: Word,
+    all: bool,
+) -> Answer
+    requires own { MeetBeside lot.now token.old condvar mutex }
+    ensures own { IsSameThread lot.now token.old token.new }
+    ensures path { HasNotified condvar.number mutex.number all result (steps_of token.old) (steps_of token.new) }
+    ensures over { IsNotifyOver condvar.number mutex.number all (owns_of token.old) result (stage_of token.new None) }
+{
+    let start = notifies(condvar, mutex, all);
+    match run(rt, lot, token, Words::both(condvar, mutex), NO_LIMIT, start) {
+        Stop::Ended(answer) => answer,
+        // No notification runs a closure.
         Stop::Paused { .. } => unreachable!(),
     }
 }
